@@ -4,6 +4,7 @@ use shr_outside::outside::{Gave, Sink, Source, Took};
 use shr_outside::paper::Paper;
 use shr_outside::sinks::{HonestSink, MemorySink, StdSink};
 use shr_outside::sources::{HonestSource, MemorySource, StdSource};
+use std::alloc::Global;
 use std::io::Cursor;
 use std::test::Fail;
 
@@ -26,22 +27,52 @@ fn a_writer_takes_what_it_is_given(rt: HostRuntime) -> Result<(), Fail> {
     Ok(())
 }
 
-#[test]
-fn sources_and_sinks_in_memory_give_pieces_and_fail(rt: HostRuntime) -> Result<(), Fail> {
-    let alloc = rt.alloc();
+fn take_four<S: Source>(source: &mut S) -> [Took; 4] {
     let mut buffer = [0u8; 4];
-    let mut source = MemorySource::new(Vec::from_slice(alloc, b"abc")?, 2, vec![in alloc; 2]?);
-    assert_eq!(rt; source.take(&mut buffer), Took::Got { n: 2 });
-    assert_eq!(rt; source.take(&mut buffer), Took::Failed);
-    assert_eq!(rt; source.take(&mut buffer), Took::Got { n: 1 });
-    assert_eq!(rt; source.take(&mut buffer), Took::End);
-    let mut sink = MemorySink::new(Vec::new(alloc), 2, vec![in alloc; 1]?);
-    assert_eq!(rt; sink.give(b"abc"), Gave::Failed);
-    assert_eq!(rt; sink.give(b"abc"), Gave::Gave { n: 2 });
-    assert_eq!(rt; sink.bytes(), b"ab".as_slice());
+    [
+        source.take(&mut buffer),
+        source.take(&mut buffer),
+        source.take(&mut buffer),
+        source.take(&mut buffer),
+    ]
+}
+
+fn give_two<K: Sink>(sink: &mut K) -> [Gave; 2] {
+    [sink.give(b"abc"), sink.give(b"abc")]
+}
+
+// What a source in memory gives that fails at its second call, and what an honest one does.
+fn takes(alloc: Global) -> Result<([Took; 4], [Took; 4]), Fail> {
+    let second = vec![in alloc; 2]?;
+    let bytes = Vec::from_slice(alloc, b"abc")?;
     let mut honest = HonestSource::new(Vec::from_slice(alloc, b"abc")?, 1);
-    assert_eq!(rt; honest.take(&mut buffer), Took::Got { n: 1 });
-    assert_eq!(rt; HonestSink::new(2).give(b"abc"), Gave::Gave { n: 2 });
+    let mut source = MemorySource::new(bytes, 2, second);
+    Ok((take_four(&mut source), take_four(&mut honest)))
+}
+
+#[test]
+fn sources_in_memory_give_pieces_and_fail(rt: HostRuntime) -> Result<(), Fail> {
+    let (failing, honest) = takes(rt.alloc())?;
+    let (one, two) = (Took::Got { n: 1 }, Took::Got { n: 2 });
+    assert_eq!(rt; failing, [two, Took::Failed, one, Took::End]);
+    assert_eq!(rt; honest, [one, one, one, Took::End]);
+    Ok(())
+}
+
+// What a sink in memory takes that fails at its first call, and whether it has this then.
+fn gives(alloc: Global, text: &[u8]) -> Result<([Gave; 2], bool), Fail> {
+    let first = vec![in alloc; 1]?;
+    let mut sink = MemorySink::new(Vec::new(alloc), 2, first);
+    let gives = give_two(&mut sink);
+    Ok((gives, sink.bytes() == text))
+}
+
+#[test]
+fn sinks_in_memory_take_pieces_and_fail(rt: HostRuntime) -> Result<(), Fail> {
+    let two = Gave::Gave { n: 2 };
+    let gives = gives(rt.alloc(), b"ab")?;
+    assert_eq!(rt; gives, ([Gave::Failed, two], true));
+    assert_eq!(rt; give_two(&mut HonestSink::new(2)), [two, two]);
     Ok(())
 }
 
@@ -54,26 +85,33 @@ fn print_parts(sink: &mut MemorySink) -> bool {
     paper.finish()
 }
 
+// Where the parts begin and end.
+const LETTERS: [(usize, u8); 6] = [
+    (0, b'a'),
+    (9_999, b'a'),
+    (10_000, b'b'),
+    (19_999, b'b'),
+    (20_000, b'c'),
+    (39_999, b'c'),
+];
+
+// Whether the parts are printed whole over a sink that fails at these calls, how many bytes it has
+// then, and whether these letters stand where they must.
+fn printed(alloc: Global, failing: Vec<usize>) -> (bool, usize, bool) {
+    let mut sink = MemorySink::new(Vec::new(alloc), 7_000, failing);
+    let is_whole = print_parts(&mut sink);
+    let bytes = sink.bytes();
+    let mut letters = LETTERS.iter();
+    let are_there = letters.all(|(at, letter)| bytes.get(*at).is_none_or(|byte| byte == letter));
+    (is_whole, bytes.len(), are_there)
+}
+
 #[test]
 fn a_text_is_handed_on_by_the_page(rt: HostRuntime) -> Result<(), Fail> {
-    let alloc = rt.alloc();
-    let mut whole = MemorySink::new(Vec::new(alloc), 7_000, Vec::new(alloc));
-    assert!(rt; print_parts(&mut whole));
-    let bytes = whole.bytes();
-    assert_eq!(rt; bytes.len(), 40_000);
-    let letters = [
-        (0, b'a'),
-        (9_999, b'a'),
-        (10_000, b'b'),
-        (19_999, b'b'),
-        (20_000, b'c'),
-        (39_999, b'c'),
-    ];
-    for (at, letter) in letters {
-        assert_eq!(rt; bytes.get(at).copied(), Some(letter));
-    }
-    let mut failing = MemorySink::new(Vec::new(alloc), 7_000, vec![in alloc; 2]?);
-    assert!(rt; !print_parts(&mut failing));
-    assert_eq!(rt; failing.bytes().len(), 7_000);
+    let whole = printed(rt.alloc(), Vec::new(rt.alloc()));
+    assert_eq!(rt; whole, (true, 40_000, true));
+    let second = vec![in rt.alloc(); 2]?;
+    let failing = printed(rt.alloc(), second);
+    assert_eq!(rt; failing, (false, 7_000, true));
     Ok(())
 }

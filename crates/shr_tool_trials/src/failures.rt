@@ -1,6 +1,7 @@
 //! Ends that fail at each of their calls in turn.
 
-use shr_outside::outside::Gate;
+use crate::gates::Open;
+use crate::runs::words_of;
 use shr_outside::sinks::MemorySink;
 use shr_outside::sources::MemorySource;
 use shr_tool::status::Status;
@@ -9,12 +10,6 @@ use std::alloc::Global;
 use std::sync::Wait;
 use std::test::Fail;
 use std::thread::Threads;
-
-struct Open;
-
-impl Gate for Open {
-    fn before(&self, _worker: u16, _command: u32) {}
-}
 
 // A script of ten pieces of ten bytes, and its report of 27.
 const SCRIPT: &str =
@@ -33,44 +28,47 @@ fn run_failing<R: Threads + Wait + Sync>(
     alloc: Global,
     read: usize,
     write: usize,
-) -> Result<(Status, usize), Fail> {
-    let words = vec![in alloc; String::from_str(alloc, "run")?]?;
+) -> Result<(Status, Option<usize>), Fail> {
+    let words = words_of(alloc, "run")?;
     let bytes = Vec::from_slice(alloc, SCRIPT.as_bytes())?;
-    let mut source = MemorySource::new(bytes, 10, vec![in alloc; read]?);
-    let mut sink = MemorySink::new(Vec::new(alloc), 10, vec![in alloc; write]?);
-    let status = top(rt, alloc, &words, &mut source, &mut sink, &Open);
-    if !TEXT.as_bytes().starts_with(sink.bytes()) {
-        return Err(Fail::from("something else was written"));
-    }
-    Ok((status, sink.bytes().len()))
+    let (reads, writes) = (vec![in alloc; read]?, vec![in alloc; write]?);
+    Ok(run(rt, alloc, &words, bytes, reads, writes))
+}
+
+// The same of these words and bytes. Nothing is written of another text.
+fn run<R: Threads + Wait + Sync>(
+    rt: &R,
+    alloc: Global,
+    words: &Vec<String>,
+    bytes: Vec<u8>,
+    reads: Vec<usize>,
+    writes: Vec<usize>,
+) -> (Status, Option<usize>) {
+    let mut source = MemorySource::new(bytes, 10, reads);
+    let mut sink = MemorySink::new(Vec::new(alloc), 10, writes);
+    let status = top(rt, alloc, words, &mut source, &mut sink, &Open);
+    let is_front = TEXT.as_bytes().starts_with(sink.bytes());
+    (status, is_front.then_some(sink.bytes().len()))
 }
 
 #[test]
 fn each_read_may_fail(rt: HostRuntime) -> Result<(), Fail> {
     for read in 1..12 {
-        assert_eq!(rt;
-            run_failing(&rt, rt.alloc(), read, 0)?,
-            (Status::ReadFault, 0)
-        );
+        let failed = run_failing(&rt, rt.alloc(), read, 0)?;
+        assert_eq!(rt; failed, (Status::ReadFault, Some(0)));
     }
-    assert_eq!(rt;
-        run_failing(&rt, rt.alloc(), 12, 0)?,
-        (Status::Done, TEXT.len())
-    );
+    let done = run_failing(&rt, rt.alloc(), 12, 0)?;
+    assert_eq!(rt; done, (Status::Done, Some(TEXT.len())));
     Ok(())
 }
 
 #[test]
 fn each_write_may_fail(rt: HostRuntime) -> Result<(), Fail> {
     for before in 0..PIECES {
-        assert_eq!(rt;
-            run_failing(&rt, rt.alloc(), 0, before + 1)?,
-            (Status::WriteFault, 10 * before)
-        );
+        let failed = run_failing(&rt, rt.alloc(), 0, before + 1)?;
+        assert_eq!(rt; failed, (Status::WriteFault, Some(10 * before)));
     }
-    assert_eq!(rt;
-        run_failing(&rt, rt.alloc(), 0, PIECES + 1)?,
-        (Status::Done, TEXT.len())
-    );
+    let done = run_failing(&rt, rt.alloc(), 0, PIECES + 1)?;
+    assert_eq!(rt; done, (Status::Done, Some(TEXT.len())));
     Ok(())
 }

@@ -1,4 +1,4 @@
-//! Ends, scripts, words and reports by calls, and whole runs of the program with gates and with ends that fail.
+//! Ends, scripts and reports by calls, and whole runs of the program with gates and with ends that fail.
 #![tactic(auto)]
 
 #[cfg(test)]
@@ -6,7 +6,7 @@ mod ends;
 #[cfg(test)]
 mod failures;
 #[cfg(test)]
-mod forms;
+mod gates;
 #[cfg(test)]
 mod report;
 #[cfg(test)]

@@ -1,6 +1,6 @@
-//! Scripts that are read, and the refusals that changes of a small one lead to.
+//! Scripts that end too soon, and the limits of a script.
 
-use shr_base::scripts::{Code, Command};
+use shr_base::scripts::Code;
 use shr_script::read::{ReadError, read_script};
 use std::alloc::{AllocError, Global};
 
@@ -47,29 +47,6 @@ fn each_proper_beginning_has_no_end(rt: HostRuntime) -> Result<(), AllocError> {
             line += 1;
         }
     }
-    Ok(())
-}
-
-#[test]
-fn every_kind_of_line_is_read(rt: HostRuntime) -> Result<(), ReadError> {
-    let alloc = rt.alloc();
-    let bytes =
-        b"shrinkers 1\nsize 2 3\ngroup /a 7\ngroup /a/b max\ncache d clock 1 2 3 fs off\ncache e halt 0 0 0 any on\nworker\nput / 1 d k =\nget /a 0 e k\ndel /a/b 0 e k\npin / 0 d k\nworker\nunpin / 0 d k\nshrink /a 1 12 nofs\nbalance 1 0 fs\noffline /a/b\nregister d\nunregister e\nend\n";
-    let script = read_script(alloc, bytes)?;
-    assert_eq!(rt; (script.nodes, script.ids), (2, 3));
-    assert_eq!(rt; script.groups.len(), 2);
-    assert_eq!(rt; script.groups.get(1).map_or(9, |g| g.parent), 1);
-    assert!(rt;
-        script
-            .caches
-            .get(0)
-            .map_or(false, |c| c.fs && !c.on && c.floor == 3)
-    );
-    assert_eq!(rt; script.workers.len(), 2);
-    let commands = script.workers.get(1).map_or(0, |w| w.commands.len());
-    assert_eq!(rt; commands, 6);
-    let first = script.workers.get(1).and_then(|w| w.commands.get(0));
-    assert!(rt; matches!(first, Some(Command::SetPin { pinned: false, .. })));
     Ok(())
 }
 

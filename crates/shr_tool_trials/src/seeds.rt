@@ -1,18 +1,16 @@
 //! Scripts of known seeds, against numbers that another program made.
 
 use shr_base::scripts::{Command, Script};
-use shr_base::text::Text;
 use shr_gen::generating::generate;
-use std::alloc::Global;
 use std::test::Fail;
 
-fn word(text: &Text) -> Result<&str, Fail> {
-    Ok(std::str::from_utf8(text.bytes())?)
-}
+// A command: its word, its group or 0, its node or 0, its declaration or priority or 0, and its key.
+type Row = (&'static str, u16, u8, u8, &'static [u8]);
 
-// A command as its worker, its group, what was drawn, and its key and value.
-fn line(alloc: Global, command: &Command) -> Result<String, Fail> {
-    Ok(match command {
+// Whether the command is that of the row. No one of a generated script is nofs.
+fn is_row(command: &Command, row: &Row) -> bool {
+    let (word, groups, nodes, number, name) = *row;
+    match command {
         Command::Put {
             group,
             node,
@@ -20,78 +18,119 @@ fn line(alloc: Global, command: &Command) -> Result<String, Fail> {
             key,
             value,
         } => {
-            let (key, value) = (word(key)?, word(value)?);
-            format!(in alloc; "put {group} {node} {decl} {key} {value}\n")?
+            (word, groups, nodes, number) == ("put", *group, *node, *decl)
+                && key.bytes() == name
+                && value.bytes().starts_with(b"v")
+                && value.bytes().get(1..) == name.get(1..)
         }
         Command::Get {
             group,
             node,
             decl,
             key,
-        } => {
-            let key = word(key)?;
-            format!(in alloc; "get {group} {node} {decl} {key}\n")?
-        }
+        } => (word, groups, nodes, number) == ("get", *group, *node, *decl) && key.bytes() == name,
         Command::Shrink {
             group,
             node,
             priority,
             nofs,
-        } => format!(in alloc; "shrink {group} {node} {priority} {nofs}\n")?,
+        } => (word, groups, nodes, number) == ("shrink", *group, *node, *priority) && !*nofs,
         Command::Balance {
             node,
             priority,
             nofs,
-        } => format!(in alloc; "balance {node} {priority} {nofs}\n")?,
-        Command::Offline { group } => format!(in alloc; "offline {group}\n")?,
-        _ => format!(in alloc; "another\n")?,
-    })
+        } => (word, groups, nodes, number) == ("balance", 0, *node, *priority) && !*nofs,
+        Command::Offline { group } => (word, groups) == ("offline", *group),
+        _ => false,
+    }
 }
 
-fn commands(alloc: Global, script: &Script, worker: usize) -> Result<String, Fail> {
-    let mut all = String::new(alloc);
-    if let Some(worker) = script.workers.get(worker) {
-        for command in worker.commands.as_slice() {
-            all.push_str(line(alloc, command)?.as_str())?;
-        }
-    }
-    Ok(all)
+const FIRST: [Row; 16] = [
+    ("put", 1, 0, 1, b"k0"),
+    ("put", 1, 1, 2, b"k1"),
+    ("put", 1, 1, 1, b"k2"),
+    ("put", 1, 1, 2, b"k3"),
+    ("put", 1, 1, 0, b"k4"),
+    ("get", 1, 1, 2, b"k4"),
+    ("shrink", 1, 0, 4, b""),
+    ("balance", 0, 0, 7, b""),
+    ("put", 1, 1, 0, b"k8"),
+    ("put", 1, 0, 2, b"k9"),
+    ("put", 1, 1, 0, b"k10"),
+    ("put", 1, 1, 1, b"k11"),
+    ("put", 1, 0, 1, b"k12"),
+    ("get", 1, 0, 1, b"k12"),
+    ("shrink", 1, 1, 8, b""),
+    ("balance", 0, 0, 1, b""),
+];
+
+const SECOND: [Row; 16] = [
+    ("put", 2, 1, 1, b"k0"),
+    ("put", 2, 1, 1, b"k1"),
+    ("put", 2, 0, 0, b"k2"),
+    ("put", 2, 1, 2, b"k3"),
+    ("put", 2, 0, 2, b"k4"),
+    ("get", 2, 1, 0, b"k4"),
+    ("shrink", 2, 0, 11, b""),
+    ("balance", 0, 0, 2, b""),
+    ("put", 2, 1, 2, b"k8"),
+    ("put", 2, 0, 0, b"k9"),
+    ("put", 2, 0, 1, b"k10"),
+    ("put", 2, 1, 2, b"k11"),
+    ("put", 2, 1, 1, b"k12"),
+    ("get", 2, 0, 2, b"k12"),
+    ("shrink", 2, 0, 3, b""),
+    ("offline", 2, 0, 0, b""),
+];
+
+// Whether the commands of a worker are those of the rows.
+fn are_rows(script: &Script, worker: usize, rows: &[Row]) -> bool {
+    let Some(worker) = script.workers.get(worker) else {
+        return false;
+    };
+    worker.commands.len() == rows.len()
+        && worker
+            .commands
+            .as_slice()
+            .iter()
+            .zip(rows)
+            .all(|(command, row)| is_row(command, row))
 }
 
-fn names(alloc: Global, script: &Script) -> Result<String, Fail> {
-    let mut all = String::new(alloc);
-    for group in script.groups.as_slice() {
-        all.push_str(word(&group.path)?)?;
-        all.push_str(" ")?;
-    }
-    for cache in script.caches.as_slice() {
-        all.push_str(word(&cache.name)?)?;
-        all.push_str(" ")?;
-    }
-    Ok(all)
+// The sizes of a script, and how many groups and caches it has.
+fn counts(script: &Script) -> (u8, u16, usize, usize) {
+    let (groups, caches) = (script.groups.len(), script.caches.len());
+    (script.nodes, script.ids, groups, caches)
+}
+
+// Whether the last group and the last cache of a script have these names.
+fn are_last(script: &Script, group: &[u8], cache: &[u8]) -> bool {
+    let groups = script.groups.as_slice().last();
+    let caches = script.caches.as_slice().last();
+    groups.is_some_and(|it| it.path.bytes() == group)
+        && caches.is_some_and(|it| it.name.bytes() == cache)
+}
+
+// Whether a script is that of seed 7 with two workers of 16 commands.
+fn is_of_seven(script: &Script) -> bool {
+    counts(script) == (2, 4, 2, 3)
+        && are_last(script, b"/g1", b"c2")
+        && are_rows(script, 0, &FIRST)
+        && are_rows(script, 1, &SECOND)
 }
 
 #[test]
 fn the_script_of_a_seed_is_that_of_its_table(rt: HostRuntime) -> Result<(), Fail> {
-    let alloc = rt.alloc();
-    let script = generate(alloc, 7, 2, 16)?;
-    assert_eq!(rt; (script.nodes, script.ids), (2, 4));
-    assert_eq!(rt; names(alloc, &script)?.as_str(), "/g0 /g1 c0 c1 c2 ");
-    assert_eq!(rt;
-        commands(alloc, &script, 0)?.as_str(),
-        "put 1 0 1 k0 v0\nput 1 1 2 k1 v1\nput 1 1 1 k2 v2\nput 1 1 2 k3 v3\nput 1 1 0 k4 v4\nget 1 1 2 k4\nshrink 1 0 4 false\nbalance 0 7 false\nput 1 1 0 k8 v8\nput 1 0 2 k9 v9\nput 1 1 0 k10 v10\nput 1 1 1 k11 v11\nput 1 0 1 k12 v12\nget 1 0 1 k12\nshrink 1 1 8 false\nbalance 0 1 false\n"
-    );
-    assert_eq!(rt;
-        commands(alloc, &script, 1)?.as_str(),
-        "put 2 1 1 k0 v0\nput 2 1 1 k1 v1\nput 2 0 0 k2 v2\nput 2 1 2 k3 v3\nput 2 0 2 k4 v4\nget 2 1 0 k4\nshrink 2 0 11 false\nbalance 0 2 false\nput 2 1 2 k8 v8\nput 2 0 0 k9 v9\nput 2 0 1 k10 v10\nput 2 1 2 k11 v11\nput 2 1 1 k12 v12\nget 2 0 2 k12\nshrink 2 0 3 false\noffline 2\n"
-    );
+    let script = generate(rt.alloc(), 7, 2, 16)?;
+    let is_made = is_of_seven(&script);
+    assert!(rt; is_made);
     Ok(())
 }
 
 #[test]
 fn the_last_seed_wraps(rt: HostRuntime) -> Result<(), Fail> {
-    let alloc = rt.alloc();
-    let script = generate(alloc, 18446744073709551615, 1, 1)?;
-    assert_eq!(rt; commands(alloc, &script, 0)?.as_str(), "put 1 0 2 k0 v0\n");
+    let script = generate(rt.alloc(), 18446744073709551615, 1, 1)?;
+    let is_made = are_rows(&script, 0, &[("put", 1, 0, 2, b"k0")]);
+    assert!(rt; is_made);
     Ok(())
 }
