@@ -93,7 +93,7 @@ rise_along : (n : ℕ) (t : PlainState) (mine : List UnitsStep) → AreChained t
 rise_along n t [] c each h = h.0
 rise_along n t (x ∷ xs) c each h = let e = each 0 x refl in
     let here : RiseTo n (commands_in x.after.walks) = subst (λ l. RiseTo n (commands_in l)) (sym e.0) (subst (RiseTo n) (sym (map-append (λ (w : PlainWalk). w.by.command) x.before.walks (gained walks_at x)))
-        (rise_on n (commands_in x.before.walks) (gained walks_at x) (λ w is. let q = e.1 w is in omega (arith, q)) (subst (λ (u : PlainState). RiseTo n (commands_in u.walks)) (sym c.0) h))) in
+    (rise_on n (commands_in x.before.walks) (gained walks_at x) (λ w is. let q = e.1 w is in omega (arith, q)) (subst (λ (u : PlainState). RiseTo n (commands_in u.walks)) (sym c.0) h))) in
     rise_along (n + 1) x.after xs c.1 (λ k y d. let f = each (suc k) y d in (f.0, λ w is. let q = f.1 w is in omega (arith, q))) (here.0, all_less n (n + 1) (commands_in x.after.walks) (omega arith) here.1)
 
 module _ (s : Script) (r : Report) (workers : List (List UnitsStep)) (run : AreUnits s r workers) where
@@ -124,6 +124,9 @@ module _ (s : Script) (r : Report) (workers : List (List UnitsStep)) (run : AreU
           (ap (λ (b : Serial). b.worker) by, omega (arith, lt, many, k))
 
       each : (k : ℕ) (x : UnitsStep) → slice_get (steps_of workers worker) k ≡ Some x → (x.after.walks ≡ x.before.walks ++ gained walks_at x) × ((w : PlainWalk) → IsIn w (gained walks_at x) → w.by.command ≡ 0 + k)
-      each k x at = (gained_all walks_at x (longer_walks s r workers run worker k x at), λ w is.
-        let a : Added s x = added s x (kind_at s r workers run worker k x at) in
-        let by = ap (λ (b : Serial). b.command) (a.own w is.0 is.1 ∙ (run.each worker k x at).by) in omega (arith, by))
+      each k x at = (
+        gained_all walks_at x (longer_walks s r workers run worker k x at),
+        λ w is.
+            let a : Added s x = added s x (kind_at s r workers run worker k x at) in
+            let by = ap (λ (b : Serial). b.command) (a.own w is.0 is.1 ∙ (run.each worker k x at).by) in omega (arith, by),
+      )

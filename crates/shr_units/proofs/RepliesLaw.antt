@@ -104,7 +104,7 @@ module _ (s : Script) (r : Report) (workers : List (List UnitsStep)) (run : AreU
       let i = home_room s pool node in
       let m : Made PlainEntry = record { number = length journal; entry = e } in
       let among : IsIn (record { number = length journal; entry = e }) (made_at i x.after) = subst (λ (v : RoomView PlainEntry). IsIn (record { number = length journal; entry = e }) v.made) (sym (makes_part i x.before x.after journal e makes))
-          (in_right (part_at x.before.rooms i).made (record { number = length journal; entry = e } ∷ []) (record { number = length journal; entry = e }) (0, refl)) in
+      (in_right (part_at x.before.rooms i).made (record { number = length journal; entry = e } ∷ []) (record { number = length journal; entry = e }) (0, refl)) in
       record {
         place = pool_place_is s pool node;
         stands = ap (λ l. slice_get l n) (journal_at s r workers run (home_of s pool node) (home_there s pool node there)) ∙ (ap (slice_get (run.journal i)) is
