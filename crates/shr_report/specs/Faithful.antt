@@ -1,4 +1,4 @@
--- When a report is faithful: what its workers told stands in the order of their commands, and nothing is told twice. The nine
+-- When a report is faithful: what its workers told stands in the order of their commands, and nothing is told twice. The ten
 -- laws say nothing of it.
 use Rattle.std.specs.Prelude.{◌≡◌, ℕ, ◌+◌, ◌<◌, ◌≤◌, List, [], ◌∷◌, ◌++◌, length, map, slice_get, Some, ⊤}
 use Rattle.std.specs.List.{AllByRecursion}
