@@ -8,3 +8,4 @@ pub mod WorkersLead
 pub mod Whole
 pub mod Steps
 mod DraftValues
+pub mod Tight

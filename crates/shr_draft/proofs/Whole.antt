@@ -145,7 +145,7 @@ text_leads r w n few t = subst (λ (s : Report). Leads (text r) nothing s) (whol
 -- the lines of a report's text make that report of nothing
 pub reads_of : (bytes : List ℕ) (r : Report) → IsReportOf bytes r → Reads (pieces 10 bytes) nothing r
 unfolding pieces cut Reads
-reads_of bytes r is = subst (λ (b : List ℕ). Reads (pieces 10 b) nothing r) (append-nil (text r) ∙ is.text_is) ((text_leads r is.well_formed is.numbers is.few is.tight).lead [] r at_end)
+reads_of bytes r is = subst (λ (b : List ℕ). Reads (pieces 10 b) nothing r) (append-nil (text r) ∙ is.text_is) ((text_leads r is.well_formed is.numbers is.well_formed.few_parts is.tight).lead [] r at_end)
   where
     at_end : Reads (pieces 10 []) r r
     at_end = (refl, refl)

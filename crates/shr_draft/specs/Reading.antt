@@ -1,5 +1,5 @@
 -- The lines of a text, and the report that they say.
-use Rattle.std.specs.Prelude.{◌≡◌, ℕ, ◌≤◌, ◌^◌, List, [], ◌∷◌, length, Some}
+use Rattle.std.specs.Prelude.{◌≡◌, ℕ, List, [], ◌∷◌, Some}
 use Rattle.std.specs.List.{AllByRecursion}
 use Rattle.shr_base.specs.Kept.{Kept}
 use Rattle.shr_base.specs.declared.walks.WalkRecord.{WalkRecord}
@@ -101,11 +101,9 @@ pub record IsTightReport (r : Report) : Type 0 where
   pub uses : IsTight r.uses
   pub lookups : IsTight r.lookups
 
--- The report that has these bytes as its text: well formed, with numbers of its types, of no more workers than have numbers, and with
--- lists that have no room to spare.
+-- The report that has these bytes as its text: well formed, with numbers of its types, and with lists that have no room to spare.
 pub record IsReportOf (bytes : List ℕ) (r : Report) : Type 0 where
   pub well_formed : IsWellFormed r
   pub numbers : HasNumbers r
-  pub few : length r.workers.items ≤ 2 ^ 16
   pub tight : IsTightReport r
   pub text_is : text r ≡ bytes

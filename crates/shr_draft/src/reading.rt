@@ -4,7 +4,7 @@ ghost use Rattle.std.specs.Prelude.{◌≡◌, ◌≤◌, [], ◌∷◌, length,
 ghost use Rattle.std.specs.List.{prefix_len};
 ghost use Rattle.shr_model.specs.Pieces.{pieces, differs};
 ghost use Rattle.shr_report.specs.declared.report.Report.{Report};
-ghost use Rattle.shr_draft.specs.Reading.{IsReportOf};
+ghost use Rattle.shr_draft.specs.Reading.{IsReportOf, IsTightReport};
 
 use crate::draft::Draft;
 use crate::finish::finish;
@@ -37,9 +37,10 @@ fn first_line(bytes: &[u8]) -> Option<(&[u8], &[u8])>
 
 /// The report that these bytes say, line by line. It believes what it reads: if the bytes are the text
 /// of a report it is that one, and else it may be any or none, which a caller tells by printing it
-/// again. Want of memory alone is an error. Our own.
+/// again. The lists of what it finds have no room to spare. Want of memory alone is an error. Our own.
 pub fn read(alloc: Global, bytes: &[u8]) -> Result<Option<Report>, Memory>
-    ensures { IfOk result (λ found. (r : Report) → IsReportOf bytes.now r → found ≡ Some r) }
+    ensures found { IfOk result (λ found. (r : Report) → IsReportOf bytes.now r → found ≡ Some r) }
+    ensures tight { IfOk result (λ found. IfSome found IsTightReport) }
 {
     let mut draft = Draft::new(alloc);
     let mut rest = bytes;

@@ -4,13 +4,14 @@ use Rattle.shr_report.specs.declared.report.Report.{Report}
 use Rattle.shr_reader.specs.declared.said.Said.{Said}
 use Rattle.shr_reader.specs.Said.{read_line, IsReadOf}
 use Rattle.shr_draft.specs.Draft.{drafted, with_said}
-use Rattle.shr_draft.specs.Reading.{Reads}
+use Rattle.shr_draft.specs.Reading.{Reads, IsTightReport}
+use Rattle.shr_draft.proofs.Tight.{tight_drafted}
 use Rattle.shr_draft.proofs.Whole.{reads_of}
 use Rattle.shr_draft.proofs.Steps.{goes_on, ends, not_none, found_is, not_both}
 use Rattle.shr_draft.proofs.reading.read.Goals as goal
 
-pub returns-in_default-2 : goal.returns-in_default-2
-returns-in_default-2 c r is =
+pub returns-in_default-2-clause-found : goal.returns-in_default-2-clause-found
+returns-in_default-2-clause-found c r is =
     let step = goes_on c.in-Some.line.now c.loop-line.rest.now c.in-Some.behind.now (drafted c.loop-line.draft) r c.in-Some.ensures.some (c.loop-line.invariant r (reads_of c.args.bytes.now r is)) in
     absurd (not_none c.loop-line.draft.version c.in-Some.line.now step.0 step.1.0 (subst (λ (o : Option Said). IsReadOf o (read_line c.loop-line.draft.version c.in-Some.line.now)) c.in_default-2.is c.in_ok-said.ensures))
 
@@ -20,12 +21,15 @@ loop-line-preserved c r h =
     let found : c.in-Some-2.said ≡ step.0 = found_is c.loop-line.draft.version c.in-Some.line.now step.0 c.in-Some-2.said step.1.0 (subst (λ (o : Option Said). IsReadOf o (read_line c.loop-line.draft.version c.in-Some.line.now)) c.in-Some-2.is c.in_ok-said.ensures) in
     subst (λ (b : Report). Reads (pieces 10 c.in-Some.behind.now) b r) (sym (c.in_ok-take.ensures ∙ ap (λ (s : Said). with_said s (drafted c.loop-line.draft)) found)) step.1.1
 
-pub returns-in_ok-finish : goal.returns-in_ok-finish
-returns-in_ok-finish c r is =
+pub returns-in_ok-finish-clause-found : goal.returns-in_ok-finish-clause-found
+returns-in_ok-finish-clause-found c r is =
     let last = ends c.loop-line.rest.now c.loop-line.rest.now (drafted c.loop-line.draft) r c.in_default.ensures.none (c.loop-line.invariant r (reads_of c.args.bytes.now r is)) in
     ap (λ (x : Report). Some x) (c.in_ok-finish.ensures ∙ last.1)
 
-pub returns-else-is_empty : goal.returns-else-is_empty
-returns-else-is_empty c r is =
+pub returns-else-is_empty-clause-found : goal.returns-else-is_empty-clause-found
+returns-else-is_empty-clause-found c r is =
     let last = ends c.loop-line.rest.now c.loop-line.rest.now (drafted c.loop-line.draft) r c.in_default.ensures.none (c.loop-line.invariant r (reads_of c.args.bytes.now r is)) in
     absurd (not_both c.loop-line.rest.now c.is_empty.result c.is_empty.ensures c.if-is_empty.false last.0)
+
+pub returns-in_ok-finish-clause-tight : goal.returns-in_ok-finish-clause-tight
+returns-in_ok-finish-clause-tight c = subst IsTightReport (sym c.in_ok-finish.ensures) (tight_drafted c.loop-line.draft)

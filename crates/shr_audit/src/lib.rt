@@ -1,0 +1,4 @@
+//! Whether bytes are a report. Our own.
+#![tactic(auto)]
+
+pub mod found;

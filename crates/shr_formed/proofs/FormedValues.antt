@@ -1,0 +1,40 @@
+-- What the parts of well formed ask, at known values.
+use Rattle.std.proofs.Common.{◌≡◌, ℕ, ◌<◌, List, [], ◌∷◌, Option, Some, refl, arith}
+use Rattle.std.specs.Prelude.{slice_get}
+use Rattle.std.specs.List.{range_with_len}
+use Rattle.shr_base.specs.declared.places.Serial.{Serial}
+use Rattle.shr_base.specs.declared.walks.MapSeen.{MapSeen}
+use Rattle.shr_report.specs.WellFormed.{bit_places}
+use Rattle.shr_formed.specs.Each.{Each, Adjacent, IsOf, IsLoaded}
+use Rattle.shr_formed.specs.Stripped.{IsNotStripped, at_unit, unit_places, group_places}
+
+abbrev by : Serial
+by = record { worker = 2; command = 4 }
+
+of_worker : IsOf 2 5 by
+of_worker = (refl, omega arith)
+
+no_answer : IsOf 2 4 by → ⊥
+no_answer h = let few : 4 < 4 = h.1 in absurd (omega arith)
+
+above_two : Each (λ (n : ℕ). 2 < n) (3 ∷ 1 ∷ []) → ⊥
+above_two h = let n = h 1 1 refl in absurd (omega arith)
+
+falls : Adjacent (λ (n m : ℕ). n < m) (1 ∷ 3 ∷ 3 ∷ []) → ⊥
+falls h = let n = h 1 3 3 refl refl in absurd (omega arith)
+
+abbrev loaded_two : List MapSeen
+loaded_two = record { unit = 0; bits = 1 } ∷ record { unit = 3; bits = 1 } ∷ []
+
+loaded : IsLoaded loaded_two 3
+loaded = (1, (record { unit = 3; bits = 1 }, (refl, refl)))
+
+-- two groups have one word of bits on each of two nodes, and the root has none
+two_nodes : bit_places 2 2 (range_with_len 0 1) ≡ at_unit 0 1 0 ∷ at_unit 1 1 0 ∷ []
+two_nodes = refl
+
+three_groups : group_places 1 3 2 ≡ at_unit 1 1 0 ∷ at_unit 1 1 1 ∷ at_unit 1 2 0 ∷ at_unit 1 2 1 ∷ []
+three_groups = refl
+
+first_of_them : IsNotStripped (at_unit 0 1 0 ∷ []) (at_unit 0 1 0 ∷ at_unit 0 2 0 ∷ []) → ⊥
+first_of_them h = h (at_unit 0 2 0 ∷ []) refl

@@ -1,0 +1,4 @@
+pub mod Eachs
+pub mod Strip
+pub mod WellParts
+mod FormedValues

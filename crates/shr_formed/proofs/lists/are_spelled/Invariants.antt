@@ -1,0 +1,7 @@
+use Rattle.std.proofs.Common.{◌≡◌, ◌+◌, length}
+use Rattle.std.specs.List.{AllByRecursion}
+use Rattle.shr_report.specs.WellFormed.{IsSpelled}
+use Rattle.shr_formed.proofs.lists.are_spelled.Given as goal
+
+abbrev pub invariant-loop : goal.invariant-loop
+invariant-loop l = (AllByRecursion IsSpelled l.walk → AllByRecursion IsSpelled l.items.items) × ((AllByRecursion IsSpelled l.items.items → AllByRecursion IsSpelled l.walk) × (l.counter + length l.walk ≡ length l.items.items))

@@ -1,0 +1,7 @@
+use Rattle.std.proofs.Common.{◌≡◌, ◌+◌, ◌-◌, ◌<◌, ◌≤◌, ◌^◌, ℕ, Some, true, List, length, slice_get}
+use Rattle.shr_base.specs.declared.ends.PlaceEnd.{PlaceEnd}
+use Rattle.shr_report.specs.WellFormed.{IsPlaceUpTo}
+use Rattle.shr_formed.proofs.lists.lists_stand.Given as goal
+
+abbrev pub invariant-loop-i : goal.invariant-loop-i
+invariant-loop-i l = (n : ℕ) (x y : PlaceEnd) → n + 1 < l.i → slice_get l.ends n ≡ Some x → slice_get l.ends (n + 1) ≡ Some y → IsPlaceUpTo x.place y.place

@@ -1,0 +1,7 @@
+use Rattle.std.proofs.Common.{◌≡◌, ◌++◌, flat_map}
+use Rattle.std.specs.List.{range_with_len}
+use Rattle.shr_formed.specs.Stripped.{wheres, group_places}
+use Rattle.shr_formed.proofs.maps.strip_nodes.Given as goal
+
+abbrev pub invariant-loop-node : goal.invariant-loop-node
+invariant-loop-node l = wheres l.maps ≡ flat_map (λ node. group_places node l.groups l.units) (range_with_len 0 l.node) ++ wheres l.rest

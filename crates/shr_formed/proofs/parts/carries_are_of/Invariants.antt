@@ -1,0 +1,7 @@
+use Rattle.std.proofs.Common.{◌≡◌, ◌+◌, ◌-◌, ◌<◌, ◌≤◌, ◌^◌, ℕ, Some, true, List, length, slice_get}
+use Rattle.shr_base.specs.declared.walks.Carry.{Carry}
+use Rattle.shr_formed.specs.Each.{IsOf}
+use Rattle.shr_formed.proofs.parts.carries_are_of.Given as goal
+
+abbrev pub invariant-loop-carry : goal.invariant-loop-carry
+invariant-loop-carry l = (n : ℕ) (x : Carry) → n < l.carry-index → slice_get l.carries n ≡ Some x → IsOf l.worker l.answers x.by

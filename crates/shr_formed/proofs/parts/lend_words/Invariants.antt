@@ -1,0 +1,7 @@
+use Rattle.std.proofs.Common.{◌≡◌, ◌+◌, ◌-◌, ◌<◌, ◌≤◌, ◌^◌, ℕ, Some, true, List, length, slice_get}
+use Rattle.shr_base.specs.declared.replies.Answered.{Answered}
+use Rattle.shr_report.specs.WellFormed.{LendsWord}
+use Rattle.shr_formed.proofs.parts.lend_words.Given as goal
+
+abbrev pub invariant-loop-answer : goal.invariant-loop-answer
+invariant-loop-answer l = (n : ℕ) (x : Answered) → n < l.answer-index → slice_get l.answers n ≡ Some x → LendsWord x.reply

@@ -1,0 +1,7 @@
+use Rattle.std.proofs.Common.{◌≡◌, ◌+◌, ◌-◌, ◌<◌, ◌≤◌, ◌^◌, ℕ, Some, true, List, length, slice_get}
+use Rattle.shr_base.specs.declared.walks.PlainWalk.{PlainWalk}
+use Rattle.shr_formed.specs.Each.{IsOf}
+use Rattle.shr_formed.proofs.parts.plains_are_of.Given as goal
+
+abbrev pub invariant-loop-plain : goal.invariant-loop-plain
+invariant-loop-plain l = (n : ℕ) (x : PlainWalk) → n < l.plain-index → slice_get l.plains n ≡ Some x → IsOf l.worker l.answers x.by

@@ -1,0 +1,6 @@
+use Rattle.std.proofs.Common.{◌≡◌, ◌+◌, ◌-◌, ◌<◌, ◌≤◌, ◌^◌, ℕ, Some, true, List, length, slice_get}
+use Rattle.shr_base.specs.declared.walks.MapSeen.{MapSeen}
+use Rattle.shr_formed.proofs.parts.units_rise.Given as goal
+
+abbrev pub invariant-loop-i : goal.invariant-loop-i
+invariant-loop-i l = (n : ℕ) (x y : MapSeen) → n + 1 < l.i → slice_get l.maps n ≡ Some x → slice_get l.maps (n + 1) ≡ Some y → x.unit < y.unit

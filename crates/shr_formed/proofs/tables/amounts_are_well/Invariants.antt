@@ -1,0 +1,7 @@
+use Rattle.std.proofs.Common.{◌≡◌, ◌+◌, ◌-◌, ◌<◌, ◌≤◌, ◌^◌, ℕ, Some, true, List, length, slice_get}
+use Rattle.shr_base.specs.declared.ends.PlaceAmount.{PlaceAmount}
+use Rattle.shr_report.specs.WellFormed.{IsAmountWell}
+use Rattle.shr_formed.proofs.tables.amounts_are_well.Given as goal
+
+abbrev pub invariant-loop-d : goal.invariant-loop-d
+invariant-loop-d l = (n : ℕ) (x : PlaceAmount) → n < l.d-index → slice_get l.amounts n ≡ Some x → IsAmountWell x

@@ -1,0 +1,7 @@
+use Rattle.std.proofs.Common.{◌≡◌, ◌+◌, ◌-◌, ◌<◌, ◌≤◌, ◌^◌, ℕ, Some, true, List, length, slice_get}
+use Rattle.shr_base.specs.declared.ends.PlaceAmount.{PlaceAmount}
+use Rattle.shr_report.specs.WellFormed.{IsPlaceBefore}
+use Rattle.shr_formed.proofs.tables.amounts_rise.Given as goal
+
+abbrev pub invariant-loop-i : goal.invariant-loop-i
+invariant-loop-i l = (n : ℕ) (x y : PlaceAmount) → n + 1 < l.i → slice_get l.amounts n ≡ Some x → slice_get l.amounts (n + 1) ≡ Some y → IsPlaceBefore x.place y.place

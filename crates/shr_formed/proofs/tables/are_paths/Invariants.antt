@@ -1,0 +1,6 @@
+use Rattle.std.proofs.Common.{◌≡◌, ◌+◌, ◌-◌, ◌<◌, ◌≤◌, ◌^◌, ℕ, Some, true, List, length, slice_get}
+use Rattle.shr_model.specs.Paths.{is_path}
+use Rattle.shr_formed.proofs.tables.are_paths.Given as goal
+
+abbrev pub invariant-loop-path : goal.invariant-loop-path
+invariant-loop-path l = (n : ℕ) (x : List ℕ) → n < l.path-index → slice_get l.paths n ≡ Some x → is_path x ≡ true

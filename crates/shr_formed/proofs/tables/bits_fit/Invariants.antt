@@ -1,0 +1,7 @@
+use Rattle.std.proofs.Common.{◌≡◌, ◌+◌, ◌-◌, ◌<◌, ◌≤◌, ◌^◌, ℕ, Some, true, List, length, slice_get}
+use Rattle.shr_base.specs.declared.ends.MapEnd.{MapEnd}
+use Rattle.shr_report.specs.WellFormed.{IsBitWord}
+use Rattle.shr_formed.proofs.tables.bits_fit.Given as goal
+
+abbrev pub invariant-loop-map : goal.invariant-loop-map
+invariant-loop-map l = (n : ℕ) (x : MapEnd) → n < l.map-index → slice_get l.maps n ≡ Some x → IsBitWord x.bits

@@ -1,0 +1,7 @@
+use Rattle.std.proofs.Common.{◌≡◌, ◌+◌, ◌-◌, ◌<◌, ◌≤◌, ◌^◌, ℕ, Some, true, List, length, slice_get}
+use Rattle.shr_base.specs.declared.journals.PoolEntry.{PoolEntry}
+use Rattle.shr_report.specs.WellFormed.{IsPoolNumbered}
+use Rattle.shr_formed.proofs.tables.pool_fits.Given as goal
+
+abbrev pub invariant-loop-entry : goal.invariant-loop-entry
+invariant-loop-entry l = (n : ℕ) (x : PoolEntry) → n < l.entry-index → slice_get l.entries n ≡ Some x → IsPoolNumbered x

@@ -1,0 +1,7 @@
+use Rattle.std.proofs.Common.{◌≡◌, ◌+◌, ◌-◌, ◌<◌, ◌≤◌, ◌^◌, ℕ, Some, true, List, length, slice_get}
+use Rattle.shr_base.specs.declared.journals.TreeEntry.{TreeEntry}
+use Rattle.shr_report.specs.WellFormed.{IsTreeNumbered}
+use Rattle.shr_formed.proofs.tables.tree_fits.Given as goal
+
+abbrev pub invariant-loop-entry : goal.invariant-loop-entry
+invariant-loop-entry l = (n : ℕ) (x : TreeEntry) → n < l.entry-index → slice_get l.entries n ≡ Some x → IsTreeNumbered x

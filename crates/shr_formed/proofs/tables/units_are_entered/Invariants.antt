@@ -1,0 +1,6 @@
+use Rattle.std.proofs.Common.{◌≡◌, ◌+◌, ◌-◌, ◌<◌, ◌≤◌, ◌^◌, ℕ, Some, true, List, length, slice_get}
+use Rattle.shr_base.specs.declared.ends.UnitsEnd.{UnitsEnd}
+use Rattle.shr_formed.proofs.tables.units_are_entered.Given as goal
+
+abbrev pub invariant-loop-pool : goal.invariant-loop-pool
+invariant-loop-pool l = (n : ℕ) (x : UnitsEnd) → n < l.pool-index → slice_get l.pools n ≡ Some x → 0 < length x.entries.items

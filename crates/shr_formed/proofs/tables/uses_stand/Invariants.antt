@@ -1,0 +1,7 @@
+use Rattle.std.proofs.Common.{◌≡◌, ◌+◌, ◌-◌, ◌<◌, ◌≤◌, ◌^◌, ℕ, Some, true, List, length, slice_get}
+use Rattle.shr_base.specs.declared.journals.UseStep.{UseStep}
+use Rattle.shr_report.specs.WellFormed.{IsUseBefore}
+use Rattle.shr_formed.proofs.tables.uses_stand.Given as goal
+
+abbrev pub invariant-loop-i : goal.invariant-loop-i
+invariant-loop-i l = (n : ℕ) (x y : UseStep) → n + 1 < l.i → slice_get l.uses n ≡ Some x → slice_get l.uses (n + 1) ≡ Some y → IsUseBefore x y
