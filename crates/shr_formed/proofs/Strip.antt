@@ -1,5 +1,5 @@
 -- One more of some places in a row.
-use Rattle.std.proofs.Common.{◌≡◌, ℕ, zero, suc, ◌+◌, ◌-◌, ◌<◌, Bool, true, false, List, [], ◌∷◌, ◌++◌, length, flat_map, map, append_assoc, refl, sym, ap, subst, ◌∙◌, arith}
+use Rattle.std.proofs.Common.{◌≡◌, ℕ, zero, suc, ◌+◌, ◌<◌, Bool, true, false, List, [], ◌∷◌, ◌++◌, length, flat_map, map, append_assoc, refl, sym, ap, ◌∙◌, arith}
 use Rattle.std.specs.Bool.{Decides}
 use Rattle.std.specs.List.{range_with_len}
 use Rattle.std.proofs.lemmas.List.{append-nil, append_cancel_left}
@@ -7,7 +7,7 @@ use Rattle.std.proofs.lemmas.List.Concat.{flat_map-append}
 use Rattle.std.specs.Prelude.{◌==◌}
 use Rattle.std.proofs.lemmas.Bool.Decides.{nat_tests}
 use Rattle.shr_base.specs.declared.ends.MapEnd.{MapEnd}
-use Rattle.shr_formed.specs.Stripped.{Where, at_unit, wheres, IsNotStripped}
+use Rattle.shr_formed.specs.Stripped.{Where, wheres, IsNotStripped}
 
 one_on : (n : ℕ) → suc n + 1 ≡ suc (n + 1)
 one_on n = omega arith

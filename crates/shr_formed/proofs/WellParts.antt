@@ -1,7 +1,7 @@
 -- A report is well formed where its parts are, and the other way round.
-use Rattle.std.proofs.Common.{◌≡◌, ◌≢◌, ◌⊎◌, ℕ, zero, suc, ◌+◌, ◌-◌, ◌/◌, ◌<◌, ◌≤◌, ◌^◌, Bool, true, false, List, [], ◌∷◌, ◌++◌, length, map, Option, Some, None, refl, sym, ap, subst, ◌∙◌, arith}
+use Rattle.std.proofs.Common.{◌≡◌, ℕ, suc, ◌+◌, ◌-◌, ◌/◌, ◌<◌, ◌≤◌, ◌^◌, Bool, true, false, List, [], ◌∷◌, ◌++◌, length, map, Option, Some, None, refl, sym, ap, ◌∙◌, arith}
 use Rattle.std.specs.Prelude.{◌==◌, if◌then◌else◌, slice_get, Contains}
-use Rattle.std.specs.List.{AllByRecursion, AllAdjacentBelow, range_with_len}
+use Rattle.std.specs.List.{range_with_len}
 use Rattle.std.proofs.lemmas.List.{length-append}
 use Rattle.shr_model.specs.Paths.{is_path}
 use Rattle.shr_model.specs.Words.{is_name}
@@ -19,10 +19,9 @@ use Rattle.shr_base.specs.declared.ends.PlaceAmount.{PlaceAmount}
 use Rattle.shr_base.specs.declared.ends.PlaceEnd.{PlaceEnd}
 use Rattle.shr_base.specs.declared.ends.WorkerPart.{WorkerPart}
 use Rattle.shr_report.specs.declared.report.Report.{Report}
-use Rattle.shr_report.specs.WellFormed.{HasWords, LendsWord, IsSpelled, IsNumbered, IsBitWord, IsPlaceWell, IsWalkWell, IsCarryBefore, IsPartWell, IsPoolNumbered, IsTreeNumbered, IsAmountWell, IsPoolAmountWell, IsUseBefore, AreOfCommands, units_place, IsPlaceBefore, IsPlaceUpTo, map_units, bit_places, IsWellFormed}
-use Rattle.shr_formed.specs.Each.{Each, Adjacent, IsOf, IsLoaded, IsWalkFormed, IsListFormed}
-use Rattle.shr_formed.specs.Stripped.{wheres}
-use Rattle.shr_formed.specs.Formed.{AreWalksFormed, AreCarriesFormed, AreOthersFormed, IsPartFormed, ArePartsFormed, IsLastFormed, AreHeadsFormed, AreListsFormed, units_printed, AreMapsPrinted, AreTablesFormed}
+use Rattle.shr_report.specs.WellFormed.{HasWords, LendsWord, IsBitWord, IsPlaceWell, IsWalkWell, IsCarryBefore, IsPartWell, IsPoolNumbered, IsTreeNumbered, IsAmountWell, IsPoolAmountWell, IsUseBefore, units_place, IsPlaceBefore, IsPlaceUpTo, bit_places, IsWellFormed}
+use Rattle.shr_formed.specs.Each.{IsOf, IsWalkFormed, IsListFormed}
+use Rattle.shr_formed.specs.Formed.{IsPartFormed, ArePartsFormed, IsLastFormed, AreHeadsFormed, AreListsFormed, AreMapsPrinted, AreTablesFormed}
 use Rattle.shr_formed.proofs.Eachs.{all_of, each_in, each_weaker, below_of, adjacent_in, mapped, unmapped, contained, loaded}
 
 -- ---- a walk, and a list

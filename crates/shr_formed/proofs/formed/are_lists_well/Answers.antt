@@ -1,15 +1,11 @@
-use Rattle.std.proofs.Common.{◌≡◌, ◌<◌, ◌≤◌, List, length, subst}
+use Rattle.std.proofs.Common.{◌<◌, List, length, subst}
 use Rattle.std.specs.Bool.{Decides}
-use Rattle.shr_base.specs.declared.replies.Answered.{Answered}
-use Rattle.shr_base.specs.declared.walks.WalkRecord.{WalkRecord}
 use Rattle.shr_base.specs.declared.ends.PlaceEnd.{PlaceEnd}
 use Rattle.shr_base.specs.declared.ends.UnitsEnd.{UnitsEnd}
-use Rattle.shr_base.specs.declared.ends.WorkerPart.{WorkerPart}
-use Rattle.shr_report.specs.WellFormed.{IsWellFormed, IsPlaceUpTo, units_place}
+use Rattle.shr_report.specs.WellFormed.{IsPlaceUpTo, units_place}
 use Rattle.shr_formed.specs.Each.{Each, Adjacent, IsListFormed}
-use Rattle.shr_formed.specs.Formed.{IsPartFormed, ArePartsFormed, IsLastFormed, AreHeadsFormed, AreListsFormed, AreMapsPrinted, AreTablesFormed, AreWalksFormed}
-use Rattle.shr_formed.proofs.Eachs.{fails, clash, more_at, all_at}
-use Rattle.shr_formed.proofs.WellParts.{heads_of, parts_of, last_of, lists_of, maps_of, tables_of, well_of}
+use Rattle.shr_formed.specs.Formed.{AreListsFormed}
+use Rattle.shr_formed.proofs.Eachs.{fails}
 use Rattle.shr_formed.proofs.formed.are_lists_well.Goals as goal
 
 pub returns-then-not-lists_are_well : goal.returns-then-not-lists_are_well

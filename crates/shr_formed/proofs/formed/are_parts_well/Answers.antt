@@ -1,9 +1,5 @@
-use Rattle.std.proofs.Common.{◌≡◌}
-use Rattle.shr_report.specs.WellFormed.{IsWellFormed}
-use Rattle.shr_formed.specs.Each.{IsListFormed}
-use Rattle.shr_formed.specs.Formed.{IsPartFormed, ArePartsFormed, IsLastFormed, AreHeadsFormed, AreListsFormed, AreMapsPrinted, AreTablesFormed, AreWalksFormed}
-use Rattle.shr_formed.proofs.Eachs.{fails, clash, more_at, all_at}
-use Rattle.shr_formed.proofs.WellParts.{heads_of, parts_of, last_of, lists_of, maps_of, tables_of, well_of}
+use Rattle.shr_formed.specs.Formed.{IsPartFormed}
+use Rattle.shr_formed.proofs.Eachs.{more_at, all_at}
 use Rattle.shr_formed.proofs.formed.are_parts_well.Goals as goal
 
 pub loop-worker-preserved : goal.loop-worker-preserved

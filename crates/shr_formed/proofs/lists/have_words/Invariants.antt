@@ -1,4 +1,4 @@
-use Rattle.std.proofs.Common.{◌≡◌, ◌+◌, ◌-◌, ◌<◌, ◌≤◌, ◌^◌, ℕ, Some, true, List, length, slice_get}
+use Rattle.std.proofs.Common.{◌≡◌, ◌<◌, ℕ, Some, slice_get}
 use Rattle.shr_base.specs.declared.journals.Entry.{Entry}
 use Rattle.shr_report.specs.WellFormed.{HasWords}
 use Rattle.shr_formed.proofs.lists.have_words.Given as goal

@@ -1,8 +1,7 @@
-use Rattle.std.proofs.Common.{◌≡◌, ℕ, ◌+◌, ◌-◌, ◌++◌, List, [], ◌∷◌, refl, sym, ap, subst, ◌∙◌, arith}
 use Rattle.std.specs.List.{range_with_len}
 use Rattle.shr_report.specs.WellFormed.{bit_places}
-use Rattle.shr_formed.specs.Stripped.{Where, at_unit, wheres, unit_places, group_places, IsNotStripped}
-use Rattle.shr_formed.proofs.Strip.{met, not_met, singles, nothing_left, none_met, empty_decides}
+use Rattle.shr_formed.specs.Stripped.{wheres}
+use Rattle.shr_formed.proofs.Strip.{nothing_left, none_met, empty_decides}
 use Rattle.shr_formed.proofs.maps.maps_stand.Goals as goal
 
 pub returns-in-Some : goal.returns-in-Some

@@ -1,8 +1,7 @@
-use Rattle.std.proofs.Common.{◌≡◌, ℕ, ◌+◌, ◌-◌, ◌++◌, List, [], ◌∷◌, refl, sym, ap, subst, ◌∙◌, arith}
+use Rattle.std.proofs.Common.{ℕ, ◌+◌, ◌++◌, List, [], ◌∷◌, sym, ap, subst, ◌∙◌, arith}
 use Rattle.std.specs.List.{range_with_len}
-use Rattle.shr_report.specs.WellFormed.{bit_places}
-use Rattle.shr_formed.specs.Stripped.{Where, at_unit, wheres, unit_places, group_places, IsNotStripped}
-use Rattle.shr_formed.proofs.Strip.{met, not_met, singles, nothing_left, none_met, empty_decides}
+use Rattle.shr_formed.specs.Stripped.{Where, at_unit, wheres, IsNotStripped}
+use Rattle.shr_formed.proofs.Strip.{met, not_met, singles}
 use Rattle.shr_formed.proofs.maps.strip_units.Goals as goal
 
 pub returns-in_default-clause-none : goal.returns-in_default-clause-none

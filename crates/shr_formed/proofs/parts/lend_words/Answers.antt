@@ -1,4 +1,3 @@
-use Rattle.std.proofs.Common.{◌≡◌}
 use Rattle.shr_report.specs.WellFormed.{LendsWord}
 use Rattle.shr_formed.proofs.Eachs.{each_more, each_all}
 use Rattle.shr_formed.proofs.parts.lend_words.Goals as goal

@@ -1,4 +1,4 @@
-use Rattle.std.proofs.Common.{◌≡◌, ◌+◌, ◌-◌, ◌<◌, ◌≤◌, ◌^◌, ℕ, Some, true, List, length, slice_get}
+use Rattle.std.proofs.Common.{◌≡◌, ◌+◌, ◌<◌, ℕ, Some, slice_get}
 use Rattle.shr_base.specs.declared.walks.MapSeen.{MapSeen}
 use Rattle.shr_formed.proofs.parts.units_rise.Given as goal
 

@@ -1,4 +1,3 @@
-use Rattle.std.proofs.Common.{◌≡◌}
 use Rattle.shr_formed.specs.Each.{IsWalkFormed}
 use Rattle.shr_formed.proofs.Eachs.{each_more, each_all}
 use Rattle.shr_formed.proofs.parts.walks_are_well.Goals as goal

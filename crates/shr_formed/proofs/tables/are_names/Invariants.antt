@@ -1,4 +1,4 @@
-use Rattle.std.proofs.Common.{◌≡◌, ◌+◌, ◌-◌, ◌<◌, ◌≤◌, ◌^◌, ℕ, Some, true, List, length, slice_get}
+use Rattle.std.proofs.Common.{◌≡◌, ◌<◌, ℕ, Some, true, List, slice_get}
 use Rattle.shr_model.specs.Words.{is_name}
 use Rattle.shr_formed.proofs.tables.are_names.Given as goal
 

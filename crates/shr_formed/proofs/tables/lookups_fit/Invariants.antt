@@ -1,4 +1,4 @@
-use Rattle.std.proofs.Common.{◌≡◌, ◌+◌, ◌-◌, ◌<◌, ◌≤◌, ◌^◌, ℕ, Some, true, List, length, slice_get}
+use Rattle.std.proofs.Common.{◌≡◌, ◌<◌, ◌^◌, ℕ, Some, slice_get}
 use Rattle.shr_formed.proofs.tables.lookups_fit.Given as goal
 
 abbrev pub invariant-loop-n : goal.invariant-loop-n

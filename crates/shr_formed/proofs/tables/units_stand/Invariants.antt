@@ -1,4 +1,4 @@
-use Rattle.std.proofs.Common.{◌≡◌, ◌+◌, ◌-◌, ◌<◌, ◌≤◌, ◌^◌, ℕ, Some, true, List, length, slice_get}
+use Rattle.std.proofs.Common.{◌≡◌, ◌+◌, ◌<◌, ℕ, Some, slice_get}
 use Rattle.shr_base.specs.declared.ends.UnitsEnd.{UnitsEnd}
 use Rattle.shr_report.specs.WellFormed.{units_place, IsPlaceUpTo}
 use Rattle.shr_formed.proofs.tables.units_stand.Given as goal
