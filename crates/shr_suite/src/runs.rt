@@ -2,6 +2,7 @@
 
 use crate::cases::{Case, Wanted};
 use crate::rules;
+use shr_audit::found::report_of;
 use shr_outside::outside::Gate;
 use shr_outside::sinks::MemorySink;
 use shr_outside::sources::MemorySource;
@@ -52,6 +53,21 @@ fn difference(alloc: Global, text: &str, wanted: &str) -> io::Result<Option<Stri
     Ok(Some(fault))
 }
 
+// A report is read back from its text, and what is left of the text without its last byte is none.
+fn is_read_back(alloc: Global, text: &str) -> bool {
+    let bytes = text.as_bytes();
+    let shorter = &bytes[..bytes.len().saturating_sub(1)];
+    matches!(report_of(alloc, bytes), Ok(Some(_))) && matches!(report_of(alloc, shorter), Ok(None))
+}
+
+// What is wrong with a text that may be a report.
+fn unread(alloc: Global, text: &str) -> io::Result<Option<String>> {
+    if !text.starts_with("report ") || is_read_back(alloc, text) {
+        return Ok(None);
+    }
+    Ok(Some(format!(in alloc; "its report isn't read back")?))
+}
+
 /// What is wrong with a case's runs; `None` where nothing is.
 pub(crate) fn fault_of<R: Threads + Wait + Sync>(
     threads: &R,
@@ -64,7 +80,10 @@ pub(crate) fn fault_of<R: Threads + Wait + Sync>(
             if ended != *status {
                 return Ok(Some(format!(in alloc; "ended by {ended:?}")?));
             }
-            difference(alloc, written.as_str(), text.as_str())
+            match difference(alloc, written.as_str(), text.as_str())? {
+                Some(fault) => Ok(Some(fault)),
+                None => unread(alloc, written.as_str()),
+            }
         }
         Wanted::Rules { rules } => {
             for _ in 0..rules::runs(rules.as_str()) {
@@ -73,6 +92,9 @@ pub(crate) fn fault_of<R: Threads + Wait + Sync>(
                     return Ok(Some(format!(in alloc; "ended by {ended:?}")?));
                 }
                 if let Some(fault) = rules::broken(alloc, rules.as_str(), written.as_str())? {
+                    return Ok(Some(fault));
+                }
+                if let Some(fault) = unread(alloc, written.as_str())? {
                     return Ok(Some(fault));
                 }
             }
