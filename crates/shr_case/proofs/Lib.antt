@@ -1,0 +1,4 @@
+mod Order
+pub mod Firsts
+pub mod Eachs
+mod CaseValues
