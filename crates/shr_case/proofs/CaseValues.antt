@@ -1,6 +1,6 @@
 -- A report by the index, at known values.
-use Rattle.std.proofs.Common.{◌≡◌, ℕ, ◌<◌, zero, suc, true, false, List, [], ◌∷◌, refl, sym, ap, arith, inl, inr}
-use Rattle.std.specs.Prelude.{Some, None}
+use Rattle.std.proofs.Common.{◌≡◌, ℕ, ◌<◌, zero, suc, Bool, true, false, Option, List, [], ◌∷◌, refl, sym, ap, ◌∙◌, arith, inl, inr}
+use Rattle.std.specs.Prelude.{Some, None, slice_get, slice_index}
 use Rattle.shr_base.specs.declared.places.Place.{Place}
 use Rattle.shr_base.specs.declared.ends.PlaceEnd.{PlaceEnd}
 use Rattle.shr_base.specs.declared.ends.WorkerPart.{WorkerPart}
@@ -10,6 +10,10 @@ use Rattle.shr_report.specs.WellFormed.{IsPlaceUpTo}
 use Rattle.shr_report.proofs.SecondReport.{kept, put}
 use Rattle.shr_report.proofs.FirstReport.{answer, report, script}
 use Rattle.shr_case.specs.Places.{AreInOrder, IsFirst, IsIndexOf, comes_before, end_of}
+use Rattle.shr_replay.specs.declared.journal.Replayed.{Replayed}
+use Rattle.shr_replay.specs.Journals.{lens_from}
+use Rattle.shr_case.specs.Lists.{AreReplays, Tells, journals_in}
+use Rattle.shr_case.specs.Replaying.{AreFirsts, IsNewAt, IsTakenOut, on_node}
 use Rattle.shr_case.specs.Each.{AnswersInParts, EachFirst, InParts}
 
 abbrev at : ℕ → ℕ → ℕ → Place
@@ -90,3 +94,52 @@ second_is_not_asked : EachFirst (list (at 0 0 1) ∷ with_entry ∷ []) (λ end.
 second_is_not_asked zero end here is = let same : list (at 0 0 1) ≡ end = cc in ap (λ (e : PlaceEnd). e.entries.items) (sym same)
 second_is_not_asked (suc zero) end here is = absurd (is 0 (list (at 0 0 1)) (omega arith) refl (let same : with_entry ≡ end = cc in ap (λ (e : PlaceEnd). e.place) same))
 second_is_not_asked (suc (suc n)) end here is = let lt = slice_get_within (list (at 0 0 1) ∷ with_entry ∷ []) (suc (suc n)) end here in absurd (omega arith)
+
+-- ---- replays
+
+one_node : on_node (at 1 2 3) (at 1 2 9) ≡ true
+one_node = refl
+
+two_nodes : on_node (at 1 2 3) (at 1 3 3) ≡ false
+two_nodes = refl
+
+two_ids : on_node (at 1 2 3) (at 0 2 3) ≡ false
+two_ids = refl
+
+journal_is : journals_in (with_entry ∷ []) (at 0 0 1) ≡ Closed ∷ []
+journal_is = refl
+
+no_journal : journals_in (with_entry ∷ []) (at 0 0 2) ≡ []
+no_journal = refl
+
+first_is_not_old : IsNewAt twice 0 false → ⊥
+first_is_not_old h = let some : 0 < 0 = h.0 in absurd (omega arith)
+
+other_node_is_not_old : IsNewAt (list (at 0 0 1) ∷ list (at 0 1 1) ∷ []) 1 false → ⊥
+other_node_is_not_old h = let same : ◌≡◌ {A = Bool} false true = h.1 (list (at 0 0 1)) (list (at 0 1 1)) refl refl in cc
+
+-- group 1 of two groups is printed first, and the root isn't
+firsts : AreFirsts twice (at 0 0 5) 2 (2 ∷ 0 ∷ [])
+firsts = record { many = refl; each = is }
+  where
+    is : (group : ℕ) → group < 2 → slice_get twice (slice_index (2 ∷ 0 ∷ []) group) ≡ end_of twice (at 0 0 group)
+    is zero lt = refl
+    is (suc zero) lt = refl
+    is (suc (suc n)) lt = absurd (omega arith)
+
+second_for_the_first : AreFirsts twice (at 0 0 5) 2 (0 ∷ 0 ∷ []) → ⊥
+second_for_the_first h = let none : ◌≡◌ {A = Option PlaceEnd} (Some (list (at 0 0 1))) None = h.each 0 (omega arith) in cc
+
+one_more : (r : Replayed) → IsTakenOut 2 0 [] (r ∷ []) → ⊥
+one_more r h = let many : ◌≡◌ {A = ℕ} 1 0 = h.many in absurd (omega arith)
+
+unprinted_tells : Tells (0 ∷ []) (journals_in twice) (at 0 0 0) None
+unprinted_tells = refl
+
+printed_tells : Tells (0 ∷ []) (journals_in (with_entry ∷ [])) (at 0 0 1) None → ⊥
+printed_tells h = cc
+
+wrong_lens : (r : Replayed) → r.lens.items ≡ [] → AreReplays (0 ∷ []) (with_entry ∷ []) (r ∷ []) → ⊥
+unfolding lens_from
+wrong_lens r none h =
+    let is : ◌≡◌ {A = List ℕ} [] (0 ∷ 0 ∷ []) = sym none ∙ (h.each 0 r refl with_entry refl (λ m x lt. absurd (omega arith))).lens in cc

@@ -1,4 +1,6 @@
 mod Order
 pub mod Firsts
 pub mod Eachs
+mod Replaying
+mod Telling
 mod CaseValues

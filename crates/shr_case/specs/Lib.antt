@@ -1,2 +1,4 @@
 pub mod Places
 pub mod Each
+pub mod Lists
+pub mod Replaying

@@ -2,5 +2,7 @@
 //! each journal leaves. Our own.
 #![tactic(auto)]
 
+pub mod case;
+pub mod lists;
 pub mod places;
 pub mod serials;
