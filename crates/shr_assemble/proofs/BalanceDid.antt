@@ -1,6 +1,6 @@
 -- A `balance` did what the report asks.
 use Rattle.std.proofs.Common.{◌≡◌, ℕ, zero, suc, ◌+◌, ◌<◌, ◌≤◌, ◌⊎◌, inl, inr, ⊎_elim, Bool, true, false, ◌&&◌, List, [], ◌∷◌, ◌++◌, length, length-append, map, take, drop, sym, refl, ap, subst, ◌∙◌, arith, append_assoc, eq-eqb, ne_eqb}
-use Rattle.std.specs.Prelude.{slice_get, Some, not, ◌==◌, if◌then◌else◌}
+use Rattle.std.specs.Prelude.{slice_get, Some, not, ◌==◌, if◌then◌else◌, Option}
 use Rattle.std.specs.List.{AllByRecursion}
 use Rattle.std.proofs.lemmas.List.{length-map, take-append-drop, map-append}
 use Rattle.std.proofs.lemmas.Option.{none-some}
@@ -57,8 +57,8 @@ module _ (x : Shared) (table : IsTableOf x) (by : Serial) (node priority : ℕ) 
   abbrev pub walk_of : Walk
   walk_of = next_walk by s 0 node priority nofs
 
-  abbrev pub Command_of : Command
-  Command_of = Balance node priority nofs
+  abbrev pub Command_of : Option Command
+  Command_of = Some (Balance node priority nofs)
 
   abbrev pub jobs_for : List ℕ → List Job
   jobs_for gs = map (λ (g : ℕ). job g node priority nofs) gs
@@ -89,9 +89,7 @@ module _ (x : Shared) (table : IsTableOf x) (by : Serial) (node priority : ℕ) 
           no_cite = refl;
           no_told = refl;
           no_made = refl;
-          no_rounds = refl;
-          made = jobs;
-          told = ap reply.Walked (g.sum_freed ∙ sym had.sum_told) ∙ reply_whole (length (preorder_of (parents_of x.script) 0)) all.work.walks long had.uncut;
+          asked = record { rounds = []; refused = refl; made = jobs; told = ap reply.Walked (g.sum_freed ∙ sym had.sum_told) ∙ reply_whole (length (preorder_of (parents_of x.script) 0)) all.work.walks long had.uncut };
           online = λ k e lt. absurd (none-some k e);
           meets = record { unmade = λ k e. absurd (cc); met = λ k e. absurd (none-some k e) };
           cause = tt;
@@ -118,9 +116,7 @@ module _ (x : Shared) (table : IsTableOf x) (by : Serial) (node priority : ℕ) 
           no_cite = refl;
           no_told = refl;
           no_made = refl;
-          no_rounds = refl;
-          made = begins_prefix (map job_of all.work.walks) (c.begins.0 ++ jobs_for (drop (g.n + 1) (all_groups x))) (jobs_for (preorder_of (parents_of x.script) 0)) due;
-          told = ap reply.WalkMemory (g.sum_freed ∙ sym c.sum_told) ∙ reply_cut (length (preorder_of (parents_of x.script) 0)) all.work.walks (⊎_elim (λ lt. inl (omega (arith, lt, few))) (λ d. inr d) c.short);
+          asked = record { rounds = []; refused = refl; made = begins_prefix (map job_of all.work.walks) (c.begins.0 ++ jobs_for (drop (g.n + 1) (all_groups x))) (jobs_for (preorder_of (parents_of x.script) 0)) due; told = ap reply.WalkMemory (g.sum_freed ∙ sym c.sum_told) ∙ reply_cut (length (preorder_of (parents_of x.script) 0)) all.work.walks (⊎_elim (λ lt. inl (omega (arith, lt, few))) (λ d. inr d) c.short) };
           online = λ k e lt. absurd (none-some k e);
           meets = record { unmade = λ k e. absurd (cc); met = λ k e. absurd (none-some k e) };
           cause = tt;
@@ -139,9 +135,7 @@ module _ (x : Shared) (table : IsTableOf x) (by : Serial) (node priority : ℕ) 
       no_cite = refl;
       no_told = refl;
       no_made = refl;
-      no_rounds = refl;
-      made = refl;
-      told = reply_cut (length (preorder_of (parents_of x.script) 0)) [] (inl (some_group (length (parents_of x.script)) (parents_of x.script) 0 (omega arith)));
+      asked = record { rounds = []; refused = refl; made = refl; told = reply_cut (length (preorder_of (parents_of x.script) 0)) [] (inl (some_group (length (parents_of x.script)) (parents_of x.script) 0 (omega arith))) };
       online = λ k e lt. absurd (none-some k e);
       meets = record { unmade = λ k e. absurd (cc); met = λ k e. absurd (none-some k e) };
       cause = tt;

@@ -1,6 +1,6 @@
 -- The law of causes, of a run.
 use Rattle.std.proofs.Common.{◌≡◌, ℕ, ⊎_elim, List, sym, refl, subst, ap, ◌∙◌}
-use Rattle.std.specs.Prelude.{slice_get, Some}
+use Rattle.std.specs.Prelude.{slice_get, Some, option_and_then, Option}
 use Rattle.std.specs.Option.{IsSomeAnd}
 use Rattle.shr_base.specs.declared.places.Serial.{Serial}
 use Rattle.shr_base.specs.declared.journals.PoolEntry.TheVariants.{Registered}
@@ -45,51 +45,51 @@ module _ (s : Script) (r : Report) (workers : List (List Step)) (run : IsRun s r
   why_is worker k x at (why.Worn z) h = spent_law s r workers run worker k x z at h
 
   -- the command names this group, or meets it, or names this declaration
-  of_group : (P : ℕ → Type 0) (c : Command) (g : ℕ) → group_named c ≡ Some g → P g → IsSomeAnd (group_named c) P
-  of_group P c g named h = subst (λ o. IsSomeAnd o P) (sym named) h
+  of_group : (P : ℕ → Type 0) (x : Step) (c : Command) → x.command ≡ Some c → (g : ℕ) → option_and_then group_named x.command ≡ Some g → P g → IsSomeAnd (group_named c) P
+  of_group P x c is g named h = subst (λ o. IsSomeAnd o P) (sym named ∙ ap (option_and_then group_named) is) h
 
-  of_met : (P : ℕ → Type 0) (c : Command) (g : ℕ) → group_met s c ≡ Some g → P g → IsSomeAnd (group_met s c) P
-  of_met P c g met h = subst (λ o. IsSomeAnd o P) (sym met) h
+  of_met : (P : ℕ → Type 0) (x : Step) (c : Command) → x.command ≡ Some c → (g : ℕ) → option_and_then (group_met s) x.command ≡ Some g → P g → IsSomeAnd (group_met s c) P
+  of_met P x c is g met h = subst (λ o. IsSomeAnd o P) (sym met ∙ ap (option_and_then (group_met s)) is) h
 
-  of_decl : (P : ℕ → Type 0) (c : Command) (d : ℕ) → decl_named c ≡ Some d → P d → IsSomeAnd (decl_named c) P
-  of_decl P c d named h = subst (λ o. IsSomeAnd o P) (sym named) h
+  of_decl : (P : ℕ → Type 0) (x : Step) (c : Command) → x.command ≡ Some c → (d : ℕ) → option_and_then decl_named x.command ≡ Some d → P d → IsSomeAnd (decl_named c) P
+  of_decl P x c is d named h = subst (λ o. IsSomeAnd o P) (sym named ∙ ap (option_and_then decl_named) is) h
 
   -- what a command found used up is so, at a pool by the law on pools
-  used_up : (worker k : ℕ) (x : Step) → slice_get (steps_of workers worker) k ≡ Some x → x.by.worker ≡ worker → (c : Command) (z : Spent) → IsPoolWorn s r c z → IsUsedUpBy s x c z → IsUsedUp s r x.by c z
+  used_up : (worker k : ℕ) (x : Step) → slice_get (steps_of workers worker) k ≡ Some x → x.by.worker ≡ worker → (c : Command) (z : Spent) → IsPoolWorn s r c z → IsUsedUpBy s x (Some c) z → IsUsedUp s r x.by c z
   used_up worker k x at own (Release node p units) z pool h = pool
   used_up worker k x at own (Grab node p) z pool h = pool
   used_up worker k x at own c z pool h = subst (λ w. IsSpent s r w z) (sym own) (spent_law s r workers run worker k x z at h)
 
-  caused : (worker k : ℕ) (x : Step) → slice_get (steps_of workers worker) k ≡ Some x → x.by.worker ≡ worker → (y : Reply) → x.answered.reply ≡ y → IsCausedBy s x y → HasCause s r x.by x.command y
-  caused worker k x at own (reply.Offline entry) answer h = of_met (λ g. StandsInTree r entry (Begin g)) x.command h.group h.met
+  caused : (worker k : ℕ) (x : Step) → slice_get (steps_of workers worker) k ≡ Some x → x.by.worker ≡ worker → (c : Command) → x.command ≡ Some c → (y : Reply) → x.answered.reply ≡ y → IsCausedBy s x y → HasCause s r x.by c y
+  caused worker k x at own c is (reply.Offline entry) answer h = of_met (λ g. StandsInTree r entry (Begin g)) x c is h.group h.met
       (⊎_elim (λ w. word_stands s r workers run worker k x at h.group entry w) (λ b. tree_stands s r workers run worker k x at entry (Begin h.group) (begin_at x.after.tree.known h.group entry b)) h.told)
-  caused worker k x at own (reply.NotMade g) answer h = of_met (λ n. IsUnmade s n g) x.command g h.met (record { named = refl; late = h.late })
-  caused worker k x at own (reply.Made entry) answer h = of_group (λ g. StandsInTree r entry (Made g)) x.command h.group h.named (entry_stands s r workers run worker k x (record { number = entry; entry = Made h.group }) at h.made)
-  caused worker k x at own (reply.AlreadyMade entry) answer h = of_group (λ g. StandsInTree r entry (Made g)) x.command h.group h.named (tree_stands s r workers run worker k x at entry (Made h.group) (made_at x.after.tree.known h.group entry h.made))
-  caused worker k x at own (reply.Over g operation usage) answer h = of_group (λ n. IsOver s r x.by n g operation usage) x.command h.own h.named (over_caused s r workers run worker k x at g operation usage h)
-  caused worker k x at own (reply.NoCache entry) answer h = of_decl (λ d. IsUncached s r d entry) x.command h.decl h.named (uncached s r workers run worker k x at entry h)
-  caused worker k x at own (reply.Worn spent) answer h = used_up worker k x at own x.command spent
-      (let is = run.steps.each worker k x at in pool_worn s r run.plain run.units (serial_of worker k) x.command spent is.command (reply_is s r workers run worker k x at ∙ ap Some answer)) h
-  caused worker k x at own (reply.OfflineDone entry moved deferred) answer h = of_group (λ g. IsOfflined s r x.by g entry moved deferred) x.command h.group h.named (offlined s r workers run worker k x at entry moved deferred h)
-  caused worker k x at own (reply.AlreadyDone entry) answer h = of_group (λ g. StandsInTree r entry (Done g)) x.command h.group h.named (was_done s r workers run worker k x at entry h)
-  caused worker k x at own reply.Root answer h = of_group (λ g. g ≡ 0) x.command 0 h refl
-  caused worker k x at own (reply.HasChildren child entry) answer h = of_group (λ g. IsInTheWay s r g child entry) x.command h.group h.named (in_the_way s r workers run worker k x at child entry h)
-  caused worker k x at own (reply.Registered i entry) answer h = of_decl (λ d. (from : ℕ) × (slice_get r.pool.items entry ≡ Some (Registered d i from))) x.command h.decl h.named (h.from, registered s r workers run worker k x at i entry h)
-  caused worker k x at own (reply.AlreadyRegistered entry) answer h = of_decl (λ d. IsCached s r d entry) x.command h.decl h.named (cached s r workers run worker k x at entry h)
-  caused worker k x at own (reply.NoId entry) answer h = of_decl (λ d. IsFull s r d entry) x.command h.uncached.decl h.uncached.named (full s r workers run worker k x at entry h)
-  caused worker k x at own (reply.Freed i entry from to objects) answer h = of_decl (λ d. IsFreed r x.by d i entry from to objects) x.command h.unregistered.decl h.unregistered.named (freed s r workers run worker k x at i entry from to objects h answer)
-  caused worker k x at own (reply.Half i entry from to objects w) answer h = of_decl (λ d. IsHalf s r x.by d i entry from to objects w) x.command h.unregistered.decl h.unregistered.named (record {
+  caused worker k x at own c is (reply.NotMade g) answer h = of_met (λ n. IsUnmade s n g) x c is g h.met (record { named = refl; late = h.late })
+  caused worker k x at own c is (reply.Made entry) answer h = of_group (λ g. StandsInTree r entry (Made g)) x c is h.group h.named (entry_stands s r workers run worker k x (record { number = entry; entry = Made h.group }) at h.made)
+  caused worker k x at own c is (reply.AlreadyMade entry) answer h = of_group (λ g. StandsInTree r entry (Made g)) x c is h.group h.named (tree_stands s r workers run worker k x at entry (Made h.group) (made_at x.after.tree.known h.group entry h.made))
+  caused worker k x at own c is (reply.Over g operation usage) answer h = of_group (λ n. IsOver s r x.by n g operation usage) x c is h.own h.named (over_caused s r workers run worker k x at g operation usage h)
+  caused worker k x at own c is (reply.NoCache entry) answer h = of_decl (λ d. IsUncached s r d entry) x c is h.decl h.named (uncached s r workers run worker k x at entry h)
+  caused worker k x at own c is (reply.Worn spent) answer h = used_up worker k x at own c spent
+      (pool_worn s r run.plain run.units (serial_of worker k) c spent ((run.steps.each worker k x at).command ∙ is) (reply_is s r workers run worker k x at ∙ ap Some answer)) (subst (λ (o : Option Command). IsUsedUpBy s x o spent) is h)
+  caused worker k x at own c is (reply.OfflineDone entry moved deferred) answer h = of_group (λ g. IsOfflined s r x.by g entry moved deferred) x c is h.group h.named (offlined s r workers run worker k x at entry moved deferred h)
+  caused worker k x at own c is (reply.AlreadyDone entry) answer h = of_group (λ g. StandsInTree r entry (Done g)) x c is h.group h.named (was_done s r workers run worker k x at entry h)
+  caused worker k x at own c is reply.Root answer h = of_group (λ g. g ≡ 0) x c is 0 h refl
+  caused worker k x at own c is (reply.HasChildren child entry) answer h = of_group (λ g. IsInTheWay s r g child entry) x c is h.group h.named (in_the_way s r workers run worker k x at child entry h)
+  caused worker k x at own c is (reply.Registered i entry) answer h = of_decl (λ d. (from : ℕ) × (slice_get r.pool.items entry ≡ Some (Registered d i from))) x c is h.decl h.named (h.from, registered s r workers run worker k x at i entry h)
+  caused worker k x at own c is (reply.AlreadyRegistered entry) answer h = of_decl (λ d. IsCached s r d entry) x c is h.decl h.named (cached s r workers run worker k x at entry h)
+  caused worker k x at own c is (reply.NoId entry) answer h = of_decl (λ d. IsFull s r d entry) x c is h.uncached.decl h.uncached.named (full s r workers run worker k x at entry h)
+  caused worker k x at own c is (reply.Freed i entry from to objects) answer h = of_decl (λ d. IsFreed r x.by d i entry from to objects) x c is h.unregistered.decl h.unregistered.named (freed s r workers run worker k x at i entry from to objects h answer)
+  caused worker k x at own c is (reply.Half i entry from to objects w) answer h = of_decl (λ d. IsHalf s r x.by d i entry from to objects w) x c is h.unregistered.decl h.unregistered.named (record {
     unregistered = unregistered s r workers run worker k x at i entry from to objects h.unregistered (λ z d. sym (subst (Drains z) answer d));
     dying = half s r workers run worker k x at i entry from to objects w h answer;
     reason = subst (λ v. IsWhy s r v w) (sym own) (why_is worker k x at w h.reason);
   })
-  caused worker k x at own y answer h = tt
+  caused worker k x at own c is y answer h = tt
 
   rows : (by : Serial) (c : Command) (a : Answered) → command_at s by ≡ Some c → answer_at r by ≡ Some a → HasCause s r by c a.reply
   rows by c a command answer =
       let t = stepped s r workers run by c a command answer in
-      let row = caused by.worker by.command t.step t.at (ap (λ (b : Serial). b.worker) t.own) t.step.answered.reply refl t.did.cause in
-      subst (λ (b : Serial). HasCause s r b c a.reply) t.own (subst (λ (d : Command). HasCause s r t.step.by d a.reply) t.command (subst (λ (y : Answered). HasCause s r t.step.by t.step.command y.reply) t.answered row))
+      let row = caused by.worker by.command t.step t.at (ap (λ (b : Serial). b.worker) t.own) c t.command t.step.answered.reply refl t.did.cause in
+      subst (λ (b : Serial). HasCause s r b c a.reply) t.own (subst (λ (y : Answered). HasCause s r t.step.by c y.reply) t.answered row)
 
   pub causes_lawful : AreCausesLawful s r
   causes_lawful = record {

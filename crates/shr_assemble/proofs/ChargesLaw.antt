@@ -28,7 +28,7 @@ use Rattle.shr_core.specs.Parts.{Made}
 use Rattle.shr_report.specs.declared.report.Report.{Report}
 use Rattle.shr_report.specs.Parts.{parents_of, limit_of, journals_of, places_of, serial_of, command_at, commands_of, reply_at, uses_at, walk_at, entry_by, at, id_found}
 use Rattle.shr_report.specs.Charges.{IsDownBetween, ways_of, charged, is_of, freed_in, freed_below}
-use Rattle.shr_assemble.specs.Steps.{Step, steps_of}
+use Rattle.shr_assemble.specs.Steps.{Step, steps_of, IsPut}
 use Rattle.shr_assemble.specs.Charges.{ops_at}
 use Rattle.shr_assemble.specs.Charges as did
 use Rattle.shr_assemble.specs.Entries.{IsTold, IsScanned, IsDrained, MayMake}
@@ -41,7 +41,7 @@ use Rattle.shr_assemble.proofs.Operations.{op_of, op_by, ops_are, ops_none, amon
 use Rattle.shr_assemble.proofs.Flattening.{walk_there}
 use Rattle.shr_assemble.proofs.ScansLaw.{only_step, all_zero}
 use Rattle.shr_assemble.proofs.RepliesLaw.{told_of}
-use Rattle.shr_assemble.proofs.ReplyEntries.{IsEntryFor, entry_for}
+use Rattle.shr_assemble.proofs.ReplyEntries.{IsEntryFor, entry_asked}
 use Rattle.shr_assemble.proofs.FamilyObjects.{AddIs}
 
 -- ---- totals
@@ -117,7 +117,7 @@ module _ (s : Script) (r : Report) (workers : List (List Step)) (run : IsRun s r
       by_cases None e = inr (λ worker k x at same. let b : serial_of worker k ≡ by = sym (run.steps.each worker k x at).by ∙ same in
           none-some x (sym e ∙ (ap (λ (z : Serial). slice_get (steps_of workers z.worker) z.command) (sym b) ∙ at)))
 
-  command_of : (by : Serial) (o : OfStep by) → command_at s by ≡ Some o.step.command
+  command_of : (by : Serial) (o : OfStep by) → command_at s by ≡ o.step.command
   command_of by o = (run.steps.each by.worker by.command o.step o.there).command
 
   no_command : (by : Serial) → ((worker k : ℕ) (x : Step) → slice_get (steps_of workers worker) k ≡ Some x → x.by ≡ by → ⊥) → command_at s by ≡ None
@@ -141,8 +141,8 @@ module _ (s : Script) (r : Report) (workers : List (List Step)) (run : IsRun s r
   puts n o e up =
       let of = op_of s r workers run o (among_has r.uses.items o (n, some_at r.uses.items n o e)) in
       let is = run.steps.each of.worker of.k of.step of.at in
-      let command : command_at s o.by ≡ Some of.step.command = ap (command_at s) (op_by s r workers run of.worker of.k of.step o of.at of.has ∙ is.by) ∙ is.command in
-      subst (λ (c : Option Command). IsSomeAnd c (λ d. is_put d ≡ true)) (sym command) (all_among (λ (z : UseStep). z.up ≡ true → is_put of.step.command ≡ true) of.step.work.ops o is.did.charges.puts of.has up)
+      let command : command_at s o.by ≡ of.step.command = ap (command_at s) (op_by s r workers run of.worker of.k of.step o of.at of.has ∙ is.by) ∙ is.command in
+      subst (λ (c : Option Command). IsSomeAnd c (λ d. is_put d ≡ true)) (sym command) (all_among (λ (z : UseStep). z.up ≡ true → IsPut of.step.command) of.step.work.ops o is.did.charges.puts of.has up)
 
   -- a command's operations in a group
   mine_are : (by : Serial) (g : ℕ) (o : OfStep by) → ops_by by (uses_at r g) ≡ ops_at g o.step.work.ops
@@ -288,8 +288,8 @@ module _ (s : Script) (r : Report) (workers : List (List Step)) (run : IsRun s r
       let stand = made_stands s r workers run m.worker m.k m.step m.at in
       let answer = is.did.entries.reply (journals_of r) (λ j z e. (stand j z e).1) in
       let here = (stand m.among.0 m.made m.among.1).1.entry ∙ ap Some m.entry in
-      let entry = entry_for (parents_of s) (journals_of r) m.step.by m.step.answered.reply m.step.command (id_found m.step.answered) (at (place_at m.made.place) m.made.number) (Add by birth added key value) answer told.cited here in
-      ap (weight_command g) (ap (command_at s) (told.own ∙ is.by) ∙ is.command) ∙ put_weighs g m.step.by by m.step.command birth key value added entry
+      let entry = entry_asked (parents_of s) (journals_of r) m.step.by m.step.answered.reply m.step.command (id_found m.step.answered) (at (place_at m.made.place) m.made.number) (Add by birth added key value) answer told.cited here in
+      ap (weight_command g) (ap (command_at s) (told.own ∙ is.by) ∙ (is.command ∙ entry.1)) ∙ put_weighs g m.step.by by entry.0 birth key value added entry.2
 
   abbrev pub Weighs : ℕ → Object → Type 0
   Weighs g o = weight_serial g o.serial ≡ weight_object g o

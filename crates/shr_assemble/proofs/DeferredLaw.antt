@@ -194,7 +194,7 @@ module _ (s : Script) (r : Report) (workers : List (List Step)) (run : IsRun s r
       let by : c.by ≡ serial_of of.worker of.k = d.by ∙ is.by in
       record {
         there = d.there;
-        command = ap (command_at s) by ∙ (is.command ∙ ap Some d.command);
+        command = ap (command_at s) by ∙ (is.command ∙ d.command);
         answer = subst (λ (o : Option Reply). IsSomeAnd o HasCarried) (sym (ap (reply_at r) by ∙ reply_is s r workers run of.worker of.k of.step of.at)) d.answer;
       }
 

@@ -1,4 +1,5 @@
 -- Each command's clause gives what it did.
+use Rattle.std.specs.Prelude.{Some}
 use Rattle.shr_base.specs.declared.places.Serial.{Serial}
 use Rattle.shr_base.specs.declared.replies.Answered.{Answered}
 use Rattle.shr_base.specs.declared.scripts.Command.{Command}
@@ -27,7 +28,7 @@ use Rattle.shr_assemble.proofs.WalkingTold.{IsTableOf}
 worked : (s : Script) (by : Serial) (c : Command) (a : Answered) (t u : WorkerState) → HasDid s by c a t u → Worked s by c a t u
 worked s by c a t u h = (h.work, h.does, h.did)
 
-walked : (x : Shared) (by : Serial) (c : Command) (a : Answered) (t u : WorkerState) → Stepping x by c a t u → Worked x.script by c a t u
+walked : (x : Shared) (by : Serial) (c : Command) (a : Answered) (t u : WorkerState) → Stepping x by (Some c) a t u → Worked x.script by c a t u
 walked x by c a t u h = (h.work, h.does, h.did)
 
 tables_of : (x : Shared) → IsTableOf x → AreTables x

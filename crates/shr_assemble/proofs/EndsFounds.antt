@@ -1,6 +1,6 @@
 -- A found cache's registration ends only after its lookup, of a run whose workers are done.
 use Rattle.std.proofs.Common.{◌≡◌, ℕ, ◌+◌, ◌<◌, ◌≤◌, Bool, true, false, cond, List, [], ◌∷◌, length, drop, refl, sym, ap, subst, ◌∙◌, arith}
-use Rattle.std.specs.Prelude.{◌==◌, slice_get, Some}
+use Rattle.std.specs.Prelude.{◌==◌, slice_get, Some, option_and_then}
 use mathlib.Core.Logic.{dite}
 use native.Mathlib.Decide.{dec_lt}
 use Rattle.shr_base.specs.declared.journals.PoolEntry.{PoolEntry}
@@ -56,7 +56,7 @@ module _ (x : Shared) (did : DidEach x) (logs : List WorkerLog) (e : Ends) (ends
   dated_shown j d at = subst (λ (es : List PoolEntry). is_before d.number (end_of d.id (drop d.entries es)) ≡ true) (sym made.pool) (ends.core.dated j d at).ended
 
   -- the registration in which a found cache's lookup lies ended after it
-  pub founds_end : (worker k decl : ℕ) (y : Step) (f : Found) → slice_get (steps_of (workers x did logs e ends r made) worker) k ≡ Some y → decl_named y.command ≡ Some decl → y.answered.found ≡ Some f
+  pub founds_end : (worker k decl : ℕ) (y : Step) (f : Found) → slice_get (steps_of (workers x did logs e ends r made) worker) k ≡ Some y → option_and_then decl_named y.command ≡ Some decl → y.answered.found ≡ Some f
       → is_before f.number (end_of f.id (drop f.entry r.pool.items)) ≡ true
   founds_end worker k decl y f at named found =
       let t = has_last x did logs e ends r made worker k y at in

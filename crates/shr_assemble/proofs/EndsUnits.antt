@@ -58,6 +58,7 @@ use Rattle.shr_assemble.proofs.Rows.{DidEach, within_at}
 use Rattle.shr_assemble.proofs.UnitsDid.{IsElsewhere, other_reply, did_units}
 use Rattle.shr_assemble.proofs.UnitsRows.{IsDeed, IsUnitsRow, IsUnitsCrew, units_crew}
 use Rattle.shr_assemble.proofs.WordPlaces.{inside_word, place_back, has_range, range_has}
+use Rattle.shr_assemble.specs.Entries.{IsReplyTo}
 
 -- ---- what the first seats have in the end
 module _ (f : Firsts) (ws : List CrewState) where
@@ -165,13 +166,13 @@ module _ (x : Shared) (did : DidEach x) (logs : List WorkerLog) (e : Ends) (ends
       let t = seat_step worker k c command in
       let y = t.0 in
       let own = steps.each worker k y t.1 in
-      let same_command : y.command ≡ c = same_Some y.command c (sym own.command ∙ command) in
+      let same_command : y.command ≡ Some c = sym own.command ∙ command in
       let same_answer : y.answered ≡ a = same_Some y.answered a (sym own.answered ∙ answer) in
       let row = own.did.entries.reply (journals_of r) (λ j m h.
       let of = among_right y.before.core.traces.made y.work.core.made m (j, h) in
       ((steps.shown worker k y t.1).made of.0 m (subst (λ l. seats.IsAmong m l) (sym (does_at (steps.first worker) (seats.steps_of seat_team worker) k y (steps.chained worker) t.1).core.made) of).1).1) in
       subst (λ (b : Answered). IsOther b.reply) same_answer
-      (other_reply (parents_of x.script) (journals_of r) y.by y.command (id_found y.answered) y.answered.reply (subst IsElsewhere (sym same_command) is) row)
+      (other_reply (parents_of x.script) (journals_of r) y.by c (id_found y.answered) y.answered.reply is (subst (λ (o : Option Command). IsReplyTo (parents_of x.script) (journals_of r) y.by o (id_found y.answered) y.answered.reply) same_command row))
 
   is_step : (worker k : ℕ) (y : UnitsStep) → slice_get (steps_of team worker) k ≡ Some y → IsUnitsStep x.script r worker k y
   is_step worker k y at =

@@ -75,7 +75,7 @@ module _ (s : Script) (r : Report) (workers : List (List Step)) (run : IsRun s r
       let m = entry_maker s r workers run n (Begin group) stands in
       let is = run.steps.each m.worker m.k m.step m.at in
       let begun : IsBegun m.step group = subst (IsEntryOf s m.step m.made.number) m.entry (all_among (λ (z : charge.Made). (length m.step.before.tree.known ≤ z.number) × IsEntryOf s m.step z.number z.entry) m.step.work.tree m.made is.did.tree.each m.among).1 in
-      (serial_of m.worker m.k, record { command_is = is.command ∙ ap Some begun.command; answer = subst (λ o. IsSomeAnd o MayHaveBegun) (sym (reply_is s r workers run m.worker m.k m.step m.at)) begun.answer })
+      (serial_of m.worker m.k, record { command_is = is.command ∙ begun.command; answer = subst (λ o. IsSomeAnd o MayHaveBegun) (sym (reply_is s r workers run m.worker m.k m.step m.at)) begun.answer })
 
   pub dones_caused : (n group : ℕ) → StandsInTree r n (Done group) → IsDoneOnce r n
   dones_caused n group stands =

@@ -1,6 +1,6 @@
 -- The report of a run is faithful: what its workers told stands in the order of their commands.
 use Rattle.std.proofs.Common.{◌≡◌, ℕ, zero, suc, ◌+◌, ◌<◌, ◌≤◌, inl, inr, ⊎_elim, List, [], ◌∷◌, ◌++◌, length, map, sym, ap, subst, ◌∙◌, arith}
-use Rattle.std.specs.Prelude.{slice_get, Some}
+use Rattle.std.specs.Prelude.{slice_get, Some, option_and_then}
 use Rattle.std.specs.List.{AllByRecursion}
 use Rattle.std.specs.Option.{IsSomeAnd}
 use Rattle.std.proofs.lemmas.Option.{none-some, same_Some}
@@ -188,19 +188,19 @@ module _ (s : Script) (r : Report) (workers : List (List Step)) (run : IsRun s r
       behind (u ∷ us) vs h = inr (behind us vs h)
 
   -- ---- single answers
-  over_on_path : (x : Step) (z : Reply) → by.IsCausedBy s x z → IsOverOnPath s x.command z
-  over_on_path x (reply.Over g operation usage) h = subst (λ o. IsSomeAnd o (λ own. IsAtOrAbove (parents_of s) g own)) (sym h.named) h.above
-  over_on_path x y h = tt
+  over_on_path : (x : Step) (c : Command) (z : Reply) → x.command ≡ Some c → by.IsCausedBy s x z → IsOverOnPath s c z
+  over_on_path x c (reply.Over g operation usage) is h = subst (λ o. IsSomeAnd o (λ own. IsAtOrAbove (parents_of s) g own)) (sym h.named ∙ ap (option_and_then group_named) is) h.above
+  over_on_path x c y is h = tt
 
   over : EachAnswer s r (λ by c a. IsOverOnPath s c a.reply)
   over serial c a command answer = let t = stepped s r workers run serial c a command answer in
-      subst (λ (y : Answered). IsOverOnPath s c y.reply) t.answered (subst (λ (d : Command). IsOverOnPath s d t.step.answered.reply) t.command (over_on_path t.step t.step.answered.reply t.did.cause))
+      subst (λ (y : Answered). IsOverOnPath s c y.reply) t.answered (over_on_path t.step c t.step.answered.reply t.command t.did.cause)
 
   below_root : EachAnswer s r (λ by c a. (group child entry : ℕ) → c ≡ Offline group → a.reply ≡ reply.HasChildren child entry → 0 < group)
   below_root serial c a command answer group child entry is told =
       let t = stepped s r workers run serial c a command answer in
       let h : by.IsInTheWayBy s t.step child entry = subst (by.IsCausedBy s t.step) (ap (λ (y : Answered). y.reply) t.answered ∙ told) t.did.cause in
-      let same : Some h.group ≡ Some group = sym h.named ∙ (ap group_named t.command ∙ ap group_named is) in
+      let same : Some h.group ≡ Some group = sym h.named ∙ (ap (option_and_then group_named) t.command ∙ ap group_named is) in
       subst (λ g. 0 < g) (same_Some h.group group same) h.below
 
   carried : AllByRecursion (λ (c : Carry). 0 < c.amount) (all_carries r)

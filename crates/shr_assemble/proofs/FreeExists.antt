@@ -37,7 +37,7 @@ use Rattle.shr_assemble.proofs.Gathering.{each_among}
 use Rattle.shr_assemble.proofs.Listed.{by_slices, contains_slice}
 use Rattle.shr_assemble.proofs.Making.{maker, made_stands}
 use Rattle.shr_assemble.proofs.RepliesLaw.{told_of, cited}
-use Rattle.shr_assemble.proofs.ReplyEntries.{IsEntryFor, entry_for}
+use Rattle.shr_assemble.proofs.ReplyEntries.{IsEntryFor, entry_asked}
 use Rattle.shr_assemble.proofs.WalksLaw.{is_serial_own, is_serial_same}
 use Rattle.shr_assemble.proofs.WornWeights.{one_list, freed_total}
 
@@ -126,10 +126,10 @@ module _ (s : Script) (r : Report) (workers : List (List Step)) (run : IsRun s r
       let told = told_of s m.step m.made m.made.entry by (ap (λ z. by_of z) m.entry) (each_among (λ (z : Made). MayMake s m.step z z.entry) m.step.work.core.made m.made is.did.entries.each m.among) in
       let own = is.did.entries.reply (journals_of r) (λ j z q. (made_stands s r workers run m.worker m.k m.step m.at j z q).1) in
       let here : slice_get (journals_of r (place_at m.made.place)) m.made.number ≡ Some e = ap (λ p. slice_get (journals_of r p) m.made.number) m.place_is ∙ (ap (slice_get (journals_of r place)) m.number ∙ stands) in
-      let t = put_of m.step.by m.step.command by birth key value added
-      (entry_for (parents_of s) (journals_of r) m.step.by m.step.answered.reply m.step.command (id_found m.step.answered) (at (place_at m.made.place) m.made.number) e own told.cited here) in
+      let entry = entry_asked (parents_of s) (journals_of r) m.step.by m.step.answered.reply m.step.command (id_found m.step.answered) (at (place_at m.made.place) m.made.number) e own told.cited here in
+      let t = put_of m.step.by entry.0 by birth key value added entry.2 in
       let serial : by ≡ serial_of m.worker m.k = t.serial ∙ is.by in
-      (t.node, t.decl, t.value, ap (λ (b : Serial). slice_get (commands_of s b.worker) b.command) serial ∙ (is.command ∙ ap Some t.command))
+      (t.node, t.decl, t.value, ap (λ (b : Serial). slice_get (commands_of s b.worker) b.command) serial ∙ (is.command ∙ (entry.1 ∙ ap Some t.command)))
 
   -- an object that some list had was added by an entry of its put
   pub added_there : (place : Place) (n : ℕ) (o : Object) → place.group < length (parents_of s) → Has (items_at (parents_of s) (journals_of r) place n) o

@@ -121,7 +121,7 @@ module _ (s : Script) (r : Report) (workers : List (List Step)) (run : IsRun s r
       let t = stepped s r workers run (serial_of worker k) put a command answer in
       let same : t.step.answered.reply ≡ reply.Over g operation usage = ap (λ (y : Answered). y.reply) t.answered ∙ is in
       let over : IsOverBy s t.step g operation usage = subst (IsCausedBy s t.step) same t.did.cause in
-      let own : over.own ≡ group = same_Some over.own group (sym over.named ∙ ap group_named t.command) in
+      let own : over.own ≡ group = same_Some over.own group (sym over.named ∙ ap (option_and_then group_named) t.command) in
       not_both (limit_of s g) (λ limit. limit ≤ usage) (unlimited g (subst (λ n. IsAtOrAbove (parents_of s) g n) own over.above)) over.full
 
   -- where no other put names its group and key, it isn't answered that there is such an object

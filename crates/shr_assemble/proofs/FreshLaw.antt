@@ -320,7 +320,7 @@ module _ (s : Script) (r : Report) (workers : List (List Step)) (run : IsRun s r
       by_cases (Some c) e =
           let y = command_step s r workers run worker later c e in
           let x = shown_step in
-          let asked : asks_online y.0.command ≡ Some group = ap asks_online (same_Some y.0.command c (sym (run.steps.each worker later y.0 y.1).command ∙ e)) ∙ (sym (ap (option_and_then asks_online) e) ∙ asks) in
+          let asked : option_and_then asks_online y.0.command ≡ Some group = ap (option_and_then asks_online) (sym (run.steps.each worker later y.0 y.1).command) ∙ asks in
           subst (λ o. IsSomeAnd o MayBeOffline) (sym (reply_is s r workers run worker later y.0 y.1))
           (⊎_elim (λ may. may) (λ online. absurd (knows_offline worker k x.0 group y.0.before x.1 (grows s r workers run worker k later x.0 y.0 lt x.1 y.1) shows online))
           ((run.steps.each worker later y.0 y.1).did.tree.online group asked (below_root worker k group shows)))
@@ -333,7 +333,7 @@ module _ (s : Script) (r : Report) (workers : List (List Step)) (run : IsRun s r
       let m = entry_maker s r workers run t.0 (Begin group) stands in
       let is = run.steps.each m.worker m.k m.step m.at in
       let begun : IsBegun m.step group = subst (IsEntryOf s m.step m.made.number) m.entry (all_among (λ (z : charge.Made). (length m.step.before.tree.known ≤ z.number) × IsEntryOf s m.step z.number z.entry) m.step.work.tree m.made is.did.tree.each m.among).1 in
-      let l = all_later (serial_of m.worker m.k) (record { command_is = is.command ∙ ap Some begun.command; answer = subst (λ o. IsSomeAnd o MayHaveBegun) (sym (reply_is s r workers run m.worker m.k m.step m.at)) begun.answer }) in
+      let l = all_later (serial_of m.worker m.k) (record { command_is = is.command ∙ begun.command; answer = subst (λ o. IsSomeAnd o MayHaveBegun) (sym (reply_is s r workers run m.worker m.k m.step m.at)) begun.answer }) in
       let at : slice_get (steps_of workers worker) m.k ≡ Some m.step = subst (λ v. slice_get (steps_of workers v) m.k ≡ Some m.step) l.0 m.at in
       let g = grows s r workers run worker k m.k x.0 m.step l.1 x.1 at in
       not_online worker k x.0 group t.0 m.step.before x.1 g stands x.2 begun.first)
@@ -353,7 +353,9 @@ module _ (s : Script) (r : Report) (workers : List (List Step)) (run : IsRun s r
       met_then : (x : Step) → slice_get (steps_of workers worker) k ≡ Some x → (y : Step) → slice_get (steps_of workers worker) later ≡ Some y → ⊥
       met_then x at_x y at_y =
           let is = run.steps.each worker k x at_x in
-          let shown : made_shown x.command x.answered.reply ≡ Some group = sym (ap (λ o. option_and_then (λ c. option_and_then (made_shown c) (reply_at r (serial_of worker k))) o) is.command ∙ ap (option_and_then (made_shown x.command)) (reply_is s r workers run worker k x at_x)) ∙ shows in
+          let shown : option_and_then (λ c. made_shown c x.answered.reply) x.command ≡ Some group =
+          sym (ap (option_and_then (λ c. option_and_then (made_shown c) (reply_at r (serial_of worker k)))) is.command
+          ∙ ap (λ (o : Option Reply). option_and_then (λ c. option_and_then (made_shown c) o) x.command) (reply_is s r workers run worker k x at_x)) ∙ shows in
           let unmade = (run.steps.each worker later y at_y).did.tree.meets.unmade group (same_Some y.answered.reply (reply.NotMade group) (sym (reply_is s r workers run worker later y at_y) ∙ told)) in
           let g = grows s r workers run worker k later x y lt at_x at_y in
           ⊎_elim

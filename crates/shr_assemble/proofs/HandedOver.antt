@@ -1,6 +1,6 @@
 -- What an offline did whose call handed all over, whatever the end of it answered.
 use Rattle.std.proofs.Common.{◌≡◌, ℕ, ◌<◌, ◌≤◌, List, [], ◌∷◌, ◌++◌, length, map, refl, sym, ap, subst, ◌∙◌, arith, true}
-use Rattle.std.specs.Prelude.{None, Contains, All, sum, sum_by, ◌%◌, ◌^◌}
+use Rattle.std.specs.Prelude.{None, Contains, All, sum, sum_by, ◌%◌, ◌^◌, Some}
 use Rattle.std.specs.List.{AllByRecursion, range_with_len}
 use Rattle.std.proofs.lemmas.List.Elements.{All-append, All-from_recursion, Contains-append_left}
 use Rattle.std.proofs.lemmas.Option.{none-some}
@@ -184,7 +184,7 @@ module _ (x : Shared) (tables : AreTables x) where
           record {
             by = is.own;
             there = subst (IsThere x.script) (sym is.place) (record { id = omega (arith, a, ids); node = omega (arith, d, nodes); group = there });
-            command = ap (λ (p : Place). command.Offline p.group) (sym is.place);
+            command = ap (λ (p : Place). Some (command.Offline p.group)) (sym is.place);
             answer = answer;
             some = is.some;
           }

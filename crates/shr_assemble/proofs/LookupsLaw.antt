@@ -190,7 +190,7 @@ module _ (s : Script) (r : Report) (workers : List (List Step)) (run : IsRun s r
   found_right : (by : Serial) (c : Command) (a : Answered) → Stepped s r workers run by c a → (decl : ℕ) (f : Found) → decl_named c ≡ Some decl → a.found ≡ Some f → IsFoundRight r decl f
   found_right by c a t decl f named found =
       let own : t.step.answered.found ≡ Some f = ap (λ (y : Answered). y.found) t.answered ∙ found in
-      let h : IsFoundBy t.step decl f = t.did.lookups.found decl f (ap decl_named t.command ∙ named) own in
+      let h : IsFoundBy t.step decl f = t.did.lookups.found decl f (ap (option_and_then decl_named) t.command ∙ named) own in
       let pool = (run.steps.shown by.worker by.command t.step t.at).pool in
       let same : take f.entry t.step.after.core.turns.known ≡ take f.entry r.pool.items = sym (ap (take f.entry) pool.1 ∙ take-append-le f.entry t.step.after.core.turns.known pool.0 h.known) in
       record {
@@ -198,7 +198,7 @@ module _ (s : Script) (r : Report) (workers : List (List Step)) (run : IsRun s r
         live = ap (is_live f.id) (sym same) ∙ h.live;
         decl_is = ap (decl_of f.id) (sym same) ∙ h.decl_is;
         from = subst (λ l. from_of f.id l ≤ f.number) same h.from;
-        to = run.pool.ended by.worker by.command decl t.step f t.at (ap decl_named t.command ∙ named) own;
+        to = run.pool.ended by.worker by.command decl t.step f t.at (ap (option_and_then decl_named) t.command ∙ named) own;
       }
 
   pub lookups_lawful : AreLookupsLawful s r

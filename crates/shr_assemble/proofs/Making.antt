@@ -117,7 +117,7 @@ module _ (s : Script) (r : Report) (workers : List (List Step)) (run : IsRun s r
     pub step : Step
     pub at : slice_get (steps_of workers by.worker) by.command ≡ Some step
     pub own : step.by ≡ by
-    pub command : step.command ≡ c
+    pub command : step.command ≡ Some c
     pub answered : step.answered ≡ a
     pub did : Did s step
 
@@ -136,7 +136,7 @@ module _ (s : Script) (r : Report) (workers : List (List Step)) (run : IsRun s r
         step = x;
         at = e;
         own = is.by;
-        command = same_Some x.command c (sym is.command ∙ command);
+        command = sym is.command ∙ command;
         answered = same_Some x.answered a (sym is.answered ∙ answer);
         did = is.did;
       }

@@ -225,7 +225,7 @@ pub record HasBegunTo (x : Shared) (group : ℕ) (s u : WorkerState) : Type 0 wh
   pub known : Contains u.tree.known (Begin group)
   pub met : is_made (hierarchy_of (shape_of x.core)) u.tree.known group ≡ true
   pub same : u ≡ record s { tree = u.tree }
-  pub each : (z : Step) → z.before ≡ s → z.command ≡ command.Offline group → MayHaveBegun z.answered.reply → All (λ (m : Made). (length z.before.tree.known ≤ m.number) × IsEntryOf x.script z m.number m.entry) made
+  pub each : (z : Step) → z.before ≡ s → z.command ≡ Some (command.Offline group) → MayHaveBegun z.answered.reply → All (λ (m : Made). (length z.before.tree.known ≤ m.number) × IsEntryOf x.script z m.number m.entry) made
 
 pub begun_to : (x : Shared) (group : ℕ) (s u : WorkerState) → IsHandless s.tree → (answer : BeginAnswer) → offlined.GoesOn answer → offlined.Begins x group answer s u → HasBegunTo x group s u
 begun_to x group s u home (began.Begun entry) on h =
@@ -278,7 +278,7 @@ spliced_freed parents ps group g v all (m ∷ ms) h = let r = spliced_freed pare
     by_kind y (inr b) = (ap (λ (e : Entry). born_below parents g (freed_by y.items e)) b.entry, ap (added_below parents g) b.entry)
 
 -- each entry of a splice may be made by an offline of its group that was answered so
-spliced_may : (x : Shared) (z : Step) (group : ℕ) (all ms : List core.Made) → z.work.core.made ≡ all → z.command ≡ command.Offline group → MayHaveBegun z.answered.reply → Contains z.after.tree.known (Begin group)
+spliced_may : (x : Shared) (z : Step) (group : ℕ) (all ms : List core.Made) → z.work.core.made ≡ all → z.command ≡ Some (command.Offline group) → MayHaveBegun z.answered.reply → Contains z.after.tree.known (Begin group)
     → AllByRecursion (IsSpliceEntry (parents_of x.script) group z.before.core all) ms → AllByRecursion (λ (m : core.Made). MayMake x.script z m m.entry) ms
 spliced_may x z group all [] made named may known h = tt
 spliced_may x z group all (m ∷ ms) made named may known h = (by_kind h.0.kind, spliced_may x z group all ms made named may known h.1)
@@ -451,6 +451,6 @@ module _ (x : Shared) (tables : AreTables x) (by : Serial) (group : ℕ) (s t : 
 pub splices_freed : (parents ps : List ℕ) (group g : ℕ) (v : View) (all ms : List core.Made) → AllByRecursion (IsSpliceEntry ps group v all) ms → (sum_by (freed_below parents g) ms ≡ 0) × (sum_by (λ (m : core.Made). added_below parents g m.entry) ms ≡ 0)
 splices_freed parents ps group g v all ms h = spliced_freed parents ps group g v all ms h
 
-pub splices_may : (x : Shared) (z : Step) (group : ℕ) (all ms : List core.Made) → z.work.core.made ≡ all → z.command ≡ command.Offline group → MayHaveBegun z.answered.reply → Contains z.after.tree.known (Begin group)
+pub splices_may : (x : Shared) (z : Step) (group : ℕ) (all ms : List core.Made) → z.work.core.made ≡ all → z.command ≡ Some (command.Offline group) → MayHaveBegun z.answered.reply → Contains z.after.tree.known (Begin group)
     → AllByRecursion (IsSpliceEntry (parents_of x.script) group z.before.core all) ms → AllByRecursion (λ (m : core.Made). MayMake x.script z m m.entry) ms
 splices_may x z group all ms made named may known h = spliced_may x z group all ms made named may known h

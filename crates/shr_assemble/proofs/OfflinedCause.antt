@@ -1,6 +1,6 @@
 -- The cause of an `offline` that was done.
 use Rattle.std.proofs.Common.{◌≡◌, ℕ, ◌%◌, ◌^◌, ◌<◌, ◌≤◌, ◌≢◌, ⊎_elim, true, false, cond, eqb, List, length, take, refl, sym, ap, subst, ◌∙◌, arith}
-use Rattle.std.specs.Prelude.{slice_get, Some, sum_by, filter}
+use Rattle.std.specs.Prelude.{slice_get, Some, sum_by, filter, option_and_then}
 use Rattle.std.specs.Option.{IsSomeAnd}
 use Rattle.std.proofs.lemmas.Bool.{cases_lt, eqb-true}
 use Rattle.std.proofs.lemmas.Option.{same_Some, slice_get_within}
@@ -95,14 +95,14 @@ module _ (s : Script) (r : Report) (workers : List (List Step)) (run : IsRun s r
       not_here : serial_of v j ≢ x.by
       not_here same = let b : serial_of v j ≡ serial_of worker k = same ∙ own_serial in apart (ap (λ (z : Serial). z.worker) b, ap (λ (z : Serial). z.command) b)
 
-      is_offline : (group : ℕ) (P : Reply → Type 0) → y.command ≡ Offline group → P y.answered.reply → IsOffline s r (serial_of v j) group P
-      is_offline group P command answer = record { command_is = (run.steps.each v j y at_y).command ∙ ap Some command; answer = subst (λ o. IsSomeAnd o P) (sym (reply_is s r workers run v j y at_y)) answer }
+      is_offline : (group : ℕ) (P : Reply → Type 0) → y.command ≡ Some (Offline group) → P y.answered.reply → IsOffline s r (serial_of v j) group P
+      is_offline group P command answer = record { command_is = (run.steps.each v j y at_y).command ∙ command; answer = subst (λ o. IsSomeAnd o P) (sym (reply_is s r workers run v j y at_y)) answer }
 
       -- one of the same group
-      of_group : y.command ≡ Offline h.group → (z : Reply) → y.answered.reply ≡ z → MayHaveBegun z → ⊥
+      of_group : y.command ≡ Some (Offline h.group) → (z : Reply) → y.answered.reply ≡ z → MayHaveBegun z → ⊥
       of_group command (reply.OfflineDone other much carried) replied may =
           let cause : IsOfflinedBy y other much carried = subst (IsCausedBy s y) replied (run.steps.each v j y at_y).did.cause in
-          let group : cause.group ≡ h.group = same_Some cause.group h.group (sym cause.named ∙ ap group_named command) in
+          let group : cause.group ≡ h.group = same_Some cause.group h.group (sym cause.named ∙ ap (option_and_then group_named) command) in
           let theirs : StandsInTree r other (Done cause.group) = entry_stands s r workers run v j y (record { number = other; entry = Done cause.group }) at_y cause.made in
           apart (one_entry_maker s r workers run v j worker k y x (record { number = other; entry = Done cause.group }) (record { number = entry; entry = Done h.group }) at_y at cause.made h.made
           (done_once (hierarchy_of s) r.tree.items run.uses.tree h.group other entry (theirs ∙ ap (λ g. Some (Done g)) group) done))
@@ -140,7 +140,7 @@ module _ (s : Script) (r : Report) (workers : List (List Step)) (run : IsRun s r
           let closing = t.closing in
           let above : IsAtOrAbove (parents_of s) closing.group h.group = subst (IsAtOrAbove (parents_of s) closing.group) from closing.below in
           dite (ℕ_discrete closing.group h.group)
-          (λ same. of_group (closing.command ∙ ap Offline same) y.answered.reply refl closing.answer)
+          (λ same. of_group (closing.command ∙ ap (λ g. Some (Offline g)) same) y.answered.reply refl closing.answer)
           (λ other. dite (ℕ_discrete v worker)
           (λ same. ⊎_elim
           (λ lt. let b = contains_slice y.after.tree.known (Begin closing.group) closing.begun in earlier same lt closing.group other above b.0 b.1)

@@ -60,7 +60,7 @@ named_by r = []
 module _ (x : Shared) (table : IsTableOf x) (by : Serial) (c : Command) (a : Answered) (group : ℕ) (inside : group < length (parents_of x.script)) where
   pub record Admits (answer : Admission) (s t : WorkerState) : Type 0 where
     pub work : Work
-    pub walked : Walked x.script by c a s t work
+    pub walked : Walked x.script by (Some c) a s t work
     pub rounds : List ℕ
     pub few : length rounds ≤ 13
     pub above : AllByRecursion (λ h. IsAtOrAbove (parents_of x.script) h group) rounds
@@ -84,7 +84,7 @@ module _ (x : Shared) (table : IsTableOf x) (by : Serial) (c : Command) (a : Ans
       let lt = h.due in let two = length-append (map (λ (k : Round). k.over.group) h.rounds) (h.over.group ∷ []) in
       let due : due_in x (12 - length h.rounds) h.over.group ≡ round_of (parents_of x.script) x.script.nodes (12 - length (map (λ (k : Round). k.over.group) h.rounds)) h.over.group = due_is x table (12 - length h.rounds) h.over.group ∙ ap (λ n. round_of (parents_of x.script) x.script.nodes (12 - n) h.over.group) (sym long) in
       let there : AllByRecursion (IsThereJob x) (due_in x (12 - length h.rounds) h.over.group) = subst (AllByRecursion (IsThereJob x)) (sym (due_is x table (12 - length h.rounds) h.over.group)) (round_there x table (12 - length h.rounds) h.over.group r.at_last.1) in
-      let all : GaveAll x by c a (map job_in h.walks) (map (λ (v : Visit). v.answer) h.walks) h.begun t = gave_all x table by c a (map job_in h.walks) (map (λ (v : Visit). v.answer) h.walks) h.begun t (visited_one x by h.walks h.begun t h.cut.visited) seen.1 (prefix_all (IsThereJob x) (map job_in h.walks) (due_in x (12 - length h.rounds) h.over.group) first there) in
+      let all : GaveAll x by (Some c) a (map job_in h.walks) (map (λ (v : Visit). v.answer) h.walks) h.begun t = gave_all x table by (Some c) a (map job_in h.walks) (map (λ (v : Visit). v.answer) h.walks) h.begun t (visited_one x by h.walks h.begun t h.cut.visited) seen.1 (prefix_all (IsThereJob x) (map job_in h.walks) (due_in x (12 - length h.rounds) h.over.group) first there) in
       let begins : Begins (map job_of all.work.walks) (map job_in h.walks) = ⊎_elim
       (λ had. let e = all_had (map job_in h.walks) (map (λ (v : Visit). v.answer) h.walks) all.work.walks all.noted (had_answers x table by c a group inside h.walks (rec_of HadRoom h.walks had)) in ([], sym e.jobs_are ∙ sym (append-nil _)))
       (λ cut. let e : map (λ (v : Visit). v.answer) h.walks ≡ map (λ (v : Visit). v.answer) cut.front ++ cut.last.answer ∷ [] = ap (map (λ (v : Visit). v.answer)) cut.whole ∙ map-append (λ (v : Visit). v.answer) cut.front (cut.last ∷ []) in
@@ -95,7 +95,7 @@ module _ (x : Shared) (table : IsTableOf x) (by : Serial) (c : Command) (a : Ans
       ∙ (ap (λ l. l ++ drop (length (map job_in h.walks)) (due_in x (12 - length h.rounds) h.over.group)) (first ∙ begins.1) ∙ append_assoc (map job_of all.work.walks) begins.0 (drop (length (map job_in h.walks)) (due_in x (12 - length h.rounds) h.over.group))) in
       let between : AreOps x by group 0 [] [] all.work = ops_walks x table by group inside a h.begun t all.work all.work.walks all.freed all.born all.charges all.uncharges all.walked.scans in record {
         work = then_work r.work all.work;
-        walked = walked_then x.script by c a s h.begun t r.work all.work r.walked all.walked;
+        walked = walked_then x.script by (Some c) a s h.begun t r.work all.work r.walked all.walked;
         rounds = map (λ (k : Round). k.over.group) h.rounds ++ h.over.group ∷ [];
         few = omega (arith, long, lt, two);
         above = all_end (λ g. IsAtOrAbove (parents_of x.script) g group) (map (λ (k : Round). k.over.group) h.rounds) h.over.group r.above r.at_last.0;
@@ -148,7 +148,7 @@ module _ (x : Shared) (table : IsTableOf x) (by : Serial) (c : Command) (a : Ans
       }
   admits Memory s t (inl d) seen = record {
     work = no_work;
-    walked = idle_walked x.script by c a s t d;
+    walked = idle_walked x.script by (Some c) a s t d;
     rounds = [];
     few = omega arith;
     above = tt;

@@ -93,7 +93,7 @@ module _ (x : Shared) (table : IsTableOf x) (by : Serial) (group node decl : ℕ
     all = all;
   }
 
-  pub load_walked : (a : Answered) (found : GroupState) (s t : WorkerState) → LoadsWord x group found s t → Walked x.script by command a s t (loading group found)
+  pub load_walked : (a : Answered) (found : GroupState) (s t : WorkerState) → LoadsWord x group found s t → Walked x.script by (Some command) a s t (loading group found)
   load_walked a found s t h = record {
     does = does_load x group found s t h;
     each = λ i r e. absurd (none-some r e);
@@ -135,7 +135,7 @@ module _ (x : Shared) (table : IsTableOf x) (by : Serial) (group node decl : ℕ
       closed_of [] e = tt
       closed_of (o ∷ b) e = absurd (omega (arith, e))
 
-  pub unasked_did : (r : Reply) (words : List Loaded) (s t : WorkerState) → Walked x.script by command (without r) s t (record no_work { words = words })
+  pub unasked_did : (r : Reply) (words : List Loaded) (s t : WorkerState) → Walked x.script by (Some command) (without r) s t (record no_work { words = words })
       → ((family : Family) → IsReply (parents_of x.script) family by command None r) → cited_by r ≡ None → ((h : ℕ) → over_at h r ≡ 0) → ((g operation usage : ℕ) → r ≡ reply.Over g operation usage → ⊥)
       → ((g : ℕ) → charged (parents_of x.script) g (Some command) (Some r) ≡ 0) → pool_told r ≡ [] → pool_made r ≡ [] → MayBeOffline r ⊎ KnowsOnline s.tree group
       → MeetsGroups x.script (whole x.script by command (without r) s t t (record no_work { words = words }) no_work)
@@ -170,8 +170,8 @@ module _ (x : Shared) (table : IsTableOf x) (by : Serial) (group node decl : ℕ
     abbrev pub first : Work
     first = then_work (loading group state.Online) adm.work
 
-    pub walked_first : Walked x.script by command a s charged_at first
-    walked_first = walked_then x.script by command a s asks.loaded charged_at (loading group state.Online) adm.work (load_walked a state.Online s asks.loaded asks.online) adm.walked
+    pub walked_first : Walked x.script by (Some command) a s charged_at first
+    walked_first = walked_then x.script by (Some command) a s asks.loaded charged_at (loading group state.Online) adm.work (load_walked a state.Online s asks.loaded asks.online) adm.walked
 
     pub first_ops : AreOps x by group adm.tries (adm.rounds ++ named_by answer) (stands_in x group answer) first
     first_ops = ops_same x by group adm.tries (adm.rounds ++ named_by answer) (stands_in x group answer) adm.work first adm.ops refl (omega arith) (omega arith) (λ g. refl)

@@ -8,7 +8,6 @@ use Rattle.std.proofs.lemmas.List.Sums.{sum_by-append}
 use Rattle.shr_base.specs.declared.journals.UseStep.{UseStep}
 use Rattle.shr_base.specs.declared.places.Serial.{Serial}
 use Rattle.shr_model.specs.Charges.{ups, downs, is_refused}
-use Rattle.shr_model.specs.Commands.{is_put}
 use Rattle.shr_model.specs.Groups.{path_of}
 use Rattle.shr_charge.specs.Charging.{AreDowns, IsDown}
 use Rattle.shr_report.specs.Charges.{charged}
@@ -19,7 +18,7 @@ use Rattle.shr_walk.specs.declared.seats.Shared.{Shared}
 use Rattle.shr_reclaim.proofs.Netting.{times_of, count_first, nets_downs}
 use Rattle.shr_assemble.specs.Charges.{DidCharges, ops_at, added_below, freed_below}
 use Rattle.shr_core.specs.Parts.{Made}
-use Rattle.shr_assemble.specs.Steps.{Step}
+use Rattle.shr_assemble.specs.Steps.{Step, IsPut}
 use Rattle.shr_assemble.proofs.PutTries.{AreOps, charge_parents, all_weaker, all_both, count_then, of_groups, refusals_are, path_once, on_path}
 use Rattle.shr_assemble.proofs.PutWays.{Closed, Ends, closed_ends, ends_taken, ends_between, at_then, at_all, at_long, ups_is, downs_is, ups_all}
 use Rattle.shr_assemble.proofs.QuietCharges.{uncharging}
@@ -81,9 +80,9 @@ module _ (x : Shared) (table : IsTableOf x) (by : Serial) (group : ℕ) (inside 
       none_of (o ∷ b) e = absurd (omega (arith, e))
 
   -- the charges of a put, by what its operations come to
-  pub put_charges : (z : Step) (tries : ℕ) (over kept : List ℕ) → z.by ≡ by → is_put z.command ≡ true → tries ≤ 14 → AreOps x by group tries over kept z.work
-      → ((g : ℕ) → g < length (parents_of x.script) → times_of g kept ≡ charged (parents_of x.script) g (Some z.command) (Some z.answered.reply))
-      → ((g : ℕ) → sum_by (λ (m : Made). added_below (parents_of x.script) g m.entry) z.work.core.made ≡ charged (parents_of x.script) g (Some z.command) (Some z.answered.reply)) → DidCharges x.script z
+  pub put_charges : (z : Step) (tries : ℕ) (over kept : List ℕ) → z.by ≡ by → IsPut z.command → tries ≤ 14 → AreOps x by group tries over kept z.work
+      → ((g : ℕ) → g < length (parents_of x.script) → times_of g kept ≡ charged (parents_of x.script) g z.command (Some z.answered.reply))
+      → ((g : ℕ) → sum_by (λ (m : Made). added_below (parents_of x.script) g m.entry) z.work.core.made ≡ charged (parents_of x.script) g z.command (Some z.answered.reply)) → DidCharges x.script z
   put_charges z tries over kept mine put few h stands added = record {
     own = all_of (λ (o : UseStep). o.by ≡ z.by) z.work.ops own;
     there = all_of (λ (o : UseStep). o.group < length (parents_of x.script)) z.work.ops h.there;
@@ -91,7 +90,7 @@ module _ (x : Shared) (table : IsTableOf x) (by : Serial) (group : ℕ) (inside 
     puts = λ k d lt up. put;
     fourteen = λ g. let m = h.most g in omega (arith, m, few);
     between = λ g. ends_between (limit_of x.script g) (ops_at g z.work.ops) (h.ends g);
-    nets = λ g lt. same_net (ups (ops_at g z.work.ops)) (downs (ops_at g z.work.ops)) (sum_by (freed_below (parents_of x.script) g) z.work.core.made) (charged (parents_of x.script) g (Some z.command) (Some z.answered.reply))
+    nets = λ g lt. same_net (ups (ops_at g z.work.ops)) (downs (ops_at g z.work.ops)) (sum_by (freed_below (parents_of x.script) g) z.work.core.made) (charged (parents_of x.script) g z.command (Some z.answered.reply))
         (h.net g lt ∙ ap (λ (n : ℕ). downs (ops_at g z.work.ops) + n) (stands g lt));
     added = added;
     charges = let c = h.charges in let e = h.each in let low = ups_all group z.work.ops in omega (arith, c, e, low);

@@ -151,7 +151,7 @@ module _ (x : Shared) (table : IsTableOf x) (by : Serial) (group node decl : ℕ
 
   none : (r : Reply) (s t : WorkerState) → AreRising s.uses.ops → (h : PutNone x by group node decl object r s t) → HasDid x.script by Command_of (without r) s t
   none (reply.Worn (spent.Charges charges uncharges)) s t rise h = let r : Reply = reply.Worn (spent.Charges charges uncharges) in
-      unasked_did x table by group node decl key value inside r [] s t (idle_walked x.script by Command_of (without r) s t (subst (λ (u : WorkerState). Does s u no_work) (sym h.rest) (does_none s)))
+      unasked_did x table by group node decl key value inside r [] s t (idle_walked x.script by (Some Command_of) (without r) s t (subst (λ (u : WorkerState). Does s u no_work) (sym h.rest) (does_none s)))
       (λ family. tt) refl (λ n. refl) (λ n operation usage e. cc) (λ n. refl) refl refl (inl tt) (meets_none x.script (vain_step r [] s t) (λ g e. absurd (cc)) (λ g e. none-some g e)) (charges_worn _ charges uncharges (ap (λ (u : WorkerState). spent_by u.uses) h.rest ∙ h.numbers))
   none (reply.Offline number) s t rise h = let r : Reply = reply.Offline number in
       unasked_did x table by group node decl key value inside r (record { group = group; state = state.Offline number } ∷ []) s t (load_walked x table by group node decl key value inside (without r) (state.Offline number) s t h.offline)
@@ -177,7 +177,7 @@ module _ (x : Shared) (table : IsTableOf x) (by : Serial) (group node decl : ℕ
 
   -- no memory for a copy of the key and the value
   no_copy : (s t : WorkerState) → t ≡ s → HasDid x.script by Command_of (unfound reply.Memory) s t
-  no_copy s t rest = unasked_did x table by group node decl key value inside reply.Memory [] s t (idle_walked x.script by Command_of (without reply.Memory) s t (subst (λ (u : WorkerState). Does s u no_work) (sym rest) (does_none s)))
+  no_copy s t rest = unasked_did x table by group node decl key value inside reply.Memory [] s t (idle_walked x.script by (Some Command_of) (without reply.Memory) s t (subst (λ (u : WorkerState). Does s u no_work) (sym rest) (does_none s)))
       (λ family. tt) refl (λ n. refl) (λ n operation usage e. cc) (λ n. refl) refl refl (inl tt) (meets_none x.script (vain_step reply.Memory [] s t) (λ g e. absurd (cc)) (λ g e. none-some g e)) tt
 
   -- It takes that the numbers of each group's operations rose before.

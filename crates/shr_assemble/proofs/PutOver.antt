@@ -1,6 +1,6 @@
 -- A put that was refused at last: the last up of its operations, which its answer names.
 use Rattle.std.proofs.Common.{◌≡◌, ◌⊎◌, inl, inr, ℕ, ◌-◌, ◌<◌, ◌≤◌, Bool, true, false, cond, List, [], ◌∷◌, ◌++◌, pos, refl, sym, ap, subst, ◌∙◌, arith}
-use Rattle.std.specs.Prelude.{Option, Some, None, filter, nat_lt, ◌<ℤ◌}
+use Rattle.std.specs.Prelude.{Option, Some, None, option_and_then, filter, nat_lt, ◌<ℤ◌}
 use Rattle.std.specs.List.{AllByRecursion}
 use Rattle.std.specs.Option.{IsSomeAnd}
 use Rattle.std.proofs.lemmas.Bool.Decides.{nat_tests}
@@ -76,7 +76,7 @@ rising_part s t w does rise = let whole : t.uses.ops ≡ s.uses.ops ++ w.ops = a
     pairs_right (λ (y o : UseStep). IsLaterThan o y) s.uses.ops w.ops (subst (PairsRec (λ (y o : UseStep). IsLaterThan o y)) whole (pairs_rec (λ (y o : UseStep). IsLaterThan o y) t.uses.ops (does.rise rise)))
 
 -- the answer of a put that was refused at last
-pub over_caused : (x : Shared) (table : IsTableOf x) (by : Serial) (group : ℕ) (tries : ℕ) (over kept : List ℕ) (r : Refusal) (z : Step) → z.by ≡ by → group_named z.command ≡ Some group → AreOps x by group tries over kept z.work → tries ≡ 14
+pub over_caused : (x : Shared) (table : IsTableOf x) (by : Serial) (group : ℕ) (tries : ℕ) (over kept : List ℕ) (r : Refusal) (z : Step) → z.by ≡ by → option_and_then group_named z.command ≡ Some group → AreOps x by group tries over kept z.work → tries ≡ 14
     → IsAtOrAbove (parents_of x.script) r.group group → EndsOver x by r z.work.ops → Does z.before z.after z.work → AreRising z.before.uses.ops → IsOverBy x.script z r.group r.operation r.usage
 over_caused x table by group tries over kept r z mine named ops many above h does rise = record {
   own = group;

@@ -70,7 +70,7 @@ both_none xs ys d e = ap (λ l. l ++ ys) d ∙ e
 
 module _ (script : Script) (by : Serial) (c : Command) (a : Answered) (s m t : WorkerState) (v q : Work) where
   abbrev pub whole : Step
-  whole = step_of script by c a s t (then_work v q)
+  whole = step_of script by (Some c) a s t (then_work v q)
 
   -- what is asked of the parts together
   pub record IsWhole : Type 0 where
@@ -90,7 +90,7 @@ module _ (script : Script) (by : Serial) (c : Command) (a : Answered) (s m t : W
     pub meets : MeetsGroups script whole
     pub cause : IsCausedBy script whole a.reply
 
-  module _ (walked : Walked script by c a s m v) (does : Brings m t q) (tail : IsTail q) where
+  module _ (walked : Walked script by (Some c) a s m v) (does : Brings m t q) (tail : IsTail q) where
     may_scan : (y : Made) (e : Entry) → OnlyScan by (length s.walks) v.walks y e → MayMake script whole y e
     may_scan y (Scan worker n asked policy visits freed stopped) h = record { own = h.own; index = h.index; number = h.number; walk = h.walk; there = slice_left v.walks q.walks h.index h.walk h.there; passes = h.passes }
     may_scan y (Add by' birth added key value) h = absurd h
@@ -102,7 +102,7 @@ module _ (script : Script) (by : Serial) (c : Command) (a : Answered) (s m t : W
     may_scan y (Drained by' objects) h = absurd h
 
     -- what the walks did they did in the whole
-    in_whole : (n : ℕ) → Has script by c a s m v s t (then_work v q) n
+    in_whole : (n : ℕ) → Has script by (Some c) a s m v s t (then_work v q) n
     in_whole n = record {
       attempts = λ y h. among_left v.core.attempts q.core.attempts y h;
       loaded = λ y h. among_left v.core.loaded q.core.loaded y h;
@@ -146,11 +146,13 @@ module _ (script : Script) (by : Serial) (c : Command) (a : Answered) (s m t : W
           found = h.found;
         };
         walks = record {
-          each = λ i w at. walk_later script by c a s m v s t (then_work v q) (length s.walks + i) (in_whole (length s.walks + i)) w (walked.each i w (ap (λ (l : List WalkRecord). slice_get l i) (sym walks_same) ∙ at));
-          rounds = h.rounds;
-          refused = h.refused;
-          made = subst (λ (l : List WalkRecord). walks.MayMake a.reply (jobs_of (parents_of script) script.nodes h.rounds c) (map job_of l)) (sym walks_same) h.made;
-          told = h.told;
+          each = λ i w at. walk_later script by (Some c) a s m v s t (then_work v q) (length s.walks + i) (in_whole (length s.walks + i)) w (walked.each i w (ap (λ (l : List WalkRecord). slice_get l i) (sym walks_same) ∙ at));
+          asked = record {
+            rounds = h.rounds;
+            refused = h.refused;
+            made = subst (λ (l : List WalkRecord). walks.MayMake a.reply (jobs_of (parents_of script) script.nodes h.rounds c) (map job_of l)) (sym walks_same) h.made;
+            told = h.told;
+          };
           seen = ap (flat_map counted_in) walks_same ∙ (walked.seen ∙ sym (behind v.core.seen q.core.seen tail.seen));
           maps = ap (flat_map mapped_in) walks_same ∙ (walked.maps ∙ ap (map word_of) (sym (behind v.core.maps q.core.maps tail.maps)));
           cleared = ap (flat_map cleared_in) walks_same ∙ (walked.cleared ∙ sym (behind v.core.cleared q.core.cleared tail.cleared));

@@ -1,6 +1,6 @@
 -- The tries of a put's charge and the walks between them: their jobs and their operations.
 use Rattle.std.proofs.Common.{◌≡◌, ℕ, ◌+◌, ◌-◌, ◌<◌, List, [], ◌∷◌, ◌++◌, length, map, refl, sym, ap, subst, ◌∙◌, arith, append_assoc}
-use Rattle.std.specs.Prelude.{pos}
+use Rattle.std.specs.Prelude.{pos, Some}
 use Rattle.std.specs.List.{AllByRecursion}
 use Rattle.std.proofs.lemmas.List.{map-append}
 use Rattle.shr_base.specs.declared.journals.UseStep.{UseStep}
@@ -78,7 +78,7 @@ module _ (x : Shared) (table : IsTableOf x) (by : Serial) (c : Command) (a : Ans
   -- a charge that was tried so often, with the rounds between
   pub record Tried (priority : ℕ) (rounds : List Round) (last : ChargeAnswer) (s t : WorkerState) : Type 0 where
     pub work : Work
-    pub walked : Walked x.script by c a s t work
+    pub walked : Walked x.script by (Some c) a s t work
     pub jobs : map job_of work.walks ≡ rounds_from (parents_of x.script) x.script.nodes priority (groups_in x table by c a group inside rounds)
     pub above : AllByRecursion (λ h. IsAtOrAbove (parents_of x.script) h group) (groups_in x table by c a group inside rounds)
     pub at_last : RefusedAt x table group last
@@ -103,13 +103,13 @@ module _ (x : Shared) (table : IsTableOf x) (by : Serial) (c : Command) (a : Ans
       let mine : AreOps x by group 1 (k.over.group ∷ []) [] (charge_work try.ops) = subst (λ (b : ChargeAnswer). AreOps x by group 1 (over_of b) (kept_of x group b) (charge_work try.ops)) one.refused_so (ops_try x table by group inside first try.ops try.made) in
       let due : map job_in k.walks ≡ round_of (parents_of x.script) x.script.nodes k.priority k.over.group = one.walks.all ∙ due_is x table k.priority k.over.group in
       let there = subst (AllByRecursion (IsThereJob x)) (sym due) (round_there x table k.priority k.over.group at.1) in
-      let all : GaveAll x by c a (map job_in k.walks) (map (λ (v : Visit). v.answer) k.walks) s k.walked = gave_all x table by c a (map job_in k.walks) (map (λ (v : Visit). v.answer) k.walks) s k.walked (visited_one x by k.walks s k.walked one.walks.visited) seen.0 there in
+      let all : GaveAll x by (Some c) a (map job_in k.walks) (map (λ (v : Visit). v.answer) k.walks) s k.walked = gave_all x table by (Some c) a (map job_in k.walks) (map (λ (v : Visit). v.answer) k.walks) s k.walked (visited_one x by k.walks s k.walked one.walks.visited) seen.0 there in
       let had = all_had (map job_in k.walks) (map (λ (v : Visit). v.answer) k.walks) all.work.walks all.noted (had_answers x table by c a group inside k.walks (rec_of HadRoom k.walks one.walks.had)) in
       let between : AreOps x by group 0 [] [] all.work = ops_walks x table by group inside a s k.walked all.work all.work.walks all.freed all.born all.charges all.uncharges all.walked.scans in
       let later = tried_rounds (priority - 1) k.answer ks last k.walked k.tried t one.try more seen.1 in
       let trying = tried_walked x x.script by c a group first r s try in record {
         work = then_work (charge_work try.ops) (then_work all.work later.work);
-        walked = walked_then x.script by c a r s t (charge_work try.ops) (then_work all.work later.work) trying (walked_then x.script by c a s k.walked t all.work later.work all.walked later.walked);
+        walked = walked_then x.script by (Some c) a r s t (charge_work try.ops) (then_work all.work later.work) trying (walked_then x.script by (Some c) a s k.walked t all.work later.work all.walked later.walked);
         jobs = map-append job_of all.work.walks later.work.walks ∙ (ap (λ l. l ++ map job_of later.work.walks) (had.jobs_are ∙ due)
             ∙ (ap (λ n. round_of (parents_of x.script) x.script.nodes n k.over.group ++ map job_of later.work.walks) one.priority_is ∙ ap (λ l. round_of (parents_of x.script) x.script.nodes priority k.over.group ++ l) later.jobs));
         above = (at.0, later.above);

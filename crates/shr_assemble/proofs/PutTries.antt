@@ -1,6 +1,6 @@
 -- The operations of a put's tries and walks, group by group.
 use Rattle.std.proofs.Common.{◌≡◌, ℕ, zero, suc, ◌+◌, ◌<◌, ◌≤◌, ◌&&◌, Bool, not, cond, ◌==◌, List, [], ◌∷◌, ◌++◌, length, map, refl, sym, ap, subst, ◌∙◌, arith, append_assoc}
-use Rattle.std.specs.Prelude.{Option, None, option_and_then, slice_get, slice_index_or, count_by, sum_by, pos, ◌-ℤ◌}
+use Rattle.std.specs.Prelude.{Option, None, option_and_then, slice_get, slice_index_or, count_by, sum_by, pos, ◌-ℤ◌, Some}
 use Rattle.std.specs.List.{AllByRecursion}
 use Rattle.std.proofs.lemmas.Int.{ints}
 use Rattle.std.proofs.lemmas.List.{append-nil}
@@ -177,7 +177,7 @@ module _ (x : Shared) (table : IsTableOf x) (by : Serial) (group : ℕ) (inside 
   pub ops_walks : (a : Answered) (s t : WorkerState) (w : Work) (walks : List WalkRecord) → Freed x by w.core.made w.ops → AllByRecursion (λ (o : Object). o.birth < length (parents_of x.script)) (freed_in w.core.made)
       → w.charges ≡ 0 → w.uncharges ≡ length (freed_in w.core.made) → Each (IsScanOne by (length s.walks) walks) w.core.made → AreOps x by group 0 [] [] w
   ops_walks a s t w walks freed born charges uncharges scans =
-      let did : DidCharges x.script (step_of x.script by (Register 0) a s t w) = walks_charge x table by (Register 0) a s t w walks (λ g. refl) freed born charges uncharges scans in
+      let did : DidCharges x.script (step_of x.script by (Some (Register 0)) a s t w) = walks_charge x table by (Some (Register 0)) a s t w walks (λ g. refl) freed born charges uncharges scans in
       let down : AllByRecursion GoesDown w.ops = rec_of GoesDown w.ops (λ j d lt. (freed.each j d lt).down) in record {
         charges = charges;
         uncharges = did.uncharges;

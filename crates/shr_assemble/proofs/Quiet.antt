@@ -1,7 +1,8 @@
 -- The parts of what a command did that are empty: of one that makes no walk, no move, no charge, no entry of a journal.
 use Rattle.std.proofs.Common.{◌≡◌, ℕ, ◌<◌, ◌≤◌, pos, ◌-ℤ◌, Bool, true, false, cond, List, [], ◌∷◌, length, length-append, refl, sym, ap, subst, ◌∙◌, arith}
-use Rattle.std.specs.Prelude.{◌⊎◌, slice_get, Option, Some, None, map, flat_map, sum_by, All, AllPairs}
+use Rattle.std.specs.Prelude.{◌⊎◌, slice_get, Option, Some, None, option_and_then, map, flat_map, sum_by, All, AllPairs}
 use Rattle.std.specs.List.{AllByRecursion}
+use Rattle.std.specs.Option.{IsSomeAnd}
 use Rattle.std.proofs.lemmas.List.Elements.{All-nil}
 use Rattle.std.proofs.lemmas.Option.{none-some, same_Some}
 use Rattle.shr_base.specs.declared.journals.UseStep.{UseStep}
@@ -14,7 +15,7 @@ use Rattle.shr_base.specs.declared.scripts.Command.TheVariants.{Put, Shrink, Bal
 use Rattle.shr_base.specs.declared.scripts.Script.{Script}
 use Rattle.shr_base.specs.declared.walks.Carry.{Carry}
 use Rattle.shr_base.specs.declared.walks.WalkRecord.{WalkRecord}
-use Rattle.shr_model.specs.Commands.{asks_online, is_put, jobs_of}
+use Rattle.shr_model.specs.Commands.{asks_online, jobs_of}
 use Rattle.shr_model.specs.Deferred.{sum_at}
 use Rattle.shr_model.specs.Charges.{ups, usage_after}
 use Rattle.shr_model.specs.Moves.{given_at, taken_at}
@@ -33,8 +34,8 @@ use Rattle.shr_report.specs.Freshness.{MayBeOffline, made_shown, pool_seen, pool
 use Rattle.shr_report.specs.ReplyTable.{group_met}
 use Rattle.shr_report.specs.WalksLawful.{MayMake, IsToldBy}
 use Rattle.shr_report.specs.WellFormed.{IsBefore, AreNotFalling}
-use Rattle.shr_assemble.specs.Steps.{Step, Brings}
-use Rattle.shr_assemble.specs.Walks.{DidRoundsOf, DidWalks, counted_in, mapped_in, cleared_in, word_of}
+use Rattle.shr_assemble.specs.Steps.{Step, Brings, IsPut}
+use Rattle.shr_assemble.specs.Walks.{DidRoundsOf, AreWalksFor, DidWalks, counted_in, mapped_in, cleared_in, word_of}
 use Rattle.shr_assemble.specs.Charges.{DidCharges, ops_at, added_below, freed_below}
 use Rattle.shr_assemble.specs.Deferred.{DidMoves, DidCarry}
 use Rattle.shr_assemble.specs.Pool.{DidPool, IsTurnOf}
@@ -44,7 +45,7 @@ use Rattle.shr_assemble.specs.Did.{Did}
 
 -- a step by its parts
 abbrev pub step_of : Serial → Command → Answered → WorkerState → WorkerState → Work → Step
-step_of by c a before after work = record { by = by; command = c; answered = a; before = before; after = after; work = work }
+step_of by c a before after work = record { by = by; command = Some c; answered = a; before = before; after = after; work = work }
 
 -- what a command added between two states, and that it did so
 pub record HasDid (s : Script) (by : Serial) (c : Command) (a : Answered) (before after : WorkerState) : Type 0 where
@@ -100,15 +101,21 @@ each_of_none {A} P xs none = subst (λ (l : List A). Each P l) (sym none) (Each-
 all_of_none : {A : Type 0} (P : A → Type 0) (xs : List A) → xs ≡ [] → All P xs
 all_of_none {A} P xs none = subst (λ (l : List A). All P l) (sym none) (All-nil P)
 
+calm_asked : (s : Script) (x : Step) (o : Option Command) → IsSomeAnd o IsCalm → x.work.walks ≡ [] → AreWalksFor s x o
+calm_asked s x None calm none = absurd calm
+calm_asked s x (Some c) calm none = record {
+  rounds = [];
+  refused = calm_rounds s x c calm;
+  made = subst (λ (ws : List WalkRecord). MayMake x.answered.reply (jobs_of (parents_of s) s.nodes [] c) (map job_of ws)) (sym none)
+      (subst (λ (js : List Job). MayMake x.answered.reply js []) (sym (calm_jobs (parents_of s) s.nodes c calm)) (none_made x.answered.reply));
+  told = calm_told s x.work.walks c x.answered.reply calm;
+}
+
 -- a command that makes no walk
-pub calm_walks : (s : Script) (x : Step) → IsCalm x.command → WalksNot x.work → DidWalks s x
+pub calm_walks : (s : Script) (x : Step) → IsSomeAnd x.command IsCalm → WalksNot x.work → DidWalks s x
 calm_walks s x calm none = record {
   each = λ i w at. absurd (no_element x.work.walks i w none.walks at);
-  rounds = [];
-  refused = calm_rounds s x x.command calm;
-  made = subst (λ (ws : List WalkRecord). MayMake x.answered.reply (jobs_of (parents_of s) s.nodes [] x.command) (map job_of ws)) (sym none.walks)
-      (subst (λ (js : List Job). MayMake x.answered.reply js []) (sym (calm_jobs (parents_of s) s.nodes x.command calm)) (none_made x.answered.reply));
-  told = calm_told s x.work.walks x.command x.answered.reply calm;
+  asked = calm_asked s x x.command calm none.walks;
   seen = ap (λ (ws : List WalkRecord). flat_map counted_in ws) none.walks ∙ sym none.seen;
   maps = ap (λ (ws : List WalkRecord). flat_map mapped_in ws) none.walks ∙ sym (ap (λ (ms : List Mapped). map word_of ms) none.maps);
   cleared = ap (λ (ws : List WalkRecord). flat_map cleared_in ws) none.walks ∙ sym none.cleared;
@@ -141,14 +148,14 @@ pub record ChargesNot (s : Script) (x : Step) : Type 0 where
   pub uncharges : x.work.uncharges ≡ 0
   pub freed : (group : ℕ) → sum_by (freed_below (parents_of s) group) x.work.core.made ≡ 0
   pub added : (group : ℕ) → sum_by (λ (m : Made). added_below (parents_of s) group m.entry) x.work.core.made ≡ 0
-  pub charged : (group : ℕ) → charged (parents_of s) group (Some x.command) (Some x.answered.reply) ≡ 0
+  pub charged : (group : ℕ) → charged (parents_of s) group x.command (Some x.answered.reply) ≡ 0
 
 pub still_charges : (s : Script) (x : Step) → ChargesNot s x → DidCharges s x
 still_charges s x none = record {
   own = all_of_none (λ (o : UseStep). o.by ≡ x.by) x.work.ops none.ops;
   there = all_of_none (λ (o : UseStep). o.group < length (parents_of s)) x.work.ops none.ops;
   taken_back = λ group n o at up above. absurd (no_element (ops_at group x.work.ops) n o (ap (ops_at group) none.ops) at);
-  puts = all_of_none (λ (o : UseStep). o.up ≡ true → is_put x.command ≡ true) x.work.ops none.ops;
+  puts = all_of_none (λ (o : UseStep). o.up ≡ true → IsPut x.command) x.work.ops none.ops;
   fourteen = λ group. omega (arith, ap (λ (os : List UseStep). ups (ops_at group os)) none.ops);
   between = λ group n m lt first second. absurd (no_element (map (λ (o : UseStep). o.up) (ops_at group x.work.ops)) n _ (ap (λ (os : List UseStep). map (λ (o : UseStep). o.up) (ops_at group os)) none.ops) first);
   nets = λ group near. ap (λ (os : List UseStep). usage_after (ops_at group os)) none.ops ∙ sym (λ i. pos (none.charged group i) -ℤ pos (none.freed group i));
@@ -192,11 +199,11 @@ still_pool s x grows none told = record {
 }
 
 -- the answer tells of no group whether it is made
-pub meets_none : (s : Script) (x : Step) → ((g : ℕ) → x.answered.reply ≡ reply.NotMade g → ⊥) → ((g : ℕ) → made_shown x.command x.answered.reply ≡ Some g → ⊥) → MeetsGroups s x
+pub meets_none : (s : Script) (x : Step) → ((g : ℕ) → x.answered.reply ≡ reply.NotMade g → ⊥) → ((g : ℕ) → option_and_then (λ c. made_shown c x.answered.reply) x.command ≡ Some g → ⊥) → MeetsGroups s x
 meets_none s x apart none = record { unmade = λ g e. absurd (apart g e); met = λ g e. absurd (none g e) }
 
 -- a command of no group isn't answered that one isn't made
-pub unmade_apart : (s : Script) (x : Step) (g : ℕ) → group_met s x.command ≡ None → IsUnmadeBy s x g → ⊥
+pub unmade_apart : (s : Script) (x : Step) (g : ℕ) → option_and_then (group_met s) x.command ≡ None → IsUnmadeBy s x g → ⊥
 unmade_apart s x g none h = none-some g (sym none ∙ h.met)
 
 -- a command that asks for no group shows none
@@ -209,7 +216,7 @@ pub some_met : (b : Bool) (group g : ℕ) → cond b (Some group) None ≡ Some 
 some_met true group g e = same_Some group g e
 some_met false group g e = absurd (none-some g e)
 
-pub still_tree : (s : Script) (x : Step) → x.work.tree ≡ [] → ((group : ℕ) → asks_online x.command ≡ Some group → 0 < group → MayBeOffline x.answered.reply ⊎ KnowsOnline x.before.tree group) → MeetsGroups s x → DidTree s x
+pub still_tree : (s : Script) (x : Step) → x.work.tree ≡ [] → ((group : ℕ) → option_and_then asks_online x.command ≡ Some group → 0 < group → MayBeOffline x.answered.reply ⊎ KnowsOnline x.before.tree group) → MeetsGroups s x → DidTree s x
 still_tree s x none online meets = record {
   each = all_of_none (λ (m : charge.Made). (length x.before.tree.known ≤ m.number) × IsEntryOf s x m.number m.entry) x.work.tree none;
   online = online;

@@ -164,7 +164,7 @@ pub record Uncharged (s : Script) (z : Step) (objects : List Object) : Type 0 wh
   pub uncharges : z.work.uncharges ≡ length objects
   pub freed : (g : ℕ) → sum_by (freed_below (parents_of s) g) z.work.core.made ≡ born_below (parents_of s) g objects
   pub added : (g : ℕ) → sum_by (λ (m : Made). added_below (parents_of s) g m.entry) z.work.core.made ≡ 0
-  pub charged : (g : ℕ) → charged (parents_of s) g (Some z.command) (Some z.answered.reply) ≡ 0
+  pub charged : (g : ℕ) → charged (parents_of s) g z.command (Some z.answered.reply) ≡ 0
 
 pub uncharged_charges : (s : Script) (z : Step) (objects : List Object) → IsTree (parents_of s) → Uncharged s z objects → DidCharges s z
 uncharged_charges s z objects tree h = record {
@@ -175,7 +175,7 @@ uncharged_charges s z objects tree h = record {
   puts = λ k d lt up. not_both (slice_index_or z.work.ops k d).up up (h.downs.each k d lt).down;
   fourteen = λ group. let none = no_ups z.by (ops_at group z.work.ops) (at_down z.by group z.work.ops each) in omega (arith, none);
   between = λ group n m lt first second. not_both true refl (all_slice_by (λ b. b ≡ false) (map (λ (o : UseStep). o.up) (ops_at group z.work.ops)) n true (ways_down z.by (ops_at group z.work.ops) (at_down z.by group z.work.ops each)) first);
-  nets = λ group near. let u : ups (ops_at group z.work.ops) ≡ charged (parents_of s) group (Some z.command) (Some z.answered.reply) = no_ups z.by (ops_at group z.work.ops) (at_down z.by group z.work.ops each) ∙ sym (h.charged group) in
+  nets = λ group near. let u : ups (ops_at group z.work.ops) ≡ charged (parents_of s) group z.command (Some z.answered.reply) = no_ups z.by (ops_at group z.work.ops) (at_down z.by group z.work.ops each) ∙ sym (h.charged group) in
       let d : downs (ops_at group z.work.ops) ≡ sum_by (freed_below (parents_of s) group) z.work.core.made = downs_are z.by group z.work.ops each ∙ (ap (total (one_at group)) h.downs.at ∙ (paths_have (parents_of s) tree group objects h.born ∙ sym (h.freed group))) in
       λ i. pos (u i) -ℤ pos (d i);
   added = λ group. h.added group ∙ sym (h.charged group);

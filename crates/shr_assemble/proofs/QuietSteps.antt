@@ -1,6 +1,6 @@
 -- What each step of a tenant's command adds to its worker's state, and what it leaves known.
 use Rattle.std.proofs.Common.{◌≡◌, ℕ, zero, suc, inl, true, false, ◌≤◌, ◌^◌, List, [], ◌∷◌, length, take, refl, sym, ap, subst, ◌∙◌, arith}
-use Rattle.std.specs.Prelude.{Some, slice_index_or, Contains}
+use Rattle.std.specs.Prelude.{Some, option_and_then, slice_index_or, Contains}
 use Rattle.std.proofs.lemmas.List.{append-nil}
 use Rattle.std.proofs.lemmas.List.Elements.{All-contains_itself}
 use Rattle.shr_base.specs.declared.journals.PoolEntry.{PoolEntry}
@@ -124,7 +124,7 @@ pub online_apart : (entry : ℕ) → state.Online ≡ state.Offline entry → �
 online_apart entry is = absurd (cc)
 
 -- a worker that knows that a group is made met it
-pub known_meets : (x : Shared) → IsShared x → (z : Step) (group : ℕ) → is_made (hierarchy_of (shape_of x.core)) z.after.tree.known group ≡ true → ((g : ℕ) → made_shown z.command z.answered.reply ≡ Some g → group ≡ g) → ((g : ℕ) → z.answered.reply ≡ reply.NotMade g → ⊥) → MeetsGroups x.script z
+pub known_meets : (x : Shared) → IsShared x → (z : Step) (group : ℕ) → is_made (hierarchy_of (shape_of x.core)) z.after.tree.known group ≡ true → ((g : ℕ) → option_and_then (λ c. made_shown c z.answered.reply) z.command ≡ Some g → group ≡ g) → ((g : ℕ) → z.answered.reply ≡ reply.NotMade g → ⊥) → MeetsGroups x.script z
 known_meets x shared z group made own apart = record {
   unmade = λ g e. absurd (apart g e);
   met = λ g e. inl (subst (λ n. is_made (report.hierarchy_of x.script) z.after.tree.known n ≡ true) (own g e) (subst (λ (q : Hierarchy). is_made q z.after.tree.known group ≡ true) (hierarchy_is x shared) made));

@@ -1,6 +1,6 @@
 -- What the commands on objects share: those that were refused before their list call, and those that called a list.
 use Rattle.std.proofs.Common.{◌≡◌, ℕ, zero, suc, ◌<◌, ◌≤◌, ◌⊎◌, inl, inr, ⊎_elim, List, [], ◌∷◌, ◌++◌, length, refl, sym, ap, subst, ◌∙◌, arith, true}
-use Rattle.std.specs.Prelude.{Some, None, slice_get, map, flat_map}
+use Rattle.std.specs.Prelude.{Some, None, option_and_then, slice_get, map, flat_map}
 use Rattle.std.proofs.lemmas.Option.{same_Some, none-some}
 use mathlib.Core.Option.{some-injective, some-ne-none}
 use lib.ListN.{get_elem?}
@@ -59,7 +59,7 @@ use Rattle.shr_report.specs.Charges.{charged}
 use Rattle.shr_report.specs.Freshness.{pool_told, pool_made, made_shown}
 use Rattle.shr_report.specs.ReplyTable.{IsReply, Cites, group_met}
 use Rattle.shr_assemble.specs.Steps.{Step, IsAmong}
-use Rattle.shr_assemble.specs.Entries.{StandsIn, IsTold, MayMake, IsCited, DidEntries}
+use Rattle.shr_assemble.specs.Entries.{IsReplyTo, StandsIn, IsTold, MayMake, IsCited, DidEntries}
 use Rattle.shr_assemble.specs.Lookups.{DidLookups, IsFoundBy, number_made, numbers_tried, number_found}
 use Rattle.shr_assemble.specs.Causes.{IsCausedBy, IsUsedUpBy}
 use Rattle.shr_assemble.specs.Charges.{freed_below, added_below}
@@ -77,7 +77,7 @@ without r = record { reply = r; found = None }
 -- ---- entries
 
 -- no entry was made, and none is cited
-pub no_entries : (s : Script) (z : Step) → z.work.core.made ≡ [] → ((family : Family) → IsReply (parents_of s) family z.by z.command (id_found z.answered) z.answered.reply) → cited_by z.answered.reply ≡ None → DidEntries s z
+pub no_entries : (s : Script) (z : Step) → z.work.core.made ≡ [] → ((family : Family) → IsReplyTo (parents_of s) family z.by z.command (id_found z.answered) z.answered.reply) → cited_by z.answered.reply ≡ None → DidEntries s z
 no_entries s z none row uncited = record {
   each = subst (λ (l : List Made). Each (λ (m : Made). MayMake s z m m.entry) l) (sym none) (Each-none (λ (m : Made). MayMake s z m m.entry));
   reply = λ family stands. row family;
@@ -90,7 +90,7 @@ each_one P a p (suc j) y e = absurd (some-ne-none y (sym e))
 
 -- one entry was made, which the answer cites
 pub one_entry : (s : Script) (z : Step) (m : Made) (c : At) → z.work.core.made ≡ m ∷ [] → MayMake s z m m.entry
-    → ((family : Family) → StandsIn (parents_of s) family m → IsReply (parents_of s) family z.by z.command (id_found z.answered) z.answered.reply)
+    → ((family : Family) → StandsIn (parents_of s) family m → IsReplyTo (parents_of s) family z.by z.command (id_found z.answered) z.answered.reply)
     → cited_by z.answered.reply ≡ Some c → IsCited z c → DidEntries s z
 one_entry s z m c made may row cites cited = record {
   each = subst (λ (l : List Made). Each (λ (y : Made). MayMake s z y y.entry) l) (sym made) (each_one (λ (y : Made). MayMake s z y y.entry) m may);
@@ -105,7 +105,7 @@ is_told z m c place number cites = record { own = refl; cited = cites ∙ sym (�
 -- ---- lookups
 
 pub found_lookups : (s : Script) (z : Step) (decl : ℕ) (f : Found) → map number_made z.work.core.attempts ≡ flat_map numbers_tried z.work.walks ++ number_found z.answered.found
-    → decl_named z.command ≡ Some decl → z.answered.found ≡ Some f → IsFoundBy z decl f → DidLookups s z
+    → option_and_then decl_named z.command ≡ Some decl → z.answered.found ≡ Some f → IsFoundBy z decl f → DidLookups s z
 found_lookups s z decl f numbers named found is = record {
   numbers = numbers;
   found = λ d g names has. subst (λ (n : ℕ). IsFoundBy z n g) (same_Some decl d (sym named ∙ names)) (subst (IsFoundBy z decl) (same_Some f g (sym found ∙ has)) is);
@@ -142,7 +142,7 @@ group_in x group lt = let same = length-map x.script.groups.items (λ g. g.paren
 -- ---- what the commands on objects have in common
 
 -- a command that names a cache found a counter at the tables of the caches used up
-used_up : (s : Script) (z : Step) (c : Command) (y : Spent) (decl : ℕ) → decl_named c ≡ Some decl → IsWornBy s z y → IsUsedUpBy s z c y
+used_up : (s : Script) (z : Step) (c : Command) (y : Spent) (decl : ℕ) → decl_named c ≡ Some decl → IsWornBy s z y → IsUsedUpBy s z (Some c) y
 used_up s z (Release node pool units) y decl named h = tt
 used_up s z (Grab node pool) y decl named h = tt
 used_up s z c y decl named h = h
@@ -171,10 +171,10 @@ module _ (x : Shared) (tables : AreTables x) (by : Serial) (c : Command) (group 
   own_online t h g e = subst (KnowsOnline t) (same_Some group g (sym is.asks ∙ e)) h
 
   -- its group was met where the word that it loaded said that it is there
-  pub own_met : (z : Step) (found : GroupState) → is_there found ≡ true → z.command ≡ c → IsAmong {A = charge.Loaded} (record { group = group; state = found }) z.work.words → ((g : ℕ) → z.answered.reply ≡ reply.NotMade g → ⊥) → MeetsGroups x.script z
+  pub own_met : (z : Step) (found : GroupState) → is_there found ≡ true → z.command ≡ Some c → IsAmong {A = charge.Loaded} (record { group = group; state = found }) z.work.words → ((g : ℕ) → z.answered.reply ≡ reply.NotMade g → ⊥) → MeetsGroups x.script z
   own_met z found there same among apart = record {
     unmade = λ g e. absurd (apart g e);
-    met = λ g e. inr (found, there, subst (λ n. IsAmong {A = charge.Loaded} (record { group = n; state = found }) z.work.words) (is.shows z.answered.reply g (ap (λ d. made_shown d z.answered.reply) (sym same) ∙ e)) among);
+    met = λ g e. inr (found, there, subst (λ n. IsAmong {A = charge.Loaded} (record { group = n; state = found }) z.work.words) (is.shows z.answered.reply g (ap (option_and_then (λ d. made_shown d z.answered.reply)) (sym same) ∙ e)) among);
   }
 
   -- its group isn't made

@@ -1,6 +1,6 @@
 -- The law of replies, of a run.
 use Rattle.std.proofs.Common.{◌≡◌, ℕ, ◌<◌, List, sym, ap, subst, ◌∙◌, arith}
-use Rattle.std.specs.Prelude.{slice_get, Some}
+use Rattle.std.specs.Prelude.{slice_get, Some, Option}
 use Rattle.std.proofs.lemmas.Option.{same_Some, none-some}
 use Rattle.shr_base.specs.declared.places.Place.{Place}
 use Rattle.shr_base.specs.declared.places.Serial.{Serial}
@@ -18,7 +18,7 @@ use Rattle.shr_report.specs.Parts.{parents_of, journals_of, serial_of, cited_at,
 use Rattle.shr_report.specs.ReplyTable.{IsReply}
 use Rattle.shr_report.specs.Replies.{AreRepliesLawful}
 use Rattle.shr_assemble.specs.Steps.{Step, IsAmong}
-use Rattle.shr_assemble.specs.Entries.{IsTold, MayMake, IsCited}
+use Rattle.shr_assemble.specs.Entries.{IsTold, MayMake, IsCited, IsReplyTo}
 use Rattle.shr_assemble.specs.Runs.{IsRun}
 use Rattle.shr_assemble.proofs.Gathering.{each_among, among_right, among_begins}
 use Rattle.shr_assemble.proofs.Making.{work_of, grows, made_stands, maker, Stepped, stepped, cited_is, replies}
@@ -37,8 +37,8 @@ told_of s x m (Drained b objects) by h may = absurd (none-some by h)
 module _ (s : Script) (r : Report) (workers : List (List Step)) (run : IsRun s r workers) where
   answered : (by : Serial) (c : Command) (a : Answered) → Stepped s r workers run by c a → IsReply (parents_of s) (journals_of r) by c (id_found a) a.reply
   answered by c a t = subst (λ (b : Serial). IsReply (parents_of s) (journals_of r) b c (id_found a) a.reply) t.own
-      (subst (λ (d : Command). IsReply (parents_of s) (journals_of r) t.step.by d (id_found a) a.reply) t.command
-      (subst (λ (y : Answered). IsReply (parents_of s) (journals_of r) t.step.by t.step.command (id_found y) y.reply) t.answered
+      (subst (λ (d : Option Command). IsReplyTo (parents_of s) (journals_of r) t.step.by d (id_found a) a.reply) t.command
+      (subst (λ (y : Answered). IsReplyTo (parents_of s) (journals_of r) t.step.by t.step.command (id_found y) y.reply) t.answered
       (t.did.entries.reply (journals_of r) (λ j m e. (made_stands s r workers run by.worker by.command t.step t.at j m e).1))))
 
   -- each tenant's entry is cited by the reply to its command

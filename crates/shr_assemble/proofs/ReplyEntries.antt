@@ -1,5 +1,5 @@
 -- Which entry a reply cites, by its command.
-use Rattle.std.proofs.Common.{◌≡◌, ℕ, Bool, List, sym, subst, ◌∙◌}
+use Rattle.std.proofs.Common.{◌≡◌, ℕ, Bool, List, refl, sym, subst, ◌∙◌}
 use Rattle.std.specs.Prelude.{slice_get, Option, Some, None}
 use Rattle.std.proofs.lemmas.Option.{same_Some, none-some}
 use Rattle.shr_base.specs.declared.places.Serial.{Serial}
@@ -14,6 +14,8 @@ use Rattle.shr_base.specs.declared.scripts.Command.TheVariants.{Put, Get, Del, S
 use Rattle.shr_model.specs.Families.{Family}
 use Rattle.shr_report.specs.Parts.{cited_by}
 use Rattle.shr_report.specs.ReplyTable.{IsReply}
+use Rattle.shr_report.specs.Swept.{IsSweepReply}
+use Rattle.shr_assemble.specs.Entries.{IsReplyTo}
 
 -- the entry is one that a command makes
 abbrev pub IsEntryFor : Serial → Command → Entry → Type 0
@@ -52,3 +54,15 @@ entry_for parents family by (reply.Done a) (SetPin group node decl key pinned) (
 entry_for parents family by (reply.Done a) c None at e h cites stands = absurd h
 entry_for parents family by (reply.Done a) c (Some id) at e h cites stands = absurd h
 entry_for parents family by x c found at e h cites stands = absurd (none-some at cites)
+
+-- the answer to a sweep cites none
+sweep_cites : (x : Reply) → IsSweepReply x → cited_by x ≡ None
+sweep_cites (reply.Swept jobs freed) h = refl
+sweep_cites (reply.WalkMemory freed) h = refl
+sweep_cites x h = absurd h
+
+-- so it is the answer to a command
+pub entry_asked : (parents : List ℕ) (family : Family) (by : Serial) (x : Reply) (o : Option Command) (found : Option ℕ) (at : At) (e : Entry) → IsReplyTo parents family by o found x → cited_by x ≡ Some at → slice_get (family at.place) at.entry ≡ Some e
+    → (c : Command) × (o ≡ Some c) × IsEntryFor by c e
+entry_asked parents family by x None found at e h cites stands = absurd (none-some at (sym (sweep_cites x h.1) ∙ cites))
+entry_asked parents family by x (Some c) found at e h cites stands = (c, refl, entry_for parents family by x c found at e h cites stands)

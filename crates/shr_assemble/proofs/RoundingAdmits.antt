@@ -81,7 +81,7 @@ module _ (x : Shared) (table : IsTableOf x) (by : Serial) (c : Command) (a : Ans
 
   pub record GaveAdmission (answer : Admission) (s t : WorkerState) : Type 0 where
     pub work : Work
-    pub walked : Walked x.script by c a s t work
+    pub walked : Walked x.script by (Some c) a s t work
     pub groups : List ℕ
     pub few : length groups ≤ 13
     pub above : AllByRecursion (λ h. IsAtOrAbove (parents_of x.script) h group) groups
@@ -97,7 +97,7 @@ module _ (x : Shared) (table : IsTableOf x) (by : Serial) (c : Command) (a : Ans
       let lt = h.due in let two = length-append (map (λ (k : Round). k.over.group) h.rounds) (h.over.group ∷ []) in
       let due : due_in x (12 - length h.rounds) h.over.group ≡ round_of (parents_of x.script) x.script.nodes (12 - length (map (λ (k : Round). k.over.group) h.rounds)) h.over.group = due_is x table (12 - length h.rounds) h.over.group ∙ ap (λ n. round_of (parents_of x.script) x.script.nodes (12 - n) h.over.group) (sym long) in
       let there : AllByRecursion (IsThereJob x) (due_in x (12 - length h.rounds) h.over.group) = subst (AllByRecursion (IsThereJob x)) (sym (due_is x table (12 - length h.rounds) h.over.group)) (round_there x table (12 - length h.rounds) h.over.group r.at_last.1) in
-      let all = gave_all x table by c a (map job_in h.walks) (map (λ (v : Visit). v.answer) h.walks) h.begun t (visited_one x by h.walks h.begun t h.cut.visited) seen.1 (prefix_all (IsThereJob x) (map job_in h.walks) (due_in x (12 - length h.rounds) h.over.group) first there) in
+      let all = gave_all x table by (Some c) a (map job_in h.walks) (map (λ (v : Visit). v.answer) h.walks) h.begun t (visited_one x by h.walks h.begun t h.cut.visited) seen.1 (prefix_all (IsThereJob x) (map job_in h.walks) (due_in x (12 - length h.rounds) h.over.group) first there) in
       let begins : Begins (map job_of all.work.walks) (map job_in h.walks) = ⊎_elim
       (λ had. let e = all_had (map job_in h.walks) (map (λ (v : Visit). v.answer) h.walks) all.work.walks all.noted (had_answers x table by c a group inside h.walks (rec_of HadRoom h.walks had)) in ([], sym e.jobs_are ∙ sym (append-nil _)))
       (λ cut. let e : map (λ (v : Visit). v.answer) h.walks ≡ map (λ (v : Visit). v.answer) cut.front ++ cut.last.answer ∷ [] = ap (map (λ (v : Visit). v.answer)) cut.whole ∙ map-append (λ (v : Visit). v.answer) cut.front (cut.last ∷ []) in
@@ -107,7 +107,7 @@ module _ (x : Shared) (table : IsTableOf x) (by : Serial) (c : Command) (a : Ans
       let whole : due_in x (12 - length h.rounds) h.over.group ≡ map job_of all.work.walks ++ rest = sym (take-append-drop (length (map job_in h.walks)) (due_in x (12 - length h.rounds) h.over.group))
       ∙ (ap (λ l. l ++ drop (length (map job_in h.walks)) (due_in x (12 - length h.rounds) h.over.group)) (first ∙ begins.1) ∙ append_assoc (map job_of all.work.walks) begins.0 (drop (length (map job_in h.walks)) (due_in x (12 - length h.rounds) h.over.group))) in record {
         work = then_work r.work all.work;
-        walked = walked_then x.script by c a s h.begun t r.work all.work r.walked all.walked;
+        walked = walked_then x.script by (Some c) a s h.begun t r.work all.work r.walked all.walked;
         groups = map (λ (k : Round). k.over.group) h.rounds ++ h.over.group ∷ [];
         few = omega (arith, long, lt, two);
         above = all_end (λ g. IsAtOrAbove (parents_of x.script) g group) (map (λ (k : Round). k.over.group) h.rounds) h.over.group r.above r.at_last.0;
@@ -144,7 +144,7 @@ module _ (x : Shared) (table : IsTableOf x) (by : Serial) (c : Command) (a : Ans
       }
   gave_admission Memory s t (inl d) seen = record {
     work = no_work;
-    walked = idle_walked x.script by c a s t d;
+    walked = idle_walked x.script by (Some c) a s t d;
     groups = [];
     few = omega arith;
     above = tt;

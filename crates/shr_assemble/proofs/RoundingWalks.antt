@@ -1,6 +1,6 @@
 -- The rounds of a charge: its tries and walks together, over the groups that refused.
 use Rattle.std.proofs.Common.{false, ◌≡◌, ℕ, ◌-◌, ◌<◌, List, [], ◌∷◌, ◌++◌, length, map, sym, refl, ap, subst, ◌∙◌}
-use Rattle.std.specs.Prelude.{flat_map}
+use Rattle.std.specs.Prelude.{flat_map, Some}
 use Rattle.std.specs.List.{AllByRecursion, range_with_len}
 use Rattle.std.proofs.lemmas.List.{map-append}
 use Rattle.std.proofs.lemmas.Option.{none-some}
@@ -39,7 +39,7 @@ use Rattle.shr_assemble.proofs.WalkingChain.{AllSeen, all_seen, IsThereJob, gave
 use Rattle.shr_assemble.proofs.WalkingSteps.{Walked, walked_none, walked_then, IsScanOne}
 
 -- a try makes operations alone
-pub tried_walked : (x : Shared) (script : Script) (by : Serial) (c : Command) (a : Answered) (group : ℕ) (answer : ChargeAnswer) (s t : WorkerState) (h : IsTried x by group answer s t) → Walked script by c a s t (charge_work h.ops)
+pub tried_walked : (x : Shared) (script : Script) (by : Serial) (c : Command) (a : Answered) (group : ℕ) (answer : ChargeAnswer) (s t : WorkerState) (h : IsTried x by group answer s t) → Walked script by (Some c) a s t (charge_work h.ops)
 tried_walked x script by c a group answer s t h = record {
   does = h.does;
   each = λ i r e. absurd (none-some r e);
@@ -120,7 +120,7 @@ module _ (x : Shared) (table : IsTableOf x) where
     -- the walks of the rounds are those that were due, in order, and the groups are at or above the charged one
     pub record GaveRounds (priority : ℕ) (rounds : List Round) (last : ChargeAnswer) (s t : WorkerState) : Type 0 where
       pub work : Work
-      pub walked : Walked x.script by c a s t work
+      pub walked : Walked x.script by (Some c) a s t work
       pub jobs : map job_of work.walks ≡ rounds_from (parents_of x.script) x.script.nodes priority (groups_in rounds)
       pub above : AllByRecursion (λ h. IsAtOrAbove (parents_of x.script) h group) (groups_in rounds)
       pub at_last : RefusedAt group last
@@ -133,7 +133,7 @@ module _ (x : Shared) (table : IsTableOf x) where
     unfolding rounds_from
     gave_rounds priority first [] last s t on h seen = subst (λ (u : WorkerState). GaveRounds priority [] last s u) h.1 record {
       work = no_work;
-      walked = walked_none x.script by c a s;
+      walked = walked_none x.script by (Some c) a s;
       jobs = refl;
       above = tt;
       at_last = subst (RefusedAt group) h.0 on;
@@ -142,12 +142,12 @@ module _ (x : Shared) (table : IsTableOf x) where
         let at = subst (RefusedAt group) r.refused_so on in
         let due : map job_in k.walks ≡ round_of (parents_of x.script) x.script.nodes k.priority k.over.group = r.walks.all ∙ due_is k.priority k.over.group in
         let there = subst (AllByRecursion (IsThereJob x)) (sym due) (round_there k.priority k.over.group at.1) in
-        let all = gave_all x table by c a (map job_in k.walks) (map (λ (v : Visit). v.answer) k.walks) s k.walked (visited_one x by k.walks s k.walked r.walks.visited) seen.0 there in
+        let all = gave_all x table by (Some c) a (map job_in k.walks) (map (λ (v : Visit). v.answer) k.walks) s k.walked (visited_one x by k.walks s k.walked r.walks.visited) seen.0 there in
         let had = all_had (map job_in k.walks) (map (λ (v : Visit). v.answer) k.walks) all.work.walks all.noted (had_answers k.walks (rec_of HadRoom k.walks r.walks.had)) in
         let later = gave_rounds (priority - 1) k.answer ks last k.tried t (refused_at by group inside k.answer r.try.ops r.try.made) more seen.1 in
         let try = tried_walked x x.script by c a group k.answer k.walked k.tried r.try in record {
           work = then_work all.work (then_work (charge_work r.try.ops) later.work);
-          walked = walked_then x.script by c a s k.walked t all.work (then_work (charge_work r.try.ops) later.work) all.walked (walked_then x.script by c a k.walked k.tried t (charge_work r.try.ops) later.work try later.walked);
+          walked = walked_then x.script by (Some c) a s k.walked t all.work (then_work (charge_work r.try.ops) later.work) all.walked (walked_then x.script by (Some c) a k.walked k.tried t (charge_work r.try.ops) later.work try later.walked);
           jobs = map-append job_of all.work.walks later.work.walks ∙ (ap (λ l. l ++ map job_of later.work.walks) (had.jobs_are ∙ due)
               ∙ (ap (λ n. round_of (parents_of x.script) x.script.nodes n k.over.group ++ map job_of later.work.walks) r.priority_is ∙ ap (λ l. round_of (parents_of x.script) x.script.nodes priority k.over.group ++ l) later.jobs));
           above = (at.0, later.above);
@@ -160,7 +160,7 @@ module _ (x : Shared) (table : IsTableOf x) where
         let later = gave_rounds 12 h.first rounds last h.tried t (refused_at by group inside h.first h.try.ops h.try.made) h.follow seen in
         let try = tried_walked x x.script by c a group h.first s h.tried h.try in record {
           work = then_work (charge_work h.try.ops) later.work;
-          walked = walked_then x.script by c a s h.tried t (charge_work h.try.ops) later.work try later.walked;
+          walked = walked_then x.script by (Some c) a s h.tried t (charge_work h.try.ops) later.work try later.walked;
           jobs = later.jobs;
           above = later.above;
           at_last = later.at_last;

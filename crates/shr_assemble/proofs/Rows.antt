@@ -22,7 +22,7 @@ use Rattle.shr_assemble.proofs.Flattening.{slice_map}
 
 -- a command did its work, between these states
 abbrev pub Worked : Script → Serial → Command → Answered → WorkerState → WorkerState → Type 0
-Worked s by c a t u = (w : Work) × Brings t u w × Did s (record { by = by; command = c; answered = a; before = t; after = u; work = w })
+Worked s by c a t u = (w : Work) × Brings t u w × Did s (record { by = by; command = Some c; answered = a; before = t; after = u; work = w })
 
 -- a worker's steps: one for each of these commands and answers, by these serials, from the first state to the last
 pub record IsRow (s : Script) (by : ℕ → Serial) (cs : List Command) (said : List Answered) (first last : WorkerState) (mine : List Step) : Type 0 where
@@ -30,7 +30,7 @@ pub record IsRow (s : Script) (by : ℕ → Serial) (cs : List Command) (said : 
   pub answers : length said ≡ length mine
   pub chained : AreChained first mine
   pub ends : state_after first mine ≡ last
-  pub each : (k : ℕ) (x : Step) → slice_get mine k ≡ Some x → (x.by ≡ by k) × (slice_get cs k ≡ Some x.command) × (slice_get said k ≡ Some x.answered) × Did s x
+  pub each : (k : ℕ) (x : Step) → slice_get mine k ≡ Some x → (x.by ≡ by k) × (slice_get cs k ≡ x.command) × (slice_get said k ≡ Some x.answered) × Did s x
 
 pub row : (s : Script) (by : ℕ → Serial) (cs : List Command) (said : List Answered) (t : WorkerState) (us : List WorkerState) (last : WorkerState) → IsFit t → length said ≡ length cs → length us ≡ length said
     → ((k : ℕ) (c : Command) (a : Answered) (v w : WorkerState) → IsFit v → slice_get cs k ≡ Some c → slice_get said k ≡ Some a → slice_get (t ∷ us) k ≡ Some v → slice_get (t ∷ us) (suc k) ≡ Some w → Worked s (by k) c a v w)
@@ -41,7 +41,7 @@ row s by (c ∷ cs) [] t us last fit same more each end = absurd (omega (arith, 
 row s by (c ∷ cs) (a ∷ said) t [] last fit same more each end = absurd (omega (arith, more))
 row s by (c ∷ cs) (a ∷ said) t (u ∷ us) last fit same more each end =
     let g : Worked s (by 0) c a t u = each 0 c a t u fit refl refl refl refl in
-    let x : Step = record { by = by 0; command = c; answered = a; before = t; after = u; work = g.0 } in
+    let x : Step = record { by = by 0; command = Some c; answered = a; before = t; after = u; work = g.0 } in
     let rest = row s (λ k. by (suc k)) cs said u us last (fit_kept t u g.0 g.1 fit) (omega (arith, same)) (omega (arith, more)) (λ k d b v w. each (suc k) d b v w) end in (
       x ∷ rest.0,
       record {
@@ -52,9 +52,9 @@ row s by (c ∷ cs) (a ∷ said) t (u ∷ us) last fit same more each end =
         each = λ k y e. at x rest.0 rest.1.each g.2 refl refl refl k y e;
       },
     ) where
-      at : (x : Step) (xs : List Step) → ((k : ℕ) (y : Step) → slice_get xs k ≡ Some y → (y.by ≡ by (suc k)) × (slice_get cs k ≡ Some y.command) × (slice_get said k ≡ Some y.answered) × Did s y)
-          → Did s x → (x.by ≡ by 0) → (x.command ≡ c) → (x.answered ≡ a) → (k : ℕ) (y : Step) → slice_get (x ∷ xs) k ≡ Some y → (y.by ≡ by k) × (slice_get (c ∷ cs) k ≡ Some y.command) × (slice_get (a ∷ said) k ≡ Some y.answered) × Did s y
-      at x xs others did b d e zero y is = subst (λ (z : Step). (z.by ≡ by 0) × (Some c ≡ Some z.command) × (Some a ≡ Some z.answered) × Did s z) (same_Some x y is) (b, ap Some (sym d), ap Some (sym e), did)
+      at : (x : Step) (xs : List Step) → ((k : ℕ) (y : Step) → slice_get xs k ≡ Some y → (y.by ≡ by (suc k)) × (slice_get cs k ≡ y.command) × (slice_get said k ≡ Some y.answered) × Did s y)
+          → Did s x → (x.by ≡ by 0) → (x.command ≡ Some c) → (x.answered ≡ a) → (k : ℕ) (y : Step) → slice_get (x ∷ xs) k ≡ Some y → (y.by ≡ by k) × (slice_get (c ∷ cs) k ≡ y.command) × (slice_get (a ∷ said) k ≡ Some y.answered) × Did s y
+      at x xs others did b d e zero y is = subst (λ (z : Step). (z.by ≡ by 0) × (Some c ≡ z.command) × (Some a ≡ Some z.answered) × Did s z) (same_Some x y is) (b, sym d, ap Some (sym e), did)
       at x xs others did b d e (suc k) y is = others k y is
 
 row_from : (s : Script) (by : ℕ → Serial) (cs : List Command) (said : List Answered) (first last : WorkerState) (ts : List WorkerState) → IsFit first → length said ≡ length cs

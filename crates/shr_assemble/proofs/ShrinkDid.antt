@@ -1,6 +1,6 @@
 -- A `shrink` did what the report asks.
 use Rattle.std.proofs.Common.{◌≡◌, ℕ, ◌<◌, inl, inr, ⊎_elim, Bool, List, [], ◌∷◌, length, map, take, sym, refl, ap, subst, ◌∙◌, arith}
-use Rattle.std.specs.Prelude.{slice_get}
+use Rattle.std.specs.Prelude.{slice_get, Option, Some}
 use Rattle.std.proofs.lemmas.Option.{same_Some, none-some}
 use Rattle.shr_base.specs.declared.places.Serial.{Serial}
 use Rattle.shr_base.specs.declared.replies.Answered.{Answered}
@@ -42,8 +42,8 @@ module _ (x : Shared) (table : IsTableOf x) (by : Serial) (group node priority :
   own_prefix : (ws : List WalkRecord) (j : Job) → map job_of ws ≡ j ∷ [] → IsPrefixOf (map job_of ws) (j ∷ [])
   own_prefix ws j e = subst (λ (l : List Job). take (length l) (j ∷ []) ≡ l) (sym e) refl
 
-  abbrev pub Command_of : Command
-  Command_of = Shrink group node priority nofs
+  abbrev pub Command_of : Option Command
+  Command_of = Some (Shrink group node priority nofs)
 
   offline_word : (entry : ℕ) (w : Work) → Walked x.script by Command_of (unfound (reply.Offline entry)) s t w → IsNoted (next_walk by s group node priority nofs) (answered.Offline entry) w.walks → IsAmong (record { group = group; state = state.Offline entry }) w.words
   offline_word entry w walked n = let d = walked.each 0 n.noted (ap (λ (l : List WalkRecord). slice_get l 0) n.walks_are) in
@@ -61,9 +61,7 @@ module _ (x : Shared) (table : IsTableOf x) (by : Serial) (group node priority :
       no_cite = refl;
       no_told = refl;
       no_made = refl;
-      no_rounds = refl;
-      made = same_jobs (answered.Walked freed) g.work.walks n;
-      told = told_one (answered.Walked freed) g.work.walks n;
+      asked = record { rounds = []; refused = refl; made = same_jobs (answered.Walked freed) g.work.walks n; told = told_one (answered.Walked freed) g.work.walks n };
       online = λ k e lt. let same = same_Some group k e in inr (subst (KnowsOnline s.tree) same (knew freed refl (omega (arith, lt, same))));
       meets = record { unmade = λ k e. absurd (cc); met = λ k e. absurd (none-some k e) };
       cause = tt;
@@ -79,9 +77,7 @@ module _ (x : Shared) (table : IsTableOf x) (by : Serial) (group node priority :
       no_cite = refl;
       no_told = refl;
       no_made = refl;
-      no_rounds = refl;
-      made = same_jobs (answered.Offline entry) g.work.walks n;
-      told = told_one (answered.Offline entry) g.work.walks n;
+      asked = record { rounds = []; refused = refl; made = same_jobs (answered.Offline entry) g.work.walks n; told = told_one (answered.Offline entry) g.work.walks n };
       online = λ k e lt. inl tt;
       meets = record { unmade = λ k e. absurd (cc); met = λ k e. absurd (none-some k e) };
       cause = record { group = group; met = refl; told = inl (offline_word entry g.work g.walked n) };
@@ -97,9 +93,7 @@ module _ (x : Shared) (table : IsTableOf x) (by : Serial) (group node priority :
       no_cite = refl;
       no_told = refl;
       no_made = refl;
-      no_rounds = refl;
-      made = ⊎_elim (λ none. subst (λ (l : List WalkRecord). IsPrefixOf (map job_of l) (job group node priority nofs ∷ [])) (sym none.0) refl) (λ n. own_prefix g.work.walks (job group node priority nofs) (same_jobs (answered.Memory freed) g.work.walks n)) g.told;
-      told = ⊎_elim (λ none. let is : freed ≡ 0 = let e = none.1 in cc in ap reply.WalkMemory is ∙ ap shrink_reply (sym none.0)) (λ n. told_one (answered.Memory freed) g.work.walks n) g.told;
+      asked = record { rounds = []; refused = refl; made = ⊎_elim (λ none. subst (λ (l : List WalkRecord). IsPrefixOf (map job_of l) (job group node priority nofs ∷ [])) (sym none.0) refl) (λ n. own_prefix g.work.walks (job group node priority nofs) (same_jobs (answered.Memory freed) g.work.walks n)) g.told; told = ⊎_elim (λ none. let is : freed ≡ 0 = let e = none.1 in cc in ap reply.WalkMemory is ∙ ap shrink_reply (sym none.0)) (λ n. told_one (answered.Memory freed) g.work.walks n) g.told };
       online = λ k e lt. inl tt;
       meets = record { unmade = λ k e. absurd (cc); met = λ k e. absurd (none-some k e) };
       cause = tt;

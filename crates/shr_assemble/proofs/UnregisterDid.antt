@@ -61,7 +61,7 @@ use Rattle.shr_worker.proofs.Drained.{drained_from}
 use Rattle.shr_report.specs.Parts.{parents_of, cited_by}
 use Rattle.shr_report.specs.ReplyTable.{IsReply}
 use Rattle.shr_assemble.specs.Steps.{Step, IsAmong}
-use Rattle.shr_assemble.specs.Entries.{MayMake, Drains, DidEntries}
+use Rattle.shr_assemble.specs.Entries.{IsReplyTo, MayMake, Drains, DidEntries}
 use Rattle.shr_assemble.specs.Causes.{IsCausedBy, IsWhyBy}
 use Rattle.shr_assemble.specs.Pool.{DidPool, IsTurnOf}
 use Rattle.shr_assemble.specs.Worn.{IsListWorn}
@@ -169,7 +169,7 @@ module _ (x : Shared) (tables : AreTables x) (by : Serial) (decl : ℕ) (s t : W
 
   -- the entries of an answer that drained lists of this id
   drain_entries : (id : ℕ) (draws : List (List Draw)) → AreDraws id draws → length draws ≤ shape.nodes → (z : Step) → z.by ≡ by → Drains id z.answered.reply → ((i : ℕ) → Drains id z.answered.reply → i ≡ id → Drains i z.answered.reply) → z.work.core.made ≡ made_from id 0 by draws
-      → ((family : Family) → IsReply ps family z.by z.command None z.answered.reply) → z.answered.found ≡ None → cited_by z.answered.reply ≡ None → Each (λ (m : Made). MayMake x.script z m m.entry) z.work.core.made
+      → ((family : Family) → IsReplyTo ps family z.by z.command None z.answered.reply) → z.answered.found ≡ None → cited_by z.answered.reply ≡ None → Each (λ (m : Made). MayMake x.script z m m.entry) z.work.core.made
   drain_entries id draws each short z own of move made row none uncited = subst (λ (l : List Made). Each (λ (m : Made). MayMake x.script z m m.entry) l) (sym made)
       (Each-weaker (IsDrainOf id by) (λ (m : Made). MayMake x.script z m m.entry) (λ m d. subst (λ (e : Entry). MayMake x.script z m e) (sym d.entry) (record { own = sym own; drains = move (id_of m.place) of d.place })) (made_from id 0 by draws) (drains id draws each short))
 

@@ -1,6 +1,6 @@
 -- Walks over jobs, one after another, each from where the one before it ended.
 use Rattle.std.proofs.Common.{◌≡◌, ℕ, suc, ◌+◌, ◌<◌, ◌⊎◌, inl, inr, ⊎_elim, Bool, true, false, ◌||◌, List, [], ◌∷◌, ◌++◌, length, length-append, map, sym, refl, ap, subst, ◌∙◌, arith, sum}
-use Rattle.std.specs.Prelude.{sum_by}
+use Rattle.std.specs.Prelude.{sum_by, Option}
 use Rattle.std.specs.List.{AllByRecursion, list_any}
 use Rattle.std.proofs.lemmas.List.{append-nil}
 use Rattle.std.proofs.lemmas.List.Sums.{sum_by-cons, sum-map}
@@ -53,7 +53,7 @@ pub record IsThereJob (x : Shared) (j : Job) : Type 0 where
   pub node : j.node < x.script.nodes
   pub group : j.group < length (parents_of x.script)
 
-pub record GaveAll (x : Shared) (by : Serial) (c : Command) (a : Answered) (jobs : List Job) (answers : List WalkAnswer) (s t : WorkerState) : Type 0 where
+pub record GaveAll (x : Shared) (by : Serial) (c : Option Command) (a : Answered) (jobs : List Job) (answers : List WalkAnswer) (s t : WorkerState) : Type 0 where
   pub work : Work
   pub walked : Walked x.script by c a s t work
   pub noted : AllNoted jobs answers work.walks
@@ -75,7 +75,7 @@ born_then x m n a b = subst (AllByRecursion (λ (o : Object). o.birth < length (
 pub uncharges_then : (m n : List Made) (i j : ℕ) → i ≡ length (freed_in m) → j ≡ length (freed_in n) → i + j ≡ length (freed_in (m ++ n))
 uncharges_then m n i j a b = let e = ap (λ (l : List Object). length l) (freed_both m n) in let d = length-append (freed_in m) (freed_in n) in omega (arith, a, b, e, d)
 
-pub gave_all : (x : Shared) → IsTableOf x → (by : Serial) (c : Command) (a : Answered) (jobs : List Job) (answers : List WalkAnswer) (s t : WorkerState) (h : AreOne x by jobs answers s t) → AllSeen x by jobs answers s t h → AllByRecursion (IsThereJob x) jobs
+pub gave_all : (x : Shared) → IsTableOf x → (by : Serial) (c : Option Command) (a : Answered) (jobs : List Job) (answers : List WalkAnswer) (s t : WorkerState) (h : AreOne x by jobs answers s t) → AllSeen x by jobs answers s t h → AllByRecursion (IsThereJob x) jobs
     → GaveAll x by c a jobs answers s t
 gave_all x table by c a [] answers s t (none, same) seen there = subst (λ (u : WorkerState). GaveAll x by c a [] answers s u) same record {
   work = no_work;

@@ -1,6 +1,6 @@
 -- The operations of walks: one down for each object freed, on each level of its birth.
 use Rattle.std.proofs.Common.{◌≡◌, ℕ, zero, suc, ◌+◌, ◌<◌, ◌≤◌, Bool, true, false, ◌||◌, cond, List, [], ◌∷◌, ◌++◌, length, length-append, map, sym, refl, ap, subst, ◌∙◌, arith, eq-eqb, ne_eqb}
-use Rattle.std.specs.Prelude.{slice_get, Some, pos, ◌-ℤ◌, not, ◌==◌, sum_by, count_by, All}
+use Rattle.std.specs.Prelude.{slice_get, Option, Some, pos, ◌-ℤ◌, not, ◌==◌, sum_by, count_by, All}
 use Rattle.std.specs.List.{AllByRecursion, list_any}
 use Rattle.std.proofs.lemmas.List.{length-map}
 use Rattle.std.proofs.lemmas.List.Sums.{sum_by-cons, sum_by-append}
@@ -183,8 +183,8 @@ pub tree_is : (x : Shared) → IsTableOf x → IsTree (parents_of x.script)
 tree_is x table = subst IsTree (same_parents x table) x.core.tree
 
 -- the charges of a command that has walks alone
-pub walks_charge : (x : Shared) → IsTableOf x → (by : Serial) (c : Command) (a : Answered) (s t : WorkerState) (w : Work) (walks : List WalkRecord)
-    → ((g : ℕ) → charged (parents_of x.script) g (Some c) (Some a.reply) ≡ 0) → Freed x by w.core.made w.ops → AllByRecursion (λ (o : Object). o.birth < length (parents_of x.script)) (freed_in w.core.made)
+pub walks_charge : (x : Shared) → IsTableOf x → (by : Serial) (c : Option Command) (a : Answered) (s t : WorkerState) (w : Work) (walks : List WalkRecord)
+    → ((g : ℕ) → charged (parents_of x.script) g c (Some a.reply) ≡ 0) → Freed x by w.core.made w.ops → AllByRecursion (λ (o : Object). o.birth < length (parents_of x.script)) (freed_in w.core.made)
     → w.charges ≡ 0 → w.uncharges ≡ length (freed_in w.core.made) → Each (IsScanOne by (length s.walks) walks) w.core.made → DidCharges x.script (step_of x.script by c a s t w)
 walks_charge x table by c a s t w walks free freed born charges uncharges scans = record {
   own = λ k d lt. (freed.each k d lt).made;
@@ -193,7 +193,7 @@ walks_charge x table by c a s t w walks free freed born charges uncharges scans 
   puts = λ k d lt up. absurd (not_up _ (freed.each k d lt).down up);
   fourteen = λ g. let z = no_ups g w.ops down in omega (arith, z);
   between = λ g n m lt e f. absurd (down_at (ops_at g w.ops) (all_down g w.ops down) n e);
-  nets = λ g lt. let u : ups (ops_at g w.ops) ≡ charged parents g (Some c) (Some a.reply) = no_ups g w.ops down ∙ sym (free g) in
+  nets = λ g lt. let u : ups (ops_at g w.ops) ≡ charged parents g c (Some a.reply) = no_ups g w.ops down ∙ sym (free g) in
       let d : downs (ops_at g w.ops) ≡ sum_by (freed_below parents g) w.core.made = count_downs g w.ops down ∙ (ap (times_in g) at ∙ (paths_count parents tree g (freed_in w.core.made) born ∙ made_below parents g w.core.made)) in
       λ i. pos (u i) -ℤ pos (d i);
   added = λ g. none_added parents g by (length s.walks) walks w.core.made scans ∙ sym (free g);

@@ -1,6 +1,6 @@
 -- A command that made walks alone did what the report asks.
 use Rattle.std.proofs.Common.{◌≡◌, ℕ, ◌<◌, ◌≤◌, ◌⊎◌, [], length, map, sym, ap, subst, ◌∙◌, arith}
-use Rattle.std.specs.Prelude.{cond, Some, None, sum_by, All, AllPairs}
+use Rattle.std.specs.Prelude.{cond, Option, Some, None, option_and_then, sum_by, All, AllPairs}
 use Rattle.std.specs.List.{AllByRecursion}
 use Rattle.std.proofs.lemmas.List.{append-nil}
 use Rattle.std.proofs.lemmas.List.Elements.{All-nil}
@@ -14,11 +14,10 @@ use Rattle.shr_base.specs.declared.replies.Answered.{Answered}
 use Rattle.shr_base.specs.declared.replies.Reply.{Reply}
 use Rattle.shr_base.specs.declared.scripts.Command.{Command}
 use Rattle.shr_base.specs.declared.walks.Carry.{Carry}
-use Rattle.shr_model.specs.Commands.{decl_named, asks_online, jobs_of}
+use Rattle.shr_model.specs.Commands.{decl_named, asks_online}
 use Rattle.shr_model.specs.Families.{Family}
 use Rattle.shr_model.specs.Moves.{is_below}
 use Rattle.shr_model.specs.Places.{is_place}
-use Rattle.shr_model.specs.Walks.{job_of}
 use Rattle.shr_seats.specs.Views.{Each}
 use Rattle.shr_seats.proofs.Weighing.{Each-none}
 use Rattle.shr_core.specs.Parts.{Made, Turn}
@@ -26,8 +25,6 @@ use Rattle.shr_charge.specs.Views as charge
 use Rattle.shr_report.specs.Charges.{charged}
 use Rattle.shr_report.specs.Freshness.{MayBeOffline, pool_told, pool_made}
 use Rattle.shr_report.specs.Parts.{parents_of, cited_by}
-use Rattle.shr_report.specs.ReplyTable.{IsReply}
-use Rattle.shr_report.specs.WalksLawful as walks
 use Rattle.shr_report.specs.WellFormed.{AreNotFalling, IsBefore}
 use Rattle.shr_walk.specs.Keeping.{freed_in}
 use Rattle.shr_walk.specs.State.{WorkerState, Work}
@@ -36,17 +33,17 @@ use Rattle.shr_worker.specs.Replies.{unfound}
 use Rattle.shr_assemble.specs.Causes.{IsCausedBy}
 use Rattle.shr_assemble.specs.Deferred.{DidCarry}
 use Rattle.shr_assemble.specs.Did.{Did}
-use Rattle.shr_assemble.specs.Entries.{MayMake}
+use Rattle.shr_assemble.specs.Entries.{IsReplyTo, MayMake}
 use Rattle.shr_assemble.specs.Offlining.{KnowsOnline, IsEntryOf, MeetsGroups}
 use Rattle.shr_assemble.specs.Pool.{IsTurnOf}
 use Rattle.shr_assemble.specs.Steps.{Step, Brings}
-use Rattle.shr_assemble.specs.Walks.{DidRoundsOf}
+use Rattle.shr_assemble.specs.Walks.{AreWalksFor}
 use Rattle.shr_assemble.proofs.WalkingTold.{IsTableOf}
 use Rattle.shr_assemble.proofs.WalkingGives.{Freed}
 use Rattle.shr_assemble.proofs.WalkingCharges.{walks_charge}
 use Rattle.shr_assemble.proofs.WalkingSteps.{OnlyScan, step_of, Walked}
 
-pub may_make : (x : Shared) (by : Serial) (c : Command) (a : Answered) (s t : WorkerState) (w : Work) (m : Made) (e : Entry) → OnlyScan by (length s.walks) w.walks m e → MayMake x.script (step_of x.script by c a s t w) m e
+pub may_make : (x : Shared) (by : Serial) (c : Option Command) (a : Answered) (s t : WorkerState) (w : Work) (m : Made) (e : Entry) → OnlyScan by (length s.walks) w.walks m e → MayMake x.script (step_of x.script by c a s t w) m e
 may_make x by c a s t w m (Scan worker n asked policy visits freed stopped) h = record { own = h.own; index = h.index; number = h.number; walk = h.walk; there = h.there; passes = h.passes }
 may_make x by c a s t w m (Add by' birth added key value) h = absurd h
 may_make x by c a s t w m (Look by' birth key hit) h = absurd h
@@ -57,27 +54,25 @@ may_make x by c a s t w m Closed h = absurd h
 may_make x by c a s t w m (Drained by' objects) h = absurd h
 
 -- a step with its work
-pub record Stepping (x : Shared) (by : Serial) (c : Command) (a : Answered) (s t : WorkerState) : Type 0 where
+pub record Stepping (x : Shared) (by : Serial) (c : Option Command) (a : Answered) (s t : WorkerState) : Type 0 where
   pub work : Work
   pub does : Brings s t work
   pub did : Did x.script (step_of x.script by c a s t work)
 
 -- what the command and its reply are, beside the walks
-pub record IsOfWalks (x : Shared) (by : Serial) (c : Command) (r : Reply) (s t : WorkerState) (w : Work) : Type 0 where
-  pub free : (g : ℕ) → charged (parents_of x.script) g (Some c) (Some r) ≡ 0
-  pub no_decl : decl_named c ≡ None
-  pub reply : (family : Family) → IsReply (parents_of x.script) family by c None r
+pub record IsOfWalks (x : Shared) (by : Serial) (c : Option Command) (r : Reply) (s t : WorkerState) (w : Work) : Type 0 where
+  pub free : (g : ℕ) → charged (parents_of x.script) g c (Some r) ≡ 0
+  pub no_decl : option_and_then decl_named c ≡ None
+  pub reply : (family : Family) → IsReplyTo (parents_of x.script) family by c None r
   pub no_cite : cited_by r ≡ None
   pub no_told : pool_told r ≡ []
   pub no_made : pool_made r ≡ []
-  pub no_rounds : DidRoundsOf x.script (step_of x.script by c (unfound r) s t w) [] c
-  pub made : walks.MayMake r (jobs_of (parents_of x.script) x.script.nodes [] c) (map job_of w.walks)
-  pub told : walks.IsToldBy x.script w.walks c r
-  pub online : (group : ℕ) → asks_online c ≡ Some group → 0 < group → MayBeOffline r ⊎ KnowsOnline s.tree group
+  pub asked : AreWalksFor x.script (step_of x.script by c (unfound r) s t w) c
+  pub online : (group : ℕ) → option_and_then asks_online c ≡ Some group → 0 < group → MayBeOffline r ⊎ KnowsOnline s.tree group
   pub meets : MeetsGroups x.script (step_of x.script by c (unfound r) s t w)
   pub cause : IsCausedBy x.script (step_of x.script by c (unfound r) s t w) r
 
-pub walks_did : (x : Shared) → IsTableOf x → (by : Serial) (c : Command) (r : Reply) (s t : WorkerState) (w : Work) → Walked x.script by c (unfound r) s t w → Freed x by w.core.made w.ops
+pub walks_did : (x : Shared) → IsTableOf x → (by : Serial) (c : Option Command) (r : Reply) (s t : WorkerState) (w : Work) → Walked x.script by c (unfound r) s t w → Freed x by w.core.made w.ops
     → AllByRecursion (λ (o : Object). o.birth < length (parents_of x.script)) (freed_in w.core.made) → w.charges ≡ 0 → w.uncharges ≡ length (freed_in w.core.made) → IsOfWalks x by c r s t w → Did x.script (step_of x.script by c (unfound r) s t w)
 walks_did x table by c r s t w walked freed born charges uncharges is = record {
   entries = record {
@@ -91,10 +86,7 @@ walks_did x table by c r s t w walked freed born charges uncharges is = record {
   };
   walks = record {
     each = walked.each;
-    rounds = [];
-    refused = is.no_rounds;
-    made = is.made;
-    told = is.told;
+    asked = is.asked;
     seen = walked.seen;
     maps = walked.maps;
     cleared = walked.cleared;

@@ -56,6 +56,7 @@ use Rattle.shr_assemble.proofs.WalkingParts.{found_cases}
 use Rattle.shr_assemble.proofs.WalkingOne.{whole, OneWalk, one_walk}
 use Rattle.shr_assemble.proofs.WalkingWell.{record_below_whole, record_below_cut, record_root_whole, record_root_cut, record_offline}
 use Rattle.shr_assemble.proofs.WalkingSteps.{IsScanOne, Walked}
+use Rattle.std.specs.Prelude.{Option}
 
 -- what these entries freed was uncharged, group by group
 abbrev pub Freed : Shared → Serial → List Made → List UseStep → Type 0
@@ -166,7 +167,7 @@ pub record IsNoted (walk : Walk) (answer : WalkAnswer) (walks : List WalkRecord)
   pub answer_is : noted.answer ≡ answer
 
 -- what a walk gave: it left no record only where there was no memory for one
-pub record Gave (x : Shared) (walk : Walk) (c : Command) (a : Answered) (answer : WalkAnswer) (s t : WorkerState) : Type 0 where
+pub record Gave (x : Shared) (walk : Walk) (c : Option Command) (a : Answered) (answer : WalkAnswer) (s t : WorkerState) : Type 0 where
   pub work : Work
   pub walked : Walked x.script walk.by c a s t work
   pub told : ((work.walks ≡ []) × (answer ≡ answered.Memory 0)) ⊎ IsNoted walk answer work.walks
@@ -190,7 +191,7 @@ same_whole words w r none no_walk =
     λ i. record { core = core i; ops = ops i; charges = charges i; uncharges = uncharges i; words = loaded i; tree = tree i; gives = gives i; moves = moves i; walks = walks i; carries = carries i }
 
 -- no walk was made
-pub idle_walked : (script : Script) (by : Serial) (c : Command) (a : Answered) (s t : WorkerState) → Does s t no_work → Walked script by c a s t no_work
+pub idle_walked : (script : Script) (by : Serial) (c : Option Command) (a : Answered) (s t : WorkerState) → Does s t no_work → Walked script by c a s t no_work
 idle_walked script by c a s t d = record {
   does = d;
   each = λ i r e. absurd (none-some r e);
@@ -208,7 +209,7 @@ idle_walked script by c a s t d = record {
   carries = refl;
 }
 
-module _ (x : Shared) (table : IsTableOf x) (walk : Walk) (c : Command) (a : Answered) (s t : WorkerState) (number : walk.number ≡ length s.walks) (node : walk.node < x.script.nodes) (group : walk.group < length (parents_of x.script)) where
+module _ (x : Shared) (table : IsTableOf x) (walk : Walk) (c : Option Command) (a : Answered) (s t : WorkerState) (number : walk.number ≡ length s.walks) (node : walk.node < x.script.nodes) (group : walk.group < length (parents_of x.script)) where
   gave_one : (maps : Kept MapSeen) (tries : Kept Attempt) (answer : WalkAnswer) (words : List charge.Loaded) (w : Work) → OneWalk x walk maps tries answer words w s t → Gave x walk c a answer s t
   gave_one maps tries answer words w one = record {
     work = whole w words (record_of walk maps tries answer);

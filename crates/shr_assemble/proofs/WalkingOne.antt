@@ -1,6 +1,6 @@
 -- One walk: from its record and its work to what the report asks of it.
 use Rattle.std.proofs.Common.{◌≡◌, ℕ, zero, suc, ◌+◌, ◌<◌, ◌≤◌, ◌⊎◌, inl, inr, ⊎_elim, true, false, List, [], ◌∷◌, length, map, sym, refl, ap, subst, ◌∙◌, arith}
-use Rattle.std.specs.Prelude.{slice_get, Some, filter_map, sum_by, ◌&&◌}
+use Rattle.std.specs.Prelude.{slice_get, Option, Some, filter_map, sum_by, ◌&&◌}
 use Rattle.std.specs.Option.{is_some}
 use Rattle.std.proofs.lemmas.List.{append-nil}
 use Rattle.std.proofs.lemmas.Option.{same_Some, none-some}
@@ -85,7 +85,7 @@ only_scan walk start r m policy (MovedIn child objects) number passes h = absurd
 only_scan walk start r m policy Closed number passes h = absurd h
 only_scan walk start r m policy (Drained by objects) number passes h = absurd h
 
-module _ (x : Shared) (table : IsTableOf x) (walk : Walk) (c : Command) (a : Answered) (maps : Kept MapSeen) (tries : Kept Attempt) (answer : WalkAnswer) (words : List charge.Loaded) (w : Work) (s t : WorkerState) (one : OneWalk x walk maps tries answer words w s t) where
+module _ (x : Shared) (table : IsTableOf x) (walk : Walk) (c : Option Command) (a : Answered) (maps : Kept MapSeen) (tries : Kept Attempt) (answer : WalkAnswer) (words : List charge.Loaded) (w : Work) (s t : WorkerState) (one : OneWalk x walk maps tries answer words w s t) where
   abbrev r_of : WalkRecord
   r_of = record_of walk maps tries answer
 

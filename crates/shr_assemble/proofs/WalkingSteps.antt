@@ -143,7 +143,7 @@ knows_closed_later s t b k h = (h.0, subst (λ (l : List Known). Contains l (rec
 sum_both : (p : Place) (xs ys : List PlaceAmount) (f : PassRecord → ℕ) (ps qs : List PassRecord) → sum_at p xs ≡ sum_by f ps → sum_at p ys ≡ sum_by f qs → sum_at p (xs ++ ys) ≡ sum_by f (ps ++ qs)
 sum_both p xs ys f ps qs d e = omega (arith, sum_by-append (amount_at p) xs ys, sum_by-append f ps qs, d, e)
 
-module _ (script : Script) (by : Serial) (c : Command) (a : Answered) where
+module _ (script : Script) (by : Serial) (c : Option Command) (a : Answered) where
   -- a step of this command with this answer
   abbrev pub step_of : WorkerState → WorkerState → Work → Step
   step_of s t w = record { by = by; command = c; answered = a; before = s; after = t; work = w }

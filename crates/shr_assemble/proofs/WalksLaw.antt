@@ -39,7 +39,7 @@ use Rattle.shr_report.specs.WalksLawful.{IsOfPass, AreRoundsOf, AreWalksOf, IsTo
 use Rattle.shr_assemble.specs.Steps.{Step, IsAmong, gathered, steps_of}
 use Rattle.shr_assemble.specs.Entries as entries
 use Rattle.shr_assemble.specs.Entries.{IsScanned, IsCited}
-use Rattle.shr_assemble.specs.Walks.{mapped_in, cleared_in, word_of, DidRoundsOf}
+use Rattle.shr_assemble.specs.Walks.{mapped_in, cleared_in, word_of, DidRoundsOf, DidJobs, AreWalksFor}
 use Rattle.shr_assemble.specs.Charges.{ops_at}
 use Rattle.shr_assemble.specs.Runs.{all_cleared, IsRun}
 use Rattle.shr_assemble.proofs.Gathering.{each_among, gathered_has, among_right, among_begins, among_flat, flat_among, has_step, some_at, at_some}
@@ -133,13 +133,15 @@ module _ (s : Script) (r : Report) (workers : List (List Step)) (run : IsRun s r
   }
   rounds_are by c x rounds ops d = d
 
+  jobs_did : (by : Serial) (c : Command) (a : Answered) (t : Stepped s r workers run by c a) → DidJobs s t.step c
+  jobs_did by c a t = subst (AreWalksFor s t.step) t.command t.did.walks.asked
+
   walks_of_command : (by : Serial) (c : Command) (a : Answered) → Stepped s r workers run by c a → AreWalksOf s r by c a.reply
-  walks_of_command by c a t = record {
-    rounds = t.did.walks.rounds;
-    refused = subst (λ (y : Answered). AreRoundsOf s r by c y.reply t.did.walks.rounds) t.answered (rounds_are by c t.step t.did.walks.rounds ops (subst (DidRoundsOf s t.step t.did.walks.rounds) t.command t.did.walks.refused));
-    made = subst (λ (l : List WalkRecord). MayMake a.reply (jobs_of (parents_of s) s.nodes t.did.walks.rounds c) (map job_of l)) (sym (walks_are by.worker by.command t.step t.at))
-        (subst (λ (d : Command). MayMake a.reply (jobs_of (parents_of s) s.nodes t.did.walks.rounds d) (map job_of t.step.work.walks)) t.command
-        (subst (λ (y : Answered). MayMake y.reply (jobs_of (parents_of s) s.nodes t.did.walks.rounds t.step.command) (map job_of t.step.work.walks)) t.answered t.did.walks.made));
+  walks_of_command by c a t = let d = jobs_did by c a t in record {
+    rounds = d.rounds;
+    refused = subst (λ (y : Answered). AreRoundsOf s r by c y.reply d.rounds) t.answered (rounds_are by c t.step d.rounds ops d.refused);
+    made = subst (λ (l : List WalkRecord). MayMake a.reply (jobs_of (parents_of s) s.nodes d.rounds c) (map job_of l)) (sym (walks_are by.worker by.command t.step t.at))
+        (subst (λ (y : Answered). MayMake y.reply (jobs_of (parents_of s) s.nodes d.rounds c) (map job_of t.step.work.walks)) t.answered d.made);
   }
     where
       ops : (g : ℕ) → ops_by by (uses_at r g) ≡ ops_at g t.step.work.ops
@@ -147,7 +149,7 @@ module _ (s : Script) (r : Report) (workers : List (List Step)) (run : IsRun s r
 
   told_by : (by : Serial) (c : Command) (a : Answered) → Stepped s r workers run by c a → IsToldBy s (walks_by r by) c a.reply
   told_by by c a t = subst (λ (l : List WalkRecord). IsToldBy s l c a.reply) (sym (walks_are by.worker by.command t.step t.at))
-      (subst (λ (d : Command). IsToldBy s t.step.work.walks d a.reply) t.command (subst (λ (y : Answered). IsToldBy s t.step.work.walks t.step.command y.reply) t.answered t.did.walks.told))
+      (subst (λ (y : Answered). IsToldBy s t.step.work.walks c y.reply) t.answered (jobs_did by c a t).told)
 
   -- ---- counts come after what was told before
   later : (worker n : ℕ) (w : WalkRecord) → walk_at r worker n ≡ Some w → (k entry : ℕ) (place : Place) → k < w.by.command → cited_at r (serial_of worker k) ≡ Some (at place entry) → AllByRecursion (λ version. entry < version) (versions_at place w)

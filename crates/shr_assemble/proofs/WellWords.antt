@@ -29,13 +29,13 @@ use Rattle.shr_report.specs.Parts.{parents_of, commands_in, commands_of, journal
 use Rattle.shr_report.specs.ReplyTable.{IsReply}
 use Rattle.shr_report.specs.WellFormed.{HasWords, LendsWord, IsSpelled}
 use Rattle.shr_assemble.specs.Steps.{Step, steps_of}
-use Rattle.shr_assemble.specs.Entries.{MayMake}
+use Rattle.shr_assemble.specs.Entries.{MayMake, IsReplyTo}
 use Rattle.shr_assemble.specs.Runs.{IsRun}
 use Rattle.shr_assemble.proofs.FamilyObjects.{AddIs, items_at_kept}
 use Rattle.shr_assemble.proofs.Gathering.{each_among}
 use Rattle.shr_assemble.proofs.Listed.{all_slice_by, by_slices}
 use Rattle.shr_assemble.proofs.Making.{maker, made_stands}
-use Rattle.shr_assemble.proofs.ReplyEntries.{IsEntryFor, entry_for}
+use Rattle.shr_assemble.proofs.ReplyEntries.{IsEntryFor, entry_asked}
 use Rattle.shr_assemble.proofs.RepliesLaw.{told_of}
 
 -- a fact of each command of each worker, at one
@@ -105,8 +105,8 @@ module _ (s : Script) (r : Report) (workers : List (List Step)) (run : IsRun s r
       let told = told_of s m.step m.made m.made.entry by (ap by_of m.entry ∙ of) (each_among (λ (z : Made). MayMake s m.step z z.entry) m.step.work.core.made m.made is.did.entries.each m.among) in
       let own = is.did.entries.reply (journals_of r) (λ j z q. (made_stands s r workers run m.worker m.k m.step m.at j z q).1) in
       let here : slice_get (journals_of r (at ((place_at m.made.place)) m.made.number).place) m.made.number ≡ Some e = ap (λ p. slice_get (journals_of r p) m.made.number) m.place_is ∙ (ap (slice_get (journals_of r place)) m.number ∙ stands) in
-      words_for s m.step.by m.step.command e (command_within m.worker m.k m.step.command is.command)
-      (entry_for (parents_of s) (journals_of r) m.step.by m.step.answered.reply m.step.command (id_found m.step.answered) (at (place_at m.made.place) m.made.number) e own told.cited here)
+      let entry = entry_asked (parents_of s) (journals_of r) m.step.by m.step.answered.reply m.step.command (id_found m.step.answered) (at (place_at m.made.place) m.made.number) e own told.cited here in
+      words_for s m.step.by entry.0 e (command_within m.worker m.k entry.0 (is.command ∙ entry.1)) entry.2
 
   words_at : (place : Place) (n : ℕ) (e : Entry) → slice_get (journals_of r place) n ≡ Some e → AreWords e
   words_at place n (Add by birth added key value) stands = tenant place n (Add by birth added key value) by stands refl
@@ -136,9 +136,10 @@ module _ (s : Script) (r : Report) (workers : List (List Step)) (run : IsRun s r
   hit_lends by c None at value h = absurd h
   hit_lends by c (Some id) at value h = absurd h
 
-  lends : (by : Serial) (c : Command) (found : Option ℕ) (x : Reply) → IsReply (parents_of s) (journals_of r) by c found x → LendsWord x
-  lends by c found (reply.Hit at value) h = hit_lends by c found at value h
-  lends by c found y h = tt
+  lends : (by : Serial) (o : Option Command) (found : Option ℕ) (x : Reply) → IsReplyTo (parents_of s) (journals_of r) by o found x → LendsWord x
+  lends by (Some c) found (reply.Hit at value) h = hit_lends by c found at value h
+  lends by None found (reply.Hit at value) h = absurd h.1
+  lends by o found y h = tt
 
   -- the answers of a worker lend words
   pub answers_lend : (worker k : ℕ) (x : Step) → slice_get (steps_of workers worker) k ≡ Some x → LendsWord x.answered.reply

@@ -31,7 +31,7 @@ use Rattle.shr_report.specs.Parts.{parents_of, puts_of, commands_in, commands_of
 use Rattle.shr_report.specs.Puts.{IsEachAdded, DoPutsAddUp}
 use Rattle.shr_report.specs.ReplyTable.{IsReply}
 use Rattle.shr_assemble.specs.Charges.{added_below}
-use Rattle.shr_assemble.specs.Steps.{Step, steps_in, steps_of}
+use Rattle.shr_assemble.specs.Steps.{Step, steps_in, steps_of, IsPut}
 use Rattle.shr_assemble.specs.Runs.{IsRun, all_made}
 use Rattle.shr_assemble.proofs.Gathering.{total_gathered, total_same_on, mine_at}
 use Rattle.shr_assemble.proofs.Listed.{sum_total}
@@ -44,13 +44,14 @@ most_one true = omega arith
 most_one false = omega arith
 
 -- it charged nothing, or it is a put answered Added and charged one
-abbrev IsChargeOf : List ℕ → Command → Reply → Type 0
-IsChargeOf ps c x = (charged ps 0 (Some c) (Some x) ≡ 0) ⊎ ((is_put c ≡ true) × ((a : At) × (x ≡ reply.Added a)) × (charged ps 0 (Some c) (Some x) ≤ 1))
+abbrev IsChargeOf : List ℕ → Option Command → Reply → Type 0
+IsChargeOf ps c x = (charged ps 0 c (Some x) ≡ 0) ⊎ (IsPut c × ((a : At) × (x ≡ reply.Added a)) × (charged ps 0 c (Some x) ≤ 1))
 
-charge_of : (ps : List ℕ) (c : Command) (x : Reply) → IsChargeOf ps c x
-charge_of ps (Put group node decl key value) (reply.Added a) = inr (refl, (a, refl), most_one (is_at_or_above ps 0 group))
-charge_of ps (Put group node decl key value) x = inl refl
-charge_of ps c x = inl refl
+charge_of : (ps : List ℕ) (c : Option Command) (x : Reply) → IsChargeOf ps c x
+charge_of ps None x = inl refl
+charge_of ps (Some (Put group node decl key value)) (reply.Added a) = inr (refl, (a, refl), most_one (is_at_or_above ps 0 group))
+charge_of ps (Some (Put group node decl key value)) x = inl refl
+charge_of ps (Some c) x = inl refl
 
 -- ---- sums
 each_most : {A : Type 0} (f g : A → ℕ) (xs : List A) → Each (λ x. f x ≤ g x) xs → total f xs ≤ total g xs
@@ -82,14 +83,23 @@ flat_long f (x ∷ xs) = omega (arith, length-append (f x) (flat_map f xs), flat
 abbrev puts_in : List Command → ℕ
 puts_in cs = total (λ (c : Command). cond {A = ℕ} (is_put c) 1 0) cs
 
-abbrev asked : Step → ℕ
-asked y = cond {A = ℕ} (is_put y.command) 1 0
+-- how many puts a step was asked for
+abbrev asks : Option Command → ℕ
+asks None = 0
+asks (Some c) = cond {A = ℕ} (is_put c) 1 0
 
-row_puts : (mine : List Step) (cs : List Command) → length cs ≡ length mine → ((k : ℕ) (y : Step) → slice_get mine k ≡ Some y → slice_get cs k ≡ Some y.command) → total asked mine ≡ puts_in cs
+abbrev asked : Step → ℕ
+asked y = asks y.command
+
+asks_one : (o : Option Command) → IsPut o → asks o ≡ 1
+asks_one None h = absurd h
+asks_one (Some c) h = ap (λ (b : Bool). cond {A = ℕ} b 1 0) h
+
+row_puts : (mine : List Step) (cs : List Command) → length cs ≤ length mine → ((k : ℕ) (y : Step) → slice_get mine k ≡ Some y → slice_get cs k ≡ y.command) → total asked mine ≡ puts_in cs
 row_puts [] [] long each = refl
 row_puts [] (c ∷ cs) long each = absurd (omega (arith, long))
-row_puts (y ∷ mine) [] long each = absurd (omega (arith, long))
-row_puts (y ∷ mine) (c ∷ cs) long each = let same = ap (λ (d : Command). cond {A = ℕ} (is_put d) 1 0) (same_Some c y.command (each 0 y refl)) in
+row_puts (y ∷ mine) [] long each = let none = ap asks (each 0 y refl) in omega (arith, none, row_puts mine [] (omega arith) (λ k z e. each (suc k) z e))
+row_puts (y ∷ mine) (c ∷ cs) long each = let same = ap asks (each 0 y refl) in
     omega (arith, same, row_puts mine cs (omega (arith, long)) (λ k z e. each (suc k) z e))
 
 rows_puts : (teams : List (List Step)) (ws : List WorkerScript) → ((i : ℕ) → total asked (steps_in (slice_get teams i)) ≡ puts_in (commands_in (slice_get ws i))) → total (λ mine. total asked mine) teams ≡ total (λ (w : WorkerScript). puts_in w.commands.items) ws
@@ -155,16 +165,16 @@ module _ (s : Script) (r : Report) (workers : List (List Step)) (run : IsRun s r
     total_gathered root_added (λ (y : Step). y.work.core.made) workers,
   )
 
-  charged_is : (worker k : ℕ) (y : Step) → slice_get (steps_of workers worker) k ≡ Some y → charged_by y ≡ charged (parents_of s) 0 (Some y.command) (Some y.answered.reply)
+  charged_is : (worker k : ℕ) (y : Step) → slice_get (steps_of workers worker) k ≡ Some y → charged_by y ≡ charged (parents_of s) 0 y.command (Some y.answered.reply)
   charged_is worker k y at = sym (sum_total root_added y.work.core.made) ∙ (run.steps.each worker k y at).did.charges.added 0
 
   -- a step adds no more than one object, and only a put does
   charged_most : (worker k : ℕ) (y : Step) → slice_get (steps_of workers worker) k ≡ Some y → charged_by y ≤ asked y
   charged_most worker k y at = let is = charged_is worker k y at in ⊎_elim (λ none. omega (arith, is, none))
-      (λ h. let put : asked y ≡ 1 = ap (λ (b : Bool). cond {A = ℕ} b 1 0) h.0 in let most = h.2 in omega (arith, is, put, most)) (charge_of (parents_of s) y.command y.answered.reply)
+      (λ h. let put : asked y ≡ 1 = asks_one y.command h.0 in let most = h.2 in omega (arith, is, put, most)) (charge_of (parents_of s) y.command y.answered.reply)
 
-  charged_less : (worker k : ℕ) (y : Step) → slice_get (steps_of workers worker) k ≡ Some y → is_put y.command ≡ true → ((a : At) → y.answered.reply ≡ reply.Added a → ⊥) → charged_by y + 1 ≤ asked y
-  charged_less worker k y at put not = let is = charged_is worker k y at in let one : asked y ≡ 1 = ap (λ (b : Bool). cond {A = ℕ} b 1 0) put in
+  charged_less : (worker k : ℕ) (y : Step) → slice_get (steps_of workers worker) k ≡ Some y → IsPut y.command → ((a : At) → y.answered.reply ≡ reply.Added a → ⊥) → charged_by y + 1 ≤ asked y
+  charged_less worker k y at put not = let is = charged_is worker k y at in let one : asked y ≡ 1 = asks_one y.command put in
       ⊎_elim (λ none. omega (arith, is, none, one)) (λ h. absurd (not h.1.0 h.1.1)) (charge_of (parents_of s) y.command y.answered.reply)
 
   row_at : (worker : ℕ) (mine : List Step) → slice_get workers worker ≡ Some mine → (k : ℕ) (y : Step) → slice_get mine k ≡ Some y → slice_get (steps_of workers worker) k ≡ Some y
@@ -174,14 +184,14 @@ module _ (s : Script) (r : Report) (workers : List (List Step)) (run : IsRun s r
   row_most worker mine at = slices_most charged_by asked mine (λ k y e. charged_most worker k y (row_at worker mine at k y e))
 
   all_puts : total (λ mine. total asked mine) workers ≡ puts_of s
-  all_puts = rows_puts workers s.workers.items (λ i. row_puts (steps_of workers i) (commands_of s i) (run.steps.commands i) (λ k y e. (run.steps.each i k y e).command)) ∙ sym (puts_are s.workers.items)
+  all_puts = rows_puts workers s.workers.items (λ i. row_puts (steps_of workers i) (commands_of s i) (let same = run.steps.commands i in omega (arith, same)) (λ k y e. (run.steps.each i k y e).command)) ∙ sym (puts_are s.workers.items)
 
   -- no more objects were added than the script has puts
   pub added_few : length (added_in (places_of r) (journals_of r)) ≤ puts_of s
   added_few = omega (arith, by_steps, slices_most (λ mine. total charged_by mine) (λ mine. total asked mine) workers row_most, all_puts)
 
   -- and less than that where a put was not answered so
-  pub added_fewer : (worker k : ℕ) (y : Step) → slice_get (steps_of workers worker) k ≡ Some y → is_put y.command ≡ true → ((a : At) → y.answered.reply ≡ reply.Added a → ⊥) → length (added_in (places_of r) (journals_of r)) + 1 ≤ puts_of s
+  pub added_fewer : (worker k : ℕ) (y : Step) → slice_get (steps_of workers worker) k ≡ Some y → IsPut y.command → ((a : At) → y.answered.reply ≡ reply.Added a → ⊥) → length (added_in (places_of r) (journals_of r)) + 1 ≤ puts_of s
   added_fewer worker k y at put not = omega (
     arith,
     by_steps,
@@ -208,7 +218,7 @@ module _ (s : Script) (r : Report) (workers : List (List Step)) (run : IsRun s r
     asked_most : (worker k : ℕ) (y : Step) → slice_get (steps_of workers worker) k ≡ Some y → asked y ≤ charged_by y
     asked_most worker k y at = let is = charged_is worker k y at in let most = by_command y.command refl in omega (arith, is, most)
       where
-        command_is : slice_get (commands_of s worker) k ≡ Some y.command
+        command_is : slice_get (commands_of s worker) k ≡ y.command
         command_is = (run.steps.each worker k y at).command
 
         answer_is : slice_get (answers_of r worker) k ≡ Some y.answered
@@ -221,14 +231,15 @@ module _ (s : Script) (r : Report) (workers : List (List Step)) (run : IsRun s r
         put_charged group node decl key value c command None h = absurd h
         put_charged group node decl key value c command (Some id) h = below_root (Add (serial_of worker k) group true key value) c.place c.entry h.stands
 
-        by_command : (c : Command) → y.command ≡ c → cond {A = ℕ} (is_put c) 1 0 ≤ charged (parents_of s) 0 (Some c) (Some y.answered.reply)
-        by_command (Put group node decl key value) is =
-            let command = command_is ∙ ap Some is in
+        by_command : (o : Option Command) → y.command ≡ o → asks o ≤ charged (parents_of s) 0 o (Some y.answered.reply)
+        by_command None is = omega arith
+        by_command (Some (Put group node decl key value)) is =
+            let command = command_is ∙ is in
             let t = all worker k group node decl key value y.answered command answer_is in
             let told = (replies_lawful s r workers run).answered (serial_of worker k) (Put group node decl key value) y.answered command answer_is in
             subst (λ x. 1 ≤ charged (parents_of s) 0 (Some (Put group node decl key value)) (Some x)) (sym t.1)
             (put_charged group node decl key value t.0 command (id_found y.answered) (subst (IsReply (parents_of s) (journals_of r) (serial_of worker k) (Put group node decl key value) (id_found y.answered)) t.1 told))
-        by_command c is = omega arith
+        by_command (Some c) is = omega arith
 
     row_least : (worker : ℕ) (mine : List Step) → slice_get workers worker ≡ Some mine → total asked mine ≤ total charged_by mine
     row_least worker mine at = slices_most asked charged_by mine (λ k y e. asked_most worker k y (row_at worker mine at k y e))

@@ -1,5 +1,5 @@
 -- What an answer came from, in what its command did and its worker knew.
-use Rattle.std.specs.Prelude.{◌≡◌, ℕ, pos, ◌%◌, ◌^◌, ◌<◌, ◌≤◌, ◌⊎◌, nat_lt, true, false, length, take, filter, sum_by, Some, None, All}
+use Rattle.std.specs.Prelude.{◌≡◌, ℕ, pos, ◌%◌, ◌^◌, ◌<◌, ◌≤◌, ◌⊎◌, nat_lt, true, false, length, take, filter, sum_by, Option, Some, None, option_and_then, All}
 use Rattle.std.specs.Option.{IsSomeAnd}
 use Rattle.shr_base.specs.declared.journals.PoolEntry.TheVariants.{Registered, Unregistered, Idle}
 use Rattle.shr_base.specs.declared.journals.TreeEntry.TheVariants.{Done, Made as MadeEntry}
@@ -33,32 +33,32 @@ use Rattle.shr_assemble.specs.Worn.{IsWornBy}
 -- among those that the worker knows
 pub record IsOffline (s : Script) (x : Step) (entry : ℕ) : Type 0 where
   pub group : ℕ
-  pub met : group_met s x.command ≡ Some group
+  pub met : option_and_then (group_met s) x.command ≡ Some group
   pub told : IsAmong (record { group = group; state = state.Offline entry }) x.work.words ⊎ (begin_of x.after.tree.known group ≡ Some entry)
 
 -- this is the group that the command met, and it isn't there at the start
 pub record IsUnmadeBy (s : Script) (x : Step) (group : ℕ) : Type 0 where
-  pub met : group_met s x.command ≡ Some group
+  pub met : option_and_then (group_met s) x.command ≡ Some group
   pub late : is_later (later_of s) group ≡ true
 
 -- the group was made by this entry
 pub record IsMadeBy (x : Step) (entry : ℕ) : Type 0 where
   pub group : ℕ
-  pub named : group_named x.command ≡ Some group
+  pub named : option_and_then group_named x.command ≡ Some group
   pub made : IsAmong (record { number = entry; entry = MadeEntry group }) x.work.tree
   pub known : entry < length x.after.tree.known
 
 -- the group's Made stands in the journal of the tree that the worker knows
 pub record WasMade (x : Step) (entry : ℕ) : Type 0 where
   pub group : ℕ
-  pub named : group_named x.command ≡ Some group
+  pub named : option_and_then group_named x.command ≡ Some group
   pub made : made_of x.after.tree.known group ≡ Some entry
 
 -- The last charge of a `put` was refused: this operation of its own found this usage, not below the limit, in a group at or
 -- above the put's. It is its last up in that group, and in its own group it has 14.
 pub record IsOverBy (s : Script) (x : Step) (group operation usage : ℕ) : Type 0 where
   pub own : ℕ
-  pub named : group_named x.command ≡ Some own
+  pub named : option_and_then group_named x.command ≡ Some own
   pub above : IsAtOrAbove (parents_of s) group own
   pub up : IsAmong (record { group = group; operation = operation; up = true; found = pos usage; by = x.by }) x.work.ops
   pub full : IsSomeAnd (limit_of s group) (λ limit. limit ≤ usage)
@@ -69,14 +69,14 @@ pub record IsOverBy (s : Script) (x : Step) (group operation usage : ℕ) : Type
 -- is; or it isn't and no id can be registered
 pub record IsUncachedBy (s : Script) (x : Step) (entry : ℕ) : Type 0 where
   pub decl : ℕ
-  pub named : decl_named x.command ≡ Some decl
+  pub named : option_and_then decl_named x.command ≡ Some decl
   pub known : entry ≤ length x.after.core.turns.known
   pub none : is_live_decl s.ids decl (take entry x.after.core.turns.known) ≡ false
 
 -- after so many entries, which the worker knows, the command's declaration is live
 pub record IsCachedBy (s : Script) (x : Step) (entry : ℕ) : Type 0 where
   pub decl : ℕ
-  pub named : decl_named x.command ≡ Some decl
+  pub named : option_and_then decl_named x.command ≡ Some decl
   pub known : entry ≤ length x.after.core.turns.known
   pub live : is_live_decl s.ids decl (take entry x.after.core.turns.known) ≡ true
 
@@ -88,14 +88,14 @@ pub record IsFullBy (s : Script) (x : Step) (entry : ℕ) : Type 0 where
 -- the declaration was registered by this entry
 pub record IsRegisteredBy (x : Step) (id entry : ℕ) : Type 0 where
   pub decl : ℕ
-  pub named : decl_named x.command ≡ Some decl
+  pub named : option_and_then decl_named x.command ≡ Some decl
   pub from : ℕ
   pub made : IsAmong (record { number = entry; entry = Registered decl id from }) x.work.core.turns
 
 -- the registration of the declaration ended by this entry, and so many objects were drained
 pub record IsUnregisteredBy (x : Step) (id entry from to objects : ℕ) : Type 0 where
   pub decl : ℕ
-  pub named : decl_named x.command ≡ Some decl
+  pub named : option_and_then decl_named x.command ≡ Some decl
   pub made : IsAmong (record { number = entry; entry = Unregistered decl id to }) x.work.core.turns
   pub known : entry < length x.after.core.turns.known
   pub began : from ≡ from_of id (take entry x.after.core.turns.known)
@@ -120,7 +120,7 @@ pub record IsHalfBy (s : Script) (x : Step) (id entry from to objects : ℕ) (ha
 -- the group's Done stands in the journal of the tree that the worker knows
 pub record WasDone (x : Step) (entry : ℕ) : Type 0 where
   pub group : ℕ
-  pub named : group_named x.command ≡ Some group
+  pub named : option_and_then group_named x.command ≡ Some group
   pub done : done_of x.after.tree.known group ≡ Some entry
 
 -- A child that is made isn't done among all entries that the worker knows, and each lower one is. They hold all that it was
@@ -128,7 +128,7 @@ pub record WasDone (x : Step) (entry : ℕ) : Type 0 where
 pub record IsInTheWayBy (s : Script) (x : Step) (child entry : ℕ) : Type 0 where
   pub group : ℕ
   pub below : 0 < group
-  pub named : group_named x.command ≡ Some group
+  pub named : option_and_then group_named x.command ≡ Some group
   pub all : entry ≡ length x.after.tree.known
   pub lowest : undone_child (hierarchy_of s) x.after.tree.known group ≡ Some child
   pub shown : All (λ (l : Loaded). IsNamed (hierarchy_of s) x.after.tree.known l) x.after.tree.loaded
@@ -136,16 +136,16 @@ pub record IsInTheWayBy (s : Script) (x : Step) (child entry : ℕ) : Type 0 whe
 -- the group was done by this entry, with what was moved in from its lists and what was carried
 pub record IsOfflinedBy (x : Step) (entry moved deferred : ℕ) : Type 0 where
   pub group : ℕ
-  pub named : group_named x.command ≡ Some group
+  pub named : option_and_then group_named x.command ≡ Some group
   pub made : IsAmong (record { number = entry; entry = Done group }) x.work.tree
   pub known : entry < length x.after.tree.known
   pub moved_is : moved ≡ sum_by (λ (m : Made). moved_of group m.entry) x.work.core.made
   pub deferred_is : deferred ≡ sum_by (λ (c : Carry). c.amount) x.work.carries % 2 ^ 64
 
 -- what the command found used up: a counter at the tables of the caches, or the journal of a pool, of which this says no more
-abbrev pub IsUsedUpBy : Script → Step → Command → Spent → Type 0
-IsUsedUpBy s x (Release node pool units) y = Unit {0}
-IsUsedUpBy s x (Grab node pool) y = Unit {0}
+abbrev pub IsUsedUpBy : Script → Step → Option Command → Spent → Type 0
+IsUsedUpBy s x (Some (Release node pool units)) y = Unit {0}
+IsUsedUpBy s x (Some (Grab node pool)) y = Unit {0}
 IsUsedUpBy s x c y = IsWornBy s x y
 
 -- a reply has its cause in what the step did or knows
@@ -159,7 +159,7 @@ IsCausedBy s x (reply.NoCache entry) = IsUncachedBy s x entry
 IsCausedBy s x (reply.Worn spent) = IsUsedUpBy s x x.command spent
 IsCausedBy s x (reply.OfflineDone entry moved deferred) = IsOfflinedBy x entry moved deferred
 IsCausedBy s x (reply.AlreadyDone entry) = WasDone x entry
-IsCausedBy s x reply.Root = group_named x.command ≡ Some 0
+IsCausedBy s x reply.Root = option_and_then group_named x.command ≡ Some 0
 IsCausedBy s x (reply.HasChildren child entry) = IsInTheWayBy s x child entry
 IsCausedBy s x (reply.Registered id entry) = IsRegisteredBy x id entry
 IsCausedBy s x (reply.AlreadyRegistered entry) = IsCachedBy s x entry

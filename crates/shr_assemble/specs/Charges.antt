@@ -5,13 +5,12 @@ use Rattle.shr_base.specs.declared.journals.Entry.TheVariants.{Add}
 use Rattle.shr_base.specs.declared.journals.UseStep.{UseStep}
 use Rattle.shr_base.specs.declared.scripts.Script.{Script}
 use Rattle.shr_model.specs.Charges.{ups, downs, usage_after, AreTakenBack}
-use Rattle.shr_model.specs.Commands.{is_put}
 use Rattle.shr_model.specs.Freeings.{is_at_or_above, born_below}
 use Rattle.shr_model.specs.Items.{freed_by}
 use Rattle.shr_core.specs.Parts.{Made}
 use Rattle.shr_report.specs.Parts.{parents_of, limit_of}
 use Rattle.shr_report.specs.Charges.{IsDownBetween, charged}
-use Rattle.shr_assemble.specs.Steps.{Step}
+use Rattle.shr_assemble.specs.Steps.{Step, IsPut}
 
 -- the operations of a group
 abbrev pub ops_at : ℕ → List UseStep → List UseStep
@@ -32,14 +31,14 @@ pub record DidCharges (s : Script) (x : Step) : Type 0 where
   pub own : All (λ (o : UseStep). o.by ≡ x.by) x.work.ops
   pub there : All (λ (o : UseStep). o.group < length (parents_of s)) x.work.ops
   pub taken_back : (group : ℕ) → AreTakenBack (limit_of s group) (ops_at group x.work.ops)
-  pub puts : All (λ (o : UseStep). o.up ≡ true → is_put x.command ≡ true) x.work.ops
+  pub puts : All (λ (o : UseStep). o.up ≡ true → IsPut x.command) x.work.ops
   pub fourteen : (group : ℕ) → ups (ops_at group x.work.ops) ≤ 14
   pub between : (group : ℕ) → IsDownBetween (map (λ (o : UseStep). o.up) (ops_at group x.work.ops))
   -- ups less downs are the objects that were added less those that were freed
   pub nets : (group : ℕ) → group < length (parents_of s)
-      → usage_after (ops_at group x.work.ops) ≡ pos (charged (parents_of s) group (Some x.command) (Some x.answered.reply)) -ℤ pos (sum_by (freed_below (parents_of s) group) x.work.core.made)
+      → usage_after (ops_at group x.work.ops) ≡ pos (charged (parents_of s) group x.command (Some x.answered.reply)) -ℤ pos (sum_by (freed_below (parents_of s) group) x.work.core.made)
   -- the entries that added an object are that of a `put` answered Added
-  pub added : (group : ℕ) → sum_by (λ (m : Made). added_below (parents_of s) group m.entry) x.work.core.made ≡ charged (parents_of s) group (Some x.command) (Some x.answered.reply)
+  pub added : (group : ℕ) → sum_by (λ (m : Made). added_below (parents_of s) group m.entry) x.work.core.made ≡ charged (parents_of s) group x.command (Some x.answered.reply)
   -- each call made an operation at least
   pub charges : x.work.charges ≤ ups x.work.ops
   pub uncharges : x.work.uncharges ≤ downs x.work.ops

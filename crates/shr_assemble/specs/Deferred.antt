@@ -1,5 +1,5 @@
 -- What a command took from the deferred words, and gave to them.
-use Rattle.std.specs.Prelude.{◌≡◌, ◌<◌, AllPairs, All}
+use Rattle.std.specs.Prelude.{◌≡◌, ◌<◌, Some, AllPairs, All}
 use Rattle.shr_base.specs.declared.places.Place.{Place}
 use Rattle.shr_base.specs.declared.scripts.Command.TheVariants.{Offline}
 use Rattle.shr_base.specs.declared.scripts.Script.{Script}
@@ -16,7 +16,7 @@ use Rattle.shr_assemble.specs.Steps.{Step}
 pub record DidCarry (s : Script) (x : Step) (c : Carry) : Type 0 where
   pub by : c.by ≡ x.by
   pub there : IsThere s c.place
-  pub command : x.command ≡ Offline c.place.group
+  pub command : x.command ≡ Some (Offline c.place.group)
   pub answer : HasCarried x.answered.reply
   pub some : 0 < c.amount
 

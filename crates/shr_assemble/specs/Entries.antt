@@ -1,5 +1,5 @@
 -- Which entries a command makes in the journals of the lists, and which of them its reply cites.
-use Rattle.std.specs.Prelude.{◌≡◌, ℕ, ◌+◌, ◌<◌, ◌≤◌, List, [], length, slice_get, Some, Contains}
+use Rattle.std.specs.Prelude.{◌≡◌, ℕ, ◌+◌, ◌<◌, ◌≤◌, List, [], length, slice_get, Option, Some, None, Contains}
 use Rattle.shr_base.specs.declared.places.Serial.{Serial}
 use Rattle.shr_base.specs.declared.places.At.{At}
 use Rattle.shr_base.specs.declared.journals.Entry.{Entry}
@@ -7,6 +7,7 @@ use Rattle.shr_base.specs.declared.journals.Entry.TheVariants.{Add, Look, Drop, 
 use Rattle.shr_base.specs.declared.journals.TreeEntry.TheVariants.{Begin}
 use Rattle.shr_base.specs.declared.replies.Reply.{Reply}
 use Rattle.shr_base.specs.declared.replies.Reply.TheVariants as reply
+use Rattle.shr_base.specs.declared.scripts.Command.{Command}
 use Rattle.shr_base.specs.declared.scripts.Command.TheVariants as command
 use Rattle.shr_base.specs.declared.scripts.Script.{Script}
 use Rattle.shr_base.specs.declared.walks.WalkRecord.{WalkRecord}
@@ -20,6 +21,7 @@ use Rattle.shr_core.specs.Layout.{id_of, group_of, place_at, beside}
 use Rattle.shr_report.specs.Parts.{parents_of, cited_by, id_found, at}
 use Rattle.shr_report.specs.ReplyTable.{IsReply}
 use Rattle.shr_report.specs.Causes.{MayHaveBegun}
+use Rattle.shr_report.specs.Swept.{IsSweepReply}
 use Rattle.shr_assemble.specs.Steps.{Step, IsAmong}
 
 -- an entry that was made stands in a family of journals, and these items are there before it
@@ -45,7 +47,7 @@ pub record IsScanned (x : Step) (m : Made) (worker n : ℕ) : Type 0 where
 -- after all that the worker knew of the journal before.
 pub record IsClosing (s : Script) (x : Step) (m : Made) (child : ℕ) : Type 0 where
   pub group : ℕ
-  pub command : x.command ≡ command.Offline group
+  pub command : x.command ≡ Some (command.Offline group)
   pub answer : MayHaveBegun x.answered.reply
   pub below : IsAtOrAbove (parents_of s) group child
   pub begun : Contains x.after.tree.known (Begin group)
@@ -91,10 +93,15 @@ pub record IsCited (x : Step) (c : At) : Type 0 where
   pub later : Each (λ (m : Made). m.place ≡ made.place → m.number < made.number) x.before.core.traces.made
   pub filled : x.answered.reply ≡ reply.Added c → 0 < c.place.group → made.items ≡ [] → 0 < times made.place x.work.core.sets
 
+-- The answer to a command is one that it may have. That to a sweep is of a sweep, with no cache that was found.
+abbrev pub IsReplyTo : List ℕ → Family → Serial → Option Command → Option ℕ → Reply → Type 0
+IsReplyTo parents family by (Some c) found x = IsReply parents family by c found x
+IsReplyTo parents family by None found x = (found ≡ None) × IsSweepReply x
+
 -- the entries that a command made in the journals of lists, and what its answer cites of them
 pub record DidEntries (s : Script) (x : Step) : Type 0 where
   pub each : Each (λ (m : Made). MayMake s x m m.entry) x.work.core.made
   -- in each family of journals in which these entries stand, the answer is one that the command may have
   pub reply : (family : Family) → Each (StandsIn (parents_of s) family) x.work.core.made
-      → IsReply (parents_of s) family x.by x.command (id_found x.answered) x.answered.reply
+      → IsReplyTo (parents_of s) family x.by x.command (id_found x.answered) x.answered.reply
   pub cited : (c : At) → cited_by x.answered.reply ≡ Some c → IsCited x c

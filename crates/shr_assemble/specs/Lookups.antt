@@ -1,5 +1,5 @@
 -- The lookups of a command: those of its walks, and that of the cache that it found.
-use Rattle.std.specs.Prelude.{◌≡◌, ℕ, ◌≤◌, true, List, [], ◌∷◌, ◌++◌, length, take, map, flat_map, Option, Some, None}
+use Rattle.std.specs.Prelude.{◌≡◌, ℕ, ◌≤◌, true, List, [], ◌∷◌, ◌++◌, length, take, map, flat_map, Option, Some, None, option_and_then}
 use Rattle.shr_base.specs.declared.replies.Found.{Found}
 use Rattle.shr_base.specs.declared.walks.Attempt.{Attempt}
 use Rattle.shr_base.specs.declared.walks.WalkRecord.{WalkRecord}
@@ -42,4 +42,4 @@ pub record IsFoundBy (x : Step) (decl : ℕ) (f : Found) : Type 0 where
 pub record DidLookups (s : Script) (x : Step) : Type 0 where
   -- the lookups are those of the walks and then that of the found cache
   pub numbers : map number_made x.work.core.attempts ≡ flat_map numbers_tried x.work.walks ++ number_found x.answered.found
-  pub found : (decl : ℕ) (f : Found) → decl_named x.command ≡ Some decl → x.answered.found ≡ Some f → IsFoundBy x decl f
+  pub found : (decl : ℕ) (f : Found) → option_and_then decl_named x.command ≡ Some decl → x.answered.found ≡ Some f → IsFoundBy x decl f

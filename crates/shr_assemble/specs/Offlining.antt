@@ -1,5 +1,5 @@
 -- What a command made and knew of the journal of the tree.
-use Rattle.std.specs.Prelude.{◌≡◌, ℕ, ◌<◌, ◌≤◌, ◌⊎◌, true, false, length, Some, All}
+use Rattle.std.specs.Prelude.{◌≡◌, ℕ, ◌<◌, ◌≤◌, ◌⊎◌, true, false, length, Some, option_and_then, All}
 use Rattle.shr_base.specs.declared.places.Place.{Place}
 use Rattle.shr_base.specs.declared.journals.TreeEntry.{TreeEntry}
 use Rattle.shr_base.specs.declared.journals.TreeEntry.TheVariants.{Begin, Done, Made as MadeEntry}
@@ -39,23 +39,23 @@ pub record MeetsGroups (s : Script) (x : Step) : Type 0 where
   -- a group that it names as not made its worker didn't know to be made
   pub unmade : (group : ℕ) → x.answered.reply ≡ reply.NotMade group → KnowsUnmade (hierarchy_of s) x.before.tree group
   -- a group that it shows to be made was met
-  pub met : (group : ℕ) → made_shown x.command x.answered.reply ≡ Some group → HasMet s x group
+  pub met : (group : ℕ) → option_and_then (λ c. made_shown c x.answered.reply) x.command ≡ Some group → HasMet s x group
 
 -- a Begin is of an `offline` that was answered so, whose worker didn't know that the group went offline
 pub record IsBegun (x : Step) (group : ℕ) : Type 0 where
-  pub command : x.command ≡ Offline group
+  pub command : x.command ≡ Some (Offline group)
   pub answer : MayHaveBegun x.answered.reply
   pub first : KnowsOnline x.before.tree group
 
 -- A Done is of an `offline` whose answer cites it. The worker knows that each list of the group is closed.
 pub record IsEnded (s : Script) (x : Step) (group n : ℕ) : Type 0 where
-  pub command : x.command ≡ Offline group
+  pub command : x.command ≡ Some (Offline group)
   pub answer : is_done_by n x.answered.reply ≡ true
   pub closed : (place : Place) → IsThere s place → place.group ≡ group → KnowsClosed x.after.core (place_number place)
 
 -- a Made is of a `mkgroup` whose answer cites it
 pub record IsMaking (x : Step) (group n : ℕ) : Type 0 where
-  pub command : x.command ≡ MkGroup group
+  pub command : x.command ≡ Some (MkGroup group)
   pub answer : x.answered.reply ≡ reply.Made n
 
 -- an entry of the journal of the tree is of the command that made it
@@ -69,5 +69,5 @@ pub record DidTree (s : Script) (x : Step) : Type 0 where
   -- each entry comes after all that the worker knew
   pub each : All (λ (m : Made). (length x.before.tree.known ≤ m.number) × IsEntryOf s x m.number m.entry) x.work.tree
   -- a command that asks whether its group is online, and isn't answered as where it isn't, didn't know that it went offline
-  pub online : (group : ℕ) → asks_online x.command ≡ Some group → 0 < group → MayBeOffline x.answered.reply ⊎ KnowsOnline x.before.tree group
+  pub online : (group : ℕ) → option_and_then asks_online x.command ≡ Some group → 0 < group → MayBeOffline x.answered.reply ⊎ KnowsOnline x.before.tree group
   pub meets : MeetsGroups s x

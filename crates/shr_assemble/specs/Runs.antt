@@ -1,5 +1,5 @@
 -- A run, in plain data: a report, the steps of its workers, and what was left of the tables.
-use Rattle.std.specs.Prelude.{◌≡◌, ℕ, ◌%◌, ◌<◌, ◌≤◌, ◌&&◌, nat_lt, nat_le, true, cond, List, [], ◌∷◌, length, drop, map, flat_map, codes, slice_get, Some, All, IsPermutation}
+use Rattle.std.specs.Prelude.{◌≡◌, ℕ, ◌%◌, ◌<◌, ◌≤◌, ◌&&◌, nat_lt, nat_le, true, cond, List, [], ◌∷◌, length, drop, map, flat_map, codes, slice_get, Some, option_and_then, All, IsPermutation}
 use Rattle.std.specs.List.{AllByRecursion}
 use Rattle.shr_base.specs.declared.places.Place.{Place}
 use Rattle.shr_base.specs.declared.ends.PlaceAmount.{PlaceAmount}
@@ -88,7 +88,7 @@ pub record IsNew (s : Script) (t : WorkerState) : Type 0 where
 -- a step of a worker by its number
 pub record IsStep (s : Script) (r : Report) (worker k : ℕ) (x : Step) : Type 0 where
   pub by : x.by ≡ serial_of worker k
-  pub command : slice_get (commands_of s worker) k ≡ Some x.command
+  pub command : slice_get (commands_of s worker) k ≡ x.command
   pub answered : slice_get (answers_of r worker) k ≡ Some x.answered
   pub did : Did s x
 
@@ -150,7 +150,7 @@ pub record ArePoolAndLookups (s : Script) (r : Report) (workers : List (List Ste
   pub once : (n : ℕ) → total (hit_turn n) (all_turns workers) ≡ cond (nat_le (length (decls_on s)) n && nat_lt n (length r.pool.items)) 1 0
   pub printed : length r.lookups.items ≡ s.ids
   -- the registration in which a found cache's lookup lies ended after it
-  pub ended : (worker k decl : ℕ) (x : Step) (f : Found) → slice_get (steps_of workers worker) k ≡ Some x → decl_named x.command ≡ Some decl → x.answered.found ≡ Some f
+  pub ended : (worker k decl : ℕ) (x : Step) (f : Found) → slice_get (steps_of workers worker) k ≡ Some x → option_and_then decl_named x.command ≡ Some decl → x.answered.found ≡ Some f
       → is_before f.number (end_of f.id (drop f.entry r.pool.items)) ≡ true
   pub last : (id : ℕ) → last_number id r.pool.items ≤ lookups_at r id
   -- each number of an id was drawn by one step

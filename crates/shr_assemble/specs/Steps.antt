@@ -1,10 +1,12 @@
--- What the workers did, command by command.
-use Rattle.std.specs.Prelude.{◌≡◌, ℕ, ◌+◌, List, [], ◌∷◌, ◌++◌, flat_map, slice_get, Option, Some, None}
+-- What the workers did: each command, and behind them the sweep of a script that has one.
+use Rattle.std.specs.Prelude.{◌≡◌, ℕ, ◌+◌, true, List, [], ◌∷◌, ◌++◌, flat_map, slice_get, Option, Some, None}
+use Rattle.std.specs.Option.{IsSomeAnd}
 use mathlib.Core.Option.{some}
 use lib.ListN.{get_elem?}
 use Rattle.shr_base.specs.declared.places.Serial.{Serial}
 use Rattle.shr_base.specs.declared.replies.Answered.{Answered}
 use Rattle.shr_base.specs.declared.scripts.Command.{Command}
+use Rattle.shr_model.specs.Commands.{is_put}
 use Rattle.shr_seats.specs.Weights.{Begins}
 use Rattle.shr_core.specs.Gained.{Adds}
 use Rattle.shr_charge.specs.Charging.{AreRising}
@@ -12,14 +14,19 @@ use Rattle.shr_charge.specs.Views.{both_uses}
 use Rattle.shr_deferred.specs.Moves.{both}
 use Rattle.shr_walk.specs.State.{WorkerState, Work}
 
--- a command with its answer, the worker's state before and after it, and what it added
+-- What a worker did of its own: one of its commands, or its part of the sweep, which has none. With its answer, the worker's
+-- state before and after it, and what it added.
 pub record Step : Type 0 where
   pub by : Serial
-  pub command : Command
+  pub command : Option Command
   pub answered : Answered
   pub before : WorkerState
   pub after : WorkerState
   pub work : Work
+
+-- what a step was asked is a put
+abbrev pub IsPut : Option Command → Type 0
+IsPut c = IsSomeAnd c (λ d. is_put d ≡ true)
 
 -- an element of a list
 abbrev pub IsAmong : {A : Type 0} → A → List A → Type 0

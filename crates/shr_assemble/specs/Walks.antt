@@ -1,10 +1,11 @@
 -- The walks of a command.
-use Rattle.std.specs.Prelude.{◌≡◌, ◌≢◌, ℕ, ◌+◌, ◌<◌, ◌≤◌, true, false, ◌==◌, List, [], length, map, flat_map, count_by, slice_get, Some}
+use Rattle.std.specs.Prelude.{◌≡◌, ◌≢◌, ℕ, ◌+◌, ◌<◌, ◌≤◌, true, false, ◌==◌, List, [], length, map, flat_map, count_by, slice_get, Option, Some, None}
 use Rattle.std.specs.List.{AllByRecursion, range_with_len}
 use Rattle.shr_base.specs.declared.replies.Reply.TheVariants as reply
 use Rattle.shr_base.specs.declared.scripts.Command.{Command}
 use Rattle.shr_base.specs.declared.scripts.Command.TheVariants.{Put}
 use Rattle.shr_base.specs.declared.scripts.Script.{Script}
+use Rattle.shr_base.specs.declared.scripts.Sweep.{Sweep}
 use Rattle.shr_base.specs.declared.walks.Attempt.{Attempt}
 use Rattle.shr_base.specs.declared.walks.Ending.TheVariants as ending
 use Rattle.shr_base.specs.declared.walks.MapSeen.{MapSeen}
@@ -26,6 +27,7 @@ use Rattle.shr_core.specs.Parts.{Counted, Mapped}
 use Rattle.shr_walk.specs.Fresh.{AreFresh}
 use Rattle.shr_report.specs.Parts.{parents_of, limit_of, EachAttempt}
 use Rattle.shr_report.specs.LawfulWalk.{IsBegun, IsLastOfCut, IsPlaced}
+use Rattle.shr_report.specs.Swept.{IsSweepWalk}
 use Rattle.shr_report.specs.WalksLawful.{over_at, MayMake, IsToldBy}
 use Rattle.shr_report.specs.WellFormed.{IsWalkWell}
 use Rattle.shr_assemble.specs.Steps.{Step, IsAmong}
@@ -81,14 +83,29 @@ abbrev pub DidRoundsOf : Script → Step → List ℕ → Command → Type 0
 DidRoundsOf s x rounds (Put group node decl key value) = DidRounds s x group rounds
 DidRoundsOf s x rounds c = rounds ≡ []
 
--- the walks that a command made
+-- the walks are those of a command, and its answer is theirs
+pub record DidJobs (s : Script) (x : Step) (c : Command) : Type 0 where
+  pub rounds : List ℕ
+  pub refused : DidRoundsOf s x rounds c
+  pub made : MayMake x.answered.reply (jobs_of (parents_of s) s.nodes rounds c) (map job_of x.work.walks)
+  pub told : IsToldBy s x.work.walks c x.answered.reply
+
+-- the walks are those of a helper of the script's sweep, and its answer is theirs
+pub record DidSweep (s : Script) (x : Step) : Type 0 where
+  pub sweep : Sweep
+  pub asked : s.sweep ≡ Some sweep
+  pub walks : AllByRecursion (IsSweepWalk s sweep) x.work.walks
+
+-- the walks are those that a step was asked for
+abbrev pub AreWalksFor : Script → Step → Option Command → Type 0
+AreWalksFor s x (Some c) = DidJobs s x c
+AreWalksFor s x None = DidSweep s x
+
+-- the walks that a step made
 pub record DidWalks (s : Script) (x : Step) : Type 0 where
   pub each : (i : ℕ) (w : WalkRecord) → slice_get x.work.walks i ≡ Some w → DidWalk s x (length x.before.walks + i) w
-  -- the walks are those of the command, and the answer is theirs
-  pub rounds : List ℕ
-  pub refused : DidRoundsOf s x rounds x.command
-  pub made : MayMake x.answered.reply (jobs_of (parents_of s) s.nodes rounds x.command) (map job_of x.work.walks)
-  pub told : IsToldBy s x.work.walks x.command x.answered.reply
+  -- the walks are those of the command or of the sweep, and the answer is theirs
+  pub asked : AreWalksFor s x x.command
   -- the counts, the maps and the cleared bits are those of the walks, in order
   pub seen : flat_map counted_in x.work.walks ≡ x.work.core.seen
   pub maps : flat_map mapped_in x.work.walks ≡ map word_of x.work.core.maps

@@ -9,13 +9,12 @@ use Rattle.shr_base.specs.declared.replies.Spent.{Spent}
 use Rattle.shr_base.specs.declared.replies.Spent.TheVariants as spent
 use Rattle.shr_base.specs.declared.scripts.Script.{Script}
 use Rattle.shr_base.specs.declared.places.At.{At}
-use Rattle.shr_model.specs.Commands.{is_put}
 use Rattle.shr_model.specs.Groups.{is_child}
 use Rattle.shr_model.specs.Items.{HasJournal}
 use Rattle.shr_model.specs.Families.{moved_in}
 use Rattle.shr_model.specs.Places.{place_number, at_group}
 use Rattle.shr_report.specs.Parts.{parents_of, IsThere}
-use Rattle.shr_assemble.specs.Steps.{Step, IsAmong}
+use Rattle.shr_assemble.specs.Steps.{Step, IsAmong, IsPut}
 
 -- the worker knows a beginning of a place's journal, and that it leaves these objects
 pub record KnowsList (x : Step) (place : Place) (entries : List Entry) (items : List Object) : Type 0 where
@@ -25,7 +24,7 @@ pub record KnowsList (x : Step) (place : Place) (entries : List Entry) (items : 
 -- one object more would be there: that of a `put` which was not added
 pub record IsOneMore (x : Step) (held : List Object) (items : ℕ) : Type 0 where
   pub most : items ≤ length held + 1
-  pub put : is_put x.command ≡ true
+  pub put : IsPut x.command
   pub refused : (c : At) → x.answered.reply ≡ reply.Added c → ⊥
 
 -- the objects of a child's list would be there, which was not taken in
