@@ -1,0 +1,79 @@
+-- Fields of the law on journals, at known values.
+use Rattle.std.proofs.Common.{◌≡◌, ℕ, zero, suc, ◌<◌, Option, Some, None, List, [], ◌∷◌, refl, ap, subst, arith}
+use Rattle.std.specs.Prelude.{codes, slice_get}
+use Rattle.std.proofs.lemmas.Option.{slice_get_within}
+use Rattle.shr_base.specs.declared.ends.PlaceEnd.{PlaceEnd}
+use Rattle.shr_base.specs.declared.places.Place.{Place}
+use Rattle.shr_base.specs.declared.journals.DropKind.TheVariants as kind
+use Rattle.shr_base.specs.declared.journals.Entry.TheVariants.{Closed, Drop}
+use Rattle.shr_base.specs.declared.journals.TreeEntry.TheVariants.{Begin, Done}
+use Rattle.shr_model.specs.Items.{AreOutcomes}
+use Rattle.shr_model.specs.Families.{lists_moved}
+use Rattle.shr_report.specs.declared.report.Report.{Report}
+use Rattle.shr_report.specs.Parts.{IsThere, parents_of}
+use Rattle.shr_report.proofs.SecondReport as second
+use Rattle.shr_report.proofs.NotLawful.{with_list}
+use Rattle.shr_audit_lists.specs.Fields.{AreDoneClosed, AreFirsts, AreOutcomesSo, ArePlacesOnce, ArePlacesThere, IsClosedAt, IsOutcomeSo}
+
+-- a report with one list, which is closed
+abbrev closed_one : Report
+closed_one = with_list (Closed ∷ []) []
+
+one_list : (n : ℕ) (end : PlaceEnd) → slice_get closed_one.places.items n ≡ Some end → n < 1
+one_list n end at = slice_get_within closed_one.places.items n end at
+
+there : ArePlacesThere second.script closed_one
+there zero end at = let place : second.place ≡ end.place = ap (λ (x : Option PlaceEnd). place_in x) at in subst (IsThere second.script) place (record { id = omega arith; node = omega arith; group = omega arith })
+  where
+    place_in : Option PlaceEnd → Place
+    place_in None = second.place
+    place_in (Some x) = x.place
+there (suc n) end at = let few = one_list (suc n) end at in absurd (omega arith)
+
+once : ArePlacesOnce closed_one
+once n m x y at here same = let few = one_list n x at in let too = one_list m y here in omega arith
+
+firsts : AreFirsts closed_one.places.items
+firsts k end at m x lt here = let few = one_list k end at in absurd (omega arith)
+
+outcomes : AreOutcomesSo (parents_of second.script) (record second.report { places = second.kept [] })
+unfolding AreOutcomes
+outcomes place = tt
+
+-- no group is done
+done : AreDoneClosed second.script closed_one
+done place here c = let none : c.0 < 0 = c.1 in absurd (omega arith)
+
+-- a list of a node that isn't there
+no_node : ArePlacesThere second.script (record second.report { places = second.kept (record { place = record second.place { node = 3 }; entries = second.kept second.entries; items = second.kept [] } ∷ []) }) → ⊥
+no_node h = let e = (h 0 _ refl).node in absurd (omega (arith, e))
+
+-- a place that is printed twice
+abbrev twice : List PlaceEnd
+twice = record { place = second.place; entries = second.kept second.entries; items = second.kept [] } ∷ record { place = second.place; entries = second.kept []; items = second.kept [] } ∷ []
+
+printed_twice : ArePlacesOnce (record second.report { places = second.kept twice }) → ⊥
+printed_twice h = let e : 0 ≡ 1 = h 0 1 _ _ refl refl refl in absurd (omega (arith, e))
+
+second_is_not_first : AreFirsts twice → ⊥
+second_is_not_first h = h 1 _ refl 0 _ (omega arith) refl refl
+
+-- an object was dropped that never was there
+dropped_none : AreOutcomesSo (parents_of second.script) (with_list (Drop (second.by 1) 1 (codes "k1") kind.Dropped ∷ []) []) → ⊥
+unfolding AreOutcomes lists_moved
+dropped_none h = absurd (let e = (h second.place).0 in cc)
+
+missed_none : IsOutcomeSo (parents_of second.script) (with_list (Drop (second.by 1) 1 (codes "k1") kind.Miss ∷ []) []) second.place
+unfolding AreOutcomes lists_moved
+missed_none = (refl, tt)
+
+-- a closed list, and an open one
+closed : IsClosedAt (with_list (Closed ∷ []) []) 0 0 1
+closed = refl
+
+«open» : IsClosedAt second.report 0 0 1 → ⊥
+«open» h = cc
+
+-- a group is done, and its list isn't closed
+done_open : AreDoneClosed second.script (record second.report { tree = second.kept (Begin 1 ∷ Done 1 ∷ []) }) → ⊥
+done_open h = absurd (let e = h second.place (record { id = omega arith; node = omega arith; group = omega arith }) (1, omega arith, refl) in cc)

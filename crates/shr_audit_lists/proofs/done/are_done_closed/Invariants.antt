@@ -1,0 +1,8 @@
+use Rattle.std.proofs.Common.{◌<◌, ℕ}
+use Rattle.std.specs.Prelude.{Contains}
+use Rattle.shr_base.specs.declared.journals.TreeEntry.TheVariants.{Done}
+use Rattle.shr_audit_lists.specs.Fields.{IsClosedAt}
+use Rattle.shr_audit_lists.proofs.done.are_done_closed.Given as goal
+
+abbrev pub invariant-loop-group : goal.invariant-loop-group
+invariant-loop-group l = (g : ℕ) → g < l.group → Contains l.report.tree.items (Done g) → (i : ℕ) → i < l.script.ids → (n : ℕ) → n < l.script.nodes → IsClosedAt l.report i n g

@@ -1,0 +1,6 @@
+use Rattle.std.proofs.Common.{◌<◌, ℕ}
+use Rattle.shr_audit_lists.specs.Fields.{IsClosedAt}
+use Rattle.shr_audit_lists.proofs.done.is_group_closed.Given as goal
+
+abbrev pub invariant-loop-id : goal.invariant-loop-id
+invariant-loop-id l = (i : ℕ) → i < l.id → (n : ℕ) → n < l.nodes → IsClosedAt l.report i n l.group

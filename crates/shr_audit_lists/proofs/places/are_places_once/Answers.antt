@@ -1,0 +1,9 @@
+use Rattle.std.proofs.Common.{List, subst}
+use Rattle.std.specs.Bool.{Decides}
+use Rattle.shr_base.specs.declared.ends.PlaceEnd.{PlaceEnd}
+use Rattle.shr_audit_lists.specs.Fields.{AreFirsts}
+use Rattle.shr_audit_lists.proofs.Journals.{once_of}
+use Rattle.shr_audit_lists.proofs.places.are_places_once.Goals as goal
+
+pub returns : goal.returns
+returns c = once_of c.args.report.now c.are_firsts-once.result (subst (λ (ends : List PlaceEnd). Decides c.are_firsts-once.result (AreFirsts ends)) c.as_slice.ensures c.are_firsts-once.ensures)

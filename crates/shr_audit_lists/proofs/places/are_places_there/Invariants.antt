@@ -1,0 +1,8 @@
+use Rattle.std.proofs.Common.{◌≡◌, ◌<◌, ℕ, Some}
+use Rattle.std.specs.Prelude.{slice_get}
+use Rattle.shr_base.specs.declared.ends.PlaceEnd.{PlaceEnd}
+use Rattle.shr_report.specs.Parts.{IsThere}
+use Rattle.shr_audit_lists.proofs.places.are_places_there.Given as goal
+
+abbrev pub invariant-loop-end : goal.invariant-loop-end
+invariant-loop-end l = (n : ℕ) (x : PlaceEnd) → n < l.end-index → slice_get l.report.places.items n ≡ Some x → IsThere l.script x.place

@@ -1,0 +1,39 @@
+-- Fields of the law on journals, each by itself.
+use Rattle.std.specs.Prelude.{◌≡◌, ℕ, true, List, [], slice_get, Some, Contains}
+use Rattle.shr_base.specs.declared.places.Place.{Place}
+use Rattle.shr_base.specs.declared.journals.TreeEntry.TheVariants.{Done}
+use Rattle.shr_base.specs.declared.ends.PlaceEnd.{PlaceEnd}
+use Rattle.shr_base.specs.declared.scripts.Script.{Script}
+use Rattle.shr_model.specs.Items.{AreOutcomes, is_closed}
+use Rattle.shr_model.specs.Families.{lists_moved_at}
+use Rattle.shr_report.specs.declared.report.Report.{Report}
+use Rattle.shr_report.specs.Parts.{IsThere, journals_of}
+use Rattle.shr_case.specs.Places.{IsFirst}
+
+-- each printed place is one of the script
+abbrev pub ArePlacesThere : Script → Report → Type 0
+ArePlacesThere s r = (n : ℕ) (end : PlaceEnd) → slice_get r.places.items n ≡ Some end → IsThere s end.place
+
+-- no place is printed twice
+abbrev pub ArePlacesOnce : Report → Type 0
+ArePlacesOnce r = (n m : ℕ) (x y : PlaceEnd) → slice_get r.places.items n ≡ Some x → slice_get r.places.items m ≡ Some y → x.place ≡ y.place → n ≡ m
+
+-- the same, list by list
+abbrev pub AreFirsts : List PlaceEnd → Type 0
+AreFirsts ends = (k : ℕ) (end : PlaceEnd) → slice_get ends k ≡ Some end → IsFirst ends k end.place
+
+-- each entry of a place says of its outcome what is so
+abbrev pub IsOutcomeSo : List ℕ → Report → Place → Type 0
+IsOutcomeSo parents r place = AreOutcomes (lists_moved_at parents (journals_of r) place) [] (journals_of r place)
+
+-- of each place
+abbrev pub AreOutcomesSo : List ℕ → Report → Type 0
+AreOutcomesSo parents r = (place : Place) → IsOutcomeSo parents r place
+
+-- the list of an id, a node and a group is closed
+abbrev pub IsClosedAt : Report → ℕ → ℕ → ℕ → Type 0
+IsClosedAt r id node group = is_closed (journals_of r (record { id = id; node = node; group = group })) ≡ true
+
+-- each list of a group that is done is closed
+abbrev pub AreDoneClosed : Script → Report → Type 0
+AreDoneClosed s r = (place : Place) → IsThere s place → Contains r.tree.items (Done place.group) → is_closed (journals_of r place) ≡ true

@@ -1,0 +1,5 @@
+//! Whether the journals of a report are lawful for a script. Our own.
+#![tactic(auto)]
+
+pub mod done;
+pub mod places;
