@@ -1,0 +1,7 @@
+mod Mapped
+pub mod Deciding
+mod Replying
+mod Answering
+mod Risings
+pub mod Whole
+mod RepliesValues

@@ -1,0 +1,10 @@
+use Rattle.std.proofs.Common.{◌≡◌, ◌<◌, ℕ, Some, slice_get}
+use Rattle.shr_base.specs.declared.replies.Answered.{Answered}
+use Rattle.shr_base.specs.declared.scripts.Command.{Command}
+use Rattle.shr_base.specs.declared.ends.WorkerPart.{WorkerPart}
+use Rattle.shr_report.specs.Parts.{command_at, serial_of}
+use Rattle.shr_audit_replies.specs.Answers.{IsAnswered}
+use Rattle.shr_audit_replies.proofs.answered.are_workers_answered.Given as goal
+
+abbrev pub invariant-loop-worker : goal.invariant-loop-worker
+invariant-loop-worker l = (k : ℕ) (part : WorkerPart) → k < l.worker → slice_get l.parts k ≡ Some part → (n : ℕ) (a : Answered) → slice_get part.answers.items n ≡ Some a → (c : Command) → command_at l.script (serial_of k n) ≡ Some c → IsAnswered l.script l.report (serial_of k n) c a

@@ -1,0 +1,10 @@
+use Rattle.shr_base.specs.declared.scripts.Command.{Command}
+use Rattle.shr_report.specs.Parts.{command_at, serial_of}
+use Rattle.shr_audit_replies.specs.Answers.{IsAnswered}
+use Rattle.shr_audit_replies.proofs.Deciding.{at_some}
+use Rattle.shr_audit_replies.proofs.answered.is_answered.Goals as goal
+
+pub returns-in-Some : goal.returns-in-Some
+returns-in-Some c =
+    let by = serial_of c.args.worker c.args.number in
+    at_some (command_at c.args.script.now by) c.in-Some.command.now (λ (d : Command). IsAnswered c.args.script.now c.args.report.now by d c.args.answer.now) c.may_answer.result c.in-Some.ensures c.may_answer.ensures

@@ -1,0 +1,15 @@
+use Rattle.std.proofs.Common.{◌≡◌, ℕ, List, Some, slice_get, subst}
+use Rattle.std.specs.Bool.{Decides}
+use Rattle.shr_base.specs.declared.ends.PlaceEnd.{PlaceEnd}
+use Rattle.shr_base.specs.declared.journals.Entry.{Entry}
+use Rattle.shr_case.specs.Each.{EachFirst}
+use Rattle.shr_case.proofs.Eachs.{each_entry_of}
+use Rattle.shr_audit_replies.specs.Cited.{IsCited}
+use Rattle.shr_audit_replies.proofs.cited.are_entries_cited.Goals as goal
+
+pub returns : goal.returns
+returns c =
+    let r = c.args.report.now in
+    let b = c.are_lists_cited-all.result in
+    each_entry_of r (λ place n e. IsCited r place n e) b
+    (subst (λ (ends : List PlaceEnd). Decides b (EachFirst ends (λ end. (n : ℕ) (e : Entry) → slice_get end.entries.items n ≡ Some e → IsCited r end.place n e))) c.as_slice.ensures c.are_lists_cited-all.ensures)

@@ -1,0 +1,40 @@
+use Rattle.std.proofs.Common.{◌≡◌, ℕ, List, Some, slice_get, length, refl}
+use Rattle.std.specs.Bool.{Decides}
+use Rattle.std.proofs.lemmas.Option.{slice_get_read}
+use Rattle.shr_base.specs.declared.ends.PlaceEnd.{PlaceEnd}
+use Rattle.shr_base.specs.declared.journals.Entry.{Entry}
+use Rattle.shr_case.specs.Each.{EachFirst}
+use Rattle.shr_case.specs.Places.{IsFirst}
+use Rattle.shr_formed.proofs.Eachs.{all_at, fails, more_at}
+use Rattle.shr_report.specs.declared.report.Report.{Report}
+use Rattle.shr_audit_replies.specs.Cited.{IsCited}
+use Rattle.shr_audit_replies.proofs.Deciding.{first_part}
+use Rattle.shr_audit_replies.proofs.cited.are_lists_cited.Goals as goal
+
+abbrev whole : Report → PlaceEnd → Type 0
+whole r end = (n : ℕ) (e : Entry) → slice_get end.entries.items n ≡ Some e → IsCited r end.place n e
+
+abbrev part : Report → List PlaceEnd → ℕ → PlaceEnd → Type 0
+part r ends k end = IsFirst ends k end.place → whole r end
+
+pub returns-then-not-is_list_cited : goal.returns-then-not-is_list_cited
+returns-then-not-is_list_cited c =
+    let r = c.args.report.now in
+    let ends = c.args.ends.now in
+    let k = c.loop-k.k in
+    let end = c.index-ends-k.result in
+    let at : slice_get ends k ≡ Some end = slice_get_read ends (length ends) k end refl c.loop-k-test.true c.index-ends-k.is in
+    fails (part r ends k end) (EachFirst ends (whole r)) c.is_list_cited.result (first_part ends k end (whole r end) c.is_first-first.result c.is_list_cited.result (c.is_first-first.ensures end at) c.is_list_cited.ensures) c.if-not-is_list_cited.true (λ all. all k end at)
+
+pub loop-k-preserved : goal.loop-k-preserved
+loop-k-preserved c =
+    let r = c.args.report.now in
+    let ends = c.args.ends.now in
+    let k = c.loop-k.k in
+    let end = c.index-ends-k.result in
+    let at : slice_get ends k ≡ Some end = slice_get_read ends (length ends) k end refl c.loop-k-test.true c.index-ends-k.is in
+    let here : Decides c.is_list_cited.result (part r ends k end) = first_part ends k end (whole r end) c.is_first-first.result c.is_list_cited.result (c.is_first-first.ensures end at) c.is_list_cited.ensures in
+    more_at (part r ends) ends k end c.loop-k-test.true c.index-ends-k.is c.loop-k.invariant (here.0 c.if-not-is_list_cited.false)
+
+pub returns : goal.returns
+returns c = all_at (part c.args.report.now c.args.ends.now) c.args.ends.now c.loop-k.k c.loop-k-test.false c.loop-k.invariant

@@ -1,0 +1,6 @@
+use Rattle.std.proofs.Common.{◌≡◌, ◌<◌, ℕ, List, Some, slice_get}
+use Rattle.shr_base.specs.declared.scripts.PoolDecl.{PoolDecl}
+use Rattle.shr_audit_replies.proofs.heads.are_pool_names.Given as goal
+
+abbrev pub invariant-loop-i : goal.invariant-loop-i
+invariant-loop-i l = (n : ℕ) (x : List ℕ) (y : PoolDecl) → n < l.i → slice_get l.names n ≡ Some x → slice_get l.pools n ≡ Some y → x ≡ y.name

@@ -1,0 +1,12 @@
+use Rattle.std.proofs.Common.{◌≡◌, ◌+◌, ◌<◌, ℕ, Some, slice_get}
+use Rattle.shr_base.specs.declared.ends.PlaceEnd.{PlaceEnd}
+use Rattle.shr_case.specs.Places.{IsFirst}
+use Rattle.shr_audit_replies.specs.Cited.{AreRising}
+use Rattle.shr_audit_replies.specs.Rising.{AreBelow}
+use Rattle.shr_audit_replies.proofs.rising.are_lists_rising.Given as goal
+
+abbrev pub invariant-loop-k : goal.invariant-loop-k
+invariant-loop-k l = record {
+  below : AreBelow (l.k + 1) l.seen.items;
+  rising : (j : ℕ) (end : PlaceEnd) → j < l.k → slice_get l.ends j ≡ Some end → IsFirst l.ends j end.place → AreRising end.entries.items;
+}

@@ -1,0 +1,15 @@
+use Rattle.std.proofs.Common.{List, subst}
+use Rattle.std.specs.Bool.{Decides}
+use Rattle.shr_base.specs.declared.journals.Entry.{Entry}
+use Rattle.shr_audit_replies.specs.Cited.{AreRising}
+use Rattle.shr_audit_replies.proofs.Risings.{below_more}
+use Rattle.shr_audit_replies.proofs.rising.is_list_rising.Goals as goal
+
+pub returns-then-not-first-clause-seen : goal.returns-then-not-first-clause-seen
+returns-then-not-first-clause-seen c = λ t. below_more c.args.journal c.args.seen.now.items c.requires
+
+pub returns-clause-rising : goal.returns-clause-rising
+returns-clause-rising c =
+    let b = c.is_rising-rising.result in
+    let all : Decides b (AreRising c.args.end.now.entries.items) = subst (λ (es : List Entry). Decides b (AreRising es)) c.as_slice.ensures c.is_rising-rising.ensures.rising in
+    (λ t first. all.0 t, λ h. all.1 (h c.if-not-first.false))

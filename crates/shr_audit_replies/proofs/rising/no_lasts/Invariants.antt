@@ -1,0 +1,9 @@
+use Rattle.std.proofs.Common.{◌≡◌, ◌<◌, ℕ, length}
+use Rattle.shr_audit_replies.specs.Rising.{last_of}
+use Rattle.shr_audit_replies.proofs.rising.no_lasts.Given as goal
+
+abbrev pub invariant-loop-worker : goal.invariant-loop-worker
+invariant-loop-worker l = record {
+  count : length l.seen.items ≡ l._worker;
+  below : (worker : ℕ) → (last_of l.seen.items worker).journal < 1;
+}

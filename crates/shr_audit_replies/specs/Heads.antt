@@ -1,0 +1,27 @@
+-- What stands at the head of a report, and how many answers there are.
+use Rattle.std.specs.Prelude.{◌≡◌, ℕ, ◌∷◌, length, map, codes}
+use Rattle.shr_base.specs.declared.scripts.Script.{Script}
+use Rattle.shr_report.specs.declared.report.Report.{Report}
+use Rattle.shr_report.specs.Parts.{answers_of, commands_of}
+
+-- the report has the version and the sizes of the script
+pub record HasSizes (s : Script) (r : Report) : Type 0 where
+  pub version : r.version ≡ s.version
+  pub nodes : r.nodes ≡ s.nodes
+  pub ids : r.ids ≡ s.ids
+
+-- it has the paths of its groups, that of the root first
+abbrev pub HasPaths : Script → Report → Type 0
+HasPaths s r = r.groups.items ≡ codes "/" ∷ map (λ g. g.path) s.groups.items
+
+-- it has the names of its caches
+abbrev pub HasNames : Script → Report → Type 0
+HasNames s r = r.caches.items ≡ map (λ c. c.name) s.caches.items
+
+-- it has the names of its pools
+abbrev pub HasPoolNames : Script → Report → Type 0
+HasPoolNames s r = r.pools.items ≡ map (λ p. p.name) s.pools.items
+
+-- each worker has one answer per command
+abbrev pub IsCounted : Script → Report → Type 0
+IsCounted s r = (worker : ℕ) → length (answers_of r worker) ≡ length (commands_of s worker)

@@ -1,0 +1,5 @@
+pub mod Heads
+pub mod Answers
+pub mod Cited
+pub mod Rising
+pub mod Law

@@ -1,0 +1,244 @@
+//! Which replies a tenant's command may have where a cache was found, and the entries that they cite.
+
+ghost use Rattle.std.specs.Prelude.{◌≡◌, ℕ, ◌↔◌, List, Some, option_copied};
+ghost use Rattle.std.specs.Bool.{Decides};
+ghost use Rattle.shr_base.specs.declared.journals.Entry.{Entry};
+ghost use Rattle.shr_base.specs.declared.journals.Entry.TheVariants.{Add, Drop, Look, Pin};
+ghost use Rattle.shr_base.specs.declared.scripts.Command.TheVariants.{Del, Get, Put, SetPin};
+ghost use Rattle.shr_case.specs.Places.{AreInOrder};
+ghost use Rattle.shr_report.specs.Parts.{journals_of, serial_of};
+ghost use Rattle.shr_report.specs.ReplyTable.{Cites, IsReply};
+ghost use Rattle.shr_audit_replies.specs.Answers.{MayReply};
+
+use crate::entries::{Tenant, is_add, is_drop, is_look, is_pin};
+use shr_base::journals::{DropKind, Entry};
+use shr_base::places::At;
+use shr_base::replies::{Reply, Spent};
+use shr_base::scripts::Command;
+use shr_base::text::Text;
+use shr_case::places::journal_at;
+use shr_report::report::Report;
+
+// The entry that a reply cites, if it is of the id that was found and of the command's node.
+fn entry_cited(report: &Report, tenant: Tenant, at: At) -> Option<&Entry>
+    requires { AreInOrder report.now.places.items }
+    ensures { (e : Entry) → Cites (journals_of report.now) at tenant.id tenant.node e
+        ↔ (option_copied result ≡ Some e) }
+{
+    if at.place.id != tenant.id || at.place.node != tenant.node {
+        return None;
+    }
+    journal_at(report, at.place).get(at.entry as usize)
+}
+
+// Whether a reply cites the Add of its command, with this outcome.
+fn cites_add(report: &Report, tenant: Tenant, at: At, key: &Text, value: &Text, added: bool) -> bool
+    requires { AreInOrder report.now.places.items }
+    ensures { Decides result (Cites (journals_of report.now) at tenant.id tenant.node
+        (Add (serial_of tenant.worker tenant.command) tenant.group added key.now value.now)) }
+{
+    match entry_cited(report, tenant, at) {
+        Some(entry) => is_add(entry, tenant, key, value, added),
+        None => false,
+    }
+}
+
+// The same of a Look.
+fn cites_look(report: &Report, tenant: Tenant, at: At, key: &Text, hit: bool) -> bool
+    requires { AreInOrder report.now.places.items }
+    ensures { Decides result (Cites (journals_of report.now) at tenant.id tenant.node
+        (Look (serial_of tenant.worker tenant.command) tenant.group key.now hit)) }
+{
+    match entry_cited(report, tenant, at) {
+        Some(entry) => is_look(entry, tenant, key, hit),
+        None => false,
+    }
+}
+
+// The same of a Drop.
+fn cites_drop(report: &Report, tenant: Tenant, at: At, key: &Text, kind: DropKind) -> bool
+    requires { AreInOrder report.now.places.items }
+    ensures { Decides result (Cites (journals_of report.now) at tenant.id tenant.node
+        (Drop (serial_of tenant.worker tenant.command) tenant.group key.now kind)) }
+{
+    match entry_cited(report, tenant, at) {
+        Some(entry) => is_drop(entry, tenant, key, kind),
+        None => false,
+    }
+}
+
+// The same of a Pin.
+fn cites_pin(report: &Report, tenant: Tenant, at: At, key: &Text, pinned: bool, hit: bool) -> bool
+    requires { AreInOrder report.now.places.items }
+    ensures { Decides result (Cites (journals_of report.now) at tenant.id tenant.node
+        (Pin (serial_of tenant.worker tenant.command) tenant.group key.now pinned hit)) }
+{
+    match entry_cited(report, tenant, at) {
+        Some(entry) => is_pin(entry, tenant, key, pinned, hit),
+        None => false,
+    }
+}
+
+// Whether a put may have this reply where a cache was found.
+fn put_held(report: &Report, tenant: Tenant, key: &Text, value: &Text, reply: &Reply) -> bool
+    requires { AreInOrder report.now.places.items }
+    ensures { (parents : List ℕ) (decl : ℕ) → Decides result (IsReply parents
+        (journals_of report.now) (serial_of tenant.worker tenant.command)
+        (Put tenant.group tenant.node decl key.now value.now) (Some tenant.id) reply.now) }
+{
+    match reply {
+        Reply::Added { at } => cites_add(report, tenant, *at, key, value, true),
+        Reply::Exists { at } => cites_add(report, tenant, *at, key, value, false),
+        Reply::Worn {
+            spent: Spent::List { .. },
+        } => true,
+        Reply::Memory => true,
+        _ => false,
+    }
+}
+
+// The same of a get, but for the value of a hit.
+fn get_held(report: &Report, tenant: Tenant, key: &Text, reply: &Reply) -> bool
+    requires { AreInOrder report.now.places.items }
+    ensures { (parents : List ℕ) (decl : ℕ) → Decides result (MayReply parents
+        (journals_of report.now) (serial_of tenant.worker tenant.command)
+        (Get tenant.group tenant.node decl key.now) (Some tenant.id) reply.now) }
+{
+    match reply {
+        Reply::Hit { at, .. } => cites_look(report, tenant, *at, key, true),
+        Reply::Miss { at } => cites_look(report, tenant, *at, key, false),
+        Reply::Worn {
+            spent: Spent::List { .. },
+        } => true,
+        Reply::Memory => true,
+        _ => false,
+    }
+}
+
+// The same of a del.
+fn del_held(report: &Report, tenant: Tenant, key: &Text, reply: &Reply) -> bool
+    requires { AreInOrder report.now.places.items }
+    ensures { (parents : List ℕ) (decl : ℕ) → Decides result (IsReply parents
+        (journals_of report.now) (serial_of tenant.worker tenant.command)
+        (Del tenant.group tenant.node decl key.now) (Some tenant.id) reply.now) }
+{
+    match reply {
+        Reply::Dropped { at } => cites_drop(report, tenant, *at, key, DropKind::Dropped),
+        Reply::Pinned { at } => cites_drop(report, tenant, *at, key, DropKind::Pinned),
+        Reply::Miss { at } => cites_drop(report, tenant, *at, key, DropKind::Miss),
+        Reply::Worn {
+            spent: Spent::List { .. },
+        } => true,
+        Reply::Memory => true,
+        _ => false,
+    }
+}
+
+// The same of a pin or an unpin.
+fn pin_held(report: &Report, tenant: Tenant, key: &Text, pinned: bool, reply: &Reply) -> bool
+    requires { AreInOrder report.now.places.items }
+    ensures { (parents : List ℕ) (decl : ℕ) → Decides result (IsReply parents
+        (journals_of report.now) (serial_of tenant.worker tenant.command)
+        (SetPin tenant.group tenant.node decl key.now pinned) (Some tenant.id) reply.now) }
+{
+    match reply {
+        Reply::Done { at } => cites_pin(report, tenant, *at, key, pinned, true),
+        Reply::Miss { at } => cites_pin(report, tenant, *at, key, pinned, false),
+        Reply::Worn {
+            spent: Spent::List { .. },
+        } => true,
+        Reply::Memory => true,
+        _ => false,
+    }
+}
+
+/// Whether a command may have this reply where the cache with this id was found, whatever value a hit
+/// lends. Our own.
+pub fn may_held(
+    report: &Report,
+    worker: usize,
+    number: usize,
+    id: u16,
+    command: &Command,
+    reply: &Reply,
+) -> bool
+    requires { AreInOrder report.now.places.items }
+    ensures { (parents : List ℕ) → Decides result (MayReply parents (journals_of report.now)
+        (serial_of worker number) command.now (Some id) reply.now) }
+{
+    match command {
+        Command::Put {
+            group,
+            node,
+            key,
+            value,
+            ..
+        } => put_held(
+            report,
+            Tenant {
+                worker,
+                command: number,
+                group: *group,
+                node: *node,
+                id,
+            },
+            key,
+            value,
+            reply,
+        ),
+        Command::Get {
+            group,
+            node,
+            key,
+            ..
+        } => get_held(
+            report,
+            Tenant {
+                worker,
+                command: number,
+                group: *group,
+                node: *node,
+                id,
+            },
+            key,
+            reply,
+        ),
+        Command::Del {
+            group,
+            node,
+            key,
+            ..
+        } => del_held(
+            report,
+            Tenant {
+                worker,
+                command: number,
+                group: *group,
+                node: *node,
+                id,
+            },
+            key,
+            reply,
+        ),
+        Command::SetPin {
+            group,
+            node,
+            key,
+            pinned,
+            ..
+        } => pin_held(
+            report,
+            Tenant {
+                worker,
+                command: number,
+                group: *group,
+                node: *node,
+                id,
+            },
+            key,
+            *pinned,
+            reply,
+        ),
+        _ => false,
+    }
+}

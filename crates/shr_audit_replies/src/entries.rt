@@ -1,0 +1,106 @@
+//! Whether an entry is one that a reply may cite.
+
+ghost use Rattle.std.specs.Prelude.{◌≡◌};
+ghost use Rattle.std.specs.Bool.{Decides};
+ghost use Rattle.shr_base.specs.declared.journals.Entry.TheVariants.{Add, Drop, Look, Pin};
+ghost use Rattle.shr_report.specs.Parts.{serial_of};
+
+use shr_base::journals::{DropKind, Entry};
+use shr_base::places::Serial;
+use shr_base::text::Text;
+
+/// A tenant's command by its numbers: its worker and its own, the group and node that it names, and
+/// the id of the cache that was found. Our own.
+#[derive(Clone, Copy, Debug, PartialEq, Eq)]
+pub struct Tenant {
+    pub worker: usize,
+    pub command: usize,
+    pub group: u16,
+    pub node: u8,
+    pub id: u16,
+}
+
+// Whether this is that command.
+fn is_own(by: Serial, tenant: Tenant) -> bool
+    ensures { Decides result (by ≡ serial_of tenant.worker tenant.command) }
+{
+    by.worker as usize == tenant.worker && by.command as usize == tenant.command
+}
+
+/// Whether an entry is the Add of this command, with this outcome. Our own.
+pub fn is_add(entry: &Entry, tenant: Tenant, key: &Text, value: &Text, added: bool) -> bool
+    ensures { Decides result (entry.now ≡ Add
+        (serial_of tenant.worker tenant.command) tenant.group added key.now value.now) }
+{
+    match entry {
+        Entry::Add {
+            by,
+            birth,
+            added: outcome,
+            key: name,
+            value: content,
+        } => {
+            is_own(*by, tenant)
+                && *birth == tenant.group
+                && *outcome == added
+                && name.same(key)
+                && content.same(value)
+        }
+        _ => false,
+    }
+}
+
+/// Whether an entry is the Look of this command, with this outcome. Our own.
+pub fn is_look(entry: &Entry, tenant: Tenant, key: &Text, hit: bool) -> bool
+    ensures { Decides result (entry.now ≡ Look
+        (serial_of tenant.worker tenant.command) tenant.group key.now hit) }
+{
+    match entry {
+        Entry::Look {
+            by,
+            birth,
+            key: name,
+            hit: outcome,
+        } => is_own(*by, tenant) && *birth == tenant.group && name.same(key) && *outcome == hit,
+        _ => false,
+    }
+}
+
+/// Whether an entry is the Drop of this command, with this outcome. Our own.
+pub fn is_drop(entry: &Entry, tenant: Tenant, key: &Text, kind: DropKind) -> bool
+    ensures { Decides result (entry.now ≡ Drop
+        (serial_of tenant.worker tenant.command) tenant.group key.now kind) }
+{
+    match entry {
+        Entry::Drop {
+            by,
+            birth,
+            key: name,
+            kind: outcome,
+        } => is_own(*by, tenant) && *birth == tenant.group && name.same(key) && *outcome == kind,
+        _ => false,
+    }
+}
+
+/// Whether an entry is the Pin of this command, with this outcome. Our own.
+pub fn is_pin(entry: &Entry, tenant: Tenant, key: &Text, pinned: bool, hit: bool) -> bool
+    ensures { Decides result (entry.now ≡ Pin
+        (serial_of tenant.worker tenant.command) tenant.group key.now pinned hit) }
+{
+    match entry {
+        Entry::Pin {
+            by,
+            birth,
+            key: name,
+            pinned: pin,
+            hit: outcome,
+        } => {
+            is_own(*by, tenant)
+                && *birth == tenant.group
+                && name.same(key)
+                && *pin == pinned
+                && *outcome == hit
+        }
+        _ => false,
+    }
+}

@@ -1,0 +1,48 @@
+//! Commands and answers by the numbers of their workers and their own.
+
+ghost use Rattle.std.specs.Prelude.{◌≡◌, length, option_copied};
+ghost use Rattle.shr_report.specs.Parts.{answer_at, answers_of, command_at, commands_of, serial_of};
+
+use shr_base::replies::Answered;
+use shr_base::scripts::{Command, Script};
+use shr_report::report::Report;
+
+/// How many answers a worker has, none past the last part. Our own.
+pub fn count_answers(report: &Report, worker: usize) -> usize
+    ensures { result ≡ length (answers_of report.now worker) }
+{
+    match report.workers.get(worker) {
+        Some(part) => part.answers.len(),
+        None => 0,
+    }
+}
+
+/// How many commands a worker has, none past the last worker. Our own.
+pub fn count_commands(script: &Script, worker: usize) -> usize
+    ensures { result ≡ length (commands_of script.now worker) }
+{
+    match script.workers.get(worker) {
+        Some(commands) => commands.commands.len(),
+        None => 0,
+    }
+}
+
+/// The command of a worker with this number, if it has one. Our own.
+pub fn command_of(script: &Script, worker: usize, number: usize) -> Option<&Command>
+    ensures { option_copied result ≡ command_at script.now (serial_of worker number) }
+{
+    match script.workers.get(worker) {
+        Some(commands) => commands.commands.get(number),
+        None => None,
+    }
+}
+
+/// The answer of a worker with this number, if it has one. Our own.
+pub fn answer_of(report: &Report, worker: usize, number: usize) -> Option<&Answered>
+    ensures { option_copied result ≡ answer_at report.now (serial_of worker number) }
+{
+    match report.workers.get(worker) {
+        Some(part) => part.answers.get(number),
+        None => None,
+    }
+}
