@@ -1,0 +1,10 @@
+mod Amounts
+mod Words
+mod Steps
+mod Carried
+mod States
+mod Replay
+mod TablesValues
+mod Rows
+mod DrawsLaw
+mod DrawnParts

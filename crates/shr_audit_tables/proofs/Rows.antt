@@ -1,0 +1,53 @@
+-- Lists that a loop adds to, item by item.
+use Rattle.std.proofs.Common.{◌≡◌, ℕ, zero, suc, ◌+◌, ◌<◌, ◌≤◌, cond, List, [], ◌∷◌, ◌++◌, length, get_or, map, take, refl, sym, ap, subst, ◌∙◌, arith}
+use Rattle.std.specs.Prelude.{flat_map}
+use Rattle.std.specs.List.{range_with_len}
+use Rattle.std.proofs.lemmas.List.{append_assoc, append-nil, take_more, take_all, map_more, length-take-le, get_or_default}
+use Rattle.std.proofs.lemmas.List.Concat.{flat_map-append}
+use Rattle.std.proofs.lemmas.List.FromFn.{map-range_with_len_more}
+use Rattle.shr_sums.specs.declared.moves.Move.{Move}
+use Rattle.shr_audit_tables.specs.Draws.{draw_key, wanted, wanted_from}
+
+added_to : {Y : Type 0} (a whole part item next : List Y) → whole ≡ a ++ part → next ≡ whole ++ item → next ≡ a ++ (part ++ item)
+added_to {Y} a whole part item next before added = added ∙ ap (λ (l : List Y). l ++ item) before ∙ append_assoc a part item
+
+flat_one : {X Y : Type 0} (f : X → List Y) (xs : List X) (i : ℕ) (y : X) → i < length xs → y ≡ get_or xs i y → flat_map f (take (i + 1) xs) ≡ flat_map f (take i xs) ++ f y
+flat_one {X} {Y} f xs i y lt is = ap (flat_map f) (take_more xs i y lt) ∙ flat_map-append f (take i xs) (get_or xs i y ∷ []) ∙ ap (λ (l : List Y). flat_map f (take i xs) ++ l) (append-nil (f (get_or xs i y)) ∙ ap f (sym is))
+
+-- one item more
+pub flat_step : {X Y : Type 0} (f : X → List Y) (xs : List X) (i : ℕ) (y : X) (a old next : List Y) → i < length xs → y ≡ get_or xs i y → old ≡ a ++ flat_map f (take i xs) → next ≡ old ++ f y → next ≡ a ++ flat_map f (take (i + 1) xs)
+flat_step {X} {Y} f xs i y a old next lt is before added = added_to a old (flat_map f (take i xs)) (f y) next before added ∙ ap (λ (l : List Y). a ++ l) (sym (flat_one f xs i y lt is))
+
+-- the same of an item that was copied out of its list
+pub flat_copied : {X Y : Type 0} (f : X → List Y) (xs : List X) (i : ℕ) (d : X) (a old next : List Y) → i < length xs → old ≡ a ++ flat_map f (take i xs) → next ≡ old ++ f (get_or xs i d) → next ≡ a ++ flat_map f (take (i + 1) xs)
+flat_copied f xs i d a old next lt before added = flat_step f xs i (get_or xs i d) a old next lt (get_or_default xs i d (get_or xs i d) lt) before added
+
+-- all items
+pub flat_end : {X Y : Type 0} (f : X → List Y) (xs : List X) (i : ℕ) (a old : List Y) → length xs ≤ i → old ≡ a ++ flat_map f (take i xs) → old ≡ a ++ flat_map f xs
+flat_end {X} {Y} f xs i a old over before = before ∙ ap (λ (l : List X). a ++ flat_map f l) (take_all i xs over)
+
+pub map_step : {X Y : Type 0} (f : X → Y) (xs : List X) (i : ℕ) (d : X) (a old next : List Y) → i < length xs → old ≡ a ++ map f (take i xs) → next ≡ old ++ f (get_or xs i d) ∷ [] → next ≡ a ++ map f (take (i + 1) xs)
+map_step {X} {Y} f xs i d a old next lt before added = added_to a old (map f (take i xs)) (f (get_or xs i d) ∷ []) next before added ∙ ap (λ (l : List Y). a ++ l) (sym (map_more f xs i d lt))
+
+pub map_end : {X Y : Type 0} (f : X → Y) (xs : List X) (i : ℕ) (a old : List Y) → length xs ≤ i → old ≡ a ++ map f (take i xs) → old ≡ a ++ map f xs
+map_end {X} {Y} f xs i a old over before = before ∙ ap (λ (l : List X). a ++ map f l) (take_all i xs over)
+
+pub range_step : {Y : Type 0} (f : ℕ → Y) (i : ℕ) (a old next : List Y) → old ≡ a ++ map f (range_with_len 0 i) → next ≡ old ++ f i ∷ [] → next ≡ a ++ map f (range_with_len 0 (i + 1))
+range_step {Y} f i a old next before added = added_to a old (map f (range_with_len 0 i)) (f i ∷ []) next before added ∙ ap (λ (l : List Y). a ++ l) (sym (map-range_with_len_more f 0 i i (omega arith)))
+
+-- the lookups that are wanted, of one id more
+abbrev numbers_of : ℕ → ℕ → List Move
+numbers_of id count = map (λ n. wanted (draw_key id n)) (range_with_len 0 count)
+
+wanted_push : (k : ℕ) (ls : List ℕ) (l : ℕ) → wanted_from k (ls ++ l ∷ []) ≡ wanted_from k ls ++ numbers_of (k + length ls) l
+wanted_push k [] l = append-nil (numbers_of k l) ∙ ap (λ (n : ℕ). numbers_of n l) (let e : k ≡ k + 0 = omega arith in e)
+wanted_push k (x ∷ ls) l = ap (λ (m : List Move). numbers_of k x ++ m) (wanted_push (k + 1) ls l) ∙ sym (append_assoc (numbers_of k x) (wanted_from (k + 1) ls) (numbers_of ((k + 1) + length ls) l)) ∙ ap (λ (n : ℕ). (numbers_of k x ++ wanted_from (k + 1) ls) ++ numbers_of n l) (let e : (k + 1) + length ls ≡ k + suc (length ls) = omega arith in e)
+
+pub wanted_step : (ls : List ℕ) (i d : ℕ) (a old next : List Move) → i < length ls → old ≡ a ++ wanted_from 0 (take i ls) → next ≡ old ++ numbers_of i (get_or ls i d) → next ≡ a ++ wanted_from 0 (take (i + 1) ls)
+wanted_step ls i d a old next lt before added =
+    let l = length-take-le i ls (omega (arith, lt)) in
+    let number : 0 + length (take i ls) ≡ i = omega (arith, l) in
+    added_to a old (wanted_from 0 (take i ls)) (numbers_of i (get_or ls i d)) next before added ∙ ap (λ (m : List Move). a ++ m) (sym (ap (wanted_from 0) (take_more ls i d lt) ∙ wanted_push 0 (take i ls) (get_or ls i d) ∙ ap (λ (n : ℕ). wanted_from 0 (take i ls) ++ numbers_of n (get_or ls i d)) number))
+
+pub wanted_end : (ls : List ℕ) (i : ℕ) (a old : List Move) → length ls ≤ i → old ≡ a ++ wanted_from 0 (take i ls) → old ≡ a ++ wanted_from 0 ls
+wanted_end ls i a old over before = before ∙ ap (λ (l : List ℕ). a ++ wanted_from 0 l) (take_all i ls over)

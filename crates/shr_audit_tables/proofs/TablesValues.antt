@@ -1,0 +1,162 @@
+-- What the laws on tables are tested by, at known values.
+use Rattle.std.proofs.Common.{◌≡◌, ℕ, zero, suc, ◌<◌, false, List, [], ◌∷◌, true, Option, Some, None, refl, ap, arith}
+use Rattle.std.specs.Prelude.{flat_map}
+use Rattle.shr_base.specs.declared.places.Place.{Place}
+use Rattle.shr_base.specs.declared.ends.WorkerPart.{WorkerPart}
+use Rattle.shr_base.specs.declared.journals.PoolEntry.{PoolEntry}
+use Rattle.shr_base.specs.declared.journals.PoolEntry.TheVariants.{Registered, Unregistered, Idle}
+use Rattle.shr_base.specs.declared.walks.Outcome.TheVariants as outcome
+use Rattle.shr_model.specs.Attempts.{number_of}
+use Rattle.shr_model.specs.Pool.{phase_of, decl_from, from_from, number_from}
+use Rattle.shr_report.proofs.SecondReport.{kept, dentry, by, use_step}
+use Rattle.shr_report.proofs.FirstReport.{script, report, answer}
+use Rattle.shr_report.proofs.ThirdReport as third
+use Rattle.shr_report.specs.Parts.{parents_of}
+use Rattle.shr_audit_tables.specs.declared.registrations.IdState.{IdState}
+use Rattle.shr_audit_tables.specs.Deferred.{given_by, taken_by, AreWordsRight}
+use Rattle.shr_audit_tables.specs.Registrations.{state_of, state_with, noted, IsLiveAs, HasLive, IsFreeNow, NoneFree, IsLowestFree, MayRegister, AreLastReached, AreFirst}
+use Rattle.shr_audit_tables.specs.Lookups.{on_from, Opens, IsPoolLawful}
+use Rattle.shr_audit_tables.specs.Draws.{AreDrawnOnce, IsDrawn, found_draws, answer_draws, tried_draws, attempt_draws, draw_key, drawn, part_draws, walk_draws, wanted, wanted_from}
+use Rattle.shr_audit_tables.specs.Charges.{AreThere, AreUpsOfPuts}
+
+abbrev place : ℕ → Place
+place group = record { id = 0; node = 0; group = group }
+
+-- a worker that carried 4 from group 2 to its parent, group 1
+abbrev carrier : WorkerPart
+carrier = record { answers = kept []; walks = kept []; carries = kept (record { by = by 0; place = place 2; amount = 4 } ∷ []); plain = kept []; isolations = kept [] }
+
+gave_the_parent : given_by (0 ∷ 0 ∷ 1 ∷ []) carrier (place 1) ≡ 4
+gave_the_parent = refl
+
+gave_no_other : given_by (0 ∷ 0 ∷ 1 ∷ []) carrier (place 0) ≡ 0
+gave_no_other = refl
+
+took_from_its_own : taken_by carrier (place 2) ≡ 4
+took_from_its_own = refl
+
+took_no_other : taken_by carrier (place 1) ≡ 0
+took_no_other = refl
+
+-- a carried word that isn't printed
+word_missing : AreWordsRight (parents_of third.script) (record third.report { deferred = kept [] }) → ⊥
+word_missing h = let e : 0 ≡ 2 = h (third.place_of 1) in absurd (omega (arith, e))
+
+-- id 0 was registered twice, the second time from the fifth lookup on
+abbrev entries : List PoolEntry
+entries = Registered 0 0 0 ∷ Unregistered 0 0 3 ∷ Idle 0 ∷ Registered 1 0 5 ∷ []
+
+abbrev live : IdState
+live = record { phase = 4; decl = 1; from = 5; last = 5 }
+
+live_again : state_of 0 entries ≡ live
+unfolding phase_of decl_from from_from number_from
+live_again = refl
+
+ended : state_with live (Unregistered 1 0 7) ≡ record { phase = 5; decl = 1; from = 5; last = 7 }
+ended = refl
+
+one_noted : noted (live ∷ live ∷ []) (Unregistered 1 1 7) ≡ live ∷ record { phase = 5; decl = 1; from = 5; last = 7 } ∷ []
+one_noted = refl
+
+-- an id past the last is none of these
+none_noted : noted (live ∷ []) (Idle 1) ≡ live ∷ []
+none_noted = refl
+
+abbrev idle : IdState
+idle = record { phase = 3; decl = 1; from = 5; last = 7 }
+
+is_live : HasLive 1 (idle ∷ live ∷ [])
+is_live = (1, (live, (refl, (refl, refl))))
+
+of_no_other : IsLiveAs 0 live → ⊥
+of_no_other h = absurd (let e = h.1 in omega (arith, e))
+
+is_free : IsFreeNow idle
+is_free = (refl, omega arith)
+
+used_up : IsFreeNow (record { phase = 65533; decl = 0; from = 0; last = 0 }) → ⊥
+used_up h = absurd (let few = h.1 in omega (arith, few))
+
+second_is_lowest : IsLowestFree (live ∷ idle ∷ []) 1
+second_is_lowest = (none_before, (idle, (refl, is_free)))
+  where
+    none_before : NoneFree 1 (live ∷ idle ∷ [])
+    none_before id x lt at free = let first : id ≡ 0 = omega arith in not_live x (rw first at at) free
+      where
+        not_live : (x : IdState) → ◌≡◌ {A = Option IdState} (Some live) (Some x) → IsFreeNow x → ⊥
+        not_live x e free = let same : live ≡ x = cc in let phase : 4 ≡ x.phase = cc in let zero = free.0 in absurd (let four : x.phase ≡ 4 = cc in let bad = rw four at zero in omega (arith, bad))
+
+-- an idle id isn't unregistered
+not_from_idle : MayRegister 2 (idle ∷ []) (Unregistered 1 0 9) → ⊥
+not_from_idle h = let same : idle ≡ h.0 = cc in absurd (let p = h.1.1.0 in let three : h.0.phase ≡ 3 = cc in let bad = rw three at p in omega (arith, bad))
+
+from_live : MayRegister 2 (live ∷ []) (Unregistered 1 0 9)
+from_live = (live, (refl, (refl, (refl, omega arith))))
+
+not_reached : AreLastReached (live ∷ []) (4 ∷ []) → ⊥
+not_reached h = absurd (let le = h 0 live refl refl in omega (arith, le))
+
+not_blank : AreFirst 1 (live ∷ []) → ⊥
+not_blank h = absurd (let e = h.blank 0 live refl in let phase = ap (λ (x : IdState). x.phase) e in omega (arith, phase))
+
+-- the second of two caches is `on`
+one_on : on_from 0 (record dentry { on = false } ∷ dentry ∷ []) ≡ 1 ∷ []
+one_on = refl
+
+opens_so : Opens (0 ∷ []) (Registered 0 0 0 ∷ [])
+opens_so zero decl e = let same : 0 ≡ decl = cc in ap (λ (d : ℕ). Some (Registered d 0 0)) same
+opens_so (suc n) decl e = absurd cc
+
+opens_late : Opens (0 ∷ []) (Registered 0 0 1 ∷ []) → ⊥
+opens_late h = absurd (let e = h 0 0 refl in cc)
+
+opened_later : IsPoolLawful script (record report { pool = kept (Registered 0 0 1 ∷ []) }) → ⊥
+opened_later h = absurd (let e = h.opened 0 0 refl in cc)
+
+not_printed : IsPoolLawful script (record report { lookups = kept [] }) → ⊥
+not_printed h = absurd (let e : 0 ≡ 1 = h.printed in omega (arith, e))
+
+-- ---- lookups as they were drawn
+
+key_of : draw_key 1 2 ≡ 4294967298
+key_of = refl
+
+found_drawn : answer_draws answer ≡ draw_key 0 0 ∷ []
+found_drawn = refl
+
+none_found : found_draws None ≡ []
+none_found = refl
+
+tried_drawn : attempt_draws (record { id = 3; outcome = outcome.Empty 5 1 }) ≡ draw_key 3 5 ∷ []
+tried_drawn = refl
+
+worn_drawn : tried_draws 3 (number_of (outcome.Worn 9)) ≡ []
+worn_drawn = refl
+
+none_walked : flat_map walk_draws [] ≡ []
+none_walked = refl
+
+of_the_part : part_draws (record carrier { answers = kept (answer ∷ answer ∷ []) }) ≡ draw_key 0 0 ∷ draw_key 0 0 ∷ []
+of_the_part = refl
+
+up_by_one : drawn 7 ≡ record { key = 7; up = 1; down = 0 }
+up_by_one = refl
+
+three_wanted : wanted_from 0 (1 ∷ 2 ∷ []) ≡ wanted (draw_key 0 0) ∷ wanted (draw_key 1 0) ∷ wanted (draw_key 1 1) ∷ []
+three_wanted = refl
+
+drawn_twice : AreDrawnOnce (draw_key 0 0 ∷ draw_key 0 0 ∷ []) (1 ∷ []) → ⊥
+drawn_twice h = absurd (let e : 2 ≡ 1 = h 0 0 (omega arith) in omega (arith, e))
+
+-- a lookup that nobody made
+lookups_off : IsDrawn (record report { lookups = kept (2 ∷ []) }) → ⊥
+lookups_off h = absurd (let e : 0 ≡ 1 = h 0 1 in omega (arith, e))
+
+-- ---- charges
+
+charged_nowhere : AreThere (parents_of script) (use_step 7 0 true 0 0 ∷ []) → ⊥
+charged_nowhere h = absurd (let few = h 0 (use_step 7 0 true 0 0) refl in omega (arith, few))
+
+charged_by_none : AreUpsOfPuts script (use_step 0 0 true 0 4 ∷ []) → ⊥
+charged_by_none h = h 0 (use_step 0 0 true 0 4) refl refl

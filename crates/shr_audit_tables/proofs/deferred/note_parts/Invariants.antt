@@ -1,0 +1,9 @@
+use Rattle.std.proofs.Common.{take}
+use Rattle.std.specs.Prelude.{sum_by}
+use Rattle.shr_base.specs.declared.ends.WorkerPart.{WorkerPart}
+use Rattle.shr_sums.specs.Deferred.{Gains}
+use Rattle.shr_audit_tables.specs.Deferred.{given_by, taken_by}
+use Rattle.shr_audit_tables.proofs.deferred.note_parts.Given as goal
+
+abbrev pub invariant-loop-part : goal.invariant-loop-part
+invariant-loop-part l = Gains (λ p. sum_by (λ (part : WorkerPart). given_by l.parents part p) (take l.part-index l.parts)) (λ p. sum_by (λ (part : WorkerPart). taken_by part p) (take l.part-index l.parts)) l.fn.moves.items l.moves.items

@@ -1,0 +1,7 @@
+use Rattle.std.proofs.Common.{◌≡◌, ◌++◌, map}
+use Rattle.std.specs.List.{range_with_len}
+use Rattle.shr_audit_tables.specs.Draws.{draw_key, wanted}
+use Rattle.shr_audit_tables.proofs.draws.add_numbers.Given as goal
+
+abbrev pub invariant-loop-number : goal.invariant-loop-number
+invariant-loop-number l = l.moves.items ≡ l.fn.moves.items ++ map (λ n. wanted (draw_key l.id n)) (range_with_len 0 l.number)

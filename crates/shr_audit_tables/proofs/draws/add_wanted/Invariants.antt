@@ -1,0 +1,6 @@
+use Rattle.std.proofs.Common.{◌≡◌, ◌++◌, take}
+use Rattle.shr_audit_tables.specs.Draws.{wanted_from}
+use Rattle.shr_audit_tables.proofs.draws.add_wanted.Given as goal
+
+abbrev pub invariant-loop-id : goal.invariant-loop-id
+invariant-loop-id l = l.moves.items ≡ l.fn.moves.items ++ wanted_from 0 (take l.id l.lookups)

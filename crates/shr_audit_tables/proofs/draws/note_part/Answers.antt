@@ -1,0 +1,15 @@
+use Rattle.std.proofs.Common.{◌++◌, List, ap, ◌∙◌}
+use Rattle.std.specs.Prelude.{flat_map}
+use Rattle.std.proofs.lemmas.List.{append_assoc}
+use Rattle.shr_base.specs.declared.replies.Answered.{Answered}
+use Rattle.shr_base.specs.declared.walks.WalkRecord.{WalkRecord}
+use Rattle.shr_audit_tables.specs.Draws.{answer_draws, walk_draws}
+use Rattle.shr_audit_tables.proofs.draws.note_part.Goals as goal
+
+pub returns : goal.returns
+returns c =
+    let keys = c.args.keys.now.items in
+    let part = c.args.part.now in
+    let answers = c.in_ok-note_answers.ensures ∙ ap (λ (xs : List Answered). keys ++ flat_map answer_draws xs) c.as_slice.ensures in
+    let walks = c.in_ok-note_walks.ensures ∙ ap (λ (xs : List WalkRecord). c.note_answers.new.keys.items ++ flat_map walk_draws xs) c.as_slice-2.ensures in
+    walks ∙ ap (λ l. l ++ flat_map walk_draws part.walks.items) answers ∙ append_assoc keys (flat_map answer_draws part.answers.items) (flat_map walk_draws part.walks.items)

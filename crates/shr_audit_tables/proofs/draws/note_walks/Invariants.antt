@@ -1,0 +1,7 @@
+use Rattle.std.proofs.Common.{◌≡◌, ◌++◌, take}
+use Rattle.std.specs.Prelude.{flat_map}
+use Rattle.shr_audit_tables.specs.Draws.{walk_draws}
+use Rattle.shr_audit_tables.proofs.draws.note_walks.Given as goal
+
+abbrev pub invariant-loop-walk : goal.invariant-loop-walk
+invariant-loop-walk l = l.keys.items ≡ l.fn.keys.items ++ flat_map walk_draws (take l.walk-index l.walks)

@@ -1,0 +1,6 @@
+use Rattle.std.proofs.Common.{◌≡◌, take}
+use Rattle.shr_audit_tables.specs.Lookups.{on_from}
+use Rattle.shr_audit_tables.proofs.lookups.decls_on.Given as goal
+
+abbrev pub invariant-loop-decl : goal.invariant-loop-decl
+invariant-loop-decl l = l.on.items ≡ on_from 0 (take l.decl l.caches)

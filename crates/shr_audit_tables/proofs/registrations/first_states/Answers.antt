@@ -1,0 +1,8 @@
+use Rattle.std.proofs.Common.{◌+◌, List, subst, sym}
+use Rattle.shr_audit_tables.specs.declared.registrations.IdState.{IdState}
+use Rattle.shr_audit_tables.specs.Registrations.{AreFirst}
+use Rattle.shr_audit_tables.proofs.Replay.{first_more}
+use Rattle.shr_audit_tables.proofs.registrations.first_states.Goals as goal
+
+pub loop-preserved : goal.loop-preserved
+loop-preserved c = subst (λ (xs : List IdState). AreFirst (c.loop.counter + 1) xs) (sym c.in_ok-push.ensures.items) (first_more c.loop.counter c.loop.states.items c.loop.invariant)
