@@ -8,3 +8,4 @@ mod TablesValues
 mod Rows
 mod DrawsLaw
 mod DrawnParts
+mod IdleLaw

@@ -1,5 +1,5 @@
 -- What the laws on tables are tested by, at known values.
-use Rattle.std.proofs.Common.{◌≡◌, ℕ, zero, suc, ◌<◌, false, List, [], ◌∷◌, true, Option, Some, None, refl, ap, arith}
+use Rattle.std.proofs.Common.{◌≡◌, ℕ, zero, suc, ◌%◌, ◌<◌, false, List, [], ◌∷◌, true, Option, Some, None, refl, sym, ap, arith}
 use Rattle.std.specs.Prelude.{flat_map}
 use Rattle.shr_base.specs.declared.places.Place.{Place}
 use Rattle.shr_base.specs.declared.ends.WorkerPart.{WorkerPart}
@@ -7,6 +7,9 @@ use Rattle.shr_base.specs.declared.journals.PoolEntry.{PoolEntry}
 use Rattle.shr_base.specs.declared.journals.PoolEntry.TheVariants.{Registered, Unregistered, Idle}
 use Rattle.shr_base.specs.declared.walks.Outcome.TheVariants as outcome
 use Rattle.shr_model.specs.Attempts.{number_of}
+use Rattle.shr_model.specs.Families.{lists_moved, items_within}
+use Rattle.shr_model.specs.Groups.{path_within}
+use Rattle.shr_model.specs.Items.{items_from}
 use Rattle.shr_model.specs.Pool.{phase_of, decl_from, from_from, number_from}
 use Rattle.shr_report.proofs.SecondReport.{kept, dentry, by, use_step}
 use Rattle.shr_report.proofs.FirstReport.{script, report, answer}
@@ -18,6 +21,7 @@ use Rattle.shr_audit_tables.specs.Registrations.{state_of, state_with, noted, Is
 use Rattle.shr_audit_tables.specs.Lookups.{on_from, Opens, IsPoolLawful}
 use Rattle.shr_audit_tables.specs.Draws.{AreDrawnOnce, IsDrawn, found_draws, answer_draws, tried_draws, attempt_draws, draw_key, drawn, part_draws, walk_draws, wanted, wanted_from}
 use Rattle.shr_audit_tables.specs.Charges.{AreThere, AreUpsOfPuts}
+use Rattle.shr_audit_tables.specs.Idle.{AreIdleEmpty, IsIdleIn, NonePast}
 
 abbrev place : ℕ → Place
 place group = record { id = 0; node = 0; group = group }
@@ -152,6 +156,22 @@ drawn_twice h = absurd (let e : 2 ≡ 1 = h 0 0 (omega arith) in omega (arith, e
 -- a lookup that nobody made
 lookups_off : IsDrawn (record report { lookups = kept (2 ∷ []) }) → ⊥
 lookups_off h = absurd (let e : 0 ≡ 1 = h 0 1 in omega (arith, e))
+
+-- ---- idle ids
+
+spoken_of : NonePast 0 entries → ⊥
+unfolding phase_of
+spoken_of h = absurd (let e : 4 ≡ 0 = h 0 (omega arith) in omega (arith, e))
+
+idle_so : IsIdleIn (idle ∷ []) 0
+idle_so x at = let same : idle ≡ x = cc in ap (λ (v : IdState). v.phase % 3) (sym same)
+
+live_so : IsIdleIn (live ∷ []) 0 → ⊥
+live_so h = absurd (let e : 1 ≡ 0 = h live refl in omega (arith, e))
+
+left_by_idle : AreIdleEmpty (parents_of script) (record report { pool = kept [] }) → ⊥
+unfolding phase_of items_from lists_moved items_within path_within
+left_by_idle h = absurd (let e = h (place 1) refl in cc)
 
 -- ---- charges
 

@@ -1,5 +1,6 @@
 pub mod Charges
 pub mod Deferred
 pub mod Draws
+pub mod Idle
 pub mod Lookups
 pub mod Registrations

@@ -4,5 +4,6 @@
 pub mod charges;
 pub mod deferred;
 pub mod draws;
+pub mod idle;
 pub mod lookups;
 pub mod registrations;

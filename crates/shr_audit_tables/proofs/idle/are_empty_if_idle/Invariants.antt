@@ -1,0 +1,7 @@
+use Rattle.std.proofs.Common.{◌≡◌, ◌<◌, ℕ, Some, slice_get}
+use Rattle.shr_base.specs.declared.ends.PlaceEnd.{PlaceEnd}
+use Rattle.shr_audit_tables.specs.Idle.{IsEmptyIfIdle}
+use Rattle.shr_audit_tables.proofs.idle.are_empty_if_idle.Given as goal
+
+abbrev pub invariant-loop-end : goal.invariant-loop-end
+invariant-loop-end l = (n : ℕ) (x : PlaceEnd) → n < l.end-index → slice_get l.ends n ≡ Some x → IsEmptyIfIdle l.case.parents.items l.report l.states x.place
