@@ -1,3 +1,4 @@
 mod Loops
 mod Journals
+mod Beginning
 mod ListsValues

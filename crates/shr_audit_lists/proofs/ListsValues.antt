@@ -1,5 +1,5 @@
 -- Fields of the law on journals, at known values.
-use Rattle.std.proofs.Common.{◌≡◌, ℕ, zero, suc, ◌<◌, Option, Some, None, List, [], ◌∷◌, refl, ap, subst, arith}
+use Rattle.std.proofs.Common.{◌≡◌, ℕ, zero, suc, ◌<◌, Option, Some, None, List, [], ◌∷◌, refl, ap, subst, arith, true, inl, inr}
 use Rattle.std.specs.Prelude.{codes, slice_get}
 use Rattle.std.proofs.lemmas.Option.{slice_get_within}
 use Rattle.shr_base.specs.declared.ends.PlaceEnd.{PlaceEnd}
@@ -13,6 +13,9 @@ use Rattle.shr_report.specs.declared.report.Report.{Report}
 use Rattle.shr_report.specs.Parts.{IsThere, parents_of}
 use Rattle.shr_report.proofs.SecondReport as second
 use Rattle.shr_report.proofs.NotLawful.{with_list}
+use Rattle.shr_model.specs.Groups.{path_within}
+use Rattle.shr_model.proofs.Members.{Has, Has_from_Contains}
+use Rattle.shr_audit_lists.specs.Begun.{AreBegun, AreBegunIfClosed, HaveGroups, IsBegun, IsBegunIfClosed}
 use Rattle.shr_audit_lists.specs.Fields.{AreDoneClosed, AreFirsts, AreOutcomesSo, ArePlacesOnce, ArePlacesThere, IsClosedAt, IsOutcomeSo}
 
 -- a report with one list, which is closed
@@ -77,3 +80,36 @@ closed = refl
 -- a group is done, and its list isn't closed
 done_open : AreDoneClosed second.script (record second.report { tree = second.kept (Begin 1 ∷ Done 1 ∷ []) }) → ⊥
 done_open h = absurd (let e = h second.place (record { id = omega arith; node = omega arith; group = omega arith }) (1, omega arith, refl) in cc)
+
+-- a group that began, one below it, and one that didn't
+root_began : IsBegun (0 ∷ 0 ∷ []) (Begin 0 ∷ []) 1
+unfolding path_within
+root_began = (0, (1, omega arith, refl), (0, omega arith, refl))
+
+child_began : IsBegun (0 ∷ 0 ∷ []) (Begin 1 ∷ []) 0 → ⊥
+unfolding path_within
+child_began b = no (Has_from_Contains (0 ∷ []) b.0 b.1) (Has_from_Contains (Begin 1 ∷ []) (Begin b.0) b.2)
+  where
+    no : {g : ℕ} → Has (0 ∷ []) g → Has (Begin 1 ∷ []) (Begin g) → ⊥
+    no (inl zero_is) (inl one_is) = let same : ◌≡◌ {A = ℕ} 1 0 = cc in absurd (omega arith)
+    no (inl zero_is) (inr none) = absurd none
+    no (inr none) own = absurd none
+
+told_of_root : AreBegun (0 ∷ 0 ∷ []) [] (true ∷ []) → ⊥
+told_of_root h = let b = (h 0 (omega arith)).0 refl in let none : b.2.0 < 0 = b.2.1 in absurd (omega arith)
+
+not_told : AreBegun (0 ∷ 0 ∷ []) (Begin 0 ∷ []) []
+not_told g lt = absurd (omega arith)
+
+-- a list that is closed, where no group began
+closed_alone : AreBegunIfClosed (parents_of second.script) closed_one → ⊥
+closed_alone h = let b = h second.place refl in let none : b.2.0 < 0 = b.2.1 in absurd (omega arith)
+
+open_place : IsBegunIfClosed (parents_of second.script) second.report second.place
+open_place shut = cc
+
+two_groups : HaveGroups 2 closed_one.places.items
+two_groups n end at = let here = there n end at in let group = here.group in omega arith
+
+one_group : HaveGroups 1 closed_one.places.items → ⊥
+one_group h = let lt : 1 < 1 = h 0 _ refl in absurd (omega arith)

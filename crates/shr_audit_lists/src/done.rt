@@ -21,7 +21,7 @@ fn is_closing(entry: &Entry) -> bool
 }
 
 // Whether a Closed stands in a journal.
-fn is_closed(entries: &[Entry]) -> bool
+pub(crate) fn is_closed(entries: &[Entry]) -> bool
     ensures { result ≡ is_closed entries.now }
 {
     for entry in entries {
