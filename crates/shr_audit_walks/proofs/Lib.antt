@@ -1,0 +1,9 @@
+mod Rising
+mod Tried
+mod Arithmetic
+mod Parts
+mod Scanned
+mod Ranged
+mod Counted
+mod ShapedLaw
+mod WalksValues

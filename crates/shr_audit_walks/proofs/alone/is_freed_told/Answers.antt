@@ -1,0 +1,14 @@
+use Rattle.std.proofs.Common.{◌≡◌, List, ℕ, subst}
+use Rattle.std.specs.Prelude.{sum_by}
+use Rattle.std.specs.Bool.{Decides}
+use Rattle.shr_base.specs.declared.walks.Attempt.{Attempt}
+use Rattle.shr_model.specs.Walks.{freed_told}
+use Rattle.shr_audit_walks.specs.Fields.{freed_in}
+use Rattle.shr_audit_walks.proofs.Tried.{told_freed}
+use Rattle.shr_audit_walks.proofs.alone.is_freed_told.Goals as goal
+
+pub returns : goal.returns
+returns c =
+    let b = c.frees-told.result in
+    let items : Decides b (c.freed_told.result ≡ sum_by freed_in c.args.walk.now.attempts.items) = subst (λ (xs : List Attempt). Decides b (c.freed_told.result ≡ sum_by freed_in xs)) c.as_slice.ensures c.frees-told.ensures in
+    told_freed c.args.walk.now (freed_told c.args.walk.now.answer) b (subst (λ (told : ℕ). Decides b (told ≡ sum_by freed_in c.args.walk.now.attempts.items)) c.freed_told.ensures items)

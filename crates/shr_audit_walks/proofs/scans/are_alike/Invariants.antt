@@ -1,0 +1,7 @@
+use Rattle.std.proofs.Common.{◌≡◌, ◌<◌, ℕ, Some, slice_get}
+use Rattle.shr_audit_walks.specs.declared.scans.ScanSeen.{ScanSeen}
+use Rattle.shr_audit_walks.specs.Scans.{IsScanOf}
+use Rattle.shr_audit_walks.proofs.scans.are_alike.Given as goal
+
+abbrev pub invariant-loop-scan : goal.invariant-loop-scan
+invariant-loop-scan l = (n : ℕ) (x : ScanSeen) → n < l.scan-index → slice_get l.scans n ≡ Some x → IsScanOf l.size l.policy l.version x

@@ -1,0 +1,7 @@
+use Rattle.std.proofs.Common.{◌≡◌, map, take}
+use Rattle.std.specs.List.{range_with_len}
+use Rattle.shr_base.specs.declared.walks.Attempt.{Attempt}
+use Rattle.shr_audit_walks.proofs.seen.tries_rise.Given as goal
+
+abbrev pub invariant-loop-i : goal.invariant-loop-i
+invariant-loop-i l = take l.i (map (λ (a : Attempt). a.id) l.attempts) ≡ range_with_len 0 l.i

@@ -1,0 +1,7 @@
+pub mod Seen
+pub mod Fields
+pub mod Met
+pub mod Scans
+pub mod Kinds
+pub mod Counts
+pub mod Commands
