@@ -15,6 +15,7 @@ use Rattle.shr_assemble.proofs.EndsHistories.{uses_and_tree}
 use Rattle.shr_assemble.proofs.EndsIdle.{idle}
 use Rattle.shr_assemble.proofs.ScriptSizes.{sized_of}
 use Rattle.shr_assemble.proofs.EndsOpened.{opened, once}
+use Rattle.shr_assemble.proofs.EndsOrder.{in_line}
 use Rattle.shr_assemble.proofs.EndsPool as pool
 use Rattle.shr_assemble.proofs.EndsSteps.{workers}
 use Rattle.shr_assemble.proofs.EndsTotals as totals
@@ -47,6 +48,7 @@ run_of_ends x did logs e ends r made = record {
   };
   uses = uses_and_tree x did logs e ends r made;
   deferred = deferred x did logs e ends r made;
+  order = in_line x did logs e ends r made;
   plain = team x did logs e ends r made;
   units = units_are x did logs e ends r made;
   added = totals.added x did logs e ends r made;

@@ -1,5 +1,5 @@
 -- The report of a run is faithful: what its workers told stands in the order of their commands.
-use Rattle.std.proofs.Common.{◌≡◌, ℕ, zero, suc, ◌+◌, ◌<◌, ◌≤◌, inl, inr, ⊎_elim, List, [], ◌∷◌, ◌++◌, length, map, sym, ap, subst, ◌∙◌, arith}
+use Rattle.std.proofs.Common.{◌≡◌, ℕ, zero, suc, ◌+◌, ◌<◌, ◌≤◌, inr, ⊎_elim, List, [], ◌∷◌, ◌++◌, length, map, sym, ap, subst, ◌∙◌, arith}
 use Rattle.std.specs.Prelude.{slice_get, Some, option_and_then}
 use Rattle.std.specs.List.{AllByRecursion}
 use Rattle.std.specs.Option.{IsSomeAnd}
@@ -18,7 +18,7 @@ use Rattle.shr_base.specs.declared.walks.Carry.{Carry}
 use Rattle.shr_model.specs.Commands.{group_named}
 use Rattle.shr_model.specs.Groups.{IsAtOrAbove}
 use Rattle.shr_model.proofs.BagLaws.{each_append, each_weaker}
-use Rattle.shr_model.proofs.Members.{Has, each_has}
+use Rattle.shr_model.proofs.Members.{Has}
 use Rattle.std.proofs.lemmas.Option.{slice_get_within}
 use Rattle.shr_seats.specs.Weights.{Begins}
 use Rattle.shr_seats.proofs.Weighing.{begins_all, begins_more}
@@ -29,7 +29,8 @@ use Rattle.shr_walk.specs.State.{WorkerState}
 use Rattle.shr_report.specs.declared.report.Report.{Report}
 use Rattle.shr_report.specs.Parts.{parents_of, decls_on, serial_of, all_carries, EachAnswer}
 use Rattle.shr_report.specs.Freshness.{pool_seen, pool_made, of_answer}
-use Rattle.shr_report.specs.Faithful.{made_by, pool_reached, tree_reached, tree_made, AreNotAbove, IsOverOnPath, IsFaithful}
+use Rattle.shr_report.specs.LookupOrder.{made_by}
+use Rattle.shr_report.specs.Faithful.{pool_reached, tree_reached, tree_made, AreNotAbove, IsOverOnPath, IsFaithful}
 use Rattle.shr_assemble.specs.Causes as by
 use Rattle.shr_assemble.specs.Deferred.{DidCarry}
 use Rattle.shr_assemble.specs.Offlining.{IsEntryOf}
@@ -40,9 +41,15 @@ use Rattle.shr_assemble.proofs.Flattening.{all_carries_are}
 use Rattle.shr_assemble.proofs.FreshLaw.{of_is, step_cases, none_given, begins_length}
 use Rattle.shr_assemble.proofs.Gathering.{has_step, each_among, some_at}
 use Rattle.shr_assemble.proofs.Listed.{all_among, by_slices}
+use Rattle.shr_assemble.proofs.LookupOrderLaw.{lookups_in_order}
+use Rattle.shr_assemble.proofs.MadeTurns.{made_turn}
 use Rattle.shr_assemble.proofs.Makers.{one_turn_maker}
 use Rattle.shr_assemble.proofs.Making.{work_of, grows, stepped}
 use Rattle.shr_assemble.proofs.Operations.{PairsRec, pairs_rec, op_of, op_by, rise_along, among_has}
+use Rattle.shr_assemble.proofs.EntryOrderLaw.{entries_in_order}
+use Rattle.shr_assemble.proofs.PoolPast.{pool_past}
+use Rattle.shr_assemble.proofs.WalksRefused.{walks_refused}
+use Rattle.shr_assemble.proofs.Pairs.{across, Has_begins}
 use Rattle.shr_charge.proofs.TreeFacts.{done_at}
 
 -- ---- lists of numbers
@@ -53,16 +60,6 @@ above_none (n ∷ ns) = (tt, above_none ns)
 -- numbers up to a bound aren't above those from it on
 around : (b : ℕ) (ns ms : List ℕ) → AllByRecursion (λ n. n ≤ b) ns → AllByRecursion (λ m. b ≤ m) ms → AreNotAbove ns ms
 around b ns ms lo hi = each_weaker (λ n. n ≤ b) (λ n. AllByRecursion (λ m. n ≤ m) ms) (λ n le. each_weaker (λ m. b ≤ m) (λ m. n ≤ m) (λ m ge. omega (arith, le, ge)) ms hi) ns lo
-
--- ---- pairs across two lists
-across : {A : Type 0} (R : A → A → Type 0) (xs ys : List A) (x y : A) → PairsRec R (xs ++ ys) → Has xs x → Has ys y → R x y
-across R [] ys x y h has of_y = absurd has
-across R (z ∷ xs) ys x y h (inl e) of_y = subst (λ w. R w y) e (each_has (R z) ys y (right xs ys h.0) of_y)
-  where
-    right : (us vs : List _) → AllByRecursion (R z) (us ++ vs) → AllByRecursion (R z) vs
-    right [] vs all = all
-    right (u ∷ us) vs all = right us vs all.1
-across R (z ∷ xs) ys x y h (inr has) of_y = across R xs ys x y h.1 has of_y
 
 -- ---- what a worker noted of charges along its steps
 first_ops : (t : WorkerState) (mine : List Step) (k : ℕ) (x : Step) → AreChained t mine → slice_get mine k ≡ Some x → Begins t.uses.ops x.before.uses.ops
@@ -76,30 +73,10 @@ later_ops t (z ∷ mine) k zero x y c lt e d = absurd (omega arith)
 later_ops t (z ∷ mine) zero (suc later) x y c lt e d = subst (λ (v : Step). Begins v.after.uses.ops y.before.uses.ops) (same_Some z x e) (first_ops z.after mine later y c.2 d)
 later_ops t (z ∷ mine) (suc k) (suc later) x y c lt e d = later_ops z.after mine k later x y c.2 (omega arith) e d
 
-Has_begins : {A : Type 0} (xs ys : List A) (x : A) → Begins xs ys → Has xs x → Has ys x
-Has_begins xs ys x b has = subst (λ l. Has l x) (sym b.1) (left xs b.0 has)
-  where
-    left : (us vs : List _) → Has us x → Has (us ++ vs) x
-    left [] vs h = absurd h
-    left (u ∷ us) vs (inl e) = inl e
-    left (u ∷ us) vs (inr h) = inr (left us vs h)
-
 module _ (s : Script) (r : Report) (workers : List (List Step)) (run : IsRun s r workers) where
   -- ---- the journal of registrations
-  -- the entry that an answer made is one of its command's
-  turn_made : (x : Step) (z : Reply) → by.IsCausedBy s x z → (n : ℕ) → pool_made z ≡ n ∷ [] → (t : Turn) × IsAmong t x.work.core.turns × (t.number ≡ n)
-  turn_made x (reply.Registered id entry) h n e = (record { number = entry; entry = Registered h.decl id h.from }, h.made, (let same : entry ≡ n = cc in same))
-  turn_made x (reply.Freed id entry from to objects) h n e = (record { number = entry; entry = Unregistered h.unregistered.decl id to }, h.unregistered.made, (let same : entry ≡ n = cc in same))
-  turn_made x (reply.Half id entry from to objects half) h n e = (record { number = entry; entry = Unregistered h.unregistered.decl id to }, h.unregistered.made, (let same : entry ≡ n = cc in same))
-  turn_made x y h n e = absurd (cc)
-
-  made_turn : (worker k n : ℕ) → made_by r worker k ≡ n ∷ [] → (x : Step) × (slice_get (steps_of workers worker) k ≡ Some x) × ((t : Turn) × IsAmong t x.work.core.turns × (t.number ≡ n))
-  made_turn worker k n e = ⊎_elim
-      (λ x. (x.0, x.1, turn_made x.0 x.0.answered.reply (run.steps.each worker k x.0 x.1).did.cause n (sym (of_is s r workers run worker k x.0 (λ (a : Answered). pool_made a.reply) x.1) ∙ e)))
-      (λ none. absurd (let some = sym (none_given s r workers run worker k (λ (a : Answered). pool_made a.reply) none) ∙ e in cc)) (step_cases s r workers run worker k)
-
   made_once : (v i w j n : ℕ) → made_by r v i ≡ n ∷ [] → made_by r w j ≡ n ∷ [] → (v ≡ w) × (i ≡ j)
-  made_once v i w j n e f = let x = made_turn v i n e in let y = made_turn w j n f in
+  made_once v i w j n e f = let x = made_turn s r workers run v i n e in let y = made_turn s r workers run w j n f in
       one_turn_maker s r workers run v i w j x.0 y.0 x.2.0 y.2.0 x.1 y.1 x.2.1 y.2.1 (x.2.2 ∙ sym y.2.2)
 
   -- an entry that a command made comes behind what its worker knew before
@@ -107,7 +84,7 @@ module _ (s : Script) (r : Report) (workers : List (List Step)) (run : IsRun s r
   turn_later worker k x t at among = each_among (λ (u : Turn). length x.before.core.turns.known ≤ u.number) x.work.core.turns t (run.steps.each worker k x at).did.pool.later among
 
   made_later : (worker k n : ℕ) → made_by r worker k ≡ n ∷ [] → length (decls_on s) ≤ n
-  made_later worker k n e = let x = made_turn worker k n e in
+  made_later worker k n e = let x = made_turn s r workers run worker k n e in
       omega (arith, turn_later worker k x.0 x.2.0 x.1 x.2.1, x.2.2, (run.steps.new worker).pool, begins_length (run.steps.first worker).core.turns.known x.0.before.core.turns.known (first_grows (run.steps.first worker) (steps_of workers worker) k x.0 (run.steps.chained worker) x.1).pool)
 
   -- each entry that a reply made, by its step
@@ -214,9 +191,13 @@ module _ (s : Script) (r : Report) (workers : List (List Step)) (run : IsRun s r
     made_once = made_once;
     made_later = made_later;
     pool_later = pool_later;
+    pool_past = pool_past s r workers run;
     tree_later = tree_later;
+    walks_refused = walks_refused s r workers run;
     uses_rise = uses_rise;
     over = over;
     below_root = below_root;
     carried = carried;
+    lookups = lookups_in_order s r workers run;
+    entries = entries_in_order s r workers run;
   }

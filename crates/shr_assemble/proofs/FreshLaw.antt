@@ -274,7 +274,7 @@ module _ (s : Script) (r : Report) (workers : List (List Step)) (run : IsRun s r
       (begin_was worker k x group n e stands shown)
 
   -- so the worker knows that the group isn't online
-  knows_offline : (worker k : ℕ) (x : Step) (group : ℕ) (u : WorkerState) → slice_get (steps_of workers worker) k ≡ Some x → Grows x.after u → shows_offline r (serial_of worker k) group ≡ true → KnowsOnline u.tree group → ⊥
+  pub knows_offline : (worker k : ℕ) (x : Step) (group : ℕ) (u : WorkerState) → slice_get (steps_of workers worker) k ≡ Some x → Grows x.after u → shows_offline r (serial_of worker k) group ≡ true → KnowsOnline u.tree group → ⊥
   knows_offline worker k x group u e g shows online = elim (cases_Bool (shows_begin r (serial_of worker k) group)) [
     | inl begins ↦ from_begin (any_has (is_begin_at r group) (shown_by r (serial_of worker k)) begins)
     | inr not_it ↦ from_done (any_has (is_done_at r group) (shown_by r (serial_of worker k)) (sym (ap (λ b. b || list_any (is_done_at r group) (shown_by r (serial_of worker k))) not_it) ∙ shows))
@@ -296,7 +296,7 @@ module _ (s : Script) (r : Report) (workers : List (List Step)) (run : IsRun s r
           let f = begin_found u.tree.known group b.0 there in online.known f.0 f.1
 
   -- a group of which something is shown is below the root
-  below_root : (worker k group : ℕ) → shows_offline r (serial_of worker k) group ≡ true → 0 < group
+  pub below_root : (worker k group : ℕ) → shows_offline r (serial_of worker k) group ≡ true → 0 < group
   below_root worker k group shows = elim (cases_Bool (shows_begin r (serial_of worker k) group)) [
     | inl begins ↦ let t = any_has (is_begin_at r group) (shown_by r (serial_of worker k)) begins in (begin_may group t.0 (begin_there group t.0 t.2)).below
     | inr not_it ↦ let t = any_has (is_done_at r group) (shown_by r (serial_of worker k)) (sym (ap (λ b. b || list_any (is_done_at r group) (shown_by r (serial_of worker k))) not_it) ∙ shows) in

@@ -1,6 +1,7 @@
 pub mod Gathering
 pub mod Listed
 pub mod Chains
+pub mod KnownOnline
 pub mod Making
 pub mod Makers
 pub mod StandsOnce
@@ -24,12 +25,19 @@ pub mod UsageLaw
 pub mod Shown
 pub mod SpentLaw
 pub mod FreshLaw
-pub mod FaithfulLaw
+pub mod Pairs
+pub mod MadeTurns
+pub mod LineOrder
+pub mod LookupOrderLaw
+pub mod EntryOrderLaw
 pub mod EntryCauses
 pub mod WalkCauses
 pub mod AnswerCauses
 pub mod EntrySums
 pub mod PoolCauses
+pub mod PoolPast
+pub mod WalksRefused
+pub mod FaithfulLaw
 pub mod OfflinedCause
 pub mod Spending
 pub mod Bringing
@@ -94,6 +102,7 @@ pub mod EndsFounds
 pub mod UnitsDid
 pub mod UnitsRows
 pub mod EndsUnits
+pub mod EndsOrder
 pub mod EndsRun
 pub mod WalkingSteps
 pub mod WalkingIds

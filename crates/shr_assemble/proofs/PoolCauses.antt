@@ -98,7 +98,7 @@ module _ (s : Script) (r : Report) (workers : List (List Step)) (run : IsRun s r
       omega (arith, phase_later id n d (omega (arith, le)), phase_next id (n + d) e.0 e.1, ap (λ i. phase_of id (take i r.pool.items)) same)
 
   -- two entries of an id after which it has one phase are one
-  same_phase : (id n m : ℕ) (d e : PoolEntry) → slice_get r.pool.items n ≡ Some d → slice_get r.pool.items m ≡ Some e → id_of d ≡ id → id_of e ≡ id
+  pub same_phase : (id n m : ℕ) (d e : PoolEntry) → slice_get r.pool.items n ≡ Some d → slice_get r.pool.items m ≡ Some e → id_of d ≡ id → id_of e ≡ id
       → phase_of id (take n r.pool.items) ≡ phase_of id (take m r.pool.items) → n ≡ m
   same_phase id n m d e at_n at_m of_d of_e same = dite (ℕ_discrete n m) (λ h. h) (λ ne. absurd (⊎_elim
       (λ lt. before n m d at_n at_m of_d same lt)

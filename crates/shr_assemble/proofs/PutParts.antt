@@ -111,6 +111,7 @@ module _ (script : Script) (by : Serial) (c : Command) (a : Answered) (s m t : W
       known = does.core.known;
       charges = let e : t.uses.charges ≡ m.uses.charges + q.charges = ap (λ (u : charge.Uses). u.charges) does.uses in omega (arith, e);
       uncharges = let e : t.uses.uncharges ≡ m.uses.uncharges + q.uncharges = ap (λ (u : charge.Uses). u.uncharges) does.uses in omega (arith, e);
+      online = λ group k. k;
     }
 
     walks_same : v.walks ++ q.walks ≡ v.walks

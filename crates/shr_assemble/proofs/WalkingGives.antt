@@ -262,6 +262,7 @@ module _ (x : Shared) (table : IsTableOf x) (walk : Walk) (c : Option Command) (
         rise = rise;
         seen = seen;
         word = no_offline freed (record { group = walk.group; state = g.state } ∷ []);
+        online = λ lt on. knows_online (hierarchy_of (shape_of x.core)) s.tree walk.group g.state (walks_on g.state g.goes_on) g.shows;
       }
   gave_walk (answered.Offline entry) g below seen = gave_one g.maps g.attempts (answered.Offline entry) (record { group = walk.group; state = state.Offline entry } ∷ []) no_work record {
     number = number;
@@ -274,6 +275,7 @@ module _ (x : Shared) (table : IsTableOf x) (walk : Walk) (c : Option Command) (
     rise = subst (λ (l : List Attempt). Rise (map id_of l)) (sym g.no_attempt) tt;
     seen = subst (λ (m : List MapSeen). IsSeen x walk m g.attempts.items s t no_work) (sym g.no_map) (subst (λ (l : List Attempt). IsSeen x walk [] l s t no_work) (sym g.no_attempt) (seen_later x walk [] [] s s t _ no_work g.does (seen_none x walk s)));
     word = λ e is. subst (λ n. IsAmong {A = charge.Loaded} (record { group = walk.group; state = state.Offline n }) (record { group = walk.group; state = state.Offline entry } ∷ [])) (let z : entry ≡ e = cc in z) (0, refl);
+    online = λ lt on. absurd (on entry refl);
   }
   gave_walk (answered.Memory freed) (inl none) below seen = subst (λ n. Gave x walk c a (answered.Memory n) s t) (sym none.0) (gave_none none.1)
   gave_walk (answered.Memory freed) (inr g) below seen =
@@ -290,6 +292,7 @@ module _ (x : Shared) (table : IsTableOf x) (walk : Walk) (c : Option Command) (
         rise = rise;
         seen = seen;
         word = no_offline_cut freed (record { group = walk.group; state = g.state } ∷ []);
+        online = λ lt on. knows_online (hierarchy_of (shape_of x.core)) s.tree walk.group g.state (walks_on g.state g.goes_on) g.shows;
       }
 
   gave_root : (answer : WalkAnswer) (g : RootGives x walk answer s t) → walk.group ≡ 0 → RootSeen x walk answer s t g → Gave x walk c a answer s t
@@ -307,6 +310,7 @@ module _ (x : Shared) (table : IsTableOf x) (walk : Walk) (c : Option Command) (
         rise = rise;
         seen = seen;
         word = no_offline freed [];
+        online = λ lt on. absurd (omega (arith, root, lt));
       }
     where
       no_maps : {w : Work} {maps : List MapSeen} {l : List Attempt} → IsRecordOf x walk [] l w → maps ≡ [] → IsRecordOf x walk maps l w
@@ -327,6 +331,7 @@ module _ (x : Shared) (table : IsTableOf x) (walk : Walk) (c : Option Command) (
         rise = rise;
         seen = seen;
         word = no_offline_cut freed [];
+        online = λ lt on. absurd (omega (arith, root, lt));
       }
     where
       no_maps : {w : Work} {maps : List MapSeen} {l : List Attempt} → IsRecordOf x walk [] l w → maps ≡ [] → IsRecordOf x walk maps l w

@@ -48,6 +48,7 @@ use Rattle.shr_walk.specs.declared.walking.Walk.{Walk}
 use Rattle.shr_assemble.specs.Steps.{IsAmong}
 use Rattle.shr_assemble.specs.Attempts.{DidPass, DidAttempt, WasHeld}
 use Rattle.shr_assemble.specs.Lookups.{numbered}
+use Rattle.shr_assemble.specs.Offlining.{KnowsOnline}
 use Rattle.shr_assemble.specs.Walks.{IsRecord, DidWalk}
 use Rattle.shr_assemble.specs.Worn.{IsWornBy}
 use Rattle.shr_assemble.proofs.Listed.{contains_among}
@@ -74,6 +75,7 @@ pub record OneWalk (x : Shared) (walk : Walk) (maps : Kept MapSeen) (tries : Kep
   pub rise : Rise (map id_of tries.items)
   pub seen : IsSeen x walk maps.items tries.items s t w
   pub word : (entry : ℕ) → answer ≡ answered.Offline entry → IsAmong (record { group = walk.group; state = state.Offline entry }) words
+  pub online : 0 < walk.group → ((entry : ℕ) → answer ≡ answered.Offline entry → ⊥) → KnowsOnline s.tree walk.group
 
 only_scan : (walk : Walk) (start : ℕ) (r : WalkRecord) (m : Made) (policy : Policy) (e : Entry) → walk.number ≡ start → 0 < length (passes_at (place_at m.place) r) → IsScanOf walk.by.worker walk.number policy e → OnlyScan walk.by start (r ∷ []) m e
 only_scan walk start r m policy (Scan w n asked p visits freed stopped) number passes h = let k = h.1 in record { own = h.0; index = 0; number = omega (arith, k, number); walk = r; there = refl; passes = passes }
@@ -154,6 +156,7 @@ module _ (x : Shared) (table : IsTableOf x) (walk : Walk) (c : Option Command) (
     record_is = one.record_is;
     attempts = did_attempt;
     word = one.word;
+    online = one.online;
   }
 
   is_scan : (m : Made) → IsOfAttempt walk tries.items m → IsScanOne walk.by (length s.walks) (r_of ∷ []) m

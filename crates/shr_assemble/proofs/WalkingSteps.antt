@@ -43,8 +43,10 @@ use Rattle.shr_assemble.specs.Steps.{Step, IsAmong}
 use Rattle.shr_assemble.specs.Attempts.{scan_made, scans_made, DidPass, DidAttempt}
 use Rattle.shr_assemble.specs.Lookups.{numbers_tried, number_made}
 use Rattle.shr_assemble.specs.Walks.{DidWalk, counted_in, mapped_in, cleared_in, word_of}
+use Rattle.shr_assemble.specs.Offlining.{KnowsOnline}
 use Rattle.shr_assemble.specs.Worn.{KnowsList, IsOneMore, AreBoth, IsWornBy}
 use Rattle.shr_assemble.proofs.Gathering.{among_left, among_right, among_begins}
+use Rattle.shr_assemble.proofs.KnownOnline.{online_before}
 
 -- an entry is a Scan of one of these walks, which has a pass at its place
 pub record IsScanIn (by : Serial) (start : ℕ) (walks : List WalkRecord) (m : Made) (worker n : ℕ) : Type 0 where
@@ -157,6 +159,7 @@ module _ (script : Script) (by : Serial) (c : Option Command) (a : Answered) whe
     pub known : Begins t.core.traces.known t'.core.traces.known
     pub charges : t.uses.charges ≤ t'.uses.charges
     pub uncharges : t.uses.uncharges ≤ t'.uses.uncharges
+    pub online : (group : ℕ) → KnowsOnline s.tree group → KnowsOnline s'.tree group
 
   module _ (s t : WorkerState) (w : Work) (s' t' : WorkerState) (w' : Work) (n : ℕ) (h : Has s t w s' t' w' n) where
     knows_list : (place : Place) (es : List Entry) (items : List Object) → KnowsList (step_of s t w) place es items → KnowsList (step_of s' t' w') place es items
@@ -212,6 +215,7 @@ module _ (script : Script) (by : Serial) (c : Option Command) (a : Answered) whe
       record_is = k.record_is;
       attempts = λ i y e. attempt_later r y (k.attempts i y e);
       word = λ entry e. h.words _ (k.word entry e);
+      online = λ below on. h.online r.group (k.online below on);
     }
 
   -- what walks made between two states, and nothing else but operations
@@ -264,6 +268,7 @@ module _ (script : Script) (by : Serial) (c : Option Command) (a : Answered) whe
       known = q.does.core.known;
       charges = let c : t.uses.charges ≡ u.uses.charges + w.charges = ap (λ (x : charge.Uses). x.charges) q.does.uses in omega (arith, c);
       uncharges = let c : t.uses.uncharges ≡ u.uses.uncharges + w.uncharges = ap (λ (x : charge.Uses). x.uncharges) q.does.uses in omega (arith, c);
+      online = λ group k. k;
     }
 
     last_in : (i : ℕ) → Has u t w s t (then_work v w) (length u.walks + i)
@@ -276,6 +281,7 @@ module _ (script : Script) (by : Serial) (c : Option Command) (a : Answered) whe
       known = ([], sym (append-nil t.core.traces.known));
       charges = omega arith;
       uncharges = omega arith;
+      online = λ group k. online_before s.tree u.tree group (v.words, p.does.words) p.does.known k;
     }
 
     pub walked_then : Walked s t (then_work v w)

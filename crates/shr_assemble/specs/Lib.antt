@@ -10,6 +10,7 @@ pub mod Pool
 pub mod Offlining
 pub mod Causes
 pub mod Did
+pub mod Order
 pub mod Runs
 pub mod Ends
 pub mod Makes

@@ -38,6 +38,7 @@ use Rattle.shr_units.specs.Steps.{UnitsStep}
 use Rattle.shr_units.specs.Runs.{AreUnits}
 use Rattle.shr_assemble.specs.Steps.{Step, gathered, steps_of, AreChained}
 use Rattle.shr_assemble.specs.Entries.{StandsIn}
+use Rattle.shr_assemble.specs.Order.{IsInLine}
 use Rattle.shr_assemble.specs.Did.{Did}
 
 -- what the steps of a run have made, in all
@@ -192,6 +193,7 @@ pub record IsRun (s : Script) (r : Report) (workers : List (List Step)) : Type 0
   pub pool : ArePoolAndLookups s r workers
   pub uses : AreUsesAndTree s r workers
   pub deferred : AreDeferred s r workers
+  pub order : IsInLine s workers
   -- what each worker did at the pools of units, command by command
   pub plain : List (List UnitsStep)
   pub units : AreUnits s r plain

@@ -32,6 +32,7 @@ use Rattle.shr_report.specs.WalksLawful.{over_at, MayMake, IsToldBy}
 use Rattle.shr_report.specs.WellFormed.{IsWalkWell}
 use Rattle.shr_assemble.specs.Steps.{Step, IsAmong}
 use Rattle.shr_assemble.specs.Charges.{ops_at}
+use Rattle.shr_assemble.specs.Offlining.{KnowsOnline}
 use Rattle.shr_assemble.specs.Attempts.{DidAttempt}
 
 -- what the record of a walk says by itself is as it must be
@@ -54,6 +55,8 @@ pub record DidWalk (s : Script) (x : Step) (n : ℕ) (w : WalkRecord) : Type 0 w
   pub attempts : EachAttempt w (DidAttempt s x n w)
   -- a walk that found its group offline loaded the group's word
   pub word : (entry : ℕ) → w.answer ≡ Offline entry → IsAmong (record { group = w.group; state = state.Offline entry }) x.work.words
+  -- of a group below the root that the worker knew to be offline before the command it was one that did
+  pub online : 0 < w.group → ((entry : ℕ) → w.answer ≡ Offline entry → ⊥) → KnowsOnline x.before.tree w.group
 
 -- the counts, the maps and the cleared bits that the record of a walk tells of
 abbrev pub counted_in : WalkRecord → List Counted

@@ -1,20 +1,27 @@
 -- The second whole report is faithful, and for each sentence of that a report of a run, changed in one place, isn't.
 use Rattle.std.specs.Prelude.{◌≡◌, ℕ, zero, suc, ◌<◌, ◌≤◌, ◌==◌, true, false, cond, if◌then◌else◌, List, [], ◌∷◌, Some, refl, slice_get}
 use Rattle.std.proofs.Common.{arith, sym, ap, subst, ◌∙◌, ⊎_elim}
-use Rattle.shr_base.specs.declared.journals.PoolEntry.TheVariants.{Registered, Unregistered}
+use Rattle.shr_base.specs.declared.journals.PoolEntry.{PoolEntry}
+use Rattle.shr_base.specs.declared.journals.PoolEntry.TheVariants.{Registered, Unregistered, Idle}
+use Rattle.shr_base.specs.declared.journals.TreeEntry.TheVariants.{Begin, Done}
 use Rattle.shr_base.specs.declared.journals.UseStep.{UseStep}
 use Rattle.shr_base.specs.declared.replies.Answered.{Answered}
+use Rattle.shr_base.specs.declared.places.At.{At}
 use Rattle.shr_base.specs.declared.replies.Reply.TheVariants as reply
 use Rattle.shr_base.specs.declared.scripts.Command.TheVariants as command
 use Rattle.shr_model.specs.Groups.{path_within}
 use Rattle.shr_model.specs.Pool.{last_number, number_from, phase_of}
 use Rattle.shr_model.proofs.Members.{Has_from_Contains}
-use Rattle.shr_report.specs.Parts.{serial_of, lookups_at}
-use Rattle.shr_report.specs.Freshness.{of_answer}
-use Rattle.shr_report.specs.Faithful.{made_by, pool_reached, tree_reached, tree_made, AreNotAbove, IsOverOnPath, IsFaithful}
-use Rattle.shr_report.proofs.SecondCases.{AllAt, each_at, each_answer}
+use Rattle.std.specs.Option.{IsSomeAnd}
+use Rattle.shr_report.specs.Causes.{IsMadeBy}
+use Rattle.shr_report.specs.Parts.{serial_of, reply_at, lookups_at}
+use Rattle.shr_report.specs.Freshness.{of_answer, shows_offline}
+use Rattle.shr_report.specs.Faithful.{pool_reached, tree_reached, tree_made, AreNotAbove, IsOverOnPath, IsFaithful}
+use Rattle.shr_report.proofs.EntryOrderValues as entries
+use Rattle.shr_report.proofs.LookupOrderValues.{none_made, in_order}
+use Rattle.shr_report.proofs.SecondCases.{AllAt, each_at, each_answer, each_walk}
 use Rattle.shr_report.proofs.SecondReport as second
-use Rattle.shr_report.proofs.SecondReport.{kept, script, report, uses}
+use Rattle.shr_report.proofs.SecondReport.{kept, script, report, place, uses}
 use Rattle.shr_report.proofs.NotLawful.{with_answers}
 use Rattle.shr_report.proofs.OverReport as over
 use Rattle.shr_report.proofs.ThirdReport as third
@@ -29,13 +36,34 @@ unfolding number_from
 reached_of zero = omega arith
 reached_of (suc id) = let none : (if 0 == suc id then 0 else 0) ≡ 0 = ap (λ b. cond {A = ℕ} b 0 0) (not_zero id) in omega (arith, none)
 
-none_made : (worker k : ℕ) → made_by report worker k ≡ []
-none_made zero zero = refl
-none_made zero (suc zero) = refl
-none_made zero (suc (suc zero)) = refl
-none_made zero (suc (suc (suc zero))) = refl
-none_made zero (suc (suc (suc (suc k)))) = refl
-none_made (suc worker) k = refl
+not_by_add : (a : At) (n : ℕ) (e : PoolEntry) → IsMadeBy report e n (reply.Added a) → ⊥
+not_by_add a n (Registered decl id since) made = made
+not_by_add a n (Unregistered decl id until) made = made
+not_by_add a n (Idle id) made = made
+
+not_by_drop : (a : At) (n : ℕ) (e : PoolEntry) → IsMadeBy report e n (reply.Dropped a) → ⊥
+not_by_drop a n (Registered decl id since) made = made
+not_by_drop a n (Unregistered decl id until) made = made
+not_by_drop a n (Idle id) made = made
+
+not_by_walk : (freed n : ℕ) (e : PoolEntry) → IsMadeBy report e n (reply.Walked freed) → ⊥
+not_by_walk freed n (Registered decl id since) made = made
+not_by_walk freed n (Unregistered decl id until) made = made
+not_by_walk freed n (Idle id) made = made
+
+nothing_made : (worker k n : ℕ) (e : PoolEntry) → IsSomeAnd (reply_at report (serial_of worker k)) (IsMadeBy report e n) → ⊥
+nothing_made zero zero n e made = not_by_add (record { place = place; entry = 0 }) n e made
+nothing_made zero (suc zero) n e made = not_by_drop (record { place = place; entry = 1 }) n e made
+nothing_made zero (suc (suc zero)) n e made = not_by_walk 0 n e made
+nothing_made zero (suc (suc (suc zero))) n e made = not_by_walk 0 n e made
+nothing_made zero (suc (suc (suc (suc k)))) n e made = made
+nothing_made (suc worker) k n e made = made
+
+nothing_shown : (k : ℕ) → k < 3 → shows_offline report (serial_of 0 k) 1 ≡ true → ⊥
+nothing_shown zero lt e = let f : false ≡ true = e in absurd (cc)
+nothing_shown (suc zero) lt e = let f : false ≡ true = e in absurd (cc)
+nothing_shown (suc (suc zero)) lt e = let f : false ≡ true = e in absurd (cc)
+nothing_shown (suc (suc (suc k))) lt e = absurd (omega (arith, lt))
 
 no_tree_made : (worker k : ℕ) → of_answer report (serial_of worker k) (λ (a : Answered). tree_made a.reply) ≡ []
 no_tree_made zero zero = refl
@@ -65,11 +93,15 @@ faithful = record {
   made_once = λ v i w j n e f. absurd (let none = sym (none_made v i) ∙ e in cc);
   made_later = λ worker k n e. absurd (let none = sym (none_made worker k) ∙ e in cc);
   pool_later = λ worker k later before. subst (λ (ms : List ℕ). AreNotAbove (of_answer report (serial_of worker k) pool_reached) ms) (sym (none_made worker later)) (above_none _);
+  pool_past = λ worker k later n e before stands made. absurd (nothing_made worker k n e made);
   tree_later = λ worker k later before. subst (λ (ms : List ℕ). AreNotAbove (of_answer report (serial_of worker k) (λ (a : Answered). tree_reached a.reply)) ms) (sym (no_tree_made worker later)) (above_none _);
+  walks_refused = each_walk _ (λ k before shows. nothing_shown k (omega (arith, before)) shows) (λ k before shows. nothing_shown k before shows);
   uses_rise = rises;
   over = each_answer _ (tt, (tt, (tt, (tt, tt))));
   below_root = each_answer _ ((λ g c n e f. absurd (cc)), ((λ g c n e f. absurd (cc)), ((λ g c n e f. absurd (cc)), ((λ g c n e f. absurd (cc)), tt))));
   carried = tt;
+  lookups = in_order;
+  entries = entries.in_order;
 }
 
 -- reports that are not
@@ -95,9 +127,18 @@ made_before_known h = let e : 2 ≤ 1 = (h.pool_later 0 0 1 (omega arith)).0.0 i
 made_backwards : IsFaithful script (with_answers (second.unheld (reply.Registered 0 2) ∷ second.unheld (reply.Freed 0 1 0 0 0) ∷ [])) → ⊥
 made_backwards h = let e : 3 ≤ 1 = (h.pool_later 0 0 1 (omega arith)).0.0 in absurd (omega (arith, e))
 
+-- an `unregister` was answered freed, and the next command of its worker knows of the journal only up to the Idle
+knows_less : IsFaithful script (record (with_answers (second.unheld (reply.Freed 0 1 0 3 0) ∷ second.unheld (reply.NoCache 2) ∷ [])) { pool = kept (Registered 0 0 0 ∷ Unregistered 0 0 3 ∷ Idle 0 ∷ []) }) → ⊥
+unfolding phase_of
+knows_less h = let e : 2 < 2 = (h.pool_past 0 0 1 2 (Idle 0) (omega arith) refl (refl, omega arith, refl)).0 in absurd (omega (arith, e))
+
 -- a worker knew of four entries of the journal of the tree, and then made one before them
 done_before_known : IsFaithful script (with_answers (second.unheld (reply.HasChildren 2 4) ∷ second.unheld (reply.OfflineDone 1 0 0) ∷ [])) → ⊥
 done_before_known h = let e : 4 ≤ 1 = (h.tree_later 0 0 1 (omega arith)).0.0 in absurd (omega (arith, e))
+
+-- a worker took the group offline, and its next command walked it as online
+walked_offline : IsFaithful script (record report { tree = kept (Begin 1 ∷ Done 1 ∷ []); workers = kept (record second.part { answers = kept (second.unheld (reply.OfflineDone 1 0 0) ∷ second.unheld (reply.Walked 0) ∷ []); walks = kept (second.walk 1 0 [] ∷ []) } ∷ []) }) → ⊥
+walked_offline h = h.walks_refused 0 0 (second.walk 1 0 []) refl 0 (omega arith) refl
 
 -- the del's uncharge stands before the put's charge
 uses_fall : IsFaithful script (record report { uses = kept (second.use_step 1 0 false 1 1 ∷ second.use_step 1 1 true 0 0 ∷ []) }) → ⊥

@@ -1,8 +1,9 @@
 -- When a report is faithful: what its workers told stands in the order of their commands, and nothing is told twice. The ten
 -- laws say nothing of it.
-use Rattle.std.specs.Prelude.{◌≡◌, ℕ, ◌+◌, ◌<◌, ◌≤◌, List, [], ◌∷◌, ◌++◌, length, map, slice_get, Some, ⊤}
+use Rattle.std.specs.Prelude.{◌≡◌, ℕ, ◌+◌, ◌<◌, ◌≤◌, List, [], ◌∷◌, ◌++◌, length, map, slice_get, Some, true, ⊤}
 use Rattle.std.specs.List.{AllByRecursion}
 use Rattle.std.specs.Option.{IsSomeAnd}
+use Rattle.shr_base.specs.declared.journals.PoolEntry.{PoolEntry}
 use Rattle.shr_base.specs.declared.journals.UseStep.{UseStep}
 use Rattle.shr_base.specs.declared.replies.Answered.{Answered}
 use Rattle.shr_base.specs.declared.replies.Reply.{Reply}
@@ -11,16 +12,17 @@ use Rattle.shr_base.specs.declared.scripts.Command.{Command}
 use Rattle.shr_base.specs.declared.scripts.Command.TheVariants.{Offline}
 use Rattle.shr_base.specs.declared.scripts.Script.{Script}
 use Rattle.shr_base.specs.declared.walks.Carry.{Carry}
+use Rattle.shr_base.specs.declared.walks.WalkAnswer.{WalkAnswer}
+use Rattle.shr_base.specs.declared.walks.WalkAnswer.TheVariants as walk
 use Rattle.shr_model.specs.Commands.{group_named}
 use Rattle.shr_model.specs.Groups.{IsAtOrAbove}
 use Rattle.shr_model.specs.Pool.{last_number}
 use Rattle.shr_report.specs.declared.report.Report.{Report}
-use Rattle.shr_report.specs.Parts.{parents_of, decls_on, serial_of, lookups_at, all_carries, EachAnswer}
-use Rattle.shr_report.specs.Freshness.{pool_seen, pool_made, of_answer}
-
--- the entry of the journal of registrations that the answer to a command made
-abbrev pub made_by : Report → ℕ → ℕ → List ℕ
-made_by r worker k = of_answer r (serial_of worker k) (λ (a : Answered). pool_made a.reply)
+use Rattle.shr_report.specs.Parts.{parents_of, decls_on, serial_of, reply_at, lookups_at, all_carries, EachAnswer, EachWalk}
+use Rattle.shr_report.specs.Freshness.{pool_seen, pool_made, of_answer, shows_offline}
+use Rattle.shr_report.specs.Causes.{IsMadeBy}
+use Rattle.shr_report.specs.EntryOrder.{AreEntriesInOrder}
+use Rattle.shr_report.specs.LookupOrder.{made_by, AreLookupsInOrder}
 
 -- how many entries of the journal of registrations an answer shows to be there: those that it
 -- speaks of, and the one that it made
@@ -48,6 +50,11 @@ abbrev pub IsOverOnPath : Script → Command → Reply → Type 0
 IsOverOnPath s c (reply.Over group operation usage) = IsSomeAnd (group_named c) (λ own. IsAtOrAbove (parents_of s) group own)
 IsOverOnPath s c x = ⊤
 
+-- a walk found its group offline
+abbrev pub IsRefused : WalkAnswer → Type 0
+IsRefused (walk.Offline entry) = ⊤
+IsRefused a = ⊥
+
 -- each worker's answers stand in the order of its commands, and what was made was made once
 pub record IsFaithful (s : Script) (r : Report) : Type 0 where
   -- no number of the journal of registrations is above the lookups of its id
@@ -57,9 +64,14 @@ pub record IsFaithful (s : Script) (r : Report) : Type 0 where
   pub made_later : (worker k n : ℕ) → made_by r worker k ≡ n ∷ [] → length (decls_on s) ≤ n
   -- what a worker made there, it made behind all that it had known there before
   pub pool_later : (worker k later : ℕ) → k < later → AreNotAbove (of_answer r (serial_of worker k) pool_reached) (made_by r worker later)
+  -- and what it made there, the Idle of a Freed too, lies below all that it knew later
+  pub pool_past : (worker k later n : ℕ) (e : PoolEntry) → k < later → slice_get r.pool.items n ≡ Some e → IsSomeAnd (reply_at r (serial_of worker k)) (IsMadeBy r e n)
+      → AllByRecursion (λ m. n < m) (of_answer r (serial_of worker later) pool_seen)
   -- and so it is with the journal of the tree
   pub tree_later : (worker k later : ℕ) → k < later
       → AreNotAbove (of_answer r (serial_of worker k) (λ (a : Answered). tree_reached a.reply)) (of_answer r (serial_of worker later) (λ (a : Answered). tree_made a.reply))
+  -- once a worker was shown Begin or Done of a group, the walks there of its later commands find it offline
+  pub walks_refused : EachWalk r (λ worker n w. (k : ℕ) → k < w.by.command → shows_offline r (serial_of worker k) w.group ≡ true → IsRefused w.answer)
   -- the operations of a group rise along a worker's commands
   pub uses_rise : (m n : ℕ) (o p : UseStep) → slice_get r.uses.items m ≡ Some o → slice_get r.uses.items n ≡ Some p
       → o.group ≡ p.group → o.by.worker ≡ p.by.worker → o.by.command < p.by.command → o.operation < p.operation
@@ -69,3 +81,7 @@ pub record IsFaithful (s : Script) (r : Report) : Type 0 where
   pub below_root : EachAnswer s r (λ by c a. (group child entry : ℕ) → c ≡ Offline group → a.reply ≡ reply.HasChildren child entry → 0 < group)
   -- a carry is of something
   pub carried : AllByRecursion (λ (c : Carry). 0 < c.amount) (all_carries r)
+  -- lookups rise along a worker, and none is of a registration that its worker had ended
+  pub lookups : AreLookupsInOrder r
+  -- what a worker did at a list stands in the order of its commands
+  pub entries : AreEntriesInOrder r

@@ -28,5 +28,7 @@ pub mod Isolated
 pub mod Swept
 pub mod CausesLawful
 pub mod Lawful
+pub mod LookupOrder
+pub mod EntryOrder
 pub mod Faithful
 pub mod Puts

@@ -1,0 +1,153 @@
+-- The one order of all that the workers did, of a run whose workers are done.
+use Rattle.std.proofs.Common.{◌≡◌, ◌≢◌, ℕ, zero, suc, ◌+◌, ◌<◌, Bool, true, false, cond, List, [], ◌∷◌, ◌++◌, length, sym, refl, ap, subst, ◌∙◌, arith, eq-eqb, ne_eqb}
+use Rattle.std.specs.Prelude.{slice_get, Some, flat_map}
+use Rattle.std.proofs.lemmas.List.{append-nil}
+use Rattle.std.proofs.lemmas.Option.{same_Some, none-some, slice_get_within}
+use Rattle.shr_base.specs.declared.scripts.CacheDecl.{CacheDecl}
+use Rattle.shr_seats.specs.Lines.{Deed, by_seat, part}
+use Rattle.shr_seats.specs.Weights.{Begins}
+use Rattle.shr_seats.proofs.Weighing.{begins_all, begins_more}
+use Rattle.shr_seats.proofs.Lining.{part-append}
+use Rattle.shr_core.specs.declared.view.View.{View}
+use Rattle.shr_core.specs.Order.{AreEvents}
+use Rattle.shr_core.specs.Parts.{Event}
+use Rattle.shr_core.specs.Rule.{opener}
+use Rattle.shr_walk.specs.declared.seats.Shared.{Shared}
+use Rattle.shr_walk.specs.State.{WorkerState}
+use Rattle.shr_worker.specs.Chain.{CrewState}
+use Rattle.shr_tables.specs.declared.ending.Ends.{Ends}
+use Rattle.shr_tables.specs.Opened.{EntersIf, AreEntered, is_on}
+use Rattle.shr_report.specs.declared.report.Report.{Report}
+use Rattle.shr_assemble.specs.declared.logs.WorkerLog.{WorkerLog}
+use Rattle.shr_assemble.specs.Ends.{AreEndsOf, at_start, new_worker, with_workers}
+use Rattle.shr_assemble.specs.Makes.{IsMadeOf}
+use Rattle.shr_assemble.specs.Order.{IsInLine}
+use Rattle.shr_assemble.specs.Steps.{Step, steps_of, AreChained, state_after}
+use Rattle.shr_assemble.proofs.Crews.{there_at}
+use Rattle.shr_assemble.proofs.EndsSteps.{workers, is_crew}
+use Rattle.shr_assemble.proofs.Gathering.{mine_at}
+use Rattle.shr_assemble.proofs.Joined.{joined_list}
+use Rattle.shr_assemble.proofs.Rows.{DidEach}
+
+-- ---- the deeds of seats
+-- these were all done by this seat
+abbrev IsBy : ℕ → List (Deed Event) → Type 0
+IsBy j deeds = (acts : List Event) × (deeds ≡ by_seat j acts)
+
+by_append : (j : ℕ) (a b : List Event) → by_seat j a ++ by_seat j b ≡ by_seat j (a ++ b)
+by_append j [] b = refl
+by_append j (x ∷ a) b = ap (λ (l : List (Deed Event)). record { seat = j; act = x } ∷ l) (by_append j a b)
+
+-- more of the same seat
+by_more : (j i : ℕ) (deeds : List (Deed Event)) (acts : List Event) → IsBy j deeds → i ≡ j → IsBy j (deeds ++ by_seat i acts)
+by_more j i deeds acts h same = (h.0 ++ acts, ap (λ (l : List (Deed Event)). l ++ by_seat i acts) h.1 ∙ (ap (λ (n : ℕ). by_seat j h.0 ++ by_seat n acts) same ∙ by_append j h.0 acts))
+
+part_same : (j : ℕ) (acts : List Event) → part j (by_seat j acts) ≡ by_seat j acts
+part_same j [] = refl
+part_same j (x ∷ acts) = let d : Deed Event = record { seat = j; act = x } in
+    ap (λ (b : Bool). cond b (d ∷ part j (by_seat j acts)) (part j (by_seat j acts))) (eq-eqb j j refl) ∙ ap (λ (l : List (Deed Event)). d ∷ l) (part_same j acts)
+
+part_other : (i j : ℕ) (acts : List Event) → i ≢ j → part j (by_seat i acts) ≡ []
+part_other i j [] n = refl
+part_other i j (x ∷ acts) n = let d : Deed Event = record { seat = i; act = x } in
+    ap (λ (b : Bool). cond b (d ∷ part j (by_seat i acts)) (part j (by_seat i acts))) (ne_eqb i j n) ∙ part_other i j acts n
+
+part_of : (j : ℕ) (deeds : List (Deed Event)) → IsBy j deeds → part j deeds ≡ deeds
+part_of j deeds h = ap (part j) h.1 ∙ (part_same j h.0 ∙ sym h.1)
+
+part_not : (i j : ℕ) (deeds : List (Deed Event)) → IsBy i deeds → i ≢ j → part j deeds ≡ []
+part_not i j deeds h n = ap (part j) h.1 ∙ part_other i j h.0 n
+
+-- ---- workers one after another, each with a seat of the next number
+abbrev deeds_of : CrewState → List (Deed Event)
+deeds_of w = w.seats.core.did
+
+abbrev AreBy : ℕ → List CrewState → Type 0
+AreBy from ws = (i : ℕ) (w : CrewState) → slice_get ws i ≡ Some w → IsBy (from + i) (deeds_of w)
+
+rest_by : (from : ℕ) (w : CrewState) (ws : List CrewState) → AreBy from (w ∷ ws) → AreBy (from + 1) ws
+rest_by from w ws own i v at = let same : from + suc i ≡ from + 1 + i = omega arith in subst (λ (n : ℕ). IsBy n (deeds_of v)) same (own (suc i) v at)
+
+part_none : (from j : ℕ) (ws : List CrewState) → AreBy from ws → j < from → part j (flat_map deeds_of ws) ≡ []
+part_none from j [] own lt = refl
+part_none from j (w ∷ ws) own lt = part-append j (deeds_of w) (flat_map deeds_of ws)
+    ∙ (ap (λ (l : List (Deed Event)). l ++ part j (flat_map deeds_of ws)) (part_not (from + 0) j (deeds_of w) (own 0 w refl) (λ e. omega (arith, e, lt)))
+    ∙ part_none (from + 1) j ws (rest_by from w ws own) (omega (arith, lt)))
+
+part_flat : (from : ℕ) (ws : List CrewState) → AreBy from ws → (i : ℕ) (v : CrewState) → slice_get ws i ≡ Some v → part (from + i) (flat_map deeds_of ws) ≡ deeds_of v
+part_flat from [] own i v at = absurd (none-some v at)
+part_flat from (w ∷ ws) own zero v at = part-append (from + 0) (deeds_of w) (flat_map deeds_of ws)
+    ∙ (ap (λ (l : List (Deed Event)). l ++ part (from + 0) (flat_map deeds_of ws)) (part_of (from + 0) (deeds_of w) (own 0 w refl))
+    ∙ (ap (λ (l : List (Deed Event)). deeds_of w ++ l) (part_none (from + 1) (from + 0) ws (rest_by from w ws own) (omega arith)) ∙ (append-nil (deeds_of w) ∙ ap deeds_of (same_Some w v at))))
+part_flat from (w ∷ ws) own (suc i) v at = let same : from + suc i ≡ from + 1 + i = omega arith in
+    part-append (from + suc i) (deeds_of w) (flat_map deeds_of ws)
+    ∙ (ap (λ (l : List (Deed Event)). l ++ part (from + suc i) (flat_map deeds_of ws)) (part_not (from + 0) (from + suc i) (deeds_of w) (own 0 w refl) (λ e. omega (arith, e)))
+    ∙ (ap (λ (n : ℕ). part n (flat_map deeds_of ws)) same ∙ part_flat (from + 1) ws (rest_by from w ws own) i v at))
+
+-- ---- a worker's deeds are its seat's, and those of the opening the first seat's
+by_chain : (j : ℕ) (t : WorkerState) (mine : List Step) → AreChained t mine → t.core.seat ≡ j → IsBy j t.core.did → IsBy j (state_after t mine).core.did
+by_chain j t [] c seat h = h
+by_chain j t (x ∷ mine) c seat h =
+    let at : x.before.core.seat ≡ j = ap (λ (u : WorkerState). u.core.seat) c.0 ∙ seat in
+    by_chain j x.after mine c.2 (c.1.core.seat ∙ at) (subst (IsBy j) (sym c.1.core.noted) (by_more j x.before.core.seat x.before.core.did c.1.core.did (subst (λ (u : WorkerState). IsBy j u.core.did) (sym c.0) h) at))
+
+-- what a worker did up to the end of a step it did in the end
+did_along : (t : WorkerState) (mine : List Step) → AreChained t mine → Begins t.core.did (state_after t mine).core.did
+did_along t [] c = begins_all _
+did_along t (x ∷ mine) c = begins_more _ _ _ (subst (λ (u : WorkerState). Begins u.core.did x.after.core.did) c.0 (by_seat x.before.core.seat c.1.core.did, c.1.core.noted)) (did_along x.after mine c.2)
+
+after_did : (t : WorkerState) (mine : List Step) (k : ℕ) (y : Step) → AreChained t mine → slice_get mine k ≡ Some y → Begins y.after.core.did (state_after t mine).core.did
+after_did t [] k y c e = absurd (none-some y e)
+after_did t (x ∷ mine) zero y c e = subst (λ (z : Step). Begins z.after.core.did (state_after x.after mine).core.did) (same_Some x y e) (did_along x.after mine c.2)
+after_did t (x ∷ mine) (suc k) y c e = after_did x.after mine k y c.2 e
+
+record IsFirst (v : View) : Type 0 where
+  seat : v.seat ≡ 0
+  did : IsBy 0 v.did
+
+enters_if : (on : Bool) (decl : ℕ) (v w : View) → EntersIf on decl v w → IsFirst v → IsFirst w
+enters_if true decl v w e h = let adds = e.gains.adds in record { seat = adds.seat ∙ h.seat; did = subst (IsBy 0) (sym adds.noted) (by_more 0 v.seat v.did adds.did h.did h.seat) }
+enters_if false decl v w e h = subst IsFirst (sym e) h
+
+entered : (caches : List CacheDecl) (n : ℕ) (w : View) → AreEntered caches n opener w → IsFirst w
+entered caches zero w e = subst IsFirst (sym e) (record { seat = refl; did = ([], refl) })
+entered caches (suc n) w (u, before, one) = enters_if (is_on (slice_get caches n)) n u w one (entered caches n u before)
+
+module _ (x : Shared) (did : DidEach x) (logs : List WorkerLog) (e : Ends) (ends : AreEndsOf x logs e) (r : Report) (made : IsMadeOf x.script logs e r) where
+  lasts_by : AreBy 1 ends.lasts
+  lasts_by i w at =
+      let crew = is_crew x did logs e ends r made in let workers_are = crew.workers_are in let lasts_are = crew.lasts_are in
+      let within = slice_get_within ends.lasts i w at in
+      let log = there_at logs i (omega (arith, within, lasts_are)) in
+      let mine = there_at (workers x did logs e ends r made) i (omega (arith, within, workers_are, lasts_are)) in
+      let row = crew.each i log.0 w mine.0 log.1 at mine.1 in
+      subst (λ (u : WorkerState). IsBy (1 + i) u.core.did) row.ends (by_chain (1 + i) (new_worker ends.opened i).seats mine.0 row.chained refl ([], refl))
+
+  -- all that the first seat has of a worker in the end is what the worker did
+  own_part : (worker : ℕ) (w : CrewState) → slice_get ends.lasts worker ≡ Some w → part (1 + worker) (with_workers (at_start ends.opened ends.standing) ends.lasts).core.did ≡ deeds_of w
+  own_part worker w at =
+      let opened = entered x.script.caches.items (length x.script.caches.items) ends.opened ends.entered in
+      ap (part (1 + worker)) (joined_list {A = Deed Event} (λ g. g.core.did) deeds_of (λ g w. refl) (at_start ends.opened ends.standing) ends.lasts)
+      ∙ (part-append (1 + worker) ends.opened.did (flat_map deeds_of ends.lasts)
+      ∙ (ap (λ (l : List (Deed Event)). l ++ part (1 + worker) (flat_map deeds_of ends.lasts)) (part_not 0 (1 + worker) ends.opened.did opened.did (λ q. omega (arith, q)))
+      ∙ part_flat 1 ends.lasts lasts_by worker w at))
+
+  -- the last state of a step's worker has what the worker did up to the step's end
+  chain_of : (worker k : ℕ) (y : Step) → slice_get (steps_of (workers x did logs e ends r made) worker) k ≡ Some y
+      → (w : CrewState) × (slice_get ends.lasts worker ≡ Some w) × Begins y.after.core.did (deeds_of w)
+  chain_of worker k y at =
+      let team = workers x did logs e ends r made in
+      let crew = is_crew x did logs e ends r made in let workers_are = crew.workers_are in let lasts_are = crew.lasts_are in
+      let mine = mine_at team worker k y at in
+      let within = slice_get_within team worker (steps_of team worker) mine in
+      let log = there_at logs worker (omega (arith, within, workers_are)) in
+      let t = there_at ends.lasts worker (omega (arith, within, workers_are, lasts_are)) in
+      let row = crew.each worker log.0 t.0 (steps_of team worker) log.1 t.1 mine in
+      (t.0, t.1, subst (λ (u : WorkerState). Begins y.after.core.did u.core.did) row.ends (after_did (new_worker ends.opened worker).seats (steps_of team worker) k y row.chained at))
+
+  pub in_line : IsInLine x.script (workers x did logs e ends r made)
+  in_line = record {
+    line = ends.core.line;
+    events = subst (λ (n : ℕ). AreEvents x.script.ids n ends.core.line) ends.from_start.first (subst (λ (n : ℕ). AreEvents n x.core.setting.first_lookup ends.core.line) ends.shared.ids ends.core.events);
+    parts = λ worker k y at. let c = chain_of worker k y at in subst (Begins y.after.core.did) (sym (own_part worker c.0 c.1) ∙ ends.core.parts (1 + worker)) c.2;
+  }

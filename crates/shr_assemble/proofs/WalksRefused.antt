@@ -1,0 +1,35 @@
+-- A walk of a group that its worker was shown to be offline finds it offline, of a run.
+use Rattle.std.proofs.Common.{◌≡◌, ℕ, ◌<◌, List, ap, ◌∙◌, arith}
+use Rattle.std.specs.Prelude.{Some, true}
+use Rattle.std.proofs.lemmas.Option.{slice_get_within}
+use Rattle.shr_base.specs.declared.places.Serial.{Serial}
+use Rattle.shr_base.specs.declared.scripts.Script.{Script}
+use Rattle.shr_base.specs.declared.walks.WalkAnswer.{WalkAnswer}
+use Rattle.shr_base.specs.declared.walks.WalkAnswer.TheVariants as walk
+use Rattle.shr_base.specs.declared.walks.WalkRecord.{WalkRecord}
+use Rattle.shr_report.specs.declared.report.Report.{Report}
+use Rattle.shr_report.specs.Faithful.{IsRefused}
+use Rattle.shr_report.specs.Freshness.{shows_offline}
+use Rattle.shr_report.specs.Parts.{serial_of, walk_at}
+use Rattle.shr_assemble.specs.Steps.{Step, steps_of}
+use Rattle.shr_assemble.specs.Runs.{IsRun}
+use Rattle.shr_assemble.proofs.Crews.{there_at}
+use Rattle.shr_assemble.proofs.Flattening.{walk_of}
+use Rattle.shr_assemble.proofs.FreshLaw.{knows_offline, below_root}
+use Rattle.shr_assemble.proofs.Making.{grows}
+
+-- a walk that can't have gone on was refused
+was_refused : (a : WalkAnswer) → (((entry : ℕ) → a ≡ walk.Offline entry → ⊥) → ⊥) → IsRefused a
+was_refused (walk.Walked freed) never = never (λ entry e. absurd (cc))
+was_refused (walk.Offline entry) never = tt
+was_refused (walk.Memory freed) never = never (λ entry e. absurd (cc))
+
+module _ (s : Script) (r : Report) (workers : List (List Step)) (run : IsRun s r workers) where
+  pub walks_refused : (worker n : ℕ) (w : WalkRecord) → walk_at r worker n ≡ Some w → (k : ℕ) → k < w.by.command → shows_offline r (serial_of worker k) w.group ≡ true → IsRefused w.answer
+  walks_refused worker n w at k lt shows =
+      let t = walk_of s r workers run worker n w at in
+      let command : w.by.command ≡ t.k = ap (λ (z : Serial). z.command) (t.did.by ∙ t.is.by) in
+      let within = slice_get_within (steps_of workers worker) t.k t.step t.at in
+      let x = there_at (steps_of workers worker) k (omega (arith, lt, command, within)) in
+      let g = grows s r workers run worker k t.k x.0 t.step (omega (arith, lt, command)) x.1 t.at in
+      was_refused w.answer (λ on. knows_offline s r workers run worker k x.0 w.group t.step.before x.1 g shows (t.did.online (below_root s r workers run worker k w.group shows) on))

@@ -1,0 +1,16 @@
+-- One order of all that the workers did at the table of the caches.
+use Rattle.std.specs.Prelude.{◌≡◌, ℕ, ◌+◌, List, slice_get, Some}
+use Rattle.shr_base.specs.declared.scripts.Script.{Script}
+use Rattle.shr_seats.specs.Lines.{Deed, part}
+use Rattle.shr_seats.specs.Weights.{Begins}
+use Rattle.shr_core.specs.Order.{AreEvents}
+use Rattle.shr_core.specs.Parts.{Event}
+use Rattle.shr_assemble.specs.Steps.{Step, steps_of}
+
+-- All that the workers did at the table of the caches stands in one line, each worker's as it did it, and each event is so
+-- where it stands. The first seat of the table has the number 0, and the worker with a number the next one.
+pub record IsInLine (s : Script) (workers : List (List Step)) : Type 0 where
+  pub line : List (Deed Event)
+  pub events : AreEvents s.ids 0 line
+  -- up to the end of each of its steps
+  pub parts : (worker k : ℕ) (x : Step) → slice_get (steps_of workers worker) k ≡ Some x → Begins x.after.core.did (part (1 + worker) line)
