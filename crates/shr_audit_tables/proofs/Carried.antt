@@ -1,5 +1,5 @@
 -- The law on deferred words: what well formed gives of it, and its fields put together.
-use Rattle.std.proofs.Common.{◌≡◌, ℕ, zero, suc, ◌+◌, ◌<◌, ◌≤◌, ◌⊎◌, inl, inr, Bool, true, false, List, [], ◌∷◌, length, get_or, map, Option, Some, None, refl, sym, ap, subst, ◌∙◌, arith}
+use Rattle.std.proofs.Common.{◌≡◌, ℕ, zero, suc, ◌+◌, ◌<◌, ◌≤◌, ◌⊎◌, inl, inr, List, [], ◌∷◌, length, get_or, Option, Some, None, refl, sym, ap, subst, ◌∙◌, arith}
 use Rattle.std.specs.Prelude.{slice_get}
 use Rattle.std.specs.List.{AllByRecursion, AllAdjacentBelow}
 use Rattle.std.specs.List.Sorted.{IsNonDecreasingBy}
@@ -14,8 +14,8 @@ use Rattle.shr_base.specs.declared.ends.WorkerPart.{WorkerPart}
 use Rattle.shr_base.specs.declared.scripts.Script.{Script}
 use Rattle.shr_report.specs.declared.report.Report.{Report}
 use Rattle.shr_report.specs.Deferred.{IsCarryRight, IsDeferredLawful}
-use Rattle.shr_report.specs.Parts.{parents_of, carries_in, carries_of}
-use Rattle.shr_report.specs.WellFormed.{IsAmountWell, IsBefore, IsCarryBefore, IsPartWell, IsWellFormed}
+use Rattle.shr_report.specs.Parts.{parents_of, carries_in}
+use Rattle.shr_report.specs.WellFormed.{IsAmountWell, IsBefore, IsCarryBefore, IsWellFormed}
 use Rattle.shr_formed.specs.Each.{Each}
 use Rattle.shr_formed.proofs.Eachs.{below_of, unmapped}
 use Rattle.shr_audit_tables.specs.Deferred.{AreWordsRight}

@@ -1,6 +1,6 @@
 -- The numbers of lookups of an id, among those of all workers.
-use Rattle.std.proofs.Common.{◌≡◌, ◌≢◌, ℕ, zero, suc, ◌+◌, ◌*◌, ◌/◌, ◌%◌, ◌^◌, ◌<◌, ◌≤◌, ◌⊎◌, inl, inr, ⊎_elim, Bool, true, false, cond, List, [], ◌∷◌, ◌++◌, length, get_or, Option, Some, None, refl, sym, ap, subst, ◌∙◌, arith}
-use Rattle.std.specs.Prelude.{◌==◌, ◌&&◌, nat_lt, count_by, filter, filter_map, flat_map, sum_by, slice_get, slice_index, option_and_then, if◌then◌else◌}
+use Rattle.std.proofs.Common.{◌≡◌, ◌≢◌, ℕ, ◌+◌, ◌/◌, ◌%◌, ◌^◌, ◌<◌, ◌≤◌, ◌⊎◌, inl, inr, ⊎_elim, Bool, true, false, cond, List, [], ◌∷◌, ◌++◌, length, get_or, Option, Some, None, refl, sym, ap, subst, ◌∙◌, arith}
+use Rattle.std.specs.Prelude.{◌==◌, ◌&&◌, nat_lt, count_by, filter, filter_map, flat_map, slice_index, option_and_then, if◌then◌else◌}
 use Rattle.std.specs.Bool.{Decides}
 use Rattle.std.specs.List.{AllByRecursion, cons_option}
 use Rattle.std.proofs.lemmas.Bool.{cases_lt}
@@ -20,7 +20,7 @@ use Rattle.shr_model.specs.Attempts.{number_of}
 use Rattle.shr_report.specs.declared.report.Report.{Report}
 use Rattle.shr_report.specs.Lookups.{found_number, found_numbers, tried_numbers}
 use Rattle.shr_report.specs.Numbers.{HasNumbers, IsAnsweredNumbered, IsAttemptNumbered, IsFindNumbered, IsOutcomeNumbered, IsPartNumbered, IsWalkNumbered}
-use Rattle.shr_report.specs.Parts.{lookups_at, all_walks}
+use Rattle.shr_report.specs.Parts.{lookups_at}
 use Rattle.shr_formed.specs.Each.{Each}
 use Rattle.shr_audit_tables.specs.Draws.{AreDrawnOnce, IsDrawn, found_draws, answer_draws, tried_draws, attempt_draws, draw_key, part_draws, walk_draws}
 

@@ -1,31 +1,18 @@
 -- The lookups that were drawn settle with those that are wanted if and only if each number was drawn once.
-use Rattle.std.proofs.Common.{◌≡◌, ◌≢◌, ℕ, zero, suc, ◌+◌, ◌*◌, ◌/◌, ◌%◌, ◌^◌, ◌<◌, ◌≤◌, ◌⊎◌, inl, inr, ⊎_elim, Bool, true, false, cond, eqb, List, [], ◌∷◌, ◌++◌, length, get_or, map, take, Option, Some, None, refl, sym, ap, subst, ◌∙◌, arith}
-use Rattle.std.specs.Prelude.{◌↔◌, ◌==◌, ◌&&◌, ◌||◌, nat_lt, count_by, filter, filter_map, flat_map, sum, sum_by, slice_get, slice_index}
+use Rattle.std.proofs.Common.{◌≡◌, ◌≢◌, ℕ, zero, suc, ◌+◌, ◌/◌, ◌%◌, ◌^◌, ◌<◌, ◌≤◌, ◌⊎◌, inl, inr, Bool, true, false, cond, eqb, List, [], ◌∷◌, ◌++◌, length, get_or, map, take, refl, sym, ap, subst, ◌∙◌, arith}
+use Rattle.std.specs.Prelude.{◌↔◌, ◌==◌, ◌||◌, nat_lt, count_by, filter, sum, sum_by, slice_index}
 use Rattle.std.specs.Bool.{Decides}
-use Rattle.std.specs.List.{AllByRecursion, cons_option, list_any, range_with_len}
-use Rattle.std.proofs.lemmas.Bool.{cases_lt, cases_eq, cases_order}
+use Rattle.std.specs.List.{AllByRecursion, list_any, range_with_len}
+use Rattle.std.proofs.lemmas.Bool.{cases_lt, cases_order}
 use Rattle.std.proofs.lemmas.Bool.Decides.{nat_tests}
-use Rattle.std.proofs.lemmas.List.{get_or_past, length-map, take_all}
-use Rattle.std.proofs.lemmas.List.Concat.{flat_map-append}
+use Rattle.std.proofs.lemmas.List.{length-map, take_all}
 use Rattle.std.proofs.lemmas.List.Sums.{sum_by-cons, sum_by-append, sum_by_more, length-filter, count_by-le-length}
 use Rattle.std.proofs.lemmas.Map.Steps.{le-length_from_below}
 use Rattle.std.proofs.lemmas.Option.{slice_get-get_or}
-use Rattle.shr_base.specs.declared.replies.Found.{Found}
-use Rattle.shr_base.specs.declared.replies.Answered.{Answered}
-use Rattle.shr_base.specs.declared.walks.Attempt.{Attempt}
-use Rattle.shr_base.specs.declared.walks.Outcome.{Outcome}
-use Rattle.shr_base.specs.declared.walks.Outcome.TheVariants as outcome
-use Rattle.shr_base.specs.declared.walks.WalkRecord.{WalkRecord}
-use Rattle.shr_base.specs.declared.ends.WorkerPart.{WorkerPart}
-use Rattle.shr_model.specs.Attempts.{number_of}
-use Rattle.shr_report.specs.declared.report.Report.{Report}
-use Rattle.shr_report.specs.Lookups.{found_number, found_numbers, tried_numbers}
-use Rattle.shr_report.specs.Numbers.{HasNumbers, IsAnsweredNumbered, IsAttemptNumbered, IsFindNumbered, IsOutcomeNumbered, IsPartNumbered, IsWalkNumbered}
-use Rattle.shr_report.specs.Parts.{lookups_at, all_walks}
 use Rattle.shr_formed.specs.Each.{Each}
 use Rattle.shr_sums.specs.declared.moves.Move.{Move}
 use Rattle.shr_sums.specs.Moves.{ups_at, downs_at, IsSettled}
-use Rattle.shr_audit_tables.specs.Draws.{AreDrawnOnce, IsDrawn, found_draws, answer_draws, tried_draws, attempt_draws, draw_key, drawn, part_draws, walk_draws, wanted, wanted_from}
+use Rattle.shr_audit_tables.specs.Draws.{AreDrawnOnce, draw_key, drawn, wanted, wanted_from}
 
 -- ---- the moves
 

@@ -4,10 +4,10 @@ use Rattle.std.specs.Prelude.{filter_map, slice_get}
 use Rattle.std.specs.List.{cons_option, enumerate_from}
 use Rattle.std.proofs.lemmas.Bool.{cases_lt}
 use Rattle.std.proofs.lemmas.Bool.Decides.{nat_tests}
-use Rattle.std.proofs.lemmas.List.{append_assoc, append-nil, take_more, length-take-le, length_push}
+use Rattle.std.proofs.lemmas.List.{take_more, length-take-le, length_push}
 use Rattle.std.proofs.lemmas.Option.{slice_get-get_or, slice_get_within}
 use Rattle.shr_base.specs.declared.journals.PoolEntry.{PoolEntry}
-use Rattle.shr_base.specs.declared.journals.PoolEntry.TheVariants.{Registered, Unregistered, Idle}
+use Rattle.shr_base.specs.declared.journals.PoolEntry.TheVariants.{Registered}
 use Rattle.shr_base.specs.declared.scripts.CacheDecl.{CacheDecl}
 use Rattle.shr_base.specs.declared.scripts.Script.{Script}
 use Rattle.shr_model.specs.Pool.{is_live, last_number, phase_of, IsNextPool, IsPoolJournal}
@@ -15,7 +15,7 @@ use Rattle.shr_model.proofs.PoolLaws.{IsPoolJournal_push, IsPoolJournal_none}
 use Rattle.shr_report.specs.declared.report.Report.{Report}
 use Rattle.shr_report.specs.Parts.{decls_on, lookups_at}
 use Rattle.shr_audit_tables.specs.declared.registrations.IdState.{IdState}
-use Rattle.shr_audit_tables.specs.Registrations.{state_of, AreStates, noted, MayRegister, AreFirst, AreStatesOf, AreLastReached}
+use Rattle.shr_audit_tables.specs.Registrations.{AreStates, noted, MayRegister, AreFirst, AreStatesOf, AreLastReached}
 use Rattle.shr_audit_tables.specs.Lookups.{on_from, Opens, IsPoolLawful}
 use Rattle.shr_audit_tables.proofs.States.{state_none, noted_length, noted_states, phases_small, next_of, next_yes, next_no, past_none}
 

@@ -1,19 +1,19 @@
 -- The states of ids after one entry more of the journal of registrations, and when it may follow.
-use Rattle.std.proofs.Common.{◌≡◌, ◌≢◌, ℕ, zero, suc, ◌+◌, ◌*◌, ◌%◌, ◌<◌, ◌≤◌, ◌⊎◌, inl, inr, ⊎_elim, Bool, true, false, cond, eqb, List, [], ◌∷◌, ◌++◌, length, get_or, set, take, Option, Some, None, refl, sym, ap, subst, ◌∙◌, arith, ne_eqb, eq-eqb}
-use Rattle.std.specs.Prelude.{◌==◌, ◌&&◌, ◌||◌, nat_lt, slice_get}
+use Rattle.std.proofs.Common.{◌≡◌, ◌≢◌, ℕ, zero, suc, ◌+◌, ◌%◌, ◌<◌, ◌≤◌, ◌⊎◌, inl, inr, ⊎_elim, Bool, true, false, cond, List, [], ◌∷◌, ◌++◌, length, get_or, set, take, Option, Some, None, refl, sym, ap, subst, ◌∙◌, arith, ne_eqb}
+use Rattle.std.specs.Prelude.{◌==◌, ◌&&◌, slice_get}
 use Rattle.std.specs.Bool.{Decides}
 use Rattle.std.proofs.lemmas.Bool.{cases_lt, cases_eq}
 use Rattle.std.proofs.lemmas.Bool.Decides.{nat_tests, Decides-below_or, Decides-eqb, Decides-and}
 use Rattle.std.proofs.lemmas.List.{take_more, take_all, length-set, get_or-set_same, get_or-set_other}
-use Rattle.std.proofs.lemmas.Option.{slice_get-get_or, get_or_from_slice_get, slice_get_within, slice_get_past}
+use Rattle.std.proofs.lemmas.Option.{slice_get-get_or, slice_get_within, slice_get_past}
 use mathlib.Core.Option.{some}
 use lib.ListN.{get_elem?}
 use Rattle.shr_base.specs.declared.journals.PoolEntry.{PoolEntry}
 use Rattle.shr_base.specs.declared.journals.PoolEntry.TheVariants.{Registered, Unregistered, Idle}
-use Rattle.shr_model.specs.Pool.{id_of, phase_of, decl_after, decl_from, decl_of, number_after, number_from, last_number, from_after, from_from, from_of, is_live, is_live_below, is_live_decl, is_free, lowest_free, lowest_idle, IsNextPool, IsPoolJournal}
-use Rattle.shr_model.proofs.PoolLaws.{phase_of_push, decl_from_push, number_from_push, from_from_push, IsPoolJournal_push, IsPoolJournal_none}
+use Rattle.shr_model.specs.Pool.{id_of, phase_of, decl_from, decl_of, number_from, last_number, from_from, is_live, is_live_below, is_live_decl, is_free, lowest_free, lowest_idle, IsNextPool, IsPoolJournal}
+use Rattle.shr_model.proofs.PoolLaws.{phase_of_push, decl_from_push, number_from_push, from_from_push}
 use Rattle.shr_audit_tables.specs.declared.registrations.IdState.{IdState}
-use Rattle.shr_audit_tables.specs.Registrations.{state_of, AreStates, state_with, put_state, noted, IsLiveAs, HasLive, IsFreeNow, NoneFree, IsLowestFree, StateIs, MayRegister}
+use Rattle.shr_audit_tables.specs.Registrations.{state_of, AreStates, state_with, put_state, noted, HasLive, IsFreeNow, IsLowestFree, MayRegister}
 
 -- ---- the states of the empty journal, and of one entry more
 

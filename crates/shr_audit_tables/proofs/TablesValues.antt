@@ -1,5 +1,5 @@
 -- What the laws on tables are tested by, at known values.
-use Rattle.std.proofs.Common.{◌≡◌, ℕ, zero, suc, ◌%◌, ◌<◌, false, List, [], ◌∷◌, true, Option, Some, None, refl, sym, ap, arith}
+use Rattle.std.proofs.Common.{◌≡◌, ℕ, zero, suc, ◌%◌, false, List, [], ◌∷◌, true, Option, Some, None, refl, sym, ap, arith}
 use Rattle.std.specs.Prelude.{flat_map}
 use Rattle.shr_base.specs.declared.places.Place.{Place}
 use Rattle.shr_base.specs.declared.ends.WorkerPart.{WorkerPart}

@@ -1,6 +1,6 @@
 -- The moves of all workers settle if and only if each printed word is right.
-use Rattle.std.proofs.Common.{◌≡◌, ℕ, ◌+◌, ◌<◌, ◌≤◌, ◌^◌, ◌⊎◌, inl, inr, ⊎_elim, Bool, true, false, cond, List, [], ◌∷◌, ◌++◌, length, get_or, Option, Some, None, refl, sym, ap, subst, ◌∙◌, arith}
-use Rattle.std.specs.Prelude.{◌↔◌, ◌==◌, ◌&&◌, nat_lt, filter, filter_map, flat_map, sum_by, slice_get, slice_index}
+use Rattle.std.proofs.Common.{◌≡◌, ℕ, ◌+◌, ◌<◌, ◌^◌, ◌⊎◌, inl, inr, ⊎_elim, Bool, true, false, List, [], ◌∷◌, length, get_or, refl, sym, ap, subst, ◌∙◌, arith}
+use Rattle.std.specs.Prelude.{◌↔◌, filter, filter_map, flat_map, sum_by}
 use Rattle.std.specs.Bool.{Decides}
 use Rattle.std.specs.List.{AllByRecursion}
 use Rattle.std.proofs.lemmas.Bool.{cases_lt}
@@ -23,9 +23,7 @@ use Rattle.shr_model.specs.Moves.{is_below, given_at, taken_at}
 use Rattle.shr_model.specs.Places.{is_place}
 use Rattle.shr_model.specs.Walks.{place_in, passes_at}
 use Rattle.shr_report.specs.declared.report.Report.{Report}
-use Rattle.shr_report.specs.Deferred.{printed_at}
 use Rattle.shr_report.specs.Numbers.{HasNumbers, IsPartNumbered, IsWalkNumbered, IsCarryNumbered, IsAmountNumbered}
-use Rattle.shr_report.specs.Parts.{all_walks, all_carries}
 use Rattle.shr_report.specs.WellFormed.{IsWellFormed}
 use Rattle.shr_formed.specs.Each.{Each}
 use Rattle.shr_sums.specs.declared.moves.Move.{Move}

@@ -7,3 +7,5 @@ pub mod draws;
 pub mod idle;
 pub mod lookups;
 pub mod registrations;
+#[cfg(test)]
+mod tests;

@@ -1,7 +1,6 @@
-use Rattle.std.proofs.Common.{List, length}
+use Rattle.std.proofs.Common.{length}
 use Rattle.std.proofs.lemmas.Option.{slice_get_read}
 use Rattle.std.proofs.Common.{refl}
-use Rattle.shr_base.specs.declared.walks.Carry.{Carry}
 use Rattle.shr_base.specs.declared.ends.WorkerPart.{WorkerPart}
 use Rattle.shr_report.specs.Deferred.{IsCarryRight}
 use Rattle.shr_formed.specs.Each.{Each}

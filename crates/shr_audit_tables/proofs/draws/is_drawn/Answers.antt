@@ -1,4 +1,4 @@
-use Rattle.std.proofs.Common.{◌≡◌, ◌<◌, ◌^◌, ℕ, ◌++◌, List, ap, subst, sym, ◌∙◌}
+use Rattle.std.proofs.Common.{◌<◌, ◌^◌, ℕ, ◌++◌, List, ap, subst, sym, ◌∙◌}
 use Rattle.std.specs.Prelude.{flat_map}
 use Rattle.shr_formed.specs.Each.{Each}
 use Rattle.shr_formed.proofs.Eachs.{each_in}

@@ -1,4 +1,4 @@
-use Rattle.std.proofs.Common.{arith, ◌<◌}
+use Rattle.std.proofs.Common.{arith}
 use Rattle.shr_audit_tables.proofs.Steps.{failed}
 use Rattle.shr_audit_tables.proofs.Replay.{replay_none, replay_more, replay_not, small_phases}
 use Rattle.shr_audit_tables.proofs.registrations.replay_pool.Goals as goal
