@@ -1,4 +1,5 @@
 mod Loops
 mod Journals
 mod Beginning
+mod Pairing
 mod ListsValues

@@ -1,11 +1,11 @@
 -- Fields of the law on journals, at known values.
-use Rattle.std.proofs.Common.{◌≡◌, ℕ, zero, suc, ◌<◌, Option, Some, None, List, [], ◌∷◌, refl, ap, subst, arith, true, inl, inr}
+use Rattle.std.proofs.Common.{false, ◌≡◌, ℕ, zero, suc, ◌<◌, Option, Some, None, List, [], ◌∷◌, refl, ap, subst, arith, true, inl, inr}
 use Rattle.std.specs.Prelude.{codes, slice_get}
 use Rattle.std.proofs.lemmas.Option.{slice_get_within}
 use Rattle.shr_base.specs.declared.ends.PlaceEnd.{PlaceEnd}
 use Rattle.shr_base.specs.declared.places.Place.{Place}
 use Rattle.shr_base.specs.declared.journals.DropKind.TheVariants as kind
-use Rattle.shr_base.specs.declared.journals.Entry.TheVariants.{Closed, Drop}
+use Rattle.shr_base.specs.declared.journals.Entry.TheVariants.{Closed, Drop, MovedIn}
 use Rattle.shr_base.specs.declared.journals.TreeEntry.TheVariants.{Begin, Done}
 use Rattle.shr_model.specs.Items.{AreOutcomes}
 use Rattle.shr_model.specs.Families.{lists_moved}
@@ -16,6 +16,7 @@ use Rattle.shr_report.proofs.NotLawful.{with_list}
 use Rattle.shr_model.specs.Groups.{path_within}
 use Rattle.shr_model.proofs.Members.{Has, Has_from_Contains}
 use Rattle.shr_audit_lists.specs.Begun.{AreBegun, AreBegunIfClosed, HaveGroups, IsBegun, IsBegunIfClosed}
+use Rattle.shr_audit_lists.specs.Paired.{AreChildrenPaired, IsOwnPaired, IsPairedAround, moves}
 use Rattle.shr_audit_lists.specs.Fields.{AreDoneClosed, AreFirsts, AreOutcomesSo, ArePlacesOnce, ArePlacesThere, IsClosedAt, IsOutcomeSo}
 
 -- a report with one list, which is closed
@@ -113,3 +114,30 @@ two_groups n end at = let here = there n end at in let group = here.group in ome
 
 one_group : HaveGroups 1 closed_one.places.items → ⊥
 one_group h = let lt : 1 < 1 = h 0 _ refl in absurd (omega arith)
+
+-- an entry that moves the list of group 1 in
+moves_it : moves 1 (MovedIn 1 0) ≡ true
+moves_it = refl
+
+moves_another : moves 2 (MovedIn 1 0) ≡ false
+moves_another = refl
+
+moves_none : moves 1 Closed ≡ false
+moves_none = refl
+
+-- the list of group 1 is closed, and the root's has no entry that moved it in
+not_moved_in : IsOwnPaired (parents_of second.script) closed_one second.place → ⊥
+not_moved_in h = let c = (h (omega arith) (omega arith)).0 refl in let none : c.0 < 0 = c.1 in absurd (omega arith)
+
+child_not_moved_in : AreChildrenPaired (parents_of second.script) closed_one (record second.place { group = 0 }) → ⊥
+child_not_moved_in h = let c = (h 1 refl).0 refl in let none : c.0 < 0 = c.1 in absurd (omega arith)
+
+around : IsPairedAround (parents_of second.script) closed_one second.place → ⊥
+around h = not_moved_in h.0
+
+-- the root's list has no parent, and an open one that nothing moved in fits
+root_paired : IsOwnPaired (parents_of second.script) closed_one (record second.place { group = 0 })
+root_paired above lt = absurd (omega arith)
+
+open_paired : IsOwnPaired (parents_of second.script) second.report second.place
+open_paired above lt = (λ shut. cc, λ c. absurd (let none : c.0 < 0 = c.1 in omega arith))

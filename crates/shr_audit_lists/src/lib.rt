@@ -3,4 +3,5 @@
 
 pub mod begun;
 pub mod done;
+pub mod paired;
 pub mod places;

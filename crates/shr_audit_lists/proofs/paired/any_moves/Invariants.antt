@@ -1,0 +1,7 @@
+use Rattle.std.proofs.Common.{◌≡◌, drop}
+use Rattle.std.specs.List.{list_any}
+use Rattle.shr_audit_lists.specs.Paired.{moves}
+use Rattle.shr_audit_lists.proofs.paired.any_moves.Given as goal
+
+abbrev pub invariant-loop-entry : goal.invariant-loop-entry
+invariant-loop-entry l = list_any (moves l.child) (drop l.entry-index l.entries) ≡ list_any (moves l.child) l.entries

@@ -1,0 +1,10 @@
+use Rattle.std.proofs.Common.{◌≡◌, ℕ, true, below_more}
+use Rattle.shr_model.specs.Groups.{is_child}
+use Rattle.shr_model.specs.Places.{at_group}
+use Rattle.shr_model.specs.Families.{IsPairedAt}
+use Rattle.shr_report.specs.Parts.{journals_of}
+use Rattle.shr_audit_lists.proofs.paired.are_children_paired.Goals as goal
+
+pub loop-child-preserved : goal.loop-child-preserved
+loop-child-preserved c = below_more (λ (n : ℕ). is_child c.args.parents.now c.args.place.group n ≡ true → IsPairedAt c.args.parents.now (journals_of c.args.report.now) (at_group c.args.place n)) c.loop-child.child
+    c.loop-child.invariant (c.is_child_paired.ensures.0 c.if-not-is_child_paired.false)
