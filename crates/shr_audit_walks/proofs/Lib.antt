@@ -7,3 +7,4 @@ mod Ranged
 mod Counted
 mod ShapedLaw
 mod WalksValues
+mod Answered

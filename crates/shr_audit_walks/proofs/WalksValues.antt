@@ -25,7 +25,10 @@ use Rattle.shr_audit_walks.specs.Seen.{ids_below}
 use Rattle.shr_audit_walks.specs.Fields.{IsBareOffline, IsWhole, IsMapped, IsOfRoot, AreTried, AreFirstTries, IsRoomAt, IsRoomLast, freed_by, freed_in}
 use Rattle.shr_audit_walks.specs.Met.{lookup_key}
 use Rattle.shr_audit_walks.specs.Scans.{made_of, freed_of_scan, IsScanOf}
-use Rattle.shr_audit_walks.specs.Commands.{StandByCommand}
+use Rattle.shr_audit_walks.specs.Commands.{StandByCommand, IsAnswerTold, walks_with}
+use Rattle.shr_base.specs.declared.replies.Reply.TheVariants as reply
+use Rattle.shr_base.specs.declared.replies.Reply.TheVariants.{Root}
+use Rattle.shr_base.specs.declared.scripts.Command.TheVariants.{Shrink}
 
 abbrev word : ℕ → MapSeen
 word bits = record { unit = 0; bits = bits }
@@ -146,3 +149,13 @@ skip_of_none h = h refl
 
 gone_stops_none : IsStopAt script report (walk 1 [] [] (Walked 0)) (gone_at 0)
 gone_stops_none d p e f = absurd (cc)
+
+-- the walk of a command among those of others
+of_command : walks_with (by_command 2 ∷ by_command 3 ∷ []) 3 ≡ by_command 3 ∷ []
+of_command = refl
+
+not_asked : IsAnswerTold script 0 [] 99 (record { reply = Root; found = None })
+not_asked c e = absurd (cc)
+
+told_otherwise : IsAnswerTold script 0 [] 3 (record { reply = Root; found = None }) → ⊥
+told_otherwise h = let told : Root ≡ reply.WalkMemory 0 = h (Shrink 2 0 1 false) refl in cc
