@@ -35,7 +35,8 @@ fn parents_fit(parents: &[u16])
 
 // Adds what a worker's passes and carries gave, and what they took.
 fn note_part(moves: &mut Vec<Move>, parents: &[u16], part: &WorkerPart) -> Result<(), Memory>
-    ensures { OnOk result (Gains (given_by parents.now part.now) (taken_by part.now) moves.old.items moves.new.items) }
+    ensures { OnOk result (Gains (given_by parents.now part.now) (taken_by part.now)
+        moves.old.items moves.new.items) }
 {
     note_walks(moves, part.walks.as_slice())?;
     note_carries(moves, parents, part.carries.as_slice())?;
@@ -44,8 +45,10 @@ fn note_part(moves: &mut Vec<Move>, parents: &[u16], part: &WorkerPart) -> Resul
 
 // The same of all workers.
 fn note_parts(moves: &mut Vec<Move>, parents: &[u16], parts: &[WorkerPart]) -> Result<(), Memory>
-    ensures { OnOk result (Gains (λ p. sum_by (λ (part : WorkerPart). given_by parents.now part p) parts.now)
-        (λ p. sum_by (λ (part : WorkerPart). taken_by part p) parts.now) moves.old.items moves.new.items) }
+    ensures { OnOk result (Gains
+        (λ p. sum_by (λ (part : WorkerPart). given_by parents.now part p) parts.now)
+        (λ p. sum_by (λ (part : WorkerPart). taken_by part p) parts.now)
+        moves.old.items moves.new.items) }
 {
     for part in parts {
         note_part(moves, parents, part)?;
@@ -141,9 +144,9 @@ fn are_all_right(script: &Script, report: &Report, parts: &[WorkerPart]) -> bool
     true
 }
 
-/// Whether each deferred word of a report is what passes and carries gave less what they took, modulo
-/// 2^64, and each carry is of an `offline` that carried it. `parents` are those of the script's groups,
-/// the root first. It sorts what passes and carries moved, once. Our own.
+/// Whether each deferred word of a report is what passes and carries gave less what they took,
+/// modulo 2^64, and each carry is of an `offline` that carried it. `parents` are those of the
+/// script's groups, the root first. It sorts what passes and carries moved, once. Our own.
 pub fn is_deferred_lawful(
     alloc: Global,
     parents: &[u16],

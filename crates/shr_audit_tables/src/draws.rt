@@ -187,8 +187,8 @@ fn are_drawn_once(alloc: Global, keys: &[u64], lookups: &[u32]) -> Result<bool, 
     Ok(settled)
 }
 
-/// Whether the numbers of the lookups that found caches, and of those that walks made, are for each id
-/// those from 0 up to its lookups, each once. It sorts all lookups once. Our own.
+/// Whether the numbers of the lookups that found caches, and of those that walks made, are for each
+/// id those from 0 up to its lookups, each once. It sorts all lookups once. Our own.
 pub fn is_drawn(alloc: Global, report: &Report) -> Result<bool, Memory>
     requires well { IsWellFormed report.now }
     requires numbers { HasNumbers report.now }

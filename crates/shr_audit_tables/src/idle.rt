@@ -58,8 +58,8 @@ fn are_empty_if_idle(case: &Case, report: &Report, states: &[IdState], ends: &[P
     true
 }
 
-/// Whether the lists of each id that is idle at the end are empty. `states` are those of the ids at the
-/// end. Our own.
+/// Whether the lists of each id that is idle at the end are empty. `states` are those of the ids at
+/// the end. Our own.
 pub fn are_idle_empty(case: &Case, report: &Report, states: &[IdState]) -> bool
     requires replay { IsReplayOf report.now case.now }
     requires states { AreStates report.now.pool.items states.now }

@@ -1,5 +1,5 @@
-//! The law on lookups: registrations follow each other as they may, and each lookup met what its number
-//! says.
+//! The law on lookups: registrations follow each other as they may, and each lookup met what its
+//! number says.
 
 ghost use Rattle.std.specs.Prelude.{◌≡◌, ◌++◌, [], ◌∷◌, cond, IfOk, IfSome, IfNone, OnOk};
 ghost use Rattle.std.specs.Bool.{Decides};
@@ -65,8 +65,9 @@ fn opens(on: &[usize], pool: &[PoolEntry]) -> bool
     true
 }
 
-/// What the journal of registrations says of each id, or `None` if it isn't one, doesn't begin with the
-/// caches that are `on`, or begins the registration that an id is in above the id's lookups. Our own.
+/// What the journal of registrations says of each id, or `None` if it isn't one, doesn't begin with
+/// the caches that are `on`, or begins the registration that an id is in above the id's lookups.
+/// Our own.
 pub fn lawful_pool(
     alloc: Global,
     script: &Script,

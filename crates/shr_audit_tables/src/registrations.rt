@@ -64,7 +64,8 @@ fn state_with(state: IdState, entry: PoolEntry) -> IdState
 
 // The states after one entry more.
 fn note_entry(states: &mut Vec<IdState>, entry: PoolEntry)
-    requires { (id : ℕ) (x : IdState) → slice_get states.old.items id ≡ Some x → x.phase < 2 ^ 64 - 1 }
+    requires { (id : ℕ) (x : IdState) → slice_get states.old.items id ≡ Some x
+        → x.phase < 2 ^ 64 - 1 }
     ensures { states.new.items ≡ noted states.old.items entry }
 {
     let id = id_of(entry) as usize;
