@@ -1,0 +1,98 @@
+-- What is tested of the law on causes, at known values.
+use Rattle.std.proofs.Common.{◌≡◌, ℕ, ◌<◌, ◌≤◌, true, false, List, [], ◌∷◌, Some, None, refl, inl, inr, arith}
+use Rattle.std.specs.Prelude.{◌^◌, ◌-◌}
+use Rattle.shr_base.specs.declared.places.Serial.{Serial}
+use Rattle.shr_base.specs.declared.journals.Entry.TheVariants.{Drained}
+use Rattle.shr_base.specs.declared.journals.TreeEntry.TheVariants.{Begin, Done}
+use Rattle.shr_base.specs.declared.replies.Reply.TheVariants as reply
+use Rattle.shr_base.specs.declared.scripts.Command.TheVariants as command
+use Rattle.shr_base.specs.declared.walks.Outcome.TheVariants as outcome
+use Rattle.shr_report.proofs.FirstReport.{script, report}
+use Rattle.shr_audit_causes.specs.declared.cites.Cited.{Cited}
+use Rattle.shr_audit_causes.specs.declared.cites.Cited.TheVariants.{Never, Once, Often}
+use Rattle.shr_audit_causes.specs.declared.cites.What.TheVariants as say
+use Rattle.shr_audit_causes.specs.Cites.{CitesNow, IsEarlier, Tells, cited_in, is_registered_by, is_unregistered_by, noted_at}
+use Rattle.shr_audit_causes.specs.Trees.{IsBeginCited, IsDoneOnce, is_cited, is_once}
+use Rattle.shr_audit_causes.specs.Walks.{IsAttemptCaused, IsDrainedRightly}
+
+-- ---- what an answer says
+
+registered : is_registered_by 4 (reply.Registered 0 4) ≡ true
+registered = refl
+
+not_registered : is_registered_by 4 (reply.AlreadyRegistered 4) ≡ false
+not_registered = refl
+
+freed : is_unregistered_by 6 (reply.Freed 0 6 1 2 3) ≡ true
+freed = refl
+
+freed_by_another : is_unregistered_by 7 (reply.Freed 0 6 1 2 3) ≡ false
+freed_by_another = refl
+
+begun : CitesNow say.Begun (Some (command.Offline 2)) reply.Memory 2
+begun = (refl, tt)
+
+begun_by_root : CitesNow say.Begun (Some (command.Offline 0)) reply.Root 0 → ⊥
+begun_by_root h = h.1
+
+-- ---- the table
+
+abbrev by : ℕ → ℕ → Serial
+by worker command = record { worker = worker; command = command }
+
+abbrev table : List Cited
+table = Never ∷ Once 0 3 ∷ []
+
+noted : noted_at (Some 0) 1 5 table ≡ Once 1 5 ∷ Once 0 3 ∷ []
+noted = refl
+
+noted_again : noted_at (Some 1) 1 5 table ≡ Never ∷ Often ∷ []
+noted_again = refl
+
+nothing_noted : noted_at None 1 5 table ≡ table
+nothing_noted = refl
+
+past_the_last : cited_in table 2 ≡ Never
+past_the_last = refl
+
+earlier_worker : IsEarlier 1 0 (by 0 9)
+earlier_worker = inl (omega arith)
+
+later_command : IsEarlier 1 4 (by 1 4) → ⊥
+later_command (inl below) = let lt : 1 < 1 = below in absurd (omega arith)
+later_command (inr below) = let lt : 4 < 4 = below.1 in absurd (omega arith)
+
+tells_one : Tells (λ x. x ≡ by 0 3) (Once 0 3)
+tells_one = (refl, λ x same. same)
+
+tells_none : Tells (λ x. x ≡ by 0 3) Never → ⊥
+tells_none h = h (by 0 3) refl
+
+once : is_once (Once 0 3) ≡ true
+once = refl
+
+often_is_not_once : is_once Often ≡ false
+often_is_not_once = refl
+
+often_is_cited : is_cited Often ≡ true
+often_is_cited = refl
+
+done_once : IsDoneOnce table 1 (Done 2)
+done_once = refl
+
+done_never : IsDoneOnce table 0 (Done 2) → ⊥
+done_never h = absurd cc
+
+begin_uncited : IsBeginCited table (Begin 0) → ⊥
+begin_uncited h = absurd cc
+
+-- ---- attempts and drains of the first report, which has one lookup and one put
+
+not_worn : IsAttemptCaused script report 0 (record { id = 0; outcome = outcome.Empty 0 0 })
+not_worn = tt
+
+worn_early : IsAttemptCaused script report 0 (record { id = 0; outcome = outcome.Worn 3 }) → ⊥
+worn_early h = let few : 2 ^ 32 - 256 ≤ 3 = h.0 in absurd (omega arith)
+
+drained_by_put : IsDrainedRightly report (Drained (by 0 0) 2) → ⊥
+drained_by_put h = h (by 0 0) 2 refl

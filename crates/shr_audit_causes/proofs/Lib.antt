@@ -1,0 +1,4 @@
+mod Noting
+mod Treeing
+mod Wearing
+mod CausesValues

@@ -1,0 +1,194 @@
+-- Answers noted one after another.
+use Rattle.std.proofs.Common.{◌≡◌, ℕ, zero, suc, ◌++◌, [], ◌∷◌, ◌+◌, ◌<◌, ◌≤◌, Bool, true, false, List, length, Option, Some, None, refl, sym, ap, subst, ◌∙◌, ◌⊎◌, inl, inr, arith}
+use Rattle.std.specs.Prelude.{◌==◌, ◌↔◌, slice_get, option_map}
+use Rattle.std.specs.Option.{IsSomeAnd}
+use Rattle.std.proofs.lemmas.Bool.Decides.{nat_tests}
+use Rattle.std.proofs.lemmas.List.{get_or-set_same, get_or-set_other, length-set}
+use Rattle.std.proofs.lemmas.Option.{slice_get_within}
+use Rattle.shr_base.specs.declared.places.Serial.{Serial}
+use Rattle.shr_base.specs.declared.replies.Answered.{Answered}
+use Rattle.shr_base.specs.declared.replies.Reply.{Reply}
+use Rattle.shr_base.specs.declared.scripts.Script.{Script}
+use Rattle.shr_base.specs.declared.ends.WorkerPart.{WorkerPart}
+use Rattle.shr_report.specs.declared.report.Report.{Report}
+use Rattle.shr_report.specs.Parts.{answer_at, answers_in, answers_of, command_at, reply_at, serial_of}
+use Rattle.shr_audit_causes.specs.declared.cites.What.{What}
+use Rattle.shr_audit_causes.specs.declared.cites.Cited.{Cited}
+use Rattle.shr_audit_causes.specs.declared.cites.Cited.TheVariants.{Never, Once, Often}
+use Rattle.shr_audit_causes.specs.Cites.{AreCited, AreCitedBefore, Cites, CitesNow, IsEarlier, IsNever, NotesAnswer, Tells, after_cited, cited_in, noted_at}
+
+-- the same is told of what is so of the same commands
+pub tells_same : (P Q : Serial → Type 0) → ((x : Serial) → P x → Q x) → ((x : Serial) → Q x → P x) → (c : Cited) → Tells P c → Tells Q c
+tells_same P Q to from Never t = λ x q. t x (from x q)
+tells_same P Q to from (Once w k) t = (to (serial_of w k) t.0, λ x q. t.1 x (from x q))
+tells_same P Q to from Often t = (t.0, (t.1.0, (t.1.1.0, (to t.0 t.1.1.1.0, to t.1.0 t.1.1.1.1))))
+
+-- one more is so
+tells_more : (P Q : Serial → Type 0) (w k : ℕ) → ((x : Serial) → P x → Q x) → ((x : Serial) → Q x → P x ⊎ (x ≡ serial_of w k)) → (P (serial_of w k) → ⊥) → Q (serial_of w k) → (c : Cited) → Tells P c → Tells Q (after_cited c w k)
+tells_more P Q w k to from new own Never t = (own, λ x q. elim (from x q) [ inl p ↦ absurd (t x p) | inr same ↦ same ])
+tells_more P Q w k to from new own (Once v j) t =
+    (serial_of v j, (serial_of w k, ((λ same. new (subst P same t.0)), (to (serial_of v j) t.0, own))))
+tells_more P Q w k to from new own Often t = (t.0, (t.1.0, (t.1.1.0, (to t.0 t.1.1.1.0, to t.1.0 t.1.1.1.1))))
+
+-- ---- the order of commands
+
+none_before : (x : Serial) → IsEarlier 0 0 x → ⊥
+none_before x (inl lt) = omega (arith, lt)
+none_before x (inr h) = let lt = h.1 in omega (arith, lt)
+
+not_before_itself : (w k : ℕ) → IsEarlier w k (serial_of w k) → ⊥
+not_before_itself w k (inl lt) = let below : w < w = lt in omega arith
+not_before_itself w k (inr h) = let below : k < k = h.1 in omega arith
+
+one_later : (w k : ℕ) (x : Serial) → IsEarlier w k x → IsEarlier w (k + 1) x
+one_later w k x (inl lt) = inl lt
+one_later w k x (inr h) = inr (h.0, (let lt = h.1 in omega (arith, lt)))
+
+itself_later : (w k : ℕ) → IsEarlier w (k + 1) (serial_of w k)
+itself_later w k = inr (refl, (omega arith))
+
+before_or_itself : (w k : ℕ) (x : Serial) → IsEarlier w (k + 1) x → IsEarlier w k x ⊎ (x ≡ serial_of w k)
+before_or_itself w k x (inl lt) = inl (inl lt)
+before_or_itself w k x (inr h) = by_order (x.command == k) refl
+  where
+    by_order : (b : Bool) → (x.command == k) ≡ b → IsEarlier w k x ⊎ (x ≡ serial_of w k)
+    by_order true f =
+        let same : x.command ≡ k = grind (arith, nat_tests) in
+        inr (ap (λ (v : ℕ). serial_of v x.command) h.0 ∙ ap (λ (j : ℕ). serial_of w j) same)
+    by_order false f = inl (inr (h.0, (let below = h.1 in let other : x.command ≡ k → ⊥ = grind (arith, nat_tests) in grind arith)))
+
+-- ---- one answer
+
+-- an answer that says nothing of an entry
+pub nothing_told : (s : Script) (r : Report) (what : What) (w k n : ℕ) (c : Cited) → (Cites s r what n (serial_of w k) → ⊥)
+    → Tells (λ x. IsEarlier w k x × Cites s r what n x) c → Tells (λ x. IsEarlier w (k + 1) x × Cites s r what n x) c
+nothing_told s r what w k n c silent t = tells_same (λ x. IsEarlier w k x × Cites s r what n x) (λ x. IsEarlier w (k + 1) x × Cites s r what n x)
+    (λ x p. (one_later w k x p.0, p.1))
+    (λ x q. elim (before_or_itself w k x q.0) [ inl before ↦ (before, q.1) | inr same ↦ absurd (silent (subst (λ (y : Serial). Cites s r what n y) same q.1)) ]) c t
+
+-- one that speaks of it
+something_told : (s : Script) (r : Report) (what : What) (w k n : ℕ) (c : Cited) → Cites s r what n (serial_of w k)
+    → Tells (λ x. IsEarlier w k x × Cites s r what n x) c → Tells (λ x. IsEarlier w (k + 1) x × Cites s r what n x) (after_cited c w k)
+something_told s r what w k n c own t = tells_more (λ x. IsEarlier w k x × Cites s r what n x) (λ x. IsEarlier w (k + 1) x × Cites s r what n x) w k
+    (λ x p. (one_later w k x p.0, p.1))
+    (λ x q. elim (before_or_itself w k x q.0) [ inl before ↦ inl (before, q.1) | inr same ↦ inr same ])
+    (λ p. not_before_itself w k p.0) (itself_later w k, own) c t
+
+some_same : {X : Type 0} (a b : X) → ◌≡◌ {A = Option X} (Some a) (Some b) → a ≡ b
+some_same a b e = cc
+
+-- what an answer tells is noted
+pub answer_noted : (s : Script) (r : Report) (what : What) (w k : ℕ) (told : Option ℕ) (table : List Cited) → ((n : ℕ) → Cites s r what n (serial_of w k) ↔ (told ≡ Some n)) → NotesAnswer s r what w k table (noted_at told w k table)
+answer_noted s r what w k None table tells = record {
+  count = refl;
+  noted = λ before n lt. nothing_told s r what w k n (cited_in table n) (λ c. let e : ◌≡◌ {A = Option ℕ} None (Some n) = (tells n).0 c in cc) (before n lt);
+}
+answer_noted s r what w k (Some m) table tells = record {
+  count = length-set table m (after_cited (cited_in table m) w k);
+  noted = λ before n lt. at before n (subst (λ (i : ℕ). n < i) (length-set table m (after_cited (cited_in table m) w k)) lt);
+}
+  where
+    new : List Cited
+    new = noted_at (Some m) w k table
+
+    at : AreCitedBefore s r what w k table → (n : ℕ) → n < length table → Tells (λ x. IsEarlier w (k + 1) x × Cites s r what n x) (cited_in new n)
+    at before n lt = by_order (n == m) refl
+      where
+        by_order : (b : Bool) → (n == m) ≡ b → Tells (λ x. IsEarlier w (k + 1) x × Cites s r what n x) (cited_in new n)
+        by_order true f =
+            let same : m ≡ n = grind (arith, nat_tests) in
+            let here : m < length table = subst (λ (i : ℕ). i < length table) (sym same) lt in
+            subst (λ (i : ℕ). Tells (λ x. IsEarlier w (k + 1) x × Cites s r what i x) (cited_in new i)) same
+            (subst (Tells (λ x. IsEarlier w (k + 1) x × Cites s r what m x)) (sym (get_or-set_same table m (after_cited (cited_in table m) w k) Never here))
+            (something_told s r what w k m (cited_in table m) ((tells m).1 refl) (before m here)))
+        by_order false f =
+            let other : n ≡ m → ⊥ = grind (arith, nat_tests) in
+            subst (Tells (λ x. IsEarlier w (k + 1) x × Cites s r what n x)) (sym (get_or-set_other table m n (after_cited (cited_in table m) w k) Never other))
+            (nothing_told s r what w k n (cited_in table n) (λ c. other (sym (some_same m n ((tells n).0 c)))) (before n lt))
+
+-- what the answer to a command tells, by its reply
+cites_reply : (s : Script) (r : Report) (what : What) (w k n : ℕ) (a : Answered) → answer_at r (serial_of w k) ≡ Some a → Cites s r what n (serial_of w k) ↔ CitesNow what (command_at s (serial_of w k)) a.reply n
+cites_reply s r what w k n a there = (to (answer_at r (serial_of w k)) there, from (answer_at r (serial_of w k)) there)
+  where
+    to : (o : Option Answered) → o ≡ Some a → IsSomeAnd (option_map (λ (b : Answered). b.reply) o) (λ x. CitesNow what (command_at s (serial_of w k)) x n) → CitesNow what (command_at s (serial_of w k)) a.reply n
+    to None e c = absurd c
+    to (Some b) e c = subst (λ (x : Answered). CitesNow what (command_at s (serial_of w k)) x.reply n) (some_same b a e) c
+
+    from : (o : Option Answered) → o ≡ Some a → CitesNow what (command_at s (serial_of w k)) a.reply n → IsSomeAnd (option_map (λ (b : Answered). b.reply) o) (λ x. CitesNow what (command_at s (serial_of w k)) x n)
+    from None e c = absurd (cc)
+    from (Some b) e c = subst (λ (x : Answered). CitesNow what (command_at s (serial_of w k)) x.reply n) (sym (some_same b a e)) c
+
+pub told_noted : (s : Script) (r : Report) (what : What) (w k : ℕ) (a : Answered) (told : Option ℕ) (table : List Cited) → Some a ≡ answer_at r (serial_of w k)
+    → ((n : ℕ) → CitesNow what (command_at s (serial_of w k)) a.reply n ↔ (told ≡ Some n)) → NotesAnswer s r what w k table (noted_at told w k table)
+told_noted s r what w k a told table there tells = answer_noted s r what w k told table (λ n. (let c = cites_reply s r what w k n a (sym there) in (λ h. (tells n).0 (c.0 h), λ e. c.1 ((tells n).1 e))))
+
+-- there is no answer
+pub none_noted : (s : Script) (r : Report) (what : What) (w k : ℕ) (table : List Cited) → answer_at r (serial_of w k) ≡ None → NotesAnswer s r what w k table table
+none_noted s r what w k table none = record {
+  count = refl;
+  noted = λ before n lt. nothing_told s r what w k n (cited_in table n) (λ c. no (answer_at r (serial_of w k)) none n c) (before n lt);
+}
+  where
+    no : (o : Option Answered) → o ≡ None → (n : ℕ) → IsSomeAnd (option_map (λ (a : Answered). a.reply) o) (λ x. CitesNow what (command_at s (serial_of w k)) x n) → ⊥
+    no None e n c = c
+    no (Some a) e n c = absurd cc
+
+-- ---- workers
+
+-- a command with an answer has a number below that of its worker's answers
+has_answer : (r : Report) (x : Serial) (P : Reply → Type 0) → IsSomeAnd (reply_at r x) P → x.command < length (answers_of r x.worker)
+has_answer r x P h = there (answer_at r x) refl h
+  where
+    there : (o : Option Answered) → answer_at r x ≡ o → IsSomeAnd (option_map (λ (a : Answered). a.reply) o) P → x.command < length (answers_of r x.worker)
+    there None e c = absurd c
+    there (Some a) e c = slice_get_within (answers_of r x.worker) x.command a e
+
+-- and a worker below the number of parts
+has_part : (r : Report) (x : Serial) (P : Reply → Type 0) → IsSomeAnd (reply_at r x) P → x.worker < length r.workers.items
+has_part r x P h = there (slice_get r.workers.items x.worker) refl (has_answer r x P h)
+  where
+    there : (o : Option WorkerPart) → slice_get r.workers.items x.worker ≡ o → x.command < length (answers_in o) → x.worker < length r.workers.items
+    there None e lt = absurd (omega (arith, lt))
+    there (Some part) e lt = slice_get_within r.workers.items x.worker part e
+
+-- the next worker begins where the last answer of this one was noted
+pub next_worker : (s : Script) (r : Report) (what : What) (w k : ℕ) (table : List Cited) → length (answers_of r w) ≤ k → AreCitedBefore s r what w k table → AreCitedBefore s r what (w + 1) 0 table
+next_worker s r what w k table over before n lt = tells_same (λ x. IsEarlier w k x × Cites s r what n x) (λ x. IsEarlier (w + 1) 0 x × Cites s r what n x)
+    (λ x p. (up x p.0, p.1)) (λ x q. (down x q.0 q.1, q.1)) (cited_in table n) (before n lt)
+  where
+    up : (x : Serial) → IsEarlier w k x → IsEarlier (w + 1) 0 x
+    up x (inl below) = inl (omega (arith, below))
+    up x (inr h) = inl (let same = h.0 in omega (arith, same))
+
+    down : (x : Serial) → IsEarlier (w + 1) 0 x → Cites s r what n x → IsEarlier w k x
+    down x (inr h) c = absurd (let below = h.1 in omega (arith, below))
+    down x (inl below) c = by_order (x.worker == w) refl
+      where
+        by_order : (b : Bool) → (x.worker == w) ≡ b → IsEarlier w k x
+        by_order true f =
+            let same : x.worker ≡ w = grind (arith, nat_tests) in
+            let few : x.command < length (answers_of r w) = subst (λ (v : ℕ). x.command < length (answers_of r v)) same (has_answer r x (λ y. CitesNow what (command_at s x) y n) c) in
+            inr (same, (omega (arith, few, over)))
+        by_order false f = inl (let other : x.worker ≡ w → ⊥ = grind (arith, nat_tests) in grind arith)
+
+-- an empty table, and one place more in it
+pub never_none : (table : List Cited) → table ≡ [] → (n : ℕ) → cited_in table n ≡ Never
+never_none table none n = ap (λ (xs : List Cited). cited_in xs n) none
+
+pub never_push : (table : List Cited) → ((n : ℕ) → cited_in table n ≡ Never) → (n : ℕ) → cited_in (table ++ Never ∷ []) n ≡ Never
+never_push [] h zero = refl
+never_push [] h (suc n) = h n
+never_push (x ∷ xs) h zero = h 0
+never_push (x ∷ xs) h (suc n) = never_push xs (λ m. h (suc m)) n
+
+-- before the first
+pub first_worker : (s : Script) (r : Report) (what : What) (size : ℕ) (table : List Cited) → IsNever size table → AreCitedBefore s r what 0 0 table
+first_worker s r what size table never n lt = subst (Tells (λ x. IsEarlier 0 0 x × Cites s r what n x)) (sym (never.each n)) (λ x p. none_before x p.0)
+
+-- behind the last
+pub last_worker : (s : Script) (r : Report) (what : What) (w : ℕ) (table : List Cited) → length r.workers.items ≤ w → AreCitedBefore s r what w 0 table → AreCited s r what (length table) table
+last_worker s r what w table over before = record {
+  count = refl;
+  each = λ n lt. tells_same (λ x. IsEarlier w 0 x × Cites s r what n x) (λ x. Cites s r what n x) (λ x p. p.1)
+      (λ x c. (inl (let part = has_part r x (λ y. CitesNow what (command_at s x) y n) c in omega (arith, part, over)), c)) (cited_in table n) (before n lt);
+}

@@ -1,0 +1,107 @@
+-- The entries of the journal of the tree against the table of the answers that cite them.
+use Rattle.std.proofs.Common.{◌≡◌, ℕ, Bool, true, List, length, Option, Some, None, refl, sym, ap, subst, ◌∙◌}
+use Rattle.std.specs.Prelude.{slice_get}
+use Rattle.std.specs.Bool.{Decides}
+use Rattle.std.specs.Option.{IsSomeAnd}
+use Rattle.std.proofs.lemmas.Option.{slice_get_within}
+use Rattle.shr_base.specs.declared.places.Serial.{Serial}
+use Rattle.shr_base.specs.declared.replies.Reply.{Reply}
+use Rattle.shr_base.specs.declared.journals.TreeEntry.{TreeEntry}
+use Rattle.shr_base.specs.declared.journals.TreeEntry.TheVariants.{Begin, Done, Made}
+use Rattle.shr_base.specs.declared.scripts.Script.{Script}
+use Rattle.shr_report.specs.declared.report.Report.{Report}
+use Rattle.shr_report.specs.Causes.{IsOffline, MayHaveBegun}
+use Rattle.shr_report.specs.Parts.{command_at, reply_at, serial_of}
+use Rattle.shr_report.specs.WellFormed.{IsTreeNumbered}
+use Rattle.shr_formed.specs.Each.{Each}
+use Rattle.shr_audit_causes.specs.declared.cites.Cited.{Cited}
+use Rattle.shr_audit_causes.specs.declared.cites.Cited.TheVariants.{Never, Once, Often}
+use Rattle.shr_audit_causes.specs.declared.cites.What.TheVariants as what
+use Rattle.shr_audit_causes.specs.Cites.{AreCited, Cites, CitesNow, Tells, cited_in}
+use Rattle.shr_audit_causes.specs.Trees.{AreBeginsCaused, AreDonesCaused, AreMadesCaused, IsBeginCited, IsDoneOnce, IsMadeOnce, is_cited, is_once}
+
+-- there is just one of which it is so
+record IsOne (P : Serial → Type 0) : Type 0 where
+  pub by : Serial
+  pub so : P by
+  pub once : (x : Serial) → P x → x ≡ by
+
+one_of : (P : Serial → Type 0) (c : Cited) → Tells P c → is_once c ≡ true → IsOne P
+one_of P Never t e = absurd cc
+one_of P (Once w k) t e = record { by = serial_of w k; so = t.0; once = t.1 }
+one_of P Often t e = absurd cc
+
+of_one : (P : Serial → Type 0) (c : Cited) → Tells P c → IsOne P → is_once c ≡ true
+of_one P Never t o = absurd (t o.by o.so)
+of_one P (Once w k) t o = refl
+of_one P Often t o = absurd (t.1.1.0 (o.once t.0 t.1.1.1.0 ∙ sym (o.once t.1.0 t.1.1.1.1)))
+
+-- there is one
+some_of : (P : Serial → Type 0) (c : Cited) → Tells P c → is_cited c ≡ true → (by : Serial) × P by
+some_of P Never t e = absurd cc
+some_of P (Once w k) t e = (serial_of w k, t.0)
+some_of P Often t e = (t.0, t.1.1.1.0)
+
+of_some : (P : Serial → Type 0) (c : Cited) → Tells P c → (by : Serial) → P by → is_cited c ≡ true
+of_some P Never t by p = absurd (t by p)
+of_some P (Once w k) t by p = refl
+of_some P Often t by p = refl
+
+-- entries by their kinds
+done_case : (table : List Cited) (n : ℕ) (e : TreeEntry) → ((group : ℕ) → e ≡ Done group → is_once (cited_in table n) ≡ true) → IsDoneOnce table n e
+done_case table n (Begin group) h = tt
+done_case table n (Done group) h = h group refl
+done_case table n (Made group) h = tt
+
+made_case : (table : List Cited) (n : ℕ) (e : TreeEntry) → ((group : ℕ) → e ≡ Made group → is_once (cited_in table n) ≡ true) → IsMadeOnce table n e
+made_case table n (Begin group) h = tt
+made_case table n (Done group) h = tt
+made_case table n (Made group) h = h group refl
+
+begin_case : (table : List Cited) (e : TreeEntry) → ((group : ℕ) → e ≡ Begin group → is_cited (cited_in table group) ≡ true) → IsBeginCited table e
+begin_case table (Begin group) h = h group refl
+begin_case table (Done group) h = tt
+begin_case table (Made group) h = tt
+
+pub dones_of : (s : Script) (r : Report) (table : List Cited) (b : Bool) → AreCited s r what.Done (length r.tree.items) table
+    → Decides b ((n : ℕ) (e : TreeEntry) → slice_get r.tree.items n ≡ Some e → IsDoneOnce table n e) → Decides b (AreDonesCaused r)
+dones_of s r table b cited d = (
+  λ t n group at. (let o = one_of (λ x. Cites s r what.Done n x) (cited_in table n) (cited.each n (slice_get_within r.tree.items n (Done group) at)) (d.0 t n (Done group) at) in
+      record { by = o.by; cited = o.so; once = o.once }),
+  λ all. d.1 (λ n e at. done_case table n e (λ group is. (let o = all n group (at ∙ ap (λ (x : TreeEntry). Some x) is) in
+      of_one (λ x. Cites s r what.Done n x) (cited_in table n) (cited.each n (slice_get_within r.tree.items n e at)) (record { by = o.by; so = o.cited; once = o.once })))),
+)
+
+pub mades_of : (s : Script) (r : Report) (table : List Cited) (b : Bool) → AreCited s r what.Made (length r.tree.items) table
+    → Decides b ((n : ℕ) (e : TreeEntry) → slice_get r.tree.items n ≡ Some e → IsMadeOnce table n e) → Decides b (AreMadesCaused r)
+mades_of s r table b cited d = (
+  λ t n group at. (let o = one_of (λ x. Cites s r what.Made n x) (cited_in table n) (cited.each n (slice_get_within r.tree.items n (Made group) at)) (d.0 t n (Made group) at) in
+      record { by = o.by; cited = o.so; once = o.once }),
+  λ all. d.1 (λ n e at. made_case table n e (λ group is. (let o = all n group (at ∙ ap (λ (x : TreeEntry). Some x) is) in
+      of_one (λ x. Cites s r what.Made n x) (cited_in table n) (cited.each n (slice_get_within r.tree.items n e at)) (record { by = o.by; so = o.cited; once = o.once })))),
+)
+
+-- an `offline` that may have begun, by its reply
+begun_of : (s : Script) (r : Report) (by : Serial) (group : ℕ) → Cites s r what.Begun group by → IsOffline s r by group MayHaveBegun
+begun_of s r by group c = there (reply_at r by) refl c
+  where
+    there : (o : Option Reply) → reply_at r by ≡ o → IsSomeAnd o (λ x. CitesNow what.Begun (command_at s by) x group) → IsOffline s r by group MayHaveBegun
+    there None e h = absurd h
+    there (Some x) e h = record { command_is = h.0; answer = subst (λ (o : Option Reply). IsSomeAnd o MayHaveBegun) (sym e) h.1 }
+
+of_begun : (s : Script) (r : Report) (by : Serial) (group : ℕ) → IsOffline s r by group MayHaveBegun → Cites s r what.Begun group by
+of_begun s r by group h = there (reply_at r by) h.answer
+  where
+    there : (o : Option Reply) → IsSomeAnd o MayHaveBegun → IsSomeAnd o (λ x. CitesNow what.Begun (command_at s by) x group)
+    there None a = a
+    there (Some x) a = (h.command_is, a)
+
+pub begins_of : (s : Script) (r : Report) (table : List Cited) (b : Bool) → Each IsTreeNumbered r.tree.items → AreCited s r what.Begun 65536 table
+    → Decides b ((n : ℕ) (e : TreeEntry) → slice_get r.tree.items n ≡ Some e → IsBeginCited table e) → Decides b (AreBeginsCaused s r)
+begins_of s r table b fits cited d = (
+  λ t n group at. (let o = some_of (λ x. Cites s r what.Begun group x) (cited_in table group) (cited.each group (fits n (Begin group) at)) (d.0 t n (Begin group) at) in
+      (o.0, begun_of s r o.0 group o.1)),
+  λ all. d.1 (λ n e at. begin_case table e (λ group is. (let here : slice_get r.tree.items n ≡ Some (Begin group) = at ∙ ap (λ (x : TreeEntry). Some x) is in
+      let o = all n group here in
+      of_some (λ x. Cites s r what.Begun group x) (cited_in table group) (cited.each group (fits n (Begin group) here)) o.0 (of_begun s r o.0 group o.1)))),
+)

@@ -1,0 +1,20 @@
+use Rattle.std.proofs.Common.{◌≡◌, ℕ, List, Some, slice_get, subst}
+use Rattle.std.specs.Bool.{Decides}
+use Rattle.shr_base.specs.declared.ends.WorkerPart.{WorkerPart}
+use Rattle.shr_case.proofs.Eachs.{decides_iff, each_walk_of}
+use Rattle.shr_formed.specs.Each.{Each}
+use Rattle.shr_report.specs.Parts.{EachAttempt, EachWalk}
+use Rattle.shr_audit_causes.specs.Walks.{IsAttemptCaused, IsWornRightly}
+use Rattle.shr_audit_causes.proofs.Wearing.{caused_rightly, rightly_caused}
+use Rattle.shr_audit_causes.proofs.attempts.are_attempts_caused.Goals as goal
+
+pub returns : goal.returns
+returns c =
+    let s = c.args.script.now in
+    let r = c.args.report.now in
+    let b = c.parts_are_worn-all.result in
+    decides_iff b (EachWalk r (λ worker n w. EachAttempt w (λ a. IsAttemptCaused s r worker a))) (EachWalk r (λ worker n w. EachAttempt w (λ a. IsWornRightly s r worker a)))
+    (λ all worker n w at k a there. caused_rightly s r worker a.id a.outcome (all worker n w at k a there))
+    (λ all worker n w at k a there. rightly_caused s r worker a.id a.outcome (all worker n w at k a there))
+    (each_walk_of r (λ worker n w. EachAttempt w (λ a. IsAttemptCaused s r worker a)) b
+    (subst (λ (parts : List WorkerPart). Decides b ((worker : ℕ) (part : WorkerPart) → slice_get parts worker ≡ Some part → Each (λ w. EachAttempt w (λ a. IsAttemptCaused s r worker a)) part.walks.items)) c.as_slice.ensures c.parts_are_worn-all.ensures))

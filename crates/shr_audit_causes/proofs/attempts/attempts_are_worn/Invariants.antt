@@ -1,0 +1,7 @@
+use Rattle.std.proofs.Common.{◌≡◌, ◌<◌, ℕ, Some, slice_get}
+use Rattle.shr_base.specs.declared.walks.Attempt.{Attempt}
+use Rattle.shr_audit_causes.specs.Walks.{IsAttemptCaused}
+use Rattle.shr_audit_causes.proofs.attempts.attempts_are_worn.Given as goal
+
+abbrev pub invariant-loop-attempt : goal.invariant-loop-attempt
+invariant-loop-attempt l = (n : ℕ) (x : Attempt) → n < l.attempt-index → slice_get l.attempts n ≡ Some x → IsAttemptCaused l.script l.report l.worker x

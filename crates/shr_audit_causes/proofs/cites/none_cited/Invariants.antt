@@ -1,0 +1,10 @@
+use Rattle.std.proofs.Common.{◌≡◌, ℕ, length}
+use Rattle.shr_audit_causes.specs.declared.cites.Cited.TheVariants.{Never}
+use Rattle.shr_audit_causes.specs.Cites.{cited_in}
+use Rattle.shr_audit_causes.proofs.cites.none_cited.Given as goal
+
+abbrev pub invariant-loop-n : goal.invariant-loop-n
+invariant-loop-n l = record {
+  count : length l.table.items ≡ l._n;
+  each : (n : ℕ) → cited_in l.table.items n ≡ Never;
+}

@@ -1,0 +1,15 @@
+use Rattle.std.proofs.Common.{List, subst}
+use Rattle.std.specs.Bool.{Decides}
+use Rattle.shr_base.specs.declared.ends.PlaceEnd.{PlaceEnd}
+use Rattle.shr_case.specs.Each.{EachFirst}
+use Rattle.shr_case.proofs.Eachs.{each_entry_of}
+use Rattle.shr_formed.specs.Each.{Each}
+use Rattle.shr_audit_causes.specs.Walks.{IsDrainedRightly}
+use Rattle.shr_audit_causes.proofs.drains.are_drains_caused.Goals as goal
+
+pub returns : goal.returns
+returns c =
+    let r = c.args.report.now in
+    let b = c.are_lists_drained_rightly-all.result in
+    each_entry_of r (λ place n e. IsDrainedRightly r e) b
+    (subst (λ (ends : List PlaceEnd). Decides b (EachFirst ends (λ end. Each (λ e. IsDrainedRightly r e) end.entries.items))) c.as_slice.ensures c.are_lists_drained_rightly-all.ensures)

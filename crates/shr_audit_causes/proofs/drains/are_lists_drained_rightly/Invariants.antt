@@ -1,0 +1,9 @@
+use Rattle.std.proofs.Common.{◌≡◌, ◌<◌, ℕ, Some, slice_get}
+use Rattle.shr_base.specs.declared.ends.PlaceEnd.{PlaceEnd}
+use Rattle.shr_case.specs.Places.{IsFirst}
+use Rattle.shr_formed.specs.Each.{Each}
+use Rattle.shr_audit_causes.specs.Walks.{IsDrainedRightly}
+use Rattle.shr_audit_causes.proofs.drains.are_lists_drained_rightly.Given as goal
+
+abbrev pub invariant-loop-k : goal.invariant-loop-k
+invariant-loop-k l = (j : ℕ) (end : PlaceEnd) → j < l.k → slice_get l.ends j ≡ Some end → IsFirst l.ends j end.place → Each (λ e. IsDrainedRightly l.report e) end.entries.items

@@ -1,0 +1,19 @@
+use Rattle.std.proofs.Common.{◌≡◌, ℕ, List, Some, length, slice_get, subst}
+use Rattle.std.specs.Bool.{Decides}
+use Rattle.shr_base.specs.declared.journals.TreeEntry.{TreeEntry}
+use Rattle.shr_audit_causes.specs.declared.cites.Cited.{Cited}
+use Rattle.shr_audit_causes.specs.declared.cites.What.TheVariants as what
+use Rattle.shr_audit_causes.specs.Cites.{AreCited}
+use Rattle.shr_audit_causes.specs.Trees.{IsMadeOnce}
+use Rattle.shr_audit_causes.proofs.Treeing.{mades_of}
+use Rattle.shr_audit_causes.proofs.trees.are_mades_caused.Goals as goal
+
+pub returns : goal.returns
+returns c =
+    let s = c.args.script.now in
+    let r = c.args.report.now in
+    let table = c.in_ok-table.table.items in
+    let b = c.are_mades_once-all.result in
+    let cited : AreCited s r what.Made (length r.tree.items) table = subst (λ (size : ℕ). AreCited s r what.Made size table) c.len.ensures c.in_ok-table.ensures in
+    let noted : Decides b ((n : ℕ) (e : TreeEntry) → slice_get c.as_slice-2.result.now n ≡ Some e → IsMadeOnce table n e) = subst (λ (t : List Cited). Decides b ((n : ℕ) (e : TreeEntry) → slice_get c.as_slice-2.result.now n ≡ Some e → IsMadeOnce t n e)) c.as_slice.ensures.value c.are_mades_once-all.ensures in
+    mades_of s r table b cited (subst (λ (tree : List TreeEntry). Decides b ((n : ℕ) (e : TreeEntry) → slice_get tree n ≡ Some e → IsMadeOnce table n e)) c.as_slice-2.ensures noted)

@@ -1,0 +1,8 @@
+use Rattle.std.proofs.Common.{◌≡◌, ◌<◌, ℕ, Some, slice_get}
+use Rattle.shr_base.specs.declared.ends.WorkerPart.{WorkerPart}
+use Rattle.shr_formed.specs.Each.{Each}
+use Rattle.shr_audit_causes.specs.Walks.{CitesBegin}
+use Rattle.shr_audit_causes.proofs.walks.parts_begin.Given as goal
+
+abbrev pub invariant-loop-part : goal.invariant-loop-part
+invariant-loop-part l = (n : ℕ) (x : WorkerPart) → n < l.part-index → slice_get l.parts n ≡ Some x → Each (λ w. CitesBegin l.report w) x.walks.items

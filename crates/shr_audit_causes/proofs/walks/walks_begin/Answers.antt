@@ -1,0 +1,14 @@
+use Rattle.std.proofs.Common.{List, subst}
+use Rattle.std.specs.Bool.{Decides}
+use Rattle.shr_base.specs.declared.ends.WorkerPart.{WorkerPart}
+use Rattle.shr_case.proofs.Eachs.{each_walk_of}
+use Rattle.shr_formed.specs.Each.{Each}
+use Rattle.shr_audit_causes.specs.Walks.{CitesBegin}
+use Rattle.shr_audit_causes.proofs.walks.walks_begin.Goals as goal
+
+pub returns : goal.returns
+returns c =
+    let r = c.args.report.now in
+    let b = c.parts_begin-all.result in
+    each_walk_of r (λ worker n w. CitesBegin r w) b
+    (subst (λ (parts : List WorkerPart). Decides b (Each (λ part. Each (λ w. CitesBegin r w) part.walks.items) parts)) c.as_slice.ensures c.parts_begin-all.ensures)

@@ -1,0 +1,88 @@
+-- Which answers speak of an entry of the journals of the tree and of registrations, or of a group.
+use Rattle.std.specs.Prelude.{◌≡◌, ◌≢◌, ◌⊎◌, ℕ, ◌+◌, ◌<◌, Bool, true, false, ◌==◌, List, length, slice_index_or, slice_set, Option, Some, None}
+use Rattle.std.specs.Option.{IsSomeAnd}
+use Rattle.shr_base.specs.declared.places.Serial.{Serial}
+use Rattle.shr_base.specs.declared.replies.Reply.{Reply}
+use Rattle.shr_base.specs.declared.replies.Reply.TheVariants as reply
+use Rattle.shr_base.specs.declared.scripts.Command.{Command}
+use Rattle.shr_base.specs.declared.scripts.Command.TheVariants as command
+use Rattle.shr_base.specs.declared.scripts.Script.{Script}
+use Rattle.shr_report.specs.declared.report.Report.{Report}
+use Rattle.shr_report.specs.Causes.{MayHaveBegun, is_done_by, is_made_by}
+use Rattle.shr_report.specs.Parts.{command_at, reply_at, serial_of}
+use Rattle.shr_audit_causes.specs.declared.cites.What.{What}
+use Rattle.shr_audit_causes.specs.declared.cites.What.TheVariants as say
+use Rattle.shr_audit_causes.specs.declared.cites.Cited.{Cited}
+use Rattle.shr_audit_causes.specs.declared.cites.Cited.TheVariants.{Never, Once, Often}
+
+-- the answer registered by this entry
+abbrev pub is_registered_by : ℕ → Reply → Bool
+is_registered_by n (reply.Registered id entry) = entry == n
+is_registered_by n x = false
+
+-- the answer unregistered by this entry
+abbrev pub is_unregistered_by : ℕ → Reply → Bool
+is_unregistered_by n (reply.Freed id entry from to objects) = entry == n
+is_unregistered_by n (reply.Half id entry from to objects why) = entry == n
+is_unregistered_by n x = false
+
+-- a reply to this command says so of this entry or group
+abbrev pub CitesNow : What → Option Command → Reply → ℕ → Type 0
+CitesNow say.Done c x n = is_done_by n x ≡ true
+CitesNow say.Made c x n = is_made_by n x ≡ true
+CitesNow say.Registered c x n = is_registered_by n x ≡ true
+CitesNow say.Unregistered c x n = is_unregistered_by n x ≡ true
+CitesNow say.Begun c x n = (c ≡ Some (command.Offline n)) × MayHaveBegun x
+
+-- the answer to a command says so of it
+abbrev pub Cites : Script → Report → What → ℕ → Serial → Type 0
+Cites s r what n by = IsSomeAnd (reply_at r by) (λ x. CitesNow what (command_at s by) x n)
+
+-- what is noted of those of which this is so: there is none, just this one, or there are two
+abbrev pub Tells : (Serial → Type 0) → Cited → Type 0
+Tells P Never = (x : Serial) → P x → ⊥
+Tells P (Once worker command) = P (serial_of worker command) × ((x : Serial) → P x → x ≡ serial_of worker command)
+Tells P Often = (x : Serial) × ((y : Serial) × ((x ≢ y) × (P x × P y)))
+
+-- one more says so
+abbrev pub after_cited : Cited → ℕ → ℕ → Cited
+after_cited Never worker command = Once worker command
+after_cited (Once w c) worker command = Often
+after_cited Often worker command = Often
+
+-- what is noted of an entry or a group, nothing past the last
+abbrev pub cited_in : List Cited → ℕ → Cited
+cited_in table n = slice_index_or table n Never
+
+-- an answer told this
+abbrev pub noted_at : Option ℕ → ℕ → ℕ → List Cited → List Cited
+noted_at None worker command table = table
+noted_at (Some n) worker command table = slice_set table n (after_cited (cited_in table n) worker command)
+
+-- a command stands before the one with these numbers
+abbrev pub IsEarlier : ℕ → ℕ → Serial → Type 0
+IsEarlier worker command x = (x.worker < worker) ⊎ ((x.worker ≡ worker) × (x.command < command))
+
+-- the answers to the commands before this one were noted
+abbrev pub AreCitedBefore : Script → Report → What → ℕ → ℕ → List Cited → Type 0
+AreCitedBefore s r what worker command table = (n : ℕ) → n < length table → Tells (λ x. IsEarlier worker command x × Cites s r what n x) (cited_in table n)
+
+-- all were
+pub record AreCited (s : Script) (r : Report) (what : What) (size : ℕ) (table : List Cited) : Type 0 where
+  pub count : length table ≡ size
+  pub each : (n : ℕ) → n < size → Tells (λ x. Cites s r what n x) (cited_in table n)
+
+-- none was
+pub record IsNever (size : ℕ) (table : List Cited) : Type 0 where
+  pub count : length table ≡ size
+  pub each : (n : ℕ) → cited_in table n ≡ Never
+
+-- one answer more was noted
+pub record NotesAnswer (s : Script) (r : Report) (what : What) (worker number : ℕ) (old new : List Cited) : Type 0 where
+  pub count : length new ≡ length old
+  pub noted : AreCitedBefore s r what worker number old → AreCitedBefore s r what worker (number + 1) new
+
+-- those of a worker were
+pub record NotesWorker (s : Script) (r : Report) (what : What) (worker : ℕ) (old new : List Cited) : Type 0 where
+  pub count : length new ≡ length old
+  pub noted : AreCitedBefore s r what worker 0 old → AreCitedBefore s r what (worker + 1) 0 new

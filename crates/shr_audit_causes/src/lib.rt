@@ -1,0 +1,9 @@
+//! Whether what a report says has its cause in the report. Our own.
+#![tactic(auto)]
+
+pub mod attempts;
+pub mod cites;
+pub mod drains;
+pub mod tree;
+pub mod trees;
+pub mod walks;
