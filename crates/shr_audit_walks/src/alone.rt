@@ -105,8 +105,8 @@ fn is_whole(alloc: Global, ids: u16, walk: &WalkRecord) -> Result<bool, Memory>
     Ok(tried)
 }
 
-/// Whether a walk below the root, if it went through, has a map for each unit, and an attempt for each
-/// set bit. Our own.
+/// Whether a walk below the root, if it went through, has a map for each unit, and an attempt for
+/// each set bit. Our own.
 pub fn is_mapped(alloc: Global, ids: u16, walk: &WalkRecord) -> Result<bool, Memory>
     ensures { IfOk result (λ b. Decides b (IsMapped ids walk.now)) }
 {

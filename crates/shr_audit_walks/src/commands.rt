@@ -22,8 +22,10 @@ use shr_report::report::Report;
 fn first_of(walks: &[WalkRecord], command: usize) -> usize
     requires { StandByCommand walks.now }
     ensures within { result ≤ length walks.now }
-    ensures before { (n : ℕ) (w : WalkRecord) → n < result → slice_get walks.now n ≡ Some w → w.by.command < command }
-    ensures behind { (n : ℕ) (w : WalkRecord) → result ≤ n → slice_get walks.now n ≡ Some w → command ≤ w.by.command }
+    ensures before { (n : ℕ) (w : WalkRecord) → n < result → slice_get walks.now n ≡ Some w
+        → w.by.command < command }
+    ensures behind { (n : ℕ) (w : WalkRecord) → result ≤ n → slice_get walks.now n ≡ Some w
+        → command ≤ w.by.command }
 {
     walks.partition_point(|walk| (walk.by.command as usize) < command)
 }
@@ -32,14 +34,16 @@ fn first_of(walks: &[WalkRecord], command: usize) -> usize
 fn behind_of(walks: &[WalkRecord], command: usize) -> usize
     requires { StandByCommand walks.now }
     ensures within { result ≤ length walks.now }
-    ensures before { (n : ℕ) (w : WalkRecord) → n < result → slice_get walks.now n ≡ Some w → w.by.command ≤ command }
-    ensures behind { (n : ℕ) (w : WalkRecord) → result ≤ n → slice_get walks.now n ≡ Some w → command < w.by.command }
+    ensures before { (n : ℕ) (w : WalkRecord) → n < result → slice_get walks.now n ≡ Some w
+        → w.by.command ≤ command }
+    ensures behind { (n : ℕ) (w : WalkRecord) → result ≤ n → slice_get walks.now n ≡ Some w
+        → command < w.by.command }
 {
     walks.partition_point(|walk| walk.by.command as usize <= command)
 }
 
-/// The walks of a command, of the walks of its worker in the order of their commands, as a well formed
-/// report has them. Our own.
+/// The walks of a command, of the walks of its worker in the order of their commands, as a well
+/// formed report has them. Our own.
 pub fn walks_of(walks: &[WalkRecord], command: usize) -> &[WalkRecord]
     requires { StandByCommand walks.now }
     ensures { result.now ≡ filter (λ (w : WalkRecord). w.by.command == command) walks.now }
@@ -79,7 +83,8 @@ fn is_answer_told(
     walks: &[WalkRecord],
 ) -> bool
     ensures { (s : Script) → groups ≡ length (preorder_of (parents_of s) 0)
-        → Decides result ((c : Command) → option_copied command.entry ≡ Some c → IsToldBy s walks.now c reply.now) }
+        → Decides result ((c : Command) → option_copied command.entry ≡ Some c
+        → IsToldBy s walks.now c reply.now) }
 {
     match command {
         Some(command) => {
@@ -107,12 +112,13 @@ fn is_part_told(script: &Script, groups: usize, worker: usize, part: &WorkerPart
     true
 }
 
-/// Whether each `shrink` and `balance` is answered as its walks say, in a well formed report. `groups`
-/// is how many groups a `balance` walks. Our own.
+/// Whether each `shrink` and `balance` is answered as its walks say, in a well formed report.
+/// `groups` is how many groups a `balance` walks. Our own.
 pub fn are_told(script: &Script, report: &Report, groups: usize) -> bool
     requires well { IsWellFormed report.now }
     requires many { groups ≡ length (preorder_of (parents_of script.now) 0) }
-    ensures { Decides result (EachAnswer script.now report.now (λ by c a. IsToldBy script.now (walks_by report.now by) c a.reply)) }
+    ensures { Decides result (EachAnswer script.now report.now (λ by c a.
+        IsToldBy script.now (walks_by report.now by) c a.reply)) }
 {
     let parts = report.workers.as_slice();
     for worker in 0..parts.len() {

@@ -30,7 +30,8 @@ fn place_in(walk: &WalkRecord, id: u16) -> Place
 // Whether a count of a place is right.
 fn is_count(case: &Case, report: &Report, place: Place, len: u32, version: u32) -> bool
     requires { IsReplayOf report.now case.now }
-    ensures { Decides result (IsCountIn case.now.parents.items report.now place (counted len version)) }
+    ensures { Decides result (IsCountIn case.now.parents.items report.now place
+        (counted len version)) }
 {
     if version as usize > journal_at(report, place).len() {
         return false;
@@ -41,7 +42,8 @@ fn is_count(case: &Case, report: &Report, place: Place, len: u32, version: u32) 
 // Whether each count of an attempt at a place is.
 fn are_right(case: &Case, report: &Report, place: Place, outcome: &Outcome) -> bool
     requires { IsReplayOf report.now case.now }
-    ensures { Decides result (AllByRecursion (IsCountIn case.now.parents.items report.now place) (counts_of outcome.now)) }
+    ensures { Decides result (AllByRecursion (IsCountIn case.now.parents.items report.now place)
+        (counts_of outcome.now)) }
 {
     match *outcome {
         Outcome::Worn { .. } => true,
@@ -68,7 +70,8 @@ fn are_right(case: &Case, report: &Report, place: Place, outcome: &Outcome) -> b
 // Whether each count of a walk is, in the tree of the case.
 fn are_all_right(case: &Case, report: &Report, walk: &WalkRecord) -> bool
     requires { IsReplayOf report.now case.now }
-    ensures { Decides result (Each (AreCountsIn case.now.parents.items report.now walk.now) walk.now.attempts.items) }
+    ensures { Decides result (Each (AreCountsIn case.now.parents.items report.now walk.now)
+        walk.now.attempts.items) }
 {
     let attempts = walk.attempts.as_slice();
     for k in 0..attempts.len() {

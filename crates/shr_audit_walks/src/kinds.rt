@@ -51,7 +51,8 @@ fn is_stop_at(
 /// (`AreMetOf`). Our own.
 pub fn are_kinds(script: &Script, report: &Report, met: &Met, walk: &WalkRecord) -> bool
     requires { AreMetOf report.now met.now walk.now }
-    ensures { Decides result (Each (IsKindAt script.now report.now walk.now.priority) walk.now.attempts.items) }
+    ensures { Decides result (Each (IsKindAt script.now report.now walk.now.priority)
+        walk.now.attempts.items) }
 {
     let attempts = walk.attempts.as_slice();
     for k in 0..attempts.len() {
@@ -62,11 +63,12 @@ pub fn are_kinds(script: &Script, report: &Report, met: &Met, walk: &WalkRecord)
     true
 }
 
-/// Whether each pass of a walk stopped if and only if an ask was due and the walk can't scan its cache.
-/// What each lookup met is known (`AreMetOf`). Our own.
+/// Whether each pass of a walk stopped if and only if an ask was due and the walk can't scan its
+/// cache. What each lookup met is known (`AreMetOf`). Our own.
 pub fn are_stops(script: &Script, report: &Report, met: &Met, walk: &WalkRecord) -> bool
     requires { AreMetOf report.now met.now walk.now }
-    ensures { Decides result (Each (IsStopAt script.now report.now walk.now) walk.now.attempts.items) }
+    ensures { Decides result (Each (IsStopAt script.now report.now walk.now)
+        walk.now.attempts.items) }
 {
     let attempts = walk.attempts.as_slice();
     for k in 0..attempts.len() {

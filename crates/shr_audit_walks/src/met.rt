@@ -11,8 +11,8 @@ use shr_base::walks::{Attempt, Outcome};
 use shr_report::report::Report;
 use std::collections::BTreeMap;
 
-/// The declarations that lookups met, by their id and number; those that met none are not among them.
-/// Our own.
+/// The declarations that lookups met, by their id and number; those that met none are not among
+/// them. Our own.
 #[derive(Drop)]
 pub struct Met {
     decls: BTreeMap<u64, u8>,

@@ -78,8 +78,10 @@ fn due_of(batch: u64, freeable: u32, total: u64) -> Due
 
 /// The asks that are due in a pass of a cache. Our own.
 pub fn asks_due(priority: u8, decl: &CacheDecl, pass: &PassRecord) -> Due
-    ensures count { result.count ≡ due (batch_of decl.now.batch) pass.now.len (total_of pass.now.len pass.now.nr priority decl.now.seeks) }
-    ensures size { result.size ≡ ask_size (batch_of decl.now.batch) pass.now.len (total_of pass.now.len pass.now.nr priority decl.now.seeks) }
+    ensures count { result.count ≡ due (batch_of decl.now.batch) pass.now.len
+        (total_of pass.now.len pass.now.nr priority decl.now.seeks) }
+    ensures size { result.size ≡ ask_size (batch_of decl.now.batch) pass.now.len
+        (total_of pass.now.len pass.now.nr priority decl.now.seeks) }
     ensures small { result.size < 2 ^ 32 }
 {
     let total = total_of(pass.len, pass.nr, priority, decl.seeks);
@@ -150,8 +152,8 @@ pub fn is_outcome_of(priority: u8, decl: &CacheDecl, outcome: &Outcome) -> bool
     }
 }
 
-/// Whether a pass ended by Stop if and only if an ask was due and this walk can't scan its cache, and
-/// then made none. Our own.
+/// Whether a pass ended by Stop if and only if an ask was due and this walk can't scan its cache,
+/// and then made none. Our own.
 pub fn is_stopped(walk: &WalkRecord, decl: &CacheDecl, pass: &PassRecord) -> bool
     ensures { Decides result (IsStopped walk.now decl.now pass.now) }
 {

@@ -34,7 +34,8 @@ fn push_ids(ids: &mut Vec<u16>, map: MapSeen) -> Result<(), Memory>
 
 /// The ids of the set bits of these words, in order. Our own.
 pub fn ids_seen(alloc: Global, maps: &[MapSeen]) -> Result<Vec<u16>, Memory>
-    ensures { IfOk result (λ ids. ids.items ≡ flat_map (λ (m : MapSeen). ids_in m.unit m.bits) maps.now) }
+    ensures { IfOk result (λ ids. ids.items
+        ≡ flat_map (λ (m : MapSeen). ids_in m.unit m.bits) maps.now) }
 {
     let mut ids = Vec::new(alloc);
     for map in maps {
@@ -60,7 +61,8 @@ pub fn tries_begin(attempts: &[Attempt], ids: &[u16]) -> bool
 
 /// Whether these attempts are at the first of so many ids from 0 up. Our own.
 pub fn tries_rise(attempts: &[Attempt], ids: u16) -> bool
-    ensures { Decides result (IsPrefixOf (map (λ (a : Attempt). a.id) attempts.now) (range_with_len 0 ids)) }
+    ensures { Decides result (IsPrefixOf (map (λ (a : Attempt). a.id) attempts.now)
+        (range_with_len 0 ids)) }
 {
     if attempts.len() > ids as usize {
         return false;

@@ -55,7 +55,8 @@ fn are_shaped(alloc: Global, script: &Script, walks: &[WalkRecord]) -> Result<bo
 
 /// Whether each walk of a report shows by itself what a lawful one shows. Our own.
 pub fn walks_are_shaped(alloc: Global, script: &Script, report: &Report) -> Result<bool, Memory>
-    ensures { IfOk result (λ b. Decides b (EachWalk report.now (λ worker n w. IsShaped script.now w))) }
+    ensures { IfOk result (λ b. Decides b (EachWalk report.now
+        (λ worker n w. IsShaped script.now w))) }
 {
     let parts = report.workers.as_slice();
     for worker in 0..parts.len() {
