@@ -87,8 +87,8 @@ fn are_workers_answered(script: &Script, report: &Report, parts: &[WorkerPart]) 
     true
 }
 
-/// Whether each answer is one that its command may have, whatever value a hit lends. It costs a search
-/// for the place of each entry that is cited. Our own.
+/// Whether each answer is one that its command may have, whatever value a hit lends. It costs a
+/// search for the place of each entry that is cited. Our own.
 pub fn are_answered(script: &Script, report: &Report) -> bool
     requires { AreInOrder report.now.places.items }
     ensures { Decides result (AreAnswered script.now report.now) }

@@ -1,4 +1,4 @@
-//! Which replies a tenant's command may have where a cache was found, and the entries that they cite.
+//! Which replies a tenant's command may have with a cache that was found, and what they cite.
 
 ghost use Rattle.std.specs.Prelude.{◌≡◌, ℕ, ◌↔◌, List, Some, option_copied};
 ghost use Rattle.std.specs.Bool.{Decides};
@@ -152,8 +152,8 @@ fn pin_held(report: &Report, tenant: Tenant, key: &Text, pinned: bool, reply: &R
     }
 }
 
-/// Whether a command may have this reply where the cache with this id was found, whatever value a hit
-/// lends. Our own.
+/// Whether a command may have this reply where the cache with this id was found, whatever value a
+/// hit lends. Our own.
 pub fn may_held(
     report: &Report,
     worker: usize,

@@ -31,8 +31,8 @@ pub fn has_heads(script: &Script, report: &Report) -> bool
     pools
 }
 
-/// Whether the replies of a report are lawful for a script, but for the values that hits lend. `Memory`
-/// is want of memory alone. Our own.
+/// Whether the replies of a report are lawful for a script, but for the values that hits lend.
+/// `Memory` is want of memory alone. Our own.
 pub fn are_replies_lawful_but_values(
     alloc: Global,
     script: &Script,

@@ -10,3 +10,5 @@ pub mod law;
 pub mod numbers;
 pub mod rising;
 pub mod rows;
+#[cfg(test)]
+mod tests;
