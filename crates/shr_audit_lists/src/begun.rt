@@ -66,7 +66,8 @@ fn begun_groups(alloc: Global, parents: &[u16], tree: &[TreeEntry]) -> Result<Ve
 fn is_place_begun(report: &Report, begun: &[bool], place: Place) -> bool
     requires order { AreInOrder report.now.places.items }
     requires there { place.group < length begun.now }
-    ensures { (parents : List ℕ) → AreBegun parents report.now.tree.items begun.now → Decides result (IsBegunIfClosed parents report.now place) }
+    ensures { (parents : List ℕ) → AreBegun parents report.now.tree.items begun.now
+        → Decides result (IsBegunIfClosed parents report.now place) }
 {
     if !is_closed(journal_at(report, place)) {
         return true;
@@ -79,8 +80,10 @@ fn is_list_begun(report: &Report, begun: &[bool], k: usize) -> bool
     requires order { AreInOrder report.now.places.items }
     requires there { k < length report.now.places.items }
     requires groups { HaveGroups (length begun.now) report.now.places.items }
-    ensures { (parents : List ℕ) → AreBegun parents report.now.tree.items begun.now → (end : PlaceEnd) → slice_get report.now.places.items k ≡ Some end
-        → Decides result (IsFirst report.now.places.items k end.place → IsBegunIfClosed parents report.now end.place) }
+    ensures { (parents : List ℕ) → AreBegun parents report.now.tree.items begun.now
+        → (end : PlaceEnd) → slice_get report.now.places.items k ≡ Some end
+        → Decides result (IsFirst report.now.places.items k end.place
+        → IsBegunIfClosed parents report.now end.place) }
 {
     let ends = report.places.as_slice();
     if !is_first(ends, k) {
@@ -95,7 +98,8 @@ fn are_lists_begun(report: &Report, begun: &[bool]) -> bool
     requires order { AreInOrder report.now.places.items }
     requires groups { HaveGroups (length begun.now) report.now.places.items }
     ensures { (parents : List ℕ) → AreBegun parents report.now.tree.items begun.now
-        → Decides result (EachFirst report.now.places.items (λ end. IsBegunIfClosed parents report.now end.place)) }
+        → Decides result (EachFirst report.now.places.items
+        (λ end. IsBegunIfClosed parents report.now end.place)) }
 {
     for k in 0..report.places.len() {
         if !is_list_begun(report, begun, k) {

@@ -62,7 +62,8 @@ fn is_closed_on_nodes(report: &Report, nodes: u8, id: u16, group: u16) -> bool
 // Whether each list of a group is closed.
 fn is_group_closed(report: &Report, ids: u16, nodes: u8, group: u16) -> bool
     requires { AreInOrder report.now.places.items }
-    ensures { Decides result ((id : ℕ) → id < ids → (node : ℕ) → node < nodes → IsClosedAt report.now id node group) }
+    ensures { Decides result ((id : ℕ) → id < ids → (node : ℕ) → node < nodes
+        → IsClosedAt report.now id node group) }
 {
     for id in 0..ids {
         if !is_closed_on_nodes(report, nodes, id, group) {

@@ -84,7 +84,8 @@ fn is_child_paired(report: &Report, parents: &[u16], place: Place, child: usize)
     requires order { AreInOrder report.now.places.items }
     requires there { child < length parents.now }
     requires few { length parents.now ≤ 65536 }
-    ensures { Decides result (is_child parents.now place.group child ≡ true → IsPairedAt parents.now (journals_of report.now) (at_group place child)) }
+    ensures { Decides result (is_child parents.now place.group child ≡ true
+        → IsPairedAt parents.now (journals_of report.now) (at_group place child)) }
 {
     if child == 0 || parents[child] != place.group {
         return true;
@@ -118,7 +119,8 @@ fn is_list_paired(report: &Report, parents: &[u16], k: usize) -> bool
     requires few { length parents.now ≤ 65536 }
     requires there { k < length report.now.places.items }
     ensures { (end : PlaceEnd) → slice_get report.now.places.items k ≡ Some end
-        → Decides result (IsFirst report.now.places.items k end.place → IsPairedAround parents.now report.now end.place) }
+        → Decides result (IsFirst report.now.places.items k end.place
+        → IsPairedAround parents.now report.now end.place) }
 {
     let ends = report.places.as_slice();
     if !is_first(ends, k) {
@@ -145,7 +147,8 @@ fn is_paired_around(report: &Report, parents: &[u16], place: Place) -> bool
 fn are_lists_paired(report: &Report, parents: &[u16]) -> bool
     requires order { AreInOrder report.now.places.items }
     requires few { length parents.now ≤ 65536 }
-    ensures { Decides result (EachFirst report.now.places.items (λ end. IsPairedAround parents.now report.now end.place)) }
+    ensures { Decides result (EachFirst report.now.places.items
+        (λ end. IsPairedAround parents.now report.now end.place)) }
 {
     for k in 0..report.places.len() {
         if !is_list_paired(report, parents, k) {

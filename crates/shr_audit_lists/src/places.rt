@@ -65,7 +65,8 @@ fn is_outcome_so(report: &Report, case: &Case, k: usize) -> bool
     requires replayed { IsReplayOf report.now case.now }
     requires there { k < length report.now.places.items }
     ensures { (end : PlaceEnd) → slice_get report.now.places.items k ≡ Some end
-        → Decides result (IsFirst report.now.places.items k end.place → IsOutcomeSo case.now.parents.items report.now end.place) }
+        → Decides result (IsFirst report.now.places.items k end.place
+        → IsOutcomeSo case.now.parents.items report.now end.place) }
 {
     let ends = report.places.as_slice();
     if !is_first(ends, k) {
@@ -78,7 +79,8 @@ fn is_outcome_so(report: &Report, case: &Case, k: usize) -> bool
 // Whether it does so in each such list.
 fn are_outcomes_printed(report: &Report, case: &Case) -> bool
     requires { IsReplayOf report.now case.now }
-    ensures { Decides result (EachFirst report.now.places.items (λ end. IsOutcomeSo case.now.parents.items report.now end.place)) }
+    ensures { Decides result (EachFirst report.now.places.items
+        (λ end. IsOutcomeSo case.now.parents.items report.now end.place)) }
 {
     for k in 0..report.places.len() {
         if !is_outcome_so(report, case, k) {

@@ -35,7 +35,8 @@ pub struct Case {
 
 // The number of objects after so many entries, or after the last.
 fn count_in(told: &Replayed, entries: usize) -> usize
-    ensures { (moved : List (List Object)) (es : List Entry) → IsReplayed moved es told.now → result ≡ length (items_from moved [] (take entries es)) }
+    ensures { (moved : List (List Object)) (es : List Entry) → IsReplayed moved es told.now
+        → result ≡ length (items_from moved [] (take entries es)) }
 {
     if entries < told.lens.len() {
         told.lens[entries]
@@ -60,7 +61,8 @@ impl Case {
     // What the journal of a place tells; nothing of a place that isn't printed.
     fn replay(&self, report: &Report, place: Place) -> Option<&Replayed>
         requires { IsReplayOf report.now self.now }
-        ensures { Tells self.now.parents.items (journals_of report.now) place (option_copied result) }
+        ensures { Tells self.now.parents.items (journals_of report.now) place
+            (option_copied result) }
     {
         match index_of(report.places.as_slice(), place) {
             Some(k) => Some(&self.replays[k]),
@@ -72,7 +74,8 @@ impl Case {
     /// has fewer. Our own.
     pub fn count_after(&self, report: &Report, place: Place, entries: usize) -> usize
         requires { IsReplayOf report.now self.now }
-        ensures { result ≡ length (items_at self.now.parents.items (journals_of report.now) place entries) }
+        ensures { result ≡ length (items_at self.now.parents.items
+            (journals_of report.now) place entries) }
     {
         match self.replay(report, place) {
             Some(told) => count_in(told, entries),
@@ -84,7 +87,8 @@ impl Case {
     /// Our own.
     pub fn freed(&self, report: &Report, place: Place) -> &[FreedTag]
         requires { IsReplayOf report.now self.now }
-        ensures { result.now ≡ freed_tags 0 (lists_moved_at self.now.parents.items (journals_of report.now) place) [] (journals_of report.now place) }
+        ensures { result.now ≡ freed_tags 0 (lists_moved_at self.now.parents.items
+            (journals_of report.now) place) [] (journals_of report.now place) }
     {
         match self.replay(report, place) {
             Some(told) => told.freed.as_slice(),
@@ -95,7 +99,8 @@ impl Case {
     /// The objects that the journal of a place leaves, from the head. Our own.
     pub fn left(&self, report: &Report, place: Place) -> &[Tag]
         requires { IsReplayOf report.now self.now }
-        ensures { result.now ≡ map tag_of (items_of self.now.parents.items (journals_of report.now) place) }
+        ensures { result.now ≡ map tag_of (items_of self.now.parents.items
+            (journals_of report.now) place) }
     {
         match self.replay(report, place) {
             Some(told) => told.left.as_slice(),
@@ -106,7 +111,8 @@ impl Case {
     /// Whether each entry of a place says of its outcome what is so. Our own.
     pub fn outcomes_are_so(&self, report: &Report, place: Place) -> bool
         requires { IsReplayOf report.now self.now }
-        ensures { Decides result (AreOutcomes (lists_moved_at self.now.parents.items (journals_of report.now) place) [] (journals_of report.now place)) }
+        ensures { Decides result (AreOutcomes (lists_moved_at self.now.parents.items
+            (journals_of report.now) place) [] (journals_of report.now place)) }
     {
         match self.replay(report, place) {
             Some(told) => told.right,

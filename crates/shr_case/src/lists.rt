@@ -64,7 +64,8 @@ fn replay_node(
     requires tree { IsTree parents.now }
     requires few { length parents.now ≤ 65536 }
     requires order { AreInOrder ends.now }
-    ensures { IfOk result (λ told. AreReplayed parents.now (journals_in ends.now) place told.items) }
+    ensures { IfOk result (λ told. AreReplayed parents.now
+        (journals_in ends.now) place told.items) }
 {
     let firsts = firsts_at(alloc, ends, place, parents.len())?;
     let told = replay_groups(alloc, parents, ends, firsts.as_slice())?;
@@ -89,9 +90,13 @@ fn take_replay(
     node: &mut Vec<Replayed>,
 ) -> Result<Replayed, Memory>
     requires { length node.old.items ≡ length parents.now }
-    ensures taken { IfOk result (λ r. end.now.place.group < length parents.now → slice_get node.old.items (length parents.now - 1 - end.now.place.group) ≡ Some r) }
-    ensures alone { IfOk result (λ r. length parents.now ≤ end.now.place.group → IsReplayed (lists_moved (took_of parents.now end.now.place.group []) end.now.entries.items) end.now.entries.items r) }
-    ensures others { OnOk result (IsTakenOut (length parents.now) end.now.place.group node.old.items node.new.items) }
+    ensures taken { IfOk result (λ r. end.now.place.group < length parents.now
+        → slice_get node.old.items (length parents.now - 1 - end.now.place.group) ≡ Some r) }
+    ensures alone { IfOk result (λ r. length parents.now ≤ end.now.place.group
+        → IsReplayed (lists_moved (took_of parents.now end.now.place.group [])
+        end.now.entries.items) end.now.entries.items r) }
+    ensures others { OnOk result (IsTakenOut
+        (length parents.now) end.now.place.group node.old.items node.new.items) }
 {
     let group = end.place.group as usize;
     if group < parents.len() {

@@ -29,8 +29,10 @@ fn is_place(p: Place, q: Place) -> bool
 // The index of the first list that doesn't stand before a place.
 fn index_from(ends: &[PlaceEnd], place: Place) -> usize
     requires { AreInOrder ends.now }
-    ensures before { (n : ℕ) (x : PlaceEnd) → n < result → slice_get ends.now n ≡ Some x → comes_before x.place place ≡ true }
-    ensures behind { (n : ℕ) (x : PlaceEnd) → result ≤ n → slice_get ends.now n ≡ Some x → comes_before x.place place ≡ false }
+    ensures before { (n : ℕ) (x : PlaceEnd) → n < result → slice_get ends.now n ≡ Some x
+        → comes_before x.place place ≡ true }
+    ensures behind { (n : ℕ) (x : PlaceEnd) → result ≤ n → slice_get ends.now n ≡ Some x
+        → comes_before x.place place ≡ false }
 {
     ends.partition_point(|end| comes_before(end.place, place))
 }
@@ -53,7 +55,8 @@ pub fn index_of(ends: &[PlaceEnd], place: Place) -> Option<usize>
 pub fn is_first(ends: &[PlaceEnd], k: usize) -> bool
     requires order { AreInOrder ends.now }
     requires there { k < length ends.now }
-    ensures { (end : PlaceEnd) → slice_get ends.now k ≡ Some end → Decides result (IsFirst ends.now k end.place) }
+    ensures { (end : PlaceEnd) → slice_get ends.now k ≡ Some end
+        → Decides result (IsFirst ends.now k end.place) }
 {
     k == 0 || comes_before(ends[k - 1].place, ends[k].place)
 }
