@@ -27,10 +27,10 @@ brings_of d = record {
   carries = d.carries;
 }
 
-abbrev called : List UseStep → ℕ → ℕ → Uses
+abbrev pub called : List UseStep → ℕ → ℕ → Uses
 called ops charges uncharges = record { ops = ops; charges = charges; uncharges = uncharges; seats = 0 }
 
-called_then : (x : Uses) (a b : List UseStep) (c d m n : ℕ) → both_uses (both_uses x (called a c m)) (called b d n) ≡ both_uses x (called (a ++ b) (c + d) (m + n))
+pub called_then : (x : Uses) (a b : List UseStep) (c d m n : ℕ) → both_uses (both_uses x (called a c m)) (called b d n) ≡ both_uses x (called (a ++ b) (c + d) (m + n))
 called_then x a b c d m n = let ops : (x.ops ++ a) ++ b ≡ x.ops ++ (a ++ b) = append_assoc x.ops a b in
     let charges : x.charges + c + d ≡ x.charges + (c + d) = omega arith in
     let uncharges : x.uncharges + m + n ≡ x.uncharges + (m + n) = omega arith in

@@ -1,6 +1,6 @@
 -- The law of charges, of a run.
 use Rattle.std.proofs.Common.{◌≡◌, ℕ, zero, suc, ◌+◌, ◌<◌, ◌≤◌, ◌⊎◌, inl, inr, ⊎_elim, Bool, true, false, cond, List, [], ◌∷◌, length, drop, map, sym, refl, ap, subst, ◌∙◌, arith, eqb, eq-eqb}
-use Rattle.std.specs.Prelude.{slice_get, Some, None, Option, find, filter, sum_by, option_map, pos, ◌-ℤ◌, MatchOption}
+use Rattle.std.specs.Prelude.{slice_get, Some, None, Option, find, filter, sum_by, pos, ◌-ℤ◌, MatchOption}
 use Rattle.std.specs.List.{AllByRecursion, enumerate_from}
 use Rattle.std.specs.Option.{IsSomeAnd}
 use Rattle.std.proofs.lemmas.Bool.{and_parts, and_from, eqb-true, cases_Bool}
@@ -14,7 +14,6 @@ use Rattle.shr_base.specs.declared.places.Serial.{Serial}
 use Rattle.shr_base.specs.declared.scripts.Command.{Command}
 use Rattle.shr_base.specs.declared.scripts.Command.TheVariants.{Put, Get, Del, SetPin}
 use Rattle.shr_base.specs.declared.scripts.Script.{Script}
-use Rattle.shr_base.specs.declared.walks.WalkRecord.{WalkRecord}
 use Rattle.shr_model.specs.Charges.{ups, usage_after, is_by, ops_by, IsDownNext, AreTakenBack}
 use Rattle.shr_model.specs.Commands.{is_serial, is_put}
 use Rattle.shr_model.specs.Families.{items_at}
@@ -26,19 +25,19 @@ use Rattle.shr_seats.specs.Weights.{total}
 use Rattle.shr_core.specs.Layout.{place_at}
 use Rattle.shr_core.specs.Parts.{Made}
 use Rattle.shr_report.specs.declared.report.Report.{Report}
-use Rattle.shr_report.specs.Parts.{parents_of, limit_of, journals_of, places_of, serial_of, command_at, commands_of, reply_at, uses_at, walk_at, entry_by, at, id_found}
+use Rattle.shr_report.specs.Parts.{parents_of, limit_of, journals_of, places_of, serial_of, command_at, commands_of, reply_at, uses_at, entry_by, at, id_found}
 use Rattle.shr_report.specs.Charges.{IsDownBetween, ways_of, charged, is_of, freed_in, freed_below}
-use Rattle.shr_assemble.specs.Steps.{Step, steps_of, IsPut}
+use Rattle.shr_assemble.specs.Steps.{Step, IsAmong, steps_of, IsPut}
 use Rattle.shr_assemble.specs.Charges.{ops_at}
 use Rattle.shr_assemble.specs.Charges as did
-use Rattle.shr_assemble.specs.Entries.{IsTold, IsScanned, IsDrained, MayMake}
+use Rattle.shr_assemble.specs.Entries.{IsTold, IsDrained, MayMake}
 use Rattle.shr_assemble.specs.Runs.{all_made, IsRun}
 use Rattle.shr_assemble.proofs.Gathering.{each_among, has_step, total_same_on, some_at, at_some}
 use Rattle.shr_assemble.proofs.Listed.{all_among, by_slices, sum_total, count_total, no_test}
 use Rattle.shr_assemble.proofs.Making.{made_stands, maker, reply_is}
 use Rattle.shr_assemble.proofs.Recounting.{journals_are}
 use Rattle.shr_assemble.proofs.Operations.{op_of, op_by, ops_are, ops_none, among_has}
-use Rattle.shr_assemble.proofs.Flattening.{walk_there}
+use Rattle.shr_assemble.proofs.IsolationSteps.{scanned_by, visited_by}
 use Rattle.shr_assemble.proofs.ScansLaw.{only_step, all_zero}
 use Rattle.shr_assemble.proofs.RepliesLaw.{told_of}
 use Rattle.shr_assemble.proofs.ReplyEntries.{IsEntryFor, entry_asked}
@@ -178,20 +177,16 @@ module _ (s : Script) (r : Report) (workers : List (List Step)) (run : IsRun s r
   born_total g objects = count_total (λ (o : Object). is_at_or_above (parents_of s) g o.birth) objects
 
   -- an entry that a step made is of its command, or freed nothing
-  entry_own : (worker k : ℕ) (x : Step) (m : Made) (e : Entry) → slice_get (steps_of workers worker) k ≡ Some x → MayMake s x m e → (entry_by r e ≡ Some x.by) ⊎ (freed_by m.items e ≡ [])
-  entry_own worker k x m (Add by birth added key value) at may = inr refl
-  entry_own worker k x m (Look by birth key hit) at may = inr refl
-  entry_own worker k x m (Drop by birth key kind) at may = let t : IsTold x m by = may in inl (ap Some t.own)
-  entry_own worker k x m (Pin by birth key pinned hit) at may = inr refl
-  entry_own worker k x m (Scan w n asked policy visits freed stopped) at may =
-      let t : IsScanned x m w n = may in
-      let is = run.steps.each worker k x at in
-      let own : w ≡ worker = t.own ∙ ap (λ (z : Serial). z.worker) is.by in
-      let walk : walk_at r w n ≡ Some t.walk = ap (λ v. walk_at r v n) own ∙ (ap (walk_at r worker) t.number ∙ walk_there s r workers run worker k t.index x t.walk at t.there) in
-      inl (ap (option_map (λ (v : WalkRecord). v.by)) walk ∙ ap Some (is.did.walks.each t.index t.walk t.there).by)
-  entry_own worker k x m (MovedIn child objects) at may = inr refl
-  entry_own worker k x m Closed at may = inr refl
-  entry_own worker k x m (Drained by objects) at may = let t : IsDrained x m by = may in inl (ap Some t.own)
+  entry_own : (worker k : ℕ) (x : Step) (m : Made) (e : Entry) → slice_get (steps_of workers worker) k ≡ Some x → IsAmong m x.work.core.made → m.entry ≡ e → MayMake s x m e → (entry_by r e ≡ Some x.by) ⊎ (freed_by m.items e ≡ [])
+  entry_own worker k x m (Add by birth added key value) at among entry may = inr refl
+  entry_own worker k x m (Look by birth key hit) at among entry may = inr refl
+  entry_own worker k x m (Drop by birth key kind) at among entry may = let t : IsTold x m by = may in inl (ap Some t.own)
+  entry_own worker k x m (Pin by birth key pinned hit) at among entry may = inr refl
+  entry_own worker k x m (Scan w n asked policy visits freed stopped) at among entry may =
+      inl (⊎_elim (λ t. scanned_by s r workers run worker k x m w n at t) (λ t. visited_by s r workers run worker k x m w n asked visits freed policy stopped at t among entry) may)
+  entry_own worker k x m (MovedIn child objects) at among entry may = inr refl
+  entry_own worker k x m Closed at among entry may = inr refl
+  entry_own worker k x m (Drained by objects) at among entry may = let t : IsDrained x m by = may in inl (ap Some t.own)
 
   may_make : (worker k : ℕ) (x : Step) (j : ℕ) (m : Made) → slice_get (steps_of workers worker) k ≡ Some x → slice_get x.work.core.made j ≡ Some m → MayMake s x m m.entry
   may_make worker k x j m at e = each_among (λ (z : Made). MayMake s x z z.entry) x.work.core.made m (run.steps.each worker k x at).did.entries.each (j, some_at x.work.core.made j m e)
@@ -227,14 +222,14 @@ module _ (s : Script) (r : Report) (workers : List (List Step)) (run : IsRun s r
   other_weighs by g worker k x at ne = all_zero (weight_by by g) x.work.core.made (λ j m e. ⊎_elim
       (λ own. ap (λ o. cond (is_of by o) (born_below (parents_of s) g (freed_by m.items m.entry)) 0) own ∙ ap (λ b. cond b (born_below (parents_of s) g (freed_by m.items m.entry)) 0) (serial_other by x.by (λ same. ne (sym same))))
       (λ none. cond_zero (is_of by (entry_by r m.entry)) (born_below (parents_of s) g (freed_by m.items m.entry)) (born_none g (freed_by m.items m.entry) none))
-      (entry_own worker k x m m.entry at (may_make worker k x j m at e)))
+      (entry_own worker k x m m.entry at (j, some_at x.work.core.made j m e) refl (may_make worker k x j m at e)))
 
   -- of the command itself all does
   own_weighs : (g worker k : ℕ) (x : Step) → slice_get (steps_of workers worker) k ≡ Some x → total (weight_by x.by g) x.work.core.made ≡ sum_by (did.freed_below (parents_of s) g) x.work.core.made
   own_weighs g worker k x at = total_members (weight_by x.by g) (did.freed_below (parents_of s) g) x.work.core.made (λ j m e. ⊎_elim
       (λ own. ap (λ o. cond (is_of x.by o) (born_below (parents_of s) g (freed_by m.items m.entry)) 0) own ∙ ap (λ b. cond b (born_below (parents_of s) g (freed_by m.items m.entry)) 0) (serial_same x.by))
       (λ none. cond_zero (is_of x.by (entry_by r m.entry)) (born_below (parents_of s) g (freed_by m.items m.entry)) (born_none g (freed_by m.items m.entry) none) ∙ sym (born_none g (freed_by m.items m.entry) none))
-      (entry_own worker k x m m.entry at (may_make worker k x j m at e)))
+      (entry_own worker k x m m.entry at (j, some_at x.work.core.made j m e) refl (may_make worker k x j m at e)))
       ∙ sym (sum_total (did.freed_below (parents_of s) g) x.work.core.made)
 
   pub nets : (by : Serial) (g : ℕ) → g < length (parents_of s) → usage_after (ops_by by (uses_at r g)) ≡ pos (charged (parents_of s) g (command_at s by) (reply_at r by)) -ℤ pos (freed_below s r by g)
@@ -257,7 +252,7 @@ module _ (s : Script) (r : Report) (workers : List (List Step)) (run : IsRun s r
           ⊎_elim
           (λ own. ap (λ o. cond (is_of by o) (born_below (parents_of s) g (freed_by m.items m.entry)) 0) own ∙ ap (λ b. cond b (born_below (parents_of s) g (freed_by m.items m.entry)) 0) (serial_other by of.step.by (λ same. never of.worker of.k of.step of.at (sym same))))
           (λ none. cond_zero (is_of by (entry_by r m.entry)) (born_below (parents_of s) g (freed_by m.items m.entry)) (born_none g (freed_by m.items m.entry) none))
-          (entry_own of.worker of.k of.step m m.entry of.at (may_make of.worker of.k of.step of.has.0 m of.at (at_some of.step.work.core.made of.has.0 m of.has.1))))
+          (entry_own of.worker of.k of.step m m.entry of.at of.has refl (may_make of.worker of.k of.step of.has.0 m of.at (at_some of.step.work.core.made of.has.0 m of.has.1))))
 
   -- ---- what is left
   -- the weight of a serial: that of the group of its `put`

@@ -47,13 +47,13 @@ pub record IsCrew (x : Shared) (opened : View) (logs : List WorkerLog) (lasts : 
   pub lasts_are : length lasts ≡ length logs
   pub workers_are : length workers ≡ length logs
   pub each : (i : ℕ) (log : WorkerLog) (last : CrewState) (mine : List Step) → slice_get logs i ≡ Some log → slice_get lasts i ≡ Some last → slice_get workers i ≡ Some mine
-      → IsRow x.script (serial_of i) (commands_of x.script i) log.answers.items (new_worker opened i).seats last.seats mine
+      → IsRow x.script (serial_of i) (commands_of x.script i) log.answers.items (new_worker opened i) last mine
 
 pub crew : (x : Shared) → IsShared x → DidEach x → (opened : View) (logs : List WorkerLog) (lasts : List CrewState) → length lasts ≡ length logs
     → ((i : ℕ) (log : WorkerLog) (last : CrewState) → slice_get logs i ≡ Some log → slice_get lasts i ≡ Some last → HasWorked x opened i log last)
     → (workers : List (List Step)) × IsCrew x opened logs lasts workers
 crew x shared did opened logs lasts same worked =
-    let t = choose (λ (i : ℕ) (log : WorkerLog) (last : CrewState) (mine : List Step). IsRow x.script (serial_of i) (commands_of x.script i) log.answers.items (new_worker opened i).seats last.seats mine) logs lasts same
+    let t = choose (λ (i : ℕ) (log : WorkerLog) (last : CrewState) (mine : List Step). IsRow x.script (serial_of i) (commands_of x.script i) log.answers.items (new_worker opened i) last mine) logs lasts same
     (λ i log last at_log at_last. let h = worked i log last at_log at_last in row_of x shared did i log.answers.items (new_worker opened i) last (fit_new opened i) h.all h.work) in
     (t.0, record { lasts_are = same; workers_are = t.1; each = t.2 })
 

@@ -92,7 +92,7 @@ module _ (x : Shared) (tables : AreTables x) (by : Serial) (group node decl : â„
   tenant : IsTenant x.script by command group decl
   tenant = record {
     calm = tt;
-    asks = refl;
+    asks = Î» g e. same_Some group g e;
     met = refl;
     group_is = refl;
     decl_is = refl;

@@ -1,15 +1,24 @@
 -- Each command's clause gives what it did.
-use Rattle.std.specs.Prelude.{Some}
+use Rattle.std.proofs.Common.{◌≡◌, ℕ, List, [], ◌++◌, sym, refl, ap, ◌∙◌}
+use Rattle.std.specs.Prelude.{Some, slice_get}
+use Rattle.std.proofs.lemmas.List.{append-nil}
+use Rattle.std.proofs.lemmas.Option.{none-some}
 use Rattle.shr_base.specs.declared.places.Serial.{Serial}
 use Rattle.shr_base.specs.declared.replies.Answered.{Answered}
 use Rattle.shr_base.specs.declared.scripts.Command.{Command}
-use Rattle.shr_base.specs.declared.scripts.Command.TheVariants.{Put, Get, Del, SetPin, Shrink, Balance, Offline, MkGroup, Register, Unregister, Release, Grab}
+use Rattle.shr_base.specs.declared.scripts.Command.TheVariants.{Put, Get, Del, SetPin, Shrink, Balance, Offline, MkGroup, Register, Unregister, Isolate, Release, Grab}
 use Rattle.shr_base.specs.declared.scripts.Script.{Script}
+use Rattle.shr_base.specs.declared.walks.Isolation.{Isolation}
 use Rattle.shr_walk.specs.declared.seats.Shared.{Shared}
-use Rattle.shr_walk.specs.State.{WorkerState}
+use Rattle.shr_script.specs.Bounds.{IsIsolationWithin}
+use Rattle.shr_script.specs.Content.{content_of}
+use Rattle.shr_report.specs.Isolated.{isolations_told}
+use Rattle.shr_worker.specs.Chain.{CrewState, DeedGives}
+use Rattle.shr_worker.proofs.Pooled.{isolate_there}
 use Rattle.shr_assemble.proofs.BalanceDid.{balance_did}
 use Rattle.shr_assemble.proofs.DelDid.{del_did}
 use Rattle.shr_assemble.proofs.GetDid.{get_did}
+use Rattle.shr_assemble.proofs.IsolateDid.{isolate_done}
 use Rattle.shr_assemble.proofs.MkGroupDid.{mkgroup_did}
 use Rattle.shr_assemble.proofs.OfflineAll.{offline_did}
 use Rattle.shr_assemble.proofs.PinDid.{pin_did}
@@ -25,26 +34,39 @@ use Rattle.shr_assemble.proofs.UnregisterDid.{unregister_did}
 use Rattle.shr_assemble.proofs.WalkingDid.{Stepping}
 use Rattle.shr_assemble.proofs.WalkingTold.{IsTableOf}
 
-worked : (s : Script) (by : Serial) (c : Command) (a : Answered) (t u : WorkerState) → HasDid s by c a t u → Worked s by c a t u
-worked s by c a t u h = (h.work, h.does, h.did)
+-- a command whose answer tells of no isolation, and that recorded none
+worked : (s : Script) (by : Serial) (c : Command) (a : Answered) (t u : CrewState) → isolations_told by c a ≡ [] → u.isolations ≡ t.isolations → HasDid s by c a t.seats u.seats → Worked s by c a t u
+worked s by c a t u none same h = record {
+  work = h.work;
+  brings = h.does;
+  did = h.did;
+  recorded = same ∙ (sym (append-nil t.isolations) ∙ ap (λ (l : List Isolation). t.isolations ++ l) (sym none));
+  by_law = λ i told. absurd (none-some i (ap (λ (l : List Isolation). slice_get l 0) (sym none ∙ told)));
+}
 
-walked : (x : Shared) (by : Serial) (c : Command) (a : Answered) (t u : WorkerState) → Stepping x by (Some c) a t u → Worked x.script by c a t u
-walked x by c a t u h = (h.work, h.does, h.did)
+walked : (x : Shared) (by : Serial) (c : Command) (a : Answered) (t u : CrewState) → isolations_told by c a ≡ [] → u.isolations ≡ t.isolations → Stepping x by (Some c) a t.seats u.seats → Worked x.script by c a t u
+walked x by c a t u none same h = worked x.script by c a t u none same (record { work = h.work; does = h.does; did = h.did })
+
+isolated : (x : Shared) (tables : AreTables x) (by : Serial) (group node decl budget : ℕ) (a : Answered) (t u : CrewState) → IsIsolationWithin (content_of x.script) group node decl budget → DeedGives x by (Isolate group node decl budget) a t u
+    → Worked x.script by (Isolate group node decl budget) a t u
+isolated x tables by group node decl budget a t u within g =
+    let h = isolate_done x tables by group node decl budget within a t.seats u.seats t.isolations u.isolations g.recorded in
+    record { work = h.did.work; brings = h.did.does; did = h.did.did; recorded = h.recorded; by_law = h.by_law }
 
 tables_of : (x : Shared) → IsTableOf x → AreTables x
 tables_of x table = record { shared = table.shared; most_items = table.most_items; most_entries = table.most_entries }
 
 pub did_each : (x : Shared) → IsTableOf x → DidEach x
-did_each x table by (Put group node decl key value) a t u within fit g = worked x.script by (Put group node decl key value) a t.seats u.seats (put_did x table by group node decl key value within.0 a t.seats u.seats fit.rising g.seats)
-did_each x table by (Get group node decl key) a t u within fit g = worked x.script by (Get group node decl key) a t.seats u.seats (get_did x (tables_of x table) by group node decl key within a t.seats u.seats g.seats)
-did_each x table by (Del group node decl key) a t u within fit g = worked x.script by (Del group node decl key) a t.seats u.seats (del_did x (tables_of x table) by group node decl key within a t.seats u.seats g.seats)
-did_each x table by (SetPin group node decl key pinned) a t u within fit g = worked x.script by (SetPin group node decl key pinned) a t.seats u.seats (pin_did x (tables_of x table) by group node decl key pinned within a t.seats u.seats g.seats)
-did_each x table by (Shrink group node priority nofs) a t u within fit g = walked x by (Shrink group node priority nofs) a t.seats u.seats (shrink_did x table by group node priority nofs t.seats u.seats a within.1.on_node (group_in x group within.0) g.seats)
-did_each x table by (Balance node priority nofs) a t u within fit g = walked x by (Balance node priority nofs) a t.seats u.seats (balance_did x table by node priority nofs t.seats u.seats a within.on_node g.seats)
-did_each x table by (Offline group) a t u within fit g = worked x.script by (Offline group) a t.seats u.seats (offline_did x (tables_of x table) by group t.seats u.seats fit.home a g.seats)
-did_each x table by (Register decl) a t u within fit g = worked x.script by (Register decl) a t.seats u.seats (register_did x (tables_of x table) by decl a t.seats u.seats g.seats)
-did_each x table by (Unregister decl) a t u within fit g = worked x.script by (Unregister decl) a t.seats u.seats (unregister_did x (tables_of x table) by decl a t.seats u.seats g.seats)
-did_each x table by (MkGroup group) a t u within fit g = worked x.script by (MkGroup group) a t.seats u.seats (mkgroup_did x (tables_of x table) by group t.seats u.seats fit.home a g.seats)
-did_each x table by (Release node pool n) a t u within fit g = worked x.script by (Release node pool n) a t.seats u.seats (release_did x by node pool n a t u g)
-did_each x table by (Grab node pool) a t u within fit g = worked x.script by (Grab node pool) a t.seats u.seats (grab_did x by node pool a t u g)
-did_each x table by c a t u within fit g = absurd within
+did_each x table by (Put group node decl key value) a t u within fit g = worked x.script by (Put group node decl key value) a t u refl g.recorded (put_did x table by group node decl key value within.0 a t.seats u.seats fit.rising g.seats)
+did_each x table by (Get group node decl key) a t u within fit g = worked x.script by (Get group node decl key) a t u refl g.recorded (get_did x (tables_of x table) by group node decl key within a t.seats u.seats g.seats)
+did_each x table by (Del group node decl key) a t u within fit g = worked x.script by (Del group node decl key) a t u refl g.recorded (del_did x (tables_of x table) by group node decl key within a t.seats u.seats g.seats)
+did_each x table by (SetPin group node decl key pinned) a t u within fit g = worked x.script by (SetPin group node decl key pinned) a t u refl g.recorded (pin_did x (tables_of x table) by group node decl key pinned within a t.seats u.seats g.seats)
+did_each x table by (Shrink group node priority nofs) a t u within fit g = walked x by (Shrink group node priority nofs) a t u refl g.recorded (shrink_did x table by group node priority nofs t.seats u.seats a within.1.on_node (group_in x group within.0) g.seats)
+did_each x table by (Balance node priority nofs) a t u within fit g = walked x by (Balance node priority nofs) a t u refl g.recorded (balance_did x table by node priority nofs t.seats u.seats a within.on_node g.seats)
+did_each x table by (Offline group) a t u within fit g = worked x.script by (Offline group) a t u refl g.recorded (offline_did x (tables_of x table) by group t.seats u.seats fit.home a g.seats)
+did_each x table by (Register decl) a t u within fit g = worked x.script by (Register decl) a t u refl g.recorded (register_did x (tables_of x table) by decl a t.seats u.seats g.seats)
+did_each x table by (Unregister decl) a t u within fit g = worked x.script by (Unregister decl) a t u refl g.recorded (unregister_did x (tables_of x table) by decl a t.seats u.seats g.seats)
+did_each x table by (MkGroup group) a t u within fit g = worked x.script by (MkGroup group) a t u refl g.recorded (mkgroup_did x (tables_of x table) by group t.seats u.seats fit.home a g.seats)
+did_each x table by (Release node pool n) a t u within fit g = worked x.script by (Release node pool n) a t u refl g.recorded (release_did x by node pool n a t u g)
+did_each x table by (Grab node pool) a t u within fit g = worked x.script by (Grab node pool) a t u refl g.recorded (grab_did x by node pool a t u g)
+did_each x table by (Isolate group node decl budget) a t u within fit g = isolated x (tables_of x table) by group node decl budget a t u (isolate_there (content_of x.script) group node decl budget within) g

@@ -150,7 +150,6 @@ module _ (x : Shared) (logs : List WorkerLog) (e : Ends) (ends : AreEndsOf x log
     last_numbers = λ id near. subst (λ (es : List PoolEntry). last_number id es < 2 ^ 32) (sym made.pool)
         (let same = ends.shared.ids in let most = ends.core.numbers id (omega (arith, near, same)) in let low : ends.core.look id / 256 % 2 ^ 32 < 2 ^ 32 = mod-lt _ (omega arith) in omega (arith, most, low));
     totals = let freed = together.freed in let added = together.totals.0 in let listed = together.totals.1 in (added, omega (arith, freed, added), listed);
-    quiet = made.quiet;
     pool_amounts = pool_amounts;
     pool_order = pools_rise;
   }

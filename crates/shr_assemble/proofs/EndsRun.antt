@@ -17,7 +17,7 @@ use Rattle.shr_assemble.proofs.ScriptSizes.{sized_of}
 use Rattle.shr_assemble.proofs.EndsOpened.{opened, once}
 use Rattle.shr_assemble.proofs.EndsOrder.{in_line}
 use Rattle.shr_assemble.proofs.EndsPool as pool
-use Rattle.shr_assemble.proofs.EndsSteps.{workers}
+use Rattle.shr_assemble.proofs.EndsSteps.{workers, isolating}
 use Rattle.shr_assemble.proofs.EndsTotals as totals
 use Rattle.shr_assemble.proofs.EndsUnits.{team, units_are}
 use Rattle.shr_assemble.proofs.EndsWords.{deferred}
@@ -34,6 +34,7 @@ run_of_ends x did logs e ends r made = record {
   names = made.names;
   pools = made.pools;
   steps = are_steps x did logs e ends r made;
+  isolations = isolating x did logs e ends r made;
   journals = journals x did logs e ends r made;
   bits = bits x did logs e ends r made;
   pool = record {

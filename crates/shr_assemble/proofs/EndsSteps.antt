@@ -1,5 +1,5 @@
 -- The steps of a run whose workers are done: each worker's are its commands with the report's answers, from the first state on.
-use Rattle.std.proofs.Common.{◌≡◌, ℕ, ◌≤◌, ⊎_elim, List, [], length, sym, refl, ap, subst, ◌∙◌, arith}
+use Rattle.std.proofs.Common.{◌≡◌, ℕ, ◌+◌, ◌≤◌, ⊎_elim, List, [], length, sym, refl, ap, subst, ◌∙◌, arith}
 use Rattle.std.specs.Prelude.{slice_get, Option, Some, None, flat_map}
 use Rattle.std.proofs.lemmas.Option.{none-some, slice_get_past}
 use Rattle.shr_base.specs.declared.scripts.WorkerScript.{WorkerScript}
@@ -10,12 +10,13 @@ use Rattle.shr_worker.specs.Chain.{CrewState}
 use Rattle.shr_tables.specs.declared.ending.Ends.{Ends}
 use Rattle.shr_report.specs.declared.report.Report.{Report}
 use Rattle.shr_report.specs.Parts as report
-use Rattle.shr_report.specs.Parts.{commands_of, answers_of, walks_of, carries_of}
+use Rattle.shr_report.specs.Parts.{commands_of, answers_of, walks_of, carries_of, isolations_of}
 use Rattle.shr_assemble.specs.declared.logs.WorkerLog.{WorkerLog}
 use Rattle.shr_assemble.specs.Ends.{AreEndsOf, new_worker}
-use Rattle.shr_assemble.specs.Makes.{IsMadeOf, answers_in, walks_in, carries_in}
+use Rattle.shr_assemble.specs.Makes.{IsMadeOf, answers_in, walks_in, carries_in, isolations_in}
+use Rattle.shr_assemble.specs.Isolating.{isolated_in, isolated_before, DidIsolations}
 use Rattle.shr_assemble.specs.Steps.{Step, AreChained, steps_in, steps_of}
-use Rattle.shr_assemble.specs.Runs.{IsStep, IsNew, IsShownIn, AreSteps}
+use Rattle.shr_assemble.specs.Runs.{IsStep, IsNew, IsShownIn, AreSteps, AreIsolating}
 use Rattle.shr_assemble.proofs.Crews.{IsCrew, crew, there_at}
 use Rattle.shr_assemble.proofs.EndsPlaces.{below_or}
 use Rattle.shr_assemble.proofs.Opening.{known_opened, on_are}
@@ -44,6 +45,8 @@ module _ (x : Shared) (did : DidEach x) (logs : List WorkerLog) (e : Ends) (ends
     walks : walks_of r worker ≡ flat_map (λ (y : Step). y.work.walks) mine
     carries : carries_of r worker ≡ flat_map (λ (y : Step). y.work.carries) mine
     each : (k : ℕ) (y : Step) → slice_get mine k ≡ Some y → IsStep x.script r worker k y
+    isolations : isolations_of r worker ≡ flat_map isolated_in mine
+    by_law : (k : ℕ) (y : Step) → slice_get mine k ≡ Some y → DidIsolations x.script y (isolated_before mine k)
 
   none_of : (worker : ℕ) → length logs ≤ worker → IsOf worker []
   none_of worker le =
@@ -58,6 +61,8 @@ module _ (x : Shared) (did : DidEach x) (logs : List WorkerLog) (e : Ends) (ends
         walks = made.walks worker ∙ ap walks_in no_log;
         carries = made.carries worker ∙ ap carries_in no_log;
         each = λ k y h. absurd (none-some y h);
+        isolations = made.isolations worker ∙ ap isolations_in no_log;
+        by_law = λ k y h. absurd (none-some y h);
       }
 
   some_of : (worker : ℕ) (log : WorkerLog) (last : CrewState) (mine : List Step) → slice_get logs worker ≡ Some log → slice_get ends.lasts worker ≡ Some last → slice_get workers worker ≡ Some mine → IsOf worker mine
@@ -78,6 +83,8 @@ module _ (x : Shared) (did : DidEach x) (logs : List WorkerLog) (e : Ends) (ends
           answered = ap (λ l. slice_get l k) answers ∙ s.2;
           did = s.3;
         };
+        isolations = made.isolations worker ∙ (ap isolations_in at_log ∙ (worked.isolations ∙ row.recorded));
+        by_law = λ k y h. subst (λ (n : ℕ). DidIsolations x.script y n) (let z : 0 + isolated_before mine k ≡ isolated_before mine k = omega arith in z) (row.by_law k y h);
       }
 
   is_of : (worker : ℕ) → IsOf worker (steps_of workers worker)
@@ -114,4 +121,10 @@ module _ (x : Shared) (did : DidEach x) (logs : List WorkerLog) (e : Ends) (ends
     walks = λ worker. (is_of worker).walks;
     carries = λ worker. (is_of worker).carries;
     shown = shown;
+  }
+
+  pub isolating : AreIsolating x.script r workers
+  isolating = record {
+    told = λ worker. (is_of worker).isolations;
+    did = λ worker k y h. (is_of worker).by_law k y h;
   }

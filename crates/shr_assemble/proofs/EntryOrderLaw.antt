@@ -1,6 +1,6 @@
 -- What a worker did at a list stands in the order of its commands, of a run.
-use Rattle.std.proofs.Common.{◌≡◌, ℕ, ◌+◌, ◌<◌, ◌≤◌, inl, inr, List, map, sym, refl, ap, subst, ◌∙◌, arith}
-use Rattle.std.specs.Prelude.{slice_get, Option, Some, option_map}
+use Rattle.std.proofs.Common.{◌≡◌, ℕ, ◌+◌, ◌<◌, ◌≤◌, inl, inr, ⊎_elim, List, map, sym, refl, ap, subst, ◌∙◌, arith}
+use Rattle.std.specs.Prelude.{slice_get, Some}
 use Rattle.std.specs.List.{AllByRecursion}
 use Rattle.std.proofs.lemmas.Option.{same_Some, none-some}
 use Rattle.shr_base.specs.declared.journals.Entry.{Entry}
@@ -22,12 +22,13 @@ use Rattle.shr_core.proofs.Listing.{back}
 use Rattle.shr_report.specs.declared.report.Report.{Report}
 use Rattle.shr_report.specs.Parts.{serial_of, entry_by, walk_at}
 use Rattle.shr_report.specs.EntryOrder.{IsEntryBy, AreEntriesInOrder}
-use Rattle.shr_assemble.specs.Entries.{IsScanned, MayMake}
-use Rattle.shr_assemble.specs.Steps.{Step, steps_of}
+use Rattle.shr_assemble.specs.Entries.{MayMake}
+use Rattle.shr_assemble.specs.Steps.{Step, IsAmong, steps_of}
 use Rattle.shr_assemble.specs.Runs.{IsRun}
 use Rattle.shr_assemble.specs.Walks.{counted_in}
-use Rattle.shr_assemble.proofs.Flattening.{walk_of, walk_there}
+use Rattle.shr_assemble.proofs.Flattening.{walk_of}
 use Rattle.shr_assemble.proofs.Gathering.{each_among, some_at}
+use Rattle.shr_assemble.proofs.IsolationSteps.{scanned_by, visited_by}
 use Rattle.shr_assemble.proofs.LineOrder.{of_kind, between}
 use Rattle.shr_assemble.proofs.Making.{work_of, maker}
 use Rattle.shr_assemble.proofs.Operations.{among_has}
@@ -83,19 +84,17 @@ version_counted place w v h =
 
 module _ (s : Script) (r : Report) (workers : List (List Step)) (run : IsRun s r workers) where
   -- an entry of a command is of the step that made it
-  step_by : (worker k : ℕ) (x : Step) (m : Made) (e : Entry) (b : Serial) → slice_get (steps_of workers worker) k ≡ Some x → MayMake s x m e → entry_by r e ≡ Some b → x.by ≡ b
-  step_by worker k x m (Add by birth added key value) b at may is = sym may.own ∙ same_Some by b is
-  step_by worker k x m (Look by birth key hit) b at may is = sym may.own ∙ same_Some by b is
-  step_by worker k x m (Drop by birth key kind) b at may is = sym may.own ∙ same_Some by b is
-  step_by worker k x m (Pin by birth key pinned hit) b at may is = sym may.own ∙ same_Some by b is
-  step_by worker k x m (Scan w n asked policy visits freed stopped) b at may is =
-      let t : IsScanned x m w n = may in
-      let own : w ≡ worker = t.own ∙ ap (λ (z : Serial). z.worker) (run.steps.each worker k x at).by in
-      let there : walk_at r w n ≡ Some t.walk = ap (λ v. walk_at r v n) own ∙ (ap (walk_at r worker) t.number ∙ walk_there s r workers run worker k t.index x t.walk at t.there) in
-      sym ((run.steps.each worker k x at).did.walks.each t.index t.walk t.there).by ∙ same_Some t.walk.by b (sym (ap (λ (o : Option WalkRecord). option_map (λ (z : WalkRecord). z.by) o) there) ∙ is)
-  step_by worker k x m (MovedIn child objects) b at may is = absurd (none-some b is)
-  step_by worker k x m Closed b at may is = absurd (none-some b is)
-  step_by worker k x m (Drained by objects) b at may is = sym may.own ∙ same_Some by b is
+  step_by : (worker k : ℕ) (x : Step) (m : Made) (e : Entry) (b : Serial) → slice_get (steps_of workers worker) k ≡ Some x → IsAmong m x.work.core.made → m.entry ≡ e → MayMake s x m e → entry_by r e ≡ Some b → x.by ≡ b
+  step_by worker k x m (Add by birth added key value) b at among entry may is = sym may.own ∙ same_Some by b is
+  step_by worker k x m (Look by birth key hit) b at among entry may is = sym may.own ∙ same_Some by b is
+  step_by worker k x m (Drop by birth key kind) b at among entry may is = sym may.own ∙ same_Some by b is
+  step_by worker k x m (Pin by birth key pinned hit) b at among entry may is = sym may.own ∙ same_Some by b is
+  step_by worker k x m (Scan w n asked policy visits freed stopped) b at among entry may is = ⊎_elim
+      (λ t. same_Some x.by b (sym (scanned_by s r workers run worker k x m w n at t) ∙ is))
+      (λ t. same_Some x.by b (sym (visited_by s r workers run worker k x m w n asked visits freed policy stopped at t among entry) ∙ is)) may
+  step_by worker k x m (MovedIn child objects) b at among entry may is = absurd (none-some b is)
+  step_by worker k x m Closed b at among entry may is = absurd (none-some b is)
+  step_by worker k x m (Drained by objects) b at among entry may is = sym may.own ∙ same_Some by b is
 
   -- the event by which an entry was made
   record MadeEvent (place : Place) (n worker k : ℕ) : Type 0 where
@@ -111,7 +110,7 @@ module _ (s : Script) (r : Report) (workers : List (List Step)) (run : IsRun s r
       let t = maker s r workers run place n h.entry h.stands in
       let work = (work_of s r workers run t.worker t.k t.step t.at).core in
       let may = each_among (λ (m : Made). MayMake s t.step m m.entry) t.step.work.core.made t.made (run.steps.each t.worker t.k t.step t.at).did.entries.each t.among in
-      let by = step_by t.worker t.k t.step t.made h.entry (serial_of worker k) t.at (subst (MayMake s t.step t.made) t.entry may) h.by in
+      let by = step_by t.worker t.k t.step t.made h.entry (serial_of worker k) t.at t.among t.entry (subst (MayMake s t.step t.made) t.entry may) h.by in
       let same : serial_of t.worker t.k ≡ serial_of worker k = sym (run.steps.each t.worker t.k t.step t.at).by ∙ by in
       let own : MadeEvent place n t.worker t.k = record {
         step = t.step;

@@ -1,7 +1,7 @@
 -- What a get did.
 use Rattle.std.proofs.Common.{◌≡◌, ℕ, ◌<◌, inl, true, false, List, length, refl, sym, ap, ◌∙◌, arith}
 use Rattle.std.specs.Prelude.{Option, Some, None, is_some, option_map}
-use Rattle.std.proofs.lemmas.Option.{none-some}
+use Rattle.std.proofs.lemmas.Option.{same_Some, none-some}
 use Rattle.shr_base.specs.declared.objects.Object.{Object}
 use Rattle.shr_base.specs.declared.places.Serial.{Serial}
 use Rattle.shr_base.specs.declared.places.At.{At}
@@ -49,7 +49,7 @@ module _ (x : Shared) (tables : AreTables x) (by : Serial) (group node decl : �
   tenant : IsTenant x.script by command group decl
   tenant = record {
     calm = tt;
-    asks = refl;
+    asks = λ g e. same_Some group g e;
     met = refl;
     group_is = refl;
     decl_is = refl;

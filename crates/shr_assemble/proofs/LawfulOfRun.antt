@@ -14,6 +14,7 @@ use Rattle.shr_assemble.proofs.LookupsLaw.{lookups_lawful}
 use Rattle.shr_assemble.proofs.UsageLaw.{charges_lawful}
 use Rattle.shr_assemble.proofs.DeferredLaw.{deferred_lawful}
 use Rattle.shr_assemble.proofs.CausesLaw.{causes_lawful}
+use Rattle.shr_assemble.proofs.IsolationsLaw.{isolations_lawful}
 
 -- each law of the report of a run holds
 pub lawful_of_run : (s : Script) (r : Report) (workers : List (List Step)) → IsRun s r workers → IsLawful s r
@@ -28,4 +29,5 @@ lawful_of_run s r workers run = record {
   bits = run.bits;
   causes = causes_lawful s r workers run;
   pools = pools_lawful s r run.plain run.units;
+  isolations = isolations_lawful s r workers run;
 }

@@ -20,6 +20,7 @@ pub mod WalksLaw
 pub mod LimitsLaw
 pub mod ReplyEntries
 pub mod FamilyObjects
+pub mod IsolationSteps
 pub mod ChargesLaw
 pub mod UsageLaw
 pub mod Shown
@@ -58,6 +59,8 @@ pub mod OfflineDid
 pub mod QuietSplices
 pub mod QuietCarries
 pub mod CausesLaw
+pub mod WornSeen
+pub mod IsolationsLaw
 pub mod LawfulOfRun
 pub mod HandedCarries
 pub mod HandedDone
@@ -137,6 +140,8 @@ pub mod PutVain
 pub mod PutBack
 pub mod PutDid
 pub mod PoolDid
+pub mod VisitsDid
+pub mod IsolateDid
 pub mod DidEach
 pub mod WellPairs
 pub mod WellWords

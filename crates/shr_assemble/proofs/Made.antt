@@ -3,7 +3,7 @@ use Rattle.std.proofs.Common.{◌≡◌, ℕ, zero, suc, ◌<◌, ◌≤◌, ◌
 use Rattle.std.specs.Prelude.{slice_get, flat_map, option_map, Option, Some, None, IsPermutation}
 use Rattle.std.proofs.lemmas.Bool.{cases_order}
 use Rattle.std.proofs.lemmas.List.Sorted.{IsPermutation-sym}
-use Rattle.std.proofs.lemmas.Option.{slice_get_within, same_Some, none-some}
+use Rattle.std.proofs.lemmas.Option.{slice_get_within, same_Some}
 use Rattle.shr_base.specs.declared.ends.WorkerPart.{WorkerPart}
 use Rattle.shr_base.specs.declared.journals.UseStep.{UseStep}
 use Rattle.shr_base.specs.declared.replies.Answered.{Answered}
@@ -16,7 +16,7 @@ use Rattle.shr_report.specs.UnitParts as units
 use Rattle.shr_assemble.specs.declared.logs.WorkerLog.{WorkerLog}
 use Rattle.shr_assemble.specs.declared.noting.Noted.{Noted}
 use Rattle.shr_assemble.specs.Ends.{new_worker}
-use Rattle.shr_assemble.specs.Makes.{answers_in, walks_in, carries_in, plain_in, IsMadeOf}
+use Rattle.shr_assemble.specs.Makes.{answers_in, walks_in, carries_in, plain_in, isolations_in, IsMadeOf}
 use Rattle.shr_assemble.specs.Noting.{part_of, ArePrinted, AreSorted}
 use Rattle.shr_assemble.specs.Putting.{AreEnds, IsPutTogether}
 use Rattle.shr_assemble.proofs.Crews.{there_at}
@@ -50,12 +50,12 @@ module _ (e : Ends) (logs : List WorkerLog) (n : Noted) (r : Report) (are : AreE
   silent : (worker : ℕ) (log : WorkerLog) → printed.many ≤ worker → slice_get logs worker ≡ Some log → log.answers.items ≡ []
   silent worker log le at = printed.last.after worker (part_of log) le (get_mapped part_of logs worker ∙ ap (option_map part_of) at)
 
-  idle : (worker : ℕ) (log : WorkerLog) → printed.many ≤ worker → slice_get logs worker ≡ Some log → (log.walks.items ≡ []) × (log.carries.items ≡ []) × (log.plain.items ≡ [])
+  idle : (worker : ℕ) (log : WorkerLog) → printed.many ≤ worker → slice_get logs worker ≡ Some log → (log.walks.items ≡ []) × (log.carries.items ≡ []) × (log.plain.items ≡ []) × (log.isolations.items ≡ [])
   idle worker log le at =
       let t = there_at are.ends.lasts worker (let lt = slice_get_within logs worker log at in let same = are.ends.last_states in omega (arith, lt, same)) in
       let w = are.ends.worked worker log t.0 at t.1 in
       let same = still are.shared worker log.answers.items (new_worker are.ends.opened worker) t.0 (silent worker log le at) w.work in
-      (w.walks ∙ ap (λ (s : CrewState). s.seats.walks) same, w.carries ∙ ap (λ (s : CrewState). s.seats.carries) same, w.plain ∙ ap (λ (s : CrewState). s.plain.walks) same)
+      (w.walks ∙ ap (λ (s : CrewState). s.seats.walks) same, w.carries ∙ ap (λ (s : CrewState). s.seats.carries) same, w.plain ∙ ap (λ (s : CrewState). s.plain.walks) same, w.isolations ∙ ap (λ (s : CrewState). s.isolations) same)
 
   cases_of : (worker : ℕ) → (worker < printed.many) ⊎ (printed.many ≤ worker)
   cases_of worker = ⊎_elim (λ same. inr (omega (arith, same))) (⊎_elim (λ lt. inl lt) (λ gt. inr (omega (arith, gt)))) (cases_order worker printed.many)
@@ -76,6 +76,10 @@ module _ (e : Ends) (logs : List WorkerLog) (n : Noted) (r : Report) (are : AreE
   same_plain None = refl
   same_plain (Some log) = refl
 
+  same_isolations : (o : Option WorkerLog) → parts.isolations_in (option_map part_of o) ≡ isolations_in o
+  same_isolations None = refl
+  same_isolations (Some log) = refl
+
   no_answers : (worker : ℕ) (o : Option WorkerLog) → printed.many ≤ worker → slice_get logs worker ≡ o → answers_in o ≡ []
   no_answers worker None le at = refl
   no_answers worker (Some log) le at = silent worker log le at
@@ -92,10 +96,9 @@ module _ (e : Ends) (logs : List WorkerLog) (n : Noted) (r : Report) (are : AreE
   no_plain worker None le at = refl
   no_plain worker (Some log) le at = (idle worker log le at).2
 
-  -- no part has an isolation
-  noted_none : (o : Option WorkerLog) (p : WorkerPart) → option_map part_of o ≡ Some p → p.isolations.items ≡ []
-  noted_none None p at = absurd (none-some p at)
-  noted_none (Some log) p at = subst (λ (q : WorkerPart). q.isolations.items ≡ []) (same_Some (part_of log) p at) refl
+  no_isolations : (worker : ℕ) (o : Option WorkerLog) → printed.many ≤ worker → slice_get logs worker ≡ o → isolations_in o ≡ []
+  no_isolations worker None le at = refl
+  no_isolations worker (Some log) le at = (idle worker log le at).3
 
   pub made_of : IsPermutation (flat_map (λ (log : WorkerLog). log.uses.items) logs) n.uses.items → AreSorted n.uses.items → IsMadeOf e.script logs e r
   made_of same sorted = record {
@@ -125,7 +128,9 @@ module _ (e : Ends) (logs : List WorkerLog) (n : Noted) (r : Report) (are : AreE
     plain = λ worker. ⊎_elim
         (λ lt. ap units.plain_in (part_at worker lt) ∙ same_plain (slice_get logs worker))
         (λ le. ap units.plain_in (no_part worker le) ∙ sym (no_plain worker (slice_get logs worker) le refl)) (cases_of worker);
-    quiet = λ worker p at. ⊎_elim (λ lt. noted_none (slice_get logs worker) p (sym (part_at worker lt) ∙ at)) (λ le. absurd (none-some p (sym (no_part worker le) ∙ at))) (cases_of worker);
+    isolations = λ worker. ⊎_elim
+        (λ lt. ap parts.isolations_in (part_at worker lt) ∙ same_isolations (slice_get logs worker))
+        (λ le. ap parts.isolations_in (no_part worker le) ∙ sym (no_isolations worker (slice_get logs worker) le refl)) (cases_of worker);
     uses = subst (λ (l : List UseStep). IsPermutation l (flat_map (λ (log : WorkerLog). log.uses.items) logs)) (sym together.uses) (IsPermutation-sym (flat_map (λ (log : WorkerLog). log.uses.items) logs) n.uses.items same);
     sorted = subst AreSorted (sym together.uses) sorted;
     added = together.added;

@@ -30,7 +30,7 @@ use Rattle.shr_walk.specs.State.{WorkerState}
 use Rattle.shr_cache.specs.Pins.{Pins, PinnedFrom, PinnedAs, PinGives}
 use Rattle.shr_report.specs.Parts.{parents_of}
 use Rattle.shr_report.specs.Freshness.{is_past_group}
-use Rattle.std.proofs.lemmas.Option.{none-some}
+use Rattle.std.proofs.lemmas.Option.{same_Some, none-some}
 use Rattle.shr_assemble.proofs.Quiet.{HasDid, some_met}
 use Rattle.shr_assemble.proofs.QuietSteps.{AreTables}
 use Rattle.shr_assemble.proofs.QuietTenant.{IsTenant, group_in, refused_did, acted_did, stood_did, stood_step, cites_is, list_worn}
@@ -42,7 +42,7 @@ module _ (x : Shared) (tables : AreTables x) (by : Serial) (group node decl : â„
   tenant : IsTenant x.script by command group decl
   tenant = record {
     calm = tt;
-    asks = refl;
+    asks = Î» g e. same_Some group g e;
     met = refl;
     group_is = refl;
     decl_is = refl;

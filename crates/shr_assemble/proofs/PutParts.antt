@@ -1,5 +1,5 @@
 -- A put's parts: what its tries and walks made first, and then what its cache's list made.
-use Rattle.std.proofs.Common.{◌≡◌, ℕ, ◌+◌, ◌<◌, ◌⊎◌, cond, List, [], ◌++◌, length, map, sym, ap, subst, ◌∙◌, arith}
+use Rattle.std.proofs.Common.{◌≡◌, ℕ, ◌+◌, ◌<◌, ◌⊎◌, inl, cond, List, [], ◌++◌, length, map, sym, ap, subst, ◌∙◌, arith}
 use Rattle.std.specs.Prelude.{slice_get, Some, flat_map, sum_by, All, AllPairs}
 use Rattle.std.proofs.lemmas.List.{append-nil, map-append}
 use Rattle.std.proofs.lemmas.List.Elements.{All-nil, filter_map-append}
@@ -92,7 +92,7 @@ module _ (script : Script) (by : Serial) (c : Command) (a : Answered) (s m t : W
 
   module _ (walked : Walked script by (Some c) a s m v) (does : Brings m t q) (tail : IsTail q) where
     may_scan : (y : Made) (e : Entry) → OnlyScan by (length s.walks) v.walks y e → MayMake script whole y e
-    may_scan y (Scan worker n asked policy visits freed stopped) h = record { own = h.own; index = h.index; number = h.number; walk = h.walk; there = slice_left v.walks q.walks h.index h.walk h.there; passes = h.passes }
+    may_scan y (Scan worker n asked policy visits freed stopped) h = inl (record { own = h.own; index = h.index; number = h.number; walk = h.walk; there = slice_left v.walks q.walks h.index h.walk h.there; passes = h.passes })
     may_scan y (Add by' birth added key value) h = absurd h
     may_scan y (Look by' birth key hit) h = absurd h
     may_scan y (Drop by' birth key kind) h = absurd h

@@ -149,7 +149,7 @@ used_up s z c y decl named h = h
 
 pub record IsTenant (s : Script) (by : Serial) (c : Command) (group decl : ℕ) : Type 0 where
   pub calm : IsCalm c
-  pub asks : asks_online c ≡ Some group
+  pub asks : (g : ℕ) → asks_online c ≡ Some g → group ≡ g
   pub met : group_met s c ≡ Some group
   pub group_is : group_named c ≡ Some group
   pub decl_is : decl_named c ≡ Some decl
@@ -168,7 +168,7 @@ pub record IsTenant (s : Script) (by : Serial) (c : Command) (group decl : ℕ) 
 module _ (x : Shared) (tables : AreTables x) (by : Serial) (c : Command) (group decl : ℕ) (is : IsTenant x.script by c group decl) where
   -- the group that it asks for is its own
   pub own_online : (t : _) → KnowsOnline t group → (g : ℕ) → asks_online c ≡ Some g → KnowsOnline t g
-  own_online t h g e = subst (KnowsOnline t) (same_Some group g (sym is.asks ∙ e)) h
+  own_online t h g e = subst (KnowsOnline t) (is.asks g e) h
 
   -- its group was met where the word that it loaded said that it is there
   pub own_met : (z : Step) (found : GroupState) → is_there found ≡ true → z.command ≡ Some c → IsAmong {A = charge.Loaded} (record { group = group; state = found }) z.work.words → ((g : ℕ) → z.answered.reply ≡ reply.NotMade g → ⊥) → MeetsGroups x.script z

@@ -1,14 +1,16 @@
 -- The steps of a worker from the states between its commands, and what they have in all.
-use Rattle.std.proofs.Common.{◌≡◌, ℕ, zero, suc, List, [], ◌∷◌, ◌++◌, length, sym, refl, ap, subst, ◌∙◌, arith, append_assoc}
-use Rattle.std.specs.Prelude.{slice_get, Option, Some, None, flat_map, map, option_map}
-use Rattle.std.proofs.lemmas.List.{append-nil, length-map}
-use Rattle.std.proofs.lemmas.Option.{same_Some, none-some, slice_get-map}
+use Rattle.std.proofs.Common.{◌≡◌, ℕ, zero, suc, ◌+◌, List, [], ◌∷◌, ◌++◌, length, length-append, take, sym, refl, ap, subst, ◌∙◌, arith, append_assoc}
+use Rattle.std.specs.Prelude.{slice_get, Option, Some, None, flat_map}
+use Rattle.std.proofs.lemmas.List.{append-nil}
+use Rattle.std.proofs.lemmas.Option.{same_Some, none-some}
 use Rattle.shr_base.specs.declared.places.Serial.{Serial}
 use Rattle.shr_base.specs.declared.replies.Answered.{Answered}
 use Rattle.shr_base.specs.declared.scripts.Command.{Command}
 use Rattle.shr_base.specs.declared.scripts.Script.{Script}
 use Rattle.shr_base.specs.declared.scripts.WorkerScript.{WorkerScript}
+use Rattle.shr_base.specs.declared.walks.Isolation.{Isolation}
 use Rattle.shr_script.specs.Bounds.{IsCommandWithin}
+use Rattle.shr_report.specs.Isolated.{isolations_told}
 use Rattle.shr_script.specs.Content.{content_of}
 use Rattle.shr_walk.specs.Sharing.{IsShared}
 use Rattle.shr_walk.specs.declared.seats.Shared.{Shared}
@@ -17,39 +19,58 @@ use Rattle.shr_worker.specs.Chain.{CrewState, DeedGives, IsWorkOf, commands_in, 
 use Rattle.shr_worker.proofs.Within.{command_within}
 use Rattle.shr_assemble.specs.Steps.{Step, AreChained, state_after, Brings}
 use Rattle.shr_assemble.specs.Did.{Did}
+use Rattle.shr_assemble.specs.Isolating.{isolated_in, isolated_before, DidIsolations}
 use Rattle.shr_assemble.proofs.Fit.{IsFit, fit_kept}
-use Rattle.shr_assemble.proofs.Flattening.{slice_map}
 
--- a command did its work, between these states
-abbrev pub Worked : Script → Serial → Command → Answered → WorkerState → WorkerState → Type 0
-Worked s by c a t u = (w : Work) × Brings t u w × Did s (record { by = by; command = Some c; answered = a; before = t; after = u; work = w })
+-- A command did its work, between these states. Its isolation stands behind those of its worker, and is as the law asks.
+pub record Worked (s : Script) (by : Serial) (c : Command) (a : Answered) (t u : CrewState) : Type 0 where
+  pub work : Work
+  pub brings : Brings t.seats u.seats work
+  pub did : Did s (record { by = by; command = Some c; answered = a; before = t.seats; after = u.seats; work = work })
+  pub recorded : u.isolations ≡ t.isolations ++ isolations_told by c a
+  pub by_law : DidIsolations s (record { by = by; command = Some c; answered = a; before = t.seats; after = u.seats; work = work }) (length t.isolations)
 
 -- a worker's steps: one for each of these commands and answers, by these serials, from the first state to the last
-pub record IsRow (s : Script) (by : ℕ → Serial) (cs : List Command) (said : List Answered) (first last : WorkerState) (mine : List Step) : Type 0 where
+pub record IsRow (s : Script) (by : ℕ → Serial) (cs : List Command) (said : List Answered) (first last : CrewState) (mine : List Step) : Type 0 where
   pub commands : length cs ≡ length mine
   pub answers : length said ≡ length mine
-  pub chained : AreChained first mine
-  pub ends : state_after first mine ≡ last
+  pub chained : AreChained first.seats mine
+  pub ends : state_after first.seats mine ≡ last.seats
   pub each : (k : ℕ) (x : Step) → slice_get mine k ≡ Some x → (x.by ≡ by k) × (slice_get cs k ≡ x.command) × (slice_get said k ≡ Some x.answered) × Did s x
+  pub recorded : last.isolations ≡ first.isolations ++ flat_map isolated_in mine
+  pub by_law : (k : ℕ) (x : Step) → slice_get mine k ≡ Some x → DidIsolations s x (length first.isolations + isolated_before mine k)
 
-pub row : (s : Script) (by : ℕ → Serial) (cs : List Command) (said : List Answered) (t : WorkerState) (us : List WorkerState) (last : WorkerState) → IsFit t → length said ≡ length cs → length us ≡ length said
-    → ((k : ℕ) (c : Command) (a : Answered) (v w : WorkerState) → IsFit v → slice_get cs k ≡ Some c → slice_get said k ≡ Some a → slice_get (t ∷ us) k ≡ Some v → slice_get (t ∷ us) (suc k) ≡ Some w → Worked s (by k) c a v w)
+pub row : (s : Script) (by : ℕ → Serial) (cs : List Command) (said : List Answered) (t : CrewState) (us : List CrewState) (last : CrewState) → IsFit t.seats → length said ≡ length cs → length us ≡ length said
+    → ((k : ℕ) (c : Command) (a : Answered) (v w : CrewState) → IsFit v.seats → slice_get cs k ≡ Some c → slice_get said k ≡ Some a → slice_get (t ∷ us) k ≡ Some v → slice_get (t ∷ us) (suc k) ≡ Some w → Worked s (by k) c a v w)
     → slice_get (t ∷ us) (length said) ≡ Some last → (mine : List Step) × IsRow s by cs said t last mine
-row s by [] [] t us last fit same more each end = ([], record { commands = refl; answers = refl; chained = tt; ends = same_Some t last end; each = λ k x e. absurd (none-some x e) })
+row s by [] [] t us last fit same more each end = let is : t ≡ last = same_Some t last end in (
+  [],
+  record {
+    commands = refl;
+    answers = refl;
+    chained = tt;
+    ends = ap (λ (u : CrewState). u.seats) is;
+    each = λ k x e. absurd (none-some x e);
+    recorded = ap (λ (u : CrewState). u.isolations) (sym is) ∙ sym (append-nil t.isolations);
+    by_law = λ k x e. absurd (none-some x e);
+  },
+)
 row s by [] (a ∷ said) t us last fit same more each end = absurd (omega (arith, same))
 row s by (c ∷ cs) [] t us last fit same more each end = absurd (omega (arith, same))
 row s by (c ∷ cs) (a ∷ said) t [] last fit same more each end = absurd (omega (arith, more))
 row s by (c ∷ cs) (a ∷ said) t (u ∷ us) last fit same more each end =
     let g : Worked s (by 0) c a t u = each 0 c a t u fit refl refl refl refl in
-    let x : Step = record { by = by 0; command = Some c; answered = a; before = t; after = u; work = g.0 } in
-    let rest = row s (λ k. by (suc k)) cs said u us last (fit_kept t u g.0 g.1 fit) (omega (arith, same)) (omega (arith, more)) (λ k d b v w. each (suc k) d b v w) end in (
+    let x : Step = record { by = by 0; command = Some c; answered = a; before = t.seats; after = u.seats; work = g.work } in
+    let rest = row s (λ k. by (suc k)) cs said u us last (fit_kept t.seats u.seats g.work g.brings fit) (omega (arith, same)) (omega (arith, more)) (λ k d b v w. each (suc k) d b v w) end in (
       x ∷ rest.0,
       record {
         commands = omega (arith, rest.1.commands);
         answers = omega (arith, rest.1.answers);
-        chained = (refl, g.1, rest.1.chained);
+        chained = (refl, g.brings, rest.1.chained);
         ends = rest.1.ends;
-        each = λ k y e. at x rest.0 rest.1.each g.2 refl refl refl k y e;
+        each = λ k y e. at x rest.0 rest.1.each g.did refl refl refl k y e;
+        recorded = rest.1.recorded ∙ (ap (λ l. l ++ flat_map isolated_in rest.0) g.recorded ∙ append_assoc t.isolations (isolated_in x) (flat_map isolated_in rest.0));
+        by_law = λ k y e. at_law x rest.0 (length u.isolations) (ap (λ (l : List Isolation). length l) g.recorded ∙ length-append t.isolations (isolated_in x)) rest.1.by_law g.by_law k y e;
       },
     ) where
       at : (x : Step) (xs : List Step) → ((k : ℕ) (y : Step) → slice_get xs k ≡ Some y → (y.by ≡ by (suc k)) × (slice_get cs k ≡ y.command) × (slice_get said k ≡ Some y.answered) × Did s y)
@@ -57,17 +78,22 @@ row s by (c ∷ cs) (a ∷ said) t (u ∷ us) last fit same more each end =
       at x xs others did b d e zero y is = subst (λ (z : Step). (z.by ≡ by 0) × (Some c ≡ z.command) × (Some a ≡ Some z.answered) × Did s z) (same_Some x y is) (b, sym d, ap Some (sym e), did)
       at x xs others did b d e (suc k) y is = others k y is
 
-row_from : (s : Script) (by : ℕ → Serial) (cs : List Command) (said : List Answered) (first last : WorkerState) (ts : List WorkerState) → IsFit first → length said ≡ length cs
+      at_law : (x : Step) (xs : List Step) (n : ℕ) → n ≡ length t.isolations + length (isolated_in x) → ((k : ℕ) (y : Step) → slice_get xs k ≡ Some y → DidIsolations s y (n + isolated_before xs k))
+          → DidIsolations s x (length t.isolations) → (k : ℕ) (y : Step) → slice_get (x ∷ xs) k ≡ Some y → DidIsolations s y (length t.isolations + isolated_before (x ∷ xs) k)
+      at_law x xs n same others did zero y is = subst (λ (m : ℕ). DidIsolations s y m) (let z : length t.isolations ≡ length t.isolations + 0 = omega arith in z) (subst (λ (z : Step). DidIsolations s z (length t.isolations)) (same_Some x y is) did)
+      at_law x xs n same others did (suc k) y is = subst (λ (m : ℕ). DidIsolations s y m) (omega (arith, same, length-append (isolated_in x) (flat_map isolated_in (take k xs)))) (others k y is)
+
+row_from : (s : Script) (by : ℕ → Serial) (cs : List Command) (said : List Answered) (first last : CrewState) (ts : List CrewState) → IsFit first.seats → length said ≡ length cs
     → slice_get ts 0 ≡ Some first → slice_get ts (length said) ≡ Some last → length ts ≡ suc (length said)
-    → ((k : ℕ) (c : Command) (a : Answered) (v w : WorkerState) → IsFit v → slice_get cs k ≡ Some c → slice_get said k ≡ Some a → slice_get ts k ≡ Some v → slice_get ts (suc k) ≡ Some w → Worked s (by k) c a v w)
+    → ((k : ℕ) (c : Command) (a : Answered) (v w : CrewState) → IsFit v.seats → slice_get cs k ≡ Some c → slice_get said k ≡ Some a → slice_get ts k ≡ Some v → slice_get ts (suc k) ≡ Some w → Worked s (by k) c a v w)
     → (mine : List Step) × IsRow s by cs said first last mine
 row_from s by cs said first last [] fit same start end more each = absurd (none-some first start)
 row_from s by cs said first last (t ∷ us) fit same start end more each =
-    subst (λ (f : WorkerState). (mine : List Step) × IsRow s by cs said f last mine) (same_Some t first start) (row s by cs said t us last (subst IsFit (sym (same_Some t first start)) fit) same (omega (arith, more)) each end)
+    subst (λ (f : CrewState). (mine : List Step) × IsRow s by cs said f last mine) (same_Some t first start) (row s by cs said t us last (subst (λ (f : CrewState). IsFit f.seats) (sym (same_Some t first start)) fit) same (omega (arith, more)) each end)
 
 -- each command's clauses give what it did, where it names what is there and its worker is fit
 abbrev pub DidEach : Shared → Type 0
-DidEach x = (by : Serial) (c : Command) (a : Answered) (t u : CrewState) → IsCommandWithin (content_of x.script) c → IsFit t.seats → DeedGives x by c a t u → Worked x.script by c a t.seats u.seats
+DidEach x = (by : Serial) (c : Command) (a : Answered) (t u : CrewState) → IsCommandWithin (content_of x.script) c → IsFit t.seats → DeedGives x by c a t u → Worked x.script by c a t u
 
 -- each command of a script that is valid names what is there
 pub within_at : (x : Shared) → IsShared x → (number k : ℕ) (c : Command) → slice_get (commands_of x.script number) k ≡ Some c → IsCommandWithin (content_of x.script) c
@@ -76,20 +102,11 @@ within_at x shared number k c at = in_script (slice_get x.script.workers.items n
   in_script None there e = absurd (none-some c e)
   in_script (Some w) there e = command_within x shared number w there k c e
 
--- a worker's state at the tables of the caches
-abbrev seats_of : CrewState → WorkerState
-seats_of c = c.seats
-
 -- the steps of a worker that answered all its commands
 pub row_of : (x : Shared) → IsShared x → DidEach x → (number : ℕ) (said : List Answered) (first last : CrewState) → IsFit first.seats → length said ≡ length (commands_of x.script number) → IsWorkOf x number said first last
-    → (mine : List Step) × IsRow x.script (serial_of number) (commands_of x.script number) said first.seats last.seats mine
-row_of x shared did number said first last fit all work = row_from x.script (serial_of number) (commands_of x.script number) said first.seats last.seats (map seats_of work.states) fit all (slice_get-map seats_of work.states 0 ∙ ap (option_map seats_of) work.starts) (slice_get-map seats_of work.states (length said) ∙ ap (option_map seats_of) work.ends) (length-map work.states seats_of ∙ work.one_more)
-    (λ k c a v w fit_v at_c at_a at_v at_w. gives k c a v w at_c at_a fit_v (slice_map seats_of work.states k v at_v) (slice_map seats_of work.states (suc k) w at_w))
-  where
-    gives : (k : ℕ) (c : Command) (a : Answered) (v w : WorkerState) → slice_get (commands_of x.script number) k ≡ Some c → slice_get said k ≡ Some a → IsFit v → (t : CrewState) × (slice_get work.states k ≡ Some t) × (t.seats ≡ v) → (u : CrewState) × (slice_get work.states (suc k) ≡ Some u) × (u.seats ≡ w)
-        → Worked x.script (serial_of number k) c a v w
-    gives k c a v w at_c at_a fit_v t u = subst (λ (z : WorkerState). Worked x.script (serial_of number k) c a z w) t.2 (subst (Worked x.script (serial_of number k) c a t.0.seats) u.2
-        (did (serial_of number k) c a t.0 u.0 (within_at x shared number k c at_c) (subst IsFit (sym t.2) fit_v) (work.each k c a t.0 u.0 at_c at_a t.1 u.1)))
+    → (mine : List Step) × IsRow x.script (serial_of number) (commands_of x.script number) said first last mine
+row_of x shared did number said first last fit all work = row_from x.script (serial_of number) (commands_of x.script number) said first last work.states fit all work.starts work.ends work.one_more
+    (λ k c a v w fit_v at_c at_a at_v at_w. did (serial_of number k) c a v w (within_at x shared number k c at_c) fit_v (work.each k c a v w at_c at_a at_v at_w))
 
 -- a list of the state that each step makes longer
 pub along : {A : Type 0} (g : WorkerState → List A) (h : Step → List A) → ((x : Step) → Brings x.before x.after x.work → g x.after ≡ g x.before ++ h x)

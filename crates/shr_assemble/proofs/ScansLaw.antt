@@ -22,7 +22,7 @@ use Rattle.shr_seats.specs.Weights.{total}
 use Rattle.shr_core.specs.Parts.{Made}
 use Rattle.shr_core.proofs.Listing.{back}
 use Rattle.shr_report.specs.declared.report.Report.{Report}
-use Rattle.shr_report.specs.Parts.{journals_of, IsThere}
+use Rattle.shr_report.specs.Parts.{journals_of, first_isolation, IsThere}
 use Rattle.shr_report.specs.LawfulWalk.{AreScansOf}
 use Rattle.shr_assemble.specs.Steps.{Step, IsAmong, gathered, steps_of}
 use Rattle.shr_assemble.specs.Entries.{MayMake, IsScanned}
@@ -90,19 +90,19 @@ enumerated i (x ∷ xs) zero p e = let same : (i, x) ≡ p = same_Some (i, x) p 
 enumerated i (x ∷ xs) (suc j) p e = let t = enumerated (i + 1) xs j p e in (t.0, t.1 ∙ omega arith)
 
 -- a Scan that is told apart is of the worker and of the walk
-scan_is : (worker walk number : ℕ) (e : Entry) (s : Script) (x : Step) (m : Made) (a : ScanMade) → scan_by worker walk number e ≡ Some a → MayMake s x m e → IsScanned x m worker walk
-scan_is worker walk number (Add by birth added key value) s x m a h may = absurd (none-some a h)
-scan_is worker walk number (Look by birth key hit) s x m a h may = absurd (none-some a h)
-scan_is worker walk number (Drop by birth key kind) s x m a h may = absurd (none-some a h)
-scan_is worker walk number (Pin by birth key pinned hit) s x m a h may = absurd (none-some a h)
-scan_is worker walk number (Scan w n asked policy visits freed stopped) s x m a h may = by_test ((w == worker) && (n == walk)) refl h
+scan_is : (worker walk number : ℕ) (e : Entry) (s : Script) (x : Step) (m : Made) (a : ScanMade) → scan_by worker walk number e ≡ Some a → walk < first_isolation → MayMake s x m e → IsScanned x m worker walk
+scan_is worker walk number (Add by birth added key value) s x m a h low may = absurd (none-some a h)
+scan_is worker walk number (Look by birth key hit) s x m a h low may = absurd (none-some a h)
+scan_is worker walk number (Drop by birth key kind) s x m a h low may = absurd (none-some a h)
+scan_is worker walk number (Pin by birth key pinned hit) s x m a h low may = absurd (none-some a h)
+scan_is worker walk number (Scan w n asked policy visits freed stopped) s x m a h low may = by_test ((w == worker) && (n == walk)) refl h
   where
     by_test : (b : Bool) → ((w == worker) && (n == walk)) ≡ b → cond b (Some (record { number = number; asked = asked; policy = policy; freed = freed })) None ≡ Some a → IsScanned x m worker walk
     by_test false e k = absurd (none-some a k)
-    by_test true e k = let t = and_parts (w == worker) (n == walk) e in subst (λ v. IsScanned x m v walk) (eqb-true w worker t.0) (subst (λ v. IsScanned x m w v) (eqb-true n walk t.1) may)
-scan_is worker walk number (MovedIn child objects) s x m a h may = absurd (none-some a h)
-scan_is worker walk number Closed s x m a h may = absurd (none-some a h)
-scan_is worker walk number (Drained by objects) s x m a h may = absurd (none-some a h)
+    by_test true e k = let t = and_parts (w == worker) (n == walk) e in subst (λ v. IsScanned x m v walk) (eqb-true w worker t.0) (subst (λ v. IsScanned x m w v) (eqb-true n walk t.1) (⊎_elim (λ scanned. scanned) (λ visited. absurd (let high = visited.high in omega (arith, high, low, eqb-true n walk t.1))) may))
+scan_is worker walk number (MovedIn child objects) s x m a h low may = absurd (none-some a h)
+scan_is worker walk number Closed s x m a h low may = absurd (none-some a h)
+scan_is worker walk number (Drained by objects) s x m a h low may = absurd (none-some a h)
 
 -- ---- asks of one size
 abbrev IsAsked : ℕ → ScanMade → Type 0
@@ -178,7 +178,7 @@ module _ (s : Script) (r : Report) (workers : List (List Step)) (run : IsRun s r
             none m true None e may = refl
             none m false None e may = refl
             none m false (Some a) e may = refl
-            none m true (Some a) e may = absurd (apart (walk_step v j y m at (scan_is worker n m.number m.entry s y m a e may)))
+            none m true (Some a) e may = absurd (apart (walk_step v j y m at (scan_is worker n m.number m.entry s y m a e of.did.low may)))
 
     -- each in the journal is one of the step
     scans_has : (a : ScanMade) → Has in_journal a → Has of_step a
@@ -188,7 +188,7 @@ module _ (s : Script) (r : Report) (workers : List (List Step)) (run : IsRun s r
         let number : t.1.0 ≡ t.0 = stands.1 ∙ omega arith in
         let m = maker s r workers run p t.1.0 t.1.1 (ap (slice_get (journals_of r p)) number ∙ stands.0) in
         let may = subst (MayMake s m.step m.made) m.entry (each_among (λ (z : Made). MayMake s m.step z z.entry) m.step.work.core.made m.made (run.steps.each m.worker m.k m.step m.at).did.entries.each m.among) in
-        let same = walk_step m.worker m.k m.step m.made m.at (scan_is worker n t.1.0 t.1.1 s m.step m.made a t.3 may) in
+        let same = walk_step m.worker m.k m.step m.made m.at (scan_is worker n t.1.0 t.1.1 s m.step m.made a t.3 of.did.low may) in
         let step : m.step ≡ of.step = same_step workers m.worker m.k worker of.k m.step of.step m.at of.at same.0 same.1 in
         let among : IsAmong m.made of.step.work.core.made = subst (λ (z : Step). IsAmong m.made z.work.core.made) step m.among in
         let place : m.made.place ≡ place_number p = sym (back m.made.place) ∙ ap place_number m.place_is in

@@ -21,17 +21,13 @@ use Rattle.shr_plain.specs.declared.answers.ReleaseAnswer.TheVariants as release
 use Rattle.shr_plain.specs.Opening.{settings_of, pool_sizes}
 use Rattle.shr_plain.specs.Seat.{PlainState}
 use Rattle.shr_plain.specs.Settings.{IsPoolOf}
+use Rattle.shr_worker.proofs.Pooled.{served}
 use Rattle.shr_worker.specs.Plain.{units_place, has_pools, is_walked, is_due, WalksIf, PlainGives}
 use Rattle.shr_worker.specs.Replies as worker
 use Rattle.shr_report.specs.ReplyTable.{IsReply}
 use Rattle.shr_report.specs.UnitParts.{PlainJob, one_plain, plain_jobs, plain_due}
 use Rattle.shr_units.specs.Did.{release_reply, grab_reply, DidWalks, IsOther, DidUnitsOf}
 use Rattle.shr_units.proofs.Pooling.{settings_length}
-
--- what is served is so
-pub served : (b : Bool) (P : Type 0) → IfServed b P → P
-served true P h = h
-served false P h = absurd h
 
 -- ---- which replies are of pools
 abbrev pub IsElsewhere : Command → Type 0

@@ -1,5 +1,5 @@
 -- A command that made walks alone did what the report asks.
-use Rattle.std.proofs.Common.{◌≡◌, ℕ, ◌<◌, ◌≤◌, ◌⊎◌, [], length, map, sym, ap, subst, ◌∙◌, arith}
+use Rattle.std.proofs.Common.{◌≡◌, ℕ, ◌<◌, ◌≤◌, ◌⊎◌, inl, [], length, map, sym, ap, subst, ◌∙◌, arith}
 use Rattle.std.specs.Prelude.{cond, Option, Some, None, option_and_then, sum_by, All, AllPairs}
 use Rattle.std.specs.List.{AllByRecursion}
 use Rattle.std.proofs.lemmas.List.{append-nil}
@@ -44,7 +44,7 @@ use Rattle.shr_assemble.proofs.WalkingCharges.{walks_charge}
 use Rattle.shr_assemble.proofs.WalkingSteps.{OnlyScan, step_of, Walked}
 
 pub may_make : (x : Shared) (by : Serial) (c : Option Command) (a : Answered) (s t : WorkerState) (w : Work) (m : Made) (e : Entry) → OnlyScan by (length s.walks) w.walks m e → MayMake x.script (step_of x.script by c a s t w) m e
-may_make x by c a s t w m (Scan worker n asked policy visits freed stopped) h = record { own = h.own; index = h.index; number = h.number; walk = h.walk; there = h.there; passes = h.passes }
+may_make x by c a s t w m (Scan worker n asked policy visits freed stopped) h = inl (record { own = h.own; index = h.index; number = h.number; walk = h.walk; there = h.there; passes = h.passes })
 may_make x by c a s t w m (Add by' birth added key value) h = absurd h
 may_make x by c a s t w m (Look by' birth key hit) h = absurd h
 may_make x by c a s t w m (Drop by' birth key kind) h = absurd h

@@ -253,6 +253,7 @@ module _ (x : Shared) (table : IsTableOf x) (walk : Walk) (c : Option Command) (
       let rise = subst Rise (sym v.ids) (maps_rise g.maps.items (units_in (shape_of x.core).ids) v.units) in
       gave_one g.maps g.attempts (answered.Walked freed) (record { group = walk.group; state = g.state } ∷ []) v.w record {
         number = number;
+        low = g.numbered;
         node = node;
         group = group;
         does = whole_does g.maps g.attempts (answered.Walked freed) (record { group = walk.group; state = g.state } ∷ []) g.begun g.ended v.w g.loaded v.does g.recorded v.fresh v.is;
@@ -266,6 +267,7 @@ module _ (x : Shared) (table : IsTableOf x) (walk : Walk) (c : Option Command) (
       }
   gave_walk (answered.Offline entry) g below seen = gave_one g.maps g.attempts (answered.Offline entry) (record { group = walk.group; state = state.Offline entry } ∷ []) no_work record {
     number = number;
+    low = g.numbered;
     node = node;
     group = group;
     does = g.does;
@@ -283,6 +285,7 @@ module _ (x : Shared) (table : IsTableOf x) (walk : Walk) (c : Option Command) (
       let rise = rise_front (map id_of g.attempts.items) v.rest (subst Rise v.ids (maps_rise g.maps.items v.n v.units)) in
       gave_one g.maps g.attempts (answered.Memory freed) (record { group = walk.group; state = g.state } ∷ []) v.w record {
         number = number;
+        low = g.numbered;
         node = node;
         group = group;
         does = whole_does g.maps g.attempts (answered.Memory freed) (record { group = walk.group; state = g.state } ∷ []) g.begun g.ended v.w g.loaded v.does g.recorded v.fresh v.is;
@@ -301,6 +304,7 @@ module _ (x : Shared) (table : IsTableOf x) (walk : Walk) (c : Option Command) (
       let rise = subst Rise (sym v.ids) (up_to_rise (shape_of x.core).ids) in
       gave_one g.maps g.attempts (answered.Walked freed) [] v.w record {
         number = number;
+        low = g.numbered;
         node = node;
         group = group;
         does = whole_does g.maps g.attempts (answered.Walked freed) [] g.begun g.ended v.w g.same v.does g.recorded v.fresh (no_maps v.is g.no_map);
@@ -322,6 +326,7 @@ module _ (x : Shared) (table : IsTableOf x) (walk : Walk) (c : Option Command) (
       let rise = subst Rise (sym v.ids) (up_to_rise v.n) in
       gave_one g.maps g.attempts (answered.Memory freed) [] v.w record {
         number = number;
+        low = g.numbered;
         node = node;
         group = group;
         does = whole_does g.maps g.attempts (answered.Memory freed) [] g.begun g.ended v.w g.same v.does g.recorded v.fresh (no_maps v.is g.no_map);

@@ -11,7 +11,6 @@ use Rattle.shr_base.specs.declared.objects.Policy.{Policy}
 use Rattle.shr_base.specs.declared.places.Place.{Place}
 use Rattle.shr_base.specs.declared.replies.Answered.{Answered}
 use Rattle.shr_base.specs.declared.replies.Spent.{Spent}
-use Rattle.shr_base.specs.declared.replies.Spent.TheVariants as spent
 use Rattle.shr_base.specs.declared.scripts.CacheDecl.{CacheDecl}
 use Rattle.shr_base.specs.declared.scripts.Command.{Command}
 use Rattle.shr_base.specs.declared.walks.Attempt.{Attempt}
@@ -41,7 +40,7 @@ use Rattle.shr_walk.specs.Keeping.{IsScanOf}
 use Rattle.shr_walk.specs.Listing.{scan_at}
 use Rattle.shr_walk.specs.Records.{place_in, AreScannedBy, AreLater, AreStopped}
 use Rattle.shr_walk.specs.Shown.{WornSeen, PassSeen, IsSeen}
-use Rattle.shr_walk.specs.Walked.{IsRecordOf, record_of, parts_of, id_of, counts_of, number_in}
+use Rattle.shr_walk.specs.Walked.{IsRecordOf, IsWalkNumber, record_of, parts_of, id_of, counts_of, number_in}
 use Rattle.shr_walk.specs.State.{WorkerState, Work, Does}
 use Rattle.shr_walk.specs.declared.seats.Shared.{Shared}
 use Rattle.shr_walk.specs.declared.walking.Walk.{Walk}
@@ -51,7 +50,7 @@ use Rattle.shr_assemble.specs.Lookups.{numbered}
 use Rattle.shr_assemble.specs.Offlining.{KnowsOnline}
 use Rattle.shr_assemble.specs.Walks.{IsRecord, DidWalk}
 use Rattle.shr_assemble.specs.Worn.{IsWornBy}
-use Rattle.shr_assemble.proofs.Listed.{contains_among}
+use Rattle.shr_assemble.proofs.WornSeen.{seen_worn}
 use Rattle.shr_model.proofs.UnitsLaws.{Rise}
 use Rattle.shr_assemble.proofs.WalkingTold.{IsTableOf, seen_id, seen_pass}
 use Rattle.shr_assemble.proofs.WalkingParts.{PartAt, part_at, part_scans, tries_one, pass_is, found_cases, found_held}
@@ -66,6 +65,7 @@ whole w words r = record w { words = words; walks = r ∷ [] }
 -- what a walk of this record and work was, between two states
 pub record OneWalk (x : Shared) (walk : Walk) (maps : Kept MapSeen) (tries : Kept Attempt) (answer : WalkAnswer) (words : List charge.Loaded) (w : Work) (s t : WorkerState) : Type 0 where
   pub number : walk.number ≡ length s.walks
+  pub low : IsWalkNumber walk.number
   pub node : walk.node < x.script.nodes
   pub group : walk.group < length (parents_of x.script)
   pub does : Does s t (whole w words (record_of walk maps tries answer))
@@ -95,17 +95,7 @@ module _ (x : Shared) (table : IsTableOf x) (walk : Walk) (c : Option Command) (
   place_there k y at = record { id = seen_id x table walk maps.items tries.items s t w one.seen k y at; node = one.node; group = one.group }
 
   worn_by : (k : ℕ) (y : Attempt) → slice_get tries.items k ≡ Some y → (z : Spent) → WornSeen (shape_of x.core) (place_in walk y.id) z t → IsWornBy x.script (step_of x.script walk.by c a s t (whole w words r_of)) z
-  worn_by k y at (spent.List place entries items) h = record {
-    there = subst (IsThere x.script) (sym h.here) (place_there k y at);
-    over = let m = table.most_items in let n = table.most_entries in ⊎_elim (λ p. inl (omega (arith, p, n))) (λ p. inr (omega (arith, p, m))) h.over;
-    known = h.known;
-    held = h.held;
-    list = record { knows = subst (λ (q : Place). IsAmong (record { place = place_number q; entries = h.known }) t.core.traces.known) (sym h.here) (contains_among t.core.traces.known _ h.knows); journal = h.journal };
-    one_more = h.one_more;
-    most = inl h.there;
-  }
-  worn_by k y at (spent.Lookups id seen) h = absurd h
-  worn_by k y at (spent.Charges charges uncharges) h = record { over = h.over; charged = h.charged; uncharged = h.uncharged }
+  worn_by k y at z h = seen_worn x.script (shape_of x.core) table.most_items table.most_entries (step_of x.script walk.by c a s t (whole w words r_of)) (place_in walk y.id) (place_there k y at) z h
 
   did_attempt : (k : ℕ) (y : Attempt) → slice_get tries.items k ≡ Some y → DidAttempt x.script (step_of x.script walk.by c a s t (whole w words r_of)) walk.number r_of y
   did_attempt k y at = record {
@@ -150,6 +140,7 @@ module _ (x : Shared) (table : IsTableOf x) (walk : Walk) (c : Option Command) (
 
   did_walk : DidWalk x.script (step_of x.script walk.by c a s t (whole w words r_of)) walk.number r_of
   did_walk = record {
+    low = one.low;
     by = refl;
     node = one.node;
     group = one.group;

@@ -209,6 +209,7 @@ module _ (script : Script) (by : Serial) (c : Option Command) (a : Answered) whe
 
     pub walk_later : (r : WalkRecord) → DidWalk script (step_of s t w) n r → DidWalk script (step_of s' t' w') n r
     walk_later r k = record {
+      low = k.low;
       by = k.by;
       node = k.node;
       group = k.group;

@@ -1,5 +1,5 @@
 -- The law of walks, of a run.
-use Rattle.std.proofs.Common.{◌≡◌, ℕ, zero, suc, ◌<◌, ◌≤◌, ◌≢◌, inl, inr, Bool, true, false, ◌||◌, cond, List, [], ◌∷◌, ◌++◌, length, map, sym, refl, ap, subst, ◌∙◌, arith, eqb, eq-eqb}
+use Rattle.std.proofs.Common.{◌≡◌, ℕ, zero, suc, ◌<◌, ◌≤◌, ◌≢◌, inl, inr, ⊎_elim, Bool, true, false, ◌||◌, cond, List, [], ◌∷◌, ◌++◌, length, map, sym, refl, ap, subst, ◌∙◌, arith, eqb, eq-eqb}
 use Rattle.std.specs.Prelude.{slice_get, Option, Some, flat_map, filter, count_by, option_and_then}
 use Rattle.std.specs.List.{AllByRecursion, list_any}
 use Rattle.std.specs.Option.{IsSomeAnd}
@@ -38,7 +38,7 @@ use Rattle.shr_report.specs.Parts.{parents_of, limit_of, journals_of, serial_of,
 use Rattle.shr_report.specs.WalksLawful.{IsOfPass, AreRoundsOf, AreWalksOf, IsToldBy, MayMake, FillsPlace, Covers, was_cleared, AreWalksLawful}
 use Rattle.shr_assemble.specs.Steps.{Step, IsAmong, gathered, steps_of}
 use Rattle.shr_assemble.specs.Entries as entries
-use Rattle.shr_assemble.specs.Entries.{IsScanned, IsCited}
+use Rattle.shr_assemble.specs.Entries.{IsCited}
 use Rattle.shr_assemble.specs.Walks.{mapped_in, cleared_in, word_of, DidRoundsOf, DidJobs, AreWalksFor}
 use Rattle.shr_assemble.specs.Charges.{ops_at}
 use Rattle.shr_assemble.specs.Runs.{all_cleared, IsRun}
@@ -108,11 +108,11 @@ module _ (s : Script) (r : Report) (workers : List (List Step)) (run : IsRun s r
   scan_of_pass place (Look by birth key hit) x m worker k at here may = tt
   scan_of_pass place (Drop by birth key kind) x m worker k at here may = tt
   scan_of_pass place (Pin by birth key pinned hit) x m worker k at here may = tt
-  scan_of_pass place (Scan w n asked policy visits freed stopped) x m worker k at here may =
-      let t : IsScanned x m w n = may in
-      let own : w ≡ worker = t.own ∙ ap (λ (z : Serial). z.worker) (run.steps.each worker k x at).by in
+  scan_of_pass place (Scan w n asked policy visits freed stopped) x m worker k at here may = λ low. ⊎_elim
+      (λ t. let own : w ≡ worker = t.own ∙ ap (λ (z : Serial). z.worker) (run.steps.each worker k x at).by in
       let there : walk_at r w n ≡ Some t.walk = ap (λ v. walk_at r v n) own ∙ (ap (walk_at r worker) t.number ∙ walk_there s r workers run worker k t.index x t.walk at t.there) in
-      subst (λ (o : Option WalkRecord). IsSomeAnd o (λ v. 0 < length (passes_at place v))) (sym there) (subst (λ p. 0 < length (passes_at p t.walk)) here t.passes)
+      subst (λ (o : Option WalkRecord). IsSomeAnd o (λ v. 0 < length (passes_at place v))) (sym there) (subst (λ p. 0 < length (passes_at p t.walk)) here t.passes))
+      (λ t. absurd (let high = t.high in omega (arith, high, low))) may
   scan_of_pass place (MovedIn child objects) x m worker k at here may = tt
   scan_of_pass place Closed x m worker k at here may = tt
   scan_of_pass place (Drained by objects) x m worker k at here may = tt

@@ -104,7 +104,6 @@ pub record IsLaidOut (s : Script) (r : Report) : Type 0 where
   pub numbers : AllByRecursion (λ (n : ℕ). n < 2 ^ 32) r.lookups.items
   pub last_numbers : (id : ℕ) → id < s.ids → last_number id r.pool.items < 2 ^ 32
   pub totals : IsBitWord r.added × IsBitWord r.freed × IsBitWord r.listed
-  pub quiet : (worker : ℕ) (part : WorkerPart) → slice_get r.workers.items worker ≡ Some part → part.isolations.items ≡ []
   pub pool_amounts : AllByRecursion IsPoolAmountWell r.pool_deferred.items
   pub pool_order : AllAdjacentBelow (λ (d e : PlaceAmount). IsPlaceBefore d.place e.place) r.pool_deferred.items (length r.pool_deferred.items)
 
@@ -142,7 +141,7 @@ module _ (s : Script) (r : Report) (workers : List (List Step)) (run : IsRun s r
     pool = pool_numbered s.ids (length s.caches.items) r.pool.items run.pool.journal run.sized.ids within.caches laid.last_numbers;
     tree = tree_numbered (hierarchy_of s) r.tree.items run.uses.tree run.sized.groups;
     few_parts = let same = ap (λ (ps : List WorkerPart). length ps) laid.front in let few = laid.few in let most = length-take laid.many laid.all in omega (arith, same, few, most);
-    parts = λ worker part at. part_well s r workers run within worker part at (laid.quiet worker part at);
+    parts = λ worker part at. part_well s r workers run within worker part at;
     last = λ before part is. last_answered laid.all r.workers.items before laid.many part laid.last laid.front is;
     places = by_slices IsPlaceWell r.places.items place_well;
     place_order = λ k d lt. inl (place_order k d lt);

@@ -14,16 +14,17 @@ use Rattle.shr_base.specs.declared.walks.WalkRecord.{WalkRecord}
 use Rattle.shr_script.specs.Bounds.{IsWithin}
 use Rattle.shr_script.specs.Content.{content_of}
 use Rattle.shr_report.specs.declared.report.Report.{Report}
-use Rattle.shr_report.specs.Parts.{serial_of, answers_in, walks_in, carries_in}
+use Rattle.shr_report.specs.Parts.{serial_of, answers_in, walks_in, carries_in, isolations_in}
 use Rattle.shr_report.specs.WellFormed.{LendsWord, IsBefore, IsCarryBefore, AreNotFalling, IsWalkWell, AreOfCommands, IsPartWell}
 use Rattle.shr_report.specs.UnitParts.{plain_in}
-use Rattle.shr_report.proofs.QuietParts.{none_of_commands}
 use Rattle.shr_units.proofs.FormLaw.{plain_order}
 use Rattle.shr_assemble.specs.Deferred.{DidCarry}
+use Rattle.shr_assemble.specs.Isolating.{isolated_in}
 use Rattle.shr_assemble.specs.Steps.{Step, steps_of}
 use Rattle.shr_assemble.specs.Runs.{IsRun}
 use Rattle.shr_assemble.proofs.Flattening.{answers_are, slice_map}
 use Rattle.shr_assemble.proofs.Gathering.{flat_at}
+use Rattle.shr_assemble.proofs.IsolationSteps.{first_told, told_once, told_by}
 use Rattle.shr_assemble.proofs.Listed.{all_slice, by_slices}
 use Rattle.shr_assemble.proofs.Operations.{PairsRec, pairs_rec, pairs_by_slices, pairs_weaker}
 use Rattle.shr_assemble.proofs.WellPairs.{AllCross, pairs_flat, pairs_map, adjacent}
@@ -97,13 +98,29 @@ module _ (s : Script) (r : Report) (workers : List (List Step)) (run : IsRun s r
         ordered [] h es = tt
         ordered (c ∷ cs) h es = (heads c cs es.0 es.1 h.0, ordered cs h.1 es.1)
 
+  isolations_are : part.isolations.items ≡ flat_map isolated_in mine
+  isolations_are = ap isolations_in (sym here) ∙ run.isolations.told worker
+
+  isolation_by : (k n : ℕ) (x : Step) (i : Isolation) → slice_get mine k ≡ Some x → slice_get (isolated_in x) n ≡ Some i → i.by ≡ serial_of worker k
+  isolation_by k n x i at own = let t = told_once x.by x.command x.answered n i own in told_by x.by x.command x.answered i (first_told x i t.0) ∙ (run.steps.each worker k x at).by
+
+  isolations_ordered : AreOfCommands Isolation (λ (i : Isolation). i.by) worker (length part.answers.items) part.isolations.items
+  isolations_ordered = subst (AreOfCommands Isolation (λ (i : Isolation). i.by) worker (length part.answers.items)) (sym isolations_are) (record {
+    by = each_flat (λ (i : Isolation). (i.by.worker ≡ worker) × (i.by.command < length part.answers.items)) isolated_in mine (λ k n x i at own.
+        (ap (λ (b : Serial). b.worker) (isolation_by k n x i at own), let c = ap (λ (b : Serial). b.command) (isolation_by k n x i at own) in let lt = short k x at in omega (arith, c, lt)));
+    order = adjacent (λ n m. n ≤ m) _ (pairs_map (λ n m. n ≤ m) (λ (i : Isolation). i.by.command) (flat_map isolated_in mine)
+        (pairs_of (λ (i j : Isolation). i.by.command ≤ j.by.command) isolated_in mine
+        (λ k x at. pairs_by_slices (λ (i j : Isolation). i.by.command ≤ j.by.command) (isolated_in x) (λ n m i j lt a b. let c = ap (λ (y : Serial). y.command) (isolation_by k n x i at a) in let d = ap (λ (y : Serial). y.command) (isolation_by k m x j at b) in omega (arith, c, d)))
+        (λ k l n m x y i j lt at_x at_y a b. let c = ap (λ (z : Serial). z.command) (isolation_by k n x i at_x a) in let d = ap (λ (z : Serial). z.command) (isolation_by l m y j at_y b) in omega (arith, c, d, lt))));
+  })
+
   answers_well : AllByRecursion (λ (a : Answered). LendsWord a.reply) part.answers.items
   answers_well = by_slices (λ (a : Answered). LendsWord a.reply) part.answers.items (λ k a e.
       let at = ap (λ l. slice_get l k) (sym (answers_are s r workers run worker) ∙ ap answers_in here) ∙ e in
       let t = slice_map (λ (x : Step). x.answered) mine k a at in subst (λ (z : Answered). LendsWord z.reply) t.2 (answers_lend s r workers run within worker k t.0 t.1))
 
-  pub part_well : part.isolations.items ≡ [] → IsPartWell worker part
-  part_well quiet = record {
+  pub part_well : IsPartWell worker part
+  part_well = record {
     answers = answers_well;
     walks = subst (AllByRecursion IsWalkWell) (sym walks_are) (each_flat IsWalkWell (λ (x : Step). x.work.walks) mine walk_well);
     walkers = subst (AllByRecursion (λ (w : WalkRecord). (w.by.worker ≡ worker) × (w.by.command < length part.answers.items))) (sym walks_are)
@@ -120,5 +137,5 @@ module _ (s : Script) (r : Report) (workers : List (List Step)) (run : IsRun s r
     carry_places = subst (λ (l : List Carry). AllAdjacentBelow IsCarryBefore l (length l)) (sym carries_are)
         (adjacent IsCarryBefore _ (pairs_weaker IsCarryOrdered IsCarryBefore (flat_map (λ (x : Step). x.work.carries) mine) (λ c d p q h. h.place) carries_ordered));
     plain = subst (λ (o : Option WorkerPart). AreOfCommands PlainWalk (λ w. w.by) worker (length (answers_in o)) (plain_in o)) here (plain_order s r run.plain run.units worker);
-    isolations = none_of_commands (λ (i : Isolation). i.by) worker (length part.answers.items) part.isolations.items quiet;
+    isolations = isolations_ordered;
   }

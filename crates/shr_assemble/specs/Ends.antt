@@ -58,6 +58,7 @@ abbrev pub new_worker : View → ℕ → CrewState
 new_worker opened number = record {
   seats = record { core = record (split_off opened) { seat = 1 + number }; uses = own_uses; tree = no_tree; moves = no_moves; noted = []; walks = []; carries = [] };
   plain = no_state;
+  isolations = [];
 }
 
 -- a worker has answered all its commands, and this is what it noted and its last state
@@ -68,6 +69,7 @@ pub record HasWorked (x : Shared) (opened : View) (number : ℕ) (log : WorkerLo
   pub carries : log.carries.items ≡ last.seats.carries
   pub uses : log.uses.items ≡ last.seats.noted
   pub plain : log.plain.items ≡ last.plain.walks
+  pub isolations : log.isolations.items ≡ last.isolations
 
 -- The tables of a script were opened with its caches, each worker ran to its end, and the tables were ended so.
 pub record AreEndsOf (x : Shared) (logs : List WorkerLog) (e : Ends) : Type 0 where

@@ -1,15 +1,17 @@
 -- Which entries a command makes in the journals of the lists, and which of them its reply cites.
-use Rattle.std.specs.Prelude.{◌≡◌, ℕ, ◌+◌, ◌<◌, ◌≤◌, List, [], length, slice_get, Option, Some, None, Contains}
+use Rattle.std.specs.Prelude.{◌≡◌, ◌⊎◌, ℕ, ◌+◌, ◌<◌, ◌≤◌, List, [], ◌∷◌, length, slice_get, Option, Some, None, Contains}
 use Rattle.shr_base.specs.declared.places.Serial.{Serial}
 use Rattle.shr_base.specs.declared.places.At.{At}
 use Rattle.shr_base.specs.declared.journals.Entry.{Entry}
 use Rattle.shr_base.specs.declared.journals.Entry.TheVariants.{Add, Look, Drop, Pin, Scan, MovedIn, Closed, Drained}
 use Rattle.shr_base.specs.declared.journals.TreeEntry.TheVariants.{Begin}
+use Rattle.shr_base.specs.declared.replies.Answered.{Answered}
 use Rattle.shr_base.specs.declared.replies.Reply.{Reply}
 use Rattle.shr_base.specs.declared.replies.Reply.TheVariants as reply
 use Rattle.shr_base.specs.declared.scripts.Command.{Command}
 use Rattle.shr_base.specs.declared.scripts.Command.TheVariants as command
 use Rattle.shr_base.specs.declared.scripts.Script.{Script}
+use Rattle.shr_base.specs.declared.walks.Isolation.{Isolation}
 use Rattle.shr_base.specs.declared.walks.WalkRecord.{WalkRecord}
 use Rattle.shr_model.specs.Groups.{IsAtOrAbove}
 use Rattle.shr_model.specs.Families.{Family, items_at}
@@ -18,7 +20,8 @@ use Rattle.shr_seats.specs.Views.{Each}
 use Rattle.shr_seats.specs.Weights.{times}
 use Rattle.shr_core.specs.Parts.{Made, Known}
 use Rattle.shr_core.specs.Layout.{id_of, group_of, place_at, beside}
-use Rattle.shr_report.specs.Parts.{parents_of, cited_by, id_found, at}
+use Rattle.shr_report.specs.Parts.{parents_of, first_isolation, cited_by, id_found, at}
+use Rattle.shr_report.specs.Isolated.{isolations_told}
 use Rattle.shr_report.specs.ReplyTable.{IsReply}
 use Rattle.shr_report.specs.Causes.{MayHaveBegun}
 use Rattle.shr_report.specs.Swept.{IsSweepReply}
@@ -42,6 +45,19 @@ pub record IsScanned (x : Step) (m : Made) (worker n : ℕ) : Type 0 where
   pub walk : WalkRecord
   pub there : slice_get x.work.walks index ≡ Some walk
   pub passes : 0 < length (passes_at (place_at m.place) walk)
+
+-- the isolation that the answer to a command tells of, if it does; the sweep makes none
+abbrev pub isolations_asked : Serial → Option Command → Answered → List Isolation
+isolations_asked by (Some c) a = isolations_told by c a
+isolations_asked by None a = []
+
+-- or it is a visit of the isolation that the command's answer tells of, at the isolation's place
+pub record IsVisited (x : Step) (m : Made) (worker n : ℕ) : Type 0 where
+  pub own : worker ≡ x.by.worker
+  pub high : first_isolation ≤ n
+  pub isolation : Isolation
+  pub told : isolations_asked x.by x.command x.answered ≡ isolation ∷ []
+  pub place : place_at m.place ≡ isolation.place
 
 -- The list of a group is closed by an `offline` of a group at or above it, whose Begin the worker knows. The entry comes
 -- after all that the worker knew of the journal before.
@@ -78,7 +94,7 @@ MayMake s x m (Add by birth added key value) = IsTold x m by
 MayMake s x m (Look by birth key hit) = IsTold x m by
 MayMake s x m (Drop by birth key kind) = IsTold x m by
 MayMake s x m (Pin by birth key pinned hit) = IsTold x m by
-MayMake s x m (Scan worker n asked policy visits freed stopped) = IsScanned x m worker n
+MayMake s x m (Scan worker n asked policy visits freed stopped) = IsScanned x m worker n ⊎ IsVisited x m worker n
 MayMake s x m (MovedIn child objects) = IsMoving s x m child
 MayMake s x m Closed = IsClosing s x m (group_of m.place)
 MayMake s x m (Drained by objects) = IsDrained x m by

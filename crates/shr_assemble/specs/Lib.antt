@@ -11,6 +11,7 @@ pub mod Offlining
 pub mod Causes
 pub mod Did
 pub mod Order
+pub mod Isolating
 pub mod Runs
 pub mod Ends
 pub mod Makes

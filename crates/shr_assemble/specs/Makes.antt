@@ -1,17 +1,17 @@
 -- The report that is made of a script, of what its tables left and of what its workers noted.
 use Rattle.std.specs.Prelude.{◌≡◌, ℕ, ◌-◌, ◌<◌, ◌≤◌, ◌⊎◌, List, [], ◌∷◌, length, map, flat_map, codes, slice_get, sum_by, Option, Some, None, IsPermutation}
 use Rattle.shr_base.specs.declared.ends.PlaceEnd.{PlaceEnd}
-use Rattle.shr_base.specs.declared.ends.WorkerPart.{WorkerPart}
 use Rattle.shr_base.specs.declared.journals.UseStep.{UseStep}
 use Rattle.shr_base.specs.declared.replies.Answered.{Answered}
 use Rattle.shr_base.specs.declared.scripts.Script.{Script}
 use Rattle.shr_base.specs.declared.walks.Carry.{Carry}
+use Rattle.shr_base.specs.declared.walks.Isolation.{Isolation}
 use Rattle.shr_base.specs.declared.walks.PlainWalk.{PlainWalk}
 use Rattle.shr_base.specs.declared.walks.WalkRecord.{WalkRecord}
 use Rattle.shr_model.specs.Bag.{added_by_all}
 use Rattle.shr_tables.specs.declared.ending.Ends.{Ends}
 use Rattle.shr_report.specs.declared.report.Report.{Report}
-use Rattle.shr_report.specs.Parts.{answers_of, walks_of, carries_of}
+use Rattle.shr_report.specs.Parts.{answers_of, walks_of, carries_of, isolations_of}
 use Rattle.shr_report.specs.UnitParts.{plain_of}
 use Rattle.shr_assemble.specs.declared.logs.WorkerLog.{WorkerLog}
 
@@ -34,6 +34,11 @@ carries_in (Some log) = log.carries.items
 abbrev pub plain_in : Option WorkerLog → List PlainWalk
 plain_in None = []
 plain_in (Some log) = log.plain.items
+
+-- its isolations
+abbrev pub isolations_in : Option WorkerLog → List Isolation
+isolations_in None = []
+isolations_in (Some log) = log.isolations.items
 
 -- how many objects the journals of these places added, and how many their lists hold
 abbrev pub added_count : List PlaceEnd → ℕ
@@ -70,8 +75,7 @@ pub record IsMadeOf (s : Script) (logs : List WorkerLog) (e : Ends) (r : Report)
   pub walks : (worker : ℕ) → walks_of r worker ≡ walks_in (slice_get logs worker)
   pub carries : (worker : ℕ) → carries_of r worker ≡ carries_in (slice_get logs worker)
   pub plain : (worker : ℕ) → plain_of r worker ≡ plain_in (slice_get logs worker)
-  -- none isolated
-  pub quiet : (n : ℕ) (p : WorkerPart) → slice_get r.workers.items n ≡ Some p → p.isolations.items ≡ []
+  pub isolations : (worker : ℕ) → isolations_of r worker ≡ isolations_in (slice_get logs worker)
   -- their operations, by group and number
   pub uses : IsPermutation r.uses.items (flat_map (λ (log : WorkerLog). log.uses.items) logs)
   pub sorted : (i j : ℕ) (o p : UseStep) → i < j → slice_get r.uses.items i ≡ Some o → slice_get r.uses.items j ≡ Some p → StandsBefore o p

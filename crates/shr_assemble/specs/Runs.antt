@@ -30,7 +30,7 @@ use Rattle.shr_charge.specs.Views.{no_tree}
 use Rattle.shr_charge.specs.Views as charge
 use Rattle.shr_walk.specs.State.{WorkerState}
 use Rattle.shr_report.specs.declared.report.Report.{Report}
-use Rattle.shr_report.specs.Parts.{parents_of, hierarchy_of, decls_on, serial_of, commands_of, answers_of, walks_of, carries_of, journals_of, places_of, items_before, items_left, uses_at, lookups_at, IsThere}
+use Rattle.shr_report.specs.Parts.{parents_of, hierarchy_of, decls_on, serial_of, commands_of, answers_of, walks_of, carries_of, isolations_of, journals_of, places_of, items_before, items_left, uses_at, lookups_at, IsThere}
 use Rattle.shr_report.specs.BitsLawful.{AreBitsLawful}
 use Rattle.shr_report.specs.Deferred.{printed_at}
 use Rattle.shr_report.specs.WellFormed.{AreRising}
@@ -40,6 +40,7 @@ use Rattle.shr_assemble.specs.Steps.{Step, gathered, steps_of, AreChained}
 use Rattle.shr_assemble.specs.Entries.{StandsIn}
 use Rattle.shr_assemble.specs.Order.{IsInLine}
 use Rattle.shr_assemble.specs.Did.{Did}
+use Rattle.shr_assemble.specs.Isolating.{isolated_in, isolated_before, DidIsolations}
 
 -- what the steps of a run have made, in all
 abbrev pub all_made : List (List Step) → List Made
@@ -125,6 +126,11 @@ pub record AreSteps (s : Script) (r : Report) (workers : List (List Step)) : Typ
   pub carries : (worker : ℕ) → carries_of r worker ≡ flat_map (λ (x : Step). x.work.carries) (steps_of workers worker)
   pub shown : (worker k : ℕ) (x : Step) → slice_get (steps_of workers worker) k ≡ Some x → IsShownIn s r workers x.after
 
+-- the isolations of each worker are those that its answers tell of, in the order of its commands
+pub record AreIsolating (s : Script) (r : Report) (workers : List (List Step)) : Type 0 where
+  pub told : (worker : ℕ) → isolations_of r worker ≡ flat_map isolated_in (steps_of workers worker)
+  pub did : (worker k : ℕ) (x : Step) → slice_get (steps_of workers worker) k ≡ Some x → DidIsolations s x (isolated_before (steps_of workers worker) k)
+
 -- the printed lists, by place
 pub record IsPrinted (s : Script) (r : Report) (end : PlaceEnd) : Type 0 where
   pub there : IsThere s end.place
@@ -188,6 +194,7 @@ pub record IsRun (s : Script) (r : Report) (workers : List (List Step)) : Type 0
   pub names : r.caches.items ≡ map (λ c. c.name) s.caches.items
   pub pools : r.pools.items ≡ map (λ p. p.name) s.pools.items
   pub steps : AreSteps s r workers
+  pub isolations : AreIsolating s r workers
   pub journals : AreJournals s r workers
   pub bits : AreBitsLawful s r
   pub pool : ArePoolAndLookups s r workers

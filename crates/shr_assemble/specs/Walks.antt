@@ -25,7 +25,7 @@ use Rattle.shr_charge.specs.declared.answers.GroupState.TheVariants as state
 use Rattle.shr_core.specs.Layout.{map_number}
 use Rattle.shr_core.specs.Parts.{Counted, Mapped}
 use Rattle.shr_walk.specs.Fresh.{AreFresh}
-use Rattle.shr_report.specs.Parts.{parents_of, limit_of, EachAttempt}
+use Rattle.shr_report.specs.Parts.{parents_of, limit_of, first_isolation, EachAttempt}
 use Rattle.shr_report.specs.LawfulWalk.{IsBegun, IsLastOfCut, IsPlaced}
 use Rattle.shr_report.specs.Swept.{IsSweepWalk}
 use Rattle.shr_report.specs.WalksLawful.{over_at, MayMake, IsToldBy}
@@ -46,8 +46,9 @@ pub record IsRecord (s : Script) (w : WalkRecord) : Type 0 where
   pub freed : freed_told w.answer ≡ freed_of w
   pub well : IsWalkWell w
 
--- the walk with this number among its worker's
+-- the walk with this number among its worker's, which is below those of isolations
 pub record DidWalk (s : Script) (x : Step) (n : ℕ) (w : WalkRecord) : Type 0 where
+  pub low : n < first_isolation
   pub by : w.by ≡ x.by
   pub node : w.node < s.nodes
   pub group : w.group < length (parents_of s)

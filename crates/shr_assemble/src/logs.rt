@@ -3,7 +3,7 @@
 use shr_base::journals::UseStep;
 use shr_base::log::Log;
 use shr_base::replies::Answered;
-use shr_base::walks::{Carry, PlainWalk, WalkRecord};
+use shr_base::walks::{Carry, Isolation, PlainWalk, WalkRecord};
 
 /// What a worker answered and noted. Our own.
 #[derive(Drop)]
@@ -13,4 +13,5 @@ pub struct WorkerLog {
     pub carries: Log<Carry>,
     pub uses: Log<UseStep>,
     pub plain: Log<PlainWalk>,
+    pub isolations: Log<Isolation>,
 }

@@ -33,7 +33,7 @@ use Rattle.shr_base.specs.declared.walks.Isolation.{Isolation}
 use Rattle.shr_base.specs.declared.replies.IsolateEnd.{IsolateEnd}
 use Rattle.shr_base.specs.declared.replies.IsolateEnd.TheVariants as ending
 use Rattle.shr_drop.specs.Isolating.{Isolates, RefusedBy, place_of, visitor_of}
-use Rattle.shr_drop.specs.Isolations.{ScanSeen, IsLawfulIsolation, met_of, met_one, met_stop, met_none}
+use Rattle.shr_report.specs.Isolated.{ScanSeen, IsLawfulIsolation, met_of, met_one, met_stop, met_none}
 use Rattle.shr_drop.specs.Lawful.{AreScanned, IsolatesByLaw, IsAnsweredByLaw, Placed, placed, placed_scan}
 use Rattle.shr_drop.proofs.Turning.{sum_push}
 use Rattle.shr_drop.specs.Visiting.{Visitor, ScansOnce, AreVisits, AreIsolated, MeetsWorn}

@@ -1,5 +1,5 @@
 -- What an isolation did, by its answer.
-use Rattle.std.specs.Prelude.{◌≡◌, ℕ, ◌+◌, ◌^◌, List, [], ◌∷◌, ◌++◌, length, Option, None, Some, slice_get}
+use Rattle.std.specs.Prelude.{◌≡◌, ℕ, List, [], ◌∷◌, ◌++◌, length, Option, None, Some, slice_get}
 use Rattle.shr_base.specs.declared.places.Place.{Place}
 use Rattle.shr_base.specs.declared.places.Serial.{Serial}
 use Rattle.shr_base.specs.declared.replies.Found.{Found}
@@ -14,6 +14,7 @@ use Rattle.shr_opening.specs.Opening.{LoadsWord, Holds, RefusedAs}
 use Rattle.shr_base.specs.declared.replies.Answered.{Answered}
 use Rattle.shr_base.specs.declared.walks.Isolation.{Isolation}
 use Rattle.shr_base.specs.declared.replies.IsolateEnd.{IsolateEnd}
+use Rattle.shr_report.specs.Isolated.{isolation_walk}
 use Rattle.shr_drop.specs.Visiting.{Visitor, AreIsolated}
 
 -- the list of a group on a node, of the cache that was found
@@ -22,7 +23,7 @@ place_of f node group = record { id = f.id; node = node; group = group }
 
 -- the visits of the isolation with this number among the worker's, by the cache's declaration
 abbrev pub visitor_of : Serial → ℕ → Place → CacheDecl → Visitor
-visitor_of by number place d = record { by = by; walk = 2 ^ 63 + number; place = place; policy = d.policy }
+visitor_of by number place d = record { by = by; walk = isolation_walk number; place = place; policy = d.policy }
 
 -- The group was online, the cache was found, its list was visited, and the reference was given back. Nothing was noted
 -- but the record, which stands at the end.

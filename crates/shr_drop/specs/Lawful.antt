@@ -19,7 +19,7 @@ use Rattle.shr_base.specs.declared.replies.Answered.{Answered}
 use Rattle.shr_base.specs.declared.walks.Isolation.{Isolation}
 use Rattle.shr_base.specs.declared.replies.IsolateEnd.{IsolateEnd}
 use Rattle.shr_base.specs.declared.replies.IsolateEnd.TheVariants as ending
-use Rattle.shr_drop.specs.Isolations.{ScanSeen, IsLawfulIsolation}
+use Rattle.shr_report.specs.Isolated.{ScanSeen, IsLawfulIsolation}
 use Rattle.shr_drop.specs.Isolating.{place_of, visitor_of}
 use Rattle.shr_drop.specs.Visiting.{Visitor}
 

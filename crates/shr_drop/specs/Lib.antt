@@ -1,4 +1,3 @@
 pub mod Visiting
 pub mod Isolating
-pub mod Isolations
 pub mod Lawful

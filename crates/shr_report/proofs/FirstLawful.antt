@@ -38,10 +38,12 @@ use Rattle.shr_base.specs.declared.journals.PoolEntry.{PoolEntry}
 use Rattle.shr_base.specs.declared.replies.Reply.TheVariants as reply
 use Rattle.shr_base.specs.declared.replies.Answered.{Answered}
 use Rattle.shr_base.specs.declared.walks.WalkRecord.{WalkRecord}
-use Rattle.shr_report.specs.Parts.{answers_of}
+use Rattle.shr_report.specs.Parts.{answers_of, isolations_of}
 use Rattle.shr_report.specs.Freshness.{pool_seen, pool_made, tree_seen, of_answer, shown_by, is_begin_at, is_done_at, AreBelow}
 use Rattle.shr_report.specs.CausesLawful.{AreCausesLawful}
 use Rattle.shr_report.specs.Lawful.{IsLawful}
+use Rattle.shr_report.specs.Isolated.{IsOfIsolation, isolations_told, AreIsolationsLawful}
+use Rattle.shr_report.proofs.QuietIsolations.{quiet_isolations}
 use Rattle.shr_report.specs.WellFormed.{AreNotFalling}
 use Rattle.shr_report.specs.WalksLawful.{IsOfPass}
 use Rattle.shr_report.specs.Parts.{uses_at, limit_of, walks_of, cited_by, parents_of, serial_of, cited_at, journals_of, items_left, at, EachEntry}
@@ -366,6 +368,13 @@ no_plains (suc worker) = refl
 pools : ArePoolsLawful script report
 pools = quiet_pools script report refl refl refl no_plains refl (each_answer _ tt) uncited
 
+no_isolations : (worker : ℕ) → isolations_of report worker ≡ []
+no_isolations zero = refl
+no_isolations (suc worker) = refl
+
+isolations : AreIsolationsLawful script report
+isolations = quiet_isolations script report no_isolations (each_entry (λ p n e. IsOfIsolation report p e) (tt, tt)) (each_answer (λ by c a. isolations_told by c a ≡ []) refl)
+
 -- The report is lawful.
 pub lawful : IsLawful script report
-lawful = record { replies = replies; journals = journals; bag = bag; walks = walks; lookups = lookups; charges = charges; deferred = deferred; bits = bits; causes = causes; pools = pools }
+lawful = record { replies = replies; journals = journals; bag = bag; walks = walks; lookups = lookups; charges = charges; deferred = deferred; bits = bits; causes = causes; pools = pools; isolations = isolations }

@@ -1,5 +1,5 @@
 -- The law on isolations, by a report that meets it and changes that break a sentence.
-use Rattle.std.specs.Prelude.{◌≡◌, ℕ, zero, suc, Bool, true, false, List, [], ◌∷◌, codes, Some, slice_get, refl}
+use Rattle.std.specs.Prelude.{◌≡◌, ℕ, zero, suc, Bool, true, false, List, [], ◌∷◌, codes, Some, None, slice_get, refl}
 use Rattle.std.proofs.Common.{arith, ap}
 use Rattle.shr_base.specs.declared.ends.PlaceEnd.{PlaceEnd}
 use Rattle.shr_base.specs.declared.journals.Entry.{Entry}
@@ -17,7 +17,9 @@ use Rattle.shr_base.specs.declared.scripts.Command.TheVariants.{Put, Isolate}
 use Rattle.shr_base.specs.declared.scripts.Script.{Script}
 use Rattle.shr_base.specs.declared.walks.Isolation.{Isolation}
 use Rattle.shr_report.specs.declared.report.Report.{Report}
-use Rattle.shr_report.specs.Parts.{commands_of, answers_of, EachEntry}
+use Rattle.shr_report.specs.Parts.{commands_of, answers_of, entry_by, EachEntry}
+use Rattle.shr_report.specs.ReplyTable.{IsReply}
+use Rattle.shr_report.specs.WalksLawful.{IsOfPass}
 use Rattle.shr_report.specs.Isolated.{EachIsolation, ScanSeen, Met, met_one, met_none, IsLawfulIsolation, IsOfIsolation, isolations_by, isolations_told, AreIsolationsLawful}
 use Rattle.shr_report.proofs.SecondReport.{kept, by, place, put, held}
 use Rattle.shr_report.proofs.SecondCases.{AllAt, each_at, AllTwo, each_two, only_journal}
@@ -44,6 +46,10 @@ pinned_head = record { policies = (refl, (refl, (refl, tt))); asked = (refl, (re
 -- the last visit of the budget stopped
 stopped_last : IsLawfulIsolation Clock (visit 1 ∷ stop ∷ []) (isolation 2 2 1 isolate.Stop)
 stopped_last = record { policies = (refl, (refl, tt)); asked = (refl, (refl, tt)); met = refl; freed = refl; within = omega arith; stopped = λ e. omega arith; whole = λ e. absurd (cc) }
+
+-- a budget of 0 makes no scan
+no_budget : IsLawfulIsolation Plain [] (isolation 0 0 0 isolate.Spent)
+no_budget = record { policies = tt; asked = tt; met = refl; freed = refl; within = omega arith; stopped = λ e. absurd (cc); whole = λ e. refl }
 
 -- an object more was met than the budget allows
 over_budget : IsLawfulIsolation Clock (visit 0 ∷ visit 0 ∷ []) (isolation 1 2 0 isolate.NoRoom) → ⊥
@@ -72,6 +78,9 @@ stop_unseen h = absurd (let e : false ≡ true = ap first_stopped h.met in cc)
 -- it ended Bare and each scan met an object; a scan met none and it didn't
 bare_unseen : IsLawfulIsolation Clock (visit 1 ∷ []) (isolation 3 1 1 isolate.Bare) → ⊥
 bare_unseen h = absurd (let e : met_one ∷ [] ≡ met_one ∷ met_none ∷ [] = h.met in cc)
+
+scanned_again : IsLawfulIsolation Clock (visit 0 ∷ saw_none ∷ []) (isolation 1 1 0 isolate.Spent) → ⊥
+scanned_again h = absurd (let e : met_one ∷ met_none ∷ [] ≡ met_one ∷ [] = h.met in cc)
 
 bare_untold : IsLawfulIsolation Clock (saw_none ∷ []) (isolation 3 0 0 isolate.NoRoom) → ⊥
 bare_untold h = absurd (let e : met_none ∷ [] ≡ [] = h.met in cc)
@@ -186,3 +195,32 @@ closed_open h = absurd (let e = h.closed 0 0 _ refl refl in cc)
 -- it is worn long before a counter is used up
 worn_early : AreIsolationsLawful script (with answers (isolation 5 2 2 (isolate.Worn (spent.Lookups 0 3)) ∷ []) entries) → ⊥
 worn_early h = let low = (h.worn 0 0 _ refl).0 in absurd (omega (arith, low))
+
+-- ---- which answers an isolation may have, and whose a scan is
+
+-- one that found its cache is told; it is told without one where it was refused
+told_found : IsReply (0 ∷ 0 ∷ []) (λ p. []) (by 2) (Isolate 1 0 0 5) (Some 0) (reply.Isolated 2 2 isolate.Bare)
+told_found = tt
+
+refused_worn : IsReply (0 ∷ 0 ∷ []) (λ p. []) (by 2) (Isolate 1 0 0 5) None (reply.Worn (spent.Lookups 0 4294967040))
+refused_worn = tt
+
+-- it is told without a cache, or as a walk; it is worn by charges without a visit; a put is told so
+isolated_unfound : IsReply (0 ∷ 0 ∷ []) (λ p. []) (by 2) (Isolate 1 0 0 5) None (reply.Isolated 2 2 isolate.Bare) → ⊥
+isolated_unfound h = h
+
+isolated_as_walked : IsReply (0 ∷ 0 ∷ []) (λ p. []) (by 2) (Isolate 1 0 0 5) (Some 0) (reply.Walked 2) → ⊥
+isolated_as_walked h = h
+
+isolated_by_charges : IsReply (0 ∷ 0 ∷ []) (λ p. []) (by 2) (Isolate 1 0 0 5) None (reply.Worn (spent.Charges 1048576 0)) → ⊥
+isolated_by_charges h = h
+
+put_isolated : IsReply (0 ∷ 0 ∷ []) (λ p. []) (by 0) put (Some 0) (reply.Isolated 2 2 isolate.Bare) → ⊥
+put_isolated h = h
+
+-- a scan with the number of an isolation is by the isolation's command, and of no walk
+isolation_owns : entry_by report (scan 1 1) ≡ Some (by 2)
+isolation_owns = refl
+
+no_pass_asked : IsOfPass report place (scan 1 1)
+no_pass_asked low = absurd (omega (arith, low))

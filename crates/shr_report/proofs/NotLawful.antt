@@ -111,7 +111,7 @@ skipped_none h = let e = ((h.each 0 0 _ refl).kinds 0 _ refl refl).0 in absurd (
 
 -- a Scan entry of no pass
 scanned_by_none : AreWalksLawful script (with_list (Scan 0 0 4 Plain 0 0 false ∷ entries) []) → ⊥
-scanned_by_none h = let e = h.no_others place 0 _ refl in absurd (omega (arith, e))
+scanned_by_none h = let e = h.no_others place 0 _ refl (omega arith) in absurd (omega (arith, e))
 
 -- a walk of a command that has none
 walked_by_put : AreWalksLawful script (with_walks (walk 1 1 (cleared ∷ []) ∷ second_walk ∷ [])) → ⊥

@@ -1,5 +1,5 @@
 -- Isolations: each visited its list once for each scan that it made, and told what it did.
-use Rattle.std.specs.Prelude.{◌≡◌, ℕ, ◌+◌, ◌-◌, ◌<◌, ◌≤◌, ◌^◌, Bool, true, false, ◌&&◌, ◌==◌, cond, List, [], ◌∷◌, ◌++◌, map, filter, filter_map, replicate, sum, slice_get, Option, Some, None, option_and_then, ⊤}
+use Rattle.std.specs.Prelude.{◌≡◌, ℕ, ◌+◌, ◌-◌, ◌<◌, ◌≤◌, Bool, true, false, ◌&&◌, ◌==◌, cond, List, [], ◌∷◌, ◌++◌, map, filter, filter_map, replicate, sum, slice_get, Option, Some, None, option_and_then, ⊤}
 use Rattle.std.specs.List.{AllByRecursion}
 use Rattle.std.specs.Option.{IsSomeAnd}
 use Rattle.shr_base.specs.declared.places.Serial.{Serial}
@@ -18,25 +18,11 @@ use Rattle.shr_base.specs.declared.scripts.Command.{Command}
 use Rattle.shr_base.specs.declared.scripts.Command.TheVariants.{Isolate}
 use Rattle.shr_base.specs.declared.scripts.Script.{Script}
 use Rattle.shr_base.specs.declared.walks.Isolation.{Isolation}
-use Rattle.shr_base.specs.declared.ends.WorkerPart.{WorkerPart}
 use Rattle.shr_model.specs.Commands.{is_serial, decl_named}
 use Rattle.shr_model.specs.Items.{is_closed}
 use Rattle.shr_report.specs.declared.report.Report.{Report}
-use Rattle.shr_report.specs.Parts.{command_at, journals_of, EachAnswer, EachEntry}
+use Rattle.shr_report.specs.Parts.{command_at, journals_of, isolations_of, isolation_at, first_isolation, EachAnswer, EachEntry}
 use Rattle.shr_report.specs.Causes.{IsSpent}
-
--- the isolations of a worker, none past the last part
-abbrev pub isolations_in : Option WorkerPart → List Isolation
-isolations_in None = []
-isolations_in (Some part) = part.isolations.items
-
--- the same by the number of the worker
-abbrev pub isolations_of : Report → ℕ → List Isolation
-isolations_of r worker = isolations_in (slice_get r.workers.items worker)
-
--- an isolation by the number of its worker and its own
-abbrev pub isolation_at : Report → ℕ → ℕ → Option Isolation
-isolation_at r worker k = slice_get (isolations_of r worker) k
 
 -- the isolations of a command
 abbrev pub isolations_by : Report → Serial → List Isolation
@@ -48,7 +34,7 @@ EachIsolation r P = (worker k : ℕ) (i : Isolation) → isolation_at r worker k
 
 -- what stands as walk in the Scan entries of the isolation with this number of its worker
 abbrev pub isolation_walk : ℕ → ℕ
-isolation_walk k = 2 ^ 63 + k
+isolation_walk k = first_isolation + k
 
 -- a Scan entry: what it was asked and met, by which policy, how many objects it freed, and whether it
 -- stopped
@@ -120,7 +106,7 @@ IsEndCaused s r worker e = ⊤
 
 -- a Scan entry at a place whose walk is an isolation's is of one that is there, at that place
 abbrev pub IsOfIsolation : Report → Place → Entry → Type 0
-IsOfIsolation r place (Scan worker n asked policy visits freed stopped) = 2 ^ 63 ≤ n → IsSomeAnd (isolation_at r worker (n - 2 ^ 63)) (λ i. i.place ≡ place)
+IsOfIsolation r place (Scan worker n asked policy visits freed stopped) = first_isolation ≤ n → IsSomeAnd (isolation_at r worker (n - first_isolation)) (λ i. i.place ≡ place)
 IsOfIsolation r place e = ⊤
 
 -- the isolation of a command that found its cache and was answered so

@@ -1,6 +1,6 @@
 -- A script and a report by their parts: commands and answers by their serials, journals by their
 -- places.
-use Rattle.std.specs.Prelude.{◌≡◌, ◌<◌, ℕ, ◌==◌, Bool, false, List, [], ◌∷◌, length, map, find, filter, filter_map, flat_map, sum_by, slice_get, slice_index, Option, Some, None, option_and_then, option_map, cond}
+use Rattle.std.specs.Prelude.{◌≡◌, ◌<◌, ℕ, ◌-◌, ◌^◌, ◌==◌, nat_lt, Bool, false, List, [], ◌∷◌, length, map, find, filter, filter_map, flat_map, sum_by, slice_get, slice_index, Option, Some, None, option_and_then, option_map, cond}
 use Rattle.std.specs.List.{enumerate_from}
 use Rattle.shr_base.specs.declared.places.Serial.{Serial}
 use Rattle.shr_base.specs.declared.places.Place.{Place}
@@ -16,6 +16,7 @@ use Rattle.shr_base.specs.declared.replies.Answered.{Answered}
 use Rattle.shr_base.specs.declared.walks.Attempt.{Attempt}
 use Rattle.shr_base.specs.declared.walks.WalkRecord.{WalkRecord}
 use Rattle.shr_base.specs.declared.walks.Carry.{Carry}
+use Rattle.shr_base.specs.declared.walks.Isolation.{Isolation}
 use Rattle.shr_base.specs.declared.ends.PlaceEnd.{PlaceEnd}
 use Rattle.shr_base.specs.declared.ends.WorkerPart.{WorkerPart}
 use Rattle.shr_base.specs.declared.scripts.CacheDecl.{CacheDecl}
@@ -88,6 +89,11 @@ abbrev pub carries_in : Option WorkerPart → List Carry
 carries_in None = []
 carries_in (Some part) = part.carries.items
 
+-- the isolations
+abbrev pub isolations_in : Option WorkerPart → List Isolation
+isolations_in None = []
+isolations_in (Some part) = part.isolations.items
+
 -- the answers of a worker by its number
 abbrev pub answers_of : Report → ℕ → List Answered
 answers_of r worker = answers_in (slice_get r.workers.items worker)
@@ -99,6 +105,10 @@ walks_of r worker = walks_in (slice_get r.workers.items worker)
 -- the carries of a worker by its number
 abbrev pub carries_of : Report → ℕ → List Carry
 carries_of r worker = carries_in (slice_get r.workers.items worker)
+
+-- the isolations of a worker by its number
+abbrev pub isolations_of : Report → ℕ → List Isolation
+isolations_of r worker = isolations_in (slice_get r.workers.items worker)
 
 -- all walks, and all carries, of a report
 abbrev pub all_walks : Report → List WalkRecord
@@ -131,6 +141,14 @@ carries_by r by = filter (λ (c : Carry). is_serial by c.by) (carries_of r by.wo
 -- a walk by the number of its worker and its own
 abbrev pub walk_at : Report → ℕ → ℕ → Option WalkRecord
 walk_at r worker n = slice_get (walks_of r worker) n
+
+-- an isolation by the number of its worker and its own
+abbrev pub isolation_at : Report → ℕ → ℕ → Option Isolation
+isolation_at r worker k = slice_get (isolations_of r worker) k
+
+-- what stands as walk in the Scan entries of a worker's first isolation: walks have lower numbers
+abbrev pub first_isolation : ℕ
+first_isolation = 2 ^ 63
 
 -- P of each command with its answer
 abbrev pub EachAnswer : Script → Report → (Serial → Command → Answered → Type 0) → Type 0
@@ -194,13 +212,19 @@ cited_at r by = option_and_then cited_by (reply_at r by)
 abbrev pub at : Place → ℕ → At
 at place n = record { place = place; entry = n }
 
--- the command of an entry; that of a Scan is its walk's
+-- the command of the walk or the isolation with this number in a Scan entry
+abbrev pub scan_by : Report → ℕ → ℕ → Option Serial
+scan_by r worker n = cond (nat_lt n first_isolation)
+    (option_map (λ (w : WalkRecord). w.by) (walk_at r worker n))
+    (option_map (λ (i : Isolation). i.by) (isolation_at r worker (n - first_isolation)))
+
+-- the command of an entry; that of a Scan is its walk's or its isolation's
 abbrev pub entry_by : Report → Entry → Option Serial
 entry_by r (Add by birth added key value) = Some by
 entry_by r (Look by birth key hit) = Some by
 entry_by r (Drop by birth key kind) = Some by
 entry_by r (Pin by birth key pinned hit) = Some by
-entry_by r (Scan worker walk asked policy visits freed stopped) = option_map (λ (w : WalkRecord). w.by) (walk_at r worker walk)
+entry_by r (Scan worker walk asked policy visits freed stopped) = scan_by r worker walk
 entry_by r (MovedIn child objects) = None
 entry_by r Closed = None
 entry_by r (Drained by objects) = Some by

@@ -98,6 +98,17 @@ pin_row by group node key pinned (reply.Done c) = citing (λ parents family id. 
 pin_row by group node key pinned (reply.Miss c) = citing (λ parents family id. Cites family c id node (Pin by group key pinned false))
 pin_row by group node key pinned x = tenant_row x
 
+-- An isolation that found its cache is told, however it ended; the record's memory comes before the lookup. Why it
+-- ended is for the law on isolations to say.
+abbrev isolate_row : Reply → Row
+isolate_row (reply.Isolated visits freed ending) = after
+isolate_row (reply.Offline entry) = before
+isolate_row (reply.NotMade group) = before
+isolate_row (reply.NoCache entry) = before
+isolate_row (reply.Worn (spent.Lookups id seen)) = before
+isolate_row reply.Memory = before
+isolate_row x = never
+
 -- what a `shrink` and a `balance` answer is that of their walks
 abbrev shrink_row : Reply → Row
 shrink_row (reply.Walked freed) = before
@@ -170,7 +181,7 @@ row_of by (Offline group) x = offline_row x
 row_of by (Register decl) x = register_row x
 row_of by (Unregister decl) x = unregister_row x
 row_of by (MkGroup group) x = mkgroup_row x
-row_of by (Isolate group node decl budget) x = never
+row_of by (Isolate group node decl budget) x = isolate_row x
 row_of by (Release node pool units) x = release_row x
 row_of by (Grab node pool) x = grab_row x
 

@@ -84,6 +84,7 @@ module _ (x : Shared) (p : Pools) (ready split joined : CrewSeats) (tasks : List
           carries = refl;
           uses = refl;
           plain = refl;
+          isolations = refl;
         }
 
     worked : (i : ℕ) (log : WorkerLog) (last : CrewState) → slice_get (map log_of results) i ≡ Some log → slice_get lasts i ≡ Some last → HasWorked x opened i log last

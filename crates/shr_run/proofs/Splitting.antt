@@ -110,7 +110,7 @@ module _ (x : Shared) (opened : View) (n : ℕ) (old new seats : Seats) (before 
     numbered = refl;
     task_is = record { number = lt; rested = fresh.rested; uses = fresh.noted; walks = fresh.walks; carries = fresh.carries; plain = has.seat; plain_walks = ap (λ (z : PlainState). z.walks) has.state };
     new = let core = same_core in let uses = fresh.uses in let tree = fresh.tree in let moves = fresh.moves in let noted = fresh.noted in let walks = fresh.walks in let carries = fresh.carries in let state = has.state in
-        λ i. record { seats = record { core = core i; uses = uses i; tree = tree i; moves = moves i; noted = noted i; walks = walks i; carries = carries i }; plain = state i };
+        λ i. record { seats = record { core = core i; uses = uses i; tree = tree i; moves = moves i; noted = noted i; walks = walks i; carries = carries i }; plain = state i; isolations = [] };
   }
 
 get_front : {A : Type 0} (xs : List A) (y : A) (k : ℕ) → k < length xs → slice_get (xs ++ y ∷ []) k ≡ slice_get xs k

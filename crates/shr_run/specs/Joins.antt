@@ -23,11 +23,11 @@ pub record IsAtEnd (x : Shared) (p : Pools) (w : WorkerResult) : Type 0 where
 
 -- what a worker answered and noted
 abbrev pub log_of : WorkerResult → WorkerLog
-log_of w = record { answers = w.answers; walks = w.seats.walks; carries = w.seats.carries; uses = w.seats.cache.uses; plain = w.plain.walks }
+log_of w = record { answers = w.answers; walks = w.seats.walks; carries = w.seats.carries; uses = w.seats.cache.uses; plain = w.plain.walks; isolations = w.isolations }
 
 -- the last state of a worker
 abbrev pub last_of : WorkerResult → CrewState
-last_of w = crew_of w.seats w.plain
+last_of w = crew_of w.seats w.plain w.isolations.items
 
 -- what the first seats have done and seen
 abbrev pub firsts_of : CrewSeats → Firsts

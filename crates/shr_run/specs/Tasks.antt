@@ -1,5 +1,5 @@
 -- The tasks of the workers, and what running one gives.
-use Rattle.std.specs.Prelude.{◌≡◌, ℕ, List, length, slice_get, Some, IsTrue}
+use Rattle.std.specs.Prelude.{◌≡◌, ℕ, List, [], length, slice_get, Some, IsTrue}
 use Rattle.shr_core.specs.declared.view.View.{View}
 use Rattle.shr_core.specs.Gained.{OwesNoMore}
 use Rattle.shr_core.specs.Seats.{view_of}
@@ -40,7 +40,7 @@ pub record IsPlainSplitOff (p : Pools) (splits : ℕ) (first : PlainSeat) : Type
 pub record IsTaskOf (x : Shared) (p : Pools) (opened : View) (number : ℕ) (task : Task) : Type 0 where
   pub numbered : task.number ≡ number
   pub task_is : IsTask x p task
-  pub new : crew_of task.seats task.plain ≡ new_worker opened number
+  pub new : crew_of task.seats task.plain [] ≡ new_worker opened number
 
 -- a task for each of the first workers
 abbrev pub AreTasks : Shared → Pools → View → List Task → Type 0
@@ -52,7 +52,7 @@ pub record HasRun (x : Shared) (p : Pools) (task : Task) (w : WorkerResult) : Ty
   pub owed : OwesNoMore (view_of task.seats.cache.core) (view_of w.seats.cache.core)
   pub plain_seat : IsOf p w.plain
   pub all : IsTrue w.whole → length w.answers.items ≡ length (commands_of x.script task.number)
-  pub work : IsTrue w.whole → IsWorkOf x task.number w.answers.items (crew_of task.seats task.plain) (crew_of w.seats w.plain)
+  pub work : IsTrue w.whole → IsWorkOf x task.number w.answers.items (crew_of task.seats task.plain []) (crew_of w.seats w.plain w.isolations.items)
 
 -- each of these results is that of the task at its place
 abbrev pub HaveRun : Shared → Pools → List Task → List WorkerResult → Type 0

@@ -36,6 +36,7 @@ pub(crate) fn join_all(
             seats,
             plain,
             answers,
+            isolations,
             whole,
         } = worker;
         if !whole {
@@ -53,6 +54,7 @@ pub(crate) fn join_all(
             carries,
             uses,
             plain,
+            isolations,
         })?;
     }
     Ok(logs)

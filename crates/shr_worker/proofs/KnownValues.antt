@@ -5,7 +5,7 @@ use Rattle.shr_base.specs.declared.objects.Object.{Object}
 use Rattle.shr_base.specs.declared.places.Place.{Place}
 use Rattle.shr_base.specs.declared.places.Serial.{Serial}
 use Rattle.shr_base.specs.declared.replies.Answered.{Answered}
-use Rattle.shr_base.specs.declared.scripts.Command.TheVariants.{Shrink, Balance}
+use Rattle.shr_base.specs.declared.scripts.Command.TheVariants.{Shrink, Balance, Isolate, Release}
 use Rattle.shr_base.specs.declared.scripts.PoolDecl.{PoolDecl}
 use Rattle.shr_base.specs.declared.scripts.Script.{Script}
 use Rattle.shr_base.specs.declared.replies.HalfWhy.TheVariants as why
@@ -19,6 +19,10 @@ use Rattle.shr_plain.specs.Seat.{PlainState}
 use Rattle.shr_registry.specs.declared.answers.RegisterAnswer.TheVariants as register
 use Rattle.shr_registry.specs.declared.answers.UnregisterAnswer.TheVariants as unregister
 use Rattle.shr_worker.specs.Chain.{commands_in}
+use Rattle.shr_base.specs.declared.walks.Isolation.{Isolation}
+use Rattle.shr_walk.specs.declared.seats.Shared.{Shared}
+use Rattle.shr_walk.specs.State.{WorkerState}
+use Rattle.shr_worker.specs.Isolating.{RecordGives}
 use Rattle.shr_worker.specs.Plain.{PlainGives, WalksIf, WalksPools, is_due, is_walked}
 use Rattle.shr_worker.specs.Replies.{unfound, walk_reply, offline_reply, make_reply, register_reply, unregister_reply, objects_of, release_reply, grab_reply}
 
@@ -93,3 +97,14 @@ no_walk s by t w = let more = ap (λ (u : PlainState). length u.walks) w.walked.
 
 after_balance : (s : Script) (d : PoolDecl) (by : Serial) (t : PlainState) → s.pools.items ≡ d ∷ [] → PlainGives s by (Balance 0 0 true) (unfound (reply.Walked 5)) t t → ⊥
 after_balance s d by t has done = no_walk s by t (subst (λ (l : List PoolDecl). WalksIf (not (length l == 0) && is_walked (reply.Walked 5)) s by 0 0 t t) has done)
+
+-- no other command records an isolation
+released_none : (x : Shared) (by : Serial) (a : Answered) (s : WorkerState) (is : List Isolation) → RecordGives x by (Release 0 0 1) a s s is is
+released_none x by a s is = refl
+
+recorded_by_balance : (x : Shared) (by : Serial) (a : Answered) (s : WorkerState) (i : Isolation) → RecordGives x by (Balance 0 0 true) a s s [] (i ∷ []) → ⊥
+recorded_by_balance x by a s i e = absurd (omega (arith, ap (λ (l : List Isolation). length l) e))
+
+-- an isolation that was refused records none
+refused_recorded : (x : Shared) (by : Serial) (s t : WorkerState) (i : Isolation) → RecordGives x by (Isolate 1 0 0 5) (unfound reply.Memory) s t [] (i ∷ []) → ⊥
+refused_recorded x by s t i h = absurd (omega (arith, ap (λ (l : List Isolation). length l) h.records))

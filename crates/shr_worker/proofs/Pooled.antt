@@ -1,15 +1,15 @@
 -- The tables of pools that were made for a script.
 use Rattle.std.proofs.Common.{ℕ, ◌<◌, ◌≤◌, Bool, true, false, List, length, ap, subst, ◌∙◌, arith}
 use Rattle.std.proofs.lemmas.List.{length-map}
-use Rattle.shr_base.specs.declared.scripts.Command.TheVariants.{Release, Grab}
+use Rattle.shr_base.specs.declared.scripts.Command.TheVariants.{Isolate, Release, Grab}
 use Rattle.shr_base.specs.declared.scripts.Script.{Script}
 use Rattle.shr_plain.specs.declared.settings.Setting.{Setting}
 use Rattle.shr_plain.specs.declared.table.Pools.{Pools}
 use Rattle.shr_plain.specs.Opening.{ArePoolsOf, setting_by, settings_of, pool_sizes}
 use Rattle.shr_plain.specs.Settings.{IsPoolOf}
-use Rattle.shr_script.specs.Bounds.{IfServed, IsCommandWithin, IsPoolCommandWithin}
+use Rattle.shr_script.specs.Bounds.{IfServed, IsCommandWithin, IsIsolationWithin, IsPoolCommandWithin}
 use Rattle.shr_script.specs.Content.{Content}
-use Rattle.shr_script.specs.Lines.{serves_pools}
+use Rattle.shr_script.specs.Lines.{serves_pools, serves_isolation}
 use Rattle.shr_seats.specs.declared.rows.Sizes.{Sizes}
 
 module _ (s : Script) (p : Pools) (are : ArePoolsOf s p) where
@@ -28,7 +28,7 @@ module _ (s : Script) (p : Pools) (are : ArePoolsOf s p) where
   }
 
 -- what is so if a part is served is so
-served : (b : Bool) (P : Type 0) → IfServed b P → P
+pub served : (b : Bool) (P : Type 0) → IfServed b P → P
 served true P is = is
 served false P is = absurd is
 
@@ -39,3 +39,7 @@ release_there t node pool units within = served serves_pools (IsPoolCommandWithi
 -- what a `grab` of one names
 pub grab_there : (t : Content) (node pool : ℕ) → IsCommandWithin t (Grab node pool) → IsPoolCommandWithin t node pool
 grab_there t node pool within = served serves_pools (IsPoolCommandWithin t node pool) within
+
+-- what an isolation of one names
+pub isolate_there : (t : Content) (group node decl budget : ℕ) → IsCommandWithin t (Isolate group node decl budget) → IsIsolationWithin t group node decl budget
+isolate_there t group node decl budget within = served serves_isolation (IsIsolationWithin t group node decl budget) within

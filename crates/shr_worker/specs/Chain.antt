@@ -5,6 +5,7 @@ use Rattle.shr_base.specs.declared.replies.Answered.{Answered}
 use Rattle.shr_base.specs.declared.scripts.Command.{Command}
 use Rattle.shr_base.specs.declared.scripts.Script.{Script}
 use Rattle.shr_base.specs.declared.scripts.WorkerScript.{WorkerScript}
+use Rattle.shr_base.specs.declared.walks.Isolation.{Isolation}
 use Rattle.shr_plain.specs.declared.table.PlainSeat.{PlainSeat}
 use Rattle.shr_plain.specs.Seat.{PlainState}
 use Rattle.shr_plain.specs.Seat as plain
@@ -13,6 +14,7 @@ use Rattle.shr_walk.specs.declared.seats.Shared.{Shared}
 use Rattle.shr_walk.specs.State.{WorkerState, state_of}
 use Rattle.shr_worker.specs.Commands.{CommandGives}
 use Rattle.shr_worker.specs.Plain.{PlainGives}
+use Rattle.shr_worker.specs.Isolating.{RecordGives}
 
 -- the commands of a worker, none past the last worker
 abbrev pub commands_in : Option WorkerScript → List Command
@@ -27,21 +29,24 @@ commands_of s worker = commands_in (slice_get s.workers.items worker)
 abbrev pub serial_of : ℕ → ℕ → Serial
 serial_of worker command = record { worker = worker; command = command }
 
--- all that a worker's seats did and saw, those at the tables of the caches and its seat at the pools
+-- all that a worker's seats did and saw, those at the tables of the caches and its seat at the pools,
+-- and the isolations that it recorded
 pub record CrewState : Type 0 where
   pub seats : WorkerState
   pub plain : PlainState
+  pub isolations : List Isolation
 
--- the state of a worker by its seats
-abbrev pub crew_of : Seats → PlainSeat → CrewState
-crew_of s p = record { seats = state_of s; plain = plain.state_of p }
+-- the state of a worker by its seats and its isolations
+abbrev pub crew_of : Seats → PlainSeat → List Isolation → CrewState
+crew_of s p is = record { seats = state_of s; plain = plain.state_of p; isolations = is }
 
 -- what a command did between two states of its worker, by its answer: at the tables of the caches,
--- and at the pools
+-- at the pools, and what it recorded of an isolation
 pub record DeedGives (x : Shared) (by : Serial) (c : Command) (a : Answered) (s t : CrewState)
     : Type 0 where
   pub seats : CommandGives x by c a s.seats t.seats
   pub plain : PlainGives x.script by c a s.plain t.plain
+  pub recorded : RecordGives x by c a s.seats t.seats s.isolations t.isolations
 
 -- The worker's first commands have these answers, in order: there is a state before the first of
 -- them, between each two and after the last, and each led from its state to the next by its answer.

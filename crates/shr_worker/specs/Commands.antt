@@ -114,8 +114,8 @@ CommandGives x by (Offline group) a s t = Offlines x by group a s t
 CommandGives x by (MkGroup group) a s t = Makes x group a s t
 CommandGives x by (Register decl) a s t = Registers x decl a s t
 CommandGives x by (Unregister decl) a s t = UnregistersNone a s t ⊎ Unregisters x by decl a s t
--- no script has this yet
-CommandGives x by (Isolate group node decl budget) a s t = ⊥
+-- what an isolation did is told with the isolations that its worker recorded
+CommandGives x by (Isolate group node decl budget) a s t = Unit {0}
 -- nothing was done at the tables of the caches
 CommandGives x by (Release node pool units) a s t = t ≡ s
 CommandGives x by (Grab node pool) a s t = t ≡ s

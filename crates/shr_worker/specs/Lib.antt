@@ -2,5 +2,6 @@ pub mod Replies
 pub mod Uncharging
 pub mod Commands
 pub mod Plain
+pub mod Isolating
 pub mod Chain
 pub mod Tasks

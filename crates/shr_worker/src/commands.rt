@@ -10,17 +10,21 @@ ghost use Rattle.shr_script.specs.Content.{content_of};
 ghost use Rattle.shr_walk.specs.Sharing.{IsShared};
 ghost use Rattle.shr_walk.specs.State.{IsRested, state_of};
 ghost use Rattle.shr_worker.specs.Commands.{CommandGives, IsTenantCommand, IsWalk};
+ghost use Rattle.shr_worker.specs.Isolating.{RecordGives};
 ghost use Rattle.shr_worker.specs.Plain.{PlainGives};
 
+use crate::isolations::isolate;
 use crate::making::mkgroup;
 use crate::pools::{grab, is_due, is_due_after, release, walk_if};
 use crate::reclaims::{balance, offline, shrink};
 use crate::registrations::{register, unregister};
 use crate::tenants::{del, get, put, set_pin};
+use shr_base::log::Log;
 use shr_base::memory::Memory;
 use shr_base::places::Serial;
 use shr_base::replies::Answered;
 use shr_base::scripts::Command;
+use shr_base::walks::Isolation;
 use shr_plain::{PlainSeat, Pools};
 use shr_walk::seats::{Seats, Shared};
 use std::sync::Wait;
@@ -135,6 +139,7 @@ pub fn run_command<R: Wait>(
     pools: &Pools,
     seats: &mut Seats,
     plain: &mut PlainSeat,
+    isolations: &mut Log<Isolation>,
     by: Serial,
     command: &Command,
 ) -> Result<Answered, Memory>
@@ -152,6 +157,8 @@ pub fn run_command<R: Wait>(
         (state_of seats.old) (state_of seats.new)) }
     ensures plain { IfOk result (λ a. PlainGives shared.now.script by command.now a
         (plain_state_of plain.old) (plain_state_of plain.new)) }
+    ensures recorded { IfOk result (λ a. RecordGives shared.now by command.now a
+        (state_of seats.old) (state_of seats.new) isolations.old.items isolations.new.items) }
 {
     match command {
         Command::Put { .. } | Command::Get { .. } | Command::Del { .. } | Command::SetPin { .. } =>
@@ -182,6 +189,13 @@ pub fn run_command<R: Wait>(
             *node,
             *pool,
         )),
-        Command::Isolate { .. } => unreachable!(),
+        Command::Isolate {
+            group,
+            node,
+            decl,
+            budget,
+        } => Ok(isolate(
+            rt, shared, seats, isolations, by, *group, *node, *decl, *budget,
+        )),
     }
 }

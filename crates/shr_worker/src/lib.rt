@@ -2,6 +2,7 @@
 #![tactic(auto)]
 
 pub mod commands;
+pub mod isolations;
 pub mod making;
 pub mod pools;
 pub mod reclaims;

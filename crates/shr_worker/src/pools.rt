@@ -1,6 +1,6 @@
 //! The commands on pools of units, and the walk of the pools that comes after one of the root.
 
-ghost use Rattle.std.specs.Prelude.{◌≡◌, ◌+◌, ◌<◌, ◌≤◌, ◌^◌, ◌==◌, ◌&&◌, OnOk, length};
+ghost use Rattle.std.specs.Prelude.{◌≡◌, ◌+◌, ◌<◌, ◌≤◌, ◌^◌, ◌==◌, ◌&&◌, OnErr, OnOk, length};
 ghost use Rattle.shr_plain.specs.Opening.{ArePoolsOf};
 ghost use Rattle.shr_plain.specs.Seat.{IsOf, state_of};
 ghost use Rattle.shr_script.specs.Bounds.{IsCommandWithin};
@@ -108,6 +108,7 @@ pub(crate) fn walk_if<R: Wait>(
     requires seat { IsOf pools.now plain.old }
     ensures seat { IsOf pools.now plain.new }
     ensures few { length plain.new.walks.items ≤ length plain.old.walks.items + 1 }
+    ensures kept { OnErr result (state_of plain.new ≡ state_of plain.old) }
     ensures walks { OnOk result (WalksIf due script.now by node priority
         (state_of plain.old) (state_of plain.new)) }
 {

@@ -17,6 +17,7 @@ use shr_base::log::Log;
 use shr_base::memory::Memory;
 use shr_base::places::Serial;
 use shr_base::replies::Answered;
+use shr_base::walks::Isolation;
 use shr_outside::outside::Gate;
 use shr_plain::Pools;
 use shr_walk::seats::Shared;
@@ -37,12 +38,14 @@ fn run_commands<R: Wait, G: Gate>(
     pools: &Pools,
     task: &mut Task,
     answers: &mut Log<Answered>,
+    isolations: &mut Log<Isolation>,
     gate: &G,
 ) -> Result<(), Memory>
     requires shared { IsShared shared.now }
     requires pools { ArePoolsOf shared.now.script pools.now }
     requires task { IsTask shared.now pools.now task.old }
     requires none { answers.old.items ≡ [] }
+    requires no_isolation { isolations.old.items ≡ [] }
     ensures number { task.new.number ≡ task.old.number }
     ensures rested { IsRested shared.now task.new.seats }
     ensures owed { OwesNoMore (view_of task.old.seats.cache.core) (view_of
@@ -51,7 +54,8 @@ fn run_commands<R: Wait, G: Gate>(
     ensures all { OnOk result (length answers.new.items
         ≡ length (commands_of shared.now.script task.old.number)) }
     ensures work { OnOk result (IsWorkOf shared.now task.old.number answers.new.items
-        (crew_of task.old.seats task.old.plain) (crew_of task.new.seats task.new.plain)) }
+        (crew_of task.old.seats task.old.plain [])
+        (crew_of task.new.seats task.new.plain isolations.new.items)) }
 {
     let Some(mine) = shared.script.workers.get(task.number as usize) else {
         unreachable!()
@@ -71,6 +75,7 @@ fn run_commands<R: Wait, G: Gate>(
             pools,
             &mut task.seats,
             &mut task.plain,
+            isolations,
             by,
             command,
         )?;
@@ -101,11 +106,22 @@ pub fn run_worker<R: Wait, G: Gate>(
     ensures all { IsTrue result.whole → length result.answers.items
         ≡ length (commands_of shared.now.script task.number) }
     ensures work { IsTrue result.whole → IsWorkOf shared.now task.number result.answers.items
-        (crew_of task.seats task.plain) (crew_of result.seats result.plain) }
+        (crew_of task.seats task.plain [])
+        (crew_of result.seats result.plain result.isolations.items) }
 {
     let mut task = task;
     let mut answers = Log::new(shared.core.alloc);
-    let whole = run_commands(rt, shared, pools, &mut task, &mut answers, gate).is_ok();
+    let mut isolations = Log::new(shared.core.alloc);
+    let whole = run_commands(
+        rt,
+        shared,
+        pools,
+        &mut task,
+        &mut answers,
+        &mut isolations,
+        gate,
+    )
+    .is_ok();
     let Task {
         number,
         seats,
@@ -116,6 +132,7 @@ pub fn run_worker<R: Wait, G: Gate>(
         seats,
         plain,
         answers,
+        isolations,
         whole,
     }
 }

@@ -2,6 +2,7 @@
 
 use shr_base::log::Log;
 use shr_base::replies::Answered;
+use shr_base::walks::Isolation;
 use shr_plain::PlainSeat;
 use shr_walk::seats::Seats;
 
@@ -21,6 +22,7 @@ pub struct WorkerResult {
     pub seats: Seats,
     pub plain: PlainSeat,
     pub answers: Log<Answered>,
+    pub isolations: Log<Isolation>,
     /// Each command was answered and each operation noted. It is false for want of memory alone.
     pub whole: bool,
 }

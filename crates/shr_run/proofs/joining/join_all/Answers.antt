@@ -13,8 +13,8 @@ pub loop-worker-preserved : goal.loop-worker-preserved
 loop-worker-preserved c = let i = c.loop-worker.invariant in let next = c.in-Some.ensures.steps.0 in let joins = c.join-walks.ensures in let w = c.in-Some.worker in
     let old = c.args.first.now in let first = c.loop-worker.first in let new = c.join-walks.new.first in let left = c.loop-worker.worker-iterator.rest.items in
     let rest = c.next.new.self.rest.items in let all = c.args.results.items in
-    let log : WorkerLog = record { answers = w.answers; walks = c.join-walks.result.walks; carries = c.join-walks.result.carries; uses = c.join-walks.result.uses; plain = c.join-walks.result.plain } in
-    let same : log ≡ log_of w = (let walks = joins.walks in let carries = joins.carries in let uses = joins.uses in let plain = joins.plain_walks in λ j. record { answers = w.answers; walks = walks j; carries = carries j; uses = uses j; plain = plain j }) in record {
+    let log : WorkerLog = record { answers = w.answers; walks = c.join-walks.result.walks; carries = c.join-walks.result.carries; uses = c.join-walks.result.uses; plain = c.join-walks.result.plain; isolations = w.isolations } in
+    let same : log ≡ log_of w = (let walks = joins.walks in let carries = joins.carries in let uses = joins.uses in let plain = joins.plain_walks in λ j. record { answers = w.answers; walks = walks j; carries = carries j; uses = uses j; plain = plain j; isolations = w.isolations }) in record {
       next = tt;
       finite = tt;
       tables = λ j. c.args.tables.now;

@@ -3,6 +3,7 @@ use Rattle.std.specs.Prelude.{slice_get}
 use Rattle.std.proofs.lemmas.Option.{slice_get_read}
 use Rattle.shr_base.specs.declared.replies.Answered.{Answered}
 use Rattle.shr_base.specs.declared.journals.UseStep.{UseStep}
+use Rattle.shr_base.specs.declared.walks.Isolation.{Isolation}
 use Rattle.shr_base.specs.declared.walks.PlainWalk.{PlainWalk}
 use Rattle.shr_walk.specs.State.{state_of}
 use Rattle.shr_worker.specs.Chain.{DeedGives, commands_of, crew_of, serial_of, IsWorkOf}
@@ -11,15 +12,16 @@ use Rattle.shr_worker.proofs.Worked.{work_none, work_more}
 use Rattle.shr_worker.proofs.running.run_commands.Goals as goal
 
 pub loop-k-init : goal.loop-k-init
-loop-k-init g c = let t = c.args.task.now in let s = crew_of t.seats t.plain in let r = c.requires.task.rested in let none = c.reserve.ensures.items ∙ c.requires.none in record {
+loop-k-init g c = let t = c.args.task.now in let s = crew_of t.seats t.plain [] in let r = c.requires.task.rested in let none = c.reserve.ensures.items ∙ c.requires.none in record {
   number = refl;
   rested = record { core = r.core; idle = r.idle; charge = r.charge; deferred = r.deferred };
   owed = λ k h. h;
   plain = c.requires.task.plain;
   few = let none = ap (λ (l : List PlainWalk). length l) c.requires.task.plain_walks in omega (arith, none);
   count = ap (λ (l : List Answered). length l) none;
-  work = subst (λ (l : List UseStep). IsWorkOf c.args.shared.now t.number c.reserve.new.self.items s (record s { seats = record (state_of t.seats) { noted = l } })) (sym c.expect_notes.ensures)
-      (subst (λ (l : List Answered). IsWorkOf c.args.shared.now t.number l s s) (sym none) (work_none c.args.shared.now t.number s));
+  work = subst (λ (l : List Isolation). IsWorkOf c.args.shared.now t.number c.reserve.new.self.items s (record s { seats = record (state_of t.seats) { noted = c.expect_notes.new.uses.items }; isolations = l })) (sym c.requires.no_isolation)
+      (subst (λ (l : List UseStep). IsWorkOf c.args.shared.now t.number c.reserve.new.self.items s (record s { seats = record (state_of t.seats) { noted = l } })) (sym c.expect_notes.ensures)
+      (subst (λ (l : List Answered). IsWorkOf c.args.shared.now t.number l s s) (sym none) (work_none c.args.shared.now t.number s)));
 }
 
 pub overflow_cast-by : goal.overflow_cast-by
@@ -37,13 +39,13 @@ run_command-requires-clause-within g c = let mine = c.in-Some.mine.now in
 
 pub loop-k-preserved : goal.loop-k-preserved
 loop-k-preserved g c = let x = c.args.shared.now in let n = c.args.task.now.number in let k = c.loop-k.k in let mine = c.in-Some.mine.now in let before = c.loop-k.answers.items in
-    let answered = c.in_ok-answered.answered in let command = c.command-item.result in let first = crew_of c.args.task.now.seats c.args.task.now.plain in
-    let s = crew_of c.loop-k.task.seats c.loop-k.task.plain in let t = crew_of c.run_command.new.seats c.run_command.new.plain in
+    let answered = c.in_ok-answered.answered in let command = c.command-item.result in let first = crew_of c.args.task.now.seats c.args.task.now.plain [] in
+    let s = crew_of c.loop-k.task.seats c.loop-k.task.plain c.loop-k.isolations.items in let t = crew_of c.run_command.new.seats c.run_command.new.plain c.run_command.new.isolations.items in
     let short = rw c.as_slice-command-items.ensures at c.loop-k-test.true in let is = rw c.as_slice-command-items.ensures at c.command-item.is in
     let here : slice_get (commands_of x.script n) k ≡ Some command = command_of x c.requires.shared n mine c.in-Some.ensures k command (slice_get_read mine.commands.items _ k command refl short is) in
     let pushed : c.push.new.self.items ≡ before ++ answered ∷ [] = c.push.ensures.items ∙ ap (λ (l : List Answered). l ++ answered ∷ []) c.reserve-in-loop-k.ensures.items in
     let count = c.loop-k.invariant.count in let walks = c.loop-k.invariant.few in let one = c.run_command.ensures.few in
-    let told : DeedGives x (serial_of c.loop-k.task.number k) command answered s t = record { seats = c.in_ok-answered.ensures.gives; plain = c.in_ok-answered.ensures.plain } in
+    let told : DeedGives x (serial_of c.loop-k.task.number k) command answered s t = record { seats = c.in_ok-answered.ensures.gives; plain = c.in_ok-answered.ensures.plain; recorded = c.in_ok-answered.ensures.recorded } in
     let gives = subst (λ (m : ℕ). DeedGives x (serial_of m k) command answered s t) c.loop-k.invariant.number told in record {
       number = c.loop-k.invariant.number;
       rested = c.run_command.ensures.rested;

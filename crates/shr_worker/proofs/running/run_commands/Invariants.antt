@@ -1,4 +1,4 @@
-use Rattle.std.proofs.Common.{◌≡◌, ◌≤◌, length}
+use Rattle.std.proofs.Common.{◌≡◌, ◌≤◌, [], length}
 use Rattle.shr_core.specs.Gained.{OwesNoMore}
 use Rattle.shr_core.specs.Seats.{view_of}
 use Rattle.shr_plain.specs.Seat.{IsOf}
@@ -14,5 +14,5 @@ invariant-loop-k g l = record {
   plain : IsOf l.pools l.task.plain;
   few : length l.task.plain.walks.items ≤ l.k;
   count : length l.answers.items ≡ l.k;
-  work : IsWorkOf l.shared l.fn.task.number l.answers.items (crew_of l.fn.task.seats l.fn.task.plain) (crew_of l.task.seats l.task.plain);
+  work : IsWorkOf l.shared l.fn.task.number l.answers.items (crew_of l.fn.task.seats l.fn.task.plain []) (crew_of l.task.seats l.task.plain l.isolations.items);
 }

@@ -1,0 +1,26 @@
+-- What a list or the charges of a worker were told to be is so of the step in which it was told.
+use Rattle.std.proofs.Common.{◌≡◌, ◌^◌, ℕ, inl, inr, ⊎_elim, sym, subst, arith}
+use Rattle.shr_base.specs.declared.places.Place.{Place}
+use Rattle.shr_base.specs.declared.replies.Spent.{Spent}
+use Rattle.shr_base.specs.declared.replies.Spent.TheVariants as spent
+use Rattle.shr_model.specs.Places.{place_number}
+use Rattle.shr_seats.specs.declared.shape.Shape.{Shape}
+use Rattle.shr_walk.specs.Shown.{WornSeen}
+use Rattle.shr_base.specs.declared.scripts.Script.{Script}
+use Rattle.shr_report.specs.Parts.{IsThere}
+use Rattle.shr_assemble.specs.Steps.{Step, IsAmong}
+use Rattle.shr_assemble.specs.Worn.{IsWornBy}
+use Rattle.shr_assemble.proofs.Listed.{contains_among}
+
+pub seen_worn : (s : Script) (shape : Shape) → shape.most_items ≡ 20000 → shape.most_entries ≡ 2 ^ 31 → (z : Step) (place : Place) → IsThere s place → (why : Spent) → WornSeen shape place why z.after → IsWornBy s z why
+seen_worn s shape m n z place there (spent.List at entries items) h = record {
+  there = subst (IsThere s) (sym h.here) there;
+  over = ⊎_elim (λ p. inl (omega (arith, p, n))) (λ p. inr (omega (arith, p, m))) h.over;
+  known = h.known;
+  held = h.held;
+  list = record { knows = subst (λ (q : Place). IsAmong (record { place = place_number q; entries = h.known }) z.after.core.traces.known) (sym h.here) (contains_among z.after.core.traces.known _ h.knows); journal = h.journal };
+  one_more = h.one_more;
+  most = inl h.there;
+}
+seen_worn s shape m n z place there (spent.Lookups id seen) h = absurd h
+seen_worn s shape m n z place there (spent.Charges charges uncharges) h = record { over = h.over; charged = h.charged; uncharged = h.uncharged }
