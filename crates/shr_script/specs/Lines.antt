@@ -136,7 +136,7 @@ serves_pools = true
 
 -- isolations,
 abbrev pub serves_isolation : Bool
-serves_isolation = false
+serves_isolation = true
 
 -- and a sweep.
 abbrev pub serves_sweep : Bool

@@ -56,7 +56,7 @@ pub enum Phase {
 // Version 2 has three parts more than version 1, and each is served or not.
 const SERVES_POOLS: bool = true;
 
-const SERVES_ISOLATION: bool = false;
+const SERVES_ISOLATION: bool = true;
 
 const SERVES_SWEEP: bool = false;
 
