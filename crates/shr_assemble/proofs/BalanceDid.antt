@@ -31,7 +31,7 @@ use Rattle.shr_assemble.proofs.WalkingTold.{IsTableOf}
 use Rattle.shr_assemble.proofs.WalkingGives.{idle_walked, freed_none}
 use Rattle.shr_assemble.proofs.WalkingCharges.{rec_of, tree_is}
 use Rattle.shr_assemble.proofs.WalkingWell.{begins_prefix}
-use Rattle.shr_assemble.proofs.WalkingChain.{all_seen, IsThereJob, gave_all, walked_one, all_had, all_cut, told_by, any_cut}
+use Rattle.shr_assemble.proofs.WalkingChain.{all_seen, IsThereJob, gave_all, walked_one, all_had, all_cut, told_by, any_cut, front_had, front_pairs}
 use Rattle.shr_assemble.proofs.WalkingDid.{Stepping, walks_did}
 
 some_group : (n : ℕ) (parents : List ℕ) (g : ℕ) → 0 < n → 0 < length (preorder_within n parents g)
@@ -89,7 +89,7 @@ module _ (x : Shared) (table : IsTableOf x) (by : Serial) (node priority : ℕ) 
           no_cite = refl;
           no_told = refl;
           no_made = refl;
-          asked = record { rounds = []; refused = refl; made = jobs; told = ap reply.Walked (g.sum_freed ∙ sym had.sum_told) ∙ reply_whole (length (preorder_of (parents_of x.script) 0)) all.work.walks long had.uncut };
+          asked = record { rounds = []; refused = refl; made = jobs; told = ap reply.Walked (g.sum_freed ∙ sym had.sum_told) ∙ reply_whole (length (preorder_of (parents_of x.script) 0)) all.work.walks long had.uncut; cut = front_pairs all.work.walks (front_had all.work.walks had.uncut); cut_told = λ e. absurd (let f : false ≡ true = sym had.uncut ∙ e in cc) };
           online = λ k e lt. absurd (none-some k e);
           meets = record { unmade = λ k e. absurd (cc); met = λ k e. absurd (none-some k e) };
           cause = tt;
@@ -116,7 +116,7 @@ module _ (x : Shared) (table : IsTableOf x) (by : Serial) (node priority : ℕ) 
           no_cite = refl;
           no_told = refl;
           no_made = refl;
-          asked = record { rounds = []; refused = refl; made = begins_prefix (map job_of all.work.walks) (c.begins.0 ++ jobs_for (drop (g.n + 1) (all_groups x))) (jobs_for (preorder_of (parents_of x.script) 0)) due; told = ap reply.WalkMemory (g.sum_freed ∙ sym c.sum_told) ∙ reply_cut (length (preorder_of (parents_of x.script) 0)) all.work.walks (⊎_elim (λ lt. inl (omega (arith, lt, few))) (λ d. inr d) c.short) };
+          asked = record { rounds = []; refused = refl; made = begins_prefix (map job_of all.work.walks) (c.begins.0 ++ jobs_for (drop (g.n + 1) (all_groups x))) (jobs_for (preorder_of (parents_of x.script) 0)) due; told = ap reply.WalkMemory (g.sum_freed ∙ sym c.sum_told) ∙ reply_cut (length (preorder_of (parents_of x.script) 0)) all.work.walks (⊎_elim (λ lt. inl (omega (arith, lt, few))) (λ d. inr d) c.short); cut = front_pairs all.work.walks c.front; cut_told = λ e. tt };
           online = λ k e lt. absurd (none-some k e);
           meets = record { unmade = λ k e. absurd (cc); met = λ k e. absurd (none-some k e) };
           cause = tt;
@@ -135,7 +135,7 @@ module _ (x : Shared) (table : IsTableOf x) (by : Serial) (node priority : ℕ) 
       no_cite = refl;
       no_told = refl;
       no_made = refl;
-      asked = record { rounds = []; refused = refl; made = refl; told = reply_cut (length (preorder_of (parents_of x.script) 0)) [] (inl (some_group (length (parents_of x.script)) (parents_of x.script) 0 (omega arith))) };
+      asked = record { rounds = []; refused = refl; made = refl; told = reply_cut (length (preorder_of (parents_of x.script) 0)) [] (inl (some_group (length (parents_of x.script)) (parents_of x.script) 0 (omega arith))); cut = front_pairs [] (front_had [] refl); cut_told = λ e. tt };
       online = λ k e lt. absurd (none-some k e);
       meets = record { unmade = λ k e. absurd (cc); met = λ k e. absurd (none-some k e) };
       cause = tt;

@@ -46,6 +46,7 @@ use Rattle.shr_assemble.proofs.MadeTurns.{made_turn}
 use Rattle.shr_assemble.proofs.Makers.{one_turn_maker}
 use Rattle.shr_assemble.proofs.Making.{work_of, grows, stepped}
 use Rattle.shr_assemble.proofs.Operations.{PairsRec, pairs_rec, op_of, op_by, rise_along, among_has}
+use Rattle.shr_assemble.proofs.CutsLaw.{cuts_told}
 use Rattle.shr_assemble.proofs.EntryOrderLaw.{entries_in_order}
 use Rattle.shr_assemble.proofs.PoolPast.{pool_past}
 use Rattle.shr_assemble.proofs.WalksRefused.{walks_refused}
@@ -200,4 +201,5 @@ module _ (s : Script) (r : Report) (workers : List (List Step)) (run : IsRun s r
     carried = carried;
     lookups = lookups_in_order s r workers run;
     entries = entries_in_order s r workers run;
+    cuts = cuts_told s r workers run;
   }

@@ -38,6 +38,7 @@ pub mod EntrySums
 pub mod PoolCauses
 pub mod PoolPast
 pub mod WalksRefused
+pub mod CutsLaw
 pub mod FaithfulLaw
 pub mod OfflinedCause
 pub mod Spending

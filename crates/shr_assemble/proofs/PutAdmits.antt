@@ -1,11 +1,12 @@
 -- What a put's charge with its reclaim did, by its answer: its rounds, and its operations group by group.
-use Rattle.std.proofs.Common.{◌≡◌, ℕ, suc, ◌+◌, ◌-◌, ◌<◌, ◌≤◌, inl, inr, ⊎_elim, List, [], ◌∷◌, ◌++◌, length, length-append, map, take, drop, refl, sym, ap, subst, ◌∙◌, arith, append_assoc}
+use Rattle.std.proofs.Common.{◌≡◌, ℕ, suc, ◌+◌, ◌-◌, ◌<◌, ◌≤◌, inl, inr, ⊎_elim, List, [], ◌∷◌, ◌++◌, length, length-append, map, take, drop, refl, sym, ap, subst, ◌∙◌, arith, append_assoc, true, false}
 use Rattle.std.specs.Prelude.{slice_get, Some}
 use Rattle.std.specs.List.{AllByRecursion}
 use Rattle.std.proofs.lemmas.List.{append-nil, length-map, take-append-drop, map-append}
 use Rattle.shr_base.specs.declared.places.Serial.{Serial}
 use Rattle.shr_base.specs.declared.replies.Answered.{Answered}
 use Rattle.shr_base.specs.declared.scripts.Command.{Command}
+use Rattle.shr_base.specs.declared.walks.WalkRecord.{WalkRecord}
 use Rattle.shr_model.specs.Commands.{round_of, rounds_from}
 use Rattle.shr_model.specs.Groups.{IsAtOrAbove, path_of}
 use Rattle.shr_model.specs.Walks.{Job, job_of}
@@ -29,7 +30,7 @@ use Rattle.shr_charge.proofs.TreeFacts.{in_take}
 use Rattle.shr_assemble.proofs.WalkingTold.{IsTableOf}
 use Rattle.shr_assemble.proofs.WalkingGives.{idle_walked, freed_none}
 use Rattle.shr_assemble.proofs.WalkingCharges.{rec_of}
-use Rattle.shr_assemble.proofs.WalkingChain.{AllNoted, IsThereJob, GaveAll, gave_all, visited_one, all_had, all_cut}
+use Rattle.shr_assemble.proofs.WalkingChain.{AllNoted, IsThereJob, GaveAll, gave_all, visited_one, any_cut, FrontHad, front_had, front_then, all_had, all_cut}
 use Rattle.shr_assemble.proofs.WalkingSteps.{IsScanOne, Walked, walked_then}
 
 -- one round more
@@ -57,6 +58,21 @@ abbrev pub named_by : Admission → List ℕ
 named_by (Over g operation usage) = g ∷ []
 named_by r = []
 
+-- all walks had memory, or all but the last where memory lacked
+abbrev pub CutBy : Admission → List WalkRecord → Type 0
+CutBy Memory ws = FrontHad ws
+CutBy r ws = any_cut ws ≡ false
+
+pub admitted_front : (answer : Admission) (ws : List WalkRecord) → CutBy answer ws → FrontHad ws
+admitted_front Charged ws h = front_had ws h
+admitted_front (Over g operation usage) ws h = front_had ws h
+admitted_front Memory ws h = h
+
+pub admitted_told : (answer : Admission) (X : Type 0) (ws : List WalkRecord) → CutBy answer ws → (answer ≡ Memory → X) → any_cut ws ≡ true → X
+admitted_told Charged X ws h f e = absurd (let z : false ≡ true = sym h ∙ e in cc)
+admitted_told (Over g operation usage) X ws h f e = absurd (let z : false ≡ true = sym h ∙ e in cc)
+admitted_told Memory X ws h f e = f (λ i. Memory)
+
 module _ (x : Shared) (table : IsTableOf x) (by : Serial) (c : Command) (a : Answered) (group : ℕ) (inside : group < length (parents_of x.script)) where
   pub record Admits (answer : Admission) (s t : WorkerState) : Type 0 where
     pub work : Work
@@ -66,6 +82,7 @@ module _ (x : Shared) (table : IsTableOf x) (by : Serial) (c : Command) (a : Ans
     pub above : AllByRecursion (λ h. IsAtOrAbove (parents_of x.script) h group) rounds
     pub all : (g operation usage : ℕ) → answer ≡ Over g operation usage → length rounds ≡ 13
     pub made : MadeDue x table by c a group inside answer (map job_of work.walks) (rounds_from (parents_of x.script) x.script.nodes 12 rounds)
+    pub cut : CutBy answer work.walks
     pub tries : ℕ
     pub fourteen : tries ≤ 14
     pub ops : AreOps x by group tries (rounds ++ named_by answer) (stands_in x group answer) work
@@ -90,6 +107,11 @@ module _ (x : Shared) (table : IsTableOf x) (by : Serial) (c : Command) (a : Ans
       (λ cut. let e : map (λ (v : Visit). v.answer) h.walks ≡ map (λ (v : Visit). v.answer) cut.front ++ cut.last.answer ∷ [] = ap (map (λ (v : Visit). v.answer)) cut.whole ∙ map-append (λ (v : Visit). v.answer) cut.front (cut.last ∷ []) in
       (all_cut (map job_in h.walks) (map (λ (v : Visit). v.answer) cut.front) cut.last.answer all.work.walks (subst (λ l. AllNoted (map job_in h.walks) l all.work.walks) e all.noted) (had_answers x table by c a group inside cut.front (rec_of HadRoom cut.front cut.had)) cut.lacked).begins)
       h.cut.cut in
+      let cut : FrontHad all.work.walks = ⊎_elim
+      (λ had. front_had all.work.walks (all_had (map job_in h.walks) (map (λ (v : Visit). v.answer) h.walks) all.work.walks all.noted (had_answers x table by c a group inside h.walks (rec_of HadRoom h.walks had))).uncut)
+      (λ cut. let e : map (λ (v : Visit). v.answer) h.walks ≡ map (λ (v : Visit). v.answer) cut.front ++ cut.last.answer ∷ [] = ap (map (λ (v : Visit). v.answer)) cut.whole ∙ map-append (λ (v : Visit). v.answer) cut.front (cut.last ∷ []) in
+      (all_cut (map job_in h.walks) (map (λ (v : Visit). v.answer) cut.front) cut.last.answer all.work.walks (subst (λ l. AllNoted (map job_in h.walks) l all.work.walks) e all.noted) (had_answers x table by c a group inside cut.front (rec_of HadRoom cut.front cut.had)) cut.lacked).front)
+      h.cut.cut in
       let rest : List Job = begins.0 ++ drop (length (map job_in h.walks)) (due_in x (12 - length h.rounds) h.over.group) in
       let whole : due_in x (12 - length h.rounds) h.over.group ≡ map job_of all.work.walks ++ rest = sym (take-append-drop (length (map job_in h.walks)) (due_in x (12 - length h.rounds) h.over.group))
       ∙ (ap (λ l. l ++ drop (length (map job_in h.walks)) (due_in x (12 - length h.rounds) h.over.group)) (first ∙ begins.1) ∙ append_assoc (map job_of all.work.walks) begins.0 (drop (length (map job_in h.walks)) (due_in x (12 - length h.rounds) h.over.group))) in
@@ -107,6 +129,7 @@ module _ (x : Shared) (table : IsTableOf x) (by : Serial) (c : Command) (a : Ans
               ∙ (sym (append_assoc (rounds_from (parents_of x.script) x.script.nodes 12 (map (λ (k : Round). k.over.group) h.rounds)) (map job_of all.work.walks) rest)
               ∙ (ap (λ l. (l ++ map job_of all.work.walks) ++ rest) (sym r.jobs) ∙ ap (λ l. l ++ rest) (sym (map-append job_of r.work.walks all.work.walks))))),
         );
+        cut = front_then r.work.walks all.work.walks r.uncut cut;
         tries = (1 + length h.rounds) + 0;
         fourteen = omega (arith, lt);
         ops = ops_then x by group (1 + length h.rounds) 0 (groups ++ h.over.group ∷ []) [] [] r.work all.work r.ops between;
@@ -123,6 +146,7 @@ module _ (x : Shared) (table : IsTableOf x) (by : Serial) (c : Command) (a : Ans
         above = r.above;
         all = λ g operation usage e. absurd (cc);
         made = r.jobs;
+        cut = r.uncut;
         tries = 1 + length h.rounds;
         fourteen = omega (arith, few);
         ops = r.ops;
@@ -137,6 +161,7 @@ module _ (x : Shared) (table : IsTableOf x) (by : Serial) (c : Command) (a : Ans
         above = r.above;
         all = λ g' operation' usage' e. omega (arith, long, n);
         made = r.jobs;
+        cut = r.uncut;
         tries = 1 + length h.rounds;
         fourteen = omega (arith, n);
         ops = r.ops;
@@ -154,6 +179,7 @@ module _ (x : Shared) (table : IsTableOf x) (by : Serial) (c : Command) (a : Ans
     above = tt;
     all = λ g operation usage e. absurd (cc);
     made = (rounds_from (parents_of x.script) x.script.nodes 12 [], refl);
+    cut = front_had [] refl;
     tries = 0;
     fourteen = omega arith;
     ops = none_made s;

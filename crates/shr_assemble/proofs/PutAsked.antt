@@ -1,5 +1,5 @@
 -- A put that asked for its charge, or didn't: what is left to say of its answer.
-use Rattle.std.proofs.Common.{◌≡◌, ◌⊎◌, ⊎_elim, inl, inr, ℕ, ◌<◌, ◌≤◌, List, [], ◌∷◌, ◌++◌, length, map, refl, sym, ap, subst, ◌∙◌, arith}
+use Rattle.std.proofs.Common.{◌≡◌, ◌⊎◌, ⊎_elim, inl, inr, ℕ, ◌<◌, ◌≤◌, List, [], ◌∷◌, ◌++◌, length, map, refl, sym, ap, subst, ◌∙◌, arith, true, false}
 use Rattle.std.specs.Prelude.{Some, None, sum_by}
 use Rattle.std.specs.List.{AllByRecursion}
 use Rattle.std.proofs.lemmas.List.{append-nil}
@@ -51,7 +51,7 @@ use Rattle.shr_assemble.specs.Offlining.{KnowsOnline, MeetsGroups}
 use Rattle.shr_assemble.specs.Steps.{Step, Brings, IsAmong}
 use Rattle.shr_assemble.specs.Walks.{DidRounds}
 use Rattle.shr_assemble.proofs.Bringing.{brings_of}
-use Rattle.shr_assemble.proofs.PutAdmits.{Admits, admits, stands_in, named_by}
+use Rattle.shr_assemble.proofs.PutAdmits.{Admits, admits, stands_in, named_by, admitted_front, admitted_told}
 use Rattle.shr_assemble.proofs.PutCharges.{ops_same, put_charges}
 use Rattle.shr_assemble.proofs.PutOver.{over_caused}
 use Rattle.shr_assemble.proofs.PutParts.{IsTail, whole, whole_did}
@@ -66,6 +66,8 @@ use Rattle.shr_assemble.proofs.WalkingCharges.{none_added}
 use Rattle.shr_assemble.proofs.WalkingSteps.{IsScanOne, Walked, walked_then}
 use Rattle.shr_assemble.proofs.WalkingTold.{IsTableOf}
 use Rattle.shr_assemble.proofs.WalkingWell.{begins_prefix}
+use Rattle.shr_assemble.proofs.WalkingChain.{front_had}
+use Rattle.shr_report.specs.Cuts.{IsWant}
 
 pub tail_none : IsTail no_work
 tail_none = record { walks = refl; seen = refl; maps = refl; cleared = refl; turns = refl; tree = refl; takes = refl; gives = refl; carries = refl; scans = λ place worker n. refl }
@@ -153,6 +155,8 @@ module _ (x : Shared) (table : IsTableOf x) (by : Serial) (group node decl : ℕ
         refused = rounds_did z 0 [] [] [] (omega arith) tt (nothing_ops words) over (λ g operation usage e. absurd (other g operation usage e));
         made = subst (λ (due : List Job). walks.MayMake r due []) (no_rounds (parents_of x.script) x.script.nodes) (none_made r);
         told = tt;
+        cut = front_had [] refl;
+        cut_told = λ e. absurd (let f : false ≡ true = e in cc);
         charges = put_charges x table by group inside z 0 [] [] refl refl (omega arith) (nothing_ops words) (λ g lt. sym (uncharged g)) (λ g. sym (uncharged g));
         known = subst (IsToldOnce z) (sym untold) tt;
         unmade = unmade;
@@ -193,6 +197,7 @@ module _ (x : Shared) (table : IsTableOf x) (by : Serial) (group node decl : ℕ
       pub added : (g : ℕ) → sum_by (λ (m : Made). added_below (parents_of x.script) g m.entry) (first.core.made ++ q.core.made) ≡ charged (parents_of x.script) g (Some command) (Some a.reply)
       pub known : IsToldOnce (whole x.script by command a s charged_at t first q) (pool_seen a)
       pub unmade : pool_made a.reply ≡ []
+      pub want : answer ≡ admission.Memory → IsWant a.reply
       pub unnoted : (g : ℕ) → a.reply ≡ reply.NotMade g → ⊥
       pub cause : IsCausedBy x.script (whole x.script by command a s charged_at t first q) a.reply
 
@@ -207,6 +212,8 @@ module _ (x : Shared) (table : IsTableOf x) (by : Serial) (group node decl : ℕ
       refused = rounds_did z adm.tries adm.rounds (named_by answer) kept adm.few adm.above h.ops h.over h.all;
       made = h.made;
       told = tt;
+      cut = admitted_front answer adm.work.walks adm.cut;
+      cut_told = admitted_told answer (IsWant a.reply) adm.work.walks adm.cut h.want;
       charges = put_charges x table by group inside z adm.tries (adm.rounds ++ named_by answer) kept refl refl adm.fourteen h.ops h.stands h.added;
       known = h.known;
       unmade = h.unmade;
@@ -252,6 +259,7 @@ module _ (x : Shared) (table : IsTableOf x) (by : Serial) (group node decl : ℕ
         added = λ h. none_added_alone a answer s t t asks seen h;
         known = tt;
         unmade = refl;
+        want = λ e. absurd (cc);
         unnoted = λ h e. absurd (cc);
         cause = over_caused x table by group d.tries (d.rounds ++ g ∷ []) [] (record { group = g; operation = operation; usage = usage }) z refl refl (ops_alone a answer s t t asks seen) last.1 last.2
             (subst (EndsOver x by (record { group = g; operation = operation; usage = usage })) (sym (append-nil v.ops)) last.0) does rise;
@@ -280,6 +288,7 @@ module _ (x : Shared) (table : IsTableOf x) (by : Serial) (group node decl : ℕ
         added = λ h. none_added_alone a admission.Memory s t t asks seen h;
         known = tt;
         unmade = refl;
+        want = λ e. tt;
         unnoted = λ h e. absurd (cc);
         cause = tt;
       }

@@ -128,6 +128,7 @@ module _ (x : Shared) (table : IsTableOf x) (tables : AreTables x) (by : Serial)
           added = added_is;
           known = known_is;
           unmade = h.unmade;
+          want = λ e. absurd (cc);
           unnoted = λ g e. subst (λ y. IsReply (parents_of x.script) (λ p. []) by Command_of (Some f.id) y) e (row (λ p. []));
           cause = h.cause;
         }
@@ -174,6 +175,7 @@ module _ (x : Shared) (table : IsTableOf x) (tables : AreTables x) (by : Serial)
           added = added_is (noted ∷ []) _ acts.gains h;
           known = known_is (noted ∷ []) _ acts.gains h;
           unmade = h.unmade;
+          want = λ e. absurd (cc);
           unnoted = λ n e. none-some c (ap cited_by (sym e) ∙ cites);
           cause = h.cause;
         }

@@ -1,5 +1,5 @@
 -- A put's parts: what its tries and walks made first, and then what its cache's list made.
-use Rattle.std.proofs.Common.{◌≡◌, ℕ, ◌+◌, ◌<◌, ◌⊎◌, inl, cond, List, [], ◌++◌, length, map, sym, ap, subst, ◌∙◌, arith}
+use Rattle.std.proofs.Common.{◌≡◌, ℕ, ◌+◌, ◌<◌, ◌⊎◌, inl, cond, List, [], ◌++◌, length, map, sym, ap, subst, ◌∙◌, arith, true, false}
 use Rattle.std.specs.Prelude.{slice_get, Some, flat_map, sum_by, All, AllPairs}
 use Rattle.std.proofs.lemmas.List.{append-nil, map-append}
 use Rattle.std.proofs.lemmas.List.Elements.{All-nil, filter_map-append}
@@ -20,7 +20,7 @@ use Rattle.shr_model.specs.Deferred.{sum_at}
 use Rattle.shr_model.specs.Families.{Family}
 use Rattle.shr_model.specs.Moves.{is_below}
 use Rattle.shr_model.specs.Places.{is_place}
-use Rattle.shr_model.specs.Walks.{job_of, passes_at}
+use Rattle.shr_model.specs.Walks.{job_of, passes_at, is_cut}
 use Rattle.shr_deferred.specs.Moves.{takes_of, gives_of}
 use Rattle.shr_deferred.proofs.SeatLaws.{takes_both, gives_both}
 use Rattle.shr_seats.specs.Views.{Each}
@@ -48,6 +48,8 @@ use Rattle.shr_assemble.proofs.Bringing.{brings_of, brings_then}
 use Rattle.shr_assemble.proofs.Gathering.{among_left}
 use Rattle.shr_assemble.proofs.Quiet.{HasDid, still_pool, still_tree, IsToldOnce}
 use Rattle.shr_assemble.proofs.WalkingSteps.{OnlyScan, slice_left, step_of, Has, walk_later, Walked}
+use Rattle.shr_assemble.proofs.WalkingChain.{FrontHad, any_cut, front_pairs}
+use Rattle.shr_report.specs.Cuts.{IsWant}
 
 -- what came after the walks: no walk, no move, and no entry of a scan or of the other journals
 pub record IsTail (q : Work) : Type 0 where
@@ -83,6 +85,8 @@ module _ (script : Script) (by : Serial) (c : Command) (a : Answered) (s m t : W
     pub refused : DidRoundsOf script whole rounds c
     pub made : walks.MayMake a.reply (jobs_of (parents_of script) script.nodes rounds c) (map job_of v.walks)
     pub told : walks.IsToldBy script (v.walks ++ q.walks) c a.reply
+    pub cut : FrontHad v.walks
+    pub cut_told : any_cut v.walks ≡ true → IsWant a.reply
     pub charges : DidCharges script whole
     pub known : IsToldOnce whole (pool_seen a)
     pub unmade : pool_made a.reply ≡ []
@@ -153,6 +157,8 @@ module _ (script : Script) (by : Serial) (c : Command) (a : Answered) (s m t : W
             refused = h.refused;
             made = subst (λ (l : List WalkRecord). walks.MayMake a.reply (jobs_of (parents_of script) script.nodes h.rounds c) (map job_of l)) (sym walks_same) h.made;
             told = h.told;
+            cut = subst (AllPairs (λ (k l : WalkRecord). is_cut k.answer ≡ false)) (sym walks_same) (front_pairs v.walks h.cut);
+            cut_told = λ e. h.cut_told (ap any_cut (sym walks_same) ∙ e);
           };
           seen = ap (flat_map counted_in) walks_same ∙ (walked.seen ∙ sym (behind v.core.seen q.core.seen tail.seen));
           maps = ap (flat_map mapped_in) walks_same ∙ (walked.maps ∙ ap (map word_of) (sym (behind v.core.maps q.core.maps tail.maps)));

@@ -1,5 +1,5 @@
 -- The tries of a put's charge and the walks between them: their jobs and their operations.
-use Rattle.std.proofs.Common.{◌≡◌, ℕ, ◌+◌, ◌-◌, ◌<◌, List, [], ◌∷◌, ◌++◌, length, map, refl, sym, ap, subst, ◌∙◌, arith, append_assoc}
+use Rattle.std.proofs.Common.{◌≡◌, ℕ, ◌+◌, ◌-◌, ◌<◌, List, [], ◌∷◌, ◌++◌, length, map, refl, sym, ap, subst, ◌∙◌, arith, append_assoc, false}
 use Rattle.std.specs.Prelude.{pos, Some}
 use Rattle.std.specs.List.{AllByRecursion}
 use Rattle.std.proofs.lemmas.List.{map-append}
@@ -22,7 +22,7 @@ use Rattle.shr_reclaim.proofs.Reclaimed.{over_of, kept_of}
 use Rattle.shr_assemble.proofs.PutTries.{AreOps, ops_then, ops_try, ops_walks}
 use Rattle.shr_assemble.proofs.RoundingWalks.{RoundsSeen, RefusedAt, refused_at, round_there, due_is, groups_in, had_answers, tried_walked}
 use Rattle.shr_assemble.proofs.WalkingCharges.{GoesDown, rec_of}
-use Rattle.shr_assemble.proofs.WalkingChain.{IsThereJob, GaveAll, gave_all, visited_one, all_had}
+use Rattle.shr_assemble.proofs.WalkingChain.{IsThereJob, GaveAll, gave_all, visited_one, any_cut, all_had, uncut_then}
 use Rattle.shr_assemble.proofs.WalkingSteps.{Walked, walked_then}
 use Rattle.shr_assemble.proofs.WalkingTold.{IsTableOf}
 
@@ -82,6 +82,7 @@ module _ (x : Shared) (table : IsTableOf x) (by : Serial) (c : Command) (a : Ans
     pub jobs : map job_of work.walks ≡ rounds_from (parents_of x.script) x.script.nodes priority (groups_in x table by c a group inside rounds)
     pub above : AllByRecursion (λ h. IsAtOrAbove (parents_of x.script) h group) (groups_in x table by c a group inside rounds)
     pub at_last : RefusedAt x table group last
+    pub uncut : any_cut work.walks ≡ false
     pub ops : AreOps x by group (1 + length rounds) (groups_in x table by c a group inside rounds ++ over_of last) (kept_of x group last) work
     pub over : OverAtLast x by last work.ops
 
@@ -95,6 +96,7 @@ module _ (x : Shared) (table : IsTableOf x) (by : Serial) (c : Command) (a : Ans
     jobs = refl;
     above = tt;
     at_last = refused_at x table by group inside first try.ops try.made;
+    uncut = refl;
     ops = ops_try x table by group inside first try.ops try.made;
     over = over_tried x by group first try.ops try.made;
   })
@@ -114,6 +116,7 @@ module _ (x : Shared) (table : IsTableOf x) (by : Serial) (c : Command) (a : Ans
             ∙ (ap (λ n. round_of (parents_of x.script) x.script.nodes n k.over.group ++ map job_of later.work.walks) one.priority_is ∙ ap (λ l. round_of (parents_of x.script) x.script.nodes priority k.over.group ++ l) later.jobs));
         above = (at.0, later.above);
         at_last = later.at_last;
+        uncut = uncut_then all.work.walks later.work.walks had.uncut later.uncut;
         ops = let count : 1 + (0 + (1 + length ks)) ≡ 1 + length (k ∷ ks) = omega arith in subst (λ (n : ℕ). AreOps x by group n (k.over.group ∷ (groups_in x table by c a group inside ks ++ over_of last)) (kept_of x group last) (then_work (charge_work try.ops) (then_work all.work later.work))) count
             (ops_then x by group 1 (0 + (1 + length ks)) (k.over.group ∷ []) (groups_in x table by c a group inside ks ++ over_of last) (kept_of x group last) (charge_work try.ops) (then_work all.work later.work) mine
             (ops_then x by group 0 (1 + length ks) [] (groups_in x table by c a group inside ks ++ over_of last) (kept_of x group last) all.work later.work between later.ops));

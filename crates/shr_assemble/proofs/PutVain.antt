@@ -97,6 +97,7 @@ module _ (x : Shared) (table : IsTableOf x) (tables : AreTables x) (by : Serial)
           added = λ n. none_added_alone x table by group node decl key value inside a admission.Charged s h.puts.charged t h.puts.asks seen n;
           known = long;
           unmade = refl;
+          want = λ e. absurd (cc);
           unnoted = λ g e. absurd (cc);
           cause = record {
             decl = decl;
@@ -139,6 +140,7 @@ module _ (x : Shared) (table : IsTableOf x) (tables : AreTables x) (by : Serial)
           added = λ n. none_added_alone x table by group node decl key value inside a admission.Charged s h.puts.charged t h.puts.asks seen n;
           known = tt;
           unmade = refl;
+          want = λ e. absurd (cc);
           unnoted = λ g e. absurd (cc);
           cause = record {
             over = used.most;

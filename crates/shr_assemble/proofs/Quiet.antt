@@ -1,7 +1,7 @@
 -- The parts of what a command did that are empty: of one that makes no walk, no move, no charge, no entry of a journal.
 use Rattle.std.proofs.Common.{◌≡◌, ℕ, ◌<◌, ◌≤◌, pos, ◌-ℤ◌, Bool, true, false, cond, List, [], ◌∷◌, length, length-append, refl, sym, ap, subst, ◌∙◌, arith}
 use Rattle.std.specs.Prelude.{◌⊎◌, slice_get, Option, Some, None, option_and_then, map, flat_map, sum_by, All, AllPairs}
-use Rattle.std.specs.List.{AllByRecursion}
+use Rattle.std.specs.List.{AllByRecursion, list_any}
 use Rattle.std.specs.Option.{IsSomeAnd}
 use Rattle.std.proofs.lemmas.List.Elements.{All-nil}
 use Rattle.std.proofs.lemmas.Option.{none-some, same_Some}
@@ -19,7 +19,7 @@ use Rattle.shr_model.specs.Commands.{asks_online, jobs_of}
 use Rattle.shr_model.specs.Deferred.{sum_at}
 use Rattle.shr_model.specs.Charges.{ups, usage_after}
 use Rattle.shr_model.specs.Moves.{given_at, taken_at}
-use Rattle.shr_model.specs.Walks.{Job, job_of}
+use Rattle.shr_model.specs.Walks.{Job, job_of, is_cut}
 use Rattle.shr_deferred.specs.Moves.{takes_of, gives_of}
 use Rattle.shr_seats.specs.Views.{Each}
 use Rattle.shr_seats.specs.Weights.{Begins}
@@ -109,6 +109,8 @@ calm_asked s x (Some c) calm none = record {
   made = subst (λ (ws : List WalkRecord). MayMake x.answered.reply (jobs_of (parents_of s) s.nodes [] c) (map job_of ws)) (sym none)
       (subst (λ (js : List Job). MayMake x.answered.reply js []) (sym (calm_jobs (parents_of s) s.nodes c calm)) (none_made x.answered.reply));
   told = calm_told s x.work.walks c x.answered.reply calm;
+  cut = subst (AllPairs (λ (v w : WalkRecord). is_cut v.answer ≡ false)) (sym none) (λ i j d lt lj. absurd (omega (arith, lj)));
+  cut_told = λ e. absurd (let f : false ≡ true = ap (λ (ws : List WalkRecord). list_any (λ (w : WalkRecord). is_cut w.answer) ws) (sym none) ∙ e in cc);
 }
 
 -- a command that makes no walk

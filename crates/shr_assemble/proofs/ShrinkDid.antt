@@ -1,6 +1,6 @@
 -- A `shrink` did what the report asks.
-use Rattle.std.proofs.Common.{◌≡◌, ℕ, ◌<◌, inl, inr, ⊎_elim, Bool, List, [], ◌∷◌, length, map, take, sym, refl, ap, subst, ◌∙◌, arith}
-use Rattle.std.specs.Prelude.{slice_get, Option, Some}
+use Rattle.std.proofs.Common.{◌≡◌, ℕ, ◌<◌, inl, inr, ⊎_elim, Bool, List, [], ◌∷◌, length, map, take, sym, refl, ap, subst, ◌∙◌, arith, true, false}
+use Rattle.std.specs.Prelude.{slice_get, Option, Some, ◌||◌}
 use Rattle.std.proofs.lemmas.Option.{same_Some, none-some}
 use Rattle.shr_base.specs.declared.places.Serial.{Serial}
 use Rattle.shr_base.specs.declared.replies.Answered.{Answered}
@@ -11,7 +11,7 @@ use Rattle.shr_base.specs.declared.walks.WalkAnswer.{WalkAnswer}
 use Rattle.shr_base.specs.declared.walks.WalkAnswer.TheVariants as answered
 use Rattle.shr_base.specs.declared.walks.WalkRecord.{WalkRecord}
 use Rattle.shr_model.specs.Prefixes.{IsPrefixOf}
-use Rattle.shr_model.specs.Walks.{Job, job, job_of}
+use Rattle.shr_model.specs.Walks.{Job, job, job_of, is_cut}
 use Rattle.shr_charge.specs.Views as charge
 use Rattle.shr_charge.specs.declared.answers.GroupState.TheVariants as state
 use Rattle.shr_report.specs.Parts.{parents_of}
@@ -28,6 +28,7 @@ use Rattle.shr_assemble.proofs.WalkingTold.{IsTableOf}
 use Rattle.shr_assemble.proofs.WalkingGives.{one_seen, one_online, IsNoted, Gave, gave}
 use Rattle.shr_assemble.proofs.WalkingSteps.{Walked}
 use Rattle.shr_assemble.proofs.WalkingDid.{Stepping, walks_did}
+use Rattle.shr_assemble.proofs.WalkingChain.{FrontHad, front_had, front_pairs, one_front, any_cut}
 
 module _ (x : Shared) (table : IsTableOf x) (by : Serial) (group node priority : ℕ) (nofs : Bool) (s t : WorkerState) where
   walk_of : Walk
@@ -61,7 +62,7 @@ module _ (x : Shared) (table : IsTableOf x) (by : Serial) (group node priority :
       no_cite = refl;
       no_told = refl;
       no_made = refl;
-      asked = record { rounds = []; refused = refl; made = same_jobs (answered.Walked freed) g.work.walks n; told = told_one (answered.Walked freed) g.work.walks n };
+      asked = record { rounds = []; refused = refl; made = same_jobs (answered.Walked freed) g.work.walks n; told = told_one (answered.Walked freed) g.work.walks n; cut = front_pairs g.work.walks (one_front g.work.walks n.noted n.walks_are); cut_told = λ e. absurd (let f : false ≡ true = sym (ap any_cut n.walks_are ∙ ap (λ (z : WalkAnswer). is_cut z || false) n.answer_is) ∙ e in cc) };
       online = λ k e lt. let same = same_Some group k e in inr (subst (KnowsOnline s.tree) same (knew freed refl (omega (arith, lt, same))));
       meets = record { unmade = λ k e. absurd (cc); met = λ k e. absurd (none-some k e) };
       cause = tt;
@@ -77,7 +78,7 @@ module _ (x : Shared) (table : IsTableOf x) (by : Serial) (group node priority :
       no_cite = refl;
       no_told = refl;
       no_made = refl;
-      asked = record { rounds = []; refused = refl; made = same_jobs (answered.Offline entry) g.work.walks n; told = told_one (answered.Offline entry) g.work.walks n };
+      asked = record { rounds = []; refused = refl; made = same_jobs (answered.Offline entry) g.work.walks n; told = told_one (answered.Offline entry) g.work.walks n; cut = front_pairs g.work.walks (one_front g.work.walks n.noted n.walks_are); cut_told = λ e. absurd (let f : false ≡ true = sym (ap any_cut n.walks_are ∙ ap (λ (z : WalkAnswer). is_cut z || false) n.answer_is) ∙ e in cc) };
       online = λ k e lt. inl tt;
       meets = record { unmade = λ k e. absurd (cc); met = λ k e. absurd (none-some k e) };
       cause = record { group = group; met = refl; told = inl (offline_word entry g.work g.walked n) };
@@ -93,7 +94,7 @@ module _ (x : Shared) (table : IsTableOf x) (by : Serial) (group node priority :
       no_cite = refl;
       no_told = refl;
       no_made = refl;
-      asked = record { rounds = []; refused = refl; made = ⊎_elim (λ none. subst (λ (l : List WalkRecord). IsPrefixOf (map job_of l) (job group node priority nofs ∷ [])) (sym none.0) refl) (λ n. own_prefix g.work.walks (job group node priority nofs) (same_jobs (answered.Memory freed) g.work.walks n)) g.told; told = ⊎_elim (λ none. let is : freed ≡ 0 = let e = none.1 in cc in ap reply.WalkMemory is ∙ ap shrink_reply (sym none.0)) (λ n. told_one (answered.Memory freed) g.work.walks n) g.told };
+      asked = record { rounds = []; refused = refl; made = ⊎_elim (λ none. subst (λ (l : List WalkRecord). IsPrefixOf (map job_of l) (job group node priority nofs ∷ [])) (sym none.0) refl) (λ n. own_prefix g.work.walks (job group node priority nofs) (same_jobs (answered.Memory freed) g.work.walks n)) g.told; told = ⊎_elim (λ none. let is : freed ≡ 0 = let e = none.1 in cc in ap reply.WalkMemory is ∙ ap shrink_reply (sym none.0)) (λ n. told_one (answered.Memory freed) g.work.walks n) g.told; cut = front_pairs g.work.walks (⊎_elim (λ none. subst FrontHad (sym none.0) (front_had [] refl)) (λ n. one_front g.work.walks n.noted n.walks_are) g.told); cut_told = λ e. tt };
       online = λ k e lt. inl tt;
       meets = record { unmade = λ k e. absurd (cc); met = λ k e. absurd (none-some k e) };
       cause = tt;

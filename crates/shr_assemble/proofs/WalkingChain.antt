@@ -1,8 +1,8 @@
 -- Walks over jobs, one after another, each from where the one before it ended.
-use Rattle.std.proofs.Common.{◌≡◌, ℕ, suc, ◌+◌, ◌<◌, ◌⊎◌, inl, inr, ⊎_elim, Bool, true, false, ◌||◌, List, [], ◌∷◌, ◌++◌, length, length-append, map, sym, refl, ap, subst, ◌∙◌, arith, sum}
-use Rattle.std.specs.Prelude.{sum_by, Option}
+use Rattle.std.proofs.Common.{◌≡◌, ℕ, suc, ◌+◌, ◌<◌, ◌⊎◌, inl, inr, ⊎_elim, Bool, true, false, ◌||◌, List, [], ◌∷◌, ◌++◌, length, length-append, map, sym, refl, ap, subst, ◌∙◌, arith, sum, zero, get_or, append_assoc, ◌≤◌}
+use Rattle.std.specs.Prelude.{sum_by, Option, AllPairs}
 use Rattle.std.specs.List.{AllByRecursion, list_any}
-use Rattle.std.proofs.lemmas.List.{append-nil}
+use Rattle.std.proofs.lemmas.List.{append-nil, get_or_append_left}
 use Rattle.std.proofs.lemmas.List.Sums.{sum_by-cons, sum-map}
 use Rattle.std.proofs.lemmas.Grind.{flat_map-append}
 use Rattle.shr_base.specs.declared.objects.Object.{Object}
@@ -125,8 +125,63 @@ same_cut (answered.Memory freed) = refl
 abbrev pub told_by : List WalkRecord → ℕ
 told_by ws = sum_by (λ (w : WalkRecord). freed_told w.answer) ws
 
+none_first : (p q : Bool) → (p || q) ≡ false → p ≡ false
+none_first true q e = e
+none_first false q e = refl
+
+none_later : (p q : Bool) → (p || q) ≡ false → q ≡ false
+none_later true q e = absurd (let z : true ≡ false = e in cc)
+none_later false q e = e
+
 abbrev pub any_cut : List WalkRecord → Bool
 any_cut ws = list_any (λ (w : WalkRecord). is_cut w.answer) ws
+
+-- all but the last had memory
+pub record FrontHad (ws : List WalkRecord) : Type 0 where
+  pub front : List WalkRecord
+  pub rest : List WalkRecord
+  pub whole : ws ≡ front ++ rest
+  pub uncut : any_cut front ≡ false
+  pub few : length rest ≤ 1
+
+cut_both : (xs ys : List WalkRecord) → any_cut xs ≡ false → any_cut ys ≡ false → any_cut (xs ++ ys) ≡ false
+cut_both [] ys a b = b
+cut_both (x ∷ xs) ys a b = one (is_cut x.answer) (any_cut xs) a (λ rest. cut_both xs ys rest b)
+  where
+    one : (p q : Bool) → (p || q) ≡ false → (q ≡ false → any_cut (xs ++ ys) ≡ false) → (p || any_cut (xs ++ ys)) ≡ false
+    one true q e f = absurd (let z : true ≡ false = e in cc)
+    one false q e f = f e
+
+pub front_had : (ws : List WalkRecord) → any_cut ws ≡ false → FrontHad ws
+front_had ws e = record { front = ws; rest = []; whole = sym (append-nil ws); uncut = e; few = omega arith }
+
+pub uncut_then : (xs ys : List WalkRecord) → any_cut xs ≡ false → any_cut ys ≡ false → any_cut (xs ++ ys) ≡ false
+uncut_then xs ys a b = cut_both xs ys a b
+
+pub front_then : (xs ys : List WalkRecord) → any_cut xs ≡ false → FrontHad ys → FrontHad (xs ++ ys)
+front_then xs ys e h = record {
+  front = xs ++ h.front;
+  rest = h.rest;
+  whole = ap (λ (l : List WalkRecord). xs ++ l) h.whole ∙ sym (append_assoc xs h.front h.rest);
+  uncut = cut_both xs h.front e h.uncut;
+  few = h.few;
+}
+
+-- one walk alone
+pub one_front : (ws : List WalkRecord) (w : WalkRecord) → ws ≡ w ∷ [] → FrontHad ws
+one_front ws w e = record { front = []; rest = ws; whole = refl; uncut = refl; few = omega (arith, ap (λ (l : List WalkRecord). length l) e) }
+
+-- of two walks of which all but the last had memory the first had
+pub front_pairs : (ws : List WalkRecord) → FrontHad ws → AllPairs (λ (v w : WalkRecord). is_cut v.answer ≡ false) ws
+front_pairs ws h i j d lt lj =
+    let long = ap (λ (l : List WalkRecord). length l) h.whole in let parts = length-append h.front h.rest in let few = h.few in
+    subst (λ (l : List WalkRecord). is_cut (get_or l i d).answer ≡ false) (sym h.whole)
+    (subst (λ (w : WalkRecord). is_cut w.answer ≡ false) (sym (get_or_append_left h.front h.rest d i (omega (arith, lt, lj, long, parts, few)))) (uncut_at h.front h.uncut i d (omega (arith, lt, lj, long, parts, few))))
+  where
+    uncut_at : (l : List WalkRecord) → any_cut l ≡ false → (n : ℕ) (d : WalkRecord) → n < length l → is_cut (get_or l n d).answer ≡ false
+    uncut_at [] e n d less = absurd (omega (arith, less))
+    uncut_at (x ∷ l) e zero d less = none_first (is_cut x.answer) (any_cut l) e
+    uncut_at (x ∷ l) e (suc n) d less = uncut_at l (none_later (is_cut x.answer) (any_cut l) e) n d (omega (arith, less))
 
 -- where each walk had memory, each left its record
 pub record AllHad (jobs : List Job) (answers : List WalkAnswer) (ws : List WalkRecord) : Type 0 where
@@ -154,6 +209,7 @@ all_had (j ∷ js) answers ws (a, rest, first, later, e, d, how, more) h =
 
 -- where the last one alone lacked memory, it may have left none
 pub record AllCut (jobs : List Job) (answers : List WalkAnswer) (ws : List WalkRecord) : Type 0 where
+  pub front : FrontHad ws
   pub begins : Begins (map job_of ws) jobs
   pub sum_told : told_by ws ≡ sum (map balances.freed_told answers)
   pub short : (length ws < length jobs) ⊎ (any_cut ws ≡ true)
@@ -162,8 +218,9 @@ or_true : (a b : Bool) → b ≡ true → (a || b) ≡ true
 or_true true b h = refl
 or_true false b h = h
 
-cut_more : (j : Job) (js : List Job) (a : WalkAnswer) (rest : List WalkAnswer) (r : WalkRecord) (later : List WalkRecord) → job_of r ≡ j → r.answer ≡ a → AllCut js rest later → AllCut (j ∷ js) (a ∷ rest) (r ∷ later)
-cut_more j js a rest r later is answer h = record {
+cut_more : (j : Job) (js : List Job) (a : WalkAnswer) (rest : List WalkAnswer) (r : WalkRecord) (later : List WalkRecord) → job_of r ≡ j → r.answer ≡ a → lacked_memory a ≡ false → AllCut js rest later → AllCut (j ∷ js) (a ∷ rest) (r ∷ later)
+cut_more j js a rest r later is answer had h = record {
+  front = front_then (r ∷ []) later (ap (λ b. b || false) (ap is_cut answer ∙ (same_cut a ∙ had))) h.front;
   begins = (h.begins.0, ap (λ l. j ∷ l) h.begins.1 ∙ ap (λ k. k ∷ (map job_of later ++ h.begins.0)) (sym is));
   sum_told = let e = sum_by-cons (λ (w : WalkRecord). freed_told w.answer) r later in let d = ap freed_told answer ∙ same_told a in let f = h.sum_told in omega (arith, e, d, f, sum_cons a rest);
   short = ⊎_elim (λ lt. inl (omega (arith, lt))) (λ cut. inr (or_true (is_cut r.answer) (any_cut later) cut)) h.short;
@@ -172,11 +229,13 @@ cut_more j js a rest r later is answer h = record {
 -- the last job, with its answer
 cut_last : (j : Job) (last : WalkAnswer) (ws : List WalkRecord) → lacked_memory last ≡ true → ((ws ≡ []) × (last ≡ answered.Memory 0)) ⊎ ((r : WalkRecord) × (ws ≡ r ∷ []) × (job_of r ≡ j) × (r.answer ≡ last)) → AllCut (j ∷ []) (last ∷ []) ws
 cut_last j last ws lacked (inl (e, d)) = subst (AllCut (j ∷ []) (last ∷ [])) (sym e) record {
+  front = front_had [] refl;
   begins = (j ∷ [], refl);
   sum_told = let f = ap balances.freed_told d in let s = sum_cons last [] in let z : 0 ≡ sum (map balances.freed_told (last ∷ [])) = omega (arith, f, s) in z;
   short = inl (omega arith);
 }
 cut_last j last ws lacked (inr (r, e, is, answer)) = subst (AllCut (j ∷ []) (last ∷ [])) (sym e) record {
+  front = record { front = []; rest = r ∷ []; whole = refl; uncut = refl; few = omega arith };
   begins = ([], ap (λ k. k ∷ []) (sym is));
   sum_told = let f = sum_by-cons (λ (w : WalkRecord). freed_told w.answer) r [] in let s = sum_cons last [] in let d = ap freed_told answer ∙ same_told last in omega (arith, f, s, d);
   short = inr (ap (λ b. b || false) (ap is_cut answer ∙ (same_cut last ∙ lacked)));
@@ -193,4 +252,4 @@ all_cut (j ∷ js) (b ∷ front) last ws (a, rest, first, later, e, d, how, more
     let same : b ≡ a = cc in let rest_is : front ++ last ∷ [] ≡ rest = cc in
     let then = all_cut js front last later (subst (λ l. AllNoted js l later) (sym rest_is) more) h.1 lacked in
     subst (AllCut (j ∷ js) (b ∷ (front ++ last ∷ []))) (sym d)
-    (⊎_elim (λ none. absurd (not_lacked b (same ∙ none.1) h.0)) (λ r. subst (λ l. AllCut (j ∷ js) (b ∷ (front ++ last ∷ [])) (l ++ later)) (sym r.1) (cut_more j js b (front ++ last ∷ []) r.0 later r.2 (r.3 ∙ sym same) then)) how)
+    (⊎_elim (λ none. absurd (not_lacked b (same ∙ none.1) h.0)) (λ r. subst (λ l. AllCut (j ∷ js) (b ∷ (front ++ last ∷ [])) (l ++ later)) (sym r.1) (cut_more j js b (front ++ last ∷ []) r.0 later r.2 (r.3 ∙ sym same) h.0 then)) how)

@@ -1,6 +1,6 @@
 -- The walks of a command.
-use Rattle.std.specs.Prelude.{◌≡◌, ◌≢◌, ℕ, ◌+◌, ◌<◌, ◌≤◌, true, false, ◌==◌, List, [], length, map, flat_map, count_by, slice_get, Option, Some, None}
-use Rattle.std.specs.List.{AllByRecursion, range_with_len}
+use Rattle.std.specs.Prelude.{◌≡◌, ◌≢◌, ℕ, ◌+◌, ◌<◌, ◌≤◌, true, false, ◌==◌, List, [], length, map, flat_map, count_by, slice_get, Option, Some, None, AllPairs}
+use Rattle.std.specs.List.{AllByRecursion, range_with_len, list_any}
 use Rattle.shr_base.specs.declared.replies.Reply.TheVariants as reply
 use Rattle.shr_base.specs.declared.scripts.Command.{Command}
 use Rattle.shr_base.specs.declared.scripts.Command.TheVariants.{Put}
@@ -28,6 +28,7 @@ use Rattle.shr_walk.specs.Fresh.{AreFresh}
 use Rattle.shr_report.specs.Parts.{parents_of, limit_of, first_isolation, EachAttempt}
 use Rattle.shr_report.specs.LawfulWalk.{IsBegun, IsLastOfCut, IsPlaced}
 use Rattle.shr_report.specs.Swept.{IsSweepWalk}
+use Rattle.shr_report.specs.Cuts.{IsWant}
 use Rattle.shr_report.specs.WalksLawful.{over_at, MayMake, IsToldBy}
 use Rattle.shr_report.specs.WellFormed.{IsWalkWell}
 use Rattle.shr_assemble.specs.Steps.{Step, IsAmong}
@@ -93,6 +94,9 @@ pub record DidJobs (s : Script) (x : Step) (c : Command) : Type 0 where
   pub refused : DidRoundsOf s x rounds c
   pub made : MayMake x.answered.reply (jobs_of (parents_of s) s.nodes rounds c) (map job_of x.work.walks)
   pub told : IsToldBy s x.work.walks c x.answered.reply
+  -- only the last of them ended for want of memory, and then so did the command
+  pub cut : AllPairs (λ (v w : WalkRecord). is_cut v.answer ≡ false) x.work.walks
+  pub cut_told : list_any (λ (w : WalkRecord). is_cut w.answer) x.work.walks ≡ true → IsWant x.answered.reply
 
 -- the walks are those of a helper of the script's sweep, and its answer is theirs
 pub record DidSweep (s : Script) (x : Step) : Type 0 where

@@ -17,6 +17,7 @@ use Rattle.shr_report.specs.Causes.{IsMadeBy}
 use Rattle.shr_report.specs.Parts.{serial_of, reply_at, lookups_at}
 use Rattle.shr_report.specs.Freshness.{of_answer, shows_offline}
 use Rattle.shr_report.specs.Faithful.{pool_reached, tree_reached, tree_made, AreNotAbove, IsOverOnPath, IsFaithful}
+use Rattle.shr_report.proofs.CutsValues.{are_told}
 use Rattle.shr_report.proofs.EntryOrderValues as entries
 use Rattle.shr_report.proofs.LookupOrderValues.{none_made, in_order}
 use Rattle.shr_report.proofs.SecondCases.{AllAt, each_at, each_answer, each_walk}
@@ -102,6 +103,7 @@ faithful = record {
   carried = tt;
   lookups = in_order;
   entries = entries.in_order;
+  cuts = are_told;
 }
 
 -- reports that are not

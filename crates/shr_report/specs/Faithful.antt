@@ -21,6 +21,7 @@ use Rattle.shr_report.specs.declared.report.Report.{Report}
 use Rattle.shr_report.specs.Parts.{parents_of, decls_on, serial_of, reply_at, lookups_at, all_carries, EachAnswer, EachWalk}
 use Rattle.shr_report.specs.Freshness.{pool_seen, pool_made, of_answer, shows_offline}
 use Rattle.shr_report.specs.Causes.{IsMadeBy}
+use Rattle.shr_report.specs.Cuts.{AreCutsTold}
 use Rattle.shr_report.specs.EntryOrder.{AreEntriesInOrder}
 use Rattle.shr_report.specs.LookupOrder.{made_by, AreLookupsInOrder}
 
@@ -85,3 +86,5 @@ pub record IsFaithful (s : Script) (r : Report) : Type 0 where
   pub lookups : AreLookupsInOrder r
   -- what a worker did at a list stands in the order of its commands
   pub entries : AreEntriesInOrder r
+  -- a walk that memory cut short ended its command
+  pub cuts : AreCutsTold s r

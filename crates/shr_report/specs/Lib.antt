@@ -28,6 +28,7 @@ pub mod Isolated
 pub mod Swept
 pub mod CausesLawful
 pub mod Lawful
+pub mod Cuts
 pub mod LookupOrder
 pub mod EntryOrder
 pub mod Faithful

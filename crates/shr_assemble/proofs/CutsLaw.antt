@@ -1,0 +1,29 @@
+-- A walk that memory cut short ended its command, of a run.
+use Rattle.std.proofs.Common.{◌≡◌, false, List, ap, sym, subst, ◌∙◌}
+use Rattle.std.specs.Prelude.{AllPairs}
+use Rattle.std.specs.List.{list_any}
+use Rattle.shr_base.specs.declared.places.Serial.{Serial}
+use Rattle.shr_base.specs.declared.replies.Answered.{Answered}
+use Rattle.shr_base.specs.declared.scripts.Command.{Command}
+use Rattle.shr_base.specs.declared.scripts.Script.{Script}
+use Rattle.shr_base.specs.declared.walks.WalkRecord.{WalkRecord}
+use Rattle.shr_model.specs.Walks.{is_cut}
+use Rattle.shr_report.specs.declared.report.Report.{Report}
+use Rattle.shr_report.specs.Cuts.{IsWant, AreCutsTold}
+use Rattle.shr_assemble.specs.Steps.{Step}
+use Rattle.shr_assemble.specs.Runs.{IsRun}
+use Rattle.shr_assemble.specs.Walks.{DidJobs, AreWalksFor}
+use Rattle.shr_assemble.proofs.Making.{Stepped, stepped}
+use Rattle.shr_assemble.proofs.WalksLaw.{walks_are}
+
+module _ (s : Script) (r : Report) (workers : List (List Step)) (run : IsRun s r workers) where
+  jobs : (by : Serial) (c : Command) (a : Answered) (t : Stepped s r workers run by c a) → DidJobs s t.step c
+  jobs by c a t = subst (AreWalksFor s t.step) t.command t.did.walks.asked
+
+  pub cuts_told : AreCutsTold s r
+  cuts_told = record {
+    last = λ by c a command answer. let t = stepped s r workers run by c a command answer in
+        subst (AllPairs (λ (v w : WalkRecord). is_cut v.answer ≡ false)) (sym (walks_are s r workers run by.worker by.command t.step t.at)) (jobs by c a t).cut;
+    told = λ by c a command answer cut. let t = stepped s r workers run by c a command answer in
+        subst (λ (z : Answered). IsWant z.reply) t.answered ((jobs by c a t).cut_told (ap (λ (ws : List WalkRecord). list_any (λ (w : WalkRecord). is_cut w.answer) ws) (sym (walks_are s r workers run by.worker by.command t.step t.at)) ∙ cut));
+  }
