@@ -4,7 +4,9 @@ ghost use Rattle.std.specs.Prelude.{◌≡◌, ℕ, ◌↔◌, List, Some, optio
 ghost use Rattle.std.specs.Bool.{Decides};
 ghost use Rattle.shr_base.specs.declared.journals.Entry.{Entry};
 ghost use Rattle.shr_base.specs.declared.journals.Entry.TheVariants.{Add, Drop, Look, Pin};
-ghost use Rattle.shr_base.specs.declared.scripts.Command.TheVariants.{Del, Get, Put, SetPin};
+ghost use Rattle.shr_base.specs.declared.places.Serial.{Serial};
+ghost use Rattle.shr_base.specs.declared.scripts.Command.TheVariants.{Del, Get, Isolate, Put, SetPin};
+ghost use Rattle.shr_model.specs.Families.{Family};
 ghost use Rattle.shr_case.specs.Places.{AreInOrder};
 ghost use Rattle.shr_report.specs.Parts.{journals_of, serial_of};
 ghost use Rattle.shr_report.specs.ReplyTable.{Cites, IsReply};
@@ -152,6 +154,18 @@ fn pin_held(report: &Report, tenant: Tenant, key: &Text, pinned: bool, reply: &R
     }
 }
 
+// The same of an isolation, which cites nothing.
+fn isolate_held(reply: &Reply) -> bool
+    ensures { (parents : List ℕ) (family : Family) (by : Serial)
+        (group node decl budget id : ℕ) → Decides result (IsReply parents family by
+        (Isolate group node decl budget) (Some id) reply.now) }
+{
+    match reply {
+        Reply::Isolated { .. } => true,
+        _ => false,
+    }
+}
+
 /// Whether a command may have this reply where the cache with this id was found, whatever value a
 /// hit lends. Our own.
 pub fn may_held(
@@ -239,6 +253,7 @@ pub fn may_held(
             *pinned,
             reply,
         ),
+        Command::Isolate { .. } => isolate_held(reply),
         _ => false,
     }
 }

@@ -204,6 +204,23 @@ fn grab_unheld(reply: &Reply) -> bool
     }
 }
 
+fn isolate_unheld(reply: &Reply) -> bool
+    ensures { (parents : List ℕ) (family : Family) (by : Serial) (group node decl budget : ℕ)
+        → Decides result (IsReply parents family by
+        (Isolate group node decl budget) None reply.now) }
+{
+    match reply {
+        Reply::Offline { .. } => true,
+        Reply::NotMade { .. } => true,
+        Reply::NoCache { .. } => true,
+        Reply::Worn {
+            spent: Spent::Lookups { .. },
+        } => true,
+        Reply::Memory => true,
+        _ => false,
+    }
+}
+
 /// Whether a command may have this reply where no cache was found. Our own.
 pub fn may_unheld(command: &Command, reply: &Reply) -> bool
     ensures { (parents : List ℕ) (family : Family) (by : Serial)
@@ -220,7 +237,7 @@ pub fn may_unheld(command: &Command, reply: &Reply) -> bool
         Command::MkGroup { .. } => mkgroup_unheld(reply),
         Command::Register { .. } => register_unheld(reply),
         Command::Unregister { .. } => unregister_unheld(reply),
-        Command::Isolate { .. } => false,
+        Command::Isolate { .. } => isolate_unheld(reply),
         Command::Release { .. } => release_unheld(reply),
         Command::Grab { .. } => grab_unheld(reply),
     }

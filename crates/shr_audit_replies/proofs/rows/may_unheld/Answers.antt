@@ -35,3 +35,6 @@ returns-in-Release c = λ parents family by. rw c.in-Release.is (c.release_unhel
 
 pub returns-in-Grab : goal.returns-in-Grab
 returns-in-Grab c = λ parents family by. rw c.in-Grab.is (c.grab_unheld.ensures parents family by c.in-Grab.node c.in-Grab.pool)
+
+pub returns-in-Isolate : goal.returns-in-Isolate
+returns-in-Isolate c = λ parents family by. rw c.in-Isolate.is (c.isolate_unheld.ensures parents family by c.in-Isolate.group c.in-Isolate.node c.in-Isolate.decl c.in-Isolate.budget)
