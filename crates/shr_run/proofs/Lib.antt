@@ -1,5 +1,3 @@
 pub mod Splitting
 pub mod Parting
-pub mod Passing
-pub mod Swept
 pub mod Ending

@@ -1,4 +1,3 @@
 pub mod Tasks
 pub mod Joins
-pub mod Sweeps
 pub mod Made
