@@ -2,7 +2,11 @@
 use Rattle.std.proofs.Common.{◌≡◌, ℕ, zero, suc, ◌<◌, List, [], ◌∷◌, ◌++◌, length, sym, refl, ap, subst, ◌∙◌, arith}
 use Rattle.std.specs.Prelude.{slice_get, Some, flat_map}
 use Rattle.std.proofs.lemmas.Option.{same_Some, none-some, slice_get_within}
+use Rattle.std.specs.List.{AllByRecursion}
+use Rattle.shr_base.specs.declared.scripts.Sweep.{Sweep}
 use Rattle.shr_core.specs.declared.view.View.{View}
+use Rattle.shr_pool.specs.declared.items.SweepItem.{SweepItem}
+use Rattle.shr_report.specs.Parts.{sweeps_of}
 use Rattle.shr_walk.specs.declared.seats.Shared.{Shared}
 use Rattle.shr_walk.specs.Sharing.{IsShared}
 use Rattle.shr_walk.specs.State.{WorkerState}
@@ -10,8 +14,8 @@ use Rattle.shr_worker.specs.Chain.{CrewState, commands_of, serial_of}
 use Rattle.shr_assemble.specs.declared.logs.WorkerLog.{WorkerLog}
 use Rattle.shr_assemble.specs.Steps.{Step, gathered, Brings}
 use Rattle.shr_assemble.specs.Ends.{new_worker, HasWorked}
-use Rattle.shr_assemble.proofs.Fit.{fit_new}
-use Rattle.shr_assemble.proofs.Rows.{IsRow, DidEach, row_of, along}
+use Rattle.shr_assemble.proofs.Rows.{DidEach, IsThereItem, along}
+use Rattle.shr_assemble.proofs.SweptRows.{IsWorkerRow, worker_row}
 
 -- an element of a list by its number
 pub there_at : {A : Type 0} (xs : List A) (i : ℕ) → i < length xs → (x : A) × (slice_get xs i ≡ Some x)
@@ -43,25 +47,27 @@ flat_pairs g f (x ∷ xs) [] same each = absurd (omega (arith, same))
 flat_pairs g f (x ∷ xs) (y ∷ ys) same each = ap (λ l. l ++ flat_map g xs) (each 0 x y refl refl) ∙ ap (λ l. f y ++ l) (flat_pairs g f xs ys (omega (arith, same)) (λ i v w. each (suc i) v w))
 
 -- the steps of each worker lead from the first state to its last
-pub record IsCrew (x : Shared) (opened : View) (logs : List WorkerLog) (lasts : List CrewState) (workers : List (List Step)) : Type 0 where
+pub record IsCrew (x : Shared) (opened : View) (popped : ℕ → List SweepItem) (logs : List WorkerLog) (lasts : List CrewState) (workers : List (List Step)) : Type 0 where
   pub lasts_are : length lasts ≡ length logs
   pub workers_are : length workers ≡ length logs
   pub each : (i : ℕ) (log : WorkerLog) (last : CrewState) (mine : List Step) → slice_get logs i ≡ Some log → slice_get lasts i ≡ Some last → slice_get workers i ≡ Some mine
-      → IsRow x.script (serial_of i) (commands_of x.script i) log.answers.items (new_worker opened i) last mine
+      → IsWorkerRow x.script (serial_of i) (commands_of x.script i) (sweeps_of x.script i) (popped i) log.answers.items (new_worker opened i) last mine
 
-pub crew : (x : Shared) → IsShared x → DidEach x → (opened : View) (logs : List WorkerLog) (lasts : List CrewState) → length lasts ≡ length logs
-    → ((i : ℕ) (log : WorkerLog) (last : CrewState) → slice_get logs i ≡ Some log → slice_get lasts i ≡ Some last → HasWorked x opened i log last)
-    → (workers : List (List Step)) × IsCrew x opened logs lasts workers
-crew x shared did opened logs lasts same worked =
-    let t = choose (λ (i : ℕ) (log : WorkerLog) (last : CrewState) (mine : List Step). IsRow x.script (serial_of i) (commands_of x.script i) log.answers.items (new_worker opened i) last mine) logs lasts same
-    (λ i log last at_log at_last. let h = worked i log last at_log at_last in row_of x shared did i log.answers.items (new_worker opened i) last (fit_new opened i) h.all h.work) in
+pub crew : (x : Shared) → IsShared x → DidEach x → (opened : View) (popped : ℕ → List SweepItem) (logs : List WorkerLog) (lasts : List CrewState) → length lasts ≡ length logs → length logs ≡ length x.script.workers.items
+    → ((i : ℕ) → i < length logs → (z : Sweep) → x.script.sweep ≡ Some z → AllByRecursion (IsThereItem x.script) (popped i))
+    → ((i : ℕ) (log : WorkerLog) (last : CrewState) → slice_get logs i ≡ Some log → slice_get lasts i ≡ Some last → HasWorked x opened i log (popped i) last)
+    → (workers : List (List Step)) × IsCrew x opened popped logs lasts workers
+crew x shared did opened popped logs lasts same all there worked =
+    let t = choose (λ (i : ℕ) (log : WorkerLog) (last : CrewState) (mine : List Step).
+    IsWorkerRow x.script (serial_of i) (commands_of x.script i) (sweeps_of x.script i) (popped i) log.answers.items (new_worker opened i) last mine) logs lasts same
+    (λ i log last at_log at_last. let lt = slice_get_within logs i log at_log in worker_row x shared did opened i log (popped i) last (omega (arith, lt, all)) (there i lt) (worked i log last at_log at_last)) in
     (t.0, record { lasts_are = same; workers_are = t.1; each = t.2 })
 
 -- what the last states have of a list that each step makes longer, and that is empty at the start, the steps have
 pub all_of : {A : Type 0} (g : WorkerState → List A) (h : Step → List A) → ((x : Step) → Brings x.before x.after x.work → g x.after ≡ g x.before ++ h x)
-    → (x : Shared) (opened : View) (logs : List WorkerLog) (lasts : List CrewState) (workers : List (List Step)) → ((i : ℕ) → g (new_worker opened i).seats ≡ []) → IsCrew x opened logs lasts workers
+    → (x : Shared) (opened : View) (popped : ℕ → List SweepItem) (logs : List WorkerLog) (lasts : List CrewState) (workers : List (List Step)) → ((i : ℕ) → g (new_worker opened i).seats ≡ []) → IsCrew x opened popped logs lasts workers
     → flat_map (λ (w : CrewState). g w.seats) lasts ≡ gathered h workers
-all_of g h one x opened logs lasts workers none crew = flat_pairs (λ (w : CrewState). g w.seats) (λ (mine : List Step). flat_map h mine) lasts workers (crew.workers_are ∙ sym crew.lasts_are)
+all_of g h one x opened popped logs lasts workers none crew = flat_pairs (λ (w : CrewState). g w.seats) (λ (mine : List Step). flat_map h mine) lasts workers (crew.workers_are ∙ sym crew.lasts_are)
     (λ i last mine at_last at_mine.
     let log = there_at logs i (omega (arith, crew.lasts_are, slice_get_within lasts i last at_last)) in
     let r = crew.each i log.0 last mine log.1 at_last at_mine in

@@ -1,4 +1,4 @@
--- Each command's clause gives what it did.
+-- Each command's clause gives what it did, and that of a helper what it did for the sweep.
 use Rattle.std.proofs.Common.{◌≡◌, ℕ, List, [], ◌++◌, sym, refl, ap, ◌∙◌}
 use Rattle.std.specs.Prelude.{Some, slice_get}
 use Rattle.std.proofs.lemmas.List.{append-nil}
@@ -10,11 +10,12 @@ use Rattle.shr_base.specs.declared.scripts.Command.TheVariants.{Put, Get, Del, S
 use Rattle.shr_base.specs.declared.scripts.Script.{Script}
 use Rattle.shr_base.specs.declared.walks.Isolation.{Isolation}
 use Rattle.shr_walk.specs.declared.seats.Shared.{Shared}
-use Rattle.shr_script.specs.Bounds.{IsIsolationWithin}
+use Rattle.shr_script.specs.Bounds.{IsCommandWithin, IsIsolationWithin}
 use Rattle.shr_script.specs.Content.{content_of}
 use Rattle.shr_report.specs.Isolated.{isolations_told}
 use Rattle.shr_worker.specs.Chain.{CrewState, DeedGives}
 use Rattle.shr_worker.proofs.Pooled.{isolate_there}
+use Rattle.shr_assemble.proofs.Fit.{IsFit}
 use Rattle.shr_assemble.proofs.BalanceDid.{balance_did}
 use Rattle.shr_assemble.proofs.DelDid.{del_did}
 use Rattle.shr_assemble.proofs.GetDid.{get_did}
@@ -30,6 +31,7 @@ use Rattle.shr_assemble.proofs.QuietTenant.{group_in}
 use Rattle.shr_assemble.proofs.RegisterDid.{register_did}
 use Rattle.shr_assemble.proofs.Rows.{Worked, DidEach}
 use Rattle.shr_assemble.proofs.ShrinkDid.{shrink_did}
+use Rattle.shr_assemble.proofs.SweepDid.{sweep_did}
 use Rattle.shr_assemble.proofs.UnregisterDid.{unregister_did}
 use Rattle.shr_assemble.proofs.WalkingDid.{Stepping}
 use Rattle.shr_assemble.proofs.WalkingTold.{IsTableOf}
@@ -56,17 +58,21 @@ isolated x tables by group node decl budget a t u within g =
 tables_of : (x : Shared) → IsTableOf x → AreTables x
 tables_of x table = record { shared = table.shared; most_items = table.most_items; most_entries = table.most_entries }
 
+each_command : (x : Shared) → IsTableOf x → (by : Serial) (c : Command) (a : Answered) (t u : CrewState) → IsCommandWithin (content_of x.script) c → IsFit t.seats → DeedGives x by c a t u
+    → Worked x.script by c a t u
+each_command x table by (Put group node decl key value) a t u within fit g = worked x.script by (Put group node decl key value) a t u refl g.recorded (put_did x table by group node decl key value within.0 a t.seats u.seats fit.rising g.seats)
+each_command x table by (Get group node decl key) a t u within fit g = worked x.script by (Get group node decl key) a t u refl g.recorded (get_did x (tables_of x table) by group node decl key within a t.seats u.seats g.seats)
+each_command x table by (Del group node decl key) a t u within fit g = worked x.script by (Del group node decl key) a t u refl g.recorded (del_did x (tables_of x table) by group node decl key within a t.seats u.seats g.seats)
+each_command x table by (SetPin group node decl key pinned) a t u within fit g = worked x.script by (SetPin group node decl key pinned) a t u refl g.recorded (pin_did x (tables_of x table) by group node decl key pinned within a t.seats u.seats g.seats)
+each_command x table by (Shrink group node priority nofs) a t u within fit g = walked x by (Shrink group node priority nofs) a t u refl g.recorded (shrink_did x table by group node priority nofs t.seats u.seats a within.1.on_node (group_in x group within.0) g.seats)
+each_command x table by (Balance node priority nofs) a t u within fit g = walked x by (Balance node priority nofs) a t u refl g.recorded (balance_did x table by node priority nofs t.seats u.seats a within.on_node g.seats)
+each_command x table by (Offline group) a t u within fit g = worked x.script by (Offline group) a t u refl g.recorded (offline_did x (tables_of x table) by group t.seats u.seats fit.home a g.seats)
+each_command x table by (Register decl) a t u within fit g = worked x.script by (Register decl) a t u refl g.recorded (register_did x (tables_of x table) by decl a t.seats u.seats g.seats)
+each_command x table by (Unregister decl) a t u within fit g = worked x.script by (Unregister decl) a t u refl g.recorded (unregister_did x (tables_of x table) by decl a t.seats u.seats g.seats)
+each_command x table by (MkGroup group) a t u within fit g = worked x.script by (MkGroup group) a t u refl g.recorded (mkgroup_did x (tables_of x table) by group t.seats u.seats fit.home a g.seats)
+each_command x table by (Release node pool n) a t u within fit g = worked x.script by (Release node pool n) a t u refl g.recorded (release_did x by node pool n a t u g)
+each_command x table by (Grab node pool) a t u within fit g = worked x.script by (Grab node pool) a t u refl g.recorded (grab_did x by node pool a t u g)
+each_command x table by (Isolate group node decl budget) a t u within fit g = isolated x (tables_of x table) by group node decl budget a t u (isolate_there (content_of x.script) group node decl budget within) g
+
 pub did_each : (x : Shared) → IsTableOf x → DidEach x
-did_each x table by (Put group node decl key value) a t u within fit g = worked x.script by (Put group node decl key value) a t u refl g.recorded (put_did x table by group node decl key value within.0 a t.seats u.seats fit.rising g.seats)
-did_each x table by (Get group node decl key) a t u within fit g = worked x.script by (Get group node decl key) a t u refl g.recorded (get_did x (tables_of x table) by group node decl key within a t.seats u.seats g.seats)
-did_each x table by (Del group node decl key) a t u within fit g = worked x.script by (Del group node decl key) a t u refl g.recorded (del_did x (tables_of x table) by group node decl key within a t.seats u.seats g.seats)
-did_each x table by (SetPin group node decl key pinned) a t u within fit g = worked x.script by (SetPin group node decl key pinned) a t u refl g.recorded (pin_did x (tables_of x table) by group node decl key pinned within a t.seats u.seats g.seats)
-did_each x table by (Shrink group node priority nofs) a t u within fit g = walked x by (Shrink group node priority nofs) a t u refl g.recorded (shrink_did x table by group node priority nofs t.seats u.seats a within.1.on_node (group_in x group within.0) g.seats)
-did_each x table by (Balance node priority nofs) a t u within fit g = walked x by (Balance node priority nofs) a t u refl g.recorded (balance_did x table by node priority nofs t.seats u.seats a within.on_node g.seats)
-did_each x table by (Offline group) a t u within fit g = worked x.script by (Offline group) a t u refl g.recorded (offline_did x (tables_of x table) by group t.seats u.seats fit.home a g.seats)
-did_each x table by (Register decl) a t u within fit g = worked x.script by (Register decl) a t u refl g.recorded (register_did x (tables_of x table) by decl a t.seats u.seats g.seats)
-did_each x table by (Unregister decl) a t u within fit g = worked x.script by (Unregister decl) a t u refl g.recorded (unregister_did x (tables_of x table) by decl a t.seats u.seats g.seats)
-did_each x table by (MkGroup group) a t u within fit g = worked x.script by (MkGroup group) a t u refl g.recorded (mkgroup_did x (tables_of x table) by group t.seats u.seats fit.home a g.seats)
-did_each x table by (Release node pool n) a t u within fit g = worked x.script by (Release node pool n) a t u refl g.recorded (release_did x by node pool n a t u g)
-did_each x table by (Grab node pool) a t u within fit g = worked x.script by (Grab node pool) a t u refl g.recorded (grab_did x by node pool a t u g)
-did_each x table by (Isolate group node decl budget) a t u within fit g = isolated x (tables_of x table) by group node decl budget a t u (isolate_there (content_of x.script) group node decl budget within) g
+did_each x table = record { command = each_command x table; sweep = sweep_did x table }

@@ -41,35 +41,35 @@ module _ (x : Shared) (did : DidEach x) (logs : List WorkerLog) (e : Ends) (ends
 
   pub made_are : last.core.traces.made ≡ all_made (workers x did logs e ends r made)
   made_are = joined_made start ends.lasts ∙ (ap (λ (l : List Made). l ++ flat_map (λ (w : CrewState). w.seats.core.traces.made) ends.lasts) fresh.made
-      ∙ all_of {A = Made} (λ (w : WorkerState). w.core.traces.made) (λ (y : Step). y.work.core.made) (λ y d. d.core.made) x ends.opened logs ends.lasts mine (λ i. refl) (is_crew x did logs e ends r made))
+      ∙ all_of {A = Made} (λ (w : WorkerState). w.core.traces.made) (λ (y : Step). y.work.core.made) (λ y d. d.core.made) x ends.opened ends.popped logs ends.lasts mine (λ i. refl) (is_crew x did logs e ends r made))
 
   pub cleared_are : last.core.marks.cleared ≡ all_cleared (workers x did logs e ends r made)
   cleared_are = joined_cleared start ends.lasts ∙ (ap (λ (l : List ℕ). l ++ flat_map (λ (w : CrewState). w.seats.core.marks.cleared) ends.lasts) fresh.cleared
-      ∙ all_of {A = ℕ} (λ (w : WorkerState). w.core.marks.cleared) (λ (y : Step). y.work.core.cleared) (λ y d. d.core.cleared) x ends.opened logs ends.lasts mine (λ i. refl) (is_crew x did logs e ends r made))
+      ∙ all_of {A = ℕ} (λ (w : WorkerState). w.core.marks.cleared) (λ (y : Step). y.work.core.cleared) (λ y d. d.core.cleared) x ends.opened ends.popped logs ends.lasts mine (λ i. refl) (is_crew x did logs e ends r made))
 
   pub attempts_are : last.core.claims.attempts ≡ all_attempts (workers x did logs e ends r made)
   attempts_are = joined_attempts start ends.lasts ∙ (ap (λ (l : List Tried). l ++ flat_map (λ (w : CrewState). w.seats.core.claims.attempts) ends.lasts) fresh.attempts
-      ∙ all_of {A = Tried} (λ (w : WorkerState). w.core.claims.attempts) (λ (y : Step). y.work.core.attempts) (λ y d. d.core.attempts) x ends.opened logs ends.lasts mine (λ i. refl) (is_crew x did logs e ends r made))
+      ∙ all_of {A = Tried} (λ (w : WorkerState). w.core.claims.attempts) (λ (y : Step). y.work.core.attempts) (λ y d. d.core.attempts) x ends.opened ends.popped logs ends.lasts mine (λ i. refl) (is_crew x did logs e ends r made))
 
   pub turns_are : last.core.turns.made ≡ ends.opened.turns.made ++ all_turns (workers x did logs e ends r made)
   turns_are = joined_turns start ends.lasts ∙ ap (λ (l : List Turn). ends.opened.turns.made ++ l)
-      (all_of {A = Turn} (λ (w : WorkerState). w.core.turns.made) (λ (y : Step). y.work.core.turns) (λ y d. d.core.turned) x ends.opened logs ends.lasts mine (λ i. refl) (is_crew x did logs e ends r made))
+      (all_of {A = Turn} (λ (w : WorkerState). w.core.turns.made) (λ (y : Step). y.work.core.turns) (λ y d. d.core.turned) x ends.opened ends.popped logs ends.lasts mine (λ i. refl) (is_crew x did logs e ends r made))
 
   pub ops_are : last.uses.ops ≡ all_ops (workers x did logs e ends r made)
   ops_are = joined_ops start ends.lasts
-      ∙ all_of {A = UseStep} (λ (w : WorkerState). w.uses.ops) (λ (y : Step). y.work.ops) (λ y d. ap (λ (u : Uses). u.ops) d.uses) x ends.opened logs ends.lasts mine (λ i. refl) (is_crew x did logs e ends r made)
+      ∙ all_of {A = UseStep} (λ (w : WorkerState). w.uses.ops) (λ (y : Step). y.work.ops) (λ y d. ap (λ (u : Uses). u.ops) d.uses) x ends.opened ends.popped logs ends.lasts mine (λ i. refl) (is_crew x did logs e ends r made)
 
   pub entries_are : last.tree.made ≡ all_entries (workers x did logs e ends r made)
   entries_are = joined_entries start ends.lasts
-      ∙ all_of {A = charge.Made} (λ (w : WorkerState). w.tree.made) (λ (y : Step). y.work.tree) (λ y d. d.tree) x ends.opened logs ends.lasts mine (λ i. refl) (is_crew x did logs e ends r made)
+      ∙ all_of {A = charge.Made} (λ (w : WorkerState). w.tree.made) (λ (y : Step). y.work.tree) (λ y d. d.tree) x ends.opened ends.popped logs ends.lasts mine (λ i. refl) (is_crew x did logs e ends r made)
 
   pub takes_are : takes_of last.moves ≡ all_takes (workers x did logs e ends r made)
   takes_are = joined_takes start ends.lasts
-      ∙ all_of {A = PlaceAmount} (λ (w : WorkerState). takes_of w.moves) (λ (y : Step). takes_of y.work.moves) (λ y d. ap (λ (m : Moves). takes_of m) d.moves ∙ takes_both y.before.moves y.work.moves) x ends.opened logs ends.lasts mine (λ i. refl) (is_crew x did logs e ends r made)
+      ∙ all_of {A = PlaceAmount} (λ (w : WorkerState). takes_of w.moves) (λ (y : Step). takes_of y.work.moves) (λ y d. ap (λ (m : Moves). takes_of m) d.moves ∙ takes_both y.before.moves y.work.moves) x ends.opened ends.popped logs ends.lasts mine (λ i. refl) (is_crew x did logs e ends r made)
 
   pub gives_are : gives_of last.moves ≡ all_gives (workers x did logs e ends r made)
   gives_are = joined_gives start ends.lasts
-      ∙ all_of {A = PlaceAmount} (λ (w : WorkerState). gives_of w.moves) (λ (y : Step). gives_of y.work.moves) (λ y d. ap (λ (m : Moves). gives_of m) d.moves ∙ gives_both y.before.moves y.work.moves) x ends.opened logs ends.lasts mine (λ i. refl) (is_crew x did logs e ends r made)
+      ∙ all_of {A = PlaceAmount} (λ (w : WorkerState). gives_of w.moves) (λ (y : Step). gives_of y.work.moves) (λ y d. ap (λ (m : Moves). gives_of m) d.moves ∙ gives_both y.before.moves y.work.moves) x ends.opened ends.popped logs ends.lasts mine (λ i. refl) (is_crew x did logs e ends r made)
 
   half_is : last.core.holding.half ≡ None
   half_is = joined_half start ends.lasts ∙ ap (λ h. h.half) ends.idle.rooms

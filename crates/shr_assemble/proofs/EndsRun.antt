@@ -17,7 +17,7 @@ use Rattle.shr_assemble.proofs.ScriptSizes.{sized_of}
 use Rattle.shr_assemble.proofs.EndsOpened.{opened, once}
 use Rattle.shr_assemble.proofs.EndsOrder.{in_line}
 use Rattle.shr_assemble.proofs.EndsPool as pool
-use Rattle.shr_assemble.proofs.EndsSteps.{workers, isolating}
+use Rattle.shr_assemble.proofs.EndsSteps.{workers, isolating, swept}
 use Rattle.shr_assemble.proofs.EndsTotals as totals
 use Rattle.shr_assemble.proofs.EndsUnits.{team, units_are}
 use Rattle.shr_assemble.proofs.EndsWords.{deferred}
@@ -52,6 +52,7 @@ run_of_ends x did logs e ends r made = record {
   order = in_line x did logs e ends r made;
   plain = team x did logs e ends r made;
   units = units_are x did logs e ends r made;
+  sweep = swept x did logs e ends r made;
   added = totals.added x did logs e ends r made;
   freed = totals.freed x did logs e ends r made;
   listed = totals.listed x did logs e ends r made;

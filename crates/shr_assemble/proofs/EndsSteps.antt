@@ -1,8 +1,15 @@
 -- The steps of a run whose workers are done: each worker's are its commands with the report's answers, from the first state on.
-use Rattle.std.proofs.Common.{◌≡◌, ℕ, ◌+◌, ◌≤◌, ⊎_elim, List, [], length, sym, refl, ap, subst, ◌∙◌, arith}
-use Rattle.std.specs.Prelude.{slice_get, Option, Some, None, flat_map}
+use Rattle.std.proofs.Common.{◌≡◌, ℕ, ◌+◌, ◌<◌, ◌≤◌, ⊎_elim, List, [], length, sym, refl, ap, subst, ◌∙◌, arith}
+use Rattle.std.specs.Prelude.{slice_get, Option, Some, None, IfSome, flat_map}
+use Rattle.std.specs.List.{AllByRecursion}
+use Rattle.std.proofs.lemmas.List.{length-map}
 use Rattle.std.proofs.lemmas.Option.{none-some, slice_get_past}
+use Rattle.shr_base.specs.declared.scripts.Command.{Command}
+use Rattle.shr_base.specs.declared.scripts.Sweep.{Sweep}
 use Rattle.shr_base.specs.declared.scripts.WorkerScript.{WorkerScript}
+use Rattle.shr_script.specs.Bounds.{IsSweepWithin}
+use Rattle.shr_script.specs.Content.{content_of}
+use Rattle.shr_script.proofs.BoundsLaws.{within_of_valid}
 use Rattle.shr_walk.specs.declared.seats.Shared.{Shared}
 use Rattle.shr_walk.specs.State.{WorkerState}
 use Rattle.shr_worker.specs.Chain as chain
@@ -10,17 +17,24 @@ use Rattle.shr_worker.specs.Chain.{CrewState}
 use Rattle.shr_tables.specs.declared.ending.Ends.{Ends}
 use Rattle.shr_report.specs.declared.report.Report.{Report}
 use Rattle.shr_report.specs.Parts as report
-use Rattle.shr_report.specs.Parts.{commands_of, answers_of, walks_of, carries_of, isolations_of}
+use Rattle.shr_report.specs.Parts.{commands_of, sweeps_in, sweeps_of, answers_of, walks_of, carries_of, isolations_of}
 use Rattle.shr_assemble.specs.declared.logs.WorkerLog.{WorkerLog}
 use Rattle.shr_assemble.specs.Ends.{AreEndsOf, new_worker}
 use Rattle.shr_assemble.specs.Makes.{IsMadeOf, answers_in, walks_in, carries_in, isolations_in}
 use Rattle.shr_assemble.specs.Isolating.{isolated_in, isolated_before, DidIsolations}
 use Rattle.shr_assemble.specs.Steps.{Step, AreChained, steps_in, steps_of}
 use Rattle.shr_assemble.specs.Runs.{IsStep, IsNew, IsShownIn, AreSteps, AreIsolating}
+use Rattle.shr_assemble.specs.Sweeps.{IsOfPops, AreSwept, ArePoppedOnce, all_popped}
 use Rattle.shr_assemble.proofs.Crews.{IsCrew, crew, there_at}
 use Rattle.shr_assemble.proofs.EndsPlaces.{below_or}
 use Rattle.shr_assemble.proofs.Opening.{known_opened, on_are}
-use Rattle.shr_assemble.proofs.Rows.{DidEach, along}
+use Rattle.shr_assemble.proofs.Rows.{DidEach, IsThereItem, along}
+use Rattle.shr_assemble.proofs.SweptItems.{items_there}
+
+-- there is no part past the last worker
+never_swept : (o : Option Sweep) → sweeps_in o None ≡ 0
+never_swept None = refl
+never_swept (Some z) = refl
 
 -- a worker's commands by either name
 pub same_in : (o : Option WorkerScript) → chain.commands_in o ≡ report.commands_in o
@@ -28,18 +42,22 @@ same_in None = refl
 same_in (Some w) = refl
 
 module _ (x : Shared) (did : DidEach x) (logs : List WorkerLog) (e : Ends) (ends : AreEndsOf x logs e) (r : Report) (made : IsMadeOf x.script logs e r) where
-  abbrev team : (workers : List (List Step)) × IsCrew x ends.opened logs ends.lasts workers
-  team = crew x ends.shared did ends.opened logs ends.lasts ends.last_states ends.worked
+  -- each job that a pass popped is there
+  pub jobs_there : (i : ℕ) → i < length logs → (z : Sweep) → x.script.sweep ≡ Some z → AllByRecursion (IsThereItem x.script) (ends.popped i)
+  jobs_there i lt z asked = items_there x.script ends.popped (length logs) i lt (ends.swept z asked)
+
+  abbrev team : (workers : List (List Step)) × IsCrew x ends.opened ends.popped logs ends.lasts workers
+  team = crew x ends.shared did ends.opened ends.popped logs ends.lasts ends.last_states ends.workers jobs_there ends.worked
 
   abbrev pub workers : List (List Step)
   workers = team.0
 
-  pub is_crew : IsCrew x ends.opened logs ends.lasts workers
+  pub is_crew : IsCrew x ends.opened ends.popped logs ends.lasts workers
   is_crew = team.1
 
   -- the steps of one worker
   record IsOf (worker : ℕ) (mine : List Step) : Type 0 where
-    commands : length (commands_of x.script worker) ≡ length mine
+    commands : length mine ≡ length (commands_of x.script worker) + sweeps_of x.script worker
     answers : length (answers_of r worker) ≡ length mine
     chained : AreChained (new_worker ends.opened worker).seats mine
     walks : walks_of r worker ≡ flat_map (λ (y : Step). y.work.walks) mine
@@ -47,6 +65,7 @@ module _ (x : Shared) (did : DidEach x) (logs : List WorkerLog) (e : Ends) (ends
     each : (k : ℕ) (y : Step) → slice_get mine k ≡ Some y → IsStep x.script r worker k y
     isolations : isolations_of r worker ≡ flat_map isolated_in mine
     by_law : (k : ℕ) (y : Step) → slice_get mine k ≡ Some y → DidIsolations x.script y (isolated_before mine k)
+    pops : (k : ℕ) (y : Step) → slice_get mine k ≡ Some y → y.command ≡ None → IsOfPops (ends.popped worker) y.work.walks y.answered.reply
 
   none_of : (worker : ℕ) → length logs ≤ worker → IsOf worker []
   none_of worker le =
@@ -55,7 +74,7 @@ module _ (x : Shared) (did : DidEach x) (logs : List WorkerLog) (e : Ends) (ends
       let no_script = slice_get_past x.script.workers.items worker (omega (arith, le, script)) in
       let no_answer : answers_of r worker ≡ [] = made.answers worker ∙ ap answers_in no_log in
       record {
-        commands = ap (λ o. length (report.commands_in o)) no_script;
+        commands = let none = ap (λ o. length (report.commands_in o)) no_script in let no_sweep = ap (sweeps_in x.script.sweep) no_script ∙ never_swept x.script.sweep in omega (arith, none, no_sweep);
         answers = ap (λ l. length l) no_answer;
         chained = tt;
         walks = made.walks worker ∙ ap walks_in no_log;
@@ -63,6 +82,7 @@ module _ (x : Shared) (did : DidEach x) (logs : List WorkerLog) (e : Ends) (ends
         each = λ k y h. absurd (none-some y h);
         isolations = made.isolations worker ∙ ap isolations_in no_log;
         by_law = λ k y h. absurd (none-some y h);
+        pops = λ k y h none. absurd (none-some y h);
       }
 
   some_of : (worker : ℕ) (log : WorkerLog) (last : CrewState) (mine : List Step) → slice_get logs worker ≡ Some log → slice_get ends.lasts worker ≡ Some last → slice_get workers worker ≡ Some mine → IsOf worker mine
@@ -72,7 +92,7 @@ module _ (x : Shared) (did : DidEach x) (logs : List WorkerLog) (e : Ends) (ends
       let answers : answers_of r worker ≡ log.answers.items = made.answers worker ∙ ap answers_in at_log in
       let commands : chain.commands_of x.script worker ≡ commands_of x.script worker = same_in (slice_get x.script.workers.items worker) in
       record {
-        commands = ap (λ l. length l) (sym commands) ∙ row.commands;
+        commands = row.commands ∙ ap (λ (l : List Command). length l + sweeps_of x.script worker) commands;
         answers = ap (λ l. length l) answers ∙ row.answers;
         chained = row.chained;
         walks = made.walks worker ∙ (ap walks_in at_log ∙ (worked.walks ∙ (ap (λ (t : WorkerState). t.walks) (sym row.ends) ∙ along (λ (t : WorkerState). t.walks) (λ (y : Step). y.work.walks) (λ y d. d.walks) (new_worker ends.opened worker).seats mine row.chained)));
@@ -85,6 +105,7 @@ module _ (x : Shared) (did : DidEach x) (logs : List WorkerLog) (e : Ends) (ends
         };
         isolations = made.isolations worker ∙ (ap isolations_in at_log ∙ (worked.isolations ∙ row.recorded));
         by_law = λ k y h. subst (λ (n : ℕ). DidIsolations x.script y n) (let z : 0 + isolated_before mine k ≡ isolated_before mine k = omega arith in z) (row.by_law k y h);
+        pops = row.pops;
       }
 
   is_of : (worker : ℕ) → IsOf worker (steps_of workers worker)
@@ -127,4 +148,19 @@ module _ (x : Shared) (did : DidEach x) (logs : List WorkerLog) (e : Ends) (ends
   isolating = record {
     told = λ worker. (is_of worker).isolations;
     did = λ worker k y h. (is_of worker).by_law k y h;
+  }
+
+  -- the parts of the sweep
+  some_worker : (z : Sweep) → x.script.sweep ≡ Some z → 0 < length x.script.workers.items
+  some_worker z asked =
+      let within = (within_of_valid (content_of x.script) ends.shared.script).sweep in
+      let some = (subst (λ (o : Option Sweep). IfSome o (IsSweepWithin (content_of x.script))) asked within).some_worker in
+      let same = length-map x.script.workers.items (λ (w : WorkerScript). w.commands.items) in omega (arith, some, same)
+
+  pub swept : AreSwept x.script workers
+  swept = record {
+    popped = ends.popped;
+    walked = λ worker k y at none. (is_of worker).pops k y at none;
+    some = some_worker;
+    once = λ z asked. subst (λ n. ArePoppedOnce x.script (all_popped ends.popped n)) ends.workers (ends.swept z asked);
   }

@@ -55,6 +55,7 @@ use Rattle.shr_assemble.proofs.Gathering.{among_right, some_at, among_flat, each
 use Rattle.shr_assemble.proofs.Joined.{joined_list}
 use Rattle.shr_assemble.proofs.Lasts.{each_last}
 use Rattle.shr_assemble.proofs.Rows.{DidEach, within_at}
+use Rattle.shr_assemble.proofs.SweepSteps.{last_answer}
 use Rattle.shr_assemble.proofs.UnitsDid.{IsElsewhere, other_reply, did_units}
 use Rattle.shr_assemble.proofs.UnitsRows.{IsDeed, IsUnitsRow, IsUnitsCrew, units_crew}
 use Rattle.shr_assemble.proofs.WordPlaces.{inside_word, place_back, has_range, range_has}
@@ -84,7 +85,7 @@ known_begins (e ∷ es) heard journal h = h 0 (e ∷ es) refl
 
 module _ (x : Shared) (did : DidEach x) (logs : List WorkerLog) (e : Ends) (ends : AreEndsOf x logs e) (r : Report) (made : IsMadeOf x.script logs e r) where
   abbrev crew : (workers : List (List UnitsStep)) × IsUnitsCrew x ends.opened logs ends.lasts workers
-  crew = units_crew x ends.opened logs ends.lasts ends.last_states ends.worked
+  crew = units_crew x ends.opened ends.popped logs ends.lasts ends.last_states ends.worked
 
   abbrev pub team : List (List UnitsStep)
   team = crew.0
@@ -101,7 +102,6 @@ module _ (x : Shared) (did : DidEach x) (logs : List WorkerLog) (e : Ends) (ends
   -- ---- the steps of one worker
   record IsOf (worker : ℕ) (mine : List UnitsStep) : Type 0 where
     commands : length (commands_of x.script worker) ≡ length mine
-    answers : length (answers_of r worker) ≡ length mine
     chained : AreChained no_state mine
     walks : plain_of r worker ≡ (last_of mine).walks
     each : (k : ℕ) (y : UnitsStep) → slice_get mine k ≡ Some y → IsDeed x.script (serial_of worker) (commands_of x.script worker) (answers_of r worker) k y
@@ -113,7 +113,6 @@ module _ (x : Shared) (did : DidEach x) (logs : List WorkerLog) (e : Ends) (ends
       let no_script = slice_get_past x.script.workers.items worker (omega (arith, le, script)) in
       record {
         commands = ap (λ o. length (commands_in o)) no_script;
-        answers = ap (λ l. length l) (made.answers worker ∙ ap answers_in no_log);
         chained = tt;
         walks = made.plain worker ∙ ap plain_in no_log;
         each = λ k y h. absurd (none-some y h);
@@ -127,7 +126,6 @@ module _ (x : Shared) (did : DidEach x) (logs : List WorkerLog) (e : Ends) (ends
       let commands : chain.commands_of x.script worker ≡ commands_of x.script worker = same_in (slice_get x.script.workers.items worker) in
       record {
         commands = ap (λ l. length l) (sym commands) ∙ row.commands;
-        answers = ap (λ l. length l) answers ∙ row.answers;
         chained = row.chained;
         walks = made.plain worker ∙ (ap plain_in at_log ∙ (worked.plain ∙ ap (λ (t : PlainState). t.walks) (sym row.ends)));
         each = λ k y h. let d = row.each k y h in record {
@@ -244,7 +242,8 @@ module _ (x : Shared) (did : DidEach x) (logs : List WorkerLog) (e : Ends) (ends
   units_are = record {
     each = is_step;
     commands = λ worker. (is_of worker).commands;
-    answers = λ worker. (is_of worker).answers;
+    answers = λ worker. let seats = steps.commands worker in let same = steps.answers worker in let own = (is_of worker).commands in omega (arith, seats, same, own);
+    last = last_answer x.script r seat_team steps;
     chained = λ worker. (is_of worker).chained;
     walks = λ worker. (is_of worker).walks;
     journal = ends.pools.journal;

@@ -15,6 +15,7 @@ use Rattle.shr_assemble.proofs.UsageLaw.{charges_lawful}
 use Rattle.shr_assemble.proofs.DeferredLaw.{deferred_lawful}
 use Rattle.shr_assemble.proofs.CausesLaw.{causes_lawful}
 use Rattle.shr_assemble.proofs.IsolationsLaw.{isolations_lawful}
+use Rattle.shr_assemble.proofs.SweepLaw.{sweep_lawful}
 
 -- each law of the report of a run holds
 pub lawful_of_run : (s : Script) (r : Report) (workers : List (List Step)) → IsRun s r workers → IsLawful s r
@@ -30,4 +31,5 @@ lawful_of_run s r workers run = record {
   causes = causes_lawful s r workers run;
   pools = pools_lawful s r run.plain run.units;
   isolations = isolations_lawful s r workers run;
+  sweep = sweep_lawful s r workers run;
 }

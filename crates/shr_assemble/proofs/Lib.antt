@@ -9,6 +9,7 @@ pub mod Recounting
 pub mod Operations
 pub mod Flattening
 pub mod ScansLaw
+pub mod SweepSteps
 pub mod RepliesLaw
 pub mod JournalsLaw
 pub mod BagLaw
@@ -62,6 +63,7 @@ pub mod QuietCarries
 pub mod CausesLaw
 pub mod WornSeen
 pub mod IsolationsLaw
+pub mod SweepLaw
 pub mod LawfulOfRun
 pub mod HandedCarries
 pub mod HandedDone
@@ -71,11 +73,13 @@ pub mod Joined
 pub mod Fit
 pub mod OfflineAll
 pub mod Rows
+pub mod SweptRows
 pub mod Crews
 pub mod ScriptSizes
 pub mod EndsPlaces
 pub mod EndsJournals
 pub mod Opening
+pub mod SweptItems
 pub mod EndsSteps
 pub mod Lasts
 pub mod EndsShown
@@ -143,6 +147,7 @@ pub mod PutDid
 pub mod PoolDid
 pub mod VisitsDid
 pub mod IsolateDid
+pub mod SweepDid
 pub mod DidEach
 pub mod WellPairs
 pub mod WellWords
@@ -154,3 +159,4 @@ pub mod WellFormed
 pub mod FreePool
 pub mod FreeExists
 pub mod FreePuts
+mod SweepsValues

@@ -22,6 +22,7 @@ use Rattle.shr_assemble.specs.Entries.{IsTold, MayMake, IsCited, IsReplyTo}
 use Rattle.shr_assemble.specs.Runs.{IsRun}
 use Rattle.shr_assemble.proofs.Gathering.{each_among, among_right, among_begins}
 use Rattle.shr_assemble.proofs.Making.{work_of, grows, made_stands, maker, Stepped, stepped, cited_is, replies}
+use Rattle.shr_assemble.proofs.SweepSteps.{last_answer}
 
 -- a tenant's entry is told
 pub told_of : (s : Script) (x : Step) (m : Made) (e : Entry) (by : Serial) → by_of e ≡ Some by → MayMake s x m e → IsTold x m by
@@ -69,7 +70,8 @@ module _ (s : Script) (r : Report) (workers : List (List Step)) (run : IsRun s r
     paths = run.paths;
     names = run.names;
     pools = run.pools;
-    counts = λ worker. run.steps.answers worker ∙ sym (run.steps.commands worker);
+    counts = λ worker. run.steps.answers worker ∙ run.steps.commands worker;
+    last = last_answer s r workers run.steps;
     answered = λ by c a command answer. answered by c a (stepped s r workers run by c a command answer);
     cited = cited;
     rise = rise;

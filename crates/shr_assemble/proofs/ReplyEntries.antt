@@ -14,7 +14,7 @@ use Rattle.shr_base.specs.declared.scripts.Command.TheVariants.{Put, Get, Del, S
 use Rattle.shr_model.specs.Families.{Family}
 use Rattle.shr_report.specs.Parts.{cited_by}
 use Rattle.shr_report.specs.ReplyTable.{IsReply}
-use Rattle.shr_report.specs.Swept.{IsSweepReply}
+use Rattle.shr_report.proofs.QuietSweep.{sweep_cites}
 use Rattle.shr_assemble.specs.Entries.{IsReplyTo}
 
 -- the entry is one that a command makes
@@ -55,13 +55,7 @@ entry_for parents family by (reply.Done a) c None at e h cites stands = absurd h
 entry_for parents family by (reply.Done a) c (Some id) at e h cites stands = absurd h
 entry_for parents family by x c found at e h cites stands = absurd (none-some at cites)
 
--- the answer to a sweep cites none
-sweep_cites : (x : Reply) → IsSweepReply x → cited_by x ≡ None
-sweep_cites (reply.Swept jobs freed) h = refl
-sweep_cites (reply.WalkMemory freed) h = refl
-sweep_cites x h = absurd h
-
--- so it is the answer to a command
+-- it is the answer to a command, since that to a sweep cites none
 pub entry_asked : (parents : List ℕ) (family : Family) (by : Serial) (x : Reply) (o : Option Command) (found : Option ℕ) (at : At) (e : Entry) → IsReplyTo parents family by o found x → cited_by x ≡ Some at → slice_get (family at.place) at.entry ≡ Some e
     → (c : Command) × (o ≡ Some c) × IsEntryFor by c e
 entry_asked parents family by x None found at e h cites stands = absurd (none-some at (sym (sweep_cites x h.1) ∙ cites))

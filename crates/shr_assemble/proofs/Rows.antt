@@ -1,12 +1,14 @@
 -- The steps of a worker from the states between its commands, and what they have in all.
-use Rattle.std.proofs.Common.{◌≡◌, ℕ, zero, suc, ◌+◌, List, [], ◌∷◌, ◌++◌, length, length-append, take, sym, refl, ap, subst, ◌∙◌, arith, append_assoc}
+use Rattle.std.proofs.Common.{◌≡◌, ℕ, zero, suc, ◌+◌, ◌<◌, List, [], ◌∷◌, ◌++◌, length, length-append, take, sym, refl, ap, subst, ◌∙◌, arith, append_assoc}
 use Rattle.std.specs.Prelude.{slice_get, Option, Some, None, flat_map}
+use Rattle.std.specs.List.{AllByRecursion}
 use Rattle.std.proofs.lemmas.List.{append-nil}
 use Rattle.std.proofs.lemmas.Option.{same_Some, none-some}
 use Rattle.shr_base.specs.declared.places.Serial.{Serial}
 use Rattle.shr_base.specs.declared.replies.Answered.{Answered}
 use Rattle.shr_base.specs.declared.scripts.Command.{Command}
 use Rattle.shr_base.specs.declared.scripts.Script.{Script}
+use Rattle.shr_base.specs.declared.scripts.Sweep.{Sweep}
 use Rattle.shr_base.specs.declared.scripts.WorkerScript.{WorkerScript}
 use Rattle.shr_base.specs.declared.walks.Isolation.{Isolation}
 use Rattle.shr_script.specs.Bounds.{IsCommandWithin}
@@ -17,9 +19,14 @@ use Rattle.shr_walk.specs.declared.seats.Shared.{Shared}
 use Rattle.shr_walk.specs.State.{WorkerState, Work}
 use Rattle.shr_worker.specs.Chain.{CrewState, DeedGives, IsWorkOf, commands_in, commands_of, serial_of}
 use Rattle.shr_worker.proofs.Within.{command_within}
+use Rattle.shr_pool.specs.declared.items.SweepItem.{SweepItem}
+use Rattle.shr_pool.specs.declared.items.SweepItem.TheVariants.{Walk, End}
+use Rattle.shr_report.specs.Parts.{parents_of}
 use Rattle.shr_assemble.specs.Steps.{Step, AreChained, state_after, Brings}
 use Rattle.shr_assemble.specs.Did.{Did}
+use Rattle.shr_assemble.specs.Ends.{HasHelped}
 use Rattle.shr_assemble.specs.Isolating.{isolated_in, isolated_before, DidIsolations}
+use Rattle.shr_assemble.specs.Sweeps.{IsOfPops}
 use Rattle.shr_assemble.proofs.Fit.{IsFit, fit_kept}
 
 -- A command did its work, between these states. Its isolation stands behind those of its worker, and is as the law asks.
@@ -91,9 +98,28 @@ row_from s by cs said first last [] fit same start end more each = absurd (none-
 row_from s by cs said first last (t ∷ us) fit same start end more each =
     subst (λ (f : CrewState). (mine : List Step) × IsRow s by cs said f last mine) (same_Some t first start) (row s by cs said t us last (subst (λ (f : CrewState). IsFit f.seats) (sym (same_Some t first start)) fit) same (omega (arith, more)) each end)
 
--- each command's clauses give what it did, where it names what is there and its worker is fit
-abbrev pub DidEach : Shared → Type 0
-DidEach x = (by : Serial) (c : Command) (a : Answered) (t u : CrewState) → IsCommandWithin (content_of x.script) c → IsFit t.seats → DeedGives x by c a t u → Worked x.script by c a t u
+-- a worker's part of the sweep, between these states
+abbrev pub swept_step : Serial → Answered → WorkerState → WorkerState → Work → Step
+swept_step by a t u w = record { by = by; command = None; answered = a; before = t; after = u; work = w }
+
+-- it did so, by walks of jobs that its pass popped
+pub record SweptPart (s : Script) (by : Serial) (a : Answered) (popped : List SweepItem) (t u : WorkerState) : Type 0 where
+  pub work : Work
+  pub does : Brings t u work
+  pub did : Did s (swept_step by a t u work)
+  pub pops : IsOfPops popped work.walks a.reply
+
+-- an item is of a group on a node of the script
+abbrev pub IsThereItem : Script → SweepItem → Type 0
+IsThereItem s (Walk j) = (j.node < s.nodes) × (j.group < length (parents_of s))
+IsThereItem s End = Unit {0}
+
+-- Each command's clauses give what it did, where it names what is there and its worker is fit. So do those of a helper, where
+-- what it popped is there.
+pub record DidEach (x : Shared) : Type 0 where
+  pub command : (by : Serial) (c : Command) (a : Answered) (t u : CrewState) → IsCommandWithin (content_of x.script) c → IsFit t.seats → DeedGives x by c a t u → Worked x.script by c a t u
+  pub sweep : (z : Sweep) (by : Serial) (told : List Answered) (popped : List SweepItem) (t u : CrewState) → x.script.sweep ≡ Some z → AllByRecursion (IsThereItem x.script) popped → HasHelped x z by told popped t u
+      → (a : Answered) × (told ≡ a ∷ []) × SweptPart x.script by a popped t.seats u.seats
 
 -- each command of a script that is valid names what is there
 pub within_at : (x : Shared) → IsShared x → (number k : ℕ) (c : Command) → slice_get (commands_of x.script number) k ≡ Some c → IsCommandWithin (content_of x.script) c
@@ -106,7 +132,7 @@ within_at x shared number k c at = in_script (slice_get x.script.workers.items n
 pub row_of : (x : Shared) → IsShared x → DidEach x → (number : ℕ) (said : List Answered) (first last : CrewState) → IsFit first.seats → length said ≡ length (commands_of x.script number) → IsWorkOf x number said first last
     → (mine : List Step) × IsRow x.script (serial_of number) (commands_of x.script number) said first last mine
 row_of x shared did number said first last fit all work = row_from x.script (serial_of number) (commands_of x.script number) said first last work.states fit all work.starts work.ends work.one_more
-    (λ k c a v w fit_v at_c at_a at_v at_w. did (serial_of number k) c a v w (within_at x shared number k c at_c) fit_v (work.each k c a v w at_c at_a at_v at_w))
+    (λ k c a v w fit_v at_c at_a at_v at_w. did.command (serial_of number k) c a v w (within_at x shared number k c at_c) fit_v (work.each k c a v w at_c at_a at_v at_w))
 
 -- a list of the state that each step makes longer
 pub along : {A : Type 0} (g : WorkerState → List A) (h : Step → List A) → ((x : Step) → Brings x.before x.after x.work → g x.after ≡ g x.before ++ h x)

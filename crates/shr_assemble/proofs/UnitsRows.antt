@@ -1,6 +1,6 @@
 -- What each worker did at the pools of units, command by command, from the states between its commands.
-use Rattle.std.proofs.Common.{◌≡◌, ℕ, zero, suc, List, [], ◌∷◌, length, sym, refl, ap, subst, ◌∙◌, arith}
-use Rattle.std.specs.Prelude.{slice_get, Some}
+use Rattle.std.proofs.Common.{◌≡◌, ℕ, zero, suc, List, [], ◌∷◌, length, sym, refl, ap, subst, ◌∙◌, arith, ◌++◌}
+use Rattle.std.specs.Prelude.{slice_get, Some, Option, None}
 use Rattle.std.proofs.lemmas.Option.{same_Some, none-some}
 use Rattle.shr_base.specs.declared.places.Serial.{Serial}
 use Rattle.shr_base.specs.declared.replies.Answered.{Answered}
@@ -13,8 +13,11 @@ use Rattle.shr_worker.specs.Chain.{CrewState, IsWorkOf, commands_of, serial_of}
 use Rattle.shr_worker.specs.Plain.{PlainGives}
 use Rattle.shr_units.specs.Steps.{UnitsStep, AreChained, state_after}
 use Rattle.shr_assemble.specs.declared.logs.WorkerLog.{WorkerLog}
-use Rattle.shr_assemble.specs.Ends.{new_worker, HasWorked}
+use Rattle.shr_assemble.specs.Ends.{new_worker, HelpsWith, HasWorked}
 use Rattle.shr_assemble.proofs.Crews.{choose}
+use Rattle.shr_assemble.proofs.SweptRows.{slice_front}
+use Rattle.shr_base.specs.declared.scripts.Sweep.{Sweep}
+use Rattle.shr_pool.specs.declared.items.SweepItem.{SweepItem}
 
 -- a command with its answer, and what it did at the pools
 pub record IsDeed (s : Script) (by : ℕ → Serial) (cs : List Command) (said : List Answered) (k : ℕ) (x : UnitsStep) : Type 0 where
@@ -28,7 +31,6 @@ pub record IsDeed (s : Script) (by : ℕ → Serial) (cs : List Command) (said :
 -- a worker's steps at the pools: one for each of these commands and answers, from the first state to the last
 pub record IsUnitsRow (s : Script) (by : ℕ → Serial) (cs : List Command) (said : List Answered) (first last : PlainState) (mine : List UnitsStep) : Type 0 where
   pub commands : length cs ≡ length mine
-  pub answers : length said ≡ length mine
   pub chained : AreChained first mine
   pub ends : state_after first mine ≡ last
   pub each : (k : ℕ) (x : UnitsStep) → slice_get mine k ≡ Some x → IsDeed s by cs said k x
@@ -36,7 +38,7 @@ pub record IsUnitsRow (s : Script) (by : ℕ → Serial) (cs : List Command) (sa
 row : (s : Script) (by : ℕ → Serial) (cs : List Command) (said : List Answered) (t : CrewState) (us : List CrewState) (last : CrewState) → length said ≡ length cs → length us ≡ length said
     → ((k : ℕ) (c : Command) (a : Answered) (v w : CrewState) → slice_get cs k ≡ Some c → slice_get said k ≡ Some a → slice_get (t ∷ us) k ≡ Some v → slice_get (t ∷ us) (suc k) ≡ Some w → PlainGives s (by k) c a v.plain w.plain)
     → slice_get (t ∷ us) (length said) ≡ Some last → (mine : List UnitsStep) × IsUnitsRow s by cs said t.plain last.plain mine
-row s by [] [] t us last same more each end = ([], record { commands = refl; answers = refl; chained = tt; ends = ap (λ (c : CrewState). c.plain) (same_Some t last end); each = λ k x e. absurd (none-some x e) })
+row s by [] [] t us last same more each end = ([], record { commands = refl; chained = tt; ends = ap (λ (c : CrewState). c.plain) (same_Some t last end); each = λ k x e. absurd (none-some x e) })
 row s by [] (a ∷ said) t us last same more each end = absurd (omega (arith, same))
 row s by (c ∷ cs) [] t us last same more each end = absurd (omega (arith, same))
 row s by (c ∷ cs) (a ∷ said) t [] last same more each end = absurd (omega (arith, more))
@@ -47,7 +49,6 @@ row s by (c ∷ cs) (a ∷ said) t (u ∷ us) last same more each end =
       x ∷ rest.0,
       record {
         commands = (let m = rest.1.commands in omega (arith, m));
-        answers = (let m = rest.1.answers in omega (arith, m));
         chained = (refl, rest.1.chained);
         ends = rest.1.ends;
         each = at x rest.0 (record { by_is = refl; command = refl; answered = a; answer = refl; reply = refl; gives = g }) rest.1.each;
@@ -78,10 +79,36 @@ pub record IsUnitsCrew (x : Shared) (opened : View) (logs : List WorkerLog) (las
   pub each : (i : ℕ) (log : WorkerLog) (last : CrewState) (mine : List UnitsStep) → slice_get logs i ≡ Some log → slice_get lasts i ≡ Some last → slice_get workers i ≡ Some mine
       → IsUnitsRow x.script (serial_of i) (commands_of x.script i) log.answers.items (new_worker opened i).plain last.plain mine
 
-pub units_crew : (x : Shared) (opened : View) (logs : List WorkerLog) (lasts : List CrewState) → length lasts ≡ length logs
-    → ((i : ℕ) (log : WorkerLog) (last : CrewState) → slice_get logs i ≡ Some log → slice_get lasts i ≡ Some last → HasWorked x opened i log last)
+-- the sweep of its script does nothing at the pools
+still_plain : (x : Shared) (o : Option Sweep) (by : Serial) (told : List Answered) (popped : List SweepItem) (s t : CrewState) → HelpsWith x o by told popped s t → s.plain ≡ t.plain
+still_plain x None by told popped s t h = ap (λ (c : CrewState). c.plain) (sym h.1)
+still_plain x (Some z) by told popped s t h = sym h.plain
+
+-- so its steps there are those of its commands
+whole_row : (x : Shared) (opened : View) (number : ℕ) (log : WorkerLog) (popped : List SweepItem) (last : CrewState) → HasWorked x opened number log popped last
+    → (mine : List UnitsStep) × IsUnitsRow x.script (serial_of number) (commands_of x.script number) log.answers.items (new_worker opened number).plain last.plain mine
+whole_row x opened number log popped last w =
+    let row = units_row x number w.own (new_worker opened number) w.done w.all w.work in (
+      row.0,
+      record {
+        commands = row.1.commands;
+        chained = row.1.chained;
+        ends = row.1.ends ∙ still_plain x x.script.sweep (serial_of number (length (commands_of x.script number))) w.told popped w.done last w.helped;
+        each = λ k y at. let d = row.1.each k y at in record {
+          by_is = d.by_is;
+          command = d.command;
+          answered = d.answered;
+          answer = ap (λ (l : List Answered). slice_get l k) w.answers ∙ slice_front w.own w.told k d.answered d.answer;
+          reply = d.reply;
+          gives = d.gives;
+        };
+      },
+    )
+
+pub units_crew : (x : Shared) (opened : View) (popped : ℕ → List SweepItem) (logs : List WorkerLog) (lasts : List CrewState) → length lasts ≡ length logs
+    → ((i : ℕ) (log : WorkerLog) (last : CrewState) → slice_get logs i ≡ Some log → slice_get lasts i ≡ Some last → HasWorked x opened i log (popped i) last)
     → (workers : List (List UnitsStep)) × IsUnitsCrew x opened logs lasts workers
-units_crew x opened logs lasts same worked =
+units_crew x opened popped logs lasts same worked =
     let t = choose (λ (i : ℕ) (log : WorkerLog) (last : CrewState) (mine : List UnitsStep). IsUnitsRow x.script (serial_of i) (commands_of x.script i) log.answers.items (new_worker opened i).plain last.plain mine) logs lasts same
-    (λ i log last at_log at_last. let h = worked i log last at_log at_last in units_row x i log.answers.items (new_worker opened i) last h.all h.work) in
+    (λ i log last at_log at_last. whole_row x opened i log (popped i) last (worked i log last at_log at_last)) in
     (t.0, record { workers_are = t.1; each = t.2 })

@@ -1,7 +1,12 @@
 -- What is known of a run once all workers are done: how the tables were opened, what each worker did, and how the tables
 -- ended.
-use Rattle.std.specs.Prelude.{◌≡◌, ℕ, ◌+◌, ◌<◌, ◌^◌, List, [], length, slice_get, Some, All, fold}
+use Rattle.std.specs.Prelude.{◌≡◌, ℕ, ◌+◌, ◌<◌, ◌^◌, List, [], ◌∷◌, ◌++◌, length, slice_get, Option, Some, None, All, fold}
 use Rattle.shr_base.specs.declared.ends.MapEnd.{MapEnd}
+use Rattle.shr_base.specs.declared.places.Serial.{Serial}
+use Rattle.shr_base.specs.declared.replies.Answered.{Answered}
+use Rattle.shr_base.specs.declared.replies.Reply.{Reply}
+use Rattle.shr_base.specs.declared.replies.Reply.TheVariants as reply
+use Rattle.shr_base.specs.declared.scripts.Sweep.{Sweep}
 use Rattle.shr_seats.specs.Standing.{Standing}
 use Rattle.shr_core.specs.declared.view.View.{View}
 use Rattle.shr_core.specs.Gained.{IsIdle}
@@ -19,10 +24,17 @@ use Rattle.shr_plain.specs.Opening.{pool_sizes}
 use Rattle.shr_plain.specs.Seat.{PlainState, no_state, joined_state}
 use Rattle.shr_walk.specs.declared.seats.Shared.{Shared}
 use Rattle.shr_walk.specs.Sharing.{IsShared, IsFromStart}
-use Rattle.shr_worker.specs.Chain.{CrewState, IsWorkOf, commands_of}
+use Rattle.shr_worker.specs.Chain.{CrewState, IsWorkOf, commands_of, serial_of}
+use Rattle.shr_worker.specs.Replies.{unfound}
+use Rattle.shr_pool.specs.declared.items.SweepItem.{SweepItem}
+use Rattle.shr_pool.specs.declared.view.PassView.{PassView}
+use Rattle.shr_sweep.specs.declared.answers.SweepAnswer.{SweepAnswer}
+use Rattle.shr_sweep.specs.declared.answers.SweepAnswer.TheVariants as sweep
+use Rattle.shr_sweep.specs.Helping.{HelpGives}
 use Rattle.shr_tables.specs.declared.ending.Ends.{Ends}
 use Rattle.shr_tables.specs.Opened.{AreEntered}
 use Rattle.shr_assemble.specs.declared.logs.WorkerLog.{WorkerLog}
+use Rattle.shr_assemble.specs.Sweeps.{ArePoppedOnce, all_popped}
 
 -- what the first seats of the tables have done and seen
 pub record Firsts : Type 0 where
@@ -61,10 +73,38 @@ new_worker opened number = record {
   isolations = [];
 }
 
--- a worker has answered all its commands, and this is what it noted and its last state
-pub record HasWorked (x : Shared) (opened : View) (number : ℕ) (log : WorkerLog) (last : CrewState) : Type 0 where
-  pub all : length log.answers.items ≡ length (commands_of x.script number)
-  pub work : IsWorkOf x number log.answers.items (new_worker opened number) last
+-- the answer of a helper, as a reply
+abbrev pub sweep_reply : SweepAnswer → Reply
+sweep_reply (sweep.Swept jobs freed) = reply.Swept jobs freed
+sweep_reply (sweep.Memory freed) = reply.WalkMemory freed
+
+-- A worker helped with this sweep behind its commands, with a pass that had popped nothing. These are its answer and the
+-- items that it popped.
+pub record HasHelped (x : Shared) (z : Sweep) (by : Serial) (told : List Answered) (popped : List SweepItem) (s t : CrewState) : Type 0 where
+  pub answer : SweepAnswer
+  pub told_is : told ≡ unfound (sweep_reply answer) ∷ []
+  pub pass : PassView
+  pub fresh : pass.popped ≡ []
+  pub ended : PassView
+  pub popped_is : ended.popped ≡ popped
+  pub gives : HelpGives x by z.priority z.nofs answer pass ended s.seats t.seats
+  pub plain : t.plain ≡ s.plain
+  pub isolations : t.isolations ≡ s.isolations
+
+-- it did so if its script has a sweep, and nothing otherwise
+abbrev pub HelpsWith : Shared → Option Sweep → Serial → List Answered → List SweepItem → CrewState → CrewState → Type 0
+HelpsWith x None by told popped s t = (told ≡ []) × (t ≡ s)
+HelpsWith x (Some z) by told popped s t = HasHelped x z by told popped s t
+
+-- a worker has answered all its commands, and then the sweep of its script; this is what it noted and its last state
+pub record HasWorked (x : Shared) (opened : View) (number : ℕ) (log : WorkerLog) (popped : List SweepItem) (last : CrewState) : Type 0 where
+  pub own : List Answered
+  pub told : List Answered
+  pub answers : log.answers.items ≡ own ++ told
+  pub all : length own ≡ length (commands_of x.script number)
+  pub done : CrewState
+  pub work : IsWorkOf x number own (new_worker opened number) done
+  pub helped : HelpsWith x x.script.sweep (serial_of number (length (commands_of x.script number))) told popped done last
   pub walks : log.walks.items ≡ last.seats.walks
   pub carries : log.carries.items ≡ last.seats.carries
   pub uses : log.uses.items ≡ last.seats.noted
@@ -86,7 +126,10 @@ pub record AreEndsOf (x : Shared) (logs : List WorkerLog) (e : Ends) : Type 0 wh
   pub lasts : List CrewState
   pub workers : length logs ≡ length x.script.workers.items
   pub last_states : length lasts ≡ length logs
-  pub worked : (i : ℕ) (log : WorkerLog) (last : CrewState) → slice_get logs i ≡ Some log → slice_get lasts i ≡ Some last → HasWorked x opened i log last
+  -- what the pass of each popped of the sweep's jobs
+  pub popped : ℕ → List SweepItem
+  pub worked : (i : ℕ) (log : WorkerLog) (last : CrewState) → slice_get logs i ≡ Some log → slice_get lasts i ≡ Some last → HasWorked x opened i log (popped i) last
+  pub swept : (z : Sweep) → x.script.sweep ≡ Some z → ArePoppedOnce x.script (all_popped popped (length logs))
   -- what is left
   pub core : IsLeft x.core.setting (with_workers (at_start opened standing) lasts).core e.core
   -- each bit word is one of 64 bits

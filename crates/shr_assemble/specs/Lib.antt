@@ -12,6 +12,7 @@ pub mod Causes
 pub mod Did
 pub mod Order
 pub mod Isolating
+pub mod Sweeps
 pub mod Runs
 pub mod Ends
 pub mod Makes

@@ -1,5 +1,5 @@
 -- A run, in plain data: a report, the steps of its workers, and what was left of the tables.
-use Rattle.std.specs.Prelude.{◌≡◌, ℕ, ◌%◌, ◌<◌, ◌≤◌, ◌&&◌, nat_lt, nat_le, true, cond, List, [], ◌∷◌, length, drop, map, flat_map, codes, slice_get, Some, option_and_then, All, IsPermutation}
+use Rattle.std.specs.Prelude.{◌≡◌, ℕ, ◌+◌, ◌%◌, ◌<◌, ◌≤◌, ◌&&◌, nat_lt, nat_le, true, cond, List, [], ◌∷◌, length, drop, map, flat_map, codes, slice_get, Some, option_and_then, All, IsPermutation}
 use Rattle.std.specs.List.{AllByRecursion}
 use Rattle.shr_base.specs.declared.places.Place.{Place}
 use Rattle.shr_base.specs.declared.ends.PlaceAmount.{PlaceAmount}
@@ -30,7 +30,7 @@ use Rattle.shr_charge.specs.Views.{no_tree}
 use Rattle.shr_charge.specs.Views as charge
 use Rattle.shr_walk.specs.State.{WorkerState}
 use Rattle.shr_report.specs.declared.report.Report.{Report}
-use Rattle.shr_report.specs.Parts.{parents_of, hierarchy_of, decls_on, serial_of, commands_of, answers_of, walks_of, carries_of, isolations_of, journals_of, places_of, items_before, items_left, uses_at, lookups_at, IsThere}
+use Rattle.shr_report.specs.Parts.{parents_of, hierarchy_of, decls_on, serial_of, commands_of, sweeps_of, answers_of, walks_of, carries_of, isolations_of, journals_of, places_of, items_before, items_left, uses_at, lookups_at, IsThere}
 use Rattle.shr_report.specs.BitsLawful.{AreBitsLawful}
 use Rattle.shr_report.specs.Deferred.{printed_at}
 use Rattle.shr_report.specs.WellFormed.{AreRising}
@@ -41,6 +41,7 @@ use Rattle.shr_assemble.specs.Entries.{StandsIn}
 use Rattle.shr_assemble.specs.Order.{IsInLine}
 use Rattle.shr_assemble.specs.Did.{Did}
 use Rattle.shr_assemble.specs.Isolating.{isolated_in, isolated_before, DidIsolations}
+use Rattle.shr_assemble.specs.Sweeps.{AreSwept}
 
 -- what the steps of a run have made, in all
 abbrev pub all_made : List (List Step) → List Made
@@ -114,10 +115,10 @@ pub record IsShownIn (s : Script) (r : Report) (workers : List (List Step)) (t :
   pub tree : Begins t.tree.known r.tree.items
   pub ops : All (λ (o : UseStep). slice_get (uses_at r o.group) o.operation ≡ Some o) t.uses.ops
 
--- the steps of each worker: one for each of its commands, from a new state on, with the report's answers, walks and carries
+-- the steps of each worker: one for each of its commands and one for the sweep, from a new state on, with the report's answers, walks and carries
 pub record AreSteps (s : Script) (r : Report) (workers : List (List Step)) : Type 0 where
   pub each : (worker k : ℕ) (x : Step) → slice_get (steps_of workers worker) k ≡ Some x → IsStep s r worker k x
-  pub commands : (worker : ℕ) → length (commands_of s worker) ≡ length (steps_of workers worker)
+  pub commands : (worker : ℕ) → length (steps_of workers worker) ≡ length (commands_of s worker) + sweeps_of s worker
   pub answers : (worker : ℕ) → length (answers_of r worker) ≡ length (steps_of workers worker)
   pub first : ℕ → WorkerState
   pub new : (worker : ℕ) → IsNew s (first worker)
@@ -204,6 +205,7 @@ pub record IsRun (s : Script) (r : Report) (workers : List (List Step)) : Type 0
   -- what each worker did at the pools of units, command by command
   pub plain : List (List UnitsStep)
   pub units : AreUnits s r plain
+  pub sweep : AreSwept s workers
   pub added : r.added ≡ length (added_in (places_of r) (journals_of r))
   pub freed : r.freed ≡ length (freed_in (places_of r) (parents_of s) (journals_of r))
   pub listed : r.listed ≡ length (listed_in (places_of r) (parents_of s) (journals_of r))

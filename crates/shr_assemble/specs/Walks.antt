@@ -27,7 +27,7 @@ use Rattle.shr_core.specs.Parts.{Counted, Mapped}
 use Rattle.shr_walk.specs.Fresh.{AreFresh}
 use Rattle.shr_report.specs.Parts.{parents_of, limit_of, first_isolation, EachAttempt}
 use Rattle.shr_report.specs.LawfulWalk.{IsBegun, IsLastOfCut, IsPlaced}
-use Rattle.shr_report.specs.Swept.{IsSweepWalk}
+use Rattle.shr_report.specs.Swept.{IsSwept}
 use Rattle.shr_report.specs.Cuts.{IsWant}
 use Rattle.shr_report.specs.WalksLawful.{over_at, MayMake, IsToldBy}
 use Rattle.shr_report.specs.WellFormed.{IsWalkWell}
@@ -102,7 +102,7 @@ pub record DidJobs (s : Script) (x : Step) (c : Command) : Type 0 where
 pub record DidSweep (s : Script) (x : Step) : Type 0 where
   pub sweep : Sweep
   pub asked : s.sweep ≡ Some sweep
-  pub walks : AllByRecursion (IsSweepWalk s sweep) x.work.walks
+  pub swept : IsSwept s sweep x.work.walks x.answered
 
 -- the walks are those that a step was asked for
 abbrev pub AreWalksFor : Script → Step → Option Command → Type 0

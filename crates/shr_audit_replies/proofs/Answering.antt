@@ -1,7 +1,7 @@
 -- The fields of the law on replies that speak of all answers and entries, from those that are tested.
-use Rattle.std.proofs.Common.{◌≡◌, ℕ, ◌<◌, true, Option, Some, None, refl, sym, ap, subst, ◌∙◌, inl, inr, arith}
+use Rattle.std.proofs.Common.{◌≡◌, ℕ, ◌<◌, ◌≤◌, length, true, Option, Some, None, refl, sym, ap, subst, ◌∙◌, inl, inr, arith}
 use Rattle.std.specs.Prelude.{slice_get, option_map, option_and_then}
-use Rattle.std.proofs.lemmas.Option.{slice_get_cases, slice_get_within}
+use Rattle.std.proofs.lemmas.Option.{none-some, slice_get_cases, slice_get_within}
 use Rattle.shr_base.specs.declared.places.Serial.{Serial}
 use Rattle.shr_base.specs.declared.places.Place.{Place}
 use Rattle.shr_base.specs.declared.places.At.{At}
@@ -16,7 +16,9 @@ use Rattle.shr_model.specs.Tenants.{by_of}
 use Rattle.shr_report.specs.declared.report.Report.{Report}
 use Rattle.shr_report.specs.Parts.{parents_of, journals_of, answers_of, answer_at, commands_of, command_at, reply_at, cited_by, cited_at, id_found, at, serial_of, EachAnswer}
 use Rattle.shr_report.specs.ReplyTable.{IsReply}
-use Rattle.shr_audit_replies.specs.Heads.{IsCounted}
+use Rattle.shr_report.specs.Swept.{IsSweepReply}
+use Rattle.shr_report.proofs.QuietSweep.{few_sweeps, sweep_cites}
+use Rattle.shr_audit_replies.specs.Heads.{IsCounted, AreLastSwept}
 use Rattle.shr_audit_replies.specs.Answers.{AreAnswered, AreValuesLent}
 use Rattle.shr_audit_replies.specs.Cited.{AreEntriesCited, AreJournalsRising}
 use Rattle.shr_audit_replies.proofs.Replying.{Own, own_cited, whole, without_value, lent}
@@ -36,18 +38,26 @@ given : {Y : Type 0} (f : Reply → Option Y) (o : Option Answered) (y : Y) → 
 given f None y e = absurd (cc)
 given f (Some a) y e = record { answer = a; there = refl; gives = e }
 
--- each answer has its command, where each worker has one answer per command
-command_of : (s : Script) (r : Report) → IsCounted s r → (by : Serial) (a : Answered) → answer_at r by ≡ Some a → (c : Command) × (command_at s by ≡ Some c)
-command_of s r counted by a e = elim ((slice_get_cases (commands_of s by.worker) by.command).1) [
+-- an answer behind those to a worker's commands is the next one
+behind : (s : Script) (r : Report) → IsCounted s r → (by : Serial) (a : Answered) → answer_at r by ≡ Some a → length (commands_of s by.worker) ≤ by.command → length (commands_of s by.worker) ≡ by.command
+behind s r counted by a e past =
+    let lt = slice_get_within (answers_of r by.worker) by.command a e in
+    let same = counted by.worker in
+    let few = few_sweeps s.sweep (slice_get s.workers.items by.worker) in
+    omega (arith, lt, same, few, past)
+
+-- each answer has its command, if it isn't to a sweep
+command_of : (s : Script) (r : Report) → IsCounted s r → AreLastSwept s r → (by : Serial) (a : Answered) → answer_at r by ≡ Some a → (IsSweepReply a.reply → ⊥) → (c : Command) × (command_at s by ≡ Some c)
+command_of s r counted last by a e own = elim ((slice_get_cases (commands_of s by.worker) by.command).1) [
   | inl there ↦ (there.0, there.2)
-  | inr past ↦ absurd (let lt = slice_get_within (answers_of r by.worker) by.command a e in let same = counted by.worker in omega (arith, lt, same, past.0))
+  | inr past ↦ absurd (own (last by.worker a (ap (λ (n : ℕ). answer_at r (serial_of by.worker n)) (behind s r counted by a e past.0) ∙ e)))
 ]
 
 -- what the reply to a command cites is its own entry
-own_of : (s : Script) (r : Report) → IsCounted s r → AreAnswered s r → (by : Serial) (a : At) → cited_at r by ≡ Some a → Own (journals_of r) a by
-own_of s r counted answered by a e =
+own_of : (s : Script) (r : Report) → IsCounted s r → AreLastSwept s r → AreAnswered s r → (by : Serial) (a : At) → cited_at r by ≡ Some a → Own (journals_of r) a by
+own_of s r counted last answered by a e =
     let g = given cited_by (answer_at r by) a e in
-    let c = command_of s r counted by g.answer g.there in
+    let c = command_of s r counted last by g.answer g.there (λ is. none-some a (sym (sweep_cites g.answer.reply is) ∙ g.gives)) in
     own_cited (parents_of s) (journals_of r) by c.0 (id_found g.answer) g.answer.reply a (answered by c.0 g.answer c.1 g.there) g.gives
 
 -- ---- values
@@ -64,11 +74,11 @@ answers_whole s r answered lends by c a known there =
 pub answers_without : (s : Script) (r : Report) → EachAnswer s r (λ by c a. IsReply (parents_of s) (journals_of r) by c (id_found a) a.reply) → AreAnswered s r
 answers_without s r all by c a known there = without_value (parents_of s) (journals_of r) by c (id_found a) a.reply (all by c a known there)
 
-pub values_of : (s : Script) (r : Report) → IsCounted s r → EachAnswer s r (λ by c a. IsReply (parents_of s) (journals_of r) by c (id_found a) a.reply) → AreValuesLent s r
-values_of s r counted all place n e stands by birth key value is replies =
+pub values_of : (s : Script) (r : Report) → IsCounted s r → AreLastSwept s r → EachAnswer s r (λ by c a. IsReply (parents_of s) (journals_of r) by c (id_found a) a.reply) → AreValuesLent s r
+values_of s r counted last all place n e stands by birth key value is replies =
     let g = given (λ x. Some x) (answer_at r by) (reply.Hit (at place n) value) replies_so in
-    let c = command_of s r counted by g.answer g.there in
     let same : g.answer.reply ≡ reply.Hit (at place n) value = some_same g.answer.reply (reply.Hit (at place n) value) g.gives in
+    let c = command_of s r counted last by g.answer g.there (λ is. subst IsSweepReply same is) in
     lent (parents_of s) (journals_of r) by c.0 (id_found g.answer) (at place n) value key birth
     (subst (λ (x : Reply). IsReply (parents_of s) (journals_of r) by c.0 (id_found g.answer) x) same (all by c.0 g.answer c.1 g.there))
     (stands ∙ ap (λ (d : Entry). Some d) is)
@@ -107,15 +117,15 @@ journals_rise s r cited rise place n m d e by later lt here there by_is later_is
         omega (arith, number, lt)
 
 -- and the other way round
-pub replies_rise : (s : Script) (r : Report) → IsCounted s r → AreAnswered s r → AreJournalsRising r
+pub replies_rise : (s : Script) (r : Report) → IsCounted s r → AreLastSwept s r → AreAnswered s r → AreJournalsRising r
     → (worker k later : ℕ) (place : Place) (n m : ℕ) → k < later → cited_at r (serial_of worker k) ≡ Some (at place n) → cited_at r (serial_of worker later) ≡ Some (at place m) → n < m
-replies_rise s r counted answered rising worker k later place n m lt first second = later_or m n falls equal
+replies_rise s r counted last answered rising worker k later place n m lt first second = later_or m n falls equal
   where
     one : Own (journals_of r) (at place n) (serial_of worker k)
-    one = own_of s r counted answered (serial_of worker k) (at place n) first
+    one = own_of s r counted last answered (serial_of worker k) (at place n) first
 
     two : Own (journals_of r) (at place m) (serial_of worker later)
-    two = own_of s r counted answered (serial_of worker later) (at place m) second
+    two = own_of s r counted last answered (serial_of worker later) (at place m) second
 
     falls : m < n → ⊥
     falls down = let back = rising place m n two.entry one.entry (serial_of worker later) (serial_of worker k) down two.stands one.stands two.by_is one.by_is refl in omega (arith, back, lt)

@@ -1,7 +1,7 @@
 -- What is tested of the law on replies, at known values.
 use Rattle.std.proofs.Common.{◌≡◌, ℕ, ◌<◌, ◌≤◌, true, List, [], ◌∷◌, length, Option, Some, refl, ap, subst, arith}
 use Rattle.std.specs.Prelude.{codes}
-use Rattle.std.proofs.lemmas.Option.{slice_get_within}
+use Rattle.std.proofs.lemmas.Option.{none-some, slice_get_within}
 use Rattle.shr_base.specs.declared.places.At.{At}
 use Rattle.shr_base.specs.declared.places.Serial.{Serial}
 use Rattle.shr_base.specs.declared.journals.Entry.{Entry}
@@ -11,9 +11,9 @@ use Rattle.shr_base.specs.declared.scripts.Command.TheVariants.{Get}
 use Rattle.shr_model.specs.Families.{Family}
 use Rattle.shr_report.specs.Parts.{at, cited_at}
 use Rattle.shr_report.proofs.SecondReport.{kept, by, place}
-use Rattle.shr_report.proofs.FirstReport.{script, report}
+use Rattle.shr_report.proofs.FirstReport.{script, report, answer}
 use Rattle.shr_audit_replies.specs.declared.rising.Last.{Last}
-use Rattle.shr_audit_replies.specs.Heads.{HasNames, HasPaths, HasPoolNames, HasSizes}
+use Rattle.shr_audit_replies.specs.Heads.{HasAnswers, HasNames, HasPaths, HasPoolNames, HasSizes, IsLastSwept}
 use Rattle.shr_audit_replies.specs.Answers.{MayReply}
 use Rattle.shr_audit_replies.specs.Cited.{AreRising, IsCited}
 use Rattle.shr_audit_replies.specs.Rising.{IsAfter, last_of, noted_by}
@@ -43,6 +43,18 @@ pools = refl
 
 one_pool : HasPoolNames script (record report { pools = kept (codes "pages" ∷ []) }) → ⊥
 one_pool h = let e : ◌≡◌ {A = ℕ} 1 0 = ap length h in absurd (omega arith)
+
+one_answer : HasAnswers script report 0
+one_answer = refl
+
+no_sweep_answer : HasAnswers (record script { sweep = Some (record { priority = 0; nofs = true }) }) report 0 → ⊥
+no_sweep_answer h = let e : ◌≡◌ {A = ℕ} 1 2 = h in absurd (omega arith)
+
+last_swept : IsLastSwept script report 0
+last_swept a e = absurd (none-some a e)
+
+put_as_swept : IsLastSwept (record script { workers = kept [] }) report 0 → ⊥
+put_as_swept h = h answer refl
 
 -- ---- answers: a hit may stand with any value, and only where a Look of its own hit
 

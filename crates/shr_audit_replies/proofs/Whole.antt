@@ -16,6 +16,7 @@ lawful_of s r h values = record {
   names = h.heads.names;
   pools = h.heads.pools;
   counts = h.counts;
+  last = h.last;
   answered = answers_whole s r h.answered values;
   cited = h.cited;
   rise = h.rise;
@@ -26,6 +27,7 @@ pub but_values : (s : Script) (r : Report) → AreRepliesLawful s r → AreRepli
 but_values s r h = record {
   heads = record { sizes = record { version = h.version; nodes = h.nodes; ids = h.ids }; paths = h.paths; names = h.names; pools = h.pools };
   counts = h.counts;
+  last = h.last;
   answered = answers_without s r h.answered;
   cited = h.cited;
   rise = h.rise;
@@ -33,4 +35,4 @@ but_values s r h = record {
 
 -- and the values that hits lend are the right ones where the law holds
 pub values_lent : (s : Script) (r : Report) → AreRepliesLawful s r → AreValuesLent s r
-values_lent s r h = values_of s r h.counts h.answered
+values_lent s r h = values_of s r h.counts h.last h.answered

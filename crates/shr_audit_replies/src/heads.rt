@@ -2,9 +2,11 @@
 
 ghost use Rattle.std.specs.Prelude.{◌≡◌, ◌∷◌, codes, map};
 ghost use Rattle.std.specs.Bool.{Decides};
-ghost use Rattle.shr_audit_replies.specs.Heads.{HasNames, HasPaths, HasPoolNames, HasSizes, IsCounted};
+ghost use Rattle.shr_report.specs.Swept.{IsSweepReply};
+ghost use Rattle.shr_audit_replies.specs.Heads.{AreLastSwept, HasAnswers, HasNames, HasPaths, HasPoolNames, HasSizes, IsCounted, IsLastSwept};
 
-use crate::numbers::{count_answers, count_commands};
+use crate::numbers::{answer_of, count_answers, count_commands, count_sweeps};
+use shr_base::replies::Reply;
 use shr_base::scripts::{CacheDecl, GroupDecl, PoolDecl, Script};
 use shr_base::text::Text;
 use shr_report::report::Report;
@@ -127,13 +129,58 @@ pub fn has_pool_names(script: &Script, report: &Report) -> bool
     all
 }
 
-/// Whether each worker has one answer per command. Our own.
+// Whether a worker has one answer per command, and one to the sweep of a script that has one.
+fn has_answers(script: &Script, report: &Report, worker: usize) -> bool
+    ensures { Decides result (HasAnswers script.now report.now worker) }
+{
+    let answers = count_answers(report, worker);
+    let commands = count_commands(script, worker);
+    if answers < commands {
+        return false;
+    }
+    answers - commands == count_sweeps(script, worker)
+}
+
+/// Whether each worker has one answer per command, and behind them one to the sweep of a script
+/// that has one. Our own.
 pub fn is_counted(script: &Script, report: &Report) -> bool
     ensures { Decides result (IsCounted script.now report.now) }
 {
     let workers = script.workers.len().max(report.workers.len());
     for worker in 0..workers {
-        if count_answers(report, worker) != count_commands(script, worker) {
+        if !has_answers(script, report, worker) {
+            return false;
+        }
+    }
+    true
+}
+
+// Whether a reply is one to a sweep.
+fn is_sweep_reply(reply: &Reply) -> bool
+    ensures { Decides result (IsSweepReply reply.now) }
+{
+    match reply {
+        Reply::Swept { .. } | Reply::WalkMemory { .. } => true,
+        _ => false,
+    }
+}
+
+// Whether the answer behind those to a worker's commands, if there is one, is to a sweep.
+fn is_last_swept(script: &Script, report: &Report, worker: usize) -> bool
+    ensures { Decides result (IsLastSwept script.now report.now worker) }
+{
+    match answer_of(report, worker, count_commands(script, worker)) {
+        Some(answer) => is_sweep_reply(&answer.reply),
+        None => true,
+    }
+}
+
+/// Whether that is so of each worker. Our own.
+pub fn are_last_swept(script: &Script, report: &Report) -> bool
+    ensures { Decides result (AreLastSwept script.now report.now) }
+{
+    for worker in 0..report.workers.len() {
+        if !is_last_swept(script, report, worker) {
             return false;
         }
     }

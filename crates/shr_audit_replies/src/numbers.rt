@@ -1,7 +1,7 @@
 //! Commands and answers by the numbers of their workers and their own.
 
 ghost use Rattle.std.specs.Prelude.{◌≡◌, length, option_copied};
-ghost use Rattle.shr_report.specs.Parts.{answer_at, answers_of, command_at, commands_of, serial_of};
+ghost use Rattle.shr_report.specs.Parts.{answer_at, answers_of, command_at, commands_of, serial_of, sweeps_of};
 
 use shr_base::replies::Answered;
 use shr_base::scripts::{Command, Script};
@@ -23,6 +23,19 @@ pub fn count_commands(script: &Script, worker: usize) -> usize
 {
     match script.workers.get(worker) {
         Some(commands) => commands.commands.len(),
+        None => 0,
+    }
+}
+
+/// How many answers a worker has to the sweep of a script, 1 at most. Our own.
+pub fn count_sweeps(script: &Script, worker: usize) -> usize
+    ensures { result ≡ sweeps_of script.now worker }
+{
+    if script.sweep.is_none() {
+        return 0;
+    }
+    match script.workers.get(worker) {
+        Some(_) => 1,
         None => 0,
     }
 }

@@ -11,7 +11,7 @@ use shr_base::log::Log;
 use shr_base::objects::Policy;
 use shr_base::places::{At, Place, Serial};
 use shr_base::replies::{Answered, Found, Reply, Spent};
-use shr_base::scripts::{CacheDecl, Command, GroupDecl, PoolDecl, Script, WorkerScript};
+use shr_base::scripts::{CacheDecl, Command, GroupDecl, PoolDecl, Script, Sweep, WorkerScript};
 use shr_base::text::Text;
 use shr_formed::lists::lists_stand;
 use shr_report::report::Report;
@@ -29,6 +29,8 @@ enum Wrong {
     Names,
     Pools,
     Counts,
+    // The answer to the sweep is one to a `get`.
+    Last,
     // No cache was found for an object that was added.
     NotFound,
     // The cache that was found has another id than the entry.
@@ -91,10 +93,12 @@ fn cache(alloc: Global) -> Result<CacheDecl, Fail> {
     })
 }
 
-fn script(alloc: Global) -> Result<Script, Fail> {
+fn script(alloc: Global, wrong: Wrong) -> Result<Script, Fail> {
     let mut commands = Log::new(alloc);
     commands.add(put(alloc)?)?;
-    commands.add(get(alloc)?)?;
+    if wrong != Wrong::Last {
+        commands.add(get(alloc)?)?;
+    }
     let mut workers = Log::new(alloc);
     workers.add(WorkerScript { commands })?;
     let mut groups = Log::new(alloc);
@@ -110,7 +114,17 @@ fn script(alloc: Global) -> Result<Script, Fail> {
         caches,
         pools,
         workers,
-        sweep: None,
+        sweep: sweep(wrong),
+    })
+}
+
+fn sweep(wrong: Wrong) -> Option<Sweep> {
+    if wrong != Wrong::Last {
+        return None;
+    }
+    Some(Sweep {
+        priority: 0,
+        nofs: false,
     })
 }
 
@@ -268,7 +282,7 @@ fn do_lists_stand(report: &Report) -> bool
 
 // Whether the report with this in it is lawful.
 fn is_lawful(alloc: Global, wrong: Wrong) -> Result<bool, Fail> {
-    let script = script(alloc)?;
+    let script = script(alloc, wrong)?;
     let report = report(alloc, wrong)?;
     if !do_lists_stand(&report) {
         return Ok(false);
@@ -289,6 +303,7 @@ fn each_field_is_asked(rt: HostRuntime) -> Result<(), Fail> {
         Wrong::Names,
         Wrong::Pools,
         Wrong::Counts,
+        Wrong::Last,
         Wrong::NotFound,
         Wrong::FoundElsewhere,
         Wrong::Spent,

@@ -63,6 +63,7 @@ use Rattle.shr_report.proofs.SecondReport.{by, place, put, use_step}
 use Rattle.shr_report.proofs.FirstReport.{script, report, answer, entries, end}
 use Rattle.shr_report.proofs.SecondCases.{each_at, only_journal, AllAt}
 use Rattle.shr_report.proofs.QuietPools.{quiet_pools}
+use Rattle.shr_report.proofs.QuietSweep.{quiet_counts, quiet_last, quiet_sweep}
 
 each_by : (P : Serial → Command → Answered → Type 0) → P (by 0) put answer → (worker k : ℕ) (c : Command) (a : Answered)
     → slice_get (Rattle.shr_report.specs.Parts.commands_of script worker) k ≡ Some c → slice_get (answers_of report worker) k ≡ Some a → P (record { worker = worker; command = k }) c a
@@ -101,7 +102,8 @@ replies = record {
   paths = refl;
   names = refl;
   pools = refl;
-  counts = counts_are;
+  counts = quiet_counts script report refl counts_are;
+  last = quiet_last script report counts_are;
   answered = each_answer _ (record { id_is = refl; node_is = refl; stands = refl });
   cited = each_entry (λ p n e. (x : Serial) → Rattle.shr_model.specs.Tenants.by_of e ≡ Some x → cited_at report x ≡ Some (at p n))
       ((λ x e. let same : by 0 ≡ x = cc in subst (λ y. cited_at report y ≡ Some (at place 0)) same refl), tt);
@@ -377,4 +379,4 @@ isolations = quiet_isolations script report no_isolations (each_entry (λ p n e.
 
 -- The report is lawful.
 pub lawful : IsLawful script report
-lawful = record { replies = replies; journals = journals; bag = bag; walks = walks; lookups = lookups; charges = charges; deferred = deferred; bits = bits; causes = causes; pools = pools; isolations = isolations }
+lawful = record { replies = replies; journals = journals; bag = bag; walks = walks; lookups = lookups; charges = charges; deferred = deferred; bits = bits; causes = causes; pools = pools; isolations = isolations; sweep = quiet_sweep script report refl }

@@ -24,6 +24,7 @@ use Rattle.shr_report.specs.UnitParts.{free_at}
 use Rattle.shr_report.proofs.SecondReport.{kept, by, held, unheld}
 use Rattle.shr_report.proofs.SecondCases.{AllTwo, each_two}
 use Rattle.shr_report.proofs.PoolsReport.{buf, commands, script, place, answers, pass, walk, end, part, report}
+use Rattle.shr_report.proofs.QuietSweep.{quiet_counts, quiet_last}
 
 each_by : (P : Serial → Command → Answered → Type 0) → AllTwo (λ k. P (by k)) commands answers → (worker k : ℕ) (c : Command) (a : Answered)
     → slice_get (commands_of script worker) k ≡ Some c → slice_get (answers_of report worker) k ≡ Some a → P (record { worker = worker; command = k }) c a
@@ -55,7 +56,8 @@ replies = record {
   paths = refl;
   names = refl;
   pools = refl;
-  counts = counted;
+  counts = quiet_counts script report refl counted;
+  last = quiet_last script report counted;
   answered = each_answer (λ x c a. IsReply (parents_of script) (journals_of report) x c (id_found a) a.reply) (tt, (tt, (tt, (tt, (tt, tt)))));
   cited = λ p n e at. absurd (cc);
   rise = λ worker k later p n m before e f. absurd (cites_none worker k p n e);

@@ -1,5 +1,5 @@
 -- A report that says nothing of isolations has what the law on isolations asks of it.
-use Rattle.std.proofs.Common.{◌≡◌, ℕ, List, [], sym, ap, ◌∙◌}
+use Rattle.std.proofs.Common.{◌≡◌, ℕ, [], sym, ap, ◌∙◌}
 use Rattle.std.specs.Prelude.{slice_get, Some, filter}
 use Rattle.std.proofs.lemmas.Option.{none-some}
 use Rattle.shr_base.specs.declared.scripts.Script.{Script}

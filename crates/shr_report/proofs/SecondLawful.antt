@@ -67,6 +67,7 @@ use Rattle.shr_report.specs.UnitParts.{plain_of, plain_at, units_cited_at}
 use Rattle.shr_report.proofs.SecondReport.{use_step, script, report, by, place, cleared, first_walk, second_walk}
 use Rattle.shr_report.proofs.SecondCases.{each_at, each_answer, each_walk, each_entry, each_journal}
 use Rattle.shr_report.proofs.QuietPools.{quiet_pools}
+use Rattle.shr_report.proofs.QuietSweep.{quiet_counts, quiet_last, quiet_sweep}
 
 -- a command that cites an entry cites the one of its own number
 cites : (worker k : ℕ) (p : Place) (n : ℕ) → cited_at report (serial_of worker k) ≡ Some (at p n) → (n ≡ k) × (k < 2) × (p ≡ place)
@@ -89,7 +90,8 @@ replies = record {
   paths = refl;
   names = refl;
   pools = refl;
-  counts = counts_are;
+  counts = quiet_counts script report refl counts_are;
+  last = quiet_last script report counts_are;
   answered = each_answer _ (record { id_is = refl; node_is = refl; stands = refl }, (record { id_is = refl; node_is = refl; stands = refl }, (tt, (tt, tt))));
   cited = each_entry (λ p n e. (x : Rattle.shr_base.specs.declared.places.Serial.Serial) → Rattle.shr_model.specs.Tenants.by_of e ≡ Some x → cited_at report x ≡ Some (at p n))
       ((λ x e. let same : by 0 ≡ x = cc in subst (λ y. cited_at report y ≡ Some (at place 0)) same refl), ((λ x e. let same : by 1 ≡ x = cc in subst (λ y. cited_at report y ≡ Some (at place 1)) same refl), tt));
@@ -501,4 +503,4 @@ isolations = quiet_isolations script report no_isolations (each_entry (λ p n e.
 
 -- The report is lawful: no sentence asks what a run of this script doesn't give.
 pub lawful : IsLawful script report
-lawful = record { replies = replies; journals = journals; bag = bag; walks = walks; lookups = lookups; charges = charges; deferred = deferred; bits = bits; causes = causes; pools = pools; isolations = isolations }
+lawful = record { replies = replies; journals = journals; bag = bag; walks = walks; lookups = lookups; charges = charges; deferred = deferred; bits = bits; causes = causes; pools = pools; isolations = isolations; sweep = quiet_sweep script report refl }

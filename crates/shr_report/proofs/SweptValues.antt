@@ -11,7 +11,8 @@ use Rattle.shr_base.specs.declared.walks.WalkAnswer.TheVariants.{Walked}
 use Rattle.shr_base.specs.declared.walks.WalkRecord.{WalkRecord}
 use Rattle.shr_report.specs.declared.report.Report.{Report}
 use Rattle.shr_report.specs.Parts.{answer_at, reply_at}
-use Rattle.shr_report.specs.Swept.{sweep_serial, times_swept, IsSweptOut, IsSwept, IsSweepRight, IsSweepLawful}
+use Rattle.shr_report.specs.Replies.{AreRepliesLawful}
+use Rattle.shr_report.specs.Swept.{sweep_serial, sweep_walks, times_swept, IsSweptOut, IsSwept, IsSweepRight, IsSweepLawful}
 use Rattle.shr_report.proofs.SecondReport.{kept, held, unheld}
 use Rattle.shr_report.proofs.FirstReport as first
 
@@ -50,20 +51,20 @@ each_once (suc zero) zero low here = refl
 each_once (suc zero) (suc node) low here = absurd (omega (arith, here))
 each_once (suc (suc group)) node low here = absurd (omega (arith, low))
 
-first_swept : IsSwept script report sweep 0 (unheld (reply.Swept 1 0))
+first_swept : IsSwept script sweep (walk 0 0 ∷ []) (unheld (reply.Swept 1 0))
 first_swept = record {
   alone = refl;
   kind = tt;
-  walks = (record { group = omega arith; node = omega arith; priority = refl; nofs = refl }, tt);
+  walks_are = (record { group = omega arith; node = omega arith; priority = refl; nofs = refl }, tt);
   jobs = λ jobs freed e. let same : 1 ≡ jobs = cc in omega (arith, same);
   freed = refl;
 }
 
-second_swept : IsSwept script report sweep 1 (unheld (reply.Swept 1 0))
+second_swept : IsSwept script sweep (walk 1 1 ∷ []) (unheld (reply.Swept 1 0))
 second_swept = record {
   alone = refl;
   kind = tt;
-  walks = (record { group = omega arith; node = omega arith; priority = refl; nofs = refl }, tt);
+  walks_are = (record { group = omega arith; node = omega arith; priority = refl; nofs = refl }, tt);
   jobs = λ jobs freed e. let same : 1 ≡ jobs = cc in omega (arith, same);
   freed = refl;
 }
@@ -75,7 +76,7 @@ right = record {
   all = λ none group node low here. each_once group node low here;
 }
   where
-    answered : (worker : ℕ) → worker < 2 → IsSomeAnd (answer_at report (sweep_serial script worker)) (IsSwept script report sweep worker)
+    answered : (worker : ℕ) → worker < 2 → IsSomeAnd (answer_at report (sweep_serial script worker)) (IsSwept script sweep (sweep_walks script report worker))
     answered zero low = first_swept
     answered (suc zero) low = second_swept
     answered (suc (suc worker)) low = absurd (omega (arith, low))
@@ -86,6 +87,13 @@ lawful z e = let same : sweep ≡ z = cc in subst (IsSweepRight script report) s
 -- a script without a sweep asks nothing
 quiet : IsSweepLawful first.script first.report
 quiet z e = absurd (cc)
+
+-- the law on replies asks for the last answer too, and for one of a sweep
+no_last : AreRepliesLawful script (record first.report { workers = kept (part (unheld (reply.Swept 2 0)) (walk 0 0 ∷ walk 0 1 ∷ []) ∷ []) }) → ⊥
+no_last h = let e : 0 ≡ 1 = h.counts 1 in absurd (omega (arith, e))
+
+other_last : AreRepliesLawful script (with (part (unheld (reply.Walked 0)) (walk 0 0 ∷ [])) (part (unheld (reply.Swept 1 0)) (walk 1 1 ∷ []))) → ⊥
+other_last h = h.last 0 _ refl
 
 -- a worker has no last answer; one that is of no sweep; one with a found cache
 no_answer : IsSweepLawful script (record first.report { workers = kept (part (unheld (reply.Swept 2 0)) (walk 0 0 ∷ walk 0 1 ∷ []) ∷ []) }) → ⊥
@@ -102,16 +110,16 @@ abbrev first_walk : WalkRecord → Report
 first_walk w = with (part (unheld (reply.Swept 1 0)) (w ∷ [])) (part (unheld (reply.Swept 1 0)) (walk 1 1 ∷ []))
 
 other_priority : IsSweepLawful script (first_walk (record (walk 0 0) { priority = 0 })) → ⊥
-other_priority h = let e : 0 ≡ 12 = ((h sweep refl).answers 0 (omega arith)).walks.0.priority in absurd (omega (arith, e))
+other_priority h = let e : 0 ≡ 12 = ((h sweep refl).answers 0 (omega arith)).walks_are.0.priority in absurd (omega (arith, e))
 
 other_kind : IsSweepLawful script (first_walk (record (walk 0 0) { nofs = false })) → ⊥
-other_kind h = absurd (let e : false ≡ true = ((h sweep refl).answers 0 (omega arith)).walks.0.nofs in cc)
+other_kind h = absurd (let e : false ≡ true = ((h sweep refl).answers 0 (omega arith)).walks_are.0.nofs in cc)
 
 no_group : IsSweepLawful script (first_walk (walk 0 2)) → ⊥
-no_group h = let low = ((h sweep refl).answers 0 (omega arith)).walks.0.group in absurd (omega (arith, low))
+no_group h = let low = ((h sweep refl).answers 0 (omega arith)).walks_are.0.group in absurd (omega (arith, low))
 
 no_node : IsSweepLawful script (first_walk (record (walk 0 0) { node = 1 })) → ⊥
-no_node h = let low = ((h sweep refl).answers 0 (omega arith)).walks.0.node in absurd (omega (arith, low))
+no_node h = let low = ((h sweep refl).answers 0 (omega arith)).walks_are.0.node in absurd (omega (arith, low))
 
 -- a worker counts a job more than it walked, and more freed than its walks
 job_more : IsSweepLawful script (with (part (unheld (reply.Swept 2 0)) (walk 0 0 ∷ [])) (part (unheld (reply.Swept 1 0)) (walk 1 1 ∷ []))) → ⊥

@@ -1,5 +1,5 @@
--- When a report is faithful: what its workers told stands in the order of their commands, and nothing is told twice. The ten
--- laws say nothing of it.
+-- When a report is faithful: what its workers told stands in the order of their commands, and nothing is told twice. The
+-- laws of a lawful report say nothing of it.
 use Rattle.std.specs.Prelude.{◌≡◌, ℕ, ◌+◌, ◌<◌, ◌≤◌, List, [], ◌∷◌, ◌++◌, length, map, slice_get, Some, true, ⊤}
 use Rattle.std.specs.List.{AllByRecursion}
 use Rattle.std.specs.Option.{IsSomeAnd}

@@ -22,6 +22,7 @@ use Rattle.shr_base.specs.declared.ends.WorkerPart.{WorkerPart}
 use Rattle.shr_base.specs.declared.scripts.CacheDecl.{CacheDecl}
 use Rattle.shr_base.specs.declared.scripts.Command.{Command}
 use Rattle.shr_base.specs.declared.scripts.Script.{Script}
+use Rattle.shr_base.specs.declared.scripts.Sweep.{Sweep}
 use Rattle.shr_base.specs.declared.scripts.WorkerScript.{WorkerScript}
 use Rattle.shr_model.specs.Groups.{Hierarchy}
 use Rattle.shr_model.specs.Places.{is_place}
@@ -65,6 +66,16 @@ commands_in (Some w) = w.commands.items
 -- the commands of a worker by its number
 abbrev pub commands_of : Script → ℕ → List Command
 commands_of s worker = commands_in (slice_get s.workers.items worker)
+
+-- how many answers a worker has behind those to its commands: one, to the sweep of a script that has one
+abbrev pub sweeps_in : Option Sweep → Option WorkerScript → ℕ
+sweeps_in None w = 0
+sweeps_in (Some z) None = 0
+sweeps_in (Some z) (Some w) = 1
+
+-- the same by the number of the worker
+abbrev pub sweeps_of : Script → ℕ → ℕ
+sweeps_of s worker = sweeps_in s.sweep (slice_get s.workers.items worker)
 
 -- the command with this serial, if the script has it
 abbrev pub command_at : Script → Serial → Option Command

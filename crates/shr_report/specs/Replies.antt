@@ -1,5 +1,5 @@
--- Replies: each command has its answer, and each entry of a tenant its reply.
-use Rattle.std.specs.Prelude.{◌≡◌, ℕ, ◌<◌, ◌∷◌, length, map, codes, Some}
+-- Replies: each command has its answer, and so has a sweep, and each entry of a tenant its reply.
+use Rattle.std.specs.Prelude.{◌≡◌, ℕ, ◌+◌, ◌<◌, ◌∷◌, length, map, codes, Some}
 use Rattle.shr_base.specs.declared.places.Serial.{Serial}
 use Rattle.shr_base.specs.declared.places.Place.{Place}
 use Rattle.shr_base.specs.declared.replies.Answered.{Answered}
@@ -7,8 +7,9 @@ use Rattle.shr_base.specs.declared.scripts.Command.{Command}
 use Rattle.shr_base.specs.declared.scripts.Script.{Script}
 use Rattle.shr_model.specs.Tenants.{by_of}
 use Rattle.shr_report.specs.declared.report.Report.{Report}
-use Rattle.shr_report.specs.Parts.{parents_of, commands_of, answers_of, journals_of, cited_at, id_found, serial_of, at, EachAnswer, EachEntry}
+use Rattle.shr_report.specs.Parts.{parents_of, commands_of, sweeps_of, answers_of, answer_at, journals_of, cited_at, id_found, serial_of, at, EachAnswer, EachEntry}
 use Rattle.shr_report.specs.ReplyTable.{IsReply}
+use Rattle.shr_report.specs.Swept.{sweep_serial, IsSweepReply}
 
 -- The report has the script's version, sizes, paths and names, and its answers are those of the script's
 -- commands, each of which meets this test.
@@ -19,8 +20,9 @@ pub record AreReplies (IsAnswer : Serial → Command → Answered → Type 0) (s
   pub paths : r.groups.items ≡ codes "/" ∷ map (λ g. g.path) s.groups.items
   pub names : r.caches.items ≡ map (λ c. c.name) s.caches.items
   pub pools : r.pools.items ≡ map (λ p. p.name) s.pools.items
-  -- each worker has one answer per command, in order
-  pub counts : (worker : ℕ) → length (answers_of r worker) ≡ length (commands_of s worker)
+  -- each worker has one answer per command, in order, and behind them one to the sweep of a script that has one
+  pub counts : (worker : ℕ) → length (answers_of r worker) ≡ length (commands_of s worker) + sweeps_of s worker
+  pub last : (worker : ℕ) (a : Answered) → answer_at r (sweep_serial s worker) ≡ Some a → IsSweepReply a.reply
   pub answered : EachAnswer s r IsAnswer
   -- each Add, Look, Drop and Pin entry is cited by the reply to its command
   pub cited : EachEntry r (λ place n e. (by : Serial) → by_of e ≡ Some by → cited_at r by ≡ Some (at place n))

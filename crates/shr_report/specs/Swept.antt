@@ -54,17 +54,17 @@ pub record IsSweepWalk (s : Script) (z : Sweep) (w : WalkRecord) : Type 0 where
   pub nofs : w.nofs ≡ z.nofs
 
 -- the last answer of a worker says how many walks it made for the sweep and what they freed
-pub record IsSwept (s : Script) (r : Report) (z : Sweep) (worker : ℕ) (a : Answered) : Type 0 where
+pub record IsSwept (s : Script) (z : Sweep) (walks : List WalkRecord) (a : Answered) : Type 0 where
   pub alone : a.found ≡ None
   pub kind : IsSweepReply a.reply
-  pub walks : AllByRecursion (IsSweepWalk s z) (sweep_walks s r worker)
-  pub jobs : (jobs freed : ℕ) → a.reply ≡ reply.Swept jobs freed → jobs ≡ length (sweep_walks s r worker)
-  pub freed : freed_swept a.reply ≡ sum_by (λ (w : WalkRecord). freed_told w.answer) (sweep_walks s r worker)
+  pub walks_are : AllByRecursion (IsSweepWalk s z) walks
+  pub jobs : (jobs freed : ℕ) → a.reply ≡ reply.Swept jobs freed → jobs ≡ length walks
+  pub freed : freed_swept a.reply ≡ sum_by (λ (w : WalkRecord). freed_told w.answer) walks
 
 -- each worker of a script with this sweep has its last answer; over all workers no group is walked
 -- twice on a node, and each is walked once if every worker says that no job was left
 pub record IsSweepRight (s : Script) (r : Report) (z : Sweep) : Type 0 where
-  pub answers : (worker : ℕ) → worker < length s.workers.items → IsSomeAnd (answer_at r (sweep_serial s worker)) (IsSwept s r z worker)
+  pub answers : (worker : ℕ) → worker < length s.workers.items → IsSomeAnd (answer_at r (sweep_serial s worker)) (IsSwept s z (sweep_walks s r worker))
   pub once : (group node : ℕ) → times_swept s r group node ≤ 1
   pub all : ((worker : ℕ) → worker < length s.workers.items → IsSomeAnd (reply_at r (sweep_serial s worker)) IsSweptOut)
       → (group node : ℕ) → group < length (parents_of s) → node < s.nodes → times_swept s r group node ≡ 1

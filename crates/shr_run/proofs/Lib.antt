@@ -1,3 +1,5 @@
 pub mod Splitting
 pub mod Parting
+pub mod Passing
+pub mod Swept
 pub mod Ending

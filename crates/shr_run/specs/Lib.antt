@@ -1,3 +1,4 @@
 pub mod Tasks
 pub mod Joins
+pub mod Sweeps
 pub mod Made

@@ -48,6 +48,7 @@ AreTasks x p opened tasks = (i : ℕ) (t : Task) → slice_get tasks i ≡ Some 
 
 -- a worker ran its task to the end: its seats hold nothing, and where its result is whole it answered each command
 pub record HasRun (x : Shared) (p : Pools) (task : Task) (w : WorkerResult) : Type 0 where
+  pub number : w.number ≡ task.number
   pub rested : IsRested x w.seats
   pub owed : OwesNoMore (view_of task.seats.cache.core) (view_of w.seats.cache.core)
   pub plain_seat : IsOf p w.plain

@@ -6,6 +6,7 @@ ghost use Rattle.shr_assemble.specs.Putting.{AreEnds};
 
 use crate::joining::join_all;
 use crate::starting::split_all;
+use crate::sweeping::sweep_if;
 use crate::working::run_all;
 use shr_assemble::logs::WorkerLog;
 use shr_base::memory::Memory;
@@ -25,7 +26,7 @@ pub(crate) struct Ran {
     pub logs: Vec<WorkerLog>,
 }
 
-/// Opens the tables of a valid script, runs its workers on threads, joins them and ends the tables. `Memory` comes for
+/// Opens the tables of a valid script, runs its workers on threads, makes its sweep, joins them and ends the tables. `Memory` comes for
 /// want of memory. It waits as the workers do. Our own.
 pub(crate) fn run<R: Threads + Wait + Sync, G: Gate + Sync>(
     rt: &R,
@@ -40,7 +41,8 @@ pub(crate) fn run<R: Threads + Wait + Sync, G: Gate + Sync>(
     let (tables, mut first) = open(rt, alloc, script)?;
     let tasks = split_all(alloc, &tables, &mut first)?;
     let results = run_all(rt, &tables, tasks, gate)?;
-    let logs = join_all(alloc, &tables, &mut first, results)?;
+    let swept = sweep_if(rt, alloc, &tables, results, gate)?;
+    let logs = join_all(alloc, &tables, &mut first, swept)?;
     let ends = finish(alloc, tables, first)?;
     Ok(Ran { ends, logs })
 }

@@ -140,7 +140,7 @@ serves_isolation = true
 
 -- and a sweep.
 abbrev pub serves_sweep : Bool
-serves_sweep = false
+serves_sweep = true
 
 -- the lines of this kind are taken in a script of this version; a word that begins another names
 -- nothing

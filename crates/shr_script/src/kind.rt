@@ -58,7 +58,7 @@ const SERVES_POOLS: bool = true;
 
 const SERVES_ISOLATION: bool = true;
 
-const SERVES_SWEEP: bool = false;
+const SERVES_SWEEP: bool = true;
 
 #[tactic(auto, unfolding(crate::specs::Lines::verb_of))]
 fn verb_of(word: &[u8]) -> Option<Verb>

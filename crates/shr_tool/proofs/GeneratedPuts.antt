@@ -26,6 +26,7 @@ use Rattle.shr_report.specs.Parts.{parents_of, decls_on, commands_of, answers_of
 use Rattle.shr_report.specs.Puts.{IsOnlyPut, StaysOn, StaysOnline, IsFreePut, IsAddedOrSpent, AreFreePutsAdded, IsEachAdded, DoPutsAddUp}
 use Rattle.shr_report.specs.WellFormed.{IsWellFormed}
 use Rattle.shr_report.specs.ReplyTable.{IsReply}
+use Rattle.shr_report.proofs.QuietSweep.{own_counts}
 use Rattle.shr_forms.proofs.Reading.{few_commands}
 use Rattle.shr_run.specs.Made.{IsReportOfRun}
 use Rattle.shr_tool.specs.Summary.{replies_of, five_lines, IsUnhindered, HadEnough, IsSummary}
@@ -68,9 +69,13 @@ three_on (suc (suc zero)) lt = inr (inr (inl refl))
 three_on (suc (suc (suc d))) lt = absurd (omega (arith, lt))
 
 module _ (s : Script) (r : Report) (seed workers commands : ℕ) (may : MayBeMade workers commands) (content : content_of s ≡ generated seed workers commands) (lawful : IsLawful s r) where
+  -- no worker answers a sweep
+  counts : (worker : ℕ) → length (answers_of r worker) ≡ length (commands_of s worker)
+  counts = own_counts s r (ap (λ t. t.sweep) content) lawful.replies.counts
+
   -- each command has its reply
   pub replies_are : replies_of r ≡ workers * commands
-  replies_are = sums_agree r.workers.items s.workers.items lawful.replies.counts ∙ commands_in_all s seed workers commands content
+  replies_are = sums_agree r.workers.items s.workers.items counts ∙ commands_in_all s seed workers commands content
 
   on : decls_on s ≡ 0 ∷ 1 ∷ 2 ∷ []
   on = ap (λ t. filter_map (λ (c : ℕ × CacheDecl). cond c.1.on (Some c.0) None) (enumerate_from 0 t.caches)) content
@@ -94,7 +99,7 @@ module _ (s : Script) (r : Report) (seed workers commands : ℕ) (may : MayBeMad
           let t = lawful.causes.pool n (Unregistered decl id to) (omega (arith, long, le)) at in
           let a = some_answer (answer_at r t.0) (IsMadeBy r (Unregistered decl id to) n) t.1 in
           let within = slice_get_within (answers_of r t.0.worker) t.0.command a.0 a.1 in
-          let count = lawful.replies.counts t.0.worker in
+          let count = counts t.0.worker in
           let c = stands_at (commands_of s t.0.worker) t.0.command (omega (arith, within, count)) in
           ends_none s r t.0 n decl id to a.0.reply c.0 (id_found a.0) (λ d same. no_unregister s seed workers commands content t.0.worker t.0.command d (c.1 ∙ ap Some same)) (lawful.replies.answered t.0 c.0 a.0 c.1 a.1) a.2
 

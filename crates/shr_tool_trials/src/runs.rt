@@ -78,6 +78,28 @@ fn two_workers_run_side_by_side(rt: HostRuntime) -> Result<(), Fail> {
     Ok(())
 }
 
+const HELPING: &[u8] =
+    b"shrinkers 2\nsize 1 1\ngroup /a max\ncache dentry plain 2 0 0 any on\nworker\nput /a 0 dentry a =\nworker\nput /a 0 dentry b =\nsweep 0 fs\nend\n";
+
+// Each helper waits for the other, with the number of its worker's commands.
+#[test]
+fn two_helpers_work_side_by_side(rt: HostRuntime) -> Result<(), Fail> {
+    let words = words_of(rt.alloc(), "run")?;
+    let bytes = Vec::from_slice(rt.alloc(), HELPING)?;
+    let gate = Meeting::new();
+    let run = run(
+        &rt,
+        rt.alloc(),
+        &words,
+        bytes,
+        Vec::new(rt.alloc()),
+        &gate,
+        None,
+    );
+    assert_eq!(rt; (run, gate.alone()), ((Status::Done, true), 0));
+    Ok(())
+}
+
 // The status of a run whose input is so many bytes of no script, and whether this was written.
 fn run_of_bytes<R: Threads + Wait + Sync>(
     rt: &R,

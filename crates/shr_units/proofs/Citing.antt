@@ -3,6 +3,7 @@ use Rattle.std.proofs.Common.{◌≡◌, ℕ, zero, suc, ◌+◌, ◌<◌, ◌�
 use Rattle.std.specs.Prelude.{slice_get, Option, Some, None, option_map, option_and_then, ⊤, IsSomeAnd}
 use Rattle.std.specs.List.{AllByRecursion}
 use Rattle.std.proofs.Math.Seq.{take-append_seam}
+use Rattle.std.proofs.lemmas.Bool.{cases_lt}
 use Rattle.std.proofs.lemmas.Option.{same_Some, none-some, slice_get_within, slice_get-get_or}
 use Rattle.shr_base.specs.declared.ends.UnitsEnd.{UnitsEnd}
 use Rattle.shr_base.specs.declared.journals.PlainEntry.{PlainEntry}
@@ -34,9 +35,11 @@ use Rattle.shr_plain.specs.Rule.{units}
 use Rattle.shr_plain.specs.Seat.{PlainState, no_state}
 use Rattle.shr_plain.specs.Settings.{IsPoolOf}
 use Rattle.shr_report.specs.declared.report.Report.{Report}
-use Rattle.shr_report.specs.Parts.{serial_of, answers_of, answer_at, command_at, reply_at, at, EachAnswer}
+use Rattle.shr_report.specs.Parts.{serial_of, commands_of, answers_of, answer_at, command_at, reply_at, at, EachAnswer}
 use Rattle.shr_report.specs.UnitParts.{place_at, pool_place, units_of, units_cited, units_cited_at, plain_by_of, EachUnits, free_at}
+use Rattle.shr_report.specs.Swept.{IsSweepReply}
 use Rattle.shr_report.specs.Pools.{CitesUnits, IsTooFull, IsPoolReply}
+use Rattle.shr_report.proofs.QuietSweep.{few_sweeps}
 use Rattle.shr_plain.specs.Opening.{settings_of, pool_sizes}
 use Rattle.shr_units.specs.Did.{home_of, home_room, release_reply, grab_reply, DidRelease, DidGrab, IsOther}
 use Rattle.shr_units.specs.Steps.{UnitsStep, steps_of}
@@ -54,6 +57,12 @@ sees_part i t u journal sees = ap (λ (v : PlainState). part_at v.rooms i) sees.
 
 pub makes_part : (i : ℕ) (t u : PlainState) (journal : List PlainEntry) (e : PlainEntry) → Makes i t u journal e → part_at u.rooms i ≡ with_entry (part_at t.rooms i) journal e
 makes_part i t u journal e makes = ap (λ (v : PlainState). part_at v.rooms i) makes.state ∙ parts.here t.rooms i (with_entry (part_at t.rooms i) journal e)
+
+-- an answer to a sweep cites no entry of a pool
+sweep_cites : (x : Reply) → IsSweepReply x → units_cited x ≡ None
+sweep_cites (reply.Swept jobs freed) h = refl
+sweep_cites (reply.WalkMemory freed) h = refl
+sweep_cites x h = absurd h
 
 -- a reply that says nothing of a pool cites nothing there
 other_cites : (x : Reply) (c : At) → IsOther x → units_cited x ≡ Some c → ⊥
@@ -113,20 +122,32 @@ module _ (s : Script) (r : Report) (workers : List (List UnitsStep)) (run : AreU
     pub at : slice_get (steps_of workers worker) k ≡ Some step
     pub reply : step.reply ≡ x
 
-  pub replied : (worker k : ℕ) (x : Reply) → reply_at r (serial_of worker k) ≡ Some x → Replied worker k x
-  replied worker k x h = by_answer (answer_at r (serial_of worker k)) refl
+  -- of one that is not to a sweep
+  pub replied : (worker k : ℕ) (x : Reply) → reply_at r (serial_of worker k) ≡ Some x → (IsSweepReply x → ⊥) → Replied worker k x
+  replied worker k x h own = by_answer (answer_at r (serial_of worker k)) refl
     where
-      by_answer : (o : Option Answered) → answer_at r (serial_of worker k) ≡ o → Replied worker k x
-      by_answer None e = absurd (none-some x (sym (ap (option_map (λ (a : Answered). a.reply)) e) ∙ h))
-      by_answer (Some a) e =
-          let within : k < length (steps_of workers worker) = omega (arith, slice_get_within (answers_of r worker) k a e, run.answers worker) in
+      here : k < length (steps_of workers worker) → Replied worker k x
+      here within =
           let d : UnitsStep = some_step (steps_of workers worker) (omega (arith, within)) in
-          let here = slice_get-get_or (steps_of workers worker) k d within in
-          record { step = get_or (steps_of workers worker) k d; at = here; reply = same_Some _ x (sym (run.each worker k (get_or (steps_of workers worker) k d) here).reply ∙ h) }
+          let at = slice_get-get_or (steps_of workers worker) k d within in
+          record { step = get_or (steps_of workers worker) k d; at = at; reply = same_Some _ x (sym (run.each worker k (get_or (steps_of workers worker) k d) at).reply ∙ h) }
         where
           some_step : (xs : List UnitsStep) → 0 < length xs → UnitsStep
           some_step [] lt = absurd (omega (arith, lt))
           some_step (y ∷ xs) lt = y
+
+      -- the answer behind those to the commands
+      behind : (a : Answered) → answer_at r (serial_of worker k) ≡ Some a → length (steps_of workers worker) ≤ k → Replied worker k x
+      behind a e le =
+          let few = few_sweeps s.sweep (slice_get s.workers.items worker) in
+          let many = run.answers worker in let same = run.commands worker in
+          let last : length (commands_of s worker) ≡ k = omega (arith, slice_get_within (answers_of r worker) k a e, few, many, same, le) in
+          let told : IsSweepReply a.reply = run.last worker a (ap (λ n. answer_at r (serial_of worker n)) last ∙ e) in
+          absurd (own (subst IsSweepReply (same_Some a.reply x (sym (ap (option_map (λ (y : Answered). y.reply)) e) ∙ h)) told))
+
+      by_answer : (o : Option Answered) → answer_at r (serial_of worker k) ≡ o → Replied worker k x
+      by_answer None e = absurd (none-some x (sym (ap (option_map (λ (a : Answered). a.reply)) e) ∙ h))
+      by_answer (Some a) e = ⊎_elim (λ within. here within) (λ le. behind a e le) (cases_lt k (length (steps_of workers worker)))
 
   pub record Cited (worker k : ℕ) (p : Place) (n : ℕ) : Type 0 where
     pub step : UnitsStep
@@ -138,10 +159,10 @@ module _ (s : Script) (r : Report) (workers : List (List UnitsStep)) (run : AreU
     where
       by_reply : (o : Option Reply) → reply_at r (serial_of worker k) ≡ o → Cited worker k p n
       by_reply None e = absurd (none-some (at p n) (sym (ap (option_and_then units_cited) e) ∙ h))
-      by_reply (Some x) e = let t = replied worker k x e in record {
+      by_reply (Some x) e = let cites : units_cited x ≡ Some (at p n) = sym (ap (option_and_then units_cited) e) ∙ h in let t = replied worker k x e (λ is. none-some (at p n) (sym (sweep_cites x is) ∙ cites)) in record {
         step = t.step;
         at = t.at;
-        cites = cites_at t.step (kind_at s r workers run worker k t.step t.at) p n (ap units_cited t.reply ∙ (sym (ap (option_and_then units_cited) e) ∙ h));
+        cites = cites_at t.step (kind_at s r workers run worker k t.step t.at) p n (ap units_cited t.reply ∙ cites);
       }
 
   -- what a worker's reply cited it had made before each later step
@@ -210,7 +231,7 @@ module _ (s : Script) (r : Report) (workers : List (List UnitsStep)) (run : AreU
       → reply_at r (serial_of worker later) ≡ Some (reply.Full place.id place.node entries free) → n < entries
   full worker k later place n entries free lt a b =
       let c = cited_step worker k place n a in
-      let t = replied worker later (reply.Full place.id place.node entries free) b in
+      let t = replied worker later (reply.Full place.id place.node entries free) b (λ is. is) in
       let f = full_at t.step (kind_at s r workers run worker later t.step t.at) place.id place.node entries free t.reply in
       let group = c.cites.home.there.group in
       let same : home_of s f.pool f.node ≡ place = λ i. record { id = f.place i; node = f.at_node i; group = (let z : 0 ≡ place.group = omega (arith, group) in z) i } in

@@ -1,9 +1,10 @@
 -- What the workers of a run did at the pools of units, in plain data, and what is printed of it.
-use Rattle.std.specs.Prelude.{◌≡◌, ℕ, ◌<◌, ◌≤◌, nat_lt, cond, List, length, map, flat_map, slice_get, Some, ⊤}
+use Rattle.std.specs.Prelude.{◌≡◌, ℕ, ◌+◌, ◌<◌, ◌≤◌, nat_lt, cond, List, length, map, flat_map, slice_get, Some, ⊤}
 use Rattle.std.specs.List.{AllByRecursion}
 use Rattle.shr_base.specs.declared.ends.PlaceAmount.{PlaceAmount}
 use Rattle.shr_base.specs.declared.journals.PlainEntry.{PlainEntry}
 use Rattle.shr_base.specs.declared.places.Place.{Place}
+use Rattle.shr_base.specs.declared.replies.Answered.{Answered}
 use Rattle.shr_base.specs.declared.replies.Spent.{Spent}
 use Rattle.shr_base.specs.declared.scripts.Command.{Command}
 use Rattle.shr_base.specs.declared.scripts.Command.TheVariants.{Release, Grab}
@@ -21,8 +22,9 @@ use Rattle.shr_plain.specs.Rule.{units}
 use Rattle.shr_plain.specs.Seat.{no_state}
 use Rattle.shr_report.specs.declared.report.Report.{Report}
 use Rattle.shr_report.specs.Causes.{IsPoolSpent}
-use Rattle.shr_report.specs.Parts.{serial_of, commands_of, answers_of, reply_at, command_at}
+use Rattle.shr_report.specs.Parts.{serial_of, commands_of, sweeps_of, answers_of, answer_at, reply_at, command_at}
 use Rattle.shr_report.specs.Pools.{pool_printed_at}
+use Rattle.shr_report.specs.Swept.{sweep_serial, IsSweepReply}
 use Rattle.shr_report.specs.UnitParts.{pool_place, plain_of}
 use Rattle.shr_plain.specs.Opening.{pool_sizes}
 use Rattle.shr_units.specs.Did.{DidUnits}
@@ -53,7 +55,9 @@ pub record IsRoomOf (workers : List (List UnitsStep)) (i : ℕ) (journal : List 
 pub record AreUnits (s : Script) (r : Report) (workers : List (List UnitsStep)) : Type 0 where
   pub each : (worker k : ℕ) (x : UnitsStep) → slice_get (steps_of workers worker) k ≡ Some x → IsUnitsStep s r worker k x
   pub commands : (worker : ℕ) → length (commands_of s worker) ≡ length (steps_of workers worker)
-  pub answers : (worker : ℕ) → length (answers_of r worker) ≡ length (steps_of workers worker)
+  -- behind the answers to the commands there is at most that to the sweep, which does nothing at the pools
+  pub answers : (worker : ℕ) → length (answers_of r worker) ≡ length (steps_of workers worker) + sweeps_of s worker
+  pub last : (worker : ℕ) (a : Answered) → answer_at r (sweep_serial s worker) ≡ Some a → IsSweepReply a.reply
   pub chained : (worker : ℕ) → AreChained no_state (steps_of workers worker)
   pub walks : (worker : ℕ) → plain_of r worker ≡ (last_of (steps_of workers worker)).walks
   -- the journals by their rooms

@@ -1,0 +1,17 @@
+use Rattle.std.proofs.Common.{◌≡◌, ◌++◌, map}
+use Rattle.std.specs.Prelude.{All}
+use Rattle.shr_pool.specs.Passes as passes
+use Rattle.shr_run.specs.Sweeps.{worker_of, IsPassBack}
+use Rattle.shr_run.proofs.Passing.{IsJoining}
+use Rattle.shr_run.proofs.sweeping.join_passes.Given as goal
+
+abbrev pub invariant-loop-helper : goal.invariant-loop-helper
+invariant-loop-helper l = record {
+  next : (goal.iterator-loop-helper).can_next l.helper-iterator;
+  finite : (goal.iterator-loop-helper).is_finite l.helper-iterator;
+  queue : l.jobs.queue ≡ l.fn.jobs.queue;
+  first : passes.IsOf l.jobs.queue l.jobs.first;
+  joining : IsJoining l.fn.jobs.queue (passes.view_of l.fn.jobs.first) (passes.view_of l.jobs.first) l.helper-iterator.rest.items l.fn.helpers.items;
+  back : All (IsPassBack l.fn.jobs.queue) l.helper-iterator.rest.items;
+  workers : l.workers.items ++ map worker_of l.helper-iterator.rest.items ≡ map worker_of l.fn.helpers.items;
+}
