@@ -39,10 +39,10 @@ fn is_dropped(answer: &NodeDrop) -> bool
     matches!(answer, NodeDrop::Dropped { at: _ })
 }
 
-/// Takes an object out by its key, where it is there and not pinned, and uncharges the group that it was born in, which is
+/// Takes an object out by its key, if it is there and not pinned, and uncharges the group that it was born in, which is
 /// the command's, and each group above it.
 ///
-/// Worn by charges comes first, and then Memory where there is no room to note the uncharge; both with nothing done.
+/// Worn by charges comes first, and then Memory if there is no room to note the uncharge; both with nothing done.
 /// Then come Offline, NotMade, NoCache and Worn by lookups, and then what the list answers: Dropped, Pinned, Miss, Worn by
 /// the list or Memory. After these two the lists are as this worker found them, and nothing is uncharged. The reference to
 /// the cache is given back. It waits for the pool's room and for rooms of the cache.

@@ -96,9 +96,9 @@ fn is_added(reply: &Reply) -> bool
 /// up whose list isn't closed.
 ///
 /// Worn by charges comes first, with nothing done. Then come Offline and NotMade, and then the charge of the group and of
-/// each one above it, with rounds of reclaim where a limit refuses it: Over has the last refusal's values, and Memory may come in a
+/// each one above it, with rounds of reclaim if a limit refuses it: Over has the last refusal's values, and Memory may come in a
 /// round. Then come NoCache and Worn by lookups, and then what the list answers: Added, Exists, Worn by the list or Memory.
-/// Where the answer isn't Added the charge is taken back and no object was added; what the rounds freed stays freed, and
+/// If the answer isn't Added the charge is taken back and no object was added; what the rounds freed stays freed, and
 /// their walks are recorded. The reference to the cache is given back. It waits for the pool's room and for rooms.
 ///
 /// Linux: `try_charge_memcg` in mm/memcontrol.c, and then `list_lru_add` in mm/list_lru.c.

@@ -34,6 +34,6 @@ pub enum OfflineAnswer {
     Worn {
         spent: Spent,
     },
-    /// There was no memory. Where the group had begun it stays offline, and a later call resumes.
+    /// There was no memory. If the group had begun it stays offline, and a later call resumes.
     Memory,
 }

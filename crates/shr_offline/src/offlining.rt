@@ -63,7 +63,7 @@ fn hand_over<R: Wait>(
 /// Root, AlreadyDone, NotMade and HasChildren come before anything is done. A group that began
 /// before is resumed, by whichever worker comes. After Worn, and after Memory that came past the begin, the
 /// group stays offline, the lists closed so far stay closed, no deferred work was moved by this
-/// call, and a later call resumes. Memory comes first of all where there is no room to note what is
+/// call, and a later call resumes. Memory comes first of all if there is no room to note what is
 /// carried. It waits for rooms and for the journal's room.
 ///
 /// Linux: `mem_cgroup_css_offline` in mm/memcontrol.c, with `memcg_reparent_list_lrus`

@@ -50,7 +50,7 @@ pub fn find_cache<R: Wait>(rt: &R, shared: &Shared, seats: &mut Seats, decl: u8)
     }
 }
 
-/// Loads the word of the group, and finds the cache if the group is online; it refuses where the
+/// Loads the word of the group, and finds the cache if the group is online; it refuses if the
 /// group is offline or isn't made. Our own.
 pub fn open<R: Wait>(rt: &R, shared: &Shared, seats: &mut Seats, group: u16, decl: u8) -> Opened
     requires shared { IsShared shared.now }

@@ -55,8 +55,10 @@ pub trait Sink {
             piece.now result };
 }
 
-/// What is called before each command of each worker. The program's does nothing; a test's may look
-/// at the other workers. Our own.
+/// What is called before each command of each worker, with the numbers of both. In a script with a
+/// sweep each helper calls it too, before its first job, with the number of its worker's commands
+/// as the command; a helper without memory for its answer takes no job and doesn't call it. The
+/// program's does nothing; a test's may look at the other workers. Our own.
 pub trait Gate {
     fn before(&self, worker: u16, command: u32);
 }

@@ -88,7 +88,7 @@ fn charge_in_rounds<R: Wait>(
     Ok(answer)
 }
 
-/// Charges a group and each of its ancestors for one object, and reclaims where the charge is
+/// Charges a group and each of its ancestors for one object, and reclaims when the charge is
 /// refused.
 ///
 /// After each refusal comes a round of walks, and the charge is tried again: at most thirteen

@@ -42,7 +42,7 @@ fn is_live_as(core: &Core, seat: &mut Seat, id: u16, decl: u8) -> bool
     lives_as(word, decl)
 }
 
-// The id that is live with a declaration, where one is known not to be, by one load of each other id's word.
+// The id that is live with a declaration, when one is known not to be, by one load of each other id's word.
 fn other_live_id(core: &Core, seat: &mut Seat, known: u16, decl: u8) -> Option<u16>
     requires seat { IsOf core.now seat.old }
     requires pool { HasPool (shape_of core.now) (view_of seat.old) }
@@ -65,7 +65,7 @@ fn other_live_id(core: &Core, seat: &mut Seat, known: u16, decl: u8) -> Option<u
 
 /// The id that is live with a declaration, by at most one load of each id's word. Our own.
 ///
-/// The declaration's own number is looked at first: caches that are on from the start have it as their id where none
+/// The declaration's own number is looked at first: caches that are on from the start have it as their id if none
 /// before them is off.
 pub(crate) fn live_id(core: &Core, seat: &mut Seat, decl: u8) -> Option<u16>
     requires seat { IsOf core.now seat.old }

@@ -20,7 +20,7 @@ use std::sync::Wait;
 /// nothing, owns nothing and has no room in hand, before and afterwards.
 ///
 /// `NoCache` is decided first. Then the room for the two entries of the pool's journal is made,
-/// where `Memory` may come. Only then does the id's phase change. If a drain meets a full list or
+/// and `Memory` may come. Only then does the id's phase change. If a drain meets a full list or
 /// finds no memory the answer is `Half`, and the id stays dying for good.
 ///
 /// Linux: `shrinker_free` in mm/shrinker.c, which waits for `shrinker->done` and leaves the objects

@@ -74,7 +74,7 @@ pub fn walk_one<R: Wait>(
 ///
 /// The priority is at most 12. A group that is offline counts as walked, with nothing freed. The
 /// first walk that ends for want of memory ends the balance: Memory says what was freed up to
-/// there, and what those walks did stands. Memory comes with nothing done where there is no room
+/// there, and what those walks did stands. Memory comes with nothing done if there is no room
 /// for the order of the groups.
 ///
 /// Linux: the calls of `shrink_slab` in `shrink_node_memcgs`, mm/vmscan.c.

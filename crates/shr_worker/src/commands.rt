@@ -131,7 +131,7 @@ fn run_walk<R: Wait>(
 
 /// Runs a command, and after a walk of the root the walk of the pools that is due. Our own.
 ///
-/// `Memory` comes where there was no room to note an uncharge of a cache that was unregistered, or
+/// `Memory` comes if there was no room to note an uncharge of a cache that was unregistered, or
 /// for the record of a walk of the pools; every other want of memory is an answer.
 pub fn run_command<R: Wait>(
     rt: &R,

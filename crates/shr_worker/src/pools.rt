@@ -86,7 +86,7 @@ pub(crate) fn is_due_after(script: &Script, group: u16, reply: &Reply) -> bool
     group == 0 && is_due(script, reply)
 }
 
-/// Walks the pools once if that is due. `Memory` comes where there is no room for the record of the
+/// Walks the pools once if that is due. `Memory` comes if there is no room for the record of the
 /// walk, and nothing was walked then.
 ///
 /// Linux: what `shrink_slab` in mm/shrinker.c does for the root with the shrinkers that aren't

@@ -75,7 +75,7 @@ fn uncharge_drained(
 /// birth group up.
 ///
 /// A worker whose charges are used up is answered Worn, and nothing is done. How many objects there
-/// are is known only once they are drained. So `Memory` may come then, where there is no room to note
+/// are is known only once they are drained. So `Memory` may come then, if there is no room to note
 /// an uncharge: that object and those after it stay charged. Linux: `shrinker_free` in mm/shrinker.c.
 pub fn unregister<R: Wait>(
     rt: &R,

@@ -88,7 +88,7 @@ fn run_commands<R: Wait, G: Gate>(
 ///
 /// Want of memory for an answer, to note an uncharge of a cache that was unregistered, or for the
 /// record of a walk of the pools ends the run: then the result isn't whole, and what was done last
-/// may have no answer or lack its notes. It waits where its commands do. Our own.
+/// may have no answer or lack its notes. It waits when its commands do. Our own.
 pub fn run_worker<R: Wait, G: Gate>(
     rt: &R,
     shared: &Shared,

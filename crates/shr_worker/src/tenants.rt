@@ -23,7 +23,7 @@ use std::sync::Wait;
 
 /// Adds an object with a copy of this key and value.
 ///
-/// Memory comes first of all, with nothing done, where there is none for the copies. Linux:
+/// Memory comes first of all, with nothing done, if there is none for the copies. Linux:
 /// `list_lru_add` in mm/list_lru.c.
 pub fn put<R: Wait>(
     rt: &R,

@@ -12,7 +12,7 @@ use shr_base::objects::Object;
 use shr_base::places::Serial;
 use shr_charge::{Charge, ChargeSeat};
 
-/// Uncharges each of these objects from its birth group up. `Memory` comes where there is none to
+/// Uncharges each of these objects from its birth group up. `Memory` comes if there is none to
 /// note one; the objects before it are uncharged. Linux: `obj_cgroup_uncharge` in mm/memcontrol.c.
 pub(crate) fn uncharge_each(
     charge: &Charge,
