@@ -112,6 +112,7 @@ module _ (key : Setting) (id : ℕ) (v : View) (closed : Closed) (c : IsClosedOf
     parts = lined_sole stands_at did_in c.last.views id v c.seat here c.sound.ordered.line c.sound.ordered.lined spent first whole r.seated c.sound.emptied refl;
     events = c.sound.ordered.events;
     ends = subst (λ (l : List PoolEntry). IsMoment key.shape.ids c.sound.now l (bits_in (sizes_of key.shape) c.last.words) (looks_in c.last.words) (last_moment key.first_lookup c.sound.ordered.line)) (sym c.pool) c.sound.ordered.ends;
+    none_else = r.marked.none_else;
   }
 
 -- the place of a place's number

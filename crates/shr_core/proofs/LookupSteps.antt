@@ -12,6 +12,7 @@ use Rattle.atomic_table.specs.Table.{State, keeps, Allows}
 use Rattle.atomic_table.proofs.Lists.{at_map}
 use Rattle.shr_base.specs.declared.ends.LookupWord.{LookupWord}
 use Rattle.shr_base.specs.declared.journals.PoolEntry.{PoolEntry}
+use Rattle.shr_model.specs.Items.{HasJournal}
 use Rattle.shr_model.specs.Pool.{phase_of, decl_of, from_of, registrations, decl_at, is_live_decl, lowest_idle, lowest_free, is_free, IsNextPool}
 use Rattle.shr_model.proofs.PoolLaws.{phase_of_push}
 use Rattle.shr_seats.specs.Views.{Each}
@@ -25,7 +26,7 @@ use Rattle.shr_core.specs.Parts.{Content, Claims, Event, put_back}
 use Rattle.shr_core.specs.Layout.{counts_in, locks_in, bits_in, looks_in, homes_in, places_in, id_of, above}
 use Rattle.shr_seats.specs.Shapes.{sizes_of}
 use Rattle.shr_core.specs.Lookup.{refs_of, lookups_of, phase_in, decl_in, word_in}
-use Rattle.shr_core.specs.Rule.{IsRoom, Sound, HasLastEnd, HasOwnEnd, Fits, Keeps, AreMarks, AreLookupsOf, AreTurns, IsLoaded, met_now, phases, has_room, mark_of, holding_of, marks_of, claims_of, turns_of, is_some_of, only_some}
+use Rattle.shr_core.specs.Rule.{IsRoom, Sound, HasLastEnd, HasOwnEnd, Fits, Keeps, AreMarks, AreLookupsOf, AreOwned, AreTurns, IsLoaded, met_now, phases, has_room, mark_of, holding_of, marks_of, claims_of, turns_of, is_some_of, only_some}
 use Rattle.shr_core.specs.Steps.{Sat, with_word, with_leave, with_given_up, without_id, with_lookup, with_put, puts_of, turn_at, undrained, with_phase, MayPhase, in_hand}
 use Rattle.shr_core.specs.Tells.{IsOfPool, worded, looked, raise, phase_told}
 use Rattle.shr_core.proofs.Ordering as ordering
@@ -299,11 +300,15 @@ phased key n id m i d k present may is-k s o deep me fits =
     (λ j z ne at-z x has mine. absurd (omega (arith, q.owned.one x, terms_le (λ (y : Claims). only_some x y.owner) cs id j c z.claims ne at (at_map claims_of s.views j z at-z), only_some_yes x c.owner mine, only_some_yes x z.claims.owner has)))
     (λ z. (may-now.4 (omega (arith, z, phase))).0) becomes
     (ap (λ (l : List PoolEntry). v.turns.made ++ record { number = length l; entry = e } ∷ []) in-pool) o.ended in
+    let owned-now : AreOwned key.shape o.now o.after pool' (set cs id w.claims) = owning.phases key.shape o.now o.after o.pool cs id i d word c w.claims at near (sym phase) (λ z. may-now.2 (omega (arith, z, phase))) (λ z. let two : phase_of i o.pool % 3 ≡ 2 = omega (arith, z, phase) in let t = may-now.4 two in (t.0, t.1, may-now.5 two)) becomes refl q.owned in
+    let empty : word.phase % 3 ≡ 2 → (x : ℕ) → id_of x ≡ i → HasJournal (o.now x) [] = λ two x own. subst (HasJournal (o.now x))
+    (owned-now.resting x (omega (arith, own, near)) (omega (arith, two, phase, phase_of_push i o.pool e, turn_here i d word, ap (λ z. phase_of z pool') own)))
+    (listing.journal_here key.shape.parents.items o.now o.after (map holding_of s.views) q.listed x) in
     let content : Content = record (in_hand v r) { pool = (in_hand v r).pool ++ e ∷ [] } in (
       w,
       keeps,
       tt,
-      on_look key s o id w present pool' ended-now i new (ordering.phases key.shape.ids key.first_lookup o.now o.pool (bits_in (sizes_of key.shape) s.words) (looks_in s.words) s.views id v me present o.ordered look' w i d word (in_hand v r).pool near refl refl in-pool refl (ap lookups_of is ∙ f.lookups_is) (ap refs_of is ∙ f.refs_is) (look_else s.words i new inside)) record {
+      on_look key s o id w present pool' ended-now i new (ordering.phases key.shape.ids key.first_lookup o.now o.pool (bits_in (sizes_of key.shape) s.words) (looks_in s.words) s.views id v me present o.ordered look' w i d word (in_hand v r).pool near refl refl in-pool refl (ap lookups_of is ∙ f.lookups_is) (ap refs_of is ∙ f.refs_is) (look_else s.words i new inside) empty) record {
         counted = q.counted;
         roomed = rooming.refits (IsRoom key.shape) (locks_in (sizes_of key.shape) s.words) (homes_in (sizes_of key.shape) s.homes) (Keeps key.shape o.now o.after o.pool) (Keeps key.shape o.now o.after pool') (Fits key.shape o.now o.after o.pool) (Fits key.shape o.now o.after pool') (map holding_of s.views) id r v.holding.half v.holding content at-holding may.room
             (record { entries = λ l. absurd (omega (arith, l)); items = λ l. absurd (omega (arith, l)); most_items = λ l. absurd (omega (arith, l)); most_entries = λ l. absurd (omega (arith, l)); turns = λ _. ap (λ (l : List PoolEntry). l ++ e ∷ []) in-pool })
@@ -318,7 +323,7 @@ phased key n id m i d k present may is-k s o deep me fits =
             (λ n. omega (arith, live, phase_of_push (id_of x) o.pool e, turn_else i (id_of x) d word n)))
             (marks_stay key s o id v me);
         looked = claiming.phases key.shape.ids key.first_lookup (looks_in s.words) look' o.pool cs id i d w.claims.owner w.claims.quiet w.claims.drained c word at near none-held may-now.3 refl refl (ap refs_of is ∙ f.refs_is) (ap lookups_of is ∙ f.lookups_is) (ap phase_in is ∙ f.phase_is) (ap decl_in is ∙ f.decl_is) (look_else s.words i new inside) q.looked;
-        owned = owning.phases key.shape o.now o.after o.pool cs id i d word c w.claims at near (sym phase) (λ z. may-now.2 (omega (arith, z, phase))) (λ z. let two : phase_of i o.pool % 3 ≡ 2 = omega (arith, z, phase) in let t = may-now.4 two in (t.0, t.1, may-now.5 two)) becomes refl q.owned;
+        owned = owned-now;
         turned = subst (λ (l : List PoolEntry). AreTurns key.shape.ids key.shape.decls pool' (set (map turns_of s.views) id (record v.turns { made = v.turns.made ++ record { number = length l; entry = e } ∷ [] }))) (sym in-pool) (turning.makes key.shape.ids key.shape.decls o.pool (map turns_of s.views) id v.turns e (here s.views id v me turns_of) legal q.turned);
         dated = dating.same key.shape.ids look' pool' (map turns_of s.views) id v.turns w.turns (here s.views id v me turns_of) refl
             (dating.turns key.shape.ids look' o.pool (map turns_of s.views) i d word (sym (ap lookups_of is ∙ f.lookups_is)) (dating.rises key.shape.ids (looks_in s.words) look' o.pool (map turns_of s.views) i (omega (arith, ap lookups_of is, f.lookups_is)) (look_else s.words i new inside) q.dated));

@@ -11,15 +11,16 @@ use Rattle.shr_base.specs.declared.ends.LookupWord.{LookupWord}
 use Rattle.shr_base.specs.declared.journals.Entry.{Entry}
 use Rattle.shr_base.specs.declared.journals.PoolEntry.{PoolEntry}
 use Rattle.shr_base.specs.declared.journals.PoolEntry.TheVariants.{Registered, Unregistered, Idle}
+use Rattle.shr_model.specs.Items.{HasJournal}
 use Rattle.shr_model.specs.Pool.{phase_of, decl_of, is_live}
 use Rattle.shr_seats.specs.Lines.{Deed}
 use Rattle.shr_seats.proofs.Lining.{state_after_push, AreSo-push, lined_keep, lined_do, lined_split, lined_join, lined_first}
 use Rattle.shr_core.specs.declared.view.View.{View}
 use Rattle.shr_core.specs.Parts.{Event, Counted, Made, Mapped, counted, made, looked, loaded, turned, put_back, raised, cleared, mapped}
-use Rattle.shr_core.specs.Layout.{places_in, map_of, bit_of}
+use Rattle.shr_core.specs.Layout.{places_in, id_of, map_of, bit_of}
 use Rattle.shr_core.specs.Lookup.{refs_of, lookups_of}
 use Rattle.shr_core.specs.Rule.{opener, spent}
-use Rattle.shr_core.specs.Order.{Moment, at_start, moment_after, moment_next, IsDrawnAt, IsSo, AreEvents, last_moment, IsMoment, stands_at, did_in, AreOrdered}
+use Rattle.shr_core.specs.Order.{Moment, at_start, moment_after, moment_next, IsDrawnAt, LeavesNothing, IsSo, AreEvents, last_moment, IsMoment, stands_at, did_in, AreOrdered}
 use Rattle.shr_core.specs.Steps.{noted, turn_at, with_one_split, split_off, joined}
 use Rattle.shr_core.proofs.Marking.{OnlyAt, elsewhere}
 use Rattle.shr_core.proofs.Claiming.{by_phase}
@@ -127,11 +128,13 @@ module _ (ids first : ℕ) (now : ℕ → List Entry) (pool : List PoolEntry) (b
 
   -- the phase of an id rose
   pub phases : (look' : ℕ → ℕ) (w : View) (i d : ℕ) (word : LookupWord) (had : List PoolEntry) → i < ids → w.seat ≡ v.seat → w.did ≡ noted v (turned (record { number = length had; entry = turn_at i d word })) → had ≡ pool → word.lookups ≡ lookups_of (look i)
-      → lookups_of (look' i) ≡ lookups_of (look i) → refs_of (look' i) ≡ refs_of (look i) → ((j : ℕ) → j ≢ i → look' j ≡ look j) → AreOrdered ids first now (pool ++ turn_at i d word ∷ []) bits look' (set views id w)
-  phases look' w i d word had near same did is-had lookups kept refs others = does now (pool ++ turn_at i d word ∷ []) bits look' w (turned (record { number = length had; entry = turn_at i d word })) same did
+      → lookups_of (look' i) ≡ lookups_of (look i) → refs_of (look' i) ≡ refs_of (look i) → ((j : ℕ) → j ≢ i → look' j ≡ look j) → (word.phase % 3 ≡ 2 → (k : ℕ) → id_of k ≡ i → HasJournal (now k) [])
+      → AreOrdered ids first now (pool ++ turn_at i d word ∷ []) bits look' (set views id w)
+  phases look' w i d word had near same did is-had lookups kept refs others empty = does now (pool ++ turn_at i d word ∷ []) bits look' w (turned (record { number = length had; entry = turn_at i d word })) same did
       (λ t is. (
         ap (λ (l : List PoolEntry). length l) (is-had ∙ sym is.registrations),
         by_phase (IsDrawnAt t) i d word (λ _. lookups ∙ sym (is.lookups i near)) (λ _. lookups ∙ sym (is.lookups i near)) (λ _. tt),
+        by_phase (LeavesNothing t) i d word (λ _. tt) (λ _. tt) (λ idle k at. subst (λ (l : List Entry). HasJournal l []) (sym (is.journals k)) (empty idle k at)),
       ))
       (λ t is. record {
         journals = is.journals;

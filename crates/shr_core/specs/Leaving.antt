@@ -1,5 +1,5 @@
 -- What a finished core says of the one seat that is left, over journals and numbers alone.
-use Rattle.std.specs.Prelude.{◌≡◌, ℕ, ◌%◌, ◌<◌, ◌≤◌, List, [], map, length, cond, ◌&&◌, nat_lt, nat_le, true, Contains, None}
+use Rattle.std.specs.Prelude.{◌≡◌, ℕ, ◌+◌, ◌*◌, ◌/◌, ◌%◌, ◌<◌, ◌≤◌, List, [], map, length, cond, ◌&&◌, nat_lt, nat_le, true, Contains, None}
 use Rattle.std.specs.Int.{bit_at}
 use Rattle.shr_base.specs.declared.ends.Closed.{Closed}
 use Rattle.shr_model.specs.Items.{is_closed}
@@ -73,3 +73,5 @@ pub record IsLeft (key : Setting) (v : View) (closed : Closed) : Type 0 where
   pub parts : (seat : ℕ) → part seat v.did ≡ part seat line
   pub events : AreEvents key.shape.ids key.first_lookup line
   pub ends : IsMoment key.shape.ids now closed.pool.items bits look (last_moment key.first_lookup line)
+  -- each bit that is set stands for an id
+  pub none_else : (m b : ℕ) → m < places_in key.shape.ids → b < 64 → bit_at (bits m) b ≡ 1 → 64 * (m / 1024) + b < key.shape.ids

@@ -6,12 +6,13 @@ use lib.ListN.{get_elem?}
 use Rattle.shr_base.specs.declared.journals.Entry.{Entry}
 use Rattle.shr_base.specs.declared.journals.PoolEntry.{PoolEntry}
 use Rattle.shr_base.specs.declared.journals.PoolEntry.TheVariants.{Registered, Unregistered, Idle}
+use Rattle.shr_model.specs.Items.{HasJournal}
 use Rattle.shr_model.specs.Pool.{phase_of, decl_of, is_live}
 use Rattle.shr_seats.specs.Standing.{Standing}
 use Rattle.shr_seats.specs.Lines.{Deed, state_after, AreSo, AreInLine}
 use Rattle.shr_core.specs.declared.view.View.{View}
 use Rattle.shr_core.specs.Parts.{Event, counted, made, looked, loaded, turned, put_back, raised, cleared, mapped}
-use Rattle.shr_core.specs.Layout.{places_in, map_of, bit_of}
+use Rattle.shr_core.specs.Layout.{places_in, id_of, map_of, bit_of}
 use Rattle.shr_core.specs.Lookup.{refs_of, lookups_of}
 
 -- What the core has at one moment: the journal of each place, the pool's journal, the number of
@@ -45,15 +46,22 @@ IsDrawnAt t (Registered decl id from) = from ≡ t.next id
 IsDrawnAt t (Unregistered decl id to) = to ≡ t.next id
 IsDrawnAt t (Idle id) = Unit {0}
 
+-- an id comes to be idle with empty lists: the journal of each of its places leaves nothing
+abbrev pub LeavesNothing : Moment → PoolEntry → Type 0
+LeavesNothing t (Registered decl id from) = Unit {0}
+LeavesNothing t (Unregistered decl id to) = Unit {0}
+LeavesNothing t (Idle id) = (k : ℕ) → id_of k ≡ id → HasJournal (t.now k) []
+
 -- An event is so at this moment: a count has the version of then, an entry stands next in its
 -- journal, a lookup has the next number of its id and is held where the id is live, and a map has
--- just the bits of then. A loaded word has the lookups, the phase and the references of then.
+-- just the bits of then. A loaded word has the lookups, the phase and the references of then. An
+-- entry of the pool stands next in its journal, and at an Idle the lists of the id are empty.
 abbrev pub IsSo : ℕ → Moment → Event → Type 0
 IsSo ids t (counted x) = x.version ≡ length (t.now x.place)
 IsSo ids t (made x) = x.number ≡ length (t.now x.place)
 IsSo ids t (looked x) = (x.number ≡ t.next x.id) × (x.held ≡ (if is_live x.id t.pool then Some (decl_of x.id t.pool) else None))
 IsSo ids t (loaded x) = (x.word.lookups ≡ t.next x.id) × (x.word.phase ≡ phase_of x.id t.pool) × (x.word.refs ≡ t.refs x.id)
-IsSo ids t (turned x) = (x.number ≡ length t.pool) × IsDrawnAt t x.entry
+IsSo ids t (turned x) = (x.number ≡ length t.pool) × IsDrawnAt t x.entry × LeavesNothing t x.entry
 IsSo ids t (put_back i) = 0 < t.refs i
 IsSo ids t (raised k) = Unit {0}
 IsSo ids t (cleared k) = Unit {0}
