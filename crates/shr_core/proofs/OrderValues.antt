@@ -1,13 +1,20 @@
 -- Orders of events at known values, and stories that no order tells.
-use Rattle.std.proofs.Common.{arith}
-use Rattle.std.specs.Prelude.{◌≡◌, ℕ, ◌<◌, List, [], ◌∷◌, Some, None, refl}
+use Rattle.std.proofs.Common.{Bool, true, cond, sym, subst, arith, eq-eqb, ne_eqb}
+use mathlib.Core.Logic.{dite}
+use native.Mathlib.Decide.{ℕ_discrete}
+use Rattle.std.specs.Prelude.{◌≡◌, ℕ, ◌<◌, List, [], ◌∷◌, ◌++◌, ◌==◌, Some, None, refl}
 use mathlib.Core.Option.{some}
 use lib.ListN.{get_elem?}
 use Rattle.shr_base.specs.declared.journals.Entry.{Entry}
-use Rattle.shr_base.specs.declared.journals.Entry.TheVariants.{Closed}
+use Rattle.shr_base.specs.declared.journals.Entry.TheVariants.{Add, Closed, Drained}
 use Rattle.shr_base.specs.declared.journals.PoolEntry.TheVariants.{Registered, Unregistered, Idle}
+use Rattle.shr_base.specs.declared.places.Serial.{Serial}
+use Rattle.shr_model.specs.Items.{HasJournal, items_from}
+use Rattle.shr_model.specs.Objects.{fresh}
+use Rattle.shr_model.proofs.ItemsLaws.{HasJournal_push, HasJournal_none}
 use Rattle.shr_seats.specs.Lines.{Deed, part}
 use Rattle.shr_core.specs.Parts.{Event, counted, made, looked, loaded, turned, raised, cleared, mapped}
+use Rattle.shr_core.specs.Layout.{id_of}
 use Rattle.shr_core.specs.Order.{AreEvents, last_moment}
 use Rattle.shr_core.specs.Ranks.{entries, lookups}
 use Rattle.shr_core.proofs.Ranking.{by_numbers}
@@ -71,3 +78,36 @@ lacks_the_bit events = absurd (omega (arith, events.1.1.0 0 (omega arith) refl))
 -- a map with a bit that nobody set
 has_a_bit : AreEvents 1 0 (deed 0 (mapped (record { map = 0; bits = 1; set = [] })) ∷ []) → ⊥
 has_a_bit events = absurd (omega (arith, events.0 0 (omega arith) refl))
+
+module _ (by : Serial) (value : List ℕ) where
+  -- one object is added at the place 0
+  abbrev add : Event
+  add = made (record { place = 0; number = 0; entry = Add by 0 true [] value; items = [] })
+
+  -- the list of the place 0 is drained of one object
+  abbrev drain : Event
+  drain = made (record { place = 0; number = 1; entry = Drained by 1; items = fresh by 0 [] value ∷ [] })
+
+  -- the id 0 comes to be idle
+  abbrev idle : Event
+  idle = turned (record { number = 0; entry = Idle 0 })
+
+  filled : HasJournal (Add by 0 true [] value ∷ []) (fresh by 0 [] value ∷ [])
+  filled = HasJournal_push [] [] (Add by 0 true [] value) (fresh by 0 [] value ∷ []) HasJournal_none refl (λ moved. (refl, refl))
+
+  rests : (k : ℕ) → id_of k ≡ 0 → HasJournal ((last_moment 0 (deed 0 add ∷ deed 0 drain ∷ [])).now k) []
+  rests k own = let F : Bool → Type 0 = λ b. HasJournal (cond b (cond b (Add by 0 true [] value ∷ []) [] ++ Drained by 1 ∷ []) (cond b (Add by 0 true [] value ∷ []) [])) [] in dite (ℕ_discrete k 0)
+      (λ e. subst F (sym (eq-eqb k 0 e)) (HasJournal_push (Add by 0 true [] value ∷ []) (fresh by 0 [] value ∷ []) (Drained by 1) [] filled refl (λ moved. (refl, refl))))
+      (λ n. subst F (sym (ne_eqb k 0 n)) HasJournal_none)
+
+  -- a list that was drained before its id came to be idle
+  drained_first : AreEvents 1 0 (deed 0 add ∷ deed 0 drain ∷ deed 0 idle ∷ [])
+  drained_first = (refl, (refl, ((refl, tt, rests), tt)))
+
+  leaves_one : HasJournal (Add by 0 true [] value ∷ []) [] → ⊥
+  unfolding items_from
+  leaves_one h = let e : fresh by 0 [] value ∷ [] ≡ [] = h.1.left in cc
+
+  -- an id that comes to be idle with an object on its list
+  not_drained : AreEvents 1 0 (deed 0 add ∷ deed 0 idle ∷ []) → ⊥
+  not_drained events = leaves_one (events.1.0.2 0 refl)
