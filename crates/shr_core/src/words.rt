@@ -3,7 +3,7 @@ ghost use Rattle.std.specs.Prelude.{◌≡◌, ◌==◌, ◌+◌, ◌*◌, ◌%�
 ghost use Rattle.shr_core.specs.Layout.{bit_of};
 
 /// Each row has four words: the count word of its place, the lock word of its room, a bit word, and
-/// the lookup word of an id. A row may lack some of these; their words stay 0. So do four more: where
+/// the lookup word of an id. A row may lack some of these; their words stay 0. So do four more: if
 /// the table begins in the first half of a line of a processor's cache, no two rows share a line.
 pub(crate) const KINDS: usize = 8;
 

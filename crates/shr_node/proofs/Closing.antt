@@ -26,7 +26,8 @@ use Rattle.shr_core.specs.Steps.{in_hand, with_taken, with_given, drained_after,
 use Rattle.shr_node.specs.Gains.{Gains, Knows, KnowsClosed}
 use Rattle.shr_node.specs.Opening.{WasOpen, WasMet}
 use Rattle.shr_node.specs.Splicing.{Closing, IsPair, place_of, made_by, bits_by}
-use Rattle.shr_node.specs.Pairs.{AreTaken, BothReady}
+use Rattle.shr_node.specs.Pairs.{AreTaken}
+use Rattle.shr_node.proofs.Storing.{BothReady}
 use Rattle.shr_core.proofs.Hands.{has_taken}
 use Rattle.shr_seats.proofs.Weighing.{begins_push, begins_more}
 use Rattle.shr_node.proofs.Gaining.{gains_of, given, taken_here, marks_stay}
@@ -183,7 +184,7 @@ are_taken shape v w x id node group parent child above none own up low is child-
       told_above = subst (λ (y : View). IsTaken shape y (place_number (place_of id node parent)) (list_content above.list)) taken told-above;
     }))
 
--- the lists of the children of a group were moved in, where the seat knows that they are closed
+-- the lists of the children of a group were moved in, if the seat knows that they are closed
 pub children_moved : (shape : Shape) (v : View) (id node group : ℕ) (c : Content) → group < groups_in shape → groups_in shape ≤ 256 → IsTaken shape v (place_number (place_of id node group)) c
     → ((child : ℕ) → is_child shape.parents.items group child ≡ true → KnowsClosed v (place_number (place_of id node child))) → AreChildrenMovedIn shape.parents.items group c.entries
 children_moved shape v id node group c there groups told closed child is = let known = closed child is in let k : ℕ = place_number (place_of id node group) in

@@ -22,7 +22,9 @@ use Rattle.shr_core.specs.Seats.{MayTake, shape_of}
 use Rattle.shr_core.specs.Steps.{IsTaken, IsCounted, with_taken, with_given}
 use Rattle.shr_node.specs.Gains.{Gains, Knows, KnowsClosed}
 use Rattle.shr_node.specs.Splicing.{place_of}
-use Rattle.shr_node.specs.Pairs.{AreTaken, BothReady, ClosesOne, WasClosed, with_both_kept}
+use Rattle.shr_node.specs.Closes.{ClosesOne, WasClosed}
+use Rattle.shr_node.specs.Pairs.{AreTaken}
+use Rattle.shr_node.proofs.Storing.{BothReady, with_both_kept}
 use Rattle.shr_node.proofs.Gaining.{gains_given, known_given}
 use Rattle.shr_node.proofs.Acting.{was_left}
 use Rattle.shr_node.proofs.Pairing.{gains_both, knows_both}

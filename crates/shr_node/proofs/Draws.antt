@@ -109,7 +109,7 @@ draw_before : (shape : Shape) (v u : View) (m : List Made) (s : List ℕ) (id no
 draw_before shape v u m s id node d g o = record { there = o.there; some = o.some; born = o.born; room = o.room; later = counted_before shape v u m s (place_number (place_of id node d.group)) (length d.items) d.number g o.later }
 
 module _ (shape : Shape) (v u w : View) (id node : ℕ) (by : Serial) (before mid after : List Object) (top : ℕ) (o : IsDraining shape v u id node by before mid top) where
-  -- the marks and the lists so far where nothing was drawn
+  -- the marks and the lists so far if nothing was drawn
   still : (others : (n : ℕ) → n ≢ node → mark_of w.claims n ≡ mark_of u.claims n) → Gains u w [] [] → after ≡ mid → AreDraws shape v w id node by before after o.ds
   still others g same = record {
     each = o.draws.each;

@@ -7,6 +7,7 @@ pub mod Places
 pub mod Keeping
 pub mod Marking
 pub mod Draws
+pub mod Storing
 pub mod Pairing
 pub mod Closing
 pub mod ClosingOne

@@ -26,7 +26,7 @@ the_root = refl
 a_list_with_one_more : bits_for 1 (object 0 ∷ []) (object 0 ∷ object 1 ∷ []) ≡ []
 a_list_with_one_more = refl
 
--- a closing sets its parent's bit where an object moved to a list below the root
+-- a closing sets its parent's bit if an object moved to a list below the root
 a_moved_object : bits_by line 0 0 (closing 2 (object 0 ∷ [])) ≡ 1 ∷ []
 a_moved_object = refl
 

@@ -30,7 +30,7 @@ use Rattle.shr_core.specs.Steps.{content_in, in_hand, with_content, with_taken, 
 use Rattle.shr_core.proofs.Hands.{has_taken}
 use Rattle.shr_core.proofs.Calls.{inside}
 use Rattle.shr_node.specs.Gains.{Gains, Knows}
-use Rattle.shr_node.specs.Pairs.{BothReady, with_both_stored, with_both_kept}
+use Rattle.shr_node.proofs.Storing.{BothReady, with_both_stored, with_both_kept}
 use Rattle.shr_node.proofs.Gaining.{gains_of, stored_view, stored, taken_here, given, owed_raised, marks_stay}
 use Rattle.shr_node.proofs.Acting.{last_push}
 
@@ -191,51 +191,52 @@ module _ (shape : Shape) (u v : View) (child above : Room) (filled : Bool) (tree
   second_is : with_stored (with_stored v p (last_entry above.list.entries) above.list.items) k (last_entry child.list.entries) child.list.items ≡ both
   second_is = (λ i. with_stored (with_stored (b.rooms.taken i) p (last_above i) above.list.items) k (last_child i) (b.closed.items i)) ∙ pair_stored u k c p d e above.list.items apart_numbers
 
-  pub raised_is : with_both_stored v child above filled ≡ cond filled (with_set both p) both
-  raised_is = ap (λ (w : View). cond filled (with_set w p) w) second_is
+  raised_is : (f : Bool) → with_both_stored v child above f ≡ cond f (with_set both p) both
+  raised_is f = ap (λ (w : View). cond f (with_set w p) w) second_is
+
+  -- the view after the two stores and the bit, by one step after the other
+  pub stored_raised : (f : Bool) (first second w : View) → first ≡ with_stored v p (last_entry above.list.entries) above.list.items → second ≡ with_stored first k (last_entry child.list.entries) child.list.items → w ≡ cond f (with_set second p) second → w ≡ with_both_stored v child above f
+  stored_raised f first second w one two three = three ∙ ap (λ (x : View). cond f (with_set x p) x) (two ∙ ap (λ (x : View). with_stored x k (last_entry child.list.entries) child.list.items) one)
 
   -- the hands then
   hands : (f : Bool) → (cond f (with_set both p) both).holding ≡ both.holding
   hands true = refl
   hands false = refl
 
-  after_above : View
-  after_above = with_given (cond filled (with_set both p) both) p
-
-  above_given : with_given (cond filled (with_set both p) both) p ≡ record (cond filled (with_set both p) both) {
-    holding = record (cond filled (with_set both p) both).holding { hands = record { room = k; content = grown c Closed [] } ∷ u.holding.hands };
-    traces = record (cond filled (with_set both p) both).traces { known = (cond filled (with_set both p) both).traces.known ++ record { place = p; entries = b.old_above.entries ++ e ∷ [] } ∷ [] };
-    claims = record (cond filled (with_set both p) both).claims { drained = drained_after (cond filled (with_set both p) both).claims p above.list.items };
+  above_given : (f : Bool) → with_given (cond f (with_set both p) both) p ≡ record (cond f (with_set both p) both) {
+    holding = record (cond f (with_set both p) both).holding { hands = record { room = k; content = grown c Closed [] } ∷ u.holding.hands };
+    traces = record (cond f (with_set both p) both).traces { known = (cond f (with_set both p) both).traces.known ++ record { place = p; entries = b.old_above.entries ++ e ∷ [] } ∷ [] };
+    claims = record (cond f (with_set both p) both).claims { drained = drained_after (cond f (with_set both p) both).claims p above.list.items };
   }
-  above_given = given (cond filled (with_set both p) both) p (grown d e above.list.items) (record { room = k; content = grown c Closed [] } ∷ u.holding.hands) (ap (λ (h : Holding). h.hands) (hands filled))
+  above_given f = given (cond f (with_set both p) both) p (grown d e above.list.items) (record { room = k; content = grown c Closed [] } ∷ u.holding.hands) (ap (λ (h : Holding). h.hands) (hands f))
 
   -- the parent's room may be given back: it is in hand
-  pub back_has : (w : View) → w ≡ with_both_stored v child above filled → 0 < has_room p w.holding
-  back_has w is = subst (λ (x : View). 0 < has_room p x.holding) (sym (is ∙ raised_is)) (subst (λ (h : Holding). 0 < has_room p h) (sym (hands filled)) (omega (arith, only_yes p p refl)))
+  pub back_has : (f : Bool) (w : View) → w ≡ with_both_stored v child above f → 0 < has_room p w.holding
+  back_has f w is = subst (λ (x : View). 0 < has_room p x.holding) (sym (is ∙ raised_is f)) (subst (λ (h : Holding). 0 < has_room p h) (sym (hands f)) (omega (arith, only_yes p p refl)))
 
   -- and no splice is in progress
-  pub back_whole : (w : View) → w ≡ with_both_stored v child above filled → w.holding.half ≡ None
-  back_whole w is = ap (λ (x : View). x.holding.half) (is ∙ raised_is) ∙ ap (λ (h : Holding). h.half) (hands filled)
+  pub back_whole : (f : Bool) (w : View) → w ≡ with_both_stored v child above f → w.holding.half ≡ None
+  back_whole f w is = ap (λ (x : View). x.holding.half) (is ∙ raised_is f) ∙ ap (λ (h : Holding). h.half) (hands f)
 
   -- and its list is what was stored
-  pub back_same : (w : View) → w ≡ with_both_stored v child above filled → IsInHand above.list (in_hand w p)
-  back_same w is = subst (λ (x : View). IsInHand above.list (in_hand x p)) (sym (is ∙ raised_is)) (subst (λ (h : Holding). IsInHand above.list (content_in p h.hands)) (sym (hands filled))
+  pub back_same : (f : Bool) (w : View) → w ≡ with_both_stored v child above f → IsInHand above.list (in_hand w p)
+  back_same f w is = subst (λ (x : View). IsInHand above.list (in_hand x p)) (sym (is ∙ raised_is f)) (subst (λ (h : Holding). IsInHand above.list (content_in p h.hands)) (sym (hands f))
       (subst (λ (x : Content). IsInHand above.list x) (sym (ap (λ t. cond t (grown d e above.list.items) (content_in p (record { room = k; content = grown c Closed [] } ∷ u.holding.hands))) (eq-eqb p p refl)))
       (record { entries = b.moved.entries; items = refl; most_items = b.moved.most_items; most_entries = b.moved.most_entries })))
 
   -- and once the parent's room is given back
-  child_holding : (w : View) → w ≡ with_given (with_both_stored v child above filled) p → w.holding ≡ record { hands = record { room = k; content = grown c Closed [] } ∷ u.holding.hands; half = None }
-  child_holding w is = ap (λ (x : View). x.holding) (is ∙ (ap (λ (x : View). with_given x p) raised_is ∙ above_given)) ∙ ap (λ (h : Holding). record { hands = record { room = k; content = grown c Closed [] } ∷ u.holding.hands; half = h.half }) (hands filled)
+  child_holding : (f : Bool) (w : View) → w ≡ with_given (with_both_stored v child above f) p → w.holding ≡ record { hands = record { room = k; content = grown c Closed [] } ∷ u.holding.hands; half = None }
+  child_holding f w is = ap (λ (x : View). x.holding) (is ∙ (ap (λ (x : View). with_given x p) (raised_is f) ∙ above_given f)) ∙ ap (λ (h : Holding). record { hands = record { room = k; content = grown c Closed [] } ∷ u.holding.hands; half = h.half }) (hands f)
 
   -- the child's room may be given back: it is in hand
-  pub last_has : (w : View) → w ≡ with_given (with_both_stored v child above filled) p → 0 < has_room k w.holding
-  last_has w is = subst (λ (h : Holding). 0 < has_room k h) (sym (child_holding w is)) (omega (arith, only_yes k k refl))
+  pub last_has : (f : Bool) (w : View) → w ≡ with_given (with_both_stored v child above f) p → 0 < has_room k w.holding
+  last_has f w is = subst (λ (h : Holding). 0 < has_room k h) (sym (child_holding f w is)) (omega (arith, only_yes k k refl))
 
-  pub last_whole : (w : View) → w ≡ with_given (with_both_stored v child above filled) p → w.holding.half ≡ None
-  last_whole w is = ap (λ (h : Holding). h.half) (child_holding w is)
+  pub last_whole : (f : Bool) (w : View) → w ≡ with_given (with_both_stored v child above f) p → w.holding.half ≡ None
+  last_whole f w is = ap (λ (h : Holding). h.half) (child_holding f w is)
 
-  pub last_same : (w : View) → w ≡ with_given (with_both_stored v child above filled) p → IsInHand child.list (in_hand w k)
-  last_same w is = subst (λ (h : Holding). IsInHand child.list (content_in k h.hands)) (sym (child_holding w is))
+  pub last_same : (f : Bool) (w : View) → w ≡ with_given (with_both_stored v child above f) p → IsInHand child.list (in_hand w k)
+  last_same f w is = subst (λ (h : Holding). IsInHand child.list (content_in k h.hands)) (sym (child_holding f w is))
       (subst (λ (x : Content). IsInHand child.list x) (sym (ap (λ t. cond t (grown c Closed []) (content_in k u.holding.hands)) (eq-eqb k k refl)))
       (record { entries = b.closed.entries; items = b.closed.items; most_items = b.closed.most_items; most_entries = b.closed.most_entries }))
 
@@ -251,7 +252,7 @@ module _ (shape : Shape) (u v : View) (child above : Room) (filled : Bool) (tree
   }
 
   final_is : with_both_kept v child above filled ≡ final filled
-  final_is = ap (λ (w : View). with_given (with_given w p) k) raised_is ∙ (ap (λ (w : View). with_given w k) above_given ∙ given w4 k (grown c Closed []) u.holding.hands refl)
+  final_is = ap (λ (w : View). with_given (with_given w p) k) (raised_is filled) ∙ (ap (λ (w : View). with_given w k) (above_given filled) ∙ given w4 k (grown c Closed []) u.holding.hands refl)
     where
       s : View
       s = cond filled (with_set both p) both

@@ -28,7 +28,7 @@ module _ (parents : List ℕ) (tree : IsTree parents) (group : ℕ) where
       long : (n : ℕ) → group < n → group < length (replicate n false)
       long n low = let e = length-replicate n false in omega (arith, low, e)
 
-  -- the next is marked where its parent is
+  -- the next is marked if its parent is
   pub marked_next : (marks : List Bool) (top : ℕ) → group < top → top < length parents → top < length marks → AreMarked parents group marks top
       → AreMarked parents group (set marks top (get_or marks (parent_of parents top) false)) (top + 1)
   marked_next marks top low there long so at lt = dite (ℕ_discrete at top)

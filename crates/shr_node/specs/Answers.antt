@@ -72,7 +72,7 @@ TenantWorn shape v w id node birth e (spent.List place entries items) = TenantIs
 TenantWorn shape v w id node birth e (spent.Lookups i seen) = ⊥
 TenantWorn shape v w id node birth e (spent.Charges charges uncharges) = ⊥
 
--- there was no memory, where the first open list has room for the entry
+-- there was no memory, and the first open list has room for the entry
 pub record TenantLacks (shape : Shape) (v w : View) (id node birth : ℕ) (e : Listed → Entry) : Type 0 where
   pub place : Place
   pub old : Listed
@@ -137,7 +137,7 @@ ScanWorn shape v w place e (spent.List at entries items) = ScanIsWorn shape v w 
 ScanWorn shape v w place e (spent.Lookups i seen) = ⊥
 ScanWorn shape v w place e (spent.Charges charges uncharges) = ⊥
 
--- there was no memory, where the list of the place has room for the scan's entry
+-- there was no memory, and the list of the place has room for the scan's entry
 pub record ScanLacks (shape : Shape) (v w : View) (place : Place) (e : Listed → Entry) : Type 0 where
   pub old : Listed
   pub free : HadRoom shape v w (place_number place) old (e old)

@@ -35,11 +35,11 @@ is_raised k old new = (length old == 0) && nat_lt 0 (length new) && nat_lt 0 (gr
 abbrev pub bits_for : ℕ → List Object → List Object → List ℕ
 bits_for k old new = cond (is_raised k old new) (k ∷ []) []
 
--- the bit of a place was set where its list was filled
+-- the bit of a place was set if its list was filled
 abbrev pub with_raised : View → ℕ → List Object → List Object → View
 with_raised v k old new = cond (is_raised k old new) (with_set v k) v
 
--- one entry more was stored in a place, its bit was set where its list was filled, and its room was
+-- one entry more was stored in a place, its bit was set if its list was filled, and its room was
 -- given back
 abbrev pub with_kept : View → ℕ → Entry → List Object → View
 with_kept v k e items = with_given (with_raised (with_stored v k e items) k (in_hand v k).items items) k

@@ -3,4 +3,5 @@ pub mod Opening
 pub mod Answers
 pub mod Splicing
 pub mod Draining
+pub mod Closes
 pub mod Pairs

@@ -48,7 +48,7 @@ made_by parents id node c =
     record { place = above_place parents id node c; number = c.above_number; entry = MovedIn c.child (length c.items); items = c.above_items }
     ∷ record { place = own_number id node c; number = c.number; entry = Closed; items = c.items } ∷ []
 
--- the parent's bit is set where the child had an object and the parent is not the root
+-- the parent's bit is set if the child had an object and the parent is not the root
 abbrev pub bits_by : List ℕ → ℕ → ℕ → Closing → List ℕ
 bits_by parents id node c = cond (nat_lt 0 (length c.items) && nat_lt 0 (parent_of parents c.child)) (above_place parents id node c ∷ []) []
 

@@ -87,6 +87,22 @@ pub enum NodeScan {
     Memory,
 }
 
+/// What `close_one` answers.
+///
+/// Our own: `memcg_reparent_list_lru_one` in mm/list_lru.c answers nothing and cannot fail.
+#[derive(Clone, Copy, Debug, PartialEq, Eq)]
+pub enum OneClose {
+    /// The list is closed now, and this many objects moved to its parent's.
+    Closed { objects: u32 },
+    /// The list was closed before. Nothing moved.
+    WasClosed,
+    /// The parent's list would pass its greatest number of entries or objects. Both lists are as
+    /// before.
+    Worn { spent: Spent },
+    /// There was no memory. Both lists are as before.
+    Memory,
+}
+
 /// What `splice` answers.
 ///
 /// Our own: `memcg_reparent_list_lru_node` in mm/list_lru.c answers nothing and cannot fail.

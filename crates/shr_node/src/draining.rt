@@ -27,7 +27,7 @@ fn is_empty(list: &List) -> bool
     list.len() == 0
 }
 
-// Room for a list's objects behind those that were drained before, where the list has room for its
+// Room for a list's objects behind those that were drained before, if the list has room for its
 // Drained. Without that it is worn, and wants none.
 fn make_room(into: &mut Log<Object>, list: &List, most_entries: u32) -> bool
     ensures kept { into.new.items ≡ into.old.items }

@@ -1,5 +1,5 @@
 //! The calls on lists that threads share: each takes the rooms that it needs, acts, stores the
-//! counts, sets the bit where a list was filled, and gives the rooms back.
+//! counts, sets the bit if a list was filled, and gives the rooms back.
 #![tactic(auto)]
 
 pub mod answers;

@@ -11,12 +11,12 @@ ghost use Rattle.shr_seats.specs.Shapes.{groups_in};
 ghost use Rattle.shr_core.specs.Seats.{IsOf, view_of, shape_of};
 ghost use Rattle.shr_node.specs.Gains.{KnowsClosed};
 ghost use Rattle.shr_node.specs.Splicing.{place_of, SpliceGives};
-ghost use Rattle.shr_node.specs.Pairs.{OneGives, AreTaken, BothReady, with_both_kept, with_both_left};
+ghost use Rattle.shr_node.specs.Closes.{OneGives};
+ghost use Rattle.shr_node.specs.Pairs.{AreTaken, with_both_left};
 
-use crate::answers::SpliceAnswer;
+use crate::answers::{OneClose, SpliceAnswer};
 use crate::rooms::{leave, list_spent, parent, raise};
 use shr_base::places::Place;
-use shr_base::replies::Spent;
 use shr_core::rooms::Room;
 use shr_core::seat::Seat;
 use shr_core::table::Core;
@@ -26,17 +26,6 @@ use std::sync::Wait;
 
 // How many groups a table has at most.
 const MOST_GROUPS: usize = 256;
-
-// What came of closing one list into its parent's.
-enum OneClose {
-    // The list is closed, and this many objects moved.
-    Closed { objects: u32 },
-    // It was closed before.
-    WasClosed,
-    // The parent's list has no room within its limits.
-    Worn { spent: Spent },
-    Memory,
-}
 
 // Which groups are at or below a group, each at its number.
 fn subtree(core: &Core, group: u16) -> [bool; MOST_GROUPS]
@@ -71,22 +60,6 @@ fn is_filled(objects: u32, place: Place) -> bool
     objects > 0 && place.group > 0
 }
 
-// Stores the count of a parent's list that took a child's objects, and of the child's that was
-// closed, sets the parent's bit where it was given an object, and gives both rooms back.
-fn keep_both(core: &Core, seat: &mut Seat, child: Room, above: Room, filled: bool)
-    requires seat { IsOf core.now seat.old }
-    requires ready { (before : View) × BothReady (shape_of core.now) before (view_of seat.old)
-        child above filled }
-    ensures seat { IsOf core.now seat.new }
-    ensures kept { view_of seat.new ≡ with_both_kept (view_of seat.old) child above filled }
-{
-    core.store_count(seat, above.place, &above.list);
-    core.store_count(seat, child.place, &child.list);
-    raise(core, seat, above.place, filled);
-    core.give_room(seat, above);
-    core.give_room(seat, child);
-}
-
 // Gives a child's room and its parent's back, whose lists are as they were.
 fn leave_both(core: &Core, seat: &mut Seat, child: Room, above: Room)
     requires seat { IsOf core.now seat.old }
@@ -99,8 +72,17 @@ fn leave_both(core: &Core, seat: &mut Seat, child: Room, above: Room)
     core.give_room(seat, child);
 }
 
-// Closes one list into its parent's. The lists of its group's children are closed.
-fn close_one<R: Wait>(
+/// Closes the list of one group into its parent's: the child's objects stand before the head of
+/// the parent's list in their order, and later calls for the group act on the first list above
+/// that is not closed. The group is not the root, the seat has no room in hand, and knows that the
+/// lists of the group's children are closed.
+///
+/// `Closed` stores the count of both lists. It sets the parent's bit if an object moved and the
+/// parent is not the root, and no other bit. After `WasClosed`, `Worn` and `Memory` both lists and
+/// all bits are as before.
+///
+/// Linux: `memcg_reparent_list_lru_one` in mm/list_lru.c, which cannot fail.
+pub fn close_one<R: Wait>(
     rt: &R,
     core: &Core,
     seat: &mut Seat,
@@ -132,7 +114,11 @@ fn close_one<R: Wait>(
     match child.list.close_into(&mut above.list, group) {
         CloseAnswer::Moved { objects } => {
             let filled = is_filled(objects, place);
-            keep_both(core, seat, child, above, filled);
+            core.store_count(seat, above.place, &above.list);
+            core.store_count(seat, child.place, &child.list);
+            raise(core, seat, above.place, filled);
+            core.give_room(seat, above);
+            core.give_room(seat, child);
             OneClose::Closed { objects }
         }
         CloseAnswer::Worn { entries, items } => {

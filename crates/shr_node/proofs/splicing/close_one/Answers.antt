@@ -5,8 +5,11 @@ use Rattle.shr_list.specs.Listed.{Listed}
 use Rattle.shr_core.specs.declared.view.View.{View}
 use Rattle.shr_core.specs.declared.rooms.Room.{Room}
 use Rattle.shr_core.specs.Seats.{view_of, shape_of}
+use Rattle.shr_model.specs.Places.{place_number}
+use Rattle.shr_core.specs.Steps.{with_given, MayStore}
 use Rattle.shr_node.specs.Splicing.{place_of, SpliceWorn}
 use Rattle.shr_node.specs.Pairs.{AreTaken}
+use Rattle.shr_node.proofs.Pairing.{may_above, may_child, stored_raised, back_has, back_same, back_whole, last_has, last_same, last_whole}
 use Rattle.shr_node.proofs.Closing.{above_opens, both_met, both_gain}
 use Rattle.shr_node.proofs.ClosingOne.{may_take_above, pair_taken, was_closed, pair_ready, closes_one}
 use Rattle.shr_node.proofs.splicing.close_one.Goals as goal
@@ -20,11 +23,81 @@ close_into-requires-clause-parent_open g c = let v : View = view_of c.args.seat.
     let opens = sym c.is_closed_list.ensures.closed ∙ c.if-is_closed_list.false in
     above_opens (shape_of c.args.core.now) v (view_of c.take_room-above.new.seat) child.place above.place child.list above.list c.args.core.now.tree c.args.core.now.limits.2 c.args.core.now.limits.4 taken opens
 
-pub keep_both-requires-clause-ready : goal.keep_both-requires-clause-ready
-keep_both-requires-clause-ready g c = let v : View = view_of c.args.seat.now in let child : Room = c.take_room-child.result in let above : Room = c.take_room-above.result in let e = c.take_room-child.ensures in let f = c.take_room-above.ensures in
+pub store_count-requires-clause-may : goal.store_count-requires-clause-may
+store_count-requires-clause-may g c = let v : View = view_of c.args.seat.now in let child : Room = c.take_room-child.result in let above : Room = c.take_room-above.result in let e = c.take_room-child.ensures in let f = c.take_room-above.ensures in
     let taken = pair_taken c.args.core.now v (view_of c.take_room-child.new.seat) (view_of c.take_room-above.new.seat) c.args.id c.args.node c.args.group c.parent.result child above c.requires.rooms c.requires.place c.requires.group c.parent.ensures e.place e.taken e.told f.place f.taken f.told in
     let opens = sym c.is_closed_list.ensures.closed ∙ c.if-is_closed_list.false in
-    (v, pair_ready c.args.core.now v (view_of c.take_room-above.new.seat) c.args.id c.args.node c.args.group child above taken c.requires.group e.place e.told opens c.is_closed_list.ensures.sound c.requires.children c.close_into.new.self c.close_into.new.parent c.in-Moved.objects c.is_filled-filled.result c.in-Moved.ensures (c.is_filled-filled.ensures ∙ λ i. nat_lt 0 c.in-Moved.objects && nat_lt 0 (sym f.place i).group))
+    let ready = pair_ready c.args.core.now v (view_of c.take_room-above.new.seat) c.args.id c.args.node c.args.group child above taken c.requires.group e.place e.told opens c.is_closed_list.ensures.sound c.requires.children c.close_into.new.self c.close_into.new.parent c.in-Moved.objects c.is_filled-filled.result c.in-Moved.ensures (c.is_filled-filled.ensures ∙ λ i. nat_lt 0 c.in-Moved.objects && nat_lt 0 (sym f.place i).group) in
+    may_above (shape_of c.args.core.now) v (view_of c.take_room-above.new.seat) (record { place = child.place; list = c.close_into.new.self }) (record { place = above.place; list = c.close_into.new.parent }) c.is_filled-filled.result c.args.core.now.tree c.args.core.now.limits.2 c.args.core.now.limits.4 ready
+
+pub store_count-requires-in-Moved-clause-may : goal.store_count-requires-in-Moved-clause-may
+store_count-requires-in-Moved-clause-may g c = let v : View = view_of c.args.seat.now in let child : Room = c.take_room-child.result in let above : Room = c.take_room-above.result in let e = c.take_room-child.ensures in let f = c.take_room-above.ensures in
+    let taken = pair_taken c.args.core.now v (view_of c.take_room-child.new.seat) (view_of c.take_room-above.new.seat) c.args.id c.args.node c.args.group c.parent.result child above c.requires.rooms c.requires.place c.requires.group c.parent.ensures e.place e.taken e.told f.place f.taken f.told in
+    let opens = sym c.is_closed_list.ensures.closed ∙ c.if-is_closed_list.false in
+    let ready = pair_ready c.args.core.now v (view_of c.take_room-above.new.seat) c.args.id c.args.node c.args.group child above taken c.requires.group e.place e.told opens c.is_closed_list.ensures.sound c.requires.children c.close_into.new.self c.close_into.new.parent c.in-Moved.objects c.is_filled-filled.result c.in-Moved.ensures (c.is_filled-filled.ensures ∙ λ i. nat_lt 0 c.in-Moved.objects && nat_lt 0 (sym f.place i).group) in
+    subst (λ (x : View). MayStore (shape_of c.args.core.now) x (place_number child.place) c.close_into.new.self) (sym c.store_count.ensures.stored)
+    (may_child (shape_of c.args.core.now) v (view_of c.take_room-above.new.seat) (record { place = child.place; list = c.close_into.new.self }) (record { place = above.place; list = c.close_into.new.parent }) c.is_filled-filled.result c.args.core.now.tree c.args.core.now.limits.2 c.args.core.now.limits.4 ready)
+
+pub raise-requires-clause-place : goal.raise-requires-clause-place
+raise-requires-clause-place g c = let v : View = view_of c.args.seat.now in let child : Room = c.take_room-child.result in let above : Room = c.take_room-above.result in let e = c.take_room-child.ensures in let f = c.take_room-above.ensures in
+    let taken = pair_taken c.args.core.now v (view_of c.take_room-child.new.seat) (view_of c.take_room-above.new.seat) c.args.id c.args.node c.args.group c.parent.result child above c.requires.rooms c.requires.place c.requires.group c.parent.ensures e.place e.taken e.told f.place f.taken f.told in
+    taken.above_place
+
+pub give_room-requires-clause-place : goal.give_room-requires-clause-place
+give_room-requires-clause-place g c = let v : View = view_of c.args.seat.now in let child : Room = c.take_room-child.result in let above : Room = c.take_room-above.result in let e = c.take_room-child.ensures in let f = c.take_room-above.ensures in
+    let taken = pair_taken c.args.core.now v (view_of c.take_room-child.new.seat) (view_of c.take_room-above.new.seat) c.args.id c.args.node c.args.group c.parent.result child above c.requires.rooms c.requires.place c.requires.group c.parent.ensures e.place e.taken e.told f.place f.taken f.told in
+    taken.above_place
+
+pub give_room-requires-clause-has : goal.give_room-requires-clause-has
+give_room-requires-clause-has g c = let v : View = view_of c.args.seat.now in let child : Room = c.take_room-child.result in let above : Room = c.take_room-above.result in let e = c.take_room-child.ensures in let f = c.take_room-above.ensures in
+    let taken = pair_taken c.args.core.now v (view_of c.take_room-child.new.seat) (view_of c.take_room-above.new.seat) c.args.id c.args.node c.args.group c.parent.result child above c.requires.rooms c.requires.place c.requires.group c.parent.ensures e.place e.taken e.told f.place f.taken f.told in
+    let opens = sym c.is_closed_list.ensures.closed ∙ c.if-is_closed_list.false in
+    let ready = pair_ready c.args.core.now v (view_of c.take_room-above.new.seat) c.args.id c.args.node c.args.group child above taken c.requires.group e.place e.told opens c.is_closed_list.ensures.sound c.requires.children c.close_into.new.self c.close_into.new.parent c.in-Moved.objects c.is_filled-filled.result c.in-Moved.ensures (c.is_filled-filled.ensures ∙ λ i. nat_lt 0 c.in-Moved.objects && nat_lt 0 (sym f.place i).group) in
+    back_has (shape_of c.args.core.now) v (view_of c.take_room-above.new.seat) (record { place = child.place; list = c.close_into.new.self }) (record { place = above.place; list = c.close_into.new.parent }) c.is_filled-filled.result c.args.core.now.tree c.args.core.now.limits.2 c.args.core.now.limits.4 ready _ _
+    (stored_raised (shape_of c.args.core.now) v (view_of c.take_room-above.new.seat) (record { place = child.place; list = c.close_into.new.self }) (record { place = above.place; list = c.close_into.new.parent }) c.is_filled-filled.result c.args.core.now.tree c.args.core.now.limits.2 c.args.core.now.limits.4 ready _ _ _ _ c.store_count.ensures.stored c.store_count-in-Moved.ensures.stored c.raise.ensures.set)
+
+pub give_room-requires-clause-same : goal.give_room-requires-clause-same
+give_room-requires-clause-same g c = let v : View = view_of c.args.seat.now in let child : Room = c.take_room-child.result in let above : Room = c.take_room-above.result in let e = c.take_room-child.ensures in let f = c.take_room-above.ensures in
+    let taken = pair_taken c.args.core.now v (view_of c.take_room-child.new.seat) (view_of c.take_room-above.new.seat) c.args.id c.args.node c.args.group c.parent.result child above c.requires.rooms c.requires.place c.requires.group c.parent.ensures e.place e.taken e.told f.place f.taken f.told in
+    let opens = sym c.is_closed_list.ensures.closed ∙ c.if-is_closed_list.false in
+    let ready = pair_ready c.args.core.now v (view_of c.take_room-above.new.seat) c.args.id c.args.node c.args.group child above taken c.requires.group e.place e.told opens c.is_closed_list.ensures.sound c.requires.children c.close_into.new.self c.close_into.new.parent c.in-Moved.objects c.is_filled-filled.result c.in-Moved.ensures (c.is_filled-filled.ensures ∙ λ i. nat_lt 0 c.in-Moved.objects && nat_lt 0 (sym f.place i).group) in
+    back_same (shape_of c.args.core.now) v (view_of c.take_room-above.new.seat) (record { place = child.place; list = c.close_into.new.self }) (record { place = above.place; list = c.close_into.new.parent }) c.is_filled-filled.result c.args.core.now.tree c.args.core.now.limits.2 c.args.core.now.limits.4 ready _ _
+    (stored_raised (shape_of c.args.core.now) v (view_of c.take_room-above.new.seat) (record { place = child.place; list = c.close_into.new.self }) (record { place = above.place; list = c.close_into.new.parent }) c.is_filled-filled.result c.args.core.now.tree c.args.core.now.limits.2 c.args.core.now.limits.4 ready _ _ _ _ c.store_count.ensures.stored c.store_count-in-Moved.ensures.stored c.raise.ensures.set)
+
+pub give_room-requires-clause-whole : goal.give_room-requires-clause-whole
+give_room-requires-clause-whole g c = let v : View = view_of c.args.seat.now in let child : Room = c.take_room-child.result in let above : Room = c.take_room-above.result in let e = c.take_room-child.ensures in let f = c.take_room-above.ensures in
+    let taken = pair_taken c.args.core.now v (view_of c.take_room-child.new.seat) (view_of c.take_room-above.new.seat) c.args.id c.args.node c.args.group c.parent.result child above c.requires.rooms c.requires.place c.requires.group c.parent.ensures e.place e.taken e.told f.place f.taken f.told in
+    let opens = sym c.is_closed_list.ensures.closed ∙ c.if-is_closed_list.false in
+    let ready = pair_ready c.args.core.now v (view_of c.take_room-above.new.seat) c.args.id c.args.node c.args.group child above taken c.requires.group e.place e.told opens c.is_closed_list.ensures.sound c.requires.children c.close_into.new.self c.close_into.new.parent c.in-Moved.objects c.is_filled-filled.result c.in-Moved.ensures (c.is_filled-filled.ensures ∙ λ i. nat_lt 0 c.in-Moved.objects && nat_lt 0 (sym f.place i).group) in
+    back_whole (shape_of c.args.core.now) v (view_of c.take_room-above.new.seat) (record { place = child.place; list = c.close_into.new.self }) (record { place = above.place; list = c.close_into.new.parent }) c.is_filled-filled.result c.args.core.now.tree c.args.core.now.limits.2 c.args.core.now.limits.4 ready _ _
+    (stored_raised (shape_of c.args.core.now) v (view_of c.take_room-above.new.seat) (record { place = child.place; list = c.close_into.new.self }) (record { place = above.place; list = c.close_into.new.parent }) c.is_filled-filled.result c.args.core.now.tree c.args.core.now.limits.2 c.args.core.now.limits.4 ready _ _ _ _ c.store_count.ensures.stored c.store_count-in-Moved.ensures.stored c.raise.ensures.set)
+
+pub give_room-requires-in-Moved-clause-has : goal.give_room-requires-in-Moved-clause-has
+give_room-requires-in-Moved-clause-has g c = let v : View = view_of c.args.seat.now in let child : Room = c.take_room-child.result in let above : Room = c.take_room-above.result in let e = c.take_room-child.ensures in let f = c.take_room-above.ensures in
+    let taken = pair_taken c.args.core.now v (view_of c.take_room-child.new.seat) (view_of c.take_room-above.new.seat) c.args.id c.args.node c.args.group c.parent.result child above c.requires.rooms c.requires.place c.requires.group c.parent.ensures e.place e.taken e.told f.place f.taken f.told in
+    let opens = sym c.is_closed_list.ensures.closed ∙ c.if-is_closed_list.false in
+    let ready = pair_ready c.args.core.now v (view_of c.take_room-above.new.seat) c.args.id c.args.node c.args.group child above taken c.requires.group e.place e.told opens c.is_closed_list.ensures.sound c.requires.children c.close_into.new.self c.close_into.new.parent c.in-Moved.objects c.is_filled-filled.result c.in-Moved.ensures (c.is_filled-filled.ensures ∙ λ i. nat_lt 0 c.in-Moved.objects && nat_lt 0 (sym f.place i).group) in
+    last_has (shape_of c.args.core.now) v (view_of c.take_room-above.new.seat) (record { place = child.place; list = c.close_into.new.self }) (record { place = above.place; list = c.close_into.new.parent }) c.is_filled-filled.result c.args.core.now.tree c.args.core.now.limits.2 c.args.core.now.limits.4 ready _ _
+    (c.give_room.ensures.given ∙ ap (λ (w : View). with_given w (place_number above.place))
+    (stored_raised (shape_of c.args.core.now) v (view_of c.take_room-above.new.seat) (record { place = child.place; list = c.close_into.new.self }) (record { place = above.place; list = c.close_into.new.parent }) c.is_filled-filled.result c.args.core.now.tree c.args.core.now.limits.2 c.args.core.now.limits.4 ready _ _ _ _ c.store_count.ensures.stored c.store_count-in-Moved.ensures.stored c.raise.ensures.set))
+
+pub give_room-requires-in-Moved-clause-same : goal.give_room-requires-in-Moved-clause-same
+give_room-requires-in-Moved-clause-same g c = let v : View = view_of c.args.seat.now in let child : Room = c.take_room-child.result in let above : Room = c.take_room-above.result in let e = c.take_room-child.ensures in let f = c.take_room-above.ensures in
+    let taken = pair_taken c.args.core.now v (view_of c.take_room-child.new.seat) (view_of c.take_room-above.new.seat) c.args.id c.args.node c.args.group c.parent.result child above c.requires.rooms c.requires.place c.requires.group c.parent.ensures e.place e.taken e.told f.place f.taken f.told in
+    let opens = sym c.is_closed_list.ensures.closed ∙ c.if-is_closed_list.false in
+    let ready = pair_ready c.args.core.now v (view_of c.take_room-above.new.seat) c.args.id c.args.node c.args.group child above taken c.requires.group e.place e.told opens c.is_closed_list.ensures.sound c.requires.children c.close_into.new.self c.close_into.new.parent c.in-Moved.objects c.is_filled-filled.result c.in-Moved.ensures (c.is_filled-filled.ensures ∙ λ i. nat_lt 0 c.in-Moved.objects && nat_lt 0 (sym f.place i).group) in
+    last_same (shape_of c.args.core.now) v (view_of c.take_room-above.new.seat) (record { place = child.place; list = c.close_into.new.self }) (record { place = above.place; list = c.close_into.new.parent }) c.is_filled-filled.result c.args.core.now.tree c.args.core.now.limits.2 c.args.core.now.limits.4 ready _ _
+    (c.give_room.ensures.given ∙ ap (λ (w : View). with_given w (place_number above.place))
+    (stored_raised (shape_of c.args.core.now) v (view_of c.take_room-above.new.seat) (record { place = child.place; list = c.close_into.new.self }) (record { place = above.place; list = c.close_into.new.parent }) c.is_filled-filled.result c.args.core.now.tree c.args.core.now.limits.2 c.args.core.now.limits.4 ready _ _ _ _ c.store_count.ensures.stored c.store_count-in-Moved.ensures.stored c.raise.ensures.set))
+
+pub give_room-requires-in-Moved-clause-whole : goal.give_room-requires-in-Moved-clause-whole
+give_room-requires-in-Moved-clause-whole g c = let v : View = view_of c.args.seat.now in let child : Room = c.take_room-child.result in let above : Room = c.take_room-above.result in let e = c.take_room-child.ensures in let f = c.take_room-above.ensures in
+    let taken = pair_taken c.args.core.now v (view_of c.take_room-child.new.seat) (view_of c.take_room-above.new.seat) c.args.id c.args.node c.args.group c.parent.result child above c.requires.rooms c.requires.place c.requires.group c.parent.ensures e.place e.taken e.told f.place f.taken f.told in
+    let opens = sym c.is_closed_list.ensures.closed ∙ c.if-is_closed_list.false in
+    let ready = pair_ready c.args.core.now v (view_of c.take_room-above.new.seat) c.args.id c.args.node c.args.group child above taken c.requires.group e.place e.told opens c.is_closed_list.ensures.sound c.requires.children c.close_into.new.self c.close_into.new.parent c.in-Moved.objects c.is_filled-filled.result c.in-Moved.ensures (c.is_filled-filled.ensures ∙ λ i. nat_lt 0 c.in-Moved.objects && nat_lt 0 (sym f.place i).group) in
+    last_whole (shape_of c.args.core.now) v (view_of c.take_room-above.new.seat) (record { place = child.place; list = c.close_into.new.self }) (record { place = above.place; list = c.close_into.new.parent }) c.is_filled-filled.result c.args.core.now.tree c.args.core.now.limits.2 c.args.core.now.limits.4 ready _ _
+    (c.give_room.ensures.given ∙ ap (λ (w : View). with_given w (place_number above.place))
+    (stored_raised (shape_of c.args.core.now) v (view_of c.take_room-above.new.seat) (record { place = child.place; list = c.close_into.new.self }) (record { place = above.place; list = c.close_into.new.parent }) c.is_filled-filled.result c.args.core.now.tree c.args.core.now.limits.2 c.args.core.now.limits.4 ready _ _ _ _ c.store_count.ensures.stored c.store_count-in-Moved.ensures.stored c.raise.ensures.set))
 
 pub leave_both-requires-clause-untouched : goal.leave_both-requires-clause-untouched
 leave_both-requires-clause-untouched g c = let v : View = view_of c.args.seat.now in let child : Room = c.take_room-child.result in let above : Room = c.take_room-above.result in let e = c.take_room-child.ensures in let f = c.take_room-above.ensures in
@@ -46,7 +119,11 @@ pub returns-in-Moved-clause-answer : goal.returns-in-Moved-clause-answer
 returns-in-Moved-clause-answer g c = let v : View = view_of c.args.seat.now in let child : Room = c.take_room-child.result in let above : Room = c.take_room-above.result in let e = c.take_room-child.ensures in let f = c.take_room-above.ensures in
     let taken = pair_taken c.args.core.now v (view_of c.take_room-child.new.seat) (view_of c.take_room-above.new.seat) c.args.id c.args.node c.args.group c.parent.result child above c.requires.rooms c.requires.place c.requires.group c.parent.ensures e.place e.taken e.told f.place f.taken f.told in
     let opens = sym c.is_closed_list.ensures.closed ∙ c.if-is_closed_list.false in
-    closes_one c.args.core.now v (view_of c.take_room-above.new.seat) c.args.id c.args.node c.args.group child above taken c.requires.group e.place e.told opens c.is_closed_list.ensures.sound c.requires.children c.close_into.new.self c.close_into.new.parent c.in-Moved.objects c.is_filled-filled.result c.in-Moved.ensures (c.is_filled-filled.ensures ∙ λ i. nat_lt 0 c.in-Moved.objects && nat_lt 0 (sym f.place i).group) _ c.keep_both.ensures.kept
+    let filling = c.is_filled-filled.ensures ∙ λ i. nat_lt 0 c.in-Moved.objects && nat_lt 0 (sym f.place i).group in
+    let ready = pair_ready c.args.core.now v (view_of c.take_room-above.new.seat) c.args.id c.args.node c.args.group child above taken c.requires.group e.place e.told opens c.is_closed_list.ensures.sound c.requires.children c.close_into.new.self c.close_into.new.parent c.in-Moved.objects c.is_filled-filled.result c.in-Moved.ensures filling in
+    let stored = stored_raised (shape_of c.args.core.now) v (view_of c.take_room-above.new.seat) (record { place = child.place; list = c.close_into.new.self }) (record { place = above.place; list = c.close_into.new.parent }) c.is_filled-filled.result c.args.core.now.tree c.args.core.now.limits.2 c.args.core.now.limits.4 ready c.is_filled-filled.result _ _ _ c.store_count.ensures.stored c.store_count-in-Moved.ensures.stored c.raise.ensures.set in
+    let kept = c.give_room-in-Moved.ensures.given ∙ ap (λ (w : View). with_given w (place_number child.place)) (c.give_room.ensures.given ∙ ap (λ (w : View). with_given w (place_number above.place)) stored) in
+    closes_one c.args.core.now v (view_of c.take_room-above.new.seat) c.args.id c.args.node c.args.group child above taken c.requires.group e.place e.told opens c.is_closed_list.ensures.sound c.requires.children c.close_into.new.self c.close_into.new.parent c.in-Moved.objects c.is_filled-filled.result c.in-Moved.ensures filling _ kept
 
 pub returns-in-Worn-clause-answer : goal.returns-in-Worn-clause-answer
 returns-in-Worn-clause-answer g c = let v : View = view_of c.args.seat.now in let child : Room = c.take_room-child.result in let above : Room = c.take_room-above.result in let e = c.take_room-child.ensures in let f = c.take_room-above.ensures in

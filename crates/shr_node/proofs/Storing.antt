@@ -1,0 +1,38 @@
+-- The child's list and its parent's once the objects moved, and the steps that store them.
+use Rattle.std.specs.Prelude.{◌≡◌, ◌≤◌, ◌&&◌, nat_lt, Bool, false, cond, [], length, Contains}
+use Rattle.shr_base.specs.declared.journals.Entry.TheVariants.{Closed}
+use Rattle.shr_model.specs.Places.{place_number}
+use Rattle.shr_model.specs.Items.{is_closed}
+use Rattle.shr_model.specs.Families.{moved_in, AreChildrenMovedIn}
+use Rattle.shr_list.specs.Listed.{Listed}
+use Rattle.shr_list.specs.Answers as answer
+use Rattle.shr_core.specs.declared.view.View.{View}
+use Rattle.shr_seats.specs.declared.shape.Shape.{Shape}
+use Rattle.shr_core.specs.declared.rooms.Room.{Room}
+use Rattle.shr_core.specs.Steps.{with_stored, with_set, last_entry}
+use Rattle.shr_node.specs.Pairs.{AreTaken, with_both_left}
+
+-- the parent's list took the child's objects, and the child's is closed
+pub record BothReady (shape : Shape) (before v : View) (child above : Room) (filled : Bool) : Type 0 where
+  pub old : Listed
+  pub old_above : Listed
+  pub rooms : AreTaken shape before v child.place above.place old old_above
+  pub was_open : is_closed old.entries ≡ false
+  pub few : length old.entries ≤ shape.most_entries
+  pub children : AreChildrenMovedIn shape.parents.items child.place.group old.entries
+  pub above_open : is_closed old_above.entries ≡ false
+  pub apart : ¬ Contains (moved_in old_above.entries) child.place.group
+  pub room : answer.HasRoom old_above old.items (answer.moved_entry old child.place.group)
+  pub closed : answer.Gains old child.list [] Closed
+  pub moved : answer.Gains old_above above.list old.items (answer.moved_entry old child.place.group)
+  pub filling : filled ≡ (nat_lt 0 (length old.items) && nat_lt 0 above.place.group)
+
+-- the view once both counts were stored, and once the bit was set if the parent's list was given
+-- an object
+abbrev pub with_both_stored : View → Room → Room → Bool → View
+with_both_stored v child above filled = let w : View = with_stored (with_stored v (place_number above.place) (last_entry above.list.entries) above.list.items) (place_number child.place) (last_entry child.list.entries) child.list.items in
+    cond filled (with_set w (place_number above.place)) w
+
+-- the view once both counts were stored, the bit was set, and both rooms were given back
+abbrev pub with_both_kept : View → Room → Room → Bool → View
+with_both_kept v child above filled = with_both_left (with_both_stored v child above filled) child above
