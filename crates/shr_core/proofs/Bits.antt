@@ -67,7 +67,7 @@ sets key n id m k mask inside is present s o deep me _ = let z : Sizes = sizes_o
     let now-set : bit_at (bits_in (sizes_of key.shape) (set s.words (8 * row_in (sizes_of key.shape) (map_of k) + 2) new) (map_of k)) (bit_of k) ≡ 1 =
     ap (λ (x : ℕ). bit_at x (bit_of k)) (bits_here z s.words (map_of k) new row low) ∙ (ap (λ (x : ℕ). bit_at (bit_or old x) (bit_of k)) is ∙ bit_at_set_same w64 old (bit_of k) within) in
     let others = one_bit z (places_in key.shape.ids) k new s.words row low (λ i under ne. ap (λ (x : ℕ). bit_at (bit_or old x) i) is ∙ bit_at_set_other w64 old (bit_of k) within i ne) in
-    (w, keeps, tt, bit_step key s o id k new v w me present refl refl refl refl refl (marking.sets key.shape.ids (counts_in (sizes_of key.shape) s.words) (bits_in (sizes_of key.shape) s.words) (bits_in (sizes_of key.shape) (set s.words (8 * row_in (sizes_of key.shape) (map_of k) + 2) new)) (phases o.pool) (map marks_of s.views) id k v.marks (here s.views id v me marks_of) inside.place others now-set o.rules.marked) (ordering.sets key.shape.ids key.first_lookup o.now o.pool (bits_in (sizes_of key.shape) s.words) (looks_in s.words) s.views id v me present o.ordered (bits_in (sizes_of key.shape) (set s.words (8 * row_in (sizes_of key.shape) (map_of k) + 2) new)) w k refl refl others now-set), refl)
+    (w, keeps, tt, bit_step key s o id k new v w me present refl refl refl refl refl (marking.sets key.shape.ids (counts_in (sizes_of key.shape) s.words) (bits_in (sizes_of key.shape) s.words) (bits_in (sizes_of key.shape) (set s.words (8 * row_in (sizes_of key.shape) (map_of k) + 2) new)) (phases o.pool) (map marks_of s.views) id k v.marks (here s.views id v me marks_of) inside.place others now-set o.rules.marked) (ordering.sets key.shape.ids key.first_lookup o.now o.pool (bits_in (sizes_of key.shape) s.words) (looks_in s.words) s.views id v me present o.ordered (bits_in (sizes_of key.shape) (set s.words (8 * row_in (sizes_of key.shape) (map_of k) + 2) new)) w k refl refl refl others now-set), refl)
 
 -- the `fetch_and` of `clear_bit` is a step that the rule allows
 pub clears : (key : Setting) (n id : ℕ) (m : Sat) (k mask : ℕ) → IsInside key.shape k → mask ≡ bit_not w64 (1 * 2 ^ bit_of k % 2 ^ 64) → m.0.standing.gone ≡ false → Allows (Sound key) n id m (8 * row_in (sizes_of key.shape) (map_of k) + 2) (λ y. bit_and y mask) (λ _ q. q ≡ (with_clear m.0 k, m.1))
@@ -76,4 +76,4 @@ clears key n id m k mask inside is present s o deep me _ = let z : Sizes = sizes
     let now-clear : bit_at (bits_in (sizes_of key.shape) (set s.words (8 * row_in (sizes_of key.shape) (map_of k) + 2) new) (map_of k)) (bit_of k) ≡ 0 =
     ap (λ (x : ℕ). bit_at x (bit_of k)) (bits_here z s.words (map_of k) new row low) ∙ (ap (λ (x : ℕ). bit_at (bit_and old x) (bit_of k)) is ∙ bit_at_clear_same w64 old (bit_of k) within) in
     let others = one_bit z (places_in key.shape.ids) k new s.words row low (λ i under ne. ap (λ (x : ℕ). bit_at (bit_and old x) i) is ∙ bit_at_clear_other w64 old (bit_of k) within i under ne) in
-    (w, keeps, tt, bit_step key s o id k new v w me present refl refl refl refl refl (marking.clears key.shape.ids (counts_in (sizes_of key.shape) s.words) (bits_in (sizes_of key.shape) s.words) (bits_in (sizes_of key.shape) (set s.words (8 * row_in (sizes_of key.shape) (map_of k) + 2) new)) (phases o.pool) (map marks_of s.views) id k v.marks (here s.views id v me marks_of) inside.place others now-clear o.rules.marked) (ordering.clears key.shape.ids key.first_lookup o.now o.pool (bits_in (sizes_of key.shape) s.words) (looks_in s.words) s.views id v me present o.ordered (bits_in (sizes_of key.shape) (set s.words (8 * row_in (sizes_of key.shape) (map_of k) + 2) new)) w k refl refl others now-clear), refl)
+    (w, keeps, tt, bit_step key s o id k new v w me present refl refl refl refl refl (marking.clears key.shape.ids (counts_in (sizes_of key.shape) s.words) (bits_in (sizes_of key.shape) s.words) (bits_in (sizes_of key.shape) (set s.words (8 * row_in (sizes_of key.shape) (map_of k) + 2) new)) (phases o.pool) (map marks_of s.views) id k v.marks (here s.views id v me marks_of) inside.place others now-clear o.rules.marked) (ordering.clears key.shape.ids key.first_lookup o.now o.pool (bits_in (sizes_of key.shape) s.words) (looks_in s.words) s.views id v me present o.ordered (bits_in (sizes_of key.shape) (set s.words (8 * row_in (sizes_of key.shape) (map_of k) + 2) new)) w k refl refl refl others now-clear), refl)

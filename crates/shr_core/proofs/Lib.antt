@@ -1,6 +1,7 @@
 pub mod Laying
 pub mod Ordering
 pub mod Ranking
+pub mod References
 pub mod Frames
 pub mod Marking
 pub mod Rooming

@@ -36,7 +36,7 @@ counts key n id m k inside present s o deep me _ =
       w,
       keeps,
       tt,
-      on_load key s o id w present (o.ended id v me) word (ordering.counts key.shape.ids key.first_lookup o.now o.pool (bits_in (sizes_of key.shape) s.words) (looks_in s.words) s.views id v me present o.ordered w (record { place = k; len = len; version = version }) refl refl f.0) record {
+      on_load key s o id w present (o.ended id v me) word (ordering.counts key.shape.ids key.first_lookup o.now o.pool (bits_in (sizes_of key.shape) s.words) (looks_in s.words) s.views id v me present o.ordered w (record { place = k; len = len; version = version }) refl refl refl f.0) record {
         counted = r.counted;
         roomed = rooms_stay key s o id v me;
         listed = lists_stay key s o id v me;
@@ -70,7 +70,7 @@ maps key n id m b unit near row is present s o deep me _ =
       w,
       keeps,
       tt,
-      on_load key s o id w present (o.ended id v me) word (ordering.maps key.shape.ids key.first_lookup o.now o.pool (bits_in (sizes_of key.shape) s.words) (looks_in s.words) s.views id v me present o.ordered w (record { map = b; bits = found; set = v.marks.sets }) refl refl (sym read)) record {
+      on_load key s o id w present (o.ended id v me) word (ordering.maps key.shape.ids key.first_lookup o.now o.pool (bits_in (sizes_of key.shape) s.words) (looks_in s.words) s.views id v me present o.ordered w (record { map = b; bits = found; set = v.marks.sets }) refl refl refl (sym read)) record {
         counted = r.counted;
         roomed = rooms_stay key s o id v me;
         listed = lists_stay key s o id v me;

@@ -112,7 +112,7 @@ words key n id m i near present s o deep me _ =
       w,
       keeps,
       tt,
-      on_load key s o id w present (o.ended id v me) (8 * i + 3) (ordering.loads key.shape.ids key.first_lookup o.now o.pool (bits_in (sizes_of key.shape) s.words) (looks_in s.words) s.views id v me present o.ordered w i (word_in (looks_in s.words i)) near refl refl refl (q.looked.phase i near) refl) record {
+      on_load key s o id w present (o.ended id v me) (8 * i + 3) (ordering.loads key.shape.ids key.first_lookup o.now o.pool (bits_in (sizes_of key.shape) s.words) (looks_in s.words) s.views id v me present o.ordered w i (word_in (looks_in s.words i)) near refl refl refl refl (q.looked.phase i near) refl) record {
         counted = q.counted;
         roomed = rooms_stay key s o id v me;
         listed = lists_stay key s o id v me;
@@ -134,7 +134,7 @@ gives_up key n id m i near present s o deep me _ =
       w,
       keeps,
       tt,
-      on_load key s o id w present (λ j e. absurd (none-some j e)) (8 * i + 3) (ordering.loads key.shape.ids key.first_lookup o.now o.pool (bits_in (sizes_of key.shape) s.words) (looks_in s.words) s.views id v me present o.ordered w i (word_in (looks_in s.words i)) near refl refl refl (q.looked.phase i near) refl) record {
+      on_load key s o id w present (λ j e. absurd (none-some j e)) (8 * i + 3) (ordering.loads key.shape.ids key.first_lookup o.now o.pool (bits_in (sizes_of key.shape) s.words) (looks_in s.words) s.views id v me present o.ordered w i (word_in (looks_in s.words i)) near refl refl refl refl (q.looked.phase i near) refl) record {
         counted = q.counted;
         roomed = rooms_stay key s o id v me;
         listed = lists_stay key s o id v me;
@@ -157,7 +157,7 @@ allows key n id m i near present idle s o deep me _ =
       w,
       keeps,
       tt,
-      on_load key s o id w present (o.ended id v me) (8 * i + 3) (ordering.loads key.shape.ids key.first_lookup o.now o.pool (bits_in (sizes_of key.shape) s.words) (looks_in s.words) s.views id v me present o.ordered w i (word_in (looks_in s.words i)) near refl refl refl (q.looked.phase i near) refl) record {
+      on_load key s o id w present (o.ended id v me) (8 * i + 3) (ordering.loads key.shape.ids key.first_lookup o.now o.pool (bits_in (sizes_of key.shape) s.words) (looks_in s.words) s.views id v me present o.ordered w i (word_in (looks_in s.words i)) near refl refl refl refl (q.looked.phase i near) refl) record {
         counted = q.counted;
         roomed = rooms_stay key s o id v me;
         listed = lists_stay key s o id v me;
@@ -194,7 +194,7 @@ looks key n id m i near present may held probe s o deep me fits =
       w,
       keeps,
       tt,
-      on_look key s o id w present o.pool (Each-set (HasOwnEnd o.pool) s.views id w (o.ended id v me) o.ended) i new (ordering.looks_up key.shape.ids key.first_lookup o.now o.pool (bits_in (sizes_of key.shape) s.words) (looks_in s.words) s.views id v me present o.ordered look' w i word near refl refl refl phase (q.looked.decl i near) (ap lookups_of is ∙ f.lookups_is) (ap refs_of is ∙ f.refs_is) (look_else s.words i new inside)) record {
+      on_look key s o id w present o.pool (Each-set (HasOwnEnd o.pool) s.views id w (o.ended id v me) o.ended) i new (ordering.looks_up key.shape.ids key.first_lookup o.now o.pool (bits_in (sizes_of key.shape) s.words) (looks_in s.words) s.views id v me present o.ordered look' w i word near refl refl (ordering.no_refs c.held c.probe held probe) (ordering.one_ref i c.held c.probe (eqb (word.phase % 3) 1) held probe) refl phase (q.looked.decl i near) (ap lookups_of is ∙ f.lookups_is) (ap refs_of is ∙ f.refs_is) (look_else s.words i new inside)) record {
         counted = q.counted;
         roomed = rooms_stay key s o id v me;
         listed = lists_stay key s o id v me;
@@ -228,7 +228,7 @@ puts key n id m i near present has s o deep me fits =
       w,
       keeps,
       tt,
-      on_look key s o id w present o.pool (Each-set (HasOwnEnd o.pool) s.views id w (o.ended id v me) o.ended) i new (ordering.puts key.shape.ids key.first_lookup o.now o.pool (bits_in (sizes_of key.shape) s.words) (looks_in s.words) s.views id v me present o.ordered look' w i near refl (ap (λ (l : List Event). v.did ++ by_seat v.seat l) (put_is i c.held c.probe has)) some-refs (ap lookups_of is ∙ f.lookups_is) (omega (arith, ap refs_of is, f.refs_is, some-refs)) (look_else s.words i new inside)) record {
+      on_look key s o id w present o.pool (Each-set (HasOwnEnd o.pool) s.views id w (o.ended id v me) o.ended) i new (ordering.puts key.shape.ids key.first_lookup o.now o.pool (bits_in (sizes_of key.shape) s.words) (looks_in s.words) s.views id v me present o.ordered look' w i near refl (ap (λ (l : List Event). v.did ++ by_seat v.seat l) (put_is i c.held c.probe has)) (ordering.ref_is i c.held c.probe has) refl some-refs (ap lookups_of is ∙ f.lookups_is) (omega (arith, ap refs_of is, f.refs_is, some-refs)) (look_else s.words i new inside)) record {
         counted = q.counted;
         roomed = rooms_stay key s o id v me;
         listed = lists_stay key s o id v me;
@@ -308,7 +308,7 @@ phased key n id m i d k present may is-k s o deep me fits =
       w,
       keeps,
       tt,
-      on_look key s o id w present pool' ended-now i new (ordering.phases key.shape.ids key.first_lookup o.now o.pool (bits_in (sizes_of key.shape) s.words) (looks_in s.words) s.views id v me present o.ordered look' w i d word (in_hand v r).pool near refl refl in-pool refl (ap lookups_of is ∙ f.lookups_is) (ap refs_of is ∙ f.refs_is) (look_else s.words i new inside) empty) record {
+      on_look key s o id w present pool' ended-now i new (ordering.phases key.shape.ids key.first_lookup o.now o.pool (bits_in (sizes_of key.shape) s.words) (looks_in s.words) s.views id v me present o.ordered look' w i d word (in_hand v r).pool near refl refl refl in-pool refl (ap lookups_of is ∙ f.lookups_is) (ap refs_of is ∙ f.refs_is) (look_else s.words i new inside) empty) record {
         counted = q.counted;
         roomed = rooming.refits (IsRoom key.shape) (locks_in (sizes_of key.shape) s.words) (homes_in (sizes_of key.shape) s.homes) (Keeps key.shape o.now o.after o.pool) (Keeps key.shape o.now o.after pool') (Fits key.shape o.now o.after o.pool) (Fits key.shape o.now o.after pool') (map holding_of s.views) id r v.holding.half v.holding content at-holding may.room
             (record { entries = λ l. absurd (omega (arith, l)); items = λ l. absurd (omega (arith, l)); most_items = λ l. absurd (omega (arith, l)); most_entries = λ l. absurd (omega (arith, l)); turns = λ _. ap (λ (l : List PoolEntry). l ++ e ∷ []) in-pool })

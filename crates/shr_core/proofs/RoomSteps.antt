@@ -57,7 +57,7 @@ taken_by key n id m missed r of told near present fit tells misses s o deep me _
       w,
       takes row slot,
       t.1,
-      on_lock key s o id w present (o.ended id v me) row 1 (set s.homes row none) (length-set s.homes row none) (ordering.stays key.shape.ids key.first_lookup o.now o.pool (bits_in (sizes_of key.shape) s.words) (looks_in s.words) s.views id v me present o.ordered w refl refl) record {
+      on_lock key s o id w present (o.ended id v me) row 1 (set s.homes row none) (length-set s.homes row none) (ordering.stays key.shape.ids key.first_lookup o.now o.pool (bits_in (sizes_of key.shape) s.words) (looks_in s.words) s.views id v me present o.ordered w refl refl refl) record {
         counted = q.counted;
         roomed = rooming.takes (IsRoom key.shape) (locks_in z s.words) (locks_in z (set s.words i 1)) (homes_in z s.homes) (homes_in z (set s.homes row none)) (Keeps key.shape o.now o.after o.pool) (Fits key.shape o.now o.after o.pool) (map holding_of s.views) id r v.holding (of slot) (here s.views id v me holding_of) near (found ∙ hit) (lock_here z s.words r 1 is (omega (arith, wide, low))) (lock_else z s.words r 1 is) (λ x other. home_else z s.homes r none is x (room_is key.shape x other)) (fit o.now o.after o.pool slot t.2.fits) q.roomed;
         listed = listing.rooms_change key.shape.parents.items o.now o.after (map holding_of s.views) id v.holding w.holding (here s.views id v me holding_of) refl (λ k half h. (omega (arith, h.own), omega (arith, h.parent))) q.listed;
@@ -128,7 +128,7 @@ taken key n id m r row inside is present = subst (λ (x : ℕ). Allows (Sound ke
 pub tried : (key : Setting) (n id : ℕ) (m : Sat) (r row : ℕ) → IsInside key.shape r → row ≡ row_in (sizes_of key.shape) r → m.0.standing.gone ≡ false → Allows (Sound key) n id m (8 * row + 1) (λ y. either (eqb y 0) 1 y) (took m (with_try m.0 r) r row place_content (PlaceTold key.shape m.0 r))
 tried key n id m r row inside is present = let v : View = m.0 in let w : View = with_try v r in subst (λ (x : ℕ). Allows (Sound key) n id m (8 * x + 1) (λ y. either (eqb y 0) 1 y) (took m w r x place_content (PlaceTold key.shape v r))) (sym is)
     (taken_by key n id m w r place_content (PlaceTold key.shape v r) (place_room key.shape r inside) present (place_fits key.shape r inside.place) (place_told key id v r inside)
-    (λ s o me. on_load key s o id w present (o.ended id v me) (8 * row_in (sizes_of key.shape) r + 1) (ordering.stays key.shape.ids key.first_lookup o.now o.pool (bits_in (sizes_of key.shape) s.words) (looks_in s.words) s.views id v me present o.ordered w refl refl) record {
+    (λ s o me. on_load key s o id w present (o.ended id v me) (8 * row_in (sizes_of key.shape) r + 1) (ordering.stays key.shape.ids key.first_lookup o.now o.pool (bits_in (sizes_of key.shape) s.words) (looks_in s.words) s.views id v me present o.ordered w refl refl refl) record {
       counted = o.rules.counted;
       roomed = rooms_stay key s o id v me;
       listed = lists_stay key s o id v me;
@@ -169,7 +169,7 @@ given key n id v r slot more placed present has whole same s o deep me _ = let w
       w,
       gives,
       tt,
-      on_lock key s o id w present (o.ended id v me) row 0 (set s.homes row (some slot)) (length-set s.homes row (some slot)) (ordering.stays key.shape.ids key.first_lookup o.now o.pool (bits_in (sizes_of key.shape) s.words) (looks_in s.words) s.views id v me present o.ordered w refl refl) record {
+      on_lock key s o id w present (o.ended id v me) row 0 (set s.homes row (some slot)) (length-set s.homes row (some slot)) (ordering.stays key.shape.ids key.first_lookup o.now o.pool (bits_in (sizes_of key.shape) s.words) (looks_in s.words) s.views id v me present o.ordered w refl refl refl) record {
         counted = q.counted;
         roomed = rooming.gives (IsRoom key.shape) (locks_in z s.words) (locks_in z (set s.words i 0)) (homes_in z s.homes) (homes_in z (set s.homes row (some slot))) (Keeps key.shape o.now o.after o.pool) (Fits key.shape o.now o.after o.pool) (map holding_of s.views) id r v.holding slot (here s.views id v me holding_of) inside has kept (home_here z s.homes r (some slot) is (omega (arith, o.deep, low))) (λ x other. home_else z s.homes r (some slot) is x (room_is key.shape x other)) (lock_here z s.words r 0 is (omega (arith, wide, low))) (lock_else z s.words r 0 is) q.roomed;
         listed = listing.rooms_change key.shape.parents.items o.now o.after (map holding_of s.views) id v.holding w.holding (here s.views id v me holding_of) refl (λ k half _. absurd (not_some k v.holding.half whole half)) q.listed;
@@ -199,7 +199,7 @@ pool_given key n id v slot more present has same enough s o deep me _ = let r : 
       w,
       gives,
       tt,
-      on_lock key s o id w present (o.ended id v me) row 0 (set s.homes row (some slot)) (length-set s.homes row (some slot)) (ordering.stays key.shape.ids key.first_lookup o.now o.pool (bits_in (sizes_of key.shape) s.words) (looks_in s.words) s.views id v me present o.ordered w refl refl) record {
+      on_lock key s o id w present (o.ended id v me) row 0 (set s.homes row (some slot)) (length-set s.homes row (some slot)) (ordering.stays key.shape.ids key.first_lookup o.now o.pool (bits_in (sizes_of key.shape) s.words) (looks_in s.words) s.views id v me present o.ordered w refl refl refl) record {
         counted = q.counted;
         roomed = rooming.gives (IsRoom key.shape) (locks_in z s.words) (locks_in z (set s.words i 0)) (homes_in z s.homes) (homes_in z (set s.homes row (some slot))) (Keeps key.shape o.now o.after o.pool) (Fits key.shape o.now o.after o.pool) (map holding_of s.views) id r v.holding slot (here s.views id v me holding_of) inside has kept (home_here z s.homes r (some slot) is (omega (arith, o.deep, low))) (λ x other. home_else z s.homes r (some slot) is x (room_is key.shape x other)) (lock_here z s.words r 0 is (omega (arith, wide, low))) (lock_else z s.words r 0 is) q.roomed;
         listed = listing.rooms_change key.shape.parents.items o.now o.after (map holding_of s.views) id v.holding w.holding (here s.views id v me holding_of) refl

@@ -213,7 +213,7 @@ stored key n id m k new list may present is-new s o deep me _ =
       w,
       keeps,
       tt,
-      on_count key s o id w present (o.ended id v me) row new now' after' (ordering.makes key.shape.ids key.first_lookup o.now o.pool (bits_in (sizes_of key.shape) s.words) (looks_in s.words) s.views id v me present o.ordered now' w (record { place = k; number = length c.entries; entry = e; items = c.items }) refl refl (ap (λ (l : List Entry). length l) held-entries) grown others) record {
+      on_count key s o id w present (o.ended id v me) row new now' after' (ordering.makes key.shape.ids key.first_lookup o.now o.pool (bits_in (sizes_of key.shape) s.words) (looks_in s.words) s.views id v me present o.ordered now' w (record { place = k; number = length c.entries; entry = e; items = c.items }) refl refl refl (ap (λ (l : List Entry). length l) held-entries) grown others) record {
         counted = record {
           is = λ j inside. dite (ℕ_discrete j k)
               (λ d. subst (λ (x : ℕ). counts_in (sizes_of key.shape) (set s.words i new) x ≡ length (now' x) * 4294967296 + length (items_now now' after' x)) (sym d) (omega (arith, count-here, is-new, whole, longer, ap (λ (l : List Object). length l) items-here)))

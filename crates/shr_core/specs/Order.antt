@@ -1,5 +1,5 @@
 -- One order of all that the seats of a core did.
-use Rattle.std.specs.Prelude.{◌≡◌, ℕ, ◌+◌, ◌-◌, ◌<◌, false, List, [], ◌∷◌, ◌++◌, length, cond, ◌==◌, if◌then◌else◌, Some, None}
+use Rattle.std.specs.Prelude.{◌≡◌, ℕ, ◌+◌, ◌-◌, ◌<◌, ◌≤◌, false, List, [], ◌∷◌, ◌++◌, length, cond, ◌==◌, if◌then◌else◌, Option, Some, None}
 use Rattle.std.specs.Int.{bit_at}
 use mathlib.Core.Option.{some}
 use lib.ListN.{get_elem?}
@@ -10,6 +10,7 @@ use Rattle.shr_model.specs.Items.{HasJournal}
 use Rattle.shr_model.specs.Pool.{phase_of, decl_of, is_live}
 use Rattle.shr_seats.specs.Standing.{Standing}
 use Rattle.shr_seats.specs.Lines.{Deed, state_after, AreSo, AreInLine}
+use Rattle.shr_seats.specs.Weights.{times, without}
 use Rattle.shr_core.specs.declared.view.View.{View}
 use Rattle.shr_core.specs.Parts.{Event, counted, made, looked, loaded, turned, put_back, raised, cleared, mapped}
 use Rattle.shr_core.specs.Layout.{places_in, id_of, map_of, bit_of}
@@ -86,6 +87,58 @@ pub record IsMoment (ids : ℕ) (now : ℕ → List Entry) (pool : List PoolEntr
   pub references : (i : ℕ) → i < ids → t.refs i ≡ refs_of (look i)
   pub flags : (k : ℕ) → k < places_in ids → t.bits k ≡ bit_at (bits (map_of k)) (bit_of k)
 
+-- the seats that have a reference to each id
+abbrev pub Holders : Type 0
+Holders = ℕ → List ℕ
+
+-- no seat has one
+abbrev pub no_holders : Holders
+no_holders i = []
+
+-- a lookup takes a reference for its seat, and a put gives its seat's back
+abbrev pub holders_after : Holders → ℕ → Event → Holders
+holders_after h seat (counted x) = h
+holders_after h seat (made x) = h
+holders_after h seat (looked x) = λ i. cond (i == x.id) (h i ++ seat ∷ []) (h i)
+holders_after h seat (loaded x) = h
+holders_after h seat (turned x) = h
+holders_after h seat (put_back j) = λ i. cond (i == j) (without seat (h i)) (h i)
+holders_after h seat (raised k) = h
+holders_after h seat (cleared k) = h
+holders_after h seat (mapped x) = h
+
+abbrev pub holders_next : Holders → Deed Event → Holders
+holders_next h d = holders_after h d.seat d.act
+
+-- a seat looks up an id to which it has no reference, and gives back the one that it has
+abbrev pub IsOwn : Holders → ℕ → Event → Type 0
+IsOwn h seat (counted x) = Unit {0}
+IsOwn h seat (made x) = Unit {0}
+IsOwn h seat (looked x) = times seat (h x.id) ≡ 0
+IsOwn h seat (loaded x) = Unit {0}
+IsOwn h seat (turned x) = Unit {0}
+IsOwn h seat (put_back i) = times seat (h i) ≡ 1
+IsOwn h seat (raised k) = Unit {0}
+IsOwn h seat (cleared k) = Unit {0}
+IsOwn h seat (mapped x) = Unit {0}
+
+-- each reference is given back by the seat that took it
+abbrev pub AreOwn : List (Deed Event) → Type 0
+AreOwn line = AreSo holders_next (λ h d. IsOwn h d.seat d.act) no_holders line
+
+-- the seats that have a reference after all of the line
+abbrev pub last_holders : List (Deed Event) → Holders
+last_holders line = state_after holders_next no_holders line
+
+-- the id, if there is one
+abbrev pub ids_of : Option ℕ → List ℕ
+ids_of None = []
+ids_of (Some i) = i ∷ []
+
+-- the ids that a view holds or probes
+abbrev pub references_of : View → List ℕ
+references_of v = ids_of v.claims.held ++ ids_of v.claims.probe
+
 -- where a view stands among the seats
 abbrev pub stands_at : View → Standing
 stands_at v = v.standing
@@ -103,3 +156,8 @@ pub record AreOrdered (ids first : ℕ) (now : ℕ → List Entry) (pool : List 
   pub ends : IsMoment ids now pool bits look (last_moment first line)
   -- a view has the number of its seat
   pub named : (i : ℕ) (v : View) → get_elem? views i ≡ some v → v.standing.gone ≡ false → v.seat ≡ i
+  -- each reference is given back by the seat that took it
+  pub own : AreOwn line
+  -- a view's seat has a reference to just what the view holds or probes, and no other seat has one
+  pub held : (j : ℕ) (v : View) → get_elem? views j ≡ some v → (i : ℕ) → times j (last_holders line i) ≡ times i (references_of v)
+  pub none_else : (j : ℕ) → length views ≤ j → (i : ℕ) → times j (last_holders line i) ≡ 0
