@@ -8,7 +8,7 @@ use Rattle.shr_base.specs.declared.journals.PoolEntry.TheVariants.{Registered, U
 use Rattle.shr_model.specs.Pool.{phase_of, decl_from, from_from, from_of, end_of, registrations, decl_at}
 use Rattle.shr_seats.specs.Weights.{total, times}
 use Rattle.shr_core.specs.Parts.{Marks, no_marks, no_claims}
-use Rattle.shr_core.specs.Rule.{IsShown, IsDated, opener, only_some}
+use Rattle.shr_core.specs.Rule.{IsShown, HasOnlyIds, IsDated, opener, only_some}
 use Rattle.shr_core.specs.Steps.{with_set, dated_now, split_off, half_after, is_drained}
 use Rattle.shr_core.specs.Tells.{IsBusy}
 use Rattle.shr_core.specs.Gained.{nothing, then_gained, Adds, OwesNoMore, IsIdle}
@@ -60,6 +60,13 @@ set_and_shown k near same is-one = let one : 1 ≡ k = omega (arith, near, same)
 
 shown_by_nobody : IsShown 1024 (no_marks ∷ []) (record { map = 1; bits = 1; set = [] }) → ⊥
 shown_by_nobody f = absurd (omega (arith, f 1 (omega arith) refl refl))
+
+-- of 64 ids each bit of the first map stands for one, and of one id the second bit stands for none
+all_of_ids : HasOnlyIds 64 (record { map = 0; bits = 3; set = [] })
+all_of_ids b small is-one = omega (arith, small)
+
+one_of_none : HasOnlyIds 1 (record { map = 0; bits = 3; set = [] }) → ⊥
+one_of_none f = absurd (omega (arith, f 1 (omega arith) refl))
 
 -- an id is dated where it is held
 held_is_dated : dated_now (record no_claims { held = Some 2; number = 6 }) 4 ≡ record { id = 2; number = 6; entries = 4 } ∷ []

@@ -113,6 +113,7 @@ module _ (key : Setting) (id : ℕ) (v : View) (closed : Closed) (c : IsClosedOf
     events = c.sound.ordered.events;
     ends = subst (λ (l : List PoolEntry). IsMoment key.shape.ids c.sound.now l (bits_in (sizes_of key.shape) c.last.words) (looks_in c.last.words) (last_moment key.first_lookup c.sound.ordered.line)) (sym c.pool) c.sound.ordered.ends;
     none_else = r.marked.none_else;
+    none_shown = r.marked.none_shown id v.marks (at_map marks_of c.last.views id v c.seat);
     own = c.sound.ordered.own;
   }
 

@@ -76,7 +76,7 @@ maps key n id m b unit near row is present s o deep me _ =
         listed = lists_stay key s o id v me;
         traced = traces_stay key s o id v me;
         marked = subst (λ (x : ℕ). AreMarks key.shape.ids (counts_in (sizes_of key.shape) s.words) (bits_in (sizes_of key.shape) s.words) (phases o.pool) (set (map marks_of s.views) id (with_map v b x).marks)) read
-            (marking.maps key.shape.ids (counts_in (sizes_of key.shape) s.words) (bits_in (sizes_of key.shape) s.words) (phases o.pool) (map marks_of s.views) id b v.marks (here s.views id v me marks_of) r.marked);
+            (marking.maps key.shape.ids (counts_in (sizes_of key.shape) s.words) (bits_in (sizes_of key.shape) s.words) (phases o.pool) (map marks_of s.views) id b v.marks (here s.views id v me marks_of) near r.marked);
         looked = lookups_stay key s o id v me;
         owned = owned_stay key s o id v me;
         turned = turns_stay key s o id v me;

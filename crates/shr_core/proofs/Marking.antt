@@ -10,7 +10,7 @@ use Rattle.shr_seats.specs.Weights.{total, times, without}
 use Rattle.shr_seats.proofs.Weighing.{total_same, total-set, Each-set, Each-push, Each-weaker, times-without_other, times-push_le, times-push_same, times-push_other, term_le}
 use Rattle.shr_core.specs.Parts.{Marks, Mapped}
 use Rattle.shr_core.specs.Layout.{places_in, group_of, map_of, bit_of, id_of}
-use Rattle.shr_core.specs.Rule.{AreMarks, IsMapped, IsShown}
+use Rattle.shr_core.specs.Rule.{AreMarks, IsMapped, IsShown, HasOnlyIds}
 
 abbrev cleared_at : ℕ → Marks → ℕ
 cleared_at k m = times k m.cleared
@@ -37,6 +37,10 @@ all_shown places ms id m w at more same all = Each-set (λ x. Each (IsShown plac
     (subst (λ (l : List Mapped). Each (IsShown places (set ms id w)) l) (sym same) (shown_stay places ms id m w at more m.maps (all id m at)))
     (λ j x e. shown_stay places ms id m w at more x.maps (all j x e))
 
+-- what all seats saw is of ids, once one seat has other maps that are
+only_ids : (ids : ℕ) (ms : List Marks) (id : ℕ) (w : Marks) → Each (HasOnlyIds ids) w.maps → Each (λ x. Each (HasOnlyIds ids) x.maps) ms → Each (λ x. Each (HasOnlyIds ids) x.maps) (set ms id w)
+only_ids ids ms id w mine all = Each-set (λ (x : Marks). Each (HasOnlyIds ids) x.maps) ms id w mine all
+
 -- a set bit was set by some seat, once one seat has set no less
 raised_stay : (ms : List Marks) (id : ℕ) (m w : Marks) → get_elem? ms id ≡ some m → (k : ℕ) → times k m.sets ≤ times k w.sets → 0 < total (set_at k) ms → 0 < total (set_at k) (set ms id w)
 raised_stay ms id m w at k more was = omega (arith, was, total-set (set_at k) ms id m w at, more)
@@ -51,11 +55,12 @@ owes_less ids count bits phase ms id m owed at same o = let w : Marks = record m
   raised = λ j near is-one. raised_stay ms id m w at j (omega arith) (o.raised j near is-one);
   shown = all_shown (places_in ids) ms id m w at (λ j. omega arith) refl o.shown;
   none_else = o.none_else;
+  none_shown = only_ids ids ms id w (o.none_shown id m at) o.none_shown;
 }
 
 -- the places set by now stand beside a map
-pub maps : (ids : ℕ) (count bits phase : ℕ → ℕ) (ms : List Marks) (id b : ℕ) (m : Marks) → get_elem? ms id ≡ some m → AreMarks ids count bits phase ms → AreMarks ids count bits phase (set ms id (record m { maps = m.maps ++ record { map = b; bits = bits b; set = m.sets } ∷ [] }))
-maps ids count bits phase ms id b m at o = let x : Mapped = record { map = b; bits = bits b; set = m.sets } in let w : Marks = record m { maps = m.maps ++ x ∷ [] } in
+pub maps : (ids : ℕ) (count bits phase : ℕ → ℕ) (ms : List Marks) (id b : ℕ) (m : Marks) → get_elem? ms id ≡ some m → b < places_in ids → AreMarks ids count bits phase ms → AreMarks ids count bits phase (set ms id (record m { maps = m.maps ++ record { map = b; bits = bits b; set = m.sets } ∷ [] }))
+maps ids count bits phase ms id b m at inside o = let x : Mapped = record { map = b; bits = bits b; set = m.sets } in let w : Marks = record m { maps = m.maps ++ x ∷ [] } in
     let cleared : (k : ℕ) → total (cleared_at k) (set ms id w) ≡ total (cleared_at k) ms = λ k. total_same (cleared_at k) ms id m w at refl in record {
       flagged = λ j near below live some-items. ⊎_elim inl (λ h. inr (omega (arith, h, total_same (λ (z : Marks). times j z.owed) ms id m w at refl))) (o.flagged j near below live some-items);
       settled = λ j near some-set none-cleared. o.settled j near (omega (arith, some-set, total_same (λ (z : Marks). times j z.sets) ms id m w at refl)) (omega (arith, none-cleared, cleared j));
@@ -68,6 +73,7 @@ maps ids count bits phase ms id b m at o = let x : Mapped = record { map = b; bi
           (Each-push (IsShown (places_in ids) (set ms id w)) m.maps x (λ k near same is-one. raised_stay ms id m w at k (omega arith) (o.raised k near (subst (λ (y : ℕ). bit_at (bits y) (bit_of k) ≡ 1) (sym same) is-one))) (shown_stay (places_in ids) ms id m w at (λ j. omega arith) m.maps (o.shown id m at)))
           (λ j z e. shown_stay (places_in ids) ms id m w at (λ q. omega arith) z.maps (o.shown j z e));
       none_else = o.none_else;
+      none_shown = only_ids ids ms id w (Each-push (HasOnlyIds ids) m.maps x (λ c small is-one. o.none_else b c inside small is-one) (o.none_shown id m at)) o.none_shown;
     }
 
 -- the bits change at one place alone
@@ -97,6 +103,7 @@ sets ids count bits bits' phase ms id k m at inside others is-set o = let w : Ma
           (λ e. dite (ℕ_discrete b (bit_of k)) (λ d. omega (arith, e, d, inside))
           (λ d. o.none_else x b near small (sym (others x b near small (λ _ q. d q)) ∙ is-one)))
           (λ n. o.none_else x b near small (sym (others x b near small (λ q _. n q)) ∙ is-one));
+      none_shown = only_ids ids ms id w (o.none_shown id m at) o.none_shown;
     }
 
 -- the bits meet the rule after one was cleared, which the seat then owes
@@ -119,6 +126,7 @@ clears ids count bits bits' phase ms id k m at inside others is-clear o = let w 
           (λ e. dite (ℕ_discrete b (bit_of k)) (λ d. omega (arith, e, d, inside))
           (λ d. o.none_else x b near small (sym (others x b near small (λ _ q. d q)) ∙ is-one)))
           (λ n. o.none_else x b near small (sym (others x b near small (λ q _. n q)) ∙ is-one));
+      none_shown = only_ids ids ms id w (o.none_shown id m at) o.none_shown;
     }
 
 -- the count of the place k changes, and the seat id owes it where its items come to be some
@@ -145,6 +153,7 @@ stores ids count count' bits phase ms id k m owed at others more rises o = let w
       raised = λ j near is-one. raised_stay ms id m w at j (omega arith) (o.raised j near is-one);
       shown = all_shown (places_in ids) ms id m w at (λ j. omega arith) refl o.shown;
       none_else = o.none_else;
+      none_shown = only_ids ids ms id w (o.none_shown id m at) o.none_shown;
     }
 
 -- the phases change, where an id that comes to be live shows no items
@@ -156,4 +165,5 @@ turns ids count bits phase phase' ms same o = record {
   raised = o.raised;
   shown = o.shown;
   none_else = o.none_else;
+  none_shown = o.none_shown;
 }

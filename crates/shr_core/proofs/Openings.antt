@@ -26,7 +26,7 @@ use Rattle.shr_core.specs.Layout.{row_in, counts_in, locks_in, bits_in, looks_in
 use Rattle.shr_seats.specs.Shapes.{sizes_of, IsShape}
 use Rattle.shr_core.specs.Lookup.{lookups_of}
 use Rattle.shr_core.specs.Opening.{AreFresh, AreFirstWords}
-use Rattle.shr_core.specs.Rule.{HasOwnEnd, Sound, IsRoom, Fits, AreInHand, IsMade, IsKnown, IsSeen, IsMapped, IsShown, IsTried, IsLoaded, IsHeld, IsOwner, IsTurn, IsDated, Journals, Histories, opener, spent, met_now}
+use Rattle.shr_core.specs.Rule.{HasOwnEnd, Sound, IsRoom, Fits, AreInHand, IsMade, IsKnown, IsSeen, IsMapped, IsShown, HasOnlyIds, IsTried, IsLoaded, IsHeld, IsOwner, IsTurn, IsDated, Journals, Histories, opener, spent, met_now}
 use Rattle.shr_seats.specs.declared.rows.Sizes.{Sizes}
 use Rattle.shr_core.proofs.Ordering as ordering
 use Rattle.shr_core.proofs.Laying.{count_none, lock_none, bits_none, look_low, room_low}
@@ -118,6 +118,7 @@ opens key ws slots shape small wide deep words fresh =
           raised = λ k near is-one. absurd (no_bit (bit_of k) (subst (λ (x : ℕ). bit_at x (bit_of k) ≡ 1) (bits (map_of k)) is-one));
           shown = Each-one (λ (m : Marks). Each (IsShown (places_in ids) (opener.marks ∷ [])) m.maps) opener.marks (Each-none (IsShown (places_in ids) (opener.marks ∷ [])));
           none_else = λ m b near low is-one. absurd (no_bit b (subst (λ (x : ℕ). bit_at x b ≡ 1) (bits m) is-one));
+          none_shown = Each-one (λ (m : Marks). Each (HasOnlyIds ids) m.maps) opener.marks (Each-none (HasOnlyIds ids));
         };
         looked = record {
           few = omega arith;

@@ -11,13 +11,15 @@ use Rattle.shr_base.specs.declared.journals.PoolEntry.TheVariants.{Registered, U
 use Rattle.shr_base.specs.declared.places.Serial.{Serial}
 use Rattle.shr_model.specs.Items.{HasJournal, items_from}
 use Rattle.shr_model.specs.Objects.{fresh}
+use Rattle.shr_model.specs.Pool.{phase_of}
 use Rattle.shr_model.proofs.ItemsLaws.{HasJournal_push, HasJournal_none}
 use Rattle.shr_seats.specs.Lines.{Deed, part}
-use Rattle.shr_core.specs.Parts.{Event, counted, made, looked, loaded, turned, raised, cleared, mapped}
+use Rattle.shr_core.specs.Parts.{Event, counted, made, looked, loaded, loaded, turned, put_back, raised, cleared, mapped}
 use Rattle.shr_core.specs.Layout.{id_of}
-use Rattle.shr_core.specs.Order.{AreEvents, last_moment}
+use Rattle.shr_core.specs.Order.{AreEvents, AreOwn, last_moment}
 use Rattle.shr_core.specs.Ranks.{entries, lookups}
 use Rattle.shr_core.proofs.Ranking.{by_numbers}
+use Rattle.shr_core.proofs.References.{IsGivenBack, given_back}
 
 abbrev deed : ℕ → Event → Deed Event
 deed seat act = record { seat = seat; act = act }
@@ -111,3 +113,33 @@ module _ (by : Serial) (value : List ℕ) where
   -- an id that comes to be idle with an object on its list
   not_drained : AreEvents 1 0 (deed 0 add ∷ deed 0 idle ∷ []) → ⊥
   not_drained events = leaves_one (events.1.0.2 0 refl)
+
+-- the word of the id 0, which was looked up once and has so many references
+abbrev shows : ℕ → Event
+shows refs = loaded (record { id = 0; word = record { lookups = 1; phase = 0; decl = 0; refs = refs } })
+
+-- seat 1 looks up the id 0, seat 0 sees its reference, seat 1 gives it back, and seat 0 sees none
+abbrev given_line : List (Deed Event)
+given_line = deed 1 (lookup 0) ∷ deed 0 (shows 1) ∷ deed 1 (put_back 0) ∷ deed 0 (shows 0) ∷ []
+
+given_events : AreEvents 1 0 given_line
+unfolding phase_of
+given_events = ((refl, refl), ((refl, refl, refl), (omega arith, ((refl, refl, refl), tt))))
+
+given_own : AreOwn given_line
+given_own = (refl, (tt, (refl, (tt, tt))))
+
+-- seat 0 gives back the reference of seat 1: each event is so, but for that
+abbrev taken_line : List (Deed Event)
+taken_line = deed 1 (lookup 0) ∷ deed 0 (put_back 0) ∷ deed 0 (shows 0) ∷ []
+
+taken_events : AreEvents 1 0 taken_line
+unfolding phase_of
+taken_events = ((refl, refl), (omega arith, ((refl, refl, refl), tt)))
+
+taken_own : AreOwn taken_line → ⊥
+taken_own own = absurd (omega (arith, own.1.0))
+
+-- no seat's lookup stands before a load that shows no reference if its put doesn't
+amid : (ids first : ℕ) (l : List (Deed Event)) → AreEvents ids first l → AreOwn l → (i j : ℕ) → i < j → get_elem? l i ≡ some (deed 1 (lookup 4)) → get_elem? l j ≡ some (deed 0 (shows 0)) → ((n : ℕ) → n < j → get_elem? l n ≡ some (deed 1 (put_back 0)) → ⊥) → ⊥
+amid ids first l events own i j less at there none = let g = given_back ids first l events own i j 1 0 (record { id = 0; number = 4; held = None }) (record { id = 0; word = record { lookups = 1; phase = 0; decl = 0; refs = 0 } }) at there refl refl less in none g.at g.before g.stands

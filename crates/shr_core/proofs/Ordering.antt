@@ -118,15 +118,15 @@ module _ (ids first : ℕ) (now : ℕ → List Entry) (pool : List PoolEntry) (b
         → ((h : Holders) → Mine h v → IsOwn h id e) → ((h : Holders) → Mine h v → Mine (holders_after h id e) w) → AreOrdered ids first now' pool' bits' look' (set views id w)
     does w e same did so ends own refs = let d : Deed Event = record { seat = id; act = e } in let h : Holders = last_holders o.line in let h' : Holders = holders_after h id e in
         let after : last_holders (o.line ++ d ∷ []) ≡ h' = state_after_push holders_next no_holders o.line d in let others : Else h' = λ j n i. holders_else h id j i e n in record {
-      line = o.line ++ d ∷ [];
-      lined = lined_do stands_at did_in views id v me present o.line o.lined w e (did ∙ ap (λ (n : ℕ). v.did ++ record { seat = n; act = e } ∷ []) (o.named id v me present));
-      events = AreSo-push moment_next (λ t y. IsSo ids t y.act) (at_start first) o.line d o.events (so (last_moment first o.line) o.ends);
-      ends = subst (IsMoment ids now' pool' bits' look') (sym (state_after_push moment_next (at_start first) o.line d)) (ends (last_moment first o.line) o.ends);
-      named = named_still w same;
-      own = AreSo-push holders_next (λ g y. IsOwn g y.seat y.act) no_holders o.line d o.own (own h (o.held id v me));
-      held = λ j x at i. ap (λ (g : Holders). times j (g i)) after ∙ held_now h' w (refs h (o.held id v me)) others j x at i;
-      none_else = λ j far i. ap (λ (g : Holders). times j (g i)) after ∙ none_now h' others j (omega (arith, far, length-set views id w)) i;
-    }
+          line = o.line ++ d ∷ [];
+          lined = lined_do stands_at did_in views id v me present o.line o.lined w e (did ∙ ap (λ (n : ℕ). v.did ++ record { seat = n; act = e } ∷ []) (o.named id v me present));
+          events = AreSo-push moment_next (λ t y. IsSo ids t y.act) (at_start first) o.line d o.events (so (last_moment first o.line) o.ends);
+          ends = subst (IsMoment ids now' pool' bits' look') (sym (state_after_push moment_next (at_start first) o.line d)) (ends (last_moment first o.line) o.ends);
+          named = named_still w same;
+          own = AreSo-push holders_next (λ g y. IsOwn g y.seat y.act) no_holders o.line d o.own (own h (o.held id v me));
+          held = λ j x at i. ap (λ (g : Holders). times j (g i)) after ∙ held_now h' w (refs h (o.held id v me)) others j x at i;
+          none_else = λ j far i. ap (λ (g : Holders). times j (g i)) after ∙ none_now h' others j (omega (arith, far, length-set views id w)) i;
+        }
 
   -- a step that notes nothing and changes none of this
   pub stays : (w : View) → w.seat ≡ v.seat → w.did ≡ v.did → references_of w ≡ references_of v → AreOrdered ids first now pool bits look (set views id w)

@@ -21,7 +21,7 @@ use Rattle.shr_core.specs.declared.setting.Setting.{Setting}
 use Rattle.shr_core.specs.Parts.{Content, Hand, Holding, Traces, Marks, Claims, Turns, no_rooms, no_traces, no_marks, no_claims, no_turns}
 use Rattle.shr_core.specs.Layout.{counts_in, locks_in, bits_in, looks_in, homes_in, places_in, node_of}
 use Rattle.shr_seats.specs.Shapes.{sizes_of}
-use Rattle.shr_core.specs.Rule.{IsRoom, HasOwnEnd, Sound, Fits, Keeps, Journals, Histories, AreRooms, AreRoomsOf, AreLists, AreInHand, AreTraces, IsMade, IsKnown, IsSeen, AreMarks, IsMapped, IsShown, AreLookups, AreLookupsOf, IsTried, IsLoaded, IsHeld, AreOwned, IsOwner, AreTurns, AreDated, IsTurn, phases, is_room, has_room, hit, hit_attempt, hit_turn, spent, holding_of, traces_of, marks_of, claims_of, turns_of, standing_of, only_some}
+use Rattle.shr_core.specs.Rule.{IsRoom, HasOwnEnd, Sound, Fits, Keeps, Journals, Histories, AreRooms, AreRoomsOf, AreLists, AreInHand, AreTraces, IsMade, IsKnown, IsSeen, AreMarks, IsMapped, IsShown, HasOnlyIds, AreLookups, AreLookupsOf, IsTried, IsLoaded, IsHeld, AreOwned, IsOwner, AreTurns, AreDated, IsTurn, phases, is_room, has_room, hit, hit_attempt, hit_turn, spent, holding_of, traces_of, marks_of, claims_of, turns_of, standing_of, only_some}
 use Rattle.shr_core.specs.Steps.{with_one_split, split_off, joined, IsAtRest}
 use Rattle.shr_core.proofs.Claiming.{R}
 use Rattle.shr_core.proofs.Ordering as ordering
@@ -57,6 +57,7 @@ mark_more ids count bits phase ms o = let cleared : (k : ℕ) → total (λ (m :
       shown = Each-push (λ (m : Marks). Each (IsShown (places_in ids) (ms ++ no_marks ∷ [])) m.maps) ms no_marks (Each-none (IsShown (places_in ids) (ms ++ no_marks ∷ [])))
           (λ j m e. Each-weaker (IsShown (places_in ids) ms) (IsShown (places_in ids) (ms ++ no_marks ∷ [])) (λ x old k near same is-one. omega (arith, old k near same is-one, sets k)) m.maps (o.shown j m e));
       none_else = o.none_else;
+      none_shown = Each-push (λ (m : Marks). Each (HasOnlyIds ids) m.maps) ms no_marks (Each-none (HasOnlyIds ids)) o.none_shown;
     }
 
 claim_more : (ids first : ℕ) (look : ℕ → ℕ) (pool : List PoolEntry) (cs : List Claims) → length cs < 65 → AreLookups ids first look pool cs → AreLookups ids first look pool (cs ++ no_claims ∷ [])
@@ -158,6 +159,7 @@ mark_join ids count bits phase ms id other v u at apart them none o = let places
       raised = λ k near is-one. omega (arith, o.raised k near is-one, sets k);
       shown = Each-join (λ (m : Marks). Each (IsShown places ms') m.maps) ms id other b no_marks (Each-append (IsShown places ms') v.maps u.maps (old-shown v (o.shown id v at)) (old-shown u (o.shown other u them))) (Each-none (IsShown places ms')) (λ j m e. old-shown m (o.shown j m e));
       none_else = o.none_else;
+      none_shown = Each-join (λ (m : Marks). Each (HasOnlyIds ids) m.maps) ms id other b no_marks (Each-append (HasOnlyIds ids) v.maps u.maps (o.none_shown id v at) (o.none_shown other u them)) (Each-none (HasOnlyIds ids)) o.none_shown;
     }
 
 claim_join : (ids first : ℕ) (look : ℕ → ℕ) (pool : List PoolEntry) (cs : List Claims) (id other : ℕ) (v u : Claims) → get_elem? cs id ≡ some v → other ≢ id → get_elem? cs other ≡ some u → u.may ≡ None → u.held ≡ None → u.probe ≡ None

@@ -14,7 +14,7 @@ use Rattle.shr_core.specs.Lookup.{lookups_of}
 use Rattle.shr_seats.specs.Lines.{Deed, part}
 use Rattle.shr_core.specs.Parts.{Event}
 use Rattle.shr_core.specs.Order.{AreEvents, AreOwn, IsMoment, last_moment}
-use Rattle.shr_core.specs.Rule.{Journals, Histories, IsInside, IsMade, IsKnown, IsSeen, IsTried, IsLoaded, IsTurn, IsDated, hit, hit_attempt, hit_turn, items_now, family_of}
+use Rattle.shr_core.specs.Rule.{Journals, Histories, IsInside, IsMade, IsKnown, IsSeen, IsTried, IsLoaded, IsTurn, IsDated, HasOnlyIds, hit, hit_attempt, hit_turn, items_now, family_of}
 use Rattle.shr_seats.specs.Shapes.{groups_in}
 use Rattle.shr_core.specs.Ending.{end_value, ends_below, lookups_below, nodes_below, units_in}
 
@@ -73,7 +73,8 @@ pub record IsLeft (key : Setting) (v : View) (closed : Closed) : Type 0 where
   pub parts : (seat : ℕ) → part seat v.did ≡ part seat line
   pub events : AreEvents key.shape.ids key.first_lookup line
   pub ends : IsMoment key.shape.ids now closed.pool.items bits look (last_moment key.first_lookup line)
-  -- each bit that is set stands for an id
+  -- each bit that is set, or was seen to be, stands for an id
   pub none_else : (m b : ℕ) → m < places_in key.shape.ids → b < 64 → bit_at (bits m) b ≡ 1 → 64 * (m / 1024) + b < key.shape.ids
-  -- each reference was given back by the seat that took it
+  pub none_shown : Each (HasOnlyIds key.shape.ids) v.marks.maps
+  -- a reference was given back only by the seat that took it
   pub own : AreOwn line

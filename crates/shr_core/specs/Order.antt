@@ -122,7 +122,7 @@ IsOwn h seat (raised k) = Unit {0}
 IsOwn h seat (cleared k) = Unit {0}
 IsOwn h seat (mapped x) = Unit {0}
 
--- each reference is given back by the seat that took it
+-- a reference is given back only by the seat that took it
 abbrev pub AreOwn : List (Deed Event) → Type 0
 AreOwn line = AreSo holders_next (λ h d. IsOwn h d.seat d.act) no_holders line
 
@@ -156,7 +156,7 @@ pub record AreOrdered (ids first : ℕ) (now : ℕ → List Entry) (pool : List 
   pub ends : IsMoment ids now pool bits look (last_moment first line)
   -- a view has the number of its seat
   pub named : (i : ℕ) (v : View) → get_elem? views i ≡ some v → v.standing.gone ≡ false → v.seat ≡ i
-  -- each reference is given back by the seat that took it
+  -- a reference is given back only by the seat that took it
   pub own : AreOwn line
   -- a view's seat has a reference to just what the view holds or probes, and no other seat has one
   pub held : (j : ℕ) (v : View) → get_elem? views j ≡ some v → (i : ℕ) → times j (last_holders line i) ≡ times i (references_of v)

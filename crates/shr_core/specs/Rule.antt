@@ -212,6 +212,10 @@ IsMapped places marks x = (k : ℕ) → k < places → map_of k ≡ x.map → 0 
 abbrev pub IsShown : ℕ → List Marks → Mapped → Type 0
 IsShown places marks x = (k : ℕ) → k < places → map_of k ≡ x.map → bit_at x.bits (bit_of k) ≡ 1 → 0 < total (λ m. times k m.sets) marks
 
+-- each bit that a map has stands for an id
+abbrev pub HasOnlyIds : ℕ → Mapped → Type 0
+HasOnlyIds ids x = (b : ℕ) → b < 64 → bit_at x.bits b ≡ 1 → 64 * (x.map / 1024) + b < ids
+
 -- the bit words are as the seats have set and cleared them, and what they owe is enough
 pub record AreMarks (ids : ℕ) (count bits phase : ℕ → ℕ) (marks : List Marks) : Type 0 where
   -- if a place below the root has items and its id is live, its bit is set or a seat owes it
@@ -225,6 +229,8 @@ pub record AreMarks (ids : ℕ) (count bits phase : ℕ → ℕ) (marks : List M
   pub shown : Each (λ m. Each (IsShown (places_in ids) marks) m.maps) marks
   -- each bit that is set stands for an id
   pub none_else : (m b : ℕ) → m < places_in ids → b < 64 → bit_at (bits m) b ≡ 1 → 64 * (m / 1024) + b < ids
+  -- and each that was seen to be
+  pub none_shown : Each (λ m. Each (HasOnlyIds ids) m.maps) marks
 
 -- 1 if this is the lookup of the id with this number, else 0
 abbrev pub hit_attempt : ℕ → ℕ → Tried → ℕ
