@@ -21,7 +21,7 @@ use Rattle.shr_report.proofs.SecondReport.{kept, report, part, place, by, walk, 
 -- the second report
 
 -- an entry of a command has the command's number
-own_entry : (p : Place) (n worker k : ℕ) → IsEntryBy report p n worker k → n ≡ k
+pub own_entry : (p : Place) (n worker k : ℕ) → IsEntryBy report p n worker k → n ≡ k
 own_entry p n worker k h = each_entry (λ q m e. (v j : ℕ) → entry_by report e ≡ Some (serial_of v j) → m ≡ j)
     ((λ v j e. ap (λ (z : Serial). z.command) (held_same (by 0) (serial_of v j) e)), ((λ v j e. ap (λ (z : Serial). z.command) (held_same (by 1) (serial_of v j) e)), tt)) p n h.entry h.stands worker k h.by
 

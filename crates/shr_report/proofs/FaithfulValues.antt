@@ -1,25 +1,22 @@
 -- The second whole report is faithful, and for each sentence of that a report of a run, changed in one place, isn't.
 use Rattle.std.specs.Prelude.{◌≡◌, ℕ, zero, suc, ◌<◌, ◌≤◌, ◌==◌, true, false, cond, if◌then◌else◌, List, [], ◌∷◌, Some, refl, slice_get}
 use Rattle.std.proofs.Common.{arith, sym, ap, subst, ◌∙◌, ⊎_elim}
-use Rattle.shr_base.specs.declared.journals.PoolEntry.{PoolEntry}
 use Rattle.shr_base.specs.declared.journals.PoolEntry.TheVariants.{Registered, Unregistered, Idle}
 use Rattle.shr_base.specs.declared.journals.TreeEntry.TheVariants.{Begin, Done}
 use Rattle.shr_base.specs.declared.journals.UseStep.{UseStep}
 use Rattle.shr_base.specs.declared.replies.Answered.{Answered}
-use Rattle.shr_base.specs.declared.places.At.{At}
 use Rattle.shr_base.specs.declared.replies.Reply.TheVariants as reply
 use Rattle.shr_base.specs.declared.scripts.Command.TheVariants as command
 use Rattle.shr_model.specs.Groups.{path_within}
 use Rattle.shr_model.specs.Pool.{last_number, number_from, phase_of}
 use Rattle.shr_model.proofs.Members.{Has_from_Contains}
-use Rattle.std.specs.Option.{IsSomeAnd}
-use Rattle.shr_report.specs.Causes.{IsMadeBy}
-use Rattle.shr_report.specs.Parts.{serial_of, reply_at, lookups_at}
+use Rattle.shr_report.specs.Parts.{serial_of, lookups_at}
 use Rattle.shr_report.specs.Freshness.{of_answer, shows_offline}
 use Rattle.shr_report.specs.Faithful.{pool_reached, tree_reached, tree_made, AreNotAbove, IsOverOnPath, IsFaithful}
 use Rattle.shr_report.proofs.CutsValues.{are_told}
 use Rattle.shr_report.proofs.EntryOrderValues as entries
 use Rattle.shr_report.proofs.LookupOrderValues.{none_made, in_order}
+use Rattle.shr_report.proofs.OneOrderValues.{nothing_made}
 use Rattle.shr_report.proofs.SecondCases.{AllAt, each_at, each_answer, each_walk}
 use Rattle.shr_report.proofs.SecondReport as second
 use Rattle.shr_report.proofs.SecondReport.{kept, script, report, place, uses}
@@ -36,29 +33,6 @@ reached_of : (id : ℕ) → last_number id report.pool.items ≤ lookups_at repo
 unfolding number_from
 reached_of zero = omega arith
 reached_of (suc id) = let none : (if 0 == suc id then 0 else 0) ≡ 0 = ap (λ b. cond {A = ℕ} b 0 0) (not_zero id) in omega (arith, none)
-
-not_by_add : (a : At) (n : ℕ) (e : PoolEntry) → IsMadeBy report e n (reply.Added a) → ⊥
-not_by_add a n (Registered decl id since) made = made
-not_by_add a n (Unregistered decl id until) made = made
-not_by_add a n (Idle id) made = made
-
-not_by_drop : (a : At) (n : ℕ) (e : PoolEntry) → IsMadeBy report e n (reply.Dropped a) → ⊥
-not_by_drop a n (Registered decl id since) made = made
-not_by_drop a n (Unregistered decl id until) made = made
-not_by_drop a n (Idle id) made = made
-
-not_by_walk : (freed n : ℕ) (e : PoolEntry) → IsMadeBy report e n (reply.Walked freed) → ⊥
-not_by_walk freed n (Registered decl id since) made = made
-not_by_walk freed n (Unregistered decl id until) made = made
-not_by_walk freed n (Idle id) made = made
-
-nothing_made : (worker k n : ℕ) (e : PoolEntry) → IsSomeAnd (reply_at report (serial_of worker k)) (IsMadeBy report e n) → ⊥
-nothing_made zero zero n e made = not_by_add (record { place = place; entry = 0 }) n e made
-nothing_made zero (suc zero) n e made = not_by_drop (record { place = place; entry = 1 }) n e made
-nothing_made zero (suc (suc zero)) n e made = not_by_walk 0 n e made
-nothing_made zero (suc (suc (suc zero))) n e made = not_by_walk 0 n e made
-nothing_made zero (suc (suc (suc (suc k)))) n e made = made
-nothing_made (suc worker) k n e made = made
 
 nothing_shown : (k : ℕ) → k < 3 → shows_offline report (serial_of 0 k) 1 ≡ true → ⊥
 nothing_shown zero lt e = let f : false ≡ true = e in absurd (cc)

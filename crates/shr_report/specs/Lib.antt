@@ -31,5 +31,6 @@ pub mod Lawful
 pub mod Cuts
 pub mod LookupOrder
 pub mod EntryOrder
+pub mod OneOrder
 pub mod Faithful
 pub mod Puts

@@ -1,0 +1,113 @@
+-- One order of all that the workers did at the table of the caches, as far as a report tells it.
+use Rattle.std.specs.Prelude.{◌≡◌, ◌≢◌, ℕ, ◌+◌, ◌<◌, List, [], ◌∷◌, ◌++◌, length, map, flat_map, slice_get, Option, Some, None, option_to_list, AllPairs, Contains}
+use Rattle.std.specs.Option.{IsSomeAnd}
+use Rattle.shr_base.specs.declared.journals.Entry.{Entry}
+use Rattle.shr_base.specs.declared.journals.PoolEntry.{PoolEntry}
+use Rattle.shr_base.specs.declared.journals.PoolEntry.TheVariants.{Registered, Unregistered, Idle}
+use Rattle.shr_base.specs.declared.places.Place.{Place}
+use Rattle.shr_base.specs.declared.places.Serial.{Serial}
+use Rattle.shr_base.specs.declared.replies.Answered.{Answered}
+use Rattle.shr_base.specs.declared.replies.Found.{Found}
+use Rattle.shr_base.specs.declared.walks.Attempt.{Attempt}
+use Rattle.shr_base.specs.declared.walks.WalkRecord.{WalkRecord}
+use Rattle.shr_model.specs.Attempts.{Count, number_of, counts_of}
+use Rattle.shr_model.specs.Walks.{place_in}
+use Rattle.shr_report.specs.declared.report.Report.{Report}
+use Rattle.shr_report.specs.Parts.{serial_of, answer_at, reply_at, walks_of, walks_by, journals_of, entry_by}
+use Rattle.shr_report.specs.Causes.{IsMadeBy}
+
+-- What a report tells of one step: an entry of the list at a place, a lookup of an id, an entry of
+-- the journal of registrations, each by its number, or a worker's count with this number.
+pub data Told : Type 0 where
+  entry : Place → ℕ → Told
+  lookup : ℕ → ℕ → Told
+  turn : ℕ → Told
+  count : ℕ → ℕ → Told
+
+-- ---- lookups
+-- an id with the number of a lookup
+abbrev pub numbered : ℕ → Option ℕ → List (ℕ × ℕ)
+numbered id None = []
+numbered id (Some number) = (id, number) ∷ []
+
+-- those of the attempts of a walk
+abbrev pub numbers_tried : WalkRecord → List (ℕ × ℕ)
+numbers_tried w = flat_map (λ (a : Attempt). numbered a.id (number_of a.outcome)) w.attempts.items
+
+-- and that of a found cache
+abbrev pub number_found : Option Found → List (ℕ × ℕ)
+number_found None = []
+number_found (Some f) = (f.id, f.number) ∷ []
+
+-- the lookups of a command, in order: those of its walks, and then that of the cache that it found
+abbrev pub looked_by : Report → Serial → List (ℕ × ℕ)
+looked_by r by = flat_map (λ (a : Answered). flat_map numbers_tried (walks_by r by) ++ number_found a.found) (option_to_list (answer_at r by))
+
+-- ---- counts
+-- a count of a place by a walk of this command
+pub record Counting : Type 0 where
+  pub by : Serial
+  pub place : Place
+  pub seen : Count
+
+-- those of a walk, in order
+abbrev pub countings_in : WalkRecord → List Counting
+countings_in w = flat_map (λ (a : Attempt). map (λ (c : Count). record { by = w.by; place = place_in w a.id; seen = c }) (counts_of a.outcome)) w.attempts.items
+
+-- and those of all walks of a worker
+abbrev pub countings_of : Report → ℕ → List Counting
+countings_of r worker = flat_map countings_in (walks_of r worker)
+
+-- ---- what is told, and by whom
+-- the list has an element with this number, of which P holds
+abbrev pub HasAt : {A : Type 0} → List A → ℕ → (A → Type 0) → Type 0
+HasAt {A} xs n P = (x : A) × (slice_get xs n ≡ Some x) × P x
+
+-- the report tells this
+abbrev pub IsTold : Report → Told → Type 0
+IsTold r (entry place n) = HasAt (journals_of r place) n (λ (e : Entry). Unit {0})
+IsTold r (lookup id n) = (by : Serial) × Contains (looked_by r by) (id, n)
+IsTold r (turn n) = HasAt r.pool.items n (λ (e : PoolEntry). Unit {0})
+IsTold r (count worker n) = HasAt (countings_of r worker) n (λ (c : Counting). Unit {0})
+
+-- and tells it of this command
+abbrev pub IsBy : Report → Serial → Told → Type 0
+IsBy r by (entry place n) = HasAt (journals_of r place) n (λ (e : Entry). entry_by r e ≡ Some by)
+IsBy r by (lookup id n) = Contains (looked_by r by) (id, n)
+IsBy r by (turn n) = HasAt r.pool.items n (λ (e : PoolEntry). IsSomeAnd (reply_at r by) (IsMadeBy r e n))
+IsBy r by (count worker n) = HasAt (countings_of r worker) n (λ (c : Counting). c.by ≡ by)
+
+-- ---- what numbers say
+-- what only grows: the entries of the list at a place, the lookups of an id, the entries of the
+-- journal of registrations
+pub data Measure : Type 0 where
+  entries : Place → Measure
+  lookups : ℕ → Measure
+  turns : Measure
+
+-- a registration tells the number of its id's next lookup
+abbrev pub EntryTells : ℕ → ℕ → ℕ → PoolEntry → Type 0
+EntryTells i low high (Registered decl id from) = (id ≡ i) × (low ≡ from) × (high ≡ from)
+EntryTells i low high (Unregistered decl id to) = (id ≡ i) × (low ≡ to) × (high ≡ to)
+EntryTells i low high (Idle id) = ⊥
+
+-- what is told says that there were `low` before it, and that there are `high` after it
+abbrev pub TellsOf : Report → Measure → Told → ℕ → ℕ → Type 0
+TellsOf r (entries p) (entry place n) low high = (place ≡ p) × (low ≡ n) × (high ≡ n + 1)
+TellsOf r (entries p) (count worker n) low high = HasAt (countings_of r worker) n (λ (c : Counting). (c.place ≡ p) × (low ≡ c.seen.version) × (high ≡ c.seen.version))
+TellsOf r (lookups i) (lookup id n) low high = (id ≡ i) × (low ≡ n) × (high ≡ n + 1)
+TellsOf r (lookups i) (turn n) low high = HasAt r.pool.items n (EntryTells i low high)
+TellsOf r turns (turn n) low high = (low ≡ n) × (high ≡ n + 1)
+TellsOf r m x low high = ⊥
+
+-- There is one order of all that is told.
+pub record IsInOneOrder (r : Report) : Type 0 where
+  -- where each stands in it
+  pub rank : Told → ℕ
+  -- of two that tell of one measure, that comes first of which there were fewer before than there are after the other
+  pub by_numbers : (x y : Told) → IsTold r x → IsTold r y → x ≢ y → (m : Measure) (low high low' high' : ℕ) → TellsOf r m x low high → TellsOf r m y low' high' → low < high' → rank x < rank y
+  -- what a worker did stands in the order of its commands,
+  pub by_worker : (x y : Told) (worker k later : ℕ) → k < later → IsBy r (serial_of worker k) x → IsBy r (serial_of worker later) y → rank x < rank y
+  -- a command's lookups in the order in which it made them, and so a worker's counts
+  pub looked : (by : Serial) → AllPairs (λ x y. rank (lookup x.0 x.1) < rank (lookup y.0 y.1)) (looked_by r by)
+  pub counted : (worker m n : ℕ) → m < n → n < length (countings_of r worker) → rank (count worker m) < rank (count worker n)
