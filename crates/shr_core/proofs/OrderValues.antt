@@ -2,24 +2,23 @@
 use Rattle.std.proofs.Common.{Bool, true, cond, sym, subst, arith, eq-eqb, ne_eqb}
 use mathlib.Core.Logic.{dite}
 use native.Mathlib.Decide.{ℕ_discrete}
-use Rattle.std.specs.Prelude.{◌≡◌, ℕ, ◌<◌, List, [], ◌∷◌, ◌++◌, ◌==◌, Some, None, refl}
+use Rattle.std.specs.Prelude.{◌≡◌, ℕ, ◌<◌, List, [], ◌∷◌, ◌++◌, None, refl}
 use mathlib.Core.Option.{some}
 use lib.ListN.{get_elem?}
-use Rattle.shr_base.specs.declared.journals.Entry.{Entry}
 use Rattle.shr_base.specs.declared.journals.Entry.TheVariants.{Add, Closed, Drained}
-use Rattle.shr_base.specs.declared.journals.PoolEntry.TheVariants.{Registered, Unregistered, Idle}
+use Rattle.shr_base.specs.declared.journals.PoolEntry.TheVariants.{Unregistered, Idle}
 use Rattle.shr_base.specs.declared.places.Serial.{Serial}
 use Rattle.shr_model.specs.Items.{HasJournal, items_from}
 use Rattle.shr_model.specs.Objects.{fresh}
 use Rattle.shr_model.specs.Pool.{phase_of}
 use Rattle.shr_model.proofs.ItemsLaws.{HasJournal_push, HasJournal_none}
-use Rattle.shr_seats.specs.Lines.{Deed, part}
+use Rattle.shr_seats.specs.Lines.{Deed}
 use Rattle.shr_core.specs.Parts.{Event, counted, made, looked, loaded, loaded, turned, put_back, raised, cleared, mapped}
 use Rattle.shr_core.specs.Layout.{id_of}
 use Rattle.shr_core.specs.Order.{AreEvents, AreOwn, last_moment}
 use Rattle.shr_core.specs.Ranks.{entries, lookups}
 use Rattle.shr_core.proofs.Ranking.{by_numbers}
-use Rattle.shr_core.proofs.References.{IsGivenBack, given_back}
+use Rattle.shr_core.proofs.References.{given_back}
 
 abbrev deed : ℕ → Event → Deed Event
 deed seat act = record { seat = seat; act = act }

@@ -22,7 +22,7 @@ use Rattle.shr_core.specs.Parts.{Event, Counted, Made, Mapped, counted, made, lo
 use Rattle.shr_core.specs.Layout.{places_in, id_of, map_of, bit_of}
 use Rattle.shr_core.specs.Lookup.{refs_of, lookups_of}
 use Rattle.shr_core.specs.Rule.{opener, spent}
-use Rattle.shr_core.specs.Order.{Moment, at_start, moment_after, moment_next, IsDrawnAt, LeavesNothing, IsSo, AreEvents, last_moment, IsMoment, Holders, no_holders, holders_after, holders_next, IsOwn, AreOwn, last_holders, ids_of, references_of, stands_at, did_in, AreOrdered}
+use Rattle.shr_core.specs.Order.{Moment, at_start, moment_after, moment_next, IsDrawnAt, LeavesNothing, IsSo, AreEvents, last_moment, IsMoment, Holders, no_holders, holders_after, holders_next, IsOwn, last_holders, ids_of, references_of, stands_at, did_in, AreOrdered}
 use Rattle.shr_core.specs.Steps.{noted, turn_at, with_one_split, split_off, joined}
 use Rattle.shr_core.proofs.Marking.{OnlyAt, elsewhere}
 use Rattle.shr_core.proofs.Claiming.{by_phase}

@@ -1,12 +1,12 @@
 -- A load that shows no reference stands behind the puts of all lookups before it.
-use Rattle.std.proofs.Common.{◌≡◌, ◌≢◌, ◌⊎◌, ℕ, zero, suc, ◌+◌, ◌<◌, ◌≤◌, ◌-◌, inl, inr, ⊎_elim, Bool, true, false, cond, eqb, List, [], ◌∷◌, ◌++◌, length, sym, refl, ap, subst, ◌∙◌, arith, eq-eqb, ne_eqb, length-append}
+use Rattle.std.proofs.Common.{◌≡◌, ◌⊎◌, ℕ, zero, suc, ◌+◌, ◌<◌, ◌≤◌, ◌-◌, inl, inr, ⊎_elim, Bool, cond, eqb, List, [], ◌∷◌, ◌++◌, length, sym, refl, ap, subst, ◌∙◌, arith, eq-eqb, ne_eqb, length-append}
 use mathlib.Core.Logic.{dite}
 use native.Mathlib.Decide.{ℕ_discrete}
 use mathlib.Core.Option.{some, some-injective, some-ne-none}
 use lib.ListN.{get_elem?}
 use Rattle.shr_seats.specs.Lines.{Deed, AreSo}
-use Rattle.shr_seats.specs.Weights.{times, without, only}
-use Rattle.shr_seats.proofs.Weighing.{only_yes, only_no, times-push_same, times-push_le, times-without_other}
+use Rattle.shr_seats.specs.Weights.{times, without}
+use Rattle.shr_seats.proofs.Weighing.{times-push_same, times-push_le, times-without_other}
 use Rattle.shr_core.specs.Parts.{Event, Tried, Loaded, counted, made, looked, loaded, turned, put_back, raised, cleared, mapped}
 use Rattle.shr_core.specs.Order.{Moment, at_start, moment_after, moment_next, IsSo, AreEvents, Holders, no_holders, holders_after, holders_next, IsOwn, AreOwn}
 
