@@ -7,9 +7,7 @@ ghost use Rattle.shr_audit_replies.specs.Law.{AreRepliesLawfulButValues, HasHead
 
 use crate::answered::are_answered;
 use crate::cited::are_entries_cited;
-use crate::heads::{
-    are_last_swept, has_names, has_paths, has_pool_names, has_sizes, is_counted,
-};
+use crate::heads::{are_last_swept, has_names, has_paths, has_pool_names, has_sizes, is_counted};
 use crate::rising::are_journals_rising;
 use shr_base::memory::Memory;
 use shr_base::scripts::Script;

@@ -11,8 +11,8 @@ use shr_tables::tables::{CrewSeats, Tables};
 use shr_worker::tasks::WorkerResult;
 use std::alloc::Global;
 
-/// Joins the seats of all workers into the first ones, in order, and gives what each worker answered and noted.
-/// `Memory` comes for want of memory, here or in a worker. Our own.
+/// Joins the seats of all workers into the first ones, in order, and gives what each worker
+/// answered and noted. `Memory` comes for want of memory, here or in a worker. Our own.
 pub(crate) fn join_all(
     alloc: Global,
     tables: &Tables,

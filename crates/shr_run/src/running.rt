@@ -18,16 +18,17 @@ use std::alloc::Global;
 use std::sync::Wait;
 use std::thread::Threads;
 
-/// What is left of a run: the ends of its tables, with its script, and the log of each worker, in order.
-/// Our own.
+/// What is left of a run: the ends of its tables, with its script, and the log of each worker, in
+/// order. Our own.
 #[derive(Drop)]
 pub(crate) struct Ran {
     pub ends: Ends,
     pub logs: Vec<WorkerLog>,
 }
 
-/// Opens the tables of a valid script, runs its workers on threads, makes its sweep, joins them and ends the tables. `Memory` comes for
-/// want of memory. It waits as the workers do. Our own.
+/// Opens the tables of a valid script, runs its workers on threads, makes its sweep if it has
+/// one, joins their seats and ends the tables. `Memory` comes for want of memory. It waits as the
+/// workers and the helpers do. Our own.
 pub(crate) fn run<R: Threads + Wait + Sync, G: Gate + Sync>(
     rt: &R,
     alloc: Global,

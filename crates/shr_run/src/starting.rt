@@ -12,8 +12,8 @@ use shr_tables::tables::{CrewSeats, Tables};
 use shr_worker::tasks::Task;
 use std::alloc::Global;
 
-/// A task for each worker of the script, in order, each with seats split off the first ones. `Memory` comes for want
-/// of memory. Our own.
+/// A task for each worker of the script, in order, each with seats split off the first ones.
+/// `Memory` comes for want of memory. Our own.
 pub(crate) fn split_all(
     alloc: Global,
     tables: &Tables,

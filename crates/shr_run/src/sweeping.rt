@@ -32,8 +32,8 @@ pub(crate) struct Helper {
     pub pass: JobPass,
 }
 
-// A helper for each worker, in order, each with a new pass. `Memory` comes for want of memory, here or
-// in a worker.
+// A helper for each worker, in order, each with a new pass. `Memory` comes for want of memory, here
+// or in a worker.
 fn hand_out(
     alloc: Global,
     jobs: &mut Jobs,
@@ -74,8 +74,8 @@ fn answered(answer: SweepAnswer) -> Answered
     Answered { reply, found: None }
 }
 
-// Helps with the sweep until no job is left, and answers. Without memory for the answer the result isn't
-// whole, and nothing was popped.
+// Helps with the sweep until no job is left, and answers. Without memory for the answer the result
+// isn't whole, and nothing was popped.
 fn help_out<R: Wait, G: Gate>(
     rt: &R,
     shared: &Shared,
@@ -161,7 +161,7 @@ fn join_passes(alloc: Global, jobs: Jobs, helpers: Vec<Helper>) -> Result<Vec<Wo
     Ok(workers)
 }
 
-// The sweep. Where a result isn't whole no helper starts.
+// The sweep. If a result isn't whole, no helper starts.
 fn sweep_all<R: Threads + Wait + Sync, G: Gate + Sync>(
     rt: &R,
     alloc: Global,
@@ -183,9 +183,10 @@ fn sweep_all<R: Threads + Wait + Sync, G: Gate + Sync>(
     join_passes(alloc, jobs, helpers)
 }
 
-/// Makes the sweep of the script, if it has one: the workers' seats go to as many helpers, which work off
-/// one queue. `Memory` comes for want of memory; where it comes for the queue, or in a worker before, no
-/// helper starts. The gate is called before each helper starts. It waits as the helpers do. Our own.
+/// Makes the sweep of the script, if it has one: the workers' seats go to as many helpers, which
+/// work off one queue. `Memory` comes for want of memory; if it comes for the queue, or in a
+/// worker before, no helper starts. The gate is called before each helper starts. It waits as the
+/// helpers do. Our own.
 pub(crate) fn sweep_if<R: Threads + Wait + Sync, G: Gate + Sync>(
     rt: &R,
     alloc: Global,

@@ -15,7 +15,8 @@ use std::sync::Wait;
 use std::thread;
 use std::thread::Threads;
 
-/// Runs each task, in a thread of its own where one can be made, and waits for all. `Memory` comes for want of memory.
+/// Runs each task, in a thread of its own where one can be made, and waits for all. `Memory`
+/// comes for want of memory.
 ///
 /// Linux: tasks and `kswapd` run side by side; here each worker is both.
 pub(crate) fn run_all<R: Threads + Wait + Sync, G: Gate + Sync>(

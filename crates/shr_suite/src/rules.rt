@@ -132,6 +132,10 @@ fn holds(rule: &str, report: &str) -> bool {
             };
             wanted.parse::<u64>().is_ok_and(|wanted| wanted == found)
         }
+        Some(("walks", wanted)) => {
+            let found = count(report, "walk ");
+            wanted.parse::<u64>().is_ok_and(|wanted| wanted == found)
+        }
         _ => false,
     }
 }
