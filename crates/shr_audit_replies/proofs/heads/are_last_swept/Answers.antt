@@ -17,7 +17,10 @@ pub loop-worker-preserved : goal.loop-worker-preserved
 loop-worker-preserved c = below_more _ _ c.loop-worker.invariant (c.is_last_swept.ensures.0 c.if-not-is_last_swept.false)
 
 pub returns : goal.returns
-returns c = (λ t worker. elim ((slice_get_cases c.args.report.now.workers.items worker).1) [
-  | inl there ↦ c.loop-worker.invariant worker (let lt = there.1 in omega (arith, lt))
-  | inr over ↦ past c.args.script.now c.args.report.now worker over.0
-], λ h. refl)
+returns c = (
+  λ t worker. elim ((slice_get_cases c.args.report.now.workers.items worker).1) [
+    | inl there ↦ c.loop-worker.invariant worker (let lt = there.1 in omega (arith, lt))
+    | inr over ↦ past c.args.script.now c.args.report.now worker over.0
+  ],
+  λ h. refl,
+)
