@@ -20,7 +20,8 @@ pub struct ListDraft {
 
 /// Another list. Our own.
 pub fn take_place(alloc: Global, lists: &mut Vec<ListDraft>, place: Place) -> Result<(), Memory>
-    ensures { IfOk result (λ _. lists_of lists.new.items ≡ with_place place (lists_of lists.old.items)) }
+    ensures { IfOk result (λ _. lists_of lists.new.items
+        ≡ with_place place (lists_of lists.old.items)) }
 {
     lists.push(ListDraft {
         place,
@@ -32,7 +33,8 @@ pub fn take_place(alloc: Global, lists: &mut Vec<ListDraft>, place: Place) -> Re
 
 /// An entry of the last list. Our own.
 pub fn take_entry(lists: &mut Vec<ListDraft>, entry: Entry) -> Result<(), Memory>
-    ensures { IfOk result (λ _. lists_of lists.new.items ≡ with_entry entry (lists_of lists.old.items)) }
+    ensures { IfOk result (λ _. lists_of lists.new.items
+        ≡ with_entry entry (lists_of lists.old.items)) }
 {
     let Some(mut list) = lists.pop() else {
         return Ok(());
@@ -44,7 +46,8 @@ pub fn take_entry(lists: &mut Vec<ListDraft>, entry: Entry) -> Result<(), Memory
 
 /// An object of the last list. Our own.
 pub fn take_item(lists: &mut Vec<ListDraft>, item: Object) -> Result<(), Memory>
-    ensures { IfOk result (λ _. lists_of lists.new.items ≡ with_item item (lists_of lists.old.items)) }
+    ensures { IfOk result (λ _. lists_of lists.new.items
+        ≡ with_item item (lists_of lists.old.items)) }
 {
     let Some(mut list) = lists.pop() else {
         return Ok(());
@@ -63,7 +66,8 @@ pub struct UnitsDraft {
 
 /// Another pool on a node. Our own.
 pub fn take_units(alloc: Global, units: &mut Vec<UnitsDraft>, head: UnitsHead) -> Result<(), Memory>
-    ensures { IfOk result (λ _. pools_of units.new.items ≡ with_units head (pools_of units.old.items)) }
+    ensures { IfOk result (λ _. pools_of units.new.items
+        ≡ with_units head (pools_of units.old.items)) }
 {
     units.push(UnitsDraft {
         head,
@@ -74,7 +78,8 @@ pub fn take_units(alloc: Global, units: &mut Vec<UnitsDraft>, head: UnitsHead) -
 
 /// An entry of the last pool's journal. Our own.
 pub fn take_unit(units: &mut Vec<UnitsDraft>, entry: PlainEntry) -> Result<(), Memory>
-    ensures { IfOk result (λ _. pools_of units.new.items ≡ with_unit entry (pools_of units.old.items)) }
+    ensures { IfOk result (λ _. pools_of units.new.items
+        ≡ with_unit entry (pools_of units.old.items)) }
 {
     let Some(mut last) = units.pop() else {
         return Ok(());

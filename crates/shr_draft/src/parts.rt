@@ -72,7 +72,8 @@ impl PartDraft {
 
 // Makes parts up to that of this worker.
 fn pad(alloc: Global, parts: &mut Vec<PartDraft>, worker: u16) -> Result<(), Memory>
-    ensures { IfOk result (λ _. parts_of parts.new.items ≡ padded worker (parts_of parts.old.items)) }
+    ensures { IfOk result (λ _. parts_of parts.new.items
+        ≡ padded worker (parts_of parts.old.items)) }
 {
     let more = (worker as usize + 1).saturating_sub(parts.len());
     for _ in 0..more {
@@ -88,7 +89,8 @@ pub fn take_reply(
     worker: u16,
     reply: Reply,
 ) -> Result<(), Memory>
-    ensures { IfOk result (λ _. parts_of parts.new.items ≡ with_reply worker reply (parts_of parts.old.items)) }
+    ensures { IfOk result (λ _. parts_of parts.new.items
+        ≡ with_reply worker reply (parts_of parts.old.items)) }
 {
     pad(alloc, parts, worker)?;
     let Some(mut part) = parts.pop() else {
@@ -101,7 +103,8 @@ pub fn take_reply(
 
 // What `find` gave at the last of these answers.
 fn find_last(answers: &mut Vec<Answered>, found: Found) -> Result<(), Memory>
-    ensures { IfOk result (λ _. answers.new.items ≡ with_last (found_answer found) answers.old.items) }
+    ensures { IfOk result (λ _. answers.new.items
+        ≡ with_last (found_answer found) answers.old.items) }
 {
     let Some(mut answered) = answers.pop() else {
         return Ok(());
@@ -113,7 +116,8 @@ fn find_last(answers: &mut Vec<Answered>, found: Found) -> Result<(), Memory>
 
 /// What `find` gave at the last answer. Our own.
 pub fn take_found(parts: &mut Vec<PartDraft>, found: Found) -> Result<(), Memory>
-    ensures { IfOk result (λ _. parts_of parts.new.items ≡ with_found found (parts_of parts.old.items)) }
+    ensures { IfOk result (λ _. parts_of parts.new.items
+        ≡ with_found found (parts_of parts.old.items)) }
 {
     let Some(mut part) = parts.pop() else {
         return Ok(());
@@ -125,7 +129,8 @@ pub fn take_found(parts: &mut Vec<PartDraft>, found: Found) -> Result<(), Memory
 
 /// A walk of the last answer. Our own.
 pub fn take_walk(alloc: Global, parts: &mut Vec<PartDraft>, head: Head) -> Result<(), Memory>
-    ensures { IfOk result (λ _. parts_of parts.new.items ≡ with_walk head (parts_of parts.old.items)) }
+    ensures { IfOk result (λ _. parts_of parts.new.items
+        ≡ with_walk head (parts_of parts.old.items)) }
 {
     let Some(mut part) = parts.pop() else {
         return Ok(());
@@ -143,7 +148,8 @@ pub fn take_walk(alloc: Global, parts: &mut Vec<PartDraft>, head: Head) -> Resul
 
 // A word of bits that the last of these walks loaded.
 fn see_last(walks: &mut Vec<WalkDraft>, seen: MapSeen) -> Result<(), Memory>
-    ensures { IfOk result (λ _. walks_of walks.new.items ≡ with_last (seen_walk seen) (walks_of walks.old.items)) }
+    ensures { IfOk result (λ _. walks_of walks.new.items
+        ≡ with_last (seen_walk seen) (walks_of walks.old.items)) }
 {
     let Some(mut walk) = walks.pop() else {
         return Ok(());
@@ -155,7 +161,8 @@ fn see_last(walks: &mut Vec<WalkDraft>, seen: MapSeen) -> Result<(), Memory>
 
 /// A word of bits that the last walk loaded. Our own.
 pub fn take_seen(parts: &mut Vec<PartDraft>, seen: MapSeen) -> Result<(), Memory>
-    ensures { IfOk result (λ _. parts_of parts.new.items ≡ with_seen seen (parts_of parts.old.items)) }
+    ensures { IfOk result (λ _. parts_of parts.new.items
+        ≡ with_seen seen (parts_of parts.old.items)) }
 {
     let Some(mut part) = parts.pop() else {
         return Ok(());
@@ -167,7 +174,8 @@ pub fn take_seen(parts: &mut Vec<PartDraft>, seen: MapSeen) -> Result<(), Memory
 
 // An attempt of the last of these walks.
 fn try_last(walks: &mut Vec<WalkDraft>, attempt: Attempt) -> Result<(), Memory>
-    ensures { IfOk result (λ _. walks_of walks.new.items ≡ with_last (tried_walk attempt) (walks_of walks.old.items)) }
+    ensures { IfOk result (λ _. walks_of walks.new.items
+        ≡ with_last (tried_walk attempt) (walks_of walks.old.items)) }
 {
     let Some(mut walk) = walks.pop() else {
         return Ok(());
@@ -179,7 +187,8 @@ fn try_last(walks: &mut Vec<WalkDraft>, attempt: Attempt) -> Result<(), Memory>
 
 /// An attempt of the last walk. Our own.
 pub fn take_attempt(parts: &mut Vec<PartDraft>, attempt: Attempt) -> Result<(), Memory>
-    ensures { IfOk result (λ _. parts_of parts.new.items ≡ with_attempt attempt (parts_of parts.old.items)) }
+    ensures { IfOk result (λ _. parts_of parts.new.items
+        ≡ with_attempt attempt (parts_of parts.old.items)) }
 {
     let Some(mut part) = parts.pop() else {
         return Ok(());
@@ -191,7 +200,8 @@ pub fn take_attempt(parts: &mut Vec<PartDraft>, attempt: Attempt) -> Result<(), 
 
 /// A carry of the last answer. Our own.
 pub fn take_carry(parts: &mut Vec<PartDraft>, carried: PlaceAmount) -> Result<(), Memory>
-    ensures { IfOk result (λ _. parts_of parts.new.items ≡ with_carry carried (parts_of parts.old.items)) }
+    ensures { IfOk result (λ _. parts_of parts.new.items
+        ≡ with_carry carried (parts_of parts.old.items)) }
 {
     let Some(mut part) = parts.pop() else {
         return Ok(());
@@ -208,7 +218,8 @@ pub fn take_carry(parts: &mut Vec<PartDraft>, carried: PlaceAmount) -> Result<()
 
 /// An isolation of the last answer. Our own.
 pub fn take_isolation(parts: &mut Vec<PartDraft>, head: IsolationHead) -> Result<(), Memory>
-    ensures { IfOk result (λ _. parts_of parts.new.items ≡ with_isolation head (parts_of parts.old.items)) }
+    ensures { IfOk result (λ _. parts_of parts.new.items
+        ≡ with_isolation head (parts_of parts.old.items)) }
 {
     let Some(mut part) = parts.pop() else {
         return Ok(());
@@ -228,7 +239,8 @@ pub fn take_isolation(parts: &mut Vec<PartDraft>, head: IsolationHead) -> Result
 
 /// A walk of the pools of the last answer. Our own.
 pub fn take_plain(alloc: Global, parts: &mut Vec<PartDraft>, head: PlainHead) -> Result<(), Memory>
-    ensures { IfOk result (λ _. parts_of parts.new.items ≡ with_plain head (parts_of parts.old.items)) }
+    ensures { IfOk result (λ _. parts_of parts.new.items
+        ≡ with_plain head (parts_of parts.old.items)) }
 {
     let Some(mut part) = parts.pop() else {
         return Ok(());
@@ -245,7 +257,8 @@ pub fn take_plain(alloc: Global, parts: &mut Vec<PartDraft>, head: PlainHead) ->
 
 // What the last of these walks of the pools came to at another pool.
 fn pass_last(walks: &mut Vec<PlainDraft>, came: PlainTry) -> Result<(), Memory>
-    ensures { IfOk result (λ _. plains_of walks.new.items ≡ with_last (passed_walk came) (plains_of walks.old.items)) }
+    ensures { IfOk result (λ _. plains_of walks.new.items
+        ≡ with_last (passed_walk came) (plains_of walks.old.items)) }
 {
     let Some(mut walk) = walks.pop() else {
         return Ok(());
@@ -257,7 +270,8 @@ fn pass_last(walks: &mut Vec<PlainDraft>, came: PlainTry) -> Result<(), Memory>
 
 /// What the last walk of the pools came to at another pool. Our own.
 pub fn take_pass(parts: &mut Vec<PartDraft>, came: PlainTry) -> Result<(), Memory>
-    ensures { IfOk result (λ _. parts_of parts.new.items ≡ with_pass came (parts_of parts.old.items)) }
+    ensures { IfOk result (λ _. parts_of parts.new.items
+        ≡ with_pass came (parts_of parts.old.items)) }
 {
     let Some(mut part) = parts.pop() else {
         return Ok(());

@@ -10,7 +10,8 @@ use shr_base::ends::MapEnd;
 
 // The words behind the first, if that is of this node, group and unit.
 fn strip_unit(maps: &[MapEnd], node: u8, group: usize, unit: usize) -> Option<&[MapEnd]>
-    ensures some { IfSome result (λ rest. wheres maps.now ≡ at_unit node group unit ∷ wheres rest.now) }
+    ensures some { IfSome result (λ rest. wheres maps.now ≡ at_unit node group unit
+        ∷ wheres rest.now) }
     ensures none { IfNone result (IsNotStripped (at_unit node group unit ∷ []) (wheres maps.now)) }
 {
     let [first, rest @ ..] = maps else {
@@ -25,7 +26,8 @@ fn strip_unit(maps: &[MapEnd], node: u8, group: usize, unit: usize) -> Option<&[
 
 // The words behind those of a node and group, in the order of their units.
 fn strip_units(maps: &[MapEnd], node: u8, group: usize, units: usize) -> Option<&[MapEnd]>
-    ensures some { IfSome result (λ rest. wheres maps.now ≡ unit_places node group units ++ wheres rest.now) }
+    ensures some { IfSome result (λ rest. wheres maps.now ≡ unit_places node group units
+        ++ wheres rest.now) }
     ensures none { IfNone result (IsNotStripped (unit_places node group units) (wheres maps.now)) }
 {
     let mut rest = maps;
@@ -40,8 +42,10 @@ fn strip_units(maps: &[MapEnd], node: u8, group: usize, units: usize) -> Option<
 
 // The words behind those of a node, in the order of its groups from 1 on.
 fn strip_groups(maps: &[MapEnd], node: u8, groups: usize, units: usize) -> Option<&[MapEnd]>
-    ensures some { IfSome result (λ rest. wheres maps.now ≡ group_places node groups units ++ wheres rest.now) }
-    ensures none { IfNone result (IsNotStripped (group_places node groups units) (wheres maps.now)) }
+    ensures some { IfSome result (λ rest. wheres maps.now ≡ group_places node groups units
+        ++ wheres rest.now) }
+    ensures none { IfNone result (IsNotStripped (group_places node groups units)
+        (wheres maps.now)) }
 {
     let mut rest = maps;
     for k in 0..groups.saturating_sub(1) {
@@ -55,8 +59,10 @@ fn strip_groups(maps: &[MapEnd], node: u8, groups: usize, units: usize) -> Optio
 
 // The words behind those of all nodes, in their order.
 fn strip_nodes(maps: &[MapEnd], nodes: u8, groups: usize, units: usize) -> Option<&[MapEnd]>
-    ensures some { IfSome result (λ rest. wheres maps.now ≡ bit_places nodes groups (range_with_len 0 units) ++ wheres rest.now) }
-    ensures none { IfNone result (IsNotStripped (bit_places nodes groups (range_with_len 0 units)) (wheres maps.now)) }
+    ensures some { IfSome result (λ rest. wheres maps.now
+        ≡ bit_places nodes groups (range_with_len 0 units) ++ wheres rest.now) }
+    ensures none { IfNone result (IsNotStripped (bit_places nodes groups (range_with_len 0 units))
+        (wheres maps.now)) }
 {
     let mut rest = maps;
     for node in 0..nodes {

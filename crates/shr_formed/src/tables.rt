@@ -213,7 +213,8 @@ fn place_of_units(units: &UnitsEnd) -> Place
 
 /// Whether pools stand by pool and node. Our own.
 pub fn units_stand(pools: &[UnitsEnd]) -> bool
-    ensures { Decides result (Adjacent (λ u v. IsPlaceUpTo (units_place u) (units_place v)) pools.now) }
+    ensures { Decides result (Adjacent (λ u v. IsPlaceUpTo (units_place u)
+        (units_place v)) pools.now) }
 {
     for i in 1..pools.len() {
         if !is_place_up_to(place_of_units(&pools[i - 1]), place_of_units(&pools[i])) {

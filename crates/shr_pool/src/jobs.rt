@@ -106,11 +106,14 @@ impl Jobs {
     /// A pass for a helper, which has popped nothing and knows what was pushed. Once one was handed
     /// out nothing more is pushed.
     pub fn pass(&mut self) -> JobPass
-        requires first { IsOf self.old.queue self.old.first × ((view_of self.old.first).standing.first ≡ true) }
+        requires first { IsOf self.old.queue self.old.first
+            × ((view_of self.old.first).standing.first ≡ true) }
         requires few { (view_of self.old.first).standing.splits < most_helpers }
         ensures queue { self.new.queue ≡ self.old.queue }
-        ensures first { IsOf self.new.queue self.new.first × (view_of self.new.first ≡ with_split_view (view_of self.old.first)) }
-        ensures pass { IsOf self.new.queue result × (view_of result ≡ new_view (view_of self.old.first)) }
+        ensures first { IsOf self.new.queue self.new.first
+            × (view_of self.new.first ≡ with_split_view (view_of self.old.first)) }
+        ensures pass { IsOf self.new.queue result
+            × (view_of result ≡ new_view (view_of self.old.first)) }
     {
         JobPass {
             pass: self.queue.ring.another::<Seating>(&mut self.first.pass),
@@ -120,11 +123,14 @@ impl Jobs {
     /// Joins a helper's pass into the first one, which then has what that one popped. Once all are
     /// joined, no job was popped twice, and where a mark was popped each job was popped once.
     pub fn join(&mut self, pass: JobPass)
-        requires first { IsOf self.old.queue self.old.first × ((view_of self.old.first).standing.first ≡ true) }
+        requires first { IsOf self.old.queue self.old.first
+            × ((view_of self.old.first).standing.first ≡ true) }
         requires pass { IsOf self.old.queue pass × IsHelper (view_of pass) }
         ensures queue { self.new.queue ≡ self.old.queue }
-        ensures first { IsOf self.new.queue self.new.first × (view_of self.new.first ≡ joined_view (view_of self.old.first) (view_of pass)) }
-        ensures popped { IsWhole (view_of self.new.first).standing → ArePopped (view_of self.new.first) }
+        ensures first { IsOf self.new.queue self.new.first
+            × (view_of self.new.first ≡ joined_view (view_of self.old.first) (view_of pass)) }
+        ensures popped { IsWhole (view_of self.new.first).standing
+            → ArePopped (view_of self.new.first) }
         ensures worked { (nodes groups : ℕ) → IsWhole (view_of self.new.first).standing
             → (view_of self.new.first).pushed ≡ line_of nodes groups → AreWorked nodes groups
             (view_of self.new.first) }

@@ -35,11 +35,13 @@ fn two_helpers_walk_each_job_once(rt: HostRuntime) -> Result<(), Fail> {
     let ((one, a), (two, b)) = thread::join(
         &rt,
         move ||
-            requires { IsOf shared.now one × IsHelper (view_of one) × (ends (view_of one).popped ≡ 0) × (most_helpers ≤ ends (view_of one).pushed) }
+            requires { IsOf shared.now one × IsHelper (view_of one)
+                × (ends (view_of one).popped ≡ 0) × (most_helpers ≤ ends (view_of one).pushed) }
             ensures { IsOf shared.entry.now result.0 × IsHelper (view_of result.0) }
         { work(&rt, shared, one) },
         move ||
-            requires { IsOf shared.now two × IsHelper (view_of two) × (ends (view_of two).popped ≡ 0) × (most_helpers ≤ ends (view_of two).pushed) }
+            requires { IsOf shared.now two × IsHelper (view_of two)
+                × (ends (view_of two).popped ≡ 0) × (most_helpers ≤ ends (view_of two).pushed) }
             ensures { IsOf shared.entry.now result.0 × IsHelper (view_of result.0) }
         { work(&rt, shared, two) },
     );

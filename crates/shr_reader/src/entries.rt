@@ -59,8 +59,10 @@ fn read_named(rest: Option<&[u8]>) -> Option<Named>
     ensures by { IfSome result (λ n. n.by ≡ read_serial (words_left rest.entry)) }
     ensures birth { IfSome result (λ n. n.birth ≡ n2 (words_left rest.entry)) }
     ensures key { IfSome result (λ n. n.key.now ≡ w3 (words_left rest.entry)) }
-    ensures behind { IfSome result (λ n. words_left n.rest ≡ later (later (later (later (words_left rest.entry))))) }
-    ensures none { IfNone result (IsSerialNumbered (read_serial (words_left rest.entry)) × IsShort (n2 (words_left rest.entry)) → ⊥) }
+    ensures behind { IfSome result (λ n. words_left n.rest
+        ≡ later (later (later (later (words_left rest.entry))))) }
+    ensures none { IfNone result (IsSerialNumbered (read_serial (words_left rest.entry))
+        × IsShort (n2 (words_left rest.entry)) → ⊥) }
 {
     let by = serial(rest)?;
     let (_, rest) = word(rest);
@@ -78,7 +80,8 @@ fn read_named(rest: Option<&[u8]>) -> Option<Named>
 /// An object, from the words behind the first of its line. None: its numbers don't have the ranges of
 /// their types. Want of memory alone is an error. Our own.
 pub fn item(alloc: Global, rest: Option<&[u8]>) -> Result<Option<Object>, Memory>
-    ensures { IfOk result (λ found. IsReadAs found (read_item [] (words_left rest.entry)) (IsObjectNumbered (read_item [] (words_left rest.entry)))) }
+    ensures { IfOk result (λ found. IsReadAs found (read_item [] (words_left rest.entry))
+        (IsObjectNumbered (read_item [] (words_left rest.entry)))) }
 {
     let Some(named) = read_named(rest) else {
         return Ok(None);
@@ -99,7 +102,9 @@ pub fn item(alloc: Global, rest: Option<&[u8]>) -> Result<Option<Object>, Memory
 // An entry that puts an object on a list.
 #[tactic(auto, unfolding(shr_report::specs::ReadLines::read_entry))]
 fn add(alloc: Global, rest: Option<&[u8]>) -> Result<Option<Entry>, Memory>
-    ensures { IfOk result (λ found. IsReadAs found (read_entry (codes "add") (words_left rest.entry)) (IsEntryNumbered (read_entry (codes "add") (words_left rest.entry)))) }
+    ensures { IfOk result (λ found. IsReadAs found (read_entry (codes "add")
+        (words_left rest.entry)) (IsEntryNumbered (read_entry (codes "add")
+        (words_left rest.entry)))) }
 {
     let Some(named) = read_named(rest) else {
         return Ok(None);
@@ -118,7 +123,9 @@ fn add(alloc: Global, rest: Option<&[u8]>) -> Result<Option<Entry>, Memory>
 // An entry that looks an object up.
 #[tactic(auto, unfolding(shr_report::specs::ReadLines::read_entry))]
 fn look(alloc: Global, rest: Option<&[u8]>) -> Result<Option<Entry>, Memory>
-    ensures { IfOk result (λ found. IsReadAs found (read_entry (codes "look") (words_left rest.entry)) (IsEntryNumbered (read_entry (codes "look") (words_left rest.entry)))) }
+    ensures { IfOk result (λ found. IsReadAs found (read_entry (codes "look")
+        (words_left rest.entry)) (IsEntryNumbered (read_entry (codes "look")
+        (words_left rest.entry)))) }
 {
     let Some(named) = read_named(rest) else {
         return Ok(None);
@@ -135,7 +142,9 @@ fn look(alloc: Global, rest: Option<&[u8]>) -> Result<Option<Entry>, Memory>
 // An entry that drops an object.
 #[tactic(auto, unfolding(shr_report::specs::ReadLines::read_entry))]
 fn drop(alloc: Global, rest: Option<&[u8]>) -> Result<Option<Entry>, Memory>
-    ensures { IfOk result (λ found. IsReadAs found (read_entry (codes "drop") (words_left rest.entry)) (IsEntryNumbered (read_entry (codes "drop") (words_left rest.entry)))) }
+    ensures { IfOk result (λ found. IsReadAs found (read_entry (codes "drop")
+        (words_left rest.entry)) (IsEntryNumbered (read_entry (codes "drop")
+        (words_left rest.entry)))) }
 {
     let Some(named) = read_named(rest) else {
         return Ok(None);
@@ -153,7 +162,8 @@ fn drop(alloc: Global, rest: Option<&[u8]>) -> Result<Option<Entry>, Memory>
 #[tactic(auto, unfolding(shr_report::specs::ReadLines::read_entry))]
 fn pin(alloc: Global, pinned: bool, rest: Option<&[u8]>) -> Result<Option<Entry>, Memory>
     ensures { let first = if pinned then codes "pin" else codes "unpin" in
-        IfOk result (λ found. IsReadAs found (read_entry first (words_left rest.entry)) (IsEntryNumbered (read_entry first (words_left rest.entry)))) }
+        IfOk result (λ found. IsReadAs found (read_entry first (words_left rest.entry))
+        (IsEntryNumbered (read_entry first (words_left rest.entry)))) }
 {
     let Some(named) = read_named(rest) else {
         return Ok(None);
@@ -171,7 +181,8 @@ fn pin(alloc: Global, pinned: bool, rest: Option<&[u8]>) -> Result<Option<Entry>
 // An entry of a scan.
 #[tactic(auto, unfolding(shr_report::specs::ReadLines::read_entry))]
 fn scan(rest: Option<&[u8]>) -> Option<Entry>
-    ensures { IsReadAs result (read_entry (codes "scan") (words_left rest.entry)) (IsEntryNumbered (read_entry (codes "scan") (words_left rest.entry))) }
+    ensures { IsReadAs result (read_entry (codes "scan") (words_left rest.entry)) (IsEntryNumbered
+        (read_entry (codes "scan") (words_left rest.entry))) }
 {
     let (worker, rest) = word(rest);
     let (walk, rest) = word(rest);
@@ -194,7 +205,8 @@ fn scan(rest: Option<&[u8]>) -> Option<Entry>
 // An entry that moves a child's list in.
 #[tactic(auto, unfolding(shr_report::specs::ReadLines::read_entry))]
 fn moved(rest: Option<&[u8]>) -> Option<Entry>
-    ensures { IsReadAs result (read_entry (codes "moved") (words_left rest.entry)) (IsEntryNumbered (read_entry (codes "moved") (words_left rest.entry))) }
+    ensures { IsReadAs result (read_entry (codes "moved") (words_left rest.entry))
+        (IsEntryNumbered (read_entry (codes "moved") (words_left rest.entry))) }
 {
     let (child, rest) = word(rest);
     let (objects, _) = word(rest);
@@ -207,7 +219,8 @@ fn moved(rest: Option<&[u8]>) -> Option<Entry>
 // An entry of an unregistering.
 #[tactic(auto, unfolding(shr_report::specs::ReadLines::read_entry))]
 fn drained(rest: Option<&[u8]>) -> Option<Entry>
-    ensures { IsReadAs result (read_entry (codes "drained") (words_left rest.entry)) (IsEntryNumbered (read_entry (codes "drained") (words_left rest.entry))) }
+    ensures { IsReadAs result (read_entry (codes "drained") (words_left rest.entry))
+        (IsEntryNumbered (read_entry (codes "drained") (words_left rest.entry))) }
 {
     let by = serial(rest)?;
     let (_, rest) = word(rest);
@@ -223,7 +236,8 @@ fn drained(rest: Option<&[u8]>) -> Option<Entry>
 /// numbers don't have the ranges of their types. Want of memory alone is an error. Our own.
 #[tactic(auto, unfolding(shr_report::specs::ReadLines::read_entry))]
 pub fn entry(alloc: Global, first: &[u8], rest: Option<&[u8]>) -> Result<Option<Entry>, Memory>
-    ensures { IfOk result (λ found. IsReadAs found (read_entry first.now (words_left rest.entry)) (IsEntryNumbered (read_entry first.now (words_left rest.entry)))) }
+    ensures { IfOk result (λ found. IsReadAs found (read_entry first.now (words_left rest.entry))
+        (IsEntryNumbered (read_entry first.now (words_left rest.entry)))) }
 {
     if first == b"add".as_slice() {
         return add(alloc, rest);

@@ -77,7 +77,8 @@ pub fn pool_pass(rest: Option<&[u8]>) -> Option<PlainTry>
 #[tactic(auto, unfolding(shr_report::specs::ReadLines::read_plain_answer))]
 fn plain_answer(rest: Option<&[u8]>) -> Option<PlainAnswer>
     ensures some { IfSome result (λ a. a ≡ read_plain_answer (words_left rest.entry)) }
-    ensures none { IfNone result (IsPlainAnswerNumbered (read_plain_answer (words_left rest.entry)) → ⊥) }
+    ensures none { IfNone result (IsPlainAnswerNumbered (read_plain_answer (words_left rest.entry))
+        → ⊥) }
 {
     let (what, rest) = word(rest);
     let (freed, _) = word(rest);
@@ -92,7 +93,8 @@ fn plain_answer(rest: Option<&[u8]>) -> Option<PlainAnswer>
 /// Our own.
 pub fn plain_head(rest: Option<&[u8]>) -> Option<PlainHead>
     ensures some { IfSome result (λ w. w ≡ plain_head_of (read_plain [] (words_left rest.entry))) }
-    ensures none { IfNone result (IsPlainHeadNumbered (plain_head_of (read_plain [] (words_left rest.entry))) → ⊥) }
+    ensures none { IfNone result (IsPlainHeadNumbered (plain_head_of (read_plain []
+        (words_left rest.entry))) → ⊥) }
 {
     let (_, rest) = word(rest);
     let (node, rest) = word(rest);
@@ -107,8 +109,10 @@ pub fn plain_head(rest: Option<&[u8]>) -> Option<PlainHead>
 /// An isolation without its command, from the words behind the first of its line. None as for a pass.
 /// Our own.
 pub fn isolation_head(rest: Option<&[u8]>) -> Option<IsolationHead>
-    ensures some { IfSome result (λ i. i ≡ isolation_head_of (read_isolation [] (words_left rest.entry))) }
-    ensures none { IfNone result (IsIsolationHeadNumbered (isolation_head_of (read_isolation [] (words_left rest.entry))) → ⊥) }
+    ensures some { IfSome result (λ i. i
+        ≡ isolation_head_of (read_isolation [] (words_left rest.entry))) }
+    ensures none { IfNone result (IsIsolationHeadNumbered (isolation_head_of (read_isolation []
+        (words_left rest.entry))) → ⊥) }
 {
     let place = place(rest)?;
     let (_, rest) = word(rest);
@@ -131,7 +135,8 @@ pub fn isolation_head(rest: Option<&[u8]>) -> Option<IsolationHead>
 #[tactic(auto, unfolding(shr_report::specs::ReadLines::read_plain_entry))]
 pub fn plain_entry(first: &[u8], rest: Option<&[u8]>) -> Option<PlainEntry>
     ensures some { IfSome result (λ e. e ≡ read_plain_entry first.now (words_left rest.entry)) }
-    ensures none { IfNone result (IsPlainEntryNumbered (read_plain_entry first.now (words_left rest.entry)) → ⊥) }
+    ensures none { IfNone result (IsPlainEntryNumbered (read_plain_entry first.now
+        (words_left rest.entry)) → ⊥) }
 {
     let (second, behind) = word(rest);
     let (third, behind) = word(behind);
@@ -161,7 +166,8 @@ pub fn plain_entry(first: &[u8], rest: Option<&[u8]>) -> Option<PlainEntry>
 /// pass. Our own.
 pub fn units_head(rest: Option<&[u8]>) -> Option<UnitsHead>
     ensures some { IfSome result (λ u. u ≡ units_head_of (read_units [] (words_left rest.entry))) }
-    ensures none { IfNone result (AreUnitsHeadNumbered (units_head_of (read_units [] (words_left rest.entry))) → ⊥) }
+    ensures none { IfNone result (AreUnitsHeadNumbered (units_head_of (read_units []
+        (words_left rest.entry))) → ⊥) }
 {
     let (pool, rest) = word(rest);
     let (node, rest) = word(rest);
@@ -177,7 +183,8 @@ pub fn units_head(rest: Option<&[u8]>) -> Option<UnitsHead>
 /// own.
 pub fn pool_amount(rest: Option<&[u8]>) -> Option<PlaceAmount>
     ensures some { IfSome result (λ a. a ≡ read_pool_amount [] (words_left rest.entry)) }
-    ensures none { IfNone result (IsAmountNumbered (read_pool_amount [] (words_left rest.entry)) → ⊥) }
+    ensures none { IfNone result (IsAmountNumbered (read_pool_amount [] (words_left rest.entry))
+        → ⊥) }
 {
     let (pool, rest) = word(rest);
     let (node, rest) = word(rest);

@@ -19,7 +19,8 @@ use std::alloc::Global;
 /// An answer, from its words. None: its numbers don't have the ranges of their types. Want of memory
 /// alone is an error. Our own.
 pub fn reply(alloc: Global, rest: Option<&[u8]>) -> Result<Option<Reply>, Memory>
-    ensures { IfOk result (λ found. IsReadAs found (read_reply (words_left rest.entry)) (IsReplyNumbered (read_reply (words_left rest.entry)))) }
+    ensures { IfOk result (λ found. IsReadAs found (read_reply (words_left rest.entry))
+        (IsReplyNumbered (read_reply (words_left rest.entry)))) }
 {
     let (what, _) = word(rest);
     if what == b"hit".as_slice() {
@@ -32,7 +33,8 @@ pub fn reply(alloc: Global, rest: Option<&[u8]>) -> Result<Option<Reply>, Memory
 #[tactic(auto, unfolding(shr_report::specs::ReadLines::read_reply))]
 fn hit(alloc: Global, rest: Option<&[u8]>) -> Result<Option<Reply>, Memory>
     requires { bytes_eq (w0 (words_left rest)) (codes "hit") ≡ true }
-    ensures { IfOk result (λ found. IsReadAs found (read_reply (words_left rest.entry)) (IsReplyNumbered (read_reply (words_left rest.entry)))) }
+    ensures { IfOk result (λ found. IsReadAs found (read_reply (words_left rest.entry))
+        (IsReplyNumbered (read_reply (words_left rest.entry)))) }
 {
     let (_, rest) = word(rest);
     let Some(at) = at(rest) else {
@@ -53,7 +55,8 @@ fn hit(alloc: Global, rest: Option<&[u8]>) -> Result<Option<Reply>, Memory>
 #[tactic(auto, unfolding(shr_report::specs::ReadLines::read_reply))]
 fn citing(rest: Option<&[u8]>) -> Option<Reply>
     requires { IsNoneOf (w0 (words_left rest)) (codes "hit" ∷ []) }
-    ensures { IsReadAs result (read_reply (words_left rest.entry)) (IsReplyNumbered (read_reply (words_left rest.entry))) }
+    ensures { IsReadAs result (read_reply (words_left rest.entry)) (IsReplyNumbered (read_reply
+        (words_left rest.entry))) }
 {
     let (what, behind) = word(rest);
     if what == b"added".as_slice() {
@@ -78,7 +81,8 @@ fn citing(rest: Option<&[u8]>) -> Option<Reply>
 #[tactic(auto, unfolding(shr_report::specs::ReadLines::read_reply))]
 fn walking(rest: Option<&[u8]>) -> Option<Reply>
     requires { IsNoneOf (w0 (words_left rest)) citing }
-    ensures { IsReadAs result (read_reply (words_left rest.entry)) (IsReplyNumbered (read_reply (words_left rest.entry))) }
+    ensures { IsReadAs result (read_reply (words_left rest.entry)) (IsReplyNumbered (read_reply
+        (words_left rest.entry))) }
 {
     let (what, behind) = word(rest);
     let (first, later) = word(behind);
@@ -132,7 +136,8 @@ fn walking(rest: Option<&[u8]>) -> Option<Reply>
 #[tactic(auto, unfolding(shr_report::specs::ReadLines::read_reply))]
 fn registering(rest: Option<&[u8]>) -> Option<Reply>
     requires { IsNoneOf (w0 (words_left rest)) walking }
-    ensures { IsReadAs result (read_reply (words_left rest.entry)) (IsReplyNumbered (read_reply (words_left rest.entry))) }
+    ensures { IsReadAs result (read_reply (words_left rest.entry)) (IsReplyNumbered (read_reply
+        (words_left rest.entry))) }
 {
     let (what, behind) = word(rest);
     if what == b"registered".as_slice() {
@@ -175,7 +180,8 @@ fn registering(rest: Option<&[u8]>) -> Option<Reply>
 
 // The end of an unregistering, behind its word.
 fn freed(rest: Option<&[u8]>) -> Option<Reply>
-    ensures { let ws = words_left rest.entry in let said = Freed (n0 ws) (n1 ws) (n2 ws) (n3 ws) (n4 ws) in IsReadAs result said (IsReplyNumbered said) }
+    ensures { let ws = words_left rest.entry in let said = Freed (n0 ws) (n1 ws) (n2 ws) (n3 ws)
+        (n4 ws) in IsReadAs result said (IsReplyNumbered said) }
 {
     let (id, rest) = word(rest);
     let (entry, rest) = word(rest);
@@ -193,7 +199,8 @@ fn freed(rest: Option<&[u8]>) -> Option<Reply>
 
 // What `done` says, by the number of words behind it: an offlining has three, a pin four.
 fn done(rest: Option<&[u8]>) -> Option<Reply>
-    ensures { let ws = words_left rest.entry in let said = if is_none (later (later (later ws))) then OfflineDone (n0 ws) (n1 ws) (n2 ws) else Done (read_at ws)
+    ensures { let ws = words_left rest.entry in let said = if is_none (later (later
+        (later ws))) then OfflineDone (n0 ws) (n1 ws) (n2 ws) else Done (read_at ws)
         in IsReadAs result said (IsReplyNumbered said) }
 {
     let (entry, behind) = word(rest);
@@ -213,7 +220,8 @@ fn done(rest: Option<&[u8]>) -> Option<Reply>
 #[tactic(auto, unfolding(shr_report::specs::ReadLines::read_reply))]
 fn making(rest: Option<&[u8]>) -> Option<Reply>
     requires { IsNoneOf (w0 (words_left rest)) registering }
-    ensures { IsReadAs result (read_reply (words_left rest.entry)) (IsReplyNumbered (read_reply (words_left rest.entry))) }
+    ensures { IsReadAs result (read_reply (words_left rest.entry)) (IsReplyNumbered (read_reply
+        (words_left rest.entry))) }
 {
     let (what, behind) = word(rest);
     let (first, behind) = word(behind);
@@ -247,7 +255,8 @@ fn making(rest: Option<&[u8]>) -> Option<Reply>
 #[tactic(auto, unfolding(shr_report::specs::ReadLines::read_reply))]
 fn pooled(rest: Option<&[u8]>) -> Option<Reply>
     requires { IsNoneOf (w0 (words_left rest)) making }
-    ensures { IsReadAs result (read_reply (words_left rest.entry)) (IsReplyNumbered (read_reply (words_left rest.entry))) }
+    ensures { IsReadAs result (read_reply (words_left rest.entry)) (IsReplyNumbered (read_reply
+        (words_left rest.entry))) }
 {
     let (what, behind) = word(rest);
     let (first, later) = word(behind);
@@ -294,7 +303,8 @@ fn pooled(rest: Option<&[u8]>) -> Option<Reply>
 
 // The half of an unregistering, behind its word.
 fn half(rest: Option<&[u8]>) -> Option<Reply>
-    ensures { let ws = words_left rest.entry in let said = Half (n0 ws) (n1 ws) (n2 ws) (n3 ws) (n4 ws) (read_why (later (later (later (later (later ws))))))
+    ensures { let ws = words_left rest.entry in let said = Half (n0 ws) (n1 ws) (n2 ws) (n3 ws)
+        (n4 ws) (read_why (later (later (later (later (later ws))))))
         in IsReadAs result said (IsReplyNumbered said) }
 {
     let (id, rest) = word(rest);

@@ -66,7 +66,8 @@ pub enum Said {
 
 // The version that a report's first line says.
 fn version_said(rest: Option<&[u8]>) -> Option<Said>
-    ensures { IsReadAs result (plain_said PlainKind.Version 0 (words_left rest.entry)) (IsSaidNumbered (plain_said PlainKind.Version 0 (words_left rest.entry))) }
+    ensures { IsReadAs result (plain_said PlainKind.Version 0 (words_left rest.entry))
+        (IsSaidNumbered (plain_said PlainKind.Version 0 (words_left rest.entry))) }
 {
     let (version, _) = word(rest);
     Some(Said::Version {
@@ -76,7 +77,8 @@ fn version_said(rest: Option<&[u8]>) -> Option<Said>
 
 // The numbers of nodes and ids.
 fn sizes_said(rest: Option<&[u8]>) -> Option<Said>
-    ensures { IsReadAs result (plain_said PlainKind.Sizes 0 (words_left rest.entry)) (IsSaidNumbered (plain_said PlainKind.Sizes 0 (words_left rest.entry))) }
+    ensures { IsReadAs result (plain_said PlainKind.Sizes 0 (words_left rest.entry))
+        (IsSaidNumbered (plain_said PlainKind.Sizes 0 (words_left rest.entry))) }
 {
     let (nodes, rest) = word(rest);
     let (ids, _) = word(rest);
@@ -88,7 +90,8 @@ fn sizes_said(rest: Option<&[u8]>) -> Option<Said>
 
 // The totals.
 fn totals_said(rest: Option<&[u8]>) -> Option<Said>
-    ensures { IsReadAs result (plain_said PlainKind.Totals 0 (words_left rest.entry)) (IsSaidNumbered (plain_said PlainKind.Totals 0 (words_left rest.entry))) }
+    ensures { IsReadAs result (plain_said PlainKind.Totals 0 (words_left rest.entry))
+        (IsSaidNumbered (plain_said PlainKind.Totals 0 (words_left rest.entry))) }
 {
     let (added, rest) = word(rest);
     let (freed, rest) = word(rest);
@@ -102,7 +105,8 @@ fn totals_said(rest: Option<&[u8]>) -> Option<Said>
 
 // What a line of a kind says that takes no memory.
 fn plain_said(kind: PlainKind, version: u8, rest: Option<&[u8]>) -> Option<Said>
-    ensures { IsReadAs result (plain_said kind version (words_left rest.entry)) (IsSaidNumbered (plain_said kind version (words_left rest.entry))) }
+    ensures { IsReadAs result (plain_said kind version (words_left rest.entry)) (IsSaidNumbered
+        (plain_said kind version (words_left rest.entry))) }
 {
     Some(match kind {
         PlainKind::Version => return version_said(rest),
@@ -160,7 +164,8 @@ fn plain_said(kind: PlainKind, version: u8, rest: Option<&[u8]>) -> Option<Said>
 
 // An answer of a worker.
 fn reply_said(alloc: Global, rest: Option<&[u8]>) -> Result<Option<Said>, Memory>
-    ensures { let said = said_of Kind.Reply 0 [] (words_left rest.entry) in IfOk result (λ found. IsReadAs found said (IsSaidNumbered said)) }
+    ensures { let said = said_of Kind.Reply 0 [] (words_left rest.entry) in IfOk result
+        (λ found. IsReadAs found said (IsSaidNumbered said)) }
 {
     let (worker, rest) = word(rest);
     let (_, rest) = word(rest);
@@ -175,7 +180,8 @@ fn reply_said(alloc: Global, rest: Option<&[u8]>) -> Result<Option<Said>, Memory
 
 // A pool of units, or a registration.
 fn pool_said(alloc: Global, rest: Option<&[u8]>) -> Result<Option<Said>, Memory>
-    ensures { let said = pool_said (words_left rest.entry) in IfOk result (λ found. IsReadAs found said (IsSaidNumbered said)) }
+    ensures { let said = pool_said (words_left rest.entry) in IfOk result
+        (λ found. IsReadAs found said (IsSaidNumbered said)) }
 {
     let (_, behind) = word(rest);
     let (name, behind) = word(behind);
@@ -192,7 +198,8 @@ fn pool_said(alloc: Global, rest: Option<&[u8]>) -> Result<Option<Said>, Memory>
 
 // An entry of a list.
 fn list_said(alloc: Global, first: &[u8], rest: Option<&[u8]>) -> Result<Option<Said>, Memory>
-    ensures { let said = said_of Kind.Entry 0 first.now (words_left rest.entry) in IfOk result (λ found. IsReadAs found said (IsSaidNumbered said)) }
+    ensures { let said = said_of Kind.Entry 0 first.now (words_left rest.entry) in IfOk result
+        (λ found. IsReadAs found said (IsSaidNumbered said)) }
 {
     match entry(alloc, first, rest)? {
         Some(entry) => Ok(Some(Said::Entry { entry })),
@@ -202,7 +209,8 @@ fn list_said(alloc: Global, first: &[u8], rest: Option<&[u8]>) -> Result<Option<
 
 // An object.
 fn item_said(alloc: Global, rest: Option<&[u8]>) -> Result<Option<Said>, Memory>
-    ensures { let said = said_of Kind.Item 0 [] (words_left rest.entry) in IfOk result (λ found. IsReadAs found said (IsSaidNumbered said)) }
+    ensures { let said = said_of Kind.Item 0 [] (words_left rest.entry) in IfOk result
+        (λ found. IsReadAs found said (IsSaidNumbered said)) }
 {
     match item(alloc, rest)? {
         Some(item) => Ok(Some(Said::Item { item })),

@@ -106,7 +106,8 @@ pub fn why(rest: Option<&[u8]>) -> Option<HalfWhy>
 #[tactic(auto, unfolding(shr_report::specs::ReadWords::read_isolate_end))]
 pub fn isolate_end(rest: Option<&[u8]>) -> Option<IsolateEnd>
     ensures some { IfSome result (λ e. e ≡ read_isolate_end (words_left rest.entry)) }
-    ensures none { IfNone result (IsIsolateEndNumbered (read_isolate_end (words_left rest.entry)) → ⊥) }
+    ensures none { IfNone result (IsIsolateEndNumbered (read_isolate_end (words_left rest.entry))
+        → ⊥) }
 {
     let (what, rest) = word(rest);
     if what == b"spent".as_slice() {

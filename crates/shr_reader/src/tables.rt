@@ -89,7 +89,8 @@ pub fn lookups(rest: Option<&[u8]>) -> Option<u32>
 /// What `find` gave, from the words behind the first of its line. None as for an amount. Our own.
 pub fn found(rest: Option<&[u8]>) -> Option<Found>
     ensures some { IfSome result (λ f. f ≡ read_found [] (words_left rest.entry)) }
-    ensures none { IfNone result (IsFindNumbered (Some (read_found [] (words_left rest.entry))) → ⊥) }
+    ensures none { IfNone result (IsFindNumbered (Some (read_found [] (words_left rest.entry)))
+        → ⊥) }
 {
     let (id, rest) = word(rest);
     let (number, rest) = word(rest);

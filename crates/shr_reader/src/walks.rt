@@ -15,7 +15,8 @@ use shr_base::walks::{Attempt, GoneThen, MapSeen, Outcome, WalkAnswer};
 
 // What became of the bit of an id that was gone.
 fn gone(word: &[u8]) -> GoneThen
-    ensures { result ≡ (if bytes_eq word.now (codes "set") then Set else if bytes_eq word.now (codes "clear") then Clear else Root) }
+    ensures { result ≡ (if bytes_eq word.now (codes "set") then Set else if bytes_eq word.now
+        (codes "clear") then Clear else Root) }
 {
     if word == b"set".as_slice() {
         GoneThen::Set
@@ -28,10 +29,14 @@ fn gone(word: &[u8]) -> GoneThen
 
 // What an attempt came to that restored its bit, from the number of the first version on.
 fn restored(number: u32, rest: Option<&[u8]>) -> Option<Outcome>
-    ensures some { let ws = words_left rest.entry in IfSome result (λ o. o ≡ (if bytes_eq (w1 ws) (codes "skip")
-        then RestoredSkip number (n0 ws) (n2 ws) (n3 ws) else RestoredRan number (n0 ws) (read_pass (later (later ws))))) }
-    ensures none { let ws = words_left rest.entry in IfNone result (IsOutcomeNumbered (if bytes_eq (w1 ws) (codes "skip")
-        then RestoredSkip number (n0 ws) (n2 ws) (n3 ws) else RestoredRan number (n0 ws) (read_pass (later (later ws)))) → ⊥) }
+    ensures some { let ws = words_left rest.entry in IfSome result (λ o. o
+        ≡ (if bytes_eq (w1 ws) (codes "skip")
+        then RestoredSkip number (n0 ws) (n2 ws) (n3 ws) else RestoredRan number (n0 ws)
+        (read_pass (later (later ws))))) }
+    ensures none { let ws = words_left rest.entry in IfNone result (IsOutcomeNumbered (if bytes_eq
+        (w1 ws) (codes "skip")
+        then RestoredSkip number (n0 ws) (n2 ws) (n3 ws) else RestoredRan number (n0 ws)
+        (read_pass (later (later ws)))) → ⊥) }
 {
     let (first, rest) = word(rest);
     let (what, rest) = word(rest);
@@ -168,7 +173,8 @@ pub struct Head {
 /// A walk's head, from the words behind the first of its line. None as for an attempt. Our own.
 pub fn walk_head(rest: Option<&[u8]>) -> Option<Head>
     ensures some { IfSome result (λ w. w ≡ head_of (read_walk [] (words_left rest.entry))) }
-    ensures none { IfNone result (IsHeadNumbered (head_of (read_walk [] (words_left rest.entry))) → ⊥) }
+    ensures none { IfNone result (IsHeadNumbered (head_of (read_walk [] (words_left rest.entry)))
+        → ⊥) }
 {
     let (_, rest) = word(rest);
     let (group, rest) = word(rest);

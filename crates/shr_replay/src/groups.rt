@@ -24,8 +24,12 @@ fn replay_end(
     end: Option<&PlaceEnd>,
     lists: &mut Vec<Queue>,
 ) -> Result<(Replayed, Queue), Memory>
-    ensures replayed { IfOk result (λ r. IsReplayed (lists_moved (took_of parents.now group lists.old.items) (entries_in (option_copied end.entry))) (entries_in (option_copied end.entry)) r.0) }
-    ensures given { IfOk result (λ r. r.1.items ≡ given_from (took_of parents.now group lists.old.items) [] (entries_in (option_copied end.entry))) }
+    ensures replayed { IfOk result (λ r. IsReplayed (lists_moved
+        (took_of parents.now group lists.old.items) (entries_in (option_copied end.entry)))
+        (entries_in (option_copied end.entry)) r.0) }
+    ensures given { IfOk result (λ r. r.1.items
+        ≡ given_from (took_of parents.now group lists.old.items) [] (entries_in
+        (option_copied end.entry))) }
     ensures others { OnOk result (KeepsOthers parents.now group lists.old.items lists.new.items) }
 {
     match end {

@@ -62,7 +62,8 @@ impl Course {
     // Closes the list. What it held is put aside the first time.
     fn close(&mut self, alloc: Global)
         ensures items { self.new.queue.items ≡ [] }
-        ensures aside { self.new.aside.items ≡ (if self.old.closed then self.old.aside.items else self.old.queue.items) }
+        ensures aside { self.new.aside.items
+            ≡ (if self.old.closed then self.old.aside.items else self.old.queue.items) }
         ensures closed { self.new.closed ≡ true }
         ensures lens { self.new.lens ≡ self.old.lens }
         ensures freed { self.new.freed ≡ self.old.freed }
@@ -84,9 +85,12 @@ impl Course {
         lists: &mut Vec<Queue>,
         entry: &Entry,
     ) -> Result<(), Memory>
-        ensures went { OnOk result (Advances (took_of parents.now group lists.old.items) self.old self.new entry.now) }
-        ensures taken { OnOk result (took_of parents.now group lists.new.items ≡ took_after (took_of parents.now group lists.old.items) entry.now) }
-        ensures others { OnOk result (KeepsOthers parents.now group lists.old.items lists.new.items) }
+        ensures went { OnOk result (Advances
+            (took_of parents.now group lists.old.items) self.old self.new entry.now) }
+        ensures taken { OnOk result (took_of parents.now group lists.new.items
+            ≡ took_after (took_of parents.now group lists.old.items) entry.now) }
+        ensures others { OnOk result
+            (KeepsOthers parents.now group lists.old.items lists.new.items) }
     {
         let number = self.lens.len();
         self.lens.push(self.queue.len())?;
@@ -138,8 +142,10 @@ pub fn replay_journal(
     entries: &[Entry],
     lists: &mut Vec<Queue>,
 ) -> Result<(Replayed, Queue), Memory>
-    ensures replayed { IfOk result (λ r. IsReplayed (lists_moved (took_of parents.now group lists.old.items) entries.now) entries.now r.0) }
-    ensures given { IfOk result (λ r. r.1.items ≡ given_from (took_of parents.now group lists.old.items) [] entries.now) }
+    ensures replayed { IfOk result (λ r. IsReplayed (lists_moved
+        (took_of parents.now group lists.old.items) entries.now) entries.now r.0) }
+    ensures given { IfOk result (λ r. r.1.items
+        ≡ given_from (took_of parents.now group lists.old.items) [] entries.now) }
     ensures others { OnOk result (KeepsOthers parents.now group lists.old.items lists.new.items) }
 {
     let mut course = Course::new(alloc);

@@ -30,7 +30,8 @@ fn add(
     value: &Text,
     added: bool,
 ) -> Result<Told, Memory>
-    ensures { IfOk result (λ t. Replays [] queue.old.items queue.new.items (Add by birth added key.now value.now) t.freed.items t.right) }
+    ensures { IfOk result (λ t. Replays [] queue.old.items queue.new.items
+        (Add by birth added key.now value.now) t.freed.items t.right) }
 {
     let object = Object {
         serial: by,
@@ -57,7 +58,8 @@ fn look(
     key: &Text,
     hit: bool,
 ) -> Result<Told, Memory>
-    ensures { IfOk result (λ t. Replays [] queue.old.items queue.new.items (Look by birth key.now hit) t.freed.items t.right) }
+    ensures { IfOk result (λ t. Replays [] queue.old.items queue.new.items
+        (Look by birth key.now hit) t.freed.items t.right) }
 {
     let held = queue.holds(birth, key);
     queue.look(birth, key)?;
@@ -76,7 +78,8 @@ fn pin(
     pinned: bool,
     hit: bool,
 ) -> Told
-    ensures { Replays [] queue.old.items queue.new.items (Pin by birth key.now pinned hit) result.freed.items result.right }
+    ensures { Replays [] queue.old.items queue.new.items
+        (Pin by birth key.now pinned hit) result.freed.items result.right }
 {
     let held = queue.holds(birth, key);
     queue.set_pin(birth, key, pinned);
@@ -96,7 +99,8 @@ fn scan(
     freed: u32,
     stopped: bool,
 ) -> Result<Told, Memory>
-    ensures { IfOk result (λ t. Replays [] queue.old.items queue.new.items (Scan worker walk asked policy visits freed stopped) t.freed.items t.right) }
+    ensures { IfOk result (λ t. Replays [] queue.old.items queue.new.items
+        (Scan worker walk asked policy visits freed stopped) t.freed.items t.right) }
 {
     let met = queue.scan(policy, asked)?;
     let right = visits == met.visits && freed as usize == met.freed.len() && stopped == met.stopped;
@@ -107,7 +111,8 @@ fn scan(
 }
 
 fn drained(queue: &mut Queue, by: Serial, objects: u32) -> Result<Told, Memory>
-    ensures { IfOk result (λ t. Replays [] queue.old.items queue.new.items (Drained by objects) t.freed.items t.right) }
+    ensures { IfOk result (λ t. Replays [] queue.old.items queue.new.items
+        (Drained by objects) t.freed.items t.right) }
 {
     let freed = queue.take_all()?;
     let right = objects as usize == freed.len();
@@ -133,7 +138,8 @@ fn drop_key(
     key: &Text,
     kind: DropKind,
 ) -> Result<Told, Memory>
-    ensures { IfOk result (λ t. Replays [] queue.old.items queue.new.items (Drop by birth key.now kind) t.freed.items t.right) }
+    ensures { IfOk result (λ t. Replays [] queue.old.items queue.new.items
+        (Drop by birth key.now kind) t.freed.items t.right) }
 {
     let met = kind_of(queue.get(birth, key));
     let right = kind == met;
@@ -154,7 +160,8 @@ fn moved(
     child: u16,
     objects: u32,
 ) -> Result<Told, Memory>
-    ensures replayed { IfOk result (λ t. Replays given.old.items queue.old.items queue.new.items (MovedIn child objects) t.freed.items t.right) }
+    ensures replayed { IfOk result (λ t. Replays given.old.items queue.old.items queue.new.items
+        (MovedIn child objects) t.freed.items t.right) }
     ensures given { OnOk result (given.new.items ≡ []) }
 {
     let right = objects as usize == given.len();
@@ -185,7 +192,9 @@ pub fn replay_entry(
     given: &mut Queue,
     entry: &Entry,
 ) -> Result<Told, Memory>
-    ensures replayed { IfOk result (λ t. Replays given.old.items queue.old.items queue.new.items entry.now t.freed.items t.right) }
+    ensures replayed { IfOk result
+        (λ t. Replays given.old.items queue.old.items queue.new.items entry.now t.freed.items
+        t.right) }
     ensures given { OnOk result (given.new.items ≡ left_given given.old.items entry.now) }
 {
     match entry {
