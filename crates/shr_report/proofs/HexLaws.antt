@@ -1,5 +1,6 @@
 -- The hexadecimal digits of a word, from the last to the first.
 use Rattle.std.proofs.Common.{◌≡◌, ℕ, List, zero, suc, ◌-◌, ◌/◌, ◌%◌, ◌<◌, ◌≤◌, [], ◌∷◌, ◌++◌, refl, sym, ap, ◌∙◌, arith, append_assoc, sub-one}
+use Rattle.std.specs.Prelude.{codes}
 use Rattle.shr_report.specs.Lines.{hex_digit, hex_digits}
 
 -- one digit behind those of a sixteenth of a number gives the digits of the number
@@ -17,3 +18,15 @@ pub hex_done : (digits n : ℕ) (rest : List ℕ) → digits ≤ 0 → hex_digit
 unfolding hex_digits
 hex_done zero n rest le = refl
 hex_done (suc k) n rest le = absurd (omega arith)
+
+zeros : hex_digits 15 0 ≡ codes "000000000000000"
+unfolding hex_digits
+zeros = refl
+
+-- a word below sixteen has one digit behind its zeros
+pub hex_low : (n d : ℕ) (rest : List ℕ) → n < 16 → d ≡ hex_digit n → codes "000000000000000" ++ d ∷ rest ≡ hex_digits 16 n ++ rest
+hex_low n d rest lt f =
+    let none : n / 16 ≡ 0 = omega (arith, lt) in
+    let same : n % 16 ≡ n = omega (arith, lt) in
+    let front : codes "000000000000000" ≡ hex_digits 15 (n / 16) = sym zeros ∙ ap (λ (m : ℕ). hex_digits 15 m) (sym none) in
+    ap (λ (ds : List ℕ). ds ++ d ∷ rest) front ∙ hex_next 16 n d rest (omega arith) (f ∙ ap (λ (m : ℕ). hex_digit m) (sym same))

@@ -134,13 +134,17 @@ impl Piece {
         self.byte(start, b' ')
     }
 
-    // The hexadecimal digits of a word of a table.
+    // The hexadecimal digits of a word of a table. Most words are 0 or have one low bit.
     #[inline(always)]
     fn hex_digits(&mut self, end: usize, n: u64) -> usize
         requires { (16 ≤ end) × (end ≤ 512) }
         ensures text { drop result self.new ≡ hex n ++ drop end self.old }
         ensures start { result + 16 ≡ end }
     {
+        if n < 16 {
+            let start = self.byte(end, hex_digit_of(n));
+            return self.exactly(start, b"000000000000000");
+        }
         let mut start = end;
         let mut left = n;
         let mut digits = 16u8;

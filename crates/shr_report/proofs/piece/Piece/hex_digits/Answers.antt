@@ -1,7 +1,14 @@
 use Rattle.std.proofs.Common.{sym, ap, ◌∙◌, ◌++◌, ◌-◌, ◌/◌, arith}
+use Rattle.std.specs.Prelude.{codes}
 use Rattle.shr_report.specs.Lines.{hex_digits}
-use Rattle.shr_report.proofs.HexLaws.{hex_next, hex_done}
+use Rattle.shr_report.proofs.HexLaws.{hex_next, hex_done, hex_low}
 use Rattle.shr_report.proofs.piece.Piece.hex_digits.Goals as goal
+
+pub returns-then-n-lt16-clause-text : goal.returns-then-n-lt16-clause-text
+returns-then-n-lt16-clause-text c =
+    c.exactly.ensures.text
+    ∙ ap (λ t. codes "000000000000000" ++ t) c.byte-start.ensures.text
+    ∙ hex_low c.args.n c.hex_digit_of.result _ c.if-n-lt16.true c.hex_digit_of.ensures
 
 pub loop-digits-preserved : goal.loop-digits-preserved
 loop-digits-preserved c =
@@ -10,8 +17,8 @@ loop-digits-preserved c =
     record {
       within = omega arith;
       start = omega arith;
-      text = ap (λ t. hex_digits (digits - 1) (n / 16) ++ t) c.byte-start.ensures.text
-          ∙ hex_next digits n c.hex_digit_of.result _ c.loop-digits-test.true c.hex_digit_of.ensures
+      text = ap (λ t. hex_digits (digits - 1) (n / 16) ++ t) c.byte-start-in-loop-digits.ensures.text
+          ∙ hex_next digits n c.hex_digit_of-in-loop-digits.result _ c.loop-digits-test.true c.hex_digit_of-in-loop-digits.ensures
           ∙ c.loop-digits.invariant.text;
     }
 
