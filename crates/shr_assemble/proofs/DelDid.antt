@@ -124,7 +124,7 @@ module _ (x : Shared) (tables : AreTables x) (by : Serial) (group node decl : �
         let o = h.asked in
         let a = o.calls.made in
         let call : View → View → Type 0 = drops f (drop.Pinned c) in
-        acted_did x tables by command group node decl tenant f call (reply.Pinned c) s t o group c (IsKind kind.Pinned) dropping a within.on_node there (λ told. told)
+        acted_did x tables by command group node decl tenant f call (reply.Pinned c) s t o group c (IsKind kind.Pinned) dropping a within.on_node there refl (λ told. told)
         (λ family stands. cites_is x tables by command group node decl tenant f call (reply.Pinned c) s t o group c (IsKind kind.Pinned) dropping a within.on_node there family (Drop by group key kind.Pinned) stands (ap (Drop by group key) a.before))
         refl (λ e. cc) (λ g. ap (born_below (parents_of x.script) g) (stays (named_in group key a.old.items) kind.Pinned a.before (λ e. cc))) (λ g. refl) refl refl tt
 
@@ -133,7 +133,7 @@ module _ (x : Shared) (tables : AreTables x) (by : Serial) (group node decl : �
         let o = h.asked in
         let a = o.calls.made in
         let call : View → View → Type 0 = drops f (drop.Miss c) in
-        acted_did x tables by command group node decl tenant f call (reply.Miss c) s t o group c (IsKind kind.Miss) dropping a within.on_node there (λ told. told)
+        acted_did x tables by command group node decl tenant f call (reply.Miss c) s t o group c (IsKind kind.Miss) dropping a within.on_node there refl (λ told. told)
         (λ family stands. cites_is x tables by command group node decl tenant f call (reply.Miss c) s t o group c (IsKind kind.Miss) dropping a within.on_node there family (Drop by group key kind.Miss) stands (ap (Drop by group key) a.before))
         refl (λ e. cc) (λ g. ap (born_below (parents_of x.script) g) (stays (named_in group key a.old.items) kind.Miss a.before (λ e. cc))) (λ g. refl) refl refl tt
 
@@ -179,7 +179,7 @@ module _ (x : Shared) (tables : AreTables x) (by : Serial) (group node decl : �
           did = record {
             entries = one_entry x.script z m c refl (is_told z m c (place_same x tables by command group node decl tenant f call r s h.dropped o group c so dropping a within.on_node there) (sym a.number) refl)
                 (λ family stands. cites_is x tables by command group node decl tenant f call r s h.dropped o group c so dropping a within.on_node there family (Drop by group key kind.Dropped) stands (ap (Drop by group key) a.before))
-                refl (cited_is x tables by command group node decl tenant f call r s h.dropped o group c so dropping a within.on_node there z refl (0, refl) (λ added below empty. absurd (cc)));
+                refl (cited_is x tables by command group node decl tenant f call r s h.dropped o group c so dropping a within.on_node there z refl (ap (λ (u : WorkerState). u.core.traces.known) h.uncharges.rest) refl (0, refl) (λ added below empty. absurd (cc)));
             lookups = found_lookups x.script z decl f refl refl refl (found_by x group decl f call s h.dropped o (m ∷ []) set a.gains z pool_same (0, refl));
             walks = calm_walks x.script z tt (record { walks = refl; seen = refl; maps = refl; cleared = refl });
             charges = uncharged_charges x.script z (out.object ∷ []) tree (record {

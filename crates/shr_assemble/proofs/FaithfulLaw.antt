@@ -46,9 +46,12 @@ use Rattle.shr_assemble.proofs.MadeTurns.{made_turn}
 use Rattle.shr_assemble.proofs.Makers.{one_turn_maker}
 use Rattle.shr_assemble.proofs.Making.{work_of, grows, stepped}
 use Rattle.shr_assemble.proofs.Operations.{PairsRec, pairs_rec, op_of, op_by, rise_along, among_has}
+use Rattle.shr_assemble.proofs.ClimbsLaw.{climbs}
 use Rattle.shr_assemble.proofs.CutsLaw.{cuts_told}
 use Rattle.shr_assemble.proofs.EntryOrderLaw.{entries_in_order}
+use Rattle.shr_assemble.proofs.HandedLaw.{handed}
 use Rattle.shr_assemble.proofs.PoolPast.{pool_past}
+use Rattle.shr_assemble.proofs.TriesLaw.{tries}
 use Rattle.shr_assemble.proofs.WalksRefused.{walks_refused}
 use Rattle.shr_assemble.proofs.Pairs.{across, Has_begins}
 use Rattle.shr_charge.proofs.TreeFacts.{done_at}
@@ -202,4 +205,7 @@ module _ (s : Script) (r : Report) (workers : List (List Step)) (run : IsRun s r
     lookups = lookups_in_order s r workers run;
     entries = entries_in_order s r workers run;
     cuts = cuts_told s r workers run;
+    handed = handed s r workers run;
+    climbs = climbs s r workers run;
+    tries = tries s r workers run;
   }

@@ -80,7 +80,7 @@ module _ (x : Shared) (tables : AreTables x) (by : Serial) (group node decl : �
         let call : View → View → Type 0 = looks f (look.Hit c value) in
         let so : List Object → Type 0 = λ items. option_map (λ (y : Object). y.value) (named_in group key items) ≡ Some value in
         let h : holds group key a.old.items ≡ true = found_holds group key value a.old.items a.before in
-        acted_did x tables by command group node decl tenant f call (reply.Hit c value) s t o group c so looked a within.on_node there (λ told. told)
+        acted_did x tables by command group node decl tenant f call (reply.Hit c value) s t o group c so looked a within.on_node there refl (λ told. told)
         (λ family stands. (
           cites_is x tables by command group node decl tenant f call (reply.Hit c value) s t o group c so looked a within.on_node there family (Look by group key true) stands (ap (Look by group key) h),
           ap (λ items. option_map (λ (y : Object). y.value) (named_in group key items)) (items_is x tables by command group node decl tenant f call (reply.Hit c value) s t o group c so looked a within.on_node there family stands) ∙ a.before,
@@ -92,7 +92,7 @@ module _ (x : Shared) (tables : AreTables x) (by : Serial) (group node decl : �
         let a = o.calls.made in
         let call : View → View → Type 0 = looks f (look.Miss c) in
         let so : List Object → Type 0 = λ items. holds group key items ≡ false in
-        acted_did x tables by command group node decl tenant f call (reply.Miss c) s t o group c so looked a within.on_node there (λ told. told)
+        acted_did x tables by command group node decl tenant f call (reply.Miss c) s t o group c so looked a within.on_node there refl (λ told. told)
         (λ family stands. cites_is x tables by command group node decl tenant f call (reply.Miss c) s t o group c so looked a within.on_node there family (Look by group key false) stands (ap (Look by group key) a.before))
         refl (λ e. cc) (λ g. refl) (λ g. refl) refl refl tt
 

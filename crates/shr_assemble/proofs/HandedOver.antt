@@ -1,12 +1,12 @@
 -- What an offline did whose call handed all over, whatever the end of it answered.
 use Rattle.std.proofs.Common.{◌≡◌, ℕ, ◌<◌, ◌≤◌, List, [], ◌∷◌, ◌++◌, length, map, refl, sym, ap, subst, ◌∙◌, arith, true}
-use Rattle.std.specs.Prelude.{None, Contains, All, sum, sum_by, ◌%◌, ◌^◌, Some}
+use Rattle.std.specs.Prelude.{None, slice_get, Contains, All, sum, sum_by, ◌%◌, ◌^◌, Some}
 use Rattle.std.specs.List.{AllByRecursion, range_with_len}
 use Rattle.std.proofs.lemmas.List.Elements.{All-append, All-from_recursion, Contains-append_left}
 use Rattle.std.proofs.lemmas.Option.{none-some}
 use Rattle.shr_base.specs.declared.ends.PlaceAmount.{PlaceAmount}
 use Rattle.shr_base.specs.declared.journals.TreeEntry.{TreeEntry}
-use Rattle.shr_base.specs.declared.journals.TreeEntry.TheVariants.{Begin}
+use Rattle.shr_base.specs.declared.journals.TreeEntry.TheVariants.{Begin, Done}
 use Rattle.shr_base.specs.declared.places.Place.{Place}
 use Rattle.shr_base.specs.declared.places.Serial.{Serial}
 use Rattle.shr_base.specs.declared.replies.Reply.{Reply}
@@ -187,6 +187,7 @@ module _ (x : Shared) (tables : AreTables x) where
             command = ap (λ (p : Place). Some (command.Offline p.group)) (sym is.place);
             answer = answer;
             some = is.some;
+            undone = λ n e. b.undone n (subst (λ (g : ℕ). slice_get s.tree.known n ≡ Some (Done g)) (ap (λ (p : Place). p.group) is.place) e);
           }
 
       carried_all : HasCarried r → (cs : List Carry) → AllByRecursion (IsCarryAt shape by group 0 (places_of shape)) cs → AllByRecursion (DidCarry x.script (handed_step r)) cs

@@ -40,12 +40,17 @@ pub mod PoolCauses
 pub mod PoolPast
 pub mod WalksRefused
 pub mod CutsLaw
+pub mod HandedLaw
+pub mod ClimbsLaw
+pub mod TriesLaw
 pub mod FaithfulLaw
 pub mod OfflinedCause
 pub mod Spending
 pub mod Bringing
 pub mod Quiet
 pub mod QuietSteps
+pub mod FirstLists
+pub mod Outcomes
 pub mod ScriptGroups
 pub mod QuietTenant
 pub mod GetDid

@@ -8,7 +8,7 @@ use Rattle.std.proofs.lemmas.List.Sums.{sum_by-cons}
 use Rattle.std.proofs.lemmas.List.Elements.{All-nil, All-append, All-from_recursion, Contains-push}
 use Rattle.std.proofs.lemmas.Option.{none-some, same_Some}
 use Rattle.shr_base.specs.declared.journals.TreeEntry.{TreeEntry}
-use Rattle.shr_base.specs.declared.journals.TreeEntry.TheVariants.{Begin}
+use Rattle.shr_base.specs.declared.journals.TreeEntry.TheVariants.{Begin, Done}
 use Rattle.shr_base.specs.declared.places.Serial.{Serial}
 use Rattle.shr_base.specs.declared.replies.Answered.{Answered}
 use Rattle.shr_base.specs.declared.replies.Reply.{Reply}
@@ -16,7 +16,7 @@ use Rattle.shr_base.specs.declared.replies.Reply.TheVariants as reply
 use Rattle.shr_base.specs.declared.scripts.Command.{Command}
 use Rattle.shr_base.specs.declared.scripts.Command.TheVariants as command
 use Rattle.shr_model.specs.Families.{Family}
-use Rattle.shr_model.specs.TreeJournal.{begin_of, made_of, is_made, undone_child, IsTreeJournal}
+use Rattle.shr_model.specs.TreeJournal.{begin_of, done_of, made_of, is_made, undone_child, IsTreeJournal}
 use Rattle.shr_seats.specs.Weights.{Begins}
 use Rattle.shr_core.specs.Seats.{shape_of}
 use Rattle.shr_base.specs.declared.journals.Entry.{Entry}
@@ -52,8 +52,8 @@ use Rattle.shr_report.specs.Causes.{MayHaveBegun}
 use Rattle.shr_assemble.specs.Charges.{added_below, freed_below}
 use Rattle.shr_assemble.specs.Entries.{MayMake, IsClosing}
 use Rattle.shr_assemble.proofs.Bringing.{brings_of}
-use Rattle.shr_assemble.proofs.Listed.{slice_contains, contains_among, contains_slice, no_test}
-use Rattle.shr_charge.proofs.TreeFacts.{begin_at, begun_before, done_at, begin_found}
+use Rattle.shr_assemble.proofs.Listed.{begins_slice, slice_contains, contains_among, contains_slice, no_test}
+use Rattle.shr_charge.proofs.TreeFacts.{begin_at, begun_before, done_at, done_found, begin_found}
 use Rattle.shr_assemble.proofs.QuietDrains.{each_rec}
 use Rattle.shr_assemble.proofs.QuietSplices.{IsMovedIn, IsShut, IsSpliceEntry, IsSplicedTo, spliced_one, spliced_all, spliced_then}
 use Rattle.shr_charge.specs.Answers.{gave}
@@ -216,6 +216,10 @@ module _ (x : Shared) (tables : AreTables x) (by : Serial) (group : ℕ) (s t : 
 
 -- ---- a call that began, now or before, and then spliced
 
+-- a group that isn't done in a journal isn't done in what was known of it before
+not_done : (group : ℕ) (known es : List TreeEntry) → done_of es group ≡ None → Begins known es → (n : ℕ) → slice_get known n ≡ Some (Done group) → ⊥
+not_done group known es none begins n at = let f = done_found es group n (begins_slice known es n (Done group) begins at) in none-some f.0 (sym none ∙ f.1)
+
 -- the group began, with these entries of the journal of the tree
 pub record HasBegunTo (x : Shared) (group : ℕ) (s u : WorkerState) : Type 0 where
   pub below : 0 < group
@@ -225,6 +229,8 @@ pub record HasBegunTo (x : Shared) (group : ℕ) (s u : WorkerState) : Type 0 wh
   pub known : Contains u.tree.known (Begin group)
   pub met : is_made (hierarchy_of (shape_of x.core)) u.tree.known group ≡ true
   pub same : u ≡ record s { tree = u.tree }
+  -- the worker didn't know before that the group was done
+  pub undone : (n : ℕ) → slice_get s.tree.known n ≡ Some (Done group) → ⊥
   pub each : (z : Step) → z.before ≡ s → z.command ≡ Some (command.Offline group) → MayHaveBegun z.answered.reply → All (λ (m : Made). (length z.before.tree.known ≤ m.number) × IsEntryOf x.script z m.number m.entry) made
 
 pub begun_to : (x : Shared) (group : ℕ) (s u : WorkerState) → IsHandless s.tree → (answer : BeginAnswer) → offlined.GoesOn answer → offlined.Begins x group answer s u → HasBegunTo x group s u
@@ -243,6 +249,7 @@ begun_to x group s u home (began.Begun entry) on h =
       known = known;
       met = let at = contains_slice u.tree.known (Begin group) known in begun_there (hierarchy_of (shape_of x.core)) u.tree.known group at.0 h.knows.legal at.1;
       same = h.rest;
+      undone = not_done group s.tree.known b.before b.undone longer;
       each = λ z start asked may. All-from_recursion (λ (m : Made). (length z.before.tree.known ≤ m.number) × IsEntryOf x.script z m.number m.entry) made (
         (
           omega (arith, long, ap (λ (v : WorkerState). length v.tree.known) start),
@@ -263,6 +270,7 @@ begun_to x group s u home (began.Resumed entry) on h = record {
   known = slice_contains u.tree.known entry (Begin group) (begin_at u.tree.known group entry h.tells.begun);
   met = begun_made (hierarchy_of (shape_of x.core)) u.tree.known group entry h.knows.legal h.tells.begun;
   same = h.rest;
+  undone = not_done group s.tree.known u.tree.known h.tells.undone h.knows.grows;
   each = λ z start asked may. All-nil (λ (m : Made). (length z.before.tree.known ≤ m.number) × IsEntryOf x.script z m.number m.entry);
 }
 begun_to x group s u home answer on h = absurd on

@@ -64,7 +64,7 @@ module _ (s : Script) (r : Report) (workers : List (List Step)) (run : IsRun s r
       others i j y c at_y ne e = no_test (is_serial (serial_of worker k) c.by) (λ same. ne (ap (λ (z : Serial). z.command) (sym (is_serial_same (serial_of worker k) c.by same ∙ by_of i j y c at_y e))))
 
   -- nothing stands after a Closed
-  closed_last : (place : Place) (es : List Entry) (n : ℕ) → Begins es (journals_of r place) → is_closed es ≡ true → length es ≤ n → (e : Entry) → slice_get (journals_of r place) n ≡ Some e → ⊥
+  pub closed_last : (place : Place) (es : List Entry) (n : ℕ) → Begins es (journals_of r place) → is_closed es ≡ true → length es ≤ n → (e : Entry) → slice_get (journals_of r place) n ≡ Some e → ⊥
   closed_last place es n begins closed le e stands =
       let c = closed_at es closed in
       let in_journal = begins_slice es (journals_of r place) c.0 Closed begins c.1 in

@@ -72,7 +72,7 @@ module _ (x : Shared) (tables : AreTables x) (by : Serial) (group node decl : �
         let a = o.calls.made in
         let call : View → View → Type 0 = pinning f (pin.Done c) in
         let so : List Object → Type 0 = λ items. holds group key items ≡ true in
-        acted_did x tables by command group node decl tenant f call (reply.Done c) s t o group c so pins_so a within.on_node there (λ told. told)
+        acted_did x tables by command group node decl tenant f call (reply.Done c) s t o group c so pins_so a within.on_node there refl (λ told. told)
         (λ family stands. cites_is x tables by command group node decl tenant f call (reply.Done c) s t o group c so pins_so a within.on_node there family (Pin by group key pinned true) stands (ap (Pin by group key pinned) a.before))
         refl (λ e. cc) (λ g. refl) (λ g. refl) refl refl tt
 
@@ -81,7 +81,7 @@ module _ (x : Shared) (tables : AreTables x) (by : Serial) (group node decl : �
         let a = o.calls.made in
         let call : View → View → Type 0 = pinning f (pin.Miss c) in
         let so : List Object → Type 0 = λ items. holds group key items ≡ false in
-        acted_did x tables by command group node decl tenant f call (reply.Miss c) s t o group c so pins_so a within.on_node there (λ told. told)
+        acted_did x tables by command group node decl tenant f call (reply.Miss c) s t o group c so pins_so a within.on_node there refl (λ told. told)
         (λ family stands. cites_is x tables by command group node decl tenant f call (reply.Miss c) s t o group c so pins_so a within.on_node there family (Pin by group key pinned false) stands (ap (Pin by group key pinned) a.before))
         refl (λ e. cc) (λ g. refl) (λ g. refl) refl refl tt
 

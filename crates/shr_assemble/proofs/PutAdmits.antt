@@ -54,6 +54,12 @@ stands_in x group Charged = path_of x.charge.shape.parents.items group
 stands_in x group (Over g operation usage) = []
 stands_in x group Memory = []
 
+-- how many of the tries weren't refused
+abbrev pub stood_by : Admission → ℕ
+stood_by Charged = 1
+stood_by (Over g operation usage) = 0
+stood_by Memory = 0
+
 abbrev pub named_by : Admission → List ℕ
 named_by (Over g operation usage) = g ∷ []
 named_by r = []
@@ -86,6 +92,7 @@ module _ (x : Shared) (table : IsTableOf x) (by : Serial) (c : Command) (a : Ans
     pub tries : ℕ
     pub fourteen : tries ≤ 14
     pub ops : AreOps x by group tries (rounds ++ named_by answer) (stands_in x group answer) work
+    pub stood : tries ≡ length (rounds ++ named_by answer) + stood_by answer
     pub over : (g operation usage : ℕ) → answer ≡ Over g operation usage → EndsOver x by (record { group = g; operation = operation; usage = usage }) work.ops × (tries ≡ 14) × IsAtOrAbove (parents_of x.script) g group
 
   none_made : (s : WorkerState) → AreOps x by group 0 [] [] no_work
@@ -132,7 +139,8 @@ module _ (x : Shared) (table : IsTableOf x) (by : Serial) (c : Command) (a : Ans
         cut = front_then r.work.walks all.work.walks r.uncut cut;
         tries = (1 + length h.rounds) + 0;
         fourteen = omega (arith, lt);
-        ops = ops_then x by group (1 + length h.rounds) 0 (groups ++ h.over.group ∷ []) [] [] r.work all.work r.ops between;
+        ops = ops_then x by group (1 + length h.rounds) 0 (groups ++ h.over.group ∷ []) [] [] r.work all.work (omega (arith, long, two)) r.ops between;
+        stood = let three = length-append (groups ++ h.over.group ∷ []) [] in omega (arith, long, two, three);
         over = λ g operation usage e. absurd (cc);
       }
 
@@ -150,6 +158,7 @@ module _ (x : Shared) (table : IsTableOf x) (by : Serial) (c : Command) (a : Ans
         tries = 1 + length h.rounds;
         fourteen = omega (arith, few);
         ops = r.ops;
+        stood = let two = length-append (map (λ (k : Round). k.over.group) h.rounds) [] in omega (arith, long, two);
         over = λ g operation usage e. absurd (cc);
       }
   admits (Over g operation usage) s t h seen = let z : Refusal = record { group = g; operation = operation; usage = usage } in let r = tried_all x table by c a group inside h.rounds (refused (record { group = g; operation = operation; usage = usage })) s t h.tried seen in
@@ -165,6 +174,7 @@ module _ (x : Shared) (table : IsTableOf x) (by : Serial) (c : Command) (a : Ans
         tries = 1 + length h.rounds;
         fourteen = omega (arith, n);
         ops = r.ops;
+        stood = let two = length-append (map (λ (k : Round). k.over.group) h.rounds) (g ∷ []) in omega (arith, long, two);
         over = λ g' operation' usage' e. (
           subst (λ (y : Refusal). EndsOver x by y r.work.ops) (let first : g ≡ g' = cc in let second : operation ≡ operation' = cc in let third : usage ≡ usage' = cc in λ i. record { group = first i; operation = second i; usage = third i }) r.over,
           omega (arith, n),
@@ -183,6 +193,7 @@ module _ (x : Shared) (table : IsTableOf x) (by : Serial) (c : Command) (a : Ans
     tries = 0;
     fourteen = omega arith;
     ops = none_made s;
+    stood = refl;
     over = λ g operation usage e. absurd (cc);
   }
   admits Memory s t (inr h) seen = cut_short s t h seen

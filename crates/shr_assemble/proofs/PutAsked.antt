@@ -1,6 +1,6 @@
 -- A put that asked for its charge, or didn't: what is left to say of its answer.
-use Rattle.std.proofs.Common.{◌≡◌, ◌⊎◌, ⊎_elim, inl, inr, ℕ, ◌<◌, ◌≤◌, List, [], ◌∷◌, ◌++◌, length, map, refl, sym, ap, subst, ◌∙◌, arith, true, false}
-use Rattle.std.specs.Prelude.{Some, None, sum_by}
+use Rattle.std.proofs.Common.{◌≡◌, ◌⊎◌, ⊎_elim, inl, inr, ℕ, ◌<◌, ◌≤◌, List, [], ◌∷◌, ◌++◌, length, map, refl, sym, ap, subst, ◌∙◌, arith, true, false, cond, Bool, ◌-◌}
+use Rattle.std.specs.Prelude.{Some, None, sum_by, replicate, is_some}
 use Rattle.std.specs.List.{AllByRecursion}
 use Rattle.std.proofs.lemmas.List.{append-nil}
 use Rattle.std.proofs.lemmas.List.Sums.{sum_by-append}
@@ -51,7 +51,7 @@ use Rattle.shr_assemble.specs.Offlining.{KnowsOnline, MeetsGroups}
 use Rattle.shr_assemble.specs.Steps.{Step, Brings, IsAmong}
 use Rattle.shr_assemble.specs.Walks.{DidRounds}
 use Rattle.shr_assemble.proofs.Bringing.{brings_of}
-use Rattle.shr_assemble.proofs.PutAdmits.{Admits, admits, stands_in, named_by, admitted_front, admitted_told}
+use Rattle.shr_assemble.proofs.PutAdmits.{Admits, admits, stands_in, named_by, admitted_front, admitted_told, stood_by}
 use Rattle.shr_assemble.proofs.PutCharges.{ops_same, put_charges}
 use Rattle.shr_assemble.proofs.PutOver.{over_caused}
 use Rattle.shr_assemble.proofs.PutParts.{IsTail, whole, whole_did}
@@ -68,6 +68,9 @@ use Rattle.shr_assemble.proofs.WalkingTold.{IsTableOf}
 use Rattle.shr_assemble.proofs.WalkingWell.{begins_prefix}
 use Rattle.shr_assemble.proofs.WalkingChain.{front_had}
 use Rattle.shr_report.specs.Cuts.{IsWant}
+use Rattle.shr_report.specs.Tries.{refusals_of, was_charged}
+use Rattle.shr_model.specs.Freeings.{is_at_or_above}
+use Rattle.shr_assemble.proofs.Outcomes.{met_at, no_answers}
 
 pub tail_none : IsTail no_work
 tail_none = record { walks = refl; seen = refl; maps = refl; cleared = refl; turns = refl; tree = refl; takes = refl; gives = refl; carries = refl; scans = λ place worker n. refl }
@@ -87,12 +90,14 @@ module _ (x : Shared) (table : IsTableOf x) (by : Serial) (group node decl : ℕ
   command = Put group node decl key value
 
   rounds_did : (z : Step) (tries : ℕ) (rounds named kept : List ℕ) → length rounds ≤ 13 → AllByRecursion (λ h. IsAtOrAbove (parents_of x.script) h group) rounds → AreOps x by group tries (rounds ++ named) kept z.work
-      → ((h : ℕ) → over_at h z.answered.reply ≡ times_of h named) → ((g operation usage : ℕ) → z.answered.reply ≡ reply.Over g operation usage → length rounds ≡ 13) → DidRounds x.script z group rounds
-  rounds_did z tries rounds named kept few above ops over all = record {
+      → ((h : ℕ) → over_at h z.answered.reply ≡ times_of h named) → ((g operation usage : ℕ) → z.answered.reply ≡ reply.Over g operation usage → length rounds ≡ 13)
+      → refusals_of rounds z.answered.reply ≡ rounds ++ named → replicate (tries - length (rounds ++ named)) false ≡ cond (was_charged (is_some z.answered.found) z.answered.reply) (false ∷ []) [] → DidRounds x.script z group rounds
+  rounds_did z tries rounds named kept few above ops over all named_are charged_are = record {
     few = few;
     above = above;
     refusals = λ h. let n = ops.refusals h in let b = times_both h rounds named in let o = over h in omega (arith, n, b, o);
     all = all;
+    tried = λ h. ops.tried h ∙ (λ i. cond (is_at_or_above (parents_of x.script) h group) (met_at (parents_of x.script) h (sym named_are i) ++ charged_are i) []);
   }
 
   pub load_walked : (a : Answered) (found : GroupState) (s t : WorkerState) → LoadsWord x group found s t → Walked x.script by (Some command) a s t (loading group found)
@@ -131,6 +136,7 @@ module _ (x : Shared) (table : IsTableOf x) (by : Serial) (group node decl : ℕ
     refusals = λ g. refl;
     settled = λ g b long down. closed_of b long;
     ends = λ g. tt;
+    tried = λ g. sym (no_answers (parents_of x.script) group g);
   }
     where
       closed_of : (b : List UseStep) → length b ≡ 0 → Closed b
@@ -139,10 +145,10 @@ module _ (x : Shared) (table : IsTableOf x) (by : Serial) (group node decl : ℕ
 
   pub unasked_did : (r : Reply) (words : List Loaded) (s t : WorkerState) → Walked x.script by (Some command) (without r) s t (record no_work { words = words })
       → ((family : Family) → IsReply (parents_of x.script) family by command None r) → cited_by r ≡ None → ((h : ℕ) → over_at h r ≡ 0) → ((g operation usage : ℕ) → r ≡ reply.Over g operation usage → ⊥)
-      → ((g : ℕ) → charged (parents_of x.script) g (Some command) (Some r) ≡ 0) → pool_told r ≡ [] → pool_made r ≡ [] → MayBeOffline r ⊎ KnowsOnline s.tree group
+      → ((g : ℕ) → charged (parents_of x.script) g (Some command) (Some r) ≡ 0) → refusals_of [] r ≡ [] → was_charged false r ≡ false → pool_told r ≡ [] → pool_made r ≡ [] → MayBeOffline r ⊎ KnowsOnline s.tree group
       → MeetsGroups x.script (whole x.script by command (without r) s t t (record no_work { words = words }) no_work)
       → IsCausedBy x.script (whole x.script by command (without r) s t t (record no_work { words = words }) no_work) r → HasDid x.script by command (without r) s t
-  unasked_did r words s t walked row uncited over other uncharged untold unmade offline meets cause =
+  unasked_did r words s t walked row uncited over other uncharged unrefused unstood untold unmade offline meets cause =
       let v : Work = record no_work { words = words } in
       let z : Step = whole x.script by command (without r) s t t v no_work in
       whole_did x.script by command (without r) s t t v no_work walked (brings_of (does_none t)) tail_none record {
@@ -152,7 +158,7 @@ module _ (x : Shared) (table : IsTableOf x) (by : Serial) (group node decl : ℕ
         numbers = refl;
         found = λ d f e has. absurd (none-some f has);
         rounds = [];
-        refused = rounds_did z 0 [] [] [] (omega arith) tt (nothing_ops words) over (λ g operation usage e. absurd (other g operation usage e));
+        refused = rounds_did z 0 [] [] [] (omega arith) tt (nothing_ops words) over (λ g operation usage e. absurd (other g operation usage e)) unrefused (ap (λ (b : Bool). cond b (false ∷ []) []) (sym unstood));
         made = subst (λ (due : List Job). walks.MayMake r due []) (no_rounds (parents_of x.script) x.script.nodes) (none_made r);
         told = tt;
         cut = front_had [] refl;
@@ -187,11 +193,13 @@ module _ (x : Shared) (table : IsTableOf x) (by : Serial) (group node decl : ℕ
       pub ops : AreOps x by group adm.tries (adm.rounds ++ named_by answer) kept (then_work first q)
       pub may : Each (λ (y : Made). MayMake x.script (whole x.script by command a s charged_at t first q) y y.entry) q.core.made
       pub row : (family : Family) → Each (StandsIn (parents_of x.script) family) (first.core.made ++ q.core.made) → IsReply (parents_of x.script) family by command (id_found a) a.reply
-      pub cited : (at : At) → cited_by a.reply ≡ Some at → IsCited (whole x.script by command a s charged_at t first q) at
+      pub cited : (at : At) → cited_by a.reply ≡ Some at → IsCited x.script (whole x.script by command a s charged_at t first q) at
       pub numbers : map number_made q.core.attempts ≡ number_found a.found
       pub found : (f : Found) → a.found ≡ Some f → IsFoundBy (whole x.script by command a s charged_at t first q) decl f
       pub over : (h : ℕ) → over_at h a.reply ≡ times_of h (named_by answer)
       pub all : (g operation usage : ℕ) → a.reply ≡ reply.Over g operation usage → length adm.rounds ≡ 13
+      pub named_are : refusals_of adm.rounds a.reply ≡ adm.rounds ++ named_by answer
+      pub charged_are : replicate (stood_by answer) false ≡ cond (was_charged (is_some a.found) a.reply) (false ∷ []) []
       pub made : walks.MayMake a.reply (rounds_from (parents_of x.script) x.script.nodes 12 adm.rounds) (map job_of adm.work.walks)
       pub stands : (g : ℕ) → g < length (parents_of x.script) → times_of g kept ≡ charged (parents_of x.script) g (Some command) (Some a.reply)
       pub added : (g : ℕ) → sum_by (λ (m : Made). added_below (parents_of x.script) g m.entry) (first.core.made ++ q.core.made) ≡ charged (parents_of x.script) g (Some command) (Some a.reply)
@@ -209,7 +217,8 @@ module _ (x : Shared) (table : IsTableOf x) (by : Serial) (group node decl : ℕ
       numbers = h.numbers;
       found = λ d f e has. subst (λ (n : ℕ). IsFoundBy z n f) (same_Some decl d e) (h.found f has);
       rounds = adm.rounds;
-      refused = rounds_did z adm.tries adm.rounds (named_by answer) kept adm.few adm.above h.ops h.over h.all;
+      refused = rounds_did z adm.tries adm.rounds (named_by answer) kept adm.few adm.above h.ops h.over h.all h.named_are
+          (ap (λ (n : ℕ). replicate n false) (let e = adm.stood in let n : adm.tries - length (adm.rounds ++ named_by answer) ≡ stood_by answer = omega (arith, e) in n) ∙ h.charged_are);
       made = h.made;
       told = tt;
       cut = admitted_front answer adm.work.walks adm.cut;
@@ -254,6 +263,8 @@ module _ (x : Shared) (table : IsTableOf x) (by : Serial) (group node decl : ℕ
         found = λ f e. absurd (none-some f e);
         over = λ h. omega arith;
         all = λ g' operation' usage' e. d.all g operation usage refl;
+        named_are = refl;
+        charged_are = refl;
         made = d.made;
         stands = λ h lt. refl;
         added = λ h. none_added_alone a answer s t t asks seen h;
@@ -283,6 +294,8 @@ module _ (x : Shared) (table : IsTableOf x) (by : Serial) (group node decl : ℕ
         found = λ f e. absurd (none-some f e);
         over = λ h. refl;
         all = λ g operation usage e. absurd (cc);
+        named_are = sym (append-nil d.rounds);
+        charged_are = refl;
         made = begins_prefix (map job_of d.work.walks) d.made.0 (rounds_from (parents_of x.script) x.script.nodes 12 d.rounds) d.made.1;
         stands = λ h lt. refl;
         added = λ h. none_added_alone a admission.Memory s t t asks seen h;

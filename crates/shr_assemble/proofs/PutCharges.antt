@@ -19,6 +19,7 @@ use Rattle.shr_reclaim.proofs.Netting.{times_of, count_first, nets_downs}
 use Rattle.shr_assemble.specs.Charges.{DidCharges, ops_at, added_below, freed_below}
 use Rattle.shr_core.specs.Parts.{Made}
 use Rattle.shr_assemble.specs.Steps.{Step, IsPut}
+use Rattle.shr_assemble.proofs.Outcomes.{outcomes, outcomes_then, down_outcomes}
 use Rattle.shr_assemble.proofs.PutTries.{AreOps, charge_parents, all_weaker, all_both, count_then, of_groups, refusals_are, path_once, on_path}
 use Rattle.shr_assemble.proofs.PutWays.{Closed, Ends, closed_ends, ends_taken, ends_between, at_then, at_all, at_long, ups_is, downs_is, ups_all}
 use Rattle.shr_assemble.proofs.QuietCharges.{uncharging}
@@ -39,6 +40,7 @@ ops_same x by group tries over kept v w h same charges uncharges freed = record 
   refusals = λ g. ap (λ (l : List UseStep). count_by (is_refused (limit_of x.script g)) (ops_at g l)) same ∙ h.refusals g;
   settled = λ g b long down. subst (λ (l : List UseStep). Closed (ops_at g l ++ b)) (sym same) (h.settled g b long down);
   ends = λ g. subst (λ (l : List UseStep). Ends (limit_of x.script g) (ops_at g l)) (sym same) (h.ends g);
+  tried = λ g. ap (λ (l : List UseStep). outcomes (limit_of x.script g) (ops_at g l)) same ∙ h.tried g;
 }
 
 downs_all : (g : ℕ) (ops : List UseStep) → downs (ops_at g ops) ≤ downs ops
@@ -73,6 +75,8 @@ module _ (x : Shared) (table : IsTableOf x) (by : Serial) (group : ℕ) (inside 
         refusals = λ g. let e = count_then (is_refused (limit_of x.script g)) g v.ops back in let n = refusals_are x table by group inside g 0 back (nets_downs x.charge.shape g by _ back made).refused in let k = h.refusals g in omega (arith, e, n, k);
         settled = λ g b long d. subst (λ (l : List UseStep). Closed (ops_at g (v.ops ++ back) ++ l)) (sym (none_of b long)) (subst Closed (sym (append-nil (ops_at g (v.ops ++ back)))) (closed g));
         ends = λ g. closed_ends (limit_of x.script g) (ops_at g (v.ops ++ back)) (closed g);
+        tried = λ g. ap (outcomes (limit_of x.script g)) (at_then g v.ops back) ∙ (outcomes_then (limit_of x.script g) (ops_at g v.ops) (ops_at g back)
+            ∙ (ap (λ (r : List Bool). outcomes (limit_of x.script g) (ops_at g v.ops) ++ r) (down_outcomes (limit_of x.script g) (ops_at g back) (all_down g back down)) ∙ (append-nil (outcomes (limit_of x.script g) (ops_at g v.ops)) ∙ h.tried g)));
       }
     where
       none_of : (b : List UseStep) → length b ≡ 0 → b ≡ []

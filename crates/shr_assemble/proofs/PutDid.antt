@@ -125,6 +125,8 @@ module _ (x : Shared) (table : IsTableOf x) (by : Serial) (group node decl : ℕ
         core = refl;
         over = λ n. refl;
         other = λ n operation usage eq. cc;
+        plain = λ rounds. refl;
+        charged_at_last = refl;
         due = d.made;
         stands = λ n lt. ap (λ p. times_of n (path_of p group)) (charge_parents x table) ∙ path_once (parents_of x.script) (tree_is x table) group n inside;
         added = λ n. ap (λ (en : Entry). 0 + added_below (parents_of x.script) n en) is ∙ none_before (cond {A = ℕ} (is_at_or_above (parents_of x.script) n group) 1 0);
@@ -152,15 +154,15 @@ module _ (x : Shared) (table : IsTableOf x) (by : Serial) (group node decl : ℕ
   none : (r : Reply) (s t : WorkerState) → AreRising s.uses.ops → (h : PutNone x by group node decl object r s t) → HasDid x.script by Command_of (without r) s t
   none (reply.Worn (spent.Charges charges uncharges)) s t rise h = let r : Reply = reply.Worn (spent.Charges charges uncharges) in
       unasked_did x table by group node decl key value inside r [] s t (idle_walked x.script by (Some Command_of) (without r) s t (subst (λ (u : WorkerState). Does s u no_work) (sym h.rest) (does_none s)))
-      (λ family. tt) refl (λ n. refl) (λ n operation usage e. cc) (λ n. refl) refl refl (inl tt) (meets_none x.script (vain_step r [] s t) (λ g e. absurd (cc)) (λ g e. none-some g e)) (charges_worn _ charges uncharges (ap (λ (u : WorkerState). spent_by u.uses) h.rest ∙ h.numbers))
+      (λ family. tt) refl (λ n. refl) (λ n operation usage e. cc) (λ n. refl) refl refl refl refl (inl tt) (meets_none x.script (vain_step r [] s t) (λ g e. absurd (cc)) (λ g e. none-some g e)) (charges_worn _ charges uncharges (ap (λ (u : WorkerState). spent_by u.uses) h.rest ∙ h.numbers))
   none (reply.Offline number) s t rise h = let r : Reply = reply.Offline number in
       unasked_did x table by group node decl key value inside r (record { group = group; state = state.Offline number } ∷ []) s t (load_walked x table by group node decl key value inside (without r) (state.Offline number) s t h.offline)
-      (λ family. tt) refl (λ n. refl) (λ n operation usage e. cc) (λ n. refl) refl refl (inl tt)
+      (λ family. tt) refl (λ n. refl) (λ n operation usage e. cc) (λ n. refl) refl refl refl refl (inl tt)
       (record { unmade = λ g e. absurd (cc); met = λ g e. inr (state.Offline number, refl, subst (λ n. IsAmong {A = charge.Loaded} (record { group = n; state = state.Offline number }) (record { group = group; state = state.Offline number } ∷ [])) (same_Some group g e) (0, refl)) })
       (record { group = group; met = refl; told = inl (0, refl) })
   none (reply.NotMade g) s t rise h = let r : Reply = reply.NotMade g in
       unasked_did x table by group node decl key value inside r (record { group = group; state = state.NotMade } ∷ []) s t (load_walked x table by group node decl key value inside (without r) state.NotMade s t h.not_made)
-      (λ family. tt) refl (λ n. refl) (λ n operation usage e. cc) (λ n. refl) refl refl
+      (λ family. tt) refl (λ n. refl) (λ n operation usage e. cc) (λ n. refl) refl refl refl refl
       (inr (knows_online (hierarchy_of (shape_of x.core)) s.tree group state.NotMade (λ entry e. absurd (cc)) h.not_made.shows))
       (record {
         unmade = λ n e. let named : g ≡ n = cc in subst (KnowsUnmade (report.hierarchy_of x.script) s.tree) (sym h.same ∙ named) (subst (λ (q : Hierarchy). KnowsUnmade q s.tree group) (hierarchy_is x table.shared) (knows_unmade (hierarchy_of (shape_of x.core)) s.tree group h.not_made.shows));
@@ -178,7 +180,7 @@ module _ (x : Shared) (table : IsTableOf x) (by : Serial) (group node decl : ℕ
   -- no memory for a copy of the key and the value
   no_copy : (s t : WorkerState) → t ≡ s → HasDid x.script by Command_of (unfound reply.Memory) s t
   no_copy s t rest = unasked_did x table by group node decl key value inside reply.Memory [] s t (idle_walked x.script by (Some Command_of) (without reply.Memory) s t (subst (λ (u : WorkerState). Does s u no_work) (sym rest) (does_none s)))
-      (λ family. tt) refl (λ n. refl) (λ n operation usage e. cc) (λ n. refl) refl refl (inl tt) (meets_none x.script (vain_step reply.Memory [] s t) (λ g e. absurd (cc)) (λ g e. none-some g e)) tt
+      (λ family. tt) refl (λ n. refl) (λ n operation usage e. cc) (λ n. refl) refl refl refl refl (inl tt) (meets_none x.script (vain_step reply.Memory [] s t) (λ g e. absurd (cc)) (λ g e. none-some g e)) tt
 
   -- It takes that the numbers of each group's operations rose before.
   pub put_did : (a : Answered) (s t : WorkerState) → AreRising s.uses.ops → CommandGives x by (Put group node decl key value) a s t → HasDid x.script by (Put group node decl key value) a s t

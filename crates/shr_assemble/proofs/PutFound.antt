@@ -1,5 +1,5 @@
 -- A put whose cache was found after its charge: with the entry that it cites, or with none.
-use Rattle.std.proofs.Common.{◌≡◌, ℕ, ◌<◌, List, [], ◌∷◌, ◌++◌, length, map, refl, sym, ap, subst, ◌∙◌, arith}
+use Rattle.std.proofs.Common.{◌≡◌, ℕ, ◌<◌, ◌≤◌, List, [], ◌∷◌, ◌++◌, length, map, refl, sym, ap, subst, ◌∙◌, arith, false, true, cond, Bool}
 use Rattle.std.specs.Prelude.{Some, None, sum_by}
 use Rattle.std.proofs.lemmas.List.Sums.{sum_by-append}
 use Rattle.std.proofs.lemmas.Option.{same_Some, none-some}
@@ -23,7 +23,7 @@ use Rattle.shr_opening.specs.Opening.{Holds, Calls}
 use Rattle.shr_cache.specs.Puts.{Asks}
 use Rattle.shr_core.specs.declared.view.View.{View}
 use Rattle.shr_core.specs.Layout.{place_at}
-use Rattle.shr_core.specs.Parts.{Made}
+use Rattle.shr_core.specs.Parts.{Made, Known}
 use Rattle.shr_core.specs.Seats.{shape_of}
 use Rattle.shr_list.specs.Listed.{Listed}
 use Rattle.shr_node.specs.Answers.{Acts}
@@ -43,9 +43,13 @@ use Rattle.shr_assemble.specs.Charges.{added_below}
 use Rattle.shr_assemble.specs.Entries.{IsTold, MayMake, IsCited}
 use Rattle.shr_assemble.specs.Lookups.{IsFoundBy, number_made}
 use Rattle.shr_assemble.specs.Steps.{Step, IsAmong, Brings}
+use Rattle.shr_report.specs.Tries.{refusals_of, was_charged}
+use Rattle.std.proofs.lemmas.List.{append-nil}
+use Rattle.shr_assemble.proofs.FirstLists.{each_begins, first_for}
 use Rattle.shr_assemble.proofs.Gathering.{among_left, among_right}
 use Rattle.shr_assemble.proofs.PutAsked.{command, adm, first, walked_first, asked_did, none_added_first}
-use Rattle.shr_assemble.proofs.PutOffers.{entry, place_same, later_is, cites_is, offered_entry, offered_by}
+use Rattle.shr_assemble.proofs.PutOffers as offers
+use Rattle.shr_assemble.proofs.PutOffers.{entry, place_same, later_is, knew_is, cites_is, offered_entry, offered_by}
 use Rattle.shr_assemble.proofs.PutParts.{IsTail, whole}
 use Rattle.shr_assemble.proofs.PutTries.{AreOps}
 use Rattle.shr_assemble.proofs.Quiet.{HasDid, IsToldOnce}
@@ -86,6 +90,8 @@ module _ (x : Shared) (table : IsTableOf x) (tables : AreTables x) (by : Serial)
       pub core : t.core ≡ offered.core
       pub over : (h : ℕ) → over_at h r ≡ 0
       pub other : (g operation usage : ℕ) → r ≡ reply.Over g operation usage → ⊥
+      pub plain : (rounds : List ℕ) → refusals_of rounds r ≡ rounds
+      pub charged_at_last : was_charged true r ≡ true
       pub due : walks.MayMake r (rounds_from (parents_of x.script) x.script.nodes 12 (adm x table by group node decl key value inside a admission.Charged s charged_at t asks seen).rounds)
           (map job_of (adm x table by group node decl key value inside a admission.Charged s charged_at t asks seen).work.walks)
       pub stands : (g : ℕ) → g < length (parents_of x.script) → times_of g kept ≡ charged (parents_of x.script) g (Some Command_of) (Some r)
@@ -123,6 +129,8 @@ module _ (x : Shared) (table : IsTableOf x) (tables : AreTables x) (by : Serial)
           found = found_is;
           over = h.over;
           all = λ n operation usage e. absurd (h.other n operation usage e);
+          named_are = h.plain _ ∙ sym (append-nil _);
+          charged_are = ap (λ (b : Bool). cond b (false ∷ []) []) (sym h.charged_at_last);
           made = h.due;
           stands = h.stands;
           added = added_is;
@@ -146,7 +154,7 @@ module _ (x : Shared) (table : IsTableOf x) (tables : AreTables x) (by : Serial)
         among : IsAmong noted (first_work.core.made ++ q.core.made)
         among = among_right first_work.core.made q.core.made noted (subst (IsAmong noted) (sym h.made_are) (0, refl))
 
-        cited_is : IsCited step_is c
+        cited_is : IsCited x.script step_is c
         cited_is = record {
           made = noted;
           among = among;
@@ -155,6 +163,9 @@ module _ (x : Shared) (table : IsTableOf x) (tables : AreTables x) (by : Serial)
           later = each_left (λ (m : Made). m.place ≡ place_number c.place → m.number < length acts.old.entries) s.core.traces.made first_work.core.made
               (subst (λ (l : List Made). Each (λ (m : Made). m.place ≡ place_number c.place → m.number < length acts.old.entries) l) (walked_first x table by group node decl key value inside a admission.Charged s charged_at t asks seen).does.core.made
               (later_is x decl f call charged_at held offered holds calls tables node on group inside c so e acts));
+          known = each_begins (λ (k : Known). k.place ≡ place_number c.place → length k.entries ≤ length acts.old.entries) s.core.traces.known charged_at.core.traces.known
+              (walked_first x table by group node decl key value inside a admission.Charged s charged_at t asks seen).does.core.known (knew_is x decl f call charged_at held offered holds calls tables node on group inside c so e acts);
+          first = first_for x tables calls.called f.id node group c.place acts.first step_is (ap (λ (v : View). v.traces.known) h.core ∙ offers.known_is x decl f call charged_at held offered holds calls (noted ∷ []) _ acts.gains) refl inside;
           filled = filled;
         }
 
@@ -165,11 +176,13 @@ module _ (x : Shared) (table : IsTableOf x) (tables : AreTables x) (by : Serial)
           ops = h.ops;
           may = subst (λ (l : List Made). Each (λ (y : Made). MayMake x.script step_is y y.entry) l) (sym h.made_are) (each_one (λ (y : Made). MayMake x.script step_is y y.entry) noted (may (is_told step_is noted c same_place (sym acts.number) cites)));
           row = λ family stands. row family (cites_is x decl f call charged_at held offered holds calls tables node on group inside c so e acts family en (stands among.0 noted among.1) is);
-          cited = λ d eq. subst (IsCited step_is) (same_Some c d (sym cites ∙ eq)) cited_is;
+          cited = λ d eq. subst (IsCited x.script step_is) (same_Some c d (sym cites ∙ eq)) cited_is;
           numbers = ap (map number_made) h.attempts;
           found = found_is (noted ∷ []) _ acts.gains h;
           over = h.over;
           all = λ n operation usage eq. absurd (h.other n operation usage eq);
+          named_are = h.plain _ ∙ sym (append-nil _);
+          charged_are = ap (λ (b : Bool). cond b (false ∷ []) []) (sym h.charged_at_last);
           made = h.due;
           stands = h.stands;
           added = added_is (noted ∷ []) _ acts.gains h;

@@ -35,6 +35,7 @@ use Rattle.shr_assemble.specs.Entries.{StandsIn}
 use Rattle.shr_assemble.specs.Lookups.{IsFoundBy}
 use Rattle.shr_assemble.specs.Steps.{Step, IsAmong}
 use Rattle.shr_assemble.specs.Worn.{IsListWorn, IsOneMore, AreBoth}
+use Rattle.shr_assemble.proofs.FirstLists.{each_begins}
 use Rattle.shr_assemble.proofs.Listed.{contains_among}
 use Rattle.shr_assemble.proofs.QuietSteps.{AreTables, gaining, does_gain, tried_by, dated_by, finding, calling, take_whole}
 use Rattle.shr_assemble.proofs.QuietTenant.{there_is, back_is}
@@ -104,6 +105,10 @@ module _ (x : Shared) (decl : ℕ) (f : Found) (call : View → View → Type 0)
       -- it comes after all that was made at its place before
       pub later_is : Each (λ (m : Made). m.place ≡ place_number c.place → m.number < length a.old.entries) s.core.traces.made
       later_is = subst (λ (l : List Made). Each (λ (m : Made). m.place ≡ place_number c.place → m.number < length a.old.entries) l) made_is a.was.later.made
+
+      -- and after all that was known there
+      pub knew_is : Each (λ (k : Known). k.place ≡ place_number c.place → length k.entries ≤ length a.old.entries) s.core.traces.known
+      knew_is = each_begins (λ (k : Known). k.place ≡ place_number c.place → length k.entries ≤ length a.old.entries) s.core.traces.known held.core.traces.known holds.answers.gains.adds.known a.was.later.known
 
       pub cites_is : (family : Family) (en : Entry) → StandsIn (parents_of x.script) family (made_of (place_number c.place) a.old (e a.old)) → e a.old ≡ en → Cites family c f.id node en
       cites_is family en stands same = record {

@@ -78,7 +78,7 @@ module _ (script : Script) (by : Serial) (c : Command) (a : Answered) (s m t : W
   pub record IsWhole : Type 0 where
     pub may : Each (λ (y : Made). MayMake script whole y y.entry) q.core.made
     pub reply : (family : Family) → Each (StandsIn (parents_of script) family) (v.core.made ++ q.core.made) → IsReply (parents_of script) family by c (id_found a) a.reply
-    pub cited : (at : At) → cited_by a.reply ≡ Some at → IsCited whole at
+    pub cited : (at : At) → cited_by a.reply ≡ Some at → IsCited script whole at
     pub numbers : map number_made q.core.attempts ≡ number_found a.found
     pub found : (decl : ℕ) (f : Found) → decl_named c ≡ Some decl → a.found ≡ Some f → IsFoundBy whole decl f
     pub rounds : List ℕ

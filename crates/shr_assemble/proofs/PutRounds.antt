@@ -118,8 +118,8 @@ module _ (x : Shared) (table : IsTableOf x) (by : Serial) (c : Command) (a : Ans
         at_last = later.at_last;
         uncut = uncut_then all.work.walks later.work.walks had.uncut later.uncut;
         ops = let count : 1 + (0 + (1 + length ks)) ≡ 1 + length (k ∷ ks) = omega arith in subst (λ (n : ℕ). AreOps x by group n (k.over.group ∷ (groups_in x table by c a group inside ks ++ over_of last)) (kept_of x group last) (then_work (charge_work try.ops) (then_work all.work later.work))) count
-            (ops_then x by group 1 (0 + (1 + length ks)) (k.over.group ∷ []) (groups_in x table by c a group inside ks ++ over_of last) (kept_of x group last) (charge_work try.ops) (then_work all.work later.work) mine
-            (ops_then x by group 0 (1 + length ks) [] (groups_in x table by c a group inside ks ++ over_of last) (kept_of x group last) all.work later.work between later.ops));
+            (ops_then x by group 1 (0 + (1 + length ks)) (k.over.group ∷ []) (groups_in x table by c a group inside ks ++ over_of last) (kept_of x group last) (charge_work try.ops) (then_work all.work later.work) refl mine
+            (ops_then x by group 0 (1 + length ks) [] (groups_in x table by c a group inside ks ++ over_of last) (kept_of x group last) all.work later.work refl between later.ops));
         over = over_after x by last try.ops (all.work.ops ++ later.work.ops) (over_after x by last all.work.ops later.work.ops later.over);
       }
 

@@ -1,6 +1,6 @@
 -- The operations of a put's tries and walks, group by group.
-use Rattle.std.proofs.Common.{◌≡◌, ℕ, zero, suc, ◌+◌, ◌<◌, ◌≤◌, ◌&&◌, Bool, not, cond, ◌==◌, List, [], ◌∷◌, ◌++◌, length, map, refl, sym, ap, subst, ◌∙◌, arith, append_assoc}
-use Rattle.std.specs.Prelude.{Option, None, option_and_then, slice_get, slice_index_or, count_by, sum_by, pos, ◌-ℤ◌, Some}
+use Rattle.std.proofs.Common.{◌≡◌, ℕ, zero, suc, ◌+◌, ◌-◌, ◌<◌, ◌≤◌, ◌&&◌, Bool, true, false, not, cond, ◌==◌, List, [], ◌∷◌, ◌++◌, length, length-append, map, refl, sym, ap, subst, ◌∙◌, arith, append_assoc, eq-eqb, ne_eqb}
+use Rattle.std.specs.Prelude.{Option, None, option_and_then, slice_get, slice_index_or, count_by, sum_by, pos, ◌-ℤ◌, Some, replicate}
 use Rattle.std.specs.List.{AllByRecursion}
 use Rattle.std.proofs.lemmas.Int.{ints}
 use Rattle.std.proofs.lemmas.List.{append-nil}
@@ -14,8 +14,9 @@ use Rattle.shr_base.specs.declared.replies.Answered.{Answered}
 use Rattle.shr_base.specs.declared.scripts.Command.TheVariants.{Register}
 use Rattle.shr_base.specs.declared.walks.WalkRecord.{WalkRecord}
 use Rattle.shr_model.specs.Charges.{ups, downs, is_refused, IsBelow}
+use Rattle.shr_model.specs.Freeings.{is_at_or_above}
 use Rattle.shr_model.specs.Groups.{IsTree, path_of}
-use Rattle.shr_model.proofs.GroupsOrder.{by_parents}
+use Rattle.shr_model.proofs.GroupsOrder.{IsOn, by_parents, on_self, on_le}
 use Rattle.shr_seats.specs.Views.{Each}
 use Rattle.shr_charge.specs.declared.answers.ChargeAnswer.{ChargeAnswer}
 use Rattle.shr_charge.specs.declared.answers.ChargeAnswer.TheVariants as charge
@@ -31,12 +32,14 @@ use Rattle.shr_walk.specs.declared.seats.Shared.{Shared}
 use Rattle.shr_reclaim.specs.Trying.{charge_work}
 use Rattle.shr_reclaim.proofs.Netting.{times_of, times_both, nets_refused, nets_charged, nets_downs}
 use Rattle.shr_reclaim.proofs.Reclaimed.{over_of, kept_of}
-use Rattle.shr_reclaim.proofs.Refusing.{way_once, way_few}
+use Rattle.shr_reclaim.proofs.Refusing.{way_once, way_few, refused_on}
 use Rattle.shr_reclaim.proofs.Settling.{refused_closes}
 use Rattle.shr_assemble.specs.Charges.{DidCharges, ops_at, freed_below}
+use Rattle.shr_assemble.proofs.Outcomes.{outcomes, answers_in, outcomes_then, answers_then, no_answers, down_outcomes, FoundRoom, up_outcomes, over_outcomes, above_is, way_times}
 use Rattle.shr_assemble.proofs.PutWays.{Closed, Ends, closed_then, closed_ends_then, closed_ends, closed_downs, closed_by, ends_short, closed_pair, at_then, at_all, at_long, ups_is, downs_is, refused_is}
 use Rattle.shr_assemble.proofs.WalkingTold.{IsTableOf}
 use Rattle.shr_assemble.proofs.WalkingGives.{Freed}
+use Rattle.shr_assemble.proofs.WalkingCharges as walking
 use Rattle.shr_assemble.proofs.WalkingCharges.{GoesDown, rec_of, all_down, walks_charge, no_ups}
 use Rattle.shr_assemble.proofs.WalkingSteps.{IsScanOne, step_of}
 
@@ -93,10 +96,12 @@ pub record AreOps (x : Shared) (by : Serial) (group tries : ℕ) (over kept : Li
   -- where the charge is taken back, each up is followed by a down; where it stands, the last one found room
   pub settled : (g : ℕ) (b : List UseStep) → length b ≡ times_of g kept → AllByRecursion GoesDown b → Closed (ops_at g w.ops ++ b)
   pub ends : (g : ℕ) → Ends (limit_of x.script g) (ops_at g w.ops)
+  -- whether each up was refused, by the groups that refused the tries
+  pub tried : (g : ℕ) → outcomes (limit_of x.script g) (ops_at g w.ops) ≡ answers_in (parents_of x.script) group over (tries - length over) g
 
 module _ (x : Shared) (by : Serial) (group : ℕ) where
-  pub ops_then : (m n : ℕ) (over more kept : List ℕ) (v w : Work) → AreOps x by group m over [] v → AreOps x by group n more kept w → AreOps x by group (m + n) (over ++ more) kept (then_work v w)
-  ops_then m n over more kept v w p q = record {
+  pub ops_then : (m n : ℕ) (over more kept : List ℕ) (v w : Work) → m ≡ length over → AreOps x by group m over [] v → AreOps x by group n more kept w → AreOps x by group (m + n) (over ++ more) kept (then_work v w)
+  ops_then m n over more kept v w short p q = record {
     charges = let c = p.charges in let d = q.charges in omega (arith, c, d);
     uncharges = let c = p.uncharges in let d = q.uncharges in let e = sum_by-append (λ (o : UseStep). cond {A = ℕ} (not o.up) 1 0) v.ops w.ops in omega (arith, c, d, e);
     own = all_both (λ (o : UseStep). o.by ≡ by) v.ops w.ops p.own q.own;
@@ -108,6 +113,11 @@ module _ (x : Shared) (by : Serial) (group : ℕ) where
     refusals = λ g. let c = p.refusals g in let d = q.refusals g in let e = count_then (is_refused (limit_of x.script g)) g v.ops w.ops in let t = times_both g over more in omega (arith, c, d, e, t);
     settled = λ g b long down. subst Closed (sym (ap (λ l. l ++ b) (at_then g v.ops w.ops) ∙ append_assoc (ops_at g v.ops) (ops_at g w.ops) b)) (closed_then (ops_at g v.ops) (ops_at g w.ops ++ b) (first g) (q.settled g b long down));
     ends = λ g. subst (Ends (limit_of x.script g)) (sym (at_then g v.ops w.ops)) (closed_ends_then (limit_of x.script g) (ops_at g v.ops) (ops_at g w.ops) (first g) (q.ends g));
+    tried = λ g. ap (outcomes (limit_of x.script g)) (at_then g v.ops w.ops) ∙ (outcomes_then (limit_of x.script g) (ops_at g v.ops) (ops_at g w.ops)
+        ∙ ((λ i. p.tried g i ++ q.tried g i)
+        ∙ (ap (λ (k : ℕ). answers_in (parents_of x.script) group over k g ++ answers_in (parents_of x.script) group more (n - length more) g) (let z : m - length over ≡ 0 = omega (arith, short) in z)
+        ∙ (answers_then (parents_of x.script) group over more (n - length more) g
+        ∙ ap (λ (k : ℕ). answers_in (parents_of x.script) group (over ++ more) k g) (let l = length-append over more in let z : n - length more ≡ (m + n) - length (over ++ more) = omega (arith, short, l) in z)))));
   }
     where
       first : (g : ℕ) → Closed (ops_at g v.ops)
@@ -134,6 +144,73 @@ module _ (x : Shared) (table : IsTableOf x) (by : Serial) (group : ℕ) (inside 
   pub refusals_are : (g n : ℕ) (ops : List UseStep) → count_by (λ (o : UseStep). is_refused (charging.limit_of x.charge.shape o.group) o && (o.group == g)) ops ≡ n → count_by (is_refused (limit_of x.script g)) (ops_at g ops) ≡ n
   refusals_are g n ops e = ap (λ l. count_by (is_refused l) (ops_at g ops)) (same_limit x table g) ∙ (refused_is (charging.limit_of x.charge.shape) g ops ∙ e)
 
+  tree : IsTree (parents_of x.script)
+  tree = subst IsTree (charge_parents x table) x.charge.tree
+
+  -- the ups of these operations that found room, in a group
+  found_room : (g : ℕ) (ops : List UseStep) → AllByRecursion (IsUp x.charge.shape by) ops → outcomes (limit_of x.script g) (ops_at g ops) ≡ replicate (times_of g (map group_of ops)) false
+  found_room g ops each = up_outcomes (limit_of x.script g) (ops_at g ops) (all_weaker (λ (o : UseStep). IsUp x.charge.shape by o × (o.group ≡ g)) (FoundRoom (limit_of x.script g))
+      (λ o u. (u.0.up, subst (λ l. IsBelow l o) (ap (charging.limit_of x.charge.shape) u.1 ∙ sym (same_limit x table g)) u.0.below)) (ops_at g ops) (at_all (IsUp x.charge.shape by) g ops each))
+      ∙ ap (λ (n : ℕ). replicate n false) (at_long g ops)
+
+  charged_answers : (g : ℕ) (ops : List UseStep) → ChargeOps x.charge.shape by group charge.Charged ops → outcomes (limit_of x.script g) (ops_at g ops) ≡ answers_in (parents_of x.script) group [] 1 g
+  charged_answers g ops h = found_room g ops (rec_of (IsUp x.charge.shape by) ops h.each)
+      ∙ (ap (λ (n : ℕ). replicate n false) (ap (times_of g) h.at ∙ (ap (λ (p : List ℕ). times_of g (path_of p group)) (charge_parents x table) ∙ walking.path_once (parents_of x.script) tree group g inside)) ∙ kept (is_at_or_above (parents_of x.script) g group))
+    where
+      kept : (t : Bool) → replicate (cond {A = ℕ} t 1 0) false ≡ cond t ([] ++ replicate 1 false) []
+      kept true = refl
+      kept false = refl
+
+  over_answers : (g level operation usage : ℕ) (ops : List UseStep) → ChargeOps x.charge.shape by group (charge.Over level operation usage) ops → outcomes (limit_of x.script g) (ops_at g ops) ≡ answers_in (parents_of x.script) group (level ∷ []) 0 g
+  over_answers g level operation usage ops h = split ∙ dite (ℕ_discrete level g) same other
+    where
+      limit : Option ℕ
+      limit = limit_of x.script g
+
+      parents : List ℕ
+      parents = x.charge.shape.parents.items
+
+      downs_each : AllByRecursion GoesDown (ops_at g h.downs)
+      downs_each = all_down g h.downs (all_weaker (IsDown by) GoesDown (λ o d. d.down) h.downs (rec_of (IsDown by) h.downs h.taken_back.each))
+
+      on : IsOn (parents_of x.script) level group
+      on = subst (λ (p : List ℕ). IsOn p level group) (charge_parents x table) (refused_on x.charge.shape by group level operation usage ops x.charge.tree there h)
+
+      split : outcomes (limit_of x.script g) (ops_at g ops) ≡ replicate (times_of g (map group_of h.ups)) false ++ outcomes (limit_of x.script g) (ops_at g (h.over ∷ h.downs))
+      split = ap (λ (os : List UseStep). outcomes (limit_of x.script g) (ops_at g os)) h.whole ∙ (ap (outcomes (limit_of x.script g)) (at_then g h.ups (h.over ∷ h.downs)) ∙ (outcomes_then (limit_of x.script g) (ops_at g h.ups) (ops_at g (h.over ∷ h.downs))
+          ∙ ap (λ (l : List Bool). l ++ outcomes (limit_of x.script g) (ops_at g (h.over ∷ h.downs))) (found_room g h.ups (rec_of (IsUp x.charge.shape by) h.ups h.below))))
+
+      levels : times_of g (map group_of h.ups) + times_of g (level ∷ []) ≡ times_of g (path_to x.charge.shape.parents.items group level)
+      levels = sym (times_both g (map group_of h.ups) (level ∷ [])) ∙ ap (times_of g) (ap (λ (j : ℕ). map group_of h.ups ++ j ∷ []) (sym h.here) ∙ h.levels)
+
+      -- it is the group that refused
+      same : level ≡ g → replicate (times_of g (map group_of h.ups)) false ++ outcomes (limit_of x.script g) (ops_at g (h.over ∷ h.downs)) ≡ answers_in (parents_of x.script) group (level ∷ []) 0 g
+      same e =
+          let few = way_few x.charge.shape.parents.items x.charge.tree level g group there in
+          let one : times_of g (level ∷ []) ≡ 1 = ap (λ (t : Bool). 0 + cond {A = ℕ} t 1 0) (eq-eqb level g e) in
+          let none : times_of g (map group_of h.ups) ≡ 0 = omega (arith, few, one, levels) in
+          let back : outcomes (limit_of x.script g) (ops_at g (h.over ∷ h.downs)) ≡ true ∷ [] = ap (λ (t : Bool). outcomes (limit_of x.script g) (cond t (h.over ∷ ops_at g h.downs) (ops_at g h.downs))) (eq-eqb h.over.group g (h.here ∙ e))
+          ∙ over_outcomes (limit_of x.script g) h.over (ops_at g h.downs) h.refused.up (λ b. h.refused.above (subst (λ l. IsBelow l h.over) (same_limit x table g ∙ ap (charging.limit_of x.charge.shape) (sym (h.here ∙ e))) b)) downs_each in
+          let own : is_at_or_above (parents_of x.script) g group ≡ true = above_is (parents_of x.script) g group (subst (λ j. IsOn (parents_of x.script) j group) e on) in
+          let self : is_at_or_above (parents_of x.script) level g ≡ true = above_is (parents_of x.script) level g (subst (λ j. IsOn (parents_of x.script) j g) (sym e) (on_self (parents_of x.script) tree g (let le = on_le (parents_of x.script) tree level group inside on in omega (arith, e, le, inside)))) in
+          (λ i. replicate (none i) false ++ back i) ∙ (ap (λ (t : Bool). t ∷ []) (sym (eq-eqb level g e)) ∙ (λ i. cond (sym own i) (map (λ (j : ℕ). j == g) (cond (sym self i) (level ∷ []) []) ++ replicate 0 false) []))
+
+      -- it is another
+      other : (level ≡ g → ⊥) → replicate (times_of g (map group_of h.ups)) false ++ outcomes (limit_of x.script g) (ops_at g (h.over ∷ h.downs)) ≡ answers_in (parents_of x.script) group (level ∷ []) 0 g
+      other ne =
+          let one : times_of g (level ∷ []) ≡ 0 = ap (λ (t : Bool). 0 + cond {A = ℕ} t 1 0) (ne_eqb level g ne) in
+          let way : times_of g (path_to x.charge.shape.parents.items group level) ≡ cond {A = ℕ} (is_at_or_above (parents_of x.script) g group && is_at_or_above (parents_of x.script) level g) 1 0
+          = ap (λ (p : List ℕ). times_of g (path_to p group level)) (charge_parents x table) ∙ way_times (parents_of x.script) tree level g (λ z. ne (sym z)) group inside on in
+          let ups : times_of g (map group_of h.ups) ≡ cond {A = ℕ} (is_at_or_above (parents_of x.script) g group && is_at_or_above (parents_of x.script) level g) 1 0 = omega (arith, one, levels, way) in
+          let back : outcomes (limit_of x.script g) (ops_at g (h.over ∷ h.downs)) ≡ [] = ap (λ (t : Bool). outcomes (limit_of x.script g) (cond t (h.over ∷ ops_at g h.downs) (ops_at g h.downs))) (ne_eqb h.over.group g (λ z. ne (sym h.here ∙ z)))
+          ∙ down_outcomes (limit_of x.script g) (ops_at g h.downs) downs_each in
+          (λ i. replicate (ups i) false ++ back i) ∙ cases (is_at_or_above (parents_of x.script) g group) (is_at_or_above (parents_of x.script) level g)
+        where
+          cases : (s t : Bool) → replicate (cond {A = ℕ} (s && t) 1 0) false ++ [] ≡ cond s (map (λ (j : ℕ). j == g) (cond t (level ∷ []) []) ++ replicate 0 false) []
+          cases true true = ap (λ (b : Bool). b ∷ []) (sym (ne_eqb level g ne))
+          cases true false = refl
+          cases false t = refl
+
   pub ops_try : (answer : ChargeAnswer) (ops : List UseStep) → ChargeOps x.charge.shape by group answer ops → AreOps x by group 1 (over_of answer) (kept_of x group answer) (charge_work ops)
   ops_try charge.Charged ops h = let each : AllByRecursion (IsUp x.charge.shape by) ops = rec_of (IsUp x.charge.shape by) ops h.each in record {
     charges = refl;
@@ -147,6 +224,7 @@ module _ (x : Shared) (table : IsTableOf x) (by : Serial) (group : ℕ) (inside 
     settled = λ g b long down. let l = at_long g ops in let at = ap (times_of g) h.at in let f = path_few g in closed_pair (ops_at g ops) b (omega (arith, l, at, f)) (omega (arith, l, at, long)) down;
     ends = λ g. let l = at_long g ops in let at = ap (times_of g) h.at in let f = path_few g in ends_short (limit_of x.script g) (ops_at g ops) (omega (arith, l, at, f))
         (all_weaker (λ (o : UseStep). IsUp x.charge.shape by o × (o.group ≡ g)) (IsBelow (limit_of x.script g)) (λ o u. subst (λ l. IsBelow l o) (ap (charging.limit_of x.charge.shape) u.1 ∙ sym (same_limit x table g)) u.0.below) (ops_at g ops) (at_all (IsUp x.charge.shape by) g ops each));
+    tried = λ g. charged_answers g ops h;
   }
   ops_try (charge.Over level operation usage) ops h =
       let ups_each : AllByRecursion (IsUp x.charge.shape by) h.ups = rec_of (IsUp x.charge.shape by) h.ups h.below in
@@ -165,6 +243,7 @@ module _ (x : Shared) (table : IsTableOf x) (by : Serial) (group : ℕ) (inside 
         refusals = λ g. refusals_are g (times_of g (level ∷ [])) ops (nets_refused x.charge.shape g by group level operation usage ops h).refused;
         settled = λ g b long down. closed_then (ops_at g ops) b (closed g) (closed_downs b down);
         ends = λ g. closed_ends (limit_of x.script g) (ops_at g ops) (closed g);
+        tried = λ g. over_answers g level operation usage ops h;
       }
     where
       there_split : (a : List UseStep) (o : UseStep) (b : List UseStep) → AllByRecursion (λ n. n < length (parents_of x.script)) (map group_of a ++ o.group ∷ []) → AllByRecursion (λ n. n < length (parents_of x.script)) (map group_of b)
@@ -189,6 +268,7 @@ module _ (x : Shared) (table : IsTableOf x) (by : Serial) (group : ℕ) (inside 
         refusals = λ g. refusals_are g 0 w.ops (nets_downs x.charge.shape g by _ w.ops freed).refused;
         settled = λ g b long d. closed_then (ops_at g w.ops) b (closed_downs (ops_at g w.ops) (all_down g w.ops down)) (closed_downs b d);
         ends = λ g. closed_ends (limit_of x.script g) (ops_at g w.ops) (closed_downs (ops_at g w.ops) (all_down g w.ops down));
+        tried = λ g. down_outcomes (limit_of x.script g) (ops_at g w.ops) (all_down g w.ops down) ∙ sym (no_answers (parents_of x.script) group g);
       }
     where
       same_net : (u d f : ℕ) → u ≡ 0 → pos u -ℤ pos d ≡ pos 0 -ℤ pos f → u + f ≡ d + 0

@@ -92,6 +92,8 @@ module _ (x : Shared) (table : IsTableOf x) (tables : AreTables x) (by : Serial)
           found = λ f e. absurd (none-some f e);
           over = λ n. refl;
           all = λ n operation usage e. absurd (cc);
+          named_are = sym (append-nil d.rounds);
+          charged_are = refl;
           made = d.made;
           stands = λ n lt. refl;
           added = λ n. none_added_alone x table by group node decl key value inside a admission.Charged s h.puts.charged t h.puts.asks seen n;
@@ -135,6 +137,8 @@ module _ (x : Shared) (table : IsTableOf x) (tables : AreTables x) (by : Serial)
           found = λ f e. absurd (none-some f e);
           over = λ n. refl;
           all = λ n operation usage e. absurd (cc);
+          named_are = sym (append-nil d.rounds);
+          charged_are = refl;
           made = d.made;
           stands = λ n lt. refl;
           added = λ n. none_added_alone x table by group node decl key value inside a admission.Charged s h.puts.charged t h.puts.asks seen n;
@@ -189,6 +193,8 @@ module _ (x : Shared) (table : IsTableOf x) (tables : AreTables x) (by : Serial)
           core = ap (λ (u : WorkerState). u.core) h.back.rest;
           over = λ n. refl;
           other = λ n operation usage e. cc;
+          plain = λ rounds. refl;
+          charged_at_last = refl;
           due = d.made;
           stands = λ n lt. refl;
           added = λ n. ap (λ (e : Entry). 0 + added_below (parents_of x.script) n e) is;
@@ -222,6 +228,8 @@ module _ (x : Shared) (table : IsTableOf x) (tables : AreTables x) (by : Serial)
           core = ap (λ (u : WorkerState). u.core) h.back.rest;
           over = λ n. refl;
           other = λ n operation usage e. cc;
+          plain = λ rounds. refl;
+          charged_at_last = refl;
           due = d.made;
           stands = λ n lt. refl;
           added = λ n. refl;
@@ -251,6 +259,8 @@ module _ (x : Shared) (table : IsTableOf x) (tables : AreTables x) (by : Serial)
           core = ap (λ (u : WorkerState). u.core) h.back.rest;
           over = λ n. refl;
           other = λ n operation usage e. cc;
+          plain = λ rounds. refl;
+          charged_at_last = refl;
           due = begins_prefix (map job_of d.work.walks) [] due (sym (append-nil (map job_of d.work.walks) ∙ d.made));
           stands = λ n lt. refl;
           added = λ n. refl;

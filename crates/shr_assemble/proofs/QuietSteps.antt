@@ -10,6 +10,7 @@ use Rattle.shr_model.specs.Pool.{is_live, decl_of, from_of}
 use Rattle.shr_core.specs.declared.view.View.{View}
 use Rattle.shr_core.specs.Gained.{Gained, nothing, Adds}
 use Rattle.shr_core.specs.Parts as core
+use Rattle.shr_seats.specs.Weights.{Begins}
 use Rattle.shr_model.specs.Groups.{Hierarchy}
 use Rattle.shr_seats.specs.Shapes.{hierarchy_of}
 use Rattle.shr_core.specs.Seats.{shape_of}
@@ -188,6 +189,10 @@ module _ (x : Shared) (group decl : ℕ) (f : Found) (call : View → View → T
   -- the entries that were made before the call are those of before the command
   pub made_is : o.held.core.traces.made ≡ s.core.traces.made
   made_is = o.holds.answers.gains.adds.made ∙ (append-nil o.loaded.core.traces.made ∙ ap (λ (u : WorkerState). u.core.traces.made) o.online.rest)
+
+  -- what was known of lists before the command was known at the call
+  pub known_before : Begins s.core.traces.known o.held.core.traces.known
+  known_before = subst (λ (l : List core.Known). Begins l o.held.core.traces.known) (ap (λ (u : WorkerState). u.core.traces.known) o.online.rest) o.holds.answers.gains.adds.known
 
   pub found_entry : f.entry ≡ length t.core.turns.known
   found_entry = o.holds.answers.after ∙ ap (λ (l : List PoolEntry). length l) (sym pool_is)

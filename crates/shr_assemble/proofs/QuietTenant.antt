@@ -28,7 +28,7 @@ use Rattle.shr_model.specs.Places.{place_number}
 use Rattle.shr_model.specs.Pool.{is_live_decl}
 use Rattle.shr_model.proofs.GroupsOrder.{IsAtOrAbove-le}
 use Rattle.shr_seats.specs.Views.{Each}
-use Rattle.shr_seats.specs.Weights.{times}
+use Rattle.shr_seats.specs.Weights.{times, Begins}
 use Rattle.shr_seats.proofs.Weighing.{Each-none}
 use Rattle.shr_core.specs.declared.view.View.{View}
 use Rattle.shr_core.specs.Gained.{Gained, nothing, Adds}
@@ -66,9 +66,10 @@ use Rattle.shr_assemble.specs.Charges.{freed_below, added_below}
 use Rattle.shr_assemble.specs.Offlining.{KnowsOnline, MeetsGroups, KnowsUnmade}
 use Rattle.shr_assemble.specs.Worn.{IsWornBy, IsListWorn, IsOneMore, AreBoth}
 use Rattle.shr_assemble.proofs.Bringing.{brings_of}
+use Rattle.shr_assemble.proofs.FirstLists.{each_begins, first_for}
 use Rattle.shr_assemble.proofs.Listed.{contains_among}
 use Rattle.shr_assemble.proofs.Quiet.{step_of, HasDid, IsCalm, calm_walks, still_moves, still_charges, still_pool, still_tree, IsToldOnce}
-use Rattle.shr_assemble.proofs.QuietSteps.{AreTables, tree_is, loading, gaining, does_load, does_gain, knows_online, online_apart, take_whole, on_list, on_list_does, on_list_online, found_entry, found_by, known_is, made_is, hierarchy_is, knows_unmade}
+use Rattle.shr_assemble.proofs.QuietSteps.{AreTables, tree_is, loading, gaining, does_load, does_gain, knows_online, online_apart, take_whole, on_list, on_list_does, on_list_online, found_entry, found_by, known_is, made_is, known_before, hierarchy_is, knows_unmade}
 
 -- an answer with no cache
 abbrev pub without : Reply → Answered
@@ -91,11 +92,11 @@ each_one P a p (suc j) y e = absurd (some-ne-none y (sym e))
 -- one entry was made, which the answer cites
 pub one_entry : (s : Script) (z : Step) (m : Made) (c : At) → z.work.core.made ≡ m ∷ [] → MayMake s z m m.entry
     → ((family : Family) → StandsIn (parents_of s) family m → IsReplyTo (parents_of s) family z.by z.command (id_found z.answered) z.answered.reply)
-    → cited_by z.answered.reply ≡ Some c → IsCited z c → DidEntries s z
+    → cited_by z.answered.reply ≡ Some c → IsCited s z c → DidEntries s z
 one_entry s z m c made may row cites cited = record {
   each = subst (λ (l : List Made). Each (λ (y : Made). MayMake s z y y.entry) l) (sym made) (each_one (λ (y : Made). MayMake s z y y.entry) m may);
   reply = λ family stands. row family (stands 0 m (ap (λ (l : List Made). get_elem? l 0) made));
-  cited = λ d e. subst (IsCited z) (same_Some c d (sym cites ∙ e)) cited;
+  cited = λ d e. subst (IsCited s z) (same_Some c d (sym cites ∙ e)) cited;
 }
 
 -- the answer tells of an entry of the command
@@ -300,14 +301,17 @@ module _ (x : Shared) (tables : AreTables x) (by : Serial) (c : Command) (group 
     pub place_same : place_at (place_number c_at.place) ≡ c_at.place
     place_same = back_is x tables c_at.place place_there
 
-    pub cited_is : (z : Step) → z.before ≡ s → IsAmong entry z.work.core.made
-        → (z.answered.reply ≡ reply.Added c_at → 0 < c_at.place.group → a.old.items ≡ [] → 0 < times (place_number c_at.place) z.work.core.sets) → IsCited z c_at
-    cited_is z start among filled = record {
+    pub cited_is : (z : Step) → z.before ≡ s → z.after.core.traces.known ≡ t.core.traces.known → option_and_then group_named z.command ≡ Some birth → IsAmong entry z.work.core.made
+        → (z.answered.reply ≡ reply.Added c_at → 0 < c_at.place.group → a.old.items ≡ [] → 0 < times (place_number c_at.place) z.work.core.sets) → IsCited x.script z c_at
+    cited_is z start end named among filled = record {
       made = entry;
       among = among;
       place = place_same;
       number = sym a.number;
       later = subst (λ (l : List Made). Each (λ (m : Made). m.place ≡ place_number c_at.place → m.number < length a.old.entries) l) (made_is x group decl f call s t o (entry ∷ []) bits a.gains ∙ ap (λ (u : WorkerState). u.core.traces.made) (sym start)) a.was.later.made;
+      known = each_begins (λ (k : Known). k.place ≡ place_number c_at.place → length k.entries ≤ length a.old.entries) z.before.core.traces.known o.held.core.traces.known
+          (subst (λ (u : WorkerState). Begins u.core.traces.known o.held.core.traces.known) (sym start) (known_before x group decl f call s t o (entry ∷ []) bits a.gains)) a.was.later.known;
+      first = first_for x tables o.calls.called f.id node birth c_at.place a.first z (end ∙ known_is x group decl f call s t o (entry ∷ []) bits a.gains) named there;
       filled = filled;
     }
 
@@ -326,17 +330,17 @@ module _ (x : Shared) (tables : AreTables x) (by : Serial) (c : Command) (group 
     acted_step = step_of by c (held r) s t (on_list group decl f o.holds.answers.gains.words (entry ∷ []) bits)
 
     -- a command that made an entry which freed nothing and added nothing
-    pub acted_did : (IsTold acted_step entry by → MayMake x.script acted_step entry (e a.old)) → ((family : Family) → StandsIn (parents_of x.script) family entry → IsReply (parents_of x.script) family by c (Some f.id) r)
+    pub acted_did : group_named c ≡ Some birth → (IsTold acted_step entry by → MayMake x.script acted_step entry (e a.old)) → ((family : Family) → StandsIn (parents_of x.script) family entry → IsReply (parents_of x.script) family by c (Some f.id) r)
         → cited_by r ≡ Some c_at → (r ≡ reply.Added c_at → ⊥) → ((g : ℕ) → freed_below (parents_of x.script) g entry ≡ 0) → ((g : ℕ) → added_below (parents_of x.script) g (e a.old) ≡ 0)
         → pool_told r ≡ [] → pool_made r ≡ [] → IsCausedBy x.script acted_step r → HasDid x.script by c (held r) s t
-    acted_did may row cites unadded unfreed none_added untold unmade cause =
+    acted_did named may row cites unadded unfreed none_added untold unmade cause =
         let does = on_list_does x group decl f call s t o (entry ∷ []) bits a.gains in
         let z : Step = acted_step in
         record {
           work = z.work;
           does = brings_of does;
           did = record {
-            entries = one_entry x.script z entry c_at refl (may (is_told z entry c_at place_same (sym a.number) cites)) row cites (cited_is z refl (0, refl) (λ added below empty. absurd (unadded added)));
+            entries = one_entry x.script z entry c_at refl (may (is_told z entry c_at place_same (sym a.number) cites)) row cites (cited_is z refl refl named (0, refl) (λ added below empty. absurd (unadded added)));
             lookups = found_lookups x.script z decl f refl is.decl_is refl (found_by x group decl f call s t o (entry ∷ []) bits a.gains z refl (0, refl));
             walks = calm_walks x.script z is.calm (record { walks = refl; seen = refl; maps = refl; cleared = refl });
             charges = still_charges x.script z (record {

@@ -55,8 +55,8 @@ module _ (s : Script) (r : Report) (workers : List (List Step)) (run : IsRun s r
   rise worker k later place n m lt first second =
       let a = replies s r workers run cited_by worker k (at place n) first in
       let b = replies s r workers run cited_by worker later (at place m) second in
-      let c : IsCited a.step (at place n) = (run.steps.each worker k a.step a.at).did.entries.cited (at place n) a.reply in
-      let d : IsCited b.step (at place m) = (run.steps.each worker later b.step b.at).did.entries.cited (at place m) b.reply in
+      let c : IsCited s a.step (at place n) = (run.steps.each worker k a.step a.at).did.entries.cited (at place n) a.reply in
+      let d : IsCited s b.step (at place m) = (run.steps.each worker later b.step b.at).did.entries.cited (at place m) b.reply in
       let same : c.made.place ≡ d.made.place = sym (back c.made.place) ∙ (ap place_number (c.place ∙ sym d.place) ∙ back d.made.place) in
       let done : IsAmong c.made a.step.after.core.traces.made = subst (λ l. IsAmong c.made l) (sym (work_of s r workers run worker k a.step a.at).core.made) (among_right a.step.before.core.traces.made a.step.work.core.made c.made c.among) in
       let before : IsAmong c.made b.step.before.core.traces.made = among_begins a.step.after.core.traces.made b.step.before.core.traces.made c.made (grows s r workers run worker k later a.step b.step lt a.at b.at).made done in

@@ -156,13 +156,13 @@ module _ (s : Script) (r : Report) (workers : List (List Step)) (run : IsRun s r
   later worker n w at_w k entry place lt cites =
       let of = walk_of s r workers run worker n w at_w in
       let a = replies s r workers run cited_by worker k (at place entry) cites in
-      let c : IsCited a.step (at place entry) = (run.steps.each worker k a.step a.at).did.entries.cited (at place entry) a.reply in
+      let c : IsCited s a.step (at place entry) = (run.steps.each worker k a.step a.at).did.entries.cited (at place entry) a.reply in
       let number : w.by.command ≡ of.k = ap (λ (b : Serial). b.command) (of.did.by ∙ of.is.by) in
       let done : IsAmong c.made a.step.after.core.traces.made = subst (λ l. IsAmong c.made l) (sym (work_of s r workers run worker k a.step a.at).core.made) (among_right a.step.before.core.traces.made a.step.work.core.made c.made c.among) in
       let before : IsAmong c.made of.step.before.core.traces.made = among_begins a.step.after.core.traces.made of.step.before.core.traces.made c.made (grows s r workers run worker k of.k a.step of.step (omega (arith, lt, number)) a.at of.at).made done in
       all_versions w.attempts.items (λ j b at_b same d e. count_after of j b d at_b same e a.step c before)
     where
-      count_after : (of : WalkOf s r workers run worker n w) (j : ℕ) (b : Attempt) (d : Count) → slice_get w.attempts.items j ≡ Some b → is_place place (place_in w b.id) ≡ true → IsAmong d (counts_of b.outcome) → (x : Step) (c : IsCited x (at place entry)) → IsAmong c.made of.step.before.core.traces.made → entry < d.version
+      count_after : (of : WalkOf s r workers run worker n w) (j : ℕ) (b : Attempt) (d : Count) → slice_get w.attempts.items j ≡ Some b → is_place place (place_in w b.id) ≡ true → IsAmong d (counts_of b.outcome) → (x : Step) (c : IsCited s x (at place entry)) → IsAmong c.made of.step.before.core.traces.made → entry < d.version
       count_after of j b d at_b same e x c before =
           let f = count_made s r workers run worker n w of j b d at_b e in
           let fresh = (of.is.did.walks.fresh.each f.0 (record { place = place_number (place_in w b.id); len = d.len; version = d.version }) f.1).made before.0 c.made before.1 in
@@ -222,7 +222,7 @@ module _ (s : Script) (r : Report) (workers : List (List Step)) (run : IsRun s r
       let of = walk_of s r workers run worker n w at_w in
       let a = replies s r workers run (λ x. Some x) worker k (reply.Added (at place fills.entry)) (ap (option_and_then (λ (x : Reply). Some x)) fills.added) in
       let answered : a.step.answered.reply ≡ reply.Added (at place fills.entry) = same_Some a.step.answered.reply (reply.Added (at place fills.entry)) a.reply in
-      let c : IsCited a.step (at place fills.entry) = (run.steps.each worker k a.step a.at).did.entries.cited (at place fills.entry) (ap cited_by answered) in
+      let c : IsCited s a.step (at place fills.entry) = (run.steps.each worker k a.step a.at).did.entries.cited (at place fills.entry) (ap cited_by answered) in
       let stands = made_stands s r workers run worker k a.step a.at c.among.0 c.made c.among.1 in
       let there : IsThere s place = subst (IsThere s) c.place stands.0 in
       let number : c.made.place ≡ place_number place = sym (back c.made.place) ∙ ap place_number c.place in

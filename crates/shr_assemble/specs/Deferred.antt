@@ -1,5 +1,6 @@
 -- What a command took from the deferred words, and gave to them.
-use Rattle.std.specs.Prelude.{◌≡◌, ◌<◌, Some, AllPairs, All}
+use Rattle.std.specs.Prelude.{◌≡◌, ℕ, ◌<◌, slice_get, Some, AllPairs, All}
+use Rattle.shr_base.specs.declared.journals.TreeEntry.TheVariants.{Done}
 use Rattle.shr_base.specs.declared.places.Place.{Place}
 use Rattle.shr_base.specs.declared.scripts.Command.TheVariants.{Offline}
 use Rattle.shr_base.specs.declared.scripts.Script.{Script}
@@ -12,13 +13,15 @@ use Rattle.shr_report.specs.Deferred.{HasCarried}
 use Rattle.shr_report.specs.WellFormed.{IsBefore}
 use Rattle.shr_assemble.specs.Steps.{Step}
 
--- a carry is of the command, an `offline` of its group that was answered so
+-- A carry is of the command, an `offline` of its group that was answered so. The worker didn't know before it that the group
+-- was done.
 pub record DidCarry (s : Script) (x : Step) (c : Carry) : Type 0 where
   pub by : c.by ≡ x.by
   pub there : IsThere s c.place
   pub command : x.command ≡ Some (Offline c.place.group)
   pub answer : HasCarried x.answered.reply
   pub some : 0 < c.amount
+  pub undone : (n : ℕ) → slice_get x.before.tree.known n ≡ Some (Done c.place.group) → ⊥
 
 -- what a command took of the deferred words and gave to them
 pub record DidMoves (s : Script) (x : Step) : Type 0 where

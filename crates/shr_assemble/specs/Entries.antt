@@ -1,7 +1,8 @@
 -- Which entries a command makes in the journals of the lists, and which of them its reply cites.
-use Rattle.std.specs.Prelude.{◌≡◌, ◌⊎◌, ℕ, ◌+◌, ◌<◌, ◌≤◌, List, [], ◌∷◌, length, slice_get, Option, Some, None, Contains}
+use Rattle.std.specs.Prelude.{◌≡◌, ◌⊎◌, ℕ, ◌+◌, ◌<◌, ◌≤◌, List, [], ◌∷◌, length, slice_get, Option, Some, None, option_and_then, Contains}
 use Rattle.shr_base.specs.declared.places.Serial.{Serial}
 use Rattle.shr_base.specs.declared.places.At.{At}
+use Rattle.shr_base.specs.declared.places.Place.{Place}
 use Rattle.shr_base.specs.declared.journals.Entry.{Entry}
 use Rattle.shr_base.specs.declared.journals.Entry.TheVariants.{Add, Look, Drop, Pin, Scan, MovedIn, Closed, Drained}
 use Rattle.shr_base.specs.declared.journals.TreeEntry.TheVariants.{Begin}
@@ -13,13 +14,16 @@ use Rattle.shr_base.specs.declared.scripts.Command.TheVariants as command
 use Rattle.shr_base.specs.declared.scripts.Script.{Script}
 use Rattle.shr_base.specs.declared.walks.Isolation.{Isolation}
 use Rattle.shr_base.specs.declared.walks.WalkRecord.{WalkRecord}
+use Rattle.shr_model.specs.Commands.{group_named}
 use Rattle.shr_model.specs.Groups.{IsAtOrAbove}
 use Rattle.shr_model.specs.Families.{Family, items_at}
+use Rattle.shr_model.specs.Places.{place_number, at_group}
 use Rattle.shr_model.specs.Walks.{passes_at}
 use Rattle.shr_seats.specs.Views.{Each}
 use Rattle.shr_seats.specs.Weights.{times}
 use Rattle.shr_core.specs.Parts.{Made, Known}
 use Rattle.shr_core.specs.Layout.{id_of, group_of, place_at, beside}
+use Rattle.shr_node.specs.Gains.{KnowsClosed}
 use Rattle.shr_report.specs.Parts.{parents_of, first_isolation, cited_by, id_found, at}
 use Rattle.shr_report.specs.Isolated.{isolations_told}
 use Rattle.shr_report.specs.ReplyTable.{IsReply}
@@ -99,14 +103,25 @@ MayMake s x m (MovedIn child objects) = IsMoving s x m child
 MayMake s x m Closed = IsClosing s x m (group_of m.place)
 MayMake s x m (Drained by objects) = IsDrained x m by
 
--- The entry that a reply cites was made by the command, after all that the worker had made at the place. Where an Added
--- found an empty list below the root, the place's bit was set.
-pub record IsCited (x : Step) (c : At) : Type 0 where
+-- the list of a place is the first one, from the group up that the command names, that the worker doesn't know to be closed at
+-- the command's end
+pub record IsFirstFor (s : Script) (x : Step) (place : Place) : Type 0 where
+  pub birth : ℕ
+  pub named : option_and_then group_named x.command ≡ Some birth
+  pub there : birth < length (parents_of s)
+  pub above : IsAtOrAbove (parents_of s) place.group birth
+  pub below : (group : ℕ) → IsAtOrAbove (parents_of s) group birth → place.group < group → KnowsClosed x.after.core (place_number (at_group place group))
+
+-- The entry that a reply cites was made by the command, after all that the worker had made and known at the place, on the first
+-- open list. If an Added found an empty list below the root, the place's bit was set.
+pub record IsCited (s : Script) (x : Step) (c : At) : Type 0 where
   pub made : Made
   pub among : IsAmong made x.work.core.made
   pub place : place_at made.place ≡ c.place
   pub number : made.number ≡ c.entry
   pub later : Each (λ (m : Made). m.place ≡ made.place → m.number < made.number) x.before.core.traces.made
+  pub known : Each (λ (k : Known). k.place ≡ made.place → length k.entries ≤ made.number) x.before.core.traces.known
+  pub first : IsFirstFor s x c.place
   pub filled : x.answered.reply ≡ reply.Added c → 0 < c.place.group → made.items ≡ [] → 0 < times made.place x.work.core.sets
 
 -- The answer to a command is one that it may have. That to a sweep is of a sweep, with no cache that was found.
@@ -120,4 +135,4 @@ pub record DidEntries (s : Script) (x : Step) : Type 0 where
   -- in each family of journals in which these entries stand, the answer is one that the command may have
   pub reply : (family : Family) → Each (StandsIn (parents_of s) family) x.work.core.made
       → IsReplyTo (parents_of s) family x.by x.command (id_found x.answered) x.answered.reply
-  pub cited : (c : At) → cited_by x.answered.reply ≡ Some c → IsCited x c
+  pub cited : (c : At) → cited_by x.answered.reply ≡ Some c → IsCited s x c

@@ -1,6 +1,7 @@
 -- The walks of a command.
-use Rattle.std.specs.Prelude.{◌≡◌, ◌≢◌, ℕ, ◌+◌, ◌<◌, ◌≤◌, true, false, ◌==◌, List, [], length, map, flat_map, count_by, slice_get, Option, Some, None, AllPairs}
+use Rattle.std.specs.Prelude.{◌≡◌, ◌≢◌, ℕ, ◌+◌, ◌<◌, ◌≤◌, true, false, ◌==◌, List, [], length, map, filter, flat_map, count_by, slice_get, Option, Some, None, is_some, AllPairs}
 use Rattle.std.specs.List.{AllByRecursion, range_with_len, list_any}
+use Rattle.shr_base.specs.declared.journals.UseStep.{UseStep}
 use Rattle.shr_base.specs.declared.replies.Reply.TheVariants as reply
 use Rattle.shr_base.specs.declared.scripts.Command.{Command}
 use Rattle.shr_base.specs.declared.scripts.Command.TheVariants.{Put}
@@ -28,6 +29,7 @@ use Rattle.shr_walk.specs.Fresh.{AreFresh}
 use Rattle.shr_report.specs.Parts.{parents_of, limit_of, first_isolation, EachAttempt}
 use Rattle.shr_report.specs.LawfulWalk.{IsBegun, IsLastOfCut, IsPlaced}
 use Rattle.shr_report.specs.Swept.{IsSwept}
+use Rattle.shr_report.specs.Tries.{refusals_of, was_charged, outcomes_in}
 use Rattle.shr_report.specs.Cuts.{IsWant}
 use Rattle.shr_report.specs.WalksLawful.{over_at, MayMake, IsToldBy}
 use Rattle.shr_report.specs.WellFormed.{IsWalkWell}
@@ -82,6 +84,8 @@ pub record DidRounds (s : Script) (x : Step) (group : ℕ) (rounds : List ℕ) :
   pub above : AllByRecursion (λ h. IsAtOrAbove (parents_of s) h group) rounds
   pub refusals : (h : ℕ) → count_by (λ g. g == h) rounds + over_at h x.answered.reply ≡ count_by (is_refused (limit_of s h)) (ops_at h x.work.ops)
   pub all : (g operation usage : ℕ) → x.answered.reply ≡ reply.Over g operation usage → length rounds ≡ 13
+  -- and its ups in each group are those of the tries that came so far up
+  pub tried : (h : ℕ) → map (is_refused (limit_of s h)) (filter (λ (o : UseStep). o.up) (ops_at h x.work.ops)) ≡ outcomes_in (parents_of s) group (refusals_of rounds x.answered.reply) (was_charged (is_some x.answered.found) x.answered.reply) h
 
 -- only a `put` makes rounds
 abbrev pub DidRoundsOf : Script → Step → List ℕ → Command → Type 0

@@ -1,5 +1,5 @@
 -- The second whole report is faithful, and for each sentence of that a report of a run, changed in one place, isn't.
-use Rattle.std.specs.Prelude.{◌≡◌, ℕ, zero, suc, ◌<◌, ◌≤◌, ◌==◌, true, false, cond, if◌then◌else◌, List, [], ◌∷◌, Some, refl, slice_get}
+use Rattle.std.specs.Prelude.{◌≡◌, ℕ, zero, suc, ◌<◌, ◌≤◌, ◌≢◌, ◌==◌, true, false, cond, if◌then◌else◌, List, [], ◌∷◌, Some, refl, slice_get}
 use Rattle.std.proofs.Common.{arith, sym, ap, subst, ◌∙◌, ⊎_elim}
 use Rattle.shr_base.specs.declared.journals.PoolEntry.TheVariants.{Registered, Unregistered, Idle}
 use Rattle.shr_base.specs.declared.journals.TreeEntry.TheVariants.{Begin, Done}
@@ -10,9 +10,13 @@ use Rattle.shr_base.specs.declared.scripts.Command.TheVariants as command
 use Rattle.shr_model.specs.Groups.{path_within}
 use Rattle.shr_model.specs.Pool.{last_number, number_from, phase_of}
 use Rattle.shr_model.proofs.Members.{Has_from_Contains}
-use Rattle.shr_report.specs.Parts.{serial_of, lookups_at}
+use Rattle.std.specs.Option.{IsSomeAnd}
+use Rattle.shr_report.specs.declared.report.Report.{Report}
+use Rattle.shr_report.specs.Causes.{is_done_by}
+use Rattle.shr_report.specs.Parts.{serial_of, reply_at, lookups_at}
 use Rattle.shr_report.specs.Freshness.{of_answer, shows_offline}
 use Rattle.shr_report.specs.Faithful.{pool_reached, tree_reached, tree_made, AreNotAbove, IsOverOnPath, IsFaithful}
+use Rattle.shr_report.proofs.ClimbsValues.{are_climbing}
 use Rattle.shr_report.proofs.CutsValues.{are_told}
 use Rattle.shr_report.proofs.EntryOrderValues as entries
 use Rattle.shr_report.proofs.LookupOrderValues.{none_made, in_order}
@@ -22,6 +26,7 @@ use Rattle.shr_report.proofs.SecondReport as second
 use Rattle.shr_report.proofs.SecondReport.{kept, script, report, place, uses}
 use Rattle.shr_report.proofs.NotLawful.{with_answers}
 use Rattle.shr_report.proofs.OverReport as over
+use Rattle.shr_report.proofs.TriesValues.{are_tries}
 use Rattle.shr_report.proofs.ThirdReport as third
 
 -- the second report
@@ -78,6 +83,9 @@ faithful = record {
   lookups = in_order;
   entries = entries.in_order;
   cuts = are_told;
+  handed = tt;
+  climbs = are_climbing;
+  tries = are_tries;
 }
 
 -- reports that are not
@@ -137,3 +145,14 @@ root_in_the_way h = let e : 0 < 0 = h.below_root (serial_of 0 0) (command.Offlin
 -- a carry of nothing
 carried_nothing : IsFaithful third.script (record third.report { workers = kept (record { answers = kept []; walks = kept []; carries = kept (record third.carry { amount = 0 } ∷ []); plain = kept []; isolations = kept [] } ∷ []) }) → ⊥
 carried_nothing h = let e : 0 < 0 = h.carried.0 in absurd (omega (arith, e))
+
+-- a worker's `offline` was done and carried nothing, and its next one, which found the group done by the first, carried the work
+abbrev carried_late : Report
+carried_late = record third.report { tree = kept (Begin 2 ∷ Done 2 ∷ []); workers = kept (record { answers = kept (second.unheld (reply.OfflineDone 1 0 0) ∷ second.unheld (reply.AlreadyDone 1) ∷ []); walks = kept []; carries = kept (record third.carry { by = serial_of 0 1 } ∷ []); plain = kept []; isolations = kept [] } ∷ []) }
+
+none_elsewhere : (v k : ℕ) → v ≢ 0 → IsSomeAnd (reply_at carried_late (serial_of v k)) (λ x. is_done_by 1 x ≡ true) → ⊥
+none_elsewhere zero k apart cited = apart refl
+none_elsewhere (suc v) k apart cited = cited
+
+handed_late : IsFaithful third.script carried_late → ⊥
+handed_late h = let e = h.handed.0 1 refl in none_elsewhere e.by.worker e.by.command e.apart e.cited

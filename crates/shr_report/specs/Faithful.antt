@@ -1,10 +1,11 @@
 -- When a report is faithful: what its workers told stands in the order of their commands, and nothing is told twice. The
 -- laws of a lawful report say nothing of it.
-use Rattle.std.specs.Prelude.{◌≡◌, ℕ, ◌+◌, ◌<◌, ◌≤◌, List, [], ◌∷◌, ◌++◌, length, map, slice_get, Some, true, ⊤}
+use Rattle.std.specs.Prelude.{◌≡◌, ◌≢◌, ℕ, ◌+◌, ◌<◌, ◌≤◌, List, [], ◌∷◌, ◌++◌, length, map, slice_get, Some, true, ⊤}
 use Rattle.std.specs.List.{AllByRecursion}
 use Rattle.std.specs.Option.{IsSomeAnd}
 use Rattle.shr_base.specs.declared.journals.PoolEntry.{PoolEntry}
 use Rattle.shr_base.specs.declared.journals.UseStep.{UseStep}
+use Rattle.shr_base.specs.declared.places.Serial.{Serial}
 use Rattle.shr_base.specs.declared.replies.Answered.{Answered}
 use Rattle.shr_base.specs.declared.replies.Reply.{Reply}
 use Rattle.shr_base.specs.declared.replies.Reply.TheVariants as reply
@@ -20,10 +21,12 @@ use Rattle.shr_model.specs.Pool.{last_number}
 use Rattle.shr_report.specs.declared.report.Report.{Report}
 use Rattle.shr_report.specs.Parts.{parents_of, decls_on, serial_of, reply_at, lookups_at, all_carries, EachAnswer, EachWalk}
 use Rattle.shr_report.specs.Freshness.{pool_seen, pool_made, of_answer, shows_offline}
-use Rattle.shr_report.specs.Causes.{IsMadeBy}
+use Rattle.shr_report.specs.Causes.{IsMadeBy, is_done_by}
+use Rattle.shr_report.specs.Climbs.{AreClimbing}
 use Rattle.shr_report.specs.Cuts.{AreCutsTold}
 use Rattle.shr_report.specs.EntryOrder.{AreEntriesInOrder}
 use Rattle.shr_report.specs.LookupOrder.{made_by, AreLookupsInOrder}
+use Rattle.shr_report.specs.Tries.{AreAllTries}
 
 -- how many entries of the journal of registrations an answer shows to be there: those that it
 -- speaks of, and the one that it made
@@ -55,6 +58,12 @@ IsOverOnPath s c x = ⊤
 abbrev pub IsRefused : WalkAnswer → Type 0
 IsRefused (walk.Offline entry) = ⊤
 IsRefused a = ⊥
+
+-- the Done with this number was made by an answer of another worker
+pub record IsDoneElsewhere (r : Report) (worker entry : ℕ) : Type 0 where
+  pub by : Serial
+  pub apart : by.worker ≢ worker
+  pub cited : IsSomeAnd (reply_at r by) (λ x. is_done_by entry x ≡ true)
 
 -- each worker's answers stand in the order of its commands, and what was made was made once
 pub record IsFaithful (s : Script) (r : Report) : Type 0 where
@@ -88,3 +97,9 @@ pub record IsFaithful (s : Script) (r : Report) : Type 0 where
   pub entries : AreEntriesInOrder r
   -- a walk that memory cut short ended its command
   pub cuts : AreCutsTold s r
+  -- an `offline` that found its group done carried something only if another worker had done it
+  pub handed : AllByRecursion (λ (c : Carry). (entry : ℕ) → reply_at r c.by ≡ Some (reply.AlreadyDone entry) → IsDoneElsewhere r c.by.worker entry) (all_carries r)
+  -- the lists on which a worker acts for one group go up only
+  pub climbs : AreClimbing s r
+  -- a put's charges are those of its tries, which its rounds follow
+  pub tries : AreAllTries s r

@@ -29,6 +29,8 @@ pub mod Swept
 pub mod CausesLawful
 pub mod Lawful
 pub mod Cuts
+pub mod Climbs
+pub mod Tries
 pub mod LookupOrder
 pub mod EntryOrder
 pub mod OneOrder

@@ -1,0 +1,40 @@
+-- A put's charges are those of its tries, of a run.
+use Rattle.std.proofs.Common.{◌≡◌, ℕ, List, map, sym, ap, subst, ◌∙◌}
+use Rattle.std.specs.Prelude.{filter}
+use Rattle.shr_base.specs.declared.journals.UseStep.{UseStep}
+use Rattle.shr_base.specs.declared.places.Serial.{Serial}
+use Rattle.shr_base.specs.declared.replies.Answered.{Answered}
+use Rattle.shr_base.specs.declared.scripts.Command.{Command}
+use Rattle.shr_base.specs.declared.scripts.Command.TheVariants.{Put}
+use Rattle.shr_base.specs.declared.scripts.Script.{Script}
+use Rattle.shr_base.specs.declared.walks.WalkRecord.{WalkRecord}
+use Rattle.shr_model.specs.Charges.{ops_by, is_refused}
+use Rattle.shr_model.specs.Commands.{jobs_of}
+use Rattle.shr_model.specs.Walks.{job_of}
+use Rattle.shr_report.specs.declared.report.Report.{Report}
+use Rattle.shr_report.specs.Parts.{parents_of, limit_of, uses_at}
+use Rattle.shr_report.specs.Tries.{AreTriesOf, AreAllTries}
+use Rattle.shr_report.specs.WalksLawful.{MayMake}
+use Rattle.shr_assemble.specs.Charges.{ops_at}
+use Rattle.shr_assemble.specs.Steps.{Step}
+use Rattle.shr_assemble.specs.Runs.{IsRun}
+use Rattle.shr_assemble.specs.Walks.{DidJobs, AreWalksFor}
+use Rattle.shr_assemble.proofs.Making.{Stepped, stepped}
+use Rattle.shr_assemble.proofs.Operations.{ops_are}
+use Rattle.shr_assemble.proofs.WalksLaw.{walks_are}
+
+module _ (s : Script) (r : Report) (workers : List (List Step)) (run : IsRun s r workers) where
+  ops : (by : Serial) (c : Command) (a : Answered) (t : Stepped s r workers run by c a) (g : ℕ) → ops_by by (uses_at r g) ≡ ops_at g t.step.work.ops
+  ops by c a t g = ap (λ (b : Serial). ops_by b (uses_at r g)) (sym t.own) ∙ ops_are s r workers run by.worker by.command t.step g t.at
+
+  of_command : (by : Serial) (c : Command) (a : Answered) (t : Stepped s r workers run by c a) → DidJobs s t.step c → AreTriesOf s r by c t.step.answered
+  of_command by (Put group node decl key value) a t d = record {
+    rounds = d.rounds;
+    made = subst (λ (l : List WalkRecord). MayMake t.step.answered.reply (jobs_of (parents_of s) s.nodes d.rounds (Put group node decl key value)) (map job_of l)) (sym (walks_are s r workers run by.worker by.command t.step t.at)) d.made;
+    each = λ g. ap (λ (os : List UseStep). map (is_refused (limit_of s g)) (filter (λ (o : UseStep). o.up) os)) (ops by (Put group node decl key value) a t g) ∙ d.refused.tried g;
+  }
+  of_command by c a t d = tt
+
+  pub tries : AreAllTries s r
+  tries by c a command answer = let t = stepped s r workers run by c a command answer in
+      subst (λ (b : Answered). AreTriesOf s r by c b) t.answered (of_command by c a t (subst (AreWalksFor s t.step) t.command t.did.walks.asked))

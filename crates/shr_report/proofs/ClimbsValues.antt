@@ -1,0 +1,43 @@
+-- The lists on which the second whole report's worker acts go up only, and those of a report of a run, changed in one place,
+-- don't.
+use Rattle.std.specs.Prelude.{◌≡◌, ℕ, zero, suc, [], ◌∷◌, codes, refl}
+use Rattle.std.proofs.Common.{arith, ap, sym, subst, ⊎_elim}
+use Rattle.shr_base.specs.declared.places.At.{At}
+use Rattle.shr_base.specs.declared.places.Place.{Place}
+use Rattle.shr_base.specs.declared.replies.Reply.TheVariants as reply
+use Rattle.shr_base.specs.declared.scripts.Command.TheVariants.{Get}
+use Rattle.shr_model.specs.Groups.{path_within, IsAtOrAbove}
+use Rattle.shr_model.proofs.Members.{Has_from_Contains}
+use Rattle.shr_report.specs.Climbs.{ActsOn, AreClimbing}
+use Rattle.shr_report.specs.Parts.{parents_of, at}
+use Rattle.shr_report.proofs.OfflineReport as offline
+use Rattle.shr_report.proofs.SecondCases.{held_same}
+use Rattle.shr_report.proofs.SecondReport.{kept, script, report, place, part, held}
+
+-- the second report
+
+-- its commands act on the one list
+own_place : (worker k birth : ℕ) (p : Place) → ActsOn script report worker k birth p → p ≡ place
+own_place zero zero birth p h = sym (ap (λ (a : At). a.place) (held_same (at place 0) (at p h.entry) h.cited))
+own_place zero (suc zero) birth p h = sym (ap (λ (a : At). a.place) (held_same (at place 1) (at p h.entry) h.cited))
+own_place zero (suc (suc zero)) birth p h = absurd (let e = h.cited in cc)
+own_place zero (suc (suc (suc zero))) birth p h = absurd (let e = h.cited in cc)
+own_place zero (suc (suc (suc (suc k)))) birth p h = absurd (let e = h.cited in cc)
+own_place (suc worker) k birth p h = absurd (let e = h.cited in cc)
+
+one_group : IsAtOrAbove (parents_of script) 1 1
+unfolding path_within
+one_group = (0, omega arith, refl)
+
+pub are_climbing : AreClimbing script report
+are_climbing worker k later birth p q lt first second ids nodes = subst (λ (a : Place). IsAtOrAbove (parents_of script) q.group a.group) (sym (own_place worker k birth p first))
+    (subst (λ (b : Place). IsAtOrAbove (parents_of script) b.group 1) (sym (own_place worker later birth q second)) one_group)
+
+-- a report that doesn't
+
+-- a worker's first get found the child's list closed and acted on the parent's, and its second acted on the child's
+goes_down : AreClimbing (record offline.script { workers = kept (record { commands = kept (Get 2 0 0 (codes "x") ∷ Get 2 0 0 (codes "x") ∷ []) } ∷ []) })
+    (record offline.report { workers = kept (record part { answers = kept (held (reply.Miss (at (offline.place 0 0 1) 1)) 0 ∷ held (reply.Miss (at (offline.place 0 0 2) 0)) 1 ∷ []) } ∷ []) }) → ⊥
+unfolding path_within
+goes_down h = ⊎_elim (λ e. absurd (omega (arith, e))) (λ more. ⊎_elim (λ e. absurd (omega (arith, e))) (λ none. none) more)
+    (Has_from_Contains (1 ∷ 0 ∷ []) 2 (h 0 0 1 2 (offline.place 0 0 1) (offline.place 0 0 2) (omega arith) (record { named = refl; entry = 1; cited = refl }) (record { named = refl; entry = 0; cited = refl }) refl refl))
