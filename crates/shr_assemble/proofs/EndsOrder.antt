@@ -150,4 +150,5 @@ module _ (x : Shared) (did : DidEach x) (logs : List WorkerLog) (e : Ends) (ends
     line = ends.core.line;
     events = subst (λ (n : ℕ). AreEvents x.script.ids n ends.core.line) ends.from_start.first (subst (λ (n : ℕ). AreEvents n x.core.setting.first_lookup ends.core.line) ends.shared.ids ends.core.events);
     parts = λ worker k y at. let c = chain_of worker k y at in subst (Begins y.after.core.did) (sym (own_part worker c.0 c.1) ∙ ends.core.parts (1 + worker)) c.2;
+    own = ends.core.own;
   }

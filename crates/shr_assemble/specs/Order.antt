@@ -3,7 +3,7 @@ use Rattle.std.specs.Prelude.{◌≡◌, ℕ, ◌+◌, List, slice_get, Some}
 use Rattle.shr_base.specs.declared.scripts.Script.{Script}
 use Rattle.shr_seats.specs.Lines.{Deed, part}
 use Rattle.shr_seats.specs.Weights.{Begins}
-use Rattle.shr_core.specs.Order.{AreEvents}
+use Rattle.shr_core.specs.Order.{AreEvents, AreOwn}
 use Rattle.shr_core.specs.Parts.{Event}
 use Rattle.shr_assemble.specs.Steps.{Step, steps_of}
 
@@ -14,3 +14,5 @@ pub record IsInLine (s : Script) (workers : List (List Step)) : Type 0 where
   pub events : AreEvents s.ids 0 line
   -- up to the end of each of its steps
   pub parts : (worker k : ℕ) (x : Step) → slice_get (steps_of workers worker) k ≡ Some x → Begins x.after.core.did (part (1 + worker) line)
+  -- a reference was given back only by the seat that took it
+  pub own : AreOwn line
