@@ -133,10 +133,10 @@ second_for_the_first h = let none : ◌≡◌ {A = Option PlaceEnd} (Some (list 
 one_more : (r : Replayed) → IsTakenOut 2 0 [] (r ∷ []) → ⊥
 one_more r h = let many : ◌≡◌ {A = ℕ} 1 0 = h.many in absurd (omega arith)
 
-unprinted_tells : Tells (0 ∷ []) (journals_in twice) (at 0 0 0) None
+unprinted_tells : Tells (0 ∷ []) twice (at 0 0 0) None
 unprinted_tells = refl
 
-printed_tells : Tells (0 ∷ []) (journals_in (with_entry ∷ [])) (at 0 0 1) None → ⊥
+printed_tells : Tells (0 ∷ []) (with_entry ∷ []) (at 0 0 1) None → ⊥
 printed_tells h = cc
 
 wrong_lens : (r : Replayed) → r.lens.items ≡ [] → AreReplays (0 ∷ []) (with_entry ∷ []) (r ∷ []) → ⊥

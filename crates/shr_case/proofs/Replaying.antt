@@ -16,11 +16,11 @@ use Rattle.shr_model.proofs.GroupsLaws.{child_takes}
 use Rattle.shr_report.specs.Parts.{journal_of}
 use Rattle.shr_report.specs.WellFormed.{IsPlaceBefore, IsPlaceUpTo}
 use Rattle.shr_replay.specs.declared.journal.Replayed.{Replayed}
-use Rattle.shr_replay.specs.Groups.{AreJournals, AreReplayed, IsReplayedAt, entries_in}
+use Rattle.shr_replay.specs.Groups.{AreJournals, ArePrinted, AreReplayed, IsReplayedAt, entries_in, items_in}
 use Rattle.shr_replay.specs.Journals.{IsReplayed}
 use Rattle.shr_replay.specs.Lists.{given_by, took_of}
 use Rattle.shr_case.specs.Places.{AreInOrder, IsFirst}
-use Rattle.shr_case.specs.Lists.{IsReplayOfList, journals_in}
+use Rattle.shr_case.specs.Lists.{IsReplayOfList, items_printed_in, journals_in}
 use Rattle.shr_case.specs.Replaying.{AreFirsts, IsLeft, IsNewAt, IsReady, IsTakenOut, on_node}
 use Rattle.shr_case.proofs.Firsts.{first_found}
 
@@ -33,18 +33,22 @@ journal_entries (Some end) = refl
 pub journals_there : (ends : List PlaceEnd) (place : Place) (count : ℕ) (firsts : List ℕ) → AreFirsts ends place count firsts → AreJournals ends firsts count (journals_in ends) place
 journals_there ends place count firsts f group lt = ap journal_of (sym (f.each group lt)) ∙ journal_entries (slice_get ends (slice_index firsts group))
 
+-- and so are the objects that are printed
+pub printed_there : (ends : List PlaceEnd) (place : Place) (count : ℕ) (firsts : List ℕ) → AreFirsts ends place count firsts → ArePrinted ends firsts count (items_printed_in ends) place
+printed_there ends place count firsts f group lt = ap items_in (sym (f.each group lt))
+
 -- a group's replay among those of all groups
-from_told : (parents : List ℕ) (ends : List PlaceEnd) (place : Place) (node : List Replayed) → AreReplayed parents (journals_in ends) place node → (group : ℕ) (r : Replayed) → group < length parents
-    → slice_get node (length parents - 1 - group) ≡ Some r → IsReplayedAt parents (journals_in ends) (at_group place group) r
+from_told : (parents : List ℕ) (ends : List PlaceEnd) (place : Place) (node : List Replayed) → AreReplayed parents (journals_in ends) (items_printed_in ends) place node → (group : ℕ) (r : Replayed) → group < length parents
+    → slice_get node (length parents - 1 - group) ≡ Some r → IsReplayedAt parents (journals_in ends) (items_printed_in ends) (at_group place group) r
 from_told parents ends place node told group r lt at = told.each (length parents - 1 - group) group r at (omega arith)
 
 -- at a new id and node
-pub ready_new : (parents : List ℕ) (ends : List PlaceEnd) (k : ℕ) (x : PlaceEnd) (node : List Replayed) → AreReplayed parents (journals_in ends) (get_or ends k x).place node → IsReady parents ends k node
+pub ready_new : (parents : List ℕ) (ends : List PlaceEnd) (k : ℕ) (x : PlaceEnd) (node : List Replayed) → AreReplayed parents (journals_in ends) (items_printed_in ends) (get_or ends k x).place node → IsReady parents ends k node
 ready_new parents ends k x node told = record {
   many = told.count;
-  own = λ end r at first lt here. subst (λ (e : PlaceEnd). IsReplayedAt parents (journals_in ends) (at_group e.place end.place.group) r) (get_or_from_slice_get ends k end x at)
+  own = λ end r at first lt here. subst (λ (e : PlaceEnd). IsReplayedAt parents (journals_in ends) (items_printed_in ends) (at_group e.place end.place.group) r) (get_or_from_slice_get ends k end x at)
       (from_told parents ends (get_or ends k x).place node told end.place.group r lt here);
-  behind = λ end at group r above lt here. subst (λ (e : PlaceEnd). IsReplayedAt parents (journals_in ends) (at_group e.place group) r) (get_or_from_slice_get ends k end x at)
+  behind = λ end at group r above lt here. subst (λ (e : PlaceEnd). IsReplayedAt parents (journals_in ends) (items_printed_in ends) (at_group e.place group) r) (get_or_from_slice_get ends k end x at)
       (from_told parents ends (get_or ends k x).place node told group r lt here);
 }
 
@@ -79,11 +83,11 @@ pub ready_old : (parents : List ℕ) (ends : List PlaceEnd) (k : ℕ) (node : Li
 ready_old parents ends k node order lt left not_new = record {
   many = left.many not_new.0;
   own = λ end r at first below here. let f = facts end at in
-      subst (λ (p : Place). IsReplayedAt parents (journals_in ends) p r) (at_other (before end).place end.place end.place.group f.ids f.nodes)
+      subst (λ (p : Place). IsReplayedAt parents (journals_in ends) (items_printed_in ends) p r) (at_other (before end).place end.place end.place.group f.ids f.nodes)
       (left.behind (before end) not_new.0 (before_at end) end.place.group r
       (group_other (before end).place end.place f.ids f.nodes f.order (first (k - 1) (before end) (let some = not_new.0 in omega arith) (before_at end))) below here);
   behind = λ end at group r above below here. let f = facts end at in
-      subst (λ (p : Place). IsReplayedAt parents (journals_in ends) p r) (at_other (before end).place end.place group f.ids f.nodes)
+      subst (λ (p : Place). IsReplayedAt parents (journals_in ends) (items_printed_in ends) p r) (at_other (before end).place end.place group f.ids f.nodes)
       (left.behind (before end) not_new.0 (before_at end) group r (let le = group_up_to (before end).place end.place f.ids f.nodes f.order in omega arith) below here);
 } where
   before : PlaceEnd → PlaceEnd
@@ -113,7 +117,7 @@ left_after parents ends k end old new at ready out = record {
       let same : end ≡ x = some_is end x (sym at ∙ ap (slice_get ends) (sym index) ∙ there) in
       let higher : end.place.group < group = subst (λ (e : PlaceEnd). e.place.group < group) (sym same) above in
       let was : slice_get old (length parents - 1 - group) ≡ Some r = sym (out.others group lt (λ eq. let h = higher in absurd (omega arith))) ∙ here in
-      subst (λ (e : PlaceEnd). IsReplayedAt parents (journals_in ends) (at_group e.place group) r) same (ready.behind end at group r higher lt was);
+      subst (λ (e : PlaceEnd). IsReplayedAt parents (journals_in ends) (items_printed_in ends) (at_group e.place group) r) same (ready.behind end at group r higher lt was);
 } where
   some_is : (a b : PlaceEnd) → ◌≡◌ {A = Option PlaceEnd} (Some a) (Some b) → a ≡ b
   some_is a b e = cc
@@ -135,10 +139,10 @@ nothing_given parents family place tree out = λ i c. at c i
 -- the next list's replay
 pub next_replayed : (parents : List ℕ) (ends : List PlaceEnd) (k : ℕ) (end : PlaceEnd) (node : List Replayed) (r : Replayed) → IsTree parents → slice_get ends k ≡ Some end → IsReady parents ends k node
     → (end.place.group < length parents → slice_get node (length parents - 1 - end.place.group) ≡ Some r)
-    → (length parents ≤ end.place.group → IsReplayed (lists_moved (took_of parents end.place.group []) end.entries.items) end.entries.items r) → IsReplayOfList parents ends k r
+    → (length parents ≤ end.place.group → IsReplayed (lists_moved (took_of parents end.place.group []) end.entries.items) end.entries.items end.items.items r) → IsReplayOfList parents ends k r
 next_replayed parents ends k end node r tree at ready taken alone x there first =
     let same : end ≡ x = some_is end x (sym at ∙ there) in
-    subst (λ (e : PlaceEnd). IsReplayedAt parents (journals_in ends) e.place r) same (own (subst (λ (e : PlaceEnd). IsFirst ends k e.place) (sym same) first))
+    subst (λ (e : PlaceEnd). IsReplayedAt parents (journals_in ends) (items_printed_in ends) e.place r) same (own (subst (λ (e : PlaceEnd). IsFirst ends k e.place) (sym same) first))
   where
     some_is : (a b : PlaceEnd) → ◌≡◌ {A = Option PlaceEnd} (Some a) (Some b) → a ≡ b
     some_is a b e = cc
@@ -149,13 +153,15 @@ next_replayed parents ends k end node r tree at ready taken alone x there first 
       | inr f ↦ inr (ltb-false n m f)
     ]
 
-    own : IsFirst ends k end.place → IsReplayedAt parents (journals_in ends) end.place r
+    own : IsFirst ends k end.place → IsReplayedAt parents (journals_in ends) (items_printed_in ends) end.place r
     own mine = elim (within_or end.place.group (length parents)) [
       | inl lt ↦ ready.own end r at mine lt (taken lt)
       | inr out ↦
           let here : journals_in ends end.place ≡ end.entries.items = ap journal_of (first_found ends end.place k end at refl mine) in
-          subst (λ (es : List Entry). IsReplayed (lists_moved (items_given parents (journals_in ends) end.place) es) es r) (sym here)
-          (subst (λ (took : ℕ → List Object). IsReplayed (lists_moved took end.entries.items) end.entries.items r) (nothing_given parents (journals_in ends) end.place tree out) (alone out))
+          let there : items_printed_in ends end.place ≡ end.items.items = ap items_in (first_found ends end.place k end at refl mine) in
+          subst (λ (es : List Entry). IsReplayed (lists_moved (items_given parents (journals_in ends) end.place) es) es (items_printed_in ends end.place) r) (sym here)
+          (subst (λ (os : List Object). IsReplayed (lists_moved (items_given parents (journals_in ends) end.place) end.entries.items) end.entries.items os r) (sym there)
+          (subst (λ (took : ℕ → List Object). IsReplayed (lists_moved took end.entries.items) end.entries.items end.items.items r) (nothing_given parents (journals_in ends) end.place tree out) (alone out)))
     ]
 
 -- one replay more

@@ -10,11 +10,13 @@ use Rattle.shr_base.specs.declared.ends.PlaceEnd.{PlaceEnd}
 use Rattle.shr_model.specs.Items.{items_from, step, first_moved, later_moved, AreOutcomes}
 use Rattle.shr_replay.specs.declared.journal.Replayed.{Replayed}
 use Rattle.shr_replay.specs.declared.tags.FreedTag.{FreedTag}
+use Rattle.shr_replay.specs.declared.values.FoundValue.{FoundValue}
 use Rattle.shr_replay.specs.Tags.{tag_of}
-use Rattle.shr_replay.specs.Groups.{IsReplayedAt}
-use Rattle.shr_replay.specs.Journals.{IsReplayed, lens_from, freed_tags}
-use Rattle.shr_case.specs.Places.{IsFirst, IsIndexOf}
-use Rattle.shr_case.specs.Lists.{AreReplays, journals_in}
+use Rattle.shr_replay.specs.Groups.{IsReplayedAt, items_in}
+use Rattle.shr_replay.specs.Journals.{IsReplayed, lens_from, freed_tags, values_from}
+use Rattle.shr_report.specs.Parts.{journal_of}
+use Rattle.shr_case.specs.Places.{IsFirst, IsIndexOf, end_of}
+use Rattle.shr_case.specs.Lists.{AreReplays, items_printed_in, journals_in}
 use Rattle.shr_case.proofs.Firsts.{found_or_none}
 
 -- the numbers of items, one more than there are entries
@@ -36,7 +38,7 @@ take_whole [] (suc n) le = refl
 take_whole (e ∷ es) zero le = absurd (omega arith)
 take_whole (e ∷ es) (suc n) le = ap (λ (xs : List Entry). e ∷ xs) (take_whole es n (omega arith))
 
-module _ (told : Replayed) (moved : List (List Object)) (es : List Entry) (r : IsReplayed moved es told) where
+module _ (told : Replayed) (moved : List (List Object)) (es : List Entry) (printed : List Object) (r : IsReplayed moved es printed told) where
   pub count_within : (n d : ℕ) → n < length told.lens.items → get_or told.lens.items n d ≡ length (items_from moved [] (take n es))
   count_within n d lt = ap (λ (ls : List ℕ). get_or ls n d) r.lens ∙ lens_at moved [] es n d (let many = lens_many moved [] es in let is = ap length r.lens in omega arith)
 
@@ -50,14 +52,18 @@ none_within (x ∷ xs) zero lt e = cc
 none_within (x ∷ xs) (suc k) lt e = none_within xs k (omega arith) e
 
 -- the replay that an index reads tells what is so of the place
-pub tells_some : (parents : List ℕ) (ends : List PlaceEnd) (told : List Replayed) (place : Place) (k : ℕ) (r : Replayed) → AreReplays parents ends told → IsIndexOf ends place k → slice_get told k ≡ Some r → IsReplayedAt parents (journals_in ends) place r
+pub tells_some : (parents : List ℕ) (ends : List PlaceEnd) (told : List Replayed) (place : Place) (k : ℕ) (r : Replayed) → AreReplays parents ends told → IsIndexOf ends place k → slice_get told k ≡ Some r → IsReplayedAt parents (journals_in ends) (items_printed_in ends) place r
 tells_some parents ends told place k r all index here = elim (found_or_none ends place) [
   | inl none ↦ absurd (none_within ends k index.within (index.at ∙ none))
   | inr found ↦
       let end = found.1.0 in
       let f = found.1.1 in
-      subst (λ (p : Place). IsReplayedAt parents (journals_in ends) p r) f.same (all.each k r here end (index.at ∙ f.found) (subst (IsFirst ends k) (sym f.same) index.first))
+      subst (λ (p : Place). IsReplayedAt parents (journals_in ends) (items_printed_in ends) p r) f.same (all.each k r here end (index.at ∙ f.found) (subst (IsFirst ends k) (sym f.same) index.first))
 ]
+
+-- a place that isn't printed has no journal
+pub no_journal : (ends : List PlaceEnd) (place : Place) → end_of ends place ≡ None → journals_in ends place ≡ []
+no_journal ends place none = ap journal_of none
 
 -- without entries nothing was done
 pub no_items : (moved : List (List Object)) (es : List Entry) → es ≡ [] → items_from moved [] es ≡ []
@@ -70,6 +76,14 @@ no_items_taken moved es n none = sym (ap length (no_items moved (take n es) (ap 
 pub no_freed : (moved : List (List Object)) (es : List Entry) → es ≡ [] → ◌≡◌ {A = List FreedTag} [] (freed_tags 0 moved [] es)
 unfolding freed_tags
 no_freed moved es none = sym (ap (λ (xs : List Entry). freed_tags 0 moved [] xs) none)
+
+pub no_values : (moved : List (List Object)) (es : List Entry) → es ≡ [] → ◌≡◌ {A = List FoundValue} [] (values_from 0 moved [] es)
+unfolding values_from
+no_values moved es none = sym (ap (λ (xs : List Entry). values_from 0 moved [] xs) none)
+
+-- and nothing is printed or left
+pub no_printed : (moved : List (List Object)) (ends : List PlaceEnd) (place : Place) → end_of ends place ≡ None → Decides true (items_printed_in ends place ≡ items_from moved [] (journals_in ends place))
+no_printed moved ends place none = (λ t. ap items_in none ∙ sym (no_items moved (journals_in ends place) (no_journal ends place none)), λ h. refl)
 
 pub no_outcomes : (moved : List (List Object)) (es : List Entry) → es ≡ [] → Decides true (AreOutcomes moved [] es)
 unfolding AreOutcomes

@@ -1,5 +1,6 @@
 -- The journals of all lists of a report, replayed.
 use Rattle.std.specs.Prelude.{◌≡◌, ℕ, List, [], length, slice_get, Option, Some, None}
+use Rattle.shr_base.specs.declared.objects.Object.{Object}
 use Rattle.shr_base.specs.declared.places.Place.{Place}
 use Rattle.shr_base.specs.declared.ends.PlaceEnd.{PlaceEnd}
 use Rattle.shr_base.specs.declared.scripts.Script.{Script}
@@ -7,7 +8,7 @@ use Rattle.shr_model.specs.Families.{Family}
 use Rattle.shr_report.specs.declared.report.Report.{Report}
 use Rattle.shr_report.specs.Parts.{journal_of, parents_of}
 use Rattle.shr_replay.specs.declared.journal.Replayed.{Replayed}
-use Rattle.shr_replay.specs.Groups.{IsReplayedAt}
+use Rattle.shr_replay.specs.Groups.{IsReplayedAt, items_in}
 use Rattle.shr_case.specs.declared.case.Case.{Case}
 use Rattle.shr_case.specs.Places.{AreInOrder, IsFirst, end_of}
 
@@ -15,9 +16,13 @@ use Rattle.shr_case.specs.Places.{AreInOrder, IsFirst, end_of}
 abbrev pub journals_in : List PlaceEnd → Family
 journals_in ends place = journal_of (end_of ends place)
 
+-- the objects of these lists that are printed
+abbrev pub items_printed_in : List PlaceEnd → Place → List Object
+items_printed_in ends place = items_in (end_of ends place)
+
 -- the replay of the list with this index, if it is the first one of its place, tells what is so of its journal
 abbrev pub IsReplayOfList : List ℕ → List PlaceEnd → ℕ → Replayed → Type 0
-IsReplayOfList parents ends k r = (end : PlaceEnd) → slice_get ends k ≡ Some end → IsFirst ends k end.place → IsReplayedAt parents (journals_in ends) end.place r
+IsReplayOfList parents ends k r = (end : PlaceEnd) → slice_get ends k ≡ Some end → IsFirst ends k end.place → IsReplayedAt parents (journals_in ends) (items_printed_in ends) end.place r
 
 -- there is one for each list
 pub record AreReplays (parents : List ℕ) (ends : List PlaceEnd) (told : List Replayed) : Type 0 where
@@ -34,7 +39,7 @@ pub record IsCaseOf (s : Script) (r : Report) (c : Case) : Type 0 where
   pub parents : c.parents.items ≡ parents_of s
   pub replayed : IsReplayOf r c
 
--- what the journal of a place tells, if it is printed, is so, and else the journal is empty
-abbrev pub Tells : List ℕ → Family → Place → Option Replayed → Type 0
-Tells parents family place None = family place ≡ []
-Tells parents family place (Some r) = IsReplayedAt parents family place r
+-- what is told of a place, if it is printed, is so
+abbrev pub Tells : List ℕ → List PlaceEnd → Place → Option Replayed → Type 0
+Tells parents ends place None = end_of ends place ≡ None
+Tells parents ends place (Some r) = IsReplayedAt parents (journals_in ends) (items_printed_in ends) place r

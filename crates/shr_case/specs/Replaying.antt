@@ -6,7 +6,7 @@ use Rattle.shr_model.specs.Places.{at_group}
 use Rattle.shr_replay.specs.declared.journal.Replayed.{Replayed}
 use Rattle.shr_replay.specs.Groups.{IsReplayedAt}
 use Rattle.shr_case.specs.Places.{IsFirst, end_of}
-use Rattle.shr_case.specs.Lists.{journals_in}
+use Rattle.shr_case.specs.Lists.{items_printed_in, journals_in}
 
 -- each group's list at the id and node of a place has this index
 pub record AreFirsts (ends : List PlaceEnd) (place : Place) (count : ℕ) (firsts : List ℕ) : Type 0 where
@@ -30,7 +30,7 @@ pub record IsTakenOut (count group : ℕ) (old new : List Replayed) : Type 0 whe
 -- of replays of all groups, those of the groups behind that of a place are of its id and node
 abbrev pub AreBehind : List ℕ → List PlaceEnd → Place → List Replayed → Type 0
 AreBehind parents ends place node = (group : ℕ) (r : Replayed) → place.group < group → group < length parents → slice_get node (length parents - 1 - group) ≡ Some r
-    → IsReplayedAt parents (journals_in ends) (at_group place group) r
+    → IsReplayedAt parents (journals_in ends) (items_printed_in ends) (at_group place group) r
 
 -- before a list these replays are there: those of the groups behind that of the list before
 pub record IsLeft (parents : List ℕ) (ends : List PlaceEnd) (k : ℕ) (node : List Replayed) : Type 0 where
@@ -41,5 +41,5 @@ pub record IsLeft (parents : List ℕ) (ends : List PlaceEnd) (k : ℕ) (node : 
 pub record IsReady (parents : List ℕ) (ends : List PlaceEnd) (k : ℕ) (node : List Replayed) : Type 0 where
   pub many : length node ≡ length parents
   pub own : (end : PlaceEnd) (r : Replayed) → slice_get ends k ≡ Some end → IsFirst ends k end.place → end.place.group < length parents → slice_get node (length parents - 1 - end.place.group) ≡ Some r
-      → IsReplayedAt parents (journals_in ends) end.place r
+      → IsReplayedAt parents (journals_in ends) (items_printed_in ends) end.place r
   pub behind : (end : PlaceEnd) → slice_get ends k ≡ Some end → AreBehind parents ends end.place node

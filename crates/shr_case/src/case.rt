@@ -7,11 +7,11 @@ ghost use Rattle.shr_model.specs.Families.{items_at, items_of, lists_moved_at};
 ghost use Rattle.shr_base.specs.declared.objects.Object.{Object};
 ghost use Rattle.shr_base.specs.declared.journals.Entry.{Entry};
 ghost use Rattle.shr_model.specs.Items.{AreOutcomes, items_from};
-ghost use Rattle.shr_replay.specs.Journals.{IsReplayed, freed_tags};
+ghost use Rattle.shr_replay.specs.Journals.{IsReplayed, freed_tags, values_from};
 ghost use Rattle.shr_replay.specs.Tags.{tag_of};
 ghost use Rattle.shr_report.specs.Parts.{journals_of, parents_of};
 ghost use Rattle.shr_case.specs.Places.{AreInOrder};
-ghost use Rattle.shr_case.specs.Lists.{IsCaseOf, IsReplayOf, Tells};
+ghost use Rattle.shr_case.specs.Lists.{IsCaseOf, IsReplayOf, Tells, items_printed_in};
 
 use crate::lists::replay_lists;
 use crate::places::index_of;
@@ -21,6 +21,7 @@ use shr_base::places::Place;
 use shr_base::scripts::Script;
 use shr_replay::journal::Replayed;
 use shr_replay::tags::{FreedTag, Tag};
+use shr_replay::values::FoundValue;
 use shr_report::report::Report;
 use std::alloc::Global;
 
@@ -35,7 +36,8 @@ pub struct Case {
 
 // The number of objects after so many entries, or after the last.
 fn count_in(told: &Replayed, entries: usize) -> usize
-    ensures { (moved : List (List Object)) (es : List Entry) → IsReplayed moved es told.now
+    ensures { (moved : List (List Object)) (es : List Entry) (printed : List Object)
+        → IsReplayed moved es printed told.now
         → result ≡ length (items_from moved [] (take entries es)) }
 {
     if entries < told.lens.len() {
@@ -61,7 +63,7 @@ impl Case {
     // What the journal of a place tells; nothing of a place that isn't printed.
     fn replay(&self, report: &Report, place: Place) -> Option<&Replayed>
         requires { IsReplayOf report.now self.now }
-        ensures { Tells self.now.parents.items (journals_of report.now) place
+        ensures { Tells self.now.parents.items report.now.places.items place
             (option_copied result) }
     {
         match index_of(report.places.as_slice(), place) {
@@ -105,6 +107,31 @@ impl Case {
         match self.replay(report, place) {
             Some(told) => told.left.as_slice(),
             None => &[],
+        }
+    }
+
+    /// The values of the objects that the Looks of a place found, in order, each with the number of
+    /// its entry. Our own.
+    pub fn values(&self, report: &Report, place: Place) -> &[FoundValue]
+        requires { IsReplayOf report.now self.now }
+        ensures { result.now ≡ values_from 0 (lists_moved_at self.now.parents.items
+            (journals_of report.now) place) [] (journals_of report.now place) }
+    {
+        match self.replay(report, place) {
+            Some(told) => told.values.as_slice(),
+            None => &[],
+        }
+    }
+
+    /// Whether the objects that are printed for a place are those that its journal leaves. Our own.
+    pub fn items_are_left(&self, report: &Report, place: Place) -> bool
+        requires { IsReplayOf report.now self.now }
+        ensures { Decides result (items_printed_in report.now.places.items place
+            ≡ items_of self.now.parents.items (journals_of report.now) place) }
+    {
+        match self.replay(report, place) {
+            Some(told) => told.listed,
+            None => true,
         }
     }
 

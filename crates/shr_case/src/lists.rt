@@ -6,7 +6,7 @@ ghost use Rattle.shr_model.specs.Groups.{IsTree};
 ghost use Rattle.shr_replay.specs.Groups.{AreReplayed};
 ghost use Rattle.shr_replay.specs.Journals.{IsReplayed};
 ghost use Rattle.shr_replay.specs.Lists.{took_of};
-ghost use Rattle.shr_case.specs.Lists.{AreReplays, IsReplayOfList, journals_in};
+ghost use Rattle.shr_case.specs.Lists.{AreReplays, IsReplayOfList, items_printed_in, journals_in};
 ghost use Rattle.shr_case.specs.Places.{AreInOrder, end_of};
 ghost use Rattle.shr_case.specs.Replaying.{AreFirsts, IsLeft, IsNewAt, IsReady, IsTakenOut, on_node};
 
@@ -65,7 +65,7 @@ fn replay_node(
     requires few { length parents.now ≤ 65536 }
     requires order { AreInOrder ends.now }
     ensures { IfOk result (λ told. AreReplayed parents.now
-        (journals_in ends.now) place told.items) }
+        (journals_in ends.now) (items_printed_in ends.now) place told.items) }
 {
     let firsts = firsts_at(alloc, ends, place, parents.len())?;
     let told = replay_groups(alloc, parents, ends, firsts.as_slice())?;
@@ -76,7 +76,9 @@ fn nothing(alloc: Global) -> Replayed {
     Replayed {
         lens: Vec::new(alloc),
         freed: Vec::new(alloc),
+        values: Vec::new(alloc),
         left: Vec::new(alloc),
+        listed: true,
         right: true,
     }
 }
@@ -94,7 +96,7 @@ fn take_replay(
         → slice_get node.old.items (length parents.now - 1 - end.now.place.group) ≡ Some r) }
     ensures alone { IfOk result (λ r. length parents.now ≤ end.now.place.group
         → IsReplayed (lists_moved (took_of parents.now end.now.place.group [])
-        end.now.entries.items) end.now.entries.items r) }
+        end.now.entries.items) end.now.entries.items end.now.items.items r) }
     ensures others { OnOk result (IsTakenOut
         (length parents.now) end.now.place.group node.old.items node.new.items) }
 {
@@ -109,6 +111,7 @@ fn take_replay(
         parents,
         end.place.group,
         end.entries.as_slice(),
+        &end.items,
         &mut none,
     )?;
     Ok(told)

@@ -27,18 +27,18 @@ abbrev pub ready_items : List ℕ → Family → Place → ℕ → List Object
 ready_items parents family place group = items_within (length parents) parents family (at_group place group) (before_closed (family (at_group place group)))
 
 -- the groups from this one on were replayed: each list that is still to be taken is ready, and this was told
-pub record AreClimbed (parents : List ℕ) (family : Family) (place : Place) (low : ℕ) (lists : List Queued) (told : List Replayed) : Type 0 where
+pub record AreClimbed (parents : List ℕ) (family : Family) (printed : Place → List Object) (place : Place) (low : ℕ) (lists : List Queued) (told : List Replayed) : Type 0 where
   pub ready : (group : ℕ) → low ≤ group → group < length parents → parent_of parents group < low → given_by lists group ≡ ready_items parents family place group
-  pub each : (k group : ℕ) (r : Replayed) → slice_get told k ≡ Some r → group + k + 1 ≡ length parents → IsReplayedAt parents family (at_group place group) r
+  pub each : (k group : ℕ) (r : Replayed) → slice_get told k ≡ Some r → group + k + 1 ≡ length parents → IsReplayedAt parents family printed (at_group place group) r
 
 -- before the last group
-pub climbed_none : (parents : List ℕ) (family : Family) (place : Place) (lists : List Queued) (told : List Replayed) → told ≡ [] → AreClimbed parents family place (length parents) lists told
-climbed_none parents family place lists told none = record {
+pub climbed_none : (parents : List ℕ) (family : Family) (printed : Place → List Object) (place : Place) (lists : List Queued) (told : List Replayed) → told ≡ [] → AreClimbed parents family printed place (length parents) lists told
+climbed_none parents family printed place lists told none = record {
   ready = λ group low high below. absurd (omega arith);
   each = λ k group r here e. absurd (omega (arith, slice_get_within told k r here, ap length none));
 }
 
-module _ (parents : List ℕ) (tree : IsTree parents) (family : Family) (place : Place) (group : ℕ) (within : group < length parents) (lists after : List Queued) (told : List Replayed) (b : AreClimbed parents family place (group + 1) lists told) where
+module _ (parents : List ℕ) (tree : IsTree parents) (family : Family) (printed : Place → List Object) (place : Place) (group : ℕ) (within : group < length parents) (lists after : List Queued) (told : List Replayed) (b : AreClimbed parents family printed place (group + 1) lists told) where
   -- the lists of its children are ready
   pub took_is : took_of parents group lists ≡ items_given parents family (at_group place group)
   took_is = λ i c. at c (is_child parents group c) refl i where
@@ -48,9 +48,11 @@ module _ (parents : List ℕ) (tree : IsTree parents) (family : Family) (place :
     at c false is = rw is refl
 
   -- what is told of its journal is so
-  pub one_told : (r : Replayed) (entries : List Entry) → family (at_group place group) ≡ entries → IsReplayed (lists_moved (took_of parents group lists) entries) entries r → IsReplayedAt parents family (at_group place group) r
-  one_told r entries e is = subst (λ (es : List Entry). IsReplayed (lists_moved (items_given parents family (at_group place group)) es) es r) (sym e)
-      (subst (λ (took : ℕ → List Object). IsReplayed (lists_moved took entries) entries r) took_is is)
+  pub one_told : (r : Replayed) (entries : List Entry) (items : List Object) → family (at_group place group) ≡ entries → printed (at_group place group) ≡ items → IsReplayed (lists_moved (took_of parents group lists) entries) entries items r
+      → IsReplayedAt parents family printed (at_group place group) r
+  one_told r entries items e p is = subst (λ (es : List Entry). IsReplayed (lists_moved (items_given parents family (at_group place group)) es) es (printed (at_group place group)) r) (sym e)
+      (subst (λ (took : ℕ → List Object). IsReplayed (lists_moved took entries) entries (printed (at_group place group)) r) took_is
+      (subst (λ (os : List Object). IsReplayed (lists_moved (took_of parents group lists) entries) entries os r) (sym p) is))
 
   -- levels below the last group change nothing
   levels : given_from (items_given parents family (at_group place group)) [] (family (at_group place group)) ≡ ready_items parents family place group
@@ -62,15 +64,15 @@ module _ (parents : List ℕ) (tree : IsTree parents) (family : Family) (place :
   one_given given entries e is = is ∙ (ap (λ (took : ℕ → List Object). given_from took [] entries) took_is ∙ (ap (λ (es : List Entry). given_from (items_given parents family (at_group place group)) [] es) (sym e) ∙ levels))
 
   -- one group more
-  pub climbed_more : (r : Replayed) (q : Queued) → IsReplayedAt parents family (at_group place group) r → q.items ≡ ready_items parents family place group → length lists ≡ length parents → KeepsOthers parents group lists after → length told + group + 1 ≡ length parents
-      → AreClimbed parents family place group (slice_set after group q) (told ++ r ∷ [])
+  pub climbed_more : (r : Replayed) (q : Queued) → IsReplayedAt parents family printed (at_group place group) r → q.items ≡ ready_items parents family place group → length lists ≡ length parents → KeepsOthers parents group lists after → length told + group + 1 ≡ length parents
+      → AreClimbed parents family printed place group (slice_set after group q) (told ++ r ∷ [])
   climbed_more r q is given many kept done = record {
     ready = λ c low high below. dite (ℕ_discrete c group)
         (λ same. ap (given_by (slice_set after group q)) same ∙ (ap (λ (y : Queued). y.items) (get_or-set_same after group q no_list (omega (arith, kept.count, many, within))) ∙ (given ∙ ap (ready_items parents family place) (sym same))))
         (λ other. ap (λ (y : Queued). y.items) (get_or-set_other after group c q no_list other) ∙ (kept.others c (no_child c below) ∙ b.ready c (omega (arith, low, other)) high (omega (arith, below))));
     each = λ k g s here e. ⊎_elim
         (λ before. b.each k g s before e)
-        (λ (last : (k ≡ length told) × (r ≡ s)). let same : g ≡ group = omega (arith, e, done, last.0) in subst (λ (n : ℕ). IsReplayedAt parents family (at_group place n) s) (sym same) (subst (IsReplayedAt parents family (at_group place group)) last.1 is))
+        (λ (last : (k ≡ length told) × (r ≡ s)). let same : g ≡ group = omega (arith, e, done, last.0) in subst (λ (n : ℕ). IsReplayedAt parents family printed (at_group place n) s) (sym same) (subst (IsReplayedAt parents family printed (at_group place group)) last.1 is))
         (last_of told k s r here);
   } where
     no_child : (c : ℕ) → parent_of parents c < group → is_child parents group c ≡ false

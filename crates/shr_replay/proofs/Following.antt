@@ -9,11 +9,13 @@ use Rattle.shr_base.specs.declared.journals.Entry.TheVariants.{Add, Look, Drop, 
 use Rattle.shr_model.specs.Items.{step, freed_by, first_moved, later_moved, items_from, AreOutcomes, IsOutcome, is_closing}
 use Rattle.shr_model.specs.Families.{moved_by, lists_moved, before_closed, without_child}
 use Rattle.shr_replay.specs.declared.tags.FreedTag.{FreedTag}
+use Rattle.shr_replay.specs.declared.values.FoundValue.{FoundValue}
 use Rattle.shr_replay.specs.declared.journal.Replayed.{Replayed}
 use Rattle.shr_replay.specs.declared.journal.Course.{Course}
 use Rattle.shr_replay.specs.Lists.{took_after}
 use Rattle.shr_replay.specs.Tags.{tag_of, freed_tag}
-use Rattle.shr_replay.specs.Journals.{lens_from, freed_tags, given_from, IsReplayed, IsNew, Advances, Finishes}
+use Rattle.shr_replay.specs.Values.{value_met, values_noted}
+use Rattle.shr_replay.specs.Journals.{lens_from, freed_tags, values_from, given_from, IsReplayed, IsNew, Advances, Finishes}
 
 -- an entry that closes is a Closed
 pub closing_is : (e : Entry) → is_closing e ≡ true → e ≡ Closed
@@ -50,6 +52,17 @@ module _ (took : ℕ → List Object) (items : List Object) where
   freed_next n Closed es = refl
   freed_next n (Drained by objects) es = refl
 
+  pub values_next : (n : ℕ) (e : Entry) (es : List Entry) → values_from n (lists_moved took (e ∷ es)) items (e ∷ es) ≡ values_noted n (value_met items e) ++ values_from (n + 1) (lists_moved (took_after took e) es) (step (moved_by took e) items e) es
+  unfolding values_from lists_moved
+  values_next n (Add by birth added key value) es = refl
+  values_next n (Look by birth key hit) es = refl
+  values_next n (Drop by birth key kind) es = refl
+  values_next n (Pin by birth key pinned hit) es = refl
+  values_next n (Scan worker walk asked policy visits freed stopped) es = refl
+  values_next n (MovedIn child objects) es = refl
+  values_next n Closed es = refl
+  values_next n (Drained by objects) es = refl
+
   pub items_next : (e : Entry) (es : List Entry) → items_from (lists_moved took (e ∷ es)) items (e ∷ es) ≡ items_from (lists_moved (took_after took e) es) (step (moved_by took e) items e) es
   unfolding items_from lists_moved
   items_next (Add by birth added key value) es = refl
@@ -84,6 +97,7 @@ module _ (took : ℕ → List Object) (items : List Object) where
 pub record IsBehind (took : ℕ → List Object) (entries : List Entry) (c : Course) (now : ℕ → List Object) (rest : List Entry) : Type 0 where
   pub lens : lens_from (lists_moved took entries) [] entries ≡ c.lens.items ++ lens_from (lists_moved now rest) c.queue.items rest
   pub freed : freed_tags 0 (lists_moved took entries) [] entries ≡ c.freed.items ++ freed_tags (length c.lens.items) (lists_moved now rest) c.queue.items rest
+  pub values : values_from 0 (lists_moved took entries) [] entries ≡ c.values.items ++ values_from (length c.lens.items) (lists_moved now rest) c.queue.items rest
   pub items : items_from (lists_moved took entries) [] entries ≡ items_from (lists_moved now rest) c.queue.items rest
   pub outcomes : AreOutcomes (lists_moved took entries) [] entries ↔ ((c.right ≡ true) × AreOutcomes (lists_moved now rest) c.queue.items rest)
   pub given : given_from took [] entries ≡ (if c.closed then c.aside.items else given_from now c.queue.items rest)
@@ -94,6 +108,8 @@ behind_none took entries c n = record {
   lens = ap (λ (ls : List ℕ). ls ++ lens_from moved [] entries) (sym n.lens) ∙ ap (λ (os : List Object). c.lens.items ++ lens_from moved os entries) (sym n.items);
   freed = ap (λ (ts : List FreedTag). ts ++ freed_tags 0 moved [] entries) (sym n.freed) ∙ ap (λ (os : List Object). c.freed.items ++ freed_tags 0 moved os entries) (sym n.items)
       ∙ ap (λ (k : ℕ). c.freed.items ++ freed_tags k moved c.queue.items entries) (sym (ap length n.lens));
+  values = ap (λ (vs : List FoundValue). vs ++ values_from 0 moved [] entries) (sym n.values) ∙ ap (λ (os : List Object). c.values.items ++ values_from 0 moved os entries) (sym n.items)
+      ∙ ap (λ (k : ℕ). c.values.items ++ values_from k moved c.queue.items entries) (sym (ap length n.lens));
   items = ap (λ (os : List Object). items_from moved os entries) (sym n.items);
   outcomes = (λ x. (n.right, subst (λ (os : List Object). AreOutcomes moved os entries) (sym n.items) x), λ x. subst (λ (os : List Object). AreOutcomes moved os entries) n.items x.1);
   given = ap (λ (os : List Object). given_from took os entries) (sym n.items) ∙ ap (λ b. cond b c.aside.items (given_from took c.queue.items entries)) (sym n.«open»);
@@ -122,6 +138,12 @@ module _ (took : ℕ → List Object) (entries : List Entry) (old new : Course) 
       ∙ (ap (λ (ts : List FreedTag). ts ++ freed_tags (length old.lens.items + 1) later stepped es) (sym a.freed)
       ∙ (ap (λ (k : ℕ). new.freed.items ++ freed_tags k later stepped es) (sym more) ∙ ap (λ (os : List Object). new.freed.items ++ freed_tags (length new.lens.items) later os es) (sym a.items)))))
 
+  one_values : values_from 0 (lists_moved took entries) [] entries ≡ new.values.items ++ values_from (length new.lens.items) later new.queue.items es
+  one_values = b.values ∙ (ap (λ (vs : List FoundValue). old.values.items ++ vs) (values_next now old.queue.items (length old.lens.items) e es)
+      ∙ (sym (append_assoc old.values.items (values_noted (length old.lens.items) (value_met old.queue.items e)) (values_from (length old.lens.items + 1) later stepped es))
+      ∙ (ap (λ (vs : List FoundValue). vs ++ values_from (length old.lens.items + 1) later stepped es) (sym a.values)
+      ∙ (ap (λ (k : ℕ). new.values.items ++ values_from k later stepped es) (sym more) ∙ ap (λ (os : List Object). new.values.items ++ values_from (length new.lens.items) later os es) (sym a.items)))))
+
   one_given : given_from took [] entries ≡ (if new.closed then new.aside.items else given_from (took_after now e) new.queue.items es)
   one_given = b.given ∙ by old.closed (is_closing e) refl refl where
     by : (x y : Bool) → old.closed ≡ x → is_closing e ≡ y → cond old.closed old.aside.items (given_from now old.queue.items (e ∷ es)) ≡ cond new.closed new.aside.items (given_from (took_after now e) new.queue.items es)
@@ -139,6 +161,7 @@ module _ (took : ℕ → List Object) (entries : List Entry) (old new : Course) 
   behind_more = record {
     lens = one_lens;
     freed = one_freed;
+    values = one_values;
     items = b.items ∙ (items_next now old.queue.items e es ∙ ap (λ (os : List Object). items_from later os es) (sym a.items));
     outcomes = (
       (λ x. let y = b.outcomes.0 x in let z = (outcomes_next now old.queue.items e es).0 y.1 in (a.right.1 (y.0, z.0), subst (λ (os : List Object). AreOutcomes later os es) (sym a.items) z.1)),
@@ -148,13 +171,15 @@ module _ (took : ℕ → List Object) (entries : List Entry) (old new : Course) 
   }
 
 -- behind the last entry
-module _ (took : ℕ → List Object) (entries : List Entry) (c : Course) (now : ℕ → List Object) (b : IsBehind took entries c now []) (r : Replayed) (given : List Object) (f : Finishes c r given) where
-  pub replayed_all : IsReplayed (lists_moved took entries) entries r
-  unfolding lens_from freed_tags items_from AreOutcomes
+module _ (took : ℕ → List Object) (entries : List Entry) (c : Course) (now : ℕ → List Object) (b : IsBehind took entries c now []) (printed : List Object) (r : Replayed) (given : List Object) (f : Finishes c printed r given) where
+  pub replayed_all : IsReplayed (lists_moved took entries) entries printed r
+  unfolding lens_from freed_tags values_from items_from AreOutcomes
   replayed_all = record {
     lens = f.lens ∙ sym b.lens;
     freed = f.freed ∙ sym (b.freed ∙ append-nil c.freed.items);
+    values = f.values ∙ sym (b.values ∙ append-nil c.values.items);
     left = f.left ∙ ap (map tag_of) (sym b.items);
+    listed = (λ t. f.listed.0 t ∙ sym b.items, λ is. f.listed.1 (is ∙ b.items));
     right = (λ t. b.outcomes.1 (sym f.right ∙ t, tt), λ o. f.right ∙ (b.outcomes.0 o).0);
   }
 

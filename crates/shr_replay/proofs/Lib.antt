@@ -1,4 +1,5 @@
 mod Listing
+mod Matching
 mod Moving
 mod Taking
 mod Following

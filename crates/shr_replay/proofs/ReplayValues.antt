@@ -70,15 +70,15 @@ given_once : took_after (took_of (0 ∷ 0 ∷ []) 0 lists) (MovedIn 1 1) 1 ≡ [
 given_once = refl
 
 -- whatever replays it tells these lengths, and that each outcome is so
-told : (r : Replayed) → IsReplayed [] added_and_closed r → r.lens.items ≡ 0 ∷ 1 ∷ 0 ∷ []
+told : (r : Replayed) → IsReplayed [] added_and_closed [] r → r.lens.items ≡ 0 ∷ 1 ∷ 0 ∷ []
 unfolding lens_from
 told r is = is.lens
 
-told_right : (r : Replayed) → IsReplayed [] added_and_closed r → r.right ≡ true
+told_right : (r : Replayed) → IsReplayed [] added_and_closed [] r → r.right ≡ true
 unfolding AreOutcomes
 told_right r is = is.right.1 (refl, (tt, tt))
 
 -- an entry that says that the object was there before is told as wrong
-told_wrong : (r : Replayed) → IsReplayed [] (Add by 1 false key [] ∷ []) r → r.right ≡ true → ⊥
+told_wrong : (r : Replayed) → IsReplayed [] (Add by 1 false key [] ∷ []) (object ∷ []) r → r.right ≡ true → ⊥
 unfolding AreOutcomes
 told_wrong r is said = let outcome : false ≡ true = (is.right.0 said).0 in cc

@@ -2,6 +2,7 @@
 use Rattle.std.specs.Prelude.{◌≡◌, ℕ, ◌+◌, ◌<◌, List, [], length, slice_get, slice_index, Option, Some, None}
 use Rattle.shr_base.specs.declared.ends.PlaceEnd.{PlaceEnd}
 use Rattle.shr_base.specs.declared.journals.Entry.{Entry}
+use Rattle.shr_base.specs.declared.objects.Object.{Object}
 use Rattle.shr_base.specs.declared.places.Place.{Place}
 use Rattle.shr_model.specs.Families.{Family, lists_moved_at}
 use Rattle.shr_model.specs.Places.{at_group}
@@ -17,11 +18,20 @@ entries_in (Some end) = end.entries.items
 abbrev pub AreJournals : List PlaceEnd → List ℕ → ℕ → Family → Place → Type 0
 AreJournals ends firsts count family place = (group : ℕ) → group < count → family (at_group place group) ≡ entries_in (slice_get ends (slice_index firsts group))
 
+-- the objects of a place that are printed, none where it isn't printed
+abbrev pub items_in : Option PlaceEnd → List Object
+items_in None = []
+items_in (Some end) = end.items.items
+
+-- these are the printed objects of each group's place at this place's id and node
+abbrev pub ArePrinted : List PlaceEnd → List ℕ → ℕ → (Place → List Object) → Place → Type 0
+ArePrinted ends firsts count printed place = (group : ℕ) → group < count → printed (at_group place group) ≡ items_in (slice_get ends (slice_index firsts group))
+
 -- all that is told of the journal of a place is so
-abbrev pub IsReplayedAt : List ℕ → Family → Place → Replayed → Type 0
-IsReplayedAt parents family place r = IsReplayed (lists_moved_at parents family place) (family place) r
+abbrev pub IsReplayedAt : List ℕ → Family → (Place → List Object) → Place → Replayed → Type 0
+IsReplayedAt parents family printed place r = IsReplayed (lists_moved_at parents family place) (family place) (printed place) r
 
 -- each group's journal is told of, the last group first
-pub record AreReplayed (parents : List ℕ) (family : Family) (place : Place) (told : List Replayed) : Type 0 where
+pub record AreReplayed (parents : List ℕ) (family : Family) (printed : Place → List Object) (place : Place) (told : List Replayed) : Type 0 where
   pub count : length told ≡ length parents
-  pub each : (k group : ℕ) (r : Replayed) → slice_get told k ≡ Some r → group + k + 1 ≡ length parents → IsReplayedAt parents family (at_group place group) r
+  pub each : (k group : ℕ) (r : Replayed) → slice_get told k ≡ Some r → group + k + 1 ≡ length parents → IsReplayedAt parents family printed (at_group place group) r

@@ -1,3 +1,4 @@
+pub mod Values
 pub mod Replay
 pub mod Tags
 pub mod Lists

@@ -1,15 +1,17 @@
 //! The journals of all groups for one id on one node, replayed together.
 
-ghost use Rattle.std.specs.Prelude.{◌≡◌, ℕ, ◌≤◌, [], length, slice_get, IfOk, OnOk, option_copied};
+ghost use Rattle.std.specs.Prelude.{◌≡◌, ℕ, ◌≤◌, List, [], length, slice_get, IfOk, OnOk, option_copied};
+ghost use Rattle.shr_base.specs.declared.objects.Object.{Object};
 ghost use Rattle.shr_base.specs.declared.places.Place.{Place};
 ghost use Rattle.shr_model.specs.Families.{Family, lists_moved};
 ghost use Rattle.shr_model.specs.Groups.{IsTree};
-ghost use Rattle.shr_replay.specs.Groups.{AreJournals, AreReplayed, entries_in};
+ghost use Rattle.shr_replay.specs.Groups.{AreJournals, ArePrinted, AreReplayed, entries_in, items_in};
 ghost use Rattle.shr_replay.specs.Journals.{IsReplayed, given_from};
 ghost use Rattle.shr_replay.specs.Lists.{took_of, given_by, KeepsOthers};
 
 use crate::journal::{Replayed, replay_journal};
 use shr_base::ends::PlaceEnd;
+use shr_base::items::Items;
 use shr_base::journals::Entry;
 use shr_base::log::Log;
 use shr_base::memory::Memory;
@@ -26,7 +28,7 @@ fn replay_end(
 ) -> Result<(Replayed, Queue), Memory>
     ensures replayed { IfOk result (λ r. IsReplayed (lists_moved
         (took_of parents.now group lists.old.items) (entries_in (option_copied end.entry)))
-        (entries_in (option_copied end.entry)) r.0) }
+        (entries_in (option_copied end.entry)) (items_in (option_copied end.entry)) r.0) }
     ensures given { IfOk result (λ r. r.1.items
         ≡ given_from (took_of parents.now group lists.old.items) [] (entries_in
         (option_copied end.entry))) }
@@ -35,11 +37,13 @@ fn replay_end(
     match end {
         None => {
             let none: Log<Entry> = Log::new(alloc);
-            let told = replay_journal(alloc, parents, group, none.as_slice(), lists)?;
+            let nothing = Items::new(alloc);
+            let told = replay_journal(alloc, parents, group, none.as_slice(), &nothing, lists)?;
             Ok(told)
         }
         Some(end) => {
-            let told = replay_journal(alloc, parents, group, end.entries.as_slice(), lists)?;
+            let entries = end.entries.as_slice();
+            let told = replay_journal(alloc, parents, group, entries, &end.items, lists)?;
             Ok(told)
         }
     }
@@ -75,9 +79,10 @@ pub fn replay_groups(
     requires tree { IsTree parents.now }
     requires few { length parents.now ≤ 65536 }
     requires each { length firsts.now ≡ length parents.now }
-    ensures { IfOk result (λ told. (family : Family) (place : Place)
+    ensures { IfOk result (λ told. (family : Family) (printed : Place → List Object) (place : Place)
         → AreJournals ends.now firsts.now (length parents.now) family place
-        → AreReplayed parents.now family place told.items) }
+        → ArePrinted ends.now firsts.now (length parents.now) printed place
+        → AreReplayed parents.now family printed place told.items) }
 {
     let count = parents.len();
     let mut lists = no_lists(alloc, count)?;

@@ -6,8 +6,11 @@ ghost use Rattle.shr_model.specs.Items.{is_closing};
 ghost use Rattle.shr_replay.specs.Lists.{took_of, took_after, KeepsOthers};
 ghost use Rattle.shr_replay.specs.Journals.{IsNew, Advances, Finishes, IsReplayed, given_from};
 
+use crate::items::are_items;
 use crate::lists::replay_with;
 use crate::tags::{FreedTag, Tag, note_freed, tags_in};
+use crate::values::{FoundValue, note_value};
+use shr_base::items::Items;
 use shr_base::journals::Entry;
 use shr_base::memory::Memory;
 use shr_list::queue::Queue;
@@ -21,8 +24,12 @@ pub struct Replayed {
     pub lens: Vec<usize>,
     /// The objects that its entries freed, in order.
     pub freed: Vec<FreedTag>,
+    /// The values of the objects that its Looks found, in order.
+    pub values: Vec<FoundValue>,
     /// The objects that are left, from the head.
     pub left: Vec<Tag>,
+    /// Whether the objects that are printed are those that are left.
+    pub listed: bool,
     /// Whether each entry says of its outcome what is so.
     pub right: bool,
 }
@@ -36,6 +43,7 @@ struct Course {
     closed: bool,
     lens: Vec<usize>,
     freed: Vec<FreedTag>,
+    values: Vec<FoundValue>,
     right: bool,
 }
 
@@ -55,6 +63,7 @@ impl Course {
             closed: false,
             lens: Vec::new(alloc),
             freed: Vec::new(alloc),
+            values: Vec::new(alloc),
             right: true,
         }
     }
@@ -67,6 +76,7 @@ impl Course {
         ensures closed { self.new.closed ≡ true }
         ensures lens { self.new.lens ≡ self.old.lens }
         ensures freed { self.new.freed ≡ self.old.freed }
+        ensures values { self.new.values ≡ self.old.values }
         ensures right { self.new.right ≡ self.old.right }
     {
         let held = replace(&mut self.queue, Queue::new(alloc));
@@ -100,13 +110,14 @@ impl Course {
         }
         let told = replay_with(alloc, parents, group, &mut self.queue, lists, entry)?;
         note_freed(&mut self.freed, number, told.freed.as_slice())?;
+        note_value(&mut self.values, number, told.value)?;
         self.right = self.right && told.right;
         Ok(())
     }
 
     // What was told, and what the list gives to that of its parent group.
-    fn finish(self, alloc: Global) -> Result<(Replayed, Queue), Memory>
-        ensures { IfOk result (λ r. Finishes self r.0 r.1.items) }
+    fn finish(self, alloc: Global, printed: &Items) -> Result<(Replayed, Queue), Memory>
+        ensures { IfOk result (λ r. Finishes self printed.now.items r.0 r.1.items) }
     {
         let Course {
             queue,
@@ -114,16 +125,20 @@ impl Course {
             closed,
             mut lens,
             freed,
+            values,
             right,
         } = self;
         lens.push(queue.len())?;
         let left = tags_in(alloc, &queue)?;
+        let listed = are_items(printed, &queue);
         let given = if closed { aside } else { queue };
         Ok((
             Replayed {
                 lens,
                 freed,
+                values,
                 left,
+                listed,
                 right,
             },
             given,
@@ -131,19 +146,21 @@ impl Course {
     }
 }
 
-/// Replays the journal of a group's list. `lists` has for each child of the group the list that is to
-/// be moved in, and the second answer is what this list gives to that of its own parent: what it held
-/// before its first Closed, or at the end. It costs an operation of the list's index for each entry,
-/// and a scan its visits. Our own.
+/// Replays the journal of a group's list, for which the objects `printed` are printed. `lists` has
+/// for each child of the group the list that is to be moved in, and the second answer is what this
+/// list gives to that of its own parent: what it held before its first Closed, or at the end. It costs
+/// an operation of the list's index for each entry, and a scan its visits. Our own.
 pub fn replay_journal(
     alloc: Global,
     parents: &[u16],
     group: u16,
     entries: &[Entry],
+    printed: &Items,
     lists: &mut Vec<Queue>,
 ) -> Result<(Replayed, Queue), Memory>
     ensures replayed { IfOk result (λ r. IsReplayed (lists_moved
-        (took_of parents.now group lists.old.items) entries.now) entries.now r.0) }
+        (took_of parents.now group lists.old.items) entries.now) entries.now
+        printed.now.items r.0) }
     ensures given { IfOk result (λ r. r.1.items
         ≡ given_from (took_of parents.now group lists.old.items) [] entries.now) }
     ensures others { OnOk result (KeepsOthers parents.now group lists.old.items lists.new.items) }
@@ -152,6 +169,6 @@ pub fn replay_journal(
     for entry in entries {
         course.advance(alloc, parents, group, lists, entry)?;
     }
-    let told = course.finish(alloc)?;
+    let told = course.finish(alloc, printed)?;
     Ok(told)
 }

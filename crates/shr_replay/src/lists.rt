@@ -38,8 +38,7 @@ fn child_of(entry: &Entry) -> Option<u16>
 
 // Replays an entry that finds no child's list.
 fn replay_alone(alloc: Global, queue: &mut Queue, entry: &Entry) -> Result<Told, Memory>
-    ensures { IfOk result (λ t. Replays [] queue.old.items queue.new.items entry.now t.freed.items
-        t.right) }
+    ensures { IfOk result (λ t. Replays [] queue.old.items queue.new.items entry.now t) }
 {
     let mut none = Queue::new(alloc);
     let told = replay_entry(alloc, queue, &mut none, entry)?;
@@ -59,7 +58,7 @@ pub fn replay_with(
 ) -> Result<Told, Memory>
     ensures replayed { IfOk result (λ t. Replays (moved_by
         (took_of parents.now group lists.old.items) entry.now) queue.old.items queue.new.items
-        entry.now t.freed.items t.right) }
+        entry.now t) }
     ensures taken { OnOk result (took_of parents.now group lists.new.items
         ≡ took_after (took_of parents.now group lists.old.items) entry.now) }
     ensures others { OnOk result (KeepsOthers parents.now group lists.old.items lists.new.items) }

@@ -14,10 +14,12 @@ use shr_base::text::Text;
 use shr_list::queue::Queue;
 use std::alloc::Global;
 
-/// What an entry freed, and whether its outcome is so. Our own.
+/// What an entry freed, the value that it met if it is a Look, and whether its outcome is so. Our
+/// own.
 #[derive(Drop)]
 pub struct Told {
     pub freed: Log<Object>,
+    pub value: Option<Text>,
     pub right: bool,
 }
 
@@ -31,7 +33,7 @@ fn add(
     added: bool,
 ) -> Result<Told, Memory>
     ensures { IfOk result (λ t. Replays [] queue.old.items queue.new.items
-        (Add by birth added key.now value.now) t.freed.items t.right) }
+        (Add by birth added key.now value.now) t) }
 {
     let object = Object {
         serial: by,
@@ -46,6 +48,7 @@ fn add(
     };
     Ok(Told {
         freed: Log::new(alloc),
+        value: None,
         right: added == pushed,
     })
 }
@@ -59,12 +62,13 @@ fn look(
     hit: bool,
 ) -> Result<Told, Memory>
     ensures { IfOk result (λ t. Replays [] queue.old.items queue.new.items
-        (Look by birth key.now hit) t.freed.items t.right) }
+        (Look by birth key.now hit) t) }
 {
     let held = queue.holds(birth, key);
-    queue.look(birth, key)?;
+    let value = queue.look(birth, key)?;
     Ok(Told {
         freed: Log::new(alloc),
+        value,
         right: hit == held,
     })
 }
@@ -79,12 +83,13 @@ fn pin(
     hit: bool,
 ) -> Told
     ensures { Replays [] queue.old.items queue.new.items
-        (Pin by birth key.now pinned hit) result.freed.items result.right }
+        (Pin by birth key.now pinned hit) result }
 {
     let held = queue.holds(birth, key);
     queue.set_pin(birth, key, pinned);
     Told {
         freed: Log::new(alloc),
+        value: None,
         right: hit == held,
     }
 }
@@ -100,23 +105,28 @@ fn scan(
     stopped: bool,
 ) -> Result<Told, Memory>
     ensures { IfOk result (λ t. Replays [] queue.old.items queue.new.items
-        (Scan worker walk asked policy visits freed stopped) t.freed.items t.right) }
+        (Scan worker walk asked policy visits freed stopped) t) }
 {
     let met = queue.scan(policy, asked)?;
     let right = visits == met.visits && freed as usize == met.freed.len() && stopped == met.stopped;
     Ok(Told {
         freed: met.freed,
+        value: None,
         right,
     })
 }
 
 fn drained(queue: &mut Queue, by: Serial, objects: u32) -> Result<Told, Memory>
     ensures { IfOk result (λ t. Replays [] queue.old.items queue.new.items
-        (Drained by objects) t.freed.items t.right) }
+        (Drained by objects) t) }
 {
     let freed = queue.take_all()?;
     let right = objects as usize == freed.len();
-    Ok(Told { freed, right })
+    Ok(Told {
+        freed,
+        value: None,
+        right,
+    })
 }
 
 // What a drop does with the object that it names.
@@ -139,7 +149,7 @@ fn drop_key(
     kind: DropKind,
 ) -> Result<Told, Memory>
     ensures { IfOk result (λ t. Replays [] queue.old.items queue.new.items
-        (Drop by birth key.now kind) t.freed.items t.right) }
+        (Drop by birth key.now kind) t) }
 {
     let met = kind_of(queue.get(birth, key));
     let right = kind == met;
@@ -150,7 +160,11 @@ fn drop_key(
             freed.push(object);
         }
     }
-    Ok(Told { freed, right })
+    Ok(Told {
+        freed,
+        value: None,
+        right,
+    })
 }
 
 fn moved(
@@ -161,23 +175,25 @@ fn moved(
     objects: u32,
 ) -> Result<Told, Memory>
     ensures replayed { IfOk result (λ t. Replays given.old.items queue.old.items queue.new.items
-        (MovedIn child objects) t.freed.items t.right) }
+        (MovedIn child objects) t) }
     ensures given { OnOk result (given.new.items ≡ []) }
 {
     let right = objects as usize == given.len();
     queue.put_before(given)?;
     Ok(Told {
         freed: Log::new(alloc),
+        value: None,
         right,
     })
 }
 
 fn closed(alloc: Global, queue: &mut Queue) -> Told
-    ensures { Replays [] queue.old.items queue.new.items Closed result.freed.items result.right }
+    ensures { Replays [] queue.old.items queue.new.items Closed result }
 {
     *queue = Queue::new(alloc);
     Told {
         freed: Log::new(alloc),
+        value: None,
         right: true,
     }
 }
@@ -193,8 +209,7 @@ pub fn replay_entry(
     entry: &Entry,
 ) -> Result<Told, Memory>
     ensures replayed { IfOk result
-        (λ t. Replays given.old.items queue.old.items queue.new.items entry.now t.freed.items
-        t.right) }
+        (λ t. Replays given.old.items queue.old.items queue.new.items entry.now t) }
     ensures given { OnOk result (given.new.items ≡ left_given given.old.items entry.now) }
 {
     match entry {

@@ -3,10 +3,10 @@ use Rattle.shr_case.proofs.Telling.{count_within, count_past}
 use Rattle.shr_case.proofs.case.count_in.Goals as goal
 
 pub returns-then-entries-len : goal.returns-then-entries-len
-returns-then-entries-len c = λ moved es r.
-    c.index.ensures ∙ count_within c.args.told.now moved es r c.args.entries c.index.result.now (omega (arith, c.if-entries-len.true, c.len.ensures, c.args.told.now.lens.ok.0))
+returns-then-entries-len c = λ moved es printed r.
+    c.index.ensures ∙ count_within c.args.told.now moved es printed r c.args.entries c.index.result.now (omega (arith, c.if-entries-len.true, c.len.ensures, c.args.told.now.lens.ok.0))
 
 pub returns-else-entries-len : goal.returns-else-entries-len
-returns-else-entries-len c = λ moved es r.
-    let e = count_past c.args.told.now moved es r c.args.entries (omega (arith, c.if-entries-len.false, c.len.ensures, c.args.told.now.lens.ok.0)) in
+returns-else-entries-len c = λ moved es printed r.
+    let e = count_past c.args.told.now moved es printed r c.args.entries (omega (arith, c.if-entries-len.false, c.len.ensures, c.args.told.now.lens.ok.0)) in
     omega (arith, c.len-else-entries-len.ensures, c.args.told.now.left.ok.0, e)

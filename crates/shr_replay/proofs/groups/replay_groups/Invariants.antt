@@ -1,11 +1,13 @@
-use Rattle.std.proofs.Common.{◌≡◌, ℕ, ◌-◌, length}
+use Rattle.std.proofs.Common.{◌≡◌, ℕ, ◌-◌, List, length}
+use Rattle.shr_base.specs.declared.objects.Object.{Object}
 use Rattle.shr_base.specs.declared.places.Place.{Place}
 use Rattle.shr_model.specs.Families.{Family}
-use Rattle.shr_replay.specs.Groups.{AreJournals}
+use Rattle.shr_replay.specs.Groups.{AreJournals, ArePrinted}
 use Rattle.shr_replay.proofs.Climbing.{AreClimbed}
 use Rattle.shr_replay.proofs.groups.replay_groups.Given as goal
 
 abbrev pub invariant-loop-k : goal.invariant-loop-k
 invariant-loop-k l = (length l.lists.items ≡ length l.parents)
     × (length l.told.items ≡ l.k)
-    × ((family : Family) (place : Place) → AreJournals l.ends l.firsts (length l.parents) family place → AreClimbed l.parents family place (length l.parents - l.k) l.lists.items l.told.items)
+    × ((family : Family) (printed : Place → List Object) (place : Place) → AreJournals l.ends l.firsts (length l.parents) family place
+    → ArePrinted l.ends l.firsts (length l.parents) printed place → AreClimbed l.parents family printed place (length l.parents - l.k) l.lists.items l.told.items)

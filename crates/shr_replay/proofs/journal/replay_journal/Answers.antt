@@ -28,11 +28,11 @@ returns-clause-replayed c =
     let took = took_of c.args.parents.now c.args.group c.args.lists.now.items in
     let now = took_of c.args.parents.now c.args.group c.loop-entry.lists.items in
     replayed_all took c.args.entries.now c.loop-entry.course now
-    (subst (λ (es : List Entry). IsBehind took c.args.entries.now c.loop-entry.course now es) (drop_all c.loop-entry.entry-index c.args.entries.now c.loop-entry-test.false) c.loop-entry.invariant.0) _ _ c.in_ok-told.ensures
+    (subst (λ (es : List Entry). IsBehind took c.args.entries.now c.loop-entry.course now es) (drop_all c.loop-entry.entry-index c.args.entries.now c.loop-entry-test.false) c.loop-entry.invariant.0) _ _ _ c.in_ok-told.ensures
 
 pub returns-clause-given : goal.returns-clause-given
 returns-clause-given c =
     let took = took_of c.args.parents.now c.args.group c.args.lists.now.items in
     let now = took_of c.args.parents.now c.args.group c.loop-entry.lists.items in
     given_all took c.args.entries.now c.loop-entry.course now
-    (subst (λ (es : List Entry). IsBehind took c.args.entries.now c.loop-entry.course now es) (drop_all c.loop-entry.entry-index c.args.entries.now c.loop-entry-test.false) c.loop-entry.invariant.0) _ _ c.in_ok-told.ensures
+    (subst (λ (es : List Entry). IsBehind took c.args.entries.now c.loop-entry.course now es) (drop_all c.loop-entry.entry-index c.args.entries.now c.loop-entry-test.false) c.loop-entry.invariant.0) _ _ _ c.in_ok-told.ensures

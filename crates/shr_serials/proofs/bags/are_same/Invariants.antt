@@ -1,0 +1,6 @@
+use Rattle.std.proofs.Common.{◌≡◌, ◌<◌, ℕ, get_or}
+use Rattle.shr_base.specs.declared.places.Serial.{Serial}
+use Rattle.shr_serials.proofs.bags.are_same.Given as goal
+
+abbrev pub invariant-loop-i : goal.invariant-loop-i
+invariant-loop-i l = (n : ℕ) (d : Serial) → n < l.i → get_or l.a n d ≡ get_or l.b n d

@@ -1,0 +1,11 @@
+-- Serials by one number. No public clause cites this.
+use Rattle.std.specs.Prelude.{ℕ, ◌+◌, ◌*◌}
+use Rattle.shr_base.specs.declared.places.Serial.{Serial}
+
+-- the numbers of a worker and of its command as one
+abbrev pub key_of : ℕ → ℕ → ℕ
+key_of worker command = 4294967296 * worker + command
+
+-- that of a serial
+abbrev pub serial_key : Serial → ℕ
+serial_key s = key_of s.worker s.command

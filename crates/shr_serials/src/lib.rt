@@ -1,0 +1,4 @@
+//! Lists of serials as bags. Our own.
+#![tactic(auto)]
+
+pub mod bags;
