@@ -122,6 +122,7 @@ module _ (x : Shared) (did : DidEach x) (logs : List WorkerLog) (e : Ends) (ends
     made = refl;
     seen = refl;
     sets = refl;
+    did = refl;
     pool = let known = known_opened x.script.caches.items (length x.script.caches.items) ends.opened ends.entered in let are = on_are x.script.caches.items 0 in omega (arith, known, are);
     ops = refl;
     charges = refl;

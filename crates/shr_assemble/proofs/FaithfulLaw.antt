@@ -28,8 +28,7 @@ use Rattle.shr_charge.specs.Views as charge
 use Rattle.shr_walk.specs.State.{WorkerState}
 use Rattle.shr_report.specs.declared.report.Report.{Report}
 use Rattle.shr_report.specs.Parts.{parents_of, decls_on, serial_of, all_carries, EachAnswer}
-use Rattle.shr_report.specs.Freshness.{pool_seen, pool_made, of_answer}
-use Rattle.shr_report.specs.LookupOrder.{made_by}
+use Rattle.shr_report.specs.Freshness.{pool_seen, pool_made, of_answer, made_by}
 use Rattle.shr_report.specs.Faithful.{pool_reached, tree_reached, tree_made, AreNotAbove, IsOverOnPath, IsFaithful}
 use Rattle.shr_assemble.specs.Causes as by
 use Rattle.shr_assemble.specs.Deferred.{DidCarry}
@@ -41,15 +40,14 @@ use Rattle.shr_assemble.proofs.Flattening.{all_carries_are}
 use Rattle.shr_assemble.proofs.FreshLaw.{of_is, step_cases, none_given, begins_length}
 use Rattle.shr_assemble.proofs.Gathering.{has_step, each_among, some_at}
 use Rattle.shr_assemble.proofs.Listed.{all_among, by_slices}
-use Rattle.shr_assemble.proofs.LookupOrderLaw.{lookups_in_order}
 use Rattle.shr_assemble.proofs.MadeTurns.{made_turn}
 use Rattle.shr_assemble.proofs.Makers.{one_turn_maker}
 use Rattle.shr_assemble.proofs.Making.{work_of, grows, stepped}
 use Rattle.shr_assemble.proofs.Operations.{PairsRec, pairs_rec, op_of, op_by, rise_along, among_has}
 use Rattle.shr_assemble.proofs.ClimbsLaw.{climbs}
 use Rattle.shr_assemble.proofs.CutsLaw.{cuts_told}
-use Rattle.shr_assemble.proofs.EntryOrderLaw.{entries_in_order}
 use Rattle.shr_assemble.proofs.HandedLaw.{handed}
+use Rattle.shr_assemble.proofs.OneOrderLaw.{in_one_order}
 use Rattle.shr_assemble.proofs.PoolPast.{pool_past}
 use Rattle.shr_assemble.proofs.TriesLaw.{tries}
 use Rattle.shr_assemble.proofs.WalksRefused.{walks_refused}
@@ -202,8 +200,7 @@ module _ (s : Script) (r : Report) (workers : List (List Step)) (run : IsRun s r
     over = over;
     below_root = below_root;
     carried = carried;
-    lookups = lookups_in_order s r workers run;
-    entries = entries_in_order s r workers run;
+    order = in_one_order s r workers run;
     cuts = cuts_told s r workers run;
     handed = handed s r workers run;
     climbs = climbs s r workers run;

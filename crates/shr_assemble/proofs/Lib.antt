@@ -30,8 +30,10 @@ pub mod FreshLaw
 pub mod Pairs
 pub mod MadeTurns
 pub mod LineOrder
-pub mod LookupOrderLaw
-pub mod EntryOrderLaw
+pub mod Spots
+pub mod CountsTold
+pub mod EventsTold
+pub mod OneOrderLaw
 pub mod EntryCauses
 pub mod WalkCauses
 pub mod AnswerCauses

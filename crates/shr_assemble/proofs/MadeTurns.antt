@@ -8,8 +8,7 @@ use Rattle.shr_base.specs.declared.replies.Reply.TheVariants as reply
 use Rattle.shr_base.specs.declared.scripts.Script.{Script}
 use Rattle.shr_core.specs.Parts.{Turn}
 use Rattle.shr_report.specs.declared.report.Report.{Report}
-use Rattle.shr_report.specs.Freshness.{pool_made}
-use Rattle.shr_report.specs.LookupOrder.{made_by}
+use Rattle.shr_report.specs.Freshness.{pool_made, made_by}
 use Rattle.shr_assemble.specs.Causes as by
 use Rattle.shr_assemble.specs.Steps.{Step, IsAmong, steps_of}
 use Rattle.shr_assemble.specs.Runs.{IsRun}

@@ -18,7 +18,7 @@ use Rattle.shr_report.specs.Freshness.{pool_seen, pool_made, of_answer}
 use Rattle.shr_report.specs.Parts.{serial_of, reply_at}
 use Rattle.shr_assemble.specs.Causes as by
 use Rattle.shr_assemble.specs.Pool.{DidPool, IsTurnOf}
-use Rattle.shr_assemble.specs.Steps.{Step, steps_of}
+use Rattle.shr_assemble.specs.Steps.{Step, IsAmong, steps_of}
 use Rattle.shr_assemble.specs.Runs.{IsRun}
 use Rattle.shr_assemble.proofs.FreshLaw.{of_is, step_cases, none_given, begins_length}
 use Rattle.shr_assemble.proofs.Gathering.{each_among}
@@ -28,14 +28,10 @@ use Rattle.shr_assemble.proofs.PoolCauses.{same_phase}
 use Rattle.shr_assemble.proofs.Shown.{pool_known}
 
 module _ (s : Script) (r : Report) (workers : List (List Step)) (run : IsRun s r workers) where
-  -- by an answer that is the step's
-  known_past : (worker k : ℕ) (x : Step) → slice_get (steps_of workers worker) k ≡ Some x → (n : ℕ) (e : PoolEntry) (z : Reply) → x.answered.reply ≡ z → slice_get r.pool.items n ≡ Some e → IsMadeBy r e n z → n < length x.after.core.turns.known
-  known_past worker k x at n (Registered decl id since) (reply.Registered i entry) is stands made = let m = subst (λ (y : Reply). AllByRecursion (λ j. j < length x.after.core.turns.known) (pool_made y)) is (run.steps.each worker k x at).did.pool.made in let lt = m.0 in omega (arith, made, lt)
-  known_past worker k x at n (Registered decl id since) z is stands made = absurd made
-  known_past worker k x at n (Unregistered decl id until) (reply.Freed i entry from to objects) is stands made = let m = subst (λ (y : Reply). AllByRecursion (λ j. j < length x.after.core.turns.known) (pool_made y)) is (run.steps.each worker k x at).did.pool.made in let lt = m.0 in omega (arith, made, lt)
-  known_past worker k x at n (Unregistered decl id until) (reply.Half i entry from to objects half) is stands made = let m = subst (λ (y : Reply). AllByRecursion (λ j. j < length x.after.core.turns.known) (pool_made y)) is (run.steps.each worker k x at).did.pool.made in let lt = m.0 in omega (arith, made, lt)
-  known_past worker k x at n (Unregistered decl id until) z is stands made = absurd made
-  known_past worker k x at n (Idle id) (reply.Freed i entry from to objects) is stands made =
+  -- the Idle of a Freed is the one that the step made
+  idle_by : (worker k : ℕ) (x : Step) → slice_get (steps_of workers worker) k ≡ Some x → (n id i entry from to objects : ℕ) → x.answered.reply ≡ reply.Freed i entry from to objects → slice_get r.pool.items n ≡ Some (Idle id)
+      → IsMadeBy r (Idle id) n (reply.Freed i entry from to objects) → (t : Turn) × IsAmong t x.work.core.turns × (t.number ≡ n) × (n < length x.after.core.turns.known)
+  idle_by worker k x at n id i entry from to objects is stands made =
       let did : DidPool s x = (run.steps.each worker k x at).did.pool in
       let cause : by.IsFreedBy x i entry from to objects = subst (by.IsCausedBy s x) is (run.steps.each worker k x at).did.cause in
       let t : Turn = record { number = cause.number; entry = Idle i } in
@@ -46,7 +42,30 @@ module _ (s : Script) (r : Report) (workers : List (List Step)) (run : IsRun s r
       ap (phase_of i) (sym (pool_known s r workers run worker k x at cause.number (omega (arith, past)))) ∙ (of.3 ∙ ap (λ l. phase_of i l + 1) (pool_known s r workers run worker k x at entry (omega (arith, past, behind)))) in
       let own : phase_of i (take n r.pool.items) ≡ phase_of i (take entry r.pool.items) + 1 = subst (λ (j : ℕ). phase_of j (take n r.pool.items) ≡ phase_of j (take entry r.pool.items) + 1) (sym made.0) made.2 in
       let same : n ≡ cause.number = same_phase s r workers run i n cause.number (Idle id) (Idle i) stands there (sym made.0) (λ j. i) (own ∙ sym phase) in
-      omega (arith, same, past)
+      (t, cause.idle, sym same, omega (arith, same, past))
+
+  -- and so each entry that a reply made
+  pub turn_by : (worker k : ℕ) (x : Step) → slice_get (steps_of workers worker) k ≡ Some x → (n : ℕ) (e : PoolEntry) (z : Reply) → x.answered.reply ≡ z → slice_get r.pool.items n ≡ Some e → IsMadeBy r e n z
+      → (t : Turn) × IsAmong t x.work.core.turns × (t.number ≡ n)
+  turn_by worker k x at n (Registered decl id since) (reply.Registered i entry) is stands made =
+      let h : by.IsRegisteredBy x i entry = subst (by.IsCausedBy s x) is (run.steps.each worker k x at).did.cause in (record { number = entry; entry = Registered h.decl i h.from }, h.made, sym made)
+  turn_by worker k x at n (Registered decl id since) z is stands made = absurd made
+  turn_by worker k x at n (Unregistered decl id until) (reply.Freed i entry from to objects) is stands made =
+      let h : by.IsFreedBy x i entry from to objects = subst (by.IsCausedBy s x) is (run.steps.each worker k x at).did.cause in (record { number = entry; entry = Unregistered h.unregistered.decl i to }, h.unregistered.made, sym made)
+  turn_by worker k x at n (Unregistered decl id until) (reply.Half i entry from to objects half) is stands made =
+      let h : by.IsHalfBy s x i entry from to objects half = subst (by.IsCausedBy s x) is (run.steps.each worker k x at).did.cause in (record { number = entry; entry = Unregistered h.unregistered.decl i to }, h.unregistered.made, sym made)
+  turn_by worker k x at n (Unregistered decl id until) z is stands made = absurd made
+  turn_by worker k x at n (Idle id) (reply.Freed i entry from to objects) is stands made = let t = idle_by worker k x at n id i entry from to objects is stands made in (t.0, t.1, t.2)
+  turn_by worker k x at n (Idle id) z is stands made = absurd made
+
+  -- by an answer that is the step's
+  known_past : (worker k : ℕ) (x : Step) → slice_get (steps_of workers worker) k ≡ Some x → (n : ℕ) (e : PoolEntry) (z : Reply) → x.answered.reply ≡ z → slice_get r.pool.items n ≡ Some e → IsMadeBy r e n z → n < length x.after.core.turns.known
+  known_past worker k x at n (Registered decl id since) (reply.Registered i entry) is stands made = let m = subst (λ (y : Reply). AllByRecursion (λ j. j < length x.after.core.turns.known) (pool_made y)) is (run.steps.each worker k x at).did.pool.made in let lt = m.0 in omega (arith, made, lt)
+  known_past worker k x at n (Registered decl id since) z is stands made = absurd made
+  known_past worker k x at n (Unregistered decl id until) (reply.Freed i entry from to objects) is stands made = let m = subst (λ (y : Reply). AllByRecursion (λ j. j < length x.after.core.turns.known) (pool_made y)) is (run.steps.each worker k x at).did.pool.made in let lt = m.0 in omega (arith, made, lt)
+  known_past worker k x at n (Unregistered decl id until) (reply.Half i entry from to objects half) is stands made = let m = subst (λ (y : Reply). AllByRecursion (λ j. j < length x.after.core.turns.known) (pool_made y)) is (run.steps.each worker k x at).did.pool.made in let lt = m.0 in omega (arith, made, lt)
+  known_past worker k x at n (Unregistered decl id until) z is stands made = absurd made
+  known_past worker k x at n (Idle id) (reply.Freed i entry from to objects) is stands made = (idle_by worker k x at n id i entry from to objects is stands made).3
   known_past worker k x at n (Idle id) z is stands made = absurd made
 
   -- and what it knows later is no less

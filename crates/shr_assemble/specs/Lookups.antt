@@ -1,30 +1,14 @@
 -- The lookups of a command: those of its walks, and that of the cache that it found.
-use Rattle.std.specs.Prelude.{◌≡◌, ℕ, ◌≤◌, true, List, [], ◌∷◌, ◌++◌, length, take, map, flat_map, Option, Some, None, option_and_then}
+use Rattle.std.specs.Prelude.{◌≡◌, ℕ, ◌≤◌, true, ◌++◌, length, take, map, flat_map, Some, option_and_then}
 use Rattle.shr_base.specs.declared.replies.Found.{Found}
-use Rattle.shr_base.specs.declared.walks.Attempt.{Attempt}
-use Rattle.shr_base.specs.declared.walks.WalkRecord.{WalkRecord}
 use Rattle.shr_base.specs.declared.scripts.Script.{Script}
-use Rattle.shr_model.specs.Attempts.{number_of}
 use Rattle.shr_model.specs.Commands.{decl_named}
 use Rattle.shr_model.specs.Pool.{is_live, decl_of, from_of}
 use Rattle.shr_core.specs.Parts.{Tried}
+pub use Rattle.shr_report.specs.OneOrder.{numbered, numbers_tried, number_found}
 use Rattle.shr_assemble.specs.Steps.{Step, IsAmong}
 
--- an id with the number of a lookup
-abbrev pub numbered : ℕ → Option ℕ → List (ℕ × ℕ)
-numbered id None = []
-numbered id (Some number) = (id, number) ∷ []
-
--- those of the attempts of a walk, and that of a found cache
-abbrev pub numbers_tried : WalkRecord → List (ℕ × ℕ)
-numbers_tried w = flat_map (λ (a : Attempt). numbered a.id (number_of a.outcome)) w.attempts.items
-
--- that of a found cache
-abbrev pub number_found : Option Found → List (ℕ × ℕ)
-number_found None = []
-number_found (Some f) = (f.id, f.number) ∷ []
-
--- those of lookups that were made
+-- the lookup of an id that was made
 abbrev pub number_made : Tried → ℕ × ℕ
 number_made t = (t.id, t.number)
 

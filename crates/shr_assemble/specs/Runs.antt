@@ -80,6 +80,7 @@ pub record IsNew (s : Script) (t : WorkerState) : Type 0 where
   pub made : t.core.traces.made ≡ []
   pub seen : t.core.traces.seen ≡ []
   pub sets : t.core.marks.sets ≡ []
+  pub did : t.core.did ≡ []
   pub pool : length (decls_on s) ≤ length t.core.turns.known
   pub ops : t.uses.ops ≡ []
   pub charges : t.uses.charges ≡ 0

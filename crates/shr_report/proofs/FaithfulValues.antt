@@ -14,13 +14,11 @@ use Rattle.std.specs.Option.{IsSomeAnd}
 use Rattle.shr_report.specs.declared.report.Report.{Report}
 use Rattle.shr_report.specs.Causes.{is_done_by}
 use Rattle.shr_report.specs.Parts.{serial_of, reply_at, lookups_at}
-use Rattle.shr_report.specs.Freshness.{of_answer, shows_offline}
+use Rattle.shr_report.specs.Freshness.{of_answer, made_by, shows_offline}
 use Rattle.shr_report.specs.Faithful.{pool_reached, tree_reached, tree_made, AreNotAbove, IsOverOnPath, IsFaithful}
 use Rattle.shr_report.proofs.ClimbsValues.{are_climbing}
 use Rattle.shr_report.proofs.CutsValues.{are_told}
-use Rattle.shr_report.proofs.EntryOrderValues as entries
-use Rattle.shr_report.proofs.LookupOrderValues.{none_made, in_order}
-use Rattle.shr_report.proofs.OneOrderValues.{nothing_made}
+use Rattle.shr_report.proofs.OneOrderValues.{nothing_made, in_order}
 use Rattle.shr_report.proofs.SecondCases.{AllAt, each_at, each_answer, each_walk}
 use Rattle.shr_report.proofs.SecondReport as second
 use Rattle.shr_report.proofs.SecondReport.{kept, script, report, place, uses}
@@ -44,6 +42,14 @@ nothing_shown zero lt e = let f : false ≡ true = e in absurd (cc)
 nothing_shown (suc zero) lt e = let f : false ≡ true = e in absurd (cc)
 nothing_shown (suc (suc zero)) lt e = let f : false ≡ true = e in absurd (cc)
 nothing_shown (suc (suc (suc k))) lt e = absurd (omega (arith, lt))
+
+none_made : (worker k : ℕ) → made_by report worker k ≡ []
+none_made zero zero = refl
+none_made zero (suc zero) = refl
+none_made zero (suc (suc zero)) = refl
+none_made zero (suc (suc (suc zero))) = refl
+none_made zero (suc (suc (suc (suc k)))) = refl
+none_made (suc worker) k = refl
 
 no_tree_made : (worker k : ℕ) → of_answer report (serial_of worker k) (λ (a : Answered). tree_made a.reply) ≡ []
 no_tree_made zero zero = refl
@@ -80,8 +86,7 @@ faithful = record {
   over = each_answer _ (tt, (tt, (tt, (tt, tt))));
   below_root = each_answer _ ((λ g c n e f. absurd (cc)), ((λ g c n e f. absurd (cc)), ((λ g c n e f. absurd (cc)), ((λ g c n e f. absurd (cc)), tt))));
   carried = tt;
-  lookups = in_order;
-  entries = entries.in_order;
+  order = in_order;
   cuts = are_told;
   handed = tt;
   climbs = are_climbing;

@@ -18,9 +18,8 @@ use Rattle.shr_base.specs.declared.walks.WalkRecord.{WalkRecord}
 use Rattle.shr_model.proofs.Members.{Has_from_Contains}
 use Rattle.shr_report.specs.declared.report.Report.{Report}
 use Rattle.shr_report.specs.Causes.{IsMadeBy}
-use Rattle.shr_report.specs.Parts.{serial_of, reply_at, journals_of}
+use Rattle.shr_report.specs.Parts.{serial_of, reply_at, journals_of, entry_by}
 use Rattle.shr_report.specs.OneOrder.{Told, entry, lookup, turn, count, Counting, Measure, entries, lookups, turns, looked_by, countings_of, IsTold, IsBy, EntryTells, TellsOf, IsInOneOrder}
-use Rattle.shr_report.proofs.EntryOrderValues.{own_entry}
 use Rattle.shr_report.proofs.SecondCases.{each_at, each_entry, held_same}
 use Rattle.shr_report.proofs.SecondReport.{kept, report, part, place, by, held, unheld, walk}
 
@@ -66,6 +65,11 @@ own_turn (suc n) e at = absurd (cc)
 
 starts_at : (i low high : ℕ) (e : PoolEntry) → e ≡ Registered 0 0 0 → EntryTells i low high e → (low ≡ 0) × (high ≡ 0)
 starts_at i low high e is tells = let t = subst (EntryTells i low high) is tells in (t.1, t.2)
+
+-- an entry of a command has the command's number
+own_entry : (p : Place) (n worker k : ℕ) (e : Entry) → slice_get (journals_of report p) n ≡ Some e → entry_by report e ≡ Some (serial_of worker k) → n ≡ k
+own_entry p n worker k e stands is = each_entry (λ q m e. (v j : ℕ) → entry_by report e ≡ Some (serial_of v j) → m ≡ j)
+    ((λ v j e. ap (λ (z : Serial). z.command) (held_same (by 0) (serial_of v j) e)), ((λ v j e. ap (λ (z : Serial). z.command) (held_same (by 1) (serial_of v j) e)), tt)) p n e stands worker k is
 
 few_entries : (p : Place) (n : ℕ) (e : Entry) → slice_get (journals_of report p) n ≡ Some e → n < 2
 few_entries = each_entry (λ q m e. m < 2) (omega arith, (omega arith, tt))
@@ -125,7 +129,7 @@ nothing_made (suc worker) k n e made = made
 
 -- the ranks of a command
 own_rank : (worker k : ℕ) (x : Told) → IsBy report (serial_of worker k) x → (10 + k * 10 ≤ rank x) × (rank x < 20 + k * 10)
-own_rank worker k (entry p n) h = let e = own_entry p n worker k (record { entry = h.0; stands = h.1; by = h.2 }) in (omega (arith, e), omega (arith, e))
+own_rank worker k (entry p n) h = let e = own_entry p n worker k h.0 h.1 h.2 in (omega (arith, e), omega (arith, e))
 own_rank worker k (lookup id n) h = let e = own_lookup worker k id n h in (omega (arith, e), omega (arith, e))
 own_rank worker k (turn n) h = absurd (nothing_made worker k n h.0 h.2)
 own_rank worker k (count w n) h =

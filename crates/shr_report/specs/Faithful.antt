@@ -20,12 +20,11 @@ use Rattle.shr_model.specs.Groups.{IsAtOrAbove}
 use Rattle.shr_model.specs.Pool.{last_number}
 use Rattle.shr_report.specs.declared.report.Report.{Report}
 use Rattle.shr_report.specs.Parts.{parents_of, decls_on, serial_of, reply_at, lookups_at, all_carries, EachAnswer, EachWalk}
-use Rattle.shr_report.specs.Freshness.{pool_seen, pool_made, of_answer, shows_offline}
+use Rattle.shr_report.specs.Freshness.{pool_seen, pool_made, of_answer, made_by, shows_offline}
 use Rattle.shr_report.specs.Causes.{IsMadeBy, is_done_by}
 use Rattle.shr_report.specs.Climbs.{AreClimbing}
 use Rattle.shr_report.specs.Cuts.{AreCutsTold}
-use Rattle.shr_report.specs.EntryOrder.{AreEntriesInOrder}
-use Rattle.shr_report.specs.LookupOrder.{made_by, AreLookupsInOrder}
+use Rattle.shr_report.specs.OneOrder.{IsInOneOrder}
 use Rattle.shr_report.specs.Tries.{AreAllTries}
 
 -- how many entries of the journal of registrations an answer shows to be there: those that it
@@ -91,10 +90,8 @@ pub record IsFaithful (s : Script) (r : Report) : Type 0 where
   pub below_root : EachAnswer s r (λ by c a. (group child entry : ℕ) → c ≡ Offline group → a.reply ≡ reply.HasChildren child entry → 0 < group)
   -- a carry is of something
   pub carried : AllByRecursion (λ (c : Carry). 0 < c.amount) (all_carries r)
-  -- lookups rise along a worker, and none is of a registration that its worker had ended
-  pub lookups : AreLookupsInOrder r
-  -- what a worker did at a list stands in the order of its commands
-  pub entries : AreEntriesInOrder r
+  -- there is one order of all entries, lookups, registrations and counts that it tells
+  pub order : IsInOneOrder r
   -- a walk that memory cut short ended its command
   pub cuts : AreCutsTold s r
   -- an `offline` that found its group done carried something only if another worker had done it

@@ -31,8 +31,6 @@ pub mod Lawful
 pub mod Cuts
 pub mod Climbs
 pub mod Tries
-pub mod LookupOrder
-pub mod EntryOrder
 pub mod OneOrder
 pub mod Faithful
 pub mod Puts
