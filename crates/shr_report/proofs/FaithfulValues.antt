@@ -21,7 +21,7 @@ use Rattle.shr_report.proofs.CutsValues.{are_told}
 use Rattle.shr_report.proofs.OneOrderValues.{nothing_made, in_order}
 use Rattle.shr_report.proofs.SecondCases.{AllAt, each_at, each_answer, each_walk}
 use Rattle.shr_report.proofs.SecondReport as second
-use Rattle.shr_report.proofs.SecondReport.{kept, script, report, place, uses}
+use Rattle.shr_report.proofs.SecondReport.{kept, script, report, uses}
 use Rattle.shr_report.proofs.NotLawful.{with_answers}
 use Rattle.shr_report.proofs.OverReport as over
 use Rattle.shr_report.proofs.TriesValues.{are_tries}
