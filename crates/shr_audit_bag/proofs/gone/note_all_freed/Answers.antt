@@ -1,0 +1,19 @@
+use Rattle.std.proofs.Common.{◌≡◌, ◌++◌, List, ap, ◌∙◌}
+use Rattle.std.specs.Prelude.{flat_map}
+use Rattle.shr_base.specs.declared.ends.PlaceEnd.{PlaceEnd}
+use Rattle.shr_base.specs.declared.places.Place.{Place}
+use Rattle.shr_base.specs.declared.places.Serial.{Serial}
+use Rattle.shr_model.specs.Bag.{freed_at, serials_of}
+use Rattle.shr_report.specs.Parts.{journals_of}
+use Rattle.shr_audit_bag.proofs.Adding.{flat_more, flat_all}
+use Rattle.shr_audit_bag.proofs.Law.{by_places}
+use Rattle.shr_audit_bag.proofs.gone.note_all_freed.Goals as goal
+
+pub loop-end-preserved : goal.loop-end-preserved
+loop-end-preserved c = flat_more (λ (end : PlaceEnd). serials_of (freed_at c.args.case.now.parents.items (journals_of c.args.report.now) end.place)) c.as_slice-end-items.result.now c.loop-end.end-index c.end-item.result c.args.serials.now.items c.loop-end.serials.items c.note_freed_at.new.serials.items c.loop-end-test.true c.end-item.is
+    c.loop-end.invariant c.in_ok-note_freed_at.ensures
+
+pub returns : goal.returns
+returns c = flat_all (λ (end : PlaceEnd). serials_of (freed_at c.args.case.now.parents.items (journals_of c.args.report.now) end.place)) c.as_slice-end-items.result.now c.loop-end.end-index c.args.serials.now.items c.loop-end.serials.items c.loop-end-test.false c.loop-end.invariant
+    ∙ ap (λ (xs : List Serial). c.args.serials.now.items ++ xs)
+    (ap (flat_map (λ (end : PlaceEnd). serials_of (freed_at c.args.case.now.parents.items (journals_of c.args.report.now) end.place))) c.as_slice-end-items.ensures ∙ by_places (λ (p : Place). serials_of (freed_at c.args.case.now.parents.items (journals_of c.args.report.now) p)) c.args.report.now.places.items)

@@ -1,0 +1,10 @@
+use Rattle.std.proofs.Common.{◌≡◌, ◌++◌, take}
+use Rattle.std.specs.Prelude.{flat_map}
+use Rattle.shr_base.specs.declared.ends.PlaceEnd.{PlaceEnd}
+use Rattle.shr_model.specs.Bag.{serials_of}
+use Rattle.shr_model.specs.Families.{items_of}
+use Rattle.shr_report.specs.Parts.{journals_of}
+use Rattle.shr_audit_bag.proofs.gone.note_all_left.Given as goal
+
+abbrev pub invariant-loop-end : goal.invariant-loop-end
+invariant-loop-end l = l.serials.items ≡ l.fn.serials.items ++ flat_map (λ (end : PlaceEnd). serials_of (items_of l.case.parents.items (journals_of l.report) end.place)) (take l.end-index l.end-items)

@@ -1,0 +1,6 @@
+use Rattle.std.proofs.Common.{◌≡◌, ◌++◌, map, take}
+use Rattle.shr_audit_bag.specs.Gone.{left_serial}
+use Rattle.shr_audit_bag.proofs.gone.note_left.Given as goal
+
+abbrev pub invariant-loop-tag : goal.invariant-loop-tag
+invariant-loop-tag l = l.serials.items ≡ l.fn.serials.items ++ map left_serial (take l.tag-index l.tags)

@@ -1,0 +1,6 @@
+use Rattle.std.proofs.Common.{◌≡◌, ◌++◌, map, take}
+use Rattle.shr_audit_bag.specs.Gone.{freed_serial}
+use Rattle.shr_audit_bag.proofs.gone.note_tags.Given as goal
+
+abbrev pub invariant-loop-freed : goal.invariant-loop-freed
+invariant-loop-freed l = l.serials.items ≡ l.fn.serials.items ++ map freed_serial (take l.freed-index l.tags)

@@ -1,0 +1,9 @@
+use Rattle.std.proofs.Common.{◌≡◌, [], ◌++◌, take}
+use Rattle.std.specs.Prelude.{flat_map}
+use Rattle.shr_base.specs.declared.ends.PlaceEnd.{PlaceEnd}
+use Rattle.shr_model.specs.Bag.{added_by_all}
+use Rattle.shr_report.specs.Parts.{journals_of}
+use Rattle.shr_audit_bag.proofs.noted.added_serials.Given as goal
+
+abbrev pub invariant-loop-end : goal.invariant-loop-end
+invariant-loop-end l = l.serials.items ≡ [] ++ flat_map (λ (end : PlaceEnd). added_by_all (journals_of l.report end.place)) (take l.end-index l.end-items)

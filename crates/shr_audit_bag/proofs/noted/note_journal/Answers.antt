@@ -1,0 +1,10 @@
+use Rattle.shr_model.specs.Bag.{added_by}
+use Rattle.shr_audit_bag.proofs.Adding.{flat_more, flat_all}
+use Rattle.shr_audit_bag.proofs.noted.note_journal.Goals as goal
+
+pub loop-entry-preserved : goal.loop-entry-preserved
+loop-entry-preserved c = flat_more added_by c.args.entries.now c.loop-entry.entry-index c.entry-item.result c.args.serials.now.items c.loop-entry.serials.items c.note_entry.new.serials.items c.loop-entry-test.true c.entry-item.is c.loop-entry.invariant
+    c.in_ok-note_entry.ensures
+
+pub returns : goal.returns
+returns c = flat_all added_by c.args.entries.now c.loop-entry.entry-index c.args.serials.now.items c.loop-entry.serials.items c.loop-entry-test.false c.loop-entry.invariant
