@@ -10,6 +10,7 @@ ghost use Rattle.shr_tool.specs.Statuses.{number_of};
 use shr_outside::outside::Gate;
 use shr_outside::sinks::StdSink;
 use shr_outside::sources::StdSource;
+use shr_tool::afterwards::Afterwards;
 use shr_tool::status::Status;
 use shr_tool::top::top;
 use std::io::ErrorKind;
@@ -54,7 +55,17 @@ fn run<R: Threads + Wait + Sync>(rt: &HostRuntime, threads: &R) -> Status {
     };
     let mut source = StdSource::new(rt.reader());
     let mut sink = StdSink::new(io::writer(rt));
-    top(threads, rt.alloc(), &words, &mut source, &mut sink, &Open)
+    // The process ends next, and with it all memory goes back at once.
+    let afterwards = Afterwards::LeaveToExit;
+    top(
+        threads,
+        rt.alloc(),
+        &words,
+        &mut source,
+        &mut sink,
+        &Open,
+        afterwards,
+    )
 }
 
 // Whoever can't read standard error still has the exit status.

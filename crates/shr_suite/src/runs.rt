@@ -6,6 +6,7 @@ use shr_audit::found::report_of;
 use shr_outside::outside::Gate;
 use shr_outside::sinks::MemorySink;
 use shr_outside::sources::MemorySource;
+use shr_tool::afterwards::Afterwards;
 use shr_tool::status::Status;
 use shr_tool::top::top;
 use std::alloc::Global;
@@ -28,7 +29,16 @@ fn run<R: Threads + Wait + Sync>(
     let input = Vec::from_slice(alloc, case.input.as_slice())?;
     let mut source = MemorySource::new(input, 4096, Vec::new(alloc));
     let mut sink = MemorySink::new(Vec::new(alloc), 65_536, Vec::new(alloc));
-    let status = top(threads, alloc, &case.words, &mut source, &mut sink, &Open);
+    let afterwards = Afterwards::GiveBack;
+    let status = top(
+        threads,
+        alloc,
+        &case.words,
+        &mut source,
+        &mut sink,
+        &Open,
+        afterwards,
+    );
     let text = str::from_utf8(sink.bytes()).unwrap_or("bytes that are no text");
     Ok((status, String::from_str(alloc, text)?))
 }

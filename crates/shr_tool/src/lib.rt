@@ -3,6 +3,7 @@
 //! What belongs here: what is read, what is written and why, by the status. How a script is run stands in `shr_run`.
 #![tactic(auto)]
 
+pub mod afterwards;
 mod reading;
 mod refusing;
 pub mod status;

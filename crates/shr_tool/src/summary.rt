@@ -5,6 +5,7 @@ ghost use Rattle.std.specs.Prelude.{◌≡◌, ◌≤◌, ◌+◌, ◌++◌, IfO
 ghost use Rattle.shr_gen.specs.Generated.{MayBeMade};
 ghost use Rattle.shr_tool.specs.Summary.{replies_of, five_lines, SummaryGives};
 
+use crate::afterwards::{Afterwards, let_go};
 use crate::status::Status;
 use itoa::Buffer;
 use shr_base::ends::WorkerPart;
@@ -75,6 +76,7 @@ pub fn run_generated<R: Threads + Wait + Sync, K: Sink, G: Gate + Sync>(
     numbers: Numbers,
     sink: &mut K,
     gate: &G,
+    afterwards: Afterwards,
 ) -> Status
     requires { MayBeMade numbers.workers numbers.commands }
     ensures written { SummaryGives numbers.seed numbers.workers numbers.commands
@@ -97,6 +99,7 @@ pub fn run_generated<R: Threads + Wait + Sync, K: Sink, G: Gate + Sync>(
         return Status::Memory;
     };
     if write_all(sink, text.as_slice()) {
+        let_go(report, afterwards);
         Status::Done
     } else {
         Status::WriteFault

@@ -6,6 +6,7 @@ ghost use Rattle.shr_script.specs.Content.{content_of, spell, IsValid};
 ghost use Rattle.shr_tool.specs.Summary.{GenGives};
 ghost use Rattle.shr_tool.specs.Top.{source_seen, sink_seen, RefusalGives, RunGives, UsageGives, AnswerGives, IsComplete, IsRefusing};
 
+use crate::afterwards::{Afterwards, let_go};
 use crate::reading::{Input, read_all};
 use crate::refusing::refusal;
 use crate::status::Status;
@@ -46,6 +47,7 @@ fn serve<R: Threads + Wait + Sync, K: Sink, G: Gate + Sync>(
     script: Script,
     sink: &mut K,
     gate: &G,
+    afterwards: Afterwards,
 ) -> Status
     requires { IsValid (content_of script) }
     ensures answer { AnswerGives (spell (content_of script))
@@ -57,7 +59,10 @@ fn serve<R: Threads + Wait + Sync, K: Sink, G: Gate + Sync>(
         return Status::Memory;
     };
     match print(&report, sink) {
-        Ok(true) => Status::Done,
+        Ok(true) => {
+            let_go(report, afterwards);
+            Status::Done
+        }
         Ok(false) => Status::WriteFault,
         Err(Memory) => Status::Memory,
     }
@@ -70,6 +75,7 @@ fn answer<R: Threads + Wait + Sync, K: Sink, G: Gate + Sync>(
     bytes: &[u8],
     sink: &mut K,
     gate: &G,
+    afterwards: Afterwards,
 ) -> Status
     ensures answer { AnswerGives bytes.now
         (sink_seen (K.written sink.old) (K.written sink.new)
@@ -77,7 +83,7 @@ fn answer<R: Threads + Wait + Sync, K: Sink, G: Gate + Sync>(
     ensures later { K.faults sink.old ≤ K.faults sink.new }
 {
     match read_script(alloc, bytes) {
-        Ok(script) => serve(rt, alloc, script, sink, gate),
+        Ok(script) => serve(rt, alloc, script, sink, gate, afterwards),
         Err(ReadError::Fault { line, code }) => refuse(alloc, line, code, sink),
         Err(ReadError::Memory) => Status::Memory,
     }
@@ -90,6 +96,7 @@ fn read_and_answer<R: Threads + Wait + Sync, S: Source, K: Sink, G: Gate + Sync>
     source: &mut S,
     sink: &mut K,
     gate: &G,
+    afterwards: Afterwards,
 ) -> Status
     ensures run { RunGives
         (source_seen (S.left source.old) (S.left source.new)
@@ -101,7 +108,7 @@ fn read_and_answer<R: Threads + Wait + Sync, S: Source, K: Sink, G: Gate + Sync>
     ensures sink_later { K.faults sink.old ≤ K.faults sink.new }
 {
     match read_all(alloc, source) {
-        Input::All { bytes } => answer(rt, alloc, bytes.as_slice(), sink, gate),
+        Input::All { bytes } => answer(rt, alloc, bytes.as_slice(), sink, gate, afterwards),
         Input::Failed => Status::ReadFault,
         Input::TooLong => Status::TooLong,
         Input::Memory => Status::Memory,
@@ -117,7 +124,8 @@ fn read_and_answer<R: Threads + Wait + Sync, S: Source, K: Sink, G: Gate + Sync>
 ///
 /// Each status says what was read and written, and why it came; with words of a form want of memory
 /// may come at any time. After a call that failed the same source and sink may be used for a new
-/// run. It waits as the workers do. Our own.
+/// run. `afterwards` says what becomes of the memory of a report that was written; all else is given
+/// back. It waits as the workers do. Our own.
 pub fn top<R: Threads + Wait + Sync, S: Source, K: Sink, G: Gate + Sync>(
     rt: &R,
     alloc: Global,
@@ -125,6 +133,7 @@ pub fn top<R: Threads + Wait + Sync, S: Source, K: Sink, G: Gate + Sync>(
     source: &mut S,
     sink: &mut K,
     gate: &G,
+    afterwards: Afterwards,
 ) -> Status
     // Done comes with a lawful report of the script that was read, whatever the order of the
     // workers' steps: the headline.
@@ -163,7 +172,7 @@ pub fn top<R: Threads + Wait + Sync, S: Source, K: Sink, G: Gate + Sync>(
     ensures sink_later { K.faults sink.old ≤ K.faults sink.new }
 {
     match form_of(alloc, words.as_slice()) {
-        Some(Form::Run) => read_and_answer(rt, alloc, source, sink, gate),
+        Some(Form::Run) => read_and_answer(rt, alloc, source, sink, gate, afterwards),
         Some(
             Form::Gen {
                 seed,
@@ -176,7 +185,7 @@ pub fn top<R: Threads + Wait + Sync, S: Source, K: Sink, G: Gate + Sync>(
                 workers,
                 commands,
             };
-            run_generated(rt, alloc, numbers, sink, gate)
+            run_generated(rt, alloc, numbers, sink, gate, afterwards)
         }
         None => Status::Usage,
     }

@@ -4,6 +4,7 @@ use crate::gates::Open;
 use crate::runs::words_of;
 use shr_outside::sinks::MemorySink;
 use shr_outside::sources::MemorySource;
+use shr_tool::afterwards::Afterwards;
 use shr_tool::status::Status;
 use shr_tool::top::top;
 use std::alloc::Global;
@@ -46,7 +47,8 @@ fn run<R: Threads + Wait + Sync>(
 ) -> (Status, Option<usize>) {
     let mut source = MemorySource::new(bytes, 10, reads);
     let mut sink = MemorySink::new(Vec::new(alloc), 10, writes);
-    let status = top(rt, alloc, words, &mut source, &mut sink, &Open);
+    let afterwards = Afterwards::GiveBack;
+    let status = top(rt, alloc, words, &mut source, &mut sink, &Open, afterwards);
     let is_front = TEXT.as_bytes().starts_with(sink.bytes());
     (status, is_front.then_some(sink.bytes().len()))
 }

@@ -4,6 +4,7 @@ use crate::gates::{Counting, Meeting, Open};
 use shr_outside::outside::Gate;
 use shr_outside::sinks::MemorySink;
 use shr_outside::sources::MemorySource;
+use shr_tool::afterwards::Afterwards;
 use shr_tool::status::Status;
 use shr_tool::top::top;
 use std::alloc::Global;
@@ -32,7 +33,8 @@ fn run<R: Threads + Wait + Sync, G: Gate + Sync>(
 ) -> (Status, bool) {
     let mut source = MemorySource::new(bytes, 65_536, reads);
     let mut sink = MemorySink::new(Vec::new(alloc), 100, Vec::new(alloc));
-    let status = top(rt, alloc, words, &mut source, &mut sink, gate);
+    let afterwards = Afterwards::GiveBack;
+    let status = top(rt, alloc, words, &mut source, &mut sink, gate, afterwards);
     (status, text.is_none_or(|text| sink.bytes() == text))
 }
 

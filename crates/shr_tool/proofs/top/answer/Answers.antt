@@ -8,4 +8,5 @@ returns-in-Ok-clause-answer g c = answers_spelling c.args.bytes.now (spell (cont
 pub returns-in-Err-Fault-clause-answer : goal.returns-in-Err-Fault-clause-answer
 returns-in-Err-Fault-clause-answer g c =
     let fault = rw c.in-Err-Fault.field-0-is at c.in-Err-Fault.ensures.fault in
-    answers_refusal c.args.bytes.now c.in-Err-Fault.line c.in-Err-Fault.code _ c.refuse.result fault c.refuse.ensures.refusal
+    let told = rw c.in-Err-Fault.field-0-is at c.refuse.ensures.refusal in
+    answers_refusal c.args.bytes.now c.in-Err-Fault.line c.in-Err-Fault.code _ c.refuse.result fault told
