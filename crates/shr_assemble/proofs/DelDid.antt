@@ -177,7 +177,7 @@ module _ (x : Shared) (tables : AreTables x) (by : Serial) (group node decl : �
           work = work;
           does = brings_of does;
           did = record {
-            entries = one_entry x.script z m c refl (is_told z m c (place_same x tables by command group node decl tenant f call r s h.dropped o group c so dropping a within.on_node there) (sym a.number) refl)
+            entries = one_entry x.script z m c refl (append-nil set) (is_told z m c (place_same x tables by command group node decl tenant f call r s h.dropped o group c so dropping a within.on_node there) (sym a.number) refl)
                 (λ family stands. cites_is x tables by command group node decl tenant f call r s h.dropped o group c so dropping a within.on_node there family (Drop by group key kind.Dropped) stands (ap (Drop by group key) a.before))
                 refl (cited_is x tables by command group node decl tenant f call r s h.dropped o group c so dropping a within.on_node there z refl (ap (λ (u : WorkerState). u.core.traces.known) h.uncharges.rest) refl (0, refl) (λ added below empty. absurd (cc)));
             lookups = found_lookups x.script z decl f refl refl refl (found_by x group decl f call s h.dropped o (m ∷ []) set a.gains z pool_same (0, refl));

@@ -27,7 +27,7 @@ use Rattle.shr_assemble.specs.Makes.{IsMadeOf}
 use Rattle.shr_assemble.specs.Steps.{Step, IsAmong, steps_of, Grows, Brings}
 use Rattle.shr_assemble.specs.Runs.{IsShownIn, AreSteps}
 use Rattle.shr_assemble.proofs.Crews.{there_at}
-use Rattle.shr_assemble.proofs.EndsGathered.{last, cleared_are}
+use Rattle.shr_assemble.proofs.EndsGathered.{last, cleared_are, sets_are}
 use Rattle.shr_assemble.proofs.EndsHistories.{history_is}
 use Rattle.shr_assemble.proofs.EndsLookups.{lookups_at_below}
 use Rattle.shr_assemble.proofs.EndsShown as shown
@@ -82,7 +82,7 @@ module _ (x : Shared) (did : DidEach x) (logs : List WorkerLog) (e : Ends) (ends
             (t.begins (λ (w : WorkerState). w.core.traces.made) (λ (z : Step). z.work.core.made) (λ z d. d.core.made));
         known = each_last _ (λ (w : CrewState). w.seats.core.traces.known) lasts all.core.traces.known start.core.traces.known (joined.joined_known start lasts) (shown.known_shown x ends.shared r all.core e.core left made.places made.pool) worker t.state t.at _ t.grows.known;
         seen = each_last _ (λ (w : CrewState). w.seats.core.traces.seen) lasts all.core.traces.seen start.core.traces.seen (joined.joined_seen start lasts) (shown.seen_shown x ends.shared r all.core e.core left made.places made.pool) worker t.state t.at _ t.grows.seen;
-        maps = each_last _ (λ (w : CrewState). w.seats.core.marks.maps) lasts all.core.marks.maps start.core.marks.maps (joined.joined_maps start lasts) (shown.maps_shown x ends.shared r all.core e.core left made.places made.pool team (cleared_are x did logs e ends r made)) worker t.state t.at _
+        maps = each_last _ (λ (w : CrewState). w.seats.core.marks.maps) lasts all.core.marks.maps start.core.marks.maps (joined.joined_maps start lasts) (shown.maps_shown x ends.shared r all.core e.core left made.places made.pool team (cleared_are x did logs e ends r made) (sets_are x did logs e ends r made)) worker t.state t.at _
             (t.begins (λ (w : WorkerState). w.core.marks.maps) (λ (z : Step). z.work.core.maps) (λ z d. d.core.maps));
         tried = each_last _ (λ (w : CrewState). w.seats.core.claims.attempts) lasts all.core.claims.attempts start.core.claims.attempts (joined.joined_attempts start lasts) (shown.tried_shown x ends.shared r all.core e.core left made.places made.pool) worker t.state t.at _
             (t.begins (λ (w : WorkerState). w.core.claims.attempts) (λ (z : Step). z.work.core.attempts) (λ z d. d.core.attempts));

@@ -18,11 +18,11 @@ use Rattle.shr_assemble.specs.declared.logs.WorkerLog.{WorkerLog}
 use Rattle.shr_assemble.specs.Ends.{Firsts, with_workers, at_start, AreEndsOf, new_worker}
 use Rattle.shr_assemble.specs.Makes.{IsMadeOf}
 use Rattle.shr_assemble.specs.Steps.{Step}
-use Rattle.shr_assemble.specs.Runs.{all_made, all_attempts, all_cleared, all_turns, all_entries, all_ops, all_takes, all_gives, AreJournals}
+use Rattle.shr_assemble.specs.Runs.{all_made, all_attempts, all_cleared, all_sets, all_turns, all_entries, all_ops, all_takes, all_gives, AreJournals}
 use Rattle.shr_assemble.proofs.Crews.{all_of, flat_pairs, there_at}
 use Rattle.shr_assemble.proofs.EndsJournals as ends_journals
 use Rattle.shr_assemble.proofs.EndsSteps.{workers, is_crew}
-use Rattle.shr_assemble.proofs.Joined.{joined_made, joined_cleared, joined_attempts, joined_turns, joined_ops, joined_entries, joined_takes, joined_gives, joined_half}
+use Rattle.shr_assemble.proofs.Joined.{joined_made, joined_cleared, joined_sets, joined_attempts, joined_turns, joined_ops, joined_entries, joined_takes, joined_gives, joined_half}
 use Rattle.shr_assemble.proofs.Opening.{IsFresh, fresh_opened}
 use Rattle.shr_assemble.proofs.Rows.{DidEach, along}
 
@@ -46,6 +46,10 @@ module _ (x : Shared) (did : DidEach x) (logs : List WorkerLog) (e : Ends) (ends
   pub cleared_are : last.core.marks.cleared ≡ all_cleared (workers x did logs e ends r made)
   cleared_are = joined_cleared start ends.lasts ∙ (ap (λ (l : List ℕ). l ++ flat_map (λ (w : CrewState). w.seats.core.marks.cleared) ends.lasts) fresh.cleared
       ∙ all_of {A = ℕ} (λ (w : WorkerState). w.core.marks.cleared) (λ (y : Step). y.work.core.cleared) (λ y d. d.core.cleared) x ends.opened ends.popped logs ends.lasts mine (λ i. refl) (is_crew x did logs e ends r made))
+
+  pub sets_are : last.core.marks.sets ≡ all_sets (workers x did logs e ends r made)
+  sets_are = joined_sets start ends.lasts ∙ (ap (λ (l : List ℕ). l ++ flat_map (λ (w : CrewState). w.seats.core.marks.sets) ends.lasts) fresh.sets
+      ∙ all_of {A = ℕ} (λ (w : WorkerState). w.core.marks.sets) (λ (y : Step). y.work.core.sets) (λ y d. d.core.sets) x ends.opened ends.popped logs ends.lasts mine (λ i. refl) (is_crew x did logs e ends r made))
 
   pub attempts_are : last.core.claims.attempts ≡ all_attempts (workers x did logs e ends r made)
   attempts_are = joined_attempts start ends.lasts ∙ (ap (λ (l : List Tried). l ++ flat_map (λ (w : CrewState). w.seats.core.claims.attempts) ends.lasts) fresh.attempts

@@ -1,16 +1,18 @@
 -- The one order of all that the workers did, of a run whose workers are done.
-use Rattle.std.proofs.Common.{◌≡◌, ◌≢◌, ℕ, zero, suc, ◌+◌, ◌<◌, Bool, true, false, cond, List, [], ◌∷◌, ◌++◌, length, sym, refl, ap, subst, ◌∙◌, arith, eq-eqb, ne_eqb}
-use Rattle.std.specs.Prelude.{slice_get, Some, flat_map}
+use Rattle.std.proofs.Common.{◌≡◌, ◌≢◌, ℕ, zero, suc, ◌+◌, ◌<◌, ◌⊎◌, inl, inr, ⊎_elim, Bool, true, false, cond, List, [], ◌∷◌, ◌++◌, length, sym, refl, ap, subst, ◌∙◌, arith, eq-eqb, ne_eqb}
+use Rattle.std.specs.Prelude.{slice_get, Some, flat_map, ◌==◌}
 use Rattle.std.proofs.lemmas.List.{append-nil}
 use Rattle.std.proofs.lemmas.Option.{same_Some, none-some, slice_get_within}
 use Rattle.shr_base.specs.declared.scripts.CacheDecl.{CacheDecl}
+use Rattle.shr_model.proofs.Members.{Has, map_has, flat_map_has}
 use Rattle.shr_seats.specs.Lines.{Deed, by_seat, part}
 use Rattle.shr_seats.specs.Weights.{Begins}
 use Rattle.shr_seats.proofs.Weighing.{begins_all, begins_more}
 use Rattle.shr_seats.proofs.Lining.{part-append}
 use Rattle.shr_core.specs.declared.view.View.{View}
 use Rattle.shr_core.specs.Order.{AreEvents}
-use Rattle.shr_core.specs.Parts.{Event}
+use Rattle.shr_core.specs.Gained.{among, cleared_in}
+use Rattle.shr_core.specs.Parts.{Event, cleared}
 use Rattle.shr_core.specs.Rule.{opener}
 use Rattle.shr_walk.specs.declared.seats.Shared.{Shared}
 use Rattle.shr_walk.specs.State.{WorkerState}
@@ -21,12 +23,14 @@ use Rattle.shr_report.specs.declared.report.Report.{Report}
 use Rattle.shr_assemble.specs.declared.logs.WorkerLog.{WorkerLog}
 use Rattle.shr_assemble.specs.Ends.{AreEndsOf, at_start, new_worker, with_workers}
 use Rattle.shr_assemble.specs.Makes.{IsMadeOf}
-use Rattle.shr_assemble.specs.Order.{IsInLine}
-use Rattle.shr_assemble.specs.Steps.{Step, steps_of, AreChained, state_after}
+use Rattle.shr_assemble.specs.Order.{IsInLine, IsOfWorker}
+use Rattle.shr_assemble.specs.Steps.{Step, IsAmong, steps_of, AreChained, state_after}
 use Rattle.shr_assemble.proofs.Crews.{there_at}
 use Rattle.shr_assemble.proofs.EndsSteps.{workers, is_crew}
-use Rattle.shr_assemble.proofs.Gathering.{mine_at}
+use Rattle.shr_assemble.proofs.Gathering.{at_some, mine_at, mine_is}
 use Rattle.shr_assemble.proofs.Joined.{joined_list}
+use Rattle.shr_assemble.proofs.Operations.{among_has, has_among}
+use Rattle.shr_assemble.proofs.Pairs.{either}
 use Rattle.shr_assemble.proofs.Rows.{DidEach}
 
 -- ---- the deeds of seats
@@ -101,16 +105,57 @@ after_did t [] k y c e = absurd (none-some y e)
 after_did t (x ∷ mine) zero y c e = subst (λ (z : Step). Begins z.after.core.did (state_after x.after mine).core.did) (same_Some x y e) (did_along x.after mine c.2)
 after_did t (x ∷ mine) (suc k) y c e = after_did x.after mine k y c.2 e
 
+-- no bit was cleared by these deeds
+abbrev ClearNone : List (Deed Event) → Type 0
+ClearNone deeds = (d : Deed Event) → Has deeds d → cleared_in d.act ≡ []
+
+none_left : {A : Type 0} (xs ys : List A) → xs ++ ys ≡ [] → (xs ≡ []) × (ys ≡ [])
+none_left [] ys e = (refl, e)
+none_left (x ∷ xs) ys e = absurd (cc)
+
+clear_none : (j : ℕ) (acts : List Event) → among cleared_in acts ≡ [] → ClearNone (by_seat j acts)
+clear_none j [] none d h = absurd h
+clear_none j (a ∷ acts) none d (inl e) = ap (λ (y : Deed Event). cleared_in y.act) (sym e) ∙ (none_left (cleared_in a) (among cleared_in acts) none).0
+clear_none j (a ∷ acts) none d (inr h) = clear_none j acts (none_left (cleared_in a) (among cleared_in acts) none).1 d h
+
+-- what was done in the end was done by the end of a step, but for what was done before
+done_by : (t : WorkerState) (mine : List Step) (d : Deed Event) → Has (state_after t mine).core.did d → Has t.core.did d ⊎ ((k : ℕ) × (y : Step) × (slice_get mine k ≡ Some y) × Has y.after.core.did d)
+done_by t [] d h = inl h
+done_by t (x ∷ mine) d h = ⊎_elim (λ early. inr (0, x, refl, early)) (λ late. inr (suc late.0, late.1, late.2, late.3)) (done_by x.after mine d h)
+
+part_has : (d : Deed Event) (line : List (Deed Event)) → Has line d → Has (part d.seat line) d
+part_has d (y ∷ line) (inl e) = subst (λ (b : Bool). Has (cond b (y ∷ part d.seat line) (part d.seat line)) d) (sym (eq-eqb y.seat d.seat (ap (λ (z : Deed Event). z.seat) e))) (inl e)
+part_has d (y ∷ line) (inr h) = kept (y.seat == d.seat) (part_has d line h)
+  where
+    kept : (b : Bool) → Has (part d.seat line) d → Has (cond b (y ∷ part d.seat line) (part d.seat line)) d
+    kept true has = inr has
+    kept false has = has
+part_has d [] h = absurd h
+
+has_part : (d : Deed Event) (j : ℕ) (line : List (Deed Event)) → Has (part j line) d → Has line d
+has_part d j [] h = absurd h
+has_part d j (y ∷ line) h = kept (has_part d j line) (y.seat == j) h
+  where
+    kept : (Has (part j line) d → Has line d) → (b : Bool) → Has (cond b (y ∷ part j line) (part j line)) d → Has (y ∷ line) d
+    kept rest true (inl e) = inl e
+    kept rest true (inr has) = inr (rest has)
+    kept rest false has = inr (rest has)
+
 record IsFirst (v : View) : Type 0 where
   seat : v.seat ≡ 0
   did : IsBy 0 v.did
+  clears : ClearNone v.did
 
 enters_if : (on : Bool) (decl : ℕ) (v w : View) → EntersIf on decl v w → IsFirst v → IsFirst w
-enters_if true decl v w e h = let adds = e.gains.adds in record { seat = adds.seat ∙ h.seat; did = subst (IsBy 0) (sym adds.noted) (by_more 0 v.seat v.did adds.did h.did h.seat) }
+enters_if true decl v w e h = let adds = e.gains.adds in record {
+  seat = adds.seat ∙ h.seat;
+  did = subst (IsBy 0) (sym adds.noted) (by_more 0 v.seat v.did adds.did h.did h.seat);
+  clears = λ d has. either v.did (by_seat v.seat adds.did) d (subst (λ l. Has l d) adds.noted has) (h.clears d) (clear_none v.seat adds.did adds.kinds.cleared d);
+}
 enters_if false decl v w e h = subst IsFirst (sym e) h
 
 entered : (caches : List CacheDecl) (n : ℕ) (w : View) → AreEntered caches n opener w → IsFirst w
-entered caches zero w e = subst IsFirst (sym e) (record { seat = refl; did = ([], refl) })
+entered caches zero w e = subst IsFirst (sym e) (record { seat = refl; did = ([], refl); clears = λ d none. absurd none })
 entered caches (suc n) w (u, before, one) = enters_if (is_on (slice_get caches n)) n u w one (entered caches n u before)
 
 module _ (x : Shared) (did : DidEach x) (logs : List WorkerLog) (e : Ends) (ends : AreEndsOf x logs e) (r : Report) (made : IsMadeOf x.script logs e r) where
@@ -145,10 +190,44 @@ module _ (x : Shared) (did : DidEach x) (logs : List WorkerLog) (e : Ends) (ends
       let row = crew.each worker log.0 t.0 (steps_of team worker) log.1 t.1 mine in
       (t.0, t.1, subst (λ (u : WorkerState). Begins y.after.core.did u.core.did) row.ends (after_did (new_worker ends.opened worker).seats (steps_of team worker) k y row.chained at))
 
+  -- a bit that was cleared a worker cleared
+  clearings : (d : Deed Event) (place : ℕ) → IsAmong d ends.core.line → d.act ≡ cleared place → IsOfWorker (workers x did logs e ends r made) d
+  clearings d place among is =
+      let opened = entered x.script.caches.items (length x.script.caches.items) ends.opened ends.entered in
+      let in_part : Has (part d.seat (with_workers (at_start ends.opened ends.standing) ends.lasts).core.did) d = subst (λ l. Has l d) (sym (ends.core.parts d.seat)) (part_has d ends.core.line (among_has ends.core.line d among)) in
+      let in_view : Has (ends.opened.did ++ flat_map deeds_of ends.lasts) d = subst (λ l. Has l d) (joined_list {A = Deed Event} (λ g. g.core.did) deeds_of (λ g w. refl) (at_start ends.opened ends.standing) ends.lasts) (has_part d d.seat _ in_part) in
+      either ends.opened.did (flat_map deeds_of ends.lasts) d in_view
+      (λ first. absurd (let none : place ∷ [] ≡ [] = ap cleared_in (sym is) ∙ opened.clears d first in cc))
+      (λ later. let w = flat_map_has deeds_of ends.lasts d later in of_last (has_among ends.lasts w.0 w.1).0 w.0 (at_some ends.lasts _ w.0 (has_among ends.lasts w.0 w.1).1) w.2)
+    where
+      seat_of : (j : ℕ) (deeds : List (Deed Event)) → IsBy j deeds → Has deeds d → d.seat ≡ j
+      seat_of j deeds by has = let a = map_has (λ (act : Event). record { seat = j; act = act }) by.0 d (subst (λ l. Has l d) by.1 has) in ap (λ (z : Deed Event). z.seat) (sym a.2)
+
+      of_last : (i : ℕ) (w : CrewState) → slice_get ends.lasts i ≡ Some w → Has (deeds_of w) d → IsOfWorker (workers x did logs e ends r made) d
+      of_last i w at has =
+          let team = workers x did logs e ends r made in
+          let crew = is_crew x did logs e ends r made in let workers_are = crew.workers_are in let lasts_are = crew.lasts_are in
+          let within = slice_get_within ends.lasts i w at in
+          let log = there_at logs i (omega (arith, within, lasts_are)) in
+          let mine = there_at team i (omega (arith, within, workers_are, lasts_are)) in
+          let row = crew.each i log.0 w mine.0 log.1 at mine.1 in
+          let acts = lasts_by i w at in
+          ⊎_elim (λ none. absurd none)
+          (λ t. record {
+            worker = i;
+            k = t.0;
+            step = t.1;
+            at = ap (λ l. slice_get l t.0) (mine_is team i mine.0 mine.1) ∙ t.2;
+            seat = seat_of (1 + i) (deeds_of w) acts has;
+            among = has_among t.1.after.core.did d t.3;
+          })
+          (done_by (new_worker ends.opened i).seats mine.0 d (subst (λ (u : WorkerState). Has u.core.did d) (sym row.ends) has))
+
   pub in_line : IsInLine x.script (workers x did logs e ends r made)
   in_line = record {
     line = ends.core.line;
     events = subst (λ (n : ℕ). AreEvents x.script.ids n ends.core.line) ends.from_start.first (subst (λ (n : ℕ). AreEvents n x.core.setting.first_lookup ends.core.line) ends.shared.ids ends.core.events);
     parts = λ worker k y at. let c = chain_of worker k y at in subst (Begins y.after.core.did) (sym (own_part worker c.0 c.1) ∙ ends.core.parts (1 + worker)) c.2;
     own = ends.core.own;
+    clearings = clearings;
   }

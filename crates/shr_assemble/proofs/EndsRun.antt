@@ -14,6 +14,7 @@ use Rattle.shr_assemble.proofs.EndsGathered.{journals}
 use Rattle.shr_assemble.proofs.EndsHistories.{uses_and_tree}
 use Rattle.shr_assemble.proofs.EndsIdle.{idle}
 use Rattle.shr_assemble.proofs.ScriptSizes.{sized_of}
+use Rattle.shr_assemble.proofs.EndsMarks.{marks}
 use Rattle.shr_assemble.proofs.EndsOpened.{opened, once}
 use Rattle.shr_assemble.proofs.EndsOrder.{in_line}
 use Rattle.shr_assemble.proofs.EndsPool as pool
@@ -37,6 +38,7 @@ run_of_ends x did logs e ends r made = record {
   isolations = isolating x did logs e ends r made;
   journals = journals x did logs e ends r made;
   bits = bits x did logs e ends r made;
+  marks = marks x did logs e ends r made;
   pool = record {
     journal = pool.journal x did logs e ends r made;
     opened = opened x did logs e ends r made;

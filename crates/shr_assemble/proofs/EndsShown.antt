@@ -1,7 +1,8 @@
 -- What a worker has made, seen and knows after a step is so in the report, of a run whose workers are done.
-use Rattle.std.proofs.Common.{◌≡◌, ℕ, ◌<◌, ◌≤◌, List, length, sym, ap, subst, ◌∙◌, arith, eq-eqb}
+use Rattle.std.proofs.Common.{◌≡◌, ℕ, ◌+◌, ◌*◌, ◌/◌, ◌<◌, ◌≤◌, List, length, sym, ap, subst, ◌∙◌, arith, eq-eqb}
 use Rattle.std.specs.Prelude.{slice_get}
 use Rattle.std.specs.Int.{bit_at}
+use Rattle.std.proofs.lemmas.Bool.{eqb-true}
 use Rattle.std.proofs.lemmas.Option.{slice_get_within}
 use Rattle.shr_base.specs.declared.ends.Closed.{Closed}
 use Rattle.shr_base.specs.declared.journals.PoolEntry.{PoolEntry}
@@ -21,7 +22,7 @@ use Rattle.shr_report.specs.declared.report.Report.{Report}
 use Rattle.shr_report.specs.Parts.{parents_of, journals_of, items_before, IsThere}
 use Rattle.shr_assemble.specs.Steps.{Step}
 use Rattle.shr_assemble.specs.Entries.{StandsIn}
-use Rattle.shr_assemble.specs.Runs.{IsMapOf, all_cleared}
+use Rattle.shr_assemble.specs.Runs.{IsMapOf, all_cleared, all_sets}
 use Rattle.shr_assemble.proofs.Gathering.{at_some}
 use Rattle.shr_assemble.proofs.EndsJournals.{by_number, there_of, items_stand}
 use Rattle.shr_assemble.proofs.ScriptSizes.{sized_of}
@@ -49,14 +50,21 @@ module _ (x : Shared) (shared : IsShared x) (r : Report) (v : View) (closed : Cl
   seen_shown j c e = let t = left.seen j c e in
       (subst (λ l. c.version ≤ length l) (sym (now_at c.place)) t.0, t.1 ∙ ap (λ l. length l) (items_stand x shared r v closed left same c.place c.version t.0))
 
-  pub maps_shown : (workers : List (List Step)) → v.marks.cleared ≡ all_cleared workers → Each (IsMapOf x.script workers) v.marks.maps
-  maps_shown workers cleared j m e = record {
+  pub maps_shown : (workers : List (List Step)) → v.marks.cleared ≡ all_cleared workers → v.marks.sets ≡ all_sets workers → Each (IsMapOf x.script workers) v.marks.maps
+  maps_shown workers cleared sets j m e = record {
     set = λ place there of some none.
         let sized = sized_of x shared in let ids = shared.ids in let node = there.node in let group = there.group in let id = there.id in let nodes = sized.nodes in let groups = sized.groups in
         let map_is : map_of (place_number place) ≡ m.map = (let e : map_of (place_number place) ≡ map_number place.node place.group (unit_of place.id) = omega (arith, node, group, nodes, groups) in e) ∙ of in
         let bit : layout.bit_of (place_number place) ≡ bit_of place.id = omega (arith, node, group, nodes, groups) in
         let set = left.mapped j m e (place_number place) (omega (arith, id, node, group, nodes, groups, ids)) map_is some (ap (times (place_number place)) cleared ∙ none) in
         eq-eqb (bit_at m.bits (bit_of place.id)) 1 (ap (bit_at m.bits) (sym bit) ∙ set);
+    of_ids = λ bit few some. let id = left.none_shown j m e bit few (eqb-true (bit_at m.bits bit) 1 some) in subst (λ n. 64 * (m.map / 1024) + bit < n) shared.ids id;
+    shown = λ place there of some.
+        let sized = sized_of x shared in let ids = shared.ids in let node = there.node in let group = there.group in let id = there.id in let nodes = sized.nodes in let groups = sized.groups in
+        let map_is : map_of (place_number place) ≡ m.map = (let e : map_of (place_number place) ≡ map_number place.node place.group (unit_of place.id) = omega (arith, node, group, nodes, groups) in e) ∙ of in
+        let bit : layout.bit_of (place_number place) ≡ bit_of place.id = omega (arith, node, group, nodes, groups) in
+        let one : bit_at m.bits (bit_of place.id) ≡ 1 = eqb-true (bit_at m.bits (bit_of place.id)) 1 some in
+        subst (λ (l : List ℕ). 0 < times (place_number place) l) sets (left.shown j m e (place_number place) (omega (arith, id, node, group, nodes, groups, ids)) map_is (ap (bit_at m.bits) bit ∙ one));
   }
 
   pub tried_shown : Each (λ (a : Tried). (a.id < x.script.ids) × (a.held ≡ decl_at a.number (registrations a.id r.pool.items))) v.claims.attempts

@@ -119,10 +119,10 @@ module _ (x : Shared) (did : DidEach x) (logs : List WorkerLog) (e : Ends) (ends
   -- what each worker knows and has done at the start
   is_new : (worker : ℕ) → IsNew x.script (new_worker ends.opened worker).seats
   is_new worker = record {
+    did = refl;
     made = refl;
     seen = refl;
     sets = refl;
-    did = refl;
     pool = let known = known_opened x.script.caches.items (length x.script.caches.items) ends.opened ends.entered in let are = on_are x.script.caches.items 0 in omega (arith, known, are);
     ops = refl;
     charges = refl;

@@ -35,6 +35,7 @@ use Rattle.shr_assemble.specs.Deferred.{DidCarry}
 use Rattle.shr_assemble.specs.Offlining.{IsEntryOf}
 use Rattle.shr_assemble.specs.Steps.{Step, IsAmong, steps_of, AreChained}
 use Rattle.shr_assemble.specs.Runs.{IsRun}
+use Rattle.shr_assemble.proofs.BitsToldLaw.{bits_told}
 use Rattle.shr_assemble.proofs.Chains.{first_grows}
 use Rattle.shr_assemble.proofs.Flattening.{all_carries_are}
 use Rattle.shr_assemble.proofs.FreshLaw.{of_is, step_cases, none_given, begins_length}
@@ -205,4 +206,5 @@ module _ (s : Script) (r : Report) (workers : List (List Step)) (run : IsRun s r
     handed = handed s r workers run;
     climbs = climbs s r workers run;
     tries = tries s r workers run;
+    bits = bits_told s r workers run;
   }

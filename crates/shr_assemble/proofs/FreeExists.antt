@@ -44,7 +44,7 @@ use Rattle.shr_assemble.proofs.WornWeights.{one_list, freed_total}
 -- ---- lists
 
 -- the outcome of one entry
-outcome_at : (moved : List (List Object)) (items : List Object) (es : List Entry) (n : ℕ) (e : Entry) → AreOutcomes moved items es → slice_get es n ≡ Some e → IsOutcome (first_moved (moved_from moved (take n es))) (items_from moved items (take n es)) e
+pub outcome_at : (moved : List (List Object)) (items : List Object) (es : List Entry) (n : ℕ) (e : Entry) → AreOutcomes moved items es → slice_get es n ≡ Some e → IsOutcome (first_moved (moved_from moved (take n es))) (items_from moved items (take n es)) e
 unfolding AreOutcomes moved_from items_from
 outcome_at moved items [] n e h at = absurd (none-some e at)
 outcome_at moved items (x ∷ es) zero e h at = subst (IsOutcome (first_moved moved) items) (same_Some x e at) h.0

@@ -54,6 +54,7 @@ use Rattle.shr_assemble.proofs.Quiet.{step_of, HasDid, calm_walks, still_charges
 use Rattle.shr_assemble.proofs.QuietSteps.{AreTables, tree_is, known_meets}
 use Rattle.shr_assemble.proofs.QuietTenant.{without, unfound_lookups}
 use Rattle.shr_assemble.proofs.QuietDrains.{each_rec}
+use Rattle.shr_assemble.proofs.Filling.{set_filled}
 use Rattle.shr_assemble.proofs.QuietSplices.{IsSpliceEntry, IsSplicedTo, spliced_all}
 use Rattle.shr_assemble.proofs.QuietCarries.{carried_taken, carried_given}
 use Rattle.shr_assemble.proofs.OfflineDid.{giving, HasBegunTo, splices_freed, splices_may}
@@ -209,6 +210,7 @@ module _ (x : Shared) (tables : AreTables x) where
               entries = record {
                 each = each_rec (λ (m : core.Made). MayMake x.script z m m.entry) h.spliced.made (splices_may x z group h.spliced.made h.spliced.made refl refl may known_begin each);
                 reply = λ family stands. replied family;
+                sets = set_filled h.spliced.made [] h.spliced.sets h.spliced.filled;
                 cited = λ c e. absurd (none-some c (sym uncited ∙ e));
               };
               lookups = unfound_lookups x.script z refl refl;

@@ -26,6 +26,7 @@ use Rattle.shr_base.specs.declared.walks.Isolation.{Isolation}
 use Rattle.shr_model.specs.Commands.{decl_named}
 use Rattle.shr_model.specs.Places.{place_number}
 use Rattle.shr_seats.specs.Views.{Each}
+use Rattle.shr_seats.proofs.Weighing.{Each-none}
 use Rattle.shr_seats.specs.Weights.{Begins}
 use Rattle.shr_core.specs.declared.view.View.{View}
 use Rattle.shr_core.specs.Gained.{nothing, Adds}
@@ -60,6 +61,7 @@ use Rattle.shr_assemble.specs.Did.{Did}
 use Rattle.shr_assemble.specs.Entries.{MayMake}
 use Rattle.shr_assemble.specs.Isolating.{isolated_in, DidIsolation, DidIsolations}
 use Rattle.shr_assemble.proofs.Bringing.{brings_of, brings_then}
+use Rattle.shr_assemble.proofs.Filling.{IsSet}
 use Rattle.shr_assemble.proofs.Gathering.{some_at}
 use Rattle.shr_assemble.proofs.Listed.{by_slices}
 use Rattle.shr_assemble.proofs.Operations.{PairsRec}
@@ -211,6 +213,7 @@ module _ (x : Shared) (tables : AreTables x) (by : Serial) (group node decl budg
       entries = record {
         each = λ j m at. let k = visited.scans j m at in may_make m m.entry k.0 k.1;
         reply = λ family stands. tt;
+        sets = Each-none (IsSet visited.made []);
         cited = λ c no. absurd (none-some c no);
       };
       lookups = found_lookups x.script step decl f refl refl refl (found_by x group decl f call s called on_cache visited.made [] visited.gains step turns_is (0, refl));

@@ -34,6 +34,8 @@ pub mod Spots
 pub mod CountsTold
 pub mod EventsTold
 pub mod OneOrderLaw
+pub mod BitsKeptLaw
+pub mod BitsToldLaw
 pub mod EntryCauses
 pub mod WalkCauses
 pub mod AnswerCauses
@@ -49,6 +51,7 @@ pub mod FaithfulLaw
 pub mod OfflinedCause
 pub mod Spending
 pub mod Bringing
+pub mod Filling
 pub mod Quiet
 pub mod QuietSteps
 pub mod FirstLists
@@ -100,6 +103,7 @@ pub mod EndsDeferred
 pub mod EndsIdle
 pub mod BitWords
 pub mod EndsBits
+pub mod EndsMarks
 pub mod WordPlaces
 pub mod EndsWords
 pub mod EndsTotals

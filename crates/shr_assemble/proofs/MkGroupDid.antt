@@ -66,7 +66,7 @@ module _ (x : Shared) (tables : AreTables x) (by : Serial) (group : ℕ) (s t : 
         work = giving made;
         does = brings_of does;
         did = record {
-          entries = no_entries x.script z refl row uncited;
+          entries = no_entries x.script z refl refl row uncited;
           lookups = unfound_lookups x.script z refl refl;
           walks = calm_walks x.script z tt (record { walks = refl; seen = refl; maps = refl; cleared = refl });
           charges = still_charges x.script z (record { ops = refl; charges = refl; uncharges = refl; freed = λ g. refl; added = λ g. refl; charged = λ g. refl });

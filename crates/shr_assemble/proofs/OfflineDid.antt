@@ -55,6 +55,7 @@ use Rattle.shr_assemble.proofs.Bringing.{brings_of}
 use Rattle.shr_assemble.proofs.Listed.{begins_slice, slice_contains, contains_among, contains_slice, no_test}
 use Rattle.shr_charge.proofs.TreeFacts.{begin_at, begun_before, done_at, done_found, begin_found}
 use Rattle.shr_assemble.proofs.QuietDrains.{each_rec}
+use Rattle.shr_assemble.proofs.Filling.{set_filled}
 use Rattle.shr_assemble.proofs.QuietSplices.{IsMovedIn, IsShut, IsSpliceEntry, IsSplicedTo, spliced_one, spliced_all, spliced_then}
 use Rattle.shr_charge.specs.Answers.{gave}
 use Rattle.shr_charge.specs.Offlining.{WasState, IsNamed}
@@ -164,7 +165,7 @@ module _ (x : Shared) (tables : AreTables x) (by : Serial) (group : ℕ) (s t : 
         work = giving [];
         does = brings_of does;
         did = record {
-          entries = no_entries x.script z refl row uncited;
+          entries = no_entries x.script z refl refl row uncited;
           lookups = unfound_lookups x.script z refl refl;
           walks = calm_walks x.script z tt (record { walks = refl; seen = refl; maps = refl; cleared = refl });
           charges = still_charges x.script z (record { ops = refl; charges = refl; uncharges = refl; freed = λ g. refl; added = λ g. refl; charged = λ g. refl });
@@ -319,6 +320,7 @@ module _ (x : Shared) (tables : AreTables x) (by : Serial) (group : ℕ) (s u t 
           entries = record {
             each = each_rec (λ (m : core.Made). MayMake x.script z m m.entry) sp.made (spliced_may x z group sp.made sp.made refl refl may known each);
             reply = λ family stands. row family;
+            sets = set_filled sp.made [] sp.sets sp.filled;
             cited = λ c e. absurd (none-some c (sym uncited ∙ e));
           };
           lookups = unfound_lookups x.script z refl refl;

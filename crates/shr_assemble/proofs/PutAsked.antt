@@ -45,7 +45,7 @@ use Rattle.shr_walk.proofs.Doing.{does_none, does_then}
 use Rattle.shr_walk.proofs.FreshLaws.{fresh_none}
 use Rattle.shr_assemble.specs.Causes.{IsCausedBy}
 use Rattle.shr_assemble.specs.Charges.{added_below, freed_below}
-use Rattle.shr_assemble.specs.Entries.{StandsIn, MayMake, IsCited}
+use Rattle.shr_assemble.specs.Entries.{StandsIn, MayMake, IsFilled, IsCited}
 use Rattle.shr_assemble.specs.Lookups.{IsFoundBy, number_made, number_found}
 use Rattle.shr_assemble.specs.Offlining.{KnowsOnline, MeetsGroups}
 use Rattle.shr_assemble.specs.Steps.{Step, Brings, IsAmong}
@@ -107,6 +107,7 @@ module _ (x : Shared) (table : IsTableOf x) (by : Serial) (group node decl : ℕ
     seen = refl;
     maps = refl;
     cleared = refl;
+    sets = refl;
     numbers = refl;
     fresh = fresh_none s.core;
     set = Each-none (λ (m : Mapped). Begins s.core.marks.sets m.set);
@@ -154,6 +155,7 @@ module _ (x : Shared) (table : IsTableOf x) (by : Serial) (group node decl : ℕ
       whole_did x.script by command (without r) s t t v no_work walked (brings_of (does_none t)) tail_none record {
         may = Each-none (λ (y : Made). MayMake x.script z y y.entry);
         reply = λ family stands. row family;
+        sets = Each-none (IsFilled []);
         cited = λ at e. absurd (none-some at (sym uncited ∙ e));
         numbers = refl;
         found = λ d f e has. absurd (none-some f has);
@@ -193,6 +195,7 @@ module _ (x : Shared) (table : IsTableOf x) (by : Serial) (group node decl : ℕ
       pub ops : AreOps x by group adm.tries (adm.rounds ++ named_by answer) kept (then_work first q)
       pub may : Each (λ (y : Made). MayMake x.script (whole x.script by command a s charged_at t first q) y y.entry) q.core.made
       pub row : (family : Family) → Each (StandsIn (parents_of x.script) family) (first.core.made ++ q.core.made) → IsReply (parents_of x.script) family by command (id_found a) a.reply
+      pub sets : Each (IsFilled q.core.made) q.core.sets
       pub cited : (at : At) → cited_by a.reply ≡ Some at → IsCited x.script (whole x.script by command a s charged_at t first q) at
       pub numbers : map number_made q.core.attempts ≡ number_found a.found
       pub found : (f : Found) → a.found ≡ Some f → IsFoundBy (whole x.script by command a s charged_at t first q) decl f
@@ -213,6 +216,7 @@ module _ (x : Shared) (table : IsTableOf x) (by : Serial) (group node decl : ℕ
     asked_did q kept h = let z : Step = whole x.script by command a s charged_at t first q in whole_did x.script by command a s charged_at t first q walked_first h.does h.tail record {
       may = h.may;
       reply = h.row;
+      sets = h.sets;
       cited = h.cited;
       numbers = h.numbers;
       found = λ d f e has. subst (λ (n : ℕ). IsFoundBy z n f) (same_Some decl d e) (h.found f has);
@@ -258,6 +262,7 @@ module _ (x : Shared) (table : IsTableOf x) (by : Serial) (group node decl : ℕ
         ops = ops_alone a answer s t t asks seen;
         may = Each-none (λ (y : Made). MayMake x.script z y y.entry);
         row = λ family stands. tt;
+        sets = Each-none (IsFilled []);
         cited = λ at e. absurd (none-some at e);
         numbers = refl;
         found = λ f e. absurd (none-some f e);
@@ -289,6 +294,7 @@ module _ (x : Shared) (table : IsTableOf x) (by : Serial) (group node decl : ℕ
         ops = ops_alone a admission.Memory s t t asks seen;
         may = Each-none (λ (y : Made). MayMake x.script z y y.entry);
         row = λ family stands. tt;
+        sets = Each-none (IsFilled []);
         cited = λ at e. absurd (none-some at e);
         numbers = refl;
         found = λ f e. absurd (none-some f e);

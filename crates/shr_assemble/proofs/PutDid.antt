@@ -52,7 +52,8 @@ use Rattle.shr_assemble.specs.Charges.{added_below}
 use Rattle.shr_assemble.proofs.Bringing.{brings_of}
 use Rattle.shr_charge.specs.declared.answers.GroupState.TheVariants as state
 use Rattle.shr_assemble.proofs.PutParts.{whole}
-use Rattle.shr_assemble.proofs.PutAsked.{adm, first, first_ops, load_walked, unasked_did, over_did, memory_did, ops_quiet}
+use Rattle.shr_assemble.proofs.Filling.{filled_by, set_last}
+use Rattle.shr_assemble.proofs.PutAsked.{adm, first, walked_first, first_ops, load_walked, unasked_did, over_did, memory_did, ops_quiet}
 use Rattle.shr_assemble.proofs.PutBack.{not_scanned, offering_tail}
 use Rattle.shr_assemble.proofs.PutFound.{Seen, noted_did}
 use Rattle.shr_assemble.proofs.PutOffers.{offering, offering_does, entry, bits, place_same}
@@ -122,6 +123,7 @@ module _ (x : Shared) (table : IsTableOf x) (by : Serial) (group node decl : ℕ
         ops = ops_quiet x by group d.tries (d.rounds ++ []) (path_of x.charge.shape.parents.items group) v q (first_ops x table by group node decl key value inside a admission.Charged s h.charged t h.asks seen) refl refl refl (λ n. refl);
         attempts = refl;
         made_are = refl;
+        filled = filled_by m;
         core = refl;
         over = λ n. refl;
         other = λ n operation usage eq. cc;
@@ -137,7 +139,9 @@ module _ (x : Shared) (table : IsTableOf x) (by : Serial) (group node decl : ℕ
       (λ eq above empty. let low = ap (λ (p : Place). p.group) same in
       let long = ap (λ (l : List Object). length l) (grew ∙ ap (λ l. l ++ object ∷ []) empty) in
       let bit = filled_bit (place_number c.place) acts.old.items (step [] acts.old.items (e acts.old)) empty (omega (arith, long)) (omega (arith, low, above)) in
-      let all = total-append (only (place_number c.place)) v.core.sets set in omega (arith, all, bit))
+      let all = total-append (only (place_number c.place)) v.core.sets set in
+      let last = set_last s.core h.charged.core t.core v.core q.core (brings_of (walked_first x table by group node decl key value inside a admission.Charged s h.charged t h.asks seen).does).core (brings_of (offering_does x decl f call h.charged o.held t o.holds o.calls (m ∷ []) set acts.gains)).core (place_number c.place) bit refl in
+      (omega (arith, all, bit), record { front = last.0; back = last.1; did = last.2; clears_none = last.3 }))
     where
       none_before : (n : ℕ) → 0 + n ≡ n
       none_before n = omega arith

@@ -40,7 +40,7 @@ use Rattle.shr_walk.specs.State.{WorkerState, Work, then_work}
 use Rattle.shr_walk.specs.declared.seats.Shared.{Shared}
 use Rattle.shr_assemble.specs.Causes.{IsCausedBy}
 use Rattle.shr_assemble.specs.Charges.{added_below}
-use Rattle.shr_assemble.specs.Entries.{IsTold, MayMake, IsCited}
+use Rattle.shr_assemble.specs.Entries.{IsTold, MayMake, IsSetLast, IsFilled, IsCited}
 use Rattle.shr_assemble.specs.Lookups.{IsFoundBy, number_made}
 use Rattle.shr_assemble.specs.Steps.{Step, IsAmong, Brings}
 use Rattle.shr_report.specs.Tries.{refusals_of, was_charged}
@@ -87,6 +87,7 @@ module _ (x : Shared) (table : IsTableOf x) (tables : AreTables x) (by : Serial)
       pub ops : AreOps x by group (adm x table by group node decl key value inside a admission.Charged s charged_at t asks seen).tries ((adm x table by group node decl key value inside a admission.Charged s charged_at t asks seen).rounds ++ []) kept (then_work first_work q)
       pub attempts : q.core.attempts ≡ tried_by decl f ∷ []
       pub made_are : q.core.made ≡ made
+      pub filled : Each (IsFilled made) q.core.sets
       pub core : t.core ≡ offered.core
       pub over : (h : ℕ) → over_at h r ≡ 0
       pub other : (g operation usage : ℕ) → r ≡ reply.Over g operation usage → ⊥
@@ -124,6 +125,7 @@ module _ (x : Shared) (table : IsTableOf x) (tables : AreTables x) (by : Serial)
           ops = h.ops;
           may = subst (λ (l : List Made). Each (λ (y : Made). MayMake x.script step_is y y.entry) l) (sym (h.made_are ∙ none)) (Each-none (λ (y : Made). MayMake x.script step_is y y.entry));
           row = λ family stands. row family;
+          sets = subst (λ (l : List Made). Each (IsFilled l) q.core.sets) (sym h.made_are) h.filled;
           cited = λ at e. absurd (none-some at (sym uncited ∙ e));
           numbers = ap (map number_made) h.attempts;
           found = found_is;
@@ -147,7 +149,7 @@ module _ (x : Shared) (table : IsTableOf x) (tables : AreTables x) (by : Serial)
       noted = entry x decl f call charged_at held offered holds calls tables node on group inside c so e acts
 
       module _ (h : IsOffered (noted ∷ [])) (may : IsTold step_is noted by → MayMake x.script step_is noted (e acts.old)) (en : Entry) (is : e acts.old ≡ en) (row : (family : Family) → Cites family c f.id node en → IsReply (parents_of x.script) family by Command_of (Some f.id) r)
-          (cites : cited_by r ≡ Some c) (filled : r ≡ reply.Added c → 0 < c.place.group → acts.old.items ≡ [] → 0 < times (place_number c.place) (first_work.core.sets ++ q.core.sets)) where
+          (cites : cited_by r ≡ Some c) (filled : r ≡ reply.Added c → 0 < c.place.group → acts.old.items ≡ [] → (0 < times (place_number c.place) (first_work.core.sets ++ q.core.sets)) × IsSetLast step_is (place_number c.place)) where
         same_place : place_at (place_number c.place) ≡ c.place
         same_place = place_same x decl f call charged_at held offered holds calls tables node on group inside c so e acts
 
@@ -176,6 +178,7 @@ module _ (x : Shared) (table : IsTableOf x) (tables : AreTables x) (by : Serial)
           ops = h.ops;
           may = subst (λ (l : List Made). Each (λ (y : Made). MayMake x.script step_is y y.entry) l) (sym h.made_are) (each_one (λ (y : Made). MayMake x.script step_is y y.entry) noted (may (is_told step_is noted c same_place (sym acts.number) cites)));
           row = λ family stands. row family (cites_is x decl f call charged_at held offered holds calls tables node on group inside c so e acts family en (stands among.0 noted among.1) is);
+          sets = subst (λ (l : List Made). Each (IsFilled l) q.core.sets) (sym h.made_are) h.filled;
           cited = λ d eq. subst (IsCited x.script step_is) (same_Some c d (sym cites ∙ eq)) cited_is;
           numbers = ap (map number_made) h.attempts;
           found = found_is (noted ∷ []) _ acts.gains h;

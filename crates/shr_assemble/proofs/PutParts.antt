@@ -39,13 +39,14 @@ use Rattle.shr_assemble.specs.Attempts.{scan_made, scans_made}
 use Rattle.shr_assemble.specs.Causes.{IsCausedBy}
 use Rattle.shr_assemble.specs.Charges.{DidCharges}
 use Rattle.shr_assemble.specs.Deferred.{DidCarry}
-use Rattle.shr_assemble.specs.Entries.{StandsIn, MayMake, IsCited}
+use Rattle.shr_assemble.specs.Entries.{StandsIn, MayMake, IsFilled, IsCited}
 use Rattle.shr_assemble.specs.Lookups.{IsFoundBy, number_made, numbers_tried, number_found}
 use Rattle.shr_assemble.specs.Offlining.{KnowsOnline, MeetsGroups}
 use Rattle.shr_assemble.specs.Steps.{Step, Brings}
-use Rattle.shr_assemble.specs.Walks.{DidRoundsOf, counted_in, mapped_in, cleared_in, word_of}
+use Rattle.shr_assemble.specs.Walks.{DidRoundsOf, counted_in, mapped_in, cleared_in, set_in, word_of}
 use Rattle.shr_assemble.proofs.Bringing.{brings_of, brings_then}
-use Rattle.shr_assemble.proofs.Gathering.{among_left}
+use Rattle.shr_assemble.proofs.Filling.{IsSet, set_walked, set_filled, filled_among}
+use Rattle.shr_assemble.proofs.Gathering.{among_left, among_right}
 use Rattle.shr_assemble.proofs.Quiet.{HasDid, still_pool, still_tree, IsToldOnce}
 use Rattle.shr_assemble.proofs.WalkingSteps.{OnlyScan, slice_left, step_of, Has, walk_later, Walked}
 use Rattle.shr_assemble.proofs.WalkingChain.{FrontHad, any_cut, front_pairs}
@@ -78,6 +79,7 @@ module _ (script : Script) (by : Serial) (c : Command) (a : Answered) (s m t : W
   pub record IsWhole : Type 0 where
     pub may : Each (λ (y : Made). MayMake script whole y y.entry) q.core.made
     pub reply : (family : Family) → Each (StandsIn (parents_of script) family) (v.core.made ++ q.core.made) → IsReply (parents_of script) family by c (id_found a) a.reply
+    pub sets : Each (IsFilled q.core.made) q.core.sets
     pub cited : (at : At) → cited_by a.reply ≡ Some at → IsCited script whole at
     pub numbers : map number_made q.core.attempts ≡ number_found a.found
     pub found : (decl : ℕ) (f : Found) → decl_named c ≡ Some decl → a.found ≡ Some f → IsFoundBy whole decl f
@@ -144,6 +146,9 @@ module _ (script : Script) (by : Serial) (c : Command) (a : Answered) (s m t : W
         entries = record {
           each = Each-append (λ (y : Made). MayMake script whole y y.entry) v.core.made q.core.made (λ j y e. may_scan y y.entry (walked.scans j y e)) h.may;
           reply = h.reply;
+          sets = Each-append (IsSet (v.core.made ++ q.core.made) (v.walks ++ q.walks)) v.core.sets q.core.sets
+              (set_walked (v.core.made ++ q.core.made) (v.walks ++ q.walks) v.core.sets (ap (flat_map set_in) walks_same ∙ walked.sets))
+              (set_filled (v.core.made ++ q.core.made) (v.walks ++ q.walks) q.core.sets (filled_among q.core.made (v.core.made ++ q.core.made) (λ y has. among_right v.core.made q.core.made y has) q.core.sets h.sets));
           cited = h.cited;
         };
         lookups = record {

@@ -19,6 +19,7 @@ use Rattle.shr_model.specs.Objects.{fresh, holds}
 use Rattle.shr_model.specs.Commands.{rounds_from}
 use Rattle.shr_model.specs.Pool.{is_live_decl}
 use Rattle.shr_model.specs.Walks.{job_of}
+use Rattle.shr_seats.specs.Views.{Each}
 use Rattle.shr_seats.proofs.Weighing.{Each-none}
 use Rattle.shr_cache.specs.Puts.{PutsInVain}
 use Rattle.shr_core.specs.declared.view.View.{View}
@@ -35,10 +36,11 @@ use Rattle.shr_report.specs.Parts.{parents_of}
 use Rattle.shr_walk.specs.State.{WorkerState, Work, then_work, Does}
 use Rattle.shr_walk.specs.declared.seats.Shared.{Shared}
 use Rattle.shr_assemble.specs.Charges.{added_below, freed_below}
-use Rattle.shr_assemble.specs.Entries.{MayMake}
+use Rattle.shr_assemble.specs.Entries.{MayMake, IsFilled}
 use Rattle.shr_assemble.specs.Steps.{Step}
 use Rattle.shr_assemble.proofs.Gathering.{among_left, among_right}
 use Rattle.shr_assemble.proofs.Listed.{contains_among}
+use Rattle.shr_assemble.proofs.Filling.{filled_by}
 use Rattle.shr_assemble.proofs.PutAsked.{command, adm, first, asked_did, none_added_alone}
 use Rattle.shr_assemble.proofs.PutFound.{Seen, silent_did, noted_did}
 use Rattle.shr_assemble.proofs.PutOffers.{offering, offering_does, list_worn, entry, bits}
@@ -87,6 +89,7 @@ module _ (x : Shared) (table : IsTableOf x) (tables : AreTables x) (by : Serial)
           ops = vain_ops x table tables by group node decl key value on inside a s h.puts.charged h.refused t h.puts.asks seen q does refl refl refl (λ n. refl) h.back;
           may = Each-none (λ (y : Made). MayMake x.script z y y.entry);
           row = λ family stands. tt;
+          sets = Each-none (IsFilled []);
           cited = λ at e. absurd (none-some at e);
           numbers = refl;
           found = λ f e. absurd (none-some f e);
@@ -132,6 +135,7 @@ module _ (x : Shared) (table : IsTableOf x) (tables : AreTables x) (by : Serial)
           ops = vain_ops x table tables by group node decl key value on inside a s h.puts.charged h.refused t h.puts.asks seen q does refl refl refl (λ n. refl) h.back;
           may = Each-none (λ (y : Made). MayMake x.script z y y.entry);
           row = λ family stands. tt;
+          sets = Each-none (IsFilled []);
           cited = λ at e. absurd (none-some at e);
           numbers = refl;
           found = λ f e. absurd (none-some f e);
@@ -190,6 +194,7 @@ module _ (x : Shared) (table : IsTableOf x) (tables : AreTables x) (by : Serial)
           ops = vain_ops x table tables by group node decl key value on inside a s h.puts.charged h.refused t h.puts.asks seen q does refl refl refl freed h.back;
           attempts = refl;
           made_are = refl;
+          filled = subst (Each (IsFilled (m ∷ []))) (sym (append-nil set)) (filled_by m);
           core = ap (λ (u : WorkerState). u.core) h.back.rest;
           over = λ n. refl;
           other = λ n operation usage e. cc;
@@ -225,6 +230,7 @@ module _ (x : Shared) (table : IsTableOf x) (tables : AreTables x) (by : Serial)
           ops = vain_ops x table tables by group node decl key value on inside a s h.puts.charged h.refused t h.puts.asks seen q does refl refl refl (λ n. refl) h.back;
           attempts = refl;
           made_are = refl;
+          filled = Each-none (IsFilled []);
           core = ap (λ (u : WorkerState). u.core) h.back.rest;
           over = λ n. refl;
           other = λ n operation usage e. cc;
@@ -256,6 +262,7 @@ module _ (x : Shared) (table : IsTableOf x) (tables : AreTables x) (by : Serial)
           ops = vain_ops x table tables by group node decl key value on inside a s h.puts.charged h.refused t h.puts.asks seen q does refl refl refl (λ n. refl) h.back;
           attempts = refl;
           made_are = refl;
+          filled = Each-none (IsFilled []);
           core = ap (λ (u : WorkerState). u.core) h.back.rest;
           over = λ n. refl;
           other = λ n operation usage e. cc;

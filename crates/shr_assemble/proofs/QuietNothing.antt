@@ -40,7 +40,7 @@ nothing_did s by c r before after same calm row uncited uncharged untold unmade 
       work = no_work;
       does = brings_of does;
       did = record {
-        entries = no_entries s z refl row uncited;
+        entries = no_entries s z refl refl row uncited;
         lookups = unfound_lookups s z refl refl;
         walks = calm_walks s z calm (record { walks = refl; seen = refl; maps = refl; cleared = refl });
         charges = still_charges s z (record { ops = refl; charges = refl; uncharges = refl; freed = λ g. refl; added = λ g. refl; charged = uncharged });

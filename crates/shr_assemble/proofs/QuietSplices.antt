@@ -1,13 +1,14 @@
 -- The entries that splicing a group's lists made.
-use Rattle.std.proofs.Common.{◌≡◌, ◌⊎◌, inl, inr, ⊎_elim, ℕ, suc, ◌<◌, ◌≤◌, List, [], ◌∷◌, ◌++◌, length, refl, sym, subst, arith}
-use Rattle.std.specs.Prelude.{map}
+use Rattle.std.proofs.Common.{◌≡◌, ◌⊎◌, inl, inr, ⊎_elim, ℕ, suc, ◌<◌, ◌≤◌, Bool, true, false, cond, List, [], ◌∷◌, ◌++◌, length, refl, sym, subst, arith}
+use Rattle.std.specs.Prelude.{map, ◌&&◌, nat_lt}
+use Rattle.std.proofs.lemmas.Bool.{ltb-true}
 use Rattle.std.specs.List.{AllByRecursion}
 use Rattle.std.proofs.lemmas.List.{append-nil}
 use Rattle.shr_base.specs.declared.journals.Entry.TheVariants.{MovedIn, Closed}
 use Rattle.shr_model.specs.Groups.{IsTree, IsAtOrAbove, parent_of}
 use Rattle.shr_seats.specs.Views.{Each}
 use Rattle.shr_seats.specs.Weights.{Begins}
-use Rattle.shr_seats.proofs.Weighing.{at_begins}
+use Rattle.shr_seats.proofs.Weighing.{at_begins, Each-none, Each-append}
 use Rattle.shr_core.specs.declared.view.View.{View}
 use Rattle.shr_seats.specs.declared.shape.Shape.{Shape}
 use Rattle.shr_core.specs.Gained.{nothing, Adds}
@@ -15,9 +16,11 @@ use Rattle.shr_core.specs.Layout.{group_of, beside}
 use Rattle.shr_core.specs.Parts.{Made, Known}
 use Rattle.shr_seats.specs.Shapes.{groups_in}
 use Rattle.shr_core.proofs.Gains.{adds_none, adds_then}
-use Rattle.shr_node.specs.Splicing.{Closing, made_in, bits_in, own_number, IsClosing, AreClosings}
+use Rattle.shr_node.specs.Splicing.{Closing, made_by, bits_by, above_place, made_in, bits_in, own_number, IsClosing, AreClosings}
 use Rattle.shr_offline.specs.Splices.{place_in, AreSpliced}
+use Rattle.shr_assemble.specs.Entries.{IsFilled}
 use Rattle.shr_assemble.specs.Steps.{IsAmong}
+use Rattle.shr_assemble.proofs.Filling.{filled_one, filled_among}
 use Rattle.shr_assemble.proofs.Gathering.{among_left, among_right}
 
 -- the list of a child was moved in, and the child's Closed is among these entries
@@ -62,9 +65,10 @@ pub record IsSplicedTo (parents : List ℕ) (group : ℕ) (v w : View) : Type 0 
   pub sets : List ℕ
   pub adds : Adds v w (record nothing { made = made; sets = sets })
   pub each : AllByRecursion (IsSpliceEntry parents group v made) made
+  pub filled : Each (IsFilled made) sets
 
 pub spliced_none : (parents : List ℕ) (group : ℕ) (v : View) → IsSplicedTo parents group v v
-spliced_none parents group v = record { made = []; sets = []; adds = adds_none v; each = tt }
+spliced_none parents group v = record { made = []; sets = []; adds = adds_none v; each = tt; filled = Each-none (IsFilled []) }
 
 pub spliced_then : (parents : List ℕ) (group : ℕ) (u v w : View) → IsSplicedTo parents group u v → IsSplicedTo parents group v w → IsSplicedTo parents group u w
 spliced_then parents group u v w a b = record {
@@ -74,6 +78,9 @@ spliced_then parents group u v w a b = record {
   each = both_parts (IsSpliceEntry parents group u (a.made ++ b.made)) a.made b.made
       (each_more parents group u u a.made (a.made ++ b.made) a.made ([], sym (append-nil u.traces.known)) (λ c h. among_left a.made b.made c h) a.each)
       (each_more parents group u v b.made (a.made ++ b.made) b.made a.adds.known (λ c h. among_right a.made b.made c h) b.each);
+  filled = Each-append (IsFilled (a.made ++ b.made)) a.sets b.sets
+      (filled_among a.made (a.made ++ b.made) (λ c h. among_left a.made b.made c h) a.sets a.filled)
+      (filled_among b.made (a.made ++ b.made) (λ c h. among_right a.made b.made c h) b.sets b.filled);
 }
 
 module _ (shape : Shape) (tree : IsTree shape.parents.items) (few : groups_in shape ≤ 256) (group : ℕ) where
@@ -105,8 +112,25 @@ module _ (shape : Shape) (tree : IsTree shape.parents.items) (few : groups_in sh
         ),
       )
 
+  -- a closing sets the bit of the parent's place where it moves an object into its list
+  bits_of : (id node : ℕ) (cs : List Closing) → Each (IsFilled (made_in ps id node cs)) (bits_in ps id node cs)
+  bits_of id node [] = Each-none (IsFilled [])
+  bits_of id node (c ∷ cs) = Each-append (IsFilled (made_in ps id node (c ∷ cs))) (bits_by ps id node c) (bits_in ps id node cs)
+      (filled_among (made_by ps id node c) (made_in ps id node (c ∷ cs)) (λ m h. among_left (made_by ps id node c) (made_in ps id node cs) m h) (bits_by ps id node c) (own (nat_lt 0 (length c.items)) (nat_lt 0 (parent_of ps c.child)) refl))
+      (filled_among (made_in ps id node cs) (made_in ps id node (c ∷ cs)) (λ m h. among_right (made_by ps id node c) (made_in ps id node cs) m h) (bits_in ps id node cs) (bits_of id node cs))
+    where
+      own : (a b : Bool) → nat_lt 0 (length c.items) ≡ a → Each (IsFilled (made_by ps id node c)) (cond (a && b) (above_place ps id node c ∷ []) [])
+      own false b e = Each-none (IsFilled (made_by ps id node c))
+      own true false e = Each-none (IsFilled (made_by ps id node c))
+      own true true e = filled_one (made_by ps id node c) (above_place ps id node c) (record {
+        entry = record { place = above_place ps id node c; number = c.above_number; entry = MovedIn c.child (length c.items); items = c.above_items };
+        among = (0, refl);
+        here = refl;
+        fills = ltb-true 0 (length c.items) e;
+      })
+
   pub spliced_one : (v w : View) (id node : ℕ) (cs : List Closing) → AreClosings shape v w id node group cs → IsSplicedTo ps group v w
-  spliced_one v w id node cs h = record { made = made_in ps id node cs; sets = bits_in ps id node cs; adds = h.gains.adds; each = entries_of v id node cs (made_in ps id node cs) h.each (λ c among. among) }
+  spliced_one v w id node cs h = record { made = made_in ps id node cs; sets = bits_in ps id node cs; adds = h.gains.adds; each = entries_of v id node cs (made_in ps id node cs) h.each (λ c among. among); filled = bits_of id node cs }
 
   pub spliced_all : (ns : List ℕ) (moved : ℕ) (v w : View) → AreSpliced shape (map (place_in shape group) ns) moved v w → IsSplicedTo ps group v w
   spliced_all [] moved v w h = subst (IsSplicedTo ps group v) h.1 (spliced_none ps group v)

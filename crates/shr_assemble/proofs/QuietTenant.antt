@@ -59,13 +59,14 @@ use Rattle.shr_report.specs.Charges.{charged}
 use Rattle.shr_report.specs.Freshness.{pool_told, pool_made, made_shown}
 use Rattle.shr_report.specs.ReplyTable.{IsReply, Cites, group_met}
 use Rattle.shr_assemble.specs.Steps.{Step, IsAmong}
-use Rattle.shr_assemble.specs.Entries.{IsReplyTo, StandsIn, IsTold, MayMake, IsCited, DidEntries}
+use Rattle.shr_assemble.specs.Entries.{IsReplyTo, StandsIn, IsTold, MayMake, IsSetLast, IsFilled, IsCited, DidEntries}
 use Rattle.shr_assemble.specs.Lookups.{DidLookups, IsFoundBy, number_made, numbers_tried, number_found}
 use Rattle.shr_assemble.specs.Causes.{IsCausedBy, IsUsedUpBy}
 use Rattle.shr_assemble.specs.Charges.{freed_below, added_below}
 use Rattle.shr_assemble.specs.Offlining.{KnowsOnline, MeetsGroups, KnowsUnmade}
 use Rattle.shr_assemble.specs.Worn.{IsWornBy, IsListWorn, IsOneMore, AreBoth}
 use Rattle.shr_assemble.proofs.Bringing.{brings_of}
+use Rattle.shr_assemble.proofs.Filling.{IsSet, filled_by, set_filled, set_none}
 use Rattle.shr_assemble.proofs.FirstLists.{each_begins, first_for}
 use Rattle.shr_assemble.proofs.Listed.{contains_among}
 use Rattle.shr_assemble.proofs.Quiet.{step_of, HasDid, IsCalm, calm_walks, still_moves, still_charges, still_pool, still_tree, IsToldOnce}
@@ -78,10 +79,11 @@ without r = record { reply = r; found = None }
 -- ---- entries
 
 -- no entry was made, and none is cited
-pub no_entries : (s : Script) (z : Step) → z.work.core.made ≡ [] → ((family : Family) → IsReplyTo (parents_of s) family z.by z.command (id_found z.answered) z.answered.reply) → cited_by z.answered.reply ≡ None → DidEntries s z
-no_entries s z none row uncited = record {
+pub no_entries : (s : Script) (z : Step) → z.work.core.made ≡ [] → z.work.core.sets ≡ [] → ((family : Family) → IsReplyTo (parents_of s) family z.by z.command (id_found z.answered) z.answered.reply) → cited_by z.answered.reply ≡ None → DidEntries s z
+no_entries s z none unset row uncited = record {
   each = subst (λ (l : List Made). Each (λ (m : Made). MayMake s z m m.entry) l) (sym none) (Each-none (λ (m : Made). MayMake s z m m.entry));
   reply = λ family stands. row family;
+  sets = set_none z.work.core.made z.work.walks z.work.core.sets unset;
   cited = λ c e. absurd (none-some c (sym uncited ∙ e));
 }
 
@@ -90,12 +92,13 @@ each_one P a p zero y e = subst P (some-injective a y e) p
 each_one P a p (suc j) y e = absurd (some-ne-none y (sym e))
 
 -- one entry was made, which the answer cites
-pub one_entry : (s : Script) (z : Step) (m : Made) (c : At) → z.work.core.made ≡ m ∷ [] → MayMake s z m m.entry
+pub one_entry : (s : Script) (z : Step) (m : Made) (c : At) → z.work.core.made ≡ m ∷ [] → z.work.core.sets ≡ bits_for m.place m.items (step [] m.items m.entry) → MayMake s z m m.entry
     → ((family : Family) → StandsIn (parents_of s) family m → IsReplyTo (parents_of s) family z.by z.command (id_found z.answered) z.answered.reply)
     → cited_by z.answered.reply ≡ Some c → IsCited s z c → DidEntries s z
-one_entry s z m c made may row cites cited = record {
+one_entry s z m c made sets may row cites cited = record {
   each = subst (λ (l : List Made). Each (λ (y : Made). MayMake s z y y.entry) l) (sym made) (each_one (λ (y : Made). MayMake s z y y.entry) m may);
   reply = λ family stands. row family (stands 0 m (ap (λ (l : List Made). get_elem? l 0) made));
+  sets = subst (λ (l : List Made). Each (IsSet l z.work.walks) z.work.core.sets) (sym made) (set_filled (m ∷ []) z.work.walks z.work.core.sets (subst (Each (IsFilled (m ∷ []))) (sym sets) (filled_by m)));
   cited = λ d e. subst (IsCited s z) (same_Some c d (sym cites ∙ e)) cited;
 }
 
@@ -184,7 +187,7 @@ module _ (x : Shared) (tables : AreTables x) (by : Serial) (c : Command) (group 
     work = loading group state.NotMade;
     does = brings_of does;
     did = record {
-      entries = no_entries x.script z refl (λ family. is.not_made family g) refl;
+      entries = no_entries x.script z refl refl (λ family. is.not_made family g) refl;
       lookups = unfound_lookups x.script z refl refl;
       walks = calm_walks x.script z is.calm (record { walks = refl; seen = refl; maps = refl; cleared = refl });
       charges = still_charges x.script z (record { ops = refl; charges = refl; uncharges = refl; freed = λ n. refl; added = λ n. refl; charged = λ n. is.charged (parents_of x.script) n (reply.NotMade g) });
@@ -203,7 +206,7 @@ module _ (x : Shared) (tables : AreTables x) (by : Serial) (c : Command) (group 
     work = loading group (state.Offline entry);
     does = brings_of does;
     did = record {
-      entries = no_entries x.script z refl (λ family. is.offline family entry) refl;
+      entries = no_entries x.script z refl refl (λ family. is.offline family entry) refl;
       lookups = unfound_lookups x.script z refl refl;
       walks = calm_walks x.script z is.calm (record { walks = refl; seen = refl; maps = refl; cleared = refl });
       charges = still_charges x.script z (record { ops = refl; charges = refl; uncharges = refl; freed = λ g. refl; added = λ g. refl; charged = λ g. is.charged (parents_of x.script) g (reply.Offline entry) });
@@ -226,7 +229,7 @@ module _ (x : Shared) (tables : AreTables x) (by : Serial) (c : Command) (group 
         work = work;
         does = brings_of does;
         did = record {
-          entries = no_entries x.script z refl (λ family. is.no_cache family entry) refl;
+          entries = no_entries x.script z refl refl (λ family. is.no_cache family entry) refl;
           lookups = unfound_lookups x.script z refl refl;
           walks = calm_walks x.script z is.calm (record { walks = refl; seen = refl; maps = refl; cleared = refl });
           charges = still_charges x.script z (record { ops = refl; charges = refl; uncharges = refl; freed = λ g. refl; added = λ g. refl; charged = λ g. is.charged (parents_of x.script) g (reply.NoCache entry) });
@@ -259,7 +262,7 @@ module _ (x : Shared) (tables : AreTables x) (by : Serial) (c : Command) (group 
         work = work;
         does = brings_of does;
         did = record {
-          entries = no_entries x.script z refl (λ family. is.worn family id seen) refl;
+          entries = no_entries x.script z refl refl (λ family. is.worn family id seen) refl;
           lookups = unfound_lookups x.script z refl refl;
           walks = calm_walks x.script z is.calm (record { walks = refl; seen = refl; maps = refl; cleared = refl });
           charges = still_charges x.script z (record { ops = refl; charges = refl; uncharges = refl; freed = λ g. refl; added = λ g. refl; charged = λ g. is.charged (parents_of x.script) g (reply.Worn (spent.Lookups id seen)) });
@@ -302,7 +305,7 @@ module _ (x : Shared) (tables : AreTables x) (by : Serial) (c : Command) (group 
     place_same = back_is x tables c_at.place place_there
 
     pub cited_is : (z : Step) → z.before ≡ s → z.after.core.traces.known ≡ t.core.traces.known → option_and_then group_named z.command ≡ Some birth → IsAmong entry z.work.core.made
-        → (z.answered.reply ≡ reply.Added c_at → 0 < c_at.place.group → a.old.items ≡ [] → 0 < times (place_number c_at.place) z.work.core.sets) → IsCited x.script z c_at
+        → (z.answered.reply ≡ reply.Added c_at → 0 < c_at.place.group → a.old.items ≡ [] → (0 < times (place_number c_at.place) z.work.core.sets) × IsSetLast z (place_number c_at.place)) → IsCited x.script z c_at
     cited_is z start end named among filled = record {
       made = entry;
       among = among;
@@ -340,7 +343,7 @@ module _ (x : Shared) (tables : AreTables x) (by : Serial) (c : Command) (group 
           work = z.work;
           does = brings_of does;
           did = record {
-            entries = one_entry x.script z entry c_at refl (may (is_told z entry c_at place_same (sym a.number) cites)) row cites (cited_is z refl refl named (0, refl) (λ added below empty. absurd (unadded added)));
+            entries = one_entry x.script z entry c_at refl refl (may (is_told z entry c_at place_same (sym a.number) cites)) row cites (cited_is z refl refl named (0, refl) (λ added below empty. absurd (unadded added)));
             lookups = found_lookups x.script z decl f refl is.decl_is refl (found_by x group decl f call s t o (entry ∷ []) bits a.gains z refl (0, refl));
             walks = calm_walks x.script z is.calm (record { walks = refl; seen = refl; maps = refl; cleared = refl });
             charges = still_charges x.script z (record {
@@ -388,7 +391,7 @@ module _ (x : Shared) (tables : AreTables x) (by : Serial) (c : Command) (group 
         work = z.work;
         does = brings_of does;
         did = record {
-          entries = no_entries x.script z refl row uncited;
+          entries = no_entries x.script z refl refl row uncited;
           lookups = found_lookups x.script z decl f refl is.decl_is refl (found_by x group decl f call s t o [] [] gains z refl (0, refl));
           walks = calm_walks x.script z is.calm (record { walks = refl; seen = refl; maps = refl; cleared = refl });
           charges = still_charges x.script z (record { ops = refl; charges = refl; uncharges = refl; freed = λ g. refl; added = λ g. refl; charged = λ g. is.charged (parents_of x.script) g r });

@@ -52,7 +52,7 @@ module _ (x : Shared) (tables : AreTables x) (by : Serial) (decl : ℕ) (s t : W
         work = z.work;
         does = brings_of (does_gain s t (record nothing { turns = turns; loaded = words; gives = 1 }) adds rest);
         did = record {
-          entries = no_entries x.script z refl row uncited;
+          entries = no_entries x.script z refl refl row uncited;
           lookups = unfound_lookups x.script z refl refl;
           walks = calm_walks x.script z tt (record { walks = refl; seen = refl; maps = refl; cleared = refl });
           charges = still_charges x.script z (record { ops = refl; charges = refl; uncharges = refl; freed = λ g. refl; added = λ g. refl; charged = λ g. refl });

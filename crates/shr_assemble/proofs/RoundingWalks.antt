@@ -46,6 +46,7 @@ tried_walked x script by c a group answer s t h = record {
   seen = refl;
   maps = refl;
   cleared = refl;
+  sets = refl;
   numbers = refl;
   fresh = fresh_none s.core;
   set = Each-none (λ (m : Mapped). Begins s.core.marks.sets m.set);

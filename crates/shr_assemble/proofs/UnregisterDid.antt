@@ -46,7 +46,7 @@ use Rattle.shr_script.proofs.BoundsLaws.{within_of_valid}
 use Rattle.shr_assemble.proofs.ScriptSizes.{sized_of}
 use Rattle.shr_script.specs.Content.{content_of}
 use Rattle.shr_script.specs.Bounds.{IsWithin}
-use Rattle.shr_seats.proofs.Weighing.{Each-weaker}
+use Rattle.shr_seats.proofs.Weighing.{Each-none, Each-weaker}
 use Rattle.shr_opening.specs.Opening.{IsSpent}
 use Rattle.shr_assemble.proofs.Spending.{spent_is}
 use Rattle.shr_walk.specs.declared.seats.Shared.{Shared}
@@ -68,6 +68,7 @@ use Rattle.shr_assemble.specs.Worn.{IsListWorn}
 use Rattle.shr_assemble.proofs.Listed.{contains_among}
 use Rattle.shr_assemble.proofs.Quiet.{step_of, begins_longer, HasDid, calm_walks, still_moves, still_pool, still_tree, meets_none, never_met, unmade_apart}
 use Rattle.shr_assemble.proofs.QuietSteps.{AreTables, tree_is, take_whole}
+use Rattle.shr_assemble.proofs.Filling.{IsSet}
 use Rattle.shr_assemble.proofs.QuietTenant.{without, no_entries, unfound_lookups, each_one}
 use Rattle.shr_assemble.proofs.QuietCharges.{uncharged_charges}
 use Rattle.shr_assemble.proofs.QuietNothing.{nothing_did, charges_worn}
@@ -200,6 +201,7 @@ module _ (x : Shared) (tables : AreTables x) (by : Serial) (decl : ℕ) (s t : W
       (record {
         each = drain_entries id h.draws h.each short z refl refl (λ i own e. sym e) refl (λ family. tt) refl refl;
         reply = λ family stands. tt;
+        sets = Each-none (IsSet made []);
         cited = λ c e. absurd (none-some c e);
       })
       (born_in id h.draws objects h.each short h.drained) (λ g. drains_freed id by ps g h.draws ∙ ap (born_below ps g) (sym h.drained)) (λ g. drains_added id by ps g h.draws)
@@ -236,6 +238,7 @@ module _ (x : Shared) (tables : AreTables x) (by : Serial) (decl : ℕ) (s t : W
       (record {
         each = drain_entries id h.draws h.each short z refl refl (λ i own e. sym e) refl (λ family. tt) refl refl;
         reply = λ family stands. tt;
+        sets = Each-none (IsSet made []);
         cited = λ c e. absurd (none-some c e);
       })
       (born_in id h.draws objects h.each short h.drained) (λ g. drains_freed id by ps g h.draws ∙ ap (born_below ps g) (sym h.drained)) (λ g. drains_added id by ps g h.draws)
@@ -281,7 +284,7 @@ module _ (x : Shared) (tables : AreTables x) (by : Serial) (decl : ℕ) (s t : W
   by_answer : (answer : UnregisterAnswer) → UnregisterGives shape s.core decl by answer t.core → UnchargesEach (keeping.parents_of x) by (objects_of answer) s t → HasDid x.script by asked (unfound (unregister_reply answer)) s t
   by_answer (unregister.NoCache entry) h u =
       let r : Reply = reply.NoCache entry in let z : Step = ends r [] u [] h.gains.words [] 1 in let after = h.after in
-      ended r [] u [] h.gains.words [] 1 h.gains.adds (no_entries x.script z refl (λ family. tt) refl) tt (λ g. refl) (λ g. refl) (still_pool x.script z h.gains.adds.pool (record { turns = refl; made = refl }) h.after)
+      ended r [] u [] h.gains.words [] 1 h.gains.adds (no_entries x.script z refl refl (λ family. tt) refl) tt (λ g. refl) (λ g. refl) (still_pool x.script z h.gains.adds.pool (record { turns = refl; made = refl }) h.after)
       (record {
         decl = decl;
         named = refl;
@@ -290,7 +293,7 @@ module _ (x : Shared) (tables : AreTables x) (by : Serial) (decl : ℕ) (s t : W
       })
   by_answer unregister.Memory h u =
       let z : Step = ends reply.Memory [] u [] h.gains.words [] 1 in
-      ended reply.Memory [] u [] h.gains.words [] 1 h.gains.adds (no_entries x.script z refl (λ family. tt) refl) tt (λ g. refl) (λ g. refl) (still_pool x.script z h.gains.adds.pool (record { turns = refl; made = refl }) tt) tt
+      ended reply.Memory [] u [] h.gains.words [] 1 h.gains.adds (no_entries x.script z refl refl (λ family. tt) refl) tt (λ g. refl) (λ g. refl) (still_pool x.script z h.gains.adds.pool (record { turns = refl; made = refl }) tt) tt
   by_answer (unregister.Freed id entry from to objects) h u = freed_did id entry from to objects.items h u
   by_answer (unregister.Half id entry from to objects half) h u = half_did id entry from to objects.items half h u
 

@@ -41,6 +41,7 @@ use Rattle.shr_assemble.specs.Walks.{AreWalksFor}
 use Rattle.shr_assemble.proofs.WalkingTold.{IsTableOf}
 use Rattle.shr_assemble.proofs.WalkingGives.{Freed}
 use Rattle.shr_assemble.proofs.WalkingCharges.{walks_charge}
+use Rattle.shr_assemble.proofs.Filling.{set_walked}
 use Rattle.shr_assemble.proofs.WalkingSteps.{OnlyScan, step_of, Walked}
 
 pub may_make : (x : Shared) (by : Serial) (c : Option Command) (a : Answered) (s t : WorkerState) (w : Work) (m : Made) (e : Entry) → OnlyScan by (length s.walks) w.walks m e → MayMake x.script (step_of x.script by c a s t w) m e
@@ -78,6 +79,7 @@ walks_did x table by c r s t w walked freed born charges uncharges is = record {
   entries = record {
     each = λ j m e. may_make x by c (unfound r) s t w m m.entry (walked.scans j m e);
     reply = λ family stands. is.reply family;
+    sets = set_walked w.core.made w.walks w.core.sets walked.sets;
     cited = λ at e. absurd (none-some at (sym is.no_cite ∙ e));
   };
   lookups = record {

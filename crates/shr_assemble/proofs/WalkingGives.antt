@@ -198,6 +198,7 @@ idle_walked script by c a s t d = record {
   seen = refl;
   maps = refl;
   cleared = refl;
+  sets = refl;
   numbers = refl;
   fresh = fresh_none s.core;
   set = Each-none (λ (m : Mapped). Begins s.core.marks.sets m.set);

@@ -27,11 +27,12 @@ use Rattle.shr_walk.specs.Keeping.{IsScanOf}
 use Rattle.shr_walk.specs.Listing.{scan_at, scan_by}
 use Rattle.shr_walk.specs.Records.{place_in, IsScanMade, AreScannedBy}
 use Rattle.shr_walk.specs.Visits.{visit_moves}
-use Rattle.shr_walk.specs.Walked.{place_of, cleared_of, moves_of, Parts, AreParts}
+use Rattle.shr_walk.specs.Walked.{place_of, cleared_of, set_of, moves_of, Parts, AreParts}
 use Rattle.shr_walk.specs.declared.seats.Shared.{Shared}
 use Rattle.shr_walk.specs.declared.walking.Walk.{Walk}
 use Rattle.shr_assemble.proofs.WalkingParts.{found_cases}
-use Rattle.shr_assemble.proofs.WalkingRecord.{listed, same_cleared, same_passes}
+use Rattle.shr_assemble.specs.Walks.{is_setting}
+use Rattle.shr_assemble.proofs.WalkingRecord.{listed, same_cleared, same_set, same_passes}
 
 pub flat_same : {A B : Type 0} (f g : A → List B) (l : List A) → ((a : A) → f a ≡ g a) → flat_map f l ≡ flat_map g l
 flat_same f g [] h = refl
@@ -47,6 +48,11 @@ module _ (walk : Walk) where
   all_cleared [] = refl
   all_cleared (a ∷ l) = clear_more (is_clearing a.outcome) a (filter (λ (b : Attempt). is_clearing b.outcome) l)
       ∙ (ap (λ v. v ++ map place_number (map (place_of walk) (filter (λ (b : Attempt). is_clearing b.outcome) l))) (sym (same_cleared (place_number (place_of walk a)) a.outcome)) ∙ ap (λ v. cleared_of walk a ++ v) (all_cleared l))
+
+  pub all_set : (l : List Attempt) → map place_number (map (place_of walk) (filter (λ (a : Attempt). is_setting a.outcome) l)) ≡ flat_map (set_of walk) l
+  all_set [] = refl
+  all_set (a ∷ l) = clear_more (is_setting a.outcome) a (filter (λ (b : Attempt). is_setting b.outcome) l)
+      ∙ (ap (λ v. v ++ map place_number (map (place_of walk) (filter (λ (b : Attempt). is_setting b.outcome) l))) (sym (same_set (place_number (place_of walk a)) a.outcome)) ∙ ap (λ v. set_of walk a ++ v) (all_set l))
 
 -- ---- what passes took and gave
 visit_takes : (place : Place) (o : Outcome) → takes_of (visit_moves place o) ≡ map (λ (q : PassRecord). amount_of place q.nr) (listed (pass_of o))

@@ -55,7 +55,7 @@ use Rattle.shr_model.proofs.UnitsLaws.{Rise}
 use Rattle.shr_assemble.proofs.WalkingTold.{IsTableOf, seen_id, seen_pass}
 use Rattle.shr_assemble.proofs.WalkingParts.{PartAt, part_at, part_scans, tries_one, pass_is, found_cases, found_held}
 use Rattle.shr_assemble.proofs.WalkingRecord.{same_counts, same_numbers, outcome_kind, stopped}
-use Rattle.shr_assemble.proofs.WalkingLists.{passes_near, flat_same, all_cleared, all_taken, all_given, IsOfAttempt, of_attempts, pass_there}
+use Rattle.shr_assemble.proofs.WalkingLists.{passes_near, flat_same, all_cleared, all_set, all_taken, all_given, IsOfAttempt, of_attempts, pass_there}
 use Rattle.shr_assemble.proofs.WalkingSteps.{OnlyScan, IsScanOne, step_of, Walked}
 
 -- the work of a walk with the words that it loaded and its record
@@ -163,6 +163,7 @@ module _ (x : Shared) (table : IsTableOf x) (walk : Walk) (c : Option Command) (
     seen = append-nil _ ∙ (flat_same _ (counts_of walk) tries.items (λ y. same_counts (place_number (place_in walk y.id)) y.outcome) ∙ one.is.counts);
     maps = append-nil _ ∙ one.is.maps_are;
     cleared = append-nil _ ∙ (all_cleared walk tries.items ∙ one.is.cleared);
+    sets = append-nil _ ∙ (all_set walk tries.items ∙ one.is.sets);
     numbers = sym (append-nil _ ∙ (flat_same (λ (y : Attempt). numbered y.id (number_of y.outcome)) (λ (y : Attempt). number_in y.id y.outcome) tries.items (λ y. same_numbers y.id y.outcome) ∙ one.is.numbers));
     fresh = one.fresh;
     set = one.seen.set;

@@ -29,13 +29,14 @@ use Rattle.shr_core.specs.Parts.{Made, Loaded, Counted}
 use Rattle.shr_report.specs.LawfulWalk.{IsPlaced, IsOutcomeOf, IsStopped}
 use Rattle.shr_walk.specs.Attempts.{Found, IsHeldBy, IsShown}
 use Rattle.shr_walk.specs.Fresh.{Rising}
-use Rattle.shr_walk.specs.Records.{place_in, counts_in, cleared_in, passes_in}
+use Rattle.shr_walk.specs.Records.{place_in, counts_in, cleared_in, set_in, passes_in}
 use Rattle.shr_walk.specs.Records as records
 use Rattle.shr_walk.specs.Walked.{number_in, counts_of, is_cut, is_cut_by, IsUncut, IsCutLast}
 use Rattle.shr_walk.specs.Walked as walked
 use Rattle.shr_walk.specs.declared.seats.Shared.{Shared}
 use Rattle.shr_walk.specs.declared.walking.Walk.{Walk}
 use Rattle.shr_assemble.specs.Lookups.{numbered}
+use Rattle.shr_assemble.specs.Walks.{is_setting}
 use Rattle.shr_assemble.proofs.Gathering.{among_left}
 use Rattle.shr_assemble.proofs.Listed.{all_slice}
 use Rattle.shr_assemble.proofs.WalkingSteps.{slice_cases}
@@ -90,6 +91,19 @@ same_cleared k (outcome.Empty n version) = refl
 same_cleared k (outcome.Cleared n first second) = refl
 same_cleared k (outcome.RestoredSkip n first len version) = refl
 same_cleared k (outcome.RestoredRan n first p) = refl
+
+-- one place, where the attempt set its bit again
+pub same_set : (k : ℕ) (o : Outcome) → set_in k o ≡ cond (is_setting o) (k ∷ []) []
+same_set k (outcome.Worn seen) = refl
+same_set k (outcome.Gone n gone.Set) = refl
+same_set k (outcome.Gone n gone.Clear) = refl
+same_set k (outcome.Gone n gone.Root) = refl
+same_set k (outcome.Skip n len version) = refl
+same_set k (outcome.Ran n p) = refl
+same_set k (outcome.Empty n version) = refl
+same_set k (outcome.Cleared n first second) = refl
+same_set k (outcome.RestoredSkip n first len version) = refl
+same_set k (outcome.RestoredRan n first p) = refl
 
 -- the pass of an outcome, as a list
 abbrev pub listed : Option PassRecord → List PassRecord

@@ -42,7 +42,7 @@ use Rattle.shr_charge.specs.Views as charge
 use Rattle.shr_assemble.specs.Steps.{Step, IsAmong}
 use Rattle.shr_assemble.specs.Attempts.{scan_made, scans_made, DidPass, DidAttempt}
 use Rattle.shr_assemble.specs.Lookups.{numbers_tried, number_made}
-use Rattle.shr_assemble.specs.Walks.{DidWalk, counted_in, mapped_in, cleared_in, word_of}
+use Rattle.shr_assemble.specs.Walks.{DidWalk, counted_in, mapped_in, cleared_in, set_in, word_of}
 use Rattle.shr_assemble.specs.Offlining.{KnowsOnline}
 use Rattle.shr_assemble.specs.Worn.{KnowsList, IsOneMore, AreBoth, IsWornBy}
 use Rattle.shr_assemble.proofs.Gathering.{among_left, among_right, among_begins}
@@ -226,6 +226,7 @@ module _ (script : Script) (by : Serial) (c : Option Command) (a : Answered) whe
     pub seen : flat_map counted_in w.walks ≡ w.core.seen
     pub maps : flat_map mapped_in w.walks ≡ map word_of w.core.maps
     pub cleared : flat_map cleared_in w.walks ≡ w.core.cleared
+    pub sets : flat_map set_in w.walks ≡ w.core.sets
     pub numbers : map number_made w.core.attempts ≡ flat_map numbers_tried w.walks
     pub fresh : AreFresh s.core w.core.seen
     pub set : Each (λ (m : Mapped). Begins s.core.marks.sets m.set) w.core.maps
@@ -243,6 +244,7 @@ module _ (script : Script) (by : Serial) (c : Option Command) (a : Answered) whe
     seen = refl;
     maps = refl;
     cleared = refl;
+    sets = refl;
     numbers = refl;
     fresh = fresh_none s.core;
     set = Each-none (λ (m : Mapped). Begins s.core.marks.sets m.set);
@@ -296,6 +298,7 @@ module _ (script : Script) (by : Serial) (c : Option Command) (a : Answered) whe
       seen = flat_map-append counted_in v.walks w.walks ∙ (ap (λ l. l ++ flat_map counted_in w.walks) p.seen ∙ ap (λ l. v.core.seen ++ l) q.seen);
       maps = flat_map-append mapped_in v.walks w.walks ∙ (ap (λ l. l ++ flat_map mapped_in w.walks) p.maps ∙ (ap (λ l. map word_of v.core.maps ++ l) q.maps ∙ sym (map-append word_of v.core.maps w.core.maps)));
       cleared = flat_map-append cleared_in v.walks w.walks ∙ (ap (λ l. l ++ flat_map cleared_in w.walks) p.cleared ∙ ap (λ l. v.core.cleared ++ l) q.cleared);
+      sets = flat_map-append set_in v.walks w.walks ∙ (ap (λ l. l ++ flat_map set_in w.walks) p.sets ∙ ap (λ l. v.core.sets ++ l) q.sets);
       numbers = map-append number_made v.core.attempts w.core.attempts ∙ (ap (λ l. l ++ map number_made w.core.attempts) p.numbers ∙ (ap (λ l. flat_map numbers_tried v.walks ++ l) q.numbers ∙ sym (flat_map-append numbers_tried v.walks w.walks)));
       fresh = fresh_then s.core u.core v.core w.core.seen p.does.core p.fresh q.fresh;
       set = Each-append (λ (m : Mapped). Begins s.core.marks.sets m.set) v.core.maps w.core.maps p.set (λ j m e. begins_more s.core.marks.sets u.core.marks.sets m.set (v.core.sets, p.does.core.sets) (q.set j m e));

@@ -31,17 +31,17 @@ use Rattle.shr_model.proofs.PlacesLaws.{is_place_same, is_place_itself}
 use Rattle.shr_seats.specs.Weights.{times, only, Begins}
 use Rattle.shr_seats.proofs.Weighing.{total-append, some_term, only_no}
 use Rattle.shr_core.specs.Layout.{place_at, map_number}
-use Rattle.shr_core.specs.Parts.{Made}
+use Rattle.shr_core.specs.Parts.{Made, Mapped}
 use Rattle.shr_core.proofs.Listing.{back}
 use Rattle.shr_report.specs.declared.report.Report.{Report}
 use Rattle.shr_report.specs.Parts.{parents_of, limit_of, journals_of, serial_of, walks_by, walk_at, all_walks, cited_at, cited_by, uses_at, items_before, at, IsThere}
 use Rattle.shr_report.specs.WalksLawful.{IsOfPass, AreRoundsOf, AreWalksOf, IsToldBy, MayMake, FillsPlace, Covers, was_cleared, AreWalksLawful}
 use Rattle.shr_assemble.specs.Steps.{Step, IsAmong, gathered, steps_of}
 use Rattle.shr_assemble.specs.Entries as entries
-use Rattle.shr_assemble.specs.Entries.{IsCited}
+use Rattle.shr_assemble.specs.Entries.{IsSetLast, IsCited}
 use Rattle.shr_assemble.specs.Walks.{mapped_in, cleared_in, word_of, DidRoundsOf, DidJobs, AreWalksFor}
 use Rattle.shr_assemble.specs.Charges.{ops_at}
-use Rattle.shr_assemble.specs.Runs.{all_cleared, IsRun}
+use Rattle.shr_assemble.specs.Runs.{all_cleared, IsMapOf, IsRun}
 use Rattle.shr_assemble.proofs.Gathering.{each_among, gathered_has, among_right, among_begins, among_flat, flat_among, has_step, some_at, at_some}
 use Rattle.shr_assemble.proofs.Listed.{by_slices, no_test}
 use Rattle.shr_assemble.proofs.Making.{work_of, grows, made_stands, maker, Stepped, stepped, replies, back_there}
@@ -182,7 +182,7 @@ module _ (s : Script) (r : Report) (workers : List (List Step)) (run : IsRun s r
   weighs_times : (k : ℕ) (xs ys : List ℕ) → Begins xs ys → times k xs ≤ times k ys
   weighs_times k xs ys b = omega (arith, ap (times k) b.1, total-append (only k) xs b.0)
 
-  any_yes : {A : Type 0} (test : A → Bool) (xs : List A) (x : A) → Has xs x → test x ≡ true → list_any test xs ≡ true
+  pub any_yes : {A : Type 0} (test : A → Bool) (xs : List A) (x : A) → Has xs x → test x ≡ true → list_any test xs ≡ true
   any_yes test [] x has passes = absurd has
   any_yes test (y ∷ xs) x (inl e) passes = ap (λ b. b || list_any test xs) (ap test e ∙ passes)
   any_yes test (y ∷ xs) x (inr has) passes = later_yes (test y) (any_yes test xs x has passes)
@@ -190,6 +190,30 @@ module _ (s : Script) (r : Report) (workers : List (List Step)) (run : IsRun s r
       later_yes : (b : Bool) → list_any test xs ≡ true → (b || list_any test xs) ≡ true
       later_yes true e = refl
       later_yes false e = e
+
+  -- the walk of the report that tells a clearing of a step
+  pub record HasClearing (worker k : ℕ) (place : Place) : Type 0 where
+    pub walk : WalkRecord
+    pub there : Has (all_walks r) walk
+    pub clears : Has (clearings_of walk) place
+    pub by : walk.by ≡ serial_of worker k
+
+  pub clearing_of : (place : Place) → IsThere s place → (worker k : ℕ) (x : Step) → slice_get (steps_of workers worker) k ≡ Some x → IsAmong (place_number place) x.work.core.cleared → HasClearing worker k place
+  clearing_of place there worker k x at has =
+      let is = run.steps.each worker k x at in
+      let v = flat_among cleared_in x.work.walks (place_number place) (subst (λ l. IsAmong (place_number place) l) (sym is.did.walks.cleared) has) in
+      let q = map_has place_number (clearings_of v.0) (place_number place) (among_has (cleared_in v.0) (place_number place) v.2) in
+      let a = map_has (λ (b : Attempt). place_in v.0 b.id) (filter (λ (b : Attempt). is_clearing b.outcome) v.0.attempts.items) q.0 q.1 in
+      let b = has_among v.0.attempts.items a.0 (filter_has (λ (z : Attempt). is_clearing z.outcome) v.0.attempts.items a.0 a.1).0 in
+      let d = is.did.walks.each v.1.0 v.0 (at_some x.work.walks v.1.0 v.0 v.1.1) in
+      let q_there : IsThere s (place_in v.0 a.0.id) = record { id = (d.attempts b.0 a.0 (at_some v.0.attempts.items b.0 a.0 b.1)).id; node = d.node; group = d.group } in
+      let same : q.0 ≡ place = sym (back_there s r workers run q.0 (subst (IsThere s) a.2 q_there)) ∙ (ap place_at q.2 ∙ back_there s r workers run place there) in
+      record {
+        walk = v.0;
+        there = subst (λ l. Has l v.0) (sym (all_walks_are s r workers run)) (among_has (gathered (λ x. x.work.walks) workers) v.0 (gathered_has (λ (y : Step). y.work.walks) workers worker k x v.0 at v.1));
+        clears = subst (Has (clearings_of v.0)) same q.1;
+        by = d.by ∙ is.by;
+      }
 
   -- a place whose bit no walk cleared
   not_cleared : (place : Place) → IsThere s place → was_cleared r place ≡ false → times (place_number place) (all_cleared workers) ≡ 0
@@ -200,56 +224,74 @@ module _ (s : Script) (r : Report) (workers : List (List Step)) (run : IsRun s r
           let t = some_term (only (place_number place)) (all_cleared workers) lt in
           let number : t.1 ≡ place_number place = dite (ℕ_discrete t.1 (place_number place)) (λ e. e) (λ ne. absurd (omega (arith, t.3, only_no (place_number place) t.1 ne))) in
           let of = has_step (λ (x : Step). x.work.core.cleared) workers t.1 (t.0, t.2) in
-          let is = run.steps.each of.worker of.k of.step of.at in
-          let v = flat_among cleared_in of.step.work.walks t.1 (subst (λ l. IsAmong t.1 l) (sym is.did.walks.cleared) of.has) in
-          let q = map_has place_number (clearings_of v.0) t.1 (among_has (cleared_in v.0) t.1 v.2) in
-          let a = map_has (λ (b : Attempt). place_in v.0 b.id) (filter (λ (b : Attempt). is_clearing b.outcome) v.0.attempts.items) q.0 q.1 in
-          let b = has_among v.0.attempts.items a.0 (filter_has (λ (z : Attempt). is_clearing z.outcome) v.0.attempts.items a.0 a.1).0 in
-          let d = is.did.walks.each v.1.0 v.0 (at_some of.step.work.walks v.1.0 v.0 v.1.1) in
-          let q_there : IsThere s (place_in v.0 a.0.id) = record { id = (d.attempts b.0 a.0 (at_some v.0.attempts.items b.0 a.0 b.1)).id; node = d.node; group = d.group } in
-          let same : q.0 ≡ place = sym (back_there s r workers run q.0 (subst (IsThere s) a.2 q_there)) ∙ (ap place_at (q.2 ∙ number) ∙ back_there s r workers run place there) in
-          let walks : Has (all_walks r) v.0 = subst (λ l. Has l v.0) (sym (all_walks_are s r workers run)) (among_has (gathered (λ x. x.work.walks) workers) v.0 (gathered_has (λ (x : Step). x.work.walks) workers of.worker of.k of.step v.0 of.at v.1)) in
-          let cleared : was_cleared r place ≡ true = any_yes (is_place place) (flat_map clearings_of (all_walks r)) q.0 (Has_flat_map clearings_of (all_walks r) v.0 q.0 walks q.1) (ap (is_place place) same ∙ is_place_itself place) in
+          let c = clearing_of place there of.worker of.k of.step of.at (subst (λ n. IsAmong n of.step.work.core.cleared) number of.has) in
+          let cleared : was_cleared r place ≡ true = any_yes (is_place place) (flat_map clearings_of (all_walks r)) place (Has_flat_map clearings_of (all_walks r) c.walk place c.there c.clears) (is_place_itself place) in
           let t : true ≡ false = sym cleared ∙ none in cc
 
       by_cases : (n : ℕ) → times (place_number place) (all_cleared workers) ≡ n → times (place_number place) (all_cleared workers) ≡ 0
       by_cases zero e = e
       by_cases (suc n) e = absurd (found (omega (arith, e)))
 
-  bits : (worker n : ℕ) (w : WalkRecord) → walk_at r worker n ≡ Some w → (i k : ℕ) (m : MapSeen) (place : Place) → slice_get w.maps.items i ≡ Some m → Covers w m place
-      → k < w.by.command → FillsPlace s r (serial_of worker k) place → was_cleared r place ≡ false → is_set m.bits (bit_of place.id) ≡ true
-  bits worker n w at_w i k m place at_m covers lt fills none =
-      let of = walk_of s r workers run worker n w at_w in
+  -- the map of a walk of the report among its step's
+  pub record IsMapSeen (x : Step) (w : WalkRecord) (m : MapSeen) : Type 0 where
+    pub map_is : Mapped
+    pub among : IsAmong map_is x.work.core.maps
+    pub number : map_is.map ≡ map_number w.node w.group m.unit
+    pub bits : map_is.bits ≡ m.bits
+
+  pub map_seen : (worker n : ℕ) (w : WalkRecord) (of : WalkOf s r workers run worker n w) (i : ℕ) (m : MapSeen) → slice_get w.maps.items i ≡ Some m → IsMapSeen of.step w m
+  map_seen worker n w of i m at_m =
+      let pair : IsAmong (map_number w.node w.group m.unit, m.bits) (map word_of of.step.work.core.maps) = subst (λ l. IsAmong (map_number w.node w.group m.unit, m.bits) l) of.is.did.walks.maps
+      (among_flat mapped_in of.step.work.walks w (map_number w.node w.group m.unit, m.bits) (of.i, some_at of.step.work.walks of.i w of.own) (among_map (λ (z : MapSeen). (map_number w.node w.group z.unit, z.bits)) w.maps.items m (i, some_at w.maps.items i m at_m))) in
+      let x = map_has word_of of.step.work.core.maps (map_number w.node w.group m.unit, m.bits) (among_has (map word_of of.step.work.core.maps) (map_number w.node w.group m.unit, m.bits) pair) in
+      record { map_is = x.0; among = has_among of.step.work.core.maps x.0 x.1; number = ap (λ p. p.0) x.2; bits = ap (λ p. p.1) x.2 }
+
+  -- what is so of a map of a step
+  pub map_shown : (worker k : ℕ) (x : Step) (m : Mapped) → slice_get (steps_of workers worker) k ≡ Some x → IsAmong m x.work.core.maps → IsMapOf s workers m
+  map_shown worker k x m at among = let shown = among_right x.before.core.marks.maps x.work.core.maps m among in
+      (run.steps.shown worker k x at).maps shown.0 m (subst (λ l. IsAmong m l) (sym (work_of s r workers run worker k x at).core.maps) shown).1
+
+  -- it is the map of the places that it covers
+  pub covered : (w : WalkRecord) (m : MapSeen) (place : Place) → Covers w m place → map_number place.node place.group (unit_of place.id) ≡ map_number w.node w.group m.unit
+  covered w m place covers = sym (ap (λ g. map_number w.node g m.unit) covers.group ∙ (ap (λ v. map_number v place.group m.unit) covers.node ∙ ap (λ u. map_number place.node place.group u) covers.unit))
+
+  -- a walk that has a map is below the root
+  pub below_root : (worker n : ℕ) (w : WalkRecord) → WalkOf s r workers run worker n w → (i : ℕ) (m : MapSeen) → slice_get w.maps.items i ≡ Some m → 0 < w.group
+  below_root worker n w of i m at_m = by_cases w.group refl
+    where
+      by_cases : (g : ℕ) → w.group ≡ g → 0 < w.group
+      by_cases zero e = absurd (none-some m (sym (ap (λ l. slice_get l i) (of.did.record_is.root e).0) ∙ at_m))
+      by_cases (suc g) e = omega (arith, e)
+
+  -- the entry by which a command filled a list below the root, with the bit that it set there
+  pub record IsFillOf (x : Step) (place : Place) : Type 0 where
+    pub there : IsThere s place
+    pub set : 0 < times (place_number place) x.work.core.sets
+    pub last : IsSetLast x (place_number place)
+
+  pub fill_of : (worker k : ℕ) (place : Place) → 0 < place.group → FillsPlace s r (serial_of worker k) place → (x : Step) × (slice_get (steps_of workers worker) k ≡ Some x) × IsFillOf x place
+  fill_of worker k place below fills =
       let a = replies s r workers run (λ x. Some x) worker k (reply.Added (at place fills.entry)) (ap (option_and_then (λ (x : Reply). Some x)) fills.added) in
       let answered : a.step.answered.reply ≡ reply.Added (at place fills.entry) = same_Some a.step.answered.reply (reply.Added (at place fills.entry)) a.reply in
       let c : IsCited s a.step (at place fills.entry) = (run.steps.each worker k a.step a.at).did.entries.cited (at place fills.entry) (ap cited_by answered) in
       let stands = made_stands s r workers run worker k a.step a.at c.among.0 c.made c.among.1 in
-      let there : IsThere s place = subst (IsThere s) c.place stands.0 in
       let number : c.made.place ≡ place_number place = sym (back c.made.place) ∙ ap place_number c.place in
       let items : c.made.items ≡ [] = stands.1.items ∙ (ap (λ p. items_before s r p c.made.number) c.place ∙ (ap (items_before s r place) c.number ∙ fills.empty)) in
-      let below : 0 < place.group = below_root (place.group) refl of in
       let set = c.filled answered below items in
-      let command : w.by.command ≡ of.k = ap (λ (b : Serial). b.command) (of.did.by ∙ of.is.by) in
-      let mine = weighs_times (place_number place) a.step.after.core.marks.sets of.step.before.core.marks.sets (grows s r workers run worker k of.k a.step of.step (omega (arith, lt, command)) a.at of.at).sets in
-      let pair : IsAmong (map_number w.node w.group m.unit, m.bits) (map word_of of.step.work.core.maps) = subst (λ l. IsAmong (map_number w.node w.group m.unit, m.bits) l) of.is.did.walks.maps
-      (among_flat mapped_in of.step.work.walks w (map_number w.node w.group m.unit, m.bits) (of.i, some_at of.step.work.walks of.i w of.own) (among_map (λ (z : MapSeen). (map_number w.node w.group z.unit, z.bits)) w.maps.items m (i, some_at w.maps.items i m at_m))) in
-      let x = map_has word_of of.step.work.core.maps (map_number w.node w.group m.unit, m.bits) (among_has (map word_of of.step.work.core.maps) (map_number w.node w.group m.unit, m.bits) pair) in
-      let among = has_among of.step.work.core.maps x.0 x.1 in
-      let begins = weighs_times (place_number place) of.step.before.core.marks.sets x.0.set (of.is.did.walks.set among.0 x.0 among.1) in
-      let shown = among_right of.step.before.core.marks.maps of.step.work.core.maps x.0 among in
-      let all = (run.steps.shown worker of.k of.step of.at).maps shown.0 x.0 (subst (λ l. IsAmong x.0 l) (sym (work_of s r workers run worker of.k of.step of.at).core.maps) shown).1 in
-      let own = omega_sets a.step place c.made.place number set (work_of s r workers run worker k a.step a.at).core.sets in
-      let bits_are : x.0.bits ≡ m.bits = ap (λ p. p.1) x.2 in
-      let map_is : map_number place.node place.group (unit_of place.id) ≡ x.0.map = sym (ap (λ p. p.0) x.2 ∙ (ap (λ g. map_number w.node g m.unit) covers.group ∙ (ap (λ v. map_number v place.group m.unit) covers.node ∙ ap (λ u. map_number place.node place.group u) covers.unit))) in
-      ap (λ b. is_set b (bit_of place.id)) (sym bits_are) ∙ all.set place there map_is (omega (arith, own, mine, begins)) (not_cleared place there none)
-    where
-      omega_sets : (x : Step) (p : Place) (k : ℕ) → k ≡ place_number p → 0 < times k x.work.core.sets → x.after.core.marks.sets ≡ x.before.core.marks.sets ++ x.work.core.sets → 0 < times (place_number p) x.after.core.marks.sets
-      omega_sets x p k same set e = subst (λ j. 0 < times j x.after.core.marks.sets) same (omega (arith, set, ap (times k) e, total-append (only k) x.before.core.marks.sets x.work.core.sets))
+      (a.step, a.at, record { there = subst (IsThere s) c.place stands.0; set = subst (λ (j : ℕ). 0 < times j a.step.work.core.sets) number set.0; last = subst (IsSetLast a.step) number set.1 })
 
-      -- a walk that has a map is below the root
-      below_root : (g : ℕ) → place.group ≡ g → WalkOf s r workers run worker n w → 0 < place.group
-      below_root zero e of = absurd (none-some m (sym (ap (λ l. slice_get l i) (of.did.record_is.root (covers.group ∙ e)).0) ∙ at_m))
-      below_root (suc g) e of = omega (arith, e)
+  bits : (worker n : ℕ) (w : WalkRecord) → walk_at r worker n ≡ Some w → (i k : ℕ) (m : MapSeen) (place : Place) → slice_get w.maps.items i ≡ Some m → Covers w m place
+      → k < w.by.command → FillsPlace s r (serial_of worker k) place → was_cleared r place ≡ false → is_set m.bits (bit_of place.id) ≡ true
+  bits worker n w at_w i k m place at_m covers lt fills none =
+      let of = walk_of s r workers run worker n w at_w in
+      let f = fill_of worker k place (subst (λ (g : ℕ). 0 < g) covers.group (below_root worker n w of i m at_m)) fills in
+      let command : w.by.command ≡ of.k = ap (λ (b : Serial). b.command) (of.did.by ∙ of.is.by) in
+      let mine = weighs_times (place_number place) f.0.after.core.marks.sets of.step.before.core.marks.sets (grows s r workers run worker k of.k f.0 of.step (omega (arith, lt, command)) f.1 of.at).sets in
+      let x = map_seen worker n w of i m at_m in
+      let begins = weighs_times (place_number place) of.step.before.core.marks.sets x.map_is.set (of.is.did.walks.set x.among.0 x.map_is x.among.1) in
+      let all = map_shown worker of.k of.step x.map_is of.at x.among in
+      let own = (let e = (work_of s r workers run worker k f.0 f.1).core.sets in let set = f.2.set in let sum : 0 < times (place_number place) f.0.after.core.marks.sets = omega (arith, set, ap (times (place_number place)) e, total-append (only (place_number place)) f.0.before.core.marks.sets f.0.work.core.sets) in sum) in
+      ap (λ b. is_set b (bit_of place.id)) (sym x.bits) ∙ all.set place f.2.there (covered w m place covers ∙ sym x.number) (omega (arith, own, mine, begins)) (not_cleared place f.2.there none)
 
   pub walks_lawful : AreWalksLawful s r
   walks_lawful = record {

@@ -1,5 +1,6 @@
 -- Which entries a command makes in the journals of the lists, and which of them its reply cites.
-use Rattle.std.specs.Prelude.{◌≡◌, ◌⊎◌, ℕ, ◌+◌, ◌<◌, ◌≤◌, List, [], ◌∷◌, length, slice_get, Option, Some, None, option_and_then, Contains}
+use Rattle.std.specs.Prelude.{◌≡◌, ◌⊎◌, ℕ, ◌+◌, ◌<◌, ◌≤◌, List, [], ◌∷◌, ◌++◌, length, flat_map, slice_get, Option, Some, None, option_and_then, Contains}
+use Rattle.shr_base.specs.declared.objects.Object.{Object}
 use Rattle.shr_base.specs.declared.places.Serial.{Serial}
 use Rattle.shr_base.specs.declared.places.At.{At}
 use Rattle.shr_base.specs.declared.places.Place.{Place}
@@ -19,9 +20,11 @@ use Rattle.shr_model.specs.Groups.{IsAtOrAbove}
 use Rattle.shr_model.specs.Families.{Family, items_at}
 use Rattle.shr_model.specs.Places.{place_number, at_group}
 use Rattle.shr_model.specs.Walks.{passes_at}
+use Rattle.shr_seats.specs.Lines.{by_seat}
 use Rattle.shr_seats.specs.Views.{Each}
 use Rattle.shr_seats.specs.Weights.{times}
-use Rattle.shr_core.specs.Parts.{Made, Known}
+use Rattle.shr_core.specs.Gained.{among, cleared_in}
+use Rattle.shr_core.specs.Parts.{Made, Known, Event, raised}
 use Rattle.shr_core.specs.Layout.{id_of, group_of, place_at, beside}
 use Rattle.shr_node.specs.Gains.{KnowsClosed}
 use Rattle.shr_report.specs.Parts.{parents_of, first_isolation, cited_by, id_found, at}
@@ -30,6 +33,7 @@ use Rattle.shr_report.specs.ReplyTable.{IsReply}
 use Rattle.shr_report.specs.Causes.{MayHaveBegun}
 use Rattle.shr_report.specs.Swept.{IsSweepReply}
 use Rattle.shr_assemble.specs.Steps.{Step, IsAmong}
+use Rattle.shr_assemble.specs.Walks.{set_in}
 
 -- an entry that was made stands in a family of journals, and these items are there before it
 pub record StandsIn (parents : List ℕ) (family : Family) (m : Made) : Type 0 where
@@ -112,8 +116,16 @@ pub record IsFirstFor (s : Script) (x : Step) (place : Place) : Type 0 where
   pub above : IsAtOrAbove (parents_of s) place.group birth
   pub below : (group : ℕ) → IsAtOrAbove (parents_of s) group birth → place.group < group → KnowsClosed x.after.core (place_number (at_group place group))
 
+-- the command set the bit of this place, and cleared no bit behind that
+pub record IsSetLast (x : Step) (place : ℕ) : Type 0 where
+  pub front : List Event
+  pub back : List Event
+  pub did : x.after.core.did ≡ x.before.core.did ++ by_seat x.before.core.seat (front ++ raised place ∷ back)
+  pub clears_none : among cleared_in back ≡ []
+
 -- The entry that a reply cites was made by the command, after all that the worker had made and known at the place, on the first
--- open list. If an Added found an empty list below the root, the place's bit was set.
+-- open list. If an Added found an empty list below the root, the place's bit was set, and no bit was
+-- cleared behind that.
 pub record IsCited (s : Script) (x : Step) (c : At) : Type 0 where
   pub made : Made
   pub among : IsAmong made x.work.core.made
@@ -122,7 +134,20 @@ pub record IsCited (s : Script) (x : Step) (c : At) : Type 0 where
   pub later : Each (λ (m : Made). m.place ≡ made.place → m.number < made.number) x.before.core.traces.made
   pub known : Each (λ (k : Known). k.place ≡ made.place → length k.entries ≤ made.number) x.before.core.traces.known
   pub first : IsFirstFor s x c.place
-  pub filled : x.answered.reply ≡ reply.Added c → 0 < c.place.group → made.items ≡ [] → 0 < times made.place x.work.core.sets
+  pub filled : x.answered.reply ≡ reply.Added c → 0 < c.place.group → made.items ≡ [] → (0 < times made.place x.work.core.sets) × IsSetLast x made.place
+
+-- an entry put an object into a list that had these: it is an Add into an empty one, or a MovedIn of some
+abbrev pub Fills : List Object → Entry → Type 0
+Fills items (Add by birth added key value) = items ≡ []
+Fills items (MovedIn child objects) = 0 < objects
+Fills items e = ⊥
+
+-- one of these entries filled the list of this place
+pub record IsFilled (made : List Made) (place : ℕ) : Type 0 where
+  pub entry : Made
+  pub among : IsAmong entry made
+  pub here : entry.place ≡ place
+  pub fills : Fills entry.items entry.entry
 
 -- The answer to a command is one that it may have. That to a sweep is of a sweep, with no cache that was found.
 abbrev pub IsReplyTo : List ℕ → Family → Serial → Option Command → Option ℕ → Reply → Type 0
@@ -135,4 +160,6 @@ pub record DidEntries (s : Script) (x : Step) : Type 0 where
   -- in each family of journals in which these entries stand, the answer is one that the command may have
   pub reply : (family : Family) → Each (StandsIn (parents_of s) family) x.work.core.made
       → IsReplyTo (parents_of s) family x.by x.command (id_found x.answered) x.answered.reply
+  -- each bit that was set was that of a place whose list it filled, or a walk of the command tells it
+  pub sets : Each (λ place. IsFilled x.work.core.made place ⊎ IsAmong place (flat_map set_in x.work.walks)) x.work.core.sets
   pub cited : (c : At) → cited_by x.answered.reply ≡ Some c → IsCited s x c

@@ -4,8 +4,17 @@ use Rattle.shr_base.specs.declared.scripts.Script.{Script}
 use Rattle.shr_seats.specs.Lines.{Deed, part}
 use Rattle.shr_seats.specs.Weights.{Begins}
 use Rattle.shr_core.specs.Order.{AreEvents, AreOwn}
-use Rattle.shr_core.specs.Parts.{Event}
-use Rattle.shr_assemble.specs.Steps.{Step, steps_of}
+use Rattle.shr_core.specs.Parts.{Event, cleared}
+use Rattle.shr_assemble.specs.Steps.{Step, IsAmong, steps_of}
+
+-- a worker had done this by the end of one of its steps
+pub record IsOfWorker (workers : List (List Step)) (d : Deed Event) : Type 0 where
+  pub worker : ℕ
+  pub k : ℕ
+  pub step : Step
+  pub at : slice_get (steps_of workers worker) k ≡ Some step
+  pub seat : d.seat ≡ 1 + worker
+  pub among : IsAmong d step.after.core.did
 
 -- All that the workers did at the table of the caches stands in one line, each worker's as it did it, and each event is so
 -- where it stands. The first seat of the table has the number 0, and the worker with a number the next one.
@@ -16,3 +25,5 @@ pub record IsInLine (s : Script) (workers : List (List Step)) : Type 0 where
   pub parts : (worker k : ℕ) (x : Step) → slice_get (steps_of workers worker) k ≡ Some x → Begins x.after.core.did (part (1 + worker) line)
   -- a reference was given back only by the seat that took it
   pub own : AreOwn line
+  -- each bit that was cleared a worker cleared
+  pub clearings : (d : Deed Event) (place : ℕ) → IsAmong d line → d.act ≡ cleared place → IsOfWorker workers d

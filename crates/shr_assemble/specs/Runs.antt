@@ -1,7 +1,8 @@
 -- A run, in plain data: a report, the steps of its workers, and what was left of the tables.
-use Rattle.std.specs.Prelude.{◌≡◌, ℕ, ◌+◌, ◌%◌, ◌<◌, ◌≤◌, ◌&&◌, nat_lt, nat_le, true, cond, List, [], ◌∷◌, length, drop, map, flat_map, codes, slice_get, Some, option_and_then, All, IsPermutation}
+use Rattle.std.specs.Prelude.{◌≡◌, ℕ, ◌+◌, ◌*◌, ◌/◌, ◌%◌, ◌<◌, ◌≤◌, ◌&&◌, nat_lt, nat_le, true, cond, List, [], ◌∷◌, length, drop, map, flat_map, codes, slice_get, Some, option_and_then, All, IsPermutation}
 use Rattle.std.specs.List.{AllByRecursion}
 use Rattle.shr_base.specs.declared.places.Place.{Place}
+use Rattle.shr_base.specs.declared.ends.MapEnd.{MapEnd}
 use Rattle.shr_base.specs.declared.ends.PlaceAmount.{PlaceAmount}
 use Rattle.shr_base.specs.declared.ends.PlaceEnd.{PlaceEnd}
 use Rattle.shr_base.specs.declared.journals.PoolEntry.TheVariants.{Registered}
@@ -32,6 +33,7 @@ use Rattle.shr_walk.specs.State.{WorkerState}
 use Rattle.shr_report.specs.declared.report.Report.{Report}
 use Rattle.shr_report.specs.Parts.{parents_of, hierarchy_of, decls_on, serial_of, commands_of, sweeps_of, answers_of, walks_of, carries_of, isolations_of, journals_of, places_of, items_before, items_left, uses_at, lookups_at, IsThere}
 use Rattle.shr_report.specs.BitsLawful.{AreBitsLawful}
+use Rattle.shr_report.specs.BitsTold.{place_of}
 use Rattle.shr_report.specs.Deferred.{printed_at}
 use Rattle.shr_report.specs.WellFormed.{AreRising}
 use Rattle.shr_units.specs.Steps.{UnitsStep}
@@ -55,6 +57,10 @@ all_attempts workers = gathered (λ x. x.work.core.attempts) workers
 abbrev pub all_cleared : List (List Step) → List ℕ
 all_cleared workers = gathered (λ x. x.work.core.cleared) workers
 
+-- those that were set
+abbrev pub all_sets : List (List Step) → List ℕ
+all_sets workers = gathered (λ x. x.work.core.sets) workers
+
 -- the entries in the journal of registrations
 abbrev pub all_turns : List (List Step) → List Turn
 all_turns workers = gathered (λ x. x.work.core.turns) workers
@@ -77,10 +83,10 @@ all_gives workers = gathered (λ x. gives_of x.work.moves) workers
 
 -- a worker's state at the start: it has done and seen nothing, but knows the registrations of the caches that are `on`
 pub record IsNew (s : Script) (t : WorkerState) : Type 0 where
+  pub did : t.core.did ≡ []
   pub made : t.core.traces.made ≡ []
   pub seen : t.core.traces.seen ≡ []
   pub sets : t.core.marks.sets ≡ []
-  pub did : t.core.did ≡ []
   pub pool : length (decls_on s) ≤ length t.core.turns.known
   pub ops : t.uses.ops ≡ []
   pub charges : t.uses.charges ≡ 0
@@ -96,10 +102,19 @@ pub record IsStep (s : Script) (r : Report) (worker k : ℕ) (x : Step) : Type 0
   pub answered : slice_get (answers_of r worker) k ≡ Some x.answered
   pub did : Did s x
 
--- a map has the bit of each place that its worker had set by then, where no walk of any worker cleared it
+-- A map has the bit of each place that its worker had set by then, where no walk of any worker cleared it, and no bit but of
+-- an id that is there and a place that a worker set.
 pub record IsMapOf (s : Script) (workers : List (List Step)) (m : Mapped) : Type 0 where
   pub set : (place : Place) → IsThere s place → map_number place.node place.group (unit_of place.id) ≡ m.map → 0 < times (place_number place) m.set
       → times (place_number place) (all_cleared workers) ≡ 0 → is_set m.bits (bit_of place.id) ≡ true
+  pub of_ids : (bit : ℕ) → bit < 64 → is_set m.bits bit ≡ true → 64 * (m.map / 1024) + bit < s.ids
+  pub shown : (place : Place) → IsThere s place → map_number place.node place.group (unit_of place.id) ≡ m.map → is_set m.bits (bit_of place.id) ≡ true
+      → 0 < times (place_number place) (all_sets workers)
+
+-- each bit of a printed word is of a place that is there, and that a worker set
+abbrev pub IsMarked : Script → List (List Step) → MapEnd → Type 0
+IsMarked s workers m = (bit : ℕ) → bit < 64 → is_set m.bits bit ≡ true
+    → IsThere s (place_of m (64 * m.unit + bit)) × (0 < times (place_number (place_of m (64 * m.unit + bit))) (all_sets workers))
 
 -- what a worker has made, seen and known is so in the report
 pub record IsShownIn (s : Script) (r : Report) (workers : List (List Step)) (t : WorkerState) : Type 0 where
@@ -199,6 +214,7 @@ pub record IsRun (s : Script) (r : Report) (workers : List (List Step)) : Type 0
   pub isolations : AreIsolating s r workers
   pub journals : AreJournals s r workers
   pub bits : AreBitsLawful s r
+  pub marks : AllByRecursion (IsMarked s workers) r.maps.items
   pub pool : ArePoolAndLookups s r workers
   pub uses : AreUsesAndTree s r workers
   pub deferred : AreDeferred s r workers

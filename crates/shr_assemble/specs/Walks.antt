@@ -1,5 +1,5 @@
 -- The walks of a command.
-use Rattle.std.specs.Prelude.{◌≡◌, ◌≢◌, ℕ, ◌+◌, ◌<◌, ◌≤◌, true, false, ◌==◌, List, [], length, map, filter, flat_map, count_by, slice_get, Option, Some, None, is_some, AllPairs}
+use Rattle.std.specs.Prelude.{◌≡◌, ◌≢◌, ℕ, ◌+◌, ◌<◌, ◌≤◌, Bool, true, false, ◌==◌, List, [], length, map, filter, flat_map, count_by, slice_get, Option, Some, None, is_some, AllPairs}
 use Rattle.std.specs.List.{AllByRecursion, range_with_len, list_any}
 use Rattle.shr_base.specs.declared.journals.UseStep.{UseStep}
 use Rattle.shr_base.specs.declared.replies.Reply.TheVariants as reply
@@ -9,7 +9,10 @@ use Rattle.shr_base.specs.declared.scripts.Script.{Script}
 use Rattle.shr_base.specs.declared.scripts.Sweep.{Sweep}
 use Rattle.shr_base.specs.declared.walks.Attempt.{Attempt}
 use Rattle.shr_base.specs.declared.walks.Ending.TheVariants as ending
+use Rattle.shr_base.specs.declared.walks.GoneThen.TheVariants as gone
 use Rattle.shr_base.specs.declared.walks.MapSeen.{MapSeen}
+use Rattle.shr_base.specs.declared.walks.Outcome.{Outcome}
+use Rattle.shr_base.specs.declared.walks.Outcome.TheVariants as outcome
 use Rattle.shr_base.specs.declared.walks.PassRecord.{PassRecord}
 use Rattle.shr_base.specs.declared.walks.WalkAnswer.TheVariants.{Walked, Offline}
 use Rattle.shr_base.specs.declared.walks.WalkRecord.{WalkRecord}
@@ -73,6 +76,17 @@ mapped_in w = map (λ (m : MapSeen). (map_number w.node w.group m.unit, m.bits))
 -- the places whose bits it tells to be cleared
 abbrev pub cleared_in : WalkRecord → List ℕ
 cleared_in w = map place_number (clearings_of w)
+
+-- the attempt set the bit of its place again, as it had cleared it and its id was there, or its list had an object
+abbrev pub is_setting : Outcome → Bool
+is_setting (outcome.Gone number gone.Set) = true
+is_setting (outcome.RestoredSkip number first len version) = true
+is_setting (outcome.RestoredRan number first pass) = true
+is_setting o = false
+
+-- the places whose bits it tells to be set again
+abbrev pub set_in : WalkRecord → List ℕ
+set_in w = map place_number (map (λ (a : Attempt). place_in w a.id) (filter (λ (a : Attempt). is_setting a.outcome) w.attempts.items))
 
 -- a map with its number, without the places that were set
 abbrev pub word_of : Mapped → ℕ × ℕ

@@ -16,6 +16,7 @@ use Rattle.shr_report.specs.Causes.{is_done_by}
 use Rattle.shr_report.specs.Parts.{serial_of, reply_at, lookups_at}
 use Rattle.shr_report.specs.Freshness.{of_answer, made_by, shows_offline}
 use Rattle.shr_report.specs.Faithful.{pool_reached, tree_reached, tree_made, AreNotAbove, IsOverOnPath, IsFaithful}
+use Rattle.shr_report.proofs.BitsToldValues as bits
 use Rattle.shr_report.proofs.ClimbsValues.{are_climbing}
 use Rattle.shr_report.proofs.CutsValues.{are_told}
 use Rattle.shr_report.proofs.OneOrderValues.{nothing_made, in_order}
@@ -91,6 +92,7 @@ faithful = record {
   handed = tt;
   climbs = are_climbing;
   tries = are_tries;
+  bits = bits.are_told;
 }
 
 -- reports that are not

@@ -21,6 +21,7 @@ use Rattle.shr_model.specs.Pool.{last_number}
 use Rattle.shr_report.specs.declared.report.Report.{Report}
 use Rattle.shr_report.specs.Parts.{parents_of, decls_on, serial_of, reply_at, lookups_at, all_carries, EachAnswer, EachWalk}
 use Rattle.shr_report.specs.Freshness.{pool_seen, pool_made, of_answer, made_by, shows_offline}
+use Rattle.shr_report.specs.BitsTold.{AreBitsTold}
 use Rattle.shr_report.specs.Causes.{IsMadeBy, is_done_by}
 use Rattle.shr_report.specs.Climbs.{AreClimbing}
 use Rattle.shr_report.specs.Cuts.{AreCutsTold}
@@ -100,3 +101,5 @@ pub record IsFaithful (s : Script) (r : Report) : Type 0 where
   pub climbs : AreClimbing s r
   -- a put's charges are those of its tries, which its rounds follow
   pub tries : AreAllTries s r
+  -- the bits that are told are of ids that are there, have a reason, and aren't lost
+  pub bits : AreBitsTold s r

@@ -31,6 +31,7 @@ pub mod Lawful
 pub mod Cuts
 pub mod Climbs
 pub mod Tries
+pub mod BitsTold
 pub mod OneOrder
 pub mod Faithful
 pub mod Puts
