@@ -1,0 +1,3 @@
+mod Wording
+mod Phasing
+mod Setting

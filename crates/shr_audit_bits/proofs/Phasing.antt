@@ -1,0 +1,47 @@
+-- The phases of ids, entry by entry.
+use Rattle.std.proofs.Common.{◌≡◌, ◌≢◌, ℕ, zero, suc, ◌+◌, ◌%◌, ◌<◌, true, false, cond, List, [], ◌∷◌, ◌++◌, length, set, get_or, refl, sym, ap, subst, ◌∙◌, inl, inr, arith}
+use Rattle.std.specs.Prelude.{◌==◌}
+use mathlib.Core.Logic.{dite}
+use native.Mathlib.Decide.{ℕ_discrete}
+use Rattle.std.proofs.lemmas.Bool.{eq-eqb, ne_eqb}
+use Rattle.std.proofs.lemmas.List.{get_or-set_same, get_or-set_other, length-set}
+use Rattle.shr_base.specs.declared.journals.PoolEntry.{PoolEntry}
+use Rattle.shr_model.specs.Pool.{id_of, phase_of}
+use Rattle.shr_model.proofs.PoolLaws.{one_of, phase_of_push}
+use Rattle.shr_audit_bits.specs.Set.{ArePhases}
+
+-- one number 0 more
+pub zero_more : (xs : List ℕ) → ((i : ℕ) → get_or xs i 0 ≡ 0) → (i : ℕ) → get_or (xs ++ 0 ∷ []) i 0 ≡ 0
+zero_more [] all zero = refl
+zero_more [] all (suc i) = refl
+zero_more (x ∷ xs) all zero = all 0
+zero_more (x ∷ xs) all (suc i) = zero_more xs (λ j. all (suc j)) i
+
+pub phases_none : (phases : List ℕ) → length phases ≡ 65536 → ((i : ℕ) → get_or phases i 0 ≡ 0) → ArePhases [] phases
+unfolding phase_of
+phases_none phases many all = record { many = many; each = λ id lt. all id }
+
+phases_more : (pool : List PoolEntry) (e : PoolEntry) (old : List ℕ) (phase : ℕ) → id_of e < 65536 → phase ≡ (get_or old (id_of e) 0 + 1) % 3 → ArePhases pool old → ArePhases (pool ++ e ∷ []) (set old (id_of e) phase)
+phases_more pool e old phase lt is p = record {
+  many = length-set old (id_of e) phase ∙ p.many;
+  each = λ id within. dite (ℕ_discrete id (id_of e)) (own id) (other id within);
+} where
+  own : (id : ℕ) → id ≡ id_of e → get_or (set old (id_of e) phase) id 0 ≡ phase_of id (pool ++ e ∷ []) % 3
+  own id same =
+      let many = p.many in
+      let there : id_of e < length old = omega arith in
+      let one : one_of id e ≡ 1 = rw (eq-eqb (id_of e) id (sym same)) refl in
+      let push = phase_of_push id pool e in
+      let was : get_or old (id_of e) 0 ≡ phase_of id pool % 3 = p.each (id_of e) lt ∙ ap (λ (n : ℕ). phase_of n pool % 3) (sym same) in
+      ap (λ (n : ℕ). get_or (set old (id_of e) phase) n 0) same ∙ (get_or-set_same old (id_of e) phase 0 there ∙ omega arith)
+
+  other : (id : ℕ) → id < 65536 → id ≢ id_of e → get_or (set old (id_of e) phase) id 0 ≡ phase_of id (pool ++ e ∷ []) % 3
+  other id within ne =
+      let one : one_of id e ≡ 0 = rw (ne_eqb (id_of e) id (λ same. ne (sym same))) refl in
+      let push = phase_of_push id pool e in
+      let was = p.each id within in
+      get_or-set_other old (id_of e) id phase 0 ne ∙ omega arith
+
+pub phases_noted : (pool : List PoolEntry) (e : PoolEntry) (old : List ℕ) (id phase : ℕ) → id ≡ id_of e → id < 65536 → phase ≡ (get_or old id 0 + 1) % 3 → ArePhases pool old → ArePhases (pool ++ e ∷ []) (set old id phase)
+phases_noted pool e old id phase same lt is p = subst (λ (n : ℕ). ArePhases (pool ++ e ∷ []) (set old n phase)) (sym same)
+    (phases_more pool e old phase (subst (λ (n : ℕ). n < 65536) same lt) (is ∙ ap (λ (n : ℕ). (get_or old n 0 + 1) % 3) same) p)

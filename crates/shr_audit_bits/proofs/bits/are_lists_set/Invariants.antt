@@ -1,0 +1,8 @@
+use Rattle.std.proofs.Common.{◌≡◌, ◌<◌, ℕ, Some}
+use Rattle.std.specs.Prelude.{slice_get}
+use Rattle.shr_base.specs.declared.ends.PlaceEnd.{PlaceEnd}
+use Rattle.shr_audit_bits.specs.Set.{IsSetIfLive}
+use Rattle.shr_audit_bits.proofs.bits.are_lists_set.Given as goal
+
+abbrev pub invariant-loop-end : goal.invariant-loop-end
+invariant-loop-end l = (k : ℕ) (end : PlaceEnd) → k < l.end-index → slice_get l.end-items k ≡ Some end → IsSetIfLive l.case.parents.items l.report end.place

@@ -1,0 +1,6 @@
+//! Whether the bits of a report are lawful. Our own.
+#![tactic(auto)]
+
+pub mod bits;
+mod phases;
+mod words;
