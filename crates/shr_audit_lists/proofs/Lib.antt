@@ -2,4 +2,6 @@ mod Loops
 mod Journals
 mod Beginning
 mod Pairing
+mod Allowing
+mod Whole
 mod ListsValues

@@ -5,7 +5,7 @@ use Rattle.shr_base.specs.declared.journals.TreeEntry.TheVariants.{Done}
 use Rattle.shr_base.specs.declared.ends.PlaceEnd.{PlaceEnd}
 use Rattle.shr_base.specs.declared.scripts.Script.{Script}
 use Rattle.shr_model.specs.Items.{AreOutcomes, is_closed}
-use Rattle.shr_model.specs.Families.{lists_moved_at}
+use Rattle.shr_model.specs.Families.{items_of, lists_moved_at}
 use Rattle.shr_report.specs.declared.report.Report.{Report}
 use Rattle.shr_report.specs.Parts.{IsThere, journals_of}
 use Rattle.shr_case.specs.Places.{IsFirst}
@@ -29,6 +29,14 @@ IsOutcomeSo parents r place = AreOutcomes (lists_moved_at parents (journals_of r
 -- of each place
 abbrev pub AreOutcomesSo : List ℕ → Report → Type 0
 AreOutcomesSo parents r = (place : Place) → IsOutcomeSo parents r place
+
+-- the objects of a list that are printed are those that the journal of its place leaves
+abbrev pub IsItemsLeft : List ℕ → Report → PlaceEnd → Type 0
+IsItemsLeft parents r end = end.items.items ≡ items_of parents (journals_of r) end.place
+
+-- those of each list
+abbrev pub AreItemsLeft : List ℕ → Report → Type 0
+AreItemsLeft parents r = (n : ℕ) (end : PlaceEnd) → slice_get r.places.items n ≡ Some end → IsItemsLeft parents r end
 
 -- the list of an id, a node and a group is closed
 abbrev pub IsClosedAt : Report → ℕ → ℕ → ℕ → Type 0

@@ -1,3 +1,4 @@
 pub mod Fields
 pub mod Begun
 pub mod Paired
+pub mod Standing

@@ -14,7 +14,7 @@ use shr_base::scripts::Script;
 use shr_case::places::journal_at;
 use shr_report::report::Report;
 
-fn is_closing(entry: &Entry) -> bool
+pub(crate) fn is_closing(entry: &Entry) -> bool
     ensures { result ≡ is_closing entry.now }
 {
     matches!(entry, Entry::Closed)

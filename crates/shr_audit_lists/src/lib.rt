@@ -3,5 +3,8 @@
 
 pub mod begun;
 pub mod done;
+pub mod law;
+pub mod left;
 pub mod paired;
 pub mod places;
+pub mod standing;

@@ -1,0 +1,7 @@
+use Rattle.std.proofs.Common.{◌<◌, ℕ, List}
+use Rattle.shr_base.specs.declared.journals.Entry.{Entry}
+use Rattle.shr_audit_lists.specs.Standing.{AreMoved, IsMovedChild}
+use Rattle.shr_audit_lists.proofs.standing.are_children_moved.Given as goal
+
+abbrev pub invariant-loop-child : goal.invariant-loop-child
+invariant-loop-child l = (before : List Entry) → AreMoved before l.moved → (child : ℕ) → 0 < child → child < l.child → IsMovedChild l.parents l.group before child

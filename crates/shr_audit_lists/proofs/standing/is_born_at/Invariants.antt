@@ -1,0 +1,11 @@
+use Rattle.std.proofs.Common.{◌<◌, List, length}
+use Rattle.shr_base.specs.declared.journals.Entry.{Entry}
+use Rattle.shr_audit_lists.specs.Standing.{AreMoved}
+use Rattle.shr_audit_lists.proofs.Allowing.{IsClimbed}
+use Rattle.shr_audit_lists.proofs.standing.is_born_at.Given as goal
+
+abbrev pub invariant-loop-at : goal.invariant-loop-at
+invariant-loop-at l = (l.at < length l.parents) × ((before : List Entry) → AreMoved before l.moved → IsClimbed l.parents l.group before l.fn.birth l.at)
+
+abbrev pub decreases-loop-at : goal.decreases-loop-at
+decreases-loop-at l = l.at

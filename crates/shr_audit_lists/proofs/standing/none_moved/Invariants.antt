@@ -1,0 +1,6 @@
+use Rattle.std.proofs.Common.{◌≡◌, [], length}
+use Rattle.shr_audit_lists.specs.Standing.{AreMoved}
+use Rattle.shr_audit_lists.proofs.standing.none_moved.Given as goal
+
+abbrev pub invariant-loop-group : goal.invariant-loop-group
+invariant-loop-group l = (length l.moved.items ≡ l._group) × AreMoved [] l.moved.items
