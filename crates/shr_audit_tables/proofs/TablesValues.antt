@@ -11,7 +11,7 @@ use Rattle.shr_model.specs.Families.{lists_moved, items_within}
 use Rattle.shr_model.specs.Groups.{path_within}
 use Rattle.shr_model.specs.Items.{items_from}
 use Rattle.shr_model.specs.Pool.{phase_of, decl_from, from_from, number_from}
-use Rattle.shr_report.proofs.SecondReport.{kept, dentry, by, use_step}
+use Rattle.shr_report.proofs.SecondReport.{kept, dentry, by}
 use Rattle.shr_report.proofs.FirstReport.{script, report, answer}
 use Rattle.shr_report.proofs.ThirdReport as third
 use Rattle.shr_report.specs.Parts.{parents_of}
@@ -20,7 +20,6 @@ use Rattle.shr_audit_tables.specs.Deferred.{given_by, taken_by, AreWordsRight}
 use Rattle.shr_audit_tables.specs.Registrations.{state_of, state_with, noted, IsLiveAs, HasLive, IsFreeNow, NoneFree, IsLowestFree, MayRegister, AreLastReached, AreFirst}
 use Rattle.shr_audit_tables.specs.Lookups.{on_from, Opens, IsPoolLawful}
 use Rattle.shr_audit_tables.specs.Draws.{AreDrawnOnce, IsDrawn, found_draws, answer_draws, tried_draws, attempt_draws, draw_key, drawn, part_draws, walk_draws, wanted, wanted_from}
-use Rattle.shr_audit_tables.specs.Charges.{AreThere, AreUpsOfPuts}
 use Rattle.shr_audit_tables.specs.Idle.{AreIdleEmpty, IsIdleIn, NonePast}
 
 abbrev place : ℕ → Place
@@ -172,11 +171,3 @@ live_so h = absurd (let e : 1 ≡ 0 = h live refl in omega (arith, e))
 left_by_idle : AreIdleEmpty (parents_of script) (record report { pool = kept [] }) → ⊥
 unfolding phase_of items_from lists_moved items_within path_within
 left_by_idle h = absurd (let e = h (place 1) refl in cc)
-
--- ---- charges
-
-charged_nowhere : AreThere (parents_of script) (use_step 7 0 true 0 0 ∷ []) → ⊥
-charged_nowhere h = absurd (let few = h 0 (use_step 7 0 true 0 0) refl in omega (arith, few))
-
-charged_by_none : AreUpsOfPuts script (use_step 0 0 true 0 4 ∷ []) → ⊥
-charged_by_none h = h 0 (use_step 0 0 true 0 4) refl refl

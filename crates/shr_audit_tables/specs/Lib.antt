@@ -1,4 +1,3 @@
-pub mod Charges
 pub mod Deferred
 pub mod Draws
 pub mod Idle

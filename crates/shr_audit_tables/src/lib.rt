@@ -1,7 +1,6 @@
 //! The laws of a report on its tables, each decided both ways. Our own.
 #![tactic(auto)]
 
-pub mod charges;
 pub mod deferred;
 pub mod draws;
 pub mod idle;

@@ -1,9 +1,7 @@
 //! Journals of registrations that are ones, and some that aren't.
 
-use crate::charges::are_there;
 use crate::registrations::replay_pool;
-use shr_base::journals::{PoolEntry, UseStep};
-use shr_base::places::Serial;
+use shr_base::journals::PoolEntry;
 use std::alloc::Global;
 use std::test::Fail;
 
@@ -59,23 +57,5 @@ fn registrations_that_do_not(rt: HostRuntime) -> Result<(), Fail> {
     assert!(rt; !is_journal(rt.alloc(), &[FIRST, IDLE])?);
     assert!(rt; !is_journal(rt.alloc(), &[FIRST, ENDED, AGAIN])?);
     assert!(rt; !is_journal(rt.alloc(), &[FIRST, ENDED, IDLE, TOO_EARLY])?);
-    Ok(())
-}
-
-#[test]
-fn charges_of_groups(rt: HostRuntime) -> Result<(), Fail> {
-    let by = Serial {
-        worker: 0,
-        command: 0,
-    };
-    let step = UseStep {
-        operation: 0,
-        found: 0,
-        by,
-        group: 1,
-        up: true,
-    };
-    assert!(rt; are_there(&[0, 0], &[step]));
-    assert!(rt; !are_there(&[0], &[step]));
     Ok(())
 }

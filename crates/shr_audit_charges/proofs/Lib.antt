@@ -1,0 +1,13 @@
+mod Pushed
+mod Rows
+mod HistoryLaw
+mod OwnLaw
+mod TreeLaw
+mod PathsLaw
+mod BalanceLaw
+mod LeftLaw
+mod NetsLaw
+mod Workers
+mod NetsWhole
+mod WholeLaw
+mod ChargesValues

@@ -1,0 +1,6 @@
+use Rattle.std.proofs.Common.{take}
+use Rattle.shr_audit_charges.specs.History.{AreCharged, AreUsagesOf}
+use Rattle.shr_audit_charges.proofs.history.replay_uses.Given as goal
+
+abbrev pub invariant-loop-i : goal.invariant-loop-i
+invariant-loop-i l = AreCharged l.groups (take l.i l.uses) × AreUsagesOf l.groups (take l.i l.uses) l.usages.items

@@ -1,0 +1,8 @@
+use Rattle.std.proofs.Common.{◌≡◌, ◌<◌, ℕ, Some, slice_get}
+use Rattle.shr_audit_charges.specs.declared.history.Usage.{Usage}
+use Rattle.shr_audit_charges.specs.Left.{IsWithin}
+use Rattle.shr_audit_charges.specs.Own.{limit_in}
+use Rattle.shr_audit_charges.proofs.left.are_within.Given as goal
+
+abbrev pub invariant-loop-group : goal.invariant-loop-group
+invariant-loop-group l = (group : ℕ) (x : Usage) → group < l.group → slice_get l.usages group ≡ Some x → IsWithin (limit_in l.limits group) x

@@ -1,0 +1,8 @@
+use Rattle.std.proofs.Common.{◌≡◌, ◌++◌, take}
+use Rattle.std.specs.Prelude.{flat_map}
+use Rattle.shr_base.specs.declared.ends.PlaceEnd.{PlaceEnd}
+use Rattle.shr_audit_charges.specs.Left.{left_keys}
+use Rattle.shr_audit_charges.proofs.left.note_left.Given as goal
+
+abbrev pub invariant-loop-end : goal.invariant-loop-end
+invariant-loop-end l = l.keys.items ≡ l.fn.keys.items ++ flat_map (λ (end : PlaceEnd). left_keys l.case.parents.items l.report end.place) (take l.end-index l.ends)

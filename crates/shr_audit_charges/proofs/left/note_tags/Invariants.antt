@@ -1,0 +1,7 @@
+use Rattle.std.proofs.Common.{◌≡◌, ◌++◌, take}
+use Rattle.std.specs.Prelude.{flat_map}
+use Rattle.shr_audit_charges.specs.Left.{tag_keys}
+use Rattle.shr_audit_charges.proofs.left.note_tags.Given as goal
+
+abbrev pub invariant-loop-tag : goal.invariant-loop-tag
+invariant-loop-tag l = l.keys.items ≡ l.fn.keys.items ++ flat_map (tag_keys l.parents) (take l.tag-index l.tags)

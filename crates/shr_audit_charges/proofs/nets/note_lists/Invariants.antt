@@ -1,0 +1,8 @@
+use Rattle.std.proofs.Common.{◌≡◌, ◌++◌, take}
+use Rattle.std.specs.Prelude.{flat_map}
+use Rattle.shr_base.specs.declared.ends.PlaceEnd.{PlaceEnd}
+use Rattle.shr_audit_charges.specs.Nets.{place_keys}
+use Rattle.shr_audit_charges.proofs.nets.note_lists.Given as goal
+
+abbrev pub invariant-loop-end : goal.invariant-loop-end
+invariant-loop-end l = l.keys.items ≡ l.fn.keys.items ++ flat_map (λ (end : PlaceEnd). place_keys l.case.parents.items l.report end.place) (take l.end-index l.ends)

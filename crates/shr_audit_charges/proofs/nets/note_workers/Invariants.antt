@@ -1,0 +1,6 @@
+use Rattle.std.proofs.Common.{◌≡◌, ◌++◌, take}
+use Rattle.shr_audit_charges.specs.Nets.{workers_keys}
+use Rattle.shr_audit_charges.proofs.nets.note_workers.Given as goal
+
+abbrev pub invariant-loop-worker : goal.invariant-loop-worker
+invariant-loop-worker l = l.keys.items ≡ l.fn.keys.items ++ workers_keys l.parents l.report 0 (take l.worker l.workers)

@@ -1,0 +1,6 @@
+use Rattle.std.proofs.Common.{◌<◌, ℕ}
+use Rattle.shr_audit_charges.specs.Tree.{IsUndone}
+use Rattle.shr_audit_charges.proofs.tree.has_undone.Given as goal
+
+abbrev pub invariant-loop-child : goal.invariant-loop-child
+invariant-loop-child l = (child : ℕ) → child < l.child → IsUndone l.parents l.states l.group child → ⊥

@@ -1,0 +1,10 @@
+pub mod Balance
+pub mod History
+pub mod Law
+pub mod Left
+pub mod Nets
+pub mod Own
+pub mod Paths
+pub mod Puts
+pub mod Tree
+pub mod Uses

@@ -1,0 +1,15 @@
+//! Whether the charges of a report are lawful. Our own.
+#![tactic(auto)]
+
+pub mod balance;
+pub mod climb;
+pub mod history;
+pub mod law;
+pub mod left;
+pub mod nets;
+pub mod own;
+pub mod puts;
+#[cfg(test)]
+mod tests;
+pub mod tree;
+pub mod uses;
