@@ -1,0 +1,6 @@
+//! The versions that the walks of a worker read at each place. Our own.
+#![tactic(auto)]
+
+pub mod report;
+mod table;
+pub mod walks;
