@@ -1,0 +1,37 @@
+-- Values that hits lend, at known values.
+use Rattle.std.proofs.Common.{◌≡◌, true, List, [], ◌∷◌, Some, None, refl}
+use Rattle.std.specs.Prelude.{codes}
+use Rattle.shr_base.specs.declared.journals.Entry.{Entry}
+use Rattle.shr_base.specs.declared.journals.Entry.TheVariants.{Add, Look}
+use Rattle.shr_model.specs.Items.{items_from, moved_from}
+use Rattle.shr_replay.specs.declared.values.FoundValue.{FoundValue}
+use Rattle.shr_replay.specs.Journals.{values_from}
+use Rattle.shr_report.proofs.SecondReport.{by}
+use Rattle.shr_audit_values.specs.Lent.{AreAhead, value_first, values_behind}
+
+-- a put, a get that finds its object, and one that finds none
+abbrev entries : List Entry
+entries = Add (by 0) 1 true (codes "k1") (codes "v1") ∷ Look (by 1) 1 (codes "k1") true ∷ Look (by 2) 1 (codes "k2") true ∷ []
+
+abbrev found : List FoundValue
+found = record { entry = 1; value = codes "v1" } ∷ []
+
+of_the_first_get : value_first 1 found ≡ Some (codes "v1")
+of_the_first_get = refl
+
+of_the_put : value_first 0 found ≡ None
+of_the_put = refl
+
+of_the_other_get : value_first 2 (values_behind 1 found) ≡ None
+of_the_other_get = refl
+
+behind_the_put : values_behind 0 found ≡ found
+behind_the_put = refl
+
+ahead_at_first : AreAhead [] entries 0 found
+unfolding values_from items_from moved_from
+ahead_at_first = refl
+
+none_ahead_of_the_last : AreAhead [] entries 2 []
+unfolding values_from items_from moved_from
+none_ahead_of_the_last = refl

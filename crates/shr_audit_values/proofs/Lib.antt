@@ -1,0 +1,4 @@
+mod Lending
+mod Replying
+mod Places
+mod LentValues

@@ -1,0 +1,11 @@
+use Rattle.std.proofs.Common.{◌≡◌, ◌<◌, ℕ, List, [], Some}
+use Rattle.std.specs.Prelude.{slice_get}
+use Rattle.shr_base.specs.declared.journals.Entry.{Entry}
+use Rattle.shr_base.specs.declared.objects.Object.{Object}
+use Rattle.shr_replay.specs.Journals.{values_from}
+use Rattle.shr_audit_values.specs.Lent.{AreAhead, IsMetLent}
+use Rattle.shr_audit_values.proofs.lent.are_lent.Given as goal
+
+abbrev pub invariant-loop-n : goal.invariant-loop-n
+invariant-loop-n l = (moved : List (List Object)) → l.found ≡ values_from 0 moved [] l.entries → AreAhead moved l.entries l.n l.rest
+    × ((m : ℕ) (e : Entry) → m < l.n → slice_get l.entries m ≡ Some e → IsMetLent l.report l.place moved l.entries m e)

@@ -1,0 +1,14 @@
+use Rattle.std.proofs.Common.{List, [], sym, ap, ◌∙◌}
+use Rattle.shr_base.specs.declared.journals.Entry.{Entry}
+use Rattle.shr_model.specs.Families.{lists_moved_at}
+use Rattle.shr_replay.specs.Journals.{values_from}
+use Rattle.shr_report.specs.Parts.{journals_of}
+use Rattle.shr_audit_values.proofs.Places.{lent_at}
+use Rattle.shr_audit_values.proofs.lent.is_place_lent.Goals as goal
+
+pub returns : goal.returns
+returns c =
+    let parents = c.args.case.now.parents.items in
+    let moved = lists_moved_at parents (journals_of c.args.report.now) c.args.place in
+    lent_at parents c.args.report.now c.args.place c.journal_at-entries.result.now c.journal_at-entries.ensures c.are_lent-lent.result
+    (c.are_lent-lent.ensures moved (c.values-found.ensures ∙ ap (λ (es : List Entry). values_from 0 moved [] es) (sym c.journal_at-entries.ensures)))
