@@ -28,9 +28,6 @@ notes_same old new b f g same n rest = (
   λ h. same_on old (λ q. f q ++ rest q) (λ q. g q ++ rest q) (λ q. ap (λ (xs : List ℕ). xs ++ rest q) (same q)) ((n rest).1 h),
 )
 
-pub notes_none : (t : Versions) → Notes t t true (λ q. [])
-notes_none t rest = (λ h. (refl, h), λ h. h.1)
-
 -- one after the other
 pub notes_both : (old now new : Versions) (a b : Bool) (f g : Place → List ℕ) → a ≡ true → Notes old now a f → Notes now new b g → Notes old new b (λ q. f q ++ g q)
 notes_both old now new a b f g sure first second rest = (
@@ -115,13 +112,6 @@ module _ (old now new : Versions) (here : Place) (first second : ℕ) where
 
   pub two_noted : (a b : Bool) → a ≡ true → Notes old now a (if_here here (first ∷ [])) → Notes now new b (if_here here (second ∷ [])) → Notes old new b (if_here here (first ∷ second ∷ []))
   two_noted a b sure h g = notes_same old new b (λ q. if_here here (first ∷ []) q ++ if_here here (second ∷ []) q) (if_here here (first ∷ second ∷ [])) (two_here here (first ∷ []) (second ∷ [])) (notes_both old now new a b (if_here here (first ∷ [])) (if_here here (second ∷ [])) sure h g)
-
-pub none_here : (here q : Place) → [] ≡ if_here here [] q
-none_here here q = by (is_place q here)
-  where
-    by : (b : Bool) → ◌≡◌ {A = List ℕ} [] (cond b [] [])
-    by true = refl
-    by false = refl
 
 -- ---- lists of what has versions
 
