@@ -1,10 +1,8 @@
 -- Versions noted one after another.
-use Rattle.std.proofs.Common.{◌≡◌, ◌≢◌, ℕ, zero, suc, ◌+◌, ◌<◌, ◌≤◌, ◌^◌, Bool, true, false, cond, List, [], ◌∷◌, ◌++◌, length, get_or, take, drop, map, flat_map, filter, Option, Some, None, refl, sym, ap, subst, ◌∙◌, ◌⊎◌, inl, inr, arith}
-use Rattle.std.specs.Prelude.{◌&&◌, ◌==◌, nat_eq, nat_lt}
+use Rattle.std.proofs.Common.{◌≡◌, ℕ, zero, suc, ◌+◌, ◌<◌, ◌≤◌, Bool, true, false, cond, List, [], ◌∷◌, ◌++◌, length, get_or, take, drop, map, flat_map, filter, Option, None, refl, sym, ap, subst, ◌∙◌, arith}
+use Rattle.std.specs.Prelude.{nat_eq}
 use Rattle.std.specs.Bool.{Decides}
 use Rattle.std.specs.HashMap.{get}
-use Rattle.std.proofs.lemmas.Bool.{cases_Bool, and_parts, and_from, eq-eqb, ne_eqb}
-use Rattle.std.proofs.lemmas.Bool.Decides.{nat_tests}
 use Rattle.std.proofs.lemmas.List.{append-nil, append_assoc, take_more, take_all, take-append-drop}
 use Rattle.std.proofs.lemmas.List.Concat.{flat_map-append}
 use Rattle.shr_base.specs.declared.places.Place.{Place}
@@ -13,7 +11,6 @@ use Rattle.shr_base.specs.declared.walks.WalkRecord.{WalkRecord}
 use Rattle.shr_model.specs.Attempts.{counts_of}
 use Rattle.shr_model.specs.Places.{is_place}
 use Rattle.shr_model.specs.Walks.{place_in, versions_at}
-use Rattle.shr_model.proofs.PlacesLaws.{is_place_same, is_place_itself}
 use Rattle.shr_report.specs.WellFormed.{AreNotFalling}
 use Rattle.shr_audit_versions.specs.Table.{NotFallingFrom, NotFallingOn, Notes, Versions, fits, if_here, last_at, place_key, read_as}
 
@@ -44,59 +41,6 @@ notes_fall old now new b f g isnt first rest = (
   where
     clash : (b : Bool) → b ≡ true → b ≡ false → ⊥
     clash b e f = cc
-
--- ---- one version
-
-module _ (old new : Versions) (place : Place) (version : ℕ) where
-  pub note_falls : version < last_at old place → Notes old new false (if_here place (version ∷ []))
-  note_falls below rest = (λ h. absurd (over (h place)), λ h. absurd cc)
-    where
-      over : NotFallingFrom (last_at old place) (if_here place (version ∷ []) place ++ rest place) → ⊥
-      over h =
-          let own : NotFallingFrom (last_at old place) (version ∷ rest place) = subst (λ (b : Bool). NotFallingFrom (last_at old place) (cond b (version ∷ []) [] ++ rest place)) (is_place_itself place) h in
-          let up : last_at old place ≤ version = own.0 in
-          omega arith
-
-  pub note_goes : last_at old place ≤ version → (k : ℕ) → k ≡ place_key place → place.group < 2 ^ 16 → place.id < 2 ^ 16
-      → ((q : ℕ) → get nat_eq new q ≡ cond (nat_eq k q) (Some version) (get nat_eq old q)) → Notes old new true (if_here place (version ∷ []))
-  note_goes up k key group id puts rest = (λ h. (refl, λ q. to q (cases_Bool (is_place q place)) (h q)), λ h q. from q (cases_Bool (is_place q place)) (h.1 q))
-    where
-      fits_here : fits place ≡ true
-      fits_here = and_from (nat_lt place.group 65536) (nat_lt place.id 65536) (grind (arith, nat_tests)) (grind (arith, nat_tests))
-
-      here : last_at new place ≡ version
-      here = ap (λ (b : Bool). cond b (read_as (get nat_eq new (place_key place))) 0) fits_here ∙ ap read_as (puts (place_key place)) ∙ ap (λ (b : Bool). read_as (cond b (Some version) (get nat_eq old (place_key place)))) (eq-eqb k (place_key place) key)
-
-      other_key : (q : Place) → is_place q place ≡ false → fits q ≡ true → k ≢ place_key q
-      other_key q off f e =
-          let x = and_parts (nat_lt q.group 65536) (nat_lt q.id 65536) f in
-          let g : q.group < 65536 = grind (arith, nat_tests) in
-          let i : q.id < 65536 = grind (arith, nat_tests) in
-          let nodes : q.node ≡ place.node = omega arith in
-          let groups : q.group ≡ place.group = omega arith in
-          let ids : q.id ≡ place.id = omega arith in
-          let sure : is_place q place ≡ true = and_from ((q.id == place.id) && (q.node == place.node)) (q.group == place.group) (and_from (q.id == place.id) (q.node == place.node) (eq-eqb q.id place.id ids) (eq-eqb q.node place.node nodes)) (eq-eqb q.group place.group groups) in
-          cc
-
-      there : (q : Place) → is_place q place ≡ false → last_at new q ≡ last_at old q
-      there q off = elim (cases_Bool (fits q)) [
-        | inl t ↦ ap (λ (b : Bool). cond b (read_as (get nat_eq new (place_key q))) 0) t ∙ ap read_as (puts (place_key q)) ∙ ap (λ (b : Bool). read_as (cond b (Some version) (get nat_eq old (place_key q)))) (ne_eqb k (place_key q) (other_key q off t)) ∙ sym (ap (λ (b : Bool). cond b (read_as (get nat_eq old (place_key q))) 0) t)
-        | inr f ↦ ap (λ (b : Bool). cond b (read_as (get nat_eq new (place_key q))) 0) f ∙ sym (ap (λ (b : Bool). cond b (read_as (get nat_eq old (place_key q))) 0) f)
-      ]
-
-      Was : Place → Bool → Type 0
-      Was q b = NotFallingFrom (last_at old q) (cond b (version ∷ []) [] ++ rest q)
-
-      to : (q : Place) → (is_place q place ≡ true) ⊎ (is_place q place ≡ false) → Was q (is_place q place) → NotFallingFrom (last_at new q) (rest q)
-      to q (inl t) h =
-          let own : NotFallingFrom (last_at old q) (version ∷ rest q) = subst (Was q) t h in
-          subst (λ (n : ℕ). NotFallingFrom n (rest q)) (sym (ap (last_at new) (is_place_same q place t) ∙ here)) own.1
-      to q (inr f) h = subst (λ (n : ℕ). NotFallingFrom n (rest q)) (sym (there q f)) (subst (Was q) f h)
-
-      from : (q : Place) → (is_place q place ≡ true) ⊎ (is_place q place ≡ false) → NotFallingFrom (last_at new q) (rest q) → Was q (is_place q place)
-      from q (inl t) h =
-          subst (Was q) (sym t) (subst (λ (n : ℕ). n ≤ version) (ap (last_at old) (sym (is_place_same q place t))) up, subst (λ (n : ℕ). NotFallingFrom n (rest q)) (ap (last_at new) (is_place_same q place t) ∙ here) h)
-      from q (inr f) h = subst (Was q) (sym f) (subst (λ (n : ℕ). NotFallingFrom n (rest q)) (there q f) h)
 
 -- two versions at a place are one and one
 pub two_here : (here : Place) (xs ys : List ℕ) (q : Place) → if_here here xs q ++ if_here here ys q ≡ if_here here (xs ++ ys) q
