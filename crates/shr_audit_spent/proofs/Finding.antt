@@ -1,0 +1,29 @@
+-- What is so of whatever was found, and of each walk of the pools.
+use Rattle.std.proofs.Common.{◌≡◌, ℕ, Bool, [], Option, Some, None, refl, sym, ap, subst, ◌∙◌, arith}
+use Rattle.std.specs.Prelude.{slice_get}
+use Rattle.std.specs.Bool.{Decides}
+use Rattle.std.proofs.lemmas.Option.{slice_get_within}
+use Rattle.shr_base.specs.declared.ends.WorkerPart.{WorkerPart}
+use Rattle.shr_base.specs.declared.walks.PlainWalk.{PlainWalk}
+use Rattle.shr_report.specs.declared.report.Report.{Report}
+use Rattle.shr_report.specs.UnitParts.{EachPlain, plain_in}
+use Rattle.shr_case.specs.Each.{InParts}
+
+-- what is so of whatever stands there is so of the one that was found
+pub at_some : {X : Type 0} (o : Option X) (x : X) (P : X → Type 0) (b : Bool) → Some x ≡ o → Decides b (P x) → Decides b ((y : X) → o ≡ Some y → P y)
+at_some {X} o x P b is d = (λ t y e. subst P (some_same x y (is ∙ e)) (d.0 t), λ all. d.1 (all x (sym is)))
+  where
+    some_same : (a c : X) → ◌≡◌ {A = Option X} (Some a) (Some c) → a ≡ c
+    some_same a c e = cc
+
+-- ---- walks of the pools
+
+of_plain : (x : Option WorkerPart) (n : ℕ) (w : PlainWalk) (Q : Type 0) → ((part : WorkerPart) → x ≡ Some part → slice_get part.plain.items n ≡ Some w → Q) → slice_get (plain_in x) n ≡ Some w → Q
+of_plain None n w Q f e = let lt = slice_get_within [] n w e in absurd (omega (arith, lt))
+of_plain (Some part) n w Q f e = f part refl e
+
+pub each_plain_of : (r : Report) (P : ℕ → ℕ → PlainWalk → Type 0) (b : Bool) → Decides b (InParts (λ (part : WorkerPart). part.plain.items) r P) → Decides b (EachPlain r P)
+each_plain_of r P b d = (
+  λ t worker n w e. of_plain (slice_get r.workers.items worker) n w (P worker n w) (λ part is at. d.0 t worker part is n w at) e,
+  λ all. d.1 (λ worker part is n w at. all worker n w (ap (λ (x : Option WorkerPart). slice_get (plain_in x) n) is ∙ at)),
+)

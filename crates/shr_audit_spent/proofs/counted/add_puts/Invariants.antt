@@ -1,0 +1,8 @@
+use Rattle.std.proofs.Common.{ℕ, ◌+◌, length, take}
+use Rattle.std.specs.Prelude.{filter}
+use Rattle.shr_model.specs.Commands.{is_put}
+use Rattle.shr_audit_spent.specs.Counted.{IsCapped}
+use Rattle.shr_audit_spent.proofs.counted.add_puts.Given as goal
+
+abbrev pub invariant-loop-command : goal.invariant-loop-command
+invariant-loop-command l = (count : ℕ) → IsCapped l.before count → IsCapped l.puts (count + length (filter is_put (take l.command-index l.commands)))

@@ -1,0 +1,6 @@
+use Rattle.std.proofs.Common.{◌≡◌, length, take}
+use Rattle.shr_audit_spent.specs.Counted.{AreCounted}
+use Rattle.shr_audit_spent.proofs.counted.count_steps.Given as goal
+
+abbrev pub invariant-loop-step : goal.invariant-loop-step
+invariant-loop-step l = (length l.counts.items ≡ l.size) × AreCounted l.kind (take l.step-index l.steps) l.counts.items

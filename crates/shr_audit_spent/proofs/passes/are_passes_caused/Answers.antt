@@ -1,0 +1,16 @@
+use Rattle.std.proofs.Common.{◌≡◌, ℕ, List, Some, slice_get, subst}
+use Rattle.std.specs.Bool.{Decides}
+use Rattle.shr_base.specs.declared.ends.WorkerPart.{WorkerPart}
+use Rattle.shr_case.proofs.Eachs.{each_walk_of}
+use Rattle.shr_formed.specs.Each.{Each}
+use Rattle.shr_report.specs.Parts.{EachAttempt}
+use Rattle.shr_audit_spent.specs.Passes.{IsRunCaused}
+use Rattle.shr_audit_spent.proofs.passes.are_passes_caused.Goals as goal
+
+pub returns : goal.returns
+returns c =
+    let s = c.args.script.now in
+    let r = c.args.report.now in
+    let b = c.are_parts_caused-all.result in
+    each_walk_of r (λ worker n w. EachAttempt w (λ a. IsRunCaused s r worker w a)) b
+    (subst (λ (parts : List WorkerPart). Decides b ((worker : ℕ) (part : WorkerPart) → slice_get parts worker ≡ Some part → Each (λ w. EachAttempt w (λ a. IsRunCaused s r worker w a)) part.walks.items)) c.as_slice.ensures c.are_parts_caused-all.ensures)

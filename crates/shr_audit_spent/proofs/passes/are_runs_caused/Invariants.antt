@@ -1,0 +1,7 @@
+use Rattle.std.proofs.Common.{◌≡◌, ◌<◌, ℕ, Some, slice_get}
+use Rattle.shr_base.specs.declared.walks.Attempt.{Attempt}
+use Rattle.shr_audit_spent.specs.Passes.{IsRunCaused}
+use Rattle.shr_audit_spent.proofs.passes.are_runs_caused.Given as goal
+
+abbrev pub invariant-loop-attempt : goal.invariant-loop-attempt
+invariant-loop-attempt l = (n : ℕ) (x : Attempt) → n < l.attempt-index → slice_get l.attempt-items n ≡ Some x → IsRunCaused l.script l.report l.worker l.walk x

@@ -1,0 +1,9 @@
+use Rattle.std.proofs.Common.{◌≡◌, ◌<◌, ℕ, Some, slice_get}
+use Rattle.shr_base.specs.declared.walks.PlainTry.{PlainTry}
+use Rattle.shr_base.specs.declared.walks.PlainWalk.{PlainWalk}
+use Rattle.shr_audit_spent.specs.Passes.{IsTryCaused}
+use Rattle.shr_audit_spent.proofs.plain.are_walks_caused.Given as goal
+
+abbrev pub invariant-loop-walk : goal.invariant-loop-walk
+invariant-loop-walk l = (n : ℕ) (w : PlainWalk) → n < l.walk-index → slice_get l.walks n ≡ Some w
+    → (pool : ℕ) (x : PlainTry) → slice_get w.tries.items pool ≡ Some x → IsTryCaused l.script l.report w.node pool x
