@@ -1,0 +1,15 @@
+use Rattle.std.proofs.Common.{◌≡◌, ℕ, List, Some, slice_get, subst}
+use Rattle.std.specs.Bool.{Decides}
+use Rattle.shr_base.specs.declared.ends.WorkerPart.{WorkerPart}
+use Rattle.shr_case.proofs.Eachs.{each_walk_of}
+use Rattle.shr_formed.specs.Each.{Each}
+use Rattle.shr_report.specs.Parts.{EachAttempt}
+use Rattle.shr_audit_lookups.specs.Met.{IsMetRight}
+use Rattle.shr_audit_lookups.proofs.met.are_met_right.Goals as goal
+
+pub returns : goal.returns
+returns c =
+    let r = c.args.report.now in
+    let b = c.are_parts_right-right.result in
+    each_walk_of r (λ worker n w. EachAttempt w (IsMetRight r)) b
+    (subst (λ (parts : List WorkerPart). Decides b ((worker : ℕ) (part : WorkerPart) → slice_get parts worker ≡ Some part → Each (λ w. EachAttempt w (IsMetRight r)) part.walks.items)) c.as_slice-4.ensures c.are_parts_right-right.ensures)
