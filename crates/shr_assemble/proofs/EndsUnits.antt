@@ -1,6 +1,6 @@
 -- What the workers did at the pools of units, of a run whose workers are done.
 use Rattle.std.proofs.Common.{◌≡◌, ℕ, ◌<◌, ◌≤◌, ⊎_elim, List, [], ◌∷◌, ◌++◌, map, length, sym, refl, ap, subst, ◌∙◌, arith}
-use Rattle.std.specs.Prelude.{find, filter, flat_map, slice_get, Option, Some, None, option_map, cond, nat_lt}
+use Rattle.std.specs.Prelude.{find, filter, flat_map, slice_get, Option, Some, None, option_map}
 use Rattle.std.specs.List.{AllByRecursion, range_with_len}
 use Rattle.std.proofs.lemmas.Option.{same_Some, none-some, slice_get_past, slice_get_within}
 use Rattle.shr_base.specs.declared.ends.PlaceAmount.{PlaceAmount}
@@ -33,13 +33,13 @@ use Rattle.shr_worker.specs.Chain as chain
 use Rattle.shr_tables.specs.declared.ending.Ends.{Ends}
 use Rattle.shr_report.specs.declared.report.Report.{Report}
 use Rattle.shr_report.specs.Deferred.{amount_in}
-use Rattle.shr_report.specs.Parts.{parents_of, journals_of, commands_in, commands_of, answers_of, serial_of, command_at, answer_at, reply_at, id_found}
+use Rattle.shr_report.specs.Parts.{parents_of, journals_of, commands_in, commands_of, answers_of, serial_of, command_at, answer_at, id_found}
 use Rattle.shr_report.specs.UnitParts.{plain_of}
 use Rattle.shr_units.specs.Did.{IsOther, DidUnitsOf}
 use Rattle.shr_units.specs.Steps.{UnitsStep, steps_in, steps_of, AreChained, last_of, made_in}
 use Rattle.shr_units.specs.Runs.{IsUnitsStep, IsSeenIn, IsRoomOf, AreUnits}
 use Rattle.shr_assemble.specs.declared.logs.WorkerLog.{WorkerLog}
-use Rattle.shr_assemble.specs.Ends.{Firsts, AreEndsOf, with_workers, at_start, new_worker}
+use Rattle.shr_assemble.specs.Ends.{Firsts, AreEndsOf, with_workers, at_start}
 use Rattle.shr_assemble.specs.Makes.{IsMadeOf, answers_in, plain_in}
 use Rattle.shr_assemble.specs.Runs.{AreSteps}
 use Rattle.shr_assemble.specs.Steps.{Step}
@@ -51,13 +51,13 @@ use Rattle.shr_assemble.proofs.EndsDeferred.{found_zero, found_word, shown_some}
 use Rattle.shr_assemble.proofs.EndsPlaces.{below_or}
 use Rattle.shr_assemble.proofs.EndsSteps as ends_steps
 use Rattle.shr_assemble.proofs.EndsSteps.{same_in}
-use Rattle.shr_assemble.proofs.Gathering.{among_right, some_at, among_flat, each_among}
+use Rattle.shr_assemble.proofs.Gathering.{among_right}
 use Rattle.shr_assemble.proofs.Joined.{joined_list}
 use Rattle.shr_assemble.proofs.Lasts.{each_last}
 use Rattle.shr_assemble.proofs.Rows.{DidEach, within_at}
 use Rattle.shr_assemble.proofs.SweepSteps.{last_answer}
 use Rattle.shr_assemble.proofs.UnitsDid.{IsElsewhere, other_reply, did_units}
-use Rattle.shr_assemble.proofs.UnitsRows.{IsDeed, IsUnitsRow, IsUnitsCrew, units_crew}
+use Rattle.shr_assemble.proofs.UnitsRows.{IsDeed, IsUnitsCrew, units_crew}
 use Rattle.shr_assemble.proofs.WordPlaces.{inside_word, place_back, has_range, range_has}
 use Rattle.shr_assemble.specs.Entries.{IsReplyTo}
 

@@ -1,5 +1,5 @@
 -- What an isolation did.
-use Rattle.std.proofs.Common.{◌≡◌, ◌⊎◌, inl, inr, ⊎_elim, ℕ, ◌+◌, ◌<◌, true, false, List, [], ◌∷◌, ◌++◌, length, map, sym, refl, ap, subst, ◌∙◌, arith}
+use Rattle.std.proofs.Common.{◌≡◌, ◌⊎◌, inr, ℕ, ◌+◌, ◌<◌, false, List, [], ◌∷◌, ◌++◌, length, map, sym, refl, ap, subst, ◌∙◌, arith}
 use Rattle.std.specs.Prelude.{slice_get, Option, Some, None, AllPairs, sum_by, option_and_then}
 use Rattle.std.specs.List.{AllByRecursion}
 use Rattle.std.proofs.lemmas.List.{append-nil, append_cancel_left}
@@ -9,22 +9,20 @@ use Rattle.std.proofs.lemmas.List.Sums.{sum_by-cons}
 use Rattle.std.proofs.lemmas.Option.{same_Some, none-some}
 use Rattle.shr_base.specs.declared.journals.Entry.{Entry}
 use Rattle.shr_base.specs.declared.journals.Entry.TheVariants.{Add, Look, Drop, Pin, Scan, MovedIn, Closed, Drained}
-use Rattle.shr_base.specs.declared.journals.UseStep.{UseStep}
 use Rattle.shr_base.specs.declared.objects.Object.{Object}
 use Rattle.shr_base.specs.declared.places.Place.{Place}
 use Rattle.shr_base.specs.declared.places.Serial.{Serial}
 use Rattle.shr_base.specs.declared.replies.Answered.{Answered}
 use Rattle.shr_base.specs.declared.replies.Found.{Found}
 use Rattle.shr_base.specs.declared.replies.IsolateEnd.{IsolateEnd}
-use Rattle.shr_base.specs.declared.replies.IsolateEnd.TheVariants as ending
 use Rattle.shr_base.specs.declared.replies.Reply.{Reply}
 use Rattle.shr_base.specs.declared.replies.Reply.TheVariants as reply
-use Rattle.shr_base.specs.declared.replies.Spent.{Spent}
 use Rattle.shr_base.specs.declared.scripts.Command.{Command}
 use Rattle.shr_base.specs.declared.scripts.Command.TheVariants.{Isolate}
 use Rattle.shr_base.specs.declared.walks.Isolation.{Isolation}
 use Rattle.shr_model.specs.Commands.{decl_named}
 use Rattle.shr_model.specs.Places.{place_number}
+use Rattle.shr_model.specs.Isolations.{first_isolation}
 use Rattle.shr_seats.specs.Views.{Each}
 use Rattle.shr_seats.proofs.Weighing.{Each-none}
 use Rattle.shr_seats.specs.Weights.{Begins}
@@ -52,14 +50,14 @@ use Rattle.shr_drop.proofs.ByLaw.{found_lawful}
 use Rattle.shr_script.specs.Bounds.{IsIsolationWithin}
 use Rattle.shr_script.specs.Content.{content_of}
 use Rattle.shr_script.proofs.BoundsLaws.{within_of_valid}
-use Rattle.shr_report.specs.Parts.{parents_of, first_isolation, IsThere}
+use Rattle.shr_report.specs.Parts.{parents_of, IsThere}
 use Rattle.shr_report.specs.Freshness.{is_past_group}
 use Rattle.shr_report.specs.Isolated.{isolations_told}
-use Rattle.shr_assemble.specs.Steps.{Step, IsAmong, Brings}
+use Rattle.shr_assemble.specs.Steps.{Step, Brings}
 use Rattle.shr_assemble.specs.Charges.{added_below}
 use Rattle.shr_assemble.specs.Did.{Did}
 use Rattle.shr_assemble.specs.Entries.{MayMake}
-use Rattle.shr_assemble.specs.Isolating.{isolated_in, DidIsolation, DidIsolations}
+use Rattle.shr_assemble.specs.Isolating.{DidIsolation, DidIsolations}
 use Rattle.shr_assemble.proofs.Bringing.{brings_of, brings_then}
 use Rattle.shr_assemble.proofs.Filling.{IsSet}
 use Rattle.shr_assemble.proofs.Gathering.{some_at}

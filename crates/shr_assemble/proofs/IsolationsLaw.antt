@@ -1,10 +1,10 @@
 -- The law of isolations, of a run.
-use Rattle.std.proofs.Common.{◌≡◌, ℕ, zero, suc, ◌+◌, ◌-◌, ◌<◌, ◌≤◌, ◌≢◌, ◌⊎◌, inl, inr, ⊎_elim, Bool, true, false, ◌&&◌, cond, List, [], ◌∷◌, length, drop, map, sym, refl, ap, subst, ◌∙◌, arith, eqb, eq-eqb}
-use Rattle.std.specs.Prelude.{slice_get, Option, Some, None, filter, filter_map, flat_map, option_and_then, ◌==◌}
+use Rattle.std.proofs.Common.{◌≡◌, ℕ, zero, suc, ◌+◌, ◌-◌, ◌<◌, ◌≤◌, ◌≢◌, ◌⊎◌, ⊎_elim, Bool, true, false, ◌&&◌, cond, List, [], ◌∷◌, length, drop, map, sym, refl, ap, subst, ◌∙◌, arith, eqb, eq-eqb}
+use Rattle.std.specs.Prelude.{slice_get, Option, Some, None, filter, filter_map, option_and_then, ◌==◌}
 use Rattle.std.specs.List.{AllByRecursion, cons_option}
 use Rattle.std.specs.Option.{IsSomeAnd}
 use Rattle.std.proofs.lemmas.Bool.{and_parts, and_from, eqb-true}
-use Rattle.std.proofs.lemmas.Option.{same_Some, none-some, slice_get_within}
+use Rattle.std.proofs.lemmas.Option.{same_Some, none-some}
 use Rattle.shr_base.specs.declared.journals.Entry.{Entry}
 use Rattle.shr_base.specs.declared.journals.Entry.TheVariants.{Add, Look, Drop, Pin, Scan, MovedIn, Closed, Drained}
 use Rattle.shr_base.specs.declared.places.Place.{Place}
@@ -21,12 +21,12 @@ use Rattle.shr_model.specs.Commands.{is_serial, decl_named}
 use Rattle.shr_model.specs.Items.{is_closed}
 use Rattle.shr_model.specs.Places.{place_number}
 use Rattle.shr_model.proofs.Members.{Has, each_has}
+use Rattle.shr_model.specs.Isolations.{isolation_walk, ScanSeen, IsLawfulIsolation}
 use Rattle.shr_core.specs.Layout.{place_at}
 use Rattle.shr_core.specs.Parts.{Made}
-use Rattle.shr_core.proofs.Listing.{back}
 use Rattle.shr_report.specs.declared.report.Report.{Report}
-use Rattle.shr_report.specs.Parts.{command_at, serial_of, journals_of, first_isolation, isolation_at, isolations_of, IsThere}
-use Rattle.shr_report.specs.Isolated.{ScanSeen, scan_seen, scans_seen, isolation_walk, isolations_by, isolations_told, cache_named, IsLawfulIsolation, IsEndCaused, IsOfIsolation, AreIsolationsLawful}
+use Rattle.shr_report.specs.Parts.{command_at, serial_of, journals_of, isolation_at}
+use Rattle.shr_report.specs.Isolated.{scan_seen, scans_seen, isolations_by, isolations_told, cache_named, IsEndCaused, IsOfIsolation, AreIsolationsLawful}
 use Rattle.shr_drop.specs.Isolating.{visitor_of}
 use Rattle.shr_drop.specs.Lawful.{Placed, placed, placed_scan}
 use Rattle.shr_drop.specs.Visiting.{Visitor}
@@ -35,7 +35,7 @@ use Rattle.shr_assemble.specs.Entries.{isolations_asked, IsScanned, IsVisited, M
 use Rattle.shr_assemble.specs.Isolating.{isolated_in, isolated_before}
 use Rattle.shr_assemble.specs.Runs.{IsRun}
 use Rattle.shr_assemble.specs.Worn.{IsWornBy}
-use Rattle.shr_assemble.proofs.Gathering.{each_among, flat_there, same_step, some_at}
+use Rattle.shr_assemble.proofs.Gathering.{each_among, some_at}
 use Rattle.shr_assemble.proofs.IsolationSteps.{first_told, told_once, told_by, scan_of, isolation_of, IsolationOf, isolation_there, visit_number, visit_there}
 use Rattle.shr_assemble.proofs.Listed.{by_slices, closed_begins, contains_among, no_test}
 use Rattle.shr_assemble.proofs.Making.{maker, made_stands, back_there, Stepped, stepped}

@@ -18,11 +18,12 @@ use Rattle.shr_model.specs.Places.{place_number}
 use Rattle.shr_model.specs.Pass.{due, ask_size, batch_of, total_of}
 use Rattle.shr_model.specs.Scans.{ScanMade, scan_by, scans_by}
 use Rattle.shr_model.proofs.Members.{Has, each_has}
+use Rattle.shr_model.specs.Isolations.{first_isolation}
 use Rattle.shr_seats.specs.Weights.{total}
 use Rattle.shr_core.specs.Parts.{Made}
 use Rattle.shr_core.proofs.Listing.{back}
 use Rattle.shr_report.specs.declared.report.Report.{Report}
-use Rattle.shr_report.specs.Parts.{journals_of, first_isolation, IsThere}
+use Rattle.shr_report.specs.Parts.{journals_of, IsThere}
 use Rattle.shr_report.specs.LawfulWalk.{AreScansOf}
 use Rattle.shr_assemble.specs.Steps.{Step, IsAmong, gathered, steps_of}
 use Rattle.shr_assemble.specs.Entries.{MayMake, IsScanned}

@@ -1,6 +1,6 @@
 -- What a helper of a sweep did.
-use Rattle.std.proofs.Common.{◌≡◌, ℕ, ◌<◌, Bool, List, [], ◌∷◌, ◌++◌, length, map, sym, refl, ap, subst, ◌∙◌, arith, append_assoc, sum}
-use Rattle.std.specs.Prelude.{Option, Some, None}
+use Rattle.std.proofs.Common.{◌≡◌, ℕ, ◌<◌, Bool, List, [], ◌∷◌, ◌++◌, length, map, sym, refl, ap, subst, ◌∙◌, sum}
+use Rattle.std.specs.Prelude.{Some, None}
 use Rattle.std.specs.List.{AllByRecursion}
 use Rattle.std.proofs.lemmas.List.{append-nil, map-append, length-map}
 use Rattle.std.proofs.lemmas.Option.{none-some}
@@ -18,7 +18,7 @@ use Rattle.shr_pool.specs.declared.items.SweepJob.{SweepJob}
 use Rattle.shr_pool.specs.declared.view.PassView.{PassView}
 use Rattle.shr_reclaim.specs.Rounds.{Visit, job_in, HadRoom, AreVisited}
 use Rattle.shr_report.specs.Parts.{parents_of}
-use Rattle.shr_report.specs.Swept.{IsSweepReply, IsSweepWalk, IsSwept}
+use Rattle.shr_report.specs.Swept.{IsSweepWalk, IsSwept}
 use Rattle.shr_sweep.specs.declared.answers.SweepAnswer.{SweepAnswer}
 use Rattle.shr_sweep.specs.declared.answers.SweepAnswer.TheVariants as sweep
 use Rattle.shr_sweep.specs.Helping.{HelpGives, HasSwept, HasStopped, walk_of, freed_in}

@@ -1,6 +1,6 @@
 -- The sweep of a run is lawful.
-use Rattle.std.proofs.Common.{◌≡◌, ℕ, zero, suc, ◌+◌, ◌<◌, ◌≤◌, Bool, true, cond, List, [], ◌∷◌, ◌++◌, length, map, sym, refl, ap, subst, ◌∙◌, arith}
-use Rattle.std.specs.Prelude.{slice_get, Option, Some, None, flat_map, count_by, ◌&&◌, ◌==◌}
+use Rattle.std.proofs.Common.{◌≡◌, ℕ, zero, suc, ◌+◌, ◌<◌, ◌≤◌, Bool, cond, List, [], ◌∷◌, ◌++◌, length, map, sym, refl, ap, subst, ◌∙◌, arith}
+use Rattle.std.specs.Prelude.{slice_get, Option, Some, flat_map, count_by, ◌&&◌, ◌==◌}
 use Rattle.std.specs.List.{range_with_len}
 use Rattle.std.specs.Option.{IsSomeAnd}
 use Rattle.std.proofs.lemmas.List.Sums.{sum_by-cons, sum_by-append}
@@ -13,16 +13,15 @@ use Rattle.shr_base.specs.declared.scripts.WorkerScript.{WorkerScript}
 use Rattle.shr_base.specs.declared.walks.WalkRecord.{WalkRecord}
 use Rattle.shr_pool.specs.declared.items.SweepItem.{SweepItem}
 use Rattle.shr_pool.specs.declared.items.SweepItem.TheVariants.{Walk, End}
-use Rattle.shr_pool.specs.declared.items.SweepJob.{SweepJob}
 use Rattle.shr_pool.specs.Lines.{job, is_end, ends, of_job}
 use Rattle.shr_pool.specs.Worked.{only_job}
 use Rattle.shr_report.specs.declared.report.Report.{Report}
-use Rattle.shr_report.specs.Parts.{parents_of, commands_of, sweeps_in, sweeps_of, answer_at, reply_at}
+use Rattle.shr_report.specs.Parts.{parents_of, commands_of, sweeps_in, sweeps_of, reply_at}
 use Rattle.shr_report.specs.Swept.{sweep_serial, sweep_walks, times_swept, IsSweptOut, IsSwept, IsSweepRight, IsSweepLawful}
 use Rattle.shr_seats.specs.Weights.{total}
 use Rattle.shr_seats.proofs.Weighing.{total-append}
 use Rattle.shr_assemble.specs.Runs.{IsRun}
-use Rattle.shr_assemble.specs.Steps.{Step, steps_of}
+use Rattle.shr_assemble.specs.Steps.{Step}
 use Rattle.shr_assemble.specs.Sweeps.{IsOfPops, job_walked, all_popped}
 use Rattle.shr_assemble.proofs.Crews.{there_at}
 use Rattle.shr_assemble.proofs.Making.{reply_is}

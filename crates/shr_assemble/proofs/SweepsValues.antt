@@ -1,5 +1,5 @@
 -- Values that meet the definitions of a sweep's walks, and values that don't.
-use Rattle.std.specs.Prelude.{◌≡◌, ℕ, false, List, [], ◌∷◌, refl}
+use Rattle.std.specs.Prelude.{◌≡◌, ℕ, false, [], ◌∷◌, refl}
 use Rattle.std.proofs.Common.{ap, arith}
 use Rattle.shr_base.specs.declared.replies.Reply.TheVariants as reply
 use Rattle.shr_base.specs.declared.walks.WalkAnswer.TheVariants.{Walked}

@@ -20,7 +20,7 @@ use Rattle.shr_worker.specs.Chain.{CrewState, commands_of, serial_of}
 use Rattle.shr_core.specs.declared.view.View.{View}
 use Rattle.shr_assemble.specs.declared.logs.WorkerLog.{WorkerLog}
 use Rattle.shr_assemble.specs.Did.{Did}
-use Rattle.shr_assemble.specs.Ends.{HasHelped, HelpsWith, HasWorked, new_worker}
+use Rattle.shr_assemble.specs.Ends.{HelpsWith, HasWorked, new_worker}
 use Rattle.shr_assemble.specs.Isolating.{isolated_in, isolated_before, DidIsolations}
 use Rattle.shr_assemble.specs.Steps.{Step, AreChained, state_after, Brings}
 use Rattle.shr_assemble.specs.Sweeps.{IsOfPops}

@@ -11,16 +11,14 @@ use Rattle.shr_base.specs.declared.scripts.Command.TheVariants.{Put, Get, Del, S
 use Rattle.shr_base.specs.declared.scripts.PoolDecl.{PoolDecl}
 use Rattle.shr_base.specs.declared.scripts.Script.{Script}
 use Rattle.shr_model.specs.Families.{Family}
-use Rattle.shr_script.specs.Bounds.{IsCommandWithin, IsPoolCommandWithin, IfServed}
+use Rattle.shr_script.specs.Bounds.{IsCommandWithin, IsPoolCommandWithin}
 use Rattle.shr_script.specs.Content.{content_of}
 use Rattle.shr_script.specs.Lines.{serves_pools}
 use Rattle.shr_plain.specs.declared.answers.GrabAnswer.{GrabAnswer}
 use Rattle.shr_plain.specs.declared.answers.GrabAnswer.TheVariants as grab
 use Rattle.shr_plain.specs.declared.answers.ReleaseAnswer.{ReleaseAnswer}
 use Rattle.shr_plain.specs.declared.answers.ReleaseAnswer.TheVariants as release
-use Rattle.shr_plain.specs.Opening.{settings_of, pool_sizes}
 use Rattle.shr_plain.specs.Seat.{PlainState}
-use Rattle.shr_plain.specs.Settings.{IsPoolOf}
 use Rattle.shr_worker.proofs.Pooled.{served}
 use Rattle.shr_worker.specs.Plain.{units_place, has_pools, is_walked, is_due, WalksIf, PlainGives}
 use Rattle.shr_worker.specs.Replies as worker

@@ -59,7 +59,6 @@ use Rattle.shr_worker.specs.Replies.{unfound, unregister_reply, objects_of}
 use Rattle.shr_worker.specs.Uncharging.{UnchargesEach}
 use Rattle.shr_worker.proofs.Drained.{drained_from}
 use Rattle.shr_report.specs.Parts.{parents_of, cited_by}
-use Rattle.shr_report.specs.ReplyTable.{IsReply}
 use Rattle.shr_assemble.specs.Steps.{Step, IsAmong}
 use Rattle.shr_assemble.specs.Entries.{IsReplyTo, MayMake, Drains, DidEntries}
 use Rattle.shr_assemble.specs.Causes.{IsCausedBy, IsWhyBy}

@@ -1,5 +1,5 @@
 -- What a list or the charges of a worker were told to be is so of the step in which it was told.
-use Rattle.std.proofs.Common.{◌≡◌, ◌^◌, ℕ, inl, inr, ⊎_elim, sym, subst, arith}
+use Rattle.std.proofs.Common.{◌≡◌, ◌^◌, inl, inr, ⊎_elim, sym, subst, arith}
 use Rattle.shr_base.specs.declared.places.Place.{Place}
 use Rattle.shr_base.specs.declared.replies.Spent.{Spent}
 use Rattle.shr_base.specs.declared.replies.Spent.TheVariants as spent

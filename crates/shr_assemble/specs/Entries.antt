@@ -20,6 +20,7 @@ use Rattle.shr_model.specs.Groups.{IsAtOrAbove}
 use Rattle.shr_model.specs.Families.{Family, items_at}
 use Rattle.shr_model.specs.Places.{place_number, at_group}
 use Rattle.shr_model.specs.Walks.{passes_at}
+use Rattle.shr_model.specs.Isolations.{first_isolation}
 use Rattle.shr_seats.specs.Lines.{by_seat}
 use Rattle.shr_seats.specs.Views.{Each}
 use Rattle.shr_seats.specs.Weights.{times}
@@ -27,7 +28,7 @@ use Rattle.shr_core.specs.Gained.{among, cleared_in}
 use Rattle.shr_core.specs.Parts.{Made, Known, Event, raised}
 use Rattle.shr_core.specs.Layout.{id_of, group_of, place_at, beside}
 use Rattle.shr_node.specs.Gains.{KnowsClosed}
-use Rattle.shr_report.specs.Parts.{parents_of, first_isolation, cited_by, id_found, at}
+use Rattle.shr_report.specs.Parts.{parents_of, cited_by, id_found, at}
 use Rattle.shr_report.specs.Isolated.{isolations_told}
 use Rattle.shr_report.specs.ReplyTable.{IsReply}
 use Rattle.shr_report.specs.Causes.{MayHaveBegun}

@@ -23,13 +23,14 @@ use Rattle.shr_model.specs.Commands.{jobs_of}
 use Rattle.shr_model.specs.Groups.{IsAtOrAbove}
 use Rattle.shr_model.specs.Places.{place_number}
 use Rattle.shr_model.specs.Walks.{job_of, place_in, units_seen, ids_seen, ids_tried, freed_of, is_cut, freed_told, clearings_of}
+use Rattle.shr_model.specs.Isolations.{first_isolation}
 use Rattle.shr_seats.specs.Views.{Each}
 use Rattle.shr_seats.specs.Weights.{Begins}
 use Rattle.shr_charge.specs.declared.answers.GroupState.TheVariants as state
 use Rattle.shr_core.specs.Layout.{map_number}
 use Rattle.shr_core.specs.Parts.{Counted, Mapped}
 use Rattle.shr_walk.specs.Fresh.{AreFresh}
-use Rattle.shr_report.specs.Parts.{parents_of, limit_of, first_isolation, EachAttempt}
+use Rattle.shr_report.specs.Parts.{parents_of, limit_of, EachAttempt}
 use Rattle.shr_report.specs.LawfulWalk.{IsBegun, IsLastOfCut, IsPlaced}
 use Rattle.shr_report.specs.Swept.{IsSwept}
 use Rattle.shr_report.specs.Tries.{refusals_of, was_charged, outcomes_in}

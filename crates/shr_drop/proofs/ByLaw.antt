@@ -15,6 +15,7 @@ use Rattle.shr_base.specs.declared.replies.Spent.TheVariants as spent
 use Rattle.shr_model.specs.Places.{place_number}
 use Rattle.shr_model.specs.Scan.{scan_of}
 use Rattle.shr_model.proofs.ScanLaws.{length_scan}
+use Rattle.shr_model.specs.Isolations.{ScanSeen, met_of, met_one, met_stop, met_none, IsLawfulIsolation}
 use Rattle.shr_core.specs.Parts.{Made}
 use Rattle.shr_core.specs.declared.view.View.{View}
 use Rattle.shr_core.specs.Seats.{shape_of}
@@ -33,7 +34,6 @@ use Rattle.shr_base.specs.declared.walks.Isolation.{Isolation}
 use Rattle.shr_base.specs.declared.replies.IsolateEnd.{IsolateEnd}
 use Rattle.shr_base.specs.declared.replies.IsolateEnd.TheVariants as ending
 use Rattle.shr_drop.specs.Isolating.{Isolates, RefusedBy, place_of, visitor_of}
-use Rattle.shr_report.specs.Isolated.{ScanSeen, IsLawfulIsolation, met_of, met_one, met_stop, met_none}
 use Rattle.shr_drop.specs.Lawful.{AreScanned, IsolatesByLaw, IsAnsweredByLaw, Placed, placed, placed_scan}
 use Rattle.shr_drop.proofs.Turning.{sum_push}
 use Rattle.shr_drop.specs.Visiting.{Visitor, ScansOnce, AreVisits, AreIsolated, MeetsWorn}

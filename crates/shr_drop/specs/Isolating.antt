@@ -14,7 +14,7 @@ use Rattle.shr_opening.specs.Opening.{LoadsWord, Holds, RefusedAs}
 use Rattle.shr_base.specs.declared.replies.Answered.{Answered}
 use Rattle.shr_base.specs.declared.walks.Isolation.{Isolation}
 use Rattle.shr_base.specs.declared.replies.IsolateEnd.{IsolateEnd}
-use Rattle.shr_report.specs.Isolated.{isolation_walk}
+use Rattle.shr_model.specs.Isolations.{isolation_walk}
 use Rattle.shr_drop.specs.Visiting.{Visitor, AreIsolated}
 
 -- the list of a group on a node, of the cache that was found

@@ -9,6 +9,7 @@ use Rattle.shr_base.specs.declared.replies.Reply.TheVariants as reply
 use Rattle.shr_base.specs.declared.replies.Spent.{Spent}
 use Rattle.shr_base.specs.declared.scripts.CacheDecl.{CacheDecl}
 use Rattle.shr_model.specs.Places.{place_number}
+use Rattle.shr_model.specs.Isolations.{ScanSeen, IsLawfulIsolation}
 use Rattle.shr_core.specs.Parts.{Made}
 use Rattle.shr_core.specs.Seats.{shape_of}
 use Rattle.shr_node.specs.Gains.{KnowsClosed}
@@ -19,7 +20,6 @@ use Rattle.shr_base.specs.declared.replies.Answered.{Answered}
 use Rattle.shr_base.specs.declared.walks.Isolation.{Isolation}
 use Rattle.shr_base.specs.declared.replies.IsolateEnd.{IsolateEnd}
 use Rattle.shr_base.specs.declared.replies.IsolateEnd.TheVariants as ending
-use Rattle.shr_report.specs.Isolated.{ScanSeen, IsLawfulIsolation}
 use Rattle.shr_drop.specs.Isolating.{place_of, visitor_of}
 use Rattle.shr_drop.specs.Visiting.{Visitor}
 

@@ -24,3 +24,4 @@ pub mod Moves
 pub mod Prefixes
 pub mod Follow
 pub mod Units
+pub mod Isolations

@@ -22,7 +22,7 @@ use Rattle.shr_base.specs.declared.replies.Found.{Found}
 use Rattle.shr_base.specs.declared.walks.Carry.{Carry}
 use Rattle.shr_model.specs.Commands.{decl_named}
 use Rattle.shr_model.specs.Pool.{is_live, last_number, IsNextPool, IsPoolJournal}
-use Rattle.shr_report.specs.Parts.{lookups_at, carries_of, EachAttempt}
+use Rattle.shr_report.specs.Parts.{lookups_at, carries_of}
 use Rattle.shr_report.specs.Lookups.{found_numbers, tried_numbers, IsFoundRight, AreLookupsLawful}
 use Rattle.shr_report.specs.Deferred.{IsDeferredLawful}
 use Rattle.shr_report.specs.BitsLawful.{AreBitsLawful}
@@ -46,7 +46,7 @@ use Rattle.shr_report.specs.Isolated.{IsOfIsolation, isolations_told, AreIsolati
 use Rattle.shr_report.proofs.QuietIsolations.{quiet_isolations}
 use Rattle.shr_report.specs.WellFormed.{AreNotFalling}
 use Rattle.shr_report.specs.WalksLawful.{IsOfPass}
-use Rattle.shr_report.specs.Parts.{uses_at, limit_of, walks_of, cited_by, parents_of, serial_of, cited_at, journals_of, items_left, at, EachEntry}
+use Rattle.shr_report.specs.Parts.{uses_at, limit_of, walks_of, parents_of, serial_of, cited_at, journals_of, items_left, at, EachEntry}
 use Rattle.shr_report.specs.Replies.{AreRepliesLawful}
 use Rattle.shr_report.specs.Journals.{AreJournalsLawful}
 use Rattle.shr_report.specs.WalksLawful.{AreWalksLawful}
@@ -55,7 +55,7 @@ use Rattle.shr_base.specs.declared.places.Serial.{Serial}
 use Rattle.shr_base.specs.declared.scripts.Command.{Command}
 use Rattle.shr_base.specs.declared.places.At.{At}
 use Rattle.shr_base.specs.declared.walks.PlainWalk.{PlainWalk}
-use Rattle.shr_report.specs.Parts.{IsThere, EachAnswer, EachWalk, walk_at}
+use Rattle.shr_report.specs.Parts.{IsThere, EachAnswer, walk_at}
 use Rattle.shr_report.specs.BitsLawful.{is_set_at}
 use Rattle.shr_report.specs.Pools.{ArePoolsLawful}
 use Rattle.shr_report.specs.UnitParts.{plain_of, plain_at, units_cited_at}

@@ -16,11 +16,12 @@ use Rattle.shr_base.specs.declared.scripts.Command.{Command}
 use Rattle.shr_base.specs.declared.scripts.Command.TheVariants.{Put, Isolate}
 use Rattle.shr_base.specs.declared.scripts.Script.{Script}
 use Rattle.shr_base.specs.declared.walks.Isolation.{Isolation}
+use Rattle.shr_model.specs.Isolations.{ScanSeen, Met, met_one, met_none, IsLawfulIsolation}
 use Rattle.shr_report.specs.declared.report.Report.{Report}
 use Rattle.shr_report.specs.Parts.{commands_of, answers_of, entry_by, EachEntry}
 use Rattle.shr_report.specs.ReplyTable.{IsReply}
 use Rattle.shr_report.specs.WalksLawful.{IsOfPass}
-use Rattle.shr_report.specs.Isolated.{EachIsolation, ScanSeen, Met, met_one, met_none, IsLawfulIsolation, IsOfIsolation, isolations_by, isolations_told, AreIsolationsLawful}
+use Rattle.shr_report.specs.Isolated.{EachIsolation, IsOfIsolation, isolations_by, isolations_told, AreIsolationsLawful}
 use Rattle.shr_report.proofs.SecondReport.{kept, by, place, put, held}
 use Rattle.shr_report.proofs.SecondCases.{AllAt, each_at, AllTwo, each_two, only_journal}
 use Rattle.shr_report.proofs.FirstReport as first

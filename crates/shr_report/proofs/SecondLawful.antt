@@ -56,7 +56,7 @@ use Rattle.shr_report.specs.Isolated.{IsOfIsolation, isolations_told, AreIsolati
 use Rattle.shr_report.proofs.QuietIsolations.{quiet_isolations}
 use Rattle.shr_report.specs.WellFormed.{AreNotFalling}
 use Rattle.shr_report.specs.WalksLawful.{IsOfPass, FillsPlace, was_cleared}
-use Rattle.shr_report.specs.Parts.{uses_at, limit_of, walks_of, cited_by, parents_of, serial_of, cited_at, journals_of, items_left, at, EachEntry}
+use Rattle.shr_report.specs.Parts.{uses_at, limit_of, walks_of, cited_by, parents_of, serial_of, cited_at, journals_of, items_left, at}
 use Rattle.shr_report.specs.Replies.{AreRepliesLawful}
 use Rattle.shr_report.specs.Journals.{AreJournalsLawful}
 use Rattle.shr_report.specs.LawfulWalk.{IsLawfulWalk}

@@ -157,10 +157,6 @@ walk_at r worker n = slice_get (walks_of r worker) n
 abbrev pub isolation_at : Report → ℕ → ℕ → Option Isolation
 isolation_at r worker k = slice_get (isolations_of r worker) k
 
--- what stands as walk in the Scan entries of a worker's first isolation: walks have lower numbers
-abbrev pub first_isolation : ℕ
-first_isolation = 2 ^ 63
-
 -- P of each command with its answer
 abbrev pub EachAnswer : Script → Report → (Serial → Command → Answered → Type 0) → Type 0
 EachAnswer s r P = (by : Serial) (c : Command) (a : Answered) → command_at s by ≡ Some c → answer_at r by ≡ Some a → P by c a

@@ -1,11 +1,11 @@
 -- Lists of the state that a worker's steps make longer.
-use Rattle.std.proofs.Common.{◌≡◌, ℕ, zero, suc, ◌+◌, ◌<◌, ◌≤◌, ◌≢◌, ◌⊎◌, inl, inr, ⊎_elim, List, [], ◌∷◌, ◌++◌, length, drop, flat_map, sym, refl, ap, subst, ◌∙◌, arith, length-append, append_assoc}
-use Rattle.std.specs.Prelude.{slice_get, Option, Some, None}
-use Rattle.std.proofs.lemmas.Option.{same_Some, none-some, slice_get_within}
+use Rattle.std.proofs.Common.{◌≡◌, ℕ, zero, suc, ◌+◌, ◌<◌, ◌≤◌, ◌≢◌, ◌⊎◌, inl, inr, ⊎_elim, List, [], ◌∷◌, ◌++◌, length, drop, flat_map, sym, refl, ap, subst, ◌∙◌, arith, append_assoc}
+use Rattle.std.specs.Prelude.{slice_get, Some}
+use Rattle.std.proofs.lemmas.Option.{same_Some, none-some}
 use Rattle.std.proofs.Math.Seq.{drop-append_seam}
 use Rattle.std.proofs.lemmas.List.{append-nil}
-use Rattle.shr_seats.specs.Weights.{total, Begins}
-use Rattle.shr_seats.proofs.Weighing.{total-append, begins_all, begins_more}
+use Rattle.shr_seats.specs.Weights.{Begins}
+use Rattle.shr_seats.proofs.Weighing.{begins_all, begins_more}
 use Rattle.shr_plain.specs.Seat.{PlainState}
 use Rattle.shr_units.specs.Steps.{UnitsStep, AreChained, state_after}
 

@@ -1,14 +1,12 @@
 -- Who made an entry of a pool's journal, who made a walk of the pools, and what steps knew.
-use Rattle.std.proofs.Common.{◌≡◌, ℕ, zero, suc, ◌+◌, ◌<◌, ◌≤◌, ◌≢◌, ◌⊎◌, inl, inr, ⊎_elim, Bool, true, false, cond, List, [], ◌∷◌, ◌++◌, length, get_or, flat_map, take, sym, refl, ap, subst, ◌∙◌, arith, length-append, append_assoc, eqb, eq-eqb, ne_eqb}
-use Rattle.std.specs.Prelude.{slice_get, Option, Some, None, nat_lt}
-use Rattle.std.proofs.Math.Seq.{take-append_seam}
+use Rattle.std.proofs.Common.{◌≡◌, ℕ, ◌+◌, ◌<◌, ◌≤◌, ◌≢◌, ◌⊎◌, ⊎_elim, cond, List, [], ◌∷◌, ◌++◌, length, get_or, sym, ap, subst, ◌∙◌, arith, append_assoc, eqb, ne_eqb}
+use Rattle.std.specs.Prelude.{slice_get, Some, nat_lt}
 use Rattle.std.proofs.lemmas.Bool.{lt-ltb}
 use Rattle.std.proofs.lemmas.Option.{same_Some, none-some, slice_get_within, slice_get-get_or}
 use mathlib.Core.Logic.{dite}
 use native.Mathlib.Decide.{ℕ_discrete}
 use Rattle.shr_base.specs.declared.journals.PlainEntry.{PlainEntry}
 use Rattle.shr_base.specs.declared.places.Serial.{Serial}
-use Rattle.shr_base.specs.declared.replies.Answered.{Answered}
 use Rattle.shr_base.specs.declared.replies.Reply.{Reply}
 use Rattle.shr_base.specs.declared.scripts.Command.{Command}
 use Rattle.shr_base.specs.declared.scripts.Script.{Script}
@@ -16,22 +14,21 @@ use Rattle.shr_base.specs.declared.walks.PlainWalk.{PlainWalk}
 use Rattle.shr_seats.specs.Rows.{row_count}
 use Rattle.shr_seats.specs.Weights.{total, Begins}
 use Rattle.shr_seats.proofs.Weighing.{some_term}
-use Rattle.shr_rooms.specs.Rule.{IsMade, IsCounted, times}
-use Rattle.shr_rooms.specs.Views.{Made, Counted, RoomView, part_at}
+use Rattle.shr_rooms.specs.Rule.{IsMade, IsCounted}
+use Rattle.shr_rooms.specs.Views.{Made, Counted, part_at}
 use Rattle.shr_plain.specs.Rule.{units}
 use Rattle.shr_plain.specs.Seat.{PlainState, no_state}
 use Rattle.shr_report.specs.declared.report.Report.{Report}
-use Rattle.shr_report.specs.Parts.{serial_of, commands_of, command_at, answer_at, reply_at}
-use Rattle.shr_report.specs.UnitParts.{plain_of, plain_at}
+use Rattle.shr_report.specs.Parts.{serial_of, commands_of, command_at, reply_at}
+use Rattle.shr_report.specs.UnitParts.{plain_at}
 use Rattle.shr_plain.specs.Opening.{pool_sizes}
-use Rattle.shr_units.specs.Did.{DidUnits}
 use Rattle.shr_units.specs.Steps.{UnitsStep, steps_in, steps_of, last_of, made_in}
 use Rattle.shr_units.specs.Runs.{AreUnits}
 use Rattle.shr_units.proofs.StepKinds.{Kind, released, grabbed, walked, idle, kind_of}
-use Rattle.shr_units.proofs.Lists.{IsIn, in_none, each_in, flat_in, begins_in, count_total, at_some, slice_begins, slice_seam}
+use Rattle.shr_units.proofs.Lists.{IsIn, each_in, flat_in, begins_in, count_total, at_some, slice_seam}
 use Rattle.shr_units.proofs.Rooms.{Gains, MayMake, same_gains, release_gains, grab_gains}
 use Rattle.shr_units.proofs.Walking.{walk_gains}
-use Rattle.shr_units.proofs.Along.{gained, gained_is, gained_all, Longer, after_begins, later_begins, Source, source, all_gained}
+use Rattle.shr_units.proofs.Along.{gained, gained_is, Longer, after_begins, Source, source}
 
 -- what a command gained in a room, by its kind
 pub kind_gains : (s : Script) (i : ℕ) (by : Serial) (c : Command) (x : Reply) (t u : PlainState) → Kind s by c x t u → Gains s i by x t u

@@ -1,6 +1,6 @@
 -- Places of pools, and their rooms.
 use Rattle.std.proofs.Common.{◌≡◌, ℕ, zero, suc, ◌+◌, ◌*◌, ◌/◌, ◌%◌, ◌<◌, ◌≤◌, ◌⊎◌, inl, inr, ⊎_elim, Bool, true, false, cond, List, [], ◌∷◌, length, map, sym, refl, ap, subst, ◌∙◌, arith, ne_eqb}
-use Rattle.std.specs.Prelude.{slice_get, Some, None, ◌==◌}
+use Rattle.std.specs.Prelude.{slice_get, ◌==◌}
 use Rattle.std.proofs.lemmas.Bool.{cases_lt}
 use Rattle.std.proofs.lemmas.Nat.{div-mul-add, mod-mul-add}
 use Rattle.shr_base.specs.declared.places.Place.{Place}
@@ -8,12 +8,11 @@ use Rattle.shr_base.specs.declared.scripts.PoolDecl.{PoolDecl}
 use Rattle.shr_base.specs.declared.scripts.Script.{Script}
 use Rattle.shr_seats.specs.declared.rows.Sizes.{Sizes}
 use Rattle.shr_seats.specs.Rows.{IsPlaceOf, row_of, row_count, place_in}
-use Rattle.shr_seats.proofs.RowLaws.{IsAcross, one_place, row_low, place_inside}
-use Rattle.shr_plain.specs.declared.settings.Setting.{Setting}
+use Rattle.shr_seats.proofs.RowLaws.{place_inside}
 use Rattle.shr_plain.specs.Opening.{setting_by, settings_of, pool_sizes}
 use Rattle.shr_plain.specs.Settings.{IsPoolOf, setting_of, place_of}
 use Rattle.shr_report.specs.UnitParts.{home_in, pool_place}
-use Rattle.shr_units.specs.Did.{home_of, home_room}
+use Rattle.shr_units.specs.Did.{home_of}
 
 -- the home of a pool on a node, by its declaration and by its setting
 home_same : (ds : List PoolDecl) (pool node : ℕ) → (place_of (map setting_by ds) pool node).node ≡ home_in (slice_get ds pool) node

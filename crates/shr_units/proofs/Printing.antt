@@ -1,5 +1,5 @@
 -- The journals of pools that are printed, by their rooms.
-use Rattle.std.proofs.Common.{◌≡◌, ℕ, zero, suc, ◌+◌, ◌<◌, ◌≤◌, ◌≢◌, ◌⊎◌, inl, inr, ⊎_elim, Bool, true, false, cond, List, [], ◌∷◌, ◌++◌, length, map, sym, refl, ap, subst, ◌∙◌, arith}
+use Rattle.std.proofs.Common.{◌≡◌, ℕ, zero, suc, ◌+◌, ◌<◌, ◌≤◌, ◌≢◌, ◌⊎◌, ⊎_elim, Bool, true, false, cond, List, [], ◌∷◌, ◌++◌, length, map, sym, refl, ap, subst, ◌∙◌, arith}
 use Rattle.std.specs.Prelude.{slice_get, Option, Some, None, find}
 use Rattle.std.specs.List.{AllByRecursion}
 use Rattle.std.proofs.lemmas.List.{append-nil, map-append}
@@ -9,7 +9,6 @@ use native.Mathlib.Decide.{ℕ_discrete}
 use Rattle.shr_base.specs.declared.ends.UnitsEnd.{UnitsEnd}
 use Rattle.shr_base.specs.declared.journals.PlainEntry.{PlainEntry}
 use Rattle.shr_base.specs.declared.places.Place.{Place}
-use Rattle.shr_base.specs.declared.scripts.Script.{Script}
 use Rattle.shr_model.specs.Places.{is_place}
 use Rattle.shr_model.specs.Units.{free_of}
 use Rattle.shr_model.proofs.PlacesLaws.{is_place_same, is_place_itself}

@@ -1,7 +1,7 @@
 -- The Reclaim entries of a walk of the pools in a journal are those that the walk made there.
-use Rattle.std.proofs.Common.{◌≡◌, ℕ, zero, suc, ◌+◌, ◌*◌, ◌<◌, ◌≤◌, ◌≢◌, ◌⊎◌, inl, inr, ⊎_elim, Bool, true, false, ◌&&◌, cond, List, [], ◌∷◌, ◌++◌, length, map, take, flat_map, sym, refl, ap, subst, ◌∙◌, arith, eq-eqb, ne_eqb, le-leb}
-use Rattle.std.specs.Prelude.{slice_get, Option, Some, None, filter_map, replicate, sum_by, sum, ◌==◌, nat_lt, nat_le, count_by}
-use Rattle.std.specs.List.{AllByRecursion, enumerate_from, cons_option}
+use Rattle.std.proofs.Common.{◌≡◌, ℕ, zero, suc, ◌+◌, ◌*◌, ◌<◌, ◌≤◌, ◌≢◌, ◌⊎◌, inl, inr, ⊎_elim, Bool, true, false, ◌&&◌, cond, List, [], ◌∷◌, ◌++◌, length, sym, refl, ap, ◌∙◌, arith, eq-eqb, ne_eqb, le-leb}
+use Rattle.std.specs.Prelude.{slice_get, Option, Some, None, filter_map, sum, ◌==◌, nat_lt, nat_le}
+use Rattle.std.specs.List.{enumerate_from, cons_option}
 use Rattle.std.proofs.lemmas.Bool.{and_parts, eqb-true, cases_lt, leb-true, lt-ltb}
 use Rattle.std.proofs.lemmas.Option.{same_Some, none-some, slice_get_within}
 use mathlib.Core.Logic.{dite}
@@ -12,8 +12,8 @@ use Rattle.shr_seats.specs.Weights.{total}
 use Rattle.shr_rooms.specs.Rule.{times}
 use Rattle.shr_rooms.specs.Views.{Made}
 use Rattle.shr_pass.specs.declared.answers.ScanSeen.{ScanSeen}
-use Rattle.shr_plain.specs.Counting.{scan_by, scans_of}
-use Rattle.shr_report.specs.Pools.{ReclaimMade, reclaim_by, reclaims_by}
+use Rattle.shr_plain.specs.Counting.{scan_by}
+use Rattle.shr_report.specs.Pools.{ReclaimMade, reclaim_by}
 use Rattle.shr_units.proofs.Lists.{IsIn, all_zero, total_on, count_total, no_test}
 
 abbrev Makes : Type 0

@@ -1,9 +1,9 @@
 -- The journals of pools that are printed, and the replies that cite them, of a run.
-use Rattle.std.proofs.Common.{◌≡◌, ℕ, zero, suc, ◌+◌, ◌<◌, ◌≤◌, ◌⊎◌, inl, inr, ⊎_elim, Bool, true, false, cond, List, [], ◌∷◌, ◌++◌, length, take, sym, refl, ap, subst, ◌∙◌, arith, length-append}
-use Rattle.std.specs.Prelude.{slice_get, Option, Some, None, option_map, option_and_then, ⊤, IsSomeAnd}
+use Rattle.std.proofs.Common.{◌≡◌, ℕ, ◌+◌, ◌<◌, ◌≤◌, ◌⊎◌, ⊎_elim, true, false, List, [], ◌∷◌, ◌++◌, length, take, sym, refl, ap, subst, ◌∙◌, arith, length-append}
+use Rattle.std.specs.Prelude.{slice_get, Option, Some, option_map, option_and_then, ⊤, IsSomeAnd}
 use Rattle.std.specs.List.{AllByRecursion}
 use Rattle.std.proofs.Math.Seq.{take-append_seam}
-use Rattle.std.proofs.lemmas.Option.{same_Some, none-some, slice_get_within}
+use Rattle.std.proofs.lemmas.Option.{same_Some, none-some}
 use Rattle.shr_base.specs.declared.ends.UnitsEnd.{UnitsEnd}
 use Rattle.shr_base.specs.declared.journals.PlainEntry.{PlainEntry}
 use Rattle.shr_base.specs.declared.journals.PlainEntry.TheVariants as entry
@@ -14,7 +14,7 @@ use Rattle.shr_base.specs.declared.replies.Answered.{Answered}
 use Rattle.shr_base.specs.declared.replies.Reply.{Reply}
 use Rattle.shr_base.specs.declared.replies.Reply.TheVariants as reply
 use Rattle.shr_base.specs.declared.scripts.Command.{Command}
-use Rattle.shr_base.specs.declared.scripts.Command.TheVariants.{Put, Get, Del, SetPin, Shrink, Balance, Offline, MkGroup, Register, Unregister, Isolate, Release, Grab}
+use Rattle.shr_base.specs.declared.scripts.Command.TheVariants.{Release, Grab}
 use Rattle.shr_base.specs.declared.scripts.Script.{Script}
 use Rattle.shr_base.specs.declared.walks.PassRecord.{PassRecord}
 use Rattle.shr_base.specs.declared.walks.PlainWalk.{PlainWalk}
@@ -22,30 +22,30 @@ use Rattle.shr_model.specs.Units.{free_of, IsPlainJournal}
 use Rattle.shr_seats.specs.Rows.{IsPlaceOf, row_of, row_count, place_in}
 use Rattle.shr_seats.specs.Weights.{Begins}
 use Rattle.shr_seats.proofs.RowLaws.{row_low}
-use Rattle.shr_rooms.specs.Views.{Made, RoomView, part_at, with_known, with_entry}
+use Rattle.shr_rooms.specs.Views.{Made, RoomView, part_at}
 use Rattle.shr_plain.specs.declared.answers.GrabAnswer.{GrabAnswer}
 use Rattle.shr_plain.specs.declared.answers.GrabAnswer.TheVariants as grab
 use Rattle.shr_plain.specs.declared.answers.ReleaseAnswer.{ReleaseAnswer}
 use Rattle.shr_plain.specs.declared.answers.ReleaseAnswer.TheVariants as release
-use Rattle.shr_plain.specs.Answers.{Sees, Makes, IsWorn, ReleaseGives, GrabGives}
+use Rattle.shr_plain.specs.Answers.{Sees, Makes, ReleaseGives, GrabGives}
 use Rattle.shr_plain.specs.Ending.{end_value}
 use Rattle.shr_plain.specs.Seat.{PlainState, no_state}
 use Rattle.shr_plain.specs.Settings.{IsPoolOf}
 use Rattle.shr_report.specs.declared.report.Report.{Report}
-use Rattle.shr_report.specs.Parts.{serial_of, answer_at, command_at, reply_at, at, EachAnswer}
-use Rattle.shr_report.specs.UnitParts.{place_at, pool_place, units_of, units_cited, units_cited_at, plain_by_of, plain_at, pass_at, EachUnits, free_at}
+use Rattle.shr_report.specs.Parts.{at, EachAnswer}
+use Rattle.shr_report.specs.UnitParts.{pool_place, units_of, units_cited, units_cited_at, plain_by_of, plain_at, pass_at, EachUnits}
 use Rattle.shr_report.specs.WellFormed.{units_place}
 use Rattle.shr_report.specs.Pools.{AreUnitsRight, CitesUnits, IsTooFull, IsPoolReply, IsOfPlain}
 use Rattle.shr_plain.specs.Opening.{settings_of, pool_sizes}
-use Rattle.shr_units.specs.Did.{home_of, home_room, release_reply, grab_reply, DidRelease, DidGrab, IsOther}
+use Rattle.shr_units.specs.Did.{home_of, home_room, release_reply, grab_reply, IsOther}
 use Rattle.shr_units.specs.Steps.{UnitsStep, steps_of}
 use Rattle.shr_units.specs.Runs.{AreUnits}
 use Rattle.shr_units.proofs.StepKinds.{Kind, released, grabbed, walked, idle}
 use Rattle.shr_units.proofs.Lists.{IsIn, in_right, by_slices, slice_begins, slice_seam}
-use Rattle.shr_units.proofs.Pooling.{IsHome, is_home, home_there, pool_place_is, same_place, place_back, there_or_not}
+use Rattle.shr_units.proofs.Pooling.{IsHome, home_there, pool_place_is, same_place, place_back, there_or_not}
 use Rattle.shr_units.proofs.Along.{after_begins}
 use Rattle.shr_units.proofs.Rooms.{MayMake, IsCited, IsReclaimed}
-use Rattle.shr_units.proofs.Making.{made_at, known_at, walks_at, kind_at, longer_walks, made_is, known_is, stands, Stepped, stepped, Maker, maker, may_make}
+use Rattle.shr_units.proofs.Making.{made_at, walks_at, kind_at, longer_walks, made_is, known_is, stands, Stepped, stepped, Maker, maker, may_make}
 use Rattle.shr_units.proofs.Printing.{IsBelow, printed, units_nowhere}
 use Rattle.shr_units.proofs.Citing.{sees_part, makes_part, journal_at}
 

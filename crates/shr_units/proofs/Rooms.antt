@@ -1,8 +1,7 @@
 -- What a step did and saw in one room.
-use Rattle.std.proofs.Common.{◌≡◌, ℕ, zero, suc, ◌+◌, ◌<◌, ◌≤◌, ◌≢◌, ◌⊎◌, inl, inr, ⊎_elim, Bool, true, false, cond, List, [], ◌∷◌, ◌++◌, length, map, sym, refl, ap, subst, ◌∙◌, arith, length-append, append_assoc}
-use Rattle.std.specs.Prelude.{slice_get, Option, Some, None, option_map, option_to_list, flat_map}
+use Rattle.std.proofs.Common.{◌≡◌, ℕ, ◌+◌, ◌<◌, ◌≤◌, ◌≢◌, ◌⊎◌, true, false, List, [], ◌∷◌, ◌++◌, length, map, sym, refl, ap, subst, ◌∙◌, arith, append_assoc}
+use Rattle.std.specs.Prelude.{Some, flat_map}
 use Rattle.std.proofs.lemmas.List.{append-nil}
-use Rattle.std.proofs.lemmas.Option.{same_Some, none-some, slice_get_within}
 use mathlib.Core.Logic.{dite}
 use native.Mathlib.Decide.{ℕ_discrete}
 use Rattle.shr_base.specs.declared.journals.PlainEntry.{PlainEntry}
@@ -12,39 +11,28 @@ use Rattle.shr_base.specs.declared.places.Serial.{Serial}
 use Rattle.shr_base.specs.declared.replies.Reply.{Reply}
 use Rattle.shr_base.specs.declared.scripts.Script.{Script}
 use Rattle.shr_base.specs.declared.walks.PassRecord.{PassRecord}
-use Rattle.shr_base.specs.declared.walks.PlainTry.{PlainTry}
-use Rattle.shr_base.specs.declared.walks.PlainTry.TheVariants.{Empty, Skip, Ran}
 use Rattle.shr_base.specs.declared.walks.PlainWalk.{PlainWalk}
-use Rattle.shr_model.specs.Places.{is_place}
-use Rattle.shr_model.proofs.PlacesLaws.{is_place_same, is_place_itself}
 use Rattle.shr_seats.specs.Rows.{IsPlaceOf, row_of}
-use Rattle.shr_seats.specs.Views.{Each}
 use Rattle.shr_seats.specs.Weights.{Begins}
-use Rattle.shr_seats.proofs.RowLaws.{IsAcross}
 use Rattle.shr_seats.proofs.Weighing.{begins_all}
-use Rattle.shr_pass.specs.Passes.{count_of}
-use Rattle.shr_rooms.specs.Views.{Made, Counted, RoomView, part_at, with_part_at, with_known, with_entry}
+use Rattle.shr_rooms.specs.Views.{Made, Counted, RoomView, part_at, with_known, with_entry}
 use Rattle.shr_rooms.specs.Told.{IsTold, IsRecent}
 use Rattle.shr_rooms.proofs.Parts as parts
-use Rattle.shr_rooms.proofs.Telling.{told_recent}
 use Rattle.shr_plain.specs.declared.answers.GrabAnswer.{GrabAnswer}
 use Rattle.shr_plain.specs.declared.answers.GrabAnswer.TheVariants as grab
 use Rattle.shr_plain.specs.declared.answers.ReleaseAnswer.{ReleaseAnswer}
 use Rattle.shr_plain.specs.declared.answers.ReleaseAnswer.TheVariants as release
 use Rattle.shr_plain.specs.Answers.{Sees, Makes, ReleaseGives, GrabGives}
-use Rattle.shr_plain.specs.Counting.{kind_of, IsReclaimOf}
 use Rattle.shr_plain.specs.Rule.{units}
 use Rattle.shr_plain.specs.Seat.{PlainState}
-use Rattle.shr_plain.specs.Settings.{IsPoolOf, place_of}
-use Rattle.shr_plain.specs.Walks.{TryGives, WalkGives, answer_of}
+use Rattle.shr_plain.specs.Settings.{IsPoolOf}
 use Rattle.shr_report.specs.Parts.{at}
-use Rattle.shr_report.specs.UnitParts.{units_cited, pass_in, pool_place, pass_at, try_at}
-use Rattle.shr_report.specs.Pools.{version_in, plain_versions}
+use Rattle.shr_report.specs.UnitParts.{units_cited, pass_at}
+use Rattle.shr_report.specs.Pools.{plain_versions}
 use Rattle.shr_plain.specs.Opening.{settings_of, pool_sizes}
-use Rattle.shr_units.specs.Did.{home_of, home_room, release_reply, grab_reply, DidRelease, DidGrab, DidWalk, IsOther}
-use Rattle.shr_units.proofs.Lists.{IsIn, in_none, in_one, each_in, no_test}
-use Rattle.shr_units.proofs.Pooling.{pool_place_is, IsHome, is_home}
-use Rattle.shr_units.proofs.Tries.{TriedAt, tried_at, touched, untouched}
+use Rattle.shr_units.specs.Did.{home_of, home_room, release_reply, grab_reply, DidRelease, DidGrab}
+use Rattle.shr_units.proofs.Lists.{IsIn, in_none, in_one}
+use Rattle.shr_units.proofs.Pooling.{IsHome, is_home}
 
 -- the walks of the pools that a step made
 pub record Walks (t u : PlainState) : Type 0 where

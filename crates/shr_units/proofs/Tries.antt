@@ -6,8 +6,6 @@ use Rattle.std.proofs.lemmas.List.Sums.{sum_by-append, sum_by-cons}
 use Rattle.std.proofs.lemmas.Option.{same_Some, none-some}
 use mathlib.Core.Logic.{dite}
 use native.Mathlib.Decide.{ℕ_discrete}
-use Rattle.shr_base.specs.declared.ends.PlaceAmount.{PlaceAmount}
-use Rattle.shr_base.specs.declared.journals.PlainEntry.{PlainEntry}
 use Rattle.shr_base.specs.declared.places.Place.{Place}
 use Rattle.shr_base.specs.declared.places.Serial.{Serial}
 use Rattle.shr_base.specs.declared.walks.PassRecord.{PassRecord}
@@ -22,10 +20,10 @@ use Rattle.shr_pass.specs.Passes.{moves_by}
 use Rattle.shr_seats.specs.declared.rows.Sizes.{Sizes}
 use Rattle.shr_seats.specs.Rows.{row_of}
 use Rattle.shr_seats.proofs.RowLaws.{IsAcross, one_place}
-use Rattle.shr_rooms.specs.Views.{RoomView, part_at}
+use Rattle.shr_rooms.specs.Views.{part_at}
 use Rattle.shr_plain.specs.declared.settings.Setting.{Setting}
 use Rattle.shr_plain.specs.Seat.{PlainState}
-use Rattle.shr_plain.specs.Settings.{setting_of, place_of}
+use Rattle.shr_plain.specs.Settings.{place_of}
 use Rattle.shr_plain.specs.Walks.{TryGives, AreTried, answer_of}
 use Rattle.shr_report.specs.UnitParts.{pass_in}
 use Rattle.shr_units.proofs.Lists.{no_test}

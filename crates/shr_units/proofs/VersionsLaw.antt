@@ -1,30 +1,29 @@
 -- The versions that a worker's walks of the pools counted at one place, of a run.
-use Rattle.std.proofs.Common.{◌≡◌, ℕ, zero, suc, ◌+◌, ◌<◌, ◌≤◌, ◌≢◌, ◌⊎◌, inl, inr, ⊎_elim, Bool, true, false, cond, List, [], ◌∷◌, ◌++◌, length, map, flat_map, get_or, sym, refl, ap, subst, ◌∙◌, arith}
+use Rattle.std.proofs.Common.{◌≡◌, ℕ, zero, suc, ◌+◌, ◌<◌, ◌≤◌, ◌≢◌, ◌⊎◌, ⊎_elim, List, [], ◌∷◌, ◌++◌, length, map, flat_map, get_or, sym, refl, ap, subst, ◌∙◌, arith}
 use Rattle.std.specs.Prelude.{slice_get, Option, Some, None, option_map, option_to_list}
 use Rattle.std.specs.List.{AllByRecursion}
 use Rattle.std.proofs.lemmas.Grind.{flat_map-append}
 use Rattle.std.proofs.lemmas.List.{append-nil, map-append}
-use Rattle.std.proofs.lemmas.Option.{same_Some, none-some, slice_get_within}
 use Rattle.shr_base.specs.declared.journals.PlainEntry.{PlainEntry}
 use Rattle.shr_base.specs.declared.places.Place.{Place}
 use Rattle.shr_base.specs.declared.places.Serial.{Serial}
 use Rattle.shr_base.specs.declared.scripts.Script.{Script}
 use Rattle.shr_base.specs.declared.walks.PlainTry.{PlainTry}
 use Rattle.shr_base.specs.declared.walks.PlainWalk.{PlainWalk}
-use Rattle.shr_seats.specs.Rows.{IsPlaceOf, row_of, row_count}
+use Rattle.shr_seats.specs.Rows.{IsPlaceOf, row_of}
 use Rattle.shr_rooms.specs.Told.{IsRecent}
 use Rattle.shr_rooms.specs.Views.{Counted, RoomView, part_at}
 use Rattle.shr_plain.specs.Seat.{PlainState, no_state}
 use Rattle.shr_report.specs.declared.report.Report.{Report}
 use Rattle.shr_report.specs.Parts.{serial_of, at}
 use Rattle.shr_report.specs.WellFormed.{AreNotFalling}
-use Rattle.shr_report.specs.UnitParts.{plain_of, plain_at, units_cited_at, try_at, EachPlain}
+use Rattle.shr_report.specs.UnitParts.{plain_of, units_cited_at, try_at, EachPlain}
 use Rattle.shr_report.specs.Pools.{version_in, plain_versions}
 use Rattle.shr_plain.specs.Opening.{pool_sizes}
 use Rattle.shr_units.specs.Did.{home_of}
 use Rattle.shr_units.specs.Steps.{UnitsStep, steps_of, AreChained, state_after, last_of}
 use Rattle.shr_units.specs.Runs.{AreUnits}
-use Rattle.shr_units.proofs.Lists.{IsIn, in_each, each_in}
+use Rattle.shr_units.proofs.Lists.{IsIn, each_in}
 use Rattle.shr_units.proofs.Pooling.{home_there, there_or_not}
 use Rattle.shr_units.proofs.Along.{gained, gained_is, all_gained}
 use Rattle.shr_units.proofs.Rooms.{Gains}

@@ -1,8 +1,8 @@
 -- What a walk of the pools did in each room.
-use Rattle.std.proofs.Common.{◌≡◌, ℕ, zero, suc, ◌+◌, ◌<◌, ◌≤◌, ◌≢◌, ◌⊎◌, inl, inr, ⊎_elim, Bool, true, false, cond, List, [], ◌∷◌, ◌++◌, length, map, sym, refl, ap, subst, ◌∙◌, arith}
-use Rattle.std.specs.Prelude.{slice_get, Option, Some, None, option_map, option_to_list, option_and_then, flat_map, nat_le, ◌==◌}
+use Rattle.std.proofs.Common.{◌≡◌, ℕ, ◌+◌, ◌<◌, ◌≤◌, ◌≢◌, ◌⊎◌, ⊎_elim, Bool, true, false, cond, List, [], ◌∷◌, ◌++◌, length, sym, refl, ap, subst, ◌∙◌, arith}
+use Rattle.std.specs.Prelude.{slice_get, Option, Some, None, option_map, option_to_list, option_and_then, nat_le, ◌==◌}
 use Rattle.std.proofs.lemmas.List.{append-nil}
-use Rattle.std.proofs.lemmas.Option.{same_Some, none-some, slice_get_within}
+use Rattle.std.proofs.lemmas.Option.{none-some, slice_get_within}
 use Rattle.shr_base.specs.declared.journals.PlainEntry.{PlainEntry}
 use Rattle.shr_base.specs.declared.journals.PlainEntry.TheVariants as entry
 use Rattle.shr_base.specs.declared.places.Place.{Place}
@@ -17,27 +17,25 @@ use Rattle.shr_base.specs.declared.walks.PlainTry.TheVariants.{Empty, Skip, Ran}
 use Rattle.shr_base.specs.declared.walks.PlainWalk.{PlainWalk}
 use Rattle.shr_model.specs.Places.{is_place}
 use Rattle.shr_model.proofs.PlacesLaws.{is_place_same, is_place_itself}
-use Rattle.shr_seats.specs.Rows.{IsPlaceOf, row_of}
-use Rattle.shr_seats.specs.Views.{Each}
+use Rattle.shr_seats.specs.Rows.{row_of}
 use Rattle.shr_seats.specs.Weights.{Begins}
 use Rattle.shr_seats.proofs.RowLaws.{IsAcross}
 use Rattle.shr_pass.specs.declared.answers.Count.{Count}
 use Rattle.shr_pass.specs.declared.answers.Count.TheVariants as counted
-use Rattle.shr_pass.specs.declared.answers.PassAnswer.{PassAnswer}
 use Rattle.shr_pass.specs.Passes.{MatchPass, count_of}
 use Rattle.shr_rooms.specs.Views.{Made, Counted, RoomView, part_at}
 use Rattle.shr_rooms.specs.Told.{IsRecent}
 use Rattle.shr_plain.specs.Counting.{kind_of, IsReclaimOf}
 use Rattle.shr_plain.specs.Seat.{PlainState}
 use Rattle.shr_plain.specs.Settings.{IsPoolOf, setting_of, place_of}
-use Rattle.shr_plain.specs.Walks.{TryGives, WalkGives, Answers, answer_of}
-use Rattle.shr_report.specs.UnitParts.{PlainJob, pass_in, pool_place, pass_at, try_at}
-use Rattle.shr_report.specs.Pools.{version_in, plain_versions}
+use Rattle.shr_plain.specs.Walks.{Answers, answer_of}
+use Rattle.shr_report.specs.UnitParts.{PlainJob, pass_in, pool_place, try_at}
+use Rattle.shr_report.specs.Pools.{version_in}
 use Rattle.shr_plain.specs.Opening.{settings_of, pool_sizes}
 use Rattle.shr_units.specs.Did.{home_of, home_room, DidWalk}
-use Rattle.shr_units.proofs.Lists.{IsIn, in_none, in_one, each_in, no_test}
+use Rattle.shr_units.proofs.Lists.{IsIn, in_none, in_one, each_in}
 use Rattle.shr_units.proofs.Pooling.{pool_place_is, home_there, same_place, home_low, is_home}
-use Rattle.shr_units.proofs.Rooms.{Gains, MayMake, IsReclaimed}
+use Rattle.shr_units.proofs.Rooms.{Gains, MayMake}
 use Rattle.shr_units.proofs.Tries.{TriedAt, tried_at, touched, untouched}
 
 -- the version that a count says

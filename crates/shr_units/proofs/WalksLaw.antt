@@ -1,6 +1,6 @@
 -- Each walk of the pools in the report of a run is lawful.
-use Rattle.std.proofs.Common.{◌≡◌, ℕ, zero, suc, ◌+◌, ◌<◌, ◌≤◌, ◌≢◌, ◌⊎◌, inl, inr, ⊎_elim, Bool, true, false, not, cond, List, [], ◌∷◌, ◌++◌, length, map, take, get_or, sym, refl, ap, subst, ◌∙◌, arith, length-append, eqb, eq-eqb, le-leb}
-use Rattle.std.specs.Prelude.{slice_get, Option, Some, None, sum_by, sum, nat_le, ◌==◌, replicate, All, ⊤, ◌^◌}
+use Rattle.std.proofs.Common.{◌≡◌, ℕ, zero, suc, ◌+◌, ◌<◌, ◌≤◌, ◌≢◌, ◌⊎◌, inl, inr, ⊎_elim, Bool, true, false, cond, List, [], ◌∷◌, ◌++◌, length, map, take, sym, refl, ap, subst, ◌∙◌, arith, length-append, eqb, eq-eqb, le-leb}
+use Rattle.std.specs.Prelude.{slice_get, Some, sum_by, sum, nat_le, ◌==◌, replicate, All, ◌^◌}
 use Rattle.std.specs.List.{AllByRecursion, enumerate_from}
 use Rattle.std.proofs.Math.Seq.{take-append_seam}
 use Rattle.std.proofs.lemmas.Bool.{eqb-true, leb-true, cases_lt}
@@ -22,39 +22,38 @@ use Rattle.shr_base.specs.declared.walks.PlainAnswer.TheVariants.{Walked, Memory
 use Rattle.shr_base.specs.declared.walks.PlainTry.{PlainTry}
 use Rattle.shr_base.specs.declared.walks.PlainTry.TheVariants.{Empty, Skip, Ran}
 use Rattle.shr_base.specs.declared.walks.PlainWalk.{PlainWalk}
-use Rattle.shr_model.specs.Pass.{batch_of, total_of, due_asks, ask_size, due, FollowsArithmetic}
+use Rattle.shr_model.specs.Pass.{batch_of, total_of, ask_size, due, FollowsArithmetic}
 use Rattle.shr_model.specs.Units.{free_of}
-use Rattle.shr_seats.specs.Rows.{IsPlaceOf, row_of, row_count}
+use Rattle.shr_seats.specs.Rows.{IsPlaceOf, row_count}
 use Rattle.shr_seats.specs.Weights.{total, Begins}
 use Rattle.shr_seats.proofs.RowLaws.{row_low}
 use Rattle.shr_seats.proofs.Weighing.{begins_more}
 use Rattle.shr_pass.specs.declared.answers.Count.{Count}
 use Rattle.shr_pass.specs.declared.answers.Count.TheVariants as counted
 use Rattle.shr_pass.specs.declared.answers.ScanSeen.{ScanSeen}
-use Rattle.shr_pass.specs.Passes.{MatchPass, count_of, asks_due, asked_of, freed_of}
+use Rattle.shr_pass.specs.Passes.{MatchPass, count_of, asked_of, freed_of}
 use Rattle.shr_rooms.specs.Rule.{IsCounted}
 use Rattle.shr_rooms.specs.Views.{Made, Counted, RoomView, part_at}
 use Rattle.shr_plain.specs.declared.settings.Setting.{Setting}
 use Rattle.shr_plain.specs.Answers.{IsWorn}
-use Rattle.shr_plain.specs.Counting.{kind_of, scan_by, scans_of, IsWornIn}
+use Rattle.shr_plain.specs.Counting.{kind_of, scan_by, scans_of}
 use Rattle.shr_plain.specs.Opening.{setting_by, settings_of, pool_sizes}
 use Rattle.shr_plain.specs.Rule.{units}
-use Rattle.shr_plain.specs.Seat.{PlainState}
-use Rattle.shr_plain.specs.Settings.{IsPoolOf, setting_of, place_of}
+use Rattle.shr_plain.specs.Settings.{setting_of}
 use Rattle.shr_plain.specs.Walks as plain
 use Rattle.shr_plain.specs.Walks.{Answers, AreCut, AreScans, EndsBy, HadMemory, lacked_memory, answer_of}
 use Rattle.shr_report.specs.declared.report.Report.{Report}
 use Rattle.shr_report.specs.Causes.{IsPoolSpent}
-use Rattle.shr_report.specs.UnitParts.{PlainJob, pass_in, pool_place, units_of, free_at, EachTry, EachPlain}
-use Rattle.shr_report.specs.Pools.{HasTries, plain_told, version_in, len_in, freed_in, IsPlainCount, IsKind, IsPlainEnding, ReclaimMade, reclaim_by, reclaims_by, IsPlainPass, IsLastTry, IsPlainLawful}
+use Rattle.shr_report.specs.UnitParts.{pass_in, pool_place, units_of, EachTry, EachPlain}
+use Rattle.shr_report.specs.Pools.{HasTries, plain_told, version_in, len_in, freed_in, IsPlainCount, IsKind, IsPlainEnding, ReclaimMade, reclaim_by, reclaims_by, IsPlainPass, IsPlainLawful}
 use Rattle.shr_units.specs.Did.{home_of, home_room, DidWalk}
-use Rattle.shr_units.specs.Steps.{UnitsStep, steps_of}
+use Rattle.shr_units.specs.Steps.{UnitsStep}
 use Rattle.shr_units.specs.Runs.{AreUnits}
-use Rattle.shr_units.proofs.Lists.{IsIn, in_right, in_each, by_slices, total_on, sum_total, length_total, each_in, all_in}
+use Rattle.shr_units.proofs.Lists.{IsIn, in_right, by_slices, total_on, sum_total, length_total, each_in, all_in}
 use Rattle.shr_units.proofs.Pooling.{home_there, settings_length}
 use Rattle.shr_units.proofs.Tries.{TriedAt}
 use Rattle.shr_units.proofs.Walking.{walk, across, inside, tried, after_is, count_version, try_place}
-use Rattle.shr_units.proofs.Making.{made_at, seen_at, known_at, gains_at, made_is, seen_is, known_is}
+use Rattle.shr_units.proofs.Making.{gains_at, seen_is, known_is}
 use Rattle.shr_units.proofs.Citing.{journal_at}
 use Rattle.shr_units.proofs.WornLaw.{pool_spent}
 use Rattle.shr_units.proofs.Reclaims.{kept_in, kept_has, scan_is, enumerated, reclaim_is}

@@ -1,15 +1,13 @@
 -- A pool's journal that was found used up, of a run.
 use Rattle.std.proofs.Common.{◌≡◌, ℕ, ◌+◌, ◌<◌, ◌≤◌, List, ◌++◌, length, take, sym, refl, ap, subst, ◌∙◌, arith, length-append}
-use Rattle.std.specs.Prelude.{slice_get, Some, None, Option, option_map, ⊤, ◌^◌}
+use Rattle.std.specs.Prelude.{slice_get, Some, ◌^◌}
 use Rattle.std.proofs.Math.Seq.{take-append_seam}
-use Rattle.std.proofs.lemmas.Option.{none-some}
 use Rattle.shr_base.specs.declared.journals.PlainEntry.{PlainEntry}
 use Rattle.shr_base.specs.declared.places.Place.{Place}
 use Rattle.shr_base.specs.declared.places.Serial.{Serial}
 use Rattle.shr_base.specs.declared.replies.Reply.{Reply}
 use Rattle.shr_base.specs.declared.replies.Reply.TheVariants as reply
 use Rattle.shr_base.specs.declared.replies.Spent.{Spent}
-use Rattle.shr_base.specs.declared.replies.Spent.TheVariants as spent
 use Rattle.shr_base.specs.declared.scripts.Command.{Command}
 use Rattle.shr_base.specs.declared.scripts.Command.TheVariants.{Release, Grab}
 use Rattle.shr_base.specs.declared.scripts.Script.{Script}
@@ -28,8 +26,8 @@ use Rattle.shr_plain.specs.Settings.{IsPoolOf}
 use Rattle.shr_report.specs.declared.report.Report.{Report}
 use Rattle.shr_report.specs.Causes.{IsPoolSpent}
 use Rattle.shr_report.specs.Parts.{command_at, reply_at}
-use Rattle.shr_report.specs.UnitParts.{pool_place, units_of, free_at}
-use Rattle.shr_units.specs.Did.{home_of, home_room, release_reply, grab_reply, DidRelease, DidGrab, DidUnitsOf}
+use Rattle.shr_report.specs.UnitParts.{pool_place, units_of}
+use Rattle.shr_units.specs.Did.{home_of, home_room, release_reply, grab_reply, DidUnitsOf}
 use Rattle.shr_units.specs.Steps.{UnitsStep, steps_of}
 use Rattle.shr_units.specs.Runs.{AreUnits, IsPoolWorn}
 use Rattle.shr_units.proofs.Pooling.{home_there, pool_place_is}

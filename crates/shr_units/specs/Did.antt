@@ -1,5 +1,5 @@
 -- What a command did at the pools of units.
-use Rattle.std.specs.Prelude.{◌≡◌, ℕ, ◌<◌, List, [], ◌∷◌, length, map, ⊤}
+use Rattle.std.specs.Prelude.{◌≡◌, ℕ, ◌<◌, List, [], ◌∷◌, ⊤}
 use Rattle.shr_base.specs.declared.places.Place.{Place}
 use Rattle.shr_base.specs.declared.places.Serial.{Serial}
 use Rattle.shr_base.specs.declared.replies.Reply.{Reply}
@@ -8,12 +8,10 @@ use Rattle.shr_base.specs.declared.scripts.Command.{Command}
 use Rattle.shr_base.specs.declared.scripts.Command.TheVariants.{Release, Grab}
 use Rattle.shr_base.specs.declared.scripts.Script.{Script}
 use Rattle.shr_base.specs.declared.walks.PlainAnswer.{PlainAnswer}
-use Rattle.shr_seats.specs.declared.rows.Sizes.{Sizes}
 use Rattle.shr_plain.specs.declared.answers.ReleaseAnswer.{ReleaseAnswer}
 use Rattle.shr_plain.specs.declared.answers.ReleaseAnswer.TheVariants as release
 use Rattle.shr_plain.specs.declared.answers.GrabAnswer.{GrabAnswer}
 use Rattle.shr_plain.specs.declared.answers.GrabAnswer.TheVariants as grab
-use Rattle.shr_plain.specs.declared.settings.Setting.{Setting}
 use Rattle.shr_plain.specs.Answers.{ReleaseGives, GrabGives}
 use Rattle.shr_plain.specs.Opening.{settings_of, pool_sizes}
 use Rattle.shr_plain.specs.Seat.{PlainState}
