@@ -5,7 +5,7 @@ use Rattle.std.proofs.lemmas.List.{append-nil}
 use Rattle.std.proofs.lemmas.List.Elements.{All-push}
 use Rattle.shr_base.specs.Kept.{Kept}
 use Rattle.shr_base.specs.declared.journals.TreeEntry.{TreeEntry}
-use Rattle.shr_base.specs.declared.journals.TreeEntry.TheVariants.{Begin, Done}
+use Rattle.shr_base.specs.declared.journals.TreeEntry.TheVariants.{Begin, Done, Made as MadeEntry}
 use Rattle.shr_model.specs.TreeJournal.{begin_of, done_of, MayBeDone, MayFollow}
 use Rattle.shr_charge.specs.declared.table.Charge.{Charge}
 use Rattle.shr_charge.specs.declared.table.ChargeSeat.{ChargeSeat}

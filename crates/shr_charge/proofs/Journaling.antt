@@ -11,7 +11,7 @@ use lib.ListN.{get_elem?}
 use Rattle.atomic_table.proofs.Lists.{at_set}
 use Rattle.shr_base.specs.Kept.{Kept}
 use Rattle.shr_base.specs.declared.journals.TreeEntry.{TreeEntry}
-use Rattle.shr_base.specs.declared.journals.TreeEntry.TheVariants.{Begin, Done}
+use Rattle.shr_base.specs.declared.journals.TreeEntry.TheVariants.{Begin, Done, Made as MadeEntry}
 use Rattle.std.specs.Option.{is_some}
 use Rattle.shr_model.specs.Groups.{Hierarchy, is_later}
 use Rattle.shr_model.specs.TreeJournal.{begin_of, made_of, is_made, MayBegin, MayBeMade, MayBeDone, MayFollow, IsTreeJournal}

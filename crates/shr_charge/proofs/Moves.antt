@@ -13,7 +13,7 @@ use Rattle.shr_base.specs.Kept.{Kept}
 use Rattle.shr_base.specs.declared.places.Serial.{Serial}
 use Rattle.shr_base.specs.declared.journals.UseStep.{UseStep}
 use Rattle.shr_base.specs.declared.journals.TreeEntry.{TreeEntry}
-use Rattle.shr_base.specs.declared.journals.TreeEntry.TheVariants.{Begin, Done}
+use Rattle.shr_base.specs.declared.journals.TreeEntry.TheVariants.{Begin, Done, Made as MadeEntry}
 use Rattle.shr_model.specs.Charges.{ups, downs}
 use Rattle.shr_model.specs.Groups.{Hierarchy, is_later}
 use Rattle.shr_model.specs.TreeJournal.{begin_of, made_of, is_made, MayBegin, MayBeMade, MayBeDone, IsTreeJournal}

@@ -1,7 +1,7 @@
 -- What the calls of making groups and of going offline answer, and what they leave of a seat.
 use Rattle.std.specs.Prelude.{◌≡◌, ℕ, ◌+◌, ◌<◌, true, false, List, [], ◌∷◌, ◌++◌, length, Some, None}
 use Rattle.shr_base.specs.declared.journals.TreeEntry.{TreeEntry}
-use Rattle.shr_base.specs.declared.journals.TreeEntry.TheVariants.{Begin, Done}
+use Rattle.shr_base.specs.declared.journals.TreeEntry.TheVariants.{Begin, Done, Made as MadeEntry}
 use Rattle.shr_model.specs.Groups.{Hierarchy, parent_of}
 use Rattle.shr_model.specs.TreeJournal.{begin_of, done_of, made_of, is_made, undone_child, MayBegin, MayBeDone, MayBeMade, IsTreeJournal}
 use Rattle.shr_charge.specs.declared.answers.MakeAnswer.{MakeAnswer}

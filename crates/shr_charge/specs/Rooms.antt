@@ -2,7 +2,7 @@
 use Rattle.std.specs.Prelude.{◌≡◌, ℕ, ◌*◌, ◌≤◌, true, false, List, [], ◌∷◌, length, Some, None}
 use Rattle.shr_base.specs.Kept.{Kept}
 use Rattle.shr_base.specs.declared.journals.TreeEntry.{TreeEntry}
-use Rattle.shr_base.specs.declared.journals.TreeEntry.TheVariants.{Begin}
+use Rattle.shr_base.specs.declared.journals.TreeEntry.TheVariants.{Begin, Made as MadeEntry}
 use Rattle.shr_model.specs.Groups.{Hierarchy, parent_of}
 use Rattle.shr_model.specs.TreeJournal.{begin_of, done_of, made_of, is_made, undone_child, MayBegin, MayBeMade, IsTreeJournal}
 use Rattle.shr_charge.specs.declared.answers.MakeAnswer.{MakeAnswer}

@@ -16,7 +16,7 @@ use Rattle.shr_core.specs.declared.view.View.{View}
 use Rattle.shr_seats.specs.declared.shape.Shape.{Shape}
 use Rattle.shr_core.specs.Gained.{nothing, AreKinds}
 use Rattle.shr_core.proofs.Gains.{adds_none, adds_then}
-use Rattle.shr_core.specs.Parts.{Content, Hand, Made, Known, Counted, Claims, Turns, Event}
+use Rattle.shr_core.specs.Parts.{Content, Hand, Made, Known, Counted, Claims, Turns, Event, made as stored_event, raised as raised_event}
 use Rattle.shr_core.specs.Layout.{id_of, node_of, group_of}
 use Rattle.shr_core.specs.Rule.{mark_of}
 use Rattle.shr_core.specs.Steps.{content_in, in_hand, with_content, without_room, with_taken, with_stored, with_set, with_given, half_after, owed_after, drained_after, is_empty, IsCounted}

@@ -21,7 +21,7 @@ use Rattle.shr_seats.proofs.Weighing.{begins_push, begins_more, only_yes, times-
 use Rattle.shr_core.specs.declared.view.View.{View}
 use Rattle.shr_seats.specs.declared.shape.Shape.{Shape}
 use Rattle.shr_core.specs.declared.rooms.Room.{Room}
-use Rattle.shr_core.specs.Parts.{Content, Hand, Holding, Made, Known}
+use Rattle.shr_core.specs.Parts.{Content, Hand, Holding, Made, Known, made as stored_event, raised as raised_event}
 use Rattle.shr_core.specs.Layout.{group_of, beside}
 use Rattle.shr_core.specs.Rule.{list_content, has_room, is_room}
 use Rattle.shr_seats.specs.Shapes.{groups_in}

@@ -8,7 +8,7 @@ use Rattle.shr_seats.proofs.Weighing.{begins_all}
 use Rattle.shr_core.specs.declared.view.View.{View}
 use Rattle.shr_seats.specs.declared.shape.Shape.{Shape}
 use Rattle.shr_core.specs.Gained.{Gained, nothing, then_gained, AreKinds}
-use Rattle.shr_core.specs.Parts.{Content, Holding, Made, no_rooms, Loaded}
+use Rattle.shr_core.specs.Parts.{Content, Holding, Made, no_rooms, Loaded, loaded as loaded_event}
 use Rattle.shr_core.specs.Layout.{places_in}
 use Rattle.shr_core.specs.Rule.{has_room, pool_content}
 use Rattle.shr_core.specs.Steps.{in_hand, content_in, without_room, with_taken, with_pool_given}

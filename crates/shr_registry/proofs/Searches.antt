@@ -12,7 +12,7 @@ use Rattle.shr_seats.specs.Weights.{times}
 use Rattle.shr_core.specs.declared.view.View.{View}
 use Rattle.shr_seats.specs.declared.shape.Shape.{Shape}
 use Rattle.shr_core.specs.declared.setting.Setting.{Setting}
-use Rattle.shr_core.specs.Parts.{Holding, Marks, Claims, Loaded, Event}
+use Rattle.shr_core.specs.Parts.{Holding, Marks, Claims, Loaded, Event, loaded as loaded_event}
 use Rattle.shr_core.specs.Layout.{id_of, places_in}
 use Rattle.shr_core.specs.Rule.{has_room}
 use Rattle.shr_core.specs.Tells.{IsOfPool, HasPool, pool_of}

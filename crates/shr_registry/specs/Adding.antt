@@ -6,7 +6,7 @@ use Rattle.shr_model.specs.Pool.{is_live, decl_of}
 use Rattle.shr_core.specs.declared.view.View.{View}
 use Rattle.shr_seats.specs.declared.shape.Shape.{Shape}
 use Rattle.shr_core.specs.Gained.{Gained, Adds, OwesNoMore}
-use Rattle.shr_core.specs.Parts.{Holding, Loaded}
+use Rattle.shr_core.specs.Parts.{Holding, Loaded, loaded as loaded_event}
 use Rattle.shr_core.specs.Layout.{places_in}
 use Rattle.shr_core.specs.Rule.{pool_content}
 

@@ -18,7 +18,7 @@ use Rattle.shr_base.specs.declared.scripts.Script.{Script}
 use Rattle.shr_base.specs.declared.walks.Isolation.{Isolation}
 use Rattle.shr_model.specs.Commands.{is_serial, decl_named}
 use Rattle.shr_model.specs.Items.{is_closed}
-use Rattle.shr_model.specs.Isolations.{ScanSeen, IsLawfulIsolation, first_isolation}
+use Rattle.shr_model.specs.Isolations.{first_isolation, isolation_walk, ScanSeen, IsLawfulIsolation}
 use Rattle.shr_report.specs.declared.report.Report.{Report}
 use Rattle.shr_report.specs.Parts.{command_at, journals_of, isolations_of, isolation_at, EachAnswer, EachEntry}
 use Rattle.shr_report.specs.Causes.{IsSpent}

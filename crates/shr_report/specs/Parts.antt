@@ -25,6 +25,7 @@ use Rattle.shr_base.specs.declared.scripts.Script.{Script}
 use Rattle.shr_base.specs.declared.scripts.Sweep.{Sweep}
 use Rattle.shr_base.specs.declared.scripts.WorkerScript.{WorkerScript}
 use Rattle.shr_model.specs.Groups.{Hierarchy}
+use Rattle.shr_model.specs.Isolations.{first_isolation}
 use Rattle.shr_model.specs.Places.{is_place}
 use Rattle.shr_model.specs.Families.{Family, items_at, items_of}
 use Rattle.shr_model.specs.Commands.{is_serial, is_put}

@@ -7,6 +7,7 @@ use Rattle.shr_base.specs.declared.scripts.CacheDecl.{CacheDecl}
 use Rattle.shr_script.specs.Content.{content_of}
 use Rattle.shr_script.proofs.BoundsLaws.{within_of_valid}
 use Rattle.shr_core.specs.Seats.{shape_of, IsPlaceOf}
+use Rattle.shr_seats.specs.Rows.{IsPlaceOf as IsInside}
 use Rattle.shr_seats.specs.Shapes.{hierarchy_of}
 use Rattle.shr_seats.specs.declared.rows.Sizes.{Sizes}
 use Rattle.shr_walk.specs.Sharing.{IsShared}
