@@ -15,7 +15,7 @@ impl List {
     ///
     /// The next object is held before the callback, so a rotated one can be met again while others
     /// follow, and the scan ends after the object that was last when it was met. It costs its
-    /// visits.
+    /// visits, and a count of them before where it begins with a rotation.
     ///
     /// Linux: `list_lru_walk_one` in mm/list_lru.c, whose count of isolated objects is `freed`'s
     /// length.

@@ -1,9 +1,9 @@
 //! Scans of a queue.
 
-ghost use Rattle.std.specs.Prelude.{◌≡◌, ◌≤◌, [], min, length, IfOk, OnErr};
+ghost use Rattle.std.specs.Prelude.{◌≡◌, ◌≤◌, [], true, false, length, Ok, IfOk, OnErr};
 ghost use Rattle.shr_model.specs.Scan.{case_of, scan_of};
 ghost use Rattle.shr_list.specs.Nodes.{KeepsKeys};
-ghost use Rattle.shr_list.specs.Scanning.{IsScan};
+ghost use Rattle.shr_list.specs.Scanning.{IsLeft, IsScan};
 
 use crate::queue::Queue;
 use shr_base::log::Log;
@@ -43,45 +43,91 @@ struct Met {
     stopped: bool,
 }
 
-// Meets objects from the head until the budget is spent, none is left or one stops the scan.
-fn go_through(queue: &mut Queue, freed: &mut Log<Object>, policy: Policy, asked: u32) -> Met
+// At least as many as such a scan frees. They are counted where it begins with a rotation, since it
+// may be that none is freed.
+fn most_freed(queue: &Queue, policy: Policy, asked: u32, first: LruStatus) -> usize
+    ensures { length (scan_of policy asked queue.now.items).freed ≤ result }
+{
+    match first {
+        LruStatus::Rotate => queue.count_freed(policy, asked),
+        _ => (asked as usize).min(queue.len()),
+    }
+}
+
+// Makes room for what a scan of these objects frees, where it has none yet and doesn't leave this
+// one as it is. It answers whether the room is made.
+fn make_room(
+    queue: &Queue,
+    freed: &mut Log<Object>,
+    policy: Policy,
+    asked: u32,
+    status: LruStatus,
+    made: bool,
+) -> Result<bool, Memory>
+    ensures same { made ≡ true → (freed.new ≡ freed.old) × (result ≡ Ok true) }
+    ensures items { freed.new.items ≡ freed.old.items }
+    ensures room { made ≡ false → IfOk result (λ now. now ≡ true → length (scan_of policy asked
+        queue.now.items).freed ≤ freed.new.spare) }
+    ensures left { IfOk result (λ now. now ≡ false → IsLeft status) }
+{
+    if made {
+        return Ok(true);
+    }
+    if matches!(status, LruStatus::Skip | LruStatus::Stop) {
+        return Ok(false);
+    }
+    freed.reserve(most_freed(queue, policy, asked, status))?;
+    Ok(true)
+}
+
+// Meets objects from the head until the budget is spent, none is left or one stops the scan. It has
+// room for what it frees before it changes anything.
+fn go_through(
+    queue: &mut Queue,
+    freed: &mut Log<Object>,
+    policy: Policy,
+    asked: u32,
+) -> Result<Met, Memory>
     requires none_freed { freed.old.items ≡ [] }
-    requires room { min asked (length queue.old.nodes) ≤ freed.old.spare }
-    ensures scanned { scan_of policy asked queue.old.items ≡ record {
+    ensures scanned { IfOk result (λ met. scan_of policy asked queue.old.items ≡ record {
       items = queue.new.items;
       freed = freed.new.items;
-      visits = result.visits;
-      stopped = result.stopped;
-    } }
+      visits = met.visits;
+      stopped = met.stopped;
+    }) }
+    ensures kept { OnErr result (queue.new ≡ queue.old) }
     ensures keys { KeepsKeys queue.old.keys queue.old.items queue.new.keys queue.new.items }
 {
     let mut at = queue.head();
+    let mut roomy = false;
     for met in 0..asked {
         let Some(node) = at else {
-            return Met {
+            return Ok(Met {
                 visits: met,
                 stopped: false,
-            };
+            });
         };
         // The callback may take the object out, or put it at the tail.
         let next = queue.next(node);
-        match isolate(policy, queue.object(node)) {
+        let status = isolate(policy, queue.object(node));
+        roomy = make_room(queue, freed, policy, asked, status, roomy)?;
+        match status {
             LruStatus::Removed => freed.push(queue.free(node)),
             LruStatus::Skip => {}
             LruStatus::Rotate => queue.rotate(node),
             LruStatus::Stop => {
-                return Met {
+                return Ok(Met {
                     visits: met + 1,
                     stopped: true,
-                };
+                });
             }
         }
         at = next;
     }
-    Met {
+    Ok(Met {
         visits: asked,
         stopped: false,
-    }
+    })
 }
 
 impl Queue {
@@ -90,7 +136,7 @@ impl Queue {
     ///
     /// The next object is held before the callback, so a rotated one can be met again while others
     /// follow, and the scan ends after the object that was last when it was met. It costs its
-    /// visits.
+    /// visits, and a count of them before where it begins with a rotation.
     ///
     /// Linux: `__list_lru_walk_one` in mm/list_lru.c.
     pub fn scan(&mut self, policy: Policy, asked: u32) -> Result<Scan, Memory>
@@ -100,8 +146,7 @@ impl Queue {
         ensures keys { KeepsKeys self.old.keys self.old.items self.new.keys self.new.items }
     {
         let mut freed = Log::new(self.names.alloc);
-        freed.reserve((asked as usize).min(self.links.len()))?;
-        let met = go_through(self, &mut freed, policy, asked);
+        let met = go_through(self, &mut freed, policy, asked)?;
         Ok(Scan {
             freed,
             visits: met.visits,

@@ -1,3 +1,4 @@
+use Rattle.std.proofs.Common.{◌≡◌, ◌+◌, ◌≤◌, true, false, [], length}
 use Rattle.shr_model.specs.Scan.{scan_of}
 use Rattle.shr_list.specs.Nodes.{IsWhole, AreKept}
 use Rattle.shr_list.proofs.Scans.{IsScanning}
@@ -6,7 +7,10 @@ use Rattle.shr_list.proofs.queue.scanning.go_through.Given as goal
 abbrev pub invariant-loop-met : goal.invariant-loop-met
 invariant-loop-met l = record {
   whole : IsWhole l.queue;
-  scanning : IsScanning l.policy l.asked l.met l.queue.nodes l.at l.freed.items l.freed.spare (scan_of l.policy l.asked l.fn.queue.items);
+  scanning : IsScanning l.policy l.asked l.met l.queue.nodes l.at l.freed.items (scan_of l.policy l.asked l.fn.queue.items);
   began : IsWhole l.fn.queue;
+  untouched : l.roomy ≡ false → l.queue ≡ l.fn.queue;
+  room : l.roomy ≡ true → length (scan_of l.policy l.asked l.fn.queue.items).freed ≤ length l.freed.items + l.freed.spare;
+  none : l.roomy ≡ false → l.freed.items ≡ [];
   kept : AreKept l.fn.queue.nodes l.queue.nodes;
 }
