@@ -1,16 +1,16 @@
 -- The one order of all that the workers did, of a run whose workers are done.
 use Rattle.std.proofs.Common.{◌≡◌, ◌≢◌, ℕ, zero, suc, ◌+◌, ◌<◌, ◌⊎◌, inl, inr, ⊎_elim, Bool, true, false, cond, List, [], ◌∷◌, ◌++◌, length, sym, refl, ap, subst, ◌∙◌, arith, eq-eqb, ne_eqb}
-use Rattle.std.specs.Prelude.{slice_get, Some, flat_map, ◌==◌}
+use Rattle.std.specs.Prelude.{slice_get, Option, Some, flat_map, ◌==◌}
 use Rattle.std.proofs.lemmas.List.{append-nil}
 use Rattle.std.proofs.lemmas.Option.{same_Some, none-some, slice_get_within}
 use Rattle.shr_base.specs.declared.scripts.CacheDecl.{CacheDecl}
 use Rattle.shr_model.proofs.Members.{Has, map_has, flat_map_has}
 use Rattle.shr_seats.specs.Lines.{Deed, by_seat, part}
-use Rattle.shr_seats.specs.Weights.{Begins}
+use Rattle.shr_seats.specs.Weights.{times, Begins}
 use Rattle.shr_seats.proofs.Weighing.{begins_all, begins_more}
 use Rattle.shr_seats.proofs.Lining.{part-append}
 use Rattle.shr_core.specs.declared.view.View.{View}
-use Rattle.shr_core.specs.Order.{AreEvents}
+use Rattle.shr_core.specs.Order.{AreEvents, last_users, last_moment, ids_of}
 use Rattle.shr_core.specs.Gained.{among, cleared_in}
 use Rattle.shr_core.specs.Parts.{Event, cleared}
 use Rattle.shr_core.specs.Rule.{opener}
@@ -19,14 +19,18 @@ use Rattle.shr_walk.specs.State.{WorkerState}
 use Rattle.shr_worker.specs.Chain.{CrewState}
 use Rattle.shr_tables.specs.declared.ending.Ends.{Ends}
 use Rattle.shr_tables.specs.Opened.{EntersIf, AreEntered, is_on}
+use Rattle.shr_model.specs.Places.{place_number}
 use Rattle.shr_report.specs.declared.report.Report.{Report}
+use Rattle.shr_report.specs.Parts.{journals_of}
 use Rattle.shr_assemble.specs.declared.logs.WorkerLog.{WorkerLog}
 use Rattle.shr_assemble.specs.Ends.{AreEndsOf, at_start, new_worker, with_workers}
 use Rattle.shr_assemble.specs.Makes.{IsMadeOf}
 use Rattle.shr_assemble.specs.Order.{IsInLine, IsOfWorker}
 use Rattle.shr_assemble.specs.Steps.{Step, IsAmong, steps_of, AreChained, state_after}
 use Rattle.shr_assemble.proofs.Crews.{there_at}
-use Rattle.shr_assemble.proofs.EndsSteps.{workers, is_crew}
+use Rattle.shr_assemble.proofs.EndsJournals.{proper}
+use Rattle.shr_assemble.proofs.EndsSteps.{workers, is_crew, fit, is_of}
+use Rattle.shr_assemble.proofs.ScriptSizes.{sized_of}
 use Rattle.shr_assemble.proofs.Gathering.{at_some, mine_at, mine_is}
 use Rattle.shr_assemble.proofs.Joined.{joined_list}
 use Rattle.shr_assemble.proofs.Operations.{among_has, has_among}
@@ -104,6 +108,12 @@ after_did : (t : WorkerState) (mine : List Step) (k : ℕ) (y : Step) → AreCha
 after_did t [] k y c e = absurd (none-some y e)
 after_did t (x ∷ mine) zero y c e = subst (λ (z : Step). Begins z.after.core.did (state_after x.after mine).core.did) (same_Some x y e) (did_along x.after mine c.2)
 after_did t (x ∷ mine) (suc k) y c e = after_did x.after mine k y c.2 e
+
+-- the seat of a worker's steps is the worker's
+first_seat : (t : WorkerState) (mine : List Step) (k : ℕ) (y : Step) → AreChained t mine → slice_get mine k ≡ Some y → y.before.core.seat ≡ t.core.seat
+first_seat t [] k y c e = absurd (none-some y e)
+first_seat t (x ∷ mine) zero y c e = ap (λ (z : Step). z.before.core.seat) (sym (same_Some x y e)) ∙ ap (λ (u : WorkerState). u.core.seat) c.0
+first_seat t (x ∷ mine) (suc k) y c e = first_seat x.after mine k y c.2 e ∙ (c.1.core.seat ∙ ap (λ (u : WorkerState). u.core.seat) c.0)
 
 -- no bit was cleared by these deeds
 abbrev ClearNone : List (Deed Event) → Type 0
@@ -223,11 +233,24 @@ module _ (x : Shared) (did : DidEach x) (logs : List WorkerLog) (e : Ends) (ends
           })
           (done_by (new_worker ends.opened i).seats mine.0 d (subst (λ (u : WorkerState). Has u.core.did d) (sym row.ends) has))
 
-  pub in_line : IsInLine x.script (workers x did logs e ends r made)
+  -- a worker uses no id where one of its steps begins
+  free : (worker k : ℕ) (y : Step) → slice_get (steps_of (workers x did logs e ends r made) worker) k ≡ Some y → (i : ℕ) → times (1 + worker) (last_users y.before.core.did i) ≡ 0
+  free worker k y at i =
+      let f = fit x did logs e ends r made worker k y at in
+      let seat : y.before.core.seat ≡ 1 + worker = first_seat (new_worker ends.opened worker).seats (steps_of (workers x did logs e ends r made) worker) k y ((is_of x did logs e ends r made worker).chained) at in
+      ap (λ (n : ℕ). times n (last_users y.before.core.did i)) (sym seat) ∙ (f.using i ∙ ap (λ (o : Option ℕ). times i (ids_of o)) f.free)
+
+  pub in_line : IsInLine x.script r (workers x did logs e ends r made)
   in_line = record {
     line = ends.core.line;
     events = subst (λ (n : ℕ). AreEvents x.script.ids n ends.core.line) ends.from_start.first (subst (λ (n : ℕ). AreEvents n x.core.setting.first_lookup ends.core.line) ends.shared.ids ends.core.events);
     parts = λ worker k y at. let c = chain_of worker k y at in subst (Begins y.after.core.did) (sym (own_part worker c.0 c.1) ∙ ends.core.parts (1 + worker)) c.2;
     own = ends.core.own;
+    uses = ends.core.uses;
+    free = free;
+    listed = λ place there. let sized = sized_of x ends.shared in let nodes = sized.nodes in let groups = sized.groups in let on = there.node in let in_group = there.group in
+        subst (λ (n : ℕ). (last_moment n ends.core.line).now (place_number place) ≡ journals_of r place) ends.from_start.first
+        (ends.core.ends.journals (place_number place) ∙ sym (proper x ends.shared r (with_workers (at_start ends.opened ends.standing) ends.lasts).core e.core ends.core made.places place (omega (arith, nodes, on)) (omega (arith, groups, in_group))));
+    registered = subst (λ (n : ℕ). (last_moment n ends.core.line).pool ≡ r.pool.items) ends.from_start.first (ends.core.ends.registrations ∙ sym made.pool);
     clearings = clearings;
   }

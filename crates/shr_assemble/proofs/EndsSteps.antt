@@ -25,6 +25,7 @@ use Rattle.shr_assemble.specs.Isolating.{isolated_in, isolated_before, DidIsolat
 use Rattle.shr_assemble.specs.Steps.{Step, AreChained, steps_in, steps_of}
 use Rattle.shr_assemble.specs.Runs.{IsStep, IsNew, IsShownIn, AreSteps, AreIsolating}
 use Rattle.shr_assemble.specs.Sweeps.{IsOfPops, AreSwept, ArePoppedOnce, all_popped}
+use Rattle.shr_assemble.proofs.Fit.{IsFit}
 use Rattle.shr_assemble.proofs.Crews.{IsCrew, crew, there_at}
 use Rattle.shr_assemble.proofs.EndsPlaces.{below_or}
 use Rattle.shr_assemble.proofs.Opening.{known_opened, on_are}
@@ -56,16 +57,17 @@ module _ (x : Shared) (did : DidEach x) (logs : List WorkerLog) (e : Ends) (ends
   is_crew = team.1
 
   -- the steps of one worker
-  record IsOf (worker : ℕ) (mine : List Step) : Type 0 where
+  pub record IsOf (worker : ℕ) (mine : List Step) : Type 0 where
     commands : length mine ≡ length (commands_of x.script worker) + sweeps_of x.script worker
     answers : length (answers_of r worker) ≡ length mine
-    chained : AreChained (new_worker ends.opened worker).seats mine
+    pub chained : AreChained (new_worker ends.opened worker).seats mine
     walks : walks_of r worker ≡ flat_map (λ (y : Step). y.work.walks) mine
     carries : carries_of r worker ≡ flat_map (λ (y : Step). y.work.carries) mine
     each : (k : ℕ) (y : Step) → slice_get mine k ≡ Some y → IsStep x.script r worker k y
     isolations : isolations_of r worker ≡ flat_map isolated_in mine
     by_law : (k : ℕ) (y : Step) → slice_get mine k ≡ Some y → DidIsolations x.script y (isolated_before mine k)
     pops : (k : ℕ) (y : Step) → slice_get mine k ≡ Some y → y.command ≡ None → IsOfPops (ends.popped worker) y.work.walks y.answered.reply
+    fit : (k : ℕ) (y : Step) → slice_get mine k ≡ Some y → IsFit y.before
 
   none_of : (worker : ℕ) → length logs ≤ worker → IsOf worker []
   none_of worker le =
@@ -83,6 +85,7 @@ module _ (x : Shared) (did : DidEach x) (logs : List WorkerLog) (e : Ends) (ends
         isolations = made.isolations worker ∙ ap isolations_in no_log;
         by_law = λ k y h. absurd (none-some y h);
         pops = λ k y h none. absurd (none-some y h);
+        fit = λ k y h. absurd (none-some y h);
       }
 
   some_of : (worker : ℕ) (log : WorkerLog) (last : CrewState) (mine : List Step) → slice_get logs worker ≡ Some log → slice_get ends.lasts worker ≡ Some last → slice_get workers worker ≡ Some mine → IsOf worker mine
@@ -106,9 +109,10 @@ module _ (x : Shared) (did : DidEach x) (logs : List WorkerLog) (e : Ends) (ends
         isolations = made.isolations worker ∙ (ap isolations_in at_log ∙ (worked.isolations ∙ row.recorded));
         by_law = λ k y h. subst (λ (n : ℕ). DidIsolations x.script y n) (let z : 0 + isolated_before mine k ≡ isolated_before mine k = omega arith in z) (row.by_law k y h);
         pops = row.pops;
+        fit = row.fit;
       }
 
-  is_of : (worker : ℕ) → IsOf worker (steps_of workers worker)
+  pub is_of : (worker : ℕ) → IsOf worker (steps_of workers worker)
   is_of worker = ⊎_elim
       (λ lt. let lasts_are = is_crew.lasts_are in let workers_are = is_crew.workers_are in
       let log = there_at logs worker lt in let last = there_at ends.lasts worker (omega (arith, lt, lasts_are)) in let mine = there_at workers worker (omega (arith, lt, workers_are)) in
@@ -144,6 +148,10 @@ module _ (x : Shared) (did : DidEach x) (logs : List WorkerLog) (e : Ends) (ends
     carries = λ worker. (is_of worker).carries;
     shown = shown;
   }
+
+  -- between two commands a worker is fit
+  pub fit : (worker k : ℕ) (y : Step) → slice_get (steps_of workers worker) k ≡ Some y → IsFit y.before
+  fit worker k y h = (is_of worker).fit k y h
 
   pub isolating : AreIsolating x.script r workers
   isolating = record {

@@ -48,7 +48,7 @@ use Rattle.shr_assemble.proofs.Operations.{PairsRec, pairs_rec, op_of, op_by, ri
 use Rattle.shr_assemble.proofs.ClimbsLaw.{climbs}
 use Rattle.shr_assemble.proofs.CutsLaw.{cuts_told}
 use Rattle.shr_assemble.proofs.HandedLaw.{handed}
-use Rattle.shr_assemble.proofs.OneOrderLaw.{in_one_order}
+use Rattle.shr_assemble.proofs.DrainsLaw.{in_one_order}
 use Rattle.shr_assemble.proofs.PoolPast.{pool_past}
 use Rattle.shr_assemble.proofs.TriesLaw.{tries}
 use Rattle.shr_assemble.proofs.WalksRefused.{walks_refused}

@@ -34,6 +34,9 @@ pub mod Spots
 pub mod CountsTold
 pub mod EventsTold
 pub mod OneOrderLaw
+pub mod LineParts
+pub mod InUseLaw
+pub mod DrainsLaw
 pub mod BitsKeptLaw
 pub mod BitsToldLaw
 pub mod EntryCauses

@@ -54,8 +54,8 @@ use Rattle.shr_assemble.proofs.WalksLaw.{walks_are}
 
 module _ (s : Script) (r : Report) (workers : List (List Step)) (run : IsRun s r workers) where
   -- an event is that of what is told
-  abbrev Says : Told → Event → Type 0
-  Says (entry place n) e = (m : Made) × (e ≡ made m) × (m.place ≡ place_number place) × (m.number ≡ n)
+  abbrev pub Says : Told → Event → Type 0
+  Says (entry place n) e = (m : Made) × (e ≡ made m) × (m.place ≡ place_number place) × (m.number ≡ n) × (slice_get (journals_of r place) n ≡ Some m.entry)
   Says (lookup id n) e = (t : Tried) × (e ≡ looked t) × (t.id ≡ id) × (t.number ≡ n)
   Says (turn n) e = (t : Turn) × (e ≡ turned t) × (t.number ≡ n) × (slice_get r.pool.items n ≡ Some t.entry)
   Says (count worker n) e = HasAt (countings_of r worker) n (λ (c : Counting). e ≡ counted (record { place = place_number c.place; len = c.seen.len; version = c.seen.version }))
@@ -96,10 +96,10 @@ module _ (s : Script) (r : Report) (workers : List (List Step)) (run : IsRun s r
 
   -- ---- ranks
   -- the entries of the caches that are `on` stand before all that the workers did
-  abbrev opened : ℕ
+  abbrev pub opened : ℕ
   opened = length (decls_on s)
 
-  abbrev rank : Told → ℕ
+  abbrev pub rank : Told → ℕ
   rank (entry place n) = opened + first_of (is_entry (place_number place) n) run.order.line
   rank (lookup id n) = opened + first_of (is_lookup id n) run.order.line
   rank (turn n) = cond (nat_lt n opened) n (opened + first_of (is_turn n) run.order.line)
@@ -114,19 +114,19 @@ module _ (s : Script) (r : Report) (workers : List (List Step)) (run : IsRun s r
       omega (arith, a, b)
 
   -- where what is told stands among what its worker did in a command
-  record OfStep (x : Told) (worker k : ℕ) : Type 0 where
-    step : Step
-    at : slice_get (steps_of workers worker) k ≡ Some step
-    spot : ℕ
-    from : length step.before.core.did ≤ spot
-    to : spot < length step.after.core.did
-    deed : Deed Event
-    there : get_elem? (mine s r workers run worker) spot ≡ some deed
-    says : Says x deed.act
-    is : rank x ≡ opened + spot_of (1 + worker) run.order.line spot
+  pub record OfStep (x : Told) (worker k : ℕ) : Type 0 where
+    pub step : Step
+    pub at : slice_get (steps_of workers worker) k ≡ Some step
+    pub spot : ℕ
+    pub from : length step.before.core.did ≤ spot
+    pub to : spot < length step.after.core.did
+    pub deed : Deed Event
+    pub there : get_elem? (mine s r workers run worker) spot ≡ some deed
+    pub says : Says x deed.act
+    pub is : rank x ≡ opened + spot_of (1 + worker) run.order.line spot
 
   -- the rank of one whose event stands here
-  abbrev IsRanked : Told → Event → Type 0
+  abbrev pub IsRanked : Told → Event → Type 0
   IsRanked x e = (i : ℕ) (d : Deed Event) → get_elem? run.order.line i ≡ some d → d.act ≡ e → rank x ≡ opened + i
 
   -- an event of a step, by where it stands among the step's
@@ -172,17 +172,17 @@ module _ (s : Script) (r : Report) (workers : List (List Step)) (run : IsRun s r
   step_by worker k x m Closed b at has here may is = absurd (none-some b is)
   step_by worker k x m (Drained by objects) b at has here may is = sym may.own ∙ same_Some by b is
 
-  entry_ranked : (place : Place) (n : ℕ) (m : Made) → m.place ≡ place_number place → m.number ≡ n → IsRanked (entry place n) (made m)
+  pub entry_ranked : (place : Place) (n : ℕ) (m : Made) → m.place ≡ place_number place → m.number ≡ n → IsRanked (entry place n) (made m)
   entry_ranked place n m here number i d at act = ap (λ j. opened + j) (first_is (core.entries (place_number place)) n (is_entry (place_number place) n) (entry_tells (place_number place) n) i
       (d, at, ap (is_entry (place_number place) n) act ∙ and_from (eqb m.place (place_number place)) (eqb m.number n) (eq-eqb m.place (place_number place) here) (eq-eqb m.number n number)))
 
-  record EntryStep (place : Place) (n : ℕ) (e : Entry) : Type 0 where
-    worker : ℕ
-    k : ℕ
-    of : OfStep (entry place n) worker k
-    by : (b : Serial) → entry_by r e ≡ Some b → serial_of worker k ≡ b
+  pub record EntryStep (place : Place) (n : ℕ) (e : Entry) : Type 0 where
+    pub worker : ℕ
+    pub k : ℕ
+    pub of : OfStep (entry place n) worker k
+    pub by : (b : Serial) → entry_by r e ≡ Some b → serial_of worker k ≡ b
 
-  entry_step : (place : Place) (n : ℕ) (e : Entry) → slice_get (journals_of r place) n ≡ Some e → EntryStep place n e
+  pub entry_step : (place : Place) (n : ℕ) (e : Entry) → slice_get (journals_of r place) n ≡ Some e → EntryStep place n e
   entry_step place n e stands =
       let t = maker s r workers run place n e stands in
       let work = (work_of s r workers run t.worker t.k t.step t.at).core in
@@ -197,7 +197,7 @@ module _ (s : Script) (r : Report) (workers : List (List Step)) (run : IsRun s r
       }
 
   -- ---- lookups
-  looked_are : (worker k : ℕ) (x : Step) → slice_get (steps_of workers worker) k ≡ Some x → looked_by r (serial_of worker k) ≡ map number_made x.work.core.attempts
+  pub looked_are : (worker k : ℕ) (x : Step) → slice_get (steps_of workers worker) k ≡ Some x → looked_by r (serial_of worker k) ≡ map number_made x.work.core.attempts
   looked_are worker k x at =
       ap (λ o. flat_map (λ (a : Answered). flat_map numbers_tried (walks_by r (serial_of worker k)) ++ number_found a.found) (option_to_list o)) (answer_is s r workers run worker k x at)
       ∙ (append-nil (flat_map numbers_tried (walks_by r (serial_of worker k)) ++ number_found x.answered.found)
@@ -207,7 +207,7 @@ module _ (s : Script) (r : Report) (workers : List (List Step)) (run : IsRun s r
   looked_none : (by : Serial) → answer_at r by ≡ None → looked_by r by ≡ []
   looked_none by e = ap (λ o. flat_map (λ (a : Answered). flat_map numbers_tried (walks_by r by) ++ number_found a.found) (option_to_list o)) e
 
-  lookup_ranked : (id n : ℕ) (t : Tried) → t.id ≡ id → t.number ≡ n → IsRanked (lookup id n) (looked t)
+  pub lookup_ranked : (id n : ℕ) (t : Tried) → t.id ≡ id → t.number ≡ n → IsRanked (lookup id n) (looked t)
   lookup_ranked id n t own number i d at act = ap (λ j. opened + j) (first_is (core.lookups id) n (is_lookup id n) (lookup_tells id n) i
       (d, at, ap (is_lookup id n) act ∙ and_from (eqb t.id id) (eqb t.number n) (eq-eqb t.id id own) (eq-eqb t.number n number)))
 
@@ -257,13 +257,13 @@ module _ (s : Script) (r : Report) (workers : List (List Step)) (run : IsRun s r
       }
 
   -- ---- the order
-  by_step : (x : Told) (worker k : ℕ) → IsBy r (serial_of worker k) x → OfStep x worker k
+  pub by_step : (x : Told) (worker k : ℕ) → IsBy r (serial_of worker k) x → OfStep x worker k
   by_step (entry place n) worker k h = let t = entry_step place n h.0 h.1 in subst (λ (z : Serial). OfStep (entry place n) z.worker z.command) (t.by (serial_of worker k) h.2) t.of
   by_step (lookup id n) worker k h = lookup_step worker k id n h
   by_step (turn n) worker k h = turn_step worker k n h.0 h.1 h.2
   by_step (count w n) worker k h = let t = count_step w n h.0 h.1 in subst (λ (z : Serial). OfStep (count w n) z.worker z.command) (sym t.by ∙ h.2) t.of
 
-  by_worker : (x y : Told) (worker k later : ℕ) → k < later → IsBy r (serial_of worker k) x → IsBy r (serial_of worker later) y → rank x < rank y
+  pub by_worker : (x y : Told) (worker k later : ℕ) → k < later → IsBy r (serial_of worker k) x → IsBy r (serial_of worker later) y → rank x < rank y
   by_worker x y worker k later lt first second =
       let a = by_step x worker k first in let b = by_step y worker later second in
       let did = begins_length a.step.after.core.did b.step.before.core.did (later_did (run.steps.first worker) (steps_of workers worker) k later a.step b.step (run.steps.chained worker) lt a.at b.at) in
@@ -272,14 +272,14 @@ module _ (s : Script) (r : Report) (workers : List (List Step)) (run : IsRun s r
       omega (arith, up, is_a, is_b)
 
   -- what is told is of the start, or stands in the line
-  record InLine (x : Told) : Type 0 where
-    index : ℕ
-    deed : Deed Event
-    there : get_elem? run.order.line index ≡ some deed
-    says : Says x deed.act
-    is : rank x ≡ opened + index
+  pub record InLine (x : Told) : Type 0 where
+    pub index : ℕ
+    pub deed : Deed Event
+    pub there : get_elem? run.order.line index ≡ some deed
+    pub says : Says x deed.act
+    pub is : rank x ≡ opened + index
 
-  of_line : (x : Told) (worker k : ℕ) → OfStep x worker k → InLine x
+  pub of_line : (x : Told) (worker k : ℕ) → OfStep x worker k → InLine x
   of_line x worker k t = record {
     index = spot_of (1 + worker) run.order.line t.spot;
     deed = t.deed;
@@ -288,10 +288,10 @@ module _ (s : Script) (r : Report) (workers : List (List Step)) (run : IsRun s r
     is = t.is;
   }
 
-  abbrev IsOfStart : Told → Type 0
+  abbrev pub IsOfStart : Told → Type 0
   IsOfStart x = (n : ℕ) × (x ≡ turn n) × (n < opened)
 
-  stands : (x : Told) → IsTold r x → IsOfStart x ⊎ InLine x
+  pub stands : (x : Told) → IsTold r x → IsOfStart x ⊎ InLine x
   stands (entry place n) h = let t = entry_step place n h.0 h.1 in inr (of_line (entry place n) t.worker t.k t.of)
   stands (lookup id n) h = inr (of_line (lookup id n) h.0.worker h.0.command (lookup_step h.0.worker h.0.command id n h.1))
   stands (turn n) h = dite (dec_lt n opened)
@@ -299,7 +299,7 @@ module _ (s : Script) (r : Report) (workers : List (List Step)) (run : IsRun s r
       (λ no. let t = turn_maker s r workers run n h.0 (omega (arith, no)) h.1 in inr (of_line (turn n) t.worker t.k (turn_at t.worker t.k t.step t.at t.made n t.among t.number)))
   stands (count w n) h = let t = count_step w n h.0 h.1 in inr (of_line (count w n) w t.k t.of)
 
-  start_rank : (n : ℕ) → n < opened → rank (turn n) ≡ n
+  pub start_rank : (n : ℕ) → n < opened → rank (turn n) ≡ n
   start_rank n lt = ap (λ b. cond b n (opened + first_of (is_turn n) run.order.line)) (lt-ltb n opened lt)
 
   -- only what is of the start comes before an entry of the start
@@ -313,7 +313,7 @@ module _ (s : Script) (r : Report) (workers : List (List Step)) (run : IsRun s r
   before_start turns (turn k) n low high low' high' lt t u less = let l = t.0 in let h = u.1 in (k, refl, omega (arith, less, l, h))
   before_start turns x n low high low' high' lt t u less = absurd t
 
-  by_numbers : (x y : Told) → IsTold r x → IsTold r y → x ≢ y → (m : Measure) (low high low' high' : ℕ) → TellsOf r m x low high → TellsOf r m y low' high' → low < high' → rank x < rank y
+  pub by_numbers : (x y : Told) → IsTold r x → IsTold r y → x ≢ y → (m : Measure) (low high low' high' : ℕ) → TellsOf r m x low high → TellsOf r m y low' high' → low < high' → rank x < rank y
   by_numbers x y told told' apart m low high low' high' t u less = ⊎_elim
       (λ b. let start = before_start m x b.0 low high low' high' b.2 t (subst (λ z. TellsOf r m z low' high') b.1 u) less in
       let lt = b.2 in let le = start.2 in
@@ -358,7 +358,7 @@ module _ (s : Script) (r : Report) (workers : List (List Step)) (run : IsRun s r
       let of = at_step (lookup l.0 l.1) worker k x at (looked t.0) (kind_spot attempts_in work.did n) here (t.0, refl, own, number) (lookup_ranked l.0 l.1 t.0 own number) in
       record { low = at_less (among attempts_in work.did) n t.0 tried; deed = of.deed; there = of.there; is = of.is }
 
-  looked_rise : (worker k i j : ℕ) (p q : ℕ × ℕ) → i < j → slice_get (looked_by r (serial_of worker k)) i ≡ Some p → slice_get (looked_by r (serial_of worker k)) j ≡ Some q → rank (lookup p.0 p.1) < rank (lookup q.0 q.1)
+  pub looked_rise : (worker k i j : ℕ) (p q : ℕ × ℕ) → i < j → slice_get (looked_by r (serial_of worker k)) i ≡ Some p → slice_get (looked_by r (serial_of worker k)) j ≡ Some q → rank (lookup p.0 p.1) < rank (lookup q.0 q.1)
   looked_rise worker k i j p q lt at_p at_q = ⊎_elim
       (λ x. let did = (work_of s r workers run worker k x.0 x.1).core.did in
       let a = looked_at worker k x.0 x.1 i p at_p in let b = looked_at worker k x.0 x.1 j q at_q in
@@ -367,19 +367,9 @@ module _ (s : Script) (r : Report) (workers : List (List Step)) (run : IsRun s r
       let is_a = a.is in let is_b = b.is in omega (arith, up, is_a, is_b))
       (λ none. absurd (none-some p (ap (λ l. slice_get l i) (sym (looked_none (serial_of worker k) none)) ∙ at_p))) (step_cases s r workers run worker k)
 
-  counted_rise : (worker m n : ℕ) → m < n → n < length (countings_of r worker) → rank (count worker m) < rank (count worker n)
+  pub counted_rise : (worker m n : ℕ) → m < n → n < length (countings_of r worker) → rank (count worker m) < rank (count worker n)
   counted_rise worker m n lt less =
       let told = has_at (countings_of r worker) n less in
       let t : CountAt s r workers run worker n told.0 = count_at s r workers run worker n told.0 told.1 in
       let up = spots_rise (1 + worker) run.order.line (count_spot s r workers run worker m) (count_spot s r workers run worker n) t.deed t.there (kinds_rise seen_in one_seen (acts_of (mine s r workers run worker)) m n lt t.less) in
       omega (arith, up)
-
-  pub in_one_order : IsInOneOrder r
-  in_one_order = record {
-    rank = rank;
-    by_numbers = by_numbers;
-    by_worker = by_worker;
-    looked = λ by i j d lt less. looked_rise by.worker by.command i j (get_or (looked_by r by) i d) (get_or (looked_by r by) j d) lt
-        (slice_get-get_or (looked_by r by) i d (omega (arith, lt, less))) (slice_get-get_or (looked_by r by) j d less);
-    counted = counted_rise;
-  }

@@ -36,6 +36,7 @@ pub record Worked (s : Script) (by : Serial) (c : Command) (a : Answered) (t u :
   pub did : Did s (record { by = by; command = Some c; answered = a; before = t.seats; after = u.seats; work = work })
   pub recorded : u.isolations ≡ t.isolations ++ isolations_told by c a
   pub by_law : DidIsolations s (record { by = by; command = Some c; answered = a; before = t.seats; after = u.seats; work = work }) (length t.isolations)
+  pub free : u.seats.core.claims.held ≡ None
 
 -- a worker's steps: one for each of these commands and answers, by these serials, from the first state to the last
 pub record IsRow (s : Script) (by : ℕ → Serial) (cs : List Command) (said : List Answered) (first last : CrewState) (mine : List Step) : Type 0 where
@@ -46,6 +47,8 @@ pub record IsRow (s : Script) (by : ℕ → Serial) (cs : List Command) (said : 
   pub each : (k : ℕ) (x : Step) → slice_get mine k ≡ Some x → (x.by ≡ by k) × (slice_get cs k ≡ x.command) × (slice_get said k ≡ Some x.answered) × Did s x
   pub recorded : last.isolations ≡ first.isolations ++ flat_map isolated_in mine
   pub by_law : (k : ℕ) (x : Step) → slice_get mine k ≡ Some x → DidIsolations s x (length first.isolations + isolated_before mine k)
+  pub fit : (k : ℕ) (x : Step) → slice_get mine k ≡ Some x → IsFit x.before
+  pub done : IsFit last.seats
 
 pub row : (s : Script) (by : ℕ → Serial) (cs : List Command) (said : List Answered) (t : CrewState) (us : List CrewState) (last : CrewState) → IsFit t.seats → length said ≡ length cs → length us ≡ length said
     → ((k : ℕ) (c : Command) (a : Answered) (v w : CrewState) → IsFit v.seats → slice_get cs k ≡ Some c → slice_get said k ≡ Some a → slice_get (t ∷ us) k ≡ Some v → slice_get (t ∷ us) (suc k) ≡ Some w → Worked s (by k) c a v w)
@@ -60,6 +63,8 @@ row s by [] [] t us last fit same more each end = let is : t ≡ last = same_Som
     each = λ k x e. absurd (none-some x e);
     recorded = ap (λ (u : CrewState). u.isolations) (sym is) ∙ sym (append-nil t.isolations);
     by_law = λ k x e. absurd (none-some x e);
+    fit = λ k x e. absurd (none-some x e);
+    done = subst (λ (u : CrewState). IsFit u.seats) is fit;
   },
 )
 row s by [] (a ∷ said) t us last fit same more each end = absurd (omega (arith, same))
@@ -68,7 +73,7 @@ row s by (c ∷ cs) (a ∷ said) t [] last fit same more each end = absurd (omeg
 row s by (c ∷ cs) (a ∷ said) t (u ∷ us) last fit same more each end =
     let g : Worked s (by 0) c a t u = each 0 c a t u fit refl refl refl refl in
     let x : Step = record { by = by 0; command = Some c; answered = a; before = t.seats; after = u.seats; work = g.work } in
-    let rest = row s (λ k. by (suc k)) cs said u us last (fit_kept t.seats u.seats g.work g.brings fit) (omega (arith, same)) (omega (arith, more)) (λ k d b v w. each (suc k) d b v w) end in (
+    let rest = row s (λ k. by (suc k)) cs said u us last (fit_kept t.seats u.seats g.work g.brings g.free fit) (omega (arith, same)) (omega (arith, more)) (λ k d b v w. each (suc k) d b v w) end in (
       x ∷ rest.0,
       record {
         commands = omega (arith, rest.1.commands);
@@ -78,8 +83,14 @@ row s by (c ∷ cs) (a ∷ said) t (u ∷ us) last fit same more each end =
         each = λ k y e. at x rest.0 rest.1.each g.did refl refl refl k y e;
         recorded = rest.1.recorded ∙ (ap (λ l. l ++ flat_map isolated_in rest.0) g.recorded ∙ append_assoc t.isolations (isolated_in x) (flat_map isolated_in rest.0));
         by_law = λ k y e. at_law x rest.0 (length u.isolations) (ap (λ (l : List Isolation). length l) g.recorded ∙ length-append t.isolations (isolated_in x)) rest.1.by_law g.by_law k y e;
+        fit = λ k y e. at_fit x rest.0 fit rest.1.fit k y e;
+        done = rest.1.done;
       },
     ) where
+      at_fit : (x : Step) (xs : List Step) → IsFit x.before → ((k : ℕ) (y : Step) → slice_get xs k ≡ Some y → IsFit y.before) → (k : ℕ) (y : Step) → slice_get (x ∷ xs) k ≡ Some y → IsFit y.before
+      at_fit x xs one others zero y is = subst (λ (z : Step). IsFit z.before) (same_Some x y is) one
+      at_fit x xs one others (suc k) y is = others k y is
+
       at : (x : Step) (xs : List Step) → ((k : ℕ) (y : Step) → slice_get xs k ≡ Some y → (y.by ≡ by (suc k)) × (slice_get cs k ≡ y.command) × (slice_get said k ≡ Some y.answered) × Did s y)
           → Did s x → (x.by ≡ by 0) → (x.command ≡ Some c) → (x.answered ≡ a) → (k : ℕ) (y : Step) → slice_get (x ∷ xs) k ≡ Some y → (y.by ≡ by k) × (slice_get (c ∷ cs) k ≡ y.command) × (slice_get (a ∷ said) k ≡ Some y.answered) × Did s y
       at x xs others did b d e zero y is = subst (λ (z : Step). (z.by ≡ by 0) × (Some c ≡ z.command) × (Some a ≡ Some z.answered) × Did s z) (same_Some x y is) (b, sym d, ap Some (sym e), did)

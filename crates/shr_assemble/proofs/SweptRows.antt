@@ -24,7 +24,7 @@ use Rattle.shr_assemble.specs.Ends.{HelpsWith, HasWorked, new_worker}
 use Rattle.shr_assemble.specs.Isolating.{isolated_in, isolated_before, DidIsolations}
 use Rattle.shr_assemble.specs.Steps.{Step, AreChained, state_after, Brings}
 use Rattle.shr_assemble.specs.Sweeps.{IsOfPops}
-use Rattle.shr_assemble.proofs.Fit.{fit_new}
+use Rattle.shr_assemble.proofs.Fit.{IsFit, fit_new}
 use Rattle.shr_assemble.proofs.Rows.{IsRow, DidEach, SweptPart, IsThereItem, swept_step, row_of}
 use Rattle.shr_assemble.proofs.WalkingSteps.{slice_cases}
 
@@ -38,6 +38,7 @@ pub record IsWorkerRow (s : Script) (by : ℕ → Serial) (cs : List Command) (s
   pub pops : (k : ℕ) (x : Step) → slice_get mine k ≡ Some x → x.command ≡ None → IsOfPops popped x.work.walks x.answered.reply
   pub recorded : last.isolations ≡ first.isolations ++ flat_map isolated_in mine
   pub by_law : (k : ℕ) (x : Step) → slice_get mine k ≡ Some x → DidIsolations s x (length first.isolations + isolated_before mine k)
+  pub fit : (k : ℕ) (x : Step) → slice_get mine k ≡ Some x → IsFit x.before
 
 -- a step of a command isn't that of a sweep
 no_sweep : (cs : List Command) (k : ℕ) (o : Option Command) → k < length cs → slice_get cs k ≡ o → o ≡ None → ⊥
@@ -60,6 +61,7 @@ module _ (s : Script) (by : ℕ → Serial) (cs : List Command) (popped : List S
     pops = own_pops;
     recorded = row.recorded;
     by_law = row.by_law;
+    fit = row.fit;
   }
 
 chain_more : (t : WorkerState) (mine : List Step) (x : Step) → AreChained t mine → x.before ≡ state_after t mine → Brings x.before x.after x.work → AreChained t (mine ++ x ∷ [])
@@ -127,6 +129,7 @@ module _ (s : Script) (by : ℕ → Serial) (cs : List Command) (popped : List S
         (λ end. subst (λ (y : Step). DidIsolations s y (length first.isolations + isolated_before (mine ++ step ∷ []) k)) end.1
         (λ i told. absurd (none-some i (ap (λ (l : List Isolation). slice_get l 0) told))))
         (at_end k x at);
+    fit = λ k x at. ⊎_elim (λ here. row.fit k x here) (λ end. subst (λ (y : Step). IsFit y.before) end.1 row.done) (at_end k x at);
   }
 
 -- steps of a worker that answered so

@@ -218,7 +218,7 @@ pub record IsRun (s : Script) (r : Report) (workers : List (List Step)) : Type 0
   pub pool : ArePoolAndLookups s r workers
   pub uses : AreUsesAndTree s r workers
   pub deferred : AreDeferred s r workers
-  pub order : IsInLine s workers
+  pub order : IsInLine s r workers
   -- what each worker did at the pools of units, command by command
   pub plain : List (List UnitsStep)
   pub units : AreUnits s r plain

@@ -1,5 +1,5 @@
 -- What each step adds to a view, and what calls add one after another.
-use Rattle.std.proofs.Common.{◌≡◌, ℕ, ◌+◌, List, [], ◌∷◌, ◌++◌, length, sym, refl, ap, ◌∙◌, arith, append_assoc}
+use Rattle.std.proofs.Common.{◌≡◌, ℕ, ◌+◌, ◌%◌, eqb, List, [], ◌∷◌, ◌++◌, length, sym, refl, ap, ◌∙◌, arith, append_assoc}
 use Rattle.std.specs.Prelude.{Option, Some, None}
 use Rattle.std.proofs.lemmas.List.{append-nil, map-append}
 use Rattle.shr_seats.specs.Lines.{Deed, by_seat}
@@ -13,6 +13,7 @@ use Rattle.shr_seats.specs.declared.shape.Shape.{Shape}
 use Rattle.shr_core.specs.Parts.{Content, Event, counted, made, looked, loaded, turned, put_back, raised, cleared, mapped}
 use Rattle.shr_core.specs.Layout.{places_in}
 use Rattle.shr_core.specs.Steps.{in_hand, with_count, with_map, with_set, with_clear, with_taken, with_try, with_given, with_pool_given, with_stored, with_word, with_leave, with_given_up, with_lookup, with_put, puts_of, with_phase, met_in, turn_at, dated_now}
+use Rattle.shr_core.proofs.Uses.{using_still, using_looked, using_put}
 use Rattle.shr_core.specs.Gained.{Gained, nothing, then_gained, Adds, AreKinds, among, seen_in, made_in, attempts_in, loaded_in, turns_in, sets_in, cleared_in, maps_in}
 
 among-append : {A : Type 0} (f : Event → List A) (l m : List Event) → among f (l ++ m) ≡ among f l ++ among f m
@@ -41,6 +42,7 @@ adds_none v = record {
   noted = sym (append-nil _);
   kinds = record { seen = refl; made = refl; attempts = refl; loaded = refl; turns = refl; sets = refl; cleared = refl; maps = refl };
   seat = refl;
+  using = λ h. h;
 }
 
 -- what is noted in two parts is noted as it would be at once
@@ -82,6 +84,7 @@ adds_then u v w g h a b = record {
   noted = noted_then u v w a.did b.did a.seat a.noted b.noted;
   kinds = kinds_then a.did b.did g h a.kinds b.kinds;
   seat = b.seat ∙ a.seat;
+  using = λ h. b.using (a.using h);
 }
 
 -- what is gained with nothing behind it
@@ -112,6 +115,7 @@ of_count v k len version = let n = adds_none v in record {
   noted = refl;
   kinds = record { seen = refl; made = refl; attempts = refl; loaded = refl; turns = refl; sets = refl; cleared = refl; maps = refl };
   seat = refl;
+  using = using_still v (with_count v k len version) (counted (record { place = k; len = len; version = version }) ∷ []) refl refl refl (λ u. refl);
 }
 
 -- a load of a bit word
@@ -136,6 +140,7 @@ of_map v map bits = let n = adds_none v in record {
   noted = refl;
   kinds = record { seen = refl; made = refl; attempts = refl; loaded = refl; turns = refl; sets = refl; cleared = refl; maps = refl };
   seat = refl;
+  using = using_still v (with_map v map bits) (mapped (record { map = map; bits = bits; set = v.marks.sets }) ∷ []) refl refl refl (λ u. refl);
 }
 
 -- what setting a bit adds
@@ -160,6 +165,7 @@ of_set v k = let n = adds_none v in record {
   noted = refl;
   kinds = record { seen = refl; made = refl; attempts = refl; loaded = refl; turns = refl; sets = refl; cleared = refl; maps = refl };
   seat = refl;
+  using = using_still v (with_set v k) (raised k ∷ []) refl refl refl (λ u. refl);
 }
 
 -- what clearing a bit adds
@@ -184,6 +190,7 @@ of_clear v k = let n = adds_none v in record {
   noted = refl;
   kinds = record { seen = refl; made = refl; attempts = refl; loaded = refl; turns = refl; sets = refl; cleared = refl; maps = refl };
   seat = refl;
+  using = using_still v (with_clear v k) (cleared k ∷ []) refl refl refl (λ u. refl);
 }
 
 -- a room was taken, was tried in vain, or was given back
@@ -208,6 +215,7 @@ of_taken v r c = let n = adds_none v in record {
   noted = sym (append-nil _);
   kinds = record { seen = refl; made = refl; attempts = refl; loaded = refl; turns = refl; sets = refl; cleared = refl; maps = refl };
   seat = refl;
+  using = λ h. h;
 }
 
 -- what a try in vain adds
@@ -232,6 +240,7 @@ of_try v k = let n = adds_none v in record {
   noted = sym (append-nil _);
   kinds = record { seen = refl; made = refl; attempts = refl; loaded = refl; turns = refl; sets = refl; cleared = refl; maps = refl };
   seat = refl;
+  using = λ h. h;
 }
 
 -- giving a room back adds nothing
@@ -256,6 +265,7 @@ of_given v k = let n = adds_none v in record {
   noted = sym (append-nil _);
   kinds = record { seen = refl; made = refl; attempts = refl; loaded = refl; turns = refl; sets = refl; cleared = refl; maps = refl };
   seat = refl;
+  using = λ h. h;
 }
 
 -- giving the pool back is counted
@@ -280,6 +290,7 @@ of_pool_given v r grown = let n = adds_none v in record {
   noted = sym (append-nil _);
   kinds = record { seen = refl; made = refl; attempts = refl; loaded = refl; turns = refl; sets = refl; cleared = refl; maps = refl };
   seat = refl;
+  using = λ h. h;
 }
 
 -- the count of one entry more was stored
@@ -304,6 +315,7 @@ of_stored v k e items = let n = adds_none v in record {
   noted = refl;
   kinds = record { seen = refl; made = refl; attempts = refl; loaded = refl; turns = refl; sets = refl; cleared = refl; maps = refl };
   seat = refl;
+  using = using_still v (with_stored v k e items) (made (record { place = k; number = length (in_hand v k).entries; entry = e; items = (in_hand v k).items }) ∷ []) refl refl refl (λ u. refl);
 }
 
 -- a load of a lookup word
@@ -328,6 +340,7 @@ of_word v id word = let n = adds_none v in record {
   noted = refl;
   kinds = record { seen = refl; made = refl; attempts = refl; loaded = refl; turns = refl; sets = refl; cleared = refl; maps = refl };
   seat = refl;
+  using = using_still v (with_word v id word) (loaded (record { id = id; word = word }) ∷ []) refl refl refl (λ u. refl);
 }
 
 -- what the load before a lookup adds
@@ -352,6 +365,7 @@ of_leave v id word = let n = adds_none v in record {
   noted = refl;
   kinds = record { seen = refl; made = refl; attempts = refl; loaded = refl; turns = refl; sets = refl; cleared = refl; maps = refl };
   seat = refl;
+  using = using_still v (with_leave v id word) (loaded (record { id = id; word = word }) ∷ []) refl refl refl (λ u. refl);
 }
 
 -- what giving an id up adds
@@ -376,11 +390,12 @@ of_given_up v id word = let n = adds_none v in record {
   noted = refl;
   kinds = record { seen = refl; made = refl; attempts = refl; loaded = refl; turns = refl; sets = refl; cleared = refl; maps = refl };
   seat = refl;
+  using = using_still v (with_given_up v id word) (loaded (record { id = id; word = word }) ∷ []) refl refl refl (λ u. refl);
 }
 
--- a lookup
-pub of_lookup : (v : View) (id : ℕ) (word : LookupWord) → Adds v (with_lookup v id word) (record nothing { attempts = record { id = id; number = word.lookups; held = met_in word } ∷ [] })
-of_lookup v id word = let n = adds_none v in record {
+-- a lookup of a seat that holds nothing
+pub of_lookup : (v : View) (id : ℕ) (word : LookupWord) → v.claims.held ≡ None → Adds v (with_lookup v id word) (record nothing { attempts = record { id = id; number = word.lookups; held = met_in word } ∷ [] })
+of_lookup v id word free = let n = adds_none v in record {
   made = n.made;
   seen = n.seen;
   tries = n.tries;
@@ -400,6 +415,7 @@ of_lookup v id word = let n = adds_none v in record {
   noted = refl;
   kinds = record { seen = refl; made = refl; attempts = refl; loaded = refl; turns = refl; sets = refl; cleared = refl; maps = refl };
   seat = refl;
+  using = using_looked v (with_lookup v id word) id word.decl word.lookups (eqb (word.phase % 3) 1) free refl refl refl;
 }
 
 no_kinds : (held probe : Option ℕ) → AreKinds (puts_of held probe) nothing
@@ -429,6 +445,7 @@ of_put v = let n = adds_none v in record {
   noted = refl;
   kinds = no_kinds v.claims.held v.claims.probe;
   seat = refl;
+  using = using_put v;
 }
 
 -- a phase step
@@ -453,4 +470,5 @@ of_phase v shape id decl word = let n = adds_none v in record {
   noted = refl;
   kinds = record { seen = refl; made = refl; attempts = refl; loaded = refl; turns = refl; sets = refl; cleared = refl; maps = refl };
   seat = refl;
+  using = using_still v (with_phase shape v id decl word) (turned (record { number = length (in_hand v (places_in shape.ids)).pool; entry = turn_at id decl word }) ∷ []) refl refl refl (λ u. refl);
 }

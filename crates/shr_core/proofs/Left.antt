@@ -115,6 +115,7 @@ module _ (key : Setting) (id : ℕ) (v : View) (closed : Closed) (c : IsClosedOf
     none_else = r.marked.none_else;
     none_shown = r.marked.none_shown id v.marks (at_map marks_of c.last.views id v c.seat);
     own = c.sound.ordered.own;
+    uses = c.sound.ordered.uses;
   }
 
 -- the place of a place's number

@@ -1,7 +1,9 @@
 pub mod Laying
+pub mod Uses
 pub mod Ordering
 pub mod Ranking
 pub mod References
+pub mod InUse
 pub mod Frames
 pub mod Marking
 pub mod Rooming

@@ -194,7 +194,7 @@ looks key n id m i near present may held probe s o deep me fits =
       w,
       keeps,
       tt,
-      on_look key s o id w present o.pool (Each-set (HasOwnEnd o.pool) s.views id w (o.ended id v me) o.ended) i new (ordering.looks_up key.shape.ids key.first_lookup o.now o.pool (bits_in (sizes_of key.shape) s.words) (looks_in s.words) s.views id v me present o.ordered look' w i word near refl refl (ordering.no_refs c.held c.probe held probe) (ordering.one_ref i c.held c.probe (eqb (word.phase % 3) 1) held probe) refl phase (q.looked.decl i near) (ap lookups_of is ∙ f.lookups_is) (ap refs_of is ∙ f.refs_is) (look_else s.words i new inside)) record {
+      on_look key s o id w present o.pool (Each-set (HasOwnEnd o.pool) s.views id w (o.ended id v me) o.ended) i new (ordering.looks_up key.shape.ids key.first_lookup o.now o.pool (bits_in (sizes_of key.shape) s.words) (looks_in s.words) s.views id v me present o.ordered look' w i word near refl refl (ordering.no_refs c.held c.probe held probe) (ordering.one_ref i c.held c.probe (eqb (word.phase % 3) 1) held probe) held refl refl phase (q.looked.decl i near) (ap lookups_of is ∙ f.lookups_is) (ap refs_of is ∙ f.refs_is) (look_else s.words i new inside)) record {
         counted = q.counted;
         roomed = rooms_stay key s o id v me;
         listed = lists_stay key s o id v me;
@@ -308,26 +308,27 @@ phased key n id m i d k present may is-k s o deep me fits =
       w,
       keeps,
       tt,
-      on_look key s o id w present pool' ended-now i new (ordering.phases key.shape.ids key.first_lookup o.now o.pool (bits_in (sizes_of key.shape) s.words) (looks_in s.words) s.views id v me present o.ordered look' w i d word (in_hand v r).pool near refl refl refl in-pool refl (ap lookups_of is ∙ f.lookups_is) (ap refs_of is ∙ f.refs_is) (look_else s.words i new inside) empty) record {
-        counted = q.counted;
-        roomed = rooming.refits (IsRoom key.shape) (locks_in (sizes_of key.shape) s.words) (homes_in (sizes_of key.shape) s.homes) (Keeps key.shape o.now o.after o.pool) (Keeps key.shape o.now o.after pool') (Fits key.shape o.now o.after o.pool) (Fits key.shape o.now o.after pool') (map holding_of s.views) id r v.holding.half v.holding content at-holding may.room
-            (record { entries = λ l. absurd (omega (arith, l)); items = λ l. absurd (omega (arith, l)); most_items = λ l. absurd (omega (arith, l)); most_entries = λ l. absurd (omega (arith, l)); turns = λ _. ap (λ (l : List PoolEntry). l ++ e ∷ []) in-pool })
-            (λ x c ne fit. record { entries = fit.entries; items = fit.items; most_items = fit.most_items; most_entries = fit.most_entries; turns = λ at-pool. absurd (ne at-pool) })
-            (λ x c ne kept. record { fits = record { entries = kept.fits.entries; items = kept.fits.items; most_items = kept.fits.most_items; most_entries = kept.fits.most_entries; turns = λ at-pool. absurd (ne at-pool) }; spare = λ at-pool. absurd (ne at-pool) }) q.roomed;
-        listed = listing.rooms_change key.shape.parents.items o.now o.after (map holding_of s.views) id v.holding w.holding at-holding refl (λ x half h. (omega (arith, h.own, rooming.content_rooms r x content v.holding.hands), omega (arith, h.parent, rooming.content_rooms r (above key.shape.parents.items x) content v.holding.hands))) q.listed;
-        traced = traces_stay key s o id v me;
-        marked = marking.turns key.shape.ids (counts_in (sizes_of key.shape) s.words) (bits_in (sizes_of key.shape) s.words) (phases o.pool) (phases pool') (set (map marks_of s.views) id v.marks)
-            (λ x inside live some-items. dite (ℕ_discrete (id_of x) i)
-            (λ y. let zero : phase_of (id_of x) o.pool % 3 ≡ 0 = omega (arith, live, phase_of_push i o.pool e, turn_here i d word, ap (λ z. phase_of z pool') y, ap (λ z. phase_of z o.pool) y) in
-            absurd (omega (arith, some-items, q.counted.is x inside, ap (λ l. length l) (q.owned.resting x inside zero))))
-            (λ n. omega (arith, live, phase_of_push (id_of x) o.pool e, turn_else i (id_of x) d word n)))
-            (marks_stay key s o id v me);
-        looked = claiming.phases key.shape.ids key.first_lookup (looks_in s.words) look' o.pool cs id i d w.claims.owner w.claims.quiet w.claims.drained c word at near none-held may-now.3 refl refl (ap refs_of is ∙ f.refs_is) (ap lookups_of is ∙ f.lookups_is) (ap phase_in is ∙ f.phase_is) (ap decl_in is ∙ f.decl_is) (look_else s.words i new inside) q.looked;
-        owned = owned-now;
-        turned = subst (λ (l : List PoolEntry). AreTurns key.shape.ids key.shape.decls pool' (set (map turns_of s.views) id (record v.turns { made = v.turns.made ++ record { number = length l; entry = e } ∷ [] }))) (sym in-pool) (turning.makes key.shape.ids key.shape.decls o.pool (map turns_of s.views) id v.turns e (here s.views id v me turns_of) legal q.turned);
-        dated = dating.same key.shape.ids look' pool' (map turns_of s.views) id v.turns w.turns (here s.views id v me turns_of) refl
-            (dating.turns key.shape.ids look' o.pool (map turns_of s.views) i d word (sym (ap lookups_of is ∙ f.lookups_is)) (dating.rises key.shape.ids (looks_in s.words) look' o.pool (map turns_of s.views) i (omega (arith, ap lookups_of is, f.lookups_is)) (look_else s.words i new inside) q.dated));
-        seated = seats_stay key s o id v me;
-      },
+      on_look key s o id w present pool' ended-now i new (ordering.phases key.shape.ids key.first_lookup o.now o.pool (bits_in (sizes_of key.shape) s.words) (looks_in s.words) s.views id v me present o.ordered look' w i d word (in_hand v r).pool near refl refl refl in-pool refl (ap lookups_of is ∙ f.lookups_is) (ap refs_of is ∙ f.refs_is) (look_else s.words i new inside) empty
+          (λ two. ordering.unused key.shape.ids key.first_lookup o.now o.pool (bits_in (sizes_of key.shape) s.words) (looks_in s.words) s.views id v me present o.ordered i (none-held (omega (arith, two, phase))))) record {
+            counted = q.counted;
+            roomed = rooming.refits (IsRoom key.shape) (locks_in (sizes_of key.shape) s.words) (homes_in (sizes_of key.shape) s.homes) (Keeps key.shape o.now o.after o.pool) (Keeps key.shape o.now o.after pool') (Fits key.shape o.now o.after o.pool) (Fits key.shape o.now o.after pool') (map holding_of s.views) id r v.holding.half v.holding content at-holding may.room
+                (record { entries = λ l. absurd (omega (arith, l)); items = λ l. absurd (omega (arith, l)); most_items = λ l. absurd (omega (arith, l)); most_entries = λ l. absurd (omega (arith, l)); turns = λ _. ap (λ (l : List PoolEntry). l ++ e ∷ []) in-pool })
+                (λ x c ne fit. record { entries = fit.entries; items = fit.items; most_items = fit.most_items; most_entries = fit.most_entries; turns = λ at-pool. absurd (ne at-pool) })
+                (λ x c ne kept. record { fits = record { entries = kept.fits.entries; items = kept.fits.items; most_items = kept.fits.most_items; most_entries = kept.fits.most_entries; turns = λ at-pool. absurd (ne at-pool) }; spare = λ at-pool. absurd (ne at-pool) }) q.roomed;
+            listed = listing.rooms_change key.shape.parents.items o.now o.after (map holding_of s.views) id v.holding w.holding at-holding refl (λ x half h. (omega (arith, h.own, rooming.content_rooms r x content v.holding.hands), omega (arith, h.parent, rooming.content_rooms r (above key.shape.parents.items x) content v.holding.hands))) q.listed;
+            traced = traces_stay key s o id v me;
+            marked = marking.turns key.shape.ids (counts_in (sizes_of key.shape) s.words) (bits_in (sizes_of key.shape) s.words) (phases o.pool) (phases pool') (set (map marks_of s.views) id v.marks)
+                (λ x inside live some-items. dite (ℕ_discrete (id_of x) i)
+                (λ y. let zero : phase_of (id_of x) o.pool % 3 ≡ 0 = omega (arith, live, phase_of_push i o.pool e, turn_here i d word, ap (λ z. phase_of z pool') y, ap (λ z. phase_of z o.pool) y) in
+                absurd (omega (arith, some-items, q.counted.is x inside, ap (λ l. length l) (q.owned.resting x inside zero))))
+                (λ n. omega (arith, live, phase_of_push (id_of x) o.pool e, turn_else i (id_of x) d word n)))
+                (marks_stay key s o id v me);
+            looked = claiming.phases key.shape.ids key.first_lookup (looks_in s.words) look' o.pool cs id i d w.claims.owner w.claims.quiet w.claims.drained c word at near none-held may-now.3 refl refl (ap refs_of is ∙ f.refs_is) (ap lookups_of is ∙ f.lookups_is) (ap phase_in is ∙ f.phase_is) (ap decl_in is ∙ f.decl_is) (look_else s.words i new inside) q.looked;
+            owned = owned-now;
+            turned = subst (λ (l : List PoolEntry). AreTurns key.shape.ids key.shape.decls pool' (set (map turns_of s.views) id (record v.turns { made = v.turns.made ++ record { number = length l; entry = e } ∷ [] }))) (sym in-pool) (turning.makes key.shape.ids key.shape.decls o.pool (map turns_of s.views) id v.turns e (here s.views id v me turns_of) legal q.turned);
+            dated = dating.same key.shape.ids look' pool' (map turns_of s.views) id v.turns w.turns (here s.views id v me turns_of) refl
+                (dating.turns key.shape.ids look' o.pool (map turns_of s.views) i d word (sym (ap lookups_of is ∙ f.lookups_is)) (dating.rises key.shape.ids (looks_in s.words) look' o.pool (map turns_of s.views) i (omega (arith, ap lookups_of is, f.lookups_is)) (look_else s.words i new inside) q.dated));
+            seated = seats_stay key s o id v me;
+          },
       (refl, of_pool key s o id i v me near),
     )

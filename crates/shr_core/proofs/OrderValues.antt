@@ -2,11 +2,11 @@
 use Rattle.std.proofs.Common.{Bool, true, cond, sym, subst, arith, eq-eqb, ne_eqb}
 use mathlib.Core.Logic.{dite}
 use native.Mathlib.Decide.{ℕ_discrete}
-use Rattle.std.specs.Prelude.{◌≡◌, ℕ, ◌<◌, List, [], ◌∷◌, ◌++◌, None, refl}
+use Rattle.std.specs.Prelude.{◌≡◌, ℕ, ◌<◌, List, [], ◌∷◌, ◌++◌, Some, None, refl}
 use mathlib.Core.Option.{some}
 use lib.ListN.{get_elem?}
 use Rattle.shr_base.specs.declared.journals.Entry.TheVariants.{Add, Closed, Drained}
-use Rattle.shr_base.specs.declared.journals.PoolEntry.TheVariants.{Unregistered, Idle}
+use Rattle.shr_base.specs.declared.journals.PoolEntry.TheVariants.{Registered, Unregistered, Idle}
 use Rattle.shr_base.specs.declared.places.Serial.{Serial}
 use Rattle.shr_model.specs.Items.{HasJournal, items_from}
 use Rattle.shr_model.specs.Objects.{fresh}
@@ -15,7 +15,7 @@ use Rattle.shr_model.proofs.ItemsLaws.{HasJournal_push, HasJournal_none}
 use Rattle.shr_seats.specs.Lines.{Deed}
 use Rattle.shr_core.specs.Parts.{Event, counted, made, looked, loaded, loaded, turned, put_back, raised, cleared, mapped}
 use Rattle.shr_core.specs.Layout.{id_of}
-use Rattle.shr_core.specs.Order.{AreEvents, AreOwn, last_moment}
+use Rattle.shr_core.specs.Order.{AreEvents, AreOwn, AreInUse, last_moment}
 use Rattle.shr_core.specs.Ranks.{entries, lookups}
 use Rattle.shr_core.proofs.Ranking.{by_numbers}
 use Rattle.shr_core.proofs.References.{given_back}
@@ -89,29 +89,63 @@ module _ (by : Serial) (value : List ℕ) where
   abbrev drain : Event
   drain = made (record { place = 0; number = 1; entry = Drained by 1; items = fresh by 0 [] value ∷ [] })
 
-  -- the id 0 comes to be idle
+  -- the id 0 is registered, is unregistered and comes to be idle
+  abbrev begin : Event
+  begin = turned (record { number = 0; entry = Registered 0 0 0 })
+
+  abbrev end : Event
+  end = turned (record { number = 1; entry = Unregistered 0 0 0 })
+
   abbrev idle : Event
-  idle = turned (record { number = 0; entry = Idle 0 })
+  idle = turned (record { number = 2; entry = Idle 0 })
 
   filled : HasJournal (Add by 0 true [] value ∷ []) (fresh by 0 [] value ∷ [])
   filled = HasJournal_push [] [] (Add by 0 true [] value) (fresh by 0 [] value ∷ []) HasJournal_none refl (λ moved. (refl, refl))
 
-  rests : (k : ℕ) → id_of k ≡ 0 → HasJournal ((last_moment 0 (deed 0 add ∷ deed 0 drain ∷ [])).now k) []
+  rests : (k : ℕ) → id_of k ≡ 0 → HasJournal ((last_moment 0 (deed 0 begin ∷ deed 0 add ∷ deed 0 end ∷ deed 0 drain ∷ [])).now k) []
   rests k own = let F : Bool → Type 0 = λ b. HasJournal (cond b (cond b (Add by 0 true [] value ∷ []) [] ++ Drained by 1 ∷ []) (cond b (Add by 0 true [] value ∷ []) [])) [] in dite (ℕ_discrete k 0)
       (λ e. subst F (sym (eq-eqb k 0 e)) (HasJournal_push (Add by 0 true [] value ∷ []) (fresh by 0 [] value ∷ []) (Drained by 1) [] filled refl (λ moved. (refl, refl))))
       (λ n. subst F (sym (ne_eqb k 0 n)) HasJournal_none)
 
   -- a list that was drained before its id came to be idle
-  drained_first : AreEvents 1 0 (deed 0 add ∷ deed 0 drain ∷ deed 0 idle ∷ [])
-  drained_first = (refl, (refl, ((refl, tt, rests), tt)))
+  drained_first : AreEvents 1 0 (deed 0 begin ∷ deed 0 add ∷ deed 0 end ∷ deed 0 drain ∷ deed 0 idle ∷ [])
+  unfolding phase_of
+  drained_first = ((refl, refl, tt), ((refl, tt), ((refl, refl, tt), ((refl, refl), ((refl, tt, rests), tt)))))
+
+  -- a list that is drained while its id is live
+  drained_early : AreEvents 1 0 (deed 0 begin ∷ deed 0 add ∷ deed 0 drain ∷ []) → ⊥
+  unfolding phase_of
+  drained_early events = absurd (omega (arith, events.1.1.0.1))
 
   leaves_one : HasJournal (Add by 0 true [] value ∷ []) [] → ⊥
   unfolding items_from
   leaves_one h = let e : fresh by 0 [] value ∷ [] ≡ [] = h.1.left in cc
 
   -- an id that comes to be idle with an object on its list
-  not_drained : AreEvents 1 0 (deed 0 add ∷ deed 0 idle ∷ []) → ⊥
-  not_drained events = leaves_one (events.1.0.2 0 refl)
+  not_drained : AreEvents 1 0 (deed 0 begin ∷ deed 0 add ∷ deed 0 end ∷ deed 0 idle ∷ []) → ⊥
+  not_drained events = leaves_one (events.1.1.1.0.2 0 refl)
+
+  -- seat 1 finds the id 0 live
+  abbrev find : Event
+  find = looked (record { id = 0; number = 0; held = Some 0 })
+
+  -- what it does until it gives the id back is done in its use, and the drain and the end after that
+  used_first : AreInUse (deed 1 find ∷ deed 1 add ∷ deed 1 (put_back 0) ∷ deed 0 drain ∷ deed 0 idle ∷ [])
+  used_first = (tt, (omega arith, (tt, (refl, (refl, tt)))))
+
+  -- what it does behind that isn't, nor what another seat does
+  used_late : AreInUse (deed 1 find ∷ deed 1 (put_back 0) ∷ deed 1 add ∷ []) → ⊥
+  used_late uses = absurd (omega (arith, uses.1.1.0))
+
+  used_by_another : AreInUse (deed 1 find ∷ deed 0 add ∷ []) → ⊥
+  used_by_another uses = absurd (omega (arith, uses.1.0))
+
+  -- a drain and an end in the midst of it
+  drained_amid : AreInUse (deed 1 find ∷ deed 0 drain ∷ []) → ⊥
+  drained_amid uses = let e : ◌≡◌ {A = List ℕ} (1 ∷ []) [] = uses.1.0 in cc
+
+  ended_amid : AreInUse (deed 1 find ∷ deed 0 idle ∷ []) → ⊥
+  ended_amid uses = let e : ◌≡◌ {A = List ℕ} (1 ∷ []) [] = uses.1.0 in cc
 
 -- the word of the id 0, which was looked up once and has so many references
 abbrev shows : ℕ → Event

@@ -15,7 +15,7 @@ use Rattle.shr_core.specs.Order.{Moment, at_start, moment_after, moment_next, Is
 use Rattle.shr_core.specs.Ranks.{Measure, entries, lookups, turns, value, EntryTells, Tells}
 
 -- no event takes anything away
-grows : (m : Measure) (t : Moment) (e : Event) → value m t ≤ value m (moment_after t e)
+pub grows : (m : Measure) (t : Moment) (e : Event) → value m t ≤ value m (moment_after t e)
 grows (entries k) t (counted x) = omega arith
 grows (entries k) t (made x) = dite (ℕ_discrete k x.place)
     (λ e. omega (arith, ap (λ b. length (cond b (t.now k ++ x.entry ∷ []) (t.now k))) (eq-eqb k x.place e), length-append (t.now k) (x.entry ∷ [])))
@@ -55,7 +55,7 @@ drawn t i low high (Idle id) at tells = absurd tells
 -- what an event tells is so before it, and after it
 told : (ids : ℕ) (m : Measure) (t : Moment) (e : Event) (low high : ℕ) → IsSo ids t e → Tells m e low high → (value m t ≡ low) × (value m (moment_after t e) ≡ high)
 told ids (entries k) t (counted x) low high is tells = let now : length (t.now k) ≡ x.version = ap (λ (j : ℕ). length (t.now j)) (sym tells.0) ∙ sym is in (now ∙ sym tells.1, now ∙ sym tells.2)
-told ids (entries k) t (made x) low high is tells = let now : length (t.now k) ≡ x.number = ap (λ (j : ℕ). length (t.now j)) (sym tells.0) ∙ sym is in (
+told ids (entries k) t (made x) low high is tells = let now : length (t.now k) ≡ x.number = ap (λ (j : ℕ). length (t.now j)) (sym tells.0) ∙ sym is.0 in (
   now ∙ sym tells.1,
   omega (arith, now, tells.2, ap (λ b. length (cond b (t.now k ++ x.entry ∷ []) (t.now k))) (eq-eqb k x.place (sym tells.0)), length-append (t.now k) (x.entry ∷ [])),
 )

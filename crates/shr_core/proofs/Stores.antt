@@ -10,6 +10,8 @@ use Rattle.shr_base.specs.declared.places.Serial.{Serial}
 use Rattle.shr_base.specs.declared.objects.Object.{Object}
 use Rattle.shr_base.specs.declared.journals.Entry.{Entry}
 use Rattle.shr_base.specs.declared.journals.Entry.TheVariants.{Add, Look, Drop, Pin, Scan, MovedIn, Closed, Drained}
+use Rattle.shr_base.specs.declared.journals.PoolEntry.{PoolEntry}
+use Rattle.shr_model.specs.Pool.{phase_of}
 use Rattle.shr_model.specs.Groups.{IsTree, parent_of, is_child}
 use Rattle.shr_model.specs.Items.{step, IsOutcome, is_closed}
 use Rattle.shr_model.specs.Families.{IsAllowed, MayStand}
@@ -25,6 +27,7 @@ use Rattle.shr_core.specs.Layout.{row_in, counts_in, locks_in, bits_in, looks_in
 use Rattle.shr_seats.specs.Shapes.{sizes_of, groups_in, IsShape}
 use Rattle.shr_core.specs.Rule.{Sound, IsRoom, Fits, Keeps, IsInside, Journals, Histories, items_now, has_room, phases, holding_of, traces_of, marks_of, claims_of, AreTraces, AreOwned}
 use Rattle.shr_core.specs.Steps.{Sat, with_stored, IsLater, in_hand, owed_after, half_after, last_entry, moved_in_hand, IsBacked, MayStore}
+use Rattle.shr_core.specs.Order.{Moment, IsTimely, Holders, last_users, IsMadeInUse}
 use Rattle.shr_core.proofs.Ordering as ordering
 use Rattle.shr_core.proofs.Frames.{here, on_count, lookups_stay, turns_stay, dated_stay, seats_stay, still}
 use Rattle.shr_core.proofs.Births.{IsBornIn}
@@ -115,9 +118,9 @@ childs shape now after v k e hand sh allowed backed c objects is = let a = subst
 -- what each kind of entry says of the splice under way
 unspliced : (shape : Shape) (v : View) (k : ℕ) (e : Entry) → IsBacked shape v k e → (c : ℕ) → v.holding.half ≡ Some c → (k ≢ c) ⊎ (e ≡ Closed)
 unspliced shape v k (Add by birth added key value) b c h = inl (b.2 c h).0
-unspliced shape v k (Look by birth key hit) b c h = inl (b c h).0
-unspliced shape v k (Drop by birth key kind) b c h = inl (b c h).0
-unspliced shape v k (Pin by birth key pinned hit) b c h = inl (b c h).0
+unspliced shape v k (Look by birth key hit) b c h = inl (b.1 c h).0
+unspliced shape v k (Drop by birth key kind) b c h = inl (b.1 c h).0
+unspliced shape v k (Pin by birth key pinned hit) b c h = inl (b.1 c h).0
 unspliced shape v k (Scan worker walk asked policy visits freed stopped) b c h = inl (b.1 c h).0
 unspliced shape v k (MovedIn child objects) b c h = absurd (not_some c v.holding.half b.0 h)
 unspliced shape v k Closed b c h = inr refl
@@ -125,9 +128,9 @@ unspliced shape v k (Drained by objects) b c h = inl (b.2 c h).0
 
 beneath : (shape : Shape) (v : View) (k : ℕ) (e : Entry) → IsBacked shape v k e → (c : ℕ) → v.holding.half ≡ Some c → (e ≡ Closed → ⊥) → k ≢ above shape.parents.items c
 beneath shape v k (Add by birth added key value) b c h n = (b.2 c h).1
-beneath shape v k (Look by birth key hit) b c h n = (b c h).1
-beneath shape v k (Drop by birth key kind) b c h n = (b c h).1
-beneath shape v k (Pin by birth key pinned hit) b c h n = (b c h).1
+beneath shape v k (Look by birth key hit) b c h n = (b.1 c h).1
+beneath shape v k (Drop by birth key kind) b c h n = (b.1 c h).1
+beneath shape v k (Pin by birth key pinned hit) b c h n = (b.1 c h).1
 beneath shape v k (Scan worker walk asked policy visits freed stopped) b c h n = (b.1 c h).1
 beneath shape v k (MovedIn child objects) b c h n = absurd (not_some c v.holding.half b.0 h)
 beneath shape v k Closed b c h n = absurd (n refl)
@@ -142,6 +145,28 @@ born_of shape v k (Scan worker walk asked policy visits freed stopped) b = tt
 born_of shape v k (MovedIn child objects) b = tt
 born_of shape v k Closed b = tt
 born_of shape v k (Drained by objects) b = tt
+
+-- a seat that owns the id drains its list while it is dying
+timely : (shape : Shape) (v : View) (k : ℕ) (e : Entry) (t : Moment) → IsBacked shape v k e → (v.claims.owner ≡ Some (id_of k) → phase_of (id_of k) t.pool % 3 ≡ 2) → IsTimely t (id_of k) e
+timely shape v k (Add by birth added key value) t b dying = tt
+timely shape v k (Look by birth key hit) t b dying = tt
+timely shape v k (Drop by birth key kind) t b dying = tt
+timely shape v k (Pin by birth key pinned hit) t b dying = tt
+timely shape v k (Scan worker walk asked policy visits freed stopped) t b dying = tt
+timely shape v k (MovedIn child objects) t b dying = tt
+timely shape v k Closed t b dying = tt
+timely shape v k (Drained by objects) t b dying = dying b.0
+
+-- an entry stands in the use of its id, and a Drained out of it
+in_use : (shape : Shape) (v : View) (k : ℕ) (e : Entry) (u : Holders) (seat : ℕ) → IsBacked shape v k e → (v.claims.held ≡ Some (id_of k) → 0 < times seat (u (id_of k))) → (v.claims.owner ≡ Some (id_of k) → v.claims.quiet ≡ true → u (id_of k) ≡ []) → IsMadeInUse u seat (id_of k) e
+in_use shape v k (Add by birth added key value) u seat b holds quiet = holds b.0
+in_use shape v k (Look by birth key hit) u seat b holds quiet = holds b.0
+in_use shape v k (Drop by birth key kind) u seat b holds quiet = holds b.0
+in_use shape v k (Pin by birth key pinned hit) u seat b holds quiet = holds b.0
+in_use shape v k (Scan worker walk asked policy visits freed stopped) u seat b holds quiet = holds b.0
+in_use shape v k (MovedIn child objects) u seat b holds quiet = tt
+in_use shape v k Closed u seat b holds quiet = tt
+in_use shape v k (Drained by objects) u seat b holds quiet = quiet b.0 b.1
 
 splices : (shape : Shape) (v : View) (k : ℕ) (e : Entry) → IsBacked shape v k e → listing.Splice k v.holding.half (half_after v.holding.half k e) e
 splices shape v k e b = record {
@@ -213,35 +238,38 @@ stored key n id m k new list may present is-new s o deep me _ =
       w,
       keeps,
       tt,
-      on_count key s o id w present (o.ended id v me) row new now' after' (ordering.makes key.shape.ids key.first_lookup o.now o.pool (bits_in (sizes_of key.shape) s.words) (looks_in s.words) s.views id v me present o.ordered now' w (record { place = k; number = length c.entries; entry = e; items = c.items }) refl refl refl (ap (λ (l : List Entry). length l) held-entries) grown others) record {
-        counted = record {
-          is = λ j inside. dite (ℕ_discrete j k)
-              (λ d. subst (λ (x : ℕ). counts_in (sizes_of key.shape) (set s.words i new) x ≡ length (now' x) * 4294967296 + length (items_now now' after' x)) (sym d) (omega (arith, count-here, is-new, whole, longer, ap (λ (l : List Object). length l) items-here)))
-              (λ ne. omega (arith, count-else j ne, q.counted.is j inside, ap (λ (l : List Entry). length l) (others j ne), ap (λ (l : List Object). length l) (items-else j ne)));
-          items = λ j. dite (ℕ_discrete j k)
-              (λ d. subst (λ (x : ℕ). length (items_now now' after' x) ≤ key.shape.most_items) (sym d) (omega (arith, may.few_items, ap (λ (l : List Object). length l) items-here)))
-              (λ ne. omega (arith, q.counted.items j, ap (λ (l : List Object). length l) (items-else j ne)));
-          entries = λ j. dite (ℕ_discrete j k)
-              (λ d. subst (λ (x : ℕ). length (now' x) ≤ key.shape.most_entries + 1) (sym d) (omega (arith, may.few_entries, whole, longer)))
-              (λ ne. omega (arith, q.counted.entries j, ap (λ (l : List Entry). length l) (others j ne)));
-          placed = λ j some. dite (ℕ_discrete j k) (λ d. subst (IsInside key.shape) (sym d) may.inside) (λ ne. q.counted.placed j (omega (arith, some, ap (λ (l : List Entry). length l) (others j ne))));
-        };
-        roomed = rooming.refits (IsRoom key.shape) (locks_in z s.words) (homes_in z s.homes) (Keeps key.shape now after o.pool) (Keeps key.shape now' after' o.pool) (Fits key.shape now after o.pool) (Fits key.shape now' after' o.pool) (map holding_of s.views) id k (half_after v.holding.half k e) v.holding content at-holding may.room
-            (record { entries = λ l. sym at-k; items = λ l. sym items-here; most_items = fits.most_items; most_entries = fits.most_entries; turns = fits.turns })
-            (λ x d ne fit. record { entries = λ l. fit.entries l ∙ sym (others x ne); items = λ l. fit.items l ∙ sym (items-else x ne); most_items = fit.most_items; most_entries = fit.most_entries; turns = fit.turns })
-            (λ x d ne kept. record { fits = record { entries = λ l. kept.fits.entries l ∙ sym (others x ne); items = λ l. kept.fits.items l ∙ sym (items-else x ne); most_items = kept.fits.most_items; most_entries = kept.fits.most_entries; turns = kept.fits.turns }; spare = kept.spare }) q.roomed;
-        listed = listing.stores key.shape now now' after after' (map holding_of s.views) id k v e list.items (half_after v.holding.half k e) told q.listed w.holding refl (λ r. rooming.content_rooms k r content v.holding.hands);
-        traced = subst (λ (x : List Entry). AreTraces now' after' (set (map traces_of s.views) id (record v.traces { made = v.traces.made ++ record { place = k; number = length x; entry = e; items = c.items } ∷ [] }))) (sym held-entries)
-            (tracing.makes now now' after after' (map traces_of s.views) id k v.traces e c.items (here s.views id v me traces_of) grown others same held-items q.traced);
-        marked = marking.stores ids (counts_in (sizes_of key.shape) s.words) (counts_in (sizes_of key.shape) (set s.words i new)) (bits_in (sizes_of key.shape) s.words) (phases o.pool) (map marks_of s.views) id k v.marks (owed_after k (length c.items) (length list.items) v.marks.owed) (here s.views id v me marks_of) count-else
-            (owes_more k (length c.items) (length list.items) v.marks.owed) (λ g z l. owes_risen k (length c.items) (length list.items) v.marks.owed (omega (arith, old-len, z)) (omega (arith, new-len, l)) g) q.marked;
-        looked = lookups_stay key s o id v me;
-        owned = still s.views id v me claims_of (AreOwned key.shape now' after' o.pool)
-            (owning.stores key.shape now now' after after' o.pool (map claims_of s.views) id k v.claims (here s.views id v me claims_of) may.inside sh.nodes items-else
-            (λ h. (q.looked.held id v.claims (here s.views id v me claims_of) (id_of k) h).busy) why q.owned);
-        turned = turns_stay key s o id v me;
-        dated = dated_stay key s o id v me;
-        seated = seats_stay key s o id v me;
-      },
+      on_count key s o id w present (o.ended id v me) row new now' after' (ordering.makes key.shape.ids key.first_lookup o.now o.pool (bits_in (sizes_of key.shape) s.words) (looks_in s.words) s.views id v me present o.ordered now' w (record { place = k; number = length c.entries; entry = e; items = c.items }) refl refl refl (ap (λ (l : List Entry). length l) held-entries) grown others
+          (λ t pool. timely key.shape v k e t may.backed (λ own. ap (λ (l : List PoolEntry). phase_of (id_of k) l % 3) pool ∙ (q.owned.owner id v.claims (here s.views id v me claims_of) (id_of k) own).dying))
+          (in_use key.shape v k e (last_users o.ordered.line) id may.backed (ordering.uses_it ids key.first_lookup o.now o.pool (bits_in (sizes_of key.shape) s.words) (looks_in s.words) s.views id v me present o.ordered (id_of k))
+          (λ own quiet. ordering.unused ids key.first_lookup o.now o.pool (bits_in (sizes_of key.shape) s.words) (looks_in s.words) s.views id v me present o.ordered (id_of k) ((q.owned.owner id v.claims (here s.views id v me claims_of) (id_of k) own).quiet quiet)))) record {
+            counted = record {
+              is = λ j inside. dite (ℕ_discrete j k)
+                  (λ d. subst (λ (x : ℕ). counts_in (sizes_of key.shape) (set s.words i new) x ≡ length (now' x) * 4294967296 + length (items_now now' after' x)) (sym d) (omega (arith, count-here, is-new, whole, longer, ap (λ (l : List Object). length l) items-here)))
+                  (λ ne. omega (arith, count-else j ne, q.counted.is j inside, ap (λ (l : List Entry). length l) (others j ne), ap (λ (l : List Object). length l) (items-else j ne)));
+              items = λ j. dite (ℕ_discrete j k)
+                  (λ d. subst (λ (x : ℕ). length (items_now now' after' x) ≤ key.shape.most_items) (sym d) (omega (arith, may.few_items, ap (λ (l : List Object). length l) items-here)))
+                  (λ ne. omega (arith, q.counted.items j, ap (λ (l : List Object). length l) (items-else j ne)));
+              entries = λ j. dite (ℕ_discrete j k)
+                  (λ d. subst (λ (x : ℕ). length (now' x) ≤ key.shape.most_entries + 1) (sym d) (omega (arith, may.few_entries, whole, longer)))
+                  (λ ne. omega (arith, q.counted.entries j, ap (λ (l : List Entry). length l) (others j ne)));
+              placed = λ j some. dite (ℕ_discrete j k) (λ d. subst (IsInside key.shape) (sym d) may.inside) (λ ne. q.counted.placed j (omega (arith, some, ap (λ (l : List Entry). length l) (others j ne))));
+            };
+            roomed = rooming.refits (IsRoom key.shape) (locks_in z s.words) (homes_in z s.homes) (Keeps key.shape now after o.pool) (Keeps key.shape now' after' o.pool) (Fits key.shape now after o.pool) (Fits key.shape now' after' o.pool) (map holding_of s.views) id k (half_after v.holding.half k e) v.holding content at-holding may.room
+                (record { entries = λ l. sym at-k; items = λ l. sym items-here; most_items = fits.most_items; most_entries = fits.most_entries; turns = fits.turns })
+                (λ x d ne fit. record { entries = λ l. fit.entries l ∙ sym (others x ne); items = λ l. fit.items l ∙ sym (items-else x ne); most_items = fit.most_items; most_entries = fit.most_entries; turns = fit.turns })
+                (λ x d ne kept. record { fits = record { entries = λ l. kept.fits.entries l ∙ sym (others x ne); items = λ l. kept.fits.items l ∙ sym (items-else x ne); most_items = kept.fits.most_items; most_entries = kept.fits.most_entries; turns = kept.fits.turns }; spare = kept.spare }) q.roomed;
+            listed = listing.stores key.shape now now' after after' (map holding_of s.views) id k v e list.items (half_after v.holding.half k e) told q.listed w.holding refl (λ r. rooming.content_rooms k r content v.holding.hands);
+            traced = subst (λ (x : List Entry). AreTraces now' after' (set (map traces_of s.views) id (record v.traces { made = v.traces.made ++ record { place = k; number = length x; entry = e; items = c.items } ∷ [] }))) (sym held-entries)
+                (tracing.makes now now' after after' (map traces_of s.views) id k v.traces e c.items (here s.views id v me traces_of) grown others same held-items q.traced);
+            marked = marking.stores ids (counts_in (sizes_of key.shape) s.words) (counts_in (sizes_of key.shape) (set s.words i new)) (bits_in (sizes_of key.shape) s.words) (phases o.pool) (map marks_of s.views) id k v.marks (owed_after k (length c.items) (length list.items) v.marks.owed) (here s.views id v me marks_of) count-else
+                (owes_more k (length c.items) (length list.items) v.marks.owed) (λ g z l. owes_risen k (length c.items) (length list.items) v.marks.owed (omega (arith, old-len, z)) (omega (arith, new-len, l)) g) q.marked;
+            looked = lookups_stay key s o id v me;
+            owned = still s.views id v me claims_of (AreOwned key.shape now' after' o.pool)
+                (owning.stores key.shape now now' after after' o.pool (map claims_of s.views) id k v.claims (here s.views id v me claims_of) may.inside sh.nodes items-else
+                (λ h. (q.looked.held id v.claims (here s.views id v me claims_of) (id_of k) h).busy) why q.owned);
+            turned = turns_stay key s o id v me;
+            dated = dated_stay key s o id v me;
+            seated = seats_stay key s o id v me;
+          },
       (refl, λ j x f place. omega (arith, (q.traced.seen id v.traces (here s.views id v me traces_of) j x f).0, ap (λ (y : ℕ). length (o.now y)) place, ap (λ (l : List Entry). length l) held-entries)),
     )

@@ -3,6 +3,7 @@ use Rattle.std.specs.Prelude.{◌≡◌, ℕ, ◌+◌, ◌<◌, List, [], ◌∷
 use Rattle.shr_seats.specs.Weights.{times, Begins}
 use Rattle.shr_core.specs.declared.view.View.{View}
 use Rattle.shr_seats.specs.Lines.{by_seat}
+use Rattle.shr_core.specs.Order.{IsUsing}
 use Rattle.shr_core.specs.Parts.{Made, Counted, Mapped, Tried, Loaded, Turn, Event, counted, made, looked, loaded, turned, put_back, raised, cleared, mapped, no_rooms}
 
 -- The entries of places that were made, the counts seen and the rooms tried in vain; the maps seen,
@@ -166,6 +167,8 @@ pub record Adds (v w : View) (g : Gained) : Type 0 where
   pub noted : w.did ≡ v.did ++ by_seat v.seat did
   pub kinds : AreKinds did g
   pub seat : w.seat ≡ v.seat
+  -- by what it did its seat uses just the id that it holds, if that was so before
+  pub using : IsUsing v → IsUsing w
 
 -- no place is owed that was not owed before
 abbrev pub OwesNoMore : View → View → Type 0

@@ -13,7 +13,7 @@ use Rattle.shr_core.specs.Layout.{places_in, place_at, id_of, group_of, above, m
 use Rattle.shr_core.specs.Lookup.{lookups_of}
 use Rattle.shr_seats.specs.Lines.{Deed, part}
 use Rattle.shr_core.specs.Parts.{Event}
-use Rattle.shr_core.specs.Order.{AreEvents, AreOwn, IsMoment, last_moment}
+use Rattle.shr_core.specs.Order.{AreEvents, AreOwn, AreInUse, IsMoment, last_moment}
 use Rattle.shr_core.specs.Rule.{Journals, Histories, IsInside, IsMade, IsKnown, IsSeen, IsTried, IsLoaded, IsTurn, IsDated, HasOnlyIds, hit, hit_attempt, hit_turn, items_now, family_of}
 use Rattle.shr_seats.specs.Shapes.{groups_in}
 use Rattle.shr_core.specs.Ending.{end_value, ends_below, lookups_below, nodes_below, units_in}
@@ -78,3 +78,5 @@ pub record IsLeft (key : Setting) (v : View) (closed : Closed) : Type 0 where
   pub none_shown : Each (HasOnlyIds key.shape.ids) v.marks.maps
   -- a reference was given back only by the seat that took it
   pub own : AreOwn line
+  -- what was done on the lists of an id was done in its use, and its end after that
+  pub uses : AreInUse line

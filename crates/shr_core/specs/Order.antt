@@ -1,9 +1,10 @@
 -- One order of all that the seats of a core did.
-use Rattle.std.specs.Prelude.{◌≡◌, ℕ, ◌+◌, ◌-◌, ◌<◌, ◌≤◌, false, List, [], ◌∷◌, ◌++◌, length, cond, ◌==◌, if◌then◌else◌, Option, Some, None}
+use Rattle.std.specs.Prelude.{◌≡◌, ℕ, ◌+◌, ◌-◌, ◌%◌, ◌<◌, ◌≤◌, false, List, [], ◌∷◌, ◌++◌, length, cond, ◌==◌, if◌then◌else◌, Option, Some, None}
 use Rattle.std.specs.Int.{bit_at}
 use mathlib.Core.Option.{some}
 use lib.ListN.{get_elem?}
 use Rattle.shr_base.specs.declared.journals.Entry.{Entry}
+use Rattle.shr_base.specs.declared.journals.Entry.TheVariants.{Add, Look, Drop, Pin, Scan, MovedIn, Closed, Drained}
 use Rattle.shr_base.specs.declared.journals.PoolEntry.{PoolEntry}
 use Rattle.shr_base.specs.declared.journals.PoolEntry.TheVariants.{Registered, Unregistered, Idle}
 use Rattle.shr_model.specs.Items.{HasJournal}
@@ -53,13 +54,19 @@ LeavesNothing t (Registered decl id from) = Unit {0}
 LeavesNothing t (Unregistered decl id to) = Unit {0}
 LeavesNothing t (Idle id) = (k : ℕ) → id_of k ≡ id → HasJournal (t.now k) []
 
+-- a list is drained while its id is dying
+abbrev pub IsTimely : Moment → ℕ → Entry → Type 0
+IsTimely t id (Drained by objects) = phase_of id t.pool % 3 ≡ 2
+IsTimely t id e = Unit {0}
+
 -- An event is so at this moment: a count has the version of then, an entry stands next in its
 -- journal, a lookup has the next number of its id and is held where the id is live, and a map has
 -- just the bits of then. A loaded word has the lookups, the phase and the references of then. An
--- entry of the pool stands next in its journal, and at an Idle the lists of the id are empty.
+-- entry of the pool stands next in its journal, and at an Idle the lists of the id are empty. A
+-- Drained stands where the id is dying.
 abbrev pub IsSo : ℕ → Moment → Event → Type 0
 IsSo ids t (counted x) = x.version ≡ length (t.now x.place)
-IsSo ids t (made x) = x.number ≡ length (t.now x.place)
+IsSo ids t (made x) = (x.number ≡ length (t.now x.place)) × IsTimely t (id_of x.place) x.entry
 IsSo ids t (looked x) = (x.number ≡ t.next x.id) × (x.held ≡ (if is_live x.id t.pool then Some (decl_of x.id t.pool) else None))
 IsSo ids t (loaded x) = (x.word.lookups ≡ t.next x.id) × (x.word.phase ≡ phase_of x.id t.pool) × (x.word.refs ≡ t.refs x.id)
 IsSo ids t (turned x) = (x.number ≡ length t.pool) × IsDrawnAt t x.entry × LeavesNothing t x.entry
@@ -130,6 +137,63 @@ AreOwn line = AreSo holders_next (λ h d. IsOwn h d.seat d.act) no_holders line
 abbrev pub last_holders : List (Deed Event) → Holders
 last_holders line = state_after holders_next no_holders line
 
+-- the seat of a lookup that found its id live
+abbrev pub finder : Option ℕ → ℕ → List ℕ
+finder None seat = []
+finder (Some decl) seat = seat ∷ []
+
+-- The seats that use each id: a lookup that finds the id live makes its seat one of them, until the
+-- seat gives its reference back.
+abbrev pub users_after : Holders → ℕ → Event → Holders
+users_after u seat (counted x) = u
+users_after u seat (made x) = u
+users_after u seat (looked x) = λ i. cond (i == x.id) (u i ++ finder x.held seat) (u i)
+users_after u seat (loaded x) = u
+users_after u seat (turned x) = u
+users_after u seat (put_back j) = λ i. cond (i == j) (without seat (u i)) (u i)
+users_after u seat (raised k) = u
+users_after u seat (cleared k) = u
+users_after u seat (mapped x) = u
+
+abbrev pub users_next : Holders → Deed Event → Holders
+users_next u d = users_after u d.seat d.act
+
+-- the seats that use an id after all of the line
+abbrev pub last_users : List (Deed Event) → Holders
+last_users line = state_after users_next no_holders line
+
+-- a tenant and a scan use the id of the list that they act on, and no seat does where one is drained
+abbrev pub IsMadeInUse : Holders → ℕ → ℕ → Entry → Type 0
+IsMadeInUse u seat id (Add by birth added key value) = 0 < times seat (u id)
+IsMadeInUse u seat id (Look by birth key hit) = 0 < times seat (u id)
+IsMadeInUse u seat id (Drop by birth key kind) = 0 < times seat (u id)
+IsMadeInUse u seat id (Pin by birth key pinned hit) = 0 < times seat (u id)
+IsMadeInUse u seat id (Scan worker walk asked policy visits freed stopped) = 0 < times seat (u id)
+IsMadeInUse u seat id (MovedIn child objects) = Unit {0}
+IsMadeInUse u seat id Closed = Unit {0}
+IsMadeInUse u seat id (Drained by objects) = u id ≡ []
+
+-- and none does where an id comes to be idle
+abbrev pub IsOutOfUse : Holders → PoolEntry → Type 0
+IsOutOfUse u (Registered decl id from) = Unit {0}
+IsOutOfUse u (Unregistered decl id to) = Unit {0}
+IsOutOfUse u (Idle id) = u id ≡ []
+
+abbrev pub IsInUse : Holders → ℕ → Event → Type 0
+IsInUse u seat (counted x) = Unit {0}
+IsInUse u seat (made x) = IsMadeInUse u seat (id_of x.place) x.entry
+IsInUse u seat (looked x) = Unit {0}
+IsInUse u seat (loaded x) = Unit {0}
+IsInUse u seat (turned x) = IsOutOfUse u x.entry
+IsInUse u seat (put_back i) = Unit {0}
+IsInUse u seat (raised k) = Unit {0}
+IsInUse u seat (cleared k) = Unit {0}
+IsInUse u seat (mapped x) = Unit {0}
+
+-- what is done on the lists of an id is done in its use, and its end after that
+abbrev pub AreInUse : List (Deed Event) → Type 0
+AreInUse line = AreSo users_next (λ u d. IsInUse u d.seat d.act) no_holders line
+
 -- the id, if there is one
 abbrev pub ids_of : Option ℕ → List ℕ
 ids_of None = []
@@ -138,6 +202,10 @@ ids_of (Some i) = i ∷ []
 -- the ids that a view holds or probes
 abbrev pub references_of : View → List ℕ
 references_of v = ids_of v.claims.held ++ ids_of v.claims.probe
+
+-- by what a view did, its seat uses just the id that the view holds
+abbrev pub IsUsing : View → Type 0
+IsUsing v = (i : ℕ) → times v.seat (last_users v.did i) ≡ times i (ids_of v.claims.held)
 
 -- where a view stands among the seats
 abbrev pub stands_at : View → Standing
@@ -161,3 +229,8 @@ pub record AreOrdered (ids first : ℕ) (now : ℕ → List Entry) (pool : List 
   -- a view's seat has a reference to just what the view holds or probes, and no other seat has one
   pub held : (j : ℕ) (v : View) → get_elem? views j ≡ some v → (i : ℕ) → times j (last_holders line i) ≡ times i (references_of v)
   pub none_else : (j : ℕ) → length views ≤ j → (i : ℕ) → times j (last_holders line i) ≡ 0
+  -- what is done on an id's lists is done in its use
+  pub uses : AreInUse line
+  -- a view's seat uses just the id that the view holds, and no other seat uses one
+  pub users : (j : ℕ) (v : View) → get_elem? views j ≡ some v → (i : ℕ) → times j (last_users line i) ≡ times i (ids_of v.claims.held)
+  pub no_user : (j : ℕ) → length views ≤ j → (i : ℕ) → times j (last_users line i) ≡ 0

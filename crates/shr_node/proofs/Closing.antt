@@ -100,6 +100,7 @@ gains_left u k c p d = subst (λ (w : View). Gains u w [] []) (sym (given_back u
   noted = sym (append-nil u.did);
   kinds = record { seen = refl; made = refl; attempts = refl; loaded = refl; turns = refl; sets = refl; cleared = refl; maps = refl };
   seat = refl;
+  uses = λ u. refl;
 }))
 
 module _ (shape : Shape) (u v : View) (child above : Place) (old old_above : Listed) (tree : IsTree shape.parents.items) (nodes : shape.nodes ≤ 4) (groups : groups_in shape ≤ 256) (r : AreTaken shape u v child above old old_above) where

@@ -9,13 +9,15 @@ use native.Mathlib.Decide.{ℕ_discrete}
 use Rattle.shr_base.specs.declared.objects.Object.{Object}
 use Rattle.shr_base.specs.declared.journals.Entry.{Entry}
 use Rattle.shr_seats.specs.Views.{Each}
-use Rattle.shr_seats.specs.Lines.{by_seat}
+use Rattle.shr_seats.specs.Lines.{by_seat, state_after}
 use Rattle.shr_seats.specs.Weights.{times, without, Begins}
 use Rattle.shr_seats.proofs.Weighing.{begins_all, begins_push, times-without_same, times-without_other, times-push_other, at_begins}
 use Rattle.shr_core.specs.declared.view.View.{View}
 use Rattle.shr_seats.specs.declared.shape.Shape.{Shape}
 use Rattle.shr_core.specs.Gained.{nothing, AreKinds}
+use Rattle.shr_core.specs.Order.{Holders, users_next}
 use Rattle.shr_core.proofs.Gains.{adds_none, adds_then}
+use Rattle.shr_core.proofs.Uses.{using_still}
 use Rattle.shr_core.specs.Parts.{Content, Hand, Made, Known, Counted, Claims, Turns, Event, made as stored_event, raised as raised_event}
 use Rattle.shr_core.specs.Layout.{id_of, node_of, group_of}
 use Rattle.shr_core.specs.Rule.{mark_of}
@@ -41,6 +43,8 @@ pub record IsGained (v w : View) (more : List Made) (bits : List ℕ) : Type 0 w
   pub noted : w.did ≡ v.did ++ by_seat v.seat did
   pub kinds : AreKinds did (record nothing { made = more; sets = bits })
   pub seat : w.seat ≡ v.seat
+  -- none of it is a lookup or a put
+  pub uses : (u : Holders) → state_after users_next u (by_seat v.seat did) ≡ u
 
 pub gains_of : (v w : View) (more : List Made) (bits : List ℕ) → IsGained v w more bits → Gains v w more bits
 gains_of v w more bits g = record {
@@ -64,6 +68,7 @@ gains_of v w more bits g = record {
     noted = g.noted;
     kinds = g.kinds;
     seat = g.seat;
+    using = using_still v w g.did g.seat g.noted (ap (λ (c : Claims). c.held) g.claims) g.uses;
   };
   owed = g.owed;
   holding = g.holding;
@@ -135,6 +140,7 @@ gains_given u k c = subst (λ (w : View). Gains u w [] []) (sym (given (with_tak
   noted = sym (append-nil u.did);
   kinds = record { seen = refl; made = refl; attempts = refl; loaded = refl; turns = refl; sets = refl; cleared = refl; maps = refl };
   seat = refl;
+  uses = λ u. refl;
 }))
 
 -- and its journal is known then
@@ -225,6 +231,7 @@ gains_kept u k c e items whole = subst (λ (w : View). Gains u w (record { place
       noted = append_assoc u.did (record { seat = u.seat; act = stored_event x } ∷ []) (record { seat = u.seat; act = raised_event k } ∷ []);
       kinds = record { seen = refl; made = refl; attempts = refl; loaded = refl; turns = refl; sets = refl; cleared = refl; maps = refl };
       seat = refl;
+      uses = λ u. refl;
     })
     by false raised = gains_of _ _ _ _ (record {
       made = refl;
@@ -244,6 +251,7 @@ gains_kept u k c e items whole = subst (λ (w : View). Gains u w (record { place
       noted = refl;
       kinds = record { seen = refl; made = refl; attempts = refl; loaded = refl; turns = refl; sets = refl; cleared = refl; maps = refl };
       seat = refl;
+      uses = λ u. refl;
     })
 
 -- and its journal is known then

@@ -327,6 +327,7 @@ module _ (shape : Shape) (u v : View) (child above : Room) (filled : Bool) (tree
         noted = append_assoc (u.did ++ (record { seat = u.seat; act = stored_event m } ∷ [])) (record { seat = u.seat; act = stored_event n } ∷ []) (record { seat = u.seat; act = raised_event p } ∷ []) ∙ append_assoc u.did (record { seat = u.seat; act = stored_event m } ∷ []) (record { seat = u.seat; act = stored_event n } ∷ record { seat = u.seat; act = raised_event p } ∷ []);
         kinds = record { seen = refl; made = refl; attempts = refl; loaded = refl; turns = refl; sets = refl; cleared = refl; maps = refl };
         seat = refl;
+        uses = λ u. refl;
       })
       by false is = gains_of _ _ _ _ (record {
         made = append_assoc u.traces.made (m ∷ []) (n ∷ []);
@@ -346,6 +347,7 @@ module _ (shape : Shape) (u v : View) (child above : Room) (filled : Bool) (tree
         noted = append_assoc u.did (record { seat = u.seat; act = stored_event m } ∷ []) (record { seat = u.seat; act = stored_event n } ∷ []);
         kinds = record { seen = refl; made = refl; attempts = refl; loaded = refl; turns = refl; sets = refl; cleared = refl; maps = refl };
         seat = refl;
+        uses = λ u. refl;
       })
 
   -- and the child is known to be closed

@@ -3,6 +3,7 @@ use Rattle.std.proofs.Common.{◌≡◌, ℕ, ◌+◌, ◌<◌, cond, List, [], 
 use Rattle.std.specs.Prelude.{None}
 use Rattle.std.proofs.lemmas.List.{append-nil}
 use Rattle.shr_base.specs.declared.journals.PoolEntry.{PoolEntry}
+use Rattle.shr_seats.specs.Lines.{by_seat, state_after}
 use Rattle.shr_seats.specs.Weights.{Begins}
 use Rattle.shr_seats.proofs.Weighing.{begins_all}
 use Rattle.shr_core.specs.declared.view.View.{View}
@@ -10,11 +11,13 @@ use Rattle.shr_seats.specs.declared.shape.Shape.{Shape}
 use Rattle.shr_core.specs.Gained.{Gained, nothing, then_gained, AreKinds}
 use Rattle.shr_core.specs.Parts.{Content, Holding, Made, no_rooms, Loaded, loaded as loaded_event}
 use Rattle.shr_core.specs.Layout.{places_in}
+use Rattle.shr_core.specs.Order.{Holders, users_next}
 use Rattle.shr_core.specs.Rule.{has_room, pool_content}
 use Rattle.shr_core.specs.Steps.{in_hand, content_in, without_room, with_taken, with_pool_given}
 use Rattle.shr_core.specs.Tells.{HasPool, pool_of}
 use Rattle.shr_core.proofs.Gains.{adds_then, of_taken, of_pool_given}
 use Rattle.shr_core.proofs.Hands.{has_taken}
+use Rattle.shr_core.proofs.Uses.{using_still}
 use Rattle.shr_node.specs.Gains.{Gains}
 use Rattle.shr_registry.specs.Adding.{Brings, Loads, only_pool}
 
@@ -26,6 +29,11 @@ brings_then u v w g h a b = record { words = a.words ++ b.words; adds = adds_the
 loads_kinds : (l : List Loaded) → AreKinds (map (λ x. loaded_event x) l) (record nothing { loaded = l })
 loads_kinds [] = record { seen = refl; made = refl; attempts = refl; loaded = refl; turns = refl; sets = refl; cleared = refl; maps = refl }
 loads_kinds (x ∷ xs) = let k = loads_kinds xs in record { seen = k.seen; made = k.made; attempts = k.attempts; loaded = ap (λ (l : List Loaded). x ∷ l) k.loaded; turns = k.turns; sets = k.sets; cleared = k.cleared; maps = k.maps }
+
+-- and change nothing of what is used
+loads_use : (seat : ℕ) (l : List Loaded) (u : Holders) → state_after users_next u (by_seat seat (map (λ x. loaded_event x) l)) ≡ u
+loads_use seat [] u = refl
+loads_use seat (x ∷ xs) u = loads_use seat xs u
 
 -- words that were loaded
 pub brings_loads : (v w : View) → Loads v w → Brings v w nothing
@@ -51,6 +59,7 @@ brings_loads v w a = record {
     noted = a.loaded.2;
     kinds = loads_kinds a.loaded.0;
     seat = a.seat;
+    using = using_still v w (map (λ x. loaded_event x) a.loaded.0) a.seat a.loaded.2 (ap (λ c. c.held) a.claims) (loads_use v.seat a.loaded.0);
   };
   owed = a.owed;
 }

@@ -27,10 +27,10 @@ pub brings_leave : (u : View) (id : ℕ) (first : LookupWord) → Brings u (with
 brings_leave u id first = record { words = record { id = id; word = first } ∷ []; adds = of_leave u id first; owed = (loads_word u id first).owed }
 
 -- the lookup of a live id
-pub brings_lookup : (u : View) (id : ℕ) (first found : LookupWord) → found.phase % 3 ≡ 1 → Brings u (with_lookup (with_leave u id first) id found) (record nothing { attempts = record { id = id; number = found.lookups; held = Some found.decl } ∷ [] })
-brings_lookup u id first found live = let z : View = with_leave u id first in
+pub brings_lookup : (u : View) (id : ℕ) (first found : LookupWord) → u.claims.held ≡ None → found.phase % 3 ≡ 1 → Brings u (with_lookup (with_leave u id first) id found) (record nothing { attempts = record { id = id; number = found.lookups; held = Some found.decl } ∷ [] })
+brings_lookup u id first found free live = let z : View = with_leave u id first in
     let tried : Bool → List Tried = λ b. record { id = id; number = found.lookups; held = cond b (Some found.decl) None } ∷ [] in
-    let looked : Adds z (with_lookup z id found) (record nothing { attempts = record { id = id; number = found.lookups; held = Some found.decl } ∷ [] }) = subst (λ (l : List Tried). Adds z (with_lookup z id found) (record nothing { attempts = l })) (ap tried (eq-eqb (found.phase % 3) 1 live)) (of_lookup z id found) in
+    let looked : Adds z (with_lookup z id found) (record nothing { attempts = record { id = id; number = found.lookups; held = Some found.decl } ∷ [] }) = subst (λ (l : List Tried). Adds z (with_lookup z id found) (record nothing { attempts = l })) (ap tried (eq-eqb (found.phase % 3) 1 live)) (of_lookup z id found free) in
     brings_then u z (with_lookup z id found) nothing (record nothing { attempts = record { id = id; number = found.lookups; held = Some found.decl } ∷ [] }) (brings_leave u id first) (record { words = []; adds = looked; owed = λ k h. h })
 
 -- words that were loaded change nothing of what is held and owned
@@ -61,7 +61,7 @@ module _ (shape : Shape) (v u w : View) (decl id : ℕ) (a : Loads v u) (has : H
       let z : View = with_lookup (with_leave u id f.first) id f.found in let yes = eq-eqb (f.found.phase % 3) 1 f.live in
       let named : d ≡ decl = m.named ∙ (ap (Rattle.shr_model.specs.Pool.decl_of id) same ∙ live.named) in
       let tried : ℕ → ℕ → Gained = λ x y. record nothing { attempts = record { id = id; number = x; held = Some y } ∷ [] } in
-      let all : Brings v z (tried f.found.lookups f.found.decl) = brings_then v u z nothing (tried f.found.lookups f.found.decl) (brings_loads v u a) (brings_lookup u id f.first f.found f.live) in
+      let all : Brings v z (tried f.found.lookups f.found.decl) = brings_then v u z nothing (tried f.found.lookups f.found.decl) (brings_loads v u a) (brings_lookup u id f.first f.found (free_loads v u a free).held f.live) in
       let numbered : Brings v z (tried number decl) = subst (λ (x : ℕ). Brings v z (tried x decl)) f.drawn (subst (λ (x : ℕ). Brings v z (tried f.found.lookups x)) (f.named ∙ named) all) in
       let held : IsHeldBy z id number decl = record {
         held = ap {B = Option ℕ} (λ b. cond b (Some id) u.claims.held) yes;

@@ -20,6 +20,7 @@ use Rattle.shr_report.specs.declared.report.Report.{Report}
 use Rattle.shr_report.specs.Causes.{IsMadeBy}
 use Rattle.shr_report.specs.Parts.{serial_of, reply_at, journals_of, entry_by}
 use Rattle.shr_report.specs.OneOrder.{Told, entry, lookup, turn, count, Counting, Measure, entries, lookups, turns, looked_by, countings_of, IsTold, IsBy, EntryTells, TellsOf, IsInOneOrder}
+use Rattle.shr_report.proofs.InUseValues.{used, drained, emptied}
 use Rattle.shr_report.proofs.SecondCases.{each_at, each_entry, held_same}
 use Rattle.shr_report.proofs.SecondReport.{kept, report, part, place, by, held, unheld, walk}
 
@@ -143,6 +144,9 @@ in_order = record {
   by_worker = λ x y worker k later less first second. let a = (own_rank worker k x first).1 in let b = (own_rank worker later y second).0 in omega (arith, less, a, b);
   looked = λ by i j d less within. absurd (omega (arith, less, within, few_looked by.worker by.command));
   counted = λ worker m n less within. omega (arith, less);
+  used = used rank (omega arith) (omega arith);
+  drained = drained rank;
+  emptied = emptied rank;
 }
 
 -- ---- reports that are in none

@@ -1,7 +1,8 @@
 -- One order of all that the workers did at the table of the caches, as far as a report tells it.
-use Rattle.std.specs.Prelude.{◌≡◌, ◌≢◌, ℕ, ◌+◌, ◌<◌, List, [], ◌∷◌, ◌++◌, length, map, flat_map, slice_get, Option, Some, None, option_to_list, AllPairs, Contains}
+use Rattle.std.specs.Prelude.{◌≡◌, ◌≢◌, ℕ, ◌+◌, ◌<◌, ◌≤◌, true, List, [], ◌∷◌, ◌++◌, length, map, flat_map, take, slice_get, Option, Some, None, option_to_list, AllPairs, Contains}
 use Rattle.std.specs.Option.{IsSomeAnd}
 use Rattle.shr_base.specs.declared.journals.Entry.{Entry}
+use Rattle.shr_base.specs.declared.journals.Entry.TheVariants.{MovedIn, Closed, Drained}
 use Rattle.shr_base.specs.declared.journals.PoolEntry.{PoolEntry}
 use Rattle.shr_base.specs.declared.journals.PoolEntry.TheVariants.{Registered, Unregistered, Idle}
 use Rattle.shr_base.specs.declared.places.Place.{Place}
@@ -11,6 +12,8 @@ use Rattle.shr_base.specs.declared.replies.Found.{Found}
 use Rattle.shr_base.specs.declared.walks.Attempt.{Attempt}
 use Rattle.shr_base.specs.declared.walks.WalkRecord.{WalkRecord}
 use Rattle.shr_model.specs.Attempts.{Count, number_of, counts_of}
+use Rattle.shr_model.specs.Items.{HasJournal}
+use Rattle.shr_model.specs.Pool.{decl_at, registrations, is_dying}
 use Rattle.shr_model.specs.Walks.{place_in}
 use Rattle.shr_report.specs.declared.report.Report.{Report}
 use Rattle.shr_report.specs.Parts.{serial_of, answer_at, reply_at, walks_of, walks_by, journals_of, entry_by}
@@ -100,6 +103,51 @@ TellsOf r (lookups i) (turn n) low high = HasAt r.pool.items n (EntryTells i low
 TellsOf r turns (turn n) low high = (low ≡ n) × (high ≡ n + 1)
 TellsOf r m x low high = ⊥
 
+-- ---- what is done in the use of an id
+-- a tenant's entry, or a scan
+abbrev pub IsOfUse : Entry → Type 0
+IsOfUse (MovedIn child objects) = ⊥
+IsOfUse Closed = ⊥
+IsOfUse (Drained by objects) = ⊥
+IsOfUse e = Unit {0}
+
+abbrev pub IsDrained : Entry → Type 0
+IsDrained (Drained by objects) = Unit {0}
+IsDrained e = ⊥
+
+-- a list of the id is drained, or the id comes to be idle
+abbrev pub EndsUse : Report → ℕ → Told → Type 0
+EndsUse r id (entry place n) = (place.id ≡ id) × HasAt (journals_of r place) n IsDrained
+EndsUse r id (turn n) = HasAt r.pool.items n (λ (e : PoolEntry). e ≡ Idle id)
+EndsUse r id x = ⊥
+
+-- The entry comes behind a lookup that this command made of its list's id, with a number that lies in a registration. What
+-- ends the use of the id comes before that lookup or behind the entry.
+pub record IsInUse (r : Report) (rank : Told → ℕ) (by : Serial) (place : Place) (n : ℕ) : Type 0 where
+  pub number : ℕ
+  pub looked : Contains (looked_by r by) (place.id, number)
+  pub registered : decl_at number (registrations place.id r.pool.items) ≢ None
+  pub behind : rank (lookup place.id number) < rank (entry place n)
+  pub before : (x : Told) → EndsUse r place.id x → rank (lookup place.id number) < rank x → rank (entry place n) < rank x
+
+-- of so many of a row the first m come before this, and the others behind it
+pub record ComesBehind (rank : Told → ℕ) (row : ℕ → Told) (long m : ℕ) (x : Told) : Type 0 where
+  pub few : m ≤ long
+  pub before : (i : ℕ) → i < m → rank (row i) < rank x
+  pub others : (i : ℕ) → m ≤ i → i < long → rank x < rank (row i)
+
+-- there are so many entries of the journal of registrations before this, by which the id is dying
+pub record IsWhileDying (r : Report) (rank : Told → ℕ) (id : ℕ) (x : Told) : Type 0 where
+  pub turns : ℕ
+  pub behind : ComesBehind rank turn (length r.pool.items) turns x
+  pub dying : is_dying id (take turns r.pool.items) ≡ true
+
+-- there are so many entries of the list at the place before this, which leave nothing
+pub record IsWhileEmpty (r : Report) (rank : Told → ℕ) (place : Place) (x : Told) : Type 0 where
+  pub entries : ℕ
+  pub behind : ComesBehind rank (entry place) (length (journals_of r place)) entries x
+  pub empty : HasJournal (take entries (journals_of r place)) []
+
 -- There is one order of all that is told.
 pub record IsInOneOrder (r : Report) : Type 0 where
   -- where each stands in it
@@ -111,3 +159,8 @@ pub record IsInOneOrder (r : Report) : Type 0 where
   -- a command's lookups in the order in which it made them, and so a worker's counts
   pub looked : (by : Serial) → AllPairs (λ x y. rank (lookup x.0 x.1) < rank (lookup y.0 y.1)) (looked_by r by)
   pub counted : (worker m n : ℕ) → m < n → n < length (countings_of r worker) → rank (count worker m) < rank (count worker n)
+  -- a command's entries on a list, and its scans, are made while it uses the list's id
+  pub used : (place : Place) (n : ℕ) (by : Serial) → HasAt (journals_of r place) n IsOfUse → IsBy r by (entry place n) → IsInUse r rank by place n
+  -- a list is drained while its id is dying, and an id comes to be idle while its lists are empty
+  pub drained : (place : Place) (n : ℕ) → HasAt (journals_of r place) n IsDrained → IsWhileDying r rank place.id (entry place n)
+  pub emptied : (place : Place) (n : ℕ) → HasAt r.pool.items n (λ (e : PoolEntry). e ≡ Idle place.id) → IsWhileEmpty r rank place (turn n)

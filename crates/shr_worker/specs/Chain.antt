@@ -41,12 +41,13 @@ abbrev pub crew_of : Seats → PlainSeat → List Isolation → CrewState
 crew_of s p is = record { seats = state_of s; plain = plain.state_of p; isolations = is }
 
 -- what a command did between two states of its worker, by its answer: at the tables of the caches,
--- at the pools, and what it recorded of an isolation
+-- at the pools, and what it recorded of an isolation; behind it the worker holds no id
 pub record DeedGives (x : Shared) (by : Serial) (c : Command) (a : Answered) (s t : CrewState)
     : Type 0 where
   pub seats : CommandGives x by c a s.seats t.seats
   pub plain : PlainGives x.script by c a s.plain t.plain
   pub recorded : RecordGives x by c a s.seats t.seats s.isolations t.isolations
+  pub free : t.seats.core.claims.held ≡ None
 
 -- The worker's first commands have these answers, in order: there is a state before the first of
 -- them, between each two and after the last, and each led from its state to the next by its answer.
