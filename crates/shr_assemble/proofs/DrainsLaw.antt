@@ -137,7 +137,7 @@ module _ (s : Script) (r : Report) (workers : List (List Step)) (run : IsRun s r
       (λ t. let m = t.says in
       let so = subst (IsSo s.ids (moment t.index)) m.1 (so_at t.index t.deed t.there) in
       let low : length (moment t.index).pool ≡ i = sym so.0 ∙ m.2 in
-      let next = ap (λ (u : Moment). length u.pool) (after_at t.index t.deed t.there ∙ ap (moment_after (moment t.index)) m.1) in
+      let next : length (moment (suc t.index)).pool ≡ length ((moment t.index).pool ++ m.0.entry ∷ []) = ap (λ (u : Moment). length u.pool) (after_at t.index t.deed t.there ∙ ap (moment_after (moment t.index)) m.1) in
       record {
         index = t.index;
         is = t.is;
@@ -185,13 +185,13 @@ module _ (s : Script) (r : Report) (workers : List (List Step)) (run : IsRun s r
         (λ no. let e = entry_of i (omega (arith, lt, long)) in let t = turn_at i e.0 e.1 (omega (arith, no)) in
         dite (dec_lt t.index b)
         (λ less. let there = t.is in omega (arith, less, there, is))
-        (λ more. let up = grown 0 line turns b t.index (omega (arith, more)) in let low = t.low in absurd (omega (arith, up, low, lt))));
+        (λ more. let up : length (moment b).pool ≤ length (moment t.index).pool = grown 0 line turns b t.index (omega (arith, more)) in let low = t.low in absurd (omega (arith, up, low, lt))));
     others = λ i le within. let e = entry_of i within in let t = turn_at i e.0 e.1 (omega (arith, late, le)) in
         dite (dec_lt b t.index)
         (λ less. let there = t.is in omega (arith, less, there, is))
         (λ no. dite (ℕ_discrete t.index b)
         (λ same. absurd (not_both m t.of (sym act ∙ (ap (λ (y : Deed Event). y.act) (some-injective d t.deed (sym at ∙ (ap (get_elem? line) (sym same) ∙ t.there))) ∙ t.act))))
-        (λ n. let up = grown 0 line turns (suc t.index) b (omega (arith, no, n)) in let high = t.high in absurd (omega (arith, up, high, le))));
+        (λ n. let up : length (moment (suc t.index)).pool ≤ length (moment b).pool = grown 0 line turns (suc t.index) b (omega (arith, no, n)) in let high = t.high in absurd (omega (arith, up, high, le))));
   }
 
   pub drained : (place : Place) (n : ℕ) → HasAt (journals_of r place) n IsDrained → IsWhileDying r rank_of place.id (entry place n)
@@ -240,7 +240,7 @@ module _ (s : Script) (r : Report) (workers : List (List Step)) (run : IsRun s r
         (λ t. let m = t.says in
         let so = subst (IsSo s.ids (moment t.index)) m.1 (so_at t.index t.deed t.there) in
         let low : length ((moment t.index).now k) ≡ i = ap (λ (j : ℕ). length ((moment t.index).now j)) (sym m.2) ∙ (sym so.0 ∙ m.3) in
-        let next = ap (λ (u : Moment). length (u.now k)) (after_at t.index t.deed t.there ∙ ap (moment_after (moment t.index)) m.1) in
+        let next : length ((moment (suc t.index)).now k) ≡ length (cond (eqb k m.0.place) ((moment t.index).now k ++ m.0.entry ∷ []) ((moment t.index).now k)) = ap (λ (u : Moment). length (u.now k)) (after_at t.index t.deed t.there ∙ ap (moment_after (moment t.index)) m.1) in
         let one = ap (λ (b : Bool). length (cond b ((moment t.index).now k ++ m.0.entry ∷ []) ((moment t.index).now k))) (eq-eqb k m.0.place (sym m.2)) in
         record {
           index = t.index;
@@ -271,13 +271,13 @@ module _ (s : Script) (r : Report) (workers : List (List Step)) (run : IsRun s r
       before = λ i lt. let e = one_of i (omega (arith, lt, long)) in let p = entry_at i e.0 e.1 in
           dite (dec_lt p.index b)
           (λ less. let there = p.is in omega (arith, less, there, is))
-          (λ more. let up = grown 0 line (entries k) b p.index (omega (arith, more)) in let low = p.low in absurd (omega (arith, up, low, lt)));
+          (λ more. let up : length ((moment b).now k) ≤ length ((moment p.index).now k) = grown 0 line (entries k) b p.index (omega (arith, more)) in let low = p.low in absurd (omega (arith, up, low, lt)));
       others = λ i le within. let e = one_of i within in let p = entry_at i e.0 e.1 in
           dite (dec_lt b p.index)
           (λ less. let there = p.is in omega (arith, less, there, is))
           (λ no. dite (ℕ_discrete p.index b)
           (λ same. absurd (not_both p.of t (sym p.act ∙ (ap (λ (y : Deed Event). y.act) (some-injective p.deed d (sym p.there_is ∙ (ap (get_elem? line) same ∙ at))) ∙ act))))
-          (λ n. let up = grown 0 line (entries k) (suc p.index) b (omega (arith, no, n)) in let high = p.high in absurd (omega (arith, up, high, le))));
+          (λ n. let up : length ((moment (suc p.index)).now k) ≤ length ((moment b).now k) = grown 0 line (entries k) (suc p.index) b (omega (arith, no, n)) in let high = p.high in absurd (omega (arith, up, high, le))));
     }
 
   -- at an Idle the journal of a list leaves nothing

@@ -5,6 +5,8 @@ ghost use Rattle.shr_cache.specs.Dels.{DelGives};
 ghost use Rattle.shr_cache.specs.Gets.{GetGives};
 ghost use Rattle.shr_cache.specs.Pins.{PinGives};
 ghost use Rattle.shr_cache.specs.Puts.{PutGives};
+ghost use Rattle.shr_core.specs.Gained.{OwesNoMore};
+ghost use Rattle.shr_core.specs.Seats.{view_of};
 ghost use Rattle.shr_script.specs.Bounds.{IsObjectWithin};
 ghost use Rattle.shr_script.specs.Content.{content_of};
 ghost use Rattle.shr_walk.specs.Sharing.{IsShared};
@@ -38,6 +40,7 @@ pub fn put<R: Wait>(
     requires within { IsObjectWithin (content_of shared.now.script) group node decl key.now }
     requires rested { IsRested shared.now seats.old }
     ensures rested { IsRested shared.now seats.new }
+    ensures owed { OwesNoMore (view_of seats.old.cache.core) (view_of seats.new.cache.core) }
     ensures puts { PutsNone result (state_of seats.old) (state_of seats.new)
         ⊎ PutGives shared.now by group node decl key.now value.now result
         (state_of seats.old) (state_of seats.new) }
@@ -63,6 +66,7 @@ pub fn get<R: Wait>(
     requires within { IsObjectWithin (content_of shared.now.script) group node decl key.now }
     requires rested { IsRested shared.now seats.old }
     ensures rested { IsRested shared.now seats.new }
+    ensures owed { OwesNoMore (view_of seats.old.cache.core) (view_of seats.new.cache.core) }
     ensures gets { GetGives shared.now by group node decl key.now result
         (state_of seats.old) (state_of seats.new) }
 {
@@ -84,6 +88,7 @@ pub fn del<R: Wait>(
     requires within { IsObjectWithin (content_of shared.now.script) group node decl key.now }
     requires rested { IsRested shared.now seats.old }
     ensures rested { IsRested shared.now seats.new }
+    ensures owed { OwesNoMore (view_of seats.old.cache.core) (view_of seats.new.cache.core) }
     ensures dels { DelGives shared.now by group node decl key.now result
         (state_of seats.old) (state_of seats.new) }
 {
@@ -106,6 +111,7 @@ pub fn set_pin<R: Wait>(
     requires within { IsObjectWithin (content_of shared.now.script) group node decl key.now }
     requires rested { IsRested shared.now seats.old }
     ensures rested { IsRested shared.now seats.new }
+    ensures owed { OwesNoMore (view_of seats.old.cache.core) (view_of seats.new.cache.core) }
     ensures pins { PinGives shared.now by group node decl key.now pinned result
         (state_of seats.old) (state_of seats.new) }
 {
