@@ -1,4 +1,4 @@
-use Rattle.std.proofs.Common.{ℕ, ◌+◌, ◌<◌, List, length, get_or, refl, sym, ap, subst, ◌∙◌, inr, arith}
+use Rattle.std.proofs.Common.{ℕ, ◌+◌, ◌<◌, List, length, get_or, refl, sym, ap, subst, ◌∙◌, inl, inr, arith}
 use Rattle.std.specs.Prelude.{Contains}
 use Rattle.std.proofs.lemmas.List.Elements.{Contains-get_or}
 use Rattle.shr_model.specs.Groups.{IsTree}
@@ -6,8 +6,12 @@ use Rattle.shr_core.specs.Seats.{shape_of}
 use Rattle.shr_walk.specs.declared.walking.Walk.{Walk}
 use Rattle.shr_walk.specs.Balances.{OneGives, IsBalanceCut, all_groups, walk_over}
 use Rattle.shr_walk.specs.State.{state_of}
+use Rattle.shr_walk.proofs.Doing.{does_none}
 use Rattle.shr_walk.proofs.Balancing.{IsBalancedTo, all_few, all_within, balanced_more, balanced_cut}
 use Rattle.shr_walk.proofs.balance.balance.Goals as goal
+
+pub returns-in-Err-clause-balanced : goal.returns-in-Err-clause-balanced
+returns-in-Err-clause-balanced g c = inl (refl, does_none (state_of c.args.seats.now))
 
 pub walk_one-answer-requires-clause-place : goal.walk_one-answer-requires-clause-place
 walk_one-answer-requires-clause-place g c = let inv = c.loop-group.invariant in let x = c.args.shared.now in let i = c.loop-group.group-index in
