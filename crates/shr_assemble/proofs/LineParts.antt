@@ -1,6 +1,7 @@
 -- Where the deeds of one seat stand in a line, read both ways.
 use Rattle.std.proofs.Common.{◌≡◌, ℕ, zero, suc, ◌+◌, ◌<◌, ◌≤◌, inl, inr, Bool, true, false, cond, take, List, [], ◌∷◌, ◌++◌, length, sym, refl, ap, subst, ◌∙◌, arith, eq-eqb}
 use Rattle.std.specs.Prelude.{◌==◌}
+use Rattle.std.proofs.lemmas.Bool.{eqb-true}
 use mathlib.Core.Option.{some, some-injective, some-ne-none}
 use lib.ListN.{get_elem?}
 use Rattle.shr_model.proofs.Members.{Has}
@@ -45,11 +46,11 @@ attempts_has (x ∷ es) (suc i) t e = has_right (attempts_in x) (among attempts_
 -- ---- the deeds of a seat
 pub part_seat : (j : ℕ) (line : List (Deed Event)) (p : ℕ) (d : Deed Event) → get_elem? (part j line) p ≡ some d → d.seat ≡ j
 part_seat j [] p d e = absurd (some-ne-none d (sym e))
-part_seat j (x ∷ xs) p d e = one (x.seat == j) refl p e where
-  one : (b : Bool) → (x.seat == j) ≡ b → (p : ℕ) → get_elem? (cond b (x ∷ part j xs) (part j xs)) p ≡ some d → d.seat ≡ j
-  one true is zero h = ap (λ (y : Deed Event). y.seat) (sym (some-injective x d h)) ∙ grind (arith, is)
-  one true is (suc p) h = part_seat j xs p d h
-  one false is p h = part_seat j xs p d h
+part_seat j (x ∷ xs) p d e = one (x.seat == j) refl p e (λ q h. part_seat j xs q d h) where
+  one : (b : Bool) → (x.seat == j) ≡ b → (p : ℕ) → get_elem? (cond b (x ∷ part j xs) (part j xs)) p ≡ some d → ((q : ℕ) → get_elem? (part j xs) q ≡ some d → d.seat ≡ j) → d.seat ≡ j
+  one true is zero h below = ap (λ (y : Deed Event). y.seat) (sym (some-injective x d h)) ∙ eqb-true x.seat j is
+  one true is (suc p) h below = below p h
+  one false is p h below = below p h
 
 -- a deed of a line is one of its seat's
 pub own_spot : (j : ℕ) (line : List (Deed Event)) (i : ℕ) (d : Deed Event) → get_elem? line i ≡ some d → d.seat ≡ j → (p : ℕ) × (get_elem? (part j line) p ≡ some d) × (spot_of j line p ≡ i)
@@ -66,19 +67,20 @@ own_spot j (x ∷ xs) (suc i) d e own = let t = own_spot j xs i d e own in one (
 -- before a deed of a seat stand just those of its deeds that come before it
 pub part_before : (j : ℕ) (line : List (Deed Event)) (p : ℕ) (d : Deed Event) → get_elem? (part j line) p ≡ some d → part j (take (spot_of j line p) line) ≡ take p (part j line)
 part_before j [] p d e = absurd (some-ne-none d (sym e))
-part_before j (x ∷ xs) zero d e = one (x.seat == j) refl where
-  one : (b : Bool) → (x.seat == j) ≡ b → part j (take (cond (x.seat == j) 0 (suc (spot_of j xs zero))) (x ∷ xs)) ≡ take zero (part j (x ∷ xs))
-  one true is = ap (λ (b : Bool). part j (take (cond b 0 (suc (spot_of j xs zero))) (x ∷ xs))) is
-  one false is = ap (λ (b : Bool). part j (take (cond b 0 (suc (spot_of j xs zero))) (x ∷ xs))) is
+part_before j (x ∷ xs) zero d e = one (x.seat == j) refl (λ h. part_before j xs zero d h) where
+  one : (b : Bool) → (x.seat == j) ≡ b → (get_elem? (part j xs) zero ≡ some d → part j (take (spot_of j xs zero) xs) ≡ take zero (part j xs)) → part j (take (cond (x.seat == j) 0 (suc (spot_of j xs zero))) (x ∷ xs)) ≡ take zero (part j (x ∷ xs))
+  one true is below = ap (λ (b : Bool). part j (take (cond b 0 (suc (spot_of j xs zero))) (x ∷ xs))) is
+  one false is below = ap (λ (b : Bool). part j (take (cond b 0 (suc (spot_of j xs zero))) (x ∷ xs))) is
       ∙ (ap (λ (b : Bool). cond b (x ∷ part j (take (spot_of j xs zero) xs)) (part j (take (spot_of j xs zero) xs))) is
-      ∙ part_before j xs zero d (sym (ap (λ (b : Bool). get_elem? (cond b (x ∷ part j xs) (part j xs)) zero) is) ∙ e))
-part_before j (x ∷ xs) (suc p) d e = one (x.seat == j) refl where
-  one : (b : Bool) → (x.seat == j) ≡ b → part j (x ∷ take (spot_of j xs (cond (x.seat == j) p (suc p))) xs) ≡ take (suc p) (part j (x ∷ xs))
-  one true is = ap (λ (b : Bool). part j (x ∷ take (spot_of j xs (cond b p (suc p))) xs)) is
+      ∙ below (sym (ap (λ (b : Bool). get_elem? (cond b (x ∷ part j xs) (part j xs)) zero) is) ∙ e))
+part_before j (x ∷ xs) (suc p) d e = one (x.seat == j) refl (λ h. part_before j xs p d h) (λ h. part_before j xs (suc p) d h) where
+  one : (b : Bool) → (x.seat == j) ≡ b → (get_elem? (part j xs) p ≡ some d → part j (take (spot_of j xs p) xs) ≡ take p (part j xs)) → (get_elem? (part j xs) (suc p) ≡ some d → part j (take (spot_of j xs (suc p)) xs) ≡ take (suc p) (part j xs))
+      → part j (x ∷ take (spot_of j xs (cond (x.seat == j) p (suc p))) xs) ≡ take (suc p) (part j (x ∷ xs))
+  one true is here below = ap (λ (b : Bool). part j (x ∷ take (spot_of j xs (cond b p (suc p))) xs)) is
       ∙ (ap (λ (b : Bool). cond b (x ∷ part j (take (spot_of j xs p) xs)) (part j (take (spot_of j xs p) xs))) is
-      ∙ (ap (λ (l : List (Deed Event)). x ∷ l) (part_before j xs p d (sym (ap (λ (b : Bool). get_elem? (cond b (x ∷ part j xs) (part j xs)) (suc p)) is) ∙ e))
+      ∙ (ap (λ (l : List (Deed Event)). x ∷ l) (here (sym (ap (λ (b : Bool). get_elem? (cond b (x ∷ part j xs) (part j xs)) (suc p)) is) ∙ e))
       ∙ sym (ap (λ (b : Bool). take (suc p) (cond b (x ∷ part j xs) (part j xs))) is)))
-  one false is = ap (λ (b : Bool). part j (x ∷ take (spot_of j xs (cond b p (suc p))) xs)) is
+  one false is here below = ap (λ (b : Bool). part j (x ∷ take (spot_of j xs (cond b p (suc p))) xs)) is
       ∙ (ap (λ (b : Bool). cond b (x ∷ part j (take (spot_of j xs (suc p)) xs)) (part j (take (spot_of j xs (suc p)) xs))) is
-      ∙ (part_before j xs (suc p) d (sym (ap (λ (b : Bool). get_elem? (cond b (x ∷ part j xs) (part j xs)) (suc p)) is) ∙ e)
+      ∙ (below (sym (ap (λ (b : Bool). get_elem? (cond b (x ∷ part j xs) (part j xs)) (suc p)) is) ∙ e)
       ∙ sym (ap (λ (b : Bool). take (suc p) (cond b (x ∷ part j xs) (part j xs))) is)))

@@ -192,7 +192,7 @@ module _ (s : Script) (r : Report) (workers : List (List Step)) (run : IsRun s r
         worker = t.worker;
         k = t.k;
         of = of_step (entry place n) t.worker t.k t.step t.at (made t.made) (has_made work.did t.made (subst (λ (l : List Made). Has l t.made) (sym work.kinds.made) (among_has t.step.work.core.made t.made t.among)))
-            (t.made, refl, here, t.number) (entry_ranked place n t.made here t.number);
+            (t.made, refl, here, t.number, stands ∙ ap Some (sym t.entry)) (entry_ranked place n t.made here t.number);
         by = λ b is. sym (run.steps.each t.worker t.k t.step t.at).by ∙ step_by t.worker t.k t.step t.made e b t.at t.among t.entry (subst (MayMake s t.step t.made) t.entry may) is;
       }
 
