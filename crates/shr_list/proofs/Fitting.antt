@@ -4,10 +4,7 @@ use Rattle.std.proofs.lemmas.Bool.{eqb-true, eq-eqb, cases_Bool, cases_eq}
 use Rattle.std.specs.Prelude.{IsSome, bytes_eq, option_map, if◌then◌else◌}
 use Rattle.std.specs.Prelude.{Result, Ok, Err, OnErr}
 use Rattle.std.specs.Cmp.Lexicographic.{bytes_decides}
-use Rattle.std.specs.Ordering.{nat_cmp}
-use Rattle.std.specs.BTreeMap.{UpdatesBy}
-use Rattle.std.proofs.lemmas.Map.Lookups.{exact_unsigned}
-use Rattle.shr_list.proofs.Indexes.{not_equal}
+use Rattle.shr_list.specs.Prints.{Sets, HasNone}
 use Rattle.shr_list.specs.declared.queue.names.Names.{Names}
 use Rattle.shr_list.specs.Clashes.{found_clash, AddsClash, IsSameClashes, PutsClash}
 use Rattle.shr_list.specs.Names.{Name, is_same, print_of, entry_at, owned, Owns, Found, Fits, Puts, Keeps, GainsName, Turns}
@@ -196,10 +193,10 @@ fits_entry old new name place found after fits alone only entry entries clashes 
 
 -- the entry of a print is this now, or none, and the others are as before
 abbrev pub SetsEntry : Names → Names → ℕ → Option ℕ → Type 0
-SetsEntry old new print place = UpdatesBy nat_cmp (nat_cmp print) old.prints new.prints place
+SetsEntry old new print place = Sets old.prints new.prints print place
 
 entries_apart : (old new : Names) (print : ℕ) (place : Option ℕ) → SetsEntry old new print place → (p : ℕ) → p ≢ print → entry_at new p ≡ entry_at old p
-entries_apart old new print place sets p ne = sets.2 p (not_equal (nat_cmp print p) (λ e. ne (sym (exact_unsigned print p e))))
+entries_apart old new print place sets p ne = sets.others p ne
 
 -- where there is an error
 pub on_err : {T E : Type 0} (r : Result T E) (P : Type 0) → P → OnErr r P
@@ -211,7 +208,7 @@ pub gains_entry : (old new : Names) (name : Name) (node : ℕ) → entry_at old 
     → IsSameClashes old.clashes new.clashes → GainsName old new name node
 gains_entry old new name node free sets clashes found after fits none puts =
     let owner = vacant_owner old found fits (print_of name.0 name.1) free in
-    fits_entry old new name (Some node) found after fits (sym (vacant_finds old found fits name free) ∙ none) (λ n is. let both = sym owner ∙ is in absurd (cc)) sets.1
+    fits_entry old new name (Some node) found after fits (sym (vacant_finds old found fits name free) ∙ none) (λ n is. let both = sym owner ∙ is in absurd (cc)) sets.here
     (entries_apart old new (print_of name.0 name.1) (Some node) sets) clashes puts
 
 -- a new name that comes to the clashes
@@ -239,15 +236,15 @@ turns_clash old new name place some entries clashes found after fits there puts 
 pub turns_entry : (old new : Names) (name : Name) (place : Option ℕ) → found_clash old.clashes name ≡ None → SetsEntry old new (print_of name.0 name.1) place
     → IsSameClashes old.clashes new.clashes → Turns old new name place
 turns_entry old new name place alone sets clashes found after fits there puts =
-    fits_entry old new name place found after fits alone (owner_is old found fits name there alone) sets.1
+    fits_entry old new name place found after fits alone (owner_is old found fits name there alone) sets.here
     (entries_apart old new (print_of name.0 name.1) place sets) clashes puts
 
 -- an index without entries finds nothing
-pub fits_none : (names : Names) → names.prints.entries ≡ [] → ((name : Name) → found_clash names.clashes name ≡ None) → Fits names (λ (name : Name). None)
+pub fits_none : (names : Names) → HasNone names.prints → ((name : Name) → found_clash names.clashes name ≡ None) → Fits names (λ (name : Name). None)
 fits_none names none clashes =
     record {
       owner = λ (print : ℕ). None;
-      vacant = λ print is. rw none refl;
+      vacant = λ print is. none print;
       taken = λ print name is. absurd (let e : None ≡ Some name = is in cc);
       finds = λ name. sym (clashes name);
     }

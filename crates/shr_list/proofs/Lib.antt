@@ -7,6 +7,8 @@ pub mod Linked
 pub mod Emptied
 pub mod Rested
 pub mod Indexes
+pub mod Tables
+pub mod Moving
 pub mod Fitting
 pub mod Indexed
 pub mod Lookups

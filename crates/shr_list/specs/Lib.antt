@@ -3,6 +3,7 @@ pub mod Nodes
 pub mod Links
 pub mod Twins
 pub mod Clashes
+pub mod Prints
 pub mod Names
 pub mod Boxes
 pub mod Scanning

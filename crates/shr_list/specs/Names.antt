@@ -1,11 +1,10 @@
 -- The index of a list. No public clause cites this module.
-use Rattle.std.specs.Prelude.{◌≡◌, ◌+◌, ◌%◌, ◌^◌, ℕ, Bool, true, false, List, ◌++◌, map, Option, Some, None, IsSome, if◌then◌else◌}
+use Rattle.std.specs.Prelude.{◌≡◌, ◌+◌, ◌%◌, ◌^◌, max, ℕ, Bool, true, false, List, ◌++◌, map, Option, Some, None, IsSome, if◌then◌else◌}
 use Rattle.std.specs.List.{AllByRecursion}
-use Rattle.std.specs.Ordering.{nat_cmp}
 use Rattle.std.specs.Hash.FoldHasher.{initial, write, finish}
-use Rattle.std.specs.BTreeMap.{get}
 use Rattle.shr_base.specs.declared.objects.Object.{Object}
 use Rattle.shr_list.specs.declared.queue.names.Names.{Names}
+use Rattle.shr_list.specs.Prints.{node_at}
 use Rattle.shr_list.specs.Nodes.{Keyed, IsApart, key_named, objects_of}
 pub use Rattle.shr_list.specs.Clashes.{Name, Found, Puts, is_same}
 use Rattle.shr_list.specs.Clashes.{found_clash}
@@ -18,13 +17,13 @@ name_by o = (o.birth, o.key)
 abbrev pub name_in : Keyed → Name
 name_in n = name_by n.1
 
--- the print of a name
+-- the print of a name, none of which is below 2
 unfoldable pub print_of : ℕ → List ℕ → ℕ
-print_of birth key = (finish (write initial key) + birth) % 2 ^ 64
+print_of birth key = max 2 ((finish (write initial key) + birth) % 2 ^ 64 % 2 ^ 32)
 
 -- the node under a print
 abbrev pub entry_at : Names → ℕ → Option ℕ
-entry_at names print = get nat_cmp names.prints print
+entry_at names print = node_at names.prints print
 
 -- a name's node, where the entry of its print is this owner's: that entry if it is the owner, else
 -- what the clashes have

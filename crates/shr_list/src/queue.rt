@@ -23,6 +23,7 @@ mod chain;
 mod clashes;
 mod links;
 mod names;
+mod prints;
 pub mod scanning;
 mod splicing;
 mod twins;

@@ -1,36 +1,37 @@
 //! The index of a list's objects: from a birth group and a key to a node.
 
-ghost use Rattle.std.specs.Prelude.{◌≡◌, [], None, OnOk, IfOk, OnErr, Some};
+ghost use Rattle.std.specs.Prelude.{◌≡◌, ◌≤◌, [], None, OnOk, IfOk, OnErr, Some};
 ghost use Rattle.shr_list.specs.Nodes.{key_named};
 ghost use Rattle.shr_list.specs.Names.{print_of, IsIndexed, AddsName, Keeps, GainsName, Turns};
 
 use crate::queue::clashes::Clashes;
 use crate::queue::links::Links;
+use crate::queue::prints::Prints;
 use shr_base::memory::Memory;
 use shr_base::text::Text;
 use std::alloc::Global;
-use std::collections::BTreeMap;
-use std::collections::btree_map::Entry;
 use std::hash::{FoldHasher, Hasher};
 
-/// A tree of prints, and the names whose print another has by a second one, since strangers choose
-/// the keys: no choice of keys makes a look-up slower than some hundred comparisons. A print has a
-/// node alone: whose it is stands at the object. Our own.
+/// A table of prints, and by a second print the names whose print another has or found no slot,
+/// since strangers choose the keys: no choice of keys makes a look-up slower than some two hundred
+/// comparisons. A print has a node alone: whose it is stands at the object. Our own.
 #[derive(Drop)]
 pub struct Names {
     pub alloc: Global,
-    prints: BTreeMap<u64, u32>,
+    prints: Prints,
     clashes: Clashes,
 }
 
-// A number that is the same for the same name.
+// A number from 2 on that is the same for the same name.
 #[tactic(auto, unfolding(crate::specs::Names::print_of))]
-fn print_of(birth: u16, key: &Text) -> u64
-    ensures { result ≡ print_of birth key.now }
+fn print_of(birth: u16, key: &Text) -> u32
+    ensures print { result ≡ print_of birth key.now }
+    ensures some { 2 ≤ result }
 {
     let mut hasher = FoldHasher::default();
     hasher.write(key.bytes());
-    hasher.finish().wrapping_add(birth as u64)
+    let folded = hasher.finish().wrapping_add(birth as u64);
+    ((folded % (1 << 32)) as u32).max(2)
 }
 
 impl Names {
@@ -40,7 +41,7 @@ impl Names {
     {
         Names {
             alloc,
-            prints: BTreeMap::new(alloc),
+            prints: Prints::new(alloc),
             clashes: Clashes::new(alloc),
         }
     }
@@ -50,8 +51,8 @@ impl Names {
         requires { IsIndexed self.now links.now.nodes }
         ensures { result ≡ key_named birth key.now links.now.nodes }
     {
-        match self.prints.get(&print_of(birth, key)) {
-            Some(node) if links.has_name(*node, birth, key) => Some(*node),
+        match self.prints.get(print_of(birth, key)) {
+            Some(node) if links.has_name(node, birth, key) => Some(node),
             _ => self.clashes.get(birth, key),
         }
     }
@@ -64,21 +65,20 @@ impl Names {
             (birth, key.now) node added) }
         ensures kept { OnErr result (Keeps self.old self.new) }
     {
-        match self.prints.entry(print_of(birth, key))? {
-            Entry::Vacant(place) => {
-                if self.clashes.get(birth, key).is_some() {
-                    return Ok(false);
-                }
-                place.insert(node);
-                Ok(true)
+        let print = print_of(birth, key);
+        if let Some(owner) = self.prints.get(print) {
+            if links.has_name(owner, birth, key) {
+                return Ok(false);
             }
-            Entry::Occupied(place) => {
-                if links.has_name(*place.get(), birth, key) {
-                    return Ok(false);
-                }
-                self.clashes.add(birth, key, node)
-            }
+            return self.clashes.add(birth, key, node);
         }
+        if self.clashes.get(birth, key).is_some() {
+            return Ok(false);
+        }
+        if self.prints.insert(print, node)? {
+            return Ok(true);
+        }
+        self.clashes.add(birth, key, node)
     }
 
     /// Makes this the node of a name that is new. If there is no memory for it the names stay.
@@ -87,14 +87,11 @@ impl Names {
         ensures put { OnOk result (GainsName self.old self.new (birth, key.now) node) }
         ensures kept { OnErr result (Keeps self.old self.new) }
     {
-        match self.prints.entry(print_of(birth, key))? {
-            Entry::Vacant(place) => {
-                place.insert(node);
-            }
-            Entry::Occupied(_) => {
-                self.clashes.add(birth, key, node)?;
-            }
+        let print = print_of(birth, key);
+        if self.prints.get(print).is_none() && self.prints.insert(print, node)? {
+            return Ok(());
         }
+        self.clashes.add(birth, key, node)?;
         Ok(())
     }
 
@@ -102,10 +99,11 @@ impl Names {
     pub fn turn(&mut self, birth: u16, key: &Text, node: u32)
         ensures { Turns self.old self.new (birth, key.now) (Some node) }
     {
+        let print = print_of(birth, key);
         if self.clashes.get(birth, key).is_some() {
             self.clashes.turn(birth, key, node);
-        } else if let Some(place) = self.prints.get_mut(&print_of(birth, key)) {
-            *place = node;
+        } else if self.prints.get(print).is_some() {
+            self.prints.turn(print, node);
         }
     }
 
@@ -116,7 +114,7 @@ impl Names {
         if self.clashes.get(birth, key).is_some() {
             self.clashes.remove(birth, key);
         } else {
-            self.prints.remove(&print_of(birth, key));
+            self.prints.remove(print_of(birth, key));
         }
     }
 
@@ -124,7 +122,7 @@ impl Names {
     pub fn clear(&mut self)
         ensures { IsIndexed self.new [] }
     {
-        self.prints.clear();
+        self.prints = Prints::new(self.alloc);
         self.clashes.clear();
     }
 }
