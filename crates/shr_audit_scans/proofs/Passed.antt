@@ -152,7 +152,7 @@ key_of_pass r worker n place h = by_part (slice_get r.workers.items worker) refl
             let a = found.0 in
             let is = found.1.1 in
             let own : Has (keys_at worker n w a) key =
-                subst (λ (o : Option PassRecord). Has (key_if (key_of worker n (place_in w a.id)) o) key) (sym is.ran) (inl (ap (key_of worker n) is.at)) in
+            subst (λ (o : Option PassRecord). Has (key_if (key_of worker n (place_in w a.id)) o) key) (sym is.ran) (inl (ap (key_of worker n) is.at)) in
             let in_walk = Has_flat_map (keys_at worker n w) w.attempts.items a key is.has own in
             let in_part = Has_flat_map (λ (x : ℕ × WalkRecord). keys_in worker x.0 x.1) (enumerate_from 0 part.walks.items) (n, w) key (has_item part.walks.items n w here) in_walk in
             let in_report = Has_flat_map (λ (x : ℕ × WorkerPart). keys_of_part x.0 x.1.walks.items) (enumerate_from 0 r.workers.items) (worker, part) key (has_item r.workers.items worker part at) in_part in

@@ -75,8 +75,18 @@ fn scans_of_passes_alone(rt: HostRuntime) -> Result<(), Fail> {
         line(SCAN, "scan 0 0 2 clock 0 0 whole", false, true),
         line(SCAN, "scan 0 0 3 plain 0 0 whole", false, true),
         line(SCAN, "scan 0 0 2 plain 1 1 whole", false, true),
-        line(SCAN, "scan 0 9223372036854775807 2 plain 0 0 whole", false, false),
-        line(SCAN, "scan 0 9223372036854775808 2 plain 0 0 whole", false, true),
+        line(
+            SCAN,
+            "scan 0 9223372036854775807 2 plain 0 0 whole",
+            false,
+            false,
+        ),
+        line(
+            SCAN,
+            "scan 0 9223372036854775808 2 plain 0 0 whole",
+            false,
+            true,
+        ),
         line("list 1 0 1", "list 0 0 1", false, true),
     ];
     for row in &rows {
@@ -92,10 +102,30 @@ fn attempts_of_their_caches(rt: HostRuntime) -> Result<(), Fail> {
         line(skip, "try 1 1 held skip 2 1", false, true),
         line(skip, "try 1 1 held skip 1 2", false, true),
         line(skip, "try 1 4 held skip 1 1", false, true),
-        line("pool 1 registered 1 1 0", "pool 1 registered 0 1 0", false, true),
-        line("pool 1 registered 1 1 0", "pool 1 registered 1 1 2", false, true),
-        line("walk 0 1 0 0 fs ran 3", "walk 0 1 0 0 fs ran 2", false, true),
-        line("walk 0 1 0 0 fs ran 3", "walk 0 1 0 1 fs ran 3", false, true),
+        line(
+            "pool 1 registered 1 1 0",
+            "pool 1 registered 0 1 0",
+            false,
+            true,
+        ),
+        line(
+            "pool 1 registered 1 1 0",
+            "pool 1 registered 1 1 2",
+            false,
+            true,
+        ),
+        line(
+            "walk 0 1 0 0 fs ran 3",
+            "walk 0 1 0 0 fs ran 2",
+            false,
+            true,
+        ),
+        line(
+            "walk 0 1 0 0 fs ran 3",
+            "walk 0 1 0 1 fs ran 3",
+            false,
+            true,
+        ),
     ];
     for row in &rows {
         assert!(rt; agrees(rt.alloc(), row)?);

@@ -104,7 +104,6 @@ freed_in_pass = refl
 
 -- ---- lookups, scans, counts and commands
 
-
 abbrev scan : ScanSeen
 scan = record { worker = 0; walk = 2; place = record { id = 0; node = 0; group = 1 }; number = 4; asked = 128; policy = Plain; freed = 6 }
 
