@@ -1,0 +1,79 @@
+-- The groups at or above another, one after the other.
+use Rattle.std.proofs.Common.{◌≡◌, ◌⊎◌, ℕ, zero, suc, ◌+◌, ◌<◌, ◌≤◌, Bool, true, false, cond, List, [], ◌∷◌, length, get_or, refl, sym, ap, subst, ◌∙◌, inl, inr, arith}
+use Rattle.std.specs.Prelude.{◌↔◌, ◌==◌, nat_lt}
+use Rattle.std.specs.Bool.{Decides}
+use Rattle.std.specs.List.{AllByRecursion}
+use Rattle.std.proofs.lemmas.Bool.{cases_Bool, eqb-true, eq-eqb, ne_eqb}
+use Rattle.std.proofs.lemmas.Bool.Decides.{nat_tests}
+use Rattle.std.proofs.lemmas.List.{take_more}
+use Rattle.shr_model.specs.Groups.{IsAtOrAbove, IsTree, parent_of, path_of, path_within}
+use Rattle.shr_model.proofs.GroupsLaws.{path_of-below, path_of-root}
+use Rattle.shr_model.proofs.Members.{Has, Contains_from_Has, Has_from_Contains}
+
+none_past : (xs : List ℕ) (n : ℕ) → length xs ≤ n → get_or xs n 0 ≡ 0
+none_past [] n le = refl
+none_past (x ∷ xs) zero le = absurd (omega arith)
+none_past (x ∷ xs) (suc n) le = none_past xs n (omega arith)
+
+root_path : (steps : ℕ) (parents : List ℕ) → path_within steps parents 0 ≡ 0 ∷ []
+unfolding path_within
+root_path zero parents = refl
+root_path (suc steps) parents = refl
+
+past_path : (parents : List ℕ) (b : ℕ) → 0 < b → length parents ≤ b → path_of parents b ≡ b ∷ path_of parents (parent_of parents b)
+unfolding path_within
+past_path parents zero some le = absurd (omega arith)
+past_path parents (suc b) some le =
+    let up : parent_of parents (suc b) ≡ 0 = none_past parents (suc b) le in
+    ap (λ (xs : List ℕ). suc b ∷ xs) (ap (path_within b parents) up ∙ root_path b parents ∙ sym (ap (path_of parents) up ∙ root_path 0 parents))
+
+-- the path of a group below the root is the group, and then the path of its parent
+path_next : (parents : List ℕ) → IsTree parents → (b : ℕ) → 0 < b → path_of parents b ≡ b ∷ path_of parents (parent_of parents b)
+path_next parents tree b some = elim (cases_Bool (nat_lt b (length parents))) [
+  | inl t ↦ path_of-below parents tree b some (below t)
+  | inr f ↦ past_path parents b some (past f)
+]
+  where
+    below : nat_lt b (length parents) ≡ true → b < length parents
+    below t = grind (arith, nat_tests)
+
+    past : nat_lt b (length parents) ≡ false → length parents ≤ b
+    past f = grind (arith, nat_tests)
+
+pub lower : (parents : List ℕ) → IsTree parents → (b : ℕ) → 0 < b → parent_of parents b < b
+lower parents tree b some = elim (cases_Bool (nat_lt b (length parents))) [
+  | inl t ↦ tree.lower b some (below t)
+  | inr f ↦ let up = none_past parents b (past f) in omega (arith, up)
+]
+  where
+    below : nat_lt b (length parents) ≡ true → b < length parents
+    below t = grind (arith, nat_tests)
+
+    past : nat_lt b (length parents) ≡ false → length parents ≤ b
+    past f = grind (arith, nat_tests)
+
+module _ (parents : List ℕ) (tree : IsTree parents) (above b : ℕ) where
+  pub own : b ≡ above → 0 < b → IsAtOrAbove parents above b
+  own e some = Contains_from_Has (path_of parents b) above (subst (λ (xs : List ℕ). Has xs above) (sym (path_next parents tree b some)) (inl e))
+
+  -- what isn't the group itself is above it if it is at or above its parent
+  pub up_one : 0 < b → (b ≡ above → ⊥) → IsAtOrAbove parents above (parent_of parents b) ↔ IsAtOrAbove parents above b
+  up_one some ne = (
+    λ h. Contains_from_Has (path_of parents b) above (subst (λ (xs : List ℕ). Has xs above) (sym (path_next parents tree b some)) (inr (Has_from_Contains (path_of parents (parent_of parents b)) above h))),
+    λ h. Contains_from_Has (path_of parents (parent_of parents b)) above (by (subst (λ (xs : List ℕ). Has xs above) (path_next parents tree b some) (Has_from_Contains (path_of parents b) above h))),
+  )
+    where
+      by : Has (b ∷ path_of parents (parent_of parents b)) above → Has (path_of parents (parent_of parents b)) above
+      by (inl e) = absurd (ne e)
+      by (inr h) = h
+
+-- at the root is the root alone
+pub at_root : (parents : List ℕ) (above b : ℕ) (t : Bool) → b ≡ 0 → t ≡ (above == 0) → Decides t (IsAtOrAbove parents above b)
+at_root parents above b t e is = subst (λ (x : ℕ). Decides t (IsAtOrAbove parents above x)) (sym e) (
+  λ s. Contains_from_Has (path_of parents 0) above (subst (λ (xs : List ℕ). Has xs above) (sym (path_of-root parents)) (inl (sym (eqb-true above 0 (sym is ∙ s))))),
+  λ h. is ∙ eq-eqb above 0 (by (subst (λ (xs : List ℕ). Has xs above) (path_of-root parents) (Has_from_Contains (path_of parents 0) above h))),
+)
+  where
+    by : Has (0 ∷ []) above → above ≡ 0
+    by (inl e) = sym e
+    by (inr h) = absurd h
