@@ -18,7 +18,8 @@ use Rattle.shr_base.specs.declared.walks.Attempt.{Attempt}
 use Rattle.shr_base.specs.declared.walks.WalkRecord.{WalkRecord}
 use Rattle.shr_model.specs.Attempts.{Count, counts_of}
 use Rattle.shr_model.specs.Places.{is_place}
-use Rattle.shr_model.specs.Walks.{attempts_at, place_in, versions_at}
+use Rattle.shr_model.specs.Walks.{place_in}
+use Rattle.shr_model.proofs.PlacesLaws.{is_place_itself, is_place_same}
 use Rattle.shr_report.specs.Parts.{at, cited_by}
 use Rattle.shr_audit_versions.specs.Table.{Versions, fits, place_key}
 use Rattle.shr_audit_later.specs.Cited.{AreCited, IsAbove, IsAboveAt, IsAboveCited, IsAboveHighest, IsBlank, IsLater, IsOutcomeAbove, IsWalkAbove, NotesEntry, NotesReply, highest_at}
@@ -27,19 +28,6 @@ clash : (b : Bool) → b ≡ true → b ≡ false → ⊥
 clash b e f = cc
 
 -- ---- places and their numbers
-
--- two places of which each test holds are one
-pub same_place : (p q : Place) → is_place p q ≡ true → p ≡ q
-same_place p q t =
-    let x = and_parts ((p.id == q.id) && (p.node == q.node)) (p.group == q.group) t in
-    let y = and_parts (p.id == q.id) (p.node == q.node) x.0 in
-    let a = eqb-true p.id q.id y.0 in
-    let b = eqb-true p.node q.node y.1 in
-    let c = eqb-true p.group q.group x.1 in
-    cc
-
-pub own_place : (p : Place) → is_place p p ≡ true
-own_place p = and_from ((p.id == p.id) && (p.node == p.node)) (p.group == p.group) (and_from (p.id == p.id) (p.node == p.node) (eq-eqb p.id p.id refl) (eq-eqb p.node p.node refl)) (eq-eqb p.group p.group refl)
 
 -- two places that fit and have one number are one
 pub same_key : (p q : Place) → fits p ≡ true → fits q ≡ true → place_key p ≡ place_key q → p ≡ q
@@ -56,7 +44,7 @@ same_key p q f g e =
         let nodes : p.node ≡ q.node = omega arith in
         let groups : p.group ≡ q.group = omega arith in
         let ids : p.id ≡ q.id = omega arith in
-        cc
+        λ i. record { id = ids i; node = nodes i; group = groups i }
 
 -- ---- one entry more
 
@@ -90,8 +78,8 @@ module _ (old new : Versions) (c : At) (fit : fits c.place ≡ true) where
   -- it is: it stands in the table
   pub put : IsAbove (get nat_eq old (place_key c.place)) c.entry → ((k : ℕ) → get nat_eq new k ≡ cond (nat_eq (place_key c.place) k) (Some c.entry) (get nat_eq old k)) → NotesEntry old new (Some c)
   put above puts q v = elim (cases_Bool (is_place c.place q)) [
-    | inl t ↦ own q (same_place c.place q t)
-    | inr f ↦ other q v (λ e. clash (is_place c.place q) (subst (λ (p : Place). is_place c.place p ≡ true) e (own_place c.place)) f) (elsewhere q f)
+    | inl t ↦ own q (is_place_same c.place q t)
+    | inr f ↦ other q v (λ e. clash (is_place c.place q) (subst (λ (p : Place). is_place c.place p ≡ true) e (is_place_itself c.place)) f) (elsewhere q f)
   ]
     where
       elsewhere : (q : Place) → is_place c.place q ≡ false → highest_at new q ≡ highest_at old q
@@ -100,7 +88,7 @@ module _ (old new : Versions) (c : At) (fit : fits c.place ≡ true) where
           by : (b : Bool) → fits q ≡ b → cond b (get nat_eq new (place_key q)) None ≡ cond b (get nat_eq old (place_key q)) None
           by false e = refl
           by true e = puts (place_key q) ∙ ap (λ (b : Bool). cond b (Some c.entry) (get nat_eq old (place_key q)))
-              (ne_eqb (place_key c.place) (place_key q) (λ same. clash (is_place c.place q) (subst (λ (p : Place). is_place c.place p ≡ true) (same_key c.place q fit e same) (own_place c.place)) f))
+              (ne_eqb (place_key c.place) (place_key q) (λ same. clash (is_place c.place q) (subst (λ (p : Place). is_place c.place p ≡ true) (same_key c.place q fit e same) (is_place_itself c.place)) f))
 
       here : highest_at new c.place ≡ Some c.entry
       here = highest_own new ∙ puts (place_key c.place) ∙ ap (λ (b : Bool). cond b (Some c.entry) (get nat_eq old (place_key c.place))) (eq-eqb (place_key c.place) (place_key c.place) refl)
@@ -222,13 +210,13 @@ told a = map (λ (c : Count). c.version) (counts_of a.outcome)
 module _ (answers : List Answered) (t : Versions) (w : WalkRecord) (cited : AreCited answers w.by.command t) where
   pub walk_later : IsWalkAbove t w → IsLater answers w
   walk_later above k entry place a lt here cites = filtered_to (λ v. entry < v) told (λ (x : Attempt). is_place place (place_in w x.id)) w.attempts.items
-      (λ j x e is. all_of (λ v. entry < v) (told x) (λ i v f. let place_is = same_place place (place_in w x.id) is in
+      (λ j x e is. all_of (λ v. entry < v) (told x) (λ i v f. let place_is = is_place_same place (place_in w x.id) is in
       (cited (place_in w x.id) v).0 (each_in (λ u. IsAboveHighest t (place_in w x.id) u) (told x) (above j x e) i v f) k a lt here entry (cites ∙ ap (λ (p : Place). Some (at p entry)) place_is)))
 
   pub walk_above : IsLater answers w → IsWalkAbove t w
   walk_above later j x e = all_of (λ u. IsAboveHighest t (place_in w x.id) u) (told x) (λ i v f.
       (cited (place_in w x.id) v).1 (λ k a lt here entry cites.
-      each_in (λ u. entry < u) (told x) (filtered_from (λ u. entry < u) told (λ (y : Attempt). is_place (place_in w x.id) (place_in w y.id)) w.attempts.items (later k entry (place_in w x.id) a lt here cites) j x e (own_place (place_in w x.id))) i v f))
+      each_in (λ u. entry < u) (told x) (filtered_from (λ u. entry < u) told (λ (y : Attempt). is_place (place_in w x.id) (place_in w y.id)) w.attempts.items (later k entry (place_in w x.id) a lt here cites) j x e (is_place_itself (place_in w x.id))) i v f))
 
 -- whether a walk is later is whether its versions are above the highest entries
 pub later_decided : (answers : List Answered) (t : Versions) (w : WalkRecord) (n : ℕ) (b : Bool) → n ≡ w.by.command → AreCited answers n t → Decides b (IsWalkAbove t w) → Decides b (IsLater answers w)

@@ -14,11 +14,13 @@ use Rattle.shr_base.specs.declared.walks.WalkRecord.{WalkRecord}
 use Rattle.shr_model.specs.Attempts.{is_clearing}
 use Rattle.shr_model.specs.Places.{is_place}
 use Rattle.shr_model.specs.Walks.{clearings_of, place_in}
+use Rattle.shr_model.proofs.PlacesLaws.{is_place_itself, is_place_same}
+use Rattle.shr_formed.proofs.Eachs.{clash}
 use Rattle.shr_report.specs.declared.report.Report.{Report}
 use Rattle.shr_report.specs.Parts.{all_walks}
 use Rattle.shr_audit_versions.specs.Table.{fits, place_key}
 use Rattle.shr_audit_later.specs.Cleared.{Clears, HasCleared, HasPlaces, PlaceSet, cleared_by}
-use Rattle.shr_audit_later.proofs.Citing.{clash, own_place, same_key, same_place}
+use Rattle.shr_audit_later.proofs.Citing.{same_key}
 
 or_true : (b : Bool) → (b || true) ≡ true
 or_true true = refl
@@ -40,11 +42,11 @@ clears_one old new p fit puts places has q fits_q = by (cases_Bool (is_place q p
     by : ((is_place q p ≡ true) ⊎ (is_place q p ≡ false)) → contains nat_eq new (place_key q) ≡ list_any (is_place q) (places ++ p ∷ [])
     by (inl t) =
         puts (place_key q)
-        ∙ ap (λ (b : Bool). cond b true (contains nat_eq old (place_key q))) (eq-eqb (place_key p) (place_key q) (ap place_key (sym (same_place q p t))))
+        ∙ ap (λ (b : Bool). cond b true (contains nat_eq old (place_key q))) (eq-eqb (place_key p) (place_key q) (ap place_key (sym (is_place_same q p t))))
         ∙ sym (more true t ∙ or_true (list_any (is_place q) places))
     by (inr f) =
         puts (place_key q)
-        ∙ ap (λ (b : Bool). cond b true (contains nat_eq old (place_key q))) (ne_eqb (place_key p) (place_key q) (λ e. clash (is_place q p) (subst (λ (r : Place). is_place q r ≡ true) (sym (same_key p q fit fits_q e)) (own_place q)) f))
+        ∙ ap (λ (b : Bool). cond b true (contains nat_eq old (place_key q))) (ne_eqb (place_key p) (place_key q) (λ e. clash (is_place q p) (subst (λ (r : Place). is_place q r ≡ true) (sym (same_key p q fit fits_q e)) (is_place_itself q)) f))
         ∙ has q fits_q ∙ sym (more false f ∙ or_false (list_any (is_place q) places))
 
 pub clears_then : (old now new : PlaceSet) (f g : List Place) → Clears old now f → Clears now new g → Clears old new (f ++ g)

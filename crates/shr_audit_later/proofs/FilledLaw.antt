@@ -29,7 +29,7 @@ use Rattle.shr_case.specs.Each.{InParts}
 use Rattle.shr_case.proofs.Eachs.{decides_iff, each_walk_of}
 use Rattle.shr_audit_bits.specs.Words.{Words}
 use Rattle.shr_audit_later.specs.Filled.{AreFilled, HasFilled, IsPartFilled, IsWalkFull, filled_at, filled_by, is_filled}
-use Rattle.shr_audit_later.proofs.Citing.{own_place, same_place}
+use Rattle.shr_model.proofs.PlacesLaws.{is_place_itself, is_place_same}
 use Rattle.shr_audit_later.proofs.Standing.{found_at}
 
 -- ---- one walk
@@ -47,11 +47,11 @@ module _ (parents : List ℕ) (r : Report) where
     where
       by : (b : Bool) → ((length (items_at parents (journals_of r) c.place c.entry) == 0) && not (was_cleared r c.place)) ≡ b → is_filled (cond b (Some c.place) None) place ≡ true → (entry : ℕ) × Fills place (reply.Added c) entry
       by true t e =
-          let same : place ≡ c.place = same_place place c.place e in
+          let same : place ≡ c.place = is_place_same place c.place e in
           let parts = and_parts (length (items_at parents (journals_of r) c.place c.entry) == 0) (not (was_cleared r c.place)) t in (
             c.entry,
             (
-              let cited : c ≡ at place c.entry = cc in ap reply.Added cited,
+              let cited : c ≡ at place c.entry = let back = sym same in λ i. record { place = back i; entry = c.entry } in ap (λ (x : At). reply.Added x) cited,
               (
                 subst (λ (p : Place). length (items_at parents (journals_of r) p c.entry) ≡ 0) (sym same) (eqb-true (length (items_at parents (journals_of r) c.place c.entry)) 0 parts.0),
                 subst (λ (p : Place). was_cleared r p ≡ false) (sym same) (not_false (was_cleared r c.place) parts.1),
@@ -64,7 +64,7 @@ module _ (parents : List ℕ) (r : Report) where
   is_filling : (place : Place) (entry : ℕ) → length (items_at parents (journals_of r) place entry) ≡ 0 → was_cleared r place ≡ false → is_filled (filled_by parents r (reply.Added (at place entry))) place ≡ true
   is_filling place entry none kept =
       let test : ((length (items_at parents (journals_of r) place entry) == 0) && not (was_cleared r place)) ≡ true = and_from (length (items_at parents (journals_of r) place entry) == 0) (not (was_cleared r place)) (eq-eqb (length (items_at parents (journals_of r) place entry)) 0 none) (ap not kept) in
-      ap (λ (b : Bool). is_filled (cond b (Some place) None) place) test ∙ own_place place
+      ap (λ (b : Bool). is_filled (cond b (Some place) None) place) test ∙ is_place_itself place
 
   module _ (answers : List Answered) (t : Words) (w : WalkRecord) (filled : AreFilled parents r answers w.by.command t) where
     abbrev is_of : Place → Answered → Bool

@@ -10,7 +10,7 @@ use native.Mathlib.Decide.{ℕ_discrete}
 use Rattle.std.proofs.lemmas.Bool.{cases_Bool, and_parts, and_from, eqb-true, eq-eqb, ne_eqb}
 use Rattle.std.proofs.lemmas.Bool.Decides.{nat_tests}
 use Rattle.std.proofs.lemmas.List.Folds.{list_any_more, list_any_at, Any-from_list_any}
-use Rattle.std.proofs.lemmas.Nat.Bits.{bit_at_and, bit_at_above, bit_at-lt, bit_at_set_same, bit_at_set_other, same_from_bits}
+use Rattle.std.proofs.lemmas.Nat.Bits.{bit_at_and, bit_at_above, bit_at-lt, bit_at-zero, bit_at_set_same, bit_at_set_other, same_from_bits}
 use Rattle.shr_base.specs.declared.places.Place.{Place}
 use Rattle.shr_base.specs.declared.replies.Answered.{Answered}
 use Rattle.shr_base.specs.declared.replies.Reply.{Reply}
@@ -24,7 +24,8 @@ use Rattle.shr_report.specs.WalksLawful.{Covers}
 use Rattle.shr_audit_bits.specs.Words.{Words, word_key}
 use Rattle.shr_audit_versions.specs.Table.{fits, read_as}
 use Rattle.shr_audit_later.specs.Filled.{AreFilled, IsMapFull, IsNoWord, NotesFilled, filled_at, filled_by, is_filled, word_in}
-use Rattle.shr_audit_later.proofs.Citing.{clash, own_place, same_place}
+use Rattle.shr_formed.proofs.Eachs.{clash}
+use Rattle.shr_model.proofs.PlacesLaws.{is_place_itself, is_place_same}
 
 or_true : (b : Bool) → true ≡ (b || true)
 or_true true = refl
@@ -69,7 +70,7 @@ module _ (p : Place) (fit : fits p ≡ true) where
           let nodes : p.node ≡ q.node = omega arith in
           let groups : p.group ≡ q.group = omega arith in
           let ids : p.id ≡ q.id = omega arith in
-          cc
+          λ i. record { id = ids i; node = nodes i; group = groups i }
 
   pub bit_set : (old new : Words) (key word : ℕ) → key ≡ key_at p → word ≡ bit_or (word_in old key) (1 * 2 ^ bit_of p.id % 2 ^ 64) → ((k : ℕ) → get nat_eq new k ≡ cond (nat_eq key k) (Some word) (get nat_eq old k)) → NotesFilled old new (Some p)
   bit_set old new key word is sets puts q = by (fits q) refl
@@ -79,12 +80,12 @@ module _ (p : Place) (fit : fits p ≡ true) where
 
       not_it : (b : Bool) → (p ≡ q → ⊥) → is_place q p ≡ false
       not_it b ne = elim (cases_Bool (is_place q p)) [
-        | inl t ↦ absurd (ne (sym (same_place q p t)))
+        | inl t ↦ absurd (ne (sym (is_place_same q p t)))
         | inr f ↦ f
       ]
 
       it : p ≡ q → is_place q p ≡ true
-      it e = subst (λ (r : Place). is_place r p ≡ true) e (own_place p)
+      it e = subst (λ (r : Place). is_place r p ≡ true) e (is_place_itself p)
 
       word_own : (k : ℕ) → key ≡ k → word_in new k ≡ word
       word_own k e = ap read_as (puts k ∙ ap (λ (b : Bool). cond b (Some word) (get nat_eq old k)) (eq-eqb key k e))
@@ -121,7 +122,7 @@ none_yet parents r answers t none q = by (fits q)
     zero_set = ap (λ (o : Option ℕ). is_set (read_as o) (bit_of q.id)) (none (key_at q)) ∙ nothing (bit_of q.id)
       where
         nothing : (b : ℕ) → is_set 0 b ≡ false
-        nothing b = ne_eqb (bit_at 0 b) 1 (λ e. let z = bit_at_above 0 0 b (omega arith) (omega arith) in omega (arith, e, z))
+        nothing b = ne_eqb (bit_at 0 b) 1 (λ e. let z = bit_at-zero b in omega (arith, e, z))
 
     by : (b : Bool) → cond b (is_set (word_in t (key_at q)) (bit_of q.id)) false ≡ false
     by true = zero_set
@@ -136,9 +137,6 @@ one_more parents r answers n a old new lt is before notes q =
 -- ---- the map of a walk
 
 module _ (t : Words) (w : WalkRecord) (m : MapSeen) (group : w.group < 65536) (unit : m.unit < 256) where
-  key : ℕ
-  key = word_key w.node w.group m.unit
-
   pub map_full : bit_and (word_in t (word_key w.node w.group m.unit)) m.bits ≡ word_in t (word_key w.node w.group m.unit) → IsMapFull t w m
   map_full whole place covers filled =
       let b : ℕ = bit_of place.id in
@@ -165,9 +163,6 @@ module _ (t : Words) (w : WalkRecord) (m : MapSeen) (group : w.group < 65536) (u
     where
       word : ℕ
       word = word_in t (word_key w.node w.group m.unit)
-
-      place : ℕ → Place
-      place i = record { id = 64 * m.unit + i; node = w.node; group = w.group }
 
       bound : (x y : ℕ) → x < 2 → y < 2 → (x ≡ 1 → y ≡ 1) → min x y ≡ x
       bound x y a b h = grind arith

@@ -3,6 +3,7 @@ use Rattle.std.specs.Prelude.{◌≡◌, ℕ, ◌<◌, ◌==◌, ◌&&◌, ◌||
 use Rattle.std.specs.HashMap.{get}
 use Rattle.std.specs.List.{list_any}
 use Rattle.shr_base.specs.declared.ends.WorkerPart.{WorkerPart}
+use Rattle.shr_base.specs.declared.places.At.{At}
 use Rattle.shr_base.specs.declared.places.Place.{Place}
 use Rattle.shr_base.specs.declared.replies.Answered.{Answered}
 use Rattle.shr_base.specs.declared.replies.Reply.{Reply}
@@ -31,9 +32,13 @@ IsNoWord t = (key : ℕ) → get nat_eq t key ≡ None
 abbrev pub filled_at : Words → Place → Bool
 filled_at t place = cond (fits place) (is_set (word_in t (word_key place.node place.group (unit_of place.id))) (bit_of place.id)) false
 
+-- a place had nothing before an entry, and no walk cleared its bit
+abbrev pub is_filling : List ℕ → Report → At → Bool
+is_filling parents r c = (length (items_at parents (journals_of r) c.place c.entry) == 0) && not (was_cleared r c.place)
+
 -- the place that a reply filled, and whose bit no walk cleared
 abbrev pub filled_by : List ℕ → Report → Reply → Option Place
-filled_by parents r (reply.Added c) = cond ((length (items_at parents (journals_of r) c.place c.entry) == 0) && not (was_cleared r c.place)) (Some c.place) None
+filled_by parents r (reply.Added c) = cond (is_filling parents r c) (Some c.place) None
 filled_by parents r x = None
 
 -- a place is the one that was filled, if one was

@@ -5,12 +5,12 @@ ghost use Rattle.std.specs.Bool.{Decides};
 ghost use Rattle.shr_base.specs.declared.places.Place.{Place};
 ghost use Rattle.shr_case.specs.Lists.{IsReplayOf};
 ghost use Rattle.shr_audit_later.specs.Cleared.{HasCleared};
-ghost use Rattle.shr_audit_later.specs.Filled.{AreFilled, IsMapFull, IsNoWord, NotesFilled, filled_by, word_in};
+ghost use Rattle.shr_audit_later.specs.Filled.{AreFilled, IsMapFull, IsNoWord, NotesFilled, filled_by, is_filling, word_in};
 
 use crate::cleared::was_cleared;
 use shr_audit_bits::words::word_key;
 use shr_base::memory::Memory;
-use shr_base::places::Place;
+use shr_base::places::{At, Place};
 use shr_base::replies::{Answered, Reply};
 use shr_base::walks::{MapSeen, WalkRecord};
 use shr_case::case::Case;
@@ -56,22 +56,33 @@ fn note_filled(filled: &mut HashMap<u64, u64>, place: Option<Place>) -> Result<(
     }
 }
 
+// Whether a place had nothing before an entry, and no walk cleared its bit.
+fn is_filling(report: &Report, case: &Case, cleared: &HashSet<u64>, at: At) -> bool
+    requires replayed { IsReplayOf report.now case.now }
+    requires cleared { HasCleared report.now cleared.now }
+    ensures { result ≡ is_filling case.now.parents.items report.now at }
+{
+    let objects = case.count_after(report, at.place, at.entry as usize);
+    let cleared = was_cleared(report, cleared, at.place);
+    objects == 0 && !cleared
+}
+
 // The place that a reply filled and whose bit no walk cleared.
 fn filled_by(report: &Report, case: &Case, cleared: &HashSet<u64>, reply: &Reply) -> Option<Place>
     requires replayed { IsReplayOf report.now case.now }
     requires cleared { HasCleared report.now cleared.now }
     ensures { result ≡ filled_by case.now.parents.items report.now reply.now }
 {
-    let Reply::Added { at } = reply else {
-        return None;
-    };
-    if case.count_after(report, at.place, at.entry as usize) > 0 {
-        return None;
+    match reply {
+        Reply::Added { at } => {
+            if is_filling(report, case, cleared, *at) {
+                Some(at.place)
+            } else {
+                None
+            }
+        }
+        _ => None,
     }
-    if was_cleared(report, cleared, at.place) {
-        return None;
-    }
-    Some(at.place)
 }
 
 // Notes the places that the answers from one to another filled.

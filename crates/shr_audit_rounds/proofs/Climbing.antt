@@ -1,5 +1,5 @@
 -- The groups at or above another, one after the other.
-use Rattle.std.proofs.Common.{◌≡◌, ◌⊎◌, ℕ, zero, suc, ◌+◌, ◌<◌, ◌≤◌, Bool, true, false, cond, List, [], ◌∷◌, length, get_or, refl, sym, ap, subst, ◌∙◌, inl, inr, arith}
+use Rattle.std.proofs.Common.{◌≡◌, ◌⊎◌, ℕ, zero, suc, ◌+◌, ◌<◌, ◌≤◌, Bool, true, false, cond, List, [], ◌∷◌, ◌++◌, length, get_or, take, refl, sym, ap, subst, ◌∙◌, inl, inr, arith}
 use Rattle.std.specs.Prelude.{◌↔◌, ◌==◌, nat_lt}
 use Rattle.std.specs.Bool.{Decides}
 use Rattle.std.specs.List.{AllByRecursion}
@@ -77,3 +77,41 @@ at_root parents above b t e is = subst (λ (x : ℕ). Decides t (IsAtOrAbove par
     by : Has (0 ∷ []) above → above ≡ 0
     by (inl e) = sym e
     by (inr h) = absurd h
+
+-- ---- on the way up
+
+module _ (parents : List ℕ) (tree : IsTree parents) (above at group : ℕ) (way : IsAtOrAbove parents above at ↔ IsAtOrAbove parents above group) where
+  pub found : at ≡ above → 0 < at → Decides true (IsAtOrAbove parents above group)
+  found e some = (λ t. way.0 (own parents tree above at e some), λ h. refl)
+
+  pub climbed : (next : ℕ) → next ≡ parent_of parents at → 0 < at → (at ≡ above → ⊥) → IsAtOrAbove parents above next ↔ IsAtOrAbove parents above group
+  climbed next e some ne = subst (λ (x : ℕ). IsAtOrAbove parents above x ↔ IsAtOrAbove parents above group) (sym e) (
+    λ h. way.0 ((up_one parents tree above at some ne).0 h),
+    λ h. (up_one parents tree above at some ne).1 (way.1 h),
+  )
+
+  pub at_top : at ≤ 0 → (t : Bool) → t ≡ (above == 0) → Decides t (IsAtOrAbove parents above group)
+  at_top le t e =
+      let zero_at : at ≡ 0 = omega arith in
+      let d = at_root parents above at t zero_at e in
+      (λ s. way.0 (d.0 s), λ h. d.1 (way.1 h))
+
+-- ---- each of some groups
+
+pub above_more : (parents : List ℕ) (group : ℕ) (groups : List ℕ) (i : ℕ) → i < length groups → AllByRecursion (λ (h : ℕ). IsAtOrAbove parents h group) (take i groups) → IsAtOrAbove parents (get_or groups i 0) group → AllByRecursion (λ (h : ℕ). IsAtOrAbove parents h group) (take (i + 1) groups)
+above_more parents group groups i lt before here = subst (λ (xs : List ℕ). AllByRecursion (λ (h : ℕ). IsAtOrAbove parents h group) xs) (sym (take_more groups i 0 lt)) (both (take i groups) before)
+  where
+    both : (xs : List ℕ) → AllByRecursion (λ (h : ℕ). IsAtOrAbove parents h group) xs → AllByRecursion (λ (h : ℕ). IsAtOrAbove parents h group) (xs ++ get_or groups i 0 ∷ [])
+    both [] all = (here, tt)
+    both (x ∷ xs) all = (all.0, both xs all.1)
+
+pub above_fails : (parents : List ℕ) (group : ℕ) (groups : List ℕ) (i : ℕ) (b : Bool) → i < length groups → Decides b (IsAtOrAbove parents (get_or groups i 0) group) → b ≡ false → Decides false (AllByRecursion (λ (h : ℕ). IsAtOrAbove parents h group) groups)
+above_fails parents group groups i b lt d no = (λ t. absurd cc, λ all. absurd (clash b (d.1 (one groups i lt all)) no))
+  where
+    clash : (b : Bool) → b ≡ true → b ≡ false → ⊥
+    clash b e f = cc
+
+    one : (xs : List ℕ) (k : ℕ) → k < length xs → AllByRecursion (λ (h : ℕ). IsAtOrAbove parents h group) xs → IsAtOrAbove parents (get_or xs k 0) group
+    one [] k lt all = absurd (omega arith)
+    one (x ∷ xs) zero lt all = all.0
+    one (x ∷ xs) (suc k) lt all = one xs k (omega arith) all.1

@@ -70,9 +70,6 @@ found_as ps qs m n refused c x vs ws p q e h =
 
 module _ (s : Script) (r : Report) (dues : Dues) (are : AreDues s r.uses.items dues) (well : IsWellFormed r) (numbers : HasNumbers r) (few : (worker : ℕ) → length (commands_of s worker) ≤ 2 ^ 32) where
   module _ (worker : ℕ) (part : WorkerPart) (at : slice_get r.workers.items worker ≡ Some part) (n : ℕ) (c : Command) (here : slice_get (commands_of s worker) n ≡ Some c) (x : Reply) where
-    refused : List ℕ
-    refused = groups_of (refusals_with (serial_key (serial_of worker n)) dues.refusals.items)
-
     counts : (h : ℕ) → times h (groups_of (refusals_with (serial_key (serial_of worker n)) dues.refusals.items)) ≡ count_by (is_refused (limit_of s h)) (ops_by (serial_of worker n) (uses_at r h))
     counts h =
         let within = slice_get_within (commands_of s worker) n c here in

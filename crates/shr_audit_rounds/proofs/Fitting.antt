@@ -10,9 +10,10 @@ use Rattle.shr_model.specs.Commands.{round_of, rounds_from}
 use Rattle.shr_model.specs.Groups.{IsTree, preorder_of}
 use Rattle.shr_model.specs.Walks.{Job, job, job_of}
 use Rattle.shr_model.proofs.GroupsLaws.{preorder_of-group, subtrees_of}
-use Rattle.shr_audit_rounds.specs.Rounds.{AreAlike, FitsRounds, IsWithout, times}
-use Rattle.shr_audit_rounds.specs.Rows.{Begins, IsBehind, IsMade, IsNotBegun, jobs_made}
-use Rattle.shr_audit_rounds.proofs.Alike.{alike_to_nothing, alike_with, alike_without, all_alike, nothing_alike, own_time}
+use Rattle.shr_audit_rounds.specs.Rounds.{AreAlike, FitsRounds, IsWithout, TakesOut, times}
+use Rattle.shr_audit_rounds.specs.Rows.{Begins, IsBehind, IsMade, IsNotBegun, jobs_made, round_over}
+use Rattle.shr_audit_rounds.proofs.Alike.{alike_with, alike_without, all_alike, all_without, nothing_alike, out_so, own_time}
+use Rattle.shr_audit_rounds.proofs.Due.{not_taken, taken}
 use Rattle.shr_audit_rounds.proofs.Begun.{begins_back, begins_empty, begins_front, begins_then}
 
 module _ (parents : List ℕ) (nodes : ℕ) (tree : IsTree parents) (some : 0 < nodes) where
@@ -46,24 +47,25 @@ module _ (parents : List ℕ) (nodes : ℕ) (tree : IsTree parents) (some : 0 < 
   first_is w p g due m ms lt h = let f = round_first p g lt in (subst (λ (js : List Job). Begins w (js ++ due) (m ∷ ms)) f.1 h).0
 
   -- where walks were made, the rounds have a first one, over the group of the first walk
-  record Heads (w : Bool) (p : ℕ) (groups : List ℕ) (m : Job) (ms : List Job) : Type 0 where
-    others : List ℕ
-    alike : AreAlike (m.group ∷ others) groups
-    begins : Begins w (round_of parents nodes p m.group ++ rounds_from parents nodes (p - 1) others) (m ∷ ms)
-    few : length (m ∷ ms) ≤ length (round_of parents nodes p m.group ++ rounds_from parents nodes (p - 1) others)
+  abbrev Heads : Bool → ℕ → List ℕ → Job → List Job → Type 0
+  Heads w p groups m ms = (others : List ℕ) × (AreAlike (m.group ∷ others) groups × (Begins w (round_of parents nodes p m.group ++ rounds_from parents nodes (p - 1) others) (m ∷ ms)
+      × (length (m ∷ ms) ≤ length (round_of parents nodes p m.group ++ rounds_from parents nodes (p - 1) others))))
 
   heads : (w : Bool) (p : ℕ) (groups : List ℕ) (m : Job) (ms : List Job) → There groups → FitsRounds parents nodes w p groups (m ∷ ms) → Heads w p groups m ms
   heads w p groups m ms there h = by h.rounds h.alike h.made
     where
       at_group : (g : ℕ) (gs : List ℕ) → g ≡ m.group → AreAlike (g ∷ gs) groups → IsMade w (rounds_from parents nodes p (g ∷ gs)) (m ∷ ms) → Heads w p groups m ms
       at_group g gs e same made =
-          let whole = rounds_next p g gs ∙ ap (λ (x : ℕ). round_of parents nodes p x ++ rounds_from parents nodes (p - 1) gs) e in
-          record {
-            others = gs;
-            alike = subst (λ (x : ℕ). AreAlike (x ∷ gs) groups) e same;
-            begins = subst (λ (due : List Job). Begins w due (m ∷ ms)) whole made.begins;
-            few = subst (λ (due : List Job). length (m ∷ ms) ≤ length due) whole made.few;
-          }
+          let whole = rounds_next p g gs ∙ ap (λ (x : ℕ). round_of parents nodes p x ++ rounds_from parents nodes (p - 1) gs) e in (
+            gs,
+            (
+              subst (λ (x : ℕ). AreAlike (x ∷ gs) groups) e same,
+              (
+                subst (λ (due : List Job). Begins w due (m ∷ ms)) whole made.begins,
+                subst (λ (due : List Job). length (m ∷ ms) ≤ length due) whole made.few,
+              ),
+            ),
+          )
 
       by : (rounds : List ℕ) → AreAlike rounds groups → IsMade w (rounds_from parents nodes p rounds) (m ∷ ms) → Heads w p groups m ms
       by [] same made = absurd (let e = ap length (rounds_none p) in let few = made.few in omega (arith, e, few))
@@ -76,12 +78,12 @@ module _ (parents : List ℕ) (nodes : ℕ) (tree : IsTree parents) (some : 0 < 
   pub not_there : (w : Bool) (p : ℕ) (groups : List ℕ) (m : Job) (ms : List Job) → There groups → times m.group groups ≡ 0 → FitsRounds parents nodes w p groups (m ∷ ms) → ⊥
   not_there w p groups m ms there none h =
       let f = heads w p groups m ms there h in
-      let e = f.alike m.group in let own = own_time m.group f.others in omega (arith, e, own, none)
+      let e = f.1.0 m.group in let own = own_time m.group f.0 in omega (arith, e, own, none)
 
   pub not_begun : (w : Bool) (p : ℕ) (groups : List ℕ) (m : Job) (ms : List Job) → There groups → IsNotBegun w (round_of parents nodes p m.group) (m ∷ ms) → FitsRounds parents nodes w p groups (m ∷ ms) → ⊥
   not_begun w p groups m ms there none h =
       let f = heads w p groups m ms there h in
-      none (begins_front w (round_of parents nodes p m.group) (rounds_from parents nodes (p - 1) f.others) (m ∷ ms) f.begins)
+      none (begins_front w (round_of parents nodes p m.group) (rounds_from parents nodes (p - 1) f.0) (m ∷ ms) f.1.1.0)
 
   -- behind a round are the walks of the others
   pub round_taken : (w : Bool) (p : ℕ) (groups new : List ℕ) (m : Job) (ms rest : List Job) → There groups → IsWithout m.group groups new → IsBehind w (round_of parents nodes p m.group) (m ∷ ms) rest
@@ -113,13 +115,13 @@ module _ (parents : List ℕ) (nodes : ℕ) (tree : IsTree parents) (some : 0 < 
       from : FitsRounds parents nodes w p groups (m ∷ ms) → FitsRounds parents nodes w (p - 1) new rest
       from h =
           let f = heads w p groups m ms there h in
-          let more = rounds_from parents nodes (p - 1) f.others in
+          let more = rounds_from parents nodes (p - 1) f.0 in
           record {
-            rounds = f.others;
-            alike = alike_without m.group f.others groups new f.alike out;
+            rounds = f.0;
+            alike = alike_without m.group f.0 groups new f.1.0 out;
             made = record {
-              begins = subst (Begins w more) (sym behind.behind) (begins_back w own more (m ∷ ms) f.begins);
-              few = back (length more) (let l = length-append own more in let few = f.few in omega (arith, l, few));
+              begins = subst (Begins w more) (sym behind.behind) (begins_back w own more (m ∷ ms) f.1.1.0);
+              few = back (length more) (let l = length-append own more in let few = f.1.1.1 in omega (arith, l, few));
             };
           }
 
@@ -189,3 +191,33 @@ module _ (parents : List ℕ) (nodes : ℕ) (tree : IsTree parents) (some : 0 < 
           no_groups : (gs : List ℕ) → length gs ≡ 0 → gs ≡ []
           no_groups [] h = refl
           no_groups (g ∷ gs) h = absurd (omega arith)
+
+  -- ---- round by round, where what is left fits just if the whole does
+
+  module _ (w : Bool) (p : ℕ) (groups new : List ℕ) (walks : List WalkRecord) (first : WalkRecord) (b : Bool) (Whole : Type 0) (there : There groups) (way : FitsRounds parents nodes w p groups (jobs_made walks) ↔ Whole)
+      (some_walk : 0 < length walks) (is : first ≡ get_or walks 0 first) (takes : TakesOut b first.group groups new) where
+    pub group_there : b ≡ true → first.group < length parents
+    group_there yes = out_so (λ (g : ℕ). g < length parents) first.group groups new (taken b first.group groups new takes yes) there
+
+    pub still_there : b ≡ true → There new
+    still_there yes = all_without (λ (g : ℕ). g < length parents) first.group groups new (taken b first.group groups new takes yes) there
+
+    pub group_fails : b ≡ false → Decides false Whole
+    group_fails no = (λ t. absurd cc, λ h. absurd (walks_not_there w p groups walks first there some_walk is (not_taken b first.group groups new takes no) (way.1 h)))
+
+    module _ (order : List ℕ) (ordered : order ≡ preorder_of parents first.group) where
+      pub round_fails : IsNotBegun w (round_over nodes p order) (jobs_made walks) → Decides false Whole
+      round_fails none = (
+        λ t. absurd cc,
+        λ h. absurd (walks_not_begun w p groups walks first there some_walk is (subst (λ (gs : List ℕ). IsNotBegun w (round_over nodes p gs) (jobs_made walks)) ordered none) (way.1 h)),
+      )
+
+      pub round_more : (rest : List Job) (next : ℕ) → b ≡ true → next ≡ p - 1 → IsBehind w (round_over nodes p order) (jobs_made walks) rest → FitsRounds parents nodes w next new rest ↔ Whole
+      round_more rest next yes e behind =
+          let step = walks_taken w p groups walks first there some_walk is new rest (taken b first.group groups new takes yes) (subst (λ (gs : List ℕ). IsBehind w (round_over nodes p gs) (jobs_made walks) rest) ordered behind) in
+          (λ h. way.0 (step.0 (subst (λ (q : ℕ). FitsRounds parents nodes w q new rest) e h)), λ h. subst (λ (q : ℕ). FitsRounds parents nodes w q new rest) (sym e) (step.1 (way.1 h)))
+
+  pub all_rounds : (w : Bool) (p : ℕ) (groups : List ℕ) (walks : List WalkRecord) (empty : Bool) (Whole : Type 0) → There groups → (FitsRounds parents nodes w p groups (jobs_made walks) ↔ Whole) → length walks ≡ 0 → empty ≡ (length groups == 0) → Decides (not w || empty) Whole
+  all_rounds w p groups walks empty Whole there way none e =
+      let d = walks_none_left w p groups walks empty there none e in
+      (λ t. way.0 (d.0 t), λ h. d.1 (way.1 h))

@@ -67,8 +67,11 @@ over_named : (x : Reply) (h : ℕ) → over_at h x ≡ named (over_of x) h
 over_named (reply.Over group operation usage) h = refl
 over_named x h = refl
 
+some_same : (a b : ℕ) → ◌≡◌ {A = Option ℕ} (Some a) (Some b) → a ≡ b
+some_same a b e = cc
+
 is_over : (x : Reply) (g : ℕ) → over_of x ≡ Some g → (operation : ℕ) × ((usage : ℕ) × (x ≡ reply.Over g operation usage))
-is_over (reply.Over group operation usage) g e = (operation, (usage, ap (λ (n : ℕ). reply.Over n operation usage) (let same : group ≡ g = cc in same)))
+is_over (reply.Over group operation usage) g e = (operation, (usage, ap (λ (n : ℕ). reply.Over n operation usage) (some_same group g e)))
 is_over x g e = absurd cc
 
 -- ---- a command

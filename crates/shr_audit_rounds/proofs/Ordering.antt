@@ -93,3 +93,13 @@ order_at parents group g orders v are lt within is = are.each g v lt (slice_get-
 
 pub whole_order : (parents : List ℕ) (group : ℕ) (first all : List ℕ) → IsTree parents → group < length parents → first ≡ group ∷ [] → all ≡ first ++ subtrees_of parents group → all ≡ preorder_of parents group
 whole_order parents group first all tree lt f e = e ∙ ap (λ (xs : List ℕ). xs ++ subtrees_of parents group) f ∙ sym (preorder_of-group parents tree group lt)
+
+-- a group below the root, and one below it
+pub small_tree : IsTree (0 ∷ 0 ∷ 1 ∷ [])
+small_tree = record { has_root = omega arith; root = refl; lower = by }
+  where
+    by : (group : ℕ) → 0 < group → group < 3 → parent_of (0 ∷ 0 ∷ 1 ∷ []) group < group
+    by zero some lt = absurd (omega arith)
+    by (suc zero) some lt = omega arith
+    by (suc (suc zero)) some lt = omega arith
+    by (suc (suc (suc n))) some lt = absurd (omega arith)

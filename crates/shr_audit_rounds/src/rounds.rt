@@ -44,15 +44,17 @@ pub fn are_rounds(
     let mut rest = walks;
     let mut priority = 12u8;
     while !rest.is_empty() {
-        let group = rest[0].group;
-        if !take_out(groups, group) {
+        let first = &rest[0];
+        if !take_out(groups, first.group) {
             return false;
         }
-        let Some(more) = behind_round(rest, subtrees.order(group), nodes, priority, whole) else {
+        let order = subtrees.order(first.group);
+        let Some(more) = behind_round(rest, order, nodes, priority, whole) else {
             return false;
         };
         rest = more;
         priority = priority.saturating_sub(1);
     }
-    !whole || groups.is_empty()
+    let empty = groups.is_empty();
+    !whole || empty
 }

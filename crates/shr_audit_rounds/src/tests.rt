@@ -1,6 +1,6 @@
 //! Commands that made the walks that were due, and some that didn't.
 
-ghost use Rattle.std.specs.Prelude.{◌<◌, length};
+ghost use Rattle.std.specs.Prelude.{◌≡◌, ◌<◌, length, IfOk};
 ghost use Rattle.std.specs.List.{AllByRecursion};
 ghost use Rattle.shr_audit_rounds.specs.declared.refusals.Refusal.{Refusal};
 ghost use Rattle.shr_audit_rounds.specs.Orders.{AreSubtrees};
@@ -86,6 +86,15 @@ fn is_made(
     is_put_made(alloc, subtrees, 2, 2, reply, refusals, walks.as_slice())
 }
 
+// Group 1 below the root, and group 2 below it.
+fn small_tree(alloc: Global) -> Result<Subtrees, Memory>
+    ensures are { IfOk result (λ t. AreSubtrees t) }
+    ensures many { IfOk result (λ t. length t.parents.items ≡ 3) }
+{
+    let parents = Vec::from_slice(alloc, &[0, 0, 1])?;
+    Subtrees::of(alloc, parents)
+}
+
 const ADDED: Reply = Reply::Added {
     at: At {
         place: Place {
@@ -110,7 +119,7 @@ const JOBS: [Job; 6] = [
 #[test]
 fn rounds_are_made(rt: HostRuntime) -> Result<(), Fail> {
     let alloc = rt.alloc();
-    let subtrees = Subtrees::of(alloc, Vec::from_slice(alloc, &[0, 0, 1])?)?;
+    let subtrees = small_tree(alloc)?;
     let both = [ABOVE, OWN];
     assert!(rt; is_made(alloc, &subtrees, &ADDED, &both, &JOBS)?);
     assert!(rt; !is_made(alloc, &subtrees, &ADDED, &both, &JOBS[..5])?);
