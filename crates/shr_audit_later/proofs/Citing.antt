@@ -7,8 +7,8 @@ use Rattle.std.specs.List.{AllByRecursion}
 use Rattle.std.proofs.lemmas.Bool.{cases_Bool, and_parts, and_from, eqb-true, eq-eqb, ne_eqb}
 use Rattle.std.proofs.lemmas.Bool.Decides.{nat_tests}
 use Rattle.std.proofs.lemmas.Option.{slice_get-get_or, get_or_from_slice_get, slice_get_within}
-use Rattle.shr_formed.proofs.Eachs.{all_of, each_in, each_more}
-use Rattle.shr_audit_walks.proofs.Parts.{each_fail, each_step, each_whole}
+use Rattle.shr_formed.specs.Each.{Each}
+use Rattle.shr_formed.proofs.Eachs.{all_of, each_all, each_in, each_more}
 use Rattle.shr_case.proofs.Eachs.{decides_iff}
 use Rattle.shr_base.specs.declared.places.At.{At}
 use Rattle.shr_base.specs.declared.places.Place.{Place}
@@ -134,7 +134,7 @@ module _ (old new : Versions) (c : At) (b : Bool) (fit : fits c.place ≡ true) 
       by (Some highest) e = kept old old c fit highest e (at_least highest (λ lt. away (subst (λ (o : Option ℕ). IsAbove o c.entry) (sym e) lt)))
         where
           at_least : (n : ℕ) → (n < c.entry → ⊥) → c.entry ≤ n
-          at_least n no = grind arith
+          at_least n isnt = grind arith
 
   pub put_so : (k : ℕ) → k ≡ place_key c.place → b ≡ true → ((q : ℕ) → get nat_eq new q ≡ cond (nat_eq k q) (Some c.entry) (get nat_eq old q)) → NotesEntry old new (Some c)
   put_so k is t puts = put old new c fit (subst (λ (o : Option ℕ). IsAbove o c.entry) (highest_own old new c fit old) (d.0 t)) (λ q. puts q ∙ ap (λ (n : ℕ). cond (nat_eq n q) (Some c.entry) (get nat_eq old q)) is)
@@ -185,7 +185,7 @@ module _ {X : Type 0} (P : ℕ → Type 0) (g : X → List ℕ) (t : X → Bool)
 
       by : ((t x ≡ true) ⊎ (t x ≡ false)) → AllByRecursion P (flat_map g (filter t (x ∷ xs)))
       by (inl yes) = subst (λ (b : Bool). AllByRecursion P (flat_map g (cond b (x ∷ filter t xs) (filter t xs)))) (sym yes) (all_both P (g x) (flat_map g (filter t xs)) (each 0 x refl yes) rest)
-      by (inr no) = subst (λ (b : Bool). AllByRecursion P (flat_map g (cond b (x ∷ filter t xs) (filter t xs)))) (sym no) rest
+      by (inr isnt) = subst (λ (b : Bool). AllByRecursion P (flat_map g (cond b (x ∷ filter t xs) (filter t xs)))) (sym isnt) rest
 
   filtered_from : (xs : List X) → AllByRecursion P (flat_map g (filter t xs)) → Kept xs
   filtered_from [] all k x e yes = absurd (let lt = slice_get_within [] k x e in omega (arith, lt))
@@ -224,6 +224,17 @@ later_decided answers t w n b e cited d =
     let at_command = subst (λ (k : ℕ). AreCited answers k t) e cited in
     decides_iff b (IsWalkAbove t w) (IsLater answers w) (walk_later answers t w at_command) (walk_above answers t w at_command) d
 
+-- ---- items by an index
+
+pub each_step : {X : Type 0} (P : X → Type 0) (xs : List X) (i : ℕ) (d : X) → i < length xs → ((n : ℕ) (x : X) → n < i → slice_get xs n ≡ Some x → P x) → P (get_or xs i d) → (n : ℕ) (x : X) → n < i + 1 → slice_get xs n ≡ Some x → P x
+each_step P xs i d lt before here = each_more P xs i (get_or xs i d) lt (sym (get_or_from_slice_get xs i (get_or xs i d) (get_or xs i d) (slice_get-get_or xs i d lt))) before here
+
+pub each_fail : {X : Type 0} (P : X → Type 0) (xs ys : List X) (i : ℕ) (d : X) (b : Bool) → xs ≡ ys → i < length xs → Decides b (P (get_or xs i d)) → b ≡ false → Decides false (Each P ys)
+each_fail {X} P xs ys i d b e lt dec f = (λ t. absurd cc, λ h. absurd (clash b (dec.1 (h i (get_or xs i d) (ap (λ (zs : List X). slice_get zs i) (sym e) ∙ slice_get-get_or xs i d lt))) f))
+
+pub each_whole : {X : Type 0} (P : X → Type 0) (xs ys : List X) (i : ℕ) → xs ≡ ys → length xs ≤ i → ((n : ℕ) (x : X) → n < i → slice_get xs n ≡ Some x → P x) → Decides true (Each P ys)
+each_whole {X} P xs ys i e over before = subst (λ (zs : List X). Decides true (Each P zs)) e (each_all P xs i over before)
+
 -- ---- an attempt
 
 pub one_above : (b : Bool) (P : Type 0) → Decides b P → Decides b (P × Unit {0})
@@ -245,7 +256,7 @@ module _ (t : Versions) (w : WalkRecord) (tries : List Attempt) (i : ℕ) where
     attempt_more before yes = each_step AttemptAbove tries i d lt before (own_dec.0 yes)
 
     pub attempt_fails : tries ≡ w.attempts.items → b ≡ false → Decides false (IsWalkAbove t w)
-    attempt_fails all no = each_fail AttemptAbove tries w.attempts.items i d b all lt own_dec no
+    attempt_fails all isnt = each_fail AttemptAbove tries w.attempts.items i d b all lt own_dec isnt
 
   pub attempts_all : tries ≡ w.attempts.items → length tries ≤ i → ((k : ℕ) (a : Attempt) → k < i → slice_get tries k ≡ Some a → IsOutcomeAbove t (place_in w a.id) a.outcome) → Decides true (IsWalkAbove t w)
   attempts_all all over before = each_whole AttemptAbove tries w.attempts.items i all over before

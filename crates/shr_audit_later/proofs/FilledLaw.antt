@@ -1,5 +1,5 @@
 -- What is so of each walk of each worker is what the law asks of the bits.
-use Rattle.std.proofs.Common.{◌≡◌, ◌⊎◌, ℕ, ◌+◌, ◌<◌, ◌≤◌, Bool, true, false, cond, List, [], length, get_or, take, Option, Some, None, refl, sym, ap, subst, ◌∙◌, inl, inr, arith}
+use Rattle.std.proofs.Common.{◌≡◌, ◌⊎◌, ℕ, ◌+◌, ◌<◌, ◌≤◌, Bool, true, false, cond, List, [], ◌∷◌, length, get_or, take, Option, Some, None, refl, sym, ap, subst, ◌∙◌, inl, inr, arith}
 use Rattle.std.specs.Prelude.{◌&&◌, ◌==◌, not, option_map, slice_get}
 use Rattle.std.specs.Bool.{Decides}
 use Rattle.std.specs.List.{list_any}
@@ -134,9 +134,9 @@ module _ (s : Script) (r : Report) (worker : ℕ) (part : WorkerPart) (here : sl
 
 module _ (parents : List ℕ) (r : Report) (part : WorkerPart) (answers : List Answered) (walks : List WalkRecord) (a : answers ≡ part.answers.items) (ws : walks ≡ part.walks.items) (n : ℕ) where
   pub walk_fails : (w : WalkRecord) (b : Bool) → n < length walks → w ≡ get_or walks n w → Decides b (HasFilled parents r answers w) → b ≡ false → Decides false (IsPartFilled parents r part)
-  walk_fails w b lt is d no =
+  walk_fails w b lt is d isnt =
       let here : slice_get part.walks.items n ≡ Some w = ap (λ (xs : List WalkRecord). slice_get xs n) (sym ws) ∙ found_at walks n w lt is in
-      (λ t. absurd cc, λ h. absurd (clash b (d.1 (subst (λ (xs : List Answered). HasFilled parents r xs w) (sym a) (h n w here))) no))
+      (λ t. absurd cc, λ h. absurd (clash b (d.1 (subst (λ (xs : List Answered). HasFilled parents r xs w) (sym a) (h n w here))) isnt))
 
   pub walks_all : length walks ≤ n → ((k : ℕ) (w : WalkRecord) → k < n → slice_get walks k ≡ Some w → HasFilled parents r answers w) → Decides true (IsPartFilled parents r part)
   walks_all over before =

@@ -192,3 +192,9 @@ module _ (t : Words) (w : WalkRecord) (m : MapSeen) (group : w.group < 65536) (u
 
           outside : (x y : ℕ) → x ≡ 0 → min x y ≡ x
           outside x y e = omega arith
+
+  pub map_decided : (word : ℕ) → word ≡ word_in t (word_key w.node w.group m.unit) → word < 2 ^ 64 → Decides (bit_and word m.bits == word) (IsMapFull t w m)
+  map_decided word is wide = (
+    λ h. map_full (ap (λ (n : ℕ). bit_and n m.bits) (sym is) ∙ (eqb-true (bit_and word m.bits) word h ∙ is)),
+    λ full. eq-eqb (bit_and word m.bits) word (ap (λ (n : ℕ). bit_and n m.bits) is ∙ (full_map (subst (λ (n : ℕ). n < 2 ^ 64) is wide) full ∙ sym is)),
+  )

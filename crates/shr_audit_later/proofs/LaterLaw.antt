@@ -45,9 +45,9 @@ module _ (r : Report) (worker : ℕ) (part : WorkerPart) (here : slice_get r.wor
 
 module _ (part : WorkerPart) (answers : List Answered) (walks : List WalkRecord) (a : answers ≡ part.answers.items) (ws : walks ≡ part.walks.items) (n : ℕ) where
   pub walk_fails : (w : WalkRecord) (b : Bool) → n < length walks → w ≡ get_or walks n w → Decides b (IsLater answers w) → b ≡ false → Decides false (IsPartLater part)
-  walk_fails w b lt is d no =
+  walk_fails w b lt is d isnt =
       let here : slice_get part.walks.items n ≡ Some w = ap (λ (xs : List WalkRecord). slice_get xs n) (sym ws) ∙ found_at walks n w lt is in
-      (λ t. absurd cc, λ h. absurd (clash b (d.1 (subst (λ (xs : List Answered). IsLater xs w) (sym a) (h n w here))) no))
+      (λ t. absurd cc, λ h. absurd (clash b (d.1 (subst (λ (xs : List Answered). IsLater xs w) (sym a) (h n w here))) isnt))
 
   pub walks_all : length walks ≤ n → ((k : ℕ) (w : WalkRecord) → k < n → slice_get walks k ≡ Some w → IsLater answers w) → Decides true (IsPartLater part)
   walks_all over before = subst (λ (xs : List Answered). Decides true (Each (IsLater xs) part.walks.items)) a (subst (λ (xs : List WalkRecord). Decides true (Each (IsLater answers) xs)) ws (each_all (IsLater answers) walks n over before))

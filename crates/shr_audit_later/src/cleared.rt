@@ -1,12 +1,10 @@
 //! The places whose bits some walk of a report cleared.
 
-ghost use Rattle.std.specs.Prelude.{◌≡◌, cond, [], ◌∷◌, flat_map, OnOk, IfOk};
-ghost use Rattle.shr_base.specs.declared.ends.WorkerPart.{WorkerPart};
+ghost use Rattle.std.specs.Prelude.{◌≡◌, flat_map, OnOk, IfOk};
 ghost use Rattle.shr_model.specs.Attempts.{is_clearing};
 ghost use Rattle.shr_model.specs.Walks.{clearings_of};
-ghost use Rattle.shr_report.specs.Parts.{all_walks};
 ghost use Rattle.shr_report.specs.WalksLawful.{was_cleared};
-ghost use Rattle.shr_audit_later.specs.Cleared.{Clears, HasCleared, cleared_by, has_place};
+ghost use Rattle.shr_audit_later.specs.Cleared.{Clears, HasCleared, cleared_by};
 
 use shr_audit_versions::table::place_key;
 use shr_audit_versions::walks::place_in;

@@ -106,7 +106,7 @@ above_more parents group groups i lt before here = subst (λ (xs : List ℕ). Al
     both (x ∷ xs) all = (all.0, both xs all.1)
 
 pub above_fails : (parents : List ℕ) (group : ℕ) (groups : List ℕ) (i : ℕ) (b : Bool) → i < length groups → Decides b (IsAtOrAbove parents (get_or groups i 0) group) → b ≡ false → Decides false (AllByRecursion (λ (h : ℕ). IsAtOrAbove parents h group) groups)
-above_fails parents group groups i b lt d no = (λ t. absurd cc, λ all. absurd (clash b (d.1 (one groups i lt all)) no))
+above_fails parents group groups i b lt d isnt = (λ t. absurd cc, λ all. absurd (clash b (d.1 (one groups i lt all)) isnt))
   where
     clash : (b : Bool) → b ≡ true → b ≡ false → ⊥
     clash b e f = cc

@@ -27,7 +27,6 @@ use Rattle.shr_formed.proofs.WellParts.{parts_of}
 use Rattle.shr_case.specs.Each.{AnswersInParts}
 use Rattle.shr_case.proofs.Eachs.{each_answer_of}
 use Rattle.shr_audit_walks.specs.Commands.{StandByCommand, walks_with}
-use Rattle.shr_audit_walks.proofs.Answered.{part_stands}
 use Rattle.shr_audit_rounds.specs.declared.commands.Dues.{Dues}
 use Rattle.shr_audit_rounds.specs.Commands.{AreDues, IsAnswerMade, IsCommandMade, IsPartMade}
 use Rattle.shr_audit_rounds.specs.Refusals.{groups_of, refusals_with, serial_key}
@@ -40,7 +39,7 @@ pub found_at : {X : Type 0} (xs ys : List X) (i : ℕ) (x : X) → xs ≡ ys →
 found_at {X} xs ys i x e lt is = ap (λ (zs : List X). slice_get zs i) (sym e) ∙ slice_get-get_or xs i x lt ∙ ap (λ (y : X). Some y) (sym is)
 
 pub stands_here : (r : Report) (parts : List WorkerPart) (worker : ℕ) (part : WorkerPart) → IsWellFormed r → parts ≡ r.workers.items → worker < length parts → part ≡ get_or parts worker part → StandByCommand part.walks.items
-stands_here r parts worker part well e lt is = part_stands r worker part well (found_at parts r.workers.items worker part e lt is)
+stands_here r parts worker part well e lt is = (parts_of r well worker part (found_at parts r.workers.items worker part e lt is)).1.0.1.1
 
 -- ---- the walks of a command
 

@@ -203,7 +203,7 @@ module _ (parents : List ℕ) (nodes : ℕ) (tree : IsTree parents) (some : 0 < 
     still_there yes = all_without (λ (g : ℕ). g < length parents) first.group groups new (taken b first.group groups new takes yes) there
 
     pub group_fails : b ≡ false → Decides false Whole
-    group_fails no = (λ t. absurd cc, λ h. absurd (walks_not_there w p groups walks first there some_walk is (not_taken b first.group groups new takes no) (way.1 h)))
+    group_fails isnt = (λ t. absurd cc, λ h. absurd (walks_not_there w p groups walks first there some_walk is (not_taken b first.group groups new takes isnt) (way.1 h)))
 
     module _ (order : List ℕ) (ordered : order ≡ preorder_of parents first.group) where
       pub round_fails : IsNotBegun w (round_over nodes p order) (jobs_made walks) → Decides false Whole
