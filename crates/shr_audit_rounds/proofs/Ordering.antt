@@ -1,5 +1,6 @@
 -- The preorders of groups, from the last group up.
 use Rattle.std.proofs.Common.{◌≡◌, ◌⊎◌, ℕ, zero, suc, ◌+◌, ◌-◌, ◌<◌, ◌≤◌, Bool, true, false, cond, List, [], ◌∷◌, ◌++◌, length, get_or, filter, flat_map, Option, Some, None, refl, sym, ap, subst, ◌∙◌, inl, inr, arith, append_assoc}
+use Rattle.std.specs.declared.alloc.Global.{Global}
 use Rattle.std.specs.Prelude.{slice_get, Vec}
 use Rattle.std.specs.List.{range_with_len}
 use Rattle.std.proofs.lemmas.Bool.{cases_Bool}
@@ -76,7 +77,7 @@ at_end (z ∷ zs) x (suc n) y e = elim (at_end zs x n y e) [
 pub no_orders : (parents : List ℕ) → AreOrdersFrom parents (length parents) []
 no_orders parents = record { many = omega arith; each = λ g v lt e. absurd (let l = slice_get_within [] (length parents - 1 - g) v e in omega (arith, l)) }
 
-pub order_more : (parents : List ℕ) (group : ℕ) (orders : List (Vec ℕ)) (order : Vec ℕ) → AreOrdersFrom parents (group + 1) orders → order.items ≡ preorder_of parents group → AreOrdersFrom parents group (orders ++ order ∷ [])
+pub order_more : (parents : List ℕ) (group : ℕ) (orders : List (Vec ℕ Global)) (order : Vec ℕ Global) → AreOrdersFrom parents (group + 1) orders → order.items ≡ preorder_of parents group → AreOrdersFrom parents group (orders ++ order ∷ [])
 order_more parents group orders order before is =
     let n = before.many in
     let long = length-append orders (order ∷ []) in
@@ -84,12 +85,12 @@ order_more parents group orders order before is =
       many = omega (arith, n, long);
       each = λ g v lt e. elim (at_end orders order (length parents - 1 - g) v e) [
         | inl h ↦ before.each g v lt h.1
-        | inr h ↦ let at = h.0 in let same : g ≡ group = omega (arith, n, at, lt) in subst (λ (o : Vec ℕ). o.items ≡ preorder_of parents g) h.1 (is ∙ ap (preorder_of parents) (sym same))
+        | inr h ↦ let at = h.0 in let same : g ≡ group = omega (arith, n, at, lt) in subst (λ (o : Vec ℕ Global). o.items ≡ preorder_of parents g) h.1 (is ∙ ap (preorder_of parents) (sym same))
       ];
     }
 
-pub order_at : (parents : List ℕ) (group g : ℕ) (orders : List (Vec ℕ)) (v : Vec ℕ) → AreOrdersFrom parents group orders → g < length parents → length parents - 1 - g < length orders → v ≡ get_or orders (length parents - 1 - g) v → v.items ≡ preorder_of parents g
-order_at parents group g orders v are lt within is = are.each g v lt (slice_get-get_or orders (length parents - 1 - g) v within ∙ ap (λ (o : Vec ℕ). Some o) (sym is))
+pub order_at : (parents : List ℕ) (group g : ℕ) (orders : List (Vec ℕ Global)) (v : Vec ℕ Global) → AreOrdersFrom parents group orders → g < length parents → length parents - 1 - g < length orders → v ≡ get_or orders (length parents - 1 - g) v → v.items ≡ preorder_of parents g
+order_at parents group g orders v are lt within is = are.each g v lt (slice_get-get_or orders (length parents - 1 - g) v within ∙ ap (λ (o : Vec ℕ Global). Some o) (sym is))
 
 pub whole_order : (parents : List ℕ) (group : ℕ) (first all : List ℕ) → IsTree parents → group < length parents → first ≡ group ∷ [] → all ≡ first ++ subtrees_of parents group → all ≡ preorder_of parents group
 whole_order parents group first all tree lt f e = e ∙ ap (λ (xs : List ℕ). xs ++ subtrees_of parents group) f ∙ sym (preorder_of-group parents tree group lt)
