@@ -5,6 +5,7 @@ use Rattle.std.specs.Bool.{Decides}
 use Rattle.std.specs.List.{cons_option, enumerate_from}
 use Rattle.std.specs.Option.{IsSomeAnd}
 use Rattle.std.proofs.lemmas.Bool.Decides.{nat_tests}
+use Rattle.std.proofs.lemmas.List.Sums.{sum_by-cons}
 use Rattle.std.proofs.lemmas.Option.{slice_get_within}
 use Rattle.shr_base.specs.declared.places.Serial.{Serial}
 use Rattle.shr_base.specs.declared.replies.Reply.{Reply}
@@ -34,7 +35,7 @@ on_step false n k ns e = omega (arith, e)
 
 pub on_counted : (n : ℕ) (cs : List CacheDecl) → on_in cs ≡ length (filter_map (λ (c : ℕ × CacheDecl). cond c.1.on (Some c.0) None) (enumerate_from n cs))
 on_counted n [] = refl
-on_counted n (c ∷ cs) = on_step c.on n (on_in cs) (filter_map (λ (x : ℕ × CacheDecl). cond x.1.on (Some x.0) None) (enumerate_from (n + 1) cs)) (on_counted (n + 1) cs)
+on_counted n (c ∷ cs) = sum_by-cons (λ (x : CacheDecl). cond x.on 1 0) c cs ∙ on_step c.on n (on_in cs) (filter_map (λ (x : ℕ × CacheDecl). cond x.1.on (Some x.0) None) (enumerate_from (n + 1) cs)) (on_counted (n + 1) cs)
 
 -- ---- what an answer made
 

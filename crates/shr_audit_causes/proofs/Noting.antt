@@ -117,7 +117,7 @@ module _ (P Q : Serial → Type 0) (w k : ℕ) (to : (x : Serial) → P x → Q 
       | inr is ↦ ap (λ (y : Serial). y.worker) is ∙ same_of v w (or_false others (not (v == w)) e).1
     ];
     apart = λ e. elim (or_true others (not (v == w)) e) [
-      | inl yes ↦ (let y = t.apart yes in (y.0, y.1, to y.0 y.2))
+      | inl holds ↦ (let y = t.apart holds in (y.0, y.1, to y.0 y.2))
       | inr other ↦ (serial_of w k, apart_of v w other, own)
     ];
   }

@@ -1,5 +1,5 @@
 -- The phases of an id along the journal of registrations.
-use Rattle.std.proofs.Common.{◌≡◌, ◌⊎◌, ℕ, zero, suc, ◌+◌, ◌<◌, ◌≤◌, Bool, cond, eqb, List, length, get_or, take, Option, Some, None, refl, sym, ap, subst, ◌∙◌, inl, inr, arith, eq-eqb, ne_eqb}
+use Rattle.std.proofs.Common.{◌≡◌, ◌⊎◌, ℕ, zero, suc, ◌+◌, ◌-◌, ◌<◌, ◌≤◌, Bool, cond, eqb, List, length, get_or, take, Option, Some, None, refl, sym, ap, subst, ◌∙◌, inl, inr, arith, eq-eqb, ne_eqb}
 use Rattle.std.specs.Prelude.{◌↔◌, slice_get, option_map}
 use Rattle.std.proofs.lemmas.Bool.{cases_lt}
 use Rattle.std.proofs.lemmas.List.{take_more, take_all}
@@ -44,23 +44,23 @@ raised_one id (Some e) h = ap (λ (b : Bool). cond b 1 0) (eq-eqb (id_of e) id (
 
 raised_none : (id : ℕ) (o : Option PoolEntry) → (option_map id_of o ≡ Some id → ⊥) → raised id o ≡ 0
 unfolding raised
-raised_none id None no = refl
-raised_none id (Some e) no = ap (λ (b : Bool). cond b 1 0) (ne_eqb (id_of e) id (λ same. no (ap (λ (n : ℕ). Some n) same)))
+raised_none id None none = refl
+raised_none id (Some e) none = ap (λ (b : Bool). cond b 1 0) (ne_eqb (id_of e) id (λ same. none (ap (λ (n : ℕ). Some n) same)))
 
 -- an entry of the id, and another
 next_phase : (pool : List PoolEntry) (id k : ℕ) → IsOf pool id k → phase pool id (k + 1) ≡ phase pool id k + 1
 next_phase pool id k h = one_more pool id k ∙ ap (λ (n : ℕ). phase pool id k + n) (raised_one id (slice_get pool k) h)
 
 same_phase : (pool : List PoolEntry) (id k : ℕ) → (IsOf pool id k → ⊥) → phase pool id (k + 1) ≡ phase pool id k
-same_phase pool id k no = let e = one_more pool id k ∙ ap (λ (n : ℕ). phase pool id k + n) (raised_none id (slice_get pool k) no) in omega (arith, e)
+same_phase pool id k none = let e = one_more pool id k ∙ ap (λ (n : ℕ). phase pool id k + n) (raised_none id (slice_get pool k) none) in omega (arith, e)
 
 -- so many entries further
 quiet_for : (pool : List PoolEntry) (id a m : ℕ) → ((n : ℕ) → a ≤ n → n < a + m → IsOf pool id n → ⊥) → phase pool id (a + m) ≡ phase pool id a
-quiet_for pool id a zero no = ap (phase pool id) (let e : a + 0 ≡ a = omega arith in e)
-quiet_for pool id a (suc m) no =
+quiet_for pool id a zero none = ap (phase pool id) (let e : a + 0 ≡ a = omega arith in e)
+quiet_for pool id a (suc m) none =
     ap (phase pool id) (let e : a + suc m ≡ (a + m) + 1 = omega arith in e)
-    ∙ same_phase pool id (a + m) (no (a + m) (omega arith) (omega arith))
-    ∙ quiet_for pool id a m (λ n le lt. no n le (omega (arith, lt)))
+    ∙ same_phase pool id (a + m) (none (a + m) (omega arith) (omega arith))
+    ∙ quiet_for pool id a m (λ n le lt. none n le (omega (arith, lt)))
 
 rises_for : (pool : List PoolEntry) (id a m : ℕ) → phase pool id a ≤ phase pool id (a + m)
 rises_for pool id a zero = let e = ap (phase pool id) (let e : a + 0 ≡ a = omega arith in e) in omega (arith, e)
@@ -72,9 +72,9 @@ rises_for pool id a (suc m) =
 
 -- no entry of the id stands between two numbers, and any do
 quiet : (pool : List PoolEntry) (id a b : ℕ) → a ≤ b → ((n : ℕ) → a ≤ n → n < b → IsOf pool id n → ⊥) → phase pool id b ≡ phase pool id a
-quiet pool id a b le no =
+quiet pool id a b le none =
     let e : a + (b - a) ≡ b = omega (arith, le) in
-    ap (phase pool id) (sym e) ∙ quiet_for pool id a (b - a) (λ n from lt. no n from (omega (arith, lt, le)))
+    ap (phase pool id) (sym e) ∙ quiet_for pool id a (b - a) (λ n from lt. none n from (omega (arith, lt, le)))
 
 rises : (pool : List PoolEntry) (id a b : ℕ) → a ≤ b → phase pool id a ≤ phase pool id b
 rises pool id a b le =
@@ -85,12 +85,12 @@ rises pool id a b le =
 
 pub next_more : (pool : List PoolEntry) (id from n : ℕ) (d : PoolEntry) → n < length pool → (id_of (get_or pool n d) ≡ id → ⊥)
     → ((m : ℕ) → from ≤ m → m < n → IsOf pool id m → ⊥) → (m : ℕ) → from ≤ m → m < n + 1 → IsOf pool id m → ⊥
-next_more pool id from n d there no before m le lt of = elim (cases_lt m n) [
+next_more pool id from n d there none before m le lt of = elim (cases_lt m n) [
   | inl below ↦ before m le below of
   | inr above ↦
       let same : m ≡ n = omega (arith, lt, above) in
       let here : option_map id_of (slice_get pool n) ≡ Some id = subst (λ (k : ℕ). IsOf pool id k) same of in
-      no (some_same (id_of (get_or pool n d)) id (sym (ap (option_map id_of) (slice_get-get_or pool n d there)) ∙ here))
+      none (some_same (id_of (get_or pool n d)) id (sym (ap (option_map id_of) (slice_get-get_or pool n d there)) ∙ here))
 ]
 
 pub next_found : (pool : List PoolEntry) (id from n : ℕ) (d : PoolEntry) → from ≤ n → n < length pool → id_of (get_or pool n d) ≡ id → ((m : ℕ) → from ≤ m → m < n → IsOf pool id m → ⊥) → IsNextOf pool id from (Some n)

@@ -87,10 +87,10 @@ module _ (P Q : ℕ → ℕ → Type 0) (command : ℕ) (group : Option ℕ) (ol
     where
       by : (b : Bool) → is_group g group ≡ b → IsLeast (Q g) (cond b (Some (first_with (get nat_eq old g) command)) (get nat_eq old g))
       by true e = least_more (P g) (Q g) command (to g) (λ k q. elim (from g k q) [ inl p ↦ inl p | inr h ↦ inr h.0 ]) (own g e) (get nat_eq old g) (are g)
-      by false e = least_same (P g) (Q g) (to g) (λ k q. elim (from g k q) [ inl p ↦ p | inr h ↦ absurd (let yes = h.1 in cc) ]) (get nat_eq old g) (are g)
+      by false e = least_same (P g) (Q g) (to g) (λ k q. elim (from g k q) [ inl p ↦ p | inr h ↦ absurd (let holds = h.1 in cc) ]) (get nat_eq old g) (are g)
 
 pub firsts_same : (P Q : ℕ → ℕ → Type 0) (firsts : Firsts) → ((g k : ℕ) → P g k → Q g k) → ((g k : ℕ) → Q g k → P g k) → AreFirsts P firsts → AreFirsts Q firsts
 firsts_same P Q firsts to from are g = least_same (P g) (Q g) (to g) (from g) (get nat_eq firsts g) (are g)
 
 pub firsts_blank : (P : ℕ → ℕ → Type 0) (firsts : Firsts) → ((g k : ℕ) → P g k → ⊥) → IsBlank firsts → AreFirsts P firsts
-firsts_blank P firsts no blank g = subst (IsLeast (P g)) (sym (blank g)) (no g)
+firsts_blank P firsts unlike blank g = subst (IsLeast (P g)) (sym (blank g)) (unlike g)

@@ -61,7 +61,7 @@ pub reach_both : (floor : ℕ) (ns ms : List ℕ) (b : Bool) → Reaches floor n
 reach_both floor ns ms b h d = (λ t. all_both (λ m. floor ≤ m) ns ms h (d.0 t), λ g. d.1 (all_back (λ m. floor ≤ m) ns ms g))
 
 pub reach_fails : (floor : ℕ) (ns ms : List ℕ) (b : Bool) → Decides b (Reaches floor ns) → b ≡ false → Decides false (Reaches floor (ns ++ ms))
-reach_fails floor ns ms b d isnt = (λ t. absurd cc, λ g. absurd (let yes = d.1 (all_front (λ m. floor ≤ m) ns ms g) in cc))
+reach_fails floor ns ms b d isnt = (λ t. absurd cc, λ g. absurd (let holds = d.1 (all_front (λ m. floor ≤ m) ns ms g) in cc))
 
 -- ---- floors
 
@@ -129,5 +129,5 @@ known_all known seen count command over none before = (
 pub known_fails : (known seen : ℕ → List ℕ) (command floor : ℕ) (b : Bool) → IsFloorBefore known command floor → Decides b (Reaches floor (seen command)) → b ≡ false → Decides false ((k later : ℕ) → k < later → AreBelow (known k) (seen later))
 known_fails known seen command floor b f d isnt = (
   λ t. absurd cc,
-  λ h. absurd (let yes = d.1 (below_reaches known command floor (seen command) f (λ k lt. h k command lt)) in cc),
+  λ h. absurd (let holds = d.1 (below_reaches known command floor (seen command) f (λ k lt. h k command lt)) in cc),
 )

@@ -67,7 +67,7 @@ module _ (s : Script) (r : Report) (worker : ℕ) where
         by (Some m) is t = absurd (h m g t.0.0 t.0.1 ((says g).0 e))
 
     pub made_fails : (b : Bool) → Decides b ((g : ℕ) → unmade ≡ Some g → get nat_eq firsts g ≡ None) → b ≡ false → Decides false ((later : ℕ) → StaysMadeAt s r worker later)
-    made_fails b d isnt = (λ t. absurd cc, λ h. absurd (let yes = d.1 (here_stays (h n)) in cc))
+    made_fails b d isnt = (λ t. absurd cc, λ h. absurd (let holds = d.1 (here_stays (h n)) in cc))
 
   pub past_made : (later : ℕ) → length (answers_of r worker) ≤ later → StaysMadeAt s r worker later
   past_made later over k g lt sh e = absurd (none_some (reply.NotMade g) (sym (reply_none r (serial_of worker later) (sym (answer_past r worker later over))) ∙ e))

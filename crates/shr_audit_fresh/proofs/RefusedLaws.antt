@@ -64,7 +64,7 @@ module _ (r : Report) (worker : ℕ) where
       within g k h = elim (cases_lt k n) [
         | inl below ↦ (below, h)
         | inr above ↦ (let none : cites_at r worker k ≡ [] = of_past r worker k (λ (a : Answered). tree_cited a.reply) (omega (arith, over, above)) in
-            let no : ◌≡◌ {A = Bool} false true = subst (λ (ns : List ℕ). shows_in r g ns ≡ true) none h in absurd cc)
+            let unlike : ◌≡◌ {A = Bool} false true = subst (λ (ns : List ℕ). shows_in r g ns ≡ true) none h in absurd cc)
       ]
 
   -- ---- walks
@@ -149,14 +149,14 @@ module _ (s : Script) (r : Report) (worker later : ℕ) where
 
   module _ (firsts : Firsts) (are : AreFirsts (ShownOffline r worker) firsts) (group : ℕ) (asks : Some group ≡ option_and_then asks_online (command_at s (serial_of worker later))) where
     pub not_shown : is_before (get nat_eq firsts group) later ≡ false → Decides true (IsRefusedAt s r worker later)
-    not_shown no = (λ t k g lt sh e. absurd (late k lt (subst (λ (h : ℕ). ShownOffline r worker h k) (sym (some_same group g (asks ∙ e))) sh) (get nat_eq firsts group) no (are group)), λ h. refl)
+    not_shown unlike = (λ t k g lt sh e. absurd (late k lt (subst (λ (h : ℕ). ShownOffline r worker h k) (sym (some_same group g (asks ∙ e))) sh) (get nat_eq firsts group) unlike (are group)), λ h. refl)
       where
         late : (k : ℕ) → k < later → ShownOffline r worker group k → (o : Option ℕ) → is_before o later ≡ false → IsLeast (ShownOffline r worker group) o → ⊥
         late k lt sh None f t = t k sh
         late k lt sh (Some m) f t = let le = t.1 k sh in let over : later ≤ m = grind (arith, nat_tests) in omega (arith, le, over, lt)
 
     pub was_shown : (b : Bool) → is_before (get nat_eq firsts group) later ≡ true → Decides b (IsSomeAnd (reply_at r (serial_of worker later)) MayBeOffline) → Decides b (IsRefusedAt s r worker later)
-    was_shown b yes d = (λ t k g lt sh e. d.0 t, λ h. d.1 (there (get nat_eq firsts group) yes (are group) h))
+    was_shown b holds d = (λ t k g lt sh e. d.0 t, λ h. d.1 (there (get nat_eq firsts group) holds (are group) h))
       where
         there : (o : Option ℕ) → is_before o later ≡ true → IsLeast (ShownOffline r worker group) o → IsRefusedAt s r worker later → IsSomeAnd (reply_at r (serial_of worker later)) MayBeOffline
         there None f t h = absurd cc

@@ -65,7 +65,7 @@ own_and_later w c worker k e = (by (w == worker) refl e, late)
     right false b f = f
 
     late : k < c
-    late = let no = right (not (w == worker)) (nat_le c k) e in grind (arith, nat_tests)
+    late = let unlike = right (not (w == worker)) (nat_le c k) e in grind (arith, nat_tests)
 
 or_false : (a b : Bool) → (a || b) ≡ false → (a ≡ false) × (b ≡ false)
 or_false true b e = absurd cc
@@ -75,7 +75,7 @@ may_of : (P : Serial → Type 0) (c : Cited) (worker k : ℕ) → Tells P c → 
 may_of P Never worker k t e all = absurd cc
 may_of P (Once w j) worker k t e all = other_or_early w j worker k e (all (serial_of w j) t.0)
 may_of P (Often w j others) worker k t e all = elim (or_true others (not (w == worker) || nat_le j k) e) [
-  | inl yes ↦ (let y = t.apart yes in y.1 ((all y.0 y.2).0 ∙ sym ((all (serial_of w j) t.so).0)))
+  | inl holds ↦ (let y = t.apart holds in y.1 ((all y.0 y.2).0 ∙ sym ((all (serial_of w j) t.so).0)))
   | inr here ↦ other_or_early w j worker k here (all (serial_of w j) t.so)
 ]
 
@@ -128,7 +128,7 @@ few_of r fits group (n ∷ ns) e = elim (or_true (is_begin_at r group n) (list_a
 -- ---- one entry
 
 pub entry_none : (r : Report) (begun : List Cited) (worker k : ℕ) (ns : List ℕ) → ((g : ℕ) → is_group g None ≡ list_any (is_begin_at r g) ns) → Decides true (IsEntryStarted r begun worker k ns)
-entry_none r begun worker k ns shows = (λ t g e. (let no : ◌≡◌ {A = Bool} false true = shows g ∙ e in absurd cc), λ h. refl)
+entry_none r begun worker k ns shows = (λ t g e. (let unlike : ◌≡◌ {A = Bool} false true = shows g ∙ e in absurd cc), λ h. refl)
 
 pub entry_one : (r : Report) (begun : List Cited) (worker k : ℕ) (ns : List ℕ) (b : Bool) (group : ℕ) → ((g : ℕ) → is_group g (Some group) ≡ list_any (is_begin_at r g) ns) → b ≡ may_show (cited_in begun group) worker k → Decides b (IsEntryStarted r begun worker k ns)
 entry_one r begun worker k ns b group shows is = (
@@ -142,7 +142,7 @@ entry_one r begun worker k ns b group shows is = (
 pub past_started : (r : Report) (begun : List Cited) (worker k : ℕ) → length (answers_of r worker) ≤ k → IsEntryStarted r begun worker k (of_answer r (serial_of worker k) (λ (a : Answered). tree_cited a.reply))
 past_started r begun worker k over g e =
     let none = of_past r worker k (λ (a : Answered). tree_cited a.reply) over in
-    let no : ◌≡◌ {A = Bool} false true = subst (λ (ns : List ℕ). list_any (is_begin_at r g) ns ≡ true) none e in
+    let unlike : ◌≡◌ {A = Bool} false true = subst (λ (ns : List ℕ). list_any (is_begin_at r g) ns ≡ true) none e in
     absurd cc
 
 -- ---- answers and walks
@@ -228,7 +228,7 @@ module _ (s : Script) (r : Report) (begun : List Cited) (cited : AreCited s r sa
       by true f = f
       by false f =
           let few = few_of r fits g (shown_by r (serial_of worker k)) e in
-          let no = sym e ∙ h k g (all_later s r begun cited g worker k few f) in
+          let unlike = sym e ∙ h k g (all_later s r begun cited g worker k few f) in
           absurd cc
 
   answers_of_law : IsBeginStarted s r worker → AreAnswersStarted r begun worker
@@ -239,7 +239,7 @@ module _ (s : Script) (r : Report) (begun : List Cited) (cited : AreCited s r sa
       (cites_walk r worker g (walks_of r worker) n w at mine e))
 
   pub answers_fail : (b : Bool) → Decides b (AreAnswersStarted r begun worker) → b ≡ false → Decides false (IsBeginStarted s r worker)
-  answers_fail b d isnt = (λ t. absurd cc, λ h. absurd (let yes = d.1 (answers_of_law h) in cc))
+  answers_fail b d isnt = (λ t. absurd cc, λ h. absurd (let holds = d.1 (answers_of_law h) in cc))
 
   pub started : (b : Bool) → AreAnswersStarted r begun worker → Decides b (Each (λ w. IsWalkStarted r begun worker w) (walks_of r worker)) → Decides b (IsBeginStarted s r worker)
   started b answers d = (λ t k g all. not_shown t k g all, λ h. d.1 (walks_of_law h))

@@ -14,4 +14,4 @@ module _ (P : ℕ → Type 0) (n : ℕ) where
   upto_all before past = (λ t k. elim (cases_lt k n) [ inl below ↦ before k below | inr above ↦ past k above ], λ h. refl)
 
   pub upto_fails : (b : Bool) → Decides b (P n) → b ≡ false → Decides false ((k : ℕ) → P k)
-  upto_fails b d isnt = (λ t. absurd cc, λ h. absurd (let yes = d.1 (h n) in cc))
+  upto_fails b d isnt = (λ t. absurd cc, λ h. absurd (let holds = d.1 (h n) in cc))

@@ -40,7 +40,7 @@ module _ (s : Script) (r : Report) (worker : ℕ) (over : length r.workers.items
       ∙ ap (λ (ws : List WalkRecord). flat_map (λ (w : WalkRecord). walk_cited w.answer) (filter (λ (w : WalkRecord). is_serial (serial_of worker k) w.by) ws)) no_walks
 
   not_offline : (k g : ℕ) → shows_offline r (serial_of worker k) g ≡ true → ⊥
-  not_offline k g e = let no : ◌≡◌ {A = Bool} false true = subst (λ (ns : List ℕ). (list_any (is_begin_at r g) ns || list_any (is_done_at r g) ns) ≡ true) (none_shown k) e in absurd cc
+  not_offline k g e = let unlike : ◌≡◌ {A = Bool} false true = subst (λ (ns : List ℕ). (list_any (is_begin_at r g) ns || list_any (is_done_at r g) ns) ≡ true) (none_shown k) e in absurd cc
 
   pub fresh_past : IsWorkerFresh s r worker
   fresh_past = record {
