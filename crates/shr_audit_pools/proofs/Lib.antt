@@ -1,0 +1,3 @@
+mod Dues
+mod Journaled
+mod Ranged
