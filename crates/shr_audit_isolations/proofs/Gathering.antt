@@ -17,7 +17,7 @@ use Rattle.shr_formed.specs.Each.{Each}
 use Rattle.shr_formed.proofs.Eachs.{each_more, fails}
 use Rattle.shr_audit_isolations.specs.declared.gathered.Gathered.{Gathered}
 use Rattle.shr_audit_isolations.specs.Gathered.{Gains, IsOfTold, Told, at_place, told_at, with_scans}
-use Rattle.shr_audit_isolations.proofs.Sets.{map_alike, map_same, map_then, some_mapped, some_unmapped}
+use Rattle.shr_audit_isolations.proofs.Options.{map_alike, map_same, map_then, some_mapped, some_unmapped}
 
 -- ---- what is gained
 

@@ -1,4 +1,4 @@
-mod Sets
+mod Options
 mod Ranged
 mod Gathering
 mod Lists

@@ -30,7 +30,7 @@ use Rattle.shr_audit_isolations.specs.declared.gathered.Gathered.{Gathered}
 use Rattle.shr_audit_isolations.specs.Gathered.{AreGathered, Gains, IsBegun, IsOfTheirs, IsOfTold, Told, at_place, begun, gathered_of, journals_to, new_at, row_of, told_at, told_of, with_scans}
 use Rattle.shr_audit_isolations.specs.Right.{AreGatheredRight, AreRowsRight, IsToldRight}
 use Rattle.shr_audit_isolations.proofs.Gathering.{gains_same, gains_then, no_gain, told_after, told_before}
-use Rattle.shr_audit_isolations.proofs.Sets.{map_then, some_mapped, some_unmapped}
+use Rattle.shr_audit_isolations.proofs.Options.{map_then, some_mapped, some_unmapped}
 
 -- ---- one list more
 
@@ -181,18 +181,18 @@ begun_count : (parts : List WorkerPart) (table : List (Vec Gathered Global)) →
 begun_count parts table begin =
     sym (length-map table (λ (row : Vec Gathered Global). map told_of row.items)) ∙ (ap length begin ∙ length-map parts (λ (part : WorkerPart). map begun part.isolations.items))
 
+abbrev gathered_with : ℕ → ℕ → Isolation → List Entry → Told
+gathered_with w k i es = record { isolation = i; scans = scans_seen w (isolation_walk k) es }
+
 pub gathered_all : (r : Report) (ends : List PlaceEnd) (a b : List (Vec Gathered Global)) → ends ≡ r.places.items → IsBegun r.workers.items a → Gains (journals_to ends (length ends)) a b → AreGathered r b
 gathered_all r ends a b same begin gains = record {
   count = gains.count ∙ begun_count r.workers.items a begin;
   each = λ w k. gains.each w k
       ∙ (ap (option_map (λ (t : Told). with_scans w k (journals_to ends (length ends) t.isolation.place) t)) (begun_at r a begin w k)
       ∙ map_then begun (λ (t : Told). with_scans w k (journals_to ends (length ends) t.isolation.place) t) (gathered_of r w k) (isolation_at r w k)
-      (λ i e. ap (λ (es : List Entry). gathered w k i es) (whole i.place)));
+      (λ i e. ap (gathered_with w k i) (whole i.place)));
 }
   where
-    gathered : (w k : ℕ) (i : Isolation) → List Entry → Told
-    gathered w k i es = record { isolation = i; scans = scans_seen w (isolation_walk k) es }
-
     whole : (p : Place) → journals_to ends (length ends) p ≡ journals_of r p
     whole p = ap (λ (es : List PlaceEnd). journal_of (end_of es p)) (take_all (length ends) ends (omega arith) ∙ same)
 

@@ -3,7 +3,7 @@ use Rattle.std.proofs.Common.{◌≡◌, ◌≢◌, ◌⊎◌, inl, inr, ℕ, ze
 use Rattle.std.specs.Prelude.{slice_get}
 use Rattle.std.specs.Bool.{Decides}
 use Rattle.std.proofs.lemmas.Bool.{cases_order}
-use Rattle.std.proofs.lemmas.List.{append_assoc, take_more}
+use Rattle.std.proofs.lemmas.List.{append_assoc, drop_more, take-append-drop, take_more}
 use Rattle.std.proofs.lemmas.List.Sums.{fold-append}
 use Rattle.std.proofs.lemmas.Option.{slice_get_within, slice_get-get_or}
 use Rattle.shr_base.specs.declared.ends.UnitsEnd.{UnitsEnd}
@@ -47,9 +47,7 @@ free_more entries i d free next lt before then =
     then ∙ (ap (λ (n : ℕ). free_after n (get_or entries i d)) before ∙ sym (ap free_of (take_more entries i d lt) ∙ fold-append free_after 0 (take i entries) (get_or entries i d ∷ [])))
 
 split : (entries : List PlainEntry) (i : ℕ) (d : PlainEntry) → i < length entries → entries ≡ take i entries ++ get_or entries i d ∷ drop (i + 1) entries
-split [] i d lt = absurd (omega (arith, lt))
-split (x ∷ xs) zero d lt = refl
-split (x ∷ xs) (suc i) d lt = ap (λ (ys : List PlainEntry). x ∷ ys) (split xs i d (omega (arith, lt)))
+split entries i d lt = sym (take-append-drop i entries) ∙ ap (λ (es : List PlainEntry). take i entries ++ es) (drop_more entries i d lt)
 
 -- an entry that may not stand there
 pub journal_broken : (entries : List PlainEntry) (i : ℕ) (d : PlainEntry) → i < length entries → (IsPlainEntry (take i entries) (get_or entries i d) → ⊥) → IsPlainJournal entries → ⊥

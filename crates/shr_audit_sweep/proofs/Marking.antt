@@ -1,19 +1,25 @@
 -- Marks of groups on nodes, walk by walk.
-use Rattle.std.proofs.Common.{◌≡◌, ℕ, zero, suc, ◌+◌, ◌-◌, ◌*◌, ◌<◌, ◌≤◌, Bool, true, false, cond, List, [], ◌∷◌, ◌++◌, length, get_or, set, take, drop, refl, sym, ap, subst, ◌∙◌, arith}
-use Rattle.std.specs.Prelude.{◌&&◌, ◌==◌, nat_lt, flat_map, sum_by, slice_get}
+use Rattle.std.proofs.Common.{◌≡◌, ℕ, zero, suc, ◌+◌, ◌-◌, ◌*◌, ◌<◌, ◌≤◌, Bool, true, false, cond, List, [], ◌∷◌, ◌++◌, length, get_or, set, take, drop, Some, refl, sym, ap, subst, ◌∙◌, arith}
+use Rattle.std.specs.Prelude.{◌&&◌, ◌==◌, nat_lt, flat_map, sum_by}
 use Rattle.std.specs.Bool.{Decides}
 use Rattle.std.specs.List.{range_with_len}
 use Rattle.std.proofs.lemmas.Bool.{eq-eqb, eqb-true}
 use Rattle.std.proofs.lemmas.Bool.Decides.{nat_tests}
 use Rattle.std.proofs.lemmas.Grind.{flat_map-append}
-use Rattle.std.proofs.lemmas.List.{append_assoc, get_or-set_same, get_or-set_other, get_or_past, length-set}
+use Rattle.std.proofs.lemmas.List.{append_assoc, drop_more, get_or-set_same, get_or-set_other, length-map, length-set, take-append-drop, take_all, take_more}
 use Rattle.std.proofs.lemmas.List.Sums.{sum_by-append, sum_by-cons}
 use Rattle.std.proofs.lemmas.Nat.{mul-add-lt, same_from_place}
+use Rattle.std.proofs.lemmas.Option.{slice_get-get_or}
+use Rattle.shr_base.specs.declared.scripts.GroupDecl.{GroupDecl}
 use Rattle.shr_base.specs.declared.scripts.Script.{Script}
+use Rattle.shr_base.specs.declared.scripts.Sweep.{Sweep}
 use Rattle.shr_base.specs.declared.walks.WalkRecord.{WalkRecord}
 use Rattle.shr_report.specs.declared.report.Report.{Report}
 use Rattle.shr_report.specs.Parts.{parents_of}
-use Rattle.shr_report.specs.Swept.{all_sweep_walks, sweep_walks}
+use Rattle.shr_report.specs.Swept.{IsSweepRight, all_sweep_walks, sweep_walks}
+use Rattle.shr_formed.specs.Each.{Each}
+use Rattle.shr_formed.proofs.Eachs.{clash}
+use Rattle.shr_audit_sweep.specs.Swept.{AreAnswered, AreSweptOut}
 use Rattle.shr_audit_sweep.specs.Marks.{AreMarked, AreOnce, AreWalked, IsGroupMarked, IsWithin, job_index, times_in}
 
 abbrev is_of : ℕ → ℕ → WalkRecord → Bool
@@ -120,22 +126,38 @@ mark_twice groups nodes before rest w marks within h set_before once =
 
 -- ---- walks behind others
 
-pub walks_more : (groups nodes : ℕ) (before walks : List WalkRecord) (i : ℕ) (w : WalkRecord) (marks after : List Bool) → IsWithin groups nodes w → take (i + 1) walks ≡ take i walks ++ w ∷ []
-    → AreMarked groups nodes (before ++ take i walks) marks → get_or marks (job_index nodes w.group w.node) false ≡ false → after ≡ set marks (job_index nodes w.group w.node) true → AreMarked groups nodes (before ++ take (i + 1) walks) after
-walks_more groups nodes before walks i w marks after within is h fresh now =
-    subst (λ (ws : List WalkRecord). AreMarked groups nodes ws after) (append_assoc before (take i walks) (w ∷ []) ∙ ap (λ (ws : List WalkRecord). before ++ ws) (sym is))
-    (subst (AreMarked groups nodes ((before ++ take i walks) ++ w ∷ [])) (sym now) (mark_more groups nodes (before ++ take i walks) w marks within h fresh))
+split : (walks : List WalkRecord) (i : ℕ) (d : WalkRecord) → i < length walks → walks ≡ take i walks ++ get_or walks i d ∷ drop (i + 1) walks
+split walks i d lt = sym (take-append-drop i walks) ∙ ap (λ (ws : List WalkRecord). take i walks ++ ws) (drop_more walks i d lt)
 
-pub walks_twice : (groups nodes : ℕ) (before walks : List WalkRecord) (i : ℕ) (w : WalkRecord) (marks : List Bool) → IsWithin groups nodes w → walks ≡ take i walks ++ w ∷ drop (i + 1) walks
-    → AreMarked groups nodes (before ++ take i walks) marks → get_or marks (job_index nodes w.group w.node) false ≡ true → AreOnce (before ++ walks) → ⊥
-walks_twice groups nodes before walks i w marks within is h set_before once =
-    mark_twice groups nodes (before ++ take i walks) (drop (i + 1) walks) w marks within h set_before
-    (subst AreOnce (ap (λ (ws : List WalkRecord). before ++ ws) is ∙ sym (append_assoc before (take i walks) (w ∷ drop (i + 1) walks))) once)
+not_fresh : (b v : Bool) → Decides b (v ≡ false) → b ≡ false → v ≡ true
+not_fresh b true d f = refl
+not_fresh b false d f = absurd (clash b (d.1 refl) f)
+
+pub within_at : (groups nodes : ℕ) (walks : List WalkRecord) (i : ℕ) (w : WalkRecord) → Each (IsWithin groups nodes) walks → i < length walks → w ≡ get_or walks i w → IsWithin groups nodes w
+within_at groups nodes walks i w all lt is = all i w (slice_get-get_or walks i w lt ∙ ap (λ (x : WalkRecord). Some x) (sym is))
+
+pub walks_more : (groups nodes : ℕ) (before walks : List WalkRecord) (i : ℕ) (w : WalkRecord) (marks after : List Bool) (b : Bool) → IsWithin groups nodes w → i < length walks → w ≡ get_or walks i w → Decides b (get_or marks (job_index nodes w.group w.node) false ≡ false) → b ≡ true
+    → after ≡ set marks (job_index nodes w.group w.node) true → AreMarked groups nodes (before ++ take i walks) marks → AreMarked groups nodes (before ++ take (i + 1) walks) after
+walks_more groups nodes before walks i w marks after b within lt is fresh t now h =
+    let next : take (i + 1) walks ≡ take i walks ++ w ∷ [] = take_more walks i w lt ∙ ap (λ (x : WalkRecord). take i walks ++ x ∷ []) (sym is) in
+    subst (λ (ws : List WalkRecord). AreMarked groups nodes ws after) (append_assoc before (take i walks) (w ∷ []) ∙ ap (λ (ws : List WalkRecord). before ++ ws) (sym next))
+    (subst (AreMarked groups nodes ((before ++ take i walks) ++ w ∷ [])) (sym now) (mark_more groups nodes (before ++ take i walks) w marks within h (fresh.0 t)))
+
+pub walks_twice : (groups nodes : ℕ) (before walks : List WalkRecord) (i : ℕ) (w : WalkRecord) (marks : List Bool) (b : Bool) → IsWithin groups nodes w → i < length walks → w ≡ get_or walks i w → Decides b (get_or marks (job_index nodes w.group w.node) false ≡ false) → b ≡ false
+    → AreMarked groups nodes (before ++ take i walks) marks → Decides false (AreOnce (before ++ walks))
+walks_twice groups nodes before walks i w marks b within lt is fresh f h = (
+  λ t. absurd cc,
+  λ once. absurd (mark_twice groups nodes (before ++ take i walks) (drop (i + 1) walks) w marks within h (not_fresh b (get_or marks (job_index nodes w.group w.node) false) fresh f)
+      (subst AreOnce (ap (λ (ws : List WalkRecord). before ++ ws) (split walks i w lt ∙ ap (λ (x : WalkRecord). take i walks ++ x ∷ drop (i + 1) walks) (sym is)) ∙ sym (append_assoc before (take i walks) (w ∷ drop (i + 1) walks))) once)),
+)
+
+pub walks_all : (groups nodes : ℕ) (before walks : List WalkRecord) (i : ℕ) (marks : List Bool) → length walks ≤ i → AreMarked groups nodes (before ++ take i walks) marks → AreMarked groups nodes (before ++ walks) marks
+walks_all groups nodes before walks i marks over h = subst (λ (ws : List WalkRecord). AreMarked groups nodes (before ++ ws) marks) (take_all i walks over) h
 
 -- ---- all workers
 
 range_more : (a n m : ℕ) → range_with_len a (n + m) ≡ range_with_len a n ++ range_with_len (a + n) m
-range_more a zero m = ap (λ (k : ℕ). range_with_len k m) (let e : a ≡ a + 0 = omega arith in e)
+range_more a zero m = ap (range_with_len a) (let e : 0 + m ≡ m = omega arith in e) ∙ ap (λ (k : ℕ). range_with_len k m) (let e : a ≡ a + 0 = omega arith in e)
 range_more a (suc n) m =
     ap (range_with_len a) (let e : suc n + m ≡ suc (n + m) = omega arith in e)
     ∙ ap (λ (ks : List ℕ). a ∷ ks) (range_more (a + 1) n m ∙ ap (λ (k : ℕ). range_with_len (a + 1) n ++ range_with_len k m) (let e : a + 1 + n ≡ a + suc n = omega arith in e))
@@ -144,7 +166,9 @@ abbrev pub swept_to : Script → Report → ℕ → List WalkRecord
 swept_to s r worker = flat_map (sweep_walks s r) (range_with_len 0 worker)
 
 swept_on : (s : Script) (r : Report) (n m : ℕ) → swept_to s r (n + m) ≡ swept_to s r n ++ flat_map (sweep_walks s r) (range_with_len n m)
-swept_on s r n m = ap (flat_map (sweep_walks s r)) (range_more 0 n m) ∙ flat_map-append (sweep_walks s r) (range_with_len 0 n) (range_with_len n m)
+swept_on s r n m =
+    ap (flat_map (sweep_walks s r)) (range_more 0 n m ∙ ap (λ (k : ℕ). range_with_len 0 n ++ range_with_len k m) (let e : 0 + n ≡ n = omega arith in e))
+    ∙ flat_map-append (sweep_walks s r) (range_with_len 0 n) (range_with_len n m)
 
 one_swept : (s : Script) (r : Report) (n : ℕ) → flat_map (sweep_walks s r) (range_with_len n 1) ≡ sweep_walks s r n
 one_swept s r n = search_nil (sweep_walks s r n)
@@ -166,23 +190,65 @@ all_twice s r n walks lt own twice once =
     let split : all_sweep_walks s r ≡ swept_to s r (n + 1) ++ flat_map (sweep_walks s r) (range_with_len (n + 1) (length s.workers.items - (n + 1))) = ap (swept_to s r) whole ∙ swept_on s r (n + 1) (length s.workers.items - (n + 1)) in
     twice (subst AreOnce (next_worker s r n ∙ ap (λ (ws : List WalkRecord). swept_to s r n ++ ws) (sym own)) (once_before (swept_to s r (n + 1)) (flat_map (sweep_walks s r) (range_with_len (n + 1) (length s.workers.items - (n + 1)))) (subst AreOnce split once)))
 
+-- the groups, the root among them
+pub parents_count : (s : Script) (n : ℕ) → n ≡ length s.groups.items → n + 1 ≡ length (parents_of s)
+parents_count s n e = let same = length-map s.groups.items (λ (g : GroupDecl). g.parent) in omega (arith, same, e)
+
+pub groups_same : (s : Script) (g n : ℕ) (walks : List WalkRecord) (marks : List Bool) → g ≡ length (parents_of s) → AreMarked (length (parents_of s)) n walks marks → AreMarked g n walks marks
+groups_same s g n walks marks same h = subst (λ (k : ℕ). AreMarked k n walks marks) (sym same) h
+
+pub workers_more : (s : Script) (r : Report) (g n worker : ℕ) (walks : List WalkRecord) (marks : List Bool) → g ≡ length (parents_of s) → walks ≡ sweep_walks s r worker → AreMarked g n (swept_to s r worker ++ walks) marks
+    → AreMarked (length (parents_of s)) n (swept_to s r (worker + 1)) marks
+workers_more s r g n worker walks marks same own h =
+    subst (λ (ws : List WalkRecord). AreMarked (length (parents_of s)) n ws marks) (ap (λ (ws : List WalkRecord). swept_to s r worker ++ ws) own ∙ sym (next_worker s r worker))
+    (subst (λ (k : ℕ). AreMarked k n (swept_to s r worker ++ walks) marks) same h)
+
+pub workers_all : (s : Script) (r : Report) (n worker : ℕ) (marks : List Bool) → length s.workers.items ≤ worker → worker ≤ length s.workers.items → AreMarked (length (parents_of s)) n (swept_to s r worker) marks
+    → AreMarked (length (parents_of s)) n (all_sweep_walks s r) marks
+workers_all s r n worker marks over under h =
+    let same : worker ≡ length s.workers.items = omega (arith, over, under) in
+    subst (λ (k : ℕ). AreMarked (length (parents_of s)) n (swept_to s r k) marks) same h
+
+pub workers_twice : (s : Script) (r : Report) (worker : ℕ) (walks : List WalkRecord) (b : Bool) → worker < length s.workers.items → walks ≡ sweep_walks s r worker → Decides b (AreOnce (swept_to s r worker ++ walks)) → b ≡ false → Decides false (AreOnce (all_sweep_walks s r))
+workers_twice s r worker walks b lt own d f = (λ t. absurd cc, λ once. absurd (all_twice s r worker walks lt own (λ h. clash b (d.1 h) f) once))
+
 -- ---- all groups on all nodes
 
 pub none_marked : (groups nodes : ℕ) (marks : List Bool) → length marks ≡ groups * nodes → ((i : ℕ) → get_or marks i false ≡ false) → AreMarked groups nodes [] marks
 none_marked groups nodes marks size none = record { size = size; each = λ group node g n. none (job_index nodes group node); once = λ group node. omega arith }
 
-pub marked_walked : (s : Script) (r : Report) (groups : ℕ) (marks : List Bool) (b : Bool) → groups ≡ length (parents_of s) → AreMarked groups s.nodes (all_sweep_walks s r) marks
+pub marked_walked : (s : Script) (r : Report) (groups : ℕ) (marks : List Bool) (b : Bool) → groups ≡ length (parents_of s) → AreMarked (length (parents_of s)) s.nodes (all_sweep_walks s r) marks
     → Decides b ((group : ℕ) → group < groups → IsGroupMarked s.nodes group marks) → Decides b (AreWalked s r true)
 marked_walked s r groups marks b same h d = (
   λ t. record {
     once = h.once;
     all = λ w group node g n.
-        let has = of_positive (times_in (all_sweep_walks s r) group node) (sym (h.each group node (lt group g) n) ∙ d.0 t group (lt group g) node n) in
+        let has = of_positive (times_in (all_sweep_walks s r) group node) (sym (h.each group node g n) ∙ d.0 t group (lt group g) node n) in
         let most = h.once group node in
         let one : times_in (all_sweep_walks s r) group node ≡ 1 = omega (arith, has, most) in one;
   },
-  λ w. d.1 (λ group g node n. h.each group node g n ∙ ap (nat_lt 0) (w.all refl group node (subst (λ (k : ℕ). group < k) same g) n)),
+  λ w. d.1 (λ group g node n. h.each group node (below group g) n ∙ ap (nat_lt 0) (w.all refl group node (below group g) n)),
 )
   where
     lt : (group : ℕ) → group < length (parents_of s) → group < groups
     lt group g = subst (λ (k : ℕ). group < k) (sym same) g
+
+    below : (group : ℕ) → group < groups → group < length (parents_of s)
+    below group g = subst (λ (k : ℕ). group < k) same g
+
+-- where not all must be walked
+pub once_walked : (s : Script) (r : Report) (whole b : Bool) → whole ≡ false → Decides b (AreOnce (all_sweep_walks s r)) → b ≡ true → Decides true (AreWalked s r whole)
+once_walked s r whole b f d t = (λ u. record { once = d.0 t; all = λ w. absurd (clash whole w f) }, λ h. refl)
+
+pub whole_walked : (s : Script) (r : Report) (whole : Bool) (groups : ℕ) (marks read : List Bool) (b : Bool) → whole ≡ true → groups ≡ length (parents_of s) → read ≡ marks → AreMarked (length (parents_of s)) s.nodes (all_sweep_walks s r) marks
+    → Decides b ((group : ℕ) → group < groups → IsGroupMarked s.nodes group read) → Decides b (AreWalked s r whole)
+whole_walked s r whole groups marks read b w same own h d =
+    subst (λ (v : Bool). Decides b (AreWalked s r v)) (sym w)
+    (marked_walked s r groups marks b same h (subst (λ (ms : List Bool). Decides b ((group : ℕ) → group < groups → IsGroupMarked s.nodes group ms)) own d))
+
+-- the whole law
+pub right_decided : (s : Script) (r : Report) (z : Sweep) (whole b : Bool) → AreAnswered s r z → Decides whole (AreSweptOut s r) → Decides b (AreWalked s r whole) → Decides b (IsSweepRight s r z)
+right_decided s r z whole b answered out d = (
+  λ t. (let w = d.0 t in record { answers = answered; once = w.once; all = λ o. w.all (out.1 o) }),
+  λ h. d.1 (record { once = h.once; all = λ t. h.all (out.0 t) }),
+)
