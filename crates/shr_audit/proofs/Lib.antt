@@ -2,4 +2,6 @@ pub mod OneScript
 pub mod OneReport
 pub mod Numbers
 pub mod OneVerdict
+pub mod Premises
+pub mod Asked
 mod VerdictValues

@@ -1,3 +1,4 @@
 pub mod Script
 pub mod Verdict
+pub mod Asked
 pub mod Given
