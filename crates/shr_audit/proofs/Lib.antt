@@ -3,5 +3,5 @@ pub mod OneReport
 pub mod Numbers
 pub mod OneVerdict
 pub mod Premises
-pub mod Asked
+pub mod Order
 mod VerdictValues

@@ -56,7 +56,7 @@ no_fault script s line code h f = faultless script (content_of s) line code h.sp
 
 -- a lawful report has no law that is broken
 not_both : (script report : List ℕ) (s t : Script) (r q : Report) (law : Law) → AreOf script report s r → IsLawful s r → AreOf script report t q → IsFirstBroken law t q → ⊥
-not_both script report s t r q law h lawful k broken = broken.broken (of_same script report s t r q (Holds law) h k (each_holds s r lawful law))
+not_both script report s t r q law h lawful k broken = broken.broken (of_same script report s t r q (λ (x : Script) (y : Report). Holds law x y) h k (each_holds s r lawful law))
 
 pub one_verdict : (script report : List ℕ) (v w : Verdict) → HoldsOf script report v → HoldsOf script report w → v ≡ w
 one_verdict script report Lawful Lawful h k = refl
@@ -75,4 +75,4 @@ one_verdict script report (Unlawful law) Lawful h k = absurd (not_both script re
 one_verdict script report (Unlawful law) (BadScript line code) h k = absurd (no_fault script h.0 line code h.1.1.0.script k)
 one_verdict script report (Unlawful law) BadReport h k = absurd (k.1 h.1.0 h.1.1.0.report)
 one_verdict script report (Unlawful law) (Unlawful other) h k =
-    ap (λ (l : Law). Unlawful l) (one_broken law other k.0 k.1.0 (of_same script report h.0 k.0 h.1.0 k.1.0 (IsFirstBroken law) h.1.1.0 k.1.1.0 h.1.1.1) k.1.1.1)
+    ap (λ (l : Law). Unlawful l) (one_broken law other k.0 k.1.0 (of_same script report h.0 k.0 h.1.0 k.1.0 (λ (x : Script) (y : Report). IsFirstBroken law x y) h.1.1.0 k.1.1.0 h.1.1.1) k.1.1.1)

@@ -1,7 +1,7 @@
 use Rattle.std.proofs.Common.{refl}
 use Rattle.shr_audit.specs.declared.verdict.Law.TheVariants as laws
 use Rattle.shr_audit.proofs.Premises.{is_tree, few_groups, few_workers, few_commands}
-use Rattle.shr_audit.proofs.Asked.{held_none, first_broken, all_asked, after_replies, after_journals, after_bag, after_charges, after_deferred, after_bits}
+use Rattle.shr_audit.proofs.Order.{held_none, first_broken, all_asked, after_replies, after_journals, after_bag, after_charges, after_deferred, after_bits}
 use Rattle.shr_audit.proofs.asked.first_of_asked.Goals as goal
 
 pub of-requires-clause-tree : goal.of-requires-clause-tree
