@@ -1,0 +1,5 @@
+mod Living
+pub mod Merging
+mod Noting
+mod RegistrationsValues
+mod Spanning

@@ -1,0 +1,9 @@
+use Rattle.std.proofs.Common.{◌≤◌, drop, length}
+use Rattle.shr_registrations.specs.Live.{AreLivesNoted}
+use Rattle.shr_registrations.proofs.live.spans_of.Given as goal
+
+abbrev pub invariant-loop-left : goal.invariant-loop-left
+invariant-loop-left l = record { within : l.left ≤ length l.pool; noted : AreLivesNoted l.left (drop l.left l.pool) l.spans.items l.ends }
+
+abbrev pub decreases-loop-left : goal.decreases-loop-left
+decreases-loop-left l = l.left
