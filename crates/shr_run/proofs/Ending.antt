@@ -5,7 +5,6 @@ use Rattle.std.proofs.lemmas.List.{append-nil, length-map}
 use Rattle.std.proofs.lemmas.Option.{slice_get_within, slice_get-map, same_Some}
 use Rattle.shr_core.specs.declared.view.View.{View}
 use Rattle.shr_core.specs.Leaving.{IsLeft}
-use Rattle.shr_core.proofs.Owing.{still_none}
 use Rattle.shr_core.specs.Seats.{view_of}
 use Rattle.shr_charge.specs.Ends.{IsEndOf}
 use Rattle.shr_seats.specs.Shapes.{hierarchy_of}
@@ -84,7 +83,6 @@ module _ (x : Shared) (p : Pools) (ready : CrewSeats) (tasks : List Task) (are :
   all_at_end results same have = all_from_slices (λ (w : WorkerResult). IsAtEnd x p w) results (λ i w at.
       let t = there_at tasks i (let lt = slice_get_within results i w at in omega (arith, lt, same)) in let ran = have i t.0 w t.1 at in let task = are i t.0 t.1 in record {
         rested = ran.rested;
-        owed = still_none (view_of t.0.seats.cache.core) (view_of w.seats.cache.core) (ap (λ (s : CrewState). s.seats.core.marks.owed) task.new) ran.owed;
         plain_seat = ran.plain_seat;
       })
 
@@ -119,7 +117,6 @@ module _ (x : Shared) (p : Pools) (ready split joined : CrewSeats) (tasks : List
             let v = there_at results i (let lt = slice_get_within swept i w at in let more = h.same in omega (arith, lt, more)) in
             let one = h.each i v.0 w v.1 at in let before = all_slice (λ (u : WorkerResult). IsAtEnd x p u) results i v.0 (all_at_end x p ready tasks are results same have) v.1 in record {
               rested = one.rested;
-              owed = still_none (view_of v.0.seats.cache.core) (view_of w.seats.cache.core) before.owed one.owed;
               plain_seat = subst (plain.IsOf p) (sym one.plain) before.plain_seat;
             })
 

@@ -1,5 +1,5 @@
 -- What the workers leave, and their joining.
-use Rattle.std.specs.Prelude.{◌≡◌, ℕ, ◌+◌, List, [], length, map}
+use Rattle.std.specs.Prelude.{◌≡◌, ℕ, ◌+◌, List, length, map}
 use Rattle.shr_core.specs.Seats.{view_of}
 use Rattle.shr_charge.specs.Seat.{uses_of, tree_of}
 use Rattle.shr_deferred.specs.Seat.{moves_of}
@@ -18,7 +18,6 @@ use Rattle.shr_assemble.specs.declared.logs.WorkerLog.{WorkerLog}
 -- a worker's seats hold nothing and owe nothing
 pub record IsAtEnd (x : Shared) (p : Pools) (w : WorkerResult) : Type 0 where
   pub rested : IsRested x w.seats
-  pub owed : (view_of w.seats.cache.core).marks.owed ≡ []
   pub plain_seat : IsOf p w.plain
 
 -- what a worker answered and noted
