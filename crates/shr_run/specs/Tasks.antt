@@ -1,10 +1,10 @@
 -- The tasks of the workers, and what running one gives.
-use Rattle.std.specs.Prelude.{◌≡◌, ℕ, List, [], length, slice_get, Some, IsTrue}
+use Rattle.std.specs.Prelude.{◌≡◌, ℕ, List, [], ◌∷◌, length, slice_get, Some, IsTrue}
 use Rattle.shr_core.specs.declared.view.View.{View}
 use Rattle.shr_core.specs.Seats.{view_of}
 use Rattle.shr_charge.specs.Seat.{uses_of, tree_of}
 use Rattle.shr_charge.specs.Views.{own_uses, no_tree}
-use Rattle.shr_deferred.specs.Seat.{moves_of}
+use Rattle.shr_deferred.specs.Seat.{moves_of, strands_of}
 use Rattle.shr_deferred.specs.Moves.{no_moves}
 use Rattle.shr_plain.specs.declared.table.Pools.{Pools}
 use Rattle.shr_plain.specs.declared.table.PlainSeat.{PlainSeat}
@@ -28,6 +28,7 @@ pub record AreSplitOff (x : Shared) (opened : View) (splits : ℕ) (first : Seat
   pub uses : uses_of first.cache.charge ≡ own_uses
   pub tree : tree_of first.cache.charge ≡ no_tree
   pub moves : moves_of first.deferred ≡ no_moves
+  pub strands : strands_of first.deferred ≡ no_moves ∷ []
 
 -- the first seat of the pools was split so often, and did nothing
 pub record IsPlainSplitOff (p : Pools) (splits : ℕ) (first : PlainSeat) : Type 0 where
