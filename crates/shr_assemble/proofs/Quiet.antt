@@ -133,12 +133,21 @@ pub record MovesNot (w : Work) : Type 0 where
   pub gives : gives_of w.moves ≡ []
   pub carries : w.carries ≡ []
 
+pub none_moved : (m : Moves) → takes_of m ≡ [] → gives_of m ≡ [] → m ≡ []
+none_moved [] takes gives = refl
+none_moved (moves.took y ∷ m) takes gives = absurd (cc)
+none_moved (moves.gave y ∷ m) takes gives = absurd (cc)
+
 pub still_moves : (s : Script) (x : Step) → MovesNot x.work → DidMoves s x
 still_moves s x none = record {
   taken = λ p. ap (sum_at p) none.takes ∙ sym (λ i. taken_at (none.walks i) (none.carries i) p);
   given = λ p. ap (sum_at p) none.gives ∙ sym (λ i. given_at (parents_of s) (none.walks i) (none.carries i) p);
   carries = all_of_none (DidCarry s x) x.work.carries none.carries;
   rise = subst (λ (cs : List Carry). AllPairs (λ (c d : Carry). IsBefore c.place.id c.place.node d.place.id d.place.node) cs) (sym none.carries) (λ i j d lt within. absurd (omega (arith, within)));
+  handed = [];
+  places = inl refl;
+  noted = none.carries;
+  steps = ap (map told_step) (none_moved x.work.moves none.takes none.gives) ∙ sym (ap (λ (ws : List WalkRecord). flat_map steps_walked ws ++ []) none.walks);
 }
 
 -- ---- no charge
