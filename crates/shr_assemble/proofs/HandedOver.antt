@@ -1,5 +1,5 @@
 -- What an offline did whose call handed all over, whatever the end of it answered.
-use Rattle.std.proofs.Common.{◌≡◌, ℕ, ◌<◌, ◌≤◌, List, [], ◌∷◌, ◌++◌, length, map, refl, sym, ap, subst, ◌∙◌, arith, true}
+use Rattle.std.proofs.Common.{◌≡◌, ℕ, ◌<◌, ◌≤◌, List, [], ◌∷◌, ◌++◌, length, map, refl, sym, ap, subst, ◌∙◌, arith, true, inr, ◌*◌, ◌/◌}
 use Rattle.std.specs.Prelude.{None, slice_get, Contains, All, sum, sum_by, ◌%◌, ◌^◌, Some}
 use Rattle.std.specs.List.{AllByRecursion, range_with_len}
 use Rattle.std.proofs.lemmas.List.Elements.{All-append, All-from_recursion, Contains-append_left}

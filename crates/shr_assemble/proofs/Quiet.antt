@@ -1,5 +1,5 @@
 -- The parts of what a command did that are empty: of one that makes no walk, no move, no charge, no entry of a journal.
-use Rattle.std.proofs.Common.{◌≡◌, ℕ, ◌<◌, ◌≤◌, pos, ◌-ℤ◌, Bool, true, false, cond, List, [], ◌∷◌, length, length-append, refl, sym, ap, subst, ◌∙◌, arith}
+use Rattle.std.proofs.Common.{◌≡◌, ℕ, ◌<◌, ◌≤◌, pos, ◌-ℤ◌, Bool, true, false, cond, List, [], ◌∷◌, ◌++◌, inl, length, length-append, refl, sym, ap, subst, ◌∙◌, arith}
 use Rattle.std.specs.Prelude.{◌⊎◌, slice_get, Option, Some, None, option_and_then, map, flat_map, sum_by, All, AllPairs}
 use Rattle.std.specs.List.{AllByRecursion, list_any}
 use Rattle.std.specs.Option.{IsSomeAnd}
@@ -20,7 +20,8 @@ use Rattle.shr_model.specs.Deferred.{sum_at}
 use Rattle.shr_model.specs.Charges.{ups, usage_after}
 use Rattle.shr_model.specs.Moves.{given_at, taken_at}
 use Rattle.shr_model.specs.Walks.{Job, job_of, is_cut}
-use Rattle.shr_deferred.specs.Moves.{takes_of, gives_of}
+use Rattle.shr_deferred.specs.Moves.{Moves, takes_of, gives_of}
+use Rattle.shr_deferred.specs.Moves as moves
 use Rattle.shr_seats.specs.Views.{Each}
 use Rattle.shr_seats.specs.Weights.{Begins}
 use Rattle.shr_seats.proofs.Weighing.{Each-none}
@@ -32,12 +33,13 @@ use Rattle.shr_report.specs.Parts.{parents_of}
 use Rattle.shr_report.specs.Charges.{charged}
 use Rattle.shr_report.specs.Freshness.{MayBeOffline, made_shown, pool_seen, pool_made}
 use Rattle.shr_report.specs.ReplyTable.{group_met}
+use Rattle.shr_report.specs.Takes.{steps_walked}
 use Rattle.shr_report.specs.WalksLawful.{MayMake, IsToldBy}
 use Rattle.shr_report.specs.WellFormed.{IsBefore, AreNotFalling}
 use Rattle.shr_assemble.specs.Steps.{Step, Brings, IsPut}
 use Rattle.shr_assemble.specs.Walks.{DidRoundsOf, AreWalksFor, DidWalks, counted_in, mapped_in, cleared_in, word_of}
 use Rattle.shr_assemble.specs.Charges.{DidCharges, ops_at, added_below, freed_below}
-use Rattle.shr_assemble.specs.Deferred.{DidMoves, DidCarry}
+use Rattle.shr_assemble.specs.Deferred.{DidMoves, DidCarry, told_step}
 use Rattle.shr_assemble.specs.Pool.{DidPool, IsTurnOf}
 use Rattle.shr_assemble.specs.Offlining.{DidTree, IsEntryOf, KnowsOnline, MeetsGroups}
 use Rattle.shr_assemble.specs.Causes.{IsUnmadeBy}

@@ -55,13 +55,13 @@ own_views : (views views' : List View) (i : ℕ) (u : View) → ((j : ℕ) → I
 own_views views views' i u keep o = record {
   plain = o.plain;
   first = λ is. let t = o.first is in record {
-      name = t.name;
-      mine = t.mine;
-      gone = λ k past low. keep (t.name k) (t.gone k past low);
-      apart = t.apart;
-      theirs = t.theirs;
-      others = t.others;
-    };
+    name = t.name;
+    mine = t.mine;
+    gone = λ k past low. keep (t.name k) (t.gone k past low);
+    apart = t.apart;
+    theirs = t.theirs;
+    others = t.others;
+  };
 }
 
 module _ (views : List View) (id : ℕ) (v : View) (me : get_elem? views id ≡ some v) (here : v.standing.gone ≡ false) where
@@ -82,13 +82,13 @@ module _ (views : List View) (id : ℕ) (v : View) (me : get_elem? views id ≡ 
   own_move a all = let d : Deed Move = record { seat = id; act = a } in let o = all id v me here in own_set (moved id v a) all (record {
     plain = λ p. ap (λ (l : List (Deed Move)). l ++ d ∷ []) (o.plain p) ∙ sym (map-append (λ (x : Move). record { seat = id; act = x }) v.own (a ∷ []));
     first = λ is. let t = o.first is in record {
-        name = t.name;
-        mine = t.mine;
-        gone = λ k past low. gone_set (moved id v a) (t.name k) (t.gone k past low);
-        apart = t.apart;
-        theirs = theirs t;
-        others = λ j h. part-append j v.did (d ∷ []) ∙ (ap (λ (l : List (Deed Move)). l ++ part j (d ∷ [])) (t.others j h) ∙ part_other j d (λ e. h 0 (omega arith) (t.mine ∙ e)));
-      };
+      name = t.name;
+      mine = t.mine;
+      gone = λ k past low. gone_set (moved id v a) (t.name k) (t.gone k past low);
+      apart = t.apart;
+      theirs = theirs t;
+      others = λ j h. part-append j v.did (d ∷ []) ∙ (ap (λ (l : List (Deed Move)). l ++ part j (d ∷ [])) (t.others j h) ∙ part_other j d (λ e. h 0 (omega arith) (t.mine ∙ e)));
+    };
   }) where
     theirs : (t : AreStrands views id v) (k : ℕ) → k < length (strands_in v) → part (t.name k) (v.did ++ record { seat = id; act = a } ∷ []) ≡ by_seat (t.name k) (strand_at ((v.own ++ a ∷ []) ∷ v.joined) k)
     theirs t zero low = part-append (t.name 0) v.did (record { seat = id; act = a } ∷ []) ∙ (ap (λ (l : List (Deed Move)). l ++ part (t.name 0) (record { seat = id; act = a } ∷ [])) (t.theirs 0 low)
@@ -116,13 +116,13 @@ pub own_first : AreOwn (first_view ∷ [])
 own_first zero v e live = subst (λ (x : View). IsOwn (first_view ∷ []) 0 x) (some-injective first_view v e) (record {
   plain = λ p. refl;
   first = λ is. record {
-      name = λ k. k;
-      mine = refl;
-      gone = λ k past low. absurd (omega (arith, past, low));
-      apart = λ k l low low' same. same;
-      theirs = λ k low. nothing k;
-      others = λ j h. refl;
-    };
+    name = λ k. k;
+    mine = refl;
+    gone = λ k past low. absurd (omega (arith, past, low));
+    apart = λ k l low low' same. same;
+    theirs = λ k low. nothing k;
+    others = λ j h. refl;
+  };
 }) where
   nothing : (k : ℕ) → [] ≡ by_seat k (strand_at ([] ∷ []) k)
   nothing zero = refl
@@ -182,21 +182,21 @@ module _ (z : Sizes) (s : State (Unit {0}) View) (o : IsSound z s) (id : ℕ) (v
     joined_apart : (k l : ℕ) → k < length (strands_in w) → l < length (strands_in w) → name k ≡ name l → k ≡ l
     joined_apart k l low low' same = dite (dec_lt k n)
         (λ a. dite (dec_lt l n)
-            (λ b. t.apart k l a b (sym (name_old k a) ∙ (same ∙ name_old l b)))
-            (λ no. absurd (not_other k a (sym (name_old k a) ∙ (same ∙ name_new l (omega (arith, no, low', longer)))))))
+        (λ b. t.apart k l a b (sym (name_old k a) ∙ (same ∙ name_old l b)))
+        (λ no. absurd (not_other k a (sym (name_old k a) ∙ (same ∙ name_new l (omega (arith, no, low', longer)))))))
         (λ no. dite (dec_lt l n)
-            (λ b. absurd (not_other l b (sym (name_old l b) ∙ (sym same ∙ name_new k (omega (arith, no, low, longer))))))
-            (λ no'. omega (arith, no, no', low, low', longer)))
+        (λ b. absurd (not_other l b (sym (name_old l b) ∙ (sym same ∙ name_new k (omega (arith, no, low, longer))))))
+        (λ no'. omega (arith, no, no', low, low', longer)))
 
     joined_theirs : (k : ℕ) → k < length (strands_in w) → part (name k) (v.did ++ u.did) ≡ by_seat (name k) (strand_at (strands_in w) k)
     joined_theirs k low = part-append (name k) v.did u.did ∙ dite (dec_lt k n)
         (λ lt. subst (λ j. part j v.did ++ part j u.did ≡ by_seat j (strand_at (strands_in w) k)) (sym (name_old k lt))
-            (ap (λ (l : List (Deed Move)). part (t.name k) v.did ++ l) (ap (part (t.name k)) theirs_is ∙ part_by_other other (t.name k) u.own (λ e. not_other k lt (sym e)))
-            ∙ (append-nil (part (t.name k) v.did) ∙ (t.theirs k lt ∙ ap (by_seat (t.name k)) (sym (at_front (strands_in v) (acts_of u.did) k lt))))))
+        (ap (λ (l : List (Deed Move)). part (t.name k) v.did ++ l) (ap (part (t.name k)) theirs_is ∙ part_by_other other (t.name k) u.own (λ e. not_other k lt (sym e)))
+        ∙ (append-nil (part (t.name k) v.did) ∙ (t.theirs k lt ∙ ap (by_seat (t.name k)) (sym (at_front (strands_in v) (acts_of u.did) k lt))))))
         (λ no. let e : k ≡ n = omega (arith, no, low, longer) in
-            subst (λ j. part j v.did ++ part j u.did ≡ by_seat j (strand_at (strands_in w) k)) (sym (name_new k e))
-            (ap (λ (l : List (Deed Move)). l ++ part other u.did) untold ∙ (ap (part other) theirs_is ∙ (part_by_own other u.own
-            ∙ ap (by_seat other) (sym acts_are ∙ sym (ap (strand_at (strands_in w)) e ∙ at_end (strands_in v) (acts_of u.did)))))))
+        subst (λ j. part j v.did ++ part j u.did ≡ by_seat j (strand_at (strands_in w) k)) (sym (name_new k e))
+        (ap (λ (l : List (Deed Move)). l ++ part other u.did) untold ∙ (ap (part other) theirs_is ∙ (part_by_own other u.own
+        ∙ ap (by_seat other) (sym acts_are ∙ sym (ap (strand_at (strands_in w)) e ∙ at_end (strands_in v) (acts_of u.did)))))))
 
     joined_others : (j : ℕ) → ((k : ℕ) → k < length (strands_in w) → name k ≢ j) → part j (v.did ++ u.did) ≡ []
     joined_others j h = part-append j v.did u.did ∙ (ap (λ (l : List (Deed Move)). l ++ part j u.did) (t.others j (λ k lt e. h k (omega (arith, lt, longer)) (name_old k lt ∙ e)))
@@ -210,10 +210,10 @@ module _ (z : Sizes) (s : State (Unit {0}) View) (o : IsSound z s) (id : ℕ) (v
   own_join i x e live = ⊎_elim
       (λ (g : (i ≡ other) × (spent_view ≡ x)). absurd (not_gone x.standing live (ap (λ (y : View). y.standing.gone) (sym g.1))))
       (λ (g : (i ≢ other) × (get_elem? (set s.views id w) i ≡ some x)). ⊎_elim
-          (λ (h : (i ≡ id) × (w ≡ x)). subst (λ (y : View). IsOwn after i y) h.1 (subst (λ k. IsOwn after k w) (sym h.0) (record {
-            plain = λ p. absurd (not_both v.standing.first is p);
-            first = λ _. joined ((o.own id v me here).first is);
-          })))
-          (λ (h : (i ≢ id) × (get_elem? s.views i ≡ some x)). own_views s.views after i x gone_kept (o.own i x h.1 live))
-          (at_set s.views id i w x g.1))
+      (λ (h : (i ≡ id) × (w ≡ x)). subst (λ (y : View). IsOwn after i y) h.1 (subst (λ k. IsOwn after k w) (sym h.0) (record {
+        plain = λ p. absurd (not_both v.standing.first is p);
+        first = λ _. joined ((o.own id v me here).first is);
+      })))
+      (λ (h : (i ≢ id) × (get_elem? s.views i ≡ some x)). own_views s.views after i x gone_kept (o.own i x h.1 live))
+      (at_set s.views id i w x g.1))
       (at_set (set s.views id w) other i spent_view x e)
