@@ -50,7 +50,7 @@ use Rattle.shr_assemble.proofs.StandsOnce.{done_once}
 use Rattle.shr_assemble.proofs.WalksLaw.{is_serial_own, is_serial_same, filter_part}
 
 module _ (s : Script) (r : Report) (workers : List (List Step)) (run : IsRun s r workers) where
-  carries_are : (worker k : ℕ) (x : Step) → slice_get (steps_of workers worker) k ≡ Some x → carries_by r (serial_of worker k) ≡ x.work.carries
+  pub carries_are : (worker k : ℕ) (x : Step) → slice_get (steps_of workers worker) k ≡ Some x → carries_by r (serial_of worker k) ≡ x.work.carries
   carries_are worker k x at = ap (filter (λ (c : Carry). is_serial (serial_of worker k) c.by)) (run.steps.carries worker)
       ∙ filter_part (λ (c : Carry). is_serial (serial_of worker k) c.by) (λ (y : Step). y.work.carries) (steps_of workers worker) k x at own others
     where

@@ -110,10 +110,9 @@ module _ (s : Script) (r : Report) (workers : List (List Step)) (run : IsRun s r
   handed worker k = handed_in worker k (slice_get (steps_of workers worker) k) refl
 
   hands : (worker k : ℕ) (a : Answered) → slice_get (answers_of r worker) k ≡ Some a → IsHanded s r (serial_of worker k) a.reply (handed worker k)
-  unfolding handed
+  unfolding handed handed_in
   hands worker k a told = by_step (slice_get (steps_of workers worker) k) refl where
     by_step : (o : Option Step) (e : slice_get (steps_of workers worker) k ≡ o) → IsHanded s r (serial_of worker k) a.reply (handed_in worker k o e)
-    unfolding handed_in
     by_step None e = absurd (⊎_elim (λ x. none-some x.0 (sym e ∙ x.1)) (λ none. none-some a (sym none ∙ told)) (step_cases s r workers run worker k))
     by_step (Some y) e =
         let is = run.steps.each worker k y e in let m = is.did.moves in
@@ -127,10 +126,9 @@ module _ (s : Script) (r : Report) (workers : List (List Step)) (run : IsRun s r
 
   -- a command's steps are those that the report tells
   steps_are : (worker k : ℕ) (x : Step) → slice_get (steps_of workers worker) k ≡ Some x → map told_step x.work.moves ≡ steps_by s r (serial_of worker k) (handed worker k)
-  unfolding handed
+  unfolding handed handed_in
   steps_are worker k x at = by_step (slice_get (steps_of workers worker) k) refl where
     by_step : (o : Option Step) (e : slice_get (steps_of workers worker) k ≡ o) → map told_step x.work.moves ≡ steps_by s r (serial_of worker k) (handed_in worker k o e)
-    unfolding handed_in
     by_step None e = absurd (none-some x (sym e ∙ at))
     by_step (Some y) e =
         let m = (run.steps.each worker k y e).did.moves in
