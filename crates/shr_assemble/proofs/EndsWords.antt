@@ -9,7 +9,7 @@ use Rattle.shr_model.specs.Places.{is_place}
 use Rattle.shr_seats.specs.declared.rows.Sizes.{Sizes}
 use Rattle.shr_seats.specs.Rows.{IsPlaceOf, row_of, row_count, place_in}
 use Rattle.shr_deferred.specs.Left.{is_some_amount, amounts}
-use Rattle.shr_deferred.specs.Rule.{taken_at, given_at}
+use Rattle.shr_deferred.specs.Rule.{amounts_after, taken_at, given_at}
 use Rattle.shr_walk.specs.declared.seats.Shared.{Shared}
 use Rattle.shr_tables.specs.declared.ending.Ends.{Ends}
 use Rattle.shr_report.specs.declared.report.Report.{Report}
@@ -22,6 +22,7 @@ use Rattle.shr_assemble.specs.Runs.{all_gives, AreDeferred}
 use Rattle.shr_assemble.proofs.EndsDeferred.{found_zero, found_word, shown_some}
 use Rattle.shr_assemble.proofs.EndsGathered.{last, takes_are, gives_are}
 use Rattle.shr_assemble.proofs.EndsSteps.{workers}
+use Rattle.shr_assemble.proofs.EndsTakes.{parts, others}
 use Rattle.shr_assemble.proofs.Rows.{DidEach}
 use Rattle.shr_assemble.proofs.WordPlaces.{inside_word, place_back, has_range, range_has}
 use Rattle.shr_seats.proofs.RowLaws.{row_low}
@@ -40,6 +41,10 @@ module _ (x : Shared) (did : DidEach x) (logs : List WorkerLog) (e : Ends) (ends
   printed_are : r.deferred.items ≡ filter is_some_amount (map (λ i. amount_of (place_in x.deferred.sizes i) (word (place_in x.deferred.sizes i))) (range_with_len 0 (row_count x.deferred.sizes)))
   unfolding amounts
   printed_are = made.deferred ∙ ends.deferred
+
+  left_are : r.deferred.items ≡ filter is_some_amount (map (λ i. amount_of (place_in x.deferred.sizes i) (amounts_after ends.history.line (place_in x.deferred.sizes i))) (range_with_len 0 (row_count x.deferred.sizes)))
+  unfolding amounts
+  left_are = made.deferred ∙ ends.history.left
 
   same_groups : x.deferred.sizes.groups ≡ length (parents_of x.script)
   same_groups = ap (λ z. z.groups) ends.shared.sizes ∙ ap (λ t. length t.parents) ends.shared.tree
@@ -70,4 +75,11 @@ module _ (x : Shared) (did : DidEach x) (logs : List WorkerLog) (e : Ends) (ends
         ap (λ (l : List PlaceAmount). amount_in (find (λ (y : PlaceAmount). is_place y.place place) l)) printed_are
         ∙ found_zero (place_in sizes) word place numbers (λ i has at. absurd (away (subst (IsThere x.script) at (there_in (place_in sizes i) (inside_word sizes i (range_has (row_count sizes) i has))))));
     shown = subst (AllByRecursion (λ (y : PlaceAmount). 0 < y.amount)) (sym printed_are) (shown_some (place_in sizes) word numbers);
+    line = ends.history.line;
+    parts = parts x did logs e ends r made;
+    others = others x did logs e ends r made;
+    takes = ends.history.taken;
+    left = λ place there. let is = inside place there in
+        ap (λ (l : List PlaceAmount). amount_in (find (λ (y : PlaceAmount). is_place y.place place) l)) left_are
+        ∙ found_word (place_in sizes) (amounts_after ends.history.line) place numbers (row_of sizes place) (has_range (row_count sizes) (row_of sizes place) (row_low sizes place is)) (place_back sizes place is);
   }

@@ -49,6 +49,7 @@ use Rattle.shr_assemble.proofs.ClimbsLaw.{climbs}
 use Rattle.shr_assemble.proofs.CutsLaw.{cuts_told}
 use Rattle.shr_assemble.proofs.HandedLaw.{handed}
 use Rattle.shr_assemble.proofs.DrainsLaw.{in_one_order}
+use Rattle.shr_assemble.proofs.TakesLaw.{takes_in_order}
 use Rattle.shr_assemble.proofs.PoolPast.{pool_past}
 use Rattle.shr_assemble.proofs.TriesLaw.{tries}
 use Rattle.shr_assemble.proofs.WalksRefused.{walks_refused}
@@ -202,6 +203,7 @@ module _ (s : Script) (r : Report) (workers : List (List Step)) (run : IsRun s r
     below_root = below_root;
     carried = carried;
     order = in_one_order s r workers run;
+    takes = takes_in_order s r workers run;
     cuts = cuts_told s r workers run;
     handed = handed s r workers run;
     climbs = climbs s r workers run;

@@ -1,7 +1,8 @@
 -- What an offline did whose call handed all over, and that was done by it or before it.
-use Rattle.std.proofs.Common.{◌≡◌, ℕ, ◌<◌, ◌≤◌, List, [], ◌∷◌, length, length-append, take, refl, sym, ap, subst, ◌∙◌, arith, eq-eqb}
+use Rattle.std.proofs.Common.{◌≡◌, ℕ, ◌<◌, ◌≤◌, List, [], ◌∷◌, map, length, length-append, take, refl, sym, ap, subst, ◌∙◌, arith, eq-eqb}
 use Rattle.std.specs.Prelude.{◌%◌, ◌^◌}
 use Rattle.std.proofs.lemmas.List.Elements.{All-nil, All-from_recursion}
+use Rattle.shr_base.specs.declared.ends.PlaceAmount.{PlaceAmount}
 use Rattle.shr_base.specs.declared.journals.TreeEntry.{TreeEntry}
 use Rattle.shr_base.specs.declared.journals.TreeEntry.TheVariants.{Begin, Done}
 use Rattle.shr_base.specs.declared.places.Serial.{Serial}
@@ -27,7 +28,8 @@ use Rattle.shr_assemble.proofs.QuietSteps.{AreTables}
 use Rattle.shr_assemble.proofs.QuietTenant.{without}
 use Rattle.shr_assemble.proofs.OfflineDid.{HasBegunTo}
 use Rattle.shr_assemble.proofs.HandedCarries.{carried_sum}
-use Rattle.shr_assemble.proofs.HandedOver.{IsHandedTo, handed_to, handed_step, handed_did, known_begin, is_tree, same_groups}
+use Rattle.shr_assemble.proofs.HandedOver.{IsHandedTo, handed_to, handed_step, handed_did, known_begin, is_tree, same_groups, places_same}
+use Rattle.shr_assemble.proofs.QuietCarries.{takes_are}
 
 longer : {A : Type 0} (xs ys : List A) → Begins xs ys → length xs ≤ length ys
 longer {A} xs ys b = omega (arith, ap (λ (l : List A). length l) b.1, length-append xs b.0)
@@ -80,6 +82,8 @@ module _ (x : Shared) (tables : AreTables x) (by : Serial) (group : ℕ) (s t : 
         known = omega (arith, number, ap (λ (l : List TreeEntry). length l) tells.gains.whole, length-append tells.before (Done group ∷ []));
         moved_is = h.moved_is;
         deferred_is = h.deferred_is ∙ ap (λ (n : ℕ). n % 2 ^ 64) (carried_sum by h.amounts);
+        took = ap (map (λ (a : PlaceAmount). a.place)) (takes_are (shape_of x.core) h.amounts) ∙ (h.places ∙ places_same x tables group);
+        unwalked = refl;
       })
 
   pub done_before : (entry : ℕ) (u : WorkerState) → HasBegunTo x group s u → offlined.WasDone x by group entry u t → HasDid x.script by (command.Offline group) (without (reply.AlreadyDone entry)) s t

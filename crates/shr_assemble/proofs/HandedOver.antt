@@ -1,5 +1,5 @@
 -- What an offline did whose call handed all over, whatever the end of it answered.
-use Rattle.std.proofs.Common.{◌≡◌, ℕ, ◌<◌, ◌≤◌, List, [], ◌∷◌, ◌++◌, length, map, refl, sym, ap, subst, ◌∙◌, arith, true}
+use Rattle.std.proofs.Common.{◌≡◌, ℕ, ◌<◌, ◌≤◌, List, [], ◌∷◌, ◌++◌, length, map, refl, sym, ap, subst, ◌∙◌, arith, true, inr, ◌*◌, ◌/◌}
 use Rattle.std.specs.Prelude.{None, slice_get, Contains, All, sum, sum_by, ◌%◌, ◌^◌, Some}
 use Rattle.std.specs.List.{AllByRecursion, range_with_len}
 use Rattle.std.proofs.lemmas.List.Elements.{All-append, All-from_recursion, Contains-append_left}
@@ -56,7 +56,8 @@ use Rattle.shr_assemble.proofs.QuietTenant.{without, unfound_lookups}
 use Rattle.shr_assemble.proofs.QuietDrains.{each_rec}
 use Rattle.shr_assemble.proofs.Filling.{set_filled}
 use Rattle.shr_assemble.proofs.QuietSplices.{IsSpliceEntry, IsSplicedTo, spliced_all}
-use Rattle.shr_assemble.proofs.QuietCarries.{carried_taken, carried_given}
+use Rattle.shr_report.specs.Takes.{places_offlined}
+use Rattle.shr_assemble.proofs.QuietCarries.{carried_taken, carried_given, told_handed}
 use Rattle.shr_assemble.proofs.OfflineDid.{giving, HasBegunTo, splices_freed, splices_may}
 use Rattle.shr_assemble.proofs.HandedMoved.{moved_by, moved_sum}
 use Rattle.shr_assemble.proofs.HandedCarries.{IsCarryAt, AreInRow, in_row, each_in_row, rising, row_of}
@@ -96,6 +97,10 @@ module _ (x : Shared) (tables : AreTables x) where
 
   few_groups : groups_in shape ≤ 256
   few_groups = let same = same_groups in let most = (sized_of x tables.shared).groups in omega (arith, same, most)
+
+  -- the places of a group, as a report tells them
+  pub places_same : (group : ℕ) → all_places (shape_of x.core) group ≡ places_offlined x.script (Some (command.Offline group))
+  places_same group = let ids = tables.shared.ids in let nodes = tables.shared.nodes in λ i. map (λ (n : ℕ). record { id = n / nodes i; node = n % nodes i; group = group }) (range_with_len 0 (ids i * nodes i))
 
   few_nodes : shape.nodes ≤ 4
   few_nodes = let same = tables.shared.nodes in let most = script_within.nodes in omega (arith, same, most)
@@ -229,6 +234,10 @@ module _ (x : Shared) (tables : AreTables x) where
                     ∙ ap (λ (ps : List ℕ). given_at ps [] (carries_of by h.amounts) p) (tree_is x tables.shared);
                 carries = All-from_recursion (DidCarry x.script z) (carries_of by h.amounts) (carried_all carried (carries_of by h.amounts) (each_in_row shape by group (places_of shape) 0 (carries_of by h.amounts) row));
                 rise = rising shape by group (places_of shape) some_nodes few_nodes 0 (carries_of by h.amounts) row;
+                handed = h.amounts;
+                places = inr (h.places ∙ places_same group, carried);
+                noted = refl;
+                steps = told_handed shape x.script (tree_is x tables.shared) h.amounts;
               };
               pool = still_pool x.script z handed_does.core.pool (record { turns = refl; made = unmade }) (subst (IsToldOnce z) (sym untold) tt);
               tree = record {

@@ -43,9 +43,9 @@ use Rattle.shr_assemble.proofs.Spots.{spot_of, spot_there, spots_rise}
 -- ---- what the line says of an entry
 used_by : (u : Holders) (seat id : ℕ) (e : Entry) → IsOfUse e → IsMadeInUse u seat id e → 0 < times seat (u id)
 used_by u seat id (Add by birth added key value) h m = m
-used_by u seat id (Look by birth key hit) h m = m
-used_by u seat id (Drop by birth key kind) h m = m
-used_by u seat id (Pin by birth key pinned hit) h m = m
+used_by u seat id (Look by birth key hit) h m = absurd h
+used_by u seat id (Drop by birth key kind) h m = absurd h
+used_by u seat id (Pin by birth key pinned hit) h m = absurd h
 used_by u seat id (Scan worker walk asked policy visits freed stopped) h m = m
 used_by u seat id (MovedIn child objects) h m = absurd h
 used_by u seat id Closed h m = absurd h
@@ -193,7 +193,7 @@ module _ (s : Script) (r : Report) (workers : List (List Step)) (run : IsRun s r
       (subst (λ (l : List Tried). IsAmong t l) (sym work.attempts) (among_right x.before.core.claims.attempts x.work.core.attempts t among)) in
       known.1 ∙ ap (λ (i : ℕ). decl_at t.number (registrations i r.pool.items)) own
 
-  -- ---- an entry of a command, or a scan, is made in its use
+  -- ---- an add of a command, or a scan, is made in its use
   pub used : (place : Place) (n : ℕ) (by : Serial) → HasAt (journals_of r place) n IsOfUse → IsBy r by (entry place n) → IsInUse r rank_of by place n
   used place n by told own =
       let t = by_step s r workers run (entry place n) by.worker by.command own in

@@ -37,6 +37,7 @@ pub mod OneOrderLaw
 pub mod LineParts
 pub mod InUseLaw
 pub mod DrainsLaw
+pub mod TakesLaw
 pub mod BitsKeptLaw
 pub mod BitsToldLaw
 pub mod EntryCauses
@@ -108,6 +109,7 @@ pub mod BitWords
 pub mod EndsBits
 pub mod EndsMarks
 pub mod WordPlaces
+pub mod EndsTakes
 pub mod EndsWords
 pub mod EndsTotals
 pub mod RisingTurns

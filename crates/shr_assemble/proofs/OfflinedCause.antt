@@ -50,7 +50,7 @@ use Rattle.shr_assemble.proofs.StandsOnce.{done_once}
 use Rattle.shr_assemble.proofs.WalksLaw.{is_serial_own, is_serial_same, filter_part}
 
 module _ (s : Script) (r : Report) (workers : List (List Step)) (run : IsRun s r workers) where
-  carries_are : (worker k : ℕ) (x : Step) → slice_get (steps_of workers worker) k ≡ Some x → carries_by r (serial_of worker k) ≡ x.work.carries
+  pub carries_are : (worker k : ℕ) (x : Step) → slice_get (steps_of workers worker) k ≡ Some x → carries_by r (serial_of worker k) ≡ x.work.carries
   carries_are worker k x at = ap (filter (λ (c : Carry). is_serial (serial_of worker k) c.by)) (run.steps.carries worker)
       ∙ filter_part (λ (c : Carry). is_serial (serial_of worker k) c.by) (λ (y : Step). y.work.carries) (steps_of workers worker) k x at own others
     where
@@ -73,7 +73,7 @@ module _ (s : Script) (r : Report) (workers : List (List Step)) (run : IsRun s r
       let both : true ≡ false = sym before ∙ ((run.journals.legal place).stands n e stands).open in
       cc
 
-  module _ (worker k : ℕ) (x : Step) (at : slice_get (steps_of workers worker) k ≡ Some x) (entry moved deferred : ℕ) (h : IsOfflinedBy x entry moved deferred) where
+  module _ (worker k : ℕ) (x : Step) (at : slice_get (steps_of workers worker) k ≡ Some x) (entry moved deferred : ℕ) (h : IsOfflinedBy s x entry moved deferred) where
     done : StandsInTree r entry (Done h.group)
     done = entry_stands s r workers run worker k x (record { number = entry; entry = Done h.group }) at h.made
 
@@ -101,7 +101,7 @@ module _ (s : Script) (r : Report) (workers : List (List Step)) (run : IsRun s r
       -- one of the same group
       of_group : y.command ≡ Some (Offline h.group) → (z : Reply) → y.answered.reply ≡ z → MayHaveBegun z → ⊥
       of_group command (reply.OfflineDone other much carried) replied may =
-          let cause : IsOfflinedBy y other much carried = subst (IsCausedBy s y) replied (run.steps.each v j y at_y).did.cause in
+          let cause : IsOfflinedBy s y other much carried = subst (IsCausedBy s y) replied (run.steps.each v j y at_y).did.cause in
           let group : cause.group ≡ h.group = same_Some cause.group h.group (sym cause.named ∙ ap (option_and_then group_named) command) in
           let theirs : StandsInTree r other (Done cause.group) = entry_stands s r workers run v j y (record { number = other; entry = Done cause.group }) at_y cause.made in
           apart (one_entry_maker s r workers run v j worker k y x (record { number = other; entry = Done cause.group }) (record { number = entry; entry = Done h.group }) at_y at cause.made h.made

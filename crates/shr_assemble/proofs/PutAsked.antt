@@ -114,6 +114,7 @@ module _ (x : Shared) (table : IsTableOf x) (by : Serial) (group node decl : ℕ
     scans = Each-none (IsScanOne by (length s.walks) []);
     taken = λ p. refl;
     given = λ p. refl;
+    steps = refl;
     turns = refl;
     tree = refl;
     carries = refl;

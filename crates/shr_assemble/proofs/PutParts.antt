@@ -1,5 +1,5 @@
 -- A put's parts: what its tries and walks made first, and then what its cache's list made.
-use Rattle.std.proofs.Common.{◌≡◌, ℕ, ◌+◌, ◌<◌, ◌⊎◌, inl, cond, List, [], ◌++◌, length, map, sym, ap, subst, ◌∙◌, arith, true, false}
+use Rattle.std.proofs.Common.{◌≡◌, ℕ, ◌+◌, ◌<◌, ◌⊎◌, inl, cond, List, [], ◌++◌, length, map, refl, sym, ap, subst, ◌∙◌, arith, true, false}
 use Rattle.std.specs.Prelude.{slice_get, Some, flat_map, sum_by, All, AllPairs}
 use Rattle.std.proofs.lemmas.List.{append-nil, map-append}
 use Rattle.std.proofs.lemmas.List.Elements.{All-nil, filter_map-append}
@@ -47,7 +47,9 @@ use Rattle.shr_assemble.specs.Walks.{DidRoundsOf, counted_in, mapped_in, cleared
 use Rattle.shr_assemble.proofs.Bringing.{brings_of, brings_then}
 use Rattle.shr_assemble.proofs.Filling.{IsSet, set_walked, set_filled, filled_among}
 use Rattle.shr_assemble.proofs.Gathering.{among_left, among_right}
-use Rattle.shr_assemble.proofs.Quiet.{HasDid, still_pool, still_tree, IsToldOnce}
+use Rattle.shr_report.specs.Takes.{steps_walked}
+use Rattle.shr_assemble.specs.Deferred.{told_step}
+use Rattle.shr_assemble.proofs.Quiet.{HasDid, still_pool, still_tree, IsToldOnce, none_moved}
 use Rattle.shr_assemble.proofs.WalkingSteps.{OnlyScan, slice_left, step_of, Has, walk_later, Walked}
 use Rattle.shr_assemble.proofs.WalkingChain.{FrontHad, any_cut, front_pairs}
 use Rattle.shr_report.specs.Cuts.{IsWant}
@@ -179,6 +181,10 @@ module _ (script : Script) (by : Serial) (c : Command) (a : Answered) (s m t : W
               let f = ap (λ (l : List WalkRecord). sum_by (λ (k : PassRecord). k.next) (flat_map (passes_at p) l)) walks_same in omega (arith, walked.given p, z, e, f);
           carries = subst (All (DidCarry script whole)) (sym none_carried) (All-nil (DidCarry script whole));
           rise = subst (AllPairs (λ (k l : Carry). IsBefore k.place.id k.place.node l.place.id l.place.node)) (sym none_carried) (no_pairs (λ (k l : Carry). IsBefore k.place.id k.place.node l.place.id l.place.node));
+          handed = [];
+          places = inl refl;
+          noted = none_carried;
+          steps = ap (map told_step) (behind v.moves q.moves (none_moved q.moves tail.takes tail.gives)) ∙ (walked.steps ∙ (ap (flat_map steps_walked) (sym walks_same) ∙ sym (append-nil _)));
         };
         pool = still_pool script whole whole_does.core.pool (record { turns = both_none v.core.turns q.core.turns walked.turns tail.turns; made = h.unmade }) h.known;
         tree = still_tree script whole (both_none v.tree q.tree walked.tree tail.tree) h.online h.meets;

@@ -1,5 +1,5 @@
 -- The parts of what a command did that are empty: of one that makes no walk, no move, no charge, no entry of a journal.
-use Rattle.std.proofs.Common.{◌≡◌, ℕ, ◌<◌, ◌≤◌, pos, ◌-ℤ◌, Bool, true, false, cond, List, [], ◌∷◌, length, length-append, refl, sym, ap, subst, ◌∙◌, arith}
+use Rattle.std.proofs.Common.{◌≡◌, ℕ, ◌<◌, ◌≤◌, pos, ◌-ℤ◌, Bool, true, false, cond, List, [], ◌∷◌, ◌++◌, inl, length, length-append, refl, sym, ap, subst, ◌∙◌, arith}
 use Rattle.std.specs.Prelude.{◌⊎◌, slice_get, Option, Some, None, option_and_then, map, flat_map, sum_by, All, AllPairs}
 use Rattle.std.specs.List.{AllByRecursion, list_any}
 use Rattle.std.specs.Option.{IsSomeAnd}
@@ -20,7 +20,8 @@ use Rattle.shr_model.specs.Deferred.{sum_at}
 use Rattle.shr_model.specs.Charges.{ups, usage_after}
 use Rattle.shr_model.specs.Moves.{given_at, taken_at}
 use Rattle.shr_model.specs.Walks.{Job, job_of, is_cut}
-use Rattle.shr_deferred.specs.Moves.{takes_of, gives_of}
+use Rattle.shr_deferred.specs.Moves.{Moves, takes_of, gives_of}
+use Rattle.shr_deferred.specs.Moves as moves
 use Rattle.shr_seats.specs.Views.{Each}
 use Rattle.shr_seats.specs.Weights.{Begins}
 use Rattle.shr_seats.proofs.Weighing.{Each-none}
@@ -32,12 +33,13 @@ use Rattle.shr_report.specs.Parts.{parents_of}
 use Rattle.shr_report.specs.Charges.{charged}
 use Rattle.shr_report.specs.Freshness.{MayBeOffline, made_shown, pool_seen, pool_made}
 use Rattle.shr_report.specs.ReplyTable.{group_met}
+use Rattle.shr_report.specs.Takes.{steps_walked}
 use Rattle.shr_report.specs.WalksLawful.{MayMake, IsToldBy}
 use Rattle.shr_report.specs.WellFormed.{IsBefore, AreNotFalling}
 use Rattle.shr_assemble.specs.Steps.{Step, Brings, IsPut}
 use Rattle.shr_assemble.specs.Walks.{DidRoundsOf, AreWalksFor, DidWalks, counted_in, mapped_in, cleared_in, word_of}
 use Rattle.shr_assemble.specs.Charges.{DidCharges, ops_at, added_below, freed_below}
-use Rattle.shr_assemble.specs.Deferred.{DidMoves, DidCarry}
+use Rattle.shr_assemble.specs.Deferred.{DidMoves, DidCarry, told_step}
 use Rattle.shr_assemble.specs.Pool.{DidPool, IsTurnOf}
 use Rattle.shr_assemble.specs.Offlining.{DidTree, IsEntryOf, KnowsOnline, MeetsGroups}
 use Rattle.shr_assemble.specs.Causes.{IsUnmadeBy}
@@ -133,12 +135,21 @@ pub record MovesNot (w : Work) : Type 0 where
   pub gives : gives_of w.moves ≡ []
   pub carries : w.carries ≡ []
 
+pub none_moved : (m : Moves) → takes_of m ≡ [] → gives_of m ≡ [] → m ≡ []
+none_moved [] takes gives = refl
+none_moved (moves.took y ∷ m) takes gives = absurd (cc)
+none_moved (moves.gave y ∷ m) takes gives = absurd (cc)
+
 pub still_moves : (s : Script) (x : Step) → MovesNot x.work → DidMoves s x
 still_moves s x none = record {
   taken = λ p. ap (sum_at p) none.takes ∙ sym (λ i. taken_at (none.walks i) (none.carries i) p);
   given = λ p. ap (sum_at p) none.gives ∙ sym (λ i. given_at (parents_of s) (none.walks i) (none.carries i) p);
   carries = all_of_none (DidCarry s x) x.work.carries none.carries;
   rise = subst (λ (cs : List Carry). AllPairs (λ (c d : Carry). IsBefore c.place.id c.place.node d.place.id d.place.node) cs) (sym none.carries) (λ i j d lt within. absurd (omega (arith, within)));
+  handed = [];
+  places = inl refl;
+  noted = none.carries;
+  steps = ap (map told_step) (none_moved x.work.moves none.takes none.gives) ∙ sym (ap (λ (ws : List WalkRecord). flat_map steps_walked ws ++ []) none.walks);
 }
 
 -- ---- no charge

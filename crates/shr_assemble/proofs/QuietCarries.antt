@@ -1,6 +1,7 @@
 -- What carrying a group's deferred work took and gave, by what was noted of it.
-use Rattle.std.proofs.Common.{◌≡◌, ℕ, ◌+◌, ◌<◌, Bool, true, false, cond, ◌==◌, ◌&&◌, List, [], ◌∷◌, ◌++◌, length, refl, sym, ap, ◌∙◌, arith, eqb, eq-eqb, ne_eqb}
-use Rattle.std.specs.Prelude.{sum_by}
+use Rattle.std.proofs.Common.{◌≡◌, ℕ, ◌+◌, ◌<◌, Bool, true, false, cond, ◌==◌, ◌&&◌, List, [], ◌∷◌, ◌++◌, map, length, refl, sym, ap, ◌∙◌, arith, eqb, eq-eqb, ne_eqb}
+use Rattle.std.specs.Prelude.{sum_by, flat_map}
+use Rattle.std.proofs.lemmas.List.{map-append}
 use Rattle.std.specs.List.{AllByRecursion}
 use Rattle.std.proofs.lemmas.Bool.{eqb-true, lt-ltb}
 use mathlib.Core.Logic.{dite}
@@ -19,6 +20,11 @@ use Rattle.shr_seats.specs.declared.shape.Shape.{Shape}
 use Rattle.shr_model.specs.Deferred.{amount_of}
 use Rattle.shr_deferred.specs.Moves.{gave, takes_of, gives_of}
 use Rattle.shr_deferred.proofs.SeatLaws.{takes_both, gives_both}
+use Rattle.shr_base.specs.declared.scripts.Script.{Script}
+use Rattle.shr_report.specs.Parts.{parents_of}
+use Rattle.shr_report.specs.Takes.{WordStep, took, above, steps_handed}
+use Rattle.shr_report.specs.Takes.{gave as told_gave}
+use Rattle.shr_assemble.specs.Deferred.{told_step}
 use Rattle.shr_offline.specs.Carries.{moves_of, carry_of, carries_of, above_of}
 use Rattle.shr_assemble.proofs.Listed.{sum_total}
 
@@ -36,7 +42,7 @@ one_give : (b : Bool) (x : PlaceAmount) → gives_of (cond b [] (gave x ∷ []))
 one_give true x = refl
 one_give false x = refl
 
-takes_are : (shape : Shape) (amounts : List PlaceAmount) → takes_of (moves_of shape amounts) ≡ amounts
+pub takes_are : (shape : Shape) (amounts : List PlaceAmount) → takes_of (moves_of shape amounts) ≡ amounts
 takes_are shape [] = refl
 takes_are shape (a ∷ more) = let above = amount_of (above_of shape a.place) a.amount in
     ap (λ l. a ∷ l) (takes_both (cond (a.amount == 0) [] (gave above ∷ [])) (moves_of shape more) ∙ (ap (λ l. l ++ takes_of (moves_of shape more)) (no_take (a.amount == 0) above) ∙ takes_are shape more))
@@ -90,3 +96,14 @@ carried_given shape by group amounts p low there of = sum_total (amount_at p) (g
     each : (more : List PlaceAmount) → AreOf group more → total (amount_at p) (gives_of (moves_of shape more)) ≡ total (below_weight shape.parents.items p) (carries_of by more)
     each [] h = refl
     each (a ∷ more) h = omega (arith, ap (λ l. total (amount_at p) l) (gives_more shape a more), each more h.1, one a h.0 (a.amount == 0), total-append (amount_at p) (cond (a.amount == 0) [] (record { place = above_of shape a.place; amount = a.amount } ∷ [])) (gives_of (moves_of shape more)), total-append (below_weight shape.parents.items p) (carry_of by a) (carries_of by more))
+
+-- what was moved is what a report tells of it
+pub told_handed : (shape : Shape) (s : Script) → shape.parents.items ≡ parents_of s → (amounts : List PlaceAmount) → map told_step (moves_of shape amounts) ≡ flat_map (steps_handed s) amounts
+told_handed shape s e [] = refl
+told_handed shape s e (a ∷ more) = ap (λ (l : List WordStep). took a ∷ l) (map-append told_step (cond (a.amount == 0) [] (gave (amount_of (above_of shape a.place) a.amount) ∷ [])) (moves_of shape more)
+    ∙ (ap (λ (l : List WordStep). l ++ map told_step (moves_of shape more)) (one (a.amount == 0))
+    ∙ ap (λ (l : List WordStep). cond (a.amount == 0) [] (told_gave (amount_of (above s a.place) a.amount) ∷ []) ++ l) (told_handed shape s e more)))
+  where
+    one : (b : Bool) → map told_step (cond b [] (gave (amount_of (above_of shape a.place) a.amount) ∷ [])) ≡ cond b [] (told_gave (amount_of (above s a.place) a.amount) ∷ [])
+    one true = refl
+    one false = ap (λ (ps : List ℕ). told_gave (amount_of (record a.place { group = parent_of ps a.place.group }) a.amount) ∷ []) e

@@ -53,6 +53,7 @@ tried_walked x script by c a group answer s t h = record {
   scans = Each-none (IsScanOne by (length s.walks) []);
   taken = λ p. refl;
   given = λ p. refl;
+  steps = refl;
   turns = refl;
   tree = refl;
   carries = refl;

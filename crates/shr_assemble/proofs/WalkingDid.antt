@@ -1,5 +1,5 @@
 -- A command that made walks alone did what the report asks.
-use Rattle.std.proofs.Common.{◌≡◌, ℕ, ◌<◌, ◌≤◌, ◌⊎◌, inl, [], length, sym, ap, subst, ◌∙◌, arith}
+use Rattle.std.proofs.Common.{◌≡◌, ℕ, ◌<◌, ◌≤◌, ◌⊎◌, inl, [], length, refl, sym, ap, subst, ◌∙◌, arith}
 use Rattle.std.specs.Prelude.{cond, Option, Some, None, option_and_then, sum_by, All, AllPairs}
 use Rattle.std.specs.List.{AllByRecursion}
 use Rattle.std.proofs.lemmas.List.{append-nil}
@@ -101,6 +101,10 @@ walks_did x table by c r s t w walked freed born charges uncharges is = record {
     given = λ p. let z : sum_by (given_by p) w.carries ≡ 0 = ap (sum_by (given_by p)) walked.carries in omega (arith, walked.given p, z);
     carries = subst (All (DidCarry x.script step)) (sym walked.carries) (All-nil (DidCarry x.script step));
     rise = subst (AllPairs (λ (a b : Carry). IsBefore a.place.id a.place.node b.place.id b.place.node)) (sym walked.carries) (no_pairs (λ (a b : Carry). IsBefore a.place.id a.place.node b.place.id b.place.node));
+    handed = [];
+    places = inl refl;
+    noted = walked.carries;
+    steps = walked.steps ∙ sym (append-nil _);
   };
   pool = record {
     turns = subst (Each (λ (k : Turn). IsTurnOf t.core.turns.known k.entry k.number r)) (sym walked.turns) (Each-none (λ (k : Turn). IsTurnOf t.core.turns.known k.entry k.number r));

@@ -205,6 +205,7 @@ idle_walked script by c a s t d = record {
   scans = Each-none (IsScanOne by (length s.walks) []);
   taken = λ p. refl;
   given = λ p. refl;
+  steps = refl;
   turns = refl;
   tree = refl;
   carries = refl;

@@ -30,6 +30,9 @@ use Rattle.shr_walk.specs.Visits.{visit_moves}
 use Rattle.shr_walk.specs.Walked.{place_of, cleared_of, set_of, moves_of, Parts, AreParts}
 use Rattle.shr_walk.specs.declared.seats.Shared.{Shared}
 use Rattle.shr_walk.specs.declared.walking.Walk.{Walk}
+use Rattle.std.proofs.lemmas.List.{map-append}
+use Rattle.shr_report.specs.Takes.{WordStep, steps_passed}
+use Rattle.shr_assemble.specs.Deferred.{told_step}
 use Rattle.shr_assemble.proofs.WalkingParts.{found_cases}
 use Rattle.shr_assemble.specs.Walks.{is_setting}
 use Rattle.shr_assemble.proofs.WalkingRecord.{listed, same_cleared, same_set, same_passes}
@@ -102,6 +105,22 @@ pub all_given : (p : Place) (walk : Walk) (l : List Attempt) → sum_at p (gives
 all_given p walk [] = refl
 all_given p walk (a ∷ l) = let e = ap (sum_at p) (gives_both (visit_moves (place_of walk a) a.outcome) (moves_of walk l)) ∙ sum_by-append (amount_at p) (gives_of (visit_moves (place_of walk a) a.outcome)) (gives_of (moves_of walk l)) in
     let d = ap (sum_at p) (visit_gives (place_of walk a) a.outcome) in let n = near_more p (λ (q : PassRecord). q.next) walk a l in omega (arith, e, d, n, all_given p walk l)
+
+-- the moves of a walk, in their order
+visit_steps : (place : Place) (o : Outcome) → map told_step (visit_moves place o) ≡ steps_passed place (pass_of o)
+visit_steps place (outcome.Worn seen) = refl
+visit_steps place (outcome.Gone n then) = refl
+visit_steps place (outcome.Skip n len version) = refl
+visit_steps place (outcome.Ran n p) = refl
+visit_steps place (outcome.Empty n version) = refl
+visit_steps place (outcome.Cleared n first second) = refl
+visit_steps place (outcome.RestoredSkip n first len version) = refl
+visit_steps place (outcome.RestoredRan n first p) = refl
+
+pub all_steps : (walk : Walk) (l : List Attempt) → map told_step (moves_of walk l) ≡ flat_map (λ (a : Attempt). steps_passed (place_of walk a) (pass_of a.outcome)) l
+all_steps walk [] = refl
+all_steps walk (a ∷ l) = map-append told_step (visit_moves (place_of walk a) a.outcome) (moves_of walk l)
+    ∙ (ap (λ (v : List WordStep). v ++ map told_step (moves_of walk l)) (visit_steps (place_of walk a) a.outcome) ∙ ap (λ (v : List WordStep). steps_passed (place_of walk a) (pass_of a.outcome) ++ v) (all_steps walk l))
 
 -- ---- an entry that was made is of an attempt with a pass
 scan_there : (worker walk : ℕ) (policy : Policy) (e : Entry) → IsScanOf worker walk policy e → (z : ScanSeen) × (scan_by worker walk e ≡ Some z)

@@ -49,12 +49,13 @@ use Rattle.shr_assemble.specs.Lookups.{numbered}
 use Rattle.shr_assemble.specs.Offlining.{KnowsOnline}
 use Rattle.shr_assemble.specs.Walks.{IsRecord, DidWalk}
 use Rattle.shr_assemble.specs.Worn.{IsWornBy}
+use Rattle.shr_assemble.specs.Deferred.{told_step}
 use Rattle.shr_assemble.proofs.WornSeen.{seen_worn}
 use Rattle.shr_model.proofs.UnitsLaws.{Rise}
 use Rattle.shr_assemble.proofs.WalkingTold.{IsTableOf, seen_id, seen_pass}
 use Rattle.shr_assemble.proofs.WalkingParts.{PartAt, part_at, part_scans, tries_one, pass_is, found_cases, found_held}
 use Rattle.shr_assemble.proofs.WalkingRecord.{same_counts, same_numbers, outcome_kind, stopped}
-use Rattle.shr_assemble.proofs.WalkingLists.{passes_near, flat_same, all_cleared, all_set, all_taken, all_given, IsOfAttempt, of_attempts, pass_there}
+use Rattle.shr_assemble.proofs.WalkingLists.{passes_near, flat_same, all_cleared, all_set, all_taken, all_given, all_steps, IsOfAttempt, of_attempts, pass_there}
 use Rattle.shr_assemble.proofs.WalkingSteps.{OnlyScan, IsScanOne, step_of, Walked}
 
 -- the work of a walk with the words that it loaded and its record
@@ -169,6 +170,7 @@ module _ (x : Shared) (table : IsTableOf x) (walk : Walk) (c : Option Command) (
     scans = λ j m e. is_scan m (of_attempts x walk tries.items (parts_of w) one.is.parts j m e);
     taken = λ p. ap (λ (m : Moves). sum_at p (takes_of m)) (sym one.is.moves) ∙ (all_taken p walk tries.items ∙ ap (sum_by (λ (q : PassRecord). q.nr)) (sym (append-nil (passes_near p (λ (q : PassRecord). q.nr) walk tries.items))));
     given = λ p. ap (λ (m : Moves). sum_at p (gives_of m)) (sym one.is.moves) ∙ (all_given p walk tries.items ∙ ap (sum_by (λ (q : PassRecord). q.next)) (sym (append-nil (passes_near p (λ (q : PassRecord). q.next) walk tries.items))));
+    steps = ap (map told_step) (sym one.is.moves) ∙ (all_steps walk tries.items ∙ sym (append-nil _));
     turns = one.is.turns;
     tree = one.is.tree;
     carries = one.is.carries;

@@ -38,6 +38,8 @@ use Rattle.shr_walk.specs.State.{WorkerState, Work, no_work, then_work, Does}
 use Rattle.shr_walk.proofs.Doing.{does_none, does_then}
 use Rattle.shr_walk.proofs.FreshLaws.{fresh_none, fresh_then}
 use Rattle.shr_report.specs.LawfulWalk.{AreScansOf}
+use Rattle.shr_report.specs.Takes.{WordStep, steps_walked}
+use Rattle.shr_assemble.specs.Deferred.{told_step}
 use Rattle.shr_charge.specs.Views as charge
 use Rattle.shr_assemble.specs.Steps.{Step, IsAmong}
 use Rattle.shr_assemble.specs.Attempts.{scan_made, scans_made, DidPass, DidAttempt}
@@ -233,6 +235,7 @@ module _ (script : Script) (by : Serial) (c : Option Command) (a : Answered) whe
     pub scans : Each (IsScanOne by (length s.walks) w.walks) w.core.made
     pub taken : (p : Place) → sum_at p (takes_of w.moves) ≡ sum_by (λ (q : PassRecord). q.nr) (flat_map (passes_at p) w.walks)
     pub given : (p : Place) → sum_at p (gives_of w.moves) ≡ sum_by (λ (q : PassRecord). q.next) (flat_map (passes_at p) w.walks)
+    pub steps : map told_step w.moves ≡ flat_map steps_walked w.walks
     pub turns : w.core.turns ≡ []
     pub tree : w.tree ≡ []
     pub carries : w.carries ≡ []
@@ -251,6 +254,7 @@ module _ (script : Script) (by : Serial) (c : Option Command) (a : Answered) whe
     scans = Each-none (IsScanOne by (length s.walks) []);
     taken = λ p. refl;
     given = λ p. refl;
+    steps = refl;
     turns = refl;
     tree = refl;
     carries = refl;
@@ -305,6 +309,7 @@ module _ (script : Script) (by : Serial) (c : Option Command) (a : Answered) whe
       scans = Each-append (IsScanOne by (length s.walks) (v.walks ++ w.walks)) v.core.made w.core.made (λ j m e. only_left by (length s.walks) v.walks w.walks m m.entry (p.scans j m e)) (λ j m e. only_right by (length s.walks) (length u.walks) v.walks w.walks m m.entry more_walks (q.scans j m e));
       taken = λ z. ap (sum_at z) (takes_both v.moves w.moves) ∙ (sum_both z (takes_of v.moves) (takes_of w.moves) (λ (k : PassRecord). k.nr) (flat_map (passes_at z) v.walks) (flat_map (passes_at z) w.walks) (p.taken z) (q.taken z) ∙ ap (sum_by (λ (k : PassRecord). k.nr)) (sym (flat_map-append (passes_at z) v.walks w.walks)));
       given = λ z. ap (sum_at z) (gives_both v.moves w.moves) ∙ (sum_both z (gives_of v.moves) (gives_of w.moves) (λ (k : PassRecord). k.next) (flat_map (passes_at z) v.walks) (flat_map (passes_at z) w.walks) (p.given z) (q.given z) ∙ ap (sum_by (λ (k : PassRecord). k.next)) (sym (flat_map-append (passes_at z) v.walks w.walks)));
+      steps = map-append told_step v.moves w.moves ∙ (ap (λ (l : List WordStep). l ++ map told_step w.moves) p.steps ∙ (ap (λ (l : List WordStep). flat_map steps_walked v.walks ++ l) q.steps ∙ sym (flat_map-append steps_walked v.walks w.walks)));
       turns = ap (λ l. l ++ w.core.turns) p.turns ∙ q.turns;
       tree = ap (λ l. l ++ w.tree) p.tree ∙ q.tree;
       carries = ap (λ l. l ++ w.carries) p.carries ∙ q.carries;

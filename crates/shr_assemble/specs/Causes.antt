@@ -1,6 +1,7 @@
 -- What an answer came from, in what its command did and its worker knew.
-use Rattle.std.specs.Prelude.{◌≡◌, ℕ, pos, ◌%◌, ◌^◌, ◌<◌, ◌≤◌, ◌⊎◌, nat_lt, true, false, length, take, filter, sum_by, Option, Some, None, option_and_then, All}
+use Rattle.std.specs.Prelude.{◌≡◌, ℕ, pos, ◌%◌, ◌^◌, ◌<◌, ◌≤◌, ◌⊎◌, nat_lt, true, false, [], length, map, take, filter, sum_by, Option, Some, None, option_and_then, All}
 use Rattle.std.specs.Option.{IsSomeAnd}
+use Rattle.shr_base.specs.declared.ends.PlaceAmount.{PlaceAmount}
 use Rattle.shr_base.specs.declared.journals.PoolEntry.TheVariants.{Registered, Unregistered, Idle}
 use Rattle.shr_base.specs.declared.journals.TreeEntry.TheVariants.{Done, Made as MadeEntry}
 use Rattle.shr_base.specs.declared.journals.UseStep.{UseStep}
@@ -22,6 +23,8 @@ use Rattle.shr_core.specs.Parts.{Made}
 use Rattle.shr_charge.specs.Offlining.{IsNamed}
 use Rattle.shr_charge.specs.declared.answers.GroupState.TheVariants as state
 use Rattle.shr_charge.specs.Views.{Loaded}
+use Rattle.shr_deferred.specs.Moves.{takes_of}
+use Rattle.shr_report.specs.Takes.{places_offlined}
 use Rattle.shr_report.specs.Parts.{parents_of, later_of, hierarchy_of, limit_of}
 use Rattle.shr_report.specs.ReplyTable.{group_met}
 use Rattle.shr_report.specs.Causes.{drained_by, moved_of}
@@ -134,13 +137,16 @@ pub record IsInTheWayBy (s : Script) (x : Step) (child entry : ℕ) : Type 0 whe
   pub shown : All (λ (l : Loaded). IsNamed (hierarchy_of s) x.after.tree.known l) x.after.tree.loaded
 
 -- the group was done by this entry, with what was moved in from its lists and what was carried
-pub record IsOfflinedBy (x : Step) (entry moved deferred : ℕ) : Type 0 where
+pub record IsOfflinedBy (s : Script) (x : Step) (entry moved deferred : ℕ) : Type 0 where
   pub group : ℕ
   pub named : option_and_then group_named x.command ≡ Some group
   pub made : IsAmong (record { number = entry; entry = Done group }) x.work.tree
   pub known : entry < length x.after.tree.known
   pub moved_is : moved ≡ sum_by (λ (m : Made). moved_of group m.entry) x.work.core.made
   pub deferred_is : deferred ≡ sum_by (λ (c : Carry). c.amount) x.work.carries % 2 ^ 64
+  -- it took once at each place of the group
+  pub took : map (λ (a : PlaceAmount). a.place) (takes_of x.work.moves) ≡ places_offlined s x.command
+  pub unwalked : x.work.walks ≡ []
 
 -- what the command found used up: a counter at the tables of the caches, or the journal of a pool, of which this says no more
 abbrev pub IsUsedUpBy : Script → Step → Option Command → Spent → Type 0
@@ -157,7 +163,7 @@ IsCausedBy s x (reply.AlreadyMade entry) = WasMade x entry
 IsCausedBy s x (reply.Over group operation usage) = IsOverBy s x group operation usage
 IsCausedBy s x (reply.NoCache entry) = IsUncachedBy s x entry
 IsCausedBy s x (reply.Worn spent) = IsUsedUpBy s x x.command spent
-IsCausedBy s x (reply.OfflineDone entry moved deferred) = IsOfflinedBy x entry moved deferred
+IsCausedBy s x (reply.OfflineDone entry moved deferred) = IsOfflinedBy s x entry moved deferred
 IsCausedBy s x (reply.AlreadyDone entry) = WasDone x entry
 IsCausedBy s x reply.Root = option_and_then group_named x.command ≡ Some 0
 IsCausedBy s x (reply.HasChildren child entry) = IsInTheWayBy s x child entry

@@ -17,6 +17,7 @@ use Rattle.shr_seats.specs.Shapes.{hierarchy_of}
 use Rattle.shr_charge.specs.Ends.{IsEndOf}
 use Rattle.shr_charge.specs.Steps.{joined_tree}
 use Rattle.shr_charge.specs.Views.{Uses, TreeView, own_uses, no_tree, both_uses}
+use Rattle.shr_deferred.specs.History.{HasHistory}
 use Rattle.shr_deferred.specs.Left.{left_over}
 use Rattle.shr_deferred.specs.Moves.{Moves, no_moves, both}
 use Rattle.shr_plain.specs.Ending.{IsPoolsEnd}
@@ -42,6 +43,8 @@ pub record Firsts : Type 0 where
   pub uses : Uses
   pub tree : TreeView
   pub moves : Moves
+  -- by themselves, and what each worker's then did
+  pub strands : List Moves
   -- at the pools of units
   pub plain : PlainState
 
@@ -52,6 +55,7 @@ with_worker f w = record {
   uses = both_uses f.uses w.seats.uses;
   tree = joined_tree f.tree w.seats.tree;
   moves = both f.moves w.seats.moves;
+  strands = f.strands ++ w.seats.moves ∷ [];
   plain = joined_state f.plain w.plain;
 }
 
@@ -62,7 +66,7 @@ with_workers f ws = fold with_worker f ws
 -- what they have done and seen when the workers start: the caches that are on were registered by this view, which was then
 -- split so often
 abbrev pub at_start : View → Standing → Firsts
-at_start opened standing = record { core = record opened { standing = standing }; uses = own_uses; tree = no_tree; moves = no_moves; plain = no_state }
+at_start opened standing = record { core = record opened { standing = standing }; uses = own_uses; tree = no_tree; moves = no_moves; strands = no_moves ∷ []; plain = no_state }
 
 -- a worker's state at the start, by its number: the first seats have number 0, and the workers' were
 -- split off them in order
@@ -135,5 +139,6 @@ pub record AreEndsOf (x : Shared) (logs : List WorkerLog) (e : Ends) : Type 0 wh
   -- each bit word is one of 64 bits
   pub words : All (λ (m : MapEnd). m.bits < 2 ^ 64) e.core.maps.items
   pub deferred : e.deferred.items ≡ left_over x.deferred.sizes (with_workers (at_start opened standing) lasts).moves
+  pub history : HasHistory x.deferred.sizes (with_workers (at_start opened standing) lasts).strands e.deferred.items
   pub charge : IsEndOf (hierarchy_of x.charge.shape) (with_workers (at_start opened standing) lasts).uses (with_workers (at_start opened standing) lasts).tree e.charge
   pub pools : IsPoolsEnd (pool_sizes x.script) (with_workers (at_start opened standing) lasts).plain e.pools

@@ -19,7 +19,9 @@ use Rattle.shr_model.specs.Groups.{IsTree, IsHierarchy}
 use Rattle.shr_model.specs.Places.{place_number, unit_of, bit_of}
 use Rattle.shr_model.specs.Pool.{phase_of, is_before, end_of, last_number, registrations, decl_at, IsPoolJournal}
 use Rattle.shr_model.specs.TreeJournal.{IsTreeJournal}
-use Rattle.shr_deferred.specs.Moves.{takes_of, gives_of}
+use Rattle.shr_deferred.specs.Moves.{Move, takes_of, gives_of}
+use Rattle.shr_deferred.specs.Rule.{AreTaken, amounts_after}
+use Rattle.shr_seats.specs.Lines.{Deed, by_seat, part}
 use Rattle.shr_seats.specs.Views.{Each}
 use Rattle.shr_seats.specs.Weights.{total, times, Begins}
 use Rattle.shr_core.specs.Layout.{place_at, map_number}
@@ -194,6 +196,13 @@ pub record AreDeferred (s : Script) (r : Report) (workers : List (List Step)) : 
   pub words : (place : Place) → IsThere s place → printed_at r place ≡ deferred_word (sum_at place (all_gives workers)) (sum_at place (all_takes workers))
   pub elsewhere : (place : Place) → (IsThere s place → ⊥) → printed_at r place ≡ 0
   pub shown : AllByRecursion (λ (x : PlaceAmount). 0 < x.amount) r.deferred.items
+  -- there is one line of all moves, each worker's in its order, in which each take took what was given since the take before
+  pub line : List (Deed Move)
+  pub parts : (worker : ℕ) → part (1 + worker) line ≡ by_seat (1 + worker) (flat_map (λ (x : Step). x.work.moves) (steps_of workers worker))
+  pub others : part 0 line ≡ []
+  pub takes : AreTaken line
+  -- what it leaves is printed
+  pub left : (place : Place) → IsThere s place → printed_at r place ≡ amounts_after line place
 
 -- the sizes of the tables hold the script
 pub record IsSized (s : Script) : Type 0 where

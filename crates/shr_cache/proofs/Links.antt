@@ -1,13 +1,15 @@
 -- Each step from the seats before it to those after it.
-use Rattle.std.proofs.Common.{◌≡◌, ℕ, List, ap, sym, subst}
+use Rattle.std.proofs.Common.{◌≡◌, ℕ, List, ap, sym, subst, ◌∙◌}
 use Rattle.shr_base.specs.Kept.{Kept}
 use Rattle.shr_base.specs.declared.places.Serial.{Serial}
 use Rattle.shr_base.specs.declared.journals.UseStep.{UseStep}
 use Rattle.shr_model.specs.Groups.{Hierarchy, path_of}
 use Rattle.shr_core.specs.declared.view.View.{View}
 use Rattle.shr_core.specs.declared.seat.Seat.{Seat}
-use Rattle.shr_core.specs.Gained.{OwesNoMore}
+use Rattle.shr_core.specs.Parts.{Claims}
 use Rattle.shr_core.specs.Seats.{view_of}
+use Rattle.shr_core.specs.Seats as core
+use Rattle.shr_core.proofs.Owing.{still_none}
 use Rattle.shr_core.specs.Steps.{with_put}
 use Rattle.shr_charge.specs.declared.table.ChargeSeat.{ChargeSeat}
 use Rattle.shr_charge.specs.Charging as charging
@@ -21,9 +23,9 @@ use Rattle.shr_deferred.specs.Seat.{moves_of}
 use Rattle.shr_walk.specs.declared.seats.Seats.{Seats}
 use Rattle.shr_walk.specs.declared.seats.Shared.{Shared}
 use Rattle.shr_walk.specs.Sharing.{IsShared}
-use Rattle.shr_walk.specs.State.{state_of}
+use Rattle.shr_walk.specs.State.{IsRested, state_of}
 use Rattle.shr_walk.proofs.Shares.{same_parents, same_hierarchy}
-use Rattle.shr_opening.specs.Opening.{LoadsWord, Calls, Uncharges}
+use Rattle.shr_opening.specs.Opening.{IsHolding, LoadsWord, Calls, Uncharges}
 use Rattle.shr_cache.proofs.Stays.{Stays}
 
 -- the seats with another seat of one table
@@ -75,6 +77,16 @@ called call s seat last made back = record {
   rest = ap (λ (v : View). record (state_of s) { core = v }) back;
 }
 
--- no place is owed by then that was not owed before
-pub owed_called : (u v w : View) (last : View) → OwesNoMore u v → Stays v w → last ≡ with_put w → OwesNoMore u last
-owed_called u v w last before stays back k h = before k (stays.gains.owed k (subst (λ (y : View). OwesNoMore w y) (sym back) (λ j d. d) k h))
+-- the seats are at rest once the reference was given back
+pub rested_called : (x : Shared) (id : ℕ) (s : Seats) (seat last : Seat) → IsHolding x id s → Stays (view_of s.cache.core) (view_of seat) → core.IsOf x.core last → view_of last ≡ with_put (view_of seat) → IsRested x (with_core s last)
+rested_called x id s seat last h stays of back = record {
+  core = of;
+  idle = record {
+    rooms = ap (λ (v : View). v.holding) back ∙ (stays.gains.holding ∙ h.rooms);
+    held = ap (λ (v : View). v.claims.held) back;
+    owner = ap (λ (v : View). v.claims.owner) back ∙ (ap (λ (y : Claims). y.owner) (stays.gains.marks h.owner) ∙ h.owner);
+  };
+  owed = ap (λ (v : View). v.marks.owed) back ∙ still_none (view_of s.cache.core) (view_of seat) h.owed stays.gains.owed;
+  charge = h.charge;
+  deferred = h.deferred;
+}

@@ -2,9 +2,8 @@
 
 ghost use Rattle.std.specs.Prelude.{◌≡◌, ◌<◌};
 ghost use Rattle.shr_model.specs.Objects.{fresh};
-ghost use Rattle.shr_core.specs.Gained.{OwesNoMore};
 ghost use Rattle.shr_seats.specs.Shapes.{groups_in};
-ghost use Rattle.shr_core.specs.Seats.{view_of, shape_of};
+ghost use Rattle.shr_core.specs.Seats.{shape_of};
 ghost use Rattle.shr_walk.specs.Sharing.{IsShared};
 ghost use Rattle.shr_walk.specs.State.{IsRested, state_of};
 ghost use Rattle.shr_opening.specs.Opening.{IsSameCharge};
@@ -52,7 +51,6 @@ fn offer<R: Wait>(
     requires decl { decl < (shape_of shared.now.core).decls }
     requires rested { IsRested shared.now seats.old }
     ensures rested { IsRested shared.now seats.new }
-    ensures owed { OwesNoMore (view_of seats.old.cache.core) (view_of seats.new.cache.core) }
     ensures offered { OfferedAs shared.now node decl object result.found result.reply
         (state_of seats.old) (state_of seats.new) }
     ensures same { IsSameCharge seats.old seats.new }
@@ -119,7 +117,6 @@ pub fn put<R: Wait>(
     requires decl { decl < (shape_of shared.now.core).decls }
     requires rested { IsRested shared.now seats.old }
     ensures rested { IsRested shared.now seats.new }
-    ensures owed { OwesNoMore (view_of seats.old.cache.core) (view_of seats.new.cache.core) }
     ensures put { PutGives shared.now by group node decl key value result
         (state_of seats.old) (state_of seats.new) }
 {

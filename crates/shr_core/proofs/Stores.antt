@@ -118,9 +118,9 @@ childs shape now after v k e hand sh allowed backed c objects is = let a = subst
 -- what each kind of entry says of the splice under way
 unspliced : (shape : Shape) (v : View) (k : ℕ) (e : Entry) → IsBacked shape v k e → (c : ℕ) → v.holding.half ≡ Some c → (k ≢ c) ⊎ (e ≡ Closed)
 unspliced shape v k (Add by birth added key value) b c h = inl (b.2 c h).0
-unspliced shape v k (Look by birth key hit) b c h = inl (b.1 c h).0
-unspliced shape v k (Drop by birth key kind) b c h = inl (b.1 c h).0
-unspliced shape v k (Pin by birth key pinned hit) b c h = inl (b.1 c h).0
+unspliced shape v k (Look by birth key hit) b c h = inl (b c h).0
+unspliced shape v k (Drop by birth key kind) b c h = inl (b c h).0
+unspliced shape v k (Pin by birth key pinned hit) b c h = inl (b c h).0
 unspliced shape v k (Scan worker walk asked policy visits freed stopped) b c h = inl (b.1 c h).0
 unspliced shape v k (MovedIn child objects) b c h = absurd (not_some c v.holding.half b.0 h)
 unspliced shape v k Closed b c h = inr refl
@@ -128,9 +128,9 @@ unspliced shape v k (Drained by objects) b c h = inl (b.2 c h).0
 
 beneath : (shape : Shape) (v : View) (k : ℕ) (e : Entry) → IsBacked shape v k e → (c : ℕ) → v.holding.half ≡ Some c → (e ≡ Closed → ⊥) → k ≢ above shape.parents.items c
 beneath shape v k (Add by birth added key value) b c h n = (b.2 c h).1
-beneath shape v k (Look by birth key hit) b c h n = (b.1 c h).1
-beneath shape v k (Drop by birth key kind) b c h n = (b.1 c h).1
-beneath shape v k (Pin by birth key pinned hit) b c h n = (b.1 c h).1
+beneath shape v k (Look by birth key hit) b c h n = (b c h).1
+beneath shape v k (Drop by birth key kind) b c h n = (b c h).1
+beneath shape v k (Pin by birth key pinned hit) b c h n = (b c h).1
 beneath shape v k (Scan worker walk asked policy visits freed stopped) b c h n = (b.1 c h).1
 beneath shape v k (MovedIn child objects) b c h n = absurd (not_some c v.holding.half b.0 h)
 beneath shape v k Closed b c h n = absurd (n refl)
@@ -160,9 +160,9 @@ timely shape v k (Drained by objects) t b dying = dying b.0
 -- an entry stands in the use of its id, and a Drained out of it
 in_use : (shape : Shape) (v : View) (k : ℕ) (e : Entry) (u : Holders) (seat : ℕ) → IsBacked shape v k e → (v.claims.held ≡ Some (id_of k) → 0 < times seat (u (id_of k))) → (v.claims.owner ≡ Some (id_of k) → v.claims.quiet ≡ true → u (id_of k) ≡ []) → IsMadeInUse u seat (id_of k) e
 in_use shape v k (Add by birth added key value) u seat b holds quiet = holds b.0
-in_use shape v k (Look by birth key hit) u seat b holds quiet = holds b.0
-in_use shape v k (Drop by birth key kind) u seat b holds quiet = holds b.0
-in_use shape v k (Pin by birth key pinned hit) u seat b holds quiet = holds b.0
+in_use shape v k (Look by birth key hit) u seat b holds quiet = tt
+in_use shape v k (Drop by birth key kind) u seat b holds quiet = tt
+in_use shape v k (Pin by birth key pinned hit) u seat b holds quiet = tt
 in_use shape v k (Scan worker walk asked policy visits freed stopped) u seat b holds quiet = holds b.0
 in_use shape v k (MovedIn child objects) u seat b holds quiet = tt
 in_use shape v k Closed u seat b holds quiet = tt

@@ -162,12 +162,12 @@ users_next u d = users_after u d.seat d.act
 abbrev pub last_users : List (Deed Event) → Holders
 last_users line = state_after users_next no_holders line
 
--- a tenant and a scan use the id of the list that they act on, and no seat does where one is drained
+-- who adds or scans uses the id of the list, and no seat does where a list is drained
 abbrev pub IsMadeInUse : Holders → ℕ → ℕ → Entry → Type 0
 IsMadeInUse u seat id (Add by birth added key value) = 0 < times seat (u id)
-IsMadeInUse u seat id (Look by birth key hit) = 0 < times seat (u id)
-IsMadeInUse u seat id (Drop by birth key kind) = 0 < times seat (u id)
-IsMadeInUse u seat id (Pin by birth key pinned hit) = 0 < times seat (u id)
+IsMadeInUse u seat id (Look by birth key hit) = Unit {0}
+IsMadeInUse u seat id (Drop by birth key kind) = Unit {0}
+IsMadeInUse u seat id (Pin by birth key pinned hit) = Unit {0}
 IsMadeInUse u seat id (Scan worker walk asked policy visits freed stopped) = 0 < times seat (u id)
 IsMadeInUse u seat id (MovedIn child objects) = Unit {0}
 IsMadeInUse u seat id Closed = Unit {0}

@@ -209,15 +209,15 @@ moved_in_hand v k e = []
 abbrev pub IsUnspliced : Shape → View → ℕ → Type 0
 IsUnspliced shape v k = (child : ℕ) → v.holding.half ≡ Some child → (k ≢ child) × (k ≢ beside child (parent_of shape.parents.items (group_of child)))
 
--- What an entry needs of the seat that stores it. A tenant's or a Scan needs that the seat holds the
--- id, and an Add that it is of a group. A Drained needs that the seat owns the id and that a load
+-- What an entry needs of the seat that stores it. An Add or a Scan needs that the seat holds the id,
+-- and an Add that it is of a group. A Drained needs that the seat owns the id and that a load
 -- showed no reference. A MovedIn needs the child's room, and is followed by the child's Closed.
 -- Nothing else is stored in the two places between these two.
 abbrev pub IsBacked : Shape → View → ℕ → Entry → Type 0
 IsBacked shape v k (Add by birth added key value) = (v.claims.held ≡ Some (id_of k)) × (birth < groups_in shape) × IsUnspliced shape v k
-IsBacked shape v k (Look by birth key hit) = (v.claims.held ≡ Some (id_of k)) × IsUnspliced shape v k
-IsBacked shape v k (Drop by birth key kind) = (v.claims.held ≡ Some (id_of k)) × IsUnspliced shape v k
-IsBacked shape v k (Pin by birth key pinned hit) = (v.claims.held ≡ Some (id_of k)) × IsUnspliced shape v k
+IsBacked shape v k (Look by birth key hit) = IsUnspliced shape v k
+IsBacked shape v k (Drop by birth key kind) = IsUnspliced shape v k
+IsBacked shape v k (Pin by birth key pinned hit) = IsUnspliced shape v k
 IsBacked shape v k (Scan worker walk asked policy visits freed stopped) = (v.claims.held ≡ Some (id_of k)) × IsUnspliced shape v k
 IsBacked shape v k (MovedIn child objects) = (v.holding.half ≡ None) × (0 < has_room (beside k child) v.holding) × (is_closed (in_hand v (beside k child)).entries ≡ false)
 IsBacked shape v k Closed = v.holding.half ≡ Some k

@@ -15,13 +15,14 @@ use Rattle.shr_seats.proofs.Sums.{range_same}
 use Rattle.shr_deferred.specs.declared.view.View.{View}
 use Rattle.shr_seats.specs.declared.rows.Sizes.{Sizes}
 use Rattle.shr_seats.specs.Rows.{row_of, row_count, place_in}
-use Rattle.shr_seats.specs.Lines.{Deed, acts_of}
+use Rattle.shr_seats.specs.Lines.{Deed, acts_of, part}
 use Rattle.shr_seats.proofs.Lining.{lined_sole}
 use Rattle.shr_deferred.specs.Moves.{Move}
-use Rattle.shr_deferred.specs.Rule.{IsSound, did_in, standing_in, spent_view, amounts_after}
+use Rattle.shr_deferred.specs.Rule.{IsSound, AreTaken, Amounts, did_in, standing_in, spent_view, strands_in, amounts_after, nothing_deferred}
 use Rattle.shr_deferred.specs.Alone.{left_at}
 use Rattle.shr_deferred.specs.History.{HasHistory}
 use Rattle.shr_deferred.proofs.Words.{left_small, left_is}
+use Rattle.shr_deferred.proofs.Renamed.{renamed, parts_renamed, so_renamed, after_renamed}
 use Rattle.shr_deferred.specs.Left.{is_some_amount, amounts, left_over}
 
 amounts_same : (z : Sizes) (f g : ℕ → ℕ) (n : ℕ) → ((i : ℕ) → i < n → f i ≡ g i) → amounts z f n ≡ amounts z g n
@@ -45,22 +46,41 @@ pub amounts_push : (z : Sizes) (f : ℕ → ℕ) (n k : ℕ) (old new : List Pla
 amounts_push z f n k old new p was pushed here e ne = pushed ∙ (ap (λ l. l ++ amount_of p k ∷ []) was ∙ (ap (λ q. amounts z f n ++ amount_of q k ∷ []) here ∙ (ap (λ x. amounts z f n ++ amount_of (place_in z n) x ∷ []) (sym e)
     ∙ sym (amounts_next z f n ∙ ap (λ b. amounts z f n ++ cond (not b) (amount_of (place_in z n) (f n) ∷ []) []) (ne_eqb (f n) 0 (λ h. ne (sym e ∙ h)))))))
 
--- what is left is what the line of all moves leaves
-pub ends : (z : Sizes) (id : ℕ) (v : View) (words : List ℕ) (slots : List (Unit {0})) → v.standing.first ≡ true → v.standing.gone ≡ false → IsWhole v.standing → 0 < z.nodes → 0 < z.groups → Final (Seen (IsSound z) id v) words slots
-    → HasHistory z v.did (amounts z (λ i. get_or words i 0 % 2 ^ 64) (row_count z))
-ends z id v words slots is here whole some-nodes some-groups final = let s = final.0 in let o = final.1.0 in let me = final.1.1 in record {
-  line = o.line;
-  parts = lined_sole standing_in did_in s.views id v me here o.line o.lined spent_view is whole o.seats o.emptied refl;
-  taken = o.taken;
-  left = amounts_same z (λ i. get_or words i 0 % 2 ^ 64) (λ i. amounts_after o.line (place_in z i)) (row_count z) (λ i low. let p : Place = place_in z i in
-      let was = o.left p (place_inside z i some-nodes some-groups low) in
-      let word : get_or s.words (row_of z p) 0 ≡ get_or words i 0 = ap (λ (k : ℕ). get_or s.words k 0) (row_back z i) ∙ ap (λ (l : List ℕ). get_or l i 0) final.2 in
-      omega (arith, was, word, left_small p o.line));
-}
+-- what is left is what the line of all moves leaves, in which each seat's stand as the first seat's view tells them
+pub record IsOrder (z : Sizes) (did : List (Deed Move)) (rest : List PlaceAmount) : Type 0 where
+  pub line : List (Deed Move)
+  pub parts : (seat : ℕ) → part seat did ≡ part seat line
+  pub taken : AreTaken line
+  pub left : rest ≡ amounts z (λ i. amounts_after line (place_in z i)) (row_count z)
 
--- so it is what was given less what was taken
-pub history_left : (z : Sizes) (did : List (Deed Move)) (left : List PlaceAmount) → HasHistory z did left → left ≡ left_over z (acts_of did)
-history_left z did left h = h.left ∙ amounts_same z (λ i. amounts_after h.line (place_in z i)) (λ i. left_at (place_in z i) (acts_of did)) (row_count z) (λ i low. left_is (place_in z i) h.line did h.taken h.parts)
+module _ (z : Sizes) (id : ℕ) (v : View) (words : List ℕ) (slots : List (Unit {0})) (is : v.standing.first ≡ true) (here : v.standing.gone ≡ false) (whole : IsWhole v.standing) (some-nodes : 0 < z.nodes) (some-groups : 0 < z.groups)
+    (final : Final (Seen (IsSound z) id v) words slots) where
+  abbrev rest : List PlaceAmount
+  rest = amounts z (λ i. get_or words i 0 % 2 ^ 64) (row_count z)
+
+  order : IsOrder z v.did rest
+  order = let s = final.0 in let o = final.1.0 in let me = final.1.1 in record {
+    line = o.line;
+    parts = lined_sole standing_in did_in s.views id v me here o.line o.lined spent_view is whole o.seats o.emptied refl;
+    taken = o.taken;
+    left = amounts_same z (λ i. get_or words i 0 % 2 ^ 64) (λ i. amounts_after o.line (place_in z i)) (row_count z) (λ i low. let p : Place = place_in z i in
+        let was = o.left p (place_inside z i some-nodes some-groups low) in
+        let word : get_or s.words (row_of z p) 0 ≡ get_or words i 0 = ap (λ (k : ℕ). get_or s.words k 0) (row_back z i) ∙ ap (λ (l : List ℕ). get_or l i 0) final.2 in
+        omega (arith, was, word, left_small p o.line));
+  }
+
+  -- what is left is what was given less what was taken
+  pub order_left : rest ≡ left_over z (acts_of v.did)
+  order_left = order.left ∙ amounts_same z (λ i. amounts_after order.line (place_in z i)) (λ i. left_at (place_in z i) (acts_of v.did)) (row_count z) (λ i low. left_is (place_in z i) order.line v.did order.taken order.parts)
+
+  -- and the moves of each strand stand in one line
+  pub ends : HasHistory z (strands_in v) rest
+  ends = let o = order in let t = (final.1.0.own id v final.1.1 here).first is in record {
+    line = renamed t o.line;
+    parts = parts_renamed t o.line o.parts;
+    taken = so_renamed t nothing_deferred o.line o.taken;
+    left = o.left ∙ amounts_same z (λ i. amounts_after o.line (place_in z i)) (λ i. amounts_after (renamed t o.line) (place_in z i)) (row_count z) (λ i low. ap (λ (w : Amounts). w (place_in z i)) (sym (after_renamed t nothing_deferred o.line)));
+  }
 
 get_of : (ws : List ℕ) (i w : ℕ) → get_elem? ws i ≡ some w → get_or ws i 0 ≡ w
 get_of [] i w e = absurd (some-ne-none w (sym e))

@@ -1,4 +1,6 @@
 pub mod Words
+pub mod Strands
+pub mod Renamed
 pub mod Frames
 pub mod Steps
 pub mod Seating

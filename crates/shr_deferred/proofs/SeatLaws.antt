@@ -4,14 +4,14 @@ use Rattle.std.proofs.lemmas.List.{append-nil, map-append}
 use Rattle.shr_seats.specs.Lines.{Deed, by_seat, acts_of}
 use Rattle.shr_seats.proofs.Lining.{acts_by}
 use Rattle.shr_deferred.specs.Moves.{Move, Moves, took, gave, takes_of, gives_of, no_moves, both}
-use Rattle.shr_deferred.specs.Seat.{DeferredSeat, Gains, did_of, moves_of}
+use Rattle.shr_deferred.specs.Seat.{DeferredSeat, Gains, did_of, moves_of, own_of}
 
 -- the moves of a seat that did these more
 pub moves_more : (id : ℕ) (old new : List (Deed Move)) (more : Moves) → new ≡ old ++ by_seat id more → acts_of new ≡ both (acts_of old) more
 moves_more id old new more e = ap acts_of e ∙ (map-append (λ (d : Deed Move). d.act) old (by_seat id more) ∙ ap (λ (m : Moves). acts_of old ++ m) (acts_by id more))
 
 pub Gains-none : (s : DeferredSeat) → Gains s s no_moves
-Gains-none s = record { table = refl; id = refl; did = sym (append-nil (did_of s)); moves = sym (append-nil (moves_of s)); standing = refl }
+Gains-none s = record { table = refl; id = refl; did = sym (append-nil (did_of s)); moves = sym (append-nil (moves_of s)); own = sym (append-nil (own_of s)); joined = refl; standing = refl }
 
 -- what two calls gain, one after the other
 pub Gains-trans : (s t u : DeferredSeat) (m k : Moves) → Gains s t m → Gains t u k → Gains s u (both m k)
@@ -21,6 +21,8 @@ Gains-trans s t u m k a b = record {
   did = b.did ∙ (ap (λ j. did_of t ++ by_seat j k) a.id ∙ (ap (λ (l : List (Deed Move)). l ++ by_seat s.id k) a.did ∙ (append_assoc (did_of s) (by_seat s.id m) (by_seat s.id k)
       ∙ ap (λ (l : List (Deed Move)). did_of s ++ l) (sym (map-append (λ (x : Move). record { seat = s.id; act = x }) m k)))));
   moves = b.moves ∙ (ap (λ (n : Moves). n ++ k) a.moves ∙ append_assoc (moves_of s) m k);
+  own = b.own ∙ (ap (λ (n : Moves). n ++ k) a.own ∙ append_assoc (own_of s) m k);
+  joined = b.joined ∙ a.joined;
   standing = b.standing ∙ a.standing;
 }
 

@@ -17,6 +17,7 @@ use Rattle.shr_seats.specs.declared.rows.Sizes.{Sizes}
 use Rattle.shr_seats.specs.Rows.{row_of, row_count}
 use Rattle.shr_deferred.specs.Rule.{IsSound, did_in, standing_in, first_view, new_view, spent_view, with_split_view, joined_view}
 use Rattle.shr_seats.proofs.Lining.{lined_first, lined_split, lined_join}
+use Rattle.shr_deferred.proofs.Strands.{own_first, own_split, own_join}
 
 -- the rule holds after a split of the first seat
 pub splits : (z : Sizes) (id : ℕ) (v : View) → v.standing.first ≡ true → v.standing.gone ≡ false → Splits (IsSound z) id v (with_split_view v) new_view
@@ -26,6 +27,7 @@ splits z id v is here s o me = let w : View = with_split_view v in record {
   lined = lined_split standing_in did_in s.views id v me here o.line o.lined w new_view refl refl;
   taken = o.taken;
   left = o.left;
+  own = own_split s.views id v me here o.own;
   seats = subst AreSeats (sym (map-append standing_in (set s.views id w) (new_view ∷ []) ∙ ap (λ l. l ++ at_split ∷ []) (map-set standing_in s.views id w)))
       (AreSeats-split (map standing_in s.views) id v.standing (at_map standing_in s.views id v me) is o.seats);
   emptied = Each-push (λ (x : View). x.standing.gone ≡ true → x ≡ spent_view) (set s.views id w) new_view (λ t. absurd (not_gone at_split refl t))
@@ -41,6 +43,7 @@ joins z id v other u is here there s o me apart them = let w : View = joined_vie
       lined = lined_join standing_in did_in s.views id v me here o.line o.lined other u w spent_view apart at there refl refl refl;
       taken = o.taken;
       left = o.left;
+      own = own_join z s o id v me here other u at there apart is;
       seats = subst AreSeats (sym (map-set standing_in (set s.views id w) other spent_view ∙ ap (λ l. set l other at_end) (map-set standing_in s.views id w)))
           (AreSeats-join (map standing_in s.views) id other v.standing u.standing (at_map standing_in s.views id v me) apart (at_map standing_in s.views other u at) is there o.seats);
       emptied = Each-set (λ (x : View). x.standing.gone ≡ true → x ≡ spent_view) (set s.views id w) other spent_view (λ _. refl)
@@ -58,6 +61,7 @@ begins z words zeros = record {
   line = [];
   lined = lined_first standing_in did_in first_view refl;
   taken = tt;
+  own = own_first;
   left = λ p near. ap (λ (l : List ℕ). get_or l (row_of z p) 0) zeros ∙ zero_at (row_count z) (row_of z p);
   seats = AreSeats-first;
   emptied = Each-push (λ (x : View). x.standing.gone ≡ true → x ≡ spent_view) [] first_view (λ t. absurd (not_gone at_first refl t)) (Each-none (λ (x : View). x.standing.gone ≡ true → x ≡ spent_view));

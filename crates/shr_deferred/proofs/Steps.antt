@@ -16,13 +16,13 @@ use Rattle.shr_deferred.proofs.Words as words
 
 -- the seat with this number, with more moves
 abbrev pub with_moves : ℕ → Me (Unit {0}) View → Moves → Me (Unit {0}) View
-with_moves id m more = (record m.0 { did = m.0.did ++ by_seat id more }, m.1)
+with_moves id m more = (record m.0 { did = m.0.did ++ by_seat id more; own = m.0.own ++ more }, m.1)
 
 module _ (z : Sizes) (slots id : ℕ) (m : Me (Unit {0}) View) (p : Place) (inside : IsPlaceOf z p) (low : row_of z p < row_count z) (here : m.0.standing.gone ≡ false) where
   -- the exchange with 0 is a step that the rule allows
   pub takes : Allows (IsSound z) slots id m (row_of z p) (λ _. 0) (λ n r. (r ≡ with_moves id m (take_of p n)) × (IsAlone m.0.standing → n ≡ left_at p (acts_of m.0.did)))
   takes s o deep me fits = let i : ℕ = row_of z p in let v : View = m.0 in let n : ℕ = get_or s.words i 0 in (
-    record v { did = v.did ++ by_seat id (take_of p n) },
+    record v { did = v.did ++ by_seat id (take_of p n); own = v.own ++ take_of p n },
     keeps,
     tt,
     on_move z s o id v me here s.homes i 0 (took (amount_of p n)) (o.left p inside)
@@ -37,7 +37,7 @@ module _ (z : Sizes) (slots id : ℕ) (m : Me (Unit {0}) View) (p : Place) (insi
   -- the addition is a step that the rule allows
   pub gives : (n : ℕ) → Allows (IsSound z) slots id m (row_of z p) (λ y. (y + n) % 2 ^ 64) (λ _ r. r ≡ with_moves id m (give_of p n))
   gives n s o deep me fits = let i : ℕ = row_of z p in let v : View = m.0 in let sum-now : ℕ = (get_or s.words i 0 + n) % 2 ^ 64 in (
-    record v { did = v.did ++ by_seat id (give_of p n) },
+    record v { did = v.did ++ by_seat id (give_of p n); own = v.own ++ give_of p n },
     keeps,
     tt,
     on_move z s o id v me here s.homes i sum-now (gave (amount_of p n)) tt

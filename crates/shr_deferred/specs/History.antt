@@ -3,15 +3,15 @@ use Rattle.std.specs.Prelude.{◌≡◌, ℕ, List}
 use Rattle.shr_base.specs.declared.ends.PlaceAmount.{PlaceAmount}
 use Rattle.shr_seats.specs.declared.rows.Sizes.{Sizes}
 use Rattle.shr_seats.specs.Rows.{place_in, row_count}
-use Rattle.shr_seats.specs.Lines.{Deed, part}
-use Rattle.shr_deferred.specs.Moves.{Move}
-use Rattle.shr_deferred.specs.Rule.{AreTaken, amounts_after}
+use Rattle.shr_seats.specs.Lines.{Deed, by_seat, part}
+use Rattle.shr_deferred.specs.Moves.{Move, Moves}
+use Rattle.shr_deferred.specs.Rule.{AreTaken, amounts_after, strand_at}
 use Rattle.shr_deferred.specs.Left.{amounts}
 
--- There is one order of all moves in which each seat's stand as it made them, each take took just
--- what was given at its place since the take before, and what is left is what they leave.
-pub record HasHistory (z : Sizes) (did : List (Deed Move)) (rest : List PlaceAmount) : Type 0 where
+-- There is one order of all moves of these strands, and of no others, in which each strand's stand as they were made, each
+-- take took just what was given at its place since the take before, and what is left is what they leave.
+pub record HasHistory (z : Sizes) (strands : List Moves) (rest : List PlaceAmount) : Type 0 where
   pub line : List (Deed Move)
-  pub parts : (seat : ℕ) → part seat did ≡ part seat line
+  pub parts : (k : ℕ) → part k line ≡ by_seat k (strand_at strands k)
   pub taken : AreTaken line
   pub left : rest ≡ amounts z (λ i. amounts_after line (place_in z i)) (row_count z)

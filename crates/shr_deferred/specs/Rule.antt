@@ -1,11 +1,13 @@
 -- The rule of the deferred table.
-use Rattle.std.specs.Prelude.{◌≡◌, ℕ, ◌+◌, ◌^◌, ◌%◌, List, [], ◌++◌, map, length, slice_index, cond}
+use Rattle.std.specs.Prelude.{◌≡◌, ◌≢◌, ℕ, zero, suc, ◌+◌, ◌<◌, ◌^◌, ◌%◌, true, false, List, [], ◌∷◌, ◌++◌, map, length, slice_index, cond}
+use mathlib.Core.Option.{some}
+use lib.ListN.{get_elem?}
 use Rattle.atomic_table.specs.Table.{State}
 use Rattle.shr_base.specs.declared.places.Place.{Place}
 use Rattle.shr_model.specs.Places.{is_place}
 use Rattle.shr_model.specs.Deferred.{sum_at}
 use Rattle.shr_seats.specs.Standing.{Standing, at_first, at_split, at_end, with_split, with_join, AreSeats, AreEmptied}
-use Rattle.shr_seats.specs.Lines.{Deed, state_after, AreSo, AreInLine}
+use Rattle.shr_seats.specs.Lines.{Deed, by_seat, acts_of, part, state_after, AreSo, AreInLine}
 use Rattle.shr_deferred.specs.declared.view.View.{View}
 use Rattle.shr_seats.specs.declared.rows.Sizes.{Sizes}
 use Rattle.shr_seats.specs.Rows.{IsPlaceOf, row_of, row_count}
@@ -21,15 +23,15 @@ standing_in v = v.standing
 
 -- the view of the first seat of a new table
 abbrev pub first_view : View
-first_view = record { did = []; standing = at_first }
+first_view = record { did = []; own = []; joined = []; standing = at_first }
 
 -- the view of a seat that was split off
 abbrev pub new_view : View
-new_view = record { did = []; standing = at_split }
+new_view = record { did = []; own = []; joined = []; standing = at_split }
 
 -- what is left of the view of a seat that was joined into the first
 abbrev pub spent_view : View
-spent_view = record { did = []; standing = at_end }
+spent_view = record { did = []; own = []; joined = []; standing = at_end }
 
 -- the first view, split once more
 abbrev pub with_split_view : View → View
@@ -37,7 +39,7 @@ with_split_view v = record v { standing = with_split v.standing }
 
 -- the first view, with the deeds of another that was joined into it
 abbrev pub joined_view : View → View → View
-joined_view v u = record { did = v.did ++ u.did; standing = with_join v.standing }
+joined_view v u = record v { did = v.did ++ u.did; joined = v.joined ++ acts_of u.did ∷ []; standing = with_join v.standing }
 
 -- how much was taken at a place
 abbrev pub taken_at : Place → Moves → ℕ
@@ -76,6 +78,40 @@ amounts_after line = state_after amounts_next nothing_deferred line
 abbrev pub AreTaken : List (Deed Move) → Type 0
 AreTaken line = AreSo amounts_next (λ w d. TakesAll w d.act) nothing_deferred line
 
+-- what a view's seat did itself, and then what each did that was joined into it, in the order of the joins
+abbrev pub strands_in : View → List Moves
+strands_in v = v.own ∷ v.joined
+
+-- the moves with this number, none past the last
+abbrev pub strand_at : List Moves → ℕ → Moves
+strand_at [] k = []
+strand_at (m ∷ ms) zero = m
+strand_at (m ∷ ms) (suc k) = strand_at ms k
+
+-- the seat with this number was joined away
+abbrev pub IsGone : List View → ℕ → Type 0
+IsGone views j = (u : View) × (get_elem? views j ≡ some u) × (u.standing.gone ≡ true)
+
+-- the strands of the first view are those of its seat and of seats that were joined away, each another, and it tells no other
+-- deeds
+pub record AreStrands (views : List View) (seat : ℕ) (v : View) : Type 0 where
+  -- the seat of each strand
+  pub name : ℕ → ℕ
+  pub mine : name 0 ≡ seat
+  pub gone : (k : ℕ) → 0 < k → k < length (strands_in v) → IsGone views (name k)
+  pub apart : (k l : ℕ) → k < length (strands_in v) → l < length (strands_in v) → name k ≡ name l → k ≡ l
+  pub theirs : (k : ℕ) → k < length (strands_in v) → part (name k) v.did ≡ by_seat (name k) (strand_at (strands_in v) k)
+  pub others : (j : ℕ) → ((k : ℕ) → k < length (strands_in v) → name k ≢ j) → part j v.did ≡ []
+
+-- a view tells its own seat's deeds, and the first those of others too
+pub record IsOwn (views : List View) (seat : ℕ) (v : View) : Type 0 where
+  pub plain : v.standing.first ≡ false → v.did ≡ by_seat seat v.own
+  pub first : v.standing.first ≡ true → AreStrands views seat v
+
+-- so does each that wasn't joined away
+abbrev pub AreOwn : List View → Type 0
+AreOwn views = (i : ℕ) (v : View) → get_elem? views i ≡ some v → v.standing.gone ≡ false → IsOwn views i v
+
 -- the rule of the deferred table, which holds between any two steps
 pub record IsSound (z : Sizes) (s : State (Unit {0}) View) : Type 0 where
   pub wide : length s.words ≡ row_count z
@@ -85,5 +121,6 @@ pub record IsSound (z : Sizes) (s : State (Unit {0}) View) : Type 0 where
   pub taken : AreTaken line
   -- each word is what they leave
   pub left : (p : Place) → IsPlaceOf z p → slice_index s.words (row_of z p) ≡ amounts_after line p
+  pub own : AreOwn s.views
   pub seats : AreSeats (map standing_in s.views)
   pub emptied : AreEmptied standing_in spent_view s.views

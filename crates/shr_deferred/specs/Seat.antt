@@ -1,5 +1,5 @@
 -- Seats of the deferred table, and what a call gains on one.
-use Rattle.std.specs.Prelude.{◌≡◌, List, [], ◌++◌}
+use Rattle.std.specs.Prelude.{◌≡◌, List, [], ◌∷◌, ◌++◌}
 use Rattle.atomic_table.specs.declared.shared.Seat.{Seat}
 use Rattle.shr_seats.specs.Standing.{Standing, IsSeatOf}
 use Rattle.shr_seats.specs.Lines.{Deed, by_seat, acts_of}
@@ -19,6 +19,14 @@ did_of s = s.me.0.did
 abbrev pub moves_of : DeferredSeat → Moves
 moves_of s = acts_of s.me.0.did
 
+-- what was taken and given by it alone
+abbrev pub own_of : DeferredSeat → Moves
+own_of s = s.me.0.own
+
+-- what it took and gave, and then what each seat did that was joined into it, in the order of the joins
+abbrev pub strands_of : DeferredSeat → List Moves
+strands_of s = own_of s ∷ s.me.0.joined
+
 -- its place among the seats
 abbrev pub standing_of : DeferredSeat → Standing
 standing_of s = s.me.0.standing
@@ -35,4 +43,6 @@ pub record Gains (old new : DeferredSeat) (more : Moves) : Type 0 where
   pub id : new.id ≡ old.id
   pub did : did_of new ≡ did_of old ++ by_seat old.id more
   pub moves : moves_of new ≡ both (moves_of old) more
+  pub own : own_of new ≡ both (own_of old) more
+  pub joined : new.me.0.joined ≡ old.me.0.joined
   pub standing : standing_of new ≡ standing_of old

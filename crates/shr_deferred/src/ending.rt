@@ -6,7 +6,7 @@ ghost use Rattle.shr_seats.specs.Standing.{IsWhole};
 ghost use Rattle.shr_seats.specs.Rows.{row_count};
 ghost use Rattle.shr_deferred.specs.Left.{amounts, left_over};
 ghost use Rattle.shr_deferred.specs.History.{HasHistory};
-ghost use Rattle.shr_deferred.specs.Seat.{IsOf, did_of, moves_of, standing_of};
+ghost use Rattle.shr_deferred.specs.Seat.{IsOf, moves_of, standing_of, strands_of};
 
 use crate::table::{Deferred, DeferredSeat};
 use atomic_table::Closed;
@@ -52,7 +52,7 @@ impl Deferred {
         requires first { (standing_of seat).first ≡ true }
         requires whole { IsWhole (standing_of seat) }
         ensures left { IfOk result (λ v. v.items ≡ left_over self.sizes (moves_of seat)) }
-        ensures history { IfOk result (λ v. HasHistory self.sizes (did_of seat) v.items) }
+        ensures history { IfOk result (λ v. HasHistory self.sizes (strands_of seat) v.items) }
     {
         let Deferred { table, sizes } = self;
         let closed = table.close_with(seat);

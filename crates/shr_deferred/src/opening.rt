@@ -1,9 +1,9 @@
 //! The table at the start.
 
-ghost use Rattle.std.specs.Prelude.{◌≡◌, ◌<◌, [], replicate, IfOk};
+ghost use Rattle.std.specs.Prelude.{◌≡◌, ◌<◌, [], ◌∷◌, replicate, IfOk};
 ghost use Rattle.shr_seats.specs.Standing.{at_first};
 ghost use Rattle.shr_deferred.specs.Moves.{no_moves};
-ghost use Rattle.shr_deferred.specs.Seat.{IsOf, did_of, moves_of, standing_of};
+ghost use Rattle.shr_deferred.specs.Seat.{IsOf, did_of, moves_of, standing_of, strands_of};
 
 use crate::table::{Deferred, DeferredSeat};
 use atomic_table::Table;
@@ -29,6 +29,7 @@ impl Deferred {
         ensures standing { IfOk result (λ t. standing_of t.1 ≡ at_first) }
         ensures did { IfOk result (λ t. did_of t.1 ≡ []) }
         ensures moves { IfOk result (λ t. moves_of t.1 ≡ no_moves) }
+        ensures strands { IfOk result (λ t. strands_of t.1 ≡ no_moves ∷ []) }
     {
         let words = zeros(alloc, sizes.rows())?;
         let (table, seat) = Table::of_words(alloc, &words, &sizes)?;

@@ -1,9 +1,9 @@
 //! Seats for further threads.
 
-ghost use Rattle.std.specs.Prelude.{◌≡◌, true, [], ◌++◌, IfOk, IsOk};
+ghost use Rattle.std.specs.Prelude.{◌≡◌, true, [], ◌∷◌, ◌++◌, IfOk, IsOk};
 ghost use Rattle.shr_seats.specs.Standing.{at_split, with_split, with_join};
 ghost use Rattle.shr_deferred.specs.Moves.{no_moves, both};
-ghost use Rattle.shr_deferred.specs.Seat.{IsOf, did_of, moves_of, standing_of};
+ghost use Rattle.shr_deferred.specs.Seat.{IsOf, did_of, moves_of, standing_of, strands_of};
 
 use crate::law::Seating;
 use crate::table::{Deferred, DeferredSeat};
@@ -19,6 +19,7 @@ impl Deferred {
         ensures seat { IsOf self.now seat.new }
         ensures did { did_of seat.new ≡ did_of seat.old }
         ensures moves { moves_of seat.new ≡ moves_of seat.old }
+        ensures strands { strands_of seat.new ≡ strands_of seat.old }
         ensures id { seat.new.id ≡ seat.old.id }
         ensures standing { standing_of seat.new ≡ with_split (standing_of seat.old) }
         ensures other { IfOk result (λ s. IsOf self.now s) }
@@ -37,6 +38,7 @@ impl Deferred {
         ensures seat { IsOf self.now seat.new }
         ensures did { did_of seat.new ≡ did_of seat.old ++ did_of other }
         ensures moves { moves_of seat.new ≡ both (moves_of seat.old) (moves_of other) }
+        ensures strands { strands_of seat.new ≡ strands_of seat.old ++ moves_of other ∷ [] }
         ensures id { seat.new.id ≡ seat.old.id }
         ensures standing { standing_of seat.new ≡ with_join (standing_of seat.old) }
     {

@@ -18,6 +18,7 @@ use Rattle.shr_core.specs.Parts.{Claims}
 use Rattle.shr_core.specs.Seats.{view_of}
 use Rattle.shr_core.specs.Seats as core
 use Rattle.shr_core.specs.Steps.{with_put}
+use Rattle.shr_core.proofs.Owing.{still_none}
 use Rattle.shr_core.specs.declared.seat.Seat.{Seat}
 use Rattle.shr_core.specs.declared.view.View.{View}
 use Rattle.shr_charge.specs.Seat.{uses_of, tree_of}
@@ -194,6 +195,7 @@ module _ (x : Shared) (place : Place) (walk : ℕ) (by : Serial) (policy : Polic
       held = ap (λ (v : View). v.claims.held) back;
       owner = ap (λ (v : View). v.claims.owner) back ∙ (ap (λ (y : Claims). y.owner) (k.walks.claims h.owner) ∙ h.owner);
     };
+    owed = ap (λ (v : View). v.marks.owed) back ∙ still_none (view_of s.cache.core) (view_of t.cache.core) h.owed k.walks.owed;
     charge = k.charge h.charge;
     deferred = subst (λ (d : deferred.DeferredSeat). deferred.IsOf x.deferred d) (sym same.deferred) h.deferred;
   }

@@ -1,9 +1,8 @@
 //! Isolation.
 
 ghost use Rattle.std.specs.Prelude.{◌≡◌, ◌<◌, ◌≤◌, length};
-ghost use Rattle.shr_core.specs.Gained.{OwesNoMore};
 ghost use Rattle.shr_seats.specs.Shapes.{groups_in};
-ghost use Rattle.shr_core.specs.Seats.{view_of, shape_of};
+ghost use Rattle.shr_core.specs.Seats.{shape_of};
 ghost use Rattle.shr_walk.specs.Sharing.{IsShared};
 ghost use Rattle.shr_walk.specs.State.{IsRested, state_of};
 ghost use Rattle.shr_drop.specs.Isolating.{IsolateGives};
@@ -52,7 +51,6 @@ pub fn isolate<R: Wait>(
     requires budget { budget ≤ 20000 }
     requires rested { IsRested shared.now seats.old }
     ensures rested { IsRested shared.now seats.new }
-    ensures owed { OwesNoMore (view_of seats.old.cache.core) (view_of seats.new.cache.core) }
     ensures isolated { IsolateGives shared.now by group node decl budget result
         (state_of seats.old) (state_of seats.new) log.old.items log.new.items }
     ensures lawful { IsolatesLawfully shared.now by group node decl budget

@@ -85,9 +85,9 @@ some_birth b birth h = cc
 -- a tenant's entry is plain, and may stand where its birth group says
 pub tenant_plain : (shape : Shape) (v : View) (k : ℕ) (e : Entry) (birth : ℕ) → birth_of e ≡ Some birth → birth < groups_in shape → v.claims.held ≡ Some (id_of k) → IsPlain shape v k e
 tenant_plain shape v k (Add by b added key value) birth h far holds = record { moved = refl; half = λ x. refl; backed = λ free. (holds, subst (λ (x : ℕ). x < groups_in shape) (sym (some_birth b birth h)) far, free) }
-tenant_plain shape v k (Look by b key hit) birth h far holds = record { moved = refl; half = λ x. refl; backed = λ free. (holds, free) }
-tenant_plain shape v k (Drop by b key kind) birth h far holds = record { moved = refl; half = λ x. refl; backed = λ free. (holds, free) }
-tenant_plain shape v k (Pin by b key pinned hit) birth h far holds = record { moved = refl; half = λ x. refl; backed = λ free. (holds, free) }
+tenant_plain shape v k (Look by b key hit) birth h far holds = record { moved = refl; half = λ x. refl; backed = λ free. free }
+tenant_plain shape v k (Drop by b key kind) birth h far holds = record { moved = refl; half = λ x. refl; backed = λ free. free }
+tenant_plain shape v k (Pin by b key pinned hit) birth h far holds = record { moved = refl; half = λ x. refl; backed = λ free. free }
 tenant_plain shape v k (Scan worker walk asked policy visits freed stopped) birth h far holds = absurd (cc)
 tenant_plain shape v k (MovedIn child objects) birth h far holds = absurd (cc)
 tenant_plain shape v k Closed birth h far holds = absurd (cc)

@@ -1,5 +1,5 @@
 -- The seats after each step of handing over, and their states.
-use Rattle.std.proofs.Common.{◌≡◌, ℕ, refl, ap, subst}
+use Rattle.std.proofs.Common.{◌≡◌, ℕ, [], refl, ap, subst}
 use Rattle.shr_base.specs.Kept.{Kept}
 use Rattle.shr_base.specs.declared.places.Serial.{Serial}
 use Rattle.shr_base.specs.declared.walks.Carry.{Carry}
@@ -9,6 +9,7 @@ use Rattle.shr_core.specs.declared.seat.Seat.{Seat}
 use Rattle.shr_core.specs.Gained.{IsIdle}
 use Rattle.shr_core.specs.Seats.{view_of, shape_of}
 use Rattle.shr_core.specs.Seats as core
+use Rattle.shr_core.proofs.Owing.{still_none}
 use Rattle.shr_charge.specs.declared.table.ChargeSeat.{ChargeSeat}
 use Rattle.shr_charge.specs.declared.answers.DoneAnswer.{DoneAnswer}
 use Rattle.shr_charge.specs.Answers.{DoneTells, DoneLeaves, Knows}
@@ -40,8 +41,8 @@ abbrev pub with_carries : Seats → DeferredSeat → Kept Carry → Seats
 with_carries s seat carries = record { cache = s.cache; deferred = seat; walks = s.walks; carries = carries }
 
 -- seats that rest still do when the core's seat only spliced
-pub rested_after : (x : Shared) (s : Seats) (seat : Seat) → charge.IsOf x.charge s.cache.charge → deferred.IsOf x.deferred s.deferred → core.IsOf x.core seat → Stays (view_of s.cache.core) (view_of seat) → IsIdle (view_of s.cache.core) → IsRested x (with_core s seat)
-rested_after x s seat charges deferreds of-core stays idle = record { core = of-core; idle = idle_still (view_of s.cache.core) (view_of seat) stays idle; charge = charges; deferred = deferreds }
+pub rested_after : (x : Shared) (s : Seats) (seat : Seat) → charge.IsOf x.charge s.cache.charge → deferred.IsOf x.deferred s.deferred → core.IsOf x.core seat → Stays (view_of s.cache.core) (view_of seat) → IsIdle (view_of s.cache.core) → (view_of s.cache.core).marks.owed ≡ [] → IsRested x (with_core s seat)
+rested_after x s seat charges deferreds of-core stays idle none = record { core = of-core; idle = idle_still (view_of s.cache.core) (view_of seat) stays idle; owed = still_none (view_of s.cache.core) (view_of seat) none stays.owed; charge = charges; deferred = deferreds }
 
 -- splices, carries and an end, one after the other, hand a group over as the answer says
 pub handed_over : (x : Shared) (shared : IsShared x) (by : Serial) (group moved total : ℕ) (answer : DoneAnswer) (s : Seats) (seat : Seat) (dseat : DeferredSeat) (carries : Kept Carry) (last : ChargeSeat)

@@ -3,9 +3,8 @@
 ghost use Rattle.std.specs.Prelude.{◌<◌, ◌≤◌, IsSome};
 ghost use Rattle.shr_model.specs.TreeJournal.{begin_of};
 ghost use Rattle.shr_charge.specs.Seat.{tree_of};
-ghost use Rattle.shr_core.specs.Gained.{OwesNoMore};
 ghost use Rattle.shr_seats.specs.Shapes.{groups_in};
-ghost use Rattle.shr_core.specs.Seats.{view_of, shape_of};
+ghost use Rattle.shr_core.specs.Seats.{shape_of};
 ghost use Rattle.shr_walk.specs.Sharing.{IsShared};
 ghost use Rattle.shr_walk.specs.State.{IsRested, state_of};
 ghost use Rattle.shr_offline.specs.Splices.{places_of};
@@ -34,7 +33,6 @@ fn hand_over<R: Wait>(
     requires begun { IsSome (begin_of (tree_of seats.old.cache.charge).known group) }
     requires spare { places_of (shape_of shared.now.core) ≤ seats.old.carries.spare }
     ensures rested { IsRested shared.now seats.new }
-    ensures owed { OwesNoMore (view_of seats.old.cache.core) (view_of seats.new.cache.core) }
     ensures handed { HandsOverAs shared.now by group result (state_of seats.old)
         (state_of seats.new) }
 {
@@ -80,7 +78,6 @@ pub fn offline<R: Wait>(
     requires group { group < groups_in (shape_of shared.now.core) }
     requires rested { IsRested shared.now seats.old }
     ensures rested { IsRested shared.now seats.new }
-    ensures owed { OwesNoMore (view_of seats.old.cache.core) (view_of seats.new.cache.core) }
     ensures offlined { OfflineGives shared.now by group result (state_of seats.old)
         (state_of seats.new) }
 {

@@ -1,6 +1,6 @@
 -- The steps that the commands share, each from the state of the worker's seats before it to that
 -- after it.
-use Rattle.std.specs.Prelude.{◌≡◌, ℕ, ◌<◌, ◌++◌, List, None, Some}
+use Rattle.std.specs.Prelude.{◌≡◌, ℕ, ◌<◌, [], ◌++◌, List, None, Some}
 use Rattle.shr_base.specs.declared.places.Serial.{Serial}
 use Rattle.shr_base.specs.declared.journals.UseStep.{UseStep}
 use Rattle.shr_base.specs.declared.replies.Found.{Found}
@@ -104,13 +104,14 @@ RefusedAs x group decl (reply.NoCache entry) s t = Misses x group decl (reply.No
 RefusedAs x group decl (reply.Worn spent) s t = Misses x group decl (reply.Worn spent) s t
 RefusedAs x group decl r s t = ⊥
 
--- the seats are of the tables and have no room in hand, and this id is held
+-- the seats are of the tables, have no room in hand and owe nothing, and this id is held
 pub record IsHolding (x : Shared) (id : ℕ) (s : Seats) : Type 0 where
   pub core : core.IsOf x.core s.cache.core
   pub near : id < (shape_of x.core).ids
   pub rooms : (view_of s.cache.core).holding ≡ no_rooms
   pub held : (view_of s.cache.core).claims.held ≡ Some id
   pub owner : (view_of s.cache.core).claims.owner ≡ None
+  pub owed : (view_of s.cache.core).marks.owed ≡ []
   pub charge : charge.IsOf x.charge s.cache.charge
   pub deferred : deferred.IsOf x.deferred s.deferred
 

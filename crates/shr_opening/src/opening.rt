@@ -1,9 +1,8 @@
 //! What the commands share: the load of the group's word, and finding the cache.
 
 ghost use Rattle.std.specs.Prelude.{◌≡◌, ◌<◌};
-ghost use Rattle.shr_core.specs.Gained.{OwesNoMore};
 ghost use Rattle.shr_seats.specs.Shapes.{groups_in};
-ghost use Rattle.shr_core.specs.Seats.{view_of, shape_of};
+ghost use Rattle.shr_core.specs.Seats.{shape_of};
 ghost use Rattle.shr_charge.specs.Seat.{uses_of};
 ghost use Rattle.shr_walk.specs.Sharing.{IsShared};
 ghost use Rattle.shr_walk.specs.State.{IsRested, state_of};
@@ -34,7 +33,6 @@ pub fn find_cache<R: Wait>(rt: &R, shared: &Shared, seats: &mut Seats, decl: u8)
     requires rested { IsRested shared.now seats.old }
     ensures after { IsAfter shared.now result seats.new }
     ensures found { FindsAs shared.now decl result (state_of seats.old) (state_of seats.new) }
-    ensures owed { OwesNoMore (view_of seats.old.cache.core) (view_of seats.new.cache.core) }
     ensures same { IsSameCharge seats.old seats.new }
 {
     match find(rt, &shared.core, &mut seats.cache.core, decl) {
@@ -60,7 +58,6 @@ pub fn open<R: Wait>(rt: &R, shared: &Shared, seats: &mut Seats, group: u16, dec
     ensures after { IsAfter shared.now result seats.new }
     ensures opened { OpensAs shared.now group decl result
         (state_of seats.old) (state_of seats.new) }
-    ensures owed { OwesNoMore (view_of seats.old.cache.core) (view_of seats.new.cache.core) }
     ensures uses { uses_of seats.new.cache.charge ≡ uses_of seats.old.cache.charge }
     ensures notes { seats.new.cache.uses ≡ seats.old.cache.uses }
 {

@@ -3,9 +3,8 @@
 ghost use Rattle.std.specs.Prelude.{◌≡◌, ◌<◌, ◌≤◌, ◌^◌, None, IfOk, OnOk, OnErr};
 ghost use Rattle.shr_model.specs.Groups.{depth_of};
 ghost use Rattle.shr_charge.specs.Seat.{spent_by, uses_of};
-ghost use Rattle.shr_core.specs.Gained.{OwesNoMore};
 ghost use Rattle.shr_seats.specs.Shapes.{groups_in};
-ghost use Rattle.shr_core.specs.Seats.{view_of, shape_of};
+ghost use Rattle.shr_core.specs.Seats.{shape_of};
 ghost use Rattle.shr_walk.specs.Sharing.{IsShared};
 ghost use Rattle.shr_walk.specs.State.{IsRested, state_of};
 ghost use Rattle.shr_reclaim.specs.Admitting.{AdmissionGives, LeavesRoom};
@@ -71,7 +70,6 @@ fn charge_in_rounds<R: Wait>(
     ensures admitted { let admission = admission_of result in
         AdmissionGives shared.now by group admission (state_of seats.old) (state_of seats.new) }
     ensures room { LeavesRoom shared.now group (admission_of result) seats.new.cache }
-    ensures owed { OwesNoMore (view_of seats.old.cache.core) (view_of seats.new.cache.core) }
 {
     let mut answer = charge_once(shared, seats, by, group)?;
     for priority in (0..DEF_PRIORITY + 1).rev() {
@@ -119,7 +117,6 @@ pub fn try_charge<R: Wait>(
     ensures admitted { AdmissionGives shared.now by group result
         (state_of seats.old) (state_of seats.new) }
     ensures room { LeavesRoom shared.now group result seats.new.cache }
-    ensures owed { OwesNoMore (view_of seats.old.cache.core) (view_of seats.new.cache.core) }
 {
     let Ok(answer) = charge_in_rounds(rt, shared, seats, by, group) else {
         return Admission::Memory;

@@ -1,9 +1,8 @@
 //! The walks of a round.
 
 ghost use Rattle.std.specs.Prelude.{◌<◌, ◌≤◌, All, OnOk, OnErr};
-ghost use Rattle.shr_core.specs.Gained.{OwesNoMore};
 ghost use Rattle.shr_seats.specs.Shapes.{groups_in};
-ghost use Rattle.shr_core.specs.Seats.{view_of, shape_of};
+ghost use Rattle.shr_core.specs.Seats.{shape_of};
 ghost use Rattle.shr_walk.specs.Sharing.{IsShared};
 ghost use Rattle.shr_walk.specs.State.{IsRested, state_of};
 ghost use Rattle.shr_reclaim.specs.Looping.{AllMade, FirstMade, jobs_on};
@@ -35,7 +34,6 @@ fn walk_node<R: Wait>(
         OnOk result (AllMade shared.now by jobs (state_of seats.old) (state_of seats.new)) }
     ensures first { let jobs = jobs_on node priority groups.now in
         OnErr result (FirstMade shared.now by jobs (state_of seats.old) (state_of seats.new)) }
-    ensures owed { OwesNoMore (view_of seats.old.cache.core) (view_of seats.new.cache.core) }
 {
     for group in groups {
         let answer = walk_one(rt, shared, seats, by, *group, node, priority, false);
@@ -67,7 +65,6 @@ pub(crate) fn walk_round<R: Wait>(
         OnOk result (AllMade shared.now by due (state_of seats.old) (state_of seats.new)) }
     ensures first { let due = due_in shared.now priority group in
         OnErr result (FirstMade shared.now by due (state_of seats.old) (state_of seats.new)) }
-    ensures owed { OwesNoMore (view_of seats.old.cache.core) (view_of seats.new.cache.core) }
 {
     let order = shared.tree.preorder(group)?;
     let groups = order.as_slice();

@@ -20,6 +20,7 @@ use Rattle.shr_report.proofs.BitsToldValues as bits
 use Rattle.shr_report.proofs.ClimbsValues.{are_climbing}
 use Rattle.shr_report.proofs.CutsValues.{are_told}
 use Rattle.shr_report.proofs.OneOrderValues.{nothing_made, in_order}
+use Rattle.shr_report.proofs.TakesValues as takes_values
 use Rattle.shr_report.proofs.SecondCases.{AllAt, each_at, each_answer, each_walk}
 use Rattle.shr_report.proofs.SecondReport as second
 use Rattle.shr_report.proofs.SecondReport.{kept, script, report, uses}
@@ -88,6 +89,7 @@ faithful = record {
   below_root = each_answer _ ((λ g c n e f. absurd (cc)), ((λ g c n e f. absurd (cc)), ((λ g c n e f. absurd (cc)), ((λ g c n e f. absurd (cc)), tt))));
   carried = tt;
   order = in_order;
+  takes = takes_values.in_order;
   cuts = are_told;
   handed = tt;
   climbs = are_climbing;

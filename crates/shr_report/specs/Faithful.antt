@@ -26,6 +26,7 @@ use Rattle.shr_report.specs.Causes.{IsMadeBy, is_done_by}
 use Rattle.shr_report.specs.Climbs.{AreClimbing}
 use Rattle.shr_report.specs.Cuts.{AreCutsTold}
 use Rattle.shr_report.specs.OneOrder.{IsInOneOrder}
+use Rattle.shr_report.specs.Takes.{AreTakesInOrder}
 use Rattle.shr_report.specs.Tries.{AreAllTries}
 
 -- how many entries of the journal of registrations an answer shows to be there: those that it
@@ -93,6 +94,8 @@ pub record IsFaithful (s : Script) (r : Report) : Type 0 where
   pub carried : AllByRecursion (λ (c : Carry). 0 < c.amount) (all_carries r)
   -- there is one order of all entries, lookups, registrations and counts that it tells
   pub order : IsInOneOrder r
+  -- and one of all that was taken from the deferred words and given to them
+  pub takes : AreTakesInOrder s r
   -- a walk that memory cut short ended its command
   pub cuts : AreCutsTold s r
   -- an `offline` that found its group done carried something only if another worker had done it

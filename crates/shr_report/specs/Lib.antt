@@ -33,5 +33,6 @@ pub mod Climbs
 pub mod Tries
 pub mod BitsTold
 pub mod OneOrder
+pub mod Takes
 pub mod Faithful
 pub mod Puts

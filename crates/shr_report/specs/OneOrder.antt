@@ -2,7 +2,7 @@
 use Rattle.std.specs.Prelude.{◌≡◌, ◌≢◌, ℕ, ◌+◌, ◌<◌, ◌≤◌, true, List, [], ◌∷◌, ◌++◌, length, map, flat_map, take, slice_get, Option, Some, None, option_to_list, AllPairs, Contains}
 use Rattle.std.specs.Option.{IsSomeAnd}
 use Rattle.shr_base.specs.declared.journals.Entry.{Entry}
-use Rattle.shr_base.specs.declared.journals.Entry.TheVariants.{MovedIn, Closed, Drained}
+use Rattle.shr_base.specs.declared.journals.Entry.TheVariants.{Add, Scan, Drained}
 use Rattle.shr_base.specs.declared.journals.PoolEntry.{PoolEntry}
 use Rattle.shr_base.specs.declared.journals.PoolEntry.TheVariants.{Registered, Unregistered, Idle}
 use Rattle.shr_base.specs.declared.places.Place.{Place}
@@ -104,12 +104,11 @@ TellsOf r turns (turn n) low high = (low ≡ n) × (high ≡ n + 1)
 TellsOf r m x low high = ⊥
 
 -- ---- what is done in the use of an id
--- a tenant's entry, or a scan
+-- an add, or a scan
 abbrev pub IsOfUse : Entry → Type 0
-IsOfUse (MovedIn child objects) = ⊥
-IsOfUse Closed = ⊥
-IsOfUse (Drained by objects) = ⊥
-IsOfUse e = Unit {0}
+IsOfUse (Add by birth added key value) = Unit {0}
+IsOfUse (Scan worker walk asked policy visits freed stopped) = Unit {0}
+IsOfUse e = ⊥
 
 abbrev pub IsDrained : Entry → Type 0
 IsDrained (Drained by objects) = Unit {0}
@@ -159,7 +158,7 @@ pub record IsInOneOrder (r : Report) : Type 0 where
   -- a command's lookups in the order in which it made them, and so a worker's counts
   pub looked : (by : Serial) → AllPairs (λ x y. rank (lookup x.0 x.1) < rank (lookup y.0 y.1)) (looked_by r by)
   pub counted : (worker m n : ℕ) → m < n → n < length (countings_of r worker) → rank (count worker m) < rank (count worker n)
-  -- a command's entries on a list, and its scans, are made while it uses the list's id
+  -- a command's adds to a list, and its scans, are made while it uses the list's id
   pub used : (place : Place) (n : ℕ) (by : Serial) → HasAt (journals_of r place) n IsOfUse → IsBy r by (entry place n) → IsInUse r rank by place n
   -- a list is drained while its id is dying, and an id comes to be idle while its lists are empty
   pub drained : (place : Place) (n : ℕ) → HasAt (journals_of r place) n IsDrained → IsWhileDying r rank place.id (entry place n)

@@ -5,13 +5,13 @@ use Rattle.std.proofs.lemmas.List.{append-nil, length-map}
 use Rattle.std.proofs.lemmas.Option.{slice_get_within, slice_get-map, same_Some}
 use Rattle.shr_core.specs.declared.view.View.{View}
 use Rattle.shr_core.specs.Leaving.{IsLeft}
-use Rattle.shr_core.proofs.Owing.{still_none}
 use Rattle.shr_core.specs.Seats.{view_of}
 use Rattle.shr_charge.specs.Ends.{IsEndOf}
 use Rattle.shr_seats.specs.Shapes.{hierarchy_of}
 use Rattle.shr_charge.specs.Seat.{uses_of, tree_of}
 use Rattle.shr_deferred.specs.Left.{left_over}
-use Rattle.shr_deferred.specs.Seat.{moves_of}
+use Rattle.shr_deferred.specs.History.{HasHistory}
+use Rattle.shr_deferred.specs.Seat.{moves_of, strands_of}
 use Rattle.shr_plain.specs.declared.table.Pools.{Pools}
 use Rattle.shr_plain.specs.Ending.{IsPoolsEnd}
 use Rattle.shr_plain.specs.Opening.{ArePoolsOf}
@@ -84,7 +84,6 @@ module _ (x : Shared) (p : Pools) (ready : CrewSeats) (tasks : List Task) (are :
   all_at_end results same have = all_from_slices (λ (w : WorkerResult). IsAtEnd x p w) results (λ i w at.
       let t = there_at tasks i (let lt = slice_get_within results i w at in omega (arith, lt, same)) in let ran = have i t.0 w t.1 at in let task = are i t.0 t.1 in record {
         rested = ran.rested;
-        owed = still_none (view_of t.0.seats.cache.core) (view_of w.seats.cache.core) (ap (λ (s : CrewState). s.seats.core.marks.owed) task.new) ran.owed;
         plain_seat = ran.plain_seat;
       })
 
@@ -119,7 +118,6 @@ module _ (x : Shared) (p : Pools) (ready split joined : CrewSeats) (tasks : List
             let v = there_at results i (let lt = slice_get_within swept i w at in let more = h.same in omega (arith, lt, more)) in
             let one = h.each i v.0 w v.1 at in let before = all_slice (λ (u : WorkerResult). IsAtEnd x p u) results i v.0 (all_at_end x p ready tasks are results same have) v.1 in record {
               rested = one.rested;
-              owed = still_none (view_of v.0.seats.cache.core) (view_of w.seats.cache.core) before.owed one.owed;
               plain_seat = subst (plain.IsOf p) (sym one.plain) before.plain_seat;
             })
 
@@ -189,7 +187,7 @@ module _ (x : Shared) (p : Pools) (ready split joined : CrewSeats) (tasks : List
 
       module _ (shared : IsShared x) (from_start : IsFromStart x) (pools : ArePoolsOf x.script p) (is_ready : AreReady x ready.seats) (split_off : AreSplitOff x opened (length x.script.workers.items) split.seats) (split_plain : IsPlainSplitOff p (length x.script.workers.items) split.plain) (joins : AreJoinedAll split swept joined) where
         begun : firsts_of split ≡ at_start opened (view_of split.seats.cache.core).standing
-        begun = let core = split_off.core in let uses = split_off.uses in let tree = split_off.tree in let moves = split_off.moves in let plain = split_plain.state in λ i. record { core = core i; uses = uses i; tree = tree i; moves = moves i; plain = plain i }
+        begun = let core = split_off.core in let uses = split_off.uses in let tree = split_off.tree in let moves = split_off.moves in let strands = split_off.strands in let plain = split_plain.state in λ i. record { core = core i; uses = uses i; tree = tree i; moves = moves i; strands = strands i; plain = plain i }
 
         pub ended : firsts_of joined ≡ with_workers (at_start opened (view_of split.seats.cache.core).standing) lasts
         ended = joins.firsts ∙ ap (λ (f : Firsts). with_workers f lasts) begun
@@ -204,10 +202,10 @@ module _ (x : Shared) (p : Pools) (ready split joined : CrewSeats) (tasks : List
         all_logs : length (map log_of swept) ≡ length x.script.workers.items
         all_logs = let a = length-map swept log_of in let c = many_if x x.script.sweep results swept sweeps in omega (arith, a, c, same, many)
 
-        pub ends_of : (e : Ends) → e.script ≡ x.script → IsLeft x.core.setting (view_of joined.seats.cache.core) e.core → e.deferred.items ≡ left_over x.deferred.sizes (moves_of joined.seats.deferred)
+        pub ends_of : (e : Ends) → e.script ≡ x.script → IsLeft x.core.setting (view_of joined.seats.cache.core) e.core → e.deferred.items ≡ left_over x.deferred.sizes (moves_of joined.seats.deferred) → HasHistory x.deferred.sizes (strands_of joined.seats.deferred) e.deferred.items
             → IsEndOf (hierarchy_of x.charge.shape) (uses_of joined.seats.cache.charge) (tree_of joined.seats.cache.charge) e.charge → All (λ (m : MapEnd). m.bits < 2 ^ 64) e.core.maps.items
             → IsPoolsEnd p.sizes (plain.state_of joined.plain) e.pools → AreEnds (map log_of swept) e
-        ends_of e script core deferred charge words units = record {
+        ends_of e script core deferred history charge words units = record {
           shared = x;
           ends = record {
             shared = shared;
@@ -226,6 +224,7 @@ module _ (x : Shared) (p : Pools) (ready split joined : CrewSeats) (tasks : List
             core = subst (λ (f : Firsts). IsLeft x.core.setting f.core e.core) ended core;
             words = words;
             deferred = deferred ∙ ap (λ (f : Firsts). left_over x.deferred.sizes f.moves) ended;
+            history = subst (λ (f : Firsts). HasHistory x.deferred.sizes f.strands e.deferred.items) ended history;
             charge = subst (λ (f : Firsts). IsEndOf (hierarchy_of x.charge.shape) f.uses f.tree e.charge) ended charge;
             pools = subst (λ (z : Sizes). IsPoolsEnd z (with_workers (at_start opened (view_of split.seats.cache.core).standing) lasts).plain e.pools) pools.sizes (subst (λ (f : Firsts). IsPoolsEnd p.sizes f.plain e.pools) ended units);
           };

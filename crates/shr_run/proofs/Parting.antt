@@ -15,7 +15,7 @@ use Rattle.shr_run.specs.Joins.{IsAtEnd, AreJoinedAll, firsts_of, last_of, log_o
 
 module _ (old new : CrewSeats) (w : WorkerResult) (j : AreJoined old.seats w.seats new.seats) (l : IsPlainJoined old.plain w.plain new.plain) where
   pub firsts_joined : firsts_of new ≡ with_worker (firsts_of old) (last_of w)
-  firsts_joined = let core = j.core in let uses = j.uses in let tree = j.tree in let moves = j.moves in let plain = l.state in λ i. record { core = core i; uses = uses i; tree = tree i; moves = moves i; plain = plain i }
+  firsts_joined = let core = j.core in let uses = j.uses in let tree = j.tree in let moves = j.moves in let strands = j.strands in let plain = l.state in λ i. record { core = core i; uses = uses i; tree = tree i; moves = moves i; strands = strands i; plain = plain i }
 
   pub plain_parted_joined : (splits joins : ℕ) → IsPlainParted old.plain splits joins → IsPlainParted new.plain splits (joins + 1)
   plain_parted_joined splits joins p = record {

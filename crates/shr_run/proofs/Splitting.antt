@@ -52,6 +52,7 @@ split_none x s r = record {
   uses = r.uses;
   tree = r.tree;
   moves = r.moves;
+  strands = r.strands;
 } where
   z : (view_of s.cache.core).standing ≡ at_first
   z = stands x.script.caches.items (length x.script.caches.items) (view_of s.cache.core) r.entered
@@ -99,6 +100,7 @@ module _ (x : Shared) (opened : View) (n : ℕ) (old new seats : Seats) (before 
     uses = split.uses ∙ before.uses;
     tree = split.tree ∙ before.tree;
     moves = split.moves ∙ before.moves;
+    strands = split.strands ∙ before.strands;
   }
 
   same_core : view_of seats.cache.core ≡ record (split_off opened) { seat = 1 + n }

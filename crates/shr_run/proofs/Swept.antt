@@ -101,7 +101,6 @@ have_swept x q z results swept hs ks old new same ready whole helped once = reco
       number = out.number;
       plain = out.plain;
       rested = out.rested;
-      owed = out.owed;
       helped = λ done. answered h k is out (out.whole done);
     }
 

@@ -2,7 +2,6 @@
 use Rattle.std.specs.Prelude.{◌≡◌, ℕ, ◌≤◌, List, [], ◌∷◌, ◌++◌, length, slice_get, Option, Some, None, All, IsTrue}
 use Rattle.shr_base.specs.declared.replies.Answered.{Answered}
 use Rattle.shr_base.specs.declared.scripts.Sweep.{Sweep}
-use Rattle.shr_core.specs.Gained.{OwesNoMore}
 use Rattle.shr_core.specs.Seats.{view_of}
 use Rattle.shr_seats.specs.Standing.{at_first, at_split}
 use Rattle.shr_pool.specs.declared.items.SweepItem.{SweepItem}
@@ -62,13 +61,12 @@ pub record HasAnswered (x : Shared) (z : Sweep) (h k : Helper) : Type 0 where
   pub answers : k.worker.answers.items ≡ h.worker.answers.items ++ unfound (sweep_reply answer) ∷ []
   pub gives : HelpGives x (serial_of h.worker.number (length h.worker.answers.items)) z.priority z.nofs answer (passes.view_of h.pass) (passes.view_of k.pass) (state_of h.worker.seats) (state_of k.worker.seats)
 
--- A helper is done: its seats hold nothing, it owes no more than before, and where its result is whole it has answered.
+-- A helper is done: its seats hold nothing and owe nothing, and where its result is whole it has answered.
 pub record HasHelpedOut (x : Shared) (q : JobQueue) (z : Sweep) (h k : Helper) : Type 0 where
   pub number : k.worker.number ≡ h.worker.number
   pub plain : k.worker.plain ≡ h.worker.plain
   pub isolations : k.worker.isolations.items ≡ h.worker.isolations.items
   pub rested : IsRested x k.worker.seats
-  pub owed : OwesNoMore (view_of h.worker.seats.cache.core) (view_of k.worker.seats.cache.core)
   pub pass : passes.IsOf q k.pass
   pub helper : passes.IsHelper (passes.view_of k.pass)
   pub whole : IsTrue k.worker.whole → HasAnswered x z h k
@@ -93,7 +91,6 @@ pub record HasSweptAt (x : Shared) (z : Sweep) (popped : List SweepItem) (v w : 
   pub number : w.number ≡ v.number
   pub plain : w.plain ≡ v.plain
   pub rested : IsRested x w.seats
-  pub owed : OwesNoMore (view_of v.seats.cache.core) (view_of w.seats.cache.core)
   -- where its result is whole it has answered
   pub helped : IsTrue w.whole → (told : List Answered) × (w.answers.items ≡ v.answers.items ++ told) × HasHelped x z (serial_of v.number (length v.answers.items)) told popped (last_of v) (last_of w)
 

@@ -1,11 +1,10 @@
 -- The tasks of the workers, and what running one gives.
-use Rattle.std.specs.Prelude.{◌≡◌, ℕ, List, [], length, slice_get, Some, IsTrue}
+use Rattle.std.specs.Prelude.{◌≡◌, ℕ, List, [], ◌∷◌, length, slice_get, Some, IsTrue}
 use Rattle.shr_core.specs.declared.view.View.{View}
-use Rattle.shr_core.specs.Gained.{OwesNoMore}
 use Rattle.shr_core.specs.Seats.{view_of}
 use Rattle.shr_charge.specs.Seat.{uses_of, tree_of}
 use Rattle.shr_charge.specs.Views.{own_uses, no_tree}
-use Rattle.shr_deferred.specs.Seat.{moves_of}
+use Rattle.shr_deferred.specs.Seat.{moves_of, strands_of}
 use Rattle.shr_deferred.specs.Moves.{no_moves}
 use Rattle.shr_plain.specs.declared.table.Pools.{Pools}
 use Rattle.shr_plain.specs.declared.table.PlainSeat.{PlainSeat}
@@ -29,6 +28,7 @@ pub record AreSplitOff (x : Shared) (opened : View) (splits : ℕ) (first : Seat
   pub uses : uses_of first.cache.charge ≡ own_uses
   pub tree : tree_of first.cache.charge ≡ no_tree
   pub moves : moves_of first.deferred ≡ no_moves
+  pub strands : strands_of first.deferred ≡ no_moves ∷ []
 
 -- the first seat of the pools was split so often, and did nothing
 pub record IsPlainSplitOff (p : Pools) (splits : ℕ) (first : PlainSeat) : Type 0 where
@@ -50,7 +50,6 @@ AreTasks x p opened tasks = (i : ℕ) (t : Task) → slice_get tasks i ≡ Some 
 pub record HasRun (x : Shared) (p : Pools) (task : Task) (w : WorkerResult) : Type 0 where
   pub number : w.number ≡ task.number
   pub rested : IsRested x w.seats
-  pub owed : OwesNoMore (view_of task.seats.cache.core) (view_of w.seats.cache.core)
   pub plain_seat : IsOf p w.plain
   pub all : IsTrue w.whole → length w.answers.items ≡ length (commands_of x.script task.number)
   pub work : IsTrue w.whole → IsWorkOf x task.number w.answers.items (crew_of task.seats task.plain []) (crew_of w.seats w.plain w.isolations.items)

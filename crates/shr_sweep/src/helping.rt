@@ -1,7 +1,6 @@
 //! A helper of a sweep.
 
 ghost use Rattle.std.specs.Prelude.{◌≡◌, ◌≤◌};
-ghost use Rattle.shr_core.specs.Gained.{OwesNoMore};
 ghost use Rattle.shr_core.specs.Seats.{view_of};
 ghost use Rattle.shr_pool.specs.Lines.{ends};
 ghost use Rattle.shr_pool.specs.Passes as passes;
@@ -40,7 +39,6 @@ pub fn help<R: Wait>(
     requires open { ends (passes.view_of pass.old).popped ≡ 0 }
     requires line { IsLineWithin shared.now (passes.view_of pass.old) }
     ensures rested { IsRested shared.now seats.new }
-    ensures owed { OwesNoMore (view_of seats.old.cache.core) (view_of seats.new.cache.core) }
     ensures pass { passes.IsOf queue.now pass.new × passes.IsHelper (passes.view_of pass.new) }
     ensures helped { HelpGives shared.now by priority nofs result
         (passes.view_of pass.old) (passes.view_of pass.new)

@@ -1,5 +1,5 @@
 -- Seats for the workers, and their joining.
-use Rattle.std.specs.Prelude.{◌≡◌, ℕ, [], true}
+use Rattle.std.specs.Prelude.{◌≡◌, ℕ, [], ◌∷◌, ◌++◌, true}
 use Rattle.shr_seats.specs.Standing.{with_split, with_join}
 use Rattle.shr_core.specs.Steps.{with_one_split, split_off, joined}
 use Rattle.shr_core.specs.Seats.{view_of}
@@ -7,7 +7,7 @@ use Rattle.shr_charge.specs.Seat.{uses_of, tree_of}
 use Rattle.shr_charge.specs.Seat as charges
 use Rattle.shr_charge.specs.Steps.{joined_tree}
 use Rattle.shr_charge.specs.Views.{own_uses, no_tree, both_uses}
-use Rattle.shr_deferred.specs.Seat.{moves_of}
+use Rattle.shr_deferred.specs.Seat.{moves_of, strands_of}
 use Rattle.shr_deferred.specs.Seat as deferreds
 use Rattle.shr_deferred.specs.Moves.{no_moves, both}
 use Rattle.shr_plain.specs.declared.table.Pools.{Pools}
@@ -41,6 +41,7 @@ pub record AreSplit (old new : Seats) : Type 0 where
   pub tree : tree_of new.cache.charge ≡ tree_of old.cache.charge
   pub charged : charges.standing_of new.cache.charge ≡ with_split (charges.standing_of old.cache.charge)
   pub moves : moves_of new.deferred ≡ moves_of old.deferred
+  pub strands : strands_of new.deferred ≡ strands_of old.deferred
   pub deferred : deferreds.standing_of new.deferred ≡ with_split (deferreds.standing_of old.deferred)
 
 -- seats that were split off the first ones: they know the pool's entries that those know, and have done nothing
@@ -61,6 +62,7 @@ pub record AreJoined (old other new : Seats) : Type 0 where
   pub tree : tree_of new.cache.charge ≡ joined_tree (tree_of old.cache.charge) (tree_of other.cache.charge)
   pub charged : charges.standing_of new.cache.charge ≡ with_join (charges.standing_of old.cache.charge)
   pub moves : moves_of new.deferred ≡ both (moves_of old.deferred) (moves_of other.deferred)
+  pub strands : strands_of new.deferred ≡ strands_of old.deferred ++ moves_of other.deferred ∷ []
   pub deferred : deferreds.standing_of new.deferred ≡ with_join (deferreds.standing_of old.deferred)
 
 -- the first seat of the pools, which holds no room

@@ -8,7 +8,8 @@ ghost use Rattle.shr_seats.specs.Shapes.{hierarchy_of};
 ghost use Rattle.shr_charge.specs.Seat.{uses_of, tree_of};
 ghost use Rattle.shr_charge.specs.Seat as charges;
 ghost use Rattle.shr_deferred.specs.Left.{left_over};
-ghost use Rattle.shr_deferred.specs.Seat.{moves_of};
+ghost use Rattle.shr_deferred.specs.History.{HasHistory};
+ghost use Rattle.shr_deferred.specs.Seat.{moves_of, strands_of};
 ghost use Rattle.shr_deferred.specs.Seat as deferreds;
 ghost use Rattle.shr_seats.specs.Standing.{IsWhole};
 ghost use Rattle.shr_plain.specs.Ending.{IsPoolsEnd};
@@ -49,6 +50,8 @@ pub fn finish(alloc: Global, tables: Tables, first: CrewSeats) -> Result<Ends, M
     ensures words { IfOk result (λ e. All (λ m. m.bits < 2 ^ 64) e.core.maps.items) }
     ensures deferred { IfOk result (λ e. e.deferred.items
         ≡ left_over tables.shared.deferred.sizes (moves_of first.seats.deferred)) }
+    ensures history { IfOk result (λ e. HasHistory tables.shared.deferred.sizes
+        (strands_of first.seats.deferred) e.deferred.items) }
     ensures charge { IfOk result (λ e. IsEndOf (hierarchy_of tables.shared.charge.shape)
         (uses_of first.seats.cache.charge) (tree_of first.seats.cache.charge) e.charge) }
     ensures pools { IfOk result (λ e. IsPoolsEnd tables.pools.sizes (plain.state_of first.plain)

@@ -1,6 +1,6 @@
 //! Seats for the workers, and their joining.
 
-ghost use Rattle.std.specs.Prelude.{◌≡◌, ◌<◌, [], IfOk};
+ghost use Rattle.std.specs.Prelude.{◌≡◌, ◌<◌, IfOk};
 ghost use Rattle.shr_core.specs.Seats.{view_of};
 ghost use Rattle.shr_plain.specs.Seat.{IsOf};
 ghost use Rattle.shr_walk.specs.State.{IsRested};
@@ -74,7 +74,6 @@ pub fn join(tables: &Tables, first: &mut CrewSeats, other: CrewSeats) -> Notes
     requires plain { IsPlainFirst tables.now.pools first.old.plain }
     requires other { IsRested tables.now.shared other.seats }
     requires other_plain { IsOf tables.now.pools other.plain }
-    requires owed { (view_of other.seats.cache.core).marks.owed ≡ [] }
     ensures first { AreFirst tables.now.shared first.new.seats }
     ensures joined { AreJoined first.old.seats other.seats first.new.seats }
     ensures plain { IsPlainFirst tables.now.pools first.new.plain }

@@ -14,7 +14,7 @@ use Rattle.shr_seats.specs.Standing.{at_first}
 use Rattle.shr_charge.specs.Seat.{uses_of, tree_of}
 use Rattle.shr_charge.specs.Seat as charges
 use Rattle.shr_charge.specs.Views.{own_uses, no_tree}
-use Rattle.shr_deferred.specs.Seat.{moves_of}
+use Rattle.shr_deferred.specs.Seat.{moves_of, strands_of}
 use Rattle.shr_deferred.specs.Seat as deferreds
 use Rattle.shr_deferred.specs.Moves.{no_moves}
 use Rattle.shr_walk.specs.State.{IsRested}
@@ -80,6 +80,7 @@ pub record IsOpened (x : Shared) (s : Seats) : Type 0 where
   pub tree : tree_of s.cache.charge ≡ no_tree
   pub charged : charges.standing_of s.cache.charge ≡ at_first
   pub moves : moves_of s.deferred ≡ no_moves
+  pub strands : strands_of s.deferred ≡ no_moves ∷ []
   pub deferred : deferreds.standing_of s.deferred ≡ at_first
   pub noted : s.cache.uses.items ≡ []
   pub walks : s.walks.items ≡ []

@@ -2,8 +2,7 @@
 
 ghost use Rattle.std.specs.Prelude.{◌≡◌, ◌<◌, ◌≤◌, ◌^◌, length};
 ghost use Rattle.shr_seats.specs.Shapes.{groups_in};
-ghost use Rattle.shr_core.specs.Gained.{OwesNoMore};
-ghost use Rattle.shr_core.specs.Seats.{view_of, shape_of};
+ghost use Rattle.shr_core.specs.Seats.{shape_of};
 ghost use Rattle.shr_walk.specs.Balances.{BalanceGives, OneGives, freed_told, lacked_memory};
 ghost use Rattle.shr_walk.specs.Sharing.{IsShared};
 ghost use Rattle.shr_walk.specs.State.{IsRested, state_of};
@@ -61,7 +60,6 @@ pub fn walk_one<R: Wait>(
       nofs = nofs;
     }) result (state_of seats.old)
         (state_of seats.new) }
-    ensures owed { OwesNoMore (view_of seats.old.cache.core) (view_of seats.new.cache.core) }
 {
     if group == 0 {
         return walk_root(rt, shared, seats, by, node, priority, nofs);
@@ -101,7 +99,6 @@ pub fn balance<R: Wait>(
           priority = priority;
           nofs = nofs;
         }) result (state_of seats.old) (state_of seats.new) }
-    ensures owed { OwesNoMore (view_of seats.old.cache.core) (view_of seats.new.cache.core) }
 {
     let order = match shared.tree.preorder(0) {
         Ok(order) => order,

@@ -1,10 +1,11 @@
 -- What each call leaves of its seats.
-use Rattle.std.proofs.Common.{◌≡◌, ℕ, List, ap, ◌∙◌}
+use Rattle.std.proofs.Common.{◌≡◌, ℕ, ◌%◌, ◌==◌, Bool, true, false, cond, List, [], ap, ◌∙◌}
 use Rattle.std.specs.Prelude.{None}
 use Rattle.std.proofs.lemmas.List.{append-nil}
 use Rattle.shr_base.specs.declared.objects.Object.{Object}
 use Rattle.shr_base.specs.declared.objects.Policy.{Policy}
 use Rattle.shr_base.specs.declared.places.Place.{Place}
+use Rattle.shr_base.specs.declared.ends.LookupWord.{LookupWord}
 use Rattle.shr_base.specs.declared.places.Serial.{Serial}
 use Rattle.shr_base.specs.declared.replies.Spent.{Spent}
 use Rattle.shr_base.specs.declared.replies.Spent.TheVariants as spent
@@ -21,7 +22,7 @@ use Rattle.shr_core.specs.Parts.{Made, Claims, no_rooms}
 use Rattle.shr_core.specs.Gained.{Gained, IsIdle, OwesNoMore}
 use Rattle.shr_core.specs.Seats.{IsPlaceOf, view_of, shape_of}
 use Rattle.shr_core.specs.Seats as core
-use Rattle.shr_core.specs.Steps.{with_put}
+use Rattle.shr_core.specs.Steps.{with_put, with_word, without_id}
 use Rattle.shr_core.proofs.Owing.{still_none}
 use Rattle.shr_node.specs.declared.answers.NodeAdd.{NodeAdd}
 use Rattle.shr_node.specs.declared.answers.NodeAdd.TheVariants as add
@@ -43,32 +44,38 @@ use Rattle.shr_registry.specs.Ending.{UnregisterGives}
 use Rattle.shr_walk.specs.State.{IsRested}
 use Rattle.shr_walk.specs.declared.seats.Seats.{Seats}
 use Rattle.shr_walk.specs.declared.seats.Shared.{Shared}
-use Rattle.shr_walk.proofs.Attempting.{with_core}
-use Rattle.shr_walk.proofs.Looking.{looked_worn, looked_gone, looked_held}
+use Rattle.shr_walk.proofs.Looking.{with_core, looked_worn, looked_gone, looked_held}
 use Rattle.shr_walk_trials.specs.Desk.{IsSeated, IsHolder}
 
 -- ---- seats whose core seat was stepped with
 
--- a call left its seat idle, and owing no more
+-- a call left its seat idle, and owing nothing if it owed nothing before
 pub record Leaves (v w : View) : Type 0 where
   pub idle : IsIdle w
-  pub owed : OwesNoMore v w
+  pub owed : v.marks.owed ≡ [] → w.marks.owed ≡ []
+
+-- the load of a lookup word leaves nothing owed if nothing was
+owes_none : (v : View) (id : ℕ) (word : LookupWord) → v.marks.owed ≡ [] → (with_word v id word).marks.owed ≡ []
+owes_none v id word none = by_test (word.phase % 3 == 1)
+  where
+    by_test : (b : Bool) → cond b v.marks.owed (without_id id v.marks.owed) ≡ []
+    by_test true = none
+    by_test false = ap (without_id id) none
 
 pub seated : (x : Shared) (s : Seats) (seat : Seat) → IsSeated x s → core.IsOf x.core seat → Leaves (view_of s.cache.core) (view_of seat) → IsSeated x (with_core s seat)
 seated x s seat h is left = record {
   shared = h.shared;
-  rested = record { core = is; idle = left.idle; charge = h.rested.charge; deferred = h.rested.deferred };
-  owed = still_none (view_of s.cache.core) (view_of seat) h.owed left.owed;
+  rested = record { core = is; idle = left.idle; owed = left.owed h.rested.owed; charge = h.rested.charge; deferred = h.rested.deferred };
 }
 
 -- the same of a call that stepped with all seats
-pub seated_after : (x : Shared) (s t : Seats) → IsSeated x s → IsRested x t → OwesNoMore (view_of s.cache.core) (view_of t.cache.core) → IsSeated x t
-seated_after x s t h rested owed = record { shared = h.shared; rested = rested; owed = still_none (view_of s.cache.core) (view_of t.cache.core) h.owed owed }
+pub seated_after : (x : Shared) (s t : Seats) → IsSeated x s → IsRested x t → IsSeated x t
+seated_after x s t h rested = record { shared = h.shared; rested = rested }
 
 -- ---- the registry
 
 leaves_brings : (v w : View) (more : Gained) → Brings v w more → w.holding ≡ no_rooms → w.claims.held ≡ None → w.claims.owner ≡ None → Leaves v w
-leaves_brings v w more b rooms held owner = record { idle = record { rooms = rooms; held = held; owner = owner }; owed = b.owed }
+leaves_brings v w more b rooms held owner = record { idle = record { rooms = rooms; held = held; owner = owner }; owed = λ none. still_none v w none b.owed }
 
 pub leaves_register : (key : Setting) (v w : View) (decl : ℕ) (pool : List PoolEntry) (gives : ℕ) (a : RegisterAnswer) → w.holding ≡ no_rooms → RegisterGives key v decl pool gives a w → Leaves v w
 leaves_register key v w decl pool gives (register.AlreadyRegistered entry) rooms h = leaves_brings v w _ h.gains rooms h.free.held h.free.owner
@@ -85,10 +92,10 @@ leaves_unregister shape v w decl by (unregister.Half id entry from to objects wh
 -- ---- holding an id
 
 pub leaves_gone : (v w : View) (id number : ℕ) → IsIdle v → Finds v id w (lookup.Gone number) → Leaves v w
-leaves_gone v w id number idle f = let a = looked_gone v w id number idle.held f in record { idle = record { rooms = a.holding ∙ idle.rooms; held = a.held; owner = a.owner ∙ idle.owner }; owed = a.owed }
+leaves_gone v w id number idle f = let a = looked_gone v w id number idle.held f in record { idle = record { rooms = a.holding ∙ idle.rooms; held = a.held; owner = a.owner ∙ idle.owner }; owed = λ none. ap (λ (y : View). y.marks.owed) f.step ∙ owes_none v id f.first none }
 
 pub leaves_worn : (v w : View) (id seen : ℕ) → IsIdle v → Finds v id w (lookup.Worn seen) → Leaves v w
-leaves_worn v w id seen idle f = let a = looked_worn v w id seen idle.held f in record { idle = record { rooms = a.holding ∙ idle.rooms; held = a.held; owner = a.owner ∙ idle.owner }; owed = a.owed }
+leaves_worn v w id seen idle f = let a = looked_worn v w id seen idle.held f in record { idle = record { rooms = a.holding ∙ idle.rooms; held = a.held; owner = a.owner ∙ idle.owner }; owed = λ none. ap (λ (y : View). y.marks.owed) f.step ∙ owes_none v id f.first none }
 
 pub holder_of : (x : Shared) (place : Place) (s : Seats) (seat : Seat) (number decl : ℕ) → IsSeated x s → IsPlaceOf (shape_of x.core) place → core.IsOf x.core seat → Finds (view_of s.cache.core) place.id (view_of seat) (lookup.Held number decl) → IsHolder x place (with_core s seat)
 holder_of x place s seat number decl h inside is f = let v = view_of s.cache.core in let w = view_of seat in let a = looked_held v w place.id number decl h.rested.idle.held f in record {
@@ -98,7 +105,7 @@ holder_of x place s seat number decl h inside is f = let v = view_of s.cache.cor
   rooms = a.holding ∙ h.rested.idle.rooms;
   held = a.held;
   owner = a.owner ∙ h.rested.idle.owner;
-  owed = still_none v w h.owed a.owed;
+  owed = ap (λ (y : View). y.marks.owed) f.step ∙ owes_none v place.id f.first h.rested.owed;
   charge = h.rested.charge;
   deferred = h.rested.deferred;
 }
@@ -109,10 +116,10 @@ seated_again x place s seat h is e = record {
   rested = record {
     core = is;
     idle = record { rooms = ap (λ (y : View). y.holding) e ∙ h.rooms; held = ap (λ (y : View). y.claims.held) e; owner = ap (λ (y : View). y.claims.owner) e ∙ h.owner };
+    owed = ap (λ (y : View). y.marks.owed) e ∙ h.owed;
     charge = h.charge;
     deferred = h.deferred;
   };
-  owed = ap (λ (y : View). y.marks.owed) e ∙ h.owed;
 }
 
 -- ---- the calls on lists

@@ -19,7 +19,6 @@ use Rattle.shr_walk.specs.declared.seats.Shared.{Shared}
 pub record IsSeated (x : Shared) (s : Seats) : Type 0 where
   pub shared : IsShared x
   pub rested : IsRested x s
-  pub owed : (view_of s.cache.core).marks.owed ≡ []
 
 -- the same, but that the id of a place is held
 pub record IsHolder (x : Shared) (place : Place) (s : Seats) : Type 0 where

@@ -1,8 +1,6 @@
 //! One command of a worker.
 
 ghost use Rattle.std.specs.Prelude.{◌+◌, ◌<◌, ◌≤◌, ◌^◌, IfOk, length};
-ghost use Rattle.shr_core.specs.Gained.{OwesNoMore};
-ghost use Rattle.shr_core.specs.Seats.{view_of};
 ghost use Rattle.shr_plain.specs.Opening.{ArePoolsOf};
 ghost use Rattle.shr_plain.specs.Seat.{IsOf, state_of as plain_state_of};
 ghost use Rattle.shr_script.specs.Bounds.{IsCommandWithin};
@@ -42,7 +40,6 @@ fn run_tenant<R: Wait>(
     requires within { IsCommandWithin (content_of shared.now.script) command.now }
     requires rested { IsRested shared.now seats.old }
     ensures rested { IsRested shared.now seats.new }
-    ensures owed { OwesNoMore (view_of seats.old.cache.core) (view_of seats.new.cache.core) }
     ensures gives { CommandGives shared.now by command.now result
         (state_of seats.old) (state_of seats.new) }
 {
@@ -95,7 +92,6 @@ fn run_walk<R: Wait>(
     requires plain_seat { IsOf pools.now plain.old }
     requires few { length plain.old.walks.items < 2 ^ 32 }
     ensures rested { IsRested shared.now seats.new }
-    ensures owed { OwesNoMore (view_of seats.old.cache.core) (view_of seats.new.cache.core) }
     ensures plain_seat { IsOf pools.now plain.new }
     ensures few { length plain.new.walks.items ≤ length plain.old.walks.items + 1 }
     ensures gives { IfOk result (λ a. CommandGives shared.now by command.now a
@@ -150,7 +146,6 @@ pub fn run_command<R: Wait>(
     requires plain_seat { IsOf pools.now plain.old }
     requires few { length plain.old.walks.items < 2 ^ 32 }
     ensures rested { IsRested shared.now seats.new }
-    ensures owed { OwesNoMore (view_of seats.old.cache.core) (view_of seats.new.cache.core) }
     ensures plain_seat { IsOf pools.now plain.new }
     ensures few { length plain.new.walks.items ≤ length plain.old.walks.items + 1 }
     ensures gives { IfOk result (λ a. CommandGives shared.now by command.now a

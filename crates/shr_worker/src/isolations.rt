@@ -1,7 +1,5 @@
 //! The isolation of a list.
 
-ghost use Rattle.shr_core.specs.Gained.{OwesNoMore};
-ghost use Rattle.shr_core.specs.Seats.{view_of};
 ghost use Rattle.shr_drop.specs.Isolating.{IsolateGives};
 ghost use Rattle.shr_script.specs.Bounds.{IsIsolationWithin};
 ghost use Rattle.shr_script.specs.Content.{content_of};
@@ -34,7 +32,6 @@ pub fn isolate<R: Wait>(
     requires within { IsIsolationWithin (content_of shared.now.script) group node decl budget }
     requires rested { IsRested shared.now seats.old }
     ensures rested { IsRested shared.now seats.new }
-    ensures owed { OwesNoMore (view_of seats.old.cache.core) (view_of seats.new.cache.core) }
     ensures isolates { IsolateGives shared.now by group node decl budget result
         (state_of seats.old) (state_of seats.new) log.old.items log.new.items }
 {

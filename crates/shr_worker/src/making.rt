@@ -2,8 +2,6 @@
 
 ghost use Rattle.std.specs.Prelude.{◌≡◌, true};
 ghost use Rattle.shr_model.specs.Groups.{is_later};
-ghost use Rattle.shr_core.specs.Gained.{OwesNoMore};
-ghost use Rattle.shr_core.specs.Seats.{view_of};
 ghost use Rattle.shr_script.specs.Bounds.{IsGroup, later_of};
 ghost use Rattle.shr_script.specs.Content.{content_of};
 ghost use Rattle.shr_walk.specs.Sharing.{IsShared};
@@ -26,7 +24,6 @@ pub fn mkgroup<R: Wait>(rt: &R, shared: &Shared, seats: &mut Seats, group: u16) 
     requires late { is_later (later_of (content_of shared.now.script)) group ≡ true }
     requires rested { IsRested shared.now seats.old }
     ensures rested { IsRested shared.now seats.new }
-    ensures owed { OwesNoMore (view_of seats.old.cache.core) (view_of seats.new.cache.core) }
     ensures makes { Makes shared.now group result (state_of seats.old) (state_of seats.new) }
 {
     let answer = shared.charge.make_group(rt, &mut seats.cache.charge, group);

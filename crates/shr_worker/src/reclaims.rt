@@ -1,7 +1,5 @@
 //! The commands that reclaim: a walk, a balance, and taking a group offline.
 
-ghost use Rattle.shr_core.specs.Gained.{OwesNoMore};
-ghost use Rattle.shr_core.specs.Seats.{view_of};
 ghost use Rattle.shr_script.specs.Bounds.{IsGroup, IsWalkWithin};
 ghost use Rattle.shr_script.specs.Content.{content_of};
 ghost use Rattle.shr_walk.specs.Sharing.{IsShared};
@@ -37,7 +35,6 @@ pub fn shrink<R: Wait>(
     requires within { IsWalkWithin (content_of shared.now.script) node priority }
     requires rested { IsRested shared.now seats.old }
     ensures rested { IsRested shared.now seats.new }
-    ensures owed { OwesNoMore (view_of seats.old.cache.core) (view_of seats.new.cache.core) }
     ensures shrinks { Shrinks shared.now by group node priority nofs result
         (state_of seats.old) (state_of seats.new) }
 {
@@ -61,7 +58,6 @@ pub fn balance<R: Wait>(
     requires within { IsWalkWithin (content_of shared.now.script) node priority }
     requires rested { IsRested shared.now seats.old }
     ensures rested { IsRested shared.now seats.new }
-    ensures owed { OwesNoMore (view_of seats.old.cache.core) (view_of seats.new.cache.core) }
     ensures balances { Balances shared.now by node priority nofs result
         (state_of seats.old) (state_of seats.new) }
 {
@@ -82,7 +78,6 @@ pub fn offline<R: Wait>(
     requires group { IsGroup (content_of shared.now.script) group }
     requires rested { IsRested shared.now seats.old }
     ensures rested { IsRested shared.now seats.new }
-    ensures owed { OwesNoMore (view_of seats.old.cache.core) (view_of seats.new.cache.core) }
     ensures offlines { Offlines shared.now by group result
         (state_of seats.old) (state_of seats.new) }
 {

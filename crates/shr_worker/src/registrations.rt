@@ -3,10 +3,9 @@
 ghost use Rattle.std.specs.Prelude.{◌≡◌, ◌⊎◌, ◌≤◌, None, length, IfOk, OnOk};
 ghost use Rattle.shr_charge.specs.Seat.{uses_of, spent_by};
 ghost use Rattle.shr_charge.specs.Seat as charges;
-ghost use Rattle.shr_core.specs.Gained.{OwesNoMore};
 ghost use Rattle.shr_core.specs.Rule.{AreBorn};
 ghost use Rattle.shr_seats.specs.Shapes.{groups_in};
-ghost use Rattle.shr_core.specs.Seats.{shape_of, view_of};
+ghost use Rattle.shr_core.specs.Seats.{shape_of};
 ghost use Rattle.shr_script.specs.Bounds.{IsCache};
 ghost use Rattle.shr_script.specs.Content.{content_of};
 ghost use Rattle.shr_walk.specs.Keeping.{parents_of};
@@ -36,7 +35,6 @@ pub fn register<R: Wait>(rt: &R, shared: &Shared, seats: &mut Seats, decl: u8) -
     requires cache { IsCache (content_of shared.now.script) decl }
     requires rested { IsRested shared.now seats.old }
     ensures rested { IsRested shared.now seats.new }
-    ensures owed { OwesNoMore (view_of seats.old.cache.core) (view_of seats.new.cache.core) }
     ensures registers { Registers shared.now decl result (state_of seats.old) (state_of seats.new) }
 {
     unfound(register_reply(registering::register(rt, &shared.core, &mut seats.cache.core, decl)))
@@ -88,7 +86,6 @@ pub fn unregister<R: Wait>(
     requires cache { IsCache (content_of shared.now.script) decl }
     requires rested { IsRested shared.now seats.old }
     ensures rested { IsRested shared.now seats.new }
-    ensures owed { OwesNoMore (view_of seats.old.cache.core) (view_of seats.new.cache.core) }
     ensures unregisters { IfOk result (λ a.
         UnregistersNone a (state_of seats.old) (state_of seats.new)
         ⊎ Unregisters shared.now by decl a (state_of seats.old) (state_of seats.new)) }

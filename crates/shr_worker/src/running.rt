@@ -1,8 +1,6 @@
 //! The run of a worker.
 
 ghost use Rattle.std.specs.Prelude.{◌≡◌, ◌<◌, [], IsTrue, OnOk, length};
-ghost use Rattle.shr_core.specs.Gained.{OwesNoMore};
-ghost use Rattle.shr_core.specs.Seats.{view_of};
 ghost use Rattle.shr_plain.specs.Opening.{ArePoolsOf};
 ghost use Rattle.shr_plain.specs.Seat.{IsOf};
 ghost use Rattle.shr_walk.specs.Sharing.{IsShared};
@@ -48,8 +46,6 @@ fn run_commands<R: Wait, G: Gate>(
     requires no_isolation { isolations.old.items ≡ [] }
     ensures number { task.new.number ≡ task.old.number }
     ensures rested { IsRested shared.now task.new.seats }
-    ensures owed { OwesNoMore (view_of task.old.seats.cache.core) (view_of
-        task.new.seats.cache.core) }
     ensures plain { IsOf pools.now task.new.plain }
     ensures all { OnOk result (length answers.new.items
         ≡ length (commands_of shared.now.script task.old.number)) }
@@ -101,7 +97,6 @@ pub fn run_worker<R: Wait, G: Gate>(
     requires task { IsTask shared.now pools.now task }
     ensures number { result.number ≡ task.number }
     ensures rested { IsRested shared.now result.seats }
-    ensures owed { OwesNoMore (view_of task.seats.cache.core) (view_of result.seats.cache.core) }
     ensures plain { IsOf pools.now result.plain }
     ensures all { IsTrue result.whole → length result.answers.items
         ≡ length (commands_of shared.now.script task.number) }

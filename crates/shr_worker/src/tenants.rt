@@ -5,8 +5,6 @@ ghost use Rattle.shr_cache.specs.Dels.{DelGives};
 ghost use Rattle.shr_cache.specs.Gets.{GetGives};
 ghost use Rattle.shr_cache.specs.Pins.{PinGives};
 ghost use Rattle.shr_cache.specs.Puts.{PutGives};
-ghost use Rattle.shr_core.specs.Gained.{OwesNoMore};
-ghost use Rattle.shr_core.specs.Seats.{view_of};
 ghost use Rattle.shr_script.specs.Bounds.{IsObjectWithin};
 ghost use Rattle.shr_script.specs.Content.{content_of};
 ghost use Rattle.shr_walk.specs.Sharing.{IsShared};
@@ -40,7 +38,6 @@ pub fn put<R: Wait>(
     requires within { IsObjectWithin (content_of shared.now.script) group node decl key.now }
     requires rested { IsRested shared.now seats.old }
     ensures rested { IsRested shared.now seats.new }
-    ensures owed { OwesNoMore (view_of seats.old.cache.core) (view_of seats.new.cache.core) }
     ensures puts { PutsNone result (state_of seats.old) (state_of seats.new)
         ⊎ PutGives shared.now by group node decl key.now value.now result
         (state_of seats.old) (state_of seats.new) }
@@ -66,7 +63,6 @@ pub fn get<R: Wait>(
     requires within { IsObjectWithin (content_of shared.now.script) group node decl key.now }
     requires rested { IsRested shared.now seats.old }
     ensures rested { IsRested shared.now seats.new }
-    ensures owed { OwesNoMore (view_of seats.old.cache.core) (view_of seats.new.cache.core) }
     ensures gets { GetGives shared.now by group node decl key.now result
         (state_of seats.old) (state_of seats.new) }
 {
@@ -88,7 +84,6 @@ pub fn del<R: Wait>(
     requires within { IsObjectWithin (content_of shared.now.script) group node decl key.now }
     requires rested { IsRested shared.now seats.old }
     ensures rested { IsRested shared.now seats.new }
-    ensures owed { OwesNoMore (view_of seats.old.cache.core) (view_of seats.new.cache.core) }
     ensures dels { DelGives shared.now by group node decl key.now result
         (state_of seats.old) (state_of seats.new) }
 {
@@ -111,7 +106,6 @@ pub fn set_pin<R: Wait>(
     requires within { IsObjectWithin (content_of shared.now.script) group node decl key.now }
     requires rested { IsRested shared.now seats.old }
     ensures rested { IsRested shared.now seats.new }
-    ensures owed { OwesNoMore (view_of seats.old.cache.core) (view_of seats.new.cache.core) }
     ensures pins { PinGives shared.now by group node decl key.now pinned result
         (state_of seats.old) (state_of seats.new) }
 {

@@ -7,22 +7,23 @@ use Rattle.shr_node.specs.Answers.{DropGives}
 use Rattle.shr_walk.specs.State.{WorkerState, state_of}
 use Rattle.shr_cache.specs.Dels.{DroppedFrom}
 use Rattle.shr_opening.specs.Opening.{Opens}
-use Rattle.shr_cache.proofs.Links.{with_core, with_charge, called, uncharged, owed_called}
+use Rattle.shr_cache.proofs.Links.{with_core, with_charge, called, uncharged, rested_called}
 use Rattle.shr_cache.proofs.Stays.{drop_stays}
 use Rattle.shr_cache.proofs.Told.{on_cache, stayed, dropped}
 use Rattle.shr_cache.proofs.dels.del.Goals as goal
 
-pub returns-then-not-is_dropped-clause-owed : goal.returns-then-not-is_dropped-clause-owed
-returns-then-not-is_dropped-clause-owed g c =
+pub returns-then-not-is_dropped-clause-rested : goal.returns-then-not-is_dropped-clause-rested
+returns-then-not-is_dropped-clause-rested g c =
     let a = c.args in let v = view_of c.open.new.seats.cache.core in let w = view_of c.drop_key-answer.new.seat in
-    owed_called (view_of a.seats.now.cache.core) v w (view_of c.put.new.seat) c.in-Held.ensures.owed
-    (drop_stays (shape_of a.shared.now.core) v w c.in-Held.found.id a.node a.by a.group a.key.now c.drop_key-answer.result c.drop_key-answer.ensures.answer) c.put.ensures.back
+    rested_called a.shared.now c.in-Held.found.id c.open.new.seats c.drop_key-answer.new.seat c.put.new.seat c.in-Held.ensures.after
+    (drop_stays (shape_of a.shared.now.core) v w c.in-Held.found.id a.node a.by a.group a.key.now c.drop_key-answer.result c.drop_key-answer.ensures.answer) c.put.ensures.seat c.put.ensures.back
 
-pub returns-clause-owed : goal.returns-clause-owed
-returns-clause-owed g c =
+pub returns-clause-rested : goal.returns-clause-rested
+returns-clause-rested g c =
     let a = c.args in let v = view_of c.open.new.seats.cache.core in let w = view_of c.drop_key-answer.new.seat in
-    owed_called (view_of a.seats.now.cache.core) v w (view_of c.put.new.seat) c.in-Held.ensures.owed
-    (drop_stays (shape_of a.shared.now.core) v w c.in-Held.found.id a.node a.by a.group a.key.now c.drop_key-answer.result c.drop_key-answer.ensures.answer) c.put.ensures.back
+    let r = rested_called a.shared.now c.in-Held.found.id c.open.new.seats c.drop_key-answer.new.seat c.put.new.seat c.in-Held.ensures.after
+    (drop_stays (shape_of a.shared.now.core) v w c.in-Held.found.id a.node a.by a.group a.key.now c.drop_key-answer.result c.drop_key-answer.ensures.answer) c.put.ensures.seat c.put.ensures.back in
+    record { core = r.core; idle = r.idle; owed = r.owed; charge = c.uncharge.ensures.seat; deferred = r.deferred }
 
 pub returns-then-not-is_dropped-clause-deleted : goal.returns-then-not-is_dropped-clause-deleted
 returns-then-not-is_dropped-clause-deleted g c =

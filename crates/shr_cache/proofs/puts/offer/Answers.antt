@@ -5,16 +5,16 @@ use Rattle.shr_core.specs.Seats.{view_of, shape_of}
 use Rattle.shr_node.specs.Answers.{AddGives}
 use Rattle.shr_walk.specs.State.{state_of}
 use Rattle.shr_cache.specs.Puts.{OfferedFrom}
-use Rattle.shr_cache.proofs.Links.{with_core, called, owed_called}
+use Rattle.shr_cache.proofs.Links.{with_core, called, rested_called}
 use Rattle.shr_cache.proofs.Stays.{add_stays}
 use Rattle.shr_cache.proofs.Charged.{offered}
 use Rattle.shr_cache.proofs.puts.offer.Goals as goal
 
-pub returns-clause-owed : goal.returns-clause-owed
-returns-clause-owed g c =
+pub returns-clause-rested : goal.returns-clause-rested
+returns-clause-rested g c =
     let a = c.args in let v = view_of c.find_cache.new.seats.cache.core in let w = view_of c.add-answer.new.seat in
-    owed_called (view_of a.seats.now.cache.core) v w (view_of c.put.new.seat) c.in-Held.ensures.owed
-    (add_stays (shape_of a.shared.now.core) v w c.in-Held.found.id a.node a.object c.add-answer.result c.add-answer.ensures.answer) c.put.ensures.back
+    rested_called a.shared.now c.in-Held.found.id c.find_cache.new.seats c.add-answer.new.seat c.put.new.seat c.in-Held.ensures.after
+    (add_stays (shape_of a.shared.now.core) v w c.in-Held.found.id a.node a.object c.add-answer.result c.add-answer.ensures.answer) c.put.ensures.seat c.put.ensures.back
 
 pub returns-clause-offered : goal.returns-clause-offered
 returns-clause-offered g c =

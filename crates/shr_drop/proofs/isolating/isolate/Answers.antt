@@ -1,10 +1,9 @@
-use Rattle.std.proofs.Common.{◌≡◌, ◌<◌, ℕ, List, [], ◌∷◌, ◌++◌, get_or, ap, sym, subst, ◌∙◌}
+use Rattle.std.proofs.Common.{◌≡◌, ℕ, List, [], ◌∷◌, ◌++◌, get_or, ap, sym, subst, ◌∙◌}
 use Rattle.std.proofs.lemmas.Option.{slice_get_read}
 use Rattle.shr_base.specs.declared.places.Place.{Place}
 use Rattle.shr_base.specs.declared.scripts.CacheDecl.{CacheDecl}
 use Rattle.shr_base.specs.declared.walks.Isolation.{Isolation}
 use Rattle.shr_model.specs.Places.{place_number}
-use Rattle.shr_seats.specs.Weights.{times}
 use Rattle.shr_core.specs.declared.view.View.{View}
 use Rattle.shr_core.specs.Seats.{IsPlaceOf, shape_of}
 use Rattle.shr_walk.specs.Keeping.{Keeps}
@@ -42,10 +41,6 @@ returns-clause-rested g c = let h = c.in-Held.ensures.after in let a = c.args in
     rested_then a.shared.now (place_of c.in-Held.found a.node a.group) _ a.by d.policy c.open.new.seats c.visit_all-made.new.seats c.put.new.seat h
     (subst (λ (l : Listing). Keeps l.shared (place_number l.place) l.walk l.by l.policy c.open.new.seats.cache c.visit_all-made.new.seats.cache) c.new-lister.ensures c.visit_all-made.ensures.kept)
     c.visit_all-made.ensures.same c.put.ensures.seat c.put.ensures.back
-
-pub returns-clause-owed : goal.returns-clause-owed
-returns-clause-owed g c = let kept = subst (λ (l : Listing). Keeps l.shared (place_number l.place) l.walk l.by l.policy c.open.new.seats.cache c.visit_all-made.new.seats.cache) c.new-lister.ensures c.visit_all-made.ensures.kept in
-    λ k owes. c.in-Held.ensures.owed k (kept.walks.owed k (subst (λ (v : View). 0 < times k v.marks.owed) c.put.ensures.back owes))
 
 pub returns-clause-isolated : goal.returns-clause-isolated
 returns-clause-isolated g c = let a = c.args in let x = a.shared.now in let f = c.in-Held.found in let d = c.index-as_slice-decl.result in let made = c.visit_all-made.result in let seats = c.visit_all-made.new.seats in

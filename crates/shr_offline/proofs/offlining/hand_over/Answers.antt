@@ -6,23 +6,14 @@ use Rattle.shr_offline.proofs.Handed.{rested_after, with_charge, with_carries, h
 use Rattle.shr_offline.proofs.offlining.hand_over.Goals as goal
 
 pub returns-in-Worn-clause-rested : goal.returns-in-Worn-clause-rested
-returns-in-Worn-clause-rested g c = let x = c.args.shared.now in let r = c.requires.rested in rested_after x c.args.seats.now c.splice_all.new.seat r.charge r.deferred c.in-Worn.ensures.seat (splices_stay (shape_of x.core) c.args.group (splice.Worn c.in-Worn.spent) (view_of c.args.seats.now.cache.core) (view_of c.splice_all.new.seat) c.in-Worn.ensures.answer) r.idle
-
-pub returns-in-Worn-clause-owed : goal.returns-in-Worn-clause-owed
-returns-in-Worn-clause-owed g c = let x = c.args.shared.now in (splices_stay (shape_of x.core) c.args.group (splice.Worn c.in-Worn.spent) (view_of c.args.seats.now.cache.core) (view_of c.splice_all.new.seat) c.in-Worn.ensures.answer).owed
+returns-in-Worn-clause-rested g c = let x = c.args.shared.now in let r = c.requires.rested in rested_after x c.args.seats.now c.splice_all.new.seat r.charge r.deferred c.in-Worn.ensures.seat (splices_stay (shape_of x.core) c.args.group (splice.Worn c.in-Worn.spent) (view_of c.args.seats.now.cache.core) (view_of c.splice_all.new.seat) c.in-Worn.ensures.answer) r.idle r.owed
 
 pub returns-in-Memory-clause-rested : goal.returns-in-Memory-clause-rested
-returns-in-Memory-clause-rested g c = let x = c.args.shared.now in let r = c.requires.rested in rested_after x c.args.seats.now c.splice_all.new.seat r.charge r.deferred c.in-Memory.ensures.seat (splices_stay (shape_of x.core) c.args.group splice.Memory (view_of c.args.seats.now.cache.core) (view_of c.splice_all.new.seat) c.in-Memory.ensures.answer) r.idle
-
-pub returns-in-Memory-clause-owed : goal.returns-in-Memory-clause-owed
-returns-in-Memory-clause-owed g c = let x = c.args.shared.now in (splices_stay (shape_of x.core) c.args.group splice.Memory (view_of c.args.seats.now.cache.core) (view_of c.splice_all.new.seat) c.in-Memory.ensures.answer).owed
+returns-in-Memory-clause-rested g c = let x = c.args.shared.now in let r = c.requires.rested in rested_after x c.args.seats.now c.splice_all.new.seat r.charge r.deferred c.in-Memory.ensures.seat (splices_stay (shape_of x.core) c.args.group splice.Memory (view_of c.args.seats.now.cache.core) (view_of c.splice_all.new.seat) c.in-Memory.ensures.answer) r.idle r.owed
 
 pub returns-in-Done-clause-rested : goal.returns-in-Done-clause-rested
 returns-in-Done-clause-rested g c = let x = c.args.shared.now in let s = with_carries (with_charge c.args.seats.now c.done_offline.new.seat) c.carry_all-deferred.new.seat c.carry_all-deferred.new.carries in
-    rested_after x s c.splice_all.new.seat c.in-Done.ensures.seat c.carry_all-deferred.ensures.seat c.in-Spliced.ensures.seat (splices_stay (shape_of x.core) c.args.group (splice.Spliced c.in-Spliced.moved) (view_of c.args.seats.now.cache.core) (view_of c.splice_all.new.seat) c.in-Spliced.ensures.answer) c.requires.rested.idle
-
-pub returns-in-Done-clause-owed : goal.returns-in-Done-clause-owed
-returns-in-Done-clause-owed g c = let x = c.args.shared.now in (splices_stay (shape_of x.core) c.args.group (splice.Spliced c.in-Spliced.moved) (view_of c.args.seats.now.cache.core) (view_of c.splice_all.new.seat) c.in-Spliced.ensures.answer).owed
+    rested_after x s c.splice_all.new.seat c.in-Done.ensures.seat c.carry_all-deferred.ensures.seat c.in-Spliced.ensures.seat (splices_stay (shape_of x.core) c.args.group (splice.Spliced c.in-Spliced.moved) (view_of c.args.seats.now.cache.core) (view_of c.splice_all.new.seat) c.in-Spliced.ensures.answer) c.requires.rested.idle c.requires.rested.owed
 
 pub returns-in-Done-clause-handed : goal.returns-in-Done-clause-handed
 returns-in-Done-clause-handed g c = let x = c.args.shared.now in let did = c.in-Done.ensures in
@@ -31,10 +22,7 @@ returns-in-Done-clause-handed g c = let x = c.args.shared.now in let did = c.in-
 
 pub returns-in-AlreadyDone-clause-rested : goal.returns-in-AlreadyDone-clause-rested
 returns-in-AlreadyDone-clause-rested g c = let x = c.args.shared.now in let s = with_carries (with_charge c.args.seats.now c.done_offline.new.seat) c.carry_all-deferred.new.seat c.carry_all-deferred.new.carries in
-    rested_after x s c.splice_all.new.seat c.in-AlreadyDone.ensures.seat c.carry_all-deferred.ensures.seat c.in-Spliced.ensures.seat (splices_stay (shape_of x.core) c.args.group (splice.Spliced c.in-Spliced.moved) (view_of c.args.seats.now.cache.core) (view_of c.splice_all.new.seat) c.in-Spliced.ensures.answer) c.requires.rested.idle
-
-pub returns-in-AlreadyDone-clause-owed : goal.returns-in-AlreadyDone-clause-owed
-returns-in-AlreadyDone-clause-owed g c = let x = c.args.shared.now in (splices_stay (shape_of x.core) c.args.group (splice.Spliced c.in-Spliced.moved) (view_of c.args.seats.now.cache.core) (view_of c.splice_all.new.seat) c.in-Spliced.ensures.answer).owed
+    rested_after x s c.splice_all.new.seat c.in-AlreadyDone.ensures.seat c.carry_all-deferred.ensures.seat c.in-Spliced.ensures.seat (splices_stay (shape_of x.core) c.args.group (splice.Spliced c.in-Spliced.moved) (view_of c.args.seats.now.cache.core) (view_of c.splice_all.new.seat) c.in-Spliced.ensures.answer) c.requires.rested.idle c.requires.rested.owed
 
 pub returns-in-AlreadyDone-clause-handed : goal.returns-in-AlreadyDone-clause-handed
 returns-in-AlreadyDone-clause-handed g c = let x = c.args.shared.now in let did = c.in-AlreadyDone.ensures in record {

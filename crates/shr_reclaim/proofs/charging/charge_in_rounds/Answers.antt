@@ -1,9 +1,6 @@
 use Rattle.std.proofs.Common.{◌-◌, ◌<◌, refl, sym, subst, arith}
 use Rattle.shr_charge.specs.declared.answers.ChargeAnswer.{ChargeAnswer}
 use Rattle.shr_charge.specs.Seat.{uses_of}
-use Rattle.shr_core.specs.declared.seat.Seat.{Seat}
-use Rattle.shr_core.specs.Seats.{view_of}
-use Rattle.shr_seats.specs.Weights.{times}
 use Rattle.shr_walk.specs.State.{WorkerState, state_of}
 use Rattle.shr_reclaim.specs.Rounds.{WalksFirst, due_in}
 use Rattle.shr_reclaim.specs.Trying.{Refusal}
@@ -21,7 +18,6 @@ loop-priority-init g c = let e = c.in_ok-answer.ensures in record {
   tried = tried_first c.args.shared.now c.args.by c.args.group c.in_ok-answer.answer (state_of c.args.seats.now) (state_of c.charge_once.new.seats) e.tried;
   there = e.there;
   room = e.room;
-  owed = λ k h. subst (λ (seat : Seat). 0 < times k (view_of seat).marks.owed) e.core h;
   shared = refl;
 }
 
@@ -65,6 +61,5 @@ loop-priority-preserved g c = let inv = c.loop-priority.invariant in let x = c.a
       tried = tried_more x c.args.by c.args.group n r did.0 s t u c.loop-priority-test.true tried c.in_ok-answer-2.answer (state_of c.charge_once-in-loop-priority.new.seats) did.1 e.tried;
       there = e.there;
       room = e.room;
-      owed = λ k h. inv.owed k (c.walk_round.ensures.owed k (subst (λ (seat : Seat). 0 < times k (view_of seat).marks.owed) e.core h));
       shared = refl;
     }

@@ -1,6 +1,4 @@
 use Rattle.std.proofs.Common.{◌≡◌, ◌≤◌}
-use Rattle.shr_core.specs.Gained.{OwesNoMore}
-use Rattle.shr_core.specs.Seats.{view_of}
 use Rattle.shr_model.specs.Groups.{depth_of}
 use Rattle.shr_walk.specs.State.{IsRested, state_of}
 use Rattle.shr_reclaim.specs.Looping.{RefusedThere}
@@ -13,6 +11,5 @@ invariant-loop-priority g l = record {
   tried : HasTried l.shared l.by l.group l.priority l.answer (state_of l.fn.seats) (state_of l.seats);
   there : RefusedThere l.shared l.answer;
   room : depth_of l.shared.charge.shape.parents.items l.group ≤ l.seats.cache.uses.spare;
-  owed : OwesNoMore (view_of l.fn.seats.cache.core) (view_of l.seats.cache.core);
   shared : l.shared ≡ l.fn.shared;
 }

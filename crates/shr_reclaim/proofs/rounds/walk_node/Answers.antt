@@ -19,7 +19,6 @@ loop-group-init g c = record {
   rested = c.requires.rested;
   groups = refl;
   walked = ([], none_walked c.args.shared.now c.args.by (state_of c.args.seats.now));
-  owed = λ k h. h;
   shared = refl;
 }
 
@@ -35,7 +34,6 @@ loop-group-preserved g c = let inv = c.loop-group.invariant in let x = c.args.sh
         subst (λ (l : List Job). WalksAll x c.args.by l (inv.walked.0 ++ v ∷ []) (state_of c.args.seats.now) (state_of c.walk_one-answer.new.seats)) (sym (on_more node p gs i c.loop-group-test.true))
             (all_more x c.args.by (jobs_on node p (take i gs)) inv.walked.0 v (state_of c.args.seats.now) (state_of c.loop-group.seats) inv.walked.1 c.walk_one-answer.ensures.walked (sym c.is_short.ensures ∙ c.if-is_short.false)),
       );
-      owed = λ k h. inv.owed k (c.walk_one-answer.ensures.owed k h);
       shared = refl;
     }
 

@@ -1,6 +1,4 @@
 use Rattle.std.proofs.Common.{◌≡◌, List, take}
-use Rattle.shr_core.specs.Gained.{OwesNoMore}
-use Rattle.shr_core.specs.Seats.{view_of}
 use Rattle.shr_walk.specs.State.{IsRested, state_of}
 use Rattle.shr_reclaim.specs.Looping.{jobs_on}
 use Rattle.shr_reclaim.specs.Rounds.{Visit, WalksAll}
@@ -11,6 +9,5 @@ invariant-loop-group g l = record {
   rested : IsRested l.shared l.seats;
   groups : l.groups ≡ l.fn.groups;
   walked : (walks : List Visit) × WalksAll l.shared l.by (jobs_on l.node l.priority (take l.group-index l.groups)) walks (state_of l.fn.seats) (state_of l.seats);
-  owed : OwesNoMore (view_of l.fn.seats.cache.core) (view_of l.seats.cache.core);
   shared : l.shared ≡ l.fn.shared;
 }

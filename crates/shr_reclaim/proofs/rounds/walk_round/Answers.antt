@@ -31,7 +31,6 @@ loop-node-preserved g c = let inv = c.loop-node.invariant in let x = c.args.shar
     record {
       rested = c.walk_node.ensures.rested;
       walked = (inv.walked.0 ++ did.0, subst (λ (l : List Job). WalksAll x c.args.by l (inv.walked.0 ++ did.0) s u) (sym (jobs_more x p c.args.group n low)) (all_then x c.args.by (jobs_to x p c.args.group n) on inv.walked.0 did.0 s t u inv.walked.1 more));
-      owed = λ k h. inv.owed k (c.walk_node.ensures.owed k h);
       shared = refl;
     }
 

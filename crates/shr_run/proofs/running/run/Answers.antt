@@ -49,4 +49,4 @@ returns-clause-ran g c = let t = c.in_ok-tables.tables in let opened = c.in_ok-t
     subst (λ (logs : List WorkerLog). AreEnds logs c.in_ok-ends.ends) (sym joins.logs)
     (ends_of t.shared t.pools c.in_ok-tables.first c.split_all.new.first c.join_all.new.first c.in_ok-tasks.tasks.items c.in_ok-results.results.items c.in_ok-swept.swept.items
     (sym c.in_ok-tasks.tasks.ok.0 ∙ tasks.len) tasks.tasks (sym c.in_ok-results.results.ok.0 ∙ (run.len ∙ c.in_ok-tasks.tasks.ok.0)) run.run c.in_ok-swept.ensures joins.whole
-    opened.shared opened.from_start opened.pools opened.ready tasks.first tasks.plain joins.joined c.in_ok-ends.ends ended.script ended.core ended.deferred ended.charge ended.words ended.pools)
+    opened.shared opened.from_start opened.pools opened.ready tasks.first tasks.plain joins.joined c.in_ok-ends.ends ended.script ended.core ended.deferred ended.history ended.charge ended.words ended.pools)

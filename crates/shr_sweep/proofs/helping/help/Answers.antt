@@ -14,7 +14,6 @@ loop-turn-init g c = record {
   pass = c.requires.pass.0;
   helped = helped_none c.args.shared.now c.args.by c.args.priority c.args.nofs (passes.view_of c.args.pass.now) (state_of c.args.seats.now);
   few = omega arith;
-  owed = λ k h. h;
   shared = refl;
   queue = refl;
 }
@@ -68,7 +67,6 @@ loop-turn-preserved g c = let inv = c.loop-turn.invariant in let a = c.args in l
       (helped_more a.shared.now a.by a.priority a.nofs c.loop-turn.jobs c.loop-turn.freed (passes.view_of a.pass.now) (passes.view_of c.loop-turn.pass) s (state_of c.loop-turn.seats) inv.helped c.in-Some-pop.job (passes.view_of c.pop.new.pass) c.in-Some-pop.ensures.popped
       c.walk_one-answer.result u c.walk_one-answer.ensures.walked (sym c.is_short.ensures ∙ c.if-is_short.false));
   few = omega (arith, inv.few, c.walk_one-answer.ensures.few, c.told-freed.ensures);
-  owed = λ k h. inv.owed k (c.walk_one-answer.ensures.owed k h);
   shared = refl;
   queue = refl;
 }

@@ -1,5 +1,4 @@
 use Rattle.std.proofs.Common.{◌≡◌, ◌*◌, ◌^◌, ◌≤◌}
-use Rattle.shr_core.specs.Gained.{OwesNoMore}
 use Rattle.shr_core.specs.Seats.{view_of}
 use Rattle.shr_pool.specs.Passes as passes
 use Rattle.shr_walk.specs.State.{IsRested, state_of}
@@ -12,7 +11,6 @@ invariant-loop-turn g l = record {
   pass : passes.IsOf l.queue l.pass;
   helped : HasHelped l.shared l.by l.priority l.nofs l.jobs l.freed (passes.view_of l.fn.pass) (passes.view_of l.pass) (state_of l.fn.seats) (state_of l.seats);
   few : l.freed ≤ 2 ^ 53 * l.jobs;
-  owed : OwesNoMore (view_of l.fn.seats.cache.core) (view_of l.seats.cache.core);
   shared : l.shared ≡ l.fn.shared;
   queue : l.queue ≡ l.fn.queue;
 }

@@ -50,6 +50,5 @@ loop-group-preserved g c = let inv = c.loop-group.invariant in let x = c.args.sh
       few = omega (arith, inv.few, c.walk_one-answer.ensures.few, c.told-freed.ensures);
       balanced = subst (λ (n : ℕ). IsBalancedTo x walk (i + 1) (c.loop-group.freed + n) (state_of c.args.seats.now) (state_of c.walk_one-answer.new.seats)) (sym c.told-freed.ensures)
           (balanced_more x walk i c.loop-group.freed (state_of c.args.seats.now) (state_of c.loop-group.seats) (state_of c.walk_one-answer.new.seats) a (omega (arith, same, c.loop-group-test.true)) inv.balanced one (sym c.is_short.ensures ∙ c.if-is_short.false));
-      owed = λ k h. inv.owed k (c.walk_one-answer.ensures.owed k h);
       shared = refl;
     }

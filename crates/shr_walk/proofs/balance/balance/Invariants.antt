@@ -1,6 +1,4 @@
 use Rattle.std.proofs.Common.{◌≡◌, ◌*◌, ◌^◌, ◌≤◌, length}
-use Rattle.shr_core.specs.Seats.{view_of}
-use Rattle.shr_core.specs.Gained.{OwesNoMore}
 use Rattle.shr_walk.specs.Balances.{all_groups}
 use Rattle.shr_walk.specs.State.{IsRested, state_of}
 use Rattle.shr_walk.proofs.Balancing.{IsBalancedTo}
@@ -13,6 +11,5 @@ invariant-loop-group g l = record {
   within : l.group-index ≤ length l.groups;
   few : l.freed ≤ 2 ^ 53 * l.group-index;
   balanced : IsBalancedTo l.shared (record { by = l.fn.by; number = length l.fn.seats.walks.items; group = 0; node = l.fn.node; priority = l.fn.priority; nofs = l.fn.nofs }) l.group-index l.freed (state_of l.fn.seats) (state_of l.seats);
-  owed : OwesNoMore (view_of l.fn.seats.cache.core) (view_of l.seats.cache.core);
   shared : l.shared ≡ l.fn.shared;
 }

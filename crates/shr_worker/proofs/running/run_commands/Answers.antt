@@ -14,8 +14,7 @@ use Rattle.shr_worker.proofs.running.run_commands.Goals as goal
 pub loop-k-init : goal.loop-k-init
 loop-k-init g c = let t = c.args.task.now in let s = crew_of t.seats t.plain [] in let r = c.requires.task.rested in let none = c.reserve.ensures.items ∙ c.requires.none in record {
   number = refl;
-  rested = record { core = r.core; idle = r.idle; charge = r.charge; deferred = r.deferred };
-  owed = λ k h. h;
+  rested = record { core = r.core; idle = r.idle; owed = r.owed; charge = r.charge; deferred = r.deferred };
   plain = c.requires.task.plain;
   few = let none = ap (λ (l : List PlainWalk). length l) c.requires.task.plain_walks in omega (arith, none);
   count = ap (λ (l : List Answered). length l) none;
@@ -49,7 +48,6 @@ loop-k-preserved g c = let x = c.args.shared.now in let n = c.args.task.now.numb
     let gives = subst (λ (m : ℕ). DeedGives x (serial_of m k) command answered s t) c.loop-k.invariant.number told in record {
       number = c.loop-k.invariant.number;
       rested = c.run_command.ensures.rested;
-      owed = λ j h. c.loop-k.invariant.owed j (c.run_command.ensures.owed j h);
       plain = c.run_command.ensures.plain_seat;
       few = omega (arith, walks, one);
       count = ap (λ (l : List Answered). length l) pushed ∙ omega (arith, length-append before (answered ∷ []), count);

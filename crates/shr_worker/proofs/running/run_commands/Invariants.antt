@@ -1,6 +1,4 @@
 use Rattle.std.proofs.Common.{◌≡◌, ◌≤◌, [], length}
-use Rattle.shr_core.specs.Gained.{OwesNoMore}
-use Rattle.shr_core.specs.Seats.{view_of}
 use Rattle.shr_plain.specs.Seat.{IsOf}
 use Rattle.shr_walk.specs.State.{IsRested}
 use Rattle.shr_worker.specs.Chain.{IsWorkOf, crew_of}
@@ -10,7 +8,6 @@ abbrev pub invariant-loop-k : goal.invariant-loop-k
 invariant-loop-k g l = record {
   number : l.task.number ≡ l.fn.task.number;
   rested : IsRested l.shared l.task.seats;
-  owed : OwesNoMore (view_of l.fn.task.seats.cache.core) (view_of l.task.seats.cache.core);
   plain : IsOf l.pools l.task.plain;
   few : length l.task.plain.walks.items ≤ l.k;
   count : length l.answers.items ≡ l.k;

@@ -1,19 +1,22 @@
-use Rattle.std.proofs.Common.{List, subst, sym}
+use Rattle.std.proofs.Common.{List, subst, sym, ◌∙◌}
 use Rattle.std.proofs.lemmas.Result.{IfOk-weaker}
 use Rattle.std.specs.Mem.Slots.{slots_items}
 use Rattle.atomic_table.specs.Table.{Final, Seen}
 use Rattle.shr_base.specs.declared.ends.PlaceAmount.{PlaceAmount}
 use Rattle.shr_seats.specs.declared.rows.Sizes.{Sizes}
 use Rattle.shr_deferred.specs.History.{HasHistory}
-use Rattle.shr_deferred.specs.Rule.{IsSound}
-use Rattle.shr_deferred.proofs.Amounts.{ends, history_left}
+use Rattle.shr_deferred.specs.Rule.{IsSound, strands_in}
+use Rattle.shr_deferred.proofs.Amounts.{ends, order_left}
 use Rattle.shr_deferred.proofs.table.Deferred.finish.Goals as goal
 
 pub returns-clause-history : goal.returns-clause-history
 returns-clause-history c = let d = c.args.self in let closed = c.close_with-closed.result in let v = c.args.seat.me.0 in
     let ended = ends d.sizes c.args.seat.id v (slots_items closed.words) (slots_items closed.slots) c.requires.first c.requires.seat.seat.here c.requires.whole d.some.1 d.some.2
     (subst (λ (s : Sizes). Final (Seen (IsSound s) c.args.seat.id v) (slots_items closed.words) (slots_items closed.slots)) d.keyed c.close_with-closed.ensures.values.2) in
-    IfOk-weaker c.amounts_of-left.result _ _ (λ x is. subst (λ (l : List PlaceAmount). HasHistory d.sizes v.did l) (sym is) ended) c.amounts_of-left.ensures
+    IfOk-weaker c.amounts_of-left.result _ _ (λ x is. subst (λ (l : List PlaceAmount). HasHistory d.sizes (strands_in v) l) (sym is) ended) c.amounts_of-left.ensures
 
 pub returns-clause-left : goal.returns-clause-left
-returns-clause-left c = IfOk-weaker c.amounts_of-left.result _ _ (λ x h. history_left c.args.self.sizes c.args.seat.me.0.did x.items h) (returns-clause-history c)
+returns-clause-left c = let d = c.args.self in let closed = c.close_with-closed.result in let v = c.args.seat.me.0 in
+    let ended = order_left d.sizes c.args.seat.id v (slots_items closed.words) (slots_items closed.slots) c.requires.first c.requires.seat.seat.here c.requires.whole d.some.1 d.some.2
+    (subst (λ (s : Sizes). Final (Seen (IsSound s) c.args.seat.id v) (slots_items closed.words) (slots_items closed.slots)) d.keyed c.close_with-closed.ensures.values.2) in
+    IfOk-weaker c.amounts_of-left.result _ _ (λ x is. is ∙ ended) c.amounts_of-left.ensures

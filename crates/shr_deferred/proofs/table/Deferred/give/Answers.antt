@@ -26,5 +26,7 @@ returns-clause-step c = let told = c.add_as.ensures.told.1 in record {
   id = c.add_as.ensures.table.1;
   did = ap (λ (m : Me (Unit {0}) View). m.0.did) told;
   moves = moves_more c.args.seat.now.id _ _ (give_of c.args.place c.args.n) (ap (λ (m : Me (Unit {0}) View). m.0.did) told);
+  own = ap (λ (m : Me (Unit {0}) View). m.0.own) told;
+  joined = ap (λ (m : Me (Unit {0}) View). m.0.joined) told;
   standing = ap (λ (m : Me (Unit {0}) View). m.0.standing) told;
 }

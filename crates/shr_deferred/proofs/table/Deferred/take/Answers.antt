@@ -28,5 +28,7 @@ returns-clause-step c = let told = c.swap_as.ensures.told.0 in record {
   id = c.swap_as.ensures.table.1;
   did = ap (λ (m : Me (Unit {0}) View). m.0.did) told;
   moves = moves_more c.args.seat.now.id _ _ (take_of c.args.place c.swap_as.result) (ap (λ (m : Me (Unit {0}) View). m.0.did) told);
+  own = ap (λ (m : Me (Unit {0}) View). m.0.own) told;
+  joined = ap (λ (m : Me (Unit {0}) View). m.0.joined) told;
   standing = ap (λ (m : Me (Unit {0}) View). m.0.standing) told;
 }
