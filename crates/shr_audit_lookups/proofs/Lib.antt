@@ -1,1 +1,2 @@
-mod Covering
+mod Deciding
+mod Whole

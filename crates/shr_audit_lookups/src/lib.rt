@@ -1,5 +1,8 @@
 //! What the lookups of a report met, against its journal of registrations. Our own.
 #![tactic(auto)]
 
-mod cover;
+pub mod found;
+pub mod law;
 pub mod met;
+#[cfg(test)]
+mod tests;

@@ -1,18 +1,19 @@
 //! What attempts met.
 
-ghost use Rattle.std.specs.Prelude.{◌≡◌, ℕ, Some, slice_get, IfOk};
+ghost use Rattle.std.specs.Prelude.{◌≡◌, ℕ, Some, is_some, slice_get, IfOk};
 ghost use Rattle.std.specs.Bool.{Decides};
 ghost use Rattle.shr_base.specs.declared.ends.WorkerPart.{WorkerPart};
 ghost use Rattle.shr_formed.specs.Each.{Each};
 ghost use Rattle.shr_model.specs.Attempts.{is_held, number_of};
-ghost use Rattle.shr_report.specs.Parts.{EachAttempt};
-ghost use Rattle.shr_audit_lookups.specs.Cover.{AreCovers};
+ghost use Rattle.shr_report.specs.Parts.{EachAttempt, lookups_at};
+ghost use Rattle.shr_model.specs.Pool.{attempt_at, decl_at, registrations};
+ghost use Rattle.shr_registrations.specs.Met.{IsMetIn};
 ghost use Rattle.shr_audit_lookups.specs.Met.{AreMetRight, IsMetRight};
 
-use crate::cover::{covers_of, is_met};
 use shr_base::ends::WorkerPart;
 use shr_base::memory::Memory;
 use shr_base::walks::{Attempt, Outcome, WalkRecord};
+use shr_registrations::met::Met;
 use shr_report::report::Report;
 use std::alloc::Global;
 
@@ -43,28 +44,60 @@ fn is_held(outcome: &Outcome) -> bool
     }
 }
 
+// The printed lookups of an id; none of one that isn't there.
+fn lookups_at(report: &Report, id: u16) -> u32
+    ensures { result ≡ lookups_at report.now id }
+{
+    let lookups = report.lookups.as_slice();
+    if (id as usize) < lookups.len() {
+        lookups[id as usize]
+    } else {
+        0
+    }
+}
+
+// The declaration in whose registration the lookup of an id lies.
+fn decl_met(report: &Report, met: &Met, id: u16, number: u32) -> Option<u8>
+    requires { IsMetIn report.now.pool.items met.now }
+    ensures { result ≡ decl_at number (registrations id report.now.pool.items) }
+{
+    met.decl(id, number)
+}
+
+// Whether the lookup of an id with this number was made, and met a registration.
+fn is_met(report: &Report, met: &Met, id: u16, number: u32) -> bool
+    requires { IsMetIn report.now.pool.items met.now }
+    ensures { result ≡ is_some (attempt_at id number (lookups_at report.now id)
+        report.now.pool.items) }
+{
+    if number >= lookups_at(report, id) {
+        return false;
+    }
+    decl_met(report, met, id, number).is_some()
+}
+
 // Whether an attempt with a number was held if and only if its lookup met a registration.
-fn is_met_right(report: &Report, covers: &[Vec<bool>], attempt: &Attempt) -> bool
-    requires { AreCovers report.now.lookups.items report.now.pool.items covers.now }
+fn is_met_right(report: &Report, met: &Met, attempt: &Attempt) -> bool
+    requires { IsMetIn report.now.pool.items met.now }
     ensures { Decides result (IsMetRight report.now attempt.now) }
 {
     match number_of(&attempt.outcome) {
         Some(number) => {
-            let met = is_met(report, covers, attempt.id, number);
+            let there = is_met(report, met, attempt.id, number);
             let held = is_held(&attempt.outcome);
-            held == met
+            held == there
         }
         None => true,
     }
 }
 
 // Whether each attempt of a walk was.
-fn are_attempts_right(report: &Report, covers: &[Vec<bool>], walk: &WalkRecord) -> bool
-    requires { AreCovers report.now.lookups.items report.now.pool.items covers.now }
+fn are_attempts_right(report: &Report, met: &Met, walk: &WalkRecord) -> bool
+    requires { IsMetIn report.now.pool.items met.now }
     ensures { Decides result (EachAttempt walk.now (IsMetRight report.now)) }
 {
     for attempt in walk.attempts.as_slice() {
-        if !is_met_right(report, covers, attempt) {
+        if !is_met_right(report, met, attempt) {
             return false;
         }
     }
@@ -72,12 +105,12 @@ fn are_attempts_right(report: &Report, covers: &[Vec<bool>], walk: &WalkRecord) 
 }
 
 // Whether each of these walks was.
-fn are_walks_right(report: &Report, covers: &[Vec<bool>], walks: &[WalkRecord]) -> bool
-    requires { AreCovers report.now.lookups.items report.now.pool.items covers.now }
+fn are_walks_right(report: &Report, met: &Met, walks: &[WalkRecord]) -> bool
+    requires { IsMetIn report.now.pool.items met.now }
     ensures { Decides result (Each (λ w. EachAttempt w (IsMetRight report.now)) walks.now) }
 {
     for walk in walks {
-        if !are_attempts_right(report, covers, walk) {
+        if !are_attempts_right(report, met, walk) {
             return false;
         }
     }
@@ -85,14 +118,14 @@ fn are_walks_right(report: &Report, covers: &[Vec<bool>], walks: &[WalkRecord]) 
 }
 
 // Whether each of these parts was.
-fn are_parts_right(report: &Report, covers: &[Vec<bool>], parts: &[WorkerPart]) -> bool
-    requires { AreCovers report.now.lookups.items report.now.pool.items covers.now }
+fn are_parts_right(report: &Report, met: &Met, parts: &[WorkerPart]) -> bool
+    requires { IsMetIn report.now.pool.items met.now }
     ensures { Decides result ((worker : ℕ) (part : WorkerPart)
         → slice_get parts.now worker ≡ Some part
         → Each (λ w. EachAttempt w (IsMetRight report.now)) part.walks.items) }
 {
     for worker in 0..parts.len() {
-        if !are_walks_right(report, covers, parts[worker].walks.as_slice()) {
+        if !are_walks_right(report, met, parts[worker].walks.as_slice()) {
             return false;
         }
     }
@@ -100,12 +133,11 @@ fn are_parts_right(report: &Report, covers: &[Vec<bool>], parts: &[WorkerPart]) 
 }
 
 /// Whether each attempt that made a lookup was held if and only if the lookup's number lies in a
-/// registration of its id. It keeps a byte for each lookup that the report prints, so a report of
-/// which these aren't known to be drawn can want any memory; `Memory` is want of it alone. Our own.
+/// registration of its id. `Memory` is want of it alone. Our own.
 pub fn are_met_right(alloc: Global, report: &Report) -> Result<bool, Memory>
     ensures { IfOk result (λ b. Decides b (AreMetRight report.now)) }
 {
-    let covers = covers_of(alloc, report.lookups.as_slice(), report.pool.as_slice())?;
-    let right = are_parts_right(report, covers.as_slice(), report.workers.as_slice());
+    let met = Met::of(alloc, report.pool.as_slice())?;
+    let right = are_parts_right(report, &met, report.workers.as_slice());
     Ok(right)
 }

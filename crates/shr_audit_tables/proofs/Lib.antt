@@ -2,7 +2,7 @@ mod Amounts
 mod Words
 mod Steps
 mod Carried
-mod States
+pub mod States
 mod Replay
 mod TablesValues
 mod Rows

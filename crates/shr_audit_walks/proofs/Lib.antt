@@ -1,10 +1,10 @@
 mod Rising
 mod Tried
 mod Arithmetic
-mod Parts
+pub mod Parts
 mod Scanned
-mod Ranged
+pub mod Ranged
 mod Counted
-mod ShapedLaw
+pub mod ShapedLaw
 mod WalksValues
 mod Answered

@@ -23,7 +23,6 @@ use Rattle.shr_report.proofs.SecondReport.{kept}
 use Rattle.shr_audit_walks.specs.declared.scans.ScanSeen.{ScanSeen}
 use Rattle.shr_audit_walks.specs.Seen.{ids_below}
 use Rattle.shr_audit_walks.specs.Fields.{IsBareOffline, IsWhole, IsMapped, IsOfRoot, AreTried, AreFirstTries, IsRoomAt, IsRoomLast, freed_by, freed_in}
-use Rattle.shr_audit_walks.specs.Met.{lookup_key}
 use Rattle.shr_audit_walks.specs.Scans.{made_of, freed_of_scan, IsScanOf}
 use Rattle.shr_audit_walks.specs.Commands.{StandByCommand, IsAnswerTold, walks_with}
 use Rattle.shr_base.specs.declared.replies.Reply.TheVariants as reply
@@ -104,9 +103,6 @@ freed_in_pass : freed_in (ran Through) ≡ 5
 freed_in_pass = refl
 
 -- ---- lookups, scans, counts and commands
-
-third_lookup : lookup_key 1 3 ≡ 4294967299
-third_lookup = refl
 
 abbrev scan : ScanSeen
 scan = record { worker = 0; walk = 2; place = record { id = 0; node = 0; group = 1 }; number = 4; asked = 128; policy = Plain; freed = 6 }

@@ -1,6 +1,5 @@
 pub mod Seen
 pub mod Fields
-pub mod Met
 pub mod Scans
 pub mod Kinds
 pub mod Counts

@@ -4,18 +4,19 @@ ghost use Rattle.std.specs.Prelude.{◌≡◌};
 ghost use Rattle.std.specs.Bool.{Decides};
 ghost use Rattle.shr_formed.specs.Each.{Each};
 ghost use Rattle.shr_audit_walks.specs.Kinds.{IsKindAt, IsStopAt};
-ghost use Rattle.shr_audit_walks.specs.Met.{AreMetOf, IsMetOf};
+ghost use Rattle.shr_registrations.specs.Met.{IsMetIn};
 
 use crate::alone::pass_of;
-use crate::met::{Met, cache_of, is_held};
+use crate::met::{cache_of, is_held};
 use crate::passes::{is_outcome_of, is_stopped};
 use shr_base::scripts::Script;
 use shr_base::walks::{Attempt, WalkRecord};
+use shr_registrations::met::Met;
 use shr_report::report::Report;
 
 // Whether an attempt, if it was held, has an outcome of its cache.
 fn is_kind_at(script: &Script, report: &Report, met: &Met, priority: u8, attempt: &Attempt) -> bool
-    requires { IsMetOf report.now met.now attempt.now }
+    requires { IsMetIn report.now.pool.items met.now }
     ensures { Decides result (IsKindAt script.now report.now priority attempt.now) }
 {
     if !is_held(&attempt.outcome) {
@@ -35,7 +36,7 @@ fn is_stop_at(
     walk: &WalkRecord,
     attempt: &Attempt,
 ) -> bool
-    requires { IsMetOf report.now met.now attempt.now }
+    requires { IsMetIn report.now.pool.items met.now }
     ensures { Decides result (IsStopAt script.now report.now walk.now attempt.now) }
 {
     let Some(pass) = pass_of(&attempt.outcome) else {
@@ -48,9 +49,9 @@ fn is_stop_at(
 }
 
 /// Whether each held attempt of a walk has an outcome of its cache. What each lookup met is known
-/// (`AreMetOf`). Our own.
+/// (`Met`). Our own.
 pub fn are_kinds(script: &Script, report: &Report, met: &Met, walk: &WalkRecord) -> bool
-    requires { AreMetOf report.now met.now walk.now }
+    requires { IsMetIn report.now.pool.items met.now }
     ensures { Decides result (Each (IsKindAt script.now report.now walk.now.priority)
         walk.now.attempts.items) }
 {
@@ -64,9 +65,9 @@ pub fn are_kinds(script: &Script, report: &Report, met: &Met, walk: &WalkRecord)
 }
 
 /// Whether each pass of a walk stopped if and only if an ask was due and the walk can't scan its
-/// cache. What each lookup met is known (`AreMetOf`). Our own.
+/// cache. What each lookup met is known (`Met`). Our own.
 pub fn are_stops(script: &Script, report: &Report, met: &Met, walk: &WalkRecord) -> bool
-    requires { AreMetOf report.now met.now walk.now }
+    requires { IsMetIn report.now.pool.items met.now }
     ensures { Decides result (Each (IsStopAt script.now report.now walk.now)
         walk.now.attempts.items) }
 {

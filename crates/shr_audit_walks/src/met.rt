@@ -1,32 +1,16 @@
-//! Which declaration each lookup met.
+//! The caches that attempts met.
 
 ghost use Rattle.std.specs.Prelude.{◌≡◌, option_copied};
 ghost use Rattle.shr_model.specs.Attempts.{is_held, number_of};
+ghost use Rattle.shr_model.specs.Pool.{decl_at, registrations};
 ghost use Rattle.shr_report.specs.LawfulWalk.{cache_of};
 ghost use Rattle.shr_report.specs.Parts.{lookups_at};
-ghost use Rattle.shr_audit_walks.specs.Met.{IsMetOf, decl_met};
+ghost use Rattle.shr_registrations.specs.Met.{IsMetIn};
 
 use shr_base::scripts::{CacheDecl, Script};
 use shr_base::walks::{Attempt, Outcome};
+use shr_registrations::met::Met;
 use shr_report::report::Report;
-use std::collections::BTreeMap;
-
-/// The declarations that lookups met, by their id and number; those that met none are not among
-/// them. Our own.
-#[derive(Drop)]
-pub struct Met {
-    decls: BTreeMap<u64, u8>,
-}
-
-impl Met {
-    /// The declaration that a lookup met. Our own.
-    pub fn decl(&self, id: u16, number: u32) -> Option<u8>
-        ensures { result ≡ decl_met self.now id number }
-    {
-        let key = 4_294_967_296 * id as u64 + number as u64;
-        self.decls.get(&key).copied()
-    }
-}
 
 /// The number of an attempt's lookup, if there was one. Our own.
 pub fn number_of(outcome: &Outcome) -> Option<u32>
@@ -63,6 +47,14 @@ fn lookups_at(report: &Report, id: u16) -> u32
     }
 }
 
+// The declaration in whose registration the lookup of an id lies.
+fn decl_met(report: &Report, met: &Met, id: u16, number: u32) -> Option<u8>
+    requires { IsMetIn report.now.pool.items met.now }
+    ensures { result ≡ decl_at number (registrations id report.now.pool.items) }
+{
+    met.decl(id, number)
+}
+
 /// The cache in whose registration the lookup of an attempt lies. Our own.
 pub fn cache_of<'a>(
     script: &'a Script,
@@ -70,7 +62,7 @@ pub fn cache_of<'a>(
     met: &Met,
     attempt: &Attempt,
 ) -> Option<&'a CacheDecl>
-    requires { IsMetOf report.now met.now attempt.now }
+    requires { IsMetIn report.now.pool.items met.now }
     ensures { option_copied result ≡ cache_of script.now report.now attempt.now }
 {
     let Some(number) = number_of(&attempt.outcome) else {
@@ -79,7 +71,7 @@ pub fn cache_of<'a>(
     if number >= lookups_at(report, attempt.id) {
         return None;
     }
-    let Some(decl) = met.decl(attempt.id, number) else {
+    let Some(decl) = decl_met(report, met, attempt.id, number) else {
         return None;
     };
     script.caches.get(decl as usize)

@@ -12,4 +12,4 @@ returns c =
     let r = c.args.report.now in
     let b = c.are_parts_right-right.result in
     each_walk_of r (λ worker n w. EachAttempt w (IsMetRight r)) b
-    (subst (λ (parts : List WorkerPart). Decides b ((worker : ℕ) (part : WorkerPart) → slice_get parts worker ≡ Some part → Each (λ w. EachAttempt w (IsMetRight r)) part.walks.items)) c.as_slice-4.ensures c.are_parts_right-right.ensures)
+    (subst (λ (parts : List WorkerPart). Decides b ((worker : ℕ) (part : WorkerPart) → slice_get parts worker ≡ Some part → Each (λ w. EachAttempt w (IsMetRight r)) part.walks.items)) c.as_slice-2.ensures c.are_parts_right-right.ensures)

@@ -1,0 +1,46 @@
+-- What is tested of a found cache, against what the law says of it.
+use Rattle.std.proofs.Common.{◌≡◌, ℕ, ◌<◌, ◌≤◌, Bool, true, false, cond, List, length, get_or, take, drop, Option, Some, None, refl, sym, ap, subst, ◌∙◌}
+use Rattle.std.specs.Prelude.{slice_get}
+use Rattle.std.specs.Bool.{Decides}
+use Rattle.std.proofs.lemmas.Option.{slice_get-get_or}
+use Rattle.shr_base.specs.declared.replies.Found.{Found}
+use Rattle.shr_formed.proofs.Eachs.{fails}
+use Rattle.shr_model.specs.Pool.{decl_of, end_of, from_of, is_live}
+use Rattle.shr_report.specs.declared.report.Report.{Report}
+use Rattle.shr_report.specs.Lookups.{IsFoundRight}
+use Rattle.shr_registrations.specs.declared.steps.Registration.{Registration}
+use Rattle.shr_registrations.specs.Live.{live_now}
+use Rattle.shr_audit_lookups.specs.Found.{IsLiveRight}
+
+-- what is so of the command that is there
+pub at_some : {X : Type 0} (o : Option X) (x : X) (P : X → Type 0) (b : Bool) → Some x ≡ o → Decides b (P x) → Decides b ((y : X) → o ≡ Some y → P y)
+at_some {X} o x P b e d = (λ t y is. subst P (same y (e ∙ is)) (d.0 t), λ h. d.1 (h x (sym e)))
+  where
+    same : (y : X) → ◌≡◌ {A = Option X} (Some x) (Some y) → x ≡ y
+    same y f = cc
+
+-- where one item by its number isn't so, not all are
+pub one_fails : {X : Type 0} (P : ℕ → X → Type 0) (xs : List X) (i : ℕ) (x : X) (b : Bool) → i < length xs → x ≡ get_or xs i x → Decides b (P i x) → b ≡ false → Decides false ((n : ℕ) (y : X) → slice_get xs n ≡ Some y → P n y)
+one_fails {X} P xs i x b lt is d f = fails (P i x) ((n : ℕ) (y : X) → slice_get xs n ≡ Some y → P n y) b d f (λ all. all i x (slice_get-get_or xs i x lt ∙ ap (λ (y : X). Some y) (sym is)))
+
+-- the registration that the id of a found cache was in
+abbrev now : Report → Found → Registration
+now r f = record { decl = decl_of f.id (take f.entry r.pool.items); from = from_of f.id (take f.entry r.pool.items); to = end_of f.id (drop f.entry r.pool.items) }
+
+pub found_decided : (r : Report) (decl : ℕ) (f : Found) (live : Option Registration) (b : Bool) → f.entry ≤ length r.pool.items → live ≡ live_now f.id r.pool.items f.entry
+    → Decides b (IsLiveRight live decl f.number) → Decides b (IsFoundRight r decl f)
+found_decided r decl f live b there e d = by (is_live f.id (take f.entry r.pool.items)) refl
+  where
+    by : (l : Bool) → is_live f.id (take f.entry r.pool.items) ≡ l → Decides b (IsFoundRight r decl f)
+    by true is =
+        let at : live ≡ Some (now r f) = e ∙ ap (λ (l : Bool). cond l (Some (now r f)) None) is in
+        let d' : Decides b (IsLiveRight (Some (now r f)) decl f.number) = subst (λ (o : Option Registration). Decides b (IsLiveRight o decl f.number)) at d in (
+          λ t. (let h = d'.0 t in record { there = there; live = is; decl_is = h.0; from = h.1.0; to = h.1.1 }),
+          λ h. d'.1 (h.decl_is, (h.from, h.to)),
+        )
+    by false is =
+        let at : live ≡ None = e ∙ ap (λ (l : Bool). cond l (Some (now r f)) None) is in
+        let d' : Decides b (IsLiveRight None decl f.number) = subst (λ (o : Option Registration). Decides b (IsLiveRight o decl f.number)) at d in (
+          λ t. absurd (d'.0 t),
+          λ h. absurd (let g : false ≡ true = sym is ∙ h.live in cc),
+        )

@@ -1,0 +1,14 @@
+use Rattle.shr_formed.proofs.Eachs.{more_at, all_at}
+use Rattle.shr_audit_lookups.specs.Found.{IsFindAt}
+use Rattle.shr_audit_lookups.proofs.Deciding.{one_fails}
+use Rattle.shr_audit_lookups.proofs.found.are_finds_right.Goals as goal
+
+pub returns-then-not-is_find_at : goal.returns-then-not-is_find_at
+returns-then-not-is_find_at c =
+    one_fails (IsFindAt c.args.script.now c.args.report.now c.args.worker) c.args.answers.now c.loop-number.number c.index-answers-number.result c.is_find_at.result c.loop-number-test.true c.index-answers-number.is c.is_find_at.ensures c.if-not-is_find_at.true
+
+pub loop-number-preserved : goal.loop-number-preserved
+loop-number-preserved c = more_at (IsFindAt c.args.script.now c.args.report.now c.args.worker) c.args.answers.now c.loop-number.number c.index-answers-number.result c.loop-number-test.true c.index-answers-number.is c.loop-number.invariant (c.is_find_at.ensures.0 c.if-not-is_find_at.false)
+
+pub returns : goal.returns
+returns c = all_at (IsFindAt c.args.script.now c.args.report.now c.args.worker) c.args.answers.now c.loop-number.number c.loop-number-test.false c.loop-number.invariant

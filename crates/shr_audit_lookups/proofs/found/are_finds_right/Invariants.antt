@@ -1,0 +1,7 @@
+use Rattle.std.proofs.Common.{◌≡◌, ◌<◌, ℕ, Some, slice_get}
+use Rattle.shr_base.specs.declared.replies.Answered.{Answered}
+use Rattle.shr_audit_lookups.specs.Found.{IsFindAt}
+use Rattle.shr_audit_lookups.proofs.found.are_finds_right.Given as goal
+
+abbrev pub invariant-loop-number : goal.invariant-loop-number
+invariant-loop-number l = (n : ℕ) (a : Answered) → n < l.number → slice_get l.answers n ≡ Some a → IsFindAt l.script l.report l.worker n a

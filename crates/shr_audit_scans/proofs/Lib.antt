@@ -1,0 +1,9 @@
+mod Keyed
+mod Noted
+mod Ordered
+mod Added
+mod Passed
+mod OthersLaw
+mod LawfulLaw
+mod Found
+mod ScansValues

@@ -1,0 +1,7 @@
+use Rattle.std.proofs.Common.{◌≡◌, ◌<◌, ℕ, Some, slice_get}
+use Rattle.shr_base.specs.declared.ends.PlaceEnd.{PlaceEnd}
+use Rattle.shr_audit_scans.proofs.OthersLaw.{IsListOfPasses}
+use Rattle.shr_audit_scans.proofs.others.are_no_others.Given as goal
+
+abbrev pub invariant-loop-k : goal.invariant-loop-k
+invariant-loop-k l = (j : ℕ) (end : PlaceEnd) → j < l.k → slice_get l.ends j ≡ Some end → IsListOfPasses l.report l.ends j end

@@ -1,0 +1,9 @@
+use Rattle.std.proofs.Common.{◌≡◌, ◌<◌, ℕ, Some, slice_get}
+use Rattle.shr_base.specs.declared.journals.Entry.{Entry}
+use Rattle.shr_report.specs.declared.report.Report.{Report}
+use Rattle.shr_audit_scans.specs.Others.{IsEntryOfPass}
+use Rattle.shr_audit_scans.specs.Passes.{ArePassesOf}
+use Rattle.shr_audit_scans.proofs.others.are_of_passes.Given as goal
+
+abbrev pub invariant-loop-entry : goal.invariant-loop-entry
+invariant-loop-entry l = (r : Report) → ArePassesOf r l.passes → (n : ℕ) (e : Entry) → n < l.entry-index → slice_get l.entries n ≡ Some e → IsEntryOfPass r l.place e

@@ -1,0 +1,16 @@
+use Rattle.std.proofs.Common.{List, ◌++◌, ap, ◌∙◌}
+use Rattle.std.specs.Prelude.{flat_map}
+use Rattle.shr_base.specs.declared.walks.Attempt.{Attempt}
+use Rattle.shr_audit_scans.specs.Passes.{keys_at}
+use Rattle.shr_audit_scans.proofs.Added.{flat_all, flat_step}
+use Rattle.shr_audit_scans.proofs.passes.note_walk.Goals as goal
+
+pub loop-attempt-preserved : goal.loop-attempt-preserved
+loop-attempt-preserved c =
+    flat_step (keys_at c.args.worker c.args.n c.args.walk.now) c.as_slice-attempt-items.result.now c.loop-attempt.attempt-index _ c.args.keys.now.items c.loop-attempt.keys.items c.note_attempt.new.keys.items
+    c.loop-attempt-test.true c.loop-attempt.invariant c.in_ok-note_attempt.ensures
+
+pub returns : goal.returns
+returns c =
+    flat_all (keys_at c.args.worker c.args.n c.args.walk.now) c.as_slice-attempt-items.result.now c.loop-attempt.attempt-index c.args.keys.now.items c.loop-attempt.keys.items c.loop-attempt-test.false c.loop-attempt.invariant
+    ∙ ap (λ (xs : List Attempt). c.args.keys.now.items ++ flat_map (keys_at c.args.worker c.args.n c.args.walk.now) xs) c.as_slice-attempt-items.ensures

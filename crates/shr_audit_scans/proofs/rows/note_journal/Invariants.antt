@@ -1,0 +1,8 @@
+use Rattle.std.proofs.Common.{◌≡◌, ◌++◌, take}
+use Rattle.std.specs.Prelude.{filter_map}
+use Rattle.std.specs.List.{enumerate_from}
+use Rattle.shr_audit_scans.proofs.Noted.{row_at}
+use Rattle.shr_audit_scans.proofs.rows.note_journal.Given as goal
+
+abbrev pub invariant-loop-number : goal.invariant-loop-number
+invariant-loop-number l = l.rows.items ≡ l.fn.rows.items ++ filter_map (row_at l.place) (take l.number (enumerate_from 0 l.entries))

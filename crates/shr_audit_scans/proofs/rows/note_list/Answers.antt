@@ -1,0 +1,15 @@
+use Rattle.std.proofs.Common.{◌≡◌, List, ◌++◌, ap, ◌∙◌}
+use Rattle.std.proofs.lemmas.Option.{get_or_from_slice_get}
+use Rattle.shr_base.specs.declared.ends.PlaceEnd.{PlaceEnd}
+use Rattle.shr_base.specs.declared.journals.Entry.{Entry}
+use Rattle.shr_audit_scans.specs.Rows.{rows_of}
+use Rattle.shr_audit_scans.proofs.rows.note_list.Goals as goal
+
+pub returns-in_ok-note_journal : goal.returns-in_ok-note_journal
+returns-in_ok-note_journal c = record {
+  first = λ end at first.
+      let here = get_or_from_slice_get c.args.ends.now c.args.k end c.index-ends-k.result at in
+      let entries : c.as_slice.result.now ≡ end.entries.items = c.as_slice.ensures ∙ ap (λ (x : PlaceEnd). x.entries.items) (get_or_from_slice_get c.args.ends.now c.args.k end _ at) in
+      c.in_ok-note_journal.ensures ∙ ap (λ (x : PlaceEnd). c.args.rows.now.items ++ rows_of x.place c.as_slice.result.now) here ∙ ap (λ (es : List Entry). c.args.rows.now.items ++ rows_of end.place es) entries;
+  later = λ end at later. absurd (later ((c.is_first.ensures end at).0 c.if-is_first.true));
+}

@@ -1,0 +1,11 @@
+use Rattle.std.proofs.Common.{rules}
+use Rattle.std.proofs.lemmas.List.Sorted.{answers_always, IsNonDecreasingBy-from_sort}
+use Rattle.shr_audit_scans.specs.Keys.{row_key}
+use Rattle.shr_audit_scans.proofs.Ordered.{same_order}
+use Rattle.shr_audit_scans.proofs.table.sorted.Goals as goal
+
+pub returns-clause-order : goal.returns-clause-order
+returns-clause-order c = IsNonDecreasingBy-from_sort row_key _ (c.in_ok-sort_by_key.ensures.sorted row_key (answers_always _ _ _ (λ f a r g h. search rules)))
+
+pub returns-clause-same : goal.returns-clause-same
+returns-clause-same c = same_order c.args.rows.items _ (c.in_ok-sort_by_key.ensures.stable row_key (answers_always _ _ _ (λ f a r g h. search rules)))

@@ -1,0 +1,7 @@
+use Rattle.std.proofs.Common.{◌≡◌, ◌<◌, ℕ, Some, slice_get}
+use Rattle.shr_base.specs.declared.walks.WalkRecord.{WalkRecord}
+use Rattle.shr_report.specs.LawfulWalk.{IsLawfulWalk}
+use Rattle.shr_audit_scans.proofs.walks.are_lawful.Given as goal
+
+abbrev pub invariant-loop-n : goal.invariant-loop-n
+invariant-loop-n l = (m : ℕ) (w : WalkRecord) → m < l.n → slice_get l.walks m ≡ Some w → IsLawfulWalk l.known.script.now l.known.report.now l.worker m w

@@ -1,0 +1,144 @@
+//! Whether each walk of a report is lawful.
+
+ghost use Rattle.std.specs.Prelude.{◌≡◌, IfOk};
+ghost use Rattle.std.specs.Bool.{Decides};
+ghost use Rattle.shr_model.specs.Walks.{place_in};
+ghost use Rattle.shr_formed.specs.Each.{Each};
+ghost use Rattle.shr_report.specs.LawfulWalk.{IsLawfulWalk};
+ghost use Rattle.shr_report.specs.Numbers.{HasNumbers};
+ghost use Rattle.shr_report.specs.Parts.{EachWalk};
+ghost use Rattle.shr_audit_scans.specs.Walks.{AreLawful, IsKnown, IsScannedAt};
+
+use crate::table::Scans;
+use shr_audit_walks::alone::pass_of;
+use shr_audit_walks::counts::are_counts;
+use shr_audit_walks::kinds::{are_kinds, are_stops};
+use shr_audit_walks::met::cache_of;
+use shr_audit_walks::scans::are_scans_of;
+use shr_audit_walks::shape::is_shaped;
+use shr_base::memory::Memory;
+use shr_base::places::Place;
+use shr_base::scripts::Script;
+use shr_base::walks::{Attempt, WalkRecord};
+use shr_case::case::Case;
+use shr_registrations::met::Met;
+use shr_report::report::Report;
+use std::alloc::Global;
+
+/// What is known of a report before its walks are tested: what its journals leave, which declaration
+/// each lookup met, and the Scan entries of each pass. Our own.
+#[derive(Clone, Copy)]
+pub struct Known<'a> {
+    pub script: &'a Script,
+    pub report: &'a Report,
+    pub case: &'a Case,
+    pub met: &'a Met,
+    pub scans: &'a Scans,
+}
+
+// The place of an id on the walk's node and in its group.
+fn place_in(walk: &WalkRecord, id: u16) -> Place
+    ensures { result ≡ place_in walk.now id }
+{
+    Place {
+        id,
+        node: walk.node,
+        group: walk.group,
+    }
+}
+
+// Whether the Scan entries of the walk with this number of a worker at the place of an attempt are
+// those of its pass, if one ran.
+fn is_scanned_at(known: &Known, worker: u16, n: usize, walk: &WalkRecord, attempt: &Attempt) -> bool
+    requires { IsKnown known.now }
+    ensures { Decides result (IsScannedAt known.now.script.now known.now.report.now
+        worker n walk.now attempt.now) }
+{
+    let Some(pass) = pass_of(&attempt.outcome) else {
+        return true;
+    };
+    let Some(decl) = cache_of(known.script, known.report, known.met, attempt) else {
+        return true;
+    };
+    let place = place_in(walk, attempt.id);
+    let scans = known.scans.of_pass(worker, n as u64, place);
+    are_scans_of(walk.priority, decl, &pass, scans)
+}
+
+// Whether so it is with each pass of a walk.
+fn are_scanned(known: &Known, worker: u16, n: usize, walk: &WalkRecord) -> bool
+    requires { IsKnown known.now }
+    ensures { Decides result (Each (IsScannedAt known.now.script.now known.now.report.now
+        worker n walk.now) walk.now.attempts.items) }
+{
+    let attempts = walk.attempts.as_slice();
+    for k in 0..attempts.len() {
+        if !is_scanned_at(known, worker, n, walk, &attempts[k]) {
+            return false;
+        }
+    }
+    true
+}
+
+/// Whether the walk with this number of a worker is lawful. Our own.
+pub fn is_lawful_walk(
+    alloc: Global,
+    known: &Known,
+    worker: u16,
+    n: usize,
+    walk: &WalkRecord,
+) -> Result<bool, Memory>
+    requires { IsKnown known.now }
+    ensures { IfOk result (λ b. Decides b (IsLawfulWalk known.now.script.now known.now.report.now
+        worker n walk.now)) }
+{
+    if !is_shaped(alloc, known.script, walk)? {
+        return Ok(false);
+    }
+    if !are_kinds(known.script, known.report, known.met, walk) {
+        return Ok(false);
+    }
+    if !are_stops(known.script, known.report, known.met, walk) {
+        return Ok(false);
+    }
+    if !are_counts(known.case, known.report, walk) {
+        return Ok(false);
+    }
+    let scanned = are_scanned(known, worker, n, walk);
+    Ok(scanned)
+}
+
+// Whether each of these walks of a worker is.
+fn are_lawful(
+    alloc: Global,
+    known: &Known,
+    worker: u16,
+    walks: &[WalkRecord],
+) -> Result<bool, Memory>
+    requires { IsKnown known.now }
+    ensures { IfOk result (λ b. Decides b (AreLawful known.now.script.now known.now.report.now
+        worker walks.now)) }
+{
+    for n in 0..walks.len() {
+        if !is_lawful_walk(alloc, known, worker, n, &walks[n])? {
+            return Ok(false);
+        }
+    }
+    Ok(true)
+}
+
+/// Whether each walk of a report is lawful. Our own.
+pub fn are_walks_each(alloc: Global, known: &Known) -> Result<bool, Memory>
+    requires known { IsKnown known.now }
+    requires numbers { HasNumbers known.now.report.now }
+    ensures { IfOk result (λ b. Decides b (EachWalk known.now.report.now
+        (IsLawfulWalk known.now.script.now known.now.report.now))) }
+{
+    let parts = known.report.workers.as_slice();
+    for worker in 0..parts.len() {
+        if !are_lawful(alloc, known, worker as u16, parts[worker].walks.as_slice())? {
+            return Ok(false);
+        }
+    }
+    Ok(true)
+}
