@@ -2,7 +2,7 @@ mod Answering
 mod RisingLaws
 mod FloorLaws
 mod WalkFloors
-mod Upto
+pub mod Upto
 mod FirstLaws
 mod OnLaws
 mod RefusedLaws
