@@ -3,15 +3,18 @@ use Rattle.std.proofs.Common.{◌≡◌, ℕ, ◌<◌, ◌≤◌, true, false, L
 use Rattle.std.specs.Prelude.{◌^◌, ◌-◌}
 use Rattle.shr_base.specs.declared.places.Serial.{Serial}
 use Rattle.shr_base.specs.declared.journals.Entry.TheVariants.{Drained}
+use Rattle.shr_base.specs.declared.journals.PoolEntry.{PoolEntry}
+use Rattle.shr_base.specs.declared.journals.PoolEntry.TheVariants.{Registered, Unregistered, Idle}
 use Rattle.shr_base.specs.declared.journals.TreeEntry.TheVariants.{Begin, Done}
 use Rattle.shr_base.specs.declared.replies.Reply.TheVariants as reply
 use Rattle.shr_base.specs.declared.scripts.Command.TheVariants as command
 use Rattle.shr_base.specs.declared.walks.Outcome.TheVariants as outcome
+use Rattle.shr_model.specs.Pool.{phase_of}
 use Rattle.shr_report.proofs.FirstReport.{script, report}
 use Rattle.shr_audit_causes.specs.declared.cites.Cited.{Cited}
 use Rattle.shr_audit_causes.specs.declared.cites.Cited.TheVariants.{Never, Once, Often}
 use Rattle.shr_audit_causes.specs.declared.cites.What.TheVariants as say
-use Rattle.shr_audit_causes.specs.Cites.{CitesNow, IsEarlier, Tells, cited_in, is_registered_by, is_unregistered_by, noted_at}
+use Rattle.shr_audit_causes.specs.Cites.{CitesNow, IsEarlier, IsIdledBy, IsOf, IsSecondOf, Tells, cited_in, is_registered_by, is_unregistered_by, noted_at}
 use Rattle.shr_audit_causes.specs.Trees.{IsBeginCited, IsDoneOnce, is_cited, is_once}
 use Rattle.shr_audit_causes.specs.Walks.{IsAttemptCaused, IsDrainedRightly}
 
@@ -29,11 +32,32 @@ freed = refl
 freed_by_another : is_unregistered_by 7 (reply.Freed 0 6 1 2 3) ≡ false
 freed_by_another = refl
 
-begun : CitesNow say.Begun (Some (command.Offline 2)) reply.Memory 2
+begun : CitesNow report say.Begun (Some (command.Offline 2)) reply.Memory 2
 begun = (refl, tt)
 
-begun_by_root : CitesNow say.Begun (Some (command.Offline 0)) reply.Root 0 → ⊥
+begun_by_root : CitesNow report say.Begun (Some (command.Offline 0)) reply.Root 0 → ⊥
 begun_by_root h = h.1
+
+-- ---- entries of an id
+
+abbrev entries : List PoolEntry
+entries = Registered 1 0 0 ∷ Unregistered 1 0 5 ∷ Registered 2 3 0 ∷ Idle 0 ∷ []
+
+next_here : IsOf entries 0 1
+next_here = refl
+
+of_another : IsOf entries 0 2 → ⊥
+of_another h = absurd cc
+
+second : IsSecondOf entries 0 1 3
+unfolding phase_of
+second = (refl, omega arith, refl)
+
+idled : IsIdledBy entries 3 (reply.Freed 0 1 0 5 2)
+idled = second
+
+idled_by_half : IsIdledBy entries 3 (reply.Memory) → ⊥
+idled_by_half h = h
 
 -- ---- the table
 
@@ -46,7 +70,7 @@ table = Never ∷ Once 0 3 ∷ []
 noted : noted_at (Some 0) 1 5 table ≡ Once 1 5 ∷ Once 0 3 ∷ []
 noted = refl
 
-noted_again : noted_at (Some 1) 1 5 table ≡ Never ∷ Often ∷ []
+noted_again : noted_at (Some 1) 1 5 table ≡ Never ∷ Often 0 3 true ∷ []
 noted_again = refl
 
 nothing_noted : noted_at None 1 5 table ≡ table
@@ -71,10 +95,10 @@ tells_none h = h (by 0 3) refl
 once : is_once (Once 0 3) ≡ true
 once = refl
 
-often_is_not_once : is_once Often ≡ false
+often_is_not_once : is_once (Often 0 3 true) ≡ false
 often_is_not_once = refl
 
-often_is_cited : is_cited Often ≡ true
+often_is_cited : is_cited (Often 0 3 false) ≡ true
 often_is_cited = refl
 
 done_once : IsDoneOnce table 1 (Done 2)

@@ -1,4 +1,6 @@
 mod Noting
-mod Treeing
+pub mod Treeing
 mod Wearing
+mod Phases
+mod Making
 mod CausesValues

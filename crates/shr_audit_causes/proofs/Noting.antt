@@ -1,6 +1,6 @@
 -- Answers noted one after another.
 use Rattle.std.proofs.Common.{◌≡◌, ℕ, zero, suc, ◌++◌, [], ◌∷◌, ◌+◌, ◌<◌, ◌≤◌, Bool, true, false, List, length, Option, Some, None, refl, sym, ap, subst, ◌∙◌, ◌⊎◌, inl, inr, arith}
-use Rattle.std.specs.Prelude.{◌==◌, ◌↔◌, slice_get, option_map}
+use Rattle.std.specs.Prelude.{◌==◌, not, ◌||◌, ◌↔◌, slice_get, option_map}
 use Rattle.std.specs.Option.{IsSomeAnd}
 use Rattle.std.proofs.lemmas.Bool.Decides.{nat_tests}
 use Rattle.std.proofs.lemmas.List.{get_or-set_same, get_or-set_other, length-set}
@@ -16,19 +16,6 @@ use Rattle.shr_audit_causes.specs.declared.cites.What.{What}
 use Rattle.shr_audit_causes.specs.declared.cites.Cited.{Cited}
 use Rattle.shr_audit_causes.specs.declared.cites.Cited.TheVariants.{Never, Once, Often}
 use Rattle.shr_audit_causes.specs.Cites.{AreCited, AreCitedBefore, Cites, CitesNow, IsEarlier, IsNever, NotesAnswer, Tells, after_cited, cited_in, noted_at}
-
--- the same is told of what is so of the same commands
-pub tells_same : (P Q : Serial → Type 0) → ((x : Serial) → P x → Q x) → ((x : Serial) → Q x → P x) → (c : Cited) → Tells P c → Tells Q c
-tells_same P Q to from Never t = λ x q. t x (from x q)
-tells_same P Q to from (Once w k) t = (to (serial_of w k) t.0, λ x q. t.1 x (from x q))
-tells_same P Q to from Often t = (t.0, (t.1.0, (t.1.1.0, (to t.0 t.1.1.1.0, to t.1.0 t.1.1.1.1))))
-
--- one more is so
-tells_more : (P Q : Serial → Type 0) (w k : ℕ) → ((x : Serial) → P x → Q x) → ((x : Serial) → Q x → P x ⊎ (x ≡ serial_of w k)) → (P (serial_of w k) → ⊥) → Q (serial_of w k) → (c : Cited) → Tells P c → Tells Q (after_cited c w k)
-tells_more P Q w k to from new own Never t = (own, λ x q. elim (from x q) [ inl p ↦ absurd (t x p) | inr same ↦ same ])
-tells_more P Q w k to from new own (Once v j) t =
-    (serial_of v j, (serial_of w k, ((λ same. new (subst P same t.0)), (to (serial_of v j) t.0, own))))
-tells_more P Q w k to from new own Often t = (t.0, (t.1.0, (t.1.1.0, (to t.0 t.1.1.1.0, to t.1.0 t.1.1.1.1))))
 
 -- ---- the order of commands
 
@@ -57,6 +44,84 @@ before_or_itself w k x (inr h) = by_order (x.command == k) refl
         inr (ap (λ (v : ℕ). serial_of v x.command) h.0 ∙ ap (λ (j : ℕ). serial_of w j) same)
     by_order false f = inl (inr (h.0, (let below = h.1 in let other : x.command ≡ k → ⊥ = grind (arith, nat_tests) in grind arith)))
 
+-- the same is told of what is so of the same commands
+pub tells_same : (P Q : Serial → Type 0) → ((x : Serial) → P x → Q x) → ((x : Serial) → Q x → P x) → (c : Cited) → Tells P c → Tells Q c
+tells_same P Q to from Never t = λ x q. t x (from x q)
+tells_same P Q to from (Once w k) t = (to (serial_of w k) t.0, λ x q. t.1 x (from x q))
+tells_same P Q to from (Often w k others) t = record {
+  so = to (serial_of w k) t.so;
+  two = (t.two.0, t.two.1, to t.two.0 t.two.2);
+  first = λ x q same. t.first x (from x q) same;
+  alone = λ e x q. t.alone e x (from x q);
+  apart = λ e. (let y = t.apart e in (y.0, y.1, to y.0 y.2));
+}
+
+-- tests of workers
+same_of : (v w : ℕ) → not (v == w) ≡ false → w ≡ v
+same_of v w e = by (v == w) refl e
+  where
+    by : (b : Bool) → (v == w) ≡ b → not b ≡ false → w ≡ v
+    by true f g = let same : v ≡ w = grind (arith, nat_tests) in sym same
+    by false f g = absurd cc
+
+apart_of : (v w : ℕ) → not (v == w) ≡ true → w ≡ v → ⊥
+apart_of v w e same = by (v == w) refl e
+  where
+    by : (b : Bool) → (v == w) ≡ b → not b ≡ true → ⊥
+    by true f g = absurd cc
+    by false f g = let other : v ≡ w → ⊥ = grind (arith, nat_tests) in other (sym same)
+
+or_false : (a b : Bool) → (a || b) ≡ false → (a ≡ false) × (b ≡ false)
+or_false true b e = absurd cc
+or_false false b e = (refl, e)
+
+or_true : (a b : Bool) → (a || b) ≡ true → (a ≡ true) ⊎ (b ≡ true)
+or_true true b e = inl refl
+or_true false b e = inr e
+
+-- one more is so, which comes behind all of which it was
+module _ (P Q : Serial → Type 0) (w k : ℕ) (to : (x : Serial) → P x → Q x) (from : (x : Serial) → Q x → P x ⊎ (x ≡ serial_of w k)) (earlier : (x : Serial) → P x → IsEarlier w k x) (own : Q (serial_of w k)) where
+  not_itself : (x : Serial) → P x → serial_of w k ≡ x → ⊥
+  not_itself x p same = not_before_itself w k (subst (IsEarlier w k) (sym same) (earlier x p))
+
+  firsts : (v j : ℕ) → P (serial_of v j) → ((x : Serial) → P x → x.worker ≡ v → j ≤ x.command) → (x : Serial) → Q x → x.worker ≡ v → j ≤ x.command
+  firsts v j so first x q same = elim (from x q) [
+    | inl p ↦ first x p same
+    | inr is ↦
+        let here : w ≡ v = sym (ap (λ (y : Serial). y.worker) is) ∙ same in
+        let command : x.command ≡ k = ap (λ (y : Serial). y.command) is in
+        elim (earlier (serial_of v j) so) [
+          | inl below ↦ let lt : v < w = below in absurd (omega (arith, lt, here))
+          | inr h ↦ let lt : j < k = h.1 in omega (arith, lt, command)
+        ]
+  ]
+
+  pub tells_more : (c : Cited) → Tells P c → Tells Q (after_cited c w k)
+  tells_more Never t = (own, λ x q. elim (from x q) [ inl p ↦ absurd (t x p) | inr same ↦ same ])
+  tells_more (Once v j) t = record {
+    so = to (serial_of v j) t.0;
+    two = (serial_of w k, not_itself (serial_of v j) t.0, own);
+    first = firsts v j t.0 (λ x p same. (let e = ap (λ (y : Serial). y.command) (t.1 x p) in omega (arith, e)));
+    alone = λ e x q. elim (from x q) [
+      | inl p ↦ ap (λ (y : Serial). y.worker) (t.1 x p)
+      | inr is ↦ ap (λ (y : Serial). y.worker) is ∙ same_of v w e
+    ];
+    apart = λ e. (serial_of w k, apart_of v w e, own);
+  }
+  tells_more (Often v j others) t = record {
+    so = to (serial_of v j) t.so;
+    two = (t.two.0, t.two.1, to t.two.0 t.two.2);
+    first = firsts v j t.so t.first;
+    alone = λ e x q. elim (from x q) [
+      | inl p ↦ t.alone (or_false others (not (v == w)) e).0 x p
+      | inr is ↦ ap (λ (y : Serial). y.worker) is ∙ same_of v w (or_false others (not (v == w)) e).1
+    ];
+    apart = λ e. elim (or_true others (not (v == w)) e) [
+      | inl holds ↦ (let y = t.apart holds in (y.0, y.1, to y.0 y.2))
+      | inr other ↦ (serial_of w k, apart_of v w other, own)
+    ];
+  }
+
 -- ---- one answer
 
 -- an answer that says nothing of an entry
@@ -72,7 +137,7 @@ something_told : (s : Script) (r : Report) (what : What) (w k n : ℕ) (c : Cite
 something_told s r what w k n c own t = tells_more (λ x. IsEarlier w k x × Cites s r what n x) (λ x. IsEarlier w (k + 1) x × Cites s r what n x) w k
     (λ x p. (one_later w k x p.0, p.1))
     (λ x q. elim (before_or_itself w k x q.0) [ inl before ↦ inl (before, q.1) | inr same ↦ inr same ])
-    (λ p. not_before_itself w k p.0) (itself_later w k, own) c t
+    (λ x p. p.0) (itself_later w k, own) c t
 
 some_same : {X : Type 0} (a b : X) → ◌≡◌ {A = Option X} (Some a) (Some b) → a ≡ b
 some_same a b e = cc
@@ -107,19 +172,19 @@ answer_noted s r what w k (Some m) table tells = record {
             (nothing_told s r what w k n (cited_in table n) (λ c. other (sym (some_same m n ((tells n).0 c)))) (before n lt))
 
 -- what the answer to a command tells, by its reply
-cites_reply : (s : Script) (r : Report) (what : What) (w k n : ℕ) (a : Answered) → answer_at r (serial_of w k) ≡ Some a → Cites s r what n (serial_of w k) ↔ CitesNow what (command_at s (serial_of w k)) a.reply n
+cites_reply : (s : Script) (r : Report) (what : What) (w k n : ℕ) (a : Answered) → answer_at r (serial_of w k) ≡ Some a → Cites s r what n (serial_of w k) ↔ CitesNow r what (command_at s (serial_of w k)) a.reply n
 cites_reply s r what w k n a there = (to (answer_at r (serial_of w k)) there, from (answer_at r (serial_of w k)) there)
   where
-    to : (o : Option Answered) → o ≡ Some a → IsSomeAnd (option_map (λ (b : Answered). b.reply) o) (λ x. CitesNow what (command_at s (serial_of w k)) x n) → CitesNow what (command_at s (serial_of w k)) a.reply n
+    to : (o : Option Answered) → o ≡ Some a → IsSomeAnd (option_map (λ (b : Answered). b.reply) o) (λ x. CitesNow r what (command_at s (serial_of w k)) x n) → CitesNow r what (command_at s (serial_of w k)) a.reply n
     to None e c = absurd c
-    to (Some b) e c = subst (λ (x : Answered). CitesNow what (command_at s (serial_of w k)) x.reply n) (some_same b a e) c
+    to (Some b) e c = subst (λ (x : Answered). CitesNow r what (command_at s (serial_of w k)) x.reply n) (some_same b a e) c
 
-    from : (o : Option Answered) → o ≡ Some a → CitesNow what (command_at s (serial_of w k)) a.reply n → IsSomeAnd (option_map (λ (b : Answered). b.reply) o) (λ x. CitesNow what (command_at s (serial_of w k)) x n)
+    from : (o : Option Answered) → o ≡ Some a → CitesNow r what (command_at s (serial_of w k)) a.reply n → IsSomeAnd (option_map (λ (b : Answered). b.reply) o) (λ x. CitesNow r what (command_at s (serial_of w k)) x n)
     from None e c = absurd (cc)
-    from (Some b) e c = subst (λ (x : Answered). CitesNow what (command_at s (serial_of w k)) x.reply n) (sym (some_same b a e)) c
+    from (Some b) e c = subst (λ (x : Answered). CitesNow r what (command_at s (serial_of w k)) x.reply n) (sym (some_same b a e)) c
 
 pub told_noted : (s : Script) (r : Report) (what : What) (w k : ℕ) (a : Answered) (told : Option ℕ) (table : List Cited) → Some a ≡ answer_at r (serial_of w k)
-    → ((n : ℕ) → CitesNow what (command_at s (serial_of w k)) a.reply n ↔ (told ≡ Some n)) → NotesAnswer s r what w k table (noted_at told w k table)
+    → ((n : ℕ) → CitesNow r what (command_at s (serial_of w k)) a.reply n ↔ (told ≡ Some n)) → NotesAnswer s r what w k table (noted_at told w k table)
 told_noted s r what w k a told table there tells = answer_noted s r what w k told table (λ n. (let c = cites_reply s r what w k n a (sym there) in (λ h. (tells n).0 (c.0 h), λ e. c.1 ((tells n).1 e))))
 
 -- there is no answer
@@ -129,7 +194,7 @@ none_noted s r what w k table none = record {
   noted = λ before n lt. nothing_told s r what w k n (cited_in table n) (λ c. no (answer_at r (serial_of w k)) none n c) (before n lt);
 }
   where
-    no : (o : Option Answered) → o ≡ None → (n : ℕ) → IsSomeAnd (option_map (λ (a : Answered). a.reply) o) (λ x. CitesNow what (command_at s (serial_of w k)) x n) → ⊥
+    no : (o : Option Answered) → o ≡ None → (n : ℕ) → IsSomeAnd (option_map (λ (a : Answered). a.reply) o) (λ x. CitesNow r what (command_at s (serial_of w k)) x n) → ⊥
     no None e n c = c
     no (Some a) e n c = absurd cc
 
@@ -167,7 +232,7 @@ next_worker s r what w k table over before n lt = tells_same (λ x. IsEarlier w 
         by_order : (b : Bool) → (x.worker == w) ≡ b → IsEarlier w k x
         by_order true f =
             let same : x.worker ≡ w = grind (arith, nat_tests) in
-            let few : x.command < length (answers_of r w) = subst (λ (v : ℕ). x.command < length (answers_of r v)) same (has_answer r x (λ y. CitesNow what (command_at s x) y n) c) in
+            let few : x.command < length (answers_of r w) = subst (λ (v : ℕ). x.command < length (answers_of r v)) same (has_answer r x (λ y. CitesNow r what (command_at s x) y n) c) in
             inr (same, (omega (arith, few, over)))
         by_order false f = inl (let other : x.worker ≡ w → ⊥ = grind (arith, nat_tests) in grind arith)
 
@@ -190,5 +255,5 @@ pub last_worker : (s : Script) (r : Report) (what : What) (w : ℕ) (table : Lis
 last_worker s r what w table over before = record {
   count = refl;
   each = λ n lt. tells_same (λ x. IsEarlier w 0 x × Cites s r what n x) (λ x. Cites s r what n x) (λ x p. p.1)
-      (λ x c. (inl (let part = has_part r x (λ y. CitesNow what (command_at s x) y n) c in omega (arith, part, over)), c)) (cited_in table n) (before n lt);
+      (λ x c. (inl (let part = has_part r x (λ y. CitesNow r what (command_at s x) y n) c in omega (arith, part, over)), c)) (cited_in table n) (before n lt);
 }

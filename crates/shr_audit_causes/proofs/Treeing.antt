@@ -29,23 +29,23 @@ record IsOne (P : Serial → Type 0) : Type 0 where
 one_of : (P : Serial → Type 0) (c : Cited) → Tells P c → is_once c ≡ true → IsOne P
 one_of P Never t e = absurd cc
 one_of P (Once w k) t e = record { by = serial_of w k; so = t.0; once = t.1 }
-one_of P Often t e = absurd cc
+one_of P (Often w k others) t e = absurd cc
 
 of_one : (P : Serial → Type 0) (c : Cited) → Tells P c → IsOne P → is_once c ≡ true
 of_one P Never t o = absurd (t o.by o.so)
 of_one P (Once w k) t o = refl
-of_one P Often t o = absurd (t.1.1.0 (o.once t.0 t.1.1.1.0 ∙ sym (o.once t.1.0 t.1.1.1.1)))
+of_one P (Often w k others) t o = let y = t.two in absurd (y.1 (o.once y.0 y.2 ∙ sym (o.once (serial_of w k) t.so)))
 
 -- there is one
-some_of : (P : Serial → Type 0) (c : Cited) → Tells P c → is_cited c ≡ true → (by : Serial) × P by
+pub some_of : (P : Serial → Type 0) (c : Cited) → Tells P c → is_cited c ≡ true → (by : Serial) × P by
 some_of P Never t e = absurd cc
 some_of P (Once w k) t e = (serial_of w k, t.0)
-some_of P Often t e = (t.0, t.1.1.1.0)
+some_of P (Often w k others) t e = (serial_of w k, t.so)
 
-of_some : (P : Serial → Type 0) (c : Cited) → Tells P c → (by : Serial) → P by → is_cited c ≡ true
+pub of_some : (P : Serial → Type 0) (c : Cited) → Tells P c → (by : Serial) → P by → is_cited c ≡ true
 of_some P Never t by p = absurd (t by p)
 of_some P (Once w k) t by p = refl
-of_some P Often t by p = refl
+of_some P (Often w k others) t by p = refl
 
 -- entries by their kinds
 done_case : (table : List Cited) (n : ℕ) (e : TreeEntry) → ((group : ℕ) → e ≡ Done group → is_once (cited_in table n) ≡ true) → IsDoneOnce table n e
@@ -82,17 +82,17 @@ mades_of s r table b cited d = (
 )
 
 -- an `offline` that may have begun, by its reply
-begun_of : (s : Script) (r : Report) (by : Serial) (group : ℕ) → Cites s r what.Begun group by → IsOffline s r by group MayHaveBegun
+pub begun_of : (s : Script) (r : Report) (by : Serial) (group : ℕ) → Cites s r what.Begun group by → IsOffline s r by group MayHaveBegun
 begun_of s r by group c = there (reply_at r by) refl c
   where
-    there : (o : Option Reply) → reply_at r by ≡ o → IsSomeAnd o (λ x. CitesNow what.Begun (command_at s by) x group) → IsOffline s r by group MayHaveBegun
+    there : (o : Option Reply) → reply_at r by ≡ o → IsSomeAnd o (λ x. CitesNow r what.Begun (command_at s by) x group) → IsOffline s r by group MayHaveBegun
     there None e h = absurd h
     there (Some x) e h = record { command_is = h.0; answer = subst (λ (o : Option Reply). IsSomeAnd o MayHaveBegun) (sym e) h.1 }
 
-of_begun : (s : Script) (r : Report) (by : Serial) (group : ℕ) → IsOffline s r by group MayHaveBegun → Cites s r what.Begun group by
+pub of_begun : (s : Script) (r : Report) (by : Serial) (group : ℕ) → IsOffline s r by group MayHaveBegun → Cites s r what.Begun group by
 of_begun s r by group h = there (reply_at r by) h.answer
   where
-    there : (o : Option Reply) → IsSomeAnd o MayHaveBegun → IsSomeAnd o (λ x. CitesNow what.Begun (command_at s by) x group)
+    there : (o : Option Reply) → IsSomeAnd o MayHaveBegun → IsSomeAnd o (λ x. CitesNow r what.Begun (command_at s by) x group)
     there None a = a
     there (Some x) a = (h.command_is, a)
 

@@ -1,12 +1,14 @@
 -- Which answers speak of an entry of the journals of the tree and of registrations, or of a group.
-use Rattle.std.specs.Prelude.{◌≡◌, ◌≢◌, ◌⊎◌, ℕ, ◌+◌, ◌<◌, Bool, true, false, ◌==◌, List, length, slice_index_or, slice_set, Option, Some, None}
+use Rattle.std.specs.Prelude.{◌≡◌, ◌≢◌, ◌⊎◌, ℕ, ◌+◌, ◌<◌, ◌≤◌, Bool, true, false, not, ◌||◌, ◌==◌, List, length, take, slice_get, slice_index_or, slice_set, Option, Some, None, option_map}
 use Rattle.std.specs.Option.{IsSomeAnd}
 use Rattle.shr_base.specs.declared.places.Serial.{Serial}
+use Rattle.shr_base.specs.declared.journals.PoolEntry.{PoolEntry}
 use Rattle.shr_base.specs.declared.replies.Reply.{Reply}
 use Rattle.shr_base.specs.declared.replies.Reply.TheVariants as reply
 use Rattle.shr_base.specs.declared.scripts.Command.{Command}
 use Rattle.shr_base.specs.declared.scripts.Command.TheVariants as command
 use Rattle.shr_base.specs.declared.scripts.Script.{Script}
+use Rattle.shr_model.specs.Pool.{id_of, phase_of}
 use Rattle.shr_report.specs.declared.report.Report.{Report}
 use Rattle.shr_report.specs.Causes.{MayHaveBegun, is_done_by, is_made_by}
 use Rattle.shr_report.specs.Parts.{command_at, reply_at, serial_of}
@@ -26,29 +28,61 @@ is_unregistered_by n (reply.Freed id entry from to objects) = entry == n
 is_unregistered_by n (reply.Half id entry from to objects why) = entry == n
 is_unregistered_by n x = false
 
+-- the entry with this number is one of an id
+abbrev pub IsOf : List PoolEntry → ℕ → ℕ → Type 0
+IsOf pool id n = option_map id_of (slice_get pool n) ≡ Some id
+
+-- the first entry of an id from a number on, if there is one
+abbrev pub IsNextOf : List PoolEntry → ℕ → ℕ → Option ℕ → Type 0
+IsNextOf pool id from None = (n : ℕ) → from ≤ n → IsOf pool id n → ⊥
+IsNextOf pool id from (Some q) = (from ≤ q) × (q < length pool) × IsOf pool id q × ((n : ℕ) → from ≤ n → n < q → IsOf pool id n → ⊥)
+
+-- an entry of an id is its next one behind the first from a number on
+abbrev pub IsSecondOf : List PoolEntry → ℕ → ℕ → ℕ → Type 0
+IsSecondOf pool id entry n = IsOf pool id n × (entry < n) × (phase_of id (take n pool) ≡ phase_of id (take entry pool) + 1)
+
+-- the answer freed an id by an entry, and this is the id's next one
+abbrev pub IsIdledBy : List PoolEntry → ℕ → Reply → Type 0
+IsIdledBy pool n (reply.Freed id entry from to objects) = IsSecondOf pool id entry n
+IsIdledBy pool n x = ⊥
+
+-- an `offline` of the group that may have begun
+abbrev pub IsBegunBy : Option Command → Reply → ℕ → Type 0
+IsBegunBy c x n = (c ≡ Some (command.Offline n)) × MayHaveBegun x
+
 -- a reply to this command says so of this entry or group
-abbrev pub CitesNow : What → Option Command → Reply → ℕ → Type 0
-CitesNow say.Done c x n = is_done_by n x ≡ true
-CitesNow say.Made c x n = is_made_by n x ≡ true
-CitesNow say.Registered c x n = is_registered_by n x ≡ true
-CitesNow say.Unregistered c x n = is_unregistered_by n x ≡ true
-CitesNow say.Begun c x n = (c ≡ Some (command.Offline n)) × MayHaveBegun x
+abbrev pub CitesNow : Report → What → Option Command → Reply → ℕ → Type 0
+CitesNow r say.Done c x n = is_done_by n x ≡ true
+CitesNow r say.Made c x n = is_made_by n x ≡ true
+CitesNow r say.Registered c x n = is_registered_by n x ≡ true
+CitesNow r say.Unregistered c x n = is_unregistered_by n x ≡ true
+CitesNow r say.Idled c x n = IsIdledBy r.pool.items n x
+CitesNow r say.Begun c x n = IsBegunBy c x n
 
 -- the answer to a command says so of it
 abbrev pub Cites : Script → Report → What → ℕ → Serial → Type 0
-Cites s r what n by = IsSomeAnd (reply_at r by) (λ x. CitesNow what (command_at s by) x n)
+Cites s r what n by = IsSomeAnd (reply_at r by) (λ x. CitesNow r what (command_at s by) x n)
 
--- what is noted of those of which this is so: there is none, just this one, or there are two
+-- It is so of this command and of another; of its worker's it is the first, and whether another worker has one is
+-- told.
+pub record IsOften (P : Serial → Type 0) (worker command : ℕ) (others : Bool) : Type 0 where
+  pub so : P (serial_of worker command)
+  pub two : (y : Serial) × (y ≢ serial_of worker command) × P y
+  pub first : (x : Serial) → P x → x.worker ≡ worker → command ≤ x.command
+  pub alone : others ≡ false → (x : Serial) → P x → x.worker ≡ worker
+  pub apart : others ≡ true → (y : Serial) × (y.worker ≢ worker) × P y
+
+-- what is noted of those of which this is so: there is none, just this one, or there are more
 abbrev pub Tells : (Serial → Type 0) → Cited → Type 0
 Tells P Never = (x : Serial) → P x → ⊥
 Tells P (Once worker command) = P (serial_of worker command) × ((x : Serial) → P x → x ≡ serial_of worker command)
-Tells P Often = (x : Serial) × ((y : Serial) × ((x ≢ y) × (P x × P y)))
+Tells P (Often worker command others) = IsOften P worker command others
 
 -- one more says so
 abbrev pub after_cited : Cited → ℕ → ℕ → Cited
 after_cited Never worker command = Once worker command
-after_cited (Once w c) worker command = Often
-after_cited Often worker command = Often
+after_cited (Once w c) worker command = Often w c (not (w == worker))
+after_cited (Often w c others) worker command = Often w c (others || not (w == worker))
 
 -- what is noted of an entry or a group, nothing past the last
 abbrev pub cited_in : List Cited → ℕ → Cited

@@ -1,3 +1,4 @@
 pub mod Walks
 pub mod Cites
 pub mod Trees
+pub mod Registrations

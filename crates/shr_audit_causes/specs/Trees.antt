@@ -15,13 +15,13 @@ use Rattle.shr_audit_causes.specs.Cites.{cited_in}
 abbrev pub is_once : Cited → Bool
 is_once Never = false
 is_once (Once worker command) = true
-is_once Often = false
+is_once (Often worker command others) = false
 
 -- an answer does
 abbrev pub is_cited : Cited → Bool
 is_cited Never = false
 is_cited (Once worker command) = true
-is_cited Often = true
+is_cited (Often worker command others) = true
 
 -- an entry, if it is a Done, was noted once
 abbrev pub IsDoneOnce : List Cited → ℕ → TreeEntry → Type 0

@@ -3,11 +3,12 @@
 ghost use Rattle.std.specs.Prelude.{◌≡◌, ℕ, ◌↔◌, IfOk, Some, option_copied, true};
 ghost use Rattle.std.specs.Bool.{Decides};
 ghost use Rattle.shr_base.specs.declared.scripts.Command.TheVariants.{Offline};
+ghost use Rattle.shr_model.specs.Pool.{id_of};
 ghost use Rattle.shr_report.specs.Causes.{MayHaveBegun, is_done_by, is_made_by};
-ghost use Rattle.shr_audit_causes.specs.Cites.{AreCited, CitesNow, IsNever, NotesAnswer, NotesWorker, after_cited, cited_in, is_registered_by, is_unregistered_by, noted_at};
-ghost use Rattle.shr_audit_causes.specs.declared.cites.What.TheVariants as say;
+ghost use Rattle.shr_audit_causes.specs.Cites.{AreCited, CitesNow, IsBegunBy, IsIdledBy, IsNever, IsNextOf, IsSecondOf, NotesAnswer, NotesWorker, after_cited, cited_in, is_registered_by, is_unregistered_by, noted_at};
 
 use shr_audit_replies::numbers::{answer_of, command_of, count_answers};
+use shr_base::journals::PoolEntry;
 use shr_base::memory::Memory;
 use shr_base::replies::Reply;
 use shr_base::scripts::{Command, Script};
@@ -25,51 +26,106 @@ pub enum What {
     Registered,
     /// It unregistered by the entry.
     Unregistered,
+    /// It freed the id of the entry, which is the id's next one.
+    Idled,
     /// It may have begun the group's offlining.
     Begun,
 }
 
-/// Which answers say so: none, one, or more. Our own.
+/// Which answers say so: none, one, or more, of which this is the first. Our own.
 #[derive(Clone, Copy, Debug, PartialEq, Eq)]
 pub enum Cited {
     Never,
-    Once { worker: usize, command: usize },
-    Often,
+    Once {
+        worker: usize,
+        command: usize,
+    },
+    Often {
+        worker: usize,
+        command: usize,
+        /// Whether another worker has one.
+        others: bool,
+    },
 }
 
-fn own_done(reply: &Reply) -> Option<u32>
+fn own_done(reply: &Reply) -> Option<usize>
     ensures { (n : ℕ) → (is_done_by n reply.now ≡ true) ↔ (result ≡ Some n) }
 {
     match reply {
-        Reply::OfflineDone { entry, .. } => Some(*entry),
+        Reply::OfflineDone { entry, .. } => Some(*entry as usize),
         _ => None,
     }
 }
 
-fn own_made(reply: &Reply) -> Option<u32>
+fn own_made(reply: &Reply) -> Option<usize>
     ensures { (n : ℕ) → (is_made_by n reply.now ≡ true) ↔ (result ≡ Some n) }
 {
     match reply {
-        Reply::Made { entry } => Some(*entry),
+        Reply::Made { entry } => Some(*entry as usize),
         _ => None,
     }
 }
 
-fn registered(reply: &Reply) -> Option<u32>
+fn registered(reply: &Reply) -> Option<usize>
     ensures { (n : ℕ) → (is_registered_by n reply.now ≡ true) ↔ (result ≡ Some n) }
 {
     match reply {
-        Reply::Registered { entry, .. } => Some(*entry),
+        Reply::Registered { entry, .. } => Some(*entry as usize),
         _ => None,
     }
 }
 
-fn unregistered(reply: &Reply) -> Option<u32>
+fn unregistered(reply: &Reply) -> Option<usize>
     ensures { (n : ℕ) → (is_unregistered_by n reply.now ≡ true) ↔ (result ≡ Some n) }
 {
     match reply {
-        Reply::Freed { entry, .. } => Some(*entry),
-        Reply::Half { entry, .. } => Some(*entry),
+        Reply::Freed { entry, .. } => Some(*entry as usize),
+        Reply::Half { entry, .. } => Some(*entry as usize),
+        _ => None,
+    }
+}
+
+fn id_of(entry: PoolEntry) -> u16
+    ensures { result ≡ id_of entry }
+{
+    match entry {
+        PoolEntry::Registered { id, .. } => id,
+        PoolEntry::Unregistered { id, .. } => id,
+        PoolEntry::Idle { id } => id,
+    }
+}
+
+// The first entry of an id from a number on.
+fn next_of(pool: &[PoolEntry], id: u16, from: usize) -> Option<usize>
+    ensures { IsNextOf pool.now id from result }
+{
+    for n in from..pool.len() {
+        if id_of(pool[n]) == id {
+            return Some(n);
+        }
+    }
+    None
+}
+
+// The id's next entry behind that.
+fn second_of(pool: &[PoolEntry], id: u16, entry: u32) -> Option<usize>
+    ensures { (n : ℕ) → IsSecondOf pool.now id entry n ↔ (result ≡ Some n) }
+{
+    match next_of(pool, id, entry as usize) {
+        Some(first) => {
+            let second = next_of(pool, id, first + 1);
+            second
+        }
+        None => None,
+    }
+}
+
+// The id's next entry behind the one by which an answer freed it.
+fn idled(report: &Report, reply: &Reply) -> Option<usize>
+    ensures { (n : ℕ) → IsIdledBy report.now.pool.items n reply.now ↔ (result ≡ Some n) }
+{
+    match reply {
+        Reply::Freed { id, entry, .. } => second_of(report.pool.as_slice(), *id, *entry),
         _ => None,
     }
 }
@@ -88,19 +144,19 @@ fn may_have_begun(reply: &Reply) -> bool
 }
 
 // The group that a command takes offline.
-fn offlined(command: Option<&Command>) -> Option<u32>
+fn offlined(command: Option<&Command>) -> Option<usize>
     ensures { (group : ℕ) → (option_copied command.entry ≡ Some (Offline group)) ↔
         (result ≡ Some group) }
 {
     match command {
-        Some(Command::Offline { group }) => Some(*group as u32),
+        Some(Command::Offline { group }) => Some(*group as usize),
         _ => None,
     }
 }
 
 // The group whose offlining an answer may have begun.
-fn begun(command: Option<&Command>, reply: &Reply) -> Option<u32>
-    ensures { (group : ℕ) → CitesNow say.Begun (option_copied command.entry) reply.now group ↔
+fn begun(command: Option<&Command>, reply: &Reply) -> Option<usize>
+    ensures { (group : ℕ) → IsBegunBy (option_copied command.entry) reply.now group ↔
         (result ≡ Some group) }
 {
     if !may_have_begun(reply) {
@@ -110,8 +166,8 @@ fn begun(command: Option<&Command>, reply: &Reply) -> Option<u32>
 }
 
 // The entry or the group that an answer says so of.
-fn told(what: What, command: Option<&Command>, reply: &Reply) -> Option<u32>
-    ensures { (n : ℕ) → CitesNow what (option_copied command.entry) reply.now n ↔
+fn told(report: &Report, what: What, command: Option<&Command>, reply: &Reply) -> Option<usize>
+    ensures { (n : ℕ) → CitesNow report.now what (option_copied command.entry) reply.now n ↔
         (result ≡ Some n) }
 {
     match what {
@@ -119,6 +175,7 @@ fn told(what: What, command: Option<&Command>, reply: &Reply) -> Option<u32>
         What::Made => own_made(reply),
         What::Registered => registered(reply),
         What::Unregistered => unregistered(reply),
+        What::Idled => idled(report, reply),
         What::Begun => begun(command, reply),
     }
 }
@@ -140,19 +197,33 @@ fn after(cited: Cited, worker: usize, command: usize) -> Cited
 {
     match cited {
         Cited::Never => Cited::Once { worker, command },
-        Cited::Once { .. } => Cited::Often,
-        Cited::Often => Cited::Often,
+        Cited::Once {
+            worker: w,
+            command: c,
+        } => Cited::Often {
+            worker: w,
+            command: c,
+            others: w != worker,
+        },
+        Cited::Often {
+            worker: w,
+            command: c,
+            others,
+        } => Cited::Often {
+            worker: w,
+            command: c,
+            others: others || w != worker,
+        },
     }
 }
 
 // Notes what an answer tells.
-fn note(table: &mut Vec<Cited>, told: Option<u32>, worker: usize, command: usize)
+fn note(table: &mut Vec<Cited>, told: Option<usize>, worker: usize, command: usize)
     ensures { table.new.items ≡ noted_at told worker command table.old.items }
 {
     let Some(n) = told else {
         return;
     };
-    let n = n as usize;
     if n < table.len() {
         table[n] = after(table[n], worker, command);
     }
@@ -172,7 +243,12 @@ fn note_answer(
     let Some(answer) = answer_of(report, worker, number) else {
         return;
     };
-    let cited = told(what, command_of(script, worker, number), &answer.reply);
+    let cited = told(
+        report,
+        what,
+        command_of(script, worker, number),
+        &answer.reply,
+    );
     note(table, cited, worker, number);
 }
 

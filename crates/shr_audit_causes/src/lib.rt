@@ -4,6 +4,7 @@
 pub mod attempts;
 pub mod cites;
 pub mod drains;
+pub mod registrations;
 pub mod tree;
 pub mod trees;
 pub mod walks;

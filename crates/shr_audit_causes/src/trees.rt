@@ -22,7 +22,8 @@ fn is_once(cited: Cited) -> bool
     }
 }
 
-fn is_cited(cited: Cited) -> bool
+// Whether an answer says so.
+pub(crate) fn is_cited(cited: Cited) -> bool
     ensures { result ≡ is_cited cited }
 {
     match cited {

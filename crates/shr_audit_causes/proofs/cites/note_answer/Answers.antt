@@ -17,5 +17,5 @@ returns c =
     let told = c.told-cited.result in
     let a = c.in-Some.answer.now in
     let old = c.args.table.now.items in
-    let tells : (n : ℕ) → CitesNow c.args.what (command_at s (serial_of c.args.worker c.args.number)) a.reply n ↔ (told ≡ Some n) = subst (λ (o : Option Command). (n : ℕ) → CitesNow c.args.what o a.reply n ↔ (told ≡ Some n)) c.command_of.ensures c.told-cited.ensures in
+    let tells : (n : ℕ) → CitesNow r c.args.what (command_at s (serial_of c.args.worker c.args.number)) a.reply n ↔ (told ≡ Some n) = subst (λ (o : Option Command). (n : ℕ) → CitesNow r c.args.what o a.reply n ↔ (told ≡ Some n)) c.command_of.ensures c.told-cited.ensures in
     subst (λ (table : List Cited). NotesAnswer s r c.args.what c.args.worker c.args.number old table) (sym c.note.ensures) (told_noted s r c.args.what c.args.worker c.args.number a told old c.in-Some.ensures tells)

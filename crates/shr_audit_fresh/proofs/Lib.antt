@@ -1,0 +1,12 @@
+mod Answering
+mod RisingLaws
+mod FloorLaws
+mod WalkFloors
+pub mod Upto
+mod FirstLaws
+mod OnLaws
+mod RefusedLaws
+mod MadeLaws
+mod StartedLaws
+mod Workers
+mod FreshValues

@@ -1,0 +1,6 @@
+use Rattle.std.proofs.Common.{◌≡◌, length, take}
+use Rattle.shr_audit_fresh.specs.Floors.{AreFloors}
+use Rattle.shr_audit_fresh.proofs.floors.walk_floors.Given as goal
+
+abbrev pub invariant-loop-walk : goal.invariant-loop-walk
+invariant-loop-walk l = (length l.floors.items ≡ l.size) × AreFloors l.worker (take l.walk-index l.walk-items) l.floors.items

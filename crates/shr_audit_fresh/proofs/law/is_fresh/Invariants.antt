@@ -1,0 +1,6 @@
+use Rattle.std.proofs.Common.{ℕ, ◌<◌}
+use Rattle.shr_audit_fresh.specs.Worker.{IsWorkerFresh}
+use Rattle.shr_audit_fresh.proofs.law.is_fresh.Given as goal
+
+abbrev pub invariant-loop-worker : goal.invariant-loop-worker
+invariant-loop-worker l = (k : ℕ) → k < l.worker → IsWorkerFresh l.script l.report k

@@ -1,0 +1,6 @@
+use Rattle.std.proofs.Common.{ℕ, ◌<◌}
+use Rattle.shr_audit_fresh.specs.Worker.{IsOnSeenAt}
+use Rattle.shr_audit_fresh.proofs.onset.is_on_seen.Given as goal
+
+abbrev pub invariant-loop-number : goal.invariant-loop-number
+invariant-loop-number l = (k : ℕ) → k < l.number → IsOnSeenAt l.script l.report l.worker k

@@ -1,0 +1,10 @@
+use Rattle.shr_report.specs.Freshness.{of_answer, shown_by, tree_seen}
+use Rattle.shr_report.specs.Parts.{serial_of}
+use Rattle.shr_audit_fresh.specs.Floors.{AreKnownBelow, IsFloorBefore}
+use Rattle.shr_audit_fresh.proofs.own.is_shown_below.Given as goal
+
+abbrev pub invariant-loop-number : goal.invariant-loop-number
+invariant-loop-number l = record {
+  floor : IsFloorBefore (λ k. shown_by l.report (serial_of l.worker k)) l.number l.floor;
+  below : AreKnownBelow (λ k. shown_by l.report (serial_of l.worker k)) (λ k. of_answer l.report (serial_of l.worker k) tree_seen) l.number;
+}

@@ -1,0 +1,6 @@
+use Rattle.std.proofs.Common.{ℕ, ◌<◌}
+use Rattle.shr_audit_fresh.specs.Worker.{IsRefusedAt}
+use Rattle.shr_audit_fresh.proofs.refused.is_refused.Given as goal
+
+abbrev pub invariant-loop-number : goal.invariant-loop-number
+invariant-loop-number l = (k : ℕ) → k < l.number → IsRefusedAt l.script l.report l.worker k

@@ -1,0 +1,10 @@
+use Rattle.std.proofs.Common.{ℕ, Option, Some, None, arith, subst, sym}
+use Rattle.std.specs.Prelude.{option_to_list}
+use Rattle.shr_audit_fresh.specs.Rising.{After}
+use Rattle.shr_audit_fresh.proofs.rising.after.Goals as goal
+
+pub returns-then-n-low : goal.returns-then-n-low
+returns-then-n-low c = subst (λ (o : Option ℕ). After c.args.low (option_to_list o) None) (sym c.in-Some.is) (λ rest h. (let lt = c.if-n-low.true in let le = h.0 in omega (arith, lt, le)))
+
+pub returns-else-n-low : goal.returns-else-n-low
+returns-else-n-low c = subst (λ (o : Option ℕ). After c.args.low (option_to_list o) (Some c.in-Some.n)) (sym c.in-Some.is) (λ rest. (λ h. h.1, λ h. (c.if-n-low.false, h)))

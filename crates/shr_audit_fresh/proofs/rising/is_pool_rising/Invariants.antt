@@ -1,0 +1,8 @@
+use Rattle.std.proofs.Common.{Some, take}
+use Rattle.std.specs.Prelude.{flat_map}
+use Rattle.shr_report.specs.Freshness.{pool_seen}
+use Rattle.shr_audit_fresh.specs.Rising.{After}
+use Rattle.shr_audit_fresh.proofs.rising.is_pool_rising.Given as goal
+
+abbrev pub invariant-loop-answer : goal.invariant-loop-answer
+invariant-loop-answer l = After 0 (flat_map pool_seen (take l.answer-index l.answers)) (Some l.low)

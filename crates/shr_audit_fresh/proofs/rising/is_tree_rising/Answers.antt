@@ -1,0 +1,20 @@
+use Rattle.std.proofs.Common.{Some, None, subst}
+use Rattle.shr_base.specs.declared.replies.Answered.{Answered}
+use Rattle.shr_report.specs.Freshness.{tree_seen}
+use Rattle.shr_audit_fresh.specs.Rising.{After}
+use Rattle.shr_audit_fresh.proofs.RisingLaws.{all_rise, falls_here, none_yet, one_further}
+use Rattle.shr_audit_fresh.proofs.rising.is_tree_rising.Goals as goal
+
+pub loop-answer-init : goal.loop-answer-init
+loop-answer-init c = none_yet tree_seen c.args.answers.now
+
+pub loop-answer-preserved : goal.loop-answer-preserved
+loop-answer-preserved c = one_further tree_seen c.args.answers.now c.loop-answer.answer-index c.loop-answer.low c.answer-item.result (Some c.in-Some.last) c.loop-answer-test.true c.loop-answer.invariant
+    (subst (λ (a : Answered). After c.loop-answer.low (tree_seen a) (Some c.in-Some.last)) c.answer-item.is c.in-Some.ensures)
+
+pub returns-in_default : goal.returns-in_default
+returns-in_default c = falls_here tree_seen c.args.answers.now c.loop-answer.answer-index c.loop-answer.low c.answer-item.result c.loop-answer-test.true c.loop-answer.invariant
+    (subst (λ (a : Answered). After c.loop-answer.low (tree_seen a) None) c.answer-item.is c.in_default.ensures)
+
+pub returns : goal.returns
+returns c = all_rise tree_seen c.args.answers.now c.loop-answer.answer-index c.loop-answer.low c.loop-answer-test.false c.loop-answer.invariant

@@ -1,0 +1,9 @@
+use Rattle.std.proofs.Common.{◌≡◌, ℕ, subst, sym}
+use Rattle.std.specs.Prelude.{◌||◌, ◌==◌}
+use Rattle.shr_base.specs.declared.journals.TreeEntry.{TreeEntry}
+use Rattle.shr_model.specs.TreeJournal.{is_begin, is_done}
+use Rattle.shr_audit_fresh.proofs.FirstLaws.{or_none}
+use Rattle.shr_audit_fresh.proofs.shown.ended.Goals as goal
+
+pub returns-in-Begin : goal.returns-in-Begin
+returns-in-Begin c = subst (λ (e : TreeEntry). (g : ℕ) → (c.in-Begin.group == g) ≡ (is_begin g e || is_done g e)) (sym c.in-Begin.is) (λ g. sym (or_none (c.in-Begin.group == g)))

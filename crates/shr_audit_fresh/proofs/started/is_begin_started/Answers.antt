@@ -1,0 +1,17 @@
+use Rattle.std.proofs.Common.{List, subst}
+use Rattle.std.specs.Bool.{Decides}
+use Rattle.shr_base.specs.declared.walks.WalkRecord.{WalkRecord}
+use Rattle.shr_formed.specs.Each.{Each}
+use Rattle.shr_audit_fresh.specs.Started.{IsWalkStarted}
+use Rattle.shr_audit_fresh.proofs.StartedLaws.{answers_fail, started}
+use Rattle.shr_audit_fresh.proofs.started.is_begin_started.Goals as goal
+
+pub returns-then-not-are_answers_started : goal.returns-then-not-are_answers_started
+returns-then-not-are_answers_started c = answers_fail c.args.script.now c.args.report.now c.args.begun.now c.requires.begun c.requires.numbered c.args.worker c.are_answers_started.result c.are_answers_started.ensures c.if-not-are_answers_started.true
+
+pub returns : goal.returns
+returns c =
+    let r = c.args.report.now in
+    let b = c.are_walks_started-all.result in
+    started c.args.script.now r c.args.begun.now c.requires.begun c.requires.numbered c.args.worker b (c.are_answers_started.ensures.0 c.if-not-are_answers_started.false)
+    (subst (λ (ws : List WalkRecord). Decides b (Each (λ w. IsWalkStarted r c.args.begun.now c.args.worker w) ws)) c.walks_of.ensures c.are_walks_started-all.ensures)

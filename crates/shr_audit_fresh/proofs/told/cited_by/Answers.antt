@@ -1,0 +1,12 @@
+use Rattle.std.proofs.Common.{sym, ◌∙◌}
+use Rattle.shr_base.specs.declared.replies.Answered.{Answered}
+use Rattle.shr_report.specs.Freshness.{tree_cited}
+use Rattle.shr_report.specs.Parts.{serial_of}
+use Rattle.shr_audit_fresh.proofs.Answering.{of_answered, of_none}
+use Rattle.shr_audit_fresh.proofs.told.cited_by.Goals as goal
+
+pub returns-in-Some : goal.returns-in-Some
+returns-in-Some c = c.tree_cited.ensures ∙ sym (of_answered c.args.report.now (serial_of c.args.worker c.args.number) (λ (a : Answered). tree_cited a.reply) c.in-Some.answer.now c.in-Some.ensures)
+
+pub returns-in-None : goal.returns-in-None
+returns-in-None c = sym (of_none c.args.report.now (serial_of c.args.worker c.args.number) (λ (a : Answered). tree_cited a.reply) c.in-None.ensures)

@@ -1,0 +1,5 @@
+pub mod Rising
+pub mod Floors
+pub mod Firsts
+pub mod Started
+pub mod Worker

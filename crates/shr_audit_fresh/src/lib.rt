@@ -1,0 +1,16 @@
+//! Whether what the answers of a worker knew isn't older than what it had known before. Our own.
+#![tactic(auto)]
+
+mod firsts;
+mod floors;
+pub mod law;
+mod made;
+mod onset;
+mod own;
+mod refused;
+mod rising;
+mod shown;
+mod started;
+#[cfg(test)]
+mod tests;
+mod told;
