@@ -1,9 +1,11 @@
 -- Declarations registered one after another.
-use Rattle.std.proofs.Common.{◌≡◌, ℕ, suc, ◌+◌, List, [], ◌++◌, Bool, true, false, sym, refl, ap, subst, ◌∙◌, arith}
+use Rattle.std.proofs.Common.{◌≡◌, ℕ, zero, suc, ◌+◌, List, [], ◌++◌, Bool, true, false, sym, refl, ap, subst, ◌∙◌, arith}
 use Rattle.std.specs.Prelude.{slice_get, Some}
 use Rattle.shr_base.specs.declared.scripts.CacheDecl.{CacheDecl}
 use Rattle.shr_core.specs.declared.view.View.{View}
 use Rattle.shr_core.specs.Parts.{Tried}
+use Rattle.shr_core.specs.Rule.{opener}
+use Rattle.shr_core.proofs.Owing.{still_none}
 use Rattle.shr_tables.specs.Opened.{Enters, EntersIf, AreEntered, is_on}
 
 -- one cache more that is on
@@ -21,3 +23,12 @@ entered_less cs n c v u at off before = let next : suc n ≡ n + 1 = omega arith
 -- a registration looks nothing up
 pub still_untried : (n : ℕ) (u w : View) → Enters n u w → u.claims.attempts ≡ [] → w.claims.attempts ≡ []
 still_untried n u w enters none = enters.gains.adds.attempts ∙ ap (λ (l : List Tried). l ++ []) none
+
+-- and leaves no place owed
+unowed_if : (b : Bool) (n : ℕ) (u w : View) → EntersIf b n u w → u.marks.owed ≡ [] → w.marks.owed ≡ []
+unowed_if true n u w enters none = still_none u w none enters.gains.owed
+unowed_if false n u w same none = ap (λ (v : View). v.marks.owed) same ∙ none
+
+pub entered_unowed : (cs : List CacheDecl) (n : ℕ) (w : View) → AreEntered cs n opener w → w.marks.owed ≡ []
+entered_unowed cs zero w same = ap (λ (v : View). v.marks.owed) same
+entered_unowed cs (suc n) w entered = unowed_if (is_on (slice_get cs n)) n entered.0 w entered.1.1 (entered_unowed cs n entered.0 entered.1.0)
