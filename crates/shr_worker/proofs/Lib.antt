@@ -4,3 +4,4 @@ pub mod Drained
 pub mod Worked
 pub mod Ended
 mod KnownValues
+pub mod Resting

@@ -1,8 +1,9 @@
-use Rattle.std.proofs.Common.{inr, sym, ◌∙◌}
+use Rattle.std.proofs.Common.{inr, refl, sym, ◌∙◌}
 use Rattle.shr_registry.specs.declared.answers.UnregisterAnswer.TheVariants.{NoCache, Memory}
 use Rattle.shr_core.specs.Seats.{view_of, shape_of}
 use Rattle.shr_walk.specs.Keeping.{parents_of}
 use Rattle.shr_walk.specs.State.{state_of}
+use Rattle.shr_worker.proofs.Resting.{rested_with}
 use Rattle.shr_worker.proofs.Ended.{none_uncharged, freed_drained, half_drained}
 use Rattle.shr_worker.proofs.registrations.unregister.Goals as goal
 
@@ -39,3 +40,27 @@ returns-in-Memory-clause-unregisters g c = let may = sym c.spent.ensures ∙ c.i
   ended = c.in-Memory.ensures.answer;
   uncharged = none_uncharged (parents_of c.args.shared.now) c.args.by (state_of c.args.seats.now) (view_of c.unregister.new.seat) may;
 })
+
+pub returns-in-NoCache-clause-rested : goal.returns-in-NoCache-clause-rested
+returns-in-NoCache-clause-rested g c = let d = c.in-NoCache.ensures in
+    rested_with c.args.shared.now c.args.seats.now _ c.unregister.new.seat c.requires.rested d.seat d.rooms d.answer.free d.answer.gains.owed refl c.requires.rested.charge refl
+
+pub returns-in-Memory-clause-rested : goal.returns-in-Memory-clause-rested
+returns-in-Memory-clause-rested g c = let d = c.in-Memory.ensures in
+    rested_with c.args.shared.now c.args.seats.now _ c.unregister.new.seat c.requires.rested d.seat d.rooms d.answer.free d.answer.gains.owed refl c.requires.rested.charge refl
+
+pub returns-in_err-uncharge_drained-in-Freed-clause-rested : goal.returns-in_err-uncharge_drained-in-Freed-clause-rested
+returns-in_err-uncharge_drained-in-Freed-clause-rested g c = let d = c.in-Freed.ensures in let u = c.uncharge_drained.ensures in
+    rested_with c.args.shared.now c.args.seats.now c.uncharge_drained.new.seats c.unregister.new.seat c.requires.rested d.seat d.rooms d.answer.free d.answer.gains.owed u.core u.seat u.deferred
+
+pub returns-in_ok-uncharge_drained-in-Freed-clause-rested : goal.returns-in_ok-uncharge_drained-in-Freed-clause-rested
+returns-in_ok-uncharge_drained-in-Freed-clause-rested g c = let d = c.in-Freed.ensures in let u = c.uncharge_drained.ensures in
+    rested_with c.args.shared.now c.args.seats.now c.uncharge_drained.new.seats c.unregister.new.seat c.requires.rested d.seat d.rooms d.answer.free d.answer.gains.owed u.core u.seat u.deferred
+
+pub returns-in_err-uncharge_drained-in-Half-clause-rested : goal.returns-in_err-uncharge_drained-in-Half-clause-rested
+returns-in_err-uncharge_drained-in-Half-clause-rested g c = let d = c.in-Half.ensures in let u = c.uncharge_drained-in-Half.ensures in
+    rested_with c.args.shared.now c.args.seats.now c.uncharge_drained-in-Half.new.seats c.unregister.new.seat c.requires.rested d.seat d.rooms d.answer.free d.answer.gains.owed u.core u.seat u.deferred
+
+pub returns-in_ok-uncharge_drained-in-Half-clause-rested : goal.returns-in_ok-uncharge_drained-in-Half-clause-rested
+returns-in_ok-uncharge_drained-in-Half-clause-rested g c = let d = c.in-Half.ensures in let u = c.uncharge_drained-in-Half.ensures in
+    rested_with c.args.shared.now c.args.seats.now c.uncharge_drained-in-Half.new.seats c.unregister.new.seat c.requires.rested d.seat d.rooms d.answer.free d.answer.gains.owed u.core u.seat u.deferred
