@@ -1,5 +1,5 @@
 -- What a command made, in the words of the law.
-use Rattle.std.proofs.Common.{◌≡◌, ℕ, zero, suc, ◌+◌, ◌<◌, ◌≤◌, Bool, true, false, cond, List, [], ◌∷◌, length, map, take, Option, Some, None, refl, sym, ap, subst, ◌∙◌, arith}
+use Rattle.std.proofs.Common.{◌≡◌, ℕ, ◌+◌, ◌≤◌, Bool, true, false, List, [], ◌∷◌, length, map, take, Option, Some, refl, sym, ap, subst, ◌∙◌, arith}
 use Rattle.std.specs.Prelude.{count_by}
 use Rattle.std.specs.List.{AllByRecursion}
 use Rattle.shr_base.specs.declared.places.Serial.{Serial}
@@ -17,7 +17,7 @@ use Rattle.shr_report.specs.declared.report.Report.{Report}
 use Rattle.shr_report.specs.Parts.{limit_of, parents_of, uses_at, walks_by}
 use Rattle.shr_report.specs.WalksLawful.{AreRounds, AreWalksOf, MayMake, over_at}
 use Rattle.shr_audit_rounds.specs.Commands.{IsCommandMade, is_whole, over_of}
-use Rattle.shr_audit_rounds.specs.Rounds.{AreDue, IsPutMade, named, times}
+use Rattle.shr_audit_rounds.specs.Rounds.{AreDue, named, times}
 use Rattle.shr_audit_rounds.specs.Rows.{Begins, IsMade}
 
 -- ---- the whole, or the first of it

@@ -1,6 +1,6 @@
 -- The refused charges of a command, counted by their groups.
-use Rattle.std.proofs.Common.{◌≡◌, ◌⊎◌, ℕ, zero, suc, ◌+◌, ◌-◌, ◌*◌, ◌^◌, ◌<◌, ◌≤◌, Bool, true, false, cond, List, [], ◌∷◌, ◌++◌, length, get_or, map, filter, take, Option, Some, None, refl, sym, ap, subst, ◌∙◌, inl, inr, arith}
-use Rattle.std.specs.Prelude.{◌&&◌, ◌==◌, count_by, nat_lt, nat_le, sum_by, slice_get, option_and_then, option_map, IsPermutation}
+use Rattle.std.proofs.Common.{◌≡◌, ◌⊎◌, ℕ, zero, suc, ◌+◌, ◌-◌, ◌*◌, ◌^◌, ◌<◌, Bool, true, false, cond, List, [], ◌∷◌, ◌++◌, length, get_or, map, filter, take, Option, Some, None, refl, sym, ap, subst, ◌∙◌, inl, inr, arith}
+use Rattle.std.specs.Prelude.{◌&&◌, ◌==◌, count_by, nat_lt, nat_le, sum_by, slice_get, option_and_then, option_map}
 use Rattle.std.specs.List.{AllByRecursion}
 use Rattle.std.specs.List.Sorted.{IsPartitionedBy}
 use Rattle.std.proofs.lemmas.Bool.{cases_Bool, and_parts, and_from, eqb-true, eq-eqb}
@@ -15,8 +15,7 @@ use Rattle.shr_base.specs.declared.places.Serial.{Serial}
 use Rattle.shr_base.specs.declared.scripts.GroupDecl.{GroupDecl}
 use Rattle.shr_base.specs.declared.scripts.Script.{Script}
 use Rattle.shr_model.specs.Charges.{is_by, is_refused, ops_by}
-use Rattle.shr_report.specs.declared.report.Report.{Report}
-use Rattle.shr_report.specs.Parts.{limit_of, limits_of, parents_of, uses_at}
+use Rattle.shr_report.specs.Parts.{limit_of, limits_of, parents_of}
 use Rattle.shr_formed.proofs.Eachs.{all_of}
 use Rattle.shr_audit_rounds.specs.declared.refusals.Refusal.{Refusal}
 use Rattle.shr_audit_rounds.specs.Refusals.{AreRefusals, StandByKey, groups_of, refusal_of, refusals_in, refusals_with, serial_key}

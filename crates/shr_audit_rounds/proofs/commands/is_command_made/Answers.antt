@@ -1,4 +1,4 @@
-use Rattle.std.proofs.Common.{◌≡◌, ℕ, Bool, List, IfOk, sym, subst}
+use Rattle.std.proofs.Common.{ℕ, Bool, List, IfOk, sym, subst}
 use Rattle.std.specs.Bool.{Decides}
 use Rattle.shr_base.specs.declared.scripts.Command.{Command}
 use Rattle.shr_model.specs.Groups.{preorder_of}

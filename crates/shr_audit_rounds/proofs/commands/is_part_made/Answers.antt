@@ -1,4 +1,4 @@
-use Rattle.std.proofs.Common.{◌≡◌, ℕ, Bool, List, Some, slice_get, length, get_or, refl, sym, ap, subst, ◌∙◌, arith}
+use Rattle.std.proofs.Common.{◌≡◌, ℕ, List, Some, slice_get, get_or, refl, sym, ap, subst, ◌∙◌, arith}
 use Rattle.std.specs.Bool.{Decides}
 use Rattle.std.proofs.lemmas.Option.{slice_get_within}
 use Rattle.shr_base.specs.declared.replies.Answered.{Answered}

@@ -1,4 +1,4 @@
-use Rattle.std.proofs.Common.{◌≡◌, ◌<◌, ℕ, Bool, List, length, refl, subst}
+use Rattle.std.proofs.Common.{◌<◌, ℕ, Bool, List, length, refl, subst}
 use Rattle.std.specs.Bool.{Decides}
 use Rattle.std.specs.List.{AllByRecursion}
 use Rattle.shr_model.specs.Groups.{IsAtOrAbove}
