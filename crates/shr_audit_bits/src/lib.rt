@@ -3,4 +3,4 @@
 
 pub mod bits;
 mod phases;
-mod words;
+pub mod words;

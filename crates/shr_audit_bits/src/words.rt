@@ -9,8 +9,8 @@ use shr_base::memory::Memory;
 use std::alloc::Global;
 use std::collections::HashMap;
 
-// A node, a group and a unit by one number.
-pub(crate) fn word_key(node: u8, group: u16, unit: u16) -> u64
+/// A node, a group and a unit by one number. Our own.
+pub fn word_key(node: u8, group: u16, unit: u16) -> u64
     ensures key { result ≡ word_key node group unit }
     ensures group { group < 2 ^ 16 }
     ensures unit { unit < 2 ^ 16 }

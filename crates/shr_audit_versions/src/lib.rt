@@ -2,5 +2,5 @@
 #![tactic(auto)]
 
 pub mod report;
-mod table;
+pub mod table;
 pub mod walks;

@@ -15,8 +15,8 @@ pub(crate) fn no_versions(alloc: Global) -> HashMap<u64, u32>
     HashMap::new(alloc)
 }
 
-// A place by one number.
-fn place_key(place: Place) -> u64
+/// A place by one number. Our own.
+pub fn place_key(place: Place) -> u64
     ensures key { result ≡ place_key place }
     ensures group { place.group < 2 ^ 16 }
     ensures id { place.id < 2 ^ 16 }

@@ -15,8 +15,8 @@ use shr_base::walks::{Outcome, WalkRecord};
 use std::alloc::Global;
 use std::collections::HashMap;
 
-// The place of an id on the walk's node and in its group.
-fn place_in(walk: &WalkRecord, id: u16) -> Place
+/// The place of an id on the walk's node and in its group. Our own.
+pub fn place_in(walk: &WalkRecord, id: u16) -> Place
     ensures { result ≡ place_in walk.now id }
 {
     Place {

@@ -1,0 +1,6 @@
+mod Citing
+mod Clearing
+mod Filling
+mod Standing
+mod LaterLaw
+mod FilledLaw

@@ -1,0 +1,7 @@
+use Rattle.std.proofs.Common.{◌≡◌, ◌<◌, ℕ, Some, slice_get}
+use Rattle.shr_base.specs.declared.walks.MapSeen.{MapSeen}
+use Rattle.shr_audit_later.specs.Filled.{IsMapFull}
+use Rattle.shr_audit_later.proofs.bits.is_walk_full.Given as goal
+
+abbrev pub invariant-loop-map : goal.invariant-loop-map
+invariant-loop-map l = (k : ℕ) (m : MapSeen) → k < l.map-index → slice_get l.map-items k ≡ Some m → IsMapFull l.filled l.walk m

@@ -1,0 +1,12 @@
+use Rattle.std.proofs.Common.{arith, subst, sym}
+use Rattle.shr_base.specs.declared.replies.Answered.{Answered}
+use Rattle.shr_audit_later.specs.Cited.{NotesReply}
+use Rattle.shr_audit_later.proofs.Citing.{one_more}
+use Rattle.shr_audit_later.proofs.cited.note_answers.Goals as goal
+
+pub loop-k-preserved : goal.loop-k-preserved
+loop-k-preserved c =
+    let old = c.loop-k.cited in
+    let new = c.note_reply.new.cited in
+    one_more c.args.answers.now c.loop-k.k c.index-answers-k.result old new (omega arith) c.index-answers-k.is c.loop-k.invariant
+    (subst (λ (a : Answered). NotesReply old new a.reply) (sym c.index-answers-k.is) c.in_ok-note_reply.ensures)

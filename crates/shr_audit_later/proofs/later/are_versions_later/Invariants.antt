@@ -1,0 +1,7 @@
+use Rattle.std.proofs.Common.{◌≡◌, ◌<◌, ℕ, Some, slice_get}
+use Rattle.shr_base.specs.declared.ends.WorkerPart.{WorkerPart}
+use Rattle.shr_audit_later.specs.Cited.{IsPartLater}
+use Rattle.shr_audit_later.proofs.later.are_versions_later.Given as goal
+
+abbrev pub invariant-loop-worker : goal.invariant-loop-worker
+invariant-loop-worker l = (k : ℕ) (part : WorkerPart) → k < l.worker → slice_get l.parts k ≡ Some part → IsPartLater part

@@ -1,0 +1,4 @@
+pub mod Cited
+pub mod Cleared
+pub mod Filled
+pub mod Walks
