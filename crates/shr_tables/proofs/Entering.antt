@@ -31,4 +31,4 @@ unowed_if false n u w same none = ap (λ (v : View). v.marks.owed) same ∙ none
 
 pub entered_unowed : (cs : List CacheDecl) (n : ℕ) (w : View) → AreEntered cs n opener w → w.marks.owed ≡ []
 entered_unowed cs zero w same = ap (λ (v : View). v.marks.owed) same
-entered_unowed cs (suc n) w entered = unowed_if (is_on (slice_get cs n)) n entered.0 w entered.1.1 (entered_unowed cs n entered.0 entered.1.0)
+entered_unowed cs (suc n) w entered = unowed_if (is_on (slice_get cs n)) n entered.0 w entered.2 (entered_unowed cs n entered.0 entered.1)
