@@ -1,0 +1,6 @@
+mod AloneLaws
+mod BeganLaws
+mod CarriedLaws
+mod GatheredLaws
+mod SplicedLaws
+mod SumsLaws

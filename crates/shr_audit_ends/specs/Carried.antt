@@ -1,0 +1,13 @@
+-- How much each command of a worker carried. No public clause of the law cites this.
+use Rattle.std.specs.Prelude.{◌≡◌, ℕ, ◌<◌, ◌%◌, ◌^◌, List, length, filter, get_or, sum_by}
+use Rattle.shr_base.specs.declared.walks.Carry.{Carry}
+use Rattle.shr_model.specs.Commands.{is_serial}
+use Rattle.shr_report.specs.Parts.{serial_of}
+
+-- what a command carried, by these
+abbrev pub carried_by : ℕ → ℕ → List Carry → ℕ
+carried_by worker k carries = sum_by (λ (c : Carry). c.amount) (filter (λ (c : Carry). is_serial (serial_of worker k) c.by) carries)
+
+-- the table has it modulo 2^64
+abbrev pub AreCarried : ℕ → List Carry → List ℕ → Type 0
+AreCarried worker carries table = (k : ℕ) → k < length table → get_or table k 0 ≡ carried_by worker k carries % 2 ^ 64
