@@ -1,0 +1,4 @@
+pub mod Script
+pub mod Verdict
+pub mod Asked
+pub mod Given
