@@ -1,0 +1,9 @@
+mod Alike
+mod Begun
+mod Climbing
+mod Commanding
+mod Due
+mod Fitting
+mod Making
+mod Ordering
+mod Refusing

@@ -1,0 +1,8 @@
+use Rattle.std.proofs.Common.{◌≡◌, ◌<◌, ℕ, Some, slice_get}
+use Rattle.shr_base.specs.declared.ends.WorkerPart.{WorkerPart}
+use Rattle.shr_report.specs.Parts.{commands_of}
+use Rattle.shr_audit_rounds.specs.Commands.{IsPartMade}
+use Rattle.shr_audit_rounds.proofs.commands.are_walks_made.Given as goal
+
+abbrev pub invariant-loop-worker : goal.invariant-loop-worker
+invariant-loop-worker l = (k : ℕ) (part : WorkerPart) → k < l.worker → slice_get l.parts k ≡ Some part → IsPartMade l.dues k (commands_of l.script k) part

@@ -1,0 +1,28 @@
+use Rattle.std.proofs.Common.{◌≡◌, ◌<◌, ℕ, List, Vec, length, refl, sym, ap, subst, ◌∙◌}
+use Rattle.std.specs.declared.alloc.Global.{Global}
+use Rattle.std.specs.List.{AllByRecursion}
+use Rattle.shr_base.specs.declared.journals.UseStep.{UseStep}
+use Rattle.shr_report.specs.Parts.{parents_of}
+use Rattle.shr_audit_rounds.specs.declared.refusals.Refusal.{Refusal}
+use Rattle.shr_audit_rounds.specs.Refusals.{AreRefusals}
+use Rattle.shr_audit_rounds.proofs.Refusing.{there}
+use Rattle.shr_audit_rounds.proofs.commands.dues_of.Goals as goal
+
+pub returns : goal.returns
+returns c =
+    let s = c.args.script.now in
+    let uses = c.args.report.now.uses.items in
+    let refusals = c.in_ok-refusals.refusals.items in
+    let parents : c.in_ok-subtrees.subtrees.parents.items ≡ parents_of s = ap (λ (v : Vec ℕ Global). v.items) c.in_ok-subtrees.ensures.parents ∙ c.in_ok-parents.ensures in
+    let are : AreRefusals s uses refusals = subst (λ (ops : List UseStep). AreRefusals s ops refusals) c.as_slice.ensures c.in_ok-refusals.ensures.same in
+    record {
+      nodes = refl;
+      parents = parents;
+      refusals = are;
+      can = record {
+        nodes = c.requires.nodes;
+        subtrees = c.in_ok-subtrees.ensures.are;
+        order = c.in_ok-refusals.ensures.order;
+        there = subst (λ (n : ℕ). AllByRecursion (λ (x : Refusal). x.group < n) refusals) (sym (ap length parents)) (there s uses refusals are);
+      };
+    }

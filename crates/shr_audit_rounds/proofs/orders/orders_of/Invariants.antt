@@ -1,0 +1,6 @@
+use Rattle.std.proofs.Common.{◌-◌, length}
+use Rattle.shr_audit_rounds.specs.Orders.{AreOrdersFrom}
+use Rattle.shr_audit_rounds.proofs.orders.orders_of.Given as goal
+
+abbrev pub invariant-loop-k : goal.invariant-loop-k
+invariant-loop-k l = AreOrdersFrom l.parents (length l.parents - l.k) l.orders.items

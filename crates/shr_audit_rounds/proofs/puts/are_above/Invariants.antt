@@ -1,0 +1,7 @@
+use Rattle.std.proofs.Common.{ℕ, take}
+use Rattle.std.specs.List.{AllByRecursion}
+use Rattle.shr_model.specs.Groups.{IsAtOrAbove}
+use Rattle.shr_audit_rounds.proofs.puts.are_above.Given as goal
+
+abbrev pub invariant-loop-above : goal.invariant-loop-above
+invariant-loop-above l = AllByRecursion (λ (h : ℕ). IsAtOrAbove l.parents h l.group) (take l.above-index l.groups)

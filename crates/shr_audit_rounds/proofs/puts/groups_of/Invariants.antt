@@ -1,0 +1,6 @@
+use Rattle.std.proofs.Common.{◌≡◌, take}
+use Rattle.shr_audit_rounds.specs.Refusals.{groups_of}
+use Rattle.shr_audit_rounds.proofs.puts.groups_of.Given as goal
+
+abbrev pub invariant-loop-refusal : goal.invariant-loop-refusal
+invariant-loop-refusal l = l.groups.items ≡ groups_of (take l.refusal-index l.refusals)

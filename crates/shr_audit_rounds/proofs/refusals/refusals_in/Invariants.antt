@@ -1,0 +1,6 @@
+use Rattle.std.proofs.Common.{◌≡◌, take}
+use Rattle.shr_audit_rounds.specs.Refusals.{refusals_in}
+use Rattle.shr_audit_rounds.proofs.refusals.refusals_in.Given as goal
+
+abbrev pub invariant-loop-step : goal.invariant-loop-step
+invariant-loop-step l = l.refusals.items ≡ refusals_in l.script (take l.step-index l.uses)

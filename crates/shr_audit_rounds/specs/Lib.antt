@@ -1,0 +1,5 @@
+pub mod Commands
+pub mod Orders
+pub mod Refusals
+pub mod Rounds
+pub mod Rows

@@ -1,0 +1,8 @@
+mod AskedLaws
+mod GroupLaws
+mod KnownLaws
+mod MomentsLaws
+mod OverLaws
+mod PooledLaws
+mod RowLaws
+mod TriedLaws

@@ -1,0 +1,15 @@
+use Rattle.std.proofs.Common.{List, subst}
+use Rattle.std.specs.Bool.{Decides}
+use Rattle.shr_formed.specs.Each.{Each}
+use Rattle.shr_audit_rows.specs.declared.asked.Asked.{Asked}
+use Rattle.shr_audit_rows.specs.Asked.{IsSo}
+use Rattle.shr_audit_rows.proofs.KnownLaws.{in_any_order}
+use Rattle.shr_audit_rows.proofs.known.are_declarations_so.Goals as goal
+
+pub returns : goal.returns
+returns c =
+    let s = c.args.script.now in
+    let r = c.args.report.now in
+    let b = c.in_ok-all.all in
+    in_any_order s r c.in_ok-asked.asked.items c.in_ok-asked-2.asked.items b c.in_ok-asked.ensures c.in_ok-asked-2.ensures.same
+    (subst (λ (xs : List Asked). Decides b (Each (IsSo s r) xs)) c.as_slice.ensures.value c.in_ok-all.ensures)

@@ -1,0 +1,13 @@
+use Rattle.std.proofs.Common.{◌≡◌, ℕ, ◌<◌, ◌≤◌, Some, get_or, length, take}
+use Rattle.std.specs.Prelude.{slice_get}
+use Rattle.shr_audit_rows.specs.declared.asked.Asked.{Asked}
+use Rattle.shr_audit_rows.specs.Asked.{IsSo}
+use Rattle.shr_audit_rows.specs.Pooled.{Stands}
+use Rattle.shr_audit_rows.proofs.known.are_so.Given as goal
+
+abbrev pub invariant-loop-n : goal.invariant-loop-n
+invariant-loop-n l = record {
+  stands : Stands (take l.pooled.next l.report.pool.items) l.pooled.phases.items l.pooled.decls.items;
+  low : (m : ℕ) (d : Asked) → l.n ≤ m → m < length l.asked → l.pooled.next ≤ (get_or l.asked m d).entry;
+  before : (k : ℕ) (a : Asked) → k < l.n → slice_get l.asked k ≡ Some a → IsSo l.script l.report a;
+}

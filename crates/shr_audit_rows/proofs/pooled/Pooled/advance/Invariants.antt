@@ -1,0 +1,6 @@
+use Rattle.std.proofs.Common.{take}
+use Rattle.shr_audit_rows.specs.Pooled.{Stands}
+use Rattle.shr_audit_rows.proofs.pooled.Pooled.advance.Given as goal
+
+abbrev pub invariant-loop-n : goal.invariant-loop-n
+invariant-loop-n l = Stands (take l.n l.pool) l.self.phases.items l.self.decls.items

@@ -1,0 +1,6 @@
+use Rattle.std.proofs.Common.{◌≡◌, ℕ, ◌<◌, false}
+use Rattle.shr_audit_rows.specs.Pooled.{is_free_in}
+use Rattle.shr_audit_rows.proofs.pooled.Pooled.has_free.Given as goal
+
+abbrev pub invariant-loop-id : goal.invariant-loop-id
+invariant-loop-id l = (k : ℕ) → k < l.id → is_free_in l.self.phases.items k ≡ false

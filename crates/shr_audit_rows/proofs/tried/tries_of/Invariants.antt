@@ -1,0 +1,6 @@
+use Rattle.std.proofs.Common.{take}
+use Rattle.shr_audit_rows.specs.Tried.{AreTries}
+use Rattle.shr_audit_rows.proofs.tried.tries_of.Given as goal
+
+abbrev pub invariant-loop-n : goal.invariant-loop-n
+invariant-loop-n l = AreTries (take l.n l.uses) l.tries.tried l.tries.counts.items
