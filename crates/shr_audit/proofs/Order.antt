@@ -52,9 +52,6 @@ first_broken law s r b asked h decides fails = record { asked = asked; before = 
 pub all_asked : (s : Script) (r : Report) → AreHeldBelow 13 s r → HoldAsked s r
 all_asked s r h law asked = h.each law asked (no_more law)
 
-past_bag : (s : Script) (r : Report) → AreHeldBelow 4 s r → AreHeldBelow 5 s r
-past_bag s r h = held_over laws.Walks s r refl h
-
 past_bits : (s : Script) (r : Report) → AreHeldBelow 9 s r → AreHeldBelow 13 s r
 past_bits s r h = held_over laws.Sweep s r refl (held_over laws.Isolations s r refl (held_over laws.Pools s r refl (held_over laws.Causes s r refl h)))
 
@@ -66,8 +63,11 @@ after_replies s r k = held_more laws.Replies s r (held_none s r) k
 pub after_journals : (s : Script) (r : Report) → AreHeldBelow 2 s r → Holds laws.Journals s r → AreHeldBelow 3 s r
 after_journals s r h k = held_more laws.Journals s r h k
 
-pub after_bag : (s : Script) (r : Report) → AreHeldBelow 3 s r → Holds laws.Bag s r → AreHeldBelow 5 s r
-after_bag s r h k = past_bag s r (held_more laws.Bag s r h k)
+pub after_bag : (s : Script) (r : Report) → AreHeldBelow 3 s r → Holds laws.Bag s r → AreHeldBelow 4 s r
+after_bag s r h k = held_more laws.Bag s r h k
+
+pub after_walks : (s : Script) (r : Report) → AreHeldBelow 4 s r → Holds laws.Walks s r → AreHeldBelow 5 s r
+after_walks s r h k = held_more laws.Walks s r h k
 
 pub after_lookups : (s : Script) (r : Report) → AreHeldBelow 5 s r → Holds laws.Lookups s r → AreHeldBelow 6 s r
 after_lookups s r h k = held_more laws.Lookups s r h k

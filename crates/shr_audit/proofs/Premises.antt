@@ -1,5 +1,5 @@
 -- What the laws' functions ask of a script and a report that were read.
-use Rattle.std.proofs.Common.{◌≡◌, ℕ, ◌<◌, ◌≤◌, ◌^◌, List, [], ◌∷◌, length, get_or, map, Some, ap, ◌∙◌, arith}
+use Rattle.std.proofs.Common.{◌≡◌, ℕ, ◌<◌, ◌≤◌, ◌^◌, List, [], ◌∷◌, length, get_or, map, Option, Some, None, refl, ap, ◌∙◌, arith}
 use Rattle.std.specs.Prelude.{slice_get, sum_by, option_map}
 use Rattle.std.proofs.lemmas.List.{length-map}
 use Rattle.std.proofs.lemmas.List.Sums.{get_or-le-sum_by}
@@ -11,7 +11,7 @@ use Rattle.shr_model.specs.Groups.{IsTree}
 use Rattle.shr_script.specs.Content.{content_of, IsValid}
 use Rattle.shr_script.specs.Bounds.{IsWithin}
 use Rattle.shr_script.proofs.BoundsLaws.{within_of_valid}
-use Rattle.shr_report.specs.Parts.{parents_of}
+use Rattle.shr_report.specs.Parts.{parents_of, commands_of, commands_in}
 
 -- the groups of a valid script are a tree
 pub is_tree : (s : Script) → IsValid (content_of s) → IsTree (parents_of s)
@@ -41,3 +41,15 @@ few_commands s h worker w e =
     let below : length (get_or lists worker []) ≤ sum_by length lists = get_or-le-sum_by length lists worker [] (slice_get_within lists worker w.commands.items there) in
     let same = ap length own in
     omega (arith, all, below, same)
+
+-- those of any number, none where there is no such worker
+pub few_of_each : (s : Script) → IsValid (content_of s) → (worker : ℕ) → length (commands_of s worker) ≤ 2 ^ 32
+few_of_each s h worker = by (slice_get s.workers.items worker) refl
+  where
+    by : (w : Option WorkerScript) → slice_get s.workers.items worker ≡ w → length (commands_in w) ≤ 2 ^ 32
+    by None e = omega arith
+    by (Some w) e = few_commands s h worker w e
+
+-- it has a node
+pub some_node : (s : Script) → IsValid (content_of s) → 0 < s.nodes
+some_node s h = (within_of_valid (content_of s) h).some_node

@@ -6,9 +6,8 @@ use Rattle.shr_audit.specs.declared.verdict.Law.{Law}
 use Rattle.shr_audit.specs.declared.verdict.Law.TheVariants as laws
 use Rattle.shr_audit.specs.Verdict.{number_of, Holds}
 
--- A law is asked. Not yet asked are those on walks, causes, pools, isolations and the sweep.
+-- A law is asked. Not yet asked are those on causes, pools, isolations and the sweep.
 abbrev pub is_asked : Law → Bool
-is_asked laws.Walks = false
 is_asked laws.Causes = false
 is_asked laws.Pools = false
 is_asked laws.Isolations = false

@@ -14,6 +14,7 @@ use shr_audit_lists::law::are_journals_lawful;
 use shr_audit_lookups::law::are_lookups_lawful;
 use shr_audit_tables::deferred::is_deferred_lawful;
 use shr_audit_values::law::are_replies_lawful;
+use shr_audit_walks_law::law::are_walks_lawful;
 use shr_base::memory::Memory;
 use shr_base::scripts::Script;
 use shr_case::case::Case;
@@ -21,7 +22,7 @@ use shr_report::report::Report;
 use std::alloc::Global;
 
 /// The first law that doesn't hold of a script and a report, of those that are asked so far: replies,
-/// journals, the bag, lookups, charges, deferred words and bits. None: each of these holds. `Memory` is want of
+/// journals, the bag, walks, lookups, charges, deferred words and bits. None: each of these holds. `Memory` is want of
 /// memory alone. Our own.
 pub fn first_of_asked(
     alloc: Global,
@@ -47,6 +48,10 @@ pub fn first_of_asked(
     let bag = is_bag_lawful(alloc, script, report, &case)?;
     if !bag {
         return Ok(Some(Law::Bag));
+    }
+    let walks = are_walks_lawful(alloc, script, report, &case)?;
+    if !walks {
+        return Ok(Some(Law::Walks));
     }
     let lookups = are_lookups_lawful(alloc, script, report, &case)?;
     if !lookups {
