@@ -1,0 +1,6 @@
+mod Options
+mod Ranged
+mod Gathering
+mod Lists
+mod Meeting
+mod Commanded

@@ -1,0 +1,7 @@
+use Rattle.std.proofs.Common.{◌≡◌, ◌<◌, ℕ, Some, slice_get}
+use Rattle.shr_base.specs.declared.replies.Answered.{Answered}
+use Rattle.shr_audit_isolations.specs.Commands.{IsAnswerTold}
+use Rattle.shr_audit_isolations.proofs.commands.is_part_told.Given as goal
+
+abbrev pub invariant-loop-n : goal.invariant-loop-n
+invariant-loop-n l = (n : ℕ) (a : Answered) → n < l.n → slice_get l.answers n ≡ Some a → IsAnswerTold l.script l.worker l.part.isolations.items n a

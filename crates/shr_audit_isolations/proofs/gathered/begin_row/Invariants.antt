@@ -1,0 +1,6 @@
+use Rattle.std.proofs.Common.{◌≡◌, map, take}
+use Rattle.shr_audit_isolations.specs.Gathered.{begun, told_of}
+use Rattle.shr_audit_isolations.proofs.gathered.begin_row.Given as goal
+
+abbrev pub invariant-loop-isolation : goal.invariant-loop-isolation
+invariant-loop-isolation l = map told_of l.row.items ≡ map begun (take l.isolation-index l.isolations)

@@ -1,0 +1,10 @@
+use Rattle.std.proofs.Common.{◌≡◌, ◌<◌, ℕ, Some, slice_get, take}
+use Rattle.shr_base.specs.declared.journals.Entry.{Entry}
+use Rattle.shr_audit_isolations.specs.Gathered.{Gains, IsOfTold, at_place}
+use Rattle.shr_audit_isolations.proofs.gathered.gather_entries.Given as goal
+
+abbrev pub invariant-loop-entry : goal.invariant-loop-entry
+invariant-loop-entry l = record {
+  right : (n : ℕ) (e : Entry) → n < l.entry-index → slice_get l.entries n ≡ Some e → IsOfTold l.fn.table.items l.place e;
+  gains : Gains (at_place l.place (take l.entry-index l.entries)) l.fn.table.items l.table.items;
+}

@@ -1,0 +1,7 @@
+use Rattle.std.proofs.Common.{◌≡◌, ◌<◌, ℕ, Some, slice_get}
+use Rattle.shr_audit_isolations.specs.declared.gathered.IsolationScan.{IsolationScan}
+use Rattle.shr_audit_isolations.specs.Lawful.{IsAskedAlike}
+use Rattle.shr_audit_isolations.proofs.lawful.are_asked_alike.Given as goal
+
+abbrev pub invariant-loop-scan : goal.invariant-loop-scan
+invariant-loop-scan l = (n : ℕ) (x : IsolationScan) → n < l.scan-index → slice_get l.scans n ≡ Some x → IsAskedAlike l.policy x

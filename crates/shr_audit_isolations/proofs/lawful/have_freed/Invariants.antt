@@ -1,0 +1,6 @@
+use Rattle.std.proofs.Common.{◌≡◌, ◌+◌, sum_by, take}
+use Rattle.shr_audit_isolations.specs.Lawful.{freed_of}
+use Rattle.shr_audit_isolations.proofs.lawful.have_freed.Given as goal
+
+abbrev pub invariant-loop-scan : goal.invariant-loop-scan
+invariant-loop-scan l = l.left + sum_by freed_of (take l.scan-index l.scans) ≡ l.freed

@@ -1,0 +1,4 @@
+pub mod Gathered
+pub mod Lawful
+pub mod Right
+pub mod Commands

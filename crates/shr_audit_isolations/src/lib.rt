@@ -1,0 +1,10 @@
+//! Whether isolations are lawful. Our own.
+#![tactic(auto)]
+
+pub mod commands;
+pub mod gathered;
+pub mod isolations;
+pub mod lawful;
+pub mod right;
+#[cfg(test)]
+mod tests;

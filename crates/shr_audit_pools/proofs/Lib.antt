@@ -1,0 +1,14 @@
+mod Dues
+mod Journaled
+mod Ranged
+mod Shelved
+mod Loops
+mod Stocked
+mod Asked
+mod Reclaimed
+mod Tried
+mod Amounts
+mod Moving
+mod Risen
+mod Versed
+mod Lawed

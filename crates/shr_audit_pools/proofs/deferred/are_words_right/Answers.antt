@@ -1,0 +1,6 @@
+use Rattle.shr_audit_pools.proofs.Moving.{words_decided}
+use Rattle.shr_audit_pools.proofs.deferred.are_words_right.Goals as goal
+
+pub returns : goal.returns
+returns c =
+    words_decided c.args.script.now c.args.report.now c.as_slice.result.now c.as_slice-2.result.now _ _ c.note_parts.new.moves.items _ c.requires.well c.requires.numbers c.as_slice.ensures c.as_slice-2.ensures c.new-moves.ensures.items c.in_ok-note_words.ensures c.in_ok-note_parts.ensures c.in_ok-settled.ensures

@@ -1,0 +1,7 @@
+use Rattle.std.proofs.Common.{sum_by, take}
+use Rattle.shr_sums.specs.Deferred.{Gains}
+use Rattle.shr_audit_pools.specs.Moved.{moved_at, next_of, nr_of}
+use Rattle.shr_audit_pools.proofs.deferred.note_part.Given as goal
+
+abbrev pub invariant-loop-walk : goal.invariant-loop-walk
+invariant-loop-walk l = Gains (λ p. sum_by (moved_at next_of l.script p) (take l.walk-index l.walk-items)) (λ p. sum_by (moved_at nr_of l.script p) (take l.walk-index l.walk-items)) l.fn.moves.items l.moves.items

@@ -1,0 +1,7 @@
+use Rattle.shr_sums.specs.Deferred.{Gains}
+use Rattle.shr_audit_pools.specs.Moved.{next_of, nr_of}
+use Rattle.shr_audit_pools.proofs.Moving.{tried_to}
+use Rattle.shr_audit_pools.proofs.deferred.note_walk.Given as goal
+
+abbrev pub invariant-loop-pool : goal.invariant-loop-pool
+invariant-loop-pool l = Gains (λ p. tried_to next_of l.script p l.walk l.pool) (λ p. tried_to nr_of l.script p l.walk l.pool) l.fn.moves.items l.moves.items

@@ -1,0 +1,10 @@
+use Rattle.std.proofs.Common.{◌≡◌, ◌≤◌, take}
+use Rattle.shr_model.specs.Units.{IsPlainJournal, free_of}
+use Rattle.shr_audit_pools.proofs.journals.free_of.Given as goal
+
+abbrev pub invariant-loop-entry : goal.invariant-loop-entry
+invariant-loop-entry l = record {
+  few : l.free ≤ 20000;
+  free : l.free ≡ free_of (take l.entry-index l.entries);
+  right : IsPlainJournal (take l.entry-index l.entries);
+}

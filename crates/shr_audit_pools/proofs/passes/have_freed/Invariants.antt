@@ -1,0 +1,6 @@
+use Rattle.std.proofs.Common.{◌≡◌, ◌+◌, sum_by, take}
+use Rattle.shr_audit_pools.specs.Passes.{freed_of}
+use Rattle.shr_audit_pools.proofs.passes.have_freed.Given as goal
+
+abbrev pub invariant-loop-reclaimed : goal.invariant-loop-reclaimed
+invariant-loop-reclaimed l = l.left + sum_by freed_of (take l.reclaimed-index l.reclaims) ≡ l.told

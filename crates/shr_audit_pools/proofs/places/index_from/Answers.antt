@@ -1,0 +1,21 @@
+use Rattle.std.proofs.Common.{◌≡◌, true, false, subst, arith, rules}
+use Rattle.std.specs.Prelude.{nat_lt}
+use Rattle.std.proofs.lemmas.Bool.Decides.{nat_tests}
+use Rattle.std.proofs.lemmas.List.Sorted.{IsPartitionPoint-from_clause}
+use Rattle.std.proofs.lemmas.Option.{get_or_from_slice_get, slice_get_within}
+use Rattle.shr_base.specs.declared.ends.UnitsEnd.{UnitsEnd}
+use Rattle.shr_audit_pools.specs.Places.{units_key}
+use Rattle.shr_audit_pools.proofs.Shelved.{parted}
+use Rattle.shr_audit_pools.proofs.places.index_from.Goals as goal
+
+pub returns-clause-before : goal.returns-clause-before
+returns-clause-before c = λ n x lt at.
+    let point = IsPartitionPoint-from_clause (λ (u : UnitsEnd). nat_lt (units_key u) c.args.key) _ _ c.partition_point.ensures.partitioned (parted c.args.ends.now c.args.key c.requires) (λ a r q k. search rules) in
+    let t : nat_lt (units_key x) c.args.key ≡ true = subst (λ (u : UnitsEnd). nat_lt (units_key u) c.args.key ≡ true) (get_or_from_slice_get c.args.ends.now n x x at) (point.0 n x (omega arith) lt) in
+    grind (arith, nat_tests)
+
+pub returns-clause-behind : goal.returns-clause-behind
+returns-clause-behind c = λ n x le at.
+    let point = IsPartitionPoint-from_clause (λ (u : UnitsEnd). nat_lt (units_key u) c.args.key) _ _ c.partition_point.ensures.partitioned (parted c.args.ends.now c.args.key c.requires) (λ a r q k. search rules) in
+    let t : nat_lt (units_key x) c.args.key ≡ false = subst (λ (u : UnitsEnd). nat_lt (units_key u) c.args.key ≡ false) (get_or_from_slice_get c.args.ends.now n x x at) (point.1 n x le (slice_get_within c.args.ends.now n x at)) in
+    grind (arith, nat_tests)

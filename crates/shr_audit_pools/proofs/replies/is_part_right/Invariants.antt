@@ -1,0 +1,8 @@
+use Rattle.std.proofs.Common.{◌≡◌, ◌<◌, ℕ, Some, slice_get}
+use Rattle.shr_base.specs.declared.replies.Answered.{Answered}
+use Rattle.shr_report.specs.Parts.{commands_of}
+use Rattle.shr_audit_pools.specs.Cited.{HasRight}
+use Rattle.shr_audit_pools.proofs.replies.is_part_right.Given as goal
+
+abbrev pub invariant-loop-n : goal.invariant-loop-n
+invariant-loop-n l = (n : ℕ) (a : Answered) → n < l.n → slice_get l.answers n ≡ Some a → HasRight l.script l.report l.worker (commands_of l.script l.worker) n a

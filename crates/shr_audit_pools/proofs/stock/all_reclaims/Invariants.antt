@@ -1,0 +1,6 @@
+use Rattle.std.proofs.Common.{◌≡◌, take}
+use Rattle.shr_audit_pools.specs.Stock.{all_reclaims}
+use Rattle.shr_audit_pools.proofs.stock.all_reclaims.Given as goal
+
+abbrev pub invariant-loop-number : goal.invariant-loop-number
+invariant-loop-number l = l.reclaims.items ≡ all_reclaims (take l.number l.entries)

@@ -1,0 +1,20 @@
+use Rattle.std.proofs.Common.{◌≡◌, true, false, subst, arith, rules}
+use Rattle.std.specs.Prelude.{nat_lt}
+use Rattle.std.proofs.lemmas.Bool.Decides.{nat_tests}
+use Rattle.std.proofs.lemmas.List.Sorted.{IsPartitionPoint-from_clause}
+use Rattle.std.proofs.lemmas.Option.{get_or_from_slice_get, slice_get_within}
+use Rattle.shr_audit_pools.specs.declared.stock.Reclaimed.{Reclaimed}
+use Rattle.shr_audit_pools.proofs.Stocked.{parted_below}
+use Rattle.shr_audit_pools.proofs.stock.first_of.Goals as goal
+
+pub returns-clause-before : goal.returns-clause-before
+returns-clause-before c = λ n x lt at.
+    let point = IsPartitionPoint-from_clause (λ (u : Reclaimed). nat_lt u.key c.args.key) _ _ c.partition_point.ensures.partitioned (parted_below c.args.reclaims.now c.args.key c.requires) (λ a r q k. search rules) in
+    let t : nat_lt x.key c.args.key ≡ true = subst (λ (u : Reclaimed). nat_lt u.key c.args.key ≡ true) (get_or_from_slice_get c.args.reclaims.now n x x at) (point.0 n x (omega arith) lt) in
+    grind (arith, nat_tests)
+
+pub returns-clause-behind : goal.returns-clause-behind
+returns-clause-behind c = λ n x le at.
+    let point = IsPartitionPoint-from_clause (λ (u : Reclaimed). nat_lt u.key c.args.key) _ _ c.partition_point.ensures.partitioned (parted_below c.args.reclaims.now c.args.key c.requires) (λ a r q k. search rules) in
+    let t : nat_lt x.key c.args.key ≡ false = subst (λ (u : Reclaimed). nat_lt u.key c.args.key ≡ false) (get_or_from_slice_get c.args.reclaims.now n x x at) (point.1 n x le (slice_get_within c.args.reclaims.now n x at)) in
+    grind (arith, nat_tests)

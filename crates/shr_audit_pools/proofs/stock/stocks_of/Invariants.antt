@@ -1,0 +1,6 @@
+use Rattle.std.proofs.Common.{take}
+use Rattle.shr_audit_pools.specs.Stock.{AreStocksOf}
+use Rattle.shr_audit_pools.proofs.stock.stocks_of.Given as goal
+
+abbrev pub invariant-loop-units : goal.invariant-loop-units
+invariant-loop-units l = AreStocksOf (take l.units-index l.units-items) l.stocks.items

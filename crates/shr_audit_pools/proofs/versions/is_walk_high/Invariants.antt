@@ -1,0 +1,7 @@
+use Rattle.std.proofs.Common.{◌≡◌, ◌<◌, ℕ, Some, slice_get}
+use Rattle.shr_base.specs.declared.walks.PlainTry.{PlainTry}
+use Rattle.shr_audit_pools.specs.Lows.{IsTryHigh}
+use Rattle.shr_audit_pools.proofs.versions.is_walk_high.Given as goal
+
+abbrev pub invariant-loop-pool : goal.invariant-loop-pool
+invariant-loop-pool l = (n : ℕ) (x : PlainTry) → n < l.pool → slice_get l.tries n ≡ Some x → IsTryHigh l.script l.lows l.walk n x

@@ -1,0 +1,6 @@
+use Rattle.std.proofs.Common.{◌≡◌, ◌+◌, sum_by, take}
+use Rattle.shr_report.specs.Pools.{freed_in}
+use Rattle.shr_audit_pools.proofs.walks.have_freed.Given as goal
+
+abbrev pub invariant-loop-tried : goal.invariant-loop-tried
+invariant-loop-tried l = l.left + sum_by freed_in (take l.tried-index l.tries) ≡ l.told

@@ -1,0 +1,20 @@
+//! Whether what a report says of pools of units is lawful. Our own.
+#![tactic(auto)]
+
+mod arithmetic;
+mod cites;
+mod deferred;
+pub mod due;
+mod entries;
+pub mod journals;
+mod lows;
+mod passes;
+mod places;
+pub mod pools;
+mod replies;
+mod rising;
+mod stock;
+#[cfg(test)]
+mod tests;
+mod versions;
+mod walks;

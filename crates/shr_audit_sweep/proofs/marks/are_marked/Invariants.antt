@@ -1,0 +1,6 @@
+use Rattle.std.proofs.Common.{◌<◌, ℕ}
+use Rattle.shr_audit_sweep.specs.Marks.{IsGroupMarked}
+use Rattle.shr_audit_sweep.proofs.marks.are_marked.Given as goal
+
+abbrev pub invariant-loop-group : goal.invariant-loop-group
+invariant-loop-group l = (n : ℕ) → n < l.group → IsGroupMarked l.nodes n l.marks

@@ -1,0 +1,8 @@
+use Rattle.std.proofs.Common.{length}
+use Rattle.shr_report.specs.Parts.{parents_of}
+use Rattle.shr_audit_sweep.specs.Marks.{AreMarked}
+use Rattle.shr_audit_sweep.proofs.Marking.{swept_to}
+use Rattle.shr_audit_sweep.proofs.marks.mark_all.Given as goal
+
+abbrev pub invariant-loop-worker : goal.invariant-loop-worker
+invariant-loop-worker l = AreMarked (length (parents_of l.script)) l.script.nodes (swept_to l.script l.report l.worker) l.marks.items

@@ -1,0 +1,10 @@
+use Rattle.std.proofs.Common.{◌≡◌, ◌*◌, ◌++◌, List, length, take}
+use Rattle.shr_base.specs.declared.walks.WalkRecord.{WalkRecord}
+use Rattle.shr_audit_sweep.specs.Marks.{AreMarked}
+use Rattle.shr_audit_sweep.proofs.marks.mark_walks.Given as goal
+
+abbrev pub invariant-loop-walk : goal.invariant-loop-walk
+invariant-loop-walk l = record {
+  size : length l.marks.items ≡ l.groups * l.nodes;
+  marked : (before : List WalkRecord) → AreMarked l.groups l.nodes before l.fn.marks.items → AreMarked l.groups l.nodes (before ++ take l.walk-index l.walks) l.marks.items;
+}

@@ -1,0 +1,7 @@
+use Rattle.std.proofs.Common.{◌≡◌, ◌<◌, ℕ, Some, slice_get}
+use Rattle.shr_base.specs.declared.walks.WalkRecord.{WalkRecord}
+use Rattle.shr_report.specs.Swept.{IsSweepWalk}
+use Rattle.shr_audit_sweep.proofs.walks.are_sweep_walks.Given as goal
+
+abbrev pub invariant-loop-walk : goal.invariant-loop-walk
+invariant-loop-walk l = (n : ℕ) (w : WalkRecord) → n < l.walk-index → slice_get l.walks n ≡ Some w → IsSweepWalk l.script l.sweep w
