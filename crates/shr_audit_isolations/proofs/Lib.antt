@@ -1,5 +1,4 @@
 mod Options
-mod Ranged
 mod Gathering
 mod Lists
 mod Meeting

@@ -1,13 +1,10 @@
 mod Dues
 mod Journaled
-mod Ranged
 mod Shelved
 mod Loops
 mod Stocked
-mod Asked
 mod Reclaimed
 mod Tried
-mod Amounts
 mod Moving
 mod Risen
 mod Versed

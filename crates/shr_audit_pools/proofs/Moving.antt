@@ -30,7 +30,7 @@ use Rattle.shr_sums.proofs.WordsLaw.{words_law}
 use Rattle.shr_audit_pools.specs.Moved.{AreWordsRight, moved_at, moved_by, moved_in, next_of, nr_of, part_of}
 use Rattle.shr_audit_pools.specs.declared.places.PoolPlace.{PoolPlace}
 use Rattle.shr_audit_pools.specs.Places.{place_of}
-use Rattle.shr_audit_pools.proofs.Amounts.{IsWide, found_sum, narrow_or_wide, outside, small_sum, sum_none}
+use Rattle.shr_audit_tables.proofs.Amounts.{IsWide, found_sum, narrow_or_wide, outside, small_sum, sum_none}
 
 -- ---- the tries of a walk
 

@@ -1,7 +1,6 @@
 //! Whether what a report says of pools of units is lawful. Our own.
 #![tactic(auto)]
 
-mod arithmetic;
 mod cites;
 mod deferred;
 pub mod due;

@@ -11,8 +11,8 @@ ghost use Rattle.shr_report.specs.UnitParts.{units_of};
 ghost use Rattle.shr_audit_pools.specs.Passes.{AreReclaimsOf, IsReclaimOf, freed_of};
 ghost use Rattle.shr_audit_pools.specs.Stock.{made_of};
 
-use crate::arithmetic::{asks_due, follows};
 use crate::stock::Reclaimed;
+use shr_audit_walks::passes::{asks_due, follows};
 use shr_base::scripts::PoolDecl;
 use shr_base::walks::{Ending, PassRecord};
 
@@ -55,7 +55,7 @@ fn are_reclaims_of(decl: &PoolDecl, priority: u8, pass: &PassRecord, reclaims: &
     ensures { Decides result (AreReclaimsOf decl.now priority pass.now
         (map made_of reclaims.now)) }
 {
-    let due = asks_due(priority, decl, pass);
+    let due = asks_due(priority, decl.seeks, decl.batch, pass);
     if reclaims.len() != pass.asks as usize {
         return false;
     }
@@ -92,7 +92,7 @@ pub(crate) fn is_plain_pass(
         → Decides result (IsPlainPass r place decl.now priority pass.now
         (map made_of reclaims.now)) }
 {
-    if !follows(priority, decl, pass) {
+    if !follows(priority, decl.seeks, decl.batch, pass) {
         return false;
     }
     if pass.closed != 0 {

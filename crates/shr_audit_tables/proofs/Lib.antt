@@ -1,4 +1,4 @@
-mod Amounts
+pub mod Amounts
 mod Words
 mod Steps
 mod Carried

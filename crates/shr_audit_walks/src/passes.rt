@@ -76,16 +76,16 @@ fn due_of(batch: u64, freeable: u32, total: u64) -> Due
     }
 }
 
-/// The asks that are due in a pass of a cache. Our own.
-pub fn asks_due(priority: u8, decl: &CacheDecl, pass: &PassRecord) -> Due
-    ensures count { result.count ≡ due (batch_of decl.now.batch) pass.now.len
-        (total_of pass.now.len pass.now.nr priority decl.now.seeks) }
-    ensures size { result.size ≡ ask_size (batch_of decl.now.batch) pass.now.len
-        (total_of pass.now.len pass.now.nr priority decl.now.seeks) }
+/// The asks that are due in a pass of a cache, or of a pool, with these seeks and this batch. Our own.
+pub fn asks_due(priority: u8, seeks: u32, batch: u32, pass: &PassRecord) -> Due
+    ensures count { result.count ≡ due (batch_of batch) pass.now.len
+        (total_of pass.now.len pass.now.nr priority seeks) }
+    ensures size { result.size ≡ ask_size (batch_of batch) pass.now.len
+        (total_of pass.now.len pass.now.nr priority seeks) }
     ensures small { result.size < 2 ^ 32 }
 {
-    let total = total_of(pass.len, pass.nr, priority, decl.seeks);
-    due_of(batch_of(decl.batch), pass.len, total)
+    let total = total_of(pass.len, pass.nr, priority, seeks);
+    due_of(batch_of(batch), pass.len, total)
 }
 
 // Whether so many asks were made of those that were due, for this ending.
@@ -100,18 +100,19 @@ fn are_made(asks: u32, ending: Ending, due: u64) -> bool
     }
 }
 
-// Whether the record of a pass follows the arithmetic.
-fn follows(priority: u8, decl: &CacheDecl, pass: &PassRecord) -> bool
-    ensures { Decides result (FollowsArithmetic priority decl.now.seeks decl.now.batch pass.now) }
+/// Whether the record of a pass follows the arithmetic, of a cache or a pool with these seeks and
+/// this batch. Our own.
+pub fn follows(priority: u8, seeks: u32, batch: u32, pass: &PassRecord) -> bool
+    ensures { Decides result (FollowsArithmetic priority seeks batch pass.now) }
 {
-    let due = asks_due(priority, decl, pass);
+    let due = asks_due(priority, seeks, batch, pass);
     if !are_made(pass.asks, pass.ending, due.count) {
         return false;
     }
     if pass.scanned != (pass.asks as u64).min(due.count) * due.size {
         return false;
     }
-    let delta = delta_of(pass.len, priority, decl.seeks);
+    let delta = delta_of(pass.len, priority, seeks);
     if pass.next != next_deferred(pass.nr, delta, pass.scanned, pass.len) {
         return false;
     }
@@ -132,7 +133,7 @@ fn is_pass_of(priority: u8, decl: &CacheDecl, pass: &PassRecord) -> bool
     if pass.len <= decl.floor {
         return false;
     }
-    let follows = follows(priority, decl, pass);
+    let follows = follows(priority, decl.seeks, decl.batch, pass);
     follows
 }
 
@@ -157,7 +158,7 @@ pub fn is_outcome_of(priority: u8, decl: &CacheDecl, outcome: &Outcome) -> bool
 pub fn is_stopped(walk: &WalkRecord, decl: &CacheDecl, pass: &PassRecord) -> bool
     ensures { Decides result (IsStopped walk.now decl.now pass.now) }
 {
-    let due = asks_due(walk.priority, decl, pass);
+    let due = asks_due(walk.priority, decl.seeks, decl.batch, pass);
     let stops = decl.fs && walk.nofs && 0 < due.count;
     if (pass.ending == Ending::Stop) != stops {
         return false;

@@ -63,7 +63,7 @@ fn scans_free(scans: &[ScanSeen], told: u64) -> bool
 pub fn are_scans_of(priority: u8, decl: &CacheDecl, pass: &PassRecord, scans: &[ScanSeen]) -> bool
     ensures { Decides result (AreScansOf priority decl.now pass.now (map made_of scans.now)) }
 {
-    let due = asks_due(priority, decl, pass);
+    let due = asks_due(priority, decl.seeks, decl.batch, pass);
     let made = pass.asks.saturating_sub(pass.closed);
     if scans.len() != made as usize {
         return false;

@@ -1,6 +1,6 @@
 use Rattle.std.proofs.Common.{arith}
 use Rattle.shr_audit_pools.specs.declared.stock.Reclaimed.{Reclaimed}
-use Rattle.shr_audit_pools.proofs.Ranged.{range_filter, none_filter}
+use Rattle.shr_audit_walks.proofs.Ranged.{range_filter, none_filter}
 use Rattle.shr_audit_pools.proofs.stock.with_key.Goals as goal
 
 pub returns-then-low-high : goal.returns-then-low-high

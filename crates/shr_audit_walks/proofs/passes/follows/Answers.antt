@@ -7,16 +7,14 @@ use Rattle.shr_audit_walks.proofs.passes.follows.Goals as goal
 pub returns-then-pass-min : goal.returns-then-pass-min
 returns-then-pass-min c =
     let p = c.args.pass.now in
-    let d = c.args.decl.now in
-    scanned_other c.args.priority d.seeks d.batch p (c.min.result * c.asks_due-due.result.size)
+    scanned_other c.args.priority c.args.seeks c.args.batch p (c.min.result * c.asks_due-due.result.size)
     (product_is c.min.result p.asks c.asks_due-due.result.count c.asks_due-due.result.size _ _ c.min.ensures c.asks_due-due.ensures.count c.asks_due-due.ensures.size)
     c.if-pass-min.true
 
 pub returns : goal.returns
 returns c =
     let p = c.args.pass.now in
-    let d = c.args.decl.now in
-    follows_if c.args.priority d.seeks d.batch p (c.min.result * c.asks_due-due.result.size) _
+    follows_if c.args.priority c.args.seeks c.args.batch p (c.min.result * c.asks_due-due.result.size) _
     (product_is c.min.result p.asks c.asks_due-due.result.count c.asks_due-due.result.size _ _ c.min.ensures c.asks_due-due.ensures.count c.asks_due-due.ensures.size)
     (subst (λ (k : ℕ). MadeOf p.asks p.ending k) c.asks_due-due.ensures.count (c.are_made.ensures.0 c.if-not-are_made.false))
     c.if-pass-min.false
