@@ -1,5 +1,5 @@
 -- What is tested of the law on causes, at known values.
-use Rattle.std.proofs.Common.{◌≡◌, ℕ, ◌<◌, ◌≤◌, true, false, List, [], ◌∷◌, Some, None, refl, inl, inr, arith}
+use Rattle.std.proofs.Common.{◌≡◌, ℕ, ◌<◌, ◌≤◌, true, false, List, [], ◌∷◌, Some, None, refl, subst, inl, inr, arith}
 use Rattle.std.specs.Prelude.{◌^◌, ◌-◌}
 use Rattle.shr_base.specs.declared.places.Serial.{Serial}
 use Rattle.shr_base.specs.declared.journals.Entry.TheVariants.{Drained}
@@ -14,7 +14,8 @@ use Rattle.shr_report.proofs.FirstReport.{script, report}
 use Rattle.shr_audit_causes.specs.declared.cites.Cited.{Cited}
 use Rattle.shr_audit_causes.specs.declared.cites.Cited.TheVariants.{Never, Once, Often}
 use Rattle.shr_audit_causes.specs.declared.cites.What.TheVariants as say
-use Rattle.shr_audit_causes.specs.Cites.{CitesNow, IsEarlier, IsIdledBy, IsOf, IsSecondOf, Tells, cited_in, is_registered_by, is_unregistered_by, noted_at}
+use Rattle.shr_audit_causes.specs.Behind.{IsBehindOf, IsIdledBy, IsSecondOf}
+use Rattle.shr_audit_causes.specs.Cites.{CitesNow, IsEarlier, IsFreedAt, IsOf, Tells, cited_in, is_registered_by, is_unregistered_by, noted_at}
 use Rattle.shr_audit_causes.specs.Trees.{IsBeginCited, IsDoneOnce, is_cited, is_once}
 use Rattle.shr_audit_causes.specs.Walks.{IsAttemptCaused, IsDrainedRightly}
 
@@ -58,6 +59,26 @@ idled = second
 
 idled_by_half : IsIdledBy entries 3 (reply.Memory) → ⊥
 idled_by_half h = h
+
+freed_here : IsFreedAt entries 1 (reply.Freed 0 1 0 5 2)
+freed_here = (omega arith, omega arith, refl, λ n le lt of. absurd (omega (arith, le, lt)))
+
+freed_of_another : IsFreedAt entries 1 (reply.Freed 3 1 0 5 2) → ⊥
+freed_of_another h = of_another_here h.2
+  where
+    of_another_here : IsOf entries 3 1 → ⊥
+    of_another_here e = absurd cc
+
+-- behind entry 1 there is none of id 0 before entry 3, and behind entry 0 there is
+behind_one : IsBehindOf entries 0 3 2
+behind_one = record {
+  low = omega arith;
+  of = inr refl;
+  quiet = λ m le lt of. (let same : m ≡ 2 = omega (arith, le, lt) in of_another (subst (λ (k : ℕ). IsOf entries 0 k) same of));
+}
+
+behind_none : IsBehindOf entries 0 3 1 → ⊥
+behind_none h = h.quiet 1 (omega arith) (omega arith) refl
 
 -- ---- the table
 

@@ -8,7 +8,8 @@ use Rattle.std.proofs.Math.Nat.{eq-or-lt_of_le}
 use Rattle.shr_base.specs.declared.journals.PoolEntry.{PoolEntry}
 use Rattle.shr_model.specs.Pool.{id_of, phase_of}
 use Rattle.shr_model.proofs.PoolLaws.{one_of, phase_of_push}
-use Rattle.shr_audit_causes.specs.Cites.{IsNextOf, IsOf, IsSecondOf}
+use Rattle.shr_audit_causes.specs.Behind.{IsBehindOf, IsSecondOf}
+use Rattle.shr_audit_causes.specs.Cites.{IsNextOf, IsOf}
 
 some_same : (a b : ℕ) → ◌≡◌ {A = Option ℕ} (Some a) (Some b) → a ≡ b
 some_same a b e = cc
@@ -107,49 +108,85 @@ next_past pool id from n over before m le of = elim (cases_lt m n) [
     no_some : (k : ℕ) → ◌≡◌ {A = Option ℕ} None (Some k) → ⊥
     no_some k e = cc
 
--- ---- the second entry of an id
+-- ---- one first entry alone
 
-pub second_none : (pool : List PoolEntry) (id entry : ℕ) → IsNextOf pool id entry None → (n : ℕ) → IsSecondOf pool id entry n ↔ (◌≡◌ {A = Option ℕ} None (Some n))
-second_none pool id entry none n = (λ h. absurd (none n (let lt = h.1 in omega (arith, lt)) h.0), λ e. absurd cc)
+pub next_one : (pool : List PoolEntry) (id from : ℕ) (o : Option ℕ) → IsNextOf pool id from o → (n : ℕ) → IsNextOf pool id from (Some n) ↔ (o ≡ Some n)
+next_one pool id from None g n = (λ h. absurd (g n h.0 h.2), λ e. absurd cc)
+next_one pool id from (Some m) g n = (to, λ e. subst (λ (k : ℕ). IsNextOf pool id from (Some k)) (some_same m n e) g)
+  where
+    to : IsNextOf pool id from (Some n) → ◌≡◌ {A = Option ℕ} (Some m) (Some n)
+    to h = elim (cases_lt m n) [
+      | inl lt ↦ absurd (h.3 m g.0 lt g.2)
+      | inr le ↦ elim (eq-or-lt_of_le le) [
+        | inl same ↦ ap (λ (k : ℕ). Some k) (sym same)
+        | inr lt ↦ absurd (g.3 n h.0 lt h.2)
+      ]
+    ]
 
-module _ (pool : List PoolEntry) (id entry first : ℕ) (f : IsNextOf pool id entry (Some first)) where
-  at_first : phase pool id (first + 1) ≡ phase pool id entry + 1
-  at_first = next_phase pool id first f.2 ∙ ap (λ (n : ℕ). n + 1) (quiet pool id entry first f.0 f.3)
+-- ---- the second entry of an id, by the one before it
 
-  behind : (n : ℕ) → IsSecondOf pool id entry n → first + 1 ≤ n
-  behind n h = elim (cases_lt n (first + 1)) [
-    | inr le ↦ le
-    | inl lt ↦
-        let below : entry < n = h.1 in
+pub of_within : (pool : List PoolEntry) (id n : ℕ) → IsOf pool id n → n < length pool
+of_within pool id n of = elim (slice_get_cases pool n).1 [
+  | inl there ↦ there.1
+  | inr past ↦ absurd (let none = ap (option_map id_of) past.1 in no_some id (sym none ∙ of))
+]
+  where
+    no_some : (k : ℕ) → ◌≡◌ {A = Option ℕ} None (Some k) → ⊥
+    no_some k e = cc
+
+pub before_of : (pool : List PoolEntry) (id n behind : ℕ) → IsBehindOf pool id n behind → 0 < behind → IsOf pool id (behind - 1)
+before_of pool id n behind b some = elim b.of [
+  | inl none ↦ absurd (omega (arith, none, some))
+  | inr of ↦ of
+]
+
+module _ (pool : List PoolEntry) (id entry n behind : ℕ) (b : IsBehindOf pool id n behind) where
+  -- after that entry, and up to the next
+  at_next : 0 < behind → phase pool id n ≡ phase pool id (behind - 1) + 1
+  at_next some =
+      let low = b.low in
+      let e : behind - 1 + 1 ≡ behind = omega (arith, some) in
+      quiet pool id behind n low b.quiet ∙ sym (ap (phase pool id) e) ∙ next_phase pool id (behind - 1) (before_of pool id n behind b some)
+
+  pub second_of_first : IsOf pool id n → 0 < behind → IsNextOf pool id entry (Some (behind - 1)) → IsSecondOf pool id entry n
+  second_of_first of some f =
+      let low = b.low in
+      let from = f.0 in
+      (of, (omega (arith, some, low, from)), at_next some ∙ ap (λ (k : ℕ). k + 1) (quiet pool id entry (behind - 1) f.0 f.3))
+
+  some_before : IsSecondOf pool id entry n → 0 < behind
+  some_before h = elim (cases_lt 0 behind) [
+    | inl some ↦ some
+    | inr none ↦
+        let all = quiet pool id 0 n (omega arith) (λ m le lt. b.quiet m (omega (arith, none)) lt) in
+        let up = rises pool id 0 entry (omega arith) in
         let p = h.2 in
-        let same = quiet pool id entry n (omega (arith, below)) (λ m le l. f.3 m le (omega (arith, l, lt))) in
-        absurd (omega (arith, p, same))
+        absurd (omega (arith, all, up, p))
   ]
 
-  pub second_is : (o : Option ℕ) → IsNextOf pool id (first + 1) o → (n : ℕ) → IsSecondOf pool id entry n ↔ (o ≡ Some n)
-  second_is None g n = (λ h. absurd (g n (behind n h) h.0), λ e. absurd cc)
-  second_is (Some m) g n = (to, from)
+  pub first_of_second : IsSecondOf pool id entry n → (0 < behind) × IsNextOf pool id entry (Some (behind - 1))
+  first_of_second h = (some, (from, of_within pool id (behind - 1) (before_of pool id n behind b some), before_of pool id n behind b some, none))
     where
-      at_second : phase pool id m ≡ phase pool id entry + 1
-      at_second = quiet pool id (first + 1) m g.0 g.3 ∙ at_first
+      some : 0 < behind
+      some = some_before h
 
-      to : IsSecondOf pool id entry n → ◌≡◌ {A = Option ℕ} (Some m) (Some n)
-      to h = elim (cases_lt n m) [
-        | inl lt ↦ absurd (g.3 n (behind n h) lt h.0)
-        | inr le ↦ elim (eq-or-lt_of_le le) [
-          | inl same ↦ ap (λ (k : ℕ). Some k) same
-          | inr lt ↦
-              let p = h.2 in
-              let q = next_phase pool id m g.2 in
-              let up = rises pool id (m + 1) n (omega (arith, lt)) in
-              let a = at_second in
-              absurd (omega (arith, p, q, up, a))
-        ]
+      same : phase pool id (behind - 1) ≡ phase pool id entry
+      same = let p = h.2 in let q = at_next some in omega (arith, p, q)
+
+      from : entry ≤ behind - 1
+      from = elim (cases_lt (behind - 1) entry) [
+        | inl past ↦
+            let below : entry < n = h.1 in
+            let still = quiet pool id entry n (omega (arith, below)) (λ m le lt. b.quiet m (omega (arith, past, le, some)) lt) in
+            let p = h.2 in
+            absurd (omega (arith, p, still))
+        | inr le ↦ le
       ]
 
-      from : ◌≡◌ {A = Option ℕ} (Some m) (Some n) → IsSecondOf pool id entry n
-      from e =
-          let same : m ≡ n = some_same m n e in
-          let past = g.0 in
-          let early = f.0 in
-          subst (IsSecondOf pool id entry) same (g.2, (omega (arith, past, early)), at_second)
+      none : (m : ℕ) → entry ≤ m → m < behind - 1 → IsOf pool id m → ⊥
+      none m le lt of =
+          let up = rises pool id entry m le in
+          let here = next_phase pool id m of in
+          let on = rises pool id (m + 1) (behind - 1) (omega (arith, lt)) in
+          let e = same in
+          absurd (omega (arith, up, here, on, e))

@@ -1,5 +1,5 @@
 -- Which answers speak of an entry of the journals of the tree and of registrations, or of a group.
-use Rattle.std.specs.Prelude.{◌≡◌, ◌≢◌, ◌⊎◌, ℕ, ◌+◌, ◌<◌, ◌≤◌, Bool, true, false, not, ◌||◌, ◌==◌, List, length, take, slice_get, slice_index_or, slice_set, Option, Some, None, option_map}
+use Rattle.std.specs.Prelude.{◌≡◌, ◌≢◌, ◌⊎◌, ℕ, ◌+◌, ◌<◌, ◌≤◌, Bool, true, false, not, ◌||◌, ◌==◌, List, length, slice_get, slice_index_or, slice_set, Option, Some, None, option_map}
 use Rattle.std.specs.Option.{IsSomeAnd}
 use Rattle.shr_base.specs.declared.places.Serial.{Serial}
 use Rattle.shr_base.specs.declared.journals.PoolEntry.{PoolEntry}
@@ -8,7 +8,7 @@ use Rattle.shr_base.specs.declared.replies.Reply.TheVariants as reply
 use Rattle.shr_base.specs.declared.scripts.Command.{Command}
 use Rattle.shr_base.specs.declared.scripts.Command.TheVariants as command
 use Rattle.shr_base.specs.declared.scripts.Script.{Script}
-use Rattle.shr_model.specs.Pool.{id_of, phase_of}
+use Rattle.shr_model.specs.Pool.{id_of}
 use Rattle.shr_report.specs.declared.report.Report.{Report}
 use Rattle.shr_report.specs.Causes.{MayHaveBegun, is_done_by, is_made_by}
 use Rattle.shr_report.specs.Parts.{command_at, reply_at, serial_of}
@@ -37,14 +37,10 @@ abbrev pub IsNextOf : List PoolEntry → ℕ → ℕ → Option ℕ → Type 0
 IsNextOf pool id from None = (n : ℕ) → from ≤ n → IsOf pool id n → ⊥
 IsNextOf pool id from (Some q) = (from ≤ q) × (q < length pool) × IsOf pool id q × ((n : ℕ) → from ≤ n → n < q → IsOf pool id n → ⊥)
 
--- an entry of an id is its next one behind the first from a number on
-abbrev pub IsSecondOf : List PoolEntry → ℕ → ℕ → ℕ → Type 0
-IsSecondOf pool id entry n = IsOf pool id n × (entry < n) × (phase_of id (take n pool) ≡ phase_of id (take entry pool) + 1)
-
--- the answer freed an id by an entry, and this is the id's next one
-abbrev pub IsIdledBy : List PoolEntry → ℕ → Reply → Type 0
-IsIdledBy pool n (reply.Freed id entry from to objects) = IsSecondOf pool id entry n
-IsIdledBy pool n x = ⊥
+-- the answer freed an id, and this is the id's first entry from the one on that it cites
+abbrev pub IsFreedAt : List PoolEntry → ℕ → Reply → Type 0
+IsFreedAt pool n (reply.Freed id entry from to objects) = IsNextOf pool id entry (Some n)
+IsFreedAt pool n x = ⊥
 
 -- an `offline` of the group that may have begun
 abbrev pub IsBegunBy : Option Command → Reply → ℕ → Type 0
@@ -56,7 +52,7 @@ CitesNow r say.Done c x n = is_done_by n x ≡ true
 CitesNow r say.Made c x n = is_made_by n x ≡ true
 CitesNow r say.Registered c x n = is_registered_by n x ≡ true
 CitesNow r say.Unregistered c x n = is_unregistered_by n x ≡ true
-CitesNow r say.Idled c x n = IsIdledBy r.pool.items n x
+CitesNow r say.Freed c x n = IsFreedAt r.pool.items n x
 CitesNow r say.Begun c x n = IsBegunBy c x n
 
 -- the answer to a command says so of it

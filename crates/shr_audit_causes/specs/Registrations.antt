@@ -1,5 +1,5 @@
 -- The later entries of the journal of registrations, and the answers that made them.
-use Rattle.std.specs.Prelude.{◌≡◌, ℕ, ◌≤◌, true, List, length, slice_get, Some}
+use Rattle.std.specs.Prelude.{◌≡◌, ℕ, ◌-◌, ◌<◌, ◌≤◌, true, List, length, get_or, slice_get, Some}
 use Rattle.std.specs.Option.{IsSomeAnd}
 use Rattle.shr_base.specs.declared.places.Serial.{Serial}
 use Rattle.shr_base.specs.declared.journals.PoolEntry.{PoolEntry}
@@ -9,15 +9,30 @@ use Rattle.shr_report.specs.declared.report.Report.{Report}
 use Rattle.shr_report.specs.Causes.{IsMadeBy}
 use Rattle.shr_report.specs.Parts.{decls_on, reply_at}
 use Rattle.shr_audit_causes.specs.declared.cites.Cited.{Cited}
-use Rattle.shr_audit_causes.specs.Cites.{cited_in}
+use Rattle.shr_audit_causes.specs.declared.cites.What.TheVariants as what
+use Rattle.shr_audit_causes.specs.declared.registrations.Made.{Made}
+use Rattle.shr_audit_causes.specs.Behind.{HasBehinds}
+use Rattle.shr_audit_causes.specs.Cites.{AreCited, cited_in}
 use Rattle.shr_audit_causes.specs.Trees.{is_cited}
 
 -- each later entry of the journal of registrations was made by an answer
 abbrev pub AreRegistrationsCaused : Script → Report → Type 0
 AreRegistrationsCaused s r = (n : ℕ) (e : PoolEntry) → length (decls_on s) ≤ n → slice_get r.pool.items n ≡ Some e → (by : Serial) × IsSomeAnd (reply_at r by) (IsMadeBy r e n)
 
+-- an answer freed an id by the entry behind which this number is
+pub record IsFreedBehind (freed : List Cited) (behind : ℕ) : Type 0 where
+  pub some : 0 < behind
+  pub cited : is_cited (cited_in freed (behind - 1)) ≡ true
+
 -- an answer was noted that made an entry, by its kind
-abbrev pub IsEntryCited : List Cited → List Cited → List Cited → ℕ → PoolEntry → Type 0
-IsEntryCited registered unregistered idled n (Registered decl id from) = is_cited (cited_in registered n) ≡ true
-IsEntryCited registered unregistered idled n (Unregistered decl id to) = is_cited (cited_in unregistered n) ≡ true
-IsEntryCited registered unregistered idled n (Idle id) = is_cited (cited_in idled n) ≡ true
+abbrev pub IsEntryCited : Made → ℕ → PoolEntry → Type 0
+IsEntryCited made n (Registered decl id from) = is_cited (cited_in made.registered.items n) ≡ true
+IsEntryCited made n (Unregistered decl id to) = is_cited (cited_in made.unregistered.items n) ≡ true
+IsEntryCited made n (Idle id) = IsFreedBehind made.freed.items (get_or made.behinds.items n 0)
+
+-- what is noted is of this report
+pub record AreMade (s : Script) (r : Report) (made : Made) : Type 0 where
+  pub registered : AreCited s r what.Registered (length r.pool.items) made.registered.items
+  pub unregistered : AreCited s r what.Unregistered (length r.pool.items) made.unregistered.items
+  pub freed : AreCited s r what.Freed (length r.pool.items) made.freed.items
+  pub behinds : HasBehinds r.pool.items (length r.pool.items) made.behinds.items

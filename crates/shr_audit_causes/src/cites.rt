@@ -5,7 +5,7 @@ ghost use Rattle.std.specs.Bool.{Decides};
 ghost use Rattle.shr_base.specs.declared.scripts.Command.TheVariants.{Offline};
 ghost use Rattle.shr_model.specs.Pool.{id_of};
 ghost use Rattle.shr_report.specs.Causes.{MayHaveBegun, is_done_by, is_made_by};
-ghost use Rattle.shr_audit_causes.specs.Cites.{AreCited, CitesNow, IsBegunBy, IsIdledBy, IsNever, IsNextOf, IsSecondOf, NotesAnswer, NotesWorker, after_cited, cited_in, is_registered_by, is_unregistered_by, noted_at};
+ghost use Rattle.shr_audit_causes.specs.Cites.{AreCited, CitesNow, IsBegunBy, IsFreedAt, IsNever, IsNextOf, NotesAnswer, NotesWorker, after_cited, cited_in, is_registered_by, is_unregistered_by, noted_at};
 
 use shr_audit_replies::numbers::{answer_of, command_of, count_answers};
 use shr_base::journals::PoolEntry;
@@ -26,8 +26,8 @@ pub enum What {
     Registered,
     /// It unregistered by the entry.
     Unregistered,
-    /// It freed the id of the entry, which is the id's next one.
-    Idled,
+    /// It freed an id, of which the entry is the first from the one on that it cites.
+    Freed,
     /// It may have begun the group's offlining.
     Begun,
 }
@@ -85,7 +85,7 @@ fn unregistered(reply: &Reply) -> Option<usize>
     }
 }
 
-fn id_of(entry: PoolEntry) -> u16
+pub(crate) fn id_of(entry: PoolEntry) -> u16
     ensures { result ≡ id_of entry }
 {
     match entry {
@@ -107,25 +107,20 @@ fn next_of(pool: &[PoolEntry], id: u16, from: usize) -> Option<usize>
     None
 }
 
-// The id's next entry behind that.
-fn second_of(pool: &[PoolEntry], id: u16, entry: u32) -> Option<usize>
-    ensures { (n : ℕ) → IsSecondOf pool.now id entry n ↔ (result ≡ Some n) }
+// The same, of a number that an answer cites.
+fn first_of(pool: &[PoolEntry], id: u16, entry: u32) -> Option<usize>
+    ensures { (n : ℕ) → IsNextOf pool.now id entry (Some n) ↔ (result ≡ Some n) }
 {
-    match next_of(pool, id, entry as usize) {
-        Some(first) => {
-            let second = next_of(pool, id, first + 1);
-            second
-        }
-        None => None,
-    }
+    let first = next_of(pool, id, entry as usize);
+    first
 }
 
-// The id's next entry behind the one by which an answer freed it.
-fn idled(report: &Report, reply: &Reply) -> Option<usize>
-    ensures { (n : ℕ) → IsIdledBy report.now.pool.items n reply.now ↔ (result ≡ Some n) }
+// The first entry of the id that an answer freed, from the one on that it cites.
+fn freed(report: &Report, reply: &Reply) -> Option<usize>
+    ensures { (n : ℕ) → IsFreedAt report.now.pool.items n reply.now ↔ (result ≡ Some n) }
 {
     match reply {
-        Reply::Freed { id, entry, .. } => second_of(report.pool.as_slice(), *id, *entry),
+        Reply::Freed { id, entry, .. } => first_of(report.pool.as_slice(), *id, *entry),
         _ => None,
     }
 }
@@ -175,7 +170,7 @@ fn told(report: &Report, what: What, command: Option<&Command>, reply: &Reply) -
         What::Made => own_made(reply),
         What::Registered => registered(reply),
         What::Unregistered => unregistered(reply),
-        What::Idled => idled(report, reply),
+        What::Freed => freed(report, reply),
         What::Begun => begun(command, reply),
     }
 }

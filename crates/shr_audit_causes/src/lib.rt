@@ -2,6 +2,7 @@
 #![tactic(auto)]
 
 pub mod attempts;
+mod behind;
 pub mod cites;
 pub mod drains;
 pub mod registrations;

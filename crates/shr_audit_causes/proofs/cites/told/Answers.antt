@@ -15,5 +15,5 @@ returns-in-Unregistered c = λ n. rw c.in-Unregistered.is (c.unregistered.ensure
 pub returns-in-Begun : goal.returns-in-Begun
 returns-in-Begun c = λ n. rw c.in-Begun.is (c.begun.ensures n)
 
-pub returns-in-Idled : goal.returns-in-Idled
-returns-in-Idled c = λ n. rw c.in-Idled.is (c.idled.ensures n)
+pub returns-in-Freed : goal.returns-in-Freed
+returns-in-Freed c = λ n. rw c.in-Freed.is (c.freed.ensures n)
