@@ -32,7 +32,7 @@ use Rattle.shr_report.specs.WellFormed.{AreNotFalling, IsPlaceUpTo, IsPoolAmount
 use Rattle.shr_formed.proofs.Eachs.{each_in, fails}
 use Rattle.shr_formed.proofs.WellParts.{lists_of}
 use Rattle.shr_audit_pools.specs.Cited.{IsEntryRight}
-use Rattle.shr_audit_pools.specs.Due.{IsDue}
+use Rattle.shr_audit_due.specs.Due.{IsDue}
 use Rattle.shr_audit_pools.specs.Journals.{AreJournalsRight}
 use Rattle.shr_audit_pools.specs.Law.{AreCitesRight, AreWalksRight}
 use Rattle.shr_audit_pools.specs.Lows.{AreAllRising, AreAllVersed, AreUpTo, HaveFewTries, IsPartVersed, asked_of, cited_in}

@@ -1,4 +1,3 @@
-mod Dues
 mod Journaled
 mod Shelved
 mod Loops

@@ -21,8 +21,8 @@ use Rattle.shr_report.specs.UnitParts.{home_in, place_at, pool_place}
 use Rattle.shr_audit_pools.specs.declared.places.PoolPlace.{PoolPlace}
 use Rattle.shr_audit_pools.specs.Lows.{AreBelow, AreLowsOf, AreUpTo, IsBlank, IsPartVersed, IsVersed, IsWalkHigh, Lows, NotesReplies, NotesTries, Raises, cited_in}
 use Rattle.shr_audit_pools.specs.Places.{key_of, place_of}
-use Rattle.shr_audit_pools.specs.Due.{StandByCommand}
-use Rattle.shr_audit_pools.proofs.Loops.{here_at, item_fails, items_whole}
+use Rattle.shr_audit_due.specs.Due.{StandByCommand}
+use Rattle.shr_audit_due.proofs.Loops.{here_at, item_fails, items_whole}
 use Rattle.shr_audit_pools.proofs.Risen.{blank_lows}
 
 -- ---- the tries of a walk

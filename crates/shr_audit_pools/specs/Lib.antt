@@ -1,4 +1,3 @@
-pub mod Due
 pub mod Journals
 pub mod Places
 pub mod Stock

@@ -3,7 +3,6 @@
 
 mod cites;
 mod deferred;
-pub mod due;
 mod entries;
 pub mod journals;
 mod lows;

@@ -1,16 +1,13 @@
-//! Journals of a pool that are right, and walks of the pools that are due, and some that aren't.
+//! Journals of a pool that are right, and some that aren't.
 
-use crate::due::are_walks_due;
 use crate::journals::are_journals_right;
-use shr_base::ends::{UnitsEnd, WorkerPart};
+use shr_base::ends::UnitsEnd;
 use shr_base::journals::PlainEntry;
 use shr_base::log::Log;
 use shr_base::memory::Memory;
 use shr_base::places::Serial;
-use shr_base::replies::{Answered, Reply};
-use shr_base::scripts::{Command, PoolDecl, Script, WorkerScript};
+use shr_base::scripts::{PoolDecl, Script};
 use shr_base::text::Text;
-use shr_base::walks::{PlainAnswer, PlainWalk};
 use shr_formed::formed::is_well_formed;
 use shr_report::report::Report;
 use std::alloc::Global;
@@ -57,18 +54,8 @@ const WHOLE: Case = Case {
     right: true,
 };
 
-// A script of one worker, with a `balance` of node 1 by priority 12.
+// A script with a flat pool.
 fn script(alloc: Global) -> Result<Script, Memory> {
-    let mut commands = Vec::new(alloc);
-    commands.push(Command::Balance {
-        node: 1,
-        priority: 12,
-        nofs: false,
-    })?;
-    let mut workers = Vec::new(alloc);
-    workers.push(WorkerScript {
-        commands: Log::from_vec(commands),
-    })?;
     let mut pools = Vec::new(alloc);
     pools.push(PoolDecl {
         name: Text::of(alloc, b"pages")?,
@@ -84,45 +71,9 @@ fn script(alloc: Global) -> Result<Script, Memory> {
         groups: Log::new(alloc),
         caches: Log::new(alloc),
         pools: Log::from_vec(pools),
-        workers: Log::from_vec(workers),
+        workers: Log::new(alloc),
         sweep: None,
     })
-}
-
-// The worker, with its answer and its walks of the pools, each by its node and priority.
-fn part(alloc: Global, reply: Reply, walks: &[(u8, u8)]) -> Result<WorkerPart, Memory> {
-    let mut answers = Vec::new(alloc);
-    answers.push(Answered { reply, found: None })?;
-    let mut plain = Vec::new(alloc);
-    for (node, priority) in walks {
-        plain.push(PlainWalk {
-            by: BY,
-            node: *node,
-            priority: *priority,
-            tries: Log::new(alloc),
-            answer: PlainAnswer::Walked { freed: 0 },
-        })?;
-    }
-    Ok(WorkerPart {
-        answers: Log::from_vec(answers),
-        walks: Log::new(alloc),
-        carries: Log::new(alloc),
-        plain: Log::from_vec(plain),
-        isolations: Log::new(alloc),
-    })
-}
-
-// Whether a worker with this answer and these walks has those that are due.
-fn is_due(alloc: Global, reply: Reply, walks: &[(u8, u8)]) -> Result<bool, Memory> {
-    let script = script(alloc)?;
-    let mut report = report(alloc, &WHOLE)?;
-    let mut workers = Vec::new(alloc);
-    workers.push(part(alloc, reply, walks)?)?;
-    report.workers = Log::from_vec(workers);
-    if !is_well_formed(&report) {
-        return Err(Memory);
-    }
-    Ok(are_walks_due(&script, &report))
 }
 
 // The journal of a case.
@@ -223,18 +174,5 @@ fn journals_of_a_pool(rt: HostRuntime) -> Result<(), Fail> {
     for case in &cases {
         assert!(rt; agrees(rt.alloc(), case)?);
     }
-    Ok(())
-}
-
-#[test]
-fn walks_of_the_pools_that_are_due(rt: HostRuntime) -> Result<(), Fail> {
-    let walked = || Reply::Walked { freed: 0 };
-    assert!(rt; is_due(rt.alloc(), walked(), &[(1, 12)])?);
-    assert!(rt; is_due(rt.alloc(), Reply::WalkMemory { freed: 0 }, &[])?);
-    assert!(rt; !is_due(rt.alloc(), walked(), &[])?);
-    assert!(rt; !is_due(rt.alloc(), walked(), &[(1, 12), (1, 12)])?);
-    assert!(rt; !is_due(rt.alloc(), walked(), &[(0, 12)])?);
-    assert!(rt; !is_due(rt.alloc(), walked(), &[(1, 11)])?);
-    assert!(rt; !is_due(rt.alloc(), Reply::WalkMemory { freed: 0 }, &[(1, 12)])?);
     Ok(())
 }

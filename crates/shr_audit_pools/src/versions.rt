@@ -6,7 +6,7 @@ ghost use Rattle.shr_base.specs.declared.ends.WorkerPart.{WorkerPart};
 ghost use Rattle.shr_formed.specs.Each.{Each};
 ghost use Rattle.shr_report.specs.Pools.{version_in};
 ghost use Rattle.shr_report.specs.WellFormed.{IsWellFormed};
-ghost use Rattle.shr_audit_pools.specs.Due.{StandByCommand};
+ghost use Rattle.shr_audit_due.specs.Due.{StandByCommand};
 ghost use Rattle.shr_audit_pools.specs.Lows.{AreAllVersed, HaveFewTries, IsPartVersed, IsWalkHigh, NotesReplies, NotesTries};
 
 use crate::lows::{low_at, no_lows, raise};

@@ -3,7 +3,8 @@ use Rattle.shr_base.specs.declared.replies.Answered.{Answered}
 use Rattle.shr_report.specs.Parts.{commands_of}
 use Rattle.shr_formed.proofs.Eachs.{more_at}
 use Rattle.shr_audit_pools.specs.Cited.{HasRight}
-use Rattle.shr_audit_pools.proofs.Loops.{item_fails, items_whole, right_here}
+use Rattle.shr_audit_due.proofs.Loops.{item_fails, items_whole}
+use Rattle.shr_audit_pools.proofs.Loops.{right_here}
 use Rattle.shr_audit_pools.proofs.replies.is_part_right.Goals as goal
 
 pub returns-then-not-has_right : goal.returns-then-not-has_right

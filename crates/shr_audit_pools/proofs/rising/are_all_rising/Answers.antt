@@ -4,7 +4,7 @@ use Rattle.shr_formed.proofs.Eachs.{more_at}
 use Rattle.std.specs.Bool.{Decides}
 use Rattle.shr_base.specs.declared.replies.Answered.{Answered}
 use Rattle.shr_audit_pools.specs.Lows.{AreRising}
-use Rattle.shr_audit_pools.proofs.Loops.{item_fails, items_whole}
+use Rattle.shr_audit_due.proofs.Loops.{item_fails, items_whole}
 use Rattle.shr_audit_pools.proofs.rising.are_all_rising.Goals as goal
 
 pub returns-then-not-branch : goal.returns-then-not-branch

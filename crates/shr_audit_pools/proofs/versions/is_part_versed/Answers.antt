@@ -3,7 +3,7 @@ use Rattle.std.proofs.lemmas.Option.{slice_get_read}
 use Rattle.shr_base.specs.declared.walks.PlainWalk.{PlainWalk}
 use Rattle.shr_formed.proofs.Eachs.{more_at}
 use Rattle.shr_audit_pools.specs.Lows.{IsVersed}
-use Rattle.shr_audit_pools.proofs.Loops.{here_at}
+use Rattle.shr_audit_due.proofs.Loops.{here_at}
 use Rattle.shr_audit_pools.proofs.Versed.{later_command, part_fails, part_whole, versed_decided, versed_next, versed_none, versed_replied}
 use Rattle.shr_audit_pools.proofs.versions.is_part_versed.Goals as goal
 

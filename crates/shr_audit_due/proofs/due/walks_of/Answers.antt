@@ -1,7 +1,7 @@
 use Rattle.std.proofs.Common.{arith}
 use Rattle.shr_base.specs.declared.walks.PlainWalk.{PlainWalk}
 use Rattle.shr_audit_walks.proofs.Ranged.{range_filter, none_filter}
-use Rattle.shr_audit_pools.proofs.due.walks_of.Goals as goal
+use Rattle.shr_audit_due.proofs.due.walks_of.Goals as goal
 
 pub returns-then-low-high : goal.returns-then-low-high
 returns-then-low-high c =

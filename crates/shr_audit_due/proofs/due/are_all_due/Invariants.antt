@@ -1,7 +1,7 @@
 use Rattle.std.proofs.Common.{◌≡◌, ◌<◌, ℕ, Some, slice_get}
 use Rattle.shr_base.specs.declared.walks.PlainWalk.{PlainWalk}
-use Rattle.shr_audit_pools.specs.Due.{IsDue}
-use Rattle.shr_audit_pools.proofs.due.are_all_due.Given as goal
+use Rattle.shr_audit_due.specs.Due.{IsDue}
+use Rattle.shr_audit_due.proofs.due.are_all_due.Given as goal
 
 abbrev pub invariant-loop-walk : goal.invariant-loop-walk
 invariant-loop-walk l = (n : ℕ) (w : PlainWalk) → n < l.walk-index → slice_get l.walks n ≡ Some w → IsDue l.script l.report w

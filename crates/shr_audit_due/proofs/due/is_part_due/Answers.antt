@@ -3,9 +3,9 @@ use Rattle.std.specs.Bool.{Decides}
 use Rattle.shr_base.specs.declared.replies.Answered.{Answered}
 use Rattle.shr_report.specs.Parts.{commands_of}
 use Rattle.shr_formed.proofs.Eachs.{more_at}
-use Rattle.shr_audit_pools.specs.Due.{HasDue, walks_with}
-use Rattle.shr_audit_pools.proofs.Dues.{answer_due, part_fails, part_whole}
-use Rattle.shr_audit_pools.proofs.due.is_part_due.Goals as goal
+use Rattle.shr_audit_due.specs.Due.{HasDue, walks_with}
+use Rattle.shr_audit_due.proofs.Dues.{answer_due, part_fails, part_whole}
+use Rattle.shr_audit_due.proofs.due.is_part_due.Goals as goal
 
 pub returns-then-not-has_due : goal.returns-then-not-has_due
 returns-then-not-has_due c =

@@ -7,7 +7,7 @@ ghost use Rattle.shr_formed.specs.Each.{Each};
 ghost use Rattle.shr_report.specs.Parts.{commands_of, EachAnswer};
 ghost use Rattle.shr_report.specs.UnitParts.{EachPlain, plain_by, plain_due, plain_job_of, plain_jobs};
 ghost use Rattle.shr_report.specs.WellFormed.{IsWellFormed};
-ghost use Rattle.shr_audit_pools.specs.Due.{HasDue, IsDue, IsPartDue, StandByCommand, job_told};
+ghost use Rattle.shr_audit_due.specs.Due.{HasDue, IsDue, IsPartDue, StandByCommand, job_told};
 
 use shr_base::ends::WorkerPart;
 use shr_base::replies::{Answered, Reply};
@@ -117,8 +117,8 @@ fn walks_of(walks: &[PlainWalk], command: usize) -> &[PlainWalk]
     if low < high { &walks[low..high] } else { &[] }
 }
 
-// The commands of a worker; none past the last worker.
-pub(crate) fn commands_of(script: &Script, worker: usize) -> &[Command]
+/// The commands of a worker; none past the last worker. Our own.
+pub fn commands_of(script: &Script, worker: usize) -> &[Command]
     ensures { result.now ≡ commands_of script.now worker }
 {
     match script.workers.get(worker) {

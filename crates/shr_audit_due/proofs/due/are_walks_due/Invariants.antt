@@ -1,7 +1,7 @@
 use Rattle.std.proofs.Common.{◌≡◌, ◌<◌, ℕ, Some, slice_get}
 use Rattle.shr_base.specs.declared.ends.WorkerPart.{WorkerPart}
-use Rattle.shr_audit_pools.specs.Due.{IsPartDue}
-use Rattle.shr_audit_pools.proofs.due.are_walks_due.Given as goal
+use Rattle.shr_audit_due.specs.Due.{IsPartDue}
+use Rattle.shr_audit_due.proofs.due.are_walks_due.Given as goal
 
 abbrev pub invariant-loop-worker : goal.invariant-loop-worker
 invariant-loop-worker l = (n : ℕ) (part : WorkerPart) → n < l.worker → slice_get l.parts n ≡ Some part → IsPartDue l.script n part

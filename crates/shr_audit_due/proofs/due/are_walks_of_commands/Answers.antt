@@ -4,9 +4,9 @@ use Rattle.shr_base.specs.declared.ends.WorkerPart.{WorkerPart}
 use Rattle.shr_base.specs.declared.walks.PlainWalk.{PlainWalk}
 use Rattle.shr_formed.specs.Each.{Each}
 use Rattle.shr_formed.proofs.Eachs.{more_at}
-use Rattle.shr_audit_pools.specs.Due.{IsDue}
-use Rattle.shr_audit_pools.proofs.Loops.{each_plain_of, item_fails, items_whole}
-use Rattle.shr_audit_pools.proofs.due.are_walks_of_commands.Goals as goal
+use Rattle.shr_audit_due.specs.Due.{IsDue}
+use Rattle.shr_audit_due.proofs.Loops.{each_plain_of, item_fails, items_whole}
+use Rattle.shr_audit_due.proofs.due.are_walks_of_commands.Goals as goal
 
 pub returns-then-not-are_all_due : goal.returns-then-not-are_all_due
 returns-then-not-are_all_due c =

@@ -1,9 +1,9 @@
 use Rattle.std.proofs.Common.{ℕ}
 use Rattle.shr_base.specs.declared.ends.WorkerPart.{WorkerPart}
 use Rattle.shr_formed.proofs.Eachs.{more_at}
-use Rattle.shr_audit_pools.specs.Due.{IsPartDue}
-use Rattle.shr_audit_pools.proofs.Dues.{due_all, due_fails, stands_here}
-use Rattle.shr_audit_pools.proofs.due.are_walks_due.Goals as goal
+use Rattle.shr_audit_due.specs.Due.{IsPartDue}
+use Rattle.shr_audit_due.proofs.Dues.{due_all, due_fails, stands_here}
+use Rattle.shr_audit_due.proofs.due.are_walks_due.Goals as goal
 
 pub is_part_due-requires : goal.is_part_due-requires
 is_part_due-requires c = stands_here c.args.report.now c.as_slice-parts.result.now c.loop-worker.worker c.index-parts-worker.result c.requires c.as_slice-parts.ensures c.loop-worker-test.true c.index-parts-worker.is

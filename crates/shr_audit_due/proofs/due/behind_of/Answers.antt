@@ -4,8 +4,8 @@ use Rattle.std.proofs.lemmas.Bool.Decides.{nat_tests}
 use Rattle.std.proofs.lemmas.List.Sorted.{IsPartitionPoint-from_clause}
 use Rattle.std.proofs.lemmas.Option.{get_or_from_slice_get, slice_get_within}
 use Rattle.shr_base.specs.declared.walks.PlainWalk.{PlainWalk}
-use Rattle.shr_audit_pools.proofs.Dues.{parted_up_to}
-use Rattle.shr_audit_pools.proofs.due.behind_of.Goals as goal
+use Rattle.shr_audit_due.proofs.Dues.{parted_up_to}
+use Rattle.shr_audit_due.proofs.due.behind_of.Goals as goal
 
 pub returns-clause-before : goal.returns-clause-before
 returns-clause-before c = λ n x lt at.

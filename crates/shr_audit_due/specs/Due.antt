@@ -10,7 +10,7 @@ use Rattle.shr_formed.specs.Each.{Adjacent}
 use Rattle.shr_report.specs.declared.report.Report.{Report}
 use Rattle.shr_report.specs.Parts.{command_at, commands_of, reply_at}
 use Rattle.shr_report.specs.UnitParts.{PlainJob, plain_due, plain_job_of}
-use Rattle.shr_audit_pools.specs.declared.due.Job.{Job}
+use Rattle.shr_audit_due.specs.declared.due.Job.{Job}
 
 -- what a walk of the pools is to do, as the law says it
 abbrev pub job_told : Job → PlainJob

@@ -1,8 +1,8 @@
 use Rattle.std.proofs.Common.{◌≡◌, ◌<◌, ℕ, Some, slice_get}
 use Rattle.shr_base.specs.declared.ends.WorkerPart.{WorkerPart}
 use Rattle.shr_formed.specs.Each.{Each}
-use Rattle.shr_audit_pools.specs.Due.{IsDue}
-use Rattle.shr_audit_pools.proofs.due.are_walks_of_commands.Given as goal
+use Rattle.shr_audit_due.specs.Due.{IsDue}
+use Rattle.shr_audit_due.proofs.due.are_walks_of_commands.Given as goal
 
 abbrev pub invariant-loop-part : goal.invariant-loop-part
 invariant-loop-part l = (n : ℕ) (part : WorkerPart) → n < l.part-index → slice_get l.part-items n ≡ Some part → Each (IsDue l.script l.report) part.plain.items

@@ -21,7 +21,7 @@ use Rattle.shr_formed.proofs.WellParts.{parts_of}
 use Rattle.shr_formed.proofs.Eachs.{all_at, below_of, clash}
 use Rattle.shr_case.specs.Each.{AnswersInParts}
 use Rattle.shr_case.proofs.Eachs.{each_answer_of}
-use Rattle.shr_audit_pools.specs.Due.{StandByCommand, HasDue, IsPartDue, walks_with}
+use Rattle.shr_audit_due.specs.Due.{StandByCommand, HasDue, IsPartDue, walks_with}
 
 -- ---- walks in the order of their commands
 

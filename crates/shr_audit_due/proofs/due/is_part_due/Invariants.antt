@@ -1,8 +1,8 @@
 use Rattle.std.proofs.Common.{◌≡◌, ◌<◌, ℕ, Some, slice_get}
 use Rattle.shr_base.specs.declared.replies.Answered.{Answered}
 use Rattle.shr_report.specs.Parts.{commands_of}
-use Rattle.shr_audit_pools.specs.Due.{HasDue, walks_with}
-use Rattle.shr_audit_pools.proofs.due.is_part_due.Given as goal
+use Rattle.shr_audit_due.specs.Due.{HasDue, walks_with}
+use Rattle.shr_audit_due.proofs.due.is_part_due.Given as goal
 
 abbrev pub invariant-loop-n : goal.invariant-loop-n
 invariant-loop-n l = (n : ℕ) (a : Answered) → n < l.n → slice_get l.answers n ≡ Some a → HasDue l.script (commands_of l.script l.worker) n a (walks_with l.part.plain.items n)

@@ -1,5 +1,5 @@
-use Rattle.shr_audit_pools.proofs.Dues.{has_none, has_one}
-use Rattle.shr_audit_pools.proofs.due.has_due.Goals as goal
+use Rattle.shr_audit_due.proofs.Dues.{has_none, has_one}
+use Rattle.shr_audit_due.proofs.due.has_due.Goals as goal
 
 pub returns-in-Some : goal.returns-in-Some
 returns-in-Some c =

@@ -1,0 +1,51 @@
+-- Loops over what a report prints: what is so of each item, and of each walk of the pools.
+use Rattle.std.proofs.Common.{◌≡◌, ◌⊎◌, inl, inr, ℕ, ◌+◌, ◌<◌, ◌≤◌, Bool, true, false, List, length, get_or, Option, Some, None, refl, sym, ap, subst, ◌∙◌, arith}
+use Rattle.std.specs.Prelude.{slice_get}
+use Rattle.std.specs.Bool.{Decides}
+use Rattle.std.proofs.lemmas.Bool.{cases_lt}
+use Rattle.std.proofs.lemmas.Option.{same_Some, slice_get-get_or}
+use Rattle.shr_base.specs.declared.ends.WorkerPart.{WorkerPart}
+use Rattle.shr_base.specs.declared.walks.PlainWalk.{PlainWalk}
+use Rattle.shr_report.specs.declared.report.Report.{Report}
+use Rattle.shr_report.specs.UnitParts.{EachPlain, plain_in}
+use Rattle.shr_formed.proofs.Eachs.{all_at, clash}
+
+-- ---- any items
+
+pub here_at : {X : Type 0} (xs ys : List X) (i : ℕ) (x : X) → xs ≡ ys → i < length xs → x ≡ get_or xs i x → slice_get ys i ≡ Some x
+here_at {X} xs ys i x e lt is = ap (λ (zs : List X). slice_get zs i) (sym e) ∙ (slice_get-get_or xs i x lt ∙ ap (λ (y : X). Some y) (sym is))
+
+pub item_fails : {X : Type 0} (P : ℕ → X → Type 0) (xs ys : List X) (i : ℕ) (x : X) (b : Bool) → xs ≡ ys → i < length xs → x ≡ get_or xs i x → Decides b (P i x) → b ≡ false → Decides false ((n : ℕ) (y : X) → slice_get ys n ≡ Some y → P n y)
+item_fails P xs ys i x b e lt is d f = (λ t. absurd cc, λ h. absurd (clash b (d.1 (h i x (here_at xs ys i x e lt is))) f))
+
+pub items_whole : {X : Type 0} (P : ℕ → X → Type 0) (xs ys : List X) (i : ℕ) → xs ≡ ys → length xs ≤ i → ((n : ℕ) (x : X) → n < i → slice_get xs n ≡ Some x → P n x) → Decides true ((n : ℕ) (y : X) → slice_get ys n ≡ Some y → P n y)
+items_whole {X} P xs ys i e over before = subst (λ (zs : List X). Decides true ((n : ℕ) (x : X) → slice_get zs n ≡ Some x → P n x)) e (all_at P xs i over before)
+
+-- the same of items that are plain values
+pub value_fails : {X : Type 0} (P : ℕ → X → Type 0) (xs ys : List X) (i : ℕ) (d : X) (b : Bool) → xs ≡ ys → i < length xs → Decides b (P i (get_or xs i d)) → b ≡ false → Decides false ((n : ℕ) (y : X) → slice_get ys n ≡ Some y → P n y)
+value_fails {X} P xs ys i d b e lt dec f = (λ t. absurd cc, λ h. absurd (clash b (dec.1 (h i (get_or xs i d) (ap (λ (zs : List X). slice_get zs i) (sym e) ∙ slice_get-get_or xs i d lt))) f))
+
+pub value_more : {X : Type 0} (P : ℕ → X → Type 0) (xs : List X) (i : ℕ) (d : X) → i < length xs → ((n : ℕ) (x : X) → n < i → slice_get xs n ≡ Some x → P n x) → P i (get_or xs i d) → (n : ℕ) (x : X) → n < i + 1 → slice_get xs n ≡ Some x → P n x
+value_more P xs i d lt before here n x less at_n = by (cases_lt n i)
+  where
+    by : (n < i) ⊎ (i ≤ n) → P n x
+    by (inl lower) = before n x lower at_n
+    by (inr ge) =
+        let same : i ≡ n = omega (arith, less, ge) in
+        subst (λ (k : ℕ). P k x) same (subst (P i) (same_Some (get_or xs i d) x (sym (slice_get-get_or xs i d lt) ∙ (ap (slice_get xs) same ∙ at_n))) here)
+
+-- ---- walks
+
+pub none_some : {X : Type 0} (x : X) → ◌≡◌ {A = Option X} None (Some x) → ⊥
+none_some x e = cc
+
+pub each_plain_of : (r : Report) (P : ℕ → ℕ → PlainWalk → Type 0) (b : Bool) → Decides b ((worker : ℕ) (part : WorkerPart) → slice_get r.workers.items worker ≡ Some part → (n : ℕ) (w : PlainWalk) → slice_get part.plain.items n ≡ Some w → P worker n w) → Decides b (EachPlain r P)
+each_plain_of r P b d = (
+  λ t worker n w at_n. by (d.0 t) worker n w (slice_get r.workers.items worker) refl at_n,
+  λ h. d.1 (λ worker part here n w at_n. h worker n w (ap (λ (o : Option WorkerPart). slice_get (plain_in o) n) here ∙ at_n)),
+)
+  where
+    by : ((worker : ℕ) (part : WorkerPart) → slice_get r.workers.items worker ≡ Some part → (n : ℕ) (w : PlainWalk) → slice_get part.plain.items n ≡ Some w → P worker n w)
+        → (worker n : ℕ) (w : PlainWalk) (o : Option WorkerPart) → slice_get r.workers.items worker ≡ o → slice_get (plain_in o) n ≡ Some w → P worker n w
+    by h worker n w None here e = absurd (none_some w e)
+    by h worker n w (Some part) here e = h worker part here n w e
