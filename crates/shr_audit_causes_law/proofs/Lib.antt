@@ -1,0 +1,3 @@
+pub mod Few
+mod Fields
+mod Whole

@@ -1,0 +1,8 @@
+mod AboveLaws
+mod CarriedLaws
+mod MovedLaws
+mod OfflinesValues
+mod PathLaws
+mod RowLaws
+mod SplicedLaws
+mod TreeLaws

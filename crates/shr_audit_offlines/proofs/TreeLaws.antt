@@ -1,0 +1,23 @@
+-- Groups that are a tree, by their declarations.
+use Rattle.std.proofs.Common.{◌≡◌, ℕ, zero, suc, ◌<◌, ◌≤◌, List, ◌∷◌, length, map, Some, refl, ap, ◌∙◌, inl, inr, arith}
+use Rattle.std.specs.Prelude.{slice_get}
+use Rattle.std.proofs.lemmas.List.{get_or-map, length-map}
+use Rattle.std.proofs.lemmas.Option.{slice_get_cases}
+use Rattle.shr_base.specs.declared.scripts.GroupDecl.{GroupDecl}
+use Rattle.shr_model.specs.Groups.{IsTree, parent_of}
+
+pub tree_of : (groups : List GroupDecl) → ((k : ℕ) (g : GroupDecl) → k < length groups → slice_get groups k ≡ Some g → g.parent ≤ k) → IsTree (0 ∷ map (λ (g : GroupDecl). g.parent) groups)
+tree_of groups low = record { has_root = omega arith; root = refl; lower = lower }
+  where
+    parents : List ℕ
+    parents = 0 ∷ map (λ (g : GroupDecl). g.parent) groups
+
+    lower : (group : ℕ) → 0 < group → group < length (0 ∷ map (λ (g : GroupDecl). g.parent) groups) → parent_of (0 ∷ map (λ (g : GroupDecl). g.parent) groups) group < group
+    lower zero below lt = absurd (omega arith)
+    lower (suc k) below lt = elim (slice_get_cases groups k).1 [
+      | inl at ↦
+          (let is = get_or-map (λ (g : GroupDecl). g.parent) groups k at.0 0 at.1 ∙ ap (λ (g : GroupDecl). g.parent) at.3 in
+          let le = low k at.0 at.1 at.2 in
+          omega (arith, is, le))
+      | inr past ↦ absurd (let many = length-map groups (λ (g : GroupDecl). g.parent) in let over = past.0 in omega (arith, lt, many, over))
+    ]

@@ -1,0 +1,9 @@
+use Rattle.std.proofs.Common.{◌≡◌, length, take}
+use Rattle.shr_audit_offlines.specs.Carried.{AreCarried}
+use Rattle.shr_audit_offlines.proofs.carried.carried_of.Given as goal
+
+abbrev pub invariant-loop-carry : goal.invariant-loop-carry
+invariant-loop-carry l = record {
+  count : length l.carried.items ≡ l.count;
+  each : AreCarried l.worker (take l.carry-index l.carry-items) l.carried.items;
+}

@@ -1,0 +1,14 @@
+use Rattle.std.proofs.Common.{◌≡◌, ◌-◌, length, take}
+use Rattle.std.specs.Prelude.{sum_by}
+use Rattle.shr_audit_offlines.specs.Moved.{AreSums}
+use Rattle.shr_audit_offlines.proofs.MovedLaws.{moved_by}
+use Rattle.shr_audit_offlines.proofs.moved.moved_of.Given as goal
+
+abbrev pub invariant-loop-k : goal.invariant-loop-k
+invariant-loop-k l = record {
+  count : length l.moved.items ≡ 65536;
+  sums : AreSums (λ g. sum_by (moved_by l.report g) (take l.k l.ends)) l.moved.items;
+}
+
+abbrev pub decreases-loop-k : goal.decreases-loop-k
+decreases-loop-k l = length l.ends - l.k

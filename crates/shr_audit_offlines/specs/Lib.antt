@@ -1,0 +1,5 @@
+pub mod Above
+pub mod Carried
+pub mod Moved
+pub mod Rows
+pub mod Spliced

@@ -1,0 +1,4 @@
+mod BeganLaws
+mod RowLaws
+mod SumsLaws
+mod UnregistersValues

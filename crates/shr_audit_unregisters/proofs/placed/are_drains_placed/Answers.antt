@@ -1,0 +1,16 @@
+use Rattle.std.proofs.Common.{List, subst}
+use Rattle.std.specs.Bool.{Decides}
+use Rattle.shr_base.specs.declared.ends.PlaceEnd.{PlaceEnd}
+use Rattle.shr_case.specs.Each.{EachFirst}
+use Rattle.shr_case.proofs.Eachs.{each_entry_of}
+use Rattle.shr_formed.specs.Each.{Each}
+use Rattle.shr_audit_unregisters.specs.Placed.{IsPlaced}
+use Rattle.shr_audit_unregisters.proofs.placed.are_drains_placed.Goals as goal
+
+pub returns : goal.returns
+returns c =
+    let s = c.args.script.now in
+    let r = c.args.report.now in
+    let b = c.are_lists_placed-all.result in
+    each_entry_of r (λ place n e. IsPlaced s r place e) b
+    (subst (λ (ends : List PlaceEnd). Decides b (EachFirst ends (λ end. Each (λ e. IsPlaced s r end.place e) end.entries.items))) c.as_slice.ensures c.are_lists_placed-all.ensures)

@@ -1,0 +1,7 @@
+use Rattle.std.proofs.Common.{◌≡◌, ◌<◌, ℕ, Some, slice_get}
+use Rattle.shr_base.specs.declared.journals.Entry.{Entry}
+use Rattle.shr_audit_unregisters.specs.Placed.{IsPlaced}
+use Rattle.shr_audit_unregisters.proofs.placed.are_placed.Given as goal
+
+abbrev pub invariant-loop-entry : goal.invariant-loop-entry
+invariant-loop-entry l = (n : ℕ) (x : Entry) → n < l.entry-index → slice_get l.entries n ≡ Some x → IsPlaced l.script l.report l.place x

@@ -1,0 +1,6 @@
+use Rattle.std.proofs.Common.{ℕ, ◌<◌}
+use Rattle.shr_audit_unregisters.specs.Rows.{IsCausedAt}
+use Rattle.shr_audit_unregisters.proofs.rows.are_caused.Given as goal
+
+abbrev pub invariant-loop-worker : goal.invariant-loop-worker
+invariant-loop-worker l = (w : ℕ) → w < l.worker → (k : ℕ) → IsCausedAt l.script l.report w k

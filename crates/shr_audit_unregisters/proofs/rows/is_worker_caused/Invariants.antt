@@ -1,0 +1,6 @@
+use Rattle.std.proofs.Common.{ℕ, ◌<◌}
+use Rattle.shr_audit_unregisters.specs.Rows.{IsCausedAt}
+use Rattle.shr_audit_unregisters.proofs.rows.is_worker_caused.Given as goal
+
+abbrev pub invariant-loop-number : goal.invariant-loop-number
+invariant-loop-number l = (k : ℕ) → k < l.number → IsCausedAt l.script l.report l.worker k

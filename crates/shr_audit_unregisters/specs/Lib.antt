@@ -1,0 +1,5 @@
+pub mod Began
+pub mod Ended
+pub mod Placed
+pub mod Rows
+pub mod Sums
