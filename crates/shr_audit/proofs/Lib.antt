@@ -1,0 +1,6 @@
+pub mod Order
+pub mod OneScript
+pub mod OneReport
+pub mod OneVerdict
+pub mod Premises
+mod VerdictValues

@@ -1,0 +1,3 @@
+pub mod Script
+pub mod Verdict
+pub mod Given

@@ -1,4 +1,13 @@
-//! Whether bytes are a report. Our own.
+//! What bytes say to an auditor: the script and the report that they are, and which law of a report is
+//! broken. Our own.
 #![tactic(auto)]
 
+pub mod asked;
+pub mod audit;
 pub mod found;
+pub mod given;
+pub mod laws;
+pub mod script;
+#[cfg(test)]
+mod tests;
+pub mod verdict;

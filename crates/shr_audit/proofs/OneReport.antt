@@ -1,0 +1,25 @@
+-- Bytes are the text of one report whose lists have no room to spare.
+use Rattle.std.proofs.Common.{◌≡◌, ℕ, List, [], ◌∷◌, Option, Some, sym, subst, ◌∙◌}
+use Rattle.shr_model.specs.Pieces.{pieces}
+use Rattle.shr_report.specs.declared.report.Report.{Report}
+use Rattle.shr_reader.specs.declared.said.Said.{Said}
+use Rattle.shr_draft.specs.Draft.{with_said}
+use Rattle.shr_draft.specs.Reading.{nothing, Says, Reads, IsReportOf}
+use Rattle.shr_draft.proofs.Whole.{reads_of}
+
+some_same : {X : Type 0} (x y : X) → ◌≡◌ {A = Option X} (Some x) (Some y) → x ≡ y
+some_same x y e = cc
+
+one_said : (version : ℕ) (line : List ℕ) (x y : Said) → Says version line x → Says version line y → x ≡ y
+one_said version line x y h k = some_same x y (sym h.is ∙ k.is)
+
+-- lines make one report of what was read before them
+one_reads : (ls : List (List ℕ)) (before r s : Report) → Reads ls before r → Reads ls before s → r ≡ s
+unfolding Reads
+one_reads [] before r s h k = absurd h
+one_reads (line ∷ []) before r s h k = sym h.1 ∙ k.1
+one_reads (line ∷ next ∷ ls) before r s h k =
+    one_reads (next ∷ ls) (with_said h.0 before) r s h.1.1 (subst (λ (x : Said). Reads (next ∷ ls) (with_said x before) s) (sym (one_said before.version line h.0 k.0 h.1.0 k.1.0)) k.1.1)
+
+pub one_report : (bytes : List ℕ) (r s : Report) → IsReportOf bytes r → IsReportOf bytes s → r ≡ s
+one_report bytes r s h k = one_reads (pieces 10 bytes) nothing r s (reads_of bytes r h) (reads_of bytes s k)

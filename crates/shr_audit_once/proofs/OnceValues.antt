@@ -1,0 +1,15 @@
+-- Places that are printed once, and one that is printed twice.
+use Rattle.std.proofs.Common.{◌≡◌, ℕ, [], ◌∷◌, Some, refl, arith}
+use Rattle.std.specs.Prelude.{slice_get}
+use Rattle.shr_base.specs.declared.ends.PlaceEnd.{PlaceEnd}
+use Rattle.shr_base.specs.declared.places.Place.{Place}
+use Rattle.shr_audit_once.specs.Once.{IsPrintedOnce}
+
+nowhere : (place : Place) → IsPrintedOnce [] place
+nowhere place k end at same m x lt there = absurd (no_item m x there)
+  where
+    no_item : (n : ℕ) (y : PlaceEnd) → slice_get [] n ≡ Some y → ⊥
+    no_item n y e = cc
+
+twice : (end : PlaceEnd) → IsPrintedOnce (end ∷ end ∷ []) end.place → ⊥
+twice end h = h 1 end refl refl 0 end (omega arith) refl refl

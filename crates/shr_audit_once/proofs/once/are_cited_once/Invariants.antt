@@ -1,0 +1,6 @@
+use Rattle.std.proofs.Common.{ℕ, ◌<◌}
+use Rattle.shr_audit_once.specs.Once.{IsCitedOnceAt}
+use Rattle.shr_audit_once.proofs.once.are_cited_once.Given as goal
+
+abbrev pub invariant-loop-worker : goal.invariant-loop-worker
+invariant-loop-worker l = (w : ℕ) → w < l.worker → (k : ℕ) → IsCitedOnceAt l.report w k
