@@ -1,5 +1,5 @@
 -- What the matches of `clap` give.
-use Rattle.std.proofs.Common.{◌≡◌, ◌∙◌, List, ℕ, [], ◌∷◌, length, Bool, true, false, ◌||◌, cond, ◌≤◌, ◌<◌, ◌^◌, Option, Some, None, sym, ap, subst, refl, ⊎_elim, zero, suc, codes, decimal, arith, ne_eqb}
+use Rattle.std.proofs.Common.{◌≡◌, ◌∙◌, List, ℕ, [], ◌∷◌, length, Bool, true, false, ◌||◌, cond, ◌≤◌, ◌<◌, ◌^◌, Option, Some, None, sym, ap, subst, refl, zero, suc, codes, decimal, arith, ne_eqb}
 use Rattle.std.specs.Prelude.{option_map, get_or}
 use Rattle.std.specs.Borrow.{Bor}
 use Rattle.std.specs.List.{AllByRecursion, list_any}
@@ -11,10 +11,10 @@ use Rattle.clap.specs.declared.parser.matches.Found.{Found}
 use Rattle.clap.proofs.WalkLemmas.{first_value-rows}
 use Rattle.shr_forms.specs.CommandLine.{has_hyphen, IsPlainWord, the_app}
 use Rattle.shr_forms.specs.declared.form.Form.{Form}
-use Rattle.shr_forms.specs.declared.form.Form.TheVariants.{Run}
-use Rattle.shr_forms.specs.Forms.{AreRunWords, AreGenWords, AreNoForm, ReadsAs}
+use Rattle.shr_forms.specs.declared.form.Form.TheVariants.{Run, Audit}
+use Rattle.shr_forms.specs.Forms.{AreRunWords, AreAuditWords, AreGenWords, AreNoForm, ReadsAs}
 use Rattle.shr_forms.proofs.Reading.{sizes_fit}
-use Rattle.shr_forms.proofs.Splitting.{split, run_right, run_met, gen_right, gen_met, rows, first_is, second_is, third_is}
+use Rattle.shr_forms.proofs.Splitting.{AreSplit, as_run, as_audit, as_gen, split, run_right, run_met, audit_right, audit_met, gen_right, gen_met, rows, first_is, second_is, third_is}
 
 module _ (f : Found) (id : Text) (result : Option (Bor (List ℕ))) (t : List ℕ) (told : option_map (λ (s : Bor (List ℕ)). s.now) result ≡ first_value f id) (first : first_of id (rows_of f) ≡ Some t) where
   -- the word that was given is the row's first
@@ -39,6 +39,9 @@ plain_decimal (suc n) fits = plain_first (decimal (suc n)) (λ some. let high = 
 no_hyphen_run : (words : List (List ℕ)) → AreRunWords words → list_any has_hyphen words ≡ false
 no_hyphen_run words is = ap (list_any has_hyphen) is
 
+no_hyphen_audit : (words : List (List ℕ)) → AreAuditWords words → list_any has_hyphen words ≡ false
+no_hyphen_audit words is = ap (list_any has_hyphen) is
+
 no_hyphen_gen : (words : List (List ℕ)) (s w c : ℕ) → AreGenWords words s w c → list_any has_hyphen words ≡ false
 no_hyphen_gen words s w c is = let fit = sizes_fit w c is.made in
     ap (list_any has_hyphen) is.spelled
@@ -52,6 +55,7 @@ true_not_false b yes_it no_it = let no : true ≡ false = sym yes_it ∙ no_it i
 pub hyphened : (words : List (List ℕ)) → list_any has_hyphen words ≡ true → AreNoForm words
 hyphened words some = record {
   run = λ is. true_not_false (list_any has_hyphen words) some (no_hyphen_run words is);
+  audit = λ is. true_not_false (list_any has_hyphen words) some (no_hyphen_audit words is);
   gen = λ s w c is. true_not_false (list_any has_hyphen words) some (no_hyphen_gen words s w c is);
 }
 
@@ -75,10 +79,13 @@ among_none k kinds none among = subst (IsAmong k) none among
 
 -- words with which the command finds a fault are of no form
 pub faulted : (words : List (List ℕ)) (k : ErrorKind) → AllByRecursion IsPlainWord words → IsAmong k (fault_of the_app words) → AreNoForm words
-faulted words k plain among = record { run = run; gen = gen }
+faulted words k plain among = record { run = run; audit = audit; gen = gen }
   where
     run : AreRunWords words → ⊥
     run is = among_none k (fault_of the_app words) (ap (fault_of the_app) is ∙ run_right) among
+
+    audit : AreAuditWords words → ⊥
+    audit is = among_none k (fault_of the_app words) (ap (fault_of the_app) is ∙ audit_right) among
 
     gen : (s w c : ℕ) → AreGenWords words s w c → ⊥
     gen s w c is =
@@ -86,18 +93,27 @@ faulted words k plain among = record { run = run; gen = gen }
         among_none k (fault_of the_app words) (ap (fault_of the_app) is.spelled ∙ gen_right (decimal s) (decimal w) (decimal c) plains.1.0 plains.1.1.0 plains.1.1.1.0) among
 
 module _ (words : List (List ℕ)) (plain : AllByRecursion IsPlainWord words) (met : Option (List ℕ × List Row)) (is_met : met ≡ subcommand_of the_app words) (form : Option Form)
-    (as_run : (rows : List Row) → met ≡ Some (codes "run", rows) → form ≡ Some Run)
-    (as_gen : (rows : List Row) (a b c : List ℕ) → met ≡ Some (codes "gen", rows) → first_of (codes "seed") rows ≡ Some a → first_of (codes "workers") rows ≡ Some b → first_of (codes "commands") rows ≡ Some c → ReadsAs (codes "gen" ∷ a ∷ b ∷ c ∷ []) form) where
+    (when_run : (rows : List Row) → met ≡ Some (codes "run", rows) → form ≡ Some Run)
+    (when_audit : (rows : List Row) → met ≡ Some (codes "audit", rows) → form ≡ Some Audit)
+    (when_gen : (rows : List Row) (a b c : List ℕ) → met ≡ Some (codes "gen", rows) → first_of (codes "seed") rows ≡ Some a → first_of (codes "workers") rows ≡ Some b → first_of (codes "commands") rows ≡ Some c → ReadsAs (codes "gen" ∷ a ∷ b ∷ c ∷ []) form) where
   -- words with which the command finds none are read as the form that they are of
   pub faultless : fault_of the_app words ≡ [] → ReadsAs words form
-  faultless none = ⊎_elim run gen (split words plain none)
+  faultless none = by_split (split words plain none)
     where
       run : words ≡ codes "run" ∷ [] → ReadsAs words form
-      run is = subst (ReadsAs words) (sym (as_run [] (is_met ∙ ap (subcommand_of the_app) is ∙ run_met))) is
+      run is = subst (ReadsAs words) (sym (when_run [] (is_met ∙ ap (subcommand_of the_app) is ∙ run_met))) is
 
-      gen : (a : List ℕ) × (b : List ℕ) × (c : List ℕ) × (words ≡ codes "gen" ∷ a ∷ b ∷ c ∷ []) → ReadsAs words form
-      gen (a, b, c, is) =
+      audit : words ≡ codes "audit" ∷ [] → ReadsAs words form
+      audit is = subst (ReadsAs words) (sym (when_audit [] (is_met ∙ ap (subcommand_of the_app) is ∙ audit_met))) is
+
+      gen : (a b c : List ℕ) → words ≡ codes "gen" ∷ a ∷ b ∷ c ∷ [] → ReadsAs words form
+      gen a b c is =
           let plains : AllByRecursion IsPlainWord (codes "gen" ∷ a ∷ b ∷ c ∷ []) = subst (AllByRecursion IsPlainWord) is plain in
           subst (λ ws. ReadsAs ws form) (sym is)
-          (as_gen (rows a b c plains.1.0 plains.1.1.0 plains.1.1.1.0) a b c (is_met ∙ ap (subcommand_of the_app) is ∙ gen_met a b c plains.1.0 plains.1.1.0 plains.1.1.1.0)
+          (when_gen (rows a b c plains.1.0 plains.1.1.0 plains.1.1.1.0) a b c (is_met ∙ ap (subcommand_of the_app) is ∙ gen_met a b c plains.1.0 plains.1.1.0 plains.1.1.1.0)
           (first_is a b c plains.1.0 plains.1.1.0 plains.1.1.1.0) (second_is a b c plains.1.0 plains.1.1.0 plains.1.1.1.0) (third_is a b c plains.1.0 plains.1.1.0 plains.1.1.1.0))
+
+      by_split : AreSplit words → ReadsAs words form
+      by_split (as_run is) = run is
+      by_split (as_audit is) = audit is
+      by_split (as_gen a b c is) = gen a b c is

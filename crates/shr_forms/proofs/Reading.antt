@@ -4,7 +4,7 @@ use Rattle.std.specs.Prelude.{Result, Ok, Err}
 use Rattle.std.specs.Str.Parse.{ParsesUnsigned}
 use Rattle.std.proofs.lemmas.Fmt.{parse-decimal, decimal_injective}
 use Rattle.shr_gen.specs.Generated.{MayBeMade}
-use Rattle.shr_forms.specs.Forms.{Spells, AreRunWords, AreNoForm}
+use Rattle.shr_forms.specs.Forms.{Spells, AreRunWords, AreAuditWords, AreNoForm}
 
 -- a word that isn't read as a number spells none
 pub unread : {E : Type 0} (word : List ℕ) (r : Result ℕ E) (e : E) → ParsesUnsigned 64 10 word r → r ≡ Err e → Spells word None
@@ -26,30 +26,34 @@ sizes_fit workers commands h = let most = h.most_workers in let few = few_comman
 gen_words : List ℕ → List ℕ → List ℕ → List (List ℕ)
 gen_words a b c = codes "gen" ∷ a ∷ b ∷ c ∷ []
 
-record Same (a b c x y z : List ℕ) : Type 0 where
-  first : a ≡ x
-  second : b ≡ y
-  third : c ≡ z
+pub record Same (a b c x y z : List ℕ) : Type 0 where
+  pub first : a ≡ x
+  pub second : b ≡ y
+  pub third : c ≡ z
 
-same_words : (a b c x y z : List ℕ) → codes "gen" ∷ a ∷ b ∷ c ∷ [] ≡ codes "gen" ∷ x ∷ y ∷ z ∷ [] → Same a b c x y z
+pub same_words : (a b c x y z : List ℕ) → codes "gen" ∷ a ∷ b ∷ c ∷ [] ≡ codes "gen" ∷ x ∷ y ∷ z ∷ [] → Same a b c x y z
 same_words a b c x y z e = record { first = cc; second = cc; third = cc }
 
 not_run : (a b c : List ℕ) → AreRunWords (codes "gen" ∷ a ∷ b ∷ c ∷ []) → ⊥
 not_run a b c e = absurd cc
 
+not_audit : (a b c : List ℕ) → AreAuditWords (codes "gen" ∷ a ∷ b ∷ c ∷ []) → ⊥
+not_audit a b c e = absurd cc
+
 -- `gen` and three words, of which one spells no number, or not one that serves
 pub no_seed : (a b c : List ℕ) → Spells a None → AreNoForm (codes "gen" ∷ a ∷ b ∷ c ∷ [])
-no_seed a b c none = record { run = not_run a b c; gen = λ s w k h. none s h.seed_fits (same_words a b c (decimal s) (decimal w) (decimal k) h.spelled).first }
+no_seed a b c none = record { run = not_run a b c; audit = not_audit a b c; gen = λ s w k h. none s h.seed_fits (same_words a b c (decimal s) (decimal w) (decimal k) h.spelled).first }
 
 pub no_workers : (a b c : List ℕ) → Spells b None → AreNoForm (codes "gen" ∷ a ∷ b ∷ c ∷ [])
-no_workers a b c none = record { run = not_run a b c; gen = λ s w k h. none w (sizes_fit w k h.made).0 (same_words a b c (decimal s) (decimal w) (decimal k) h.spelled).second }
+no_workers a b c none = record { run = not_run a b c; audit = not_audit a b c; gen = λ s w k h. none w (sizes_fit w k h.made).0 (same_words a b c (decimal s) (decimal w) (decimal k) h.spelled).second }
 
 pub no_commands : (a b c : List ℕ) → Spells c None → AreNoForm (codes "gen" ∷ a ∷ b ∷ c ∷ [])
-no_commands a b c none = record { run = not_run a b c; gen = λ s w k h. none k (sizes_fit w k h.made).1 (same_words a b c (decimal s) (decimal w) (decimal k) h.spelled).third }
+no_commands a b c none = record { run = not_run a b c; audit = not_audit a b c; gen = λ s w k h. none k (sizes_fit w k h.made).1 (same_words a b c (decimal s) (decimal w) (decimal k) h.spelled).third }
 
 pub no_sizes : (a b c : List ℕ) (w k : ℕ) → Spells b (Some w) → Spells c (Some k) → (MayBeMade w k → ⊥) → AreNoForm (codes "gen" ∷ a ∷ b ∷ c ∷ [])
 no_sizes a b c w k workers commands none = record {
   run = not_run a b c;
+  audit = not_audit a b c;
   gen = λ s v j h.
       let same = same_words a b c (decimal s) (decimal v) (decimal j) h.spelled in
       let fit = sizes_fit v j h.made in
@@ -57,6 +61,20 @@ no_sizes a b c w k workers commands none = record {
       let k_is : j ≡ k = decimal_injective j k fit.1 commands.1 (sym same.third ∙ commands.0) in
       none (subst (λ n. MayBeMade n k) w_is (subst (λ n. MayBeMade v n) k_is h.made));
 }
+
+-- one word, which is neither of those that are a form alone
+pub no_single : (word : List ℕ) → (word ≡ codes "run" → ⊥) → (word ≡ codes "audit" → ⊥) → AreNoForm (word ∷ [])
+no_single word run audit = record {
+  run = λ is. run (only word (codes "run") is);
+  audit = λ is. audit (only word (codes "audit") is);
+  gen = λ s w k h. many word (decimal s) (decimal w) (decimal k) h.spelled;
+}
+  where
+    only : (a b : List ℕ) → a ∷ [] ≡ b ∷ [] → a ≡ b
+    only a b e = cc
+
+    many : (a s w k : List ℕ) → a ∷ [] ≡ codes "gen" ∷ s ∷ w ∷ k ∷ [] → ⊥
+    many a s w k e = absurd cc
 
 -- ---- the words of a list by their places
 

@@ -1,5 +1,5 @@
--- What `clap` makes of words that begin with no hyphen: the one word `run`, or `gen` with three more, and of no others.
-use Rattle.std.proofs.Common.{◌≡◌, ℕ, ◌⊎◌, inl, inr, Bool, true, false, List, [], ◌∷◌, ◌++◌, refl, sym, ap, ap₂, ◌∙◌, subst, append_assoc, codes}
+-- What `clap` makes of words that begin with no hyphen: the one word `run` or `audit`, or `gen` with three more, and of no others.
+use Rattle.std.proofs.Common.{◌≡◌, ℕ, inl, inr, Bool, true, false, List, [], ◌∷◌, ◌++◌, refl, sym, ap, ap₂, ◌∙◌, subst, append_assoc, codes}
 use Rattle.std.specs.Prelude.{Option, Some, None, if◌then◌else◌, fold, bytes_eq, option_and_then, find, unwrap_or}
 use Rattle.std.specs.List.{AllByRecursion}
 use Rattle.std.specs.Option.{option_map_or}
@@ -13,7 +13,7 @@ use Rattle.clap.specs.Simple.{names_of, label_of}
 use Rattle.clap.specs.Faults.{turn_fault, step_fault, walk_fault, level_fault, word_fault, flag_word_fault, bundle_fault, entered_fault, settle_fault, defaults_fault, check_fault}
 use Rattle.clap.specs.Kinds.{or_else}
 use Rattle.clap.proofs.OnLiterals.{clap_on_literals}
-use Rattle.shr_forms.specs.CommandLine.{IsPlainWord, run_app, gen_app, the_app}
+use Rattle.shr_forms.specs.CommandLine.{IsPlainWord, run_app, gen_app, audit_app, the_app}
 
 -- ---- the command
 
@@ -62,12 +62,15 @@ turn_value s position w h plain = ap₂ or_else (no_fault s w h plain) (ap (λ m
 
 -- ---- the words of `gen`
 
--- the two subcommands as they are built
+-- the three subcommands as they are built
 abbrev run_shape : Shape
 run_shape = unwrap_or (find (λ (s : Shape). answers_to (codes "run") (label_of s)) (built the_app).subs) run_app.top
 
 abbrev gen_shape : Shape
 gen_shape = unwrap_or (find (λ (s : Shape). answers_to (codes "gen") (label_of s)) (built the_app).subs) gen_app.top
+
+abbrev pub audit_shape : Shape
+audit_shape = unwrap_or (find (λ (s : Shape). answers_to (codes "audit") (label_of s)) (built the_app).subs) audit_app.top
 
 -- what is left to fault once the words were walked
 abbrev rest_fault : Shape → Held → Kinds
@@ -160,12 +163,18 @@ module _ (a : Text) (plain_a : IsPlainWord a) where
           stray : step_fault gen_shape 4 (after_three a b c).held value ≡ [] → ⊥
           stray h = absurd cc
 
--- ---- the words of `run`
+-- ---- the words of `run` and `audit`
 
 run_alone : (v : Text) (more : List Text) → IsPlainWord v → level_fault run_shape [] nothing_held (v ∷ more) false [] ≡ [] → ⊥
 run_alone v more plain none = stray (sym (turn_value run_shape 1 v nothing_held plain) ∙ (first_turn run_shape [] (walk_from nothing_held) v more (level_parts run_shape (v ∷ more) none).0).0)
   where
     stray : step_fault run_shape 1 nothing_held value ≡ [] → ⊥
+    stray h = absurd cc
+
+audit_alone : (v : Text) (more : List Text) → IsPlainWord v → level_fault audit_shape [] nothing_held (v ∷ more) false [] ≡ [] → ⊥
+audit_alone v more plain none = stray (sym (turn_value audit_shape 1 v nothing_held plain) ∙ (first_turn audit_shape [] (walk_from nothing_held) v more (level_parts audit_shape (v ∷ more) none).0).0)
+  where
+    stray : step_fault audit_shape 1 nothing_held value ≡ [] → ⊥
     stray h = absurd cc
 
 -- ---- the first word
@@ -194,6 +203,10 @@ gen_stops : (rest : List Text) → stop_of (codes "gen" ∷ rest) ≡ Some (code
 unfolding walked
 gen_stops rest = stopped_stays top.rules nothing_held idle 1 false (codes "gen") [] rest
 
+audit_stops : (rest : List Text) → stop_of (codes "audit" ∷ rest) ≡ Some (codes "audit", rest)
+unfolding walked
+audit_stops rest = stopped_stays top.rules nothing_held idle 1 false (codes "audit") [] rest
+
 -- what is below is without a fault where all is
 below_right : (words : List Text) → fault_of the_app words ≡ [] → entered_fault (built the_app) (stop_of words) ≡ []
 below_right words none = (both_none (entered_fault (built the_app) (stop_of words)) _ (both_none (walk_fault top names (walk_from nothing_held) words) _ none).1).0
@@ -205,9 +218,9 @@ no_words : fault_of the_app [] ≡ [] → ⊥
 unfolding clap_on_literals
 no_words none = absurd cc
 
-module _ (w : Text) (plain : IsPlainWord w) (not_run : bytes_eq (codes "run") w ≡ false) (not_gen : bytes_eq (codes "gen") w ≡ false) where
+module _ (w : Text) (plain : IsPlainWord w) (not_run : bytes_eq (codes "run") w ≡ false) (not_gen : bytes_eq (codes "gen") w ≡ false) (not_audit : bytes_eq (codes "audit") w ≡ false) where
   no_subcommand : subcommand_met names idle w ≡ None
-  no_subcommand = rw (not_run, not_gen) refl
+  no_subcommand = rw (not_run, not_gen, not_audit) refl
 
   met_none : word_met top.rules names false idle 1 w nothing_held ≡ (nothing_held, value)
   met_none = ap (λ o. subcommand_or_other top.rules o idle 1 w nothing_held) no_subcommand ∙ met_value top.rules 1 w nothing_held plain
@@ -223,20 +236,26 @@ module _ (w : Text) (plain : IsPlainWord w) (not_run : bytes_eq (codes "run") w 
 
 -- ---- all the words
 
--- the words are the one word `run`, or `gen` and three more
-abbrev pub AreSplit : List Text → Type 0
-AreSplit words = (words ≡ codes "run" ∷ []) ⊎ ((a : Text) × (b : Text) × (c : Text) × (words ≡ codes "gen" ∷ a ∷ b ∷ c ∷ []))
+-- the words are the one word `run` or `audit`, or `gen` and three more
+pub data AreSplit (words : List Text) : Type 0 where
+  as_run : words ≡ codes "run" ∷ [] → AreSplit words
+  as_audit : words ≡ codes "audit" ∷ [] → AreSplit words
+  as_gen : (a b c : Text) → words ≡ codes "gen" ∷ a ∷ b ∷ c ∷ [] → AreSplit words
 
 run_split : (rest : List Text) → AllByRecursion IsPlainWord rest → level_fault run_shape [] nothing_held rest false [] ≡ [] → AreSplit (codes "run" ∷ rest)
-run_split [] plain none = inl refl
+run_split [] plain none = as_run refl
 run_split (v ∷ more) plain none = absurd (run_alone v more plain.0 none)
 
 gen_split : (rest : List Text) → AllByRecursion IsPlainWord rest → level_fault gen_shape [] nothing_held rest false [] ≡ [] → AreSplit (codes "gen" ∷ rest)
 gen_split [] plain none = absurd (none_faults none)
 gen_split (a ∷ []) plain none = absurd (one_faults a plain.0 none)
 gen_split (a ∷ b ∷ []) plain none = absurd (two_faults a plain.0 b plain.1.0 none)
-gen_split (a ∷ b ∷ c ∷ []) plain none = inr (a, b, c, refl)
+gen_split (a ∷ b ∷ c ∷ []) plain none = as_gen a b c refl
 gen_split (a ∷ b ∷ c ∷ d ∷ more) plain none = absurd (four_fault a plain.0 b plain.1.0 c plain.1.1.0 d more plain.1.1.1.0 none)
+
+audit_split : (rest : List Text) → AllByRecursion IsPlainWord rest → level_fault audit_shape [] nothing_held rest false [] ≡ [] → AreSplit (codes "audit" ∷ rest)
+audit_split [] plain none = as_audit refl
+audit_split (v ∷ more) plain none = absurd (audit_alone v more plain.0 none)
 
 -- `clap` finds no fault with these words alone
 pub split : (words : List Text) → AllByRecursion IsPlainWord words → fault_of the_app words ≡ [] → AreSplit words
@@ -247,7 +266,11 @@ split (w ∷ rest) plain none = elim (cases_Bool (bytes_eq (codes "run") w)) [
   | inr not_run ↦ elim (cases_Bool (bytes_eq (codes "gen") w)) [
     | inl t ↦ let same = (bytes_eq-Decides (codes "gen") w).0 t in subst (λ v. AreSplit (v ∷ rest)) same (gen_split rest plain.1
         (subst (λ o. entered_fault (built the_app) o ≡ []) (gen_stops rest) (below_right (codes "gen" ∷ rest) (subst (λ v. fault_of the_app (v ∷ rest) ≡ []) (sym same) none))))
-    | inr not_gen ↦ absurd (other_word w plain.0 not_run not_gen rest none)
+    | inr not_gen ↦ elim (cases_Bool (bytes_eq (codes "audit") w)) [
+      | inl t ↦ let same = (bytes_eq-Decides (codes "audit") w).0 t in subst (λ v. AreSplit (v ∷ rest)) same (audit_split rest plain.1
+          (subst (λ o. entered_fault (built the_app) o ≡ []) (audit_stops rest) (below_right (codes "audit" ∷ rest) (subst (λ v. fault_of the_app (v ∷ rest) ≡ []) (sym same) none))))
+      | inr not_audit ↦ absurd (other_word w plain.0 not_run not_gen not_audit rest none)
+    ]
   ]
 ]
 
@@ -259,6 +282,14 @@ run_right = refl
 pub run_met : subcommand_of the_app (codes "run" ∷ []) ≡ Some (codes "run", [])
 unfolding clap_on_literals
 run_met = refl
+
+pub audit_right : fault_of the_app (codes "audit" ∷ []) ≡ []
+unfolding clap_on_literals
+audit_right = refl
+
+pub audit_met : subcommand_of the_app (codes "audit" ∷ []) ≡ Some (codes "audit", [])
+unfolding clap_on_literals
+audit_met = refl
 
 module _ (a b c : Text) (plain_a : IsPlainWord a) (plain_b : IsPlainWord b) (plain_c : IsPlainWord c) where
   pub gen_right : fault_of the_app (codes "gen" ∷ a ∷ b ∷ c ∷ []) ≡ []

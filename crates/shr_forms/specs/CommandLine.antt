@@ -16,10 +16,14 @@ run_app = new_app (codes "run")
 abbrev pub gen_app : App
 gen_app = with_rule (with_rule (with_rule (new_app (codes "gen")) (wanted (codes "seed"))) (wanted (codes "workers"))) (wanted (codes "commands"))
 
--- The program has these two subcommands, of which one is wanted. It has no help, and its name isn't
+-- `audit`, which takes nothing
+abbrev pub audit_app : App
+audit_app = new_app (codes "audit")
+
+-- The program has these three subcommands, of which one is wanted. It has no help, and its name isn't
 -- among the words.
 abbrev pub the_app : App
-the_app = with_subcommand (with_subcommand (on_top (λ s. record s { no_binary_name = true; disable_help_flag = true; disable_help_subcommand = true; subcommand_required = true }) (new_app (codes "shrinkers"))) run_app.top) gen_app.top
+the_app = with_subcommand (with_subcommand (with_subcommand (on_top (λ s. record s { no_binary_name = true; disable_help_flag = true; disable_help_subcommand = true; subcommand_required = true }) (new_app (codes "shrinkers"))) run_app.top) gen_app.top) audit_app.top
 
 -- the word begins with a hyphen, or with none
 abbrev pub has_hyphen : List ℕ → Bool

@@ -2,7 +2,7 @@
 use Rattle.std.specs.Prelude.{◌≡◌, ℕ, ◌^◌, ◌<◌, List, [], ◌∷◌, codes, decimal, Option, Some, None}
 use Rattle.shr_gen.specs.Generated.{MayBeMade}
 use Rattle.shr_forms.specs.declared.form.Form.{Form}
-use Rattle.shr_forms.specs.declared.form.Form.TheVariants.{Run, Gen}
+use Rattle.shr_forms.specs.declared.form.Form.TheVariants.{Run, Gen, Audit}
 
 -- a word spells this number of 64 bits, without a sign and without a zero before it, or none
 abbrev pub Spells : List ℕ → Option ℕ → Type 0
@@ -19,13 +19,23 @@ pub record AreGenWords (words : List (List ℕ)) (seed workers commands : ℕ) :
   pub seed_fits : seed < 2 ^ 64
   pub made : MayBeMade workers commands
 
--- the words are of neither form
+-- the one word `audit`
+abbrev pub AreAuditWords : List (List ℕ) → Type 0
+AreAuditWords words = words ≡ codes "audit" ∷ []
+
+-- the words are of none of the forms
 pub record AreNoForm (words : List (List ℕ)) : Type 0 where
   pub run : AreRunWords words → ⊥
+  pub audit : AreAuditWords words → ⊥
   pub gen : (seed workers commands : ℕ) → AreGenWords words seed workers commands → ⊥
 
 -- words are read as a form that they are of, or as none
 abbrev pub ReadsAs : List (List ℕ) → Option Form → Type 0
 ReadsAs words (Some Run) = AreRunWords words
 ReadsAs words (Some (Gen seed workers commands)) = AreGenWords words seed workers commands
+ReadsAs words (Some Audit) = AreAuditWords words
 ReadsAs words None = AreNoForm words
+
+-- words are of one form at most, and of none where they are of no form
+abbrev pub IsOneForm : Type 0
+IsOneForm = (words : List (List ℕ)) (form other : Option Form) → ReadsAs words form → ReadsAs words other → form ≡ other

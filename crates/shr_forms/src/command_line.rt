@@ -22,18 +22,20 @@ fn gen_command<'a>(alloc: Global) -> Result<Command<'a>, AllocError>
         .arg(commands)
 }
 
-/// The program's command: two subcommands, of which one is wanted, without help and without a word
+/// The program's command: three subcommands, of which one is wanted, without help and without a word
 /// for the program's name. Our own.
 pub fn command<'a>(alloc: Global) -> Result<Command<'a>, AllocError>
     ensures { IfOk result (λ c. app_of c ≡ the_app) }
 {
     let run = Command::new(alloc, "run");
     let gen_command = gen_command(alloc)?;
+    let audit = Command::new(alloc, "audit");
     Command::new(alloc, "shrinkers")
         .no_binary_name(true)
         .disable_help_flag(true)
         .disable_help_subcommand(true)
         .subcommand_required(true)
         .subcommand(run)?
-        .subcommand(gen_command)
+        .subcommand(gen_command)?
+        .subcommand(audit)
 }

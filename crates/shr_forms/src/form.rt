@@ -6,7 +6,7 @@ ghost use Rattle.clap.specs.Words.{Row, first_of, found_of, rows_of, subcommand_
 ghost use Rattle.shr_gen.specs.Generated.{MayBeMade};
 ghost use Rattle.shr_forms.specs.CommandLine.{has_hyphen};
 ghost use Rattle.shr_forms.specs.Forms.{Spells, ReadsAs};
-ghost use Rattle.shr_forms.specs.declared.form.Form.TheVariants.{Run};
+ghost use Rattle.shr_forms.specs.declared.form.Form.TheVariants.{Run, Audit};
 
 use crate::command_line::command;
 use clap::ArgMatches;
@@ -25,6 +25,8 @@ pub enum Form {
         workers: u16,
         commands: u32,
     },
+    /// To judge the report that is read behind its script.
+    Audit,
 }
 
 // The number that a word spells, without a sign and without a zero before it.
@@ -91,11 +93,15 @@ fn form_in(matches: &ArgMatches<'_>) -> Option<Form>
         → first_of (codes "seed") rows ≡ Some a → first_of (codes "workers") rows ≡ Some b
         → first_of (codes "commands") rows ≡ Some c
         → ReadsAs (codes "gen" ∷ a ∷ b ∷ c ∷ []) result }
+    ensures audit { (rows : List Row) → subcommand_rows_of matches.now ≡ Some (codes "audit", rows)
+        → result ≡ Some Audit }
 {
     match matches.subcommand() {
         Some((name, given)) => {
             if name == "run" {
                 Some(Form::Run)
+            } else if name == "audit" {
+                Some(Form::Audit)
             } else {
                 generated_form(given)
             }
@@ -120,12 +126,25 @@ fn have_hyphen(words: &[String]) -> bool
     words.iter().any(|word| has_hyphen(word.as_str()))
 }
 
+// The form that one word alone is of.
+fn single_form(word: &str) -> Option<Form>
+    ensures { ReadsAs (word.now ∷ []) result }
+{
+    if word == "run" {
+        return Some(Form::Run);
+    }
+    if word == "audit" {
+        return Some(Form::Audit);
+    }
+    None
+}
+
 // The form that the words are of, word by word.
 fn plain_form(words: &[String]) -> Option<Form>
     ensures { ReadsAs (map string_bytes words.now) result }
 {
     match words {
-        [word] if word.as_str() == "run" => Some(Form::Run),
+        [word] => single_form(word.as_str()),
         [word, seed, workers, commands] if word.as_str() == "gen" => {
             gen_form(seed.as_str(), workers.as_str(), commands.as_str())
         }

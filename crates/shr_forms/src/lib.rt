@@ -3,3 +3,4 @@
 
 mod command_line;
 pub mod form;
+pub mod laws;

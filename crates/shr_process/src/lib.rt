@@ -71,7 +71,7 @@ fn run<R: Threads + Wait + Sync>(rt: &HostRuntime, threads: &R) -> Status {
 // Whoever can't read standard error still has the exit status.
 fn show_forms(rt: &HostRuntime) {
     let _ = eprintln!(rt;
-        "usage: shrinkers run < SCRIPT > REPORT\n       shrinkers gen SEED WORKERS COMMANDS"
+        "usage: shrinkers run < SCRIPT > REPORT\n       shrinkers gen SEED WORKERS COMMANDS\n       shrinkers audit < SCRIPT-AND-REPORT"
     );
 }
 

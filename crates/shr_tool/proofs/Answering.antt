@@ -3,10 +3,10 @@ use Rattle.std.proofs.Common.{◌≡◌, ℕ, List, sym, subst}
 use Rattle.std.specs.Prelude.{Option}
 use Rattle.shr_base.specs.declared.scripts.Code.{Code}
 use Rattle.shr_script.specs.Script.{IsFault}
-use Rattle.shr_tool.specs.Reading.{ReadAll}
+use Rattle.shr_tool.specs.Reading.{ReadAll, script_limit}
 use Rattle.shr_tool.specs.Top.{SinkSeen, source_seen, refusal_text, refusal, AnswerGives, RefusalGives, RunGives}
 use Rattle.shr_tool.specs.declared.status.Status.{Status}
-use Rattle.shr_tool.specs.declared.status.Status.TheVariants.{Done, Usage, ReadFault, WriteFault, Refused, Memory, TooLong}
+use Rattle.shr_tool.specs.declared.status.Status.TheVariants.{Done, Usage, ReadFault, WriteFault, Refused, Memory, TooLong, Unlawful}
 
 -- bytes that are spelled so are answered as their spelling
 pub answers_spelling : (bytes other : List ℕ) (sink : SinkSeen) (status : Status) → bytes ≡ other → AnswerGives other sink status → AnswerGives bytes sink status
@@ -21,14 +21,15 @@ answers_refusal bytes line code sink Done refused h = absurd h
 answers_refusal bytes line code sink Usage refused h = absurd h
 answers_refusal bytes line code sink ReadFault refused h = absurd h
 answers_refusal bytes line code sink TooLong refused h = absurd h
+answers_refusal bytes line code sink Unlawful refused h = absurd h
 
 -- a source that was read to its end, and an answer to its bytes, are what a run gives
-pub run_gives : (left left_after : Option (List ℕ)) (faults faults_after : ℕ) (bytes : List ℕ) (sink : SinkSeen) (status : Status) → ReadAll left left_after bytes → AnswerGives bytes sink status → RunGives (source_seen left left_after faults faults_after) sink status
+pub run_gives : (left left_after : Option (List ℕ)) (faults faults_after : ℕ) (bytes : List ℕ) (sink : SinkSeen) (status : Status) → ReadAll script_limit left left_after bytes → AnswerGives bytes sink status → RunGives (source_seen left left_after faults faults_after) sink status
 run_gives left left_after faults faults_after bytes sink Done read h = record {
   script = h.script;
   report = h.report;
   valid = h.valid;
-  read = subst (λ (b : List ℕ). ReadAll left left_after b) h.spelled read;
+  read = subst (λ (b : List ℕ). ReadAll script_limit left left_after b) h.spelled read;
   lawful = h.lawful;
   faithful = h.faithful;
   well_formed = h.well_formed;
@@ -43,3 +44,4 @@ run_gives left left_after faults faults_after bytes sink Memory read h = (record
 run_gives left left_after faults faults_after bytes sink Usage read h = absurd h
 run_gives left left_after faults faults_after bytes sink ReadFault read h = absurd h
 run_gives left left_after faults faults_after bytes sink TooLong read h = absurd h
+run_gives left left_after faults faults_after bytes sink Unlawful read h = absurd h

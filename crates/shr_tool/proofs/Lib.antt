@@ -1,6 +1,9 @@
 pub mod Known
 pub mod Complete
 pub mod Answering
-pub mod Forms
 pub mod GeneratedCommands
 pub mod GeneratedPuts
+pub mod Splits
+pub mod OneSplit
+pub mod Judging
+mod AuditValues

@@ -1,4 +1,6 @@
 pub mod Reading
 pub mod Top
+pub mod Audit
+pub mod Turns
 pub mod Summary
 pub mod Statuses

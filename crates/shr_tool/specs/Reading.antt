@@ -6,35 +6,39 @@ use Rattle.shr_tool.specs.declared.reading.Input.{Input}
 use Rattle.shr_tool.specs.declared.reading.Input.TheVariants.{All, Failed, TooLong, Memory}
 
 -- the most bytes of a script
-abbrev pub limit : ℕ
-limit = 4194304
+abbrev pub script_limit : ℕ
+script_limit = 4194304
+
+-- the most bytes of a script with a report behind it
+abbrev pub audit_limit : ℕ
+audit_limit = 67108864
 
 -- these bytes were taken, they are within the limit, and then the source was at its end
-pub record ReadAll (left left_after : Option (List ℕ)) (bytes : List ℕ) : Type 0 where
+pub record ReadAll (limit : ℕ) (left left_after : Option (List ℕ)) (bytes : List ℕ) : Type 0 where
   pub taken : Consumes left left_after bytes
   pub end : IsAtEnd left_after
   pub within : length bytes ≤ limit
 
 -- the bytes that were taken are within the limit
-pub record TookFew (left left_after : Option (List ℕ)) : Type 0 where
+pub record TookFew (limit : ℕ) (left left_after : Option (List ℕ)) : Type 0 where
   pub bytes : List ℕ
   pub taken : Consumes left left_after bytes
   pub within : length bytes ≤ limit
 
 -- the first byte past the limit was taken
-pub record TookTooMany (left left_after : Option (List ℕ)) : Type 0 where
+pub record TookTooMany (limit : ℕ) (left left_after : Option (List ℕ)) : Type 0 where
   pub bytes : List ℕ
   pub taken : Consumes left left_after bytes
   pub above : limit < length bytes
 
 -- the source failed, and no byte past the limit was taken
-pub record IsReadFault (left left_after : Option (List ℕ)) (faults faults_after : ℕ) : Type 0 where
+pub record IsReadFault (limit : ℕ) (left left_after : Option (List ℕ)) (faults faults_after : ℕ) : Type 0 where
   pub rose : Rose faults faults_after
-  pub few : TookFew left left_after
+  pub few : TookFew limit left left_after
 
 -- what reading gave, and what the source was asked for
-abbrev pub Reads : Option (List ℕ) → Option (List ℕ) → ℕ → ℕ → Input → Type 0
-Reads left left_after faults faults_after (All bytes) = ReadAll left left_after bytes.items
-Reads left left_after faults faults_after Failed = IsReadFault left left_after faults faults_after
-Reads left left_after faults faults_after TooLong = TookTooMany left left_after
-Reads left left_after faults faults_after Memory = TookFew left left_after
+abbrev pub Reads : ℕ → Option (List ℕ) → Option (List ℕ) → ℕ → ℕ → Input → Type 0
+Reads limit left left_after faults faults_after (All bytes) = ReadAll limit left left_after bytes.items
+Reads limit left left_after faults faults_after Failed = IsReadFault limit left left_after faults faults_after
+Reads limit left left_after faults faults_after TooLong = TookTooMany limit left left_after
+Reads limit left left_after faults faults_after Memory = TookFew limit left left_after

@@ -15,10 +15,10 @@ use Rattle.shr_report.specs.Numbers.{HasNumbers}
 use Rattle.shr_report.specs.Puts.{AreFreePutsAdded}
 use Rattle.shr_report.specs.WellFormed.{IsWellFormed}
 use Rattle.shr_run.specs.Made.{IsReportOfRun}
-use Rattle.shr_tool.specs.Reading.{ReadAll, TookFew, TookTooMany, IsReadFault, limit}
+use Rattle.shr_tool.specs.Reading.{ReadAll, TookFew, TookTooMany, IsReadFault, script_limit}
 use Rattle.shr_outside.specs.Writing.{WrotePart}
 use Rattle.shr_tool.specs.declared.status.Status.{Status}
-use Rattle.shr_tool.specs.declared.status.Status.TheVariants.{Done, Usage, ReadFault, WriteFault, Refused, Memory, TooLong}
+use Rattle.shr_tool.specs.declared.status.Status.TheVariants.{Done, Usage, ReadFault, WriteFault, Refused, Memory, TooLong, Unlawful}
 
 -- what a source tells and counts, before and after
 pub record SourceSeen : Type 0 where
@@ -77,7 +77,7 @@ pub record IsDone (source : SourceSeen) (sink : SinkSeen) : Type 0 where
   pub script : Script
   pub report : Report
   pub valid : IsValid (content_of script)
-  pub read : ReadAll source.left source.left_after (spell (content_of script))
+  pub read : ReadAll script_limit source.left source.left_after (spell (content_of script))
   pub lawful : IsLawful script report
   pub faithful : IsFaithful script report
   pub well_formed : IsWellFormed report
@@ -91,7 +91,7 @@ pub record IsRefused (source : SourceSeen) (sink : SinkSeen) : Type 0 where
   pub bytes : List ℕ
   pub line : ℕ
   pub code : Code
-  pub read : ReadAll source.left source.left_after bytes
+  pub read : ReadAll script_limit source.left source.left_after bytes
   pub refused : IsFault bytes line code
   pub written : Appends sink.written sink.written_after (refusal line code)
 
@@ -100,7 +100,7 @@ pub record IsWriteFault (source : SourceSeen) (sink : SinkSeen) : Type 0 where
   pub rose : Rose sink.faults sink.faults_after
   pub bytes : List ℕ
   pub answer : List ℕ
-  pub read : ReadAll source.left source.left_after bytes
+  pub read : ReadAll script_limit source.left source.left_after bytes
   pub text_of : IsTextOf bytes answer
   pub part : WrotePart sink.written sink.written_after answer
 
@@ -158,16 +158,18 @@ AnswerGives bytes sink WriteFault = IsCutShort bytes sink
 AnswerGives bytes sink Refused = IsToldRefused bytes sink
 AnswerGives bytes sink Memory = WritesNothing sink
 AnswerGives bytes sink TooLong = ⊥
+AnswerGives bytes sink Unlawful = ⊥
 
 -- with the word `run`
 abbrev pub RunGives : SourceSeen → SinkSeen → Status → Type 0
 RunGives source sink Done = IsDone source sink
 RunGives source sink Usage = ⊥
-RunGives source sink ReadFault = IsReadFault source.left source.left_after source.faults source.faults_after × WritesNothing sink
+RunGives source sink ReadFault = IsReadFault script_limit source.left source.left_after source.faults source.faults_after × WritesNothing sink
 RunGives source sink WriteFault = IsWriteFault source sink
 RunGives source sink Refused = IsRefused source sink
-RunGives source sink Memory = TookFew source.left source.left_after × WritesNothing sink
-RunGives source sink TooLong = TookTooMany source.left source.left_after × WritesNothing sink
+RunGives source sink Memory = TookFew script_limit source.left source.left_after × WritesNothing sink
+RunGives source sink TooLong = TookTooMany script_limit source.left source.left_after × WritesNothing sink
+RunGives source sink Unlawful = ⊥
 
 -- with words of no form
 pub record UsageGives (source : SourceSeen) (sink : SinkSeen) (status : Status) : Type 0 where
@@ -184,10 +186,10 @@ pub record NoneFailed (source : SourceSeen) (sink : SinkSeen) : Type 0 where
 -- job is done or there was no memory.
 abbrev pub IsComplete : SourceSeen → SinkSeen → Status → Type 0
 IsComplete source sink status =
-    (t : Content) → IsValid t → source.left ≡ Some (spell t) → length (spell t) ≤ limit → NoneFailed source sink → (status ≡ Done) ⊎ (status ≡ Memory)
+    (t : Content) → IsValid t → source.left ≡ Some (spell t) → length (spell t) ≤ script_limit → NoneFailed source sink → (status ≡ Done) ⊎ (status ≡ Memory)
 
 -- Where the source's bytes are refused, are within the limit and neither end fails, they are
 -- refused or there was no memory.
 abbrev pub IsRefusing : SourceSeen → SinkSeen → Status → Type 0
 IsRefusing source sink status =
-    (bytes : List ℕ) (line : ℕ) (code : Code) → IsFault bytes line code → source.left ≡ Some bytes → length bytes ≤ limit → NoneFailed source sink → (status ≡ Refused) ⊎ (status ≡ Memory)
+    (bytes : List ℕ) (line : ℕ) (code : Code) → IsFault bytes line code → source.left ≡ Some bytes → length bytes ≤ script_limit → NoneFailed source sink → (status ≡ Refused) ⊎ (status ≡ Memory)

@@ -4,6 +4,8 @@
 #![tactic(auto)]
 
 pub mod afterwards;
+mod auditing;
+pub mod laws;
 mod reading;
 mod refusing;
 pub mod status;

@@ -6,8 +6,11 @@ ghost use Rattle.shr_tool.specs.Reading.{Reads};
 use shr_outside::outside::{Source, Took};
 use std::alloc::Global;
 
-/// The most bytes of a script.
-const LIMIT: usize = 4_194_304;
+/// The most bytes of a script. Our own.
+pub(crate) const SCRIPT_LIMIT: usize = 4_194_304;
+
+/// The most bytes of a script with a report behind it. Our own.
+pub(crate) const AUDIT_LIMIT: usize = 67_108_864;
 
 /// What reading a source gave. Our own.
 #[derive(Drop)]
@@ -23,18 +26,18 @@ pub enum Input {
 }
 
 /// All the bytes that are left, where there are no more than the limit. Our own.
-pub fn read_all<S: Source>(alloc: Global, source: &mut S) -> Input
-    ensures input { Reads (S.left source.old) (S.left source.new) (S.faults source.old)
+pub fn read_all<S: Source>(alloc: Global, source: &mut S, limit: usize) -> Input
+    ensures input { Reads limit (S.left source.old) (S.left source.new) (S.faults source.old)
         (S.faults source.new) result }
     ensures later { S.faults source.old ≤ S.faults source.new }
-    ensures turns { S.turns source.new ≤ S.turns source.old + 4194305 }
+    ensures turns { S.turns source.new ≤ S.turns source.old + (limit + 1) }
 {
     let mut bytes = Vec::new(alloc);
     let mut buffer = [0u8; 16384];
     'taking: loop {
         match source.take(&mut buffer) {
             Took::Got { n } => {
-                if bytes.len() + n > LIMIT {
+                if n > limit - bytes.len() {
                     return Input::TooLong;
                 }
                 if bytes.extend_from_slice(&buffer[..n]).is_err() {

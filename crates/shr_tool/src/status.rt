@@ -14,12 +14,15 @@ pub enum Status {
     ReadFault,
     /// 4: the sink failed; what was written is a prefix of the text.
     WriteFault,
-    /// 5: the script is refused, and the text that says where and why was written.
+    /// 5: the script is refused, and the text that says where and why was written; with `audit` also where
+    /// there is no such report, and the text says so.
     Refused,
     /// 6: there was no memory; nothing was written.
     Memory,
-    /// 7: the input is longer than 4,194,304 bytes; nothing was written.
+    /// 7: the input is longer than 4,194,304 bytes, with `audit` than 67,108,864; nothing was written.
     TooLong,
+    /// 8: a law doesn't hold of the script and the report, and the text that names the first was written.
+    Unlawful,
 }
 
 impl Status {
@@ -35,6 +38,7 @@ impl Status {
             Status::Refused => 5,
             Status::Memory => 6,
             Status::TooLong => 7,
+            Status::Unlawful => 8,
         }
     }
 }

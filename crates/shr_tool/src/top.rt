@@ -1,13 +1,16 @@
 //! All that the program does.
 
 ghost use Rattle.std.specs.Prelude.{◌≤◌, ◌+◌, ℕ, map, string_bytes};
-ghost use Rattle.shr_forms.specs.Forms.{AreRunWords, AreGenWords, AreNoForm};
+ghost use Rattle.shr_forms.specs.Forms.{AreRunWords, AreAuditWords, AreGenWords, AreNoForm};
 ghost use Rattle.shr_script.specs.Content.{content_of, spell, IsValid};
+ghost use Rattle.shr_tool.specs.Audit.{AuditGives, IsJudging};
 ghost use Rattle.shr_tool.specs.Summary.{GenGives};
 ghost use Rattle.shr_tool.specs.Top.{source_seen, sink_seen, RefusalGives, RunGives, UsageGives, AnswerGives, IsComplete, IsRefusing};
+ghost use Rattle.shr_tool.specs.Turns.{TurnsGive};
 
 use crate::afterwards::{Afterwards, let_go};
-use crate::reading::{Input, read_all};
+use crate::auditing::read_and_judge;
+use crate::reading::{Input, SCRIPT_LIMIT, read_all};
 use crate::refusing::refusal;
 use crate::status::Status;
 use crate::summary::{Numbers, run_generated};
@@ -107,7 +110,7 @@ fn read_and_answer<R: Threads + Wait + Sync, S: Source, K: Sink, G: Gate + Sync>
     ensures source_later { S.faults source.old ≤ S.faults source.new }
     ensures sink_later { K.faults sink.old ≤ K.faults sink.new }
 {
-    match read_all(alloc, source) {
+    match read_all(alloc, source, SCRIPT_LIMIT) {
         Input::All { bytes } => answer(rt, alloc, bytes.as_slice(), sink, gate, afterwards),
         Input::Failed => Status::ReadFault,
         Input::TooLong => Status::TooLong,
@@ -119,8 +122,9 @@ fn read_and_answer<R: Threads + Wait + Sync, S: Source, K: Sink, G: Gate + Sync>
 ///
 /// With the one word `run` it reads a script from the source, runs its workers on threads, and
 /// writes the report to the sink. With `gen` and three numbers it makes a script by them, runs it so,
-/// and writes five lines of its report; it takes nothing from the source. With other words it does
-/// nothing.
+/// and writes five lines of its report; it takes nothing from the source. With the one word `audit` it
+/// reads a script and the report behind it, and writes which law of a report is the first that doesn't
+/// hold of the two, or that all hold; it starts no thread and calls no gate. With other words it does nothing.
 ///
 /// Each status says what was read and written, and why it came; with words of a form want of memory
 /// may come at any time. After a call that failed the same source and sink may be used for a new
@@ -150,6 +154,12 @@ pub fn top<R: Threads + Wait + Sync, S: Source, K: Sink, G: Gate + Sync>(
         (S.faults source.old) (S.faults source.new))
         (sink_seen (K.written sink.old) (K.written sink.new)
         (K.faults sink.old) (K.faults sink.new)) result }
+    // A report is judged by the script before it.
+    ensures audited { AreAuditWords (map string_bytes words.now.items) → AuditGives
+        (source_seen (S.left source.old) (S.left source.new)
+        (S.faults source.old) (S.faults source.new))
+        (sink_seen (K.written sink.old) (K.written sink.new)
+        (K.faults sink.old) (K.faults sink.new)) result }
     ensures usage { AreNoForm (map string_bytes words.now.items) → UsageGives
         (source_seen (S.left source.old) (S.left source.new)
         (S.faults source.old) (S.faults source.new))
@@ -167,7 +177,14 @@ pub fn top<R: Threads + Wait + Sync, S: Source, K: Sink, G: Gate + Sync>(
         (S.faults source.old) (S.faults source.new))
         (sink_seen (K.written sink.old) (K.written sink.new)
         (K.faults sink.old) (K.faults sink.new)) result }
-    ensures turns { S.turns source.new ≤ S.turns source.old + 4194305 }
+    // The verdict that holds is told, where nothing fails.
+    ensures judged { AreAuditWords (map string_bytes words.now.items) → IsJudging
+        (source_seen (S.left source.old) (S.left source.new)
+        (S.faults source.old) (S.faults source.new))
+        (sink_seen (K.written sink.old) (K.written sink.new)
+        (K.faults sink.old) (K.faults sink.new)) result }
+    ensures turns { TurnsGive (map string_bytes words.now.items) (S.turns source.old)
+        (S.turns source.new) }
     ensures source_later { S.faults source.old ≤ S.faults source.new }
     ensures sink_later { K.faults sink.old ≤ K.faults sink.new }
 {
@@ -187,6 +204,7 @@ pub fn top<R: Threads + Wait + Sync, S: Source, K: Sink, G: Gate + Sync>(
             };
             run_generated(rt, alloc, numbers, sink, gate, afterwards)
         }
+        Some(Form::Audit) => read_and_judge(alloc, source, sink),
         None => Status::Usage,
     }
 }

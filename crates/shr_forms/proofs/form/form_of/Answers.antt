@@ -15,7 +15,7 @@ returns-in-Ok-try_get_matches_from c =
     let words = map string_bytes c.args.words.now in
     let app_is = c.in-Ok.ensures in
     faultless words (all_plain words (sym (list_any-map has_hyphen string_bytes c.args.words.now) ∙ sym c.have_hyphen.ensures ∙ c.if-have_hyphen.false)) (subcommand_rows_of c.in-Ok-try_get_matches_from.matches)
-    ((c.in-Ok-try_get_matches_from.ensures.matches (ap is_simple app_is ∙ simple)).1 ∙ ap (λ a. subcommand_of a words) app_is) c.form_in.result c.form_in.ensures.run c.form_in.ensures.generated
+    ((c.in-Ok-try_get_matches_from.ensures.matches (ap is_simple app_is ∙ simple)).1 ∙ ap (λ a. subcommand_of a words) app_is) c.form_in.result c.form_in.ensures.run c.form_in.ensures.audit c.form_in.ensures.generated
     (ap (λ a. fault_of a words) (sym app_is) ∙ c.in-Ok-try_get_matches_from.ensures.kinds (ap is_simple_and_free app_is ∙ simple_and_free))
 
 pub returns : goal.returns

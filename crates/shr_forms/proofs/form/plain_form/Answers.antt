@@ -7,13 +7,13 @@ use Rattle.shr_forms.proofs.form.plain_form.Goals as goal
 
 pub returns-in-len1 : goal.returns-in-len1
 returns-in-len1 c =
-    one_word string_bytes c.args.words.now c.word-item.result (omega (arith, c.in-len1.len_at_least, c.in-len1.len_below)) c.word-item.is
-    ∙ ap (λ (w : List ℕ). w ∷ []) (sym c.as_str.ensures.value ∙ (bytes_decides c.as_str.result.now (codes "run")).0 (sym c.eq.ensures ∙ c.if-eq.true))
+    let all = one_word string_bytes c.args.words.now c.word-item.result (omega (arith, c.in-len1.len_at_least, c.in-len1.len_below)) c.word-item.is in
+    subst (λ ws. ReadsAs ws c.single_form.result) (ap (λ (w : List ℕ). w ∷ []) c.as_str.ensures.value ∙ sym all) c.single_form.ensures
 
 pub returns-in-len4 : goal.returns-in-len4
 returns-in-len4 c =
     let word : string_bytes c.word-item-then-words-lt5.result ≡ codes "gen" =
-    sym c.as_str-then-words-lt5.ensures.value ∙ (bytes_decides c.as_str-then-words-lt5.result.now (codes "gen")).0 (sym c.eq-then-words-lt5.ensures ∙ c.if-eq-2.true) in
+    sym c.as_str-then-words-lt5.ensures.value ∙ (bytes_decides c.as_str-then-words-lt5.result.now (codes "gen")).0 (sym c.eq.ensures ∙ c.if-eq.true) in
     let all = four_words string_bytes c.args.words.now c.word-item-then-words-lt5.result c.seed-item.result c.workers-item.result c.commands-item.result
     (omega (arith, c.in-len4.len_at_least, c.in-len4.len_below)) c.word-item-then-words-lt5.is c.seed-item.is c.workers-item.is c.commands-item.is in
     subst (λ ws. ReadsAs ws c.gen_form.result)

@@ -11,14 +11,14 @@ returns-in-End-clause-input g c =
       within = c.taking.invariant.within;
     }
 
-pub returns-then-len-n-gt-LIMIT-clause-input : goal.returns-then-len-n-gt-LIMIT-clause-input
-returns-then-len-n-gt-LIMIT-clause-input g c =
+pub returns-then-n-limit-clause-input : goal.returns-then-n-limit-clause-input
+returns-then-n-limit-clause-input g c =
     let count = c.take.ensures.count c.in-Got.n c.in-Got.is in
     let piece = take c.in-Got.n c.take.new.into in
     record {
       bytes = c.taking.bytes.items ++ piece;
       taken = consumes_more _ _ _ _ _ c.taking.invariant.taken (c.take.ensures.got c.in-Got.n c.in-Got.is);
-      above = omega (arith, length-append c.taking.bytes.items piece, length-take c.in-Got.n c.take.new.into, count.1, c.len.ensures, c.if-len-n-gt-LIMIT.true);
+      above = omega (arith, length-append c.taking.bytes.items piece, length-take c.in-Got.n c.take.new.into, count.1, c.len.ensures, c.if-n-limit.true);
     }
 
 pub returns-then-is_err-clause-input : goal.returns-then-is_err-clause-input
@@ -28,5 +28,5 @@ returns-then-is_err-clause-input g c =
     record {
       bytes = c.taking.bytes.items ++ piece;
       taken = consumes_more _ _ _ _ _ c.taking.invariant.taken (c.take.ensures.got c.in-Got.n c.in-Got.is);
-      within = omega (arith, length-append c.taking.bytes.items piece, length-take c.in-Got.n c.take.new.into, count.1, c.len.ensures, c.if-len-n-gt-LIMIT.false);
+      within = omega (arith, length-append c.taking.bytes.items piece, length-take c.in-Got.n c.take.new.into, count.1, c.len.ensures, c.if-n-limit.false);
     }

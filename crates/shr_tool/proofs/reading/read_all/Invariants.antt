@@ -4,11 +4,11 @@ use Rattle.shr_tool.proofs.reading.read_all.Given as goal
 
 abbrev pub invariant-taking : goal.invariant-taking
 invariant-taking g l = record {
-  within : length l.bytes.items ≤ 4194304;
+  within : length l.bytes.items ≤ l.limit;
   taken : Consumes (g.S.Source.left l.fn.source) (g.S.Source.left l.source) l.bytes.items;
   later : g.S.Source.faults l.fn.source ≤ g.S.Source.faults l.source;
   turns : g.S.Source.turns l.source ≤ g.S.Source.turns l.fn.source + length l.bytes.items;
 }
 
 abbrev pub decreases-taking : goal.decreases-taking
-decreases-taking g l = 4194305 - length l.bytes.items
+decreases-taking g l = l.limit + 1 - length l.bytes.items

@@ -3,7 +3,8 @@ use Rattle.std.specs.Prelude.{string_bytes, Some, String}
 use Rattle.std.proofs.Common.{List, Global}
 use Rattle.shr_forms.specs.Forms.{AreGenWords, ReadsAs}
 use Rattle.shr_tool.proofs.Complete.{is_complete, is_refusing}
-use Rattle.shr_tool.proofs.Forms.{same_numbers}
+use Rattle.shr_tool.proofs.Judging.{is_judging}
+use Rattle.shr_forms.proofs.OneForm.{same_numbers}
 use Rattle.shr_tool.proofs.top.top.Goals as goal
 
 pub returns-in-Some-Run-clause-complete : goal.returns-in-Some-Run-clause-complete
@@ -22,3 +23,6 @@ returns-in-Some-Gen-clause-generated g c = λ s w k words.
       read = record { kept = refl; faults = refl };
       written = rw (same.0, same.1, same.2) at c.run_generated.ensures.written;
     }
+
+pub returns-in-Some-Audit-clause-judged : goal.returns-in-Some-Audit-clause-judged
+returns-in-Some-Audit-clause-judged g c = λ words. is_judging _ _ c.read_and_judge.result c.read_and_judge.ensures.audited

@@ -1,0 +1,5 @@
+use Rattle.shr_tool.proofs.OneSplit.{one_split}
+use Rattle.shr_tool.proofs.laws.one_split.Goals as goal
+
+pub returns : goal.returns
+returns c = one_split

@@ -1,0 +1,8 @@
+//! Laws of inputs, as the clauses of functions that do nothing.
+
+ghost use Rattle.shr_tool.specs.Audit.{IsOneSplit};
+
+/// Bytes are one script with one report behind it. Our own.
+pub fn one_split()
+    ensures { IsOneSplit }
+{}
