@@ -55,10 +55,11 @@ fn input_of(rt: &HostRuntime, name: &str) -> io::Result<Vec<u8>> {
 
 // What must come: the first that there is of the files of a case.
 fn wanted_of(rt: &HostRuntime, name: &str) -> io::Result<Wanted> {
-    let kinds: [(&str, Status); 3] = [
+    let kinds: [(&str, Status); 4] = [
         ("report", Status::Done),
         ("refused", Status::Refused),
         ("usage", Status::Usage),
+        ("unlawful", Status::Unlawful),
     ];
     for (ending, status) in kinds {
         if let Some(text) = text_of(rt, name, ending)? {

@@ -2,7 +2,8 @@
 
 use crate::cases::{Case, Wanted};
 use crate::rules;
-use shr_audit::found::report_of;
+use shr_audit::audit::audit;
+use shr_audit::verdict::Verdict;
 use shr_outside::outside::Gate;
 use shr_outside::sinks::MemorySink;
 use shr_outside::sources::MemorySource;
@@ -63,19 +64,20 @@ fn difference(alloc: Global, text: &str, wanted: &str) -> io::Result<Option<Stri
     Ok(Some(fault))
 }
 
-// A report is read back from its text, and what is left of the text without its last byte is none.
-fn is_read_back(alloc: Global, text: &str) -> bool {
-    let bytes = text.as_bytes();
-    let shorter = &bytes[..bytes.len().saturating_sub(1)];
-    matches!(report_of(alloc, bytes), Ok(Some(_))) && matches!(report_of(alloc, shorter), Ok(None))
-}
-
-// What is wrong with a text that may be a report.
-fn unread(alloc: Global, text: &str) -> io::Result<Option<String>> {
-    if !text.starts_with("report ") || is_read_back(alloc, text) {
+// What is wrong with a text that may be a report. With its script a report is lawful, and without its last byte it is none.
+fn unlawful(alloc: Global, script: &[u8], text: &str) -> io::Result<Option<String>> {
+    if !text.starts_with("report ") {
         return Ok(None);
     }
-    Ok(Some(format!(in alloc; "its report isn't read back")?))
+    let bytes = text.as_bytes();
+    let shorter = &bytes[..bytes.len().saturating_sub(1)];
+    let whole = audit(alloc, script, bytes);
+    let cut = audit(alloc, script, shorter);
+    if matches!(whole, Ok(Verdict::Lawful)) && matches!(cut, Ok(Verdict::BadReport)) {
+        return Ok(None);
+    }
+    let fault = format!(in alloc; "the verdict is {whole:?}, and without the last byte {cut:?}")?;
+    Ok(Some(fault))
 }
 
 /// What is wrong with a case's runs; `None` where nothing is.
@@ -92,7 +94,7 @@ pub(crate) fn fault_of<R: Threads + Wait + Sync>(
             }
             match difference(alloc, written.as_str(), text.as_str())? {
                 Some(fault) => Ok(Some(fault)),
-                None => unread(alloc, written.as_str()),
+                None => unlawful(alloc, case.input.as_slice(), written.as_str()),
             }
         }
         Wanted::Rules { rules } => {
@@ -104,7 +106,7 @@ pub(crate) fn fault_of<R: Threads + Wait + Sync>(
                 if let Some(fault) = rules::broken(alloc, rules.as_str(), written.as_str())? {
                     return Ok(Some(fault));
                 }
-                if let Some(fault) = unread(alloc, written.as_str())? {
+                if let Some(fault) = unlawful(alloc, case.input.as_slice(), written.as_str())? {
                     return Ok(Some(fault));
                 }
             }
