@@ -7,7 +7,9 @@ use Rattle.atomic_table.specs.Table.{Allows}
 use Rattle.shr_base.specs.declared.places.Place.{Place}
 use Rattle.shr_model.specs.Places.{place_number}
 use Rattle.shr_core.specs.declared.table.Core.{Core}
+use Rattle.shr_base.specs.declared.journals.PoolEntry.{PoolEntry}
 use Rattle.shr_core.specs.declared.seat.Seat.{Seat}
+use Rattle.shr_core.specs.declared.seat.Met.{Met}
 use Rattle.shr_core.specs.declared.view.View.{View}
 use Rattle.shr_seats.specs.declared.shape.Shape.{Shape}
 use Rattle.shr_core.specs.declared.setting.Setting.{Setting}
@@ -18,7 +20,7 @@ use Rattle.shr_seats.specs.Shapes.{groups_in, sizes_of}
 use Rattle.shr_core.specs.Steps.{Sat, with_taken, with_content}
 use Rattle.shr_core.specs.Layout.{row_in, words_in, map_of}
 use Rattle.shr_core.specs.Moves.{Token, MayStep}
-use Rattle.shr_core.specs.Seats.{IsOf, IsPlaceOf, IsHolding, MayTake, view_of, slot_numbers, room_numbers, room_rows, numbers_of}
+use Rattle.shr_core.specs.Seats.{IsOf, IsPlaceOf, IsHolding, IsMeeting, MayTake, view_of, slot_numbers, room_numbers, room_rows, numbers_of}
 
 -- a seat may make a step that the rule allows with the core's setting, on the word with that number
 pub may : (core : Core) (token : Token) (word at : ℕ) (f : ℕ → ℕ) (tells : ℕ → Sat → Type 0) → token.table_id ≡ core.table.shared.table_id → word ≡ at → at < words_in (sizes_of core.setting.shape)
@@ -32,8 +34,8 @@ may core token word at f tells table is inside allowed = record {
 
 -- the seat's new view and slots, where it holds the same id
 pub changed : (core : Core) (old new : Seat) (w : View) → IsOf core old → new.token.table_id ≡ old.token.table_id → new.held ≡ old.held → new.token.me.0 ≡ w
-    → w.standing.gone ≡ (view_of old).standing.gone → w.claims.held ≡ (view_of old).claims.held → w.claims.may ≡ None → w.claims.probe ≡ None → numbers_of new.rooms ≡ room_numbers w → slot_numbers new.token.me.1 ≡ room_rows core.setting.shape w → IsOf core new
-changed core old new w o table held me gone holds may probe rooms slots = record {
+    → w.standing.gone ≡ (view_of old).standing.gone → w.claims.held ≡ (view_of old).claims.held → w.claims.may ≡ None → w.claims.probe ≡ None → numbers_of new.rooms ≡ room_numbers w → slot_numbers new.token.me.1 ≡ room_rows core.setting.shape w → new.met ≡ old.met → w.turns.known ≡ (view_of old).turns.known → IsOf core new
+changed core old new w o table held me gone holds may probe rooms slots met known = record {
   table = table ∙ o.table;
   present = ap (λ (v : View). v.standing.gone) me ∙ (gone ∙ o.present);
   holding = subst (λ (x : Option ℕ). IsHolding core.setting.shape.ids x (view_of new).claims) (sym held) (keeps old.held (ap (λ (v : View). v.claims.held) me ∙ holds) o.holding);
@@ -41,6 +43,7 @@ changed core old new w o table held me gone holds may probe rooms slots = record
   probe = ap (λ (v : View). v.claims.probe) me ∙ probe;
   rooms = rooms ∙ sym (ap room_numbers me);
   slots = slots ∙ sym (ap (room_rows core.setting.shape) me);
+  met = subst (λ (x : Option Met). IsMeeting core.setting.shape (view_of new).turns.known x) (sym met) (subst (λ (l : List PoolEntry). IsMeeting core.setting.shape l old.met) (sym (ap (λ (v : View). v.turns.known) me ∙ known)) o.met);
 } where
   keeps : (x : Option ℕ) → (view_of new).claims.held ≡ (view_of old).claims.held → IsHolding core.setting.shape.ids x (view_of old).claims → IsHolding core.setting.shape.ids x (view_of new).claims
   keeps None e h = e ∙ h
@@ -48,9 +51,9 @@ changed core old new w o table held me gone holds may probe rooms slots = record
 
 -- a room was taken, and the content of its slot is out
 pub taken : (core : Core) (old new : Seat) (number row : ℕ) (c : Content) (left : Slot) → IsOf core old → new.token.table_id ≡ old.token.table_id → new.held ≡ old.held → new.token.me ≡ (with_taken (view_of old) number c, (row, left) ∷ old.token.me.1) → row ≡ row_in (sizes_of core.setting.shape) number
-    → numbers_of new.rooms ≡ number ∷ numbers_of old.rooms → IsOf core new
-taken core old new number row c left o table held me is rooms = changed core old new (with_taken (view_of old) number c) o table held (ap (λ (m : Sat). m.0) me) refl refl o.may o.probe
-    (rooms ∙ ap (λ (l : List ℕ). number ∷ l) o.rooms) (ap (λ (m : Sat). slot_numbers m.1) me ∙ (ap (λ (x : ℕ). x ∷ slot_numbers old.token.me.1) is ∙ ap (λ (l : List ℕ). row_in (sizes_of core.setting.shape) number ∷ l) o.slots))
+    → numbers_of new.rooms ≡ number ∷ numbers_of old.rooms → new.met ≡ old.met → IsOf core new
+taken core old new number row c left o table held me is rooms met = changed core old new (with_taken (view_of old) number c) o table held (ap (λ (m : Sat). m.0) me) refl refl o.may o.probe
+    (rooms ∙ ap (λ (l : List ℕ). number ∷ l) o.rooms) (ap (λ (m : Sat). slot_numbers m.1) me ∙ (ap (λ (x : ℕ). x ∷ slot_numbers old.token.me.1) is ∙ ap (λ (l : List ℕ). row_in (sizes_of core.setting.shape) number ∷ l) o.slots)) met refl
 
 -- a content that changes keeps the rooms
 content_numbers : (r : ℕ) (c : Content) (hs : List Hand) → map (λ (h : Hand). h.room) (with_content r c hs) ≡ map (λ (h : Hand). h.room) hs
@@ -61,9 +64,9 @@ content_numbers r c (h ∷ hs) = dite (ℕ_discrete h.room r)
 
 -- a room's content changed in hand
 pub content_changed : (core : Core) (old new : Seat) (r : ℕ) (c : Content) (w : View) → IsOf core old → new.token.table_id ≡ old.token.table_id → new.held ≡ old.held → new.rooms ≡ old.rooms → new.token.me ≡ (w, old.token.me.1)
-    → w.standing.gone ≡ (view_of old).standing.gone → w.claims.held ≡ (view_of old).claims.held → w.claims.may ≡ (view_of old).claims.may → w.claims.probe ≡ (view_of old).claims.probe → w.holding.hands ≡ with_content r c (view_of old).holding.hands → IsOf core new
-content_changed core old new r c w o table held rooms me gone holds may probe hands = let same : room_numbers w ≡ room_numbers (view_of old) = ap (map (λ (h : Hand). h.room)) hands ∙ content_numbers r c (view_of old).holding.hands in
-    changed core old new w o table held (ap (λ (m : Sat). m.0) me) gone holds (may ∙ o.may) (probe ∙ o.probe) (ap numbers_of rooms ∙ (o.rooms ∙ sym same)) (ap (λ (m : Sat). slot_numbers m.1) me ∙ (o.slots ∙ sym (ap (map (row_in (sizes_of core.setting.shape))) same)))
+    → w.standing.gone ≡ (view_of old).standing.gone → w.claims.held ≡ (view_of old).claims.held → w.claims.may ≡ (view_of old).claims.may → w.claims.probe ≡ (view_of old).claims.probe → w.holding.hands ≡ with_content r c (view_of old).holding.hands → new.met ≡ old.met → w.turns.known ≡ (view_of old).turns.known → IsOf core new
+content_changed core old new r c w o table held rooms me gone holds may probe hands met known = let same : room_numbers w ≡ room_numbers (view_of old) = ap (map (λ (h : Hand). h.room)) hands ∙ content_numbers r c (view_of old).holding.hands in
+    changed core old new w o table held (ap (λ (m : Sat). m.0) me) gone holds (may ∙ o.may) (probe ∙ o.probe) (ap numbers_of rooms ∙ (o.rooms ∙ sym same)) (ap (λ (m : Sat). slot_numbers m.1) me ∙ (o.slots ∙ sym (ap (map (row_in (sizes_of core.setting.shape))) same))) met known
 
 -- there is place for one room more in hand
 pub few_rooms : (core : Core) (seat : Seat) (place : Place) → IsOf core seat → MayTake core.setting.shape (view_of seat) place → length (numbers_of seat.rooms) ≤ 1

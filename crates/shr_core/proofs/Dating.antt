@@ -12,7 +12,7 @@ use Rattle.std.specs.Prelude.{Some, Option as Maybe, None}
 use Rattle.shr_model.specs.Pool.{end_of, is_before}
 use Rattle.shr_seats.specs.Views.{Each}
 use Rattle.shr_seats.proofs.Weighing.{Each-set, Each-push, Each-append, Each-none, Each-one, Each-join}
-use Rattle.shr_core.specs.Parts.{Claims, Turns, no_turns}
+use Rattle.shr_core.specs.Parts.{Claims, Dated, Turns, no_turns}
 use Rattle.shr_core.specs.Lookup.{lookups_of}
 use Rattle.shr_core.specs.Rule.{IsDated, AreDated, IsHeld}
 use Rattle.shr_core.specs.Steps.{turn_at, dated_now, dating_of}
@@ -80,6 +80,10 @@ module _ (ids : ℕ) (look : ℕ → ℕ) (pool : List PoolEntry) (ts : List Tur
   -- the turns of a seat change, and not what it dated
   pub same : (id : ℕ) (t w : Turns) → get_elem? ts id ≡ some t → w.dated ≡ t.dated → AreDated ids look pool ts → AreDated ids look pool (set ts id w)
   same id t w at is o = Each-set (λ (z : Turns). Each (IsDated ids look pool) z.dated) ts id w (subst (Each (IsDated ids look pool)) (sym is) (o id t at)) o
+
+  -- one id more is dated
+  pub again : (id : ℕ) (t w : Turns) (d : Dated) → get_elem? ts id ≡ some t → w.dated ≡ t.dated ++ d ∷ [] → IsDated ids look pool d → AreDated ids look pool ts → AreDated ids look pool (set ts id w)
+  again id t w d at is now o = Each-set (λ (z : Turns). Each (IsDated ids look pool) z.dated) ts id w (subst (Each (IsDated ids look pool)) (sym is) (Each-push (IsDated ids look pool) t.dated d now (o id t at))) o
 
   -- a seat that was split off has dated nothing
   pub more : (w : Turns) → w.dated ≡ [] → AreDated ids look pool ts → AreDated ids look pool (ts ++ w ∷ [])

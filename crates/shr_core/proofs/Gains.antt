@@ -10,9 +10,10 @@ use Rattle.shr_seats.specs.Weights.{Begins}
 use Rattle.shr_seats.proofs.Weighing.{begins_all, begins_push, begins_more}
 use Rattle.shr_core.specs.declared.view.View.{View}
 use Rattle.shr_seats.specs.declared.shape.Shape.{Shape}
-use Rattle.shr_core.specs.Parts.{Content, Event, counted, made, looked, loaded, turned, put_back, raised, cleared, mapped}
+use Rattle.shr_core.specs.Parts.{Content, Event, counted, made, looked, loaded, turned, raised, cleared, mapped}
 use Rattle.shr_core.specs.Layout.{places_in}
 use Rattle.shr_core.specs.Steps.{in_hand, with_count, with_map, with_set, with_clear, with_taken, with_try, with_given, with_pool_given, with_stored, with_word, with_leave, with_given_up, with_lookup, with_put, puts_of, with_phase, met_in, turn_at, dated_now}
+use Rattle.shr_core.specs.Again.{with_again}
 use Rattle.shr_core.proofs.Uses.{using_still, using_looked, using_put}
 use Rattle.shr_core.specs.Gained.{Gained, nothing, then_gained, Adds, AreKinds, among, seen_in, made_in, attempts_in, loaded_in, turns_in, sets_in, cleared_in, maps_in}
 
@@ -416,6 +417,31 @@ of_lookup v id word free = let n = adds_none v in record {
   kinds = record { seen = refl; made = refl; attempts = refl; loaded = refl; turns = refl; sets = refl; cleared = refl; maps = refl };
   seat = refl;
   using = using_looked v (with_lookup v id word) id word.decl word.lookups (eqb (word.phase % 3) 1) free refl refl refl;
+}
+
+-- a lookup of an id that was met, of a seat that holds nothing
+pub of_again : (v : View) (id : ℕ) (word : LookupWord) → v.claims.held ≡ None → Adds v (with_again v id word) (record nothing { attempts = record { id = id; number = word.lookups; held = met_in word } ∷ []; gives = 1 })
+of_again v id word free = let n = of_lookup v id word free in record {
+  made = n.made;
+  seen = n.seen;
+  tries = n.tries;
+  maps = n.maps;
+  sets = n.sets;
+  cleared = n.cleared;
+  attempts = n.attempts;
+  loaded = n.loaded;
+  turned = n.turned;
+  gives = refl;
+  known = n.known;
+  pool = n.pool;
+  heard = n.heard;
+  dated = (record { id = id; number = word.lookups; entries = length v.turns.known } ∷ [], refl);
+  standing = n.standing;
+  did = n.did;
+  noted = n.noted;
+  kinds = record { seen = n.kinds.seen; made = n.kinds.made; attempts = n.kinds.attempts; loaded = n.kinds.loaded; turns = n.kinds.turns; sets = n.kinds.sets; cleared = n.kinds.cleared; maps = n.kinds.maps };
+  seat = n.seat;
+  using = using_looked v (with_again v id word) id word.decl word.lookups (eqb (word.phase % 3) 1) free refl refl refl;
 }
 
 no_kinds : (held probe : Option ℕ) → AreKinds (puts_of held probe) nothing

@@ -1,5 +1,5 @@
 -- A seat uses an id since a lookup of its own that found the id live, and what ends the use comes behind it.
-use Rattle.std.proofs.Common.{◌≡◌, ◌⊎◌, inl, inr, ℕ, zero, suc, ◌+◌, ◌<◌, ◌≤◌, ◌≢◌, Bool, true, false, cond, List, [], ◌∷◌, ◌++◌, length, sym, refl, ap, subst, ◌∙◌, ⊎_elim, arith, eqb, eq-eqb, ne_eqb}
+use Rattle.std.proofs.Common.{◌≡◌, ℕ, zero, suc, ◌+◌, ◌<◌, ◌≤◌, Bool, true, false, cond, List, [], ◌∷◌, ◌++◌, sym, refl, ap, subst, ◌∙◌, arith, eqb, eq-eqb, ne_eqb}
 use Rattle.std.specs.Prelude.{Some, None, Option as Maybe, take}
 use Rattle.std.proofs.lemmas.List.{append-nil}
 use mathlib.Core.Logic.{dite}
@@ -8,7 +8,7 @@ use mathlib.Core.Option.{Option as Optional, none, some, some-injective, some-ne
 use lib.ListN.{get_elem?}
 use Rattle.shr_seats.specs.Lines.{Deed, part, state_after, AreSo}
 use Rattle.shr_seats.specs.Weights.{times, without}
-use Rattle.shr_seats.proofs.Weighing.{times-push_same, times-push_other, times-without_same, times-without_other}
+use Rattle.shr_seats.proofs.Weighing.{times-push_same, times-without_same}
 use Rattle.shr_core.specs.Parts.{Event, Tried, counted, made, looked, loaded, turned, put_back, raised, cleared, mapped}
 use Rattle.shr_core.specs.Order.{Moment, at_start, moment_next, Holders, no_holders, finder, users_after, users_next, last_users}
 use Rattle.shr_core.specs.Ranks.{Measure, value}

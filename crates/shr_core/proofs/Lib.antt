@@ -21,6 +21,8 @@ pub mod PoolLengths
 pub mod Loads
 pub mod Bits
 pub mod LookupSteps
+pub mod Lasting
+pub mod AgainSteps
 pub mod RoomSteps
 pub mod Emptiness
 pub mod Stores

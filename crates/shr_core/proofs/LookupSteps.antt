@@ -88,7 +88,8 @@ module _ (key : Setting) (s : State Slot View) (o : Sound key s) (id i : ℕ) (v
       ] in
       all (is_some_of i c.owner && eqb w.refs 0) refl
 
-of_pool : (key : Setting) (s : State Slot View) (o : Sound key s) (id i : ℕ) (v : View) → get_elem? s.views id ≡ some v → i < key.shape.ids → IsOfPool key v i (word_in (looks_in s.words i))
+-- what the word of an id says to a seat
+pub of_pool : (key : Setting) (s : State Slot View) (o : Sound key s) (id i : ℕ) (v : View) → get_elem? s.views id ≡ some v → i < key.shape.ids → IsOfPool key v i (word_in (looks_in s.words i))
 of_pool key s o id i v me near = let mine : 0 < has_room (places_in key.shape.ids) v.holding → (in_hand v (places_in key.shape.ids)).pool ≡ o.pool = λ has.
     (rooming.mine (IsRoom key.shape) (locks_in (sizes_of key.shape) s.words) (homes_in (sizes_of key.shape) s.homes) (Keeps key.shape o.now o.after o.pool) (Fits key.shape o.now o.after o.pool) (map holding_of s.views) o.rules.roomed id (places_in key.shape.ids) v.holding (here s.views id v me holding_of) has).1.turns refl in record {
       phase = λ has. o.rules.looked.phase i near ∙ ap (phase_of i) (sym (mine has));
@@ -176,10 +177,12 @@ allows key n id m i near present idle s o deep me _ =
     )
 
 module _ (ws : List ℕ) (i n : ℕ) (near : 8 * i + 3 < length ws) where
-  look_here : looks_in (set ws (8 * i + 3) n) i ≡ n
+  -- the word that was changed
+  pub look_here : looks_in (set ws (8 * i + 3) n) i ≡ n
   look_here = get_or-set_same ws (8 * i + 3) n 0 near
 
-  look_else : (x : ℕ) → x ≢ i → looks_in (set ws (8 * i + 3) n) x ≡ looks_in ws x
+  -- and each other
+  pub look_else : (x : ℕ) → x ≢ i → looks_in (set ws (8 * i + 3) n) x ≡ looks_in ws x
   look_else x ne = get_or-set_other ws (8 * i + 3) (8 * x + 3) n 0 (λ e. ne (omega arith))
 
 -- the lookup

@@ -1,5 +1,5 @@
 -- The order of all events while seats do more, are split and are joined, on plain data.
-use Rattle.std.proofs.Common.{◌≡◌, ◌⊎◌, ℕ, zero, suc, ◌+◌, ◌-◌, ◌/◌, ◌%◌, ◌<◌, ◌≤◌, ◌≢◌, Bool, true, false, cond, eqb, List, [], ◌∷◌, ◌++◌, map, length, set, sym, refl, ap, subst, ◌∙◌, ⊎_elim, inl, inr, arith, eq-eqb, ne_eqb, length-set, length-append}
+use Rattle.std.proofs.Common.{◌≡◌, ◌⊎◌, ℕ, zero, suc, ◌+◌, ◌-◌, ◌%◌, ◌<◌, ◌≤◌, ◌≢◌, Bool, true, false, cond, eqb, List, [], ◌∷◌, ◌++◌, map, length, set, sym, refl, ap, subst, ◌∙◌, ⊎_elim, inl, inr, arith, eq-eqb, ne_eqb, length-set, length-append}
 use Rattle.std.specs.Prelude.{Some, None, Option as Maybe}
 use Rattle.std.specs.Int.{bit_at}
 use mathlib.Core.Logic.{dite}
@@ -10,7 +10,6 @@ use Rattle.atomic_table.proofs.Lists.{at_set, at_map}
 use Rattle.shr_base.specs.declared.ends.LookupWord.{LookupWord}
 use Rattle.shr_base.specs.declared.journals.Entry.{Entry}
 use Rattle.shr_base.specs.declared.journals.PoolEntry.{PoolEntry}
-use Rattle.shr_base.specs.declared.journals.PoolEntry.TheVariants.{Registered, Unregistered, Idle}
 use Rattle.shr_model.specs.Items.{HasJournal}
 use Rattle.shr_model.specs.Pool.{phase_of, decl_of, is_live}
 use Rattle.shr_seats.specs.Lines.{Deed}
@@ -22,7 +21,7 @@ use Rattle.shr_core.specs.Parts.{Claims, Event, Counted, Made, Mapped, counted, 
 use Rattle.shr_core.specs.Layout.{places_in, id_of, map_of, bit_of}
 use Rattle.shr_core.specs.Lookup.{refs_of, lookups_of}
 use Rattle.shr_core.specs.Rule.{opener, spent, claims_of, only_some}
-use Rattle.shr_core.specs.Order.{Moment, at_start, moment_after, moment_next, IsDrawnAt, LeavesNothing, IsTimely, IsSo, AreEvents, last_moment, IsMoment, Holders, no_holders, holders_after, holders_next, IsOwn, last_holders, users_after, users_next, last_users, IsMadeInUse, IsOutOfUse, IsInUse, ids_of, references_of, stands_at, did_in, AreOrdered}
+use Rattle.shr_core.specs.Order.{Moment, at_start, moment_after, moment_next, IsDrawnAt, LeavesNothing, IsTimely, IsSo, last_moment, IsMoment, Holders, no_holders, holders_after, holders_next, IsOwn, last_holders, users_after, users_next, last_users, IsMadeInUse, IsOutOfUse, IsInUse, ids_of, references_of, stands_at, did_in, AreOrdered}
 use Rattle.shr_core.specs.Steps.{noted, turn_at, with_one_split, split_off, joined}
 use Rattle.shr_core.proofs.Marking.{OnlyAt, elsewhere}
 use Rattle.shr_core.proofs.Claiming.{by_phase}

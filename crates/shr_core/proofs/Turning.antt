@@ -50,3 +50,13 @@ knows ids decls pool ts id gives t known dated at is o = let w : Turns = record 
   heard = Each-set (λ (z : Turns). Each (λ (k : List PoolEntry). Begins k pool) z.heard) ts id w (o.heard id t at) o.heard;
   journal = o.journal;
 }
+
+-- how often the pool was given, and what was dated, changes
+pub dates : (ids decls : ℕ) (pool : List PoolEntry) (ts : List Turns) (id gives : ℕ) (t : Turns) (dated : List Dated) → get_elem? ts id ≡ some t → AreTurns ids decls pool ts → AreTurns ids decls pool (set ts id (record t { gives = gives; dated = dated }))
+dates ids decls pool ts id gives t dated at o = let w : Turns = record t { gives = gives; dated = dated } in record {
+  once = λ n. total_same (λ (z : Turns). total (hit_turn n) z.made) ts id t w at refl ∙ o.once n;
+  made = Each-set (λ (z : Turns). Each (IsTurn pool) z.made) ts id w (o.made id t at) o.made;
+  known = Each-set (λ (z : Turns). Begins z.known pool) ts id w (o.known id t at) o.known;
+  heard = Each-set (λ (z : Turns). Each (λ (k : List PoolEntry). Begins k pool) z.heard) ts id w (o.heard id t at) o.heard;
+  journal = o.journal;
+}

@@ -1,17 +1,15 @@
 -- The seats that use an id, event by event.
-use Rattle.std.proofs.Common.{◌≡◌, ◌⊎◌, ℕ, zero, suc, ◌+◌, ◌<◌, ◌≤◌, ◌≢◌, Bool, true, false, cond, eqb, List, [], ◌∷◌, ◌++◌, length, sym, refl, ap, subst, ◌∙◌, ⊎_elim, arith, eq-eqb, ne_eqb}
+use Rattle.std.proofs.Common.{◌≡◌, ℕ, ◌≢◌, Bool, true, false, cond, eqb, List, [], ◌∷◌, ◌++◌, sym, refl, ap, ◌∙◌, arith, eq-eqb, ne_eqb}
 use Rattle.std.specs.Prelude.{Some, None, Option as Maybe}
 use Rattle.std.proofs.lemmas.List.{append-nil}
 use mathlib.Core.Logic.{dite}
-use native.Mathlib.Decide.{ℕ_discrete, dec_lt}
-use mathlib.Core.Option.{some}
-use lib.ListN.{get_elem?}
+use native.Mathlib.Decide.{ℕ_discrete}
 use Rattle.shr_seats.specs.Lines.{Deed, by_seat, state_after}
-use Rattle.shr_seats.specs.Weights.{total, only, times, without}
-use Rattle.shr_seats.proofs.Weighing.{only_yes, only_no, term_le, times-push_same, times-push_other, times-without_same, times-without_other}
+use Rattle.shr_seats.specs.Weights.{only, times, without}
+use Rattle.shr_seats.proofs.Weighing.{only_yes, only_no, times-push_same, times-push_other, times-without_same, times-without_other}
 use Rattle.shr_seats.proofs.Lining.{state_after_push}
 use Rattle.shr_core.specs.declared.view.View.{View}
-use Rattle.shr_core.specs.Parts.{Event, Tried, counted, made, looked, loaded, turned, put_back, raised, cleared, mapped}
+use Rattle.shr_core.specs.Parts.{Event, counted, made, looked, loaded, turned, put_back, raised, cleared, mapped}
 use Rattle.shr_core.specs.Order.{Holders, no_holders, finder, users_after, users_next, last_users, ids_of, IsUsing}
 use Rattle.shr_core.specs.Steps.{noted, with_put, puts_of}
 

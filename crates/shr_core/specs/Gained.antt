@@ -8,7 +8,8 @@ use Rattle.shr_core.specs.Parts.{Made, Counted, Mapped, Tried, Loaded, Turn, Eve
 
 -- The entries of places that were made, the counts seen and the rooms tried in vain; the maps seen,
 -- the bits set and the bits cleared; the lookups made and the words loaded; the pool's entries
--- made, and how often the pool was given. Each list is in order.
+-- made, and how often its journal was met: it was given back, or an id was looked up by what is
+-- known of it. Each list is in order.
 pub record Gained : Type 0 where
   pub made : List Made
   pub seen : List Counted

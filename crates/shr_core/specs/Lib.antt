@@ -9,6 +9,7 @@ pub mod Steps
 pub mod Tells
 pub mod Seats
 pub mod Answers
+pub mod Again
 pub mod Opening
 pub mod Ending
 pub mod Gained

@@ -96,21 +96,23 @@ pub record Turn : Type 0 where
   pub number : ℕ
   pub entry : PoolEntry
 
--- an id that was held when the pool was given back, the number of the lookup that held it, and how
--- many entries the pool's journal then had
+-- an id that was held when the pool was given back, or that was looked up by what is known of its
+-- journal; the number of the lookup that held it, and how many entries the journal then had, or are
+-- known
 pub record Dated : Type 0 where
   pub id : ℕ
   pub number : ℕ
   pub entries : ℕ
 
--- the pool's entries made, the prefix of its journal that is known, and how often it was given
+-- The pool's entries made, the prefix of its journal that is known, and how often the journal was
+-- met: it was given back, or an id was looked up by what is known of it
 pub record Turns : Type 0 where
   pub made : List Turn
   pub known : List PoolEntry
   pub gives : ℕ
   -- what the seats that were joined in knew of it
   pub heard : List (List PoolEntry)
-  -- the ids that were held when it was given
+  -- the ids that were held when it was given, or were looked up by what is known of it
   pub dated : List Dated
 
 -- One event at the table: a count seen, an entry made, a lookup made, a lookup word loaded, an entry

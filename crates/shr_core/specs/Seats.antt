@@ -1,12 +1,15 @@
 -- What contracts see of a seat.
-use Rattle.std.specs.Prelude.{◌≡◌, ◌⊎◌, ℕ, ◌/◌, ◌<◌, List, [], ◌∷◌, map, Option, Some, None, false, true}
+use Rattle.std.specs.Prelude.{◌≡◌, ◌⊎◌, ℕ, ◌/◌, ◌%◌, ◌<◌, List, [], ◌∷◌, map, length, Option, Some, None, false, true}
 use Rattle.atomic_table.specs.Table.{rest}
 use Rattle.shr_model.specs.Places.{place_number}
 use Rattle.shr_model.specs.Groups.{is_child}
+use Rattle.shr_model.specs.Pool.{phase_of, decl_of}
+use Rattle.shr_base.specs.declared.journals.PoolEntry.{PoolEntry}
 use Rattle.shr_base.specs.declared.places.Place.{Place}
 use Rattle.shr_seats.specs.Rows as rows
 use Rattle.shr_core.specs.declared.table.Core.{Core}
 use Rattle.shr_core.specs.declared.seat.Seat.{Seat}
+use Rattle.shr_core.specs.declared.seat.Met.{Met}
 use Rattle.shr_core.specs.declared.seat.InHand.{InHand}
 use Rattle.shr_core.specs.declared.seat.InHand.TheVariants.{Nothing, One, Two}
 use Rattle.shr_seats.specs.declared.shape.Shape.{Shape}
@@ -51,6 +54,20 @@ abbrev pub IsHolding : ℕ → Option ℕ → Claims → Type 0
 IsHolding ids None c = c.held ≡ None
 IsHolding ids (Some id) c = (c.held ≡ Some id) × (id < ids)
 
+-- What a seat met of a registration is so by all that it knows of the pool's journal: the id is live
+-- in this phase with the declaration, and there are so many entries.
+pub record IsMet (shape : Shape) (known : List PoolEntry) (met : Met) : Type 0 where
+  pub near : met.id < shape.ids
+  pub phase : met.phase ≡ phase_of met.id known
+  pub live : met.phase % 3 ≡ 1
+  pub named : met.decl ≡ decl_of met.id known
+  pub after : met.entry ≡ length known
+
+-- what a seat keeps of a registration, where it keeps one
+abbrev pub IsMeeting : Shape → List PoolEntry → Option Met → Type 0
+IsMeeting shape known None = Unit {0}
+IsMeeting shape known (Some met) = IsMet shape known met
+
 -- A seat is of this core, was not joined away, and what it keeps at run time agrees with its view.
 -- Between calls it probes no id and is to look up none.
 pub record IsOf (core : Core) (seat : Seat) : Type 0 where
@@ -61,6 +78,7 @@ pub record IsOf (core : Core) (seat : Seat) : Type 0 where
   pub probe : (view_of seat).claims.probe ≡ None
   pub rooms : numbers_of seat.rooms ≡ room_numbers (view_of seat)
   pub slots : slot_numbers seat.token.me.1 ≡ room_rows core.setting.shape (view_of seat)
+  pub met : IsMeeting core.setting.shape (view_of seat).turns.known seat.met
 
 -- a seat has no room in hand, or only that of a child of the place's group at the same id and node
 abbrev pub MayTake : Shape → View → Place → Type 0

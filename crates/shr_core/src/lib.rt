@@ -1,6 +1,7 @@
 //! The core table: the words and rooms that the threads of a run share, under one rule.
 #![tactic(auto)]
 
+pub mod again;
 pub mod counts;
 mod ending;
 pub mod lookups;

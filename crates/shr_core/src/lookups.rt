@@ -31,7 +31,7 @@ pub enum Lookup {
 }
 
 /// From this many lookups on, 2^32 - 256, an id is looked up no more. Our own.
-const LAST_LOOKUPS: u32 = u32::MAX - 255;
+pub(crate) const LAST_LOOKUPS: u32 = u32::MAX - 255;
 
 /// Takes a lookup word apart. Our own.
 pub(crate) fn unpack(word: u64) -> LookupWord

@@ -118,6 +118,7 @@ impl Core {
                     token,
                     held: None,
                     rooms: InHand::Nothing,
+                    met: None,
                 },
             )),
             Err(Refused { slots: _ }) => Err(Memory),
@@ -148,6 +149,7 @@ impl Core {
             token,
             held: None,
             rooms: InHand::Nothing,
+            met: None,
         })
     }
 

@@ -127,6 +127,7 @@ impl Core {
         let row = self.pool_row();
         self.to_front(seat, room);
         let slot = Slot::of_pool(self.alloc, entries);
+        seat.met = None;
         self.give_pool_front(&mut seat.token, room, row, slot);
     }
 

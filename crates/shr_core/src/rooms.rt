@@ -178,7 +178,7 @@ impl Core {
         requires has { 0 < has_room number (view_of seat.old).holding }
         ensures same { (seat.new.token.table_id ≡ seat.old.token.table_id)
             × (seat.new.token.id ≡ seat.old.token.id) × (view_of seat.new ≡ view_of seat.old)
-            × (seat.new.held ≡ seat.old.held) }
+            × (seat.new.held ≡ seat.old.held) × (seat.new.met ≡ seat.old.met) }
         ensures front { HasFirst seat.new.token.me.1 (row_in (sizes_of (shape_of self.now))
             number) }
         ensures others { slot_numbers (rest seat.new.token.me.1)

@@ -12,12 +12,23 @@ pub enum InHand {
     Two { last: usize, first: usize },
 }
 
+/// A registration that a seat met: the declaration is live with the id in this phase, by all of the
+/// pool's journal that the seat knows, which has `entry` entries. Our own.
+#[derive(Clone, Copy)]
+pub struct Met {
+    pub decl: u8,
+    pub id: u16,
+    pub phase: u16,
+    pub entry: u32,
+}
+
 /// A thread's access to a core. Each seat has a view: what it has made and seen, holds and owes
-/// there. Our own.
+/// there. It keeps the registration that it met last until it takes the pool's journal again. Our own.
 pub struct Seat {
     pub(crate) token: atomic_table::Seat<Slot, View>,
     pub(crate) held: Option<u16>,
     pub(crate) rooms: InHand,
+    pub(crate) met: Option<Met>,
 }
 
 impl Seat {
@@ -31,6 +42,7 @@ impl Seat {
             token,
             held: _,
             rooms: _,
+            met: _,
         } = self;
         token
     }
@@ -42,6 +54,7 @@ impl Drop for Seat {
             token: _,
             held: _,
             rooms: _,
+            met: _,
         } = self;
     }
 }

@@ -133,4 +133,23 @@ impl Core {
             .shared
             .compare_exchange::<Told<T>>(token, word, 0, 1)
     }
+
+    /// One compare and exchange of a word, which gives what it was. `T` says what that tells. Our
+    /// own.
+    pub(crate) fn swap_as<T: Tells<Slot, View>>(
+        &self,
+        token: &mut Token<Slot, View>,
+        word: usize,
+        old: u64,
+        new: u64,
+        _id: u16,
+    ) -> u64
+        requires { MayStep self.now token.old word (λ n. either (n == old) new n) T.tells }
+        ensures id { IsSameSeat token.old token.new }
+        ensures told { T.tells result token.new.me }
+    {
+        self.table
+            .shared
+            .compare_exchange::<Told<T>>(token, word, old, new)
+    }
 }

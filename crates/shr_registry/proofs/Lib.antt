@@ -2,6 +2,7 @@ pub mod Searches
 pub mod Adds
 pub mod Meetings
 pub mod Givings
+pub mod Agains
 pub mod Registers
 pub mod Empties
 pub mod Retires

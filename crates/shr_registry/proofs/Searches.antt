@@ -59,6 +59,10 @@ loads_then u v w a b = record {
 pub loads_word : (v : View) (id : ℕ) (word : LookupWord) → Loads v (with_word v id word)
 loads_word v id word = record { holding = refl; traces = refl; marks = refl; owed = λ k h. owed_before k id (eqb (word.phase % 3) 1) v.marks.owed h; claims = refl; loaded = (record { id = id; word = word } ∷ [], refl, refl); seat = refl; turns = refl; standing = refl }
 
+-- one word more
+pub more_loaded : (v a u : View) (id : ℕ) (word : LookupWord) → Loads v a → u ≡ with_word a id word → Loads v u
+more_loaded v a u id word before is = loads_then v a u before (subst (Loads a) (sym is) (loads_word a id word))
+
 -- and one word more
 pub loads_more : (u v w : View) (id : ℕ) (word : LookupWord) → Loads u v → w ≡ with_word v id word → Loads u w
 loads_more u v w id word a is = loads_then u v w a (subst (Loads v) (sym is) (loads_word v id word))

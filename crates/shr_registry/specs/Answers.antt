@@ -24,7 +24,7 @@ use Rattle.shr_registry.specs.Adding.{Brings, IsLiveAs, IsFree, IsHeldBy}
 abbrev pub Shows : View → ℕ → LookupWord → Type 0
 Shows w id word = Contains w.claims.loaded (record { id = id; word = word })
 
--- The declaration is not live, by the whole journal that was seen. The pool was given `gives`
+-- The declaration is not live, by the whole journal that was seen. That journal was met `gives`
 -- times.
 pub record Misses (shape : Shape) (v : View) (decl : ℕ) (pool : List PoolEntry) (gives entry : ℕ) (w : View) : Type 0 where
   pub missing : is_live_decl shape.ids decl pool ≡ false
@@ -77,7 +77,7 @@ FindGives shape v decl pool gives (find.Held id number entry) w = FindsCache sha
 FindGives shape v decl pool gives (find.NoCache entry) w = Misses shape v decl pool gives entry w
 FindGives shape v decl pool gives (find.Worn s) w = FindsNoNumber shape v decl pool gives s w
 
--- an id that was found was held when the pool was given back, over the journal that was seen
+-- an id that was found was dated over the journal that the answer is by
 abbrev pub IsDatedBy : FindAnswer → View → Type 0
 IsDatedBy (find.Held id number entry) w = Contains w.turns.dated (record { id = id; number = number; entries = entry })
 IsDatedBy (find.NoCache entry) w = Unit {0}

@@ -1,19 +1,13 @@
-use Rattle.std.proofs.Common.{List, subst, ◌∙◌}
-use Rattle.shr_base.specs.declared.journals.PoolEntry.{PoolEntry}
 use Rattle.shr_core.specs.Seats.{view_of, shape_of}
-use Rattle.shr_registry.specs.Answers.{FindGives}
-use Rattle.shr_registry.proofs.Adds.{journal}
-use Rattle.shr_registry.proofs.Givings.{find_given, find_dated, taken_pool}
+use Rattle.shr_registry.proofs.Agains.{loads_nothing, find_since, found_again, dated_again}
 use Rattle.shr_registry.proofs.finding.find.Goals as goal
 
-pub returns-clause-answer : goal.returns-clause-answer
-returns-clause-answer g c = let shape = shape_of c.args.core.now in let v = view_of c.args.seat.now in let u = view_of c.take_pool-pool.new.seat in let w = view_of c.meet-answer.new.seat in let old = c.take_pool-pool.result.entries.items in
-    let alone = taken_pool shape v u old c.requires.rooms c.take_pool-pool.ensures.taken in
-    find_given c.args.core.now.setting v u w old old c.take_pool-pool.ensures.taken c.take_pool-pool.ensures.told.known (c.meet-answer.ensures.holding ∙ alone) c.meet-answer.ensures.known c.args.decl c.meet-answer.result (view_of c.give_pool.new.seat) c.give_pool.ensures.given
-    (subst (λ (l : List PoolEntry). FindGives shape u c.args.decl l 0 c.meet-answer.result w) (journal shape u old alone) c.meet-answer.ensures.answer)
+pub returns-in-Some-clause-answer : goal.returns-in-Some-clause-answer
+returns-in-Some-clause-answer g c = found_again (shape_of c.args.core.now) (view_of c.args.seat.now) (view_of c.lookup_again.new.seat) c.args.decl c.in-Some.again c.requires.free c.in-Some.ensures.found
 
-pub returns-clause-dated : goal.returns-clause-dated
-returns-clause-dated g c = let shape = shape_of c.args.core.now in let v = view_of c.args.seat.now in let u = view_of c.take_pool-pool.new.seat in let w = view_of c.meet-answer.new.seat in let old = c.take_pool-pool.result.entries.items in
-    let alone = taken_pool shape v u old c.requires.rooms c.take_pool-pool.ensures.taken in
-    find_dated c.args.core.now.setting v u w old old c.take_pool-pool.ensures.taken c.take_pool-pool.ensures.told.known (c.meet-answer.ensures.holding ∙ alone) c.meet-answer.ensures.known c.args.decl c.meet-answer.result (view_of c.give_pool.new.seat) c.give_pool.ensures.given
-    (subst (λ (l : List PoolEntry). FindGives shape u c.args.decl l 0 c.meet-answer.result w) (journal shape u old alone) c.meet-answer.ensures.answer)
+pub returns-in-Some-clause-dated : goal.returns-in-Some-clause-dated
+returns-in-Some-clause-dated g c = dated_again (shape_of c.args.core.now) (view_of c.args.seat.now) (view_of c.lookup_again.new.seat) c.args.decl c.in-Some.again c.requires.free c.in-Some.ensures.found
+
+pub returns-clause-answer : goal.returns-clause-answer
+returns-clause-answer g c = let v = view_of c.args.seat.now in let u = view_of c.lookup_again.new.seat in let w = view_of c.find_in_pool.new.seat in
+    find_since (shape_of c.args.core.now) v u w c.args.decl w.turns.known (loads_nothing v u (c.lookup_again.ensures.unknown c.in_default.is)) c.find_in_pool.result c.find_in_pool.ensures.answer

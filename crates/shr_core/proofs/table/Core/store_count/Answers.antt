@@ -14,4 +14,4 @@ store_as-requires c = let core = c.args.self.now in let seat = c.args.seat.now i
     (stored core.setting _ _ seat.token.me k (length c.entries.result.now * 4294967296 + c.len.result) list allowed c.requires.seat.present (omega (arith, c.len.ensures, ap (λ (l : List Entry). length l) c.entries.ensures.journal)))
 
 pub returns-clause-seat : goal.returns-clause-seat
-returns-clause-seat c = content_changed c.args.self.now c.args.seat.now _ _ _ _ c.requires.seat c.store_as.ensures.id.0 refl refl c.store_as.ensures.told.0 refl refl refl refl refl
+returns-clause-seat c = content_changed c.args.self.now c.args.seat.now _ _ _ _ c.requires.seat c.store_as.ensures.id.0 refl refl c.store_as.ensures.told.0 refl refl refl refl refl refl refl

@@ -1,0 +1,7 @@
+use Rattle.std.proofs.Common.{◌≡◌, ◌⊎◌, ◌<◌}
+use Rattle.shr_core.specs.Lookup.{lookups_of, last_lookups}
+use Rattle.shr_core.proofs.table.Core.draw_some.Given as goal
+
+abbrev pub invariant-loop : goal.invariant-loop
+invariant-loop l = (l.token.table_id ≡ l.initial.token.table_id) × (l.token.id ≡ l.initial.token.id) × (l.token.me ≡ l.initial.token.me)
+    × ((l.wanted ≡ l.first) ⊎ (lookups_of l.first < last_lookups))
