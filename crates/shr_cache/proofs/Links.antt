@@ -1,9 +1,10 @@
 -- Each step from the seats before it to those after it.
-use Rattle.std.proofs.Common.{◌≡◌, ℕ, List, ap, sym, subst, ◌∙◌}
+use Rattle.std.proofs.Common.{◌≡◌, ℕ, List, ap, subst, ◌∙◌}
 use Rattle.shr_base.specs.Kept.{Kept}
 use Rattle.shr_base.specs.declared.places.Serial.{Serial}
 use Rattle.shr_base.specs.declared.journals.UseStep.{UseStep}
-use Rattle.shr_model.specs.Groups.{Hierarchy, path_of}
+use Rattle.shr_base.specs.declared.replies.Found.{Found}
+use Rattle.shr_model.specs.Groups.{path_of}
 use Rattle.shr_core.specs.declared.view.View.{View}
 use Rattle.shr_core.specs.declared.seat.Seat.{Seat}
 use Rattle.shr_core.specs.Parts.{Claims}
@@ -14,18 +15,14 @@ use Rattle.shr_core.specs.Steps.{with_put}
 use Rattle.shr_charge.specs.declared.table.ChargeSeat.{ChargeSeat}
 use Rattle.shr_charge.specs.Charging as charging
 use Rattle.shr_charge.specs.Charging.{AreDowns}
-use Rattle.shr_charge.specs.Seat.{uses_of, tree_of}
-use Rattle.shr_charge.specs.Steps.{with_load}
-use Rattle.shr_charge.specs.declared.answers.GroupState.{GroupState}
-use Rattle.shr_charge.specs.Told.{Shows}
-use Rattle.shr_seats.specs.Shapes.{hierarchy_of}
 use Rattle.shr_deferred.specs.Seat.{moves_of}
 use Rattle.shr_walk.specs.declared.seats.Seats.{Seats}
 use Rattle.shr_walk.specs.declared.seats.Shared.{Shared}
 use Rattle.shr_walk.specs.Sharing.{IsShared}
-use Rattle.shr_walk.specs.State.{IsRested, state_of}
-use Rattle.shr_walk.proofs.Shares.{same_parents, same_hierarchy}
-use Rattle.shr_opening.specs.Opening.{IsHolding, LoadsWord, Calls, Uncharges}
+use Rattle.shr_walk.specs.Acting.{IsFit}
+use Rattle.shr_walk.specs.State.{WorkerState, state_of}
+use Rattle.shr_walk.proofs.Shares.{same_parents}
+use Rattle.shr_opening.specs.Opening.{IsHolding, Opens, OnCache, Calls, Uncharges}
 use Rattle.shr_cache.proofs.Stays.{Stays}
 
 -- the seats with another seat of one table
@@ -35,22 +32,6 @@ with_core s seat = record { cache = record { core = seat; charge = s.cache.charg
 -- the same of the charges, with what was noted
 abbrev pub with_charge : Seats → ChargeSeat → Kept UseStep → Seats
 with_charge s seat uses = record { cache = record { core = s.cache.core; charge = seat; uses = uses }; deferred = s.deferred; walks = s.walks; carries = s.carries }
-
--- a load of the group's word
-pub loads : (x : Shared) (shared : IsShared x) (s : Seats) (seat : ChargeSeat) (group : ℕ) (state : GroupState) → Shows (hierarchy_of x.charge.shape) (tree_of s.cache.charge) group state
-    → tree_of seat ≡ with_load (tree_of s.cache.charge) group state → uses_of seat ≡ uses_of s.cache.charge → LoadsWord x group state (state_of s) (state_of (with_charge s seat s.cache.uses))
-loads x shared s seat group state shows view uses = record {
-  shows = subst (λ (h : Hierarchy). Shows h (tree_of s.cache.charge) group state) (same_hierarchy x shared) shows;
-  rest = λ i. record {
-    core = view_of s.cache.core;
-    uses = uses i;
-    tree = view i;
-    moves = moves_of s.deferred;
-    noted = s.cache.uses.items;
-    walks = s.walks.items;
-    carries = s.carries.items;
-  };
-}
 
 -- an uncharge
 pub uncharged : (x : Shared) (shared : IsShared x) (by : Serial) (group : ℕ) (s : Seats) (seat : ChargeSeat) (uses : Kept UseStep) → charging.Uncharges x.charge.shape by group s.cache.charge seat s.cache.uses uses → Uncharges x by group (state_of s) (state_of (with_charge s seat uses))
@@ -77,16 +58,29 @@ called call s seat last made back = record {
   rest = ap (λ (v : View). record (state_of s) { core = v }) back;
 }
 
--- the seats are at rest once the reference was given back
-pub rested_called : (x : Shared) (id : ℕ) (s : Seats) (seat last : Seat) → IsHolding x id s → Stays (view_of s.cache.core) (view_of seat) → core.IsOf x.core last → view_of last ≡ with_put (view_of seat) → IsRested x (with_core s last)
-rested_called x id s seat last h stays of back = record {
-  core = of;
-  idle = record {
-    rooms = ap (λ (v : View). v.holding) back ∙ (stays.gains.holding ∙ h.rooms);
-    held = ap (λ (v : View). v.claims.held) back;
-    owner = ap (λ (v : View). v.claims.owner) back ∙ (ap (λ (y : Claims). y.owner) (stays.gains.marks h.owner) ∙ h.owner);
+-- the same of the cache that was opened
+pub asked : (x : Shared) (group decl : ℕ) (f : Found) (call : View → View → Type 0) (s : WorkerState) (opened : Seats) (seat last : Seat) → Opens x group decl f s (state_of opened) → call (view_of opened.cache.core) (view_of seat) → view_of last ≡ with_put (view_of seat) → OnCache x group decl f call s (state_of (with_core opened last))
+asked x group decl f call s opened seat last opens made back = record {
+  loaded = opens.loaded;
+  held = state_of opened;
+  online = opens.online;
+  holds = opens.holds;
+  calls = called call opened seat last made back;
+}
+
+-- the worker is fit once the reference was given back
+pub fit_called : (x : Shared) (id : ℕ) (s : Seats) (seat last : Seat) → IsShared x → IsHolding x id s → Stays (view_of s.cache.core) (view_of seat) → core.IsOf x.core last → view_of last ≡ with_put (view_of seat) → IsFit x (with_core s last)
+fit_called x id s seat last shared h stays of back = record {
+  shared = shared;
+  rested = record {
+    core = of;
+    idle = record {
+      rooms = ap (λ (v : View). v.holding) back ∙ (stays.gains.holding ∙ h.rooms);
+      held = ap (λ (v : View). v.claims.held) back;
+      owner = ap (λ (v : View). v.claims.owner) back ∙ (ap (λ (y : Claims). y.owner) (stays.gains.marks h.owner) ∙ h.owner);
+    };
+    owed = ap (λ (v : View). v.marks.owed) back ∙ still_none (view_of s.cache.core) (view_of seat) h.owed stays.gains.owed;
+    charge = h.charge;
+    deferred = h.deferred;
   };
-  owed = ap (λ (v : View). v.marks.owed) back ∙ still_none (view_of s.cache.core) (view_of seat) h.owed stays.gains.owed;
-  charge = h.charge;
-  deferred = h.deferred;
 }

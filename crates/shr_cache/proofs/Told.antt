@@ -2,7 +2,6 @@
 use Rattle.std.proofs.Common.{◌≡◌, ℕ, Bool, true, false, List}
 use Rattle.shr_base.specs.declared.places.Serial.{Serial}
 use Rattle.shr_base.specs.declared.replies.Found.{Found}
-use Rattle.shr_core.specs.declared.view.View.{View}
 use Rattle.shr_node.specs.declared.answers.NodeLook.{NodeLook}
 use Rattle.shr_node.specs.declared.answers.NodeLook.TheVariants as look
 use Rattle.shr_node.specs.declared.answers.NodeDrop.{NodeDrop}
@@ -11,16 +10,11 @@ use Rattle.shr_node.specs.declared.answers.NodePin.{NodePin}
 use Rattle.shr_node.specs.declared.answers.NodePin.TheVariants as pin
 use Rattle.shr_walk.specs.declared.seats.Shared.{Shared}
 use Rattle.shr_walk.specs.State.{WorkerState}
-use Rattle.shr_opening.specs.Opening.{Calls, Opens, OnCache, Uncharges}
+use Rattle.shr_opening.specs.Opening.{Uncharges}
 use Rattle.shr_cache.specs.Gets.{LooksUp, GotFrom}
 use Rattle.shr_cache.specs.Pins.{Pins, PinnedFrom}
 use Rattle.shr_cache.specs.Dels.{Drops, DroppedFrom}
 use Rattle.shr_cache.specs.Replies.{look_reply, pin_reply, drop_reply, has_dropped}
-
-module _ (x : Shared) (group decl : ℕ) where
-  -- a call on the cache that was opened
-  pub on_cache : (f : Found) (call : View → View → Type 0) (s u t : WorkerState) → Opens x group decl f s u → Calls call u t → OnCache x group decl f call s t
-  on_cache f call s u t opens calls = record { loaded = opens.loaded; held = u; online = opens.online; holds = opens.holds; calls = calls }
 
 module _ (x : Shared) (by : Serial) (group node decl : ℕ) (key : List ℕ) (f : Found) (s t : WorkerState) where
   -- what the list said of a lookup

@@ -1,5 +1,5 @@
 -- What a del does, by its answer.
-use Rattle.std.specs.Prelude.{◌≡◌, ℕ, List, Option, None, Some}
+use Rattle.std.specs.Prelude.{◌≡◌, ℕ, List, Option, None, Some, Result, Ok, Err}
 use Rattle.shr_base.specs.declared.places.Serial.{Serial}
 use Rattle.shr_base.specs.declared.replies.Answered.{Answered}
 use Rattle.shr_base.specs.declared.replies.Found.{Found}
@@ -13,6 +13,15 @@ use Rattle.shr_node.specs.Answers.{DropGives}
 use Rattle.shr_walk.specs.declared.seats.Shared.{Shared}
 use Rattle.shr_walk.specs.State.{WorkerState}
 use Rattle.shr_opening.specs.Opening.{OnCache, RefusedAs, Uncharges, MayCharge, IsSpent}
+
+-- what finding the cache and asking its list for the object did: the list answered, or the command was refused before. No
+-- public clause cites this.
+abbrev pub AskedAs : Shared → Serial → ℕ → ℕ → ℕ → List ℕ → Result (NodeDrop × Found) Reply
+    → WorkerState → WorkerState → Type 0
+AskedAs x by group node decl key (Ok (answer, f)) s t =
+    OnCache x group decl f
+    (λ v w. DropGives (shape_of x.core) v f.id node by group key answer w) s t
+AskedAs x by group node decl key (Err reply) s t = RefusedAs x group decl reply s t
 
 -- the object of the key was asked for in the cache that was found, with this answer of its list
 pub record Drops (x : Shared) (by : Serial) (group node decl : ℕ) (key : List ℕ) (f : Found)

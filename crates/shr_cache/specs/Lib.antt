@@ -1,3 +1,4 @@
+pub mod Charges
 pub mod Replies
 pub mod Gets
 pub mod Pins

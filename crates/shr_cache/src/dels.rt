@@ -1,21 +1,22 @@
 //! Taking an object out.
 
-ghost use Rattle.std.specs.Prelude.{◌≡◌, ◌<◌};
-ghost use Rattle.shr_seats.specs.Shapes.{groups_in};
+ghost use Rattle.std.specs.Prelude.{◌≡◌};
 ghost use Rattle.shr_core.specs.Seats.{shape_of};
-ghost use Rattle.shr_walk.specs.Sharing.{IsShared};
-ghost use Rattle.shr_walk.specs.State.{IsRested, state_of};
-ghost use Rattle.shr_cache.specs.Dels.{DelGives};
+ghost use Rattle.shr_walk.specs.Acting.{IsSame};
+ghost use Rattle.shr_opening.specs.Opening.{IsTargetOf};
+ghost use Rattle.shr_cache.specs.Charges.{KeepsCharge};
+ghost use Rattle.shr_cache.specs.Dels.{AskedAs, DelGives};
 ghost use Rattle.shr_cache.specs.Replies.{drop_reply, has_dropped};
 
-use shr_base::places::Serial;
-use shr_base::replies::{Answered, Reply};
+use crate::charges::uncharge;
+use shr_base::replies::{Answered, Found, Reply};
 use shr_base::text::Text;
 use shr_node::answers::NodeDrop;
 use shr_node::tenants::drop_key;
 use shr_opening::opening::{Opened, open};
 use shr_opening::replies::unfound;
-use shr_walk::seats::{Seats, Shared};
+use shr_opening::target::Target;
+use shr_walk::worker::Worker;
 use std::sync::Wait;
 
 // What a list's answer to a drop is as a reply.
@@ -38,6 +39,29 @@ fn is_dropped(answer: &NodeDrop) -> bool
     matches!(answer, NodeDrop::Dropped { at: _ })
 }
 
+// Finds the cache and asks its list for the object, to be dropped.
+fn take_out<R: Wait>(
+    worker: &mut Worker<'_, R>,
+    target: Target,
+    key: &Text,
+) -> Result<(NodeDrop, Found), Reply>
+    requires target { IsTargetOf (shape_of worker.old.shared.core) target }
+    ensures asked { AskedAs worker.old.shared worker.old.by target.group target.node target.decl
+        key.now result worker.old.state worker.new.state }
+    ensures kept { KeepsCharge worker.old worker.new }
+{
+    let Target { group, node, decl } = target;
+    let found = match open(worker.rt, worker.shared, &mut worker.seats, group, decl) {
+        Opened::Held { found } => found,
+        Opened::Refused { reply } => return Err(reply),
+    };
+    let core = &worker.shared.core;
+    let seat = &mut worker.seats.cache.core;
+    let answer = drop_key(worker.rt, core, seat, found.id, node, worker.by, group, key);
+    core.put(seat);
+    Ok((answer, found))
+}
+
 /// Takes an object out by its key, if it is there and not pinned, and uncharges the group that it was born in, which is
 /// the command's, and each group above it.
 ///
@@ -47,50 +71,30 @@ fn is_dropped(answer: &NodeDrop) -> bool
 /// the cache is given back. It waits for the pool's room and for rooms of the cache.
 ///
 /// Linux: `list_lru_del` in mm/list_lru.c, with `page_counter_uncharge` in mm/page_counter.c when the object is freed.
-pub fn del<R: Wait>(
-    rt: &R,
-    shared: &Shared,
-    seats: &mut Seats,
-    by: Serial,
-    group: u16,
-    node: u8,
-    decl: u8,
-    key: &Text,
-) -> Answered
-    requires shared { IsShared shared.now }
-    requires group { group < groups_in (shape_of shared.now.core) }
-    requires node { node < (shape_of shared.now.core).nodes }
-    requires decl { decl < (shape_of shared.now.core).decls }
-    requires rested { IsRested shared.now seats.old }
-    ensures rested { IsRested shared.now seats.new }
-    ensures deleted { DelGives shared.now by group node decl key.now result
-        (state_of seats.old) (state_of seats.new) }
+pub fn del<R: Wait>(worker: &mut Worker<'_, R>, target: Target, key: &Text) -> Answered
+    requires target { IsTargetOf (shape_of worker.old.shared.core) target }
+    ensures deleted { DelGives worker.old.shared worker.old.by target.group target.node target.decl
+        key.now result worker.old.state worker.new.state }
+    ensures same { IsSame worker.old worker.new }
 {
-    if let Some(spent) = shared.charge.spent(&seats.cache.charge) {
+    if let Some(spent) = worker.spent() {
         return unfound(Reply::Worn { spent });
     }
-    let depth = shared.tree.depth(group) as usize;
-    if seats.cache.uses.reserve(depth).is_err() {
+    let depth = worker.shared.tree.depth(target.group) as usize;
+    if worker.reserve_uses(depth).is_err() {
         return unfound(Reply::Memory);
     }
-    let found = match open(rt, shared, seats, group, decl) {
-        Opened::Held { found } => found,
-        Opened::Refused { reply } => return unfound(reply),
+    let (answer, found) = match take_out(worker, target, key) {
+        Ok(asked) => asked,
+        Err(reply) => return unfound(reply),
     };
-    let core = &shared.core;
-    let seat = &mut seats.cache.core;
-    let answer = drop_key(rt, core, seat, found.id, node, by, group, key);
-    core.put(seat);
     if !is_dropped(&answer) {
         return Answered {
             reply: reply_of(answer),
             found: Some(found),
         };
     }
-    let cache = &mut seats.cache;
-    shared
-        .charge
-        .uncharge(&mut cache.charge, &mut cache.uses, by, group);
+    uncharge(worker, target.group);
     Answered {
         reply: reply_of(answer),
         found: Some(found),

@@ -1,21 +1,20 @@
 //! Looking an object up.
 
-ghost use Rattle.std.specs.Prelude.{◌≡◌, ◌<◌};
-ghost use Rattle.shr_seats.specs.Shapes.{groups_in};
+ghost use Rattle.std.specs.Prelude.{◌≡◌};
 ghost use Rattle.shr_core.specs.Seats.{shape_of};
-ghost use Rattle.shr_walk.specs.Sharing.{IsShared};
-ghost use Rattle.shr_walk.specs.State.{IsRested, state_of};
+ghost use Rattle.shr_walk.specs.Acting.{IsSame};
+ghost use Rattle.shr_opening.specs.Opening.{IsTargetOf};
 ghost use Rattle.shr_cache.specs.Gets.{GetGives};
 ghost use Rattle.shr_cache.specs.Replies.{look_reply};
 
-use shr_base::places::Serial;
 use shr_base::replies::{Answered, Reply};
 use shr_base::text::Text;
 use shr_node::answers::NodeLook;
 use shr_node::tenants::look;
 use shr_opening::opening::{Opened, open};
 use shr_opening::replies::unfound;
-use shr_walk::seats::{Seats, Shared};
+use shr_opening::target::Target;
+use shr_walk::worker::Worker;
 use std::sync::Wait;
 
 // What a list's answer to a lookup is as a reply.
@@ -39,32 +38,20 @@ fn reply_of(answer: NodeLook) -> Reply
 ///
 /// Our own: Linux's lists have no keys. `mem_cgroup_online` (include/linux/memcontrol.h) and `shrinker_try_get`
 /// (include/linux/shrinker.h) are the tests before it.
-pub fn get<R: Wait>(
-    rt: &R,
-    shared: &Shared,
-    seats: &mut Seats,
-    by: Serial,
-    group: u16,
-    node: u8,
-    decl: u8,
-    key: &Text,
-) -> Answered
-    requires shared { IsShared shared.now }
-    requires group { group < groups_in (shape_of shared.now.core) }
-    requires node { node < (shape_of shared.now.core).nodes }
-    requires decl { decl < (shape_of shared.now.core).decls }
-    requires rested { IsRested shared.now seats.old }
-    ensures rested { IsRested shared.now seats.new }
-    ensures got { GetGives shared.now by group node decl key.now result
-        (state_of seats.old) (state_of seats.new) }
+pub fn get<R: Wait>(worker: &mut Worker<'_, R>, target: Target, key: &Text) -> Answered
+    requires target { IsTargetOf (shape_of worker.old.shared.core) target }
+    ensures got { GetGives worker.old.shared worker.old.by target.group target.node target.decl
+        key.now result worker.old.state worker.new.state }
+    ensures same { IsSame worker.old worker.new }
 {
-    let found = match open(rt, shared, seats, group, decl) {
+    let Target { group, node, decl } = target;
+    let found = match open(worker.rt, worker.shared, &mut worker.seats, group, decl) {
         Opened::Held { found } => found,
         Opened::Refused { reply } => return unfound(reply),
     };
-    let core = &shared.core;
-    let seat = &mut seats.cache.core;
-    let answer = look(rt, core, seat, found.id, node, by, group, key);
+    let core = &worker.shared.core;
+    let seat = &mut worker.seats.cache.core;
+    let answer = look(worker.rt, core, seat, found.id, node, worker.by, group, key);
     core.put(seat);
     Answered {
         reply: reply_of(answer),

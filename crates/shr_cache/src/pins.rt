@@ -1,21 +1,20 @@
 //! Pinning an object.
 
-ghost use Rattle.std.specs.Prelude.{◌≡◌, ◌<◌};
-ghost use Rattle.shr_seats.specs.Shapes.{groups_in};
+ghost use Rattle.std.specs.Prelude.{◌≡◌};
 ghost use Rattle.shr_core.specs.Seats.{shape_of};
-ghost use Rattle.shr_walk.specs.Sharing.{IsShared};
-ghost use Rattle.shr_walk.specs.State.{IsRested, state_of};
+ghost use Rattle.shr_walk.specs.Acting.{IsSame};
+ghost use Rattle.shr_opening.specs.Opening.{IsTargetOf};
 ghost use Rattle.shr_cache.specs.Pins.{PinGives};
 ghost use Rattle.shr_cache.specs.Replies.{pin_reply};
 
-use shr_base::places::Serial;
 use shr_base::replies::{Answered, Reply};
 use shr_base::text::Text;
 use shr_node::answers::NodePin;
 use shr_node::tenants::set_pin as pin_in_list;
 use shr_opening::opening::{Opened, open};
 use shr_opening::replies::unfound;
-use shr_walk::seats::{Seats, Shared};
+use shr_opening::target::Target;
+use shr_walk::worker::Worker;
 use std::sync::Wait;
 
 // What a list's answer to a pin is as a reply.
@@ -38,32 +37,26 @@ fn reply_of(answer: NodePin) -> Reply
 ///
 /// Our own: a pin stands for a raised reference count.
 pub fn set_pin<R: Wait>(
-    rt: &R,
-    shared: &Shared,
-    seats: &mut Seats,
-    by: Serial,
-    group: u16,
-    node: u8,
-    decl: u8,
+    worker: &mut Worker<'_, R>,
+    target: Target,
     key: &Text,
     pinned: bool,
 ) -> Answered
-    requires shared { IsShared shared.now }
-    requires group { group < groups_in (shape_of shared.now.core) }
-    requires node { node < (shape_of shared.now.core).nodes }
-    requires decl { decl < (shape_of shared.now.core).decls }
-    requires rested { IsRested shared.now seats.old }
-    ensures rested { IsRested shared.now seats.new }
-    ensures pinned { PinGives shared.now by group node decl key.now pinned result
-        (state_of seats.old) (state_of seats.new) }
+    requires target { IsTargetOf (shape_of worker.old.shared.core) target }
+    ensures pinned { PinGives worker.old.shared worker.old.by target.group target.node target.decl
+        key.now pinned result worker.old.state worker.new.state }
+    ensures same { IsSame worker.old worker.new }
 {
-    let found = match open(rt, shared, seats, group, decl) {
+    let Target { group, node, decl } = target;
+    let found = match open(worker.rt, worker.shared, &mut worker.seats, group, decl) {
         Opened::Held { found } => found,
         Opened::Refused { reply } => return unfound(reply),
     };
-    let core = &shared.core;
-    let seat = &mut seats.cache.core;
-    let answer = pin_in_list(rt, core, seat, found.id, node, by, group, key, pinned);
+    let core = &worker.shared.core;
+    let seat = &mut worker.seats.cache.core;
+    let answer = pin_in_list(
+        worker.rt, core, seat, found.id, node, worker.by, group, key, pinned,
+    );
     core.put(seat);
     Answered {
         reply: reply_of(answer),

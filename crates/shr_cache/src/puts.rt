@@ -1,15 +1,15 @@
 //! Adding an object.
 
-ghost use Rattle.std.specs.Prelude.{◌≡◌, ◌<◌};
+ghost use Rattle.std.specs.Prelude.{◌≡◌};
 ghost use Rattle.shr_model.specs.Objects.{fresh};
-ghost use Rattle.shr_seats.specs.Shapes.{groups_in};
 ghost use Rattle.shr_core.specs.Seats.{shape_of};
-ghost use Rattle.shr_walk.specs.Sharing.{IsShared};
-ghost use Rattle.shr_walk.specs.State.{IsRested, state_of};
-ghost use Rattle.shr_opening.specs.Opening.{IsSameCharge};
+ghost use Rattle.shr_walk.specs.Acting.{IsSame};
+ghost use Rattle.shr_opening.specs.Opening.{IsTargetOf};
+ghost use Rattle.shr_cache.specs.Charges.{KeepsCharge};
 ghost use Rattle.shr_cache.specs.Puts.{OfferedAs, PutGives};
 ghost use Rattle.shr_cache.specs.Replies.{add_reply, has_added};
 
+use crate::charges::uncharge;
 use shr_base::objects::Object;
 use shr_base::places::Serial;
 use shr_base::replies::{Answered, Reply};
@@ -19,9 +19,10 @@ use shr_node::answers::NodeAdd;
 use shr_node::tenants::add;
 use shr_opening::opening::{Opened, find_cache};
 use shr_opening::replies::unfound;
+use shr_opening::target::Target;
 use shr_reclaim::answers::Admission;
 use shr_reclaim::charging::try_charge;
-use shr_walk::seats::{Seats, Shared};
+use shr_walk::worker::Worker;
 use std::sync::Wait;
 
 // What a list's answer to an object is as a reply.
@@ -36,39 +37,6 @@ fn reply_of(answer: NodeAdd) -> Reply
     }
 }
 
-// Finds the cache and offers the object to its list.
-fn offer<R: Wait>(
-    rt: &R,
-    shared: &Shared,
-    seats: &mut Seats,
-    node: u8,
-    decl: u8,
-    object: Object,
-) -> Answered
-    requires shared { IsShared shared.now }
-    requires birth { object.birth < groups_in (shape_of shared.now.core) }
-    requires node { node < (shape_of shared.now.core).nodes }
-    requires decl { decl < (shape_of shared.now.core).decls }
-    requires rested { IsRested shared.now seats.old }
-    ensures rested { IsRested shared.now seats.new }
-    ensures offered { OfferedAs shared.now node decl object result.found result.reply
-        (state_of seats.old) (state_of seats.new) }
-    ensures same { IsSameCharge seats.old seats.new }
-{
-    let found = match find_cache(rt, shared, seats, decl) {
-        Opened::Held { found } => found,
-        Opened::Refused { reply } => return unfound(reply),
-    };
-    let core = &shared.core;
-    let seat = &mut seats.cache.core;
-    let answer = add(rt, core, seat, found.id, node, object);
-    core.put(seat);
-    Answered {
-        reply: reply_of(answer),
-        found: Some(found),
-    }
-}
-
 // An object as a put makes it.
 fn new_object(by: Serial, group: u16, key: Text, value: Text) -> Object
     ensures { result ≡ fresh by group key value }
@@ -80,6 +48,29 @@ fn new_object(by: Serial, group: u16, key: Text, value: Text) -> Object
         value,
         marked: false,
         pinned: false,
+    }
+}
+
+// Finds the cache and offers an object of the command to its list.
+fn offer<R: Wait>(worker: &mut Worker<'_, R>, target: Target, key: Text, value: Text) -> Answered
+    requires target { IsTargetOf (shape_of worker.old.shared.core) target }
+    ensures offered { OfferedAs worker.old.shared target.node target.decl
+        (fresh worker.old.by target.group key value) result.found result.reply worker.old.state
+        worker.new.state }
+    ensures kept { KeepsCharge worker.old worker.new }
+{
+    let found = match find_cache(worker.rt, worker.shared, &mut worker.seats, target.decl) {
+        Opened::Held { found } => found,
+        Opened::Refused { reply } => return unfound(reply),
+    };
+    let core = &worker.shared.core;
+    let seat = &mut worker.seats.cache.core;
+    let object = new_object(worker.by, target.group, key, value);
+    let answer = add(worker.rt, core, seat, found.id, target.node, object);
+    core.put(seat);
+    Answered {
+        reply: reply_of(answer),
+        found: Some(found),
     }
 }
 
@@ -100,35 +91,22 @@ fn is_added(reply: &Reply) -> bool
 /// their walks are recorded. The reference to the cache is given back. It waits for the pool's room and for rooms.
 ///
 /// Linux: `try_charge_memcg` in mm/memcontrol.c, and then `list_lru_add` in mm/list_lru.c.
-pub fn put<R: Wait>(
-    rt: &R,
-    shared: &Shared,
-    seats: &mut Seats,
-    by: Serial,
-    group: u16,
-    node: u8,
-    decl: u8,
-    key: Text,
-    value: Text,
-) -> Answered
-    requires shared { IsShared shared.now }
-    requires group { group < groups_in (shape_of shared.now.core) }
-    requires node { node < (shape_of shared.now.core).nodes }
-    requires decl { decl < (shape_of shared.now.core).decls }
-    requires rested { IsRested shared.now seats.old }
-    ensures rested { IsRested shared.now seats.new }
-    ensures put { PutGives shared.now by group node decl key value result
-        (state_of seats.old) (state_of seats.new) }
+pub fn put<R: Wait>(worker: &mut Worker<'_, R>, target: Target, key: Text, value: Text) -> Answered
+    requires target { IsTargetOf (shape_of worker.old.shared.core) target }
+    ensures put { PutGives worker.old.shared worker.old.by target.group target.node target.decl
+        key value result worker.old.state worker.new.state }
+    ensures same { IsSame worker.old worker.new }
 {
-    if let Some(spent) = shared.charge.spent(&seats.cache.charge) {
+    if let Some(spent) = worker.spent() {
         return unfound(Reply::Worn { spent });
     }
-    match shared.charge.state(&mut seats.cache.charge, group) {
+    let group = target.group;
+    match worker.group_state(group) {
         GroupState::Online => {}
         GroupState::Offline { entry } => return unfound(Reply::Offline { entry }),
         GroupState::NotMade => return unfound(Reply::NotMade { group }),
     }
-    match try_charge(rt, shared, seats, by, group) {
+    match try_charge(worker, group) {
         Admission::Charged => {}
         Admission::Over {
             group,
@@ -141,14 +119,10 @@ pub fn put<R: Wait>(
         }),
         Admission::Memory => return unfound(Reply::Memory),
     }
-    let object = new_object(by, group, key, value);
-    let answered = offer(rt, shared, seats, node, decl, object);
+    let answered = offer(worker, target, key, value);
     if is_added(&answered.reply) {
         return answered;
     }
-    let cache = &mut seats.cache;
-    shared
-        .charge
-        .uncharge(&mut cache.charge, &mut cache.uses, by, group);
+    uncharge(worker, group);
     answered
 }

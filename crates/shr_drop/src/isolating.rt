@@ -1,22 +1,22 @@
 //! Isolation.
 
-ghost use Rattle.std.specs.Prelude.{◌≡◌, ◌<◌, ◌≤◌, length};
-ghost use Rattle.shr_seats.specs.Shapes.{groups_in};
+ghost use Rattle.std.specs.Prelude.{◌≤◌, length};
 ghost use Rattle.shr_core.specs.Seats.{shape_of};
-ghost use Rattle.shr_walk.specs.Sharing.{IsShared};
-ghost use Rattle.shr_walk.specs.State.{IsRested, state_of};
+ghost use Rattle.shr_walk.specs.Acting.{IsSame};
+ghost use Rattle.shr_opening.specs.Opening.{IsTargetOf};
 ghost use Rattle.shr_drop.specs.Isolating.{IsolateGives};
 ghost use Rattle.shr_drop.specs.Lawful.{IsolatesLawfully};
 
 use crate::visits::visit_all;
 use shr_base::log::Log;
-use shr_base::places::{Place, Serial};
+use shr_base::places::Place;
 use shr_base::replies::{Answered, Reply};
 use shr_base::walks::Isolation;
 use shr_opening::opening::{Opened, open};
 use shr_opening::replies::unfound;
+use shr_opening::target::Target;
 use shr_walk::lister::Lister;
-use shr_walk::seats::{Seats, Shared};
+use shr_walk::worker::Worker;
 use std::sync::Wait;
 
 // The first of the numbers that isolations have among the walks of a worker's scans.
@@ -34,45 +34,35 @@ const FIRST: u64 = 1 << 63;
 /// Linux: `list_lru_walk_one` in mm/list_lru.c, if the callback dropped the lock. That it begins at the head again after
 /// an object that was skipped or rotated is our own.
 pub fn isolate<R: Wait>(
-    rt: &R,
-    shared: &Shared,
-    seats: &mut Seats,
+    worker: &mut Worker<'_, R>,
     log: &mut Log<Isolation>,
-    by: Serial,
-    group: u16,
-    node: u8,
-    decl: u8,
+    target: Target,
     budget: u32,
 ) -> Answered
-    requires shared { IsShared shared.now }
-    requires group { group < groups_in (shape_of shared.now.core) }
-    requires node { node < (shape_of shared.now.core).nodes }
-    requires decl { decl < (shape_of shared.now.core).decls }
+    requires target { IsTargetOf (shape_of worker.old.shared.core) target }
     requires budget { budget ≤ 20000 }
-    requires rested { IsRested shared.now seats.old }
-    ensures rested { IsRested shared.now seats.new }
-    ensures isolated { IsolateGives shared.now by group node decl budget result
-        (state_of seats.old) (state_of seats.new) log.old.items log.new.items }
-    ensures lawful { IsolatesLawfully shared.now by group node decl budget
-        (length log.old.items) result (state_of seats.old) (state_of seats.new) }
+    ensures isolated { IsolateGives worker.old.shared worker.old.by target.group target.node
+        target.decl budget result worker.old.state worker.new.state log.old.items log.new.items }
+    ensures lawful { IsolatesLawfully worker.old.shared worker.old.by target.group target.node
+        target.decl budget (length log.old.items) result worker.old.state worker.new.state }
+    ensures same { IsSame worker.old worker.new }
 {
     let number = log.len() as u64;
     if number >= FIRST || log.reserve(1).is_err() {
         return unfound(Reply::Memory);
     }
-    let found = match open(rt, shared, seats, group, decl) {
+    let Target { group, node, decl } = target;
+    let (rt, shared, by) = (worker.rt, worker.shared, worker.by);
+    let found = match open(rt, shared, &mut worker.seats, group, decl) {
         Opened::Held { found } => found,
         Opened::Refused { reply } => return unfound(reply),
     };
+    let id = found.id;
+    let place = Place { id, node, group };
     let declared = &shared.script.caches.as_slice()[decl as usize];
-    let place = Place {
-        id: found.id,
-        node,
-        group,
-    };
     let lister = Lister::new(rt, shared, place, declared, false, by, FIRST + number);
-    let made = visit_all(&lister, seats, budget);
-    shared.core.put(&mut seats.cache.core);
+    let made = visit_all(&lister, &mut worker.seats, budget);
+    shared.core.put(&mut worker.seats.cache.core);
     log.push(Isolation {
         by,
         place,

@@ -21,12 +21,14 @@ use Rattle.shr_deferred.specs.Seat as deferred
 use Rattle.shr_walk.specs.declared.seats.Seats.{Seats}
 use Rattle.shr_walk.specs.declared.seats.Shared.{Shared}
 use Rattle.shr_walk.specs.Sharing.{IsShared}
-use Rattle.shr_walk.specs.State.{IsRested, state_of}
+use Rattle.shr_walk.specs.Acting.{IsFit}
+use Rattle.shr_walk.specs.State.{state_of}
 use Rattle.shr_walk.proofs.Shares.{same_hierarchy}
-use Rattle.shr_offline.specs.Splices.{AreSpliced, all_places, places_of}
+use Rattle.shr_node.specs.declared.answers.SpliceAnswer.{SpliceAnswer}
+use Rattle.shr_offline.specs.Splices.{AreSpliced, AllGives, all_places, places_of}
 use Rattle.shr_offline.specs.Carries.{AreCarried}
 use Rattle.shr_offline.specs.Offlined.{HandsOver}
-use Rattle.shr_offline.proofs.Handing.{Stays, idle_still, all_closed}
+use Rattle.shr_offline.proofs.Handing.{splices_stay, idle_still, all_closed}
 
 -- the seats with another seat of one table
 abbrev pub with_core : Seats → Seat → Seats
@@ -40,9 +42,13 @@ with_charge s seat = record { cache = record { core = s.cache.core; charge = sea
 abbrev pub with_carries : Seats → DeferredSeat → Kept Carry → Seats
 with_carries s seat carries = record { cache = s.cache; deferred = seat; walks = s.walks; carries = carries }
 
--- seats that rest still do when the core's seat only spliced
-pub rested_after : (x : Shared) (s : Seats) (seat : Seat) → charge.IsOf x.charge s.cache.charge → deferred.IsOf x.deferred s.deferred → core.IsOf x.core seat → Stays (view_of s.cache.core) (view_of seat) → IsIdle (view_of s.cache.core) → (view_of s.cache.core).marks.owed ≡ [] → IsRested x (with_core s seat)
-rested_after x s seat charges deferreds of-core stays idle none = record { core = of-core; idle = idle_still (view_of s.cache.core) (view_of seat) stays idle; owed = still_none (view_of s.cache.core) (view_of seat) none stays.owed; charge = charges; deferred = deferreds }
+-- seats that rest still do when the core's seat only spliced, whatever came of it
+pub fit_after : (x : Shared) (s : Seats) (seat : Seat) (group : ℕ) (answer : SpliceAnswer) → IsShared x → charge.IsOf x.charge s.cache.charge → deferred.IsOf x.deferred s.deferred → core.IsOf x.core seat
+    → AllGives (shape_of x.core) group answer (view_of s.cache.core) (view_of seat) → IsIdle (view_of s.cache.core) → (view_of s.cache.core).marks.owed ≡ [] → IsFit x (with_core s seat)
+fit_after x s seat group answer shared charges deferreds of-core gives idle none = let stays = splices_stay (shape_of x.core) group answer (view_of s.cache.core) (view_of seat) gives in record {
+  shared = shared;
+  rested = record { core = of-core; idle = idle_still (view_of s.cache.core) (view_of seat) stays idle; owed = still_none (view_of s.cache.core) (view_of seat) none stays.owed; charge = charges; deferred = deferreds };
+}
 
 -- splices, carries and an end, one after the other, hand a group over as the answer says
 pub handed_over : (x : Shared) (shared : IsShared x) (by : Serial) (group moved total : ℕ) (answer : DoneAnswer) (s : Seats) (seat : Seat) (dseat : DeferredSeat) (carries : Kept Carry) (last : ChargeSeat)

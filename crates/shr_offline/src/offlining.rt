@@ -2,49 +2,47 @@
 
 ghost use Rattle.std.specs.Prelude.{◌<◌, ◌≤◌, IsSome};
 ghost use Rattle.shr_model.specs.TreeJournal.{begin_of};
-ghost use Rattle.shr_charge.specs.Seat.{tree_of};
 ghost use Rattle.shr_seats.specs.Shapes.{groups_in};
 ghost use Rattle.shr_core.specs.Seats.{shape_of};
-ghost use Rattle.shr_walk.specs.Sharing.{IsShared};
-ghost use Rattle.shr_walk.specs.State.{IsRested, state_of};
+ghost use Rattle.shr_walk.specs.Acting.{IsSame};
 ghost use Rattle.shr_offline.specs.Splices.{places_of};
 ghost use Rattle.shr_offline.specs.Offlined.{HandsOverAs, OfflineGives};
 
 use crate::answers::OfflineAnswer;
 use crate::carrying::carry_all;
 use crate::splicing::splice_all;
-use shr_base::places::Serial;
 use shr_charge::answers::{BeginAnswer, DoneAnswer};
 use shr_node::answers::SpliceAnswer;
-use shr_walk::seats::{Seats, Shared};
+use shr_walk::worker::Worker;
 use std::sync::Wait;
 
 // Hands over the lists and the deferred work of a group that began to go offline, and ends it.
-fn hand_over<R: Wait>(
-    rt: &R,
-    shared: &Shared,
-    seats: &mut Seats,
-    by: Serial,
-    group: u16,
-) -> OfflineAnswer
-    requires shared { IsShared shared.now }
-    requires group { (0 < group) × (group < groups_in (shape_of shared.now.core)) }
-    requires rested { IsRested shared.now seats.old }
-    requires begun { IsSome (begin_of (tree_of seats.old.cache.charge).known group) }
-    requires spare { places_of (shape_of shared.now.core) ≤ seats.old.carries.spare }
-    ensures rested { IsRested shared.now seats.new }
-    ensures handed { HandsOverAs shared.now by group result (state_of seats.old)
-        (state_of seats.new) }
+fn hand_over<R: Wait>(worker: &mut Worker<'_, R>, group: u16) -> OfflineAnswer
+    requires group { (0 < group) × (group < groups_in (shape_of worker.old.shared.core)) }
+    requires begun { IsSome (begin_of worker.old.state.tree.known group) }
+    requires spare { places_of (shape_of worker.old.shared.core) ≤ worker.old.carry_room }
+    ensures handed { HandsOverAs worker.old.shared worker.old.by group result worker.old.state
+        worker.new.state }
+    ensures same { IsSame worker.old worker.new }
 {
-    let moved = match splice_all(rt, &shared.core, &mut seats.cache.core, group) {
+    let core = &worker.shared.core;
+    let moved = match splice_all(worker.rt, core, &mut worker.seats.cache.core, group) {
         SpliceAnswer::Spliced { moved } => moved,
         SpliceAnswer::Worn { spent } => return OfflineAnswer::Worn { spent },
         SpliceAnswer::Memory => return OfflineAnswer::Memory,
     };
-    let deferred = carry_all(shared, &mut seats.deferred, &mut seats.carries, by, group);
-    match shared
+    let seats = &mut worker.seats;
+    let deferred = carry_all(
+        worker.shared,
+        &mut seats.deferred,
+        &mut seats.carries,
+        worker.by,
+        group,
+    );
+    match worker
+        .shared
         .charge
-        .done_offline(rt, &mut seats.cache.charge, group)
+        .done_offline(worker.rt, &mut seats.cache.charge, group)
     {
         DoneAnswer::Done { entry } => OfflineAnswer::Done {
             entry,
@@ -67,35 +65,28 @@ fn hand_over<R: Wait>(
 /// Linux: `mem_cgroup_css_offline` in mm/memcontrol.c, with `memcg_reparent_list_lrus`
 /// (mm/list_lru.c) and `reparent_shrinker_deferred` (mm/shrinker.c). The kernel clears `CSS_ONLINE`
 /// afterwards, in `offline_css`; here the begin comes first.
-pub fn offline<R: Wait>(
-    rt: &R,
-    shared: &Shared,
-    seats: &mut Seats,
-    by: Serial,
-    group: u16,
-) -> OfflineAnswer
-    requires shared { IsShared shared.now }
-    requires group { group < groups_in (shape_of shared.now.core) }
-    requires rested { IsRested shared.now seats.old }
-    ensures rested { IsRested shared.now seats.new }
-    ensures offlined { OfflineGives shared.now by group result (state_of seats.old)
-        (state_of seats.new) }
+pub fn offline<R: Wait>(worker: &mut Worker<'_, R>, group: u16) -> OfflineAnswer
+    requires group { group < groups_in (shape_of worker.old.shared.core) }
+    ensures offlined { OfflineGives worker.old.shared worker.old.by group result worker.old.state
+        worker.new.state }
+    ensures same { IsSame worker.old worker.new }
 {
-    let shape = shared.core.shape();
+    let shape = worker.shared.core.shape();
     let places = shape.ids as usize * shape.nodes as usize;
-    if seats.carries.reserve(places).is_err() {
+    if worker.seats.carries.reserve(places).is_err() {
         return OfflineAnswer::Memory;
     }
-    match shared
+    match worker
+        .shared
         .charge
-        .begin_offline(rt, &mut seats.cache.charge, group)
+        .begin_offline(worker.rt, &mut worker.seats.cache.charge, group)
     {
         BeginAnswer::Root => OfflineAnswer::Root,
         BeginAnswer::AlreadyDone { entry } => OfflineAnswer::AlreadyDone { entry },
         BeginAnswer::NotMade { group } => OfflineAnswer::NotMade { group },
         BeginAnswer::HasChildren { child, entry } => OfflineAnswer::HasChildren { child, entry },
         BeginAnswer::Memory => OfflineAnswer::Memory,
-        BeginAnswer::Resumed { entry: _ } => hand_over(rt, shared, seats, by, group),
-        BeginAnswer::Begun { entry: _ } => hand_over(rt, shared, seats, by, group),
+        BeginAnswer::Resumed { entry: _ } => hand_over(worker, group),
+        BeginAnswer::Begun { entry: _ } => hand_over(worker, group),
     }
 }

@@ -10,7 +10,8 @@ use Rattle.shr_base.specs.declared.replies.Spent.{Spent}
 use Rattle.shr_model.specs.Groups.{path_of}
 use Rattle.shr_core.specs.declared.view.View.{View}
 use Rattle.shr_core.specs.Parts.{no_rooms}
-use Rattle.shr_seats.specs.Shapes.{hierarchy_of}
+use Rattle.shr_seats.specs.Shapes.{groups_in, hierarchy_of}
+use Rattle.shr_seats.specs.declared.shape.Shape.{Shape}
 use Rattle.shr_core.specs.Seats.{view_of, shape_of}
 use Rattle.shr_core.specs.Seats as core
 use Rattle.shr_core.specs.Steps.{with_put}
@@ -32,6 +33,13 @@ use Rattle.shr_walk.specs.Keeping.{parents_of}
 use Rattle.shr_walk.specs.State.{WorkerState, IsRested}
 use Rattle.shr_opening.specs.declared.opening.Opened.{Opened}
 use Rattle.shr_opening.specs.declared.opening.Opened.TheVariants.{Held, Refused}
+use Rattle.shr_opening.specs.declared.target.Target.{Target}
+
+-- there are such a group, such a node and such a declaration
+pub record IsTargetOf (shape : Shape) (t : Target) : Type 0 where
+  pub group : t.group < groups_in shape
+  pub node : t.node < shape.nodes
+  pub decl : t.decl < shape.decls
 
 -- The word of the group was loaded, and told this state, which agrees with what the worker knew of
 -- the group. Nothing else was done.

@@ -3,3 +3,4 @@
 
 pub mod opening;
 pub mod replies;
+pub mod target;

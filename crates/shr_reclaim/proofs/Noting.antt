@@ -1,5 +1,5 @@
 -- A try of a charge, over the state of its worker.
-use Rattle.std.proofs.Common.{ℕ, ◌*◌, ◌≤◌, List, [], ◌∷◌, length, map, sym, ap, ◌∙◌, arith, length-append}
+use Rattle.std.proofs.Common.{◌≡◌, ℕ, ◌*◌, ◌^◌, ◌<◌, ◌≤◌, List, [], ◌∷◌, ◌++◌, length, map, sym, ap, subst, ◌∙◌, arith, length-append}
 use Rattle.std.proofs.lemmas.List.{length-map}
 use Rattle.shr_base.specs.declared.journals.UseStep.{UseStep}
 use Rattle.shr_base.specs.declared.places.Serial.{Serial}
@@ -7,7 +7,16 @@ use Rattle.shr_model.specs.Groups.{depth_of}
 use Rattle.shr_charge.specs.declared.answers.ChargeAnswer.{ChargeAnswer}
 use Rattle.shr_charge.specs.declared.answers.ChargeAnswer.TheVariants as charge
 use Rattle.shr_seats.specs.declared.shape.Shape.{Shape}
-use Rattle.shr_charge.specs.Charging.{ChargeOps, group_of}
+use Rattle.shr_base.specs.Kept.{Kept}
+use Rattle.shr_charge.specs.Charging.{ChargeOps, Charges, group_of}
+use Rattle.shr_charge.specs.Seat.{uses_of, tree_of}
+use Rattle.shr_charge.specs.Views.{Uses, TreeView}
+use Rattle.shr_charge.specs.declared.table.ChargeSeat.{ChargeSeat}
+use Rattle.shr_walk.specs.declared.seats.Seats.{Seats}
+use Rattle.shr_walk.specs.declared.seats.Shared.{Shared}
+use Rattle.shr_walk.specs.State.{Does, state_of}
+use Rattle.shr_walk.proofs.Doing.{does_none}
+use Rattle.shr_reclaim.specs.Trying.{IsTried, charge_work}
 use Rattle.shr_charge.proofs.Ways.{way_short}
 
 -- a charge makes at most two operations on each level
@@ -21,3 +30,24 @@ few_ops k by group (charge.Over g operation usage) ops h =
     let down = sym (length-map h.downs group_of) ∙ ap (λ l. length l) h.taken_back.at in
     let short = way_short k.parents.items group g in
     omega (arith, whole, up, ups, each, down, short)
+
+-- the operations of a charge are all that a try adds
+pub tried_once : (x : Shared) (by : Serial) (group : ℕ) (answer : ChargeAnswer) (s : Seats) (seat : ChargeSeat) (before after : Kept UseStep) → before.items ≡ s.cache.uses.items → Charges x.charge.shape by group answer s.cache.charge seat before after
+    → IsTried x by group answer (state_of s) (record (state_of s) { uses = uses_of seat; tree = tree_of seat; noted = after.items })
+tried_once x by group answer s seat before after same did = let n = does_none (state_of s) in let noted = did.noted in let now = record (state_of s) { uses = uses_of seat; tree = tree_of s.cache.charge; noted = after.items } in
+    let does : Does (state_of s) now (charge_work did.ops) = record {
+      core = n.core;
+      uses = noted.gains;
+      noted = noted.noted ∙ ap (λ (l : List UseStep). l ++ did.ops) same;
+      words = n.words;
+      tree = n.tree;
+      gives = n.gives;
+      known = n.known;
+      heard = n.heard;
+      hand = n.hand;
+      rise = noted.rise;
+      few = λ f. subst (λ (u : Uses). u.uncharges < 2 ^ 25) (sym noted.gains) (omega (arith, f));
+      moves = n.moves;
+      walks = n.walks;
+      carries = n.carries;
+    } in record { ops = did.ops; does = subst (λ (t : TreeView). Does (state_of s) (record now { tree = t }) (charge_work did.ops)) (sym noted.tree) does; made = did.made }

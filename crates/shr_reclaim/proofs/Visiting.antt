@@ -7,9 +7,11 @@ use Rattle.shr_base.specs.declared.places.Serial.{Serial}
 use Rattle.shr_model.specs.Prefixes.{IsPrefixOf}
 use Rattle.shr_model.specs.Walks.{Job}
 use Rattle.shr_walk.specs.declared.seats.Shared.{Shared}
-use Rattle.shr_walk.specs.Balances.{lacked_memory}
+use Rattle.shr_walk.specs.Acting.{Acting, IsSame}
+use Rattle.shr_walk.specs.Balances.{OneGives, lacked_memory}
+use Rattle.shr_walk.proofs.Acted.{same_for}
 use Rattle.shr_walk.specs.State.{WorkerState}
-use Rattle.shr_reclaim.specs.Rounds.{Visit, job_in, IsVisited, AreVisited, HadRoom, WalksAll, WalksFirst}
+use Rattle.shr_reclaim.specs.Rounds.{Visit, walk_for, job_in, IsVisited, AreVisited, HadRoom, WalksAll, WalksFirst}
 
 -- ---- beginnings of a list
 
@@ -89,3 +91,7 @@ module _ (x : Shared) (by : Serial) where
   pub visited_parts : (vs ws : List Visit) (s u : WorkerState) → AreVisited x by (vs ++ ws) s u → (t : WorkerState) × AreVisited x by vs s t × AreVisited x by ws t u
   visited_parts [] ws s u h = (s, refl, h)
   visited_parts (v ∷ vs) ws s u (one, others) = let parts = visited_parts vs ws v.after u others in (parts.0, (one, parts.1), parts.2)
+
+-- a walk, by the tables and the command that the worker began with
+pub visited_same : (old a : Acting) (v : Visit) → IsSame old a → OneGives a.shared (walk_for a.by (length a.state.walks) v.job) v.answer a.state v.after → IsVisited old.shared old.by v a.state
+visited_same old a v same one = same_for (λ x b. OneGives x (walk_for b (length a.state.walks) v.job) v.answer a.state v.after) old a same one

@@ -3,8 +3,7 @@ use Rattle.std.specs.Prelude.{◌≡◌, ◌⊎◌, ℕ, ◌+◌, ◌^◌, ◌<�
 use Rattle.shr_base.specs.declared.places.Serial.{Serial}
 use Rattle.shr_model.specs.Groups.{depth_of}
 use Rattle.shr_charge.specs.declared.answers.ChargeAnswer.TheVariants as charge
-use Rattle.shr_charge.specs.Seat.{uses_of}
-use Rattle.shr_walk.specs.declared.seats.CacheSeat.{CacheSeat}
+use Rattle.shr_walk.specs.Acting.{Acting}
 use Rattle.shr_walk.specs.declared.seats.Shared.{Shared}
 use Rattle.shr_walk.specs.State.{WorkerState, no_work, Does}
 use Rattle.shr_reclaim.specs.declared.answers.Admission.{Admission}
@@ -48,12 +47,12 @@ AdmissionGives x by group Memory s t = Does s t no_work ⊎ IsCutShort x by grou
 
 -- the charge of a group can be taken back without memory: there is room to note that on each
 -- level, and the calls are few enough
-pub record CanTakeBack (x : Shared) (group : ℕ) (c : CacheSeat) : Type 0 where
-  pub spare : depth_of x.charge.shape.parents.items group ≤ c.uses.spare
-  pub calls : (uses_of c.charge).uncharges < 2 ^ 25
+pub record CanTakeBack (group : ℕ) (w : Acting) : Type 0 where
+  pub spare : depth_of w.shared.charge.shape.parents.items group ≤ w.use_room
+  pub calls : w.state.uses.uncharges < 2 ^ 25
 
 -- only a charge that was made can be taken back
-abbrev pub LeavesRoom : Shared → ℕ → Admission → CacheSeat → Type 0
-LeavesRoom x group Charged c = CanTakeBack x group c
-LeavesRoom x group (Over g operation usage) c = Unit {0}
-LeavesRoom x group Memory c = Unit {0}
+abbrev pub LeavesRoom : ℕ → Admission → Acting → Type 0
+LeavesRoom group Charged w = CanTakeBack group w
+LeavesRoom group (Over g operation usage) w = Unit {0}
+LeavesRoom group Memory w = Unit {0}

@@ -2,11 +2,10 @@
 
 ghost use Rattle.std.specs.Prelude.{◌≡◌, ◌<◌, ◌≤◌, ◌^◌, None, IfOk, OnOk, OnErr};
 ghost use Rattle.shr_model.specs.Groups.{depth_of};
-ghost use Rattle.shr_charge.specs.Seat.{spent_by, uses_of};
+ghost use Rattle.shr_charge.specs.Seat.{spent_by};
 ghost use Rattle.shr_seats.specs.Shapes.{groups_in};
 ghost use Rattle.shr_core.specs.Seats.{shape_of};
-ghost use Rattle.shr_walk.specs.Sharing.{IsShared};
-ghost use Rattle.shr_walk.specs.State.{IsRested, state_of};
+ghost use Rattle.shr_walk.specs.Acting.{IsSame};
 ghost use Rattle.shr_reclaim.specs.Admitting.{AdmissionGives, LeavesRoom};
 ghost use Rattle.shr_reclaim.specs.Looping.{admission_of, RefusedThere};
 ghost use Rattle.shr_reclaim.specs.Trying.{IsTried};
@@ -14,9 +13,8 @@ ghost use Rattle.shr_reclaim.specs.Trying.{IsTried};
 use crate::answers::Admission;
 use crate::rounds::walk_round;
 use shr_base::memory::Memory;
-use shr_base::places::Serial;
 use shr_charge::answers::ChargeAnswer;
-use shr_walk::seats::{Seats, Shared};
+use shr_walk::worker::Worker;
 use std::sync::Wait;
 
 /// The priority of the first round; the last one has 0.
@@ -25,53 +23,38 @@ use std::sync::Wait;
 pub const DEF_PRIORITY: u8 = 12;
 
 // One try of the charge, with room for its operations and for those of taking it back later.
-fn charge_once(
-    shared: &Shared,
-    seats: &mut Seats,
-    by: Serial,
-    group: u16,
-) -> Result<ChargeAnswer, Memory>
-    requires shared { IsShared shared.now }
-    requires group { group < groups_in (shape_of shared.now.core) }
-    requires calls { (uses_of seats.old.cache.charge).charges < 2 ^ 21 }
-    requires rested { IsRested shared.now seats.old }
-    ensures rested { IsRested shared.now seats.new }
-    ensures tried { let s = state_of seats.old in let t = state_of seats.new in
-        IfOk result (λ a. IsTried shared.now by group a s t) }
-    ensures there { IfOk result (λ a. RefusedThere shared.now a) }
-    ensures room { let parents = shared.now.charge.shape.parents.items in
-        OnOk result (depth_of parents group ≤ seats.new.cache.uses.spare) }
-    ensures left { OnErr result (state_of seats.new ≡ state_of seats.old) }
-    ensures core { seats.new.cache.core ≡ seats.old.cache.core }
+fn charge_once<R: Wait>(worker: &mut Worker<'_, R>, group: u16) -> Result<ChargeAnswer, Memory>
+    requires group { group < groups_in (shape_of worker.old.shared.core) }
+    requires calls { worker.old.state.uses.charges < 2 ^ 21 }
+    ensures tried { IfOk result (λ a. IsTried worker.old.shared worker.old.by group a
+        worker.old.state worker.new.state) }
+    ensures there { IfOk result (λ a. RefusedThere worker.old.shared a) }
+    ensures room { let parents = worker.old.shared.charge.shape.parents.items in
+        OnOk result (depth_of parents group ≤ worker.new.use_room) }
+    ensures left { OnErr result (worker.new.state ≡ worker.old.state) }
+    ensures same { IsSame worker.old worker.new }
 {
-    let depth = shared.tree.depth(group) as usize;
-    let cache = &mut seats.cache;
+    let depth = worker.shared.tree.depth(group) as usize;
+    let cache = &mut worker.seats.cache;
     cache.uses.reserve(3 * depth)?;
     Ok(
-        shared
+        worker
+            .shared
             .charge
-            .charge(&mut cache.charge, &mut cache.uses, by, group),
+            .charge(&mut cache.charge, &mut cache.uses, worker.by, group),
     )
 }
 
 // Tries the charge, and after each refusal makes a round and tries it again.
-fn charge_in_rounds<R: Wait>(
-    rt: &R,
-    shared: &Shared,
-    seats: &mut Seats,
-    by: Serial,
-    group: u16,
-) -> Result<ChargeAnswer, Memory>
-    requires shared { IsShared shared.now }
-    requires group { group < groups_in (shape_of shared.now.core) }
-    requires calls { spent_by (uses_of seats.old.cache.charge) ≡ None }
-    requires rested { IsRested shared.now seats.old }
-    ensures rested { IsRested shared.now seats.new }
+fn charge_in_rounds<R: Wait>(worker: &mut Worker<'_, R>, group: u16) -> Result<ChargeAnswer, Memory>
+    requires group { group < groups_in (shape_of worker.old.shared.core) }
+    requires calls { spent_by worker.old.state.uses ≡ None }
     ensures admitted { let admission = admission_of result in
-        AdmissionGives shared.now by group admission (state_of seats.old) (state_of seats.new) }
-    ensures room { LeavesRoom shared.now group (admission_of result) seats.new.cache }
+        AdmissionGives worker.old.shared worker.old.by group admission worker.old.state worker.new.state }
+    ensures room { LeavesRoom group (admission_of result) worker.new }
+    ensures same { IsSame worker.old worker.new }
 {
-    let mut answer = charge_once(shared, seats, by, group)?;
+    let mut answer = charge_once(worker, group)?;
     for priority in (0..DEF_PRIORITY + 1).rev() {
         match answer {
             ChargeAnswer::Charged => return Ok(ChargeAnswer::Charged),
@@ -79,9 +62,9 @@ fn charge_in_rounds<R: Wait>(
                 group: over,
                 operation: _,
                 usage: _,
-            } => walk_round(rt, shared, seats, by, over, priority)?,
+            } => walk_round(worker, over, priority)?,
         }
-        answer = charge_once(shared, seats, by, group)?;
+        answer = charge_once(worker, group)?;
     }
     Ok(answer)
 }
@@ -102,23 +85,15 @@ fn charge_in_rounds<R: Wait>(
 /// Linux: `try_charge_memcg` in mm/memcontrol.c with `try_to_free_mem_cgroup_pages` in mm/vmscan.c.
 /// There `do_try_to_free_pages` goes down the priorities in one call, and ends once enough was
 /// reclaimed; here the charge itself is tried after each.
-pub fn try_charge<R: Wait>(
-    rt: &R,
-    shared: &Shared,
-    seats: &mut Seats,
-    by: Serial,
-    group: u16,
-) -> Admission
-    requires shared { IsShared shared.now }
-    requires group { group < groups_in (shape_of shared.now.core) }
-    requires calls { spent_by (uses_of seats.old.cache.charge) ≡ None }
-    requires rested { IsRested shared.now seats.old }
-    ensures rested { IsRested shared.now seats.new }
-    ensures admitted { AdmissionGives shared.now by group result
-        (state_of seats.old) (state_of seats.new) }
-    ensures room { LeavesRoom shared.now group result seats.new.cache }
+pub fn try_charge<R: Wait>(worker: &mut Worker<'_, R>, group: u16) -> Admission
+    requires group { group < groups_in (shape_of worker.old.shared.core) }
+    requires calls { spent_by worker.old.state.uses ≡ None }
+    ensures admitted { AdmissionGives worker.old.shared worker.old.by group result
+        worker.old.state worker.new.state }
+    ensures room { LeavesRoom group result worker.new }
+    ensures same { IsSame worker.old worker.new }
 {
-    let Ok(answer) = charge_in_rounds(rt, shared, seats, by, group) else {
+    let Ok(answer) = charge_in_rounds(worker, group) else {
         return Admission::Memory;
     };
     match answer {

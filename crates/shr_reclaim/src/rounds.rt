@@ -3,40 +3,33 @@
 ghost use Rattle.std.specs.Prelude.{◌<◌, ◌≤◌, All, OnOk, OnErr};
 ghost use Rattle.shr_seats.specs.Shapes.{groups_in};
 ghost use Rattle.shr_core.specs.Seats.{shape_of};
-ghost use Rattle.shr_walk.specs.Sharing.{IsShared};
-ghost use Rattle.shr_walk.specs.State.{IsRested, state_of};
+ghost use Rattle.shr_walk.specs.Acting.{IsSame};
 ghost use Rattle.shr_reclaim.specs.Looping.{AllMade, FirstMade, jobs_on};
 ghost use Rattle.shr_reclaim.specs.Rounds.{due_in};
 
 use shr_base::memory::Memory;
-use shr_base::places::Serial;
 use shr_walk::balance::{is_short, walk_one};
-use shr_walk::seats::{Seats, Shared};
+use shr_walk::worker::Worker;
 use std::sync::Wait;
 
 // Walks these groups on a node, in order.
 fn walk_node<R: Wait>(
-    rt: &R,
-    shared: &Shared,
-    seats: &mut Seats,
-    by: Serial,
+    worker: &mut Worker<'_, R>,
     groups: &[u16],
     node: u8,
     priority: u8,
 ) -> Result<(), Memory>
-    requires shared { IsShared shared.now }
-    requires node { node < (shape_of shared.now.core).nodes }
-    requires groups { All (λ g. g < groups_in (shape_of shared.now.core)) groups.now }
+    requires node { node < (shape_of worker.old.shared.core).nodes }
+    requires groups { All (λ g. g < groups_in (shape_of worker.old.shared.core)) groups.now }
     requires priority { priority ≤ 12 }
-    requires rested { IsRested shared.now seats.old }
-    ensures rested { IsRested shared.now seats.new }
     ensures all { let jobs = jobs_on node priority groups.now in
-        OnOk result (AllMade shared.now by jobs (state_of seats.old) (state_of seats.new)) }
+        OnOk result (AllMade worker.old.shared worker.old.by jobs worker.old.state worker.new.state) }
     ensures first { let jobs = jobs_on node priority groups.now in
-        OnErr result (FirstMade shared.now by jobs (state_of seats.old) (state_of seats.new)) }
+        OnErr result (FirstMade worker.old.shared worker.old.by jobs worker.old.state worker.new.state) }
+    ensures same { IsSame worker.old worker.new }
 {
     for group in groups {
-        let answer = walk_one(rt, shared, seats, by, *group, node, priority, false);
+        let answer = walk_one(worker, *group, node, priority, false);
         if is_short(&answer) {
             return Err(Memory);
         }
@@ -49,27 +42,22 @@ fn walk_node<R: Wait>(
 ///
 /// Linux: `shrink_node_memcgs` in mm/vmscan.c for each node.
 pub(crate) fn walk_round<R: Wait>(
-    rt: &R,
-    shared: &Shared,
-    seats: &mut Seats,
-    by: Serial,
+    worker: &mut Worker<'_, R>,
     group: u16,
     priority: u8,
 ) -> Result<(), Memory>
-    requires shared { IsShared shared.now }
-    requires group { group < groups_in (shape_of shared.now.core) }
+    requires group { group < groups_in (shape_of worker.old.shared.core) }
     requires priority { priority ≤ 12 }
-    requires rested { IsRested shared.now seats.old }
-    ensures rested { IsRested shared.now seats.new }
-    ensures all { let due = due_in shared.now priority group in
-        OnOk result (AllMade shared.now by due (state_of seats.old) (state_of seats.new)) }
-    ensures first { let due = due_in shared.now priority group in
-        OnErr result (FirstMade shared.now by due (state_of seats.old) (state_of seats.new)) }
+    ensures all { let due = due_in worker.old.shared priority group in
+        OnOk result (AllMade worker.old.shared worker.old.by due worker.old.state worker.new.state) }
+    ensures first { let due = due_in worker.old.shared priority group in
+        OnErr result (FirstMade worker.old.shared worker.old.by due worker.old.state worker.new.state) }
+    ensures same { IsSame worker.old worker.new }
 {
-    let order = shared.tree.preorder(group)?;
+    let order = worker.preorder(group)?;
     let groups = order.as_slice();
-    for node in 0..shared.script.nodes {
-        walk_node(rt, shared, seats, by, groups, node, priority)?;
+    for node in 0..worker.nodes() {
+        walk_node(worker, groups, node, priority)?;
     }
     Ok(())
 }

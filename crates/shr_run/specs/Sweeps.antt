@@ -2,7 +2,6 @@
 use Rattle.std.specs.Prelude.{◌≡◌, ℕ, ◌≤◌, List, [], ◌∷◌, ◌++◌, length, slice_get, Option, Some, None, All, IsTrue}
 use Rattle.shr_base.specs.declared.replies.Answered.{Answered}
 use Rattle.shr_base.specs.declared.scripts.Sweep.{Sweep}
-use Rattle.shr_core.specs.Seats.{view_of}
 use Rattle.shr_seats.specs.Standing.{at_first, at_split}
 use Rattle.shr_pool.specs.declared.items.SweepItem.{SweepItem}
 use Rattle.shr_pool.specs.declared.jobs.JobQueue.{JobQueue}

@@ -19,6 +19,7 @@ use shr_sweep::answers::SweepAnswer;
 use shr_sweep::helping::help;
 use shr_tables::tables::Tables;
 use shr_walk::seats::Shared;
+use shr_walk::worker::Worker;
 use shr_worker::tasks::WorkerResult;
 use std::alloc::Global;
 use std::sync::Wait;
@@ -89,28 +90,35 @@ fn help_out<R: Wait, G: Gate>(
     requires ready { IsReady shared.now queue.now helper }
     ensures { HasHelpedOut shared.now queue.now sweep helper result }
 {
-    let mut helper = helper;
-    if helper.worker.answers.reserve(1).is_err() {
-        helper.worker.whole = false;
-        return helper;
+    let Helper { worker, pass } = helper;
+    let mut result = worker;
+    let mut pass = pass;
+    if result.answers.reserve(1).is_err() {
+        result.whole = false;
+        return Helper {
+            worker: result,
+            pass,
+        };
     }
     let by = Serial {
-        worker: helper.worker.number,
-        command: helper.worker.answers.len() as u32,
+        worker: result.number,
+        command: result.answers.len() as u32,
     };
     gate.before(by.worker, by.command);
-    let answer = help(
+    let seats = result.seats;
+    let mut worker = Worker {
         rt,
         shared,
-        queue,
-        &mut helper.pass,
-        &mut helper.worker.seats,
+        seats,
         by,
-        sweep.priority,
-        sweep.nofs,
-    );
-    helper.worker.answers.push(answered(answer));
-    helper
+    };
+    let answer = help(&mut worker, queue, &mut pass, sweep.priority, sweep.nofs);
+    result.seats = worker.seats;
+    result.answers.push(answered(answer));
+    Helper {
+        worker: result,
+        pass,
+    }
 }
 
 // Each helper in a thread of its own, where one can be made. It waits for all.

@@ -1,18 +1,15 @@
 //! A helper of a sweep.
 
 ghost use Rattle.std.specs.Prelude.{◌≡◌, ◌≤◌};
-ghost use Rattle.shr_core.specs.Seats.{view_of};
 ghost use Rattle.shr_pool.specs.Lines.{ends};
 ghost use Rattle.shr_pool.specs.Passes as passes;
-ghost use Rattle.shr_walk.specs.Sharing.{IsShared};
-ghost use Rattle.shr_walk.specs.State.{IsRested, state_of};
+ghost use Rattle.shr_walk.specs.Acting.{IsSame};
 ghost use Rattle.shr_sweep.specs.Helping.{HelpGives, IsLineWithin};
 
 use crate::answers::SweepAnswer;
-use shr_base::places::Serial;
 use shr_pool::jobs::{JobPass, JobQueue};
 use shr_walk::balance::{is_short, told, walk_one};
-use shr_walk::seats::{Seats, Shared};
+use shr_walk::worker::Worker;
 use std::sync::Wait;
 
 /// Pops jobs and walks each, until the pass meets its mark: then no job is left, and it answers Swept.
@@ -23,35 +20,29 @@ use std::sync::Wait;
 ///
 /// Our own. Linux walks all groups in one thread, as `drop_slab` in mm/vmscan.c does.
 pub fn help<R: Wait>(
-    rt: &R,
-    shared: &Shared,
+    worker: &mut Worker<'_, R>,
     queue: &JobQueue,
     pass: &mut JobPass,
-    seats: &mut Seats,
-    by: Serial,
     priority: u8,
     nofs: bool,
 ) -> SweepAnswer
-    requires shared { IsShared shared.now }
     requires priority { priority ≤ 12 }
-    requires rested { IsRested shared.now seats.old }
     requires pass { passes.IsOf queue.now pass.old × passes.IsHelper (passes.view_of pass.old) }
     requires open { ends (passes.view_of pass.old).popped ≡ 0 }
-    requires line { IsLineWithin shared.now (passes.view_of pass.old) }
-    ensures rested { IsRested shared.now seats.new }
+    requires line { IsLineWithin worker.old.shared (passes.view_of pass.old) }
     ensures pass { passes.IsOf queue.now pass.new × passes.IsHelper (passes.view_of pass.new) }
-    ensures helped { HelpGives shared.now by priority nofs result
-        (passes.view_of pass.old) (passes.view_of pass.new)
-        (state_of seats.old) (state_of seats.new) }
+    ensures helped { HelpGives worker.old.shared worker.old.by priority nofs result
+        (passes.view_of pass.old) (passes.view_of pass.new) worker.old.state worker.new.state }
+    ensures same { IsSame worker.old worker.new }
 {
     let mut jobs = 0;
     let mut freed = 0;
-    for _turn in rt.forever() {
-        let job = match queue.pop(rt, pass) {
+    for _turn in worker.rt.forever() {
+        let job = match queue.pop(worker.rt, pass) {
             Some(job) => job,
             None => return SweepAnswer::Swept { jobs, freed },
         };
-        let answer = walk_one(rt, shared, seats, by, job.group, job.node, priority, nofs);
+        let answer = walk_one(worker, job.group, job.node, priority, nofs);
         freed += told(&answer);
         if is_short(&answer) {
             return SweepAnswer::Memory { freed };

@@ -3,13 +3,11 @@
 ghost use Rattle.std.specs.Prelude.{◌≡◌, ◌<◌, ◌≤◌, ◌^◌, length};
 ghost use Rattle.shr_seats.specs.Shapes.{groups_in};
 ghost use Rattle.shr_core.specs.Seats.{shape_of};
+ghost use Rattle.shr_walk.specs.Acting.{IsSame, walk_of};
 ghost use Rattle.shr_walk.specs.Balances.{BalanceGives, OneGives, freed_told, lacked_memory};
-ghost use Rattle.shr_walk.specs.Sharing.{IsShared};
-ghost use Rattle.shr_walk.specs.State.{IsRested, state_of};
 
 use crate::groups::{walk_group, walk_root};
-use crate::seats::{Seats, Shared};
-use shr_base::places::Serial;
+use crate::worker::Worker;
 use shr_base::walks::WalkAnswer;
 use std::sync::Wait;
 
@@ -35,36 +33,24 @@ pub fn is_short(answer: &WalkAnswer) -> bool
 ///
 /// Linux: `shrink_slab` in mm/shrinker.c, which takes `shrink_slab_memcg` for every other group.
 pub fn walk_one<R: Wait>(
-    rt: &R,
-    shared: &Shared,
-    seats: &mut Seats,
-    by: Serial,
+    worker: &mut Worker<'_, R>,
     group: u16,
     node: u8,
     priority: u8,
     nofs: bool,
 ) -> WalkAnswer
-    requires shared { IsShared shared.now }
-    requires place { (node < (shape_of shared.now.core).nodes)
-        × (group < groups_in (shape_of shared.now.core)) }
+    requires place { (node < (shape_of worker.old.shared.core).nodes)
+        × (group < groups_in (shape_of worker.old.shared.core)) }
     requires priority { priority ≤ 12 }
-    requires rested { IsRested shared.now seats.old }
-    ensures rested { IsRested shared.now seats.new }
     ensures few { freed_told result ≤ 2 ^ 53 }
-    ensures walked { OneGives shared.now (record {
-      by = by;
-      number = length seats.old.walks.items;
-      group = group;
-      node = node;
-      priority = priority;
-      nofs = nofs;
-    }) result (state_of seats.old)
-        (state_of seats.new) }
+    ensures walked { OneGives worker.old.shared (walk_of worker.old group node priority nofs) result
+        worker.old.state worker.new.state }
+    ensures same { IsSame worker.old worker.new }
 {
     if group == 0 {
-        return walk_root(rt, shared, seats, by, node, priority, nofs);
+        return walk_root(worker, node, priority, nofs);
     }
-    walk_group(rt, shared, seats, by, group, node, priority, nofs)
+    walk_group(worker, group, node, priority, nofs)
 }
 
 /// Walks each group on a node, the root first and the others behind their parents, and answers what
@@ -77,37 +63,25 @@ pub fn walk_one<R: Wait>(
 ///
 /// Linux: the calls of `shrink_slab` in `shrink_node_memcgs`, mm/vmscan.c.
 pub fn balance<R: Wait>(
-    rt: &R,
-    shared: &Shared,
-    seats: &mut Seats,
-    by: Serial,
+    worker: &mut Worker<'_, R>,
     node: u8,
     priority: u8,
     nofs: bool,
 ) -> WalkAnswer
-    requires shared { IsShared shared.now }
-    requires node { node < (shape_of shared.now.core).nodes }
+    requires node { node < (shape_of worker.old.shared.core).nodes }
     requires priority { priority ≤ 12 }
-    requires rested { IsRested shared.now seats.old }
-    ensures rested { IsRested shared.now seats.new }
-    ensures balanced { BalanceGives shared.now
-        (record {
-          by = by;
-          number = length seats.old.walks.items;
-          group = 0;
-          node = node;
-          priority = priority;
-          nofs = nofs;
-        }) result (state_of seats.old) (state_of seats.new) }
+    ensures balanced { BalanceGives worker.old.shared (walk_of worker.old 0 node priority nofs)
+        result worker.old.state worker.new.state }
+    ensures same { IsSame worker.old worker.new }
 {
-    let order = match shared.tree.preorder(0) {
+    let order = match worker.preorder(0) {
         Ok(order) => order,
         Err(_) => return WalkAnswer::Memory { freed: 0 },
     };
     let mut freed = 0;
     let groups = order.as_slice();
     for group in groups {
-        let answer = walk_one(rt, shared, seats, by, *group, node, priority, nofs);
+        let answer = walk_one(worker, *group, node, priority, nofs);
         freed += told(&answer);
         if is_short(&answer) {
             return WalkAnswer::Memory { freed };

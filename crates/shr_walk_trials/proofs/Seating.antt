@@ -41,11 +41,11 @@ use Rattle.shr_registry.specs.declared.answers.UnregisterAnswer.{UnregisterAnswe
 use Rattle.shr_registry.specs.declared.answers.UnregisterAnswer.TheVariants as unregister
 use Rattle.shr_registry.specs.Answers.{RegisterGives}
 use Rattle.shr_registry.specs.Ending.{UnregisterGives}
-use Rattle.shr_walk.specs.State.{IsRested}
 use Rattle.shr_walk.specs.declared.seats.Seats.{Seats}
 use Rattle.shr_walk.specs.declared.seats.Shared.{Shared}
 use Rattle.shr_walk.proofs.Looking.{with_core, looked_worn, looked_gone, looked_held}
-use Rattle.shr_walk_trials.specs.Desk.{IsSeated, IsHolder}
+use Rattle.shr_walk.specs.Acting.{IsFit}
+use Rattle.shr_walk_trials.specs.Desk.{IsHolder}
 
 -- ---- seats whose core seat was stepped with
 
@@ -62,15 +62,11 @@ owes_none v id word none = by_test (word.phase % 3 == 1)
     by_test true = none
     by_test false = ap (without_id id) none
 
-pub seated : (x : Shared) (s : Seats) (seat : Seat) → IsSeated x s → core.IsOf x.core seat → Leaves (view_of s.cache.core) (view_of seat) → IsSeated x (with_core s seat)
+pub seated : (x : Shared) (s : Seats) (seat : Seat) → IsFit x s → core.IsOf x.core seat → Leaves (view_of s.cache.core) (view_of seat) → IsFit x (with_core s seat)
 seated x s seat h is left = record {
   shared = h.shared;
   rested = record { core = is; idle = left.idle; owed = left.owed h.rested.owed; charge = h.rested.charge; deferred = h.rested.deferred };
 }
-
--- the same of a call that stepped with all seats
-pub seated_after : (x : Shared) (s t : Seats) → IsSeated x s → IsRested x t → IsSeated x t
-seated_after x s t h rested = record { shared = h.shared; rested = rested }
 
 -- ---- the registry
 
@@ -97,7 +93,7 @@ leaves_gone v w id number idle f = let a = looked_gone v w id number idle.held f
 pub leaves_worn : (v w : View) (id seen : ℕ) → IsIdle v → Finds v id w (lookup.Worn seen) → Leaves v w
 leaves_worn v w id seen idle f = let a = looked_worn v w id seen idle.held f in record { idle = record { rooms = a.holding ∙ idle.rooms; held = a.held; owner = a.owner ∙ idle.owner }; owed = λ none. ap (λ (y : View). y.marks.owed) f.step ∙ owes_none v id f.first none }
 
-pub holder_of : (x : Shared) (place : Place) (s : Seats) (seat : Seat) (number decl : ℕ) → IsSeated x s → IsPlaceOf (shape_of x.core) place → core.IsOf x.core seat → Finds (view_of s.cache.core) place.id (view_of seat) (lookup.Held number decl) → IsHolder x place (with_core s seat)
+pub holder_of : (x : Shared) (place : Place) (s : Seats) (seat : Seat) (number decl : ℕ) → IsFit x s → IsPlaceOf (shape_of x.core) place → core.IsOf x.core seat → Finds (view_of s.cache.core) place.id (view_of seat) (lookup.Held number decl) → IsHolder x place (with_core s seat)
 holder_of x place s seat number decl h inside is f = let v = view_of s.cache.core in let w = view_of seat in let a = looked_held v w place.id number decl h.rested.idle.held f in record {
   shared = h.shared;
   inside = inside;
@@ -110,7 +106,7 @@ holder_of x place s seat number decl h inside is f = let v = view_of s.cache.cor
   deferred = h.rested.deferred;
 }
 
-pub seated_again : (x : Shared) (place : Place) (s : Seats) (seat : Seat) → IsHolder x place s → core.IsOf x.core seat → view_of seat ≡ with_put (view_of s.cache.core) → IsSeated x (with_core s seat)
+pub seated_again : (x : Shared) (place : Place) (s : Seats) (seat : Seat) → IsHolder x place s → core.IsOf x.core seat → view_of seat ≡ with_put (view_of s.cache.core) → IsFit x (with_core s seat)
 seated_again x place s seat h is e = record {
   shared = h.shared;
   rested = record {

@@ -1,4 +1,4 @@
--- A worker's seats between the calls of a trial, and the first seats.
+-- A worker's seats while an id is held, and the first seats.
 use Rattle.std.specs.Prelude.{◌≡◌, ℕ, true, false, [], None, Some}
 use Rattle.shr_base.specs.declared.places.Place.{Place}
 use Rattle.shr_seats.specs.Standing.{Standing}
@@ -11,16 +11,10 @@ use Rattle.shr_charge.specs.Seat.{standing_of as charges_standing}
 use Rattle.shr_deferred.specs.Seat as deferred
 use Rattle.shr_deferred.specs.Seat.{standing_of as deferred_standing}
 use Rattle.shr_walk.specs.Sharing.{IsShared}
-use Rattle.shr_walk.specs.State.{IsRested}
 use Rattle.shr_walk.specs.declared.seats.Seats.{Seats}
 use Rattle.shr_walk.specs.declared.seats.Shared.{Shared}
 
--- what the workers share belongs together, and a worker's seats are of it, hold nothing and owe no bit
-pub record IsSeated (x : Shared) (s : Seats) : Type 0 where
-  pub shared : IsShared x
-  pub rested : IsRested x s
-
--- the same, but that the id of a place is held
+-- what the workers share belongs together, and a worker's seats are of it and at rest, but that the id of a place is held
 pub record IsHolder (x : Shared) (place : Place) (s : Seats) : Type 0 where
   pub shared : IsShared x
   pub inside : IsPlaceOf (shape_of x.core) place

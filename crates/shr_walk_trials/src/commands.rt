@@ -1,12 +1,10 @@
 //! A tenant's calls on cache 0 and node 0, made where there is such a group.
 
-ghost use Rattle.shr_walk_trials.specs.Desk.{IsSeated};
-
-use crate::desk::lists::BY;
 use shr_base::replies::{Answered, Reply, Spent};
 use shr_base::text::Text;
 use shr_cache::{dels, gets, pins, puts};
-use shr_walk::seats::{Seats, Shared};
+use shr_opening::target::Target;
+use shr_walk::worker::Worker;
 use std::sync::Wait;
 
 #[derive(Clone, Copy)]
@@ -39,27 +37,28 @@ pub(crate) fn heard(answer: Option<Answered>) -> Heard {
 
 // One call. The value of an object that is put is "v".
 pub(crate) fn ask<R: Wait>(
-    rt: &R,
-    shared: &Shared,
-    seats: &mut Seats,
+    worker: &mut Worker<'_, R>,
     asked: Command,
     group: u16,
     key: &[u8],
-) -> Option<Answered>
-    requires { IsSeated shared.now seats.old }
-    ensures { IsSeated shared.now seats.new }
-{
-    let shape = shared.core.shape();
+) -> Option<Answered> {
+    let alloc = worker.shared.core.alloc;
+    let shape = worker.shared.core.shape();
     if shape.nodes == 0 || shape.decls == 0 || group as usize >= shape.parents.len() {
         return None;
     }
-    let key = Text::of(shared.core.alloc, key).ok()?;
-    let value = Text::of(shared.core.alloc, b"v").ok()?;
+    let key = Text::of(alloc, key).ok()?;
+    let value = Text::of(alloc, b"v").ok()?;
+    let target = Target {
+        group,
+        node: 0,
+        decl: 0,
+    };
     match asked {
-        Command::Put => Some(puts::put(rt, shared, seats, BY, group, 0, 0, key, value)),
-        Command::Get => Some(gets::get(rt, shared, seats, BY, group, 0, 0, &key)),
-        Command::Del => Some(dels::del(rt, shared, seats, BY, group, 0, 0, &key)),
-        Command::Pin => Some(pins::set_pin(rt, shared, seats, BY, group, 0, 0, &key, true)),
-        Command::Unpin => Some(pins::set_pin(rt, shared, seats, BY, group, 0, 0, &key, false)),
+        Command::Put => Some(puts::put(worker, target, key, value)),
+        Command::Get => Some(gets::get(worker, target, &key)),
+        Command::Del => Some(dels::del(worker, target, &key)),
+        Command::Pin => Some(pins::set_pin(worker, target, &key, true)),
+        Command::Unpin => Some(pins::set_pin(worker, target, &key, false)),
     }
 }

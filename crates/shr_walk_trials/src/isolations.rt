@@ -1,17 +1,17 @@
 //! What isolations of one list come to, by its policy and objects and by their budget.
 
-ghost use Rattle.shr_walk_trials.specs.Desk.{IsSeated};
+ghost use Rattle.shr_walk.specs.Acting.{IsFit};
 
 use crate::commands::{Command, ask};
 use crate::desk::charges::wear;
 use crate::desk::left::place_of;
-use crate::desk::lists::BY;
-use crate::desk::opening::{Desk, close, open, open_short};
+use crate::desk::opening::{Desk, close, open, open_short, seats_of, worker_of};
 use shr_base::log::Log;
 use shr_base::replies::{IsolateEnd, Reply, Spent};
 use shr_base::walks::Isolation;
 use shr_drop::isolating::isolate;
-use shr_walk::seats::{Seats, Shared};
+use shr_opening::target::Target;
+use shr_walk::worker::Worker;
 use std::alloc::Global;
 use std::sync::Wait;
 use std::test::Fail;
@@ -27,15 +27,19 @@ const HALT: &[u8] = b"shrinkers 1\nsize 1 1\ngroup /a max\ncache dentry halt 2 0
 type Told = (u32, u32, IsolateEnd, usize);
 
 // An isolation of group 1's list. None is another answer.
-fn isolated<R: Wait>(rt: &R, shared: &Shared, seats: &mut Seats, budget: u32) -> Option<Told>
-    requires { IsSeated shared.now seats.old }
-{
-    let shape = shared.core.shape();
+fn isolated<R: Wait>(worker: &mut Worker<'_, R>, budget: u32) -> Option<Told> {
+    let alloc = worker.shared.core.alloc;
+    let shape = worker.shared.core.shape();
     if shape.nodes == 0 || shape.decls == 0 || shape.parents.len() < 2 || budget > 20_000 {
         return None;
     }
-    let mut log: Log<Isolation> = Log::new(shared.core.alloc);
-    match isolate(rt, shared, seats, &mut log, BY, 1, 0, 0, budget).reply {
+    let mut log: Log<Isolation> = Log::new(alloc);
+    let target = Target {
+        group: 1,
+        node: 0,
+        decl: 0,
+    };
+    match isolate(worker, &mut log, target, budget).reply {
         Reply::Isolated {
             visits,
             freed,
@@ -46,13 +50,10 @@ fn isolated<R: Wait>(rt: &R, shared: &Shared, seats: &mut Seats, budget: u32) ->
 }
 
 // Puts "k1" and "k2" into group 1, and pins one of them if it is asked for.
-fn put_two<R: Wait>(rt: &R, shared: &Shared, seats: &mut Seats, pinned: &[u8])
-    requires { IsSeated shared.now seats.old }
-    ensures { IsSeated shared.now seats.new }
-{
-    ask(rt, shared, seats, Command::Put, 1, b"k1");
-    ask(rt, shared, seats, Command::Put, 1, b"k2");
-    ask(rt, shared, seats, Command::Pin, 1, pinned);
+fn put_two<R: Wait>(worker: &mut Worker<'_, R>, pinned: &[u8]) {
+    ask(worker, Command::Put, 1, b"k1");
+    ask(worker, Command::Put, 1, b"k2");
+    ask(worker, Command::Pin, 1, pinned);
 }
 
 // A script, the key that is pinned, the budget, and what is told.
@@ -72,10 +73,20 @@ const ROWS: [Row; 6] = [
 
 // What an isolation of two objects tells.
 fn told_of<R: Wait>(rt: &R, alloc: Global, row: &Row) -> Result<Option<Told>, Fail> {
-    let mut desk = open(rt, alloc, row.0)?;
-    put_two(rt, &desk.shared, &mut desk.seats, row.1);
-    let told = isolated(rt, &desk.shared, &mut desk.seats, row.2);
-    close(desk);
+    let Desk {
+        shared,
+        first,
+        seats,
+    } = open(rt, alloc, row.0)?;
+    let mut worker = worker_of(rt, &shared, seats);
+    put_two(&mut worker, row.1);
+    let told = isolated(&mut worker, row.2);
+    let seats = seats_of(worker);
+    close(Desk {
+        shared,
+        first,
+        seats,
+    });
     Ok(told)
 }
 
@@ -97,15 +108,26 @@ fn isolations_end_as_their_lists_and_budgets_say(rt: HostRuntime) -> Result<(), 
 }
 
 // An isolation at a desk whose list holds two objects.
-fn told_at<R: Wait>(rt: &R, mut desk: Desk, is_worn: bool) -> Option<Told>
-    requires { IsSeated desk.shared desk.seats }
+fn told_at<R: Wait>(rt: &R, desk: Desk, is_worn: bool) -> Option<Told>
+    requires { IsFit desk.shared desk.seats }
 {
-    put_two(rt, &desk.shared, &mut desk.seats, b"none");
+    let Desk {
+        shared,
+        first,
+        seats,
+    } = desk;
+    let mut worker = worker_of(rt, &shared, seats);
+    put_two(&mut worker, b"none");
     if is_worn {
-        wear(&desk.shared, &mut desk.seats);
+        wear(&mut worker);
     }
-    let told = isolated(rt, &desk.shared, &mut desk.seats, 5);
-    close(desk);
+    let told = isolated(&mut worker, 5);
+    let seats = seats_of(worker);
+    close(Desk {
+        shared,
+        first,
+        seats,
+    });
     told
 }
 

@@ -1,17 +1,15 @@
 //! What each command is answered at a group that can't end, and to a worker that is used up.
 
-ghost use Rattle.shr_walk_trials.specs.Desk.{IsSeated};
-
 use crate::commands::{Command, Heard, ask, heard};
 use crate::desk::charges::wear;
 use crate::desk::left::place_of;
 use crate::desk::lists::{drop_key, fill};
-use crate::desk::opening::{close, open};
+use crate::desk::opening::{Desk, close, open, seats_of, worker_of};
 use crate::desk::walks::offline;
 use crate::desk::words::{count, defer};
 use shr_base::replies::Spent;
 use shr_offline::answers::OfflineAnswer;
-use shr_walk::seats::{Seats, Shared};
+use shr_walk::worker::Worker;
 use std::alloc::Global;
 use std::sync::Wait;
 use std::test::Fail;
@@ -20,18 +18,9 @@ use std::test::Fail;
 type Row = (Command, Heard);
 
 // Gives the commands of these rows on a group, and tells the first that heard something else.
-fn first_unlike<R: Wait>(
-    rt: &R,
-    shared: &Shared,
-    seats: &mut Seats,
-    group: u16,
-    rows: &[Row],
-) -> Option<usize>
-    requires { IsSeated shared.now seats.old }
-    ensures { IsSeated shared.now seats.new }
-{
+fn first_unlike<R: Wait>(worker: &mut Worker<'_, R>, group: u16, rows: &[Row]) -> Option<usize> {
     for (i, (command, told)) in rows.iter().enumerate() {
-        if heard(ask(rt, shared, seats, *command, group, b"k")) != *told {
+        if heard(ask(worker, *command, group, b"k")) != *told {
             return Some(i);
         }
     }
@@ -49,10 +38,20 @@ const WITHOUT_CHARGES: [Row; 4] = [
 
 // The first command that a worker whose charges are used up is not answered as it must be.
 fn unlike_when_worn<R: Wait>(rt: &R, alloc: Global) -> Result<Option<usize>, Fail> {
-    let mut desk = open(rt, alloc, ONE)?;
-    wear(&desk.shared, &mut desk.seats);
-    let unlike = first_unlike(rt, &desk.shared, &mut desk.seats, 1, &WITHOUT_CHARGES);
-    close(desk);
+    let Desk {
+        shared,
+        first,
+        seats,
+    } = open(rt, alloc, ONE)?;
+    let mut worker = worker_of(rt, &shared, seats);
+    wear(&mut worker);
+    let unlike = first_unlike(&mut worker, 1, &WITHOUT_CHARGES);
+    let seats = seats_of(worker);
+    close(Desk {
+        shared,
+        first,
+        seats,
+    });
     Ok(unlike)
 }
 
@@ -80,37 +79,47 @@ const GOING: [Row; 5] = [
 type Going = (Option<OfflineAnswer>, Option<usize>, usize, usize);
 
 // Takes a group offline whose object can't be handed over, since its parent's list is full.
-fn going<R: Wait>(rt: &R, shared: &Shared, seats: &mut Seats) -> Going
-    requires { IsSeated shared.now seats.old }
-    ensures { IsSeated shared.now seats.new }
-{
-    fill(rt, shared, seats, place_of(1), 20_000);
-    fill(rt, shared, seats, place_of(2), 1);
-    defer(shared, seats, place_of(2), 7);
-    let answer = offline(rt, shared, seats, 2);
-    let unlike = first_unlike(rt, shared, seats, 2, &GOING);
-    (answer, unlike, seats.carries.len(), seats.cache.uses.len())
+fn going<R: Wait>(worker: &mut Worker<'_, R>) -> Going {
+    fill(worker, place_of(1), 20_000);
+    fill(worker, place_of(2), 1);
+    defer(worker, place_of(2), 7);
+    let answer = offline(worker, 2);
+    let unlike = first_unlike(worker, 2, &GOING);
+    (
+        answer,
+        unlike,
+        worker.seats.carries.len(),
+        worker.seats.cache.uses.len(),
+    )
 }
 
 // The same, what going offline answers once the parent's list has lost an object, and how many
 // it has then.
 type Gone = (Going, Option<OfflineAnswer>, u32);
 
-fn going_and_gone<R: Wait>(rt: &R, shared: &Shared, seats: &mut Seats) -> Gone
-    requires { IsSeated shared.now seats.old }
-{
-    let before = going(rt, shared, seats);
-    drop_key(rt, shared, seats, place_of(1), &0u16.to_le_bytes());
-    let answer = offline(rt, shared, seats, 2);
-    let left = count(shared, seats, place_of(1)).map_or(0, |seen| seen.len);
+fn going_and_gone<R: Wait>(worker: &mut Worker<'_, R>) -> Gone {
+    let before = going(worker);
+    drop_key(worker, place_of(1), &0u16.to_le_bytes());
+    let answer = offline(worker, 2);
+    let left = count(worker, place_of(1)).map_or(0, |seen| seen.len);
     (before, answer, left)
 }
 
 // The same of the two groups of a family.
 fn gone<R: Wait>(rt: &R, alloc: Global) -> Result<Gone, Fail> {
-    let mut desk = open(rt, alloc, FAMILY)?;
-    let gone = going_and_gone(rt, &desk.shared, &mut desk.seats);
-    close(desk);
+    let Desk {
+        shared,
+        first,
+        seats,
+    } = open(rt, alloc, FAMILY)?;
+    let mut worker = worker_of(rt, &shared, seats);
+    let gone = going_and_gone(&mut worker);
+    let seats = seats_of(worker);
+    close(Desk {
+        shared,
+        first,
+        seats,
+    });
     Ok(gone)
 }
 

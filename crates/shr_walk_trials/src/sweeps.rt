@@ -1,14 +1,11 @@
 //! What helpers of a sweep come to, one after another.
 
-ghost use Rattle.shr_walk_trials.specs.Desk.{IsSeated};
-
 use crate::commands::{Command, ask};
-use crate::desk::lists::BY;
-use crate::desk::opening::{close, open};
+use crate::desk::opening::{Desk, close, open, seats_of, worker_of};
 use shr_pool::jobs::Jobs;
 use shr_sweep::answers::SweepAnswer;
 use shr_sweep::helping::help;
-use shr_walk::seats::{Seats, Shared};
+use shr_walk::worker::Worker;
 use std::alloc::Global;
 use std::sync::Wait;
 use std::test::Fail;
@@ -21,19 +18,19 @@ const FAMILY: &[u8] =
 type Helped = (SweepAnswer, SweepAnswer);
 
 // Two helpers work off the jobs of all groups on node 0.
-fn helped<R: Wait>(rt: &R, shared: &Shared, seats: &mut Seats) -> Option<Helped>
-    requires { IsSeated shared.now seats.old }
-{
-    let shape = shared.core.shape();
+fn helped<R: Wait>(worker: &mut Worker<'_, R>) -> Option<Helped> {
+    let rt = worker.rt;
+    let alloc = worker.shared.core.alloc;
+    let shape = worker.shared.core.shape();
     let groups = shape.parents.len();
     if shape.nodes == 0 || groups == 0 || groups > 256 {
         return None;
     }
-    let mut jobs = Jobs::fill(rt, shared.core.alloc, 1, groups as u16).ok()?;
+    let mut jobs = Jobs::fill(rt, alloc, 1, groups as u16).ok()?;
     let mut one = jobs.pass();
     let mut two = jobs.pass();
-    let first = help(rt, shared, &jobs.queue, &mut one, seats, BY, 0, false);
-    let second = help(rt, shared, &jobs.queue, &mut two, seats, BY, 0, false);
+    let first = help(worker, &jobs.queue, &mut one, 0, false);
+    let second = help(worker, &jobs.queue, &mut two, 0, false);
     jobs.join(one);
     jobs.join(two);
     Some((first, second))
@@ -41,12 +38,22 @@ fn helped<R: Wait>(rt: &R, shared: &Shared, seats: &mut Seats) -> Option<Helped>
 
 // The same if a group has an object and the one below it two.
 fn helped_family<R: Wait>(rt: &R, alloc: Global) -> Result<Option<Helped>, Fail> {
-    let mut desk = open(rt, alloc, FAMILY)?;
-    ask(rt, &desk.shared, &mut desk.seats, Command::Put, 1, b"k1");
-    ask(rt, &desk.shared, &mut desk.seats, Command::Put, 2, b"k2");
-    ask(rt, &desk.shared, &mut desk.seats, Command::Put, 2, b"k3");
-    let helped = helped(rt, &desk.shared, &mut desk.seats);
-    close(desk);
+    let Desk {
+        shared,
+        first,
+        seats,
+    } = open(rt, alloc, FAMILY)?;
+    let mut worker = worker_of(rt, &shared, seats);
+    ask(&mut worker, Command::Put, 1, b"k1");
+    ask(&mut worker, Command::Put, 2, b"k2");
+    ask(&mut worker, Command::Put, 2, b"k3");
+    let helped = helped(&mut worker);
+    let seats = seats_of(worker);
+    close(Desk {
+        shared,
+        first,
+        seats,
+    });
     Ok(helped)
 }
 

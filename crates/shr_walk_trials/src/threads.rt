@@ -1,13 +1,14 @@
 //! Threads at the lists of a cache. Each test holds for every schedule.
 
 ghost use Rattle.std.specs.Prelude.{IfOk};
+ghost use Rattle.shr_walk.specs.Acting.{IsFit};
 ghost use Rattle.shr_walk.specs.Sharing.{IsShared};
-ghost use Rattle.shr_walk_trials.specs.Desk.{IsFirst, IsHolder, IsSeated};
+ghost use Rattle.shr_walk_trials.specs.Desk.{IsFirst, IsHolder};
 
 use crate::desk::holding::{hold, rest};
 use crate::desk::left::{outcome, place_of};
 use crate::desk::lists::fill;
-use crate::desk::opening::{Desk, another, open};
+use crate::desk::opening::{Desk, another, open, seats_of, worker_of};
 use crate::desk::registrations::unregister;
 use crate::desk::walks::walk;
 use crate::desk::words::phase;
@@ -15,6 +16,7 @@ use shr_base::places::Place;
 use shr_base::walks::{GoneThen, Outcome, WalkAnswer};
 use shr_registry::answers::UnregisterAnswer;
 use shr_walk::seats::{Seats, Shared};
+use shr_walk::worker::Worker;
 use std::sync::Wait;
 use std::test::Fail;
 use std::thread;
@@ -30,32 +32,38 @@ const HELD: Place = Place {
 };
 
 // Loads the word of id 1 until it is dying, ten million times at the most.
-fn wait_for_dying(shared: &Shared, seats: &mut Seats)
-    requires { IsSeated shared.now seats.old }
-    ensures { IsSeated shared.now seats.new }
-{
+fn wait_for_dying<R: Wait>(worker: &mut Worker<'_, R>) {
     for _turn in 0..10_000_000 {
-        if phase(shared, seats, 1).is_none_or(|phase| phase % 3 == 2) {
+        if phase(worker, 1).is_none_or(|phase| phase % 3 == 2) {
             return;
         }
     }
 }
 
-// Walks the root while id 1 is dying, which waits until the reference to it is given back.
+// Puts an object on the root's list of id 0, and walks the root while id 1 is dying, which waits
+// until the reference to it is given back.
 fn walk_past<R: Wait>(
     rt: &R,
     shared: &Shared,
-    mut walker: Seats,
+    walker: Seats,
     mut holder: Seats,
 ) -> (Seats, Option<WalkAnswer>)
-    requires walker { IsSeated shared.now walker }
+    requires walker { IsFit shared.now walker }
     requires holder { IsHolder shared.now HELD holder }
-    ensures { IsSeated shared.now result.0 }
 {
-    wait_for_dying(shared, &mut walker);
-    let answer = walk(rt, shared, &mut walker, 0, 0, false);
+    let mut worker = worker_of(rt, shared, walker);
+    fill(&mut worker, place_of(0), 1);
+    wait_for_dying(&mut worker);
+    let answer = walk(&mut worker, 0, 0, false);
     rest(shared, &mut holder, HELD);
-    (walker, answer)
+    (seats_of(worker), answer)
+}
+
+// Unregisters the second cache, by the seats of a worker of its own.
+fn end<R: Wait>(rt: &R, shared: &Shared, ender: Seats) -> Option<UnregisterAnswer>
+    requires { IsFit shared.now ender }
+{
+    unregister(&mut worker_of(rt, shared, ender), 1)
 }
 
 // The lookup of the first attempt if its pass ran, and the outcomes of the next two.
@@ -71,7 +79,7 @@ fn outcomes(walker: &Seats) -> (Option<u32>, Option<Outcome>, Option<Outcome>) {
 fn two_more(shared: &Shared, first: &mut Seats) -> Result<(Seats, Seats), Fail>
     requires shared { IsShared shared.now }
     requires first { IsFirst shared.now first.old 1 }
-    ensures seats { IfOk result (λ t. IsSeated shared.now t.0 × IsSeated shared.now t.1) }
+    ensures seats { IfOk result (λ t. IsFit shared.now t.0 × IsFit shared.now t.1) }
 {
     let holder = another(shared, first, 1)?;
     let ender = another(shared, first, 2)?;
@@ -83,10 +91,9 @@ fn a_root_walk_passes_a_dying_id(rt: HostRuntime) -> Result<(), Fail> {
     let Desk {
         shared: table,
         mut first,
-        seats: mut walker,
+        seats: walker,
     } = open(&rt, rt.alloc(), THREE_IDS)?;
-    let (mut holder, mut ender) = two_more(&table, &mut first)?;
-    assert_eq!(rt; fill(&rt, &table, &mut walker, place_of(0), 1), 1);
+    let (mut holder, ender) = two_more(&table, &mut first)?;
     let Some(0) = hold(&table, &mut holder, HELD) else {
         panic!(rt; "the id is not held");
     };
@@ -95,12 +102,11 @@ fn a_root_walk_passes_a_dying_id(rt: HostRuntime) -> Result<(), Fail> {
     let ((walker, answer), freed) = thread::join(
         &rt,
         move ||
-            requires { IsSeated shared.now walker × IsHolder shared.now HELD holder }
-            ensures { IsSeated shared.entry.now result.0 }
+            requires { IsFit shared.now walker × IsHolder shared.now HELD holder }
         { walk_past(waiting, shared, walker, holder) },
         move ||
-            requires { IsSeated shared.now ender }
-        { unregister(waiting, shared, &mut ender, 1) },
+            requires { IsFit shared.now ender }
+        { end(waiting, shared, ender) },
     );
     let is_freed = matches!(freed, Some(UnregisterAnswer::Freed { id: 1, .. }));
     let walked = (answer, is_freed, outcomes(&walker));

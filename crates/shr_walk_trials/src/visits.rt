@@ -1,16 +1,14 @@
 //! Visits of a fake shrinker.
 
-ghost use Rattle.shr_walk_trials.specs.Desk.{IsSeated};
-
 use crate::desk::holding::{hold, rest};
 use crate::desk::left::place_of;
 use crate::desk::lists::fill;
-use crate::desk::opening::{close, open};
+use crate::desk::opening::{Desk, close, open, seats_of, worker_of};
 use crate::desk::words::{is_set, take_deferred};
 use crate::fakes::Fake;
 use shr_base::walks::{Ending, Outcome, PassRecord};
-use shr_walk::seats::{Seats, Shared};
 use shr_walk::visiting;
+use shr_walk::worker::Worker;
 use std::alloc::Global;
 use std::sync::Wait;
 use std::test::Fail;
@@ -19,23 +17,19 @@ const PLAIN: &[u8] = b"shrinkers 1\nsize 1 1\ngroup /a max\ncache dentry plain 2
 
 // Visits the place of group 1 with a fake, whose list gets an object behind its first count where `late` is true.
 fn visit<R: Wait>(
-    rt: &R,
-    shared: &Shared,
-    seats: &mut Seats,
+    worker: &mut Worker<'_, R>,
     floor: u32,
     late: bool,
     priority: u8,
-) -> Option<Outcome>
-    requires { IsSeated shared.now seats.old }
-    ensures { IsSeated shared.now seats.new }
-{
+) -> Option<Outcome> {
     let place = place_of(1);
     if priority > 12 {
         return None;
     }
-    let number = hold(shared, seats, place)?;
+    let shared = worker.shared;
+    let number = hold(shared, &mut worker.seats, place)?;
     let mut fake = Fake {
-        rt,
+        rt: worker.rt,
         shared,
         place,
         floor,
@@ -43,6 +37,7 @@ fn visit<R: Wait>(
         calls: 0,
         last: None,
     };
+    let seats = &mut worker.seats;
     let outcome = visiting::visit(shared, seats, &mut fake, place, number, priority, 2, 0);
     rest(shared, seats, place);
     Some(outcome)
@@ -55,10 +50,20 @@ fn visited_late<R: Wait>(
     alloc: Global,
     floor: u32,
 ) -> Result<(Option<Outcome>, Option<bool>), Fail> {
-    let mut desk = open(rt, alloc, PLAIN)?;
-    let outcome = visit(rt, &desk.shared, &mut desk.seats, floor, true, 12);
-    let bit = is_set(&desk.shared, &mut desk.seats, place_of(1));
-    close(desk);
+    let Desk {
+        shared,
+        first,
+        seats,
+    } = open(rt, alloc, PLAIN)?;
+    let mut worker = worker_of(rt, &shared, seats);
+    let outcome = visit(&mut worker, floor, true, 12);
+    let bit = is_set(&mut worker, place_of(1));
+    let seats = seats_of(worker);
+    close(Desk {
+        shared,
+        first,
+        seats,
+    });
     Ok((outcome, bit))
 }
 
@@ -102,11 +107,21 @@ fn visited_without_memory<R: Wait>(
     rt: &R,
     alloc: Global,
 ) -> Result<(Option<Outcome>, Option<u64>), Fail> {
-    let mut desk = open(rt, alloc, PLAIN)?;
-    fill(rt, &desk.shared, &mut desk.seats, place_of(1), 1);
-    let outcome = visit(rt, &desk.shared, &mut desk.seats, 0, false, 0);
-    let deferred = take_deferred(&desk.shared, &mut desk.seats, place_of(1));
-    close(desk);
+    let Desk {
+        shared,
+        first,
+        seats,
+    } = open(rt, alloc, PLAIN)?;
+    let mut worker = worker_of(rt, &shared, seats);
+    fill(&mut worker, place_of(1), 1);
+    let outcome = visit(&mut worker, 0, false, 0);
+    let deferred = take_deferred(&mut worker, place_of(1));
+    let seats = seats_of(worker);
+    close(Desk {
+        shared,
+        first,
+        seats,
+    });
     Ok((outcome, deferred))
 }
 

@@ -1,16 +1,14 @@
 //! Walks by a seat that is used up, and over a list whose journal is full.
 
-ghost use Rattle.shr_walk_trials.specs.Desk.{IsSeated};
-
 use crate::desk::charges::wear;
 use crate::desk::left::{outcome, place_of};
 use crate::desk::lists::fill;
-use crate::desk::opening::{close, open, open_short};
+use crate::desk::opening::{Desk, close, open, open_short, seats_of, worker_of};
 use crate::desk::walks::walk;
 use crate::desk::words::count;
 use shr_base::replies::Spent;
 use shr_base::walks::{Ending, Outcome, PassRecord, WalkAnswer};
-use shr_walk::seats::{Seats, Shared};
+use shr_walk::worker::Worker;
 use std::alloc::Global;
 use std::sync::Wait;
 use std::test::Fail;
@@ -36,22 +34,30 @@ const fn worn(len: u32, spent: Spent) -> PassRecord {
 type Walked = (Option<WalkAnswer>, Option<Outcome>, u32);
 
 // Walks group 1.
-fn walked<R: Wait>(rt: &R, shared: &Shared, seats: &mut Seats) -> Walked
-    requires { IsSeated shared.now seats.old }
-{
-    let answer = walk(rt, shared, seats, 1, 0, false);
-    let first = outcome(seats, 0, 0);
-    let left = count(shared, seats, place_of(1)).map_or(0, |seen| seen.len);
+fn walked<R: Wait>(worker: &mut Worker<'_, R>) -> Walked {
+    let answer = walk(worker, 1, 0, false);
+    let first = outcome(&worker.seats, 0, 0);
+    let left = count(worker, place_of(1)).map_or(0, |seen| seen.len);
     (answer, first, left)
 }
 
 // A walk of three objects by a seat whose charges are used up.
 fn walked_without_charges<R: Wait>(rt: &R, alloc: Global) -> Result<Walked, Fail> {
-    let mut desk = open(rt, alloc, PLAIN)?;
-    fill(rt, &desk.shared, &mut desk.seats, place_of(1), 3);
-    wear(&desk.shared, &mut desk.seats);
-    let walked = walked(rt, &desk.shared, &mut desk.seats);
-    close(desk);
+    let Desk {
+        shared,
+        first,
+        seats,
+    } = open(rt, alloc, PLAIN)?;
+    let mut worker = worker_of(rt, &shared, seats);
+    fill(&mut worker, place_of(1), 3);
+    wear(&mut worker);
+    let walked = walked(&mut worker);
+    let seats = seats_of(worker);
+    close(Desk {
+        shared,
+        first,
+        seats,
+    });
     Ok(walked)
 }
 
@@ -73,10 +79,20 @@ fn a_seat_without_charges_walks_and_frees_nothing(rt: HostRuntime) -> Result<(),
 
 // A walk of two objects of a list whose journal takes two entries.
 fn walked_without_entries<R: Wait>(rt: &R, alloc: Global) -> Result<Walked, Fail> {
-    let mut desk = open_short(rt, alloc, PLAIN, 2)?;
-    fill(rt, &desk.shared, &mut desk.seats, place_of(1), 2);
-    let walked = walked(rt, &desk.shared, &mut desk.seats);
-    close(desk);
+    let Desk {
+        shared,
+        first,
+        seats,
+    } = open_short(rt, alloc, PLAIN, 2)?;
+    let mut worker = worker_of(rt, &shared, seats);
+    fill(&mut worker, place_of(1), 2);
+    let walked = walked(&mut worker);
+    let seats = seats_of(worker);
+    close(Desk {
+        shared,
+        first,
+        seats,
+    });
     Ok(walked)
 }
 

@@ -30,6 +30,10 @@ none_uncharged parents by s w may = let few = not_spent s.uses may in record {
   rest = refl;
 }
 
+-- what was uncharged after the core's part alone had changed
+pub uncharged_after : (parents : List ℕ) (by : Serial) (objects : List Object) (s : WorkerState) (w : View) (t : WorkerState) → UnchargesEach parents by objects (record s { core = w }) t → UnchargesEach parents by objects s t
+uncharged_after parents by objects s w t h = record { ops = h.ops; downs = h.downs; uses = h.uses; noted = h.noted; rise = h.rise; few = h.few; rest = h.rest }
+
 module _ (shape : Shape) (items : shape.most_items ≤ 20000) (groups : groups_in shape ≤ 256) (four : shape.nodes ≤ 4) (v : View) (decl : ℕ) (by : Serial) (id entry from to : ℕ) (objects : List Object) (w : View) where
   -- the objects of an id that was freed
   pub freed_drained : Frees shape v decl by id entry from to objects w → AreDrained (groups_in shape) objects

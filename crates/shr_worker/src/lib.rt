@@ -2,7 +2,6 @@
 #![tactic(auto)]
 
 pub mod commands;
-pub mod isolations;
 pub mod making;
 pub mod pools;
 pub mod reclaims;

@@ -10,57 +10,58 @@ ghost use Rattle.shr_worker.specs.Plain.{Grabs, Releases, WalksIf, is_due, is_wa
 
 use crate::replies::{grab_reply, release_reply};
 use shr_base::memory::Memory;
-use shr_base::places::Serial;
 use shr_base::replies::{Answered, Reply};
 use shr_base::scripts::Script;
 use shr_opening::replies::unfound;
 use shr_plain::{PlainSeat, Pools};
+use shr_walk::worker::Worker;
 use std::sync::Wait;
 
 /// Releases units to a pool.
 ///
 /// It waits for the pool's room. `Full`, `Worn` and `Memory` leave the pool as it was. Our own.
 pub fn release<R: Wait>(
-    rt: &R,
-    script: &Script,
+    worker: &Worker<'_, R>,
     pools: &Pools,
     plain: &mut PlainSeat,
-    by: Serial,
     node: u8,
     pool: u8,
     units: u32,
 ) -> Answered
-    requires pools { ArePoolsOf script.now pools.now }
-    requires within { IsCommandWithin (content_of script.now) (commands.Release node pool units) }
+    requires pools { ArePoolsOf worker.now.shared.script pools.now }
+    requires within { IsCommandWithin (content_of worker.now.shared.script)
+        (commands.Release node pool units) }
     requires seat { IsOf pools.now plain.old }
     ensures seat { IsOf pools.now plain.new }
-    ensures releases { Releases script.now by node pool units result
+    ensures releases { Releases worker.now.shared.script worker.now.by node pool units result
         (state_of plain.old) (state_of plain.new) }
 {
     let place = pools.place(pool, node);
-    unfound(release_reply(place, pools.release(rt, plain, by, pool, node, units)))
+    let answer = pools.release(worker.rt, plain, worker.by, pool, node, units);
+    unfound(release_reply(place, answer))
 }
 
 /// Grabs a unit of a pool.
 ///
 /// It waits for the pool's room. `Worn` and `Memory` leave the pool as it was. Our own.
 pub fn grab<R: Wait>(
-    rt: &R,
-    script: &Script,
+    worker: &Worker<'_, R>,
     pools: &Pools,
     plain: &mut PlainSeat,
-    by: Serial,
     node: u8,
     pool: u8,
 ) -> Answered
-    requires pools { ArePoolsOf script.now pools.now }
-    requires within { IsCommandWithin (content_of script.now) (commands.Grab node pool) }
+    requires pools { ArePoolsOf worker.now.shared.script pools.now }
+    requires within { IsCommandWithin (content_of worker.now.shared.script)
+        (commands.Grab node pool) }
     requires seat { IsOf pools.now plain.old }
     ensures seat { IsOf pools.now plain.new }
-    ensures grabs { Grabs script.now by node pool result (state_of plain.old) (state_of plain.new) }
+    ensures grabs { Grabs worker.now.shared.script worker.now.by node pool result
+        (state_of plain.old) (state_of plain.new) }
 {
     let place = pools.place(pool, node);
-    unfound(grab_reply(place, pools.grab(rt, plain, by, pool, node)))
+    let answer = pools.grab(worker.rt, plain, worker.by, pool, node);
+    unfound(grab_reply(place, answer))
 }
 
 // Whether a reply is that of walks which no want of memory cut short.
@@ -92,30 +93,28 @@ pub(crate) fn is_due_after(script: &Script, group: u16, reply: &Reply) -> bool
 /// Linux: what `shrink_slab` in mm/shrinker.c does for the root with the shrinkers that aren't
 /// `SHRINKER_MEMCG_AWARE`.
 pub(crate) fn walk_if<R: Wait>(
-    rt: &R,
-    script: &Script,
+    worker: &Worker<'_, R>,
     pools: &Pools,
     plain: &mut PlainSeat,
-    by: Serial,
     node: u8,
     priority: u8,
     due: bool,
 ) -> Result<(), Memory>
-    requires pools { ArePoolsOf script.now pools.now }
-    requires node { node < script.now.nodes }
+    requires pools { ArePoolsOf worker.now.shared.script pools.now }
+    requires node { node < worker.now.shared.script.nodes }
     requires priority { priority ≤ 12 }
     requires few { length plain.old.walks.items < 2 ^ 32 }
     requires seat { IsOf pools.now plain.old }
     ensures seat { IsOf pools.now plain.new }
     ensures few { length plain.new.walks.items ≤ length plain.old.walks.items + 1 }
     ensures kept { OnErr result (state_of plain.new ≡ state_of plain.old) }
-    ensures walks { OnOk result (WalksIf due script.now by node priority
+    ensures walks { OnOk result (WalksIf due worker.now.shared.script worker.now.by node priority
         (state_of plain.old) (state_of plain.new)) }
 {
     if !due {
         return Ok(());
     }
     plain.walks.reserve(1)?;
-    pools.walk_plain(rt, plain, by, node, priority);
+    pools.walk_plain(worker.rt, plain, worker.by, node, priority);
     Ok(())
 }

@@ -1,11 +1,13 @@
 //! The run of a worker.
 
-ghost use Rattle.std.specs.Prelude.{◌≡◌, ◌<◌, [], IsTrue, OnOk, length};
+ghost use Rattle.std.specs.Prelude.{◌≡◌, ◌+◌, ◌<◌, ◌≤◌, ◌^◌, [], IfOk, IsTrue, OnOk, length, slice_get, Some};
 ghost use Rattle.shr_plain.specs.Opening.{ArePoolsOf};
 ghost use Rattle.shr_plain.specs.Seat.{IsOf};
+ghost use Rattle.shr_script.specs.Bounds.{IsCommandWithin};
+ghost use Rattle.shr_script.specs.Content.{content_of};
 ghost use Rattle.shr_walk.specs.Sharing.{IsShared};
 ghost use Rattle.shr_walk.specs.State.{IsRested};
-ghost use Rattle.shr_worker.specs.Chain.{IsWorkOf, commands_of, crew_of};
+ghost use Rattle.shr_worker.specs.Chain.{DeedGives, IsWorkOf, commands_of, crew_at, crew_of, serial_of};
 ghost use Rattle.shr_worker.specs.Tasks.{IsTask};
 
 use crate::commands::run_command;
@@ -15,10 +17,12 @@ use shr_base::log::Log;
 use shr_base::memory::Memory;
 use shr_base::places::Serial;
 use shr_base::replies::Answered;
+use shr_base::scripts::Command;
 use shr_base::walks::Isolation;
 use shr_outside::outside::Gate;
-use shr_plain::Pools;
+use shr_plain::{PlainSeat, Pools};
 use shr_walk::seats::Shared;
+use shr_walk::worker::Worker;
 use std::sync::Wait;
 
 // Room for what so many commands note, by a guess: most are puts to a group below the root. Each of
@@ -29,52 +33,70 @@ fn expect_notes(uses: &mut Log<UseStep>, commands: usize)
     let _ = uses.reserve(commands.saturating_mul(2).saturating_add(4));
 }
 
+// Runs the worker's command of this number.
+fn run_next<R: Wait>(
+    worker: &mut Worker<'_, R>,
+    pools: &Pools,
+    plain: &mut PlainSeat,
+    isolations: &mut Log<Isolation>,
+    number: u32,
+    command: &Command,
+) -> Result<Answered, Memory>
+    requires pools { ArePoolsOf worker.old.shared.script pools.now }
+    requires within { IsCommandWithin (content_of worker.old.shared.script) command.now }
+    requires plain_seat { IsOf pools.now plain.old }
+    requires few { length plain.old.walks.items < 2 ^ 32 }
+    ensures shared { worker.new.shared ≡ worker.old.shared }
+    ensures worker { worker.new.by.worker ≡ worker.old.by.worker }
+    ensures plain_seat { IsOf pools.now plain.new }
+    ensures few { length plain.new.walks.items ≤ length plain.old.walks.items + 1 }
+    ensures deed { IfOk result (λ a. DeedGives worker.old.shared
+        (serial_of worker.old.by.worker number) command.now a
+        (crew_at worker.old plain.old isolations.old.items)
+        (crew_at worker.new plain.new isolations.new.items)) }
+{
+    worker.by = Serial {
+        worker: worker.by.worker,
+        command: number,
+    };
+    let answered = run_command(worker, pools, plain, isolations, command)?;
+    // Its seats are at rest again.
+    let _seats = &worker.seats;
+    Ok(answered)
+}
+
 // Runs the commands of a worker in order, as long as there is memory for the answers and the notes.
 fn run_commands<R: Wait, G: Gate>(
-    rt: &R,
-    shared: &Shared,
+    worker: &mut Worker<'_, R>,
     pools: &Pools,
-    task: &mut Task,
+    plain: &mut PlainSeat,
     answers: &mut Log<Answered>,
     isolations: &mut Log<Isolation>,
     gate: &G,
 ) -> Result<(), Memory>
-    requires shared { IsShared shared.now }
-    requires pools { ArePoolsOf shared.now.script pools.now }
-    requires task { IsTask shared.now pools.now task.old }
-    requires none { answers.old.items ≡ [] }
-    requires no_isolation { isolations.old.items ≡ [] }
-    ensures number { task.new.number ≡ task.old.number }
-    ensures rested { IsRested shared.now task.new.seats }
-    ensures plain { IsOf pools.now task.new.plain }
+    requires number { worker.old.by.worker < length worker.old.shared.script.workers.items }
+    requires pools { ArePoolsOf worker.old.shared.script pools.now }
+    requires plain_seat { IsOf pools.now plain.old }
+    requires none { (plain.old.walks.items ≡ []) × (answers.old.items ≡ [])
+        × (isolations.old.items ≡ []) }
+    ensures shared { worker.new.shared ≡ worker.old.shared }
+    ensures plain { IsOf pools.now plain.new }
     ensures all { OnOk result (length answers.new.items
-        ≡ length (commands_of shared.now.script task.old.number)) }
-    ensures work { OnOk result (IsWorkOf shared.now task.old.number answers.new.items
-        (crew_of task.old.seats task.old.plain [])
-        (crew_of task.new.seats task.new.plain isolations.new.items)) }
+        ≡ length (commands_of worker.old.shared.script worker.old.by.worker)) }
+    ensures work { OnOk result (IsWorkOf worker.old.shared worker.old.by.worker answers.new.items
+        (crew_at worker.old plain.old [])
+        (crew_at worker.new plain.new isolations.new.items)) }
 {
-    let Some(mine) = shared.script.workers.get(task.number as usize) else {
+    let number = worker.by.worker;
+    let Some(mine) = worker.shared.script.workers.get(number as usize) else {
         unreachable!()
     };
     answers.reserve(mine.commands.len())?;
-    expect_notes(&mut task.seats.cache.uses, mine.commands.len());
+    expect_notes(&mut worker.seats.cache.uses, mine.commands.len());
     for (k, command) in mine.commands.as_slice().iter().enumerate() {
         answers.reserve(1)?;
-        let by = Serial {
-            worker: task.number,
-            command: k as u32,
-        };
-        gate.before(by.worker, by.command);
-        let answered = run_command(
-            rt,
-            shared,
-            pools,
-            &mut task.seats,
-            &mut task.plain,
-            isolations,
-            by,
-            command,
-        )?;
+        gate.before(number, k as u32);
+        let answered = run_next(worker, pools, plain, isolations, k as u32, command)?;
         answers.push(answered);
     }
     Ok(())
@@ -104,27 +126,35 @@ pub fn run_worker<R: Wait, G: Gate>(
         (crew_of task.seats task.plain [])
         (crew_of result.seats result.plain result.isolations.items) }
 {
-    let mut task = task;
-    let mut answers = Log::new(shared.core.alloc);
-    let mut isolations = Log::new(shared.core.alloc);
-    let whole = run_commands(
-        rt,
-        shared,
-        pools,
-        &mut task,
-        &mut answers,
-        &mut isolations,
-        gate,
-    )
-    .is_ok();
     let Task {
         number,
         seats,
         plain,
     } = task;
+    let mut plain = plain;
+    let mut answers = Log::new(shared.core.alloc);
+    let mut isolations = Log::new(shared.core.alloc);
+    let mut worker = Worker {
+        rt,
+        shared,
+        seats,
+        by: Serial {
+            worker: number,
+            command: 0,
+        },
+    };
+    let whole = run_commands(
+        &mut worker,
+        pools,
+        &mut plain,
+        &mut answers,
+        &mut isolations,
+        gate,
+    )
+    .is_ok();
     WorkerResult {
         number,
-        seats,
+        seats: worker.seats,
         plain,
         answers,
         isolations,

@@ -2,7 +2,8 @@
 
 ghost use Rattle.std.specs.Prelude.{◌≡◌, true, None, IfSome};
 ghost use Rattle.shr_core.specs.Seats.{IsPlaceOf, shape_of};
-ghost use Rattle.shr_walk_trials.specs.Desk.{IsHolder, IsSeated};
+ghost use Rattle.shr_walk.specs.Acting.{IsFit};
+ghost use Rattle.shr_walk_trials.specs.Desk.{IsHolder};
 
 use shr_base::places::Place;
 use shr_core::lookups::Lookup;
@@ -18,9 +19,9 @@ pub fn is_place(shared: &Shared, place: Place) -> bool
 
 /// Looks the id of a place up, and tells the number of the lookup where it is held now.
 pub fn hold(shared: &Shared, seats: &mut Seats, place: Place) -> Option<u32>
-    requires { IsSeated shared.now seats.old }
+    requires { IsFit shared.now seats.old }
     ensures held { IfSome result (λ n. IsHolder shared.now place seats.new) }
-    ensures free { result ≡ None → IsSeated shared.now seats.new }
+    ensures free { result ≡ None → IsFit shared.now seats.new }
 {
     if !is_place(shared, place) {
         return None;
@@ -35,7 +36,7 @@ pub fn hold(shared: &Shared, seats: &mut Seats, place: Place) -> Option<u32>
 /// Gives the reference to the held id back.
 pub fn rest(shared: &Shared, seats: &mut Seats, place: Place)
     requires { IsHolder shared.now place seats.old }
-    ensures { IsSeated shared.now seats.new }
+    ensures { IsFit shared.now seats.new }
 {
     shared.core.put(&mut seats.cache.core);
 }

@@ -1,14 +1,12 @@
 //! What a tenant does with one object. Nothing is charged for an object.
 
-ghost use Rattle.shr_walk_trials.specs.Desk.{IsSeated};
-
 use crate::desk::holding::{hold, rest};
 use shr_base::objects::Object;
 use shr_base::places::{Place, Serial};
 use shr_base::text::Text;
 use shr_node::answers::{NodeAdd, NodeDrop};
 use shr_node::tenants;
-use shr_walk::seats::{Seats, Shared};
+use shr_walk::worker::Worker;
 use std::sync::Wait;
 
 /// The command that makes each call.
@@ -18,16 +16,8 @@ pub const BY: Serial = Serial {
 };
 
 /// Adds an object of this key, whose birth group is that of the place.
-pub fn add<R: Wait>(
-    rt: &R,
-    shared: &Shared,
-    seats: &mut Seats,
-    place: Place,
-    key: &[u8],
-) -> Option<NodeAdd>
-    requires { IsSeated shared.now seats.old }
-    ensures { IsSeated shared.now seats.new }
-{
+pub fn add<R: Wait>(worker: &mut Worker<'_, R>, place: Place, key: &[u8]) -> Option<NodeAdd> {
+    let shared = worker.shared;
     let object = Object {
         serial: BY,
         birth: place.group,
@@ -36,29 +26,19 @@ pub fn add<R: Wait>(
         marked: false,
         pinned: false,
     };
-    hold(shared, seats, place)?;
-    let core = &shared.core;
-    let answer = tenants::add(
-        rt,
-        core,
-        &mut seats.cache.core,
-        place.id,
-        place.node,
-        object,
-    );
-    rest(shared, seats, place);
+    hold(shared, &mut worker.seats, place)?;
+    let seat = &mut worker.seats.cache.core;
+    let answer = tenants::add(worker.rt, &shared.core, seat, place.id, place.node, object);
+    rest(shared, &mut worker.seats, place);
     Some(answer)
 }
 
 /// Adds so many objects whose keys are the two bytes of their numbers, and tells how many were added.
-pub fn fill<R: Wait>(rt: &R, shared: &Shared, seats: &mut Seats, place: Place, objects: u16) -> u32
-    requires { IsSeated shared.now seats.old }
-    ensures { IsSeated shared.now seats.new }
-{
+pub fn fill<R: Wait>(worker: &mut Worker<'_, R>, place: Place, objects: u16) -> u32 {
     let mut added: u32 = 0;
     for number in 0..objects {
         let key = number.to_le_bytes();
-        let answer = add(rt, shared, seats, place, &key);
+        let answer = add(worker, place, &key);
         added = added.wrapping_add(u32::from(is_added(&answer)));
     }
     added
@@ -70,21 +50,13 @@ pub fn is_added(answer: &Option<NodeAdd>) -> bool {
 }
 
 /// Takes an object out.
-pub fn drop_key<R: Wait>(
-    rt: &R,
-    shared: &Shared,
-    seats: &mut Seats,
-    place: Place,
-    key: &[u8],
-) -> Option<NodeDrop>
-    requires { IsSeated shared.now seats.old }
-    ensures { IsSeated shared.now seats.new }
-{
+pub fn drop_key<R: Wait>(worker: &mut Worker<'_, R>, place: Place, key: &[u8]) -> Option<NodeDrop> {
+    let shared = worker.shared;
     let key = Text::of(shared.core.alloc, key).ok()?;
-    hold(shared, seats, place)?;
+    hold(shared, &mut worker.seats, place)?;
     let Place { id, node, group } = place;
-    let core = &shared.core;
-    let answer = tenants::drop_key(rt, core, &mut seats.cache.core, id, node, BY, group, &key);
-    rest(shared, seats, place);
+    let seat = &mut worker.seats.cache.core;
+    let answer = tenants::drop_key(worker.rt, &shared.core, seat, id, node, BY, group, &key);
+    rest(shared, &mut worker.seats, place);
     Some(answer)
 }

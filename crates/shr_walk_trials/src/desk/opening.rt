@@ -1,9 +1,11 @@
 //! A desk at the start.
 
-ghost use Rattle.std.specs.Prelude.{◌+◌, ◌<◌, ◌≤◌, ◌^◌, IfOk};
+ghost use Rattle.std.specs.Prelude.{◌≡◌, ◌+◌, ◌<◌, ◌≤◌, ◌^◌, IfOk};
+ghost use Rattle.shr_walk.specs.Acting.{IsFit};
 ghost use Rattle.shr_walk.specs.Sharing.{IsShared};
-ghost use Rattle.shr_walk_trials.specs.Desk.{IsFirst, IsSeated};
+ghost use Rattle.shr_walk_trials.specs.Desk.{IsFirst};
 
+use crate::desk::lists::BY;
 use crate::desk::registrations::register;
 use shr_base::log::Log;
 use shr_base::memory::Memory;
@@ -12,6 +14,7 @@ use shr_registry::answers::RegisterAnswer;
 use shr_script::read::read_script;
 use shr_seats::shape::Shape;
 use shr_walk::seats::{CacheSeat, Seats, Shared};
+use shr_walk::worker::Worker;
 use std::alloc::Global;
 use std::sync::Wait;
 use std::test::Fail;
@@ -70,7 +73,7 @@ pub fn another(shared: &Shared, first: &mut Seats, splits: u8) -> Result<Seats, 
     requires first { IsFirst shared.now first.old splits }
     requires few { splits < 64 }
     ensures first { IfOk result (λ s. IsFirst shared.now first.new (splits + 1)) }
-    ensures seats { IfOk result (λ s. IsSeated shared.now s) }
+    ensures seats { IfOk result (λ s. IsFit shared.now s) }
 {
     let core = shared.core.split(&mut first.cache.core)?;
     let charge = shared.charge.split(&mut first.cache.charge)?;
@@ -88,13 +91,32 @@ pub fn another(shared: &Shared, first: &mut Seats, splits: u8) -> Result<Seats, 
     })
 }
 
-// Registers each declaration that is on, in order.
-fn register_all<R: Wait>(rt: &R, shared: &Shared, seats: &mut Seats) -> Result<(), Fail>
-    requires { IsSeated shared.now seats.old }
-    ensures { IsSeated shared.now seats.new }
+/// The worker of these seats.
+pub fn worker_of<'a, R: Wait>(rt: &'a R, shared: &'a Shared, seats: Seats) -> Worker<'a, R>
+    requires { IsFit shared.now seats }
+    ensures { result.shared ≡ shared.entry.now }
 {
-    for decl in 0..shared.core.shape().decls {
-        if is_on(shared, decl) && !is_registered(&register(rt, shared, seats, decl)) {
+    Worker {
+        rt,
+        shared,
+        seats,
+        by: BY,
+    }
+}
+
+/// The seats of a worker that is done.
+pub fn seats_of<R: Wait>(worker: Worker<'_, R>) -> Seats
+    ensures { IsFit worker.entry.shared result }
+{
+    worker.seats
+}
+
+// Registers each declaration that is on, in order.
+fn register_all<R: Wait>(worker: &mut Worker<'_, R>) -> Result<(), Fail>
+    ensures { worker.new.shared ≡ worker.old.shared }
+{
+    for decl in 0..worker.shared.core.shape().decls {
+        if is_on(worker.shared, decl) && !is_registered(&register(worker, decl)) {
             return Err(Fail::from("a declaration was not registered"));
         }
     }
@@ -118,11 +140,11 @@ fn first_worker<R: Wait>(rt: &R, shared: &Shared, first: &mut Seats) -> Result<S
     requires shared { IsShared shared.now }
     requires first { IsFirst shared.now first.old 0 }
     ensures first { IfOk result (λ s. IsFirst shared.now first.new 1) }
-    ensures seats { IfOk result (λ s. IsSeated shared.now s) }
+    ensures seats { IfOk result (λ s. IsFit shared.now s) }
 {
-    let mut seats = another(shared, first, 0)?;
-    register_all(rt, shared, &mut seats)?;
-    Ok(seats)
+    let mut worker = worker_of(rt, shared, another(shared, first, 0)?);
+    register_all(&mut worker)?;
+    Ok(seats_of(worker))
 }
 
 // A desk of these tables, whose caches that are on are registered.
@@ -130,7 +152,7 @@ fn desk_of<R: Wait>(rt: &R, shared: Shared, mut first: Seats) -> Result<Desk, Fa
     requires shared { IsShared shared }
     requires first { IsFirst shared first 0 }
     ensures first { IfOk result (λ d. IsFirst d.shared d.first 1) }
-    ensures seats { IfOk result (λ d. IsSeated d.shared d.seats) }
+    ensures seats { IfOk result (λ d. IsFit d.shared d.seats) }
 {
     let seats = first_worker(rt, &shared, &mut first)?;
     Ok(Desk {
@@ -143,7 +165,7 @@ fn desk_of<R: Wait>(rt: &R, shared: Shared, mut first: Seats) -> Result<Desk, Fa
 /// A desk for a script, whose caches that are on are registered. It has one worker's seats.
 pub fn open<R: Wait>(rt: &R, alloc: Global, text: &[u8]) -> Result<Desk, Fail>
     ensures first { IfOk result (λ d. IsFirst d.shared d.first 1) }
-    ensures seats { IfOk result (λ d. IsSeated d.shared d.seats) }
+    ensures seats { IfOk result (λ d. IsFit d.shared d.seats) }
 {
     let (shared, first) = tables_of(alloc, text)?;
     desk_of(rt, shared, first)
@@ -158,7 +180,7 @@ pub fn open_short<R: Wait>(
 ) -> Result<Desk, Fail>
     requires { most_entries ≤ 2 ^ 31 }
     ensures first { IfOk result (λ d. IsFirst d.shared d.first 1) }
-    ensures seats { IfOk result (λ d. IsSeated d.shared d.seats) }
+    ensures seats { IfOk result (λ d. IsFit d.shared d.seats) }
 {
     let (shared, first) = tables_of(alloc, text)?;
     let (shared, first) = shorten(shared, first, most_entries)?;

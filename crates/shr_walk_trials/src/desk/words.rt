@@ -1,66 +1,54 @@
 //! Single steps on the words: counts, bits, phases and deferred work.
 
-ghost use Rattle.shr_walk_trials.specs.Desk.{IsSeated};
-
 use crate::desk::holding::is_place;
 use shr_base::places::Place;
 use shr_core::counts::Seen;
-use shr_walk::seats::{Seats, Shared};
+use shr_walk::worker::Worker;
+use std::sync::Wait;
 
 /// The count of a place.
-pub fn count(shared: &Shared, seats: &mut Seats, place: Place) -> Option<Seen>
-    requires { IsSeated shared.now seats.old }
-    ensures { IsSeated shared.now seats.new }
-{
-    if !is_place(shared, place) {
+pub fn count<R: Wait>(worker: &mut Worker<'_, R>, place: Place) -> Option<Seen> {
+    if !is_place(worker.shared, place) {
         return None;
     }
-    Some(shared.core.count(&mut seats.cache.core, place))
+    let core = &worker.shared.core;
+    Some(core.count(&mut worker.seats.cache.core, place))
 }
 
 /// Whether the bit of a place below the root is set, for an id below 64.
-pub fn is_set(shared: &Shared, seats: &mut Seats, place: Place) -> Option<bool>
-    requires { IsSeated shared.now seats.old }
-    ensures { IsSeated shared.now seats.new }
-{
-    if !is_place(shared, place) || place.group == 0 || place.id >= 64 {
+pub fn is_set<R: Wait>(worker: &mut Worker<'_, R>, place: Place) -> Option<bool> {
+    if !is_place(worker.shared, place) || place.group == 0 || place.id >= 64 {
         return None;
     }
-    let core = &shared.core;
-    let bits = core.map(&mut seats.cache.core, place.node, place.group, 0);
+    let core = &worker.shared.core;
+    let bits = core.map(&mut worker.seats.cache.core, place.node, place.group, 0);
     Some((bits >> place.id) % 2 == 1)
 }
 
 /// The phase of an id: modulo 3 it is 0 where the id is idle, 1 where it is live, and 2 where it is dying.
-pub fn phase(shared: &Shared, seats: &mut Seats, id: u16) -> Option<u16>
-    requires { IsSeated shared.now seats.old }
-    ensures { IsSeated shared.now seats.new }
-{
-    if id >= shared.core.shape().ids {
+pub fn phase<R: Wait>(worker: &mut Worker<'_, R>, id: u16) -> Option<u16> {
+    let core = &worker.shared.core;
+    if id >= core.shape().ids {
         return None;
     }
-    Some(shared.core.word_of(&mut seats.cache.core, id).phase)
+    Some(core.word_of(&mut worker.seats.cache.core, id).phase)
 }
 
 /// Defers so many objects more at a place, and tells whether there is such a place.
-pub fn defer(shared: &Shared, seats: &mut Seats, place: Place, more: u64) -> bool
-    requires { IsSeated shared.now seats.old }
-    ensures { IsSeated shared.now seats.new }
-{
-    if !is_place(shared, place) {
+pub fn defer<R: Wait>(worker: &mut Worker<'_, R>, place: Place, more: u64) -> bool {
+    if !is_place(worker.shared, place) {
         return false;
     }
-    shared.deferred.give(&mut seats.deferred, place, more);
+    let deferred = &worker.shared.deferred;
+    deferred.give(&mut worker.seats.deferred, place, more);
     true
 }
 
 /// What is deferred at a place. It is deferred there no more.
-pub fn take_deferred(shared: &Shared, seats: &mut Seats, place: Place) -> Option<u64>
-    requires { IsSeated shared.now seats.old }
-    ensures { IsSeated shared.now seats.new }
-{
-    if !is_place(shared, place) {
+pub fn take_deferred<R: Wait>(worker: &mut Worker<'_, R>, place: Place) -> Option<u64> {
+    if !is_place(worker.shared, place) {
         return None;
     }
-    Some(shared.deferred.take(&mut seats.deferred, place))
+    let deferred = &worker.shared.deferred;
+    Some(deferred.take(&mut worker.seats.deferred, place))
 }

@@ -3,24 +3,23 @@ use Rattle.shr_base.specs.declared.replies.Reply.{Reply}
 use Rattle.shr_core.specs.declared.view.View.{View}
 use Rattle.shr_core.specs.Seats.{view_of, shape_of}
 use Rattle.shr_node.specs.Answers.{LookGives}
+use Rattle.shr_walk.specs.Acting.{Acting}
 use Rattle.shr_walk.specs.State.{state_of}
 use Rattle.shr_cache.specs.Gets.{GotFrom}
-use Rattle.shr_cache.proofs.Links.{with_core, called, rested_called}
+use Rattle.shr_cache.proofs.Links.{with_core, asked, fit_called}
 use Rattle.shr_cache.proofs.Stays.{look_stays}
-use Rattle.shr_cache.proofs.Told.{on_cache, got}
+use Rattle.shr_cache.proofs.Told.{got}
 use Rattle.shr_cache.proofs.gets.get.Goals as goal
 
-pub returns-clause-rested : goal.returns-clause-rested
-returns-clause-rested g c =
-    let a = c.args in let v = view_of c.open.new.seats.cache.core in let w = view_of c.look-answer.new.seat in
-    rested_called a.shared.now c.in-Held.found.id c.open.new.seats c.look-answer.new.seat c.put.new.seat c.in-Held.ensures.after
-    (look_stays (shape_of a.shared.now.core) v w c.in-Held.found.id a.node a.by a.group a.key.now c.look-answer.result c.look-answer.ensures.answer) c.put.ensures.seat c.put.ensures.back
+pub invariant_of-worker-2 : goal.invariant_of-worker-2
+invariant_of-worker-2 g c = let a = c.args in let t = a.target in let at = c.worker.inside in let x = at.shared.now in let f = c.in-Held.found in let s = c.open.new.seats in let e = c.look-answer in
+    fit_called x f.id s e.new.seat c.put.new.seat c.worker.invariant.shared c.in-Held.ensures.after
+    (look_stays (shape_of x.core) (view_of s.cache.core) (view_of e.new.seat) f.id t.node at.by t.group a.key.now e.result e.ensures.answer) c.put.ensures.seat c.put.ensures.back
 
 pub returns-clause-got : goal.returns-clause-got
-returns-clause-got g c =
-    let a = c.args in let x = a.shared.now in let f = c.in-Held.found in let s = state_of a.seats.now in let opened = c.open.new.seats in
-    let t = state_of (with_core opened c.put.new.seat) in
-    let call = λ (v w : View). LookGives (shape_of x.core) v f.id a.node a.by a.group a.key.now c.look-answer.result w in
-    let calls = called call opened c.look-answer.new.seat c.put.new.seat c.look-answer.ensures.answer c.put.ensures.back in
-    subst (λ (r : Reply). GotFrom x a.by a.group a.node a.decl a.key.now f r s t) (sym c.reply_of.ensures)
-    (got x a.by a.group a.node a.decl a.key.now f s t c.look-answer.result (on_cache x a.group a.decl f call s (state_of opened) t c.in-Held.ensures.opened calls))
+returns-clause-got g c = let a = c.args in let t = a.target in let at = c.worker.inside in let x = at.shared.now in let f = c.in-Held.found in let s = state_of at.seats in let e = c.look-answer in
+    let last = state_of (with_core c.open.new.seats c.put.new.seat) in
+    let call = λ (v w : View). LookGives (shape_of x.core) v f.id t.node at.by t.group a.key.now e.result w in
+    let asks = asked x t.group t.decl f call s c.open.new.seats e.new.seat c.put.new.seat c.in-Held.ensures.opened e.ensures.answer c.put.ensures.back in
+    subst (λ (w : Acting). GotFrom w.shared w.by t.group t.node t.decl a.key.now f c.reply_of.result w.state last) c.worker.view_is
+    (subst (λ (r : Reply). GotFrom x at.by t.group t.node t.decl a.key.now f r s last) (sym c.reply_of.ensures) (got x at.by t.group t.node t.decl a.key.now f s last e.result asks))

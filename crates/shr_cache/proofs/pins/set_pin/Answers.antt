@@ -3,24 +3,23 @@ use Rattle.shr_base.specs.declared.replies.Reply.{Reply}
 use Rattle.shr_core.specs.declared.view.View.{View}
 use Rattle.shr_core.specs.Seats.{view_of, shape_of}
 use Rattle.shr_node.specs.Answers.{PinGives}
+use Rattle.shr_walk.specs.Acting.{Acting}
 use Rattle.shr_walk.specs.State.{state_of}
 use Rattle.shr_cache.specs.Pins.{PinnedFrom}
-use Rattle.shr_cache.proofs.Links.{with_core, called, rested_called}
+use Rattle.shr_cache.proofs.Links.{with_core, asked, fit_called}
 use Rattle.shr_cache.proofs.Stays.{pin_stays}
-use Rattle.shr_cache.proofs.Told.{on_cache, pinned}
+use Rattle.shr_cache.proofs.Told.{pinned}
 use Rattle.shr_cache.proofs.pins.set_pin.Goals as goal
 
-pub returns-clause-rested : goal.returns-clause-rested
-returns-clause-rested g c =
-    let a = c.args in let v = view_of c.open.new.seats.cache.core in let w = view_of c.set_pin-answer.new.seat in
-    rested_called a.shared.now c.in-Held.found.id c.open.new.seats c.set_pin-answer.new.seat c.put.new.seat c.in-Held.ensures.after
-    (pin_stays (shape_of a.shared.now.core) v w c.in-Held.found.id a.node a.by a.group a.key.now a.pinned c.set_pin-answer.result c.set_pin-answer.ensures.answer) c.put.ensures.seat c.put.ensures.back
+pub invariant_of-worker-2 : goal.invariant_of-worker-2
+invariant_of-worker-2 g c = let a = c.args in let t = a.target in let at = c.worker.inside in let x = at.shared.now in let f = c.in-Held.found in let s = c.open.new.seats in let e = c.set_pin-answer in
+    fit_called x f.id s e.new.seat c.put.new.seat c.worker.invariant.shared c.in-Held.ensures.after
+    (pin_stays (shape_of x.core) (view_of s.cache.core) (view_of e.new.seat) f.id t.node at.by t.group a.key.now a.pinned e.result e.ensures.answer) c.put.ensures.seat c.put.ensures.back
 
 pub returns-clause-pinned : goal.returns-clause-pinned
-returns-clause-pinned g c =
-    let a = c.args in let x = a.shared.now in let f = c.in-Held.found in let s = state_of a.seats.now in let opened = c.open.new.seats in
-    let t = state_of (with_core opened c.put.new.seat) in
-    let call = λ (v w : View). PinGives (shape_of x.core) v f.id a.node a.by a.group a.key.now a.pinned c.set_pin-answer.result w in
-    let calls = called call opened c.set_pin-answer.new.seat c.put.new.seat c.set_pin-answer.ensures.answer c.put.ensures.back in
-    subst (λ (r : Reply). PinnedFrom x a.by a.group a.node a.decl a.key.now a.pinned f r s t) (sym c.reply_of.ensures)
-    (pinned x a.by a.group a.node a.decl a.key.now f s t a.pinned c.set_pin-answer.result (on_cache x a.group a.decl f call s (state_of opened) t c.in-Held.ensures.opened calls))
+returns-clause-pinned g c = let a = c.args in let t = a.target in let at = c.worker.inside in let x = at.shared.now in let f = c.in-Held.found in let s = state_of at.seats in let e = c.set_pin-answer in
+    let last = state_of (with_core c.open.new.seats c.put.new.seat) in
+    let call = λ (v w : View). PinGives (shape_of x.core) v f.id t.node at.by t.group a.key.now a.pinned e.result w in
+    let asks = asked x t.group t.decl f call s c.open.new.seats e.new.seat c.put.new.seat c.in-Held.ensures.opened e.ensures.answer c.put.ensures.back in
+    subst (λ (w : Acting). PinnedFrom w.shared w.by t.group t.node t.decl a.key.now a.pinned f c.reply_of.result w.state last) c.worker.view_is
+    (subst (λ (r : Reply). PinnedFrom x at.by t.group t.node t.decl a.key.now a.pinned f r s last) (sym c.reply_of.ensures) (pinned x at.by t.group t.node t.decl a.key.now f s last a.pinned e.result asks))

@@ -1,26 +1,27 @@
 use Rattle.std.proofs.Common.{sym, subst}
+use Rattle.shr_base.specs.declared.objects.Object.{Object}
 use Rattle.shr_base.specs.declared.replies.Reply.{Reply}
 use Rattle.shr_core.specs.declared.view.View.{View}
 use Rattle.shr_core.specs.Seats.{view_of, shape_of}
+use Rattle.shr_model.specs.Objects.{fresh}
 use Rattle.shr_node.specs.Answers.{AddGives}
+use Rattle.shr_walk.specs.Acting.{Acting}
 use Rattle.shr_walk.specs.State.{state_of}
 use Rattle.shr_cache.specs.Puts.{OfferedFrom}
-use Rattle.shr_cache.proofs.Links.{with_core, called, rested_called}
+use Rattle.shr_cache.proofs.Links.{with_core, called, fit_called}
 use Rattle.shr_cache.proofs.Stays.{add_stays}
 use Rattle.shr_cache.proofs.Charged.{offered}
 use Rattle.shr_cache.proofs.puts.offer.Goals as goal
 
-pub returns-clause-rested : goal.returns-clause-rested
-returns-clause-rested g c =
-    let a = c.args in let v = view_of c.find_cache.new.seats.cache.core in let w = view_of c.add-answer.new.seat in
-    rested_called a.shared.now c.in-Held.found.id c.find_cache.new.seats c.add-answer.new.seat c.put.new.seat c.in-Held.ensures.after
-    (add_stays (shape_of a.shared.now.core) v w c.in-Held.found.id a.node a.object c.add-answer.result c.add-answer.ensures.answer) c.put.ensures.seat c.put.ensures.back
+pub invariant_of-worker-2 : goal.invariant_of-worker-2
+invariant_of-worker-2 g c = let a = c.args in let at = c.worker.inside in let x = at.shared.now in let f = c.in-Held.found in let s = c.find_cache.new.seats in let e = c.add-answer in
+    fit_called x f.id s e.new.seat c.put.new.seat c.worker.invariant.shared c.in-Held.ensures.after
+    (add_stays (shape_of x.core) (view_of s.cache.core) (view_of e.new.seat) f.id a.target.node c.new_object-object.result e.result e.ensures.answer) c.put.ensures.seat c.put.ensures.back
 
 pub returns-clause-offered : goal.returns-clause-offered
-returns-clause-offered g c =
-    let a = c.args in let x = a.shared.now in let f = c.in-Held.found in let s = state_of a.seats.now in let found = c.find_cache.new.seats in
-    let t = state_of (with_core found c.put.new.seat) in
-    let call = λ (v w : View). AddGives (shape_of x.core) v f.id a.node a.object c.add-answer.result w in
-    let calls = called call found c.add-answer.new.seat c.put.new.seat c.add-answer.ensures.answer c.put.ensures.back in
-    subst (λ (r : Reply). OfferedFrom x a.node a.decl a.object f r s t) (sym c.reply_of.ensures)
-    (offered x a.node a.decl a.object f c.add-answer.result s t (record { held = state_of found; holds = c.in-Held.ensures.found; calls = calls }))
+returns-clause-offered g c = let a = c.args in let t = a.target in let at = c.worker.inside in let x = at.shared.now in let f = c.in-Held.found in let s = state_of at.seats in let found = c.find_cache.new.seats in let e = c.add-answer in let o = c.new_object-object in
+    let last = state_of (with_core found c.put.new.seat) in
+    let call = λ (v w : View). AddGives (shape_of x.core) v f.id t.node o.result e.result w in
+    subst (λ (w : Acting). OfferedFrom w.shared t.node t.decl (fresh w.by t.group a.key a.value) f c.reply_of.result w.state last) c.worker.view_is
+    (subst (λ (y : Object). OfferedFrom x t.node t.decl y f c.reply_of.result s last) o.ensures (subst (λ (r : Reply). OfferedFrom x t.node t.decl o.result f r s last) (sym c.reply_of.ensures)
+    (offered x t.node t.decl o.result f e.result s last (record { held = state_of found; holds = c.in-Held.ensures.found; calls = called call found e.new.seat c.put.new.seat e.ensures.answer c.put.ensures.back }))))

@@ -6,22 +6,25 @@ use Rattle.shr_base.specs.declared.walks.Isolation.{Isolation}
 use Rattle.shr_model.specs.Places.{place_number}
 use Rattle.shr_core.specs.declared.view.View.{View}
 use Rattle.shr_core.specs.Seats.{IsPlaceOf, shape_of}
+use Rattle.shr_walk.specs.Acting.{Acting}
 use Rattle.shr_walk.specs.Keeping.{Keeps}
 use Rattle.shr_walk.specs.Listers.{Listing}
 use Rattle.shr_walk.specs.Listing.{IsReady}
 use Rattle.shr_walk.specs.Sharing.{IsShared}
 use Rattle.shr_walk.specs.State.{state_of}
-use Rattle.shr_drop.specs.Isolating.{place_of, visitor_of}
+use Rattle.shr_opening.specs.Opening.{IsTargetOf}
+use Rattle.shr_drop.specs.Isolating.{Isolates, place_of, visitor_of}
 use Rattle.shr_drop.specs.Visiting.{AreIsolated, visitor_in}
 use Rattle.shr_drop.proofs.ByLaw.{found_lawful}
-use Rattle.shr_drop.proofs.Turning.{held_still, rested_then}
+use Rattle.shr_drop.proofs.Turning.{held_still, rested_then, with_cache}
 use Rattle.shr_drop.proofs.isolating.isolate.Goals as goal
 
 pub visit_all-made-requires-clause-shared : goal.visit_all-made-requires-clause-shared
-visit_all-made-requires-clause-shared g c = subst (λ (l : Listing). IsShared l.shared) (sym c.new-lister.ensures) c.requires.shared
+visit_all-made-requires-clause-shared g c = subst (λ (l : Listing). IsShared l.shared) (sym c.new-lister.ensures) c.worker.invariant.shared
 
 pub visit_all-made-requires-clause-place : goal.visit_all-made-requires-clause-place
-visit_all-made-requires-clause-place g c = subst (λ (l : Listing). IsPlaceOf (shape_of l.shared.core) l.place) (sym c.new-lister.ensures) (record { id = c.in-Held.ensures.after.near; node = c.requires.node; group = c.requires.group })
+visit_all-made-requires-clause-place g c = let t = subst (λ (w : Acting). IsTargetOf (shape_of w.shared.core) c.args.target) (sym c.worker.view_is) c.requires.target in
+    subst (λ (l : Listing). IsPlaceOf (shape_of l.shared.core) l.place) (sym c.new-lister.ensures) (record { id = c.in-Held.ensures.after.near; node = t.node; group = t.group })
 
 pub visit_all-made-requires-clause-ready : goal.visit_all-made-requires-clause-ready
 visit_all-made-requires-clause-ready g c = let h = c.in-Held.ensures.after in
@@ -32,35 +35,39 @@ put-requires-clause-seat g c = let h = c.in-Held.ensures.after in
     (subst (λ (l : Listing). Keeps l.shared (place_number l.place) l.walk l.by l.policy c.open.new.seats.cache c.visit_all-made.new.seats.cache) c.new-lister.ensures c.visit_all-made.ensures.kept).core h.core
 
 pub put-requires-clause-holds : goal.put-requires-clause-holds
-put-requires-clause-holds g c = let h = c.in-Held.ensures.after in let a = c.args in let d = c.index-as_slice-decl.result in
-    held_still a.shared.now (place_of c.in-Held.found a.node a.group) _ a.by d.policy c.open.new.seats c.visit_all-made.new.seats.cache h
+put-requires-clause-holds g c = let h = c.in-Held.ensures.after in let t = c.args.target in let at = c.worker.inside in let d = c.index-as_slice-decl.result in
+    held_still at.shared.now (place_of c.in-Held.found t.node t.group) _ at.by d.policy c.open.new.seats c.visit_all-made.new.seats.cache h
     (subst (λ (l : Listing). Keeps l.shared (place_number l.place) l.walk l.by l.policy c.open.new.seats.cache c.visit_all-made.new.seats.cache) c.new-lister.ensures c.visit_all-made.ensures.kept)
 
-pub returns-clause-rested : goal.returns-clause-rested
-returns-clause-rested g c = let h = c.in-Held.ensures.after in let a = c.args in let d = c.index-as_slice-decl.result in
-    rested_then a.shared.now (place_of c.in-Held.found a.node a.group) _ a.by d.policy c.open.new.seats c.visit_all-made.new.seats c.put.new.seat h
-    (subst (λ (l : Listing). Keeps l.shared (place_number l.place) l.walk l.by l.policy c.open.new.seats.cache c.visit_all-made.new.seats.cache) c.new-lister.ensures c.visit_all-made.ensures.kept)
-    c.visit_all-made.ensures.same c.put.ensures.seat c.put.ensures.back
+pub invariant_of-worker-2 : goal.invariant_of-worker-2
+invariant_of-worker-2 g c = let h = c.in-Held.ensures.after in let t = c.args.target in let at = c.worker.inside in let d = c.index-as_slice-decl.result in record {
+  shared = c.worker.invariant.shared;
+  rested = rested_then at.shared.now (place_of c.in-Held.found t.node t.group) _ at.by d.policy c.open.new.seats c.visit_all-made.new.seats c.put.new.seat h
+      (subst (λ (l : Listing). Keeps l.shared (place_number l.place) l.walk l.by l.policy c.open.new.seats.cache c.visit_all-made.new.seats.cache) c.new-lister.ensures c.visit_all-made.ensures.kept)
+      c.visit_all-made.ensures.same c.put.ensures.seat c.put.ensures.back;
+}
 
 pub returns-clause-isolated : goal.returns-clause-isolated
-returns-clause-isolated g c = let a = c.args in let x = a.shared.now in let f = c.in-Held.found in let d = c.index-as_slice-decl.result in let made = c.visit_all-made.result in let seats = c.visit_all-made.new.seats in
-    let place : Place = place_of f a.node a.group in
-    let one : Isolation = record { by = a.by; place = place; budget = a.budget; visits = made.visits; freed = made.freed; ending = made.ending } in record {
+returns-clause-isolated g c = let a = c.args in let t = a.target in let at = c.worker.inside in let x = at.shared.now in let f = c.in-Held.found in let d = c.index-as_slice-decl.result in let made = c.visit_all-made.result in let seats = c.visit_all-made.new.seats in
+    let target = subst (λ (w : Acting). IsTargetOf (shape_of w.shared.core) t) (sym c.worker.view_is) c.requires.target in
+    let place : Place = place_of f t.node t.group in let last = state_of (with_cache seats (record { core = c.put.new.seat; charge = seats.cache.charge; uses = seats.cache.uses })) in
+    let one : Isolation = record { by = at.by; place = place; budget = a.budget; visits = made.visits; freed = made.freed; ending = made.ending } in
+    subst (λ (w : Acting). Isolates w.shared w.by t.group t.node t.decl a.budget f made.visits made.freed made.ending w.state last a.log.now.items c.push.new.self.items) c.worker.view_is (record {
       loaded = c.in-Held.ensures.opened.loaded;
       held = state_of c.open.new.seats;
       visited = state_of seats;
       online = c.in-Held.ensures.opened.online;
       holds = c.in-Held.ensures.opened.holds;
       d = d;
-      declared = slice_get_read x.script.caches.items (shape_of x.core).decls a.decl d c.requires.shared.decls c.requires.decl (subst (λ (l : List CacheDecl). d ≡ get_or l a.decl d) c.as_slice.ensures c.index-as_slice-decl.is);
-      visiting = subst (λ (n : ℕ). AreIsolated x (visitor_of a.by n place d) a.budget made.visits made.freed made.ending (state_of c.open.new.seats) (state_of seats)) c.len-number.ensures
+      declared = slice_get_read x.script.caches.items (shape_of x.core).decls t.decl d c.worker.invariant.shared.decls target.decl (subst (λ (l : List CacheDecl). d ≡ get_or l t.decl d) c.as_slice.ensures c.index-as_slice-decl.is);
+      visiting = subst (λ (n : ℕ). AreIsolated x (visitor_of at.by n place d) a.budget made.visits made.freed made.ending (state_of c.open.new.seats) (state_of seats)) c.len-number.ensures
           (subst (λ (l : Listing). AreIsolated l.shared (visitor_in l) a.budget made.visits made.freed made.ending (state_of c.open.new.seats) (state_of seats)) c.new-lister.ensures c.visit_all-made.ensures.isolated);
       back = ap (λ (v : View). record (state_of seats) { core = v }) c.put.ensures.back;
       recorded = c.push.ensures.items ∙ ap (λ (l : List Isolation). l ++ one ∷ []) c.reserve.ensures.items;
-    }
+    })
 
 pub returns-clause-lawful : goal.returns-clause-lawful
-returns-clause-lawful g c = let a = c.args in let made = c.visit_all-made.result in let seats = c.visit_all-made.new.seats in
-    found_lawful a.shared.now a.by a.group a.node a.decl a.budget c.in-Held.found made.visits made.freed made.ending (state_of a.seats.now)
-    (state_of record { cache = record { core = c.put.new.seat; charge = seats.cache.charge; uses = seats.cache.uses }; deferred = seats.deferred; walks = seats.walks; carries = seats.carries })
+returns-clause-lawful g c = let a = c.args in let t = a.target in let w = a.worker.now in let made = c.visit_all-made.result in let seats = c.visit_all-made.new.seats in
+    found_lawful w.shared w.by t.group t.node t.decl a.budget c.in-Held.found made.visits made.freed made.ending w.state
+    (state_of (with_cache seats (record { core = c.put.new.seat; charge = seats.cache.charge; uses = seats.cache.uses })))
     a.log.now.items c.push.new.self.items (returns-clause-isolated g c)

@@ -3,45 +3,45 @@ use Rattle.std.proofs.lemmas.List.Elements.{All-get_or}
 use Rattle.shr_model.specs.Walks.{Job, job}
 use Rattle.shr_seats.specs.Shapes.{groups_in}
 use Rattle.shr_core.specs.Seats.{shape_of}
-use Rattle.shr_walk.specs.State.{state_of}
+use Rattle.shr_walk.specs.declared.seats.Shared.{Shared}
+use Rattle.shr_walk.proofs.Acted.{same_none, same_then}
 use Rattle.shr_reclaim.specs.Looping.{jobs_on}
 use Rattle.shr_reclaim.specs.Rounds.{Visit, WalksAll, WalksFirst}
 use Rattle.shr_reclaim.proofs.Ranging.{on_more, on_parted}
-use Rattle.shr_reclaim.proofs.Visiting.{none_walked, all_more, first_cut}
+use Rattle.shr_reclaim.proofs.Visiting.{none_walked, all_more, first_cut, visited_same}
 use Rattle.shr_reclaim.proofs.rounds.walk_node.Goals as goal
 
 pub walk_one-answer-requires-clause-place : goal.walk_one-answer-requires-clause-place
 walk_one-answer-requires-clause-place g c = let inv = c.loop-group.invariant in let i = c.loop-group.group-index in
-    (c.requires.node, All-get_or (λ (h : ℕ). h < groups_in (shape_of c.args.shared.now.core)) c.args.groups.now i 0 (omega (arith, c.loop-group-test.true)) c.requires.groups)
+    subst (λ (x : Shared). (c.args.node < (shape_of x.core).nodes) × (get_or c.args.groups.now i 0 < groups_in (shape_of x.core))) (sym inv.same.shared)
+    (c.requires.node, All-get_or (λ (h : ℕ). h < groups_in (shape_of c.args.worker.now.shared.core)) c.args.groups.now i 0 (omega (arith, c.loop-group-test.true)) c.requires.groups)
 
 pub loop-group-init : goal.loop-group-init
 loop-group-init g c = record {
-  rested = c.requires.rested;
   groups = refl;
-  walked = ([], none_walked c.args.shared.now c.args.by (state_of c.args.seats.now));
-  shared = refl;
+  walked = ([], none_walked c.args.worker.now.shared c.args.worker.now.by c.args.worker.now.state);
+  same = same_none c.args.worker.now;
 }
 
 pub loop-group-preserved : goal.loop-group-preserved
-loop-group-preserved g c = let inv = c.loop-group.invariant in let x = c.args.shared.now in let i = c.loop-group.group-index in let a = c.walk_one-answer.result in
+loop-group-preserved g c = let inv = c.loop-group.invariant in let w = c.args.worker.now in let b = c.loop-group.worker in let last = c.walk_one-answer.new.worker in let i = c.loop-group.group-index in let a = c.walk_one-answer.result in
     let node = c.args.node in let p = c.args.priority in let gs = c.args.groups.now in
-    let v : Visit = record { job = job (get_or gs i 0) node p false; answer = a; after = state_of c.walk_one-answer.new.seats } in
+    let v : Visit = record { job = job (get_or gs i 0) node p false; answer = a; after = last.state } in
     record {
-      rested = c.walk_one-answer.ensures.rested;
       groups = inv.groups;
       walked = (
         inv.walked.0 ++ v ∷ [],
-        subst (λ (l : List Job). WalksAll x c.args.by l (inv.walked.0 ++ v ∷ []) (state_of c.args.seats.now) (state_of c.walk_one-answer.new.seats)) (sym (on_more node p gs i c.loop-group-test.true))
-            (all_more x c.args.by (jobs_on node p (take i gs)) inv.walked.0 v (state_of c.args.seats.now) (state_of c.loop-group.seats) inv.walked.1 c.walk_one-answer.ensures.walked (sym c.is_short.ensures ∙ c.if-is_short.false)),
+        subst (λ (l : List Job). WalksAll w.shared w.by l (inv.walked.0 ++ v ∷ []) w.state last.state) (sym (on_more node p gs i c.loop-group-test.true))
+            (all_more w.shared w.by (jobs_on node p (take i gs)) inv.walked.0 v w.state b.state inv.walked.1 (visited_same w b v inv.same c.walk_one-answer.ensures.walked) (sym c.is_short.ensures ∙ c.if-is_short.false)),
       );
-      shared = refl;
+      same = same_then w b last inv.same c.walk_one-answer.ensures.same;
     }
 
 pub returns-then-is_short-clause-first : goal.returns-then-is_short-clause-first
-returns-then-is_short-clause-first g c = let inv = c.loop-group.invariant in let x = c.args.shared.now in let i = c.loop-group.group-index in let a = c.walk_one-answer.result in
+returns-then-is_short-clause-first g c = let inv = c.loop-group.invariant in let w = c.args.worker.now in let b = c.loop-group.worker in let last = c.walk_one-answer.new.worker in let i = c.loop-group.group-index in let a = c.walk_one-answer.result in
     let node = c.args.node in let p = c.args.priority in let gs = c.args.groups.now in
-    let v : Visit = record { job = job (get_or gs i 0) node p false; answer = a; after = state_of c.walk_one-answer.new.seats } in (
+    let v : Visit = record { job = job (get_or gs i 0) node p false; answer = a; after = last.state } in (
       inv.walked.0 ++ v ∷ [],
-      subst (λ (l : List Job). WalksFirst x c.args.by l (inv.walked.0 ++ v ∷ []) (state_of c.args.seats.now) (state_of c.walk_one-answer.new.seats)) (sym (on_parted node p gs i c.loop-group-test.true))
-          (first_cut x c.args.by (jobs_on node p (take i gs)) (jobs_on node p (drop (i + 1) gs)) inv.walked.0 v (state_of c.args.seats.now) (state_of c.loop-group.seats) inv.walked.1 c.walk_one-answer.ensures.walked (sym c.is_short.ensures ∙ c.if-is_short.true)),
+      subst (λ (l : List Job). WalksFirst w.shared w.by l (inv.walked.0 ++ v ∷ []) w.state last.state) (sym (on_parted node p gs i c.loop-group-test.true))
+          (first_cut w.shared w.by (jobs_on node p (take i gs)) (jobs_on node p (drop (i + 1) gs)) inv.walked.0 v w.state b.state inv.walked.1 (visited_same w b v inv.same c.walk_one-answer.ensures.walked) (sym c.is_short.ensures ∙ c.if-is_short.true)),
     )

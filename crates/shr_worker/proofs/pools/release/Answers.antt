@@ -1,4 +1,4 @@
-use Rattle.std.proofs.Common.{List, ap, ◌∙◌, arith}
+use Rattle.std.proofs.Common.{List, ap, subst, ◌∙◌, arith}
 use Rattle.shr_base.specs.declared.places.Place.{Place}
 use Rattle.shr_plain.specs.declared.settings.Setting.{Setting}
 use Rattle.shr_plain.specs.Answers.{ReleaseGives}
@@ -6,25 +6,27 @@ use Rattle.shr_plain.specs.Seat.{state_of}
 use Rattle.shr_plain.specs.Settings.{place_of, room_of}
 use Rattle.shr_script.specs.Content.{content_of}
 use Rattle.shr_seats.specs.declared.rows.Sizes.{Sizes}
+use Rattle.shr_walk.specs.Acting.{Acting}
 use Rattle.shr_worker.specs.Replies.{unfound, release_reply}
 use Rattle.shr_worker.proofs.Pooled.{of_script, pool_there, release_there}
 use Rattle.shr_worker.proofs.pools.release.Goals as goal
 
 pub place-place-requires : goal.place-place-requires
-place-place-requires g c = let t = release_there (content_of c.args.script.now) c.args.node c.args.pool c.args.units c.requires.within in pool_there c.args.script.now c.args.pools.now c.requires.pools c.args.pool c.args.node t.0.in_pool t.0.on_node
+place-place-requires g c = let t = release_there (content_of c.args.worker.now.shared.script) c.args.node c.args.pool c.args.units c.requires.within in pool_there c.args.worker.now.shared.script c.args.pools.now c.requires.pools c.args.pool c.args.node t.0.in_pool t.0.on_node
 
-pub release-requires-clause-pool : goal.release-requires-clause-pool
-release-requires-clause-pool g c = let t = release_there (content_of c.args.script.now) c.args.node c.args.pool c.args.units c.requires.within in pool_there c.args.script.now c.args.pools.now c.requires.pools c.args.pool c.args.node t.0.in_pool t.0.on_node
+pub release-answer-requires-clause-pool : goal.release-answer-requires-clause-pool
+release-answer-requires-clause-pool g c = let t = release_there (content_of c.args.worker.now.shared.script) c.args.node c.args.pool c.args.units c.requires.within in pool_there c.args.worker.now.shared.script c.args.pools.now c.requires.pools c.args.pool c.args.node t.0.in_pool t.0.on_node
 
-pub release-requires-clause-units : goal.release-requires-clause-units
-release-requires-clause-units g c = let t = release_there (content_of c.args.script.now) c.args.node c.args.pool c.args.units c.requires.within in (t.1, t.2)
+pub release-answer-requires-clause-units : goal.release-answer-requires-clause-units
+release-answer-requires-clause-units g c = let t = release_there (content_of c.args.worker.now.shared.script) c.args.node c.args.pool c.args.units c.requires.within in (t.1, t.2)
 
 pub release_reply-requires : goal.release_reply-requires
 release_reply-requires g c = let low = c.place-place.ensures.there.id in let few = c.args.pools.now.ids.1 in omega (arith, low, few)
 
 pub returns-clause-releases : goal.returns-clause-releases
-returns-clause-releases g c = let s = c.args.script.now in let p = c.args.pools.now in let pool = c.args.pool in let node = c.args.node in record {
-  answer = c.release.result;
-  told = c.unfound.ensures ∙ ap unfound (c.release_reply.ensures ∙ ap (λ (x : Place). release_reply x c.release.result) (c.place-place.ensures.place ∙ ap (λ (l : List Setting). place_of l pool node) c.requires.pools.settings));
-  released = of_script s p c.requires.pools (λ (l : List Setting) (z : Sizes). ReleaseGives (place_of l pool node) (room_of l z pool node) c.args.by c.args.units c.release.result (state_of c.args.plain.now) (state_of c.release.new.seat)) c.release.ensures.released;
+returns-clause-releases g c = let s = c.args.worker.now.shared.script in let p = c.args.pools.now in let pool = c.args.pool in let node = c.args.node in record {
+  answer = c.release-answer.result;
+  told = c.unfound.ensures ∙ ap unfound (c.release_reply.ensures ∙ ap (λ (x : Place). release_reply x c.release-answer.result) (c.place-place.ensures.place ∙ ap (λ (l : List Setting). place_of l pool node) c.requires.pools.settings));
+  released = of_script s p c.requires.pools (λ (l : List Setting) (z : Sizes). ReleaseGives (place_of l pool node) (room_of l z pool node) c.args.worker.now.by c.args.units c.release-answer.result (state_of c.args.plain.now) (state_of c.release-answer.new.seat))
+      (subst (λ (w : Acting). ReleaseGives (place_of p.settings.items pool node) (room_of p.settings.items p.sizes pool node) w.by c.args.units c.release-answer.result (state_of c.args.plain.now) (state_of c.release-answer.new.seat)) c.worker.view_is c.release-answer.ensures.released);
 }

@@ -1,66 +1,86 @@
-use Rattle.std.proofs.Common.{inr, refl, sym, ◌∙◌}
-use Rattle.shr_registry.specs.declared.answers.UnregisterAnswer.TheVariants.{NoCache, Memory}
+use Rattle.std.proofs.Common.{ℕ, ◌⊎◌, inr, sym, ap, subst, ◌∙◌}
+use Rattle.shr_base.specs.declared.replies.Reply.TheVariants as reply
+use Rattle.shr_registry.specs.declared.answers.UnregisterAnswer.TheVariants.{NoCache, Memory, Freed, Half}
+use Rattle.shr_registry.specs.Ending.{UnregisterGives}
+use Rattle.shr_core.specs.declared.view.View.{View}
 use Rattle.shr_core.specs.Seats.{view_of, shape_of}
+use Rattle.shr_walk.specs.Acting.{Acting}
 use Rattle.shr_walk.specs.Keeping.{parents_of}
 use Rattle.shr_walk.specs.State.{state_of}
-use Rattle.shr_worker.proofs.Resting.{rested_with}
-use Rattle.shr_worker.proofs.Ended.{none_uncharged, freed_drained, half_drained}
+use Rattle.shr_worker.specs.Commands.{Unregisters, UnregistersNone}
+use Rattle.shr_worker.specs.Replies.{unfound}
+use Rattle.shr_worker.proofs.Resting.{fit_with, with_core}
+use Rattle.shr_worker.proofs.Ended.{none_uncharged, uncharged_after, freed_drained, half_drained}
 use Rattle.shr_worker.proofs.registrations.unregister.Goals as goal
 
+pub invariant_of-worker : goal.invariant_of-worker
+invariant_of-worker g c = let at = c.worker.inside in let d = c.in-NoCache.ensures in fit_with at.shared.now at.seats c.unregister.new.seat c.worker.invariant d.seat d.rooms d.answer.free d.answer.gains.owed
+
+pub invariant_of-worker-in-Memory : goal.invariant_of-worker-in-Memory
+invariant_of-worker-in-Memory g c = let at = c.worker.inside in let d = c.in-Memory.ensures in fit_with at.shared.now at.seats c.unregister.new.seat c.worker.invariant d.seat d.rooms d.answer.free d.answer.gains.owed
+
+pub invariant_of-worker-in-Freed : goal.invariant_of-worker-in-Freed
+invariant_of-worker-in-Freed g c = let at = c.worker.inside in let d = c.in-Freed.ensures in fit_with at.shared.now at.seats c.unregister.new.seat c.worker.invariant d.seat d.rooms d.answer.free d.answer.gains.owed
+
+pub invariant_of-worker-in-Half : goal.invariant_of-worker-in-Half
+invariant_of-worker-in-Half g c = let at = c.worker.inside in let d = c.in-Half.ensures in fit_with at.shared.now at.seats c.unregister.new.seat c.worker.invariant d.seat d.rooms d.answer.free d.answer.gains.owed
+
 pub uncharge_drained-requires-clause-born : goal.uncharge_drained-requires-clause-born
-uncharge_drained-requires-clause-born g c = let core = c.args.shared.now.core in let d = c.in-Freed in
-    (freed_drained (shape_of core) c.requires.shared.most_items core.limits.4 core.limits.2 (view_of c.args.seats.now.cache.core) c.args.decl c.args.by d.id d.entry d.from d.to d.objects.items (view_of c.unregister.new.seat) d.ensures.answer).born
+uncharge_drained-requires-clause-born g c = let at = c.worker.inside in let core = at.shared.now.core in let d = c.in-Freed in
+    (freed_drained (shape_of core) c.worker.invariant.shared.most_items core.limits.4 core.limits.2 (view_of at.seats.cache.core) c.args.decl at.by d.id d.entry d.from d.to d.objects.items (view_of c.unregister.new.seat) d.ensures.answer).born
 
 pub uncharge_drained-requires-clause-few : goal.uncharge_drained-requires-clause-few
-uncharge_drained-requires-clause-few g c = let core = c.args.shared.now.core in let d = c.in-Freed in
-    (freed_drained (shape_of core) c.requires.shared.most_items core.limits.4 core.limits.2 (view_of c.args.seats.now.cache.core) c.args.decl c.args.by d.id d.entry d.from d.to d.objects.items (view_of c.unregister.new.seat) d.ensures.answer).few
+uncharge_drained-requires-clause-few g c = let at = c.worker.inside in let core = at.shared.now.core in let d = c.in-Freed in
+    (freed_drained (shape_of core) c.worker.invariant.shared.most_items core.limits.4 core.limits.2 (view_of at.seats.cache.core) c.args.decl at.by d.id d.entry d.from d.to d.objects.items (view_of c.unregister.new.seat) d.ensures.answer).few
 
 pub uncharge_drained-requires-in-Half-clause-born : goal.uncharge_drained-requires-in-Half-clause-born
-uncharge_drained-requires-in-Half-clause-born g c = let core = c.args.shared.now.core in let d = c.in-Half in
-    (half_drained (shape_of core) c.requires.shared.most_items core.limits.4 core.limits.2 (view_of c.args.seats.now.cache.core) c.args.decl c.args.by d.id d.entry d.from d.to d.objects.items (view_of c.unregister.new.seat) d.why d.ensures.answer).born
+uncharge_drained-requires-in-Half-clause-born g c = let at = c.worker.inside in let core = at.shared.now.core in let d = c.in-Half in
+    (half_drained (shape_of core) c.worker.invariant.shared.most_items core.limits.4 core.limits.2 (view_of at.seats.cache.core) c.args.decl at.by d.id d.entry d.from d.to d.objects.items (view_of c.unregister.new.seat) d.why d.ensures.answer).born
 
 pub uncharge_drained-requires-in-Half-clause-few : goal.uncharge_drained-requires-in-Half-clause-few
-uncharge_drained-requires-in-Half-clause-few g c = let core = c.args.shared.now.core in let d = c.in-Half in
-    (half_drained (shape_of core) c.requires.shared.most_items core.limits.4 core.limits.2 (view_of c.args.seats.now.cache.core) c.args.decl c.args.by d.id d.entry d.from d.to d.objects.items (view_of c.unregister.new.seat) d.why d.ensures.answer).few
+uncharge_drained-requires-in-Half-clause-few g c = let at = c.worker.inside in let core = at.shared.now.core in let d = c.in-Half in
+    (half_drained (shape_of core) c.worker.invariant.shared.most_items core.limits.4 core.limits.2 (view_of at.seats.cache.core) c.args.decl at.by d.id d.entry d.from d.to d.objects.items (view_of c.unregister.new.seat) d.why d.ensures.answer).few
 
 pub returns-in-NoCache-clause-unregisters : goal.returns-in-NoCache-clause-unregisters
-returns-in-NoCache-clause-unregisters g c = let may = sym c.spent.ensures ∙ c.in_default.is in inr (record {
-  charges = may;
-  answer = NoCache c.in-NoCache.entry;
-  told = c.unfound-in-NoCache.ensures;
-  ended = c.in-NoCache.ensures.answer;
-  uncharged = none_uncharged (parents_of c.args.shared.now) c.args.by (state_of c.args.seats.now) (view_of c.unregister.new.seat) may;
-})
+returns-in-NoCache-clause-unregisters g c = let at = c.worker.inside in let may = sym c.spent.ensures ∙ c.in_default.is in let told = c.unfound-in-NoCache.result in let t = state_of (with_core at.seats c.unregister.new.seat) in
+    subst (λ (w : Acting). UnregistersNone told w.state t ⊎ Unregisters w.shared w.by c.args.decl told w.state t) c.worker.view_is
+    (inr (record {
+      charges = may;
+      answer = NoCache c.in-NoCache.entry;
+      told = c.unfound-in-NoCache.ensures;
+      ended = c.in-NoCache.ensures.answer;
+      uncharged = none_uncharged (parents_of at.shared.now) at.by (state_of at.seats) (view_of c.unregister.new.seat) may;
+    }))
 
 pub returns-in-Memory-clause-unregisters : goal.returns-in-Memory-clause-unregisters
-returns-in-Memory-clause-unregisters g c = let may = sym c.spent.ensures ∙ c.in_default.is in inr (record {
-  charges = may;
-  answer = Memory;
-  told = c.unfound-in-Memory.ensures;
-  ended = c.in-Memory.ensures.answer;
-  uncharged = none_uncharged (parents_of c.args.shared.now) c.args.by (state_of c.args.seats.now) (view_of c.unregister.new.seat) may;
-})
+returns-in-Memory-clause-unregisters g c = let at = c.worker.inside in let may = sym c.spent.ensures ∙ c.in_default.is in let told = c.unfound-in-Memory.result in let t = state_of (with_core at.seats c.unregister.new.seat) in
+    subst (λ (w : Acting). UnregistersNone told w.state t ⊎ Unregisters w.shared w.by c.args.decl told w.state t) c.worker.view_is
+    (inr (record {
+      charges = may;
+      answer = Memory;
+      told = c.unfound-in-Memory.ensures;
+      ended = c.in-Memory.ensures.answer;
+      uncharged = none_uncharged (parents_of at.shared.now) at.by (state_of at.seats) (view_of c.unregister.new.seat) may;
+    }))
 
-pub returns-in-NoCache-clause-rested : goal.returns-in-NoCache-clause-rested
-returns-in-NoCache-clause-rested g c = let d = c.in-NoCache.ensures in
-    rested_with c.args.shared.now c.args.seats.now _ c.unregister.new.seat c.requires.rested d.seat d.rooms d.answer.free d.answer.gains.owed refl c.requires.rested.charge refl
+pub returns-in_ok-uncharge_drained-in-Freed-clause-unregisters : goal.returns-in_ok-uncharge_drained-in-Freed-clause-unregisters
+returns-in_ok-uncharge_drained-in-Freed-clause-unregisters g c = let at = c.worker.inside in let x = at.shared.now in let d = c.in-Freed in let u = c.uncharge_drained in let told = c.unfound-in-Freed.result in let t = u.new.worker.state in
+    subst (λ (w : Acting). UnregistersNone told w.state t ⊎ Unregisters w.shared w.by c.args.decl told w.state t) c.worker.view_is
+    (inr (record {
+      charges = sym c.spent.ensures ∙ c.in_default.is;
+      answer = Freed d.id d.entry d.from d.to d.objects;
+      told = c.unfound-in-Freed.ensures ∙ ap (λ (n : ℕ). unfound (reply.Freed d.id d.entry d.from d.to n)) c.in_ok-uncharge_drained-in-Freed.ensures.count;
+      ended = subst (λ (v : View). UnregisterGives (shape_of x.core) (view_of at.seats.cache.core) c.args.decl at.by (Freed d.id d.entry d.from d.to d.objects) v) (sym u.ensures.core) d.ensures.answer;
+      uncharged = uncharged_after (parents_of x) at.by d.objects.items (state_of at.seats) (view_of c.unregister.new.seat) t c.in_ok-uncharge_drained-in-Freed.ensures.uncharged;
+    }))
 
-pub returns-in-Memory-clause-rested : goal.returns-in-Memory-clause-rested
-returns-in-Memory-clause-rested g c = let d = c.in-Memory.ensures in
-    rested_with c.args.shared.now c.args.seats.now _ c.unregister.new.seat c.requires.rested d.seat d.rooms d.answer.free d.answer.gains.owed refl c.requires.rested.charge refl
-
-pub returns-in_err-uncharge_drained-in-Freed-clause-rested : goal.returns-in_err-uncharge_drained-in-Freed-clause-rested
-returns-in_err-uncharge_drained-in-Freed-clause-rested g c = let d = c.in-Freed.ensures in let u = c.uncharge_drained.ensures in
-    rested_with c.args.shared.now c.args.seats.now c.uncharge_drained.new.seats c.unregister.new.seat c.requires.rested d.seat d.rooms d.answer.free d.answer.gains.owed u.core u.seat u.deferred
-
-pub returns-in_ok-uncharge_drained-in-Freed-clause-rested : goal.returns-in_ok-uncharge_drained-in-Freed-clause-rested
-returns-in_ok-uncharge_drained-in-Freed-clause-rested g c = let d = c.in-Freed.ensures in let u = c.uncharge_drained.ensures in
-    rested_with c.args.shared.now c.args.seats.now c.uncharge_drained.new.seats c.unregister.new.seat c.requires.rested d.seat d.rooms d.answer.free d.answer.gains.owed u.core u.seat u.deferred
-
-pub returns-in_err-uncharge_drained-in-Half-clause-rested : goal.returns-in_err-uncharge_drained-in-Half-clause-rested
-returns-in_err-uncharge_drained-in-Half-clause-rested g c = let d = c.in-Half.ensures in let u = c.uncharge_drained-in-Half.ensures in
-    rested_with c.args.shared.now c.args.seats.now c.uncharge_drained-in-Half.new.seats c.unregister.new.seat c.requires.rested d.seat d.rooms d.answer.free d.answer.gains.owed u.core u.seat u.deferred
-
-pub returns-in_ok-uncharge_drained-in-Half-clause-rested : goal.returns-in_ok-uncharge_drained-in-Half-clause-rested
-returns-in_ok-uncharge_drained-in-Half-clause-rested g c = let d = c.in-Half.ensures in let u = c.uncharge_drained-in-Half.ensures in
-    rested_with c.args.shared.now c.args.seats.now c.uncharge_drained-in-Half.new.seats c.unregister.new.seat c.requires.rested d.seat d.rooms d.answer.free d.answer.gains.owed u.core u.seat u.deferred
+pub returns-in_ok-uncharge_drained-in-Half-clause-unregisters : goal.returns-in_ok-uncharge_drained-in-Half-clause-unregisters
+returns-in_ok-uncharge_drained-in-Half-clause-unregisters g c = let at = c.worker.inside in let x = at.shared.now in let d = c.in-Half in let u = c.uncharge_drained-in-Half in let told = c.unfound-in-Half.result in let t = u.new.worker.state in
+    subst (λ (w : Acting). UnregistersNone told w.state t ⊎ Unregisters w.shared w.by c.args.decl told w.state t) c.worker.view_is
+    (inr (record {
+      charges = sym c.spent.ensures ∙ c.in_default.is;
+      answer = Half d.id d.entry d.from d.to d.objects d.why;
+      told = c.unfound-in-Half.ensures ∙ ap (λ (n : ℕ). unfound (reply.Half d.id d.entry d.from d.to n d.why)) c.in_ok-uncharge_drained-in-Half.ensures.count;
+      ended = subst (λ (v : View). UnregisterGives (shape_of x.core) (view_of at.seats.cache.core) c.args.decl at.by (Half d.id d.entry d.from d.to d.objects d.why) v) (sym u.ensures.core) d.ensures.answer;
+      uncharged = uncharged_after (parents_of x) at.by d.objects.items (state_of at.seats) (view_of c.unregister.new.seat) t c.in_ok-uncharge_drained-in-Half.ensures.uncharged;
+    }))

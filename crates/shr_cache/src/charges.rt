@@ -1,0 +1,26 @@
+//! Taking a charge back.
+
+ghost use Rattle.std.specs.Prelude.{◌<◌};
+ghost use Rattle.shr_seats.specs.Shapes.{groups_in};
+ghost use Rattle.shr_core.specs.Seats.{shape_of};
+ghost use Rattle.shr_walk.specs.Acting.{IsSame};
+ghost use Rattle.shr_reclaim.specs.Admitting.{CanTakeBack};
+ghost use Rattle.shr_opening.specs.Opening.{Uncharges};
+
+use shr_walk::worker::Worker;
+use std::sync::Wait;
+
+// Uncharges an object of a group, in the room that was made to note it.
+pub(crate) fn uncharge<R: Wait>(worker: &mut Worker<'_, R>, group: u16)
+    requires group { group < groups_in (shape_of worker.old.shared.core) }
+    requires room { CanTakeBack group worker.old }
+    ensures uncharged { Uncharges worker.old.shared worker.old.by group worker.old.state
+        worker.new.state }
+    ensures same { IsSame worker.old worker.new }
+{
+    let cache = &mut worker.seats.cache;
+    worker
+        .shared
+        .charge
+        .uncharge(&mut cache.charge, &mut cache.uses, worker.by, group);
+}

@@ -1,0 +1,10 @@
+use Rattle.std.proofs.Common.{subst}
+use Rattle.shr_walk.specs.Acting.{Acting}
+use Rattle.shr_walk.specs.State.{Does, state_of}
+use Rattle.shr_walk.specs.Walked.{record_of, walk_work}
+use Rattle.shr_walk.proofs.Acted.{does_note}
+use Rattle.shr_walk.proofs.worker.Worker.note.Goals as goal
+
+pub returns-clause-noted : goal.returns-clause-noted
+returns-clause-noted g c = let s = state_of c.self.inside.seats in let walks = c.push.new.self.items in let walk = record_of c.args.walk.now c.args.maps c.args.attempts c.args.answer in
+    subst (λ (w : Acting). Does w.state (record s { walks = walks }) (walk_work walk)) c.self.view_is (does_note s walks walk c.push.ensures.items)
