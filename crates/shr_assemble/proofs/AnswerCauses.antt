@@ -1,29 +1,13 @@
 -- The causes of answers that speak of what their worker knew.
-use Rattle.std.proofs.Common.{◌≡◌, ℕ, zero, suc, ◌+◌, ◌≤◌, inl, inr, Bool, true, false, cond, List, [], ◌∷◌, length, take, drop, refl, sym, ap, subst, ◌∙◌, arith, lt-ltb}
-use Rattle.std.proofs.lemmas.List.{take_all, length-take-le}
-use Rattle.std.specs.Prelude.{slice_get, Some, filter, count_by, nat_lt, pos}
-use Rattle.std.proofs.lemmas.Option.{slice_get_within}
-use Rattle.shr_base.specs.declared.journals.PoolEntry.TheVariants.{Registered}
-use Rattle.shr_base.specs.declared.journals.TreeEntry.TheVariants.{Done}
-use Rattle.shr_base.specs.declared.journals.UseStep.{UseStep}
-use Rattle.shr_base.specs.declared.scripts.Script.{Script}
-use Rattle.shr_model.specs.Charges.{ups, is_by, ops_by, IsChargeHistory}
-use Rattle.shr_model.specs.Pool.{is_live_decl, lowest_idle}
-use Rattle.shr_model.specs.TreeJournal.{undone_child}
-use Rattle.shr_model.proofs.Members.{Has, Has_filter, filter_has}
-use Rattle.shr_report.specs.declared.report.Report.{Report}
-use Rattle.shr_report.specs.Parts.{hierarchy_of, uses_at}
-use Rattle.shr_report.specs.Causes.{IsOver, IsUncached, IsCached, IsFull, IsInTheWay, StandsInTree}
-use Rattle.shr_assemble.specs.Steps.{Step, steps_of}
-use Rattle.shr_assemble.specs.Charges.{ops_at}
-use Rattle.shr_assemble.specs.Causes.{IsOverBy, IsUncachedBy, IsCachedBy, IsFullBy, IsInTheWayBy, IsRegisteredBy, WasDone}
-use Rattle.shr_assemble.specs.Runs.{IsRun}
-use Rattle.shr_assemble.proofs.Gathering.{some_at, weighs}
-use Rattle.shr_assemble.proofs.Listed.{count_total, no_test}
+use Rattle.shr_assemble.proofs.Common.{◌≡◌, ℕ, zero, suc, ◌+◌, ◌≤◌, inl, inr, Bool, true, false, cond, List, [], ◌∷◌, length, take, drop, refl, sym, ap, subst, ◌∙◌, arith, take_all, length-take-le, slice_get, Some, filter, count_by, nat_lt, pos, slice_get_within, Registered, Done, UseStep, Script, ups, is_by, ops_by, IsChargeHistory, is_live_decl, lowest_idle, undone_child, Has, Has_filter, filter_has, Report, uses_at, IsOver, IsUncached, IsCached, IsFull, IsInTheWay, StandsInTree, Step, steps_of, ops_at, IsOverBy, WasDone, IsRun, done_at, count_total, some_at}
+use Rattle.std.proofs.Common.{lt-ltb}
+use Rattle.shr_report.specs.Parts.{hierarchy_of}
+use Rattle.shr_assemble.specs.Causes.{IsUncachedBy, IsCachedBy, IsFullBy, IsInTheWayBy, IsRegisteredBy}
+use Rattle.shr_assemble.proofs.Gathering.{weighs}
+use Rattle.shr_assemble.proofs.Listed.{no_test}
 use Rattle.shr_assemble.proofs.Makers.{turn_stands}
 use Rattle.shr_assemble.proofs.Operations.{ops_are, has_among, among_has}
 use Rattle.shr_assemble.proofs.Shown.{pool_known, pool_length, tree_known, tree_length, tree_stands, op_stands}
-use Rattle.shr_charge.proofs.TreeFacts.{done_at}
 
 -- none of a list passes a test
 count_none : {A : Type 0} (p : A → Bool) (xs : List A) → ((x : A) → Has xs x → p x ≡ false) → count_by p xs ≡ 0

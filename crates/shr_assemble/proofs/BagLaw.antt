@@ -1,22 +1,11 @@
 -- The law of the bag, of a run.
-use Rattle.std.proofs.Common.{◌≡◌, ℕ, suc, ◌<◌, inl, inr, ⊎_elim, true, List, [], ◌∷◌, length, map, refl, ap}
-use Rattle.std.specs.Prelude.{slice_get, Some}
-use Rattle.std.specs.List.{AllByRecursion}
-use Rattle.shr_base.specs.declared.journals.Entry.TheVariants.{Add}
-use Rattle.shr_base.specs.declared.ends.PlaceEnd.{PlaceEnd}
-use Rattle.shr_base.specs.declared.scripts.Script.{Script}
-use Rattle.shr_model.specs.Bag.{added_in, freed_in, listed_in, IsBag}
+use Rattle.shr_assemble.proofs.Common.{◌≡◌, ℕ, suc, ◌<◌, inl, inr, ⊎_elim, true, List, [], ◌∷◌, length, map, refl, ap, slice_get, Some, AllByRecursion, Add, PlaceEnd, Script, added_in, listed_in, IsWhole, bag_of_legal, AreApart_of_ends, find_end, Report, parents_of, journal_of, journals_of, places_of, cited_at, Step, IsRun}
+use Rattle.shr_model.specs.Bag.{freed_in, IsBag}
 use Rattle.shr_model.proofs.BagLaws.{added_distinct}
-use Rattle.shr_model.proofs.LegalBag.{IsWhole, bag_of_legal}
-use Rattle.shr_model.proofs.PlacesLaws.{AreApart_of_ends, find_end}
-use Rattle.shr_report.specs.declared.report.Report.{Report}
-use Rattle.shr_report.specs.Parts.{parents_of, journal_of, journals_of, places_of, cited_at}
 use Rattle.shr_report.specs.Lawful.{IsBagLawful}
-use Rattle.shr_assemble.specs.Steps.{Step}
-use Rattle.shr_assemble.specs.Runs.{IsRun}
 use Rattle.shr_assemble.proofs.RepliesLaw.{cited}
 
-all_mapped : {X Y : Type 0} (P : Y → Type 0) (f : X → Y) (xs : List X) → ((n : ℕ) (x : X) → slice_get xs n ≡ Some x → P (f x)) → AllByRecursion P (map f xs)
+pub all_mapped : {X Y : Type 0} (P : Y → Type 0) (f : X → Y) (xs : List X) → ((n : ℕ) (x : X) → slice_get xs n ≡ Some x → P (f x)) → AllByRecursion P (map f xs)
 all_mapped P f [] h = tt
 all_mapped P f (x ∷ xs) h = (h 0 x refl, all_mapped P f xs (λ n y e. h (suc n) y e))
 

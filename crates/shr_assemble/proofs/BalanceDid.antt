@@ -1,32 +1,14 @@
 -- A `balance` did what the report asks.
-use Rattle.std.proofs.Common.{◌≡◌, ℕ, zero, suc, ◌+◌, ◌<◌, ◌≤◌, ◌⊎◌, inl, inr, ⊎_elim, Bool, true, false, ◌&&◌, List, [], ◌∷◌, ◌++◌, length, length-append, map, take, drop, sym, refl, ap, subst, ◌∙◌, arith, append_assoc, eq-eqb, ne_eqb}
-use Rattle.std.specs.Prelude.{slice_get, Some, not, ◌==◌, if◌then◌else◌, Option}
-use Rattle.std.specs.List.{AllByRecursion}
-use Rattle.std.proofs.lemmas.List.{length-map, take-append-drop, map-append}
-use Rattle.std.proofs.lemmas.Option.{none-some}
-use Rattle.shr_base.specs.declared.places.Serial.{Serial}
-use Rattle.shr_base.specs.declared.replies.Answered.{Answered}
+use Rattle.shr_assemble.proofs.Common.{◌≡◌, ℕ, zero, suc, ◌+◌, ◌<◌, ◌≤◌, ◌⊎◌, inl, inr, ⊎_elim, Bool, true, false, ◌&&◌, List, [], ◌∷◌, ◌++◌, length, length-append, map, take, drop, sym, refl, ap, subst, ◌∙◌, arith, append_assoc, eq-eqb, ne_eqb, slice_get, Some, not, ◌==◌, if◌then◌else◌, Option, AllByRecursion, length-map, take-append-drop, map-append, none-some, Serial, Answered, Command, Balance, WalkAnswer, WalkRecord, preorder_of, Job, job, job_of, parents_of, Groups, HadMemory, WorkerState, no_work, Does, Shared, Walk, next_walk, unfound, walk_reply, in_take}
 use Rattle.shr_base.specs.declared.replies.Reply.TheVariants as reply
-use Rattle.shr_base.specs.declared.scripts.Command.{Command}
-use Rattle.shr_base.specs.declared.scripts.Command.TheVariants.{Balance}
-use Rattle.shr_base.specs.declared.walks.WalkAnswer.{WalkAnswer}
 use Rattle.shr_base.specs.declared.walks.WalkAnswer.TheVariants as answered
-use Rattle.shr_base.specs.declared.walks.WalkRecord.{WalkRecord}
-use Rattle.shr_model.specs.Groups.{preorder_of, preorder_within}
-use Rattle.shr_model.specs.Walks.{Job, job, job_of}
-use Rattle.shr_report.specs.Parts.{parents_of}
+use Rattle.shr_model.specs.Groups.{preorder_within}
 use Rattle.shr_report.specs.WalksLawful.{balance_reply}
-use Rattle.shr_tree.specs.Tree.{Groups}
-use Rattle.shr_walk.specs.Balances.{all_groups, HadMemory, IsBalanced, IsBalanceCut, BalanceGives}
-use Rattle.shr_walk.specs.State.{WorkerState, no_work, Does}
-use Rattle.shr_walk.specs.declared.seats.Shared.{Shared}
-use Rattle.shr_walk.specs.declared.walking.Walk.{Walk}
+use Rattle.shr_walk.specs.Balances.{all_groups, IsBalanced, IsBalanceCut, BalanceGives}
 use Rattle.shr_walk.proofs.Balancing.{all_within}
-use Rattle.shr_worker.specs.Commands.{next_walk, Balances}
-use Rattle.shr_worker.specs.Replies.{unfound, walk_reply}
+use Rattle.shr_worker.specs.Commands.{Balances}
 use Rattle.shr_assemble.proofs.Bringing.{brings_of}
 use Rattle.shr_assemble.proofs.Listed.{slice_contains}
-use Rattle.shr_charge.proofs.TreeFacts.{in_take}
 use Rattle.shr_assemble.proofs.WalkingTold.{IsTableOf}
 use Rattle.shr_assemble.proofs.WalkingGives.{idle_walked, freed_none}
 use Rattle.shr_assemble.proofs.WalkingCharges.{rec_of, tree_is}

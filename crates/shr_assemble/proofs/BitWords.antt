@@ -1,15 +1,7 @@
 -- The bit word of a place among those that a finished core prints.
-use Rattle.std.proofs.Common.{◌≡◌, ℕ, zero, suc, ◌<◌, Bool, true, false, ◌&&◌, cond, List, [], ◌∷◌, ◌++◌, refl, ap, subst, ◌∙◌, arith, eqb, eq-eqb, ne_eqb}
-use Rattle.std.specs.Prelude.{find, Option, Some, None}
-use Rattle.std.proofs.lemmas.Bool.{eqb-true}
-use mathlib.Core.Logic.{dite}
-use native.Mathlib.Decide.{ℕ_discrete}
-use Rattle.shr_base.specs.declared.ends.MapEnd.{MapEnd}
-use Rattle.shr_base.specs.declared.places.Place.{Place}
-use Rattle.shr_model.specs.Places.{unit_of}
+use Rattle.shr_assemble.proofs.Common.{◌≡◌, ℕ, zero, suc, ◌<◌, Bool, true, false, ◌&&◌, cond, List, [], ◌∷◌, ◌++◌, refl, ap, subst, ◌∙◌, arith, eqb, eq-eqb, ne_eqb, find, Option, Some, None, eqb-true, dite, ℕ_discrete, MapEnd, Place, unit_of, map_number, has_bit, find_back}
 use Rattle.shr_core.specs.Ending.{units_below, groups_below, nodes_below}
-use Rattle.shr_core.specs.Layout.{map_number}
-use Rattle.shr_report.specs.BitsLawful.{has_bit}
+use Rattle.shr_model.proofs.Booleans.{both_and}
 
 -- what is found in front stays found, and where nothing is, the rest is searched
 found_front : {A : Type 0} (p : A → Bool) (xs ys : List A) (x : A) → find p xs ≡ Some x → find p (xs ++ ys) ≡ Some x
@@ -21,18 +13,12 @@ found_front {A} p (y ∷ xs) ys x some = choose (p y) (found_front p xs ys x) so
   choose true later h = h
   choose false later h = later h
 
-found_behind : {A : Type 0} (p : A → Bool) (xs ys : List A) → find p xs ≡ None → find p (xs ++ ys) ≡ find p ys
-found_behind p [] ys none = refl
-found_behind {A} p (y ∷ xs) ys none = choose (p y) (found_behind p xs ys) none where
-  some_none : Some y ≡ None → ⊥
-  some_none h = cc
-
   choose : (b : Bool) → (find p xs ≡ None → find p (xs ++ ys) ≡ find p ys) → cond b (Some y) (find p xs) ≡ None → cond b (Some y) (find p (xs ++ ys)) ≡ find p ys
   choose true later h = absurd (some_none h)
   choose false later h = later h
 
 both_none : {A : Type 0} (p : A → Bool) (xs ys : List A) → find p xs ≡ None → find p ys ≡ None → find p (xs ++ ys) ≡ None
-both_none p xs ys a b = found_behind p xs ys a ∙ b
+both_none p xs ys a b = find_back p xs ys a ∙ b
 
 one_none : {A : Type 0} (p : A → Bool) (x : A) → p x ≡ false → find p (x ∷ []) ≡ None
 one_none {A} p x e = ap (λ (b : Bool). cond {A = Option A} b (Some x) None) e
@@ -46,12 +32,6 @@ not_all true false d h = refl
 not_all true true false h = refl
 not_all true true true h = absurd (h refl refl refl)
 
-all_three : (b c d : Bool) → b ≡ true → c ≡ true → d ≡ true → (b && c && d) ≡ true
-all_three true true true x y z = refl
-all_three true true false x y z = z
-all_three true false d x y z = y
-all_three false c d x y z = x
-
 module _ (bits : ℕ → ℕ) (place : Place) where
   -- the bit word of a node, a group and a unit
   abbrev word : ℕ → ℕ → ℕ → MapEnd
@@ -61,7 +41,7 @@ module _ (bits : ℕ → ℕ) (place : Place) where
   other node group unit never = not_all (eqb node place.node) (eqb group place.group) (eqb unit (unit_of place.id)) (λ a b c. never (eqb-true node place.node a) (eqb-true group place.group b) (eqb-true unit (unit_of place.id) c))
 
   own : has_bit place (word place.node place.group (unit_of place.id)) ≡ true
-  own = all_three (eqb place.node place.node) (eqb place.group place.group) (eqb (unit_of place.id) (unit_of place.id)) (eq-eqb place.node place.node refl) (eq-eqb place.group place.group refl) (eq-eqb (unit_of place.id) (unit_of place.id) refl)
+  own = both_and (eqb place.node place.node) (eqb place.group place.group) (eqb (unit_of place.id) (unit_of place.id)) (eq-eqb place.node place.node refl) (eq-eqb place.group place.group refl) (eq-eqb (unit_of place.id) (unit_of place.id) refl)
 
   none_units : (n node group : ℕ) → ((u : ℕ) → u < n → has_bit place (word node group u) ≡ false) → find (has_bit place) (units_below n node group bits) ≡ None
   unfolding units_below
@@ -94,7 +74,7 @@ module _ (bits : ℕ → ℕ) (place : Place) where
   found_units zero lt = absurd (omega (arith, lt))
   found_units (suc n) lt = dite (ℕ_discrete (unit_of place.id) n)
       (λ e. subst (λ (m : ℕ). Finds (units_below m place.node place.group bits ++ word place.node place.group m ∷ [])) e
-      (found_behind (has_bit place) (units_below (unit_of place.id) place.node place.group bits) (word place.node place.group (unit_of place.id) ∷ [])
+      (find_back (has_bit place) (units_below (unit_of place.id) place.node place.group bits) (word place.node place.group (unit_of place.id) ∷ [])
       (none_units (unit_of place.id) place.node place.group (λ u below. other place.node place.group u (λ a b c. omega (arith, below, c))))
       ∙ one_found (has_bit place) (word place.node place.group (unit_of place.id)) own))
       (λ ne. found_front (has_bit place) (units_below n place.node place.group bits) (word place.node place.group n ∷ []) (word place.node place.group (unit_of place.id)) (found_units n (omega (arith, lt, ne))))
@@ -111,7 +91,7 @@ module _ (bits : ℕ → ℕ) (place : Place) where
   found_groups units zero u some lt = absurd (omega (arith, lt))
   found_groups units (suc n) u some lt = dite (ℕ_discrete place.group n)
       (λ e. subst (λ (m : ℕ). Finds (groups_below units m place.node bits ++ of_group units place.node m (eqb m 0))) e
-      (found_behind (has_bit place) (groups_below units place.group place.node bits) (of_group units place.node place.group (eqb place.group 0))
+      (find_back (has_bit place) (groups_below units place.group place.node bits) (of_group units place.node place.group (eqb place.group 0))
       (none_groups units place.group place.node (λ g v below. other place.node g v (λ a b c. omega (arith, below, b))))
       ∙ found_group units (eqb place.group 0) (below_root place.group some) u))
       (λ ne. found_front (has_bit place) (groups_below units n place.node bits) (of_group units place.node n (eqb n 0)) (word place.node place.group (unit_of place.id)) (found_groups units n u some (omega (arith, lt, ne))))
@@ -122,7 +102,7 @@ module _ (bits : ℕ → ℕ) (place : Place) where
   found_nodes units groups zero u some g lt = absurd (omega (arith, lt))
   found_nodes units groups (suc n) u some g lt = dite (ℕ_discrete place.node n)
       (λ e. subst (λ (m : ℕ). Finds (nodes_below units groups m bits ++ groups_below units groups m bits)) e
-      (found_behind (has_bit place) (nodes_below units groups place.node bits) (groups_below units groups place.node bits)
+      (find_back (has_bit place) (nodes_below units groups place.node bits) (groups_below units groups place.node bits)
       (none_nodes units groups place.node (λ m h v below. other m h v (λ a b c. omega (arith, below, a))))
       ∙ found_groups units groups u some g))
       (λ ne. found_front (has_bit place) (nodes_below units groups n bits) (groups_below units groups n bits) (word place.node place.group (unit_of place.id)) (found_nodes units groups n u some g (omega (arith, lt, ne))))

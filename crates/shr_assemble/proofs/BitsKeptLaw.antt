@@ -1,26 +1,13 @@
 -- A worker's map has each bit that an earlier command of it set where it filled a list, unless it was cleared since, of a run.
-use Rattle.std.proofs.Common.{◌≡◌, ◌≢◌, ◌⊎◌, inl, inr, ⊎_elim, ℕ, zero, suc, ◌+◌, ◌<◌, Bool, true, false, cond, List, [], ◌∷◌, ◌++◌, sym, refl, ap, subst, ◌∙◌, arith, append_assoc, eq-eqb, ne_eqb}
-use Rattle.std.specs.Prelude.{slice_get, Some, ◌==◌}
-use Rattle.std.proofs.lemmas.List.{append-nil, map-append}
-use Rattle.std.proofs.lemmas.Option.{same_Some, none-some}
-use mathlib.Core.Logic.{dite}
-use native.Mathlib.Decide.{ℕ_discrete}
-use Rattle.shr_base.specs.declared.scripts.Script.{Script}
-use Rattle.shr_model.proofs.Members.{Has, map_has}
-use Rattle.shr_seats.specs.Lines.{Deed, by_seat, part, AreSo}
+use Rattle.shr_assemble.proofs.Common.{◌≡◌, ◌≢◌, ◌⊎◌, inl, inr, ⊎_elim, ℕ, zero, suc, ◌+◌, ◌<◌, Bool, true, false, cond, List, [], ◌∷◌, ◌++◌, sym, refl, ap, subst, ◌∙◌, arith, append_assoc, eq-eqb, ne_eqb, slice_get, Some, ◌==◌, append-nil, map-append, same_Some, none-some, dite, ℕ_discrete, Script, Has, map_has, Deed, by_seat, part, AreSo, among, Moment, moment_next, IsSo, Event, Mapped, counted, made, looked, loaded, turned, put_back, raised, cleared, mapped, WorkerState, Report, IsSetLast, IsRun, Step, IsAmong, steps_of, AreChained, Brings}
 use Rattle.shr_seats.specs.Lines as lines
-use Rattle.shr_core.specs.Gained.{among, cleared_in, maps_in}
-use Rattle.shr_core.specs.Order.{Moment, at_start, moment_next, IsSo}
-use Rattle.shr_core.specs.Parts.{Event, Mapped, counted, made, looked, loaded, turned, put_back, raised, cleared, mapped}
-use Rattle.shr_walk.specs.State.{WorkerState}
-use Rattle.shr_report.specs.declared.report.Report.{Report}
-use Rattle.shr_assemble.specs.Entries.{IsSetLast}
-use Rattle.shr_assemble.specs.Runs.{IsRun}
-use Rattle.shr_assemble.specs.Steps.{Step, IsAmong, steps_of, AreChained, Brings}
+use Rattle.shr_core.specs.Gained.{cleared_in, maps_in}
+use Rattle.shr_core.specs.Order.{at_start}
 use Rattle.shr_assemble.proofs.LineOrder.{of_kind}
 use Rattle.shr_assemble.proofs.Making.{work_of}
 use Rattle.shr_assemble.proofs.Operations.{among_has, has_among}
-use Rattle.shr_assemble.proofs.Pairs.{either, Has_after}
+use Rattle.shr_assemble.proofs.Pairs.{either}
+use Rattle.shr_assemble.proofs.LineParts.{has_right}
 
 -- ---- lists
 -- what stands before an element and behind it
@@ -183,7 +170,7 @@ done_by t mine k y d c none at has brings =
 cleared_of : (acts : List Event) (k : ℕ) → Has acts (cleared k) → Has (among cleared_in acts) k
 cleared_of [] k h = absurd h
 cleared_of (e ∷ acts) k (inl is) = subst (λ (y : Event). Has (cleared_in y ++ among cleared_in acts) k) (sym is) (inl refl)
-cleared_of (e ∷ acts) k (inr h) = Has_after (cleared_in e) (among cleared_in acts) k (cleared_of acts k h)
+cleared_of (e ∷ acts) k (inr h) = has_right (cleared_in e) (among cleared_in acts) k (cleared_of acts k h)
 
 by_act : (j : ℕ) (acts : List Event) (d : Deed Event) → Has (by_seat j acts) d → Has acts d.act
 by_act j acts d h = let t = map_has (λ (e : Event). record { seat = j; act = e }) acts d h in subst (Has acts) (ap (λ (z : Deed Event). z.act) t.2) t.1
@@ -312,4 +299,4 @@ module _ (s : Script) (r : Report) (workers : List (List Step)) (run : IsRun s r
         dite (ℕ_discrete d.0.seat j)
         (λ same. of_own d.0 (subst (λ (l : List (Deed Event)). Has l d.0) inner.before_is (part_has d.0 j inner.front same d.1)) d.2)
         (λ other. of_other d.0 (subst (λ (l : List (Deed Event)). Has l d.0) (sym (outer.is ∙ ap (λ (l : List (Deed Event)). outer.front ++ setting ∷ l) inner.is))
-        (Has_after outer.front (setting ∷ (inner.front ++ loading ∷ inner.back)) d.0 (inr (Has_front inner.front (loading ∷ inner.back) d.0 d.1)))) d.2 other)
+        (has_right outer.front (setting ∷ (inner.front ++ loading ∷ inner.back)) d.0 (inr (Has_front inner.front (loading ∷ inner.back) d.0 d.1)))) d.2 other)

@@ -1,53 +1,17 @@
 -- The bits that are told are of ids that are there, have a reason, and aren't lost, of a run.
-use Rattle.std.proofs.Common.{◌≡◌, ◌≢◌, ◌⊎◌, inl, inr, ⊎_elim, ℕ, zero, suc, ◌+◌, ◌*◌, ◌<◌, Bool, true, false, not, ◌||◌, List, [], ◌∷◌, ◌++◌, length, take, map, sym, refl, ap, subst, ◌∙◌, arith, eq-eqb, lt-ltb, ne_eqb}
-use Rattle.std.specs.Prelude.{slice_get, Option, Some, None, filter, flat_map, ◌==◌, nat_lt}
-use Rattle.std.specs.Int.{bit_at}
-use Rattle.std.specs.List.{AllByRecursion, range_with_len}
-use Rattle.std.specs.Option.{IsSomeAnd}
-use Rattle.std.proofs.lemmas.Bool.{cases_Bool}
-use Rattle.std.proofs.lemmas.Option.{same_Some, none-some}
-use mathlib.Core.Logic.{dite}
-use native.Mathlib.Decide.{ℕ_discrete}
-use Rattle.shr_base.specs.declared.ends.MapEnd.{MapEnd}
-use Rattle.shr_base.specs.declared.journals.Entry.{Entry}
-use Rattle.shr_base.specs.declared.journals.Entry.TheVariants.{Add, Look, Drop, Pin, Scan, MovedIn, Closed, Drained}
-use Rattle.shr_base.specs.declared.objects.Object.{Object}
-use Rattle.shr_base.specs.declared.places.Place.{Place}
-use Rattle.shr_base.specs.declared.places.Serial.{Serial}
-use Rattle.shr_base.specs.declared.scripts.Script.{Script}
-use Rattle.shr_base.specs.declared.walks.Attempt.{Attempt}
+use Rattle.shr_assemble.proofs.Common.{◌≡◌, ◌≢◌, ◌⊎◌, inl, inr, ⊎_elim, ℕ, zero, suc, ◌+◌, ◌*◌, ◌<◌, Bool, true, false, not, ◌||◌, List, [], ◌∷◌, ◌++◌, length, take, map, sym, refl, ap, subst, ◌∙◌, arith, eq-eqb, ne_eqb, slice_get, Option, Some, None, filter, flat_map, ◌==◌, nat_lt, bit_at, AllByRecursion, range_with_len, IsSomeAnd, cases_Bool, same_Some, none-some, dite, ℕ_discrete, MapEnd, Entry, Add, Look, Drop, Pin, Scan, MovedIn, Closed, Drained, Object, Place, Serial, Script, Attempt, MapSeen, Outcome, WalkRecord, is_held, counts_of, is_set, lists_moved_at, IsOutcome, first_moved, later_moved, step, place_number, is_place, unit_of, bit_of, place_in, clearings_of, each_weaker, Has, Has_map, map_has, Has_flat_map, flat_map_has, Has_filter, filter_has, each_has, Contains_from_Has, is_place_itself, times, only, some_term, only_no, place_at, map_number, map_of, Made, Report, IsLawfulWalk, IsCount, IsOutcomeOf, cache_of, parents_of, serial_of, journals_of, items_before, all_walks, walk_at, IsThere, FillsPlace, Covers, Fills, IsFilled, IsMarked, all_sets, IsRun, Step, IsAmong, gathered, steps_of, is_setting, set_in, at_some, some_at}
+use Rattle.std.proofs.Common.{lt-ltb}
 use Rattle.shr_base.specs.declared.walks.GoneThen.TheVariants as gone
-use Rattle.shr_base.specs.declared.walks.MapSeen.{MapSeen}
-use Rattle.shr_base.specs.declared.walks.Outcome.{Outcome}
 use Rattle.shr_base.specs.declared.walks.Outcome.TheVariants as outcome
-use Rattle.shr_base.specs.declared.walks.WalkRecord.{WalkRecord}
-use Rattle.shr_model.specs.Attempts.{is_held, counts_of}
-use Rattle.shr_model.specs.Bits.{is_set, set_bits_of, ids_in}
-use Rattle.shr_model.specs.Families.{lists_moved_at}
-use Rattle.shr_model.specs.Items.{IsOutcome, first_moved, later_moved, step, items_from, moved_from}
-use Rattle.shr_model.specs.Places.{place_number, is_place, unit_of, bit_of}
-use Rattle.shr_model.specs.Walks.{place_in, ids_seen, clearings_of}
-use Rattle.shr_model.proofs.BagLaws.{each_weaker}
-use Rattle.shr_model.proofs.Members.{Has, Has_map, map_has, Has_flat_map, flat_map_has, Has_filter, filter_has, each_has, Contains_from_Has}
-use Rattle.shr_model.proofs.PlacesLaws.{is_place_itself}
-use Rattle.shr_seats.specs.Weights.{times, only}
-use Rattle.shr_seats.proofs.Weighing.{some_term, only_no}
-use Rattle.shr_core.specs.Layout.{place_at, map_number, map_of}
+use Rattle.shr_model.specs.Bits.{set_bits_of, ids_in}
+use Rattle.shr_model.specs.Items.{items_from, moved_from}
+use Rattle.shr_model.specs.Walks.{ids_seen}
 use Rattle.shr_core.specs.Layout as layout
-use Rattle.shr_core.specs.Parts.{Made}
-use Rattle.shr_report.specs.declared.report.Report.{Report}
 use Rattle.shr_report.specs.BitsTold.{is_since, was_cleared_since, is_set_again, set_again_in, WasFilled, HasReason, place_of, AreBitsTold}
-use Rattle.shr_report.specs.LawfulWalk.{IsLawfulWalk, IsCount, IsOutcomeOf, cache_of}
-use Rattle.shr_report.specs.Parts.{parents_of, serial_of, journals_of, items_before, all_walks, walk_at, IsThere}
-use Rattle.shr_report.specs.WalksLawful.{FillsPlace, Covers}
-use Rattle.shr_assemble.specs.Entries.{Fills, IsFilled}
-use Rattle.shr_assemble.specs.Runs.{IsMarked, all_sets, IsRun}
-use Rattle.shr_assemble.specs.Steps.{Step, IsAmong, gathered, steps_of}
-use Rattle.shr_assemble.specs.Walks.{is_setting, set_in}
 use Rattle.shr_assemble.proofs.BitsKeptLaw.{was_cleared_by}
 use Rattle.shr_assemble.proofs.Flattening.{all_walks_are, WalkOf, walk_of, walk_there}
 use Rattle.shr_assemble.proofs.FreeExists.{outcome_at}
-use Rattle.shr_assemble.proofs.Gathering.{has_step, gathered_has, each_among, flat_among, some_at, at_some}
+use Rattle.shr_assemble.proofs.Gathering.{has_step, gathered_has, each_among, flat_among}
 use Rattle.shr_assemble.proofs.LawfulWalks.{lawful_walk}
 use Rattle.shr_assemble.proofs.Making.{made_stands, back_there}
 use Rattle.shr_assemble.proofs.Operations.{among_has, has_among}

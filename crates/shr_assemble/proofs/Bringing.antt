@@ -1,13 +1,6 @@
 -- What a command brings to its worker's state, from what its calls do.
-use Rattle.std.proofs.Common.{◌≡◌, ℕ, ◌+◌, List, ◌++◌, ap, ◌∙◌, arith, append_assoc}
-use Rattle.shr_base.specs.declared.journals.UseStep.{UseStep}
-use Rattle.shr_seats.proofs.Weighing.{begins_more}
-use Rattle.shr_charge.specs.Views.{Uses, both_uses}
-use Rattle.shr_core.proofs.Gains.{adds_then}
-use Rattle.shr_deferred.specs.Moves.{both}
+use Rattle.shr_assemble.proofs.Common.{◌≡◌, ℕ, ◌+◌, List, ◌++◌, ap, ◌∙◌, arith, append_assoc, UseStep, begins_more, Uses, both_uses, adds_then, both, WorkerState, Work, then_work, Does, Brings}
 use Rattle.shr_walk.proofs.Doing.{moves_assoc}
-use Rattle.shr_walk.specs.State.{WorkerState, Work, then_work, Does}
-use Rattle.shr_assemble.specs.Steps.{Brings}
 
 -- what a call does it brings
 pub brings_of : {s t : WorkerState} {w : Work} → Does s t w → Brings s t w

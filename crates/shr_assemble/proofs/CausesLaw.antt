@@ -1,32 +1,14 @@
 -- The law of causes, of a run.
-use Rattle.std.proofs.Common.{◌≡◌, ℕ, ⊎_elim, List, sym, refl, subst, ap, ◌∙◌}
-use Rattle.std.specs.Prelude.{slice_get, Some, option_and_then, Option}
-use Rattle.std.specs.Option.{IsSomeAnd}
-use Rattle.shr_base.specs.declared.places.Serial.{Serial}
-use Rattle.shr_base.specs.declared.journals.PoolEntry.TheVariants.{Registered}
-use Rattle.shr_base.specs.declared.journals.TreeEntry.TheVariants.{Begin, Done, Made}
-use Rattle.shr_base.specs.declared.replies.Answered.{Answered}
-use Rattle.shr_base.specs.declared.replies.HalfWhy.{HalfWhy}
+use Rattle.shr_assemble.proofs.Common.{◌≡◌, ℕ, ⊎_elim, List, sym, refl, subst, ap, ◌∙◌, slice_get, Some, option_and_then, Option, IsSomeAnd, Serial, Registered, Begin, Done, Answered, HalfWhy, Reply, Spent, Command, Release, Grab, Script, group_named, decl_named, Report, serial_of, command_at, answer_at, IsSpent, IsUnmade, IsOver, IsUncached, IsCached, IsFull, IsFreed, IsInTheWay, IsOfflined, StandsInTree, group_met, HasCause, Step, steps_of, IsWhyBy, IsUsedUpBy, IsCausedBy, Drains, IsRun, begin_at, made_at}
+use Rattle.shr_base.specs.declared.journals.TreeEntry.TheVariants.{Made}
 use Rattle.shr_base.specs.declared.replies.HalfWhy.TheVariants as why
-use Rattle.shr_base.specs.declared.replies.Reply.{Reply}
 use Rattle.shr_base.specs.declared.replies.Reply.TheVariants as reply
-use Rattle.shr_base.specs.declared.replies.Spent.{Spent}
-use Rattle.shr_base.specs.declared.scripts.Command.{Command}
-use Rattle.shr_base.specs.declared.scripts.Command.TheVariants.{Release, Grab}
-use Rattle.shr_base.specs.declared.scripts.Script.{Script}
-use Rattle.shr_model.specs.Commands.{group_named, decl_named}
-use Rattle.shr_report.specs.declared.report.Report.{Report}
-use Rattle.shr_report.specs.Parts.{serial_of, command_at, answer_at}
-use Rattle.shr_report.specs.Causes.{IsSpent, IsUnmade, IsOver, IsUncached, IsCached, IsFull, IsFreed, IsHalf, IsInTheWay, IsOfflined, StandsInTree, IsWhy}
+use Rattle.shr_report.specs.Causes.{IsHalf, IsWhy}
 use Rattle.shr_report.specs.CausesLawful.{AreCausesLawful}
-use Rattle.shr_report.specs.ReplyTable.{group_met, IsUsedUp, HasCause}
+use Rattle.shr_report.specs.ReplyTable.{IsUsedUp}
 use Rattle.shr_units.specs.Runs.{IsPoolWorn}
 use Rattle.shr_units.proofs.WalksLaw.{plain_worn}
 use Rattle.shr_units.proofs.WornLaw.{pool_worn}
-use Rattle.shr_assemble.specs.Steps.{Step, steps_of}
-use Rattle.shr_assemble.specs.Causes.{IsWhyBy, IsUsedUpBy, IsCausedBy}
-use Rattle.shr_assemble.specs.Entries.{Drains}
-use Rattle.shr_assemble.specs.Runs.{IsRun}
 use Rattle.shr_assemble.proofs.AnswerCauses.{over_caused, uncached, cached, full, registered, was_done, in_the_way}
 use Rattle.shr_assemble.proofs.EntryCauses.{begins_caused, dones_caused, mades_caused, pool_caused, drained_caused}
 use Rattle.shr_assemble.proofs.FreshLaw.{fresh_law}
@@ -35,7 +17,6 @@ use Rattle.shr_assemble.proofs.OfflinedCause.{offlined}
 use Rattle.shr_assemble.proofs.PoolCauses.{unregistered, freed, half}
 use Rattle.shr_assemble.proofs.Makers.{entry_stands}
 use Rattle.shr_assemble.proofs.Shown.{word_stands, tree_stands}
-use Rattle.shr_charge.proofs.TreeFacts.{begin_at, made_at}
 use Rattle.shr_assemble.proofs.SpentLaw.{spent_law}
 use Rattle.shr_assemble.proofs.WalkCauses.{walk_caused, attempt_caused, pass_caused}
 

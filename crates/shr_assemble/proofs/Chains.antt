@@ -1,10 +1,5 @@
 -- The states along a worker's steps.
-use Rattle.std.proofs.Common.{◌≡◌, ℕ, zero, suc, ◌<◌, List, [], ◌∷◌, sym, ap, subst, ◌∙◌, arith}
-use Rattle.std.specs.Prelude.{slice_get, Some}
-use Rattle.std.proofs.lemmas.Option.{same_Some, none-some}
-use Rattle.shr_seats.proofs.Weighing.{begins_all, begins_more}
-use Rattle.shr_walk.specs.State.{WorkerState}
-use Rattle.shr_assemble.specs.Steps.{Step, AreChained, Grows, Brings}
+use Rattle.shr_assemble.proofs.Common.{◌≡◌, ℕ, zero, suc, ◌<◌, List, [], ◌∷◌, sym, ap, subst, ◌∙◌, arith, slice_get, Some, same_Some, none-some, begins_all, begins_more, WorkerState, Step, AreChained, Grows, Brings}
 
 pub grows_none : (s : WorkerState) → Grows s s
 grows_none s = record { made = begins_all _; seen = begins_all _; known = begins_all _; sets = begins_all _; pool = begins_all _; dated = begins_all _; tree = begins_all _; words = begins_all _; walks = begins_all _ }

@@ -1,47 +1,19 @@
 -- The law of charges, of a run.
-use Rattle.std.proofs.Common.{◌≡◌, ℕ, zero, suc, ◌+◌, ◌<◌, ◌≤◌, ◌⊎◌, inl, inr, ⊎_elim, Bool, true, false, cond, List, [], ◌∷◌, length, drop, map, sym, refl, ap, subst, ◌∙◌, arith, eqb, eq-eqb}
-use Rattle.std.specs.Prelude.{slice_get, Some, None, Option, find, filter, sum_by, pos, ◌-ℤ◌, MatchOption}
-use Rattle.std.specs.List.{AllByRecursion, enumerate_from}
-use Rattle.std.specs.Option.{IsSomeAnd}
-use Rattle.std.proofs.lemmas.Bool.{and_parts, and_from, eqb-true, cases_Bool}
-use Rattle.std.proofs.lemmas.Option.{same_Some, none-some, slice_get_past}
-use Rattle.shr_base.specs.declared.journals.UseStep.{UseStep}
-use Rattle.shr_base.specs.declared.journals.Entry.{Entry}
-use Rattle.shr_base.specs.declared.journals.Entry.TheVariants.{Add, Look, Drop, Pin, Scan, MovedIn, Closed, Drained}
-use Rattle.shr_base.specs.declared.objects.Object.{Object}
-use Rattle.shr_base.specs.declared.places.Place.{Place}
-use Rattle.shr_base.specs.declared.places.Serial.{Serial}
-use Rattle.shr_base.specs.declared.scripts.Command.{Command}
-use Rattle.shr_base.specs.declared.scripts.Command.TheVariants.{Put, Get, Del, SetPin}
-use Rattle.shr_base.specs.declared.scripts.Script.{Script}
-use Rattle.shr_model.specs.Charges.{ups, usage_after, is_by, ops_by, IsDownNext, AreTakenBack}
-use Rattle.shr_model.specs.Commands.{is_serial, is_put}
-use Rattle.shr_model.specs.Families.{items_at}
-use Rattle.shr_model.specs.Freeings.{freeings_at, is_at_or_above, born_below}
-use Rattle.shr_model.specs.Items.{freed_by}
-use Rattle.shr_model.specs.Tenants.{by_of}
-use Rattle.shr_model.proofs.Members.{Has, filter_has}
-use Rattle.shr_seats.specs.Weights.{total}
-use Rattle.shr_core.specs.Layout.{place_at}
-use Rattle.shr_core.specs.Parts.{Made}
-use Rattle.shr_report.specs.declared.report.Report.{Report}
-use Rattle.shr_report.specs.Parts.{parents_of, limit_of, journals_of, places_of, serial_of, command_at, commands_of, reply_at, uses_at, entry_by, at, id_found}
-use Rattle.shr_report.specs.Charges.{IsDownBetween, ways_of, charged, is_of, freed_in, freed_below}
-use Rattle.shr_assemble.specs.Steps.{Step, IsAmong, steps_of, IsPut}
-use Rattle.shr_assemble.specs.Charges.{ops_at}
+use Rattle.shr_assemble.proofs.Common.{◌≡◌, ℕ, zero, suc, ◌+◌, ◌<◌, ◌≤◌, ◌⊎◌, inl, inr, ⊎_elim, Bool, true, false, cond, List, [], ◌∷◌, length, drop, map, sym, refl, ap, subst, ◌∙◌, arith, eqb, eq-eqb, slice_get, Some, None, Option, find, filter, sum_by, pos, ◌-ℤ◌, MatchOption, AllByRecursion, enumerate_from, IsSomeAnd, and_parts, and_from, eqb-true, cases_Bool, same_Some, none-some, slice_get_past, UseStep, Entry, Add, Look, Drop, Pin, Scan, MovedIn, Closed, Drained, Object, Place, Serial, Command, Put, Get, Del, SetPin, Script, ups, usage_after, is_by, ops_by, IsDownNext, AreTakenBack, is_serial, is_put, items_at, is_at_or_above, born_below, freed_by, by_of, Has, filter_has, total, place_at, Made, Report, parents_of, limit_of, journals_of, places_of, serial_of, command_at, commands_of, reply_at, uses_at, entry_by, at, id_found, IsDownBetween, charged, Step, IsAmong, steps_of, IsPut, ops_at, IsTold, IsDrained, MayMake, all_made, IsRun, all_zero, at_some, by_slices, count_total, some_at, sum_total}
+use Rattle.shr_model.specs.Freeings.{freeings_at}
+use Rattle.shr_report.specs.Charges.{ways_of, is_of, freed_in, freed_below}
 use Rattle.shr_assemble.specs.Charges as did
-use Rattle.shr_assemble.specs.Entries.{IsTold, IsDrained, MayMake}
-use Rattle.shr_assemble.specs.Runs.{all_made, IsRun}
-use Rattle.shr_assemble.proofs.Gathering.{each_among, has_step, total_same_on, some_at, at_some}
-use Rattle.shr_assemble.proofs.Listed.{all_among, by_slices, sum_total, count_total, no_test}
+use Rattle.shr_assemble.proofs.Gathering.{each_among, has_step, total_same_on}
+use Rattle.shr_assemble.proofs.Listed.{all_among, no_test}
 use Rattle.shr_assemble.proofs.Making.{made_stands, maker, reply_is}
 use Rattle.shr_assemble.proofs.Recounting.{journals_are}
 use Rattle.shr_assemble.proofs.Operations.{op_of, op_by, ops_are, ops_none, among_has}
 use Rattle.shr_assemble.proofs.IsolationSteps.{scanned_by, visited_by}
-use Rattle.shr_assemble.proofs.ScansLaw.{only_step, all_zero}
+use Rattle.shr_assemble.proofs.ScansLaw.{only_step}
 use Rattle.shr_assemble.proofs.RepliesLaw.{told_of}
 use Rattle.shr_assemble.proofs.ReplyEntries.{IsEntryFor, entry_asked}
 use Rattle.shr_assemble.proofs.FamilyObjects.{AddIs}
+use Rattle.shr_units.proofs.DeferredLaw.{same_totals}
 
 -- ---- totals
 pub total_filter : {A : Type 0} (h : A → ℕ) (p : A → Bool) (xs : List A) → total h (filter p xs) ≡ total (λ x. cond (p x) (h x) 0) xs
@@ -55,10 +27,6 @@ total_filter h p (x ∷ xs) = one (p x) (total_filter h p xs)
 pub total_map : {A B : Type 0} (h : B → ℕ) (f : A → B) (xs : List A) → total h (map f xs) ≡ total (λ x. h (f x)) xs
 total_map h f [] = refl
 total_map h f (x ∷ xs) = omega (arith, total_map h f xs)
-
-total_members : {A : Type 0} (g h : A → ℕ) (xs : List A) → ((j : ℕ) (x : A) → slice_get xs j ≡ Some x → g x ≡ h x) → total g xs ≡ total h xs
-total_members g h [] e = refl
-total_members g h (x ∷ xs) e = omega (arith, e 0 x refl, total_members g h xs (λ j y d. e (suc j) y d))
 
 -- ---- a list that a test keeps
 abbrev head : {A : Type 0} → List A → Option A
@@ -226,7 +194,7 @@ module _ (s : Script) (r : Report) (workers : List (List Step)) (run : IsRun s r
 
   -- of the command itself all does
   own_weighs : (g worker k : ℕ) (x : Step) → slice_get (steps_of workers worker) k ≡ Some x → total (weight_by x.by g) x.work.core.made ≡ sum_by (did.freed_below (parents_of s) g) x.work.core.made
-  own_weighs g worker k x at = total_members (weight_by x.by g) (did.freed_below (parents_of s) g) x.work.core.made (λ j m e. ⊎_elim
+  own_weighs g worker k x at = same_totals (weight_by x.by g) (did.freed_below (parents_of s) g) x.work.core.made (λ j m e. ⊎_elim
       (λ own. ap (λ o. cond (is_of x.by o) (born_below (parents_of s) g (freed_by m.items m.entry)) 0) own ∙ ap (λ b. cond b (born_below (parents_of s) g (freed_by m.items m.entry)) 0) (serial_same x.by))
       (λ none. cond_zero (is_of x.by (entry_by r m.entry)) (born_below (parents_of s) g (freed_by m.items m.entry)) (born_none g (freed_by m.items m.entry) none) ∙ sym (born_none g (freed_by m.items m.entry) none))
       (entry_own worker k x m m.entry at (j, some_at x.work.core.made j m e) refl (may_make worker k x j m at e)))

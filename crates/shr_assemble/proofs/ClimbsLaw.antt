@@ -1,25 +1,7 @@
 -- The lists on which a worker acts for one group go up only, of a run.
-use Rattle.std.proofs.Common.{◌≡◌, ℕ, ◌<◌, ◌≤◌, ⊎_elim, List, length, sym, ap, subst, ◌∙◌, arith}
-use Rattle.std.specs.Prelude.{slice_get, Some, option_and_then}
-use Rattle.std.proofs.lemmas.Bool.{cases_lt}
-use Rattle.std.proofs.lemmas.Option.{same_Some}
-use Rattle.shr_base.specs.declared.places.Place.{Place}
-use Rattle.shr_base.specs.declared.scripts.Script.{Script}
-use Rattle.shr_model.specs.Commands.{group_named}
-use Rattle.shr_model.specs.Groups.{path_of, IsAtOrAbove}
-use Rattle.shr_model.specs.Places.{place_number, at_group}
-use Rattle.shr_model.proofs.GroupsOrder.{on_le, on_chain, IsAtOrAbove-le, IsAtOrAbove-refl}
-use Rattle.shr_model.proofs.Members.{Has_from_Contains, Contains_from_Has}
-use Rattle.shr_seats.specs.Weights.{Begins}
-use Rattle.shr_core.specs.Parts.{Known}
-use Rattle.shr_core.specs.Layout.{place_at}
-use Rattle.shr_core.proofs.Listing.{back}
-use Rattle.shr_report.specs.declared.report.Report.{Report}
-use Rattle.shr_report.specs.Parts.{parents_of, cited_by, journals_of, at}
+use Rattle.shr_assemble.proofs.Common.{◌≡◌, ℕ, ◌<◌, ◌≤◌, ⊎_elim, List, length, sym, ap, subst, ◌∙◌, arith, slice_get, Some, option_and_then, cases_lt, same_Some, Place, Script, group_named, path_of, IsAtOrAbove, place_number, at_group, on_le, IsAtOrAbove-le, IsAtOrAbove-refl, Has_from_Contains, Contains_from_Has, Begins, Known, place_at, back, Report, parents_of, cited_by, journals_of, at, IsCited, Step, IsAmong, steps_of, IsRun}
+use Rattle.shr_model.proofs.GroupsOrder.{on_chain}
 use Rattle.shr_report.specs.Climbs.{ActsOn, AreClimbing}
-use Rattle.shr_assemble.specs.Entries.{IsCited}
-use Rattle.shr_assemble.specs.Steps.{Step, IsAmong, steps_of}
-use Rattle.shr_assemble.specs.Runs.{IsRun}
 use Rattle.shr_assemble.proofs.Gathering.{among_begins}
 use Rattle.shr_assemble.proofs.Listed.{contains_among}
 use Rattle.shr_assemble.proofs.Making.{grows, made_stands, replies}

@@ -1,38 +1,15 @@
 -- The counts that a report tells of a worker are those of its steps, in the order in which it made them.
-use Rattle.std.proofs.Common.{◌≡◌, ℕ, zero, suc, ◌+◌, ◌<◌, ◌≤◌, List, [], ◌∷◌, ◌++◌, length, length-append, map, take, sym, refl, ap, subst, ◌∙◌, arith, append_assoc}
-use Rattle.std.specs.Prelude.{slice_get, Some, flat_map}
-use Rattle.std.proofs.lemmas.Grind.{flat_map-append}
-use Rattle.std.proofs.lemmas.List.{map-append}
-use Rattle.std.proofs.lemmas.Option.{same_Some, none-some}
-use mathlib.Core.Option.{some, some-ne-none}
-use lib.ListN.{get_elem?}
-use Rattle.shr_base.specs.declared.places.Serial.{Serial}
-use Rattle.shr_base.specs.declared.scripts.Script.{Script}
-use Rattle.shr_base.specs.declared.walks.Attempt.{Attempt}
-use Rattle.shr_base.specs.declared.walks.WalkRecord.{WalkRecord}
-use Rattle.shr_model.specs.Attempts.{Count, counts_of}
-use Rattle.shr_model.specs.Places.{place_number}
-use Rattle.shr_model.specs.Walks.{place_in}
-use Rattle.shr_seats.specs.Lines.{Deed, by_seat, acts_of, part}
-use Rattle.shr_seats.specs.Weights.{Begins}
-use Rattle.shr_core.specs.Gained.{among, seen_in}
-use Rattle.shr_core.specs.Parts.{Event, Counted, counted, made, looked, loaded, turned, put_back, raised, cleared, mapped}
-use Rattle.shr_walk.specs.State.{WorkerState}
-use Rattle.shr_report.specs.declared.report.Report.{Report}
-use Rattle.shr_report.specs.Parts.{serial_of}
-use Rattle.shr_report.specs.OneOrder.{Counting, countings_in, countings_of}
-use Rattle.shr_assemble.specs.Runs.{IsRun}
-use Rattle.shr_assemble.specs.Steps.{Step, steps_of, AreChained, Brings}
-use Rattle.shr_assemble.specs.Walks.{counted_in}
+use Rattle.shr_assemble.proofs.Common.{◌≡◌, ℕ, zero, suc, ◌+◌, ◌<◌, ◌≤◌, List, [], ◌∷◌, ◌++◌, length, length-append, map, take, sym, refl, ap, subst, ◌∙◌, arith, append_assoc, slice_get, Some, flat_map, flat_map-append, map-append, same_Some, none-some, some, some-ne-none, get_elem?, Serial, Script, Attempt, WalkRecord, Count, counts_of, place_number, place_in, Deed, by_seat, acts_of, part, Begins, among, seen_in, Event, Counted, counted, made, looked, loaded, turned, put_back, raised, cleared, mapped, WorkerState, Report, serial_of, Counting, countings_of, IsRun, Step, steps_of, AreChained, Brings, counted_in, some_at}
+use Rattle.shr_report.specs.OneOrder.{countings_in}
 use Rattle.shr_assemble.proofs.Flattening.{slice_map}
-use Rattle.shr_assemble.proofs.Gathering.{FlatAt, flat_at, some_at, at_some}
+use Rattle.shr_assemble.proofs.Gathering.{FlatAt, flat_at}
 use Rattle.shr_assemble.proofs.LineOrder.{counted_of}
 use Rattle.shr_assemble.proofs.Making.{work_of}
 use Rattle.shr_assemble.proofs.Spots.{kind_spot, kind_there, kind_from, kind_within}
+use Rattle.shr_seats.proofs.Sums.{from_map}
+use Rattle.shr_core.proofs.Gains.{among-append}
 
 -- ---- lists
-at_map : {A B : Type 0} (f : A → B) (xs : List A) (i : ℕ) (y : B) → get_elem? (map f xs) i ≡ some y → (x : A) × (get_elem? xs i ≡ some x) × (f x ≡ y)
-at_map f xs i y e = let t = slice_map f xs i y (at_some (map f xs) i y e) in (t.0, some_at xs i t.0 t.1, t.2)
 
 pub at_behind : {A : Type 0} (xs ys : List A) (i : ℕ) (y : A) → get_elem? ys i ≡ some y → get_elem? (xs ++ ys) (length xs + i) ≡ some y
 at_behind [] ys i y e = let z : i ≡ 0 + i = omega arith in subst (λ (n : ℕ). get_elem? ys n ≡ some y) z e
@@ -59,10 +36,6 @@ one_seen (put_back i) = omega arith
 one_seen (raised x) = omega arith
 one_seen (cleared x) = omega arith
 one_seen (mapped x) = omega arith
-
-among_both : {A : Type 0} (f : Event → List A) (es fs : List Event) → among f (es ++ fs) ≡ among f es ++ among f fs
-among_both f [] fs = refl
-among_both f (e ∷ es) fs = ap (λ l. f e ++ l) (among_both f es fs) ∙ sym (append_assoc (f e) (among f es) (among f fs))
 
 pub acts_both : (xs ys : List (Deed Event)) → acts_of (xs ++ ys) ≡ acts_of xs ++ acts_of ys
 acts_both xs ys = map-append (λ (d : Deed Event). d.act) xs ys
@@ -115,7 +88,7 @@ counts_done y b =
     omega (
       arith,
       ap (λ l. length {A = Counted} (among seen_in l)) noted,
-      ap (length {A = Counted}) (among_both seen_in (acts_of y.before.core.did) b.core.did),
+      ap (length {A = Counted}) (among-append seen_in (acts_of y.before.core.did) b.core.did),
       length-append (among seen_in (acts_of y.before.core.did)) (among seen_in b.core.did),
       ap (length {A = Counted}) b.core.kinds.seen,
       length_timed y.by y.work.core.seen,
@@ -178,14 +151,14 @@ module _ (s : Script) (r : Report) (workers : List (List Step)) (run : IsRun s r
       let noted : acts_of x.after.core.did ≡ before ++ b.core.did = ap acts_of b.core.noted ∙ (acts_both x.before.core.did (by_seat x.before.core.seat b.core.did) ∙ ap (λ l. before ++ l) (acts_seat x.before.core.seat b.core.did)) in
       let all : acts_of (mine worker) ≡ (before ++ b.core.did) ++ acts_of p.0 = ap acts_of p.1 ∙ (acts_both x.after.core.did p.0 ∙ ap (λ l. l ++ acts_of p.0) noted) in
       let split : among seen_in (acts_of (mine worker)) ≡ (among seen_in before ++ among seen_in b.core.did) ++ among seen_in (acts_of p.0) =
-      ap (among seen_in) all ∙ (among_both seen_in (before ++ b.core.did) (acts_of p.0) ∙ ap (λ l. l ++ among seen_in (acts_of p.0)) (among_both seen_in before b.core.did)) in
+      ap (among seen_in) all ∙ (among-append seen_in (before ++ b.core.did) (acts_of p.0) ∙ ap (λ l. l ++ among seen_in (acts_of p.0)) (among-append seen_in before b.core.did)) in
       let here : get_elem? (among seen_in b.core.did) t.i ≡ some own.0 = ap (λ l. get_elem? l t.i) b.core.kinds.seen ∙ some_at x.work.core.seen t.i own.0 own.1 in
       let stands : get_elem? (among seen_in (acts_of (mine worker))) n ≡ some own.0 =
       ap (λ l. get_elem? l n) split ∙ at_before (among seen_in before ++ among seen_in b.core.did) (among seen_in (acts_of p.0)) n own.0
       (ap (get_elem? (among seen_in before ++ among seen_in b.core.did)) number ∙ at_behind (among seen_in before) (among seen_in b.core.did) t.i own.0 here) in
       let less : n < length (among seen_in (acts_of (mine worker))) = at_less (among seen_in (acts_of (mine worker))) n own.0 stands in
       let event = kind_there seen_in one_seen (acts_of (mine worker)) n own.0 stands in
-      let deed = at_map (λ (d : Deed Event). d.act) (mine worker) (count_spot worker n) event.0 event.1 in
+      let deed = from_map (λ (d : Deed Event). d.act) (mine worker) (count_spot worker n) event.0 event.1 in
       let tail : acts_of (mine worker) ≡ before ++ (b.core.did ++ acts_of p.0) = all ∙ append_assoc before b.core.did (acts_of p.0) in
       let length_before : length before ≡ length x.before.core.did = length_acts x.before.core.did in
       let length_after : length (before ++ b.core.did) ≡ length x.after.core.did = ap length (sym noted) ∙ length_acts x.after.core.did in
@@ -193,7 +166,7 @@ module _ (s : Script) (r : Report) (workers : List (List Step)) (run : IsRun s r
         arith,
         number,
         at_less (among seen_in b.core.did) t.i own.0 here,
-        ap (length {A = Counted}) (among_both seen_in before b.core.did),
+        ap (length {A = Counted}) (among-append seen_in before b.core.did),
         length-append (among seen_in before) (among seen_in b.core.did),
       ) in
       let low : length before ≤ kind_spot seen_in (before ++ (b.core.did ++ acts_of p.0)) n =

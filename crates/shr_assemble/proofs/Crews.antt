@@ -1,19 +1,6 @@
 -- The steps of all workers from what is known of them at the end, and what they have in all.
-use Rattle.std.proofs.Common.{◌≡◌, ℕ, zero, suc, ◌<◌, List, [], ◌∷◌, ◌++◌, length, sym, refl, ap, subst, ◌∙◌, arith}
-use Rattle.std.specs.Prelude.{slice_get, Some, flat_map}
-use Rattle.std.proofs.lemmas.Option.{same_Some, none-some, slice_get_within}
-use Rattle.std.specs.List.{AllByRecursion}
-use Rattle.shr_base.specs.declared.scripts.Sweep.{Sweep}
-use Rattle.shr_core.specs.declared.view.View.{View}
-use Rattle.shr_pool.specs.declared.items.SweepItem.{SweepItem}
-use Rattle.shr_report.specs.Parts.{sweeps_of}
-use Rattle.shr_walk.specs.declared.seats.Shared.{Shared}
-use Rattle.shr_walk.specs.Sharing.{IsShared}
-use Rattle.shr_walk.specs.State.{WorkerState}
-use Rattle.shr_worker.specs.Chain.{CrewState, commands_of, serial_of}
-use Rattle.shr_assemble.specs.declared.logs.WorkerLog.{WorkerLog}
-use Rattle.shr_assemble.specs.Steps.{Step, gathered, Brings}
-use Rattle.shr_assemble.specs.Ends.{new_worker, HasWorked}
+use Rattle.shr_assemble.proofs.Common.{◌≡◌, ℕ, zero, suc, ◌<◌, List, [], ◌∷◌, ◌++◌, length, sym, refl, ap, subst, ◌∙◌, arith, slice_get, Some, flat_map, same_Some, none-some, slice_get_within, AllByRecursion, Sweep, View, SweepItem, sweeps_of, Shared, IsShared, WorkerState, CrewState, WorkerLog, Step, gathered, Brings, new_worker, HasWorked}
+use Rattle.shr_worker.specs.Chain.{commands_of, serial_of}
 use Rattle.shr_assemble.proofs.Rows.{DidEach, IsThereItem, along}
 use Rattle.shr_assemble.proofs.SweptRows.{IsWorkerRow, worker_row}
 

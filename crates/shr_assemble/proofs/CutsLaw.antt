@@ -1,18 +1,6 @@
 -- A walk that memory cut short ended its command, of a run.
-use Rattle.std.proofs.Common.{◌≡◌, false, List, ap, sym, subst, ◌∙◌}
-use Rattle.std.specs.Prelude.{AllPairs}
-use Rattle.std.specs.List.{list_any}
-use Rattle.shr_base.specs.declared.places.Serial.{Serial}
-use Rattle.shr_base.specs.declared.replies.Answered.{Answered}
-use Rattle.shr_base.specs.declared.scripts.Command.{Command}
-use Rattle.shr_base.specs.declared.scripts.Script.{Script}
-use Rattle.shr_base.specs.declared.walks.WalkRecord.{WalkRecord}
-use Rattle.shr_model.specs.Walks.{is_cut}
-use Rattle.shr_report.specs.declared.report.Report.{Report}
-use Rattle.shr_report.specs.Cuts.{IsWant, AreCutsTold}
-use Rattle.shr_assemble.specs.Steps.{Step}
-use Rattle.shr_assemble.specs.Runs.{IsRun}
-use Rattle.shr_assemble.specs.Walks.{DidJobs, AreWalksFor}
+use Rattle.shr_assemble.proofs.Common.{◌≡◌, false, List, ap, sym, subst, ◌∙◌, AllPairs, list_any, Serial, Answered, Command, Script, WalkRecord, is_cut, Report, IsWant, Step, IsRun, DidJobs, AreWalksFor}
+use Rattle.shr_report.specs.Cuts.{AreCutsTold}
 use Rattle.shr_assemble.proofs.Making.{Stepped, stepped}
 use Rattle.shr_assemble.proofs.WalksLaw.{walks_are}
 

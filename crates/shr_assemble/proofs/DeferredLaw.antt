@@ -1,42 +1,9 @@
 -- The law of deferred words, of a run.
-use Rattle.std.proofs.Common.{◌≡◌, ℕ, suc, ◌+◌, ◌<◌, ◌⊎◌, inl, inr, ⊎_elim, Bool, true, false, ◌&&◌, cond, List, [], ◌∷◌, ◌++◌, length, take, get_or, sym, refl, ap, subst, ◌∙◌, arith}
-use Rattle.std.specs.Prelude.{slice_get, Option, Some, sum_by, flat_map, filter, filter_map, AllPairs, ◌==◌}
-use Rattle.std.specs.List.{AllByRecursion}
-use mathlib.Core.Logic.{dite}
-use native.Mathlib.Decide.{ℕ_discrete}
-use Rattle.std.specs.Option.{IsSomeAnd}
-use Rattle.std.proofs.lemmas.Bool.{cases_lt, and_parts, eqb-true}
-use Rattle.std.proofs.lemmas.Option.{same_Some, slice_get_within, get_or_from_slice_get}
-use Rattle.std.proofs.lemmas.List.Sums.{sum_by-append, sum_by-cons}
-use Rattle.std.proofs.lemmas.Grind.{flat_map-append}
-use Rattle.shr_base.specs.declared.places.Place.{Place}
-use Rattle.shr_base.specs.declared.ends.PlaceAmount.{PlaceAmount}
-use Rattle.shr_base.specs.declared.scripts.Script.{Script}
-use Rattle.shr_base.specs.declared.walks.Attempt.{Attempt}
-use Rattle.shr_base.specs.declared.walks.Carry.{Carry}
-use Rattle.shr_base.specs.declared.walks.PassRecord.{PassRecord}
-use Rattle.shr_base.specs.declared.walks.WalkRecord.{WalkRecord}
-use Rattle.shr_model.specs.Attempts.{pass_of}
-use Rattle.shr_model.specs.Deferred.{sum_at, amount_at, deferred_word}
-use Rattle.shr_model.specs.Moves.{is_below, given_at, taken_at}
-use Rattle.shr_model.specs.Places.{is_place}
-use Rattle.shr_model.specs.Walks.{place_in, passes_at}
-use Rattle.shr_model.proofs.PlacesLaws.{is_place_same}
-use Rattle.shr_model.specs.Groups.{IsTree, is_child}
-use Rattle.shr_model.proofs.GroupsLaws.{child_takes, child_higher}
-use Rattle.shr_deferred.specs.Moves.{takes_of, gives_of}
-use Rattle.shr_base.specs.declared.places.Serial.{Serial}
-use Rattle.shr_base.specs.declared.replies.Reply.{Reply}
-use Rattle.shr_report.specs.declared.report.Report.{Report}
-use Rattle.shr_report.specs.Parts.{parents_of, all_walks, all_carries, carries_of, IsThere, serial_of, command_at, reply_at}
-use Rattle.shr_report.specs.Deferred.{printed_at, HasCarried, IsCarryRight, IsDeferredLawful}
-use Rattle.shr_report.specs.WellFormed.{IsBefore}
-use Rattle.shr_assemble.specs.Steps.{Step, IsAmong, gathered, steps_of}
-use Rattle.shr_assemble.specs.Did.{Did}
-use Rattle.shr_assemble.specs.Deferred.{DidCarry}
-use Rattle.shr_assemble.specs.Runs.{all_takes, all_gives, IsRun}
-use Rattle.shr_assemble.proofs.Gathering.{each_step, has_step, flat_at, some_at}
-use Rattle.shr_assemble.proofs.Listed.{all_among, all_slice, by_slices, no_test}
+use Rattle.shr_assemble.proofs.Common.{◌≡◌, ℕ, suc, ◌+◌, ◌<◌, ◌⊎◌, inl, inr, ⊎_elim, Bool, true, false, ◌&&◌, cond, List, [], ◌∷◌, ◌++◌, length, take, get_or, sym, refl, ap, subst, ◌∙◌, arith, slice_get, Option, Some, sum_by, flat_map, filter, filter_map, AllPairs, ◌==◌, AllByRecursion, dite, ℕ_discrete, IsSomeAnd, cases_lt, and_parts, eqb-true, same_Some, slice_get_within, get_or_from_slice_get, sum_by-append, sum_by-cons, flat_map-append, Place, PlaceAmount, Script, Attempt, Carry, PassRecord, WalkRecord, pass_of, sum_at, amount_at, deferred_word, is_below, given_at, taken_at, is_place, place_in, passes_at, is_place_same, IsTree, is_child, child_takes, child_higher, takes_of, gives_of, Serial, Reply, Report, parents_of, all_walks, all_carries, IsThere, serial_of, command_at, reply_at, HasCarried, IsBefore, Step, IsAmong, gathered, steps_of, Did, DidCarry, all_takes, all_gives, IsRun, by_slices, some_at, flat_zero}
+use Rattle.shr_report.specs.Parts.{carries_of}
+use Rattle.shr_report.specs.Deferred.{printed_at, IsCarryRight, IsDeferredLawful}
+use Rattle.shr_assemble.proofs.Gathering.{each_step, has_step, flat_at}
+use Rattle.shr_assemble.proofs.Listed.{all_among, all_slice, no_test}
 use Rattle.shr_assemble.proofs.Making.{reply_is}
 use Rattle.shr_assemble.proofs.Flattening.{all_walks_are, all_carries_are}
 
@@ -109,10 +76,6 @@ pub filter_none : {A : Type 0} (p : A → Bool) (xs : List A) → ((k : ℕ) (x 
 filter_none p [] h = refl
 filter_none p (x ∷ xs) h = ap (λ b. cond b (x ∷ filter p xs) (filter p xs)) (h 0 x refl) ∙ filter_none p xs (λ k y e. h (suc k) y e)
 
-pub flat_none : {A B : Type 0} (f : A → List B) (xs : List A) → ((k : ℕ) (x : A) → slice_get xs k ≡ Some x → f x ≡ []) → flat_map f xs ≡ []
-flat_none f [] h = refl
-flat_none f (x ∷ xs) h = ap (λ l. l ++ flat_map f xs) (h 0 x refl) ∙ flat_none f xs (λ k y e. h (suc k) y e)
-
 sum_none : {A : Type 0} (f : A → ℕ) (xs : List A) → ((k : ℕ) (x : A) → slice_get xs k ≡ Some x → f x ≡ 0) → sum_by f xs ≡ 0
 sum_none f [] h = refl
 sum_none f (x ∷ xs) h = omega (arith, sum_by-cons f x xs, h 0 x refl, sum_none f xs (λ k y e. h (suc k) y e))
@@ -131,7 +94,7 @@ module _ (s : Script) (tree : IsTree (parents_of s)) (p : Place) (out : IsThere 
   taken_none : taken_at x.work.walks x.work.carries p ≡ 0
   taken_none = omega (
     arith,
-    ap (sum_by (λ (q : PassRecord). q.nr)) (flat_none (passes_at p) x.work.walks passes_none),
+    ap (sum_by (λ (q : PassRecord). q.nr)) (flat_zero (passes_at p) x.work.walks passes_none),
     sum_none (λ (c : Carry). cond (is_place p c.place) c.amount 0) x.work.carries
         (λ k c e. ap (λ b. cond {A = ℕ} b c.amount 0) (no_test (is_place p c.place) (λ same. out (subst (IsThere s) (sym (is_place_same p c.place same)) (all_slice (DidCarry s x) x.work.carries k c did.moves.carries e).there)))),
   )
@@ -152,7 +115,7 @@ module _ (s : Script) (tree : IsTree (parents_of s)) (p : Place) (out : IsThere 
   given_none : given_at (parents_of s) x.work.walks x.work.carries p ≡ 0
   given_none = omega (
     arith,
-    ap (sum_by (λ (q : PassRecord). q.next)) (flat_none (passes_at p) x.work.walks passes_none),
+    ap (sum_by (λ (q : PassRecord). q.next)) (flat_zero (passes_at p) x.work.walks passes_none),
     sum_none (λ (c : Carry). cond (is_below (parents_of s) p c.place) c.amount 0) x.work.carries
         (λ k c e. ap (λ b. cond {A = ℕ} b c.amount 0) (no_test (is_below (parents_of s) p c.place) (λ h. out (below_there c.place (all_slice (DidCarry s x) x.work.carries k c did.moves.carries e).there h)))),
   )

@@ -1,52 +1,15 @@
 -- What a del did.
-use Rattle.std.proofs.Common.{◌≡◌, ℕ, ◌+◌, ◌<◌, inl, inr, Bool, true, false, cond, ◌==◌, List, [], ◌∷◌, length, refl, sym, ap, ◌∙◌, arith}
-use Rattle.std.specs.Prelude.{Option, Some, None, bytes_eq}
-use Rattle.std.proofs.lemmas.Option.{same_Some, none-some}
-use Rattle.std.proofs.lemmas.Bool.{and_parts, eqb-true}
-use Rattle.std.proofs.lemmas.List.{append-nil}
-use Rattle.std.proofs.lemmas.List.Sums.{sum_by-cons}
-use Rattle.shr_base.specs.declared.journals.DropKind.{DropKind}
+use Rattle.shr_assemble.proofs.Common.{◌≡◌, ℕ, ◌+◌, ◌<◌, inl, inr, Bool, true, false, cond, ◌==◌, List, [], ◌∷◌, length, refl, sym, ap, ◌∙◌, arith, Option, Some, None, bytes_eq, same_Some, none-some, and_parts, eqb-true, append-nil, sum_by-cons, DropKind, born_below, path_of, drop_kind_of, dropped_of, Made, Turns, spent_by, Uses, within_of_valid, does_then, is_past_group, added_below, freed_below, Step, Object, Serial, At, Entry, Drop, Answered, Found, Reply, Spent, Command, Del, is_named, named_in, View, shape_of, Listed, IsObjectWithin, content_of, Shared, WorkerState, Work, no_work, then_work, Does, parents_of}
 use Rattle.shr_base.specs.declared.journals.DropKind.TheVariants as kind
-use Rattle.shr_model.specs.Freeings.{born_below}
-use Rattle.shr_model.specs.Groups.{path_of}
-use Rattle.shr_model.specs.Items.{drop_kind_of, dropped_of}
-use Rattle.shr_core.specs.Parts.{Made, Turns}
-use Rattle.shr_charge.specs.Seat.{spent_by}
-use Rattle.shr_charge.specs.Views.{Uses}
-use Rattle.shr_script.proofs.BoundsLaws.{within_of_valid}
-use Rattle.shr_walk.proofs.Doing.{does_then}
-use Rattle.shr_report.specs.Freshness.{is_past_group}
 use Rattle.shr_charge.specs.declared.answers.GroupState.TheVariants as state
-use Rattle.shr_assemble.specs.Charges.{added_below, freed_below}
-use Rattle.shr_assemble.specs.Steps.{Step}
-use Rattle.shr_base.specs.declared.objects.Object.{Object}
-use Rattle.shr_base.specs.declared.places.Serial.{Serial}
-use Rattle.shr_base.specs.declared.places.At.{At}
-use Rattle.shr_base.specs.declared.journals.Entry.{Entry}
-use Rattle.shr_base.specs.declared.journals.Entry.TheVariants.{Drop}
-use Rattle.shr_base.specs.declared.replies.Answered.{Answered}
-use Rattle.shr_base.specs.declared.replies.Found.{Found}
-use Rattle.shr_base.specs.declared.replies.Reply.{Reply}
 use Rattle.shr_base.specs.declared.replies.Reply.TheVariants as reply
-use Rattle.shr_base.specs.declared.replies.Spent.{Spent}
 use Rattle.shr_base.specs.declared.replies.Spent.TheVariants as spent
-use Rattle.shr_base.specs.declared.scripts.Command.{Command}
-use Rattle.shr_base.specs.declared.scripts.Command.TheVariants.{Del}
-use Rattle.shr_model.specs.Objects.{is_named, named_in}
 use Rattle.shr_model.proofs.ObjectLaws.{length_after_drop}
-use Rattle.shr_core.specs.declared.view.View.{View}
-use Rattle.shr_core.specs.Seats.{shape_of}
 use Rattle.shr_list.specs.Answers.{drop_entry}
-use Rattle.shr_list.specs.Listed.{Listed}
 use Rattle.shr_node.specs.declared.answers.NodeDrop.{NodeDrop}
 use Rattle.shr_node.specs.declared.answers.NodeDrop.TheVariants as drop
 use Rattle.shr_node.specs.Answers.{DropGives}
-use Rattle.shr_script.specs.Bounds.{IsObjectWithin}
-use Rattle.shr_script.specs.Content.{content_of}
-use Rattle.shr_walk.specs.declared.seats.Shared.{Shared}
-use Rattle.shr_walk.specs.State.{WorkerState, Work, no_work, then_work, Does}
 use Rattle.shr_cache.specs.Dels.{Drops, DropsAndUncharges, DroppedFrom, DroppedNone, DroppedAs, DelGives}
-use Rattle.shr_report.specs.Parts.{parents_of}
 use Rattle.shr_assemble.proofs.Bringing.{brings_of}
 use Rattle.shr_assemble.proofs.Quiet.{step_of, HasDid, calm_walks, still_moves, still_pool, still_tree, some_met, meets_none}
 use Rattle.shr_assemble.proofs.QuietSteps.{AreTables, tree_is, on_list, on_list_does, on_list_online, found_entry, found_by}

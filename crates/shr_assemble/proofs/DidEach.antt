@@ -1,19 +1,5 @@
 -- Each command's clause gives what it did, and that of a helper what it did for the sweep.
-use Rattle.std.proofs.Common.{◌≡◌, ℕ, List, [], ◌++◌, sym, refl, ap, ◌∙◌}
-use Rattle.std.specs.Prelude.{None, Some, slice_get}
-use Rattle.std.proofs.lemmas.List.{append-nil}
-use Rattle.std.proofs.lemmas.Option.{none-some}
-use Rattle.shr_base.specs.declared.places.Serial.{Serial}
-use Rattle.shr_base.specs.declared.replies.Answered.{Answered}
-use Rattle.shr_base.specs.declared.scripts.Command.{Command}
-use Rattle.shr_base.specs.declared.scripts.Command.TheVariants.{Put, Get, Del, SetPin, Shrink, Balance, Offline, MkGroup, Register, Unregister, Isolate, Release, Grab}
-use Rattle.shr_base.specs.declared.scripts.Script.{Script}
-use Rattle.shr_base.specs.declared.walks.Isolation.{Isolation}
-use Rattle.shr_walk.specs.declared.seats.Shared.{Shared}
-use Rattle.shr_script.specs.Bounds.{IsCommandWithin, IsIsolationWithin}
-use Rattle.shr_script.specs.Content.{content_of}
-use Rattle.shr_report.specs.Isolated.{isolations_told}
-use Rattle.shr_worker.specs.Chain.{CrewState, DeedGives}
+use Rattle.shr_assemble.proofs.Common.{◌≡◌, ℕ, List, [], ◌++◌, sym, refl, ap, ◌∙◌, None, Some, slice_get, append-nil, none-some, Serial, Answered, Command, Put, Get, Del, SetPin, Shrink, Balance, Offline, MkGroup, Register, Unregister, Isolate, Release, Grab, Script, Isolation, Shared, IsCommandWithin, IsIsolationWithin, content_of, isolations_told, CrewState, DeedGives}
 use Rattle.shr_worker.proofs.Pooled.{isolate_there}
 use Rattle.shr_assemble.proofs.Fit.{IsFit}
 use Rattle.shr_assemble.proofs.BalanceDid.{balance_did}

@@ -1,36 +1,13 @@
 -- In a run a list is drained while its id is dying, and an id comes to be idle with empty lists.
-use Rattle.std.proofs.Common.{◌≡◌, ◌≢◌, ◌⊎◌, ℕ, zero, suc, ◌+◌, ◌%◌, ◌<◌, ◌≤◌, ⊎_elim, Bool, cond, take, List, [], ◌∷◌, ◌++◌, length, length-append, get_or, sym, refl, ap, subst, ◌∙◌, arith, eqb, eq-eqb, ne_eqb}
-use Rattle.std.specs.Prelude.{slice_get, Option, Some, None}
-use Rattle.std.proofs.lemmas.Option.{same_Some, none-some, slice_get-get_or}
-use mathlib.Core.Logic.{dite}
-use native.Mathlib.Decide.{ℕ_discrete, dec_lt}
-use mathlib.Core.Option.{some, some-injective}
-use lib.ListN.{get_elem?}
-use Rattle.shr_base.specs.declared.journals.Entry.{Entry}
-use Rattle.shr_base.specs.declared.journals.Entry.TheVariants.{Add, Look, Drop, Pin, Scan, MovedIn, Closed, Drained}
-use Rattle.shr_base.specs.declared.journals.PoolEntry.{PoolEntry}
-use Rattle.shr_base.specs.declared.journals.PoolEntry.TheVariants.{Registered, Idle}
-use Rattle.shr_base.specs.declared.places.Place.{Place}
-use Rattle.shr_base.specs.declared.places.Serial.{Serial}
-use Rattle.shr_base.specs.declared.scripts.Script.{Script}
-use Rattle.shr_model.specs.Items.{HasJournal}
-use Rattle.shr_model.specs.Places.{place_number}
+use Rattle.shr_assemble.proofs.Common.{◌≡◌, ◌≢◌, ◌⊎◌, ℕ, zero, suc, ◌+◌, ◌%◌, ◌<◌, ◌≤◌, ⊎_elim, Bool, cond, take, List, [], ◌∷◌, ◌++◌, length, length-append, get_or, sym, refl, ap, subst, ◌∙◌, arith, eqb, eq-eqb, ne_eqb, slice_get, Option, Some, None, same_Some, none-some, slice_get-get_or, dite, ℕ_discrete, dec_lt, some, some-injective, get_elem?, Entry, Add, Look, Drop, Pin, Scan, MovedIn, Closed, Drained, PoolEntry, Registered, Idle, Place, Serial, Script, HasJournal, place_number, HasJournal_none, Deed, Begins, begins_all, begins_more, id_of, Event, Made, Turn, counted, made, looked, loaded, turned, put_back, raised, cleared, mapped, Moment, moment_next, last_moment, IsTimely, IsSo, so_before, Report, journals_of, decls_on, IsThere, Told, entry, lookup, turn, count, HasAt, looked_by, IsInOneOrder, IsRun, Step}
 use Rattle.shr_model.specs.Pool.{phase_of}
 use Rattle.shr_model.specs.Pool as pool
-use Rattle.shr_model.proofs.ItemsLaws.{HasJournal_none}
-use Rattle.shr_seats.specs.Lines.{Deed, state_after}
-use Rattle.shr_seats.specs.Weights.{Begins}
-use Rattle.shr_seats.proofs.Weighing.{begins_all, begins_push, begins_more}
-use Rattle.shr_core.specs.Layout.{id_of}
-use Rattle.shr_core.specs.Parts.{Event, Made, Turn, counted, made, looked, loaded, turned, put_back, raised, cleared, mapped}
-use Rattle.shr_core.specs.Order.{Moment, at_start, moment_after, moment_next, last_moment, IsTimely, IsSo, LeavesNothing}
+use Rattle.shr_seats.specs.Lines.{state_after}
+use Rattle.shr_seats.proofs.Weighing.{begins_push}
+use Rattle.shr_core.specs.Order.{at_start, moment_after, LeavesNothing}
 use Rattle.shr_core.specs.Ranks.{entries, turns}
-use Rattle.shr_core.proofs.InUse.{before, before_next, so_before, moment_before, grown}
-use Rattle.shr_report.specs.declared.report.Report.{Report}
-use Rattle.shr_report.specs.Parts.{journals_of, decls_on, IsThere}
-use Rattle.shr_report.specs.OneOrder.{Told, entry, lookup, turn, count, HasAt, looked_by, IsDrained, ComesBehind, IsWhileDying, IsWhileEmpty, IsInOneOrder}
-use Rattle.shr_assemble.specs.Runs.{IsRun}
-use Rattle.shr_assemble.specs.Steps.{Step}
+use Rattle.shr_core.proofs.InUse.{before, before_next, moment_before, grown}
+use Rattle.shr_report.specs.OneOrder.{IsDrained, ComesBehind, IsWhileDying, IsWhileEmpty}
 use Rattle.shr_assemble.proofs.InUseLaw.{id_there, there_at, not_idle, take_all, used}
 use Rattle.shr_assemble.proofs.OneOrderLaw.{InLine, opened, rank, stands, start_rank, by_numbers, by_worker, looked_rise, counted_rise}
 

@@ -1,38 +1,17 @@
 -- Each step's state is so in the report, of a run whose workers are done.
-use Rattle.std.proofs.Common.{◌≡◌, ℕ, ◌≤◌, List, ◌∷◌, ◌++◌, sym, refl, ap, subst, ◌∙◌, arith}
-use Rattle.std.specs.Prelude.{slice_get, Some, All}
-use Rattle.std.proofs.lemmas.Option.{slice_get_within}
-use Rattle.shr_base.specs.declared.journals.PoolEntry.{PoolEntry}
-use Rattle.shr_base.specs.declared.journals.TreeEntry.{TreeEntry}
-use Rattle.shr_base.specs.declared.journals.UseStep.{UseStep}
-use Rattle.shr_model.specs.Groups.{Hierarchy}
-use Rattle.shr_seats.specs.Views.{Each}
-use Rattle.shr_seats.specs.Weights.{Begins}
-use Rattle.shr_seats.proofs.Weighing.{begins_more}
-use Rattle.shr_core.specs.Parts.{Loaded}
-use Rattle.shr_charge.specs.Offlining.{IsNamed, IsMade, IsHeard}
+use Rattle.shr_assemble.proofs.Common.{◌≡◌, ℕ, ◌≤◌, List, ◌∷◌, ◌++◌, sym, refl, ap, subst, ◌∙◌, arith, slice_get, Some, All, slice_get_within, PoolEntry, TreeEntry, UseStep, Hierarchy, Each, Begins, begins_more, Loaded, IsNamed, IsMade, Uses, Shared, WorkerState, CrewState, Ends, Report, lookups_at, uses_at, WorkerLog, AreEndsOf, at_start, new_worker, IsMadeOf, Step, IsAmong, steps_of, Grows, Brings, IsShownIn, AreSteps, at_some, some_at}
+use Rattle.shr_charge.specs.Offlining.{IsHeard}
 use Rattle.shr_charge.specs.Uses.{IsThere}
-use Rattle.shr_charge.specs.Views.{Uses}
-use Rattle.shr_walk.specs.declared.seats.Shared.{Shared}
-use Rattle.shr_walk.specs.State.{WorkerState}
 use Rattle.shr_walk.proofs.Shares.{same_hierarchy}
-use Rattle.shr_worker.specs.Chain.{CrewState}
-use Rattle.shr_tables.specs.declared.ending.Ends.{Ends}
-use Rattle.shr_report.specs.declared.report.Report.{Report}
 use Rattle.shr_report.specs.Parts as report
-use Rattle.shr_report.specs.Parts.{hierarchy_of, lookups_at, uses_at}
-use Rattle.shr_assemble.specs.declared.logs.WorkerLog.{WorkerLog}
-use Rattle.shr_assemble.specs.Ends.{AreEndsOf, at_start, new_worker}
-use Rattle.shr_assemble.specs.Makes.{IsMadeOf}
-use Rattle.shr_assemble.specs.Steps.{Step, IsAmong, steps_of, Grows, Brings}
-use Rattle.shr_assemble.specs.Runs.{IsShownIn, AreSteps}
+use Rattle.shr_report.specs.Parts.{hierarchy_of}
 use Rattle.shr_assemble.proofs.Crews.{there_at}
 use Rattle.shr_assemble.proofs.EndsGathered.{last, cleared_are, sets_are}
 use Rattle.shr_assemble.proofs.EndsHistories.{history_is}
 use Rattle.shr_assemble.proofs.EndsLookups.{lookups_at_below}
 use Rattle.shr_assemble.proofs.EndsShown as shown
 use Rattle.shr_assemble.proofs.EndsSteps.{workers, is_crew, steps}
-use Rattle.shr_assemble.proofs.Gathering.{some_at, at_some, mine_at, among_right, among_flat, each_among}
+use Rattle.shr_assemble.proofs.Gathering.{mine_at, among_right, among_flat, each_among}
 use Rattle.shr_assemble.proofs.Joined as joined
 use Rattle.shr_assemble.proofs.Lasts.{after_begins, after_grows, each_last, all_from_each}
 use Rattle.shr_assemble.proofs.Listed.{all_slice, all_among}

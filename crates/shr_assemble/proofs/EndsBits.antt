@@ -1,32 +1,7 @@
 -- The bits that are set at the end, of a run whose workers are done.
-use Rattle.std.proofs.Common.{◌≡◌, ℕ, ◌%◌, ◌<◌, ◌≤◌, ◌≢◌, ⊎_elim, true, List, [], ◌∷◌, length, sym, refl, ap, subst, ◌∙◌, arith, eq-eqb}
-use Rattle.std.specs.Prelude.{find}
-use Rattle.std.specs.Int.{bit_at}
-use Rattle.std.proofs.lemmas.Bool.{eqb-true}
-use Rattle.shr_base.specs.declared.journals.Entry.{Entry}
-use Rattle.shr_base.specs.declared.journals.PoolEntry.{PoolEntry}
-use Rattle.shr_base.specs.declared.objects.Object.{Object}
-use Rattle.shr_base.specs.declared.places.Place.{Place}
-use Rattle.shr_model.specs.Families.{lists_moved_at}
-use Rattle.shr_model.specs.Items.{items_from}
-use Rattle.shr_model.specs.Places.{place_number, unit_of, bit_of}
-use Rattle.shr_model.specs.Pool.{phase_of, is_live}
-use Rattle.shr_model.proofs.FamilyLaws.{items_none}
-use Rattle.shr_seats.specs.Weights.{times}
-use Rattle.shr_core.specs.Ending.{units_in}
-use Rattle.shr_core.specs.Layout.{id_of, group_of, map_number, map_of}
+use Rattle.shr_assemble.proofs.Common.{◌≡◌, ℕ, ◌%◌, ◌<◌, ◌≤◌, ◌≢◌, ⊎_elim, true, List, [], ◌∷◌, length, sym, refl, ap, subst, ◌∙◌, arith, eq-eqb, find, bit_at, eqb-true, Entry, PoolEntry, Object, Place, lists_moved_at, items_from, place_number, unit_of, bit_of, phase_of, is_live, items_none, times, units_in, id_of, group_of, map_number, map_of, items_now, groups_in, place_back, Shared, Ends, Report, has_bit, parents_of, journals_of, items_left, IsThere, WorkerLog, AreEndsOf, at_start, IsMadeOf}
 use Rattle.shr_core.specs.Layout as layout
-use Rattle.shr_core.specs.Rule.{items_now}
-use Rattle.shr_seats.specs.Shapes.{groups_in}
-use Rattle.shr_core.proofs.Left.{place_back}
-use Rattle.shr_walk.specs.declared.seats.Shared.{Shared}
-use Rattle.shr_tables.specs.declared.ending.Ends.{Ends}
-use Rattle.shr_report.specs.declared.report.Report.{Report}
-use Rattle.shr_report.specs.BitsLawful.{AreBitsLawful, has_bit, shows_bit}
-use Rattle.shr_report.specs.Parts.{parents_of, journals_of, items_left, IsThere}
-use Rattle.shr_assemble.specs.declared.logs.WorkerLog.{WorkerLog}
-use Rattle.shr_assemble.specs.Ends.{AreEndsOf, at_start}
-use Rattle.shr_assemble.specs.Makes.{IsMadeOf}
+use Rattle.shr_report.specs.BitsLawful.{AreBitsLawful, shows_bit}
 use Rattle.shr_assemble.proofs.BitWords.{found_nodes}
 use Rattle.shr_assemble.proofs.EndsGathered.{last}
 use Rattle.shr_assemble.proofs.EndsJournals.{there, items_same, same_parents}
@@ -36,7 +11,7 @@ use Rattle.shr_assemble.proofs.Joined.{joined_owed}
 use Rattle.shr_assemble.proofs.Opening.{fresh_opened}
 use Rattle.shr_assemble.proofs.Rows.{DidEach}
 
-none_of : (es : List Entry) → length es ≤ 0 → es ≡ []
+pub none_of : (es : List Entry) → length es ≤ 0 → es ≡ []
 none_of [] h = refl
 none_of (e ∷ es) h = absurd (omega arith)
 

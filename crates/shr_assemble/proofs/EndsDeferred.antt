@@ -1,17 +1,5 @@
 -- The deferred words that are printed, of a run whose workers are done.
-use Rattle.std.proofs.Common.{◌≡◌, ℕ, zero, suc, ◌<◌, ◌≢◌, ◌⊎◌, inl, inr, ⊎_elim, Bool, true, false, not, cond, List, [], ◌∷◌, map, sym, refl, ap, ◌∙◌, arith, eqb, ne_eqb}
-use Rattle.std.specs.Prelude.{find, filter, Some}
-use Rattle.std.specs.List.{AllByRecursion}
-use mathlib.Core.Logic.{dite}
-use native.Mathlib.Decide.{ℕ_discrete}
-use Rattle.shr_base.specs.declared.ends.PlaceAmount.{PlaceAmount}
-use Rattle.shr_base.specs.declared.places.Place.{Place}
-use Rattle.shr_model.specs.Deferred.{amount_of}
-use Rattle.shr_model.specs.Places.{is_place}
-use Rattle.shr_model.proofs.Members.{Has}
-use Rattle.shr_model.proofs.PlacesLaws.{is_place_same, is_place_itself}
-use Rattle.shr_deferred.specs.Left.{is_some_amount}
-use Rattle.shr_report.specs.Deferred.{amount_in}
+use Rattle.shr_assemble.proofs.Common.{◌≡◌, ℕ, zero, suc, ◌<◌, ◌≢◌, ◌⊎◌, inl, inr, ⊎_elim, Bool, true, false, not, cond, List, [], ◌∷◌, map, sym, refl, ap, ◌∙◌, arith, eqb, ne_eqb, find, filter, Some, AllByRecursion, dite, ℕ_discrete, PlaceAmount, Place, amount_of, is_place, Has, is_place_same, is_place_itself, is_some_amount, amount_in}
 
 -- the amounts by place that aren't 0, of places by their numbers
 abbrev shown_of : (ℕ → Place) → (Place → ℕ) → List ℕ → List PlaceAmount

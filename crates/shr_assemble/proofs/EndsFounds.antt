@@ -1,27 +1,6 @@
 -- A found cache's registration ends only after its lookup, of a run whose workers are done.
-use Rattle.std.proofs.Common.{◌≡◌, ℕ, ◌+◌, ◌<◌, ◌≤◌, Bool, true, false, cond, List, [], ◌∷◌, length, drop, refl, sym, ap, subst, ◌∙◌, arith}
-use Rattle.std.specs.Prelude.{◌==◌, slice_get, Some, option_and_then}
-use mathlib.Core.Logic.{dite}
-use native.Mathlib.Decide.{dec_lt}
-use Rattle.shr_base.specs.declared.journals.PoolEntry.{PoolEntry}
-use Rattle.shr_base.specs.declared.replies.Found.{Found}
-use Rattle.shr_model.specs.Commands.{decl_named}
-use Rattle.shr_base.specs.declared.journals.PoolEntry.TheVariants.{Registered, Unregistered, Idle}
-use Rattle.shr_model.specs.Pool.{id_of, phase_of, is_before, end_of, last_number, number_after, number_from}
-use Rattle.shr_seats.specs.Views.{Each}
-use Rattle.shr_core.specs.Lookup.{lookups_of}
-use Rattle.shr_core.specs.Parts.{Dated}
-use Rattle.shr_core.proofs.PoolLengths.{past_none}
-use Rattle.shr_walk.specs.declared.seats.Shared.{Shared}
-use Rattle.shr_worker.specs.Chain.{CrewState}
-use Rattle.shr_tables.specs.declared.ending.Ends.{Ends}
-use Rattle.shr_report.specs.declared.report.Report.{Report}
-use Rattle.shr_report.specs.Parts.{lookups_at}
-use Rattle.shr_assemble.specs.declared.logs.WorkerLog.{WorkerLog}
-use Rattle.shr_assemble.specs.Ends.{AreEndsOf, at_start}
-use Rattle.shr_assemble.specs.Lookups.{IsFoundBy}
-use Rattle.shr_assemble.specs.Makes.{IsMadeOf}
-use Rattle.shr_assemble.specs.Steps.{Step, steps_of}
+use Rattle.shr_assemble.proofs.Common.{◌≡◌, ℕ, ◌+◌, ◌<◌, ◌≤◌, Bool, true, false, cond, List, [], ◌∷◌, length, drop, refl, sym, ap, subst, ◌∙◌, arith, ◌==◌, slice_get, Some, option_and_then, dite, dec_lt, PoolEntry, Found, decl_named, Registered, Unregistered, Idle, last_number, number_after, Each, lookups_of, Dated, past_none, Shared, CrewState, Ends, Report, lookups_at, WorkerLog, AreEndsOf, at_start, IsFoundBy, IsMadeOf, Step, steps_of}
+use Rattle.shr_model.specs.Pool.{id_of, phase_of, is_before, end_of, number_from}
 use Rattle.shr_assemble.proofs.EndsAfter.{has_last, are_steps}
 use Rattle.shr_assemble.proofs.EndsGathered.{last}
 use Rattle.shr_assemble.proofs.EndsPool as pool

@@ -1,24 +1,6 @@
 -- What the first seats have in the end is what the steps of all workers have, and the opening.
-use Rattle.std.proofs.Common.{◌≡◌, ℕ, List, ◌++◌, sym, refl, ap, subst, ◌∙◌, arith}
-use Rattle.std.specs.Prelude.{flat_map, IsPermutation, None}
-use Rattle.std.proofs.lemmas.Option.{slice_get_within}
-use Rattle.shr_base.specs.declared.ends.PlaceAmount.{PlaceAmount}
-use Rattle.shr_base.specs.declared.journals.UseStep.{UseStep}
-use Rattle.shr_core.specs.Parts.{Made, Tried, Turn}
+use Rattle.shr_assemble.proofs.Common.{◌≡◌, ℕ, List, ◌++◌, sym, refl, ap, subst, ◌∙◌, arith, flat_map, IsPermutation, None, slice_get_within, PlaceAmount, UseStep, Made, Tried, Turn, Uses, Moves, takes_of, gives_of, takes_both, gives_both, Shared, WorkerState, CrewState, Ends, Report, WorkerLog, Firsts, with_workers, at_start, AreEndsOf, new_worker, IsMadeOf, Step, all_made, all_attempts, all_cleared, all_sets, all_turns, all_entries, all_ops, all_takes, all_gives, AreJournals}
 use Rattle.shr_charge.specs.Views as charge
-use Rattle.shr_charge.specs.Views.{Uses}
-use Rattle.shr_deferred.specs.Moves.{Moves, takes_of, gives_of}
-use Rattle.shr_deferred.proofs.SeatLaws.{takes_both, gives_both}
-use Rattle.shr_walk.specs.declared.seats.Shared.{Shared}
-use Rattle.shr_walk.specs.State.{WorkerState}
-use Rattle.shr_worker.specs.Chain.{CrewState}
-use Rattle.shr_tables.specs.declared.ending.Ends.{Ends}
-use Rattle.shr_report.specs.declared.report.Report.{Report}
-use Rattle.shr_assemble.specs.declared.logs.WorkerLog.{WorkerLog}
-use Rattle.shr_assemble.specs.Ends.{Firsts, with_workers, at_start, AreEndsOf, new_worker}
-use Rattle.shr_assemble.specs.Makes.{IsMadeOf}
-use Rattle.shr_assemble.specs.Steps.{Step}
-use Rattle.shr_assemble.specs.Runs.{all_made, all_attempts, all_cleared, all_sets, all_turns, all_entries, all_ops, all_takes, all_gives, AreJournals}
 use Rattle.shr_assemble.proofs.Crews.{all_of, flat_pairs, there_at}
 use Rattle.shr_assemble.proofs.EndsJournals as ends_journals
 use Rattle.shr_assemble.proofs.EndsSteps.{workers, is_crew}

@@ -1,33 +1,15 @@
 -- The operations of each group, and the journal of the tree, of a run whose workers are done.
-use Rattle.std.proofs.Common.{◌≡◌, ℕ, ◌+◌, ◌≤◌, ⊎_elim, Bool, true, false, ◌&&◌, cond, List, [], ◌∷◌, length, sym, refl, ap, subst, ◌∙◌, arith, eqb}
-use Rattle.std.specs.Prelude.{slice_get, Some, filter, IsPermutation, nat_lt}
-use Rattle.std.proofs.lemmas.Bool.{eqb-true, le-ltb}
-use Rattle.std.proofs.lemmas.List.Sorted.{sum_by-IsPermutation, Contains-permutation}
-use Rattle.shr_base.specs.declared.journals.TreeEntry.{TreeEntry}
-use Rattle.shr_base.specs.declared.journals.UseStep.{UseStep}
-use Rattle.shr_model.specs.Charges.{IsChargeHistory}
-use Rattle.shr_model.specs.Groups.{Hierarchy}
-use Rattle.shr_model.specs.TreeJournal.{IsTreeJournal}
-use Rattle.shr_seats.specs.Shapes.{hierarchy_of}
-use Rattle.shr_model.proofs.Members.{Has, Contains_from_Has, filter_has}
-use Rattle.shr_seats.specs.Weights.{total}
+use Rattle.shr_assemble.proofs.Common.{◌≡◌, ℕ, ◌+◌, ◌≤◌, ⊎_elim, Bool, true, false, ◌&&◌, cond, List, [], ◌∷◌, length, sym, refl, ap, subst, ◌∙◌, arith, eqb, slice_get, Some, filter, IsPermutation, nat_lt, eqb-true, sum_by-IsPermutation, Contains-permutation, TreeEntry, UseStep, IsChargeHistory, Hierarchy, IsTreeJournal, hierarchy_of, Has, Contains_from_Has, filter_has, total, Shared, Ends, Report, uses_at, WorkerLog, AreEndsOf, IsMadeOf, StandsBefore, count_total, some_at, sum_total}
+use Rattle.std.proofs.lemmas.Bool.{le-ltb}
 use Rattle.shr_charge.specs.Offlining as offlining
 use Rattle.shr_charge.specs.Uses.{times_at, IsThere}
 use Rattle.shr_charge.specs.Views as charge
-use Rattle.shr_walk.specs.declared.seats.Shared.{Shared}
-use Rattle.shr_tables.specs.declared.ending.Ends.{Ends}
-use Rattle.shr_report.specs.declared.report.Report.{Report}
 use Rattle.shr_report.specs.Parts as report
-use Rattle.shr_report.specs.Parts.{uses_at}
-use Rattle.shr_assemble.specs.declared.logs.WorkerLog.{WorkerLog}
-use Rattle.shr_assemble.specs.Ends.{AreEndsOf}
-use Rattle.shr_assemble.specs.Makes.{IsMadeOf, StandsBefore}
 use Rattle.shr_assemble.specs.Runs.{AreUsesAndTree}
 use Rattle.shr_assemble.proofs.EndsGathered.{last, ops_are, entries_are, same}
 use Rattle.shr_assemble.proofs.EndsSteps.{workers}
 use Rattle.shr_assemble.proofs.EndsUses.{AreNumbered, numbers, sorted_history}
-use Rattle.shr_assemble.proofs.Gathering.{some_at}
-use Rattle.shr_assemble.proofs.Listed.{sum_total, count_total, all_among, contains_among}
+use Rattle.shr_assemble.proofs.Listed.{all_among, contains_among}
 use Rattle.shr_assemble.proofs.Making.{below_one}
 use Rattle.shr_assemble.proofs.Operations.{PairsRec, pairs_by_slices, pairs_filter, pairs_weaker, among_has}
 use Rattle.shr_assemble.proofs.ScriptGroups.{is_hierarchy}

@@ -1,32 +1,11 @@
 -- The lists of an id that is idle at the end are empty, of a run whose workers are done.
-use Rattle.std.proofs.Common.{◌≡◌, ℕ, ◌≤◌, ⊎_elim, List, [], ◌∷◌, length, sym, refl, ap, ◌∙◌, arith}
-use Rattle.std.specs.Prelude.{◌%◌}
-use Rattle.shr_base.specs.declared.journals.Entry.{Entry}
-use Rattle.shr_base.specs.declared.journals.PoolEntry.{PoolEntry}
-use Rattle.shr_base.specs.declared.places.Place.{Place}
-use Rattle.shr_model.specs.Families.{lists_moved_at}
-use Rattle.shr_model.specs.Items.{items_from}
-use Rattle.shr_model.specs.Places.{place_number}
-use Rattle.shr_model.specs.Pool.{phase_of}
-use Rattle.shr_model.proofs.FamilyLaws.{items_none}
-use Rattle.shr_core.specs.Layout.{id_of}
-use Rattle.shr_core.proofs.Left.{place_back}
-use Rattle.shr_walk.specs.declared.seats.Shared.{Shared}
-use Rattle.shr_tables.specs.declared.ending.Ends.{Ends}
-use Rattle.shr_report.specs.declared.report.Report.{Report}
-use Rattle.shr_report.specs.Parts.{parents_of, journals_of, items_left, IsThere}
-use Rattle.shr_assemble.specs.declared.logs.WorkerLog.{WorkerLog}
-use Rattle.shr_assemble.specs.Ends.{AreEndsOf}
-use Rattle.shr_assemble.specs.Makes.{IsMadeOf}
+use Rattle.shr_assemble.proofs.Common.{◌≡◌, ℕ, ◌≤◌, ⊎_elim, List, [], ◌∷◌, length, sym, ap, ◌∙◌, arith, ◌%◌, Entry, PoolEntry, Place, lists_moved_at, items_from, place_number, phase_of, items_none, id_of, place_back, Shared, Ends, Report, parents_of, journals_of, items_left, IsThere, WorkerLog, AreEndsOf, IsMadeOf}
 use Rattle.shr_assemble.proofs.EndsGathered.{last}
 use Rattle.shr_assemble.proofs.EndsJournals.{there, items_same}
 use Rattle.shr_assemble.proofs.ScriptSizes.{sized_of}
 use Rattle.shr_assemble.proofs.EndsPlaces.{below_or}
 use Rattle.shr_assemble.proofs.Rows.{DidEach}
-
-none_of : (es : List Entry) → length es ≤ 0 → es ≡ []
-none_of [] h = refl
-none_of (e ∷ es) h = absurd (omega arith)
+use Rattle.shr_assemble.proofs.EndsBits.{none_of}
 
 module _ (x : Shared) (did : DidEach x) (logs : List WorkerLog) (e : Ends) (ends : AreEndsOf x logs e) (r : Report) (made : IsMadeOf x.script logs e r) where
   of_there : (place : Place) → IsThere x.script place → phase_of place.id r.pool.items % 3 ≡ 0 → items_left x.script r place ≡ []

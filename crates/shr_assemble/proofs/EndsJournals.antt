@@ -1,42 +1,15 @@
 -- The journals of the lists, of a report whose places are those that a finished core leaves.
-use Rattle.std.proofs.Common.{◌≡◌, ℕ, zero, suc, ◌+◌, ◌<◌, ◌≤◌, ◌⊎◌, inl, inr, ⊎_elim, true, false, cond, List, [], ◌∷◌, ◌++◌, map, length, take, get_or, sym, refl, ap, subst, ◌∙◌, arith, add-one}
-use Rattle.std.specs.Prelude.{slice_get, Some, None, Contains, nat_lt}
-use Rattle.std.specs.List.{AllByRecursion}
-use Rattle.std.proofs.lemmas.List.{append-nil, take_all, map-append}
-use Rattle.std.proofs.lemmas.Option.{same_Some, none-some}
-use Rattle.shr_base.specs.declared.places.Place.{Place}
+use Rattle.shr_assemble.proofs.Common.{◌≡◌, ℕ, zero, suc, ◌+◌, ◌<◌, ◌≤◌, ◌⊎◌, inl, inr, ⊎_elim, true, false, cond, List, [], ◌∷◌, ◌++◌, map, length, take, get_or, sym, refl, ap, subst, ◌∙◌, arith, add-one, slice_get, Some, None, Contains, nat_lt, AllByRecursion, append-nil, take_all, map-append, Place, PlaceEnd, Entry, Object, IsTree, parent_of, is_child, is_closed, items_from, place_number, at_group, moved_in, before_closed, lists_moved_at, items_at, IsLegal, child_takes, Has, content_of, within_of_valid, total, View, EndValue, end_value, end_of, place_at, group_of, beside, IsLeft, Made, hit, items_now, back, place_back, Shared, IsShared, Report, parents_of, journals_of, items_left, IsThere, Step, IsAmong, IsPrinted, AreJournals, all_made, some_at}
 use Rattle.shr_base.specs.declared.ends.Closed.{Closed}
-use Rattle.shr_base.specs.declared.ends.PlaceEnd.{PlaceEnd}
-use Rattle.shr_base.specs.declared.journals.Entry.{Entry}
-use Rattle.shr_base.specs.declared.objects.Object.{Object}
-use Rattle.shr_model.specs.Groups.{IsTree, parent_of, is_child}
-use Rattle.shr_model.specs.Items.{is_closed, items_from}
-use Rattle.shr_model.specs.Places.{place_number, at_group}
-use Rattle.shr_model.specs.Families.{moved_in, before_closed, lists_moved_at, items_at, IsLegal, IsPairedAt}
+use Rattle.shr_model.specs.Families.{IsPairedAt}
 use Rattle.shr_model.proofs.FamilyLaws.{items_stay, legal_stays, legal_none}
-use Rattle.shr_model.proofs.GroupsLaws.{child_takes}
-use Rattle.shr_model.proofs.Members.{Has}
-use Rattle.shr_script.specs.Content.{content_of}
-use Rattle.shr_script.proofs.BoundsLaws.{within_of_valid}
-use Rattle.shr_seats.specs.Weights.{total}
-use Rattle.shr_core.specs.declared.view.View.{View}
-use Rattle.shr_core.specs.Ending.{EndValue, end_value, end_of, ends_below}
-use Rattle.shr_core.specs.Layout.{places_in, place_at, node_of, group_of, beside, above}
-use Rattle.shr_core.specs.Leaving.{IsLeft}
-use Rattle.shr_core.specs.Parts.{Made}
-use Rattle.shr_core.specs.Rule.{hit, family_of, items_now}
-use Rattle.shr_core.proofs.Listing.{back}
-use Rattle.shr_core.proofs.Left.{place_back}
-use Rattle.shr_walk.specs.declared.seats.Shared.{Shared}
-use Rattle.shr_walk.specs.Sharing.{IsShared}
-use Rattle.shr_report.specs.declared.report.Report.{Report}
-use Rattle.shr_report.specs.Parts.{parents_of, journals_of, items_left, IsThere}
+use Rattle.shr_core.specs.Ending.{ends_below}
+use Rattle.shr_core.specs.Layout.{places_in, node_of, above}
+use Rattle.shr_core.specs.Rule.{family_of}
 use Rattle.shr_report.specs.WellFormed.{AreRising}
-use Rattle.shr_assemble.specs.Steps.{Step, IsAmong}
-use Rattle.shr_assemble.specs.Runs.{IsPrinted, AreJournals, all_made}
-use Rattle.shr_assemble.proofs.Gathering.{some_at}
 use Rattle.shr_assemble.proofs.ScriptSizes.{sized_of}
 use Rattle.shr_assemble.proofs.EndsPlaces.{below_or, among_below, printed_at, printed_none}
+use Rattle.shr_units.proofs.Printing.{slice_map}
 
 -- rising numbers from this one on
 abbrev RisingFrom : ℕ → List ℕ → Type 0
@@ -59,7 +32,7 @@ below_snoc : (n : ℕ) (xs : List ℕ) → AllByRecursion (λ m. m < n) xs → A
 below_snoc n [] h = (omega arith, tt)
 below_snoc n (x ∷ xs) h = (omega (arith, h.0), below_snoc n xs h.1)
 
-below_later : (n : ℕ) (xs : List ℕ) → AllByRecursion (λ m. m < n) xs → AllByRecursion (λ m. m < suc n) xs
+pub below_later : (n : ℕ) (xs : List ℕ) → AllByRecursion (λ m. m < n) xs → AllByRecursion (λ m. m < suc n) xs
 below_later n [] h = tt
 below_later n (x ∷ xs) h = (omega (arith, h.0), below_later n xs h.1)
 
@@ -77,11 +50,6 @@ rises_below : (now : ℕ → List Entry) (items : ℕ → List Object) (n : ℕ)
 unfolding ends_below
 rises_below now items zero = (tt, tt)
 rises_below now items (suc n) = subst (Rises (suc n)) (sym (map-append number_of (ends_below n now items) (end_of n (now n) (items n)))) (rises_one n (now n) (items n) (map number_of (ends_below n now items)) (rises_below now items n))
-
-map_at : {A B : Type 0} (f : A → B) (xs : List A) (n : ℕ) (x : A) → slice_get xs n ≡ Some x → slice_get (map f xs) n ≡ Some (f x)
-map_at f [] n x e = absurd (none-some x e)
-map_at f (y ∷ xs) zero x e = ap (λ z. Some (f z)) (same_Some y x e)
-map_at f (y ∷ xs) (suc n) x e = map_at f xs n x e
 
 map_numbers : (es : List PlaceEnd) → map number_of (map end_value es) ≡ map (λ (end : PlaceEnd). place_number end.place) es
 map_numbers [] = refl
@@ -192,7 +160,7 @@ module _ (x : Shared) (shared : IsShared x) (r : Report) (v : View) (closed : Cl
   pub printed : (n : ℕ) (end : PlaceEnd) → slice_get r.places.items n ≡ Some end → IsPrinted x.script r end
   printed n end at =
       let among : IsAmong (end_value end) (ends_below (places_in x.core.setting.shape.ids) left.now (items_now left.now left.after)) =
-      subst (IsAmong (end_value end)) are (n, some_at (map end_value r.places.items) n (end_value end) (map_at end_value r.places.items n end at)) in
+      subst (IsAmong (end_value end)) are (n, some_at (map end_value r.places.items) n (end_value end) (slice_map end_value r.places.items n end at)) in
       let b = among_below left.now (items_now left.now left.after) (places_in x.core.setting.shape.ids) (end_value end) among in
       record {
         there = subst (IsThere x.script) (sym b.place) (there_of b.k b.some_entry);

@@ -1,21 +1,5 @@
 -- The report of a run whose workers are done is lawful for its script, and well formed.
-use Rattle.std.specs.Prelude.{◌≡◌, ◌+◌, List}
-use Rattle.shr_base.specs.declared.scripts.Script.{Script}
-use Rattle.shr_walk.specs.declared.seats.Shared.{Shared}
-use Rattle.shr_tables.specs.declared.ending.Ends.{Ends}
-use Rattle.shr_report.specs.declared.report.Report.{Report}
-use Rattle.shr_report.specs.Faithful.{IsFaithful}
-use Rattle.shr_report.specs.Lawful.{IsLawful}
-use Rattle.shr_report.specs.Puts.{AreFreePutsAdded, DoPutsAddUp}
-use Rattle.shr_report.specs.WellFormed.{IsWellFormed}
-use Rattle.shr_script.proofs.BoundsLaws.{within_of_valid}
-use Rattle.shr_script.specs.Content.{content_of}
-use Rattle.shr_assemble.specs.declared.logs.WorkerLog.{WorkerLog}
-use Rattle.shr_assemble.specs.declared.noting.Noted.{Noted}
-use Rattle.shr_assemble.specs.Makes.{IsMadeOf}
-use Rattle.shr_assemble.specs.Noting.{part_of, ArePrinted}
-use Rattle.shr_assemble.specs.Putting.{AreEnds, IsPutTogether}
-use Rattle.shr_assemble.specs.Runs.{IsRun}
+use Rattle.shr_assemble.proofs.Common.{◌≡◌, ◌+◌, List, Script, Shared, Ends, Report, IsFaithful, IsLawful, AreFreePutsAdded, DoPutsAddUp, IsWellFormed, within_of_valid, content_of, WorkerLog, Noted, IsMadeOf, part_of, ArePrinted, AreEnds, IsPutTogether, IsRun, sym, subst, map}
 use Rattle.shr_assemble.proofs.DidEach.{did_each}
 use Rattle.shr_assemble.proofs.ScriptSizes.{sized_of}
 use Rattle.shr_assemble.proofs.EndsReport.{laid_out}
@@ -29,8 +13,6 @@ use Rattle.shr_assemble.proofs.Rows.{DidEach}
 use Rattle.shr_assemble.proofs.WalkingTold.{IsTableOf}
 use Rattle.shr_assemble.proofs.WellFormed.{well_formed}
 use Rattle.shr_assemble.proofs.WornPuts.{puts_add_up}
-use Rattle.std.proofs.Common.{sym, subst}
-use Rattle.std.specs.Prelude.{map}
 
 module _ (logs : List WorkerLog) (e : Ends) (are : AreEnds logs e) (r : Report) (made : IsMadeOf e.script logs e r) where
   abbrev x : Shared

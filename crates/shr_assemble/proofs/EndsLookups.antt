@@ -1,11 +1,7 @@
 -- The lookups that are printed.
-use Rattle.std.proofs.Common.{◌≡◌, ℕ, zero, suc, ◌<◌, [], ◌∷◌, ◌++◌, length, length-append, get_or, sym, refl, ap, ◌∙◌, arith}
+use Rattle.shr_assemble.proofs.Common.{◌≡◌, ℕ, zero, suc, ◌<◌, [], ◌∷◌, ◌++◌, length, length-append, get_or, sym, refl, ap, ◌∙◌, arith, get_or_append_left, dite, ℕ_discrete, lookups_of}
 use Rattle.std.proofs.Math.Seq.{get_or-append_seam}
-use Rattle.std.proofs.lemmas.List.{get_or_append_left}
-use mathlib.Core.Logic.{dite}
-use native.Mathlib.Decide.{ℕ_discrete}
 use Rattle.shr_core.specs.Ending.{lookups_below}
-use Rattle.shr_core.specs.Lookup.{lookups_of}
 
 pub lookups_long : (n : ℕ) (look : ℕ → ℕ) → length (lookups_below n look) ≡ n
 unfolding lookups_below

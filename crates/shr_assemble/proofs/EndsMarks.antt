@@ -1,27 +1,8 @@
 -- The bits that are printed at the end, of a run whose workers are done: of ids that are there, and set by workers.
-use Rattle.std.proofs.Common.{◌≡◌, ℕ, zero, suc, ◌+◌, ◌*◌, ◌/◌, ◌<◌, Bool, List, [], ◌∷◌, length, sym, ap, subst, ◌∙◌, arith, ne_eqb}
-use Rattle.std.specs.Prelude.{if◌then◌else◌, ◌==◌}
-use Rattle.std.specs.Int.{bit_at}
-use Rattle.std.specs.List.{AllByRecursion}
-use Rattle.std.proofs.lemmas.Bool.{eqb-true}
-use Rattle.shr_base.specs.declared.ends.MapEnd.{MapEnd}
-use Rattle.shr_base.specs.declared.places.Place.{Place}
-use Rattle.shr_model.specs.Places.{place_number}
-use Rattle.shr_model.proofs.BagLaws.{each_append}
-use Rattle.shr_seats.specs.Shapes.{groups_in}
-use Rattle.shr_seats.specs.Weights.{times}
-use Rattle.shr_core.specs.Ending.{units_in, units_below, groups_below, nodes_below}
-use Rattle.shr_core.specs.Layout.{map_number, map_of}
+use Rattle.shr_assemble.proofs.Common.{◌≡◌, ℕ, zero, suc, ◌+◌, ◌*◌, ◌/◌, ◌<◌, Bool, List, [], ◌∷◌, length, sym, ap, subst, ◌∙◌, arith, ne_eqb, if◌then◌else◌, ◌==◌, bit_at, AllByRecursion, eqb-true, MapEnd, Place, place_number, each_append, groups_in, times, units_in, map_number, map_of, Shared, Ends, Report, parents_of, IsThere, WorkerLog, AreEndsOf, IsMadeOf, IsMarked}
+use Rattle.shr_core.specs.Ending.{units_below, groups_below, nodes_below}
 use Rattle.shr_core.specs.Layout as layout
-use Rattle.shr_walk.specs.declared.seats.Shared.{Shared}
-use Rattle.shr_tables.specs.declared.ending.Ends.{Ends}
-use Rattle.shr_report.specs.declared.report.Report.{Report}
 use Rattle.shr_report.specs.BitsTold.{place_of}
-use Rattle.shr_report.specs.Parts.{parents_of, IsThere}
-use Rattle.shr_assemble.specs.declared.logs.WorkerLog.{WorkerLog}
-use Rattle.shr_assemble.specs.Ends.{AreEndsOf}
-use Rattle.shr_assemble.specs.Makes.{IsMadeOf}
-use Rattle.shr_assemble.specs.Runs.{IsMarked}
 use Rattle.shr_assemble.proofs.EndsGathered.{last, sets_are}
 use Rattle.shr_assemble.proofs.EndsJournals.{same_parents}
 use Rattle.shr_assemble.proofs.EndsSteps.{workers}

@@ -1,26 +1,5 @@
 -- How the journal of registrations begins, and who made its later entries, of a run whose workers are done.
-use Rattle.std.proofs.Common.{◌≡◌, ℕ, ◌+◌, ◌<◌, ◌≤◌, ⊎_elim, Bool, true, false, cond, List, length, length-append, sym, refl, ap, subst, ◌∙◌, arith}
-use Rattle.std.specs.Prelude.{slice_get, Some, nat_lt, nat_le, ◌&&◌}
-use Rattle.std.proofs.lemmas.Bool.{cases_lt, le-leb, leb-true}
-use Rattle.std.proofs.lemmas.Option.{slice_get_within}
-use mathlib.Core.Option.{some}
-use lib.ListN.{get_elem?}
-use Rattle.shr_base.specs.declared.journals.PoolEntry.{PoolEntry}
-use Rattle.shr_base.specs.declared.journals.PoolEntry.TheVariants.{Registered}
-use Rattle.shr_model.specs.Pool.{IsPoolJournal}
-use Rattle.shr_seats.specs.Weights.{total, Begins}
-use Rattle.shr_seats.proofs.Weighing.{total-append, total_zero, only_no}
-use Rattle.shr_core.specs.Parts.{Turn}
-use Rattle.shr_core.specs.Rule.{hit_turn, IsTurn}
-use Rattle.shr_walk.specs.declared.seats.Shared.{Shared}
-use Rattle.shr_tables.specs.declared.ending.Ends.{Ends}
-use Rattle.shr_report.specs.declared.report.Report.{Report}
-use Rattle.shr_report.specs.Parts.{decls_on}
-use Rattle.shr_assemble.specs.declared.logs.WorkerLog.{WorkerLog}
-use Rattle.shr_assemble.specs.Ends.{AreEndsOf, at_start, new_worker}
-use Rattle.shr_assemble.specs.Makes.{IsMadeOf}
-use Rattle.shr_assemble.specs.Steps.{Step, IsAmong, AreChained, steps_of}
-use Rattle.shr_assemble.specs.Runs.{all_turns}
+use Rattle.shr_assemble.proofs.Common.{◌≡◌, ℕ, ◌+◌, ◌<◌, ◌≤◌, ⊎_elim, Bool, cond, List, length, length-append, sym, ap, subst, ◌∙◌, arith, slice_get, Some, nat_lt, nat_le, ◌&&◌, cases_lt, le-leb, slice_get_within, some, get_elem?, PoolEntry, Registered, IsPoolJournal, total, Begins, total-append, total_zero, only_no, Turn, hit_turn, IsTurn, Shared, Ends, Report, decls_on, WorkerLog, AreEndsOf, at_start, new_worker, IsMadeOf, Step, IsAmong, AreChained, steps_of, all_turns, at_some, some_at, not_le}
 use Rattle.shr_assemble.proofs.Chains.{first_grows}
 use Rattle.shr_assemble.proofs.Crews.{there_at}
 use Rattle.shr_assemble.proofs.EndsAfter.{are_steps}
@@ -28,18 +7,12 @@ use Rattle.shr_assemble.proofs.EndsGathered.{last, turns_are}
 use Rattle.shr_assemble.proofs.EndsPool as ends_pool
 use Rattle.shr_assemble.proofs.EndsSteps.{workers, is_crew}
 use Rattle.shr_assemble.proofs.FirstIds.{first_id}
-use Rattle.shr_assemble.proofs.Gathering.{HasStep, has_step, mine_at, among_left, each_among, some_at, at_some}
+use Rattle.shr_assemble.proofs.Gathering.{HasStep, has_step, mine_at, among_left, each_among}
 use Rattle.shr_assemble.proofs.Joined.{joined_pool}
 use Rattle.shr_assemble.proofs.Making.{below_one}
 use Rattle.shr_assemble.proofs.OpenedTurns.{decls_are, AreMade, made_opened}
 use Rattle.shr_assemble.proofs.RisingTurns.{AreAll, next_numbers, as_many, none_higher}
 use Rattle.shr_assemble.proofs.Rows.{DidEach}
-
-not_le : (m n : ℕ) → n < m → nat_le m n ≡ false
-not_le m n lt = no (nat_le m n) (λ e. omega (arith, lt, leb-true m n e)) where
-  no : (b : Bool) → (b ≡ true → ⊥) → b ≡ false
-  no true h = absurd (h refl)
-  no false h = refl
 
 module _ (x : Shared) (did : DidEach x) (logs : List WorkerLog) (e : Ends) (ends : AreEndsOf x logs e) (r : Report) (made : IsMadeOf x.script logs e r) where
   abbrev team : List (List Step)

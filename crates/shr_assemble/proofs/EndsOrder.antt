@@ -1,37 +1,14 @@
 -- The one order of all that the workers did, of a run whose workers are done.
-use Rattle.std.proofs.Common.{◌≡◌, ◌≢◌, ℕ, zero, suc, ◌+◌, ◌<◌, ◌⊎◌, inl, inr, ⊎_elim, Bool, true, false, cond, List, [], ◌∷◌, ◌++◌, length, sym, refl, ap, subst, ◌∙◌, arith, eq-eqb, ne_eqb}
-use Rattle.std.specs.Prelude.{slice_get, Option, Some, flat_map, ◌==◌}
-use Rattle.std.proofs.lemmas.List.{append-nil}
-use Rattle.std.proofs.lemmas.Option.{same_Some, none-some, slice_get_within}
-use Rattle.shr_base.specs.declared.scripts.CacheDecl.{CacheDecl}
-use Rattle.shr_model.proofs.Members.{Has, map_has, flat_map_has}
-use Rattle.shr_seats.specs.Lines.{Deed, by_seat, part}
-use Rattle.shr_seats.specs.Weights.{times, Begins}
-use Rattle.shr_seats.proofs.Weighing.{begins_all, begins_more}
+use Rattle.shr_assemble.proofs.Common.{◌≡◌, ◌≢◌, ℕ, zero, suc, ◌+◌, ◌<◌, ◌⊎◌, inl, inr, ⊎_elim, Bool, true, false, cond, List, [], ◌∷◌, ◌++◌, length, sym, refl, ap, subst, ◌∙◌, arith, eq-eqb, ne_eqb, slice_get, Option, Some, flat_map, ◌==◌, append-nil, same_Some, none-some, slice_get_within, CacheDecl, Has, map_has, flat_map_has, Deed, by_seat, part, times, Begins, begins_all, begins_more, View, last_users, last_moment, among, Event, cleared, opener, Shared, WorkerState, CrewState, Ends, EntersIf, AreEntered, is_on, place_number, Report, journals_of, WorkerLog, AreEndsOf, at_start, new_worker, with_workers, IsMadeOf, Step, IsAmong, steps_of, AreChained, state_after, at_some}
 use Rattle.shr_seats.proofs.Lining.{part-append}
-use Rattle.shr_core.specs.declared.view.View.{View}
-use Rattle.shr_core.specs.Order.{AreEvents, last_users, last_moment, ids_of}
-use Rattle.shr_core.specs.Gained.{among, cleared_in}
-use Rattle.shr_core.specs.Parts.{Event, cleared}
-use Rattle.shr_core.specs.Rule.{opener}
-use Rattle.shr_walk.specs.declared.seats.Shared.{Shared}
-use Rattle.shr_walk.specs.State.{WorkerState}
-use Rattle.shr_worker.specs.Chain.{CrewState}
-use Rattle.shr_tables.specs.declared.ending.Ends.{Ends}
-use Rattle.shr_tables.specs.Opened.{EntersIf, AreEntered, is_on}
-use Rattle.shr_model.specs.Places.{place_number}
-use Rattle.shr_report.specs.declared.report.Report.{Report}
-use Rattle.shr_report.specs.Parts.{journals_of}
-use Rattle.shr_assemble.specs.declared.logs.WorkerLog.{WorkerLog}
-use Rattle.shr_assemble.specs.Ends.{AreEndsOf, at_start, new_worker, with_workers}
-use Rattle.shr_assemble.specs.Makes.{IsMadeOf}
+use Rattle.shr_core.specs.Order.{AreEvents, ids_of}
+use Rattle.shr_core.specs.Gained.{cleared_in}
 use Rattle.shr_assemble.specs.Order.{IsInLine, IsOfWorker}
-use Rattle.shr_assemble.specs.Steps.{Step, IsAmong, steps_of, AreChained, state_after}
 use Rattle.shr_assemble.proofs.Crews.{there_at}
 use Rattle.shr_assemble.proofs.EndsJournals.{proper}
 use Rattle.shr_assemble.proofs.EndsSteps.{workers, is_crew, fit, is_of}
 use Rattle.shr_assemble.proofs.ScriptSizes.{sized_of}
-use Rattle.shr_assemble.proofs.Gathering.{at_some, mine_at, mine_is}
+use Rattle.shr_assemble.proofs.Gathering.{mine_at, mine_is}
 use Rattle.shr_assemble.proofs.Joined.{joined_list}
 use Rattle.shr_assemble.proofs.Operations.{among_has, has_among}
 use Rattle.shr_assemble.proofs.Pairs.{either}
@@ -119,7 +96,7 @@ first_seat t (x ∷ mine) (suc k) y c e = first_seat x.after mine k y c.2 e ∙ 
 abbrev ClearNone : List (Deed Event) → Type 0
 ClearNone deeds = (d : Deed Event) → Has deeds d → cleared_in d.act ≡ []
 
-none_left : {A : Type 0} (xs ys : List A) → xs ++ ys ≡ [] → (xs ≡ []) × (ys ≡ [])
+pub none_left : {A : Type 0} (xs ys : List A) → xs ++ ys ≡ [] → (xs ≡ []) × (ys ≡ [])
 none_left [] ys e = (refl, e)
 none_left (x ∷ xs) ys e = absurd (cc)
 

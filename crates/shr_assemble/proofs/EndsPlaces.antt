@@ -1,21 +1,8 @@
 -- The journals that are printed, by the numbers of their places.
-use Rattle.std.proofs.Common.{◌≡◌, ℕ, zero, suc, ◌<◌, ◌≤◌, ◌≢◌, ◌⊎◌, inl, inr, ⊎_elim, Bool, true, false, cond, List, [], ◌∷◌, ◌++◌, map, length, sym, refl, ap, subst, ◌∙◌, arith}
-use Rattle.std.specs.Prelude.{Option, Some, None, find}
-use mathlib.Core.Logic.{dite}
-use native.Mathlib.Decide.{ℕ_discrete}
-use mathlib.Core.Option.{some-injective, some-ne-none}
-use Rattle.shr_base.specs.declared.objects.Object.{Object}
-use Rattle.shr_base.specs.declared.places.Place.{Place}
-use Rattle.shr_base.specs.declared.ends.PlaceEnd.{PlaceEnd}
-use Rattle.shr_base.specs.declared.journals.Entry.{Entry}
-use Rattle.shr_model.specs.Places.{place_number, is_place}
-use Rattle.shr_model.proofs.PlacesLaws.{is_place_same, is_place_itself}
-use Rattle.shr_core.specs.Layout.{place_at}
-use Rattle.shr_core.specs.Ending.{EndValue, end_value, end_of, ends_below}
-use Rattle.shr_core.proofs.Listing.{back}
-use Rattle.shr_report.specs.Parts.{journal_of}
-use Rattle.shr_assemble.specs.Steps.{IsAmong}
+use Rattle.shr_assemble.proofs.Common.{◌≡◌, ℕ, zero, suc, ◌<◌, ◌≤◌, ◌≢◌, ◌⊎◌, inl, inr, ⊎_elim, Bool, true, false, cond, List, [], ◌∷◌, ◌++◌, map, length, sym, refl, ap, subst, ◌∙◌, arith, Option, Some, None, find, dite, ℕ_discrete, some-injective, some-ne-none, Object, Place, PlaceEnd, Entry, place_number, is_place, is_place_same, is_place_itself, place_at, EndValue, end_value, end_of, back, journal_of, IsAmong, find_back}
+use Rattle.shr_core.specs.Ending.{ends_below}
 use Rattle.shr_assemble.proofs.Gathering.{among_cases}
+use Rattle.shr_units.proofs.Printing.{find_front}
 
 -- a value of this place, and its journal
 abbrev is_valued : Place → EndValue → Bool
@@ -33,17 +20,6 @@ seen_journal (end ∷ ends) place = choose (is_place end.place place) (seen_jour
       → journal_of (cond b (Some end) (find (λ (e : PlaceEnd). is_place e.place place) ends)) ≡ entries_of (cond b (Some (end_value end)) (find (is_valued place) (map end_value ends)))
   choose true others = refl
   choose false others = others
-
--- where one of two lists has none, the other's is found
-find_front : {A : Type 0} (p : A → Bool) (xs ys : List A) → find p ys ≡ None → find p (xs ++ ys) ≡ find p xs
-find_front p [] ys none = none
-find_front p (x ∷ xs) ys none = ap (λ o. cond (p x) (Some x) o) (find_front p xs ys none)
-
-find_back : {A : Type 0} (p : A → Bool) (xs ys : List A) → find p xs ≡ None → find p (xs ++ ys) ≡ find p ys
-find_back p [] ys none = refl
-find_back {A} p (x ∷ xs) ys none = choose (p x) (λ h. find_back p xs ys h) none where
-  some_none : Some x ≡ None → ⊥
-  some_none h = cc
 
   choose : (b : Bool) → (find p xs ≡ None → find p (xs ++ ys) ≡ find p ys) → cond b (Some x) (find p xs) ≡ None → cond b (Some x) (find p (xs ++ ys)) ≡ find p ys
   choose true later h = absurd (some_none h)

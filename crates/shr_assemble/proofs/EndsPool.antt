@@ -1,21 +1,5 @@
 -- The journal of registrations and the lookups, of a run whose workers are done.
-use Rattle.std.proofs.Common.{◌≡◌, ℕ, ◌<◌, Bool, cond, List, length, get_or, sym, ap, subst, ◌∙◌, arith}
-use Rattle.std.specs.Prelude.{◌&&◌, nat_lt, nat_le}
-use Rattle.std.proofs.lemmas.Bool.{le-leb}
-use Rattle.shr_base.specs.declared.journals.PoolEntry.{PoolEntry}
-use Rattle.shr_model.specs.Pool.{IsPoolJournal}
-use Rattle.shr_seats.specs.Weights.{total}
-use Rattle.shr_core.specs.Lookup.{lookups_of}
-use Rattle.shr_core.specs.Parts.{Tried}
-use Rattle.shr_core.specs.Rule.{hit_attempt}
-use Rattle.shr_walk.specs.declared.seats.Shared.{Shared}
-use Rattle.shr_tables.specs.declared.ending.Ends.{Ends}
-use Rattle.shr_report.specs.declared.report.Report.{Report}
-use Rattle.shr_report.specs.Parts.{lookups_at}
-use Rattle.shr_assemble.specs.declared.logs.WorkerLog.{WorkerLog}
-use Rattle.shr_assemble.specs.Ends.{AreEndsOf}
-use Rattle.shr_assemble.specs.Makes.{IsMadeOf}
-use Rattle.shr_assemble.specs.Runs.{all_attempts}
+use Rattle.shr_assemble.proofs.Common.{◌≡◌, ℕ, ◌<◌, Bool, cond, List, length, get_or, sym, ap, subst, ◌∙◌, arith, ◌&&◌, nat_lt, nat_le, le-leb, PoolEntry, IsPoolJournal, total, lookups_of, Tried, hit_attempt, Shared, Ends, Report, lookups_at, WorkerLog, AreEndsOf, IsMadeOf, all_attempts}
 use Rattle.shr_assemble.proofs.EndsGathered.{attempts_are}
 use Rattle.shr_assemble.proofs.EndsLookups.{lookups_long, lookups_at_below}
 use Rattle.shr_assemble.proofs.EndsSteps.{workers}

@@ -1,41 +1,10 @@
 -- The report of a run whose workers are done is laid out as its words ask.
-use Rattle.std.proofs.Common.{◌≡◌, ℕ, zero, suc, ◌<◌, ◌≤◌, ◌^◌, inl, inr, ⊎_elim, Bool, true, false, List, [], ◌∷◌, ◌/◌, ◌%◌, length, map, cond, sym, refl, ap, subst, ◌∙◌, arith, ne_eqb}
-use Rattle.std.specs.Prelude.{All, if◌then◌else◌, ◌==◌, filter}
-use Rattle.std.specs.List.{AllByRecursion, AllAdjacentBelow, range_with_len}
-use Rattle.std.proofs.lemmas.Bool.{eqb-true}
-use Rattle.std.proofs.lemmas.List.{length-map}
-use Rattle.std.proofs.Math.Nat.{mod-lt}
-use Rattle.shr_base.specs.declared.ends.MapEnd.{MapEnd}
-use Rattle.shr_base.specs.declared.ends.PlaceAmount.{PlaceAmount}
-use Rattle.shr_base.specs.declared.scripts.GroupDecl.{GroupDecl}
-use Rattle.shr_base.specs.declared.scripts.Script.{Script}
-use Rattle.shr_base.specs.declared.journals.PoolEntry.{PoolEntry}
+use Rattle.shr_assemble.proofs.Common.{◌≡◌, ℕ, zero, suc, ◌<◌, ◌≤◌, ◌^◌, inl, inr, ⊎_elim, Bool, true, false, List, [], ◌∷◌, ◌/◌, ◌%◌, length, map, cond, sym, refl, ap, subst, ◌∙◌, arith, ne_eqb, All, if◌then◌else◌, ◌==◌, filter, AllByRecursion, AllAdjacentBelow, range_with_len, eqb-true, length-map, mod-lt, MapEnd, PlaceAmount, GroupDecl, Script, PoolEntry, last_number, each_append, units_in, nodes_below, lookups_of, groups_in, is_some_amount, amount_of, deferred_word, pool_sizes, IsWithin, content_of, within_of_valid, Shared, Ends, Report, parents_of, IsPlaceBefore, IsAmountWell, IsPoolAmountWell, map_units, WorkerLog, Noted, AreEndsOf, at_start, with_workers, StandsBefore, IsMadeOf, part_of, ArePrinted, IsPutTogether, IsSized}
 use Rattle.shr_model.specs.Bits.{units_of}
-use Rattle.shr_model.specs.Pool.{last_number}
-use Rattle.shr_model.proofs.BagLaws.{each_append}
-use Rattle.shr_core.specs.Ending.{units_in, nodes_below, lookups_below}
-use Rattle.shr_core.specs.Lookup.{lookups_of}
-use Rattle.shr_seats.specs.Shapes.{groups_in}
+use Rattle.shr_core.specs.Ending.{lookups_below}
 use Rattle.shr_seats.specs.Rows as rows
-use Rattle.shr_deferred.specs.Left.{is_some_amount, amounts, left_over}
+use Rattle.shr_deferred.specs.Left.{amounts, left_over}
 use Rattle.shr_deferred.specs.Rule.{taken_at, given_at}
-use Rattle.shr_model.specs.Deferred.{amount_of, deferred_word}
-use Rattle.shr_plain.specs.Opening.{pool_sizes}
-use Rattle.shr_script.specs.Bounds.{IsWithin}
-use Rattle.shr_script.specs.Content.{content_of}
-use Rattle.shr_script.proofs.BoundsLaws.{within_of_valid}
-use Rattle.shr_walk.specs.declared.seats.Shared.{Shared}
-use Rattle.shr_tables.specs.declared.ending.Ends.{Ends}
-use Rattle.shr_report.specs.declared.report.Report.{Report}
-use Rattle.shr_report.specs.Parts.{parents_of}
-use Rattle.shr_report.specs.WellFormed.{IsPlaceBefore, IsAmountWell, IsPoolAmountWell, map_units}
-use Rattle.shr_assemble.specs.declared.logs.WorkerLog.{WorkerLog}
-use Rattle.shr_assemble.specs.declared.noting.Noted.{Noted}
-use Rattle.shr_assemble.specs.Ends.{AreEndsOf, at_start, with_workers}
-use Rattle.shr_assemble.specs.Makes.{StandsBefore, IsMadeOf}
-use Rattle.shr_assemble.specs.Noting.{part_of, ArePrinted}
-use Rattle.shr_assemble.specs.Putting.{IsPutTogether}
-use Rattle.shr_assemble.specs.Runs.{IsSized}
 use Rattle.shr_assemble.proofs.Operations.{pairs_by_slices}
 use Rattle.shr_assemble.proofs.ScriptSizes.{sized_of, version_of, few_of_first}
 use Rattle.shr_assemble.proofs.WellAmounts.{amounts_rise, amounts_numbered}

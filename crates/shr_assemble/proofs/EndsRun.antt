@@ -1,12 +1,5 @@
 -- A run from the ends of its tables.
-use Rattle.std.specs.Prelude.{List}
-use Rattle.shr_walk.specs.declared.seats.Shared.{Shared}
-use Rattle.shr_tables.specs.declared.ending.Ends.{Ends}
-use Rattle.shr_report.specs.declared.report.Report.{Report}
-use Rattle.shr_assemble.specs.declared.logs.WorkerLog.{WorkerLog}
-use Rattle.shr_assemble.specs.Ends.{AreEndsOf}
-use Rattle.shr_assemble.specs.Makes.{IsMadeOf}
-use Rattle.shr_assemble.specs.Runs.{IsRun}
+use Rattle.shr_assemble.proofs.Common.{List, Shared, Ends, Report, WorkerLog, AreEndsOf, IsMadeOf, IsRun}
 use Rattle.shr_assemble.proofs.EndsAfter.{are_steps}
 use Rattle.shr_assemble.proofs.EndsBits.{bits}
 use Rattle.shr_assemble.proofs.EndsFounds as founds

@@ -1,29 +1,7 @@
 -- What a worker has made, seen and knows after a step is so in the report, of a run whose workers are done.
-use Rattle.std.proofs.Common.{◌≡◌, ℕ, ◌+◌, ◌*◌, ◌/◌, ◌<◌, ◌≤◌, List, length, sym, ap, subst, ◌∙◌, arith, eq-eqb}
-use Rattle.std.specs.Prelude.{slice_get}
-use Rattle.std.specs.Int.{bit_at}
-use Rattle.std.proofs.lemmas.Bool.{eqb-true}
-use Rattle.std.proofs.lemmas.Option.{slice_get_within}
+use Rattle.shr_assemble.proofs.Common.{◌≡◌, ℕ, ◌+◌, ◌*◌, ◌/◌, ◌<◌, ◌≤◌, List, length, sym, ap, subst, ◌∙◌, arith, eq-eqb, slice_get, bit_at, eqb-true, slice_get_within, PoolEntry, place_number, unit_of, bit_of, decl_at, registrations, Each, times, Begins, View, place_at, map_number, map_of, IsLeft, Made, Known, Counted, Tried, IsTurn, Shared, IsShared, Report, parents_of, journals_of, items_before, IsThere, Step, StandsIn, IsMapOf, all_cleared, all_sets, at_some}
 use Rattle.shr_base.specs.declared.ends.Closed.{Closed}
-use Rattle.shr_base.specs.declared.journals.PoolEntry.{PoolEntry}
-use Rattle.shr_model.specs.Places.{place_number, unit_of, bit_of}
-use Rattle.shr_model.specs.Pool.{decl_at, registrations}
-use Rattle.shr_seats.specs.Views.{Each}
-use Rattle.shr_seats.specs.Weights.{times, Begins}
-use Rattle.shr_core.specs.declared.view.View.{View}
-use Rattle.shr_core.specs.Layout.{place_at, map_number, map_of}
 use Rattle.shr_core.specs.Layout as layout
-use Rattle.shr_core.specs.Leaving.{IsLeft}
-use Rattle.shr_core.specs.Parts.{Made, Known, Counted, Tried}
-use Rattle.shr_core.specs.Rule.{IsTurn}
-use Rattle.shr_walk.specs.declared.seats.Shared.{Shared}
-use Rattle.shr_walk.specs.Sharing.{IsShared}
-use Rattle.shr_report.specs.declared.report.Report.{Report}
-use Rattle.shr_report.specs.Parts.{parents_of, journals_of, items_before, IsThere}
-use Rattle.shr_assemble.specs.Steps.{Step}
-use Rattle.shr_assemble.specs.Entries.{StandsIn}
-use Rattle.shr_assemble.specs.Runs.{IsMapOf, all_cleared, all_sets}
-use Rattle.shr_assemble.proofs.Gathering.{at_some}
 use Rattle.shr_assemble.proofs.EndsJournals.{by_number, there_of, items_stand}
 use Rattle.shr_assemble.proofs.ScriptSizes.{sized_of}
 

@@ -1,30 +1,11 @@
 -- The steps of a run whose workers are done: each worker's are its commands with the report's answers, from the first state on.
-use Rattle.std.proofs.Common.{◌≡◌, ℕ, ◌+◌, ◌<◌, ◌≤◌, ⊎_elim, List, [], length, sym, refl, ap, subst, ◌∙◌, arith}
-use Rattle.std.specs.Prelude.{slice_get, Option, Some, None, IfSome, flat_map}
-use Rattle.std.specs.List.{AllByRecursion}
-use Rattle.std.proofs.lemmas.List.{length-map}
-use Rattle.std.proofs.lemmas.Option.{none-some, slice_get_past}
-use Rattle.shr_base.specs.declared.scripts.Command.{Command}
-use Rattle.shr_base.specs.declared.scripts.Sweep.{Sweep}
-use Rattle.shr_base.specs.declared.scripts.WorkerScript.{WorkerScript}
+use Rattle.shr_assemble.proofs.Common.{◌≡◌, ℕ, ◌+◌, ◌<◌, ◌≤◌, ⊎_elim, List, [], length, sym, refl, ap, subst, ◌∙◌, arith, slice_get, Option, Some, None, IfSome, flat_map, AllByRecursion, length-map, none-some, slice_get_past, Command, Sweep, WorkerScript, content_of, within_of_valid, Shared, WorkerState, CrewState, Ends, Report, commands_of, sweeps_in, sweeps_of, answers_of, walks_of, WorkerLog, AreEndsOf, new_worker, IsMadeOf, answers_in, walks_in, carries_in, isolations_in, isolated_in, isolated_before, DidIsolations, Step, AreChained, steps_in, steps_of, IsStep, IsShownIn, AreSteps, IsOfPops, ArePoppedOnce, all_popped}
 use Rattle.shr_script.specs.Bounds.{IsSweepWithin}
-use Rattle.shr_script.specs.Content.{content_of}
-use Rattle.shr_script.proofs.BoundsLaws.{within_of_valid}
-use Rattle.shr_walk.specs.declared.seats.Shared.{Shared}
-use Rattle.shr_walk.specs.State.{WorkerState}
 use Rattle.shr_worker.specs.Chain as chain
-use Rattle.shr_worker.specs.Chain.{CrewState}
-use Rattle.shr_tables.specs.declared.ending.Ends.{Ends}
-use Rattle.shr_report.specs.declared.report.Report.{Report}
 use Rattle.shr_report.specs.Parts as report
-use Rattle.shr_report.specs.Parts.{commands_of, sweeps_in, sweeps_of, answers_of, walks_of, carries_of, isolations_of}
-use Rattle.shr_assemble.specs.declared.logs.WorkerLog.{WorkerLog}
-use Rattle.shr_assemble.specs.Ends.{AreEndsOf, new_worker}
-use Rattle.shr_assemble.specs.Makes.{IsMadeOf, answers_in, walks_in, carries_in, isolations_in}
-use Rattle.shr_assemble.specs.Isolating.{isolated_in, isolated_before, DidIsolations}
-use Rattle.shr_assemble.specs.Steps.{Step, AreChained, steps_in, steps_of}
-use Rattle.shr_assemble.specs.Runs.{IsStep, IsNew, IsShownIn, AreSteps, AreIsolating}
-use Rattle.shr_assemble.specs.Sweeps.{IsOfPops, AreSwept, ArePoppedOnce, all_popped}
+use Rattle.shr_report.specs.Parts.{carries_of, isolations_of}
+use Rattle.shr_assemble.specs.Runs.{IsNew, AreIsolating}
+use Rattle.shr_assemble.specs.Sweeps.{AreSwept}
 use Rattle.shr_assemble.proofs.Fit.{IsFit}
 use Rattle.shr_assemble.proofs.Crews.{IsCrew, crew, there_at}
 use Rattle.shr_assemble.proofs.EndsPlaces.{below_or}

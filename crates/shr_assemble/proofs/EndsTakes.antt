@@ -1,21 +1,7 @@
 -- The moves of each worker in the line of all moves of the deferred words, of a run whose workers are done.
-use Rattle.std.proofs.Common.{◌≡◌, ℕ, zero, suc, ◌+◌, ◌<◌, ◌≤◌, List, [], ◌∷◌, ◌++◌, length, sym, refl, ap, subst, ◌∙◌, arith}
-use Rattle.std.specs.Prelude.{flat_map, slice_get, Option, Some, None}
-use Rattle.std.proofs.lemmas.Option.{same_Some, none-some, slice_get_within}
-use mathlib.Core.Logic.{dite}
-use native.Mathlib.Decide.{dec_lt}
-use Rattle.shr_seats.specs.Lines.{Deed, by_seat, part}
-use Rattle.shr_deferred.specs.Moves.{Move, Moves, no_moves}
+use Rattle.shr_assemble.proofs.Common.{◌≡◌, ℕ, zero, suc, ◌+◌, ◌<◌, ◌≤◌, List, [], ◌∷◌, ◌++◌, length, sym, refl, ap, subst, ◌∙◌, arith, flat_map, slice_get, Option, Some, None, same_Some, none-some, slice_get_within, dite, dec_lt, Deed, by_seat, part, Move, Moves, Shared, WorkerState, CrewState, Ends, Report, WorkerLog, Firsts, with_workers, at_start, AreEndsOf, new_worker, IsMadeOf, Step, steps_in, steps_of}
+use Rattle.shr_deferred.specs.Moves.{no_moves}
 use Rattle.shr_deferred.specs.Rule.{strand_at}
-use Rattle.shr_walk.specs.declared.seats.Shared.{Shared}
-use Rattle.shr_walk.specs.State.{WorkerState}
-use Rattle.shr_worker.specs.Chain.{CrewState}
-use Rattle.shr_tables.specs.declared.ending.Ends.{Ends}
-use Rattle.shr_report.specs.declared.report.Report.{Report}
-use Rattle.shr_assemble.specs.declared.logs.WorkerLog.{WorkerLog}
-use Rattle.shr_assemble.specs.Ends.{Firsts, with_workers, at_start, AreEndsOf, new_worker}
-use Rattle.shr_assemble.specs.Makes.{IsMadeOf}
-use Rattle.shr_assemble.specs.Steps.{Step, steps_in, steps_of}
 use Rattle.shr_assemble.proofs.Crews.{there_at}
 use Rattle.shr_assemble.proofs.EndsSteps.{workers, is_crew}
 use Rattle.shr_assemble.proofs.Joined.{joined_list}

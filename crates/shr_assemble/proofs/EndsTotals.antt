@@ -1,32 +1,10 @@
 -- How many objects were added, freed and are listed, of a run whose workers are done.
-use Rattle.std.proofs.Common.{◌≡◌, ℕ, suc, ◌+◌, ◌<◌, inl, inr, ⊎_elim, List, [], ◌∷◌, ◌++◌, map, length, length-append, refl, ap, ◌∙◌, arith}
-use Rattle.std.specs.Prelude.{slice_get, Some, sum_by}
-use Rattle.std.specs.List.{AllByRecursion}
-use Rattle.std.proofs.lemmas.List.Sorted.{length_permutation}
-use Rattle.std.proofs.lemmas.List.{length-map}
-use Rattle.std.proofs.lemmas.List.Sums.{sum_by-cons}
-use Rattle.shr_base.specs.declared.ends.PlaceEnd.{PlaceEnd}
-use Rattle.shr_base.specs.declared.journals.Entry.{Entry}
-use Rattle.shr_base.specs.declared.objects.Object.{Object}
-use Rattle.shr_model.specs.Bag.{serials_of, added_by_all, added_in, freed_in, listed_in}
-use Rattle.shr_model.specs.Families.{items_of}
-use Rattle.shr_model.proofs.LegalBag.{IsWhole, bag_of_legal}
-use Rattle.shr_model.proofs.PlacesLaws.{AreApart_of_ends, find_end}
-use Rattle.shr_walk.specs.declared.seats.Shared.{Shared}
-use Rattle.shr_tables.specs.declared.ending.Ends.{Ends}
-use Rattle.shr_report.specs.declared.report.Report.{Report}
-use Rattle.shr_report.specs.Parts.{parents_of, journal_of, journals_of, places_of}
-use Rattle.shr_assemble.specs.declared.logs.WorkerLog.{WorkerLog}
-use Rattle.shr_assemble.specs.Ends.{AreEndsOf}
-use Rattle.shr_assemble.specs.Makes.{IsMadeOf}
-use Rattle.shr_assemble.specs.Runs.{IsPrinted, AreJournals}
+use Rattle.shr_assemble.proofs.Common.{◌≡◌, ℕ, suc, ◌+◌, ◌<◌, inl, inr, ⊎_elim, List, [], ◌∷◌, ◌++◌, map, length, length-append, refl, ap, ◌∙◌, arith, slice_get, Some, sum_by, length_permutation, length-map, sum_by-cons, PlaceEnd, Entry, Object, serials_of, added_by_all, added_in, listed_in, items_of, IsWhole, bag_of_legal, AreApart_of_ends, find_end, Shared, Ends, Report, parents_of, journal_of, journals_of, places_of, WorkerLog, AreEndsOf, IsMadeOf, IsPrinted, AreJournals}
+use Rattle.shr_model.specs.Bag.{freed_in}
 use Rattle.shr_assemble.proofs.EndsGathered.{journals}
 use Rattle.shr_assemble.proofs.EndsSteps.{workers}
 use Rattle.shr_assemble.proofs.Rows.{DidEach}
-
-all_mapped : {X Y : Type 0} (P : Y → Type 0) (f : X → Y) (xs : List X) → ((n : ℕ) (x : X) → slice_get xs n ≡ Some x → P (f x)) → AllByRecursion P (map f xs)
-all_mapped P f [] h = tt
-all_mapped P f (x ∷ xs) h = (h 0 x refl, all_mapped P f xs (λ n y e. h (suc n) y e))
+use Rattle.shr_assemble.proofs.BagLaw.{all_mapped}
 
 module _ (x : Shared) (did : DidEach x) (logs : List WorkerLog) (e : Ends) (ends : AreEndsOf x logs e) (r : Report) (made : IsMadeOf x.script logs e r) where
   are : AreJournals x.script r (workers x did logs e ends r made)

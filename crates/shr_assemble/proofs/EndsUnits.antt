@@ -1,48 +1,19 @@
 -- What the workers did at the pools of units, of a run whose workers are done.
-use Rattle.std.proofs.Common.{◌≡◌, ℕ, ◌<◌, ◌≤◌, ⊎_elim, List, [], ◌∷◌, ◌++◌, map, length, sym, refl, ap, subst, ◌∙◌, arith}
-use Rattle.std.specs.Prelude.{find, filter, flat_map, slice_get, Option, Some, None, option_map}
-use Rattle.std.specs.List.{AllByRecursion, range_with_len}
-use Rattle.std.proofs.lemmas.Option.{same_Some, none-some, slice_get_past, slice_get_within}
-use Rattle.shr_base.specs.declared.ends.PlaceAmount.{PlaceAmount}
+use Rattle.shr_assemble.proofs.Common.{◌≡◌, ℕ, ◌<◌, ◌≤◌, ⊎_elim, List, [], ◌∷◌, ◌++◌, map, length, sym, refl, ap, subst, ◌∙◌, arith, find, filter, flat_map, slice_get, Option, Some, None, option_map, AllByRecursion, range_with_len, same_Some, none-some, slice_get_past, slice_get_within, PlaceAmount, Place, Answered, Command, amount_of, sum_at, deferred_word, is_place, Sizes, IsPlaceOf, row_of, row_count, Each, Begins, row_low, begins_all, Each-none, is_some_amount, takes_of, gives_of, takes_both, gives_both, pool_sizes, PlainState, Shared, CrewState, Ends, Report, amount_in, parents_of, journals_of, commands_in, commands_of, answers_of, serial_of, command_at, answer_at, id_found, IsOther, DidUnitsOf, UnitsStep, WorkerLog, Firsts, AreEndsOf, with_workers, at_start, IsMadeOf, answers_in, plain_in, AreSteps, Step, IsReplyTo}
 use Rattle.shr_base.specs.declared.journals.PlainEntry.{PlainEntry}
-use Rattle.shr_base.specs.declared.places.Place.{Place}
-use Rattle.shr_base.specs.declared.replies.Answered.{Answered}
-use Rattle.shr_base.specs.declared.scripts.Command.{Command}
-use Rattle.shr_model.specs.Deferred.{amount_of, sum_at, deferred_word}
-use Rattle.shr_model.specs.Places.{is_place}
-use Rattle.shr_seats.specs.declared.rows.Sizes.{Sizes}
-use Rattle.shr_seats.specs.Rows.{IsPlaceOf, row_of, row_count, place_in}
-use Rattle.shr_seats.specs.Views.{Each}
-use Rattle.shr_seats.specs.Weights.{Begins}
-use Rattle.shr_seats.proofs.RowLaws.{row_low}
-use Rattle.shr_seats.proofs.Weighing.{begins_all, Each-none}
-use Rattle.shr_deferred.specs.Left.{is_some_amount, amounts}
-use Rattle.shr_deferred.specs.Moves.{takes_of, gives_of}
+use Rattle.shr_seats.specs.Rows.{place_in}
+use Rattle.shr_deferred.specs.Left.{amounts}
 use Rattle.shr_deferred.specs.Rule.{taken_at, given_at}
-use Rattle.shr_deferred.proofs.SeatLaws.{takes_both, gives_both}
 use Rattle.shr_rooms.specs.Rule.{IsMade, IsCounted, times}
 use Rattle.shr_rooms.specs.Views.{Made, Counted, RoomView, part_at, heard_of}
 use Rattle.shr_rooms.proofs.Parts.{part_joined}
 use Rattle.shr_plain.specs.Ending.{end_value}
-use Rattle.shr_plain.specs.Opening.{pool_sizes}
 use Rattle.shr_plain.specs.Rule.{units}
-use Rattle.shr_plain.specs.Seat.{PlainState, no_state}
-use Rattle.shr_walk.specs.declared.seats.Shared.{Shared}
-use Rattle.shr_worker.specs.Chain.{CrewState}
+use Rattle.shr_plain.specs.Seat.{no_state}
 use Rattle.shr_worker.specs.Chain as chain
-use Rattle.shr_tables.specs.declared.ending.Ends.{Ends}
-use Rattle.shr_report.specs.declared.report.Report.{Report}
-use Rattle.shr_report.specs.Deferred.{amount_in}
-use Rattle.shr_report.specs.Parts.{parents_of, journals_of, commands_in, commands_of, answers_of, serial_of, command_at, answer_at, id_found}
 use Rattle.shr_report.specs.UnitParts.{plain_of}
-use Rattle.shr_units.specs.Did.{IsOther, DidUnitsOf}
-use Rattle.shr_units.specs.Steps.{UnitsStep, steps_in, steps_of, AreChained, last_of, made_in}
+use Rattle.shr_units.specs.Steps.{steps_in, steps_of, AreChained, last_of, made_in}
 use Rattle.shr_units.specs.Runs.{IsUnitsStep, IsSeenIn, IsRoomOf, AreUnits}
-use Rattle.shr_assemble.specs.declared.logs.WorkerLog.{WorkerLog}
-use Rattle.shr_assemble.specs.Ends.{Firsts, AreEndsOf, with_workers, at_start}
-use Rattle.shr_assemble.specs.Makes.{IsMadeOf, answers_in, plain_in}
-use Rattle.shr_assemble.specs.Runs.{AreSteps}
-use Rattle.shr_assemble.specs.Steps.{Step}
 use Rattle.shr_assemble.specs.Steps as seats
 use Rattle.shr_assemble.proofs.Chains.{does_at}
 use Rattle.shr_assemble.proofs.Crews.{there_at, flat_pairs}
@@ -58,8 +29,8 @@ use Rattle.shr_assemble.proofs.Rows.{DidEach, within_at}
 use Rattle.shr_assemble.proofs.SweepSteps.{last_answer}
 use Rattle.shr_assemble.proofs.UnitsDid.{IsElsewhere, other_reply, did_units}
 use Rattle.shr_assemble.proofs.UnitsRows.{IsDeed, IsUnitsCrew, units_crew}
-use Rattle.shr_assemble.proofs.WordPlaces.{inside_word, place_back, has_range, range_has}
-use Rattle.shr_assemble.specs.Entries.{IsReplyTo}
+use Rattle.shr_assemble.proofs.WordPlaces.{inside_word, has_range, range_has}
+use Rattle.shr_units.proofs.Pooling.{place_back}
 
 -- ---- what the first seats have in the end
 module _ (f : Firsts) (ws : List CrewState) where

@@ -1,15 +1,6 @@
 -- The operations on usage and the journal of the tree, of a run whose workers are done.
-use Rattle.std.proofs.Common.{◌≡◌, ℕ, zero, suc, ◌+◌, ◌<◌, ◌≤◌, ◌≢◌, ⊎_elim, List, [], ◌∷◌, length, sym, refl, ap, ◌∙◌, arith}
-use Rattle.std.specs.Prelude.{slice_get, Some}
-use Rattle.std.specs.List.{AllByRecursion}
-use Rattle.std.proofs.lemmas.Option.{same_Some, none-some}
-use mathlib.Core.Logic.{dite}
-use native.Mathlib.Decide.{ℕ_discrete}
-use Rattle.shr_base.specs.declared.journals.UseStep.{UseStep}
-use Rattle.shr_seats.specs.Weights.{total, only}
-use Rattle.shr_seats.proofs.Weighing.{some_term, only_yes, only_no}
+use Rattle.shr_assemble.proofs.Common.{◌≡◌, ℕ, zero, suc, ◌+◌, ◌<◌, ◌≤◌, ◌≢◌, ⊎_elim, List, [], ◌∷◌, length, sym, refl, ap, ◌∙◌, arith, slice_get, Some, AllByRecursion, same_Some, none-some, dite, ℕ_discrete, UseStep, total, only, some_term, only_yes, only_no, at_some}
 use Rattle.shr_assemble.proofs.EndsPlaces.{below_or}
-use Rattle.shr_assemble.proofs.Gathering.{at_some}
 use Rattle.shr_assemble.proofs.Operations.{PairsRec}
 
 -- operations by their numbers, one after another

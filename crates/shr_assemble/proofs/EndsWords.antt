@@ -1,31 +1,16 @@
 -- The deferred words that are printed are those that the steps left, of a run whose workers are done.
-use Rattle.std.proofs.Common.{◌≡◌, ℕ, ◌<◌, List, map, length, sym, ap, subst, ◌∙◌}
-use Rattle.std.specs.Prelude.{find, filter}
-use Rattle.std.specs.List.{AllByRecursion, range_with_len}
-use Rattle.shr_base.specs.declared.ends.PlaceAmount.{PlaceAmount}
-use Rattle.shr_base.specs.declared.places.Place.{Place}
-use Rattle.shr_model.specs.Deferred.{amount_of, sum_at, deferred_word}
-use Rattle.shr_model.specs.Places.{is_place}
-use Rattle.shr_seats.specs.declared.rows.Sizes.{Sizes}
-use Rattle.shr_seats.specs.Rows.{IsPlaceOf, row_of, row_count, place_in}
-use Rattle.shr_deferred.specs.Left.{is_some_amount, amounts}
-use Rattle.shr_deferred.specs.Rule.{amounts_after, taken_at, given_at}
-use Rattle.shr_walk.specs.declared.seats.Shared.{Shared}
-use Rattle.shr_tables.specs.declared.ending.Ends.{Ends}
-use Rattle.shr_report.specs.declared.report.Report.{Report}
-use Rattle.shr_report.specs.Deferred.{amount_in}
-use Rattle.shr_report.specs.Parts.{parents_of, IsThere}
-use Rattle.shr_assemble.specs.declared.logs.WorkerLog.{WorkerLog}
-use Rattle.shr_assemble.specs.Ends.{AreEndsOf}
-use Rattle.shr_assemble.specs.Makes.{IsMadeOf}
-use Rattle.shr_assemble.specs.Runs.{all_gives, AreDeferred}
+use Rattle.shr_assemble.proofs.Common.{◌≡◌, ℕ, ◌<◌, List, map, length, sym, ap, subst, ◌∙◌, find, filter, AllByRecursion, range_with_len, PlaceAmount, Place, amount_of, sum_at, deferred_word, is_place, Sizes, IsPlaceOf, row_of, row_count, is_some_amount, amounts_after, Shared, Ends, Report, amount_in, parents_of, IsThere, WorkerLog, AreEndsOf, IsMadeOf, all_gives, row_low}
+use Rattle.shr_seats.specs.Rows.{place_in}
+use Rattle.shr_deferred.specs.Left.{amounts}
+use Rattle.shr_deferred.specs.Rule.{taken_at, given_at}
+use Rattle.shr_assemble.specs.Runs.{AreDeferred}
 use Rattle.shr_assemble.proofs.EndsDeferred.{found_zero, found_word, shown_some}
 use Rattle.shr_assemble.proofs.EndsGathered.{last, takes_are, gives_are}
 use Rattle.shr_assemble.proofs.EndsSteps.{workers}
 use Rattle.shr_assemble.proofs.EndsTakes.{parts, others}
 use Rattle.shr_assemble.proofs.Rows.{DidEach}
-use Rattle.shr_assemble.proofs.WordPlaces.{inside_word, place_back, has_range, range_has}
-use Rattle.shr_seats.proofs.RowLaws.{row_low}
+use Rattle.shr_assemble.proofs.WordPlaces.{inside_word, has_range, range_has}
+use Rattle.shr_units.proofs.Pooling.{place_back}
 
 module _ (x : Shared) (did : DidEach x) (logs : List WorkerLog) (e : Ends) (ends : AreEndsOf x logs e) (r : Report) (made : IsMadeOf x.script logs e r) where
   abbrev sizes : Sizes

@@ -1,32 +1,11 @@
 -- Each entry of the journals of registrations and of the tree, and each Drained, has its cause.
-use Rattle.std.proofs.Common.{◌≡◌, ℕ, ◌+◌, ◌≤◌, true, false, List, length, refl, sym, ap, subst, ◌∙◌, arith, eq-eqb}
-use Rattle.std.specs.Prelude.{slice_get, Option, Some, None, option_map}
-use Rattle.std.specs.Option.{IsSomeAnd}
-use Rattle.std.proofs.lemmas.Bool.{eqb-true}
-use Rattle.shr_base.specs.declared.places.Serial.{Serial}
-use Rattle.shr_base.specs.declared.places.Place.{Place}
-use Rattle.shr_base.specs.declared.journals.Entry.{Entry}
-use Rattle.shr_base.specs.declared.journals.Entry.TheVariants.{Drained}
-use Rattle.shr_base.specs.declared.journals.PoolEntry.{PoolEntry}
+use Rattle.shr_assemble.proofs.Common.{◌≡◌, ℕ, ◌+◌, ◌≤◌, true, false, List, length, refl, sym, ap, subst, ◌∙◌, arith, eq-eqb, slice_get, Option, Some, None, option_map, IsSomeAnd, eqb-true, Serial, Place, Entry, Drained, PoolEntry, Answered, Reply, Script, phase_of, Made, Turn, id_of, Report, decls_on, serial_of, answer_at, reply_at, journals_of, IsOffline, MayHaveBegun, is_done_by, IsMadeBy, StandsInTree, Step, IsAmong, steps_of, IsCausedBy, IsDrained, MayMake, Drains, IsBegun, IsEnded, IsEntryOf, IsTurnOf, IsRun}
 use Rattle.shr_base.specs.declared.journals.PoolEntry.TheVariants as pool
 use Rattle.shr_base.specs.declared.journals.TreeEntry.TheVariants.{Begin, Done, Made as MadeEntry}
-use Rattle.shr_base.specs.declared.replies.Answered.{Answered}
-use Rattle.shr_base.specs.declared.replies.Reply.{Reply}
 use Rattle.shr_base.specs.declared.replies.Reply.TheVariants as reply
-use Rattle.shr_base.specs.declared.scripts.Script.{Script}
-use Rattle.shr_model.specs.Pool.{phase_of}
-use Rattle.shr_core.specs.Parts.{Made, Turn}
-use Rattle.shr_core.specs.Layout.{id_of}
 use Rattle.shr_charge.specs.Views as charge
-use Rattle.shr_report.specs.declared.report.Report.{Report}
-use Rattle.shr_report.specs.Parts.{decls_on, serial_of, answer_at, reply_at, journals_of}
-use Rattle.shr_report.specs.Causes.{IsOffline, MayHaveBegun, is_done_by, IsDoneOnce, is_made_by, IsMadeOnce, IsMadeBy, HasDrained, StandsInTree}
-use Rattle.shr_assemble.specs.Steps.{Step, IsAmong, steps_of}
-use Rattle.shr_assemble.specs.Causes.{IsCausedBy}
-use Rattle.shr_assemble.specs.Entries.{IsDrained, MayMake, Drains}
-use Rattle.shr_assemble.specs.Offlining.{IsBegun, IsEnded, IsMaking, IsEntryOf}
-use Rattle.shr_assemble.specs.Pool.{IsTurnOf}
-use Rattle.shr_assemble.specs.Runs.{IsRun}
+use Rattle.shr_report.specs.Causes.{IsDoneOnce, is_made_by, IsMadeOnce, HasDrained}
+use Rattle.shr_assemble.specs.Offlining.{IsMaking}
 use Rattle.shr_assemble.proofs.Gathering.{each_among}
 use Rattle.shr_assemble.proofs.Listed.{all_among}
 use Rattle.shr_assemble.proofs.Making.{answers, maker, reply_is}

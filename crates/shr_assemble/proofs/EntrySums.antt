@@ -1,18 +1,6 @@
 -- A sum over the entries of all journals is one over what the steps made.
-use Rattle.std.proofs.Common.{◌≡◌, ℕ, ◌+◌, List, [], ◌∷◌, refl, sym, ◌∙◌, arith}
-use Rattle.std.specs.Prelude.{slice_get, Some, sum_by}
-use Rattle.std.specs.List.{enumerate_from}
-use Rattle.shr_base.specs.declared.journals.Entry.{Entry}
-use Rattle.shr_base.specs.declared.places.Place.{Place}
-use Rattle.shr_base.specs.declared.scripts.Script.{Script}
-use Rattle.shr_seats.specs.Weights.{total}
-use Rattle.shr_core.specs.Parts.{Made}
-use Rattle.shr_report.specs.declared.report.Report.{Report}
-use Rattle.shr_report.specs.Parts.{journals_of, places_of}
-use Rattle.shr_assemble.specs.Steps.{Step, steps_of}
-use Rattle.shr_assemble.specs.Runs.{all_made, IsRun}
+use Rattle.shr_assemble.proofs.Common.{◌≡◌, ℕ, ◌+◌, List, [], ◌∷◌, refl, sym, ◌∙◌, arith, slice_get, Some, sum_by, enumerate_from, Entry, Place, Script, total, Made, Report, journals_of, places_of, Step, steps_of, all_made, IsRun, sum_total}
 use Rattle.shr_assemble.proofs.Gathering.{total_same_on}
-use Rattle.shr_assemble.proofs.Listed.{sum_total}
 use Rattle.shr_assemble.proofs.Recounting.{journals_are}
 use Rattle.shr_assemble.proofs.ScansLaw.{only_step}
 

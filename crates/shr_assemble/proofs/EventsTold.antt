@@ -1,15 +1,7 @@
 -- What an event tells of the measures that only grow, and which event it is that tells a number.
-use Rattle.std.proofs.Common.{◌≡◌, ℕ, zero, suc, ◌+◌, ◌<◌, ◌≤◌, Bool, true, false, ◌&&◌, List, [], ◌∷◌, length, sym, refl, ap, ◌∙◌, arith, eqb}
-use Rattle.std.specs.Prelude.{slice_get, Some, nat_lt}
-use Rattle.std.proofs.lemmas.Bool.{and_parts, eqb-true}
-use Rattle.shr_base.specs.declared.journals.PoolEntry.{PoolEntry}
-use Rattle.shr_base.specs.declared.journals.PoolEntry.TheVariants.{Registered, Unregistered, Idle}
-use Rattle.shr_model.specs.Places.{place_number}
-use Rattle.shr_core.specs.Gained.{attempts_in}
-use Rattle.shr_core.specs.Parts.{Event, counted, made, looked, loaded, turned, put_back, raised, cleared, mapped}
-use Rattle.shr_core.specs.Ranks.{Tells}
+use Rattle.shr_assemble.proofs.Common.{◌≡◌, ℕ, ◌+◌, ◌<◌, ◌≤◌, Bool, true, false, ◌&&◌, [], ◌∷◌, length, sym, ap, ◌∙◌, arith, eqb, nat_lt, and_parts, eqb-true, PoolEntry, Registered, Unregistered, Idle, place_number, attempts_in, Event, counted, made, looked, loaded, turned, put_back, raised, cleared, mapped, Tells, Measure, entries, lookups, turns, EntryTells}
 use Rattle.shr_core.specs.Ranks as core
-use Rattle.shr_report.specs.OneOrder.{Measure, entries, lookups, turns, EntryTells}
+use Rattle.shr_assemble.proofs.Crews.{there_at}
 
 -- ---- the event of what is told, by its numbers
 abbrev pub is_entry : ℕ → ℕ → Event → Bool
@@ -90,11 +82,6 @@ one_try (put_back i) = omega arith
 one_try (raised x) = omega arith
 one_try (cleared x) = omega arith
 one_try (mapped x) = omega arith
-
-pub has_at : {A : Type 0} (xs : List A) (n : ℕ) → n < length xs → (x : A) × (slice_get xs n ≡ Some x)
-has_at [] n less = absurd (omega (arith, less))
-has_at (x ∷ xs) zero less = (x, refl)
-has_at (x ∷ xs) (suc n) less = has_at xs n (omega (arith, less))
 
 pub not_below : (n l : ℕ) → l ≤ n → nat_lt n l ≡ false
 not_below n l le = grind (arith, le)

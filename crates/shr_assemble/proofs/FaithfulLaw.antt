@@ -1,46 +1,16 @@
 -- The report of a run is faithful: what its workers told stands in the order of their commands.
-use Rattle.std.proofs.Common.{◌≡◌, ℕ, zero, suc, ◌+◌, ◌<◌, ◌≤◌, inr, ⊎_elim, List, [], ◌∷◌, ◌++◌, length, map, sym, ap, subst, ◌∙◌, arith}
-use Rattle.std.specs.Prelude.{slice_get, Some, option_and_then}
-use Rattle.std.specs.List.{AllByRecursion}
-use Rattle.std.specs.Option.{IsSomeAnd}
-use Rattle.std.proofs.lemmas.Option.{none-some, same_Some}
-use Rattle.shr_base.specs.declared.journals.PoolEntry.TheVariants.{Registered, Unregistered}
-use Rattle.shr_base.specs.declared.journals.TreeEntry.TheVariants.{Done}
-use Rattle.shr_base.specs.declared.journals.UseStep.{UseStep}
-use Rattle.shr_base.specs.declared.places.Serial.{Serial}
-use Rattle.shr_base.specs.declared.replies.Answered.{Answered}
-use Rattle.shr_base.specs.declared.replies.Reply.{Reply}
+use Rattle.shr_assemble.proofs.Common.{◌≡◌, ℕ, zero, suc, ◌+◌, ◌<◌, ◌≤◌, inr, ⊎_elim, List, [], ◌∷◌, ◌++◌, length, map, sym, ap, subst, ◌∙◌, arith, slice_get, Some, option_and_then, AllByRecursion, IsSomeAnd, none-some, same_Some, Registered, Unregistered, Done, UseStep, Serial, Answered, Reply, Command, Offline, Script, Carry, group_named, IsAtOrAbove, each_append, each_weaker, Has, slice_get_within, Begins, begins_all, begins_more, Turn, AreRising, IsLaterThan, WorkerState, Report, parents_of, decls_on, serial_of, all_carries, pool_seen, pool_made, of_answer, made_by, IsFaithful, DidCarry, IsEntryOf, Step, IsAmong, steps_of, AreChained, IsRun, done_at, by_slices, some_at}
 use Rattle.shr_base.specs.declared.replies.Reply.TheVariants as reply
-use Rattle.shr_base.specs.declared.scripts.Command.{Command}
-use Rattle.shr_base.specs.declared.scripts.Command.TheVariants.{Offline}
-use Rattle.shr_base.specs.declared.scripts.Script.{Script}
-use Rattle.shr_base.specs.declared.walks.Carry.{Carry}
-use Rattle.shr_model.specs.Commands.{group_named}
-use Rattle.shr_model.specs.Groups.{IsAtOrAbove}
-use Rattle.shr_model.proofs.BagLaws.{each_append, each_weaker}
-use Rattle.shr_model.proofs.Members.{Has}
-use Rattle.std.proofs.lemmas.Option.{slice_get_within}
-use Rattle.shr_seats.specs.Weights.{Begins}
-use Rattle.shr_seats.proofs.Weighing.{begins_all, begins_more}
-use Rattle.shr_core.specs.Parts.{Turn}
-use Rattle.shr_charge.specs.Charging.{AreRising, IsLaterThan}
 use Rattle.shr_charge.specs.Views as charge
-use Rattle.shr_walk.specs.State.{WorkerState}
-use Rattle.shr_report.specs.declared.report.Report.{Report}
-use Rattle.shr_report.specs.Parts.{parents_of, decls_on, serial_of, all_carries, EachAnswer}
-use Rattle.shr_report.specs.Freshness.{pool_seen, pool_made, of_answer, made_by}
-use Rattle.shr_report.specs.Faithful.{pool_reached, tree_reached, tree_made, AreNotAbove, IsOverOnPath, IsFaithful}
+use Rattle.shr_report.specs.Parts.{EachAnswer}
+use Rattle.shr_report.specs.Faithful.{pool_reached, tree_reached, tree_made, AreNotAbove, IsOverOnPath}
 use Rattle.shr_assemble.specs.Causes as by
-use Rattle.shr_assemble.specs.Deferred.{DidCarry}
-use Rattle.shr_assemble.specs.Offlining.{IsEntryOf}
-use Rattle.shr_assemble.specs.Steps.{Step, IsAmong, steps_of, AreChained}
-use Rattle.shr_assemble.specs.Runs.{IsRun}
 use Rattle.shr_assemble.proofs.BitsToldLaw.{bits_told}
 use Rattle.shr_assemble.proofs.Chains.{first_grows}
 use Rattle.shr_assemble.proofs.Flattening.{all_carries_are}
 use Rattle.shr_assemble.proofs.FreshLaw.{of_is, step_cases, none_given, begins_length}
-use Rattle.shr_assemble.proofs.Gathering.{has_step, each_among, some_at}
-use Rattle.shr_assemble.proofs.Listed.{all_among, by_slices}
+use Rattle.shr_assemble.proofs.Gathering.{has_step, each_among}
+use Rattle.shr_assemble.proofs.Listed.{all_among}
 use Rattle.shr_assemble.proofs.MadeTurns.{made_turn}
 use Rattle.shr_assemble.proofs.Makers.{one_turn_maker}
 use Rattle.shr_assemble.proofs.Making.{work_of, grows, stepped}
@@ -54,12 +24,9 @@ use Rattle.shr_assemble.proofs.PoolPast.{pool_past}
 use Rattle.shr_assemble.proofs.TriesLaw.{tries}
 use Rattle.shr_assemble.proofs.WalksRefused.{walks_refused}
 use Rattle.shr_assemble.proofs.Pairs.{across, Has_begins}
-use Rattle.shr_charge.proofs.TreeFacts.{done_at}
+use Rattle.shr_report.proofs.FaithfulValues.{above_none}
 
 -- ---- lists of numbers
-above_none : (ns : List ℕ) → AreNotAbove ns []
-above_none [] = tt
-above_none (n ∷ ns) = (tt, above_none ns)
 
 -- numbers up to a bound aren't above those from it on
 around : (b : ℕ) (ns ms : List ℕ) → AllByRecursion (λ n. n ≤ b) ns → AllByRecursion (λ m. b ≤ m) ms → AreNotAbove ns ms

@@ -1,25 +1,14 @@
 -- What holds of each object that is added holds of each that is listed or freed, and what journals free, entry by entry.
-use Rattle.std.proofs.Common.{◌≡◌, ℕ, zero, suc, Bool, true, false, not, cond, List, [], ◌∷◌, ◌++◌, length, length-append, take, sym, refl, ap, ◌∙◌, arith, eqb, append_assoc}
-use Rattle.std.specs.Prelude.{Some, None, Option, take_while, find}
-use Rattle.std.specs.List.{AllByRecursion, enumerate_from, prefix_len}
-use Rattle.std.proofs.lemmas.List.{take_at}
-use Rattle.shr_base.specs.declared.objects.Object.{Object}
-use Rattle.shr_base.specs.declared.objects.Policy.{Policy}
-use Rattle.shr_base.specs.declared.places.Place.{Place}
-use Rattle.shr_base.specs.declared.journals.Entry.{Entry}
-use Rattle.shr_base.specs.declared.journals.Entry.TheVariants.{Add, Look, Drop, Pin, Scan, MovedIn, Closed, Drained}
-use Rattle.shr_model.specs.Groups.{is_child}
-use Rattle.shr_model.specs.Objects.{is_named, holds, named_in, fresh, marked_object, unmarked_object, pinned_object, change_first, without_first}
+use Rattle.shr_assemble.proofs.Common.{◌≡◌, ℕ, zero, suc, Bool, true, false, not, cond, List, [], ◌∷◌, ◌++◌, length, length-append, take, sym, refl, ap, ◌∙◌, arith, eqb, append_assoc, Some, None, Option, find, AllByRecursion, enumerate_from, take_at, Object, Policy, Place, Entry, Add, Look, Drop, Pin, Scan, MovedIn, Closed, Drained, is_child, is_named, holds, named_in, fresh, marked_object, unmarked_object, pinned_object, step, dropped_of, freed_by, first_moved, later_moved, is_closing, at_group, Family, without_child, items_given, lists_moved_at, items_at, before_closed, each_append, total, total-append}
+use Rattle.std.specs.Prelude.{take_while}
+use Rattle.std.specs.List.{prefix_len}
+use Rattle.shr_model.specs.Objects.{change_first, without_first}
 use Rattle.shr_base.specs.declared.objects.LruStatus.{LruStatus}
 use Rattle.shr_base.specs.declared.objects.LruStatus.TheVariants.{Removed, Rotate, Skip, Stop}
 use Rattle.shr_model.specs.Scan.{case_of, Scanned, scan_ends, after_visit, after_freeing, scan_from}
-use Rattle.shr_model.specs.Items.{step, after_drop, dropped_of, freed_by, first_moved, later_moved, items_from, freed_from, moved_from, is_closing}
-use Rattle.shr_model.specs.Places.{at_group}
-use Rattle.shr_model.specs.Families.{Family, without_child, lists_moved, items_within, items_given, lists_moved_at, items_at, before_closed}
-use Rattle.shr_model.proofs.BagLaws.{each_append}
+use Rattle.shr_model.specs.Items.{after_drop, items_from, freed_from, moved_from}
+use Rattle.shr_model.specs.Families.{lists_moved, items_within}
 use Rattle.shr_model.proofs.ItemsLaws.{items_from_push}
-use Rattle.shr_seats.specs.Weights.{total}
-use Rattle.shr_seats.proofs.Weighing.{total-append}
 
 module _ (P : Object → Type 0) (marks : (o : Object) → P o → P (marked_object o)) (unmarks : (o : Object) → P o → P (unmarked_object o)) (pins : (pinned : Bool) (o : Object) → P o → P (pinned_object pinned o)) where
   abbrev All : List Object → Type 0

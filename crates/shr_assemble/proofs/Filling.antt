@@ -1,40 +1,14 @@
 -- Which bits a command set: those of the lists that it filled, and those that its walks set again.
-use Rattle.std.proofs.Common.{◌≡◌, ◌⊎◌, inl, inr, ℕ, zero, suc, ◌<◌, Bool, true, false, cond, List, [], ◌∷◌, ◌++◌, length, sym, refl, ap, subst, ◌∙◌, arith, append_assoc}
-use Rattle.std.specs.Prelude.{◌&&◌, ◌==◌, nat_lt, flat_map}
-use Rattle.std.proofs.lemmas.List.{map-append}
-use mathlib.Core.Logic.{dite}
-use native.Mathlib.Decide.{ℕ_discrete}
-use Rattle.std.proofs.lemmas.Bool.{and_parts, eqb-true, ltb-true}
-use mathlib.Core.Option.{some-injective, some-ne-none}
-use Rattle.shr_base.specs.declared.journals.Entry.{Entry}
-use Rattle.shr_base.specs.declared.journals.Entry.TheVariants.{Add, Look, Drop, Pin, Scan, MovedIn, Closed, Drained}
-use Rattle.shr_base.specs.declared.objects.Object.{Object}
-use Rattle.shr_base.specs.declared.walks.WalkRecord.{WalkRecord}
-use Rattle.shr_model.proofs.Members.{Has}
-use Rattle.shr_model.specs.Items.{step}
+use Rattle.shr_assemble.proofs.Common.{◌≡◌, ◌⊎◌, inl, inr, ℕ, zero, suc, ◌<◌, Bool, true, false, cond, List, [], ◌∷◌, ◌++◌, length, sym, refl, ap, subst, ◌∙◌, arith, append_assoc, ◌&&◌, ◌==◌, nat_lt, flat_map, map-append, dite, ℕ_discrete, and_parts, ltb-true, some-injective, some-ne-none, Entry, Add, Look, Drop, Pin, Scan, MovedIn, Closed, Drained, Object, WalkRecord, Has, step, Deed, by_seat, Each, times, only, Each-none, Each-weaker, some_term, only_no, View, Gained, Adds, among, group_of, Made, Event, counted, made, looked, loaded, turned, put_back, raised, cleared, mapped, is_raised, bits_for, Fills, IsFilled, IsAmong, set_in}
 use Rattle.shr_model.specs.Scan.{scan_from}
-use Rattle.shr_seats.specs.Lines.{Deed, by_seat}
-use Rattle.shr_seats.specs.Views.{Each}
-use Rattle.shr_seats.specs.Weights.{times, only}
-use Rattle.shr_seats.proofs.Weighing.{Each-none, Each-weaker, some_term, only_no}
-use Rattle.shr_core.specs.declared.view.View.{View}
-use Rattle.shr_core.specs.Gained.{Gained, Adds, among, sets_in, cleared_in}
-use Rattle.shr_core.specs.Layout.{group_of}
-use Rattle.shr_core.specs.Parts.{Made, Event, counted, made, looked, loaded, turned, put_back, raised, cleared, mapped}
-use Rattle.shr_node.specs.Gains.{is_raised, bits_for}
-use Rattle.shr_assemble.specs.Entries.{Fills, IsFilled}
-use Rattle.shr_assemble.specs.Steps.{IsAmong}
-use Rattle.shr_assemble.specs.Walks.{set_in}
+use Rattle.shr_core.specs.Gained.{sets_in, cleared_in}
 use Rattle.shr_assemble.proofs.Operations.{among_has}
 use Rattle.shr_assemble.proofs.Pairs.{either}
+use Rattle.shr_node.proofs.Places.{none_in}
 
 -- the bit of a place was set by an entry, or in a walk
 abbrev pub IsSet : List Made → List WalkRecord → ℕ → Type 0
 IsSet ms walks place = IsFilled ms place ⊎ IsAmong place (flat_map set_in walks)
-
-none_in : (items : List Object) → (length items == 0) ≡ true → items ≡ []
-none_in [] e = refl
-none_in (o ∷ items) e = absurd (let n : length (o ∷ items) ≡ 0 = eqb-true (length (o ∷ items)) 0 e in omega (arith, n))
 
 -- an entry that leaves something in an empty list, where nothing is moved in, fills it
 fills_none : (e : Entry) → 0 < length (step [] [] e) → Fills [] e

@@ -1,16 +1,7 @@
 -- Registrations that begin the journal take the ids in order.
-use Rattle.std.proofs.Common.{◌≡◌, ℕ, zero, suc, ◌%◌, ◌<◌, ◌≤◌, ◌≢◌, ⊎_elim, Bool, true, false, cond, List, [], ◌∷◌, ◌++◌, take, sym, refl, ap, subst, ◌∙◌, arith, eq-eqb, ne_eqb}
-use Rattle.std.specs.Prelude.{Some, slice_get, nat_lt, ◌&&◌, ◌==◌}
-use Rattle.std.proofs.lemmas.Bool.{cases_lt}
-use Rattle.std.proofs.lemmas.Option.{same_Some, none-some}
-use mathlib.Core.Logic.{dite}
-use native.Mathlib.Decide.{ℕ_discrete}
-use mathlib.Core.Option.{some}
-use lib.ListN.{get_elem?}
-use Rattle.shr_base.specs.declared.journals.PoolEntry.{PoolEntry}
-use Rattle.shr_base.specs.declared.journals.PoolEntry.TheVariants.{Registered}
-use Rattle.shr_model.specs.Pool.{phase_of, is_free, lowest_free, lowest_idle, IsPoolJournal}
-use Rattle.shr_model.proofs.PoolLaws.{one_of, phase_of_push}
+use Rattle.shr_assemble.proofs.Common.{◌≡◌, ℕ, zero, suc, ◌%◌, ◌<◌, ◌≤◌, ◌≢◌, ⊎_elim, Bool, true, false, cond, List, [], ◌∷◌, ◌++◌, take, sym, refl, ap, subst, ◌∙◌, arith, eq-eqb, ne_eqb, Some, slice_get, nat_lt, ◌&&◌, ◌==◌, cases_lt, same_Some, none-some, dite, ℕ_discrete, get_elem?, PoolEntry, Registered, is_free, lowest_idle, IsPoolJournal, phase_of_push, some_at}
+use Rattle.shr_model.specs.Pool.{phase_of, lowest_free}
+use Rattle.shr_model.proofs.PoolLaws.{one_of}
 
 -- the lowest free id is free, and no lower one is
 record IsLowest (from id : ℕ) (es : List PoolEntry) : Type 0 where
@@ -68,11 +59,6 @@ first_more n decl es h = record {
   idle = λ id le. omega (arith, phase_of_push id es (Registered decl n 0), h.idle id (omega (arith, le)), else_one decl n id (λ e. omega (arith, e, le)));
 }
 
-some_is : {A : Type 0} (xs : List A) (n : ℕ) (x : A) → slice_get xs n ≡ Some x → get_elem? xs n ≡ some x
-some_is [] n x e = absurd (none-some x e)
-some_is (y ∷ xs) zero x e = ap some (same_Some y x e)
-some_is (y ∷ xs) (suc n) x e = some_is xs n x e
-
 take_next : {A : Type 0} (xs : List A) (n : ℕ) (x : A) → slice_get xs n ≡ Some x → take (suc n) xs ≡ take n xs ++ x ∷ []
 take_next [] n x e = absurd (none-some x e)
 take_next (y ∷ xs) zero x e = ap (λ z. z ∷ []) (same_Some y x e)
@@ -80,7 +66,7 @@ take_next (y ∷ xs) (suc n) x e = ap (λ l. y ∷ l) (take_next xs n x e)
 
 module _ (ids decls : ℕ) (pool : List PoolEntry) (journal : IsPoolJournal ids decls pool) (most : ℕ) (first : (n : ℕ) → n < most → (decl : ℕ) × (id : ℕ) × (slice_get pool n ≡ Some (Registered decl id 0))) where
   lowest_at : (n decl id : ℕ) → slice_get pool n ≡ Some (Registered decl id 0) → lowest_idle ids (take n pool) ≡ Some id
-  lowest_at n decl id at = (journal n (Registered decl id 0) (some_is pool n (Registered decl id 0) at)).2
+  lowest_at n decl id at = (journal n (Registered decl id 0) (some_at pool n (Registered decl id 0) at)).2
 
   are_first : (n : ℕ) → n ≤ most → AreFirst n (take n pool)
   unfolding phase_of

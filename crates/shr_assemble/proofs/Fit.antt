@@ -1,12 +1,6 @@
 -- What holds of a worker's state before each of its commands, along a run.
-use Rattle.std.proofs.Common.{◌≡◌, ℕ, ◌∙◌, refl, arith}
-use Rattle.std.specs.Prelude.{None}
-use Rattle.shr_charge.specs.Charging.{AreRising}
-use Rattle.shr_core.specs.declared.view.View.{View}
+use Rattle.shr_assemble.proofs.Common.{◌≡◌, ℕ, ◌∙◌, refl, arith, None, AreRising, View, WorkerState, Work, new_worker, Brings}
 use Rattle.shr_core.specs.Order.{IsUsing}
-use Rattle.shr_walk.specs.State.{WorkerState, Work}
-use Rattle.shr_assemble.specs.Ends.{new_worker}
-use Rattle.shr_assemble.specs.Steps.{Brings}
 use Rattle.shr_assemble.proofs.OfflineDid.{IsHandless}
 
 -- the numbers of each group's operations rise, the room of the journal of the tree isn't in hand, and no id is held or used

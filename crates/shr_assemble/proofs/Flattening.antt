@@ -1,16 +1,6 @@
 -- All answers, walks and carries of a report are those of the steps.
-use Rattle.std.proofs.Common.{◌≡◌, ℕ, zero, suc, ◌+◌, List, [], ◌∷◌, ◌++◌, length, length-append, take, sym, refl, ap, subst, ◌∙◌, arith}
-use Rattle.std.specs.Prelude.{slice_get, Option, Some, None, flat_map, map}
-use Rattle.std.proofs.lemmas.Option.{same_Some, none-some}
-use Rattle.shr_base.specs.declared.ends.WorkerPart.{WorkerPart}
-use Rattle.shr_base.specs.declared.scripts.Script.{Script}
-use Rattle.shr_base.specs.declared.walks.WalkRecord.{WalkRecord}
-use Rattle.shr_walk.specs.State.{WorkerState}
-use Rattle.shr_report.specs.declared.report.Report.{Report}
-use Rattle.shr_report.specs.Parts.{all_walks, all_carries, answers_in, walks_in, carries_in, answers_of, walk_at}
-use Rattle.shr_assemble.specs.Steps.{Step, gathered, steps_in, steps_of, AreChained}
-use Rattle.shr_assemble.specs.Walks.{DidWalk}
-use Rattle.shr_assemble.specs.Runs.{IsRun, IsStep}
+use Rattle.shr_assemble.proofs.Common.{◌≡◌, ℕ, zero, suc, ◌+◌, List, [], ◌∷◌, ◌++◌, length, length-append, take, sym, refl, ap, subst, ◌∙◌, arith, slice_get, Option, Some, None, flat_map, map, same_Some, none-some, WorkerPart, Script, WalkRecord, WorkerState, Report, all_walks, all_carries, answers_of, walk_at, Step, gathered, steps_in, steps_of, AreChained, DidWalk, IsRun, IsStep}
+use Rattle.shr_report.specs.Parts.{answers_in, walks_in, carries_in}
 use Rattle.shr_assemble.proofs.Gathering.{flat_at, flat_there}
 
 -- two lists whose parts are the same by number flatten to one

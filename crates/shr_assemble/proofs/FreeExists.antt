@@ -1,45 +1,17 @@
 -- A put whose group and key no other put names isn't answered that its object exists: each object so named is its own.
-use Rattle.std.proofs.Common.{◌≡◌, ℕ, zero, suc, ◌<◌, ◌≤◌, inl, inr, Bool, true, false, not, ◌||◌, ◌==◌, cond, List, [], ◌∷◌, ◌++◌, length, take, sym, refl, ap, subst, ◌∙◌, arith}
-use Rattle.std.specs.Prelude.{slice_get, Some, bytes_eq}
-use Rattle.std.specs.List.{AllByRecursion, list_any}
+use Rattle.shr_assemble.proofs.Common.{◌≡◌, ℕ, zero, suc, ◌<◌, ◌≤◌, inl, inr, Bool, true, false, not, ◌||◌, ◌==◌, cond, List, [], ◌∷◌, ◌++◌, length, take, sym, refl, ap, subst, ◌∙◌, arith, slice_get, Some, bytes_eq, AllByRecursion, list_any, cases_Bool, and_parts, eqb-true, Contains-permutation, IsPermutation-sym, same_Some, none-some, slice_get_within, Object, At, Place, Serial, Entry, Add, Look, Drop, Pin, Scan, MovedIn, Closed, Drained, Command, Put, Get, Del, SetPin, Script, added_by, added_by_all, added_in, listed_in, is_serial, items_at, lists_moved_at, step, IsOutcome, first_moved, later_moved, by_of, is_named, holds, marked_object, unmarked_object, pinned_object, Has, Has_from_Contains, Contains_from_Has, each_has, flat_map_has, weight, mass, weight_append, place_at, Made, Report, parents_of, commands_of, serial_of, journals_of, places_of, cited_at, id_found, at, IsOnlyPut, MayMake, IsRun, Step, by_slices, serial_itself}
 use Rattle.std.specs.Cmp.Lexicographic.{bytes_decides}
-use Rattle.std.proofs.lemmas.Bool.{cases_Bool, and_parts, eqb-true}
-use Rattle.std.proofs.lemmas.List.Sorted.{Contains-permutation, IsPermutation-sym}
-use Rattle.std.proofs.lemmas.Option.{same_Some, none-some, slice_get_within}
-use Rattle.shr_base.specs.declared.objects.Object.{Object}
-use Rattle.shr_base.specs.declared.places.At.{At}
-use Rattle.shr_base.specs.declared.places.Place.{Place}
-use Rattle.shr_base.specs.declared.places.Serial.{Serial}
-use Rattle.shr_base.specs.declared.journals.Entry.{Entry}
-use Rattle.shr_base.specs.declared.journals.Entry.TheVariants.{Add, Look, Drop, Pin, Scan, MovedIn, Closed, Drained}
-use Rattle.shr_base.specs.declared.scripts.Command.{Command}
-use Rattle.shr_base.specs.declared.scripts.Command.TheVariants.{Put, Get, Del, SetPin}
-use Rattle.shr_base.specs.declared.scripts.Script.{Script}
-use Rattle.shr_model.specs.Bag.{added_by, added_by_all, added_in, freed_in, listed_in}
-use Rattle.shr_model.specs.Commands.{is_serial}
-use Rattle.shr_model.specs.Families.{items_at, lists_moved_at}
-use Rattle.shr_model.specs.Items.{step, IsOutcome, first_moved, later_moved, items_from, moved_from, AreOutcomes}
-use Rattle.shr_model.specs.Tenants.{by_of}
-use Rattle.shr_model.specs.Objects.{is_named, holds, marked_object, unmarked_object, pinned_object}
-use Rattle.shr_model.proofs.Members.{Has, Has_from_Contains, Contains_from_Has, each_has, flat_map_has}
-use Rattle.shr_model.proofs.Weights.{weight, mass, weight_append}
-use Rattle.shr_core.specs.Layout.{place_at}
-use Rattle.shr_core.specs.Parts.{Made}
-use Rattle.shr_report.specs.declared.report.Report.{Report}
-use Rattle.shr_report.specs.Parts.{parents_of, commands_of, serial_of, journals_of, places_of, cited_at, id_found, at}
-use Rattle.shr_report.specs.Puts.{IsOnlyPut}
-use Rattle.shr_assemble.specs.Entries.{MayMake}
-use Rattle.shr_assemble.specs.Runs.{IsRun}
-use Rattle.shr_assemble.specs.Steps.{Step}
+use Rattle.shr_model.specs.Bag.{freed_in}
+use Rattle.shr_model.specs.Items.{items_from, moved_from, AreOutcomes}
 use Rattle.shr_assemble.proofs.BagLaw.{whole, bag}
 use Rattle.shr_assemble.proofs.FamilyObjects.{AddIs, items_at_kept}
 use Rattle.shr_assemble.proofs.Gathering.{each_among}
-use Rattle.shr_assemble.proofs.Listed.{by_slices, contains_slice}
+use Rattle.shr_assemble.proofs.Listed.{contains_slice}
 use Rattle.shr_assemble.proofs.Making.{maker, made_stands}
 use Rattle.shr_assemble.proofs.RepliesLaw.{told_of, cited}
 use Rattle.shr_assemble.proofs.ReplyEntries.{IsEntryFor, entry_asked}
-use Rattle.shr_assemble.proofs.WalksLaw.{is_serial_own, is_serial_same}
 use Rattle.shr_assemble.proofs.WornWeights.{one_list, freed_total}
+use Rattle.shr_assemble.proofs.LimitsLaw.{serial_same}
 
 -- ---- lists
 
@@ -137,13 +109,13 @@ module _ (s : Script) (r : Report) (workers : List (List Step)) (run : IsRun s r
   added_there place n o within has =
       let by : Serial = o.serial in
       let w : Serial → ℕ = one_by by in
-      let heavy : w by ≡ 1 = ap (λ b. cond {A = ℕ} b 1 0) (is_serial_own by) in
+      let heavy : w by ≡ 1 = ap (λ b. cond {A = ℕ} b 1 0) (serial_itself by) in
       let in_list = mass_has w (items_at (parents_of s) (journals_of r) place n) o has in
       let in_all = one_list w (parents_of s) run.journals.parents (journals_of r) run.journals.legal run.journals.paired (places_of r) (whole s r workers run) place within n in
       let parts = freed_total w (parents_of s) run.journals.parents (journals_of r) run.journals.legal run.journals.paired (places_of r) (whole s r workers run) (places_of r) in
       let both = weight_append w (freed_in (places_of r) (parents_of s) (journals_of r)) (listed_in (places_of r) (parents_of s) (journals_of r)) in
       let one = weight_has w (freed_in (places_of r) (parents_of s) (journals_of r) ++ listed_in (places_of r) (parents_of s) (journals_of r)) (omega (arith, heavy, in_list, in_all, parts, both)) in
-      let same : by ≡ one.0 = is_serial_same by one.0 (weighs (is_serial by one.0) one.2) in
+      let same : by ≡ one.0 = serial_same by one.0 (weighs (is_serial by one.0) one.2) in
       let added = Has_from_Contains (added_in (places_of r) (journals_of r)) one.0 (Contains-permutation (freed_in (places_of r) (parents_of s) (journals_of r) ++ listed_in (places_of r) (parents_of s) (journals_of r)) (added_in (places_of r) (journals_of r)) one.0
       (IsPermutation-sym (added_in (places_of r) (journals_of r)) (freed_in (places_of r) (parents_of s) (journals_of r) ++ listed_in (places_of r) (parents_of s) (journals_of r)) (bag s r workers run).parts)
       (Contains_from_Has (freed_in (places_of r) (parents_of s) (journals_of r) ++ listed_in (places_of r) (parents_of s) (journals_of r)) one.0 one.1)) in

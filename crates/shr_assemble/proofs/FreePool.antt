@@ -1,16 +1,8 @@
 -- A cache that is `on` and stays so is live after each beginning of the journal of registrations that holds its opening.
-use Rattle.std.proofs.Common.{◌≡◌, ◌≢◌, ℕ, zero, suc, ◌+◌, ◌%◌, ◌<◌, inl, inr, true, cond, List, [], ◌∷◌, ◌++◌, take, sym, refl, ap, subst, ◌∙◌, arith, eq-eqb, ne_eqb}
-use Rattle.std.specs.Prelude.{slice_get, Option, Some, None, nat_lt, ◌==◌}
-use Rattle.std.proofs.lemmas.Bool.{cases_Bool, and_parts, eqb-true}
-use Rattle.std.proofs.lemmas.Option.{same_Some, none-some}
-use mathlib.Core.Logic.{dite}
-use native.Mathlib.Decide.{ℕ_discrete}
-use Rattle.shr_base.specs.declared.journals.PoolEntry.{PoolEntry}
-use Rattle.shr_base.specs.declared.journals.PoolEntry.TheVariants.{Registered, Unregistered, Idle}
-use Rattle.shr_model.specs.Pool.{id_of, phase_of, decl_of, decl_after, is_live_decl, is_free, lowest_free, lowest_idle, IsNextPool, IsPoolJournal}
-use Rattle.shr_model.proofs.PoolLaws.{phase_of_push, decl_from_push}
+use Rattle.shr_assemble.proofs.Common.{◌≡◌, ◌≢◌, ℕ, zero, suc, ◌+◌, ◌%◌, ◌<◌, inl, inr, true, cond, List, [], ◌∷◌, ◌++◌, take, sym, refl, ap, subst, ◌∙◌, arith, eq-eqb, ne_eqb, slice_get, Option, Some, None, nat_lt, ◌==◌, cases_Bool, and_parts, eqb-true, same_Some, none-some, dite, ℕ_discrete, PoolEntry, Registered, Unregistered, Idle, phase_of, decl_of, is_live_decl, is_free, lowest_idle, IsNextPool, IsPoolJournal, phase_of_push, some_at}
+use Rattle.shr_model.specs.Pool.{id_of, decl_after, lowest_free}
+use Rattle.shr_model.proofs.PoolLaws.{decl_from_push}
 use Rattle.shr_registry.proofs.Searches.{live_below}
-use Rattle.shr_assemble.proofs.Gathering.{some_at}
 
 -- the lowest that can be registered is one of so many, and can be
 lowest_is : (n from i : ℕ) (es : List PoolEntry) → lowest_free n from es ≡ Some i → (is_free i es ≡ true) × (i < from + n)

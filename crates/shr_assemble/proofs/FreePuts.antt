@@ -1,44 +1,15 @@
 -- A put that nothing is in the way of is answered Added, or that there was no memory, or that a counter is used up.
-use Rattle.std.proofs.Common.{◌≡◌, ℕ, ◌<◌, ◌≤◌, ⊎_elim, true, false, ◌||◌, eq-eqb, List, [], ◌∷◌, ◌++◌, length, sym, refl, ap, subst, ◌∙◌, arith}
-use Rattle.std.specs.Prelude.{slice_get, Option, Some, None, option_map, option_and_then, option_to_list, flat_map}
-use Rattle.std.specs.List.{AllByRecursion, list_any}
-use Rattle.std.specs.Option.{IsSomeAnd}
-use Rattle.std.proofs.lemmas.Option.{same_Some, none-some, slice_get_within}
-use Rattle.shr_base.specs.declared.places.At.{At}
-use Rattle.shr_base.specs.declared.places.Serial.{Serial}
-use Rattle.shr_base.specs.declared.replies.Answered.{Answered}
-use Rattle.shr_base.specs.declared.replies.Found.{Found}
-use Rattle.shr_base.specs.declared.replies.Reply.{Reply}
+use Rattle.shr_assemble.proofs.Common.{◌≡◌, ℕ, ◌<◌, ◌≤◌, ⊎_elim, true, false, ◌||◌, eq-eqb, List, [], ◌∷◌, ◌++◌, length, sym, refl, ap, subst, ◌∙◌, arith, slice_get, Option, Some, None, option_map, option_and_then, option_to_list, flat_map, AllByRecursion, list_any, IsSomeAnd, same_Some, none-some, slice_get_within, At, Serial, Answered, Found, Reply, Begin, Command, Put, Script, WalkRecord, group_named, Family, IsAtOrAbove, is_later, begin_of, is_begin, Report, StandsInTree, IsUnmade, IsUncached, IsOffline, MayHaveBegun, pool_seen, pool_told, tree_cited, is_begin_at, shows_begin, walk_cited, of_answer, parents_of, limit_of, decls_on, commands_of, answers_of, serial_of, journals_of, cited_at, cited_by, walks_by, id_found, IsOnlyPut, AreFreePutsAdded, IsReply, HasCause, IsOverBy, IsCausedBy, IsRun, Step, begin_found}
 use Rattle.shr_base.specs.declared.replies.Reply.TheVariants as reply
-use Rattle.shr_base.specs.declared.journals.TreeEntry.TheVariants.{Begin}
-use Rattle.shr_base.specs.declared.scripts.Command.{Command}
-use Rattle.shr_base.specs.declared.scripts.Command.TheVariants.{Put}
-use Rattle.shr_base.specs.declared.scripts.Script.{Script}
-use Rattle.shr_base.specs.declared.walks.WalkRecord.{WalkRecord}
-use Rattle.shr_model.specs.Commands.{group_named}
-use Rattle.shr_model.specs.Families.{Family}
-use Rattle.shr_model.specs.Groups.{IsAtOrAbove, is_later}
-use Rattle.shr_model.specs.TreeJournal.{begin_of, is_begin}
-use Rattle.shr_report.specs.declared.report.Report.{Report}
-use Rattle.shr_report.specs.Causes.{StandsInTree, IsUnmade, IsUncached, IsOffline, MayHaveBegun}
-use Rattle.shr_report.specs.Freshness.{pool_seen, pool_told, tree_cited, is_begin_at, shows_begin, walk_cited, of_answer}
-use Rattle.shr_report.specs.Parts.{parents_of, later_of, limit_of, decls_on, commands_of, answers_of, serial_of, journals_of, cited_at, cited_by, walks_by, id_found}
-use Rattle.shr_report.specs.Puts.{IsOnlyPut, IsUnlimited, StaysOn, StaysOnline, IsFreePut, IsAddedOrSpent, AreFreePutsAdded}
-use Rattle.shr_report.specs.ReplyTable.{IsReply, HasCause}
-use Rattle.shr_assemble.specs.Causes.{IsOverBy, IsCausedBy}
-use Rattle.shr_assemble.specs.Runs.{IsRun}
-use Rattle.shr_assemble.specs.Steps.{Step}
+use Rattle.shr_report.specs.Parts.{later_of}
+use Rattle.shr_report.specs.Puts.{IsUnlimited, StaysOn, StaysOnline, IsFreePut, IsAddedOrSpent}
 use Rattle.shr_assemble.proofs.CausesLaw.{causes_lawful}
 use Rattle.shr_assemble.proofs.FreeExists.{no_exists}
 use Rattle.shr_assemble.proofs.FreePool.{live_after}
 use Rattle.shr_assemble.proofs.Listed.{contains_slice}
 use Rattle.shr_assemble.proofs.Making.{stepped}
 use Rattle.shr_assemble.proofs.RepliesLaw.{replies_lawful}
-use Rattle.shr_charge.proofs.TreeFacts.{begin_found}
-
-all_right : {A : Type 0} (P : A → Type 0) (xs ys : List A) → AllByRecursion P (xs ++ ys) → AllByRecursion P ys
-all_right P [] ys h = h
-all_right P (x ∷ xs) ys h = all_right P xs ys h.1
+use Rattle.shr_model.proofs.Lists.{all_right}
 
 not_both : (o : Option ℕ) (P : ℕ → Type 0) → o ≡ None → IsSomeAnd o P → ⊥
 not_both None P e h = absurd h

@@ -1,55 +1,25 @@
 -- What an answer knew isn't older than what its worker had known before.
-use Rattle.std.proofs.Common.{◌≡◌, ℕ, zero, suc, ◌+◌, ◌<◌, ◌≤◌, ◌⊎◌, inl, inr, ⊎_elim, Bool, true, false, ◌||◌, List, [], ◌∷◌, ◌++◌, length, length-append, take, map, get_or, sym, refl, ap, subst, ◌∙◌, arith}
-use Rattle.std.specs.Prelude.{slice_get, Option, Some, None, flat_map, option_map, option_and_then, option_to_list}
-use Rattle.std.specs.List.{AllByRecursion, list_any}
-use Rattle.std.specs.Option.{IsSomeAnd}
-use Rattle.std.proofs.lemmas.Option.{same_Some, none-some, slice_get_within}
-use Rattle.std.proofs.lemmas.Bool.{cases_Bool}
-use Rattle.std.proofs.lemmas.List.{append-nil}
-use Rattle.shr_base.specs.declared.places.Serial.{Serial}
-use Rattle.shr_base.specs.declared.replies.Answered.{Answered}
-use Rattle.shr_base.specs.declared.replies.Reply.{Reply}
+use Rattle.shr_assemble.proofs.Common.{◌≡◌, ℕ, zero, suc, ◌+◌, ◌<◌, ◌≤◌, ◌⊎◌, inl, inr, ⊎_elim, Bool, true, false, ◌||◌, List, [], ◌∷◌, ◌++◌, length, length-append, take, map, get_or, sym, refl, ap, subst, ◌∙◌, arith, slice_get, Option, Some, None, flat_map, option_map, option_and_then, option_to_list, AllByRecursion, list_any, IsSomeAnd, same_Some, none-some, slice_get_within, cases_Bool, append-nil, Serial, Answered, Reply, TreeEntry, Begin, Done, Command, Script, WalkAnswer, WalkRecord, asks_online, is_begin, is_made, is_serial, MayBegin, each_append, each_weaker, Has, Contains_from_Has, each_has, flat_map_has, filter_has, Begins, WorkerState, IsNamed, Report, decls_on, serial_of, command_at, answers_of, walks_of, answer_at, reply_at, walks_by, MayHaveBegun, IsOffline, pool_seen, pool_made, tree_cited, walk_cited, made_shown, of_answer, is_begin_at, shows_begin, shows_offline, MayBeOffline, AreNotFalling, Step, IsAmong, steps_of, AreChained, Grows, KnowsOnline, IsBegun, IsEntryOf, IsRun, is_made_grows, is_there, begin_at, done_at, made_at, begin_found, begun_before}
 use Rattle.shr_base.specs.declared.replies.Reply.TheVariants as reply
-use Rattle.shr_base.specs.declared.journals.TreeEntry.{TreeEntry}
-use Rattle.shr_base.specs.declared.journals.TreeEntry.TheVariants.{Begin, Done, Made}
-use Rattle.shr_base.specs.declared.scripts.Command.{Command}
-use Rattle.shr_base.specs.declared.scripts.Script.{Script}
-use Rattle.shr_base.specs.declared.walks.WalkAnswer.{WalkAnswer}
+use Rattle.shr_base.specs.declared.journals.TreeEntry.TheVariants.{Made}
 use Rattle.shr_base.specs.declared.walks.WalkAnswer.TheVariants as walk
-use Rattle.shr_base.specs.declared.walks.WalkRecord.{WalkRecord}
-use Rattle.shr_model.specs.Commands.{asks_online}
-use Rattle.shr_model.specs.TreeJournal.{is_begin, is_done, is_made}
-use Rattle.shr_model.specs.Commands.{is_serial}
-use Rattle.shr_model.specs.TreeJournal.{MayBegin}
-use Rattle.shr_model.proofs.BagLaws.{each_append, each_weaker}
-use Rattle.shr_model.proofs.Members.{Has, Contains_from_Has, each_has, flat_map_has, filter_has}
+use Rattle.shr_model.specs.TreeJournal.{is_done}
 use Rattle.shr_charge.specs.Views as charge
-use Rattle.shr_seats.specs.Weights.{Begins}
-use Rattle.shr_walk.specs.State.{WorkerState}
-use Rattle.shr_charge.specs.Offlining.{IsNamed}
 use Rattle.shr_charge.specs.Views.{Loaded}
 use Rattle.shr_charge.specs.declared.answers.GroupState.TheVariants as state
-use Rattle.shr_report.specs.declared.report.Report.{Report}
-use Rattle.shr_report.specs.Parts.{hierarchy_of, decls_on, serial_of, command_at, answers_of, walks_of, answer_at, reply_at, walks_by}
-use Rattle.shr_report.specs.Causes.{MayHaveBegun, IsOffline}
-use Rattle.shr_report.specs.Freshness.{pool_seen, pool_made, tree_told, tree_seen, tree_cited, walk_cited, made_shown, shows_made, of_answer, shown_by, is_begin_at, is_done_at, shows_begin, shows_offline, AreBelow, MayBeOffline, IsFresh}
-use Rattle.shr_report.specs.WellFormed.{AreNotFalling}
-use Rattle.shr_assemble.specs.Steps.{Step, IsAmong, steps_of, AreChained, Grows}
+use Rattle.shr_report.specs.Parts.{hierarchy_of}
+use Rattle.shr_report.specs.Freshness.{tree_told, tree_seen, shows_made, shown_by, is_done_at, AreBelow, IsFresh}
 use Rattle.shr_assemble.specs.Causes as by
-use Rattle.shr_assemble.specs.Offlining.{KnowsOnline, IsBegun, IsEntryOf}
-use Rattle.shr_assemble.specs.Runs.{IsRun}
 use Rattle.shr_assemble.proofs.Gathering.{among_right, among_begins}
 use Rattle.shr_assemble.proofs.Listed.{all_among, begins_slice, slice_begins, contains_slice, no_test}
 use Rattle.shr_assemble.proofs.Making.{work_of, grows, answers, answer_is, reply_is, Stepped, stepped, command_step}
 use Rattle.shr_assemble.proofs.Makers.{entry_maker, entry_stands}
-use Rattle.shr_charge.proofs.Entries.{is_made_grows}
-use Rattle.shr_charge.specs.Told.{is_there}
-use Rattle.shr_charge.proofs.TreeFacts.{begin_at, done_at, made_at, begin_found, is_begin_of, is_done_of, begun_before}
+use Rattle.shr_charge.proofs.TreeFacts.{is_begin_of, is_done_of}
 use Rattle.shr_assemble.proofs.Chains.{first_grows, grows_then, step_grows}
 use Rattle.shr_assemble.proofs.VersionsLaw.{adjacent, NotFalling}
 use Rattle.shr_assemble.proofs.Shown.{tree_stands}
-use Rattle.shr_assemble.proofs.WalksLaw.{is_serial_same}
 use Rattle.shr_assemble.proofs.Flattening.{answers_are, walk_of}
+use Rattle.shr_assemble.proofs.LimitsLaw.{serial_same}
 
 -- ---- numbers along a chain
 falls_not : (ns : List ℕ) → AreNotFalling ns → NotFalling ns
@@ -200,7 +170,7 @@ module _ (s : Script) (r : Report) (workers : List (List Step)) (run : IsRun s r
           let f = filter_has (λ (v : WalkRecord). is_serial (serial_of worker k) v.by) (walks_of r worker) w.0 w.1 in
           let j = contains_slice (walks_of r worker) w.0 (Contains_from_Has (walks_of r worker) w.0 f.0) in
           let of = walk_of s r workers run worker j.0 w.0 j.1 in
-          let same : of.k ≡ k = ap (λ (b : Serial). b.command) (sym (is_serial_same (serial_of worker k) w.0.by f.1 ∙ (of.did.by ∙ of.is.by))) in
+          let same : of.k ≡ k = ap (λ (b : Serial). b.command) (sym (serial_same (serial_of worker k) w.0.by f.1 ∙ (of.did.by ∙ of.is.by))) in
           let at : slice_get (steps_of workers worker) k ≡ Some of.step = subst (λ i. slice_get (steps_of workers worker) i ≡ Some of.step) same of.at in
           (of.step, at, word_shown worker k of.step w.0.group n at (of.did.word n (cited_by_walk w.0.answer w.2)))
 

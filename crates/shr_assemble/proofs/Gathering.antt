@@ -1,27 +1,6 @@
 -- What the steps of all workers have: which step has it, and that only one has.
-use Rattle.std.proofs.Common.{◌≡◌, ℕ, zero, suc, ◌+◌, ◌<◌, ◌≤◌, ◌≢◌, ◌⊎◌, inl, inr, ⊎_elim, List, [], ◌∷◌, ◌++◌, length, length-append, take, sym, refl, ap, subst, ◌∙◌, arith}
-use Rattle.std.specs.Prelude.{flat_map, slice_get, Some}
-use Rattle.std.specs.List.{AllByRecursion}
-use Rattle.std.proofs.lemmas.Option.{same_Some, none-some}
-use mathlib.Core.Logic.{dite}
-use native.Mathlib.Decide.{ℕ_discrete}
-use mathlib.Core.Option.{some, some-injective, some-ne-none}
-use lib.ListN.{get_elem?}
-use Rattle.shr_seats.specs.Views.{Each}
-use Rattle.shr_seats.specs.Weights.{total, Begins}
-use Rattle.shr_seats.proofs.Weighing.{total-append, term_le, terms_le}
-use Rattle.shr_assemble.specs.Steps.{Step, IsAmong, gathered, steps_in, steps_of}
-
--- the two ways to name an element are one
-pub some_at : {A : Type 0} (xs : List A) (n : ℕ) (x : A) → slice_get xs n ≡ Some x → get_elem? xs n ≡ some x
-some_at [] n x e = absurd (none-some x e)
-some_at (y ∷ xs) zero x e = ap some (same_Some y x e)
-some_at (y ∷ xs) (suc n) x e = some_at xs n x e
-
-pub at_some : {A : Type 0} (xs : List A) (n : ℕ) (x : A) → get_elem? xs n ≡ some x → slice_get xs n ≡ Some x
-at_some [] n x e = absurd (some-ne-none x (sym e))
-at_some (y ∷ xs) zero x e = ap Some (some-injective y x e)
-at_some (y ∷ xs) (suc n) x e = at_some xs n x e
+use Rattle.shr_assemble.proofs.Common.{◌≡◌, ℕ, zero, suc, ◌+◌, ◌<◌, ◌≤◌, ◌≢◌, ◌⊎◌, inl, inr, ⊎_elim, List, [], ◌∷◌, ◌++◌, length, length-append, take, sym, refl, ap, subst, ◌∙◌, arith, flat_map, slice_get, Some, AllByRecursion, same_Some, none-some, dite, ℕ_discrete, some, some-injective, some-ne-none, get_elem?, Each, total, Begins, total-append, term_le, Step, IsAmong, gathered, steps_in, steps_of, at_some, slice_left, some_at, slice_cases}
+use Rattle.shr_seats.proofs.Weighing.{terms_le}
 
 -- elements of two lists together
 pub among_left : {A : Type 0} (xs ys : List A) (x : A) → IsAmong x xs → IsAmong x (xs ++ ys)
@@ -157,21 +136,11 @@ pub record FlatAt {A B : Type 0} (f : A → List B) (xs : List A) (n : ℕ) (y :
   pub own : slice_get (f x) i ≡ Some y
   pub number : n ≡ length (flat_map f (take k xs)) + i
 
-slice_cases : {A : Type 0} (xs ys : List A) (n : ℕ) (x : A) → slice_get (xs ++ ys) n ≡ Some x → (slice_get xs n ≡ Some x) ⊎ ((m : ℕ) × (n ≡ length xs + m) × (slice_get ys m ≡ Some x))
-slice_cases [] ys n x e = inr (n, omega arith, e)
-slice_cases (y ∷ xs) ys zero x e = inl e
-slice_cases (y ∷ xs) ys (suc n) x e = ⊎_elim (λ a. inl a) (λ b. inr (b.0, omega (arith, b.1), b.2)) (slice_cases xs ys n x e)
-
 pub flat_at : {A B : Type 0} (f : A → List B) (xs : List A) (n : ℕ) (y : B) → slice_get (flat_map f xs) n ≡ Some y → FlatAt f xs n y
 flat_at f [] n y e = absurd (none-some y e)
 flat_at f (x ∷ xs) n y e = ⊎_elim (λ a. record { k = 0; i = n; x = x; at = refl; own = a; number = omega arith })
     (λ b. let t = flat_at f xs b.0 y b.2 in record { k = suc t.k; i = t.i; x = t.x; at = t.at; own = t.own; number = omega (arith, b.1, t.number, length-append (f x) (flat_map f (take t.k xs))) })
     (slice_cases (f x) (flat_map f xs) n y e)
-
-slice_left : {A : Type 0} (xs ys : List A) (n : ℕ) (x : A) → slice_get xs n ≡ Some x → slice_get (xs ++ ys) n ≡ Some x
-slice_left [] ys n x e = absurd (none-some x e)
-slice_left (y ∷ xs) ys zero x e = e
-slice_left (y ∷ xs) ys (suc n) x e = slice_left xs ys n x e
 
 slice_right : {A : Type 0} (xs ys : List A) (n m : ℕ) (x : A) → n ≡ length xs + m → slice_get ys m ≡ Some x → slice_get (xs ++ ys) n ≡ Some x
 slice_right [] ys n m x e at = ap (slice_get ys) (let z : n ≡ m = omega (arith, e) in z) ∙ at

@@ -1,36 +1,13 @@
 -- What a get did.
-use Rattle.std.proofs.Common.{◌≡◌, ℕ, ◌<◌, inl, true, false, List, length, refl, sym, ap, ◌∙◌, arith}
-use Rattle.std.specs.Prelude.{Option, Some, None, is_some, option_map}
-use Rattle.std.proofs.lemmas.Option.{same_Some, none-some}
-use Rattle.shr_base.specs.declared.objects.Object.{Object}
-use Rattle.shr_base.specs.declared.places.Serial.{Serial}
-use Rattle.shr_base.specs.declared.places.At.{At}
-use Rattle.shr_base.specs.declared.journals.Entry.{Entry}
-use Rattle.shr_base.specs.declared.journals.Entry.TheVariants.{Look}
-use Rattle.shr_base.specs.declared.replies.Answered.{Answered}
-use Rattle.shr_base.specs.declared.replies.Found.{Found}
-use Rattle.shr_base.specs.declared.replies.Reply.{Reply}
+use Rattle.shr_assemble.proofs.Common.{◌≡◌, ℕ, ◌<◌, inl, true, false, List, length, refl, sym, ap, ◌∙◌, arith, Option, Some, None, is_some, option_map, same_Some, none-some, Object, Serial, At, Entry, Look, Answered, Found, Reply, Spent, Command, Get, is_named, holds, named_in, marked_object, length_change_first, View, shape_of, Listed, IsObjectWithin, content_of, Shared, WorkerState, parents_of, is_past_group}
 use Rattle.shr_base.specs.declared.replies.Reply.TheVariants as reply
-use Rattle.shr_base.specs.declared.replies.Spent.{Spent}
 use Rattle.shr_base.specs.declared.replies.Spent.TheVariants as spent
-use Rattle.shr_base.specs.declared.scripts.Command.{Command}
-use Rattle.shr_base.specs.declared.scripts.Command.TheVariants.{Get}
-use Rattle.shr_model.specs.Objects.{is_named, holds, named_in, marked_object}
-use Rattle.shr_model.proofs.ObjectLaws.{is_some_find, length_change_first}
-use Rattle.shr_core.specs.declared.view.View.{View}
-use Rattle.shr_core.specs.Seats.{shape_of}
+use Rattle.shr_model.proofs.ObjectLaws.{is_some_find}
 use Rattle.shr_list.specs.Answers.{look_entry}
-use Rattle.shr_list.specs.Listed.{Listed}
 use Rattle.shr_node.specs.declared.answers.NodeLook.{NodeLook}
 use Rattle.shr_node.specs.declared.answers.NodeLook.TheVariants as look
 use Rattle.shr_node.specs.Answers.{LookGives}
-use Rattle.shr_script.specs.Bounds.{IsObjectWithin}
-use Rattle.shr_script.specs.Content.{content_of}
-use Rattle.shr_walk.specs.declared.seats.Shared.{Shared}
-use Rattle.shr_walk.specs.State.{WorkerState}
 use Rattle.shr_cache.specs.Gets.{LooksUp, GotFrom, GotAs, GetGives}
-use Rattle.shr_report.specs.Parts.{parents_of}
-use Rattle.shr_report.specs.Freshness.{is_past_group}
 use Rattle.shr_assemble.proofs.Quiet.{HasDid, some_met}
 use Rattle.shr_assemble.proofs.QuietSteps.{AreTables}
 use Rattle.shr_assemble.proofs.QuietTenant.{IsTenant, group_in, refused_did, acted_did, stood_did, stood_step, cites_is, items_is, list_worn}

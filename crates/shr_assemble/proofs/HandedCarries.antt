@@ -1,23 +1,9 @@
 -- The carries of a group's places: in order, each at a place that is there, and together what was taken.
-use Rattle.std.proofs.Common.{◌≡◌, ℕ, zero, suc, ◌+◌, ◌<◌, ◌≤◌, inl, inr, ⊎_elim, Bool, true, false, cond, List, [], ◌∷◌, ◌++◌, length, map, refl, sym, ap, subst, ◌∙◌, arith}
-use Rattle.std.specs.Prelude.{◌==◌, ◌*◌, ◌/◌, ◌%◌, AllPairs, sum, sum_by}
-use Rattle.std.specs.List.{AllByRecursion, range_with_len}
-use Rattle.std.proofs.lemmas.Bool.{eqb-true, cases_lt}
-use Rattle.std.proofs.lemmas.List.Elements.{All-from_recursion}
-use Rattle.std.proofs.lemmas.List.Kept.{AllPairs-cons}
-use Rattle.std.proofs.lemmas.List.Sums.{sum_by-cons}
-use Rattle.shr_base.specs.declared.ends.PlaceAmount.{PlaceAmount}
-use Rattle.shr_base.specs.declared.places.Place.{Place}
-use Rattle.shr_base.specs.declared.places.Serial.{Serial}
-use Rattle.shr_base.specs.declared.walks.Carry.{Carry}
-use Rattle.shr_seats.specs.Weights.{total}
-use Rattle.shr_seats.proofs.Weighing.{total-append}
-use Rattle.shr_seats.specs.declared.shape.Shape.{Shape}
-use Rattle.shr_offline.specs.Carries.{carry_of, carries_of, amount_in}
+use Rattle.shr_assemble.proofs.Common.{◌≡◌, ℕ, zero, suc, ◌+◌, ◌<◌, ◌≤◌, inl, inr, ⊎_elim, Bool, true, false, cond, List, [], ◌∷◌, ◌++◌, length, map, refl, sym, ap, subst, ◌∙◌, arith, ◌==◌, ◌*◌, ◌/◌, ◌%◌, AllPairs, sum, sum_by, AllByRecursion, range_with_len, eqb-true, cases_lt, All-from_recursion, AllPairs-cons, sum_by-cons, PlaceAmount, Place, Serial, Carry, total, total-append, Shape, carry_of, carries_of, IsBefore, sum_total}
+use Rattle.shr_offline.specs.Carries.{amount_in}
 use Rattle.shr_offline.specs.Carries as carry
 use Rattle.shr_offline.specs.Splices.{place_in}
-use Rattle.shr_report.specs.WellFormed.{IsBefore}
-use Rattle.shr_assemble.proofs.Listed.{sum_total}
+use Rattle.shr_model.proofs.GroupsLaws.{above_zero}
 
 -- ---- what was noted is what was taken
 
@@ -57,10 +43,6 @@ row_of (suc (suc (suc zero))) ids n most lt = (omega (arith, lt), omega arith)
 row_of (suc (suc (suc (suc zero)))) ids n most lt = (omega (arith, lt), omega arith)
 row_of (suc (suc (suc (suc (suc k))))) ids n most lt = absurd (omega (arith, most))
 
-some_amount : (n : ℕ) → (n == 0) ≡ false → 0 < n
-some_amount zero e = absurd (let t : true ≡ false = e in cc)
-some_amount (suc n) e = omega arith
-
 module _ (shape : Shape) (by : Serial) (group high : ℕ) where
   lower : (low least : ℕ) (cs : List Carry) → least ≤ low → AreInRow shape by group low high cs → AreInRow shape by group least high cs
   lower low least [] le h = tt
@@ -81,7 +63,7 @@ module _ (shape : Shape) (by : Serial) (group high : ℕ) where
     where
       by_test : (b : Bool) → (a.amount == 0) ≡ b → AreInRow shape by group (n + 1) high (carries_of by more) → AreInRow shape by group n high (cond b [] (record { by = by; place = a.place; amount = a.amount } ∷ []) ++ carries_of by more)
       by_test true none rest = lower (n + 1) n (carries_of by more) (omega arith) rest
-      by_test false some rest = (record { number = n; reached = omega arith; within = omega (arith, end); own = refl; place = ap (first a.place) same; some = some_amount a.amount some }, rest)
+      by_test false some rest = (record { number = n; reached = omega arith; within = omega (arith, end); own = refl; place = ap (first a.place) same; some = above_zero a.amount some }, rest)
 
   pub each_in_row : (low : ℕ) (cs : List Carry) → AreInRow shape by group low high cs → AllByRecursion (IsCarryAt shape by group low high) cs
   each_in_row low [] h = tt

@@ -1,26 +1,10 @@
 -- What an offline did whose call handed all over, and that was done by it or before it.
-use Rattle.std.proofs.Common.{◌≡◌, ℕ, ◌<◌, ◌≤◌, List, [], ◌∷◌, map, length, length-append, take, refl, sym, ap, subst, ◌∙◌, arith, eq-eqb}
-use Rattle.std.specs.Prelude.{◌%◌, ◌^◌}
-use Rattle.std.proofs.lemmas.List.Elements.{All-nil, All-from_recursion}
-use Rattle.shr_base.specs.declared.ends.PlaceAmount.{PlaceAmount}
-use Rattle.shr_base.specs.declared.journals.TreeEntry.{TreeEntry}
-use Rattle.shr_base.specs.declared.journals.TreeEntry.TheVariants.{Begin, Done}
-use Rattle.shr_base.specs.declared.places.Serial.{Serial}
+use Rattle.shr_assemble.proofs.Common.{◌≡◌, ℕ, ◌<◌, ◌≤◌, List, [], ◌∷◌, map, length, length-append, take, refl, sym, ap, subst, ◌∙◌, arith, eq-eqb, ◌%◌, ◌^◌, All-nil, All-from_recursion, PlaceAmount, TreeEntry, Begin, Done, Serial, Hierarchy, IsAtOrAbove, MayBegin, IsTreeJournal, IsAtOrAbove-refl, hierarchy_of, shape_of, Shared, WorkerState, parents_of, IsEntryOf}
 use Rattle.shr_base.specs.declared.replies.Reply.TheVariants as reply
 use Rattle.shr_base.specs.declared.scripts.Command.TheVariants as command
-use Rattle.shr_model.specs.Groups.{Hierarchy, IsAtOrAbove}
-use Rattle.shr_model.specs.TreeJournal.{MayBegin, IsTreeJournal}
-use Rattle.shr_model.proofs.GroupsOrder.{IsAtOrAbove-refl}
-use Rattle.shr_seats.specs.Shapes.{hierarchy_of}
-use Rattle.shr_seats.specs.Weights.{Begins}
-use Rattle.shr_core.specs.Seats.{shape_of}
 use Rattle.shr_charge.specs.Views.{Made}
 use Rattle.shr_charge.specs.declared.answers.DoneAnswer.TheVariants as ended
 use Rattle.shr_offline.specs.Offlined as offlined
-use Rattle.shr_walk.specs.declared.seats.Shared.{Shared}
-use Rattle.shr_walk.specs.State.{WorkerState}
-use Rattle.shr_report.specs.Parts.{parents_of}
-use Rattle.shr_assemble.specs.Offlining.{IsEntryOf}
 use Rattle.shr_assemble.proofs.Gathering.{among_right}
 use Rattle.shr_assemble.proofs.Listed.{contains_slice}
 use Rattle.shr_assemble.proofs.Quiet.{HasDid}
@@ -30,9 +14,7 @@ use Rattle.shr_assemble.proofs.OfflineDid.{HasBegunTo}
 use Rattle.shr_assemble.proofs.HandedCarries.{carried_sum}
 use Rattle.shr_assemble.proofs.HandedOver.{IsHandedTo, handed_to, handed_step, handed_did, known_begin, is_tree, same_groups, places_same}
 use Rattle.shr_assemble.proofs.QuietCarries.{takes_are}
-
-longer : {A : Type 0} (xs ys : List A) → Begins xs ys → length xs ≤ length ys
-longer {A} xs ys b = omega (arith, ap (λ (l : List A). length l) b.1, length-append xs b.0)
+use Rattle.shr_assemble.proofs.FreshLaw.{begins_length}
 
 module _ (x : Shared) (tables : AreTables x) (by : Serial) (group : ℕ) (s t : WorkerState) where
   abbrev parents : List ℕ
@@ -57,9 +39,9 @@ module _ (x : Shared) (tables : AreTables x) (by : Serial) (group : ℕ) (s t : 
       let r = reply.OfflineDone entry moved deferred in
       let tells = over.ends.tells in
       let number = tells.gains.number_is in
-      let seen = longer over.carried.tree.known tells.before tells.seen.known in
+      let seen = begins_length over.carried.tree.known tells.before tells.seen.known in
       let was : over.carried.tree.known ≡ u.tree.known = ap (λ (v : WorkerState). v.tree.known) over.carries.rest ∙ ap (λ (v : WorkerState). v.tree.known) over.splices.rest in
-      let begun = longer s.tree.known u.tree.known b.does.known in
+      let begun = begins_length s.tree.known u.tree.known b.does.known in
       let same = same_groups x tables in
       handed_did x tables by group s u t b moved deferred (mark ∷ []) h there r tt tt (λ family. tt) refl refl refl
       (All-from_recursion (λ (m : Made). (length s.tree.known ≤ m.number) × IsEntryOf x.script (handed_step x tables by group s u t b moved deferred (mark ∷ []) h r) m.number m.entry) (mark ∷ []) (

@@ -1,33 +1,11 @@
 -- What was carried for a group that was found done was carried by a worker that hadn't done it, of a run.
-use Rattle.std.proofs.Common.{◌≡◌, ℕ, ◌<◌, ◌≤◌, ⊎_elim, true, false, List, length, sym, ap, subst, ◌∙◌, arith, length-append}
-use Rattle.std.specs.Prelude.{slice_get, Some, option_and_then}
-use Rattle.std.specs.List.{AllByRecursion}
-use Rattle.std.specs.Option.{IsSomeAnd}
-use Rattle.std.proofs.lemmas.Bool.{cases_lt, eqb-true}
-use Rattle.std.proofs.lemmas.Option.{same_Some, slice_get_within}
-use mathlib.Core.Logic.{dite}
-use native.Mathlib.Decide.{ℕ_discrete}
-use Rattle.shr_base.specs.declared.journals.TreeEntry.TheVariants.{Done}
-use Rattle.shr_base.specs.declared.places.Serial.{Serial}
-use Rattle.shr_base.specs.declared.replies.Reply.{Reply}
+use Rattle.shr_assemble.proofs.Common.{◌≡◌, ℕ, ◌<◌, ◌≤◌, ⊎_elim, true, false, List, length, sym, ap, subst, ◌∙◌, arith, length-append, slice_get, Some, option_and_then, AllByRecursion, IsSomeAnd, cases_lt, eqb-true, same_Some, slice_get_within, dite, ℕ_discrete, Done, Serial, Reply, Script, Carry, group_named, done_at, Report, serial_of, reply_at, all_carries, is_done_by, StandsInTree, IsCausedBy, WasDone, DidCarry, IsEnded, IsEntryOf, Step, IsAmong, steps_of, IsRun, by_slices, some_at}
 use Rattle.shr_base.specs.declared.replies.Reply.TheVariants as reply
-use Rattle.shr_base.specs.declared.scripts.Script.{Script}
-use Rattle.shr_base.specs.declared.walks.Carry.{Carry}
-use Rattle.shr_model.specs.Commands.{group_named}
 use Rattle.shr_charge.specs.Views as charge
-use Rattle.shr_charge.proofs.TreeFacts.{done_at}
-use Rattle.shr_report.specs.declared.report.Report.{Report}
-use Rattle.shr_report.specs.Parts.{serial_of, reply_at, all_carries}
-use Rattle.shr_report.specs.Causes.{is_done_by, StandsInTree}
 use Rattle.shr_report.specs.Faithful.{IsDoneElsewhere}
-use Rattle.shr_assemble.specs.Causes.{IsCausedBy, WasDone}
-use Rattle.shr_assemble.specs.Deferred.{DidCarry}
-use Rattle.shr_assemble.specs.Offlining.{IsEnded, IsEntryOf}
-use Rattle.shr_assemble.specs.Steps.{Step, IsAmong, steps_of}
-use Rattle.shr_assemble.specs.Runs.{IsRun}
 use Rattle.shr_assemble.proofs.Flattening.{all_carries_are}
-use Rattle.shr_assemble.proofs.Gathering.{has_step, some_at, same_step}
-use Rattle.shr_assemble.proofs.Listed.{all_among, by_slices, begins_slice, slice_begins}
+use Rattle.shr_assemble.proofs.Gathering.{has_step, same_step}
+use Rattle.shr_assemble.proofs.Listed.{all_among, begins_slice, slice_begins}
 use Rattle.shr_assemble.proofs.Makers.{EntryMaker, entry_maker}
 use Rattle.shr_assemble.proofs.Making.{grows, reply_is}
 use Rattle.shr_assemble.proofs.Shown.{tree_stands}

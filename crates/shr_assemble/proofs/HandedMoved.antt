@@ -1,16 +1,7 @@
 -- What splicing all lists of a group moved is the sum over the entries that were made.
-use Rattle.std.proofs.Common.{◌≡◌, ℕ, suc, ◌+◌, ◌<◌, Bool, true, false, cond, List, [], ◌∷◌, length, map, refl, ap, arith, ne_eqb}
-use Rattle.std.specs.Prelude.{◌==◌, All, AllPairs, sum_by, slice_index_or}
-use Rattle.std.proofs.lemmas.Bool.{eqb-true}
-use Rattle.shr_seats.specs.Weights.{total}
-use Rattle.shr_seats.proofs.Weighing.{total-append}
-use Rattle.shr_core.specs.declared.view.View.{View}
-use Rattle.shr_seats.specs.declared.shape.Shape.{Shape}
-use Rattle.shr_core.specs.Parts.{Made}
-use Rattle.shr_node.specs.Splicing.{Closing, IsSpliced, made_in, moved_from}
-use Rattle.shr_offline.specs.Splices.{place_in, AreSpliced}
-use Rattle.shr_report.specs.Causes.{moved_of}
-use Rattle.shr_assemble.proofs.Listed.{sum_total}
+use Rattle.shr_assemble.proofs.Common.{◌≡◌, ℕ, suc, ◌+◌, ◌<◌, Bool, true, false, cond, List, [], ◌∷◌, length, map, refl, ap, arith, ne_eqb, ◌==◌, All, AllPairs, sum_by, slice_index_or, eqb-true, total, total-append, View, Shape, Made, Closing, made_in, AreSpliced, moved_of, sum_total}
+use Rattle.shr_node.specs.Splicing.{IsSpliced, moved_from}
+use Rattle.shr_offline.specs.Splices.{place_in}
 use Rattle.shr_assemble.proofs.QuietSplices.{IsSplicedTo}
 
 -- how much an entry moved in from a group

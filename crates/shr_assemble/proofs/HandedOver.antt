@@ -1,54 +1,14 @@
 -- What an offline did whose call handed all over, whatever the end of it answered.
-use Rattle.std.proofs.Common.{◌≡◌, ℕ, ◌<◌, ◌≤◌, List, [], ◌∷◌, ◌++◌, length, map, refl, sym, ap, subst, ◌∙◌, arith, true, inr, ◌*◌, ◌/◌}
-use Rattle.std.specs.Prelude.{None, slice_get, Contains, All, sum, sum_by, ◌%◌, ◌^◌, Some}
-use Rattle.std.specs.List.{AllByRecursion, range_with_len}
-use Rattle.std.proofs.lemmas.List.Elements.{All-append, All-from_recursion, Contains-append_left}
-use Rattle.std.proofs.lemmas.Option.{none-some}
-use Rattle.shr_base.specs.declared.ends.PlaceAmount.{PlaceAmount}
-use Rattle.shr_base.specs.declared.journals.TreeEntry.{TreeEntry}
-use Rattle.shr_base.specs.declared.journals.TreeEntry.TheVariants.{Begin, Done}
-use Rattle.shr_base.specs.declared.places.Place.{Place}
-use Rattle.shr_base.specs.declared.places.Serial.{Serial}
-use Rattle.shr_base.specs.declared.replies.Reply.{Reply}
+use Rattle.shr_assemble.proofs.Common.{◌≡◌, ℕ, ◌<◌, ◌≤◌, List, [], ◌∷◌, ◌++◌, length, map, refl, sym, ap, subst, ◌∙◌, arith, true, inr, ◌*◌, ◌/◌, None, slice_get, Contains, All, sum, sum_by, ◌%◌, ◌^◌, Some, AllByRecursion, range_with_len, All-append, All-from_recursion, Contains-append_left, none-some, PlaceAmount, TreeEntry, Begin, Done, Place, Serial, Reply, Carry, Family, IsTree, given_at, Begins, Shape, View, nothing, groups_in, hierarchy_of, shape_of, gave, TreeView, Moves, both, moves_of, carries_of, AreSpliced, IsWithin, content_of, within_of_valid, is_made, is_made_grows, Shared, WorkerState, Work, no_work, then_work, Does, does_none, does_then, parents_of, cited_by, IsThere, MayHaveBegun, HasCarried, pool_told, pool_made, is_past_group, IsReply, Step, IsCausedBy, DidCarry, MayMake, IsEntryOf, places_offlined}
 use Rattle.shr_base.specs.declared.scripts.Command.TheVariants as command
-use Rattle.shr_base.specs.declared.walks.Carry.{Carry}
-use Rattle.shr_model.specs.Families.{Family}
-use Rattle.shr_model.specs.Groups.{IsTree}
-use Rattle.shr_model.specs.Moves.{given_at}
-use Rattle.shr_seats.specs.Weights.{Begins}
-use Rattle.shr_seats.specs.declared.shape.Shape.{Shape}
-use Rattle.shr_core.specs.declared.view.View.{View}
-use Rattle.shr_core.specs.Gained.{nothing}
 use Rattle.shr_core.specs.Parts as core
-use Rattle.shr_seats.specs.Shapes.{groups_in, hierarchy_of}
-use Rattle.shr_core.specs.Seats.{shape_of}
-use Rattle.shr_charge.specs.Answers.{gave}
-use Rattle.shr_charge.specs.Views.{Made, TreeView}
+use Rattle.shr_charge.specs.Views.{Made}
 use Rattle.shr_charge.specs.declared.answers.DoneAnswer.{DoneAnswer}
-use Rattle.shr_deferred.specs.Moves.{Moves, both}
-use Rattle.shr_offline.specs.Carries.{moves_of, carries_of, amount_in}
+use Rattle.shr_offline.specs.Carries.{amount_in}
 use Rattle.shr_offline.specs.Carries as carry
-use Rattle.shr_offline.specs.Splices.{AreSpliced, place_in, places_of, all_places}
+use Rattle.shr_offline.specs.Splices.{place_in, places_of, all_places}
 use Rattle.shr_offline.specs.Offlined.{AreClosed, HandsOver}
-use Rattle.shr_script.specs.Bounds.{IsWithin}
-use Rattle.shr_script.specs.Content.{content_of}
-use Rattle.shr_script.proofs.BoundsLaws.{within_of_valid}
-use Rattle.shr_model.specs.TreeJournal.{is_made}
-use Rattle.shr_charge.proofs.Entries.{is_made_grows}
 use Rattle.shr_assemble.proofs.ScriptSizes.{sized_of}
-use Rattle.shr_walk.specs.declared.seats.Shared.{Shared}
-use Rattle.shr_walk.specs.State.{WorkerState, Work, no_work, then_work, Does}
-use Rattle.shr_walk.proofs.Doing.{does_none, does_then}
-use Rattle.shr_report.specs.Parts.{parents_of, cited_by, IsThere}
-use Rattle.shr_report.specs.Causes.{MayHaveBegun}
-use Rattle.shr_report.specs.Deferred.{HasCarried}
-use Rattle.shr_report.specs.Freshness.{pool_told, pool_made, is_past_group}
-use Rattle.shr_report.specs.ReplyTable.{IsReply}
-use Rattle.shr_assemble.specs.Steps.{Step}
-use Rattle.shr_assemble.specs.Causes.{IsCausedBy}
-use Rattle.shr_assemble.specs.Deferred.{DidCarry}
-use Rattle.shr_assemble.specs.Entries.{MayMake}
-use Rattle.shr_assemble.specs.Offlining.{IsEntryOf}
 use Rattle.shr_assemble.proofs.Bringing.{brings_of}
 use Rattle.shr_assemble.proofs.Quiet.{step_of, HasDid, calm_walks, still_charges, still_pool, IsToldOnce, some_met}
 use Rattle.shr_assemble.proofs.QuietSteps.{AreTables, tree_is, known_meets}
@@ -56,7 +16,6 @@ use Rattle.shr_assemble.proofs.QuietTenant.{without, unfound_lookups}
 use Rattle.shr_assemble.proofs.QuietDrains.{each_rec}
 use Rattle.shr_assemble.proofs.Filling.{set_filled}
 use Rattle.shr_assemble.proofs.QuietSplices.{IsSpliceEntry, IsSplicedTo, spliced_all}
-use Rattle.shr_report.specs.Takes.{places_offlined}
 use Rattle.shr_assemble.proofs.QuietCarries.{carried_taken, carried_given, told_handed}
 use Rattle.shr_assemble.proofs.OfflineDid.{giving, HasBegunTo, splices_freed, splices_may}
 use Rattle.shr_assemble.proofs.HandedMoved.{moved_by, moved_sum}

@@ -1,38 +1,10 @@
 -- In a run what is done on an id's lists stands in its use, a list is drained while its id is dying, and an id comes to be idle
 -- with empty lists: what the line says of it, by the ranks of what is told.
-use Rattle.std.proofs.Common.{◌≡◌, ◌≢◌, ◌⊎◌, ℕ, zero, suc, ◌+◌, ◌%◌, ◌<◌, ◌≤◌, inl, inr, ⊎_elim, take, List, [], ◌∷◌, ◌++◌, length, map, get_or, sym, refl, ap, subst, ◌∙◌, arith, eqb, eq-eqb}
-use Rattle.std.specs.Prelude.{slice_get, Option, Some, None, Contains}
-use Rattle.std.proofs.lemmas.Option.{same_Some, none-some, slice_get_within, slice_get-get_or}
-use mathlib.Core.Logic.{dite}
-use native.Mathlib.Decide.{ℕ_discrete, dec_lt}
-use mathlib.Core.Option.{some, some-injective}
-use lib.ListN.{get_elem?}
-use Rattle.shr_base.specs.declared.journals.Entry.{Entry}
-use Rattle.shr_base.specs.declared.journals.Entry.TheVariants.{Add, Look, Drop, Pin, Scan, MovedIn, Closed, Drained}
-use Rattle.shr_base.specs.declared.journals.PoolEntry.{PoolEntry}
-use Rattle.shr_base.specs.declared.journals.PoolEntry.TheVariants.{Registered, Idle}
-use Rattle.shr_base.specs.declared.places.Place.{Place}
-use Rattle.shr_base.specs.declared.places.Serial.{Serial}
-use Rattle.shr_base.specs.declared.scripts.Script.{Script}
-use Rattle.shr_model.specs.Items.{HasJournal}
-use Rattle.shr_model.specs.Places.{place_number}
-use Rattle.shr_model.specs.Pool.{phase_of, decl_at, registrations}
-use Rattle.shr_model.proofs.ItemsLaws.{HasJournal_none}
-use Rattle.shr_model.proofs.Members.{Has, Has_map, Contains_from_Has}
-use Rattle.shr_seats.specs.Lines.{Deed, by_seat, part}
-use Rattle.shr_seats.specs.Weights.{times, Begins}
-use Rattle.shr_core.specs.Gained.{among, attempts_in}
-use Rattle.shr_core.specs.Layout.{id_of}
-use Rattle.shr_core.specs.Parts.{Event, Made, Tried, Turn, made, looked, turned}
-use Rattle.shr_core.specs.Order.{Moment, Holders, no_holders, users_next, last_users, IsTimely, IsSo, IsMadeInUse, IsOutOfUse}
+use Rattle.shr_assemble.proofs.Common.{◌≡◌, ◌≢◌, ◌⊎◌, ℕ, zero, suc, ◌+◌, ◌%◌, ◌<◌, ◌≤◌, inl, inr, ⊎_elim, take, List, [], ◌∷◌, ◌++◌, length, map, get_or, sym, refl, ap, subst, ◌∙◌, arith, eqb, eq-eqb, slice_get, Option, Some, None, Contains, same_Some, none-some, slice_get_within, slice_get-get_or, dite, ℕ_discrete, dec_lt, some, some-injective, get_elem?, Entry, Add, Look, Drop, Pin, Scan, MovedIn, Closed, Drained, PoolEntry, Registered, Idle, Place, Serial, Script, HasJournal, place_number, phase_of, decl_at, registrations, HasJournal_none, Has, Has_map, Contains_from_Has, Deed, by_seat, part, times, Begins, among, attempts_in, id_of, Event, Made, Tried, Turn, made, looked, turned, Moment, last_users, IsTimely, IsSo, so_before, Report, serial_of, journals_of, decls_on, IsThere, Told, entry, lookup, turn, count, looked_by, HasAt, IsBy, number_made, IsRun, Step, IsAmong, steps_of}
+use Rattle.shr_core.specs.Order.{Holders, no_holders, users_next, IsMadeInUse, IsOutOfUse}
 use Rattle.shr_core.specs.Order as order
-use Rattle.shr_core.proofs.InUse.{so_before, users_before, IsUsing, since_lookup, by_part}
-use Rattle.shr_report.specs.declared.report.Report.{Report}
-use Rattle.shr_report.specs.Parts.{serial_of, journals_of, decls_on, IsThere}
-use Rattle.shr_report.specs.OneOrder.{Told, entry, lookup, turn, count, looked_by, HasAt, IsBy, IsOfUse, IsDrained, EndsUse, IsInUse}
-use Rattle.shr_assemble.specs.Lookups.{number_made}
-use Rattle.shr_assemble.specs.Runs.{IsRun}
-use Rattle.shr_assemble.specs.Steps.{Step, IsAmong, steps_of}
+use Rattle.shr_core.proofs.InUse.{users_before, IsUsing, since_lookup, by_part}
+use Rattle.shr_report.specs.OneOrder.{IsOfUse, IsDrained, EndsUse, IsInUse}
 use Rattle.shr_assemble.proofs.Gathering.{each_among, among_right}
 use Rattle.shr_assemble.proofs.LineParts.{front_of, back_of, at_below, by_seat_at, attempts_has, part_seat, own_spot, part_before}
 use Rattle.shr_assemble.proofs.Making.{work_of}

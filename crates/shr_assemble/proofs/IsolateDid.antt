@@ -1,67 +1,11 @@
 -- What an isolation did.
-use Rattle.std.proofs.Common.{◌≡◌, ◌⊎◌, inr, ℕ, ◌+◌, ◌<◌, false, List, [], ◌∷◌, ◌++◌, length, map, sym, refl, ap, subst, ◌∙◌, arith}
-use Rattle.std.specs.Prelude.{slice_get, Option, Some, None, AllPairs, sum_by, option_and_then}
-use Rattle.std.specs.List.{AllByRecursion}
-use Rattle.std.proofs.lemmas.List.{append-nil, append_cancel_left}
-use Rattle.std.proofs.lemmas.List.Elements.{All-from_recursion}
-use Rattle.std.proofs.lemmas.List.Kept.{AllPairs-cons}
-use Rattle.std.proofs.lemmas.List.Sums.{sum_by-cons}
-use Rattle.std.proofs.lemmas.Option.{same_Some, none-some}
-use Rattle.shr_base.specs.declared.journals.Entry.{Entry}
-use Rattle.shr_base.specs.declared.journals.Entry.TheVariants.{Add, Look, Drop, Pin, Scan, MovedIn, Closed, Drained}
-use Rattle.shr_base.specs.declared.objects.Object.{Object}
-use Rattle.shr_base.specs.declared.places.Place.{Place}
-use Rattle.shr_base.specs.declared.places.Serial.{Serial}
-use Rattle.shr_base.specs.declared.replies.Answered.{Answered}
-use Rattle.shr_base.specs.declared.replies.Found.{Found}
-use Rattle.shr_base.specs.declared.replies.IsolateEnd.{IsolateEnd}
-use Rattle.shr_base.specs.declared.replies.Reply.{Reply}
+use Rattle.shr_assemble.proofs.Common.{◌≡◌, ◌⊎◌, inr, ℕ, ◌+◌, ◌<◌, false, List, [], ◌∷◌, ◌++◌, length, map, sym, refl, ap, subst, ◌∙◌, arith, slice_get, Option, Some, None, AllPairs, sum_by, option_and_then, AllByRecursion, append-nil, append_cancel_left, All-from_recursion, AllPairs-cons, sum_by-cons, same_Some, none-some, Entry, Add, Look, Drop, Pin, Scan, MovedIn, Closed, Drained, Object, Place, Serial, Answered, Found, IsolateEnd, Reply, Command, Isolate, Isolation, decl_named, place_number, first_isolation, Each, Each-none, Begins, View, nothing, Adds, place_at, Made, Turns, shape_of, with_put, AreDowns, AreRising, calls_with, both_uses, KnowsClosed, IsScanOf, freed_in, paths_of, WornSeen, WorkerState, Work, no_work, then_work, Shared, does_none, adds_put, OnCache, visitor_of, placed, placed_scan, Visitor, IsIsolationWithin, content_of, within_of_valid, parents_of, IsThere, is_past_group, isolations_told, Step, Brings, added_below, Did, MayMake, DidIsolation, DidIsolations, by_slices, some_at}
 use Rattle.shr_base.specs.declared.replies.Reply.TheVariants as reply
-use Rattle.shr_base.specs.declared.scripts.Command.{Command}
-use Rattle.shr_base.specs.declared.scripts.Command.TheVariants.{Isolate}
-use Rattle.shr_base.specs.declared.walks.Isolation.{Isolation}
-use Rattle.shr_model.specs.Commands.{decl_named}
-use Rattle.shr_model.specs.Places.{place_number}
-use Rattle.shr_model.specs.Isolations.{first_isolation}
-use Rattle.shr_seats.specs.Views.{Each}
-use Rattle.shr_seats.proofs.Weighing.{Each-none}
-use Rattle.shr_seats.specs.Weights.{Begins}
-use Rattle.shr_core.specs.declared.view.View.{View}
-use Rattle.shr_core.specs.Gained.{nothing, Adds}
-use Rattle.shr_core.specs.Layout.{place_at}
-use Rattle.shr_core.specs.Parts.{Made, Turns}
-use Rattle.shr_core.specs.Seats.{shape_of}
-use Rattle.shr_core.specs.Steps.{with_put}
-use Rattle.shr_charge.specs.Charging.{AreDowns, AreRising, calls_with}
-use Rattle.shr_charge.specs.Views.{both_uses}
 use Rattle.shr_charge.specs.declared.answers.GroupState.TheVariants.{Online}
-use Rattle.shr_node.specs.Gains.{KnowsClosed}
-use Rattle.shr_walk.specs.Keeping.{IsScanOf, freed_in, paths_of}
-use Rattle.shr_walk.specs.Shown.{WornSeen}
-use Rattle.shr_walk.specs.State.{WorkerState, Work, no_work, then_work}
-use Rattle.shr_walk.specs.declared.seats.Shared.{Shared}
-use Rattle.shr_walk.proofs.Doing.{does_none}
-use Rattle.shr_walk.proofs.Held.{adds_put}
-use Rattle.shr_opening.specs.Opening.{OnCache}
-use Rattle.shr_drop.specs.Isolating.{Isolates, IsolateGives, IsolatedAs, IsolatedFrom, RefusedBy, place_of, visitor_of}
-use Rattle.shr_drop.specs.Lawful.{placed, placed_scan}
-use Rattle.shr_drop.specs.Visiting.{Visitor}
+use Rattle.shr_drop.specs.Isolating.{Isolates, IsolateGives, IsolatedAs, IsolatedFrom, RefusedBy, place_of}
 use Rattle.shr_drop.proofs.ByLaw.{found_lawful}
-use Rattle.shr_script.specs.Bounds.{IsIsolationWithin}
-use Rattle.shr_script.specs.Content.{content_of}
-use Rattle.shr_script.proofs.BoundsLaws.{within_of_valid}
-use Rattle.shr_report.specs.Parts.{parents_of, IsThere}
-use Rattle.shr_report.specs.Freshness.{is_past_group}
-use Rattle.shr_report.specs.Isolated.{isolations_told}
-use Rattle.shr_assemble.specs.Steps.{Step, Brings}
-use Rattle.shr_assemble.specs.Charges.{added_below}
-use Rattle.shr_assemble.specs.Did.{Did}
-use Rattle.shr_assemble.specs.Entries.{MayMake}
-use Rattle.shr_assemble.specs.Isolating.{DidIsolation, DidIsolations}
 use Rattle.shr_assemble.proofs.Bringing.{brings_of, brings_then}
 use Rattle.shr_assemble.proofs.Filling.{IsSet}
-use Rattle.shr_assemble.proofs.Gathering.{some_at}
-use Rattle.shr_assemble.proofs.Listed.{by_slices}
 use Rattle.shr_assemble.proofs.Operations.{PairsRec}
 use Rattle.shr_assemble.proofs.Quiet.{step_of, HasDid, calm_walks, still_moves, still_pool, still_tree, meets_none, never_met}
 use Rattle.shr_assemble.proofs.QuietCharges.{uncharged_charges}

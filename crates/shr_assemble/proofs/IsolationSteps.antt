@@ -1,35 +1,11 @@
 -- The isolations of a report are those of the steps, and their scans are what their steps made.
-use Rattle.std.proofs.Common.{◌≡◌, ℕ, zero, suc, ◌+◌, ◌-◌, ◌<◌, ◌≤◌, Bool, true, false, cond, List, [], ◌∷◌, map, sym, refl, ap, subst, ◌∙◌, arith}
-use Rattle.std.specs.Prelude.{slice_get, Option, Some, option_map, nat_lt}
-use Rattle.std.proofs.lemmas.Bool.{ltb-true, ltb-false}
-use Rattle.std.proofs.lemmas.Option.{same_Some, none-some}
-use Rattle.shr_base.specs.declared.journals.Entry.{Entry}
-use Rattle.shr_base.specs.declared.journals.Entry.TheVariants.{Scan}
-use Rattle.shr_base.specs.declared.objects.Policy.{Policy}
-use Rattle.shr_base.specs.declared.places.Serial.{Serial}
-use Rattle.shr_base.specs.declared.replies.Answered.{Answered}
-use Rattle.shr_base.specs.declared.replies.Found.{Found}
-use Rattle.shr_base.specs.declared.replies.Reply.{Reply}
+use Rattle.shr_assemble.proofs.Common.{◌≡◌, ℕ, zero, suc, ◌+◌, ◌-◌, ◌<◌, ◌≤◌, Bool, true, false, cond, List, [], ◌∷◌, map, sym, refl, ap, subst, ◌∙◌, arith, slice_get, Option, Some, option_map, nat_lt, ltb-true, same_Some, none-some, Entry, Scan, Policy, Serial, Answered, Found, Reply, Command, Isolate, Script, Isolation, WalkRecord, place_number, first_isolation, isolation_walk, ScanSeen, Made, Report, walk_at, isolation_at, Placed, placed, placed_scan, visitor_of, Step, IsAmong, steps_of, isolations_asked, IsScanned, IsVisited, isolated_in, isolated_before, DidIsolation, IsRun, IsStep, at_some}
+use Rattle.std.proofs.lemmas.Bool.{ltb-false}
 use Rattle.shr_base.specs.declared.replies.Reply.TheVariants as reply
-use Rattle.shr_base.specs.declared.scripts.Command.{Command}
-use Rattle.shr_base.specs.declared.scripts.Command.TheVariants.{Isolate}
-use Rattle.shr_base.specs.declared.scripts.Script.{Script}
-use Rattle.shr_base.specs.declared.walks.Isolation.{Isolation}
-use Rattle.shr_base.specs.declared.walks.WalkRecord.{WalkRecord}
-use Rattle.shr_model.specs.Places.{place_number}
-use Rattle.shr_model.specs.Isolations.{first_isolation, isolation_walk, ScanSeen}
-use Rattle.shr_core.specs.Parts.{Made}
-use Rattle.shr_report.specs.declared.report.Report.{Report}
-use Rattle.shr_report.specs.Parts.{walk_at, isolation_at, scan_by}
+use Rattle.shr_report.specs.Parts.{scan_by}
 use Rattle.shr_report.specs.Isolated.{isolation_told}
-use Rattle.shr_drop.specs.Lawful.{Placed, placed, placed_scan}
-use Rattle.shr_drop.specs.Isolating.{visitor_of}
-use Rattle.shr_assemble.specs.Steps.{Step, IsAmong, steps_of}
-use Rattle.shr_assemble.specs.Entries.{isolations_asked, IsScanned, IsVisited}
-use Rattle.shr_assemble.specs.Isolating.{isolated_in, isolated_before, DidIsolation}
-use Rattle.shr_assemble.specs.Runs.{IsRun, IsStep}
 use Rattle.shr_assemble.proofs.Flattening.{slice_map, walk_there}
-use Rattle.shr_assemble.proofs.Gathering.{flat_at, flat_there, at_some}
+use Rattle.shr_assemble.proofs.Gathering.{flat_at, flat_there}
 use Rattle.shr_assemble.proofs.LawfulWalks.{among_map}
 
 -- ---- an answer tells of one isolation at most

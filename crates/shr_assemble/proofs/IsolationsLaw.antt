@@ -1,48 +1,17 @@
 -- The law of isolations, of a run.
-use Rattle.std.proofs.Common.{◌≡◌, ℕ, zero, suc, ◌+◌, ◌-◌, ◌<◌, ◌≤◌, ◌≢◌, ◌⊎◌, ⊎_elim, Bool, true, false, ◌&&◌, cond, List, [], ◌∷◌, length, drop, map, sym, refl, ap, subst, ◌∙◌, arith, eqb, eq-eqb}
-use Rattle.std.specs.Prelude.{slice_get, Option, Some, None, filter, filter_map, option_and_then, ◌==◌}
-use Rattle.std.specs.List.{AllByRecursion, cons_option}
-use Rattle.std.specs.Option.{IsSomeAnd}
-use Rattle.std.proofs.lemmas.Bool.{and_parts, and_from, eqb-true}
-use Rattle.std.proofs.lemmas.Option.{same_Some, none-some}
-use Rattle.shr_base.specs.declared.journals.Entry.{Entry}
-use Rattle.shr_base.specs.declared.journals.Entry.TheVariants.{Add, Look, Drop, Pin, Scan, MovedIn, Closed, Drained}
-use Rattle.shr_base.specs.declared.places.Place.{Place}
-use Rattle.shr_base.specs.declared.places.Serial.{Serial}
-use Rattle.shr_base.specs.declared.replies.Answered.{Answered}
-use Rattle.shr_base.specs.declared.replies.IsolateEnd.{IsolateEnd}
+use Rattle.shr_assemble.proofs.Common.{◌≡◌, ℕ, zero, suc, ◌+◌, ◌-◌, ◌<◌, ◌≤◌, ◌≢◌, ◌⊎◌, ⊎_elim, Bool, true, false, ◌&&◌, cond, List, [], ◌∷◌, length, drop, map, sym, refl, ap, subst, ◌∙◌, arith, eqb, eq-eqb, slice_get, Option, Some, None, filter, filter_map, option_and_then, ◌==◌, AllByRecursion, cons_option, IsSomeAnd, and_parts, and_from, eqb-true, same_Some, none-some, Entry, Add, Look, Drop, Pin, Scan, MovedIn, Closed, Drained, Place, Serial, Answered, IsolateEnd, Spent, CacheDecl, Command, Script, Isolation, is_serial, decl_named, is_closed, place_number, Has, each_has, isolation_walk, ScanSeen, place_at, Made, Report, command_at, serial_of, journals_of, isolation_at, isolations_told, visitor_of, Placed, placed, placed_scan, Visitor, Step, IsAmong, steps_of, isolations_asked, IsScanned, IsVisited, MayMake, isolated_in, isolated_before, IsRun, IsWornBy, by_slices, some_at, serial_itself}
 use Rattle.shr_base.specs.declared.replies.IsolateEnd.TheVariants as isolate
-use Rattle.shr_base.specs.declared.replies.Spent.{Spent}
-use Rattle.shr_base.specs.declared.scripts.CacheDecl.{CacheDecl}
-use Rattle.shr_base.specs.declared.scripts.Command.{Command}
-use Rattle.shr_base.specs.declared.scripts.Script.{Script}
-use Rattle.shr_base.specs.declared.walks.Isolation.{Isolation}
-use Rattle.shr_model.specs.Commands.{is_serial, decl_named}
-use Rattle.shr_model.specs.Items.{is_closed}
-use Rattle.shr_model.specs.Places.{place_number}
-use Rattle.shr_model.proofs.Members.{Has, each_has}
-use Rattle.shr_model.specs.Isolations.{isolation_walk, ScanSeen, IsLawfulIsolation}
-use Rattle.shr_core.specs.Layout.{place_at}
-use Rattle.shr_core.specs.Parts.{Made}
-use Rattle.shr_report.specs.declared.report.Report.{Report}
-use Rattle.shr_report.specs.Parts.{command_at, serial_of, journals_of, isolation_at}
-use Rattle.shr_report.specs.Isolated.{scan_seen, scans_seen, isolations_by, isolations_told, cache_named, IsEndCaused, IsOfIsolation, AreIsolationsLawful}
-use Rattle.shr_drop.specs.Isolating.{visitor_of}
-use Rattle.shr_drop.specs.Lawful.{Placed, placed, placed_scan}
-use Rattle.shr_drop.specs.Visiting.{Visitor}
-use Rattle.shr_assemble.specs.Steps.{Step, IsAmong, steps_of}
-use Rattle.shr_assemble.specs.Entries.{isolations_asked, IsScanned, IsVisited, MayMake}
-use Rattle.shr_assemble.specs.Isolating.{isolated_in, isolated_before}
-use Rattle.shr_assemble.specs.Runs.{IsRun}
-use Rattle.shr_assemble.specs.Worn.{IsWornBy}
-use Rattle.shr_assemble.proofs.Gathering.{each_among, some_at}
+use Rattle.shr_model.specs.Isolations.{IsLawfulIsolation}
+use Rattle.shr_report.specs.Isolated.{scan_seen, scans_seen, isolations_by, cache_named, IsEndCaused, IsOfIsolation, AreIsolationsLawful}
+use Rattle.shr_assemble.proofs.Gathering.{each_among}
 use Rattle.shr_assemble.proofs.IsolationSteps.{first_told, told_once, told_by, scan_of, isolation_of, IsolationOf, isolation_there, visit_number, visit_there}
-use Rattle.shr_assemble.proofs.Listed.{by_slices, closed_begins, contains_among, no_test}
+use Rattle.shr_assemble.proofs.Listed.{closed_begins, contains_among, no_test}
 use Rattle.shr_assemble.proofs.Making.{maker, made_stands, back_there, Stepped, stepped}
 use Rattle.shr_assemble.proofs.Operations.{PairsRec, pairs_rec, among_has, one_by}
 use Rattle.shr_assemble.proofs.SpentLaw.{spent_law}
-use Rattle.shr_assemble.proofs.WalksLaw.{filter_part, is_serial_own, is_serial_same}
+use Rattle.shr_assemble.proofs.WalksLaw.{filter_part}
 use Rattle.shr_assemble.proofs.WornLists.{known_begins}
+use Rattle.shr_assemble.proofs.LimitsLaw.{serial_same}
 
 -- ---- the entries of a journal that a function keeps, where these are made in order
 module _ {B : Type 0} (f : Entry → Option B) where
@@ -254,10 +223,10 @@ module _ (s : Script) (r : Report) (workers : List (List Step)) (run : IsRun s r
           told_by y.by y.command y.answered i (first_told y i t.0) ∙ (run.steps.each worker j y at_y).by
 
       own : (n : ℕ) (i : Isolation) → slice_get (isolated_in x) n ≡ Some i → is_serial (serial_of worker k) i.by ≡ true
-      own n i e = ap (is_serial (serial_of worker k)) (by_of k n x i at e) ∙ is_serial_own (serial_of worker k)
+      own n i e = ap (is_serial (serial_of worker k)) (by_of k n x i at e) ∙ serial_itself (serial_of worker k)
 
       others : (j n : ℕ) (y : Step) (i : Isolation) → slice_get (steps_of workers worker) j ≡ Some y → j ≢ k → slice_get (isolated_in y) n ≡ Some i → is_serial (serial_of worker k) i.by ≡ false
-      others j n y i at_y ne e = no_test (is_serial (serial_of worker k) i.by) (λ same. ne (ap (λ (z : Serial). z.command) (sym (is_serial_same (serial_of worker k) i.by same ∙ by_of j n y i at_y e))))
+      others j n y i at_y ne e = no_test (is_serial (serial_of worker k) i.by) (λ same. ne (ap (λ (z : Serial). z.command) (sym (serial_same (serial_of worker k) i.by same ∙ by_of j n y i at_y e))))
 
   commands : (by : Serial) (c : Command) (a : Answered) → Stepped s r workers run by c a → isolations_by r by ≡ isolations_told by c a
   commands by c a t = isolations_are by.worker by.command t.step t.at ∙ (λ j. isolations_asked (t.own j) (t.command j) (t.answered j))

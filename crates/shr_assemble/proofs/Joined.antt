@@ -1,17 +1,7 @@
 -- What the first seats have once the workers' seats were joined into them, field by field.
-use Rattle.std.proofs.Common.{◌≡◌, ℕ, List, [], ◌∷◌, ◌++◌, sym, refl, ap, ◌∙◌, append_assoc}
-use Rattle.std.specs.Prelude.{flat_map, Option}
-use Rattle.std.proofs.lemmas.List.{append-nil}
-use Rattle.shr_base.specs.declared.ends.PlaceAmount.{PlaceAmount}
-use Rattle.shr_base.specs.declared.journals.PoolEntry.{PoolEntry}
-use Rattle.shr_base.specs.declared.journals.TreeEntry.{TreeEntry}
-use Rattle.shr_base.specs.declared.journals.UseStep.{UseStep}
-use Rattle.shr_core.specs.Parts.{Made, Known, Counted, Mapped, Tried, Loaded, Turn, Dated}
+use Rattle.shr_assemble.proofs.Common.{◌≡◌, ℕ, List, [], ◌∷◌, ◌++◌, sym, refl, ap, ◌∙◌, append_assoc, flat_map, Option, append-nil, PlaceAmount, PoolEntry, TreeEntry, UseStep, Made, Known, Counted, Mapped, Tried, Loaded, Turn, Dated, CrewState, Firsts, with_workers, takes_of, gives_of, takes_both, gives_both}
 use Rattle.shr_charge.specs.Views as charge
-use Rattle.shr_worker.specs.Chain.{CrewState}
-use Rattle.shr_assemble.specs.Ends.{Firsts, with_worker, with_workers}
-use Rattle.shr_deferred.specs.Moves.{takes_of, gives_of}
-use Rattle.shr_deferred.proofs.SeatLaws.{takes_both, gives_both}
+use Rattle.shr_assemble.specs.Ends.{with_worker}
 
 -- a list that each join makes longer by the worker's
 pub joined_list : {A : Type 0} (g : Firsts → List A) (h : CrewState → List A) → ((f : Firsts) (w : CrewState) → g (with_worker f w) ≡ g f ++ h w)

@@ -1,26 +1,10 @@
 -- The law of journals, of a run.
-use Rattle.std.proofs.Common.{◌≡◌, ℕ, ◌≤◌, true, List, length, sym, refl, ap, subst, ◌∙◌}
-use Rattle.std.specs.Prelude.{Contains}
-use Rattle.shr_base.specs.declared.places.Place.{Place}
-use Rattle.shr_base.specs.declared.journals.Entry.TheVariants.{Closed}
-use Rattle.shr_base.specs.declared.journals.TreeEntry.TheVariants.{Begin, Done}
-use Rattle.shr_base.specs.declared.scripts.Script.{Script}
-use Rattle.shr_model.specs.Groups.{IsAtOrAbove}
-use Rattle.shr_model.specs.Items.{is_closed}
-use Rattle.shr_model.specs.Places.{place_number}
-use Rattle.shr_model.proofs.PlacesLaws.{AreApart_of_ends, ends_once}
-use Rattle.shr_core.specs.Layout.{place_at}
-use Rattle.shr_core.specs.Parts.{Made}
+use Rattle.shr_assemble.proofs.Common.{◌≡◌, ℕ, ◌≤◌, true, List, length, sym, refl, ap, subst, ◌∙◌, Contains, Place, Closed, Begin, Done, Script, IsAtOrAbove, is_closed, place_number, AreApart_of_ends, place_at, Made, Report, parents_of, journals_of, IsThere, Step, MayMake, IsClosing, IsEntryOf, IsEnded, IsRun, closed_at}
+use Rattle.shr_model.proofs.PlacesLaws.{ends_once}
 use Rattle.shr_charge.specs.Views as charge
-use Rattle.shr_report.specs.declared.report.Report.{Report}
-use Rattle.shr_report.specs.Parts.{parents_of, journals_of, IsThere}
 use Rattle.shr_report.specs.Journals.{AreJournalsLawful}
-use Rattle.shr_assemble.specs.Steps.{Step}
-use Rattle.shr_assemble.specs.Entries.{MayMake, IsClosing}
-use Rattle.shr_assemble.specs.Offlining.{IsEntryOf, IsEnded}
-use Rattle.shr_assemble.specs.Runs.{IsRun}
 use Rattle.shr_assemble.proofs.Gathering.{each_among}
-use Rattle.shr_assemble.proofs.Listed.{all_among, contains_slice, slice_contains, contains_among, begins_slice, closed_at, closed_begins}
+use Rattle.shr_assemble.proofs.Listed.{all_among, contains_slice, slice_contains, contains_among, begins_slice, closed_begins}
 use Rattle.shr_assemble.proofs.Making.{maker, back_there}
 use Rattle.shr_assemble.proofs.Makers.{entry_maker}
 

@@ -1,14 +1,7 @@
 -- What a worker doesn't know of a group it didn't know before.
-use Rattle.std.proofs.Common.{◌≡◌, ℕ, List, sym, subst}
-use Rattle.std.specs.Prelude.{Some, slice_index_or}
-use Rattle.std.proofs.lemmas.Option.{slice_get-get_or}
-use Rattle.shr_base.specs.declared.journals.TreeEntry.{TreeEntry}
-use Rattle.shr_model.specs.TreeJournal.{begin_of}
-use Rattle.shr_seats.specs.Weights.{Begins}
+use Rattle.shr_assemble.proofs.Common.{◌≡◌, ℕ, List, sym, subst, Some, slice_index_or, slice_get-get_or, TreeEntry, begin_of, Begins, TreeView, begin_grows, KnowsOnline}
 use Rattle.shr_charge.specs.declared.answers.GroupState.TheVariants as state
-use Rattle.shr_charge.specs.Views.{Loaded, TreeView}
-use Rattle.shr_charge.proofs.Entries.{begin_grows}
-use Rattle.shr_assemble.specs.Offlining.{KnowsOnline}
+use Rattle.shr_charge.specs.Views.{Loaded}
 use Rattle.shr_assemble.proofs.Listed.{all_slice, begins_slice}
 
 -- a group that isn't known to be offline wasn't known to be so before

@@ -1,13 +1,7 @@
 -- What holds of all that the first seats have in the end holds of what each worker had after each step.
-use Rattle.std.proofs.Common.{◌≡◌, ℕ, zero, suc, List, [], ◌∷◌, ◌++◌, get_or, sym, subst}
-use Rattle.std.specs.Prelude.{slice_get, Some, All, flat_map}
-use Rattle.std.proofs.lemmas.Option.{same_Some, none-some, slice_get-get_or}
-use Rattle.shr_seats.specs.Views.{Each}
-use Rattle.shr_seats.specs.Weights.{Begins}
-use Rattle.shr_walk.specs.State.{WorkerState}
-use Rattle.shr_assemble.specs.Steps.{Step, IsAmong, AreChained, state_after, Grows, Brings}
+use Rattle.shr_assemble.proofs.Common.{◌≡◌, ℕ, zero, suc, List, [], ◌∷◌, ◌++◌, get_or, sym, subst, slice_get, Some, All, flat_map, same_Some, none-some, slice_get-get_or, Each, Begins, WorkerState, Step, IsAmong, AreChained, state_after, Grows, Brings, some_at}
 use Rattle.shr_assemble.proofs.Chains.{grows_none, grows_then, step_grows}
-use Rattle.shr_assemble.proofs.Gathering.{some_at, among_right, among_flat, among_begins, each_among}
+use Rattle.shr_assemble.proofs.Gathering.{among_right, among_flat, among_begins, each_among}
 use Rattle.shr_assemble.proofs.Rows.{along}
 
 -- a list that each step makes longer is after each step a beginning of the last one

@@ -1,11 +1,6 @@
 -- The report of a run is lawful.
-use Rattle.std.proofs.Common.{List}
-use Rattle.shr_base.specs.declared.scripts.Script.{Script}
-use Rattle.shr_report.specs.declared.report.Report.{Report}
-use Rattle.shr_report.specs.Lawful.{IsLawful}
+use Rattle.shr_assemble.proofs.Common.{List, Script, Report, IsLawful, Step, IsRun}
 use Rattle.shr_units.proofs.PoolsLaw.{pools_lawful}
-use Rattle.shr_assemble.specs.Steps.{Step}
-use Rattle.shr_assemble.specs.Runs.{IsRun}
 use Rattle.shr_assemble.proofs.RepliesLaw.{replies_lawful}
 use Rattle.shr_assemble.proofs.JournalsLaw.{journals_lawful}
 use Rattle.shr_assemble.proofs.BagLaw.{bag_lawful}

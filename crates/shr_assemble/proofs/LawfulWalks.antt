@@ -1,28 +1,8 @@
 -- Each walk of a run is lawful.
-use Rattle.std.proofs.Common.{◌≡◌, ℕ, zero, suc, ◌≤◌, true, false, List, [], ◌∷◌, length, map, sym, refl, ap, subst, ◌∙◌}
-use Rattle.std.specs.Prelude.{slice_get, Option, Some, option_and_then}
-use Rattle.std.specs.Option.{IsSomeAnd}
-use Rattle.std.proofs.lemmas.Option.{same_Some, none-some}
-use Rattle.shr_base.specs.declared.scripts.CacheDecl.{CacheDecl}
-use Rattle.shr_base.specs.declared.scripts.Script.{Script}
-use Rattle.shr_base.specs.declared.walks.Attempt.{Attempt}
-use Rattle.shr_base.specs.declared.walks.Outcome.{Outcome}
+use Rattle.shr_assemble.proofs.Common.{◌≡◌, ℕ, zero, suc, ◌≤◌, true, false, List, [], ◌∷◌, length, map, sym, refl, ap, subst, ◌∙◌, slice_get, Option, Some, option_and_then, IsSomeAnd, same_Some, none-some, CacheDecl, Script, Attempt, Outcome, PassRecord, WalkRecord, Count, number_of, is_held, pass_of, counts_of, place_number, place_in, Counted, Report, journals_of, items_before, IsThere, cache_of, IsCount, IsOutcomeOf, AreScansOf, IsStopped, IsLawfulWalk, Step, IsAmong, scans_made, WasHeld, counted_in, IsRun, at_some, by_slices, some_at}
 use Rattle.shr_base.specs.declared.walks.Outcome.TheVariants.{Worn, Gone, Skip, Ran, Empty, Cleared, RestoredSkip, RestoredRan}
-use Rattle.shr_base.specs.declared.walks.PassRecord.{PassRecord}
-use Rattle.shr_base.specs.declared.walks.WalkRecord.{WalkRecord}
-use Rattle.shr_model.specs.Attempts.{Count, number_of, is_held, pass_of, counts_of}
-use Rattle.shr_model.specs.Places.{place_number}
-use Rattle.shr_model.specs.Walks.{place_in}
-use Rattle.shr_core.specs.Parts.{Counted}
-use Rattle.shr_report.specs.declared.report.Report.{Report}
-use Rattle.shr_report.specs.Parts.{journals_of, items_before, IsThere}
-use Rattle.shr_report.specs.LawfulWalk.{cache_of, cache_met, IsCount, IsOutcomeOf, AreScansOf, IsStopped, IsLawfulWalk}
-use Rattle.shr_assemble.specs.Steps.{Step, IsAmong}
-use Rattle.shr_assemble.specs.Attempts.{scans_made, WasHeld}
-use Rattle.shr_assemble.specs.Walks.{counted_in}
-use Rattle.shr_assemble.specs.Runs.{IsRun}
-use Rattle.shr_assemble.proofs.Gathering.{among_right, among_flat, some_at, at_some}
-use Rattle.shr_assemble.proofs.Listed.{by_slices}
+use Rattle.shr_report.specs.LawfulWalk.{cache_met}
+use Rattle.shr_assemble.proofs.Gathering.{among_right, among_flat}
 use Rattle.shr_assemble.proofs.Making.{work_of, back_there}
 use Rattle.shr_assemble.proofs.Flattening.{WalkOf}
 use Rattle.shr_assemble.proofs.LookupsLaw.{attempt_met}

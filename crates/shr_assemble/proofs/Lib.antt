@@ -1,3 +1,4 @@
+mod Common
 pub mod Gathering
 pub mod Listed
 pub mod Chains

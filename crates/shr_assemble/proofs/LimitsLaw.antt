@@ -1,27 +1,14 @@
 -- A charge history in which each refused up is taken back ends within the limit.
-use Rattle.std.proofs.Common.{◌≡◌, ℕ, ◌+◌, ◌≤◌, ◌≢◌, ◌⊎◌, inl, inr, ⊎_elim, Bool, true, false, not, cond, List, [], ◌∷◌, ◌++◌, length, length-append, take, drop, sym, refl, ap, subst, ◌∙◌, arith, eqb, eq-eqb, append_assoc}
-use Rattle.std.specs.Prelude.{slice_get, Some, find, filter, pos, ◌-ℤ◌, MatchOption}
-use Rattle.std.specs.List.{AllByRecursion}
-use Rattle.std.proofs.lemmas.Bool.{and_parts, and_from, eqb-true, cases_lt, cases_Bool}
-use Rattle.std.proofs.lemmas.List.Sums.{sum_by-append, sum_by-cons}
-use Rattle.std.proofs.lemmas.List.{append-nil, take_at, drop_at}
-use Rattle.std.proofs.lemmas.Int.{ints}
-use Rattle.shr_base.specs.declared.journals.UseStep.{UseStep}
-use Rattle.shr_base.specs.declared.places.Serial.{Serial}
-use Rattle.shr_model.specs.Charges.{ups, downs, usage_after, is_by, IsDownNext, AreTakenBack, IsChargeHistory}
-use Rattle.shr_model.specs.Commands.{is_serial}
-use Rattle.shr_model.proofs.BagLaws.{AreApart, each_weaker}
-use Rattle.shr_model.proofs.Members.{Has, AreApart_filter, filter_has, each_has}
+use Rattle.shr_assemble.proofs.Common.{◌≡◌, ℕ, ◌+◌, ◌≤◌, ◌≢◌, ◌⊎◌, inl, inr, ⊎_elim, Bool, true, false, not, cond, List, [], ◌∷◌, ◌++◌, length, length-append, take, drop, sym, refl, ap, subst, ◌∙◌, arith, eqb, append_assoc, slice_get, Some, find, filter, pos, ◌-ℤ◌, MatchOption, AllByRecursion, and_parts, and_from, eqb-true, cases_lt, cases_Bool, sum_by-append, sum_by-cons, append-nil, take_at, ints, UseStep, Serial, ups, downs, usage_after, is_by, IsDownNext, AreTakenBack, IsChargeHistory, is_serial, AreApart, each_weaker, Has, filter_has, each_has, serial_itself}
+use Rattle.std.proofs.lemmas.List.{drop_at}
+use Rattle.shr_model.proofs.Members.{AreApart_filter}
 
 -- the serials that wait for their down, and those without one
 abbrev waits_not : Serial → Serial → Bool
 waits_not b c = not (is_serial b c)
 
-serial_same : (x y : Serial) → is_serial x y ≡ true → x ≡ y
+pub serial_same : (x y : Serial) → is_serial x y ≡ true → x ≡ y
 serial_same x y h = let t = and_parts (eqb x.worker y.worker) (eqb x.command y.command) h in let w = eqb-true x.worker y.worker t.0 in let c = eqb-true x.command y.command t.1 in λ i. record { worker = w i; command = c i }
-
-serial_own : (x : Serial) → is_serial x x ≡ true
-serial_own x = and_from (eqb x.worker x.worker) (eqb x.command x.command) (eq-eqb x.worker x.worker refl) (eq-eqb x.command x.command refl)
 
 -- one that waits is one of them, or none is it
 waiting : (b : Serial) (p : List Serial) → Has p b ⊎ AllByRecursion (λ c. is_serial b c ≡ false) p
@@ -44,7 +31,7 @@ apart_out b p h = each_weaker (λ c. b ≢ c) (λ c. is_serial b c ≡ false) (�
 -- without one that waited there is one fewer
 one_out : (b : Serial) (p : List Serial) → AreApart p → Has p b → length p ≡ length (filter (waits_not b) p) + 1
 one_out b [] apart has = absurd has
-one_out b (c ∷ p) apart (inl here) = let e : is_serial b c ≡ true = ap (is_serial b) here ∙ serial_own b in
+one_out b (c ∷ p) apart (inl here) = let e : is_serial b c ≡ true = ap (is_serial b) here ∙ serial_itself b in
     omega (arith, ap (λ t. length (cond (not t) (c ∷ filter (waits_not b) p) (filter (waits_not b) p))) e, none_out b p (apart_out b p (subst (λ z. AllByRecursion (λ d. z ≢ d) p) here apart.0)))
 one_out b (c ∷ p) apart (inr later) = elim (cases_Bool (is_serial b c)) [
   | inl same ↦ absurd (each_has (λ d. c ≢ d) p b apart.0 later (sym (serial_same b c same)))
@@ -62,7 +49,7 @@ still_waits c o rest other h = subst (λ b. MatchOption (cond b (Some o) (find (
     ]
 
 waits_no_more : (o : UseStep) (rest : List UseStep) → IsDownNext o.by (o ∷ rest) → o.up ≡ false
-waits_no_more o rest h = subst (λ b. MatchOption (cond b (Some o) (find (is_by o.by) rest)) ⊥ (λ q. q.up ≡ false)) (serial_own o.by) h
+waits_no_more o rest h = subst (λ b. MatchOption (cond b (Some o) (find (is_by o.by) rest)) ⊥ (λ q. q.up ≡ false)) (serial_itself o.by) h
 
 ups_push : (xs : List UseStep) (o : UseStep) → ups (xs ++ o ∷ []) ≡ ups xs + cond o.up 1 0
 ups_push xs o = omega (arith, sum_by-append (λ (q : UseStep). cond q.up 1 0) xs (o ∷ []), sum_by-cons (λ (q : UseStep). cond q.up 1 0) o [])
@@ -85,7 +72,7 @@ module _ (g limit : ℕ) (ops : List UseStep) (history : IsChargeHistory g ops) 
       elim (cases_Bool o.up) [
         | inl up ↦ ⊎_elim
             (λ below. within_from (before ++ o ∷ []) rest p longer apart kept (omega (arith, below, ups_push before o, downs_push before o, ap (λ b. cond {A = ℕ} b 1 0) up, ap (λ b. cond {A = ℕ} (not b) 1 0) up)))
-            (λ full. within_from (before ++ o ∷ []) rest (o.by ∷ p) longer (each_weaker (λ c. is_serial o.by c ≡ false) (λ c. o.by ≢ c) (λ c f same. let t : true ≡ false = sym (ap (is_serial o.by) (sym same) ∙ serial_own o.by) ∙ f in cc) p none, apart)
+            (λ full. within_from (before ++ o ∷ []) rest (o.by ∷ p) longer (each_weaker (λ c. is_serial o.by c ≡ false) (λ c. o.by ≢ c) (λ c f same. let t : true ≡ false = sym (ap (is_serial o.by) (sym same) ∙ serial_itself o.by) ∙ f in cc) p none, apart)
             (next up full, kept) (omega (arith, most, ups_push before o, downs_push before o, ap (λ b. cond {A = ℕ} b 1 0) up, ap (λ b. cond {A = ℕ} (not b) 1 0) up)))
             (cases_lt (ups before) (downs before + limit))
         | inr down ↦ within_from (before ++ o ∷ []) rest p longer apart kept (omega (arith, most, ups_push before o, downs_push before o, ap (λ b. cond {A = ℕ} b 1 0) down, ap (λ b. cond {A = ℕ} (not b) 1 0) down))

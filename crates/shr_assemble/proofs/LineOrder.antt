@@ -1,15 +1,6 @@
 -- The events that a worker noted, by their kinds, and along its steps.
-use Rattle.std.proofs.Common.{◌≡◌, ℕ, zero, suc, ◌<◌, inl, inr, List, [], ◌∷◌, sym, ap, subst, ◌∙◌, arith}
-use Rattle.std.specs.Prelude.{slice_get, Some}
-use Rattle.std.proofs.lemmas.Option.{same_Some, none-some}
-use Rattle.shr_model.proofs.Members.{Has}
-use Rattle.shr_seats.specs.Lines.{by_seat}
-use Rattle.shr_seats.specs.Weights.{Begins}
-use Rattle.shr_seats.proofs.Weighing.{begins_all, begins_more}
-use Rattle.shr_core.specs.Gained.{among, made_in, seen_in, attempts_in, turns_in}
-use Rattle.shr_core.specs.Parts.{Event, Made, Counted, Tried, Turn, counted, made, looked, loaded, turned, put_back, raised, cleared, mapped}
-use Rattle.shr_walk.specs.State.{WorkerState}
-use Rattle.shr_assemble.specs.Steps.{Step, AreChained}
+use Rattle.shr_assemble.proofs.Common.{◌≡◌, ℕ, zero, suc, ◌<◌, inl, inr, List, [], ◌∷◌, sym, ap, subst, ◌∙◌, arith, slice_get, Some, same_Some, none-some, Has, by_seat, Begins, begins_all, begins_more, among, seen_in, attempts_in, Event, Made, Counted, Tried, Turn, counted, made, looked, loaded, turned, put_back, raised, cleared, mapped, WorkerState, Step, AreChained}
+use Rattle.shr_core.specs.Gained.{made_in, turns_in}
 use Rattle.shr_assemble.proofs.Pairs.{either}
 
 -- the event that has what a kind of event gives

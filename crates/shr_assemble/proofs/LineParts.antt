@@ -1,13 +1,5 @@
 -- Where the deeds of one seat stand in a line, read both ways.
-use Rattle.std.proofs.Common.{◌≡◌, ℕ, zero, suc, ◌+◌, ◌<◌, ◌≤◌, inl, inr, Bool, true, false, cond, take, List, [], ◌∷◌, ◌++◌, length, sym, refl, ap, subst, ◌∙◌, arith, eq-eqb}
-use Rattle.std.specs.Prelude.{◌==◌}
-use Rattle.std.proofs.lemmas.Bool.{eqb-true}
-use mathlib.Core.Option.{some, some-injective, some-ne-none}
-use lib.ListN.{get_elem?}
-use Rattle.shr_model.proofs.Members.{Has}
-use Rattle.shr_seats.specs.Lines.{Deed, by_seat, part}
-use Rattle.shr_core.specs.Gained.{among, attempts_in}
-use Rattle.shr_core.specs.Parts.{Event, Tried, looked}
+use Rattle.shr_assemble.proofs.Common.{◌≡◌, ℕ, zero, suc, ◌+◌, ◌<◌, ◌≤◌, inl, inr, Bool, true, false, cond, take, List, [], ◌∷◌, ◌++◌, length, sym, refl, ap, subst, ◌∙◌, arith, eq-eqb, ◌==◌, eqb-true, some, some-injective, some-ne-none, get_elem?, Has, Deed, by_seat, part, among, attempts_in, Event, Tried, looked}
 use Rattle.shr_assemble.proofs.Spots.{spot_of}
 
 -- ---- lists
@@ -33,7 +25,7 @@ by_seat_at j [] i d e = absurd (some-ne-none d (sym e))
 by_seat_at j (x ∷ es) zero d e = (x, refl, ap (λ (y : Deed Event). y.act) (some-injective (record { seat = j; act = x }) d e))
 by_seat_at j (x ∷ es) (suc i) d e = by_seat_at j es i d e
 
-has_right : {A : Type 0} (xs ys : List A) (y : A) → Has ys y → Has (xs ++ ys) y
+pub has_right : {A : Type 0} (xs ys : List A) (y : A) → Has ys y → Has (xs ++ ys) y
 has_right [] ys y h = h
 has_right (x ∷ xs) ys y h = inr (has_right xs ys y h)
 

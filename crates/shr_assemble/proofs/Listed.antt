@@ -1,29 +1,10 @@
 -- Small laws of lists: sums, elements, and journals that are closed.
-use Rattle.std.proofs.Common.{◌≡◌, ℕ, zero, suc, ◌<◌, inl, inr, Bool, true, false, ◌||◌, cond, List, [], ◌∷◌, ◌++◌, length, sym, refl, ap, subst, ◌∙◌, arith}
-use Rattle.std.specs.Prelude.{slice_get, Some, All, sum_by, count_by, Contains}
-use Rattle.std.specs.List.{AllByRecursion}
-use Rattle.std.proofs.lemmas.Bool.{cases_Bool}
-use Rattle.std.proofs.lemmas.List.Sums.{sum_by-cons}
-use Rattle.std.proofs.lemmas.Option.{same_Some, none-some, slice_get_within, get_or_from_slice_get, slice_get-get_or}
-use Rattle.shr_base.specs.declared.journals.Entry.{Entry}
-use Rattle.shr_base.specs.declared.journals.Entry.TheVariants.{Add, Look, Drop, Pin, Scan, MovedIn, Closed, Drained}
-use Rattle.shr_model.specs.Items.{is_closing, is_closed}
-use Rattle.shr_seats.specs.Weights.{total, Begins}
-use Rattle.shr_assemble.specs.Steps.{IsAmong}
-use Rattle.shr_assemble.proofs.Gathering.{at_some, some_at}
+use Rattle.shr_assemble.proofs.Common.{◌≡◌, ℕ, zero, suc, ◌<◌, inl, inr, Bool, true, false, ◌||◌, List, [], ◌∷◌, ◌++◌, length, sym, refl, ap, subst, ◌∙◌, arith, slice_get, Some, All, Contains, AllByRecursion, cases_Bool, same_Some, none-some, slice_get_within, get_or_from_slice_get, slice_get-get_or, Entry, Closed, is_closing, is_closed, Begins, IsAmong, at_some, by_slices, count_total, some_at, sum_total, closed_at}
 
 -- a test that would lead to what isn't so fails
 pub no_test : (b : Bool) → (b ≡ true → ⊥) → b ≡ false
 no_test true h = absurd (h refl)
 no_test false h = refl
-
--- a sum by a function is a total
-pub sum_total : {A : Type 0} (f : A → ℕ) (xs : List A) → sum_by f xs ≡ total f xs
-sum_total f [] = refl
-sum_total f (x ∷ xs) = omega (arith, sum_by-cons f x xs, sum_total f xs)
-
-pub count_total : {A : Type 0} (p : A → Bool) (xs : List A) → count_by p xs ≡ total (λ x. cond (p x) 1 0) xs
-count_total p xs = sum_total (λ x. cond (p x) 1 0) xs
 
 -- what holds of all elements holds of one
 pub all_among : {A : Type 0} (P : A → Type 0) (xs : List A) (x : A) → All P xs → IsAmong x xs → P x
@@ -36,11 +17,6 @@ pub all_slice_by : {A : Type 0} (P : A → Type 0) (xs : List A) (j : ℕ) (x : 
 all_slice_by P [] j x all at = absurd (none-some x at)
 all_slice_by P (y ∷ xs) zero x all at = subst P (same_Some y x at) all.0
 all_slice_by P (y ∷ xs) (suc j) x all at = all_slice_by P xs j x all.1 at
-
--- a list has each element by recursion where it has each by its number
-pub by_slices : {A : Type 0} (P : A → Type 0) (xs : List A) → ((j : ℕ) (x : A) → slice_get xs j ≡ Some x → P x) → AllByRecursion P xs
-by_slices P [] h = tt
-by_slices P (x ∷ xs) h = (h 0 x refl, by_slices P xs (λ j y e. h (suc j) y e))
 
 -- the ways to say that an element is there
 pub contains_slice : {A : Type 0} (xs : List A) (x : A) → Contains xs x → (n : ℕ) × (slice_get xs n ≡ Some x)
@@ -67,18 +43,6 @@ slice_begins {A} xs ys n x b lt at = there xs b.0 n x lt (subst (λ (l : List A)
   there [] m n x lt e = absurd (omega arith)
   there (y ∷ l) m zero x lt e = e
   there (y ∷ l) m (suc n) x lt e = there l m n x (omega arith) e
-
--- a Closed stands somewhere in a journal that has one
-pub closed_at : (es : List Entry) → is_closed es ≡ true → (n : ℕ) × (slice_get es n ≡ Some Closed)
-closed_at [] h = absurd (let f : false ≡ true = h in cc)
-closed_at (Add by birth added key value ∷ es) h = let rest = closed_at es h in (suc rest.0, rest.1)
-closed_at (Look by birth key hit ∷ es) h = let rest = closed_at es h in (suc rest.0, rest.1)
-closed_at (Drop by birth key kind ∷ es) h = let rest = closed_at es h in (suc rest.0, rest.1)
-closed_at (Pin by birth key pinned hit ∷ es) h = let rest = closed_at es h in (suc rest.0, rest.1)
-closed_at (Scan worker walk asked policy visits freed stopped ∷ es) h = let rest = closed_at es h in (suc rest.0, rest.1)
-closed_at (MovedIn child objects ∷ es) h = let rest = closed_at es h in (suc rest.0, rest.1)
-closed_at (Closed ∷ es) h = (0, refl)
-closed_at (Drained by objects ∷ es) h = let rest = closed_at es h in (suc rest.0, rest.1)
 
 -- a journal that has one is closed
 pub at_closed : (es : List Entry) (n : ℕ) → slice_get es n ≡ Some Closed → is_closed es ≡ true

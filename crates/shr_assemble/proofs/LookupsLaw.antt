@@ -1,34 +1,11 @@
 -- The law of lookups, of a run.
-use Rattle.std.proofs.Common.{◌≡◌, ℕ, ◌+◌, ◌<◌, ◌≤◌, ⊎_elim, Bool, true, false, cond, List, [], ◌∷◌, ◌++◌, length, length-append, take, sym, refl, ap, subst, ◌∙◌, arith, eqb, eq-eqb, ne_eqb}
-use Rattle.std.specs.Prelude.{slice_get, Option, Some, None, flat_map, map, filter, filter_map, count_by, nat_lt, is_some, option_and_then, ◌==◌, if◌then◌else◌}
-use Rattle.std.proofs.lemmas.Bool.{cases_lt, ltb-true, lt-ltb}
-use Rattle.std.specs.List.{AllByRecursion, cons_option}
-use Rattle.std.proofs.lemmas.Grind.{flat_map-append}
-use Rattle.std.proofs.lemmas.List.{get_or_past, take-append-le}
-use Rattle.shr_base.specs.declared.replies.Found.{Found}
-use Rattle.shr_base.specs.declared.replies.Answered.{Answered}
-use Rattle.shr_base.specs.declared.places.Serial.{Serial}
-use Rattle.shr_base.specs.declared.scripts.Command.{Command}
-use Rattle.shr_base.specs.declared.scripts.Script.{Script}
-use Rattle.shr_base.specs.declared.walks.Attempt.{Attempt}
-use Rattle.shr_base.specs.declared.walks.WalkRecord.{WalkRecord}
-use Rattle.shr_base.specs.declared.ends.WorkerPart.{WorkerPart}
-use Rattle.shr_base.specs.declared.journals.PoolEntry.{PoolEntry}
-use Rattle.shr_model.specs.Attempts.{number_of, is_held}
-use Rattle.shr_model.specs.Commands.{decl_named}
-use Rattle.shr_model.specs.Pool.{registrations, decl_at, attempt_at, is_live, decl_of, from_of}
-use Rattle.shr_seats.specs.Weights.{total}
-use Rattle.shr_seats.proofs.Weighing.{total-append, total_zero}
-use Rattle.shr_core.specs.Parts.{Tried}
-use Rattle.shr_core.specs.Rule.{hit_attempt}
-use Rattle.shr_report.specs.declared.report.Report.{Report}
-use Rattle.shr_report.specs.Parts.{answers_in, lookups_at, walk_at}
+use Rattle.shr_assemble.proofs.Common.{◌≡◌, ℕ, ◌+◌, ◌<◌, ◌≤◌, ⊎_elim, Bool, true, false, cond, List, [], ◌∷◌, ◌++◌, length, length-append, take, sym, refl, ap, subst, ◌∙◌, arith, eqb, eq-eqb, ne_eqb, slice_get, Option, Some, None, flat_map, map, filter, filter_map, count_by, nat_lt, is_some, option_and_then, ◌==◌, if◌then◌else◌, cases_lt, ltb-true, lt-ltb, AllByRecursion, cons_option, flat_map-append, take-append-le, Found, Answered, Serial, Command, Script, Attempt, WalkRecord, WorkerPart, PoolEntry, number_of, is_held, decl_named, registrations, decl_at, is_live, decl_of, from_of, total, total-append, total_zero, Tried, hit_attempt, Report, lookups_at, walk_at, Step, IsAmong, gathered, steps_in, steps_of, numbered, numbers_tried, number_found, number_made, IsFoundBy, all_attempts, IsRun, count_total}
+use Rattle.std.proofs.lemmas.List.{get_or_past}
+use Rattle.shr_model.specs.Pool.{attempt_at}
+use Rattle.shr_report.specs.Parts.{answers_in}
 use Rattle.shr_report.specs.Lookups.{found_number, found_numbers, tried_numbers, IsFoundRight, AreLookupsLawful}
-use Rattle.shr_assemble.specs.Steps.{Step, IsAmong, gathered, steps_in, steps_of}
-use Rattle.shr_assemble.specs.Lookups.{numbered, numbers_tried, number_found, number_made, IsFoundBy}
-use Rattle.shr_assemble.specs.Runs.{all_attempts, IsRun}
 use Rattle.shr_assemble.proofs.Gathering.{each_step, has_step, gathered_has, among_right, weighs}
-use Rattle.shr_assemble.proofs.Listed.{count_total, no_test}
+use Rattle.shr_assemble.proofs.Listed.{no_test}
 use Rattle.shr_assemble.proofs.Making.{work_of, Stepped, stepped}
 use Rattle.shr_assemble.proofs.Flattening.{same_flat, answers_are, all_walks_are, walk_of}
 

@@ -1,29 +1,11 @@
 -- The report that is put together is made of the ends of the tables and of the workers' logs.
-use Rattle.std.proofs.Common.{◌≡◌, ℕ, zero, suc, ◌<◌, ◌≤◌, ◌⊎◌, inl, inr, ⊎_elim, List, [], ◌∷◌, length, map, take, refl, sym, ap, subst, ◌∙◌, arith, ◌++◌}
-use Rattle.std.specs.Prelude.{slice_get, flat_map, option_map, Option, Some, None, IsPermutation}
-use Rattle.std.proofs.lemmas.Bool.{cases_order}
-use Rattle.std.proofs.lemmas.List.Sorted.{IsPermutation-sym}
-use Rattle.std.proofs.lemmas.Option.{slice_get_within, same_Some}
-use Rattle.shr_base.specs.declared.ends.WorkerPart.{WorkerPart}
-use Rattle.shr_base.specs.declared.journals.UseStep.{UseStep}
-use Rattle.shr_base.specs.declared.replies.Answered.{Answered}
-use Rattle.shr_walk.specs.declared.seats.Shared.{Shared}
-use Rattle.shr_worker.specs.Chain.{CrewState, IsWorkOf, commands_of, serial_of}
-use Rattle.shr_base.specs.declared.places.Serial.{Serial}
-use Rattle.shr_tables.specs.declared.ending.Ends.{Ends}
-use Rattle.shr_report.specs.declared.report.Report.{Report}
+use Rattle.shr_assemble.proofs.Common.{◌≡◌, ℕ, zero, suc, ◌<◌, ◌≤◌, ◌⊎◌, inl, inr, ⊎_elim, List, [], ◌∷◌, length, map, take, refl, sym, ap, subst, ◌∙◌, arith, ◌++◌, slice_get, flat_map, option_map, Option, Some, None, IsPermutation, cases_order, IsPermutation-sym, slice_get_within, same_Some, WorkerPart, UseStep, Answered, Shared, CrewState, IsWorkOf, Serial, Ends, Report, WorkerLog, Noted, new_worker, HelpsWith, answers_in, walks_in, carries_in, plain_in, isolations_in, IsMadeOf, part_of, ArePrinted, AreSorted, AreEnds, IsPutTogether, Sweep, SweepItem}
+use Rattle.shr_worker.specs.Chain.{commands_of, serial_of}
 use Rattle.shr_report.specs.Parts as parts
 use Rattle.shr_report.specs.UnitParts as units
-use Rattle.shr_assemble.specs.declared.logs.WorkerLog.{WorkerLog}
-use Rattle.shr_assemble.specs.declared.noting.Noted.{Noted}
-use Rattle.shr_assemble.specs.Ends.{new_worker, HelpsWith}
-use Rattle.shr_assemble.specs.Makes.{answers_in, walks_in, carries_in, plain_in, isolations_in, IsMadeOf}
-use Rattle.shr_assemble.specs.Noting.{part_of, ArePrinted, AreSorted}
-use Rattle.shr_assemble.specs.Putting.{AreEnds, IsPutTogether}
 use Rattle.shr_assemble.proofs.Crews.{there_at}
 use Rattle.shr_assemble.proofs.Printing.{get_taken}
-use Rattle.shr_base.specs.declared.scripts.Sweep.{Sweep}
-use Rattle.shr_pool.specs.declared.items.SweepItem.{SweepItem}
+use Rattle.shr_assemble.proofs.EndsOrder.{none_left}
 
 -- nothing stands past a beginning
 get_past : {A : Type 0} (xs : List A) (n i : ℕ) → n ≤ i → slice_get (take n xs) i ≡ None
@@ -47,10 +29,6 @@ unhelped : (x : Shared) (o : Option Sweep) (by : Serial) (told : List Answered) 
 unhelped x None by told popped s t none h = h.1
 unhelped x (Some z) by told popped s t none h = absurd (let some = sym h.told_is ∙ none in cc)
 
-nothing_of : {A : Type 0} (xs ys : List A) → xs ++ ys ≡ [] → (xs ≡ []) × (ys ≡ [])
-nothing_of [] ys e = (refl, e)
-nothing_of (x ∷ xs) ys e = absurd (cc)
-
 module _ (e : Ends) (logs : List WorkerLog) (n : Noted) (r : Report) (are : AreEnds logs e) (printed : ArePrinted (map part_of logs) n.parts.items) (together : IsPutTogether e n r) where
   part_at : (worker : ℕ) → worker < printed.many → slice_get r.workers.items worker ≡ option_map part_of (slice_get logs worker)
   part_at worker lt = ap (λ (l : List WorkerPart). slice_get l worker) (together.parts ∙ printed.front) ∙ (get_taken (map part_of logs) printed.many worker lt ∙ get_mapped part_of logs worker)
@@ -66,7 +44,7 @@ module _ (e : Ends) (logs : List WorkerLog) (n : Noted) (r : Report) (are : AreE
   idle worker log le at =
       let t = there_at are.ends.lasts worker (let lt = slice_get_within logs worker log at in let same = are.ends.last_states in omega (arith, lt, same)) in
       let w = are.ends.worked worker log t.0 at t.1 in
-      let silence = nothing_of w.own w.told (sym w.answers ∙ silent worker log le at) in
+      let silence = none_left w.own w.told (sym w.answers ∙ silent worker log le at) in
       let same : t.0 ≡ new_worker are.ends.opened worker = unhelped are.shared are.shared.script.sweep (serial_of worker (length (commands_of are.shared.script worker))) w.told (are.ends.popped worker) w.done t.0 silence.1 w.helped ∙ still are.shared worker w.own (new_worker are.ends.opened worker) w.done silence.0 w.work in
       (w.walks ∙ ap (λ (s : CrewState). s.seats.walks) same, w.carries ∙ ap (λ (s : CrewState). s.seats.carries) same, w.plain ∙ ap (λ (s : CrewState). s.plain.walks) same, w.isolations ∙ ap (λ (s : CrewState). s.isolations) same)
 

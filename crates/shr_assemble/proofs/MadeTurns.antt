@@ -1,17 +1,7 @@
 -- The entry of the journal of registrations that an answer made is one of its command's.
-use Rattle.std.proofs.Common.{◌≡◌, ℕ, ⊎_elim, List, [], ◌∷◌, sym, ◌∙◌}
-use Rattle.std.specs.Prelude.{slice_get, Some}
-use Rattle.shr_base.specs.declared.journals.PoolEntry.TheVariants.{Registered, Unregistered}
-use Rattle.shr_base.specs.declared.replies.Answered.{Answered}
-use Rattle.shr_base.specs.declared.replies.Reply.{Reply}
+use Rattle.shr_assemble.proofs.Common.{◌≡◌, ℕ, ⊎_elim, List, [], ◌∷◌, sym, ◌∙◌, slice_get, Some, Registered, Unregistered, Answered, Reply, Script, Turn, Report, pool_made, made_by, Step, IsAmong, steps_of, IsRun}
 use Rattle.shr_base.specs.declared.replies.Reply.TheVariants as reply
-use Rattle.shr_base.specs.declared.scripts.Script.{Script}
-use Rattle.shr_core.specs.Parts.{Turn}
-use Rattle.shr_report.specs.declared.report.Report.{Report}
-use Rattle.shr_report.specs.Freshness.{pool_made, made_by}
 use Rattle.shr_assemble.specs.Causes as by
-use Rattle.shr_assemble.specs.Steps.{Step, IsAmong, steps_of}
-use Rattle.shr_assemble.specs.Runs.{IsRun}
 use Rattle.shr_assemble.proofs.FreshLaw.{of_is, step_cases, none_given}
 
 module _ (s : Script) (r : Report) (workers : List (List Step)) (run : IsRun s r workers) where

@@ -1,25 +1,8 @@
 -- Who made an entry of the journal of the tree, and of the journal of registrations.
-use Rattle.std.proofs.Common.{◌≡◌, ℕ, ◌<◌, ◌≤◌, Bool, true, false, ◌&&◌, cond, List, length, sym, refl, ap, subst, ◌∙◌, arith, eqb, eq-eqb, ne_eqb}
-use Rattle.std.specs.Prelude.{slice_get, Some, nat_lt, nat_le}
-use Rattle.std.proofs.lemmas.Option.{same_Some, slice_get_within}
-use Rattle.std.proofs.lemmas.Bool.{le-leb}
-use mathlib.Core.Logic.{dite}
-use native.Mathlib.Decide.{ℕ_discrete}
-use Rattle.shr_base.specs.declared.journals.PoolEntry.{PoolEntry}
-use Rattle.shr_base.specs.declared.journals.TreeEntry.{TreeEntry}
-use Rattle.shr_base.specs.declared.scripts.Script.{Script}
-use Rattle.shr_seats.specs.Weights.{total}
-use Rattle.shr_seats.proofs.Weighing.{some_term, only_yes, only_no}
-use Rattle.shr_core.specs.Parts.{Turn}
-use Rattle.shr_core.specs.Rule.{hit_turn}
+use Rattle.shr_assemble.proofs.Common.{◌≡◌, ℕ, ◌<◌, ◌≤◌, Bool, true, false, ◌&&◌, cond, List, length, sym, refl, ap, subst, ◌∙◌, arith, eqb, eq-eqb, ne_eqb, slice_get, Some, nat_lt, nat_le, same_Some, slice_get_within, le-leb, dite, ℕ_discrete, PoolEntry, TreeEntry, Script, total, some_term, only_yes, only_no, Turn, hit_turn, IsMade, Report, decls_on, Step, IsAmong, steps_of, all_turns, all_entries, IsRun, at_some, count_total}
 use Rattle.shr_charge.specs.Views as charge
-use Rattle.shr_charge.specs.Offlining.{IsMade}
-use Rattle.shr_report.specs.declared.report.Report.{Report}
-use Rattle.shr_report.specs.Parts.{decls_on}
-use Rattle.shr_assemble.specs.Steps.{Step, IsAmong, steps_of}
-use Rattle.shr_assemble.specs.Runs.{all_turns, all_entries, IsRun}
-use Rattle.shr_assemble.proofs.Gathering.{has_step, among_right, one_step, weighs, at_some}
-use Rattle.shr_assemble.proofs.Listed.{count_total, all_among}
+use Rattle.shr_assemble.proofs.Gathering.{has_step, among_right, one_step, weighs}
+use Rattle.shr_assemble.proofs.Listed.{all_among}
 use Rattle.shr_assemble.proofs.Making.{work_of, below_one, below_most}
 
 numbered : ℕ → charge.Made → ℕ

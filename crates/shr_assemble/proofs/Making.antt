@@ -1,31 +1,5 @@
 -- Who made an entry of a journal, and that what a step did is so in the report.
-use Rattle.std.proofs.Common.{◌≡◌, ℕ, ◌<◌, ◌≤◌, Bool, true, false, cond, List, [], ◌∷◌, length, get_or, sym, refl, ap, subst, ◌∙◌, arith, eqb, eq-eqb, ne_eqb}
-use Rattle.std.specs.Prelude.{slice_get, Option, Some, None, nat_lt, option_map, option_and_then}
-use Rattle.std.proofs.lemmas.Bool.{lt-ltb}
-use mathlib.Core.Logic.{dite}
-use native.Mathlib.Decide.{ℕ_discrete}
-use Rattle.std.proofs.lemmas.Option.{same_Some, none-some, slice_get_within, slice_get-get_or}
-use Rattle.shr_base.specs.declared.places.Place.{Place}
-use Rattle.shr_base.specs.declared.journals.Entry.{Entry}
-use Rattle.shr_base.specs.declared.scripts.Script.{Script}
-use Rattle.shr_model.specs.Places.{place_number}
-use Rattle.shr_seats.specs.Views.{Each}
-use Rattle.shr_seats.specs.Weights.{total}
-use Rattle.shr_seats.proofs.Weighing.{some_term}
-use Rattle.shr_core.specs.Layout.{place_at}
-use Rattle.shr_core.specs.Parts.{Made}
-use Rattle.shr_core.specs.Rule.{hit}
-use Rattle.shr_core.proofs.Left.{place_back}
-use Rattle.shr_report.specs.declared.report.Report.{Report}
-use Rattle.shr_report.specs.Parts.{parents_of, journals_of, IsThere, serial_of, commands_of, command_at, answers_of, answer_at, reply_at, cited_at, cited_by}
-use Rattle.shr_base.specs.declared.places.Serial.{Serial}
-use Rattle.shr_base.specs.declared.scripts.Command.{Command}
-use Rattle.shr_base.specs.declared.replies.Answered.{Answered}
-use Rattle.shr_base.specs.declared.replies.Reply.{Reply}
-use Rattle.shr_assemble.specs.Did.{Did}
-use Rattle.shr_assemble.specs.Steps.{Step, IsAmong, steps_of, Grows, Brings}
-use Rattle.shr_assemble.specs.Entries.{StandsIn}
-use Rattle.shr_assemble.specs.Runs.{all_made, IsRun}
+use Rattle.shr_assemble.proofs.Common.{◌≡◌, ℕ, ◌<◌, ◌≤◌, Bool, true, false, cond, List, [], ◌∷◌, length, get_or, sym, refl, ap, subst, ◌∙◌, arith, eqb, eq-eqb, ne_eqb, slice_get, Option, Some, None, nat_lt, option_map, option_and_then, lt-ltb, dite, ℕ_discrete, same_Some, none-some, slice_get_within, slice_get-get_or, Place, Entry, Script, place_number, Each, total, some_term, place_at, Made, hit, place_back, Report, parents_of, journals_of, IsThere, serial_of, commands_of, command_at, answers_of, answer_at, reply_at, cited_at, cited_by, Serial, Command, Answered, Reply, Did, Step, IsAmong, steps_of, Grows, Brings, StandsIn, all_made, IsRun}
 use Rattle.shr_assemble.proofs.Gathering.{HasStep, has_step, among_right, one_step, weighs}
 use Rattle.shr_assemble.proofs.Chains.{does_at, later_grows}
 

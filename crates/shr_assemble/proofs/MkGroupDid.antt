@@ -1,38 +1,17 @@
 -- What a mkgroup did.
-use Rattle.std.proofs.Common.{◌≡◌, ℕ, ◌≤◌, Bool, not, ◌||◌, inr, false, true, List, [], ◌∷◌, length, length-append, Option, refl, sym, ap, subst, ◌∙◌, arith}
-use Rattle.std.specs.Prelude.{Some, None, All}
+use Rattle.shr_assemble.proofs.Common.{◌≡◌, ℕ, ◌≤◌, Bool, not, ◌||◌, inr, false, true, List, [], ◌∷◌, length, length-append, Option, refl, sym, ap, subst, ◌∙◌, arith, Some, None, All, All-nil, All-from_recursion, none-some, same_Some, TreeEntry, Serial, Answered, Reply, Command, Family, Hierarchy, parent_of, is_later, begin_of, is_made, hierarchy_of, shape_of, gave, IsNamed, TreeView, Shared, WorkerState, unfound, parents_of, cited_by, pool_told, pool_made, made_shown, IsReply, Step, IsCausedBy, IsEntryOf, KnowsUnmade, MeetsGroups}
 use Rattle.std.specs.Option.{is_some}
-use Rattle.std.proofs.lemmas.List.Elements.{All-nil, All-from_recursion}
-use Rattle.std.proofs.lemmas.Option.{none-some, same_Some}
-use Rattle.shr_base.specs.declared.journals.TreeEntry.{TreeEntry}
 use Rattle.shr_base.specs.declared.journals.TreeEntry.TheVariants.{Made as MadeEntry}
-use Rattle.shr_base.specs.declared.places.Serial.{Serial}
-use Rattle.shr_base.specs.declared.replies.Answered.{Answered}
-use Rattle.shr_base.specs.declared.replies.Reply.{Reply}
 use Rattle.shr_base.specs.declared.replies.Reply.TheVariants as reply
-use Rattle.shr_base.specs.declared.scripts.Command.{Command}
 use Rattle.shr_base.specs.declared.scripts.Command.TheVariants as command
-use Rattle.shr_model.specs.Families.{Family}
-use Rattle.shr_model.specs.Groups.{Hierarchy, parent_of, is_later}
-use Rattle.shr_model.specs.TreeJournal.{begin_of, made_of, is_made}
-use Rattle.shr_seats.specs.Shapes.{hierarchy_of}
-use Rattle.shr_core.specs.Seats.{shape_of}
-use Rattle.shr_charge.specs.Answers.{gave, MakeTells, MakeLeaves, Knows}
-use Rattle.shr_charge.specs.Offlining.{IsNamed}
-use Rattle.shr_charge.specs.Views.{Made, Loaded, TreeView}
+use Rattle.shr_model.specs.TreeJournal.{made_of}
+use Rattle.shr_charge.specs.Answers.{MakeTells, MakeLeaves, Knows}
+use Rattle.shr_charge.specs.Views.{Made, Loaded}
 use Rattle.shr_charge.specs.declared.answers.MakeAnswer.{MakeAnswer}
 use Rattle.shr_charge.specs.declared.answers.MakeAnswer.TheVariants as make
 use Rattle.shr_charge.proofs.Entries.{made_new}
-use Rattle.shr_walk.specs.declared.seats.Shared.{Shared}
-use Rattle.shr_walk.specs.State.{WorkerState}
 use Rattle.shr_worker.specs.Commands as worker
-use Rattle.shr_worker.specs.Replies.{unfound, make_reply}
-use Rattle.shr_report.specs.Parts.{parents_of, cited_by}
-use Rattle.shr_report.specs.Freshness.{pool_told, pool_made, made_shown}
-use Rattle.shr_report.specs.ReplyTable.{IsReply}
-use Rattle.shr_assemble.specs.Steps.{Step}
-use Rattle.shr_assemble.specs.Causes.{IsCausedBy}
-use Rattle.shr_assemble.specs.Offlining.{IsEntryOf, KnowsUnmade, MeetsGroups}
+use Rattle.shr_worker.specs.Replies.{make_reply}
 use Rattle.shr_assemble.proofs.Bringing.{brings_of}
 use Rattle.shr_assemble.proofs.Quiet.{step_of, HasDid, calm_walks, still_moves, still_charges, still_pool, IsToldOnce, meets_none}
 use Rattle.shr_assemble.proofs.QuietSteps.{AreTables, tree_is, hierarchy_is, known_meets}

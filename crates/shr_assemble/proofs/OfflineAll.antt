@@ -1,10 +1,6 @@
 -- What an offline did, whatever it answered.
-use Rattle.shr_base.specs.declared.places.Serial.{Serial}
-use Rattle.shr_base.specs.declared.replies.Answered.{Answered}
+use Rattle.shr_assemble.proofs.Common.{Serial, Answered, ℕ, Shared, WorkerState}
 use Rattle.shr_base.specs.declared.scripts.Command.TheVariants as command
-use Rattle.std.specs.Prelude.{ℕ}
-use Rattle.shr_walk.specs.declared.seats.Shared.{Shared}
-use Rattle.shr_walk.specs.State.{WorkerState}
 use Rattle.shr_worker.specs.Commands as worker
 use Rattle.shr_assemble.proofs.Quiet.{HasDid}
 use Rattle.shr_assemble.proofs.QuietSteps.{AreTables}

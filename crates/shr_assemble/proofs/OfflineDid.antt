@@ -1,82 +1,32 @@
 -- What an offline did.
-use Rattle.std.proofs.Common.{◌≡◌, ◌⊎◌, inl, inr, ⊎_elim, ℕ, zero, suc, ◌<◌, ◌≤◌, Bool, true, false, not, ◌||◌, List, [], ◌∷◌, length, length-append, refl, sym, ap, subst, ◌∙◌, arith}
-use Rattle.std.specs.Prelude.{Some, None, slice_index_or, Contains, All, slice_get}
-use Rattle.std.specs.Prelude.{sum_by}
-use Rattle.std.specs.List.{AllByRecursion}
+use Rattle.shr_assemble.proofs.Common.{◌≡◌, ◌⊎◌, inl, inr, ⊎_elim, ℕ, zero, suc, ◌<◌, ◌≤◌, Bool, true, false, not, ◌||◌, List, [], ◌∷◌, length, length-append, refl, sym, ap, subst, ◌∙◌, arith, Some, None, slice_index_or, Contains, All, slice_get, sum_by, AllByRecursion, sum_by-cons, All-nil, All-append, All-from_recursion, none-some, same_Some, TreeEntry, Begin, Done, Serial, Answered, Reply, Command, Family, begin_of, is_made, undone_child, IsTreeJournal, Begins, shape_of, Entry, born_below, freed_by, View, ◌*◌, ◌/◌, ◌%◌, range_with_len, Place, Spent, Hierarchy, is_later, IsTree, is_child, parent_of, place_number, IsAtOrAbove-le, Shape, groups_in, hierarchy_of, Closing, AreClosings, place_of, AreSpliced, IsWithin, content_of, within_of_valid, GroupState, is_there, IsListWorn, nothing, MayHaveBegun, added_below, freed_below, MayMake, IsClosing, begin_at, begun_before, done_at, done_found, begin_found, gave, IsNamed, TreeView, begin_grows, begun_made, is_made_grows, unfound, Shared, WorkerState, Work, no_work, then_work, Does, does_none, does_then, parents_of, cited_by, pool_told, pool_made, is_past_group, IsReply, Step, IsAmong, IsCausedBy, KnowsOnline, IsEntryOf, MeetsGroups, KnowsUnmade}
 use Rattle.std.specs.Option.{is_some}
-use Rattle.std.proofs.lemmas.List.Sums.{sum_by-cons}
-use Rattle.std.proofs.lemmas.List.Elements.{All-nil, All-append, All-from_recursion, Contains-push}
-use Rattle.std.proofs.lemmas.Option.{none-some, same_Some}
-use Rattle.shr_base.specs.declared.journals.TreeEntry.{TreeEntry}
-use Rattle.shr_base.specs.declared.journals.TreeEntry.TheVariants.{Begin, Done}
-use Rattle.shr_base.specs.declared.places.Serial.{Serial}
-use Rattle.shr_base.specs.declared.replies.Answered.{Answered}
-use Rattle.shr_base.specs.declared.replies.Reply.{Reply}
+use Rattle.std.proofs.lemmas.List.Elements.{Contains-push}
 use Rattle.shr_base.specs.declared.replies.Reply.TheVariants as reply
-use Rattle.shr_base.specs.declared.scripts.Command.{Command}
 use Rattle.shr_base.specs.declared.scripts.Command.TheVariants as command
-use Rattle.shr_model.specs.Families.{Family}
-use Rattle.shr_model.specs.TreeJournal.{begin_of, done_of, made_of, is_made, undone_child, IsTreeJournal}
-use Rattle.shr_seats.specs.Weights.{Begins}
-use Rattle.shr_core.specs.Seats.{shape_of}
-use Rattle.shr_base.specs.declared.journals.Entry.{Entry}
-use Rattle.shr_model.specs.Freeings.{born_below}
-use Rattle.shr_model.specs.Items.{freed_by}
-use Rattle.shr_core.specs.declared.view.View.{View}
-use Rattle.std.specs.Prelude.{◌*◌, ◌/◌, ◌%◌}
-use Rattle.std.specs.List.{range_with_len}
-use Rattle.shr_base.specs.declared.places.Place.{Place}
-use Rattle.shr_base.specs.declared.replies.Spent.{Spent}
+use Rattle.shr_model.specs.TreeJournal.{done_of, made_of}
 use Rattle.shr_base.specs.declared.replies.Spent.TheVariants as spent
-use Rattle.shr_model.specs.Groups.{Hierarchy, is_later, IsTree, is_child, parent_of}
-use Rattle.shr_model.specs.Places.{place_number}
 use Rattle.shr_model.proofs.GroupsLaws.{child_again}
-use Rattle.shr_model.proofs.GroupsOrder.{IsAtOrAbove-le}
-use Rattle.shr_seats.specs.declared.shape.Shape.{Shape}
-use Rattle.shr_seats.specs.Shapes.{groups_in, hierarchy_of}
 use Rattle.shr_node.specs.declared.answers.SpliceAnswer.TheVariants as splice
-use Rattle.shr_node.specs.Splicing.{Closing, AreClosings, place_of}
-use Rattle.shr_offline.specs.Splices.{place_in, first_places, AreSpliced, AllGives}
-use Rattle.shr_script.specs.Bounds.{IsWithin}
-use Rattle.shr_script.specs.Content.{content_of}
-use Rattle.shr_script.proofs.BoundsLaws.{within_of_valid}
-use Rattle.shr_charge.specs.declared.answers.GroupState.{GroupState}
-use Rattle.shr_charge.specs.Told.{is_there}
+use Rattle.shr_offline.specs.Splices.{place_in, first_places, AllGives}
 use Rattle.shr_assemble.proofs.ScriptSizes.{sized_of}
-use Rattle.shr_assemble.specs.Worn.{IsListWorn}
-use Rattle.shr_core.specs.Gained.{nothing}
 use Rattle.shr_core.specs.Parts as core
 use Rattle.shr_charge.specs.declared.answers.BeginAnswer.{BeginAnswer}
 use Rattle.shr_charge.specs.declared.answers.BeginAnswer.TheVariants as began
-use Rattle.shr_report.specs.Causes.{MayHaveBegun}
-use Rattle.shr_assemble.specs.Charges.{added_below, freed_below}
-use Rattle.shr_assemble.specs.Entries.{MayMake, IsClosing}
 use Rattle.shr_assemble.proofs.Bringing.{brings_of}
 use Rattle.shr_assemble.proofs.Listed.{begins_slice, slice_contains, contains_among, contains_slice, no_test}
-use Rattle.shr_charge.proofs.TreeFacts.{begin_at, begun_before, done_at, done_found, begin_found}
 use Rattle.shr_assemble.proofs.QuietDrains.{each_rec}
 use Rattle.shr_assemble.proofs.Filling.{set_filled}
 use Rattle.shr_assemble.proofs.QuietSplices.{IsMovedIn, IsShut, IsSpliceEntry, IsSplicedTo, spliced_one, spliced_all, spliced_then}
-use Rattle.shr_charge.specs.Answers.{gave}
-use Rattle.shr_charge.specs.Offlining.{WasState, IsNamed}
+use Rattle.shr_charge.specs.Offlining.{WasState}
 use Rattle.shr_charge.specs.declared.answers.GroupState.TheVariants as state
-use Rattle.shr_charge.specs.Views.{Made, Loaded, TreeView}
-use Rattle.shr_charge.proofs.Entries.{begin_grows, begun_made, is_made_grows}
+use Rattle.shr_charge.specs.Views.{Made, Loaded}
 use Rattle.shr_charge.specs.declared.answers.DoneAnswer.TheVariants as ended
 use Rattle.shr_offline.specs.declared.answers.OfflineAnswer.{OfflineAnswer}
 use Rattle.shr_offline.specs.declared.answers.OfflineAnswer.TheVariants as answered
 use Rattle.shr_offline.specs.Offlined as offlined
 use Rattle.shr_worker.specs.Commands as worker
-use Rattle.shr_worker.specs.Replies.{unfound, offline_reply}
-use Rattle.shr_walk.specs.declared.seats.Shared.{Shared}
-use Rattle.shr_walk.specs.State.{WorkerState, Work, no_work, then_work, Does}
-use Rattle.shr_walk.proofs.Doing.{does_none, does_then}
-use Rattle.shr_report.specs.Parts.{parents_of, cited_by}
-use Rattle.shr_report.specs.Freshness.{pool_told, pool_made, is_past_group}
-use Rattle.shr_report.specs.ReplyTable.{IsReply}
-use Rattle.shr_assemble.specs.Steps.{Step, IsAmong}
-use Rattle.shr_assemble.specs.Causes.{IsCausedBy}
-use Rattle.shr_assemble.specs.Offlining.{KnowsOnline, IsEntryOf, MeetsGroups, KnowsUnmade}
+use Rattle.shr_worker.specs.Replies.{offline_reply}
 use Rattle.shr_assemble.proofs.Quiet.{step_of, HasDid, calm_walks, still_moves, still_charges, still_pool, still_tree, IsToldOnce, some_met, meets_none}
 use Rattle.shr_assemble.proofs.ScriptGroups.{core_hierarchy}
 use Rattle.shr_assemble.proofs.QuietSteps.{AreTables, tree_is, hierarchy_is, gaining, does_gain, known_meets}
@@ -277,7 +227,7 @@ begun_to x group s u home (began.Resumed entry) on h = record {
 begun_to x group s u home answer on h = absurd on
 
 -- entries of splices free and add nothing
-spliced_freed : (parents ps : List ℕ) (group g : ℕ) (v : View) (all ms : List core.Made) → AllByRecursion (IsSpliceEntry ps group v all) ms → (sum_by (freed_below parents g) ms ≡ 0) × (sum_by (λ (m : core.Made). added_below parents g m.entry) ms ≡ 0)
+pub spliced_freed : (parents ps : List ℕ) (group g : ℕ) (v : View) (all ms : List core.Made) → AllByRecursion (IsSpliceEntry ps group v all) ms → (sum_by (freed_below parents g) ms ≡ 0) × (sum_by (λ (m : core.Made). added_below parents g m.entry) ms ≡ 0)
 spliced_freed parents ps group g v all [] h = (refl, refl)
 spliced_freed parents ps group g v all (m ∷ ms) h = let r = spliced_freed parents ps group g v all ms h.1 in let one = by_kind m h.0.kind in
     (omega (arith, r.0, one.0, sum_by-cons (freed_below parents g) m ms), omega (arith, r.1, one.1, sum_by-cons (λ (y : core.Made). added_below parents g y.entry) m ms))
@@ -287,7 +237,7 @@ spliced_freed parents ps group g v all (m ∷ ms) h = let r = spliced_freed pare
     by_kind y (inr b) = (ap (λ (e : Entry). born_below parents g (freed_by y.items e)) b.entry, ap (added_below parents g) b.entry)
 
 -- each entry of a splice may be made by an offline of its group that was answered so
-spliced_may : (x : Shared) (z : Step) (group : ℕ) (all ms : List core.Made) → z.work.core.made ≡ all → z.command ≡ Some (command.Offline group) → MayHaveBegun z.answered.reply → Contains z.after.tree.known (Begin group)
+pub spliced_may : (x : Shared) (z : Step) (group : ℕ) (all ms : List core.Made) → z.work.core.made ≡ all → z.command ≡ Some (command.Offline group) → MayHaveBegun z.answered.reply → Contains z.after.tree.known (Begin group)
     → AllByRecursion (IsSpliceEntry (parents_of x.script) group z.before.core all) ms → AllByRecursion (λ (m : core.Made). MayMake x.script z m m.entry) ms
 spliced_may x z group all [] made named may known h = tt
 spliced_may x z group all (m ∷ ms) made named may known h = (by_kind h.0.kind, spliced_may x z group all ms made named may known h.1)

@@ -1,53 +1,20 @@
 -- The cause of an `offline` that was done.
-use Rattle.std.proofs.Common.{◌≡◌, ℕ, ◌%◌, ◌^◌, ◌<◌, ◌≤◌, ◌≢◌, ⊎_elim, true, false, cond, eqb, List, length, take, refl, sym, ap, subst, ◌∙◌, arith}
-use Rattle.std.specs.Prelude.{slice_get, Some, sum_by, filter, option_and_then}
-use Rattle.std.specs.Option.{IsSomeAnd}
-use Rattle.std.proofs.lemmas.Bool.{cases_lt, eqb-true}
-use Rattle.std.proofs.lemmas.Option.{same_Some, slice_get_within}
-use mathlib.Core.Logic.{dite}
-use native.Mathlib.Decide.{ℕ_discrete}
-use Rattle.shr_base.specs.declared.journals.Entry.{Entry}
-use Rattle.shr_base.specs.declared.journals.Entry.TheVariants.{Add, Look, Drop, Pin, Scan, MovedIn, Closed, Drained}
-use Rattle.shr_base.specs.declared.journals.TreeEntry.TheVariants.{Begin, Done}
-use Rattle.shr_base.specs.declared.places.Place.{Place}
-use Rattle.shr_base.specs.declared.places.Serial.{Serial}
-use Rattle.shr_base.specs.declared.replies.Reply.{Reply}
+use Rattle.shr_assemble.proofs.Common.{◌≡◌, ℕ, ◌%◌, ◌^◌, ◌<◌, ◌≤◌, ◌≢◌, ⊎_elim, true, false, cond, eqb, List, length, take, refl, sym, ap, subst, ◌∙◌, arith, slice_get, Some, sum_by, filter, option_and_then, IsSomeAnd, cases_lt, eqb-true, same_Some, slice_get_within, dite, ℕ_discrete, Entry, Add, Look, Drop, Pin, Scan, MovedIn, Closed, Drained, Begin, Done, Place, Serial, Reply, Offline, Script, Carry, is_serial, group_named, IsAtOrAbove, is_closed, place_number, MayBegin, is_made, total, Begins, term_le, group_of, place_at, Made, Known, back, KnowsClosed, Report, parents_of, serial_of, journals_of, IsOffline, IsOfflined, MayHaveBegun, StandsInTree, moved_of, Step, IsAmong, steps_of, IsOfflinedBy, IsCausedBy, DidCarry, IsClosing, MayMake, IsEnded, IsEntryOf, IsRun, begun_made, begin_found, begun_before, take_in, all_zero, some_at, sum_total, closed_at, serial_itself}
 use Rattle.shr_base.specs.declared.replies.Reply.TheVariants as reply
-use Rattle.shr_base.specs.declared.scripts.Command.TheVariants.{Offline}
-use Rattle.shr_base.specs.declared.scripts.Script.{Script}
-use Rattle.shr_base.specs.declared.walks.Carry.{Carry}
-use Rattle.shr_model.specs.Commands.{is_serial, group_named}
-use Rattle.shr_model.specs.Groups.{IsAtOrAbove}
-use Rattle.shr_model.specs.Items.{is_closed}
-use Rattle.shr_model.specs.Places.{place_number}
-use Rattle.shr_model.specs.TreeJournal.{MayBegin, is_made}
-use Rattle.shr_seats.specs.Weights.{total, Begins}
-use Rattle.shr_seats.proofs.Weighing.{term_le}
-use Rattle.shr_core.specs.Layout.{group_of, place_at}
-use Rattle.shr_core.specs.Parts.{Made, Known}
-use Rattle.shr_core.proofs.Listing.{back}
 use Rattle.shr_charge.specs.Views as charge
-use Rattle.shr_node.specs.Gains.{KnowsClosed}
-use Rattle.shr_report.specs.declared.report.Report.{Report}
-use Rattle.shr_report.specs.Parts.{parents_of, hierarchy_of, serial_of, carries_by, journals_of}
-use Rattle.shr_report.specs.Causes.{IsOffline, IsOfflined, IsAloneAt, MayHaveBegun, MayHaveSpliced, StandsInTree, moved_of, moved_from}
-use Rattle.shr_assemble.specs.Steps.{Step, IsAmong, steps_of}
-use Rattle.shr_assemble.specs.Causes.{IsOfflinedBy, IsCausedBy}
-use Rattle.shr_assemble.specs.Deferred.{DidCarry}
-use Rattle.shr_assemble.specs.Entries.{IsMoving, IsClosing, MayMake}
-use Rattle.shr_assemble.specs.Offlining.{IsEnded, IsEntryOf}
-use Rattle.shr_assemble.specs.Runs.{IsRun}
-use Rattle.shr_assemble.proofs.Gathering.{each_among, some_at, mine_at, among_begins, total_gathered}
-use Rattle.shr_assemble.proofs.Listed.{all_among, all_slice, sum_total, no_test, contains_slice, contains_among, closed_at, at_closed, begins_slice}
+use Rattle.shr_report.specs.Parts.{hierarchy_of, carries_by}
+use Rattle.shr_report.specs.Causes.{IsAloneAt, MayHaveSpliced, moved_from}
+use Rattle.shr_assemble.specs.Entries.{IsMoving}
+use Rattle.shr_assemble.proofs.Gathering.{each_among, mine_at, among_begins, total_gathered}
+use Rattle.shr_assemble.proofs.Listed.{all_among, all_slice, no_test, contains_slice, contains_among, at_closed, begins_slice}
 use Rattle.shr_assemble.proofs.Making.{made_stands, grows, reply_is}
 use Rattle.shr_assemble.proofs.Makers.{entry_stands, one_entry_maker}
 use Rattle.shr_assemble.proofs.EntrySums.{entries_made, entries_of_step}
-use Rattle.shr_assemble.proofs.ScansLaw.{all_zero}
 use Rattle.shr_assemble.proofs.Shown.{tree_stands}
-use Rattle.shr_charge.proofs.Entries.{begun_made}
-use Rattle.shr_charge.proofs.TreeFacts.{begin_found, begun_before, done_below, take_in}
+use Rattle.shr_charge.proofs.TreeFacts.{done_below}
 use Rattle.shr_assemble.proofs.StandsOnce.{done_once}
-use Rattle.shr_assemble.proofs.WalksLaw.{is_serial_own, is_serial_same, filter_part}
+use Rattle.shr_assemble.proofs.WalksLaw.{filter_part}
+use Rattle.shr_assemble.proofs.LimitsLaw.{serial_same}
 
 module _ (s : Script) (r : Report) (workers : List (List Step)) (run : IsRun s r workers) where
   pub carries_are : (worker k : ℕ) (x : Step) → slice_get (steps_of workers worker) k ≡ Some x → carries_by r (serial_of worker k) ≡ x.work.carries
@@ -58,10 +25,10 @@ module _ (s : Script) (r : Report) (workers : List (List Step)) (run : IsRun s r
       by_of j i y c at_y at_c = let is = run.steps.each worker j y at_y in (all_slice (DidCarry s y) y.work.carries i c is.did.moves.carries at_c).by ∙ is.by
 
       own : (j : ℕ) (c : Carry) → slice_get x.work.carries j ≡ Some c → is_serial (serial_of worker k) c.by ≡ true
-      own j c e = ap (is_serial (serial_of worker k)) (by_of k j x c at e) ∙ is_serial_own (serial_of worker k)
+      own j c e = ap (is_serial (serial_of worker k)) (by_of k j x c at e) ∙ serial_itself (serial_of worker k)
 
       others : (i j : ℕ) (y : Step) (c : Carry) → slice_get (steps_of workers worker) i ≡ Some y → i ≢ k → slice_get y.work.carries j ≡ Some c → is_serial (serial_of worker k) c.by ≡ false
-      others i j y c at_y ne e = no_test (is_serial (serial_of worker k) c.by) (λ same. ne (ap (λ (z : Serial). z.command) (sym (is_serial_same (serial_of worker k) c.by same ∙ by_of i j y c at_y e))))
+      others i j y c at_y ne e = no_test (is_serial (serial_of worker k) c.by) (λ same. ne (ap (λ (z : Serial). z.command) (sym (serial_same (serial_of worker k) c.by same ∙ by_of i j y c at_y e))))
 
   -- nothing stands after a Closed
   pub closed_last : (place : Place) (es : List Entry) (n : ℕ) → Begins es (journals_of r place) → is_closed es ≡ true → length es ≤ n → (e : Entry) → slice_get (journals_of r place) n ≡ Some e → ⊥

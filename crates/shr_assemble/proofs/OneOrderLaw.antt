@@ -1,48 +1,14 @@
 -- What the report of a run tells is in one order: that of the events in the line of all that the workers did.
-use Rattle.std.proofs.Common.{◌≡◌, ◌≢◌, ◌⊎◌, ℕ, zero, suc, ◌+◌, ◌<◌, ◌≤◌, inl, inr, ⊎_elim, Bool, true, cond, List, [], ◌∷◌, ◌++◌, length, map, get_or, sym, refl, ap, subst, ◌∙◌, arith, eqb, eq-eqb}
-use Rattle.std.specs.Prelude.{slice_get, Option, Some, None, nat_lt, flat_map, option_map, option_to_list, Contains}
-use Rattle.std.specs.Option.{IsSomeAnd}
-use Rattle.std.proofs.lemmas.Bool.{and_from, lt-ltb}
-use Rattle.std.proofs.lemmas.List.{append-nil}
-use Rattle.std.proofs.lemmas.Option.{same_Some, none-some, slice_get-get_or}
-use mathlib.Core.Logic.{dite}
-use native.Mathlib.Decide.{ℕ_discrete, dec_lt}
-use mathlib.Core.Option.{some, some-injective, some-ne-none}
-use lib.ListN.{get_elem?}
-use Rattle.shr_base.specs.declared.journals.Entry.{Entry}
-use Rattle.shr_base.specs.declared.journals.Entry.TheVariants.{Add, Look, Drop, Pin, Scan, MovedIn, Closed, Drained}
-use Rattle.shr_base.specs.declared.journals.PoolEntry.{PoolEntry}
-use Rattle.shr_base.specs.declared.journals.PoolEntry.TheVariants.{Registered}
-use Rattle.shr_base.specs.declared.places.Place.{Place}
-use Rattle.shr_base.specs.declared.places.Serial.{Serial}
-use Rattle.shr_base.specs.declared.replies.Answered.{Answered}
-use Rattle.shr_base.specs.declared.replies.Reply.{Reply}
-use Rattle.shr_base.specs.declared.scripts.Script.{Script}
-use Rattle.shr_base.specs.declared.walks.WalkRecord.{WalkRecord}
-use Rattle.shr_model.specs.Places.{place_number}
-use Rattle.shr_model.proofs.Members.{Has, Has_from_Contains, map_has}
-use Rattle.shr_seats.specs.Lines.{Deed, by_seat, acts_of}
-use Rattle.shr_seats.proofs.Weighing.{at_begins}
-use Rattle.shr_core.specs.Gained.{among, seen_in, attempts_in}
-use Rattle.shr_core.specs.Parts.{Event, Made, Tried, Turn, counted, made, looked, turned}
-use Rattle.shr_core.specs.Ranks.{Tells}
+use Rattle.shr_assemble.proofs.Common.{◌≡◌, ◌≢◌, ◌⊎◌, ℕ, zero, suc, ◌+◌, ◌<◌, ◌≤◌, inl, inr, ⊎_elim, Bool, true, cond, List, [], ◌∷◌, ◌++◌, length, map, get_or, sym, refl, ap, subst, ◌∙◌, arith, eqb, eq-eqb, slice_get, Option, Some, None, nat_lt, flat_map, option_map, option_to_list, Contains, IsSomeAnd, and_from, lt-ltb, append-nil, same_Some, none-some, slice_get-get_or, dite, ℕ_discrete, dec_lt, some, some-injective, some-ne-none, get_elem?, Entry, Add, Look, Drop, Pin, Scan, MovedIn, Closed, Drained, PoolEntry, Registered, Place, Serial, Answered, Reply, Script, WalkRecord, place_number, Has, Has_from_Contains, map_has, Deed, by_seat, acts_of, at_begins, among, seen_in, attempts_in, Event, Made, Tried, Turn, counted, made, looked, turned, Tells, back, Report, IsMadeBy, serial_of, decls_on, answer_at, reply_at, walks_by, journals_of, entry_by, Told, entry, lookup, turn, count, Counting, Measure, entries, lookups, turns, looked_by, countings_of, HasAt, IsBy, EntryTells, IsInOneOrder, MayMake, number_made, IsRun, Step, IsAmong, steps_of, some_at}
 use Rattle.shr_core.specs.Ranks as core
-use Rattle.shr_core.proofs.Listing.{back}
 use Rattle.shr_core.proofs.Ranking as ranking
-use Rattle.shr_report.specs.declared.report.Report.{Report}
-use Rattle.shr_report.specs.Causes.{IsMadeBy}
-use Rattle.shr_report.specs.Parts.{serial_of, decls_on, answer_at, reply_at, walks_by, journals_of, entry_by}
-use Rattle.shr_report.specs.OneOrder.{Told, entry, lookup, turn, count, Counting, Measure, entries, lookups, turns, numbers_tried, number_found, looked_by, countings_of, HasAt, IsTold, IsBy, EntryTells, TellsOf, IsInOneOrder}
-use Rattle.shr_assemble.specs.Entries.{MayMake}
-use Rattle.shr_assemble.specs.Lookups.{number_made}
-use Rattle.shr_assemble.specs.Runs.{IsRun}
-use Rattle.shr_assemble.specs.Steps.{Step, IsAmong, steps_of}
+use Rattle.shr_report.specs.OneOrder.{numbers_tried, number_found, IsTold, TellsOf}
 use Rattle.shr_assemble.proofs.CountsTold.{at_behind, at_less, mine, count_spot, CountAt, count_at, one_seen}
-use Rattle.shr_assemble.proofs.EventsTold.{is_entry, is_lookup, is_turn, entry_tells, lookup_tells, turn_tells, alone, core_of, one_try, has_at, not_below, registered, registered_flat}
+use Rattle.shr_assemble.proofs.EventsTold.{is_entry, is_lookup, is_turn, entry_tells, lookup_tells, turn_tells, alone, core_of, one_try, not_below, registered, registered_flat}
 use Rattle.shr_assemble.proofs.FreshLaw.{step_cases, begins_length}
 use Rattle.shr_assemble.proofs.Chains.{first_grows}
 use Rattle.shr_assemble.proofs.Flattening.{slice_map}
-use Rattle.shr_assemble.proofs.Gathering.{each_among, some_at}
+use Rattle.shr_assemble.proofs.Gathering.{each_among}
 use Rattle.shr_assemble.proofs.IsolationSteps.{scanned_by, visited_by}
 use Rattle.shr_assemble.proofs.LineOrder.{has_made, looked_in, has_looked, has_turned, later_did}
 use Rattle.shr_assemble.proofs.Makers.{turn_stands, turn_maker}
@@ -51,6 +17,7 @@ use Rattle.shr_assemble.proofs.Operations.{has_among, among_has}
 use Rattle.shr_assemble.proofs.PoolPast.{turn_by}
 use Rattle.shr_assemble.proofs.Spots.{spot_of, spot_there, spots_rise, first_of, Passes, first_there, kind_spot, kind_there, kinds_rise}
 use Rattle.shr_assemble.proofs.WalksLaw.{walks_are}
+use Rattle.shr_assemble.proofs.Crews.{there_at}
 
 module _ (s : Script) (r : Report) (workers : List (List Step)) (run : IsRun s r workers) where
   -- an event is that of what is told
@@ -369,7 +336,7 @@ module _ (s : Script) (r : Report) (workers : List (List Step)) (run : IsRun s r
 
   pub counted_rise : (worker m n : ℕ) → m < n → n < length (countings_of r worker) → rank (count worker m) < rank (count worker n)
   counted_rise worker m n lt less =
-      let told = has_at (countings_of r worker) n less in
+      let told = there_at (countings_of r worker) n less in
       let t : CountAt s r workers run worker n told.0 = count_at s r workers run worker n told.0 told.1 in
       let up = spots_rise (1 + worker) run.order.line (count_spot s r workers run worker m) (count_spot s r workers run worker n) t.deed t.there (kinds_rise seen_in one_seen (acts_of (mine s r workers run worker)) m n lt t.less) in
       omega (arith, up)

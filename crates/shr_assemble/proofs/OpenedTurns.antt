@@ -1,16 +1,5 @@
 -- The entries by which the caches that are on were registered, in order.
-use Rattle.std.proofs.Common.{◌≡◌, ℕ, zero, suc, ◌+◌, ◌<◌, ◌≤◌, ◌⊎◌, inl, inr, ⊎_elim, Bool, true, false, cond, List, [], ◌∷◌, ◌++◌, length, length-append, append_assoc, sym, refl, ap, subst, ◌∙◌, arith}
-use Rattle.std.specs.Prelude.{slice_get, Some, None, filter_map}
-use Rattle.std.specs.List.{enumerate_from, cons_option}
-use Rattle.std.proofs.lemmas.List.{append-nil}
-use Rattle.std.proofs.lemmas.Option.{same_Some, none-some, slice_get_within}
-use Rattle.shr_base.specs.declared.journals.PoolEntry.{PoolEntry}
-use Rattle.shr_base.specs.declared.journals.PoolEntry.TheVariants.{Registered}
-use Rattle.shr_base.specs.declared.scripts.CacheDecl.{CacheDecl}
-use Rattle.shr_core.specs.declared.view.View.{View}
-use Rattle.shr_core.specs.Parts.{Turn}
-use Rattle.shr_core.specs.Rule.{opener}
-use Rattle.shr_tables.specs.Opened.{Enters, EntersIf, AreEntered, is_on}
+use Rattle.shr_assemble.proofs.Common.{◌≡◌, ℕ, zero, suc, ◌+◌, ◌<◌, ◌≤◌, ◌⊎◌, inl, inr, ⊎_elim, Bool, true, false, cond, List, [], ◌∷◌, ◌++◌, length, length-append, append_assoc, sym, refl, ap, subst, ◌∙◌, arith, slice_get, Some, None, filter_map, enumerate_from, cons_option, append-nil, same_Some, none-some, slice_get_within, PoolEntry, Registered, CacheDecl, View, Turn, opener, Enters, EntersIf, AreEntered, is_on}
 use Rattle.shr_assemble.proofs.RisingTurns.{AreUp, up_push}
 
 -- those of the first declarations that are on, where the first has this number

@@ -1,16 +1,6 @@
 -- What the first seats have once the caches that are on were registered: entries of the journal of registrations, and nothing
 -- else.
-use Rattle.std.proofs.Common.{◌≡◌, ℕ, zero, suc, ◌+◌, ◌<◌, ◌≤◌, Bool, true, false, cond, List, [], ◌∷◌, length, length-append, sym, refl, ap, subst, ◌∙◌, arith}
-use Rattle.std.specs.Prelude.{slice_get, Option, Some, None, filter_map}
-use Rattle.std.specs.List.{enumerate_from, cons_option}
-use Rattle.std.proofs.lemmas.List.{append-nil}
-use Rattle.shr_base.specs.declared.journals.PoolEntry.{PoolEntry}
-use Rattle.shr_base.specs.declared.journals.PoolEntry.TheVariants.{Registered}
-use Rattle.shr_base.specs.declared.scripts.CacheDecl.{CacheDecl}
-use Rattle.shr_seats.specs.Weights.{times}
-use Rattle.shr_core.specs.declared.view.View.{View}
-use Rattle.shr_core.specs.Rule.{opener}
-use Rattle.shr_tables.specs.Opened.{Enters, EntersIf, AreEntered, is_on}
+use Rattle.shr_assemble.proofs.Common.{◌≡◌, ℕ, zero, suc, ◌+◌, ◌<◌, ◌≤◌, Bool, true, false, cond, List, [], ◌∷◌, length, length-append, sym, refl, ap, subst, ◌∙◌, arith, slice_get, Option, Some, None, filter_map, enumerate_from, cons_option, append-nil, PoolEntry, Registered, CacheDecl, times, View, opener, Enters, EntersIf, AreEntered, is_on}
 
 -- nothing was made, counted, set, cleared, seen or looked up, and no bit is owed
 pub record IsFresh (v : View) : Type 0 where

@@ -1,25 +1,7 @@
 -- The operations of a command in a group, as the report has them, are those that its step made, in order.
-use Rattle.std.proofs.Common.{◌≡◌, ℕ, zero, suc, ◌<◌, inl, inr, ⊎_elim, Bool, true, false, cond, List, [], ◌∷◌, ◌++◌, sym, refl, ap, subst, ◌∙◌, arith, eqb, eq-eqb}
-use Rattle.std.specs.Prelude.{slice_get, Some, filter, AllPairs}
-use Rattle.std.specs.List.{AllByRecursion}
-use Rattle.std.proofs.lemmas.Bool.{and_parts, and_from, eqb-true}
-use Rattle.std.proofs.lemmas.List.{length-take-le}
-use Rattle.std.proofs.lemmas.List.Sorted.{Contains-permutation, IsPermutation-sym}
-use Rattle.std.proofs.lemmas.Option.{same_Some, none-some, slice_get_within, get_or_from_slice_get}
-use Rattle.shr_base.specs.declared.journals.UseStep.{UseStep}
-use Rattle.shr_base.specs.declared.places.Serial.{Serial}
-use Rattle.shr_base.specs.declared.scripts.Script.{Script}
-use Rattle.shr_model.specs.Charges.{is_by, ops_by, IsChargeHistory}
-use Rattle.shr_model.proofs.Members.{Has, Has_from_Contains, Contains_from_Has, each_has, Has_filter, filter_has}
-use Rattle.shr_charge.specs.Charging.{AreRising, IsLaterThan}
-use Rattle.shr_walk.specs.State.{WorkerState}
-use Rattle.shr_report.specs.declared.report.Report.{Report}
-use Rattle.shr_report.specs.Parts.{uses_at, serial_of}
-use Rattle.shr_assemble.specs.Steps.{Step, IsAmong, steps_of, AreChained}
-use Rattle.shr_assemble.specs.Charges.{ops_at}
-use Rattle.shr_assemble.specs.Runs.{all_ops, IsRun}
-use Rattle.shr_assemble.proofs.Gathering.{HasStep, has_step, gathered_has, same_step, at_some}
-use Rattle.shr_assemble.proofs.Listed.{all_among, by_slices, contains_among, slice_contains}
+use Rattle.shr_assemble.proofs.Common.{◌≡◌, ℕ, zero, suc, ◌<◌, inl, inr, ⊎_elim, Bool, true, false, cond, List, [], ◌∷◌, ◌++◌, sym, refl, ap, subst, ◌∙◌, arith, eqb, eq-eqb, slice_get, Some, filter, AllPairs, AllByRecursion, and_parts, and_from, eqb-true, length-take-le, Contains-permutation, IsPermutation-sym, same_Some, none-some, slice_get_within, get_or_from_slice_get, UseStep, Serial, Script, is_by, ops_by, IsChargeHistory, Has, Has_from_Contains, Contains_from_Has, each_has, Has_filter, filter_has, AreRising, IsLaterThan, WorkerState, Report, uses_at, serial_of, Step, IsAmong, steps_of, AreChained, ops_at, all_ops, IsRun, at_some, by_slices}
+use Rattle.shr_assemble.proofs.Gathering.{HasStep, has_step, gathered_has, same_step}
+use Rattle.shr_assemble.proofs.Listed.{all_among, contains_among, slice_contains}
 use Rattle.shr_assemble.proofs.Making.{work_of}
 
 -- ---- pairs of a list, by recursion
@@ -91,7 +73,7 @@ same_rising (x ∷ xs) (y ∷ ys) a b to from = let rest : xs ≡ ys = same_risi
 is_by_same : (by : Serial) (o : UseStep) → is_by by o ≡ true → o.by ≡ by
 is_by_same by o h = let t = and_parts (eqb o.by.worker by.worker) (eqb o.by.command by.command) h in let w = eqb-true o.by.worker by.worker t.0 in let c = eqb-true o.by.command by.command t.1 in λ i. record { worker = w i; command = c i }
 
-is_by_own : (by : Serial) (o : UseStep) → o.by ≡ by → is_by by o ≡ true
+pub is_by_own : (by : Serial) (o : UseStep) → o.by ≡ by → is_by by o ≡ true
 is_by_own by o e = and_from (eqb o.by.worker by.worker) (eqb o.by.command by.command) (eq-eqb o.by.worker by.worker (ap (λ (z : Serial). z.worker) e)) (eq-eqb o.by.command by.command (ap (λ (z : Serial). z.command) e))
 
 pub has_among : {A : Type 0} (xs : List A) (x : A) → Has xs x → IsAmong x xs

@@ -1,23 +1,8 @@
 -- Whether the ups of operations in a group were refused, in order, and what the tries of a charge come to there.
-use Rattle.std.proofs.Common.{◌≡◌, ◌≢◌, ℕ, ◌+◌, ◌<◌, ◌&&◌, ◌||◌, inl, inr, ⊎_elim, Bool, true, false, not, cond, ◌==◌, List, [], ◌∷◌, ◌++◌, length, map, refl, sym, ap, subst, ◌∙◌, arith, append_assoc, eq-eqb, ne_eqb, T}
-use Rattle.std.specs.Prelude.{Option, Some, None, filter, replicate, pos, int_lt}
-use Rattle.std.specs.List.{AllByRecursion, list_any}
-use Rattle.std.proofs.lemmas.Bool.{cases_Bool, eqb-true}
-use Rattle.std.proofs.lemmas.List.{append-nil}
-use mathlib.Core.Logic.{dite}
-use native.Mathlib.Decide.{ℕ_discrete}
-use Rattle.shr_base.specs.declared.journals.UseStep.{UseStep}
-use Rattle.shr_model.specs.Charges.{is_refused, IsBelow}
-use Rattle.shr_model.specs.Freeings.{is_at_or_above}
-use Rattle.shr_model.specs.Groups.{IsTree, parent_of, path_of}
-use Rattle.shr_model.proofs.GroupsLaws.{path_of-root, path_of-below}
-use Rattle.shr_model.proofs.GroupsOrder.{IsOn, by_parents, on_self, on_le}
-use Rattle.shr_model.proofs.Members.{Has}
-use Rattle.shr_charge.specs.Paths.{path_to}
-use Rattle.shr_charge.proofs.Ways.{way_here, way_root, way_up}
-use Rattle.shr_reclaim.proofs.Netting.{times_of, count_first}
-use Rattle.shr_reclaim.proofs.Refusing.{way_once}
+use Rattle.shr_assemble.proofs.Common.{◌≡◌, ◌≢◌, ℕ, ◌+◌, ◌<◌, ◌&&◌, ◌||◌, inl, inr, ⊎_elim, Bool, true, false, not, cond, ◌==◌, List, [], ◌∷◌, ◌++◌, length, map, refl, sym, ap, subst, ◌∙◌, arith, append_assoc, eq-eqb, ne_eqb, Option, Some, None, filter, replicate, pos, AllByRecursion, list_any, cases_Bool, eqb-true, append-nil, dite, ℕ_discrete, UseStep, is_refused, IsBelow, is_at_or_above, IsTree, parent_of, path_of, path_of-root, path_of-below, IsOn, by_parents, on_self, on_le, Has, path_to, way_here, way_root, way_up, times_of, count_first, way_once}
+use Rattle.std.specs.Prelude.{int_lt}
 use Rattle.shr_assemble.proofs.WalkingCharges.{GoesDown}
+use Rattle.shr_reclaim.proofs.Netting.{below_not, not_true}
 
 -- whether each up was refused
 abbrev pub outcomes : Option ℕ → List UseStep → List Bool
@@ -77,22 +62,6 @@ down_outcomes limit (o ∷ ops) h = ap {A = Bool} (λ (t : Bool). map (is_refuse
 -- an up that found room
 abbrev pub FoundRoom : Option ℕ → UseStep → Type 0
 FoundRoom limit o = (o.up ≡ true) × IsBelow limit o
-
-is_true : (b : Bool) → T b → b ≡ true
-is_true true h = refl
-is_true false h = absurd h
-
-not_true : (b : Bool) → (T b → ⊥) → b ≡ false
-not_true true h = absurd (h tt)
-not_true false h = refl
-
-and_false : (b : Bool) → (b && false) ≡ false
-and_false true = refl
-and_false false = refl
-
-below_not : (limit : Option ℕ) (o : UseStep) → IsBelow limit o → is_refused limit o ≡ false
-below_not None o h = refl
-below_not (Some l) o h = ap (λ (b : Bool). o.up && not b) (is_true (int_lt o.found (pos l)) h.lt) ∙ and_false o.up
 
 over_is : (limit : Option ℕ) (o : UseStep) → o.up ≡ true → (IsBelow limit o → ⊥) → is_refused limit o ≡ true
 over_is None o up h = absurd (h tt)

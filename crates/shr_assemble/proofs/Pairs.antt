@@ -1,9 +1,7 @@
 -- Pairs of elements of lists, and elements of beginnings.
-use Rattle.std.proofs.Common.{inl, inr, List, [], ◌∷◌, ◌++◌, sym, subst}
-use Rattle.std.specs.List.{AllByRecursion}
-use Rattle.shr_model.proofs.Members.{Has, each_has}
-use Rattle.shr_seats.specs.Weights.{Begins}
+use Rattle.shr_assemble.proofs.Common.{inl, inr, List, [], ◌∷◌, ◌++◌, sym, subst, AllByRecursion, Has, each_has, Begins}
 use Rattle.shr_assemble.proofs.Operations.{PairsRec}
+use Rattle.shr_assemble.proofs.LineParts.{has_right}
 
 -- an element and one of the list behind it
 pub across : {A : Type 0} (R : A → A → Type 0) (xs ys : List A) (x y : A) → PairsRec R (xs ++ ys) → Has xs x → Has ys y → R x y
@@ -32,10 +30,6 @@ Has_begins xs ys x b has = subst (λ l. Has l x) (sym b.1) (left xs b.0 has)
     left [] vs h = absurd h
     left (u ∷ us) vs (inl e) = inl e
     left (u ∷ us) vs (inr h) = inr (left us vs h)
-
-pub Has_after : {A : Type 0} (xs ys : List A) (x : A) → Has ys x → Has (xs ++ ys) x
-Has_after [] ys x h = h
-Has_after (y ∷ xs) ys x h = inr (Has_after xs ys x h)
 
 -- what follows where an element is of the one list, and where it is of the other
 pub either : {A C : Type 0} (xs ys : List A) (x : A) → Has (xs ++ ys) x → (Has xs x → C) → (Has ys x → C) → C

@@ -1,36 +1,12 @@
 -- What a set_pin did.
-use Rattle.std.proofs.Common.{◌≡◌, ℕ, ◌<◌, inl, Bool, true, false, List, length, refl, ap, arith}
-use Rattle.std.specs.Prelude.{Option, Some, None}
-use Rattle.shr_base.specs.declared.objects.Object.{Object}
-use Rattle.shr_base.specs.declared.places.Serial.{Serial}
-use Rattle.shr_base.specs.declared.places.At.{At}
-use Rattle.shr_base.specs.declared.journals.Entry.{Entry}
-use Rattle.shr_base.specs.declared.journals.Entry.TheVariants.{Pin}
-use Rattle.shr_base.specs.declared.replies.Answered.{Answered}
-use Rattle.shr_base.specs.declared.replies.Found.{Found}
-use Rattle.shr_base.specs.declared.replies.Reply.{Reply}
+use Rattle.shr_assemble.proofs.Common.{◌≡◌, ℕ, ◌<◌, inl, Bool, true, false, List, length, refl, ap, arith, Option, Some, None, Object, Serial, At, Entry, Pin, Answered, Found, Reply, Spent, Command, SetPin, is_named, holds, pinned_object, length_change_first, View, shape_of, Listed, IsObjectWithin, content_of, Shared, WorkerState, parents_of, is_past_group, same_Some, none-some}
 use Rattle.shr_base.specs.declared.replies.Reply.TheVariants as reply
-use Rattle.shr_base.specs.declared.replies.Spent.{Spent}
 use Rattle.shr_base.specs.declared.replies.Spent.TheVariants as spent
-use Rattle.shr_base.specs.declared.scripts.Command.{Command}
-use Rattle.shr_base.specs.declared.scripts.Command.TheVariants.{SetPin}
-use Rattle.shr_model.specs.Objects.{is_named, holds, pinned_object}
-use Rattle.shr_model.proofs.ObjectLaws.{length_change_first}
-use Rattle.shr_core.specs.declared.view.View.{View}
-use Rattle.shr_core.specs.Seats.{shape_of}
 use Rattle.shr_list.specs.Answers.{pin_entry}
-use Rattle.shr_list.specs.Listed.{Listed}
 use Rattle.shr_node.specs.declared.answers.NodePin.{NodePin}
 use Rattle.shr_node.specs.declared.answers.NodePin.TheVariants as pin
 use Rattle.shr_node.specs.Answers as lists
-use Rattle.shr_script.specs.Bounds.{IsObjectWithin}
-use Rattle.shr_script.specs.Content.{content_of}
-use Rattle.shr_walk.specs.declared.seats.Shared.{Shared}
-use Rattle.shr_walk.specs.State.{WorkerState}
 use Rattle.shr_cache.specs.Pins.{Pins, PinnedFrom, PinnedAs, PinGives}
-use Rattle.shr_report.specs.Parts.{parents_of}
-use Rattle.shr_report.specs.Freshness.{is_past_group}
-use Rattle.std.proofs.lemmas.Option.{same_Some, none-some}
 use Rattle.shr_assemble.proofs.Quiet.{HasDid, some_met}
 use Rattle.shr_assemble.proofs.QuietSteps.{AreTables}
 use Rattle.shr_assemble.proofs.QuietTenant.{IsTenant, group_in, refused_did, acted_did, stood_did, stood_step, cites_is, list_worn}

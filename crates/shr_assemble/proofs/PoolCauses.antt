@@ -1,55 +1,25 @@
 -- The causes of answers of `unregister` that ended a registration.
-use Rattle.std.proofs.Common.{◌≡◌, ℕ, zero, suc, ◌+◌, ◌%◌, ◌<◌, ◌≤◌, ⊎_elim, inl, inr, Bool, true, false, ◌||◌, cond, eqb, List, [], ◌∷◌, ◌++◌, length, take, drop, refl, sym, ap, subst, ◌∙◌, arith, eq-eqb}
-use Rattle.std.specs.Prelude.{slice_get, Some, sum_by, nat_lt}
-use Rattle.std.specs.List.{list_any}
-use Rattle.std.proofs.lemmas.Bool.{cases_Bool, cases_lt, eqb-true, and_parts}
-use Rattle.std.proofs.lemmas.Option.{same_Some, none-some, slice_get_within}
-use mathlib.Core.Logic.{dite}
-use native.Mathlib.Decide.{ℕ_discrete}
-use Rattle.shr_base.specs.declared.journals.Entry.{Entry}
-use Rattle.shr_base.specs.declared.journals.Entry.TheVariants.{Add, Look, Drop, Pin, Scan, MovedIn, Closed, Drained}
-use Rattle.shr_base.specs.declared.journals.PoolEntry.{PoolEntry}
-use Rattle.shr_base.specs.declared.journals.PoolEntry.TheVariants.{Registered, Unregistered, Idle}
-use Rattle.shr_base.specs.declared.places.Place.{Place}
-use Rattle.shr_base.specs.declared.places.Serial.{Serial}
-use Rattle.shr_base.specs.declared.replies.HalfWhy.{HalfWhy}
-use Rattle.shr_base.specs.declared.replies.Reply.{Reply}
+use Rattle.shr_assemble.proofs.Common.{◌≡◌, ℕ, zero, suc, ◌+◌, ◌%◌, ◌<◌, ◌≤◌, ⊎_elim, inl, inr, Bool, true, false, ◌||◌, cond, eqb, List, [], ◌∷◌, ◌++◌, length, take, drop, refl, sym, ap, subst, ◌∙◌, arith, eq-eqb, slice_get, Some, sum_by, nat_lt, list_any, cases_Bool, cases_lt, eqb-true, and_parts, same_Some, none-some, slice_get_within, dite, ℕ_discrete, Entry, Add, Look, Drop, Pin, Scan, MovedIn, Closed, Drained, PoolEntry, Registered, Unregistered, Idle, Place, Serial, HalfWhy, Reply, Script, is_serial, phase_of, from_of, phase_of_push, Made, Turn, Report, decls_on, serial_of, drained_by, IsFreed, Step, steps_of, IsCausedBy, IsDrained, MayMake, Drains, IsTurnOf, IsRun, all_zero, some_at}
 use Rattle.shr_base.specs.declared.replies.Reply.TheVariants as reply
-use Rattle.shr_base.specs.declared.scripts.Script.{Script}
-use Rattle.shr_model.specs.Commands.{is_serial}
-use Rattle.shr_model.specs.Pool.{id_of, phase_of, from_of}
-use Rattle.shr_model.proofs.PoolLaws.{phase_of_push}
+use Rattle.shr_model.specs.Pool.{id_of}
 use Rattle.shr_core.specs.Layout as layout
-use Rattle.shr_core.specs.Parts.{Made, Turn}
 use Rattle.shr_core.proofs.LookupSteps.{lowest_free_is}
-use Rattle.shr_report.specs.declared.report.Report.{Report}
-use Rattle.shr_report.specs.Parts.{decls_on, serial_of}
-use Rattle.shr_report.specs.Causes.{drained_by, drained_of, is_idle_entry, became_idle, IsUnregistered, IsFreed}
-use Rattle.shr_assemble.specs.Steps.{Step, steps_of}
-use Rattle.shr_assemble.specs.Causes.{IsUnregisteredBy, IsFreedBy, IsHalfBy, IsCausedBy}
-use Rattle.shr_assemble.specs.Entries.{IsDrained, MayMake, Drains}
-use Rattle.shr_assemble.specs.Pool.{IsTurnOf}
-use Rattle.shr_assemble.specs.Runs.{IsRun}
-use Rattle.shr_assemble.proofs.Gathering.{each_among, some_at, same_step}
+use Rattle.shr_report.specs.Causes.{drained_of, is_idle_entry, became_idle, IsUnregistered}
+use Rattle.shr_assemble.specs.Causes.{IsUnregisteredBy, IsFreedBy, IsHalfBy}
+use Rattle.shr_assemble.proofs.Gathering.{each_among, same_step}
 use Rattle.shr_assemble.proofs.Making.{maker}
 use Rattle.shr_assemble.proofs.Makers.{turn_maker, turn_stands, one_turn_maker}
 use Rattle.shr_assemble.proofs.EntrySums.{entries_of_step}
-use Rattle.shr_assemble.proofs.ScansLaw.{all_zero}
 use Rattle.shr_assemble.proofs.Shown.{pool_known}
-use Rattle.shr_assemble.proofs.WalksLaw.{is_serial_same}
 use Rattle.shr_assemble.proofs.Listed.{no_test}
+use Rattle.shr_assemble.proofs.LimitsLaw.{serial_same}
+use Rattle.shr_assemble.proofs.Crews.{there_at}
 
 -- ---- one entry more
 take_next : {A : Type 0} (xs : List A) (n : ℕ) (x : A) → slice_get xs n ≡ Some x → take (n + 1) xs ≡ take n xs ++ x ∷ []
 take_next [] n x e = absurd (none-some x e)
 take_next (y ∷ xs) zero x e = ap (λ z. z ∷ []) (same_Some y x e)
 take_next (y ∷ xs) (suc n) x e = (let z : suc n + 1 ≡ suc (n + 1) = omega arith in ap (λ i. take i (y ∷ xs)) z) ∙ ap (λ l. y ∷ l) (take_next xs n x e)
-
--- an element within a list
-there_at : {A : Type 0} (xs : List A) (n : ℕ) → n < length xs → (x : A) × (slice_get xs n ≡ Some x)
-there_at [] n lt = absurd (omega (arith, lt))
-there_at (x ∷ xs) zero lt = (x, refl)
-there_at (x ∷ xs) (suc n) lt = there_at xs n (omega (arith, lt))
 
 -- how far a number is above another
 apart_by : (n m : ℕ) → n < m → (g : ℕ) × (m ≡ n + 1 + g)
@@ -123,7 +93,7 @@ module _ (s : Script) (r : Report) (workers : List (List Step)) (run : IsRun s r
     drained_other by m (MovedIn child objects) y may ne = refl
     drained_other by m Closed y may ne = refl
     drained_other by m (Drained b objects) y may ne = let t : IsDrained y m b = may in
-        ap (λ c. cond c objects 0) (no_test (is_serial by b) (λ same. ne (sym (is_serial_same by b same ∙ t.own))))
+        ap (λ c. cond c objects 0) (no_test (is_serial by b) (λ same. ne (sym (serial_same by b same ∙ t.own))))
 
     drained_is : sum_by (λ (m : Made). drained_by x.by m.entry) x.work.core.made ≡ drained_of r x.by
     drained_is = sym (entries_of_step s r workers run (drained_by x.by) worker k x at (λ v j y at_y apart.

@@ -1,33 +1,12 @@
 -- What a release and a grab did at the tables of the caches: nothing.
-use Rattle.std.proofs.Common.{◌≡◌, ℕ, List, [], refl, sym, subst, ◌∙◌}
-use Rattle.std.specs.Prelude.{Some, None}
-use Rattle.std.proofs.lemmas.Option.{none-some}
-use Rattle.shr_base.specs.declared.places.Place.{Place}
-use Rattle.shr_base.specs.declared.places.Serial.{Serial}
-use Rattle.shr_base.specs.declared.replies.Answered.{Answered}
-use Rattle.shr_base.specs.declared.replies.Reply.{Reply}
+use Rattle.shr_assemble.proofs.Common.{◌≡◌, ℕ, List, [], refl, sym, subst, ◌∙◌, Some, None, none-some, Place, Serial, Answered, Reply, Spent, Command, Release, Grab, Script, Family, GrabAnswer, ReleaseAnswer, PlainState, Shared, WorkerState, no_work, CrewState, DeedGives, units_place, unfound, pool_told, pool_made, made_shown, parents_of, cited_by, IsReply, IsCausedBy}
 use Rattle.shr_base.specs.declared.replies.Reply.TheVariants as reply
-use Rattle.shr_base.specs.declared.replies.Spent.{Spent}
 use Rattle.shr_base.specs.declared.replies.Spent.TheVariants as spent
-use Rattle.shr_base.specs.declared.scripts.Command.{Command}
-use Rattle.shr_base.specs.declared.scripts.Command.TheVariants.{Release, Grab}
-use Rattle.shr_base.specs.declared.scripts.Script.{Script}
-use Rattle.shr_model.specs.Families.{Family}
-use Rattle.shr_plain.specs.declared.answers.GrabAnswer.{GrabAnswer}
 use Rattle.shr_plain.specs.declared.answers.GrabAnswer.TheVariants as grab
-use Rattle.shr_plain.specs.declared.answers.ReleaseAnswer.{ReleaseAnswer}
 use Rattle.shr_plain.specs.declared.answers.ReleaseAnswer.TheVariants as release
 use Rattle.shr_plain.specs.Answers.{ReleaseGives, GrabGives}
-use Rattle.shr_plain.specs.Seat.{PlainState}
-use Rattle.shr_walk.specs.declared.seats.Shared.{Shared}
-use Rattle.shr_walk.specs.State.{WorkerState, no_work}
-use Rattle.shr_worker.specs.Chain.{CrewState, DeedGives}
-use Rattle.shr_worker.specs.Plain.{units_place, units_room}
-use Rattle.shr_worker.specs.Replies.{unfound, release_reply, grab_reply}
-use Rattle.shr_report.specs.Freshness.{pool_told, pool_made, made_shown}
-use Rattle.shr_report.specs.Parts.{parents_of, cited_by}
-use Rattle.shr_report.specs.ReplyTable.{IsReply}
-use Rattle.shr_assemble.specs.Causes.{IsCausedBy}
+use Rattle.shr_worker.specs.Plain.{units_room}
+use Rattle.shr_worker.specs.Replies.{release_reply, grab_reply}
 use Rattle.shr_assemble.proofs.Quiet.{step_of, HasDid, meets_none}
 use Rattle.shr_assemble.proofs.QuietNothing.{nothing_did}
 use Rattle.shr_assemble.proofs.QuietTenant.{without}

@@ -1,25 +1,7 @@
 -- What an answer made of the journal of registrations its worker knows at the end of the command.
-use Rattle.std.proofs.Common.{◌≡◌, ℕ, ◌+◌, ◌<◌, ◌≤◌, ⊎_elim, List, length, take, sym, refl, ap, subst, ◌∙◌, arith}
-use Rattle.std.specs.Prelude.{slice_get, Option, Some, option_map}
-use Rattle.std.specs.List.{AllByRecursion}
-use Rattle.std.specs.Option.{IsSomeAnd}
-use Rattle.shr_base.specs.declared.journals.PoolEntry.{PoolEntry}
-use Rattle.shr_base.specs.declared.journals.PoolEntry.TheVariants.{Registered, Unregistered, Idle}
-use Rattle.shr_base.specs.declared.replies.Answered.{Answered}
-use Rattle.shr_base.specs.declared.replies.Reply.{Reply}
+use Rattle.shr_assemble.proofs.Common.{◌≡◌, ℕ, ◌+◌, ◌<◌, ◌≤◌, ⊎_elim, List, length, take, sym, refl, ap, subst, ◌∙◌, arith, slice_get, Option, Some, option_map, AllByRecursion, IsSomeAnd, PoolEntry, Registered, Unregistered, Idle, Answered, Reply, Script, phase_of, each_weaker, Turn, Report, IsMadeBy, pool_seen, pool_made, of_answer, serial_of, reply_at, DidPool, IsTurnOf, Step, IsAmong, steps_of, IsRun}
 use Rattle.shr_base.specs.declared.replies.Reply.TheVariants as reply
-use Rattle.shr_base.specs.declared.scripts.Script.{Script}
-use Rattle.shr_model.specs.Pool.{phase_of}
-use Rattle.shr_model.proofs.BagLaws.{each_weaker}
-use Rattle.shr_core.specs.Parts.{Turn}
-use Rattle.shr_report.specs.declared.report.Report.{Report}
-use Rattle.shr_report.specs.Causes.{IsMadeBy}
-use Rattle.shr_report.specs.Freshness.{pool_seen, pool_made, of_answer}
-use Rattle.shr_report.specs.Parts.{serial_of, reply_at}
 use Rattle.shr_assemble.specs.Causes as by
-use Rattle.shr_assemble.specs.Pool.{DidPool, IsTurnOf}
-use Rattle.shr_assemble.specs.Steps.{Step, IsAmong, steps_of}
-use Rattle.shr_assemble.specs.Runs.{IsRun}
 use Rattle.shr_assemble.proofs.FreshLaw.{of_is, step_cases, none_given, begins_length}
 use Rattle.shr_assemble.proofs.Gathering.{each_among}
 use Rattle.shr_assemble.proofs.Makers.{turn_stands}

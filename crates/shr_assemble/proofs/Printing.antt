@@ -1,11 +1,6 @@
 -- Which part is the last that has an answer.
-use Rattle.std.proofs.Common.{◌≡◌, ℕ, zero, suc, ◌+◌, ◌<◌, ◌≤◌, ⊎_elim, List, [], ◌∷◌, length, take, refl, sym, ap, subst, ◌∙◌, arith}
-use Rattle.std.specs.Prelude.{slice_get, Some}
-use Rattle.std.proofs.lemmas.Bool.{cases_order}
-use Rattle.std.proofs.lemmas.List.{length-take-le}
-use Rattle.std.proofs.lemmas.Option.{slice_get_within, none-some}
-use Rattle.shr_base.specs.declared.ends.WorkerPart.{WorkerPart}
-use Rattle.shr_assemble.specs.Noting.{IsLastAnswered}
+use Rattle.shr_assemble.proofs.Common.{◌≡◌, ℕ, zero, suc, ◌+◌, ◌<◌, ◌≤◌, ⊎_elim, List, [], ◌∷◌, length, take, refl, sym, ap, subst, ◌∙◌, arith, slice_get, Some, cases_order, length-take-le, slice_get_within, WorkerPart, IsLastAnswered, take_below}
+use Rattle.shr_model.proofs.Lists.{some_injective}
 
 pub is_empty : {A : Type 0} (xs : List A) → length xs ≡ 0 → xs ≡ []
 is_empty [] e = refl
@@ -22,16 +17,6 @@ get_taken (x ∷ xs) zero i lt = absurd (omega (arith, lt))
 get_taken (x ∷ xs) (suc n) zero lt = refl
 get_taken (x ∷ xs) (suc n) (suc i) lt = get_taken xs n i (omega (arith, lt))
 
-pub taken_within : {A : Type 0} (xs : List A) (n i : ℕ) (x : A) → slice_get (take n xs) i ≡ Some x → i < n
-taken_within [] zero i x e = absurd (none-some x e)
-taken_within [] (suc n) i x e = absurd (none-some x e)
-taken_within (y ∷ xs) zero i x e = absurd (none-some x e)
-taken_within (y ∷ xs) (suc n) zero x e = omega arith
-taken_within (y ∷ xs) (suc n) (suc i) x e = let lt = taken_within xs n i x e in omega (arith, lt)
-
-same_some : {A : Type 0} (x y : A) → Some x ≡ Some y → x ≡ y
-same_some x y e = cc
-
 module _ (parts : List WorkerPart) (n : ℕ) (p : WorkerPart) (at : slice_get parts n ≡ Some p) where
   one_more : length (take (n + 1) parts) ≡ n + 1
   one_more = let lt = slice_get_within parts n p at in length-take-le (n + 1) parts (omega (arith, lt))
@@ -46,9 +31,9 @@ module _ (parts : List WorkerPart) (n : ℕ) (p : WorkerPart) (at : slice_get pa
   pub next_answered : 0 < length p.answers.items → IsLastAnswered (take (n + 1) parts) (n + 1)
   next_answered some = record {
     within = let e = one_more in omega (arith, e);
-    after = λ i q le e. absurd (let lt = taken_within parts (n + 1) i q e in omega (arith, lt, le));
+    after = λ i q le e. absurd (let lt = take_below parts (n + 1) i q e in omega (arith, lt, le));
     answered = λ i q is e. let same : i ≡ n = omega (arith, is) in
-        subst (λ (z : WorkerPart). 0 < length z.answers.items) (same_some p q (sym here ∙ (ap (slice_get (take (n + 1) parts)) (sym same) ∙ e))) some;
+        subst (λ (z : WorkerPart). 0 < length z.answers.items) (some_injective p q (sym here ∙ (ap (slice_get (take (n + 1) parts)) (sym same) ∙ e))) some;
   }
 
   -- or none
@@ -56,8 +41,8 @@ module _ (parts : List WorkerPart) (n : ℕ) (p : WorkerPart) (at : slice_get pa
   next_silent many last none = record {
     within = let e = one_more in let le = last.within in let few = short parts n in omega (arith, e, le, few);
     after = λ i q le e. ⊎_elim
-        (λ same. subst (λ (z : WorkerPart). z.answers.items ≡ []) (same_some p q (sym here ∙ (ap (slice_get (take (n + 1) parts)) (sym same) ∙ e))) none)
-        (⊎_elim (λ lt. last.after i q le (sym (before i lt) ∙ e)) (λ gt. absurd (let lt = taken_within parts (n + 1) i q e in omega (arith, lt, gt))))
+        (λ same. subst (λ (z : WorkerPart). z.answers.items ≡ []) (some_injective p q (sym here ∙ (ap (slice_get (take (n + 1) parts)) (sym same) ∙ e))) none)
+        (⊎_elim (λ lt. last.after i q le (sym (before i lt) ∙ e)) (λ gt. absurd (let lt = take_below parts (n + 1) i q e in omega (arith, lt, gt))))
         (cases_order i n);
     answered = λ i q is e. let le = last.within in let few = short parts n in last.answered i q is (sym (before i (omega (arith, is, le, few))) ∙ e);
   } where
@@ -70,6 +55,6 @@ module _ (parts : List WorkerPart) (n : ℕ) (p : WorkerPart) (at : slice_get pa
 pub none_yet : (parts : List WorkerPart) → IsLastAnswered (take 0 parts) 0
 none_yet parts = record {
   within = omega arith;
-  after = λ i p le e. absurd (let lt = taken_within parts 0 i p e in omega (arith, lt));
+  after = λ i p le e. absurd (let lt = take_below parts 0 i p e in omega (arith, lt));
   answered = λ i p is e. absurd (omega (arith, is));
 }

@@ -1,52 +1,16 @@
 -- What a put's charge with its reclaim did, by its answer: its rounds, and its operations group by group.
-use Rattle.std.proofs.Common.{◌≡◌, ℕ, suc, ◌+◌, ◌-◌, ◌<◌, ◌≤◌, inl, inr, ⊎_elim, List, [], ◌∷◌, ◌++◌, length, length-append, map, take, drop, refl, sym, ap, subst, ◌∙◌, arith, append_assoc, true, false}
-use Rattle.std.specs.Prelude.{slice_get, Some}
-use Rattle.std.specs.List.{AllByRecursion}
-use Rattle.std.proofs.lemmas.List.{append-nil, length-map, take-append-drop, map-append}
-use Rattle.shr_base.specs.declared.places.Serial.{Serial}
-use Rattle.shr_base.specs.declared.replies.Answered.{Answered}
-use Rattle.shr_base.specs.declared.scripts.Command.{Command}
-use Rattle.shr_base.specs.declared.walks.WalkRecord.{WalkRecord}
-use Rattle.shr_model.specs.Commands.{round_of, rounds_from}
-use Rattle.shr_model.specs.Groups.{IsAtOrAbove, path_of}
-use Rattle.shr_model.specs.Walks.{Job, job_of}
-use Rattle.shr_seats.specs.Weights.{Begins}
-use Rattle.shr_seats.proofs.Weighing.{Each-none}
+use Rattle.shr_assemble.proofs.Common.{◌≡◌, ℕ, ◌+◌, ◌-◌, ◌<◌, ◌≤◌, inl, inr, ⊎_elim, List, [], ◌∷◌, ◌++◌, length, length-append, map, take, drop, refl, sym, ap, subst, ◌∙◌, arith, append_assoc, true, false, Some, AllByRecursion, append-nil, length-map, take-append-drop, map-append, Serial, Answered, Command, WalkRecord, round_of, rounds_from, IsAtOrAbove, path_of, Job, job_of, Begins, Each-none, parents_of, WorkerState, Work, no_work, then_work, Shared, Admission, Charged, Over, Memory, IsCutShort, AdmissionGives, Visit, Round, job_in, HadRoom, due_in, Refusal, refused}
 use Rattle.shr_charge.specs.declared.answers.ChargeAnswer.TheVariants as charge
-use Rattle.shr_report.specs.Parts.{parents_of}
-use Rattle.shr_walk.specs.State.{WorkerState, Work, no_work, then_work}
-use Rattle.shr_walk.specs.declared.seats.Shared.{Shared}
-use Rattle.shr_reclaim.specs.declared.answers.Admission.{Admission}
-use Rattle.shr_reclaim.specs.declared.answers.Admission.TheVariants.{Charged, Over, Memory}
-use Rattle.shr_reclaim.specs.Admitting.{IsCutShort, AdmissionGives}
-use Rattle.shr_reclaim.specs.Rounds.{Visit, Round, job_in, HadRoom, due_in}
-use Rattle.shr_reclaim.specs.Trying.{Refusal, refused}
-use Rattle.shr_assemble.proofs.Listed.{by_slices, all_slice_by}
 use Rattle.shr_assemble.proofs.PutTries.{AreOps, ops_then, ops_walks}
 use Rattle.shr_assemble.proofs.PutRounds.{EndsOver, Tried, tried_all}
-use Rattle.shr_assemble.proofs.RoundingAdmits.{CutSeen, AdmissionSeen, MadeDue}
+use Rattle.shr_assemble.proofs.RoundingAdmits.{CutSeen, AdmissionSeen, MadeDue, prefix_all, rounds_more}
 use Rattle.shr_assemble.proofs.RoundingWalks.{round_there, due_is, had_answers}
-use Rattle.shr_charge.proofs.TreeFacts.{in_take}
 use Rattle.shr_assemble.proofs.WalkingTold.{IsTableOf}
 use Rattle.shr_assemble.proofs.WalkingGives.{idle_walked, freed_none}
 use Rattle.shr_assemble.proofs.WalkingCharges.{rec_of}
 use Rattle.shr_assemble.proofs.WalkingChain.{AllNoted, IsThereJob, GaveAll, gave_all, visited_one, any_cut, FrontHad, front_had, front_then, all_had, all_cut}
 use Rattle.shr_assemble.proofs.WalkingSteps.{IsScanOne, Walked, walked_then}
-
--- one round more
-rounds_more : (parents : List ℕ) (nodes priority : ℕ) (gs : List ℕ) (g : ℕ) → rounds_from parents nodes priority (gs ++ g ∷ []) ≡ rounds_from parents nodes priority gs ++ round_of parents nodes (priority - length gs) g
-unfolding rounds_from
-rounds_more parents nodes priority [] g = append-nil (round_of parents nodes priority g) ∙ ap (λ n. round_of parents nodes n g) (let e : priority ≡ priority - 0 = omega arith in e)
-rounds_more parents nodes priority (h ∷ gs) g = ap (λ l. round_of parents nodes priority h ++ l) (rounds_more parents nodes (priority - 1) gs g)
-    ∙ (sym (append_assoc (round_of parents nodes priority h) (rounds_from parents nodes (priority - 1) gs) (round_of parents nodes (priority - 1 - length gs) g))
-    ∙ ap (λ n. (round_of parents nodes priority h ++ rounds_from parents nodes (priority - 1) gs) ++ round_of parents nodes n g) (let e : priority - 1 - length gs ≡ priority - suc (length gs) = omega arith in e))
-
-prefix_all : {A : Type 0} (P : A → Type 0) (xs ys : List A) → take (length xs) ys ≡ xs → AllByRecursion P ys → AllByRecursion P xs
-prefix_all {A} P xs ys e h = by_slices P xs (λ i x at. all_slice_by P ys i x h (in_take ys (length xs) i x (subst (λ (l : List A). slice_get l i ≡ Some x) (sym e) at)))
-
-all_end : {A : Type 0} (P : A → Type 0) (xs : List A) (x : A) → AllByRecursion P xs → P x → AllByRecursion P (xs ++ x ∷ [])
-all_end P [] x h p = (p, tt)
-all_end P (y ∷ xs) x h p = (h.0, all_end P xs x h.1 p)
+use Rattle.shr_model.proofs.Lists.{all_push}
 
 -- the groups in which a charge stands, and the group that an answer names
 abbrev pub stands_in : Shared → ℕ → Admission → List ℕ
@@ -127,7 +91,7 @@ module _ (x : Shared) (table : IsTableOf x) (by : Serial) (c : Command) (a : Ans
         walked = walked_then x.script by (Some c) a s h.begun t r.work all.work r.walked all.walked;
         rounds = map (λ (k : Round). k.over.group) h.rounds ++ h.over.group ∷ [];
         few = omega (arith, long, lt, two);
-        above = all_end (λ g. IsAtOrAbove (parents_of x.script) g group) (map (λ (k : Round). k.over.group) h.rounds) h.over.group r.above r.at_last.0;
+        above = all_push (λ g. IsAtOrAbove (parents_of x.script) g group) (map (λ (k : Round). k.over.group) h.rounds) h.over.group r.above r.at_last.0;
         all = λ g operation usage e. absurd (cc);
         made = (
           rest,

@@ -1,54 +1,11 @@
 -- A put that asked for its charge, or didn't: what is left to say of its answer.
-use Rattle.std.proofs.Common.{◌≡◌, ◌⊎◌, ⊎_elim, inl, inr, ℕ, ◌<◌, ◌≤◌, List, [], ◌∷◌, ◌++◌, length, map, refl, sym, ap, subst, ◌∙◌, arith, true, false, cond, Bool, ◌-◌}
-use Rattle.std.specs.Prelude.{Some, None, sum_by, replicate, is_some}
-use Rattle.std.specs.List.{AllByRecursion}
-use Rattle.std.proofs.lemmas.List.{append-nil}
-use Rattle.std.proofs.lemmas.List.Sums.{sum_by-append}
-use Rattle.std.proofs.lemmas.Option.{same_Some, none-some}
-use Rattle.shr_base.specs.declared.journals.UseStep.{UseStep}
-use Rattle.shr_base.specs.declared.places.At.{At}
-use Rattle.shr_base.specs.declared.places.Serial.{Serial}
-use Rattle.shr_base.specs.declared.replies.Answered.{Answered}
-use Rattle.shr_base.specs.declared.replies.Found.{Found}
-use Rattle.shr_base.specs.declared.replies.Reply.{Reply}
+use Rattle.shr_assemble.proofs.Common.{◌≡◌, ◌⊎◌, ⊎_elim, inl, inr, ℕ, ◌<◌, ◌≤◌, List, [], ◌∷◌, ◌++◌, length, map, refl, sym, ap, subst, ◌∙◌, arith, true, false, cond, Bool, ◌-◌, Some, None, sum_by, replicate, is_some, AllByRecursion, append-nil, sum_by-append, same_Some, none-some, UseStep, At, Serial, Answered, Found, Reply, Command, Put, Family, IsAtOrAbove, Job, job_of, Each, Begins, Each-none, LoadsWord, Asks, AreRising, Made, Mapped, hierarchy_of, GroupState, shape_of, Admission, times_of, times_both, charged, MayBeOffline, pool_seen, pool_made, pool_told, is_past_group, parents_of, cited_by, id_found, IsReply, over_at, WorkerState, Work, no_work, then_work, Does, Shared, does_none, does_then, fresh_none, IsCausedBy, added_below, freed_below, StandsIn, MayMake, IsFilled, IsCited, IsFoundBy, number_made, number_found, KnowsOnline, MeetsGroups, Step, Brings, IsAmong, IsWant, refusals_of, was_charged, is_at_or_above}
 use Rattle.shr_base.specs.declared.replies.Reply.TheVariants as reply
-use Rattle.shr_base.specs.declared.scripts.Command.{Command}
-use Rattle.shr_base.specs.declared.scripts.Command.TheVariants.{Put}
 use Rattle.shr_model.specs.Commands.{rounds_from}
-use Rattle.shr_model.specs.Families.{Family}
-use Rattle.shr_model.specs.Groups.{IsAtOrAbove}
-use Rattle.shr_model.specs.Walks.{Job, job_of}
-use Rattle.shr_seats.specs.Views.{Each}
-use Rattle.shr_seats.specs.Weights.{Begins}
-use Rattle.shr_seats.proofs.Weighing.{Each-none}
-use Rattle.shr_opening.specs.Opening.{LoadsWord}
-use Rattle.shr_cache.specs.Puts.{Asks}
-use Rattle.shr_charge.specs.Charging.{AreRising}
 use Rattle.shr_charge.specs.Views.{Loaded}
-use Rattle.shr_core.specs.Parts.{Made, Mapped}
-use Rattle.shr_seats.specs.Shapes.{hierarchy_of}
-use Rattle.shr_charge.specs.declared.answers.GroupState.{GroupState}
 use Rattle.shr_charge.specs.declared.answers.GroupState.TheVariants as state
-use Rattle.shr_core.specs.Seats.{shape_of}
-use Rattle.shr_reclaim.specs.declared.answers.Admission.{Admission}
 use Rattle.shr_reclaim.specs.declared.answers.Admission.TheVariants as admission
-use Rattle.shr_reclaim.proofs.Netting.{times_of, times_both}
-use Rattle.shr_report.specs.Charges.{charged}
-use Rattle.shr_report.specs.Freshness.{MayBeOffline, pool_seen, pool_made, pool_told, is_past_group}
-use Rattle.shr_report.specs.Parts.{parents_of, cited_by, id_found}
-use Rattle.shr_report.specs.ReplyTable.{IsReply}
 use Rattle.shr_report.specs.WalksLawful as walks
-use Rattle.shr_report.specs.WalksLawful.{over_at}
-use Rattle.shr_walk.specs.State.{WorkerState, Work, no_work, then_work, Does}
-use Rattle.shr_walk.specs.declared.seats.Shared.{Shared}
-use Rattle.shr_walk.proofs.Doing.{does_none, does_then}
-use Rattle.shr_walk.proofs.FreshLaws.{fresh_none}
-use Rattle.shr_assemble.specs.Causes.{IsCausedBy}
-use Rattle.shr_assemble.specs.Charges.{added_below, freed_below}
-use Rattle.shr_assemble.specs.Entries.{StandsIn, MayMake, IsFilled, IsCited}
-use Rattle.shr_assemble.specs.Lookups.{IsFoundBy, number_made, number_found}
-use Rattle.shr_assemble.specs.Offlining.{KnowsOnline, MeetsGroups}
-use Rattle.shr_assemble.specs.Steps.{Step, Brings, IsAmong}
 use Rattle.shr_assemble.specs.Walks.{DidRounds}
 use Rattle.shr_assemble.proofs.Bringing.{brings_of}
 use Rattle.shr_assemble.proofs.PutAdmits.{Admits, admits, stands_in, named_by, admitted_front, admitted_told, stood_by}
@@ -67,9 +24,6 @@ use Rattle.shr_assemble.proofs.WalkingSteps.{IsScanOne, Walked, walked_then}
 use Rattle.shr_assemble.proofs.WalkingTold.{IsTableOf}
 use Rattle.shr_assemble.proofs.WalkingWell.{begins_prefix}
 use Rattle.shr_assemble.proofs.WalkingChain.{front_had}
-use Rattle.shr_report.specs.Cuts.{IsWant}
-use Rattle.shr_report.specs.Tries.{refusals_of, was_charged}
-use Rattle.shr_model.specs.Freeings.{is_at_or_above}
 use Rattle.shr_assemble.proofs.Outcomes.{met_at, no_answers}
 
 pub tail_none : IsTail no_work

@@ -1,30 +1,6 @@
 -- The charge of a put, taken back.
-use Rattle.std.proofs.Common.{◌≡◌, ℕ, ◌<◌, Bool, true, false, cond, List, [], ◌++◌, length, refl, sym, ap, subst, ◌∙◌, arith, append_assoc}
-use Rattle.std.specs.Prelude.{None, sum_by}
-use Rattle.std.specs.List.{cons_option}
-use Rattle.std.proofs.lemmas.List.{append-nil}
-use Rattle.shr_base.specs.declared.journals.UseStep.{UseStep}
-use Rattle.shr_base.specs.declared.objects.Object.{Object}
-use Rattle.shr_base.specs.declared.places.Serial.{Serial}
-use Rattle.shr_base.specs.declared.replies.Answered.{Answered}
-use Rattle.shr_base.specs.declared.replies.Found.{Found}
-use Rattle.shr_base.specs.declared.scripts.Command.{Command}
-use Rattle.shr_model.specs.Objects.{fresh}
-use Rattle.shr_model.specs.Scans.{ScanMade}
-use Rattle.shr_deferred.specs.Moves.{Moves, takes_of, gives_of}
-use Rattle.shr_seats.specs.Weights.{Begins}
-use Rattle.shr_opening.specs.Opening.{Uncharges}
-use Rattle.shr_cache.specs.Puts.{Asks}
-use Rattle.shr_core.specs.Gained.{nothing, Adds}
-use Rattle.shr_core.specs.Parts.{Made, Loaded}
+use Rattle.shr_assemble.proofs.Common.{◌≡◌, ℕ, ◌<◌, Bool, true, false, cond, List, [], ◌++◌, length, refl, sym, ap, subst, ◌∙◌, arith, append_assoc, None, sum_by, cons_option, append-nil, UseStep, Object, Serial, Answered, Found, Command, fresh, ScanMade, Moves, takes_of, gives_of, Begins, Uncharges, Asks, nothing, Adds, Made, Loaded, parents_of, WorkerState, Work, then_work, Does, Shared, does_none, scans_made, freed_below, Brings}
 use Rattle.shr_reclaim.specs.declared.answers.Admission.TheVariants as admission
-use Rattle.shr_report.specs.Parts.{parents_of}
-use Rattle.shr_walk.specs.State.{WorkerState, Work, then_work, Does}
-use Rattle.shr_walk.specs.declared.seats.Shared.{Shared}
-use Rattle.shr_walk.proofs.Doing.{does_none}
-use Rattle.shr_assemble.specs.Attempts.{scans_made}
-use Rattle.shr_assemble.specs.Charges.{freed_below}
-use Rattle.shr_assemble.specs.Steps.{Brings}
 use Rattle.shr_assemble.proofs.Bringing.{brings_of, brings_then}
 use Rattle.shr_assemble.proofs.PutAsked.{command, adm, first, first_ops, ops_quiet}
 use Rattle.shr_assemble.proofs.PutCharges.{ops_same, ops_back}

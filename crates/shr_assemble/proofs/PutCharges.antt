@@ -1,26 +1,8 @@
 -- The charges of a put.
-use Rattle.std.proofs.Common.{◌≡◌, ℕ, ◌+◌, ◌<◌, ◌≤◌, Bool, true, false, not, cond, ◌==◌, List, [], ◌∷◌, ◌++◌, length, refl, sym, ap, subst, ◌∙◌, arith}
-use Rattle.std.specs.Prelude.{Some, count_by, sum_by, pos, ◌-ℤ◌}
-use Rattle.std.specs.List.{AllByRecursion}
-use Rattle.std.proofs.lemmas.Int.{ints}
-use Rattle.std.proofs.lemmas.List.{append-nil}
-use Rattle.std.proofs.lemmas.List.Sums.{sum_by-append}
-use Rattle.shr_base.specs.declared.journals.UseStep.{UseStep}
-use Rattle.shr_base.specs.declared.places.Serial.{Serial}
-use Rattle.shr_model.specs.Charges.{ups, downs, is_refused}
-use Rattle.shr_model.specs.Groups.{path_of}
-use Rattle.shr_charge.specs.Charging.{AreDowns, IsDown}
-use Rattle.shr_report.specs.Charges.{charged}
-use Rattle.shr_report.specs.Parts.{parents_of, limit_of}
+use Rattle.shr_assemble.proofs.Common.{◌≡◌, ℕ, ◌+◌, ◌<◌, ◌≤◌, Bool, true, false, not, cond, ◌==◌, List, [], ◌∷◌, ◌++◌, length, refl, sym, ap, subst, ◌∙◌, arith, Some, count_by, sum_by, pos, ◌-ℤ◌, AllByRecursion, ints, append-nil, sum_by-append, UseStep, Serial, ups, downs, is_refused, path_of, AreDowns, IsDown, charged, parents_of, limit_of, Work, then_work, Shared, times_of, count_first, nets_downs, DidCharges, ops_at, added_below, freed_below, Made, Step, IsPut, each_append, each_weaker}
 use Rattle.shr_walk.specs.Keeping as keeping
-use Rattle.shr_walk.specs.State.{Work, then_work}
-use Rattle.shr_walk.specs.declared.seats.Shared.{Shared}
-use Rattle.shr_reclaim.proofs.Netting.{times_of, count_first, nets_downs}
-use Rattle.shr_assemble.specs.Charges.{DidCharges, ops_at, added_below, freed_below}
-use Rattle.shr_core.specs.Parts.{Made}
-use Rattle.shr_assemble.specs.Steps.{Step, IsPut}
 use Rattle.shr_assemble.proofs.Outcomes.{outcomes, outcomes_then, down_outcomes}
-use Rattle.shr_assemble.proofs.PutTries.{AreOps, charge_parents, all_weaker, all_both, count_then, of_groups, refusals_are, path_once, on_path}
+use Rattle.shr_assemble.proofs.PutTries.{AreOps, charge_parents, count_then, of_groups, refusals_are, path_once, on_path}
 use Rattle.shr_assemble.proofs.PutWays.{Closed, Ends, closed_ends, ends_taken, ends_between, at_then, at_all, at_long, ups_is, downs_is, ups_all}
 use Rattle.shr_assemble.proofs.QuietCharges.{uncharging}
 use Rattle.shr_assemble.proofs.WalkingCharges.{GoesDown, rec_of, all_of, all_down, same_parents}
@@ -59,14 +41,14 @@ module _ (x : Shared) (table : IsTableOf x) (by : Serial) (group : ℕ) (inside 
       let same : path_of (keeping.parents_of x) group ≡ path_of x.charge.shape.parents.items group = ap (λ p. path_of p group) (same_parents x table ∙ sym (charge_parents x table)) in
       let made : AreDowns by (path_of x.charge.shape.parents.items group) back = subst (λ l. AreDowns by l back) same downs_made in
       let each : AllByRecursion (IsDown by) back = rec_of (IsDown by) back made.each in
-      let down : AllByRecursion GoesDown back = all_weaker (IsDown by) GoesDown (λ o d. d.down) back each in
+      let down : AllByRecursion GoesDown back = each_weaker (IsDown by) GoesDown (λ o d. d.down) back each in
       let closed : (g : ℕ) → Closed (ops_at g (v.ops ++ back)) = λ g. subst Closed (sym (at_then g v.ops back)) (h.settled g (ops_at g back) (at_long g back ∙ ap (times_of g) made.at) (all_down g back down)) in
       record {
         charges = let e = h.charges in omega (arith, e);
         uncharges = let e = h.uncharges in let d = sum_by-append (λ (o : UseStep). cond {A = ℕ} (not o.up) 1 0) v.ops back in let low = downs_all group back in let is = downs_is group back in
             let n = (nets_downs x.charge.shape group by _ back made).down in let one = path_once x table by group inside in omega (arith, e, d, low, is, n, one);
-        own = all_both (λ (o : UseStep). o.by ≡ by) v.ops back h.own (all_weaker (IsDown by) (λ (o : UseStep). o.by ≡ by) (λ o d. d.made) back each);
-        there = all_both (λ (o : UseStep). o.group < length (parents_of x.script)) v.ops back h.there (of_groups (λ n. n < length (parents_of x.script)) back (subst (AllByRecursion (λ n. n < length (parents_of x.script))) (sym made.at) (on_path x table by group inside)));
+        own = each_append (λ (o : UseStep). o.by ≡ by) v.ops back h.own (each_weaker (IsDown by) (λ (o : UseStep). o.by ≡ by) (λ o d. d.made) back each);
+        there = each_append (λ (o : UseStep). o.group < length (parents_of x.script)) v.ops back h.there (of_groups (λ n. n < length (parents_of x.script)) back (subst (AllByRecursion (λ n. n < length (parents_of x.script))) (sym made.at) (on_path x table by group inside)));
         each = let e = count_then (λ (o : UseStep). o.up) group v.ops back in let z = ups_is group back in let n = (nets_downs x.charge.shape group by _ back made).up in let k = h.each in omega (arith, e, z, n, k);
         most = λ g. let e = count_then (λ (o : UseStep). o.up) g v.ops back in let z = ups_is g back in let n = (nets_downs x.charge.shape g by _ back made).up in let k = h.most g in omega (arith, e, z, n, k);
         net = λ g lt. let e = count_then (λ (o : UseStep). o.up) g v.ops back in let z = ups_is g back in let n = (nets_downs x.charge.shape g by _ back made).up in
@@ -90,7 +72,7 @@ module _ (x : Shared) (table : IsTableOf x) (by : Serial) (group : ℕ) (inside 
   put_charges z tries over kept mine put few h stands added = record {
     own = all_of (λ (o : UseStep). o.by ≡ z.by) z.work.ops own;
     there = all_of (λ (o : UseStep). o.group < length (parents_of x.script)) z.work.ops h.there;
-    taken_back = λ g. ends_taken z.by (limit_of x.script g) (ops_at g z.work.ops) (all_weaker (λ (o : UseStep). (o.by ≡ z.by) × (o.group ≡ g)) (λ (o : UseStep). o.by ≡ z.by) (λ o p. p.0) (ops_at g z.work.ops) (at_all (λ (o : UseStep). o.by ≡ z.by) g z.work.ops own)) (h.ends g);
+    taken_back = λ g. ends_taken z.by (limit_of x.script g) (ops_at g z.work.ops) (each_weaker (λ (o : UseStep). (o.by ≡ z.by) × (o.group ≡ g)) (λ (o : UseStep). o.by ≡ z.by) (λ o p. p.0) (ops_at g z.work.ops) (at_all (λ (o : UseStep). o.by ≡ z.by) g z.work.ops own)) (h.ends g);
     puts = λ k d lt up. put;
     fourteen = λ g. let m = h.most g in omega (arith, m, few);
     between = λ g. ends_between (limit_of x.script g) (ops_at g z.work.ops) (h.ends g);

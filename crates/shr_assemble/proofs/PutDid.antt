@@ -1,54 +1,14 @@
 -- What a put did.
-use Rattle.std.proofs.Common.{◌≡◌, ℕ, ◌+◌, ◌<◌, inl, inr, Bool, true, false, ◌&&◌, not, cond, ◌==◌, List, [], ◌∷◌, ◌++◌, length, refl, sym, ap, subst, ◌∙◌, arith, lt-ltb}
-use Rattle.std.specs.Prelude.{Option, Some, None, nat_lt, if◌then◌else◌}
-use Rattle.shr_base.specs.declared.journals.Entry.{Entry}
-use Rattle.shr_base.specs.declared.journals.Entry.TheVariants.{Add}
-use Rattle.shr_base.specs.declared.objects.Object.{Object}
-use Rattle.shr_base.specs.declared.places.At.{At}
-use Rattle.shr_base.specs.declared.places.Place.{Place}
-use Rattle.shr_base.specs.declared.places.Serial.{Serial}
-use Rattle.shr_base.specs.declared.replies.Answered.{Answered}
-use Rattle.shr_base.specs.declared.replies.Found.{Found}
-use Rattle.shr_base.specs.declared.replies.Reply.{Reply}
+use Rattle.shr_assemble.proofs.Common.{◌≡◌, ℕ, ◌+◌, ◌<◌, inl, inr, Bool, true, false, ◌&&◌, not, cond, ◌==◌, List, [], ◌∷◌, ◌++◌, length, refl, sym, ap, subst, ◌∙◌, arith, Option, Some, None, nat_lt, if◌then◌else◌, Entry, Add, Object, At, Place, Serial, Answered, Found, Reply, Command, Put, is_at_or_above, path_of, is_later, Hierarchy, step, fresh, holds, place_number, times, only, total, total-append, only_yes, Asks, AreRising, spent_by, View, group_of, Made, shape_of, add_entry, Listed, AddGives, is_raised, bits_for, Admission, times_of, parents_of, IsObjectWithin, content_of, WorkerState, Work, no_work, Does, Shared, does_none, unfound, same_Some, none-some, hierarchy_of, added_below, KnowsUnmade, IsAmong, Step}
+use Rattle.std.proofs.Common.{lt-ltb}
 use Rattle.shr_base.specs.declared.replies.Reply.TheVariants as reply
 use Rattle.shr_base.specs.declared.replies.Spent.TheVariants as spent
-use Rattle.shr_base.specs.declared.scripts.Command.{Command}
-use Rattle.shr_base.specs.declared.scripts.Command.TheVariants.{Put}
-use Rattle.shr_model.specs.Freeings.{is_at_or_above}
-use Rattle.shr_model.specs.Groups.{path_of, is_later, Hierarchy}
-use Rattle.shr_model.specs.Items.{step}
-use Rattle.shr_model.specs.Objects.{fresh, holds}
-use Rattle.shr_model.specs.Places.{place_number}
-use Rattle.shr_seats.specs.Weights.{times, only, total}
-use Rattle.shr_seats.proofs.Weighing.{total-append, only_yes}
-use Rattle.shr_cache.specs.Puts.{Asks, Puts, PutFrom, PutNone, PutAs}
-use Rattle.shr_charge.specs.Charging.{AreRising}
-use Rattle.shr_charge.specs.Seat.{spent_by}
-use Rattle.shr_core.specs.declared.view.View.{View}
-use Rattle.shr_core.specs.Layout.{group_of}
-use Rattle.shr_core.specs.Parts.{Made}
-use Rattle.shr_core.specs.Seats.{shape_of}
-use Rattle.shr_list.specs.Answers.{add_entry}
-use Rattle.shr_list.specs.Listed.{Listed}
+use Rattle.shr_cache.specs.Puts.{Puts, PutFrom, PutNone, PutAs}
 use Rattle.shr_node.specs.declared.answers.NodeAdd.TheVariants as add
-use Rattle.shr_node.specs.Answers.{AddGives}
-use Rattle.shr_node.specs.Gains.{is_raised, bits_for}
-use Rattle.shr_reclaim.specs.declared.answers.Admission.{Admission}
 use Rattle.shr_reclaim.specs.declared.answers.Admission.TheVariants as admission
-use Rattle.shr_reclaim.proofs.Netting.{times_of}
-use Rattle.shr_report.specs.Parts.{parents_of}
-use Rattle.shr_script.specs.Bounds.{IsObjectWithin}
-use Rattle.shr_script.specs.Content.{content_of}
-use Rattle.shr_walk.specs.State.{WorkerState, Work, no_work, Does}
-use Rattle.shr_walk.specs.declared.seats.Shared.{Shared}
-use Rattle.shr_walk.proofs.Doing.{does_none}
 use Rattle.shr_worker.specs.Commands.{CommandGives}
-use Rattle.shr_worker.specs.Replies.{unfound}
-use Rattle.std.proofs.lemmas.Option.{same_Some, none-some}
-use Rattle.shr_seats.specs.Shapes.{hierarchy_of}
 use Rattle.shr_report.specs.Parts as report
 use Rattle.shr_charge.specs.Views as charge
-use Rattle.shr_assemble.specs.Charges.{added_below}
 use Rattle.shr_assemble.proofs.Bringing.{brings_of}
 use Rattle.shr_charge.specs.declared.answers.GroupState.TheVariants as state
 use Rattle.shr_assemble.proofs.PutParts.{whole}
@@ -67,8 +27,6 @@ use Rattle.shr_assemble.proofs.RoundingAdmits.{AdmissionSeen, admission_seen}
 use Rattle.shr_assemble.proofs.WalkingCharges.{tree_is, path_once}
 use Rattle.shr_assemble.proofs.WalkingGives.{idle_walked}
 use Rattle.shr_assemble.proofs.WalkingTold.{IsTableOf}
-use Rattle.shr_assemble.specs.Offlining.{KnowsUnmade}
-use Rattle.shr_assemble.specs.Steps.{IsAmong, Step}
 
 -- the bit of a list that was empty and isn't the root's is set
 filled_bit : (k : ℕ) (items new : List Object) → items ≡ [] → 0 < length new → 0 < group_of k → 0 < times k (bits_for k items new)

@@ -1,52 +1,10 @@
 -- A put whose cache was found after its charge: with the entry that it cites, or with none.
-use Rattle.std.proofs.Common.{◌≡◌, ℕ, ◌<◌, ◌≤◌, List, [], ◌∷◌, ◌++◌, length, map, refl, sym, ap, subst, ◌∙◌, arith, false, true, cond, Bool}
-use Rattle.std.specs.Prelude.{Some, None, sum_by}
-use Rattle.std.proofs.lemmas.List.Sums.{sum_by-append}
-use Rattle.std.proofs.lemmas.Option.{same_Some, none-some}
-use Rattle.shr_base.specs.declared.journals.Entry.{Entry}
-use Rattle.shr_base.specs.declared.objects.Object.{Object}
-use Rattle.shr_base.specs.declared.places.At.{At}
-use Rattle.shr_base.specs.declared.places.Serial.{Serial}
-use Rattle.shr_base.specs.declared.replies.Answered.{Answered}
-use Rattle.shr_base.specs.declared.replies.Found.{Found}
-use Rattle.shr_base.specs.declared.replies.Reply.{Reply}
+use Rattle.shr_assemble.proofs.Common.{◌≡◌, ℕ, ◌<◌, ◌≤◌, List, [], ◌∷◌, ◌++◌, length, map, refl, sym, ap, subst, ◌∙◌, arith, false, true, cond, Bool, Some, None, sum_by, sum_by-append, same_Some, none-some, Entry, Object, At, Serial, Answered, Found, Reply, Command, rounds_from, Family, job_of, place_number, Each, times, Each-none, Holds, Calls, Asks, View, place_at, Made, Known, shape_of, Listed, Acts, Gains, times_of, charged, pool_told, pool_made, parents_of, cited_by, IsReply, Cites, over_at, WorkerState, Work, then_work, Shared, IsCausedBy, added_below, IsTold, MayMake, IsSetLast, IsFilled, IsCited, IsFoundBy, number_made, Step, IsAmong, Brings, refusals_of, was_charged, append-nil, each_before, each_one}
 use Rattle.shr_base.specs.declared.replies.Reply.TheVariants as reply
-use Rattle.shr_base.specs.declared.scripts.Command.{Command}
-use Rattle.shr_model.specs.Commands.{rounds_from}
-use Rattle.shr_model.specs.Families.{Family}
-use Rattle.shr_model.specs.Walks.{job_of}
-use Rattle.shr_model.specs.Places.{place_number}
-use Rattle.shr_seats.specs.Views.{Each}
-use Rattle.shr_seats.specs.Weights.{times}
-use Rattle.shr_seats.proofs.Weighing.{Each-none}
-use Rattle.shr_opening.specs.Opening.{Holds, Calls}
-use Rattle.shr_cache.specs.Puts.{Asks}
-use Rattle.shr_core.specs.declared.view.View.{View}
-use Rattle.shr_core.specs.Layout.{place_at}
-use Rattle.shr_core.specs.Parts.{Made, Known}
-use Rattle.shr_core.specs.Seats.{shape_of}
-use Rattle.shr_list.specs.Listed.{Listed}
-use Rattle.shr_node.specs.Answers.{Acts}
-use Rattle.shr_node.specs.Gains.{Gains}
 use Rattle.shr_reclaim.specs.declared.answers.Admission.TheVariants as admission
-use Rattle.shr_reclaim.proofs.Netting.{times_of}
-use Rattle.shr_report.specs.Charges.{charged}
-use Rattle.shr_report.specs.Freshness.{pool_told, pool_made}
-use Rattle.shr_report.specs.Parts.{parents_of, cited_by}
-use Rattle.shr_report.specs.ReplyTable.{IsReply, Cites}
 use Rattle.shr_report.specs.WalksLawful as walks
-use Rattle.shr_report.specs.WalksLawful.{over_at}
-use Rattle.shr_walk.specs.State.{WorkerState, Work, then_work}
-use Rattle.shr_walk.specs.declared.seats.Shared.{Shared}
-use Rattle.shr_assemble.specs.Causes.{IsCausedBy}
-use Rattle.shr_assemble.specs.Charges.{added_below}
-use Rattle.shr_assemble.specs.Entries.{IsTold, MayMake, IsSetLast, IsFilled, IsCited}
-use Rattle.shr_assemble.specs.Lookups.{IsFoundBy, number_made}
-use Rattle.shr_assemble.specs.Steps.{Step, IsAmong, Brings}
-use Rattle.shr_report.specs.Tries.{refusals_of, was_charged}
-use Rattle.std.proofs.lemmas.List.{append-nil}
-use Rattle.shr_assemble.proofs.FirstLists.{each_begins, first_for}
-use Rattle.shr_assemble.proofs.Gathering.{among_left, among_right}
+use Rattle.shr_assemble.proofs.FirstLists.{first_for}
+use Rattle.shr_assemble.proofs.Gathering.{among_right}
 use Rattle.shr_assemble.proofs.PutAsked.{command, adm, first, walked_first, asked_did, none_added_first}
 use Rattle.shr_assemble.proofs.PutOffers as offers
 use Rattle.shr_assemble.proofs.PutOffers.{entry, place_same, later_is, knew_is, cites_is, offered_entry, offered_by}
@@ -54,12 +12,10 @@ use Rattle.shr_assemble.proofs.PutParts.{IsTail, whole}
 use Rattle.shr_assemble.proofs.PutTries.{AreOps}
 use Rattle.shr_assemble.proofs.Quiet.{HasDid, IsToldOnce}
 use Rattle.shr_assemble.proofs.QuietSteps.{AreTables, tried_by}
-use Rattle.shr_assemble.proofs.QuietTenant.{each_one, is_told}
+use Rattle.shr_assemble.proofs.QuietTenant.{is_told}
 use Rattle.shr_assemble.proofs.RoundingAdmits.{AdmissionSeen}
 use Rattle.shr_assemble.proofs.WalkingTold.{IsTableOf}
-
-each_left : {A : Type 0} (P : A → Type 0) (xs ys : List A) → Each P (xs ++ ys) → Each P xs
-each_left P xs ys h j y e = let k = among_left xs ys y (j, e) in h k.0 y k.1
+use Rattle.shr_assemble.proofs.WalkingRecord.{each_left}
 
 module _ (x : Shared) (table : IsTableOf x) (tables : AreTables x) (by : Serial) (group node decl : ℕ) (key value : List ℕ) (on : node < x.script.nodes) (inside : group < length (parents_of x.script)) where
   abbrev Command_of : Command
@@ -165,7 +121,7 @@ module _ (x : Shared) (table : IsTableOf x) (tables : AreTables x) (by : Serial)
           later = each_left (λ (m : Made). m.place ≡ place_number c.place → m.number < length acts.old.entries) s.core.traces.made first_work.core.made
               (subst (λ (l : List Made). Each (λ (m : Made). m.place ≡ place_number c.place → m.number < length acts.old.entries) l) (walked_first x table by group node decl key value inside a admission.Charged s charged_at t asks seen).does.core.made
               (later_is x decl f call charged_at held offered holds calls tables node on group inside c so e acts));
-          known = each_begins (λ (k : Known). k.place ≡ place_number c.place → length k.entries ≤ length acts.old.entries) s.core.traces.known charged_at.core.traces.known
+          known = each_before (λ (k : Known). k.place ≡ place_number c.place → length k.entries ≤ length acts.old.entries) s.core.traces.known charged_at.core.traces.known
               (walked_first x table by group node decl key value inside a admission.Charged s charged_at t asks seen).does.core.known (knew_is x decl f call charged_at held offered holds calls tables node on group inside c so e acts);
           first = first_for x tables calls.called f.id node group c.place acts.first step_is (ap (λ (v : View). v.traces.known) h.core ∙ offers.known_is x decl f call charged_at held offered holds calls (noted ∷ []) _ acts.gains) refl inside;
           filled = filled;

@@ -1,41 +1,6 @@
 -- An object that was offered to a list of the cache that was found, after its charge.
-use Rattle.std.proofs.Common.{◌≡◌, ℕ, ◌<◌, ◌≤◌, ◌⊎◌, inl, inr, ⊎_elim, List, [], length, take, sym, ap, subst, ◌∙◌, arith}
-use Rattle.std.specs.Prelude.{Some, slice_get}
-use Rattle.std.proofs.lemmas.List.{append-nil}
-use Rattle.shr_base.specs.declared.journals.Entry.{Entry}
-use Rattle.shr_base.specs.declared.journals.PoolEntry.{PoolEntry}
-use Rattle.shr_base.specs.declared.objects.Object.{Object}
-use Rattle.shr_base.specs.declared.places.At.{At}
-use Rattle.shr_base.specs.declared.places.Place.{Place}
-use Rattle.shr_base.specs.declared.replies.Found.{Found}
-use Rattle.shr_model.specs.Families.{Family}
-use Rattle.shr_model.specs.Items.{step}
-use Rattle.shr_model.specs.Places.{place_number}
-use Rattle.shr_model.specs.Pool.{is_live, decl_of, from_of}
-use Rattle.shr_seats.specs.Views.{Each}
-use Rattle.shr_core.specs.declared.view.View.{View}
-use Rattle.shr_core.specs.Gained.{Adds}
-use Rattle.shr_core.specs.Layout.{place_at}
+use Rattle.shr_assemble.proofs.Common.{◌≡◌, ℕ, ◌<◌, ◌≤◌, ◌⊎◌, inl, inr, ⊎_elim, List, [], length, take, sym, ap, subst, ◌∙◌, arith, Some, slice_get, append-nil, Entry, PoolEntry, Object, At, Place, Found, Family, step, place_number, is_live, decl_of, from_of, Each, View, Adds, place_at, Made, Known, shape_of, with_put, Listed, Acts, TenantIsWorn, Gains, bits_for, made_of, Holds, Calls, WorkerState, Work, then_work, Does, Shared, does_then, adds_put, parents_of, IsThere, Cites, StandsIn, IsFoundBy, Step, IsAmong, IsListWorn, IsOneMore, AreBoth, each_before}
 use Rattle.shr_core.specs.Parts as core
-use Rattle.shr_core.specs.Parts.{Made, Known}
-use Rattle.shr_core.specs.Seats.{shape_of}
-use Rattle.shr_core.specs.Steps.{with_put}
-use Rattle.shr_list.specs.Listed.{Listed}
-use Rattle.shr_node.specs.Answers.{Acts, TenantIsWorn}
-use Rattle.shr_node.specs.Gains.{Gains, bits_for}
-use Rattle.shr_node.specs.Opening.{made_of}
-use Rattle.shr_opening.specs.Opening.{Holds, Calls}
-use Rattle.shr_walk.specs.State.{WorkerState, Work, then_work, Does}
-use Rattle.shr_walk.specs.declared.seats.Shared.{Shared}
-use Rattle.shr_walk.proofs.Doing.{does_then}
-use Rattle.shr_walk.proofs.Held.{adds_put}
-use Rattle.shr_report.specs.Parts.{parents_of, IsThere}
-use Rattle.shr_report.specs.ReplyTable.{Cites}
-use Rattle.shr_assemble.specs.Entries.{StandsIn}
-use Rattle.shr_assemble.specs.Lookups.{IsFoundBy}
-use Rattle.shr_assemble.specs.Steps.{Step, IsAmong}
-use Rattle.shr_assemble.specs.Worn.{IsListWorn, IsOneMore, AreBoth}
-use Rattle.shr_assemble.proofs.FirstLists.{each_begins}
 use Rattle.shr_assemble.proofs.Listed.{contains_among}
 use Rattle.shr_assemble.proofs.QuietSteps.{AreTables, gaining, does_gain, tried_by, dated_by, finding, calling, take_whole}
 use Rattle.shr_assemble.proofs.QuietTenant.{there_is, back_is}
@@ -108,7 +73,7 @@ module _ (x : Shared) (decl : ℕ) (f : Found) (call : View → View → Type 0)
 
       -- and after all that was known there
       pub knew_is : Each (λ (k : Known). k.place ≡ place_number c.place → length k.entries ≤ length a.old.entries) s.core.traces.known
-      knew_is = each_begins (λ (k : Known). k.place ≡ place_number c.place → length k.entries ≤ length a.old.entries) s.core.traces.known held.core.traces.known holds.answers.gains.adds.known a.was.later.known
+      knew_is = each_before (λ (k : Known). k.place ≡ place_number c.place → length k.entries ≤ length a.old.entries) s.core.traces.known held.core.traces.known holds.answers.gains.adds.known a.was.later.known
 
       pub cites_is : (family : Family) (en : Entry) → StandsIn (parents_of x.script) family (made_of (place_number c.place) a.old (e a.old)) → e a.old ≡ en → Cites family c f.id node en
       cites_is family en stands same = record {

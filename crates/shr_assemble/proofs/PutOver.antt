@@ -1,31 +1,10 @@
 -- A put that was refused at last: the last up of its operations, which its answer names.
-use Rattle.std.proofs.Common.{◌≡◌, ◌⊎◌, inl, inr, ℕ, ◌-◌, ◌<◌, ◌≤◌, Bool, true, false, cond, List, [], ◌∷◌, ◌++◌, pos, refl, sym, ap, subst, ◌∙◌, arith}
-use Rattle.std.specs.Prelude.{Option, Some, None, option_and_then, filter, nat_lt, ◌<ℤ◌}
-use Rattle.std.specs.List.{AllByRecursion}
-use Rattle.std.specs.Option.{IsSomeAnd}
-use Rattle.std.proofs.lemmas.Bool.Decides.{nat_tests}
-use Rattle.std.proofs.lemmas.Int.{ints}
-use mathlib.Core.Logic.{dite}
-use native.Mathlib.Decide.{ℕ_discrete}
-use Rattle.shr_base.specs.declared.journals.UseStep.{UseStep}
-use Rattle.shr_base.specs.declared.places.Serial.{Serial}
-use Rattle.shr_model.specs.Charges.{ups, IsBelow}
-use Rattle.shr_model.specs.Commands.{group_named}
-use Rattle.shr_model.specs.Groups.{IsAtOrAbove}
-use Rattle.shr_charge.specs.Charging.{AreRising, IsLaterThan}
-use Rattle.shr_charge.specs.Views.{Uses}
-use Rattle.shr_report.specs.Parts.{parents_of, limit_of}
-use Rattle.shr_walk.specs.State.{WorkerState, Work, Does}
-use Rattle.shr_walk.specs.declared.seats.Shared.{Shared}
-use Rattle.shr_reclaim.specs.Trying.{Refusal}
-use Rattle.shr_reclaim.proofs.Netting.{count_first}
-use Rattle.shr_assemble.specs.Causes.{IsOverBy}
-use Rattle.shr_assemble.specs.Charges.{ops_at}
-use Rattle.shr_assemble.specs.Steps.{Step, IsAmong}
+use Rattle.shr_assemble.proofs.Common.{◌≡◌, ◌⊎◌, inl, inr, ℕ, ◌-◌, ◌<◌, ◌≤◌, Bool, true, false, cond, List, [], ◌∷◌, ◌++◌, pos, refl, sym, ap, subst, ◌∙◌, arith, Option, Some, None, option_and_then, filter, nat_lt, AllByRecursion, IsSomeAnd, nat_tests, ints, dite, ℕ_discrete, UseStep, Serial, ups, IsBelow, group_named, IsAtOrAbove, AreRising, IsLaterThan, Uses, parents_of, limit_of, WorkerState, Work, Does, Shared, Refusal, count_first, IsOverBy, ops_at, Step, IsAmong, each_append, each_weaker}
+use Rattle.std.specs.Prelude.{◌<ℤ◌}
 use Rattle.shr_assemble.proofs.Gathering.{among_right}
 use Rattle.shr_assemble.proofs.Operations.{PairsRec, pairs_rec, pairs_right}
 use Rattle.shr_assemble.proofs.PutRounds.{EndsOver}
-use Rattle.shr_assemble.proofs.PutTries.{AreOps, all_both, all_weaker, same_limit}
+use Rattle.shr_assemble.proofs.PutTries.{AreOps, same_limit}
 use Rattle.shr_assemble.proofs.PutWays.{at_all}
 use Rattle.shr_assemble.proofs.WalkingCharges.{GoesDown}
 use Rattle.shr_assemble.proofs.WalkingTold.{IsTableOf}
@@ -56,10 +35,10 @@ pub over_last : (x : Shared) (by : Serial) (r : Refusal) (ops : List UseStep) �
 over_last x by r ops h rise =
     let low = before_low h.front h.over h.back (subst (PairsRec (λ (y o : UseStep). IsLaterThan o y)) h.whole rise) in
     let here = h.here in let number = h.number in
-    let each : AllByRecursion (λ (o : UseStep). o.group ≡ r.group → IsPast r.operation o) (h.front ++ h.over ∷ h.back) = all_both (λ (o : UseStep). o.group ≡ r.group → IsPast r.operation o) h.front (h.over ∷ h.back)
-    (all_weaker (λ (o : UseStep). o.group ≡ h.over.group → o.operation < h.over.operation) (λ (o : UseStep). o.group ≡ r.group → IsPast r.operation o) (λ o k e. let lt = k (e ∙ sym here) in inr (omega (arith, lt, number))) h.front low)
-    ((λ e. inr (omega (arith, number))), all_weaker GoesDown (λ (o : UseStep). o.group ≡ r.group → IsPast r.operation o) (λ o d e. inl d) h.back h.downs) in
-    none_up r.operation (ops_at r.group ops) (all_weaker (λ (o : UseStep). (o.group ≡ r.group → IsPast r.operation o) × (o.group ≡ r.group)) (IsPast r.operation) (λ o p. p.0 p.1) (ops_at r.group ops)
+    let each : AllByRecursion (λ (o : UseStep). o.group ≡ r.group → IsPast r.operation o) (h.front ++ h.over ∷ h.back) = each_append (λ (o : UseStep). o.group ≡ r.group → IsPast r.operation o) h.front (h.over ∷ h.back)
+    (each_weaker (λ (o : UseStep). o.group ≡ h.over.group → o.operation < h.over.operation) (λ (o : UseStep). o.group ≡ r.group → IsPast r.operation o) (λ o k e. let lt = k (e ∙ sym here) in inr (omega (arith, lt, number))) h.front low)
+    ((λ e. inr (omega (arith, number))), each_weaker GoesDown (λ (o : UseStep). o.group ≡ r.group → IsPast r.operation o) (λ o d e. inl d) h.back h.downs) in
+    none_up r.operation (ops_at r.group ops) (each_weaker (λ (o : UseStep). (o.group ≡ r.group → IsPast r.operation o) × (o.group ≡ r.group)) (IsPast r.operation) (λ o p. p.0 p.1) (ops_at r.group ops)
     (at_all (λ (o : UseStep). o.group ≡ r.group → IsPast r.operation o) r.group ops (subst (AllByRecursion (λ (o : UseStep). o.group ≡ r.group → IsPast r.operation o)) (sym h.whole) each)))
 
 -- an up that didn't find the usage below the limit found the limit, or more

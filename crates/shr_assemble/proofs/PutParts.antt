@@ -1,58 +1,13 @@
 -- A put's parts: what its tries and walks made first, and then what its cache's list made.
-use Rattle.std.proofs.Common.{◌≡◌, ℕ, ◌+◌, ◌<◌, ◌⊎◌, inl, cond, List, [], ◌++◌, length, map, refl, sym, ap, subst, ◌∙◌, arith, true, false}
-use Rattle.std.specs.Prelude.{slice_get, Some, flat_map, sum_by, All, AllPairs}
-use Rattle.std.proofs.lemmas.List.{append-nil, map-append}
-use Rattle.std.proofs.lemmas.List.Elements.{All-nil, filter_map-append}
-use Rattle.shr_base.specs.declared.journals.Entry.{Entry}
-use Rattle.shr_base.specs.declared.journals.Entry.TheVariants.{Add, Look, Drop, Pin, Scan, MovedIn, Closed, Drained}
-use Rattle.shr_base.specs.declared.places.At.{At}
-use Rattle.shr_base.specs.declared.places.Place.{Place}
-use Rattle.shr_base.specs.declared.places.Serial.{Serial}
-use Rattle.shr_base.specs.declared.replies.Answered.{Answered}
-use Rattle.shr_base.specs.declared.replies.Found.{Found}
-use Rattle.shr_base.specs.declared.scripts.Command.{Command}
-use Rattle.shr_base.specs.declared.scripts.Script.{Script}
-use Rattle.shr_base.specs.declared.walks.Carry.{Carry}
-use Rattle.shr_base.specs.declared.walks.PassRecord.{PassRecord}
-use Rattle.shr_base.specs.declared.walks.WalkRecord.{WalkRecord}
-use Rattle.shr_model.specs.Commands.{decl_named, asks_online, jobs_of}
-use Rattle.shr_model.specs.Deferred.{sum_at}
-use Rattle.shr_model.specs.Families.{Family}
-use Rattle.shr_model.specs.Moves.{is_below}
-use Rattle.shr_model.specs.Places.{is_place}
-use Rattle.shr_model.specs.Walks.{job_of, passes_at, is_cut}
-use Rattle.shr_deferred.specs.Moves.{takes_of, gives_of}
-use Rattle.shr_deferred.proofs.SeatLaws.{takes_both, gives_both}
-use Rattle.shr_seats.specs.Views.{Each}
-use Rattle.shr_seats.specs.Weights.{Begins}
-use Rattle.shr_seats.proofs.Weighing.{Each-append}
-use Rattle.shr_core.specs.Parts.{Made, Mapped}
+use Rattle.shr_assemble.proofs.Common.{◌≡◌, ℕ, ◌+◌, ◌<◌, ◌⊎◌, inl, cond, List, [], ◌++◌, length, map, refl, sym, ap, subst, ◌∙◌, arith, true, false, slice_get, Some, flat_map, sum_by, All, AllPairs, append-nil, map-append, All-nil, filter_map-append, Entry, Add, Look, Drop, Pin, Scan, MovedIn, Closed, Drained, At, Place, Serial, Answered, Found, Command, Script, Carry, PassRecord, WalkRecord, decl_named, asks_online, jobs_of, sum_at, Family, is_below, is_place, job_of, passes_at, is_cut, takes_of, gives_of, takes_both, gives_both, Each, Begins, Each-append, Made, Mapped, AreFresh, WorkerState, Work, then_work, MayBeOffline, pool_seen, pool_made, parents_of, cited_by, id_found, IsReply, IsBefore, scan_made, scans_made, IsCausedBy, DidCharges, DidCarry, StandsIn, MayMake, IsFilled, IsCited, IsFoundBy, number_made, numbers_tried, number_found, KnowsOnline, MeetsGroups, Step, Brings, DidRoundsOf, counted_in, mapped_in, cleared_in, set_in, word_of, steps_walked, told_step, IsWant, slice_left}
 use Rattle.shr_charge.specs.Views as charge
-use Rattle.shr_walk.specs.Fresh.{AreFresh}
-use Rattle.shr_walk.specs.State.{WorkerState, Work, then_work}
-use Rattle.shr_report.specs.Freshness.{MayBeOffline, pool_seen, pool_made}
-use Rattle.shr_report.specs.Parts.{parents_of, cited_by, id_found}
-use Rattle.shr_report.specs.ReplyTable.{IsReply}
 use Rattle.shr_report.specs.WalksLawful as walks
-use Rattle.shr_report.specs.WellFormed.{IsBefore}
-use Rattle.shr_assemble.specs.Attempts.{scan_made, scans_made}
-use Rattle.shr_assemble.specs.Causes.{IsCausedBy}
-use Rattle.shr_assemble.specs.Charges.{DidCharges}
-use Rattle.shr_assemble.specs.Deferred.{DidCarry}
-use Rattle.shr_assemble.specs.Entries.{StandsIn, MayMake, IsFilled, IsCited}
-use Rattle.shr_assemble.specs.Lookups.{IsFoundBy, number_made, numbers_tried, number_found}
-use Rattle.shr_assemble.specs.Offlining.{KnowsOnline, MeetsGroups}
-use Rattle.shr_assemble.specs.Steps.{Step, Brings}
-use Rattle.shr_assemble.specs.Walks.{DidRoundsOf, counted_in, mapped_in, cleared_in, set_in, word_of}
 use Rattle.shr_assemble.proofs.Bringing.{brings_of, brings_then}
 use Rattle.shr_assemble.proofs.Filling.{IsSet, set_walked, set_filled, filled_among}
 use Rattle.shr_assemble.proofs.Gathering.{among_left, among_right}
-use Rattle.shr_report.specs.Takes.{steps_walked}
-use Rattle.shr_assemble.specs.Deferred.{told_step}
 use Rattle.shr_assemble.proofs.Quiet.{HasDid, still_pool, still_tree, IsToldOnce, none_moved}
-use Rattle.shr_assemble.proofs.WalkingSteps.{OnlyScan, slice_left, step_of, Has, walk_later, Walked}
+use Rattle.shr_assemble.proofs.WalkingSteps.{OnlyScan, step_of, Has, walk_later, Walked}
 use Rattle.shr_assemble.proofs.WalkingChain.{FrontHad, any_cut, front_pairs}
-use Rattle.shr_report.specs.Cuts.{IsWant}
 
 -- what came after the walks: no walk, no move, and no entry of a scan or of the other journals
 pub record IsTail (q : Work) : Type 0 where

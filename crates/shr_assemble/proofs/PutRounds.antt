@@ -1,34 +1,14 @@
 -- The tries of a put's charge and the walks between them: their jobs and their operations.
-use Rattle.std.proofs.Common.{◌≡◌, ℕ, ◌+◌, ◌-◌, ◌<◌, List, [], ◌∷◌, ◌++◌, length, map, refl, sym, ap, subst, ◌∙◌, arith, append_assoc, false}
-use Rattle.std.specs.Prelude.{pos, Some}
-use Rattle.std.specs.List.{AllByRecursion}
-use Rattle.std.proofs.lemmas.List.{map-append}
-use Rattle.shr_base.specs.declared.journals.UseStep.{UseStep}
-use Rattle.shr_base.specs.declared.places.Serial.{Serial}
-use Rattle.shr_base.specs.declared.replies.Answered.{Answered}
-use Rattle.shr_base.specs.declared.scripts.Command.{Command}
-use Rattle.shr_model.specs.Commands.{round_of, rounds_from}
-use Rattle.shr_model.specs.Groups.{IsAtOrAbove}
-use Rattle.shr_model.specs.Walks.{job_of}
-use Rattle.shr_charge.specs.declared.answers.ChargeAnswer.{ChargeAnswer}
+use Rattle.shr_assemble.proofs.Common.{◌≡◌, ℕ, ◌+◌, ◌-◌, ◌<◌, List, [], ◌∷◌, ◌++◌, length, map, refl, sym, ap, subst, ◌∙◌, arith, append_assoc, false, pos, Some, AllByRecursion, map-append, UseStep, Serial, Answered, Command, round_of, IsAtOrAbove, job_of, ChargeAnswer, ChargeOps, IsDown, parents_of, WorkerState, Work, then_work, Shared, Visit, Round, job_in, HadRoom, AreRounds, TriesInRounds, IsTried, Refusal, charge_work, over_of, kept_of, each_weaker}
+use Rattle.shr_model.specs.Commands.{rounds_from}
 use Rattle.shr_charge.specs.declared.answers.ChargeAnswer.TheVariants as charge
-use Rattle.shr_charge.specs.Charging.{ChargeOps, IsDown, IsOver}
-use Rattle.shr_report.specs.Parts.{parents_of}
-use Rattle.shr_walk.specs.State.{WorkerState, Work, then_work}
-use Rattle.shr_walk.specs.declared.seats.Shared.{Shared}
-use Rattle.shr_reclaim.specs.Rounds.{Visit, Round, job_in, HadRoom, AreRounds, TriesInRounds}
-use Rattle.shr_reclaim.specs.Trying.{IsTried, Refusal, charge_work}
-use Rattle.shr_reclaim.proofs.Reclaimed.{over_of, kept_of}
+use Rattle.shr_charge.specs.Charging.{IsOver}
 use Rattle.shr_assemble.proofs.PutTries.{AreOps, ops_then, ops_try, ops_walks}
 use Rattle.shr_assemble.proofs.RoundingWalks.{RoundsSeen, RefusedAt, refused_at, round_there, due_is, groups_in, had_answers, tried_walked}
 use Rattle.shr_assemble.proofs.WalkingCharges.{GoesDown, rec_of}
 use Rattle.shr_assemble.proofs.WalkingChain.{IsThereJob, GaveAll, gave_all, visited_one, any_cut, all_had, uncut_then}
 use Rattle.shr_assemble.proofs.WalkingSteps.{Walked, walked_then}
 use Rattle.shr_assemble.proofs.WalkingTold.{IsTableOf}
-
-all_weaker : {A : Type 0} (P Q : A → Type 0) → ((x : A) → P x → Q x) → (xs : List A) → AllByRecursion P xs → AllByRecursion Q xs
-all_weaker P Q f [] h = tt
-all_weaker P Q f (x ∷ xs) h = (f x h.0, all_weaker P Q f xs h.1)
 
 -- the last up of these operations was refused, and only downs follow it
 pub record EndsOver (x : Shared) (by : Serial) (r : Refusal) (ops : List UseStep) : Type 0 where
@@ -57,7 +37,7 @@ over_tried x by group (charge.Over level operation usage) ops h = record {
   here = h.here;
   number = h.operation;
   found = h.found;
-  downs = all_weaker (IsDown by) GoesDown (λ o d. d.down) h.downs (rec_of (IsDown by) h.downs h.taken_back.each);
+  downs = each_weaker (IsDown by) GoesDown (λ o d. d.down) h.downs (rec_of (IsDown by) h.downs h.taken_back.each);
 }
 
 over_after : (x : Shared) (by : Serial) (answer : ChargeAnswer) (a b : List UseStep) → OverAtLast x by answer b → OverAtLast x by answer (a ++ b)

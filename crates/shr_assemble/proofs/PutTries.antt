@@ -1,40 +1,12 @@
 -- The operations of a put's tries and walks, group by group.
-use Rattle.std.proofs.Common.{◌≡◌, ℕ, zero, suc, ◌+◌, ◌-◌, ◌<◌, ◌≤◌, ◌&&◌, Bool, true, false, not, cond, ◌==◌, List, [], ◌∷◌, ◌++◌, length, length-append, map, refl, sym, ap, subst, ◌∙◌, arith, append_assoc, eq-eqb, ne_eqb}
-use Rattle.std.specs.Prelude.{Option, None, option_and_then, slice_get, slice_index_or, count_by, sum_by, pos, ◌-ℤ◌, Some, replicate}
-use Rattle.std.specs.List.{AllByRecursion}
-use Rattle.std.proofs.lemmas.Int.{ints}
-use Rattle.std.proofs.lemmas.List.{append-nil}
-use Rattle.std.proofs.lemmas.List.Sums.{sum_by-append}
-use mathlib.Core.Logic.{dite}
-use native.Mathlib.Decide.{ℕ_discrete}
-use Rattle.shr_base.specs.declared.journals.UseStep.{UseStep}
-use Rattle.shr_base.specs.declared.objects.Object.{Object}
-use Rattle.shr_base.specs.declared.places.Serial.{Serial}
-use Rattle.shr_base.specs.declared.replies.Answered.{Answered}
-use Rattle.shr_base.specs.declared.scripts.Command.TheVariants.{Register}
-use Rattle.shr_base.specs.declared.walks.WalkRecord.{WalkRecord}
-use Rattle.shr_model.specs.Charges.{ups, downs, is_refused, IsBelow}
-use Rattle.shr_model.specs.Freeings.{is_at_or_above}
-use Rattle.shr_model.specs.Groups.{IsTree, path_of}
-use Rattle.shr_model.proofs.GroupsOrder.{IsOn, by_parents, on_self, on_le}
-use Rattle.shr_seats.specs.Views.{Each}
-use Rattle.shr_charge.specs.declared.answers.ChargeAnswer.{ChargeAnswer}
+use Rattle.shr_assemble.proofs.Common.{◌≡◌, ℕ, zero, suc, ◌+◌, ◌-◌, ◌<◌, ◌≤◌, ◌&&◌, Bool, true, false, not, cond, ◌==◌, List, [], ◌∷◌, ◌++◌, length, length-append, map, refl, sym, ap, subst, ◌∙◌, arith, append_assoc, eq-eqb, ne_eqb, Option, None, option_and_then, slice_get, slice_index_or, count_by, sum_by, pos, ◌-ℤ◌, Some, replicate, AllByRecursion, ints, append-nil, sum_by-append, dite, ℕ_discrete, UseStep, Object, Serial, Answered, Register, WalkRecord, ups, downs, is_refused, IsBelow, is_at_or_above, IsTree, path_of, IsOn, by_parents, on_self, on_le, Each, ChargeAnswer, ChargeOps, IsDown, path_to, way_here, way_root, way_up, parents_of, limits_of, limit_of, Groups, freed_in, WorkerState, Work, then_work, Shared, charge_work, times_of, times_both, nets_downs, over_of, kept_of, way_once, refused_on, DidCharges, ops_at, freed_below, each_append, each_weaker}
 use Rattle.shr_charge.specs.declared.answers.ChargeAnswer.TheVariants as charge
 use Rattle.shr_charge.specs.Charging as charging
-use Rattle.shr_charge.specs.Charging.{ChargeOps, IsDown, IsUp, group_of}
-use Rattle.shr_charge.specs.Paths.{path_to}
-use Rattle.shr_charge.proofs.Ways.{way_here, way_root, way_up, way_whole}
-use Rattle.shr_report.specs.Parts.{parents_of, limits_of, limit_of}
-use Rattle.shr_tree.specs.Tree.{Groups}
-use Rattle.shr_walk.specs.Keeping.{freed_in}
-use Rattle.shr_walk.specs.State.{WorkerState, Work, then_work}
-use Rattle.shr_walk.specs.declared.seats.Shared.{Shared}
-use Rattle.shr_reclaim.specs.Trying.{charge_work}
-use Rattle.shr_reclaim.proofs.Netting.{times_of, times_both, nets_refused, nets_charged, nets_downs}
-use Rattle.shr_reclaim.proofs.Reclaimed.{over_of, kept_of}
-use Rattle.shr_reclaim.proofs.Refusing.{way_once, way_few, refused_on}
+use Rattle.shr_charge.specs.Charging.{IsUp, group_of}
+use Rattle.shr_charge.proofs.Ways.{way_whole}
+use Rattle.shr_reclaim.proofs.Netting.{nets_refused, nets_charged}
+use Rattle.shr_reclaim.proofs.Refusing.{way_few}
 use Rattle.shr_reclaim.proofs.Settling.{refused_closes}
-use Rattle.shr_assemble.specs.Charges.{DidCharges, ops_at, freed_below}
 use Rattle.shr_assemble.proofs.Outcomes.{outcomes, answers_in, outcomes_then, answers_then, no_answers, down_outcomes, FoundRoom, up_outcomes, over_outcomes, above_is, way_times}
 use Rattle.shr_assemble.proofs.PutWays.{Closed, Ends, closed_then, closed_ends_then, closed_ends, closed_downs, closed_by, ends_short, closed_pair, at_then, at_all, at_long, ups_is, downs_is, refused_is}
 use Rattle.shr_assemble.proofs.WalkingTold.{IsTableOf}
@@ -42,14 +14,6 @@ use Rattle.shr_assemble.proofs.WalkingGives.{Freed}
 use Rattle.shr_assemble.proofs.WalkingCharges as walking
 use Rattle.shr_assemble.proofs.WalkingCharges.{GoesDown, rec_of, all_down, walks_charge, no_ups}
 use Rattle.shr_assemble.proofs.WalkingSteps.{IsScanOne, step_of}
-
-pub all_both : {A : Type 0} (P : A → Type 0) (xs ys : List A) → AllByRecursion P xs → AllByRecursion P ys → AllByRecursion P (xs ++ ys)
-all_both P [] ys a b = b
-all_both P (x ∷ xs) ys a b = (a.0, all_both P xs ys a.1 b)
-
-pub all_weaker : {A : Type 0} (P Q : A → Type 0) → ((x : A) → P x → Q x) → (xs : List A) → AllByRecursion P xs → AllByRecursion Q xs
-all_weaker P Q f [] h = tt
-all_weaker P Q f (x ∷ xs) h = (f x h.0, all_weaker P Q f xs h.1)
 
 pub of_groups : (P : ℕ → Type 0) (ops : List UseStep) → AllByRecursion P (map group_of ops) → AllByRecursion (λ (o : UseStep). P o.group) ops
 of_groups P [] h = tt
@@ -104,8 +68,8 @@ module _ (x : Shared) (by : Serial) (group : ℕ) where
   ops_then m n over more kept v w short p q = record {
     charges = let c = p.charges in let d = q.charges in omega (arith, c, d);
     uncharges = let c = p.uncharges in let d = q.uncharges in let e = sum_by-append (λ (o : UseStep). cond {A = ℕ} (not o.up) 1 0) v.ops w.ops in omega (arith, c, d, e);
-    own = all_both (λ (o : UseStep). o.by ≡ by) v.ops w.ops p.own q.own;
-    there = all_both (λ (o : UseStep). o.group < length (parents_of x.script)) v.ops w.ops p.there q.there;
+    own = each_append (λ (o : UseStep). o.by ≡ by) v.ops w.ops p.own q.own;
+    there = each_append (λ (o : UseStep). o.group < length (parents_of x.script)) v.ops w.ops p.there q.there;
     each = let c = p.each in let d = q.each in let e = count_then (λ (o : UseStep). o.up) group v.ops w.ops in omega (arith, c, d, e);
     most = λ g. let c = p.most g in let d = q.most g in let e = count_then (λ (o : UseStep). o.up) g v.ops w.ops in omega (arith, c, d, e);
     net = λ g lt. let c = p.net g lt in let d = q.net g lt in let e = count_then (λ (o : UseStep). o.up) g v.ops w.ops in let f = count_then (λ (o : UseStep). not o.up) g v.ops w.ops in
@@ -149,7 +113,7 @@ module _ (x : Shared) (table : IsTableOf x) (by : Serial) (group : ℕ) (inside 
 
   -- the ups of these operations that found room, in a group
   found_room : (g : ℕ) (ops : List UseStep) → AllByRecursion (IsUp x.charge.shape by) ops → outcomes (limit_of x.script g) (ops_at g ops) ≡ replicate (times_of g (map group_of ops)) false
-  found_room g ops each = up_outcomes (limit_of x.script g) (ops_at g ops) (all_weaker (λ (o : UseStep). IsUp x.charge.shape by o × (o.group ≡ g)) (FoundRoom (limit_of x.script g))
+  found_room g ops each = up_outcomes (limit_of x.script g) (ops_at g ops) (each_weaker (λ (o : UseStep). IsUp x.charge.shape by o × (o.group ≡ g)) (FoundRoom (limit_of x.script g))
       (λ o u. (u.0.up, subst (λ l. IsBelow l o) (ap (charging.limit_of x.charge.shape) u.1 ∙ sym (same_limit x table g)) u.0.below)) (ops_at g ops) (at_all (IsUp x.charge.shape by) g ops each))
       ∙ ap (λ (n : ℕ). replicate n false) (at_long g ops)
 
@@ -171,7 +135,7 @@ module _ (x : Shared) (table : IsTableOf x) (by : Serial) (group : ℕ) (inside 
       parents = x.charge.shape.parents.items
 
       downs_each : AllByRecursion GoesDown (ops_at g h.downs)
-      downs_each = all_down g h.downs (all_weaker (IsDown by) GoesDown (λ o d. d.down) h.downs (rec_of (IsDown by) h.downs h.taken_back.each))
+      downs_each = all_down g h.downs (each_weaker (IsDown by) GoesDown (λ o d. d.down) h.downs (rec_of (IsDown by) h.downs h.taken_back.each))
 
       on : IsOn (parents_of x.script) level group
       on = subst (λ (p : List ℕ). IsOn p level group) (charge_parents x table) (refused_on x.charge.shape by group level operation usage ops x.charge.tree there h)
@@ -215,7 +179,7 @@ module _ (x : Shared) (table : IsTableOf x) (by : Serial) (group : ℕ) (inside 
   ops_try charge.Charged ops h = let each : AllByRecursion (IsUp x.charge.shape by) ops = rec_of (IsUp x.charge.shape by) ops h.each in record {
     charges = refl;
     uncharges = omega arith;
-    own = all_weaker (IsUp x.charge.shape by) (λ (o : UseStep). o.by ≡ by) (λ o u. u.made) ops each;
+    own = each_weaker (IsUp x.charge.shape by) (λ (o : UseStep). o.by ≡ by) (λ o u. u.made) ops each;
     there = of_groups (λ n. n < length (parents_of x.script)) ops (subst (AllByRecursion (λ n. n < length (parents_of x.script))) (sym h.at) on_path);
     each = let n = (nets_charged x.charge.shape group by group ops h).up in let e = ups_is group ops in omega (arith, n, e, path_once);
     most = λ g. let n = (nets_charged x.charge.shape g by group ops h).up in let e = ups_is g ops in let f = path_few g in omega (arith, n, e, f);
@@ -223,7 +187,7 @@ module _ (x : Shared) (table : IsTableOf x) (by : Serial) (group : ℕ) (inside 
     refusals = λ g. refusals_are g 0 ops (nets_charged x.charge.shape g by group ops h).refused;
     settled = λ g b long down. let l = at_long g ops in let at = ap (times_of g) h.at in let f = path_few g in closed_pair (ops_at g ops) b (omega (arith, l, at, f)) (omega (arith, l, at, long)) down;
     ends = λ g. let l = at_long g ops in let at = ap (times_of g) h.at in let f = path_few g in ends_short (limit_of x.script g) (ops_at g ops) (omega (arith, l, at, f))
-        (all_weaker (λ (o : UseStep). IsUp x.charge.shape by o × (o.group ≡ g)) (IsBelow (limit_of x.script g)) (λ o u. subst (λ l. IsBelow l o) (ap (charging.limit_of x.charge.shape) u.1 ∙ sym (same_limit x table g)) u.0.below) (ops_at g ops) (at_all (IsUp x.charge.shape by) g ops each));
+        (each_weaker (λ (o : UseStep). IsUp x.charge.shape by o × (o.group ≡ g)) (IsBelow (limit_of x.script g)) (λ o u. subst (λ l. IsBelow l o) (ap (charging.limit_of x.charge.shape) u.1 ∙ sym (same_limit x table g)) u.0.below) (ops_at g ops) (at_all (IsUp x.charge.shape by) g ops each));
     tried = λ g. charged_answers g ops h;
   }
   ops_try (charge.Over level operation usage) ops h =
@@ -234,8 +198,8 @@ module _ (x : Shared) (table : IsTableOf x) (by : Serial) (group : ℕ) (inside 
       let closed = λ (g : ℕ). closed_by (ops_at g ops) (refused_closes x.charge.shape by group g level operation usage ops h (few g)) in record {
         charges = refl;
         uncharges = omega arith;
-        own = subst (AllByRecursion (λ (o : UseStep). o.by ≡ by)) (sym h.whole) (all_both (λ (o : UseStep). o.by ≡ by) h.ups (h.over ∷ h.downs)
-            (all_weaker (IsUp x.charge.shape by) (λ (o : UseStep). o.by ≡ by) (λ o u. u.made) h.ups ups_each) (h.refused.made, all_weaker (IsDown by) (λ (o : UseStep). o.by ≡ by) (λ o u. u.made) h.downs downs_each));
+        own = subst (AllByRecursion (λ (o : UseStep). o.by ≡ by)) (sym h.whole) (each_append (λ (o : UseStep). o.by ≡ by) h.ups (h.over ∷ h.downs)
+            (each_weaker (IsUp x.charge.shape by) (λ (o : UseStep). o.by ≡ by) (λ o u. u.made) h.ups ups_each) (h.refused.made, each_weaker (IsDown by) (λ (o : UseStep). o.by ≡ by) (λ o u. u.made) h.downs downs_each));
         there = subst (AllByRecursion (λ (o : UseStep). o.group < length (parents_of x.script))) (sym h.whole) (there_split h.ups h.over h.downs (subst (AllByRecursion (λ n. n < length (parents_of x.script))) (sym h.levels) (on_way level)) (subst (AllByRecursion (λ n. n < length (parents_of x.script))) (sym h.taken_back.at) (on_way level)));
         each = let n = (nets_refused x.charge.shape group by group level operation usage ops h).up in let e = ups_is group ops in omega (arith, n, e, way);
         most = λ g. let n = (nets_refused x.charge.shape g by group level operation usage ops h).up in let e = ups_is g ops in let f = few g in omega (arith, n, e, f);

@@ -1,43 +1,11 @@
 -- A put that was not added after its charge, which was taken back.
-use Rattle.std.proofs.Common.{◌≡◌, ℕ, ◌+◌, ◌<◌, ◌≤◌, inl, inr, Bool, true, false, not, ◌==◌, List, [], ◌∷◌, ◌++◌, length, length-append, map, refl, sym, ap, subst, ◌∙◌, arith}
-use Rattle.std.specs.Prelude.{Some, None, sum_by, if◌then◌else◌}
-use Rattle.std.proofs.lemmas.List.{append-nil, append_cancel_left}
-use Rattle.std.proofs.lemmas.Option.{none-some}
-use Rattle.shr_base.specs.declared.journals.Entry.{Entry}
-use Rattle.shr_base.specs.declared.journals.Entry.TheVariants.{Add}
-use Rattle.shr_base.specs.declared.objects.Object.{Object}
-use Rattle.shr_base.specs.declared.places.At.{At}
-use Rattle.shr_base.specs.declared.places.Serial.{Serial}
-use Rattle.shr_base.specs.declared.replies.Answered.{Answered}
-use Rattle.shr_base.specs.declared.replies.Found.{Found}
-use Rattle.shr_base.specs.declared.replies.Reply.{Reply}
+use Rattle.shr_assemble.proofs.Common.{◌≡◌, ℕ, ◌+◌, ◌<◌, ◌≤◌, inl, inr, Bool, true, false, not, ◌==◌, List, [], ◌∷◌, ◌++◌, length, length-append, map, refl, sym, ap, subst, ◌∙◌, arith, Some, None, sum_by, if◌then◌else◌, append-nil, append_cancel_left, none-some, Entry, Add, Object, At, Serial, Answered, Found, Reply, Spent, Command, fresh, holds, rounds_from, is_live_decl, job_of, Each, Each-none, View, Gained, nothing, Adds, Made, Loaded, shape_of, add_entry, Listed, AddGives, parents_of, WorkerState, Work, then_work, Does, Shared, added_below, freed_below, MayMake, IsFilled, Step}
 use Rattle.shr_base.specs.declared.replies.Reply.TheVariants as reply
-use Rattle.shr_base.specs.declared.replies.Spent.{Spent}
 use Rattle.shr_base.specs.declared.replies.Spent.TheVariants as spent
-use Rattle.shr_base.specs.declared.scripts.Command.{Command}
-use Rattle.shr_model.specs.Objects.{fresh, holds}
-use Rattle.shr_model.specs.Commands.{rounds_from}
-use Rattle.shr_model.specs.Pool.{is_live_decl}
-use Rattle.shr_model.specs.Walks.{job_of}
-use Rattle.shr_seats.specs.Views.{Each}
-use Rattle.shr_seats.proofs.Weighing.{Each-none}
 use Rattle.shr_cache.specs.Puts.{PutsInVain}
-use Rattle.shr_core.specs.declared.view.View.{View}
-use Rattle.shr_core.specs.Gained.{Gained, nothing, Adds}
-use Rattle.shr_core.specs.Parts.{Made, Loaded}
-use Rattle.shr_core.specs.Seats.{shape_of}
-use Rattle.shr_list.specs.Answers.{add_entry}
-use Rattle.shr_list.specs.Listed.{Listed}
 use Rattle.shr_node.specs.declared.answers.NodeAdd.{NodeAdd}
 use Rattle.shr_node.specs.declared.answers.NodeAdd.TheVariants as add
-use Rattle.shr_node.specs.Answers.{AddGives}
 use Rattle.shr_reclaim.specs.declared.answers.Admission.TheVariants as admission
-use Rattle.shr_report.specs.Parts.{parents_of}
-use Rattle.shr_walk.specs.State.{WorkerState, Work, then_work, Does}
-use Rattle.shr_walk.specs.declared.seats.Shared.{Shared}
-use Rattle.shr_assemble.specs.Charges.{added_below, freed_below}
-use Rattle.shr_assemble.specs.Entries.{MayMake, IsFilled}
-use Rattle.shr_assemble.specs.Steps.{Step}
 use Rattle.shr_assemble.proofs.Gathering.{among_left, among_right}
 use Rattle.shr_assemble.proofs.Listed.{contains_among}
 use Rattle.shr_assemble.proofs.Filling.{filled_by}

@@ -1,21 +1,10 @@
 -- The operations of a command in one group: each up is followed by a down, or is the last one and found room.
-use Rattle.std.proofs.Common.{◌≡◌, ℕ, zero, suc, ◌+◌, ◌<◌, ◌≤◌, ◌&&◌, Bool, true, false, not, cond, ◌==◌, List, [], ◌∷◌, ◌++◌, length, drop, map, refl, sym, ap, subst, ◌∙◌, arith, eq-eqb}
-use Rattle.std.proofs.lemmas.Bool.{eqb-true}
-use Rattle.std.specs.Prelude.{slice_get, Option, Some, count_by, MatchOption, find}
-use Rattle.std.specs.List.{AllByRecursion}
-use Rattle.std.proofs.lemmas.Option.{same_Some, none-some, slice_get_within, slice_get-get_or}
-use mathlib.Core.Logic.{dite}
-use native.Mathlib.Decide.{ℕ_discrete}
-use Rattle.shr_base.specs.declared.journals.UseStep.{UseStep}
-use Rattle.shr_base.specs.declared.places.Serial.{Serial}
-use Rattle.shr_model.specs.Charges.{ups, downs, is_by, is_refused, IsBelow, IsDownNext, AreTakenBack}
+use Rattle.shr_assemble.proofs.Common.{◌≡◌, ℕ, zero, suc, ◌+◌, ◌<◌, ◌≤◌, ◌&&◌, Bool, true, false, not, cond, ◌==◌, List, [], ◌∷◌, ◌++◌, length, drop, map, refl, sym, ap, subst, ◌∙◌, arith, eqb-true, slice_get, Option, Some, count_by, MatchOption, find, AllByRecursion, same_Some, none-some, slice_get_within, slice_get-get_or, dite, ℕ_discrete, UseStep, Serial, ups, downs, is_by, is_refused, IsBelow, IsDownNext, AreTakenBack, times_of, count_first, IsDownBetween, ops_at}
 use Rattle.shr_charge.specs.Charging.{group_of}
 use Rattle.shr_charge.specs.Uses.{ups_at, downs_at}
-use Rattle.shr_reclaim.proofs.Netting.{times_of, count_first}
 use Rattle.shr_reclaim.proofs.Settling.{Closes}
-use Rattle.shr_report.specs.Charges.{IsDownBetween}
-use Rattle.shr_assemble.specs.Charges.{ops_at}
 use Rattle.shr_assemble.proofs.WalkingCharges.{GoesDown}
+use Rattle.shr_assemble.proofs.Operations.{is_by_own}
 
 abbrev pub ways : List UseStep → List Bool
 ways ops = map (λ (o : UseStep). o.up) ops
@@ -91,11 +80,6 @@ closed_pair (o ∷ p ∷ a) b few same h = absurd (omega (arith, few))
 
 -- ---- what it says
 
-own_by : (by : Serial) (o : UseStep) → o.by ≡ by → is_by by o ≡ true
-own_by by o e = ap (λ (n : ℕ). (n == by.worker) && (o.by.command == by.command)) (ap (λ (s : Serial). s.worker) e)
-    ∙ (ap (λ (n : ℕ). (by.worker == by.worker) && (n == by.command)) (ap (λ (s : Serial). s.command) e)
-    ∙ (ap (λ (b : Bool). b && (by.command == by.command)) (eq-eqb by.worker by.worker refl) ∙ eq-eqb by.command by.command refl))
-
 pub ends_taken : (by : Serial) (limit : Option ℕ) (a : List UseStep) → AllByRecursion (λ (o : UseStep). o.by ≡ by) a → Ends limit a → AreTakenBack limit a
 ends_taken by limit [] own h n y e up above = absurd (none-some y e)
 ends_taken by limit (o ∷ []) own h zero y e up above = absurd (above (subst (IsBelow limit) (same_Some o y e) (h (ap (λ (z : UseStep). z.up) (same_Some o y e) ∙ up))))
@@ -103,7 +87,7 @@ ends_taken by limit (o ∷ []) own h (suc n) y e up above = absurd (none-some y 
 ends_taken by limit (o ∷ p ∷ a) own h zero y e up above =
     let same = same_Some o y e in
     let mine : y.by ≡ by = ap (λ (z : UseStep). z.by) (sym same) ∙ own.0 in
-    let first : find (is_by y.by) (p ∷ a) ≡ Some p = ap (λ (b : Bool). cond b (Some p) (find (is_by y.by) a)) (own_by y.by p (own.1.0 ∙ sym mine)) in
+    let first : find (is_by y.by) (p ∷ a) ≡ Some p = ap (λ (b : Bool). cond b (Some p) (find (is_by y.by) a)) (is_by_own y.by p (own.1.0 ∙ sym mine)) in
     subst (λ (f : Option UseStep). MatchOption f ⊥ (λ (z : UseStep). z.up ≡ false)) (sym first) (h.0 (ap (λ (z : UseStep). z.up) same ∙ up))
 ends_taken by limit (o ∷ p ∷ a) own h (suc n) y e up above =
     let there : suc (n + 1) ≡ suc n + 1 = omega arith in

@@ -1,49 +1,14 @@
 -- The parts of what a command did that are empty: of one that makes no walk, no move, no charge, no entry of a journal.
-use Rattle.std.proofs.Common.{◌≡◌, ℕ, ◌<◌, ◌≤◌, pos, ◌-ℤ◌, Bool, true, false, cond, List, [], ◌∷◌, ◌++◌, inl, length, length-append, refl, sym, ap, subst, ◌∙◌, arith}
-use Rattle.std.specs.Prelude.{◌⊎◌, slice_get, Option, Some, None, option_and_then, map, flat_map, sum_by, All, AllPairs}
-use Rattle.std.specs.List.{AllByRecursion, list_any}
-use Rattle.std.specs.Option.{IsSomeAnd}
-use Rattle.std.proofs.lemmas.List.Elements.{All-nil}
-use Rattle.std.proofs.lemmas.Option.{none-some, same_Some}
-use Rattle.shr_base.specs.declared.journals.UseStep.{UseStep}
-use Rattle.shr_base.specs.declared.places.Serial.{Serial}
-use Rattle.shr_base.specs.declared.replies.Answered.{Answered}
-use Rattle.shr_base.specs.declared.replies.Reply.{Reply}
+use Rattle.shr_assemble.proofs.Common.{◌≡◌, ℕ, ◌<◌, ◌≤◌, pos, ◌-ℤ◌, Bool, true, false, cond, List, [], ◌∷◌, ◌++◌, inl, length, refl, sym, ap, subst, ◌∙◌, arith, ◌⊎◌, slice_get, Option, Some, None, option_and_then, map, flat_map, sum_by, All, AllPairs, AllByRecursion, list_any, IsSomeAnd, All-nil, none-some, same_Some, UseStep, Serial, Answered, Reply, Command, Put, Shrink, Balance, Script, Carry, WalkRecord, asks_online, jobs_of, sum_at, ups, usage_after, given_at, taken_at, Job, job_of, is_cut, Moves, takes_of, gives_of, Each, Begins, Each-none, Made, Mapped, Turn, WorkerState, Work, AreFresh, parents_of, charged, MayBeOffline, made_shown, pool_seen, pool_made, group_met, steps_walked, IsToldBy, IsBefore, AreNotFalling, Step, Brings, IsPut, DidRoundsOf, AreWalksFor, counted_in, mapped_in, cleared_in, word_of, DidCharges, ops_at, added_below, freed_below, DidMoves, DidCarry, told_step, DidPool, IsTurnOf, IsEntryOf, KnowsOnline, MeetsGroups, Did}
 use Rattle.shr_base.specs.declared.replies.Reply.TheVariants as reply
-use Rattle.shr_base.specs.declared.scripts.Command.{Command}
-use Rattle.shr_base.specs.declared.scripts.Command.TheVariants.{Put, Shrink, Balance}
-use Rattle.shr_base.specs.declared.scripts.Script.{Script}
-use Rattle.shr_base.specs.declared.walks.Carry.{Carry}
-use Rattle.shr_base.specs.declared.walks.WalkRecord.{WalkRecord}
-use Rattle.shr_model.specs.Commands.{asks_online, jobs_of}
-use Rattle.shr_model.specs.Deferred.{sum_at}
-use Rattle.shr_model.specs.Charges.{ups, usage_after}
-use Rattle.shr_model.specs.Moves.{given_at, taken_at}
-use Rattle.shr_model.specs.Walks.{Job, job_of, is_cut}
-use Rattle.shr_deferred.specs.Moves.{Moves, takes_of, gives_of}
 use Rattle.shr_deferred.specs.Moves as moves
-use Rattle.shr_seats.specs.Views.{Each}
-use Rattle.shr_seats.specs.Weights.{Begins}
-use Rattle.shr_seats.proofs.Weighing.{Each-none}
-use Rattle.shr_core.specs.Parts.{Made, Mapped, Turn}
 use Rattle.shr_charge.specs.Views as charge
-use Rattle.shr_walk.specs.State.{WorkerState, Work}
-use Rattle.shr_walk.specs.Fresh.{AreFresh, IsFreshAt}
-use Rattle.shr_report.specs.Parts.{parents_of}
-use Rattle.shr_report.specs.Charges.{charged}
-use Rattle.shr_report.specs.Freshness.{MayBeOffline, made_shown, pool_seen, pool_made}
-use Rattle.shr_report.specs.ReplyTable.{group_met}
-use Rattle.shr_report.specs.Takes.{steps_walked}
-use Rattle.shr_report.specs.WalksLawful.{MayMake, IsToldBy}
-use Rattle.shr_report.specs.WellFormed.{IsBefore, AreNotFalling}
-use Rattle.shr_assemble.specs.Steps.{Step, Brings, IsPut}
-use Rattle.shr_assemble.specs.Walks.{DidRoundsOf, AreWalksFor, DidWalks, counted_in, mapped_in, cleared_in, word_of}
-use Rattle.shr_assemble.specs.Charges.{DidCharges, ops_at, added_below, freed_below}
-use Rattle.shr_assemble.specs.Deferred.{DidMoves, DidCarry, told_step}
-use Rattle.shr_assemble.specs.Pool.{DidPool, IsTurnOf}
-use Rattle.shr_assemble.specs.Offlining.{DidTree, IsEntryOf, KnowsOnline, MeetsGroups}
+use Rattle.shr_walk.specs.Fresh.{IsFreshAt}
+use Rattle.shr_report.specs.WalksLawful.{MayMake}
+use Rattle.shr_assemble.specs.Walks.{DidWalks}
+use Rattle.shr_assemble.specs.Offlining.{DidTree}
 use Rattle.shr_assemble.specs.Causes.{IsUnmadeBy}
-use Rattle.shr_assemble.specs.Did.{Did}
+use Rattle.shr_assemble.proofs.FreshLaw.{begins_length}
 
 -- a step by its parts
 abbrev pub step_of : Serial → Command → Answered → WorkerState → WorkerState → Work → Step
@@ -189,9 +154,6 @@ IsToldOnce x [] = Unit {0}
 IsToldOnce x (n ∷ []) = n ≡ length x.after.core.turns.known
 IsToldOnce x (n ∷ m ∷ ns) = ⊥
 
-pub begins_longer : {A : Type 0} (xs ys : List A) → Begins xs ys → length xs ≤ length ys
-begins_longer {A} xs ys b = omega (arith, ap (λ (l : List A). length l) b.1, length-append xs b.0)
-
 seen_once : (x : Step) (ns : List ℕ) → length x.before.core.turns.known ≤ length x.after.core.turns.known → IsToldOnce x ns → AllByRecursion (λ n. (length x.before.core.turns.known ≤ n) × (n ≤ length x.after.core.turns.known)) ns
 seen_once x [] le h = tt
 seen_once x (n ∷ []) le h = ((omega (arith, le, h), omega (arith, h)), tt)
@@ -206,7 +168,7 @@ pub still_pool : (s : Script) (x : Step) → Begins x.before.core.turns.known x.
 still_pool s x grows none told = record {
   turns = each_of_none (λ (t : Turn). IsTurnOf x.after.core.turns.known t.entry t.number x.answered.reply) x.work.core.turns none.turns;
   later = each_of_none (λ (t : Turn). length x.before.core.turns.known ≤ t.number) x.work.core.turns none.turns;
-  seen = seen_once x (pool_seen x.answered) (begins_longer x.before.core.turns.known x.after.core.turns.known grows) told;
+  seen = seen_once x (pool_seen x.answered) (begins_length x.before.core.turns.known x.after.core.turns.known grows) told;
   rise = rise_once x (pool_seen x.answered) told;
   made = subst (λ (ns : List ℕ). AllByRecursion (λ n. n < length x.after.core.turns.known) ns) (sym none.made) tt;
 }

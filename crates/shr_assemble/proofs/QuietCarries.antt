@@ -1,32 +1,10 @@
 -- What carrying a group's deferred work took and gave, by what was noted of it.
-use Rattle.std.proofs.Common.{◌≡◌, ℕ, ◌+◌, ◌<◌, Bool, true, false, cond, ◌==◌, ◌&&◌, List, [], ◌∷◌, ◌++◌, map, length, refl, sym, ap, ◌∙◌, arith, eqb, eq-eqb, ne_eqb}
-use Rattle.std.specs.Prelude.{sum_by, flat_map}
-use Rattle.std.proofs.lemmas.List.{map-append}
-use Rattle.std.specs.List.{AllByRecursion}
-use Rattle.std.proofs.lemmas.Bool.{eqb-true, lt-ltb}
-use mathlib.Core.Logic.{dite}
-use native.Mathlib.Decide.{ℕ_discrete}
-use Rattle.shr_model.specs.Groups.{parent_of, is_child}
-use Rattle.shr_base.specs.declared.ends.PlaceAmount.{PlaceAmount}
-use Rattle.shr_base.specs.declared.places.Place.{Place}
-use Rattle.shr_base.specs.declared.places.Serial.{Serial}
-use Rattle.shr_base.specs.declared.walks.Carry.{Carry}
-use Rattle.shr_model.specs.Deferred.{sum_at, amount_at}
-use Rattle.shr_model.specs.Moves.{given_at, taken_at, is_below}
-use Rattle.shr_model.specs.Places.{is_place}
-use Rattle.shr_seats.specs.Weights.{total}
-use Rattle.shr_seats.proofs.Weighing.{total-append}
-use Rattle.shr_seats.specs.declared.shape.Shape.{Shape}
-use Rattle.shr_model.specs.Deferred.{amount_of}
-use Rattle.shr_deferred.specs.Moves.{gave, takes_of, gives_of}
-use Rattle.shr_deferred.proofs.SeatLaws.{takes_both, gives_both}
-use Rattle.shr_base.specs.declared.scripts.Script.{Script}
-use Rattle.shr_report.specs.Parts.{parents_of}
-use Rattle.shr_report.specs.Takes.{WordStep, took, above, steps_handed}
+use Rattle.shr_assemble.proofs.Common.{◌≡◌, ℕ, ◌+◌, ◌<◌, Bool, true, false, cond, ◌==◌, ◌&&◌, List, [], ◌∷◌, ◌++◌, map, length, refl, sym, ap, ◌∙◌, arith, eqb, eq-eqb, ne_eqb, sum_by, flat_map, map-append, AllByRecursion, eqb-true, lt-ltb, dite, ℕ_discrete, parent_of, is_child, PlaceAmount, Place, Serial, Carry, sum_at, amount_at, given_at, taken_at, is_below, is_place, total, total-append, Shape, amount_of, takes_of, gives_of, takes_both, gives_both, Script, parents_of, WordStep, steps_handed, told_step, moves_of, carry_of, carries_of, sum_total}
+use Rattle.shr_deferred.specs.Moves.{gave}
+use Rattle.shr_report.specs.Takes.{took, above}
 use Rattle.shr_report.specs.Takes.{gave as told_gave}
-use Rattle.shr_assemble.specs.Deferred.{told_step}
-use Rattle.shr_offline.specs.Carries.{moves_of, carry_of, carries_of, above_of}
-use Rattle.shr_assemble.proofs.Listed.{sum_total}
+use Rattle.shr_offline.specs.Carries.{above_of}
+use Rattle.shr_model.proofs.Numbers.{zero_plus}
 
 -- a weight of what was noted of each take
 noted_total : (f : Carry → ℕ) (h : PlaceAmount → ℕ) (by : Serial) → ((a : PlaceAmount) → (b : Bool) → (a.amount == 0) ≡ b → total f (cond b [] (record { by = by; place = a.place; amount = a.amount } ∷ [])) ≡ h a) → (amounts : List PlaceAmount) → total f (carries_of by amounts) ≡ total h amounts
@@ -50,9 +28,6 @@ takes_are shape (a ∷ more) = let above = amount_of (above_of shape a.place) a.
 gives_more : (shape : Shape) (a : PlaceAmount) (more : List PlaceAmount) → gives_of (moves_of shape (a ∷ more)) ≡ cond (a.amount == 0) [] (amount_of (above_of shape a.place) a.amount ∷ []) ++ gives_of (moves_of shape more)
 gives_more shape a more = let above = amount_of (above_of shape a.place) a.amount in
     gives_both (cond (a.amount == 0) [] (gave above ∷ [])) (moves_of shape more) ∙ ap (λ l. l ++ gives_of (moves_of shape more)) (one_give (a.amount == 0) above)
-
-zero_plus : (n : ℕ) → n ≡ 0 + n
-zero_plus n = omega arith
 
 -- what was taken at a place is what was noted of it
 pub carried_taken : (shape : Shape) (by : Serial) (amounts : List PlaceAmount) (p : Place) → sum_at p (takes_of (moves_of shape amounts)) ≡ taken_at [] (carries_of by amounts) p

@@ -1,41 +1,12 @@
 -- What a command charged that made uncharges alone, one of each of some objects.
-use Rattle.std.proofs.Common.{◌≡◌, ℕ, zero, suc, ◌+◌, ◌<◌, ◌≤◌, pos, ◌-ℤ◌, Bool, true, false, not, cond, ◌==◌, ◌||◌, List, [], ◌∷◌, ◌++◌, length, length-append, refl, sym, ap, subst, ◌∙◌, arith, ne_eqb}
-use Rattle.std.specs.Prelude.{Some, None, slice_index_or, map, sum_by, nat_le}
-use Rattle.std.specs.List.{AllByRecursion, list_any}
-use Rattle.std.proofs.lemmas.List.{length-map}
-use Rattle.std.proofs.lemmas.List.Elements.{All-from_recursion}
-use mathlib.Core.Logic.{dite}
-use native.Mathlib.Decide.{ℕ_discrete}
-use Rattle.shr_base.specs.declared.journals.UseStep.{UseStep}
-use Rattle.shr_base.specs.declared.objects.Object.{Object}
-use Rattle.shr_base.specs.declared.places.Serial.{Serial}
-use Rattle.shr_base.specs.declared.scripts.Script.{Script}
-use Rattle.shr_model.specs.Charges.{ups, downs}
-use Rattle.shr_model.specs.Freeings.{is_at_or_above, born_below}
-use Rattle.shr_model.specs.Groups.{IsTree, path_of, parent_of}
-use Rattle.shr_model.proofs.GroupsLaws.{path_of-root, path_of-below}
-use Rattle.shr_model.proofs.GroupsOrder.{by_parents}
-use Rattle.shr_seats.specs.Weights.{total}
-use Rattle.shr_core.specs.Parts.{Made}
-use Rattle.shr_charge.specs.Charging.{AreDowns, IsDown, group_of}
-use Rattle.shr_base.specs.declared.replies.Spent.{Spent}
+use Rattle.shr_assemble.proofs.Common.{◌≡◌, ℕ, zero, suc, ◌+◌, ◌<◌, ◌≤◌, pos, ◌-ℤ◌, Bool, true, false, not, cond, ◌==◌, ◌||◌, List, [], ◌∷◌, ◌++◌, length, length-append, refl, sym, ap, subst, ◌∙◌, arith, ne_eqb, Some, None, slice_index_or, map, sum_by, nat_le, AllByRecursion, list_any, length-map, All-from_recursion, dite, ℕ_discrete, UseStep, Object, Serial, Script, ups, downs, is_at_or_above, born_below, IsTree, path_of, parent_of, path_of-root, path_of-below, by_parents, total, Made, AreDowns, IsDown, Spent, nat_tests, Begins, nothing, Adds, spent_by, Uses, Shared, WorkerState, Work, no_work, Does, does_none, Uncharges, paths_of, parents_of, charged, Step, DidCharges, ops_at, added_below, freed_below, each_append, by_slices, count_total}
+use Rattle.shr_charge.specs.Charging.{group_of}
 use Rattle.shr_base.specs.declared.replies.Spent.TheVariants as spent
-use Rattle.std.proofs.lemmas.Bool.Decides.{nat_tests}
-use Rattle.shr_seats.specs.Weights.{Begins}
-use Rattle.shr_core.specs.Gained.{nothing, Adds}
-use Rattle.shr_charge.specs.Seat.{counted, spent_by}
-use Rattle.shr_charge.specs.Views.{Uses}
-use Rattle.shr_walk.specs.declared.seats.Shared.{Shared}
-use Rattle.shr_walk.specs.State.{WorkerState, Work, no_work, Does}
-use Rattle.shr_walk.proofs.Doing.{does_none}
-use Rattle.shr_opening.specs.Opening.{Uncharges}
-use Rattle.shr_walk.specs.Keeping.{paths_of}
-use Rattle.shr_report.specs.Parts.{parents_of}
-use Rattle.shr_report.specs.Charges.{charged}
-use Rattle.shr_assemble.specs.Steps.{Step}
-use Rattle.shr_assemble.specs.Charges.{DidCharges, ops_at, added_below, freed_below}
+use Rattle.shr_charge.specs.Seat.{counted}
 use Rattle.shr_assemble.proofs.Gathering.{total_flat}
-use Rattle.shr_assemble.proofs.Listed.{count_total, by_slices, all_slice, all_slice_by}
+use Rattle.shr_assemble.proofs.Listed.{all_slice, all_slice_by}
+use Rattle.shr_assemble.proofs.PutTries.{of_groups}
+use Rattle.shr_walk.proofs.Scanned.{not_spent_by}
 
 abbrev one_at : ℕ → ℕ → ℕ
 one_at g h = cond (h == g) 1 0
@@ -47,10 +18,6 @@ abbrev is_down : UseStep → ℕ
 is_down o = cond (not o.up) 1 0
 
 -- ---- a path has each group once
-
-all_append : {A : Type 0} (P : A → Type 0) (xs ys : List A) → AllByRecursion P xs → AllByRecursion P ys → AllByRecursion P (xs ++ ys)
-all_append P [] ys a b = b
-all_append P (x ∷ xs) ys a b = (a.0, all_append P xs ys a.1 b)
 
 all_weaker : {A : Type 0} (P Q : A → Type 0) (xs : List A) → ((x : A) → P x → Q x) → AllByRecursion P xs → AllByRecursion Q xs
 all_weaker P Q [] f h = tt
@@ -101,7 +68,7 @@ module _ (parents : List ℕ) (tree : IsTree parents) where
 
   paths_low : (objects : List Object) → AllByRecursion (λ (o : Object). o.birth < length parents) objects → AllByRecursion (λ h. h < length parents) (paths_of parents objects)
   paths_low [] h = tt
-  paths_low (o ∷ os) h = all_append (λ g. g < length parents) (path_of parents o.birth) (paths_of parents os) (all_weaker (λ g. g ≤ o.birth) (λ g. g < length parents) (path_of parents o.birth) (λ g le. let lt = h.0 in omega (arith, le, lt)) (path_low o.birth h.0)) (paths_low os h.1)
+  paths_low (o ∷ os) h = each_append (λ g. g < length parents) (path_of parents o.birth) (paths_of parents os) (all_weaker (λ g. g ≤ o.birth) (λ g. g < length parents) (path_of parents o.birth) (λ g le. let lt = h.0 in omega (arith, le, lt)) (path_low o.birth h.0)) (paths_low os h.1)
 
   paths_long : (objects : List Object) → AllByRecursion (λ (o : Object). o.birth < length parents) objects → length objects ≤ length (paths_of parents objects)
   paths_long [] h = omega arith
@@ -148,10 +115,6 @@ module _ (by : Serial) where
   ways_down [] h = tt
   ways_down (o ∷ os) h = (h.0.down, ways_down os h.1)
 
-of_mapped : (P : ℕ → Type 0) (ops : List UseStep) → AllByRecursion P (map group_of ops) → AllByRecursion (λ (o : UseStep). P o.group) ops
-of_mapped P [] h = tt
-of_mapped P (o ∷ os) h = (h.0, of_mapped P os h.1)
-
 not_both : {A : Type 0} (b : Bool) → b ≡ true → b ≡ false → A
 not_both true e f = absurd (cc)
 not_both false e f = absurd (cc)
@@ -170,7 +133,7 @@ pub uncharged_charges : (s : Script) (z : Step) (objects : List Object) → IsTr
 uncharged_charges s z objects tree h = record {
   own = λ k d lt. (h.downs.each k d lt).made;
   there = All-from_recursion (λ (o : UseStep). o.group < length (parents_of s)) z.work.ops
-      (of_mapped (λ g. g < length (parents_of s)) z.work.ops (subst (AllByRecursion (λ g. g < length (parents_of s))) (sym h.downs.at) (paths_low (parents_of s) tree objects h.born)));
+      (of_groups (λ g. g < length (parents_of s)) z.work.ops (subst (AllByRecursion (λ g. g < length (parents_of s))) (sym h.downs.at) (paths_low (parents_of s) tree objects h.born)));
   taken_back = λ group n o at up above. not_both o.up up (all_slice_by (IsDown z.by) (ops_at group z.work.ops) n o (at_down z.by group z.work.ops each) at).down;
   puts = λ k d lt up. not_both (slice_index_or z.work.ops k d).up up (h.downs.each k d lt).down;
   fourteen = λ group. let none = no_ups z.by (ops_at group z.work.ops) (at_down z.by group z.work.ops each) in omega (arith, none);
@@ -192,14 +155,9 @@ uncharged_charges s z objects tree h = record {
 abbrev pub uncharging : List UseStep → Work
 uncharging ops = record no_work { ops = ops; uncharges = 1 }
 
-not_reached : (a b : Bool) (y : Spent) → cond (a || b) (Some y) None ≡ None → b ≡ false
-not_reached true b y e = absurd (cc)
-not_reached false true y e = absurd (cc)
-not_reached false false y e = refl
-
 -- a worker that may charge has uncharged less often
 pub uncharges_few : (u : Uses) → spent_by u ≡ None → u.uncharges < 4194304
-uncharges_few u e = let low = not_reached (nat_le 1048576 u.charges) (nat_le 4194304 u.uncharges) (spent.Charges (counted u.charges) (counted u.uncharges)) e in grind (arith, nat_tests, low)
+uncharges_few u e = let low = not_spent_by (nat_le 1048576 u.charges) (nat_le 4194304 u.uncharges) (spent.Charges (counted u.charges) (counted u.uncharges)) e in grind (arith, nat_tests, low)
 
 pub does_uncharge : (x : Shared) (by : Serial) (group : ℕ) (s t : WorkerState) (h : Uncharges x by group s t) → s.uses.uncharges < 4194304 → Does s t (uncharging h.ops)
 does_uncharge x by group s t h low = let n = does_none s in record {

@@ -1,26 +1,7 @@
 -- The entries that draining the lists of an id made, and the objects that they freed.
-use Rattle.std.proofs.Common.{◌≡◌, ℕ, suc, ◌+◌, ◌<◌, ◌≤◌, true, cond, List, [], ◌∷◌, ◌++◌, length, refl, sym, ap, ◌∙◌, arith, eq-eqb}
-use Rattle.std.specs.Prelude.{sum_by}
-use Rattle.std.specs.List.{AllByRecursion}
-use Rattle.std.proofs.lemmas.Bool.{and_from}
-use Rattle.shr_base.specs.declared.objects.Object.{Object}
-use Rattle.shr_base.specs.declared.places.Serial.{Serial}
-use Rattle.shr_base.specs.declared.journals.Entry.TheVariants.{Drained}
-use Rattle.shr_model.specs.Commands.{is_serial}
-use Rattle.shr_model.specs.Freeings.{is_at_or_above, born_below}
-use Rattle.shr_seats.specs.Views.{Each}
-use Rattle.shr_seats.specs.Weights.{total}
-use Rattle.shr_seats.proofs.Weighing.{total-append}
-use Rattle.shr_core.specs.Layout.{id_of}
-use Rattle.shr_core.specs.Parts.{Made}
-use Rattle.shr_model.specs.Places.{place_number}
-use Rattle.shr_node.specs.Splicing.{place_of}
-use Rattle.shr_node.specs.Draining.{Draw, made_in, drawn}
-use Rattle.shr_registry.specs.Ending.{made_from, drawn_from}
-use Rattle.shr_report.specs.Causes.{drained_by}
-use Rattle.shr_assemble.specs.Charges.{added_below, freed_below}
-use Rattle.shr_assemble.proofs.Gathering.{at_some}
-use Rattle.shr_assemble.proofs.Listed.{sum_total, count_total, all_slice_by}
+use Rattle.shr_assemble.proofs.Common.{◌≡◌, ℕ, suc, ◌+◌, ◌<◌, ◌≤◌, true, cond, List, [], ◌∷◌, ◌++◌, length, refl, sym, ap, ◌∙◌, arith, eq-eqb, sum_by, AllByRecursion, and_from, Object, Serial, Drained, is_serial, is_at_or_above, born_below, Each, total, total-append, id_of, Made, place_number, place_of, Draw, made_from, drawn_from, drained_by, added_below, freed_below, each_append, at_some, count_total, sum_total}
+use Rattle.shr_node.specs.Draining.{made_in, drawn}
+use Rattle.shr_assemble.proofs.Listed.{all_slice_by}
 
 -- an entry is a Drained of this command at a list of this id
 pub record IsDrainOf (id : ℕ) (by : Serial) (m : Made) : Type 0 where
@@ -38,10 +19,6 @@ rec_each P (x ∷ xs) h = (h 0 x refl, rec_each P xs (λ j y e. h (suc j) y e))
 abbrev AreLow : List Draw → Type 0
 AreLow ds = AllByRecursion (λ (d : Draw). d.group < 256) ds
 
-both_all : {A : Type 0} (P : A → Type 0) (xs ys : List A) → AllByRecursion P xs → AllByRecursion P ys → AllByRecursion P (xs ++ ys)
-both_all P [] ys a b = b
-both_all P (x ∷ xs) ys a b = (a.0, both_all P xs ys a.1 b)
-
 module _ (id : ℕ) (by : Serial) where
   in_one : (node : ℕ) → node < 4 → (ds : List Draw) → AreLow ds → AllByRecursion (IsDrainOf id by) (made_in id node by ds)
   in_one node lt [] h = tt
@@ -49,7 +26,7 @@ module _ (id : ℕ) (by : Serial) where
 
   pub in_all : (node : ℕ) (draws : List (List Draw)) → node + length draws ≤ 4 → AllByRecursion AreLow draws → AllByRecursion (IsDrainOf id by) (made_from id node by draws)
   in_all node [] lt h = tt
-  in_all node (ds ∷ more) lt h = both_all (IsDrainOf id by) (made_in id node by ds) (made_from id (node + 1) by more) (in_one node (omega (arith, lt)) ds h.0) (in_all (node + 1) more (omega (arith, lt)) h.1)
+  in_all node (ds ∷ more) lt h = each_append (IsDrainOf id by) (made_in id node by ds) (made_from id (node + 1) by more) (in_one node (omega (arith, lt)) ds h.0) (in_all (node + 1) more (omega (arith, lt)) h.1)
 
   -- a sum over the entries, as one over the objects
   module _ (f : Made → ℕ) (h : Object → ℕ) (same : (place number : ℕ) (items : List Object) → f (record { place = place; number = number; entry = Drained by (length items); items = items }) ≡ total h items) where

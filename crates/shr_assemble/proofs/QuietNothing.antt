@@ -1,29 +1,10 @@
 -- A command that did nothing: there was no memory, or its worker's charges were used up.
-use Rattle.std.proofs.Common.{◌≡◌, ◌⊎◌, inl, inr, ℕ, ◌<◌, ◌≤◌, Bool, true, false, cond, [], refl, sym, ap, subst, arith}
-use Rattle.std.specs.Prelude.{Some, None, ◌||◌, nat_le}
-use Rattle.std.proofs.lemmas.Option.{none-some}
+use Rattle.shr_assemble.proofs.Common.{◌≡◌, ◌⊎◌, inl, inr, ℕ, ◌<◌, ◌≤◌, Bool, true, false, cond, [], refl, sym, ap, subst, arith, Some, None, ◌||◌, nat_le, none-some, Serial, Reply, Spent, Command, Script, asks_online, Family, spent_by, Uses, WorkerState, no_work, Does, does_none, parents_of, cited_by, charged, MayBeOffline, pool_told, pool_made, IsReply, Step, IsCausedBy, KnowsOnline, MeetsGroups}
 use Rattle.std.proofs.lemmas.Bool.{leb-true}
-use Rattle.shr_base.specs.declared.places.Serial.{Serial}
-use Rattle.shr_base.specs.declared.replies.Reply.{Reply}
-use Rattle.shr_base.specs.declared.replies.Spent.{Spent}
 use Rattle.shr_base.specs.declared.replies.Spent.TheVariants as spent
-use Rattle.shr_base.specs.declared.scripts.Command.{Command}
-use Rattle.shr_base.specs.declared.scripts.Script.{Script}
-use Rattle.shr_model.specs.Commands.{asks_online}
-use Rattle.shr_model.specs.Families.{Family}
-use Rattle.shr_charge.specs.Seat.{spent_by, counted}
-use Rattle.shr_charge.specs.Views.{Uses}
-use Rattle.shr_walk.specs.State.{WorkerState, no_work, Does}
-use Rattle.shr_walk.proofs.Doing.{does_none}
+use Rattle.shr_charge.specs.Seat.{counted}
 use Rattle.shr_assemble.proofs.Bringing.{brings_of}
 use Rattle.shr_assemble.proofs.Spending.{spent_is}
-use Rattle.shr_report.specs.Parts.{parents_of, cited_by}
-use Rattle.shr_report.specs.Charges.{charged}
-use Rattle.shr_report.specs.Freshness.{MayBeOffline, pool_told, pool_made}
-use Rattle.shr_report.specs.ReplyTable.{IsReply}
-use Rattle.shr_assemble.specs.Steps.{Step}
-use Rattle.shr_assemble.specs.Causes.{IsCausedBy}
-use Rattle.shr_assemble.specs.Offlining.{KnowsOnline, MeetsGroups}
 use Rattle.shr_assemble.specs.Worn.{AreChargesWorn}
 use Rattle.shr_assemble.proofs.Quiet.{step_of, HasDid, IsCalm, calm_walks, still_moves, still_charges, still_pool, still_tree, IsToldOnce}
 use Rattle.shr_assemble.proofs.QuietTenant.{without, no_entries, unfound_lookups}

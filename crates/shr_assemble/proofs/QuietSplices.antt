@@ -1,25 +1,8 @@
 -- The entries that splicing a group's lists made.
-use Rattle.std.proofs.Common.{◌≡◌, ◌⊎◌, inl, inr, ⊎_elim, ℕ, suc, ◌<◌, ◌≤◌, Bool, true, false, cond, List, [], ◌∷◌, ◌++◌, length, refl, sym, subst, arith}
-use Rattle.std.specs.Prelude.{map, ◌&&◌, nat_lt}
-use Rattle.std.proofs.lemmas.Bool.{ltb-true}
-use Rattle.std.specs.List.{AllByRecursion}
-use Rattle.std.proofs.lemmas.List.{append-nil}
-use Rattle.shr_base.specs.declared.journals.Entry.TheVariants.{MovedIn, Closed}
-use Rattle.shr_model.specs.Groups.{IsTree, IsAtOrAbove, parent_of}
-use Rattle.shr_seats.specs.Views.{Each}
-use Rattle.shr_seats.specs.Weights.{Begins}
-use Rattle.shr_seats.proofs.Weighing.{at_begins, Each-none, Each-append}
-use Rattle.shr_core.specs.declared.view.View.{View}
-use Rattle.shr_seats.specs.declared.shape.Shape.{Shape}
-use Rattle.shr_core.specs.Gained.{nothing, Adds}
-use Rattle.shr_core.specs.Layout.{group_of, beside}
-use Rattle.shr_core.specs.Parts.{Made, Known}
-use Rattle.shr_seats.specs.Shapes.{groups_in}
-use Rattle.shr_core.proofs.Gains.{adds_none, adds_then}
-use Rattle.shr_node.specs.Splicing.{Closing, made_by, bits_by, above_place, made_in, bits_in, own_number, IsClosing, AreClosings}
-use Rattle.shr_offline.specs.Splices.{place_in, AreSpliced}
-use Rattle.shr_assemble.specs.Entries.{IsFilled}
-use Rattle.shr_assemble.specs.Steps.{IsAmong}
+use Rattle.shr_assemble.proofs.Common.{◌≡◌, ◌⊎◌, inl, inr, ⊎_elim, ℕ, suc, ◌<◌, ◌≤◌, Bool, true, false, cond, List, [], ◌∷◌, ◌++◌, length, refl, sym, subst, arith, map, ◌&&◌, nat_lt, ltb-true, AllByRecursion, append-nil, MovedIn, Closed, IsTree, IsAtOrAbove, parent_of, Each, Begins, at_begins, Each-none, Each-append, View, Shape, nothing, Adds, group_of, beside, Made, Known, groups_in, adds_then, Closing, made_in, AreClosings, AreSpliced, IsFilled, IsAmong, each_append}
+use Rattle.shr_core.proofs.Gains.{adds_none}
+use Rattle.shr_node.specs.Splicing.{made_by, bits_by, above_place, bits_in, own_number, IsClosing}
+use Rattle.shr_offline.specs.Splices.{place_in}
 use Rattle.shr_assemble.proofs.Filling.{filled_one, filled_among}
 use Rattle.shr_assemble.proofs.Gathering.{among_left, among_right}
 
@@ -55,10 +38,6 @@ each_more : (parents : List ℕ) (group : ℕ) (u v : View) (all more : List Mad
 each_more parents group u v all more [] grows into h = tt
 each_more parents group u v all more (m ∷ ms) grows into h = (more_all parents group u v all more m grows into h.0, each_more parents group u v all more ms grows into h.1)
 
-both_parts : {A : Type 0} (P : A → Type 0) (xs ys : List A) → AllByRecursion P xs → AllByRecursion P ys → AllByRecursion P (xs ++ ys)
-both_parts P [] ys a b = b
-both_parts P (x ∷ xs) ys a b = (a.0, both_parts P xs ys a.1 b)
-
 -- lists were spliced from one view to another, and nothing else was gained
 pub record IsSplicedTo (parents : List ℕ) (group : ℕ) (v w : View) : Type 0 where
   pub made : List Made
@@ -75,7 +54,7 @@ spliced_then parents group u v w a b = record {
   made = a.made ++ b.made;
   sets = a.sets ++ b.sets;
   adds = adds_then u v w (record nothing { made = a.made; sets = a.sets }) (record nothing { made = b.made; sets = b.sets }) a.adds b.adds;
-  each = both_parts (IsSpliceEntry parents group u (a.made ++ b.made)) a.made b.made
+  each = each_append (IsSpliceEntry parents group u (a.made ++ b.made)) a.made b.made
       (each_more parents group u u a.made (a.made ++ b.made) a.made ([], sym (append-nil u.traces.known)) (λ c h. among_left a.made b.made c h) a.each)
       (each_more parents group u v b.made (a.made ++ b.made) b.made a.adds.known (λ c h. among_right a.made b.made c h) b.each);
   filled = Each-append (IsFilled (a.made ++ b.made)) a.sets b.sets

@@ -1,39 +1,12 @@
 -- What each step of a tenant's command adds to its worker's state, and what it leaves known.
-use Rattle.std.proofs.Common.{◌≡◌, ℕ, zero, suc, inl, true, false, ◌≤◌, ◌^◌, List, [], ◌∷◌, length, take, refl, sym, ap, subst, ◌∙◌, arith}
-use Rattle.std.specs.Prelude.{Some, option_and_then, slice_index_or, Contains}
-use Rattle.std.proofs.lemmas.List.{append-nil}
+use Rattle.shr_assemble.proofs.Common.{◌≡◌, ℕ, zero, suc, inl, true, false, ◌≤◌, ◌^◌, List, [], ◌∷◌, length, take, refl, sym, ap, subst, ◌∙◌, arith, Some, option_and_then, slice_index_or, Contains, append-nil, PoolEntry, Found, is_live, decl_of, from_of, View, Gained, nothing, Adds, Begins, Hierarchy, hierarchy_of, shape_of, with_put, is_made, is_there, GroupState, TreeView, Gains, Shared, IsShared, WorkerState, Work, no_work, then_work, Does, does_none, does_then, adds_put, Groups, LoadsWord, OnCache, parents_of, Step, IsAmong, IsFoundBy, made_shown, KnowsOnline, KnowsUnmade, MeetsGroups}
 use Rattle.std.proofs.lemmas.List.Elements.{All-contains_itself}
-use Rattle.shr_base.specs.declared.journals.PoolEntry.{PoolEntry}
-use Rattle.shr_base.specs.declared.replies.Found.{Found}
 use Rattle.shr_base.specs.declared.replies.Reply.TheVariants as reply
-use Rattle.shr_model.specs.Pool.{is_live, decl_of, from_of}
-use Rattle.shr_core.specs.declared.view.View.{View}
-use Rattle.shr_core.specs.Gained.{Gained, nothing, Adds}
 use Rattle.shr_core.specs.Parts as core
-use Rattle.shr_seats.specs.Weights.{Begins}
-use Rattle.shr_model.specs.Groups.{Hierarchy}
-use Rattle.shr_seats.specs.Shapes.{hierarchy_of}
-use Rattle.shr_core.specs.Seats.{shape_of}
-use Rattle.shr_core.specs.Steps.{with_put}
-use Rattle.shr_model.specs.TreeJournal.{is_made}
-use Rattle.shr_charge.specs.Told.{Shows, is_there}
-use Rattle.shr_charge.specs.declared.answers.GroupState.{GroupState}
+use Rattle.shr_charge.specs.Told.{Shows}
 use Rattle.shr_charge.specs.declared.answers.GroupState.TheVariants as state
-use Rattle.shr_charge.specs.Views.{Loaded, TreeView}
-use Rattle.shr_node.specs.Gains.{Gains}
-use Rattle.shr_walk.specs.declared.seats.Shared.{Shared}
-use Rattle.shr_walk.specs.Sharing.{IsShared}
-use Rattle.shr_walk.specs.State.{WorkerState, Work, no_work, then_work, Does}
-use Rattle.shr_walk.proofs.Doing.{does_none, does_then}
-use Rattle.shr_walk.proofs.Held.{adds_put}
-use Rattle.shr_tree.specs.Tree.{Groups}
-use Rattle.shr_opening.specs.Opening.{LoadsWord, OnCache}
-use Rattle.shr_report.specs.Parts.{parents_of}
+use Rattle.shr_charge.specs.Views.{Loaded}
 use Rattle.shr_report.specs.Parts as report
-use Rattle.shr_assemble.specs.Steps.{Step, IsAmong}
-use Rattle.shr_assemble.specs.Lookups.{IsFoundBy}
-use Rattle.shr_report.specs.Freshness.{made_shown}
-use Rattle.shr_assemble.specs.Offlining.{KnowsOnline, KnowsUnmade, MeetsGroups}
 use Rattle.shr_assemble.proofs.Listed.{contains_among, no_test}
 
 -- the tables of a script, with its limits
@@ -151,7 +124,7 @@ calling made bits = record nothing { made = made; sets = bits }
 abbrev pub on_list : ℕ → ℕ → Found → List core.Loaded → List core.Made → List ℕ → Work
 on_list group decl f words made bits = then_work (loading group state.Online) (then_work (gaining (finding decl f words)) (gaining (calling made bits)))
 
-take_all : {A : Type 0} (n : ℕ) (xs : List A) → n ≡ length xs → take n xs ≡ xs
+pub take_all : {A : Type 0} (n : ℕ) (xs : List A) → n ≡ length xs → take n xs ≡ xs
 take_all zero [] e = refl
 take_all zero (x ∷ xs) e = absurd (omega (arith, e))
 take_all (suc n) [] e = absurd (omega (arith, e))

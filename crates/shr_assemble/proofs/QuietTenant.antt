@@ -1,73 +1,17 @@
 -- What the commands on objects share: those that were refused before their list call, and those that called a list.
-use Rattle.std.proofs.Common.{◌≡◌, ℕ, zero, suc, ◌<◌, ◌≤◌, ◌⊎◌, inl, inr, ⊎_elim, List, [], ◌∷◌, ◌++◌, length, refl, sym, ap, subst, ◌∙◌, arith, true}
-use Rattle.std.specs.Prelude.{Some, None, option_and_then, slice_get, map, flat_map}
-use Rattle.std.proofs.lemmas.Option.{same_Some, none-some}
-use mathlib.Core.Option.{some-injective, some-ne-none}
-use lib.ListN.{get_elem?}
-use Rattle.std.proofs.lemmas.List.{length-map, append_cancel_left}
-use Rattle.std.proofs.lemmas.List.Sums.{sum_by-cons}
-use Rattle.shr_base.specs.declared.places.At.{At}
-use Rattle.shr_base.specs.declared.places.Place.{Place}
-use Rattle.shr_base.specs.declared.places.Serial.{Serial}
-use Rattle.shr_base.specs.declared.journals.Entry.{Entry}
-use Rattle.shr_base.specs.declared.replies.Answered.{Answered}
-use Rattle.shr_base.specs.declared.replies.Found.{Found}
-use Rattle.shr_base.specs.declared.replies.Reply.{Reply}
+use Rattle.shr_assemble.proofs.Common.{◌≡◌, ℕ, ◌<◌, ◌≤◌, ◌⊎◌, inl, inr, ⊎_elim, List, [], ◌∷◌, ◌++◌, length, refl, sym, ap, subst, ◌∙◌, arith, true, Some, None, option_and_then, slice_get, map, flat_map, same_Some, none-some, get_elem?, length-map, append_cancel_left, sum_by-cons, At, Place, Serial, Entry, Answered, Found, Reply, Spent, Command, Release, Grab, Script, group_named, decl_named, asks_online, Family, items_at, Object, IsAtOrAbove, is_later, Hierarchy, step, place_number, is_live_decl, IsAtOrAbove-le, Each, times, Begins, Each-none, View, Gained, nothing, Adds, place_at, Made, Known, Loaded, hierarchy_of, shape_of, place_back, Listed, Acts, TenantIsWorn, Gains, bits_for, IsFirstOpen, made_of, IsWithin, content_of, within_of_valid, GroupState, is_there, Shared, WorkerState, Work, then_work, Does, does_then, LoadsWord, OnCache, parents_of, cited_by, id_found, at, IsThere, charged, pool_told, pool_made, made_shown, IsReply, Cites, group_met, Step, IsAmong, IsReplyTo, StandsIn, IsTold, MayMake, IsSetLast, IsFilled, IsCited, DidEntries, IsFoundBy, number_made, numbers_tried, number_found, IsCausedBy, IsUsedUpBy, freed_below, added_below, KnowsOnline, MeetsGroups, KnowsUnmade, IsWornBy, IsListWorn, IsOneMore, AreBoth, each_before, each_one}
 use Rattle.shr_base.specs.declared.replies.Reply.TheVariants as reply
-use Rattle.shr_base.specs.declared.replies.Spent.{Spent}
 use Rattle.shr_base.specs.declared.replies.Spent.TheVariants as spent
-use Rattle.shr_base.specs.declared.scripts.Command.{Command}
-use Rattle.shr_base.specs.declared.scripts.Command.TheVariants.{Release, Grab}
-use Rattle.shr_base.specs.declared.scripts.Script.{Script}
-use Rattle.shr_model.specs.Commands.{group_named, decl_named, asks_online}
-use Rattle.shr_model.specs.Families.{Family, items_at}
-use Rattle.shr_base.specs.declared.objects.Object.{Object}
-use Rattle.shr_model.specs.Groups.{IsAtOrAbove, is_later, Hierarchy}
-use Rattle.shr_model.specs.Items.{step}
-use Rattle.shr_model.specs.Places.{place_number}
-use Rattle.shr_model.specs.Pool.{is_live_decl}
-use Rattle.shr_model.proofs.GroupsOrder.{IsAtOrAbove-le}
-use Rattle.shr_seats.specs.Views.{Each}
-use Rattle.shr_seats.specs.Weights.{times, Begins}
-use Rattle.shr_seats.proofs.Weighing.{Each-none}
-use Rattle.shr_core.specs.declared.view.View.{View}
-use Rattle.shr_core.specs.Gained.{Gained, nothing, Adds}
-use Rattle.shr_core.specs.Layout.{place_at}
-use Rattle.shr_core.specs.Parts.{Made, Known, Loaded}
-use Rattle.shr_seats.specs.Shapes.{hierarchy_of}
 use Rattle.shr_charge.specs.declared.answers.GroupState.TheVariants as state
-use Rattle.shr_core.specs.Seats.{shape_of}
-use Rattle.shr_core.proofs.Left.{place_back}
-use Rattle.shr_list.specs.Listed.{Listed}
-use Rattle.shr_node.specs.Answers.{Acts, TenantIsWorn}
-use Rattle.shr_node.specs.Gains.{Gains, bits_for}
-use Rattle.shr_node.specs.Opening.{IsFirstOpen, made_of}
-use Rattle.shr_script.specs.Bounds.{IsWithin, IsGroup}
-use Rattle.shr_script.specs.Content.{content_of}
-use Rattle.shr_script.proofs.BoundsLaws.{within_of_valid}
-use Rattle.shr_charge.specs.declared.answers.GroupState.{GroupState}
-use Rattle.shr_charge.specs.Told.{is_there}
+use Rattle.shr_script.specs.Bounds.{IsGroup}
 use Rattle.shr_report.specs.Parts as report
 use Rattle.shr_charge.specs.Views as charge
 use Rattle.shr_assemble.proofs.ScriptSizes.{sized_of}
-use Rattle.shr_walk.specs.declared.seats.Shared.{Shared}
-use Rattle.shr_walk.specs.State.{WorkerState, Work, then_work, Does}
-use Rattle.shr_walk.proofs.Doing.{does_then}
-use Rattle.shr_opening.specs.Opening.{LoadsWord, Misses, RefusedAs, OnCache}
-use Rattle.shr_report.specs.Parts.{parents_of, cited_by, id_found, at, IsThere}
-use Rattle.shr_report.specs.Charges.{charged}
-use Rattle.shr_report.specs.Freshness.{pool_told, pool_made, made_shown}
-use Rattle.shr_report.specs.ReplyTable.{IsReply, Cites, group_met}
-use Rattle.shr_assemble.specs.Steps.{Step, IsAmong}
-use Rattle.shr_assemble.specs.Entries.{IsReplyTo, StandsIn, IsTold, MayMake, IsSetLast, IsFilled, IsCited, DidEntries}
-use Rattle.shr_assemble.specs.Lookups.{DidLookups, IsFoundBy, number_made, numbers_tried, number_found}
-use Rattle.shr_assemble.specs.Causes.{IsCausedBy, IsUsedUpBy}
-use Rattle.shr_assemble.specs.Charges.{freed_below, added_below}
-use Rattle.shr_assemble.specs.Offlining.{KnowsOnline, MeetsGroups, KnowsUnmade}
-use Rattle.shr_assemble.specs.Worn.{IsWornBy, IsListWorn, IsOneMore, AreBoth}
+use Rattle.shr_opening.specs.Opening.{Misses, RefusedAs}
+use Rattle.shr_assemble.specs.Lookups.{DidLookups}
 use Rattle.shr_assemble.proofs.Bringing.{brings_of}
 use Rattle.shr_assemble.proofs.Filling.{IsSet, filled_by, set_filled, set_none}
-use Rattle.shr_assemble.proofs.FirstLists.{each_begins, first_for}
+use Rattle.shr_assemble.proofs.FirstLists.{first_for}
 use Rattle.shr_assemble.proofs.Listed.{contains_among}
 use Rattle.shr_assemble.proofs.Quiet.{step_of, HasDid, IsCalm, calm_walks, still_moves, still_charges, still_pool, still_tree, IsToldOnce}
 use Rattle.shr_assemble.proofs.QuietSteps.{AreTables, tree_is, loading, gaining, does_load, does_gain, knows_online, online_apart, take_whole, on_list, on_list_does, on_list_online, found_entry, found_by, known_is, made_is, known_before, hierarchy_is, knows_unmade}
@@ -86,10 +30,6 @@ no_entries s z none unset row uncited = record {
   sets = set_none z.work.core.made z.work.walks z.work.core.sets unset;
   cited = λ c e. absurd (none-some c (sym uncited ∙ e));
 }
-
-pub each_one : {A : Type 0} (P : A → Type 0) (a : A) → P a → Each P (a ∷ [])
-each_one P a p zero y e = subst P (some-injective a y e) p
-each_one P a p (suc j) y e = absurd (some-ne-none y (sym e))
 
 -- one entry was made, which the answer cites
 pub one_entry : (s : Script) (z : Step) (m : Made) (c : At) → z.work.core.made ≡ m ∷ [] → z.work.core.sets ≡ bits_for m.place m.items (step [] m.items m.entry) → MayMake s z m m.entry
@@ -312,7 +252,7 @@ module _ (x : Shared) (tables : AreTables x) (by : Serial) (c : Command) (group 
       place = place_same;
       number = sym a.number;
       later = subst (λ (l : List Made). Each (λ (m : Made). m.place ≡ place_number c_at.place → m.number < length a.old.entries) l) (made_is x group decl f call s t o (entry ∷ []) bits a.gains ∙ ap (λ (u : WorkerState). u.core.traces.made) (sym start)) a.was.later.made;
-      known = each_begins (λ (k : Known). k.place ≡ place_number c_at.place → length k.entries ≤ length a.old.entries) z.before.core.traces.known o.held.core.traces.known
+      known = each_before (λ (k : Known). k.place ≡ place_number c_at.place → length k.entries ≤ length a.old.entries) z.before.core.traces.known o.held.core.traces.known
           (subst (λ (u : WorkerState). Begins u.core.traces.known o.held.core.traces.known) (sym start) (known_before x group decl f call s t o (entry ∷ []) bits a.gains)) a.was.later.known;
       first = first_for x tables o.calls.called f.id node birth c_at.place a.first z (end ∙ known_is x group decl f call s t o (entry ∷ []) bits a.gains) named there;
       filled = filled;

@@ -1,33 +1,10 @@
 -- A sum over a journal is the sum over the entries that the steps made there.
-use Rattle.std.proofs.Common.{◌≡◌, ℕ, suc, ◌+◌, ◌*◌, ◌<◌, ◌≢◌, ⊎_elim, inl, inr, Bool, true, false, cond, List, [], ◌∷◌, length, sym, refl, ap, subst, ◌∙◌, arith, eq-eqb, ne_eqb, le-leb}
-use Rattle.std.specs.Prelude.{slice_get, Some, nat_lt, nat_le, ◌==◌}
-use Rattle.std.specs.List.{enumerate_from, AllByRecursion}
-use Rattle.std.proofs.lemmas.Bool.{cases_lt, leb-true}
-use Rattle.std.proofs.lemmas.Option.{same_Some, none-some, slice_get_within}
-use mathlib.Core.Logic.{dite}
-use native.Mathlib.Decide.{ℕ_discrete}
-use Rattle.shr_base.specs.declared.places.Place.{Place}
-use Rattle.shr_base.specs.declared.journals.Entry.{Entry}
-use Rattle.shr_base.specs.declared.scripts.Script.{Script}
-use Rattle.shr_model.specs.Places.{place_number}
-use Rattle.shr_model.proofs.BagLaws.{AreApart}
-use Rattle.shr_model.proofs.Members.{Has, Has_from_Contains, Contains_from_Has, map_has}
-use Rattle.shr_model.proofs.PlacesLaws.{AreApart_of_ends, find_end}
-use Rattle.shr_base.specs.declared.ends.PlaceEnd.{PlaceEnd}
-use Rattle.shr_seats.specs.Views.{Each}
-use Rattle.shr_seats.specs.Weights.{total}
-use Rattle.shr_seats.proofs.Weighing.{total_zero, total_both}
-use Rattle.shr_core.specs.Layout.{place_at}
-use Rattle.shr_core.specs.Parts.{Made}
-use Rattle.shr_core.specs.Rule.{hit}
-use Rattle.shr_core.proofs.Listing.{back}
-use Rattle.shr_report.specs.declared.report.Report.{Report}
-use Rattle.shr_report.specs.Parts.{journal_of, journals_of, places_of, items_before, IsThere}
-use Rattle.shr_assemble.specs.Steps.{Step, IsAmong}
-use Rattle.shr_assemble.specs.Runs.{all_made, IsRun}
+use Rattle.shr_assemble.proofs.Common.{◌≡◌, ℕ, suc, ◌+◌, ◌*◌, ◌<◌, ◌≢◌, ⊎_elim, inl, inr, true, false, cond, List, [], ◌∷◌, length, sym, refl, ap, subst, ◌∙◌, arith, eq-eqb, ne_eqb, slice_get, Some, nat_lt, nat_le, ◌==◌, enumerate_from, AllByRecursion, cases_lt, same_Some, none-some, slice_get_within, dite, ℕ_discrete, Place, Entry, Script, place_number, AreApart, Has, Has_from_Contains, Contains_from_Has, map_has, AreApart_of_ends, find_end, PlaceEnd, Each, total, total_zero, total_both, place_at, Made, hit, back, Report, journal_of, journals_of, places_of, items_before, IsThere, Step, IsAmong, all_made, IsRun, not_le}
+use Rattle.std.proofs.Common.{le-leb}
 use Rattle.shr_assemble.proofs.Gathering.{total_same_on, has_step}
-use Rattle.shr_assemble.proofs.Listed.{no_test, contains_slice}
+use Rattle.shr_assemble.proofs.Listed.{contains_slice}
 use Rattle.shr_assemble.proofs.Making.{made_stands, back_there, below_one}
+use Rattle.shr_units.proofs.Reclaims.{cond_no, cond_yes}
 
 -- a weight of the entries made at a place with this number; with numbers from a first one on; with one number
 abbrev pub at_place : ℕ → (Made → ℕ) → Made → ℕ
@@ -38,15 +15,6 @@ at_from k i g m = cond (m.place == k) (cond (nat_le i m.number) (g m) 0) 0
 
 abbrev at_one : ℕ → ℕ → (Made → ℕ) → Made → ℕ
 at_one k i g m = cond (m.place == k) (cond (m.number == i) (g m) 0) 0
-
-cond_yes : (b : Bool) (x y : ℕ) → b ≡ true → cond b x y ≡ x
-cond_yes b x y e = ap (λ c. cond c x y) e
-
-cond_no : (b : Bool) (x y : ℕ) → b ≡ false → cond b x y ≡ y
-cond_no b x y e = ap (λ c. cond c x y) e
-
-not_le : (i n : ℕ) → n < i → nat_le i n ≡ false
-not_le i n lt = no_test (nat_le i n) (λ e. omega (arith, leb-true i n e, lt))
 
 module _ (k : ℕ) (g : Made → ℕ) where
   from_one : (i : ℕ) (m : Made) → at_from k i g m ≡ at_one k i g m + at_from k (i + 1) g m

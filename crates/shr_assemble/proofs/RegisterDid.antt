@@ -1,37 +1,17 @@
 -- What a register did.
-use Rattle.std.proofs.Common.{◌≡◌, ℕ, ◌+◌, ◌≤◌, true, false, List, [], ◌∷◌, length, length-append, take, refl, sym, ap, subst, ◌∙◌, arith}
-use Rattle.std.specs.Prelude.{None}
-use Rattle.std.proofs.lemmas.Option.{none-some}
-use Rattle.shr_base.specs.declared.journals.PoolEntry.{PoolEntry}
-use Rattle.shr_base.specs.declared.journals.PoolEntry.TheVariants.{Registered}
-use Rattle.shr_base.specs.declared.places.Serial.{Serial}
-use Rattle.shr_base.specs.declared.replies.Answered.{Answered}
-use Rattle.shr_base.specs.declared.replies.Reply.{Reply}
+use Rattle.shr_assemble.proofs.Common.{◌≡◌, ℕ, ◌+◌, ◌≤◌, true, false, List, [], ◌∷◌, length, length-append, take, refl, sym, ap, subst, ◌∙◌, arith, None, none-some, PoolEntry, Registered, Serial, Answered, Reply, Command, Family, is_live_decl, lowest_idle, nothing, Adds, Loaded, Turn, shape_of, Shared, WorkerState, Work, unfound, parents_of, cited_by, IsReply, is_past_group, Step, IsCausedBy, DidPool, IsTurnOf, each_one}
 use Rattle.shr_base.specs.declared.replies.Reply.TheVariants as reply
-use Rattle.shr_base.specs.declared.scripts.Command.{Command}
 use Rattle.shr_base.specs.declared.scripts.Command.TheVariants as command
-use Rattle.shr_model.specs.Families.{Family}
-use Rattle.shr_model.specs.Pool.{is_live_decl, lowest_idle}
-use Rattle.shr_core.specs.Gained.{nothing, Adds}
-use Rattle.shr_core.specs.Parts.{Loaded, Turn}
-use Rattle.shr_core.specs.Seats.{shape_of}
 use Rattle.shr_registry.specs.declared.answers.RegisterAnswer.{RegisterAnswer}
 use Rattle.shr_registry.specs.declared.answers.RegisterAnswer.TheVariants as register
 use Rattle.shr_registry.specs.Answers.{RegisterGives}
-use Rattle.shr_walk.specs.declared.seats.Shared.{Shared}
-use Rattle.shr_walk.specs.State.{WorkerState, Work}
 use Rattle.shr_worker.specs.Commands as worker
-use Rattle.shr_worker.specs.Replies.{unfound, register_reply}
-use Rattle.shr_report.specs.Parts.{parents_of, cited_by}
-use Rattle.shr_report.specs.ReplyTable.{IsReply}
-use Rattle.shr_report.specs.Freshness.{is_past_group}
-use Rattle.shr_assemble.specs.Steps.{Step}
-use Rattle.shr_assemble.specs.Causes.{IsCausedBy}
-use Rattle.shr_assemble.specs.Pool.{DidPool, IsTurnOf}
+use Rattle.shr_worker.specs.Replies.{register_reply}
 use Rattle.shr_assemble.proofs.Bringing.{brings_of}
-use Rattle.shr_assemble.proofs.Quiet.{step_of, begins_longer, HasDid, calm_walks, still_moves, still_charges, still_pool, still_tree, meets_none, never_met}
+use Rattle.shr_assemble.proofs.Quiet.{step_of, HasDid, calm_walks, still_moves, still_charges, still_pool, still_tree, meets_none, never_met}
 use Rattle.shr_assemble.proofs.QuietSteps.{AreTables, gaining, does_gain, take_whole}
-use Rattle.shr_assemble.proofs.QuietTenant.{without, no_entries, unfound_lookups, each_one}
+use Rattle.shr_assemble.proofs.QuietTenant.{without, no_entries, unfound_lookups}
+use Rattle.shr_assemble.proofs.FreshLaw.{begins_length}
 
 module _ (x : Shared) (tables : AreTables x) (by : Serial) (decl : ℕ) (s t : WorkerState) (rest : t ≡ record s { core = t.core }) where
   abbrev asked : Command
@@ -91,7 +71,7 @@ module _ (x : Shared) (tables : AreTables x) (by : Serial) (decl : ℕ) (s t : W
       brought r h.gains.words (turn ∷ []) h.gains.adds (λ family. tt) refl
       (record {
         turns = each_one (λ (y : Turn). IsTurnOf t.core.turns.known y.entry y.number r) turn refl;
-        later = each_one (λ (y : Turn). length s.core.turns.known ≤ y.number) turn (omega (arith, after, begins_longer s.core.turns.known h.before h.seen));
+        later = each_one (λ (y : Turn). length s.core.turns.known ≤ y.number) turn (omega (arith, after, begins_length s.core.turns.known h.before h.seen));
         seen = tt;
         rise = λ k d lt. absurd (omega (arith, lt));
         made = (omega (arith, after, long), tt);

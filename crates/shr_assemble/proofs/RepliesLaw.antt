@@ -1,25 +1,6 @@
 -- The law of replies, of a run.
-use Rattle.std.proofs.Common.{◌≡◌, ℕ, ◌<◌, List, sym, ap, subst, ◌∙◌, arith}
-use Rattle.std.specs.Prelude.{slice_get, Some, Option}
-use Rattle.std.proofs.lemmas.Option.{same_Some, none-some}
-use Rattle.shr_base.specs.declared.places.Place.{Place}
-use Rattle.shr_base.specs.declared.places.Serial.{Serial}
-use Rattle.shr_base.specs.declared.replies.Answered.{Answered}
-use Rattle.shr_base.specs.declared.scripts.Command.{Command}
-use Rattle.shr_base.specs.declared.journals.Entry.{Entry}
-use Rattle.shr_base.specs.declared.journals.Entry.TheVariants.{Add, Look, Drop, Pin, Scan, MovedIn, Closed, Drained}
-use Rattle.shr_base.specs.declared.scripts.Script.{Script}
-use Rattle.shr_model.specs.Places.{place_number}
-use Rattle.shr_model.specs.Tenants.{by_of}
-use Rattle.shr_core.specs.Parts.{Made}
-use Rattle.shr_core.proofs.Listing.{back}
-use Rattle.shr_report.specs.declared.report.Report.{Report}
-use Rattle.shr_report.specs.Parts.{parents_of, journals_of, serial_of, cited_at, cited_by, id_found, at}
-use Rattle.shr_report.specs.ReplyTable.{IsReply}
+use Rattle.shr_assemble.proofs.Common.{◌≡◌, ℕ, ◌<◌, List, sym, ap, subst, ◌∙◌, arith, slice_get, Some, Option, same_Some, none-some, Place, Serial, Answered, Command, Entry, Add, Look, Drop, Pin, Scan, MovedIn, Closed, Drained, Script, place_number, by_of, Made, back, Report, parents_of, journals_of, serial_of, cited_at, cited_by, id_found, at, IsReply, Step, IsAmong, IsTold, MayMake, IsCited, IsReplyTo, IsRun}
 use Rattle.shr_report.specs.Replies.{AreRepliesLawful}
-use Rattle.shr_assemble.specs.Steps.{Step, IsAmong}
-use Rattle.shr_assemble.specs.Entries.{IsTold, MayMake, IsCited, IsReplyTo}
-use Rattle.shr_assemble.specs.Runs.{IsRun}
 use Rattle.shr_assemble.proofs.Gathering.{each_among, among_right, among_begins}
 use Rattle.shr_assemble.proofs.Making.{work_of, grows, made_stands, maker, Stepped, stepped, cited_is, replies}
 use Rattle.shr_assemble.proofs.SweepSteps.{last_answer}

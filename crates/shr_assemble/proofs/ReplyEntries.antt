@@ -1,21 +1,7 @@
 -- Which entry a reply cites, by its command.
-use Rattle.std.proofs.Common.{◌≡◌, ℕ, Bool, List, refl, sym, subst, ◌∙◌}
-use Rattle.std.specs.Prelude.{slice_get, Option, Some, None}
-use Rattle.std.proofs.lemmas.Option.{same_Some, none-some}
-use Rattle.shr_base.specs.declared.places.Serial.{Serial}
-use Rattle.shr_base.specs.declared.places.At.{At}
-use Rattle.shr_base.specs.declared.journals.DropKind.{DropKind}
-use Rattle.shr_base.specs.declared.journals.Entry.{Entry}
-use Rattle.shr_base.specs.declared.journals.Entry.TheVariants.{Add, Look, Drop, Pin}
-use Rattle.shr_base.specs.declared.replies.Reply.{Reply}
+use Rattle.shr_assemble.proofs.Common.{◌≡◌, ℕ, Bool, List, refl, sym, subst, ◌∙◌, slice_get, Option, Some, None, same_Some, none-some, Serial, At, DropKind, Entry, Add, Look, Drop, Pin, Reply, Command, Put, Get, Del, SetPin, Family, cited_by, IsReply, IsReplyTo}
 use Rattle.shr_base.specs.declared.replies.Reply.TheVariants as reply
-use Rattle.shr_base.specs.declared.scripts.Command.{Command}
-use Rattle.shr_base.specs.declared.scripts.Command.TheVariants.{Put, Get, Del, SetPin}
-use Rattle.shr_model.specs.Families.{Family}
-use Rattle.shr_report.specs.Parts.{cited_by}
-use Rattle.shr_report.specs.ReplyTable.{IsReply}
 use Rattle.shr_report.proofs.QuietSweep.{sweep_cites}
-use Rattle.shr_assemble.specs.Entries.{IsReplyTo}
 
 -- the entry is one that a command makes
 abbrev pub IsEntryFor : Serial → Command → Entry → Type 0

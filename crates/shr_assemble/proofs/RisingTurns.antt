@@ -1,14 +1,5 @@
 -- Entries with rising numbers that are all the entries below a bound: each has the next number.
-use Rattle.std.proofs.Common.{◌≡◌, ℕ, zero, suc, ◌+◌, ◌<◌, ◌≤◌, ⊎_elim, List, [], ◌∷◌, ◌++◌, length, refl, ap, subst, arith}
-use Rattle.std.specs.Prelude.{slice_get, Some}
-use Rattle.std.proofs.lemmas.Bool.{cases_lt}
-use Rattle.std.proofs.lemmas.Option.{same_Some, none-some}
-use mathlib.Core.Logic.{dite}
-use native.Mathlib.Decide.{ℕ_discrete}
-use Rattle.shr_seats.specs.Weights.{total}
-use Rattle.shr_seats.proofs.Weighing.{only_no}
-use Rattle.shr_core.specs.Parts.{Turn}
-use Rattle.shr_core.specs.Rule.{hit_turn}
+use Rattle.shr_assemble.proofs.Common.{◌≡◌, ℕ, zero, suc, ◌+◌, ◌<◌, ◌≤◌, ⊎_elim, List, [], ◌∷◌, ◌++◌, length, refl, ap, subst, arith, slice_get, Some, cases_lt, same_Some, none-some, dite, ℕ_discrete, total, only_no, Turn, hit_turn}
 
 -- their numbers rise, from this one on, and stay below a bound
 abbrev pub AreUp : ℕ → ℕ → List Turn → Type 0

@@ -1,37 +1,11 @@
 -- The rounds of a charge: its tries and walks together, over the groups that refused.
-use Rattle.std.proofs.Common.{false, ◌≡◌, ℕ, ◌-◌, ◌<◌, List, [], ◌∷◌, ◌++◌, length, map, sym, refl, ap, subst, ◌∙◌}
-use Rattle.std.specs.Prelude.{flat_map, Some}
-use Rattle.std.specs.List.{AllByRecursion, range_with_len}
-use Rattle.std.proofs.lemmas.List.{map-append}
-use Rattle.std.proofs.lemmas.Option.{none-some}
-use Rattle.shr_base.specs.declared.places.Serial.{Serial}
-use Rattle.shr_base.specs.declared.replies.Answered.{Answered}
-use Rattle.shr_base.specs.declared.scripts.Command.{Command}
-use Rattle.shr_base.specs.declared.scripts.Script.{Script}
-use Rattle.shr_base.specs.declared.journals.UseStep.{UseStep}
-use Rattle.shr_model.specs.Commands.{round_of, rounds_from}
-use Rattle.shr_model.specs.Groups.{IsTree, IsAtOrAbove, preorder_of}
-use Rattle.shr_model.specs.Walks.{job, job_of}
+use Rattle.shr_assemble.proofs.Common.{false, ◌≡◌, ℕ, ◌-◌, ◌<◌, List, [], ◌∷◌, ◌++◌, length, map, sym, refl, ap, subst, ◌∙◌, flat_map, Some, AllByRecursion, range_with_len, map-append, none-some, Serial, Answered, Command, Script, UseStep, round_of, IsTree, IsAtOrAbove, preorder_of, job, job_of, Has_from_Contains, Begins, Each-none, Mapped, ChargeAnswer, ChargeOps, shape_of, parents_of, Groups, HadMemory, WorkerState, Work, no_work, then_work, Shared, fresh_none, Visit, Round, job_in, HadRoom, due_in, AreRounds, TriesInRounds, IsTried, charge_work, by_slices}
+use Rattle.shr_model.specs.Commands.{rounds_from}
 use Rattle.shr_model.proofs.GroupsOrder.{preorder_of-on}
-use Rattle.shr_model.proofs.Members.{Has_from_Contains}
-use Rattle.shr_seats.specs.Weights.{Begins}
-use Rattle.shr_seats.proofs.Weighing.{Each-none}
-use Rattle.shr_core.specs.Parts.{Mapped}
-use Rattle.shr_charge.specs.declared.answers.ChargeAnswer.{ChargeAnswer}
 use Rattle.shr_charge.specs.declared.answers.ChargeAnswer.TheVariants.{Charged, Over}
-use Rattle.shr_charge.specs.Charging.{ChargeOps}
-use Rattle.shr_core.specs.Seats.{shape_of}
-use Rattle.shr_report.specs.Parts.{parents_of}
-use Rattle.shr_tree.specs.Tree.{Groups}
-use Rattle.shr_walk.specs.Balances.{HadMemory}
-use Rattle.shr_walk.specs.State.{WorkerState, Work, no_work, then_work}
-use Rattle.shr_walk.specs.declared.seats.Shared.{Shared}
-use Rattle.shr_walk.proofs.FreshLaws.{fresh_none}
-use Rattle.shr_reclaim.specs.Rounds.{Visit, Round, job_in, HadRoom, due_in, AreRounds, TriesInRounds}
-use Rattle.shr_reclaim.specs.Trying.{IsTried, charge_work}
 use Rattle.shr_reclaim.proofs.Refusing.{refused_above}
 use Rattle.shr_assemble.proofs.Spending.{refused_there}
-use Rattle.shr_assemble.proofs.Listed.{by_slices, slice_contains}
+use Rattle.shr_assemble.proofs.Listed.{slice_contains}
 use Rattle.shr_assemble.proofs.WalkingIds.{up_to_below, ups_are}
 use Rattle.shr_assemble.proofs.WalkingTold.{IsTableOf}
 use Rattle.shr_assemble.proofs.WalkingCharges.{rec_of, tree_is}

@@ -1,32 +1,8 @@
 -- The steps of a worker from the states between its commands, and what they have in all.
-use Rattle.std.proofs.Common.{◌≡◌, ℕ, zero, suc, ◌+◌, ◌<◌, List, [], ◌∷◌, ◌++◌, length, length-append, take, sym, refl, ap, subst, ◌∙◌, arith, append_assoc}
-use Rattle.std.specs.Prelude.{slice_get, Option, Some, None, flat_map}
-use Rattle.std.specs.List.{AllByRecursion}
-use Rattle.std.proofs.lemmas.List.{append-nil}
-use Rattle.std.proofs.lemmas.Option.{same_Some, none-some}
-use Rattle.shr_base.specs.declared.places.Serial.{Serial}
-use Rattle.shr_base.specs.declared.replies.Answered.{Answered}
-use Rattle.shr_base.specs.declared.scripts.Command.{Command}
-use Rattle.shr_base.specs.declared.scripts.Script.{Script}
-use Rattle.shr_base.specs.declared.scripts.Sweep.{Sweep}
-use Rattle.shr_base.specs.declared.scripts.WorkerScript.{WorkerScript}
-use Rattle.shr_base.specs.declared.walks.Isolation.{Isolation}
-use Rattle.shr_script.specs.Bounds.{IsCommandWithin}
-use Rattle.shr_report.specs.Isolated.{isolations_told}
-use Rattle.shr_script.specs.Content.{content_of}
-use Rattle.shr_walk.specs.Sharing.{IsShared}
-use Rattle.shr_walk.specs.declared.seats.Shared.{Shared}
-use Rattle.shr_walk.specs.State.{WorkerState, Work}
-use Rattle.shr_worker.specs.Chain.{CrewState, DeedGives, IsWorkOf, commands_in, commands_of, serial_of}
+use Rattle.shr_assemble.proofs.Common.{◌≡◌, ℕ, zero, suc, ◌+◌, ◌<◌, List, [], ◌∷◌, ◌++◌, length, length-append, take, sym, refl, ap, subst, ◌∙◌, arith, append_assoc, slice_get, Option, Some, None, flat_map, AllByRecursion, append-nil, same_Some, none-some, Serial, Answered, Command, Script, Sweep, WorkerScript, Isolation, IsCommandWithin, isolations_told, content_of, IsShared, Shared, WorkerState, Work, CrewState, DeedGives, IsWorkOf, SweepItem, End, parents_of, Step, AreChained, state_after, Brings, Did, HasHelped, isolated_in, isolated_before, DidIsolations, IsOfPops}
+use Rattle.shr_worker.specs.Chain.{commands_in, commands_of, serial_of}
 use Rattle.shr_worker.proofs.Within.{command_within}
-use Rattle.shr_pool.specs.declared.items.SweepItem.{SweepItem}
-use Rattle.shr_pool.specs.declared.items.SweepItem.TheVariants.{Walk, End}
-use Rattle.shr_report.specs.Parts.{parents_of}
-use Rattle.shr_assemble.specs.Steps.{Step, AreChained, state_after, Brings}
-use Rattle.shr_assemble.specs.Did.{Did}
-use Rattle.shr_assemble.specs.Ends.{HasHelped}
-use Rattle.shr_assemble.specs.Isolating.{isolated_in, isolated_before, DidIsolations}
-use Rattle.shr_assemble.specs.Sweeps.{IsOfPops}
+use Rattle.shr_pool.specs.declared.items.SweepItem.TheVariants.{Walk}
 use Rattle.shr_assemble.proofs.Fit.{IsFit, fit_kept}
 
 -- A command did its work, between these states. Its isolation stands behind those of its worker, and is as the law asks.

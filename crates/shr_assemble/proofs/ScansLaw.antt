@@ -1,49 +1,15 @@
 -- The Scan entries of a walk in the journal of a place are those that its step made there.
-use Rattle.std.proofs.Common.{◌≡◌, ℕ, zero, suc, ◌+◌, ◌-◌, ◌<◌, ◌≤◌, ◌≢◌, ◌⊎◌, inl, inr, ⊎_elim, Bool, true, false, ◌&&◌, cond, List, [], ◌∷◌, length, length-append, take, map, sym, refl, ap, subst, ◌∙◌, arith, eq-eqb}
-use Rattle.std.specs.Prelude.{slice_get, Option, Some, None, filter_map, replicate, ◌==◌}
-use Rattle.std.specs.List.{AllByRecursion, enumerate_from, cons_option}
-use Rattle.std.proofs.lemmas.Bool.{and_parts, eqb-true, cases_lt}
-use Rattle.std.proofs.lemmas.Option.{same_Some, none-some, slice_get_within}
-use mathlib.Core.Logic.{dite}
-use native.Mathlib.Decide.{ℕ_discrete}
-use Rattle.shr_base.specs.declared.places.Place.{Place}
-use Rattle.shr_base.specs.declared.places.Serial.{Serial}
-use Rattle.shr_base.specs.declared.journals.Entry.{Entry}
-use Rattle.shr_base.specs.declared.journals.Entry.TheVariants.{Add, Look, Drop, Pin, Scan, MovedIn, Closed, Drained}
-use Rattle.shr_base.specs.declared.scripts.CacheDecl.{CacheDecl}
-use Rattle.shr_base.specs.declared.scripts.Script.{Script}
-use Rattle.shr_base.specs.declared.walks.PassRecord.{PassRecord}
-use Rattle.shr_base.specs.declared.walks.WalkRecord.{WalkRecord}
-use Rattle.shr_model.specs.Places.{place_number}
-use Rattle.shr_model.specs.Pass.{due, ask_size, batch_of, total_of}
-use Rattle.shr_model.specs.Scans.{ScanMade, scan_by, scans_by}
-use Rattle.shr_model.proofs.Members.{Has, each_has}
-use Rattle.shr_model.specs.Isolations.{first_isolation}
-use Rattle.shr_seats.specs.Weights.{total}
-use Rattle.shr_core.specs.Parts.{Made}
-use Rattle.shr_core.proofs.Listing.{back}
-use Rattle.shr_report.specs.declared.report.Report.{Report}
-use Rattle.shr_report.specs.Parts.{journals_of, IsThere}
-use Rattle.shr_report.specs.LawfulWalk.{AreScansOf}
-use Rattle.shr_assemble.specs.Steps.{Step, IsAmong, gathered, steps_of}
-use Rattle.shr_assemble.specs.Entries.{MayMake, IsScanned}
-use Rattle.shr_assemble.specs.Attempts.{scan_made, scans_made}
-use Rattle.shr_assemble.specs.Runs.{IsRun}
-use Rattle.shr_assemble.proofs.Gathering.{each_among, total_gathered, mine_at, mine_is, same_step, some_at, at_some}
-use Rattle.shr_assemble.proofs.Listed.{sum_total}
+use Rattle.shr_assemble.proofs.Common.{◌≡◌, ℕ, zero, suc, ◌+◌, ◌-◌, ◌<◌, ◌≤◌, ◌≢◌, ◌⊎◌, inl, inr, ⊎_elim, Bool, true, false, ◌&&◌, cond, List, [], ◌∷◌, length, length-append, map, sym, refl, ap, subst, ◌∙◌, arith, eq-eqb, slice_get, Option, Some, None, filter_map, ◌==◌, AllByRecursion, enumerate_from, cons_option, and_parts, eqb-true, cases_lt, same_Some, none-some, slice_get_within, dite, ℕ_discrete, Place, Serial, Entry, Add, Look, Drop, Pin, Scan, MovedIn, Closed, Drained, CacheDecl, Script, PassRecord, WalkRecord, place_number, due, ask_size, batch_of, total_of, ScanMade, scan_by, Has, each_has, first_isolation, total, Made, back, Report, journals_of, IsThere, AreScansOf, Step, IsAmong, gathered, steps_of, MayMake, IsScanned, scan_made, scans_made, IsRun, all_zero, at_some, some_at, sum_total}
+use Rattle.shr_model.specs.Scans.{scans_by}
+use Rattle.shr_assemble.proofs.Gathering.{each_among, total_gathered, mine_at, mine_is, same_step}
 use Rattle.shr_assemble.proofs.Making.{grows, maker, work_of}
 use Rattle.shr_assemble.proofs.Recounting.{at_place, journal_is}
 use Rattle.shr_assemble.proofs.Flattening.{WalkOf}
+use Rattle.shr_units.proofs.Lists.{length_total, only_at}
+use Rattle.shr_units.proofs.Reclaims.{enumerated}
+use Rattle.shr_units.proofs.WalksLaw.{take_alike}
 
 -- ---- a share that only one step has
-pub all_zero : {A : Type 0} (g : A → ℕ) (xs : List A) → ((j : ℕ) (x : A) → slice_get xs j ≡ Some x → g x ≡ 0) → total g xs ≡ 0
-all_zero g [] h = refl
-all_zero g (x ∷ xs) h = omega (arith, h 0 x refl, all_zero g xs (λ j y e. h (suc j) y e))
-
-only_at : {A : Type 0} (g : A → ℕ) (xs : List A) (i : ℕ) (x : A) → slice_get xs i ≡ Some x → ((j : ℕ) (y : A) → slice_get xs j ≡ Some y → j ≢ i → g y ≡ 0) → total g xs ≡ g x
-only_at g [] i x e h = absurd (none-some x e)
-only_at g (y ∷ xs) zero x e h = omega (arith, ap g (same_Some y x e), all_zero g xs (λ j z d. h (suc j) z d (λ s. omega (arith, s))))
-only_at g (y ∷ xs) (suc i) x e h = omega (arith, h 0 y refl (λ s. omega (arith, s)), only_at g xs i x e (λ j z d ne. h (suc j) z d (λ s. ne (omega (arith, s)))))
 
 pub only_step : {A : Type 0} (g : A → ℕ) (f : Step → List A) (workers : List (List Step)) (worker k : ℕ) (x : Step) → slice_get (steps_of workers worker) k ≡ Some x
     → ((v j : ℕ) (y : Step) → slice_get (steps_of workers v) j ≡ Some y → ((v ≡ worker) × (j ≡ k) → ⊥) → total g (f y) ≡ 0) → total g (gathered f workers) ≡ total g (f x)
@@ -85,11 +51,6 @@ has_kept h [] j x a e k = absurd (none-some x e)
 has_kept h (y ∷ xs) zero x a e k = option_has (h y) (filter_map h xs) a (inl (ap h (same_Some y x e) ∙ k))
 has_kept h (y ∷ xs) (suc j) x a e k = option_has (h y) (filter_map h xs) a (inr (has_kept h xs j x a e k))
 
-enumerated : {A : Type 0} (i : ℕ) (xs : List A) (j : ℕ) (p : ℕ × A) → slice_get (enumerate_from i xs) j ≡ Some p → (slice_get xs j ≡ Some p.1) × (p.0 ≡ i + j)
-enumerated i [] j p e = absurd (none-some p e)
-enumerated i (x ∷ xs) zero p e = let same : (i, x) ≡ p = same_Some (i, x) p e in (ap (λ q. Some q.1) same, ap (λ q. q.0) (sym same) ∙ omega arith)
-enumerated i (x ∷ xs) (suc j) p e = let t = enumerated (i + 1) xs j p e in (t.0, t.1 ∙ omega arith)
-
 -- a Scan that is told apart is of the worker and of the walk
 scan_is : (worker walk number : ℕ) (e : Entry) (s : Script) (x : Step) (m : Made) (a : ScanMade) → scan_by worker walk number e ≡ Some a → walk < first_isolation → MayMake s x m e → IsScanned x m worker walk
 scan_is worker walk number (Add by birth added key value) s x m a h low may = absurd (none-some a h)
@@ -109,18 +70,9 @@ scan_is worker walk number (Drained by objects) s x m a h low may = absurd (none
 abbrev IsAsked : ℕ → ScanMade → Type 0
 IsAsked size z = z.asked ≡ size
 
-length_total : {A : Type 0} (xs : List A) → length xs ≡ total (λ (x : A). 1) xs
-length_total [] = refl
-length_total (x ∷ xs) = omega (arith, length_total xs)
-
 asked_alike : (size : ℕ) (xs : List ScanMade) → AllByRecursion (λ v. v ≡ size) (map (λ (z : ScanMade). z.asked) xs) → AllByRecursion (IsAsked size) xs
 asked_alike size [] h = tt
 asked_alike size (x ∷ xs) h = (h.0, asked_alike size xs h.1)
-
-take_alike : (size m n : ℕ) → AllByRecursion (λ v. v ≡ size) (take m (replicate n size))
-take_alike size zero n = tt
-take_alike size (suc m) zero = tt
-take_alike size (suc m) (suc n) = (refl, take_alike size m n)
 
 -- two lists of one length whose asks are all of one size ask the same
 constant : (size : ℕ) (xs ys : List ScanMade) → AllByRecursion (IsAsked size) xs → AllByRecursion (IsAsked size) ys → length xs ≡ length ys → map (λ (z : ScanMade). z.asked) xs ≡ map (λ (z : ScanMade). z.asked) ys

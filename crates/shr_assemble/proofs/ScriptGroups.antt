@@ -1,12 +1,6 @@
 -- The groups of a script are a tree in which the parent of one that isn't later isn't later.
-use Rattle.std.proofs.Common.{sym, subst}
+use Rattle.shr_assemble.proofs.Common.{sym, subst, content_of, within_of_valid, hierarchy_of, shape_of, IsShared, Shared}
 use Rattle.shr_model.specs.Groups.{IsHierarchy}
-use Rattle.shr_script.specs.Content.{content_of}
-use Rattle.shr_script.proofs.BoundsLaws.{within_of_valid}
-use Rattle.shr_seats.specs.Shapes.{hierarchy_of}
-use Rattle.shr_core.specs.Seats.{shape_of}
-use Rattle.shr_walk.specs.Sharing.{IsShared}
-use Rattle.shr_walk.specs.declared.seats.Shared.{Shared}
 use Rattle.shr_report.specs.Parts as report
 use Rattle.shr_assemble.proofs.QuietSteps.{hierarchy_is}
 

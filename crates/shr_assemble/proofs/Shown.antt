@@ -1,31 +1,11 @@
 -- What a step made, loaded and knows is so in the report.
-use Rattle.std.proofs.Common.{◌≡◌, ℕ, zero, suc, ◌+◌, ◌≤◌, Bool, true, false, cond, List, [], ◌∷◌, ◌++◌, length, length-append, take, sym, refl, ap, subst, ◌∙◌, arith, eq-eqb}
-use Rattle.std.specs.Prelude.{slice_get, Some, flat_map, count_by, not}
-use Rattle.std.proofs.lemmas.List.{take-append-le}
-use Rattle.std.proofs.lemmas.List.Sorted.{sum_by-IsPermutation}
-use Rattle.std.proofs.lemmas.Option.{same_Some, none-some}
-use Rattle.shr_base.specs.declared.journals.PoolEntry.{PoolEntry}
-use Rattle.shr_base.specs.declared.journals.TreeEntry.{TreeEntry}
-use Rattle.shr_base.specs.declared.journals.TreeEntry.TheVariants.{Begin}
-use Rattle.shr_base.specs.declared.journals.UseStep.{UseStep}
-use Rattle.shr_base.specs.declared.places.Serial.{Serial}
-use Rattle.shr_base.specs.declared.scripts.Script.{Script}
-use Rattle.shr_model.specs.Charges.{ups, downs}
-use Rattle.shr_seats.specs.Weights.{total}
-use Rattle.shr_seats.proofs.Weighing.{total-append, term_le}
-use Rattle.shr_core.specs.Parts.{Loaded}
-use Rattle.shr_charge.specs.Offlining.{IsNamed}
+use Rattle.shr_assemble.proofs.Common.{◌≡◌, ℕ, zero, suc, ◌+◌, ◌≤◌, Bool, true, false, cond, List, [], ◌∷◌, ◌++◌, length, length-append, take, sym, refl, ap, subst, ◌∙◌, arith, eq-eqb, slice_get, Some, flat_map, count_by, not, take-append-le, sum_by-IsPermutation, same_Some, none-some, PoolEntry, TreeEntry, Begin, UseStep, Serial, Script, ups, downs, total, total-append, term_le, Loaded, IsNamed, WorkerState, Report, uses_at, lookups_at, StandsInTree, Step, IsAmong, steps_of, AreChained, all_ops, IsRun, begin_at, count_total, some_at, sum_total}
 use Rattle.shr_charge.specs.declared.answers.GroupState.TheVariants as state
-use Rattle.shr_walk.specs.State.{WorkerState}
-use Rattle.shr_report.specs.declared.report.Report.{Report}
-use Rattle.shr_report.specs.Parts.{hierarchy_of, uses_at, lookups_at}
-use Rattle.shr_report.specs.Causes.{is_of_worker, ups_of, downs_of, StandsInTree}
-use Rattle.shr_assemble.specs.Steps.{Step, IsAmong, steps_of, AreChained}
-use Rattle.shr_assemble.specs.Runs.{all_ops, IsRun}
-use Rattle.shr_assemble.proofs.Gathering.{among_right, mine_at, some_at, total_flat, total_same_on}
-use Rattle.shr_assemble.proofs.Listed.{all_among, count_total, sum_total, begins_slice}
+use Rattle.shr_report.specs.Parts.{hierarchy_of}
+use Rattle.shr_report.specs.Causes.{is_of_worker, ups_of, downs_of}
+use Rattle.shr_assemble.proofs.Gathering.{among_right, mine_at, total_flat, total_same_on}
+use Rattle.shr_assemble.proofs.Listed.{all_among, begins_slice}
 use Rattle.shr_assemble.proofs.Making.{work_of}
-use Rattle.shr_charge.proofs.TreeFacts.{begin_at}
 
 module _ (s : Script) (r : Report) (workers : List (List Step)) (run : IsRun s r workers) (worker k : ℕ) (x : Step) (at : slice_get (steps_of workers worker) k ≡ Some x) where
   -- a group word that was loaded names a Begin

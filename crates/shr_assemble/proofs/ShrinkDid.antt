@@ -1,28 +1,11 @@
 -- A `shrink` did what the report asks.
-use Rattle.std.proofs.Common.{◌≡◌, ℕ, ◌<◌, inl, inr, ⊎_elim, Bool, List, [], ◌∷◌, length, map, take, sym, refl, ap, subst, ◌∙◌, arith, true, false}
-use Rattle.std.specs.Prelude.{slice_get, Option, Some, ◌||◌}
-use Rattle.std.proofs.lemmas.Option.{same_Some, none-some}
-use Rattle.shr_base.specs.declared.places.Serial.{Serial}
-use Rattle.shr_base.specs.declared.replies.Answered.{Answered}
+use Rattle.shr_assemble.proofs.Common.{◌≡◌, ℕ, ◌<◌, inl, inr, ⊎_elim, Bool, List, [], ◌∷◌, length, map, take, sym, refl, ap, subst, ◌∙◌, arith, true, false, slice_get, Option, Some, ◌||◌, same_Some, none-some, Serial, Answered, Command, Shrink, WalkAnswer, WalkRecord, IsPrefixOf, Job, job, job_of, is_cut, parents_of, WorkerState, Work, Shared, Walk, next_walk, unfound, walk_reply, KnowsOnline, IsAmong}
 use Rattle.shr_base.specs.declared.replies.Reply.TheVariants as reply
-use Rattle.shr_base.specs.declared.scripts.Command.{Command}
-use Rattle.shr_base.specs.declared.scripts.Command.TheVariants.{Shrink}
-use Rattle.shr_base.specs.declared.walks.WalkAnswer.{WalkAnswer}
 use Rattle.shr_base.specs.declared.walks.WalkAnswer.TheVariants as answered
-use Rattle.shr_base.specs.declared.walks.WalkRecord.{WalkRecord}
-use Rattle.shr_model.specs.Prefixes.{IsPrefixOf}
-use Rattle.shr_model.specs.Walks.{Job, job, job_of, is_cut}
 use Rattle.shr_charge.specs.Views as charge
 use Rattle.shr_charge.specs.declared.answers.GroupState.TheVariants as state
-use Rattle.shr_report.specs.Parts.{parents_of}
 use Rattle.shr_report.specs.WalksLawful.{shrink_reply, reply_of}
-use Rattle.shr_walk.specs.State.{WorkerState, Work}
-use Rattle.shr_walk.specs.declared.seats.Shared.{Shared}
-use Rattle.shr_walk.specs.declared.walking.Walk.{Walk}
-use Rattle.shr_worker.specs.Commands.{next_walk, Shrinks}
-use Rattle.shr_worker.specs.Replies.{unfound, walk_reply}
-use Rattle.shr_assemble.specs.Offlining.{KnowsOnline}
-use Rattle.shr_assemble.specs.Steps.{IsAmong}
+use Rattle.shr_worker.specs.Commands.{Shrinks}
 use Rattle.shr_assemble.proofs.Bringing.{brings_of}
 use Rattle.shr_assemble.proofs.WalkingTold.{IsTableOf}
 use Rattle.shr_assemble.proofs.WalkingGives.{one_seen, one_online, IsNoted, Gave, gave}

@@ -1,17 +1,8 @@
 -- Charges that are used up, and the group that refused one.
-use Rattle.std.proofs.Common.{◌≡◌, ℕ, ◌<◌, Bool, true, false, cond, List, length, arith}
-use Rattle.std.specs.Prelude.{Some, None, ◌||◌, nat_le}
-use Rattle.shr_base.specs.declared.replies.Spent.{Spent}
+use Rattle.shr_assemble.proofs.Common.{◌≡◌, ℕ, ◌<◌, Bool, true, false, cond, List, length, arith, Some, None, ◌||◌, nat_le, Spent, spent_by, Uses, Serial, UseStep, IsTree, on_le, Shape, refused_on}
 use Rattle.shr_base.specs.declared.replies.Spent.TheVariants as spent
-use Rattle.shr_charge.specs.Seat.{spent_by, counted}
-use Rattle.shr_charge.specs.Views.{Uses}
-use Rattle.shr_base.specs.declared.places.Serial.{Serial}
-use Rattle.shr_base.specs.declared.journals.UseStep.{UseStep}
-use Rattle.shr_model.specs.Groups.{IsTree}
-use Rattle.shr_model.proofs.GroupsOrder.{on_le}
-use Rattle.shr_seats.specs.declared.shape.Shape.{Shape}
+use Rattle.shr_charge.specs.Seat.{counted}
 use Rattle.shr_charge.specs.Charging.{IsRefused}
-use Rattle.shr_reclaim.proofs.Refusing.{refused_on}
 
 by_test : (b : Bool) (charges uncharges : ℕ) (s : Spent) → cond b (Some (spent.Charges charges uncharges)) None ≡ Some s → s ≡ spent.Charges charges uncharges
 by_test true charges uncharges s e = cc

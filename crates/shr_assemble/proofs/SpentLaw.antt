@@ -1,15 +1,6 @@
 -- A counter that a command met used up is used up in the report.
-use Rattle.std.proofs.Common.{◌≡◌, ℕ, List, length, length-append, ap, arith}
-use Rattle.std.specs.Prelude.{slice_get, Some}
-use Rattle.shr_base.specs.declared.journals.Entry.{Entry}
-use Rattle.shr_base.specs.declared.replies.Spent.{Spent}
+use Rattle.shr_assemble.proofs.Common.{◌≡◌, ℕ, List, length, length-append, ap, arith, slice_get, Some, Entry, Spent, Script, Report, IsSpent, Step, steps_of, IsWornBy, IsRun}
 use Rattle.shr_base.specs.declared.replies.Spent.TheVariants as spent
-use Rattle.shr_base.specs.declared.scripts.Script.{Script}
-use Rattle.shr_report.specs.declared.report.Report.{Report}
-use Rattle.shr_report.specs.Causes.{IsSpent}
-use Rattle.shr_assemble.specs.Steps.{Step, steps_of}
-use Rattle.shr_assemble.specs.Worn.{IsWornBy}
-use Rattle.shr_assemble.specs.Runs.{IsRun}
 use Rattle.shr_assemble.proofs.Shown.{word_lookups, calls}
 use Rattle.shr_assemble.proofs.WornLists.{known_begins, lists_worn}
 

@@ -1,12 +1,5 @@
 -- Where the deeds of one seat stand in a line, and where the events of one kind stand among others.
-use Rattle.std.proofs.Common.{◌≡◌, ℕ, zero, suc, ◌<◌, ◌≤◌, inl, Bool, true, false, cond, List, [], ◌∷◌, ◌++◌, length, sym, refl, ap, subst, ◌∙◌, arith}
-use Rattle.std.specs.Prelude.{◌==◌}
-use mathlib.Core.Option.{some, some-injective, some-ne-none}
-use lib.ListN.{get_elem?}
-use Rattle.shr_model.proofs.Members.{Has}
-use Rattle.shr_seats.specs.Lines.{Deed, part}
-use Rattle.shr_core.specs.Gained.{among}
-use Rattle.shr_core.specs.Parts.{Event}
+use Rattle.shr_assemble.proofs.Common.{◌≡◌, ℕ, zero, suc, ◌<◌, ◌≤◌, inl, Bool, true, false, cond, List, [], ◌∷◌, ◌++◌, length, sym, refl, ap, subst, ◌∙◌, arith, ◌==◌, some, some-injective, some-ne-none, get_elem?, Has, Deed, part, among, Event}
 
 -- ---- the deeds of a seat
 -- where in a line the deed of a seat with this number stands

@@ -1,15 +1,6 @@
 -- In a legal journal of the tree the Done of a group stands once.
-use Rattle.std.proofs.Common.{◌≡◌, ℕ, ◌<◌, ⊎_elim, List, take, sym, ◌∙◌, arith}
-use Rattle.std.specs.Prelude.{slice_get, Some}
-use Rattle.std.proofs.lemmas.Bool.{cases_lt}
-use Rattle.std.proofs.lemmas.Option.{none-some}
-use mathlib.Core.Logic.{dite}
-use native.Mathlib.Decide.{ℕ_discrete}
-use Rattle.shr_base.specs.declared.journals.TreeEntry.{TreeEntry}
-use Rattle.shr_base.specs.declared.journals.TreeEntry.TheVariants.{Done}
-use Rattle.shr_model.specs.Groups.{Hierarchy}
-use Rattle.shr_model.specs.TreeJournal.{MayBeDone, IsTreeJournal}
-use Rattle.shr_charge.proofs.TreeFacts.{done_found, take_in}
+use Rattle.shr_assemble.proofs.Common.{◌≡◌, ℕ, ◌<◌, ⊎_elim, List, take, sym, ◌∙◌, arith, slice_get, Some, cases_lt, none-some, dite, ℕ_discrete, TreeEntry, Done, Hierarchy, IsTreeJournal, done_found, take_in}
+use Rattle.shr_model.specs.TreeJournal.{MayBeDone}
 
 module _ (h : Hierarchy) (es : List TreeEntry) (legal : IsTreeJournal h es) where
   pub done_once : (g n m : ℕ) → slice_get es n ≡ Some (Done g) → slice_get es m ≡ Some (Done g) → n ≡ m

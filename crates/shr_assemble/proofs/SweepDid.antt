@@ -1,36 +1,14 @@
 -- What a helper of a sweep did.
-use Rattle.std.proofs.Common.{◌≡◌, ℕ, ◌<◌, Bool, List, [], ◌∷◌, ◌++◌, length, map, sym, refl, ap, subst, ◌∙◌, sum}
-use Rattle.std.specs.Prelude.{Some, None}
-use Rattle.std.specs.List.{AllByRecursion}
-use Rattle.std.proofs.lemmas.List.{append-nil, map-append, length-map}
-use Rattle.std.proofs.lemmas.Option.{none-some}
-use Rattle.shr_base.specs.declared.places.Serial.{Serial}
-use Rattle.shr_base.specs.declared.replies.Answered.{Answered}
-use Rattle.shr_base.specs.declared.replies.Reply.{Reply}
+use Rattle.shr_assemble.proofs.Common.{◌≡◌, ℕ, ◌<◌, Bool, List, [], ◌∷◌, ◌++◌, length, map, sym, refl, ap, subst, ◌∙◌, sum, Some, None, AllByRecursion, append-nil, map-append, length-map, none-some, Serial, Answered, Reply, Sweep, WalkAnswer, WalkRecord, Job, job_of, SweepItem, End, SweepJob, Visit, job_in, HadRoom, AreVisited, parents_of, IsSwept, HadMemory, WorkerState, Shared, CrewState, unfound, Did, HasHelped, job_walked}
 use Rattle.shr_base.specs.declared.replies.Reply.TheVariants as reply
-use Rattle.shr_base.specs.declared.scripts.Sweep.{Sweep}
-use Rattle.shr_base.specs.declared.walks.WalkAnswer.{WalkAnswer}
-use Rattle.shr_base.specs.declared.walks.WalkRecord.{WalkRecord}
-use Rattle.shr_model.specs.Walks.{Job, job_of}
-use Rattle.shr_pool.specs.declared.items.SweepItem.{SweepItem}
-use Rattle.shr_pool.specs.declared.items.SweepItem.TheVariants.{Walk, End}
-use Rattle.shr_pool.specs.declared.items.SweepJob.{SweepJob}
+use Rattle.shr_pool.specs.declared.items.SweepItem.TheVariants.{Walk}
 use Rattle.shr_pool.specs.declared.view.PassView.{PassView}
-use Rattle.shr_reclaim.specs.Rounds.{Visit, job_in, HadRoom, AreVisited}
-use Rattle.shr_report.specs.Parts.{parents_of}
-use Rattle.shr_report.specs.Swept.{IsSweepWalk, IsSwept}
+use Rattle.shr_report.specs.Swept.{IsSweepWalk}
 use Rattle.shr_sweep.specs.declared.answers.SweepAnswer.{SweepAnswer}
 use Rattle.shr_sweep.specs.declared.answers.SweepAnswer.TheVariants as sweep
 use Rattle.shr_sweep.specs.Helping.{HelpGives, HasSwept, HasStopped, walk_of, freed_in}
-use Rattle.shr_walk.specs.Balances.{HadMemory}
 use Rattle.shr_walk.specs.Balances as balances
-use Rattle.shr_walk.specs.State.{WorkerState}
-use Rattle.shr_walk.specs.declared.seats.Shared.{Shared}
-use Rattle.shr_worker.specs.Chain.{CrewState}
-use Rattle.shr_worker.specs.Replies.{unfound}
-use Rattle.shr_assemble.specs.Did.{Did}
-use Rattle.shr_assemble.specs.Ends.{HasHelped, sweep_reply}
-use Rattle.shr_assemble.specs.Sweeps.{job_walked}
+use Rattle.shr_assemble.specs.Ends.{sweep_reply}
 use Rattle.shr_assemble.proofs.Bringing.{brings_of}
 use Rattle.shr_assemble.proofs.Rows.{SweptPart, IsThereItem}
 use Rattle.shr_assemble.proofs.WalkingChain.{GaveAll, IsThereJob, AllNoted, gave_all, all_seen, visited_one, all_had, all_cut}

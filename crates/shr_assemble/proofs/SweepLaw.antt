@@ -1,28 +1,8 @@
 -- The sweep of a run is lawful.
-use Rattle.std.proofs.Common.{◌≡◌, ℕ, zero, suc, ◌+◌, ◌<◌, ◌≤◌, Bool, cond, List, [], ◌∷◌, ◌++◌, length, map, sym, refl, ap, subst, ◌∙◌, arith}
-use Rattle.std.specs.Prelude.{slice_get, Option, Some, flat_map, count_by, ◌&&◌, ◌==◌}
-use Rattle.std.specs.List.{range_with_len}
-use Rattle.std.specs.Option.{IsSomeAnd}
-use Rattle.std.proofs.lemmas.List.Sums.{sum_by-cons, sum_by-append}
-use Rattle.std.proofs.lemmas.Option.{none-some, same_Some}
-use Rattle.shr_base.specs.declared.replies.Answered.{Answered}
-use Rattle.shr_base.specs.declared.replies.Reply.{Reply}
-use Rattle.shr_base.specs.declared.scripts.Script.{Script}
-use Rattle.shr_base.specs.declared.scripts.Sweep.{Sweep}
-use Rattle.shr_base.specs.declared.scripts.WorkerScript.{WorkerScript}
-use Rattle.shr_base.specs.declared.walks.WalkRecord.{WalkRecord}
-use Rattle.shr_pool.specs.declared.items.SweepItem.{SweepItem}
-use Rattle.shr_pool.specs.declared.items.SweepItem.TheVariants.{Walk, End}
-use Rattle.shr_pool.specs.Lines.{job, is_end, ends, of_job}
-use Rattle.shr_pool.specs.Worked.{only_job}
-use Rattle.shr_report.specs.declared.report.Report.{Report}
-use Rattle.shr_report.specs.Parts.{parents_of, commands_of, sweeps_in, sweeps_of, reply_at}
-use Rattle.shr_report.specs.Swept.{sweep_serial, sweep_walks, times_swept, IsSweptOut, IsSwept, IsSweepRight, IsSweepLawful}
-use Rattle.shr_seats.specs.Weights.{total}
-use Rattle.shr_seats.proofs.Weighing.{total-append}
-use Rattle.shr_assemble.specs.Runs.{IsRun}
-use Rattle.shr_assemble.specs.Steps.{Step}
-use Rattle.shr_assemble.specs.Sweeps.{IsOfPops, job_walked, all_popped}
+use Rattle.shr_assemble.proofs.Common.{◌≡◌, ℕ, zero, suc, ◌+◌, ◌<◌, ◌≤◌, Bool, cond, List, [], ◌∷◌, ◌++◌, length, map, sym, refl, ap, subst, ◌∙◌, arith, slice_get, Option, Some, flat_map, count_by, ◌&&◌, ◌==◌, range_with_len, IsSomeAnd, sum_by-cons, sum_by-append, none-some, same_Some, Answered, Reply, Script, Sweep, WorkerScript, WalkRecord, SweepItem, End, of_job, only_job, Report, parents_of, commands_of, sweeps_in, sweeps_of, reply_at, sweep_serial, IsSwept, total, total-append, IsRun, Step, IsOfPops, job_walked, all_popped}
+use Rattle.shr_pool.specs.declared.items.SweepItem.TheVariants.{Walk}
+use Rattle.shr_pool.specs.Lines.{job, is_end, ends}
+use Rattle.shr_report.specs.Swept.{sweep_walks, times_swept, IsSweptOut, IsSweepRight, IsSweepLawful}
 use Rattle.shr_assemble.proofs.Crews.{there_at}
 use Rattle.shr_assemble.proofs.Making.{reply_is}
 use Rattle.shr_assemble.proofs.SweepSteps.{SweepStep, sweep_step}

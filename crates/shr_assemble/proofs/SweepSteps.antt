@@ -1,15 +1,7 @@
 -- The steps of the workers' parts of a sweep.
-use Rattle.std.proofs.Common.{◌≡◌, ℕ, ◌<◌, List, length, sym, subst, ◌∙◌, arith}
-use Rattle.std.specs.Prelude.{slice_get, Some, None}
-use Rattle.std.proofs.lemmas.Option.{same_Some, slice_get_within, slice_get_past}
-use Rattle.shr_base.specs.declared.replies.Answered.{Answered}
-use Rattle.shr_base.specs.declared.scripts.Script.{Script}
-use Rattle.shr_report.specs.declared.report.Report.{Report}
-use Rattle.shr_report.specs.Parts.{commands_of, answers_of, answer_at}
-use Rattle.shr_report.specs.Swept.{sweep_serial, IsSweepReply}
-use Rattle.shr_assemble.specs.Runs.{AreSteps, IsStep}
-use Rattle.shr_assemble.specs.Steps.{Step, steps_of}
-use Rattle.shr_assemble.specs.Walks.{DidSweep, AreWalksFor}
+use Rattle.shr_assemble.proofs.Common.{◌≡◌, ℕ, ◌<◌, List, length, sym, subst, ◌∙◌, arith, slice_get, Some, None, same_Some, slice_get_within, slice_get_past, Answered, Script, Report, commands_of, answers_of, answer_at, sweep_serial, AreSteps, IsStep, Step, steps_of, AreWalksFor}
+use Rattle.shr_report.specs.Swept.{IsSweepReply}
+use Rattle.shr_assemble.specs.Walks.{DidSweep}
 use Rattle.shr_assemble.proofs.Crews.{there_at}
 
 -- the step of a worker's part of the sweep

@@ -1,14 +1,10 @@
 -- Values that meet the definitions of a sweep's walks, and values that don't.
-use Rattle.std.specs.Prelude.{◌≡◌, ℕ, false, [], ◌∷◌, refl}
-use Rattle.std.proofs.Common.{ap, arith}
+use Rattle.shr_assemble.proofs.Common.{◌≡◌, ℕ, false, [], ◌∷◌, refl, ap, arith, WalkRecord, End, SweepJob, IsOfPops}
 use Rattle.shr_base.specs.declared.replies.Reply.TheVariants as reply
 use Rattle.shr_base.specs.declared.walks.WalkAnswer.TheVariants.{Walked}
-use Rattle.shr_base.specs.declared.walks.WalkRecord.{WalkRecord}
-use Rattle.shr_pool.specs.declared.items.SweepItem.TheVariants.{Walk, End}
-use Rattle.shr_pool.specs.declared.items.SweepJob.{SweepJob}
+use Rattle.shr_pool.specs.declared.items.SweepItem.TheVariants.{Walk}
 use Rattle.shr_pool.specs.Lines.{job}
 use Rattle.shr_report.proofs.SecondReport.{kept}
-use Rattle.shr_assemble.specs.Sweeps.{IsOfPops}
 
 abbrev walk : ℕ → WalkRecord
 walk group = record { by = record { worker = 0; command = 0 }; group = group; node = 0; priority = 12; nofs = false; maps = kept []; attempts = kept []; answer = Walked 0 }

@@ -1,19 +1,7 @@
 -- What the passes of a sweep popped: each job is of the script, and the weights of the workers add up.
-use Rattle.std.proofs.Common.{◌≡◌, ℕ, zero, suc, ◌+◌, ◌<◌, ◌≤◌, List, [], ◌∷◌, ◌++◌, length, get_or, refl, ap, ◌∙◌, arith}
-use Rattle.std.specs.Prelude.{slice_get, Some, flat_map}
-use Rattle.std.specs.List.{AllByRecursion, range_with_len}
-use Rattle.std.proofs.lemmas.List.FromFn.{get_or-range_with_len, length-range_with_len}
-use Rattle.std.proofs.lemmas.Option.{none-some, slice_get-get_or}
-use Rattle.shr_base.specs.declared.scripts.Script.{Script}
-use Rattle.shr_seats.specs.Weights.{total}
-use Rattle.shr_seats.proofs.Weighing.{total-append}
-use Rattle.shr_pool.specs.declared.items.SweepItem.{SweepItem}
-use Rattle.shr_pool.specs.declared.items.SweepItem.TheVariants.{Walk, End}
-use Rattle.shr_pool.specs.declared.items.SweepJob.{SweepJob}
-use Rattle.shr_pool.specs.Lines.{of_job}
-use Rattle.shr_pool.specs.Worked.{only_job}
+use Rattle.shr_assemble.proofs.Common.{◌≡◌, ℕ, zero, suc, ◌+◌, ◌<◌, ◌≤◌, List, [], ◌∷◌, ◌++◌, length, get_or, refl, ap, ◌∙◌, arith, slice_get, Some, flat_map, AllByRecursion, range_with_len, get_or-range_with_len, length-range_with_len, none-some, slice_get-get_or, Script, total, total-append, SweepItem, End, SweepJob, of_job, only_job, ArePoppedOnce, all_popped}
+use Rattle.shr_pool.specs.declared.items.SweepItem.TheVariants.{Walk}
 use Rattle.shr_pool.proofs.Once.{agrees}
-use Rattle.shr_assemble.specs.Sweeps.{ArePoppedOnce, all_popped}
 use Rattle.shr_assemble.proofs.Rows.{IsThereItem}
 
 -- what one of these numbers has weighs no more than what all have

@@ -1,32 +1,8 @@
 -- The steps of a worker: those of its commands, and behind them that of the sweep of a script that has one.
-use Rattle.std.proofs.Common.{◌≡◌, ℕ, zero, suc, ◌+◌, ◌<◌, ◌≤◌, ◌⊎◌, inl, inr, ⊎_elim, List, [], ◌∷◌, ◌++◌, length, length-append, take, sym, refl, ap, subst, ◌∙◌, arith}
-use Rattle.std.specs.Prelude.{slice_get, Option, Some, None, flat_map}
-use Rattle.std.specs.List.{AllByRecursion}
-use Rattle.std.proofs.lemmas.List.{append-nil}
-use Rattle.std.proofs.lemmas.Option.{same_Some, none-some, slice_get_within, slice_get_past}
-use Rattle.shr_base.specs.declared.places.Serial.{Serial}
-use Rattle.shr_base.specs.declared.replies.Answered.{Answered}
-use Rattle.shr_base.specs.declared.scripts.Command.{Command}
-use Rattle.shr_base.specs.declared.scripts.Script.{Script}
-use Rattle.shr_base.specs.declared.scripts.Sweep.{Sweep}
-use Rattle.shr_base.specs.declared.scripts.WorkerScript.{WorkerScript}
-use Rattle.shr_base.specs.declared.walks.Isolation.{Isolation}
-use Rattle.shr_pool.specs.declared.items.SweepItem.{SweepItem}
-use Rattle.shr_report.specs.Parts.{sweeps_in, sweeps_of}
-use Rattle.shr_walk.specs.Sharing.{IsShared}
-use Rattle.shr_walk.specs.State.{WorkerState}
-use Rattle.shr_walk.specs.declared.seats.Shared.{Shared}
-use Rattle.shr_worker.specs.Chain.{CrewState, commands_of, serial_of}
-use Rattle.shr_core.specs.declared.view.View.{View}
-use Rattle.shr_assemble.specs.declared.logs.WorkerLog.{WorkerLog}
-use Rattle.shr_assemble.specs.Did.{Did}
-use Rattle.shr_assemble.specs.Ends.{HelpsWith, HasWorked, new_worker}
-use Rattle.shr_assemble.specs.Isolating.{isolated_in, isolated_before, DidIsolations}
-use Rattle.shr_assemble.specs.Steps.{Step, AreChained, state_after, Brings}
-use Rattle.shr_assemble.specs.Sweeps.{IsOfPops}
+use Rattle.shr_assemble.proofs.Common.{◌≡◌, ℕ, zero, suc, ◌+◌, ◌<◌, ◌≤◌, ◌⊎◌, inl, inr, ⊎_elim, List, [], ◌∷◌, ◌++◌, length, length-append, take, sym, refl, ap, subst, ◌∙◌, arith, slice_get, Option, Some, None, flat_map, AllByRecursion, append-nil, same_Some, none-some, slice_get_within, slice_get_past, Serial, Answered, Command, Script, Sweep, WorkerScript, Isolation, SweepItem, sweeps_in, sweeps_of, IsShared, WorkerState, Shared, CrewState, View, WorkerLog, Did, HelpsWith, HasWorked, new_worker, isolated_in, isolated_before, DidIsolations, Step, AreChained, state_after, Brings, IsOfPops, slice_cases, slice_left}
+use Rattle.shr_worker.specs.Chain.{commands_of, serial_of}
 use Rattle.shr_assemble.proofs.Fit.{IsFit, fit_new}
 use Rattle.shr_assemble.proofs.Rows.{IsRow, DidEach, SweptPart, IsThereItem, swept_step, row_of}
-use Rattle.shr_assemble.proofs.WalkingSteps.{slice_cases}
 
 -- a worker's steps: one for each of these commands, as many behind them as it answered sweeps, by these answers and serials
 pub record IsWorkerRow (s : Script) (by : ℕ → Serial) (cs : List Command) (sweeps : ℕ) (popped : List SweepItem) (said : List Answered) (first last : CrewState) (mine : List Step) : Type 0 where
@@ -72,11 +48,6 @@ state_more : (t : WorkerState) (mine : List Step) (x : Step) → state_after t (
 state_more t [] x = refl
 state_more t (y ∷ mine) x = state_more y.after mine x
 
-pub slice_front : {A : Type 0} (xs ys : List A) (k : ℕ) (x : A) → slice_get xs k ≡ Some x → slice_get (xs ++ ys) k ≡ Some x
-slice_front [] ys k x e = absurd (none-some x e)
-slice_front (y ∷ xs) ys zero x e = e
-slice_front (y ∷ xs) ys (suc k) x e = slice_front xs ys k x e
-
 slice_end : {A : Type 0} (xs : List A) (x : A) (k : ℕ) → k ≡ length xs → slice_get (xs ++ x ∷ []) k ≡ Some x
 slice_end [] x zero e = refl
 slice_end [] x (suc k) e = absurd (omega (arith, e))
@@ -115,7 +86,7 @@ module _ (s : Script) (by : ℕ → Serial) (cs : List Command) (popped : List S
     chained = chain_more first.seats mine step row.chained (sym row.ends) part.does;
     ends = state_more first.seats mine step;
     each = λ k x at. ⊎_elim
-        (λ here. let e = row.each k x here in (e.0, e.1, slice_front own (a ∷ []) k x.answered e.2, e.3))
+        (λ here. let e = row.each k x here in (e.0, e.1, slice_left own (a ∷ []) k x.answered e.2, e.3))
         (λ end. subst (λ (y : Step). (y.by ≡ by k) × (slice_get cs k ≡ y.command) × (slice_get (own ++ a ∷ []) k ≡ Some y.answered) × Did s y) end.1
         (ap by (sym end.0), slice_get_past cs k (let number = end.0 in omega (arith, number)), slice_end own a k (let same = row.answers in let many = row.commands in let number = end.0 in omega (arith, same, many, number)), part.did))
         (at_end k x at);

@@ -1,35 +1,12 @@
 -- In a run each take of a deferred word took what was given since the take before.
-use Rattle.std.proofs.Common.{◌≡◌, ◌≢◌, ◌⊎◌, ℕ, zero, suc, ◌+◌, ◌-◌, ◌<◌, inl, inr, ⊎_elim, Bool, cond, List, [], ◌∷◌, ◌++◌, length, map, sym, refl, ap, subst, ◌∙◌, arith, eqb, eq-eqb, ne_eqb}
-use Rattle.std.specs.Prelude.{slice_get, Option, Some, None, flat_map}
-use Rattle.std.specs.List.{range_with_len}
-use Rattle.std.proofs.lemmas.List.{append-nil, map-append}
-use Rattle.std.proofs.lemmas.Option.{same_Some, none-some}
-use mathlib.Core.Logic.{dite}
-use native.Mathlib.Decide.{ℕ_discrete}
-use Rattle.shr_base.specs.declared.ends.PlaceAmount.{PlaceAmount}
-use Rattle.shr_base.specs.declared.places.Place.{Place}
-use Rattle.shr_base.specs.declared.places.Serial.{Serial}
-use Rattle.shr_base.specs.declared.replies.Answered.{Answered}
-use Rattle.shr_base.specs.declared.replies.Reply.{Reply}
+use Rattle.shr_assemble.proofs.Common.{◌≡◌, ◌≢◌, ◌⊎◌, ℕ, zero, suc, ◌+◌, ◌-◌, ◌<◌, inl, inr, ⊎_elim, Bool, cond, List, [], ◌∷◌, ◌++◌, length, map, sym, refl, ap, subst, ◌∙◌, arith, eqb, eq-eqb, ne_eqb, slice_get, Option, Some, None, flat_map, range_with_len, append-nil, map-append, same_Some, none-some, dite, ℕ_discrete, PlaceAmount, Place, Serial, Answered, Reply, Command, Script, Carry, WalkRecord, Deed, by_seat, acts_of, part, AreSo, Move, Moves, takes_of, amounts_after, Report, HasCarried, serial_of, command_at, answer_at, answers_of, IsThere, WordStep, steps_walked, steps_handed, places_offlined, IsOfflinedBy, IsCausedBy, DidMoves, told_step, IsRun, Step, steps_of}
 use Rattle.shr_base.specs.declared.replies.Reply.TheVariants as reply
-use Rattle.shr_base.specs.declared.scripts.Command.{Command}
-use Rattle.shr_base.specs.declared.scripts.Script.{Script}
-use Rattle.shr_base.specs.declared.walks.Carry.{Carry}
-use Rattle.shr_base.specs.declared.walks.WalkRecord.{WalkRecord}
-use Rattle.shr_seats.specs.Lines.{Deed, by_seat, acts_of, part, state_after, AreSo}
+use Rattle.shr_seats.specs.Lines.{state_after}
 use Rattle.shr_seats.proofs.Lining.{acts_by}
-use Rattle.shr_deferred.specs.Moves.{Move, Moves, takes_of}
 use Rattle.shr_deferred.specs.Moves as moves
-use Rattle.shr_deferred.specs.Rule.{after_move, amounts_next, amounts_after}
+use Rattle.shr_deferred.specs.Rule.{after_move, amounts_next}
 use Rattle.shr_deferred.specs.Rule as rule
-use Rattle.shr_report.specs.declared.report.Report.{Report}
-use Rattle.shr_report.specs.Deferred.{HasCarried}
-use Rattle.shr_report.specs.Parts.{serial_of, command_at, answer_at, answers_of, IsThere}
-use Rattle.shr_report.specs.Takes.{WordStep, Taking, Amounts, steps_in, steps_by, steps_walked, steps_handed, places_offlined, TakesAt, TakesAll, carry_of, IsHanded, after_step, after_all, AreTaken, nothing_deferred, AreTakesInOrder}
-use Rattle.shr_assemble.specs.Causes.{IsOfflinedBy, IsCausedBy}
-use Rattle.shr_assemble.specs.Deferred.{DidMoves, told_step}
-use Rattle.shr_assemble.specs.Runs.{IsRun}
-use Rattle.shr_assemble.specs.Steps.{Step, steps_of}
+use Rattle.shr_report.specs.Takes.{Taking, Amounts, steps_in, steps_by, TakesAt, TakesAll, carry_of, IsHanded, after_step, after_all, AreTaken, nothing_deferred, AreTakesInOrder}
 use Rattle.shr_assemble.proofs.FreshLaw.{step_cases}
 use Rattle.shr_assemble.proofs.Making.{answer_is}
 use Rattle.shr_assemble.proofs.OfflinedCause.{carries_are}

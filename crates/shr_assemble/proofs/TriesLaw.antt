@@ -1,24 +1,7 @@
 -- A put's charges are those of its tries, of a run.
-use Rattle.std.proofs.Common.{◌≡◌, ℕ, List, map, sym, ap, subst, ◌∙◌}
-use Rattle.std.specs.Prelude.{filter}
-use Rattle.shr_base.specs.declared.journals.UseStep.{UseStep}
-use Rattle.shr_base.specs.declared.places.Serial.{Serial}
-use Rattle.shr_base.specs.declared.replies.Answered.{Answered}
-use Rattle.shr_base.specs.declared.scripts.Command.{Command}
-use Rattle.shr_base.specs.declared.scripts.Command.TheVariants.{Put}
-use Rattle.shr_base.specs.declared.scripts.Script.{Script}
-use Rattle.shr_base.specs.declared.walks.WalkRecord.{WalkRecord}
-use Rattle.shr_model.specs.Charges.{ops_by, is_refused}
-use Rattle.shr_model.specs.Commands.{jobs_of}
-use Rattle.shr_model.specs.Walks.{job_of}
-use Rattle.shr_report.specs.declared.report.Report.{Report}
-use Rattle.shr_report.specs.Parts.{parents_of, limit_of, uses_at}
+use Rattle.shr_assemble.proofs.Common.{◌≡◌, ℕ, List, map, sym, ap, subst, ◌∙◌, filter, UseStep, Serial, Answered, Command, Put, Script, WalkRecord, ops_by, is_refused, jobs_of, job_of, Report, parents_of, limit_of, uses_at, ops_at, Step, IsRun, DidJobs, AreWalksFor}
 use Rattle.shr_report.specs.Tries.{AreTriesOf, AreAllTries}
 use Rattle.shr_report.specs.WalksLawful.{MayMake}
-use Rattle.shr_assemble.specs.Charges.{ops_at}
-use Rattle.shr_assemble.specs.Steps.{Step}
-use Rattle.shr_assemble.specs.Runs.{IsRun}
-use Rattle.shr_assemble.specs.Walks.{DidJobs, AreWalksFor}
 use Rattle.shr_assemble.proofs.Making.{Stepped, stepped}
 use Rattle.shr_assemble.proofs.Operations.{ops_are}
 use Rattle.shr_assemble.proofs.WalksLaw.{walks_are}

@@ -1,31 +1,18 @@
 -- What a command did at the pools of units, in the words of the law on pools.
-use Rattle.std.proofs.Common.{◌≡◌, ℕ, ◌<◌, ◌≤◌, Bool, true, false, not, ◌&&◌, cond, List, [], ◌∷◌, length, sym, refl, ap, subst, ◌∙◌, arith, ne_eqb}
-use Rattle.std.specs.Prelude.{Option, Some, None, ⊤, ◌==◌}
-use Rattle.shr_base.specs.declared.places.Place.{Place}
-use Rattle.shr_base.specs.declared.places.Serial.{Serial}
-use Rattle.shr_base.specs.declared.replies.Answered.{Answered}
-use Rattle.shr_base.specs.declared.replies.Reply.{Reply}
+use Rattle.shr_assemble.proofs.Common.{◌≡◌, ℕ, ◌<◌, ◌≤◌, Bool, true, false, not, ◌&&◌, cond, List, [], ◌∷◌, length, sym, refl, ap, subst, ◌∙◌, arith, ne_eqb, Option, Some, None, ◌==◌, Place, Serial, Answered, Reply, Command, Put, Get, Del, SetPin, Shrink, Balance, Offline, MkGroup, Register, Unregister, Isolate, Release, Grab, PoolDecl, Script, Family, IsCommandWithin, content_of, GrabAnswer, ReleaseAnswer, PlainState, units_place, PlainGives, IsReply, IsOther, DidUnitsOf}
+use Rattle.std.specs.Prelude.{⊤}
 use Rattle.shr_base.specs.declared.replies.Reply.TheVariants as reply
-use Rattle.shr_base.specs.declared.scripts.Command.{Command}
-use Rattle.shr_base.specs.declared.scripts.Command.TheVariants.{Put, Get, Del, SetPin, Shrink, Balance, Offline, MkGroup, Register, Unregister, Isolate, Release, Grab}
-use Rattle.shr_base.specs.declared.scripts.PoolDecl.{PoolDecl}
-use Rattle.shr_base.specs.declared.scripts.Script.{Script}
-use Rattle.shr_model.specs.Families.{Family}
-use Rattle.shr_script.specs.Bounds.{IsCommandWithin, IsPoolCommandWithin}
-use Rattle.shr_script.specs.Content.{content_of}
+use Rattle.shr_script.specs.Bounds.{IsPoolCommandWithin}
 use Rattle.shr_script.specs.Lines.{serves_pools}
-use Rattle.shr_plain.specs.declared.answers.GrabAnswer.{GrabAnswer}
 use Rattle.shr_plain.specs.declared.answers.GrabAnswer.TheVariants as grab
-use Rattle.shr_plain.specs.declared.answers.ReleaseAnswer.{ReleaseAnswer}
 use Rattle.shr_plain.specs.declared.answers.ReleaseAnswer.TheVariants as release
-use Rattle.shr_plain.specs.Seat.{PlainState}
 use Rattle.shr_worker.proofs.Pooled.{served}
-use Rattle.shr_worker.specs.Plain.{units_place, has_pools, is_walked, is_due, WalksIf, PlainGives}
+use Rattle.shr_worker.specs.Plain.{has_pools, is_walked, is_due, WalksIf}
 use Rattle.shr_worker.specs.Replies as worker
-use Rattle.shr_report.specs.ReplyTable.{IsReply}
 use Rattle.shr_report.specs.UnitParts.{PlainJob, one_plain, plain_jobs, plain_due}
-use Rattle.shr_units.specs.Did.{release_reply, grab_reply, DidWalks, IsOther, DidUnitsOf}
+use Rattle.shr_units.specs.Did.{release_reply, grab_reply, DidWalks}
 use Rattle.shr_units.proofs.Pooling.{settings_length}
+use Rattle.shr_units.proofs.StepKinds.{none_due}
 
 -- ---- which replies are of pools
 abbrev pub IsElsewhere : Command → Type 0
@@ -117,19 +104,13 @@ balance_due s node priority nofs x = due_if s s.pools.items (Balance node priori
 shrink_due : (s : Script) (group node priority : ℕ) (nofs : Bool) (x : Reply) → plain_due s (Shrink group node priority nofs) x ≡ cond ((group == 0) && is_due s x) (one_plain node priority) []
 shrink_due s group node priority nofs x = due_if s s.pools.items (Shrink group node priority nofs) x ∙ (ap (λ l. cond (has_pools s) l []) (shrink_jobs group node priority nofs x) ∙ cond_swap (has_pools s) (group == 0) (is_walked x) (one_plain node priority))
 
-quiet_due : (s : Script) (c : Command) (x : Reply) → plain_jobs c x ≡ [] → plain_due s c x ≡ []
-quiet_due s c x e = due_if s s.pools.items c x ∙ (ap (λ l. cond (has_pools s) l []) e ∙ none (has_pools s)) where
-  none : (b : Bool) → ◌≡◌ {A = List PlainJob} (cond b [] []) []
-  none true = refl
-  none false = refl
-
 module _ (s : Script) (by : Serial) (t u : PlainState) where
   walks_if : (b : Bool) (node priority : ℕ) → node < s.nodes → WalksIf b s by node priority t u → DidWalks s by (cond b (one_plain node priority) []) t u
   walks_if true node priority low h = (refl, record { node = low; answer = h.answer; gives = h.walked })
   walks_if false node priority low h = h
 
   still : (c : Command) (x : Reply) → plain_jobs c x ≡ [] → u ≡ t → DidWalks s by (plain_due s c x) t u
-  still c x none e = subst (λ l. DidWalks s by l t u) (sym (quiet_due s c x none)) e
+  still c x none e = subst (λ l. DidWalks s by l t u) (sym (none_due s c x none)) e
 
   -- a command's clause at the pools, in the words of the law
   pub did_units : (c : Command) (a : Answered) → IsCommandWithin (content_of s) c → (IsElsewhere c → IsOther a.reply) → PlainGives s by c a t u → DidUnitsOf s by c a.reply t u

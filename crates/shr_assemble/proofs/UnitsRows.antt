@@ -1,23 +1,8 @@
 -- What each worker did at the pools of units, command by command, from the states between its commands.
-use Rattle.std.proofs.Common.{◌≡◌, ℕ, zero, suc, List, [], ◌∷◌, length, sym, refl, ap, subst, ◌∙◌, arith, ◌++◌}
-use Rattle.std.specs.Prelude.{slice_get, Some, Option, None}
-use Rattle.std.proofs.lemmas.Option.{same_Some, none-some}
-use Rattle.shr_base.specs.declared.places.Serial.{Serial}
-use Rattle.shr_base.specs.declared.replies.Answered.{Answered}
-use Rattle.shr_base.specs.declared.scripts.Command.{Command}
-use Rattle.shr_base.specs.declared.scripts.Script.{Script}
-use Rattle.shr_core.specs.declared.view.View.{View}
-use Rattle.shr_plain.specs.Seat.{PlainState}
-use Rattle.shr_walk.specs.declared.seats.Shared.{Shared}
-use Rattle.shr_worker.specs.Chain.{CrewState, IsWorkOf, commands_of, serial_of}
-use Rattle.shr_worker.specs.Plain.{PlainGives}
-use Rattle.shr_units.specs.Steps.{UnitsStep, AreChained, state_after}
-use Rattle.shr_assemble.specs.declared.logs.WorkerLog.{WorkerLog}
-use Rattle.shr_assemble.specs.Ends.{new_worker, HelpsWith, HasWorked}
+use Rattle.shr_assemble.proofs.Common.{◌≡◌, ℕ, zero, suc, List, [], ◌∷◌, length, sym, refl, ap, subst, ◌∙◌, arith, ◌++◌, slice_get, Some, Option, None, same_Some, none-some, Serial, Answered, Command, Script, View, PlainState, Shared, CrewState, IsWorkOf, PlainGives, UnitsStep, WorkerLog, new_worker, HelpsWith, HasWorked, Sweep, SweepItem, slice_left}
+use Rattle.shr_worker.specs.Chain.{commands_of, serial_of}
+use Rattle.shr_units.specs.Steps.{AreChained, state_after}
 use Rattle.shr_assemble.proofs.Crews.{choose}
-use Rattle.shr_assemble.proofs.SweptRows.{slice_front}
-use Rattle.shr_base.specs.declared.scripts.Sweep.{Sweep}
-use Rattle.shr_pool.specs.declared.items.SweepItem.{SweepItem}
 
 -- a command with its answer, and what it did at the pools
 pub record IsDeed (s : Script) (by : ℕ → Serial) (cs : List Command) (said : List Answered) (k : ℕ) (x : UnitsStep) : Type 0 where
@@ -98,7 +83,7 @@ whole_row x opened number log popped last w =
           by_is = d.by_is;
           command = d.command;
           answered = d.answered;
-          answer = ap (λ (l : List Answered). slice_get l k) w.answers ∙ slice_front w.own w.told k d.answered d.answer;
+          answer = ap (λ (l : List Answered). slice_get l k) w.answers ∙ slice_left w.own w.told k d.answered d.answer;
           reply = d.reply;
           gives = d.gives;
         };

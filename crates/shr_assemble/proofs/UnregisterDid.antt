@@ -1,77 +1,30 @@
 -- What an unregister did.
-use Rattle.std.proofs.Common.{◌≡◌, ◌⊎◌, inl, inr, ⊎_elim, ℕ, zero, suc, ◌+◌, ◌<◌, ◌≤◌, List, [], ◌∷◌, ◌++◌, length, length-append, append_assoc, take, refl, sym, ap, subst, ◌∙◌, arith}
-use Rattle.std.specs.Prelude.{Some, None, sum_by}
-use Rattle.std.specs.List.{AllByRecursion}
-use Rattle.std.proofs.lemmas.Option.{none-some}
-use mathlib.Core.Option.{some, some-injective}
-use lib.ListN.{get_elem?}
-use Rattle.shr_base.specs.declared.journals.Entry.{Entry}
-use Rattle.shr_base.specs.declared.journals.PoolEntry.{PoolEntry}
-use Rattle.shr_base.specs.declared.journals.PoolEntry.TheVariants.{Unregistered, Idle}
-use Rattle.shr_base.specs.declared.journals.UseStep.{UseStep}
-use Rattle.shr_base.specs.declared.objects.Object.{Object}
-use Rattle.shr_report.specs.Freshness.{is_past_group}
-use Rattle.shr_assemble.specs.Charges.{added_below, freed_below}
-use Rattle.shr_base.specs.declared.places.Place.{Place}
-use Rattle.shr_base.specs.declared.places.Serial.{Serial}
-use Rattle.shr_base.specs.declared.replies.Answered.{Answered}
-use Rattle.shr_base.specs.declared.replies.HalfWhy.{HalfWhy}
+use Rattle.shr_assemble.proofs.Common.{◌≡◌, ◌⊎◌, inl, inr, ⊎_elim, ℕ, zero, suc, ◌+◌, ◌<◌, ◌≤◌, List, [], ◌∷◌, ◌++◌, length, length-append, append_assoc, take, refl, sym, ap, subst, ◌∙◌, arith, Some, None, sum_by, AllByRecursion, none-some, some, some-injective, get_elem?, Entry, PoolEntry, Unregistered, Idle, UseStep, Object, is_past_group, added_below, freed_below, Place, Serial, Answered, HalfWhy, Reply, Spent, Command, Family, born_below, place_number, is_live_decl, phase_of, from_of, Each, Begins, nothing, Adds, id_of, Made, Loaded, Turn, groups_in, Shape, shape_of, AreDowns, spent_by, Draw, place_of, made_from, drawn_from, within_of_valid, content_of, IsWithin, Each-none, Each-weaker, Shared, paths_of, WorkerState, Work, no_work, does_none, unfound, parents_of, cited_by, Step, IsAmong, IsReplyTo, MayMake, Drains, DidEntries, IsCausedBy, IsWhyBy, DidPool, IsTurnOf, IsListWorn, each_one}
 use Rattle.shr_base.specs.declared.replies.HalfWhy.TheVariants as why
-use Rattle.shr_base.specs.declared.replies.Reply.{Reply}
 use Rattle.shr_base.specs.declared.replies.Reply.TheVariants as reply
-use Rattle.shr_base.specs.declared.replies.Spent.{Spent}
 use Rattle.shr_base.specs.declared.replies.Spent.TheVariants as spent
-use Rattle.shr_base.specs.declared.scripts.Command.{Command}
 use Rattle.shr_base.specs.declared.scripts.Command.TheVariants as command
-use Rattle.shr_model.specs.Families.{Family}
-use Rattle.shr_model.specs.Freeings.{born_below}
-use Rattle.shr_model.specs.Places.{place_number}
-use Rattle.shr_model.specs.Pool.{is_live_decl, phase_of, from_of}
-use Rattle.shr_seats.specs.Views.{Each}
-use Rattle.shr_seats.specs.Weights.{Begins}
-use Rattle.shr_core.specs.Gained.{nothing, Adds}
-use Rattle.shr_core.specs.Layout.{id_of}
-use Rattle.shr_core.specs.Parts.{Made, Loaded, Turn}
-use Rattle.shr_seats.specs.Shapes.{groups_in}
-use Rattle.shr_seats.specs.declared.shape.Shape.{Shape}
-use Rattle.shr_core.specs.Seats.{shape_of}
-use Rattle.shr_charge.specs.Charging.{AreDowns}
-use Rattle.shr_charge.specs.Seat.{spent_by, counted}
-use Rattle.shr_node.specs.Draining.{Draw}
-use Rattle.shr_node.specs.Splicing.{place_of}
+use Rattle.shr_charge.specs.Seat.{counted}
 use Rattle.shr_registry.specs.declared.answers.UnregisterAnswer.{UnregisterAnswer}
 use Rattle.shr_registry.specs.declared.answers.UnregisterAnswer.TheVariants as unregister
-use Rattle.shr_registry.specs.Ending.{AreNodeDraws, ended_turn, made_from, drawn_from, Frees, Halves, StoppedBy, UnregisterGives}
-use Rattle.shr_script.proofs.BoundsLaws.{within_of_valid}
+use Rattle.shr_registry.specs.Ending.{AreNodeDraws, ended_turn, Frees, Halves, StoppedBy, UnregisterGives}
 use Rattle.shr_assemble.proofs.ScriptSizes.{sized_of}
-use Rattle.shr_script.specs.Content.{content_of}
-use Rattle.shr_script.specs.Bounds.{IsWithin}
-use Rattle.shr_seats.proofs.Weighing.{Each-none, Each-weaker}
 use Rattle.shr_opening.specs.Opening.{IsSpent}
 use Rattle.shr_assemble.proofs.Spending.{spent_is}
-use Rattle.shr_walk.specs.declared.seats.Shared.{Shared}
 use Rattle.shr_walk.specs.Keeping as keeping
-use Rattle.shr_walk.specs.Keeping.{paths_of}
-use Rattle.shr_walk.specs.State.{WorkerState, Work, no_work}
-use Rattle.shr_walk.proofs.Doing.{does_none}
 use Rattle.shr_worker.specs.Commands as worker
-use Rattle.shr_worker.specs.Replies.{unfound, unregister_reply, objects_of}
+use Rattle.shr_worker.specs.Replies.{unregister_reply, objects_of}
 use Rattle.shr_worker.specs.Uncharging.{UnchargesEach}
 use Rattle.shr_worker.proofs.Drained.{drained_from}
-use Rattle.shr_report.specs.Parts.{parents_of, cited_by}
-use Rattle.shr_assemble.specs.Steps.{Step, IsAmong}
-use Rattle.shr_assemble.specs.Entries.{IsReplyTo, MayMake, Drains, DidEntries}
-use Rattle.shr_assemble.specs.Causes.{IsCausedBy, IsWhyBy}
-use Rattle.shr_assemble.specs.Pool.{DidPool, IsTurnOf}
-use Rattle.shr_assemble.specs.Worn.{IsListWorn}
 use Rattle.shr_assemble.proofs.Listed.{contains_among}
-use Rattle.shr_assemble.proofs.Quiet.{step_of, begins_longer, HasDid, calm_walks, still_moves, still_pool, still_tree, meets_none, never_met, unmade_apart}
+use Rattle.shr_assemble.proofs.Quiet.{step_of, HasDid, calm_walks, still_moves, still_pool, still_tree, meets_none, never_met, unmade_apart}
 use Rattle.shr_assemble.proofs.QuietSteps.{AreTables, tree_is, take_whole}
 use Rattle.shr_assemble.proofs.Filling.{IsSet}
-use Rattle.shr_assemble.proofs.QuietTenant.{without, no_entries, unfound_lookups, each_one}
+use Rattle.shr_assemble.proofs.QuietTenant.{without, no_entries, unfound_lookups}
 use Rattle.shr_assemble.proofs.QuietCharges.{uncharged_charges}
 use Rattle.shr_assemble.proofs.QuietNothing.{nothing_did, charges_worn}
 use Rattle.shr_assemble.proofs.QuietDrains.{IsDrainOf, each_rec, rec_each, in_all, drains_freed, drains_added, drains_counted}
+use Rattle.shr_assemble.proofs.FreshLaw.{begins_length}
 
 take_start : {A : Type 0} (n : ℕ) (xs ys : List A) → n ≡ length xs → take n (xs ++ ys) ≡ xs
 take_start zero [] ys e = refl
@@ -183,7 +136,7 @@ module _ (x : Shared) (tables : AreTables x) (by : Serial) (decl : ℕ) (s t : W
   freed_did : (id entry from to : ℕ) (objects : List Object) → Frees shape s.core decl by id entry from to objects t.core → UnchargesEach (keeping.parents_of x) by objects s t → HasDid x.script by asked (without (reply.Freed id entry from to (length objects))) s t
   freed_did id entry from to objects h u =
       let r : Reply = reply.Freed id entry from to (length objects) in
-      let late : length s.core.turns.known ≤ length h.before = begins_longer s.core.turns.known h.before h.seen in
+      let late : length s.core.turns.known ≤ length h.before = begins_length s.core.turns.known h.before h.seen in
       let idle : Turn = record { number = length h.then; entry = Idle id } in
       let turn : Turn = ended_turn h.before decl id to in
       let made : List Made = made_from id 0 by h.draws in
@@ -243,7 +196,7 @@ module _ (x : Shared) (tables : AreTables x) (by : Serial) (decl : ℕ) (s t : W
       (born_in id h.draws objects h.each short h.drained) (λ g. drains_freed id by ps g h.draws ∙ ap (born_below ps g) (sym h.drained)) (λ g. drains_added id by ps g h.draws)
       (record {
         turns = each_one (λ (y : Turn). IsTurnOf t.core.turns.known y.entry y.number r) turn (sym number);
-        later = each_one (λ (y : Turn). length s.core.turns.known ≤ y.number) turn (begins_longer s.core.turns.known h.before h.seen);
+        later = each_one (λ (y : Turn). length s.core.turns.known ≤ y.number) turn (begins_length s.core.turns.known h.before h.seen);
         seen = tt;
         rise = λ k d lt. absurd (omega (arith, lt));
         made = (known_past entry id to h.before [] number h.known, tt);

@@ -1,37 +1,8 @@
 -- The final usage of a group is the number of the listed objects born at or below it.
-use Rattle.std.proofs.Common.{◌≡◌, ℕ, suc, ◌+◌, ◌<◌, ◌≤◌, ⊎_elim, true, false, not, cond, List, [], ◌∷◌, ◌++◌, length, sym, refl, ap, subst, ◌∙◌, arith, eqb}
-use Rattle.std.specs.Prelude.{slice_get, Some, None, Option, sum_by, option_and_then, pos, IfSome}
-use Rattle.std.specs.List.{AllByRecursion, enumerate_from}
-use Rattle.std.proofs.lemmas.Int.{ints}
-use Rattle.std.proofs.lemmas.List.{take_all, length-map}
-use Rattle.std.proofs.lemmas.List.Sorted.{sum_by-IsPermutation}
-use Rattle.std.proofs.lemmas.Option.{none-some, slice_get_past}
-use Rattle.std.proofs.lemmas.Bool.{cases_lt}
-use Rattle.shr_base.specs.declared.journals.UseStep.{UseStep}
-use Rattle.shr_base.specs.declared.journals.Entry.{Entry}
-use Rattle.shr_base.specs.declared.journals.Entry.TheVariants.{Add, Look, Drop, Pin, Scan, MovedIn, Closed, Drained}
-use Rattle.shr_base.specs.declared.objects.Object.{Object}
-use Rattle.shr_base.specs.declared.places.Place.{Place}
-use Rattle.shr_base.specs.declared.places.Serial.{Serial}
-use Rattle.shr_base.specs.declared.scripts.GroupDecl.{GroupDecl}
-use Rattle.shr_base.specs.declared.scripts.Script.{Script}
-use Rattle.shr_model.specs.Bag.{serials_of, added_by, added_by_all, added_in, freed_at, listed_in}
+use Rattle.shr_assemble.proofs.Common.{◌≡◌, ℕ, suc, ◌+◌, ◌<◌, ◌≤◌, ⊎_elim, true, false, not, cond, List, [], ◌∷◌, ◌++◌, length, sym, refl, ap, subst, ◌∙◌, arith, eqb, slice_get, Some, None, Option, sum_by, option_and_then, pos, IfSome, AllByRecursion, enumerate_from, ints, take_all, length-map, sum_by-IsPermutation, none-some, slice_get_past, cases_lt, UseStep, Entry, Add, Look, Drop, Pin, Scan, MovedIn, Closed, Drained, Object, Place, Serial, GroupDecl, Script, serials_of, added_by, added_by_all, added_in, freed_at, listed_in, ups, downs, usage_after, AreTakenBack, lists_moved_at, items_at, items_of, is_at_or_above, born_below, freed_by, items_from, total, total-append, Made, Report, parents_of, limits_of, limit_of, journals_of, places_of, uses_at, items_left, Step, gathered, ops_at, added_below, freed_below, all_made, all_ops, IsRun, count_total, sum_total}
 use Rattle.shr_model.specs.Bag as bags
-use Rattle.shr_model.specs.Charges.{ups, downs, usage_after, AreTakenBack}
-use Rattle.shr_model.specs.Families.{lists_moved_at, items_at, items_of}
-use Rattle.shr_model.specs.Freeings.{is_at_or_above, born_below}
-use Rattle.shr_model.specs.Items.{freed_by, items_from}
-use Rattle.shr_seats.specs.Weights.{total}
-use Rattle.shr_seats.proofs.Weighing.{total-append}
-use Rattle.shr_core.specs.Parts.{Made}
-use Rattle.shr_report.specs.declared.report.Report.{Report}
-use Rattle.shr_report.specs.Parts.{parents_of, limits_of, limit_of, journals_of, places_of, uses_at, items_left}
 use Rattle.shr_report.specs.Charges.{listed_below, AreChargesLawful}
-use Rattle.shr_assemble.specs.Steps.{Step, gathered}
-use Rattle.shr_assemble.specs.Charges.{ops_at, added_below, freed_below}
-use Rattle.shr_assemble.specs.Runs.{all_made, all_ops, IsRun}
 use Rattle.shr_assemble.proofs.Gathering.{each_step, total_gathered, total_flat, total_same_on}
-use Rattle.shr_assemble.proofs.Listed.{sum_total, count_total}
 use Rattle.shr_assemble.proofs.Recounting.{journals_are}
 use Rattle.shr_assemble.proofs.BagLaw.{bag}
 use Rattle.shr_assemble.proofs.FamilyObjects.{items_at_kept, frees_kept, freed_sum}

@@ -1,37 +1,10 @@
 -- Along a worker's walks the versions at a place never fall.
-use Rattle.std.proofs.Common.{◌≡◌, ℕ, zero, suc, ◌+◌, ◌≤◌, ⊎_elim, Bool, true, false, cond, List, [], ◌∷◌, ◌++◌, length, get_or, map, sym, refl, ap, subst, ◌∙◌, arith, eqb, eq-eqb, ne_eqb}
-use Rattle.std.specs.Prelude.{slice_get, Some, flat_map, filter}
-use Rattle.std.specs.List.{AllByRecursion}
-use mathlib.Core.Option.{some, some-ne-none}
-use lib.ListN.{get_elem?}
-use Rattle.std.proofs.lemmas.Bool.{eqb-true}
-use Rattle.std.proofs.lemmas.Grind.{flat_map-append}
-use Rattle.std.proofs.lemmas.List.{map-append}
-use Rattle.shr_base.specs.declared.places.Place.{Place}
-use Rattle.shr_base.specs.declared.scripts.Script.{Script}
-use Rattle.shr_base.specs.declared.walks.Attempt.{Attempt}
-use Rattle.shr_base.specs.declared.walks.WalkRecord.{WalkRecord}
-use Rattle.shr_model.specs.Attempts.{Count, counts_of}
-use Rattle.shr_model.specs.Places.{place_number, is_place}
-use Rattle.shr_model.specs.Walks.{place_in, versions_at}
-use Rattle.shr_model.proofs.PlacesLaws.{is_place_same, is_place_itself}
-use Rattle.shr_seats.specs.Views.{Each}
-use Rattle.shr_seats.proofs.Weighing.{Each-append, at_begins}
-use Rattle.shr_core.specs.Layout.{place_at}
-use Rattle.shr_core.specs.Parts.{Counted}
-use Rattle.shr_walk.specs.Fresh.{Rising, AreFresh}
-use Rattle.shr_walk.specs.State.{WorkerState}
-use Rattle.shr_report.specs.declared.report.Report.{Report}
-use Rattle.shr_report.specs.Parts.{walks_of, IsThere}
-use Rattle.shr_report.specs.WellFormed.{AreNotFalling}
-use Rattle.shr_assemble.specs.Steps.{Step, steps_of, AreChained}
-use Rattle.shr_assemble.specs.Walks.{counted_in}
-use Rattle.shr_assemble.specs.Runs.{IsRun}
-use Rattle.shr_assemble.proofs.Listed.{no_test, by_slices}
+use Rattle.shr_assemble.proofs.Common.{◌≡◌, ℕ, zero, suc, ◌+◌, ◌≤◌, ⊎_elim, Bool, true, false, cond, List, [], ◌∷◌, ◌++◌, length, get_or, map, sym, refl, ap, subst, ◌∙◌, arith, eqb, eq-eqb, ne_eqb, slice_get, Some, flat_map, filter, AllByRecursion, some, some-ne-none, get_elem?, eqb-true, flat_map-append, map-append, Place, Script, Attempt, WalkRecord, Count, counts_of, place_number, is_place, place_in, versions_at, is_place_same, is_place_itself, Each, Each-append, at_begins, place_at, Counted, Rising, AreFresh, WorkerState, Report, walks_of, IsThere, AreNotFalling, Step, steps_of, AreChained, counted_in, IsRun, by_slices, flat_zero}
+use Rattle.shr_assemble.proofs.Listed.{no_test}
 use Rattle.shr_assemble.proofs.Making.{back_there}
 use Rattle.shr_assemble.proofs.Flattening.{walk_of}
 use Rattle.shr_assemble.proofs.LawfulWalks.{attempt_there}
-use Rattle.shr_assemble.proofs.DeferredLaw.{there_or_not, flat_none, filter_none}
+use Rattle.shr_assemble.proofs.DeferredLaw.{there_or_not, filter_none}
 
 -- ---- what rises
 abbrev IsAfter : Counted → Counted → Type 0
@@ -176,5 +149,5 @@ module _ (s : Script) (r : Report) (workers : List (List Step)) (run : IsRun s r
           (rises_along (run.steps.first worker) (steps_of workers worker) (run.steps.chained worker) (all_mine (λ (x : Step). AreFresh x.before.core x.work.core.seen) (λ k x e. (run.steps.each worker k x e).did.walks.fresh))).0))
 
       outside : (IsThere s place → ⊥) → AreNotFalling (flat_map (versions_at place) (walks_of r worker))
-      outside out = subst AreNotFalling (sym (flat_none (versions_at place) (walks_of r worker) (λ i w e. ap (flat_map (λ (a : Attempt). map (λ (c : Count). c.version) (counts_of a.outcome)))
+      outside out = subst AreNotFalling (sym (flat_zero (versions_at place) (walks_of r worker) (λ i w e. ap (flat_map (λ (a : Attempt). map (λ (c : Count). c.version) (counts_of a.outcome)))
           (filter_none (λ (a : Attempt). is_place place (place_in w a.id)) w.attempts.items (λ j a d. no_test (is_place place (place_in w a.id)) (λ same. out (subst (IsThere s) (sym (is_place_same place (place_in w a.id) same)) (attempts_there i w e j a d)))))))) (λ k d lt. absurd (omega arith))

@@ -1,37 +1,14 @@
 -- What the visits of an isolation came to in all: entries of the list, each object that they freed uncharged, and nothing else.
-use Rattle.std.proofs.Common.{◌≡◌, inl, inr, ⊎_elim, ℕ, ◌+◌, ◌<◌, Bool, true, false, List, [], ◌∷◌, ◌++◌, length, length-append, append_assoc, sym, refl, ap, subst, ◌∙◌}
-use Rattle.std.specs.List.{AllByRecursion}
-use Rattle.std.proofs.lemmas.Grind.{flat_map-append}
-use Rattle.std.proofs.lemmas.List.{append-nil}
-use Rattle.std.proofs.lemmas.List.Elements.{All-nil}
-use Rattle.shr_base.specs.declared.journals.UseStep.{UseStep}
-use Rattle.shr_base.specs.declared.objects.Object.{Object}
-use Rattle.shr_base.specs.declared.replies.IsolateEnd.{IsolateEnd}
+use Rattle.shr_assemble.proofs.Common.{◌≡◌, inl, inr, ⊎_elim, ℕ, ◌+◌, ◌<◌, Bool, true, false, List, [], ◌∷◌, ◌++◌, length, length-append, append_assoc, sym, refl, ap, subst, ◌∙◌, AllByRecursion, flat_map-append, append-nil, All-nil, UseStep, Object, IsolateEnd, Spent, freed_by, place_number, Has, groups_in, Each, Each-append, Each-none, View, Made, shape_of, AreDowns, AreRising, IsDown, calls_with, both_uses, Gains, made_of, IsScanOf, freed_in, paths_of, WorkerState, Shared, Visitor, IsAmong}
 use Rattle.shr_base.specs.declared.replies.IsolateEnd.TheVariants as ending
-use Rattle.shr_base.specs.declared.replies.Spent.{Spent}
 use Rattle.shr_base.specs.declared.replies.Spent.TheVariants as spent
-use Rattle.shr_model.specs.Items.{freed_by}
-use Rattle.shr_model.specs.Places.{place_number}
-use Rattle.shr_model.proofs.Members.{Has}
-use Rattle.shr_seats.specs.Shapes.{groups_in}
-use Rattle.shr_seats.specs.Views.{Each}
-use Rattle.shr_seats.proofs.Weighing.{Each-append, Each-none, Each-one}
-use Rattle.shr_core.specs.declared.view.View.{View}
-use Rattle.shr_core.specs.Parts.{Made}
+use Rattle.shr_seats.proofs.Weighing.{Each-one}
 use Rattle.shr_core.specs.Rule.{AreBorn}
-use Rattle.shr_core.specs.Seats.{shape_of}
-use Rattle.shr_charge.specs.Charging.{AreDowns, AreRising, IsDown, calls_with}
-use Rattle.shr_charge.specs.Views.{both_uses}
 use Rattle.shr_list.specs.Answers.{scan_entry}
-use Rattle.shr_node.specs.Gains.{Gains}
-use Rattle.shr_node.specs.Opening.{made_of}
 use Rattle.shr_node.proofs.Gaining.{gains_none, gains_then}
-use Rattle.shr_walk.specs.Keeping.{IsScanOf, freed_in, parents_of, paths_of}
-use Rattle.shr_walk.specs.State.{WorkerState}
-use Rattle.shr_walk.specs.declared.seats.Shared.{Shared}
+use Rattle.shr_walk.specs.Keeping.{parents_of}
 use Rattle.shr_walk.proofs.Doing.{called_none}
-use Rattle.shr_drop.specs.Visiting.{Visitor, ScansOnce, AreVisits, AreIsolated, MeetsWorn, EndsAs}
-use Rattle.shr_assemble.specs.Steps.{IsAmong}
+use Rattle.shr_drop.specs.Visiting.{ScansOnce, AreVisits, AreIsolated, MeetsWorn, EndsAs}
 use Rattle.shr_assemble.proofs.Bringing.{called_then}
 use Rattle.shr_assemble.proofs.Gathering.{among_left, among_right}
 use Rattle.shr_assemble.proofs.Operations.{PairsRec, has_among}

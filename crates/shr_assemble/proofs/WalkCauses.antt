@@ -1,26 +1,10 @@
 -- The causes of what walks met.
-use Rattle.std.proofs.Common.{◌≡◌, ℕ, List, refl, arith}
-use Rattle.std.specs.Prelude.{slice_get, Some}
-use Rattle.shr_base.specs.declared.journals.TreeEntry.TheVariants.{Begin}
-use Rattle.shr_base.specs.declared.replies.Spent.{Spent}
+use Rattle.shr_assemble.proofs.Common.{◌≡◌, ℕ, List, refl, arith, slice_get, Some, Begin, Spent, Script, Attempt, Ending, PassRecord, WalkRecord, pass_of, place_number, place_in, Report, journals_of, walk_at, IsSpent, StandsInTree, Step, steps_of, IsWornBy, IsRun}
 use Rattle.shr_base.specs.declared.replies.Spent.TheVariants as spent
-use Rattle.shr_base.specs.declared.scripts.Script.{Script}
-use Rattle.shr_base.specs.declared.walks.Attempt.{Attempt}
-use Rattle.shr_base.specs.declared.walks.Ending.{Ending}
 use Rattle.shr_base.specs.declared.walks.Ending.TheVariants as ending
 use Rattle.shr_base.specs.declared.walks.Outcome.TheVariants as outcome
-use Rattle.shr_base.specs.declared.walks.PassRecord.{PassRecord}
-use Rattle.shr_base.specs.declared.walks.WalkRecord.{WalkRecord}
 use Rattle.shr_base.specs.declared.walks.WalkAnswer.TheVariants as walk
-use Rattle.shr_model.specs.Attempts.{pass_of}
-use Rattle.shr_model.specs.Places.{place_number}
-use Rattle.shr_model.specs.Walks.{place_in}
-use Rattle.shr_report.specs.declared.report.Report.{Report}
-use Rattle.shr_report.specs.Parts.{journals_of, walk_at}
-use Rattle.shr_report.specs.Causes.{IsSpent, IsEndingRight, IsPassCaused, StandsInTree}
-use Rattle.shr_assemble.specs.Steps.{Step, steps_of}
-use Rattle.shr_assemble.specs.Worn.{IsWornBy}
-use Rattle.shr_assemble.specs.Runs.{IsRun}
+use Rattle.shr_report.specs.Causes.{IsEndingRight, IsPassCaused}
 use Rattle.shr_assemble.proofs.Listed.{closed_begins, contains_among}
 use Rattle.shr_assemble.proofs.Flattening.{walk_of}
 use Rattle.shr_assemble.proofs.LawfulWalks.{held_number, pass_held, attempt_there, was_held}

@@ -1,32 +1,14 @@
 -- Walks over jobs, one after another, each from where the one before it ended.
-use Rattle.std.proofs.Common.{◌≡◌, ℕ, suc, ◌+◌, ◌<◌, ◌⊎◌, inl, inr, ⊎_elim, Bool, true, false, ◌||◌, List, [], ◌∷◌, ◌++◌, length, length-append, map, sym, refl, ap, subst, ◌∙◌, arith, sum, zero, get_or, append_assoc, ◌≤◌}
-use Rattle.std.specs.Prelude.{sum_by, Option, AllPairs}
-use Rattle.std.specs.List.{AllByRecursion, list_any}
-use Rattle.std.proofs.lemmas.List.{append-nil, get_or_append_left}
-use Rattle.std.proofs.lemmas.List.Sums.{sum_by-cons, sum-map}
-use Rattle.std.proofs.lemmas.Grind.{flat_map-append}
-use Rattle.shr_base.specs.declared.objects.Object.{Object}
-use Rattle.shr_base.specs.declared.places.Serial.{Serial}
-use Rattle.shr_base.specs.declared.replies.Answered.{Answered}
-use Rattle.shr_base.specs.declared.scripts.Command.{Command}
-use Rattle.shr_base.specs.declared.walks.WalkAnswer.{WalkAnswer}
+use Rattle.shr_assemble.proofs.Common.{◌≡◌, ℕ, suc, ◌+◌, ◌<◌, ◌⊎◌, inl, inr, ⊎_elim, Bool, true, false, ◌||◌, List, [], ◌∷◌, ◌++◌, length, length-append, map, sym, refl, ap, subst, ◌∙◌, arith, sum, zero, get_or, append_assoc, ◌≤◌, sum_by, Option, AllPairs, AllByRecursion, list_any, append-nil, get_or_append_left, sum_by-cons, sum-map, flat_map-append, Object, Serial, Answered, Command, WalkAnswer, WalkRecord, freed_by, Job, job, job_of, is_cut, Begins, Made, parents_of, OneGives, HadMemory, freed_in, WorkerState, Work, no_work, then_work, Shared, Walk, Visit, job_in, AreVisited, each_append}
 use Rattle.shr_base.specs.declared.walks.WalkAnswer.TheVariants as answered
-use Rattle.shr_base.specs.declared.walks.WalkRecord.{WalkRecord}
-use Rattle.shr_model.specs.Items.{freed_by}
-use Rattle.shr_model.specs.Walks.{Job, job, job_of, freed_told, is_cut}
-use Rattle.shr_seats.specs.Weights.{Begins}
-use Rattle.shr_core.specs.Parts.{Made}
-use Rattle.shr_report.specs.Parts.{parents_of}
-use Rattle.shr_walk.specs.Balances.{OneGives, AreWalked, lacked_memory, HadMemory}
+use Rattle.shr_model.specs.Walks.{freed_told}
+use Rattle.shr_walk.specs.Balances.{AreWalked, lacked_memory}
 use Rattle.shr_walk.specs.Balances as balances
-use Rattle.shr_walk.specs.Keeping.{freed_in}
-use Rattle.shr_walk.specs.State.{WorkerState, Work, no_work, then_work}
-use Rattle.shr_walk.specs.declared.seats.Shared.{Shared}
-use Rattle.shr_walk.specs.declared.walking.Walk.{Walk}
-use Rattle.shr_reclaim.specs.Rounds.{Visit, job_in, walk_for, AreVisited}
+use Rattle.shr_reclaim.specs.Rounds.{walk_for}
 use Rattle.shr_assemble.proofs.WalkingTold.{IsTableOf}
 use Rattle.shr_assemble.proofs.WalkingGives.{OneSeen, one_seen, gave, Freed, freed_none, freed_then}
 use Rattle.shr_assemble.proofs.WalkingSteps.{Walked, walked_none, walked_then}
+use Rattle.shr_node.proofs.Marking.{second_false}
 
 -- the jobs were walked with these answers
 abbrev pub AreOne : Shared → Serial → List Job → List WalkAnswer → WorkerState → WorkerState → Type 0
@@ -62,15 +44,11 @@ pub record GaveAll (x : Shared) (by : Serial) (c : Option Command) (a : Answered
   pub charges : work.charges ≡ 0
   pub uncharges : work.uncharges ≡ length (freed_in work.core.made)
 
-all_both : {A : Type 0} (P : A → Type 0) (xs ys : List A) → AllByRecursion P xs → AllByRecursion P ys → AllByRecursion P (xs ++ ys)
-all_both P [] ys a b = b
-all_both P (x ∷ xs) ys a b = (a.0, all_both P xs ys a.1 b)
-
 freed_both : (m n : List Made) → freed_in (m ++ n) ≡ freed_in m ++ freed_in n
 freed_both m n = flat_map-append (λ (y : Made). freed_by y.items y.entry) m n
 
 pub born_then : (x : Shared) (m n : List Made) → AllByRecursion (λ (o : Object). o.birth < length (parents_of x.script)) (freed_in m) → AllByRecursion (λ (o : Object). o.birth < length (parents_of x.script)) (freed_in n) → AllByRecursion (λ (o : Object). o.birth < length (parents_of x.script)) (freed_in (m ++ n))
-born_then x m n a b = subst (AllByRecursion (λ (o : Object). o.birth < length (parents_of x.script))) (sym (freed_both m n)) (all_both (λ (o : Object). o.birth < length (parents_of x.script)) (freed_in m) (freed_in n) a b)
+born_then x m n a b = subst (AllByRecursion (λ (o : Object). o.birth < length (parents_of x.script))) (sym (freed_both m n)) (each_append (λ (o : Object). o.birth < length (parents_of x.script)) (freed_in m) (freed_in n) a b)
 
 pub uncharges_then : (m n : List Made) (i j : ℕ) → i ≡ length (freed_in m) → j ≡ length (freed_in n) → i + j ≡ length (freed_in (m ++ n))
 uncharges_then m n i j a b = let e = ap (λ (l : List Object). length l) (freed_both m n) in let d = length-append (freed_in m) (freed_in n) in omega (arith, a, b, e, d)
@@ -129,10 +107,6 @@ none_first : (p q : Bool) → (p || q) ≡ false → p ≡ false
 none_first true q e = e
 none_first false q e = refl
 
-none_later : (p q : Bool) → (p || q) ≡ false → q ≡ false
-none_later true q e = absurd (let z : true ≡ false = e in cc)
-none_later false q e = e
-
 abbrev pub any_cut : List WalkRecord → Bool
 any_cut ws = list_any (λ (w : WalkRecord). is_cut w.answer) ws
 
@@ -144,7 +118,7 @@ pub record FrontHad (ws : List WalkRecord) : Type 0 where
   pub uncut : any_cut front ≡ false
   pub few : length rest ≤ 1
 
-cut_both : (xs ys : List WalkRecord) → any_cut xs ≡ false → any_cut ys ≡ false → any_cut (xs ++ ys) ≡ false
+pub cut_both : (xs ys : List WalkRecord) → any_cut xs ≡ false → any_cut ys ≡ false → any_cut (xs ++ ys) ≡ false
 cut_both [] ys a b = b
 cut_both (x ∷ xs) ys a b = one (is_cut x.answer) (any_cut xs) a (λ rest. cut_both xs ys rest b)
   where
@@ -181,7 +155,7 @@ front_pairs ws h i j d lt lj =
     uncut_at : (l : List WalkRecord) → any_cut l ≡ false → (n : ℕ) (d : WalkRecord) → n < length l → is_cut (get_or l n d).answer ≡ false
     uncut_at [] e n d less = absurd (omega (arith, less))
     uncut_at (x ∷ l) e zero d less = none_first (is_cut x.answer) (any_cut l) e
-    uncut_at (x ∷ l) e (suc n) d less = uncut_at l (none_later (is_cut x.answer) (any_cut l) e) n d (omega (arith, less))
+    uncut_at (x ∷ l) e (suc n) d less = uncut_at l (second_false (is_cut x.answer) (any_cut l) e) n d (omega (arith, less))
 
 -- where each walk had memory, each left its record
 pub record AllHad (jobs : List Job) (answers : List WalkAnswer) (ws : List WalkRecord) : Type 0 where

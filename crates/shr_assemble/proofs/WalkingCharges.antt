@@ -1,37 +1,8 @@
 -- The operations of walks: one down for each object freed, on each level of its birth.
-use Rattle.std.proofs.Common.{◌≡◌, ℕ, zero, suc, ◌+◌, ◌<◌, ◌≤◌, Bool, true, false, ◌||◌, cond, List, [], ◌∷◌, ◌++◌, length, length-append, map, sym, refl, ap, subst, ◌∙◌, arith, eq-eqb, ne_eqb}
-use Rattle.std.specs.Prelude.{slice_get, Option, Some, pos, ◌-ℤ◌, not, ◌==◌, sum_by, count_by, All}
-use Rattle.std.specs.List.{AllByRecursion, list_any}
-use Rattle.std.proofs.lemmas.List.{length-map}
-use Rattle.std.proofs.lemmas.List.Sums.{sum_by-cons, sum_by-append}
-use Rattle.std.proofs.lemmas.Option.{same_Some, none-some}
-use mathlib.Core.Logic.{dite}
-use native.Mathlib.Decide.{ℕ_discrete}
-use Rattle.shr_base.specs.declared.journals.Entry.{Entry}
-use Rattle.shr_base.specs.declared.journals.Entry.TheVariants.{Add, Look, Drop, Pin, Scan, MovedIn, Closed, Drained}
-use Rattle.shr_base.specs.declared.journals.UseStep.{UseStep}
-use Rattle.shr_base.specs.declared.objects.Object.{Object}
-use Rattle.shr_base.specs.declared.places.Serial.{Serial}
-use Rattle.shr_base.specs.declared.replies.Answered.{Answered}
-use Rattle.shr_base.specs.declared.scripts.Command.{Command}
-use Rattle.shr_base.specs.declared.walks.WalkRecord.{WalkRecord}
-use Rattle.shr_model.specs.Charges.{ups, downs}
-use Rattle.shr_model.specs.Freeings.{is_at_or_above, born_below}
-use Rattle.shr_model.specs.Groups.{IsTree, path_of, parent_of}
-use Rattle.shr_model.specs.Items.{freed_by}
-use Rattle.shr_model.proofs.GroupsLaws.{path_of-root, path_of-below}
-use Rattle.shr_seats.specs.Views.{Each}
-use Rattle.shr_core.specs.Parts.{Made}
+use Rattle.shr_assemble.proofs.Common.{◌≡◌, ℕ, zero, suc, ◌+◌, ◌<◌, ◌≤◌, Bool, true, false, ◌||◌, cond, List, [], ◌∷◌, ◌++◌, length, length-append, map, sym, refl, ap, subst, ◌∙◌, arith, eq-eqb, ne_eqb, slice_get, Option, Some, pos, ◌-ℤ◌, not, ◌==◌, sum_by, count_by, All, AllByRecursion, list_any, length-map, sum_by-cons, sum_by-append, same_Some, none-some, dite, ℕ_discrete, Entry, Add, Look, Drop, Pin, Scan, MovedIn, Closed, Drained, UseStep, Object, Serial, Answered, Command, WalkRecord, ups, downs, is_at_or_above, born_below, IsTree, path_of, parent_of, freed_by, path_of-root, path_of-below, Each, Made, charged, parents_of, freed_in, paths_of, Groups, WorkerState, Work, Shared, ops_at, added_below, freed_below, DidCharges, each_append, each_weaker, by_slices}
 use Rattle.shr_charge.specs.Charging.{group_of}
-use Rattle.shr_report.specs.Charges.{charged}
-use Rattle.shr_report.specs.Parts.{parents_of}
-use Rattle.shr_walk.specs.Keeping.{freed_in, paths_of}
-use Rattle.shr_tree.specs.Tree.{Groups}
 use Rattle.shr_walk.specs.Keeping as keeping
-use Rattle.shr_walk.specs.State.{WorkerState, Work}
-use Rattle.shr_walk.specs.declared.seats.Shared.{Shared}
-use Rattle.shr_assemble.specs.Charges.{ops_at, added_below, freed_below, DidCharges}
-use Rattle.shr_assemble.proofs.Listed.{all_slice, all_slice_by, by_slices}
+use Rattle.shr_assemble.proofs.Listed.{all_slice, all_slice_by}
 use Rattle.shr_assemble.proofs.WalkingTold.{IsTableOf}
 use Rattle.shr_assemble.proofs.WalkingGives.{Freed}
 use Rattle.shr_assemble.proofs.WalkingSteps.{IsScanOne, OnlyScan, step_of}
@@ -43,14 +14,6 @@ all_of P (x ∷ xs) h (suc k) d lt = all_of P xs h.1 k d (omega (arith, lt))
 
 pub rec_of : {A : Type 0} (P : A → Type 0) (xs : List A) → All P xs → AllByRecursion P xs
 rec_of P xs h = by_slices P xs (λ j x e. all_slice P xs j x h e)
-
-all_append : {A : Type 0} (P : A → Type 0) (xs ys : List A) → AllByRecursion P xs → AllByRecursion P ys → AllByRecursion P (xs ++ ys)
-all_append P [] ys a b = b
-all_append P (x ∷ xs) ys a b = (a.0, all_append P xs ys a.1 b)
-
-all_weaker : {A : Type 0} (P Q : A → Type 0) → ((x : A) → P x → Q x) → (xs : List A) → AllByRecursion P xs → AllByRecursion Q xs
-all_weaker P Q f [] h = tt
-all_weaker P Q f (x ∷ xs) h = (f x h.0, all_weaker P Q f xs h.1)
 
 -- ---- a path names each of its groups once
 abbrev Falls : List ℕ → Type 0
@@ -87,8 +50,8 @@ module _ (parents : List ℕ) (tree : IsTree parents) where
   path_is (suc n) b le lt = dite (ℕ_discrete b 0)
       (λ z. path_is n b (omega (arith, z)) lt)
       (λ ne. let up : 0 < b = omega (arith, ne) in let low = tree.lower b up lt in let is = path_of-below parents tree b up lt in let rest = path_is n (parent_of parents b) (omega (arith, le, low)) (omega (arith, lt, low)) in record {
-        falls = subst Falls (sym is) (all_weaker (λ y. y ≤ parent_of parents b) (λ y. y < b) (λ y h. omega (arith, h, low)) (path_of parents (parent_of parents b)) rest.within, rest.falls);
-        within = subst (AllByRecursion (λ y. y ≤ b)) (sym is) (omega arith, all_weaker (λ y. y ≤ parent_of parents b) (λ y. y ≤ b) (λ y h. omega (arith, h, low)) (path_of parents (parent_of parents b)) rest.within);
+        falls = subst Falls (sym is) (each_weaker (λ y. y ≤ parent_of parents b) (λ y. y < b) (λ y h. omega (arith, h, low)) (path_of parents (parent_of parents b)) rest.within, rest.falls);
+        within = subst (AllByRecursion (λ y. y ≤ b)) (sym is) (omega arith, each_weaker (λ y. y ≤ parent_of parents b) (λ y. y ≤ b) (λ y h. omega (arith, h, low)) (path_of parents (parent_of parents b)) rest.within);
         some = subst (λ (l : List ℕ). 0 < length l) (sym is) (omega arith);
       })
 
@@ -102,8 +65,8 @@ module _ (parents : List ℕ) (tree : IsTree parents) where
 
   paths_within : (os : List Object) → AllByRecursion (λ (o : Object). o.birth < length parents) os → AllByRecursion (λ y. y < length parents) (paths_of parents os)
   paths_within [] h = tt
-  paths_within (o ∷ os) h = let lt = h.0 in all_append (λ y. y < length parents) (path_of parents o.birth) (paths_of parents os)
-      (all_weaker (λ y. y ≤ o.birth) (λ y. y < length parents) (λ y le. omega (arith, le, lt)) (path_of parents o.birth) (path_is o.birth o.birth (omega arith) lt).within) (paths_within os h.1)
+  paths_within (o ∷ os) h = let lt = h.0 in each_append (λ y. y < length parents) (path_of parents o.birth) (paths_of parents os)
+      (each_weaker (λ y. y ≤ o.birth) (λ y. y < length parents) (λ y le. omega (arith, le, lt)) (path_of parents o.birth) (path_is o.birth o.birth (omega arith) lt).within) (paths_within os h.1)
 
   paths_many : (os : List Object) → AllByRecursion (λ (o : Object). o.birth < length parents) os → length os ≤ length (paths_of parents os)
   paths_many [] h = omega arith

@@ -1,43 +1,6 @@
 -- A command that made walks alone did what the report asks.
-use Rattle.std.proofs.Common.{◌≡◌, ℕ, ◌<◌, ◌≤◌, ◌⊎◌, inl, [], length, refl, sym, ap, subst, ◌∙◌, arith}
-use Rattle.std.specs.Prelude.{cond, Option, Some, None, option_and_then, sum_by, All, AllPairs}
-use Rattle.std.specs.List.{AllByRecursion}
-use Rattle.std.proofs.lemmas.List.{append-nil}
-use Rattle.std.proofs.lemmas.List.Elements.{All-nil}
-use Rattle.std.proofs.lemmas.Option.{none-some}
-use Rattle.shr_base.specs.declared.journals.Entry.{Entry}
-use Rattle.shr_base.specs.declared.journals.Entry.TheVariants.{Add, Look, Drop, Pin, Scan, MovedIn, Closed, Drained}
-use Rattle.shr_base.specs.declared.objects.Object.{Object}
-use Rattle.shr_base.specs.declared.places.Place.{Place}
-use Rattle.shr_base.specs.declared.places.Serial.{Serial}
-use Rattle.shr_base.specs.declared.replies.Answered.{Answered}
-use Rattle.shr_base.specs.declared.replies.Reply.{Reply}
-use Rattle.shr_base.specs.declared.scripts.Command.{Command}
-use Rattle.shr_base.specs.declared.walks.Carry.{Carry}
-use Rattle.shr_model.specs.Commands.{decl_named, asks_online}
-use Rattle.shr_model.specs.Families.{Family}
-use Rattle.shr_model.specs.Moves.{is_below}
-use Rattle.shr_model.specs.Places.{is_place}
-use Rattle.shr_seats.specs.Views.{Each}
-use Rattle.shr_seats.proofs.Weighing.{Each-none}
-use Rattle.shr_core.specs.Parts.{Made, Turn}
+use Rattle.shr_assemble.proofs.Common.{◌≡◌, ℕ, ◌<◌, ◌≤◌, ◌⊎◌, inl, [], length, refl, sym, ap, subst, ◌∙◌, arith, cond, Option, Some, None, option_and_then, sum_by, All, AllPairs, AllByRecursion, append-nil, All-nil, none-some, Entry, Add, Look, Drop, Pin, Scan, MovedIn, Closed, Drained, Object, Place, Serial, Answered, Reply, Command, Carry, decl_named, asks_online, Family, is_below, is_place, Each, Each-none, Made, Turn, charged, MayBeOffline, pool_told, pool_made, parents_of, cited_by, AreNotFalling, IsBefore, freed_in, WorkerState, Work, Shared, unfound, IsCausedBy, DidCarry, Did, IsReplyTo, MayMake, KnowsOnline, IsEntryOf, MeetsGroups, IsTurnOf, Step, Brings, AreWalksFor}
 use Rattle.shr_charge.specs.Views as charge
-use Rattle.shr_report.specs.Charges.{charged}
-use Rattle.shr_report.specs.Freshness.{MayBeOffline, pool_told, pool_made}
-use Rattle.shr_report.specs.Parts.{parents_of, cited_by}
-use Rattle.shr_report.specs.WellFormed.{AreNotFalling, IsBefore}
-use Rattle.shr_walk.specs.Keeping.{freed_in}
-use Rattle.shr_walk.specs.State.{WorkerState, Work}
-use Rattle.shr_walk.specs.declared.seats.Shared.{Shared}
-use Rattle.shr_worker.specs.Replies.{unfound}
-use Rattle.shr_assemble.specs.Causes.{IsCausedBy}
-use Rattle.shr_assemble.specs.Deferred.{DidCarry}
-use Rattle.shr_assemble.specs.Did.{Did}
-use Rattle.shr_assemble.specs.Entries.{IsReplyTo, MayMake}
-use Rattle.shr_assemble.specs.Offlining.{KnowsOnline, IsEntryOf, MeetsGroups}
-use Rattle.shr_assemble.specs.Pool.{IsTurnOf}
-use Rattle.shr_assemble.specs.Steps.{Step, Brings}
-use Rattle.shr_assemble.specs.Walks.{AreWalksFor}
 use Rattle.shr_assemble.proofs.WalkingTold.{IsTableOf}
 use Rattle.shr_assemble.proofs.WalkingGives.{Freed}
 use Rattle.shr_assemble.proofs.WalkingCharges.{walks_charge}

@@ -1,62 +1,21 @@
 -- A walk of a group or of the root, by its answer, gave what the report asks of it.
-use Rattle.std.proofs.Common.{◌≡◌, ℕ, ◌+◌, ◌<◌, ◌⊎◌, inl, inr, ⊎_elim, Bool, true, false, List, [], ◌∷◌, ◌++◌, length, map, sym, refl, ap, subst, ◌∙◌, arith}
-use Rattle.std.specs.List.{AllByRecursion}
-use Rattle.std.proofs.lemmas.List.{append-nil, map-append}
-use Rattle.std.proofs.lemmas.List.Elements.{All-nil, All-append}
-use Rattle.std.proofs.lemmas.Grind.{flat_map-append}
-use Rattle.std.proofs.lemmas.Option.{none-some}
-use mathlib.Core.Logic.{dite}
-use native.Mathlib.Decide.{ℕ_discrete}
-use Rattle.shr_base.specs.Kept.{Kept}
-use Rattle.shr_base.specs.declared.journals.UseStep.{UseStep}
-use Rattle.shr_base.specs.declared.objects.Object.{Object}
-use Rattle.shr_base.specs.declared.places.Serial.{Serial}
-use Rattle.shr_base.specs.declared.replies.Answered.{Answered}
-use Rattle.shr_base.specs.declared.scripts.Command.{Command}
-use Rattle.shr_base.specs.declared.scripts.Script.{Script}
-use Rattle.shr_base.specs.declared.walks.Attempt.{Attempt}
-use Rattle.shr_base.specs.declared.walks.MapSeen.{MapSeen}
-use Rattle.shr_base.specs.declared.walks.WalkAnswer.{WalkAnswer}
+use Rattle.shr_assemble.proofs.Common.{◌≡◌, ℕ, ◌+◌, ◌<◌, ◌⊎◌, inl, inr, ⊎_elim, Bool, true, false, List, [], ◌∷◌, ◌++◌, length, map, sym, refl, ap, subst, ◌∙◌, arith, AllByRecursion, append-nil, map-append, All-nil, All-append, flat_map-append, none-some, dite, ℕ_discrete, Kept, UseStep, Object, Serial, Answered, Command, Script, Attempt, MapSeen, WalkAnswer, WalkRecord, path_of, freed_by, job, job_of, Rise, Each-none, Gained, nothing, Made, Mapped, shape_of, Begins, AreDowns, IsDown, parents_of, OneGives, AreFresh, freed_in, paths_of, WorkerState, Work, no_work, then_work, Does, IsRecordOf, Parts, AreParts, record_of, parts_of, Shared, Walk, does_then, fresh_none, fresh_then, IsSeen, hierarchy_of, GroupState, KnowsOnline, IsAmong, Option}
 use Rattle.shr_base.specs.declared.walks.WalkAnswer.TheVariants as answered
-use Rattle.shr_base.specs.declared.walks.WalkRecord.{WalkRecord}
-use Rattle.shr_model.specs.Groups.{path_of}
-use Rattle.shr_model.specs.Items.{freed_by}
-use Rattle.shr_model.specs.Walks.{job, job_of}
-use Rattle.shr_model.proofs.UnitsLaws.{Rise}
-use Rattle.shr_seats.proofs.Weighing.{Each-none}
-use Rattle.shr_core.specs.Gained.{Gained, nothing, then_gained}
-use Rattle.shr_core.specs.Parts.{Made, Mapped}
-use Rattle.shr_core.specs.Seats.{shape_of}
-use Rattle.shr_seats.specs.Weights.{Begins}
-use Rattle.shr_charge.specs.Charging.{AreDowns, IsDown, group_of}
+use Rattle.shr_core.specs.Gained.{then_gained}
+use Rattle.shr_charge.specs.Charging.{group_of}
 use Rattle.shr_charge.specs.Views as charge
-use Rattle.shr_report.specs.Parts.{parents_of}
-use Rattle.shr_walk.specs.Balances.{OneGives}
-use Rattle.shr_walk.specs.Fresh.{AreFresh}
 use Rattle.shr_walk.specs.Keeping as keeping
-use Rattle.shr_walk.specs.Keeping.{freed_in, paths_of}
-use Rattle.shr_walk.specs.State.{WorkerState, Work, no_work, then_work, Does}
-use Rattle.shr_walk.specs.Walked.{GoesOn, IsRecordOf, WalkMade, WalkGives, RootMade, RootGives, Parts, AreParts, record_of, walk_work, parts_of, id_of, units_in}
-use Rattle.shr_walk.specs.declared.seats.Shared.{Shared}
-use Rattle.shr_walk.specs.declared.walking.Walk.{Walk}
-use Rattle.shr_walk.proofs.Doing.{does_then}
-use Rattle.shr_walk.proofs.FreshLaws.{fresh_none, fresh_then}
+use Rattle.shr_walk.specs.Walked.{GoesOn, WalkMade, WalkGives, RootMade, RootGives, walk_work, id_of, units_in}
 use Rattle.shr_walk.proofs.Recording.{record_none}
 use Rattle.shr_walk.proofs.ShownLaws.{seen_none, seen_earlier, seen_later}
-use Rattle.shr_walk.specs.Shown.{IsSeen}
-use Rattle.shr_seats.specs.Shapes.{hierarchy_of}
-use Rattle.shr_charge.specs.declared.answers.GroupState.{GroupState}
 use Rattle.shr_charge.specs.declared.answers.GroupState.TheVariants as state
-use Rattle.shr_assemble.specs.Offlining.{KnowsOnline}
 use Rattle.shr_assemble.proofs.QuietSteps.{knows_online}
-use Rattle.shr_assemble.specs.Steps.{IsAmong}
 use Rattle.shr_assemble.proofs.WalkingIds.{maps_rise, rise_front, up_to_rise}
 use Rattle.shr_assemble.proofs.WalkingTold.{IsTableOf, seen_born}
 use Rattle.shr_assemble.proofs.WalkingParts.{found_cases}
 use Rattle.shr_assemble.proofs.WalkingOne.{whole, OneWalk, one_walk}
 use Rattle.shr_assemble.proofs.WalkingWell.{record_below_whole, record_below_cut, record_root_whole, record_root_cut, record_offline}
 use Rattle.shr_assemble.proofs.WalkingSteps.{IsScanOne, Walked}
-use Rattle.std.specs.Prelude.{Option}
 
 -- what these entries freed was uncharged, group by group
 abbrev pub Freed : Shared → Serial → List Made → List UseStep → Type 0

@@ -1,20 +1,14 @@
 -- The ids and the units of a walk, in the words of the model.
-use Rattle.std.proofs.Common.{◌≡◌, ℕ, zero, suc, ◌+◌, ◌*◌, ◌<◌, ◌≤◌, cond, List, [], ◌∷◌, ◌++◌, length, map, sym, refl, ap, subst, ◌∙◌, arith, add-one}
-use Rattle.std.specs.Prelude.{◌==◌, filter, flat_map, Contains, slice_index_or}
-use Rattle.std.specs.Int.{bit_at}
-use Rattle.std.specs.List.{AllByRecursion, range_with_len}
-use Rattle.std.proofs.lemmas.List.{map-id, length-map}
+use Rattle.shr_assemble.proofs.Common.{◌≡◌, ℕ, zero, suc, ◌+◌, ◌*◌, ◌<◌, ◌≤◌, cond, List, [], ◌∷◌, ◌++◌, length, map, sym, refl, ap, subst, ◌∙◌, arith, add-one, ◌==◌, filter, flat_map, Contains, slice_index_or, bit_at, AllByRecursion, range_with_len, map-id, length-map, get_or-range_with_len, length-range_with_len, Attempt, MapSeen, is_set, each_append, each_weaker, Rise, AreNotFalling, ids_in, up_to}
 use Rattle.std.proofs.lemmas.List.Elements.{filter-append}
-use Rattle.std.proofs.lemmas.List.FromFn.{get_or-range_with_len, length-range_with_len, map-range_with_len_more}
-use Rattle.shr_base.specs.declared.walks.Attempt.{Attempt}
-use Rattle.shr_base.specs.declared.walks.MapSeen.{MapSeen}
-use Rattle.shr_model.specs.Bits.{is_set}
+use Rattle.std.proofs.lemmas.List.FromFn.{map-range_with_len_more}
 use Rattle.shr_model.specs.Bits as model
 use Rattle.shr_model.specs.Places as places
-use Rattle.shr_model.proofs.BagLaws.{each_append, each_weaker}
-use Rattle.shr_model.proofs.UnitsLaws.{Rise, all_rise, ids_within, unit_is, units_stay}
-use Rattle.shr_report.specs.WellFormed.{AreRising, AreNotFalling}
-use Rattle.shr_walk.specs.Walked.{set_bits, id_of, ids_in, up_to, unit_of}
+use Rattle.shr_model.proofs.UnitsLaws.{all_rise, ids_within, unit_is, units_stay}
+use Rattle.shr_report.specs.WellFormed.{AreRising}
+use Rattle.shr_walk.specs.Walked.{set_bits, id_of, unit_of}
+use Rattle.shr_model.proofs.Lists.{all_front, all_push}
+use Rattle.shr_assemble.proofs.EndsJournals.{below_later}
 
 pub range_suc : (n : ℕ) → range_with_len 0 (suc n) ≡ range_with_len 0 n ++ n ∷ []
 range_suc n = ap (λ k. range_with_len 0 k) (sym (add-one n)) ∙ (sym (map-id (range_with_len 0 (n + 1))) ∙ (map-range_with_len_more (λ (i : ℕ). i) 0 n n (omega arith) ∙ ap (λ (xs : List ℕ). xs ++ n ∷ []) (map-id (range_with_len 0 n))))
@@ -36,27 +30,18 @@ all_ids_are [] = refl
 all_ids_are (m ∷ maps) = ap (λ l. l ++ flat_map ids_in maps) (ids_are m) ∙ ap (λ l. model.ids_in m.unit m.bits ++ l) (all_ids_are maps)
 
 -- ---- numbers that rise
-all_push : {A : Type 0} (P : A → Type 0) (xs : List A) (x : A) → AllByRecursion P xs → P x → AllByRecursion P (xs ++ x ∷ [])
-all_push P xs x h p = each_append P xs (x ∷ []) h (p, tt)
 
 rise_push : (xs : List ℕ) (n : ℕ) → AllByRecursion (λ x. x < n) xs → Rise xs → Rise (xs ++ n ∷ [])
 rise_push [] n h r = (tt, tt)
 rise_push (x ∷ xs) n h r = (all_push (λ y. x < y) xs n r.0 h.0, rise_push xs n h.1 r.1)
 
-pub all_front : {A : Type 0} (P : A → Type 0) (xs ys : List A) → AllByRecursion P (xs ++ ys) → AllByRecursion P xs
-all_front P [] ys h = tt
-all_front P (x ∷ xs) ys h = (h.0, all_front P xs ys h.1)
-
 pub rise_front : (xs ys : List ℕ) → Rise (xs ++ ys) → Rise xs
 rise_front [] ys r = tt
 rise_front (x ∷ xs) ys r = (all_front (λ y. x < y) xs ys r.0, rise_front xs ys r.1)
 
-below_more : (n : ℕ) (xs : List ℕ) → AllByRecursion (λ x. x < n) xs → AllByRecursion (λ x. x < suc n) xs
-below_more n xs h = each_weaker (λ x. x < n) (λ x. x < suc n) (λ x p. omega (arith, p)) xs h
-
 pub up_to_below : (n : ℕ) → AllByRecursion (λ x. x < n) (up_to n)
 up_to_below zero = tt
-up_to_below (suc n) = all_push (λ x. x < suc n) (up_to n) n (below_more n (up_to n) (up_to_below n)) (omega arith)
+up_to_below (suc n) = all_push (λ x. x < suc n) (up_to n) n (below_later n (up_to n) (up_to_below n)) (omega arith)
 
 pub up_to_rise : (n : ℕ) → Rise (up_to n)
 up_to_rise zero = tt

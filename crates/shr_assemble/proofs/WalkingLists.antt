@@ -1,41 +1,16 @@
 -- The lists of a walk's work are those that its record tells of.
-use Rattle.std.proofs.Common.{◌≡◌, ℕ, zero, suc, ◌+◌, ◌<◌, ◌≤◌, ⊎_elim, Bool, true, false, ◌&&◌, cond, List, [], ◌∷◌, ◌++◌, length, map, sym, refl, ap, subst, ◌∙◌, arith, eq-eqb}
-use Rattle.std.specs.Prelude.{slice_get, Option, Some, None, flat_map, filter, filter_map, sum_by, ◌==◌}
-use Rattle.std.specs.List.{cons_option}
-use Rattle.std.proofs.lemmas.List.Sums.{sum_by-cons, sum_by-append}
-use Rattle.std.proofs.lemmas.Option.{same_Some, none-some}
-use Rattle.shr_base.specs.declared.journals.Entry.{Entry}
-use Rattle.shr_base.specs.declared.journals.Entry.TheVariants.{Add, Look, Drop, Pin, Scan, MovedIn, Closed, Drained}
-use Rattle.shr_base.specs.declared.objects.Policy.{Policy}
-use Rattle.shr_base.specs.declared.places.Place.{Place}
-use Rattle.shr_base.specs.declared.walks.Attempt.{Attempt}
-use Rattle.shr_base.specs.declared.walks.Outcome.{Outcome}
+use Rattle.shr_assemble.proofs.Common.{◌≡◌, ℕ, zero, suc, ◌+◌, ◌<◌, ◌≤◌, ⊎_elim, Bool, true, false, ◌&&◌, cond, List, [], ◌∷◌, ◌++◌, length, map, sym, refl, ap, subst, ◌∙◌, arith, eq-eqb, slice_get, Option, Some, None, flat_map, filter, filter_map, sum_by, ◌==◌, cons_option, sum_by-cons, sum_by-append, same_Some, none-some, Scan, Policy, Place, Attempt, Outcome, PassRecord, pass_of, is_clearing, amount_of, amount_at, sum_at, place_number, is_place, is_place_itself, takes_of, gives_of, takes_both, gives_both, Each, Each-append, Each-none, Made, IsScanOf, scan_at, IsScanMade, AreScannedBy, Parts, AreParts, Shared, Walk, map-append, WordStep, told_step, is_setting}
 use Rattle.shr_base.specs.declared.walks.Outcome.TheVariants as outcome
-use Rattle.shr_base.specs.declared.walks.PassRecord.{PassRecord}
-use Rattle.shr_model.specs.Attempts.{pass_of, is_clearing}
-use Rattle.shr_model.specs.Deferred.{amount_of, amount_at, sum_at}
-use Rattle.shr_model.specs.Places.{place_number, is_place}
-use Rattle.shr_model.proofs.PlacesLaws.{is_place_itself}
-use Rattle.shr_deferred.specs.Moves.{takes_of, gives_of}
-use Rattle.shr_deferred.proofs.SeatLaws.{takes_both, gives_both}
-use Rattle.shr_seats.specs.Views.{Each}
-use Rattle.shr_seats.proofs.Weighing.{Each-append, Each-none}
-use Rattle.shr_core.specs.Parts.{Made}
 use Rattle.shr_pass.specs.declared.answers.ScanSeen.{ScanSeen}
 use Rattle.shr_walk.specs.Attempts.{WasHeld}
-use Rattle.shr_walk.specs.Keeping.{IsScanOf}
-use Rattle.shr_walk.specs.Listing.{scan_at, scan_by}
-use Rattle.shr_walk.specs.Records.{place_in, IsScanMade, AreScannedBy}
+use Rattle.shr_walk.specs.Listing.{scan_by}
+use Rattle.shr_walk.specs.Records.{place_in}
 use Rattle.shr_walk.specs.Visits.{visit_moves}
-use Rattle.shr_walk.specs.Walked.{place_of, cleared_of, set_of, moves_of, Parts, AreParts}
-use Rattle.shr_walk.specs.declared.seats.Shared.{Shared}
-use Rattle.shr_walk.specs.declared.walking.Walk.{Walk}
-use Rattle.std.proofs.lemmas.List.{map-append}
-use Rattle.shr_report.specs.Takes.{WordStep, steps_passed}
-use Rattle.shr_assemble.specs.Deferred.{told_step}
+use Rattle.shr_walk.specs.Walked.{place_of, cleared_of, set_of, moves_of}
+use Rattle.shr_report.specs.Takes.{steps_passed}
 use Rattle.shr_assemble.proofs.WalkingParts.{found_cases}
-use Rattle.shr_assemble.specs.Walks.{is_setting}
 use Rattle.shr_assemble.proofs.WalkingRecord.{listed, same_cleared, same_set, same_passes}
+use Rattle.shr_walk.proofs.Passing.{scan_is}
 
 pub flat_same : {A B : Type 0} (f g : A → List B) (l : List A) → ((a : A) → f a ≡ g a) → flat_map f l ≡ flat_map g l
 flat_same f g [] h = refl
@@ -123,22 +98,10 @@ all_steps walk (a ∷ l) = map-append told_step (visit_moves (place_of walk a) a
     ∙ (ap (λ (v : List WordStep). v ++ map told_step (moves_of walk l)) (visit_steps (place_of walk a) a.outcome) ∙ ap (λ (v : List WordStep). steps_passed (place_of walk a) (pass_of a.outcome) ++ v) (all_steps walk l))
 
 -- ---- an entry that was made is of an attempt with a pass
-scan_there : (worker walk : ℕ) (policy : Policy) (e : Entry) → IsScanOf worker walk policy e → (z : ScanSeen) × (scan_by worker walk e ≡ Some z)
-scan_there worker walk policy (Scan w s asked p visits freed stopped) h = (
-  record { asked = asked; freed = freed },
-  ap (λ (b : Bool). cond (b && (s == walk)) (Some (record { asked = asked; freed = freed })) None) (eq-eqb w worker h.0) ∙ ap (λ (b : Bool). cond b (Some (record { asked = asked; freed = freed })) None) (eq-eqb s walk h.1),
-)
-scan_there worker walk policy (Add by birth added key value) h = absurd h
-scan_there worker walk policy (Look by birth key hit) h = absurd h
-scan_there worker walk policy (Drop by birth key kind) h = absurd h
-scan_there worker walk policy (Pin by birth key pinned hit) h = absurd h
-scan_there worker walk policy (MovedIn child objects) h = absurd h
-scan_there worker walk policy Closed h = absurd h
-scan_there worker walk policy (Drained by objects) h = absurd h
 
 none_there : (k worker walk : ℕ) (policy : Policy) (made : List Made) → Each (IsScanMade k worker walk policy) made → filter_map (scan_at k worker walk) made ≡ [] → made ≡ []
 none_there k worker walk policy [] h e = refl
-none_there k worker walk policy (m ∷ made) h e = let here = h 0 m refl in let z = scan_there worker walk policy m.entry here.1 in
+none_there k worker walk policy (m ∷ made) h e = let here = h 0 m refl in let z = scan_is worker walk policy m.entry here.1 in
     let one : scan_at k worker walk m ≡ Some z.0 = ap (λ (b : Bool). cond b (scan_by worker walk m.entry) None) (eq-eqb m.place k here.0) ∙ z.1 in
     let n : suc (length (filter_map (scan_at k worker walk) made)) ≡ 0 = ap (λ (o : Option ScanSeen). length (cons_option o (filter_map (scan_at k worker walk) made))) (sym one) ∙ ap (λ (l : List ScanSeen). length l) e in absurd (omega (arith, n))
 

@@ -1,57 +1,14 @@
 -- One walk: from its record and its work to what the report asks of it.
-use Rattle.std.proofs.Common.{◌≡◌, ℕ, zero, suc, ◌+◌, ◌<◌, ◌≤◌, ◌⊎◌, ⊎_elim, true, false, List, [], ◌∷◌, length, map, sym, refl, ap, subst, ◌∙◌, arith}
-use Rattle.std.specs.Prelude.{slice_get, Option, Some, filter_map, sum_by, ◌&&◌}
+use Rattle.shr_assemble.proofs.Common.{◌≡◌, ℕ, zero, suc, ◌+◌, ◌<◌, ◌≤◌, ◌⊎◌, ⊎_elim, true, false, List, [], ◌∷◌, length, map, sym, refl, ap, subst, ◌∙◌, arith, slice_get, Option, Some, filter_map, sum_by, ◌&&◌, append-nil, same_Some, none-some, Kept, Entry, Add, Look, Drop, Pin, Scan, MovedIn, Closed, Drained, Policy, Answered, Spent, CacheDecl, Command, Attempt, MapSeen, PassRecord, WalkAnswer, WalkRecord, number_of, is_held, pass_of, sum_at, place_number, passes_at, Moves, takes_of, gives_of, Each, place_at, Made, shape_of, place_back, parents_of, IsThere, AreScansOf, AreFresh, IsScanOf, scan_at, AreScannedBy, WornSeen, PassSeen, IsSeen, IsRecordOf, record_of, parts_of, number_in, WorkerState, Work, Does, Shared, Walk, IsAmong, DidPass, DidAttempt, WasHeld, numbered, KnowsOnline, IsRecord, DidWalk, IsWornBy, told_step, Rise}
 use Rattle.std.specs.Option.{is_some}
-use Rattle.std.proofs.lemmas.List.{append-nil}
-use Rattle.std.proofs.lemmas.Option.{same_Some, none-some}
-use Rattle.shr_base.specs.Kept.{Kept}
-use Rattle.shr_base.specs.declared.journals.Entry.{Entry}
-use Rattle.shr_base.specs.declared.journals.Entry.TheVariants.{Add, Look, Drop, Pin, Scan, MovedIn, Closed, Drained}
-use Rattle.shr_base.specs.declared.objects.Policy.{Policy}
-use Rattle.shr_base.specs.declared.replies.Answered.{Answered}
-use Rattle.shr_base.specs.declared.replies.Spent.{Spent}
-use Rattle.shr_base.specs.declared.scripts.CacheDecl.{CacheDecl}
-use Rattle.shr_base.specs.declared.scripts.Command.{Command}
-use Rattle.shr_base.specs.declared.walks.Attempt.{Attempt}
-use Rattle.shr_base.specs.declared.walks.MapSeen.{MapSeen}
-use Rattle.shr_base.specs.declared.walks.PassRecord.{PassRecord}
-use Rattle.shr_base.specs.declared.walks.WalkAnswer.{WalkAnswer}
 use Rattle.shr_base.specs.declared.walks.WalkAnswer.TheVariants as answered
-use Rattle.shr_base.specs.declared.walks.WalkRecord.{WalkRecord}
-use Rattle.shr_model.specs.Attempts.{number_of, is_held, pass_of}
-use Rattle.shr_model.specs.Deferred.{sum_at}
-use Rattle.shr_model.specs.Places.{place_number}
-use Rattle.shr_model.specs.Walks.{passes_at}
-use Rattle.shr_deferred.specs.Moves.{Moves, takes_of, gives_of}
-use Rattle.shr_seats.specs.Views.{Each}
-use Rattle.shr_core.specs.Layout.{place_at}
-use Rattle.shr_core.specs.Parts.{Made}
-use Rattle.shr_core.specs.Seats.{shape_of}
-use Rattle.shr_core.proofs.Left.{place_back}
 use Rattle.shr_charge.specs.Views as charge
 use Rattle.shr_charge.specs.declared.answers.GroupState.TheVariants as state
-use Rattle.shr_report.specs.Parts.{parents_of, IsThere}
-use Rattle.shr_report.specs.LawfulWalk.{AreScansOf}
 use Rattle.shr_walk.specs.Attempts.{Found}
 use Rattle.shr_walk.specs.Attempts as attempts
-use Rattle.shr_walk.specs.Fresh.{AreFresh}
-use Rattle.shr_walk.specs.Keeping.{IsScanOf}
-use Rattle.shr_walk.specs.Listing.{scan_at}
-use Rattle.shr_walk.specs.Records.{place_in, AreScannedBy, AreLater, AreStopped}
-use Rattle.shr_walk.specs.Shown.{WornSeen, PassSeen, IsSeen}
-use Rattle.shr_walk.specs.Walked.{IsRecordOf, IsWalkNumber, record_of, parts_of, id_of, counts_of, number_in}
-use Rattle.shr_walk.specs.State.{WorkerState, Work, Does}
-use Rattle.shr_walk.specs.declared.seats.Shared.{Shared}
-use Rattle.shr_walk.specs.declared.walking.Walk.{Walk}
-use Rattle.shr_assemble.specs.Steps.{IsAmong}
-use Rattle.shr_assemble.specs.Attempts.{DidPass, DidAttempt, WasHeld}
-use Rattle.shr_assemble.specs.Lookups.{numbered}
-use Rattle.shr_assemble.specs.Offlining.{KnowsOnline}
-use Rattle.shr_assemble.specs.Walks.{IsRecord, DidWalk}
-use Rattle.shr_assemble.specs.Worn.{IsWornBy}
-use Rattle.shr_assemble.specs.Deferred.{told_step}
+use Rattle.shr_walk.specs.Records.{place_in, AreLater, AreStopped}
+use Rattle.shr_walk.specs.Walked.{IsWalkNumber, id_of, counts_of}
 use Rattle.shr_assemble.proofs.WornSeen.{seen_worn}
-use Rattle.shr_model.proofs.UnitsLaws.{Rise}
 use Rattle.shr_assemble.proofs.WalkingTold.{IsTableOf, seen_id, seen_pass}
 use Rattle.shr_assemble.proofs.WalkingParts.{PartAt, part_at, part_scans, tries_one, pass_is, found_cases, found_held}
 use Rattle.shr_assemble.proofs.WalkingRecord.{same_counts, same_numbers, outcome_kind, stopped}

@@ -1,40 +1,13 @@
 -- The part that each attempt of a walk has in the walk's work.
-use Rattle.std.proofs.Common.{◌≡◌, ℕ, zero, suc, ◌-◌, ◌<◌, ◌≤◌, ◌≢◌, ◌⊎◌, inl, inr, ⊎_elim, Bool, true, false, ◌&&◌, cond, List, [], ◌∷◌, ◌++◌, length, map, take, sym, refl, ap, subst, ◌∙◌, arith, ne_eqb, sum}
-use Rattle.std.specs.Prelude.{slice_get, Option, Some, None, filter_map, ◌==◌}
-use Rattle.std.specs.List.{AllByRecursion, cons_option}
-use Rattle.std.proofs.lemmas.List.{append-nil}
-use Rattle.std.proofs.lemmas.List.Elements.{filter_map-append}
-use Rattle.std.proofs.lemmas.List.Sums.{sum-map}
-use Rattle.std.proofs.lemmas.Option.{same_Some, none-some}
-use Rattle.shr_base.specs.declared.ends.LookupWord.{LookupWord}
-use Rattle.shr_base.specs.declared.journals.Entry.{Entry}
-use Rattle.shr_base.specs.declared.journals.Entry.TheVariants.{Add, Look, Drop, Pin, Scan, MovedIn, Closed, Drained}
-use Rattle.shr_base.specs.declared.journals.UseStep.{UseStep}
-use Rattle.shr_base.specs.declared.objects.Policy.{Policy}
-use Rattle.shr_base.specs.declared.scripts.CacheDecl.{CacheDecl}
-use Rattle.shr_base.specs.declared.walks.Attempt.{Attempt}
-use Rattle.shr_base.specs.declared.walks.Outcome.{Outcome}
+use Rattle.shr_assemble.proofs.Common.{◌≡◌, ℕ, zero, suc, ◌-◌, ◌<◌, ◌≤◌, ◌≢◌, ◌⊎◌, inl, inr, ⊎_elim, Bool, true, false, ◌&&◌, cond, List, [], ◌∷◌, ◌++◌, length, map, take, sym, refl, ap, subst, ◌∙◌, arith, ne_eqb, sum, slice_get, Option, Some, None, filter_map, ◌==◌, AllByRecursion, cons_option, append-nil, filter_map-append, sum-map, same_Some, none-some, LookupWord, Entry, Add, Look, Drop, Pin, Scan, MovedIn, Closed, Drained, UseStep, Policy, CacheDecl, Attempt, Outcome, PassRecord, number_of, is_held, pass_of, place_number, ScanMade, scan_by, Each, Each-append, Each-none, Made, Loaded, Tried, AreScansOf, IsScanOf, passes_in, IsScanMade, Parts, AreParts, Shared, Walk, IsAmong, scan_made, scans_made, Rise}
 use Rattle.shr_base.specs.declared.walks.Outcome.TheVariants as outcome
-use Rattle.shr_base.specs.declared.walks.PassRecord.{PassRecord}
-use Rattle.shr_model.specs.Attempts.{number_of, is_held, pass_of}
-use Rattle.shr_model.specs.Places.{place_number}
-use Rattle.shr_model.specs.Scans.{ScanMade, scan_by}
-use Rattle.shr_seats.specs.Views.{Each}
-use Rattle.shr_seats.proofs.Weighing.{Each-append, Each-none}
-use Rattle.shr_core.specs.Parts.{Made, Loaded, Tried}
 use Rattle.shr_pass.specs.declared.answers.ScanSeen.{ScanSeen}
 use Rattle.shr_pass.specs.Passes.{asked_of, freed_of}
-use Rattle.shr_report.specs.LawfulWalk.{AreScansOf, asks_due}
+use Rattle.shr_report.specs.LawfulWalk.{asks_due}
 use Rattle.shr_walk.specs.Attempts.{MadeNone, WasHeld, Found, tries_in}
-use Rattle.shr_walk.specs.Keeping.{IsScanOf}
 use Rattle.shr_walk.specs.Listing as listing
-use Rattle.shr_walk.specs.Records.{place_in, passes_in, IsScanMade, IsScannedBy}
-use Rattle.shr_walk.specs.Walked.{Parts, AreParts, IsPart, id_of}
-use Rattle.shr_walk.specs.declared.seats.Shared.{Shared}
-use Rattle.shr_walk.specs.declared.walking.Walk.{Walk}
-use Rattle.shr_assemble.specs.Steps.{IsAmong}
-use Rattle.shr_assemble.specs.Attempts.{scan_made, scans_made}
-use Rattle.shr_model.proofs.UnitsLaws.{Rise}
+use Rattle.shr_walk.specs.Records.{place_in, IsScannedBy}
+use Rattle.shr_walk.specs.Walked.{IsPart, id_of}
 use Rattle.shr_assemble.proofs.Gathering.{among_left, among_right}
 
 -- an attempt found a held cache, or made nothing

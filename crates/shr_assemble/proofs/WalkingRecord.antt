@@ -1,48 +1,22 @@
 -- What the record of a walk says by itself, outcome by outcome.
-use Rattle.std.proofs.Common.{◌≡◌, ℕ, zero, suc, ◌+◌, ◌<◌, ◌≤◌, ◌≢◌, ⊎_elim, Bool, true, false, ◌&&◌, cond, List, [], ◌∷◌, ◌++◌, length, length-append, map, sym, refl, ap, subst, ◌∙◌, arith, sum}
-use Rattle.std.specs.Prelude.{slice_get, Option, Some, None, flat_map, filter_map, sum_by, All}
-use Rattle.std.specs.List.{cons_option}
-use Rattle.std.proofs.lemmas.Bool.{and_parts, and_from}
+use Rattle.shr_assemble.proofs.Common.{◌≡◌, ℕ, zero, suc, ◌+◌, ◌<◌, ◌≤◌, ◌≢◌, ⊎_elim, Bool, true, false, ◌&&◌, cond, List, [], ◌∷◌, ◌++◌, length, length-append, map, sym, refl, ap, subst, ◌∙◌, arith, sum, slice_get, Option, Some, None, flat_map, filter_map, sum_by, All, cons_option, and_parts, and_from, sum_by-cons, sum-map, same_Some, none-some, LookupWord, UseStep, Place, CacheDecl, Attempt, Ending, Outcome, PassRecord, WalkRecord, Count, number_of, pass_of, is_clearing, due, ask_size, batch_of, total_of, place_number, Each, Each-none, Made, Loaded, Counted, IsPlaced, IsOutcomeOf, IsStopped, Rising, passes_in, number_in, IsUncut, IsCutLast, Shared, Walk, numbered, is_setting, slice_cases}
 use Rattle.std.proofs.lemmas.List.{length-replicate}
-use Rattle.std.proofs.lemmas.List.Sums.{sum_by-cons, sum-map}
-use Rattle.std.proofs.lemmas.Option.{same_Some, none-some}
-use Rattle.shr_base.specs.declared.ends.LookupWord.{LookupWord}
-use Rattle.shr_base.specs.declared.journals.UseStep.{UseStep}
-use Rattle.shr_base.specs.declared.places.Place.{Place}
-use Rattle.shr_base.specs.declared.scripts.CacheDecl.{CacheDecl}
-use Rattle.shr_base.specs.declared.walks.Attempt.{Attempt}
-use Rattle.shr_base.specs.declared.walks.Ending.{Ending}
 use Rattle.shr_base.specs.declared.walks.Ending.TheVariants as ending
 use Rattle.shr_base.specs.declared.walks.GoneThen.{GoneThen}
 use Rattle.shr_base.specs.declared.walks.GoneThen.TheVariants as gone
-use Rattle.shr_base.specs.declared.walks.Outcome.{Outcome}
 use Rattle.shr_base.specs.declared.walks.Outcome.TheVariants as outcome
-use Rattle.shr_base.specs.declared.walks.PassRecord.{PassRecord}
-use Rattle.shr_base.specs.declared.walks.WalkRecord.{WalkRecord}
-use Rattle.shr_model.specs.Attempts.{Count, number_of, pass_of, is_clearing}
 use Rattle.shr_model.specs.Attempts as model
-use Rattle.shr_model.specs.Pass.{FollowsArithmetic, MadeOf, due, ask_size, batch_of, total_of, due_asks}
-use Rattle.shr_model.specs.Places.{place_number}
-use Rattle.shr_seats.specs.Views.{Each}
-use Rattle.shr_seats.proofs.Weighing.{Each-none}
-use Rattle.shr_core.specs.Parts.{Made, Loaded, Counted}
-use Rattle.shr_report.specs.LawfulWalk.{IsPlaced, IsOutcomeOf, IsStopped}
+use Rattle.shr_model.specs.Pass.{FollowsArithmetic, MadeOf, due_asks}
 use Rattle.shr_walk.specs.Attempts.{Found, IsHeldBy, IsShown}
-use Rattle.shr_walk.specs.Fresh.{Rising}
-use Rattle.shr_walk.specs.Records.{place_in, counts_in, cleared_in, set_in, passes_in}
+use Rattle.shr_walk.specs.Records.{place_in, counts_in, cleared_in, set_in}
 use Rattle.shr_walk.specs.Records as records
-use Rattle.shr_walk.specs.Walked.{number_in, counts_of, is_cut, is_cut_by, IsUncut, IsCutLast}
+use Rattle.shr_walk.specs.Walked.{counts_of, is_cut, is_cut_by}
 use Rattle.shr_walk.specs.Walked as walked
-use Rattle.shr_walk.specs.declared.seats.Shared.{Shared}
-use Rattle.shr_walk.specs.declared.walking.Walk.{Walk}
-use Rattle.shr_assemble.specs.Lookups.{numbered}
-use Rattle.shr_assemble.specs.Walks.{is_setting}
 use Rattle.shr_assemble.proofs.Gathering.{among_left}
 use Rattle.shr_assemble.proofs.Listed.{all_slice}
-use Rattle.shr_assemble.proofs.WalkingSteps.{slice_cases}
 
 -- ---- counts
-each_left : {A : Type 0} (P : A → Type 0) (l m : List A) → Each P (l ++ m) → Each P l
+pub each_left : {A : Type 0} (P : A → Type 0) (l m : List A) → Each P (l ++ m) → Each P l
 each_left P [] m h = Each-none P
 each_left P (z ∷ l) m h = λ j x e. h ((among_left (z ∷ l) m x (j, e)).0) x ((among_left (z ∷ l) m x (j, e)).1)
 

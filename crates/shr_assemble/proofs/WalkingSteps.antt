@@ -1,54 +1,10 @@
 -- Walks after walks in one step: what holds of a part of a step's work holds of the whole.
-use Rattle.std.proofs.Common.{◌≡◌, ℕ, zero, suc, ◌+◌, ◌<◌, ◌≤◌, ◌≢◌, ◌⊎◌, inl, inr, ⊎_elim, Bool, true, false, ◌&&◌, cond, List, [], ◌∷◌, ◌++◌, length, length-append, map, sym, refl, ap, subst, ◌∙◌, arith, ne_eqb}
-use Rattle.std.specs.Prelude.{slice_get, Option, Some, None, flat_map, ◌==◌, Contains, sum_by}
-use Rattle.std.specs.List.{cons_option}
-use Rattle.std.proofs.lemmas.List.{append-nil, map-append}
-use Rattle.std.proofs.lemmas.List.Elements.{filter_map-append, Contains-append_left}
-use Rattle.std.proofs.lemmas.List.Sums.{sum_by-append}
-use Rattle.std.proofs.lemmas.Grind.{flat_map-append}
-use Rattle.std.proofs.lemmas.Option.{none-some, slice_get_within}
-use Rattle.shr_base.specs.declared.journals.Entry.{Entry}
-use Rattle.shr_base.specs.declared.journals.Entry.TheVariants.{Add, Look, Drop, Pin, Scan, MovedIn, Closed, Drained}
-use Rattle.shr_base.specs.declared.places.Place.{Place}
-use Rattle.shr_base.specs.declared.places.Serial.{Serial}
-use Rattle.shr_base.specs.declared.replies.Answered.{Answered}
-use Rattle.shr_base.specs.declared.replies.Spent.{Spent}
+use Rattle.shr_assemble.proofs.Common.{◌≡◌, ℕ, suc, ◌+◌, ◌<◌, ◌≤◌, ◌≢◌, ◌⊎◌, inl, inr, ⊎_elim, Bool, true, false, ◌&&◌, cond, List, [], ◌∷◌, ◌++◌, length, length-append, map, sym, refl, ap, subst, ◌∙◌, arith, ne_eqb, slice_get, Option, Some, None, flat_map, ◌==◌, Contains, sum_by, cons_option, append-nil, map-append, filter_map-append, Contains-append_left, sum_by-append, flat_map-append, none-some, slice_get_within, Entry, Add, Look, Drop, Pin, Scan, MovedIn, Closed, Drained, Place, Serial, Answered, Spent, CacheDecl, Command, Script, Object, Attempt, PassRecord, WalkRecord, PlaceAmount, sum_at, amount_at, ScanMade, scan_by, passes_at, place_in, takes_of, gives_of, takes_both, gives_both, Each, Begins, Each-append, Each-none, begins_more, place_at, Made, Known, Mapped, Tried, Loaded, KnowsClosed, AreFresh, WorkerState, Work, no_work, then_work, Does, does_none, does_then, fresh_none, fresh_then, AreScansOf, WordStep, steps_walked, told_step, Step, IsAmong, scan_made, scans_made, DidPass, DidAttempt, numbers_tried, number_made, DidWalk, counted_in, mapped_in, cleared_in, set_in, word_of, KnowsOnline, KnowsList, IsOneMore, AreBoth, IsWornBy, slice_cases, slice_left}
 use Rattle.shr_base.specs.declared.replies.Spent.TheVariants as spent
-use Rattle.shr_base.specs.declared.scripts.CacheDecl.{CacheDecl}
-use Rattle.shr_base.specs.declared.scripts.Command.{Command}
-use Rattle.shr_base.specs.declared.scripts.Script.{Script}
-use Rattle.shr_base.specs.declared.objects.Object.{Object}
-use Rattle.shr_base.specs.declared.walks.Attempt.{Attempt}
-use Rattle.shr_base.specs.declared.walks.PassRecord.{PassRecord}
-use Rattle.shr_base.specs.declared.walks.WalkRecord.{WalkRecord}
-use Rattle.shr_base.specs.declared.ends.PlaceAmount.{PlaceAmount}
-use Rattle.shr_model.specs.Deferred.{sum_at, amount_at}
-use Rattle.shr_model.specs.Scans.{ScanMade, scan_by}
-use Rattle.shr_model.specs.Walks.{passes_at, place_in}
-use Rattle.shr_deferred.specs.Moves.{takes_of, gives_of}
-use Rattle.shr_deferred.proofs.SeatLaws.{takes_both, gives_both}
-use Rattle.shr_seats.specs.Views.{Each}
-use Rattle.shr_seats.specs.Weights.{Begins}
-use Rattle.shr_seats.proofs.Weighing.{Each-append, Each-none, begins_more}
-use Rattle.shr_core.specs.Layout.{place_at}
-use Rattle.shr_core.specs.Parts.{Made, Known, Mapped, Tried, Loaded}
-use Rattle.shr_node.specs.Gains.{KnowsClosed}
-use Rattle.shr_walk.specs.Fresh.{AreFresh}
-use Rattle.shr_walk.specs.State.{WorkerState, Work, no_work, then_work, Does}
-use Rattle.shr_walk.proofs.Doing.{does_none, does_then}
-use Rattle.shr_walk.proofs.FreshLaws.{fresh_none, fresh_then}
-use Rattle.shr_report.specs.LawfulWalk.{AreScansOf}
-use Rattle.shr_report.specs.Takes.{WordStep, steps_walked}
-use Rattle.shr_assemble.specs.Deferred.{told_step}
 use Rattle.shr_charge.specs.Views as charge
-use Rattle.shr_assemble.specs.Steps.{Step, IsAmong}
-use Rattle.shr_assemble.specs.Attempts.{scan_made, scans_made, DidPass, DidAttempt}
-use Rattle.shr_assemble.specs.Lookups.{numbers_tried, number_made}
-use Rattle.shr_assemble.specs.Walks.{DidWalk, counted_in, mapped_in, cleared_in, set_in, word_of}
-use Rattle.shr_assemble.specs.Offlining.{KnowsOnline}
-use Rattle.shr_assemble.specs.Worn.{KnowsList, IsOneMore, AreBoth, IsWornBy}
 use Rattle.shr_assemble.proofs.Gathering.{among_left, among_right, among_begins}
 use Rattle.shr_assemble.proofs.KnownOnline.{online_before}
+use Rattle.shr_tables.proofs.First.{and_false}
 
 -- an entry is a Scan of one of these walks, which has a pass at its place
 pub record IsScanIn (by : Serial) (start : ℕ) (walks : List WalkRecord) (m : Made) (worker n : ℕ) : Type 0 where
@@ -72,21 +28,9 @@ OnlyScan by start walks m (Drained by' objects) = ⊥
 abbrev pub IsScanOne : Serial → ℕ → List WalkRecord → Made → Type 0
 IsScanOne by start walks m = OnlyScan by start walks m m.entry
 
--- a slice of a list and of what follows it
-pub slice_left : {A : Type 0} (l m : List A) (n : ℕ) (x : A) → slice_get l n ≡ Some x → slice_get (l ++ m) n ≡ Some x
-slice_left [] m n x e = absurd (none-some x e)
-slice_left (y ∷ l) m zero x e = e
-slice_left (y ∷ l) m (suc n) x e = slice_left l m n x e
-
 pub slice_right : {A : Type 0} (l m : List A) (n : ℕ) (x : A) → slice_get m n ≡ Some x → slice_get (l ++ m) (length l + n) ≡ Some x
 slice_right [] m n x e = subst (λ k. slice_get m k ≡ Some x) (let z : n ≡ 0 + n = omega arith in z) e
 slice_right (y ∷ l) m n x e = subst (λ k. slice_get (y ∷ (l ++ m)) k ≡ Some x) (let z : suc (length l + n) ≡ suc (length l) + n = omega arith in z) (slice_right l m n x e)
-
--- a slice of two lists together is one of the first, or of the second
-pub slice_cases : {A : Type 0} (l m : List A) (n : ℕ) (x : A) → slice_get (l ++ m) n ≡ Some x → (slice_get l n ≡ Some x) ⊎ ((k : ℕ) × (n ≡ length l + k) × (slice_get m k ≡ Some x))
-slice_cases [] m n x e = inr (n, omega arith, e)
-slice_cases (y ∷ l) m zero x e = inl e
-slice_cases (y ∷ l) m (suc n) x e = ⊎_elim (λ a. inl a) (λ b. let t = b.1 in inr (b.0, omega (arith, t), b.2)) (slice_cases l m n x e)
 
 only_left : (by : Serial) (start : ℕ) (v w : List WalkRecord) (m : Made) (e : Entry) → OnlyScan by start v m e → OnlyScan by start (v ++ w) m e
 only_left by start v w m (Scan worker n asked policy visits freed stopped) h = record { own = h.own; index = h.index; number = h.number; walk = h.walk; there = slice_left v w h.index h.walk h.there; passes = h.passes }
@@ -108,11 +52,6 @@ only_right by start later v w m (MovedIn child objects) l h = absurd h
 only_right by start later v w m Closed l h = absurd h
 only_right by start later v w m (Drained by' objects) l h = absurd h
 
--- a Scan of one of these walks is of no other
-and_no : (p q : Bool) → q ≡ false → (p && q) ≡ false
-and_no true q h = h
-and_no false q h = refl
-
 other_number : (k n start len i : ℕ) → k ≡ start + i → i < len → (n < start) ⊎ (start + len ≤ n) → k ≢ n
 other_number k n start len i is lt (inl a) same = omega (arith, a, same, is)
 other_number k n start len i is lt (inr b) same = omega (arith, b, same, is, lt)
@@ -121,7 +60,7 @@ not_scan : (by : Serial) (start : ℕ) (walks : List WalkRecord) (m : Made) (wor
 not_scan by start walks m worker n number (Scan w k asked policy visits freed stopped) out h =
     let lt = slice_get_within walks h.index h.walk h.there in let is = h.number in
     let other : k ≢ n = other_number k n start (length walks) h.index is lt out in
-    ap (λ (b : Bool). cond b (Some (record { number = number; asked = asked; policy = policy; freed = freed })) None) (and_no (w == worker) (k == n) (ne_eqb k n other))
+    ap (λ (b : Bool). cond b (Some (record { number = number; asked = asked; policy = policy; freed = freed })) None) (and_false (w == worker) (k == n) (ne_eqb k n other))
 not_scan by start walks m worker n number (Add by' birth added key value) out h = absurd h
 not_scan by start walks m worker n number (Look by' birth key hit) out h = absurd h
 not_scan by start walks m worker n number (Drop by' birth key kind) out h = absurd h

@@ -1,26 +1,6 @@
 -- What a walk showed, said of the script.
-use Rattle.std.proofs.Common.{◌≡◌, ℕ, ◌<◌, ◌^◌, List, length, refl, ap, subst, ◌∙◌, arith}
-use Rattle.std.specs.Prelude.{slice_get, Some}
-use Rattle.std.specs.List.{AllByRecursion}
-use Rattle.shr_base.specs.declared.objects.Object.{Object}
-use Rattle.shr_base.specs.declared.walks.Attempt.{Attempt}
-use Rattle.shr_base.specs.declared.walks.MapSeen.{MapSeen}
-use Rattle.shr_base.specs.declared.walks.PassRecord.{PassRecord}
-use Rattle.shr_model.specs.Attempts.{pass_of}
-use Rattle.shr_seats.specs.Views.{Each}
-use Rattle.shr_core.specs.Seats.{shape_of}
-use Rattle.shr_report.specs.Parts.{parents_of}
-use Rattle.shr_tree.specs.Tree.{Groups}
-use Rattle.shr_walk.specs.Keeping.{freed_in}
+use Rattle.shr_assemble.proofs.Common.{◌≡◌, ℕ, ◌<◌, ◌^◌, List, length, refl, ap, subst, ◌∙◌, arith, slice_get, Some, AllByRecursion, Object, Attempt, MapSeen, PassRecord, pass_of, Each, shape_of, parents_of, Groups, freed_in, IsShared, PassSeen, IsSeen, WorkerState, Work, Shared, Walk, IsSized, by_slices, some_at}
 use Rattle.shr_walk.specs.Records.{place_in}
-use Rattle.shr_walk.specs.Sharing.{IsShared}
-use Rattle.shr_walk.specs.Shown.{PassSeen, IsSeen}
-use Rattle.shr_walk.specs.State.{WorkerState, Work}
-use Rattle.shr_walk.specs.declared.seats.Shared.{Shared}
-use Rattle.shr_walk.specs.declared.walking.Walk.{Walk}
-use Rattle.shr_assemble.specs.Runs.{IsSized}
-use Rattle.shr_assemble.proofs.Gathering.{some_at}
-use Rattle.shr_assemble.proofs.Listed.{by_slices}
 use Rattle.shr_assemble.proofs.WalkingParts.{pass_is}
 
 -- the tables are those of a run: they belong together, and have the limits that the report's laws speak of

@@ -1,34 +1,14 @@
 -- The record of a walk is as it must be, by how the walk went.
-use Rattle.std.proofs.Common.{◌≡◌, ℕ, ◌+◌, ◌/◌, ◌<◌, ◌≤◌, ◌⊎◌, inr, ⊎_elim, true, false, List, [], ◌∷◌, ◌++◌, length, length-append, map, take, sym, refl, ap, subst, ◌∙◌, arith, sum}
-use Rattle.std.specs.Prelude.{slice_get, Some, flat_map, Contains, All, sum_by, filter_map}
-use Rattle.std.specs.List.{AllByRecursion, range_with_len}
-use Rattle.std.proofs.lemmas.List.{append-nil, map-id}
-use Rattle.std.proofs.lemmas.List.FromFn.{length-range_with_len, take-map-range_with_len}
-use Rattle.std.proofs.lemmas.Option.{none-some}
-use Rattle.std.proofs.Math.Seq.{take-append_seam}
-use Rattle.shr_base.specs.Kept.{Kept}
-use Rattle.shr_base.specs.declared.walks.Attempt.{Attempt}
+use Rattle.shr_assemble.proofs.Common.{◌≡◌, ℕ, ◌+◌, ◌/◌, ◌<◌, ◌≤◌, ◌⊎◌, inr, ⊎_elim, true, false, List, [], ◌∷◌, ◌++◌, length, length-append, map, take, sym, refl, ap, subst, ◌∙◌, arith, sum, slice_get, Some, flat_map, Contains, All, sum_by, filter_map, AllByRecursion, range_with_len, append-nil, map-id, length-range_with_len, none-some, take-append_seam, Kept, Attempt, MapSeen, PassRecord, WalkAnswer, pass_of, IsPrefixOf, Rise, shape_of, IsPlaced, IsBitWord, IsWalkWell, AreFresh, Rising, IsSeen, WorkerState, Work, IsRecordOf, record_of, parts_of, ids_in, up_to, IsUncut, IsCutLast, Shared, Walk, IsRecord}
+use Rattle.std.proofs.lemmas.List.FromFn.{take-map-range_with_len}
 use Rattle.shr_base.specs.declared.walks.Ending.TheVariants as ending
-use Rattle.shr_base.specs.declared.walks.MapSeen.{MapSeen}
-use Rattle.shr_base.specs.declared.walks.PassRecord.{PassRecord}
-use Rattle.shr_base.specs.declared.walks.WalkAnswer.{WalkAnswer}
 use Rattle.shr_base.specs.declared.walks.WalkAnswer.TheVariants as answered
-use Rattle.shr_model.specs.Attempts.{pass_of}
 use Rattle.shr_model.specs.Bits as bits
 use Rattle.shr_model.specs.Places as places
 use Rattle.shr_model.specs.Walks as walks
-use Rattle.shr_model.specs.Prefixes.{IsPrefixOf}
-use Rattle.shr_model.proofs.UnitsLaws.{Rise}
-use Rattle.shr_core.specs.Seats.{shape_of}
-use Rattle.shr_report.specs.LawfulWalk.{IsLastOfCut, IsPlaced}
-use Rattle.shr_report.specs.WellFormed.{AreRising, IsBitWord, IsWalkWell}
-use Rattle.shr_walk.specs.Fresh.{AreFresh, Rising}
-use Rattle.shr_walk.specs.Shown.{IsSeen}
-use Rattle.shr_walk.specs.State.{WorkerState, Work}
-use Rattle.shr_walk.specs.Walked.{IsRecordOf, record_of, parts_of, id_of, ids_in, unit_of, units_in, up_to, freed_of, IsUncut, IsCutLast}
-use Rattle.shr_walk.specs.declared.seats.Shared.{Shared}
-use Rattle.shr_walk.specs.declared.walking.Walk.{Walk}
-use Rattle.shr_assemble.specs.Walks.{IsRecord}
+use Rattle.shr_report.specs.LawfulWalk.{IsLastOfCut}
+use Rattle.shr_report.specs.WellFormed.{AreRising}
+use Rattle.shr_walk.specs.Walked.{id_of, unit_of, units_in, freed_of}
 use Rattle.shr_assemble.proofs.WalkingIds.{ups_are, all_ids_are, units_rise, tries_known, tries_stay}
 use Rattle.shr_assemble.proofs.WalkingTold.{IsTableOf, seen_bits}
 use Rattle.shr_assemble.proofs.WalkingParts.{part_at}

@@ -1,78 +1,24 @@
 -- The law of walks, of a run.
-use Rattle.std.proofs.Common.{◌≡◌, ℕ, zero, suc, ◌<◌, ◌≤◌, ◌≢◌, inl, inr, ⊎_elim, Bool, true, false, ◌||◌, cond, List, [], ◌∷◌, ◌++◌, length, map, sym, refl, ap, subst, ◌∙◌, arith, eqb, eq-eqb}
-use Rattle.std.specs.Prelude.{slice_get, Option, Some, flat_map, filter, count_by, option_and_then}
-use Rattle.std.specs.List.{AllByRecursion, list_any}
-use Rattle.std.specs.Option.{IsSomeAnd}
-use Rattle.std.proofs.lemmas.List.{append-nil}
-use mathlib.Core.Logic.{dite}
-use native.Mathlib.Decide.{ℕ_discrete}
-use Rattle.std.proofs.lemmas.Bool.{and_parts, and_from, eqb-true}
-use Rattle.std.proofs.lemmas.Option.{same_Some, none-some}
-use Rattle.shr_base.specs.declared.places.Place.{Place}
-use Rattle.shr_base.specs.declared.places.Serial.{Serial}
-use Rattle.shr_base.specs.declared.journals.Entry.{Entry}
-use Rattle.shr_base.specs.declared.journals.Entry.TheVariants.{Add, Look, Drop, Pin, Scan, MovedIn, Closed, Drained}
-use Rattle.shr_base.specs.declared.replies.Answered.{Answered}
-use Rattle.shr_base.specs.declared.replies.Reply.{Reply}
+use Rattle.shr_assemble.proofs.Common.{◌≡◌, ℕ, zero, suc, ◌<◌, ◌≤◌, ◌≢◌, inl, inr, ⊎_elim, Bool, true, false, ◌||◌, cond, List, [], ◌∷◌, ◌++◌, length, map, sym, refl, ap, subst, ◌∙◌, arith, slice_get, Option, Some, flat_map, filter, count_by, option_and_then, AllByRecursion, list_any, IsSomeAnd, append-nil, dite, ℕ_discrete, same_Some, none-some, Place, Serial, Entry, Add, Look, Drop, Pin, Scan, MovedIn, Closed, Drained, Answered, Reply, Command, Put, Script, Attempt, MapSeen, WalkRecord, Count, counts_of, is_clearing, is_set, ops_by, is_refused, is_serial, jobs_of, place_number, is_place, unit_of, bit_of, job_of, place_in, passes_at, versions_at, clearings_of, is_place_same, is_place_itself, times, only, Begins, total-append, some_term, only_no, place_at, map_number, Made, Mapped, back, Report, parents_of, limit_of, journals_of, serial_of, walks_by, walk_at, all_walks, cited_at, cited_by, uses_at, items_before, at, IsThere, IsToldBy, FillsPlace, Covers, Step, IsAmong, gathered, steps_of, IsSetLast, IsCited, mapped_in, cleared_in, word_of, DidRoundsOf, DidJobs, AreWalksFor, ops_at, all_cleared, IsMapOf, IsRun, Has, filter_has, map_has, Has_flat_map, at_some, by_slices, some_at, serial_itself}
 use Rattle.shr_base.specs.declared.replies.Reply.TheVariants as reply
-use Rattle.shr_base.specs.declared.scripts.Command.{Command}
-use Rattle.shr_base.specs.declared.scripts.Command.TheVariants.{Put}
-use Rattle.shr_base.specs.declared.scripts.Script.{Script}
-use Rattle.shr_base.specs.declared.walks.Attempt.{Attempt}
-use Rattle.shr_base.specs.declared.walks.MapSeen.{MapSeen}
-use Rattle.shr_base.specs.declared.walks.WalkRecord.{WalkRecord}
-use Rattle.shr_model.specs.Attempts.{Count, counts_of, is_clearing}
-use Rattle.shr_model.specs.Bits.{is_set}
-use Rattle.shr_model.specs.Charges.{ops_by, is_refused}
-use Rattle.shr_model.specs.Commands.{is_serial, jobs_of}
-use Rattle.shr_model.specs.Places.{place_number, is_place, unit_of, bit_of}
-use Rattle.shr_model.specs.Walks.{job_of, place_in, passes_at, versions_at, clearings_of}
-use Rattle.shr_model.proofs.PlacesLaws.{is_place_same, is_place_itself}
-use Rattle.shr_seats.specs.Weights.{times, only, Begins}
-use Rattle.shr_seats.proofs.Weighing.{total-append, some_term, only_no}
-use Rattle.shr_core.specs.Layout.{place_at, map_number}
-use Rattle.shr_core.specs.Parts.{Made, Mapped}
-use Rattle.shr_core.proofs.Listing.{back}
-use Rattle.shr_report.specs.declared.report.Report.{Report}
-use Rattle.shr_report.specs.Parts.{parents_of, limit_of, journals_of, serial_of, walks_by, walk_at, all_walks, cited_at, cited_by, uses_at, items_before, at, IsThere}
-use Rattle.shr_report.specs.WalksLawful.{IsOfPass, AreRoundsOf, AreWalksOf, IsToldBy, MayMake, FillsPlace, Covers, was_cleared, AreWalksLawful}
-use Rattle.shr_assemble.specs.Steps.{Step, IsAmong, gathered, steps_of}
+use Rattle.shr_report.specs.WalksLawful.{IsOfPass, AreRoundsOf, AreWalksOf, MayMake, was_cleared, AreWalksLawful}
 use Rattle.shr_assemble.specs.Entries as entries
-use Rattle.shr_assemble.specs.Entries.{IsSetLast, IsCited}
-use Rattle.shr_assemble.specs.Walks.{mapped_in, cleared_in, word_of, DidRoundsOf, DidJobs, AreWalksFor}
-use Rattle.shr_assemble.specs.Charges.{ops_at}
-use Rattle.shr_assemble.specs.Runs.{all_cleared, IsMapOf, IsRun}
-use Rattle.shr_assemble.proofs.Gathering.{each_among, gathered_has, among_right, among_begins, among_flat, flat_among, has_step, some_at, at_some}
-use Rattle.shr_assemble.proofs.Listed.{by_slices, no_test}
+use Rattle.shr_assemble.proofs.Gathering.{each_among, gathered_has, among_right, among_begins, among_flat, flat_among, has_step}
+use Rattle.shr_assemble.proofs.Listed.{no_test}
 use Rattle.shr_assemble.proofs.Making.{work_of, grows, made_stands, maker, Stepped, stepped, replies, back_there}
 use Rattle.shr_assemble.proofs.Operations.{ops_are, has_among, among_has}
-use Rattle.shr_model.proofs.Members.{Has, filter_has, map_has, Has_flat_map}
 use Rattle.shr_assemble.proofs.Flattening.{all_walks_are, WalkOf, walk_of, walk_there}
 use Rattle.shr_assemble.proofs.LawfulWalks.{lawful_walk, count_made, among_map}
 use Rattle.shr_assemble.proofs.VersionsLaw.{versions_fall_not}
+use Rattle.shr_units.proofs.DueLaw.{filter_both}
+use Rattle.shr_assemble.proofs.DeferredLaw.{filter_none}
+use Rattle.shr_assemble.proofs.LimitsLaw.{serial_same}
 
 -- ---- the walks of a command
-pub is_serial_own : (x : Serial) → is_serial x x ≡ true
-is_serial_own x = and_from (eqb x.worker x.worker) (eqb x.command x.command) (eq-eqb x.worker x.worker refl) (eq-eqb x.command x.command refl)
-
-pub is_serial_same : (x y : Serial) → is_serial x y ≡ true → x ≡ y
-is_serial_same x y h = let t = and_parts (eqb x.worker y.worker) (eqb x.command y.command) h in let w = eqb-true x.worker y.worker t.0 in let c = eqb-true x.command y.command t.1 in λ i. record { worker = w i; command = c i }
 
 filter_all : {A : Type 0} (p : A → Bool) (xs : List A) → ((k : ℕ) (x : A) → slice_get xs k ≡ Some x → p x ≡ true) → filter p xs ≡ xs
 filter_all p [] h = refl
 filter_all p (x ∷ xs) h = ap (λ b. cond b (x ∷ filter p xs) (filter p xs)) (h 0 x refl) ∙ ap (λ l. x ∷ l) (filter_all p xs (λ k y e. h (suc k) y e))
-
-filter_nothing : {A : Type 0} (p : A → Bool) (xs : List A) → ((k : ℕ) (x : A) → slice_get xs k ≡ Some x → p x ≡ false) → filter p xs ≡ []
-filter_nothing p [] h = refl
-filter_nothing p (x ∷ xs) h = ap (λ b. cond b (x ∷ filter p xs) (filter p xs)) (h 0 x refl) ∙ filter_nothing p xs (λ k y e. h (suc k) y e)
-
-filter_both : {A : Type 0} (p : A → Bool) (xs ys : List A) → filter p (xs ++ ys) ≡ filter p xs ++ filter p ys
-filter_both p [] ys = refl
-filter_both p (x ∷ xs) ys = kept (p x) (filter_both p xs ys)
-  where
-    kept : (b : Bool) → filter p (xs ++ ys) ≡ filter p xs ++ filter p ys → cond b (x ∷ filter p (xs ++ ys)) (filter p (xs ++ ys)) ≡ cond b (x ∷ filter p xs) (filter p xs) ++ filter p ys
-    kept true e = ap (λ l. x ∷ l) e
-    kept false e = e
 
 -- the part of one element, where the test holds of its part and of no other
 pub filter_part : {A B : Type 0} (p : B → Bool) (f : A → List B) (xs : List A) (i : ℕ) (x : A) → slice_get xs i ≡ Some x
@@ -84,9 +30,9 @@ filter_part {A} {B} p f (z ∷ xs) zero x at own others = let same : z ≡ x = s
   where
     nothing : (vs : List A) → ((k j : ℕ) (v : A) (y : B) → slice_get vs k ≡ Some v → slice_get (f v) j ≡ Some y → p y ≡ false) → filter p (flat_map f vs) ≡ []
     nothing [] h = refl
-    nothing (v ∷ vs) h = filter_both p (f v) (flat_map f vs) ∙ (ap (λ l. l ++ filter p (flat_map f vs)) (filter_nothing p (f v) (λ j y d. h 0 j v y refl d)) ∙ nothing vs (λ k j u y e d. h (suc k) j u y e d))
+    nothing (v ∷ vs) h = filter_both p (f v) (flat_map f vs) ∙ (ap (λ l. l ++ filter p (flat_map f vs)) (filter_none p (f v) (λ j y d. h 0 j v y refl d)) ∙ nothing vs (λ k j u y e d. h (suc k) j u y e d))
 filter_part p f (z ∷ xs) (suc i) x at own others = filter_both p (f z) (flat_map f xs)
-    ∙ (ap (λ l. l ++ filter p (flat_map f xs)) (filter_nothing p (f z) (λ j y d. others 0 j z y refl (λ s. omega (arith, s)) d)) ∙ filter_part p f xs i x at own (λ k j v y e ne d. others (suc k) j v y e (λ s. ne (omega (arith, s))) d))
+    ∙ (ap (λ l. l ++ filter p (flat_map f xs)) (filter_none p (f z) (λ j y d. others 0 j z y refl (λ s. omega (arith, s)) d)) ∙ filter_part p f xs i x at own (λ k j v y e ne d. others (suc k) j v y e (λ s. ne (omega (arith, s))) d))
 
 module _ (s : Script) (r : Report) (workers : List (List Step)) (run : IsRun s r workers) where
   pub walks_are : (worker k : ℕ) (x : Step) → slice_get (steps_of workers worker) k ≡ Some x → walks_by r (serial_of worker k) ≡ x.work.walks
@@ -97,10 +43,10 @@ module _ (s : Script) (r : Report) (workers : List (List Step)) (run : IsRun s r
       by_of j i y w at_y at_w = let is = run.steps.each worker j y at_y in (is.did.walks.each i w at_w).by ∙ is.by
 
       own : (j : ℕ) (w : WalkRecord) → slice_get x.work.walks j ≡ Some w → is_serial (serial_of worker k) w.by ≡ true
-      own j w e = ap (is_serial (serial_of worker k)) (by_of k j x w at e) ∙ is_serial_own (serial_of worker k)
+      own j w e = ap (is_serial (serial_of worker k)) (by_of k j x w at e) ∙ serial_itself (serial_of worker k)
 
       others : (i j : ℕ) (y : Step) (w : WalkRecord) → slice_get (steps_of workers worker) i ≡ Some y → i ≢ k → slice_get y.work.walks j ≡ Some w → is_serial (serial_of worker k) w.by ≡ false
-      others i j y w at_y ne e = no_test (is_serial (serial_of worker k) w.by) (λ same. ne (ap (λ (z : Serial). z.command) (sym (is_serial_same (serial_of worker k) w.by same ∙ by_of i j y w at_y e))))
+      others i j y w at_y ne e = no_test (is_serial (serial_of worker k) w.by) (λ same. ne (ap (λ (z : Serial). z.command) (sym (serial_same (serial_of worker k) w.by same ∙ by_of i j y w at_y e))))
 
   -- ---- the Scan entries are those of passes
   scan_of_pass : (place : Place) (e : Entry) (x : Step) (m : Made) (worker k : ℕ) → slice_get (steps_of workers worker) k ≡ Some x → place_at m.place ≡ place → entries.MayMake s x m e → IsOfPass r place e

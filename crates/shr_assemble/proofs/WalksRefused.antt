@@ -1,18 +1,7 @@
 -- A walk of a group that its worker was shown to be offline finds it offline, of a run.
-use Rattle.std.proofs.Common.{◌≡◌, ℕ, ◌<◌, List, ap, ◌∙◌, arith}
-use Rattle.std.specs.Prelude.{Some, true}
-use Rattle.std.proofs.lemmas.Option.{slice_get_within}
-use Rattle.shr_base.specs.declared.places.Serial.{Serial}
-use Rattle.shr_base.specs.declared.scripts.Script.{Script}
-use Rattle.shr_base.specs.declared.walks.WalkAnswer.{WalkAnswer}
+use Rattle.shr_assemble.proofs.Common.{◌≡◌, ℕ, ◌<◌, List, ap, ◌∙◌, arith, Some, true, slice_get_within, Serial, Script, WalkAnswer, WalkRecord, Report, shows_offline, serial_of, walk_at, Step, steps_of, IsRun}
 use Rattle.shr_base.specs.declared.walks.WalkAnswer.TheVariants as walk
-use Rattle.shr_base.specs.declared.walks.WalkRecord.{WalkRecord}
-use Rattle.shr_report.specs.declared.report.Report.{Report}
 use Rattle.shr_report.specs.Faithful.{IsRefused}
-use Rattle.shr_report.specs.Freshness.{shows_offline}
-use Rattle.shr_report.specs.Parts.{serial_of, walk_at}
-use Rattle.shr_assemble.specs.Steps.{Step, steps_of}
-use Rattle.shr_assemble.specs.Runs.{IsRun}
 use Rattle.shr_assemble.proofs.Crews.{there_at}
 use Rattle.shr_assemble.proofs.Flattening.{walk_of}
 use Rattle.shr_assemble.proofs.FreshLaw.{knows_offline, below_root}

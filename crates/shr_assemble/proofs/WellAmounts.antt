@@ -1,18 +1,9 @@
 -- The deferred words that are printed stand in the order of their places.
-use Rattle.std.proofs.Common.{◌≡◌, ℕ, ◌+◌, ◌*◌, ◌/◌, ◌%◌, ◌<◌, ◌≤◌, ◌^◌, ◌⊎◌, inl, inr, ⊎_elim, Bool, true, false, not, eq-eqb, List, [], ◌∷◌, length, map, sym, refl, ap, ◌∙◌, arith}
-use Rattle.std.specs.Prelude.{filter, if◌then◌else◌, ◌==◌}
-use Rattle.std.specs.List.{AllByRecursion, AllAdjacentBelow, range_with_len}
-use Rattle.std.proofs.lemmas.Bool.{cases_order}
-use Rattle.std.proofs.lemmas.List.FromFn.{get_or-range_with_len, length-range_with_len}
-use Rattle.std.proofs.lemmas.Option.{get_or_from_slice_get, slice_get_within}
-use Rattle.std.proofs.Math.Nat.{mul-le-mul_right, mod-add-div', mod-lt}
-use Rattle.shr_base.specs.declared.ends.PlaceAmount.{PlaceAmount}
-use Rattle.shr_model.specs.Deferred.{amount_of}
-use Rattle.shr_seats.specs.declared.rows.Sizes.{Sizes}
-use Rattle.shr_seats.specs.Rows.{place_in, row_count}
-use Rattle.shr_deferred.specs.Left.{is_some_amount, amounts}
-use Rattle.shr_report.specs.WellFormed.{IsPlaceBefore, IsNumbered, IsAmountWell}
-use Rattle.shr_assemble.proofs.Listed.{by_slices}
+use Rattle.shr_assemble.proofs.Common.{◌≡◌, ℕ, ◌+◌, ◌*◌, ◌/◌, ◌%◌, ◌<◌, ◌≤◌, ◌^◌, ◌⊎◌, inl, inr, ⊎_elim, Bool, true, false, not, eq-eqb, List, [], ◌∷◌, length, map, sym, refl, ap, ◌∙◌, arith, filter, if◌then◌else◌, ◌==◌, AllByRecursion, AllAdjacentBelow, range_with_len, cases_order, get_or-range_with_len, length-range_with_len, get_or_from_slice_get, slice_get_within, mod-lt, PlaceAmount, amount_of, Sizes, row_count, is_some_amount, IsPlaceBefore, IsAmountWell, by_slices}
+use Rattle.std.proofs.Math.Nat.{mul-le-mul_right, mod-add-div'}
+use Rattle.shr_seats.specs.Rows.{place_in}
+use Rattle.shr_deferred.specs.Left.{amounts}
+use Rattle.shr_report.specs.WellFormed.{IsNumbered}
 use Rattle.shr_assemble.proofs.Operations.{PairsRec, pairs_by_slices, pairs_filter}
 use Rattle.shr_assemble.proofs.WellPairs.{pairs_map, adjacent}
 

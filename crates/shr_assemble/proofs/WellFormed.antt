@@ -1,35 +1,14 @@
 -- The report of a run is well formed.
-use Rattle.std.proofs.Common.{◌≡◌, ℕ, suc, ◌+◌, ◌<◌, ◌≤◌, ◌^◌, ◌⊎◌, inl, inr, ⊎_elim, Bool, true, false, List, [], ◌∷◌, ◌++◌, length, length-append, map, take, get_or, sym, refl, ap, subst, ◌∙◌, arith, eq-eqb}
-use Rattle.std.specs.Prelude.{slice_get, Some, filter, codes, All, if◌then◌else◌, ◌==◌}
-use Rattle.std.specs.List.{AllByRecursion, AllAdjacentBelow, range_with_len}
-use Rattle.std.proofs.lemmas.List.{get_or-map, length-map, length-take, length-take-le}
-use Rattle.std.proofs.lemmas.Option.{slice_get-get_or}
-use Rattle.shr_base.specs.declared.ends.MapEnd.{MapEnd}
-use Rattle.shr_base.specs.declared.ends.PlaceAmount.{PlaceAmount}
-use Rattle.shr_base.specs.declared.ends.PlaceEnd.{PlaceEnd}
-use Rattle.shr_base.specs.declared.ends.WorkerPart.{WorkerPart}
-use Rattle.shr_base.specs.declared.journals.UseStep.{UseStep}
-use Rattle.shr_base.specs.declared.scripts.CacheDecl.{CacheDecl}
-use Rattle.shr_base.specs.declared.scripts.GroupDecl.{GroupDecl}
-use Rattle.shr_base.specs.declared.scripts.PoolDecl.{PoolDecl}
-use Rattle.shr_base.specs.declared.scripts.Script.{Script}
+use Rattle.shr_assemble.proofs.Common.{◌≡◌, ℕ, suc, ◌+◌, ◌<◌, ◌≤◌, ◌^◌, ◌⊎◌, inl, inr, ⊎_elim, Bool, true, false, List, [], ◌∷◌, ◌++◌, length, length-append, map, take, get_or, sym, refl, ap, subst, ◌∙◌, arith, eq-eqb, slice_get, Some, filter, codes, All, if◌then◌else◌, ◌==◌, AllByRecursion, AllAdjacentBelow, range_with_len, length-map, length-take-le, slice_get-get_or, MapEnd, PlaceAmount, PlaceEnd, WorkerPart, UseStep, CacheDecl, GroupDecl, PoolDecl, Script, place_number, last_number, nodes_below, IsWithin, content_of, Report, uses_at, IsPlaceBefore, map_units, bit_places, IsAmountWell, IsBitWord, HasWords, IsSpelled, IsWellFormed, IsPoolAmountWell, StandsBefore, IsLastAnswered, Step, IsRun, by_slices}
+use Rattle.std.proofs.lemmas.List.{get_or-map, length-take}
 use Rattle.shr_model.specs.Paths.{is_path}
-use Rattle.shr_model.specs.Places.{place_number}
-use Rattle.shr_model.specs.Pool.{last_number}
 use Rattle.shr_model.specs.Words.{is_name}
-use Rattle.shr_core.specs.Ending.{nodes_below}
-use Rattle.shr_script.specs.Bounds.{IsWithin, IsPoolWithin}
-use Rattle.shr_script.specs.Content.{content_of}
-use Rattle.shr_report.specs.declared.report.Report.{Report}
-use Rattle.shr_report.specs.Parts.{hierarchy_of, uses_at}
-use Rattle.shr_report.specs.WellFormed.{IsPlaceBefore, IsUseBefore, map_units, bit_places, IsPlaceWell, IsAmountWell, IsBitWord, HasWords, IsSpelled, IsWellFormed, IsPoolAmountWell}
+use Rattle.shr_script.specs.Bounds.{IsPoolWithin}
+use Rattle.shr_report.specs.Parts.{hierarchy_of}
+use Rattle.shr_report.specs.WellFormed.{IsUseBefore, IsPlaceWell}
 use Rattle.shr_report.proofs.PlaceOrder.{IsLow, before_by_number}
 use Rattle.shr_units.proofs.FormLaw.{entered, unit_order}
-use Rattle.shr_assemble.specs.Makes.{StandsBefore}
-use Rattle.shr_assemble.specs.Noting.{IsLastAnswered}
-use Rattle.shr_assemble.specs.Steps.{Step}
-use Rattle.shr_assemble.specs.Runs.{IsRun}
-use Rattle.shr_assemble.proofs.Listed.{all_slice, by_slices}
+use Rattle.shr_assemble.proofs.Listed.{all_slice}
 use Rattle.shr_assemble.proofs.Operations.{PairsRec, history_rises}
 use Rattle.shr_assemble.proofs.Printing.{get_taken}
 use Rattle.shr_assemble.proofs.WellJournals.{pool_numbered, tree_numbered}

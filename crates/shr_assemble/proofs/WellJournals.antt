@@ -1,26 +1,13 @@
 -- The numbers in the journals of registrations and of the tree have the ranges of their types.
-use Rattle.std.proofs.Common.{◌≡◌, ℕ, zero, suc, ◌+◌, ◌-◌, ◌<◌, ◌≤◌, ◌^◌, Bool, cond, List, length, take, sym, refl, ap, subst, ◌∙◌, arith, eq-eqb, ne_eqb}
-use Rattle.std.specs.Prelude.{slice_get, Option, Some, None, ◌==◌}
-use Rattle.std.specs.List.{AllByRecursion}
-use Rattle.std.proofs.lemmas.List.{take-take, take_all}
-use Rattle.std.proofs.lemmas.Option.{slice_get_within}
-use mathlib.Core.Logic.{dite}
-use native.Mathlib.Decide.{ℕ_discrete, dec_lt}
-use Rattle.shr_base.specs.declared.journals.PoolEntry.{PoolEntry}
-use Rattle.shr_base.specs.declared.journals.PoolEntry.TheVariants.{Registered, Unregistered, Idle}
-use Rattle.shr_base.specs.declared.journals.TreeEntry.{TreeEntry}
-use Rattle.shr_base.specs.declared.journals.TreeEntry.TheVariants.{Begin, Done, Made}
-use Rattle.shr_model.specs.Pool.{phase_of, number_after, last_number, IsNextPool, IsPoolJournal}
-use Rattle.shr_model.specs.Groups.{Hierarchy}
-use Rattle.shr_model.specs.TreeJournal.{begin_of, IsTreeJournal}
+use Rattle.shr_assemble.proofs.Common.{◌≡◌, ℕ, zero, suc, ◌+◌, ◌-◌, ◌<◌, ◌≤◌, ◌^◌, Bool, cond, List, length, take, sym, refl, ap, subst, ◌∙◌, arith, eq-eqb, ne_eqb, slice_get, Option, Some, None, ◌==◌, AllByRecursion, take_all, slice_get_within, dite, ℕ_discrete, dec_lt, PoolEntry, Registered, Unregistered, Idle, TreeEntry, Begin, Done, phase_of, number_after, last_number, IsNextPool, IsPoolJournal, Hierarchy, begin_of, IsTreeJournal, past_none, begin_at, take_below, at_some, by_slices, some_at}
+use Rattle.std.proofs.lemmas.List.{take-take}
+use Rattle.shr_base.specs.declared.journals.TreeEntry.TheVariants.{Made}
 use Rattle.shr_model.proofs.PoolLaws.{number_from_push}
-use Rattle.shr_core.proofs.PoolLengths.{declared_in, past_none}
+use Rattle.shr_core.proofs.PoolLengths.{declared_in}
 use Rattle.shr_report.specs.WellFormed.{IsPoolNumbered, IsTreeNumbered}
 use Rattle.shr_assemble.proofs.FreePool.{idle_is, take_one, take_past}
-use Rattle.shr_assemble.proofs.Gathering.{some_at, at_some}
-use Rattle.shr_assemble.proofs.Listed.{by_slices}
-use Rattle.shr_assemble.proofs.Printing.{get_taken, taken_within}
-use Rattle.shr_charge.proofs.TreeFacts.{begin_at, the_some}
+use Rattle.shr_assemble.proofs.Printing.{get_taken}
+use Rattle.shr_charge.proofs.TreeFacts.{the_some}
 
 -- the number after an entry of the id is the entry's
 own_number : (id n m : ℕ) → cond (id == id) n m ≡ n
@@ -32,7 +19,7 @@ module _ (ids decls : ℕ) (es : List PoolEntry) (journal : IsPoolJournal ids de
 
   -- each beginning is a journal of registrations
   front : (k : ℕ) → IsPoolJournal ids decls (take k es)
-  front k n e at = let there = at_some (take k es) n e at in let lt = taken_within es k n e there in
+  front k n e at = let there = at_some (take k es) n e at in let lt = take_below es k n e there in
       subst (λ (l : List PoolEntry). IsNextPool ids decls l e) (sym (take-take n k es (omega (arith, lt)))) (next_of n e (sym (get_taken es k n lt) ∙ there))
 
   after_next : (i : ℕ) (before : List PoolEntry) (e : PoolEntry) → IsNextPool ids decls before e → last_number i before ≤ number_after i (last_number i before) e
@@ -85,7 +72,7 @@ module _ (h : Hierarchy) (es : List TreeEntry) (journal : IsTreeJournal h es) (f
   group_of k (Done g) at =
       let t = the_some (begin_of (take k es) g) (journal k (Done g) at).begun in
       let begun = begin_at (take k es) g t.0 t.1 in
-      let there = (journal t.0 (Begin g) (sym (get_taken es k t.0 (taken_within es k t.0 (Begin g) begun)) ∙ begun)).there in omega (arith, there, few)
+      let there = (journal t.0 (Begin g) (sym (get_taken es k t.0 (take_below es k t.0 (Begin g) begun)) ∙ begun)).there in omega (arith, there, few)
   group_of k (Made g) at = let there = (journal k (Made g) at).there in omega (arith, there, few)
 
   pub tree_numbered : AllByRecursion IsTreeNumbered es

@@ -1,13 +1,7 @@
 -- The bit words that are printed stand by node, group and unit.
-use Rattle.std.proofs.Common.{◌≡◌, ℕ, zero, suc, ◌+◌, ◌-◌, Bool, List, [], ◌∷◌, ◌++◌, map, sym, refl, ap, ◌∙◌, arith, ne_eqb}
-use Rattle.std.specs.Prelude.{flat_map, if◌then◌else◌, ◌==◌}
-use Rattle.std.specs.List.{range_with_len}
-use Rattle.std.proofs.lemmas.Grind.{flat_map-append}
-use Rattle.std.proofs.lemmas.List.{append-nil, map-append}
-use Rattle.shr_base.specs.declared.ends.MapEnd.{MapEnd}
+use Rattle.shr_assemble.proofs.Common.{◌≡◌, ℕ, zero, suc, ◌+◌, ◌-◌, Bool, List, [], ◌∷◌, ◌++◌, map, sym, refl, ap, ◌∙◌, arith, ne_eqb, flat_map, if◌then◌else◌, ◌==◌, range_with_len, flat_map-append, append-nil, map-append, MapEnd, map_number, bit_places}
 use Rattle.shr_core.specs.Ending.{units_below, groups_below, nodes_below}
-use Rattle.shr_core.specs.Layout.{map_number}
-use Rattle.shr_report.specs.WellFormed.{bit_places}
+use Rattle.shr_assemble.proofs.WalkingIds.{range_suc}
 
 -- where a bit word stands
 abbrev pub where_is : MapEnd → ℕ × ℕ × ℕ
@@ -16,9 +10,6 @@ where_is m = (m.node, m.group, m.unit)
 range_more : (a n : ℕ) → range_with_len a (suc n) ≡ range_with_len a n ++ (a + n) ∷ []
 range_more a zero = ap (λ x. x ∷ []) (omega arith)
 range_more a (suc n) = ap (λ l. a ∷ l) (range_more (a + 1) n ∙ ap (λ x. range_with_len (a + 1) n ++ x ∷ []) (omega arith))
-
-from_none : (n : ℕ) → range_with_len 0 (suc n) ≡ range_with_len 0 n ++ n ∷ []
-from_none n = range_more 0 n ∙ ap (λ k. range_with_len 0 n ++ k ∷ []) (let e : 0 + n ≡ n = omega arith in e)
 
 -- the units of a group
 abbrev cell : ℕ → ℕ → ℕ → List (ℕ × ℕ × ℕ)
@@ -34,7 +25,7 @@ cell_is zero node group bits = refl
 cell_is (suc unit) node group bits =
     map-append where_is (units_below unit node group bits) (word_at node group unit bits ∷ [])
     ∙ (ap (λ l. l ++ (node, group, unit) ∷ []) (cell_is unit node group bits)
-    ∙ (sym (map-append (λ u. (node, group, u)) (range_with_len 0 unit) (unit ∷ [])) ∙ ap (map (λ u. (node, group, u))) (sym (from_none unit))))
+    ∙ (sym (map-append (λ u. (node, group, u)) (range_with_len 0 unit) (unit ∷ [])) ∙ ap (map (λ u. (node, group, u))) (sym (range_suc unit))))
 
 -- the groups of a node, below a number and from 1
 abbrev row : ℕ → ℕ → ℕ → List (ℕ × ℕ × ℕ)
@@ -65,4 +56,4 @@ table_is units groups (suc node) bits =
     map-append where_is (nodes_below units groups node bits) (groups_below units groups node bits)
     ∙ (ap (λ l. l ++ map where_is (groups_below units groups node bits)) (table_is units groups node bits)
     ∙ (ap (λ l. bit_places node groups (range_with_len 0 units) ++ l) (row_is units groups node bits ∙ sym (append-nil (row units groups node)))
-    ∙ (sym (flat_map-append (row units groups) (range_with_len 0 node) (node ∷ [])) ∙ ap (flat_map (row units groups)) (sym (from_none node)))))
+    ∙ (sym (flat_map-append (row units groups) (range_with_len 0 node) (node ∷ [])) ∙ ap (flat_map (row units groups)) (sym (range_suc node)))))

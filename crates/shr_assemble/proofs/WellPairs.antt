@@ -1,9 +1,5 @@
 -- Orders of lists, by pairs and by neighbours.
-use Rattle.std.proofs.Common.{◌≡◌, zero, suc, ◌+◌, List, [], ◌∷◌, ◌++◌, length, map, get_or, ap, subst, arith}
-use Rattle.std.specs.Prelude.{flat_map}
-use Rattle.std.specs.List.{AllByRecursion, AllAdjacentBelow}
-use Rattle.std.proofs.lemmas.Option.{slice_get-get_or}
-use Rattle.shr_model.proofs.BagLaws.{each_append}
+use Rattle.shr_assemble.proofs.Common.{◌≡◌, zero, suc, ◌+◌, List, [], ◌∷◌, ◌++◌, length, map, get_or, ap, subst, arith, flat_map, AllByRecursion, AllAdjacentBelow, slice_get-get_or, each_append}
 use Rattle.shr_assemble.proofs.Listed.{all_slice_by}
 use Rattle.shr_assemble.proofs.Operations.{PairsRec}
 

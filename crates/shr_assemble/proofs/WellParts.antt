@@ -1,31 +1,14 @@
 -- The part of a worker in the report of a run is well formed: its walks and its carries stand in the order of its commands.
-use Rattle.std.proofs.Common.{◌≡◌, ℕ, ◌<◌, ◌≤◌, List, [], ◌∷◌, length, map, sym, ap, subst, ◌∙◌, arith}
-use Rattle.std.specs.Prelude.{slice_get, Option, Some, flat_map}
-use Rattle.std.specs.List.{AllByRecursion, AllAdjacentBelow}
-use Rattle.std.proofs.lemmas.Option.{slice_get_within}
-use Rattle.shr_base.specs.declared.ends.WorkerPart.{WorkerPart}
-use Rattle.shr_base.specs.declared.places.Serial.{Serial}
-use Rattle.shr_base.specs.declared.replies.Answered.{Answered}
-use Rattle.shr_base.specs.declared.scripts.Script.{Script}
-use Rattle.shr_base.specs.declared.walks.Carry.{Carry}
+use Rattle.shr_assemble.proofs.Common.{◌≡◌, ℕ, ◌<◌, ◌≤◌, List, [], ◌∷◌, length, map, sym, ap, subst, ◌∙◌, arith, slice_get, Option, Some, flat_map, AllByRecursion, AllAdjacentBelow, slice_get_within, WorkerPart, Serial, Answered, Script, Carry, Isolation, WalkRecord, IsWithin, content_of, Report, serial_of, LendsWord, IsBefore, AreNotFalling, IsWalkWell, DidCarry, isolated_in, Step, steps_of, IsRun, by_slices}
 use Rattle.shr_base.specs.declared.walks.PlainWalk.{PlainWalk}
-use Rattle.shr_base.specs.declared.walks.Isolation.{Isolation}
-use Rattle.shr_base.specs.declared.walks.WalkRecord.{WalkRecord}
-use Rattle.shr_script.specs.Bounds.{IsWithin}
-use Rattle.shr_script.specs.Content.{content_of}
-use Rattle.shr_report.specs.declared.report.Report.{Report}
-use Rattle.shr_report.specs.Parts.{serial_of, answers_in, walks_in, carries_in, isolations_in}
-use Rattle.shr_report.specs.WellFormed.{LendsWord, IsBefore, IsCarryBefore, AreNotFalling, IsWalkWell, AreOfCommands, IsPartWell}
+use Rattle.shr_report.specs.Parts.{answers_in, walks_in, carries_in, isolations_in}
+use Rattle.shr_report.specs.WellFormed.{IsCarryBefore, AreOfCommands, IsPartWell}
 use Rattle.shr_report.specs.UnitParts.{plain_in}
 use Rattle.shr_units.proofs.FormLaw.{plain_order}
-use Rattle.shr_assemble.specs.Deferred.{DidCarry}
-use Rattle.shr_assemble.specs.Isolating.{isolated_in}
-use Rattle.shr_assemble.specs.Steps.{Step, steps_of}
-use Rattle.shr_assemble.specs.Runs.{IsRun}
 use Rattle.shr_assemble.proofs.Flattening.{answers_are, slice_map}
 use Rattle.shr_assemble.proofs.Gathering.{flat_at}
 use Rattle.shr_assemble.proofs.IsolationSteps.{first_told, told_once, told_by}
-use Rattle.shr_assemble.proofs.Listed.{all_slice, by_slices}
+use Rattle.shr_assemble.proofs.Listed.{all_slice}
 use Rattle.shr_assemble.proofs.Operations.{PairsRec, pairs_rec, pairs_by_slices, pairs_weaker}
 use Rattle.shr_assemble.proofs.WellPairs.{AllCross, pairs_flat, pairs_map, adjacent}
 use Rattle.shr_assemble.proofs.WellWords.{answers_lend}

@@ -1,39 +1,10 @@
 -- The words of the entries, the objects and the replies of a run are those of its script's commands.
-use Rattle.std.proofs.Common.{◌≡◌, ℕ, Bool, true, false, cond, List, [], ◌∷◌, length, take, map, sym, refl, ap, subst, ◌∙◌}
-use Rattle.std.specs.Prelude.{slice_get, Option, Some, None, find, option_map}
-use Rattle.std.specs.List.{AllByRecursion}
-use Rattle.std.proofs.lemmas.Option.{same_Some, none-some}
-use Rattle.shr_base.specs.declared.journals.Entry.{Entry}
-use Rattle.shr_base.specs.declared.journals.Entry.TheVariants.{Add, Look, Drop, Pin, Scan, MovedIn, Closed, Drained}
-use Rattle.shr_base.specs.declared.objects.Object.{Object}
-use Rattle.shr_base.specs.declared.places.At.{At}
-use Rattle.shr_base.specs.declared.places.Place.{Place}
-use Rattle.shr_base.specs.declared.places.Serial.{Serial}
-use Rattle.shr_base.specs.declared.replies.Reply.{Reply}
+use Rattle.shr_assemble.proofs.Common.{◌≡◌, ℕ, Bool, true, false, cond, List, [], ◌∷◌, length, take, map, sym, refl, ap, subst, ◌∙◌, slice_get, Option, Some, None, find, option_map, AllByRecursion, same_Some, none-some, Entry, Add, Look, Drop, Pin, Scan, MovedIn, Closed, Drained, Object, At, Place, Serial, Reply, Command, Put, Get, Del, SetPin, Script, WorkerScript, named_in, is_named, marked_object, unmarked_object, pinned_object, by_of, items_at, lists_moved_at, items_from, place_at, Made, IsWithin, IsCommandWithin, content_of, Report, parents_of, commands_in, commands_of, journals_of, id_found, items_left, at, IsReply, HasWords, LendsWord, IsSpelled, Step, steps_of, MayMake, IsReplyTo, IsRun, by_slices}
 use Rattle.shr_base.specs.declared.replies.Reply.TheVariants as reply
-use Rattle.shr_base.specs.declared.scripts.Command.{Command}
-use Rattle.shr_base.specs.declared.scripts.Command.TheVariants.{Put, Get, Del, SetPin}
-use Rattle.shr_base.specs.declared.scripts.Script.{Script}
-use Rattle.shr_base.specs.declared.scripts.WorkerScript.{WorkerScript}
-use Rattle.shr_model.specs.Objects.{named_in, is_named, marked_object, unmarked_object, pinned_object}
 use Rattle.shr_model.specs.Words.{is_value}
-use Rattle.shr_model.specs.Tenants.{by_of}
-use Rattle.shr_model.specs.Families.{items_at, lists_moved_at}
-use Rattle.shr_model.specs.Items.{items_from}
-use Rattle.shr_core.specs.Layout.{place_at}
-use Rattle.shr_core.specs.Parts.{Made}
-use Rattle.shr_script.specs.Bounds.{IsWithin, IsCommandWithin}
-use Rattle.shr_script.specs.Content.{content_of}
-use Rattle.shr_report.specs.declared.report.Report.{Report}
-use Rattle.shr_report.specs.Parts.{parents_of, commands_in, commands_of, journals_of, id_found, items_left, at}
-use Rattle.shr_report.specs.ReplyTable.{IsReply}
-use Rattle.shr_report.specs.WellFormed.{HasWords, LendsWord, IsSpelled}
-use Rattle.shr_assemble.specs.Steps.{Step, steps_of}
-use Rattle.shr_assemble.specs.Entries.{MayMake, IsReplyTo}
-use Rattle.shr_assemble.specs.Runs.{IsRun}
 use Rattle.shr_assemble.proofs.FamilyObjects.{AddIs, items_at_kept}
 use Rattle.shr_assemble.proofs.Gathering.{each_among}
-use Rattle.shr_assemble.proofs.Listed.{all_slice_by, by_slices}
+use Rattle.shr_assemble.proofs.Listed.{all_slice_by}
 use Rattle.shr_assemble.proofs.Making.{maker, made_stands}
 use Rattle.shr_assemble.proofs.ReplyEntries.{IsEntryFor, entry_asked}
 use Rattle.shr_assemble.proofs.RepliesLaw.{told_of}

@@ -1,17 +1,9 @@
 -- How many objects a journal leaves is told by its entries alone, whatever lists were moved in.
-use Rattle.std.proofs.Common.{◌≡◌, ℕ, ◌+◌, Bool, true, false, cond, List, [], ◌∷◌, ◌++◌, length, sym, refl, ap, ◌∙◌, arith}
-use Rattle.std.specs.Prelude.{Option, Some, None}
-use Rattle.shr_base.specs.declared.objects.Object.{Object}
-use Rattle.shr_base.specs.declared.places.Serial.{Serial}
-use Rattle.shr_base.specs.declared.journals.DropKind.{DropKind}
+use Rattle.shr_assemble.proofs.Common.{◌≡◌, ℕ, ◌+◌, Bool, true, false, cond, List, [], ◌∷◌, ◌++◌, length, sym, refl, ap, ◌∙◌, arith, Option, Some, None, Object, Serial, DropKind, Entry, Add, Look, Drop, Pin, Scan, MovedIn, Closed, Drained, added_by, drop_kind_of, dropped_of, step, IsOutcome, first_moved, later_moved, freed_by, named_in, weight, mass, weight_append, mass_append, given_by, mass_of_journal}
 use Rattle.shr_base.specs.declared.journals.DropKind.TheVariants.{Dropped, Pinned, Miss}
-use Rattle.shr_base.specs.declared.journals.Entry.{Entry}
-use Rattle.shr_base.specs.declared.journals.Entry.TheVariants.{Add, Look, Drop, Pin, Scan, MovedIn, Closed, Drained}
-use Rattle.shr_model.specs.Bag.{added_by}
-use Rattle.shr_model.specs.Items.{drop_kind_of, dropped_of, step, IsOutcome, first_moved, later_moved, freed_by, items_from, freed_from, AreOutcomes}
-use Rattle.shr_model.specs.Objects.{named_in}
+use Rattle.shr_model.specs.Items.{items_from, freed_from, AreOutcomes}
 use Rattle.shr_model.specs.Scan.{scan_of}
-use Rattle.shr_model.proofs.Weights.{weight, mass, weight_append, mass_append, given_by, taken_by, taken_from, given_from, mass_of_journal}
+use Rattle.shr_model.proofs.Weights.{taken_by, taken_from, given_from}
 use Rattle.shr_assemble.proofs.WornWeights.{ones_of}
 
 abbrev one : Serial → ℕ

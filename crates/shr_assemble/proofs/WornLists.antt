@@ -1,22 +1,6 @@
 -- A list that a command met used up would hold no more objects than the script has puts.
-use Rattle.std.proofs.Common.{◌≡◌, ℕ, ◌≤◌, ◌⊎◌, ⊎_elim, List, [], length, take, sym, refl, ap, subst, ◌∙◌, arith}
-use Rattle.std.specs.Prelude.{slice_get, Some}
-use Rattle.std.proofs.lemmas.List.{take_all, take-append-le}
-use Rattle.shr_base.specs.declared.journals.Entry.{Entry}
-use Rattle.shr_base.specs.declared.objects.Object.{Object}
-use Rattle.shr_base.specs.declared.places.Place.{Place}
-use Rattle.shr_base.specs.declared.scripts.Script.{Script}
-use Rattle.shr_model.specs.Families.{moved_in, lists_moved_at, items_at}
-use Rattle.shr_model.specs.Items.{items_from, AreOutcomes, HasJournal}
-use Rattle.shr_model.specs.Places.{place_number, at_group}
-use Rattle.shr_model.proofs.GroupsLaws.{child_takes}
-use Rattle.shr_model.proofs.Members.{Has, Contains_from_Has}
-use Rattle.shr_seats.specs.Weights.{Begins}
-use Rattle.shr_report.specs.declared.report.Report.{Report}
-use Rattle.shr_report.specs.Parts.{parents_of, puts_of, journals_of, places_of, IsThere}
-use Rattle.shr_assemble.specs.Steps.{Step, IsAmong, steps_of}
-use Rattle.shr_assemble.specs.Worn.{KnowsList, IsOneMore, AreBoth, IsListWorn}
-use Rattle.shr_assemble.specs.Runs.{IsRun}
+use Rattle.shr_assemble.proofs.Common.{◌≡◌, ℕ, ◌≤◌, ◌⊎◌, ⊎_elim, List, [], length, take, sym, refl, ap, subst, ◌∙◌, arith, slice_get, Some, take_all, take-append-le, Entry, Object, Place, Script, moved_in, lists_moved_at, items_at, items_from, HasJournal, place_number, at_group, child_takes, Has, Contains_from_Has, Begins, Report, parents_of, puts_of, journals_of, places_of, IsThere, Step, IsAmong, steps_of, KnowsList, IsOneMore, AreBoth, IsListWorn, IsRun}
+use Rattle.shr_model.specs.Items.{AreOutcomes}
 use Rattle.shr_assemble.proofs.BagLaw.{whole}
 use Rattle.shr_assemble.proofs.Making.{back_there}
 use Rattle.shr_assemble.proofs.WornLengths.{same_left, outcomes_front}

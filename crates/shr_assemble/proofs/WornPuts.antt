@@ -1,40 +1,10 @@
 -- The objects that were added are each of another put that was answered so, and where each put was, there are as many.
-use Rattle.std.proofs.Common.{◌≡◌, ℕ, zero, suc, ◌+◌, ◌≤◌, ◌⊎◌, inl, inr, ⊎_elim, Bool, true, false, ◌||◌, ◌==◌, cond, List, [], ◌∷◌, length, length-append, take, sym, refl, ap, subst, ◌∙◌, arith, eqb, eq-eqb}
-use Rattle.std.specs.Prelude.{slice_get, Option, Some, None, filter, flat_map, sum_by}
-use Rattle.std.specs.List.{enumerate_from, list_any}
-use Rattle.std.proofs.lemmas.Option.{same_Some, none-some}
-use Rattle.std.proofs.lemmas.List.Sums.{sum_by-cons}
-use Rattle.shr_base.specs.declared.journals.Entry.{Entry}
-use Rattle.shr_base.specs.declared.journals.Entry.TheVariants.{Add, Look, Drop, Pin, Scan, MovedIn, Closed, Drained}
-use Rattle.shr_base.specs.declared.places.At.{At}
-use Rattle.shr_base.specs.declared.places.Place.{Place}
-use Rattle.shr_base.specs.declared.replies.Reply.{Reply}
+use Rattle.shr_assemble.proofs.Common.{◌≡◌, ℕ, zero, suc, ◌+◌, ◌≤◌, ◌⊎◌, inl, inr, ⊎_elim, Bool, true, false, ◌||◌, ◌==◌, cond, List, [], ◌∷◌, length, length-append, take, sym, refl, ap, subst, ◌∙◌, arith, eqb, eq-eqb, slice_get, Option, Some, None, filter, flat_map, sum_by, enumerate_from, list_any, same_Some, none-some, sum_by-cons, Entry, Add, Look, Drop, Pin, Scan, MovedIn, Closed, Drained, At, Place, Reply, Command, Put, Script, WorkerScript, added_by, added_by_all, added_in, is_put, is_at_or_above, path_of, Has, Has_from_Contains, Each, total, place_at, Made, Report, charged, parents_of, puts_of, commands_in, commands_of, answers_of, serial_of, id_found, journals_of, places_of, DoPutsAddUp, IsReply, added_below, Step, steps_in, steps_of, IsPut, IsRun, all_made, sum_total}
 use Rattle.shr_base.specs.declared.replies.Reply.TheVariants as reply
-use Rattle.shr_base.specs.declared.scripts.Command.{Command}
-use Rattle.shr_base.specs.declared.scripts.Command.TheVariants.{Put}
-use Rattle.shr_base.specs.declared.scripts.Script.{Script}
-use Rattle.shr_base.specs.declared.scripts.WorkerScript.{WorkerScript}
-use Rattle.shr_model.specs.Bag.{added_by, added_by_all, added_in}
-use Rattle.shr_model.specs.Commands.{is_put}
 use Rattle.shr_model.specs.Families.{MayStand}
-use Rattle.shr_model.specs.Freeings.{is_at_or_above}
-use Rattle.shr_model.specs.Groups.{path_of}
 use Rattle.shr_model.proofs.GroupsOrder.{IsAtOrAbove-root}
-use Rattle.shr_model.proofs.Members.{Has, Has_from_Contains}
-use Rattle.shr_seats.specs.Views.{Each}
-use Rattle.shr_seats.specs.Weights.{total}
-use Rattle.shr_core.specs.Layout.{place_at}
-use Rattle.shr_core.specs.Parts.{Made}
-use Rattle.shr_report.specs.declared.report.Report.{Report}
-use Rattle.shr_report.specs.Charges.{charged}
-use Rattle.shr_report.specs.Parts.{parents_of, puts_of, commands_in, commands_of, answers_of, serial_of, id_found, journals_of, places_of}
-use Rattle.shr_report.specs.Puts.{IsEachAdded, DoPutsAddUp}
-use Rattle.shr_report.specs.ReplyTable.{IsReply}
-use Rattle.shr_assemble.specs.Charges.{added_below}
-use Rattle.shr_assemble.specs.Steps.{Step, steps_in, steps_of, IsPut}
-use Rattle.shr_assemble.specs.Runs.{IsRun, all_made}
+use Rattle.shr_report.specs.Puts.{IsEachAdded}
 use Rattle.shr_assemble.proofs.Gathering.{total_gathered, total_same_on, mine_at}
-use Rattle.shr_assemble.proofs.Listed.{sum_total}
 use Rattle.shr_assemble.proofs.RepliesLaw.{replies_lawful}
 use Rattle.shr_assemble.proofs.Recounting.{all_stand, journals_are}
 

@@ -1,15 +1,6 @@
 -- What a list or the charges of a worker were told to be is so of the step in which it was told.
-use Rattle.std.proofs.Common.{◌≡◌, ◌^◌, inl, inr, ⊎_elim, sym, subst, arith}
-use Rattle.shr_base.specs.declared.places.Place.{Place}
-use Rattle.shr_base.specs.declared.replies.Spent.{Spent}
+use Rattle.shr_assemble.proofs.Common.{◌≡◌, ◌^◌, inl, inr, ⊎_elim, sym, subst, arith, Place, Spent, place_number, Shape, WornSeen, Script, IsThere, Step, IsAmong, IsWornBy}
 use Rattle.shr_base.specs.declared.replies.Spent.TheVariants as spent
-use Rattle.shr_model.specs.Places.{place_number}
-use Rattle.shr_seats.specs.declared.shape.Shape.{Shape}
-use Rattle.shr_walk.specs.Shown.{WornSeen}
-use Rattle.shr_base.specs.declared.scripts.Script.{Script}
-use Rattle.shr_report.specs.Parts.{IsThere}
-use Rattle.shr_assemble.specs.Steps.{Step, IsAmong}
-use Rattle.shr_assemble.specs.Worn.{IsWornBy}
 use Rattle.shr_assemble.proofs.Listed.{contains_among}
 
 pub seen_worn : (s : Script) (shape : Shape) → shape.most_items ≡ 20000 → shape.most_entries ≡ 2 ^ 31 → (z : Step) (place : Place) → IsThere s place → (why : Spent) → WornSeen shape place why z.after → IsWornBy s z why

@@ -1,28 +1,11 @@
 -- What a list held after some of its entries was freed later, or is listed at the end, in it or above it.
-use Rattle.std.proofs.Common.{◌≡◌, ℕ, zero, suc, ◌+◌, ◌<◌, ◌≤◌, inl, inr, ⊎_elim, Bool, true, false, ◌&&◌, ◌==◌, cond, List, [], ◌∷◌, ◌++◌, length, take, drop, sym, refl, ap, subst, ◌∙◌, arith, eq-eqb, ne_eqb}
-use Rattle.std.specs.Prelude.{Contains, nat_lt}
-use Rattle.std.proofs.lemmas.Bool.{and_parts, and_from, eqb-true, ltb-true, lt-ltb}
-use Rattle.std.proofs.lemmas.List.Sorted.{length_permutation}
-use mathlib.Core.Logic.{dite}
-use native.Mathlib.Decide.{ℕ_discrete}
-use Rattle.shr_base.specs.declared.objects.Object.{Object}
-use Rattle.shr_base.specs.declared.places.Place.{Place}
-use Rattle.shr_base.specs.declared.places.Serial.{Serial}
-use Rattle.shr_base.specs.declared.journals.Entry.{Entry}
-use Rattle.shr_base.specs.declared.journals.Entry.TheVariants.{Add, Look, Drop, Pin, Scan, MovedIn, Closed, Drained}
-use Rattle.shr_model.specs.Bag.{serials_of, added_in, freed_at, freed_in, listed_in}
-use Rattle.shr_model.specs.Families.{Family, moved_in, before_closed, without_child, lists_moved, items_given, lists_moved_at, items_at, items_of, IsLegal, IsPaired}
-use Rattle.shr_model.specs.Groups.{IsTree, parent_of, is_child}
-use Rattle.shr_model.specs.Items.{step, first_moved, later_moved, freed_by, items_from, freed_from, moved_from, is_closed, AreOutcomes}
-use Rattle.shr_model.specs.Places.{at_group, is_place}
-use Rattle.shr_model.proofs.GroupsLaws.{child_takes, child_higher}
-use Rattle.shr_model.proofs.LegalBag.{IsWhole, bag_of_legal}
-use Rattle.shr_model.proofs.Members.{Has, Has_from_Contains}
+use Rattle.shr_assemble.proofs.Common.{◌≡◌, ℕ, zero, suc, ◌+◌, ◌<◌, ◌≤◌, inl, inr, ⊎_elim, Bool, true, false, ◌&&◌, ◌==◌, cond, List, [], ◌∷◌, ◌++◌, length, take, drop, sym, refl, ap, subst, ◌∙◌, arith, eq-eqb, ne_eqb, Contains, nat_lt, and_parts, and_from, eqb-true, ltb-true, lt-ltb, length_permutation, dite, ℕ_discrete, Object, Place, Serial, Entry, Add, Look, Drop, Pin, Scan, MovedIn, Closed, Drained, serials_of, added_in, freed_at, listed_in, Family, moved_in, before_closed, without_child, items_given, lists_moved_at, items_at, items_of, IsLegal, IsTree, parent_of, is_child, step, first_moved, later_moved, freed_by, is_closed, at_group, is_place, child_takes, child_higher, IsWhole, bag_of_legal, Has, Has_from_Contains, is_place_same, is_place_itself, weight, mass, weight_append, mass_append, given_by, mass_of_journal, total, total_both}
+use Rattle.shr_model.specs.Bag.{freed_in}
+use Rattle.shr_model.specs.Families.{lists_moved, IsPaired}
+use Rattle.shr_model.specs.Items.{items_from, freed_from, moved_from, AreOutcomes}
 use Rattle.shr_model.proofs.MovesLaws.{gives_before, open_legal, closed_below_root, parent_place, given_to_parent}
-use Rattle.shr_model.proofs.PlacesLaws.{is_place_same, is_place_itself}
-use Rattle.shr_model.proofs.Weights.{weight, mass, weight_append, mass_append, given_by, taken_from, given_from, mass_of_journal}
-use Rattle.shr_seats.specs.Weights.{total}
-use Rattle.shr_seats.proofs.Weighing.{total_both}
+use Rattle.shr_model.proofs.Weights.{taken_from, given_from}
+use Rattle.shr_list.proofs.Scans.{not_made}
 
 -- what a list held after the first entries, and what it took in later, is freed, given away or left
 pub mid_weighs : (w : Serial → ℕ) (moved : List (List Object)) (items : List Object) (es : List Entry) (n : ℕ) → AreOutcomes moved items es
@@ -73,10 +56,6 @@ term_most : {A : Type 0} (f : A → ℕ) (xs : List A) (x : A) → Has xs x → 
 term_most f [] x has = absurd has
 term_most f (y ∷ ys) x (inl e) = let same = ap f e in omega (arith, same)
 term_most f (y ∷ ys) x (inr has) = omega (arith, term_most f ys x has)
-
-no_if : (b : Bool) → (b ≡ true → ⊥) → b ≡ false
-no_if true h = absurd (h refl)
-no_if false h = refl
 
 three : (a c d : Bool) (v : ℕ) → (a ≡ true → (c ≡ false) × (d ≡ true)) → (c ≡ true → d ≡ true) → cond a v 0 + cond c v 0 ≤ cond d v 0
 three true true d v one other = absurd (let e : true ≡ false = (one refl).0 in cc)
@@ -132,7 +111,7 @@ module _ (w : Serial → ℕ) (parents : List ℕ) (tree : IsTree parents) (fami
     terms_most (λ (z : Place). cond (is_place z (at_group p g)) (kept z) 0 + cond (near p b z) (kept z) 0) (λ (z : Place). cond (near p (suc g) z) (kept z) 0)
         (λ z. three (is_place z (at_group p g)) (near p b z) (near p (suc g) z) (kept z)
         (λ e. let same = is_place_same z (at_group p g) e in let group : z.group ≡ g = ap (λ (y : Place). y.group) same in
-        (no_if (near p b z) (λ h. let t = (near_parts p b z h).2 in omega (arith, t, group, le)), near_from p (suc g) z (ap (λ (y : Place). y.id) same) (ap (λ (y : Place). y.node) same) (omega (arith, group))))
+        (not_made (near p b z) (λ h. let t = (near_parts p b z h).2 in omega (arith, t, group, le)), near_from p (suc g) z (ap (λ (y : Place). y.id) same) (ap (λ (y : Place). y.node) same) (omega (arith, group))))
         (λ h. let t = near_parts p b z h in let lt = t.2 in near_from p (suc g) z t.0 t.1 (omega (arith, lt, le)))) places,
   )
 

@@ -1,17 +1,14 @@
 -- Bytes are the text of one report whose lists have no room to spare.
-use Rattle.std.proofs.Common.{◌≡◌, ℕ, List, [], ◌∷◌, Option, Some, sym, subst, ◌∙◌}
+use Rattle.shr_audit.proofs.Common.{◌≡◌, ℕ, List, [], ◌∷◌, sym, subst, ◌∙◌, Report, nothing}
 use Rattle.shr_model.specs.Pieces.{pieces}
-use Rattle.shr_report.specs.declared.report.Report.{Report}
 use Rattle.shr_reader.specs.declared.said.Said.{Said}
 use Rattle.shr_draft.specs.Draft.{with_said}
-use Rattle.shr_draft.specs.Reading.{nothing, Says, Reads, IsReportOf}
+use Rattle.shr_draft.specs.Reading.{Says, Reads, IsReportOf}
 use Rattle.shr_draft.proofs.Whole.{reads_of}
-
-some_same : {X : Type 0} (x y : X) → ◌≡◌ {A = Option X} (Some x) (Some y) → x ≡ y
-some_same x y e = cc
+use Rattle.shr_case.proofs.Firsts.{some_is}
 
 one_said : (version : ℕ) (line : List ℕ) (x y : Said) → Says version line x → Says version line y → x ≡ y
-one_said version line x y h k = some_same x y (sym h.is ∙ k.is)
+one_said version line x y h k = some_is x y (sym h.is ∙ k.is)
 
 -- lines make one report of what was read before them
 one_reads : (ls : List (List ℕ)) (before r s : Report) → Reads ls before r → Reads ls before s → r ≡ s

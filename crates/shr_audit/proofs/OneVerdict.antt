@@ -1,22 +1,14 @@
 -- No two verdicts hold of the same bytes.
-use Rattle.std.proofs.Common.{◌≡◌, ◌⊎◌, inl, inr, ℕ, ◌<◌, List, refl, ap, subst, Some, arith, ◌∙◌, slice_get, sym}
-use Rattle.std.proofs.lemmas.Bool.{cases_order}
+use Rattle.shr_audit.proofs.Common.{◌≡◌, ◌⊎◌, inl, inr, ℕ, ◌<◌, List, refl, ap, subst, Some, arith, ◌∙◌, slice_get, sym, cases_order, Script, content_of, IsFault, Report, IsLawful, Law, Lawful, BadScript, BadReport, IsScriptOf, number_of, Holds, IsFirstBroken, HoldsOf}
 use Rattle.shr_base.specs.declared.ends.PlaceEnd.{PlaceEnd}
 use Rattle.shr_base.specs.declared.places.Place.{Place}
 use Rattle.shr_base.specs.declared.scripts.Code.{Code}
-use Rattle.shr_base.specs.declared.scripts.Script.{Script}
-use Rattle.shr_script.specs.Content.{content_of}
-use Rattle.shr_script.specs.Script.{IsFault}
 use Rattle.shr_script.proofs.ReadLaws.{faultless, same_fault}
-use Rattle.shr_report.specs.declared.report.Report.{Report}
-use Rattle.shr_report.specs.Lawful.{IsLawful}
-use Rattle.shr_audit.specs.declared.verdict.Law.{Law}
 use Rattle.shr_audit.specs.declared.verdict.Law.TheVariants as laws
 use Rattle.shr_audit.specs.declared.verdict.Verdict.{Verdict}
-use Rattle.shr_audit.specs.declared.verdict.Verdict.TheVariants.{Lawful, BadScript, BadReport, Unlawful}
+use Rattle.shr_audit.specs.declared.verdict.Verdict.TheVariants.{Unlawful}
 use Rattle.shr_audit_once.specs.Once.{IsPrintedOnce}
-use Rattle.shr_audit.specs.Script.{IsScriptOf}
-use Rattle.shr_audit.specs.Verdict.{number_of, Holds, IsFirstBroken, AreOf, HoldsOf}
+use Rattle.shr_audit.specs.Verdict.{AreOf}
 use Rattle.shr_audit.proofs.Order.{one_number}
 use Rattle.shr_audit.proofs.OneReport.{one_report}
 use Rattle.shr_audit.proofs.OneScript.{one_script}

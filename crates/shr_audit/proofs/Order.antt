@@ -1,18 +1,13 @@
 -- The laws are asked in the order of their numbers.
-use Rattle.std.proofs.Common.{◌≡◌, ◌⊎◌, inl, inr, ℕ, ◌+◌, ◌-◌, ◌<◌, ◌≤◌, Bool, true, false, get_or, refl, sym, ap, subst, ◌∙◌, add_comm, arith}
+use Rattle.shr_audit.proofs.Common.{◌≡◌, ◌⊎◌, inl, inr, ℕ, ◌<◌, ◌≤◌, refl, sym, ap, subst, ◌∙◌, arith, cases_order, Script, Report, IsLawful, Law, number_of, Holds, IsFirstBroken}
+use Rattle.std.proofs.Common.{◌+◌, ◌-◌, Bool, true, false, get_or, add_comm}
 use Rattle.std.specs.Bool.{Decides}
-use Rattle.std.proofs.lemmas.Bool.{cases_order}
 use Rattle.std.proofs.lemmas.List.{get_or-map}
 use Rattle.std.proofs.lemmas.List.FromFn.{get_or-range_with_len}
 use Rattle.std.specs.Prelude.{Result, IfOk}
 use Rattle.shr_base.specs.declared.memory.Memory.{Memory}
-use Rattle.shr_base.specs.declared.scripts.Script.{Script}
-use Rattle.shr_report.specs.declared.report.Report.{Report}
-use Rattle.shr_report.specs.Lawful.{IsLawful}
 use Rattle.shr_audit.specs.declared.verdict.TheConstants.{LAWS}
-use Rattle.shr_audit.specs.declared.verdict.Law.{Law}
 use Rattle.shr_audit.specs.declared.verdict.Law.TheVariants as laws
-use Rattle.shr_audit.specs.Verdict.{number_of, Holds, IsFirstBroken}
 
 -- the law at a place of the order, from 0
 abbrev pub law_at : ℕ → Law

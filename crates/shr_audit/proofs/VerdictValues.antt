@@ -1,20 +1,11 @@
 -- What a verdict asks, by values.
-use Rattle.std.specs.Prelude.{◌≡◌, [], None, refl}
-use Rattle.std.proofs.Common.{arith}
-use Rattle.shr_base.specs.declared.scripts.Script.{Script}
+use Rattle.shr_audit.proofs.Common.{◌≡◌, [], None, refl, arith, Script, IsFault, Report, AreRepliesLawful, kept, nothing, Lawful, BadScript, BadReport, IsTightScript, IsFirstBroken, HoldsOf}
 use Rattle.shr_model.specs.Pieces.{cut, pieces, joined}
 use Rattle.shr_base.specs.declared.scripts.Code.TheVariants.{NoEnd}
-use Rattle.shr_script.specs.Script.{IsFault, spell_lines, state_after, verdict, AreLines}
-use Rattle.shr_report.specs.declared.report.Report.{Report}
-use Rattle.shr_report.specs.Replies.{AreRepliesLawful}
-use Rattle.shr_draft.specs.Draft.{kept}
-use Rattle.shr_draft.specs.Reading.{nothing}
+use Rattle.shr_script.specs.Script.{spell_lines, state_after, verdict, AreLines}
 use Rattle.shr_audit.specs.declared.verdict.Law.TheVariants as laws
-use Rattle.shr_audit.specs.declared.verdict.Verdict.TheVariants.{Lawful, BadScript, BadReport}
 use Rattle.shr_audit.specs.declared.given.Given.TheVariants.{Both, Bad}
 use Rattle.shr_audit.specs.Given.{IsGiven}
-use Rattle.shr_audit.specs.Script.{IsTightScript}
-use Rattle.shr_audit.specs.Verdict.{IsFirstBroken, HoldsOf}
 use Rattle.shr_audit.proofs.Order.{no_less}
 use Rattle.shr_audit.proofs.OneVerdict.{no_fault}
 

@@ -1,11 +1,9 @@
 -- Lists that a loop adds to, item by item.
 use Rattle.std.proofs.Common.{◌≡◌, ℕ, ◌+◌, ◌<◌, ◌≤◌, List, [], ◌∷◌, ◌++◌, length, get_or, map, take, sym, ap, ◌∙◌}
 use Rattle.std.specs.Prelude.{flat_map}
-use Rattle.std.proofs.lemmas.List.{append_assoc, append-nil, take_more, take_all, map_more}
+use Rattle.std.proofs.lemmas.List.{append-nil, take_more, map_more}
 use Rattle.std.proofs.lemmas.List.Concat.{flat_map-append}
-
-added_to : {Y : Type 0} (a whole part item next : List Y) → whole ≡ a ++ part → next ≡ whole ++ item → next ≡ a ++ (part ++ item)
-added_to {Y} a whole part item next before added = added ∙ (ap (λ (l : List Y). l ++ item) before ∙ append_assoc a part item)
+use Rattle.shr_model.proofs.Lists.{added_to, flat_all}
 
 -- one item more
 pub flat_more : {X Y : Type 0} (f : X → List Y) (xs : List X) (i : ℕ) (y : X) (a old next : List Y) → i < length xs → y ≡ get_or xs i y → old ≡ a ++ flat_map f (take i xs) → next ≡ old ++ f y → next ≡ a ++ flat_map f (take (i + 1) xs)
@@ -13,7 +11,3 @@ flat_more {X} {Y} f xs i y a old next lt is before added = added_to a old (flat_
   where
     one : flat_map f (take (i + 1) xs) ≡ flat_map f (take i xs) ++ f y
     one = ap (flat_map f) (take_more xs i y lt) ∙ (flat_map-append f (take i xs) (get_or xs i y ∷ []) ∙ ap (λ (l : List Y). flat_map f (take i xs) ++ l) (append-nil (f (get_or xs i y)) ∙ ap f (sym is)))
-
--- all items
-pub flat_all : {X Y : Type 0} (f : X → List Y) (xs : List X) (i : ℕ) (a old : List Y) → length xs ≤ i → old ≡ a ++ flat_map f (take i xs) → old ≡ a ++ flat_map f xs
-flat_all {X} {Y} f xs i a old over before = before ∙ ap (λ (l : List X). a ++ flat_map f l) (take_all i xs over)

@@ -1,3 +1,4 @@
+mod Common
 mod Wording
 mod Phasing
 mod Setting

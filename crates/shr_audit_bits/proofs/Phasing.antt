@@ -1,20 +1,9 @@
 -- The phases of ids, entry by entry.
-use Rattle.std.proofs.Common.{◌≡◌, ◌≢◌, ℕ, zero, suc, ◌+◌, ◌%◌, ◌<◌, List, [], ◌∷◌, ◌++◌, length, set, get_or, refl, sym, ap, subst, ◌∙◌, arith}
-use mathlib.Core.Logic.{dite}
-use native.Mathlib.Decide.{ℕ_discrete}
-use Rattle.std.proofs.lemmas.Bool.{eq-eqb, ne_eqb}
+use Rattle.shr_audit_bits.proofs.Common.{◌≡◌, ◌≢◌, ℕ, ◌+◌, ◌%◌, ◌<◌, List, [], ◌∷◌, ◌++◌, length, get_or, refl, sym, ap, subst, ◌∙◌, arith, dite, ℕ_discrete, eq-eqb, ne_eqb, PoolEntry, ArePhases, zero_more}
+use Rattle.std.proofs.Common.{set}
 use Rattle.std.proofs.lemmas.List.{get_or-set_same, get_or-set_other, length-set}
-use Rattle.shr_base.specs.declared.journals.PoolEntry.{PoolEntry}
 use Rattle.shr_model.specs.Pool.{id_of, phase_of}
 use Rattle.shr_model.proofs.PoolLaws.{one_of, phase_of_push}
-use Rattle.shr_audit_bits.specs.Set.{ArePhases}
-
--- one number 0 more
-pub zero_more : (xs : List ℕ) → ((i : ℕ) → get_or xs i 0 ≡ 0) → (i : ℕ) → get_or (xs ++ 0 ∷ []) i 0 ≡ 0
-zero_more [] all zero = refl
-zero_more [] all (suc i) = refl
-zero_more (x ∷ xs) all zero = all 0
-zero_more (x ∷ xs) all (suc i) = zero_more xs (λ j. all (suc j)) i
 
 pub phases_none : (phases : List ℕ) → length phases ≡ 65536 → ((i : ℕ) → get_or phases i 0 ≡ 0) → ArePhases [] phases
 unfolding phase_of

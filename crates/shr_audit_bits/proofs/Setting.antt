@@ -1,23 +1,18 @@
 -- The bit of a place, by what is told of it.
-use Rattle.std.proofs.Common.{◌≡◌, ◌≢◌, ℕ, ◌%◌, Bool, true, false, List, [], ◌∷◌, length, map, Some, refl, sym, ap, subst, ◌∙◌, inl, inr, arith}
-use Rattle.std.specs.Prelude.{slice_get}
+use Rattle.shr_audit_bits.proofs.Common.{◌≡◌, ◌≢◌, ℕ, ◌%◌, Bool, true, false, List, [], ◌∷◌, length, Some, refl, sym, ap, subst, ◌∙◌, inl, inr, arith, slice_get, eqb-true, eq-eqb, Place, PlaceEnd, Report, is_set_at, IsSetIfLive}
+use Rattle.std.proofs.Common.{map}
 use Rattle.std.specs.Bool.{Decides}
-use Rattle.std.proofs.lemmas.Bool.{eqb-true, eq-eqb}
 use Rattle.shr_base.specs.declared.objects.Object.{Object}
-use Rattle.shr_base.specs.declared.places.Place.{Place}
 use Rattle.shr_base.specs.declared.journals.Entry.{Entry}
-use Rattle.shr_base.specs.declared.ends.PlaceEnd.{PlaceEnd}
 use Rattle.shr_base.specs.declared.scripts.Script.{Script}
 use Rattle.shr_model.specs.Families.{items_of, lists_moved_at}
 use Rattle.shr_model.specs.Items.{items_from}
 use Rattle.shr_model.specs.Pool.{phase_of}
 use Rattle.shr_replay.specs.Tags.{tag_of}
-use Rattle.shr_report.specs.declared.report.Report.{Report}
-use Rattle.shr_report.specs.BitsLawful.{AreBitsLawful, is_set_at}
+use Rattle.shr_report.specs.BitsLawful.{AreBitsLawful}
 use Rattle.shr_report.specs.Parts.{journal_of, journals_of, parents_of}
 use Rattle.shr_case.proofs.Eachs.{decides_iff}
 use Rattle.shr_case.proofs.Firsts.{found_or_none}
-use Rattle.shr_audit_bits.specs.Set.{IsSetIfLive}
 
 pub clash : (b : Bool) → b ≡ true → b ≡ false → ⊥
 clash b e f = cc

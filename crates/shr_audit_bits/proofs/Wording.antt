@@ -1,29 +1,19 @@
 -- Bit words by their numbers.
-use Rattle.std.proofs.Common.{◌≡◌, ◌≢◌, ℕ, ◌<◌, ◌^◌, Bool, true, false, cond, List, [], ◌∷◌, ◌++◌, Option, Some, None, refl, sym, ap, ◌∙◌, inl, inr, arith}
+use Rattle.shr_audit_bits.proofs.Common.{◌≡◌, ◌≢◌, ℕ, ◌<◌, Bool, true, false, List, [], ◌∷◌, ◌++◌, Some, refl, sym, ap, ◌∙◌, inl, inr, arith, dite, ℕ_discrete, eqb-true, eq-eqb, ne_eqb, MapEnd, Place, Report, is_set_at, AreWords}
+use Rattle.std.proofs.Common.{◌^◌, cond, Option, None}
 use Rattle.std.specs.Prelude.{◌&&◌, ◌==◌, nat_eq, find, is_some, option_map}
 use Rattle.std.specs.HashMap.{get}
-use mathlib.Core.Logic.{dite}
-use native.Mathlib.Decide.{ℕ_discrete}
 use Rattle.std.specs.List.{AllByRecursion}
-use Rattle.std.proofs.lemmas.Bool.{cases_Bool, and_parts, and_from, eqb-true, eq-eqb, ne_eqb}
-use Rattle.shr_base.specs.declared.ends.MapEnd.{MapEnd}
-use Rattle.shr_base.specs.declared.places.Place.{Place}
+use Rattle.std.proofs.lemmas.Bool.{cases_Bool, and_parts, and_from}
 use Rattle.shr_model.specs.Bits.{is_set}
 use Rattle.shr_model.specs.Places.{bit_of, unit_of}
-use Rattle.shr_report.specs.declared.report.Report.{Report}
-use Rattle.shr_report.specs.BitsLawful.{has_bit, is_set_at, shows_bit}
+use Rattle.shr_report.specs.BitsLawful.{has_bit, shows_bit}
 use Rattle.shr_report.specs.Numbers.{HasNumbers, IsMapNumbered}
-use Rattle.shr_audit_bits.specs.Words.{AreWords, Words, map_key, word_at, word_key}
+use Rattle.shr_audit_bits.specs.Words.{Words, map_key, word_at, word_key}
+use Rattle.shr_model.proofs.Booleans.{same_test}
 
 clash : (b : Bool) → b ≡ true → b ≡ false → ⊥
 clash b e f = cc
-
--- two tests that hold of the same find the same
-same_test : (a b : Bool) → (a ≡ true → b ≡ true) → (b ≡ true → a ≡ true) → a ≡ b
-same_test true true f g = refl
-same_test true false f g = sym (f refl)
-same_test false true f g = g refl
-same_test false false f g = refl
 
 -- a word has the number of a place just if it has its bit
 key_fits : (p : Place) (m : MapEnd) → IsMapNumbered m → p.group < 2 ^ 16 → unit_of p.id < 2 ^ 16 → (map_key m == word_key p.node p.group (unit_of p.id)) ≡ has_bit p m

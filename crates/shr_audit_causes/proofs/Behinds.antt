@@ -1,16 +1,10 @@
 -- The entry of an id before each entry, one entry after another.
-use Rattle.std.proofs.Common.{◌≡◌, inl, inr, ℕ, zero, suc, ◌+◌, ◌-◌, ◌<◌, List, [], ◌∷◌, ◌++◌, length, length-append, length-set, get_or, get_or-set_same, get_or-set_other, set, replicate, refl, sym, ap, subst, ◌∙◌, arith}
-use Rattle.std.specs.Prelude.{option_map}
-use Rattle.std.proofs.lemmas.Bool.{cases_lt}
+use Rattle.shr_audit_causes.proofs.Common.{◌≡◌, inl, inr, ℕ, zero, suc, ◌+◌, ◌-◌, ◌<◌, List, [], ◌∷◌, ◌++◌, length, length-append, get_or, refl, sym, ap, subst, ◌∙◌, arith, option_map, cases_lt, slice_get-get_or, PoolEntry, id_of, AreBehind, HasBehinds, IsBehindOf, IsOf}
+use Rattle.std.proofs.Common.{length-set, get_or-set_same, get_or-set_other, set, replicate}
 use Rattle.std.proofs.lemmas.List.{get_or-replicate, length-replicate, get_or_append_left}
-use Rattle.std.proofs.lemmas.Option.{slice_get-get_or}
 use Rattle.std.proofs.Math.Seq.{get_or-append_seam}
 use mathlib.Core.Logic.{dite}
 use native.Mathlib.Decide.{ℕ_discrete}
-use Rattle.shr_base.specs.declared.journals.PoolEntry.{PoolEntry}
-use Rattle.shr_model.specs.Pool.{id_of}
-use Rattle.shr_audit_causes.specs.Behind.{AreBehind, HasBehinds, IsBehindOf}
-use Rattle.shr_audit_causes.specs.Cites.{IsOf}
 use Rattle.shr_audit_causes.proofs.Phases.{next_more}
 
 -- what stands there is so whatever else is said past the end

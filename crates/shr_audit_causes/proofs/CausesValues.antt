@@ -1,23 +1,13 @@
 -- What is tested of the law on causes, at known values.
-use Rattle.std.proofs.Common.{◌≡◌, ℕ, ◌<◌, ◌≤◌, true, false, List, [], ◌∷◌, Some, None, refl, subst, inl, inr, arith}
-use Rattle.std.specs.Prelude.{◌^◌, ◌-◌}
-use Rattle.shr_base.specs.declared.places.Serial.{Serial}
+use Rattle.shr_audit_causes.proofs.Common.{◌≡◌, ℕ, ◌<◌, ◌≤◌, true, false, List, [], ◌∷◌, Some, None, refl, subst, inl, inr, arith, ◌-◌, Serial, PoolEntry, Registered, Unregistered, Idle, Begin, Done, Cited, Never, Once, Often, IsBehindOf, IsIdledBy, IsSecondOf, CitesNow, IsEarlier, IsFreedAt, IsOf, Tells, cited_in, is_registered_by, is_unregistered_by, noted_at, IsBeginCited, IsDoneOnce, is_cited, is_once, IsAttemptCaused, IsDrainedRightly}
+use Rattle.std.specs.Prelude.{◌^◌}
 use Rattle.shr_base.specs.declared.journals.Entry.TheVariants.{Drained}
-use Rattle.shr_base.specs.declared.journals.PoolEntry.{PoolEntry}
-use Rattle.shr_base.specs.declared.journals.PoolEntry.TheVariants.{Registered, Unregistered, Idle}
-use Rattle.shr_base.specs.declared.journals.TreeEntry.TheVariants.{Begin, Done}
 use Rattle.shr_base.specs.declared.replies.Reply.TheVariants as reply
 use Rattle.shr_base.specs.declared.scripts.Command.TheVariants as command
 use Rattle.shr_base.specs.declared.walks.Outcome.TheVariants as outcome
 use Rattle.shr_model.specs.Pool.{phase_of}
 use Rattle.shr_report.proofs.FirstReport.{script, report}
-use Rattle.shr_audit_causes.specs.declared.cites.Cited.{Cited}
-use Rattle.shr_audit_causes.specs.declared.cites.Cited.TheVariants.{Never, Once, Often}
 use Rattle.shr_audit_causes.specs.declared.cites.What.TheVariants as say
-use Rattle.shr_audit_causes.specs.Behind.{IsBehindOf, IsIdledBy, IsSecondOf}
-use Rattle.shr_audit_causes.specs.Cites.{CitesNow, IsEarlier, IsFreedAt, IsOf, Tells, cited_in, is_registered_by, is_unregistered_by, noted_at}
-use Rattle.shr_audit_causes.specs.Trees.{IsBeginCited, IsDoneOnce, is_cited, is_once}
-use Rattle.shr_audit_causes.specs.Walks.{IsAttemptCaused, IsDrainedRightly}
 
 -- ---- what an answer says
 

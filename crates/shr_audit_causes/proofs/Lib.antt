@@ -1,7 +1,8 @@
-mod Noting
+mod Common
+pub mod Noting
 pub mod Treeing
 mod Wearing
-mod Phases
+pub mod Phases
 mod Behinds
 mod Making
 mod CausesValues

@@ -1,30 +1,19 @@
 -- The entries of the journal of registrations against the tables of the answers that made them.
-use Rattle.std.proofs.Common.{◌≡◌, ℕ, ◌+◌, ◌-◌, ◌<◌, ◌≤◌, Bool, true, false, cond, List, [], ◌∷◌, length, get_or, take, Option, Some, None, refl, sym, ap, subst, ◌∙◌, arith, eq-eqb}
-use Rattle.std.specs.Prelude.{slice_get, option_map, filter_map, count_by}
-use Rattle.std.specs.Bool.{Decides}
+use Rattle.shr_audit_causes.proofs.Common.{◌≡◌, ℕ, ◌+◌, ◌-◌, ◌<◌, ◌≤◌, Bool, true, false, cond, List, [], ◌∷◌, length, get_or, take, Option, Some, None, refl, sym, ap, subst, ◌∙◌, arith, eq-eqb, slice_get, option_map, Decides, IsSomeAnd, nat_tests, slice_get_within, Serial, Reply, PoolEntry, Registered, Unregistered, Idle, Script, id_of, phase_of, Report, reply_at, IsBehindOf, IsIdledBy, IsSecondOf, Cites, IsFreedAt, IsNextOf, IsOf, cited_in, is_registered_by, is_unregistered_by, IsEntryCited}
+use Rattle.std.specs.Prelude.{filter_map, count_by}
 use Rattle.std.specs.List.{cons_option, enumerate_from}
-use Rattle.std.specs.Option.{IsSomeAnd}
-use Rattle.std.proofs.lemmas.Bool.Decides.{nat_tests}
 use Rattle.std.proofs.lemmas.List.Sums.{sum_by-cons}
-use Rattle.std.proofs.lemmas.Option.{get_or_from_slice_get, slice_get_within}
-use Rattle.shr_base.specs.declared.places.Serial.{Serial}
-use Rattle.shr_base.specs.declared.replies.Reply.{Reply}
+use Rattle.std.proofs.lemmas.Option.{get_or_from_slice_get}
 use Rattle.shr_base.specs.declared.replies.Reply.TheVariants as reply
-use Rattle.shr_base.specs.declared.journals.PoolEntry.{PoolEntry}
-use Rattle.shr_base.specs.declared.journals.PoolEntry.TheVariants.{Registered, Unregistered, Idle}
 use Rattle.shr_base.specs.declared.scripts.CacheDecl.{CacheDecl}
-use Rattle.shr_base.specs.declared.scripts.Script.{Script}
-use Rattle.shr_model.specs.Pool.{id_of, phase_of}
-use Rattle.shr_report.specs.declared.report.Report.{Report}
 use Rattle.shr_report.specs.Causes.{IsMadeBy}
-use Rattle.shr_report.specs.Parts.{decls_on, reply_at}
+use Rattle.shr_report.specs.Parts.{decls_on}
 use Rattle.shr_audit_causes.specs.declared.cites.What.TheVariants as what
 use Rattle.shr_audit_causes.specs.declared.registrations.Made.{Made}
-use Rattle.shr_audit_causes.specs.Behind.{IsBehindOf, IsIdledBy, IsSecondOf}
-use Rattle.shr_audit_causes.specs.Cites.{Cites, IsFreedAt, IsNextOf, IsOf, cited_in, is_registered_by, is_unregistered_by}
-use Rattle.shr_audit_causes.specs.Registrations.{AreMade, AreRegistrationsCaused, IsEntryCited}
+use Rattle.shr_audit_causes.specs.Registrations.{AreMade, AreRegistrationsCaused}
 use Rattle.shr_audit_causes.proofs.Phases.{before_of, first_of_second, second_of_first}
 use Rattle.shr_audit_causes.proofs.Treeing.{of_some, some_of}
+use Rattle.shr_model.proofs.Lists.{some_same}
 
 -- ---- caches that are `on`
 
@@ -67,12 +56,9 @@ made_unregistered r decl id to n (reply.Freed i entry a b objects) h = eq-eqb en
 made_unregistered r decl id to n (reply.Half i entry a b objects why) h = eq-eqb entry n (sym h)
 made_unregistered r decl id to n x h = absurd h
 
-idle_same : (a b : ℕ) → ◌≡◌ {A = Option ℕ} (Some a) (Some b) → a ≡ b
-idle_same a b e = cc
-
 idle_made : (r : Report) (id n : ℕ) → slice_get r.pool.items n ≡ Some (Idle id) → (x : Reply) → IsIdledBy r.pool.items n x → IsMadeBy r (Idle id) n x
 idle_made r id n at (reply.Freed i entry a b objects) h =
-    let same : id ≡ i = idle_same id i (sym (ap (option_map id_of) at) ∙ h.0) in
+    let same : id ≡ i = some_same id i (sym (ap (option_map id_of) at) ∙ h.0) in
     (sym same, h.1, subst (λ (k : ℕ). phase_of k (take n r.pool.items) ≡ phase_of k (take entry r.pool.items) + 1) (sym same) h.2)
 idle_made r id n at x h = absurd h
 
@@ -96,7 +82,7 @@ module _ (r : Report) (id n behind : ℕ) (at : slice_get r.pool.items n ≡ Som
 
   freed_made : 0 < behind → (x : Reply) → IsFreedAt r.pool.items (behind - 1) x → IsMadeBy r (Idle id) n x
   freed_made some (reply.Freed i entry a c objects) h =
-      let same : i ≡ id = idle_same i id (sym h.2 ∙ before_of r.pool.items id n behind b some) in
+      let same : i ≡ id = some_same i id (sym h.2 ∙ before_of r.pool.items id n behind b some) in
       let first : IsNextOf r.pool.items id entry (Some (behind - 1)) = subst (λ (k : ℕ). IsNextOf r.pool.items k entry (Some (behind - 1))) same h in
       idle_made r id n at (reply.Freed i entry a c objects) (subst (λ (k : ℕ). IsSecondOf r.pool.items k entry n) (sym same) (second_of_first r.pool.items id entry n behind b own some first))
   freed_made some x h = absurd h

@@ -1,21 +1,14 @@
 -- Answers noted one after another.
-use Rattle.std.proofs.Common.{◌≡◌, ℕ, zero, suc, ◌++◌, [], ◌∷◌, ◌+◌, ◌<◌, ◌≤◌, Bool, true, false, List, length, Option, Some, None, refl, sym, ap, subst, ◌∙◌, ◌⊎◌, inl, inr, arith}
-use Rattle.std.specs.Prelude.{◌==◌, not, ◌||◌, ◌↔◌, slice_get, option_map}
-use Rattle.std.specs.Option.{IsSomeAnd}
-use Rattle.std.proofs.lemmas.Bool.Decides.{nat_tests}
+use Rattle.shr_audit_causes.proofs.Common.{◌≡◌, ℕ, zero, suc, ◌++◌, [], ◌∷◌, ◌+◌, ◌<◌, ◌≤◌, Bool, true, false, List, length, Option, Some, None, refl, sym, ap, subst, ◌∙◌, inl, inr, arith, ◌↔◌, slice_get, option_map, IsSomeAnd, nat_tests, slice_get_within, Serial, Reply, Script, WorkerPart, Report, command_at, reply_at, serial_of, Cited, Never, Once, Often, AreCited, AreCitedBefore, Cites, CitesNow, IsEarlier, NotesAnswer, Tells, cited_in, noted_at}
+use Rattle.std.proofs.Common.{◌⊎◌}
+use Rattle.std.specs.Prelude.{◌==◌, not, ◌||◌}
 use Rattle.std.proofs.lemmas.List.{get_or-set_same, get_or-set_other, length-set}
-use Rattle.std.proofs.lemmas.Option.{slice_get_within}
-use Rattle.shr_base.specs.declared.places.Serial.{Serial}
 use Rattle.shr_base.specs.declared.replies.Answered.{Answered}
-use Rattle.shr_base.specs.declared.replies.Reply.{Reply}
-use Rattle.shr_base.specs.declared.scripts.Script.{Script}
-use Rattle.shr_base.specs.declared.ends.WorkerPart.{WorkerPart}
-use Rattle.shr_report.specs.declared.report.Report.{Report}
-use Rattle.shr_report.specs.Parts.{answer_at, answers_in, answers_of, command_at, reply_at, serial_of}
+use Rattle.shr_report.specs.Parts.{answer_at, answers_in, answers_of}
 use Rattle.shr_audit_causes.specs.declared.cites.What.{What}
-use Rattle.shr_audit_causes.specs.declared.cites.Cited.{Cited}
-use Rattle.shr_audit_causes.specs.declared.cites.Cited.TheVariants.{Never, Once, Often}
-use Rattle.shr_audit_causes.specs.Cites.{AreCited, AreCitedBefore, Cites, CitesNow, IsEarlier, IsNever, NotesAnswer, Tells, after_cited, cited_in, noted_at}
+use Rattle.shr_audit_causes.specs.Cites.{IsNever, after_cited}
+use Rattle.shr_report.proofs.Reading.{either}
+use Rattle.shr_case.proofs.Firsts.{some_is}
 
 -- ---- the order of commands
 
@@ -71,13 +64,9 @@ apart_of v w e same = by (v == w) refl e
     by true f g = absurd cc
     by false f g = let other : v ≡ w → ⊥ = grind (arith, nat_tests) in other (sym same)
 
-or_false : (a b : Bool) → (a || b) ≡ false → (a ≡ false) × (b ≡ false)
+pub or_false : (a b : Bool) → (a || b) ≡ false → (a ≡ false) × (b ≡ false)
 or_false true b e = absurd cc
 or_false false b e = (refl, e)
-
-or_true : (a b : Bool) → (a || b) ≡ true → (a ≡ true) ⊎ (b ≡ true)
-or_true true b e = inl refl
-or_true false b e = inr e
 
 -- one more is so, which comes behind all of which it was
 module _ (P Q : Serial → Type 0) (w k : ℕ) (to : (x : Serial) → P x → Q x) (from : (x : Serial) → Q x → P x ⊎ (x ≡ serial_of w k)) (earlier : (x : Serial) → P x → IsEarlier w k x) (own : Q (serial_of w k)) where
@@ -116,7 +105,7 @@ module _ (P Q : Serial → Type 0) (w k : ℕ) (to : (x : Serial) → P x → Q 
       | inl p ↦ t.alone (or_false others (not (v == w)) e).0 x p
       | inr is ↦ ap (λ (y : Serial). y.worker) is ∙ same_of v w (or_false others (not (v == w)) e).1
     ];
-    apart = λ e. elim (or_true others (not (v == w)) e) [
+    apart = λ e. elim (either others (not (v == w)) e) [
       | inl holds ↦ (let y = t.apart holds in (y.0, y.1, to y.0 y.2))
       | inr other ↦ (serial_of w k, apart_of v w other, own)
     ];
@@ -138,9 +127,6 @@ something_told s r what w k n c own t = tells_more (λ x. IsEarlier w k x × Cit
     (λ x p. (one_later w k x p.0, p.1))
     (λ x q. elim (before_or_itself w k x q.0) [ inl before ↦ inl (before, q.1) | inr same ↦ inr same ])
     (λ x p. p.0) (itself_later w k, own) c t
-
-some_same : {X : Type 0} (a b : X) → ◌≡◌ {A = Option X} (Some a) (Some b) → a ≡ b
-some_same a b e = cc
 
 -- what an answer tells is noted
 pub answer_noted : (s : Script) (r : Report) (what : What) (w k : ℕ) (told : Option ℕ) (table : List Cited) → ((n : ℕ) → Cites s r what n (serial_of w k) ↔ (told ≡ Some n)) → NotesAnswer s r what w k table (noted_at told w k table)
@@ -169,7 +155,7 @@ answer_noted s r what w k (Some m) table tells = record {
         by_order false f =
             let other : n ≡ m → ⊥ = grind (arith, nat_tests) in
             subst (Tells (λ x. IsEarlier w (k + 1) x × Cites s r what n x)) (sym (get_or-set_other table m n (after_cited (cited_in table m) w k) Never other))
-            (nothing_told s r what w k n (cited_in table n) (λ c. other (sym (some_same m n ((tells n).0 c)))) (before n lt))
+            (nothing_told s r what w k n (cited_in table n) (λ c. other (sym (some_is m n ((tells n).0 c)))) (before n lt))
 
 -- what the answer to a command tells, by its reply
 cites_reply : (s : Script) (r : Report) (what : What) (w k n : ℕ) (a : Answered) → answer_at r (serial_of w k) ≡ Some a → Cites s r what n (serial_of w k) ↔ CitesNow r what (command_at s (serial_of w k)) a.reply n
@@ -177,11 +163,11 @@ cites_reply s r what w k n a there = (to (answer_at r (serial_of w k)) there, fr
   where
     to : (o : Option Answered) → o ≡ Some a → IsSomeAnd (option_map (λ (b : Answered). b.reply) o) (λ x. CitesNow r what (command_at s (serial_of w k)) x n) → CitesNow r what (command_at s (serial_of w k)) a.reply n
     to None e c = absurd c
-    to (Some b) e c = subst (λ (x : Answered). CitesNow r what (command_at s (serial_of w k)) x.reply n) (some_same b a e) c
+    to (Some b) e c = subst (λ (x : Answered). CitesNow r what (command_at s (serial_of w k)) x.reply n) (some_is b a e) c
 
     from : (o : Option Answered) → o ≡ Some a → CitesNow r what (command_at s (serial_of w k)) a.reply n → IsSomeAnd (option_map (λ (b : Answered). b.reply) o) (λ x. CitesNow r what (command_at s (serial_of w k)) x n)
     from None e c = absurd (cc)
-    from (Some b) e c = subst (λ (x : Answered). CitesNow r what (command_at s (serial_of w k)) x.reply n) (sym (some_same b a e)) c
+    from (Some b) e c = subst (λ (x : Answered). CitesNow r what (command_at s (serial_of w k)) x.reply n) (sym (some_is b a e)) c
 
 pub told_noted : (s : Script) (r : Report) (what : What) (w k : ℕ) (a : Answered) (told : Option ℕ) (table : List Cited) → Some a ≡ answer_at r (serial_of w k)
     → ((n : ℕ) → CitesNow r what (command_at s (serial_of w k)) a.reply n ↔ (told ≡ Some n)) → NotesAnswer s r what w k table (noted_at told w k table)

@@ -1,18 +1,11 @@
 -- The phases of an id along the journal of registrations.
-use Rattle.std.proofs.Common.{◌≡◌, ℕ, zero, suc, ◌+◌, ◌-◌, ◌<◌, ◌≤◌, Bool, cond, List, length, get_or, take, Option, Some, None, refl, sym, ap, subst, ◌∙◌, inl, inr, arith, eq-eqb, ne_eqb}
-use Rattle.std.specs.Prelude.{◌↔◌, slice_get, option_map}
-use Rattle.std.proofs.lemmas.Bool.{cases_lt}
-use Rattle.std.proofs.lemmas.List.{take_more, take_all}
-use Rattle.std.proofs.lemmas.Option.{slice_get-get_or, slice_get_cases, slice_get_past}
+use Rattle.shr_audit_causes.proofs.Common.{◌≡◌, ℕ, zero, suc, ◌+◌, ◌-◌, ◌<◌, ◌≤◌, Bool, cond, List, length, get_or, take, Option, Some, None, refl, sym, ap, subst, ◌∙◌, inl, inr, arith, eq-eqb, ◌↔◌, slice_get, option_map, cases_lt, take_all, slice_get-get_or, PoolEntry, id_of, phase_of, IsBehindOf, IsSecondOf, IsNextOf, IsOf}
+use Rattle.std.proofs.Common.{ne_eqb}
+use Rattle.std.proofs.lemmas.List.{take_more}
+use Rattle.std.proofs.lemmas.Option.{slice_get_cases, slice_get_past}
 use Rattle.std.proofs.Math.Nat.{eq-or-lt_of_le}
-use Rattle.shr_base.specs.declared.journals.PoolEntry.{PoolEntry}
-use Rattle.shr_model.specs.Pool.{id_of, phase_of}
 use Rattle.shr_model.proofs.PoolLaws.{one_of, phase_of_push}
-use Rattle.shr_audit_causes.specs.Behind.{IsBehindOf, IsSecondOf}
-use Rattle.shr_audit_causes.specs.Cites.{IsNextOf, IsOf}
-
-some_same : (a b : ℕ) → ◌≡◌ {A = Option ℕ} (Some a) (Some b) → a ≡ b
-some_same a b e = cc
+use Rattle.shr_model.proofs.Lists.{some_same}
 
 -- the phase of an id after so many entries
 abbrev pub phase : List PoolEntry → ℕ → ℕ → ℕ

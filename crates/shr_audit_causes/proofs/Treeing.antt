@@ -1,24 +1,9 @@
 -- The entries of the journal of the tree against the table of the answers that cite them.
-use Rattle.std.proofs.Common.{◌≡◌, ℕ, Bool, true, List, length, Option, Some, None, refl, sym, ap, subst, ◌∙◌}
-use Rattle.std.specs.Prelude.{slice_get}
-use Rattle.std.specs.Bool.{Decides}
-use Rattle.std.specs.Option.{IsSomeAnd}
-use Rattle.std.proofs.lemmas.Option.{slice_get_within}
-use Rattle.shr_base.specs.declared.places.Serial.{Serial}
-use Rattle.shr_base.specs.declared.replies.Reply.{Reply}
-use Rattle.shr_base.specs.declared.journals.TreeEntry.{TreeEntry}
-use Rattle.shr_base.specs.declared.journals.TreeEntry.TheVariants.{Begin, Done, Made}
-use Rattle.shr_base.specs.declared.scripts.Script.{Script}
-use Rattle.shr_report.specs.declared.report.Report.{Report}
+use Rattle.shr_audit_causes.proofs.Common.{◌≡◌, ℕ, Bool, true, List, length, Option, Some, None, refl, sym, ap, subst, ◌∙◌, slice_get, Decides, IsSomeAnd, slice_get_within, Serial, Reply, TreeEntry, Begin, Done, Script, Report, command_at, reply_at, serial_of, IsTreeNumbered, Each, Cited, Never, Once, Often, AreCited, Cites, CitesNow, Tells, cited_in, IsBeginCited, IsDoneOnce, IsMadeOnce, is_cited, is_once}
+use Rattle.shr_base.specs.declared.journals.TreeEntry.TheVariants.{Made}
 use Rattle.shr_report.specs.Causes.{IsOffline, MayHaveBegun}
-use Rattle.shr_report.specs.Parts.{command_at, reply_at, serial_of}
-use Rattle.shr_report.specs.WellFormed.{IsTreeNumbered}
-use Rattle.shr_formed.specs.Each.{Each}
-use Rattle.shr_audit_causes.specs.declared.cites.Cited.{Cited}
-use Rattle.shr_audit_causes.specs.declared.cites.Cited.TheVariants.{Never, Once, Often}
 use Rattle.shr_audit_causes.specs.declared.cites.What.TheVariants as what
-use Rattle.shr_audit_causes.specs.Cites.{AreCited, Cites, CitesNow, Tells, cited_in}
-use Rattle.shr_audit_causes.specs.Trees.{AreBeginsCaused, AreDonesCaused, AreMadesCaused, IsBeginCited, IsDoneOnce, IsMadeOnce, is_cited, is_once}
+use Rattle.shr_audit_causes.specs.Trees.{AreBeginsCaused, AreDonesCaused, AreMadesCaused}
 
 -- there is just one of which it is so
 record IsOne (P : Serial → Type 0) : Type 0 where

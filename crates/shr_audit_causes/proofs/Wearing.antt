@@ -1,10 +1,8 @@
 -- An attempt that is worn, by its outcome and in the words of the law.
-use Rattle.std.proofs.Common.{◌≡◌, ℕ, subst, refl}
+use Rattle.shr_audit_causes.proofs.Common.{◌≡◌, ℕ, subst, refl, Script, Report}
 use Rattle.shr_base.specs.declared.replies.Spent.TheVariants as spent
-use Rattle.shr_base.specs.declared.scripts.Script.{Script}
 use Rattle.shr_base.specs.declared.walks.Outcome.{Outcome}
 use Rattle.shr_base.specs.declared.walks.Outcome.TheVariants as outcome
-use Rattle.shr_report.specs.declared.report.Report.{Report}
 use Rattle.shr_report.specs.Causes.{IsSpent}
 use Rattle.shr_audit_causes.specs.Walks.{IsOutcomeCaused}
 

@@ -12,13 +12,13 @@ use Rattle.shr_script.specs.Content.{content_of, IsValid}
 use Rattle.shr_script.proofs.BoundsLaws.{within_of_valid}
 use Rattle.shr_audit_rows.specs.Rows.{AreFew}
 
-few_workers : (s : Script) → IsValid (content_of s) → length s.workers.items ≤ 2 ^ 16
+pub few_workers : (s : Script) → IsValid (content_of s) → length s.workers.items ≤ 2 ^ 16
 few_workers s h =
     let few = (within_of_valid (content_of s) h).workers in
     let many : length (map (λ w. w.commands.items) s.workers.items) ≡ length s.workers.items = length-map s.workers.items (λ w. w.commands.items) in
     omega (arith, few, many)
 
-few_commands : (s : Script) → IsValid (content_of s) → (worker : ℕ) (w : WorkerScript) → slice_get s.workers.items worker ≡ Some w → length w.commands.items ≤ 2 ^ 32
+pub few_commands : (s : Script) → IsValid (content_of s) → (worker : ℕ) (w : WorkerScript) → slice_get s.workers.items worker ≡ Some w → length w.commands.items ≤ 2 ^ 32
 few_commands s h worker w e =
     let lists = map (λ w. w.commands.items) s.workers.items in
     let all = (within_of_valid (content_of s) h).commands in

@@ -1,19 +1,9 @@
 -- When keys that go up and keys that go down settle.
-use Rattle.std.proofs.Common.{◌≡◌, ◌≢◌, ℕ, ◌<◌, ◌%◌, ◌^◌, ◌⊎◌, inl, inr, Bool, true, false, cond, List, [], ◌∷◌, ◌++◌, length, map, refl, sym, ap, subst, ◌∙◌, arith, ne_eqb}
-use Rattle.std.specs.Prelude.{◌==◌, ◌↔◌}
-use Rattle.std.specs.Bool.{Decides}
-use Rattle.std.specs.List.{AllByRecursion}
-use Rattle.std.proofs.lemmas.Bool.{cases_eq}
-use Rattle.std.proofs.lemmas.List.Sums.{count_by-le-length, sum_by-cons, sum_by-append}
-use Rattle.shr_sums.specs.declared.moves.Move.{Move}
+use Rattle.shr_audit_charges.proofs.Common.{◌≡◌, ◌≢◌, ℕ, ◌<◌, ◌%◌, ◌^◌, ◌⊎◌, inl, inr, Bool, true, false, cond, List, [], ◌∷◌, ◌++◌, length, map, refl, sym, ap, subst, ◌∙◌, arith, ne_eqb, ◌==◌, Decides, AllByRecursion, cases_eq, count_by-le-length, sum_by-cons, sum_by-append, Move, AreBalanced, unit}
+use Rattle.std.specs.Prelude.{◌↔◌}
 use Rattle.shr_sums.specs.Moves.{ups_at, downs_at, IsSettled}
-use Rattle.shr_audit_charges.specs.Balance.{AreBalanced, unit}
 use Rattle.shr_audit_charges.proofs.PathsLaw.{times, times_cons}
-
--- a cond of nothing
-nothing : (b : Bool) → ◌≡◌ {A = ℕ} (cond b 0 0) 0
-nothing true = refl
-nothing false = refl
+use Rattle.shr_model.proofs.Booleans.{nothing}
 
 ups_map : (key : ℕ) (ks : List ℕ) → ups_at key (map (unit true) ks) ≡ times key ks
 ups_map key [] = refl

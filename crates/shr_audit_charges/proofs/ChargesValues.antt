@@ -1,21 +1,11 @@
 -- What is asked of charges, at known values.
-use Rattle.std.proofs.Common.{◌≡◌, ℕ, ◌-◌, ◌≤◌, Bool, true, false, List, [], ◌∷◌, Some, None, refl, arith}
-use Rattle.std.specs.Prelude.{ℤ, pos}
-use Rattle.shr_base.specs.declared.journals.TreeEntry.TheVariants.{Begin, Made}
-use Rattle.shr_base.specs.declared.journals.UseStep.{UseStep}
+use Rattle.shr_audit_charges.proofs.Common.{◌≡◌, ℕ, ◌-◌, ◌≤◌, Bool, true, false, List, [], ◌∷◌, Some, None, refl, arith, pos, Begin, Made, UseStep, AreBalanced, AreCharged, noted, usage_of, uses_of, IsWithin, Serial, AreFew, answer_keys, by_keys, charge_keys, MayStand, limit_in, own_key, own_of, path_keys, start_of, hierarchy, state_of, down_keys, up_keys}
+use Rattle.std.specs.Prelude.{ℤ}
 use Rattle.shr_model.specs.Groups.{path_within}
-use Rattle.shr_audit_charges.specs.Balance.{AreBalanced}
-use Rattle.shr_audit_charges.specs.History.{AreCharged, FoundSo, noted, usage_of, uses_of}
-use Rattle.shr_audit_charges.specs.Left.{IsWithin}
-use Rattle.shr_base.specs.declared.places.Serial.{Serial}
+use Rattle.shr_audit_charges.specs.History.{FoundSo}
 use Rattle.shr_base.specs.declared.replies.Reply.TheVariants.{Root}
 use Rattle.shr_base.specs.declared.scripts.Command.TheVariants.{Offline}
-use Rattle.shr_audit_charges.specs.Nets.{AreFew, answer_keys, by_keys, charge_keys}
 use Rattle.shr_audit_charges.proofs.Pushed.{none_some}
-use Rattle.shr_audit_charges.specs.Own.{MayStand, limit_in, own_key, own_of}
-use Rattle.shr_audit_charges.specs.Paths.{path_keys, start_of}
-use Rattle.shr_audit_charges.specs.Tree.{hierarchy, state_of}
-use Rattle.shr_audit_charges.specs.Uses.{down_keys, up_keys}
 
 -- an operation of command 5 of worker 0
 op : ℕ → ℕ → ℤ → Bool → UseStep

@@ -1,16 +1,11 @@
 -- What the operations of each group come to after one more, and when it may follow.
-use Rattle.std.proofs.Common.{◌≡◌, ◌≢◌, ℕ, ◌+◌, ◌<◌, ◌≤◌, ◌⊎◌, inl, inr, Bool, true, false, not, cond, List, [], ◌∷◌, ◌++◌, length, get_or, set, take, drop, Option, Some, None, refl, sym, ap, subst, ◌∙◌, arith, ne_eqb, eq-eqb}
-use Rattle.std.specs.Prelude.{◌==◌, slice_get}
-use Rattle.std.proofs.lemmas.Bool.{cases_eq}
-use Rattle.std.proofs.lemmas.List.{length_push, take_more, take_all, length-set, length-take-le}
+use Rattle.shr_audit_charges.proofs.Common.{◌≡◌, ◌≢◌, ℕ, ◌+◌, ◌<◌, ◌≤◌, ◌⊎◌, inl, inr, Bool, true, false, not, cond, List, [], ◌∷◌, ◌++◌, length, get_or, set, take, drop, Option, Some, None, refl, sym, ap, subst, ◌∙◌, arith, ne_eqb, eq-eqb, ◌==◌, slice_get, cases_eq, length_push, take_more, take_all, length-set, length-take-le, count_by-le-length, sum_by-append, slice_get-get_or, slice_get_within, UseStep, ups, downs, Usage, uses_of, AreCharged, usage_of, AreUsagesOf, AreNone, noted, some_is}
 use Rattle.std.proofs.lemmas.List.Filters.{length-filter_both}
-use Rattle.std.proofs.lemmas.List.Sums.{length-filter, count_by-le-length, sum_by-append}
-use Rattle.std.proofs.lemmas.Option.{slice_get-get_or, slice_get_within}
-use Rattle.shr_base.specs.declared.journals.UseStep.{UseStep}
-use Rattle.shr_model.specs.Charges.{ups, downs, IsNextUse, IsChargeHistory}
-use Rattle.shr_audit_charges.specs.declared.history.Usage.{Usage}
-use Rattle.shr_audit_charges.specs.History.{uses_of, AreCharged, usage_of, AreUsagesOf, AreNone, MayFollow, usage_with, put_usage, noted}
-use Rattle.shr_audit_charges.proofs.Pushed.{push_each, here_each, all_push, all_here, split_at, filter_in, filter_out, filter_here, set_own, set_other, some_same}
+use Rattle.std.proofs.lemmas.List.Sums.{length-filter}
+use Rattle.shr_model.specs.Charges.{IsNextUse, IsChargeHistory}
+use Rattle.shr_audit_charges.specs.History.{MayFollow, usage_with, put_usage}
+use Rattle.shr_audit_charges.proofs.Pushed.{push_each, here_each, all_here, split_at, filter_in, filter_out, filter_here, set_own, set_other}
+use Rattle.shr_model.proofs.Lists.{all_push}
 
 -- ---- the operations of a group
 
@@ -60,7 +55,7 @@ noted_each xs us o h g x at = by_usage (slice_get us o.group) refl at
     by_group : (y : Usage) → slice_get us o.group ≡ Some y → (g ≡ o.group) ⊎ (g ≢ o.group) → slice_get (set us o.group (usage_with y o.up)) g ≡ Some x → x ≡ usage_of (uses_of (xs ++ o ∷ []) g)
     by_group y there (inl own) at =
         let here : slice_get (set us o.group (usage_with y o.up)) o.group ≡ Some x = subst (λ (j : ℕ). slice_get (set us o.group (usage_with y o.up)) j ≡ Some x) own at in
-        let x_is : usage_with y o.up ≡ x = some_same (usage_with y o.up) x (sym (set_own us o.group (usage_with y o.up) (slice_get_within us o.group y there)) ∙ here) in
+        let x_is : usage_with y o.up ≡ x = some_is (usage_with y o.up) x (sym (set_own us o.group (usage_with y o.up) (slice_get_within us o.group y there)) ∙ here) in
         sym x_is ∙ ap (λ (v : Usage). usage_with v o.up) (h o.group y there) ∙ sym (usage_push (uses_of xs o.group) o) ∙ ap usage_of (sym (uses_own xs o o.group refl)) ∙ ap (λ (j : ℕ). usage_of (uses_of (xs ++ o ∷ []) j)) (sym own)
     by_group y there (inr other) at = h g x (sym (set_other us o.group g (usage_with y o.up) other) ∙ at) ∙ ap usage_of (sym (uses_other xs o g (λ same. other (sym same))))
 

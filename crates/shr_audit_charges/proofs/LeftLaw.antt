@@ -1,31 +1,11 @@
 -- The keys of operations and of objects that are left, counted by their groups.
-use Rattle.std.proofs.Common.{◌≡◌, ◌≢◌, ℕ, ◌+◌, ◌/◌, ◌<◌, ◌≤◌, ◌⊎◌, inl, inr, Bool, true, false, not, cond, List, [], ◌∷◌, ◌++◌, length, map, refl, sym, ap, subst, ◌∙◌, arith, ne_eqb, eq-eqb}
-use Rattle.std.specs.Prelude.{◌==◌, flat_map, sum_by}
-use Rattle.std.specs.Bool.{Decides}
-use Rattle.std.specs.List.{AllByRecursion}
-use Rattle.std.proofs.lemmas.Bool.{cases_eq, cases_lt}
-use Rattle.std.proofs.lemmas.Bool.Decides.{Decides-like}
-use Rattle.std.proofs.lemmas.Int.{ints}
-use Rattle.std.proofs.lemmas.List.Sums.{sum_by-cons}
-use Rattle.shr_base.specs.declared.ends.PlaceEnd.{PlaceEnd}
-use Rattle.shr_base.specs.declared.journals.UseStep.{UseStep}
-use Rattle.shr_base.specs.declared.objects.Object.{Object}
-use Rattle.shr_base.specs.declared.places.Serial.{Serial}
-use Rattle.shr_model.specs.Charges.{ups, downs}
+use Rattle.shr_audit_charges.proofs.Common.{◌≡◌, ◌≢◌, ℕ, ◌+◌, ◌/◌, ◌<◌, ◌≤◌, ◌⊎◌, inl, inr, Bool, true, false, not, cond, List, [], ◌∷◌, ◌++◌, length, map, refl, sym, ap, subst, ◌∙◌, arith, ne_eqb, eq-eqb, ◌==◌, flat_map, sum_by, Decides, AllByRecursion, cases_eq, cases_lt, Decides-like, ints, sum_by-cons, PlaceEnd, UseStep, Object, Serial, ups, downs, is_at_or_above, born_below, IsTree, path_of, Report, journals_of, AreBalanced, uses_of, tag_keys, left_keys, AreFinal, own_key, keys_with, start_of, up_keys, down_keys}
 use Rattle.shr_model.specs.Families.{items_of}
-use Rattle.shr_model.specs.Freeings.{is_at_or_above, born_below}
-use Rattle.shr_model.specs.Groups.{IsTree, path_of}
 use Rattle.shr_replay.specs.Tags.{tag_of}
-use Rattle.shr_report.specs.declared.report.Report.{Report}
-use Rattle.shr_report.specs.Parts.{journals_of}
-use Rattle.shr_audit_charges.specs.Balance.{AreBalanced}
-use Rattle.shr_audit_charges.specs.History.{uses_of}
-use Rattle.shr_audit_charges.specs.Left.{tag_keys, left_keys, left_below, AreFinal}
-use Rattle.shr_audit_charges.specs.Own.{own_key}
-use Rattle.shr_audit_charges.specs.Paths.{keys_with, start_of}
-use Rattle.shr_audit_charges.specs.Uses.{up_keys, down_keys}
+use Rattle.shr_audit_charges.specs.Left.{left_below}
 use Rattle.shr_audit_charges.proofs.BalanceLaw.{none_of}
 use Rattle.shr_audit_charges.proofs.PathsLaw.{times, times_cons, times_both, path_times, path_there, keyed_group, IsOfGroup}
+use Rattle.shr_model.proofs.Lists.{all_both}
 
 abbrev nobody : Serial
 nobody = record { worker = 0; command = 0 }
@@ -131,10 +111,6 @@ alone_or_not groups key = by_both (cases_eq key (own_key (key / 281474976710656)
 alone : (groups g : ℕ) → g < groups → IsAlone groups (own_key g 0 0)
 unfolding IsAlone
 alone groups g lt = let k : own_key g 0 0 / 281474976710656 ≡ g = omega arith in (omega (arith, k), omega (arith, k, lt))
-
-all_both : (P : ℕ → Type 0) (xs ys : List ℕ) → AllByRecursion P xs → AllByRecursion P ys → AllByRecursion P (xs ++ ys)
-all_both P [] ys a b = b
-all_both P (x ∷ xs) ys a b = (a.0, all_both P xs ys a.1 b)
 
 uses_alone : (up : Bool) (groups : ℕ) (uses : List UseStep) → AllByRecursion (λ (o : UseStep). o.group < groups) uses → AllByRecursion (IsAlone groups) (flat_map (keys_of up false) uses)
 uses_alone up groups [] h = tt

@@ -1,11 +1,12 @@
+mod Common
 mod Pushed
 mod Rows
 mod HistoryLaw
 mod OwnLaw
 mod TreeLaw
-mod PathsLaw
+pub mod PathsLaw
 mod BalanceLaw
-mod LeftLaw
+pub mod LeftLaw
 mod NetsLaw
 mod Workers
 mod NetsWhole

@@ -1,40 +1,16 @@
 -- What each command charged and freed, counted by its keys.
-use Rattle.std.proofs.Common.{◌≡◌, ◌≢◌, ℕ, zero, suc, ◌+◌, ◌<◌, ◌≤◌, ◌^◌, ◌⊎◌, inl, inr, Bool, true, false, not, ◌&&◌, cond, List, [], ◌∷◌, ◌++◌, length, map, take, Option, Some, None, refl, sym, ap, ◌∙◌, arith, ne_eqb, eq-eqb}
-use Rattle.std.specs.Prelude.{◌==◌, flat_map, sum_by, slice_get, option_map, option_and_then}
-use Rattle.std.specs.List.{AllByRecursion, enumerate_from}
-use Rattle.std.proofs.lemmas.Bool.{cases_eq}
+use Rattle.shr_audit_charges.proofs.Common.{◌≡◌, ◌≢◌, ℕ, zero, suc, ◌+◌, ◌<◌, ◌≤◌, ◌^◌, ◌⊎◌, inl, inr, Bool, true, false, not, ◌&&◌, cond, List, [], ◌∷◌, ◌++◌, length, map, take, Option, Some, None, refl, sym, ap, ◌∙◌, arith, ne_eqb, eq-eqb, ◌==◌, flat_map, sum_by, slice_get, option_map, option_and_then, AllByRecursion, enumerate_from, cases_eq, sum_by-cons, PlaceEnd, Entry, UseStep, Object, Place, Serial, Answered, Reply, Command, WorkerScript, is_serial, items_at, Freeing, freeings_at, is_at_or_above, born_below, IsTree, path_of, freed_by, Report, charged, freed_in, is_of, IsUseNumbered, answer_at, commands_in, entry_by, journals_of, reply_at, serial_of, by_keys, freed_keys, place_keys, charge_keys, answer_keys, commands_keys, workers_keys, own_key, keys_with, path_keys, start_of}
 use Rattle.std.proofs.lemmas.List.Concat.{flat_map-append}
-use Rattle.std.proofs.lemmas.List.Sums.{sum_by-cons}
-use Rattle.shr_base.specs.declared.ends.PlaceEnd.{PlaceEnd}
-use Rattle.shr_base.specs.declared.journals.Entry.{Entry}
-use Rattle.shr_base.specs.declared.journals.UseStep.{UseStep}
-use Rattle.shr_base.specs.declared.objects.Object.{Object}
-use Rattle.shr_base.specs.declared.places.Place.{Place}
-use Rattle.shr_base.specs.declared.places.Serial.{Serial}
-use Rattle.shr_base.specs.declared.replies.Answered.{Answered}
-use Rattle.shr_base.specs.declared.replies.Reply.{Reply}
 use Rattle.shr_base.specs.declared.replies.Reply.TheVariants as reply
-use Rattle.shr_base.specs.declared.scripts.Command.{Command}
 use Rattle.shr_base.specs.declared.scripts.Command.TheVariants as command
-use Rattle.shr_base.specs.declared.scripts.WorkerScript.{WorkerScript}
-use Rattle.shr_model.specs.Commands.{is_serial}
-use Rattle.shr_model.specs.Families.{lists_moved_at, items_at}
-use Rattle.shr_model.specs.Freeings.{Freeing, freeings_at, is_at_or_above, born_below}
-use Rattle.shr_model.specs.Groups.{IsTree, path_of}
-use Rattle.shr_model.specs.Items.{step, freed_by, first_moved, later_moved, items_from}
+use Rattle.shr_model.specs.Families.{lists_moved_at}
+use Rattle.shr_model.specs.Items.{step, first_moved, later_moved, items_from}
 use Rattle.shr_replay.specs.Journals.{freed_tags}
 use Rattle.shr_replay.specs.Tags.{freed_tag}
-use Rattle.shr_report.specs.declared.report.Report.{Report}
-use Rattle.shr_report.specs.Charges.{charged, freed_in, is_of}
-use Rattle.shr_report.specs.Numbers.{IsUseNumbered}
-use Rattle.shr_report.specs.Parts.{answer_at, commands_in, entry_by, journals_of, reply_at, serial_of}
-use Rattle.shr_audit_charges.specs.Nets.{by_keys, freed_keys, place_keys, charge_keys, answer_keys, commands_keys, workers_keys}
 use Rattle.shr_audit_charges.specs.Nets as nets
-use Rattle.shr_audit_charges.specs.Own.{own_key}
-use Rattle.shr_audit_charges.specs.Paths.{keys_with, path_keys, start_of}
 use Rattle.shr_audit_charges.proofs.LeftLaw.{keys_of, ways, ways_cons}
 use Rattle.shr_audit_charges.proofs.OwnLaw.{own, IsOwn, own_or_not}
-use Rattle.shr_audit_charges.proofs.PathsLaw.{times, times_cons, times_both, path_times}
+use Rattle.shr_audit_charges.proofs.PathsLaw.{times, times_cons, times_both, path_times, none_if, one_if}
 
 -- the numbers of a command have the ranges of their types
 pub record InRange (by : Serial) : Type 0 where
@@ -55,12 +31,6 @@ apart_keys g k a b ra rb (inl ne) e = let x = ra.worker in let y = ra.command in
 apart_keys g k a b ra rb (inr ne) e = let x = ra.worker in let y = ra.command in let z = rb.worker in let w = rb.command in
     let gs : k ≡ g = omega (arith, x, y, z, w, e) in let ws : a.worker ≡ b.worker = omega (arith, x, y, z, w, e, gs) in ne (omega (arith, e, gs, ws))
 
-one_yes : (a b : ℕ) → a ≡ b → ◌≡◌ {A = ℕ} (cond (a == b) 1 0) 1
-one_yes a b e = ap {B = ℕ} (λ (t : Bool). cond t 1 0) (eq-eqb a b e)
-
-one_no : (a b : ℕ) → a ≢ b → ◌≡◌ {A = ℕ} (cond (a == b) 1 0) 0
-one_no a b ne = ap {B = ℕ} (λ (t : Bool). cond t 1 0) (ne_eqb a b ne)
-
 -- ---- paths
 
 same_times : (g : ℕ) (by : Serial) (gs : List ℕ) → times (key_in g by) (keys_with by gs) ≡ times g gs
@@ -68,12 +38,12 @@ same_times g by [] = refl
 same_times g by (k ∷ gs) = by_eq (same_times g by gs) (cases_eq k g)
   where
     by_eq : times (key_in g by) (keys_with by gs) ≡ times g gs → (k ≡ g) ⊎ (k ≢ g) → times (key_in g by) (keys_with by (k ∷ gs)) ≡ times g (k ∷ gs)
-    by_eq more (inl e) = let a = times_cons (key_in g by) (key_in k by) (keys_with by gs) in let b = times_cons g k gs in let x = one_yes (key_in k by) (key_in g by) (omega (arith, e)) in let y = one_yes k g e in omega (arith, a, b, x, y, more)
-    by_eq more (inr ne) = let a = times_cons (key_in g by) (key_in k by) (keys_with by gs) in let b = times_cons g k gs in let x = one_no (key_in k by) (key_in g by) (λ q. ne (omega (arith, q))) in let y = one_no k g ne in omega (arith, a, b, x, y, more)
+    by_eq more (inl e) = let a = times_cons (key_in g by) (key_in k by) (keys_with by gs) in let b = times_cons g k gs in let x = one_if (key_in k by) (key_in g by) (omega (arith, e)) in let y = one_if k g e in omega (arith, a, b, x, y, more)
+    by_eq more (inr ne) = let a = times_cons (key_in g by) (key_in k by) (keys_with by gs) in let b = times_cons g k gs in let x = none_if (key_in k by) (key_in g by) (λ q. ne (omega (arith, q))) in let y = none_if k g ne in omega (arith, a, b, x, y, more)
 
 other_times : (g : ℕ) (by other : Serial) (gs : List ℕ) → InRange by → InRange other → Apart other by → times (key_in g by) (keys_with other gs) ≡ 0
 other_times g by other [] ra rb ap' = refl
-other_times g by other (k ∷ gs) ra rb ap' = let a = times_cons (key_in g by) (key_in k other) (keys_with other gs) in let x = one_no (key_in k other) (key_in g by) (apart_keys g k other by rb ra ap') in let more = other_times g by other gs ra rb ap' in omega (arith, a, x, more)
+other_times g by other (k ∷ gs) ra rb ap' = let a = times_cons (key_in g by) (key_in k other) (keys_with other gs) in let x = none_if (key_in k other) (key_in g by) (apart_keys g k other by rb ra ap') in let more = other_times g by other gs ra rb ap' in omega (arith, a, x, more)
 
 path_count : (parents : List ℕ) (g birth : ℕ) (by : Serial) → IsTree parents → g < length parents → times (key_in g by) (path_keys parents by birth) ≡ cond (is_at_or_above parents g birth) 1 0
 path_count parents g birth by tree lt = same_times g by (path_of parents (start_of parents birth)) ∙ path_times parents g birth tree lt
@@ -84,16 +54,16 @@ abbrev one_key_of : Bool → Bool → ℕ → List ℕ
 one_key_of u v key = cond u (cond v (key ∷ []) []) (cond v [] (key ∷ []))
 
 head_same : (u v : Bool) (key k : ℕ) → key ≡ k → times k (one_key_of u v key) ≡ cond u (cond v 1 0) (cond (not v) 1 0)
-head_same true true key k e = let t = times_cons k key [] in let x = one_yes key k e in omega (arith, t, x)
+head_same true true key k e = let t = times_cons k key [] in let x = one_if key k e in omega (arith, t, x)
 head_same true false key k e = refl
 head_same false true key k e = refl
-head_same false false key k e = let t = times_cons k key [] in let x = one_yes key k e in omega (arith, t, x)
+head_same false false key k e = let t = times_cons k key [] in let x = one_if key k e in omega (arith, t, x)
 
 head_other : (u v : Bool) (key k : ℕ) → key ≢ k → times k (one_key_of u v key) ≡ 0
-head_other true true key k ne = let t = times_cons k key [] in let x = one_no key k ne in omega (arith, t, x)
+head_other true true key k ne = let t = times_cons k key [] in let x = none_if key k ne in omega (arith, t, x)
 head_other true false key k ne = refl
 head_other false true key k ne = refl
-head_other false false key k ne = let t = times_cons k key [] in let x = one_no key k ne in omega (arith, t, x)
+head_other false false key k ne = let t = times_cons k key [] in let x = none_if key k ne in omega (arith, t, x)
 
 same_serial : (w n w' n' : ℕ) → w ≡ w' → n ≡ n' → ◌≡◌ {A = Serial} (record { worker = w; command = n }) (record { worker = w'; command = n' })
 same_serial w n w' n' e f = rw (e, f) refl

@@ -1,49 +1,22 @@
 -- The law on what each command's operations come to, against the keys that go up and down.
-use Rattle.std.proofs.Common.{◌≡◌, ℕ, suc, ◌+◌, ◌-◌, ◌/◌, ◌%◌, ◌<◌, ◌≤◌, ◌^◌, ◌⊎◌, inl, inr, Bool, true, false, cond, List, [], ◌∷◌, ◌++◌, length, map, Option, Some, None, refl, sym, ap, subst, ◌∙◌, arith}
-use Rattle.std.specs.Prelude.{pos, ◌-ℤ◌, find, flat_map, sum_by, slice_get, nat_lt, option_map, option_and_then}
-use Rattle.std.specs.Bool.{Decides}
-use Rattle.std.specs.List.{AllByRecursion, enumerate_from}
-use Rattle.std.proofs.lemmas.Bool.{cases_lt}
-use Rattle.std.proofs.lemmas.Bool.Decides.{nat_tests, Decides-like}
-use Rattle.std.proofs.lemmas.Int.{ints}
-use Rattle.std.proofs.lemmas.List.Sums.{sum_by-cons}
-use Rattle.std.proofs.lemmas.Option.{slice_get_past, slice_get_within}
-use Rattle.shr_base.specs.declared.ends.PlaceEnd.{PlaceEnd}
+use Rattle.shr_audit_charges.proofs.Common.{◌≡◌, ℕ, suc, ◌+◌, ◌-◌, ◌/◌, ◌%◌, ◌<◌, ◌≤◌, ◌^◌, ◌⊎◌, inl, inr, Bool, true, false, cond, List, [], ◌∷◌, ◌++◌, length, map, Option, Some, None, refl, sym, ap, subst, ◌∙◌, arith, pos, find, flat_map, sum_by, slice_get, nat_lt, option_map, option_and_then, Decides, AllByRecursion, enumerate_from, cases_lt, nat_tests, Decides-like, ints, sum_by-cons, slice_get_past, slice_get_within, PlaceEnd, Entry, UseStep, Place, Serial, Answered, Reply, Command, Script, WorkerScript, ups, downs, is_serial, Freeing, freeings_at, born_below, items_at, IsTree, freed_by, FreedTag, Report, charged, freed_in, is_of, IsUseNumbered, answer_at, commands_in, entry_by, journals_of, parents_of, reply_at, serial_of, AreBalanced, AreFew, AreNets, by_keys, freed_keys, place_keys, answer_keys, commands_keys, workers_keys, up_keys, down_keys, some_is}
+use Rattle.std.specs.Prelude.{◌-ℤ◌}
 use Rattle.shr_base.specs.declared.ends.WorkerPart.{WorkerPart}
-use Rattle.shr_base.specs.declared.journals.Entry.{Entry}
 use Rattle.shr_base.specs.declared.journals.Entry.TheVariants as entry
-use Rattle.shr_base.specs.declared.journals.UseStep.{UseStep}
-use Rattle.shr_base.specs.declared.places.Place.{Place}
-use Rattle.shr_base.specs.declared.places.Serial.{Serial}
-use Rattle.shr_base.specs.declared.replies.Answered.{Answered}
-use Rattle.shr_base.specs.declared.replies.Reply.{Reply}
-use Rattle.shr_base.specs.declared.scripts.Command.{Command}
-use Rattle.shr_base.specs.declared.scripts.Script.{Script}
-use Rattle.shr_base.specs.declared.scripts.WorkerScript.{WorkerScript}
 use Rattle.shr_base.specs.declared.walks.Isolation.{Isolation}
 use Rattle.shr_base.specs.declared.walks.WalkRecord.{WalkRecord}
-use Rattle.shr_model.specs.Charges.{ups, downs, usage_after}
-use Rattle.shr_model.specs.Commands.{is_serial}
-use Rattle.shr_model.specs.Freeings.{Freeing, freeings_at, born_below}
-use Rattle.shr_model.specs.Families.{items_at}
-use Rattle.shr_model.specs.Groups.{IsTree}
-use Rattle.shr_model.specs.Items.{freed_by}
+use Rattle.shr_model.specs.Charges.{usage_after}
 use Rattle.shr_model.specs.Places.{is_place}
-use Rattle.shr_replay.specs.declared.tags.FreedTag.{FreedTag}
-use Rattle.shr_report.specs.declared.report.Report.{Report}
-use Rattle.shr_report.specs.Charges.{charged, freed_in, is_of}
-use Rattle.shr_report.specs.Numbers.{HasNumbers, IsEntryNumbered, IsIsolationNumbered, IsListNumbered, IsPartNumbered, IsUseNumbered, IsWalkNumbered}
-use Rattle.shr_report.specs.Parts.{answer_at, command_at, commands_in, entry_by, isolations_in, journal_of, journals_of, parents_of, reply_at, serial_of, walks_in}
+use Rattle.shr_report.specs.Numbers.{HasNumbers, IsEntryNumbered, IsIsolationNumbered, IsListNumbered, IsPartNumbered, IsWalkNumbered}
+use Rattle.shr_report.specs.Parts.{command_at, isolations_in, journal_of, walks_in}
 use Rattle.shr_formed.proofs.Eachs.{each_in}
-use Rattle.shr_audit_charges.specs.Balance.{AreBalanced}
-use Rattle.shr_audit_charges.specs.Nets.{AreFew, AreNets, by_keys, freed_keys, place_keys, answer_keys, commands_keys, workers_keys}
-use Rattle.shr_audit_charges.specs.Uses.{up_keys, down_keys}
 use Rattle.shr_audit_charges.proofs.BalanceLaw.{none_of}
 use Rattle.shr_audit_charges.proofs.LeftLaw.{keys_of}
 use Rattle.shr_audit_charges.proofs.NetsLaw.{InRange, InRangeIf, Short, Charges, charges, key_in, own_ways, workers_count, ends_count}
 use Rattle.shr_audit_charges.proofs.OwnLaw.{own, IsOwn, own_or_not}
 use Rattle.shr_audit_charges.proofs.PathsLaw.{times, times_both, path_there, keyed_group, IsOfGroup}
-use Rattle.shr_audit_charges.proofs.Pushed.{none_some, some_same}
+use Rattle.shr_audit_charges.proofs.Pushed.{none_some}
+use Rattle.shr_model.proofs.Lists.{all_both}
 
 -- ---- the numbers of the commands of entries
 
@@ -60,7 +33,7 @@ walk_range parts worker n by h e = by_part (slice_get parts worker) refl e
   where
     by_walk : (walks : List WalkRecord) → AllByRecursion IsWalkNumbered walks → (x : Option WalkRecord) → slice_get walks n ≡ x → option_map (λ (w : WalkRecord). w.by) x ≡ Some by → InRange by
     by_walk walks all None at e = absurd (none_some by e)
-    by_walk walks all (Some w) at e = let k = (each_in IsWalkNumbered walks all n w at).by in subst InRange (some_same w.by by e) (record { worker = k.worker; command = k.command })
+    by_walk walks all (Some w) at e = let k = (each_in IsWalkNumbered walks all n w at).by in subst InRange (some_is w.by by e) (record { worker = k.worker; command = k.command })
 
     by_part : (x : Option WorkerPart) → slice_get parts worker ≡ x → option_map (λ (w : WalkRecord). w.by) (slice_get (walks_in x) n) ≡ Some by → InRange by
     by_part None at e = absurd (none_some by e)
@@ -71,17 +44,17 @@ isolation_range parts worker n by h e = by_part (slice_get parts worker) refl e
   where
     by_walk : (walks : List Isolation) → AllByRecursion IsIsolationNumbered walks → (x : Option Isolation) → slice_get walks n ≡ x → option_map (λ (i : Isolation). i.by) x ≡ Some by → InRange by
     by_walk walks all None at e = absurd (none_some by e)
-    by_walk walks all (Some w) at e = let k = (each_in IsIsolationNumbered walks all n w at).by in subst InRange (some_same w.by by e) (record { worker = k.worker; command = k.command })
+    by_walk walks all (Some w) at e = let k = (each_in IsIsolationNumbered walks all n w at).by in subst InRange (some_is w.by by e) (record { worker = k.worker; command = k.command })
 
     by_part : (x : Option WorkerPart) → slice_get parts worker ≡ x → option_map (λ (i : Isolation). i.by) (slice_get (isolations_in x) n) ≡ Some by → InRange by
     by_part None at e = absurd (none_some by e)
     by_part (Some part) at e = by_walk part.isolations.items (each_in IsPartNumbered parts h worker part at).isolations (slice_get part.isolations.items n) refl e
 
 entry_range : (r : Report) (e : Entry) → HasNumbers r → IsEntryNumbered e → InRangeIf (entry_by r e)
-entry_range r (entry.Add by birth added key value) numbers h = λ x e. subst InRange (some_same by x e) (record { worker = h.0.worker; command = h.0.command })
-entry_range r (entry.Look by birth key hit) numbers h = λ x e. subst InRange (some_same by x e) (record { worker = h.0.worker; command = h.0.command })
-entry_range r (entry.Drop by birth key kind) numbers h = λ x e. subst InRange (some_same by x e) (record { worker = h.0.worker; command = h.0.command })
-entry_range r (entry.Pin by birth key pinned hit) numbers h = λ x e. subst InRange (some_same by x e) (record { worker = h.0.worker; command = h.0.command })
+entry_range r (entry.Add by birth added key value) numbers h = λ x e. subst InRange (some_is by x e) (record { worker = h.0.worker; command = h.0.command })
+entry_range r (entry.Look by birth key hit) numbers h = λ x e. subst InRange (some_is by x e) (record { worker = h.0.worker; command = h.0.command })
+entry_range r (entry.Drop by birth key kind) numbers h = λ x e. subst InRange (some_is by x e) (record { worker = h.0.worker; command = h.0.command })
+entry_range r (entry.Pin by birth key pinned hit) numbers h = λ x e. subst InRange (some_is by x e) (record { worker = h.0.worker; command = h.0.command })
 entry_range r (entry.Scan worker walk asked policy visits freed stopped) numbers h = λ x e. by_bool x (nat_lt walk (2 ^ 63)) e
   where
     by_bool : (x : Serial) (b : Bool) → cond b (option_map (λ (w : WalkRecord). w.by) (slice_get (walks_in (slice_get r.workers.items worker)) walk)) (option_map (λ (i : Isolation). i.by) (slice_get (isolations_in (slice_get r.workers.items worker)) (walk - 2 ^ 63))) ≡ Some x → InRange x
@@ -89,7 +62,7 @@ entry_range r (entry.Scan worker walk asked policy visits freed stopped) numbers
     by_bool x false e = isolation_range r.workers.items worker (walk - 2 ^ 63) x numbers.workers e
 entry_range r (entry.MovedIn child objects) numbers h = λ x e. absurd (none_some x e)
 entry_range r entry.Closed numbers h = λ x e. absurd (none_some x e)
-entry_range r (entry.Drained by objects) numbers h = λ x e. subst InRange (some_same by x e) (record { worker = h.0.worker; command = h.0.command })
+entry_range r (entry.Drained by objects) numbers h = λ x e. subst InRange (some_is by x e) (record { worker = h.0.worker; command = h.0.command })
 
 numbered : (r : Report) → HasNumbers r → (place : Place) (k : ℕ) (e : Entry) → slice_get (journals_of r place) k ≡ Some e → InRangeIf (entry_by r e)
 numbered r numbers place k e at = entry_range r e numbers (each_in IsEntryNumbered (journals_of r place) (found_numbered r.places.items place numbers.places) k e at)
@@ -153,10 +126,6 @@ charged_none parents g workers by x few out = by_worker (slice_get workers by.wo
         by_command (inr ge) low total short = ap (λ (c : Option Command). charged parents g c x) (slice_get_past w.commands.items by.command (omega (arith, ge, short)))
 
 -- ---- each key is of a group that is there
-
-all_both : (P : ℕ → Type 0) (xs ys : List ℕ) → AllByRecursion P xs → AllByRecursion P ys → AllByRecursion P (xs ++ ys)
-all_both P [] ys a b = b
-all_both P (x ∷ xs) ys a b = (a.0, all_both P xs ys a.1 b)
 
 uses_there : (up : Bool) (groups : ℕ) (uses : List UseStep) → AllByRecursion IsUseNumbered uses → AllByRecursion (λ (o : UseStep). o.group < groups) uses → AllByRecursion (IsOfGroup groups) (flat_map (keys_of up true) uses)
 uses_there up groups [] n h = tt

@@ -1,9 +1,7 @@
 -- What each command did in each group, operation by operation from the last.
-use Rattle.std.proofs.Common.{◌≡◌, ◌≢◌, ℕ, zero, suc, ◌+◌, ◌-◌, ◌<◌, ◌≤◌, ◌⊎◌, inl, inr, Bool, true, false, not, ◌&&◌, cond, List, [], ◌∷◌, length, get_or, map, drop, Option, Some, None, T, refl, sym, ap, subst, ◌∙◌, arith, ne_eqb, eq-eqb}
-use Rattle.std.specs.Prelude.{pos, int_lt, filter, find, slice_get, MatchOption}
-use Rattle.std.proofs.lemmas.Bool.{cases_eq}
-use Rattle.std.proofs.lemmas.Bool.Decides.{nat_tests}
-use Rattle.std.proofs.lemmas.List.Sums.{sum_by-cons}
+use Rattle.shr_audit_charges.proofs.Common.{◌≡◌, ◌≢◌, ℕ, zero, suc, ◌+◌, ◌-◌, ◌<◌, ◌≤◌, ◌⊎◌, inl, inr, Bool, true, false, not, ◌&&◌, cond, List, [], ◌∷◌, length, get_or, map, drop, Option, Some, None, refl, sym, ap, subst, ◌∙◌, arith, ne_eqb, eq-eqb, pos, filter, find, slice_get, cases_eq, nat_tests, sum_by-cons, Serial, UseStep, ups, uses_of, limit_in, AreOwnRight, own_key, MayStand, own_of, some_is}
+use Rattle.std.proofs.Common.{T}
+use Rattle.std.specs.Prelude.{int_lt, MatchOption}
 use Rattle.std.specs.BTreeMap.{BTreeMap, get, is_at, Updates}
 use Rattle.std.specs.Ordering.{is_eq, nat_cmp}
 use Rattle.std.specs.declared.cmp.Ordering.{Ordering}
@@ -11,14 +9,12 @@ use Rattle.std.specs.declared.cmp.Ordering.TheVariants.{Less, Equal, Greater}
 use Rattle.std.specs.Map.{lookup}
 use Rattle.std.proofs.lemmas.Map.Lookups.{exact_unsigned}
 use Rattle.std.proofs.lemmas.List.{at_drop_all, drop_more}
-use Rattle.shr_base.specs.declared.places.Serial.{Serial}
-use Rattle.shr_base.specs.declared.journals.UseStep.{UseStep}
-use Rattle.shr_model.specs.Charges.{ups, ops_by, is_by, is_refused, IsBelow, IsDownNext, AreTakenBack}
+use Rattle.shr_model.specs.Charges.{ops_by, is_by, is_refused, IsBelow, IsDownNext, AreTakenBack}
 use Rattle.shr_report.specs.Charges.{IsDownBetween}
 use Rattle.shr_audit_charges.specs.declared.own.Own.{Own}
-use Rattle.shr_audit_charges.specs.History.{uses_of}
-use Rattle.shr_audit_charges.specs.Own.{limit_in, AreOwnRight, own_key, IsKeyed, few_ups, own_with, MayStand, own_of}
-use Rattle.shr_audit_charges.proofs.Pushed.{some_same, none_some}
+use Rattle.shr_audit_charges.specs.Own.{IsKeyed, few_ups, own_with}
+use Rattle.shr_audit_charges.proofs.Pushed.{none_some}
+use Rattle.shr_model.proofs.Booleans.{is_true}
 
 -- the operations of a command in a group
 abbrev pub own : ℕ → Serial → List UseStep → List UseStep
@@ -128,8 +124,8 @@ unfolding NoTwo IsDownFirst
 between [] h n m lt a b = absurd (none_some true a)
 between (o ∷ os) h n zero lt a b = absurd (omega arith)
 between (o ∷ []) h zero (suc m) lt a b = absurd (none_some true b)
-between (o ∷ x ∷ xs) h zero (suc zero) lt a b = absurd (let down : x.up ≡ false = h.0 (some_same o.up true a) in let up : x.up ≡ true = some_same x.up true b in cc)
-between (o ∷ x ∷ xs) h zero (suc (suc m)) lt a b = (1, omega arith, omega arith, ap (λ (v : Bool). Some v) (h.0 (some_same o.up true a)))
+between (o ∷ x ∷ xs) h zero (suc zero) lt a b = absurd (let down : x.up ≡ false = h.0 (some_is o.up true a) in let up : x.up ≡ true = some_is x.up true b in cc)
+between (o ∷ x ∷ xs) h zero (suc (suc m)) lt a b = (1, omega arith, omega arith, ap (λ (v : Bool). Some v) (h.0 (some_is o.up true a)))
 between (o ∷ os) h (suc n) (suc m) lt a b = let t = between os h.1 n m (omega (arith, lt)) a b in (suc t.0, (let low = t.1 in omega (arith, low)), (let high = t.2 in omega (arith, high)), t.3)
 
 no_two : (ops : List UseStep) → IsDownBetween (ways ops) → NoTwo ops
@@ -163,10 +159,6 @@ find_first p (x ∷ xs) = by_bool (p x) (find_first p xs)
     by_bool : (b : Bool) → find p xs ≡ first_of (filter p xs) → cond b (Some x) (find p xs) ≡ first_of (cond b (x ∷ filter p xs) (filter p xs))
     by_bool true e = refl
     by_bool false e = e
-
-is_true : (b : Bool) → T b → b ≡ true
-is_true true h = refl
-is_true false h = absurd h
 
 truth : (b : Bool) → b ≡ true → T b
 truth true e = tt
@@ -220,7 +212,7 @@ taken_back limits (x ∷ xs) g h = by_group (taken_back limits xs g h.1) (cases_
   where
     by_index : AreTakenBack (limit_in limits g) (uses_of xs g) → x.group ≡ g → AreTakenBack (limit_in limits g) (x ∷ uses_of xs g)
     by_index more e zero o at up over =
-        let same : x ≡ o = some_same x o at in
+        let same : x ≡ o = some_is x o at in
         subst (λ (y : UseStep). y.up ≡ true → (IsBelow (limit_in limits g) y → ⊥) → IsDownNext y.by (uses_of xs g)) same
         (down_next (limit_in limits g) x (uses_of xs g) (subst (λ (k : ℕ). MayStand (limit_in limits k) x (own_of (own k x.by xs))) e h.0)) up over
     by_index more e (suc n) o at up over = subst (λ (k : ℕ). IsDownNext o.by (drop k (x ∷ uses_of xs g))) (let z : suc (n + 1) ≡ suc n + 1 = omega arith in z) (more n o at up over)

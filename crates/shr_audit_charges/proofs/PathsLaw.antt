@@ -1,17 +1,11 @@
 -- Climbing from a group to the root, and how often each group is met.
-use Rattle.std.proofs.Common.{◌≡◌, ◌≢◌, ℕ, zero, suc, ◌+◌, ◌/◌, ◌<◌, ◌≤◌, ◌^◌, ◌⊎◌, inl, inr, Bool, true, false, ◌||◌, cond, List, [], ◌∷◌, ◌++◌, length, refl, sym, ap, subst, ◌∙◌, arith, ne_eqb, eq-eqb, append_assoc}
-use Rattle.std.specs.Prelude.{◌==◌, nat_lt, count_by}
-use Rattle.std.specs.List.{AllByRecursion, list_any}
-use Rattle.std.proofs.lemmas.Bool.{cases_eq, cases_lt}
-use Rattle.std.proofs.lemmas.Bool.Decides.{nat_tests}
+use Rattle.shr_audit_charges.proofs.Common.{◌≡◌, ◌≢◌, ℕ, zero, suc, ◌+◌, ◌/◌, ◌<◌, ◌≤◌, ◌^◌, ◌⊎◌, inl, inr, Bool, true, false, ◌||◌, cond, List, [], ◌∷◌, ◌++◌, length, refl, sym, ap, subst, ◌∙◌, arith, ne_eqb, eq-eqb, ◌==◌, nat_lt, AllByRecursion, cases_eq, cases_lt, nat_tests, sum_by-cons, sum_by-append, Serial, is_at_or_above, IsTree, parent_of, path_of, own_key, start_of, keys_with, path_keys}
+use Rattle.std.proofs.Common.{append_assoc}
+use Rattle.std.specs.Prelude.{count_by}
+use Rattle.std.specs.List.{list_any}
 use Rattle.std.proofs.lemmas.List.{get_or_past}
-use Rattle.std.proofs.lemmas.List.Sums.{sum_by-cons, sum_by-append}
-use Rattle.shr_base.specs.declared.places.Serial.{Serial}
-use Rattle.shr_model.specs.Freeings.{is_at_or_above}
-use Rattle.shr_model.specs.Groups.{IsTree, parent_of, path_of, path_within}
+use Rattle.shr_model.specs.Groups.{path_within}
 use Rattle.shr_model.proofs.GroupsLaws.{path_of-root, path_of-below, same_path}
-use Rattle.shr_audit_charges.specs.Own.{own_key}
-use Rattle.shr_audit_charges.specs.Paths.{start_of, keys_with, path_keys}
 
 -- ---- the climb
 
@@ -46,10 +40,10 @@ times_cons g k gs = sum_by-cons (λ (x : ℕ). cond (x == g) 1 0) k gs
 pub times_both : (g : ℕ) (xs ys : List ℕ) → times g (xs ++ ys) ≡ times g xs + times g ys
 times_both g xs ys = sum_by-append (λ (x : ℕ). cond (x == g) 1 0) xs ys
 
-one_if : (a b : ℕ) → a ≡ b → ◌≡◌ {A = ℕ} (cond (a == b) 1 0) 1
+pub one_if : (a b : ℕ) → a ≡ b → ◌≡◌ {A = ℕ} (cond (a == b) 1 0) 1
 one_if a b e = ap {B = ℕ} (λ (t : Bool). cond t 1 0) (eq-eqb a b e)
 
-none_if : (a b : ℕ) → a ≢ b → ◌≡◌ {A = ℕ} (cond (a == b) 1 0) 0
+pub none_if : (a b : ℕ) → a ≢ b → ◌≡◌ {A = ℕ} (cond (a == b) 1 0) 0
 none_if a b ne = ap {B = ℕ} (λ (t : Bool). cond t 1 0) (ne_eqb a b ne)
 
 -- each group of a list is at most this one

@@ -1,21 +1,15 @@
 -- Lists with one item more at the end, and what is so of each item and those before it.
-use Rattle.std.proofs.Common.{◌≡◌, ◌≢◌, ℕ, zero, suc, ◌+◌, ◌<◌, ◌≤◌, Bool, true, false, cond, List, [], ◌∷◌, ◌++◌, length, get_or, set, take, drop, Option, Some, None, refl, sym, ap, subst, ◌∙◌, arith, ◌⊎◌, inl, inr}
-use Rattle.std.specs.Prelude.{filter, slice_get}
-use Rattle.std.specs.List.{AllByRecursion}
-use Rattle.std.proofs.lemmas.Bool.{cases_lt}
-use Rattle.std.proofs.lemmas.List.{get_or_default, take-append-drop, at_drop_more, length-set, get_or-set_same, get_or-set_other}
+use Rattle.shr_audit_charges.proofs.Common.{◌≡◌, ◌≢◌, ℕ, zero, suc, ◌+◌, ◌<◌, ◌≤◌, Bool, true, false, cond, List, [], ◌∷◌, ◌++◌, length, get_or, set, take, drop, Option, Some, None, refl, sym, ap, subst, ◌∙◌, arith, ◌⊎◌, inl, inr, filter, slice_get, AllByRecursion, cases_lt, get_or_default, length-set, slice_get-get_or, slice_get_past, some_is}
+use Rattle.std.proofs.lemmas.List.{take-append-drop, at_drop_more, get_or-set_same, get_or-set_other}
 use Rattle.std.proofs.lemmas.List.Elements.{filter-append}
-use Rattle.std.proofs.lemmas.Option.{slice_get-get_or, slice_get_past}
 use Rattle.shr_formed.proofs.Eachs.{each_more}
-
-pub some_same : {X : Type 0} (a b : X) → ◌≡◌ {A = Option X} (Some a) (Some b) → a ≡ b
-some_same a b e = cc
+use Rattle.shr_model.proofs.Lists.{all_push}
 
 pub none_some : {X : Type 0} (a : X) → ◌≡◌ {A = Option X} None (Some a) → ⊥
 none_some a e = cc
 
 pub push_each : {X : Type 0} (P : List X → X → Type 0) (xs : List X) (x : X) → ((n : ℕ) (e : X) → slice_get xs n ≡ Some e → P (take n xs) e) → P xs x → (n : ℕ) (e : X) → slice_get (xs ++ x ∷ []) n ≡ Some e → P (take n (xs ++ x ∷ [])) e
-push_each P [] x h here zero e at = subst (P []) (some_same x e at) here
+push_each P [] x h here zero e at = subst (P []) (some_is x e at) here
 push_each P [] x h here (suc n) e at = absurd (none_some e at)
 push_each P (y ∷ ys) x h here zero e at = h zero e at
 push_each P (y ∷ ys) x h here (suc n) e at = push_each (λ l z. P (y ∷ l) z) ys x (λ m z there. h (suc m) z there) here n e at
@@ -29,10 +23,6 @@ first_each P (x ∷ xs) ys h (suc n) e at = first_each (λ l z. P (x ∷ l) z) x
 pub here_each : {X : Type 0} (P : List X → X → Type 0) (xs : List X) (x : X) (ys : List X) → ((n : ℕ) (e : X) → slice_get (xs ++ x ∷ ys) n ≡ Some e → P (take n (xs ++ x ∷ ys)) e) → P xs x
 here_each P [] x ys h = h zero x refl
 here_each P (y ∷ xs) x ys h = here_each (λ l z. P (y ∷ l) z) xs x ys (λ m z there. h (suc m) z there)
-
-pub all_push : {X : Type 0} (P : X → Type 0) (xs : List X) (x : X) → AllByRecursion P xs → P x → AllByRecursion P (xs ++ x ∷ [])
-all_push P [] x h here = (here, tt)
-all_push P (y ∷ ys) x h here = (h.0, all_push P ys x h.1 here)
 
 pub all_here : {X : Type 0} (P : X → Type 0) (xs : List X) (x : X) (ys : List X) → AllByRecursion P (xs ++ x ∷ ys) → P x
 all_here P [] x ys h = h.0

@@ -1,24 +1,20 @@
 -- What the journal of the tree says of each group after one entry more, and when it may follow.
-use Rattle.std.proofs.Common.{◌≡◌, ◌≢◌, ℕ, zero, suc, ◌+◌, ◌<◌, ◌≤◌, ◌⊎◌, inl, inr, ⊎_elim, Bool, true, false, not, ◌&&◌, ◌||◌, cond, List, [], ◌∷◌, ◌++◌, length, get_or, set, take, drop, Option, Some, None, refl, sym, ap, subst, ◌∙◌, arith, ne_eqb, eq-eqb}
-use Rattle.std.specs.Prelude.{find, slice_get, is_some, is_none}
+use Rattle.shr_audit_charges.proofs.Common.{◌≡◌, ◌≢◌, ℕ, zero, suc, ◌+◌, ◌<◌, ◌≤◌, ◌⊎◌, inl, inr, Bool, true, false, not, ◌&&◌, ◌||◌, cond, List, [], ◌∷◌, ◌++◌, length, get_or, set, take, drop, Option, Some, None, refl, sym, ap, subst, ◌∙◌, arith, ne_eqb, eq-eqb, find, slice_get, cases_eq, take_more, take_all, length-set, length_push, get_or_default, slice_get-get_or, slice_get_within, Begin, Made, IsTree, parent_of, IsTreeJournal, hierarchy, state_of, AreStatesOf, IsUndone, some_is}
+use Rattle.std.proofs.Common.{⊎_elim}
+use Rattle.std.specs.Prelude.{is_some, is_none}
 use Rattle.std.specs.List.{position_from, range_with_len}
-use Rattle.std.proofs.lemmas.Bool.{cases_eq, eqb-true}
-use Rattle.std.proofs.lemmas.List.{take_more, take_all, length-set, length_push, get_or_default}
-use Rattle.std.proofs.lemmas.Option.{slice_get-get_or, slice_get_within}
+use Rattle.std.proofs.lemmas.Bool.{eqb-true}
 use Rattle.shr_base.specs.declared.journals.TreeEntry.{TreeEntry}
-use Rattle.shr_base.specs.declared.journals.TreeEntry.TheVariants.{Begin, Done, Made}
-use Rattle.shr_model.specs.Groups.{Hierarchy, IsTree, parent_of, is_child, is_later}
-use Rattle.shr_model.specs.TreeJournal.{is_begin, is_done, is_making, begin_of, done_of, made_of, is_made, is_undone_child, undone_child, MayBegin, MayBeDone, MayBeMade, MayFollow, IsTreeJournal}
+use Rattle.shr_base.specs.declared.journals.TreeEntry.TheVariants.{Done}
+use Rattle.shr_model.specs.Groups.{Hierarchy, is_child, is_later}
+use Rattle.shr_model.specs.TreeJournal.{is_begin, is_done, is_making, begin_of, done_of, made_of, is_made, is_undone_child, undone_child, MayBegin, MayBeDone, MayBeMade, MayFollow}
 use Rattle.shr_model.proofs.GroupsLaws.{child_again, child_takes}
 use Rattle.shr_audit_charges.specs.declared.tree.GroupState.{GroupState}
-use Rattle.shr_audit_charges.specs.Tree.{hierarchy, group_of, state_of, AreStatesOf, AreFirst, state_with, put_state, noted, IsUndone, HasUndone, MayBeginNow, MayBeDoneNow, MayBeMadeNow, MayStandNow}
-use Rattle.shr_audit_charges.proofs.Pushed.{push_each, here_each, split_at, set_own, set_other, some_same, none_some}
+use Rattle.shr_audit_charges.specs.Tree.{group_of, AreFirst, state_with, put_state, noted, HasUndone, MayBeginNow, MayBeDoneNow, MayBeMadeNow, MayStandNow}
+use Rattle.shr_audit_charges.proofs.Pushed.{push_each, here_each, split_at, set_own, set_other, none_some}
+use Rattle.shr_model.proofs.Booleans.{both_and, or_false}
 
 -- ---- the first entry of a kind
-
-or_false : (b : Bool) → (b || false) ≡ b
-or_false true = refl
-or_false false = refl
 
 or_true : (b : Bool) → (b || true) ≡ true
 or_true true = refl
@@ -108,7 +104,7 @@ noted_states h es xs e are = record { count = noted_length xs e ∙ are.count; e
     by_group : (g : ℕ) (x y : GroupState) → slice_get xs (group_of e) ≡ Some y → (g ≡ group_of e) ⊎ (g ≢ group_of e) → slice_get (set xs (group_of e) (state_with y e)) g ≡ Some x → x ≡ state_of h (es ++ e ∷ []) g
     by_group g x y there (inl own) at =
         let here : slice_get (set xs (group_of e) (state_with y e)) (group_of e) ≡ Some x = subst (λ (j : ℕ). slice_get (set xs (group_of e) (state_with y e)) j ≡ Some x) own at in
-        let x_is : state_with y e ≡ x = some_same (state_with y e) x (sym (set_own xs (group_of e) (state_with y e) (slice_get_within xs (group_of e) y there)) ∙ here) in
+        let x_is : state_with y e ≡ x = some_is (state_with y e) x (sym (set_own xs (group_of e) (state_with y e) (slice_get_within xs (group_of e) y there)) ∙ here) in
         sym x_is ∙ ap (λ (v : GroupState). state_with v e) (are.each (group_of e) y there) ∙ sym (own_state h es e) ∙ ap (state_of h (es ++ e ∷ [])) (sym own)
     by_group g x y there (inr other) at = are.each g x (sym (set_other xs (group_of e) g (state_with y e) other) ∙ at) ∙ sym (other_state h es e g (λ same. other (sym same)))
 
@@ -117,7 +113,7 @@ noted_states h es xs e are = record { count = noted_length xs e ∙ are.count; e
     by_state g x (Some y) there at = by_group g x y there (cases_eq g (group_of e)) at
 
 at_push : (xs : List GroupState) (y : GroupState) (g : ℕ) (x : GroupState) → slice_get (xs ++ y ∷ []) g ≡ Some x → (slice_get xs g ≡ Some x) ⊎ ((g ≡ length xs) × (y ≡ x))
-at_push [] y zero x at = inr (refl, some_same y x at)
+at_push [] y zero x at = inr (refl, some_is y x at)
 at_push [] y (suc g) x at = absurd (none_some x at)
 at_push (z ∷ zs) y zero x at = inl at
 at_push (z ∷ zs) y (suc g) x at = elim (at_push zs y g x at) as (λ _. (slice_get zs g ≡ Some x) ⊎ ((suc g ≡ suc (length zs)) × (y ≡ x))) [ inl before ↦ inl before | inr last ↦ inr (ap suc last.0, last.1) ]
@@ -167,9 +163,6 @@ and_both true true true e = (refl, (refl, refl))
 and_both true true false e = absurd (let no : false ≡ true = e in cc)
 and_both true false c e = absurd (let no : false ≡ true = e in cc)
 and_both false b c e = absurd (let no : false ≡ true = e in cc)
-
-both_and : (a b c : Bool) → a ≡ true → b ≡ true → c ≡ true → (a && b && c) ≡ true
-both_and a b c e f g = rw (e, f, g) refl
 
 module _ (parents : List ℕ) (later : List Bool) (es : List TreeEntry) (xs : List GroupState) (are : AreStatesOf (hierarchy parents later) es xs) where
   abbrev h : Hierarchy

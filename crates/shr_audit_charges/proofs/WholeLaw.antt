@@ -1,32 +1,15 @@
 -- The law on charges from its parts.
-use Rattle.std.proofs.Common.{◌≡◌, ℕ, ◌+◌, ◌-◌, ◌<◌, ◌≤◌, ◌⊎◌, inl, inr, Bool, true, false, List, length, get_or, Option, Some, None, sym, ap, subst, arith}
-use Rattle.std.specs.Prelude.{slice_get, option_and_then, IfSome}
-use Rattle.std.specs.Bool.{Decides}
-use Rattle.std.proofs.lemmas.Bool.{cases_lt}
-use Rattle.std.proofs.lemmas.Int.{ints}
+use Rattle.shr_audit_charges.proofs.Common.{◌≡◌, ℕ, ◌+◌, ◌-◌, ◌<◌, ◌≤◌, ◌⊎◌, inl, inr, Bool, true, false, List, length, get_or, Option, Some, None, sym, ap, subst, arith, slice_get, option_and_then, Decides, cases_lt, ints, slice_get-get_or, slice_get_past, slice_get_within, UseStep, GroupDecl, Script, ups, downs, Report, parents_of, Usage, AreCharged, AreUsagesOf, uses_of, AreFinal, AreWithin, AreNets, AreOwnRight}
+use Rattle.std.specs.Prelude.{IfSome}
 use Rattle.std.proofs.lemmas.List.{length-map}
-use Rattle.std.proofs.lemmas.Option.{slice_get-get_or, slice_get_past, slice_get_within}
-use Rattle.shr_base.specs.declared.journals.UseStep.{UseStep}
-use Rattle.shr_base.specs.declared.scripts.GroupDecl.{GroupDecl}
-use Rattle.shr_base.specs.declared.scripts.Script.{Script}
-use Rattle.shr_model.specs.Charges.{ups, downs}
-use Rattle.shr_report.specs.declared.report.Report.{Report}
 use Rattle.shr_report.specs.Charges.{AreChargesLawful, listed_below}
-use Rattle.shr_report.specs.Parts.{later_of, limit_of, limits_of, parents_of}
-use Rattle.shr_audit_charges.specs.declared.history.Usage.{Usage}
-use Rattle.shr_audit_charges.specs.History.{AreCharged, AreUsagesOf, uses_of}
+use Rattle.shr_report.specs.Parts.{later_of, limit_of, limits_of}
 use Rattle.shr_audit_charges.specs.Law.{AreUsesLawful, IsTreeLawful}
-use Rattle.shr_audit_charges.specs.Left.{AreFinal, AreWithin}
-use Rattle.shr_audit_charges.specs.Nets.{AreNets}
-use Rattle.shr_audit_charges.specs.Own.{AreOwnRight}
 use Rattle.shr_audit_charges.specs.Puts.{AreUpsOfPuts}
+use Rattle.shr_formed.proofs.Eachs.{fails}
 
 pub clash : (b : Bool) → b ≡ true → b ≡ false → ⊥
 clash b e f = cc
-
--- where a part fails, the whole does
-pub fails : (P Q : Type 0) (b : Bool) → Decides b P → b ≡ false → (Q → P) → Decides false Q
-fails P Q b d f step = (λ t. absurd cc, λ h. absurd (clash b (d.1 (step h)) f))
 
 pub later_long : (s : Script) (later : List Bool) (parents : List ℕ) → later ≡ later_of s → parents ≡ parents_of s → length later ≡ length parents
 later_long s later parents l p =

@@ -1,11 +1,6 @@
 -- The keys of commands and of workers, one more.
-use Rattle.std.proofs.Common.{◌≡◌, ℕ, suc, ◌+◌, ◌<◌, ◌≤◌, List, [], ◌∷◌, ◌++◌, length, get_or, take, sym, ap, ◌∙◌, arith}
-use Rattle.std.proofs.lemmas.List.{append_assoc, append-nil, length-take-le, take_all, take_more}
-use Rattle.shr_base.specs.declared.scripts.Command.{Command}
-use Rattle.shr_base.specs.declared.scripts.WorkerScript.{WorkerScript}
-use Rattle.shr_report.specs.declared.report.Report.{Report}
-use Rattle.shr_report.specs.Parts.{answer_at, serial_of}
-use Rattle.shr_audit_charges.specs.Nets.{answer_keys, commands_keys, workers_keys}
+use Rattle.shr_audit_charges.proofs.Common.{◌≡◌, ℕ, suc, ◌+◌, ◌<◌, ◌≤◌, List, [], ◌∷◌, ◌++◌, length, get_or, take, sym, ap, ◌∙◌, arith, length-take-le, take_all, take_more, Command, WorkerScript, Report, answer_at, serial_of, answer_keys, commands_keys, workers_keys}
+use Rattle.std.proofs.lemmas.List.{append_assoc, append-nil}
 
 commands_push : (parents : List ℕ) (r : Report) (w k : ℕ) (cs : List Command) (c : Command) → commands_keys parents r w k (cs ++ c ∷ []) ≡ commands_keys parents r w k cs ++ answer_keys parents (serial_of w (k + length cs)) c (answer_at r (serial_of w (k + length cs)))
 commands_push parents r w k [] c = append-nil (answer_keys parents (serial_of w k) c (answer_at r (serial_of w k))) ∙ ap (λ (n : ℕ). answer_keys parents (serial_of w n) c (answer_at r (serial_of w n))) (let z : k ≡ k + 0 = omega arith in z)

@@ -1,2 +1,3 @@
+mod Common
 pub mod Dues
 pub mod Loops

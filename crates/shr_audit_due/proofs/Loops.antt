@@ -1,19 +1,11 @@
 -- Loops over what a report prints: what is so of each item, and of each walk of the pools.
-use Rattle.std.proofs.Common.{◌≡◌, ◌⊎◌, inl, inr, ℕ, ◌+◌, ◌<◌, ◌≤◌, Bool, true, false, List, length, get_or, Option, Some, None, refl, sym, ap, subst, ◌∙◌, arith}
-use Rattle.std.specs.Prelude.{slice_get}
-use Rattle.std.specs.Bool.{Decides}
+use Rattle.shr_audit_due.proofs.Common.{◌≡◌, ℕ, ◌<◌, ◌≤◌, Bool, true, false, List, length, get_or, Option, Some, refl, sym, ap, subst, ◌∙◌, arith, slice_get, Decides, slice_get-get_or, WorkerPart, PlainWalk, Report, plain_in, all_at, clash, here_at}
+use Rattle.std.proofs.Common.{◌⊎◌, inl, inr, ◌+◌, None}
 use Rattle.std.proofs.lemmas.Bool.{cases_lt}
-use Rattle.std.proofs.lemmas.Option.{same_Some, slice_get-get_or}
-use Rattle.shr_base.specs.declared.ends.WorkerPart.{WorkerPart}
-use Rattle.shr_base.specs.declared.walks.PlainWalk.{PlainWalk}
-use Rattle.shr_report.specs.declared.report.Report.{Report}
-use Rattle.shr_report.specs.UnitParts.{EachPlain, plain_in}
-use Rattle.shr_formed.proofs.Eachs.{all_at, clash}
+use Rattle.std.proofs.lemmas.Option.{same_Some}
+use Rattle.shr_report.specs.UnitParts.{EachPlain}
 
 -- ---- any items
-
-pub here_at : {X : Type 0} (xs ys : List X) (i : ℕ) (x : X) → xs ≡ ys → i < length xs → x ≡ get_or xs i x → slice_get ys i ≡ Some x
-here_at {X} xs ys i x e lt is = ap (λ (zs : List X). slice_get zs i) (sym e) ∙ (slice_get-get_or xs i x lt ∙ ap (λ (y : X). Some y) (sym is))
 
 pub item_fails : {X : Type 0} (P : ℕ → X → Type 0) (xs ys : List X) (i : ℕ) (x : X) (b : Bool) → xs ≡ ys → i < length xs → x ≡ get_or xs i x → Decides b (P i x) → b ≡ false → Decides false ((n : ℕ) (y : X) → slice_get ys n ≡ Some y → P n y)
 item_fails P xs ys i x b e lt is d f = (λ t. absurd cc, λ h. absurd (clash b (d.1 (h i x (here_at xs ys i x e lt is))) f))

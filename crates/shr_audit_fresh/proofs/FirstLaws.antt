@@ -1,31 +1,12 @@
 -- The least command of each group, one command after another.
-use Rattle.std.proofs.Common.{◌≡◌, ◌⊎◌, ℕ, ◌<◌, ◌≤◌, Bool, true, false, cond, List, [], ◌∷◌, Option, Some, None, refl, sym, ap, subst, ◌∙◌, inl, inr, arith}
-use Rattle.std.specs.Prelude.{◌||◌, nat_eq, nat_lt, slice_get, option_to_list}
-use Rattle.std.specs.HashMap.{get}
-use Rattle.std.specs.List.{list_any}
-use Rattle.std.proofs.lemmas.Bool.Decides.{nat_tests}
-use Rattle.shr_base.specs.declared.journals.TreeEntry.{TreeEntry}
-use Rattle.shr_model.specs.TreeJournal.{is_begin, is_done}
-use Rattle.shr_report.specs.declared.report.Report.{Report}
-use Rattle.shr_report.specs.Freshness.{is_begin_at, is_done_at}
-use Rattle.shr_audit_fresh.specs.Firsts.{AreFirsts, Firsts, IsBlank, IsLeast, NotesFirst, first_with, is_group, shows_in}
+use Rattle.shr_audit_fresh.proofs.Common.{◌≡◌, ◌⊎◌, ℕ, ◌<◌, ◌≤◌, Bool, true, false, cond, List, [], ◌∷◌, Option, Some, None, refl, sym, ap, subst, ◌∙◌, inl, inr, arith, ◌||◌, nat_eq, slice_get, option_to_list, get, list_any, nat_tests, TreeEntry, is_begin, is_done, Report, is_begin_at, is_done_at, AreFirsts, Firsts, IsBlank, IsLeast, NotesFirst, first_with, is_group, shows_in, either, or_left, or_right}
+use Rattle.std.specs.Prelude.{nat_lt}
 
 -- ---- tests
 
 pub or_none : (b : Bool) → (b || false) ≡ b
 or_none true = refl
 or_none false = refl
-
-pub or_true : (a b : Bool) → (a || b) ≡ true → (a ≡ true) ⊎ (b ≡ true)
-or_true true b e = inl refl
-or_true false b e = inr e
-
-pub or_left : (a b : Bool) → a ≡ true → (a || b) ≡ true
-or_left a b e = ap (λ (x : Bool). x || b) e
-
-pub or_right : (a b : Bool) → b ≡ true → (a || b) ≡ true
-or_right true b e = refl
-or_right false b e = e
 
 or_swap : (a b c d : Bool) → ((a || b) || (c || d)) ≡ ((a || c) || (b || d))
 or_swap true b c d = refl

@@ -1,11 +1,7 @@
 -- Floors: the least number above all that was known.
-use Rattle.std.proofs.Common.{◌≡◌, ℕ, ◌+◌, ◌<◌, ◌≤◌, Bool, true, false, List, [], ◌∷◌, ◌++◌, refl, sym, subst, inl, inr, arith}
-use Rattle.std.specs.Prelude.{◌↔◌}
-use Rattle.std.specs.Bool.{Decides}
+use Rattle.shr_audit_fresh.proofs.Common.{◌≡◌, ℕ, ◌+◌, ◌<◌, ◌≤◌, Bool, true, false, List, [], ◌∷◌, ◌++◌, refl, sym, subst, inl, inr, arith, ◌↔◌, Decides, cases_lt, AreBelow, AreKnownBelow, FloorWith, IsFloor, IsFloorBefore, IsHigher, Reaches}
 use Rattle.std.specs.List.{AllByRecursion}
-use Rattle.std.proofs.lemmas.Bool.{cases_lt}
-use Rattle.shr_report.specs.Freshness.{AreBelow}
-use Rattle.shr_audit_fresh.specs.Floors.{AreKnownBelow, FloorWith, IsFloor, IsFloorBefore, IsHigher, Reaches}
+use Rattle.shr_model.proofs.Lists.{all_both}
 
 -- ---- of lists
 
@@ -16,10 +12,6 @@ all_front P (x ∷ xs) ys h = (h.0, all_front P xs ys h.1)
 pub all_back : (P : ℕ → Type 0) (xs ys : List ℕ) → AllByRecursion P (xs ++ ys) → AllByRecursion P ys
 all_back P [] ys h = h
 all_back P (x ∷ xs) ys h = all_back P xs ys h.1
-
-pub all_both : (P : ℕ → Type 0) (xs ys : List ℕ) → AllByRecursion P xs → AllByRecursion P ys → AllByRecursion P (xs ++ ys)
-all_both P [] ys h g = g
-all_both P (x ∷ xs) ys h g = (h.0, all_both P xs ys h.1 g)
 
 -- two ways to say that all of one list are below all of another
 pub below_of : (ns ms : List ℕ) → AllByRecursion (λ m. AllByRecursion (λ n. n < m) ns) ms → AreBelow ns ms

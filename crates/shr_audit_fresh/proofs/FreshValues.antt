@@ -1,11 +1,5 @@
 -- What is tested of freshness, at known values.
-use Rattle.std.proofs.Common.{◌≡◌, ◌<◌, ◌≤◌, true, false, [], ◌∷◌, Some, None, refl, arith}
-use Rattle.shr_audit_causes.specs.declared.cites.Cited.TheVariants.{Never, Once, Often}
-use Rattle.shr_audit_fresh.specs.Firsts.{first_with, is_group}
-use Rattle.shr_audit_fresh.specs.Floors.{IsFloor, Reaches}
-use Rattle.shr_audit_fresh.specs.Rising.{After, NotFallingFrom}
-use Rattle.shr_audit_fresh.specs.Started.{may_show}
-use Rattle.shr_audit_fresh.specs.Worker.{is_before}
+use Rattle.shr_audit_fresh.proofs.Common.{◌≡◌, ◌<◌, ◌≤◌, true, false, [], ◌∷◌, Some, None, refl, arith, Never, Once, Often, first_with, is_group, IsFloor, Reaches, After, NotFallingFrom, may_show, is_before}
 
 -- ---- numbers that never fall
 

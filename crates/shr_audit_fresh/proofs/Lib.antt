@@ -1,9 +1,10 @@
+mod Common
 mod Answering
 mod RisingLaws
 mod FloorLaws
 mod WalkFloors
 pub mod Upto
-mod FirstLaws
+pub mod FirstLaws
 mod OnLaws
 mod RefusedLaws
 mod MadeLaws

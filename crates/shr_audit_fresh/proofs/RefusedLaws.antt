@@ -1,27 +1,10 @@
 -- What a worker was shown to be offline, one answer and one walk after another.
-use Rattle.std.proofs.Common.{◌≡◌, ◌⊎◌, ℕ, ◌+◌, ◌<◌, ◌≤◌, Bool, true, false, cond, List, [], ◌∷◌, ◌++◌, length, Option, Some, None, refl, sym, ap, subst, ◌∙◌, inl, inr, arith}
-use Rattle.std.specs.Prelude.{◌||◌, ◌&&◌, ◌==◌, nat_eq, option_and_then, option_to_list}
-use Rattle.std.specs.Bool.{Decides}
-use Rattle.std.specs.HashMap.{get}
-use Rattle.std.specs.Option.{IsSomeAnd}
-use Rattle.std.proofs.lemmas.Bool.{cases_lt}
-use Rattle.std.proofs.lemmas.Bool.Decides.{nat_tests}
-use Rattle.std.proofs.lemmas.List.{append-nil}
-use Rattle.std.proofs.lemmas.List.Folds.{list_any-append}
-use Rattle.std.proofs.lemmas.Option.{slice_get_past}
-use Rattle.shr_base.specs.declared.replies.Answered.{Answered}
-use Rattle.shr_base.specs.declared.scripts.Script.{Script}
-use Rattle.shr_base.specs.declared.walks.WalkRecord.{WalkRecord}
-use Rattle.shr_model.specs.Commands.{asks_online, is_serial}
-use Rattle.shr_report.specs.declared.report.Report.{Report}
-use Rattle.shr_report.specs.Freshness.{MayBeOffline, is_begin_at, is_done_at, of_answer, shown_by, tree_cited, walk_cited}
-use Rattle.shr_report.specs.Parts.{answers_of, command_at, commands_of, reply_at, serial_of, walks_of}
-use Rattle.shr_audit_fresh.specs.Firsts.{AreFirsts, Firsts, IsBlank, IsLeast, NotesFirst, is_group, shows_in}
-use Rattle.shr_audit_fresh.specs.Floors.{walks_cite}
-use Rattle.shr_audit_fresh.specs.Worker.{IsRefusedAt, Shown, ShownOffline, is_before}
+use Rattle.shr_audit_fresh.proofs.Common.{◌≡◌, ◌⊎◌, ℕ, ◌+◌, ◌<◌, ◌≤◌, Bool, true, false, cond, List, [], ◌∷◌, ◌++◌, length, Option, Some, None, refl, sym, ap, subst, ◌∙◌, inl, inr, arith, ◌||◌, ◌&&◌, ◌==◌, nat_eq, option_and_then, option_to_list, Decides, get, IsSomeAnd, cases_lt, nat_tests, append-nil, list_any-append, slice_get_past, Answered, Script, WalkRecord, asks_online, is_serial, Report, MayBeOffline, is_begin_at, is_done_at, of_answer, shown_by, tree_cited, walk_cited, answers_of, command_at, commands_of, reply_at, serial_of, walks_of, AreFirsts, Firsts, IsBlank, IsLeast, NotesFirst, is_group, shows_in, walks_cite, IsRefusedAt, Shown, is_before, either, or_left, or_right}
+use Rattle.shr_audit_fresh.specs.Worker.{ShownOffline}
 use Rattle.shr_audit_fresh.proofs.Answering.{of_past}
-use Rattle.shr_audit_fresh.proofs.FirstLaws.{any_both, firsts_blank, firsts_next, firsts_same, or_left, or_right, or_true}
+use Rattle.shr_audit_fresh.proofs.FirstLaws.{any_both, firsts_blank, firsts_next, firsts_same}
 use Rattle.shr_audit_fresh.proofs.WalkFloors.{off_worker, on_command, one_cites}
+use Rattle.shr_model.proofs.Lists.{some_same}
 
 -- what an answer cites
 abbrev pub cites_at : Report → ℕ → ℕ → List ℕ
@@ -91,7 +74,7 @@ module _ (r : Report) (worker : ℕ) where
         walks k = walks_cite worker (before ++ w ∷ []) k
 
         more : (g k : ℕ) (ns : List ℕ) → walks k ≡ walks_cite worker before k ++ ns → shows_in r g (cites_at r worker k ++ walks_cite worker before k) ≡ true → shows_in r g (cites_at r worker k ++ walks k) ≡ true
-        more g k ns e p = both g (cites_at r worker k) (walks k) ∙ elim (or_true (shows_in r g (cites_at r worker k)) (shows_in r g (walks_cite worker before k)) (sym (both g (cites_at r worker k) (walks_cite worker before k)) ∙ p)) [
+        more g k ns e p = both g (cites_at r worker k) (walks k) ∙ elim (either (shows_in r g (cites_at r worker k)) (shows_in r g (walks_cite worker before k)) (sym (both g (cites_at r worker k) (walks_cite worker before k)) ∙ p)) [
           | inl a ↦ or_left (shows_in r g (cites_at r worker k)) (shows_in r g (walks k)) a
           | inr b ↦ or_right (shows_in r g (cites_at r worker k)) (shows_in r g (walks k)) (ap (shows_in r g) e ∙ both g (walks_cite worker before k) ns ∙ or_left (shows_in r g (walks_cite worker before k)) (shows_in r g ns) b)
         ]
@@ -110,9 +93,9 @@ module _ (r : Report) (worker : ℕ) where
             by true e =
                 let command = and_right (worker == w.by.worker) (k == w.by.command) e in
                 let same : k ≡ w.by.command = grind (arith, nat_tests) in
-                elim (or_true (shows_in r g (cites_at r worker k)) (shows_in r g (walks k)) (sym (both g (cites_at r worker k) (walks k)) ∙ q)) [
+                elim (either (shows_in r g (cites_at r worker k)) (shows_in r g (walks k)) (sym (both g (cites_at r worker k) (walks k)) ∙ q)) [
                   | inl a ↦ inl (both g (cites_at r worker k) (walks_cite worker before k) ∙ or_left (shows_in r g (cites_at r worker k)) (shows_in r g (walks_cite worker before k)) a)
-                  | inr b ↦ elim (or_true (shows_in r g (walks_cite worker before k)) (shows_in r g (walk_cited w.answer)) (sym (ap (shows_in r g) (one_cites worker k before w true e) ∙ both g (walks_cite worker before k) (walk_cited w.answer)) ∙ b)) [
+                  | inr b ↦ elim (either (shows_in r g (walks_cite worker before k)) (shows_in r g (walk_cited w.answer)) (sym (ap (shows_in r g) (one_cites worker k before w true e) ∙ both g (walks_cite worker before k) (walk_cited w.answer)) ∙ b)) [
                     | inl early ↦ inl (both g (cites_at r worker k) (walks_cite worker before k) ∙ or_right (shows_in r g (cites_at r worker k)) (shows_in r g (walks_cite worker before k)) early)
                     | inr here ↦ inr (same, tells g ∙ here)
                   ]
@@ -131,9 +114,6 @@ module _ (r : Report) (worker : ℕ) where
       (λ g k q. sym (any_both (is_begin_at r g) (is_done_at r g) (shown_by r (serial_of worker k))) ∙ q)
 
 -- ---- commands
-
-some_same : (a b : ℕ) → ◌≡◌ {A = Option ℕ} (Some a) (Some b) → a ≡ b
-some_same a b e = cc
 
 none_some : {X : Type 0} (a : X) → ◌≡◌ {A = Option X} None (Some a) → ⊥
 none_some a e = cc

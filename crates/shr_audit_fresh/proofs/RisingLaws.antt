@@ -1,16 +1,10 @@
 -- Numbers that never fall, one list after another.
-use Rattle.std.proofs.Common.{◌≡◌, ℕ, zero, suc, ◌+◌, ◌<◌, ◌≤◌, true, false, List, [], ◌∷◌, ◌++◌, length, get_or, take, drop, Option, Some, None, refl, sym, ap, subst, ◌∙◌, arith}
-use Rattle.std.specs.Prelude.{flat_map}
-use Rattle.std.specs.Bool.{Decides}
-use Rattle.std.proofs.lemmas.List.{append-nil, append_assoc, take_more, take_all, take-append-drop}
-use Rattle.std.proofs.lemmas.List.Concat.{flat_map-append}
-use Rattle.shr_report.specs.WellFormed.{AreNotFalling}
-use Rattle.shr_audit_fresh.specs.Rising.{After, NotFallingFrom}
+use Rattle.shr_audit_fresh.proofs.Common.{◌≡◌, ℕ, zero, suc, ◌+◌, ◌<◌, ◌≤◌, true, false, List, [], ◌∷◌, ◌++◌, length, get_or, take, Option, Some, None, refl, sym, ap, subst, ◌∙◌, arith, flat_map, Decides, append-nil, take_more, take_all, flat_map-append, AreNotFalling, After, NotFallingFrom}
+use Rattle.std.proofs.Common.{drop}
+use Rattle.std.proofs.lemmas.List.{append_assoc, take-append-drop}
+use Rattle.shr_model.proofs.Numbers.{after_suc}
 
 -- ---- in the words of the law
-
-after_suc : (k : ℕ) → suc (k + 1) ≡ suc k + 1
-after_suc k = omega arith
 
 not_falling : (low : ℕ) (xs : List ℕ) → NotFallingFrom low xs → AreNotFalling xs
 not_falling low [] h k d lt = absurd (omega arith)

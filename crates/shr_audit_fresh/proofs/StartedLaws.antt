@@ -1,38 +1,20 @@
 -- Begins that are shown, against those who may have begun.
-use Rattle.std.proofs.Common.{◌≡◌, ℕ, zero, suc, ◌<◌, ◌≤◌, Bool, true, false, cond, List, [], ◌∷◌, ◌++◌, length, Option, Some, None, refl, sym, ap, subst, ◌∙◌, inl, inr, arith}
-use Rattle.std.specs.Prelude.{◌||◌, ◌&&◌, ◌==◌, not, nat_le, slice_get, flat_map, filter, option_to_list}
-use Rattle.std.specs.Bool.{Decides}
-use Rattle.std.specs.List.{list_any}
-use Rattle.std.proofs.lemmas.Bool.Decides.{nat_tests}
-use Rattle.std.proofs.lemmas.List.Folds.{list_any-append}
-use Rattle.std.proofs.lemmas.Option.{slice_get_within}
-use Rattle.shr_base.specs.declared.places.Serial.{Serial}
-use Rattle.shr_base.specs.declared.journals.TreeEntry.{TreeEntry}
+use Rattle.shr_audit_fresh.proofs.Common.{◌≡◌, ℕ, zero, suc, ◌<◌, ◌≤◌, Bool, true, false, cond, List, [], ◌∷◌, ◌++◌, length, Option, Some, None, refl, sym, ap, subst, ◌∙◌, inl, inr, arith, ◌||◌, ◌&&◌, ◌==◌, slice_get, flat_map, filter, option_to_list, Decides, list_any, nat_tests, list_any-append, slice_get_within, Serial, TreeEntry, Answered, Script, WalkRecord, is_serial, is_begin, Cited, Never, Once, Often, AreCited, Each, Report, is_begin_at, of_answer, shown_by, tree_cited, walk_cited, answers_of, serial_of, walks_of, IsTreeNumbered, is_group, walks_cite, IsEntryStarted, IsWalkStarted, may_show, IsBeginStarted, either, or_left, or_right}
+use Rattle.std.specs.Prelude.{not, nat_le}
 use Rattle.shr_base.specs.declared.journals.TreeEntry.TheVariants.{Begin, Done, Made}
-use Rattle.shr_base.specs.declared.replies.Answered.{Answered}
-use Rattle.shr_base.specs.declared.scripts.Script.{Script}
-use Rattle.shr_base.specs.declared.walks.WalkRecord.{WalkRecord}
-use Rattle.shr_model.specs.Commands.{is_serial}
-use Rattle.shr_model.specs.TreeJournal.{is_begin}
-use Rattle.shr_audit_causes.specs.declared.cites.Cited.{Cited}
-use Rattle.shr_audit_causes.specs.declared.cites.Cited.TheVariants.{Never, Once, Often}
 use Rattle.shr_audit_causes.specs.declared.cites.What.TheVariants as say
-use Rattle.shr_audit_causes.specs.Cites.{AreCited, Cites, Tells, cited_in}
+use Rattle.shr_audit_causes.specs.Cites.{Cites, Tells, cited_in}
 use Rattle.shr_audit_causes.proofs.Treeing.{begun_of, of_begun}
-use Rattle.shr_formed.specs.Each.{Each}
-use Rattle.shr_report.specs.declared.report.Report.{Report}
 use Rattle.shr_report.specs.Causes.{IsOffline, MayHaveBegun}
-use Rattle.shr_report.specs.Freshness.{is_begin_at, of_answer, shown_by, shows_begin, tree_cited, walk_cited}
-use Rattle.shr_report.specs.Parts.{answers_of, serial_of, walks_of}
-use Rattle.shr_report.specs.WellFormed.{IsTreeNumbered}
-use Rattle.shr_audit_fresh.specs.Firsts.{is_group}
-use Rattle.shr_audit_fresh.specs.Floors.{walks_cite}
-use Rattle.shr_audit_fresh.specs.Started.{AreAnswersStarted, IsEntryStarted, IsWalkStarted, may_show}
-use Rattle.shr_audit_fresh.specs.Worker.{IsBeginStarted, MayShow}
+use Rattle.shr_report.specs.Freshness.{shows_begin}
+use Rattle.shr_audit_fresh.specs.Started.{AreAnswersStarted}
+use Rattle.shr_audit_fresh.specs.Worker.{MayShow}
 use Rattle.shr_audit_fresh.proofs.Answering.{of_past}
-use Rattle.shr_audit_fresh.proofs.FirstLaws.{or_none, or_true, or_left, or_right}
+use Rattle.shr_audit_fresh.proofs.FirstLaws.{or_none}
 use Rattle.shr_audit_fresh.proofs.MadeLaws.{group_is, is_the_group}
 use Rattle.shr_audit_fresh.proofs.WalkFloors.{kept, on_command}
+use Rattle.shr_audit_causes.proofs.Noting.{or_false}
+use Rattle.shr_model.proofs.Booleans.{and_right}
 
 -- ---- those who may have begun
 
@@ -48,7 +30,7 @@ not_same v w e same = by (v == w) refl e
     by false f g = let other : v ≡ w → ⊥ = grind (arith, nat_tests) in other same
 
 other_or_early : (w c worker k : ℕ) → (not (w == worker) || nat_le c k) ≡ true → (w ≡ worker) × (k < c) → ⊥
-other_or_early w c worker k e h = elim (or_true (not (w == worker)) (nat_le c k) e) [
+other_or_early w c worker k e h = elim (either (not (w == worker)) (nat_le c k) e) [
   | inl other ↦ not_same w worker other h.0
   | inr early ↦ (let le : c ≤ k = grind (arith, nat_tests) in let lt = h.1 in omega (arith, le, lt))
 ]
@@ -67,14 +49,10 @@ own_and_later w c worker k e = (by (w == worker) refl e, late)
     late : k < c
     late = let unlike = right (not (w == worker)) (nat_le c k) e in grind (arith, nat_tests)
 
-or_false : (a b : Bool) → (a || b) ≡ false → (a ≡ false) × (b ≡ false)
-or_false true b e = absurd cc
-or_false false b e = (refl, e)
-
 may_of : (P : Serial → Type 0) (c : Cited) (worker k : ℕ) → Tells P c → may_show c worker k ≡ true → AllLater P worker k → ⊥
 may_of P Never worker k t e all = absurd cc
 may_of P (Once w j) worker k t e all = other_or_early w j worker k e (all (serial_of w j) t.0)
-may_of P (Often w j others) worker k t e all = elim (or_true others (not (w == worker) || nat_le j k) e) [
+may_of P (Often w j others) worker k t e all = elim (either others (not (w == worker) || nat_le j k) e) [
   | inl holds ↦ (let y = t.apart holds in y.1 ((all y.0 y.2).0 ∙ sym ((all (serial_of w j) t.so).0)))
   | inr here ↦ other_or_early w j worker k here (all (serial_of w j) t.so)
 ]
@@ -120,7 +98,7 @@ begin_few r fits group n e = by (slice_get r.tree.items n) refl e
 
 few_of : (r : Report) → Each IsTreeNumbered r.tree.items → (group : ℕ) (ns : List ℕ) → list_any (is_begin_at r group) ns ≡ true → group < 65536
 few_of r fits group [] e = absurd cc
-few_of r fits group (n ∷ ns) e = elim (or_true (is_begin_at r group n) (list_any (is_begin_at r group) ns) e) [
+few_of r fits group (n ∷ ns) e = elim (either (is_begin_at r group n) (list_any (is_begin_at r group) ns) e) [
   | inl here ↦ begin_few r fits group n here
   | inr later ↦ few_of r fits group ns later
 ]
@@ -182,7 +160,7 @@ walk_cites r worker k g (w ∷ walks) e = by (λ h. further (walk_cites r worker
 
     by : (list_any (is_begin_at r g) (walks_cite worker walks k) ≡ true → IsCiting r worker k g (w ∷ walks)) → (b : Bool) → is_serial (serial_of worker k) w.by ≡ b → IsCiting r worker k g (w ∷ walks)
     by later false f = later (sym (any_cons r worker k g w walks false f) ∙ e)
-    by later true f = elim (or_true (list_any (is_begin_at r g) (walk_cited w.answer)) (list_any (is_begin_at r g) (walks_cite worker walks k)) (sym (any_cons r worker k g w walks true f) ∙ e)) [
+    by later true f = elim (either (list_any (is_begin_at r g) (walk_cited w.answer)) (list_any (is_begin_at r g) (walks_cite worker walks k)) (sym (any_cons r worker k g w walks true f) ∙ e)) [
       | inl here ↦ record { n = 0; w = w; at = refl; own = f; cites = here }
       | inr h ↦ later h
     ]
@@ -205,10 +183,6 @@ cites_walk r worker g (x ∷ walks) (suc n) w at mine e =
 and_left : (a b : Bool) → (a && b) ≡ true → a ≡ true
 and_left true b e = refl
 and_left false b e = absurd cc
-
-and_right : (a b : Bool) → (a && b) ≡ true → b ≡ true
-and_right true b e = e
-and_right false b e = absurd cc
 
 module _ (s : Script) (r : Report) (begun : List Cited) (cited : AreCited s r say.Begun 65536 begun) (fits : Each IsTreeNumbered r.tree.items) (worker : ℕ) where
   abbrev replies : ℕ → List ℕ
@@ -245,7 +219,7 @@ module _ (s : Script) (r : Report) (begun : List Cited) (cited : AreCited s r sa
   started b answers d = (λ t k g all. not_shown t k g all, λ h. d.1 (walks_of_law h))
     where
       shown : b ≡ true → (k g : ℕ) → shows_begin r (serial_of worker k) g ≡ true → may_show (cited_in begun g) worker k ≡ true
-      shown t k g e = elim (or_true (list_any (is_begin_at r g) (replies k)) (list_any (is_begin_at r g) (walks k)) (sym (both k g) ∙ e)) [
+      shown t k g e = elim (either (list_any (is_begin_at r g) (replies k)) (list_any (is_begin_at r g) (walks k)) (sym (both k g) ∙ e)) [
         | inl a ↦ answers k g a
         | inr h ↦
             let c = walk_cites r worker k g (walks_of r worker) h in

@@ -1,7 +1,5 @@
 -- What is so of each number, one after another.
-use Rattle.std.proofs.Common.{◌≡◌, ℕ, ◌+◌, ◌<◌, ◌≤◌, Bool, true, false, refl, subst, inl, inr, arith}
-use Rattle.std.specs.Bool.{Decides}
-use Rattle.std.proofs.lemmas.Bool.{cases_lt}
+use Rattle.shr_audit_fresh.proofs.Common.{◌≡◌, ℕ, ◌+◌, ◌<◌, ◌≤◌, Bool, true, false, refl, subst, inl, inr, arith, Decides, cases_lt}
 
 module _ (P : ℕ → Type 0) (n : ℕ) where
   pub upto_more : ((k : ℕ) → k < n → P k) → P n → (k : ℕ) → k < n + 1 → P k

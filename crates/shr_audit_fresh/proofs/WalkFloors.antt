@@ -1,25 +1,12 @@
 -- The floors of commands by what their walks cite, one walk after another.
-use Rattle.std.proofs.Common.{◌≡◌, ℕ, zero, suc, ◌<◌, ◌≤◌, Bool, true, false, cond, List, [], ◌∷◌, ◌++◌, length, set, get_or, refl, sym, ap, subst, ◌∙◌, arith}
-use Rattle.std.specs.Prelude.{◌==◌, ◌&&◌, flat_map, filter}
+use Rattle.shr_audit_fresh.proofs.Common.{◌≡◌, ℕ, ◌<◌, ◌≤◌, Bool, true, false, cond, List, [], ◌∷◌, ◌++◌, length, get_or, refl, sym, ap, subst, ◌∙◌, arith, ◌==◌, ◌&&◌, flat_map, filter, eq-eqb, append-nil, flat_map-append, WalkRecord, is_serial, walk_cited, serial_of, AreFloors, FloorWith, IsFloor, walks_cite, zero_more}
+use Rattle.std.proofs.Common.{set}
 use mathlib.Core.Logic.{dite}
 use native.Mathlib.Decide.{ℕ_discrete}
-use Rattle.std.proofs.lemmas.Bool.{eq-eqb, ne_eqb}
-use Rattle.std.proofs.lemmas.List.{append-nil, get_or-set_same, get_or-set_other, length-set}
-use Rattle.std.proofs.lemmas.List.Concat.{flat_map-append}
+use Rattle.std.proofs.lemmas.Bool.{ne_eqb}
+use Rattle.std.proofs.lemmas.List.{get_or-set_same, get_or-set_other, length-set}
 use Rattle.std.proofs.lemmas.List.Elements.{filter-append}
-use Rattle.shr_base.specs.declared.walks.WalkRecord.{WalkRecord}
-use Rattle.shr_model.specs.Commands.{is_serial}
-use Rattle.shr_report.specs.Freshness.{walk_cited}
-use Rattle.shr_report.specs.Parts.{serial_of}
-use Rattle.shr_audit_fresh.specs.Floors.{AreFloors, FloorWith, IsFloor, walks_cite}
 use Rattle.shr_audit_fresh.proofs.FloorLaws.{floor_grows, floor_none}
-
--- one number 0 more
-pub zero_more : (xs : List ℕ) → ((i : ℕ) → get_or xs i 0 ≡ 0) → (i : ℕ) → get_or (xs ++ 0 ∷ []) i 0 ≡ 0
-zero_more [] all zero = refl
-zero_more [] all (suc i) = refl
-zero_more (x ∷ xs) all zero = all 0
-zero_more (x ∷ xs) all (suc i) = zero_more xs (λ j. all (suc j)) i
 
 -- what a test keeps of a list with one item more at its head
 pub kept : {X : Type 0} (p : X → Bool) (y : X) (ys : List X) (b : Bool) → p y ≡ b → filter p (y ∷ ys) ≡ cond b (y ∷ filter p ys) (filter p ys)

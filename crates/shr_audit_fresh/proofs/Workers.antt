@@ -1,19 +1,8 @@
 -- Freshness of all workers, by that of each that has a part.
-use Rattle.std.proofs.Common.{◌≡◌, ℕ, ◌≤◌, Bool, true, false, List, [], ◌++◌, length, sym, ap, subst, ◌∙◌, arith}
-use Rattle.std.specs.Prelude.{◌||◌, flat_map, filter}
-use Rattle.std.specs.Bool.{Decides}
-use Rattle.std.specs.List.{list_any}
-use Rattle.std.proofs.lemmas.Option.{slice_get_past}
-use Rattle.shr_base.specs.declared.replies.Answered.{Answered}
-use Rattle.shr_base.specs.declared.scripts.Script.{Script}
-use Rattle.shr_base.specs.declared.walks.WalkRecord.{WalkRecord}
-use Rattle.shr_model.specs.Commands.{is_serial}
+use Rattle.shr_audit_fresh.proofs.Common.{◌≡◌, ℕ, ◌≤◌, Bool, true, false, List, [], ◌++◌, length, sym, ap, subst, ◌∙◌, arith, ◌||◌, flat_map, filter, Decides, list_any, slice_get_past, Answered, Script, WalkRecord, is_serial, Report, AreBelow, is_begin_at, is_done_at, of_answer, pool_made, pool_seen, shown_by, tree_cited, tree_seen, walk_cited, answers_of, serial_of, walks_of, AreNotFalling, IsWorkerFresh}
 use Rattle.shr_case.proofs.Eachs.{decides_iff}
-use Rattle.shr_report.specs.declared.report.Report.{Report}
-use Rattle.shr_report.specs.Freshness.{AreBelow, IsFresh, is_begin_at, is_done_at, of_answer, pool_made, pool_seen, shown_by, shows_offline, tree_cited, tree_seen, walk_cited}
-use Rattle.shr_report.specs.Parts.{answers_in, answers_of, serial_of, walks_in, walks_of}
-use Rattle.shr_report.specs.WellFormed.{AreNotFalling}
-use Rattle.shr_audit_fresh.specs.Worker.{IsWorkerFresh}
+use Rattle.shr_report.specs.Freshness.{IsFresh, shows_offline}
+use Rattle.shr_report.specs.Parts.{answers_in, walks_in}
 use Rattle.shr_audit_fresh.proofs.Answering.{of_past}
 use Rattle.shr_audit_fresh.proofs.FloorLaws.{below_none}
 use Rattle.shr_audit_fresh.proofs.MadeLaws.{past_made}

@@ -1,29 +1,22 @@
 -- The isolations of commands, gone through worker by worker.
-use Rattle.std.proofs.Common.{◌≡◌, ℕ, zero, suc, ◌<◌, ◌≤◌, Bool, true, false, cond, List, [], ◌∷◌, length, get_or, Option, Some, None, refl, sym, ap, subst, ◌∙◌, arith}
-use Rattle.std.specs.Prelude.{◌==◌, ◌&&◌, filter, nat_lt, nat_le, slice_get}
-use Rattle.std.specs.Bool.{Decides}
+use Rattle.shr_audit_isolations.proofs.Common.{◌≡◌, ℕ, zero, suc, ◌<◌, Bool, true, false, cond, List, [], ◌∷◌, length, get_or, Option, Some, None, refl, sym, ap, subst, ◌∙◌, arith, nat_lt, nat_le, slice_get, Decides, nat_tests, slice_get-get_or, slice_get_within, WorkerPart, Answered, Script, Isolation, Report, isolations_by, isolations_told, isolations_in, EachAnswer, Each, all_at, clash, IsAnswerTold, IsPartTold}
+use Rattle.std.proofs.Common.{◌≤◌}
+use Rattle.std.specs.Prelude.{◌==◌, ◌&&◌, filter}
 use Rattle.std.specs.List.Sorted.{IsPartitionedBy, IsNonDecreasingBy}
 use Rattle.std.proofs.lemmas.Bool.{eqb-true}
-use Rattle.std.proofs.lemmas.Bool.Decides.{nat_tests}
 use Rattle.std.proofs.lemmas.List.Sorted.{IsNonDecreasingBy-from_all_adjacent}
-use Rattle.std.proofs.lemmas.Option.{slice_get-get_or, slice_get_within}
-use Rattle.shr_base.specs.declared.ends.WorkerPart.{WorkerPart}
 use Rattle.shr_base.specs.declared.places.Serial.{Serial}
-use Rattle.shr_base.specs.declared.replies.Answered.{Answered}
 use Rattle.shr_base.specs.declared.scripts.Command.{Command}
-use Rattle.shr_base.specs.declared.scripts.Script.{Script}
-use Rattle.shr_base.specs.declared.walks.Isolation.{Isolation}
 use Rattle.shr_model.specs.Commands.{is_serial}
-use Rattle.shr_report.specs.declared.report.Report.{Report}
-use Rattle.shr_report.specs.Isolated.{isolations_by, isolations_told}
-use Rattle.shr_report.specs.Parts.{commands_of, isolations_in, serial_of, EachAnswer}
+use Rattle.shr_report.specs.Parts.{commands_of, serial_of}
 use Rattle.shr_report.specs.WellFormed.{IsWellFormed}
-use Rattle.shr_formed.specs.Each.{Each, IsOf}
+use Rattle.shr_formed.specs.Each.{IsOf}
 use Rattle.shr_formed.proofs.WellParts.{parts_of}
-use Rattle.shr_formed.proofs.Eachs.{all_at, below_of, clash}
+use Rattle.shr_formed.proofs.Eachs.{below_of}
 use Rattle.shr_case.specs.Each.{AnswersInParts}
 use Rattle.shr_case.proofs.Eachs.{each_answer_of}
-use Rattle.shr_audit_isolations.specs.Commands.{StandByCommand, IsAnswerTold, IsPartTold, isolations_with}
+use Rattle.shr_audit_isolations.specs.Commands.{StandByCommand, isolations_with}
+use Rattle.shr_audit_walks.proofs.Answered.{here_at, same_test}
 
 -- ---- isolations in the order of their commands
 
@@ -37,9 +30,6 @@ pub parted_up_to : (xs : List Isolation) (command : ℕ) → StandByCommand xs �
 parted_up_to xs command h i j d le lt e = let up = rising xs h i j d le lt in grind (arith, nat_tests)
 
 -- ---- those of a command
-
-same_test : (worker n a b : ℕ) → a ≡ worker → ((worker == a) && (n == b)) ≡ (b == n)
-same_test worker n a b e = grind (arith, nat_tests)
 
 own_isolations : (worker n answers : ℕ) (xs : List Isolation) → Each (λ i. IsOf worker answers i.by) xs → filter (λ (i : Isolation). is_serial (serial_of worker n) i.by) xs ≡ isolations_with xs n
 own_isolations worker n answers [] h = refl
@@ -106,9 +96,6 @@ answered_none commands n xs a past by own = (λ t c here. absurd (let lt = slice
 
 abbrev Told : Script → Report → Type 0
 Told s r = EachAnswer s r (λ by c a. isolations_by r by ≡ isolations_told by c a)
-
-here_at : {X : Type 0} (xs ys : List X) (i : ℕ) (x : X) → xs ≡ ys → i < length xs → x ≡ get_or xs i x → slice_get ys i ≡ Some x
-here_at {X} xs ys i x e lt is = ap (λ (zs : List X). slice_get zs i) (sym e) ∙ (slice_get-get_or xs i x lt ∙ ap (λ (y : X). Some y) (sym is))
 
 pub stands_here : (r : Report) (parts : List WorkerPart) (worker : ℕ) (part : WorkerPart) → IsWellFormed r → parts ≡ r.workers.items → worker < length parts → part ≡ get_or parts worker part → StandByCommand part.isolations.items
 stands_here r parts worker part well e lt is = (parts_of r well worker part (here_at parts r.workers.items worker part e lt is)).1.1.1.1.1.1

@@ -1,22 +1,8 @@
 -- Entries gathered one after another.
-use Rattle.std.proofs.Common.{◌≡◌, ℕ, ◌+◌, ◌-◌, ◌<◌, Bool, true, false, cond, List, [], ◌∷◌, ◌++◌, length, get_or, take, Option, Some, refl, sym, ap, subst, ◌∙◌}
-use Rattle.std.specs.Prelude.{slice_get, option_map, Vec}
-use Rattle.std.specs.Bool.{Decides}
-use Rattle.std.specs.Option.{IsSomeAnd}
-use Rattle.std.specs.declared.alloc.Global.{Global}
-use Rattle.std.proofs.lemmas.List.{append-nil, append_assoc, take_more}
+use Rattle.shr_audit_isolations.proofs.Common.{◌≡◌, ℕ, ◌+◌, ◌-◌, ◌<◌, Bool, true, false, cond, List, [], ◌∷◌, ◌++◌, length, get_or, take, Option, Some, refl, sym, ap, subst, ◌∙◌, slice_get, option_map, Vec, Decides, IsSomeAnd, Global, append-nil, slice_get-get_or, Entry, Add, Look, Drop, Pin, Scan, MovedIn, Closed, Drained, Place, is_place, ScanSeen, first_isolation, isolation_walk, scans_seen, Each, each_more, fails, Gathered, Gains, IsOfTold, Told, at_place, told_at, with_scans}
+use Rattle.std.proofs.lemmas.List.{append_assoc, take_more}
 use Rattle.std.proofs.lemmas.List.Elements.{filter_map-append}
-use Rattle.std.proofs.lemmas.Option.{slice_get-get_or}
-use Rattle.shr_base.specs.declared.journals.Entry.{Entry}
-use Rattle.shr_base.specs.declared.journals.Entry.TheVariants.{Add, Look, Drop, Pin, Scan, MovedIn, Closed, Drained}
-use Rattle.shr_base.specs.declared.places.Place.{Place}
-use Rattle.shr_model.specs.Places.{is_place}
-use Rattle.shr_model.specs.Isolations.{ScanSeen, first_isolation, isolation_walk}
-use Rattle.shr_report.specs.Isolated.{scan_seen, scans_seen}
-use Rattle.shr_formed.specs.Each.{Each}
-use Rattle.shr_formed.proofs.Eachs.{each_more, fails}
-use Rattle.shr_audit_isolations.specs.declared.gathered.Gathered.{Gathered}
-use Rattle.shr_audit_isolations.specs.Gathered.{Gains, IsOfTold, Told, at_place, told_at, with_scans}
+use Rattle.shr_report.specs.Isolated.{scan_seen}
 use Rattle.shr_audit_isolations.proofs.Options.{map_alike, map_same, map_then, some_mapped, some_unmapped}
 
 -- ---- what is gained

@@ -1,3 +1,4 @@
+mod Common
 mod Options
 mod Gathering
 mod Lists

@@ -1,35 +1,22 @@
 -- Lists gathered one after another, and what is gathered of all.
-use Rattle.std.proofs.Common.{◌≡◌, ℕ, zero, suc, ◌+◌, ◌-◌, ◌<◌, Bool, true, false, cond, List, [], ◌∷◌, ◌++◌, length, get_or, map, take, Option, Some, None, refl, sym, ap, subst, ◌∙◌, inl, inr, arith, below_more}
-use Rattle.std.specs.Prelude.{is_some, slice_get, option_map, option_to_list, Vec}
-use Rattle.std.specs.Bool.{Decides}
-use Rattle.std.specs.Option.{IsSomeAnd}
-use Rattle.std.specs.declared.alloc.Global.{Global}
+use Rattle.shr_audit_isolations.proofs.Common.{◌≡◌, ℕ, zero, suc, ◌+◌, ◌-◌, ◌<◌, Bool, true, false, cond, List, [], ◌∷◌, ◌++◌, length, get_or, map, take, Option, Some, None, refl, sym, ap, subst, ◌∙◌, arith, slice_get, option_map, Vec, Decides, IsSomeAnd, Global, append-nil, slice_get-get_or, slice_get_within, WorkerPart, Entry, Add, Look, Drop, Pin, Scan, MovedIn, Closed, Drained, Place, Script, Isolation, is_place, first_isolation, isolation_walk, Report, IsOfIsolation, isolations_by, isolations_told, scans_seen, EachAnswer, EachEntry, isolations_in, Each, clash, fails, Gathered, AreGathered, Gains, IsBegun, IsOfTheirs, IsOfTold, Told, at_place, begun, journals_to, told_at, told_of, with_scans, AreRowsRight, IsToldRight}
+use Rattle.std.proofs.Common.{inl, inr, below_more}
+use Rattle.std.specs.Prelude.{is_some, option_to_list}
 use Rattle.std.proofs.lemmas.Bool.{cases_Bool}
-use Rattle.std.proofs.lemmas.List.{append-nil, length-map, take_all}
-use Rattle.std.proofs.lemmas.Option.{slice_get-get_or, slice_get-map, slice_get_within}
+use Rattle.std.proofs.lemmas.List.{length-map, take_all}
+use Rattle.std.proofs.lemmas.Option.{slice_get-map}
 use Rattle.shr_base.specs.declared.ends.PlaceEnd.{PlaceEnd}
-use Rattle.shr_base.specs.declared.ends.WorkerPart.{WorkerPart}
-use Rattle.shr_base.specs.declared.journals.Entry.{Entry}
-use Rattle.shr_base.specs.declared.journals.Entry.TheVariants.{Add, Look, Drop, Pin, Scan, MovedIn, Closed, Drained}
-use Rattle.shr_base.specs.declared.places.Place.{Place}
-use Rattle.shr_base.specs.declared.scripts.Script.{Script}
-use Rattle.shr_base.specs.declared.walks.Isolation.{Isolation}
-use Rattle.shr_model.specs.Places.{is_place}
 use Rattle.shr_model.proofs.PlacesLaws.{is_place_same, is_place_itself}
-use Rattle.shr_model.specs.Isolations.{first_isolation, isolation_walk}
-use Rattle.shr_report.specs.declared.report.Report.{Report}
-use Rattle.shr_report.specs.Isolated.{AreIsolationsLawful, IsOfIsolation, isolations_by, isolations_told, scans_seen}
-use Rattle.shr_report.specs.Parts.{EachAnswer, EachEntry, isolation_at, isolations_in, journal_of, journals_of}
-use Rattle.shr_formed.specs.Each.{Each}
-use Rattle.shr_formed.proofs.Eachs.{clash, fails}
+use Rattle.shr_report.specs.Isolated.{AreIsolationsLawful}
+use Rattle.shr_report.specs.Parts.{isolation_at, journal_of, journals_of}
 use Rattle.shr_case.specs.Places.{IsFirst, end_of}
 use Rattle.shr_case.proofs.Eachs.{each_entry_of}
-use Rattle.shr_case.proofs.Firsts.{none_found}
-use Rattle.shr_audit_isolations.specs.declared.gathered.Gathered.{Gathered}
-use Rattle.shr_audit_isolations.specs.Gathered.{AreGathered, Gains, IsBegun, IsOfTheirs, IsOfTold, Told, at_place, begun, gathered_of, journals_to, new_at, row_of, told_at, told_of, with_scans}
-use Rattle.shr_audit_isolations.specs.Right.{AreGatheredRight, AreRowsRight, IsToldRight}
+use Rattle.shr_case.proofs.Firsts.{none_found, some_is}
+use Rattle.shr_audit_isolations.specs.Gathered.{gathered_of, new_at, row_of}
+use Rattle.shr_audit_isolations.specs.Right.{AreGatheredRight}
 use Rattle.shr_audit_isolations.proofs.Gathering.{gains_same, gains_then, no_gain, told_after, told_before}
 use Rattle.shr_audit_isolations.proofs.Options.{map_then, some_mapped, some_unmapped}
+use Rattle.shr_model.proofs.Lists.{there_at}
 
 -- ---- one list more
 
@@ -82,9 +69,6 @@ first_adds ends k end at first p = by (end_of (take k ends) p) refl (is_place p 
         let none : end_of (take k ends) p ≡ None = none_found (take k ends) p (λ n y here same. first n y (taken ends k n y here).0 (taken ends k n y here).1 (same ∙ is_place_same p end.place f)) in
         cc
 
-some_is : {X : Type 0} (a b : X) → ◌≡◌ {A = Option X} (Some a) (Some b) → a ≡ b
-some_is a b e = cc
-
 some_none : {X : Type 0} (a : X) → ◌≡◌ {A = Option X} (Some a) None → ⊥
 some_none a e = cc
 
@@ -113,15 +97,10 @@ list_gains ends k a b c first then = gains_then (journals_to ends k) (new_at end
 
 -- ---- the loop over the lists
 
-item_at : {X : Type 0} (xs : List X) (k : ℕ) → k < length xs → (x : X) × (slice_get xs k ≡ Some x)
-item_at [] k lt = absurd (omega (arith, lt))
-item_at (x ∷ xs) zero lt = (x, refl)
-item_at (x ∷ xs) (suc k) lt = item_at xs k (omega (arith, lt))
-
 -- a list that isn't the first one of its place
 pub first_none : (ends : List PlaceEnd) (k : ℕ) (table : List (Vec Gathered Global)) (b : Bool) → k < length ends → ((end : PlaceEnd) → slice_get ends k ≡ Some end → Decides b (IsFirst ends k end.place)) → b ≡ false → Gains (new_at ends k) table table
 first_none ends k table b lt d f =
-    let end = item_at ends k lt in
+    let end = there_at ends k lt in
     no_gain (new_at ends k) table (λ w n p. ap (scans_seen w (isolation_walk n)) (later_adds ends k end.0 end.1 (λ first. clash b ((d end.0 end.1).1 first) f) p))
 
 -- one that is

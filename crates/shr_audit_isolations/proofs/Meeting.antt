@@ -1,17 +1,10 @@
 -- What scans met, and isolations that are lawful with them.
-use Rattle.std.proofs.Common.{◌≡◌, ℕ, zero, suc, Bool, List, [], ◌∷◌, length, map, Option, Some, refl, sym, ap, subst, ◌∙◌, arith}
-use Rattle.std.specs.Prelude.{replicate, sum, sum_by}
-use Rattle.std.specs.Bool.{Decides}
+use Rattle.shr_audit_isolations.proofs.Common.{◌≡◌, ℕ, zero, suc, Bool, List, [], ◌∷◌, length, map, Option, Some, refl, sym, ap, subst, ◌∙◌, arith, sum_by, Decides, slice_get_within, IsLawfulIsolation, ScanSeen, met_one, mets_of, Isolation, Each, IsolationScan, seen_of, IsAskedAlike, IsBounded, freed_of, met_by}
+use Rattle.std.specs.Prelude.{replicate, sum}
 use Rattle.std.specs.List.{AllByRecursion}
 use Rattle.std.proofs.lemmas.List.Sums.{sum-map}
-use Rattle.std.proofs.lemmas.Option.{slice_get_within}
-use Rattle.shr_model.specs.Isolations.{IsLawfulIsolation, Met, ScanSeen, met_of, met_one, mets_of}
+use Rattle.shr_model.specs.Isolations.{Met, met_of}
 use Rattle.shr_base.specs.declared.objects.Policy.{Policy}
-use Rattle.shr_base.specs.declared.walks.Isolation.{Isolation}
-use Rattle.shr_formed.specs.Each.{Each}
-use Rattle.shr_audit_isolations.specs.declared.gathered.IsolationScan.{IsolationScan}
-use Rattle.shr_audit_isolations.specs.Gathered.{seen_of}
-use Rattle.shr_audit_isolations.specs.Lawful.{IsAskedAlike, IsBounded, freed_of, met_by}
 
 heads : {X : Type 0} (x y : X) (xs ys : List X) → x ∷ xs ≡ y ∷ ys → x ≡ y
 heads x y xs ys e = cc

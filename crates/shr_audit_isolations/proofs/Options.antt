@@ -1,7 +1,5 @@
 -- What is made of whatever an option has.
-use Rattle.std.proofs.Common.{◌≡◌, Option, Some, None, refl, sym, ap}
-use Rattle.std.specs.Prelude.{option_map}
-use Rattle.std.specs.Option.{IsSomeAnd}
+use Rattle.shr_audit_isolations.proofs.Common.{◌≡◌, Option, Some, None, refl, sym, ap, option_map, IsSomeAnd}
 
 -- what leaves each value as it is leaves the option so
 pub map_same : {X : Type 0} (f : X → X) (o : Option X) → ((x : X) → o ≡ Some x → f x ≡ x) → o ≡ option_map f o

@@ -1,27 +1,13 @@
 -- Entries noted one after another, and the versions that are above them.
-use Rattle.std.proofs.Common.{◌≡◌, ◌≢◌, ◌⊎◌, ℕ, zero, suc, ◌+◌, ◌*◌, ◌<◌, ◌≤◌, Bool, true, false, cond, List, [], ◌∷◌, ◌++◌, length, get_or, map, filter, flat_map, Option, Some, None, refl, sym, ap, subst, ◌∙◌, inl, inr, arith}
-use Rattle.std.specs.Prelude.{◌↔◌, nat_eq, nat_lt, slice_get}
-use Rattle.std.specs.Bool.{Decides}
-use Rattle.std.specs.HashMap.{get}
-use Rattle.std.specs.List.{AllByRecursion}
-use Rattle.std.proofs.lemmas.Bool.{cases_Bool, and_parts, and_from, eq-eqb, ne_eqb}
-use Rattle.std.proofs.lemmas.Bool.Decides.{nat_tests}
-use Rattle.std.proofs.lemmas.Option.{slice_get-get_or, get_or_from_slice_get, slice_get_within}
-use Rattle.shr_formed.specs.Each.{Each}
-use Rattle.shr_formed.proofs.Eachs.{all_of, each_all, each_in, each_more}
-use Rattle.shr_case.proofs.Eachs.{decides_iff}
-use Rattle.shr_base.specs.declared.places.At.{At}
-use Rattle.shr_base.specs.declared.places.Place.{Place}
-use Rattle.shr_base.specs.declared.replies.Answered.{Answered}
-use Rattle.shr_base.specs.declared.walks.Attempt.{Attempt}
-use Rattle.shr_base.specs.declared.walks.WalkRecord.{WalkRecord}
+use Rattle.shr_audit_later.proofs.Common.{◌≡◌, ◌≢◌, ◌⊎◌, ℕ, ◌+◌, ◌*◌, ◌<◌, ◌≤◌, Bool, true, false, cond, List, [], ◌∷◌, ◌++◌, length, get_or, map, filter, flat_map, Option, Some, None, refl, sym, ap, subst, ◌∙◌, inl, inr, arith, nat_eq, nat_lt, slice_get, Decides, get, AllByRecursion, cases_Bool, and_parts, and_from, eq-eqb, ne_eqb, nat_tests, slice_get-get_or, get_or_from_slice_get, slice_get_within, Each, each_all, each_more, decides_iff, At, Place, Answered, Attempt, WalkRecord, is_place, place_in, is_place_itself, is_place_same, at, cited_by, fits, place_key, AreCited, IsAboveHighest, IsLater, IsOutcomeAbove, NotesReply}
+use Rattle.std.proofs.Common.{zero, suc}
+use Rattle.std.specs.Prelude.{◌↔◌}
+use Rattle.shr_formed.proofs.Eachs.{all_of, each_in}
 use Rattle.shr_model.specs.Attempts.{Count, counts_of}
-use Rattle.shr_model.specs.Places.{is_place}
-use Rattle.shr_model.specs.Walks.{place_in}
-use Rattle.shr_model.proofs.PlacesLaws.{is_place_itself, is_place_same}
-use Rattle.shr_report.specs.Parts.{at, cited_by}
-use Rattle.shr_audit_versions.specs.Table.{Versions, fits, place_key}
-use Rattle.shr_audit_later.specs.Cited.{AreCited, IsAbove, IsAboveAt, IsAboveHighest, IsBlank, IsLater, IsOutcomeAbove, IsWalkAbove, NotesEntry, NotesReply, highest_at}
+use Rattle.shr_audit_versions.specs.Table.{Versions}
+use Rattle.shr_audit_later.specs.Cited.{IsAbove, IsAboveAt, IsBlank, IsWalkAbove, NotesEntry, highest_at}
+use Rattle.shr_model.proofs.BagLaws.{each_append}
+use Rattle.shr_model.proofs.Lists.{all_front, all_right}
 
 clash : (b : Bool) → b ≡ true → b ≡ false → ⊥
 clash b e f = cc
@@ -105,7 +91,7 @@ module _ (old new : Versions) (c : At) (fit : fits c.place ≡ true) where
         λ h. subst (λ (o : Option ℕ). IsAbove o v) (sym here) (h.1 c.entry refl),
       )
 
-under : (n : ℕ) → n < 65536 → nat_lt n 65536 ≡ true
+pub under : (n : ℕ) → n < 65536 → nat_lt n 65536 ≡ true
 under n lt = grind (arith, nat_tests)
 
 pub fits_so : (p : Place) → p.group < 65536 → p.id < 65536 → fits p ≡ true
@@ -159,18 +145,6 @@ one_more answers n a old new lt is before notes place v = (
 
 -- ---- the versions of a walk at a place, attempt by attempt
 
-all_both : {X : Type 0} (P : X → Type 0) (xs ys : List X) → AllByRecursion P xs → AllByRecursion P ys → AllByRecursion P (xs ++ ys)
-all_both P [] ys h g = g
-all_both P (x ∷ xs) ys h g = (h.0, all_both P xs ys h.1 g)
-
-all_front : {X : Type 0} (P : X → Type 0) (xs ys : List X) → AllByRecursion P (xs ++ ys) → AllByRecursion P xs
-all_front P [] ys h = tt
-all_front P (x ∷ xs) ys h = (h.0, all_front P xs ys h.1)
-
-all_back : {X : Type 0} (P : X → Type 0) (xs ys : List X) → AllByRecursion P (xs ++ ys) → AllByRecursion P ys
-all_back P [] ys h = h
-all_back P (x ∷ xs) ys h = all_back P xs ys h.1
-
 module _ {X : Type 0} (P : ℕ → Type 0) (g : X → List ℕ) (t : X → Bool) where
   abbrev Kept : List X → Type 0
   Kept xs = (k : ℕ) (x : X) → slice_get xs k ≡ Some x → t x ≡ true → AllByRecursion P (g x)
@@ -183,7 +157,7 @@ module _ {X : Type 0} (P : ℕ → Type 0) (g : X → List ℕ) (t : X → Bool)
   filtered_to (x ∷ xs) each = by (filtered_to xs (λ k y e. each (suc k) y e)) (cases_Bool (t x))
     where
       by : AllByRecursion P (flat_map g (filter t xs)) → ((t x ≡ true) ⊎ (t x ≡ false)) → AllByRecursion P (flat_map g (filter t (x ∷ xs)))
-      by rest (inl is) = subst (λ (b : Bool). AllByRecursion P (flat_map g (cond b (x ∷ filter t xs) (filter t xs)))) (sym is) (all_both P (g x) (flat_map g (filter t xs)) (each 0 x refl is) rest)
+      by rest (inl is) = subst (λ (b : Bool). AllByRecursion P (flat_map g (cond b (x ∷ filter t xs) (filter t xs)))) (sym is) (each_append P (g x) (flat_map g (filter t xs)) (each 0 x refl is) rest)
       by rest (inr isnt) = subst (λ (b : Bool). AllByRecursion P (flat_map g (cond b (x ∷ filter t xs) (filter t xs)))) (sym isnt) rest
 
   filtered_from : (xs : List X) → AllByRecursion P (flat_map g (filter t xs)) → Kept xs
@@ -196,7 +170,7 @@ module _ {X : Type 0} (P : ℕ → Type 0) (g : X → List ℕ) (t : X → Bool)
           subst (λ (z : X). AllByRecursion P (g z)) (some_is y x e) (all_front P (g y) (flat_map g (filter t ys)) all_y)
       by later (inl is) (suc k) e =
           let all_y : AllByRecursion P (g y ++ flat_map g (filter t ys)) = subst (λ (b : Bool). AllByRecursion P (flat_map g (cond b (y ∷ filter t ys) (filter t ys)))) is all in
-          later (all_back P (g y) (flat_map g (filter t ys)) all_y) k e
+          later (all_right P (g y) (flat_map g (filter t ys)) all_y) k e
       by later (inr isnt) zero e = absurd (clash (t y) (subst (λ (z : X). t z ≡ true) (sym (some_is y x e)) so) isnt)
       by later (inr isnt) (suc k) e = later (subst (λ (b : Bool). AllByRecursion P (flat_map g (cond b (y ∷ filter t ys) (filter t ys)))) isnt all) k e
 

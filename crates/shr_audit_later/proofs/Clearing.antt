@@ -1,33 +1,16 @@
 -- Places whose bits were cleared, walk by walk.
-use Rattle.std.proofs.Common.{◌≡◌, ◌⊎◌, ℕ, ◌+◌, ◌<◌, ◌≤◌, Bool, true, false, cond, List, [], ◌∷◌, ◌++◌, length, get_or, take, map, filter, flat_map, refl, sym, ap, subst, ◌∙◌, inl, inr}
-use Rattle.std.specs.Prelude.{◌||◌, nat_eq}
-use Rattle.std.specs.HashSet.{contains}
-use Rattle.std.specs.List.{list_any}
-use Rattle.std.proofs.lemmas.Bool.{cases_Bool, eq-eqb, ne_eqb}
+use Rattle.shr_audit_later.proofs.Common.{◌≡◌, ◌⊎◌, ℕ, ◌+◌, ◌<◌, ◌≤◌, Bool, true, false, cond, List, [], ◌∷◌, ◌++◌, length, get_or, take, map, filter, flat_map, refl, sym, ap, subst, ◌∙◌, inl, inr, ◌||◌, nat_eq, contains, list_any, cases_Bool, eq-eqb, ne_eqb, WorkerPart, Place, Attempt, WalkRecord, is_place, clearings_of, place_in, is_place_itself, is_place_same, clash, Report, fits, place_key, Clears, cleared_by}
 use Rattle.std.proofs.lemmas.List.{append-nil, append_assoc, take_more, take_all}
 use Rattle.std.proofs.lemmas.List.Concat.{flat_map-append}
 use Rattle.std.proofs.lemmas.List.Folds.{list_any-append}
-use Rattle.shr_base.specs.declared.ends.WorkerPart.{WorkerPart}
-use Rattle.shr_base.specs.declared.places.Place.{Place}
-use Rattle.shr_base.specs.declared.walks.Attempt.{Attempt}
-use Rattle.shr_base.specs.declared.walks.WalkRecord.{WalkRecord}
 use Rattle.shr_model.specs.Attempts.{is_clearing}
-use Rattle.shr_model.specs.Places.{is_place}
-use Rattle.shr_model.specs.Walks.{clearings_of, place_in}
-use Rattle.shr_model.proofs.PlacesLaws.{is_place_itself, is_place_same}
-use Rattle.shr_formed.proofs.Eachs.{clash}
-use Rattle.shr_report.specs.declared.report.Report.{Report}
-use Rattle.shr_audit_versions.specs.Table.{fits, place_key}
-use Rattle.shr_audit_later.specs.Cleared.{Clears, HasCleared, HasPlaces, PlaceSet, cleared_by}
+use Rattle.shr_audit_later.specs.Cleared.{HasCleared, HasPlaces, PlaceSet}
 use Rattle.shr_audit_later.proofs.Citing.{same_key}
+use Rattle.shr_model.proofs.Booleans.{or_false}
 
 or_true : (b : Bool) → (b || true) ≡ true
 or_true true = refl
 or_true false = refl
-
-or_false : (b : Bool) → (b || false) ≡ b
-or_false true = refl
-or_false false = refl
 
 pub clears_none : (t : PlaceSet) → Clears t t []
 clears_none t places has = subst (λ (ps : List Place). HasPlaces ps t) (sym (append-nil places)) has

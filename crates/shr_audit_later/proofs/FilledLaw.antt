@@ -1,35 +1,16 @@
 -- What is so of each walk of each worker is what the law asks of the bits.
-use Rattle.std.proofs.Common.{◌≡◌, ℕ, ◌<◌, ◌≤◌, Bool, true, false, cond, List, [], ◌∷◌, length, get_or, take, Option, Some, None, refl, sym, ap, subst, ◌∙◌, arith}
-use Rattle.std.specs.Prelude.{◌&&◌, ◌==◌, not, option_map, slice_get}
-use Rattle.std.specs.Bool.{Decides}
-use Rattle.std.proofs.lemmas.Bool.{and_parts, and_from, eqb-true, eq-eqb}
+use Rattle.shr_audit_later.proofs.Common.{◌≡◌, ℕ, ◌<◌, ◌≤◌, Bool, true, false, cond, List, [], ◌∷◌, length, get_or, take, Option, Some, None, refl, sym, ap, subst, ◌∙◌, arith, ◌==◌, option_map, slice_get, Decides, and_parts, and_from, eqb-true, eq-eqb, get_or_from_slice_get, slice_get-get_or, slice_get_within, WorkerPart, At, Place, Answered, MapSeen, WalkRecord, is_set, bit_of, Report, EachWalk, answers_in, at, serial_of, Each, all_at, clash, each_all, InParts, decides_iff, each_walk_of, Words, AreFilled, HasFilled, IsPartFilled, filled_by, is_filled, is_place_itself, is_place_same, found_at}
+use Rattle.std.specs.Prelude.{◌&&◌, not}
 use Rattle.std.proofs.lemmas.List.{get_or-take, length-take}
 use Rattle.std.proofs.lemmas.List.Folds.{list_any_at, Any-from_list_any}
-use Rattle.std.proofs.lemmas.Option.{get_or_from_slice_get, slice_get-get_or, slice_get_within}
-use Rattle.shr_base.specs.declared.ends.WorkerPart.{WorkerPart}
 use Rattle.shr_base.specs.declared.objects.Object.{Object}
-use Rattle.shr_base.specs.declared.places.At.{At}
-use Rattle.shr_base.specs.declared.places.Place.{Place}
-use Rattle.shr_base.specs.declared.replies.Answered.{Answered}
 use Rattle.shr_base.specs.declared.replies.Reply.{Reply}
 use Rattle.shr_base.specs.declared.replies.Reply.TheVariants as reply
 use Rattle.shr_base.specs.declared.scripts.Script.{Script}
-use Rattle.shr_base.specs.declared.walks.MapSeen.{MapSeen}
-use Rattle.shr_base.specs.declared.walks.WalkRecord.{WalkRecord}
-use Rattle.shr_model.specs.Bits.{is_set}
 use Rattle.shr_model.specs.Families.{items_at}
-use Rattle.shr_model.specs.Places.{bit_of}
-use Rattle.shr_report.specs.declared.report.Report.{Report}
-use Rattle.shr_report.specs.Parts.{EachWalk, answers_in, at, journals_of, parents_of, reply_at, serial_of}
+use Rattle.shr_report.specs.Parts.{journals_of, parents_of, reply_at}
 use Rattle.shr_report.specs.WalksLawful.{Covers, FillsPlace, was_cleared}
-use Rattle.shr_formed.specs.Each.{Each}
-use Rattle.shr_formed.proofs.Eachs.{all_at, clash, each_all}
-use Rattle.shr_case.specs.Each.{InParts}
-use Rattle.shr_case.proofs.Eachs.{decides_iff, each_walk_of}
-use Rattle.shr_audit_bits.specs.Words.{Words}
-use Rattle.shr_audit_later.specs.Filled.{AreFilled, HasFilled, IsPartFilled, IsWalkFull, filled_by, is_filled}
-use Rattle.shr_model.proofs.PlacesLaws.{is_place_itself, is_place_same}
-use Rattle.shr_audit_later.proofs.Standing.{found_at}
+use Rattle.shr_audit_later.specs.Filled.{IsWalkFull}
 
 -- ---- one walk
 

@@ -1,28 +1,17 @@
 -- Places that were filled, as words of bits.
-use Rattle.std.proofs.Common.{◌≡◌, ◌≢◌, ℕ, ◌+◌, ◌*◌, ◌/◌, ◌%◌, ◌^◌, ◌<◌, ◌≤◌, Bool, true, false, cond, List, length, get_or, take, Option, Some, None, refl, sym, ap, subst, ◌∙◌, inl, inr, arith}
-use Rattle.std.specs.Prelude.{◌||◌, ◌==◌, bit_and, bit_or, min, nat_eq, nat_lt}
-use Rattle.std.specs.Bool.{Decides}
-use Rattle.std.specs.HashMap.{get}
+use Rattle.shr_audit_later.proofs.Common.{◌≡◌, ◌≢◌, ℕ, ◌+◌, ◌*◌, ◌%◌, ◌^◌, ◌<◌, ◌≤◌, Bool, true, false, cond, List, length, get_or, take, Option, Some, None, refl, sym, ap, subst, ◌∙◌, inl, inr, arith, ◌||◌, ◌==◌, bit_or, nat_eq, nat_lt, Decides, get, list_any, cases_Bool, and_parts, and_from, eqb-true, eq-eqb, ne_eqb, nat_tests, Place, Answered, MapSeen, WalkRecord, is_set, bit_of, is_place, Report, Words, fits, AreFilled, IsMapFull, NotesFilled, filled_by, is_filled, word_in, clash, is_place_itself, is_place_same}
+use Rattle.std.proofs.Common.{◌/◌}
+use Rattle.std.specs.Prelude.{bit_and, min}
 use Rattle.std.specs.Int.{bit_at, w64}
-use Rattle.std.specs.List.{list_any}
 use mathlib.Core.Logic.{dite}
 use native.Mathlib.Decide.{ℕ_discrete}
-use Rattle.std.proofs.lemmas.Bool.{cases_Bool, and_parts, and_from, eqb-true, eq-eqb, ne_eqb}
-use Rattle.std.proofs.lemmas.Bool.Decides.{nat_tests}
 use Rattle.std.proofs.lemmas.List.Folds.{list_any_more}
 use Rattle.std.proofs.lemmas.Nat.Bits.{bit_at_and, bit_at_above, bit_at-lt, bit_at-zero, bit_at_set_same, bit_at_set_other, same_from_bits}
-use Rattle.shr_base.specs.declared.places.Place.{Place}
-use Rattle.shr_base.specs.declared.replies.Answered.{Answered}
-use Rattle.shr_base.specs.declared.walks.MapSeen.{MapSeen}
-use Rattle.shr_base.specs.declared.walks.WalkRecord.{WalkRecord}
-use Rattle.shr_model.specs.Bits.{is_set}
-use Rattle.shr_model.specs.Places.{bit_of, is_place, unit_of}
-use Rattle.shr_report.specs.declared.report.Report.{Report}
-use Rattle.shr_audit_bits.specs.Words.{Words, word_key}
-use Rattle.shr_audit_versions.specs.Table.{fits, read_as}
-use Rattle.shr_audit_later.specs.Filled.{AreFilled, IsMapFull, IsNoWord, NotesFilled, filled_at, filled_by, is_filled, word_in}
-use Rattle.shr_formed.proofs.Eachs.{clash}
-use Rattle.shr_model.proofs.PlacesLaws.{is_place_itself, is_place_same}
+use Rattle.shr_model.specs.Places.{unit_of}
+use Rattle.shr_audit_bits.specs.Words.{word_key}
+use Rattle.shr_audit_versions.specs.Table.{read_as}
+use Rattle.shr_audit_later.specs.Filled.{IsNoWord, filled_at}
+use Rattle.shr_audit_later.proofs.Citing.{under}
 
 or_true : (b : Bool) → true ≡ (b || true)
 or_true true = refl
@@ -45,9 +34,6 @@ same_set m n b e = ap (λ (x : ℕ). x == 1) e
 
 below : (n : ℕ) → nat_lt n 65536 ≡ true → n < 65536
 below n t = grind (arith, nat_tests)
-
-under : (n : ℕ) → n < 65536 → nat_lt n 65536 ≡ true
-under n lt = grind (arith, nat_tests)
 
 -- ---- one bit more
 

@@ -1,22 +1,8 @@
 -- What is so of each walk of each worker is what the law asks of the versions.
-use Rattle.std.proofs.Common.{◌≡◌, ℕ, ◌<◌, ◌≤◌, Bool, true, false, List, length, get_or, Option, Some, None, refl, sym, ap, subst, ◌∙◌}
-use Rattle.std.specs.Prelude.{option_and_then, option_map, slice_get}
-use Rattle.std.specs.Bool.{Decides}
-use Rattle.std.specs.List.{AllByRecursion}
-use Rattle.shr_base.specs.declared.ends.WorkerPart.{WorkerPart}
-use Rattle.shr_base.specs.declared.places.At.{At}
-use Rattle.shr_base.specs.declared.places.Place.{Place}
-use Rattle.shr_base.specs.declared.replies.Answered.{Answered}
-use Rattle.shr_base.specs.declared.walks.WalkRecord.{WalkRecord}
+use Rattle.shr_audit_later.proofs.Common.{◌≡◌, ℕ, ◌<◌, ◌≤◌, Bool, true, false, List, length, get_or, Option, Some, None, refl, sym, ap, subst, ◌∙◌, option_map, slice_get, Decides, AllByRecursion, WorkerPart, At, Place, Answered, WalkRecord, Report, EachWalk, answers_in, at, cited_by, serial_of, Each, all_at, clash, each_all, InParts, each_walk_of, IsLater, IsPartLater, found_at}
+use Rattle.std.specs.Prelude.{option_and_then}
 use Rattle.shr_model.specs.Walks.{versions_at}
-use Rattle.shr_report.specs.declared.report.Report.{Report}
-use Rattle.shr_report.specs.Parts.{EachWalk, answers_in, at, cited_at, cited_by, serial_of}
-use Rattle.shr_formed.specs.Each.{Each}
-use Rattle.shr_formed.proofs.Eachs.{all_at, clash, each_all}
-use Rattle.shr_case.specs.Each.{InParts}
-use Rattle.shr_case.proofs.Eachs.{each_walk_of}
-use Rattle.shr_audit_later.specs.Cited.{IsLater, IsPartLater}
-use Rattle.shr_audit_later.proofs.Standing.{found_at}
+use Rattle.shr_report.specs.Parts.{cited_at}
 
 -- what the law asks of a walk of a worker
 abbrev pub LawLater : Report → ℕ → WalkRecord → Type 0

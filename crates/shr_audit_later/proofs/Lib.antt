@@ -1,4 +1,5 @@
-mod Citing
+mod Common
+pub mod Citing
 mod Clearing
 mod Filling
 mod Standing

@@ -1,19 +1,10 @@
 -- The walks of a worker, in the order of its commands.
-use Rattle.std.proofs.Common.{◌≡◌, ℕ, ◌+◌, ◌<◌, ◌≤◌, List, length, get_or, Some, sym, ap, subst, ◌∙◌, arith}
-use Rattle.std.specs.Prelude.{slice_get}
-use Rattle.std.proofs.lemmas.Option.{slice_get-get_or}
-use Rattle.shr_base.specs.declared.ends.WorkerPart.{WorkerPart}
-use Rattle.shr_base.specs.declared.replies.Answered.{Answered}
-use Rattle.shr_base.specs.declared.walks.WalkRecord.{WalkRecord}
-use Rattle.shr_report.specs.declared.report.Report.{Report}
+use Rattle.shr_audit_later.proofs.Common.{◌≡◌, ℕ, ◌+◌, ◌<◌, ◌≤◌, List, length, get_or, Some, sym, ap, subst, ◌∙◌, arith, slice_get, WorkerPart, Answered, WalkRecord, Report, found_at}
 use Rattle.shr_report.specs.WellFormed.{IsWellFormed}
 use Rattle.shr_formed.specs.Each.{IsOf}
 use Rattle.shr_formed.proofs.Eachs.{each_weaker}
 use Rattle.shr_formed.proofs.WellParts.{parts_of}
 use Rattle.shr_audit_later.specs.Walks.{AreOfAnswers}
-
-pub found_at : {X : Type 0} (xs : List X) (i : ℕ) (x : X) → i < length xs → x ≡ get_or xs i x → slice_get xs i ≡ Some x
-found_at {X} xs i x lt is = slice_get-get_or xs i x lt ∙ ap (λ (y : X). Some y) (sym is)
 
 -- those of a well formed report are
 pub part_stands : (r : Report) (worker : ℕ) (part : WorkerPart) → IsWellFormed r → slice_get r.workers.items worker ≡ Some part → AreOfAnswers (length part.answers.items) part.walks.items

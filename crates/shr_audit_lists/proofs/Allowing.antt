@@ -1,30 +1,19 @@
 -- Entries that may stand where they do, against a table of the lists that were moved in.
-use Rattle.std.proofs.Common.{◌≡◌, ◌≢◌, ℕ, zero, suc, ◌+◌, ◌<◌, ◌≤◌, Bool, true, false, List, [], ◌∷◌, ◌++◌, length, length-append, set, get_or, take, Option, Some, None, refl, sym, ap, subst, ◌∙◌, ◌⊎◌, inl, inr, arith}
-use Rattle.std.specs.Prelude.{◌||◌, ◌↔◌, not, slice_get, Contains}
-use Rattle.std.specs.Bool.{Decides}
-use Rattle.std.specs.List.{list_any}
-use Rattle.std.proofs.lemmas.Bool.{cases_order}
-use Rattle.std.proofs.lemmas.List.{take_more, get_or-set_same, get_or-set_other, get_or_append_left, length-set}
-use Rattle.std.proofs.Math.Seq.{get_or-append_seam}
-use Rattle.std.proofs.lemmas.Option.{get_or_from_slice_get, slice_get_within}
+use Rattle.shr_audit_lists.proofs.Common.{◌≡◌, ℕ, zero, suc, ◌+◌, ◌<◌, ◌≤◌, Bool, true, false, List, [], ◌∷◌, ◌++◌, length, length-append, get_or, take, Option, Some, None, refl, sym, ap, subst, ◌∙◌, ◌⊎◌, inl, inr, arith, ◌||◌, slice_get, Contains, Decides, list_any, cases_order, get_or_append_left, get_or-append_seam, get_or_from_slice_get, slice_get_within, Place, Entry, Add, Look, Drop, Pin, Scan, MovedIn, Closed, Drained, IsTree, is_child, parent_of, path_of, is_closed, MayStand, child_of, moved_in, child_takes, child_again, path_of-root, path_of-below, Has, Has_from_Contains, Contains_from_Has, Report, journals_of, EachFirst, AreMoved, IsMovedChild, IsPlaceStanding}
+use Rattle.std.proofs.Common.{◌≢◌, set}
+use Rattle.std.specs.Prelude.{◌↔◌, not}
+use Rattle.std.proofs.lemmas.List.{take_more, get_or-set_same, get_or-set_other, length-set}
 use Rattle.std.proofs.lemmas.List.Elements.{filter_map-append}
 use Rattle.std.proofs.lemmas.List.Folds.{list_any-append}
 use native.Mathlib.Decide.{ℕ_discrete}
 use mathlib.Core.Logic.{dite}
-use Rattle.shr_base.specs.declared.places.Place.{Place}
-use Rattle.shr_base.specs.declared.journals.Entry.{Entry}
-use Rattle.shr_base.specs.declared.journals.Entry.TheVariants.{Add, Look, Drop, Pin, Scan, MovedIn, Closed, Drained}
-use Rattle.shr_model.specs.Groups.{IsTree, IsAtOrAbove, is_child, parent_of, path_of}
-use Rattle.shr_model.specs.Items.{is_closed, is_closing}
-use Rattle.shr_model.specs.Families.{AreChildrenMovedIn, IsAllowed, IsBornAt, MayStand, child_of, moved_in}
-use Rattle.shr_model.proofs.GroupsLaws.{child_takes, child_again, child_higher, path_of-root, path_of-below}
-use Rattle.shr_model.proofs.Members.{Has, Has_from_Contains, Contains_from_Has}
-use Rattle.shr_report.specs.declared.report.Report.{Report}
-use Rattle.shr_report.specs.Parts.{journals_of}
-use Rattle.shr_case.specs.Each.{EachFirst}
+use Rattle.shr_model.specs.Groups.{IsAtOrAbove}
+use Rattle.shr_model.specs.Items.{is_closing}
+use Rattle.shr_model.specs.Families.{AreChildrenMovedIn, IsAllowed, IsBornAt}
+use Rattle.shr_model.proofs.GroupsLaws.{child_higher}
 use Rattle.shr_audit_lists.proofs.Journals.{each_printed_of}
 use Rattle.shr_audit_lists.proofs.Loops.{one_fails, one_more, all_so}
-use Rattle.shr_audit_lists.specs.Standing.{AreMoved, AreStanding, IsMovedChild, IsPlaceStanding}
+use Rattle.shr_audit_lists.specs.Standing.{AreStanding}
 
 clash : (b : Bool) → b ≡ true → b ≡ false → ⊥
 clash b e f = cc

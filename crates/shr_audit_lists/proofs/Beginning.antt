@@ -1,22 +1,5 @@
 -- Which groups began to go offline, or are below one that did.
-use Rattle.std.proofs.Common.{◌≡◌, ℕ, ◌+◌, ◌<◌, Bool, true, false, List, [], ◌∷◌, ◌++◌, length, length-append, get_or, refl, sym, ap, subst, ◌∙◌, ◌⊎◌, inl, inr, arith}
-use Rattle.std.specs.Prelude.{Contains}
-use Rattle.std.specs.Bool.{Decides}
-use Rattle.std.proofs.lemmas.Bool.{cases_order}
-use Rattle.std.proofs.lemmas.List.{get_or_append_left}
-use Rattle.std.proofs.Math.Seq.{get_or-append_seam}
-use Rattle.shr_base.specs.declared.places.Place.{Place}
-use Rattle.shr_base.specs.declared.journals.Entry.{Entry}
-use Rattle.shr_base.specs.declared.journals.TreeEntry.{TreeEntry}
-use Rattle.shr_base.specs.declared.journals.TreeEntry.TheVariants.{Begin}
-use Rattle.shr_model.specs.Groups.{IsTree, parent_of, path_of}
-use Rattle.shr_model.specs.Items.{is_closed}
-use Rattle.shr_model.proofs.GroupsLaws.{path_of-root, path_of-below}
-use Rattle.shr_model.proofs.Members.{Has, Has_from_Contains, Contains_from_Has}
-use Rattle.shr_report.specs.declared.report.Report.{Report}
-use Rattle.shr_report.specs.Parts.{journals_of}
-use Rattle.shr_case.specs.Each.{EachFirst}
-use Rattle.shr_audit_lists.specs.Begun.{AreBegun, AreBegunIfClosed, IsBegun, IsBegunIfClosed}
+use Rattle.shr_audit_lists.proofs.Common.{◌≡◌, ℕ, ◌+◌, ◌<◌, Bool, true, false, List, [], ◌∷◌, ◌++◌, length, length-append, get_or, refl, sym, ap, subst, ◌∙◌, ◌⊎◌, inl, inr, arith, Contains, Decides, cases_order, get_or_append_left, get_or-append_seam, Place, Entry, TreeEntry, Begin, IsTree, parent_of, path_of, is_closed, path_of-root, path_of-below, Has, Has_from_Contains, Contains_from_Has, Report, journals_of, EachFirst, AreBegun, AreBegunIfClosed, IsBegun, IsBegunIfClosed}
 use Rattle.shr_audit_lists.proofs.Journals.{each_printed_of}
 
 module _ (parents : List ℕ) (tree : List TreeEntry) where

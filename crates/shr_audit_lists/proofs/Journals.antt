@@ -1,25 +1,9 @@
 -- Fields of the law on journals, against loops over the lists.
-use Rattle.std.proofs.Common.{◌≡◌, ℕ, ◌+◌, ◌<◌, ◌≤◌, Bool, true, false, List, [], length, get_or, Some, refl, sym, ap, subst, ◌⊎◌, inl, inr, arith}
-use Rattle.std.specs.Prelude.{slice_get, Contains}
-use Rattle.std.specs.Bool.{Decides}
-use Rattle.std.proofs.lemmas.Bool.{cases_order}
+use Rattle.shr_audit_lists.proofs.Common.{◌≡◌, ℕ, ◌+◌, ◌<◌, ◌≤◌, Bool, true, false, List, [], length, get_or, Some, refl, sym, ap, subst, ◌⊎◌, inl, inr, arith, slice_get, Contains, Decides, cases_order, get_or_from_slice_get, Place, PlaceEnd, Entry, Done, Script, Report, journal_of, journals_of, parents_of, EachFirst, IsFirst, decides_iff, found_or_none, AreDoneClosed, AreFirsts, AreOutcomesSo, ArePlacesOnce, IsClosedAt, IsOutcomeSo}
 use Rattle.std.proofs.lemmas.List.{length-map}
-use Rattle.std.proofs.lemmas.Option.{get_or_from_slice_get}
-use Rattle.shr_base.specs.declared.places.Place.{Place}
-use Rattle.shr_base.specs.declared.ends.PlaceEnd.{PlaceEnd}
-use Rattle.shr_base.specs.declared.journals.Entry.{Entry}
-use Rattle.shr_base.specs.declared.journals.TreeEntry.TheVariants.{Done}
 use Rattle.shr_base.specs.declared.scripts.GroupDecl.{GroupDecl}
-use Rattle.shr_base.specs.declared.scripts.Script.{Script}
 use Rattle.shr_model.specs.Items.{AreOutcomes}
 use Rattle.shr_model.specs.Families.{lists_moved_at}
-use Rattle.shr_report.specs.declared.report.Report.{Report}
-use Rattle.shr_report.specs.Parts.{journal_of, journals_of, parents_of}
-use Rattle.shr_case.specs.Each.{EachFirst}
-use Rattle.shr_case.specs.Places.{IsFirst}
-use Rattle.shr_case.proofs.Eachs.{decides_iff}
-use Rattle.shr_case.proofs.Firsts.{found_or_none}
-use Rattle.shr_audit_lists.specs.Fields.{AreDoneClosed, AreFirsts, AreOutcomesSo, ArePlacesOnce, IsClosedAt, IsOutcomeSo}
 
 -- the number of groups
 pub groups_many : (s : Script) → length (parents_of s) ≡ length s.groups.items + 1

@@ -1,3 +1,4 @@
+mod Common
 mod Loops
 mod Journals
 mod Beginning

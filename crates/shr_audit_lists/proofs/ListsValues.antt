@@ -1,23 +1,13 @@
 -- Fields of the law on journals, at known values.
-use Rattle.std.proofs.Common.{false, ◌≡◌, ℕ, zero, suc, ◌<◌, Option, Some, None, List, [], ◌∷◌, refl, ap, subst, arith, true, inl, inr}
-use Rattle.std.specs.Prelude.{codes, slice_get}
-use Rattle.std.proofs.lemmas.Option.{slice_get_within}
-use Rattle.shr_base.specs.declared.ends.PlaceEnd.{PlaceEnd}
-use Rattle.shr_base.specs.declared.places.Place.{Place}
+use Rattle.shr_audit_lists.proofs.Common.{false, ◌≡◌, ℕ, zero, suc, ◌<◌, Option, Some, None, List, [], ◌∷◌, refl, ap, subst, arith, true, inl, inr, slice_get, slice_get_within, PlaceEnd, Place, Closed, Drop, MovedIn, Begin, Done, Report, IsThere, parents_of, Has, Has_from_Contains, AreBegun, AreBegunIfClosed, HaveGroups, IsBegun, IsBegunIfClosed, IsPairedAround, moves, AreDoneClosed, AreFirsts, AreOutcomesSo, ArePlacesOnce, ArePlacesThere, IsClosedAt, IsOutcomeSo}
+use Rattle.std.specs.Prelude.{codes}
 use Rattle.shr_base.specs.declared.journals.DropKind.TheVariants as kind
-use Rattle.shr_base.specs.declared.journals.Entry.TheVariants.{Closed, Drop, MovedIn}
-use Rattle.shr_base.specs.declared.journals.TreeEntry.TheVariants.{Begin, Done}
 use Rattle.shr_model.specs.Items.{AreOutcomes}
 use Rattle.shr_model.specs.Families.{lists_moved}
-use Rattle.shr_report.specs.declared.report.Report.{Report}
-use Rattle.shr_report.specs.Parts.{IsThere, parents_of}
 use Rattle.shr_report.proofs.SecondReport as second
 use Rattle.shr_report.proofs.NotLawful.{with_list}
 use Rattle.shr_model.specs.Groups.{path_within}
-use Rattle.shr_model.proofs.Members.{Has, Has_from_Contains}
-use Rattle.shr_audit_lists.specs.Begun.{AreBegun, AreBegunIfClosed, HaveGroups, IsBegun, IsBegunIfClosed}
-use Rattle.shr_audit_lists.specs.Paired.{AreChildrenPaired, IsOwnPaired, IsPairedAround, moves}
-use Rattle.shr_audit_lists.specs.Fields.{AreDoneClosed, AreFirsts, AreOutcomesSo, ArePlacesOnce, ArePlacesThere, IsClosedAt, IsOutcomeSo}
+use Rattle.shr_audit_lists.specs.Paired.{AreChildrenPaired, IsOwnPaired}
 
 -- a report with one list, which is closed
 abbrev closed_one : Report

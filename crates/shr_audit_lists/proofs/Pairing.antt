@@ -1,40 +1,11 @@
 -- Lists of children and of their parents that fit, against a loop over the lists.
-use Rattle.std.proofs.Common.{◌≡◌, ℕ, Bool, true, false, List, [], ◌∷◌, refl, sym, ap, subst, ◌∙◌, ◌⊎◌, inl, inr}
-use Rattle.std.specs.Prelude.{◌||◌, ◌==◌, Contains}
-use Rattle.std.specs.Bool.{Decides}
-use Rattle.std.specs.List.{list_any}
-use Rattle.std.proofs.lemmas.Bool.{eqb-true, eq-eqb}
-use Rattle.shr_base.specs.declared.places.Place.{Place}
-use Rattle.shr_base.specs.declared.ends.PlaceEnd.{PlaceEnd}
-use Rattle.shr_base.specs.declared.journals.Entry.{Entry}
-use Rattle.shr_base.specs.declared.journals.Entry.TheVariants.{Add, Look, Drop, Pin, Scan, MovedIn, Closed, Drained}
-use Rattle.shr_model.specs.Groups.{parent_of}
-use Rattle.shr_model.specs.Places.{at_group}
-use Rattle.shr_model.specs.Items.{is_closed}
-use Rattle.shr_model.specs.Families.{IsPaired, moved_in}
-use Rattle.shr_model.proofs.GroupsLaws.{child_takes, child_again}
-use Rattle.shr_model.proofs.Members.{Has, Has_from_Contains, Contains_from_Has}
-use Rattle.shr_report.specs.declared.report.Report.{Report}
-use Rattle.shr_report.specs.Parts.{journal_of, journals_of}
-use Rattle.shr_case.specs.Each.{EachFirst}
-use Rattle.shr_case.specs.Places.{IsFirst}
-use Rattle.shr_case.proofs.Eachs.{decides_iff}
-use Rattle.shr_case.proofs.Firsts.{IsFound, found_or_none}
-use Rattle.shr_audit_lists.specs.Paired.{IsPairedAround, moves}
+use Rattle.shr_audit_lists.proofs.Common.{◌≡◌, ℕ, Bool, true, false, List, [], ◌∷◌, refl, sym, ap, subst, ◌∙◌, ◌⊎◌, inl, inr, ◌||◌, Contains, Decides, list_any, eqb-true, eq-eqb, Place, PlaceEnd, Entry, Add, Look, Drop, Pin, Scan, MovedIn, Closed, Drained, parent_of, at_group, is_closed, IsPaired, moved_in, child_takes, child_again, Has, Has_from_Contains, Contains_from_Has, Report, journal_of, journals_of, EachFirst, IsFirst, decides_iff, found_or_none, IsPairedAround, moves}
+use Rattle.std.specs.Prelude.{◌==◌}
+use Rattle.shr_case.proofs.Firsts.{IsFound}
+use Rattle.shr_report.proofs.Reading.{either}
+use Rattle.shr_case.proofs.Order.{or_left, or_right}
 
 -- ---- one journal
-
-or_takes : (a b : Bool) → (a || b) ≡ true → (a ≡ true) ⊎ (b ≡ true)
-or_takes true b e = inl refl
-or_takes false b e = inr e
-
-or_left : (a b : Bool) → a ≡ true → (a || b) ≡ true
-or_left true b e = refl
-or_left false b e = absurd (cc)
-
-or_right : (a b : Bool) → b ≡ true → (a || b) ≡ true
-or_right true b e = refl
-or_right false b e = e
 
 moved_has : (child : ℕ) (es : List Entry) → list_any (moves child) es ≡ true → Has (moved_in es) child
 moved_has child [] t = absurd (cc)
@@ -43,7 +14,7 @@ moved_has child (Look by birth key hit ∷ es) t = moved_has child es t
 moved_has child (Drop by birth key kind ∷ es) t = moved_has child es t
 moved_has child (Pin by birth key pinned hit ∷ es) t = moved_has child es t
 moved_has child (Scan worker walk asked policy visits freed stopped ∷ es) t = moved_has child es t
-moved_has child (MovedIn moved objects ∷ es) t = elim (or_takes (moved == child) (list_any (moves child) es) t) [
+moved_has child (MovedIn moved objects ∷ es) t = elim (either (moved == child) (list_any (moves child) es) t) [
   | inl own ↦ inl (eqb-true moved child own)
   | inr later ↦ inr (moved_has child es later)
 ]

@@ -1,23 +1,10 @@
 -- The objects that are printed for a place, where no place is printed twice; and the whole law on journals.
-use Rattle.std.proofs.Common.{◌≡◌, ℕ, ◌<◌, Bool, true, false, List, get_or, Some, refl, sym, ap, subst, ◌∙◌, arith, length}
-use Rattle.std.specs.Prelude.{slice_get}
-use Rattle.std.specs.Bool.{Decides}
-use Rattle.std.proofs.lemmas.Option.{get_or_from_slice_get}
+use Rattle.shr_audit_lists.proofs.Common.{◌≡◌, ℕ, ◌<◌, Bool, true, false, List, get_or, Some, refl, sym, ap, subst, ◌∙◌, arith, length, slice_get, Decides, get_or_from_slice_get, Place, PlaceEnd, Script, IsPaired, Report, AreJournalsLawful, journals_of, parents_of, IsFirst, AreBegunIfClosed, HaveGroups, AreDoneClosed, AreItemsLeft, AreOutcomesSo, ArePlacesOnce, ArePlacesThere, IsItemsLeft, IsPlaceStanding}
 use Rattle.shr_base.specs.declared.objects.Object.{Object}
-use Rattle.shr_base.specs.declared.places.Place.{Place}
-use Rattle.shr_base.specs.declared.ends.PlaceEnd.{PlaceEnd}
-use Rattle.shr_base.specs.declared.scripts.Script.{Script}
-use Rattle.shr_model.specs.Families.{IsPaired, items_of}
+use Rattle.shr_model.specs.Families.{items_of}
 use Rattle.shr_replay.specs.Groups.{items_in}
-use Rattle.shr_report.specs.declared.report.Report.{Report}
-use Rattle.shr_report.specs.Journals.{AreJournalsLawful}
-use Rattle.shr_report.specs.Parts.{journals_of, parents_of}
 use Rattle.shr_case.specs.Lists.{items_printed_in}
-use Rattle.shr_case.specs.Places.{IsFirst}
 use Rattle.shr_case.proofs.Firsts.{first_found}
-use Rattle.shr_audit_lists.specs.Begun.{AreBegunIfClosed, HaveGroups}
-use Rattle.shr_audit_lists.specs.Fields.{AreDoneClosed, AreItemsLeft, AreOutcomesSo, ArePlacesOnce, ArePlacesThere, IsItemsLeft}
-use Rattle.shr_audit_lists.specs.Standing.{IsPlaceStanding}
 
 pub left_here : (parents : List ℕ) (r : Report) (ends : List PlaceEnd) → ends ≡ r.places.items → ArePlacesOnce r → (k : ℕ) (d : PlaceEnd) (b : Bool)
     → Decides b (items_printed_in r.places.items (get_or ends k d).place ≡ items_of parents (journals_of r) (get_or ends k d).place) → (end : PlaceEnd) → slice_get r.places.items k ≡ Some end → Decides b (IsItemsLeft parents r end)

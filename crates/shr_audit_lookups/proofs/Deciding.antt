@@ -1,12 +1,9 @@
 -- What is tested of a found cache, against what the law says of it.
-use Rattle.std.proofs.Common.{◌≡◌, ℕ, ◌<◌, ◌≤◌, Bool, true, false, cond, List, length, get_or, take, drop, Option, Some, None, refl, sym, ap, subst, ◌∙◌}
-use Rattle.std.specs.Prelude.{slice_get}
-use Rattle.std.specs.Bool.{Decides}
+use Rattle.shr_audit_lookups.proofs.Common.{◌≡◌, ℕ, ◌<◌, ◌≤◌, Bool, List, length, Some, refl, sym, ap, subst, ◌∙◌, slice_get, Decides, fails, Report}
+use Rattle.std.proofs.Common.{true, false, cond, get_or, take, drop, Option, None}
 use Rattle.std.proofs.lemmas.Option.{slice_get-get_or}
 use Rattle.shr_base.specs.declared.replies.Found.{Found}
-use Rattle.shr_formed.proofs.Eachs.{fails}
 use Rattle.shr_model.specs.Pool.{decl_of, end_of, from_of, is_live}
-use Rattle.shr_report.specs.declared.report.Report.{Report}
 use Rattle.shr_report.specs.Lookups.{IsFoundRight}
 use Rattle.shr_registrations.specs.declared.steps.Registration.{Registration}
 use Rattle.shr_registrations.specs.Live.{live_now}

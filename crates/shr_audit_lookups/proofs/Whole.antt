@@ -1,18 +1,12 @@
 -- The law on lookups, from its fields.
-use Rattle.std.proofs.Common.{◌≡◌, ℕ, ◌≤◌, Bool, List, length, subst, ◌∙◌}
-use Rattle.std.specs.Bool.{Decides}
-use Rattle.shr_base.specs.declared.scripts.Script.{Script}
-use Rattle.shr_report.specs.declared.report.Report.{Report}
+use Rattle.shr_audit_lookups.proofs.Common.{◌≡◌, ℕ, ◌≤◌, Bool, List, length, subst, ◌∙◌, Decides, Script, Report, IsDrawn, AreFoundRight, AreMetRight}
 use Rattle.shr_report.specs.Lookups.{AreLookupsLawful}
 use Rattle.shr_report.specs.Parts.{parents_of}
-use Rattle.shr_audit_tables.specs.Draws.{IsDrawn}
 use Rattle.shr_audit_tables.specs.Idle.{AreIdleEmpty, NonePast}
 use Rattle.shr_audit_tables.specs.Lookups.{IsPoolLawful}
 use Rattle.shr_audit_tables.specs.Registrations.{AreStatesOf}
 use Rattle.shr_audit_tables.specs.declared.registrations.IdState.{IdState}
 use Rattle.shr_audit_tables.proofs.States.{past_none}
-use Rattle.shr_audit_lookups.specs.Found.{AreFoundRight}
-use Rattle.shr_audit_lookups.specs.Met.{AreMetRight}
 
 -- the journal speaks of no id past the last
 pub none_past : (s : Script) (r : Report) (states : List IdState) (n : ℕ) → n ≡ length states → IsPoolLawful s r → AreStatesOf s.ids r.pool.items states → NonePast n r.pool.items

@@ -1,25 +1,12 @@
 -- The workers that may have begun the offlining of groups above others, from the root down.
-use Rattle.std.proofs.Common.{◌≡◌, ◌≢◌, ◌⊎◌, ℕ, ◌+◌, ◌<◌, Bool, true, false, cond, List, [], ◌∷◌, ◌++◌, length, get_or, refl, sym, ap, subst, ◌∙◌, inl, inr, arith, eq-eqb, ne_eqb, length-append}
-use Rattle.std.specs.Prelude.{◌==◌}
-use Rattle.std.specs.Bool.{Decides}
-use Rattle.std.proofs.lemmas.Bool.{cases_lt}
+use Rattle.shr_audit_offlines.proofs.Common.{◌≡◌, ◌≢◌, ◌⊎◌, ℕ, ◌+◌, ◌<◌, Bool, true, false, cond, List, [], ◌∷◌, ◌++◌, length, get_or, refl, sym, ap, subst, ◌∙◌, inl, inr, arith, eq-eqb, ne_eqb, ◌==◌, Decides, cases_lt, dite, ℕ_discrete, Serial, Script, Cited, Never, Often, cited_in, IsTree, parent_of, IsAtOrAbove-le, Report, parents_of, serial_of, Whose, Nobody, One, Several, BeganAbove, BeganAt, IsWhose, either, is_only, whose_of}
+use Rattle.std.proofs.Common.{length-append}
 use Rattle.std.proofs.lemmas.List.{get_or_append_left, get_or_push}
-use mathlib.Core.Logic.{dite}
-use native.Mathlib.Decide.{ℕ_discrete}
-use Rattle.shr_base.specs.declared.places.Serial.{Serial}
-use Rattle.shr_base.specs.declared.scripts.Script.{Script}
-use Rattle.shr_audit_causes.specs.declared.cites.Cited.{Cited}
-use Rattle.shr_audit_causes.specs.declared.cites.Cited.TheVariants.{Never, Once, Often}
+use Rattle.shr_audit_causes.specs.declared.cites.Cited.TheVariants.{Once}
 use Rattle.shr_audit_causes.specs.declared.cites.What.TheVariants as say
-use Rattle.shr_audit_causes.specs.Cites.{AreCited, Cites, Tells, cited_in}
+use Rattle.shr_audit_causes.specs.Cites.{AreCited, Cites, Tells}
 use Rattle.shr_audit_causes.proofs.Treeing.{begun_of, of_begun}
-use Rattle.shr_model.specs.Groups.{IsTree, parent_of}
-use Rattle.shr_model.proofs.GroupsOrder.{IsAtOrAbove-le}
-use Rattle.shr_report.specs.declared.report.Report.{Report}
-use Rattle.shr_report.specs.Parts.{parents_of, serial_of}
-use Rattle.shr_audit_offlines.specs.declared.above.Whose.{Whose}
-use Rattle.shr_audit_offlines.specs.declared.above.Whose.TheVariants.{Nobody, One, Several}
-use Rattle.shr_audit_offlines.specs.Above.{AreAbove, BeganAbove, BeganAt, IsWhose, either, is_only, whose_of}
+use Rattle.shr_audit_offlines.specs.Above.{AreAbove}
 use Rattle.shr_audit_offlines.proofs.PathLaws.{above_parent, parent_above, parent_itself, parent_lower, parent_other}
 
 -- ---- workers

@@ -1,17 +1,13 @@
 -- What commands carried, one carry after another.
-use Rattle.std.proofs.Common.{◌≡◌, ℕ, ◌+◌, ◌*◌, ◌/◌, ◌%◌, ◌^◌, ◌<◌, ◌≤◌, Bool, true, false, cond, List, [], ◌∷◌, ◌++◌, length, filter, get_or, set, take, replicate, refl, sym, ap, subst, ◌∙◌, arith, eq-eqb, ne_eqb, length-set, get_or-set_same, get_or-set_other}
-use Rattle.std.specs.Prelude.{◌&&◌, ◌==◌, sum_by}
-use Rattle.std.proofs.lemmas.List.{get_or-replicate, length-replicate, take_all, take_more}
+use Rattle.shr_audit_offlines.proofs.Common.{◌≡◌, ℕ, ◌+◌, ◌*◌, ◌%◌, ◌^◌, ◌<◌, ◌≤◌, Bool, true, false, cond, List, [], ◌∷◌, ◌++◌, length, get_or, set, take, replicate, refl, sym, ap, subst, ◌∙◌, arith, eq-eqb, ne_eqb, length-set, get_or-set_same, get_or-set_other, ◌==◌, sum_by, get_or-replicate, length-replicate, take_all, sum_by-cons, dite, ℕ_discrete, Carry, Report, answers_of, serial_of, AreCarried, IsCarriedOf, carried_by}
+use Rattle.std.proofs.Common.{◌/◌, filter}
+use Rattle.std.specs.Prelude.{◌&&◌}
+use Rattle.std.proofs.lemmas.List.{take_more}
 use Rattle.std.proofs.lemmas.List.Elements.{filter-append}
-use Rattle.std.proofs.lemmas.List.Sums.{sum_by-append, sum_by-cons}
+use Rattle.std.proofs.lemmas.List.Sums.{sum_by-append}
 use Rattle.std.proofs.Math.Nat.{mod-add-div, add-mul-mod_self_right}
-use mathlib.Core.Logic.{dite}
-use native.Mathlib.Decide.{ℕ_discrete}
-use Rattle.shr_base.specs.declared.walks.Carry.{Carry}
 use Rattle.shr_model.specs.Commands.{is_serial}
-use Rattle.shr_report.specs.declared.report.Report.{Report}
-use Rattle.shr_report.specs.Parts.{answers_of, carries_of, serial_of}
-use Rattle.shr_audit_offlines.specs.Carried.{AreCarried, IsCarriedOf, carried_by}
+use Rattle.shr_report.specs.Parts.{carries_of}
 
 one_sum : (c : Carry) (b : Bool) → sum_by (λ (x : Carry). x.amount) (cond b (c ∷ []) []) ≡ cond {A = ℕ} b c.amount 0
 one_sum c true = sum_by-cons (λ (x : Carry). x.amount) c [] ∙ (let e : c.amount + 0 ≡ c.amount = omega arith in e)

@@ -1,5 +1,6 @@
+mod Common
 mod AboveLaws
-mod CarriedLaws
+pub mod CarriedLaws
 mod MovedLaws
 mod OfflinesValues
 mod PathLaws

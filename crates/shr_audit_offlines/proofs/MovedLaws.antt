@@ -1,27 +1,17 @@
 -- Sums of moved objects, one entry and one list after another.
-use Rattle.std.proofs.Common.{◌≡◌, ℕ, zero, suc, ◌+◌, ◌-◌, ◌*◌, ◌^◌, ◌<◌, ◌≤◌, Bool, cond, List, [], ◌∷◌, length, get_or, set, take, map, replicate, Some, refl, sym, ap, subst, ◌∙◌, arith, eq-eqb, ne_eqb, length-set, get_or-set_same, get_or-set_other}
-use Rattle.std.specs.Prelude.{◌==◌, min, slice_get, sum_by}
-use Rattle.std.proofs.lemmas.List.{get_or-replicate, length-replicate, take_all}
-use Rattle.std.proofs.lemmas.List.Sums.{sum_by-cons, sum_by_more}
+use Rattle.shr_audit_offlines.proofs.Common.{◌≡◌, ℕ, zero, suc, ◌+◌, ◌-◌, ◌*◌, ◌^◌, ◌<◌, ◌≤◌, Bool, cond, List, [], ◌∷◌, length, get_or, set, take, map, replicate, Some, refl, sym, ap, subst, ◌∙◌, arith, eq-eqb, ne_eqb, length-set, get_or-set_same, get_or-set_other, ◌==◌, min, slice_get, sum_by, get_or-replicate, length-replicate, take_all, sum_by-cons, dite, ℕ_discrete, PlaceEnd, Entry, Report, moved_from, moved_of, AreSums}
+use Rattle.std.proofs.lemmas.List.Sums.{sum_by_more}
 use Rattle.std.proofs.lemmas.Option.{slice_get-get_or}
-use mathlib.Core.Logic.{dite}
-use native.Mathlib.Decide.{ℕ_discrete}
-use Rattle.shr_base.specs.declared.ends.PlaceEnd.{PlaceEnd}
-use Rattle.shr_base.specs.declared.journals.Entry.{Entry}
 use Rattle.shr_base.specs.declared.places.Place.{Place}
-use Rattle.shr_report.specs.declared.report.Report.{Report}
-use Rattle.shr_report.specs.Causes.{moved_from, moved_of}
 use Rattle.shr_report.specs.Parts.{journals_of}
-use Rattle.shr_audit_offlines.specs.Moved.{AreMoved, AreSums}
+use Rattle.shr_audit_offlines.specs.Moved.{AreMoved}
+use Rattle.shr_model.proofs.Numbers.{kept_sum}
+use Rattle.shr_audit_offlines.proofs.CarriedLaws.{many_none}
 
 -- ---- sums as far as they go
 
 abbrev most : ℕ
 most = 2 ^ 128 - 1
-
--- a sum of two, of which each was kept as far as it goes
-kept_sum : (a b m : ℕ) → min (min a m + min b m) m ≡ min (a + b) m
-kept_sum a b m = omega arith
 
 pub sums_same : (f g : ℕ → ℕ) (table : List ℕ) → ((k : ℕ) → f k ≡ g k) → AreSums f table → AreSums g table
 sums_same f g table same are group lt = are group lt ∙ ap (λ (n : ℕ). min n most) (same group)
@@ -31,9 +21,6 @@ sums_none count table is group lt = ap (λ (xs : List ℕ). get_or xs group 0) i
   where
     zero_kept : (m : ℕ) → min 0 m ≡ 0
     zero_kept m = omega arith
-
-pub many_none : (count : ℕ) (table : List ℕ) → table ≡ replicate count 0 → length table ≡ count
-many_none count table is = ap length is ∙ length-replicate count 0
 
 module _ (table : List ℕ) (group objects times : ℕ) where
   here_is : (g : ℕ) → group ≡ g → times * cond {A = ℕ} (group == g) objects 0 ≡ times * objects

@@ -1,22 +1,9 @@
 -- What is tested of answers to an `offline` that was done, at known values.
-use Rattle.std.proofs.Common.{◌≡◌, ℕ, zero, suc, ◌<◌, ◌≤◌, ◌^◌, ◌-◌, true, false, [], ◌∷◌, Some, None, refl, subst, arith}
-use Rattle.std.specs.Prelude.{slice_get}
-use Rattle.std.specs.Option.{IsSomeAnd}
+use Rattle.shr_audit_offlines.proofs.Common.{◌≡◌, ℕ, zero, suc, ◌<◌, ◌≤◌, ◌^◌, ◌-◌, true, false, [], ◌∷◌, Some, None, refl, subst, arith, slice_get, IsSomeAnd, GroupDecl, Carry, IsAtOrAbove-le, IsOffline, moved_from, parents_of, reply_at, serial_of, Never, Often, Nobody, One, Several, BeganAbove, BeganAt, IsWhose, either, is_only, whose_of, AreCarried, IsCarriedOf, carried_by, AreSums, HasOfflineCause, IsCarriedSo, IsCausedAt, IsMoveRight, IsMovedSo, AddsSpliced, AreOnlySpliced, HasSpliced, IsIn, with_group}
 use Rattle.shr_base.specs.declared.replies.Reply.TheVariants as reply
 use Rattle.shr_base.specs.declared.scripts.Command.TheVariants as command
-use Rattle.shr_base.specs.declared.scripts.GroupDecl.{GroupDecl}
-use Rattle.shr_base.specs.declared.walks.Carry.{Carry}
-use Rattle.shr_model.proofs.GroupsOrder.{IsAtOrAbove-le}
-use Rattle.shr_report.specs.Causes.{IsOffline, MayHaveBegun, moved_from}
-use Rattle.shr_report.specs.Parts.{parents_of, reply_at, serial_of}
+use Rattle.shr_report.specs.Causes.{MayHaveBegun}
 use Rattle.shr_report.proofs.OfflineReport.{place, report, script}
-use Rattle.shr_audit_causes.specs.declared.cites.Cited.TheVariants.{Never, Often}
-use Rattle.shr_audit_offlines.specs.declared.above.Whose.TheVariants.{Nobody, One, Several}
-use Rattle.shr_audit_offlines.specs.Above.{BeganAbove, BeganAt, IsWhose, either, is_only, whose_of}
-use Rattle.shr_audit_offlines.specs.Carried.{AreCarried, IsCarriedOf, carried_by}
-use Rattle.shr_audit_offlines.specs.Moved.{AreSums}
-use Rattle.shr_audit_offlines.specs.Rows.{HasOfflineCause, IsCarriedSo, IsCausedAt, IsMoveRight, IsMovedSo}
-use Rattle.shr_audit_offlines.specs.Spliced.{AddsSpliced, AreOnlySpliced, HasSpliced, IsIn, with_group}
 use Rattle.shr_audit_offlines.proofs.TreeLaws.{tree_of}
 
 -- ---- workers

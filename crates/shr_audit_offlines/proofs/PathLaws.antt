@@ -1,21 +1,14 @@
 -- Groups above others, also above one that isn't there, whose parent is the root.
-use Rattle.std.proofs.Common.{◌≡◌, ◌≢◌, ℕ, zero, suc, ◌<◌, ◌≤◌, false, List, [], ◌∷◌, length, refl, sym, subst, inl, inr, arith}
-use Rattle.std.specs.Prelude.{◌==◌}
-use Rattle.std.proofs.lemmas.Bool.{cases_lt}
-use Rattle.std.proofs.lemmas.Bool.Decides.{nat_tests}
-use Rattle.std.proofs.lemmas.List.{get_or_past}
-use Rattle.shr_model.specs.Groups.{IsAtOrAbove, IsTree, parent_of, path_of, path_within}
-use Rattle.shr_model.proofs.GroupsLaws.{path_of-below}
-use Rattle.shr_model.proofs.GroupsOrder.{IsAtOrAbove-le, IsAtOrAbove-refl}
+use Rattle.shr_audit_offlines.proofs.Common.{◌≡◌, ◌≢◌, ℕ, zero, suc, ◌<◌, ◌≤◌, List, [], ◌∷◌, length, refl, sym, subst, inl, inr, arith, ◌==◌, cases_lt, get_or_past, IsTree, parent_of, IsAtOrAbove-le}
+use Rattle.shr_model.specs.Groups.{IsAtOrAbove, path_of, path_within}
+use Rattle.shr_model.proofs.GroupsLaws.{path_of-below, not_zero}
+use Rattle.shr_model.proofs.GroupsOrder.{IsAtOrAbove-refl}
 use Rattle.shr_model.proofs.Members.{Contains_from_Has, Has, Has_from_Contains}
 
 root_path : (parents : List ℕ) (k : ℕ) → path_within k parents 0 ≡ 0 ∷ []
 unfolding path_within
 root_path parents zero = refl
 root_path parents (suc k) = refl
-
-not_zero : (g : ℕ) → 0 < g → (g == 0) ≡ false
-not_zero g h = grind (arith, nat_tests)
 
 path_past : (parents : List ℕ) (g : ℕ) → 0 < g → length parents ≤ g → path_of parents g ≡ g ∷ path_of parents (parent_of parents g)
 unfolding path_within

@@ -1,32 +1,16 @@
 -- Causes of answers to an `offline` that was done, from the parts in which they are tested.
-use Rattle.std.proofs.Common.{◌≡◌, ◌≢◌, ℕ, ◌-◌, ◌^◌, ◌<◌, ◌≤◌, Bool, true, false, length, get_or, Option, Some, None, refl, sym, ap, subst, ◌∙◌, arith}
-use Rattle.std.specs.Prelude.{min, not, option_map}
-use Rattle.std.specs.Bool.{Decides}
-use Rattle.std.specs.Option.{IsSomeAnd}
-use Rattle.std.proofs.lemmas.List.{get_or_default}
-use Rattle.std.proofs.lemmas.Option.{slice_get_past, slice_get_within}
-use Rattle.shr_base.specs.declared.ends.WorkerPart.{WorkerPart}
+use Rattle.shr_audit_offlines.proofs.Common.{◌≡◌, ◌≢◌, ℕ, ◌-◌, ◌^◌, ◌<◌, ◌≤◌, Bool, true, false, length, get_or, Option, Some, None, refl, sym, ap, subst, ◌∙◌, arith, min, option_map, Decides, IsSomeAnd, get_or_default, slice_get_past, WorkerPart, Serial, Answered, Reply, Command, Script, Report, IsOffline, MayHaveSpliced, moved_from, answer_at, answers_in, answers_of, command_at, reply_at, serial_of, Whose, Nobody, BeganAbove, is_only, HasOfflineCause, IsCarriedSo, IsCausedAt, IsMoveRight, IsMovedSo, some_is}
+use Rattle.std.specs.Prelude.{not}
+use Rattle.std.proofs.lemmas.Option.{slice_get_within}
 use Rattle.shr_base.specs.declared.journals.TreeEntry.TheVariants.{Done}
-use Rattle.shr_base.specs.declared.places.Serial.{Serial}
-use Rattle.shr_base.specs.declared.replies.Answered.{Answered}
-use Rattle.shr_base.specs.declared.replies.Reply.{Reply}
 use Rattle.shr_base.specs.declared.replies.Reply.TheVariants as reply
-use Rattle.shr_base.specs.declared.scripts.Command.{Command}
-use Rattle.shr_base.specs.declared.scripts.Script.{Script}
 use Rattle.shr_case.proofs.Eachs.{decides_iff}
 use Rattle.shr_model.specs.Commands.{group_named}
-use Rattle.shr_report.specs.declared.report.Report.{Report}
-use Rattle.shr_report.specs.Causes.{IsAloneAt, IsOffline, IsOfflined, MayHaveSpliced, StandsInTree, moved_from}
-use Rattle.shr_report.specs.Parts.{EachAnswer, answer_at, answers_in, answers_of, command_at, reply_at, serial_of}
-use Rattle.shr_audit_offlines.specs.declared.above.Whose.{Whose}
-use Rattle.shr_audit_offlines.specs.declared.above.Whose.TheVariants.{Nobody}
+use Rattle.shr_report.specs.Causes.{IsAloneAt, IsOfflined, StandsInTree}
+use Rattle.shr_report.specs.Parts.{EachAnswer}
 use Rattle.shr_audit_offlines.specs.declared.rows.Notes.{Notes}
-use Rattle.shr_audit_offlines.specs.Above.{BeganAbove, is_only}
-use Rattle.shr_audit_offlines.specs.Rows.{AreNotes, HasOfflineCause, IsAlone, IsCarriedSo, IsCausedAt, IsMoveRight, IsMovedSo}
+use Rattle.shr_audit_offlines.specs.Rows.{AreNotes, IsAlone}
 use Rattle.shr_audit_offlines.proofs.AboveLaws.{only_decided}
-
-some_same : {X : Type 0} (a b : X) → ◌≡◌ {A = Option X} (Some a) (Some b) → a ≡ b
-some_same a b e = cc
 
 none_some : {X : Type 0} (a : X) → ◌≡◌ {A = Option X} None (Some a) → ⊥
 none_some a e = cc
@@ -131,8 +115,8 @@ module _ (s : Script) (r : Report) (worker k : ℕ) where
     reply_is = ap (option_map (λ (x : Answered). x.reply)) (sym there)
 
     one_cause : HasOfflineCause s r (serial_of worker k) c a.reply → IsCausedAt s r worker k
-    one_cause h d b e f = subst (λ (v : Command). HasOfflineCause s r (serial_of worker k) v b.reply) (some_same c d (here ∙ e))
-        (subst (λ (v : Answered). HasOfflineCause s r (serial_of worker k) c v.reply) (some_same a b (there ∙ f)) h)
+    one_cause h d b e f = subst (λ (v : Command). HasOfflineCause s r (serial_of worker k) v b.reply) (some_is c d (here ∙ e))
+        (subst (λ (v : Answered). HasOfflineCause s r (serial_of worker k) c v.reply) (some_is a b (there ∙ f)) h)
 
     parts_here : IsCausedAt s r worker k → IsMovedSo s r worker (group_named c) a.reply × IsCarriedSo r worker k a.reply
     parts_here h = parts_of s r worker k c a.reply reply_is (h c a (sym here) (sym there))

@@ -1,10 +1,7 @@
 -- Groups that are a tree, by their declarations.
-use Rattle.std.proofs.Common.{◌≡◌, ℕ, zero, suc, ◌<◌, ◌≤◌, List, ◌∷◌, length, map, Some, refl, ap, ◌∙◌, inl, inr, arith}
-use Rattle.std.specs.Prelude.{slice_get}
+use Rattle.shr_audit_offlines.proofs.Common.{◌≡◌, ℕ, zero, suc, ◌<◌, ◌≤◌, List, ◌∷◌, length, map, Some, refl, ap, ◌∙◌, inl, inr, arith, slice_get, GroupDecl, IsTree, parent_of}
 use Rattle.std.proofs.lemmas.List.{get_or-map, length-map}
 use Rattle.std.proofs.lemmas.Option.{slice_get_cases}
-use Rattle.shr_base.specs.declared.scripts.GroupDecl.{GroupDecl}
-use Rattle.shr_model.specs.Groups.{IsTree, parent_of}
 
 pub tree_of : (groups : List GroupDecl) → ((k : ℕ) (g : GroupDecl) → k < length groups → slice_get groups k ≡ Some g → g.parent ≤ k) → IsTree (0 ∷ map (λ (g : GroupDecl). g.parent) groups)
 tree_of groups low = record { has_root = omega arith; root = refl; lower = lower }

@@ -1,3 +1,4 @@
+mod Common
 mod Order
 mod OnceLaws
 mod OnceValues

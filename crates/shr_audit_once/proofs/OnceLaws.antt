@@ -1,31 +1,22 @@
 -- Whether a place is printed once, and whether answers cite such places.
-use Rattle.std.proofs.Common.{◌≡◌, ℕ, zero, suc, ◌+◌, ◌<◌, ◌≤◌, Bool, true, false, List, [], ◌∷◌, length, get_or, Option, Some, None, refl, sym, ap, subst, ◌∙◌, inl, inr, arith}
-use Rattle.std.specs.Prelude.{not, slice_get, option_and_then, option_map}
-use Rattle.std.specs.Bool.{Decides}
+use Rattle.shr_audit_once.proofs.Common.{◌≡◌, ℕ, zero, suc, ◌+◌, ◌<◌, ◌≤◌, List, [], ◌∷◌, length, get_or, Some, refl, sym, subst, ◌∙◌, inl, inr, arith, slice_get, Decides, PlaceEnd, Place, AreInOrder, IsCitedOnceAt, IsPrintedOnce}
+use Rattle.std.proofs.Common.{Bool, true, false, Option, None, ap}
+use Rattle.std.specs.Prelude.{not, option_and_then, option_map}
 use Rattle.std.proofs.lemmas.Bool.{cases_Bool, cases_lt}
 use Rattle.std.proofs.lemmas.Option.{get_or_from_slice_get, slice_get-get_or, slice_get_past, slice_get_within}
-use Rattle.shr_base.specs.declared.ends.PlaceEnd.{PlaceEnd}
 use Rattle.shr_base.specs.declared.ends.WorkerPart.{WorkerPart}
 use Rattle.shr_base.specs.declared.places.At.{At}
-use Rattle.shr_base.specs.declared.places.Place.{Place}
 use Rattle.shr_base.specs.declared.replies.Answered.{Answered}
 use Rattle.shr_model.specs.Places.{is_place}
 use Rattle.shr_model.proofs.PlacesLaws.{is_place_same}
-use Rattle.shr_case.specs.Places.{AreInOrder, IsFirst, IsIndexOf, end_of}
-use Rattle.shr_case.proofs.Firsts.{first_found, found_or_none}
+use Rattle.shr_case.specs.Places.{IsFirst, IsIndexOf, end_of}
+use Rattle.shr_case.proofs.Firsts.{first_found, found_or_none, none_first, some_is}
 use Rattle.shr_report.specs.declared.report.Report.{Report}
 use Rattle.shr_report.specs.Parts.{answer_at, answers_in, answers_of, cited_at, cited_by, serial_of}
-use Rattle.shr_audit_once.specs.Once.{IsCitedOnceAt, IsPrintedOnce}
 use Rattle.shr_audit_once.proofs.Order.{not_again}
 
 none_some : {X : Type 0} (x : X) → ◌≡◌ {A = Option X} None (Some x) → ⊥
 none_some x e = cc
-
-some_is : {X : Type 0} (a b : X) → ◌≡◌ {A = Option X} (Some a) (Some b) → a ≡ b
-some_is a b e = cc
-
-none_first : (ends : List PlaceEnd) (place : Place) → IsFirst ends 0 place
-none_first ends place m x lt = absurd (omega (arith, lt))
 
 -- a place that isn't found is printed nowhere
 none_all : (ends : List PlaceEnd) (place : Place) (k : ℕ) (end : PlaceEnd) → end_of ends place ≡ None → slice_get ends k ≡ Some end → end.place ≡ place → ⊥

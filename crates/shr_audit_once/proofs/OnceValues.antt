@@ -1,9 +1,5 @@
 -- Places that are printed once, and one that is printed twice.
-use Rattle.std.proofs.Common.{◌≡◌, ℕ, [], ◌∷◌, Some, refl, arith}
-use Rattle.std.specs.Prelude.{slice_get}
-use Rattle.shr_base.specs.declared.ends.PlaceEnd.{PlaceEnd}
-use Rattle.shr_base.specs.declared.places.Place.{Place}
-use Rattle.shr_audit_once.specs.Once.{IsPrintedOnce}
+use Rattle.shr_audit_once.proofs.Common.{◌≡◌, ℕ, [], ◌∷◌, Some, refl, arith, slice_get, PlaceEnd, Place, IsPrintedOnce}
 
 nowhere : (place : Place) → IsPrintedOnce [] place
 nowhere place k end at same m x lt there = absurd (no_item m x there)

@@ -1,22 +1,8 @@
 -- Lists in the order of their places.
-use Rattle.std.proofs.Common.{◌≡◌, ℕ, zero, suc, ◌+◌, ◌-◌, ◌<◌, List, length, get_or, sym, subst, ◌∙◌, inl, inr, arith}
-use Rattle.shr_base.specs.declared.places.Place.{Place}
-use Rattle.shr_base.specs.declared.ends.PlaceEnd.{PlaceEnd}
+use Rattle.shr_audit_once.proofs.Common.{◌≡◌, ℕ, zero, suc, ◌+◌, ◌<◌, List, length, get_or, sym, subst, ◌∙◌, inl, inr, arith, Place, PlaceEnd, AreInOrder}
+use Rattle.std.proofs.Common.{◌-◌}
 use Rattle.shr_report.specs.WellFormed.{IsPlaceBefore, IsPlaceUpTo}
-use Rattle.shr_case.specs.Places.{AreInOrder}
-
-before_before : (p q r : Place) → IsPlaceBefore p q → IsPlaceBefore q r → IsPlaceBefore p r
-before_before p q r (inl a) (inl b) = inl (omega arith)
-before_before p q r (inl a) (inr (id, b)) = inl (omega arith)
-before_before p q r (inr (id, a)) (inl b) = inl (omega arith)
-before_before p q r (inr (id, inl a)) (inr (id', inl b)) = inr (id ∙ id', inl (omega arith))
-before_before p q r (inr (id, inl a)) (inr (id', inr (node, b))) = inr (id ∙ id', inl (omega arith))
-before_before p q r (inr (id, inr (node, a))) (inr (id', inl b)) = inr (id ∙ id', inl (omega arith))
-before_before p q r (inr (id, inr (node, a))) (inr (id', inr (node', b))) = inr (id ∙ id', inr (node ∙ node', omega arith))
-
-before_up_to : (p q r : Place) → IsPlaceBefore p q → IsPlaceUpTo q r → IsPlaceBefore p r
-before_up_to p q r a (inl b) = before_before p q r a b
-before_up_to p q r a (inr same) = subst (λ (x : Place). IsPlaceBefore p x) same a
+use Rattle.shr_case.proofs.Order.{before_up_to}
 
 not_itself : (p : Place) → IsPlaceBefore p p → ⊥
 not_itself p (inl a) = absurd (omega arith)

@@ -1,24 +1,14 @@
 -- Journals of pools, entry by entry, and journals that stand next to one another.
-use Rattle.std.proofs.Common.{◌≡◌, ◌≢◌, ◌⊎◌, inl, inr, ℕ, zero, suc, ◌+◌, ◌-◌, ◌<◌, Bool, false, List, [], ◌∷◌, ◌++◌, length, get_or, take, drop, Some, refl, sym, ap, subst, ◌∙◌, arith}
-use Rattle.std.specs.Prelude.{slice_get}
-use Rattle.std.specs.Bool.{Decides}
-use Rattle.std.proofs.lemmas.Bool.{cases_order}
-use Rattle.std.proofs.lemmas.List.{append_assoc, drop_more, take-append-drop, take_more}
+use Rattle.shr_audit_pools.proofs.Common.{◌≡◌, ◌≢◌, ◌⊎◌, inl, inr, ℕ, zero, suc, ◌+◌, ◌-◌, ◌<◌, Bool, false, List, [], ◌∷◌, ◌++◌, length, get_or, take, drop, Some, refl, sym, ap, subst, ◌∙◌, arith, slice_get, Decides, cases_order, drop_more, take-append-drop, take_more, slice_get_within, slice_get-get_or, UnitsEnd, PlainEntry, Place, Script, IsPlainJournal, free_of, Report, AreUnitsRight, IsPlaceUpTo, IsWellFormed, units_place, Each, each_in, lists_of, AreJournalsRight}
+use Rattle.std.proofs.lemmas.List.{append_assoc}
 use Rattle.std.proofs.lemmas.List.Sums.{fold-append}
-use Rattle.std.proofs.lemmas.Option.{slice_get_within, slice_get-get_or}
-use Rattle.shr_base.specs.declared.ends.UnitsEnd.{UnitsEnd}
-use Rattle.shr_base.specs.declared.journals.PlainEntry.{PlainEntry}
-use Rattle.shr_base.specs.declared.places.Place.{Place}
-use Rattle.shr_base.specs.declared.scripts.Script.{Script}
 use Rattle.shr_model.specs.Follow.{Follow}
-use Rattle.shr_model.specs.Units.{IsPlainEntry, IsPlainJournal, free_after, free_of}
-use Rattle.shr_report.specs.declared.report.Report.{Report}
-use Rattle.shr_report.specs.Pools.{AreUnitsRight}
-use Rattle.shr_report.specs.WellFormed.{IsPlaceBefore, IsPlaceUpTo, IsWellFormed, units_place}
-use Rattle.shr_formed.specs.Each.{Adjacent, Each}
-use Rattle.shr_formed.proofs.Eachs.{all_of, clash, each_in}
-use Rattle.shr_formed.proofs.WellParts.{lists_of}
-use Rattle.shr_audit_pools.specs.Journals.{AreApart, AreJournalsRight}
+use Rattle.shr_model.specs.Units.{IsPlainEntry, free_after}
+use Rattle.shr_report.specs.WellFormed.{IsPlaceBefore}
+use Rattle.shr_formed.specs.Each.{Adjacent}
+use Rattle.shr_formed.proofs.Eachs.{all_of, clash}
+use Rattle.shr_audit_pools.specs.Journals.{AreApart}
+use Rattle.shr_case.proofs.Order.{not_itself, before_before}
 
 -- ---- entries behind others
 
@@ -54,23 +44,6 @@ pub journal_broken : (entries : List PlainEntry) (i : ℕ) (d : PlainEntry) → 
 journal_broken entries i d lt wrong h = wrong (follow_at [] (take i entries) (drop (i + 1) entries) (get_or entries i d) (subst IsPlainJournal (split entries i d lt) h))
 
 -- ---- journals that stand next to one another
-
-before_before : (p q r : Place) → IsPlaceBefore p q → IsPlaceBefore q r → IsPlaceBefore p r
-before_before p q r (inl a) (inl b) = inl (omega arith)
-before_before p q r (inl a) (inr (id, b)) = inl (omega arith)
-before_before p q r (inr (id, a)) (inl b) = inl (omega arith)
-before_before p q r (inr (id, inl a)) (inr (id', inl b)) = inr (id ∙ id', inl (omega arith))
-before_before p q r (inr (id, inl a)) (inr (id', inr (node, b))) = inr (id ∙ id', inl (omega arith))
-before_before p q r (inr (id, inr (node, a))) (inr (id', inl b)) = inr (id ∙ id', inl (omega arith))
-before_before p q r (inr (id, inr (node, a))) (inr (id', inr (node', b))) = inr (id ∙ id', inr (node ∙ node', omega arith))
-
-not_itself : (p q : Place) → IsPlaceBefore p q → p ≢ q
-not_itself p q before same = no (subst (λ (x : Place). IsPlaceBefore x q) same before)
-  where
-    no : IsPlaceBefore q q → ⊥
-    no (inl a) = absurd (omega arith)
-    no (inr (id, inl a)) = absurd (omega arith)
-    no (inr (id, inr (node, a))) = absurd (omega arith)
 
 strict : (p q : Place) → IsPlaceUpTo p q → p ≢ q → IsPlaceBefore p q
 strict p q (inl b) apart = b

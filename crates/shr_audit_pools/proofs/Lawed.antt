@@ -1,43 +1,17 @@
 -- The fields of the law on pools, put together.
-use Rattle.std.proofs.Common.{◌≡◌, ◌≢◌, ◌⊎◌, inl, inr, ℕ, zero, suc, ◌+◌, ◌-◌, ◌<◌, ◌≤◌, Bool, true, false, cond, List, [], ◌∷◌, ◌++◌, length, get_or, take, drop, map, Option, Some, None, refl, sym, ap, subst, ◌∙◌, arith}
-use Rattle.std.specs.Prelude.{flat_map, option_and_then, option_map, option_to_list, slice_get}
-use Rattle.std.specs.Bool.{Decides}
-use Rattle.std.specs.List.{AllByRecursion}
-use Rattle.std.proofs.lemmas.List.{drop_more, get_or_append_left, length-append, take-append-drop, take_all, take_more}
-use Rattle.std.proofs.lemmas.List.Sorted.{IsNonDecreasingBy-from_all_adjacent, IsNonDecreasingBy-push, all_adjacent_from_non_decreasing}
-use Rattle.std.proofs.lemmas.Grind.{flat_map-append}
-use Rattle.std.proofs.Math.Seq.{get_or-append_seam}
-use Rattle.std.proofs.lemmas.Option.{get_or_from_slice_get, same_Some, slice_get_within}
-use Rattle.shr_base.specs.declared.ends.PlaceAmount.{PlaceAmount}
-use Rattle.shr_base.specs.declared.ends.UnitsEnd.{UnitsEnd}
-use Rattle.shr_base.specs.declared.ends.WorkerPart.{WorkerPart}
-use Rattle.shr_base.specs.declared.places.At.{At}
-use Rattle.shr_base.specs.declared.places.Place.{Place}
-use Rattle.shr_base.specs.declared.replies.Answered.{Answered}
-use Rattle.shr_base.specs.declared.replies.Reply.{Reply}
+use Rattle.shr_audit_pools.proofs.Common.{◌≡◌, ◌≢◌, ◌⊎◌, inl, inr, ℕ, zero, suc, ◌+◌, ◌-◌, ◌<◌, ◌≤◌, Bool, true, false, cond, List, [], ◌∷◌, ◌++◌, length, get_or, take, drop, map, Option, Some, None, refl, sym, ap, subst, ◌∙◌, arith, flat_map, option_and_then, option_map, option_to_list, slice_get, Decides, AllByRecursion, drop_more, get_or_append_left, length-append, take-append-drop, take_all, take_more, IsNonDecreasingBy-from_all_adjacent, all_adjacent_from_non_decreasing, flat_map-append, get_or-append_seam, get_or_from_slice_get, same_Some, slice_get_within, PlaceAmount, UnitsEnd, WorkerPart, At, Place, Answered, Reply, Script, PlainAnswer, PlainTry, PlainWalk, is_place_same, is_place_itself, is_place, Report, HasNumbers, at, AreUnitsRight, HasTries, IsPlainLawful, IsPoolReply, plain_versions, version_in, EachUnits, place_at, pool_place, units_cited, IsPlaceUpTo, IsPoolAmountWell, IsWellFormed, units_place, each_in, fails, lists_of, IsEntryRight, AreJournalsRight, AreUpTo, IsPartVersed, asked_of, cited_in, AreWordsRight, units_key}
+use Rattle.std.proofs.lemmas.List.Sorted.{IsNonDecreasingBy-push}
 use Rattle.shr_base.specs.declared.replies.Reply.TheVariants.{Released, Full, Grabbed, Bare}
-use Rattle.shr_base.specs.declared.scripts.Script.{Script}
-use Rattle.shr_base.specs.declared.walks.PlainAnswer.{PlainAnswer}
 use Rattle.shr_base.specs.declared.walks.PlainAnswer.TheVariants.{Walked, Memory}
-use Rattle.shr_base.specs.declared.walks.PlainTry.{PlainTry}
-use Rattle.shr_base.specs.declared.walks.PlainWalk.{PlainWalk}
-use Rattle.shr_model.proofs.PlacesLaws.{is_place_same, is_place_itself}
-use Rattle.shr_model.specs.Places.{is_place}
-use Rattle.shr_report.specs.declared.report.Report.{Report}
-use Rattle.shr_report.specs.Numbers.{AreUnitsNumbered, HasNumbers}
-use Rattle.shr_report.specs.Parts.{answers_in, at, reply_at, serial_of, EachAnswer}
-use Rattle.shr_report.specs.Pools.{ArePoolsLawful, AreUnitsRight, HasTries, IsPlainLawful, IsPoolReply, plain_versions, version_in}
-use Rattle.shr_report.specs.UnitParts.{EachPlain, EachUnits, place_at, plain_by, plain_due, plain_in, plain_job_of, plain_of, pool_place, units_cited, units_cited_at}
-use Rattle.shr_report.specs.WellFormed.{AreNotFalling, IsPlaceUpTo, IsPoolAmountWell, IsWellFormed, units_place}
-use Rattle.shr_formed.proofs.Eachs.{each_in, fails}
-use Rattle.shr_formed.proofs.WellParts.{lists_of}
-use Rattle.shr_audit_pools.specs.Cited.{IsEntryRight}
+use Rattle.shr_report.specs.Numbers.{AreUnitsNumbered}
+use Rattle.shr_report.specs.Parts.{answers_in, reply_at, serial_of, EachAnswer}
+use Rattle.shr_report.specs.Pools.{ArePoolsLawful}
+use Rattle.shr_report.specs.UnitParts.{EachPlain, plain_by, plain_due, plain_in, plain_job_of, plain_of, units_cited_at}
+use Rattle.shr_report.specs.WellFormed.{AreNotFalling}
 use Rattle.shr_audit_due.specs.Due.{IsDue}
-use Rattle.shr_audit_pools.specs.Journals.{AreJournalsRight}
 use Rattle.shr_audit_pools.specs.Law.{AreCitesRight, AreWalksRight}
-use Rattle.shr_audit_pools.specs.Lows.{AreAllRising, AreAllVersed, AreUpTo, HaveFewTries, IsPartVersed, asked_of, cited_in}
-use Rattle.shr_audit_pools.specs.Moved.{AreWordsRight}
-use Rattle.shr_audit_pools.specs.Places.{AreKept, units_key}
+use Rattle.shr_audit_pools.specs.Lows.{AreAllRising, AreAllVersed, HaveFewTries}
+use Rattle.shr_audit_pools.specs.Places.{AreKept}
 use Rattle.shr_audit_pools.proofs.Versed.{versions_push}
 
 -- ---- the journals

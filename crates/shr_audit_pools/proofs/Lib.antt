@@ -1,3 +1,4 @@
+mod Common
 mod Journaled
 mod Shelved
 mod Loops
@@ -5,6 +6,6 @@ mod Stocked
 mod Reclaimed
 mod Tried
 mod Moving
-mod Risen
+pub mod Risen
 mod Versed
 mod Lawed

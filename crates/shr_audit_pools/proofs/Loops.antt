@@ -1,25 +1,6 @@
 -- Loops over what a report prints: what is so of each answer, and of each entry of a pool's journal.
-use Rattle.std.proofs.Common.{◌≡◌, inl, inr, ℕ, ◌+◌, ◌<◌, ◌≤◌, Bool, List, get_or, Option, Some, None, refl, ap, subst, ◌∙◌, arith}
-use Rattle.std.specs.Prelude.{slice_get}
-use Rattle.std.specs.Bool.{Decides}
-use Rattle.std.proofs.lemmas.Bool.{cases_Bool}
-use Rattle.std.proofs.lemmas.List.Sorted.{IsNonDecreasingBy-from_all_adjacent}
-use Rattle.std.proofs.lemmas.Option.{get_or_from_slice_get, slice_get-get_or, slice_get_within}
-use Rattle.shr_base.specs.declared.ends.UnitsEnd.{UnitsEnd}
-use Rattle.shr_base.specs.declared.journals.PlainEntry.{PlainEntry}
-use Rattle.shr_base.specs.declared.places.Place.{Place}
-use Rattle.shr_base.specs.declared.replies.Answered.{Answered}
+use Rattle.shr_audit_pools.proofs.Common.{◌≡◌, inl, inr, ℕ, ◌+◌, ◌<◌, ◌≤◌, Bool, List, get_or, Option, Some, None, refl, ap, subst, ◌∙◌, arith, slice_get, Decides, cases_Bool, IsNonDecreasingBy-from_all_adjacent, get_or_from_slice_get, slice_get-get_or, slice_get_within, UnitsEnd, PlainEntry, Place, Answered, Script, is_place_same, is_place_itself, is_place, Report, commands_of, EachUnits, units_in, units_place, below_of, AreEntriesRight, HasRight, IsEntryRight, AreShelved, printed_at, units_key}
 use Rattle.shr_base.specs.declared.scripts.Command.{Command}
-use Rattle.shr_base.specs.declared.scripts.Script.{Script}
-use Rattle.shr_model.proofs.PlacesLaws.{is_place_same, is_place_itself}
-use Rattle.shr_model.specs.Places.{is_place}
-use Rattle.shr_report.specs.declared.report.Report.{Report}
-use Rattle.shr_report.specs.Parts.{commands_of}
-use Rattle.shr_report.specs.UnitParts.{EachUnits, units_in}
-use Rattle.shr_report.specs.WellFormed.{units_place}
-use Rattle.shr_formed.proofs.Eachs.{below_of}
-use Rattle.shr_audit_pools.specs.Cited.{AreEntriesRight, HasRight, IsEntryRight}
-use Rattle.shr_audit_pools.specs.Places.{AreShelved, printed_at, units_key}
 use Rattle.shr_audit_pools.proofs.Shelved.{find_first, found_at}
 use Rattle.shr_audit_due.proofs.Loops.{none_some}
 

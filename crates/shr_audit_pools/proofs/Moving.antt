@@ -1,36 +1,21 @@
 -- What the passes of pools moved, try by try, and the deferred words that they leave.
-use Rattle.std.proofs.Common.{◌≡◌, ◌⊎◌, inl, inr, ℕ, zero, suc, ◌+◌, ◌<◌, ◌≤◌, Bool, true, false, cond, List, [], ◌∷◌, length, get_or, take, Option, Some, None, refl, sym, ap, subst, ◌∙◌, arith}
-use Rattle.std.specs.Prelude.{◌↔◌, ◌==◌, ◌&&◌, filter_map, flat_map, option_and_then, slice_get, sum_by}
-use Rattle.std.specs.Bool.{Decides}
-use Rattle.std.specs.List.{AllByRecursion, cons_option, enumerate_from}
-use Rattle.std.proofs.lemmas.Bool.Decides.{nat_tests, Decides-like}
-use Rattle.std.proofs.lemmas.List.{take_all}
-use Rattle.std.proofs.lemmas.List.Elements.{filter_map-append}
+use Rattle.shr_audit_pools.proofs.Common.{◌≡◌, ◌⊎◌, inl, inr, ℕ, zero, suc, ◌+◌, ◌<◌, ◌≤◌, Bool, true, false, cond, List, [], ◌∷◌, length, get_or, take, Option, Some, None, refl, sym, ap, subst, ◌∙◌, arith, ◌==◌, ◌&&◌, filter_map, flat_map, option_and_then, slice_get, sum_by, Decides, AllByRecursion, cons_option, enumerate_from, nat_tests, take_all, filter_map-append, sum_by-cons, PlaceAmount, WorkerPart, Place, PoolDecl, Script, PassRecord, PlainTry, PlainWalk, is_place, Report, HasNumbers, home_in, pool_place, IsPoolAmountWell, IsWellFormed, Gains, AreWordsRight, moved_at, moved_by, next_of, nr_of, PoolPlace, place_of, sum_item}
+use Rattle.std.specs.Prelude.{◌↔◌}
+use Rattle.std.proofs.lemmas.Bool.Decides.{Decides-like}
 use Rattle.std.proofs.lemmas.List.FromFn.{get_or-enumerate_from, length-enumerate_from}
-use Rattle.std.proofs.lemmas.List.Sums.{sum_by-append, sum_by-cons, sum_by_more}
-use Rattle.shr_base.specs.declared.ends.PlaceAmount.{PlaceAmount}
-use Rattle.shr_base.specs.declared.ends.WorkerPart.{WorkerPart}
-use Rattle.shr_base.specs.declared.places.Place.{Place}
-use Rattle.shr_base.specs.declared.scripts.PoolDecl.{PoolDecl}
-use Rattle.shr_base.specs.declared.scripts.Script.{Script}
-use Rattle.shr_base.specs.declared.walks.PassRecord.{PassRecord}
-use Rattle.shr_base.specs.declared.walks.PlainTry.{PlainTry}
-use Rattle.shr_base.specs.declared.walks.PlainWalk.{PlainWalk}
+use Rattle.std.proofs.lemmas.List.Sums.{sum_by-append, sum_by_more}
 use Rattle.shr_model.specs.Deferred.{amount_at, deferred_word, sum_at}
-use Rattle.shr_model.specs.Places.{is_place}
-use Rattle.shr_report.specs.declared.report.Report.{Report}
-use Rattle.shr_report.specs.Numbers.{HasNumbers, IsAmountNumbered, IsPartNumbered, IsPlainNumbered}
+use Rattle.shr_report.specs.Numbers.{IsPartNumbered, IsPlainNumbered}
 use Rattle.shr_report.specs.Pools.{pool_printed_at}
-use Rattle.shr_report.specs.UnitParts.{home_in, pass_at, pass_in, passes_in, pool_place}
-use Rattle.shr_report.specs.WellFormed.{IsAmountWell, IsPoolAmountWell, IsWellFormed}
+use Rattle.shr_report.specs.UnitParts.{pass_at, pass_in, passes_in}
+use Rattle.shr_report.specs.WellFormed.{IsAmountWell}
 use Rattle.shr_sums.specs.declared.moves.Move.{Move}
 use Rattle.shr_sums.specs.Moves.{IsSettled, downs_at, ups_at}
-use Rattle.shr_sums.specs.Deferred.{Gains, IsNarrow, place_key}
+use Rattle.shr_sums.specs.Deferred.{IsNarrow, place_key}
 use Rattle.shr_sums.proofs.WordsLaw.{words_law}
-use Rattle.shr_audit_pools.specs.Moved.{AreWordsRight, moved_at, moved_by, moved_in, next_of, nr_of, part_of}
-use Rattle.shr_audit_pools.specs.declared.places.PoolPlace.{PoolPlace}
-use Rattle.shr_audit_pools.specs.Places.{place_of}
+use Rattle.shr_audit_pools.specs.Moved.{moved_in, part_of}
 use Rattle.shr_audit_tables.proofs.Amounts.{IsWide, found_sum, narrow_or_wide, outside, small_sum, sum_none}
+use Rattle.shr_audit_tables.proofs.Words.{none_printed}
 
 -- ---- the tries of a walk
 
@@ -110,10 +95,6 @@ pub moved_here : (f : PassRecord → ℕ) (s : Script) (place : Place) (w : Plai
 moved_here f s place w tries i d p home all lt =
     tried_more f s place w tries i d all lt ∙ ap (λ (q : Place). tried_to f s place w i + cond (is_place place q) (part_of f (pass_in (get_or tries i d))) 0) (sym home)
 
--- one item more of a sum, and all of them
-pub sum_item : {X : Type 0} (f : X → ℕ) (xs : List X) (i : ℕ) (x : X) → i < length xs → x ≡ get_or xs i x → sum_by f (take (i + 1) xs) ≡ sum_by f (take i xs) + f x
-sum_item f xs i x lt is = sum_by_more f xs i x lt ∙ ap (λ (n : ℕ). sum_by f (take i xs) + n) (ap f (sym is))
-
 pub sum_all : {X : Type 0} (f : X → ℕ) (xs ys : List X) (i : ℕ) → xs ≡ ys → length xs ≤ i → sum_by f ys ≡ sum_by f (take i xs)
 sum_all {X} f xs ys i e over = ap (sum_by f) (sym e) ∙ sym (ap (sum_by f) (take_all i xs over))
 
@@ -158,13 +139,6 @@ no_passes f s place (w ∷ ws) wide n = (no_pass f s place w wide (let x = n.0.n
 none_moved : (f : PassRecord → ℕ) (s : Script) (place : Place) (parts : List WorkerPart) → IsWide place → AllByRecursion IsPartNumbered parts → AllByRecursion (λ (part : WorkerPart). moved_by f s place part ≡ 0) parts
 none_moved f s place [] wide n = tt
 none_moved f s place (part ∷ parts) wide n = (sum_none (moved_at f s place) part.plain.items (no_passes f s place part.plain.items wide n.0.plain), none_moved f s place parts wide n.1)
-
-none_printed : (p : Place) → IsWide p → (xs : List PlaceAmount) → AllByRecursion IsAmountNumbered xs → AllByRecursion (λ (x : PlaceAmount). amount_at p x ≡ 0) xs
-none_printed p wide [] n = tt
-none_printed p wide (x ∷ xs) n =
-    let node = n.0.place.node in let group = n.0.place.group in
-    let away = outside p x.place wide (omega (arith, node)) (omega (arith, group)) in
-    (rw away refl, none_printed p wide xs n.1)
 
 amounts_well : (xs : List PlaceAmount) → AllByRecursion IsPoolAmountWell xs → AllByRecursion IsAmountWell xs
 amounts_well [] h = tt

@@ -1,21 +1,12 @@
 -- The Reclaims of a pass, each by itself and all together.
-use Rattle.std.proofs.Common.{◌≡◌, ℕ, zero, suc, ◌+◌, ◌≤◌, Bool, false, List, [], ◌∷◌, length, take, map, Some, refl, sym, ap, subst, ◌∙◌, arith}
-use Rattle.std.specs.Prelude.{replicate, sum_by, slice_get}
-use Rattle.std.specs.Bool.{Decides}
-use Rattle.std.specs.List.{AllByRecursion}
+use Rattle.shr_audit_pools.proofs.Common.{◌≡◌, ℕ, zero, suc, ◌+◌, ◌≤◌, Bool, false, List, [], ◌∷◌, length, take, map, Some, refl, sym, ap, subst, ◌∙◌, sum_by, slice_get, Decides, AllByRecursion, sum_by-cons, PoolDecl, PassRecord, ReclaimMade, Each, fails, Reclaimed, IsReclaimOf, freed_of, made_of}
+use Rattle.std.specs.Prelude.{replicate}
 use Rattle.std.proofs.lemmas.List.{take-replicate}
-use Rattle.std.proofs.lemmas.List.Sums.{sum_by-cons}
-use Rattle.shr_base.specs.declared.scripts.PoolDecl.{PoolDecl}
-use Rattle.shr_base.specs.declared.walks.Ending.{Ending}
-use Rattle.shr_base.specs.declared.walks.Ending.TheVariants.{Through, Stop, NoRoom, Worn}
-use Rattle.shr_base.specs.declared.walks.PassRecord.{PassRecord}
-use Rattle.shr_model.specs.Pass.{FollowsArithmetic, MadeOf, due, due_asks, ask_size, batch_of, total_of}
-use Rattle.shr_report.specs.Pools.{ReclaimMade}
-use Rattle.shr_formed.specs.Each.{Each}
-use Rattle.shr_formed.proofs.Eachs.{fails}
-use Rattle.shr_audit_pools.specs.declared.stock.Reclaimed.{Reclaimed}
-use Rattle.shr_audit_pools.specs.Passes.{AreReclaimsOf, IsReclaimOf, freed_of}
-use Rattle.shr_audit_pools.specs.Stock.{made_of}
+use Rattle.shr_model.specs.Pass.{FollowsArithmetic, due, due_asks, ask_size, batch_of, total_of}
+use Rattle.shr_audit_pools.specs.Passes.{AreReclaimsOf}
+use Rattle.shr_audit_walks.proofs.Scanned.{tails}
+use Rattle.shr_model.proofs.PassLaws.{made_le}
+use Rattle.shr_model.proofs.Lists.{heads}
 
 -- as many asks of this size as there are Reclaims
 alike : (size version : ℕ) (xs : List Reclaimed) → Each (IsReclaimOf size version) xs → map (λ (m : ReclaimMade). m.asked) (map made_of xs) ≡ replicate (length xs) size
@@ -28,12 +19,6 @@ laters size version (x ∷ xs) h = ((h 0 x refl).1, laters size version xs (λ n
 
 some_same : (a b : Reclaimed) → Some a ≡ Some b → a ≡ b
 some_same a b e = cc
-
-heads : (x y : ℕ) (xs ys : List ℕ) → x ∷ xs ≡ y ∷ ys → x ≡ y
-heads x y xs ys e = cc
-
-tails : (x y : ℕ) (xs ys : List ℕ) → x ∷ xs ≡ y ∷ ys → xs ≡ ys
-tails x y xs ys e = cc
 
 -- and the other way round
 each_alike : (size version : ℕ) (xs : List Reclaimed) → map (λ (m : ReclaimMade). m.asked) (map made_of xs) ≡ replicate (length xs) size → AllByRecursion (λ (m : ReclaimMade). version ≤ m.number) (map made_of xs) → Each (IsReclaimOf size version) xs
@@ -48,18 +33,11 @@ freed_alike : (xs : List Reclaimed) → sum_by (λ (m : ReclaimMade). m.freed) (
 freed_alike [] = refl
 freed_alike (x ∷ xs) = sum_by-cons (λ (m : ReclaimMade). m.freed) (made_of x) (map made_of xs) ∙ ap (λ (n : ℕ). x.freed + n) (freed_alike xs) ∙ sym (sum_by-cons freed_of x xs)
 
--- no more asks were made than were due
-made_few : (asks : ℕ) (e : Ending) (number : ℕ) → MadeOf asks e number → asks ≤ number
-made_few asks Through number h = omega (arith, h)
-made_few asks Stop number h = omega (arith, h)
-made_few asks NoRoom number h = omega (arith, h)
-made_few asks (Worn spent) number h = omega (arith, h)
-
 first_asks : (priority : ℕ) (d : PoolDecl) (p : PassRecord) (xs : List Reclaimed) (size : ℕ) → size ≡ ask_size (batch_of d.batch) p.len (total_of p.len p.nr priority d.seeks) → length xs ≡ p.asks → FollowsArithmetic priority d.seeks d.batch p
     → take p.asks (due_asks (batch_of d.batch) p.len (total_of p.len p.nr priority d.seeks)) ≡ replicate (length xs) size
 first_asks priority d p xs size s count follows =
     take-replicate p.asks (due (batch_of d.batch) p.len (total_of p.len p.nr priority d.seeks)) (ask_size (batch_of d.batch) p.len (total_of p.len p.nr priority d.seeks))
-    (made_few p.asks p.ending (due (batch_of d.batch) p.len (total_of p.len p.nr priority d.seeks)) follows.made)
+    (made_le p.asks p.ending (due (batch_of d.batch) p.len (total_of p.len p.nr priority d.seeks)) follows.made)
     ∙ ap (λ (n : ℕ). replicate n (ask_size (batch_of d.batch) p.len (total_of p.len p.nr priority d.seeks))) (sym count)
     ∙ ap (replicate (length xs)) (sym s)
 

@@ -1,19 +1,9 @@
 -- The least numbers at places, reply by reply.
-use Rattle.std.proofs.Common.{◌≡◌, ◌⊎◌, inl, inr, ℕ, ◌+◌, ◌<◌, ◌≤◌, Bool, true, List, length, get_or, Option, Some, None, refl, sym, ap, ◌∙◌, arith}
-use Rattle.std.specs.Prelude.{option_and_then, option_map, slice_get}
-use Rattle.std.specs.Bool.{Decides}
-use Rattle.std.proofs.lemmas.Bool.{cases_lt}
-use Rattle.std.proofs.lemmas.Option.{same_Some, slice_get-get_or}
-use Rattle.shr_base.specs.declared.places.At.{At}
-use Rattle.shr_base.specs.declared.places.Place.{Place}
-use Rattle.shr_base.specs.declared.replies.Answered.{Answered}
-use Rattle.shr_base.specs.declared.replies.Reply.{Reply}
-use Rattle.shr_report.specs.Parts.{at}
-use Rattle.shr_report.specs.UnitParts.{place_at, units_cited}
+use Rattle.shr_audit_pools.proofs.Common.{◌≡◌, ◌⊎◌, inl, inr, ℕ, ◌+◌, ◌<◌, ◌≤◌, Bool, true, List, Option, Some, None, refl, sym, ap, ◌∙◌, arith, option_and_then, option_map, slice_get, Decides, cases_lt, same_Some, At, Place, Answered, Reply, at, place_at, units_cited, AreBelow, AreLows, IsAbove, IsBlank, Lows, NotesReplies, Raises, asked_of, cited_in, key_of}
 use Rattle.shr_audit_pools.specs.declared.cites.Cite.{Cite}
 use Rattle.shr_audit_pools.specs.Cited.{cite_at}
-use Rattle.shr_audit_pools.specs.Lows.{AreBelow, AreLows, IsAbove, IsBlank, IsHigh, IsSmall, Lows, NotesReplies, NotesReply, Raises, asked_of, cited_in, kept_as, low_at}
-use Rattle.shr_audit_pools.specs.Places.{key_of}
+use Rattle.shr_audit_pools.specs.Lows.{IsHigh, IsSmall, NotesReply, kept_as, low_at}
+use Rattle.shr_model.proofs.Lists.{found_at}
 
 -- ---- entries that are named by numbers
 
@@ -33,7 +23,7 @@ none_named o x e f = no (e ∙ f)
     no : ◌≡◌ {A = Option At} None (Some x) → ⊥
     no e = cc
 
-key_parts : (pool node p n : ℕ) → node < 256 → n < 256 → key_of pool node ≡ key_of p n → (pool ≡ p) × (node ≡ n)
+pub key_parts : (pool node p n : ℕ) → node < 256 → n < 256 → key_of pool node ≡ key_of p n → (pool ≡ p) × (node ≡ n)
 key_parts pool node p n a b e = (omega (arith, a, b, e), omega (arith, a, b, e))
 
 cited_again : (c : Cite) (pool node : ℕ) → pool ≡ c.place.pool → node ≡ c.place.node → ◌≡◌ {A = Option At} (Some (cite_at c)) (Some (at (place_at pool node) c.entry))
@@ -94,9 +84,6 @@ blank_lows answers t blank pool node m fits = (
 
 cited_here : (answers : List Answered) (k : ℕ) (a : Answered) → slice_get answers k ≡ Some a → cited_in answers k ≡ units_cited a.reply
 cited_here answers k a here = ap (λ (o : Option Answered). option_and_then units_cited (option_map (λ (x : Answered). x.reply) o)) here
-
-here_read : {X : Type 0} (xs : List X) (i : ℕ) (x : X) → i < length xs → x ≡ get_or xs i x → slice_get xs i ≡ Some x
-here_read {X} xs i x lt is = slice_get-get_or xs i x lt ∙ ap (λ (y : X). Some y) (sym is)
 
 -- one more reply is above those before it
 below_next : (answers : List Answered) (k : ℕ) (a : Answered) (place : Place) (m : ℕ) → slice_get answers k ≡ Some a → AreBelow answers k place m → ((n : ℕ) → units_cited a.reply ≡ Some (at place n) → n < m) → AreBelow answers (k + 1) place m

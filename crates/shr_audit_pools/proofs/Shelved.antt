@@ -1,19 +1,5 @@
 -- Journals of pools in the order of their places.
-use Rattle.std.proofs.Common.{◌≡◌, ◌≢◌, ◌⊎◌, inl, inr, ℕ, zero, suc, ◌+◌, ◌-◌, ◌<◌, ◌≤◌, Bool, true, false, cond, List, [], ◌∷◌, length, get_or, Option, Some, None, refl, sym, ap, ◌∙◌, arith}
-use Rattle.std.specs.Prelude.{slice_get}
-use Rattle.std.specs.List.Sorted.{IsPartitionedBy}
-use Rattle.std.proofs.lemmas.Bool.{cases_Bool, cases_order}
-use Rattle.std.proofs.lemmas.List.Sorted.{IsNonDecreasingBy-from_all_adjacent, IsPartitionedBy-ltb}
-use Rattle.std.proofs.lemmas.Option.{same_Some, slice_get-get_or, slice_get_within}
-use Rattle.std.specs.Prelude.{nat_lt}
-use Rattle.shr_base.specs.declared.ends.UnitsEnd.{UnitsEnd}
-use Rattle.shr_base.specs.declared.places.Place.{Place}
-use Rattle.shr_model.proofs.PlacesLaws.{is_place_same, is_place_itself}
-use Rattle.shr_model.specs.Places.{is_place}
-use Rattle.shr_report.specs.WellFormed.{units_place}
-use Rattle.shr_formed.proofs.Eachs.{below_of}
-use Rattle.shr_audit_pools.specs.declared.places.PoolPlace.{PoolPlace}
-use Rattle.shr_audit_pools.specs.Places.{AreShelved, key_of, place_of, printed_at, units_key}
+use Rattle.shr_audit_pools.proofs.Common.{◌≡◌, ◌≢◌, ◌⊎◌, inl, inr, ℕ, zero, suc, ◌+◌, ◌-◌, ◌<◌, ◌≤◌, Bool, true, false, cond, List, [], ◌∷◌, length, get_or, Option, Some, None, refl, sym, ap, ◌∙◌, arith, slice_get, IsPartitionedBy, cases_Bool, cases_order, IsNonDecreasingBy-from_all_adjacent, IsPartitionedBy-ltb, same_Some, slice_get-get_or, slice_get_within, nat_lt, UnitsEnd, Place, is_place_same, is_place_itself, is_place, units_place, below_of, PoolPlace, AreShelved, key_of, place_of, printed_at, units_key}
 
 pub parted : (ends : List UnitsEnd) (key : ℕ) → AreShelved ends → IsPartitionedBy (λ (u : UnitsEnd). nat_lt (units_key u) key) ends
 parted ends key h = IsPartitionedBy-ltb units_key ends key (IsNonDecreasingBy-from_all_adjacent units_key ends (below_of (λ (u v : UnitsEnd). units_key u ≤ units_key v) ends (λ n u v a b. let lt = h.rising n u v a b in omega (arith, lt))))

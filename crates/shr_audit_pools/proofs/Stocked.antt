@@ -1,32 +1,20 @@
 -- What is read of the journal of a pool.
-use Rattle.std.proofs.Common.{◌≡◌, ◌⊎◌, inl, inr, ℕ, zero, suc, ◌+◌, ◌<◌, ◌≤◌, ◌^◌, Bool, true, false, cond, List, [], ◌∷◌, ◌++◌, length, map, get_or, take, Option, Some, None, refl, sym, ap, subst, ◌∙◌, arith}
-use Rattle.std.specs.Prelude.{◌==◌, ◌&&◌, filter, filter_map, nat_lt, nat_le, not, option_to_list, slice_get}
-use Rattle.std.specs.List.{cons_option, enumerate_from}
-use Rattle.std.specs.List.Sorted.{IsNonDecreasingBy, IsPartitionedBy, IsStableByKey, ties}
+use Rattle.shr_audit_pools.proofs.Common.{◌≡◌, ◌⊎◌, inl, inr, ℕ, zero, suc, ◌+◌, ◌<◌, ◌≤◌, Bool, true, false, cond, List, [], ◌∷◌, ◌++◌, length, map, get_or, take, Option, Some, None, refl, sym, ap, subst, ◌∙◌, arith, ◌==◌, ◌&&◌, filter_map, nat_lt, nat_le, option_to_list, slice_get, cons_option, enumerate_from, IsPartitionedBy, cases_lt, nat_tests, get_or_append_left, length-append, take_all, take_more, filter_map-append, IsNonDecreasingBy-from_all_adjacent, IsPartitionedBy-ltb, all_adjacent_from_non_decreasing, same_Some, slice_get-get_or, slice_get_within, get_or-append_seam, UnitsEnd, PlainEntry, Place, free_of, Report, ReclaimMade, units_in, units_of, Each, below_of, Reclaimed, printed_at, AreStocksOf, all_reclaims, made_of}
+use Rattle.std.proofs.Common.{◌^◌}
+use Rattle.std.specs.Prelude.{filter, not}
+use Rattle.std.specs.List.Sorted.{IsNonDecreasingBy, IsStableByKey, ties}
 use Rattle.std.specs.Ordering.{nat_cmp, is_lt}
 use Rattle.std.specs.declared.cmp.Ordering.TheVariants.{Less, Equal, Greater}
-use Rattle.std.proofs.lemmas.Bool.{cases_lt}
-use Rattle.std.proofs.lemmas.Bool.Decides.{nat_tests}
-use Rattle.std.proofs.lemmas.List.{get_or_append_left, length-append, length-take, take_all, take_more}
-use Rattle.std.proofs.lemmas.List.Elements.{filter_map-append}
-use Rattle.std.proofs.lemmas.List.Sorted.{IsNonDecreasingBy-from_all_adjacent, IsPartitionedBy-leb, IsPartitionedBy-ltb, all_adjacent_from_non_decreasing}
-use Rattle.std.proofs.lemmas.Option.{same_Some, slice_get-get_or, slice_get_cases, slice_get_within}
-use Rattle.std.proofs.Math.Seq.{get_or-append_seam}
-use Rattle.shr_base.specs.declared.ends.UnitsEnd.{UnitsEnd}
-use Rattle.shr_base.specs.declared.journals.PlainEntry.{PlainEntry}
+use Rattle.std.proofs.lemmas.List.{length-take}
+use Rattle.std.proofs.lemmas.List.Sorted.{IsPartitionedBy-leb}
+use Rattle.std.proofs.lemmas.Option.{slice_get_cases}
 use Rattle.shr_base.specs.declared.journals.PlainEntry.TheVariants.{Release, Grab, Reclaim}
-use Rattle.shr_base.specs.declared.places.Place.{Place}
-use Rattle.shr_model.specs.Units.{free_of}
-use Rattle.shr_report.specs.declared.report.Report.{Report}
 use Rattle.shr_report.specs.Numbers.{IsPlainEntryNumbered}
-use Rattle.shr_report.specs.Pools.{ReclaimMade, reclaim_by}
-use Rattle.shr_report.specs.UnitParts.{units_in, units_of}
-use Rattle.shr_formed.specs.Each.{Each}
-use Rattle.shr_formed.proofs.Eachs.{adjacent_in, below_of}
-use Rattle.shr_audit_pools.specs.declared.stock.Reclaimed.{Reclaimed}
+use Rattle.shr_report.specs.Pools.{reclaim_by}
+use Rattle.shr_formed.proofs.Eachs.{adjacent_in}
 use Rattle.shr_audit_pools.specs.declared.stock.Stock.{Stock}
-use Rattle.shr_audit_pools.specs.Places.{printed_at}
-use Rattle.shr_audit_pools.specs.Stock.{AreFree, AreReclaims, AreStocksOf, IsStockOf, StandByWalk, all_reclaims, made_of, reclaimed_of, walk_key, with_key}
+use Rattle.shr_audit_pools.specs.Stock.{AreFree, AreReclaims, IsStockOf, StandByWalk, reclaimed_of, walk_key, with_key}
+use Rattle.shr_formed.proofs.WellParts.{last_get}
 
 -- ---- how many units are free
 
@@ -170,10 +158,6 @@ get_first [] ys k lt = absurd (omega (arith, lt))
 get_first (x ∷ xs) ys zero lt = refl
 get_first (x ∷ xs) ys (suc k) lt = get_first xs ys k (omega (arith, lt))
 
-get_last : {X : Type 0} (xs : List X) (x : X) → slice_get (xs ++ x ∷ []) (length xs) ≡ Some x
-get_last [] x = refl
-get_last (y ∷ ys) x = get_last ys x
-
 within_one : (k n m : ℕ) → n ≤ k → k < m → m ≡ n + 1 → k ≡ n
 within_one k n m ge lt e = omega (arith, ge, lt, e)
 
@@ -196,8 +180,8 @@ stocks_more ends i u es stocks after x lt is own pushed here before = record {
         let count = length-append stocks (x ∷ []) in
         let last : k ≡ length stocks = within_one k (length stocks) (length (stocks ++ x ∷ [])) ge bound count in
         let last_u : k ≡ length (take i ends) = last ∙ before.count in
-        let same_u : u ≡ v = same_Some u v (sym (get_last (take i ends) u) ∙ (ap (slice_get (take i ends ++ u ∷ [])) (sym last_u) ∙ at_k)) in
-        let same_x : x ≡ y = same_Some x y (sym (get_last stocks x) ∙ (ap (slice_get (stocks ++ x ∷ [])) (sym last) ∙ stock_k)) in
+        let same_u : u ≡ v = same_Some u v (sym (last_get (take i ends) u) ∙ (ap (slice_get (take i ends ++ u ∷ [])) (sym last_u) ∙ at_k)) in
+        let same_x : x ≡ y = same_Some x y (sym (last_get stocks x) ∙ (ap (slice_get (stocks ++ x ∷ [])) (sym last) ∙ stock_k)) in
         subst (λ (z : Stock). IsStockOf v.entries.items z) same_x (subst (λ (zs : List PlainEntry). IsStockOf zs x) (own ∙ ap (λ (z : UnitsEnd). z.entries.items) same_u) here)
 
 -- what was read of the journal of a place is that of its journal

@@ -1,22 +1,8 @@
 -- Walks of the pools, try by try.
-use Rattle.std.proofs.Common.{◌≡◌, ◌⊎◌, inl, inr, ℕ, ◌+◌, ◌<◌, ◌≤◌, Bool, true, false, List, length, get_or, Some, refl, sym, ap, subst, ◌∙◌, arith}
-use Rattle.std.specs.Prelude.{slice_get, sum_by}
-use Rattle.std.specs.Bool.{Decides}
-use Rattle.std.proofs.lemmas.Bool.{cases_lt}
-use Rattle.std.proofs.lemmas.Option.{same_Some, slice_get-get_or, slice_get_within}
-use Rattle.shr_base.specs.declared.places.Place.{Place}
-use Rattle.shr_base.specs.declared.scripts.PoolDecl.{PoolDecl}
-use Rattle.shr_base.specs.declared.scripts.Script.{Script}
-use Rattle.shr_base.specs.declared.walks.PlainAnswer.{PlainAnswer}
-use Rattle.shr_base.specs.declared.walks.PlainTry.{PlainTry}
-use Rattle.shr_base.specs.declared.walks.PlainWalk.{PlainWalk}
-use Rattle.shr_report.specs.declared.report.Report.{Report}
-use Rattle.shr_report.specs.Pools.{HasTries, IsKind, IsPlainCount, IsPlainLawful, freed_in, plain_told}
-use Rattle.shr_report.specs.UnitParts.{EachTry, pool_place}
-use Rattle.shr_formed.proofs.Eachs.{fails}
-use Rattle.shr_audit_pools.specs.declared.places.PoolPlace.{PoolPlace}
-use Rattle.shr_audit_pools.specs.Passes.{IsRunRight, IsTryRight}
-use Rattle.shr_audit_pools.specs.Places.{place_of}
+use Rattle.shr_audit_pools.proofs.Common.{◌≡◌, ◌⊎◌, inl, inr, ℕ, ◌+◌, ◌<◌, ◌≤◌, Bool, true, false, List, length, get_or, Some, refl, sym, ap, subst, ◌∙◌, arith, slice_get, sum_by, Decides, cases_lt, same_Some, slice_get-get_or, slice_get_within, Place, PoolDecl, Script, PlainAnswer, PlainTry, PlainWalk, Report, HasTries, IsPlainLawful, freed_in, pool_place, fails, PoolPlace, IsTryRight, place_of}
+use Rattle.shr_report.specs.Pools.{IsKind, IsPlainCount, plain_told}
+use Rattle.shr_report.specs.UnitParts.{EachTry}
+use Rattle.shr_audit_pools.specs.Passes.{IsRunRight}
 
 -- one try more
 pub try_more : (P : ℕ → PoolDecl → PlainTry → Type 0) (decls : List PoolDecl) (tries : List PlainTry) (i : ℕ) (d : PoolDecl) (x : PlainTry) → i < length decls → d ≡ get_or decls i d → i < length tries

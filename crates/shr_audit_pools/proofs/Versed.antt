@@ -1,37 +1,15 @@
 -- The least numbers at places, walk by walk.
-use Rattle.std.proofs.Common.{◌≡◌, ◌⊎◌, inl, inr, ℕ, ◌+◌, ◌<◌, ◌≤◌, Bool, true, false, cond, List, [], ◌∷◌, ◌++◌, length, get_or, take, Option, Some, None, refl, sym, ap, subst, ◌∙◌, arith}
-use Rattle.std.specs.Prelude.{◌==◌, ◌&&◌, flat_map, option_map, option_to_list, slice_get}
-use Rattle.std.specs.Bool.{Decides}
-use Rattle.std.specs.List.{AllByRecursion}
-use Rattle.std.proofs.lemmas.Bool.{cases_lt, eq-eqb, eqb-true}
-use Rattle.std.proofs.lemmas.Grind.{flat_map-append}
-use Rattle.std.proofs.lemmas.List.{append-nil, take_more}
-use Rattle.std.proofs.lemmas.Option.{same_Some, slice_get-get_or, slice_get_within}
-use Rattle.shr_base.specs.declared.ends.WorkerPart.{WorkerPart}
-use Rattle.shr_base.specs.declared.places.Place.{Place}
-use Rattle.shr_base.specs.declared.replies.Answered.{Answered}
-use Rattle.shr_base.specs.declared.scripts.PoolDecl.{PoolDecl}
-use Rattle.shr_base.specs.declared.scripts.Script.{Script}
-use Rattle.shr_base.specs.declared.walks.PlainTry.{PlainTry}
-use Rattle.shr_base.specs.declared.walks.PlainWalk.{PlainWalk}
-use Rattle.shr_model.specs.Places.{is_place}
-use Rattle.shr_report.specs.Parts.{at}
-use Rattle.shr_report.specs.Pools.{plain_versions, version_in}
-use Rattle.shr_report.specs.UnitParts.{home_in, place_at, pool_place}
-use Rattle.shr_audit_pools.specs.declared.places.PoolPlace.{PoolPlace}
-use Rattle.shr_audit_pools.specs.Lows.{AreBelow, AreLowsOf, AreUpTo, IsBlank, IsPartVersed, IsVersed, IsWalkHigh, Lows, NotesReplies, NotesTries, Raises, cited_in}
-use Rattle.shr_audit_pools.specs.Places.{key_of, place_of}
+use Rattle.shr_audit_pools.proofs.Common.{◌≡◌, ◌⊎◌, inl, inr, ℕ, ◌+◌, ◌<◌, ◌≤◌, Bool, true, false, cond, List, [], ◌∷◌, ◌++◌, length, get_or, take, Option, Some, None, refl, sym, ap, subst, ◌∙◌, arith, ◌==◌, ◌&&◌, flat_map, option_map, option_to_list, slice_get, Decides, AllByRecursion, cases_lt, flat_map-append, take_more, same_Some, slice_get-get_or, slice_get_within, WorkerPart, Place, Answered, PoolDecl, Script, PlainTry, PlainWalk, is_place, at, plain_versions, version_in, home_in, place_at, pool_place, PoolPlace, AreBelow, AreLowsOf, AreUpTo, IsBlank, IsPartVersed, IsVersed, Lows, NotesReplies, NotesTries, Raises, cited_in, key_of, place_of, item_fails, items_whole, here_at}
+use Rattle.std.proofs.lemmas.Bool.{eq-eqb, eqb-true}
+use Rattle.std.proofs.lemmas.List.{append-nil}
+use Rattle.shr_audit_pools.specs.Lows.{IsWalkHigh}
 use Rattle.shr_audit_due.specs.Due.{StandByCommand}
-use Rattle.shr_audit_due.proofs.Loops.{here_at, item_fails, items_whole}
-use Rattle.shr_audit_pools.proofs.Risen.{blank_lows}
+use Rattle.shr_audit_pools.proofs.Risen.{blank_lows, key_parts}
 
 -- ---- the tries of a walk
 
 pub tries_none : (s : Script) (w : PlainWalk) (t : Lows) → NotesTries s w 0 t t
 tries_none s w t pool node m fits = (λ le. (le, λ x lt. absurd (omega (arith, lt))), λ h. h.0)
-
-key_parts : (pool node p n : ℕ) → node < 256 → n < 256 → key_of pool node ≡ key_of p n → (pool ≡ p) × (node ≡ n)
-key_parts pool node p n a b e = (omega (arith, a, b, e), omega (arith, a, b, e))
 
 pub tries_more : (s : Script) (w : PlainWalk) (i v : ℕ) (x : PlainTry) (p : PoolPlace) (old now new : Lows) → place_of p ≡ pool_place s i w.node → p.node < 256 → slice_get w.tries.items i ≡ Some x → v ≡ version_in x
     → NotesTries s w i old now → Raises (key_of p.pool p.node) v now new → NotesTries s w (i + 1) old new

@@ -22,11 +22,18 @@ use shr_base::replies::{Answered, Reply};
 use shr_base::scripts::{Command, Script};
 use shr_report::report::Report;
 
+/// Which answer of a report: of this worker, to its command with this number. Our own.
+#[derive(Clone, Copy, Debug, PartialEq, Eq)]
+pub struct AnswerAt {
+    pub worker: usize,
+    pub number: usize,
+}
+
 // Whether the entry that is cited is the Release of so many units by this command.
-fn is_release(report: &Report, cite: Cite, worker: usize, number: usize, units: u32) -> bool
+fn is_release(report: &Report, cite: Cite, at: AnswerAt, units: u32) -> bool
     requires { AreKept report.now }
     ensures { Decides result (slice_get (units_of report.now (place_of cite.place)) cite.entry
-        ≡ Some (plain.Release (serial_of worker number) units)) }
+        ≡ Some (plain.Release (serial_of at.worker at.number) units)) }
 {
     match entry_at(report, cite) {
         Some(
@@ -34,20 +41,24 @@ fn is_release(report: &Report, cite: Cite, worker: usize, number: usize, units: 
                 by,
                 units: released,
             },
-        ) => { by.worker as usize == worker && by.command as usize == number && *released == units }
+        ) => {
+            by.worker as usize == at.worker
+                && by.command as usize == at.number
+                && *released == units
+        }
         _ => false,
     }
 }
 
 // Whether it is the Grab of this command, and got a unit or not.
-fn is_grab(report: &Report, cite: Cite, worker: usize, number: usize, got: bool) -> bool
+fn is_grab(report: &Report, cite: Cite, at: AnswerAt, got: bool) -> bool
     requires { AreKept report.now }
     ensures { Decides result (slice_get (units_of report.now (place_of cite.place)) cite.entry
-        ≡ Some (plain.Grab (serial_of worker number) got)) }
+        ≡ Some (plain.Grab (serial_of at.worker at.number) got)) }
 {
     match entry_at(report, cite) {
         Some(PlainEntry::Grab { by, got: grabbed }) => {
-            by.worker as usize == worker && by.command as usize == number && *grabbed == got
+            by.worker as usize == at.worker && by.command as usize == at.number && *grabbed == got
         }
         _ => false,
     }
@@ -60,20 +71,19 @@ fn is_release_right(
     stocks: &[Stock],
     home: PoolPlace,
     units: u32,
-    worker: usize,
-    number: usize,
+    at: AnswerAt,
     reply: &Reply,
 ) -> bool
     requires kept { AreKept report.now }
     requires stocks { AreStocksOf report.now.units.items stocks.now }
     ensures { (s : Script) (pool node : ℕ) → place_of home ≡ pool_place s pool node
-        → Decides result (IsPoolReply s report.now (serial_of worker number)
+        → Decides result (IsPoolReply s report.now (serial_of at.worker at.number)
         (command.Release node pool units) reply.now) }
 {
     match *reply {
         Reply::Released { pool, node, entry } => {
             let cite = Cite::new(pool, node, entry);
-            cite.place == home && is_release(report, cite, worker, number, units)
+            cite.place == home && is_release(report, cite, at, units)
         }
         Reply::Full {
             pool,
@@ -91,26 +101,20 @@ fn is_release_right(
 }
 
 // Whether that to a `grab` does.
-fn is_grab_right(
-    report: &Report,
-    home: PoolPlace,
-    worker: usize,
-    number: usize,
-    reply: &Reply,
-) -> bool
+fn is_grab_right(report: &Report, home: PoolPlace, at: AnswerAt, reply: &Reply) -> bool
     requires { AreKept report.now }
     ensures { (s : Script) (pool node : ℕ) → place_of home ≡ pool_place s pool node
-        → Decides result (IsPoolReply s report.now (serial_of worker number)
+        → Decides result (IsPoolReply s report.now (serial_of at.worker at.number)
         (command.Grab node pool) reply.now) }
 {
     match *reply {
         Reply::Grabbed { pool, node, entry } => {
             let cite = Cite::new(pool, node, entry);
-            cite.place == home && is_grab(report, cite, worker, number, true)
+            cite.place == home && is_grab(report, cite, at, true)
         }
         Reply::Bare { pool, node, entry } => {
             let cite = Cite::new(pool, node, entry);
-            cite.place == home && is_grab(report, cite, worker, number, false)
+            cite.place == home && is_grab(report, cite, at, false)
         }
         _ => true,
     }
@@ -121,23 +125,22 @@ fn is_pool_reply(
     script: &Script,
     report: &Report,
     stocks: &[Stock],
-    worker: usize,
-    number: usize,
+    at: AnswerAt,
     command: &Command,
     reply: &Reply,
 ) -> bool
     requires kept { AreKept report.now }
     requires stocks { AreStocksOf report.now.units.items stocks.now }
-    ensures { Decides result (IsPoolReply script.now report.now (serial_of worker number)
+    ensures { Decides result (IsPoolReply script.now report.now (serial_of at.worker at.number)
         command.now reply.now) }
 {
     match *command {
         Command::Release { node, pool, units } => {
             let home = home_of(script, pool, node);
-            is_release_right(report, stocks, home, units, worker, number, reply)
+            is_release_right(report, stocks, home, units, at, reply)
         }
         Command::Grab { node, pool } => {
-            is_grab_right(report, home_of(script, pool, node), worker, number, reply)
+            is_grab_right(report, home_of(script, pool, node), at, reply)
         }
         _ => true,
     }
@@ -148,26 +151,17 @@ fn has_right(
     script: &Script,
     report: &Report,
     stocks: &[Stock],
-    worker: usize,
+    at: AnswerAt,
     commands: &[Command],
-    number: usize,
     answer: &Answered,
 ) -> bool
     requires kept { AreKept report.now }
     requires stocks { AreStocksOf report.now.units.items stocks.now }
-    ensures { Decides result (HasRight script.now report.now worker commands.now number
+    ensures { Decides result (HasRight script.now report.now at.worker commands.now at.number
         answer.now) }
 {
-    match commands.get(number) {
-        Some(command) => is_pool_reply(
-            script,
-            report,
-            stocks,
-            worker,
-            number,
-            command,
-            &answer.reply,
-        ),
+    match commands.get(at.number) {
+        Some(command) => is_pool_reply(script, report, stocks, at, command, &answer.reply),
         None => true,
     }
 }
@@ -187,7 +181,8 @@ fn is_part_right(
     let commands = commands_of(script, worker);
     let answers = part.answers.as_slice();
     for n in 0..answers.len() {
-        if !has_right(script, report, stocks, worker, commands, n, &answers[n]) {
+        let at = AnswerAt { worker, number: n };
+        if !has_right(script, report, stocks, at, commands, &answers[n]) {
             return false;
         }
     }

@@ -19,12 +19,14 @@ use shr_base::scripts::{PoolDecl, Script};
 use shr_base::walks::{Ending, PassRecord, PlainAnswer, PlainTry, PlainWalk};
 use shr_report::report::Report;
 
-/// Which try of a report: at this pool, of this walk of the pools of this worker. Our own.
+/// Which try of a report: at this pool, which has this place, of this walk of the pools of this
+/// worker. Our own.
 #[derive(Clone, Copy, Debug, PartialEq, Eq)]
 pub struct TryAt {
     pub worker: usize,
     pub walk: usize,
     pub pool: usize,
+    pub place: PoolPlace,
 }
 
 // The units that a try counted.
@@ -81,7 +83,6 @@ fn is_cut_right(walk: &PlainWalk, pool: usize, pass: &PassRecord) -> bool
 fn is_pass_right(
     report: &Report,
     stocks: &[Stock],
-    place: PoolPlace,
     decl: &PoolDecl,
     priority: u8,
     at: TryAt,
@@ -90,11 +91,11 @@ fn is_pass_right(
     requires kept { AreKept report.now }
     requires stocks { AreStocksOf report.now.units.items stocks.now }
     requires small { at.worker < 65536 }
-    ensures { Decides result (IsPlainPass report.now (place_of place) decl.now priority pass.now
-        (reclaims_by at.worker at.walk (units_of report.now (place_of place)))) }
+    ensures { Decides result (IsPlainPass report.now (place_of at.place) decl.now priority pass.now
+        (reclaims_by at.worker at.walk (units_of report.now (place_of at.place)))) }
 {
-    let entries = entries_at(report, place).len();
-    let reclaims = reclaims_at(report, stocks, place, at.worker, at.walk);
+    let entries = entries_at(report, at.place).len();
+    let reclaims = reclaims_at(report, stocks, at.place, at.worker, at.walk);
     let right = is_plain_pass(entries, decl, priority, pass, reclaims);
     right
 }
@@ -103,7 +104,6 @@ fn is_pass_right(
 fn is_run_right(
     report: &Report,
     stocks: &[Stock],
-    place: PoolPlace,
     decl: &PoolDecl,
     walk: &PlainWalk,
     at: TryAt,
@@ -114,11 +114,11 @@ fn is_run_right(
     requires small { at.worker < 65536 }
     requires within { at.pool < length walk.now.tries.items }
     ensures { Decides result (IsRunRight report.now at.worker at.walk walk.now at.pool
-        (place_of place) decl.now tried.now) }
+        (place_of at.place) decl.now tried.now) }
 {
     match tried {
         PlainTry::Ran { pass } => {
-            is_pass_right(report, stocks, place, decl, walk.priority, at, pass)
+            is_pass_right(report, stocks, decl, walk.priority, at, pass)
                 && is_cut_right(walk, at.pool, pass)
         }
         _ => true,
@@ -129,7 +129,6 @@ fn is_run_right(
 fn is_try_right(
     report: &Report,
     stocks: &[Stock],
-    place: PoolPlace,
     decl: &PoolDecl,
     walk: &PlainWalk,
     at: TryAt,
@@ -140,15 +139,15 @@ fn is_try_right(
     requires small { at.worker < 65536 }
     requires within { at.pool < length walk.now.tries.items }
     ensures { Decides result (IsTryRight report.now at.worker at.walk walk.now at.pool
-        (place_of place) decl.now tried.now) }
+        (place_of at.place) decl.now tried.now) }
 {
-    if !is_counted(report, stocks, place, tried) {
+    if !is_counted(report, stocks, at.place, tried) {
         return false;
     }
     if !is_kind(decl, tried) {
         return false;
     }
-    is_run_right(report, stocks, place, decl, walk, at, tried)
+    is_run_right(report, stocks, decl, walk, at, tried)
 }
 
 // Whether each try of a walk is right.
@@ -176,8 +175,9 @@ fn are_tries_right(
             worker,
             walk: n,
             pool,
+            place,
         };
-        if !is_try_right(report, stocks, place, &decls[pool], walk, at, &tries[pool]) {
+        if !is_try_right(report, stocks, &decls[pool], walk, at, &tries[pool]) {
             return false;
         }
     }

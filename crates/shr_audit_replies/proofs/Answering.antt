@@ -1,30 +1,13 @@
 -- The fields of the law on replies that speak of all answers and entries, from those that are tested.
-use Rattle.std.proofs.Common.{◌≡◌, ℕ, ◌<◌, ◌≤◌, length, true, Option, Some, None, refl, sym, ap, subst, ◌∙◌, inl, inr, arith}
-use Rattle.std.specs.Prelude.{slice_get, option_map, option_and_then}
-use Rattle.std.proofs.lemmas.Option.{none-some, slice_get_cases, slice_get_within}
-use Rattle.shr_base.specs.declared.places.Serial.{Serial}
+use Rattle.shr_audit_replies.proofs.Common.{◌≡◌, ℕ, ◌<◌, ◌≤◌, length, true, Option, Some, None, refl, sym, ap, subst, ◌∙◌, inl, inr, arith, slice_get, none-some, slice_get_cases, slice_get_within, Serial, At, Entry, Look, Answered, Reply, Command, Script, by_of, Report, parents_of, journals_of, answer_at, commands_of, command_at, cited_by, cited_at, at, serial_of, IsReply, IsCounted, AreLastSwept, AreAnswered, AreValuesLent, AreEntriesCited, some_is}
+use Rattle.std.specs.Prelude.{option_map, option_and_then}
 use Rattle.shr_base.specs.declared.places.Place.{Place}
-use Rattle.shr_base.specs.declared.places.At.{At}
-use Rattle.shr_base.specs.declared.journals.Entry.{Entry}
-use Rattle.shr_base.specs.declared.journals.Entry.TheVariants.{Look}
-use Rattle.shr_base.specs.declared.replies.Answered.{Answered}
-use Rattle.shr_base.specs.declared.replies.Reply.{Reply}
 use Rattle.shr_base.specs.declared.replies.Reply.TheVariants as reply
-use Rattle.shr_base.specs.declared.scripts.Command.{Command}
-use Rattle.shr_base.specs.declared.scripts.Script.{Script}
-use Rattle.shr_model.specs.Tenants.{by_of}
-use Rattle.shr_report.specs.declared.report.Report.{Report}
-use Rattle.shr_report.specs.Parts.{parents_of, journals_of, answers_of, answer_at, commands_of, command_at, reply_at, cited_by, cited_at, id_found, at, serial_of, EachAnswer}
-use Rattle.shr_report.specs.ReplyTable.{IsReply}
+use Rattle.shr_report.specs.Parts.{answers_of, reply_at, id_found, EachAnswer}
 use Rattle.shr_report.specs.Swept.{IsSweepReply}
 use Rattle.shr_report.proofs.QuietSweep.{few_sweeps, sweep_cites}
-use Rattle.shr_audit_replies.specs.Heads.{IsCounted, AreLastSwept}
-use Rattle.shr_audit_replies.specs.Answers.{AreAnswered, AreValuesLent}
-use Rattle.shr_audit_replies.specs.Cited.{AreEntriesCited, AreJournalsRising}
+use Rattle.shr_audit_replies.specs.Cited.{AreJournalsRising}
 use Rattle.shr_audit_replies.proofs.Replying.{Own, own_cited, whole, without_value, lent}
-
-some_same : {X : Type 0} (a b : X) → ◌≡◌ {A = Option X} (Some a) (Some b) → a ≡ b
-some_same a b e = cc
 
 -- ---- answers by what they reply
 
@@ -77,7 +60,7 @@ answers_without s r all by c a known there = without_value (parents_of s) (journ
 pub values_of : (s : Script) (r : Report) → IsCounted s r → AreLastSwept s r → EachAnswer s r (λ by c a. IsReply (parents_of s) (journals_of r) by c (id_found a) a.reply) → AreValuesLent s r
 values_of s r counted last all place n e stands by birth key value is replies =
     let g = given (λ x. Some x) (answer_at r by) (reply.Hit (at place n) value) replies_so in
-    let same : g.answer.reply ≡ reply.Hit (at place n) value = some_same g.answer.reply (reply.Hit (at place n) value) g.gives in
+    let same : g.answer.reply ≡ reply.Hit (at place n) value = some_is g.answer.reply (reply.Hit (at place n) value) g.gives in
     let c = command_of s r counted last by g.answer g.there (λ is. subst IsSweepReply same is) in
     lent (parents_of s) (journals_of r) by c.0 (id_found g.answer) (at place n) value key birth
     (subst (λ (x : Reply). IsReply (parents_of s) (journals_of r) by c.0 (id_found g.answer) x) same (all by c.0 g.answer c.1 g.there))
@@ -113,7 +96,7 @@ journals_rise s r cited rise place n m d e by later lt here there by_is later_is
     equal : later.command ≡ by.command → ⊥
     equal is =
         let both : ◌≡◌ {A = Option At} (Some (at place m)) (Some (at place n)) = sym second ∙ (ap (λ (k : ℕ). cited_at r (serial_of by.worker k)) is ∙ first) in
-        let number : m ≡ n = ap (λ (x : At). x.entry) (some_same (at place m) (at place n) both) in
+        let number : m ≡ n = ap (λ (x : At). x.entry) (some_is (at place m) (at place n) both) in
         omega (arith, number, lt)
 
 -- and the other way round
@@ -133,6 +116,6 @@ replies_rise s r counted last answered rising worker k later place n m lt first 
     equal : m ≡ n → ⊥
     equal is =
         let entries : ◌≡◌ {A = Option Entry} (Some two.entry) (Some one.entry) = sym two.stands ∙ (ap (λ (i : ℕ). slice_get (journals_of r place) i) is ∙ one.stands) in
-        let serials : ◌≡◌ {A = Option Serial} (Some (serial_of worker later)) (Some (serial_of worker k)) = sym two.by_is ∙ (ap by_of (some_same two.entry one.entry entries) ∙ one.by_is) in
-        let number : later ≡ k = ap (λ (x : Serial). x.command) (some_same (serial_of worker later) (serial_of worker k) serials) in
+        let serials : ◌≡◌ {A = Option Serial} (Some (serial_of worker later)) (Some (serial_of worker k)) = sym two.by_is ∙ (ap by_of (some_is two.entry one.entry entries) ∙ one.by_is) in
+        let number : later ≡ k = ap (λ (x : Serial). x.command) (some_is (serial_of worker later) (serial_of worker k) serials) in
         omega (arith, number, lt)

@@ -1,3 +1,4 @@
+mod Common
 mod Mapped
 pub mod Deciding
 mod Replying

@@ -1,22 +1,10 @@
 -- What is tested of the law on replies, at known values.
-use Rattle.std.proofs.Common.{◌≡◌, ℕ, ◌<◌, ◌≤◌, true, List, [], ◌∷◌, length, Option, Some, refl, ap, subst, arith}
+use Rattle.shr_audit_replies.proofs.Common.{◌≡◌, ℕ, ◌<◌, ◌≤◌, true, List, [], ◌∷◌, length, Option, Some, refl, ap, subst, arith, none-some, slice_get_within, At, Serial, Entry, Add, Look, Get, Family, at, cited_at, Last, HasAnswers, HasNames, HasPaths, HasSizes, IsLastSwept, MayReply, AreRising, IsCited, IsAfter, last_of, noted_by}
 use Rattle.std.specs.Prelude.{codes}
-use Rattle.std.proofs.lemmas.Option.{none-some, slice_get_within}
-use Rattle.shr_base.specs.declared.places.At.{At}
-use Rattle.shr_base.specs.declared.places.Serial.{Serial}
-use Rattle.shr_base.specs.declared.journals.Entry.{Entry}
-use Rattle.shr_base.specs.declared.journals.Entry.TheVariants.{Add, Look}
 use Rattle.shr_base.specs.declared.replies.Reply.TheVariants as reply
-use Rattle.shr_base.specs.declared.scripts.Command.TheVariants.{Get}
-use Rattle.shr_model.specs.Families.{Family}
-use Rattle.shr_report.specs.Parts.{at, cited_at}
 use Rattle.shr_report.proofs.SecondReport.{kept, by, place}
 use Rattle.shr_report.proofs.FirstReport.{script, report, answer}
-use Rattle.shr_audit_replies.specs.declared.rising.Last.{Last}
-use Rattle.shr_audit_replies.specs.Heads.{HasAnswers, HasNames, HasPaths, HasPoolNames, HasSizes, IsLastSwept}
-use Rattle.shr_audit_replies.specs.Answers.{MayReply}
-use Rattle.shr_audit_replies.specs.Cited.{AreRising, IsCited}
-use Rattle.shr_audit_replies.specs.Rising.{IsAfter, last_of, noted_by}
+use Rattle.shr_audit_replies.specs.Heads.{HasPoolNames}
 
 -- ---- heads
 

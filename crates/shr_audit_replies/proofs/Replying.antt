@@ -1,23 +1,9 @@
 -- What the table of replies says of entries that replies cite.
-use Rattle.std.proofs.Common.{◌≡◌, ℕ, true, false, List, Option, Some, None, refl, sym, subst, ◌∙◌}
-use Rattle.std.specs.Prelude.{slice_get}
-use Rattle.shr_base.specs.declared.places.Serial.{Serial}
-use Rattle.shr_base.specs.declared.places.At.{At}
-use Rattle.shr_base.specs.declared.journals.Entry.{Entry}
-use Rattle.shr_base.specs.declared.journals.Entry.TheVariants.{Add, Look, Drop, Pin}
+use Rattle.shr_audit_replies.proofs.Common.{◌≡◌, ℕ, true, false, List, Option, Some, None, refl, sym, subst, ◌∙◌, slice_get, Serial, At, Entry, Add, Look, Drop, Pin, Reply, Command, Get, Family, by_of, cited_by, Cites, IsReply, MayReply, some_is}
 use Rattle.shr_base.specs.declared.journals.DropKind.TheVariants as kind
-use Rattle.shr_base.specs.declared.replies.Reply.{Reply}
 use Rattle.shr_base.specs.declared.replies.Reply.TheVariants as reply
-use Rattle.shr_base.specs.declared.scripts.Command.{Command}
-use Rattle.shr_base.specs.declared.scripts.Command.TheVariants.{Put, Get, Del, SetPin}
-use Rattle.shr_model.specs.Families.{Family}
-use Rattle.shr_model.specs.Tenants.{by_of}
-use Rattle.shr_report.specs.Parts.{cited_by}
-use Rattle.shr_report.specs.ReplyTable.{Cites, IsReply, LendsValue}
-use Rattle.shr_audit_replies.specs.Answers.{MayReply}
-
-some_same : {X : Type 0} (a b : X) → ◌≡◌ {A = Option X} (Some a) (Some b) → a ≡ b
-some_same a b e = cc
+use Rattle.shr_base.specs.declared.scripts.Command.TheVariants.{Put, Del, SetPin}
+use Rattle.shr_report.specs.ReplyTable.{LendsValue}
 
 -- an entry stands where it is cited, and is the command's own
 pub record Own (family : Family) (a : At) (by : Serial) : Type 0 where
@@ -75,7 +61,7 @@ of_done parents family by (Put g n d k v) None a h = absurd h
 of_done parents family by c None a h = absurd h
 
 here : (family : Family) (c a : At) (by : Serial) → ◌≡◌ {A = Option At} (Some c) (Some a) → Own family c by → Own family a by
-here family c a by e h = subst (λ (x : At). Own family x by) (some_same c a e) h
+here family c a by e h = subst (λ (x : At). Own family x by) (some_is c a e) h
 
 -- what a reply cites is the command's own entry
 pub own_cited : (parents : List ℕ) (family : Family) (by : Serial) (c : Command) (found : Option ℕ) (x : Reply) (a : At) → MayReply parents family by c found x → cited_by x ≡ Some a → Own family a by
@@ -110,7 +96,7 @@ without_value parents family by c found x h = h
 pub lent : (parents : List ℕ) (family : Family) (by : Serial) (c : Command) (found : Option ℕ) (a : At) (value key : List ℕ) (birth : ℕ) → IsReply parents family by c found (reply.Hit a value)
     → slice_get (family a.place) a.entry ≡ Some (Look by birth key true) → LendsValue parents family a birth key value
 lent parents family by (Get g n d k) (Some id) a value key birth h stands =
-    let same : ◌≡◌ {A = Entry} (Look by g k true) (Look by birth key true) = some_same (Look by g k true) (Look by birth key true) (sym h.0.stands ∙ stands) in
+    let same : ◌≡◌ {A = Entry} (Look by g k true) (Look by birth key true) = some_is (Look by g k true) (Look by birth key true) (sym h.0.stands ∙ stands) in
     let group : g ≡ birth = cc in
     let name : k ≡ key = cc in
     subst (λ (b : ℕ). LendsValue parents family a b key value) group (subst (λ (y : List ℕ). LendsValue parents family a g y value) name h.1)

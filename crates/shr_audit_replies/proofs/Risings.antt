@@ -1,18 +1,8 @@
 -- One journal gone through with the last entry of each worker's at hand.
-use Rattle.std.proofs.Common.{◌≡◌, ℕ, zero, suc, lit<, ◌+◌, ◌++◌, [], ◌∷◌, ◌<◌, ◌≤◌, Bool, true, false, List, length, Option, Some, None, refl, sym, ap, subst, ◌∙◌, arith}
-use Rattle.std.specs.Prelude.{slice_get, ◌==◌}
-use Rattle.std.proofs.lemmas.Bool.Decides.{nat_tests}
+use Rattle.shr_audit_replies.proofs.Common.{◌≡◌, ℕ, suc, ◌+◌, [], ◌∷◌, ◌<◌, ◌≤◌, Bool, true, false, List, length, Option, Some, None, refl, sym, ap, subst, ◌∙◌, arith, slice_get, ◌==◌, nat_tests, slice_get_within, Serial, Entry, by_of, Last, AreRising, AreBelow, IsAfter, last_of, no_last, noted_by, some_is}
+use Rattle.std.proofs.Common.{zero, lit<, ◌++◌}
 use Rattle.std.proofs.lemmas.List.{get_or-set_same, get_or-set_other, length-set}
-use Rattle.std.proofs.lemmas.Option.{slice_get_within}
-use Rattle.shr_base.specs.declared.places.Serial.{Serial}
-use Rattle.shr_base.specs.declared.journals.Entry.{Entry}
-use Rattle.shr_model.specs.Tenants.{by_of}
-use Rattle.shr_audit_replies.specs.declared.rising.Last.{Last}
-use Rattle.shr_audit_replies.specs.Cited.{AreRising}
-use Rattle.shr_audit_replies.specs.Rising.{AreBelow, GoesOnBy, IsAfter, last_of, no_last, noted_by}
-
-some_same : {X : Type 0} (a b : X) → ◌≡◌ {A = Option X} (Some a) (Some b) → a ≡ b
-some_same a b e = cc
+use Rattle.shr_audit_replies.specs.Rising.{GoesOnBy}
 
 -- a command is before the worker's last one in this journal, or is it
 pub record IsNoted (journal : ℕ) (by : Serial) (last : Last) : Type 0 where
@@ -77,7 +67,7 @@ here_or_before {Q} entries i n e x at below stands before here = by_order (n == 
     by_order : (t : Bool) → (n == i) ≡ t → Q
     by_order true t =
         let same : n ≡ i = grind (arith, nat_tests) in
-        here same (some_same x e (sym stands ∙ (ap (λ (k : ℕ). slice_get entries k) same ∙ at)))
+        here same (some_is x e (sym stands ∙ (ap (λ (k : ℕ). slice_get entries k) same ∙ at)))
     by_order false t = before (let lower : n < i = grind (arith, nat_tests) in lower)
 
 further : {entries : List Entry} {i worker next : ℕ} → HasLast entries i worker next → HasLast entries (i + 1) worker next
@@ -126,7 +116,7 @@ more_one journal entries i seen e own at own_is numbered after h = record {
     new = noted_by journal own seen
 
     own_by : (x : Entry) (by : Serial) → x ≡ e → by_of x ≡ Some by → by ≡ own
-    own_by x by is by_is = some_same by own (sym by_is ∙ (ap by_of is ∙ own_is))
+    own_by x by is by_is = some_is by own (sym by_is ∙ (ap by_of is ∙ own_is))
 
     at_worker : (worker : ℕ) (P : Last → Type 0) → (worker ≡ own.worker → P last) → P (last_of seen worker) → P (last_of new worker)
     at_worker worker P here other = by_order (worker == own.worker) refl

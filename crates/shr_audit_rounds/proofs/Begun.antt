@@ -1,14 +1,7 @@
 -- What was made begins with what was due, piece by piece.
-use Rattle.std.proofs.Common.{◌≡◌, ℕ, zero, suc, ◌+◌, ◌-◌, ◌<◌, ◌≤◌, Bool, true, false, List, [], ◌∷◌, ◌++◌, length, get_or, take, drop, map, flat_map, refl, sym, ap, subst, ◌∙◌, arith}
-use Rattle.std.specs.Prelude.{◌==◌}
-use Rattle.std.specs.Bool.{Decides}
-use Rattle.std.specs.List.{range_with_len}
-use Rattle.std.proofs.lemmas.Bool.{eqb-true, eq-eqb}
-use Rattle.std.proofs.lemmas.List.{append-nil, append_assoc, length-drop, take_more, take_all, take-append-drop}
+use Rattle.shr_audit_rounds.proofs.Common.{◌≡◌, ℕ, zero, suc, ◌+◌, ◌-◌, ◌<◌, ◌≤◌, Bool, true, false, List, [], ◌∷◌, ◌++◌, length, get_or, take, drop, map, flat_map, refl, sym, ap, subst, ◌∙◌, arith, ◌==◌, Decides, range_with_len, eqb-true, eq-eqb, append-nil, append_assoc, length-drop, take_more, flat_map-append, Job, Begins, IsBehind, IsMade, IsNotBegun}
+use Rattle.std.proofs.lemmas.List.{take_all, take-append-drop}
 use Rattle.std.proofs.lemmas.List.FromFn.{length-range_with_len, get_or-range_with_len}
-use Rattle.std.proofs.lemmas.List.Concat.{flat_map-append}
-use Rattle.shr_model.specs.Walks.{Job}
-use Rattle.shr_audit_rounds.specs.Rows.{Begins, IsBehind, IsMade, IsNotBegun}
 
 pub begins_empty : (w : Bool) (due : List Job) → w ≡ false → Begins w due []
 begins_empty w [] e = tt

@@ -1,19 +1,9 @@
 -- The groups at or above another, one after the other.
-use Rattle.std.proofs.Common.{◌≡◌, ℕ, zero, suc, ◌+◌, ◌<◌, ◌≤◌, Bool, true, false, cond, List, [], ◌∷◌, ◌++◌, length, get_or, take, refl, sym, ap, subst, ◌∙◌, inl, inr, arith}
-use Rattle.std.specs.Prelude.{◌↔◌, ◌==◌, nat_lt}
-use Rattle.std.specs.Bool.{Decides}
-use Rattle.std.specs.List.{AllByRecursion}
-use Rattle.std.proofs.lemmas.Bool.{cases_Bool, eqb-true, eq-eqb, ne_eqb}
-use Rattle.std.proofs.lemmas.Bool.Decides.{nat_tests}
-use Rattle.std.proofs.lemmas.List.{take_more}
-use Rattle.shr_model.specs.Groups.{IsAtOrAbove, IsTree, parent_of, path_of, path_within}
+use Rattle.shr_audit_rounds.proofs.Common.{◌≡◌, ℕ, zero, suc, ◌+◌, ◌<◌, ◌≤◌, Bool, true, false, cond, List, [], ◌∷◌, ◌++◌, length, get_or, take, refl, sym, ap, subst, ◌∙◌, inl, inr, arith, ◌↔◌, ◌==◌, nat_lt, Decides, AllByRecursion, cases_Bool, eqb-true, eq-eqb, ne_eqb, nat_tests, take_more, IsAtOrAbove, IsTree, parent_of}
+use Rattle.shr_model.specs.Groups.{path_of, path_within}
 use Rattle.shr_model.proofs.GroupsLaws.{path_of-below, path_of-root}
 use Rattle.shr_model.proofs.Members.{Has, Contains_from_Has, Has_from_Contains}
-
-none_past : (xs : List ℕ) (n : ℕ) → length xs ≤ n → get_or xs n 0 ≡ 0
-none_past [] n le = refl
-none_past (x ∷ xs) zero le = absurd (omega arith)
-none_past (x ∷ xs) (suc n) le = none_past xs n (omega arith)
+use Rattle.shr_model.proofs.Lists.{none_past}
 
 root_path : (steps : ℕ) (parents : List ℕ) → path_within steps parents 0 ≡ 0 ∷ []
 unfolding path_within

@@ -1,45 +1,16 @@
 -- The commands of all workers, against the law.
-use Rattle.std.proofs.Common.{◌≡◌, ℕ, suc, ◌+◌, ◌^◌, ◌<◌, ◌≤◌, Bool, true, false, cond, List, [], ◌∷◌, length, get_or, map, filter, Option, Some, refl, sym, ap, subst, ◌∙◌, arith}
-use Rattle.std.specs.Prelude.{◌&&◌, ◌==◌, count_by, slice_get}
-use Rattle.std.specs.Bool.{Decides}
-use Rattle.std.specs.List.{AllByRecursion}
-use Rattle.std.proofs.lemmas.Bool.Decides.{nat_tests}
-use Rattle.std.proofs.lemmas.Option.{get_or_from_slice_get, slice_get-get_or, slice_get_within}
-use Rattle.shr_base.specs.declared.ends.WorkerPart.{WorkerPart}
-use Rattle.shr_base.specs.declared.journals.UseStep.{UseStep}
-use Rattle.shr_base.specs.declared.places.Serial.{Serial}
-use Rattle.shr_base.specs.declared.replies.Answered.{Answered}
-use Rattle.shr_base.specs.declared.replies.Reply.{Reply}
-use Rattle.shr_base.specs.declared.scripts.Command.{Command}
-use Rattle.shr_base.specs.declared.scripts.Script.{Script}
-use Rattle.shr_base.specs.declared.walks.WalkRecord.{WalkRecord}
-use Rattle.shr_model.specs.Charges.{is_refused, ops_by}
-use Rattle.shr_model.specs.Commands.{is_serial}
-use Rattle.shr_model.specs.Walks.{Job, job_of}
-use Rattle.shr_report.specs.declared.report.Report.{Report}
+use Rattle.shr_audit_rounds.proofs.Common.{◌≡◌, ℕ, ◌+◌, ◌^◌, ◌<◌, ◌≤◌, Bool, true, false, List, [], ◌∷◌, length, get_or, map, Some, refl, sym, ap, subst, ◌∙◌, arith, ◌&&◌, ◌==◌, count_by, slice_get, Decides, AllByRecursion, get_or_from_slice_get, slice_get_within, WorkerPart, UseStep, Serial, Answered, Reply, Command, Script, is_refused, ops_by, Job, job_of, Report, commands_of, limit_of, parents_of, serial_of, uses_at, walks_by, AreWalksOf, clash, more_at, Dues, IsAnswerMade, IsCommandMade, IsPartMade, groups_of, refusals_with, serial_key, times, jobs_made, stands_here, here_at}
 use Rattle.shr_report.specs.Numbers.{HasNumbers, IsUseNumbered}
-use Rattle.shr_report.specs.Parts.{EachAnswer, commands_of, limit_of, parents_of, serial_of, uses_at, walks_by, walks_in}
-use Rattle.shr_report.specs.WalksLawful.{AreWalksOf}
+use Rattle.shr_report.specs.Parts.{EachAnswer}
 use Rattle.shr_report.specs.WellFormed.{IsWellFormed}
-use Rattle.shr_formed.specs.Each.{Each, IsOf}
-use Rattle.shr_formed.proofs.Eachs.{all_at, clash, more_at}
-use Rattle.shr_formed.proofs.WellParts.{parts_of}
+use Rattle.shr_formed.proofs.Eachs.{all_at}
 use Rattle.shr_case.specs.Each.{AnswersInParts}
 use Rattle.shr_case.proofs.Eachs.{each_answer_of}
-use Rattle.shr_audit_walks.specs.Commands.{StandByCommand, walks_with}
-use Rattle.shr_audit_rounds.specs.declared.commands.Dues.{Dues}
-use Rattle.shr_audit_rounds.specs.Commands.{AreDues, IsAnswerMade, IsCommandMade, IsPartMade}
-use Rattle.shr_audit_rounds.specs.Refusals.{groups_of, refusals_with, serial_key}
-use Rattle.shr_audit_rounds.specs.Rounds.{times}
-use Rattle.shr_audit_rounds.specs.Rows.{jobs_made}
+use Rattle.shr_audit_walks.specs.Commands.{walks_with}
+use Rattle.shr_audit_rounds.specs.Commands.{AreDues}
 use Rattle.shr_audit_rounds.proofs.Making.{made_walks, walks_made}
 use Rattle.shr_audit_rounds.proofs.Refusing.{refusals_counted}
-
-pub found_at : {X : Type 0} (xs ys : List X) (i : ℕ) (x : X) → xs ≡ ys → i < length xs → x ≡ get_or xs i x → slice_get ys i ≡ Some x
-found_at {X} xs ys i x e lt is = ap (λ (zs : List X). slice_get zs i) (sym e) ∙ slice_get-get_or xs i x lt ∙ ap (λ (y : X). Some y) (sym is)
-
-pub stands_here : (r : Report) (parts : List WorkerPart) (worker : ℕ) (part : WorkerPart) → IsWellFormed r → parts ≡ r.workers.items → worker < length parts → part ≡ get_or parts worker part → StandByCommand part.walks.items
-stands_here r parts worker part well e lt is = (parts_of r well worker part (found_at parts r.workers.items worker part e lt is)).1.0.1.1
+use Rattle.shr_audit_walks.proofs.Answered.{walks_are, same_test}
 
 -- what is so of each two items with one number
 pub both_more : {X Y : Type 0} (P : ℕ → X → Y → Type 0) (xs : List X) (ys : List Y) (i : ℕ) (x : X) (y : Y) → i < length xs → x ≡ get_or xs i x → y ≡ get_or ys i y
@@ -49,19 +20,6 @@ both_more {X} {Y} P xs ys i x y lt at_x at_y before here n a b below e f =
     more_at (λ (k : ℕ) (v : X). (z : Y) → slice_get ys k ≡ Some z → P k v z) xs i x lt at_x (λ k v l g z m. before k v z l g m) (λ z m. subst (P i x) (at_y ∙ get_or_from_slice_get ys i z y m) here) n a below e b f
 
 -- ---- the walks of a command
-
-same_test : (worker n a b : ℕ) → a ≡ worker → ((worker == a) && (n == b)) ≡ (b == n)
-same_test worker n a b e = grind (arith, nat_tests)
-
-own_walks : (worker n answers : ℕ) (walks : List WalkRecord) → Each (λ x. IsOf worker answers x.by) walks → filter (λ (w : WalkRecord). is_serial (serial_of worker n) w.by) walks ≡ walks_with walks n
-own_walks worker n answers [] h = refl
-own_walks worker n answers (w ∷ ws) h =
-    ap (λ (t : Bool). cond t (w ∷ filter (λ (x : WalkRecord). is_serial (serial_of worker n) x.by) ws) (filter (λ (x : WalkRecord). is_serial (serial_of worker n) x.by) ws)) (same_test worker n w.by.worker w.by.command (h 0 w refl).0)
-    ∙ ap (λ (xs : List WalkRecord). cond (w.by.command == n) (w ∷ xs) xs) (own_walks worker n answers ws (λ k x e. h (suc k) x e))
-
-walks_are : (r : Report) (worker n : ℕ) (part : WorkerPart) → IsWellFormed r → slice_get r.workers.items worker ≡ Some part → walks_by r (serial_of worker n) ≡ walks_with part.walks.items n
-walks_are r worker n part well at =
-    ap (λ (x : Option WorkerPart). filter (λ (w : WalkRecord). is_serial (serial_of worker n) w.by) (walks_in x)) at ∙ own_walks worker n (length part.answers.items) part.walks.items (parts_of r well worker part at).1.0.1.0
 
 -- ---- a command
 
@@ -107,6 +65,6 @@ module _ (s : Script) (r : Report) (dues : Dues) (are : AreDues s r.uses.items d
 
     pub part_fails : (part : WorkerPart) (b : Bool) → i < length parts → part ≡ get_or parts i part → Decides b (IsPartMade dues i (commands_of s i) part) → b ≡ false → Decides false (EachAnswer s r Law)
     part_fails part b lt is d isnt =
-        let at = found_at parts r.workers.items i part same lt is in
+        let at = here_at parts r.workers.items i part same lt is in
         let each : AnswersInParts s r Law → IsPartMade dues i (commands_of s i) part = λ h n a at_n c here. of_law i part at n c here a.reply (h i part at n a at_n c here) in
         each_answer_of s r Law false (λ t. absurd cc, λ h. absurd (clash b (d.1 (each h)) isnt))

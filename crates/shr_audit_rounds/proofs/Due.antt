@@ -1,18 +1,7 @@
 -- The rounds that were due, by how often each group refused.
-use Rattle.std.proofs.Common.{◌≡◌, ℕ, ◌+◌, ◌<◌, ◌≤◌, Bool, true, false, cond, List, [], ◌∷◌, length, Option, Some, None, refl, sym, ap, subst, ◌∙◌, arith}
-use Rattle.std.specs.Prelude.{◌==◌}
-use Rattle.std.specs.Bool.{Decides}
-use Rattle.std.specs.List.{AllByRecursion}
-use Rattle.std.proofs.lemmas.Bool.{eq-eqb}
-use Rattle.shr_model.specs.Groups.{IsAtOrAbove}
-use Rattle.shr_model.specs.Walks.{Job}
-use Rattle.shr_audit_rounds.specs.Rounds.{AreAlike, AreDue, FitsRounds, IsPutMade, IsWithout, TakesOut, named, times}
-use Rattle.shr_audit_rounds.specs.declared.refusals.Refusal.{Refusal}
-use Rattle.shr_audit_rounds.specs.Refusals.{groups_of}
+use Rattle.shr_audit_rounds.proofs.Common.{◌≡◌, ℕ, ◌+◌, ◌<◌, ◌≤◌, Bool, true, false, cond, List, [], ◌∷◌, length, Option, Some, None, refl, sym, ap, subst, ◌∙◌, arith, ◌==◌, Decides, AllByRecursion, eq-eqb, IsAtOrAbove, Job, AreAlike, AreDue, FitsRounds, IsWithout, TakesOut, named, times, Refusal, groups_of, some_is}
+use Rattle.shr_audit_rounds.specs.Rounds.{IsPutMade}
 use Rattle.shr_audit_rounds.proofs.Alike.{all_alike, same_length, so_of, so_of_each}
-
-some_same : {X : Type 0} (a b : X) → ◌≡◌ {A = Option X} (Some a) (Some b) → a ≡ b
-some_same a b e = cc
 
 -- ---- what is left of the groups that refused
 

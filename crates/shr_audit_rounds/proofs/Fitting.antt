@@ -1,17 +1,9 @@
 -- Rounds over some groups in some order, round by round.
-use Rattle.std.proofs.Common.{◌≡◌, ℕ, zero, suc, ◌+◌, ◌-◌, ◌<◌, ◌≤◌, Bool, true, false, List, [], ◌∷◌, ◌++◌, length, get_or, map, flat_map, refl, sym, ap, subst, ◌∙◌, arith}
-use Rattle.std.specs.Prelude.{◌↔◌, ◌==◌, ◌||◌, not}
-use Rattle.std.specs.Bool.{Decides}
-use Rattle.std.specs.List.{AllByRecursion, range_with_len}
-use Rattle.std.proofs.lemmas.Bool.{eqb-true, eq-eqb}
-use Rattle.std.proofs.lemmas.List.{length-append, length-drop}
-use Rattle.shr_base.specs.declared.walks.WalkRecord.{WalkRecord}
+use Rattle.shr_audit_rounds.proofs.Common.{◌≡◌, ℕ, zero, suc, ◌+◌, ◌-◌, ◌<◌, ◌≤◌, Bool, true, false, List, [], ◌∷◌, ◌++◌, length, get_or, map, flat_map, refl, sym, ap, subst, ◌∙◌, arith, ◌↔◌, ◌==◌, ◌||◌, not, Decides, AllByRecursion, range_with_len, eqb-true, eq-eqb, length-append, length-drop, WalkRecord, IsTree, preorder_of, Job, job_of, preorder_of-group, AreAlike, FitsRounds, IsWithout, TakesOut, times, Begins, IsBehind, IsMade, IsNotBegun, jobs_made}
 use Rattle.shr_model.specs.Commands.{round_of, rounds_from}
-use Rattle.shr_model.specs.Groups.{IsTree, preorder_of}
-use Rattle.shr_model.specs.Walks.{Job, job, job_of}
-use Rattle.shr_model.proofs.GroupsLaws.{preorder_of-group, subtrees_of}
-use Rattle.shr_audit_rounds.specs.Rounds.{AreAlike, FitsRounds, IsWithout, TakesOut, times}
-use Rattle.shr_audit_rounds.specs.Rows.{Begins, IsBehind, IsMade, IsNotBegun, jobs_made, round_over}
+use Rattle.shr_model.specs.Walks.{job}
+use Rattle.shr_model.proofs.GroupsLaws.{subtrees_of}
+use Rattle.shr_audit_rounds.specs.Rows.{round_over}
 use Rattle.shr_audit_rounds.proofs.Alike.{alike_with, alike_without, all_alike, all_without, nothing_alike, out_so, own_time}
 use Rattle.shr_audit_rounds.proofs.Due.{not_taken, taken}
 use Rattle.shr_audit_rounds.proofs.Begun.{begins_back, begins_empty, begins_front, begins_then}

@@ -1,3 +1,4 @@
+mod Common
 mod Alike
 mod Begun
 mod Climbing

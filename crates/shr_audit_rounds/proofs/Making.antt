@@ -1,24 +1,11 @@
 -- What a command made, in the words of the law.
-use Rattle.std.proofs.Common.{◌≡◌, ℕ, ◌+◌, ◌≤◌, Bool, true, false, List, [], ◌∷◌, length, map, take, Option, Some, refl, sym, ap, subst, ◌∙◌, arith}
-use Rattle.std.specs.Prelude.{count_by}
-use Rattle.std.specs.List.{AllByRecursion}
-use Rattle.shr_base.specs.declared.places.Serial.{Serial}
-use Rattle.shr_base.specs.declared.replies.Reply.{Reply}
+use Rattle.shr_audit_rounds.proofs.Common.{◌≡◌, ℕ, ◌+◌, ◌≤◌, Bool, true, false, List, [], ◌∷◌, length, map, take, Some, refl, sym, ap, subst, ◌∙◌, arith, count_by, AllByRecursion, Serial, Reply, Command, Script, is_refused, ops_by, IsAtOrAbove, Job, job_of, Report, limit_of, parents_of, uses_at, walks_by, AreWalksOf, IsCommandMade, is_whole, over_of, AreDue, named, times, Begins, IsMade}
 use Rattle.shr_base.specs.declared.replies.Reply.TheVariants as reply
-use Rattle.shr_base.specs.declared.scripts.Command.{Command}
 use Rattle.shr_base.specs.declared.scripts.Command.TheVariants.{Put}
-use Rattle.shr_base.specs.declared.scripts.Script.{Script}
-use Rattle.shr_model.specs.Charges.{is_refused, ops_by}
 use Rattle.shr_model.specs.Commands.{jobs_of, rounds_from}
-use Rattle.shr_model.specs.Groups.{IsAtOrAbove}
 use Rattle.shr_model.specs.Prefixes.{IsPrefixOf}
-use Rattle.shr_model.specs.Walks.{Job, job_of}
-use Rattle.shr_report.specs.declared.report.Report.{Report}
-use Rattle.shr_report.specs.Parts.{limit_of, parents_of, uses_at, walks_by}
-use Rattle.shr_report.specs.WalksLawful.{AreRounds, AreWalksOf, MayMake, over_at}
-use Rattle.shr_audit_rounds.specs.Commands.{IsCommandMade, is_whole, over_of}
-use Rattle.shr_audit_rounds.specs.Rounds.{AreDue, named, times}
-use Rattle.shr_audit_rounds.specs.Rows.{Begins, IsMade}
+use Rattle.shr_report.specs.WalksLawful.{AreRounds, MayMake, over_at}
+use Rattle.shr_model.proofs.Lists.{some_same}
 
 -- ---- the whole, or the first of it
 
@@ -66,9 +53,6 @@ made_may x due made h = whole_made due made h
 over_named : (x : Reply) (h : ℕ) → over_at h x ≡ named (over_of x) h
 over_named (reply.Over group operation usage) h = refl
 over_named x h = refl
-
-some_same : (a b : ℕ) → ◌≡◌ {A = Option ℕ} (Some a) (Some b) → a ≡ b
-some_same a b e = cc
 
 is_over : (x : Reply) (g : ℕ) → over_of x ≡ Some g → (operation : ℕ) × ((usage : ℕ) × (x ≡ reply.Over g operation usage))
 is_over (reply.Over group operation usage) g e = (operation, (usage, ap (λ (n : ℕ). reply.Over n operation usage) (some_same group g e)))

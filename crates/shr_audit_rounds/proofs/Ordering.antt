@@ -1,26 +1,13 @@
 -- The preorders of groups, from the last group up.
-use Rattle.std.proofs.Common.{◌≡◌, ◌⊎◌, ℕ, zero, suc, ◌+◌, ◌-◌, ◌<◌, ◌≤◌, Bool, true, false, cond, List, [], ◌∷◌, ◌++◌, length, get_or, filter, flat_map, Option, Some, refl, sym, ap, subst, ◌∙◌, inl, inr, arith}
-use Rattle.std.specs.declared.alloc.Global.{Global}
-use Rattle.std.specs.Prelude.{slice_get, Vec}
-use Rattle.std.specs.List.{range_with_len}
-use Rattle.std.proofs.lemmas.Bool.{cases_Bool}
-use Rattle.std.proofs.lemmas.List.{append-nil, length-append}
-use Rattle.std.proofs.lemmas.List.Concat.{flat_map-append}
-use Rattle.std.proofs.lemmas.List.Elements.{filter-append}
-use Rattle.std.proofs.lemmas.Option.{slice_get-get_or, slice_get_within}
-use Rattle.shr_model.specs.Groups.{IsTree, is_child, parent_of, preorder_of}
-use Rattle.shr_model.proofs.GroupsLaws.{child_again, child_higher, child_takes, preorder_of-group}
-use Rattle.shr_audit_rounds.specs.Orders.{AreOrdersFrom, subtrees_of}
+use Rattle.shr_audit_rounds.proofs.Common.{◌≡◌, ◌⊎◌, ℕ, zero, suc, ◌+◌, ◌-◌, ◌<◌, ◌≤◌, Bool, true, false, cond, List, [], ◌∷◌, ◌++◌, length, get_or, filter, flat_map, Some, refl, sym, ap, subst, ◌∙◌, inl, inr, arith, Global, slice_get, Vec, range_with_len, cases_Bool, append-nil, length-append, flat_map-append, filter-append, slice_get_within, IsTree, parent_of, preorder_of, preorder_of-group, AreOrdersFrom, some_is}
+use Rattle.std.proofs.lemmas.Option.{slice_get-get_or}
+use Rattle.shr_model.specs.Groups.{is_child}
+use Rattle.shr_model.proofs.GroupsLaws.{child_again, child_higher, child_takes}
+use Rattle.shr_audit_rounds.specs.Orders.{subtrees_of}
+use Rattle.shr_formed.proofs.Strip.{range_more}
 
 clash : (b : Bool) → b ≡ true → b ≡ false → ⊥
 clash b e f = cc
-
-one_on : (n : ℕ) → suc n + 1 ≡ suc (n + 1)
-one_on n = omega arith
-
-range_more : (a n j : ℕ) → a + n ≡ j → range_with_len a (n + 1) ≡ range_with_len a n ++ j ∷ []
-range_more a zero j e = let same : a ≡ j = omega arith in rw same refl
-range_more a (suc n) j e = ap (range_with_len a) (one_on n) ∙ ap (λ (xs : List ℕ). a ∷ xs) (range_more (a + 1) n j (omega arith))
 
 module _ (parents : List ℕ) (group : ℕ) where
   -- the preorders of the children of a group with lower numbers than this
@@ -62,11 +49,8 @@ module _ (parents : List ℕ) (group : ℕ) where
 
 -- ---- the orders from a group on
 
-some_same : {X : Type 0} (a b : X) → ◌≡◌ {A = Option X} (Some a) (Some b) → a ≡ b
-some_same a b e = cc
-
 at_end : {X : Type 0} (xs : List X) (x : X) (n : ℕ) (y : X) → slice_get (xs ++ x ∷ []) n ≡ Some y → (n < length xs × (slice_get xs n ≡ Some y)) ⊎ ((n ≡ length xs) × (x ≡ y))
-at_end [] x zero y e = inr (refl, some_same x y e)
+at_end [] x zero y e = inr (refl, some_is x y e)
 at_end [] x (suc n) y e = absurd (let lt = slice_get_within (x ∷ []) (suc n) y e in omega (arith, lt))
 at_end (z ∷ zs) x zero y e = inl (omega arith, e)
 at_end (z ∷ zs) x (suc n) y e = elim (at_end zs x n y e) [

@@ -1,25 +1,18 @@
 -- The refused charges of a command, counted by their groups.
-use Rattle.std.proofs.Common.{◌≡◌, ◌⊎◌, ℕ, zero, suc, ◌+◌, ◌-◌, ◌*◌, ◌^◌, ◌<◌, Bool, true, false, cond, List, [], ◌∷◌, ◌++◌, length, get_or, map, filter, take, Option, Some, None, refl, sym, ap, subst, ◌∙◌, inl, inr, arith}
-use Rattle.std.specs.Prelude.{◌&&◌, ◌==◌, count_by, nat_lt, nat_le, sum_by, slice_get, option_and_then, option_map}
-use Rattle.std.specs.List.{AllByRecursion}
+use Rattle.shr_audit_rounds.proofs.Common.{◌≡◌, ◌⊎◌, ℕ, zero, suc, ◌+◌, ◌-◌, ◌^◌, ◌<◌, Bool, true, false, cond, List, [], ◌∷◌, ◌++◌, length, get_or, map, filter, take, Option, Some, None, refl, sym, ap, subst, ◌∙◌, inl, inr, arith, ◌&&◌, ◌==◌, count_by, nat_lt, nat_le, slice_get, AllByRecursion, cases_Bool, eqb-true, eq-eqb, nat_tests, length-map, take_more, sum_by-cons, filter-append, get_or_from_slice_get, slice_get_within, UseStep, Serial, Script, is_refused, ops_by, limit_of, parents_of, Refusal, AreRefusals, groups_of, refusals_in, refusals_with, serial_key, times}
+use Rattle.std.proofs.Common.{◌*◌}
+use Rattle.std.specs.Prelude.{sum_by, option_and_then, option_map}
 use Rattle.std.specs.List.Sorted.{IsPartitionedBy}
-use Rattle.std.proofs.lemmas.Bool.{cases_Bool, and_parts, and_from, eqb-true, eq-eqb}
-use Rattle.std.proofs.lemmas.Bool.Decides.{nat_tests}
-use Rattle.std.proofs.lemmas.List.{length-map, map-append, take_more}
-use Rattle.std.proofs.lemmas.List.Sums.{sum_by-cons}
-use Rattle.std.proofs.lemmas.List.Elements.{All-from_recursion, filter-append}
+use Rattle.std.proofs.lemmas.Bool.{and_parts, and_from}
+use Rattle.std.proofs.lemmas.List.{map-append}
+use Rattle.std.proofs.lemmas.List.Elements.{All-from_recursion}
 use Rattle.std.proofs.lemmas.List.Sorted.{All-permutation, sum_by-IsPermutation}
-use Rattle.std.proofs.lemmas.Option.{get_or_from_slice_get, slice_get-map, slice_get_within}
-use Rattle.shr_base.specs.declared.journals.UseStep.{UseStep}
-use Rattle.shr_base.specs.declared.places.Serial.{Serial}
+use Rattle.std.proofs.lemmas.Option.{slice_get-map}
 use Rattle.shr_base.specs.declared.scripts.GroupDecl.{GroupDecl}
-use Rattle.shr_base.specs.declared.scripts.Script.{Script}
-use Rattle.shr_model.specs.Charges.{is_by, is_refused, ops_by}
-use Rattle.shr_report.specs.Parts.{limit_of, limits_of, parents_of}
+use Rattle.shr_model.specs.Charges.{is_by}
+use Rattle.shr_report.specs.Parts.{limits_of}
 use Rattle.shr_formed.proofs.Eachs.{all_of}
-use Rattle.shr_audit_rounds.specs.declared.refusals.Refusal.{Refusal}
-use Rattle.shr_audit_rounds.specs.Refusals.{AreRefusals, StandByKey, groups_of, refusal_of, refusals_in, refusals_with, serial_key}
-use Rattle.shr_audit_rounds.specs.Rounds.{times}
+use Rattle.shr_audit_rounds.specs.Refusals.{StandByKey, refusal_of}
 
 -- ---- the limit of a group below the root
 

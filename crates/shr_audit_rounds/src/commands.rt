@@ -73,10 +73,7 @@ pub fn is_command_made(
 {
     let whole = is_whole(reply);
     match command {
-        Command::Put { group, .. } => {
-            let subtrees = &dues.subtrees;
-            is_put_made(alloc, subtrees, dues.nodes, *group, reply, refusals, walks)
-        }
+        Command::Put { group, .. } => is_put_made(alloc, dues, *group, reply, refusals, walks),
         Command::Shrink {
             group,
             node,

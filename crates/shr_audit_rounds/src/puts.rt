@@ -11,7 +11,7 @@ ghost use Rattle.shr_audit_rounds.specs.Refusals.{groups_of};
 ghost use Rattle.shr_audit_rounds.specs.Rounds.{AreDue, IsPutMade};
 ghost use Rattle.shr_audit_rounds.specs.Rows.{jobs_made};
 
-use crate::orders::Subtrees;
+use crate::commands::Dues;
 use crate::refusals::Refusal;
 use crate::rounds::{are_rounds, take_out};
 use shr_base::memory::Memory;
@@ -113,28 +113,28 @@ fn leave_rounds(groups: &mut Vec<u16>, over: Option<u16>) -> bool
 /// refused, are those of its rounds. Our own.
 pub fn is_put_made(
     alloc: Global,
-    subtrees: &Subtrees,
-    nodes: u8,
+    dues: &Dues,
     group: u16,
     reply: &Reply,
     refusals: &[Refusal],
     walks: &[WalkRecord],
 ) -> Result<bool, Memory>
-    requires subtrees { AreSubtrees subtrees.now }
-    requires nodes { 0 < nodes }
-    requires there { AllByRecursion (λ (x : Refusal). x.group < length subtrees.now.parents.items)
-        refusals.now }
-    ensures { IfOk result (λ b. Decides b (IsPutMade subtrees.now.parents.items nodes group
-        (over_of reply.now) (is_whole reply.now) (groups_of refusals.now)
+    requires subtrees { AreSubtrees dues.now.subtrees }
+    requires nodes { 0 < dues.now.nodes }
+    requires there { AllByRecursion (λ (x : Refusal). x.group < length
+        dues.now.subtrees.parents.items) refusals.now }
+    ensures { IfOk result (λ b. Decides b (IsPutMade dues.now.subtrees.parents.items
+        dues.now.nodes group (over_of reply.now) (is_whole reply.now) (groups_of refusals.now)
         (jobs_made walks.now))) }
 {
     let mut groups = groups_of(alloc, refusals)?;
     if !leave_rounds(&mut groups, over_of(reply)) {
         return Ok(false);
     }
+    let subtrees = &dues.subtrees;
     if !are_above(subtrees.parents.as_slice(), groups.as_slice(), group) {
         return Ok(false);
     }
-    let made = are_rounds(subtrees, nodes, walks, is_whole(reply), &mut groups);
+    let made = are_rounds(subtrees, dues.nodes, walks, is_whole(reply), &mut groups);
     Ok(made)
 }

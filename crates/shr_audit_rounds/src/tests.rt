@@ -5,6 +5,7 @@ ghost use Rattle.std.specs.List.{AllByRecursion};
 ghost use Rattle.shr_audit_rounds.specs.declared.refusals.Refusal.{Refusal};
 ghost use Rattle.shr_audit_rounds.specs.Orders.{AreSubtrees};
 
+use crate::commands::Dues;
 use crate::orders::Subtrees;
 use crate::puts::is_put_made;
 use crate::refusals::Refusal;
@@ -73,26 +74,33 @@ fn rows_are_made(rt: HostRuntime) -> Result<(), Fail> {
 // was answered so after these groups refused.
 fn is_made(
     alloc: Global,
-    subtrees: &Subtrees,
+    dues: &Dues,
     reply: &Reply,
     refusals: &[Refusal],
     jobs: &[Job],
 ) -> Result<bool, Memory>
-    requires subtrees { AreSubtrees subtrees.now }
+    requires subtrees { AreSubtrees dues.now.subtrees }
+    requires nodes { 0 < dues.now.nodes }
     requires there { AllByRecursion (λ (x : Refusal). x.group < length
-        subtrees.now.parents.items) refusals.now }
+        dues.now.subtrees.parents.items) refusals.now }
 {
     let walks = walks_of(alloc, jobs)?;
-    is_put_made(alloc, subtrees, 2, 2, reply, refusals, walks.as_slice())
+    is_put_made(alloc, dues, 2, reply, refusals, walks.as_slice())
 }
 
-// Group 1 below the root, and group 2 below it.
-fn small_tree(alloc: Global) -> Result<Subtrees, Memory>
-    ensures are { IfOk result (λ t. AreSubtrees t) }
-    ensures many { IfOk result (λ t. length t.parents.items ≡ 3) }
+// Group 1 below the root, and group 2 below it, on two nodes.
+fn small_dues(alloc: Global) -> Result<Dues, Memory>
+    ensures are { IfOk result (λ d. AreSubtrees d.subtrees) }
+    ensures nodes { IfOk result (λ d. d.nodes ≡ 2) }
+    ensures many { IfOk result (λ d. length d.subtrees.parents.items ≡ 3) }
 {
     let parents = Vec::from_slice(alloc, &[0, 0, 1])?;
-    Subtrees::of(alloc, parents)
+    let subtrees = Subtrees::of(alloc, parents)?;
+    Ok(Dues {
+        nodes: 2,
+        subtrees,
+        refusals: Vec::new(alloc),
+    })
 }
 
 const ADDED: Reply = Reply::Added {
@@ -119,14 +127,14 @@ const JOBS: [Job; 6] = [
 #[test]
 fn rounds_are_made(rt: HostRuntime) -> Result<(), Fail> {
     let alloc = rt.alloc();
-    let subtrees = small_tree(alloc)?;
+    let dues = small_dues(alloc)?;
     let both = [ABOVE, OWN];
-    assert!(rt; is_made(alloc, &subtrees, &ADDED, &both, &JOBS)?);
-    assert!(rt; !is_made(alloc, &subtrees, &ADDED, &both, &JOBS[..5])?);
-    assert!(rt; !is_made(alloc, &subtrees, &ADDED, &both, &JOBS[..2])?);
-    assert!(rt; !is_made(alloc, &subtrees, &ADDED, &[OWN, OWN], &JOBS)?);
-    assert!(rt; is_made(alloc, &subtrees, &Reply::Memory, &both, &JOBS[..5])?);
-    assert!(rt; is_made(alloc, &subtrees, &Reply::Memory, &both, &JOBS[..2])?);
-    assert!(rt; !is_made(alloc, &subtrees, &Reply::Memory, &[ABOVE], &JOBS)?);
+    assert!(rt; is_made(alloc, &dues, &ADDED, &both, &JOBS)?);
+    assert!(rt; !is_made(alloc, &dues, &ADDED, &both, &JOBS[..5])?);
+    assert!(rt; !is_made(alloc, &dues, &ADDED, &both, &JOBS[..2])?);
+    assert!(rt; !is_made(alloc, &dues, &ADDED, &[OWN, OWN], &JOBS)?);
+    assert!(rt; is_made(alloc, &dues, &Reply::Memory, &both, &JOBS[..5])?);
+    assert!(rt; is_made(alloc, &dues, &Reply::Memory, &both, &JOBS[..2])?);
+    assert!(rt; !is_made(alloc, &dues, &Reply::Memory, &[ABOVE], &JOBS)?);
     Ok(())
 }

@@ -1,28 +1,11 @@
 -- What answers say of declarations, added one after another.
-use Rattle.std.proofs.Common.{◌≡◌, ℕ, ◌+◌, ◌<◌, ◌≤◌, List, [], ◌∷◌, ◌++◌, length, Option, Some, None, sym, ap, subst, ◌∙◌, inl, inr, arith}
-use Rattle.std.specs.Prelude.{option_and_then, option_map, option_to_list}
+use Rattle.shr_audit_rows.proofs.Common.{◌≡◌, ℕ, ◌+◌, ◌<◌, ◌≤◌, List, [], ◌∷◌, ◌++◌, length, Option, Some, None, sym, ap, subst, ◌∙◌, inl, inr, arith, option_and_then, option_map, cases_lt, append-nil, slice_get_past, WorkerPart, Answered, Reply, Command, Script, Each, decl_named, Report, answer_at, answers_in, answers_of, command_at, reply_at, serial_of, Asked, AddsSo, AreAllSo, IsSo, IsSoIfAsked, asked_at, asked_in}
+use Rattle.std.specs.Prelude.{option_to_list}
 use Rattle.std.specs.List.{AllByRecursion}
-use Rattle.std.proofs.lemmas.Bool.{cases_lt}
-use Rattle.std.proofs.lemmas.List.{append-nil}
-use Rattle.std.proofs.lemmas.Option.{slice_get_past}
-use Rattle.shr_base.specs.declared.ends.WorkerPart.{WorkerPart}
-use Rattle.shr_base.specs.declared.replies.Answered.{Answered}
-use Rattle.shr_base.specs.declared.replies.Reply.{Reply}
-use Rattle.shr_base.specs.declared.scripts.Command.{Command}
-use Rattle.shr_base.specs.declared.scripts.Script.{Script}
-use Rattle.shr_formed.specs.Each.{Each}
 use Rattle.shr_formed.proofs.Eachs.{all_of, each_in}
-use Rattle.shr_model.specs.Commands.{decl_named}
-use Rattle.shr_report.specs.declared.report.Report.{Report}
-use Rattle.shr_report.specs.Parts.{answer_at, answers_in, answers_of, command_at, reply_at, serial_of}
-use Rattle.shr_audit_rows.specs.declared.asked.Asked.{Asked}
-use Rattle.shr_audit_rows.specs.Asked.{AddsSo, AreAllSo, IsSo, IsSoIfAsked, asked_at, asked_in}
+use Rattle.shr_model.proofs.Lists.{all_push}
 
 -- ---- one more
-
-push_all : {X : Type 0} (P : X → Type 0) (xs : List X) (x : X) → AllByRecursion P xs → P x → AllByRecursion P (xs ++ x ∷ [])
-push_all P [] x h p = (p, tt)
-push_all P (y ∷ ys) x h p = (h.0, push_all P ys x h.1 p)
 
 front_all : {X : Type 0} (P : X → Type 0) (xs : List X) (x : X) → AllByRecursion P (xs ++ x ∷ []) → AllByRecursion P xs
 front_all P [] x h = tt
@@ -36,7 +19,7 @@ pub adds_one : (s : Script) (r : Report) (asked : List Asked) (o : Option Asked)
 adds_one s r asked None = (λ h. (subst (Each (IsSo s r)) (append-nil asked) h, tt), λ h. subst (Each (IsSo s r)) (sym (append-nil asked)) h.0)
 adds_one s r asked (Some a) = (
   λ h. (let all = all_of (IsSo s r) (asked ++ a ∷ []) h in (each_in (IsSo s r) asked (front_all (IsSo s r) asked a all), last_all (IsSo s r) asked a all)),
-  λ h. each_in (IsSo s r) (asked ++ a ∷ []) (push_all (IsSo s r) asked a (all_of (IsSo s r) asked h.0) h.1),
+  λ h. each_in (IsSo s r) (asked ++ a ∷ []) (all_push (IsSo s r) asked a (all_of (IsSo s r) asked h.0) h.1),
 )
 
 -- ---- one after another

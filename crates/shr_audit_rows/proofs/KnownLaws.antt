@@ -1,32 +1,18 @@
 -- What is said of declarations, in the order of the entries.
-use Rattle.std.proofs.Common.{◌≡◌, ℕ, ◌+◌, ◌<◌, ◌≤◌, Bool, true, false, List, [], ◌∷◌, length, get_or, take, Option, Some, None, refl, sym, ap, subst, ◌∙◌, arith}
-use Rattle.std.specs.Prelude.{◌&&◌, not, is_some, slice_get, IsPermutation}
-use Rattle.std.specs.Bool.{Decides}
+use Rattle.shr_audit_rows.proofs.Common.{◌≡◌, ℕ, ◌+◌, ◌<◌, ◌≤◌, Bool, true, false, List, [], ◌∷◌, length, get_or, take, Option, Some, None, refl, sym, ap, subst, ◌∙◌, arith, ◌&&◌, not, is_some, slice_get, Decides, IsSomeAnd, and_parts, and_from, get_or_from_slice_get, slice_get_within, PoolEntry, Script, Each, decides_iff, Report, Asked, AreAllSo, IsAskedSo, IsSaid, IsSo, Stands}
+use Rattle.std.specs.Prelude.{IsPermutation}
 use Rattle.std.specs.List.{All}
 use Rattle.std.specs.List.Sorted.{IsNonDecreasingBy}
-use Rattle.std.specs.Option.{IsSomeAnd}
-use Rattle.std.proofs.lemmas.Bool.{and_parts, and_from}
 use Rattle.std.proofs.lemmas.List.Sorted.{All-permutation, IsPermutation-sym}
-use Rattle.std.proofs.lemmas.Option.{slice_get-get_or, get_or_from_slice_get, slice_get_within}
-use Rattle.shr_base.specs.declared.journals.PoolEntry.{PoolEntry}
-use Rattle.shr_base.specs.declared.scripts.Script.{Script}
-use Rattle.shr_formed.specs.Each.{Each}
+use Rattle.std.proofs.lemmas.Option.{slice_get-get_or}
 use Rattle.shr_formed.proofs.Eachs.{clash, each_more}
-use Rattle.shr_case.proofs.Eachs.{decides_iff}
 use Rattle.shr_model.specs.Pool.{is_live_decl, lowest_idle}
-use Rattle.shr_report.specs.declared.report.Report.{Report}
 use Rattle.shr_report.specs.Causes.{IsCached, IsFull, IsUncached}
-use Rattle.shr_audit_rows.specs.declared.asked.Asked.{Asked}
 use Rattle.shr_audit_rows.specs.declared.asked.Said.{Said}
 use Rattle.shr_audit_rows.specs.declared.asked.Said.TheVariants.{Uncached, Cached, Full}
-use Rattle.shr_audit_rows.specs.Asked.{AreAllSo, IsAskedSo, IsSaid, IsSo}
-use Rattle.shr_audit_rows.specs.Pooled.{Stands}
+use Rattle.shr_model.proofs.Booleans.{not_true}
 
 -- ---- one
-
-not_true : (b : Bool) → not b ≡ true → b ≡ false
-not_true true e = absurd cc
-not_true false e = refl
 
 true_not : (b : Bool) → b ≡ false → not b ≡ true
 true_not b e = ap not e

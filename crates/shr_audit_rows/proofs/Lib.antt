@@ -1,7 +1,8 @@
+mod Common
 mod AskedLaws
 mod GroupLaws
-mod KnownLaws
-mod MomentsLaws
+pub mod KnownLaws
+pub mod MomentsLaws
 mod OverLaws
 mod PooledLaws
 mod RowLaws

@@ -1,38 +1,26 @@
 -- When groups were made, and done, one entry of the journal of the tree after another.
-use Rattle.std.proofs.Common.{◌≡◌, ◌⊎◌, ℕ, zero, suc, ◌+◌, ◌<◌, ◌≤◌, Bool, true, false, cond, List, [], ◌∷◌, ◌++◌, length, get_or, set, take, replicate, Option, Some, None, refl, sym, ap, subst, ◌∙◌, inl, inr, arith, eq-eqb, ne_eqb, length-set, get_or-set_same, get_or-set_other}
-use Rattle.std.specs.Prelude.{◌&&◌, ◌||◌, ◌==◌, nat_lt, find, is_none, is_some, not}
-use Rattle.std.specs.Bool.{Decides}
+use Rattle.shr_audit_rows.proofs.Common.{◌≡◌, ◌⊎◌, ℕ, zero, suc, ◌+◌, ◌<◌, ◌≤◌, Bool, true, false, cond, List, [], ◌∷◌, ◌++◌, length, get_or, set, take, replicate, Option, Some, None, refl, sym, ap, subst, ◌∙◌, inl, inr, arith, eq-eqb, ne_eqb, length-set, get_or-set_same, get_or-set_other, ◌&&◌, ◌||◌, ◌==◌, nat_lt, is_some, not, Decides, and_from, nat_tests, get_or-replicate, length-replicate, take_more, eq-or-lt_of_le, dite, ℕ_discrete, Script, is_done, is_making, Report, done_in, made_in}
+use Rattle.std.specs.Prelude.{find, is_none}
 use Rattle.std.specs.List.{position_from, range_with_len}
-use Rattle.std.proofs.lemmas.Bool.{and_from}
-use Rattle.std.proofs.lemmas.Bool.Decides.{nat_tests}
-use Rattle.std.proofs.lemmas.List.{get_or-replicate, length-replicate, take_more}
-use Rattle.std.proofs.Math.Nat.{eq-or-lt_of_le}
-use mathlib.Core.Logic.{dite}
-use native.Mathlib.Decide.{ℕ_discrete}
 use Rattle.shr_base.specs.declared.journals.TreeEntry.{TreeEntry}
 use Rattle.shr_base.specs.declared.journals.TreeEntry.TheVariants.{Begin, Done, Made}
-use Rattle.shr_base.specs.declared.scripts.Script.{Script}
 use Rattle.shr_model.specs.Groups.{is_child, is_later}
-use Rattle.shr_model.specs.TreeJournal.{done_of, is_done, is_made, is_making, is_undone_child, made_of, undone_child}
-use Rattle.shr_report.specs.declared.report.Report.{Report}
+use Rattle.shr_model.specs.TreeJournal.{done_of, is_made, is_undone_child, made_of, undone_child}
 use Rattle.shr_report.specs.Causes.{IsInTheWay}
 use Rattle.shr_report.specs.Parts.{hierarchy_of, later_of, parents_of}
 use Rattle.shr_audit_rows.specs.declared.children.Moments.{Moments}
-use Rattle.shr_audit_rows.specs.Moments.{AreMoments, done_in, made_in, noted_at}
+use Rattle.shr_audit_rows.specs.Moments.{AreMoments, noted_at}
+use Rattle.shr_audit_fresh.proofs.FirstLaws.{or_none}
 
 -- ---- tests
 
-lt_true : (a b : ℕ) → a < b → nat_lt a b ≡ true
+pub lt_true : (a b : ℕ) → a < b → nat_lt a b ≡ true
 lt_true a b lt = grind (arith, nat_tests)
 
-lt_false : (a b : ℕ) → b ≤ a → nat_lt a b ≡ false
+pub lt_false : (a b : ℕ) → b ≤ a → nat_lt a b ≡ false
 lt_false a b le = grind (arith, nat_tests)
 
-or_none : (b : Bool) → (b || false) ≡ b
-or_none true = refl
-or_none false = refl
-
-or_true : (b : Bool) → (b || true) ≡ true
+pub or_true : (b : Bool) → (b || true) ≡ true
 or_true true = refl
 or_true false = refl
 

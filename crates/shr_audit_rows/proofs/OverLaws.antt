@@ -1,28 +1,13 @@
 -- An Over against the charges of its command.
-use Rattle.std.proofs.Common.{◌≡◌, ℕ, zero, suc, ◌+◌, ◌-◌, ◌<◌, ◌≤◌, Bool, true, false, cond, pos, List, [], ◌∷◌, drop, map, Option, Some, None, refl, sym, ap, subst, ◌∙◌, inl, inr, arith}
-use Rattle.std.specs.Prelude.{◌==◌, nat_eq, nat_le, slice_get, option_and_then, option_map}
-use Rattle.std.specs.Bool.{Decides}
-use Rattle.std.specs.HashMap.{get}
-use Rattle.std.specs.Option.{IsSomeAnd}
-use Rattle.std.proofs.lemmas.Bool.{and_from, eq-eqb, cases_lt}
-use Rattle.std.proofs.lemmas.Bool.Decides.{nat_tests}
-use Rattle.std.proofs.lemmas.List.Sums.{sum_by-cons}
-use Rattle.std.proofs.lemmas.Option.{slice_get-map, slice_get_within}
-use Rattle.shr_base.specs.declared.journals.UseStep.{UseStep}
-use Rattle.shr_base.specs.declared.places.Serial.{Serial}
-use Rattle.shr_base.specs.declared.scripts.GroupDecl.{GroupDecl}
-use Rattle.shr_base.specs.declared.scripts.Script.{Script}
-use Rattle.shr_model.specs.Charges.{is_by, ops_by, ups}
-use Rattle.shr_report.specs.declared.report.Report.{Report}
+use Rattle.shr_audit_rows.proofs.Common.{◌≡◌, ℕ, zero, suc, ◌+◌, ◌-◌, ◌<◌, ◌≤◌, Bool, true, false, cond, List, [], ◌∷◌, drop, map, Option, Some, None, refl, sym, ap, subst, ◌∙◌, inl, inr, arith, ◌==◌, nat_eq, slice_get, option_and_then, option_map, Decides, get, IsSomeAnd, and_from, cases_lt, nat_tests, sum_by-cons, slice_get-map, slice_get_within, UseStep, Serial, GroupDecl, Script, is_by, ops_by, ups, Report, Tried, AreTries, IsKeyed, TriedMap, TriesIn, own_key, some_is}
+use Rattle.std.proofs.Common.{pos}
+use Rattle.std.specs.Prelude.{nat_le}
+use Rattle.std.proofs.lemmas.Bool.{eq-eqb}
 use Rattle.shr_report.specs.Causes.{IsOver}
 use Rattle.shr_report.specs.Parts.{limit_of, uses_at}
 use Rattle.shr_audit_rows.specs.declared.tried.Refused.{Refused}
-use Rattle.shr_audit_rows.specs.declared.tried.Tried.{Tried}
 use Rattle.shr_audit_rows.specs.Over.{AreFourteen, IsFullAt, IsSaidOf}
-use Rattle.shr_audit_rows.specs.Tried.{AreTries, IsKeyed, IsTriedBy, TriedMap, TriesIn, own_key}
-
-some_same : {X : Type 0} (a b : X) → ◌≡◌ {A = Option X} (Some a) (Some b) → a ≡ b
-some_same a b e = cc
+use Rattle.shr_audit_rows.specs.Tried.{IsTriedBy}
 
 -- ---- a charge among others
 
@@ -51,7 +36,7 @@ ups_more o os lt = (let e = ups_cons o os in omega (arith, e, lt))
 ups_some : (by : Serial) (ops : List UseStep) (i : ℕ) (o : UseStep) → slice_get ops i ≡ Some o → o.up ≡ true → is_by by o ≡ true → 0 < ups (ops_by by ops)
 ups_some by [] i o at up own = absurd (let lt = slice_get_within [] i o at in omega (arith, lt))
 ups_some by (p ∷ ops) zero o at up own =
-    let same : p ≡ o = some_same p o at in
+    let same : p ≡ o = some_is p o at in
     subst (λ (b : Bool). 0 < ups (cond b (p ∷ ops_by by ops) (ops_by by ops))) (sym (subst (λ (x : UseStep). is_by by x ≡ true) (sym same) own)) (ups_one p (ops_by by ops) (subst (λ (x : UseStep). x.up ≡ true) (sym same) up))
 ups_some by (p ∷ ops) (suc i) o at up own = more (is_by by p) refl (ups_some by ops i o at up own)
   where
@@ -89,7 +74,7 @@ module _ (s : Script) (r : Report) (by : Serial) (own : ℕ) (refused : Refused)
   ]
 
   last_is_said : (t : Tried) → IsTriedBy (uses_at r refused.group) by t → Over → t.last ≡ said_step by refused
-  last_is_said t last h = some_same t.last (said_step by refused) (sym last.at ∙ (ap (slice_get (uses_at r refused.group)) (index_of t last h) ∙ h.up))
+  last_is_said t last h = some_is t.last (said_step by refused) (sym last.at ∙ (ap (slice_get (uses_at r refused.group)) (index_of t last h) ∙ h.up))
 
   last_of : (o : Option Tried) → TriesIn (uses_at r refused.group) by o → Over → IsSomeAnd o (IsSaidOf by refused)
   last_of None none h = absurd (let some = ups_some by (uses_at r refused.group) refused.operation (said_step by refused) h.up refl (is_by_itself by refused) in omega (arith, none, some))

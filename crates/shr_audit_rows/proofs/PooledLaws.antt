@@ -1,16 +1,12 @@
 -- Each id, one entry of the journal of registrations after another.
-use Rattle.std.proofs.Common.{◌≡◌, ℕ, zero, suc, ◌+◌, ◌%◌, ◌<◌, ◌≤◌, Bool, true, false, cond, List, [], ◌∷◌, ◌++◌, length, get_or, set, take, replicate, Option, Some, None, refl, sym, ap, subst, ◌∙◌, inl, inr, arith, add-one, eq-eqb, ne_eqb, length-set, get_or-set_same, get_or-set_other}
-use Rattle.std.specs.Prelude.{◌&&◌, ◌||◌, ◌==◌, nat_lt, if◌then◌else◌, is_some}
-use Rattle.std.proofs.lemmas.Bool.{cases_lt}
-use Rattle.std.proofs.lemmas.List.{get_or-replicate, length-replicate, take_more}
-use Rattle.std.proofs.Math.Nat.{eq-or-lt_of_le}
-use mathlib.Core.Logic.{dite}
-use native.Mathlib.Decide.{ℕ_discrete}
-use Rattle.shr_base.specs.declared.journals.PoolEntry.{PoolEntry}
+use Rattle.shr_audit_rows.proofs.Common.{◌≡◌, ℕ, zero, suc, ◌+◌, ◌<◌, ◌≤◌, Bool, true, false, cond, List, [], ◌∷◌, ◌++◌, length, get_or, set, take, replicate, Option, Some, None, refl, sym, ap, subst, ◌∙◌, inl, inr, arith, eq-eqb, ne_eqb, length-set, get_or-set_same, get_or-set_other, ◌&&◌, ◌||◌, ◌==◌, nat_lt, is_some, cases_lt, get_or-replicate, length-replicate, take_more, eq-or-lt_of_le, dite, ℕ_discrete, PoolEntry, decl_after, id_of, Stands, is_free_in}
+use Rattle.std.proofs.Common.{◌%◌, add-one}
+use Rattle.std.specs.Prelude.{if◌then◌else◌}
 use Rattle.shr_base.specs.declared.journals.PoolEntry.TheVariants.{Registered, Unregistered, Idle}
-use Rattle.shr_model.specs.Pool.{decl_after, decl_from, decl_of, id_of, is_free, is_live, is_live_below, lowest_free, phase_of}
+use Rattle.shr_model.specs.Pool.{decl_from, decl_of, is_free, is_live, is_live_below, lowest_free, phase_of}
 use Rattle.shr_model.proofs.PoolLaws.{decl_from_push, one_of, phase_of_push}
-use Rattle.shr_audit_rows.specs.Pooled.{IsBlankFor, Stands, is_free_in, is_live_in}
+use Rattle.shr_audit_rows.specs.Pooled.{IsBlankFor, is_live_in}
+use Rattle.shr_case.proofs.Order.{or_right}
 
 -- ---- at the start
 
@@ -102,10 +98,6 @@ live_step decl id es = refl
 or_none : (a b : Bool) → a ≡ false → b ≡ false → (a || b) ≡ false
 or_none true b e f = absurd cc
 or_none false b e f = f
-
-or_right : (a b : Bool) → b ≡ true → (a || b) ≡ true
-or_right true b e = refl
-or_right false b e = e
 
 pub live_next : (es : List PoolEntry) (phases decls : List ℕ) (decl id : ℕ) → id < 65536 → Stands es phases decls → is_live_in phases decls decl id ≡ false → is_live_below decl id es ≡ false → is_live_below decl (id + 1) es ≡ false
 live_next es phases decls decl id lt st isnt before =

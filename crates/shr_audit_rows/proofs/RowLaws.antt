@@ -1,25 +1,9 @@
 -- Causes of replies, from the parts in which they are tested.
-use Rattle.std.proofs.Common.{◌≡◌, ℕ, ◌<◌, ◌≤◌, Bool, true, false, [], length, Option, Some, None, refl, sym, ap, subst, ◌∙◌, arith}
-use Rattle.std.specs.Prelude.{slice_get, option_and_then, option_map}
-use Rattle.std.specs.Bool.{Decides}
-use Rattle.std.proofs.lemmas.Option.{slice_get_past, slice_get_within}
-use Rattle.shr_base.specs.declared.ends.WorkerPart.{WorkerPart}
-use Rattle.shr_base.specs.declared.places.Serial.{Serial}
-use Rattle.shr_base.specs.declared.replies.Answered.{Answered}
-use Rattle.shr_base.specs.declared.replies.Reply.{Reply}
+use Rattle.shr_audit_rows.proofs.Common.{◌≡◌, ℕ, ◌<◌, ◌≤◌, Bool, true, false, [], length, Option, Some, None, refl, sym, ap, subst, ◌∙◌, arith, slice_get, option_and_then, option_map, Decides, slice_get_past, slice_get_within, WorkerPart, Serial, Answered, Reply, Command, Script, decides_iff, decl_named, Report, answer_at, answers_in, answers_of, command_at, reply_at, serial_of, IsAskedSo, IsSoIfAsked, asked_at, asked_in, HasCountCause, IsCausedAt, some_is}
 use Rattle.shr_base.specs.declared.replies.Reply.TheVariants as reply
-use Rattle.shr_base.specs.declared.scripts.Command.{Command}
-use Rattle.shr_base.specs.declared.scripts.Script.{Script}
 use Rattle.shr_base.specs.declared.scripts.WorkerScript.{WorkerScript}
-use Rattle.shr_case.proofs.Eachs.{decides_iff}
-use Rattle.shr_model.specs.Commands.{decl_named}
-use Rattle.shr_report.specs.declared.report.Report.{Report}
-use Rattle.shr_report.specs.Parts.{EachAnswer, answer_at, answers_in, answers_of, command_at, commands_in, reply_at, serial_of}
-use Rattle.shr_audit_rows.specs.Asked.{IsAskedSo, IsSoIfAsked, asked_at, asked_in}
-use Rattle.shr_audit_rows.specs.Rows.{AreFew, HasCauseButEnds, HasCountCause, HasStateCause, IsCausedAt}
-
-some_same : {X : Type 0} (a b : X) → ◌≡◌ {A = Option X} (Some a) (Some b) → a ≡ b
-some_same a b e = cc
+use Rattle.shr_report.specs.Parts.{EachAnswer, commands_in}
+use Rattle.shr_audit_rows.specs.Rows.{AreFew, HasCauseButEnds, HasStateCause}
 
 none_some : {X : Type 0} (a : X) → ◌≡◌ {A = Option X} None (Some a) → ⊥
 none_some a e = cc
@@ -106,8 +90,8 @@ module _ (s : Script) (r : Report) (worker k : ℕ) where
 
     pub counted_too : (b : Bool) → HasStateCause s r c a.reply → Decides b (HasCountCause s r (serial_of worker k) c a.reply) → Decides b (IsCausedAt s r worker k)
     counted_too b state d = (
-      λ t x y e f. subst (λ (v : Command). HasStateCause s r v y.reply × HasCountCause s r (serial_of worker k) v y.reply) (some_same c x (here ∙ e))
-          (subst (λ (v : Answered). HasStateCause s r c v.reply × HasCountCause s r (serial_of worker k) c v.reply) (some_same a y (there ∙ f)) (state, d.0 t)),
+      λ t x y e f. subst (λ (v : Command). HasStateCause s r v y.reply × HasCountCause s r (serial_of worker k) v y.reply) (some_is c x (here ∙ e))
+          (subst (λ (v : Answered). HasStateCause s r c v.reply × HasCountCause s r (serial_of worker k) c v.reply) (some_is a y (there ∙ f)) (state, d.0 t)),
       λ h. d.1 (h c a (sym here) (sym there)).1,
     )
 

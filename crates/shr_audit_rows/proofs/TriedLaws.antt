@@ -1,22 +1,14 @@
 -- The charges of commands in groups, one operation after another.
-use Rattle.std.proofs.Common.{◌≡◌, ◌⊎◌, ℕ, zero, suc, ◌+◌, ◌<◌, ◌≤◌, Bool, true, false, cond, min, List, [], ◌∷◌, ◌++◌, length, length-append, get_or, set, take, drop, filter, replicate, Option, Some, None, refl, sym, ap, subst, ◌∙◌, inl, inr, arith, eq-eqb, ne_eqb, length-set, get_or-set_same, get_or-set_other}
-use Rattle.std.specs.Prelude.{◌==◌, nat_eq, nat_lt, not, slice_get}
-use Rattle.std.specs.HashMap.{get}
-use Rattle.std.proofs.lemmas.Bool.{cases_Bool, and_parts, and_from, eqb-true}
-use Rattle.std.proofs.lemmas.Bool.Decides.{nat_tests}
-use Rattle.std.proofs.lemmas.List.{append-nil, drop-append-le, get_or-replicate, length-replicate, take_more, take_all}
+use Rattle.shr_audit_rows.proofs.Common.{◌≡◌, ◌⊎◌, ℕ, zero, suc, ◌+◌, ◌<◌, ◌≤◌, Bool, true, false, cond, List, [], ◌∷◌, ◌++◌, length, get_or, set, take, drop, replicate, Option, Some, None, refl, sym, ap, subst, ◌∙◌, inl, inr, arith, eq-eqb, ne_eqb, length-set, get_or-set_same, get_or-set_other, ◌==◌, nat_eq, nat_lt, not, slice_get, get, and_parts, and_from, nat_tests, append-nil, get_or-replicate, length-replicate, take_more, sum_by-cons, slice_get_within, dite, ℕ_discrete, UseStep, Serial, is_by, ops_by, ups, serial_of, Tried, AreTries, IsKeyed, TriedMap, TriesIn, own_key}
+use Rattle.std.proofs.Common.{min, length-append, filter}
+use Rattle.std.proofs.lemmas.Bool.{cases_Bool, eqb-true}
+use Rattle.std.proofs.lemmas.List.{drop-append-le, take_all}
 use Rattle.std.proofs.lemmas.List.Elements.{filter-append}
-use Rattle.std.proofs.lemmas.List.Sums.{count_by-le-length, length-filter, sum_by-append, sum_by-cons}
-use Rattle.std.proofs.lemmas.Option.{slice_get_within}
+use Rattle.std.proofs.lemmas.List.Sums.{count_by-le-length, length-filter, sum_by-append}
 use Rattle.std.proofs.Math.Seq.{drop-append_seam}
-use mathlib.Core.Logic.{dite}
-use native.Mathlib.Decide.{ℕ_discrete}
-use Rattle.shr_base.specs.declared.journals.UseStep.{UseStep}
-use Rattle.shr_base.specs.declared.places.Serial.{Serial}
-use Rattle.shr_model.specs.Charges.{is_by, ops_by, ups}
-use Rattle.shr_report.specs.Parts.{serial_of}
-use Rattle.shr_audit_rows.specs.declared.tried.Tried.{Tried}
-use Rattle.shr_audit_rows.specs.Tried.{AreTries, IsKeyed, IsLast, TriedMap, TriesIn, key_of, last_with, own_key, ups_with, uses_of}
+use Rattle.shr_audit_rows.specs.Tried.{IsLast, key_of, last_with, ups_with, uses_of}
+use Rattle.shr_formed.proofs.WellParts.{last_get}
+use Rattle.shr_model.proofs.Booleans.{not_true}
 
 -- ---- lists with one more
 
@@ -30,10 +22,6 @@ at_front : {X : Type 0} (xs : List X) (x : X) (i : ℕ) (y : X) → slice_get xs
 at_front [] x i y e = absurd (let lt = slice_get_within [] i y e in omega (arith, lt))
 at_front (z ∷ zs) x zero y e = e
 at_front (z ∷ zs) x (suc i) y e = at_front zs x i y e
-
-at_last : {X : Type 0} (xs : List X) (x : X) → slice_get (xs ++ x ∷ []) (length xs) ≡ Some x
-at_last [] x = refl
-at_last (z ∷ zs) x = at_last zs x
 
 -- ---- charges of a command
 
@@ -89,7 +77,7 @@ capped (Some x) by ops t = by_test (nat_lt x.ups 15) refl
 adds : (by : Serial) (ops : List UseStep) (step : UseStep) (index : ℕ) → is_by by step ≡ true → step.up ≡ true → index ≡ length ops → (o : Option Tried) → TriesIn ops by o → TriesIn (ops ++ step ∷ []) by (Some (last_with o step index))
 adds by ops step index own up is o t = record {
   count = capped o by ops t ∙ ap (min 15) (sym (ups_more by ops step true true own up));
-  at = ap (slice_get (ops ++ step ∷ [])) is ∙ at_last ops step;
+  at = ap (slice_get (ops ++ step ∷ [])) is ∙ last_get ops step;
   up = up;
   own = own;
   last = ap (λ (os : List UseStep). ups (ops_by by os)) (behind ∙ drop-append_seam (ops ++ step ∷ []) []);
@@ -201,10 +189,6 @@ tries_all uses all n tried counts is over t = subst (λ (us : List UseStep). Are
 -- a group has no more operations than there are
 pub uses_few : (uses : List UseStep) (group : ℕ) → length (uses_of uses group) ≤ length uses
 uses_few uses group = (let e = length-filter (λ (o : UseStep). o.group == group) uses in let le = count_by-le-length (λ (o : UseStep). o.group == group) uses in omega (arith, e, le))
-
-pub down_of : (b : Bool) → not b ≡ true → b ≡ false
-down_of true e = absurd cc
-down_of false e = refl
 
 pub up_of : (b : Bool) → not b ≡ false → b ≡ true
 up_of true e = refl

@@ -1,11 +1,6 @@
 -- Keys that loops add, item by item.
-use Rattle.std.proofs.Common.{◌≡◌, ℕ, ◌+◌, ◌<◌, ◌≤◌, List, [], ◌∷◌, ◌++◌, length, get_or, take, sym, ap, ◌∙◌, arith}
-use Rattle.std.specs.Prelude.{flat_map}
-use Rattle.std.specs.List.{enumerate_from}
-use Rattle.std.proofs.lemmas.List.{append_assoc, append-nil, take_more, take_all}
+use Rattle.shr_audit_scans.proofs.Common.{◌≡◌, ℕ, ◌+◌, ◌<◌, ◌≤◌, List, [], ◌∷◌, ◌++◌, length, get_or, take, sym, ap, ◌∙◌, arith, flat_map, enumerate_from, append_assoc, append-nil, take_more, get_or_from_slice_get, slice_get-get_or, get_or-enumerate_from, length-enumerate_from, flat_all}
 use Rattle.std.proofs.lemmas.List.Concat.{flat_map-append}
-use Rattle.std.proofs.lemmas.Option.{get_or_from_slice_get, slice_get-get_or}
-use Rattle.std.proofs.lemmas.List.FromFn.{get_or-enumerate_from, length-enumerate_from}
 
 -- one item more
 pub flat_more : {X Y : Type 0} (f : X → List Y) (xs : List X) (i : ℕ) (y : X) (a old next : List Y) → i < length xs → y ≡ get_or xs i y → old ≡ a ++ flat_map f (take i xs) → next ≡ old ++ f y → next ≡ a ++ flat_map f (take (i + 1) xs)
@@ -18,10 +13,6 @@ flat_more {X} {Y} f xs i y a old next lt is before added =
 -- an item that was read by its index
 pub flat_step : {X Y : Type 0} (f : X → List Y) (xs : List X) (i : ℕ) (d : X) (a old next : List Y) → i < length xs → old ≡ a ++ flat_map f (take i xs) → next ≡ old ++ f (get_or xs i d) → next ≡ a ++ flat_map f (take (i + 1) xs)
 flat_step f xs i d a old next lt before added = flat_more f xs i (get_or xs i d) a old next lt (sym (get_or_from_slice_get xs i (get_or xs i d) (get_or xs i d) (slice_get-get_or xs i d lt))) before added
-
--- all items
-pub flat_all : {X Y : Type 0} (f : X → List Y) (xs : List X) (i : ℕ) (a old : List Y) → length xs ≤ i → old ≡ a ++ flat_map f (take i xs) → old ≡ a ++ flat_map f xs
-flat_all {X} {Y} f xs i a old over before = before ∙ ap (λ (l : List X). a ++ flat_map f l) (take_all i xs over)
 
 -- the same of items with their numbers
 pub numbered_more : {X Y : Type 0} (f : ℕ × X → List Y) (xs : List X) (i : ℕ) (y : X) (a old next : List Y) → i < length xs → y ≡ get_or xs i y → old ≡ a ++ flat_map f (take i (enumerate_from 0 xs)) → next ≡ old ++ f (i, y)

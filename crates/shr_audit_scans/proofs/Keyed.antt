@@ -1,10 +1,8 @@
 -- Passes with one key are one.
-use Rattle.std.proofs.Common.{◌≡◌, ℕ, ◌+◌, ◌*◌, ◌^◌, ◌<◌, Bool, true, false, refl, sym, ap, ◌∙◌, inl, inr, arith}
-use Rattle.std.specs.Prelude.{◌==◌, ◌&&◌}
-use Rattle.std.proofs.lemmas.Bool.{cases_Bool, and_parts, and_from, eq-eqb, eqb-true}
-use Rattle.shr_base.specs.declared.places.Place.{Place}
-use Rattle.shr_report.specs.WellFormed.{IsNumbered}
-use Rattle.shr_audit_scans.specs.Keys.{key_of}
+use Rattle.shr_audit_scans.proofs.Common.{◌≡◌, ℕ, ◌+◌, ◌^◌, ◌<◌, false, ap, ◌∙◌, inl, inr, arith, ◌==◌, ◌&&◌, cases_Bool, eq-eqb, eqb-true, Place, IsNumbered, key_of}
+use Rattle.std.proofs.Common.{◌*◌}
+use Rattle.std.proofs.lemmas.Bool.{and_parts, and_from}
+use Rattle.shr_model.proofs.Booleans.{same_test}
 
 -- a number by its last digit of 16 bits and the rest
 long_digit : (q p r s : ℕ) → r < 2 ^ 16 → s < 2 ^ 16 → 65536 * q + r ≡ 65536 * p + s → (q ≡ p) × (r ≡ s)
@@ -27,17 +25,11 @@ one_pass worker walk worker' walk' p q few few' np nq e =
     let groups = last.1 in
     (first.1, (first.0, λ i. record { id = ids i; node = nodes i; group = groups i }))
 
-both_true : (a b : Bool) → (a ≡ true → b ≡ true) → (b ≡ true → a ≡ true) → a ≡ b
-both_true true true f g = refl
-both_true true false f g = sym (f refl)
-both_true false true f g = g refl
-both_true false false f g = refl
-
 -- the test of a key, at one place, is that of the worker and the walk
 pub key_here : (worker walk worker' walk' : ℕ) (p : Place) → worker < 2 ^ 16 → worker' < 2 ^ 16 → IsNumbered p
     → (key_of worker' walk' p == key_of worker walk p) ≡ ((worker' == worker) && (walk' == walk))
 key_here worker walk worker' walk' p few few' np =
-    both_true (key_of worker' walk' p == key_of worker walk p) ((worker' == worker) && (walk' == walk))
+    same_test (key_of worker' walk' p == key_of worker walk p) ((worker' == worker) && (walk' == walk))
     (λ t.
     let one = one_pass worker' walk' worker walk p p few' few np np (eqb-true (key_of worker' walk' p) (key_of worker walk p) t) in
     and_from (worker' == worker) (walk' == walk) (eq-eqb worker' worker one.0) (eq-eqb walk' walk one.1.0))

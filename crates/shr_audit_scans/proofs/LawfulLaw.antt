@@ -1,19 +1,11 @@
 -- A walk is lawful if and only if each of its fields was tested so.
-use Rattle.std.proofs.Common.{◌≡◌, ℕ, ◌<◌, Bool, false, List, length, get_or, Some, sym, ap, ◌∙◌}
-use Rattle.std.specs.Prelude.{slice_get}
-use Rattle.std.specs.Bool.{Decides}
-use Rattle.std.proofs.lemmas.Option.{slice_get-get_or}
+use Rattle.shr_audit_scans.proofs.Common.{◌≡◌, ℕ, ◌<◌, Bool, false, List, length, get_or, Some, sym, ap, ◌∙◌, slice_get, Decides, slice_get-get_or, WalkRecord, Report, IsLawfulWalk, clash, IsShaped, IsScannedAt}
 use Rattle.shr_base.specs.declared.scripts.Script.{Script}
-use Rattle.shr_base.specs.declared.walks.WalkRecord.{WalkRecord}
-use Rattle.shr_report.specs.declared.report.Report.{Report}
-use Rattle.shr_report.specs.LawfulWalk.{IsLawfulWalk}
 use Rattle.shr_formed.specs.Each.{Each}
-use Rattle.shr_formed.proofs.Eachs.{clash}
+use Rattle.shr_formed.proofs.Eachs.{fails}
 use Rattle.shr_audit_walks.specs.Counts.{AreCountsAt}
-use Rattle.shr_audit_walks.specs.Fields.{IsShaped}
 use Rattle.shr_audit_walks.specs.Kinds.{IsKindAt, IsStopAt}
 use Rattle.shr_audit_walks.proofs.ShapedLaw.{counts_are, kinds_are, memory_of, shaped_of, stops_are}
-use Rattle.shr_audit_scans.specs.Walks.{IsScannedAt}
 
 -- a walk of which all fields are so is lawful
 lawful_of : (s : Script) (r : Report) (worker n : ℕ) (w : WalkRecord) → IsShaped s w → Each (IsKindAt s r w.priority) w.attempts.items → Each (IsStopAt s r w) w.attempts.items
@@ -36,20 +28,17 @@ pub lawful_if : (s : Script) (r : Report) (worker n : ℕ) (w : WalkRecord) (b :
     → Each (AreCountsAt s r w) w.attempts.items → Decides b (Each (IsScannedAt s r worker n w) w.attempts.items) → Decides b (IsLawfulWalk s r worker n w)
 lawful_if s r worker n w b shaped kinds stops counts d = (λ t. lawful_of s r worker n w shaped kinds stops counts (d.0 t), λ h. d.1 h.scans)
 
-fails_in : (P Q : Type 0) (b : Bool) → Decides b P → b ≡ false → (Q → P) → Decides false Q
-fails_in P Q b d f step = (λ t. absurd cc, λ h. absurd (clash b (d.1 (step h)) f))
-
 pub not_shaped : (s : Script) (r : Report) (worker n : ℕ) (w : WalkRecord) (b : Bool) → Decides b (IsShaped s w) → b ≡ false → Decides false (IsLawfulWalk s r worker n w)
-not_shaped s r worker n w b d f = fails_in (IsShaped s w) (IsLawfulWalk s r worker n w) b d f (shaped_of s r worker n w)
+not_shaped s r worker n w b d f = fails (IsShaped s w) (IsLawfulWalk s r worker n w) b d f (shaped_of s r worker n w)
 
 pub not_kinds : (s : Script) (r : Report) (worker n : ℕ) (w : WalkRecord) (b : Bool) → Decides b (Each (IsKindAt s r w.priority) w.attempts.items) → b ≡ false → Decides false (IsLawfulWalk s r worker n w)
-not_kinds s r worker n w b d f = fails_in (Each (IsKindAt s r w.priority) w.attempts.items) (IsLawfulWalk s r worker n w) b d f (λ h. h.kinds)
+not_kinds s r worker n w b d f = fails (Each (IsKindAt s r w.priority) w.attempts.items) (IsLawfulWalk s r worker n w) b d f (λ h. h.kinds)
 
 pub not_stops : (s : Script) (r : Report) (worker n : ℕ) (w : WalkRecord) (b : Bool) → Decides b (Each (IsStopAt s r w) w.attempts.items) → b ≡ false → Decides false (IsLawfulWalk s r worker n w)
-not_stops s r worker n w b d f = fails_in (Each (IsStopAt s r w) w.attempts.items) (IsLawfulWalk s r worker n w) b d f (λ h. h.stops)
+not_stops s r worker n w b d f = fails (Each (IsStopAt s r w) w.attempts.items) (IsLawfulWalk s r worker n w) b d f (λ h. h.stops)
 
 pub not_counts : (s : Script) (r : Report) (worker n : ℕ) (w : WalkRecord) (b : Bool) → Decides b (Each (AreCountsAt s r w) w.attempts.items) → b ≡ false → Decides false (IsLawfulWalk s r worker n w)
-not_counts s r worker n w b d f = fails_in (Each (AreCountsAt s r w) w.attempts.items) (IsLawfulWalk s r worker n w) b d f (λ h. h.counts)
+not_counts s r worker n w b d f = fails (Each (AreCountsAt s r w) w.attempts.items) (IsLawfulWalk s r worker n w) b d f (λ h. h.counts)
 
 -- one item by its number that isn't so
 pub one_fails : {X : Type 0} (P : ℕ → X → Type 0) (xs : List X) (i : ℕ) (x : X) (b : Bool) → i < length xs → x ≡ get_or xs i x → Decides b (P i x) → b ≡ false → Decides false ((n : ℕ) (y : X) → slice_get xs n ≡ Some y → P n y)

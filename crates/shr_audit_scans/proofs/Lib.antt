@@ -1,3 +1,4 @@
+mod Common
 mod Keyed
 mod Noted
 mod Ordered

@@ -1,31 +1,16 @@
 -- The Scan entries of lists, noted one list after another.
-use Rattle.std.proofs.Common.{◌≡◌, ◌≢◌, ℕ, zero, suc, ◌+◌, ◌^◌, ◌<◌, ◌≤◌, Bool, true, false, cond, List, [], ◌∷◌, ◌++◌, length, get_or, map, take, Option, Some, None, refl, sym, ap, subst, ◌∙◌, ◌⊎◌, inl, inr, arith}
-use Rattle.std.specs.Prelude.{◌==◌, ◌&&◌, filter_map, slice_get}
-use Rattle.std.specs.List.{AllByRecursion, enumerate_from}
+use Rattle.shr_audit_scans.proofs.Common.{◌≡◌, ℕ, zero, suc, ◌+◌, ◌^◌, ◌<◌, ◌≤◌, Bool, true, false, cond, List, [], ◌∷◌, ◌++◌, length, get_or, take, Option, Some, None, refl, sym, ap, subst, ◌∙◌, inl, inr, arith, ◌==◌, ◌&&◌, filter_map, slice_get, AllByRecursion, enumerate_from, cases_Bool, append-nil, append_assoc, take_more, get_or-enumerate_from, length-enumerate_from, get_or_from_slice_get, slice_get_within, PlaceEnd, Entry, Add, Look, Drop, Pin, Scan, MovedIn, Closed, Drained, Place, is_place, is_place_same, is_place_itself, IsEntryNumbered, IsListNumbered, IsNumbered, IsFirst, clash, each_in, ScanSeen, key_of, row_key, AreRowsOf, row_of, rows_of, rows_with, with_key}
+use Rattle.std.proofs.Common.{◌≢◌, map, ◌⊎◌}
 use Rattle.std.specs.Option.{option_or}
-use Rattle.std.proofs.lemmas.Bool.{cases_Bool}
-use Rattle.std.proofs.lemmas.List.{append-nil, append_assoc, map-append, take_more, take_all}
+use Rattle.std.proofs.lemmas.List.{map-append, take_all}
 use Rattle.std.proofs.lemmas.List.Elements.{filter-append, filter_map-append}
 use Rattle.std.proofs.lemmas.List.Folds.{find-append}
-use Rattle.std.proofs.lemmas.List.FromFn.{get_or-enumerate_from, length-enumerate_from}
-use Rattle.std.proofs.lemmas.Option.{get_or_from_slice_get, slice_get_within}
-use Rattle.shr_base.specs.declared.ends.PlaceEnd.{PlaceEnd}
-use Rattle.shr_base.specs.declared.journals.Entry.{Entry}
-use Rattle.shr_base.specs.declared.journals.Entry.TheVariants.{Add, Look, Drop, Pin, Scan, MovedIn, Closed, Drained}
-use Rattle.shr_base.specs.declared.places.Place.{Place}
-use Rattle.shr_model.specs.Places.{is_place}
 use Rattle.shr_model.specs.Scans.{ScanMade, scan_by, scans_by}
-use Rattle.shr_model.proofs.PlacesLaws.{is_place_same, is_place_itself}
-use Rattle.shr_report.specs.Numbers.{IsEntryNumbered, IsListNumbered}
 use Rattle.shr_report.specs.Parts.{journal_of}
-use Rattle.shr_report.specs.WellFormed.{IsNumbered}
-use Rattle.shr_case.specs.Places.{IsFirst, end_of}
+use Rattle.shr_case.specs.Places.{end_of}
 use Rattle.shr_case.proofs.Firsts.{found_or_none}
-use Rattle.shr_formed.proofs.Eachs.{clash, each_in}
-use Rattle.shr_audit_walks.specs.declared.scans.ScanSeen.{ScanSeen}
 use Rattle.shr_audit_walks.specs.Scans.{made_of}
-use Rattle.shr_audit_scans.specs.Keys.{key_of, row_key}
-use Rattle.shr_audit_scans.specs.Rows.{AddsRowsOf, AreRowsOf, row_of, rows_of, rows_with, with_key}
+use Rattle.shr_audit_scans.specs.Rows.{AddsRowsOf}
 use Rattle.shr_audit_scans.proofs.Keyed.{key_here, key_elsewhere}
 
 -- ---- one entry more

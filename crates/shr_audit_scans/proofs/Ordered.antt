@@ -1,14 +1,9 @@
 -- A stable sort by keys leaves the rows of each key in order.
-use Rattle.std.proofs.Common.{◌≡◌, ℕ, not, List, sym, ap, ◌∙◌, arith}
-use Rattle.std.specs.Prelude.{◌==◌, ◌&&◌}
+use Rattle.shr_audit_scans.proofs.Common.{◌≡◌, ℕ, List, sym, ap, ◌∙◌, arith, ◌==◌, ◌&&◌, nat_cmp, Plain, ScanSeen, row_key, with_key}
 use Rattle.std.specs.List.Sorted.{IsStableByKey, ties}
-use Rattle.std.specs.Ordering.{nat_cmp, is_lt}
-use Rattle.std.proofs.lemmas.Bool.Decides.{nat_tests}
+use Rattle.std.specs.Ordering.{is_lt}
 use Rattle.std.proofs.lemmas.List.Elements.{filter_agree}
-use Rattle.shr_base.specs.declared.objects.Policy.TheVariants.{Plain}
-use Rattle.shr_audit_walks.specs.declared.scans.ScanSeen.{ScanSeen}
-use Rattle.shr_audit_scans.specs.Keys.{row_key}
-use Rattle.shr_audit_scans.specs.Rows.{with_key}
+use Rattle.shr_model.proofs.Numbers.{tie}
 
 -- a row with any key
 abbrev row_with : ℕ → ScanSeen
@@ -16,9 +11,6 @@ row_with key = record { worker = 0; walk = 0; place = record { id = 0; node = 0;
 
 its_key : (key : ℕ) → row_key (row_with key) ≡ key
 its_key key = omega arith
-
-tie : (a b : ℕ) → (not (is_lt (nat_cmp a b)) && not (is_lt (nat_cmp b a))) ≡ (b == a)
-tie a b = grind (arith, nat_tests)
 
 pub same_order : (old new : List ScanSeen) → IsStableByKey row_key nat_cmp old new → (key : ℕ) → with_key key new ≡ with_key key old
 same_order old new stable key =

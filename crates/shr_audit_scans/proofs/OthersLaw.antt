@@ -1,21 +1,10 @@
 -- That there is no Scan entry of a walk but those of passes, list by list.
-use Rattle.std.proofs.Common.{◌≡◌, ℕ, zero, suc, ◌+◌, ◌<◌, ◌≤◌, Bool, true, false, List, [], ◌∷◌, length, Some, refl, sym, subst, inl, inr, arith}
-use Rattle.std.specs.Prelude.{◌==◌, slice_get}
-use Rattle.std.specs.Bool.{Decides}
-use Rattle.std.proofs.lemmas.Bool.{cases_Bool, eq-eqb, eqb-true}
-use Rattle.shr_base.specs.declared.ends.PlaceEnd.{PlaceEnd}
-use Rattle.shr_base.specs.declared.journals.Entry.{Entry}
-use Rattle.shr_base.specs.declared.journals.Entry.TheVariants.{Add, Look, Drop, Pin, Scan, MovedIn, Closed, Drained}
-use Rattle.shr_base.specs.declared.places.Place.{Place}
-use Rattle.shr_report.specs.declared.report.Report.{Report}
-use Rattle.shr_report.specs.Numbers.{HasNumbers, IsEntryNumbered, IsListNumbered}
+use Rattle.shr_audit_scans.proofs.Common.{◌≡◌, ℕ, zero, suc, ◌+◌, ◌<◌, ◌≤◌, Bool, true, false, List, [], ◌∷◌, length, Some, refl, sym, subst, inl, inr, arith, ◌==◌, slice_get, Decides, cases_Bool, eq-eqb, eqb-true, PlaceEnd, Entry, Add, Look, Drop, Pin, Scan, MovedIn, Closed, Drained, Place, Report, HasNumbers, IsEntryNumbered, IsListNumbered, IsNumbered, IsFirst, all_at, clash, each_in, IsEntryOfPass}
 use Rattle.shr_report.specs.Parts.{EachEntry}
 use Rattle.shr_report.specs.WalksLawful.{IsOfPass}
-use Rattle.shr_report.specs.WellFormed.{IsNumbered}
-use Rattle.shr_case.specs.Places.{IsFirst}
 use Rattle.shr_case.proofs.Eachs.{each_entry_of}
-use Rattle.shr_formed.proofs.Eachs.{all_at, clash, each_in}
-use Rattle.shr_audit_scans.specs.Others.{AreOfPasses, IsEntryOfPass}
+use Rattle.shr_formed.proofs.Eachs.{same_or_below}
+use Rattle.shr_audit_scans.specs.Others.{AreOfPasses}
 use Rattle.shr_audit_scans.proofs.Passed.{is_passed}
 
 -- what an entry's key says is what the law asks
@@ -81,9 +70,6 @@ others_fail r ends k b numbers e lt dec f =
           by_key r end.place x numbers numbered.place (entry_numbered end n x numbered here)
           (h k end at (subst (λ (xs : List PlaceEnd). IsFirst xs k end.place) e first) n x here))) f),
     )
-
-same_or_below : (n i : ℕ) → n < i + 1 → (n ≡ i → ⊥) → n < i
-same_or_below n i lt ne = grind arith
 
 pub others_more : (r : Report) (ends : List PlaceEnd) (k : ℕ) (b : Bool) → ((end : PlaceEnd) → slice_get ends k ≡ Some end → Decides b (IsListOfPasses r ends k end)) → b ≡ true
     → ((j : ℕ) (end : PlaceEnd) → j < k → slice_get ends j ≡ Some end → IsListOfPasses r ends j end)

@@ -1,13 +1,5 @@
 -- Keys, rows and passes at known values.
-use Rattle.std.proofs.Common.{◌≡◌, ℕ, [], ◌∷◌, None, Some, false, refl}
-use Rattle.shr_base.specs.declared.journals.Entry.{Entry}
-use Rattle.shr_base.specs.declared.journals.Entry.TheVariants.{Scan, Closed}
-use Rattle.shr_base.specs.declared.objects.Policy.TheVariants.{Plain}
-use Rattle.shr_base.specs.declared.places.Place.{Place}
-use Rattle.shr_audit_walks.specs.declared.scans.ScanSeen.{ScanSeen}
-use Rattle.shr_audit_scans.specs.Keys.{key_of, row_key}
-use Rattle.shr_audit_scans.specs.Passes.{key_if}
-use Rattle.shr_audit_scans.specs.Rows.{row_of, rows_of, rows_with, with_key}
+use Rattle.shr_audit_scans.proofs.Common.{◌≡◌, ℕ, [], ◌∷◌, None, Some, false, refl, Entry, Scan, Closed, Plain, Place, ScanSeen, key_of, row_key, key_if, row_of, rows_of, rows_with, with_key}
 
 abbrev place : ℕ → ℕ → ℕ → Place
 place id node group = record { id = id; node = node; group = group }

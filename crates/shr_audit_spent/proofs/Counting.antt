@@ -1,22 +1,15 @@
 -- Operations and puts counted one after another.
-use Rattle.std.proofs.Common.{◌≡◌, ℕ, zero, suc, ◌+◌, ◌<◌, ◌≤◌, Bool, true, false, cond, List, [], ◌∷◌, ◌++◌, length, length-append, set, get_or, refl, sym, ap, subst, ◌∙◌, arith}
-use Rattle.std.specs.Prelude.{count_by, filter}
+use Rattle.shr_audit_spent.proofs.Common.{◌≡◌, ℕ, ◌+◌, ◌<◌, ◌≤◌, Bool, true, false, List, [], ◌∷◌, ◌++◌, length, length-append, get_or, refl, sym, ap, subst, ◌∙◌, arith, filter, UseStep, AreCounted, IsCapped, is_of_kind, zero_more}
+use Rattle.std.proofs.Common.{cond, set}
+use Rattle.std.specs.Prelude.{count_by}
 use mathlib.Core.Logic.{dite}
 use native.Mathlib.Decide.{ℕ_discrete}
 use Rattle.std.proofs.lemmas.Bool.{eq-eqb, ne_eqb}
 use Rattle.std.proofs.lemmas.List.{get_or-set_same, get_or-set_other, length-set}
 use Rattle.std.proofs.lemmas.List.Elements.{filter-append}
 use Rattle.std.proofs.lemmas.List.Sums.{length-filter}
-use Rattle.shr_base.specs.declared.journals.UseStep.{UseStep}
 use Rattle.shr_report.specs.Causes.{is_of_worker}
-use Rattle.shr_audit_spent.specs.Counted.{AreCounted, IsCapped, is_of_kind, steps_of}
-
--- one number 0 more
-pub zero_more : (xs : List ℕ) → ((i : ℕ) → get_or xs i 0 ≡ 0) → (i : ℕ) → get_or (xs ++ 0 ∷ []) i 0 ≡ 0
-zero_more [] all zero = refl
-zero_more [] all (suc i) = refl
-zero_more (x ∷ xs) all zero = all 0
-zero_more (x ∷ xs) all (suc i) = zero_more xs (λ j. all (suc j)) i
+use Rattle.shr_audit_spent.specs.Counted.{steps_of}
 
 one_in : {X : Type 0} (p : X → Bool) (y : X) (b : Bool) → p y ≡ b → length (filter p (y ∷ [])) ≡ cond b 1 0
 one_in p y true e = rw e refl

@@ -1,11 +1,7 @@
 -- What is so of whatever was found, and of each walk of the pools.
-use Rattle.std.proofs.Common.{◌≡◌, ℕ, Bool, [], Option, Some, None, refl, sym, ap, subst, ◌∙◌, arith}
-use Rattle.std.specs.Prelude.{slice_get}
-use Rattle.std.specs.Bool.{Decides}
+use Rattle.shr_audit_spent.proofs.Common.{◌≡◌, ℕ, Bool, [], Option, Some, refl, sym, ap, subst, ◌∙◌, arith, slice_get, Decides, WorkerPart, PlainWalk, Report}
+use Rattle.std.proofs.Common.{None}
 use Rattle.std.proofs.lemmas.Option.{slice_get_within}
-use Rattle.shr_base.specs.declared.ends.WorkerPart.{WorkerPart}
-use Rattle.shr_base.specs.declared.walks.PlainWalk.{PlainWalk}
-use Rattle.shr_report.specs.declared.report.Report.{Report}
 use Rattle.shr_report.specs.UnitParts.{EachPlain, plain_in}
 use Rattle.shr_case.specs.Each.{InParts}
 

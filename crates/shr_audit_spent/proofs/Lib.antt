@@ -1,3 +1,4 @@
+mod Common
 mod Counting
 mod Finding
 mod SpentValues

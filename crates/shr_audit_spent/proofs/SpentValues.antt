@@ -1,12 +1,9 @@
 -- What is counted, and what is tested of passes, at known values.
-use Rattle.std.proofs.Common.{◌≡◌, true, false, [], refl, arith}
-use Rattle.std.specs.Prelude.{◌^◌}
+use Rattle.shr_audit_spent.proofs.Common.{◌≡◌, true, false, [], refl, arith, ◌^◌, IsCapped, closed_of, is_of_kind, IsEndSpent}
 use Rattle.shr_base.specs.declared.places.Place.{Place}
 use Rattle.shr_base.specs.declared.replies.Spent.TheVariants as spent
 use Rattle.shr_base.specs.declared.walks.Ending.TheVariants as ending
 use Rattle.shr_report.proofs.FirstReport.{report}
-use Rattle.shr_audit_spent.specs.Counted.{IsCapped, closed_of, is_of_kind}
-use Rattle.shr_audit_spent.specs.Passes.{IsEndSpent}
 
 -- ---- counts
 

@@ -1,26 +1,21 @@
 -- Marks of groups on nodes, walk by walk.
-use Rattle.std.proofs.Common.{◌≡◌, ℕ, zero, suc, ◌+◌, ◌-◌, ◌*◌, ◌<◌, ◌≤◌, Bool, true, false, cond, List, [], ◌∷◌, ◌++◌, length, get_or, set, take, drop, Some, refl, sym, ap, subst, ◌∙◌, arith}
-use Rattle.std.specs.Prelude.{◌&&◌, ◌==◌, nat_lt, flat_map, sum_by}
-use Rattle.std.specs.Bool.{Decides}
+use Rattle.shr_audit_sweep.proofs.Common.{◌≡◌, ℕ, ◌+◌, ◌*◌, ◌<◌, ◌≤◌, Bool, true, false, cond, List, [], ◌∷◌, ◌++◌, length, get_or, take, Some, refl, sym, ap, subst, ◌∙◌, arith, ◌&&◌, ◌==◌, sum_by, Decides, length-set, Script, Sweep, WalkRecord, Report, parents_of, sweep_walks, Each, clash, AreMarked, IsGroupMarked, job_index}
+use Rattle.std.proofs.Common.{◌-◌, set, drop}
+use Rattle.std.specs.Prelude.{nat_lt, flat_map}
 use Rattle.std.specs.List.{range_with_len}
 use Rattle.std.proofs.lemmas.Bool.{eq-eqb, eqb-true}
 use Rattle.std.proofs.lemmas.Bool.Decides.{nat_tests}
 use Rattle.std.proofs.lemmas.Grind.{flat_map-append}
-use Rattle.std.proofs.lemmas.List.{append_assoc, drop_more, get_or-set_same, get_or-set_other, length-map, length-set, take-append-drop, take_all, take_more}
+use Rattle.std.proofs.lemmas.List.{append_assoc, drop_more, get_or-set_same, get_or-set_other, length-map, take-append-drop, take_all, take_more}
 use Rattle.std.proofs.lemmas.List.Sums.{sum_by-append, sum_by-cons}
 use Rattle.std.proofs.lemmas.Nat.{mul-add-lt, same_from_place}
 use Rattle.std.proofs.lemmas.Option.{slice_get-get_or}
 use Rattle.shr_base.specs.declared.scripts.GroupDecl.{GroupDecl}
-use Rattle.shr_base.specs.declared.scripts.Script.{Script}
-use Rattle.shr_base.specs.declared.scripts.Sweep.{Sweep}
-use Rattle.shr_base.specs.declared.walks.WalkRecord.{WalkRecord}
-use Rattle.shr_report.specs.declared.report.Report.{Report}
-use Rattle.shr_report.specs.Parts.{parents_of}
-use Rattle.shr_report.specs.Swept.{IsSweepRight, all_sweep_walks, sweep_walks}
-use Rattle.shr_formed.specs.Each.{Each}
-use Rattle.shr_formed.proofs.Eachs.{clash}
+use Rattle.shr_report.specs.Swept.{IsSweepRight, all_sweep_walks}
 use Rattle.shr_audit_sweep.specs.Swept.{AreAnswered, AreSweptOut}
-use Rattle.shr_audit_sweep.specs.Marks.{AreMarked, AreOnce, AreWalked, IsGroupMarked, IsWithin, job_index, times_in}
+use Rattle.shr_audit_sweep.specs.Marks.{AreOnce, AreWalked, IsWithin, times_in}
+use Rattle.shr_model.proofs.PiecesLaws.{and_true}
+use Rattle.shr_model.proofs.Numbers.{range_more}
 
 abbrev is_of : ℕ → ℕ → WalkRecord → Bool
 is_of group node w = (w.group == group) && (w.node == node)
@@ -45,11 +40,6 @@ times_one ws w group node =
 
 one_itself : (w : WalkRecord) → one_of w.group w.node w ≡ 1
 one_itself w = ap (λ (b : Bool). cond (b && (w.node == w.node)) 1 0) (eq-eqb w.group w.group refl) ∙ ap (λ (b : Bool). cond b 1 0) (eq-eqb w.node w.node refl)
-
-both : (a b : Bool) → (a && b) ≡ true → (a ≡ true) × (b ≡ true)
-both true true e = (refl, refl)
-both true false e = absurd cc
-both false b e = absurd cc
 
 positive : (n : ℕ) → 0 < n → nat_lt 0 n ≡ true
 positive n lt = grind (arith, nat_tests)
@@ -78,7 +68,7 @@ mark_more groups nodes before w marks within h fresh = record {
 
     each : (group node : ℕ) → group < groups → node < nodes → (b : Bool) → is_of group node w ≡ b → get_or (set marks (job_index nodes w.group w.node) true) (job_index nodes group node) false ≡ nat_lt 0 (times_in (before ++ w ∷ []) group node)
     each group node g n true own =
-        let t = both (w.group == group) (w.node == node) own in
+        let t = and_true (w.group == group) (w.node == node) own in
         let same_group : w.group ≡ group = eqb-true w.group group t.0 in
         let same_node : w.node ≡ node = eqb-true w.node node t.1 in
         let one : one_of group node w ≡ 1 = ap (λ (b : Bool). cond b 1 0) own in
@@ -100,7 +90,7 @@ mark_more groups nodes before w marks within h fresh = record {
 
     once : (group node : ℕ) (b : Bool) → is_of group node w ≡ b → times_in (before ++ w ∷ []) group node ≤ 1
     once group node true own =
-        let t = both (w.group == group) (w.node == node) own in
+        let t = and_true (w.group == group) (w.node == node) own in
         let same_group : w.group ≡ group = eqb-true w.group group t.0 in
         let same_node : w.node ≡ node = eqb-true w.node node t.1 in
         let one : one_of group node w ≡ 1 = ap (λ (b : Bool). cond b 1 0) own in
@@ -155,12 +145,6 @@ pub walks_all : (groups nodes : ℕ) (before walks : List WalkRecord) (i : ℕ) 
 walks_all groups nodes before walks i marks over h = subst (λ (ws : List WalkRecord). AreMarked groups nodes (before ++ ws) marks) (take_all i walks over) h
 
 -- ---- all workers
-
-range_more : (a n m : ℕ) → range_with_len a (n + m) ≡ range_with_len a n ++ range_with_len (a + n) m
-range_more a zero m = ap (range_with_len a) (let e : 0 + m ≡ m = omega arith in e) ∙ ap (λ (k : ℕ). range_with_len k m) (let e : a ≡ a + 0 = omega arith in e)
-range_more a (suc n) m =
-    ap (range_with_len a) (let e : suc n + m ≡ suc (n + m) = omega arith in e)
-    ∙ ap (λ (ks : List ℕ). a ∷ ks) (range_more (a + 1) n m ∙ ap (λ (k : ℕ). range_with_len (a + 1) n ++ range_with_len k m) (let e : a + 1 + n ≡ a + suc n = omega arith in e))
 
 abbrev pub swept_to : Script → Report → ℕ → List WalkRecord
 swept_to s r worker = flat_map (sweep_walks s r) (range_with_len 0 worker)

@@ -1,29 +1,16 @@
 -- The walks that a worker made for the sweep, in its part.
-use Rattle.std.proofs.Common.{◌≡◌, ℕ, suc, ◌<◌, ◌≤◌, Bool, true, false, cond, List, [], ◌∷◌, length, get_or, Option, Some, None, refl, sym, ap, ◌∙◌, arith}
-use Rattle.std.specs.Prelude.{◌==◌, ◌&&◌, filter, is_some, not, slice_get}
-use Rattle.std.specs.Bool.{Decides}
-use Rattle.std.proofs.lemmas.Bool.Decides.{nat_tests}
-use Rattle.std.proofs.lemmas.Option.{slice_get-get_or}
-use Rattle.shr_base.specs.declared.ends.WorkerPart.{WorkerPart}
+use Rattle.shr_audit_sweep.proofs.Common.{◌≡◌, ℕ, ◌<◌, ◌≤◌, Bool, true, false, cond, List, [], ◌∷◌, length, get_or, Some, refl, sym, ap, ◌∙◌, ◌==◌, ◌&&◌, slice_get, Decides, WorkerPart, Script, Sweep, WalkRecord, Report, IsSweepWalk, IsSwept, sweep_serial, sweep_walks, Each, clash}
+use Rattle.std.proofs.Common.{suc, Option, None}
+use Rattle.std.specs.Prelude.{filter, is_some, not}
 use Rattle.shr_base.specs.declared.replies.Answered.{Answered}
-use Rattle.shr_base.specs.declared.scripts.Script.{Script}
-use Rattle.shr_base.specs.declared.scripts.Sweep.{Sweep}
-use Rattle.shr_base.specs.declared.walks.WalkRecord.{WalkRecord}
 use Rattle.shr_model.specs.Commands.{is_serial}
-use Rattle.shr_report.specs.declared.report.Report.{Report}
 use Rattle.shr_report.specs.Parts.{commands_of, serial_of, walks_in}
-use Rattle.shr_report.specs.Swept.{IsSweepWalk, IsSwept, sweep_serial, sweep_walks}
 use Rattle.shr_report.specs.WellFormed.{IsWellFormed}
-use Rattle.shr_formed.specs.Each.{Adjacent, Each, IsOf}
-use Rattle.shr_formed.proofs.Eachs.{all_of, clash, each_in}
+use Rattle.shr_formed.specs.Each.{Adjacent, IsOf}
+use Rattle.shr_formed.proofs.Eachs.{all_of, each_in}
 use Rattle.shr_formed.proofs.WellParts.{parts_of}
 use Rattle.shr_audit_sweep.specs.Swept.{IsTold}
-
-here_at : {X : Type 0} (xs ys : List X) (i : ℕ) (x : X) → xs ≡ ys → i < length xs → x ≡ get_or xs i x → slice_get ys i ≡ Some x
-here_at {X} xs ys i x e lt is = ap (λ (zs : List X). slice_get zs i) (sym e) ∙ (slice_get-get_or xs i x lt ∙ ap (λ (y : X). Some y) (sym is))
-
-same_test : (worker n a b : ℕ) → a ≡ worker → ((worker == a) && (n == b)) ≡ (b == n)
-same_test worker n a b e = grind (arith, nat_tests)
+use Rattle.shr_audit_walks.proofs.Answered.{here_at, same_test}
 
 own_walks : (worker n answers : ℕ) (walks : List WalkRecord) → Each (λ x. IsOf worker answers x.by) walks → filter (λ (w : WalkRecord). is_serial (serial_of worker n) w.by) walks ≡ filter (λ (w : WalkRecord). w.by.command == n) walks
 own_walks worker n answers [] h = refl

@@ -1,17 +1,8 @@
 -- Printed words that stand by place, and places that no table has.
-use Rattle.std.proofs.Common.{◌≡◌, ℕ, suc, ◌+◌, ◌<◌, ◌≤◌, ◌^◌, ◌⊎◌, inl, inr, Bool, true, false, cond, List, [], ◌∷◌, length, get_or, Some, refl, sym, subst, ◌∙◌, arith}
-use Rattle.std.specs.Prelude.{◌==◌, find, sum_by}
-use Rattle.std.specs.List.{AllByRecursion, AllAdjacentBelow}
-use Rattle.std.proofs.lemmas.Bool.{cases_lt}
-use Rattle.std.proofs.lemmas.Bool.Decides.{nat_tests}
-use Rattle.std.proofs.lemmas.List.Sums.{sum_by-cons}
-use Rattle.shr_base.specs.declared.places.Place.{Place}
-use Rattle.shr_base.specs.declared.ends.PlaceAmount.{PlaceAmount}
-use Rattle.shr_model.specs.Places.{is_place}
-use Rattle.shr_model.specs.Deferred.{amount_at, sum_at}
+use Rattle.shr_audit_tables.proofs.Common.{◌≡◌, ℕ, suc, ◌+◌, ◌<◌, ◌≤◌, ◌^◌, ◌⊎◌, inl, inr, Bool, true, false, cond, List, [], ◌∷◌, length, get_or, Some, refl, sym, subst, ◌∙◌, arith, ◌==◌, sum_by, AllByRecursion, AllAdjacentBelow, cases_lt, nat_tests, sum_by-cons, Place, PlaceAmount, is_place, amount_at, sum_at, IsAmountWell, place_key, IsNarrow}
+use Rattle.std.specs.Prelude.{find}
 use Rattle.shr_report.specs.Deferred.{amount_in}
-use Rattle.shr_report.specs.WellFormed.{IsAmountWell, IsNumbered, IsPlaceBefore}
-use Rattle.shr_sums.specs.Deferred.{place_key, IsNarrow}
+use Rattle.shr_report.specs.WellFormed.{IsNumbered, IsPlaceBefore}
 
 -- ---- places and their numbers
 

@@ -1,24 +1,13 @@
 -- The law on deferred words: what well formed gives of it, and its fields put together.
-use Rattle.std.proofs.Common.{◌≡◌, ℕ, zero, suc, ◌+◌, ◌<◌, ◌≤◌, ◌⊎◌, inl, inr, List, [], ◌∷◌, length, get_or, Option, Some, None, refl, sym, ap, subst, ◌∙◌, arith}
-use Rattle.std.specs.Prelude.{slice_get}
-use Rattle.std.specs.List.{AllByRecursion, AllAdjacentBelow}
+use Rattle.shr_audit_tables.proofs.Common.{◌≡◌, ℕ, zero, suc, ◌+◌, ◌<◌, ◌≤◌, ◌⊎◌, inl, inr, List, [], ◌∷◌, length, get_or, Option, Some, None, refl, sym, ap, subst, ◌∙◌, arith, slice_get, AllByRecursion, AllAdjacentBelow, cases_lt, cases_order, slice_get_within, Place, Carry, PlaceAmount, WorkerPart, Script, Report, IsCarryRight, parents_of, IsAmountWell, IsWellFormed, Each, AreWordsRight}
 use Rattle.std.specs.List.Sorted.{IsNonDecreasingBy}
-use Rattle.std.proofs.lemmas.Bool.{cases_lt, cases_order}
 use Rattle.std.proofs.lemmas.List.Sorted.{IsNonDecreasingBy-from_all_adjacent}
-use Rattle.std.proofs.lemmas.Option.{get_or_from_slice_get, slice_get_within}
-use Rattle.shr_base.specs.declared.places.Place.{Place}
+use Rattle.std.proofs.lemmas.Option.{get_or_from_slice_get}
 use Rattle.shr_base.specs.declared.places.Serial.{Serial}
-use Rattle.shr_base.specs.declared.walks.Carry.{Carry}
-use Rattle.shr_base.specs.declared.ends.PlaceAmount.{PlaceAmount}
-use Rattle.shr_base.specs.declared.ends.WorkerPart.{WorkerPart}
-use Rattle.shr_base.specs.declared.scripts.Script.{Script}
-use Rattle.shr_report.specs.declared.report.Report.{Report}
-use Rattle.shr_report.specs.Deferred.{IsCarryRight, IsDeferredLawful}
-use Rattle.shr_report.specs.Parts.{parents_of, carries_in}
-use Rattle.shr_report.specs.WellFormed.{IsAmountWell, IsBefore, IsCarryBefore, IsWellFormed}
-use Rattle.shr_formed.specs.Each.{Each}
+use Rattle.shr_report.specs.Deferred.{IsDeferredLawful}
+use Rattle.shr_report.specs.Parts.{carries_in}
+use Rattle.shr_report.specs.WellFormed.{IsBefore, IsCarryBefore}
 use Rattle.shr_formed.proofs.Eachs.{below_of, unmapped}
-use Rattle.shr_audit_tables.specs.Deferred.{AreWordsRight}
 use Rattle.shr_audit_tables.proofs.Steps.{in_a_row, from_a_row}
 
 then_before : (a b c d e f : ℕ) → IsBefore a b c d → IsBefore c d e f → IsBefore a b e f

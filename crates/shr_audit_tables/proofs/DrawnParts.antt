@@ -1,28 +1,11 @@
 -- The numbers of lookups of an id, among those of all workers.
-use Rattle.std.proofs.Common.{◌≡◌, ◌≢◌, ℕ, ◌+◌, ◌/◌, ◌%◌, ◌^◌, ◌<◌, ◌≤◌, ◌⊎◌, inl, inr, ⊎_elim, Bool, true, false, cond, List, [], ◌∷◌, ◌++◌, length, get_or, Option, Some, None, refl, sym, ap, subst, ◌∙◌, arith}
-use Rattle.std.specs.Prelude.{◌==◌, ◌&&◌, nat_lt, count_by, filter, filter_map, flat_map, slice_index, option_and_then, if◌then◌else◌}
-use Rattle.std.specs.Bool.{Decides}
-use Rattle.std.specs.List.{AllByRecursion, cons_option}
-use Rattle.std.proofs.lemmas.Bool.{cases_lt}
-use Rattle.std.proofs.lemmas.Bool.Decides.{nat_tests, Decides-like}
-use Rattle.std.proofs.lemmas.List.{get_or_past}
-use Rattle.std.proofs.lemmas.List.Concat.{flat_map-append}
-use Rattle.std.proofs.lemmas.List.Sums.{sum_by-cons, sum_by-append}
-use Rattle.std.proofs.lemmas.Option.{slice_get-get_or}
+use Rattle.shr_audit_tables.proofs.Common.{◌≡◌, ◌≢◌, ℕ, ◌+◌, ◌/◌, ◌%◌, ◌^◌, ◌<◌, ◌≤◌, ◌⊎◌, inl, inr, ⊎_elim, Bool, true, false, cond, List, [], ◌∷◌, ◌++◌, length, get_or, Option, Some, None, refl, sym, ap, subst, ◌∙◌, arith, ◌==◌, ◌&&◌, nat_lt, count_by, filter, filter_map, flat_map, slice_index, Decides, AllByRecursion, cons_option, cases_lt, nat_tests, Decides-like, get_or_past, flat_map-append, sum_by-cons, sum_by-append, slice_get-get_or, Answered, Attempt, WalkRecord, WorkerPart, number_of, Report, HasNumbers, IsPartNumbered, IsWalkNumbered, lookups_at, Each, AreDrawnOnce, IsDrawn, found_draws, answer_draws, tried_draws, attempt_draws, draw_key, part_draws, walk_draws}
+use Rattle.std.specs.Prelude.{option_and_then, if◌then◌else◌}
 use Rattle.shr_base.specs.declared.replies.Found.{Found}
-use Rattle.shr_base.specs.declared.replies.Answered.{Answered}
-use Rattle.shr_base.specs.declared.walks.Attempt.{Attempt}
 use Rattle.shr_base.specs.declared.walks.Outcome.{Outcome}
 use Rattle.shr_base.specs.declared.walks.Outcome.TheVariants as outcome
-use Rattle.shr_base.specs.declared.walks.WalkRecord.{WalkRecord}
-use Rattle.shr_base.specs.declared.ends.WorkerPart.{WorkerPart}
-use Rattle.shr_model.specs.Attempts.{number_of}
-use Rattle.shr_report.specs.declared.report.Report.{Report}
 use Rattle.shr_report.specs.Lookups.{found_number, found_numbers, tried_numbers}
-use Rattle.shr_report.specs.Numbers.{HasNumbers, IsAnsweredNumbered, IsAttemptNumbered, IsFindNumbered, IsOutcomeNumbered, IsPartNumbered, IsWalkNumbered}
-use Rattle.shr_report.specs.Parts.{lookups_at}
-use Rattle.shr_formed.specs.Each.{Each}
-use Rattle.shr_audit_tables.specs.Draws.{AreDrawnOnce, IsDrawn, found_draws, answer_draws, tried_draws, attempt_draws, draw_key, part_draws, walk_draws}
+use Rattle.shr_report.specs.Numbers.{IsAnsweredNumbered, IsAttemptNumbered, IsFindNumbered, IsOutcomeNumbered}
 
 -- a draw is of this id, with this number
 of_draw : ℕ → ℕ → ℕ → Bool

@@ -1,24 +1,14 @@
 -- The lookups that were drawn settle with those that are wanted if and only if each number was drawn once.
-use Rattle.std.proofs.Common.{◌≡◌, ◌≢◌, ℕ, zero, suc, ◌+◌, ◌/◌, ◌%◌, ◌^◌, ◌<◌, ◌≤◌, ◌⊎◌, inl, inr, Bool, true, false, cond, eqb, List, [], ◌∷◌, ◌++◌, length, get_or, map, take, refl, sym, ap, subst, ◌∙◌, arith}
-use Rattle.std.specs.Prelude.{◌↔◌, ◌==◌, ◌||◌, nat_lt, count_by, filter, sum, sum_by, slice_index}
-use Rattle.std.specs.Bool.{Decides}
-use Rattle.std.specs.List.{AllByRecursion, list_any, range_with_len}
-use Rattle.std.proofs.lemmas.Bool.{cases_lt, cases_order}
-use Rattle.std.proofs.lemmas.Bool.Decides.{nat_tests}
-use Rattle.std.proofs.lemmas.List.{length-map, take_all}
-use Rattle.std.proofs.lemmas.List.Sums.{sum_by-cons, sum_by-append, sum_by_more, length-filter, count_by-le-length}
+use Rattle.shr_audit_tables.proofs.Common.{◌≡◌, ◌≢◌, ℕ, zero, suc, ◌+◌, ◌/◌, ◌%◌, ◌^◌, ◌<◌, ◌≤◌, ◌⊎◌, inl, inr, Bool, true, false, cond, List, [], ◌∷◌, ◌++◌, length, get_or, map, take, refl, sym, ap, subst, ◌∙◌, arith, ◌↔◌, ◌==◌, nat_lt, count_by, filter, sum, sum_by, slice_index, Decides, AllByRecursion, range_with_len, cases_lt, cases_order, nat_tests, take_all, sum_by-cons, sum_by-append, sum_by_more, slice_get-get_or, Each, Move, ups_at, downs_at, IsSettled, AreDrawnOnce, draw_key, drawn, wanted, wanted_from}
+use Rattle.std.proofs.Common.{eqb}
+use Rattle.std.specs.Prelude.{◌||◌}
+use Rattle.std.specs.List.{list_any}
+use Rattle.std.proofs.lemmas.List.{length-map}
+use Rattle.std.proofs.lemmas.List.Sums.{length-filter, count_by-le-length}
 use Rattle.std.proofs.lemmas.Map.Steps.{le-length_from_below}
-use Rattle.std.proofs.lemmas.Option.{slice_get-get_or}
-use Rattle.shr_formed.specs.Each.{Each}
-use Rattle.shr_sums.specs.declared.moves.Move.{Move}
-use Rattle.shr_sums.specs.Moves.{ups_at, downs_at, IsSettled}
-use Rattle.shr_audit_tables.specs.Draws.{AreDrawnOnce, draw_key, drawn, wanted, wanted_from}
+use Rattle.shr_model.proofs.Booleans.{bit_small, nothing}
 
 -- ---- the moves
-
-no_amount : (b : Bool) → ◌≡◌ {A = ℕ} (cond b 0 0) 0
-no_amount true = refl
-no_amount false = refl
 
 drawn_up : (k : ℕ) (ks : List ℕ) → ups_at k (map drawn ks) ≡ count_by (λ x. x == k) ks
 drawn_up k [] = refl
@@ -26,11 +16,11 @@ drawn_up k (x ∷ ks) = sum_by-cons (λ (m : Move). cond (m.key == k) m.up 0) (d
 
 drawn_down : (k : ℕ) (ks : List ℕ) → downs_at k (map drawn ks) ≡ 0
 drawn_down k [] = refl
-drawn_down k (x ∷ ks) = let none = no_amount (x == k) in let more = drawn_down k ks in sum_by-cons (λ (m : Move). cond (m.key == k) m.down 0) (drawn x) (map drawn ks) ∙ omega (arith, none, more)
+drawn_down k (x ∷ ks) = let none = nothing (x == k) in let more = drawn_down k ks in sum_by-cons (λ (m : Move). cond (m.key == k) m.down 0) (drawn x) (map drawn ks) ∙ omega (arith, none, more)
 
 range_up : (k i a l : ℕ) → ups_at k (map (λ n. wanted (draw_key i n)) (range_with_len a l)) ≡ 0
 range_up k i a zero = refl
-range_up k i a (suc l) = let none = no_amount (draw_key i a == k) in let more = range_up k i (a + 1) l in sum_by-cons (λ (m : Move). cond (m.key == k) m.up 0) (wanted (draw_key i a)) (map (λ n. wanted (draw_key i n)) (range_with_len (a + 1) l)) ∙ omega (arith, none, more)
+range_up k i a (suc l) = let none = nothing (draw_key i a == k) in let more = range_up k i (a + 1) l in sum_by-cons (λ (m : Move). cond (m.key == k) m.up 0) (wanted (draw_key i a)) (map (λ n. wanted (draw_key i n)) (range_with_len (a + 1) l)) ∙ omega (arith, none, more)
 
 wanted_up : (k i : ℕ) (ls : List ℕ) → ups_at k (wanted_from i ls) ≡ 0
 wanted_up k i [] = refl
@@ -128,10 +118,6 @@ all_down id n keys lookups a b c none draws wants small low =
     let first = ap (sum_by value) (draws ∙ ap (λ (l : List Move). l ++ map drawn keys) none) ∙ drawn_down (draw_key id n) keys in
     let second = wanted_down id n 0 id lookups (omega arith) small (each_all (λ (l : ℕ). l < 2 ^ 32) lookups low) in
     ap (sum_by value) wants ∙ sum_by-append value b (wanted_from 0 lookups) ∙ omega (arith, first, second)
-
-bit_small : (b : Bool) → cond b 1 0 ≤ 1
-bit_small true = omega arith
-bit_small false = omega arith
 
 pub once_decided : (keys lookups : List ℕ) (a b c : List Move) (t : Bool) → length keys < 2 ^ 64 → Each (λ (l : ℕ). l < 2 ^ 32) lookups → a ≡ [] → b ≡ a ++ map drawn keys → c ≡ b ++ wanted_from 0 lookups → ((t ≡ true) ↔ IsSettled c) → Decides t (AreDrawnOnce keys lookups)
 once_decided keys lookups a b c t short low none draws wants settled = (λ s. yes (settled.0 s), λ law. settled.1 (no law))

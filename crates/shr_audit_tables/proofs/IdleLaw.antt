@@ -1,38 +1,20 @@
 -- The lists of idle ids are empty if those that are printed are.
-use Rattle.std.proofs.Common.{◌≡◌, ℕ, suc, ◌%◌, ◌<◌, ◌≤◌, ◌⊎◌, inl, inr, Bool, false, List, [], ◌∷◌, length, get_or, map, Some, None, refl, sym, ap, subst, ◌∙◌, arith, ne_eqb}
-use Rattle.std.specs.Prelude.{◌==◌, slice_get}
-use Rattle.std.specs.Bool.{Decides}
-use Rattle.std.proofs.lemmas.Bool.{cases_lt}
-use Rattle.std.proofs.lemmas.Bool.Decides.{Decides-like}
-use Rattle.std.proofs.lemmas.Option.{slice_get-get_or}
-use Rattle.shr_base.specs.declared.places.Place.{Place}
+use Rattle.shr_audit_tables.proofs.Common.{◌≡◌, ℕ, suc, ◌%◌, ◌<◌, ◌≤◌, ◌⊎◌, inl, inr, Bool, false, List, [], ◌∷◌, length, get_or, map, Some, None, refl, sym, ap, subst, ◌∙◌, arith, ne_eqb, ◌==◌, slice_get, Decides, cases_lt, Decides-like, slice_get-get_or, Place, PoolEntry, PlaceEnd, phase_of, Report, Each, IdState, AreStates, AreIdleEmpty, IsEmptyIfIdle, IsIdleIn, NonePast}
 use Rattle.shr_base.specs.declared.objects.Object.{Object}
-use Rattle.shr_base.specs.declared.journals.Entry.{Entry}
-use Rattle.shr_base.specs.declared.journals.PoolEntry.{PoolEntry}
-use Rattle.shr_base.specs.declared.ends.PlaceEnd.{PlaceEnd}
 use Rattle.shr_model.specs.Families.{lists_moved_at}
-use Rattle.shr_model.specs.Items.{items_from}
-use Rattle.shr_model.specs.Pool.{phase_of}
 use Rattle.shr_replay.specs.declared.tags.Tag.{Tag}
 use Rattle.shr_replay.specs.Tags.{tag_of}
-use Rattle.shr_report.specs.declared.report.Report.{Report}
 use Rattle.shr_report.specs.Parts.{journal_of, journals_of}
 use Rattle.shr_case.specs.Places.{end_of}
 use Rattle.shr_case.proofs.Firsts.{IsFound, found_or_none}
-use Rattle.shr_formed.specs.Each.{Each}
-use Rattle.shr_audit_tables.specs.declared.registrations.IdState.{IdState}
-use Rattle.shr_audit_tables.specs.Registrations.{AreStates}
-use Rattle.shr_audit_tables.specs.Idle.{AreIdleEmpty, IsEmptyAt, IsEmptyIfIdle, IsIdleIn, NonePast}
+use Rattle.shr_audit_tables.specs.Idle.{IsEmptyAt}
+use Rattle.shr_case.proofs.Telling.{no_items}
 
 pub none_decided : (items : List Object) (left : List Tag) (b : Bool) → left ≡ map tag_of items → b ≡ (length left == 0) → Decides b (items ≡ [])
 none_decided [] left b same is = (λ t. refl, λ e. is ∙ ap (λ (l : List Tag). length l == 0) same)
 none_decided (o ∷ os) left b same is =
     let not : b ≡ false = is ∙ ap (λ (l : List Tag). length l == 0) same ∙ ne_eqb (suc (length (map tag_of os))) 0 (λ e. absurd (omega (arith, e))) in
     (λ t. absurd cc, λ e. absurd cc)
-
-none_there : (moved : List (List Object)) (es : List Entry) → es ≡ [] → items_from moved [] es ≡ []
-unfolding items_from
-none_there moved es e = rw e refl
 
 idle_in : (es : List PoolEntry) (states : List IdState) (id : ℕ) → AreStates es states → phase_of id es % 3 ≡ 0 → IsIdleIn states id
 idle_in es states id are idle x at = ap (λ (v : IdState). v.phase % 3) (are id x at) ∙ idle
@@ -56,7 +38,7 @@ idle_decided parents r states ends b are past same d = Decides-like b to from d
     to h place idle = by_place (found_or_none r.places.items place)
       where
         by_place : (end_of r.places.items place ≡ None) ⊎ ((k : ℕ) × ((end : PlaceEnd) × IsFound r.places.items place k end)) → IsEmptyAt parents r place
-        by_place (inl none) = none_there (lists_moved_at parents (journals_of r) place) (journals_of r place) (ap journal_of none)
+        by_place (inl none) = no_items (lists_moved_at parents (journals_of r) place) (journals_of r place) (ap journal_of none)
         by_place (inr (k, (end, found))) =
             let at : slice_get ends k ≡ Some end = ap (λ (l : List PlaceEnd). slice_get l k) same ∙ found.at in
             let here : IsEmptyIfIdle parents r states place = subst (λ (p : Place). IsEmptyIfIdle parents r states p) found.same (h k end at) in

@@ -1,6 +1,7 @@
+mod Common
 pub mod Amounts
-mod Words
-mod Steps
+pub mod Words
+pub mod Steps
 mod Carried
 pub mod States
 mod Replay

@@ -1,22 +1,10 @@
 -- The journal of registrations, entry by entry, and how it begins.
-use Rattle.std.proofs.Common.{◌≡◌, ℕ, zero, suc, ◌+◌, ◌%◌, ◌<◌, ◌≤◌, ◌⊎◌, inl, inr, Bool, true, false, cond, List, [], ◌∷◌, ◌++◌, length, get_or, take, Option, Some, None, refl, sym, ap, subst, ◌∙◌, arith}
-use Rattle.std.specs.Prelude.{filter_map, slice_get}
-use Rattle.std.specs.List.{cons_option, enumerate_from}
-use Rattle.std.proofs.lemmas.Bool.{cases_lt}
-use Rattle.std.proofs.lemmas.Bool.Decides.{nat_tests}
-use Rattle.std.proofs.lemmas.List.{take_more, length-take-le, length_push}
-use Rattle.std.proofs.lemmas.Option.{slice_get-get_or, slice_get_within}
-use Rattle.shr_base.specs.declared.journals.PoolEntry.{PoolEntry}
-use Rattle.shr_base.specs.declared.journals.PoolEntry.TheVariants.{Registered}
+use Rattle.shr_audit_tables.proofs.Common.{◌≡◌, ℕ, zero, suc, ◌+◌, ◌%◌, ◌<◌, ◌≤◌, ◌⊎◌, inl, inr, Bool, true, false, cond, List, [], ◌∷◌, ◌++◌, length, get_or, take, Option, Some, None, refl, sym, ap, subst, ◌∙◌, arith, filter_map, slice_get, cons_option, cases_lt, nat_tests, take_more, length-take-le, slice_get-get_or, slice_get_within, PoolEntry, Registered, Script, is_live, last_number, phase_of, IsNextPool, IsPoolJournal, Report, lookups_at, IdState, AreStates, noted, MayRegister, AreFirst, AreStatesOf, AreLastReached, on_from, Opens, IsPoolLawful}
+use Rattle.std.specs.List.{enumerate_from}
+use Rattle.std.proofs.lemmas.List.{length_push}
 use Rattle.shr_base.specs.declared.scripts.CacheDecl.{CacheDecl}
-use Rattle.shr_base.specs.declared.scripts.Script.{Script}
-use Rattle.shr_model.specs.Pool.{is_live, last_number, phase_of, IsNextPool, IsPoolJournal}
 use Rattle.shr_model.proofs.PoolLaws.{IsPoolJournal_push, IsPoolJournal_none}
-use Rattle.shr_report.specs.declared.report.Report.{Report}
-use Rattle.shr_report.specs.Parts.{decls_on, lookups_at}
-use Rattle.shr_audit_tables.specs.declared.registrations.IdState.{IdState}
-use Rattle.shr_audit_tables.specs.Registrations.{AreStates, noted, MayRegister, AreFirst, AreStatesOf, AreLastReached}
-use Rattle.shr_audit_tables.specs.Lookups.{on_from, Opens, IsPoolLawful}
+use Rattle.shr_report.specs.Parts.{decls_on}
 use Rattle.shr_audit_tables.proofs.States.{state_none, noted_length, noted_states, phases_small, next_of, next_yes, next_no, past_none}
 
 blank_pushed : (xs : List IdState) (b : IdState) → ((id : ℕ) (x : IdState) → slice_get xs id ≡ Some x → x ≡ b) → (id : ℕ) (x : IdState) → slice_get (xs ++ b ∷ []) id ≡ Some x → x ≡ b

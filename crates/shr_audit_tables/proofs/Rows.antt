@@ -1,18 +1,8 @@
 -- Lists that a loop adds to, item by item.
-use Rattle.std.proofs.Common.{◌≡◌, ℕ, suc, ◌+◌, ◌<◌, ◌≤◌, List, [], ◌∷◌, ◌++◌, length, get_or, map, take, sym, ap, ◌∙◌, arith}
-use Rattle.std.specs.Prelude.{flat_map}
-use Rattle.std.specs.List.{range_with_len}
-use Rattle.std.proofs.lemmas.List.{append_assoc, append-nil, take_more, take_all, map_more, length-take-le, get_or_default}
-use Rattle.std.proofs.lemmas.List.Concat.{flat_map-append}
+use Rattle.shr_audit_tables.proofs.Common.{◌≡◌, ℕ, suc, ◌+◌, ◌<◌, ◌≤◌, List, [], ◌∷◌, ◌++◌, length, get_or, map, take, sym, ap, ◌∙◌, arith, flat_map, range_with_len, append_assoc, take_more, take_all, length-take-le, get_or_default, Move, draw_key, wanted, wanted_from, flat_all, map_end}
+use Rattle.std.proofs.lemmas.List.{append-nil, map_more}
 use Rattle.std.proofs.lemmas.List.FromFn.{map-range_with_len_more}
-use Rattle.shr_sums.specs.declared.moves.Move.{Move}
-use Rattle.shr_audit_tables.specs.Draws.{draw_key, wanted, wanted_from}
-
-added_to : {Y : Type 0} (a whole part item next : List Y) → whole ≡ a ++ part → next ≡ whole ++ item → next ≡ a ++ (part ++ item)
-added_to {Y} a whole part item next before added = added ∙ ap (λ (l : List Y). l ++ item) before ∙ append_assoc a part item
-
-flat_one : {X Y : Type 0} (f : X → List Y) (xs : List X) (i : ℕ) (y : X) → i < length xs → y ≡ get_or xs i y → flat_map f (take (i + 1) xs) ≡ flat_map f (take i xs) ++ f y
-flat_one {X} {Y} f xs i y lt is = ap (flat_map f) (take_more xs i y lt) ∙ flat_map-append f (take i xs) (get_or xs i y ∷ []) ∙ ap (λ (l : List Y). flat_map f (take i xs) ++ l) (append-nil (f (get_or xs i y)) ∙ ap f (sym is))
+use Rattle.shr_model.proofs.Lists.{added_to, flat_one}
 
 -- one item more
 pub flat_step : {X Y : Type 0} (f : X → List Y) (xs : List X) (i : ℕ) (y : X) (a old next : List Y) → i < length xs → y ≡ get_or xs i y → old ≡ a ++ flat_map f (take i xs) → next ≡ old ++ f y → next ≡ a ++ flat_map f (take (i + 1) xs)
@@ -22,15 +12,8 @@ flat_step {X} {Y} f xs i y a old next lt is before added = added_to a old (flat_
 pub flat_copied : {X Y : Type 0} (f : X → List Y) (xs : List X) (i : ℕ) (d : X) (a old next : List Y) → i < length xs → old ≡ a ++ flat_map f (take i xs) → next ≡ old ++ f (get_or xs i d) → next ≡ a ++ flat_map f (take (i + 1) xs)
 flat_copied f xs i d a old next lt before added = flat_step f xs i (get_or xs i d) a old next lt (get_or_default xs i d (get_or xs i d) lt) before added
 
--- all items
-pub flat_end : {X Y : Type 0} (f : X → List Y) (xs : List X) (i : ℕ) (a old : List Y) → length xs ≤ i → old ≡ a ++ flat_map f (take i xs) → old ≡ a ++ flat_map f xs
-flat_end {X} {Y} f xs i a old over before = before ∙ ap (λ (l : List X). a ++ flat_map f l) (take_all i xs over)
-
 pub map_step : {X Y : Type 0} (f : X → Y) (xs : List X) (i : ℕ) (d : X) (a old next : List Y) → i < length xs → old ≡ a ++ map f (take i xs) → next ≡ old ++ f (get_or xs i d) ∷ [] → next ≡ a ++ map f (take (i + 1) xs)
 map_step {X} {Y} f xs i d a old next lt before added = added_to a old (map f (take i xs)) (f (get_or xs i d) ∷ []) next before added ∙ ap (λ (l : List Y). a ++ l) (sym (map_more f xs i d lt))
-
-pub map_end : {X Y : Type 0} (f : X → Y) (xs : List X) (i : ℕ) (a old : List Y) → length xs ≤ i → old ≡ a ++ map f (take i xs) → old ≡ a ++ map f xs
-map_end {X} {Y} f xs i a old over before = before ∙ ap (λ (l : List X). a ++ map f l) (take_all i xs over)
 
 pub range_step : {Y : Type 0} (f : ℕ → Y) (i : ℕ) (a old next : List Y) → old ≡ a ++ map f (range_with_len 0 i) → next ≡ old ++ f i ∷ [] → next ≡ a ++ map f (range_with_len 0 (i + 1))
 range_step {Y} f i a old next before added = added_to a old (map f (range_with_len 0 i)) (f i ∷ []) next before added ∙ ap (λ (l : List Y). a ++ l) (sym (map-range_with_len_more f 0 i i (omega arith)))

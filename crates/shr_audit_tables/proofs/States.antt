@@ -1,19 +1,15 @@
 -- The states of ids after one entry more of the journal of registrations, and when it may follow.
-use Rattle.std.proofs.Common.{◌≡◌, ◌≢◌, ℕ, zero, suc, ◌+◌, ◌%◌, ◌<◌, ◌≤◌, ◌⊎◌, inl, inr, ⊎_elim, Bool, true, false, cond, List, [], ◌∷◌, ◌++◌, length, get_or, set, take, Option, Some, None, refl, sym, ap, subst, ◌∙◌, arith, ne_eqb}
-use Rattle.std.specs.Prelude.{◌==◌, ◌&&◌, slice_get}
-use Rattle.std.specs.Bool.{Decides}
-use Rattle.std.proofs.lemmas.Bool.{cases_lt, cases_eq}
-use Rattle.std.proofs.lemmas.Bool.Decides.{nat_tests, Decides-below_or, Decides-eqb, Decides-and}
-use Rattle.std.proofs.lemmas.List.{take_more, take_all, length-set, get_or-set_same, get_or-set_other}
-use Rattle.std.proofs.lemmas.Option.{slice_get-get_or, slice_get_within, slice_get_past}
-use mathlib.Core.Option.{some}
+use Rattle.shr_audit_tables.proofs.Common.{◌≡◌, ◌≢◌, ℕ, zero, suc, ◌+◌, ◌%◌, ◌<◌, ◌≤◌, ◌⊎◌, inl, inr, ⊎_elim, Bool, true, false, cond, List, [], ◌∷◌, ◌++◌, length, get_or, take, Option, Some, None, refl, sym, ap, subst, ◌∙◌, arith, ne_eqb, ◌==◌, ◌&&◌, slice_get, Decides, cases_lt, nat_tests, take_more, take_all, slice_get-get_or, slice_get_within, PoolEntry, Registered, Unregistered, Idle, last_number, is_live, IsNextPool, IsPoolJournal, IdState, state_of, AreStates, state_with, noted, HasLive, IsFreeNow, IsLowestFree, MayRegister}
+use Rattle.std.proofs.Common.{set}
+use Rattle.std.proofs.lemmas.Bool.{cases_eq}
+use Rattle.std.proofs.lemmas.Bool.Decides.{Decides-below_or, Decides-eqb, Decides-and}
+use Rattle.std.proofs.lemmas.List.{length-set, get_or-set_same, get_or-set_other}
+use Rattle.std.proofs.lemmas.Option.{slice_get_past}
 use lib.ListN.{get_elem?}
-use Rattle.shr_base.specs.declared.journals.PoolEntry.{PoolEntry}
-use Rattle.shr_base.specs.declared.journals.PoolEntry.TheVariants.{Registered, Unregistered, Idle}
-use Rattle.shr_model.specs.Pool.{id_of, phase_of, decl_from, decl_of, number_from, last_number, from_from, is_live, is_live_below, is_live_decl, is_free, lowest_free, lowest_idle, IsNextPool, IsPoolJournal}
+use Rattle.shr_model.specs.Pool.{id_of, phase_of, decl_from, decl_of, number_from, from_from, is_live_below, is_live_decl, is_free, lowest_free, lowest_idle}
 use Rattle.shr_model.proofs.PoolLaws.{phase_of_push, decl_from_push, number_from_push, from_from_push}
-use Rattle.shr_audit_tables.specs.declared.registrations.IdState.{IdState}
-use Rattle.shr_audit_tables.specs.Registrations.{state_of, AreStates, state_with, put_state, noted, HasLive, IsFreeNow, IsLowestFree, MayRegister}
+use Rattle.shr_audit_tables.specs.Registrations.{put_state}
+use Rattle.shr_model.proofs.Lists.{some_at}
 
 -- ---- the states of the empty journal, and of one entry more
 
@@ -176,11 +172,6 @@ lowest_no es xs id h e =
     (λ j y less at free. let t = (free_now es xs j y h at).1 free in let f = w.1.1.1 j (omega arith) less in absurd cc, (x.0, (x.1, (free_now es xs id x.0 h x.1).0 w.1.1.0)))
 
 -- ---- ids past the last one
-
-some_at : {A : Type 0} (xs : List A) (n : ℕ) (x : A) → slice_get xs n ≡ Some x → get_elem? xs n ≡ some x
-some_at [] n x e = absurd cc
-some_at (y ∷ ys) zero x e = let s : y ≡ x = cc in ap some s
-some_at (y ∷ ys) (suc n) x e = some_at ys n x e
 
 pub next_of : (ids decls : ℕ) (es : List PoolEntry) (n : ℕ) (e : PoolEntry) → IsPoolJournal ids decls es → slice_get es n ≡ Some e → IsNextPool ids decls (take n es) e
 next_of ids decls es n e h at = h n e (some_at es n e at)

@@ -1,12 +1,6 @@
 -- What the laws on tables are tested by, at known values.
-use Rattle.std.proofs.Common.{◌≡◌, ℕ, zero, suc, ◌%◌, false, List, [], ◌∷◌, true, Option, Some, None, refl, sym, ap, arith}
-use Rattle.std.specs.Prelude.{flat_map}
-use Rattle.shr_base.specs.declared.places.Place.{Place}
-use Rattle.shr_base.specs.declared.ends.WorkerPart.{WorkerPart}
-use Rattle.shr_base.specs.declared.journals.PoolEntry.{PoolEntry}
-use Rattle.shr_base.specs.declared.journals.PoolEntry.TheVariants.{Registered, Unregistered, Idle}
+use Rattle.shr_audit_tables.proofs.Common.{◌≡◌, ℕ, zero, suc, ◌%◌, false, List, [], ◌∷◌, true, Option, Some, None, refl, sym, ap, arith, flat_map, Place, WorkerPart, PoolEntry, Registered, Unregistered, Idle, number_of, parents_of, IdState, given_by, taken_by, AreWordsRight, state_of, state_with, noted, IsLiveAs, HasLive, IsFreeNow, NoneFree, IsLowestFree, MayRegister, AreLastReached, AreFirst, on_from, Opens, IsPoolLawful, AreDrawnOnce, IsDrawn, found_draws, answer_draws, tried_draws, attempt_draws, draw_key, drawn, part_draws, walk_draws, wanted, wanted_from, AreIdleEmpty, IsIdleIn, NonePast}
 use Rattle.shr_base.specs.declared.walks.Outcome.TheVariants as outcome
-use Rattle.shr_model.specs.Attempts.{number_of}
 use Rattle.shr_model.specs.Families.{lists_moved, items_within}
 use Rattle.shr_model.specs.Groups.{path_within}
 use Rattle.shr_model.specs.Items.{items_from}
@@ -14,13 +8,6 @@ use Rattle.shr_model.specs.Pool.{phase_of, decl_from, from_from, number_from}
 use Rattle.shr_report.proofs.SecondReport.{kept, dentry, by}
 use Rattle.shr_report.proofs.FirstReport.{script, report, answer}
 use Rattle.shr_report.proofs.ThirdReport as third
-use Rattle.shr_report.specs.Parts.{parents_of}
-use Rattle.shr_audit_tables.specs.declared.registrations.IdState.{IdState}
-use Rattle.shr_audit_tables.specs.Deferred.{given_by, taken_by, AreWordsRight}
-use Rattle.shr_audit_tables.specs.Registrations.{state_of, state_with, noted, IsLiveAs, HasLive, IsFreeNow, NoneFree, IsLowestFree, MayRegister, AreLastReached, AreFirst}
-use Rattle.shr_audit_tables.specs.Lookups.{on_from, Opens, IsPoolLawful}
-use Rattle.shr_audit_tables.specs.Draws.{AreDrawnOnce, IsDrawn, found_draws, answer_draws, tried_draws, attempt_draws, draw_key, drawn, part_draws, walk_draws, wanted, wanted_from}
-use Rattle.shr_audit_tables.specs.Idle.{AreIdleEmpty, IsIdleIn, NonePast}
 
 abbrev place : ℕ → Place
 place group = record { id = 0; node = 0; group = group }

@@ -1,36 +1,14 @@
 -- The moves of all workers settle if and only if each printed word is right.
-use Rattle.std.proofs.Common.{◌≡◌, ℕ, ◌+◌, ◌<◌, ◌^◌, ◌⊎◌, inl, inr, ⊎_elim, Bool, true, false, List, [], ◌∷◌, length, get_or, refl, sym, ap, subst, ◌∙◌, arith}
-use Rattle.std.specs.Prelude.{◌↔◌, filter, filter_map, flat_map, sum_by}
-use Rattle.std.specs.Bool.{Decides}
-use Rattle.std.specs.List.{AllByRecursion}
-use Rattle.std.proofs.lemmas.Bool.{cases_lt}
-use Rattle.std.proofs.lemmas.Bool.Decides.{nat_tests, Decides-like}
-use Rattle.std.proofs.lemmas.List.{get_or_past}
-use Rattle.std.proofs.lemmas.List.Concat.{flat_map-append}
-use Rattle.std.proofs.lemmas.List.Sums.{sum_by-cons, sum_by-append}
-use Rattle.std.proofs.lemmas.Option.{slice_get-get_or}
-use Rattle.shr_base.specs.declared.places.Place.{Place}
-use Rattle.shr_base.specs.declared.walks.Attempt.{Attempt}
-use Rattle.shr_base.specs.declared.walks.Carry.{Carry}
+use Rattle.shr_audit_tables.proofs.Common.{◌≡◌, ℕ, ◌+◌, ◌<◌, ◌^◌, ◌⊎◌, inl, inr, ⊎_elim, Bool, true, false, List, [], ◌∷◌, length, get_or, refl, sym, ap, subst, ◌∙◌, arith, ◌↔◌, filter, filter_map, flat_map, sum_by, Decides, AllByRecursion, cases_lt, nat_tests, Decides-like, get_or_past, flat_map-append, sum_by-cons, sum_by-append, slice_get-get_or, Place, Attempt, Carry, WalkRecord, PlaceAmount, WorkerPart, amount_at, sum_at, is_place, Report, HasNumbers, IsPartNumbered, IsWalkNumbered, IsWellFormed, Each, Move, ups_at, downs_at, IsSettled, place_key, IsNarrow, Gains, given_by, taken_by, AreWordsRight}
 use Rattle.shr_base.specs.declared.walks.PassRecord.{PassRecord}
-use Rattle.shr_base.specs.declared.walks.WalkRecord.{WalkRecord}
-use Rattle.shr_base.specs.declared.ends.PlaceAmount.{PlaceAmount}
-use Rattle.shr_base.specs.declared.ends.WorkerPart.{WorkerPart}
 use Rattle.shr_model.specs.Attempts.{pass_of}
-use Rattle.shr_model.specs.Deferred.{amount_at, sum_at, deferred_word}
+use Rattle.shr_model.specs.Deferred.{deferred_word}
 use Rattle.shr_model.specs.Groups.{parent_of}
 use Rattle.shr_model.specs.Moves.{is_below, given_at, taken_at}
-use Rattle.shr_model.specs.Places.{is_place}
 use Rattle.shr_model.specs.Walks.{place_in, passes_at}
-use Rattle.shr_report.specs.declared.report.Report.{Report}
-use Rattle.shr_report.specs.Numbers.{HasNumbers, IsPartNumbered, IsWalkNumbered, IsCarryNumbered, IsAmountNumbered}
-use Rattle.shr_report.specs.WellFormed.{IsWellFormed}
-use Rattle.shr_formed.specs.Each.{Each}
-use Rattle.shr_sums.specs.declared.moves.Move.{Move}
-use Rattle.shr_sums.specs.Moves.{ups_at, downs_at, IsSettled}
-use Rattle.shr_sums.specs.Deferred.{place_key, IsNarrow, Gains, carried_to, carried_from}
+use Rattle.shr_report.specs.Numbers.{IsCarryNumbered, IsAmountNumbered}
+use Rattle.shr_sums.specs.Deferred.{carried_to, carried_from}
 use Rattle.shr_sums.proofs.WordsLaw.{words_law}
-use Rattle.shr_audit_tables.specs.Deferred.{given_by, taken_by, AreWordsRight}
 use Rattle.shr_audit_tables.proofs.Amounts.{IsWide, narrow_or_wide, outside, sum_none, found_sum, small_sum}
 
 -- ---- workers put together
@@ -120,7 +98,7 @@ takes_none p wide (part ∷ parts) n =
     let carried = sum_none (carried_from p) part.carries.items (none_taken p part.carries.items wide n.0.carries) in
     (omega (arith, passes, carried), takes_none p wide parts n.1)
 
-none_printed : (p : Place) → IsWide p → (xs : List PlaceAmount) → AllByRecursion IsAmountNumbered xs → AllByRecursion (λ (x : PlaceAmount). amount_at p x ≡ 0) xs
+pub none_printed : (p : Place) → IsWide p → (xs : List PlaceAmount) → AllByRecursion IsAmountNumbered xs → AllByRecursion (λ (x : PlaceAmount). amount_at p x ≡ 0) xs
 none_printed p wide [] n = tt
 none_printed p wide (x ∷ xs) n =
     let node = n.0.place.node in let group = n.0.place.group in

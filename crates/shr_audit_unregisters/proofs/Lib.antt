@@ -1,4 +1,5 @@
+mod Common
 mod BeganLaws
 mod RowLaws
-mod SumsLaws
+pub mod SumsLaws
 mod UnregistersValues

@@ -1,30 +1,18 @@
 -- Causes of the answers to an `unregister` that drained, from the parts in which they are tested.
-use Rattle.std.proofs.Common.{◌≡◌, ℕ, ◌<◌, ◌≤◌, Bool, true, false, [], length, Option, Some, None, refl, sym, ap, subst, ◌∙◌, arith}
-use Rattle.std.specs.Prelude.{slice_get, option_and_then, option_map}
-use Rattle.std.specs.Bool.{Decides}
+use Rattle.shr_audit_unregisters.proofs.Common.{◌≡◌, ℕ, ◌<◌, ◌≤◌, Bool, true, false, [], length, Option, Some, None, refl, sym, ap, subst, ◌∙◌, arith, slice_get, Decides, Drained, Place, Serial, Script, Report, journals_of, serial_of, IsEndedSo, IsOfId, IsPlaced, id_drained, id_drained_by, HasEnd, HasReason, HasUnregisterCause, IsCausedAt, ended, some_is}
+use Rattle.std.specs.Prelude.{option_and_then, option_map}
 use Rattle.std.specs.Option.{IsSomeAnd}
 use Rattle.std.proofs.lemmas.Option.{slice_get_past, slice_get_within}
 use Rattle.shr_base.specs.declared.ends.WorkerPart.{WorkerPart}
-use Rattle.shr_base.specs.declared.journals.Entry.TheVariants.{Drained}
-use Rattle.shr_base.specs.declared.places.Place.{Place}
-use Rattle.shr_base.specs.declared.places.Serial.{Serial}
 use Rattle.shr_base.specs.declared.replies.Answered.{Answered}
 use Rattle.shr_base.specs.declared.replies.HalfWhy.{HalfWhy}
 use Rattle.shr_base.specs.declared.replies.Reply.{Reply}
 use Rattle.shr_base.specs.declared.replies.Reply.TheVariants as reply
 use Rattle.shr_base.specs.declared.scripts.Command.{Command}
-use Rattle.shr_base.specs.declared.scripts.Script.{Script}
 use Rattle.shr_case.proofs.Eachs.{decides_iff}
 use Rattle.shr_model.specs.Commands.{decl_named}
-use Rattle.shr_report.specs.declared.report.Report.{Report}
 use Rattle.shr_report.specs.Causes.{IsFreed, IsHalf, IsWhy}
-use Rattle.shr_report.specs.Parts.{EachAnswer, EachEntry, answer_at, answers_in, answers_of, command_at, journals_of, reply_at, serial_of}
-use Rattle.shr_audit_unregisters.specs.Ended.{IsEndedSo}
-use Rattle.shr_audit_unregisters.specs.Placed.{IsOfId, IsPlaced, id_drained, id_drained_by}
-use Rattle.shr_audit_unregisters.specs.Rows.{HasEnd, HasReason, HasUnregisterCause, IsCausedAt, ended}
-
-some_same : {X : Type 0} (a b : X) → ◌≡◌ {A = Option X} (Some a) (Some b) → a ≡ b
-some_same a b e = cc
+use Rattle.shr_report.specs.Parts.{EachAnswer, EachEntry, answer_at, answers_in, answers_of, command_at, reply_at}
 
 none_some : {X : Type 0} (a : X) → ◌≡◌ {A = Option X} None (Some a) → ⊥
 none_some a e = cc
@@ -76,8 +64,8 @@ module _ (s : Script) (r : Report) (by : Serial) (c : Command) where
   reason_of x h = tt
 
   places_of : (x : Reply) (id : ℕ) → id_drained x ≡ Some id → HasUnregisterCause s r by c x → AreOf r by id
-  places_of (reply.Freed i entry from to objects) id e h = subst (AreOf r by) (some_same i id e) (freed_of s r by i entry from to objects (decl_named c) h)
-  places_of (reply.Half i entry from to objects why) id e h = subst (AreOf r by) (some_same i id e) (half_of s r by i entry from to objects why (decl_named c) h)
+  places_of (reply.Freed i entry from to objects) id e h = subst (AreOf r by) (some_is i id e) (freed_of s r by i entry from to objects (decl_named c) h)
+  places_of (reply.Half i entry from to objects why) id e h = subst (AreOf r by) (some_is i id e) (half_of s r by i entry from to objects why (decl_named c) h)
   places_of x id e h = absurd (none_some id e)
 
   whole_of : (x : Reply) → HasEnd r by c x → HasReason s r by.worker x → ((id : ℕ) → id_drained x ≡ Some id → AreOf r by id) → HasUnregisterCause s r by c x
@@ -148,8 +136,8 @@ module _ (s : Script) (r : Report) (worker k : ℕ) where
 
     pub reason_too : (b : Bool) → HasEnd r (serial_of worker k) c a.reply → Decides b (HasReason s r worker a.reply) → Decides b (IsCausedAt s r worker k)
     reason_too b end d = (
-      λ t x y e f. subst (λ (v : Command). HasEnd r (serial_of worker k) v y.reply × HasReason s r worker y.reply) (some_same c x (here ∙ e))
-          (subst (λ (v : Answered). HasEnd r (serial_of worker k) c v.reply × HasReason s r worker v.reply) (some_same a y (there ∙ f)) (end, d.0 t)),
+      λ t x y e f. subst (λ (v : Command). HasEnd r (serial_of worker k) v y.reply × HasReason s r worker y.reply) (some_is c x (here ∙ e))
+          (subst (λ (v : Answered). HasEnd r (serial_of worker k) c v.reply × HasReason s r worker v.reply) (some_is a y (there ∙ f)) (end, d.0 t)),
       λ h. d.1 (h c a (sym here) (sym there)).1,
     )
 

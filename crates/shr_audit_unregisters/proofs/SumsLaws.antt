@@ -1,7 +1,8 @@
 -- Objects that were drained, one entry and one run of lists after another.
-use Rattle.std.proofs.Common.{◌≡◌, ◌≢◌, ℕ, zero, suc, ◌+◌, ◌-◌, ◌*◌, ◌^◌, ◌<◌, ◌≤◌, Bool, true, false, cond, min, List, length, get_or, take, Option, Some, refl, sym, ap, ◌∙◌, inl, inr, arith, eq-eqb}
-use Rattle.std.specs.Prelude.{◌==◌, slice_get, sum_by, unwrap_or}
-use Rattle.std.specs.BTreeMap.{BTreeMap, get, is_at, Updates}
+use Rattle.shr_audit_unregisters.proofs.Common.{◌≡◌, ℕ, zero, suc, ◌+◌, ◌-◌, ◌*◌, ◌^◌, ◌<◌, ◌≤◌, Bool, true, false, cond, List, length, get_or, take, Option, Some, refl, sym, ap, ◌∙◌, inl, inr, arith, eq-eqb, slice_get, sum_by, unwrap_or, BTreeMap, PlaceEnd, Entry, Drained, Place, Serial, Report, drained_by, journals_of, serial_of, AreSums, IsKeyed, IsNothing, IsRun, capped, serial_key, some_is}
+use Rattle.std.proofs.Common.{◌≢◌, min}
+use Rattle.std.specs.Prelude.{◌==◌}
+use Rattle.std.specs.BTreeMap.{get, is_at, Updates}
 use Rattle.std.specs.Ordering.{is_eq, nat_cmp}
 use Rattle.std.specs.declared.cmp.Ordering.{Ordering}
 use Rattle.std.specs.declared.cmp.Ordering.TheVariants.{Less, Equal, Greater}
@@ -9,24 +10,10 @@ use Rattle.std.proofs.lemmas.Bool.{cases_Bool, and_parts, and_from, eqb-true}
 use Rattle.std.proofs.lemmas.List.Sums.{sum_by_more}
 use Rattle.std.proofs.lemmas.Map.Lookups.{exact_unsigned}
 use Rattle.std.proofs.lemmas.Option.{slice_get-get_or}
-use Rattle.shr_base.specs.declared.ends.PlaceEnd.{PlaceEnd}
-use Rattle.shr_base.specs.declared.journals.Entry.{Entry}
-use Rattle.shr_base.specs.declared.journals.Entry.TheVariants.{Drained}
-use Rattle.shr_base.specs.declared.places.Place.{Place}
-use Rattle.shr_base.specs.declared.places.Serial.{Serial}
 use Rattle.shr_model.specs.Commands.{is_serial}
-use Rattle.shr_report.specs.declared.report.Report.{Report}
-use Rattle.shr_report.specs.Causes.{drained_by}
-use Rattle.shr_report.specs.Parts.{journals_of, serial_of}
-use Rattle.shr_audit_unregisters.specs.Sums.{AreSums, IsKeyed, IsNothing, IsRun, capped, serial_key}
-
-some_same : {X : Type 0} (a b : X) → ◌≡◌ {A = Option X} (Some a) (Some b) → a ≡ b
-some_same a b e = cc
+use Rattle.shr_model.proofs.Numbers.{kept_sum}
 
 -- ---- capped sums
-
-cap_sum : (a b cap : ℕ) → min (min a cap + min b cap) cap ≡ min (a + b) cap
-cap_sum a b cap = omega arith
 
 -- the same sums by another name
 pub same_sums : (sums : BTreeMap ℕ ℕ) (f g : Serial → ℕ) → ((by : Serial) → f by ≡ g by) → AreSums sums f → AreSums sums g
@@ -64,7 +51,7 @@ sums_add old new by key before more put key_is keyed before_is put_is up total a
           let was : before ≡ capped (total (serial_of w n)) = before_is ∙ ap (λ (j : ℕ). unwrap_or (get nat_cmp old j) 0) (sym same) ∙ h.each w n k in
           ap (λ (j : ℕ). unwrap_or (get nat_cmp new j) 0) same ∙ ap (λ (o : Option ℕ). unwrap_or o 0) up.1 ∙ put_is
           ∙ ap (λ (j : ℕ). min (j + more) (2 ^ 64 - 1)) was ∙ ap (λ (j : ℕ). min (capped (total (serial_of w n)) + j) (2 ^ 64 - 1)) more_is
-          ∙ cap_sum (total (serial_of w n)) amount (2 ^ 64 - 1) ∙ ap (λ (b : Bool). capped (total (serial_of w n) + cond b amount 0)) (sym own)
+          ∙ kept_sum (total (serial_of w n)) amount (2 ^ 64 - 1) ∙ ap (λ (b : Bool). capped (total (serial_of w n) + cond b amount 0)) (sym own)
       | inr other ↦
           let ne : key ≢ serial_key w n = λ e. (let t = one_key by.worker by.command w n keyed k (sym key_is ∙ e) in let yes = own_serial w n by (sym t.0) (sym t.1) in let no : true ≡ false = sym yes ∙ other in cc) in
           ap (λ (o : Option ℕ). unwrap_or o 0) (up.2 (serial_key w n) (apart key (serial_key w n) ne)) ∙ h.each w n k

@@ -1,25 +1,15 @@
 -- What is tested of answers to an `unregister` that drained, at known values.
-use Rattle.std.proofs.Common.{◌≡◌, ℕ, zero, suc, ◌+◌, ◌-◌, ◌^◌, ◌<◌, ◌≤◌, true, false, [], ◌∷◌, length, Option, Some, None, refl, sym, ap, ◌∙◌, arith}
-use Rattle.std.specs.Prelude.{slice_get, unwrap_or}
-use Rattle.std.specs.BTreeMap.{BTreeMap}
-use Rattle.shr_audit_replies.proofs.Deciding.{some_same}
-use Rattle.shr_base.specs.declared.ends.PlaceEnd.{PlaceEnd}
-use Rattle.shr_base.specs.declared.journals.Entry.TheVariants.{Closed, Drained}
-use Rattle.shr_base.specs.declared.journals.PoolEntry.TheVariants.{Registered, Idle}
+use Rattle.shr_audit_unregisters.proofs.Common.{◌≡◌, ℕ, zero, suc, ◌+◌, ◌-◌, ◌^◌, ◌<◌, ◌≤◌, true, false, [], ◌∷◌, length, Option, Some, None, refl, sym, ap, ◌∙◌, arith, slice_get, unwrap_or, BTreeMap, PlaceEnd, Drained, Registered, Idle, serial_of, Began, IsUpto, is_idle, IsEndedSo, IsOfId, IsPlaced, id_drained, id_drained_by, HasEnd, HasReason, HasUnregisterCause, ended, AreSums, IsKeyed, IsNothing, IsRun, capped, serial_key, some_is}
+use Rattle.shr_base.specs.declared.journals.Entry.TheVariants.{Closed}
 use Rattle.shr_base.specs.declared.replies.HalfWhy.TheVariants as why
 use Rattle.shr_base.specs.declared.replies.Reply.TheVariants as reply
 use Rattle.shr_base.specs.declared.replies.Spent.TheVariants as spent
 use Rattle.shr_base.specs.declared.scripts.Command.TheVariants as command
 use Rattle.shr_model.specs.Pool.{from_from}
-use Rattle.shr_report.specs.Parts.{serial_of}
 use Rattle.shr_report.proofs.UnregisterReport.{list_0, place, report, script}
-use Rattle.shr_audit_unregisters.specs.declared.began.Began.{Began}
 use Rattle.shr_audit_unregisters.specs.declared.ended.Notes.{Notes}
-use Rattle.shr_audit_unregisters.specs.Began.{AreBegan, IsUpto, is_idle}
-use Rattle.shr_audit_unregisters.specs.Ended.{AreNotes, IsEnd, IsEndedSo}
-use Rattle.shr_audit_unregisters.specs.Placed.{IsOfId, IsPlaced, id_drained, id_drained_by}
-use Rattle.shr_audit_unregisters.specs.Rows.{HasEnd, HasReason, HasUnregisterCause, ended}
-use Rattle.shr_audit_unregisters.specs.Sums.{AreSums, IsKeyed, IsNothing, IsRun, capped, serial_key}
+use Rattle.shr_audit_unregisters.specs.Began.{AreBegan}
+use Rattle.shr_audit_unregisters.specs.Ended.{AreNotes, IsEnd}
 use Rattle.shr_audit_unregisters.proofs.SumsLaws.{none_summed}
 
 -- ---- which id was drained
@@ -113,9 +103,6 @@ keyed = record { worker_few = omega arith; command_few = omega arith }
 not_keyed : IsKeyed 65536 0 → ⊥
 not_keyed h = let few = h.worker_few in absurd (omega (arith, few))
 
-summed : (sums : BTreeMap ℕ ℕ) → IsNothing sums → AreSums sums (λ by. 0)
-summed sums none = none_summed sums none
-
 not_summed : (sums : BTreeMap ℕ ℕ) → IsNothing sums → AreSums sums (λ by. 1) → ⊥
 not_summed sums none h = absurd (let e : ◌≡◌ {A = ℕ} 0 1 = sym (ap (λ (o : Option ℕ). unwrap_or o 0) (none (serial_key 1 2))) ∙ h.each 1 2 keyed in omega (arith, e))
 
@@ -123,7 +110,7 @@ run : IsRun (list_0 ∷ []) 0 1
 run = record { some = omega arith; within = omega arith; same = same }
   where
     same : (n : ℕ) (x y : PlaceEnd) → 0 ≤ n → n < 1 → slice_get (list_0 ∷ []) 0 ≡ Some x → slice_get (list_0 ∷ []) n ≡ Some y → y.place ≡ x.place
-    same zero x y le lt a b = ap (λ (z : PlaceEnd). z.place) (some_same y x (sym b ∙ a))
+    same zero x y le lt a b = ap (λ (z : PlaceEnd). z.place) (some_is y x (sym b ∙ a))
     same (suc n) x y le lt a b = absurd (omega (arith, lt))
 
 past_the_last : IsRun (list_0 ∷ []) 0 2 → ⊥

@@ -1,24 +1,19 @@
 -- Values that Looks found, while a journal is gone through.
-use Rattle.std.proofs.Common.{◌≡◌, ℕ, ◌+◌, ◌<◌, true, false, List, [], ◌∷◌, ◌++◌, length, get_or, take, drop, Option, Some, None, refl, sym, ap, ◌∙◌, arith}
+use Rattle.shr_audit_values.proofs.Common.{◌≡◌, ℕ, ◌<◌, List, [], ◌∷◌, length, take, Option, Some, None, refl, sym, ap, ◌∙◌, arith, Object, Entry, FoundValue, value_met, AreAhead, value_first, values_behind}
+use Rattle.std.proofs.Common.{◌+◌, false, ◌++◌, get_or, drop}
 use Rattle.std.specs.Prelude.{◌==◌, cond}
 use Rattle.std.proofs.lemmas.Bool.Decides.{nat_tests}
 use Rattle.std.proofs.lemmas.List.{take_more, drop_more}
-use Rattle.shr_base.specs.declared.objects.Object.{Object}
-use Rattle.shr_base.specs.declared.journals.Entry.{Entry}
 use Rattle.shr_model.specs.Items.{items_from, moved_from, step, first_moved, later_moved}
 use Rattle.shr_model.proofs.ItemsLaws.{items_from_push}
-use Rattle.shr_replay.specs.declared.values.FoundValue.{FoundValue}
 use Rattle.shr_replay.specs.Journals.{values_from}
-use Rattle.shr_replay.specs.Values.{value_met, values_noted}
-use Rattle.shr_audit_values.specs.Lent.{AreAhead, value_first, values_behind}
+use Rattle.shr_replay.specs.Values.{values_noted}
+use Rattle.shr_model.proofs.Booleans.{itself}
 
 -- ---- the first of the values that are left
 
 other : (k n : ℕ) → n < k → (k == n) ≡ false
 other k n lt = grind (arith, nat_tests)
-
-itself : (n : ℕ) → (n == n) ≡ true
-itself n = grind (arith, nat_tests)
 
 -- a later entry's value isn't this one's
 first_later : (n k : ℕ) (o : Option (List ℕ)) (vs : List FoundValue) → n < k → value_first n vs ≡ None → value_first n (values_noted k o ++ vs) ≡ None

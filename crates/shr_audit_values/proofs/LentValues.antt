@@ -1,13 +1,10 @@
 -- Values that hits lend, at known values.
-use Rattle.std.proofs.Common.{◌≡◌, true, List, [], ◌∷◌, Some, None, refl}
+use Rattle.shr_audit_values.proofs.Common.{◌≡◌, List, [], ◌∷◌, Some, None, refl, Entry, Add, Look, FoundValue, AreAhead, value_first, values_behind}
+use Rattle.std.proofs.Common.{true}
 use Rattle.std.specs.Prelude.{codes}
-use Rattle.shr_base.specs.declared.journals.Entry.{Entry}
-use Rattle.shr_base.specs.declared.journals.Entry.TheVariants.{Add, Look}
 use Rattle.shr_model.specs.Items.{items_from, moved_from}
-use Rattle.shr_replay.specs.declared.values.FoundValue.{FoundValue}
 use Rattle.shr_replay.specs.Journals.{values_from}
 use Rattle.shr_report.proofs.SecondReport.{by}
-use Rattle.shr_audit_values.specs.Lent.{AreAhead, value_first, values_behind}
 
 -- a put, a get that finds its object, and one that finds none
 abbrev entries : List Entry

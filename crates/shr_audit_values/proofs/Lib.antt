@@ -1,3 +1,4 @@
+mod Common
 mod Lending
 mod Replying
 mod Places

@@ -1,23 +1,15 @@
 -- What hits lend at each place, against a loop over the lists that are printed.
-use Rattle.std.proofs.Common.{◌≡◌, ℕ, Bool, List, [], take, Some, refl, sym, ap, subst, inl, inr, arith}
-use Rattle.std.specs.Prelude.{slice_get}
-use Rattle.std.specs.Bool.{Decides}
+use Rattle.shr_audit_values.proofs.Common.{◌≡◌, ℕ, Bool, List, [], take, Some, refl, sym, ap, subst, arith, slice_get, Decides, Place, Entry, Add, Look, lists_moved_at, value_met, Report, journals_of, EachFirst, IsFirst, AreMetLent, AreValuesLentAt, IsLent}
+use Rattle.std.proofs.Common.{inl, inr}
 use Rattle.std.proofs.lemmas.Option.{slice_get_within}
-use Rattle.shr_base.specs.declared.places.Place.{Place}
-use Rattle.shr_base.specs.declared.journals.Entry.{Entry}
-use Rattle.shr_base.specs.declared.journals.Entry.TheVariants.{Add, Look, Drop, Pin, Scan, MovedIn, Closed, Drained}
+use Rattle.shr_base.specs.declared.journals.Entry.TheVariants.{Drop, Pin, Scan, MovedIn, Closed, Drained}
 use Rattle.shr_base.specs.declared.scripts.Script.{Script}
 use Rattle.shr_model.specs.Items.{items_from}
-use Rattle.shr_model.specs.Families.{lists_moved_at}
-use Rattle.shr_replay.specs.Values.{value_met}
-use Rattle.shr_report.specs.declared.report.Report.{Report}
-use Rattle.shr_report.specs.Parts.{journal_of, journals_of, parents_of}
-use Rattle.shr_case.specs.Each.{EachFirst}
-use Rattle.shr_case.specs.Places.{IsFirst}
+use Rattle.shr_report.specs.Parts.{journal_of, parents_of}
 use Rattle.shr_case.proofs.Eachs.{decides_iff}
 use Rattle.shr_case.proofs.Firsts.{found_or_none}
 use Rattle.shr_audit_replies.specs.Answers.{AreValuesLent}
-use Rattle.shr_audit_values.specs.Lent.{AreMetLent, AreValuesLentAt, IsLent, IsValueLent}
+use Rattle.shr_audit_values.specs.Lent.{IsValueLent}
 
 -- ---- one entry
 

@@ -1,19 +1,14 @@
 -- What a reply lends, against what was found.
-use Rattle.std.proofs.Common.{◌≡◌, ℕ, Bool, List, Option, Some, sym, ap, ◌∙◌}
+use Rattle.shr_audit_values.proofs.Common.{◌≡◌, ℕ, Bool, List, Option, Some, sym, ap, ◌∙◌, Decides, Place, Report, at}
 use Rattle.std.specs.Prelude.{option_map}
-use Rattle.std.specs.Bool.{Decides}
 use Rattle.shr_base.specs.declared.places.At.{At}
-use Rattle.shr_base.specs.declared.places.Place.{Place}
 use Rattle.shr_base.specs.declared.places.Serial.{Serial}
 use Rattle.shr_base.specs.declared.replies.Answered.{Answered}
 use Rattle.shr_base.specs.declared.replies.Reply.{Reply}
 use Rattle.shr_base.specs.declared.replies.Reply.TheVariants.{Hit}
-use Rattle.shr_report.specs.declared.report.Report.{Report}
-use Rattle.shr_report.specs.Parts.{answer_at, at}
+use Rattle.shr_report.specs.Parts.{answer_at}
 use Rattle.shr_audit_values.specs.Lent.{IsLentTo}
-
-some_same : {X : Type 0} (a b : X) → ◌≡◌ {A = Option X} (Some a) (Some b) → a ≡ b
-some_same a b e = cc
+use Rattle.shr_case.proofs.Firsts.{some_is}
 
 hit_value : (c d : At) (v w : List ℕ) → Hit c v ≡ Hit d w → v ≡ w
 hit_value c d v w e = cc
@@ -28,6 +23,6 @@ hit_lends x c a v found b is same d = (
 -- the reply of an answer
 pub answer_lends : (r : Report) (place : Place) (n : ℕ) (by : Serial) (a : Answered) (found : Option (List ℕ)) (b : Bool) → Some a ≡ answer_at r by → Decides b ((value : List ℕ) → a.reply ≡ Hit (at place n) value → found ≡ Some value) → Decides b (IsLentTo r place n by found)
 answer_lends r place n by a found b is d = (
-  λ t value e. d.0 t value (some_same a.reply (Hit (at place n) value) (ap (option_map (λ (x : Answered). x.reply)) is ∙ e)),
+  λ t value e. d.0 t value (some_is a.reply (Hit (at place n) value) (ap (option_map (λ (x : Answered). x.reply)) is ∙ e)),
   λ all. d.1 (λ value e. all value (sym (ap (option_map (λ (x : Answered). x.reply)) is) ∙ ap (λ (y : Reply). Some y) e)),
 )

@@ -1,18 +1,15 @@
--- Versions noted one after another.
-use Rattle.std.proofs.Common.{◌≡◌, ℕ, zero, suc, ◌+◌, ◌<◌, ◌≤◌, Bool, true, false, cond, List, [], ◌∷◌, ◌++◌, length, get_or, take, drop, map, flat_map, filter, Option, None, refl, sym, ap, subst, ◌∙◌, arith}
+-- Versions noted one after_suc another.
+use Rattle.shr_audit_versions.proofs.Common.{◌≡◌, ℕ, ◌<◌, ◌≤◌, Bool, true, false, List, length, get_or, take, map, flat_map, Option, None, refl, sym, ap, subst, ◌∙◌, arith, Decides, Place, WalkRecord, counts_of, versions_at, AreNotFalling, Notes, if_here}
+use Rattle.std.proofs.Common.{zero, suc, ◌+◌, cond, [], ◌∷◌, ◌++◌, drop, filter}
 use Rattle.std.specs.Prelude.{nat_eq}
-use Rattle.std.specs.Bool.{Decides}
 use Rattle.std.specs.HashMap.{get}
 use Rattle.std.proofs.lemmas.List.{append-nil, append_assoc, take_more, take_all, take-append-drop}
 use Rattle.std.proofs.lemmas.List.Concat.{flat_map-append}
-use Rattle.shr_base.specs.declared.places.Place.{Place}
 use Rattle.shr_base.specs.declared.walks.Attempt.{Attempt}
-use Rattle.shr_base.specs.declared.walks.WalkRecord.{WalkRecord}
-use Rattle.shr_model.specs.Attempts.{counts_of}
 use Rattle.shr_model.specs.Places.{is_place}
-use Rattle.shr_model.specs.Walks.{place_in, versions_at}
-use Rattle.shr_report.specs.WellFormed.{AreNotFalling}
-use Rattle.shr_audit_versions.specs.Table.{NotFallingFrom, NotFallingOn, Notes, Versions, fits, if_here, last_at, place_key, read_as}
+use Rattle.shr_model.specs.Walks.{place_in}
+use Rattle.shr_audit_versions.specs.Table.{NotFallingFrom, NotFallingOn, Versions, fits, last_at, place_key, read_as}
+use Rattle.shr_model.proofs.Numbers.{after_suc}
 
 -- ---- tables and lists of the same
 
@@ -25,7 +22,7 @@ notes_same old new b f g same n rest = (
   λ h. same_on old (λ q. f q ++ rest q) (λ q. g q ++ rest q) (λ q. ap (λ (xs : List ℕ). xs ++ rest q) (same q)) ((n rest).1 h),
 )
 
--- one after the other
+-- one after_suc the other
 pub notes_both : (old now new : Versions) (a b : Bool) (f g : Place → List ℕ) → a ≡ true → Notes old now a f → Notes now new b g → Notes old new b (λ q. f q ++ g q)
 notes_both old now new a b f g sure first second rest = (
   λ h. (second rest).0 ((first (λ q. g q ++ rest q)).0 (same_on old (λ q. (f q ++ g q) ++ rest q) (λ q. f q ++ (g q ++ rest q)) (λ q. append_assoc (f q) (g q) (rest q)) h)).1,
@@ -127,18 +124,15 @@ module _ (w : WalkRecord) (tries : List Attempt) (old now new : Versions) (i : �
 
 -- ---- from an empty table
 
-after : (k : ℕ) → suc (k + 1) ≡ suc k + 1
-after k = omega arith
-
 not_falling : (low : ℕ) (xs : List ℕ) → NotFallingFrom low xs → AreNotFalling xs
 not_falling low [] h k d lt = absurd (omega arith)
 not_falling low (x ∷ []) h k d lt = absurd (omega arith)
 not_falling low (x ∷ y ∷ ys) h zero d lt = h.1.0
-not_falling low (x ∷ y ∷ ys) h (suc k) d lt = subst (λ (n : ℕ). get_or (y ∷ ys) k d ≤ get_or (x ∷ y ∷ ys) n d) (after k) (not_falling x (y ∷ ys) h.1 k d (omega arith))
+not_falling low (x ∷ y ∷ ys) h (suc k) d lt = subst (λ (n : ℕ). get_or (y ∷ ys) k d ≤ get_or (x ∷ y ∷ ys) n d) (after_suc k) (not_falling x (y ∷ ys) h.1 k d (omega arith))
 
 from_first : (x : ℕ) (xs : List ℕ) → AreNotFalling (x ∷ xs) → NotFallingFrom x xs
 from_first x [] h = tt
-from_first x (y ∷ ys) h = (h 0 0 (omega arith), from_first y ys (λ k d lt. subst (λ (n : ℕ). get_or (y ∷ ys) k d ≤ get_or (x ∷ y ∷ ys) n d) (sym (after k)) (h (suc k) d (omega arith))))
+from_first x (y ∷ ys) h = (h 0 0 (omega arith), from_first y ys (λ k d lt. subst (λ (n : ℕ). get_or (y ∷ ys) k d ≤ get_or (x ∷ y ∷ ys) n d) (sym (after_suc k)) (h (suc k) d (omega arith))))
 
 from_none : (xs : List ℕ) → AreNotFalling xs → NotFallingFrom 0 xs
 from_none [] h = tt

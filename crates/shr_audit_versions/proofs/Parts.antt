@@ -1,17 +1,9 @@
 -- The workers of a report one after another.
-use Rattle.std.proofs.Common.{◌≡◌, ℕ, ◌<◌, ◌≤◌, Bool, true, false, List, length, get_or, flat_map, Option, Some, None, refl, sym, ap, subst, ◌∙◌, arith}
-use Rattle.std.specs.Prelude.{slice_get}
-use Rattle.std.specs.Bool.{Decides}
+use Rattle.shr_audit_versions.proofs.Common.{◌≡◌, ℕ, ◌<◌, ◌≤◌, Bool, true, false, List, length, get_or, flat_map, Option, Some, None, refl, sym, ap, subst, ◌∙◌, arith, slice_get, Decides, WorkerPart, Place, WalkRecord, versions_at, AreNotFalling, IsPartRising}
 use Rattle.std.proofs.lemmas.Option.{slice_get-get_or}
-use Rattle.shr_base.specs.declared.ends.WorkerPart.{WorkerPart}
-use Rattle.shr_base.specs.declared.places.Place.{Place}
-use Rattle.shr_base.specs.declared.walks.WalkRecord.{WalkRecord}
-use Rattle.shr_model.specs.Walks.{versions_at}
 use Rattle.shr_report.specs.declared.report.Report.{Report}
 use Rattle.shr_report.specs.Parts.{walks_in, walks_of}
-use Rattle.shr_report.specs.WellFormed.{AreNotFalling}
 use Rattle.shr_formed.proofs.Eachs.{all_at, fails}
-use Rattle.shr_audit_versions.specs.Table.{IsPartRising}
 
 abbrev pub AllRising : Report → Type 0
 AllRising r = (worker : ℕ) (place : Place) → AreNotFalling (flat_map (versions_at place) (walks_of r worker))

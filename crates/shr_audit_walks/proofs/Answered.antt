@@ -1,39 +1,29 @@
 -- What commands are answered, gone through worker by worker.
-use Rattle.std.proofs.Common.{◌≡◌, ℕ, suc, ◌<◌, ◌≤◌, Bool, true, false, cond, List, [], ◌∷◌, length, get_or, Option, Some, refl, sym, ap, subst, ◌∙◌, arith}
-use Rattle.std.specs.Prelude.{◌==◌, ◌&&◌, filter, slice_get}
-use Rattle.std.specs.Bool.{Decides}
-use Rattle.std.proofs.lemmas.Option.{slice_get-get_or}
-use Rattle.std.proofs.lemmas.Bool.Decides.{nat_tests}
-use Rattle.shr_base.specs.declared.ends.WorkerPart.{WorkerPart}
-use Rattle.shr_base.specs.declared.replies.Answered.{Answered}
+use Rattle.shr_audit_walks.proofs.Common.{◌≡◌, ℕ, suc, ◌<◌, ◌≤◌, Bool, true, false, cond, List, [], ◌∷◌, length, get_or, Option, Some, refl, sym, ap, subst, ◌∙◌, arith, ◌==◌, filter, slice_get, Decides, slice_get-get_or, nat_tests, WorkerPart, Answered, Script, WalkRecord, Report, serial_of, walks_in, Each, all_at, clash, StandByCommand, IsAnswerTold, IsPartTold, walks_with}
+use Rattle.std.specs.Prelude.{◌&&◌}
 use Rattle.shr_base.specs.declared.replies.Reply.{Reply}
 use Rattle.shr_base.specs.declared.scripts.Command.{Command}
-use Rattle.shr_base.specs.declared.scripts.Script.{Script}
-use Rattle.shr_base.specs.declared.walks.WalkRecord.{WalkRecord}
 use Rattle.shr_model.specs.Commands.{is_serial}
-use Rattle.shr_report.specs.declared.report.Report.{Report}
-use Rattle.shr_report.specs.Parts.{command_at, serial_of, walks_in, walks_by, EachAnswer}
+use Rattle.shr_report.specs.Parts.{command_at, walks_by, EachAnswer}
 use Rattle.shr_report.specs.WalksLawful.{IsToldBy}
 use Rattle.shr_report.specs.WellFormed.{IsWellFormed}
-use Rattle.shr_formed.specs.Each.{Each, IsOf}
+use Rattle.shr_formed.specs.Each.{IsOf}
 use Rattle.shr_formed.proofs.WellParts.{parts_of}
-use Rattle.shr_formed.proofs.Eachs.{all_at, clash}
 use Rattle.shr_case.specs.Each.{AnswersInParts}
 use Rattle.shr_case.proofs.Eachs.{each_answer_of}
-use Rattle.shr_audit_walks.specs.Commands.{StandByCommand, IsAnswerTold, IsPartTold, walks_with}
 
-same_test : (worker n a b : ℕ) → a ≡ worker → ((worker == a) && (n == b)) ≡ (b == n)
+pub same_test : (worker n a b : ℕ) → a ≡ worker → ((worker == a) && (n == b)) ≡ (b == n)
 same_test worker n a b e = grind (arith, nat_tests)
 
 -- of walks of one worker, those of a serial are those of its number
-own_walks : (worker n answers : ℕ) (walks : List WalkRecord) → Each (λ x. IsOf worker answers x.by) walks → filter (λ (w : WalkRecord). is_serial (serial_of worker n) w.by) walks ≡ walks_with walks n
+pub own_walks : (worker n answers : ℕ) (walks : List WalkRecord) → Each (λ x. IsOf worker answers x.by) walks → filter (λ (w : WalkRecord). is_serial (serial_of worker n) w.by) walks ≡ walks_with walks n
 own_walks worker n answers [] h = refl
 own_walks worker n answers (w ∷ ws) h =
     ap (λ (t : Bool). cond t (w ∷ filter (λ (x : WalkRecord). is_serial (serial_of worker n) x.by) ws) (filter (λ (x : WalkRecord). is_serial (serial_of worker n) x.by) ws)) (same_test worker n w.by.worker w.by.command (h 0 w refl).0)
     ∙ ap (λ (xs : List WalkRecord). cond (w.by.command == n) (w ∷ xs) xs) (own_walks worker n answers ws (λ k x e. h (suc k) x e))
 
 -- the walks of a command are those of its number in the part of its worker
-walks_are : (r : Report) (worker n : ℕ) (part : WorkerPart) → IsWellFormed r → slice_get r.workers.items worker ≡ Some part → walks_by r (serial_of worker n) ≡ walks_with part.walks.items n
+pub walks_are : (r : Report) (worker n : ℕ) (part : WorkerPart) → IsWellFormed r → slice_get r.workers.items worker ≡ Some part → walks_by r (serial_of worker n) ≡ walks_with part.walks.items n
 walks_are r worker n part well at =
     ap (λ (x : Option WorkerPart). filter (λ (w : WalkRecord). is_serial (serial_of worker n) w.by) (walks_in x)) at ∙ own_walks worker n (length part.answers.items) part.walks.items (parts_of r well worker part at).1.0.1.0
 
@@ -53,7 +43,7 @@ told_all s r parts i well e over before = each_answer_of s r (λ by c a. IsToldB
   λ h. refl,
 )
 
-here_at : {X : Type 0} (xs ys : List X) (i : ℕ) (x : X) → xs ≡ ys → i < length xs → x ≡ get_or xs i x → slice_get ys i ≡ Some x
+pub here_at : {X : Type 0} (xs ys : List X) (i : ℕ) (x : X) → xs ≡ ys → i < length xs → x ≡ get_or xs i x → slice_get ys i ≡ Some x
 here_at {X} xs ys i x e lt is = ap (λ (zs : List X). slice_get zs i) (sym e) ∙ slice_get-get_or xs i x lt ∙ ap (λ (y : X). Some y) (sym is)
 
 pub stands_here : (r : Report) (parts : List WorkerPart) (worker : ℕ) (part : WorkerPart) → IsWellFormed r → parts ≡ r.workers.items → worker < length parts → part ≡ get_or parts worker part → StandByCommand part.walks.items

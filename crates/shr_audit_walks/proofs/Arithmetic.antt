@@ -1,13 +1,10 @@
 -- The arithmetic of a pass, by the number and the size of the asks that were due.
-use Rattle.std.proofs.Common.{◌≡◌, ℕ, ◌*◌, ◌/◌, ◌^◌, ◌<◌, ◌≤◌, Bool, true, false, take, refl, sym, ap, ◌∙◌, arith}
-use Rattle.std.specs.Prelude.{min, nat_le, replicate, sum}
-use Rattle.std.specs.Bool.{Decides}
+use Rattle.shr_audit_walks.proofs.Common.{◌≡◌, ℕ, ◌*◌, ◌/◌, ◌<◌, ◌≤◌, Bool, true, false, take, refl, sym, ap, ◌∙◌, arith, nat_le, replicate, Decides, common_steps, nat_tests, PassRecord, due, ask_size, batch_of, total_of, next_of, MadeOf}
+use Rattle.std.proofs.Common.{◌^◌}
+use Rattle.std.specs.Prelude.{min, sum}
 use Rattle.std.proofs.Math.Nat.{pow-le-pow_right, div-eq_of_lt}
 use Rattle.std.proofs.lemmas.List.{length-replicate}
-use Rattle.std.proofs.lemmas.Grind.{common_steps}
-use Rattle.std.proofs.lemmas.Bool.Decides.{nat_tests}
-use Rattle.shr_base.specs.declared.walks.PassRecord.{PassRecord}
-use Rattle.shr_model.specs.Pass.{due, ask_size, due_asks, batch_of, total_of, delta_of, next_of, MadeOf, FollowsArithmetic}
+use Rattle.shr_model.specs.Pass.{due_asks, delta_of, FollowsArithmetic}
 use Rattle.shr_model.proofs.PassLaws.{asks_sum}
 
 -- halved more often than it has bits, nothing is left of a number

@@ -1,19 +1,10 @@
 -- Counts that are right in the tree of a case are so in that of its script.
-use Rattle.std.proofs.Common.{◌≡◌, ℕ, Bool, List, [], ◌∷◌, length, sym, ap, ◌∙◌}
-use Rattle.std.specs.Bool.{Decides}
-use Rattle.std.specs.List.{AllByRecursion}
+use Rattle.shr_audit_walks.proofs.Common.{◌≡◌, ℕ, Bool, List, [], ◌∷◌, length, sym, ap, ◌∙◌, Decides, AllByRecursion, Script, WalkRecord, counts_of, place_in, Report, IsCount, parents_of, Each, IsCountIn, AreCountsIn, AreCountsAt}
 use Rattle.shr_base.specs.declared.places.Place.{Place}
-use Rattle.shr_base.specs.declared.scripts.Script.{Script}
-use Rattle.shr_base.specs.declared.walks.WalkRecord.{WalkRecord}
-use Rattle.shr_model.specs.Attempts.{Count, counts_of}
+use Rattle.shr_model.specs.Attempts.{Count}
 use Rattle.shr_model.specs.Families.{items_at}
-use Rattle.shr_model.specs.Walks.{place_in}
-use Rattle.shr_report.specs.declared.report.Report.{Report}
-use Rattle.shr_report.specs.LawfulWalk.{IsCount}
-use Rattle.shr_report.specs.Parts.{journals_of, parents_of}
-use Rattle.shr_formed.specs.Each.{Each}
+use Rattle.shr_report.specs.Parts.{journals_of}
 use Rattle.shr_formed.proofs.Eachs.{each_weaker}
-use Rattle.shr_audit_walks.specs.Counts.{IsCountIn, AreCountsIn, AreCountsAt}
 
 to_script : (s : Script) (r : Report) (place : Place) (parents : List ℕ) → parents ≡ parents_of s → (cs : List Count) → AllByRecursion (IsCountIn parents r place) cs → AllByRecursion (IsCount s r place) cs
 to_script s r place parents e [] h = tt

@@ -1,14 +1,6 @@
 -- What is so of each walk, gone through worker by worker.
-use Rattle.std.proofs.Common.{◌≡◌, ℕ, ◌+◌, ◌<◌, ◌≤◌, Bool, true, false, List, length, get_or, Option, Some, sym, ap, subst, ◌∙◌}
-use Rattle.std.specs.Prelude.{slice_get}
-use Rattle.std.specs.Bool.{Decides}
-use Rattle.std.proofs.lemmas.Option.{slice_get-get_or, get_or_from_slice_get}
-use Rattle.shr_base.specs.declared.walks.WalkRecord.{WalkRecord}
-use Rattle.shr_base.specs.declared.ends.WorkerPart.{WorkerPart}
-use Rattle.shr_report.specs.declared.report.Report.{Report}
-use Rattle.shr_report.specs.Parts.{walks_in, EachWalk}
-use Rattle.shr_formed.specs.Each.{Each}
-use Rattle.shr_formed.proofs.Eachs.{all_at, more_at, clash, each_more, each_all}
+use Rattle.shr_audit_walks.proofs.Common.{◌≡◌, ℕ, ◌+◌, ◌<◌, ◌≤◌, Bool, true, false, List, length, get_or, Option, Some, sym, ap, subst, ◌∙◌, slice_get, Decides, slice_get-get_or, get_or_from_slice_get, WalkRecord, WorkerPart, Report, walks_in, Each, all_at, more_at, clash, each_more, each_all}
+use Rattle.shr_report.specs.Parts.{EachWalk}
 use Rattle.shr_case.proofs.Eachs.{each_walk_of}
 
 -- so it is of the walks of a worker

@@ -1,19 +1,13 @@
 -- Items with rising keys: those of one key stand together.
-use Rattle.std.proofs.Common.{◌≡◌, ℕ, zero, suc, ◌-◌, ◌<◌, ◌≤◌, Bool, true, false, cond, List, [], ◌∷◌, length, take, drop, Some, refl, sym, ap, ◌∙◌, arith}
-use Rattle.std.specs.Prelude.{◌==◌, filter, nat_lt, nat_le, slice_get}
+use Rattle.shr_audit_walks.proofs.Common.{◌≡◌, ℕ, zero, suc, ◌-◌, ◌<◌, ◌≤◌, Bool, true, false, cond, List, [], ◌∷◌, length, take, Some, refl, sym, ap, ◌∙◌, arith, ◌==◌, filter, nat_lt, nat_le, slice_get, nat_tests, common_steps, WalkRecord, StandByCommand}
+use Rattle.std.proofs.Common.{drop}
 use Rattle.std.specs.List.Sorted.{IsPartitionedBy, IsNonDecreasingBy}
 use Rattle.std.proofs.lemmas.List.Sorted.{IsNonDecreasingBy-from_all_adjacent}
-use Rattle.std.proofs.lemmas.Bool.Decides.{nat_tests}
-use Rattle.std.proofs.lemmas.Grind.{common_steps}
-use Rattle.shr_base.specs.declared.walks.WalkRecord.{WalkRecord}
 use Rattle.shr_formed.proofs.Eachs.{below_of}
-use Rattle.shr_audit_walks.specs.Commands.{StandByCommand}
+use Rattle.shr_model.proofs.Booleans.{is_same}
 
 other : (a k : ℕ) → (a ≡ k → ⊥) → (a == k) ≡ false
 other a k ne = grind (arith, nat_tests)
-
-same : (a k : ℕ) → a ≡ k → (a == k) ≡ true
-same a k e = grind (arith, nat_tests)
 
 -- the items from `low` up to `high` are those of the key
 pub range_filter : {X : Type 0} (key : X → ℕ) (k : ℕ) (xs : List X) (low high : ℕ) → low ≤ high → high ≤ length xs
@@ -26,7 +20,7 @@ range_filter {X} key k (x ∷ xs) zero zero le few a b c d =
     let more = range_filter key k xs zero zero (omega arith) (omega arith) (λ n y lt e. absurd (omega arith)) (λ n y lt e. b (suc n) y (omega arith) e) (λ n y lt e. absurd (omega arith)) (λ n y lt e. d (suc n) y (omega arith) e) in
     more ∙ sym (ap (λ (t : Bool). cond t (x ∷ filter (λ (y : X). key y == k) xs) (filter (λ (y : X). key y == k) xs)) away)
 range_filter {X} key k (x ∷ xs) zero (suc high) le few a b c d =
-    let here : (key x == k) ≡ true = same (key x) k (omega (arith, b 0 x (omega arith) refl, c 0 x (omega arith) refl)) in
+    let here : (key x == k) ≡ true = is_same (key x) k (omega (arith, b 0 x (omega arith) refl, c 0 x (omega arith) refl)) in
     let more = range_filter key k xs zero high (omega arith) (omega arith) (λ n y lt e. absurd (omega arith)) (λ n y lt e. b (suc n) y (omega arith) e) (λ n y lt e. c (suc n) y (omega arith) e) (λ n y lt e. d (suc n) y (omega arith) e) in
     let all : suc high - 0 ≡ suc high = omega arith in
     let rest : high ≡ high - 0 = omega arith in

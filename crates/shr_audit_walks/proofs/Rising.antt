@@ -1,23 +1,19 @@
 -- Numbers from 0 up, as far as they are seen, and the ids of the bits of a word.
-use Rattle.std.proofs.Common.{◌≡◌, ℕ, zero, suc, ◌+◌, ◌*◌, ◌<◌, ◌≤◌, Bool, true, false, cond, List, [], ◌∷◌, ◌++◌, length, get_or, map, filter, take, refl, sym, ap, subst, ◌∙◌, append_assoc, arith}
-use Rattle.std.specs.Bool.{Decides}
-use Rattle.std.specs.List.{range_with_len}
-use Rattle.std.proofs.lemmas.List.{append-nil, map-id, map-append, length-map, get_or-map, map_more, take-map}
-use Rattle.std.proofs.lemmas.List.FromFn.{length-range_with_len, get_or-range_with_len, map-range_with_len_more}
+use Rattle.shr_audit_walks.proofs.Common.{◌≡◌, ℕ, zero, suc, ◌+◌, ◌*◌, ◌<◌, ◌≤◌, Bool, true, false, cond, List, [], ◌∷◌, ◌++◌, length, get_or, map, filter, take, refl, sym, ap, subst, ◌∙◌, arith, Decides, range_with_len, append-nil, length-map, common_steps, ids_in}
+use Rattle.std.proofs.Common.{append_assoc}
+use Rattle.std.proofs.lemmas.List.{map-append, get_or-map, map_more, take-map}
+use Rattle.std.proofs.lemmas.List.FromFn.{length-range_with_len, get_or-range_with_len}
 use Rattle.std.proofs.lemmas.List.Elements.{filter-append}
-use Rattle.std.proofs.lemmas.Grind.{common_steps}
-use Rattle.shr_model.specs.Bits.{is_set, ids_in}
+use Rattle.shr_model.specs.Bits.{is_set}
 use Rattle.shr_model.specs.Prefixes.{IsPrefixOf}
 use Rattle.shr_audit_walks.specs.Seen.{ids_below}
+use Rattle.shr_formed.proofs.Strip.{range_more}
 
 pub take_range : (a n k : ℕ) → k ≤ n → take k (range_with_len a n) ≡ range_with_len a k
 take_range a zero zero h = refl
 take_range a zero (suc k) h = absurd (omega arith)
 take_range a (suc n) zero h = refl
 take_range a (suc n) (suc k) h = ap (λ (xs : List ℕ). a ∷ xs) (take_range (a + 1) n k (omega arith))
-
-pub range_more : (a n j : ℕ) → a + n ≡ j → range_with_len a (n + 1) ≡ range_with_len a n ++ j ∷ []
-range_more a n j e = sym (map-id (range_with_len a (n + 1))) ∙ map-range_with_len_more (λ x. x) a n j e ∙ ap (λ (xs : List ℕ). xs ++ j ∷ []) (map-id (range_with_len a n))
 
 -- more than there are numbers are not the first of them
 pub too_many : {X : Type 0} (f : X → ℕ) (xs : List X) (n : ℕ) → n < length xs → Decides false (IsPrefixOf (map f xs) (range_with_len 0 n))

@@ -1,20 +1,12 @@
 -- The Scan entries of a pass, each by itself and all together.
-use Rattle.std.proofs.Common.{◌≡◌, ℕ, zero, suc, ◌+◌, ◌-◌, ◌≤◌, Bool, false, List, [], ◌∷◌, length, take, map, Some, refl, sym, ap, subst, ◌∙◌}
-use Rattle.std.specs.Prelude.{replicate, sum_by, slice_get}
-use Rattle.std.specs.Bool.{Decides}
-use Rattle.std.specs.List.{AllByRecursion}
-use Rattle.std.proofs.lemmas.List.{length-map, take-replicate}
-use Rattle.std.proofs.lemmas.List.Sums.{sum_by-cons}
+use Rattle.shr_audit_walks.proofs.Common.{◌≡◌, ℕ, zero, suc, ◌+◌, ◌-◌, ◌≤◌, Bool, false, List, [], ◌∷◌, length, take, map, Some, refl, sym, ap, subst, ◌∙◌, replicate, sum_by, slice_get, Decides, AllByRecursion, length-map, sum_by-cons, PassRecord, due, ask_size, batch_of, total_of, Each, ScanSeen, made_of, freed_of_scan, IsScanOf}
+use Rattle.std.proofs.lemmas.List.{take-replicate}
 use Rattle.shr_base.specs.declared.objects.Policy.{Policy}
 use Rattle.shr_base.specs.declared.scripts.CacheDecl.{CacheDecl}
-use Rattle.shr_base.specs.declared.walks.PassRecord.{PassRecord}
-use Rattle.shr_model.specs.Pass.{due, ask_size, batch_of, total_of}
 use Rattle.shr_model.specs.Scans.{ScanMade}
 use Rattle.shr_report.specs.LawfulWalk.{AreScansOf, asks_due}
-use Rattle.shr_formed.specs.Each.{Each}
 use Rattle.shr_formed.proofs.Eachs.{fails}
-use Rattle.shr_audit_walks.specs.declared.scans.ScanSeen.{ScanSeen}
-use Rattle.shr_audit_walks.specs.Scans.{made_of, freed_of_scan, IsScanOf}
+use Rattle.shr_model.proofs.Lists.{heads}
 
 -- as many asks of this size as there are scans
 alike : (size : ℕ) (policy : Policy) (version : ℕ) (xs : List ScanSeen) → Each (IsScanOf size policy version) xs → map (λ (m : ScanMade). m.asked) (map made_of xs) ≡ replicate (length xs) size
@@ -32,10 +24,7 @@ laters size policy version (x ∷ xs) h = ((h 0 x refl).1.1, laters size policy 
 some_same : (a b : ScanSeen) → Some a ≡ Some b → a ≡ b
 some_same a b e = cc
 
-heads : (x y : ℕ) (xs ys : List ℕ) → x ∷ xs ≡ y ∷ ys → x ≡ y
-heads x y xs ys e = cc
-
-tails : (x y : ℕ) (xs ys : List ℕ) → x ∷ xs ≡ y ∷ ys → xs ≡ ys
+pub tails : (x y : ℕ) (xs ys : List ℕ) → x ∷ xs ≡ y ∷ ys → xs ≡ ys
 tails x y xs ys e = cc
 
 -- and the other way round

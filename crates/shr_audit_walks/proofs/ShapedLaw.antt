@@ -1,22 +1,11 @@
 -- What a walk shows by itself is what the law on walks asks of it in these fields.
-use Rattle.std.proofs.Common.{◌≡◌, ℕ, true, Some}
-use Rattle.std.specs.Prelude.{slice_get}
-use Rattle.std.specs.List.{AllByRecursion}
+use Rattle.shr_audit_walks.proofs.Common.{◌≡◌, ℕ, true, Some, slice_get, AllByRecursion, Script, Attempt, PassRecord, WalkRecord, counts_of, pass_of, place_in, Report, IsCount, Each, IsShaped, AreCountsAt, IsKindAt, IsStopAt}
 use Rattle.std.specs.Option.{IsSomeAnd}
-use Rattle.shr_base.specs.declared.scripts.Script.{Script}
-use Rattle.shr_base.specs.declared.walks.Attempt.{Attempt}
-use Rattle.shr_base.specs.declared.walks.PassRecord.{PassRecord}
 use Rattle.shr_base.specs.declared.walks.Ending.TheVariants as ending
-use Rattle.shr_base.specs.declared.walks.WalkRecord.{WalkRecord}
-use Rattle.shr_model.specs.Attempts.{counts_of, is_held, pass_of}
-use Rattle.shr_model.specs.Walks.{is_cut, place_in}
-use Rattle.shr_report.specs.declared.report.Report.{Report}
-use Rattle.shr_report.specs.LawfulWalk.{IsLawfulWalk, IsBegun, IsLastOfCut, IsStopped, IsCount, IsOutcomeOf, EachPass, cache_of}
+use Rattle.shr_model.specs.Attempts.{is_held}
+use Rattle.shr_model.specs.Walks.{is_cut}
+use Rattle.shr_report.specs.LawfulWalk.{IsLawfulWalk, IsBegun, IsLastOfCut, IsStopped, IsOutcomeOf, EachPass, cache_of}
 use Rattle.shr_report.specs.Parts.{EachAttempt}
-use Rattle.shr_formed.specs.Each.{Each}
-use Rattle.shr_audit_walks.specs.Fields.{IsShaped}
-use Rattle.shr_audit_walks.specs.Counts.{AreCountsAt}
-use Rattle.shr_audit_walks.specs.Kinds.{IsKindAt, IsStopAt}
 
 -- a lawful walk shows it
 pub shaped_of : (s : Script) (r : Report) (worker n : ℕ) (w : WalkRecord) → IsLawfulWalk s r worker n w → IsShaped s w

@@ -1,19 +1,9 @@
 -- The words before the last one, and what passes freed.
-use Rattle.std.proofs.Common.{◌≡◌, ℕ, suc, ◌+◌, ◌-◌, ◌<◌, ◌≤◌, Bool, List, [], ◌∷◌, ◌++◌, length, take, Option, Some, None, refl, sym, ap, subst, ◌∙◌, arith}
-use Rattle.std.specs.Prelude.{flat_map, filter_map, sum_by}
+use Rattle.shr_audit_walks.proofs.Common.{◌≡◌, ℕ, suc, ◌+◌, ◌-◌, ◌<◌, ◌≤◌, Bool, List, [], ◌∷◌, ◌++◌, length, take, Option, Some, None, refl, sym, ap, subst, ◌∙◌, arith, flat_map, sum_by, Decides, sum_by-cons, common_steps, Attempt, MapSeen, PassRecord, WalkRecord, pass_of, ids_in, AreTried, freed_by, freed_in}
+use Rattle.std.specs.Prelude.{filter_map}
 use Rattle.std.specs.List.{cons_option}
-use Rattle.std.specs.Bool.{Decides}
 use Rattle.std.proofs.lemmas.List.{length-append}
-use Rattle.std.proofs.lemmas.List.Sums.{sum_by-cons}
-use Rattle.std.proofs.lemmas.Grind.{common_steps}
-use Rattle.shr_base.specs.declared.walks.Attempt.{Attempt}
-use Rattle.shr_base.specs.declared.walks.MapSeen.{MapSeen}
-use Rattle.shr_base.specs.declared.walks.PassRecord.{PassRecord}
-use Rattle.shr_base.specs.declared.walks.WalkRecord.{WalkRecord}
-use Rattle.shr_model.specs.Attempts.{pass_of}
-use Rattle.shr_model.specs.Bits.{ids_in}
 use Rattle.shr_model.specs.Walks.{freed_of}
-use Rattle.shr_audit_walks.specs.Fields.{AreTried, freed_by, freed_in}
 
 -- all but the last
 front_is : {X : Type 0} (xs before : List X) (last : X) → xs ≡ before ++ last ∷ [] → take (length xs - 1) xs ≡ before

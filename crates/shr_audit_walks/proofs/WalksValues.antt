@@ -1,30 +1,18 @@
 -- What is asked of walks, at known values.
-use Rattle.std.proofs.Common.{◌≡◌, ℕ, ◌≤◌, false, List, [], ◌∷◌, ◌++◌, length, None, refl, arith}
-use Rattle.std.specs.Prelude.{flat_map}
+use Rattle.shr_audit_walks.proofs.Common.{◌≡◌, ℕ, ◌≤◌, false, List, [], ◌∷◌, ◌++◌, length, None, refl, arith, flat_map, Attempt, MapSeen, PassRecord, WalkRecord, ids_in, parents_of, serial_of, IsCountIn, IsKindAt, IsStopAt, ScanSeen, AreTried, IsRoomAt, freed_by, freed_in, made_of, freed_of_scan, IsScanOf, StandByCommand, IsAnswerTold, walks_with}
 use Rattle.shr_base.specs.declared.objects.Policy.TheVariants.{Plain, Halt}
-use Rattle.shr_base.specs.declared.walks.Attempt.{Attempt}
 use Rattle.shr_base.specs.declared.walks.Ending.{Ending}
 use Rattle.shr_base.specs.declared.walks.Ending.TheVariants.{Through, NoRoom}
 use Rattle.shr_base.specs.declared.walks.GoneThen.TheVariants as gone
-use Rattle.shr_base.specs.declared.walks.MapSeen.{MapSeen}
 use Rattle.shr_base.specs.declared.walks.Outcome.TheVariants as outcome
-use Rattle.shr_base.specs.declared.walks.PassRecord.{PassRecord}
 use Rattle.shr_base.specs.declared.walks.WalkAnswer.{WalkAnswer}
 use Rattle.shr_base.specs.declared.walks.WalkAnswer.TheVariants.{Walked, Offline, Memory}
-use Rattle.shr_base.specs.declared.walks.WalkRecord.{WalkRecord}
-use Rattle.shr_model.specs.Bits.{ids_in}
-use Rattle.shr_report.specs.Parts.{parents_of, serial_of}
 use Rattle.shr_model.specs.Attempts.{counted}
 use Rattle.shr_model.specs.Items.{items_from}
 use Rattle.shr_report.proofs.ThirdReport.{place_of, script, report}
-use Rattle.shr_audit_walks.specs.Counts.{IsCountIn}
-use Rattle.shr_audit_walks.specs.Kinds.{IsKindAt, IsStopAt}
 use Rattle.shr_report.proofs.SecondReport.{kept}
-use Rattle.shr_audit_walks.specs.declared.scans.ScanSeen.{ScanSeen}
 use Rattle.shr_audit_walks.specs.Seen.{ids_below}
-use Rattle.shr_audit_walks.specs.Fields.{IsBareOffline, IsWhole, IsMapped, IsOfRoot, AreTried, AreFirstTries, IsRoomAt, IsRoomLast, freed_by, freed_in}
-use Rattle.shr_audit_walks.specs.Scans.{made_of, freed_of_scan, IsScanOf}
-use Rattle.shr_audit_walks.specs.Commands.{StandByCommand, IsAnswerTold, walks_with}
+use Rattle.shr_audit_walks.specs.Fields.{IsBareOffline, IsWhole, IsMapped, IsOfRoot, AreFirstTries, IsRoomLast}
 use Rattle.shr_base.specs.declared.replies.Reply.TheVariants as reply
 use Rattle.shr_base.specs.declared.replies.Reply.TheVariants.{Root}
 use Rattle.shr_base.specs.declared.scripts.Command.TheVariants.{Shrink}

@@ -1,20 +1,10 @@
 -- A report by the index, at known values.
-use Rattle.std.proofs.Common.{◌≡◌, ℕ, ◌<◌, zero, suc, Bool, true, false, Option, List, [], ◌∷◌, refl, sym, ap, ◌∙◌, arith, inl, inr}
-use Rattle.std.specs.Prelude.{Some, None, slice_get, slice_index}
-use Rattle.shr_base.specs.declared.places.Place.{Place}
-use Rattle.shr_base.specs.declared.ends.PlaceEnd.{PlaceEnd}
-use Rattle.shr_base.specs.declared.ends.WorkerPart.{WorkerPart}
+use Rattle.shr_case.proofs.Common.{◌≡◌, ℕ, ◌<◌, zero, suc, Bool, true, false, Option, List, [], ◌∷◌, refl, sym, ap, ◌∙◌, arith, inl, inr, Some, None, slice_get, slice_index, Place, PlaceEnd, WorkerPart, slice_get_within, IsPlaceUpTo, AreInOrder, IsFirst, IsIndexOf, comes_before, end_of, Replayed, AreReplays, journals_in, AreFirsts, IsNewAt, IsTakenOut, on_node, AnswersInParts, EachFirst, InParts}
 use Rattle.shr_base.specs.declared.journals.Entry.TheVariants.{Closed}
-use Rattle.std.proofs.lemmas.Option.{slice_get_within}
-use Rattle.shr_report.specs.WellFormed.{IsPlaceUpTo}
 use Rattle.shr_report.proofs.SecondReport.{kept, put}
 use Rattle.shr_report.proofs.FirstReport.{answer, report, script}
-use Rattle.shr_case.specs.Places.{AreInOrder, IsFirst, IsIndexOf, comes_before, end_of}
-use Rattle.shr_replay.specs.declared.journal.Replayed.{Replayed}
 use Rattle.shr_replay.specs.Journals.{lens_from}
-use Rattle.shr_case.specs.Lists.{AreReplays, Tells, journals_in}
-use Rattle.shr_case.specs.Replaying.{AreFirsts, IsNewAt, IsTakenOut, on_node}
-use Rattle.shr_case.specs.Each.{AnswersInParts, EachFirst, InParts}
+use Rattle.shr_case.specs.Lists.{Tells}
 
 abbrev at : ℕ → ℕ → ℕ → Place
 at id node group = record { id = id; node = node; group = group }

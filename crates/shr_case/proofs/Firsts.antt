@@ -1,13 +1,7 @@
 -- The list that is printed for a place, and the first one.
-use Rattle.std.proofs.Common.{◌≡◌, ◌≢◌, ℕ, zero, suc, ◌<◌, true, false, List, [], ◌∷◌, length, get_or, Option, Some, None, refl, sym, ap, ◌∙◌, ◌⊎◌, inl, inr, arith}
-use Rattle.std.specs.Prelude.{slice_get}
-use Rattle.std.proofs.lemmas.Bool.{cases_Bool}
-use Rattle.std.proofs.lemmas.Option.{get_or_from_slice_get, slice_get-get_or, slice_get_within}
-use Rattle.shr_base.specs.declared.places.Place.{Place}
-use Rattle.shr_base.specs.declared.ends.PlaceEnd.{PlaceEnd}
+use Rattle.shr_case.proofs.Common.{◌≡◌, ◌≢◌, ℕ, zero, suc, ◌<◌, true, false, List, [], ◌∷◌, length, get_or, Option, Some, None, refl, sym, ap, ◌∙◌, ◌⊎◌, inl, inr, arith, slice_get, cases_Bool, get_or_from_slice_get, slice_get-get_or, slice_get_within, Place, PlaceEnd, IsFirst, IsIndexOf, end_of}
 use Rattle.shr_model.specs.Places.{is_place}
 use Rattle.shr_model.proofs.PlacesLaws.{is_place_same, is_place_itself}
-use Rattle.shr_case.specs.Places.{IsFirst, IsIndexOf, end_of}
 
 -- a list is printed for a place, and this is the first one
 pub record IsFound (ends : List PlaceEnd) (place : Place) (k : ℕ) (end : PlaceEnd) : Type 0 where
@@ -16,10 +10,10 @@ pub record IsFound (ends : List PlaceEnd) (place : Place) (k : ℕ) (end : Place
   pub first : IsFirst ends k place
   pub found : end_of ends place ≡ Some end
 
-some_is : {X : Type 0} (a b : X) → ◌≡◌ {A = Option X} (Some a) (Some b) → a ≡ b
+pub some_is : {X : Type 0} (a b : X) → ◌≡◌ {A = Option X} (Some a) (Some b) → a ≡ b
 some_is a b e = cc
 
-none_first : (ends : List PlaceEnd) (place : Place) → IsFirst ends 0 place
+pub none_first : (ends : List PlaceEnd) (place : Place) → IsFirst ends 0 place
 none_first ends place m x lt = absurd (omega (arith, lt))
 
 -- the first list that is printed for a place is found there

@@ -1,6 +1,7 @@
-mod Order
+mod Common
+pub mod Order
 pub mod Firsts
 pub mod Eachs
 mod Replaying
-mod Telling
+pub mod Telling
 mod CaseValues

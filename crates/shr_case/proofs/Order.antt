@@ -1,25 +1,17 @@
 -- Lists in the order of their places.
-use Rattle.std.proofs.Common.{◌≡◌, ◌≢◌, ℕ, zero, suc, ◌+◌, ◌-◌, ◌<◌, ◌≤◌, Bool, true, false, List, length, get_or, refl, sym, ap, subst, ◌∙◌, ◌⊎◌, inl, inr, arith}
-use Rattle.std.specs.Prelude.{◌&&◌, ◌||◌, ◌==◌, nat_lt, slice_get, Some, None}
+use Rattle.shr_case.proofs.Common.{◌≡◌, ◌≢◌, ℕ, zero, suc, ◌+◌, ◌-◌, ◌<◌, ◌≤◌, Bool, true, false, List, length, get_or, refl, sym, ap, subst, ◌∙◌, ◌⊎◌, inl, inr, arith, ◌==◌, nat_lt, slice_get, Some, None, Decides, get_or_from_slice_get, slice_get-get_or, slice_get_within, cases_Bool, cases_order, and_parts, eqb-true, ltb-true, Place, PlaceEnd, IsPlaceBefore, IsPlaceUpTo, AreInOrder, IsFirst, comes_before, end_of}
+use Rattle.std.specs.Prelude.{◌&&◌, ◌||◌}
 use Rattle.std.specs.List.Sorted.{IsPartitionedBy}
-use Rattle.std.specs.Bool.{Decides}
-use Rattle.std.proofs.lemmas.Option.{get_or_from_slice_get, slice_get-get_or, slice_get_within}
-use Rattle.std.proofs.lemmas.Bool.{cases_Bool, cases_order, and_parts, and_from, eq-eqb, eqb-true, ltb-true, lt-ltb}
-use Rattle.shr_base.specs.declared.places.Place.{Place}
-use Rattle.shr_base.specs.declared.ends.PlaceEnd.{PlaceEnd}
-use Rattle.shr_report.specs.WellFormed.{IsBefore, IsPlaceBefore, IsPlaceUpTo}
-use Rattle.shr_case.specs.Places.{AreInOrder, IsFirst, comes_before, end_of}
+use Rattle.std.proofs.lemmas.Bool.{and_from, eq-eqb, lt-ltb}
+use Rattle.shr_report.specs.WellFormed.{IsBefore}
 use Rattle.shr_case.proofs.Firsts.{none_found}
+use Rattle.shr_report.proofs.Reading.{either}
 
-either : (a b : Bool) → (a || b) ≡ true → (a ≡ true) ⊎ (b ≡ true)
-either true b e = inl refl
-either false b e = inr e
-
-or_left : (a b : Bool) → a ≡ true → (a || b) ≡ true
+pub or_left : (a b : Bool) → a ≡ true → (a || b) ≡ true
 or_left true b e = refl
 or_left false b e = absurd (cc)
 
-or_right : (a b : Bool) → b ≡ true → (a || b) ≡ true
+pub or_right : (a b : Bool) → b ≡ true → (a || b) ≡ true
 or_right true b e = refl
 or_right false b e = e
 
@@ -53,7 +45,7 @@ test_from_before p q (inr (id, rest)) =
         (and_from (p.node == q.node) (nat_lt p.group q.group) (eq-eqb p.node q.node node) (lt-ltb p.group q.group group))
 
 -- of three places
-before_before : (p q r : Place) → IsPlaceBefore p q → IsPlaceBefore q r → IsPlaceBefore p r
+pub before_before : (p q r : Place) → IsPlaceBefore p q → IsPlaceBefore q r → IsPlaceBefore p r
 before_before p q r (inl a) (inl b) = inl (omega arith)
 before_before p q r (inl a) (inr (id, b)) = inl (omega arith)
 before_before p q r (inr (id, a)) (inl b) = inl (omega arith)

@@ -1,27 +1,16 @@
 -- A replay of the lists under way: what is there for the next list, and what is left after it.
-use Rattle.std.proofs.Common.{◌≡◌, ◌≢◌, ℕ, ◌+◌, ◌-◌, ◌<◌, ◌≤◌, true, false, cond, List, [], ◌∷◌, ◌++◌, length, length-append, get_or, Option, Some, None, refl, sym, ap, subst, ◌∙◌, ◌⊎◌, inl, inr, arith}
-use Rattle.std.specs.Prelude.{slice_get, slice_index, ◌==◌, nat_lt}
-use Rattle.std.proofs.lemmas.Bool.{cases_Bool, cases_order, and_parts, eqb-true, ltb-true, ltb-false}
-use Rattle.std.proofs.lemmas.Option.{get_or_from_slice_get, slice_get-get_or, slice_get_within}
+use Rattle.shr_case.proofs.Common.{◌≡◌, ◌≢◌, ℕ, ◌+◌, ◌-◌, ◌<◌, ◌≤◌, true, false, List, [], ◌∷◌, length, length-append, get_or, Option, Some, None, refl, sym, ap, subst, ◌∙◌, ◌⊎◌, inl, inr, arith, slice_get, slice_index, ◌==◌, nat_lt, cases_Bool, cases_order, and_parts, eqb-true, ltb-true, get_or_from_slice_get, slice_get-get_or, slice_get_within, Place, Object, Entry, PlaceEnd, journal_of, IsPlaceBefore, IsPlaceUpTo, Replayed, AreJournals, ArePrinted, IsReplayedAt, items_in, IsReplayed, AreInOrder, IsFirst, IsReplayOfList, items_printed_in, journals_in, AreFirsts, IsLeft, IsNewAt, IsTakenOut, on_node}
+use Rattle.std.proofs.Common.{cond, ◌++◌}
+use Rattle.std.proofs.lemmas.Bool.{ltb-false}
 use Rattle.std.proofs.lemmas.List.{get_or_append_left}
 use Rattle.std.proofs.Math.Seq.{get_or-append_seam}
-use Rattle.shr_base.specs.declared.places.Place.{Place}
-use Rattle.shr_base.specs.declared.objects.Object.{Object}
-use Rattle.shr_base.specs.declared.journals.Entry.{Entry}
-use Rattle.shr_base.specs.declared.ends.PlaceEnd.{PlaceEnd}
 use Rattle.shr_model.specs.Groups.{IsTree, is_child}
 use Rattle.shr_model.specs.Places.{at_group}
 use Rattle.shr_model.specs.Families.{Family, items_given, items_within, before_closed, lists_moved}
 use Rattle.shr_model.proofs.GroupsLaws.{child_takes}
-use Rattle.shr_report.specs.Parts.{journal_of}
-use Rattle.shr_report.specs.WellFormed.{IsPlaceBefore, IsPlaceUpTo}
-use Rattle.shr_replay.specs.declared.journal.Replayed.{Replayed}
-use Rattle.shr_replay.specs.Groups.{AreJournals, ArePrinted, AreReplayed, IsReplayedAt, entries_in, items_in}
-use Rattle.shr_replay.specs.Journals.{IsReplayed}
+use Rattle.shr_replay.specs.Groups.{AreReplayed, entries_in}
 use Rattle.shr_replay.specs.Lists.{given_by, took_of}
-use Rattle.shr_case.specs.Places.{AreInOrder, IsFirst}
-use Rattle.shr_case.specs.Lists.{IsReplayOfList, items_printed_in, journals_in}
-use Rattle.shr_case.specs.Replaying.{AreFirsts, IsLeft, IsNewAt, IsReady, IsTakenOut, on_node}
+use Rattle.shr_case.specs.Replaying.{IsReady}
 use Rattle.shr_case.proofs.Firsts.{first_found}
 
 -- the journal of a list that is printed, by its two names

@@ -1,22 +1,10 @@
 -- What the replay of a place tells.
-use Rattle.std.proofs.Common.{◌≡◌, ℕ, zero, suc, ◌+◌, ◌<◌, ◌≤◌, true, List, [], ◌∷◌, length, get_or, take, Some, None, refl, sym, ap, subst, ◌∙◌, inl, inr, arith}
-use Rattle.std.specs.Prelude.{slice_get}
-use Rattle.std.specs.Bool.{Decides}
+use Rattle.shr_case.proofs.Common.{◌≡◌, ℕ, zero, suc, ◌+◌, ◌<◌, ◌≤◌, true, List, [], ◌∷◌, length, get_or, take, Some, None, refl, sym, ap, subst, ◌∙◌, inl, inr, arith, slice_get, Decides, Place, Object, Entry, PlaceEnd, Replayed, tag_of, IsReplayedAt, items_in, IsReplayed, journal_of, IsFirst, IsIndexOf, end_of, AreReplays, items_printed_in, journals_in}
 use Rattle.std.proofs.lemmas.List.{length-map}
-use Rattle.shr_base.specs.declared.places.Place.{Place}
-use Rattle.shr_base.specs.declared.objects.Object.{Object}
-use Rattle.shr_base.specs.declared.journals.Entry.{Entry}
-use Rattle.shr_base.specs.declared.ends.PlaceEnd.{PlaceEnd}
 use Rattle.shr_model.specs.Items.{items_from, step, first_moved, later_moved, AreOutcomes}
-use Rattle.shr_replay.specs.declared.journal.Replayed.{Replayed}
 use Rattle.shr_replay.specs.declared.tags.FreedTag.{FreedTag}
 use Rattle.shr_replay.specs.declared.values.FoundValue.{FoundValue}
-use Rattle.shr_replay.specs.Tags.{tag_of}
-use Rattle.shr_replay.specs.Groups.{IsReplayedAt, items_in}
-use Rattle.shr_replay.specs.Journals.{IsReplayed, lens_from, freed_tags, values_from}
-use Rattle.shr_report.specs.Parts.{journal_of}
-use Rattle.shr_case.specs.Places.{IsFirst, IsIndexOf, end_of}
-use Rattle.shr_case.specs.Lists.{AreReplays, items_printed_in, journals_in}
+use Rattle.shr_replay.specs.Journals.{lens_from, freed_tags, values_from}
 use Rattle.shr_case.proofs.Firsts.{found_or_none}
 
 -- the numbers of items, one more than there are entries

@@ -1,36 +1,16 @@
 -- The rule at the start.
-use Rattle.std.proofs.Common.{◌≡◌, ◌≢◌, ℕ, ◌+◌, ◌*◌, ◌^◌, ◌%◌, ◌<◌, ◌≤◌, Bool, true, false, not, ◌||◌, cond, ltb, List, [], ◌∷◌, length, get_or, sym, refl, ◌∙◌, arith}
-use Rattle.std.specs.Prelude.{Some, None, All}
-use Rattle.std.proofs.lemmas.Bool.Decides.{nat_tests}
-use Rattle.shr_model.specs.Groups.{IsHierarchy, is_later}
-use Rattle.shr_seats.specs.Shapes.{hierarchy_of}
-use Rattle.shr_charge.specs.declared.answers.GroupState.TheVariants.{Online, NotMade}
-use Rattle.shr_charge.specs.Opening.{AreFirst}
-use Rattle.std.proofs.lemmas.List.Elements.{All-nil}
-use mathlib.Core.Option.{some, some-ne-none}
-use Rattle.atomic_table.specs.Table.{opening}
-use Rattle.shr_base.specs.Kept.{Kept}
-use Rattle.shr_base.specs.declared.journals.TreeEntry.{TreeEntry}
-use Rattle.shr_seats.specs.Views.{Each}
+use Rattle.shr_charge.proofs.Common.{◌≡◌, ◌≢◌, ℕ, ◌+◌, ◌*◌, ◌^◌, ◌%◌, ◌<◌, ◌≤◌, Bool, true, false, not, ◌||◌, cond, List, [], ◌∷◌, length, get_or, sym, refl, ◌∙◌, arith, Some, None, All, IsHierarchy, is_later, hierarchy_of, Online, NotMade, AreFirst, All-nil, some, opening, Kept, TreeEntry, Each, Each-push, not_gone, View, Shape, Uses, own_uses, no_tree, AreUsed, IsPaced, IsThere, IsOfflined, IsSeen, entries_of, is_open, opens, sum_below, word_of, IsSound, first_view, spent_view, usage_in, usage_index, group_in, lock_in}
+use mathlib.Core.Option.{some-ne-none}
 use Rattle.shr_seats.specs.Standing.{at_first}
-use Rattle.shr_seats.proofs.Sums.{Each-push}
-use Rattle.shr_seats.proofs.Seating.{AreSeats-first, not_gone}
-use Rattle.shr_charge.specs.declared.view.View.{View}
-use Rattle.shr_seats.specs.declared.shape.Shape.{Shape}
-use Rattle.shr_charge.specs.Views.{Uses, own_uses, no_tree}
-use Rattle.shr_charge.specs.Uses.{AreUsed, IsPaced, IsThere}
-use Rattle.shr_charge.specs.Offlining.{IsOfflined, IsSeen, entries_of, is_open, opens, sum_below, word_of}
-use Rattle.shr_charge.specs.Rule.{IsSound, first_view, spent_view, usage_in, usage_index, group_in, lock_in}
+use Rattle.shr_seats.proofs.Seating.{AreSeats-first}
 use Rattle.shr_charge.proofs.Pacing.{paced_own}
 use Rattle.shr_charge.proofs.Entries.{sum_small}
 use Rattle.shr_charge.proofs.Journaling.{seen_none}
+use Rattle.shr_model.proofs.Numbers.{none_below}
 
 -- a list of one element
-each_one : {A : Type 0} (P : A → Type 0) (a : A) → P a → Each P (a ∷ [])
+pub each_one : {A : Type 0} (P : A → Type 0) (a : A) → P a → Each P (a ∷ [])
 each_one P a p = Each-push P [] a p (λ j x e. absurd (some-ne-none x (sym e)))
-
-none_below : (n : ℕ) → ◌≡◌ {A = ℕ} (cond (ltb n 0) 1 0) 0
-none_below n = grind (arith, nat_tests)
 
 none_some : {A : Type 0} (x : A) → None ≡ Some x → ⊥
 none_some x e = cc

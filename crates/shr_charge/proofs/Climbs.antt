@@ -1,25 +1,13 @@
 -- Going up a path, level by level.
-use Rattle.std.proofs.Common.{◌≡◌, ◌≢◌, ℕ, ◌+◌, ◌*◌, ◌<◌, ◌≤◌, ◌^◌, Bool, true, false, not, ◌&&◌, eqb, ltb, cond, List, [], ◌∷◌, ◌++◌, map, length, sym, refl, ap, subst, ◌∙◌, arith, append_assoc, length-append, ne_eqb}
-use Rattle.std.specs.Prelude.{pos, ◌<ℤ◌, Some, None, All}
-use Rattle.std.proofs.lemmas.Bool.Decides.{nat_tests}
-use Rattle.std.proofs.lemmas.List.{append-nil, length-map, map_push}
-use Rattle.std.proofs.lemmas.List.Sums.{sum_by_push}
-use Rattle.std.proofs.lemmas.List.Elements.{All-push, All-nil, All-get_or}
+use Rattle.shr_charge.proofs.Common.{◌≡◌, ◌≢◌, ℕ, ◌+◌, ◌*◌, ◌<◌, ◌≤◌, ◌^◌, Bool, true, false, not, ◌&&◌, eqb, ltb, cond, List, [], ◌∷◌, ◌++◌, map, length, sym, refl, ap, subst, ◌∙◌, arith, append_assoc, length-append, ne_eqb, pos, Some, None, All, nat_tests, append-nil, length-map, sum_by_push, All-push, All-nil, Kept, UseStep, Serial, IsTree, parent_of, depth_of, ChargeSeat, Shape, Uses, both_uses, one_use, ups_at, downs_at, path_to, uses_of, tree_of, standing_of, count_of, group_of, IsLaterThan, AreRising, IsUp, calls_with, IsClimbing, Climbs, IsLowering, Lowers}
+use Rattle.std.specs.Prelude.{◌<ℤ◌}
+use Rattle.std.proofs.lemmas.List.{map_push}
+use Rattle.std.proofs.lemmas.List.Elements.{All-get_or}
 use Rattle.std.proofs.lemmas.List.Quantifiers.{all_pairs_push}
-use Rattle.shr_base.specs.Kept.{Kept}
-use Rattle.shr_base.specs.declared.journals.UseStep.{UseStep}
-use Rattle.shr_base.specs.declared.places.Serial.{Serial}
-use Rattle.shr_model.specs.Groups.{IsTree, parent_of, depth_of}
-use Rattle.shr_charge.specs.declared.table.ChargeSeat.{ChargeSeat}
-use Rattle.shr_seats.specs.declared.shape.Shape.{Shape}
-use Rattle.shr_charge.specs.Views.{Uses, both_uses, one_use}
-use Rattle.shr_charge.specs.Uses.{ups_at, downs_at}
-use Rattle.shr_charge.specs.Paths.{path_to}
-use Rattle.shr_charge.specs.Seat.{uses_of, tree_of, standing_of}
 use Rattle.shr_model.specs.Charges.{IsBelow}
-use Rattle.shr_charge.specs.Charging.{count_of, limit_of, group_of, IsLaterThan, AreRising, IsUp, IsDown, IsNoted, calls_with}
-use Rattle.shr_charge.specs.Loops.{IsClimbing, Climbs, IsLowering, Lowers}
+use Rattle.shr_charge.specs.Charging.{limit_of, IsDown, IsNoted}
 use Rattle.shr_charge.proofs.Ways.{way_here, way_root, way_up, way_whole, way_some}
+use Rattle.shr_model.proofs.Numbers.{later}
 
 pub uses_same : (x y : Uses) → x.ops ≡ y.ops → x.charges ≡ y.charges → x.uncharges ≡ y.uncharges → x.seats ≡ y.seats → x ≡ y
 uses_same x y o c d s = λ i. record { ops = o i; charges = c i; uncharges = d i; seats = s i }
@@ -53,9 +41,6 @@ noted_more old mid new uses um uses' ops c d x y c' d' o n later gains tree stan
 -- a call begins at the group itself and goes on above it
 first_or_later : (level group : ℕ) → level ≤ group → ◌≡◌ {A = ℕ} (cond (ltb level group) 1 0 + cond (eqb level group) 1 0) 1
 first_or_later level group le = grind (arith, nat_tests)
-
-later : (level group : ℕ) → level < group → ◌≡◌ {A = ℕ} (cond (ltb level group) 1 0) 1
-later level group lt = grind (arith, nat_tests)
 
 at_group : (group : ℕ) → ◌≡◌ {A = ℕ} (cond (ltb group group) 1 0) 0
 at_group group = grind (arith, nat_tests)

@@ -1,16 +1,7 @@
 -- The Begin and the Done of a group in a journal that grows, and sums over groups.
-use Rattle.std.proofs.Common.{◌≡◌, ℕ, zero, suc, ◌+◌, ◌*◌, ◌<◌, ◌≤◌, ◌≢◌, ◌-◌, Bool, true, false, not, ◌&&◌, ◌||◌, eqb, cond, List, [], ◌∷◌, ◌++◌, length, take, drop, sym, refl, ap, subst, ◌∙◌, ⊎_elim, arith, eq-eqb}
-use Rattle.std.specs.Prelude.{Option, Some, None, slice_get}
-use Rattle.std.specs.List.{position_from}
-use Rattle.std.specs.Option.{option_or, is_some, is_none}
-use Rattle.std.proofs.lemmas.Bool.{cases_Bool, eqb-true}
-use Rattle.std.proofs.lemmas.List.{take-append-drop}
-use Rattle.shr_base.specs.declared.journals.TreeEntry.{TreeEntry}
-use Rattle.shr_base.specs.declared.journals.TreeEntry.TheVariants.{Begin, Done, Made}
-use Rattle.shr_model.specs.TreeJournal.{is_begin, is_done, is_making, begin_of, done_of, made_of, is_made, MayBegin, IsTreeJournal}
-use Rattle.shr_model.specs.Groups.{Hierarchy, is_later}
-use Rattle.shr_charge.specs.Offlining.{sum_below, entries_of, is_open, opens}
+use Rattle.shr_charge.proofs.Common.{◌≡◌, ℕ, zero, suc, ◌+◌, ◌*◌, ◌<◌, ◌≤◌, ◌≢◌, ◌-◌, Bool, true, false, not, ◌&&◌, ◌||◌, eqb, cond, List, [], ◌∷◌, ◌++◌, length, take, drop, sym, refl, ap, subst, ◌∙◌, ⊎_elim, arith, eq-eqb, Option, Some, None, slice_get, position_from, option_or, is_some, is_none, cases_Bool, eqb-true, take-append-drop, TreeEntry, Begin, Done, Made, is_begin, is_done, is_making, begin_of, done_of, made_of, is_made, MayBegin, IsTreeJournal, Hierarchy, is_later, sum_below, entries_of, is_open, opens}
 use Rattle.shr_charge.proofs.Listing.{get_below, position-append, position-at}
+use Rattle.shr_model.proofs.Booleans.{bit_small}
 
 or_none : {A : Type 0} (x : Option A) → option_or x None ≡ x
 or_none None = refl
@@ -127,12 +118,8 @@ pub sum_small : (f : ℕ → ℕ) (m n : ℕ) → ((k : ℕ) → f k ≤ m) → 
 sum_small f m zero h = omega arith
 sum_small f m (suc n) h = let rest = sum_small f m n h in let one = h n in let e : m * suc n ≡ m * n + m = omega arith in omega arith
 
-cond_small : (b : Bool) → cond b 1 0 ≤ 1
-cond_small true = omega arith
-cond_small false = omega arith
-
 pub entries_small : (es : List TreeEntry) (g : ℕ) → entries_of es g ≤ 3
-entries_small es g = omega (arith, cond_small (is_some (begin_of es g)), cond_small (is_some (done_of es g)), cond_small (is_some (made_of es g)))
+entries_small es g = omega (arith, bit_small (is_some (begin_of es g)), bit_small (is_some (done_of es g)), bit_small (is_some (made_of es g)))
 
 -- a Begin more
 module _ (es : List TreeEntry) (g n : ℕ) (low : g < n) (once : begin_of es g ≡ None) where
@@ -147,7 +134,7 @@ module _ (es : List TreeEntry) (g n : ℕ) (low : g < n) (once : begin_of es g �
   pub opens_begin : opens n (es ++ Begin g ∷ []) ≤ opens n es + 1
   opens_begin = let flip = sum_flip (is_open es) (is_open (es ++ Begin g ∷ [])) n g low (λ k apart. let f = not_same g k apart in
       ap {B = ℕ} (λ (x : Option ℕ). cond (is_some x && is_none (done_of (es ++ Begin g ∷ []) k)) 1 0) (begin_other es g k f) ∙ ap {B = ℕ} (λ (x : Option ℕ). cond (is_some (begin_of es k) && is_none x) 1 0) (done_past_begin es g k)) in
-      let small = cond_small (is_some (begin_of (es ++ Begin g ∷ []) g) && is_none (done_of (es ++ Begin g ∷ []) g)) in omega (arith, flip, small)
+      let small = bit_small (is_some (begin_of (es ++ Begin g ∷ []) g) && is_none (done_of (es ++ Begin g ∷ []) g)) in omega (arith, flip, small)
 
 -- a Done more
 module _ (es : List TreeEntry) (g n : ℕ) (low : g < n) (b : ℕ) (begun : begin_of es g ≡ Some b) (once : done_of es g ≡ None) where
@@ -213,4 +200,4 @@ begun_made h es g n legal is = let t = position-at (is_begin g) 0 es n is in
 
 -- no more groups are open than there are
 pub opens_all : (es : List TreeEntry) (n : ℕ) → opens n es ≤ n
-opens_all es n = let s = sum_small (is_open es) 1 n (λ g. cond_small (is_some (begin_of es g) && is_none (done_of es g))) in omega (arith, s)
+opens_all es n = let s = sum_small (is_open es) 1 n (λ g. bit_small (is_some (begin_of es g) && is_none (done_of es g))) in omega (arith, s)

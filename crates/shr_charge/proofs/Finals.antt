@@ -1,23 +1,9 @@
 -- What the words and the room are once all other seats were joined.
-use Rattle.std.proofs.Common.{◌≡◌, ℕ, true, false, cond, List, map, length, sym, refl, ap, subst, ◌∙◌, arith}
-use Rattle.std.specs.Prelude.{sum_by}
-use Rattle.std.specs.List.{range_with_len}
-use mathlib.Core.Option.{some, some-injective}
-use lib.ListN.{get_elem?}
-use Rattle.atomic_table.specs.Table.{Final, Seen}
-use Rattle.atomic_table.proofs.Lists.{at_map}
-use Rattle.shr_base.specs.Kept.{Kept}
-use Rattle.shr_base.specs.declared.journals.TreeEntry.{TreeEntry}
+use Rattle.shr_charge.proofs.Common.{◌≡◌, ℕ, true, false, cond, List, map, length, sym, refl, ap, subst, ◌∙◌, arith, sum_by, range_with_len, some, get_elem?, Final, Seen, at_map, Kept, TreeEntry, View, Shape, Uses, TreeView, usage_word, times_at, hierarchy_of, times, IsSound, usage_in, uses_in, tree_in, standing_in, spent_view}
+use mathlib.Core.Option.{some-injective}
 use Rattle.shr_seats.specs.Standing.{IsWhole}
 use Rattle.shr_seats.proofs.Seating.{sum_by-sole}
 use Rattle.shr_seats.proofs.Sums.{sum_by-map, range_same}
-use Rattle.shr_charge.specs.declared.view.View.{View}
-use Rattle.shr_seats.specs.declared.shape.Shape.{Shape}
-use Rattle.shr_charge.specs.Views.{Uses, TreeView}
-use Rattle.shr_charge.specs.Uses.{usage_word, times_at}
-use Rattle.shr_seats.specs.Shapes.{hierarchy_of}
-use Rattle.shr_charge.specs.Offlining.{times}
-use Rattle.shr_charge.specs.Rule.{IsSound, usage_in, uses_in, tree_in, standing_in, spent_view}
 use Rattle.shr_charge.specs.Ends.{IsJournalOf, IsEndOf}
 
 -- what `finish` reads of a last state is what the table leaves

@@ -1,10 +1,6 @@
 -- The words of a new table, group by group.
-use Rattle.std.proofs.Common.{◌≡◌, ◌≢◌, ℕ, ◌+◌, ◌*◌, ◌%◌, ◌^◌, ◌<◌, ◌≤◌, ◌⊎◌, inl, inr, ⊎_elim, Bool, true, false, cond, List, length, replicate, set, get_or, sym, ap, subst, ◌∙◌, arith, length-set, get_or-set_same, get_or-set_other}
-use Rattle.std.proofs.lemmas.List.{get_or-replicate, length-replicate}
-use Rattle.std.proofs.lemmas.Bool.{cases_lt}
-use Rattle.shr_model.specs.Groups.{is_later}
-use Rattle.shr_charge.specs.Rule.{group_in, group_index}
-use Rattle.shr_charge.specs.Opening.{AreFirst}
+use Rattle.shr_charge.proofs.Common.{◌≡◌, ◌≢◌, ℕ, ◌+◌, ◌*◌, ◌%◌, ◌^◌, ◌<◌, ◌≤◌, ◌⊎◌, inl, inr, ⊎_elim, Bool, true, false, cond, List, length, replicate, set, get_or, sym, ap, subst, ◌∙◌, arith, length-set, get_or-set_same, get_or-set_other, get_or-replicate, cases_lt, is_later, group_in, group_index, AreFirst}
+use Rattle.std.proofs.lemmas.List.{length-replicate}
 
 -- the words of the groups below n are those of a new table, and all others are 0
 pub record AreFirstTo (later : List Bool) (n : ℕ) (words : List ℕ) : Type 0 where

@@ -1,24 +1,6 @@
 -- The rule after a step of one seat, part by part.
-use Rattle.std.proofs.Common.{◌≡◌, ◌≢◌, ℕ, true, false, List, map, set, length, sym, ap, subst, ◌∙◌, arith, length-set, get_or-set_other}
-use Rattle.std.specs.Prelude.{sum_by}
-use Rattle.std.proofs.lemmas.List.{map-set}
-use mathlib.Core.Option.{Option, some}
-use lib.ListN.{get_elem?}
-use Rattle.atomic_table.specs.Table.{State}
-use Rattle.atomic_table.proofs.Lists.{at_map, set_again}
-use Rattle.shr_base.specs.Kept.{Kept}
-use Rattle.shr_base.specs.declared.journals.TreeEntry.{TreeEntry}
-use Rattle.shr_seats.specs.Standing.{AreSeats}
-use Rattle.shr_seats.specs.Views.{Each}
-use Rattle.shr_seats.proofs.Sums.{Each-set, sum_by-changed}
-use Rattle.shr_seats.proofs.Seating.{not_gone}
-use Rattle.shr_charge.specs.declared.view.View.{View}
-use Rattle.shr_seats.specs.declared.shape.Shape.{Shape}
-use Rattle.shr_charge.specs.Views.{Uses, TreeView}
-use Rattle.shr_charge.specs.Uses.{Histories, AreUsed, IsPaced}
-use Rattle.shr_seats.specs.Shapes.{hierarchy_of}
-use Rattle.shr_charge.specs.Offlining.{IsOfflined}
-use Rattle.shr_charge.specs.Rule.{IsSound, usage_index, group_index, usage_in, group_in, lock_in, uses_in, tree_in, standing_in, spent_view}
+use Rattle.shr_charge.proofs.Common.{◌≡◌, ◌≢◌, ℕ, true, false, List, map, set, length, sym, ap, subst, ◌∙◌, arith, length-set, get_or-set_other, sum_by, map-set, some, get_elem?, State, at_map, set_again, Kept, TreeEntry, AreSeats, Each, Each-set, sum_by-changed, not_gone, View, Shape, Uses, TreeView, Histories, AreUsed, IsPaced, hierarchy_of, IsOfflined, IsSound, usage_index, group_index, usage_in, group_in, lock_in, uses_in, tree_in, standing_in, spent_view}
+use mathlib.Core.Option.{Option}
 use Rattle.shr_charge.proofs.Numbering.{used_words}
 use Rattle.shr_charge.proofs.Journaling.{offlined_words}
 

@@ -1,30 +1,14 @@
 -- What is left of a seat that gave the room back.
-use Rattle.std.proofs.Common.{◌≡◌, ℕ, ◌+◌, ◌<◌, ◌≤◌, true, false, List, [], ◌∷◌, ◌++◌, length, sym, refl, ap, subst, ◌∙◌}
-use Rattle.std.specs.Prelude.{Some}
-use Rattle.std.proofs.lemmas.List.{append-nil}
-use Rattle.std.proofs.lemmas.List.Elements.{All-push}
-use Rattle.shr_base.specs.Kept.{Kept}
-use Rattle.shr_base.specs.declared.journals.TreeEntry.{TreeEntry}
+use Rattle.shr_charge.proofs.Common.{◌≡◌, ℕ, ◌+◌, ◌<◌, ◌≤◌, true, false, List, [], ◌∷◌, ◌++◌, length, sym, refl, ap, subst, ◌∙◌, Some, append-nil, All-push, Kept, TreeEntry, begin_of, done_of, MayBeDone, MayFollow, Charge, ChargeSeat, View, Hierarchy, hierarchy_of, Uses, TreeView, IsPaced, IsMade, with_hand, with_given, with_done, Sat, with_tree, HasRoom, Shown, IsOf, uses_of, tree_of, standing_of, counted}
 use Rattle.shr_base.specs.declared.journals.TreeEntry.TheVariants.{Begin, Done, Made as MadeEntry}
-use Rattle.shr_model.specs.TreeJournal.{begin_of, done_of, MayBeDone, MayFollow}
-use Rattle.shr_charge.specs.declared.table.Charge.{Charge}
-use Rattle.shr_charge.specs.declared.table.ChargeSeat.{ChargeSeat}
-use Rattle.shr_charge.specs.declared.view.View.{View}
 use Rattle.shr_charge.specs.declared.answers.BeginAnswer.{BeginAnswer}
 use Rattle.shr_charge.specs.declared.answers.BeginAnswer.TheVariants as began
 use Rattle.shr_charge.specs.declared.answers.DoneAnswer.TheVariants as ended
 use Rattle.shr_charge.specs.declared.answers.MakeAnswer.{MakeAnswer}
 use Rattle.shr_charge.specs.declared.answers.MakeAnswer.TheVariants as make
-use Rattle.shr_model.specs.Groups.{Hierarchy}
-use Rattle.shr_seats.specs.Shapes.{hierarchy_of}
 use Rattle.shr_charge.specs.Answers.{gave, Knows, BeginTells, BeginLeaves, IfGiven, MakeTells, MakeLeaves, DoneTells, DoneLeaves}
-use Rattle.shr_charge.specs.Views.{Uses, Made, TreeView}
-use Rattle.shr_charge.specs.Uses.{IsPaced}
-use Rattle.shr_charge.specs.Offlining.{IsMade}
-use Rattle.shr_charge.specs.Steps.{with_hand, with_given, with_done}
-use Rattle.shr_charge.specs.Told.{Sat, with_tree}
-use Rattle.shr_charge.specs.Rooms.{HasRoom, Shown, Decides, Settles, hand_by, hand_made}
-use Rattle.shr_charge.specs.Seat.{IsOf, uses_of, tree_of, standing_of, counted}
+use Rattle.shr_charge.specs.Views.{Made}
+use Rattle.shr_charge.specs.Rooms.{Decides, Settles, hand_by, hand_made}
 use Rattle.shr_charge.proofs.Listing.{get_last, stands_push}
 use Rattle.shr_charge.proofs.Entries.{begin_grows}
 use Rattle.shr_charge.proofs.Journaling.{prefix_longer, prefix_whole, heard_longer, loaded_longer, made_longer}

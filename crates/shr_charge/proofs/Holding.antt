@@ -1,17 +1,5 @@
 -- A seat that took the room, and what is left of it once the room was given back.
-use Rattle.std.proofs.Common.{◌≡◌, ℕ, ◌*◌, ◌≤◌, List, [], ◌∷◌, length, sym, ap, subst, ◌∙◌}
-use Rattle.atomic_table.specs.Table.{rest}
-use Rattle.shr_base.specs.Kept.{Kept}
-use Rattle.shr_base.specs.declared.journals.TreeEntry.{TreeEntry}
-use Rattle.shr_model.specs.TreeJournal.{IsTreeJournal}
-use Rattle.shr_charge.specs.declared.table.Charge.{Charge}
-use Rattle.shr_charge.specs.declared.table.ChargeSeat.{ChargeSeat}
-use Rattle.shr_seats.specs.Shapes.{hierarchy_of}
-use Rattle.shr_charge.specs.Offlining.{opens, IsSeen}
-use Rattle.shr_charge.specs.Steps.{with_hand}
-use Rattle.shr_charge.specs.Told.{Sat, Takes}
-use Rattle.shr_charge.specs.Rooms.{HasRoom, Shown}
-use Rattle.shr_charge.specs.Seat.{IsOf, tree_of}
+use Rattle.shr_charge.proofs.Common.{◌≡◌, ℕ, ◌*◌, ◌≤◌, List, [], ◌∷◌, length, sym, ap, subst, ◌∙◌, rest, Kept, TreeEntry, IsTreeJournal, Charge, ChargeSeat, hierarchy_of, opens, IsSeen, with_hand, Sat, Takes, HasRoom, Shown, IsOf, tree_of}
 
 abbrev Slots : Type 0
 Slots = List (ℕ × Kept TreeEntry)

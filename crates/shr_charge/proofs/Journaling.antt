@@ -1,29 +1,14 @@
 -- The group words, the room and the journal under each step of one seat, on plain data.
-use Rattle.std.proofs.Common.{◌≡◌, ℕ, ◌+◌, ◌*◌, ◌<◌, ◌≤◌, ◌≢◌, Bool, true, false, not, ◌||◌, eqb, ltb, cond, List, [], ◌∷◌, ◌++◌, length, set, sym, refl, ap, subst, ◌∙◌, ⊎_elim, arith, length-append, append_assoc, eq-eqb}
-use Rattle.std.specs.Prelude.{Option, Some, None, sum_by, All}
-use Rattle.std.proofs.lemmas.Bool.{cases_Bool, eqb-true}
-use Rattle.std.proofs.lemmas.Bool.Decides.{nat_tests}
-use Rattle.std.proofs.lemmas.List.{append-nil}
-use Rattle.std.proofs.lemmas.List.Sums.{sum_by_push, sum_by-append}
-use Rattle.std.proofs.lemmas.List.Elements.{All-push, All-append, All-weaker, All-nil, All-cons}
-use mathlib.Core.Option.{some}
-use lib.ListN.{get_elem?}
+use Rattle.shr_charge.proofs.Common.{◌≡◌, ℕ, ◌+◌, ◌*◌, ◌<◌, ◌≤◌, ◌≢◌, Bool, true, false, not, ◌||◌, eqb, ltb, cond, List, [], ◌∷◌, ◌++◌, length, set, sym, refl, ap, subst, ◌∙◌, ⊎_elim, arith, length-append, append_assoc, eq-eqb, Option, Some, None, sum_by, All, cases_Bool, eqb-true, append-nil, sum_by_push, sum_by-append, All-push, All-append, All-weaker, All-nil, some, get_elem?, Kept, TreeEntry, is_some, Hierarchy, is_later, begin_of, made_of, is_made, MayBegin, MayBeMade, MayBeDone, MayFollow, IsTreeJournal, GroupState, Online, Offline, NotMade, Each, sum_by-changed, sum_by-joined, sum_by-more, Each-set, Each-push, TreeView, no_tree, IsPrefix, begun_state, state_at, word_of, WasState, entries_of, times, IsMade, IsNamed, IsSeen, IsHome, IsOfflined, with_load, with_hand, with_given, with_begin, with_made, with_done, joined_tree}
+use Rattle.std.proofs.lemmas.List.Elements.{All-cons}
 use Rattle.atomic_table.proofs.Lists.{at_set}
-use Rattle.shr_base.specs.Kept.{Kept}
-use Rattle.shr_base.specs.declared.journals.TreeEntry.{TreeEntry}
 use Rattle.shr_base.specs.declared.journals.TreeEntry.TheVariants.{Begin, Done, Made as MadeEntry}
-use Rattle.std.specs.Option.{is_some}
-use Rattle.shr_model.specs.Groups.{Hierarchy, is_later}
-use Rattle.shr_model.specs.TreeJournal.{begin_of, made_of, is_made, MayBegin, MayBeMade, MayBeDone, MayFollow, IsTreeJournal}
-use Rattle.shr_charge.specs.declared.answers.GroupState.{GroupState}
-use Rattle.shr_charge.specs.declared.answers.GroupState.TheVariants.{Online, Offline, NotMade}
-use Rattle.shr_seats.specs.Views.{Each}
-use Rattle.shr_seats.proofs.Sums.{sum_by-changed, sum_by-joined, sum_by-more, term_le, terms_le, Each-set, Each-push}
-use Rattle.shr_charge.specs.Views.{Made, Loaded, TreeView, no_tree}
-use Rattle.shr_charge.specs.Offlining.{IsPrefix, begun_state, state_at, word_of, WasState, entries_of, times, IsMade, IsNamed, IsHeard, IsSeen, IsHome, IsOfflined}
-use Rattle.shr_charge.specs.Steps.{with_load, with_hand, with_given, with_begin, with_made, with_done, joined_tree}
+use Rattle.shr_seats.proofs.Sums.{term_le, terms_le}
+use Rattle.shr_charge.specs.Views.{Made, Loaded}
+use Rattle.shr_charge.specs.Offlining.{IsHeard}
 use Rattle.shr_charge.proofs.Listing.{get_longer, get_last, stands_push}
 use Rattle.shr_charge.proofs.Entries.{begin_new, begin_other, begin_past_done, begin_past_made, begin_grows, made_new, made_other, made_past_begin, made_past_done, is_made_grows, begun_made, sum_small, entries_small, entries_begin, entries_done, entries_made}
+use Rattle.shr_model.proofs.Numbers.{below_more}
 
 abbrev Homes : Type 0
 Homes = List (mathlib.Core.Option.Option (Kept TreeEntry))
@@ -111,10 +96,6 @@ module _ (h : Hierarchy) (journal : List TreeEntry) (e : TreeEntry) (grows : (g 
     loaded = loaded_longer t.loaded s.loaded;
     made = made_longer t.made s.made;
   }
-
--- the number of an entry is the length of the journal before it
-below_more : (n k m : ℕ) → m ≡ k → ◌≡◌ {A = ℕ} (cond (ltb n (k + 1)) 1 0) (cond (ltb n k) 1 0 + cond (eqb m n) 1 0)
-below_more n k m e = grind (arith, nat_tests)
 
 module _ (h : Hierarchy) (journal : List TreeEntry) (word : ℕ → ℕ) (lock : ℕ) (homes : Homes) (trees : List TreeView) (id : ℕ) (t : TreeView) (me : get_elem? trees id ≡ some t) (o : IsOfflined h journal word lock homes trees) where
   -- while a seat has the room in hand no other has

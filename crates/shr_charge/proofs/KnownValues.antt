@@ -1,25 +1,9 @@
 -- The words, records and joins of the table at known values.
-use Rattle.std.proofs.Common.{◌≡◌, ℕ, true, false, List, [], ◌∷◌, length, map, replicate, set, refl, ap, arith}
-use Rattle.std.specs.Prelude.{Option, Some, None, pos}
-use Rattle.std.proofs.lemmas.List.{get_or-replicate}
-use Rattle.std.proofs.lemmas.List.Elements.{All-head}
-use Rattle.std.proofs.lemmas.Option.{none-some}
-use Rattle.shr_base.specs.declared.journals.UseStep.{UseStep}
-use Rattle.shr_base.specs.declared.journals.TreeEntry.{TreeEntry}
+use Rattle.shr_charge.proofs.Common.{◌≡◌, ℕ, true, false, List, [], ◌∷◌, length, map, replicate, set, refl, ap, arith, Option, Some, None, pos, get_or-replicate, All-head, none-some, UseStep, TreeEntry, Hierarchy, Online, Offline, NotMade, Shows, state_in, AreFirst, AreRising, IsPrefix, IsSeen, IsNamed, state_at, word_of, opens, AreMarks, is_like, number_of, joined_tree, usage_word, op_of, ups_at, downs_at, times_at, TreeView, no_tree, own_uses}
 use Rattle.shr_base.specs.declared.journals.TreeEntry.TheVariants.{Begin, Done, Made as MadeEntry}
 use Rattle.shr_base.specs.declared.replies.Spent.TheVariants.{Charges}
-use Rattle.shr_model.specs.Groups.{Hierarchy}
-use Rattle.shr_charge.specs.declared.answers.GroupState.TheVariants.{Online, Offline, NotMade}
-use Rattle.shr_charge.specs.Told.{Shows, state_in}
 use Rattle.shr_charge.specs.Answers.{HasBegun, WasNotMade, LacksParent, IsBelowOffline, IsMadeNow}
-use Rattle.shr_charge.specs.Opening.{AreFirst}
-use Rattle.shr_charge.specs.Charging.{AreRising}
-use Rattle.shr_charge.specs.Offlining.{IsPrefix, IsSeen, IsNamed, state_at, word_of, opens}
-use Rattle.shr_charge.specs.Searching.{AreMarks, is_like, number_of}
 use Rattle.shr_charge.specs.Seat.{spent_by}
-use Rattle.shr_charge.specs.Steps.{joined_tree}
-use Rattle.shr_charge.specs.Uses.{usage_word, op_of, ups_at, downs_at, times_at}
-use Rattle.shr_charge.specs.Views.{TreeView, no_tree, own_uses}
 
 -- the third operation of a group, after a charge and an uncharge
 abbrev third_up : UseStep

@@ -1,3 +1,4 @@
+mod Common
 pub mod Listing
 pub mod Numbering
 pub mod Pacing

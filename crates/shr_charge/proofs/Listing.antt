@@ -1,19 +1,12 @@
 -- Elements by their number, in lists that grow at their end.
-use Rattle.std.proofs.Common.{◌≡◌, ℕ, zero, suc, ◌+◌, ◌<◌, ◌≤◌, ◌-◌, ◌⊎◌, inl, inr, Bool, true, false, cond, List, [], ◌∷◌, ◌++◌, length, take, get_or, sym, refl, ap, subst, ◌∙◌, ⊎_elim, arith, add-one}
-use mathlib.Core.Option.{some, some-injective, some-ne-none}
-use lib.ListN.{get_elem?}
-use Rattle.std.specs.Prelude.{Option, Some, None, slice_get}
-use Rattle.std.specs.List.{position_from}
+use Rattle.shr_charge.proofs.Common.{◌≡◌, ℕ, zero, suc, ◌+◌, ◌<◌, ◌≤◌, ◌-◌, ◌⊎◌, inl, inr, Bool, true, false, cond, List, [], ◌∷◌, ◌++◌, length, take, get_or, sym, refl, ap, subst, ◌∙◌, ⊎_elim, arith, get_elem?, Option, Some, None, slice_get, position_from, option_or, IsSome, cases_Bool}
+use Rattle.std.proofs.Common.{add-one}
 use Rattle.std.proofs.Math.Seq.{take-append_seam}
 use Rattle.std.proofs.lemmas.List.{take-append-le}
-use Rattle.std.specs.Option.{option_or, IsSome}
-use Rattle.std.proofs.lemmas.Bool.{cases_Bool}
+use Rattle.shr_model.proofs.Lists.{word_of, some_injective}
 
 none_some : {A : Type 0} (x : A) → None ≡ Some x → ⊥
 none_some x e = cc
-
-pub some_injective : {A : Type 0} (x y : A) → Some x ≡ Some y → x ≡ y
-some_injective x y e = cc
 
 module _ {A : Type 0} where
   pub get_longer : (xs ys : List A) (n : ℕ) (x : A) → slice_get xs n ≡ Some x → slice_get (xs ++ ys) n ≡ Some x
@@ -80,12 +73,6 @@ module _ {A : Type 0} where
   get_here [] n d low = absurd (omega arith)
   get_here (y ∷ ys) zero d low = refl
   get_here (y ∷ ys) (suc n) d low = get_here ys n d (omega arith)
-
--- a number that is read from a list
-pub word_of : (ws : List ℕ) (i w : ℕ) → get_elem? ws i ≡ some w → get_or ws i 0 ≡ w
-word_of [] i w e = absurd (some-ne-none w (sym e))
-word_of (x ∷ xs) zero w e = some-injective x w e
-word_of (x ∷ xs) (suc i) w e = word_of xs i w e
 
 -- the value of an option that has one
 pub some_is : (x : Option ℕ) → IsSome x → (n : ℕ) × (x ≡ Some n)

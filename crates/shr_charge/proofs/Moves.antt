@@ -1,36 +1,13 @@
 -- Each step on a word keeps the rule, and what it tells.
-use Rattle.std.proofs.Common.{◌≡◌, ◌≢◌, ℕ, ◌+◌, ◌*◌, ◌^◌, ◌%◌, ◌-◌, ◌<◌, ◌≤◌, ◌⊎◌, inl, inr, ⊎_elim, Bool, true, false, not, ◌||◌, eqb, cond, List, [], ◌∷◌, ◌++◌, map, set, get_or, length, sym, refl, ap, subst, ◌∙◌, arith, get_or-set_same, get_or-set_other}
-use Rattle.std.specs.Prelude.{sum_by, Some, None, Option, All}
+use Rattle.shr_charge.proofs.Common.{◌≡◌, ◌≢◌, ℕ, ◌+◌, ◌*◌, ◌^◌, ◌%◌, ◌-◌, ◌<◌, ◌≤◌, ◌⊎◌, inl, inr, ⊎_elim, Bool, true, false, not, ◌||◌, eqb, cond, List, [], ◌∷◌, ◌++◌, map, set, get_or, length, sym, refl, ap, subst, ◌∙◌, arith, get_or-set_same, get_or-set_other, sum_by, Some, None, Option, All, sum_by_push, All-weaker, some, get_elem?, State, Allows, at_map, set_again, Kept, Serial, UseStep, TreeEntry, ups, downs, Hierarchy, is_later, begin_of, made_of, is_made, MayBegin, MayBeMade, MayBeDone, IsTreeJournal, is_some, cases_Bool, hierarchy_of, GroupState, Online, Offline, NotMade, View, Shape, Uses, TreeView, both_uses, one_use, usage_word, op_of, grown, IsPaced, IsThere, IsLaterThan, begun_state, state_at, word_of, opens, WasState, IsNamed, IsSeen, IsHome, IsOfflined, with_load, with_hand, with_given, with_begin, with_made, with_done, IsSound, usage_index, group_index, usage_in, group_in, lock_in, uses_in, tree_in, Sat, with_uses, with_tree, state_in, IsWord, Shows, Takes}
 use Rattle.std.proofs.lemmas.List.{set-get_or}
-use Rattle.std.proofs.lemmas.List.Sums.{sum_by_push}
-use Rattle.std.proofs.lemmas.List.Elements.{All-contains, All-weaker}
-use mathlib.Core.Option.{some, none}
-use lib.ListN.{get_elem?}
+use Rattle.std.proofs.lemmas.List.Elements.{All-contains}
+use mathlib.Core.Option.{none}
 use prog.Atomic.{either}
-use Rattle.atomic_table.specs.Table.{State, Act, Valid, keeps, gives, takes, Allows, stepped, carried_after}
-use Rattle.atomic_table.proofs.Lists.{at_map, exchanged, set_here, set_again}
-use Rattle.shr_base.specs.Kept.{Kept}
-use Rattle.shr_base.specs.declared.places.Serial.{Serial}
-use Rattle.shr_base.specs.declared.journals.UseStep.{UseStep}
-use Rattle.shr_base.specs.declared.journals.TreeEntry.{TreeEntry}
+use Rattle.atomic_table.specs.Table.{Act, Valid, keeps, gives, takes, stepped, carried_after}
+use Rattle.atomic_table.proofs.Lists.{exchanged, set_here}
 use Rattle.shr_base.specs.declared.journals.TreeEntry.TheVariants.{Begin, Done, Made as MadeEntry}
-use Rattle.shr_model.specs.Charges.{ups, downs}
-use Rattle.shr_model.specs.Groups.{Hierarchy, is_later}
-use Rattle.shr_model.specs.TreeJournal.{begin_of, made_of, is_made, MayBegin, MayBeMade, MayBeDone, IsTreeJournal}
-use Rattle.std.specs.Option.{is_some}
-use Rattle.std.proofs.lemmas.Bool.{cases_Bool}
-use Rattle.shr_seats.specs.Shapes.{hierarchy_of}
-use Rattle.shr_charge.specs.declared.answers.GroupState.{GroupState}
-use Rattle.shr_charge.specs.declared.answers.GroupState.TheVariants.{Online, Offline, NotMade}
-use Rattle.shr_charge.specs.declared.view.View.{View}
-use Rattle.shr_seats.specs.declared.shape.Shape.{Shape}
-use Rattle.shr_charge.specs.Views.{Uses, TreeView, both_uses, one_use}
-use Rattle.shr_charge.specs.Uses.{usage_word, op_of, grown, IsPaced, IsThere}
-use Rattle.shr_charge.specs.Charging.{IsLaterThan}
-use Rattle.shr_charge.specs.Offlining.{begun_state, state_at, word_of, opens, WasState, IsNamed, IsSeen, IsHome, IsOfflined}
-use Rattle.shr_charge.specs.Steps.{with_load, with_hand, with_given, with_begin, with_made, with_done}
-use Rattle.shr_charge.specs.Rule.{IsSound, usage_index, group_index, usage_in, group_in, lock_in, uses_in, tree_in}
-use Rattle.shr_charge.specs.Told.{Sat, with_uses, with_tree, is_there, state_in, IsWord, Shows, Takes}
+use Rattle.shr_charge.specs.Told.{is_there}
 use Rattle.shr_charge.proofs.Frames.{on_use, on_tree}
 use Rattle.shr_charge.proofs.Numbering.{op_next, used_more, later_than}
 use Rattle.shr_charge.proofs.Pacing.{ups_few, downs_few}

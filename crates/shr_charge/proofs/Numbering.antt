@@ -1,18 +1,9 @@
 -- One operation more: the histories, the sums over views, and the words, on plain data.
-use Rattle.std.proofs.Common.{◌≡◌, ℕ, ◌+◌, ◌/◌, ◌%◌, ◌^◌, ◌<◌, ◌≢◌, Bool, true, false, not, ◌&&◌, eqb, ltb, cond, List, [], ◌∷◌, ◌++◌, length, set, sym, refl, ap, subst, ◌∙◌, ⊎_elim, arith, length-append, eq-eqb}
-use Rattle.std.specs.Prelude.{pos, ◌-ℤ◌, slice_get, sum_by, All}
-use Rattle.std.proofs.lemmas.Bool.{cases_Bool, eqb-true}
-use Rattle.std.proofs.lemmas.Bool.Decides.{nat_tests}
-use Rattle.std.proofs.lemmas.List.Sums.{sum_by_push, sum_by-append, sum_by-cons}
-use Rattle.std.proofs.lemmas.List.Elements.{All-push, All-append, All-weaker, All-nil}
-use mathlib.Core.Option.{some}
-use lib.ListN.{get_elem?}
-use Rattle.shr_base.specs.declared.journals.UseStep.{UseStep}
-use Rattle.shr_base.specs.declared.places.Serial.{Serial}
-use Rattle.shr_model.specs.Charges.{ups, downs, IsNextUse, IsChargeHistory}
-use Rattle.shr_seats.proofs.Sums.{sum_by-changed, sum_by-joined, sum_by-more, Each-set, Each-push, Each-weaker}
-use Rattle.shr_charge.specs.Views.{Uses, no_uses, own_uses, both_uses, one_use}
-use Rattle.shr_charge.specs.Uses.{usage_word, op_of, ups_at, downs_at, times_at, Histories, grown, IsThere, AreUsed}
+use Rattle.shr_charge.proofs.Common.{◌≡◌, ℕ, ◌+◌, ◌%◌, ◌^◌, ◌<◌, ◌≢◌, Bool, true, false, not, ◌&&◌, eqb, ltb, cond, List, [], ◌∷◌, ◌++◌, length, set, sym, refl, ap, subst, ◌∙◌, ⊎_elim, arith, length-append, eq-eqb, pos, slice_get, sum_by, All, cases_Bool, eqb-true, nat_tests, sum_by_push, sum_by-append, sum_by-cons, All-push, All-append, All-weaker, All-nil, some, get_elem?, UseStep, Serial, ups, downs, sum_by-changed, sum_by-joined, sum_by-more, Each-set, Each-push, Uses, no_uses, own_uses, both_uses, one_use, usage_word, op_of, ups_at, downs_at, times_at, Histories, grown, IsThere, AreUsed}
+use Rattle.std.proofs.Common.{◌/◌}
+use Rattle.std.specs.Prelude.{◌-ℤ◌}
+use Rattle.shr_model.specs.Charges.{IsNextUse, IsChargeHistory}
+use Rattle.shr_seats.proofs.Sums.{Each-weaker}
 use Rattle.shr_charge.proofs.Listing.{get_longer, get_last, get_below, stands_push}
 
 abbrev up_flag : UseStep → ℕ

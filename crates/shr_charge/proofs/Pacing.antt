@@ -1,12 +1,5 @@
 -- The halves of the usage words don't wrap, since each seat makes a bounded number of calls.
-use Rattle.std.proofs.Common.{◌≡◌, ℕ, suc, ◌+◌, ◌*◌, ◌^◌, ◌≤◌, Bool, true, false, not, ◌&&◌, eqb, cond, List, [], ◌∷◌, sym, refl, ap, ◌∙◌, ⊎_elim, arith}
-use Rattle.std.specs.Prelude.{sum_by}
-use Rattle.std.proofs.lemmas.Bool.{cases_Bool, eqb-true}
-use Rattle.std.proofs.lemmas.List.Sums.{sum_by_push, sum_by-append, sum_by-cons}
-use Rattle.shr_base.specs.declared.journals.UseStep.{UseStep}
-use Rattle.shr_seats.specs.Views.{Each}
-use Rattle.shr_charge.specs.Views.{Uses, no_uses, own_uses, both_uses, one_use}
-use Rattle.shr_charge.specs.Uses.{ups_at, downs_at, IsPaced}
+use Rattle.shr_charge.proofs.Common.{◌≡◌, ℕ, suc, ◌+◌, ◌*◌, ◌^◌, ◌≤◌, Bool, true, false, not, ◌&&◌, eqb, cond, List, [], ◌∷◌, sym, refl, ap, ◌∙◌, ⊎_elim, arith, sum_by, cases_Bool, eqb-true, sum_by_push, sum_by-append, sum_by-cons, UseStep, Each, Uses, no_uses, own_uses, both_uses, one_use, ups_at, downs_at, IsPaced}
 
 -- sums of smaller terms
 sum_le : {A : Type 0} (f h : A → ℕ) (l : List A) → Each (λ x. f x ≤ h x) l → sum_by f l ≤ sum_by h l
@@ -37,7 +30,7 @@ module _ (uses : List Uses) (few : sum_by (λ (u : Uses). u.seats) uses ≤ 65) 
     sum_le (λ (u : Uses). downs_at g u.ops) (λ (u : Uses). (2 ^ 21 + 2 ^ 25) * u.seats) uses (λ j u e. let p = paced j u e in let a = p.down g in let b = p.charges in let c = p.uncharges in omega (arith, a, b, c)),
   )
 
-cond_and : (b : Bool) → ◌≡◌ {A = ℕ} (cond (b && false) 1 0) 0
+pub cond_and : (b : Bool) → ◌≡◌ {A = ℕ} (cond (b && false) 1 0) 0
 cond_and true = refl
 cond_and false = refl
 

@@ -1,34 +1,17 @@
 -- A charge that was refused, and taking it back.
-use Rattle.std.proofs.Common.{◌≡◌, ℕ, ◌+◌, ◌*◌, ◌≤◌, ◌^◌, Bool, true, false, not, ◌&&◌, eqb, cond, List, [], ◌∷◌, ◌++◌, map, length, sym, refl, ap, subst, ◌∙◌, arith, append_assoc, length-append}
-use Rattle.std.specs.Prelude.{pos, Some, All}
-use Rattle.std.proofs.lemmas.List.{length-map}
-use Rattle.std.proofs.lemmas.List.Sums.{sum_by-cons, sum_by-append}
-use Rattle.std.proofs.lemmas.List.Elements.{All-head, All-tail, All-weaker, All-push}
-use Rattle.shr_base.specs.Kept.{Kept}
-use Rattle.shr_base.specs.declared.journals.UseStep.{UseStep}
-use Rattle.shr_base.specs.declared.places.Serial.{Serial}
-use Rattle.shr_model.specs.Groups.{depth_of}
-use Rattle.shr_charge.specs.declared.table.ChargeSeat.{ChargeSeat}
-use Rattle.shr_seats.specs.declared.shape.Shape.{Shape}
+use Rattle.shr_charge.proofs.Common.{◌≡◌, ℕ, ◌+◌, ◌*◌, ◌≤◌, ◌^◌, true, false, not, ◌&&◌, eqb, cond, List, [], ◌∷◌, ◌++◌, map, length, sym, refl, ap, subst, ◌∙◌, arith, append_assoc, length-append, pos, Some, All, length-map, sum_by-cons, sum_by-append, All-head, All-weaker, All-push, Kept, UseStep, Serial, depth_of, ChargeSeat, Shape, Uses, both_uses, downs_at, IsPaced, path_to, uses_of, group_of, IsUp, calls_with, Climbs, Lowers}
+use Rattle.std.proofs.lemmas.List.Elements.{All-tail}
 use Rattle.shr_charge.specs.declared.answers.ChargeAnswer.TheVariants.{Over}
-use Rattle.shr_charge.specs.Views.{Uses, both_uses}
-use Rattle.shr_charge.specs.Uses.{downs_at, IsPaced}
-use Rattle.shr_charge.specs.Paths.{path_to}
-use Rattle.shr_charge.specs.Seat.{uses_of}
-use Rattle.shr_charge.specs.Charging.{group_of, IsUp, Charges, calls_with}
-use Rattle.shr_charge.specs.Loops.{Climbs, Lowers}
+use Rattle.shr_charge.specs.Charging.{Charges}
 use Rattle.shr_charge.proofs.Ways.{way_short}
 use Rattle.shr_charge.proofs.Climbs.{uses_same}
-
-none_of : (b : Bool) → ◌≡◌ {A = ℕ} (cond (b && false) 1 0) 0
-none_of true = refl
-none_of false = refl
+use Rattle.shr_charge.proofs.Pacing.{cond_and}
 
 -- ups are no downs
 no_downs : (j : ℕ) (ops : List UseStep) → All (λ o. o.up ≡ true) ops → downs_at j ops ≡ 0
 no_downs j [] all = refl
 no_downs j (o ∷ ops) all = let head = All-head (λ (x : UseStep). x.up ≡ true) o ops all in
-    let flag = ap {B = ℕ} (λ b. cond (eqb o.group j && not b) 1 0) head ∙ none_of (eqb o.group j) in
+    let flag = ap {B = ℕ} (λ b. cond (eqb o.group j && not b) 1 0) head ∙ cond_and (eqb o.group j) in
     omega (arith, sum_by-cons (λ (x : UseStep). cond (eqb x.group j && not x.up) 1 0) o ops, flag, no_downs j ops (All-tail (λ (x : UseStep). x.up ≡ true) o ops all))
 
 module _ (k : Shape) (by : Serial) (group : ℕ) (over : UseStep) (old mid : ChargeSeat) (uses um : Kept UseStep) (c : Climbs k by group (Some over) old mid uses um) where

@@ -1,13 +1,10 @@
 -- The first entry of a kind, and the first child that isn't done, by a loop.
-use Rattle.std.proofs.Common.{◌≡◌, ℕ, zero, suc, ◌+◌, ◌<◌, ◌≤◌, ◌-◌, ◌||◌, Bool, true, false, cond, List, [], ◌∷◌, ◌++◌, length, take, drop, get_or, sym, refl, ap, ◌∙◌, arith}
-use Rattle.std.specs.Prelude.{Option, Some, None, find}
-use Rattle.std.specs.List.{position_from, range_with_len}
-use Rattle.std.specs.Option.{option_or, is_some}
-use Rattle.std.proofs.lemmas.List.{take-append-drop, take_all, length-take-le}
+use Rattle.shr_charge.proofs.Common.{◌≡◌, ℕ, suc, ◌+◌, ◌<◌, ◌≤◌, ◌-◌, ◌||◌, Bool, true, false, cond, List, [], ◌∷◌, ◌++◌, length, take, drop, get_or, sym, refl, ap, ◌∙◌, arith, Option, Some, None, find, position_from, range_with_len, option_or, is_some, take-append-drop, TreeEntry}
+use Rattle.std.proofs.lemmas.List.{take_all, length-take-le}
 use Rattle.std.proofs.lemmas.List.Folds.{find-append}
-use Rattle.shr_base.specs.declared.journals.TreeEntry.{TreeEntry}
 use Rattle.shr_charge.proofs.Listing.{take_next, get_here, position-append}
 use Rattle.shr_charge.proofs.Entries.{position_past, position_new, position_grows}
+use Rattle.shr_model.proofs.Numbers.{range_more}
 
 module _ (p : TreeEntry → Bool) (xs : List TreeEntry) (n : ℕ) (d : TreeEntry) (low : n < length xs) (before : position_from p 0 (take n xs) ≡ None) where
   next_entry : take (n + 1) xs ≡ take n xs ++ get_or xs n d ∷ []
@@ -40,14 +37,9 @@ some_more p xs n d low = let e : TreeEntry = get_or xs n d in ap (λ (l : List T
 pub marked_more : (p : TreeEntry → Bool) (xs : List TreeEntry) (n : ℕ) (d : TreeEntry) → n < length xs → (old new : Bool) → new ≡ (old || p (get_or xs n d)) → old ≡ is_some (position_from p 0 (take n xs)) → new ≡ is_some (position_from p 0 (take (n + 1) xs))
 marked_more p xs n d low old new is was = is ∙ (ap (λ (b : Bool). b || p (get_or xs n d)) was ∙ sym (some_more p xs n d low))
 
--- numbers in a row
-range_split : (a n m : ℕ) → range_with_len a (n + m) ≡ range_with_len a n ++ range_with_len (a + n) m
-range_split a zero m = ap (range_with_len a) (let e : 0 + m ≡ m = omega arith in e) ∙ ap (λ (k : ℕ). range_with_len k m) (let e : a ≡ a + 0 = omega arith in e)
-range_split a (suc n) m = ap (range_with_len a) (let e : suc n + m ≡ suc (n + m) = omega arith in e) ∙ ap (λ l. a ∷ l) (range_split (a + 1) n m ∙ ap (λ (k : ℕ). range_with_len (a + 1) n ++ range_with_len k m) (let e : a + 1 + n ≡ a + suc n = omega arith in e))
-
 module _ (p : ℕ → Bool) (n : ℕ) (before : find p (range_with_len 0 n) ≡ None) where
   next_number : range_with_len 0 (n + 1) ≡ range_with_len 0 n ++ n ∷ []
-  next_number = range_split 0 n 1 ∙ ap (λ (k : ℕ). range_with_len 0 n ++ k ∷ []) (let e : 0 + n ≡ n = omega arith in e)
+  next_number = range_more 0 n 1 ∙ ap (λ (k : ℕ). range_with_len 0 n ++ k ∷ []) (let e : 0 + n ≡ n = omega arith in e)
 
   -- one more group that does not fit
   pub find_more : p n ≡ false → find p (range_with_len 0 (n + 1)) ≡ None
@@ -56,6 +48,6 @@ module _ (p : ℕ → Bool) (n : ℕ) (before : find p (range_with_len 0 n) ≡ 
   -- a group that fits after none did is the lowest
   pub find_here : (m : ℕ) → n < m → p n ≡ true → find p (range_with_len 0 m) ≡ Some n
   find_here m low t = let rest : ℕ = m - (n + 1) in
-      ap (λ (k : ℕ). find p (range_with_len 0 k)) (let e : m ≡ n + (1 + rest) = omega arith in e) ∙ (ap (find p) (range_split 0 n (1 + rest)) ∙ (find-append p (range_with_len 0 n) (range_with_len (0 + n) (1 + rest))
+      ap (λ (k : ℕ). find p (range_with_len 0 k)) (let e : m ≡ n + (1 + rest) = omega arith in e) ∙ (ap (find p) (range_more 0 n (1 + rest)) ∙ (find-append p (range_with_len 0 n) (range_with_len (0 + n) (1 + rest))
       ∙ (ap (λ x. option_or x (find p (range_with_len (0 + n) (1 + rest)))) before ∙ (ap (λ (k : ℕ). find p (range_with_len (0 + n) k)) (let e : 1 + rest ≡ suc rest = omega arith in e)
       ∙ (ap (λ (k : ℕ). cond (p k) (Some k) (find p (range_with_len (k + 1) rest))) (let e : 0 + n ≡ n = omega arith in e) ∙ ap (λ b. cond b (Some n) (find p (range_with_len (n + 1) rest))) t)))))

@@ -1,13 +1,6 @@
 -- A seat of the table after a step.
-use Rattle.std.proofs.Common.{◌≡◌, ℕ, ◌+◌, ◌^◌, ◌-◌, ◌≤◌, Bool, true, false, cond, min, sym, refl, ap, subst, ◌∙◌, arith}
-use mir.Val.{bool_byte}
-use Rattle.shr_charge.specs.declared.table.Charge.{Charge}
-use Rattle.shr_charge.specs.declared.table.ChargeSeat.{ChargeSeat}
-use Rattle.shr_charge.specs.Views.{Uses, both_uses}
-use Rattle.shr_charge.specs.Uses.{IsPaced}
-use Rattle.shr_charge.specs.Rule.{with_split_view, joined_view}
-use Rattle.shr_charge.specs.Told.{Sat}
-use Rattle.shr_charge.specs.Seat.{IsOf, uses_of, counted}
+use Rattle.shr_charge.proofs.Common.{◌≡◌, ℕ, ◌+◌, ◌^◌, ◌-◌, ◌≤◌, Bool, true, false, cond, sym, refl, ap, subst, ◌∙◌, arith, bool_byte, Charge, ChargeSeat, Uses, both_uses, IsPaced, with_split_view, joined_view, Sat, IsOf, uses_of, counted}
+use Rattle.std.proofs.Common.{min}
 use Rattle.shr_charge.proofs.Pacing.{paced_join}
 
 -- the seat that was split

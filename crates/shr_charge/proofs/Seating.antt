@@ -1,22 +1,11 @@
 -- Splitting the first seat and joining another into it keep the rule.
-use Rattle.std.proofs.Common.{◌≡◌, ℕ, ◌<◌, true, false, [], ◌∷◌, ◌++◌, map, length, set, sym, refl, ap, subst, ◌∙◌, arith, length-append, length-set}
-use Rattle.std.specs.Prelude.{sum_by}
-use Rattle.std.proofs.lemmas.List.{map-set, map-append, length-map}
-use mathlib.Core.Option.{some}
-use lib.ListN.{get_elem?}
+use Rattle.shr_charge.proofs.Common.{◌≡◌, ℕ, ◌<◌, true, false, [], ◌∷◌, ◌++◌, map, length, set, sym, refl, ap, subst, ◌∙◌, arith, length-append, length-set, sum_by, map-set, length-map, some, get_elem?, at_map, set_again, AreSeats, Each, Each-set, Each-push, sum_by-more, sum_by-joined, not_gone, View, Shape, Uses, no_uses, own_uses, no_tree, both_uses, AreUsed, IsPaced, hierarchy_of, IsOfflined, IsSound, usage_in, group_in, lock_in, uses_in, tree_in, standing_in, spent_view, with_split_view, joined_view}
+use Rattle.std.proofs.lemmas.List.{map-append}
 use Rattle.atomic_table.specs.Table.{Splits, Joins}
-use Rattle.atomic_table.proofs.Lists.{at_map, set_again, set_else}
-use Rattle.shr_seats.specs.Standing.{at_split, at_end, AreSeats}
-use Rattle.shr_seats.specs.Views.{Each}
-use Rattle.shr_seats.proofs.Sums.{Each-set, Each-push, sum_by-more, sum_by-joined}
-use Rattle.shr_seats.proofs.Seating.{AreSeats-split, AreSeats-join, not_gone}
-use Rattle.shr_charge.specs.declared.view.View.{View}
-use Rattle.shr_seats.specs.declared.shape.Shape.{Shape}
-use Rattle.shr_charge.specs.Views.{Uses, no_uses, own_uses, no_tree, both_uses}
-use Rattle.shr_charge.specs.Uses.{AreUsed, IsPaced}
-use Rattle.shr_seats.specs.Shapes.{hierarchy_of}
-use Rattle.shr_charge.specs.Offlining.{IsOfflined}
-use Rattle.shr_charge.specs.Rule.{IsSound, usage_in, group_in, lock_in, uses_in, tree_in, standing_in, new_view, spent_view, with_split_view, joined_view}
+use Rattle.atomic_table.proofs.Lists.{set_else}
+use Rattle.shr_seats.specs.Standing.{at_split, at_end}
+use Rattle.shr_seats.proofs.Seating.{AreSeats-split, AreSeats-join}
+use Rattle.shr_charge.specs.Rule.{new_view}
 use Rattle.shr_charge.proofs.Numbering.{used_split, used_join}
 use Rattle.shr_charge.proofs.Pacing.{paced_none, paced_own, paced_join}
 use Rattle.shr_charge.proofs.Journaling.{offlined_split, offlined_join}

@@ -1,21 +1,15 @@
 -- What a legal journal of the tree says of groups above and below one another.
-use Rattle.std.proofs.Common.{◌≡◌, ℕ, zero, suc, ◌+◌, ◌-◌, ◌<◌, ◌≤◌, ◌≢◌, ◌⊎◌, inl, inr, ⊎_elim, Bool, true, false, not, ◌&&◌, ◌||◌, cond, List, [], ◌∷◌, length, take, drop, sym, refl, ap, subst, ◌∙◌, arith, eq-eqb}
-use Rattle.std.specs.Prelude.{slice_get, find, Option, Some, None, Contains}
-use Rattle.std.specs.List.{position_from, range_with_len}
-use Rattle.std.specs.Option.{is_none, is_some, IsSome}
-use Rattle.std.proofs.lemmas.Bool.{cases_Bool, cases_lt, eqb-true}
-use Rattle.std.proofs.lemmas.Option.{same_Some, none-some}
+use Rattle.shr_charge.proofs.Common.{◌≡◌, ℕ, zero, suc, ◌+◌, ◌-◌, ◌<◌, ◌≤◌, ◌≢◌, ◌⊎◌, inl, inr, ⊎_elim, Bool, true, false, not, ◌&&◌, ◌||◌, cond, List, [], ◌∷◌, length, take, drop, sym, refl, ap, subst, ◌∙◌, arith, eq-eqb, slice_get, find, Option, Some, None, position_from, range_with_len, is_none, is_some, IsSome, cases_Bool, cases_lt, eqb-true, none-some, TreeEntry, Begin, Done, Made, Hierarchy, IsHierarchy, parent_of, path_of, is_later, is_begin, is_done, is_making, begin_of, done_of, made_of, is_made, is_undone_child, MayBegin, MayBeDone, MayBeMade, IsTreeJournal, take-append-drop}
+use Rattle.std.specs.Prelude.{Contains}
+use Rattle.std.proofs.lemmas.Option.{same_Some}
 use mathlib.Core.Logic.{dite}
 use native.Mathlib.Decide.{ℕ_discrete}
-use Rattle.shr_base.specs.declared.journals.TreeEntry.{TreeEntry}
-use Rattle.shr_base.specs.declared.journals.TreeEntry.TheVariants.{Begin, Done, Made}
-use Rattle.shr_model.specs.Groups.{Hierarchy, IsHierarchy, parent_of, path_of, IsAtOrAbove, is_child, is_later}
-use Rattle.shr_model.specs.TreeJournal.{is_begin, is_done, is_making, begin_of, done_of, made_of, is_made, is_undone_child, MayBegin, MayBeDone, MayBeMade, IsTreeJournal}
+use Rattle.shr_model.specs.Groups.{IsAtOrAbove, is_child}
 use Rattle.shr_model.proofs.GroupsLaws.{child_again, child_takes, path_of-below, path_of-root}
 use Rattle.shr_model.proofs.Members.{Has_from_Contains, Contains_from_Has}
 use Rattle.shr_charge.proofs.Listing.{position-at}
 use Rattle.shr_charge.proofs.Entries.{is_made_grows}
-use Rattle.std.proofs.lemmas.List.{take-append-drop}
+use Rattle.shr_model.proofs.Booleans.{both_and}
 
 -- ---- the first entry of a kind
 
@@ -96,7 +90,7 @@ the_some None h = absurd (let no : false ≡ true = h in cc)
 the_some (Some x) h = (x, refl)
 
 -- an element of the first so many stands below that number
-take_below : {A : Type 0} (xs : List A) (n m : ℕ) (e : A) → slice_get (take n xs) m ≡ Some e → m < n
+pub take_below : {A : Type 0} (xs : List A) (n m : ℕ) (e : A) → slice_get (take n xs) m ≡ Some e → m < n
 take_below xs zero m e h = absurd (none-some e h)
 take_below [] (suc n) m e h = absurd (none-some e h)
 take_below (x ∷ xs) (suc n) zero e h = omega arith
@@ -124,12 +118,6 @@ made_among h es c m at = let t = made_found es c m at in or_true (not (is_later 
     or_true : (a b : Bool) → b ≡ true → (a || b) ≡ true
     or_true true b t = refl
     or_true false b t = t
-
-both_and : (a b c : Bool) → a ≡ true → b ≡ true → c ≡ true → (a && b && c) ≡ true
-both_and true true true p q r = refl
-both_and true true false p q r = r
-both_and true false c p q r = q
-both_and false b c p q r = p
 
 other_entry : (c p : ℕ) → Some (Made c) ≡ Some (Begin p) → ⊥
 other_entry c p e = let same : Made c ≡ Begin p = same_Some (Made c) (Begin p) e in let no : false ≡ true = ap is_start same in cc

@@ -1,8 +1,7 @@
 -- The path of a group up to another, step by step.
-use Rattle.std.proofs.Common.{◌≡◌, ◌≢◌, ℕ, zero, suc, ◌<◌, ◌≤◌, Bool, true, false, ◌||◌, eqb, cond, List, [], ◌∷◌, length, sym, refl, ap, ◌∙◌, ⊎_elim, arith, eq-eqb, ne_eqb}
-use Rattle.std.proofs.lemmas.Bool.{cases_Bool, eqb-true}
-use Rattle.shr_model.specs.Groups.{IsTree, parent_of, path_within, path_of, depth_of}
-use Rattle.shr_charge.specs.Paths.{path_to_within, path_to}
+use Rattle.shr_charge.proofs.Common.{◌≡◌, ◌≢◌, ℕ, zero, suc, ◌<◌, ◌≤◌, Bool, true, false, ◌||◌, eqb, cond, List, [], ◌∷◌, length, sym, refl, ap, ◌∙◌, ⊎_elim, arith, eq-eqb, ne_eqb, cases_Bool, eqb-true, IsTree, parent_of, path_of, depth_of, path_to}
+use Rattle.shr_model.specs.Groups.{path_within}
+use Rattle.shr_charge.specs.Paths.{path_to_within}
 
 or_true : (b : Bool) → (b || true) ≡ true
 or_true true = refl

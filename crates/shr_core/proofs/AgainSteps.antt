@@ -4,7 +4,7 @@ use Rattle.std.proofs.lemmas.Option.{same_Some}
 use Rattle.shr_core.proofs.Options.{only_some_no}
 use Rattle.std.specs.Prelude.{Some, None, Option as Maybe}
 use prog.Atomic.{either}
-use mathlib.Core.Option.{some, some-ne-none}
+use mathlib.Core.Option.{some}
 use lib.ListN.{get_elem?}
 use Rattle.atomic_table.specs.Table.{State, Act, Valid, keeps, Allows, stepped, carried_after}
 use Rattle.atomic_table.proofs.Lists.{exchanged}
@@ -34,17 +34,13 @@ use Rattle.shr_core.proofs.Turning as turning
 use Rattle.shr_core.proofs.Dating as dating
 use Rattle.shr_core.proofs.Lasting.{Lasts, lasts}
 use Rattle.shr_core.proofs.LookupSteps.{look_here, look_else}
+use Rattle.shr_seats.proofs.Lining.{set_there}
 
 -- what is set twice is what was set last
 set_twice : {A : Type 0} (xs : List A) (i : ℕ) (a b : A) → set (set xs i a) i b ≡ set xs i b
 set_twice {A} [] i a b = refl
 set_twice {A} (x ∷ xs) zero a b = refl
 set_twice {A} (x ∷ xs) (suc i) a b = ap (λ (l : List A). x ∷ l) (set_twice xs i a b)
-
-there : {A : Type 0} (xs : List A) (i : ℕ) (a b : A) → get_elem? xs i ≡ some a → get_elem? (set xs i b) i ≡ some b
-there {A} [] i a b e = absurd (some-ne-none a (sym e))
-there {A} (x ∷ xs) zero a b e = refl
-there {A} (x ∷ xs) (suc i) a b e = there xs i a b e
 
 -- the word that was wanted was found, and shows the phase that the seat knows of the id
 module _ (key : Setting) (s : State Slot View) (o : Sound key s) (id i wanted : ℕ) (v : View) (me : get_elem? s.views id ≡ some v) (near : i < key.shape.ids) (hit : looks_in s.words i ≡ wanted) (same : phase_in wanted ≡ phase_of i v.turns.known) where
@@ -100,7 +96,7 @@ module _ (key : Setting) (s : State Slot View) (o : Sound key s) (id i wanted : 
     allowed = claiming.leaves key.shape.ids key.first_lookup (looks_in s.words) o.pool cs id i c.quiet c.loaded c at idle (omega (arith, left, ap lookups_of hit)) (o.rules.looked.loaded id c at) o.rules.looked
 
     at_let : get_elem? (set cs id let_in) id ≡ some let_in
-    at_let = there cs id c let_in at
+    at_let = set_there cs id c let_in at
 
     fields : packing.Fields wanted new (refs_of wanted + 1) (lookups_of wanted + 1) (phase_in wanted) (decl_in wanted)
     fields = let space = claiming.space_left key.shape.ids key.first_lookup (looks_in s.words) o.pool (set cs id let_in) allowed id i let_in at_let near refl in

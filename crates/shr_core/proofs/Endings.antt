@@ -4,7 +4,7 @@ use Rattle.std.specs.Prelude.{if◌then◌else◌}
 use Rattle.std.proofs.lemmas.List.{append-nil}
 use mathlib.Core.Logic.{dite}
 use native.Mathlib.Decide.{ℕ_discrete}
-use mathlib.Core.Option.{some, some-injective, some-ne-none}
+use mathlib.Core.Option.{some}
 use lib.ListN.{get_elem?}
 use Rattle.shr_base.specs.declared.objects.Object.{Object}
 use Rattle.shr_base.specs.declared.journals.Entry.{Entry}
@@ -17,16 +17,11 @@ use Rattle.shr_core.proofs.Laying.{row_yes, numbered, bits_read, number_at, numb
 use Rattle.shr_core.specs.Slots.{Slot}
 use Rattle.shr_core.specs.Lookup.{lookups_of}
 use Rattle.shr_core.specs.Ending.{EndValue, entries_of, items_of_slot, entries_in, items_in, end_of, ends_below, lookups_below, units_below, groups_below, nodes_below}
-
--- a word that is there
-pub word_at : (ws : List ℕ) (i x : ℕ) → get_elem? ws i ≡ some x → get_or ws i 0 ≡ x
-word_at [] i x e = absurd (some-ne-none x (sym e))
-word_at (y ∷ ws) zero x e = some-injective y x e
-word_at (y ∷ ws) (suc i) x e = word_at ws i x e
+use Rattle.shr_model.proofs.Lists.{word_of}
 
 -- the same by another name of its number
 pub word_is : (ws : List ℕ) (i k x : ℕ) → i ≡ k → get_elem? ws i ≡ some x → x ≡ get_or ws k 0
-word_is ws i k x e there = sym (word_at ws i x there) ∙ ap (λ (j : ℕ). get_or ws j 0) e
+word_is ws i k x e there = sym (word_of ws i x there) ∙ ap (λ (j : ℕ). get_or ws j 0) e
 
 -- a bit word that was read in its row
 pub bits_word : (z : Sizes) (node group unit : ℕ) (ws : List ℕ) (word row x : ℕ) → node < z.nodes → group < z.groups → z.nodes ≤ 4 → z.groups ≤ 256 → row ≡ row_of z (record { id = unit; node = node; group = group }) → word ≡ 8 * row + 2 → get_elem? ws word ≡ some x → x ≡ bits_in z ws (map_number node group unit)

@@ -10,12 +10,10 @@ use Rattle.shr_core.specs.Parts.{Hand}
 use Rattle.shr_core.specs.Rule.{is_room}
 use Rattle.shr_core.specs.Steps.{without_room}
 use Rattle.shr_core.specs.Seats.{HasFirst, slot_numbers}
+use Rattle.shr_model.proofs.Lists.{heads}
 
 abbrev room : Hand → ℕ
 room h = h.room
-
-head_is : (x y : ℕ) (xs ys : List ℕ) → x ∷ xs ≡ y ∷ ys → x ≡ y
-head_is x y xs ys e = ap (λ (l : List ℕ). get_or l 0 0) e
 
 second_is : (x y a b : ℕ) (xs ys : List ℕ) → x ∷ a ∷ xs ≡ y ∷ b ∷ ys → a ≡ b
 second_is x y a b xs ys e = ap (λ (l : List ℕ). get_or l 1 0) e
@@ -32,7 +30,7 @@ no_hand n (h ∷ hs) e has = omega (arith, long [] (map room (h ∷ hs)) e)
 pub one_hand : (n a : ℕ) (hs : List Hand) → a ∷ [] ≡ map room hs → 0 < total (is_room n) hs → (a ≡ n) × ([] ≡ map room (without_room n hs))
 one_hand n a [] e has = absurd (omega (arith, has))
 one_hand n a (h ∷ []) e has = dite (ℕ_discrete h.room n)
-    (λ d. (head_is a h.room [] [] e ∙ d, ap (map room) (sym (ap (λ b. cond b [] (h ∷ [])) (eq-eqb h.room n d)))))
+    (λ d. (heads a h.room [] [] e ∙ d, ap (map room) (sym (ap (λ b. cond b [] (h ∷ [])) (eq-eqb h.room n d)))))
     (λ d. absurd (omega (arith, has, only_no n h.room d)))
 one_hand n a (h ∷ g ∷ hs) e has = absurd (omega (arith, long (a ∷ []) (map room (h ∷ g ∷ hs)) e))
 
@@ -40,14 +38,14 @@ one_hand n a (h ∷ g ∷ hs) e has = absurd (omega (arith, long (a ∷ []) (map
 pub last_hand : (n a b : ℕ) (hs : List Hand) → a ∷ b ∷ [] ≡ map room hs → a ≡ n → b ∷ [] ≡ map room (without_room n hs)
 last_hand n a b [] e d = absurd (omega (arith, long (a ∷ b ∷ []) [] e))
 last_hand n a b (h ∷ []) e d = absurd (omega (arith, long (a ∷ b ∷ []) (h.room ∷ []) e))
-last_hand n a b (h ∷ g ∷ []) e d = let is : h.room ≡ n = sym (head_is a h.room (b ∷ []) (g.room ∷ []) e) ∙ d in ap (λ (x : ℕ). x ∷ []) (second_is a h.room b g.room [] [] e) ∙ ap (map room) (sym (ap (λ x. cond x (g ∷ []) (h ∷ without_room n (g ∷ []))) (eq-eqb h.room n is)))
+last_hand n a b (h ∷ g ∷ []) e d = let is : h.room ≡ n = sym (heads a h.room (b ∷ []) (g.room ∷ []) e) ∙ d in ap (λ (x : ℕ). x ∷ []) (second_is a h.room b g.room [] [] e) ∙ ap (map room) (sym (ap (λ x. cond x (g ∷ []) (h ∷ without_room n (g ∷ []))) (eq-eqb h.room n is)))
 last_hand n a b (h ∷ g ∷ f ∷ hs) e d = absurd (omega (arith, long (a ∷ b ∷ []) (map room (h ∷ g ∷ f ∷ hs)) e))
 
 -- two are, and the first is given back
 pub first_hand : (n a b : ℕ) (hs : List Hand) → a ∷ b ∷ [] ≡ map room hs → a ≢ n → 0 < total (is_room n) hs → (b ≡ n) × (a ∷ [] ≡ map room (without_room n hs))
 first_hand n a b [] e d has = absurd (omega (arith, long (a ∷ b ∷ []) [] e))
 first_hand n a b (h ∷ []) e d has = absurd (omega (arith, long (a ∷ b ∷ []) (h.room ∷ []) e))
-first_hand n a b (h ∷ g ∷ []) e d has = let ha : a ≡ h.room = head_is a h.room (b ∷ []) (g.room ∷ []) e in let not-h : h.room ≢ n = λ x. d (ha ∙ x) in let gb : b ≡ g.room = second_is a h.room b g.room [] [] e in dite (ℕ_discrete g.room n)
+first_hand n a b (h ∷ g ∷ []) e d has = let ha : a ≡ h.room = heads a h.room (b ∷ []) (g.room ∷ []) e in let not-h : h.room ≢ n = λ x. d (ha ∙ x) in let gb : b ≡ g.room = second_is a h.room b g.room [] [] e in dite (ℕ_discrete g.room n)
     (λ is. (gb ∙ is, ap (λ (x : ℕ). x ∷ []) ha ∙ ap (map room) (sym (ap (λ x. cond x (g ∷ []) (h ∷ without_room n (g ∷ []))) (ne_eqb h.room n not-h) ∙ ap (λ x. h ∷ cond x [] (g ∷ [])) (eq-eqb g.room n is)))))
     (λ m. absurd (omega (arith, has, only_no n h.room not-h, only_no n g.room m)))
 first_hand n a b (h ∷ g ∷ f ∷ hs) e d has = absurd (omega (arith, long (a ∷ b ∷ []) (map room (h ∷ g ∷ f ∷ hs)) e))
@@ -55,7 +53,7 @@ first_hand n a b (h ∷ g ∷ f ∷ hs) e d has = absurd (omega (arith, long (a 
 -- the slots that the seat has taken
 pub front : (n a : ℕ) (more : List ℕ) (slots : List (ℕ × Slot)) → slot_numbers slots ≡ a ∷ more → a ≡ n → HasFirst slots n × (slot_numbers (rest slots) ≡ more)
 front n a more [] e d = absurd (omega (arith, long [] (a ∷ more) e))
-front n a more (x ∷ xs) e d = ((x.1, ap (λ (k : ℕ). (k, x.1) ∷ xs) (head_is x.0 a (slot_numbers xs) more e ∙ d)), ap tail e) where
+front n a more (x ∷ xs) e d = ((x.1, ap (λ (k : ℕ). (k, x.1) ∷ xs) (heads x.0 a (slot_numbers xs) more e ∙ d)), ap tail e) where
   tail : List ℕ → List ℕ
   tail [] = []
   tail (y ∷ ys) = ys
@@ -64,5 +62,5 @@ front n a more (x ∷ xs) e d = ((x.1, ap (λ (k : ℕ). (k, x.1) ∷ xs) (head_
 pub turned_front : (n a b : ℕ) (slots : List (ℕ × Slot)) → slot_numbers slots ≡ a ∷ b ∷ [] → b ≡ n → HasFirst (turned slots) n × (slot_numbers (rest (turned slots)) ≡ a ∷ [])
 turned_front n a b [] e d = absurd (omega (arith, long [] (a ∷ b ∷ []) e))
 turned_front n a b (x ∷ []) e d = absurd (omega (arith, long (x.0 ∷ []) (a ∷ b ∷ []) e))
-turned_front n a b (x ∷ y ∷ []) e d = ((y.1, ap (λ (k : ℕ). (k, y.1) ∷ x ∷ []) (second_is x.0 a y.0 b [] [] e ∙ d)), ap (λ (k : ℕ). k ∷ []) (head_is x.0 a (y.0 ∷ []) (b ∷ []) e))
+turned_front n a b (x ∷ y ∷ []) e d = ((y.1, ap (λ (k : ℕ). (k, y.1) ∷ x ∷ []) (second_is x.0 a y.0 b [] [] e ∙ d)), ap (λ (k : ℕ). k ∷ []) (heads x.0 a (y.0 ∷ []) (b ∷ []) e))
 turned_front n a b (x ∷ y ∷ z ∷ zs) e d = absurd (omega (arith, long (slot_numbers (x ∷ y ∷ z ∷ zs)) (a ∷ b ∷ []) e))

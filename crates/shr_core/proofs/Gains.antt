@@ -17,7 +17,7 @@ use Rattle.shr_core.specs.Again.{with_again}
 use Rattle.shr_core.proofs.Uses.{using_still, using_looked, using_put}
 use Rattle.shr_core.specs.Gained.{Gained, nothing, then_gained, Adds, AreKinds, among, seen_in, made_in, attempts_in, loaded_in, turns_in, sets_in, cleared_in, maps_in}
 
-among-append : {A : Type 0} (f : Event → List A) (l m : List Event) → among f (l ++ m) ≡ among f l ++ among f m
+pub among-append : {A : Type 0} (f : Event → List A) (l m : List Event) → among f (l ++ m) ≡ among f l ++ among f m
 among-append f [] m = refl
 among-append f (e ∷ es) m = ap (λ l. f e ++ l) (among-append f es m) ∙ sym (append_assoc (f e) (among f es) (among f m))
 

@@ -35,7 +35,7 @@ changed_in_hand r c (x ∷ hs) h = dite (ℕ_discrete x.room r)
 pub phase_in_hand : (shape : Shape) (v : View) (id decl : ℕ) (w : LookupWord) → 0 < has_room (places_in shape.ids) v.holding → (in_hand (with_phase shape v id decl w) (places_in shape.ids)).pool ≡ (in_hand v (places_in shape.ids)).pool ++ turn_at id decl w ∷ []
 phase_in_hand shape v id decl w h = let r : ℕ = places_in shape.ids in ap (λ (c : Content). c.pool) (changed_in_hand r (record (in_hand v r) { pool = (in_hand v r).pool ++ turn_at id decl w ∷ [] }) v.holding.hands h)
 
-no_phase : (i : ℕ) → phase_of i [] ≡ 0
+pub no_phase : (i : ℕ) → phase_of i [] ≡ 0
 unfolding phase_of
 no_phase i = refl
 

@@ -33,10 +33,8 @@ use Rattle.shr_core.proofs.Laying.{count_none, lock_none, bits_none, look_low, r
 use Rattle.shr_core.proofs.Claiming.{between_none}
 use Rattle.shr_core.proofs.Tracing.{below_no}
 use Rattle.shr_core.proofs.Listing as listing
-
-no_phase : (i : ℕ) → phase_of i [] ≡ 0
-unfolding phase_of
-no_phase i = refl
+use Rattle.shr_core.proofs.Hands.{no_phase}
+use Rattle.shr_model.proofs.Lists.{there}
 
 no_decl : (i : ℕ) → decl_of i [] ≡ 0
 unfolding decl_from
@@ -54,11 +52,6 @@ no_from i = refl
 no_lookup : (i n : ℕ) → decl_at n (registrations i []) ≡ met_now i []
 unfolding decl_at registrations phase_of decl_from
 no_lookup i n = refl
-
-there : {A : Type 0} (l : List A) (i : ℕ) → i < length l → (a : A) × (get_elem? l i ≡ some a)
-there [] i h = absurd (omega arith)
-there (x ∷ xs) zero h = (x, refl)
-there (x ∷ xs) (suc i) h = there xs i (omega arith)
 
 -- no bit of 0 is set
 no_bit : (b : ℕ) → bit_at 0 b ≡ 1 → ⊥

@@ -10,6 +10,7 @@ use Rattle.shr_base.specs.declared.journals.PoolEntry.{PoolEntry}
 use Rattle.shr_base.specs.declared.journals.PoolEntry.TheVariants.{Registered, Unregistered, Idle}
 use Rattle.shr_model.specs.Pool.{id_of, phase_of, decl_of, decl_after, is_free, lowest_free, IsNextPool, IsPoolJournal}
 use Rattle.shr_model.proofs.PoolLaws.{one_of, phase_of_push, decl_from_push}
+use Rattle.shr_core.proofs.Hands.{no_phase}
 
 -- the phases of the ids below a bound, together
 unfoldable phases_below : ℕ → List PoolEntry → ℕ
@@ -33,10 +34,6 @@ below_push zero es e h = absurd (omega (arith, h))
 below_push (suc n) es e h = dite (ℕ_discrete (id_of e) n)
     (λ q. omega (arith, phase_of_push n es e, here_one n e q, below_past n es e (omega (arith, q))))
     (λ q. omega (arith, phase_of_push n es e, else_none n e q, below_push n es e (omega (arith, h, q))))
-
-no_phase : (i : ℕ) → phase_of i [] ≡ 0
-unfolding phase_of
-no_phase i = refl
 
 below_none : (n : ℕ) → phases_below n [] ≡ 0
 unfolding phases_below phase_of

@@ -38,6 +38,7 @@ use Rattle.shr_core.proofs.Tracing as tracing
 use Rattle.shr_core.proofs.Laying.{inside_is, inside_low, count_here, count_else}
 use Rattle.shr_core.proofs.Marking as marking
 use Rattle.shr_core.proofs.Owning as owning
+use Rattle.shr_model.proofs.PoolLaws.{and_false}
 
 -- the journals, with one changed
 abbrev pub changed : ℕ → List Entry → Journals → Journals
@@ -58,10 +59,6 @@ recorded_here k n items after = ap (λ b. cond (b && eqb n n) items (after k n))
 
 pub recorded_place : (k n : ℕ) (items : List Object) (after : Histories) (j m : ℕ) → j ≢ k → recorded k n items after j m ≡ after j m
 recorded_place k n items after j m ne = ap (λ b. cond (b && eqb m n) items (after j m)) (ne_eqb j k ne)
-
-and_false : (b : Bool) → (b && false) ≡ false
-and_false true = refl
-and_false false = refl
 
 pub recorded_number : (k n : ℕ) (items : List Object) (after : Histories) (j m : ℕ) → m ≢ n → recorded k n items after j m ≡ after j m
 recorded_number k n items after j m ne = ap (λ b. cond (eqb j k && b) items (after j m)) (ne_eqb m n ne) ∙ ap (λ b. cond b items (after j m)) (and_false (eqb j k))

@@ -1,5 +1,5 @@
 -- The traces keep their part of the rule.
-use Rattle.std.proofs.Common.{◌≡◌, ℕ, ◌+◌, ◌<◌, ◌≤◌, ◌≢◌, cond, eqb, ltb, List, [], ◌∷◌, ◌++◌, length, set, sym, refl, ap, subst, ◌∙◌, arith, length-append, eq-eqb, ne_eqb, lt-ltb, le-ltb}
+use Rattle.std.proofs.Common.{◌≡◌, ℕ, ◌+◌, ◌<◌, ◌≤◌, ◌≢◌, cond, eqb, ltb, List, [], ◌∷◌, ◌++◌, length, set, sym, refl, ap, subst, ◌∙◌, arith, length-append, eq-eqb, ne_eqb, le-ltb}
 use Rattle.std.proofs.lemmas.List.{append-nil}
 use mathlib.Core.Logic.{dite}
 use native.Mathlib.Decide.{ℕ_discrete, dec_lt}
@@ -14,9 +14,7 @@ use Rattle.shr_seats.specs.declared.shape.Shape.{Shape}
 use Rattle.shr_core.specs.Parts.{Traces, Made, Known, Counted}
 use Rattle.shr_core.specs.Layout.{places_in, length_of, version_of}
 use Rattle.shr_core.specs.Rule.{AreCounts, AreTraces, IsMade, IsKnown, IsSeen, Journals, Histories, items_now, hit}
-
-pub below_yes : (n len : ℕ) → n < len → ◌≡◌ {A = ℕ} (cond (ltb n len) 1 0) 1
-below_yes n len h = ap (λ b. cond b 1 0) (lt-ltb n len h)
+use Rattle.shr_model.proofs.Numbers.{later}
 
 pub below_no : (n len : ℕ) → len ≤ n → ◌≡◌ {A = ℕ} (cond (ltb n len) 1 0) 0
 below_no n len h = ap (λ b. cond b 1 0) (le-ltb n len h)
@@ -103,9 +101,9 @@ makes now now' after after' ts id k t e items at gains others same is-items o =
       once = λ j n. let moved = total-set (λ (z : Traces). total (hit j n) z.made) ts id t w at in let mine = total-append (hit j n) t.made (x ∷ []) in dite (ℕ_discrete j k)
           (λ d. let F : ℕ → Type 0 = λ y. total (λ (z : Traces). total (hit y n) z.made) (set ts id w) ≡ cond (ltb n (length (now' y))) 1 0 in subst F (sym d)
           (let moved' = total-set (λ (z : Traces). total (hit k n) z.made) ts id t w at in let mine' = total-append (hit k n) t.made (x ∷ []) in dite (ℕ_discrete (length (now k)) n)
-          (λ q. omega (arith, moved', mine', o.once k n, hit_yes k n x refl q, below_no n (length (now k)) (omega arith), below_yes n (length (now' k)) (omega arith)))
+          (λ q. omega (arith, moved', mine', o.once k n, hit_yes k n x refl q, below_no n (length (now k)) (omega arith), later n (length (now' k)) (omega arith)))
           (λ q. dite (dec_lt n (length (now k)))
-          (λ l. omega (arith, moved', mine', o.once k n, hit_number k n x refl q, below_yes n (length (now k)) l, below_yes n (length (now' k)) (omega arith)))
+          (λ l. omega (arith, moved', mine', o.once k n, hit_number k n x refl q, later n (length (now k)) l, later n (length (now' k)) (omega arith)))
           (λ l. omega (arith, moved', mine', o.once k n, hit_number k n x refl q, below_no n (length (now k)) (omega arith), below_no n (length (now' k)) (omega arith))))))
           (λ d. let as-before = ap {B = ℕ} (λ (l : List Entry). cond (ltb n (length l)) 1 0) (others j d) in omega (arith, moved, mine, o.once j n, hit_place j n x (λ q. d (sym q)), as-before));
       made = Each-set (λ (z : Traces). Each (IsMade now' after') z.made) ts id w (Each-push (IsMade now' after') t.made x mine-new (keeps id t at)) keeps;

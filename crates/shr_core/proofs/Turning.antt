@@ -12,7 +12,8 @@ use Rattle.shr_seats.specs.Weights.{total, Begins}
 use Rattle.shr_seats.proofs.Weighing.{total_same, total-set, total-append, term_le, Each-set, Each-push, Each-weaker, only_yes, only_no, begins_all, begins_push, begins_more, at_begins}
 use Rattle.shr_core.specs.Parts.{Turns, Turn, Dated}
 use Rattle.shr_core.specs.Rule.{AreTurns, IsTurn, hit_turn}
-use Rattle.shr_core.proofs.Tracing.{below_yes, below_no}
+use Rattle.shr_core.proofs.Tracing.{below_no}
+use Rattle.shr_model.proofs.Numbers.{later}
 
 at_last : (es : List PoolEntry) (e : PoolEntry) → get_elem? (es ++ e ∷ []) (length es) ≡ some e
 at_last [] e = refl
@@ -31,9 +32,9 @@ makes ids decls pool ts id t e at legal o =
     let longer : length pool' ≡ length pool + 1 = length-append pool (e ∷ []) in
     let more : (y : Turn) → IsTurn pool y → IsTurn pool' y = λ y is. at_begins pool pool' y.number y.entry (begins_push pool e) is in record {
       once = λ n. let moved = total-set (λ (z : Turns). total (hit_turn n) z.made) ts id t w at in let mine = total-append (hit_turn n) t.made (x ∷ []) in dite (ℕ_discrete (length pool) n)
-          (λ q. omega (arith, moved, mine, o.once n, only_yes n (length pool) q, below_no n (length pool) (omega arith), below_yes n (length pool') (omega arith)))
+          (λ q. omega (arith, moved, mine, o.once n, only_yes n (length pool) q, below_no n (length pool) (omega arith), later n (length pool') (omega arith)))
           (λ q. dite (dec_lt n (length pool))
-          (λ l. omega (arith, moved, mine, o.once n, only_no n (length pool) q, below_yes n (length pool) l, below_yes n (length pool') (omega arith)))
+          (λ l. omega (arith, moved, mine, o.once n, only_no n (length pool) q, later n (length pool) l, later n (length pool') (omega arith)))
           (λ l. omega (arith, moved, mine, o.once n, only_no n (length pool) q, below_no n (length pool) (omega arith), below_no n (length pool') (omega arith))));
       made = Each-set (λ (z : Turns). Each (IsTurn pool') z.made) ts id w (Each-push (IsTurn pool') t.made x (at_last pool e) (Each-weaker (IsTurn pool) (IsTurn pool') more t.made (o.made id t at))) (λ j z d. Each-weaker (IsTurn pool) (IsTurn pool') more z.made (o.made j z d));
       known = Each-set (λ (z : Turns). Begins z.known pool') ts id w (begins_more t.known pool pool' (o.known id t at) (begins_push pool e)) (λ j z d. begins_more z.known pool pool' (o.known j z d) (begins_push pool e));

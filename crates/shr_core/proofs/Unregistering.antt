@@ -23,7 +23,7 @@ use Rattle.shr_core.proofs.Claiming.{by_phase, turn_here, turn_else}
 use Rattle.shr_core.proofs.Owning.{Becomes}
 
 -- what stands in a list is below its length
-there : {A : Type 0} (l : List A) (n : ℕ) (x : A) → get_elem? l n ≡ some x → n < length l
+pub there : {A : Type 0} (l : List A) (n : ℕ) (x : A) → get_elem? l n ≡ some x → n < length l
 there [] n x e = absurd (some-ne-none x (sym e))
 there (y ∷ l) zero x e = omega arith
 there (y ∷ l) (suc n) x e = omega (arith, there l n x e)

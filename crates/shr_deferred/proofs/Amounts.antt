@@ -1,29 +1,15 @@
 -- What the words are once all other seats were joined.
-use Rattle.std.proofs.Common.{◌≡◌, ℕ, zero, suc, ◌+◌, ◌%◌, ◌^◌, ◌<◌, ◌≢◌, true, false, cond, not, List, [], ◌∷◌, ◌++◌, get_or, sym, refl, ap, ◌∙◌, arith, eq-eqb, ne_eqb}
+use Rattle.shr_deferred.proofs.Common.{◌≡◌, ℕ, ◌+◌, ◌%◌, ◌^◌, ◌<◌, ◌≢◌, true, false, cond, List, [], ◌∷◌, ◌++◌, get_or, sym, refl, ap, ◌∙◌, arith, eq-eqb, ne_eqb, append-nil, some, get_elem?, Final, Seen, Place, PlaceAmount, amount_of, View, Sizes, row_of, row_count, place_in, Deed, acts_of, part, lined_sole, Move, IsSound, AreTaken, Amounts, did_in, standing_in, spent_view, strands_in, amounts_after, nothing_deferred, left_at, HasHistory}
+use Rattle.std.proofs.Common.{not}
 use Rattle.std.specs.Prelude.{filter}
-use Rattle.std.proofs.lemmas.List.{append-nil}
 use Rattle.std.proofs.lemmas.List.FromFn.{filter_of_map_range_with_len_more}
-use mathlib.Core.Option.{some, some-injective, some-ne-none}
-use lib.ListN.{get_elem?}
-use Rattle.atomic_table.specs.Table.{Final, Seen}
-use Rattle.shr_base.specs.declared.places.Place.{Place}
-use Rattle.shr_base.specs.declared.ends.PlaceAmount.{PlaceAmount}
-use Rattle.shr_model.specs.Deferred.{amount_of}
 use Rattle.shr_seats.specs.Standing.{IsWhole}
 use Rattle.shr_seats.proofs.RowLaws.{place_inside, row_back}
 use Rattle.shr_seats.proofs.Sums.{range_same}
-use Rattle.shr_deferred.specs.declared.view.View.{View}
-use Rattle.shr_seats.specs.declared.rows.Sizes.{Sizes}
-use Rattle.shr_seats.specs.Rows.{row_of, row_count, place_in}
-use Rattle.shr_seats.specs.Lines.{Deed, acts_of, part}
-use Rattle.shr_seats.proofs.Lining.{lined_sole}
-use Rattle.shr_deferred.specs.Moves.{Move}
-use Rattle.shr_deferred.specs.Rule.{IsSound, AreTaken, Amounts, did_in, standing_in, spent_view, strands_in, amounts_after, nothing_deferred}
-use Rattle.shr_deferred.specs.Alone.{left_at}
-use Rattle.shr_deferred.specs.History.{HasHistory}
 use Rattle.shr_deferred.proofs.Words.{left_small, left_is}
 use Rattle.shr_deferred.proofs.Renamed.{renamed, parts_renamed, so_renamed, after_renamed}
 use Rattle.shr_deferred.specs.Left.{is_some_amount, amounts, left_over}
+use Rattle.shr_model.proofs.Lists.{word_of}
 
 amounts_same : (z : Sizes) (f g : ℕ → ℕ) (n : ℕ) → ((i : ℕ) → i < n → f i ≡ g i) → amounts z f n ≡ amounts z g n
 unfolding amounts
@@ -82,11 +68,6 @@ module _ (z : Sizes) (id : ℕ) (v : View) (words : List ℕ) (slots : List (Uni
     left = o.left ∙ amounts_same z (λ i. amounts_after o.line (place_in z i)) (λ i. amounts_after (renamed t o.line) (place_in z i)) (row_count z) (λ i low. ap (λ (w : Amounts). w (place_in z i)) (sym (after_renamed t nothing_deferred o.line)));
   }
 
-get_of : (ws : List ℕ) (i w : ℕ) → get_elem? ws i ≡ some w → get_or ws i 0 ≡ w
-get_of [] i w e = absurd (some-ne-none w (sym e))
-get_of (x ∷ xs) zero w e = some-injective x w e
-get_of (x ∷ xs) (suc i) w e = get_of xs i w e
-
 -- a word that was read
 pub word_read : (ws : List ℕ) (i w : ℕ) → get_elem? ws i ≡ some w → w < 2 ^ 64 → get_or ws i 0 % 2 ^ 64 ≡ w
-word_read ws i w e small = let same = get_of ws i w e in omega (arith, same, small)
+word_read ws i w e small = let same = word_of ws i w e in omega (arith, same, small)

@@ -1,19 +1,9 @@
 -- The rule after a step of one seat, part by part.
-use Rattle.std.proofs.Common.{◌≡◌, ℕ, true, false, List, [], ◌∷◌, ◌++◌, map, set, get_or, sym, refl, subst, ◌∙◌, length-set}
-use Rattle.std.proofs.lemmas.List.{map-set}
-use mathlib.Core.Option.{Option, some}
-use lib.ListN.{get_elem?}
-use Rattle.atomic_table.specs.Table.{State}
-use Rattle.atomic_table.proofs.Lists.{at_map, set_again}
-use Rattle.shr_seats.specs.Standing.{AreSeats}
-use Rattle.shr_seats.specs.Lines.{Deed}
-use Rattle.shr_seats.proofs.Sums.{Each-set}
-use Rattle.shr_seats.proofs.Seating.{not_gone}
+use Rattle.shr_deferred.proofs.Common.{◌≡◌, ℕ, true, false, List, [], ◌∷◌, ◌++◌, map, set, get_or, sym, refl, subst, ◌∙◌, map-set, some, get_elem?, State, at_map, AreSeats, Deed, Each-set, not_gone, View, Sizes, Move, IsSound, TakesAll, amounts_next, amounts_after, nothing_deferred, did_in, standing_in, spent_view}
+use Rattle.std.proofs.Common.{length-set}
+use mathlib.Core.Option.{Option}
+use Rattle.atomic_table.proofs.Lists.{set_again}
 use Rattle.shr_seats.proofs.Lining.{lined_do, AreSo-push}
-use Rattle.shr_deferred.specs.declared.view.View.{View}
-use Rattle.shr_seats.specs.declared.rows.Sizes.{Sizes}
-use Rattle.shr_deferred.specs.Moves.{Move}
-use Rattle.shr_deferred.specs.Rule.{IsSound, TakesAll, amounts_next, amounts_after, nothing_deferred, did_in, standing_in, spent_view}
 use Rattle.shr_deferred.proofs.Words.{AreLeft}
 use Rattle.shr_deferred.proofs.Strands.{moved, own_move}
 

@@ -1,14 +1,6 @@
 -- Words, places and moves of the table at known values.
-use Rattle.std.proofs.Common.{arith}
-use Rattle.std.specs.Prelude.{◌≡◌, ℕ, ◌-◌, ◌^◌, List, [], ◌∷◌, refl}
-use Rattle.shr_base.specs.declared.places.Place.{Place}
-use Rattle.shr_seats.specs.declared.rows.Sizes.{Sizes}
-use Rattle.shr_seats.specs.Rows.{IsPlaceOf, row_of, place_in, row_count}
-use Rattle.shr_deferred.specs.Alone.{left_at}
-use Rattle.shr_model.specs.Deferred.{amount_of}
-use Rattle.shr_seats.specs.Lines.{Deed, part}
-use Rattle.shr_deferred.specs.Moves.{Move, Moves, took, gave, both, take_of, give_of}
-use Rattle.shr_deferred.specs.Rule.{AreTaken, amounts_after}
+use Rattle.shr_deferred.proofs.Common.{arith, ◌≡◌, ℕ, ◌^◌, List, [], ◌∷◌, refl, Place, Sizes, IsPlaceOf, row_of, place_in, row_count, left_at, amount_of, Deed, part, Move, Moves, took, gave, both, take_of, give_of, AreTaken, amounts_after}
+use Rattle.std.specs.Prelude.{◌-◌}
 
 -- a table of 3 ids, 2 nodes and 4 groups
 abbrev sizes : Sizes

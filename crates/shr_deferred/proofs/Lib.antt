@@ -1,3 +1,4 @@
+mod Common
 pub mod Words
 pub mod Strands
 pub mod Renamed

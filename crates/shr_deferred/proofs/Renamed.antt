@@ -1,13 +1,6 @@
 -- A line in which the seats of the strands have the strands' numbers.
-use Rattle.std.proofs.Common.{◌≡◌, ◌≢◌, ◌⊎◌, ℕ, zero, suc, ◌+◌, ◌<◌, inl, inr, Bool, cond, eqb, List, [], ◌∷◌, map, length, sym, refl, ap, subst, ◌∙◌, arith, eq-eqb, ne_eqb}
-use mathlib.Core.Logic.{dite}
-use native.Mathlib.Decide.{ℕ_discrete, dec_lt}
-use mathlib.Core.Option.{some, some-injective, some-ne-none}
-use lib.ListN.{get_elem?}
-use Rattle.shr_seats.specs.Lines.{Deed, by_seat, part, state_after, AreSo}
-use Rattle.shr_deferred.specs.declared.view.View.{View}
-use Rattle.shr_deferred.specs.Moves.{Move, Moves}
-use Rattle.shr_deferred.specs.Rule.{AreStrands, Amounts, TakesAll, amounts_next, strands_in, strand_at}
+use Rattle.shr_deferred.proofs.Common.{◌≡◌, ◌≢◌, ◌⊎◌, ℕ, zero, suc, ◌+◌, ◌<◌, Bool, cond, eqb, List, [], ◌∷◌, map, length, sym, refl, ap, subst, ◌∙◌, arith, eq-eqb, ne_eqb, dite, ℕ_discrete, dec_lt, some, some-injective, some-ne-none, get_elem?, Deed, by_seat, part, state_after, AreSo, View, Move, Moves, AreStrands, Amounts, TakesAll, amounts_next, strands_in, strand_at}
+use Rattle.std.proofs.Common.{inl, inr}
 use Rattle.shr_deferred.proofs.Strands.{at_past}
 
 -- ---- which of the first numbers has a name

@@ -1,9 +1,7 @@
 -- What calls gain on a seat, none and one after the other.
-use Rattle.std.proofs.Common.{◌≡◌, ℕ, List, [], ◌∷◌, ◌++◌, sym, refl, ap, ◌∙◌, append_assoc}
-use Rattle.std.proofs.lemmas.List.{append-nil, map-append}
-use Rattle.shr_seats.specs.Lines.{Deed, by_seat, acts_of}
-use Rattle.shr_seats.proofs.Lining.{acts_by}
-use Rattle.shr_deferred.specs.Moves.{Move, Moves, took, gave, takes_of, gives_of, no_moves, both}
+use Rattle.shr_deferred.proofs.Common.{◌≡◌, ℕ, List, [], ◌∷◌, ◌++◌, sym, refl, ap, ◌∙◌, append-nil, map-append, Deed, by_seat, acts_of, acts_by, Move, Moves, took, gave, takes_of, gives_of, both}
+use Rattle.std.proofs.Common.{append_assoc}
+use Rattle.shr_deferred.specs.Moves.{no_moves}
 use Rattle.shr_deferred.specs.Seat.{DeferredSeat, Gains, did_of, moves_of, own_of}
 
 -- the moves of a seat that did these more

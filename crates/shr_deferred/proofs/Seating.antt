@@ -1,21 +1,12 @@
 -- Splitting the first seat and joining another into it keep the rule.
-use Rattle.std.proofs.Common.{◌≡◌, ℕ, zero, suc, length, ◌<◌, true, false, List, [], ◌∷◌, ◌++◌, map, set, get_or, sym, refl, ap, subst, ◌∙◌}
-use Rattle.std.proofs.lemmas.List.{map-set, map-append}
+use Rattle.shr_deferred.proofs.Common.{◌≡◌, ℕ, zero, suc, length, ◌<◌, true, false, List, [], ◌∷◌, ◌++◌, map, set, get_or, sym, refl, ap, subst, ◌∙◌, map-set, map-append, some, get_elem?, at_map, set_else, AreSeats, Each-set, replicate, not_gone, View, Sizes, row_of, row_count, IsSound, did_in, standing_in, first_view, new_view, spent_view, with_split_view, joined_view}
 use Rattle.std.proofs.Math.Nat.{mul-pos}
-use mathlib.Core.Option.{some}
-use lib.ListN.{get_elem?}
 use Rattle.atomic_table.specs.Table.{Splits, Joins, opening}
-use Rattle.atomic_table.proofs.Lists.{at_map, set_else}
-use Rattle.shr_seats.specs.Standing.{at_first, at_split, at_end, AreSeats}
-use Rattle.shr_seats.proofs.Sums.{Each-set, Each-push}
+use Rattle.shr_seats.specs.Standing.{at_first, at_split, at_end}
+use Rattle.shr_seats.proofs.Sums.{Each-push}
 use Rattle.shr_seats.proofs.Weighing.{Each-none}
-use Rattle.std.specs.Prelude.{replicate}
 use Rattle.std.proofs.lemmas.List.{length-replicate}
-use Rattle.shr_seats.proofs.Seating.{AreSeats-first, AreSeats-split, AreSeats-join, not_gone}
-use Rattle.shr_deferred.specs.declared.view.View.{View}
-use Rattle.shr_seats.specs.declared.rows.Sizes.{Sizes}
-use Rattle.shr_seats.specs.Rows.{row_of, row_count}
-use Rattle.shr_deferred.specs.Rule.{IsSound, did_in, standing_in, first_view, new_view, spent_view, with_split_view, joined_view}
+use Rattle.shr_seats.proofs.Seating.{AreSeats-first, AreSeats-split, AreSeats-join}
 use Rattle.shr_seats.proofs.Lining.{lined_first, lined_split, lined_join}
 use Rattle.shr_deferred.proofs.Strands.{own_first, own_split, own_join}
 

@@ -1,16 +1,7 @@
 -- Taking and giving keep the rule.
-use Rattle.std.proofs.Common.{◌≡◌, ℕ, false, ◌+◌, ◌^◌, ◌%◌, ◌<◌, ◌++◌, set, get_or, sym, refl, subst, ◌∙◌, get_or-set_same, get_or-set_other}
-use Rattle.atomic_table.specs.Table.{Me, keeps, Allows}
-use Rattle.shr_base.specs.declared.places.Place.{Place}
-use Rattle.shr_model.specs.Deferred.{amount_of}
-use Rattle.shr_deferred.specs.declared.view.View.{View}
-use Rattle.shr_seats.specs.declared.rows.Sizes.{Sizes}
-use Rattle.shr_seats.specs.Rows.{IsPlaceOf, row_of, row_count}
-use Rattle.shr_seats.specs.Lines.{by_seat, acts_of}
-use Rattle.shr_seats.proofs.Lining.{lined_sole}
-use Rattle.shr_deferred.specs.Moves.{Moves, took, gave, take_of, give_of}
-use Rattle.shr_deferred.specs.Rule.{IsSound, did_in, standing_in, spent_view}
-use Rattle.shr_deferred.specs.Alone.{IsAlone, left_at}
+use Rattle.shr_deferred.proofs.Common.{◌≡◌, ℕ, false, ◌+◌, ◌^◌, ◌%◌, ◌<◌, ◌++◌, set, get_or, sym, refl, subst, ◌∙◌, Me, Allows, Place, amount_of, View, Sizes, IsPlaceOf, row_of, row_count, by_seat, acts_of, lined_sole, Moves, took, gave, take_of, give_of, IsSound, did_in, standing_in, spent_view, IsAlone, left_at}
+use Rattle.std.proofs.Common.{get_or-set_same, get_or-set_other}
+use Rattle.atomic_table.specs.Table.{keeps}
 use Rattle.shr_deferred.proofs.Frames.{on_move}
 use Rattle.shr_deferred.proofs.Words as words
 

@@ -1,19 +1,10 @@
 -- What each seat did itself, while seats do more, are split and are joined.
-use Rattle.std.proofs.Common.{◌≡◌, ◌≢◌, ◌⊎◌, ℕ, zero, suc, ◌+◌, ◌<◌, ⊎_elim, Bool, true, false, cond, List, [], ◌∷◌, ◌++◌, map, length, length-append, set, sym, refl, ap, subst, ◌∙◌, arith, eqb, eq-eqb, ne_eqb}
-use Rattle.std.proofs.lemmas.List.{append-nil, map-append}
-use mathlib.Core.Logic.{dite}
-use native.Mathlib.Decide.{ℕ_discrete, dec_lt}
-use mathlib.Core.Option.{some, some-injective, some-ne-none}
-use lib.ListN.{get_elem?}
-use Rattle.atomic_table.specs.Table.{State}
-use Rattle.atomic_table.proofs.Lists.{at_set, at_map, at_snoc, at_longer, set_else}
-use Rattle.shr_seats.specs.Lines.{Deed, by_seat, acts_of, part}
-use Rattle.shr_seats.proofs.Lining.{acts_by, part-append, part_own, part_other, did_at_some}
-use Rattle.shr_seats.proofs.Seating.{not_gone, others}
-use Rattle.shr_seats.specs.declared.rows.Sizes.{Sizes}
-use Rattle.shr_deferred.specs.declared.view.View.{View}
-use Rattle.shr_deferred.specs.Moves.{Move, Moves}
-use Rattle.shr_deferred.specs.Rule.{IsSound, IsGone, AreStrands, IsOwn, AreOwn, strands_in, strand_at, did_in, standing_in, first_view, new_view, spent_view, with_split_view, joined_view}
+use Rattle.shr_deferred.proofs.Common.{◌≡◌, ◌≢◌, ◌⊎◌, ℕ, zero, suc, ◌+◌, ◌<◌, ⊎_elim, Bool, true, false, cond, List, [], ◌∷◌, ◌++◌, map, length, set, sym, refl, ap, subst, ◌∙◌, arith, eqb, eq-eqb, ne_eqb, append-nil, map-append, dite, ℕ_discrete, dec_lt, some, some-injective, some-ne-none, get_elem?, State, at_map, set_else, Deed, by_seat, acts_of, part, acts_by, not_gone, Sizes, View, Move, Moves, IsSound, AreStrands, strands_in, strand_at, did_in, standing_in, first_view, new_view, spent_view, with_split_view, joined_view}
+use Rattle.std.proofs.Common.{length-append}
+use Rattle.atomic_table.proofs.Lists.{at_set, at_snoc, at_longer}
+use Rattle.shr_seats.proofs.Lining.{part-append, part_own, part_other, did_at_some, set_there}
+use Rattle.shr_seats.proofs.Seating.{others}
+use Rattle.shr_deferred.specs.Rule.{IsGone, IsOwn, AreOwn}
 
 -- a view whose seat did one thing more
 abbrev pub moved : ℕ → View → Move → View
@@ -21,11 +12,6 @@ moved id v a = record v { did = v.did ++ record { seat = id; act = a } ∷ []; o
 
 not_both : (b : Bool) → b ≡ true → b ≡ false → ⊥
 not_both b t f = let e : true ≡ false = sym t ∙ f in cc
-
-set_there : {V : Type 0} (l : List V) (k : ℕ) (x y : V) → get_elem? l k ≡ some x → get_elem? (set l k y) k ≡ some y
-set_there [] k x y e = absurd (some-ne-none x (sym e))
-set_there (z ∷ zs) zero x y e = refl
-set_there (z ∷ zs) (suc k) x y e = set_there zs k x y e
 
 -- ---- strands
 at_front : (xs : List Moves) (m : Moves) (k : ℕ) → k < length xs → strand_at (xs ++ m ∷ []) k ≡ strand_at xs k

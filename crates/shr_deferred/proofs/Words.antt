@@ -1,27 +1,19 @@
 -- The words and the line of all moves, on plain data.
-use Rattle.std.proofs.Common.{◌≡◌, ℕ, ◌+◌, ◌^◌, ◌%◌, ◌<◌, ◌≢◌, true, false, cond, eqb, ◌&&◌, List, [], ◌∷◌, ◌++◌, sym, refl, ap, ◌∙◌, ⊎_elim, arith, eq-eqb}
+use Rattle.shr_deferred.proofs.Common.{◌≡◌, ℕ, ◌+◌, ◌^◌, ◌%◌, ◌<◌, ◌≢◌, true, false, cond, eqb, List, [], ◌∷◌, ◌++◌, sym, refl, ap, ◌∙◌, ⊎_elim, arith, eq-eqb, Place, amount_of, Sizes, IsPlaceOf, row_of, Deed, acts_of, part, state_after, AreSo, Move, Moves, took, gave, takes_of, gives_of, Amounts, amounts_next, TakesAll, nothing_deferred, amounts_after, AreTaken, left_at}
+use Rattle.std.proofs.Common.{◌&&◌}
 use Rattle.std.proofs.lemmas.Bool.{cases_Bool}
 use Rattle.std.proofs.lemmas.Bool.Decides.{nat_tests}
 use Rattle.std.proofs.lemmas.List.Sums.{sum_by-cons}
-use Rattle.shr_base.specs.declared.places.Place.{Place}
 use Rattle.shr_model.specs.Places.{is_place}
-use Rattle.shr_model.specs.Deferred.{amount_of, amount_at}
+use Rattle.shr_model.specs.Deferred.{amount_at}
 use Rattle.shr_seats.proofs.RowLaws.{SamePlace, IsAcross, one_place, same_row}
-use Rattle.shr_seats.specs.declared.rows.Sizes.{Sizes}
-use Rattle.shr_seats.specs.Rows.{IsPlaceOf, row_of}
-use Rattle.shr_seats.specs.Lines.{Deed, acts_of, part, state_after, AreSo}
 use Rattle.shr_seats.specs.Weights.{total}
 use Rattle.shr_seats.proofs.Lining.{state_after_push, total_parts}
-use Rattle.shr_deferred.specs.Moves.{Move, Moves, took, gave, takes_of, gives_of}
-use Rattle.shr_deferred.specs.Rule.{Amounts, after_move, amounts_next, TakesAll, nothing_deferred, amounts_after, AreTaken, taken_at, given_at}
-use Rattle.shr_deferred.specs.Alone.{left_at}
+use Rattle.shr_deferred.specs.Rule.{after_move, taken_at, given_at}
+use Rattle.shr_model.proofs.PlacesLaws.{is_place_same}
 
 is_same : (p q : Place) → is_place p q ≡ true → SamePlace p q
 is_same p q e = record { id = grind (arith, nat_tests); node = grind (arith, nat_tests); group = grind (arith, nat_tests) }
-
-same_place : (p q : Place) → is_place p q ≡ true → p ≡ q
-same_place p q e = let s = is_same p q e in let a : p.id ≡ q.id = sym s.id in let b : p.node ≡ q.node = sym s.node in let c : p.group ≡ q.group = sym s.group in
-    λ i. record { id = a i; node = b i; group = c i }
 
 test_same : (p q : Place) → SamePlace p q → is_place p q ≡ true
 test_same p q s = let a = eq-eqb p.id q.id (sym s.id) in let b = eq-eqb p.node q.node (sym s.node) in let c = eq-eqb p.group q.group (sym s.group) in
@@ -53,7 +45,7 @@ module _ (z : Sizes) (word word' : ℕ → ℕ) (line : List (Deed Move)) (o : A
   -- after a give
   pub gives : (n : ℕ) → word' (row_of z p) ≡ (word (row_of z p) + n) % 2 ^ 64 → AreLeft z word' (line ++ record { seat = id; act = gave (amount_of p n) } ∷ [])
   gives n sum-now q near = let w : Amounts = amounts_after line in let d : Deed Move = record { seat = id; act = gave (amount_of p n) } in ⊎_elim
-      (λ hit. ap word' (sym (same_row z q p (is_same q p hit))) ∙ (sum-now ∙ (ap (λ k. (k + n) % 2 ^ 64) (o p inside ∙ ap w (sym (same_place q p hit))) ∙ sym (amounts_push line d q ∙ ap (λ b. cond b ((w q + n) % 2 ^ 64) (w q)) hit))))
+      (λ hit. ap word' (sym (same_row z q p (is_same q p hit))) ∙ (sum-now ∙ (ap (λ k. (k + n) % 2 ^ 64) (o p inside ∙ ap w (sym (is_place_same q p hit))) ∙ sym (amounts_push line d q ∙ ap (λ b. cond b ((w q + n) % 2 ^ 64) (w q)) hit))))
       (λ miss. others (row_of z q) (apart z p q inside near miss) ∙ (o q near ∙ sym (amounts_push line d q ∙ ap (λ b. cond b ((w q + n) % 2 ^ 64) (w q)) miss)))
       (cases_Bool (is_place q p))
 
@@ -86,7 +78,7 @@ module _ (p : Place) where
   -- a move that takes all changes the word by what it gives less what it takes
   changed : (w : Amounts) (a : Move) → TakesAll w a → (after_move w a p + taken_at p (a ∷ [])) % 2 ^ 64 ≡ (w p + given_at p (a ∷ [])) % 2 ^ 64
   changed w (took x) all = let s = sum_by-cons (amount_at p) x [] in ⊎_elim
-      (λ hit. omega (arith, s, ap (λ b. cond b 0 (w p)) hit, ap (λ b. cond b x.amount 0) hit, all, ap w (same_place p x.place hit)))
+      (λ hit. omega (arith, s, ap (λ b. cond b 0 (w p)) hit, ap (λ b. cond b x.amount 0) hit, all, ap w (is_place_same p x.place hit)))
       (λ miss. omega (arith, s, ap (λ b. cond b 0 (w p)) miss, ap (λ b. cond b x.amount 0) miss))
       (cases_Bool (is_place p x.place))
   changed w (gave x) all = let s = sum_by-cons (amount_at p) x [] in ⊎_elim

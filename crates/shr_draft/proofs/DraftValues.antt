@@ -1,14 +1,12 @@
 -- What drafts say, at known lines.
-use Rattle.std.proofs.Common.{◌≡◌, ℕ, ◌+◌, [], ◌∷◌, None, refl, arith}
-use Rattle.std.specs.Prelude.{codes}
+use Rattle.shr_draft.proofs.Common.{◌≡◌, ℕ, ◌+◌, [], ◌∷◌, None, refl, arith, codes, Report, kept, no_part, padded, with_reply, nothing}
 use Rattle.shr_base.specs.declared.replies.Reply.TheVariants as reply
 use Rattle.shr_model.specs.Pieces.{cut, pieces, left}
-use Rattle.shr_report.specs.declared.report.Report.{Report}
 use Rattle.shr_report.specs.ReadWords.{num}
 use Rattle.shr_reader.specs.declared.said.Said.TheVariants as said
 use Rattle.shr_reader.specs.Said.{plain_kind_of}
-use Rattle.shr_draft.specs.Draft.{kept, with_last, no_part, padded, with_reply}
-use Rattle.shr_draft.specs.Reading.{nothing, Reads, IsTight}
+use Rattle.shr_draft.specs.Draft.{with_last}
+use Rattle.shr_draft.specs.Reading.{Reads, IsTight}
 
 last_of_three : with_last (λ (n : ℕ). n + 10) (1 ∷ 2 ∷ 3 ∷ []) ≡ 1 ∷ 2 ∷ 13 ∷ []
 unfolding with_last

@@ -1,7 +1,6 @@
 -- The sections whose lines stand one behind another: the head, the journals of registrations and of the tree, and the tables.
-use Rattle.std.proofs.Common.{◌≡◌, ℕ, ◌<◌, ◌^◌, true, List, [], ◌∷◌, ◌++◌, flat_map, Some, ◌⊎◌, refl}
-use Rattle.std.specs.Prelude.{codes}
-use Rattle.std.specs.List.{AllByRecursion}
+use Rattle.shr_draft.proofs.Common.{◌≡◌, ℕ, ◌<◌, ◌^◌, true, List, [], ◌∷◌, ◌++◌, flat_map, Some, refl, codes, AllByRecursion, PlaceAmount, PlaceEnd, UnitsEnd, WorkerPart, Report, line, numbered, numeral, group_line, cache_line, units_name_line, pool_line, tree_line, bit_line, deferred_line, pool_deferred_line, use_line, lookups_line, totals, read_amount, IsBitWord, IsMapNumbered, IsAmountNumbered, IsPrintable, Printed, kind_of, kept, Said}
+use Rattle.std.proofs.Common.{◌⊎◌}
 use Rattle.shr_model.specs.Pieces.{cut, pieces}
 use Rattle.shr_model.specs.Paths.{is_path}
 use Rattle.shr_model.specs.Words.{is_name}
@@ -10,29 +9,20 @@ use Rattle.shr_base.specs.declared.journals.PoolEntry.TheVariants as pool
 use Rattle.shr_base.specs.declared.journals.TreeEntry.{TreeEntry}
 use Rattle.shr_base.specs.declared.journals.TreeEntry.TheVariants as tree
 use Rattle.shr_base.specs.declared.journals.UseStep.{UseStep}
-use Rattle.shr_base.specs.declared.ends.PlaceAmount.{PlaceAmount}
-use Rattle.shr_base.specs.declared.ends.PlaceEnd.{PlaceEnd}
 use Rattle.shr_base.specs.declared.ends.MapEnd.{MapEnd}
-use Rattle.shr_base.specs.declared.ends.UnitsEnd.{UnitsEnd}
-use Rattle.shr_base.specs.declared.ends.WorkerPart.{WorkerPart}
-use Rattle.shr_report.specs.declared.report.Report.{Report}
-use Rattle.shr_report.specs.Lines.{line, numbered, numeral}
-use Rattle.shr_report.specs.Text.{group_line, cache_line, units_name_line, pool_line, tree_line, bit_line, deferred_line, pool_deferred_line, use_line, lookups_line}
-use Rattle.shr_report.specs.ReadLines.{Totals, totals, read_group, read_cache, read_tree, read_bit, read_amount, read_use, read_lookups, read_version, read_size, read_total, read_pool_amount}
-use Rattle.shr_report.specs.WellFormed.{IsBitWord, IsPoolNumbered, IsTreeNumbered}
-use Rattle.shr_report.specs.Numbers.{IsShort, IsCount, IsMapNumbered, IsAmountNumbered, IsUseNumbered}
-use Rattle.shr_report.proofs.LinesBack.{printed_group, printed_cache, printed_tree, IsPrintable, printed_bit, printed_deferred, printed_use, printed_lookups, printed_version, printed_size, printed_total}
+use Rattle.shr_report.specs.ReadLines.{Totals, read_group, read_cache, read_tree, read_bit, read_use, read_lookups, read_version, read_size, read_total, read_pool_amount}
+use Rattle.shr_report.specs.WellFormed.{IsPoolNumbered, IsTreeNumbered}
+use Rattle.shr_report.specs.Numbers.{IsShort, IsCount, IsUseNumbered}
+use Rattle.shr_report.proofs.LinesBack.{printed_group, printed_cache, printed_tree, printed_bit, printed_deferred, printed_use, printed_lookups, printed_version, printed_size, printed_total}
 use Rattle.shr_reader.specs.declared.said.Said.TheVariants as said
 use Rattle.shr_reader.specs.declared.kinds.Kind.TheVariants as kind
 use Rattle.shr_reader.specs.declared.kinds.PlainKind.TheVariants as plain
 use Rattle.shr_report.proofs.Peel.{is_plain_word}
 use Rattle.shr_report.proofs.Reading.{value, plain_numeral, plain_name}
-use Rattle.shr_report.proofs.Printed.{Printed, printed}
+use Rattle.shr_report.proofs.Printed.{printed}
 use Rattle.shr_report.proofs.PlainLinesBack.{printed_pool_deferred}
-use Rattle.shr_reader.specs.Said.{kind_of, plain_kind_of, within_kind_of, is_entry, is_unit, pool_said}
-use Rattle.shr_draft.specs.Draft.{kept}
+use Rattle.shr_reader.specs.Said.{plain_kind_of, within_kind_of, is_entry, is_unit, pool_said}
 use Rattle.shr_draft.proofs.Leads.{Leads, first_word, leads_printed, leads_items, leads_flat}
-use Rattle.shr_reader.specs.declared.said.Said.{Said}
 
 -- what stands before the workers, and how many nodes and ids there are
 pub record Head : Type 0 where

@@ -1,23 +1,11 @@
 -- The last of some.
-use Rattle.std.proofs.Common.{◌≡◌, ℕ, ◌+◌, ◌-◌, ◌%◌, ◌^◌, List, [], ◌∷◌, ◌++◌, length, refl, sym, ap, ◌∙◌, append_assoc, arith}
-use Rattle.std.specs.Prelude.{replicate, map}
-use Rattle.std.proofs.lemmas.List.{append-nil, replicate-append-replicate, length-append, length-replicate, map-append, length-map}
-use Rattle.shr_base.specs.Kept.{Kept}
-use Rattle.shr_base.specs.declared.ends.WorkerPart.{WorkerPart}
-use Rattle.shr_base.specs.declared.places.Serial.{Serial}
-use Rattle.shr_base.specs.declared.walks.WalkRecord.{WalkRecord}
+use Rattle.shr_draft.proofs.Common.{◌≡◌, ℕ, ◌+◌, ◌-◌, ◌%◌, ◌^◌, List, [], ◌∷◌, ◌++◌, length, refl, sym, ap, ◌∙◌, append_assoc, arith, replicate, map, append-nil, replicate-append-replicate, length-append, Kept, WorkerPart, Serial, WalkRecord, MapSeen, Attempt, PlainTry, PlainWalk, WalkDraft, PlainDraft, PartDraft, kept, no_part, padded, part_of, parts_of, walk_of, walks_of, plain_of, plains_of, last_command, begun, plain_begun}
+use Rattle.std.proofs.lemmas.List.{length-replicate, map-append, length-map}
 use Rattle.std.specs.declared.vec.Vec.{Vec}
 use Rattle.std.proofs.Common.{Global}
-use Rattle.shr_base.specs.declared.walks.MapSeen.{MapSeen}
-use Rattle.shr_base.specs.declared.walks.Attempt.{Attempt}
 use Rattle.shr_reader.specs.declared.walks.Head.{Head}
-use Rattle.shr_base.specs.declared.walks.PlainTry.{PlainTry}
-use Rattle.shr_base.specs.declared.walks.PlainWalk.{PlainWalk}
 use Rattle.shr_reader.specs.declared.pools.PlainHead.{PlainHead}
-use Rattle.shr_draft.specs.declared.parts.WalkDraft.{WalkDraft}
-use Rattle.shr_draft.specs.declared.parts.PlainDraft.{PlainDraft}
-use Rattle.shr_draft.specs.declared.parts.PartDraft.{PartDraft}
-use Rattle.shr_draft.specs.Draft.{kept, with_last, no_part, padded, part_of, parts_of, walk_of, walks_of, plain_of, plains_of, last_command, begun, plain_begun}
+use Rattle.shr_draft.specs.Draft.{with_last}
 
 -- the last behind others is changed
 pub last_is : {X : Type 0} (change : X → X) (done : List X) (x : X) → with_last change (done ++ x ∷ []) ≡ done ++ change x ∷ []

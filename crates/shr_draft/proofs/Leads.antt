@@ -1,20 +1,15 @@
 -- Lines lead from what was read before them to what is read with them.
-use Rattle.std.proofs.Common.{◌≡◌, ℕ, ◌+◌, true, List, [], ◌∷◌, ◌++◌, flat_map, Option, Some, refl, sym, ap, subst, ◌∙◌, append_assoc}
+use Rattle.shr_draft.proofs.Common.{◌≡◌, ℕ, ◌+◌, true, List, [], ◌∷◌, ◌++◌, flat_map, Option, Some, refl, sym, ap, subst, ◌∙◌, append_assoc, AllByRecursion, append-nil, cut, Report, line, Printed, Said, kind_of, read_line, with_said, Says}
 use Rattle.std.specs.Prelude.{option_map}
-use Rattle.std.specs.List.{AllByRecursion, list_all}
-use Rattle.std.proofs.lemmas.List.{append-nil}
-use Rattle.shr_model.specs.Pieces.{cut, pieces, left}
-use Rattle.shr_report.specs.declared.report.Report.{Report}
-use Rattle.shr_report.specs.Lines.{line, numbered}
+use Rattle.std.specs.List.{list_all}
+use Rattle.shr_model.specs.Pieces.{pieces, left}
+use Rattle.shr_report.specs.Lines.{numbered}
 use Rattle.shr_report.specs.ReadWords.{first_of, later}
 use Rattle.shr_report.proofs.Peel.{is_plain_word, body_of, body_words, cut_line}
-use Rattle.shr_report.proofs.Printed.{Printed}
 use Rattle.shr_report.proofs.Sections.{flat_numbered}
-use Rattle.shr_reader.specs.declared.said.Said.{Said}
 use Rattle.shr_reader.specs.declared.kinds.Kind.{Kind}
-use Rattle.shr_reader.specs.Said.{kind_of, said_of, read_line, IsSaidNumbered}
-use Rattle.shr_draft.specs.Draft.{with_said}
-use Rattle.shr_draft.specs.Reading.{Says, Reads}
+use Rattle.shr_reader.specs.Said.{said_of, IsSaidNumbered}
+use Rattle.shr_draft.specs.Reading.{Reads}
 
 -- whatever follows them, these bytes lead from one report to another
 pub record Leads (front : List ℕ) (before after : Report) : Type 0 where

@@ -1,3 +1,4 @@
+mod Common
 pub mod Linking
 pub mod Leads
 pub mod Flat

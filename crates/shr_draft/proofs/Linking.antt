@@ -1,9 +1,8 @@
 -- A node more at the head of objects at rest.
-use Rattle.std.proofs.Common.{◌≡◌, ◌≢◌, ℕ, zero, suc, ◌+◌, List, [], ◌∷◌, ◌++◌, length, append_assoc, Option, Some, None, refl, sym, ap, ◌∙◌, arith}
-use Rattle.slab.specs.Slab.{Slab, get, slab_len, Updates}
-use Rattle.shr_base.specs.declared.objects.Object.{Object}
+use Rattle.shr_draft.proofs.Common.{◌≡◌, ℕ, suc, ◌+◌, List, [], ◌∷◌, ◌++◌, length, append_assoc, Option, Some, None, refl, sym, ap, ◌∙◌, arith, get, slab_len, Updates, Object, objects_from}
+use Rattle.std.proofs.Common.{◌≢◌, zero}
+use Rattle.slab.specs.Slab.{Slab}
 use Rattle.shr_base.specs.declared.items.Node.{Node}
-use Rattle.shr_base.specs.Rest.{objects_from}
 
 few_more : (n m : ℕ) → suc n ≡ suc m → n ≡ m
 few_more n m e = omega arith

@@ -1,38 +1,24 @@
 -- The lines of a list lead to it.
-use Rattle.std.proofs.Common.{◌≡◌, true, false, List, [], ◌∷◌, ◌++◌, flat_map, Some, refl, subst}
-use Rattle.std.specs.Prelude.{codes}
-use Rattle.std.specs.List.{AllByRecursion}
+use Rattle.shr_draft.proofs.Common.{◌≡◌, true, false, List, [], ◌∷◌, ◌++◌, flat_map, Some, refl, subst, codes, AllByRecursion, Kept, Object, Entry, PlaceEnd, PlainEntry, UnitsEnd, WorkerPart, line, place_lines, units_lines, IsPlaceWell, IsListNumbered, AreUnitsNumbered, all_both, kind_of, kept, with_more, IsTightList, AreTightUnits, ℕ, ap}
 use Rattle.shr_model.specs.Pieces.{cut, pieces}
-use Rattle.shr_base.specs.Kept.{Kept}
 use Rattle.shr_base.specs.declared.places.Place.{Place}
-use Rattle.shr_base.specs.declared.objects.Object.{Object}
-use Rattle.shr_base.specs.declared.journals.Entry.{Entry}
 use Rattle.shr_base.specs.declared.journals.Entry.TheVariants as entry
-use Rattle.shr_base.specs.declared.ends.PlaceEnd.{PlaceEnd}
-use Rattle.shr_base.specs.declared.journals.PlainEntry.{PlainEntry}
 use Rattle.shr_base.specs.declared.journals.PlainEntry.TheVariants as units
-use Rattle.shr_base.specs.declared.ends.UnitsEnd.{UnitsEnd}
-use Rattle.shr_base.specs.declared.ends.WorkerPart.{WorkerPart}
-use Rattle.shr_report.specs.Lines.{line}
 use Rattle.shr_report.specs.AnswerText.{place_words}
-use Rattle.shr_report.specs.Text.{entry_line, item_line, place_lines, plain_entry_line, units_lines}
+use Rattle.shr_report.specs.Text.{entry_line, item_line, plain_entry_line}
 use Rattle.shr_report.specs.ReadLines.{read_list, read_entry, read_item, read_plain_entry, read_units}
-use Rattle.shr_report.specs.WellFormed.{HasWords, IsSpelled, IsNumbered, IsPlaceWell}
-use Rattle.shr_report.specs.Numbers.{IsEntryNumbered, IsObjectNumbered, IsListNumbered, IsPlainEntryNumbered, AreUnitsNumbered}
+use Rattle.shr_report.specs.WellFormed.{HasWords, IsSpelled, IsNumbered}
+use Rattle.shr_report.specs.Numbers.{IsEntryNumbered, IsObjectNumbered, IsPlainEntryNumbered}
 use Rattle.shr_report.proofs.LinesBack.{printed_list, printed_entry, printed_item}
 use Rattle.shr_report.proofs.PlainLinesBack.{printed_plain_entry, units_line, printed_units}
 use Rattle.shr_report.proofs.PlainLinesBack as lines
-use Rattle.shr_report.proofs.Sections.{all_both}
 use Rattle.shr_reader.specs.declared.said.Said.TheVariants as said
 use Rattle.shr_reader.specs.declared.kinds.Kind.TheVariants as kind
 use Rattle.shr_reader.specs.declared.kinds.PlainKind.TheVariants as plain
-use Rattle.shr_reader.specs.Said.{kind_of, plain_kind_of, within_kind_of, is_entry, is_unit, units_head_of}
-use Rattle.shr_draft.specs.Draft.{kept, with_more}
-use Rattle.shr_draft.specs.Reading.{IsTightList, AreTightUnits}
+use Rattle.shr_reader.specs.Said.{plain_kind_of, within_kind_of, is_entry, is_unit, units_head_of}
 use Rattle.shr_draft.proofs.Leads.{Leads, first_word, leads_then, leads_printed, leads_flat}
 use Rattle.shr_draft.proofs.Flat.{Head, report_of, no_tail}
 use Rattle.shr_draft.proofs.Lasts.{last_is, tight_is}
-use Rattle.std.proofs.Common.{ℕ, ap}
 
 -- a list of these parts
 abbrev ended : Place → List Entry → List Object → PlaceEnd

@@ -1,14 +1,10 @@
 -- One line more of a text, and the last.
-use Rattle.std.proofs.Common.{◌≡◌, ℕ, suc, ◌+◌, ◌-◌, ◌<◌, List, [], ◌∷◌, length, take, drop, Bool, true, false, Option, Some, None, refl, ap, subst, arith}
-use Rattle.shr_model.specs.Pieces.{cut, pieces, differs, left}
-use Rattle.std.specs.List.{prefix_len}
+use Rattle.shr_draft.proofs.Common.{◌≡◌, ℕ, suc, ◌+◌, ◌-◌, ◌<◌, List, [], ◌∷◌, length, take, drop, true, false, Option, Some, None, refl, ap, subst, arith, cut, prefix_len, Report, Said, read_line, IsReadOf, with_said, Says}
+use Rattle.std.proofs.Common.{Bool}
+use Rattle.shr_model.specs.Pieces.{pieces, differs, left}
 use Rattle.std.specs.Prelude.{◌==◌}
 use Rattle.shr_model.proofs.PiecesLaws.{next_more, next_last}
-use Rattle.shr_report.specs.declared.report.Report.{Report}
-use Rattle.shr_reader.specs.declared.said.Said.{Said}
-use Rattle.shr_reader.specs.Said.{read_line, IsReadOf}
-use Rattle.shr_draft.specs.Draft.{with_said}
-use Rattle.shr_draft.specs.Reading.{Says, Reads}
+use Rattle.shr_draft.specs.Reading.{Reads}
 
 -- a line that others follow says something, and they go on from there
 pub goes_on : (line rest behind : List ℕ) (before r : Report) → pieces 10 rest ≡ line ∷ pieces 10 behind → Reads (pieces 10 rest) before r → (said : Said) × (Says before.version line said × Reads (pieces 10 behind) (with_said said before) r)

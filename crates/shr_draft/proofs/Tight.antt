@@ -1,15 +1,9 @@
 -- What a draft says has no room to spare.
-use Rattle.std.proofs.Common.{List, [], ◌∷◌, refl}
-use Rattle.std.specs.Prelude.{map}
-use Rattle.std.specs.List.{AllByRecursion}
-use Rattle.shr_draft.specs.declared.parts.WalkDraft.{WalkDraft}
-use Rattle.shr_draft.specs.declared.parts.PlainDraft.{PlainDraft}
-use Rattle.shr_draft.specs.declared.parts.PartDraft.{PartDraft}
+use Rattle.shr_draft.proofs.Common.{List, [], ◌∷◌, refl, map, AllByRecursion, WalkDraft, PlainDraft, PartDraft, walk_of, plain_of, part_of, list_of, pool_of, walks_of, plains_of, parts_of, drafted, IsTightWalk, IsTightPlain, IsTightPart, IsTightList, AreTightUnits, IsTightReport}
 use Rattle.shr_draft.specs.declared.lists.ListDraft.{ListDraft}
 use Rattle.shr_draft.specs.declared.lists.UnitsDraft.{UnitsDraft}
 use Rattle.shr_draft.specs.declared.draft.Draft.{Draft}
-use Rattle.shr_draft.specs.Draft.{walk_of, plain_of, part_of, list_of, pool_of, walks_of, plains_of, parts_of, lists_of, pools_of, drafted}
-use Rattle.shr_draft.specs.Reading.{IsTightWalk, IsTightPlain, IsTightPart, IsTightList, AreTightUnits, IsTightReport}
+use Rattle.shr_draft.specs.Draft.{lists_of, pools_of}
 
 walks : (ws : List WalkDraft) → AllByRecursion IsTightWalk (walks_of ws)
 walks [] = tt

@@ -1,37 +1,20 @@
 -- The lines of a walk, and of a carry, lead to it.
-use Rattle.std.proofs.Common.{◌≡◌, ℕ, ◌-◌, ◌<◌, ◌%◌, ◌^◌, List, [], ◌∷◌, ◌++◌, length, take, drop, flat_map, refl, sym, ap, subst, ◌∙◌, append_assoc, arith}
-use Rattle.std.specs.List.{AllByRecursion, prefix_len}
-use Rattle.std.proofs.lemmas.List.{append-nil, take-append-drop, length-append}
+use Rattle.shr_draft.proofs.Common.{◌≡◌, ℕ, ◌-◌, ◌<◌, ◌%◌, ◌^◌, List, [], ◌∷◌, ◌++◌, length, take, drop, flat_map, refl, sym, ap, subst, ◌∙◌, append_assoc, arith, AllByRecursion, prefix_len, append-nil, take-append-drop, length-append, Kept, Serial, Answered, Attempt, MapSeen, WalkRecord, Carry, PlainTry, PlainWalk, Isolation, WorkerPart, Report, numbered, walk_lines, carry_line, plain_lines, isolation_line, read_amount, IsBitWord, IsWalkNumbered, IsCarryNumbered, IsIsolationNumbered, IsPlainNumbered, all_both, kept, with_more, with_last, last_changed, last_command, begun, isolated, plain_begun, passed_walk, IsTightWalk, IsTightPlain}
 use Rattle.shr_model.specs.Pieces.{cut, pieces}
-use Rattle.shr_base.specs.Kept.{Kept}
-use Rattle.shr_base.specs.declared.places.Serial.{Serial}
-use Rattle.shr_base.specs.declared.replies.Answered.{Answered}
-use Rattle.shr_base.specs.declared.walks.Attempt.{Attempt}
-use Rattle.shr_base.specs.declared.walks.MapSeen.{MapSeen}
-use Rattle.shr_base.specs.declared.walks.WalkRecord.{WalkRecord}
-use Rattle.shr_base.specs.declared.walks.Carry.{Carry}
-use Rattle.shr_base.specs.declared.walks.PlainTry.{PlainTry}
-use Rattle.shr_base.specs.declared.walks.PlainWalk.{PlainWalk}
-use Rattle.shr_base.specs.declared.walks.Isolation.{Isolation}
-use Rattle.shr_base.specs.declared.ends.WorkerPart.{WorkerPart}
-use Rattle.shr_report.specs.declared.report.Report.{Report}
-use Rattle.shr_report.specs.Lines.{numbered}
-use Rattle.shr_report.specs.WalkText.{attempt_line, map_line, map_lines, is_in_unit, walk_lines, carry_line, pass_line, plain_lines, isolation_line}
-use Rattle.shr_report.specs.ReadLines.{read_attempt, read_map, read_walk, read_amount}
-use Rattle.shr_report.specs.WellFormed.{IsBitWord}
-use Rattle.shr_report.specs.Numbers.{IsSeenNumbered, IsAttemptNumbered, IsWalkNumbered, IsCarryNumbered, IsIsolationNumbered, IsTryNumbered, IsPlainNumbered}
+use Rattle.shr_report.specs.WalkText.{attempt_line, map_line, map_lines, is_in_unit, pass_line}
+use Rattle.shr_report.specs.ReadLines.{read_attempt, read_map, read_walk}
+use Rattle.shr_report.specs.Numbers.{IsSeenNumbered, IsAttemptNumbered, IsTryNumbered}
 use Rattle.shr_report.proofs.LinesBack.{printed_attempt, printed_map, printed_walk, walk_line, amount_of, printed_carry}
 use Rattle.shr_report.proofs.LinesBack as walk_heads
 use Rattle.shr_report.proofs.PlainLinesBack.{printed_isolation, printed_pass, plain_line, printed_plain}
 use Rattle.shr_report.proofs.PlainLinesBack as lines
-use Rattle.shr_report.proofs.Sections.{all_taken, all_both}
+use Rattle.shr_report.proofs.Sections.{all_taken}
 use Rattle.shr_report.proofs.WalksBack.{HasBitWords}
 use Rattle.shr_reader.specs.declared.said.Said.TheVariants as said
 use Rattle.shr_reader.specs.declared.kinds.Kind.TheVariants as kind
 use Rattle.shr_reader.specs.declared.kinds.PlainKind.TheVariants as plain
 use Rattle.shr_reader.specs.Said.{plain_kind_of, head_of}
-use Rattle.shr_draft.specs.Draft.{kept, with_more, with_last, last_changed, last_command, begun, with_walk, with_carry, isolated, with_isolation, plain_begun, with_plain, passed_walk}
-use Rattle.shr_draft.specs.Reading.{IsTightWalk, IsTightPlain}
+use Rattle.shr_draft.specs.Draft.{with_walk, with_carry, with_isolation, with_plain}
 use Rattle.shr_draft.proofs.Leads.{Leads, first_word, leads_then, leads_printed, leads_items, leads_flat}
 use Rattle.shr_draft.proofs.Flat.{Head, report_of, no_tail}
 use Rattle.shr_draft.proofs.Lasts.{last_is, tight_is}

@@ -1,35 +1,24 @@
 -- The lines of a report's text are read as that report.
-use Rattle.std.proofs.Common.{◌≡◌, ℕ, ◌+◌, ◌^◌, List, [], ◌∷◌, ◌++◌, length, flat_map, refl, sym, subst, ◌∙◌, append_assoc, ◌≤◌, arith}
-use Rattle.std.proofs.lemmas.List.{append-nil}
-use Rattle.std.specs.Prelude.{codes}
-use Rattle.std.specs.List.{AllByRecursion}
+use Rattle.shr_draft.proofs.Common.{◌≡◌, ℕ, ◌+◌, ◌^◌, List, [], ◌∷◌, ◌++◌, length, flat_map, refl, sym, subst, ◌∙◌, append_assoc, ◌≤◌, append-nil, codes, AllByRecursion, WorkerPart, PlaceEnd, Report, line, numbered, numeral, group_line, cache_line, units_name_line, pool_line, tree_line, worker_lines, place_lines, units_lines, bit_line, deferred_line, pool_deferred_line, use_line, lookups_line, totals, IsPlaceWell, IsPartWell, IsPartNumbered, IsListNumbered, IsMapNumbered, AreUnitsNumbered, IsAmountNumbered, IsPrintable, all_both, nothing, IsTightPart, IsTightList, AreTightUnits, IsTightReport, PlaceAmount, UnitsEnd}
 use Rattle.shr_model.specs.Pieces.{cut, pieces}
-use Rattle.shr_base.specs.declared.ends.WorkerPart.{WorkerPart}
-use Rattle.shr_base.specs.declared.ends.PlaceEnd.{PlaceEnd}
-use Rattle.shr_report.specs.declared.report.Report.{Report}
-use Rattle.shr_report.specs.Lines.{line, numbered, numeral}
-use Rattle.shr_report.specs.Text.{text, group_line, cache_line, units_name_line, pool_line, tree_line, worker_lines, place_lines, units_lines, bit_line, deferred_line, pool_deferred_line, use_line, lookups_line, end_lines, reply_count, walk_count}
-use Rattle.shr_report.specs.ReadLines.{totals}
-use Rattle.shr_report.specs.WellFormed.{IsWellFormed, IsPlaceWell, IsPartWell, IsPoolAmountWell}
-use Rattle.shr_report.specs.Numbers.{HasNumbers, IsPartNumbered, IsListNumbered, IsMapNumbered, AreUnitsNumbered, IsAmountNumbered}
+use Rattle.shr_report.specs.Text.{text, end_lines, reply_count, walk_count}
+use Rattle.shr_report.specs.WellFormed.{IsWellFormed, IsPoolAmountWell}
+use Rattle.shr_report.specs.Numbers.{HasNumbers}
 use Rattle.shr_report.proofs.Peel.{is_plain_word}
-use Rattle.shr_report.proofs.LinesBack.{IsPrintable}
-use Rattle.shr_report.proofs.Sections.{all_both}
 use Rattle.shr_report.proofs.WorkersBack.{AreParts, parts_from}
 use Rattle.shr_report.proofs.ReportBack.{printable}
 use Rattle.shr_reader.specs.declared.said.Said.TheVariants as said
 use Rattle.shr_reader.specs.declared.kinds.Kind.TheVariants as kind
 use Rattle.shr_reader.specs.declared.kinds.PlainKind.TheVariants as plain
 use Rattle.shr_reader.specs.Said.{plain_kind_of}
-use Rattle.shr_draft.specs.Reading.{nothing, Reads, IsTightPart, IsTightList, AreTightUnits, IsTightReport, IsReportOf}
+use Rattle.shr_draft.specs.Reading.{Reads, IsReportOf}
 use Rattle.shr_draft.proofs.Leads.{Leads, leads_then, leads_line}
 use Rattle.shr_draft.proofs.Flat.{Head, Tail, report_of, head, tail, no_tail, lead_version, lead_size, lead_groups, lead_caches, lead_pool, lead_tree, lead_maps, lead_deferred, lead_uses, lead_lookups, lead_totals}
 use Rattle.shr_draft.proofs.Lasts.{tight_is}
 use Rattle.shr_draft.proofs.Flat.{IsPoolWord, lead_pool_words, lead_names}
 use Rattle.shr_draft.proofs.ListsLead.{IsListFit, lead_lists, IsUnitsFit, lead_units}
 use Rattle.shr_draft.proofs.WorkersLead.{IsPartFit, lead_workers}
-use Rattle.shr_base.specs.declared.ends.PlaceAmount.{PlaceAmount}
-use Rattle.shr_base.specs.declared.ends.UnitsEnd.{UnitsEnd}
+use Rattle.shr_model.proofs.Numbers.{zero_plus}
 
 all_parts_fit : (ps : List WorkerPart) → AllByRecursion IsPartNumbered ps → AllByRecursion IsTightPart ps → AllByRecursion IsPartFit ps
 all_parts_fit [] h k = tt
@@ -93,9 +82,6 @@ text_in_parts r = regrouped (line (codes "report") (numeral r.version ∷ [])) (
     regrouped : (a b c d n e f g h u i j w k l m : List ℕ) → (a ++ b ++ c ++ d ++ n) ++ (e ++ f) ++ g ++ h ++ u ++ (i ++ j ++ w ++ k ++ l) ++ m ≡ a ++ (b ++ (c ++ (d ++ (n ++ (e ++ (f ++ (g ++ (h ++ (u ++ (i ++ (j ++ (w ++ (k ++ (l ++ m))))))))))))))
     regrouped a b c d n e f g h u i j w k l m = simp append_assoc
 
-from_zero : (i : ℕ) → i ≡ 0 + i
-from_zero i = omega arith
-
 -- one after another
 then : {a b : List ℕ} {x y z : Report} → Leads a x y → Leads b y z → Leads (a ++ b) x z
 then {a} {b} {x} {y} {z} l k = leads_then a b x y z l k
@@ -124,7 +110,7 @@ unfolding head_in
 text_leads r w n few t = subst (λ (s : Report). Leads (text r) nothing s) (whole r t) (subst (λ (bytes : List ℕ). Leads bytes nothing (report_of (head_in r) r.workers.items r.places.items r.units.items (tail_in r))) (sym (text_in_parts r)) all)
   where
     parts : AreParts 0 r.workers.items
-    parts = parts_from 0 r.workers.items (λ i p e. subst (λ (j : ℕ). IsPartWell j p) (from_zero i) (w.parts i p e))
+    parts = parts_from 0 r.workers.items (λ i p e. subst (λ (j : ℕ). IsPartWell j p) (zero_plus i) (w.parts i p e))
 
     workers : Leads (numbered worker_lines 0 r.workers.items) (report_of (head_in r) [] [] [] no_tail) (report_of (head_in r) r.workers.items [] [] no_tail)
     workers = lead_workers (head_in r) r.workers.items few parts (all_parts_fit r.workers.items n.workers t.parts) w.last

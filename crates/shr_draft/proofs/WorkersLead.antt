@@ -1,40 +1,27 @@
 -- The lines of the workers lead to what they did.
-use Rattle.std.proofs.Common.{◌≡◌, ℕ, suc, ◌+◌, ◌<◌, ◌≤◌, ◌^◌, List, [], ◌∷◌, ◌++◌, length, take, drop, flat_map, Option, Some, None, refl, sym, ap, subst, ◌∙◌, append_assoc, arith}
-use Rattle.std.specs.Prelude.{codes, replicate}
-use Rattle.std.specs.List.{AllByRecursion, prefix_len}
-use Rattle.std.proofs.lemmas.List.{append-nil, take-append-drop, length-append, replicate-append-replicate}
+use Rattle.shr_draft.proofs.Common.{◌≡◌, ℕ, suc, ◌+◌, ◌<◌, ◌≤◌, ◌^◌, List, [], ◌∷◌, ◌++◌, length, take, drop, flat_map, Option, Some, None, refl, sym, ap, subst, ◌∙◌, append_assoc, arith, codes, replicate, AllByRecursion, prefix_len, append-nil, take-append-drop, length-append, replicate-append-replicate, Answered, WalkRecord, Carry, PlainWalk, Isolation, WorkerPart, Report, line, numeral, walk_lines, carry_line, plain_lines, isolation_line, worker_lines, IsPartWell, IsWalkNumbered, IsCarryNumbered, IsIsolationNumbered, IsPlainNumbered, IsPartNumbered, with_more, with_last, last_changed, no_part, padded, with_reply, IsTightPart, IsTightWalk, IsTightPlain}
 use Rattle.shr_model.specs.Pieces.{cut, pieces}
 use Rattle.shr_base.specs.declared.replies.Found.{Found}
 use Rattle.shr_base.specs.declared.replies.Reply.{Reply}
-use Rattle.shr_base.specs.declared.replies.Answered.{Answered}
-use Rattle.shr_base.specs.declared.walks.WalkRecord.{WalkRecord}
-use Rattle.shr_base.specs.declared.places.Serial.{Serial}
-use Rattle.shr_base.specs.declared.walks.Carry.{Carry}
-use Rattle.shr_base.specs.declared.walks.PlainWalk.{PlainWalk}
-use Rattle.shr_base.specs.declared.walks.Isolation.{Isolation}
-use Rattle.shr_base.specs.declared.ends.WorkerPart.{WorkerPart}
-use Rattle.shr_report.specs.declared.report.Report.{Report}
-use Rattle.shr_report.specs.Lines.{line, numbered, numeral}
+use Rattle.shr_report.specs.Lines.{numbered}
 use Rattle.shr_report.specs.AnswerText.{reply_line, found_lines}
-use Rattle.shr_report.specs.WalkText.{walk_lines, carry_line, plain_lines, isolation_line}
-use Rattle.shr_report.specs.Text.{is_walk_of, is_carry_of, is_plain_of, is_isolation_of, Logs, log_lines, after_command, logs_of, answer_lines, worker_lines}
+use Rattle.shr_report.specs.Text.{is_walk_of, is_carry_of, is_plain_of, is_isolation_of, Logs, log_lines, after_command, logs_of, answer_lines}
 use Rattle.shr_report.specs.ReadLines.{read_reply_line, read_found}
-use Rattle.shr_report.specs.WellFormed.{LendsWord, IsWalkWell, AreOfCommands, IsPartWell}
-use Rattle.shr_report.specs.Numbers.{IsAnsweredNumbered, IsFindNumbered, IsWalkNumbered, IsCarryNumbered, IsIsolationNumbered, IsPlainNumbered, IsPartNumbered, IsReplyNumbered}
+use Rattle.shr_report.specs.WellFormed.{LendsWord, IsWalkWell}
+use Rattle.shr_report.specs.Numbers.{IsAnsweredNumbered, IsFindNumbered, IsReplyNumbered}
 use Rattle.shr_report.proofs.LinesBack.{printed_reply, printed_found}
 use Rattle.shr_report.proofs.PartsBack.{Remain, now_of, none_left}
-use Rattle.shr_report.proofs.WorkersBack.{AreParts, LastAnswers, sorted_from}
+use Rattle.shr_report.proofs.WorkersBack.{AreParts, LastAnswers, of_commands, silent, zero_on}
 use Rattle.shr_reader.specs.declared.said.Said.TheVariants as said
 use Rattle.shr_reader.specs.declared.kinds.Kind.TheVariants as kind
 use Rattle.shr_reader.specs.declared.kinds.PlainKind.TheVariants as plain
 use Rattle.shr_reader.specs.Said.{plain_kind_of, within_kind_of, is_entry, is_unit}
-use Rattle.shr_draft.specs.Draft.{with_more, with_last, last_changed, no_part, padded, with_reply, with_found}
-use Rattle.shr_draft.specs.Reading.{IsTightPart, IsTightWalk, IsTightPlain}
+use Rattle.shr_draft.specs.Draft.{with_found}
 use Rattle.shr_draft.proofs.Leads.{Leads, first_word, leads_none, leads_then, leads_printed, leads_items, leads_flat}
 use Rattle.shr_draft.proofs.Flat.{Head, report_of, no_tail}
 use Rattle.shr_draft.proofs.Lasts.{last_is, tight_is, padded_same, padded_more}
 use Rattle.shr_draft.proofs.WalksLead.{Kinds, kinds, part, at_part, by_of, IsWalkFit, IsPlainFit, one_isolation, one_walk, one_carry, one_plain}
-use Rattle.shr_report.proofs.PartsBack.{all_second}
+use Rattle.shr_report.proofs.AnswersBack.{count_down}
 
 -- ---- an answer
 
@@ -161,9 +148,6 @@ all_joined k ks l = rw (
   joined ks.plain (prefix_len (is_plain_of k) l.plain) l.plain,
 ) refl
 
-count_down : (k n N : ℕ) → k + suc n ≡ N → (k + 1) + n ≡ N
-count_down k n N e = omega arith
-
 longer : (ans : List Answered) (a : Answered) (k : ℕ) → length ans ≡ k → length (ans ++ a ∷ []) ≡ k + 1
 longer ans a k e = simp length-append (omega arith)
 
@@ -239,18 +223,6 @@ all_plain : (xs : List PlainWalk) → AllByRecursion IsPlainNumbered xs → AllB
 all_plain [] k t = tt
 all_plain (x ∷ xs) k t = (record { numbers = k.0; tight = t.0 }, all_plain xs k.1 t.1)
 
-all_first : {X : Type 0} (P Q : X → Type 0) (xs : List X) → AllByRecursion (λ x. P x × Q x) xs → AllByRecursion P xs
-all_first P Q [] h = tt
-all_first P Q (x ∷ xs) h = (h.0.0, all_first P Q xs h.1)
-
-of_commands : {X : Type 0} (serial : X → Serial) (P : X → Type 0) (w n : ℕ) (xs : List X) → AllByRecursion P xs → AreOfCommands X serial w n xs → Remain X serial P w 0 n xs
-of_commands serial P w n xs each h = record {
-  sorted = sorted_from (λ x. (serial x).command) xs h.order;
-  workers = all_first (λ x. (serial x).worker ≡ w) (λ x. (serial x).command < n) xs h.by;
-  below = all_second (λ x. (serial x).worker ≡ w) (λ x. (serial x).command < n) xs h.by;
-  each = each;
-}
-
 logs_are : (w : ℕ) (p : WorkerPart) → IsPartWell w p → IsPartFit p → AreLogs w 0 (length p.answers.items) (logs_of p)
 logs_are w p well fit = record {
   isolations = of_commands (λ (x : Isolation). x.by) IsIsolationNumbered w (length p.answers.items) p.isolations.items fit.numbers.isolations well.isolations;
@@ -258,9 +230,6 @@ logs_are w p well fit = record {
   carries = of_commands (λ (x : Carry). x.by) IsCarryNumbered w (length p.answers.items) p.carries.items fit.numbers.carries (record { by = well.carriers; order = well.carry_order });
   plain = of_commands (λ (x : PlainWalk). x.by) IsPlainFit w (length p.answers.items) p.plain.items (all_plain p.plain.items fit.numbers.plain fit.tight.each_plain) well.plain;
 }
-
-zero_on : (n : ℕ) → 0 + n ≡ n
-zero_on n = omega arith
 
 -- nothing besides answers
 abbrev no_logs : Kinds
@@ -279,11 +248,6 @@ part_leads h w before done p a us e few well fit is pad =
     let all = answer_leads h w 0 N before done [] no_logs a us l e refl few fits.0 logs pad later in
     subst (λ (q : WorkerPart). Leads (worker_lines w p) (report_of h before [] [] no_tail) (report_of h (done ++ q ∷ []) [] [] no_tail)) (part_is p fit.tight)
     (subst (λ (xs : List Answered). Leads (answer_lines w 0 xs l) (report_of h before [] [] no_tail) (at_part h done (part xs (all_of l)))) (sym is) all)
-
--- a part without an answer is empty, and prints nothing
-silent : (w : ℕ) (p : WorkerPart) → p.answers.items ≡ [] → worker_lines w p ≡ []
-unfolding answer_lines
-silent w p e = rw e refl
 
 empty_part : (w : ℕ) (p : WorkerPart) → IsPartWell w p → IsPartFit p → p.answers.items ≡ [] → p ≡ no_part
 empty_part w p well fit e =

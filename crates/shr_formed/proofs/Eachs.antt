@@ -1,16 +1,14 @@
 -- What is so of each item, and of each two that stand next to one another, by index and by recursion.
-use Rattle.std.proofs.Common.{◌≡◌, ℕ, zero, suc, ◌+◌, ◌<◌, ◌≤◌, Bool, true, false, List, [], ◌∷◌, length, get_or, map, Option, Some, None, refl, sym, ap, subst, ◌∙◌, arith}
-use Rattle.std.specs.Prelude.{◌==◌, slice_get, option_map, Contains}
-use Rattle.std.specs.Bool.{Decides}
-use Rattle.std.specs.List.{AllByRecursion, AllAdjacentBelow}
+use Rattle.shr_formed.proofs.Common.{◌≡◌, ℕ, zero, suc, ◌+◌, ◌<◌, ◌≤◌, Bool, true, false, List, [], ◌∷◌, length, map, Option, Some, None, refl, sym, ap, subst, ◌∙◌, arith, ◌==◌, slice_get, Contains, Decides, AllByRecursion, MapSeen, Each, Adjacent, IsLoaded}
+use Rattle.std.proofs.Common.{get_or}
+use Rattle.std.specs.Prelude.{option_map}
+use Rattle.std.specs.List.{AllAdjacentBelow}
 use Rattle.std.proofs.lemmas.Option.{get_or_from_slice_get, slice_get-get_or, slice_get_within, slice_get-map}
 use Rattle.std.proofs.lemmas.Bool.Decides.{nat_tests}
-use Rattle.shr_base.specs.declared.walks.MapSeen.{MapSeen}
-use Rattle.shr_formed.specs.Each.{Each, Adjacent, IsLoaded}
 
 -- ---- while a list is gone through
 
-same_or_below : (n i : ℕ) → n < i + 1 → (n ≡ i → ⊥) → n < i
+pub same_or_below : (n i : ℕ) → n < i + 1 → (n ≡ i → ⊥) → n < i
 same_or_below n i lt ne = grind arith
 
 -- one item more
@@ -56,7 +54,7 @@ pub all_of : {X : Type 0} (P : X → Type 0) (xs : List X) → Each P xs → All
 all_of P [] h = tt
 all_of P (x ∷ xs) h = (h 0 x refl, all_of P xs (λ n y e. h (suc n) y e))
 
-some_same : {X : Type 0} (a b : X) → ◌≡◌ {A = Option X} (Some a) (Some b) → a ≡ b
+pub some_same : {X : Type 0} (a b : X) → ◌≡◌ {A = Option X} (Some a) (Some b) → a ≡ b
 some_same a b e = cc
 
 none_some : {X : Type 0} (a : X) → ◌≡◌ {A = Option X} None (Some a) → ⊥

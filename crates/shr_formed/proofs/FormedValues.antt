@@ -1,11 +1,6 @@
 -- What the parts of well formed ask, at known values.
-use Rattle.std.proofs.Common.{◌≡◌, ℕ, ◌<◌, List, [], ◌∷◌, refl, arith}
-use Rattle.std.specs.List.{range_with_len}
+use Rattle.shr_formed.proofs.Common.{◌≡◌, ℕ, ◌<◌, List, [], ◌∷◌, refl, arith, range_with_len, MapSeen, bit_places, Each, Adjacent, IsOf, IsLoaded, IsNotStripped, at_unit, group_places}
 use Rattle.shr_base.specs.declared.places.Serial.{Serial}
-use Rattle.shr_base.specs.declared.walks.MapSeen.{MapSeen}
-use Rattle.shr_report.specs.WellFormed.{bit_places}
-use Rattle.shr_formed.specs.Each.{Each, Adjacent, IsOf, IsLoaded}
-use Rattle.shr_formed.specs.Stripped.{IsNotStripped, at_unit, group_places}
 
 abbrev by : Serial
 by = record { worker = 2; command = 4 }

@@ -1,3 +1,4 @@
+mod Common
 pub mod Eachs
 pub mod Strip
 pub mod WellParts

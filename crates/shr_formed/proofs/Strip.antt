@@ -1,18 +1,14 @@
 -- One more of some places in a row.
-use Rattle.std.proofs.Common.{◌≡◌, ℕ, zero, suc, ◌+◌, ◌<◌, Bool, true, false, List, [], ◌∷◌, ◌++◌, length, flat_map, map, append_assoc, refl, sym, ap, ◌∙◌, arith}
-use Rattle.std.specs.Bool.{Decides}
-use Rattle.std.specs.List.{range_with_len}
+use Rattle.shr_formed.proofs.Common.{◌≡◌, ℕ, zero, suc, ◌+◌, ◌<◌, Bool, true, false, List, [], ◌∷◌, ◌++◌, length, flat_map, map, refl, sym, ap, ◌∙◌, arith, Decides, range_with_len, ◌==◌, MapEnd, Where, wheres, IsNotStripped}
+use Rattle.std.proofs.Common.{append_assoc}
 use Rattle.std.proofs.lemmas.List.{append-nil, append_cancel_left}
 use Rattle.std.proofs.lemmas.List.Concat.{flat_map-append}
-use Rattle.std.specs.Prelude.{◌==◌}
-use Rattle.std.proofs.lemmas.Bool.Decides.{nat_tests}
-use Rattle.shr_base.specs.declared.ends.MapEnd.{MapEnd}
-use Rattle.shr_formed.specs.Stripped.{Where, wheres, IsNotStripped}
+use Rattle.shr_report.proofs.FirstLawful.{zero_not}
 
-one_on : (n : ℕ) → suc n + 1 ≡ suc (n + 1)
+pub one_on : (n : ℕ) → suc n + 1 ≡ suc (n + 1)
 one_on n = omega arith
 
-range_more : (a n j : ℕ) → a + n ≡ j → range_with_len a (n + 1) ≡ range_with_len a n ++ j ∷ []
+pub range_more : (a n j : ℕ) → a + n ≡ j → range_with_len a (n + 1) ≡ range_with_len a n ++ j ∷ []
 range_more a zero j e = let same : a ≡ j = omega arith in rw same refl
 range_more a (suc n) j e = ap (range_with_len a) (one_on n) ∙ ap (λ (xs : List ℕ). a ∷ xs) (range_more (a + 1) n j (omega arith))
 
@@ -56,13 +52,10 @@ nothing_left places all rest b e d = (
 pub none_met : (places all : List Where) → IsNotStripped places all → Decides false (all ≡ places)
 none_met places all none = (λ t. absurd cc, λ h. absurd (none [] (h ∙ sym (append-nil places))))
 
-not_zero : (n : ℕ) → (suc n == 0) ≡ false
-not_zero n = grind (arith, nat_tests)
-
 -- no words of bits stand nowhere
 pub empty_decides : (maps : List MapEnd) (b : Bool) → b ≡ (length maps == 0) → Decides b (wheres maps ≡ [])
 empty_decides [] b e = (λ t. refl, λ h. e)
-empty_decides (m ∷ ms) b e = (λ t. absurd (no b t (e ∙ not_zero (length ms))), λ h. absurd (long h))
+empty_decides (m ∷ ms) b e = (λ t. absurd (no b t (e ∙ zero_not (length ms))), λ h. absurd (long h))
   where
     no : (b : Bool) → b ≡ true → b ≡ false → ⊥
     no b t e = cc

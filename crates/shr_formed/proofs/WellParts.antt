@@ -1,28 +1,12 @@
 -- A report is well formed where its parts are, and the other way round.
-use Rattle.std.proofs.Common.{◌≡◌, ℕ, suc, ◌+◌, ◌-◌, ◌/◌, ◌<◌, ◌≤◌, ◌^◌, Bool, true, false, List, [], ◌∷◌, ◌++◌, length, map, Option, Some, None, refl, sym, ap, ◌∙◌, arith}
-use Rattle.std.specs.Prelude.{◌==◌, if◌then◌else◌, slice_get, Contains}
-use Rattle.std.specs.List.{range_with_len}
+use Rattle.shr_formed.proofs.Common.{◌≡◌, ℕ, suc, ◌+◌, ◌-◌, ◌<◌, ◌≤◌, ◌^◌, Bool, true, false, List, [], ◌∷◌, ◌++◌, length, map, Option, Some, None, refl, sym, ap, ◌∙◌, arith, ◌==◌, slice_get, Contains, range_with_len, is_path, is_name, unit_of, Answered, MapSeen, Attempt, WalkRecord, Carry, PlainWalk, Isolation, MapEnd, UnitsEnd, PlaceAmount, PlaceEnd, WorkerPart, HasWords, LendsWord, IsBitWord, IsCarryBefore, IsPoolNumbered, IsTreeNumbered, IsAmountWell, IsPoolAmountWell, IsUseBefore, units_place, IsPlaceBefore, IsPlaceUpTo, bit_places, IsWellFormed, IsOf, IsWalkFormed, IsListFormed, IsPartFormed, ArePartsFormed, IsLastFormed, AreHeadsFormed, AreListsFormed, AreMapsPrinted}
+use Rattle.std.proofs.Common.{◌/◌}
+use Rattle.std.specs.Prelude.{if◌then◌else◌}
 use Rattle.std.proofs.lemmas.List.{length-append}
-use Rattle.shr_model.specs.Paths.{is_path}
-use Rattle.shr_model.specs.Words.{is_name}
-use Rattle.shr_model.specs.Places.{unit_of}
-use Rattle.shr_base.specs.declared.replies.Answered.{Answered}
-use Rattle.shr_base.specs.declared.walks.MapSeen.{MapSeen}
-use Rattle.shr_base.specs.declared.walks.Attempt.{Attempt}
-use Rattle.shr_base.specs.declared.walks.WalkRecord.{WalkRecord}
-use Rattle.shr_base.specs.declared.walks.Carry.{Carry}
-use Rattle.shr_base.specs.declared.walks.PlainWalk.{PlainWalk}
-use Rattle.shr_base.specs.declared.walks.Isolation.{Isolation}
-use Rattle.shr_base.specs.declared.ends.MapEnd.{MapEnd}
-use Rattle.shr_base.specs.declared.ends.UnitsEnd.{UnitsEnd}
-use Rattle.shr_base.specs.declared.ends.PlaceAmount.{PlaceAmount}
-use Rattle.shr_base.specs.declared.ends.PlaceEnd.{PlaceEnd}
-use Rattle.shr_base.specs.declared.ends.WorkerPart.{WorkerPart}
 use Rattle.shr_report.specs.declared.report.Report.{Report}
-use Rattle.shr_report.specs.WellFormed.{HasWords, LendsWord, IsBitWord, IsPlaceWell, IsWalkWell, IsCarryBefore, IsPartWell, IsPoolNumbered, IsTreeNumbered, IsAmountWell, IsPoolAmountWell, IsUseBefore, units_place, IsPlaceBefore, IsPlaceUpTo, bit_places, IsWellFormed}
-use Rattle.shr_formed.specs.Each.{IsOf, IsWalkFormed, IsListFormed}
-use Rattle.shr_formed.specs.Formed.{IsPartFormed, ArePartsFormed, IsLastFormed, AreHeadsFormed, AreListsFormed, AreMapsPrinted, AreTablesFormed}
-use Rattle.shr_formed.proofs.Eachs.{all_of, each_in, each_weaker, below_of, adjacent_in, mapped, unmapped, contained, loaded}
+use Rattle.shr_report.specs.WellFormed.{IsPlaceWell, IsWalkWell, IsPartWell}
+use Rattle.shr_formed.specs.Formed.{AreTablesFormed}
+use Rattle.shr_formed.proofs.Eachs.{all_of, each_in, each_weaker, below_of, adjacent_in, mapped, unmapped, contained, loaded, some_same}
 
 -- ---- a walk, and a list
 
@@ -91,12 +75,9 @@ part_formed worker p g =
 
 -- ---- the last part
 
-last_get : {X : Type 0} (before : List X) (x : X) → slice_get (before ++ x ∷ []) (length before) ≡ Some x
+pub last_get : {X : Type 0} (before : List X) (x : X) → slice_get (before ++ x ∷ []) (length before) ≡ Some x
 last_get [] x = refl
 last_get (y ∷ ys) x = last_get ys x
-
-some_same : {X : Type 0} (a b : X) → ◌≡◌ {A = Option X} (Some a) (Some b) → a ≡ b
-some_same a b e = cc
 
 none_some : {X : Type 0} (a : X) → ◌≡◌ {A = Option X} None (Some a) → ⊥
 none_some a e = cc

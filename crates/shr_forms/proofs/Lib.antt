@@ -1,3 +1,4 @@
+mod Common
 pub mod Reading
 pub mod Splitting
 pub mod Matching

@@ -1,18 +1,14 @@
 -- What the matches of `clap` give.
-use Rattle.std.proofs.Common.{◌≡◌, ◌∙◌, List, ℕ, [], ◌∷◌, length, Bool, true, false, ◌||◌, cond, ◌≤◌, ◌<◌, ◌^◌, Option, Some, None, sym, ap, subst, refl, zero, suc, codes, decimal, arith, ne_eqb}
-use Rattle.std.specs.Prelude.{option_map, get_or}
+use Rattle.shr_forms.proofs.Common.{◌≡◌, ◌∙◌, List, ℕ, [], ◌∷◌, length, Bool, true, false, ◌≤◌, ◌<◌, ◌^◌, Option, Some, None, sym, ap, subst, refl, zero, suc, codes, decimal, arith, option_map, get_or, AllByRecursion, same_Some, Row, Text, IsAmong, fault_of, first_of, rows_of, subcommand_of, has_hyphen, IsPlainWord, the_app, Form, Run, Audit, AreRunWords, AreAuditWords, AreGenWords, AreNoForm, ReadsAs}
+use Rattle.std.proofs.Common.{◌||◌, cond, ne_eqb}
 use Rattle.std.specs.Borrow.{Bor}
-use Rattle.std.specs.List.{AllByRecursion, list_any}
+use Rattle.std.specs.List.{list_any}
 use Rattle.std.proofs.lemmas.Fmt.{first_decimal, decimal_digit}
-use Rattle.std.proofs.lemmas.Option.{same_Some, none-some}
-use Rattle.clap.specs.Words.{Row, Text, IsAmong, fault_of, first_of, first_value, rows_of, subcommand_of}
+use Rattle.std.proofs.lemmas.Option.{none-some}
+use Rattle.clap.specs.Words.{first_value}
 use Rattle.clap.specs.declared.error.ErrorKind.{ErrorKind}
 use Rattle.clap.specs.declared.parser.matches.Found.{Found}
 use Rattle.clap.proofs.WalkLemmas.{first_value-rows}
-use Rattle.shr_forms.specs.CommandLine.{has_hyphen, IsPlainWord, the_app}
-use Rattle.shr_forms.specs.declared.form.Form.{Form}
-use Rattle.shr_forms.specs.declared.form.Form.TheVariants.{Run, Audit}
-use Rattle.shr_forms.specs.Forms.{AreRunWords, AreAuditWords, AreGenWords, AreNoForm, ReadsAs}
 use Rattle.shr_forms.proofs.Reading.{sizes_fit}
 use Rattle.shr_forms.proofs.Splitting.{AreSplit, as_run, as_audit, as_gen, split, run_right, run_met, audit_right, audit_met, gen_right, gen_met, rows, first_is, second_is, third_is}
 

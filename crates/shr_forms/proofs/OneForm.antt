@@ -1,10 +1,6 @@
 -- Words are of one form at most.
-use Rattle.std.proofs.Common.{◌≡◌, ◌∙◌, ℕ, ◌∷◌, [], List, codes, decimal, refl, sym}
-use Rattle.std.specs.Prelude.{Option, Some, None}
-use Rattle.std.proofs.lemmas.Fmt.{decimal_injective}
-use Rattle.shr_forms.specs.declared.form.Form.{Form}
-use Rattle.shr_forms.specs.declared.form.Form.TheVariants.{Run, Gen, Audit}
-use Rattle.shr_forms.specs.Forms.{AreRunWords, AreAuditWords, AreGenWords, ReadsAs}
+use Rattle.shr_forms.proofs.Common.{◌≡◌, ◌∙◌, ℕ, ◌∷◌, [], List, codes, decimal, refl, sym, Option, Some, None, decimal_injective, Form, Run, Audit, AreRunWords, AreAuditWords, AreGenWords, ReadsAs}
+use Rattle.shr_forms.specs.declared.form.Form.TheVariants.{Gen}
 use Rattle.shr_forms.proofs.Reading.{same_words, sizes_fit}
 
 pub run_not_gen : (words : List (List ℕ)) (seed workers commands : ℕ) → AreRunWords words → AreGenWords words seed workers commands → ⊥

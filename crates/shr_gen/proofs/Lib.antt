@@ -1,3 +1,4 @@
+mod Common
 mod Making
 mod Texts
 mod Validity

@@ -1,20 +1,20 @@
 -- The paths, keys and values of a generated script are of their classes.
-use Rattle.std.proofs.Common.{◌≡◌, ◌≢◌, ℕ, zero, suc, ◌+◌, ◌<◌, ◌≤◌, ◌^◌, ◌%◌, Bool, true, false, ◌&&◌, not, [], ◌∷◌, length, map, decimal, refl, sym, ap, ◌∙◌, ⊎_elim, arith}
-use Rattle.std.specs.Prelude.{bytes_eq, codes, Some, None}
+use Rattle.shr_gen.proofs.Common.{◌≡◌, ℕ, zero, suc, ◌+◌, ◌<◌, ◌≤◌, ◌%◌, Bool, true, false, [], ◌∷◌, length, map, refl, sym, ap, ◌∙◌, arith, codes, Some, None, range_with_len, nat_tests, root_path, path_of, key_of, value_of}
+use Rattle.std.proofs.Common.{◌≢◌, ◌^◌, ◌&&◌, not, decimal, ⊎_elim}
+use Rattle.std.specs.Prelude.{bytes_eq}
 use Rattle.std.specs.Fmt.{digits}
-use Rattle.std.specs.List.{list_all, range_with_len}
+use Rattle.std.specs.List.{list_all}
 use Rattle.std.proofs.lemmas.Bool.{cases_Bool}
-use Rattle.std.proofs.lemmas.Bool.Decides.{nat_tests}
 use Rattle.std.proofs.lemmas.List.{append_cancel_left}
 use Rattle.std.proofs.lemmas.List.Folds.{list_all-append}
 use Rattle.std.proofs.lemmas.Slice.Eq.{bytes_eq-Decides}
 use Rattle.std.proofs.lemmas.Fmt.{decimal_by_steps, decimal_injective, length-decimal-le}
 use Rattle.shr_model.proofs.PiecesLaws.{and_true}
 use Rattle.shr_model.specs.Words.{is_visible, is_value, is_between}
-use Rattle.shr_model.specs.Paths.{root_path, parent_path, is_path}
+use Rattle.shr_model.specs.Paths.{parent_path, is_path}
 use Rattle.shr_model.specs.Pieces.{cut, pieces}
 use Rattle.shr_words.specs.Classes.{place_of, passes, KeyTest}
-use Rattle.shr_gen.specs.Generated.{path_of, key_of, value_of}
+use Rattle.shr_model.proofs.Booleans.{not_true}
 
 -- ---- keys and values
 
@@ -59,10 +59,6 @@ pub record FitsPath (w : ℕ) : Type 0 where
   pub is : is_path (path_of w) ≡ true
   pub parent : parent_path (path_of w) ≡ root_path
   pub below : bytes_eq (path_of w) root_path ≡ false
-
-not_true : (b : Bool) → not b ≡ true → b ≡ false
-not_true false e = refl
-not_true true e = cc
 
 -- a worker's path is a path, with the root as its parent
 pub path_fit : (w : ℕ) → w < 63 → FitsPath w

@@ -1,16 +1,14 @@
 -- A generated script is valid: each of its lines may stand where it stands.
-use Rattle.std.proofs.Common.{◌≡◌, ℕ, zero, suc, ◌+◌, ◌-◌, ◌*◌, ◌<◌, ◌≤◌, ◌%◌, Bool, true, false, cond, List, [], ◌∷◌, ◌++◌, length, map, get_or, refl, sym, ap, subst, ◌∙◌, arith}
-use Rattle.std.specs.Prelude.{codes, nat_le, nat_lt, Some, None, Ok, flat_map, ◌==◌}
-use Rattle.std.specs.List.{range_with_len}
+use Rattle.shr_gen.proofs.Common.{◌≡◌, ℕ, zero, suc, ◌+◌, ◌*◌, ◌<◌, ◌≤◌, ◌%◌, Bool, true, false, List, [], ◌∷◌, ◌++◌, length, map, refl, sym, ap, ◌∙◌, arith, codes, Some, None, range_with_len, nat_tests, map-range_with_len_more, root_path, path_of, key_of, value_of, group_at, command_at, commands_from, drawn_after, chosen_by}
+use Rattle.std.proofs.Common.{◌-◌, cond, get_or, subst}
+use Rattle.std.specs.Prelude.{nat_le, nat_lt, Ok, flat_map, ◌==◌}
 use Rattle.std.proofs.lemmas.List.{map_push}
-use Rattle.std.proofs.lemmas.Bool.Decides.{nat_tests}
-use Rattle.std.proofs.lemmas.List.FromFn.{length-map-range_with_len, get_or-map-range_with_len, map-range_with_len_more}
+use Rattle.std.proofs.lemmas.List.FromFn.{length-map-range_with_len, get_or-map-range_with_len}
 use Rattle.shr_base.specs.declared.scripts.Code.TheVariants as codes_of
 use Rattle.shr_base.specs.declared.scripts.Command.{Command}
 use Rattle.shr_base.specs.declared.scripts.GroupDecl.{GroupDecl}
 use Rattle.shr_base.specs.declared.scripts.CacheDecl.{CacheDecl}
 use Rattle.shr_base.specs.declared.scripts.Command.TheVariants.{Put, Get, Del, SetPin, Shrink, Balance, Offline, MkGroup, Register, Unregister, Isolate, Release, Grab}
-use Rattle.shr_model.specs.Paths.{root_path}
 use Rattle.shr_words.specs.Classes.{Word, N, IsOf, Listed, Number, Chosen, PathTest, NameTest, Walks, place_of, passes}
 use Rattle.shr_script.specs.declared.kind.Kind.TheVariants as kind
 use Rattle.shr_script.specs.declared.kind.Phase.{Phase}
@@ -18,7 +16,7 @@ use Rattle.shr_script.specs.declared.kind.Phase.TheVariants.{Groups, Caches, Wor
 use Rattle.shr_script.specs.Lines.{State, start, Line, allowed, after, group_rule, cache_rule, refused_if}
 use Rattle.shr_script.specs.Script.{state_after, IsLine, AreLines, is_done}
 use Rattle.shr_script.specs.Content.{group_line, cache_line, command_line, worker_line, worker_lines, end_line, header_line, size_line, lines_of, or_root, AreBelow, IsValid}
-use Rattle.shr_gen.specs.Generated.{MayBeMade, generated, path_of, key_of, value_of, group_of, group_at, node_by, cache_by, priority_by, command_at, is_offline, commands_from, three_caches, drawn_after, chosen_by}
+use Rattle.shr_gen.specs.Generated.{MayBeMade, generated, group_of, node_by, cache_by, priority_by, is_offline, three_caches}
 use Rattle.shr_gen.proofs.Texts.{is_key_of, is_value_of, path_fit, place_in_paths, absent}
 
 -- ---- lines one after another

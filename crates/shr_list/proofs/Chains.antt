@@ -1,14 +1,10 @@
 -- What a write to one node of a chain does.
-use Rattle.std.proofs.Common.{◌≡◌, ◌≢◌, ℕ, Option, Some, None, is_some, refl, sym, ap, ◌∙◌, arith, inl, inr, cond}
-use Rattle.std.specs.Prelude.{option_map}
-use Rattle.std.proofs.lemmas.Bool.{cases_eq}
+use Rattle.shr_list.proofs.Common.{◌≡◌, ◌≢◌, ℕ, Option, Some, None, is_some, refl, sym, ap, ◌∙◌, arith, inl, inr, option_map, cases_eq, Slab, get, slab_len, Object, Node, Chain, next_in, next_of, prev_of, KeepsLinks, KeepsOthers, KeepsObjects, SetsObject}
+use Rattle.std.proofs.Common.{cond}
 use Rattle.std.proofs.lemmas.List.Sums.{sum_by-set}
-use Rattle.slab.specs.Slab.{Slab, get, slab_len, with_value, Updates}
+use Rattle.slab.specs.Slab.{with_value, Updates}
 use Rattle.slab.proofs.SlabLemmas.{Updates-with_value, ContainsKey-within}
-use Rattle.shr_base.specs.declared.objects.Object.{Object}
-use Rattle.shr_base.specs.declared.items.Node.{Node}
-use Rattle.shr_list.specs.declared.queue.chain.Chain.{Chain}
-use Rattle.shr_list.specs.Links.{next_in, prev_in, next_of, prev_of, KeepsLinks, KeepsOthers, KeepsObjects, SetsNext, SetsPrev, SetsObject}
+use Rattle.shr_list.specs.Links.{prev_in, SetsNext, SetsPrev}
 
 -- a write to a node that is there leaves the number of nodes
 len_written : (s : Slab Node) (k : ℕ) (n m : Node) → get s k ≡ Some n → slab_len (with_value s k m) ≡ slab_len s

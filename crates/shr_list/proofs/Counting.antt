@@ -1,14 +1,8 @@
 -- A loop that counts what a scan would free: it goes over the objects as they stand.
-use Rattle.std.proofs.Common.{◌≡◌, ℕ, zero, suc, ◌+◌, ◌-◌, ◌<◌, List, [], ◌∷◌, ◌++◌, length, drop, refl, sym, ap, ◌∙◌, arith, append_assoc, length-append, get_or, add-one, drop-cons}
-use Rattle.std.specs.Prelude.{min}
-use Rattle.std.proofs.lemmas.List.{append-nil, nil_from_length, drop_all}
-use Rattle.std.specs.List.{AllByRecursion}
-use Rattle.shr_base.specs.declared.objects.Object.{Object}
-use Rattle.shr_base.specs.declared.objects.Policy.{Policy}
-use Rattle.shr_model.specs.Objects.{unmarked_object}
-use Rattle.shr_base.specs.declared.objects.LruStatus.TheVariants.{Removed, Rotate, Skip, Stop}
-use Rattle.shr_model.specs.Scan.{Scanned, case_of, scan_from}
-use Rattle.shr_model.proofs.ScanLaws.{scan_spent, scan_none, scan_removed, scan_skipped, scan_rotated, scan_rotated_last, scan_stopped, freed_alike, freed_each, rotated_then_removed}
+use Rattle.shr_list.proofs.Common.{◌≡◌, ℕ, zero, suc, ◌+◌, ◌-◌, ◌<◌, List, [], ◌∷◌, ◌++◌, length, drop, refl, sym, ap, ◌∙◌, arith, append_assoc, length-append, get_or, min, append-nil, drop_all, AllByRecursion, Object, Policy, unmarked_object, Removed, Rotate, Skip, Stop, Scanned, case_of, scan_from, scan_spent, scan_none, scan_removed, scan_skipped, scan_rotated, scan_rotated_last, scan_stopped}
+use Rattle.std.proofs.Common.{add-one, drop-cons}
+use Rattle.std.proofs.lemmas.List.{nil_from_length}
+use Rattle.shr_model.proofs.ScanLaws.{freed_alike, freed_each, rotated_then_removed}
 
 -- how many a scan frees of these
 abbrev pub freed_count : Policy → ℕ → List Object → ℕ

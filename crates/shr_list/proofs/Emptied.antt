@@ -1,13 +1,5 @@
 -- A chain whose nodes are taken away from the head on, while their links stay.
-use Rattle.std.proofs.Common.{◌≡◌, ◌≢◌, ℕ, List, [], ◌∷◌, ◌++◌, Option, Some, None, refl, ap, subst, ◌∙◌}
-use Rattle.std.specs.Prelude.{option_map}
-use Rattle.std.specs.List.{AllByRecursion}
-use Rattle.slab.specs.Slab.{Slab, get, slab_len}
-use Rattle.shr_base.specs.declared.objects.Object.{Object}
-use Rattle.shr_base.specs.declared.items.Node.{Node}
-use Rattle.shr_list.specs.declared.queue.chain.Chain.{Chain}
-use Rattle.shr_list.specs.Nodes.{IsOff, Keyed}
-use Rattle.shr_list.specs.Links.{next_in, next_of, IsPath, stops_of, IsLinked}
+use Rattle.shr_list.proofs.Common.{◌≡◌, ◌≢◌, ℕ, List, [], ◌∷◌, ◌++◌, Option, Some, None, refl, ap, subst, ◌∙◌, option_map, AllByRecursion, Slab, get, slab_len, Object, Node, Chain, IsOff, Keyed, next_in, next_of, IsPath, stops_of, IsLinked}
 use Rattle.shr_list.proofs.Linked.{Names}
 
 -- from this stop on these nodes follow each other

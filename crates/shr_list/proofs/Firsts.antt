@@ -1,8 +1,7 @@
 -- What a search by index says.
-use Rattle.std.proofs.Common.{◌≡◌, ℕ, Bool, true, List, [], ◌∷◌, Option, Some, None, sym, ap, ◌∙◌, is_some, get_or}
-use Rattle.std.specs.List.{list_any, find, position}
-use Rattle.shr_base.specs.declared.objects.Object.{Object}
-use Rattle.shr_model.proofs.ObjectLaws.{find_at, is_some_find, IsFirstAt_of_position, none_of_position}
+use Rattle.shr_list.proofs.Common.{◌≡◌, ℕ, Bool, true, List, [], ◌∷◌, Option, Some, None, sym, ap, ◌∙◌, is_some, get_or, list_any, find, Object, is_some_find}
+use Rattle.std.specs.List.{position}
+use Rattle.shr_model.proofs.ObjectLaws.{find_at, IsFirstAt_of_position, none_of_position}
 
 -- an item passes where an index was found
 pub held_at : (test : Object → Bool) (items : List Object) (i : ℕ) → Some i ≡ position test items → list_any test items ≡ true

@@ -1,25 +1,13 @@
 -- What an index finds, over changes of its prints and of its clashes.
-use Rattle.std.proofs.Common.{◌≡◌, ◌≢◌, ℕ, Bool, true, false, ◌&&◌, ◌==◌, [], Option, Some, None, refl, sym, ap, subst, ◌∙◌, inl, inr}
-use Rattle.std.proofs.lemmas.Bool.{eqb-true, eq-eqb, cases_Bool, cases_eq}
-use Rattle.std.specs.Prelude.{IsSome, bytes_eq, option_map, if◌then◌else◌}
-use Rattle.std.specs.Prelude.{Result, Ok, Err, OnErr}
-use Rattle.std.specs.Cmp.Lexicographic.{bytes_decides}
-use Rattle.std.specs.Ordering.{nat_cmp}
-use Rattle.std.specs.BTreeMap.{UpdatesBy}
-use Rattle.std.proofs.lemmas.Map.Lookups.{exact_unsigned}
+use Rattle.shr_list.proofs.Common.{◌≡◌, ◌≢◌, ℕ, Bool, true, false, ◌&&◌, ◌==◌, [], Option, Some, None, refl, sym, ap, subst, ◌∙◌, inl, inr, eqb-true, cases_Bool, cases_eq, IsSome, bytes_eq, option_map, if◌then◌else◌, Result, Ok, Err, OnErr, bytes_decides, nat_cmp, UpdatesBy, exact_unsigned, Names, found_clash, AddsClash, IsSameClashes, Name, is_same, print_of, entry_at, Puts, Keeps, GainsName, Turns, and_true}
+use Rattle.std.proofs.lemmas.Bool.{eq-eqb}
 use Rattle.shr_list.proofs.Indexes.{not_equal}
-use Rattle.shr_list.specs.declared.queue.names.Names.{Names}
-use Rattle.shr_list.specs.Clashes.{found_clash, AddsClash, IsSameClashes, PutsClash}
-use Rattle.shr_list.specs.Names.{Name, is_same, print_of, entry_at, owned, Owns, Found, Fits, Puts, Keeps, GainsName, Turns}
-
-parts : (a b : Bool) → (a && b) ≡ true → (a ≡ true) × (b ≡ true)
-parts true true e = (refl, refl)
-parts true false e = absurd (cc)
-parts false b e = absurd (cc)
+use Rattle.shr_list.specs.Clashes.{PutsClash}
+use Rattle.shr_list.specs.Names.{owned, Owns, Found, Fits}
 
 pub same_is : (one other : Name) → is_same one other ≡ true → one ≡ other
 same_is one other same =
-    let both = parts (one.0 == other.0) (bytes_eq one.1 other.1) same in
+    let both = and_true (one.0 == other.0) (bytes_eq one.1 other.1) same in
     rw (eqb-true one.0 other.0 both.0, (bytes_decides one.1 other.1).0 both.1) refl
 
 pub same_itself : (name : Name) → is_same name name ≡ true

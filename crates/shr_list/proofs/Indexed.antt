@@ -1,34 +1,20 @@
 -- Look-ups by birth group and key, and the index over the changes of a list.
-use Rattle.std.proofs.Common.{◌≡◌, ◌≢◌, ℕ, Bool, true, false, ◌&&◌, ◌==◌, List, [], ◌∷◌, ◌++◌, Option, Some, None, refl, sym, ap, subst, ◌∙◌, inl, inr}
-use Rattle.std.proofs.lemmas.List.{map-append}
-use Rattle.std.proofs.lemmas.Bool.{eqb-true, eq-eqb, cases_Bool, or_parts}
-use Rattle.std.specs.Prelude.{IsSome, is_some, bytes_eq, if◌then◌else◌}
-use Rattle.std.specs.Cmp.Lexicographic.{bytes_decides}
-use Rattle.std.specs.List.{find, list_any}
-use Rattle.shr_base.specs.declared.objects.Object.{Object}
-use Rattle.shr_model.specs.Objects.{is_named, change_first, without_first}
-use Rattle.shr_list.specs.declared.queue.names.Names.{Names}
-use Rattle.shr_list.specs.Nodes.{Keyed, objects_of, key_named, IsOff, IsApart}
-use Rattle.shr_list.specs.Names.{Name, name_by, name_in, names_of, is_same, in_nodes, Puts, Keeps, GainsName, Turns, IsIndexed, KnowsNames, AreNew, AreStrangers}
-use Rattle.shr_list.proofs.Paths.{all_append, all_weaker, AreOff, apart_left, apart_right, apart_across, apart_append, off_each}
+use Rattle.shr_list.proofs.Common.{◌≡◌, ◌≢◌, ℕ, Bool, true, false, ◌&&◌, ◌==◌, List, [], ◌∷◌, ◌++◌, Option, Some, None, refl, sym, ap, subst, ◌∙◌, inl, inr, map-append, eqb-true, cases_Bool, IsSome, is_some, bytes_eq, if◌then◌else◌, bytes_decides, find, list_any, Object, is_named, Names, Keyed, objects_of, key_named, IsOff, IsApart, Name, name_by, name_in, names_of, is_same, in_nodes, Puts, Keeps, GainsName, Turns, IsIndexed, AreNew, AreStrangers, and_true, each_weaker}
+use Rattle.std.proofs.lemmas.Bool.{or_parts}
+use Rattle.shr_model.specs.Objects.{change_first, without_first}
+use Rattle.shr_list.specs.Names.{KnowsNames}
+use Rattle.shr_list.proofs.Paths.{all_append, AreOff, apart_left, apart_right, apart_across, apart_append, off_each}
 use Rattle.shr_list.proofs.Fitting.{fits_alike}
-
-pub both_true : (a b : Bool) → (a && b) ≡ true → (a ≡ true) × (b ≡ true)
-both_true true true e = (refl, refl)
-both_true true false e = absurd (cc)
-both_true false b e = absurd (cc)
-
-equal_itself : (n : ℕ) → (n == n) ≡ true
-equal_itself n = eq-eqb n n refl
+use Rattle.shr_model.proofs.Booleans.{itself}
 
 -- an object is named so exactly where this is its name
 pub named_is : (birth : ℕ) (key : List ℕ) (o : Object) → is_named birth key o ≡ true → name_by o ≡ (birth, key)
 named_is birth key o named =
-    let parts = both_true (o.birth == birth) (bytes_eq o.key key) named in
+    let parts = and_true (o.birth == birth) (bytes_eq o.key key) named in
     rw (eqb-true o.birth birth parts.0, (bytes_decides o.key key).0 parts.1) refl
 
 pub named_itself : (o : Object) → is_named o.birth o.key o ≡ true
-named_itself o = rw (equal_itself o.birth, (bytes_decides o.key o.key).1 refl) refl
+named_itself o = rw (itself o.birth, (bytes_decides o.key o.key).1 refl) refl
 
 -- an object that is not so named has another name
 pub unnamed_is : (birth : ℕ) (key : List ℕ) (o : Object) → is_named birth key o ≡ false → name_by o ≢ (birth, key)
@@ -274,7 +260,7 @@ module _ (xs ys : List Keyed) (k : ℕ) (o : Object) (unique : IsApart (names_of
       rw (map-append name_in xs ys)
       (apart_append (names_of xs) (names_of ys) (apart_left (names_of xs) (name_by o ∷ names_of ys) unique_at)
       (apart_right (names_of xs) (name_by o ∷ names_of ys) unique_at).1
-      (all_weaker (λ (t : Name). IsOff t (name_by o ∷ names_of ys)) (λ (t : Name). IsOff t (names_of ys)) (λ t off. off.1) (names_of xs)
+      (each_weaker (λ (t : Name). IsOff t (name_by o ∷ names_of ys)) (λ (t : Name). IsOff t (names_of ys)) (λ t off. off.1) (names_of xs)
       (apart_across (names_of xs) (name_by o ∷ names_of ys) unique_at)))
 
   unique_changed : (m : ℕ) (p : Object) → name_by p ≡ name_by o → IsApart (names_of (xs ++ (m, p) ∷ ys))

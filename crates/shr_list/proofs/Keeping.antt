@@ -1,6 +1,5 @@
 -- What a list keeps over an entry.
-use Rattle.std.proofs.Common.{◌≡◌, ℕ, ◌+◌, ◌≤◌, Bool, true, false, List, [], ◌∷◌, length, refl, sym, ap, ◌∙◌, arith, length-append}
-use Rattle.shr_base.specs.declared.objects.Object.{Object}
+use Rattle.shr_list.proofs.Common.{◌≡◌, ℕ, ◌+◌, ◌≤◌, Bool, true, false, List, [], ◌∷◌, length, refl, sym, ap, ◌∙◌, arith, length-append, Object}
 use Rattle.shr_base.specs.declared.journals.Entry.{Entry}
 use Rattle.shr_base.specs.declared.journals.Entry.TheVariants.{MovedIn, Closed}
 use Rattle.shr_model.specs.Items.{step, IsOutcome, is_closing, is_closed}

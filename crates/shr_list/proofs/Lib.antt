@@ -1,3 +1,4 @@
+mod Common
 pub mod Keeping
 pub mod ScanTurns
 pub mod Counting

@@ -1,15 +1,7 @@
 -- What the operations on a chain leave linked, and that its nodes in link order are those.
-use Rattle.std.proofs.Common.{◌≡◌, ◌≢◌, ℕ, ◌+◌, List, [], ◌∷◌, ◌++◌, length, Option, Some, None, refl, sym, ap, subst, ◌∙◌, arith, append_assoc, length-append}
-use Rattle.std.proofs.lemmas.List.{map-append}
-use Rattle.std.specs.Prelude.{option_map}
-use Rattle.std.specs.List.{AllByRecursion}
-use Rattle.slab.specs.Slab.{Slab, get, slab_len}
-use Rattle.shr_base.specs.declared.objects.Object.{Object}
-use Rattle.shr_base.specs.declared.items.Node.{Node}
-use Rattle.shr_list.specs.declared.queue.chain.Chain.{Chain}
-use Rattle.shr_list.specs.Nodes.{IsOff, IsApart, Keyed, first_key, last_key}
-use Rattle.shr_list.specs.Links.{object_at, next_in, next_of, prev_of, IsStored, IsStop, IsPath, stops_of, IsLinked, nodes_from, nodes_of, KeepsOthers, KeepsObjects, Joins, Inserts, Removes, SetsObject}
-use Rattle.shr_list.proofs.Paths.{all_append, all_left, all_right, all_weaker, AreOff, apart_left, apart_right, apart_across, apart_append, off_each, path_cut, before_last, IsRing, ring_kept, ring_back, ring_front, ring_without}
+use Rattle.shr_list.proofs.Common.{◌≡◌, ◌≢◌, ℕ, ◌+◌, List, [], ◌∷◌, ◌++◌, length, Option, Some, None, refl, sym, ap, subst, ◌∙◌, arith, append_assoc, length-append, map-append, option_map, AllByRecursion, Slab, get, slab_len, Object, Node, Chain, IsOff, IsApart, Keyed, first_key, last_key, next_in, next_of, prev_of, IsPath, stops_of, IsLinked, nodes_from, nodes_of, KeepsOthers, KeepsObjects, Joins, SetsObject, each_weaker}
+use Rattle.shr_list.specs.Links.{object_at, IsStored, IsStop, Inserts, Removes}
+use Rattle.shr_list.proofs.Paths.{all_append, all_left, all_right, AreOff, apart_left, apart_right, apart_across, apart_append, off_each, path_cut, before_last, IsRing, ring_kept, ring_back, ring_front, ring_without}
 
 -- the key names the object
 abbrev pub Names : Chain → Keyed → Type 0
@@ -84,7 +76,7 @@ linked_resized c capacity nodes linked =
     record {
       ring = path_same c (record c { nodes = record c.nodes { capacity = capacity } }) next prev None (stops_of nodes ++ None ∷ []) linked.ring;
       apart = linked.apart;
-      stored = all_weaker (Names c) (Names (record c { nodes = record c.nodes { capacity = capacity } })) (λ n is. is) nodes linked.stored;
+      stored = each_weaker (Names c) (Names (record c { nodes = record c.nodes { capacity = capacity } })) (λ n is. is) nodes linked.stored;
       count = linked.count;
     }
   where
@@ -141,7 +133,7 @@ module _ (c : Chain) (nodes xs ys : List Keyed) (k : ℕ) (o : Object) (linked :
       let after = apart_right (None ∷ stops_of xs) (Some k ∷ stops_of ys) apart_at in
       let across = apart_across (None ∷ stops_of xs) (Some k ∷ stops_of ys) apart_at in
       rw (map-append (λ (n : Keyed). Some n.0) xs ys)
-      (apart_append (None ∷ stops_of xs) (stops_of ys) before after.1 (all_weaker (λ (s : Option ℕ). IsOff s (Some k ∷ stops_of ys)) (λ (s : Option ℕ). IsOff s (stops_of ys)) (λ s off. off.1) (None ∷ stops_of xs) across))
+      (apart_append (None ∷ stops_of xs) (stops_of ys) before after.1 (each_weaker (λ (s : Option ℕ). IsOff s (Some k ∷ stops_of ys)) (λ (s : Option ℕ). IsOff s (stops_of ys)) (λ s off. off.1) (None ∷ stops_of xs) across))
 
   -- its neighbours
   pub next_is : next_of c (Some k) ≡ first_key ys
@@ -197,7 +189,7 @@ module _ (c : Chain) (nodes xs ys : List Keyed) (k : ℕ) (o : Object) (linked :
   pub tail_left : (one : Chain) → Joins c one (prev_of c (Some k)) (next_of c (Some k)) → IsStop one one.tail
   tail_left one joins =
       let ring = rw (← map-append (λ (n : Keyed). Some n.0) xs ys) at (ring_without c one (Some k) (stops_of xs) (stops_of ys) joins apart_at ring_at) in
-      let stored = all_weaker (Names c) (Names one) (λ n is. joins.keeps.objects n.0 ∙ is) (xs ++ ys) (all_append (Names c) xs ys stored_before stored_after) in
+      let stored = each_weaker (Names c) (Names one) (λ n is. joins.keeps.objects n.0 ∙ is) (xs ++ ys) (all_append (Names c) xs ys stored_before stored_after) in
       before_last one (IsStop one) None None (stops_of (xs ++ ys)) ring tt (stops_stored one (xs ++ ys) stored)
 
   -- after it was joined to the tail instead
@@ -213,7 +205,7 @@ module _ (c : Chain) (nodes xs ys : List Keyed) (k : ℕ) (o : Object) (linked :
             (apart_append (None ∷ stops_of (xs ++ ys)) (Some k ∷ []) apart_both (tt, tt) (off_each (Some k) (None ∷ stops_of (xs ++ ys)) (none_some k, off_both)));
         stored =
             all_append (Names new) (xs ++ ys) ((k, o) ∷ [])
-            (all_weaker (Names c) (Names new) (λ n is. same n.0 ∙ is) (xs ++ ys) (all_append (Names c) xs ys stored_before stored_after)) (same k ∙ names_at, tt);
+            (each_weaker (Names c) (Names new) (λ n is. same n.0 ∙ is) (xs ++ ys) (all_append (Names c) xs ys stored_before stored_after)) (same k ∙ names_at, tt);
         count = omega (arith, third.keeps.len, second.keeps.len, first.keeps.len, linked.count, lengths, length-append (xs ++ ys) ((k, o) ∷ []));
       }
 

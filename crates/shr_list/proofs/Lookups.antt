@@ -1,13 +1,7 @@
 -- A look-up of a name by its print, whose node says whose it is.
-use Rattle.std.proofs.Common.{◌≡◌, ℕ, Bool, true, false, List, ◌∷◌, ◌++◌, Some, sym, ap, subst, ◌∙◌}
-use Rattle.std.specs.Prelude.{Result, Ok, Err, IfOk, OnErr}
+use Rattle.shr_list.proofs.Common.{◌≡◌, ℕ, Bool, true, false, List, ◌∷◌, ◌++◌, Some, sym, ap, subst, ◌∙◌, Result, Ok, Err, OnErr, Object, is_named, Names, Keyed, found_clash, AddsClash, IsSameClashes, Name, name_by, print_of, entry_at, in_nodes, IsIndexed, AddsName, Keeps}
+use Rattle.std.specs.Prelude.{IfOk}
 use Rattle.shr_base.specs.declared.memory.Memory.{Memory}
-use Rattle.shr_base.specs.declared.objects.Object.{Object}
-use Rattle.shr_model.specs.Objects.{is_named}
-use Rattle.shr_list.specs.declared.queue.names.Names.{Names}
-use Rattle.shr_list.specs.Nodes.{Keyed}
-use Rattle.shr_list.specs.Clashes.{found_clash, AddsClash, IsSameClashes}
-use Rattle.shr_list.specs.Names.{Name, name_by, print_of, entry_at, in_nodes, IsIndexed, AddsName, Keeps}
 use Rattle.shr_list.proofs.Fitting.{entry_owner, owned_else, fits_kept, gains_clash}
 use Rattle.shr_list.proofs.Indexed.{found_at, named_is, named_itself}
 

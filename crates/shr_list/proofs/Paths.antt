@@ -1,10 +1,6 @@
 -- Paths of stops that name each other, over changes of a chain.
-use Rattle.std.proofs.Common.{◌≢◌, ℕ, List, [], ◌∷◌, ◌++◌, Option, None, sym, subst, ◌∙◌, append_assoc}
-use Rattle.std.proofs.lemmas.List.{append-nil}
-use Rattle.std.specs.List.{AllByRecursion}
-use Rattle.shr_list.specs.declared.queue.chain.Chain.{Chain}
-use Rattle.shr_list.specs.Nodes.{IsOff, IsApart}
-use Rattle.shr_list.specs.Links.{next_of, prev_of, IsJoined, IsPath, KeepsLinks, Joins}
+use Rattle.shr_list.proofs.Common.{◌≢◌, ℕ, List, [], ◌∷◌, ◌++◌, Option, None, sym, subst, ◌∙◌, append_assoc, append-nil, AllByRecursion, Chain, IsOff, IsApart, next_of, prev_of, IsPath, KeepsLinks, Joins, each_weaker}
+use Rattle.shr_list.specs.Links.{IsJoined}
 
 module _ {X : Type 0} (P : X → Type 0) where
   pub all_append : (xs ys : List X) → AllByRecursion P xs → AllByRecursion P ys → AllByRecursion P (xs ++ ys)
@@ -18,10 +14,6 @@ module _ {X : Type 0} (P : X → Type 0) where
   pub all_right : (xs ys : List X) → AllByRecursion P (xs ++ ys) → AllByRecursion P ys
   all_right [] ys all = all
   all_right (x ∷ xs) ys all = all_right xs ys all.1
-
-pub all_weaker : {X : Type 0} (P Q : X → Type 0) → ((x : X) → P x → Q x) → (xs : List X) → AllByRecursion P xs → AllByRecursion Q xs
-all_weaker P Q weaker [] all = tt
-all_weaker P Q weaker (x ∷ xs) all = (weaker x all.0, all_weaker P Q weaker xs all.1)
 
 module _ {X : Type 0} where
   -- each of the second list is off the first
@@ -133,7 +125,7 @@ ring_without old new s xs (y ∷ ys) joins apart ring =
     let turned = path_turned old new None s y xs joined (apart_left (None ∷ xs) (s ∷ y ∷ ys) apart) off_y cut.0 in
     let p = prev_of old s in
     let far : AllByRecursion (λ (t : Option ℕ). t ≢ p) (y ∷ ys) =
-    before_last old (λ (q : Option ℕ). IsOff q (y ∷ ys)) None s xs cut.0 across.0.1 (all_weaker (λ (x : Option ℕ). IsOff x (s ∷ y ∷ ys)) (λ (x : Option ℕ). IsOff x (y ∷ ys)) (λ x off. off.1) xs across.1) in
+    before_last old (λ (q : Option ℕ). IsOff q (y ∷ ys)) None s xs cut.0 across.0.1 (each_weaker (λ (x : Option ℕ). IsOff x (s ∷ y ∷ ys)) (λ (x : Option ℕ). IsOff x (y ∷ ys)) (λ x off. off.1) xs across.1) in
     let kept = path_kept old new p y y None ys joined.links far.0 far.1 tail_apart.1.0 (λ e. across.0.1.0 (sym e)) cut.1.1 in
     rw append_assoc (path_glue new None y xs (ys ++ None ∷ []) turned kept)
   where

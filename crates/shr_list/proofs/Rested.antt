@@ -1,13 +1,6 @@
 -- The objects of a chain that is at rest.
-use Rattle.std.proofs.Common.{◌≡◌, ℕ, zero, suc, List, [], ◌∷◌, length, Option, Some, None, refl, sym, ap, ◌∙◌}
-use Rattle.std.proofs.lemmas.List.{length-map}
-use Rattle.slab.specs.Slab.{Slab, get, slab_len}
-use Rattle.shr_base.specs.declared.items.Node.{Node}
-use Rattle.shr_base.specs.declared.objects.Object.{Object}
+use Rattle.shr_list.proofs.Common.{◌≡◌, ℕ, zero, suc, List, [], ◌∷◌, length, Option, Some, None, refl, sym, ap, ◌∙◌, length-map, Slab, get, slab_len, Node, Object, Chain, Keyed, objects_of, IsLinked, nodes_from, nodes_of}
 use Rattle.shr_base.specs.Rest.{objects_from}
-use Rattle.shr_list.specs.declared.queue.chain.Chain.{Chain}
-use Rattle.shr_list.specs.Nodes.{Keyed, objects_of}
-use Rattle.shr_list.specs.Links.{IsLinked, nodes_from, nodes_of}
 
 same_from : (s : Slab Node) (n : ℕ) (at : Option ℕ) → objects_from s n at ≡ objects_of (nodes_from s n at)
 same_from s zero at = refl

@@ -1,14 +1,10 @@
 -- The slots of a list, and the keys that its objects keep.
-use Rattle.std.proofs.Common.{◌≡◌, ℕ, zero, suc, ◌≤◌, List, [], ◌∷◌, ◌++◌, length, map, take, Some, refl, sym, subst, ap, ◌∙◌, inl, inr, arith, Contains}
-use Rattle.std.specs.Prelude.{slice_get}
-use Rattle.std.specs.List.{AllByRecursion, zip}
-use Rattle.std.proofs.lemmas.List.{map-append}
+use Rattle.shr_list.proofs.Common.{◌≡◌, ℕ, zero, suc, ◌≤◌, List, [], ◌∷◌, ◌++◌, length, take, Some, refl, sym, subst, ap, ◌∙◌, inl, inr, arith, slice_get, AllByRecursion, map-append, Object, IsOff, IsApart, Keyed, Queued, IsWhole, keys_of, objects_of, AreKept, last_key, key_at, name_by, names_of, stops_of, each_weaker}
+use Rattle.std.proofs.Common.{map, Contains}
+use Rattle.std.specs.List.{zip}
 use Rattle.slab.proofs.SlabLemmas.{Contains-cons, Contains-cons_cases}
-use Rattle.shr_base.specs.declared.objects.Object.{Object}
-use Rattle.shr_list.specs.Nodes.{IsOff, IsApart, Keyed, Queued, IsWhole, bare, keys_of, objects_of, tags_of, AreKept, KeepsKeys, last_key, key_at, key_before}
-use Rattle.shr_list.specs.Names.{name_by, names_of}
-use Rattle.shr_list.specs.Links.{stops_of}
-use Rattle.shr_list.proofs.Paths.{all_append, all_left, all_right, all_weaker}
+use Rattle.shr_list.specs.Nodes.{bare, tags_of, KeepsKeys, key_before}
+use Rattle.shr_list.proofs.Paths.{all_append, all_left, all_right}
 
 pub key_got : (nodes : List Keyed) (i : ℕ) → key_at i nodes ≡ slice_get (keys_of nodes) i
 key_got [] zero = refl
@@ -51,7 +47,7 @@ pub kept_itself : (nodes : List Keyed) → AreKept nodes nodes
 kept_itself [] = tt
 kept_itself (n ∷ ns) = (
   (0, omega arith, refl),
-  all_weaker (IsKeptIn ns) (IsKeptIn (n ∷ ns)) (λ m there. Contains-cons (n.0, bare n.1) (m.0, bare m.1) (tags_of ns) there) ns (kept_itself ns),
+  each_weaker (IsKeptIn ns) (IsKeptIn (n ∷ ns)) (λ m there. Contains-cons (n.0, bare n.1) (m.0, bare m.1) (tags_of ns) there) ns (kept_itself ns),
 )
 
 module _ (old xs ys : List Keyed) (k : ℕ) (o : Object) (kept : AreKept old (xs ++ (k, o) ∷ ys)) where
@@ -88,13 +84,13 @@ keys_said old new all =
 
 -- nodes that are kept keep their keys
 pub keys_kept : (old new : List Keyed) → AreKept old new → KeepsKeys (keys_of old) (objects_of old) (keys_of new) (objects_of new)
-keys_kept old new kept = keys_said old new (all_weaker (IsKeptIn old) (KeepsItsKey old) (λ n there was. there) new kept)
+keys_kept old new kept = keys_said old new (each_weaker (IsKeptIn old) (KeepsItsKey old) (λ n there was. there) new kept)
 
 -- what was not moved has its key
 pub keys_same : (keys : List ℕ) (items : List Object) → KeepsKeys keys items keys items
 keys_same keys items =
     let nodes = zip keys items in
-    all_weaker (IsKeptIn nodes) (λ (n : Keyed). Contains (map bare items) (bare n.1) → IsKeptIn nodes n) (λ n there was. there) nodes (kept_itself nodes)
+    each_weaker (IsKeptIn nodes) (λ (n : Keyed). Contains (map bare items) (bare n.1) → IsKeptIn nodes n) (λ n there was. there) nodes (kept_itself nodes)
 
 -- and where none is listed none was moved
 pub keys_none : (keys : List ℕ) (items : List Object) (new_keys : List ℕ) → KeepsKeys keys items new_keys []
@@ -127,7 +123,7 @@ pub keys_pushed : (nodes : List Keyed) (k : ℕ) (o : Object) → IsOff (o.birth
     → KeepsKeys (keys_of nodes) (objects_of nodes) (keys_of (nodes ++ (k, o) ∷ [])) (objects_of (nodes ++ (k, o) ∷ []))
 keys_pushed nodes k o off =
     keys_said nodes (nodes ++ (k, o) ∷ []) (all_append (KeepsItsKey nodes) nodes ((k, o) ∷ [])
-    (all_weaker (IsKeptIn nodes) (KeepsItsKey nodes) (λ n there was. there) nodes (kept_itself nodes))
+    (each_weaker (IsKeptIn nodes) (KeepsItsKey nodes) (λ n there was. there) nodes (kept_itself nodes))
     (λ was. absurd (none_bare nodes o off was), tt))
 
 -- the same of queues

@@ -1,11 +1,6 @@
 -- The index over the objects of another list: admitted, withdrawn again, and found at their new nodes.
-use Rattle.std.proofs.Common.{◌≡◌, ℕ, List, [], ◌∷◌, ◌++◌, length, take, Option, Some, None, refl, sym, ap, subst, ◌∙◌, arith, append_assoc}
-use Rattle.std.proofs.lemmas.List.{append-nil, length-map, take-append-le, take_all}
-use Rattle.std.specs.List.{AllByRecursion}
-use Rattle.shr_base.specs.declared.objects.Object.{Object}
-use Rattle.shr_list.specs.declared.queue.names.Names.{Names}
-use Rattle.shr_list.specs.Nodes.{Keyed, objects_of, IsApart}
-use Rattle.shr_list.specs.Names.{name_by, name_in, names_of, in_nodes, Keeps, GainsName, Turns, IsIndexed, AreNew, Withdraws, Enters}
+use Rattle.shr_list.proofs.Common.{◌≡◌, ℕ, List, [], ◌∷◌, ◌++◌, length, take, Option, Some, None, refl, sym, ap, subst, ◌∙◌, arith, append_assoc, append-nil, length-map, AllByRecursion, Object, Names, Keyed, objects_of, IsApart, name_by, name_in, names_of, in_nodes, Keeps, GainsName, Turns, IsIndexed, AreNew, Withdraws, Enters}
+use Rattle.std.proofs.lemmas.List.{take-append-le, take_all}
 use Rattle.shr_list.proofs.Paths.{all_right}
 use Rattle.shr_list.proofs.Indexed.{first_of, in_append, none_off, off_first, indexed_kept, indexed_pushed, indexed_removed, indexed_turned, indexed_swapped}
 

@@ -1,10 +1,5 @@
 -- A walk over nodes from the head by their keys.
-use Rattle.std.proofs.Common.{◌≡◌, ℕ, zero, suc, ◌+◌, ◌<◌, ◌≤◌, List, [], ◌∷◌, ◌++◌, length, take, drop, Some, None, refl, sym, ap, arith, true, false}
-use Rattle.std.specs.Prelude.{slice_get}
-use Rattle.std.proofs.lemmas.List.{drop_all}
-use Rattle.shr_model.specs.Objects.{is_named}
-use Rattle.shr_base.specs.declared.objects.Object.{Object}
-use Rattle.shr_list.specs.Nodes.{Keyed, objects_of, first_key, last_key, key_at, key_named, IsAt}
+use Rattle.shr_list.proofs.Common.{◌≡◌, ℕ, zero, suc, ◌+◌, ◌<◌, ◌≤◌, List, [], ◌∷◌, ◌++◌, length, take, drop, Some, None, refl, sym, ap, arith, true, false, slice_get, drop_all, is_named, Object, Keyed, objects_of, first_key, last_key, key_at, key_named, IsAt}
 
 -- the node that a walk has come to
 pub record Here (nodes : List Keyed) (met k : ℕ) : Type 0 where

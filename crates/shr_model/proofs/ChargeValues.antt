@@ -1,12 +1,6 @@
 -- The histories of groups and the journal of offlining at known values.
-use Rattle.std.proofs.Common.{lit<}
-use Rattle.std.specs.Prelude.{◌≡◌, ℕ, ℤ, pos, Bool, true, false, List, [], ◌∷◌, take, drop, Some, refl}
-use Rattle.shr_base.specs.declared.journals.UseStep.{UseStep}
-use Rattle.shr_base.specs.declared.places.Serial.{Serial}
-use Rattle.shr_base.specs.declared.journals.TreeEntry.{TreeEntry}
-use Rattle.shr_base.specs.declared.journals.TreeEntry.TheVariants.{Begin, Done}
-use Rattle.shr_model.specs.Charges.{usage_after, IsNextUse, IsDownNext}
-use Rattle.shr_model.specs.Groups.{Hierarchy}
+use Rattle.shr_model.proofs.Common.{lit<, ◌≡◌, ℕ, ℤ, pos, Bool, true, false, List, [], ◌∷◌, take, drop, Some, refl, UseStep, Serial, TreeEntry, Begin, Done, IsNextUse, IsDownNext, Hierarchy}
+use Rattle.shr_model.specs.Charges.{usage_after}
 use Rattle.shr_model.specs.TreeJournal.{begin_of, done_of, undone_child, MayBegin, MayBeDone}
 
 abbrev first_command : Serial

@@ -1,26 +1,11 @@
 -- Journals of all places, when one of them gains a legal entry: what the others leave stays, and
 -- the family stays legal.
-use Rattle.std.specs.Prelude.{◌≡◌, ◌≢◌, ◌⊎◌, ℕ, zero, suc, ◌+◌, ◌<◌, ◌≤◌, Bool, true, false, not, ◌==◌, ◌||◌, cond, List, [], ◌∷◌, ◌++◌, length, take, slice_get, refl, Some, None, Option}
-use Rattle.std.proofs.Common.{ap, sym, ◌∙◌, subst, arith, inl, inr, ⊎_elim}
-use Rattle.std.proofs.lemmas.Bool.{ne_eqb}
-use Rattle.std.proofs.lemmas.List.{take_all, take-append-le}
-use Rattle.std.proofs.lemmas.List.Sums.{take_while-cons}
-use Rattle.shr_base.specs.declared.objects.Object.{Object}
-use Rattle.shr_base.specs.declared.places.Place.{Place}
-use Rattle.shr_base.specs.declared.journals.Entry.{Entry}
-use Rattle.shr_base.specs.declared.journals.Entry.TheVariants.{Add, Look, Drop, Pin, Scan, MovedIn, Closed, Drained}
-use Rattle.shr_model.specs.Places.{at_group}
-use Rattle.shr_model.specs.Groups.{IsTree, is_child}
-use Rattle.shr_model.specs.Items.{first_moved, step, IsOutcome, items_from, AreOutcomes, is_closing, is_closed}
-use Rattle.shr_model.specs.Families.{Family, moved_in, before_closed, without_child, lists_moved, items_within, items_given, lists_moved_at, items_at, items_of, moved_by, IsAllowed, MayStand, IsLegal}
+use Rattle.shr_model.proofs.Common.{◌≡◌, ◌≢◌, ◌⊎◌, ℕ, zero, suc, ◌+◌, ◌<◌, ◌≤◌, Bool, true, false, not, ◌==◌, ◌||◌, cond, List, [], ◌∷◌, ◌++◌, length, take, slice_get, refl, Some, None, Option, ap, sym, ◌∙◌, subst, arith, inl, inr, ⊎_elim, ne_eqb, take_all, take-append-le, take_while-cons, Object, Place, Entry, Add, Look, Drop, Pin, Scan, MovedIn, Closed, Drained, at_group, IsTree, is_child, first_moved, step, IsOutcome, is_closing, is_closed, Family, moved_in, before_closed, without_child, items_given, lists_moved_at, items_at, items_of, IsAllowed, MayStand, IsLegal}
+use Rattle.shr_model.specs.Items.{items_from, AreOutcomes}
+use Rattle.shr_model.specs.Families.{lists_moved, items_within, moved_by}
 use Rattle.shr_model.proofs.Members.{Has, Contains_from_Has}
-use Rattle.shr_model.proofs.MovesLaws.{same_items_within}
+use Rattle.shr_model.proofs.MovesLaws.{same_items_within, cond_agree, items_from_take}
 use Rattle.shr_model.proofs.GroupsLaws.{child_takes, child_higher}
-
--- what a cond gives where its test holds
-cond_agree : {X : Type 0} (b : Bool) (x y z : X) → (b ≡ true → x ≡ y) → cond b x z ≡ cond b y z
-cond_agree true x y z h = h refl
-cond_agree false x y z h = refl
 
 -- the lists that are moved in are those of the children that are moved in
 lists_same : (took took' : ℕ → List Object) (es : List Entry) → ((c : ℕ) → Has (moved_in es) c → took' c ≡ took c) → lists_moved took' es ≡ lists_moved took es
@@ -38,22 +23,8 @@ lists_same took took' (MovedIn child objects ∷ es) h =
 lists_same took took' (Closed ∷ es) h = lists_same took took' es h
 lists_same took took' (Drained by objects ∷ es) h = lists_same took took' es h
 
--- what the first entries leave does not depend on lists that later ones move
-items_from_take : (took : ℕ → List Object) (items : List Object) (es : List Entry) (n : ℕ) → items_from (lists_moved took es) items (take n es) ≡ items_from (lists_moved took (take n es)) items (take n es)
-unfolding items_from lists_moved
-items_from_take took items es zero = refl
-items_from_take took items [] (suc n) = refl
-items_from_take took items (Add by birth added key value ∷ es) (suc n) = items_from_take took (step [] items (Add by birth added key value)) es n
-items_from_take took items (Look by birth key hit ∷ es) (suc n) = items_from_take took (step [] items (Look by birth key hit)) es n
-items_from_take took items (Drop by birth key kind ∷ es) (suc n) = items_from_take took (step [] items (Drop by birth key kind)) es n
-items_from_take took items (Pin by birth key pinned hit ∷ es) (suc n) = items_from_take took (step [] items (Pin by birth key pinned hit)) es n
-items_from_take took items (Scan worker walk asked policy visits freed stopped ∷ es) (suc n) = items_from_take took (step [] items (Scan worker walk asked policy visits freed stopped)) es n
-items_from_take took items (MovedIn child objects ∷ es) (suc n) = items_from_take (without_child child took) (took child ++ items) es n
-items_from_take took items (Closed ∷ es) (suc n) = items_from_take took [] es n
-items_from_take took items (Drained by objects ∷ es) (suc n) = items_from_take took [] es n
-
 -- the children that a prefix moves in
-taken_has : (es : List Entry) (n c : ℕ) → Has (moved_in (take n es)) c → Has (moved_in es) c
+pub taken_has : (es : List Entry) (n c : ℕ) → Has (moved_in (take n es)) c → Has (moved_in es) c
 taken_has es zero c h = absurd h
 taken_has [] (suc n) c h = absurd h
 taken_has (Add by birth added key value ∷ es) (suc n) c h = taken_has es n c h

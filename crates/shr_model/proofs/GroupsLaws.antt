@@ -1,23 +1,21 @@
 -- Laws of the tree of groups: paths, at or above, and preorder.
-use Rattle.std.proofs.Common.{◌≡◌, ◌≢◌, ℕ, zero, suc, ◌+◌, ◌≤◌, ◌<◌, Bool, true, false, cond, not, ◌&&◌, ◌||◌, List, [], ◌∷◌, ◌++◌, length, get_or, set, map, filter, refl, sym, ap, subst, ◌∙◌, ⊎_elim, arith}
-use Rattle.std.specs.Prelude.{◌==◌, nat_lt, flat_map}
-use Rattle.std.specs.List.{range_with_len}
-use Rattle.std.proofs.lemmas.Bool.Decides.{nat_tests}
+use Rattle.shr_model.proofs.Common.{◌≡◌, ◌≢◌, ℕ, zero, suc, ◌+◌, ◌≤◌, ◌<◌, Bool, true, false, cond, not, ◌&&◌, ◌||◌, List, [], ◌∷◌, ◌++◌, length, get_or, set, map, filter, refl, sym, ap, subst, ◌∙◌, ⊎_elim, arith, ◌==◌, flat_map, range_with_len, nat_tests, append-nil, Hierarchy, IsHierarchy, is_later, parent_of, IsTree, path_of, depth_of, is_child, children_of, preorder_of}
+use Rattle.std.specs.Prelude.{nat_lt}
 use Rattle.std.proofs.lemmas.Bool.{cases_lt}
-use Rattle.std.proofs.lemmas.List.{append-nil, map-id, length_push, get_or_push, get_or_append_left, same_lists, get_or-set_same, get_or-set_other, length-set}
+use Rattle.std.proofs.lemmas.List.{map-id, length_push, get_or_push, get_or_append_left, same_lists, get_or-set_same, get_or-set_other, length-set}
 use Rattle.std.proofs.lemmas.List.FromFn.{map-range_with_len_more, length-map-range_with_len, get_or-map-range_with_len}
 use Rattle.std.proofs.lemmas.List.Elements.{filter-append, filter_passes}
-use Rattle.shr_model.specs.Groups.{Hierarchy, IsHierarchy, is_later, parent_of, IsTree, path_within, path_of, depth_of, is_child, children_of, preorder_within, preorder_of}
+use Rattle.shr_model.specs.Groups.{path_within, preorder_within}
 
 -- ---- tests
 
-above_zero : (g : ℕ) → (g == 0) ≡ false → 0 < g
+pub above_zero : (g : ℕ) → (g == 0) ≡ false → 0 < g
 above_zero g e = grind (arith, nat_tests)
 
 is_zero : (g : ℕ) → (g == 0) ≡ true → g ≡ 0
 is_zero g e = grind (arith, nat_tests)
 
-not_zero : (g : ℕ) → 0 < g → (g == 0) ≡ false
+pub not_zero : (g : ℕ) → 0 < g → (g == 0) ≡ false
 not_zero g h = grind (arith, nat_tests)
 
 -- what a child is

@@ -1,12 +1,10 @@
 -- At or above is a partial order, and the preorder of a group has each group of its subtree once,
 -- children behind parents.
-use Rattle.std.proofs.Common.{◌≡◌, ◌≢◌, ℕ, zero, suc, ◌+◌, ◌≤◌, ◌<◌, List, [], ◌∷◌, ◌++◌, length, take, get_or, refl, sym, subst, ◌∙◌, ◌⊎◌, inl, inr, arith, append_assoc}
-use Rattle.std.specs.Prelude.{flat_map, Contains, AllPairs}
-use Rattle.std.specs.List.{range_with_len, AllByRecursion}
-use Rattle.std.proofs.lemmas.List.{append-nil}
+use Rattle.shr_model.proofs.Common.{◌≡◌, ◌≢◌, ℕ, zero, suc, ◌+◌, ◌≤◌, ◌<◌, List, [], ◌∷◌, ◌++◌, length, take, get_or, refl, sym, subst, ◌∙◌, ◌⊎◌, inl, inr, arith, append_assoc, flat_map, Contains, range_with_len, AllByRecursion, append-nil, parent_of, IsTree, path_of, IsAtOrAbove, is_child, children_of, preorder_of}
+use Rattle.std.specs.Prelude.{AllPairs}
 use Rattle.std.proofs.lemmas.List.Elements.{Contains-get_or}
 use Rattle.std.proofs.lemmas.List.FromFn.{length-range_with_len, get_or-range_with_len}
-use Rattle.shr_model.specs.Groups.{parent_of, IsTree, path_of, IsAtOrAbove, is_child, children_of, preorder_within, preorder_of}
+use Rattle.shr_model.specs.Groups.{preorder_within}
 use Rattle.shr_model.proofs.GroupsLaws.{IsChild, child_takes, child_again, child_higher, path_of-root, path_of-below, preorder_of-group, subtrees_of}
 use Rattle.shr_model.proofs.Members.{Has, each_has, Has_from_Contains, Contains_from_Has, Has_flat_map, flat_map_has, Has_filter, filter_has, AreApart_append, AreApart_filter}
 use Rattle.shr_model.proofs.BagLaws.{AreApart}

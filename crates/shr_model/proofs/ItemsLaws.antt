@@ -1,12 +1,8 @@
 -- One entry more.
-use Rattle.std.specs.Prelude.{◌≡◌, false, List, [], ◌∷◌, ◌++◌, ◌≤◌, length, take, refl}
-use Rattle.std.proofs.Common.{ap, sym, subst, ◌∙◌, inl, inr, arith, length-append}
-use Rattle.std.proofs.lemmas.List.{take-append-le}
+use Rattle.shr_model.proofs.Common.{◌≡◌, false, List, [], ◌∷◌, ◌++◌, ◌≤◌, length, take, refl, ap, sym, subst, ◌∙◌, inl, inr, arith, length-append, take-append-le, Object, Entry, step, IsOutcome, first_moved, later_moved, is_closed, IsOpenBeforeEach, HasJournal}
 use Rattle.std.proofs.Math.Nat.{eq-or-lt_of_le}
 use Rattle.std.proofs.Math.Seq.{take-length}
-use Rattle.shr_base.specs.declared.objects.Object.{Object}
-use Rattle.shr_base.specs.declared.journals.Entry.{Entry}
-use Rattle.shr_model.specs.Items.{step, IsOutcome, first_moved, later_moved, items_from, AreOutcomes, moved_from, is_closed, IsOpenBeforeEach, HasJournal}
+use Rattle.shr_model.specs.Items.{items_from, AreOutcomes, moved_from}
 
 -- what one entry more leaves is its step on what the others leave
 pub items_from_push : (moved : List (List Object)) (items : List Object) (es : List Entry) (e : Entry) → items_from moved items (es ++ e ∷ []) ≡ step (first_moved (moved_from moved es)) (items_from moved items es) e

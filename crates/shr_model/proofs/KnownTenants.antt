@@ -1,11 +1,7 @@
 -- The definitions on entries of tenants at known values.
-use Rattle.std.specs.Prelude.{◌≡◌, true, false, List, [], ◌∷◌, map, codes, refl, Some, None}
-use Rattle.shr_base.specs.declared.objects.Policy.TheVariants.{Clock}
-use Rattle.shr_base.specs.declared.places.Serial.{Serial}
+use Rattle.shr_model.proofs.Common.{◌≡◌, true, false, List, [], ◌∷◌, map, codes, refl, Some, None, Clock, Serial, Entry, Add, Look, Drop, Pin, Scan, MovedIn, Closed, Drained, is_tenant, AreTenant, birth_of}
 use Rattle.shr_base.specs.declared.journals.DropKind.TheVariants as kind
-use Rattle.shr_base.specs.declared.journals.Entry.{Entry}
-use Rattle.shr_base.specs.declared.journals.Entry.TheVariants.{Add, Look, Drop, Pin, Scan, MovedIn, Closed, Drained}
-use Rattle.shr_model.specs.Tenants.{is_tenant, AreTenant, by_of, birth_of}
+use Rattle.shr_model.specs.Tenants.{by_of}
 
 abbrev by : Serial
 by = record { worker = 1; command = 7 }

@@ -1,19 +1,11 @@
 -- The definitions at known values.
-use Rattle.std.specs.Prelude.{◌≡◌, ℕ, Bool, true, false, List, [], ◌∷◌, codes, refl, ◌==◌, if◌then◌else◌}
-use Rattle.shr_base.specs.declared.objects.Object.{Object}
-use Rattle.shr_base.specs.declared.objects.Policy.TheVariants.{Plain, Clock, Halt}
-use Rattle.shr_base.specs.declared.places.Place.{Place}
-use Rattle.shr_base.specs.declared.places.Serial.{Serial}
+use Rattle.shr_model.proofs.Common.{◌≡◌, ℕ, Bool, true, false, List, [], ◌∷◌, codes, refl, ◌==◌, if◌then◌else◌, Object, Plain, Clock, Halt, Place, Serial, Entry, Add, Look, Drop, Pin, MovedIn, Closed, place_number, unit_of, path_of, depth_of, preorder_of, fresh, marked_object, pinned_object, scan_of, Family, items_of, items_at, added_in, freed_in, listed_in}
 use Rattle.shr_base.specs.declared.journals.DropKind.TheVariants as kind
-use Rattle.shr_base.specs.declared.journals.Entry.{Entry}
-use Rattle.shr_base.specs.declared.journals.Entry.TheVariants.{Add, Look, Drop, Pin, MovedIn, Closed}
-use Rattle.shr_model.specs.Places.{place_number, unit_of, bit_of}
-use Rattle.shr_model.specs.Groups.{path_within, path_of, depth_of, preorder_within, preorder_of}
-use Rattle.shr_model.specs.Objects.{fresh, marked_object, pinned_object}
-use Rattle.shr_model.specs.Scan.{scan_from, scan_of}
+use Rattle.shr_model.specs.Places.{bit_of}
+use Rattle.shr_model.specs.Groups.{path_within, preorder_within}
+use Rattle.shr_model.specs.Scan.{scan_from}
 use Rattle.shr_model.specs.Items.{items_from, freed_from}
-use Rattle.shr_model.specs.Families.{Family, items_within, lists_moved, items_of, items_at}
-use Rattle.shr_model.specs.Bag.{added_in, freed_in, listed_in}
+use Rattle.shr_model.specs.Families.{items_within, lists_moved}
 
 -- id 64 is bit 0 of unit 1
 unit_of_64 : unit_of 64 ≡ 1

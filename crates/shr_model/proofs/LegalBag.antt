@@ -1,17 +1,5 @@
 -- What legal journals that fit together add is what they free and what they leave.
-use Rattle.std.specs.Prelude.{◌≡◌, ◌≢◌, ◌⊎◌, ℕ, ◌+◌, ◌<◌, true, List, [], ◌∷◌, ◌++◌, length, map, filter, flat_map, Contains, IsPermutation, refl}
-use Rattle.std.specs.List.{AllByRecursion}
-use Rattle.std.proofs.Common.{ap, sym, ◌∙◌, subst, arith, inl, inr}
-use Rattle.std.proofs.lemmas.Bool.{cases_Bool, both_ways}
-use Rattle.shr_base.specs.declared.objects.Object.{Object}
-use Rattle.shr_base.specs.declared.places.Place.{Place}
-use Rattle.shr_base.specs.declared.places.Serial.{Serial}
-use Rattle.shr_base.specs.declared.journals.Entry.{Entry}
-use Rattle.shr_model.specs.Places.{at_group}
-use Rattle.shr_model.specs.Groups.{IsTree, parent_of, is_child}
-use Rattle.shr_model.specs.Items.{is_closed}
-use Rattle.shr_model.specs.Families.{Family, moved_in, items_given, lists_moved_at, items_of, IsLegal, IsPaired}
-use Rattle.shr_model.specs.Bag.{added_by_all, added_in, freed_at, freed_in, listed_in}
+use Rattle.shr_model.proofs.Common.{◌≡◌, ◌≢◌, ◌⊎◌, ℕ, ◌+◌, ◌<◌, true, List, [], ◌∷◌, ◌++◌, length, map, filter, flat_map, Contains, IsPermutation, refl, AllByRecursion, ap, sym, ◌∙◌, subst, arith, inl, inr, cases_Bool, both_ways, Object, Place, Serial, Entry, at_group, IsTree, parent_of, is_child, is_closed, Family, moved_in, items_given, lists_moved_at, items_of, IsLegal, IsPaired, added_by_all, added_in, freed_at, freed_in, listed_in}
 use Rattle.shr_model.proofs.GroupsLaws.{child_takes}
 use Rattle.shr_model.proofs.BagLaws.{AreApart, each_weaker, each_append}
 use Rattle.shr_model.proofs.Members.{Has, Has_from_Contains, Contains_from_Has, each_has, Has_flat_map, flat_map_has, Has_map, map_has, Has_filter, filter_has, AreApart_append, AreApart_map, AreApart_filter, total, total_append, total_same}

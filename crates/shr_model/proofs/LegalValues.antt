@@ -1,19 +1,12 @@
 -- Journals and families at known values: which entries may stand, which journals are legal, which
 -- fit, and what they free.
-use Rattle.std.specs.Prelude.{◌≡◌, ℕ, zero, suc, true, false, List, [], ◌∷◌, codes, refl, ◌==◌, if◌then◌else◌, take, slice_get, Contains, Some, None, Option}
-use Rattle.std.proofs.Common.{lit<, subst, ap, arith, inl, inr}
-use Rattle.shr_base.specs.declared.objects.Policy.TheVariants.{Plain}
-use Rattle.shr_base.specs.declared.places.Place.{Place}
-use Rattle.shr_base.specs.declared.places.Serial.{Serial}
-use Rattle.shr_base.specs.declared.journals.Entry.{Entry}
-use Rattle.shr_base.specs.declared.journals.Entry.TheVariants.{Add, Look, Drop, Pin, Scan, MovedIn, Closed, Drained}
-use Rattle.shr_model.specs.Groups.{path_within, path_of, is_child}
+use Rattle.shr_model.proofs.Common.{◌≡◌, ℕ, zero, suc, true, false, List, [], ◌∷◌, codes, refl, ◌==◌, if◌then◌else◌, take, slice_get, Contains, Some, None, Option, lit<, subst, ap, arith, inl, inr, Plain, Place, Serial, Entry, Add, Look, Drop, Pin, Scan, MovedIn, Closed, Drained, path_of, is_child, IsOutcome, Family, IsLegal, IsPaired, IsBornAt, IsAllowed, MayStand, added_in, freed_in, listed_in, IsPermutation-sym, IsPermutation-to_front, length_permutation}
+use Rattle.shr_model.specs.Groups.{path_within}
 use Rattle.shr_model.specs.Scan.{scan_from}
 use Rattle.shr_base.specs.declared.journals.DropKind.TheVariants as kind
-use Rattle.shr_model.specs.Items.{items_from, freed_from, IsOutcome, AreOutcomes}
-use Rattle.shr_model.specs.Families.{Family, items_within, lists_moved, IsLegal, IsPaired, IsPairedAt, IsBornAt, IsAllowed, MayStand}
-use Rattle.shr_model.specs.Bag.{added_in, freed_in, listed_in, AreDistinct, IsBag}
-use Rattle.std.proofs.lemmas.List.Sorted.{IsPermutation-sym, IsPermutation-to_front, length_permutation}
+use Rattle.shr_model.specs.Items.{items_from, freed_from, AreOutcomes}
+use Rattle.shr_model.specs.Families.{items_within, lists_moved, IsPairedAt}
+use Rattle.shr_model.specs.Bag.{AreDistinct, IsBag}
 use Rattle.shr_model.proofs.Members.{Has, Has_from_Contains}
 use Rattle.shr_model.proofs.GroupsLaws.{child_takes}
 

@@ -1,3 +1,7 @@
+mod Common
+pub mod Lists
+pub mod Booleans
+pub mod Numbers
 pub mod ItemsLaws
 pub mod ListLaws
 pub mod ObjectLaws

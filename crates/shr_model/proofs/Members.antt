@@ -1,8 +1,5 @@
 -- Lists of pairwise different elements, and the elements of a list by recursion.
-use Rattle.std.specs.Prelude.{◌≡◌, ◌≢◌, ◌⊎◌, ℕ, zero, suc, ◌+◌, Bool, true, List, [], ◌∷◌, ◌++◌, map, filter, flat_map, Contains, refl}
-use Rattle.std.specs.List.{AllByRecursion}
-use Rattle.std.proofs.Common.{ap, sym, ◌∙◌, subst, arith, inl, inr}
-use Rattle.std.proofs.lemmas.Bool.{cases_Bool, cond_both}
+use Rattle.shr_model.proofs.Common.{◌≡◌, ◌≢◌, ◌⊎◌, ℕ, zero, suc, ◌+◌, Bool, true, List, [], ◌∷◌, ◌++◌, map, filter, flat_map, Contains, refl, AllByRecursion, ap, sym, ◌∙◌, subst, arith, inl, inr, cases_Bool, cond_both}
 use Rattle.shr_model.proofs.BagLaws.{AreApart, each_weaker, each_append}
 
 -- x is an element of the list

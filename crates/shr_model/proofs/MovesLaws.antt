@@ -1,19 +1,10 @@
 -- What a legal journal takes in from the children, and what it gives to the parent.
-use Rattle.std.specs.Prelude.{◌≡◌, ◌≢◌, ℕ, zero, suc, ◌+◌, ◌<◌, ◌≤◌, Bool, true, false, not, ◌==◌, cond, if◌then◌else◌, List, [], ◌∷◌, ◌++◌, length, take, slice_get, flat_map, Contains, refl, Some}
-use Rattle.std.specs.List.{AllByRecursion, prefix_len}
-use Rattle.std.proofs.Common.{ap, sym, ◌∙◌, subst, arith, inl, inr, append-nil, append_assoc}
-use Rattle.std.proofs.lemmas.Bool.{ne_eqb}
+use Rattle.shr_model.proofs.Common.{◌≡◌, ◌≢◌, ℕ, zero, suc, ◌+◌, ◌<◌, ◌≤◌, Bool, true, false, not, ◌==◌, cond, if◌then◌else◌, List, [], ◌∷◌, ◌++◌, length, take, slice_get, flat_map, Contains, refl, Some, AllByRecursion, prefix_len, ap, sym, ◌∙◌, subst, arith, inl, inr, append_assoc, ne_eqb, take_while-cons, Object, Place, Entry, Add, Look, Drop, Pin, Scan, MovedIn, Closed, Drained, at_group, IsTree, parent_of, is_child, first_moved, later_moved, step, is_closing, is_closed, IsOpenBeforeEach, Family, moved_in, before_closed, without_child, items_given, lists_moved_at, IsLegal}
+use Rattle.std.proofs.Common.{append-nil}
 use Rattle.std.proofs.lemmas.Option.{slice_get_cases}
 use Rattle.std.proofs.lemmas.List.Elements.{Contains-append_left, Contains-push}
-use Rattle.std.proofs.lemmas.List.Sums.{take_while-cons}
-use Rattle.shr_base.specs.declared.objects.Object.{Object}
-use Rattle.shr_base.specs.declared.places.Place.{Place}
-use Rattle.shr_base.specs.declared.journals.Entry.{Entry}
-use Rattle.shr_base.specs.declared.journals.Entry.TheVariants.{Add, Look, Drop, Pin, Scan, MovedIn, Closed, Drained}
-use Rattle.shr_model.specs.Places.{at_group}
-use Rattle.shr_model.specs.Groups.{IsTree, parent_of, is_child}
-use Rattle.shr_model.specs.Items.{first_moved, later_moved, step, items_from, is_closing, is_closed, IsOpenBeforeEach}
-use Rattle.shr_model.specs.Families.{Family, moved_in, before_closed, without_child, lists_moved, items_within, items_given, lists_moved_at, IsLegal}
+use Rattle.shr_model.specs.Items.{items_from}
+use Rattle.shr_model.specs.Families.{lists_moved, items_within}
 use Rattle.shr_model.proofs.GroupsLaws.{child_takes, child_again, child_higher}
 use Rattle.shr_model.proofs.BagLaws.{AreApart, each_weaker}
 use Rattle.shr_model.proofs.Weights.{given_by, taken_from, given_from}
@@ -21,7 +12,7 @@ use Rattle.shr_model.proofs.Weights.{given_by, taken_from, given_from}
 -- ---- levels
 
 -- what a cond gives where its test holds
-cond_agree : {X : Type 0} (b : Bool) (x y z : X) → (b ≡ true → x ≡ y) → cond b x z ≡ cond b y z
+pub cond_agree : {X : Type 0} (b : Bool) (x y z : X) → (b ≡ true → x ≡ y) → cond b x z ≡ cond b y z
 cond_agree true x y z h = h refl
 cond_agree false x y z h = refl
 
@@ -44,7 +35,7 @@ same_items_within parents tree family (suc k) (suc m) place es enough also withi
 -- ---- lists that move in
 
 -- what the first entries leave does not depend on lists that later ones move
-items_from_take : (took : ℕ → List Object) (items : List Object) (es : List Entry) (n : ℕ) → items_from (lists_moved took es) items (take n es) ≡ items_from (lists_moved took (take n es)) items (take n es)
+pub items_from_take : (took : ℕ → List Object) (items : List Object) (es : List Entry) (n : ℕ) → items_from (lists_moved took es) items (take n es) ≡ items_from (lists_moved took (take n es)) items (take n es)
 unfolding items_from lists_moved
 items_from_take took items es zero = refl
 items_from_take took items [] (suc n) = refl
@@ -173,7 +164,7 @@ open_legal parents family place legal n within = elim (slice_get_cases (family p
 ]
 
 -- a Closed stands somewhere in a journal that has one
-closed_at : (es : List Entry) → is_closed es ≡ true → (n : ℕ) × (slice_get es n ≡ Some Closed)
+pub closed_at : (es : List Entry) → is_closed es ≡ true → (n : ℕ) × (slice_get es n ≡ Some Closed)
 closed_at [] h = absurd (cc)
 closed_at (Add by birth added key value ∷ es) h = let rest = closed_at es h in (suc rest.0, rest.1)
 closed_at (Look by birth key hit ∷ es) h = let rest = closed_at es h in (suc rest.0, rest.1)

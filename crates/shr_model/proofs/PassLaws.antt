@@ -1,17 +1,15 @@
 -- What the loop of a pass knows at each turn, with n asks made and `left` to go.
-use Rattle.std.proofs.Common.{◌≡◌, ℕ, zero, suc, ◌+◌, ◌*◌, ◌/◌, ◌<◌, ◌≤◌, ◌⊎◌, true, false, cond, leb, min, take, replicate, sum, ap, sym, ◌∙◌, subst, ⊎_elim, arith, le-leb}
-use Rattle.std.proofs.lemmas.Bool.Decides.{nat_tests}
+use Rattle.shr_model.proofs.Common.{◌≡◌, ℕ, zero, suc, ◌+◌, ◌*◌, ◌<◌, ◌≤◌, ◌⊎◌, true, false, cond, leb, min, take, replicate, ap, sym, ◌∙◌, subst, ⊎_elim, arith, nat_tests, Some, None, cases_Bool, Through, Stop, ask_of, due_asks, FollowsArithmetic, batch_of, delta_of, total_of, next_of}
+use Rattle.std.proofs.Common.{◌/◌, sum, le-leb}
 use Rattle.std.proofs.lemmas.List.{take-replicate}
 use Rattle.std.proofs.lemmas.List.Folds.{sum_by-replicate}
 use Rattle.std.proofs.Math.Nat.{le-div_iff_mul-le, div-lt_iff_lt-mul}
 use mathlib.Core.Logic.{dite}
 use native.Mathlib.Decide.{dec_le}
-use Rattle.std.specs.Prelude.{Some, None}
-use Rattle.std.proofs.lemmas.Bool.{cases_Bool}
 use Rattle.shr_base.specs.declared.walks.Ending.{Ending}
-use Rattle.shr_base.specs.declared.walks.Ending.TheVariants.{Through, Stop, NoRoom, Worn}
+use Rattle.shr_base.specs.declared.walks.Ending.TheVariants.{NoRoom, Worn}
 use Rattle.shr_base.specs.declared.walks.PassRecord.{PassRecord}
-use Rattle.shr_model.specs.Pass.{goes_on, ask_of, due, ask_size, due_asks, MadeOf, FollowsArithmetic, batch_of, delta_of, total_of, next_of}
+use Rattle.shr_model.specs.Pass.{goes_on, due, ask_size, MadeOf}
 
 -- where the batch is at most what can be freed, each ask is a batch
 pub small_due : (b F total : ℕ) → b ≤ F → due b F total ≡ total / b
@@ -105,7 +103,7 @@ module _ (b F total left n : ℕ) (pos : 0 < b) (some-freeable : 0 < F) (most : 
   pub last_turn : None ≡ ask_of b left F → n ≡ due b F total
   last_turn e = asks_end b F total left n pos some-freeable most fits made (⊎_elim (λ t. absurd (none_apart (min b left) (sym (e ∙ ap (λ x. cond x (Some (min b left)) None) t)))) (λ t. t) (cases_Bool (goes_on b left F)))
 
-made_le : (n : ℕ) (e : Ending) (k : ℕ) → MadeOf n e k → n ≤ k
+pub made_le : (n : ℕ) (e : Ending) (k : ℕ) → MadeOf n e k → n ≤ k
 made_le n Through k h = omega (arith, h)
 made_le n Stop k h = omega (arith, h)
 made_le n NoRoom k h = omega (arith, h)

@@ -1,7 +1,6 @@
 -- The arithmetic of a pass and the deferred word at known values.
-use Rattle.std.specs.Prelude.{◌≡◌, ◌-◌, ◌^◌, refl, [], ◌∷◌, replicate, Some, None}
-use Rattle.shr_base.specs.declared.places.Place.{Place}
-use Rattle.shr_model.specs.Pass.{batch_of, delta_of, total_of, next_of, ask_of, due, ask_size, due_asks}
+use Rattle.shr_model.proofs.Common.{◌≡◌, ◌-◌, ◌^◌, refl, [], ◌∷◌, replicate, Some, None, Place, batch_of, delta_of, total_of, next_of, ask_of, due_asks}
+use Rattle.shr_model.specs.Pass.{due, ask_size}
 use Rattle.shr_model.specs.Deferred.{amount_of, sum_at, deferred_word}
 
 batch_default : batch_of 0 ≡ 128

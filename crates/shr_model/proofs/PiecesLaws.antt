@@ -1,9 +1,6 @@
 -- Parts that are joined are the bytes, and bytes that are cut are the parts.
-use Rattle.std.proofs.Common.{◌≡◌, ℕ, suc, ◌+◌, ◌≤◌, ◌<◌, Bool, true, false, cond, ◌&&◌, List, [], ◌∷◌, ◌++◌, length, take, drop, Option, Some, None, refl, sym, ap, ◌∙◌, arith, eq-eqb}
-use Rattle.std.specs.Prelude.{◌==◌, ◌-◌}
+use Rattle.shr_model.proofs.Common.{◌≡◌, ℕ, suc, ◌+◌, ◌≤◌, ◌<◌, Bool, true, false, cond, ◌&&◌, List, [], ◌∷◌, ◌++◌, length, take, drop, Option, Some, None, refl, sym, ap, ◌∙◌, arith, eq-eqb, ◌==◌, ◌-◌, nat_tests, prefix_len, list_all}
 use Rattle.std.proofs.lemmas.List.{take_rest}
-use Rattle.std.proofs.lemmas.Bool.Decides.{nat_tests}
-use Rattle.std.specs.List.{prefix_len, list_all}
 use Rattle.shr_model.specs.Pieces.{Parts, cut, pieces, joined, differs, is_part_of, left, next_of}
 
 pub one-add : (n : ℕ) → 1 + n ≡ suc n

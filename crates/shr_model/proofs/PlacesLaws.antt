@@ -1,11 +1,9 @@
 -- Places, and the ends of lists by place.
-use Rattle.std.specs.Prelude.{◌≡◌, ◌≢◌, ◌⊎◌, ℕ, zero, suc, ◌<◌, true, ◌&&◌, ◌==◌, List, [], ◌∷◌, length, map, find, slice_get, Contains, refl, Some, None}
+use Rattle.shr_model.proofs.Common.{◌≡◌, ◌≢◌, ◌⊎◌, ℕ, zero, suc, ◌<◌, true, ◌&&◌, ◌==◌, List, [], ◌∷◌, length, map, find, slice_get, Contains, refl, Some, None, ap, sym, ◌∙◌, inl, inr, cases_Bool, and_parts, and_from, eqb-true, Place, place_number}
 use Rattle.std.specs.List.{AllAdjacentBelow}
-use Rattle.std.proofs.Common.{ap, sym, ◌∙◌, inl, inr}
-use Rattle.std.proofs.lemmas.Bool.{cases_Bool, and_parts, and_from, eq-eqb, eqb-true}
-use Rattle.shr_base.specs.declared.places.Place.{Place}
+use Rattle.std.proofs.lemmas.Bool.{eq-eqb}
 use Rattle.shr_base.specs.declared.ends.PlaceEnd.{PlaceEnd}
-use Rattle.shr_model.specs.Places.{place_number, is_place}
+use Rattle.shr_model.specs.Places.{is_place}
 use Rattle.shr_model.proofs.BagLaws.{AreApart, AreApart_from_numbers}
 use Rattle.shr_model.proofs.Members.{Has, Contains_from_Has, each_has}
 

@@ -1,12 +1,7 @@
 -- The journal of registrations, one entry longer.
-use Rattle.std.proofs.Common.{◌≡◌, ◌≢◌, ◌⊎◌, ℕ, zero, suc, ◌+◌, ◌<◌, ◌≤◌, Bool, true, false, cond, eqb, leb, List, [], ◌∷◌, ◌++◌, length, take, sym, refl, ap, subst, ◌∙◌, inl, inr, ⊎_elim, arith, eq-eqb, ne_eqb, lt-ltb, le-ltb}
-use Rattle.std.specs.Prelude.{◌&&◌, Option, Some, None}
-use Rattle.std.proofs.lemmas.List.{take_all, take-append-le}
-use mathlib.Core.Option.{some, some-injective, some-ne-none}
-use lib.ListN.{get_elem?}
-use Rattle.shr_base.specs.declared.journals.PoolEntry.{PoolEntry}
-use Rattle.shr_base.specs.declared.journals.PoolEntry.TheVariants.{Registered, Unregistered, Idle}
-use Rattle.shr_model.specs.Pool.{id_of, phase_of, decl_after, decl_from, number_after, number_from, Registration, end_of, registrations, EndedBy, is_before, lies_in, decl_at, from_after, from_from, dying_in, IsNextPool, IsPoolJournal}
+use Rattle.shr_model.proofs.Common.{◌≡◌, ◌≢◌, ◌⊎◌, ℕ, zero, suc, ◌+◌, ◌<◌, ◌≤◌, Bool, true, false, cond, eqb, leb, List, [], ◌∷◌, ◌++◌, length, take, sym, refl, ap, subst, ◌∙◌, inl, inr, ⊎_elim, arith, eq-eqb, ◌&&◌, Option, Some, None, take_all, take-append-le, some, some-injective, some-ne-none, get_elem?, PoolEntry, Registered, Unregistered, Idle, IsNextPool, IsPoolJournal}
+use Rattle.std.proofs.Common.{ne_eqb, lt-ltb, le-ltb}
+use Rattle.shr_model.specs.Pool.{id_of, phase_of, decl_after, decl_from, number_after, number_from, Registration, end_of, registrations, EndedBy, is_before, lies_in, decl_at, from_after, from_from, dying_in}
 
 -- 1 where the entry is of the id
 abbrev pub one_of : ℕ → PoolEntry → ℕ
@@ -158,7 +153,7 @@ past_end : (n t : ℕ) (x : Option ℕ) → ((y : ℕ) → x ≡ Some y → y �
 past_end n t (Some x) h l = le-ltb n x (omega (arith, h x refl, l))
 past_end n t None h l = le-ltb n t l
 
-and_false : (b : Bool) → (b && false) ≡ false
+pub and_false : (b : Bool) → (b && false) ≡ false
 and_false true = refl
 and_false false = refl
 

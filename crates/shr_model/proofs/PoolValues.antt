@@ -1,7 +1,5 @@
 -- The journal of registrations at known values.
-use Rattle.std.specs.Prelude.{◌≡◌, List, [], ◌∷◌, Some, None, true, refl}
-use Rattle.shr_base.specs.declared.journals.PoolEntry.{PoolEntry}
-use Rattle.shr_base.specs.declared.journals.PoolEntry.TheVariants.{Registered, Unregistered, Idle}
+use Rattle.shr_model.proofs.Common.{◌≡◌, List, [], ◌∷◌, Some, None, true, refl, PoolEntry, Registered, Unregistered, Idle}
 use Rattle.shr_model.specs.Pool.{phase_of, decl_of, decl_from, last_number, number_from, is_live_decl, is_live_below, lowest_idle, lowest_free, end_of, registrations, decl_at, attempt_at}
 
 -- one cache is registered, unregistered after three lookups, and registered again

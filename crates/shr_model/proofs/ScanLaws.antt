@@ -1,17 +1,8 @@
 -- A scan, one visit after another.
-use Rattle.std.proofs.Common.{◌≡◌, cond, ℕ, zero, suc, ◌+◌, ◌≤◌, Bool, true, false, List, [], ◌∷◌, ◌++◌, length, refl, sym, ap, ◌∙◌, arith, append_assoc, length-append}
-use Rattle.std.specs.Prelude.{min, IsPermutation}
-use Rattle.std.specs.List.{AllByRecursion}
-use Rattle.std.proofs.lemmas.List.{append-nil, map-append, length-map}
-use Rattle.std.proofs.lemmas.List.Sorted.{IsPermutation-refl, IsPermutation-sym, IsPermutation-trans, IsPermutation-cons, IsPermutation-middle, IsPermutation-to_front, IsPermutation-append_right, length_permutation}
-use Rattle.shr_base.specs.declared.objects.Object.{Object}
-use Rattle.shr_base.specs.declared.objects.Policy.{Policy}
-use Rattle.shr_base.specs.declared.objects.Policy.TheVariants.{Plain, Clock, Halt}
-use Rattle.shr_model.specs.Objects.{unmarked_object}
-use Rattle.shr_base.specs.declared.objects.LruStatus.{LruStatus}
-use Rattle.shr_base.specs.declared.objects.LruStatus.TheVariants.{Removed, Rotate, Skip, Stop}
-use Rattle.shr_model.specs.Scan.{Scanned, case_of, scan_ends, after_visit, after_freeing, scan_from, scan_of}
-use Rattle.shr_model.specs.Bag.{serials_of}
+use Rattle.shr_model.proofs.Common.{◌≡◌, cond, ℕ, zero, suc, ◌+◌, ◌≤◌, Bool, true, false, List, [], ◌∷◌, ◌++◌, length, refl, sym, ap, ◌∙◌, arith, append_assoc, length-append, min, IsPermutation, AllByRecursion, append-nil, map-append, IsPermutation-refl, IsPermutation-sym, IsPermutation-trans, IsPermutation-cons, IsPermutation-middle, IsPermutation-to_front, IsPermutation-append_right, length_permutation, Object, Policy, Plain, Clock, Halt, unmarked_object, LruStatus, Removed, Rotate, Skip, Scanned, case_of, scan_ends, after_visit, after_freeing, scan_of, serials_of}
+use Rattle.std.proofs.lemmas.List.{length-map}
+use Rattle.shr_base.specs.declared.objects.LruStatus.TheVariants.{Stop}
+use Rattle.shr_model.specs.Scan.{scan_from}
 
 -- a scan without a budget
 pub scan_spent : (policy : Policy) (skipped items : List Object) → scan_from policy 0 skipped items ≡ scan_ends (skipped ++ items)

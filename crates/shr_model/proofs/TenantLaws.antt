@@ -1,20 +1,11 @@
 -- Journals in which each entry is a tenant's: nothing moves in, and nothing is closed.
-use Rattle.std.specs.Prelude.{◌≡◌, ℕ, zero, suc, ◌<◌, ◌≤◌, true, false, ◌==◌, List, [], ◌∷◌, ◌++◌, length, take, slice_get, Contains, refl, Some}
-use Rattle.std.specs.List.{list_all, AllByRecursion}
-use Rattle.std.proofs.Common.{ap, sym, ◌∙◌, subst, arith}
-use Rattle.std.proofs.lemmas.Bool.{and_parts, and_from, both_ways, cond_both, eqb-true, eqb-false}
+use Rattle.shr_model.proofs.Common.{◌≡◌, ℕ, zero, suc, ◌<◌, ◌≤◌, true, false, ◌==◌, List, [], ◌∷◌, ◌++◌, length, take, slice_get, Contains, refl, Some, list_all, AllByRecursion, ap, sym, ◌∙◌, subst, arith, and_parts, and_from, both_ways, cond_both, eqb-true, Object, Place, Entry, Add, Look, Drop, Pin, Scan, MovedIn, Closed, Drained, at_group, parent_of, IsTree, path_of, IsAtOrAbove, is_child, step, is_closed, HasJournal, Family, items_given, items_of, items_at, moved_in, IsBornAt, IsAllowed, IsLegal, IsPaired, freed_at, is_tenant, AreTenant, birth_of}
+use Rattle.std.proofs.lemmas.Bool.{eqb-false}
 use Rattle.std.proofs.lemmas.List.Elements.{All-contains, All-from_recursion}
 use Rattle.std.proofs.lemmas.List.Folds.{list_all-append}
-use Rattle.shr_base.specs.declared.objects.Object.{Object}
-use Rattle.shr_base.specs.declared.places.Place.{Place}
-use Rattle.shr_base.specs.declared.journals.Entry.{Entry}
-use Rattle.shr_base.specs.declared.journals.Entry.TheVariants.{Add, Look, Drop, Pin, Scan, MovedIn, Closed, Drained}
-use Rattle.shr_model.specs.Places.{at_group}
-use Rattle.shr_model.specs.Groups.{parent_of, IsTree, path_within, path_of, IsAtOrAbove, is_child}
-use Rattle.shr_model.specs.Items.{step, items_from, freed_from, AreOutcomes, is_closed, HasJournal}
-use Rattle.shr_model.specs.Families.{Family, lists_moved, items_given, items_of, items_at, moved_in, IsBornAt, IsAllowed, IsLegal, IsPaired}
-use Rattle.shr_model.specs.Bag.{freed_at}
-use Rattle.shr_model.specs.Tenants.{is_tenant, AreTenant, birth_of}
+use Rattle.shr_model.specs.Groups.{path_within}
+use Rattle.shr_model.specs.Items.{items_from, freed_from, AreOutcomes}
+use Rattle.shr_model.specs.Families.{lists_moved}
 use Rattle.shr_model.proofs.GroupsLaws.{child_takes, child_higher}
 
 -- such a journal may gain a tenant's entry

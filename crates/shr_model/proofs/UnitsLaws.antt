@@ -1,31 +1,21 @@
 -- The ids that the maps of several units show.
-use Rattle.std.proofs.Common.{◌≡◌, ℕ, zero, suc, ◌+◌, ◌*◌, ◌<◌, ◌≤◌, Bool, true, false, cond, List, [], ◌∷◌, ◌++◌, length, map, take, sym, ap, subst, ◌∙◌, arith, length-append}
-use Rattle.std.specs.Prelude.{filter, flat_map}
-use Rattle.std.specs.List.{AllByRecursion, range_with_len}
+use Rattle.shr_model.proofs.Common.{◌≡◌, ℕ, zero, suc, ◌+◌, ◌*◌, ◌<◌, ◌≤◌, Bool, true, false, cond, List, [], ◌∷◌, ◌++◌, length, map, take, sym, ap, subst, ◌∙◌, arith, length-append, filter, flat_map, AllByRecursion, range_with_len, set_bits_of, ids_in, unit_of}
 use Rattle.std.proofs.Math.Seq.{take-append_seam}
 use Rattle.std.proofs.lemmas.Grind.{flat_map-append}
 use Rattle.shr_base.specs.declared.walks.MapSeen.{MapSeen}
-use Rattle.shr_model.specs.Bits.{is_set, set_bits_of, ids_in}
-use Rattle.shr_model.specs.Places.{unit_of}
+use Rattle.shr_model.specs.Bits.{is_set}
+use Rattle.shr_model.proofs.BagLaws.{each_append, each_weaker}
 
 -- each number is above all before it
 abbrev pub Rise : List ℕ → Type 0
 Rise [] = Unit {0}
 Rise (x ∷ xs) = AllByRecursion (λ y. x < y) xs × Rise xs
 
-all_weaker : {A : Type 0} (P Q : A → Type 0) → ((x : A) → P x → Q x) → (xs : List A) → AllByRecursion P xs → AllByRecursion Q xs
-all_weaker P Q f [] h = tt
-all_weaker P Q f (x ∷ xs) h = (f x h.0, all_weaker P Q f xs h.1)
-
-all_append : {A : Type 0} (P : A → Type 0) (xs ys : List A) → AllByRecursion P xs → AllByRecursion P ys → AllByRecursion P (xs ++ ys)
-all_append P [] ys h k = k
-all_append P (x ∷ xs) ys h k = (h.0, all_append P xs ys h.1 k)
-
 -- one list that rises after another whose numbers are all below a bound
 rise_append : (n : ℕ) (xs ys : List ℕ) → AllByRecursion (λ x. x < n) xs → AllByRecursion (λ y. n ≤ y) ys → Rise xs → Rise ys → Rise (xs ++ ys)
 rise_append n [] ys low high r s = s
 rise_append n (x ∷ xs) ys low high r s = (
-  all_append (λ y. x < y) xs ys r.0 (all_weaker (λ y. n ≤ y) (λ y. x < y) (λ y p. let q = low.0 in omega (arith, p, q)) ys high),
+  each_append (λ y. x < y) xs ys r.0 (each_weaker (λ y. n ≤ y) (λ y. x < y) (λ y p. let q = low.0 in omega (arith, p, q)) ys high),
   rise_append n xs ys low.1 high r.1 s,
 )
 
@@ -33,7 +23,7 @@ rise_append n (x ∷ xs) ys low high r s = (
 all_set : (bits a n : ℕ) → AllByRecursion (λ x. (a ≤ x) × (x < a + n)) (filter (is_set bits) (range_with_len a n))
 all_set bits a zero = tt
 all_set bits a (suc n) =
-    let rest = all_weaker (λ x. (a + 1 ≤ x) × (x < a + 1 + n)) (λ x. (a ≤ x) × (x < a + suc n)) (λ x p. let q = p.0 in let r = p.1 in (omega (arith, q), omega (arith, r))) (filter (is_set bits) (range_with_len (a + 1) n)) (all_set bits (a + 1) n) in
+    let rest = each_weaker (λ x. (a + 1 ≤ x) × (x < a + 1 + n)) (λ x. (a ≤ x) × (x < a + suc n)) (λ x p. let q = p.0 in let r = p.1 in (omega (arith, q), omega (arith, r))) (filter (is_set bits) (range_with_len (a + 1) n)) (all_set bits (a + 1) n) in
     here (is_set bits a) rest
   where
     here : (b : Bool) → AllByRecursion (λ x. (a ≤ x) × (x < a + suc n)) (filter (is_set bits) (range_with_len (a + 1) n)) → AllByRecursion (λ x. (a ≤ x) × (x < a + suc n)) (cond b (a ∷ filter (is_set bits) (range_with_len (a + 1) n)) (filter (is_set bits) (range_with_len (a + 1) n)))
@@ -44,7 +34,7 @@ rise_set : (bits a n : ℕ) → Rise (filter (is_set bits) (range_with_len a n))
 rise_set bits a zero = tt
 rise_set bits a (suc n) = here (is_set bits a) (rise_set bits (a + 1) n) where
   here : (b : Bool) → Rise (filter (is_set bits) (range_with_len (a + 1) n)) → Rise (cond b (a ∷ filter (is_set bits) (range_with_len (a + 1) n)) (filter (is_set bits) (range_with_len (a + 1) n)))
-  here true rest = (all_weaker (λ x. (a + 1 ≤ x) × (x < a + 1 + n)) (λ x. a < x) (λ x p. let q = p.0 in omega (arith, q)) (filter (is_set bits) (range_with_len (a + 1) n)) (all_set bits (a + 1) n), rest)
+  here true rest = (each_weaker (λ x. (a + 1 ≤ x) × (x < a + 1 + n)) (λ x. a < x) (λ x p. let q = p.0 in omega (arith, q)) (filter (is_set bits) (range_with_len (a + 1) n)) (all_set bits (a + 1) n), rest)
   here false rest = rest
 
 all_moved : (k n : ℕ) (xs : List ℕ) → AllByRecursion (λ x. (0 ≤ x) × (x < 0 + n)) xs → AllByRecursion (λ x. (k ≤ x) × (x < k + n)) (map (λ (b : ℕ). k + b) xs)
@@ -76,9 +66,9 @@ unit_here m k e = subst (λ (u : ℕ). AllByRecursion (λ x. (64 * u ≤ x) × (
 -- the ids of maps of rising units from one on
 pub ids_from : (maps : List MapSeen) (k : ℕ) → map (λ (m : MapSeen). m.unit) maps ≡ range_with_len k (length maps) → AllByRecursion (λ x. 64 * k ≤ x) (flat_map (λ (m : MapSeen). ids_in m.unit m.bits) maps)
 ids_from [] k e = tt
-ids_from (m ∷ maps) k e = let here = unit_here m k (ap head_of e) in all_append (λ x. 64 * k ≤ x) (ids_in m.unit m.bits) (flat_map (λ (m : MapSeen). ids_in m.unit m.bits) maps)
-    (all_weaker (λ x. (64 * k ≤ x) × (x < 64 * k + 64)) (λ x. 64 * k ≤ x) (λ x p. p.0) (ids_in m.unit m.bits) here)
-    (all_weaker (λ x. 64 * (k + 1) ≤ x) (λ x. 64 * k ≤ x) (λ x p. omega (arith, p)) (flat_map (λ (m : MapSeen). ids_in m.unit m.bits) maps) (ids_from maps (k + 1) (ap tail_of e)))
+ids_from (m ∷ maps) k e = let here = unit_here m k (ap head_of e) in each_append (λ x. 64 * k ≤ x) (ids_in m.unit m.bits) (flat_map (λ (m : MapSeen). ids_in m.unit m.bits) maps)
+    (each_weaker (λ x. (64 * k ≤ x) × (x < 64 * k + 64)) (λ x. 64 * k ≤ x) (λ x p. p.0) (ids_in m.unit m.bits) here)
+    (each_weaker (λ x. 64 * (k + 1) ≤ x) (λ x. 64 * k ≤ x) (λ x p. omega (arith, p)) (flat_map (λ (m : MapSeen). ids_in m.unit m.bits) maps) (ids_from maps (k + 1) (ap tail_of e)))
   where
     head_of : List ℕ → ℕ
     head_of [] = 0
@@ -93,8 +83,8 @@ pub all_rise : (maps : List MapSeen) (k : ℕ) → map (λ (m : MapSeen). m.unit
 all_rise [] k e = tt
 all_rise (m ∷ maps) k e = let here = unit_here m k (ap head_of e) in let more = ids_from maps (k + 1) (ap tail_of e) in
     rise_append (64 * k + 64) (ids_in m.unit m.bits) (flat_map (λ (m : MapSeen). ids_in m.unit m.bits) maps)
-    (all_weaker (λ x. (64 * k ≤ x) × (x < 64 * k + 64)) (λ x. x < 64 * k + 64) (λ x p. p.1) (ids_in m.unit m.bits) here)
-    (all_weaker (λ x. 64 * (k + 1) ≤ x) (λ x. 64 * k + 64 ≤ x) (λ x p. omega (arith, p)) (flat_map (λ (m : MapSeen). ids_in m.unit m.bits) maps) more)
+    (each_weaker (λ x. (64 * k ≤ x) × (x < 64 * k + 64)) (λ x. x < 64 * k + 64) (λ x p. p.1) (ids_in m.unit m.bits) here)
+    (each_weaker (λ x. 64 * (k + 1) ≤ x) (λ x. 64 * k + 64 ≤ x) (λ x p. omega (arith, p)) (flat_map (λ (m : MapSeen). ids_in m.unit m.bits) maps) more)
     (ids_rise m.unit m.bits) (all_rise maps (k + 1) (ap tail_of e))
   where
     head_of : List ℕ → ℕ

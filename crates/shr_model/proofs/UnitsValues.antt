@@ -1,9 +1,8 @@
 -- Journals of pools and their free units, at known values.
-use Rattle.std.specs.Prelude.{◌≡◌, true, false, List, [], ◌∷◌, refl}
-use Rattle.std.proofs.Common.{lit≤, arith}
+use Rattle.shr_model.proofs.Common.{◌≡◌, true, false, List, [], ◌∷◌, refl, arith, Serial}
+use Rattle.std.proofs.Common.{lit≤}
 use Rattle.shr_base.specs.declared.journals.PlainEntry.{PlainEntry}
 use Rattle.shr_base.specs.declared.journals.PlainEntry.TheVariants.{Release, Grab, Reclaim}
-use Rattle.shr_base.specs.declared.places.Serial.{Serial}
 use Rattle.shr_model.specs.Units.{free_after, free_of, IsPlainEntry, IsPlainJournal}
 
 abbrev first : Serial

@@ -1,11 +1,10 @@
 -- The records of walks, and what commands make and move, at known values.
-use Rattle.std.specs.Prelude.{◌≡◌, ◌^◌, ◌+◌, pos, true, false, [], ◌∷◌, Some, None, refl}
-use Rattle.shr_base.specs.declared.journals.UseStep.{UseStep}
+use Rattle.shr_model.proofs.Common.{◌≡◌, ◌^◌, ◌+◌, pos, true, false, [], ◌∷◌, Some, None, refl, UseStep, set_bits_of, ids_in}
 use Rattle.shr_base.specs.declared.scripts.Command.TheVariants.{Balance}
 use Rattle.shr_base.specs.declared.walks.GoneThen.TheVariants as gone
 use Rattle.shr_base.specs.declared.walks.Outcome.TheVariants as outcome
 use Rattle.shr_model.specs.Attempts.{number_of, counts_of, counted, is_clearing, is_held}
-use Rattle.shr_model.specs.Bits.{set_bits_of, ids_in, units_of}
+use Rattle.shr_model.specs.Bits.{units_of}
 use Rattle.shr_model.specs.Charges.{is_refused}
 use Rattle.shr_model.specs.Commands.{rounds_from, jobs_of}
 use Rattle.shr_model.specs.Freeings.{is_at_or_above}

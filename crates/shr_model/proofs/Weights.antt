@@ -1,20 +1,11 @@
 -- What a journal adds and takes in weighs what it frees, gives away and leaves, whatever a serial
 -- weighs.
-use Rattle.std.specs.Prelude.{◌≡◌, ℕ, zero, suc, ◌+◌, ◌<◌, Bool, true, ◌&&◌, ◌==◌, cond, List, [], ◌∷◌, ◌++◌, find, IsPermutation, refl, Option, Some, None}
-use Rattle.std.proofs.Common.{ap, sym, arith, inl, inr, append-nil}
-use Rattle.std.proofs.lemmas.Bool.{cases_Bool, and_parts, and_from, eq-eqb, eqb-true}
-use Rattle.std.proofs.lemmas.List.Sorted.{IsPermutation-refl, IsPermutation-sym, IsPermutation-trans, IsPermutation-cons, IsPermutation-middle}
-use Rattle.shr_base.specs.declared.objects.Object.{Object}
-use Rattle.shr_base.specs.declared.objects.Policy.{Policy}
-use Rattle.shr_base.specs.declared.places.Serial.{Serial}
-use Rattle.shr_base.specs.declared.journals.Entry.{Entry}
-use Rattle.shr_base.specs.declared.journals.Entry.TheVariants.{Add, Look, Drop, Pin, Scan, MovedIn, Closed, Drained}
-use Rattle.shr_model.specs.Objects.{is_named, named_in, marked_object, unmarked_object, pinned_object, without_first}
-use Rattle.shr_base.specs.declared.objects.LruStatus.{LruStatus}
-use Rattle.shr_base.specs.declared.objects.LruStatus.TheVariants.{Removed, Rotate, Skip, Stop}
-use Rattle.shr_model.specs.Scan.{case_of, Scanned, scan_ends, after_visit, after_freeing, scan_from}
-use Rattle.shr_model.specs.Items.{dropped_of, after_drop, first_moved, later_moved, step, IsOutcome, freed_by, items_from, freed_from, AreOutcomes}
-use Rattle.shr_model.specs.Bag.{serials_of, added_by, added_by_all}
+use Rattle.shr_model.proofs.Common.{◌≡◌, ℕ, zero, suc, ◌+◌, ◌<◌, Bool, true, ◌&&◌, ◌==◌, cond, List, [], ◌∷◌, ◌++◌, find, IsPermutation, refl, Option, Some, None, ap, sym, arith, inl, inr, cases_Bool, and_parts, and_from, eqb-true, IsPermutation-refl, IsPermutation-sym, IsPermutation-trans, IsPermutation-cons, IsPermutation-middle, Object, Policy, Serial, Entry, Add, Look, Drop, Pin, Scan, MovedIn, Closed, Drained, is_named, named_in, marked_object, unmarked_object, pinned_object, without_first, LruStatus, Removed, Rotate, Skip, case_of, Scanned, scan_ends, after_visit, after_freeing, dropped_of, after_drop, first_moved, later_moved, step, IsOutcome, freed_by, serials_of, added_by, added_by_all}
+use Rattle.std.proofs.Common.{append-nil}
+use Rattle.std.proofs.lemmas.Bool.{eq-eqb}
+use Rattle.shr_base.specs.declared.objects.LruStatus.TheVariants.{Stop}
+use Rattle.shr_model.specs.Scan.{scan_from}
+use Rattle.shr_model.specs.Items.{items_from, freed_from, AreOutcomes}
 use Rattle.shr_model.proofs.BagLaws.{serials_of_changed, serials_of_added}
 
 -- the sum of what the serials weigh

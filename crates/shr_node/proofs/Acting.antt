@@ -1,45 +1,18 @@
 -- Acting on the first open list, and giving its room back.
-use Rattle.std.proofs.Common.{◌≡◌, ℕ, zero, suc, ◌<◌, ◌≤◌, Bool, true, false, cond, List, [], ◌∷◌, ◌++◌, length, sym, refl, ap, subst, ◌∙◌, inl, arith, length-append, ne_eqb}
-use Rattle.shr_core.proofs.Options.{not_some}
-use Rattle.std.proofs.lemmas.List.{append-nil}
-use Rattle.std.specs.Prelude.{Contains, Option, Some, ◌&&◌, ◌==◌, nat_lt}
-use Rattle.shr_base.specs.declared.objects.Object.{Object}
-use Rattle.shr_base.specs.declared.places.Place.{Place}
-use Rattle.shr_base.specs.declared.places.Serial.{Serial}
-use Rattle.shr_base.specs.declared.journals.Entry.{Entry}
-use Rattle.shr_base.specs.declared.journals.Entry.TheVariants.{Add, Look, Drop, Pin, Scan, MovedIn, Closed, Drained}
-use Rattle.shr_model.specs.Places.{place_number, at_group}
-use Rattle.shr_model.specs.Groups.{IsTree, is_child}
-use Rattle.shr_model.specs.Objects.{named_in}
+use Rattle.shr_node.proofs.Common.{◌≡◌, ℕ, zero, suc, ◌<◌, ◌≤◌, Bool, true, false, cond, List, [], ◌∷◌, ◌++◌, length, sym, refl, ap, subst, ◌∙◌, inl, arith, length-append, ne_eqb, not_some, append-nil, Contains, Option, Some, ◌&&◌, ◌==◌, nat_lt, Object, Place, Serial, Entry, Add, Look, Drop, Pin, Scan, MovedIn, Closed, Drained, place_number, at_group, IsTree, is_child, named_in, step, IsOutcome, is_closed, drop_kind_of, moved_in, IsAllowed, child_takes, child_higher, IsAtOrAbove-le, IsAtOrAbove-refl, Listed, Policy, Takes, RefusesWorn, LacksMemory, TellsScan, scan_entry, drain_entry, Each, View, Shape, Room, Content, Holding, Made, Known, Claims, no_rooms, id_of, group_of, beside, AreBorn, list_content, groups_in, Core, IsPlaceOf, MayTake, shape_of, IsInHand, with_taken, with_given, in_hand, IsTaken, last_entry, half_after, moved_in_hand, IsBacked, has_taken, inside, Gains, Knows, bits_for, with_kept, IsFirstOpen, IsOpened, WasOpen, IsReady, IsUntouched, made_of, Acts, IsFull, HadRoom, Scans}
 use Rattle.shr_base.specs.declared.journals.DropKind.TheVariants.{Dropped, Pinned}
-use Rattle.shr_model.specs.Items.{step, IsOutcome, is_closed, drop_kind_of}
 use Rattle.shr_model.specs.Tenants.{birth_of}
-use Rattle.shr_model.specs.Families.{moved_in, IsBornAt, IsAllowed}
-use Rattle.shr_model.proofs.GroupsLaws.{child_takes, child_higher}
-use Rattle.shr_model.proofs.GroupsOrder.{IsAtOrAbove-le, IsAtOrAbove-refl}
-use Rattle.shr_list.specs.Listed.{Listed}
-use Rattle.shr_base.specs.declared.objects.Policy.{Policy}
+use Rattle.shr_model.specs.Families.{IsBornAt}
 use Rattle.shr_model.specs.Scan.{scan_of}
 use Rattle.shr_core.proofs.Emptiness.{step_none}
-use Rattle.shr_list.specs.Answers.{HasRoom, Takes, IsWorn, RefusesWorn, LacksMemory, TellsScan, scan_entry, drain_entry}
-use Rattle.shr_seats.specs.Views.{Each}
-use Rattle.shr_core.specs.declared.view.View.{View}
-use Rattle.shr_seats.specs.declared.shape.Shape.{Shape}
-use Rattle.shr_core.specs.declared.rooms.Room.{Room}
-use Rattle.shr_core.specs.Parts.{Content, Holding, Made, Known, Counted, Claims, no_rooms}
-use Rattle.shr_core.specs.Layout.{id_of, group_of, beside}
-use Rattle.shr_core.specs.Rule.{AreBorn, list_content}
-use Rattle.shr_seats.specs.Shapes.{groups_in}
-use Rattle.shr_core.specs.declared.table.Core.{Core}
-use Rattle.shr_core.specs.Seats.{IsPlaceOf, MayTake, shape_of}
-use Rattle.shr_core.specs.Tells.{IsInHand}
-use Rattle.shr_core.specs.Steps.{with_taken, with_given, in_hand, IsTaken, last_entry, half_after, moved_in_hand, IsBacked, IsUnspliced}
-use Rattle.shr_core.proofs.Hands.{taken_in_hand, has_taken}
-use Rattle.shr_core.proofs.Calls.{inside}
-use Rattle.shr_node.specs.Gains.{Gains, Knows, bits_for, with_kept}
-use Rattle.shr_node.specs.Opening.{IsFirstOpen, IsOpened, WasOpen, IsReady, IsUntouched, made_of}
-use Rattle.shr_node.specs.Answers.{Acts, IsFull, HadRoom, TenantIsWorn, TenantLacks, Scans}
+use Rattle.shr_list.specs.Answers.{HasRoom, IsWorn}
+use Rattle.shr_core.specs.Parts.{Counted}
+use Rattle.shr_core.specs.Steps.{IsUnspliced}
+use Rattle.shr_core.proofs.Hands.{taken_in_hand}
+use Rattle.shr_node.specs.Answers.{TenantIsWorn, TenantLacks}
 use Rattle.shr_node.proofs.Gaining.{same_seen, gains_none, gains_then, gains_given, known_given, gains_kept, known_kept, knows_still, each_before}
+use Rattle.shr_core.proofs.Storing.{last_pushed}
+use Rattle.shr_model.proofs.Lists.{some_same}
 
 -- a seat without a room in hand may take any
 pub bare_hands : (shape : Shape) (v : View) (place : Place) → v.holding ≡ no_rooms → MayTake shape v place
@@ -66,25 +39,15 @@ in_hand_whole v k l = let e = taken_in_hand v k (list_content l) in record {
   most_entries = ap (λ (c : Content). c.most_entries) (sym e);
 }
 
--- the last entry of a journal that grew
-pub last_push : (es : List Entry) (e : Entry) → last_entry (es ++ e ∷ []) ≡ e
-last_push [] e = refl
-last_push (x ∷ []) e = refl
-last_push (x ∷ y ∷ es) e = last_push (y ∷ es) e
-
 -- an entry of no splice: nothing is moved, no splice begins or ends, and the seat may store it
 pub record IsPlain (shape : Shape) (v : View) (k : ℕ) (e : Entry) : Type 0 where
   pub moved : moved_in_hand v k e ≡ []
   pub half : (h : Option ℕ) → half_after h k e ≡ h
   pub backed : IsUnspliced shape v k → IsBacked shape v k e
 
--- the birth group is the one that is told
-some_birth : (b birth : ℕ) → ◌≡◌ {A = Option ℕ} (Some b) (Some birth) → b ≡ birth
-some_birth b birth h = cc
-
 -- a tenant's entry is plain, and may stand where its birth group says
 pub tenant_plain : (shape : Shape) (v : View) (k : ℕ) (e : Entry) (birth : ℕ) → birth_of e ≡ Some birth → birth < groups_in shape → v.claims.held ≡ Some (id_of k) → IsPlain shape v k e
-tenant_plain shape v k (Add by b added key value) birth h far holds = record { moved = refl; half = λ x. refl; backed = λ free. (holds, subst (λ (x : ℕ). x < groups_in shape) (sym (some_birth b birth h)) far, free) }
+tenant_plain shape v k (Add by b added key value) birth h far holds = record { moved = refl; half = λ x. refl; backed = λ free. (holds, subst (λ (x : ℕ). x < groups_in shape) (sym (some_same b birth h)) far, free) }
 tenant_plain shape v k (Look by b key hit) birth h far holds = record { moved = refl; half = λ x. refl; backed = λ free. free }
 tenant_plain shape v k (Drop by b key kind) birth h far holds = record { moved = refl; half = λ x. refl; backed = λ free. free }
 tenant_plain shape v k (Pin by b key pinned hit) birth h far holds = record { moved = refl; half = λ x. refl; backed = λ free. free }
@@ -95,10 +58,10 @@ tenant_plain shape v k (Drained by objects) birth h far holds = absurd (cc)
 
 -- a tenant's entry may stand in the journal of the first open list
 pub tenant_allowed : (parents : List ℕ) (group : ℕ) (before : List Entry) (e : Entry) (birth : ℕ) → birth_of e ≡ Some birth → IsBornAt parents group before birth → IsAllowed parents group before e
-tenant_allowed parents group before (Add by b added key value) birth h born = subst (λ (x : ℕ). IsBornAt parents group before x) (sym (some_birth b birth h)) born
-tenant_allowed parents group before (Look by b key hit) birth h born = subst (λ (x : ℕ). IsBornAt parents group before x) (sym (some_birth b birth h)) born
-tenant_allowed parents group before (Drop by b key kind) birth h born = subst (λ (x : ℕ). IsBornAt parents group before x) (sym (some_birth b birth h)) born
-tenant_allowed parents group before (Pin by b key pinned hit) birth h born = subst (λ (x : ℕ). IsBornAt parents group before x) (sym (some_birth b birth h)) born
+tenant_allowed parents group before (Add by b added key value) birth h born = subst (λ (x : ℕ). IsBornAt parents group before x) (sym (some_same b birth h)) born
+tenant_allowed parents group before (Look by b key hit) birth h born = subst (λ (x : ℕ). IsBornAt parents group before x) (sym (some_same b birth h)) born
+tenant_allowed parents group before (Drop by b key kind) birth h born = subst (λ (x : ℕ). IsBornAt parents group before x) (sym (some_same b birth h)) born
+tenant_allowed parents group before (Pin by b key pinned hit) birth h born = subst (λ (x : ℕ). IsBornAt parents group before x) (sym (some_same b birth h)) born
 tenant_allowed parents group before (Scan worker walk asked policy visits freed stopped) birth h born = absurd (cc)
 tenant_allowed parents group before (MovedIn child objects) birth h born = absurd (cc)
 tenant_allowed parents group before Closed birth h born = absurd (cc)
@@ -125,7 +88,7 @@ module _ (shape : Shape) (u : View) (room : Room) (place : IsPlaceOf shape room.
     module _ (allowed : IsAllowed shape.parents.items room.place.group room.list.entries e) where
       -- a list with one legal entry more is ready to be stored
       pub ready : IsReady shape view (record room { list = new })
-      ready = let g = took.gains in let last : last_entry new.entries ≡ e = ap last_entry g.entries ∙ last_push room.list.entries e in
+      ready = let g = took.gains in let last : last_entry new.entries ≡ e = ap last_entry g.entries ∙ last_pushed room.list.entries e in
           let hand : in_hand view here ≡ list_content room.list = taken_in_hand u here (list_content room.list) in
           let old-entries : (in_hand view here).entries ≡ room.list.entries = ap (λ (c : Content). c.entries) hand in
           let old-items : (in_hand view here).items ≡ room.list.items = ap (λ (c : Content). c.items) hand in
@@ -207,7 +170,7 @@ module _ (shape : Shape) (v w : View) (id node birth : ℕ) (room : Room) (o : I
     e = f room.list
 
     was : w' ≡ with_kept (with_taken o.before (place_number room.place) (list_content room.list)) (place_number room.place) e (step [] room.list.items e)
-    was = kept ∙ λ i. with_kept (o.taken i) (place_number room.place) ((ap last_entry took.gains.entries ∙ last_push room.list.entries e) i) (took.gains.items i)
+    was = kept ∙ λ i. with_kept (o.taken i) (place_number room.place) ((ap last_entry took.gains.entries ∙ last_pushed room.list.entries e) i) (took.gains.items i)
 
     last_gains : Gains o.before w' (made_of (place_number room.place) room.list e ∷ []) (bits_for (place_number room.place) room.list.items (step [] room.list.items e))
     last_gains = subst (λ (x : View). Gains o.before x (made_of (place_number room.place) room.list e ∷ []) (bits_for (place_number room.place) room.list.items (step [] room.list.items e))) (sym was)
@@ -437,7 +400,7 @@ drain_bits k old = by (length old == 0) where
 -- the view once a place's room was taken, one entry stored, and the room given back
 pub was_kept : (v w x : View) (place : Place) (room : Room) (new : Listed) (e : Entry) → room.place ≡ place → w ≡ with_taken v (place_number place) (list_content room.list) → x ≡ with_kept w (place_number room.place) (last_entry new.entries) new.items
     → new.entries ≡ room.list.entries ++ e ∷ [] → x ≡ with_kept (with_taken v (place_number place) (list_content room.list)) (place_number place) e new.items
-was_kept v w x place room new e same taken kept entries = kept ∙ λ i. with_kept (taken i) (place_number (same i)) ((ap last_entry entries ∙ last_push room.list.entries e) i) new.items
+was_kept v w x place room new e same taken kept entries = kept ∙ λ i. with_kept (taken i) (place_number (same i)) ((ap last_entry entries ∙ last_pushed room.list.entries e) i) new.items
 
 -- and once it was given back as it was
 pub was_left : (v w x : View) (place : Place) (room : Room) → room.place ≡ place → w ≡ with_taken v (place_number place) (list_content room.list) → x ≡ with_given w (place_number room.place) → x ≡ with_given (with_taken v (place_number place) (list_content room.list)) (place_number place)

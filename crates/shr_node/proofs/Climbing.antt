@@ -1,23 +1,10 @@
 -- Going up from the birth group, over closed lists.
-use Rattle.std.proofs.Common.{◌≡◌, ◌≢◌, ℕ, suc, ◌<◌, ◌⊎◌, inl, inr, true, List, [], ◌∷◌, length, take, sym, refl, subst, ⊎_elim, arith}
-use Rattle.std.specs.Prelude.{slice_get, Some}
-use Rattle.shr_base.specs.declared.places.Place.{Place}
-use Rattle.shr_base.specs.declared.journals.Entry.{Entry}
-use Rattle.shr_base.specs.declared.journals.Entry.TheVariants.{Add, Look, Drop, Pin, Scan, MovedIn, Closed, Drained}
-use Rattle.shr_model.specs.Places.{place_number}
-use Rattle.shr_model.specs.Groups.{IsTree, parent_of, path_of, IsAtOrAbove}
-use Rattle.shr_model.specs.Items.{is_closed}
+use Rattle.shr_node.proofs.Common.{◌≡◌, ◌≢◌, ℕ, ◌<◌, inl, inr, true, List, [], ◌∷◌, length, take, sym, refl, subst, ⊎_elim, arith, Some, Place, Entry, Closed, place_number, IsTree, parent_of, path_of, IsAtOrAbove, is_closed, on_child, IsAtOrAbove-trans, IsAtOrAbove-le, IsAtOrAbove-refl, Has_from_Contains, Contains_from_Has, View, Shape, Content, groups_in, with_taken, with_given, Gains, KnowsClosed, IsFirstOpen, closed_at}
+use Rattle.std.proofs.Common.{◌⊎◌}
+use Rattle.std.specs.Prelude.{slice_get}
 use Rattle.shr_model.specs.Families.{MayStand}
 use Rattle.shr_model.proofs.GroupsLaws.{path_of-below}
-use Rattle.shr_model.proofs.GroupsOrder.{on_child, IsAtOrAbove-trans, IsAtOrAbove-le, IsAtOrAbove-refl}
-use Rattle.shr_model.proofs.Members.{Has, Has_from_Contains, Contains_from_Has}
-use Rattle.shr_core.specs.declared.view.View.{View}
-use Rattle.shr_seats.specs.declared.shape.Shape.{Shape}
-use Rattle.shr_core.specs.Parts.{Content}
-use Rattle.shr_seats.specs.Shapes.{groups_in}
-use Rattle.shr_core.specs.Steps.{with_taken, with_given}
-use Rattle.shr_node.specs.Gains.{Gains, KnowsClosed}
-use Rattle.shr_node.specs.Opening.{IsFirstOpen}
+use Rattle.shr_model.proofs.Members.{Has}
 use Rattle.shr_node.proofs.Gaining.{gains_none, gains_then, gains_given, known_given, knows_still}
 
 -- the place of a group at an id and node
@@ -30,18 +17,6 @@ pub record IsOnWay (shape : Shape) (v w : View) (id node birth group : ℕ) : Ty
   pub there : group < groups_in shape
   pub above : IsAtOrAbove shape.parents.items group birth
   pub way : (g : ℕ) → IsAtOrAbove shape.parents.items g birth → IsAtOrAbove shape.parents.items g group ⊎ KnowsClosed w (place_number (place_of id node g))
-
--- a Closed stands in a closed journal
-pub closed_at : (es : List Entry) → is_closed es ≡ true → (n : ℕ) × (slice_get es n ≡ Some Closed)
-closed_at [] h = absurd (cc)
-closed_at (Add by birth added key value ∷ es) h = let r = closed_at es h in (suc r.0, r.1)
-closed_at (Look by birth key hit ∷ es) h = let r = closed_at es h in (suc r.0, r.1)
-closed_at (Drop by birth key kind ∷ es) h = let r = closed_at es h in (suc r.0, r.1)
-closed_at (Pin by birth key pinned hit ∷ es) h = let r = closed_at es h in (suc r.0, r.1)
-closed_at (Scan worker walk asked policy visits freed stopped ∷ es) h = let r = closed_at es h in (suc r.0, r.1)
-closed_at (MovedIn child objects ∷ es) h = let r = closed_at es h in (suc r.0, r.1)
-closed_at (Closed ∷ es) h = (0, refl)
-closed_at (Drained by objects ∷ es) h = let r = closed_at es h in (suc r.0, r.1)
 
 -- the root's list is never closed
 pub below_root : (parents : List ℕ) (group : ℕ) (es : List Entry) → ((n : ℕ) (e : Entry) → slice_get es n ≡ Some e → MayStand parents group (take n es) e) → is_closed es ≡ true → group ≢ 0

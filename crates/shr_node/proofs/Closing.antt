@@ -1,52 +1,11 @@
 -- One list is closed into its parent's.
-use Rattle.std.proofs.Common.{◌≡◌, ℕ, zero, suc, ◌+◌, ◌*◌, ◌<◌, ◌≤◌, Bool, true, false, cond, List, [], ◌∷◌, ◌++◌, length, take, sym, refl, ap, subst, ◌∙◌, inl, inr, ⊎_elim, arith, length-append}
-use Rattle.std.specs.Prelude.{Contains, ◌&&◌, nat_lt}
-use Rattle.std.proofs.lemmas.List.{append-nil}
-use Rattle.std.proofs.lemmas.List.Elements.{Contains-push, Contains-append_left}
-use Rattle.shr_base.specs.declared.places.Place.{Place}
-use Rattle.shr_base.specs.declared.journals.Entry.{Entry}
-use Rattle.shr_base.specs.declared.journals.Entry.TheVariants.{Add, Look, Drop, Pin, Scan, MovedIn, Closed, Drained}
-use Rattle.shr_model.specs.Places.{place_number, at_group}
-use Rattle.shr_model.specs.Groups.{IsTree, parent_of, is_child}
-use Rattle.shr_model.specs.Items.{is_closed}
-use Rattle.shr_model.specs.Families.{moved_in, AreChildrenMovedIn}
-use Rattle.shr_model.proofs.GroupsLaws.{child_again}
-use Rattle.shr_model.proofs.Members.{Has, Has_from_Contains, Contains_from_Has}
-use Rattle.shr_list.specs.Listed.{Listed, IsSound}
+use Rattle.shr_node.proofs.Common.{◌≡◌, ℕ, ◌+◌, ◌*◌, ◌<◌, ◌≤◌, Bool, true, false, cond, List, [], ◌∷◌, ◌++◌, length, take, sym, refl, ap, subst, ◌∙◌, ⊎_elim, arith, length-append, Contains, ◌&&◌, nat_lt, append-nil, Contains-push, Contains-append_left, Place, Entry, MovedIn, Closed, place_number, at_group, IsTree, parent_of, is_child, is_closed, moved_in, AreChildrenMovedIn, child_again, Has_from_Contains, Contains_from_Has, Listed, IsSound, View, Shape, Room, Content, Holding, Known, no_rooms, group_of, beside, list_content, has_room, groups_in, IsPlaceOf, in_hand, with_taken, with_given, drained_after, IsTaken, IsCounted, Gains, Knows, KnowsClosed, WasOpen, WasMet, Closing, IsPair, place_of, made_by, bits_by, AreTaken, has_taken, begins_push, begins_more, IsInHand, closed_at}
 use Rattle.shr_list.specs.Answers as answer
-use Rattle.shr_core.specs.declared.view.View.{View}
-use Rattle.shr_seats.specs.declared.shape.Shape.{Shape}
-use Rattle.shr_core.specs.declared.rooms.Room.{Room}
-use Rattle.shr_core.specs.Parts.{Content, Holding, Known, no_rooms}
-use Rattle.shr_core.specs.Layout.{group_of, beside}
-use Rattle.shr_core.specs.Rule.{list_content, has_room}
-use Rattle.shr_seats.specs.Shapes.{groups_in}
-use Rattle.shr_core.specs.Seats.{IsPlaceOf}
-use Rattle.shr_core.specs.Steps.{in_hand, with_taken, with_given, drained_after, IsTaken, IsCounted}
-use Rattle.shr_node.specs.Gains.{Gains, Knows, KnowsClosed}
-use Rattle.shr_node.specs.Opening.{WasOpen, WasMet}
-use Rattle.shr_node.specs.Splicing.{Closing, IsPair, place_of, made_by, bits_by}
-use Rattle.shr_node.specs.Pairs.{AreTaken}
 use Rattle.shr_node.proofs.Storing.{BothReady}
-use Rattle.shr_core.proofs.Hands.{has_taken}
-use Rattle.shr_seats.proofs.Weighing.{begins_push, begins_more}
-use Rattle.shr_node.proofs.Gaining.{gains_of, given, taken_here, marks_stay}
-use Rattle.shr_core.specs.Tells.{IsInHand}
+use Rattle.shr_node.proofs.Gaining.{gains_of, given, marks_stay}
 use Rattle.shr_node.proofs.Acting.{each_of, in_hand_whole}
-use Rattle.shr_node.proofs.Climbing.{closed_at}
-
--- what a beginning of a journal moved in stands in the journal
-taken_has : (es : List Entry) (n c : ℕ) → Has (moved_in (take n es)) c → Has (moved_in es) c
-taken_has es zero c h = absurd h
-taken_has [] (suc n) c h = absurd h
-taken_has (Add by birth added key value ∷ es) (suc n) c h = taken_has es n c h
-taken_has (Look by birth key hit ∷ es) (suc n) c h = taken_has es n c h
-taken_has (Drop by birth key kind ∷ es) (suc n) c h = taken_has es n c h
-taken_has (Pin by birth key pinned hit ∷ es) (suc n) c h = taken_has es n c h
-taken_has (Scan worker walk asked policy visits freed stopped ∷ es) (suc n) c h = taken_has es n c h
-taken_has (MovedIn child objects ∷ es) (suc n) c h = ⊎_elim (λ e. inl e) (λ t. inr (taken_has es n c t)) h
-taken_has (Closed ∷ es) (suc n) c h = taken_has es n c h
-taken_has (Drained by objects ∷ es) (suc n) c h = taken_has es n c h
+use Rattle.shr_model.proofs.FamilyLaws.{taken_has}
+use Rattle.shr_core.proofs.Hands.{taken_in_hand}
 
 -- what a taken room says of the seat's counts
 pub counted_taken : (shape : Shape) (v : View) (k : ℕ) (l : Listed) → IsTaken shape v k (list_content l) → IsCounted shape v k (length l.items) (length l.entries)
@@ -125,7 +84,7 @@ module _ (shape : Shape) (u v : View) (child above : Place) (old old_above : Lis
   hand : in_hand (with_taken u (place_number child) (list_content old)) (beside (place_number above) child.group) ≡ list_content old
   hand = ap (in_hand (with_taken u k (list_content old))) under ∙ taken_one where
     taken_one : in_hand (with_taken u k (list_content old)) k ≡ list_content old
-    taken_one = taken_here u k (list_content old)
+    taken_one = taken_in_hand u k (list_content old)
 
   -- an open child's list was not moved in
   pub apart_from : is_closed old.entries ≡ false → ¬ Contains (moved_in old_above.entries) child.group

@@ -1,29 +1,10 @@
 -- What closing one list into its parent's needs and says.
-use Rattle.std.proofs.Common.{◌≡◌, ℕ, ◌<◌, Bool, true, false, cond, ltb, eqb, lt-ltb, eq-eqb, inr, List, [], ◌∷◌, ◌++◌, length, sym, refl, ap, subst, ◌∙◌, arith, length-append}
-use Rattle.std.specs.Prelude.{◌&&◌, ◌||◌, nat_lt}
-use Rattle.shr_base.specs.declared.places.Place.{Place}
-use Rattle.shr_base.specs.declared.journals.Entry.TheVariants.{Closed, MovedIn}
-use Rattle.shr_model.specs.Places.{place_number}
-use Rattle.shr_model.specs.Groups.{parent_of, is_child}
-use Rattle.shr_model.specs.Items.{is_closed}
-use Rattle.shr_model.specs.Families.{AreChildrenMovedIn}
-use Rattle.shr_model.proofs.GroupsOrder.{IsAtOrAbove-refl}
+use Rattle.shr_node.proofs.Common.{◌≡◌, ℕ, ◌<◌, Bool, true, false, cond, eqb, lt-ltb, eq-eqb, inr, List, [], ◌∷◌, ◌++◌, length, sym, refl, ap, subst, ◌∙◌, arith, length-append, ◌&&◌, ◌||◌, nat_lt, Place, Closed, MovedIn, place_number, parent_of, is_child, is_closed, AreChildrenMovedIn, IsAtOrAbove-refl, Listed, IsSound, Core, View, Room, Content, Holding, no_rooms, group_of, list_content, groups_in, MayTake, shape_of, IsTaken, IsCounted, with_taken, with_given, Gains, Knows, KnowsClosed, place_of, AreTaken}
+use Rattle.std.proofs.Common.{ltb}
 use Rattle.shr_model.proofs.ListLaws.{is_closed_push}
-use Rattle.shr_list.specs.Listed.{Listed, IsSound}
 use Rattle.shr_list.specs.Answers as answer
-use Rattle.shr_core.specs.declared.table.Core.{Core}
-use Rattle.shr_core.specs.declared.view.View.{View}
-use Rattle.shr_core.specs.declared.rooms.Room.{Room}
-use Rattle.shr_core.specs.Parts.{Content, Hand, Holding, no_rooms}
-use Rattle.shr_core.specs.Layout.{group_of}
-use Rattle.shr_core.specs.Rule.{list_content}
-use Rattle.shr_seats.specs.Shapes.{groups_in}
-use Rattle.shr_core.specs.Seats.{MayTake, shape_of}
-use Rattle.shr_core.specs.Steps.{IsTaken, IsCounted, with_taken, with_given}
-use Rattle.shr_node.specs.Gains.{Gains, Knows, KnowsClosed}
-use Rattle.shr_node.specs.Splicing.{place_of}
+use Rattle.shr_core.specs.Parts.{Hand}
 use Rattle.shr_node.specs.Closes.{ClosesOne, WasClosed}
-use Rattle.shr_node.specs.Pairs.{AreTaken}
 use Rattle.shr_node.proofs.Storing.{BothReady, with_both_kept}
 use Rattle.shr_node.proofs.Gaining.{gains_given, known_given}
 use Rattle.shr_node.proofs.Acting.{was_left}

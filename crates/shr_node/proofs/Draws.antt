@@ -1,32 +1,13 @@
 -- Emptying one list after another, groups in falling order.
-use Rattle.std.proofs.Common.{◌≡◌, ◌≢◌, ℕ, zero, suc, ◌+◌, ◌<◌, ◌≤◌, Bool, true, false, cond, List, [], ◌∷◌, ◌++◌, length, get_or, sym, refl, ap, subst, ◌∙◌, ⊎_elim, arith, append_assoc, eq-eqb, ne_eqb, get_or-set_same, get_or-set_other}
+use Rattle.shr_node.proofs.Common.{◌≡◌, ◌≢◌, ℕ, zero, suc, ◌+◌, ◌<◌, ◌≤◌, Bool, true, false, cond, List, [], ◌∷◌, ◌++◌, length, get_or, sym, refl, ap, subst, ◌∙◌, ⊎_elim, arith, append_assoc, eq-eqb, ne_eqb, ◌==◌, ◌&&◌, slice_set, Some, append-nil, all_pairs_push, dite, ℕ_discrete, Object, Serial, Drained, Spent, place_number, Listed, Each, Each-none, Each-push, Each-weaker, View, Shape, Made, Claims, id_of, node_of, group_of, mark_of, groups_in, drained_after, Gains, WasMet, place_of, made_in, drawn, DrainWorn}
+use Rattle.std.proofs.Common.{get_or-set_same, get_or-set_other}
 use Rattle.shr_core.proofs.Options.{is_some_yes}
-use Rattle.std.specs.Prelude.{◌==◌, ◌&&◌, slice_set, slice_index, Some}
-use Rattle.std.proofs.lemmas.List.{append-nil}
-use Rattle.std.proofs.lemmas.List.Quantifiers.{all_pairs_push}
-use mathlib.Core.Logic.{dite}
-use native.Mathlib.Decide.{ℕ_discrete, dec_lt}
-use Rattle.shr_base.specs.declared.objects.Object.{Object}
-use Rattle.shr_base.specs.declared.places.Serial.{Serial}
-use Rattle.shr_base.specs.declared.journals.Entry.TheVariants.{Drained}
-use Rattle.shr_base.specs.declared.replies.Spent.{Spent}
+use Rattle.std.specs.Prelude.{slice_index}
+use native.Mathlib.Decide.{dec_lt}
 use Rattle.shr_base.specs.declared.replies.Spent.TheVariants as spent
-use Rattle.shr_model.specs.Places.{place_number}
-use Rattle.shr_list.specs.Listed.{Listed}
-use Rattle.shr_seats.specs.Views.{Each}
-use Rattle.shr_seats.proofs.Weighing.{Each-none, Each-push, Each-weaker}
-use Rattle.shr_core.specs.declared.view.View.{View}
-use Rattle.shr_seats.specs.declared.shape.Shape.{Shape}
-use Rattle.shr_core.specs.Parts.{Made, Claims}
-use Rattle.shr_core.specs.Layout.{id_of, node_of, group_of}
-use Rattle.shr_core.specs.Rule.{mark_of}
-use Rattle.shr_seats.specs.Shapes.{groups_in}
-use Rattle.shr_core.specs.Steps.{drained_after}
-use Rattle.shr_node.specs.Gains.{Gains}
-use Rattle.shr_node.specs.Opening.{WasMet}
-use Rattle.shr_node.specs.Splicing.{place_of}
-use Rattle.shr_node.specs.Draining.{Draw, made_in, drawn, IsDraw, AreDraws, IsDrawn, DrawsNone, IsFilled, DrainWorn, StopsAt}
+use Rattle.shr_node.specs.Draining.{Draw, IsDraw, AreDraws, IsDrawn, DrawsNone, IsFilled, StopsAt}
 use Rattle.shr_node.proofs.Gaining.{gains_none, gains_then, counted_before}
+use Rattle.shr_model.proofs.Lists.{none_past}
 
 -- the lists from a group up are drained
 pub record IsDraining (shape : Shape) (v w : View) (id node : ℕ) (by : Serial) (before after : List Object) (group : ℕ) : Type 0 where
@@ -66,12 +47,6 @@ drawn_push : (ds : List Draw) (d : Draw) → drawn (ds ++ d ∷ []) ≡ drawn ds
 drawn_push [] d = append-nil d.items
 drawn_push (x ∷ ds) d = ap (λ (l : List Object). x.items ++ l) (drawn_push ds d) ∙ sym (append_assoc x.items (drawn ds) d.items)
 
--- a mark that a node lacks is 0
-get_or_out : (xs : List ℕ) (n : ℕ) → length xs ≤ n → get_or xs n 0 ≡ 0
-get_or_out [] n h = refl
-get_or_out (x ∷ xs) zero h = absurd (omega (arith, h))
-get_or_out (x ∷ xs) (suc n) h = get_or_out xs n (omega (arith, h))
-
 -- how the marks of a quiet owner move over an empty list
 moves : (c : Claims) (k : ℕ) → c.quiet ≡ true → c.owner ≡ Some (id_of k) → drained_after c k [] ≡ cond (mark_of c (node_of k) == group_of k + 1) (slice_set c.drained (node_of k) (group_of k)) c.drained
 moves c k quiet owner = (λ i. cond (quiet i && is_some_yes (id_of k) c.owner owner i && (mark_of c (node_of k) == group_of k + 1) && true) (slice_set c.drained (node_of k) (group_of k)) c.drained)
@@ -87,7 +62,7 @@ module _ (c : Claims) (k : ℕ) (quiet : c.quiet ≡ true) (owner : c.owner ≡ 
       (λ e. subst (λ (b : Bool). get_or (cond b (slice_set c.drained (node_of k) (group_of k)) c.drained) (node_of k) 0 ≤ group_of k) (sym (eq-eqb (mark_of c (node_of k)) (group_of k + 1) e))
       (dite (dec_lt (node_of k) (length c.drained))
       (λ there. omega (arith, get_or-set_same c.drained (node_of k) (group_of k) 0 there))
-      (λ out. absurd (omega (arith, e, get_or_out c.drained (node_of k) (omega (arith, out)))))))
+      (λ out. absurd (omega (arith, e, none_past c.drained (node_of k) (omega (arith, out)))))))
       (λ n. subst (λ (b : Bool). get_or (cond b (slice_set c.drained (node_of k) (group_of k)) c.drained) (node_of k) 0 ≤ group_of k) (sym (ne_eqb (mark_of c (node_of k)) (group_of k + 1) n)) (omega (arith, low, n))))
 
   mark_exact : mark_of c (node_of k) ≡ group_of k + 1 → get_or after (node_of k) 0 ≡ group_of k
@@ -95,7 +70,7 @@ module _ (c : Claims) (k : ℕ) (quiet : c.quiet ≡ true) (owner : c.owner ≡ 
       (subst (λ (b : Bool). get_or (cond b (slice_set c.drained (node_of k) (group_of k)) c.drained) (node_of k) 0 ≡ group_of k) (sym (eq-eqb (mark_of c (node_of k)) (group_of k + 1) e))
       (dite (dec_lt (node_of k) (length c.drained))
       (λ there. get_or-set_same c.drained (node_of k) (group_of k) 0 there)
-      (λ out. absurd (omega (arith, e, get_or_out c.drained (node_of k) (omega (arith, out)))))))
+      (λ out. absurd (omega (arith, e, none_past c.drained (node_of k) (omega (arith, out)))))))
 
   other_marks : (n : ℕ) → n ≢ node_of k → get_or after n 0 ≡ get_or c.drained n 0
   other_marks n ne = subst (λ (l : List ℕ). get_or l n 0 ≡ get_or c.drained n 0) (sym (is ∙ moves c k quiet owner)) (by (mark_of c (node_of k) == group_of k + 1))

@@ -1,28 +1,16 @@
 -- What a seat gains while it takes a room, stores an entry there and gives the room back.
-use Rattle.std.proofs.Common.{◌≡◌, ℕ, ◌+◌, ◌<◌, ◌≤◌, Bool, true, false, cond, List, [], ◌∷◌, ◌++◌, length, sym, refl, ap, subst, ◌∙◌, arith, eq-eqb, append_assoc}
-use Rattle.shr_core.proofs.Options.{is_some_no, not_some}
-use Rattle.std.specs.Prelude.{Contains, ◌==◌, ◌&&◌, slice_set, Option, None}
-use Rattle.std.proofs.lemmas.List.{append-nil}
-use Rattle.std.proofs.lemmas.List.Elements.{Contains-push, Contains-append_left}
-use mathlib.Core.Logic.{dite}
-use native.Mathlib.Decide.{ℕ_discrete}
-use Rattle.shr_base.specs.declared.objects.Object.{Object}
-use Rattle.shr_base.specs.declared.journals.Entry.{Entry}
-use Rattle.shr_seats.specs.Views.{Each}
+use Rattle.shr_node.proofs.Common.{◌≡◌, ℕ, ◌+◌, ◌<◌, ◌≤◌, Bool, true, false, cond, List, [], ◌∷◌, ◌++◌, length, sym, refl, ap, subst, ◌∙◌, arith, eq-eqb, append_assoc, not_some, Contains, ◌==◌, ◌&&◌, slice_set, Option, None, append-nil, Contains-push, Contains-append_left, dite, ℕ_discrete, Object, Entry, Each, times, without, Begins, begins_push, times-without_same, times-without_other, View, Shape, id_of, node_of, group_of, mark_of, content_in, with_content, with_taken, with_stored, with_set, with_given, half_after, owed_after, drained_after, IsCounted, Gains, Knows, bits_for, with_kept}
+use Rattle.shr_core.proofs.Options.{is_some_no}
 use Rattle.shr_seats.specs.Lines.{by_seat, state_after}
-use Rattle.shr_seats.specs.Weights.{times, without, Begins}
-use Rattle.shr_seats.proofs.Weighing.{begins_all, begins_push, times-without_same, times-without_other, times-push_other, at_begins}
-use Rattle.shr_core.specs.declared.view.View.{View}
-use Rattle.shr_seats.specs.declared.shape.Shape.{Shape}
+use Rattle.shr_seats.proofs.Weighing.{begins_all, times-push_other, at_begins}
 use Rattle.shr_core.specs.Gained.{nothing, AreKinds}
 use Rattle.shr_core.specs.Order.{Holders, users_next}
 use Rattle.shr_core.proofs.Gains.{adds_none, adds_then}
 use Rattle.shr_core.proofs.Uses.{using_still}
 use Rattle.shr_core.specs.Parts.{Content, Hand, Made, Known, Counted, Claims, Turns, Event, made as stored_event, raised as raised_event}
-use Rattle.shr_core.specs.Layout.{id_of, node_of, group_of}
-use Rattle.shr_core.specs.Rule.{mark_of}
-use Rattle.shr_core.specs.Steps.{content_in, in_hand, with_content, without_room, with_taken, with_stored, with_set, with_given, half_after, owed_after, drained_after, is_empty, IsCounted}
-use Rattle.shr_node.specs.Gains.{Gains, Knows, is_raised, bits_for, with_raised, with_kept}
+use Rattle.shr_core.specs.Steps.{without_room, is_empty}
+use Rattle.shr_node.specs.Gains.{is_raised, with_raised}
+use Rattle.shr_core.proofs.Hands.{taken_in_hand}
 
 -- what stays beside the entries made, the bits set and what is known, part by part
 pub record IsGained (v w : View) (more : List Made) (bits : List ℕ) : Type 0 where
@@ -172,10 +160,6 @@ stored u k c e items = ap there (eq-eqb k k refl)
       did = u.did ++ record { seat = u.seat; act = stored_event (record { place = k; number = length d.entries; entry = e; items = d.items }) } ∷ [];
     }
 
--- the room taken last, as it is in hand
-pub taken_here : (u : View) (k : ℕ) (c : Content) → in_hand (with_taken u k c) k ≡ c
-taken_here u k c = ap (λ b. cond b c (content_in k u.holding.hands)) (eq-eqb k k refl)
-
 -- what is owed once the bit of a filled list was set
 pub owed_raised : (k j : ℕ) (owed : List ℕ) → 0 < times j (without k (owed ++ k ∷ [])) → 0 < times j owed
 owed_raised k j owed h = dite (ℕ_discrete j k)
@@ -187,7 +171,7 @@ abbrev last_view : View → ℕ → Content → Entry → List Object → View �
 last_view u k c e items w = record w { holding = record w.holding { hands = u.holding.hands }; traces = record w.traces { known = w.traces.known ++ record { place = k; entries = c.entries ++ e ∷ [] } ∷ [] }; claims = record w.claims { drained = drained_after w.claims k items } }
 
 kept_view : (u : View) (k : ℕ) (c : Content) (e : Entry) (items : List Object) → with_kept (with_taken u k c) k e items ≡ last_view u k c e items (cond (is_raised k c.items items) (with_set (stored_view u k c e items) k) (stored_view u k c e items))
-kept_view u k c e items = ap (λ (d : Content). with_given (with_raised (with_stored (with_taken u k c) k e items) k d.items items) k) (taken_here u k c)
+kept_view u k c e items = ap (λ (d : Content). with_given (with_raised (with_stored (with_taken u k c) k e items) k d.items items) k) (taken_in_hand u k c)
     ∙ (ap (λ (w : View). with_given (with_raised w k c.items items) k) (stored u k c e items)
     ∙ given (cond (is_raised k c.items items) (with_set s k) s) k (more_in c e items) u.holding.hands (hands (is_raised k c.items items)))
   where

@@ -1,18 +1,7 @@
 -- A room whose count is stored is in hand still, with the list that was stored.
-use Rattle.std.proofs.Common.{◌≡◌, ℕ, ◌<◌, Bool, true, false, cond, List, ◌∷◌, [], ◌++◌, sym, subst, arith}
-use Rattle.shr_base.specs.declared.objects.Object.{Object}
-use Rattle.shr_base.specs.declared.journals.Entry.{Entry}
-use Rattle.shr_model.specs.Places.{place_number}
-use Rattle.shr_core.specs.declared.view.View.{View}
-use Rattle.shr_seats.specs.declared.shape.Shape.{Shape}
-use Rattle.shr_core.specs.declared.rooms.Room.{Room}
-use Rattle.shr_core.specs.Parts.{Content}
-use Rattle.shr_core.specs.Rule.{has_room}
-use Rattle.shr_core.specs.Steps.{with_stored, with_set, in_hand, last_entry}
-use Rattle.shr_core.specs.Tells.{IsInHand}
+use Rattle.shr_node.proofs.Common.{◌≡◌, ℕ, ◌<◌, Bool, true, false, cond, List, ◌∷◌, [], ◌++◌, sym, subst, arith, Object, Entry, place_number, View, Shape, Room, Content, has_room, with_stored, with_set, in_hand, last_entry, IsInHand, IsReady}
 use Rattle.shr_core.proofs.Rooming.{content_rooms}
 use Rattle.shr_core.proofs.Hands.{changed_in_hand}
-use Rattle.shr_node.specs.Opening.{IsReady}
 
 -- the room is still in hand after the store and the bit
 pub kept_has : (v : View) (k : ℕ) (e : Entry) (items : List Object) (b : Bool) → 0 < has_room k v.holding → 0 < has_room k (cond b (with_set (with_stored v k e items) k) (with_stored v k e items)).holding

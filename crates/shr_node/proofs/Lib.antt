@@ -1,3 +1,4 @@
+mod Common
 mod NodeValues
 pub mod Gaining
 pub mod Climbing

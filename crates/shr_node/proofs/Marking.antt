@@ -1,16 +1,9 @@
 -- Drain marks, and closed lists that are empty.
-use Rattle.std.proofs.Common.{◌≡◌, ℕ, suc, ◌+◌, ◌<◌, Bool, true, false, cond, List, [], ◌∷◌, length, take, sym, refl, ap, ◌∙◌, arith}
-use Rattle.std.specs.Prelude.{◌==◌, ◌&&◌, ◌||◌, slice_set}
-use Rattle.shr_base.specs.declared.objects.Object.{Object}
-use Rattle.shr_base.specs.declared.journals.Entry.{Entry}
-use Rattle.shr_base.specs.declared.journals.Entry.TheVariants.{Add, Look, Drop, Pin, Scan, MovedIn, Closed, Drained}
-use Rattle.shr_model.specs.Items.{items_from, later_moved, first_moved, step, is_closing, is_closed, HasJournal}
-use Rattle.shr_core.specs.Parts.{Claims}
-use Rattle.shr_core.specs.Layout.{id_of, node_of, group_of}
-use Rattle.shr_core.specs.Rule.{mark_of, is_some_of}
-use Rattle.shr_core.specs.Steps.{drained_after}
+use Rattle.shr_node.proofs.Common.{◌≡◌, ℕ, suc, ◌+◌, ◌<◌, Bool, true, false, cond, List, [], ◌∷◌, length, take, sym, refl, ap, ◌∙◌, arith, ◌==◌, ◌&&◌, ◌||◌, slice_set, Object, Entry, Add, Look, Drop, Pin, Scan, MovedIn, Closed, Drained, step, is_closed, Claims, id_of, node_of, group_of, mark_of, drained_after}
+use Rattle.shr_model.specs.Items.{items_from, later_moved, first_moved, is_closing, HasJournal}
+use Rattle.shr_core.specs.Rule.{is_some_of}
 
-second_false : (a b : Bool) → (a || b) ≡ false → b ≡ false
+pub second_false : (a b : Bool) → (a || b) ≡ false → b ≡ false
 second_false true b h = absurd (cc)
 second_false false b h = h
 

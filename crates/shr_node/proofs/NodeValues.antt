@@ -1,10 +1,5 @@
 -- What is made, moved, drawn and set, at known values.
-use Rattle.std.proofs.Common.{◌≡◌, ℕ, false, List, [], ◌∷◌, refl}
-use Rattle.shr_base.specs.declared.objects.Object.{Object}
-use Rattle.shr_base.specs.declared.journals.Entry.TheVariants.{MovedIn, Closed}
-use Rattle.shr_node.specs.Gains.{bits_for}
-use Rattle.shr_node.specs.Splicing.{Closing, made_by, bits_by, moved_from}
-use Rattle.shr_node.specs.Draining.{drawn}
+use Rattle.shr_node.proofs.Common.{◌≡◌, ℕ, false, List, [], ◌∷◌, refl, Object, MovedIn, Closed, bits_for, Closing, made_by, bits_by, moved_from, drawn}
 
 abbrev object : ℕ → Object
 object command = record { serial = record { worker = 0; command = command }; birth = 1; key = []; value = []; marked = false; pinned = false }

@@ -1,38 +1,15 @@
 -- A child's list is closed into its parent's, with both rooms in hand.
-use Rattle.std.proofs.Common.{◌≡◌, ◌≢◌, ℕ, ◌+◌, ◌*◌, ◌<◌, ◌≤◌, Bool, true, false, cond, List, [], ◌∷◌, ◌++◌, length, sym, refl, ap, subst, ◌∙◌, arith, length-append, append_assoc, eq-eqb, ne_eqb, lt-ltb}
+use Rattle.shr_node.proofs.Common.{◌≡◌, ◌≢◌, ℕ, ◌+◌, ◌*◌, ◌<◌, ◌≤◌, Bool, true, false, cond, List, [], ◌∷◌, ◌++◌, length, sym, refl, ap, subst, ◌∙◌, arith, length-append, append_assoc, eq-eqb, ne_eqb, lt-ltb, append-nil, dite, ℕ_discrete, ◌&&◌, ◌==◌, nat_lt, Option, None, Some, Contains-push, Object, Place, Entry, MovedIn, Closed, place_number, IsTree, parent_of, step, IsOutcome, is_closed, IsAllowed, child_again, times, without, Begins, begins_push, begins_more, times-without_same, times-without_other, View, Shape, Room, group_of, beside, list_content, has_room, groups_in, IsInHand, content_in, in_hand, with_content, with_taken, with_stored, with_set, with_given, owed_after, drained_after, last_entry, moved_in_hand, IsBacked, MayStore, has_taken, inside, Gains, Knows}
 use Rattle.std.proofs.lemmas.Bool.{ltb-true, eqb-true}
-use Rattle.std.proofs.lemmas.List.{append-nil}
-use mathlib.Core.Logic.{dite}
-use native.Mathlib.Decide.{ℕ_discrete}
 use Rattle.shr_model.proofs.PiecesLaws.{and_true}
-use Rattle.std.specs.Prelude.{◌&&◌, ◌==◌, nat_lt, Option, None, Some}
-use Rattle.std.proofs.lemmas.List.Elements.{Contains-push}
-use Rattle.shr_base.specs.declared.objects.Object.{Object}
-use Rattle.shr_base.specs.declared.places.Place.{Place}
-use Rattle.shr_base.specs.declared.journals.Entry.{Entry}
-use Rattle.shr_base.specs.declared.journals.Entry.TheVariants.{MovedIn, Closed}
-use Rattle.shr_model.specs.Places.{place_number}
-use Rattle.shr_model.specs.Groups.{IsTree, parent_of}
-use Rattle.shr_model.specs.Items.{step, IsOutcome, is_closed}
-use Rattle.shr_model.specs.Families.{IsAllowed}
-use Rattle.shr_model.proofs.GroupsLaws.{child_again}
-use Rattle.shr_seats.specs.Weights.{times, without, Begins, total}
-use Rattle.shr_seats.proofs.Weighing.{begins_push, begins_more, only_yes, times-without_same, times-without_other}
-use Rattle.shr_core.specs.declared.view.View.{View}
-use Rattle.shr_seats.specs.declared.shape.Shape.{Shape}
-use Rattle.shr_core.specs.declared.rooms.Room.{Room}
+use Rattle.shr_seats.specs.Weights.{total}
+use Rattle.shr_seats.proofs.Weighing.{only_yes}
 use Rattle.shr_core.specs.Parts.{Content, Hand, Holding, Made, Known, made as stored_event, raised as raised_event}
-use Rattle.shr_core.specs.Layout.{group_of, beside}
-use Rattle.shr_core.specs.Rule.{list_content, has_room, is_room}
-use Rattle.shr_seats.specs.Shapes.{groups_in}
-use Rattle.shr_core.specs.Tells.{IsInHand}
-use Rattle.shr_core.specs.Steps.{content_in, in_hand, with_content, with_taken, with_stored, with_set, with_given, owed_after, drained_after, last_entry, moved_in_hand, IsBacked, MayStore}
-use Rattle.shr_core.proofs.Hands.{has_taken}
-use Rattle.shr_core.proofs.Calls.{inside}
-use Rattle.shr_node.specs.Gains.{Gains, Knows}
+use Rattle.shr_core.specs.Rule.{is_room}
 use Rattle.shr_node.proofs.Storing.{BothReady, with_both_stored, with_both_kept}
-use Rattle.shr_node.proofs.Gaining.{gains_of, stored_view, stored, taken_here, given, owed_raised, marks_stay}
-use Rattle.shr_node.proofs.Acting.{last_push}
+use Rattle.shr_node.proofs.Gaining.{gains_of, stored_view, stored, given, owed_raised, marks_stay}
+use Rattle.shr_core.proofs.Storing.{last_pushed}
+use Rattle.shr_core.proofs.Hands.{taken_in_hand}
 
 -- the content of the room below the one taken last
 pub under_here : (p k : ℕ) (x c : Content) (hs : List Hand) → p ≢ k → content_in k (record { room = p; content = x } ∷ record { room = k; content = c } ∷ hs) ≡ c
@@ -111,16 +88,16 @@ module _ (shape : Shape) (u v : View) (child above : Room) (filled : Bool) (tree
   group_p = let there = b.rooms.above_place.group in omega (arith, there, groups)
 
   last_above : last_entry above.list.entries ≡ MovedIn child.place.group (length b.old.items)
-  last_above = ap last_entry b.moved.entries ∙ last_push b.old_above.entries e
+  last_above = ap last_entry b.moved.entries ∙ last_pushed b.old_above.entries e
 
   last_child : last_entry child.list.entries ≡ Closed
-  last_child = ap last_entry b.closed.entries ∙ last_push b.old.entries Closed
+  last_child = ap last_entry b.closed.entries ∙ last_pushed b.old.entries Closed
 
   taken : View
   taken = with_taken (with_taken u (place_number child.place) (list_content b.old)) (place_number above.place) (list_content b.old_above)
 
   above_hand : in_hand (with_taken (with_taken u k c) p d) p ≡ d
-  above_hand = taken_here (with_taken u k c) p d
+  above_hand = taken_in_hand (with_taken u k c) p d
 
   child_hand : in_hand (with_taken (with_taken u k c) p d) (beside p child.place.group) ≡ c
   child_hand = ap (in_hand (with_taken (with_taken u k c) p d)) child_under ∙ under_here p k d c u.holding.hands apart_numbers

@@ -1,30 +1,10 @@
 -- Acting on the list of one place, and giving its room back.
-use Rattle.std.proofs.Common.{◌≡◌, ℕ, ◌<◌, ◌≤◌, Bool, false, List, [], ◌∷◌, ◌++◌, length, inl, inr, sym, refl, ap, subst, ◌∙◌, arith, true, eqb-true}
-use Rattle.std.specs.Prelude.{◌==◌, Some}
-use Rattle.shr_base.specs.declared.objects.Object.{Object}
-use Rattle.shr_base.specs.declared.objects.Policy.{Policy}
-use Rattle.shr_base.specs.declared.places.Place.{Place}
-use Rattle.shr_base.specs.declared.places.Serial.{Serial}
-use Rattle.shr_base.specs.declared.journals.Entry.{Entry}
-use Rattle.shr_model.specs.Places.{place_number}
-use Rattle.shr_model.specs.Groups.{IsTree}
-use Rattle.shr_model.specs.Items.{is_closed}
-use Rattle.shr_list.specs.Listed.{Listed}
-use Rattle.shr_list.specs.Answers.{Takes, RefusesWorn, RefusesClosed, LacksMemory, TellsScan, scan_entry, drain_entry}
-use Rattle.shr_core.specs.declared.view.View.{View}
-use Rattle.shr_seats.specs.declared.shape.Shape.{Shape}
-use Rattle.shr_core.specs.declared.rooms.Room.{Room}
-use Rattle.shr_core.specs.Parts.{Claims, no_rooms}
-use Rattle.shr_core.specs.Rule.{AreBorn, list_content}
-use Rattle.shr_seats.specs.Shapes.{groups_in}
-use Rattle.shr_core.specs.declared.table.Core.{Core}
-use Rattle.shr_core.specs.Seats.{IsPlaceOf, shape_of}
-use Rattle.shr_core.specs.Steps.{with_taken, with_given, IsTaken, IsCounted, drained_after, last_entry}
+use Rattle.shr_node.proofs.Common.{◌≡◌, ℕ, ◌<◌, ◌≤◌, Bool, false, List, [], ◌∷◌, ◌++◌, length, inl, inr, sym, refl, ap, subst, ◌∙◌, arith, true, ◌==◌, Some, Object, Policy, Place, Serial, Entry, place_number, IsTree, is_closed, Listed, Takes, RefusesWorn, LacksMemory, TellsScan, scan_entry, drain_entry, View, Shape, Room, Claims, no_rooms, AreBorn, list_content, groups_in, Core, IsPlaceOf, shape_of, with_taken, with_given, IsTaken, IsCounted, drained_after, last_entry, Gains, Knows, with_kept, IsOpened, IsReady, IsUntouched, WasMet, made_of, Acts, IsFull, HadRoom, Scans}
+use Rattle.std.proofs.Common.{eqb-true}
+use Rattle.shr_list.specs.Answers.{RefusesClosed}
 use Rattle.shr_core.proofs.Births.{freed_born}
-use Rattle.shr_node.specs.Gains.{Gains, Knows, with_kept}
-use Rattle.shr_node.specs.Opening.{IsOpened, IsReady, IsUntouched, WasMet, made_of}
 use Rattle.shr_node.specs.Draining.{EmptiesOne, LeavesOne}
-use Rattle.shr_node.specs.Answers.{Acts, IsFull, HadRoom, Scans, IsScanClosed, ScanIsWorn, ScanLacks}
+use Rattle.shr_node.specs.Answers.{IsScanClosed, ScanIsWorn, ScanLacks}
 use Rattle.shr_node.proofs.Gaining.{gains_given, known_given, drained_kept, drained_given}
 use Rattle.shr_node.proofs.Marking.{unmoved}
 use Rattle.shr_node.proofs.Acting.{own_opened, ready_plain, held_here, scan_plain, untouched, owned_here, drain_plain, drain_bits, gains_one, acts, scans, was_open, left_gains, left_known, left_full, left_free, was_kept, was_left}
@@ -161,7 +141,7 @@ module _ (shape : Shape) (v w : View) (place : Place) (room : Room) (t : IsOwnTa
               (left_free shape v w place.id place.node place.group room (own lacks.was_open) new lacks.same w' left (scan_entry room.list worker walk policy asked) lacks.room);
         }
 
-none_in : (items : List Object) → (length items == 0) ≡ true → items ≡ []
+pub none_in : (items : List Object) → (length items == 0) ≡ true → items ≡ []
 none_in [] none = refl
 none_in (x ∷ xs) none = absurd (omega (arith, eqb-true (length (x ∷ xs)) 0 none))
 

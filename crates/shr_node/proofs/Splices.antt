@@ -1,28 +1,8 @@
 -- Closing one list after another, groups in falling order.
-use Rattle.std.proofs.Common.{◌≡◌, ℕ, suc, ◌+◌, ◌<◌, ◌≤◌, true, cond, List, [], ◌∷◌, ◌++◌, length, sym, refl, ap, subst, ◌∙◌, arith, append_assoc, eq-eqb, ne_eqb}
-use Rattle.std.specs.Prelude.{◌==◌}
-use Rattle.std.proofs.lemmas.List.{append-nil}
-use Rattle.std.proofs.lemmas.List.Quantifiers.{all_pairs_push}
-use mathlib.Core.Logic.{dite}
-use native.Mathlib.Decide.{ℕ_discrete}
-use Rattle.shr_base.specs.declared.replies.Spent.{Spent}
+use Rattle.shr_node.proofs.Common.{◌≡◌, ℕ, suc, ◌+◌, ◌<◌, ◌≤◌, true, cond, List, [], ◌∷◌, ◌++◌, length, sym, refl, ap, subst, ◌∙◌, arith, append_assoc, eq-eqb, ne_eqb, ◌==◌, append-nil, all_pairs_push, dite, ℕ_discrete, Spent, place_number, Listed, IsTree, is_child, parent_of, IsAtOrAbove, child_takes, child_higher, on_child, IsAtOrAbove-trans, IsAtOrAbove-refl, Contains_from_Has, path_of, Each, Each-none, Each-push, Each-weaker, View, Shape, Made, groups_in, Gains, KnowsClosed, WasMet, Closing, place_of, made_by, bits_by, moved_from, IsPair, SpliceWorn}
 use Rattle.shr_base.specs.declared.replies.Spent.TheVariants as spent
-use Rattle.shr_model.specs.Places.{place_number}
-use Rattle.shr_list.specs.Listed.{Listed}
-use Rattle.shr_model.specs.Groups.{IsTree, is_child, parent_of, IsAtOrAbove}
-use Rattle.shr_model.proofs.GroupsLaws.{IsChild, child_takes, child_higher}
-use Rattle.shr_model.proofs.GroupsOrder.{on_child, IsAtOrAbove-trans, IsAtOrAbove-refl}
-use Rattle.shr_model.proofs.Members.{Contains_from_Has}
-use Rattle.shr_model.specs.Groups.{path_of}
-use Rattle.shr_seats.specs.Views.{Each}
-use Rattle.shr_seats.proofs.Weighing.{Each-none, Each-push, Each-weaker}
-use Rattle.shr_core.specs.declared.view.View.{View}
-use Rattle.shr_seats.specs.declared.shape.Shape.{Shape}
-use Rattle.shr_core.specs.Parts.{Made}
-use Rattle.shr_seats.specs.Shapes.{groups_in}
-use Rattle.shr_node.specs.Gains.{Gains, KnowsClosed}
-use Rattle.shr_node.specs.Opening.{WasMet}
-use Rattle.shr_node.specs.Splicing.{Closing, place_of, made_by, bits_by, made_in, bits_in, IsClosing, AreClosings, moved_from, IsPair, StopsAt, SpliceWorn, HadRoom, own_number, above_place}
+use Rattle.shr_model.proofs.GroupsLaws.{IsChild}
+use Rattle.shr_node.specs.Splicing.{made_in, bits_in, IsClosing, AreClosings, StopsAt, HadRoom, own_number, above_place}
 use Rattle.shr_node.proofs.Gaining.{gains_none, gains_then, knows_still, counted_before}
 use Rattle.shr_node.proofs.Draws.{at_each, met_before}
 

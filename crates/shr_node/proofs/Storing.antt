@@ -1,16 +1,7 @@
 -- The child's list and its parent's once the objects moved, and the steps that store them.
-use Rattle.std.specs.Prelude.{◌≡◌, ◌≤◌, ◌&&◌, nat_lt, Bool, false, cond, [], length, Contains}
-use Rattle.shr_base.specs.declared.journals.Entry.TheVariants.{Closed}
-use Rattle.shr_model.specs.Places.{place_number}
-use Rattle.shr_model.specs.Items.{is_closed}
-use Rattle.shr_model.specs.Families.{moved_in, AreChildrenMovedIn}
-use Rattle.shr_list.specs.Listed.{Listed}
+use Rattle.shr_node.proofs.Common.{◌≡◌, ◌≤◌, ◌&&◌, nat_lt, Bool, false, cond, [], length, Contains, Closed, place_number, is_closed, moved_in, AreChildrenMovedIn, Listed, View, Shape, Room, with_stored, with_set, last_entry, AreTaken}
 use Rattle.shr_list.specs.Answers as answer
-use Rattle.shr_core.specs.declared.view.View.{View}
-use Rattle.shr_seats.specs.declared.shape.Shape.{Shape}
-use Rattle.shr_core.specs.declared.rooms.Room.{Room}
-use Rattle.shr_core.specs.Steps.{with_stored, with_set, last_entry}
-use Rattle.shr_node.specs.Pairs.{AreTaken, with_both_left}
+use Rattle.shr_node.specs.Pairs.{with_both_left}
 
 -- the parent's list took the child's objects, and the child's is closed
 pub record BothReady (shape : Shape) (before v : View) (child above : Room) (filled : Bool) : Type 0 where

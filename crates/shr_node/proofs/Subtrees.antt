@@ -1,11 +1,7 @@
 -- Marking the groups at or below a group, from the lowest number up.
-use Rattle.std.proofs.Common.{◌≡◌, ℕ, ◌+◌, ◌<◌, Bool, true, false, List, length, get_or, set, replicate, sym, ap, subst, ◌∙◌, ⊎_elim, arith}
+use Rattle.shr_node.proofs.Common.{◌≡◌, ℕ, ◌+◌, ◌<◌, Bool, true, false, List, length, get_or, set, replicate, sym, ap, subst, ◌∙◌, ⊎_elim, arith, length-replicate, dite, ℕ_discrete, IsTree, parent_of, IsAtOrAbove, IsAtOrAbove-trans, IsAtOrAbove-le, IsAtOrAbove-refl}
 use Rattle.std.specs.Prelude.{◌↔◌, slice_index_or}
-use Rattle.std.proofs.lemmas.List.{get_or-set_same, get_or-set_other, get_or-replicate, length-replicate}
-use mathlib.Core.Logic.{dite}
-use native.Mathlib.Decide.{ℕ_discrete}
-use Rattle.shr_model.specs.Groups.{IsTree, parent_of, IsAtOrAbove}
-use Rattle.shr_model.proofs.GroupsOrder.{IsAtOrAbove-trans, IsAtOrAbove-le, IsAtOrAbove-refl}
+use Rattle.std.proofs.lemmas.List.{get_or-set_same, get_or-set_other, get_or-replicate}
 use Rattle.shr_node.proofs.Climbing.{above_parent, parent_above}
 
 -- of the groups below a number those at or below the group are marked

@@ -1,6 +1,5 @@
 -- The sizes of the tables.
-use Rattle.std.proofs.Common.{ℕ, ◌<◌, ◌≤◌, eqb, cond, arith}
-use Rattle.std.proofs.lemmas.Bool.Decides.{nat_tests}
+use Rattle.shr_plain.proofs.Common.{ℕ, ◌<◌, ◌≤◌, eqb, cond, arith, nat_tests}
 
 -- there is an id, and one for each pool
 pub ids_some : (n : ℕ) → 0 < cond (eqb n 0) 1 n

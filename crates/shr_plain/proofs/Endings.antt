@@ -1,18 +1,12 @@
 -- The rooms at the end.
-use Rattle.std.proofs.Common.{◌≡◌, ℕ, ◌+◌, ◌<◌, true, false, suc, List, [], ◌++◌, sym, refl, ap, subst, ◌∙◌, arith}
+use Rattle.shr_plain.proofs.Common.{◌≡◌, ℕ, ◌+◌, ◌<◌, true, false, suc, List, [], ◌++◌, sym, refl, ap, subst, ◌∙◌, arith, Final, Seen, PlainEntry, row_count, Sizes, Slot, View, end_of, entries_at, IsPools, units, entries_in, parts_in, standing_in, spent_view, part_of}
 use mathlib.Core.Option.{Option, some}
 use lib.ListN.{get_elem?}
-use Rattle.atomic_table.specs.Table.{Final, Seen}
-use Rattle.shr_base.specs.declared.journals.PlainEntry.{PlainEntry}
-use Rattle.shr_seats.specs.Rows.{place_in, row_count}
+use Rattle.shr_seats.specs.Rows.{place_in}
 use Rattle.shr_seats.specs.Standing.{IsWhole}
-use Rattle.shr_seats.specs.declared.rows.Sizes.{Sizes}
 use Rattle.shr_rooms.specs.Left.{IsLeft}
 use Rattle.shr_rooms.proofs.Ends.{left}
-use Rattle.shr_plain.specs.declared.slot.Slot.{Slot}
-use Rattle.shr_plain.specs.declared.view.View.{View}
-use Rattle.shr_plain.specs.Ending.{EndValue, end_of, ends_below, entries_of, entries_at}
-use Rattle.shr_plain.specs.Rule.{IsPools, units, entries_in, parts_in, standing_in, spent_view, part_of}
+use Rattle.shr_plain.specs.Ending.{EndValue, ends_below, entries_of}
 
 pub ends_none : (z : Sizes) (entries : ℕ → List PlainEntry) → [] ≡ ends_below z 0 entries
 unfolding ends_below

@@ -1,18 +1,10 @@
 -- Taking a room, having it in hand, and giving it back.
-use Rattle.std.proofs.Common.{◌≡◌, ◌≢◌, ℕ, ◌+◌, ◌*◌, ◌<◌, ◌%◌, ◌/◌, ◌^◌, ◌++◌, true, false, eqb, List, [], ◌∷◌, refl, sym, ap, subst, ◌∙◌}
+use Rattle.shr_plain.proofs.Common.{◌≡◌, ◌≢◌, ℕ, ◌+◌, ◌*◌, ◌<◌, ◌%◌, ◌/◌, ◌^◌, ◌++◌, true, false, eqb, List, [], ◌∷◌, refl, sym, ap, subst, ◌∙◌, Allows, rest, PlainEntry, row_count, Sizes, RoomView, with_given, with_stored, IsTold, here, Slot, View, IsPools, units, entries_in, parts_in, standing_in, spent_view, with_parts, with_part, part_of, Sat, Takes, Looked, Put, Counts}
 use prog.Atomic.{either}
-use Rattle.atomic_table.specs.Table.{Allows, rest}
-use Rattle.shr_base.specs.declared.journals.PlainEntry.{PlainEntry}
-use Rattle.shr_seats.specs.Rows.{row_count}
-use Rattle.shr_seats.specs.declared.rows.Sizes.{Sizes}
-use Rattle.shr_rooms.specs.Views.{RoomView, with_hand, with_given, with_stored}
-use Rattle.shr_rooms.specs.Told.{IsTold}
-use Rattle.shr_rooms.proofs.Parts.{here, twice}
+use Rattle.shr_rooms.specs.Views.{with_hand}
+use Rattle.shr_rooms.proofs.Parts.{twice}
 use Rattle.shr_rooms.proofs.Steps.{loads, locks, unlocks}
-use Rattle.shr_plain.specs.declared.slot.Slot.{Slot}
-use Rattle.shr_plain.specs.declared.view.View.{View}
-use Rattle.shr_plain.specs.Rule.{IsPools, units, entries_in, parts_in, standing_in, spent_view, with_parts, with_part, part_of}
-use Rattle.shr_plain.specs.Taking.{Sat, Takes, HasRoom, Looked, Put, Counts}
+use Rattle.shr_plain.specs.Taking.{HasRoom}
 
 -- the lock word of a room may be compared with 0 and exchanged by 1
 pub pools_locks : (z : Sizes) (slots id : ℕ) (m : Sat) → m.0.standing.gone ≡ false → (i : ℕ) → i < row_count z → m.1 ≡ [] → (part_of m.0 i).in_hand ≡ false

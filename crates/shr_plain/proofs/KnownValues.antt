@@ -1,16 +1,10 @@
 -- Pools and the ends of their journals at known values.
-use Rattle.std.specs.Prelude.{◌≡◌, ◌==◌, cond, true, false, List, [], ◌∷◌, refl}
-use Rattle.std.proofs.Common.{lit≤, arith}
-use Rattle.shr_base.specs.declared.journals.PlainEntry.{PlainEntry}
-use Rattle.shr_base.specs.declared.journals.PlainEntry.TheVariants.{Release, Grab}
-use Rattle.shr_base.specs.declared.places.Serial.{Serial}
+use Rattle.shr_plain.proofs.Common.{◌≡◌, ◌==◌, cond, true, false, List, [], ◌∷◌, refl, arith, PlainEntry, Release, Grab, Serial, Sizes, IsWorn, IsSetting, room_of, Setting}
+use Rattle.std.proofs.Common.{lit≤}
 use Rattle.shr_base.specs.declared.replies.Spent.TheVariants as spent
-use Rattle.shr_seats.specs.declared.rows.Sizes.{Sizes}
-use Rattle.shr_plain.specs.Answers.{IsWorn}
 use Rattle.shr_plain.specs.Ending.{ends_below}
 use Rattle.shr_plain.specs.Opening.{sizes_for}
-use Rattle.shr_plain.specs.Settings.{IsSetting, home_node, room_of, IsPoolOf}
-use Rattle.shr_plain.specs.declared.settings.Setting.{Setting}
+use Rattle.shr_plain.specs.Settings.{home_node, IsPoolOf}
 
 -- a pool on each node, and a flat one
 abbrev wide : Setting

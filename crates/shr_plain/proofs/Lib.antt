@@ -1,3 +1,4 @@
+mod Common
 pub mod FreeLaws
 pub mod Holding
 pub mod SeatLaws

@@ -1,33 +1,16 @@
 -- What one pass over a pool did, from what the pass says of a shrinker.
-use Rattle.std.proofs.Common.{◌≡◌, ℕ, zero, suc, ◌<◌, ◌≤◌, cond, List, [], ◌∷◌, ◌++◌, length, map, take, sym, refl, ap, subst, ◌∙◌, arith, append_assoc, eq-eqb}
-use Rattle.std.specs.Prelude.{Option, Some, None, ◌==◌, ◌&&◌}
-use Rattle.std.specs.List.{cons_option}
-use Rattle.std.proofs.lemmas.List.{append-nil, append_cancel_left, map-append}
-use Rattle.std.proofs.lemmas.List.Elements.{filter_map-append}
-use Rattle.shr_base.specs.declared.places.Place.{Place}
-use Rattle.shr_base.specs.declared.journals.PlainEntry.{PlainEntry}
-use Rattle.shr_base.specs.declared.journals.PlainEntry.TheVariants.{Release, Grab, Reclaim}
+use Rattle.shr_plain.proofs.Common.{◌≡◌, ℕ, suc, ◌<◌, ◌≤◌, cond, List, [], ◌∷◌, ◌++◌, length, map, take, sym, refl, ap, subst, ◌∙◌, arith, append_assoc, eq-eqb, Option, Some, None, ◌==◌, ◌&&◌, cons_option, append-nil, filter_map-append, Place, PlainEntry, Release, Grab, Reclaim, Count, PassAnswer, ScanAnswer, ScanSeen, MatchPass, Scans, asks_due, Each, Each-none, Made, Counted, RoomView, IsRecent, Setting, PlainSeat, kind_of, counts_in, scan_by, scans_of, IsReclaimOf, Keeps, Tells, part_of, UnitSeat, state_of, PassGives}
+use Rattle.std.proofs.Common.{zero}
+use Rattle.std.proofs.lemmas.List.{append_cancel_left, map-append}
 use Rattle.shr_base.specs.declared.walks.Ending.{Ending}
 use Rattle.shr_base.specs.declared.walks.Ending.TheVariants.{Through, Stop, NoRoom, Worn}
 use Rattle.shr_base.specs.declared.walks.PassRecord.{PassRecord}
 use Rattle.shr_model.specs.Pass.{FollowsArithmetic}
 use Rattle.shr_deferred.specs.Seat as deferred
-use Rattle.shr_pass.specs.declared.answers.Count.{Count}
-use Rattle.shr_pass.specs.declared.answers.PassAnswer.{PassAnswer}
 use Rattle.shr_pass.specs.declared.answers.PassAnswer.TheVariants as passed
-use Rattle.shr_pass.specs.declared.answers.ScanAnswer.{ScanAnswer}
-use Rattle.shr_pass.specs.declared.answers.ScanSeen.{ScanSeen}
-use Rattle.shr_pass.specs.Passes.{MatchPass, Scans, EndedBy, CountedBetween, count_of, asks_due, moves_by}
-use Rattle.shr_seats.specs.Views.{Each}
-use Rattle.shr_seats.proofs.Weighing.{Each-none, Each-weaker}
-use Rattle.shr_rooms.specs.Views.{Made, Counted, RoomView}
-use Rattle.shr_rooms.specs.Told.{IsRecent}
-use Rattle.shr_plain.specs.declared.settings.Setting.{Setting}
-use Rattle.shr_plain.specs.declared.table.PlainSeat.{PlainSeat}
-use Rattle.shr_plain.specs.Counting.{kind_of, counts_in, scan_by, scans_of, IsReclaimOf, Keeps, Tells}
-use Rattle.shr_plain.specs.Rule.{part_of}
-use Rattle.shr_plain.specs.Seat.{UnitSeat, state_of}
-use Rattle.shr_plain.specs.Walks.{EndsBy, AreScans, PassGives}
+use Rattle.shr_pass.specs.Passes.{EndedBy, CountedBetween, count_of, moves_by}
+use Rattle.shr_seats.proofs.Weighing.{Each-weaker}
+use Rattle.shr_plain.specs.Walks.{EndsBy, AreScans}
 
 -- a list that maps to one element has one
 abbrev Many : {B : Type 0} → List B → Type 0

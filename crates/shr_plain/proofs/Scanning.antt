@@ -1,29 +1,17 @@
 -- One count and one scan of a pool on a node.
-use Rattle.std.proofs.Common.{◌≡◌, ◌≢◌, ℕ, ◌<◌, ◌≤◌, cond, Bool, true, false, List, [], ◌∷◌, ◌++◌, length, sym, refl, ap, subst, ◌∙◌, arith, eq-eqb, ne_eqb}
-use Rattle.std.specs.Prelude.{nat_le, ◌==◌, ◌&&◌, Option, Some, None}
-use Rattle.std.specs.List.{cons_option}
-use Rattle.std.proofs.lemmas.Bool.Decides.{nat_tests}
-use Rattle.std.proofs.lemmas.List.{append-nil, map_push}
-use Rattle.std.proofs.lemmas.List.Elements.{filter_map-append}
-use Rattle.shr_base.specs.declared.places.Place.{Place}
-use Rattle.shr_base.specs.declared.journals.PlainEntry.{PlainEntry}
-use Rattle.shr_base.specs.declared.journals.PlainEntry.TheVariants.{Reclaim}
-use Rattle.shr_pass.specs.declared.answers.Count.{Count}
+use Rattle.shr_plain.proofs.Common.{◌≡◌, ◌≢◌, ℕ, ◌<◌, ◌≤◌, cond, Bool, true, false, List, [], ◌∷◌, ◌++◌, length, sym, refl, ap, subst, ◌∙◌, arith, eq-eqb, ◌==◌, ◌&&◌, Option, Some, None, cons_option, nat_tests, append-nil, filter_map-append, Place, PlainEntry, Reclaim, Count, ScanSeen, ScanAnswer, Each-none, Made, Counted, RoomView, with_known, with_entry, IsTold, IsRecent, here, there, kind_of, counts_in, scan_by, scans_of, IsReclaimOf, Keeps, Tells, units, with_part, part_of, UnitSeat, Sat, Looked, Put, Counts}
+use Rattle.std.proofs.Common.{ne_eqb}
+use Rattle.std.specs.Prelude.{nat_le}
+use Rattle.std.proofs.lemmas.List.{map_push}
 use Rattle.shr_pass.specs.declared.answers.Count.TheVariants as kinds
-use Rattle.shr_pass.specs.declared.answers.ScanSeen.{ScanSeen}
-use Rattle.shr_pass.specs.declared.answers.ScanAnswer.{ScanAnswer}
 use Rattle.shr_pass.specs.declared.answers.ScanAnswer.TheVariants as answered
 use Rattle.shr_pass.specs.Answers.{scans_with}
 use Rattle.shr_seats.specs.Weights.{Begins}
-use Rattle.shr_seats.proofs.Weighing.{begins_all, begins_more, begins_push, Each-none, Each-one}
-use Rattle.shr_rooms.specs.Views.{Made, Counted, RoomView, with_known, with_entry, with_count}
-use Rattle.shr_rooms.specs.Told.{IsTold, IsRecent, IsCount}
-use Rattle.shr_rooms.proofs.Parts.{here, there}
+use Rattle.shr_seats.proofs.Weighing.{begins_all, begins_more, begins_push, Each-one}
+use Rattle.shr_rooms.specs.Views.{with_count}
+use Rattle.shr_rooms.specs.Told.{IsCount}
 use Rattle.shr_rooms.proofs.Telling.{told_recent}
-use Rattle.shr_plain.specs.Counting.{kind_of, counts_in, scan_by, scans_of, IsReclaimOf, Walks, Keeps, Tells, ReclaimGives}
-use Rattle.shr_plain.specs.Rule.{units, with_part, part_of}
-use Rattle.shr_plain.specs.Seat.{UnitSeat}
-use Rattle.shr_plain.specs.Taking.{Sat, Looked, Put, Counts}
+use Rattle.shr_plain.specs.Counting.{Walks, ReclaimGives}
 use Rattle.shr_plain.proofs.FreeLaws.{journal_low}
 
 -- the three kinds of a count

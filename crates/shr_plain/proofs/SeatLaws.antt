@@ -1,23 +1,11 @@
 -- A seat after it looked at a room or put an entry into it.
-use Rattle.std.proofs.Common.{◌≡◌, ◌≢◌, ℕ, ◌<◌, ◌≤◌, false, List, [], length, sym, refl, ap, subst, ◌∙◌, arith}
-use mathlib.Core.Logic.{dite}
-use native.Mathlib.Decide.{ℕ_discrete}
-use Rattle.shr_base.specs.declared.journals.PlainEntry.{PlainEntry}
-use Rattle.shr_rooms.specs.Views.{RoomView, with_known, with_entry}
-use Rattle.shr_rooms.proofs.Parts.{here, there, part_joined}
+use Rattle.shr_plain.proofs.Common.{◌≡◌, ◌≢◌, ℕ, ◌<◌, ◌≤◌, false, List, [], length, sym, refl, ap, subst, ◌∙◌, arith, dite, ℕ_discrete, PlainEntry, RoomView, with_known, with_entry, here, there, part_joined, PlainSeat, units, with_part, part_of, with_split_view, joined_view, UnitSeat, PlainState, IsOf, state_of, Sat, Looked, Put, Makes, IsWorn, Place, free_of, row_count, Sizes, IsTold}
 use Rattle.shr_plain.specs.declared.table.Pools.{Pools}
-use Rattle.shr_plain.specs.declared.table.PlainSeat.{PlainSeat}
-use Rattle.shr_plain.specs.Rule.{units, with_part, part_of, with_split_view, joined_view}
-use Rattle.shr_plain.specs.Seat.{UnitSeat, PlainState, IsUnitSeatOf, IsOf, state_of}
-use Rattle.shr_plain.specs.Taking.{Sat, Looked, Put}
-use Rattle.shr_plain.specs.Answers.{Sees, Makes, IsWorn}
-use Rattle.shr_base.specs.declared.places.Place.{Place}
+use Rattle.shr_plain.specs.Seat.{IsUnitSeatOf}
+use Rattle.shr_plain.specs.Answers.{Sees}
 use Rattle.shr_base.specs.declared.replies.Spent.TheVariants as spent
-use Rattle.shr_model.specs.Units.{free_of}
-use Rattle.shr_seats.specs.Rows.{row_of, row_count}
+use Rattle.shr_seats.specs.Rows.{row_of}
 use Rattle.shr_deferred.proofs.Seating.{some_words}
-use Rattle.shr_seats.specs.declared.rows.Sizes.{Sizes}
-use Rattle.shr_rooms.specs.Told.{IsTold}
 
 module _ (p : Pools) (i : ℕ) (s t : UnitSeat) (is : IsUnitSeatOf p s) (table : t.table_id ≡ s.table_id) where
   -- a seat of which one part changed, with no room in hand

@@ -1,14 +1,7 @@
 -- Tries of pools, one more at a time.
-use Rattle.std.proofs.Common.{◌≡◌, ℕ, ◌+◌, ◌≤◌, List, [], ◌∷◌, ◌++◌, length, refl, subst, arith}
-use Rattle.shr_base.specs.declared.places.Serial.{Serial}
-use Rattle.shr_base.specs.declared.walks.PlainTry.{PlainTry}
-use Rattle.shr_pass.specs.declared.answers.PassAnswer.{PassAnswer}
+use Rattle.shr_plain.proofs.Common.{◌≡◌, ℕ, ◌+◌, ◌≤◌, List, [], ◌∷◌, ◌++◌, length, refl, subst, arith, Serial, PlainTry, PassAnswer, MatchPass, Sizes, Setting, PlainState, TryGives, AreTried, answer_of, freed_in}
 use Rattle.shr_pass.specs.declared.answers.PassAnswer.TheVariants as passed
-use Rattle.shr_pass.specs.Passes.{MatchPass}
-use Rattle.shr_seats.specs.declared.rows.Sizes.{Sizes}
-use Rattle.shr_plain.specs.declared.settings.Setting.{Setting}
-use Rattle.shr_plain.specs.Seat.{PlainState}
-use Rattle.shr_plain.specs.Walks.{TryGives, AreTried, try_of, answer_of, freed_in}
+use Rattle.shr_plain.specs.Walks.{try_of}
 
 -- a try is the pass that it is
 pub answer_back : (a : PassAnswer) → answer_of (try_of a) ≡ a

@@ -1,12 +1,7 @@
 -- The line of jobs and marks while it is pushed.
-use Rattle.std.proofs.Common.{◌≡◌, ℕ, ◌+◌, ◌*◌, List, [], ◌∷◌, ◌++◌, map, length, sym, ap, ◌∙◌, arith, length-append}
-use Rattle.std.specs.Prelude.{replicate}
-use Rattle.std.specs.List.{range_with_len}
+use Rattle.shr_pool.proofs.Common.{◌≡◌, ℕ, ◌+◌, ◌*◌, List, [], ◌∷◌, ◌++◌, map, length, sym, ap, ◌∙◌, arith, length-append, replicate, range_with_len, map-range_with_len_more, SweepItem, Walk, End, job_at, table_jobs}
 use Rattle.std.proofs.lemmas.List.{map-append, length-map, length-replicate}
-use Rattle.std.proofs.lemmas.List.FromFn.{map-range_with_len_more, length-map-range_with_len}
-use Rattle.shr_pool.specs.declared.items.SweepItem.{SweepItem}
-use Rattle.shr_pool.specs.declared.items.SweepItem.TheVariants.{Walk, End}
-use Rattle.shr_pool.specs.Lines.{job_at, table_jobs}
+use Rattle.std.proofs.lemmas.List.FromFn.{length-map-range_with_len}
 
 -- the first jobs
 abbrev pub walks : ℕ → ℕ → List SweepItem

@@ -1,25 +1,16 @@
 -- Each push, pop, split and join keeps the rule.
-use Rattle.std.proofs.Common.{◌≡◌, ℕ, zero, suc, ◌+◌, ◌<◌, ◌≤◌, ◌≢◌, Bool, true, false, cond, List, [], ◌∷◌, ◌++◌, map, set, sym, refl, ap, subst, ◌∙◌, ⊎_elim, arith, append_assoc}
-use Rattle.std.specs.Prelude.{sum_by, not, ◌&&◌}
+use Rattle.shr_pool.proofs.Common.{◌≡◌, ℕ, zero, suc, ◌+◌, ◌<◌, ◌≤◌, false, cond, List, [], ◌∷◌, ◌++◌, map, sym, refl, ap, subst, ◌∙◌, ⊎_elim, arith, sum_by, ◌&&◌, some, some-injective, some-ne-none, get_elem?, Each, total, IsWhole, total-append, SweepItem, Walk, End, PassView, ends, is_end, most_helpers, IsPopped, IsFaced, IsShown, IsQueued, first_view, new_view, with_push, with_pop, with_split_view, joined_view, marks_for}
+use Rattle.std.proofs.Common.{◌≢◌, Bool, true, set, append_assoc}
+use Rattle.std.specs.Prelude.{not}
 use Rattle.std.proofs.lemmas.Bool.{cases_Bool}
 use Rattle.std.proofs.lemmas.List.{map-set, append-nil}
-use mathlib.Core.Option.{some, some-injective, some-ne-none}
-use lib.ListN.{get_elem?}
 use Rattle.atomic_table.proofs.Lists.{at_map, at_set, set_again, set_else}
 use Rattle.crossbeam_queue.specs.Fifo.{Pushes, Pops, Forks, Merges, Learns}
-use Rattle.shr_seats.specs.Views.{Each}
-use Rattle.shr_seats.specs.Weights.{total}
-use Rattle.shr_seats.specs.Standing.{Standing, at_first, at_split, at_end, is_out, IsWhole, AreSeats}
+use Rattle.shr_seats.specs.Standing.{Standing, at_first, at_split, at_end, is_out, AreSeats}
 use Rattle.shr_seats.proofs.Changed.{grown, joined_list}
 use Rattle.shr_seats.proofs.Seating.{AreSeats-first, AreSeats-split, AreSeats-join, not_gone, others, sole, sum_by-sole}
 use Rattle.shr_seats.proofs.Sums.{term_le, sum_by-changed, sum_by-joined, sum_by-more, sum_by-none, sum_by-map, Each-set, Each-push}
-use Rattle.shr_seats.proofs.Weighing.{total-append}
-use Rattle.shr_pool.specs.declared.items.SweepItem.{SweepItem}
-use Rattle.shr_pool.specs.declared.items.SweepItem.TheVariants.{Walk, End}
-use Rattle.shr_pool.specs.declared.view.PassView.{PassView}
-use Rattle.shr_pool.specs.Lines.{ends, is_end, most_helpers}
-use Rattle.shr_pool.specs.Known.{IsPopped, IsFaced, IsShown}
-use Rattle.shr_pool.specs.Rule.{IsQueued, standing_in, first_view, new_view, spent_view, with_push, with_pop, with_split_view, joined_view, marks_for}
+use Rattle.shr_pool.specs.Rule.{standing_in, spent_view}
 use Rattle.shr_pool.proofs.Weighing.{none_there, sum_by-lt, sum_by-both, some_term}
 
 -- what a view popped weighs

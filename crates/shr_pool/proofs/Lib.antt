@@ -1,3 +1,4 @@
+mod Common
 pub mod Weighing
 pub mod Filling
 mod Keeping

@@ -1,19 +1,10 @@
 -- Each job stands once in the table of jobs, so that weights tell how often it was popped.
-use Rattle.std.proofs.Common.{◌≡◌, ℕ, zero, suc, ◌+◌, ◌*◌, ◌/◌, ◌%◌, ◌<◌, ◌≤◌, cond, [], ◌∷◌, map, sym, refl, ap, ◌∙◌, ⊎_elim, inl, inr, arith, eq-eqb, ne_eqb}
-use Rattle.std.specs.Prelude.{false, ◌==◌, ◌&&◌, ◌⊎◌}
-use Rattle.std.specs.List.{range_with_len}
-use Rattle.std.proofs.lemmas.List.FromFn.{map-range_with_len_more}
+use Rattle.shr_pool.proofs.Common.{◌≡◌, ℕ, zero, suc, ◌+◌, ◌*◌, ◌<◌, ◌≤◌, cond, [], ◌∷◌, map, sym, refl, ap, ◌∙◌, ⊎_elim, arith, false, ◌&&◌, range_with_len, map-range_with_len_more, dite, ℕ_discrete, total, total-append, SweepJob, PassView, job_at, table_jobs, AreWorked, AreEachOnce, IsTableJob, only_job}
+use Rattle.std.proofs.Common.{◌/◌, ◌%◌, inl, inr, eq-eqb, ne_eqb}
+use Rattle.std.specs.Prelude.{◌==◌, ◌⊎◌}
 use Rattle.std.proofs.lemmas.Nat.{same_from_place, div-add-mod'}
 use Rattle.std.proofs.lemmas.Bool.{cases_lt}
 use Rattle.std.proofs.Math.Nat.{mod-lt, mul-le-mul_right, div-lt_iff_lt-mul}
-use mathlib.Core.Logic.{dite}
-use native.Mathlib.Decide.{ℕ_discrete}
-use Rattle.shr_seats.specs.Weights.{total}
-use Rattle.shr_seats.proofs.Weighing.{total-append}
-use Rattle.shr_pool.specs.declared.items.SweepJob.{SweepJob}
-use Rattle.shr_pool.specs.declared.view.PassView.{PassView}
-use Rattle.shr_pool.specs.Lines.{job_at, table_jobs}
-use Rattle.shr_pool.specs.Worked.{AreWorked, AreEachOnce, IsTableJob, only_job}
 
 -- two jobs that differ
 differs : (j x : SweepJob) → (x.group ≡ j.group → x.node ≡ j.node → ⊥) → only_job j x ≡ 0

@@ -1,16 +1,12 @@
 -- The jobs of a sweep, the rule of its queue and what came of the jobs, at known values.
-use Rattle.std.proofs.Common.{arith, ap, ◌∙◌, length-append}
-use Rattle.std.specs.Prelude.{◌≡◌, [], ◌∷◌, length, refl, replicate}
-use Rattle.shr_pool.specs.declared.items.SweepItem.TheVariants.{Walk, End}
-use Rattle.shr_pool.specs.declared.view.PassView.{PassView}
-use Rattle.shr_pool.specs.Lines.{job, job_at, table_jobs, line_of, ends, most_helpers}
-use Rattle.shr_pool.specs.Known.{HasPoppedWithin, IsPopped, IsFaced}
-use Rattle.shr_pool.specs.Passes.{IsFilling, IsHelper, filling}
-use Rattle.shr_pool.specs.Rule.{IsQueued, first_view, new_view, with_pop, joined_view, with_split_view, marks_for}
+use Rattle.shr_pool.proofs.Common.{arith, ap, ◌∙◌, length-append, ◌≡◌, [], ◌∷◌, length, refl, replicate, Walk, End, PassView, job_at, table_jobs, line_of, ends, most_helpers, IsPopped, IsFaced, IsHelper, filling, IsQueued, first_view, new_view, with_pop, joined_view, with_split_view, marks_for, ArePopped, AreWorked, AreEachOnce, IsTableJob, only_job}
+use Rattle.shr_pool.specs.Lines.{job}
+use Rattle.shr_pool.specs.Known.{HasPoppedWithin}
+use Rattle.shr_pool.specs.Passes.{IsFilling}
 use Rattle.shr_pool.proofs.Keeping.{begins}
 use Rattle.shr_pool.proofs.Working.{worked}
 use Rattle.shr_pool.proofs.Once.{each_once}
-use Rattle.shr_pool.specs.Worked.{ArePopped, AreWorked, AreEachOnce, IsTableJob, only_job, times_popped}
+use Rattle.shr_pool.specs.Worked.{times_popped}
 
 -- two nodes and three groups: node 0 first, and on each node the root first
 jobs_in_order : table_jobs 2 3 ≡ job 0 0 ∷ job 1 0 ∷ job 2 0 ∷ job 0 1 ∷ job 1 1 ∷ job 2 1 ∷ []

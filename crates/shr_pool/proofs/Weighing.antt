@@ -1,13 +1,6 @@
 -- Sums over passes, and lists that weigh nothing.
-use Rattle.std.proofs.Common.{◌≡◌, ℕ, zero, suc, ◌+◌, ◌<◌, ◌≤◌, List, [], ◌∷◌, length, sym, refl, ap, arith}
-use Rattle.std.specs.Prelude.{sum_by}
+use Rattle.shr_pool.proofs.Common.{◌≡◌, ℕ, zero, suc, ◌+◌, ◌<◌, ◌≤◌, List, [], ◌∷◌, length, sym, refl, ap, arith, sum_by, some, some-injective, some-ne-none, dite, ℕ_discrete, get_elem?, Each, total}
 use Rattle.std.proofs.lemmas.List.Sums.{sum_by-cons}
-use mathlib.Core.Option.{some, some-injective, some-ne-none}
-use mathlib.Core.Logic.{dite}
-use native.Mathlib.Decide.{ℕ_discrete}
-use lib.ListN.{get_elem?}
-use Rattle.shr_seats.specs.Views.{Each}
-use Rattle.shr_seats.specs.Weights.{total}
 
 -- a list in which nothing weighs anything, where each element weighs 1, is empty
 pub none_there : {A : Type 0} (l : List A) → total (λ _. 1) l ≡ 0 → l ≡ []

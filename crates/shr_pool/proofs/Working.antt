@@ -1,16 +1,6 @@
 -- What was popped of the jobs, once a mark was.
-use Rattle.std.proofs.Common.{◌≡◌, ℕ, zero, suc, ◌+◌, ◌<◌, ◌≤◌, List, [], ◌∷◌, ◌++◌, map, sym, refl, ap, ◌∙◌, arith}
-use Rattle.std.specs.Prelude.{replicate}
-use mathlib.Core.Option.{some-injective}
-use lib.ListN.{get_elem?}
-use Rattle.shr_seats.specs.Weights.{total}
-use Rattle.shr_seats.proofs.Weighing.{total-append}
-use Rattle.shr_pool.specs.declared.items.SweepItem.{SweepItem}
-use Rattle.shr_pool.specs.declared.items.SweepItem.TheVariants.{Walk, End}
-use Rattle.shr_pool.specs.declared.items.SweepJob.{SweepJob}
-use Rattle.shr_pool.specs.declared.view.PassView.{PassView}
-use Rattle.shr_pool.specs.Lines.{ends, is_end, of_job, table_jobs, line_of, most_helpers}
-use Rattle.shr_pool.specs.Worked.{ArePopped, AreWorked}
+use Rattle.shr_pool.proofs.Common.{◌≡◌, ℕ, zero, suc, ◌+◌, ◌<◌, ◌≤◌, List, [], ◌∷◌, ◌++◌, map, sym, refl, ap, ◌∙◌, arith, replicate, some-injective, get_elem?, total, total-append, SweepItem, Walk, End, SweepJob, PassView, ends, is_end, table_jobs, line_of, most_helpers, ArePopped, AreWorked}
+use Rattle.shr_pool.specs.Lines.{of_job}
 
 abbrev rest : List SweepItem → List SweepItem
 rest [] = []

@@ -13,6 +13,8 @@ use Rattle.shr_seats.specs.declared.shape.Shape.{Shape}
 use Rattle.shr_charge.specs.Charging.{AreDowns, ChargeOps, IsDown, IsOver, IsUp, group_of, limit_of}
 use Rattle.shr_charge.specs.Paths.{path_to}
 use Rattle.shr_charge.specs.Uses.{ups_at, downs_at}
+use Rattle.shr_model.proofs.Booleans.{is_true}
+use Rattle.shr_model.proofs.PoolLaws.{and_false}
 
 -- ---- counts along a list
 
@@ -45,23 +47,15 @@ all_so P Q ops f h k d low = f _ (h k d low)
 
 -- ---- whether an operation was refused
 
-is_true : (b : Bool) → T b → b ≡ true
-is_true true h = refl
-is_true false h = absurd h
-
-not_true : (b : Bool) → (T b → ⊥) → b ≡ false
+pub not_true : (b : Bool) → (T b → ⊥) → b ≡ false
 not_true true h = absurd (h tt)
 not_true false h = refl
-
-and_false : (b : Bool) → (b && false) ≡ false
-and_false true = refl
-and_false false = refl
 
 and_true : (b : Bool) → (b && true) ≡ b
 and_true true = refl
 and_true false = refl
 
-below_not : (limit : Option ℕ) (o : UseStep) → IsBelow limit o → is_refused limit o ≡ false
+pub below_not : (limit : Option ℕ) (o : UseStep) → IsBelow limit o → is_refused limit o ≡ false
 below_not None o h = refl
 below_not (Some l) o h = ap (λ (b : Bool). o.up && not b) (is_true (int_lt o.found (pos l)) h.lt) ∙ and_false o.up
 

@@ -1,5 +1,6 @@
-mod Living
+mod Common
+pub mod Living
 pub mod Merging
-mod Noting
+pub mod Noting
 mod RegistrationsValues
 mod Spanning

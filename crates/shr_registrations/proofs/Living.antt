@@ -1,15 +1,13 @@
 -- The registration that an id is in after so many entries, by the spans of all registrations.
-use Rattle.std.proofs.Common.{◌≡◌, ◌≢◌, ℕ, zero, suc, ◌+◌, ◌%◌, ◌<◌, ◌≤◌, Bool, true, false, cond, List, [], ◌∷◌, length, take, drop, Option, Some, None, refl, sym, ap, subst, ◌∙◌, arith}
-use Rattle.std.specs.Prelude.{◌&&◌, ◌==◌, nat_lt, slice_get}
-use mathlib.Core.Option.{some}
+use Rattle.shr_registrations.proofs.Common.{◌≡◌, ◌≢◌, ℕ, zero, suc, ◌+◌, ◌<◌, ◌≤◌, Bool, true, false, cond, List, [], ◌∷◌, length, take, drop, Option, Some, None, refl, sym, ap, subst, ◌∙◌, arith, ◌&&◌, ◌==◌, nat_lt, nat_tests, PoolEntry, Registered, Unregistered, Idle, Registration, End, is_within, to_of, same_byte}
+use Rattle.std.proofs.Common.{◌%◌}
+use Rattle.std.specs.Prelude.{slice_get}
 use lib.ListN.{get_elem?}
-use Rattle.std.proofs.lemmas.Bool.Decides.{nat_tests}
-use Rattle.shr_base.specs.declared.journals.PoolEntry.{PoolEntry}
-use Rattle.shr_base.specs.declared.journals.PoolEntry.TheVariants.{Registered, Unregistered, Idle}
 use Rattle.shr_model.specs.Pool.{decl_after, decl_from, end_of, from_after, from_from, id_of, is_free, lowest_free, phase_of, IsNextPool, IsPoolJournal}
-use Rattle.shr_registrations.specs.declared.steps.Registration.{Registration}
-use Rattle.shr_registrations.specs.declared.live.End.{End}
-use Rattle.shr_registrations.specs.Live.{is_within, live_in, live_now, next_end, to_of}
+use Rattle.shr_registrations.specs.Live.{live_in, live_now, next_end}
+use Rattle.shr_model.proofs.Booleans.{is_other, is_same}
+use Rattle.shr_model.proofs.PoolLaws.{and_false}
+use Rattle.shr_model.proofs.Lists.{some_at}
 
 -- ---- what an entry needs of the phase of its id
 
@@ -22,9 +20,6 @@ KindAt phase (Idle i) = phase ≡ 2
 -- so it is of each entry of an id whose phase was this before them
 Kinds : ℕ → ℕ → List PoolEntry → Type 0
 Kinds id phase es = (n : ℕ) (e : PoolEntry) → slice_get es n ≡ Some e → id_of e ≡ id → KindAt ((phase_of id (take n es) + phase) % 3) e
-
-same_of : (a b : ℕ) → (a == b) ≡ true → a ≡ b
-same_of a b e = grind (arith, nat_tests)
 
 free_of : (id more start : ℕ) (es : List PoolEntry) → lowest_free more start es ≡ Some id → is_free id es ≡ true
 unfolding lowest_free
@@ -42,7 +37,7 @@ idle_of : (id : ℕ) (es : List PoolEntry) → is_free id es ≡ true → phase_
 idle_of id es e = by (phase_of id es % 3 == 0) refl
   where
     by : (b : Bool) → (phase_of id es % 3 == 0) ≡ b → phase_of id es % 3 ≡ 0
-    by true f = same_of (phase_of id es % 3) 0 f
+    by true f = same_byte (phase_of id es % 3) 0 f
     by false f = absurd (let g : false ≡ true = sym (ap (λ (b : Bool). b && nat_lt (phase_of id es) 65533) f) ∙ e in cc)
 
 next_kind : (ids decls id : ℕ) (es : List PoolEntry) (e : PoolEntry) → IsNextPool ids decls es e → id_of e ≡ id → KindAt ((phase_of id es + 0) % 3) e
@@ -58,11 +53,6 @@ next_kind ids decls id es (Unregistered d i to) h same =
 next_kind ids decls id es (Idle i) h same =
     let q : phase_of i es % 3 ≡ phase_of id es % 3 = ap (λ (k : ℕ). phase_of k es % 3) same in
     omega (arith, h, q)
-
-some_at : {A : Type 0} (xs : List A) (n : ℕ) (x : A) → slice_get xs n ≡ Some x → get_elem? xs n ≡ some x
-some_at [] n x h = absurd (cc)
-some_at {A} (y ∷ xs) zero x h = let e : ◌≡◌ {A = Option A} (Some y) (Some x) = h in let f : y ≡ x = cc in ap some f
-some_at (y ∷ xs) (suc n) x h = some_at xs n x h
 
 kinds_of : (ids decls id : ℕ) (es : List PoolEntry) → IsPoolJournal ids decls es → Kinds id 0 es
 unfolding Kinds
@@ -113,10 +103,10 @@ ends_to id at (Unregistered d i to ∷ es) = by (ends_to id (at + 1) es) (i == i
     by rest false = rest
 ends_to id at (Idle i ∷ es) = ends_to id (at + 1) es
 
-is_lt : (a b : ℕ) → a < b → nat_lt a b ≡ true
+pub is_lt : (a b : ℕ) → a < b → nat_lt a b ≡ true
 is_lt a b h = grind (arith, nat_tests)
 
-not_lt : (a b : ℕ) → b ≤ a → nat_lt a b ≡ false
+pub not_lt : (a b : ℕ) → b ≤ a → nat_lt a b ≡ false
 not_lt a b h = grind (arith, nat_tests)
 
 -- an end is behind the entries before it
@@ -130,10 +120,6 @@ end_later id at low (Unregistered d i to ∷ es) le = by (end_later id (at + 1) 
     by rest true = is_lt low (at + 1) (omega (arith, le))
     by rest false = rest
 end_later id at low (Idle i ∷ es) le = end_later id (at + 1) low es (omega arith)
-
-and_false : (a : Bool) → (a && false) ≡ false
-and_false true = refl
-and_false false = refl
 
 -- a registration is live only behind its entry
 live_later : (id at low : ℕ) (es : List PoolEntry) → low ≤ at → live_in id at es low ≡ None
@@ -221,12 +207,6 @@ one_own : (id : ℕ) (e : PoolEntry) → (id_of e == id) ≡ true → one_of id 
 unfolding one_of
 one_own id e same = ap (λ (b : Bool). cond b 1 0) same
 
-is_same : (a b : ℕ) → a ≡ b → (a == b) ≡ true
-is_same a b h = grind (arith, nat_tests)
-
-is_other : (a b : ℕ) → a ≢ b → (a == b) ≡ false
-is_other a b h = grind (arith, nat_tests)
-
 live_own : (id at entry d i begin : ℕ) (es : List PoolEntry) → (i == id) ≡ true → at < entry
     → live_in id at (Registered d i begin ∷ es) entry ≡ cond (is_within entry (next_end id (at + 1) es)) (Some (record { decl = d; from = begin; to = to_of (next_end id (at + 1) es) })) (live_in id (at + 1) es entry)
 unfolding live_in
@@ -285,7 +265,7 @@ held_own id phase decl from at entry (Idle i) es same lt kind =
 
 kind_first : (id phase : ℕ) (e : PoolEntry) (es : List PoolEntry) → Kinds id phase (e ∷ es) → (id_of e == id) ≡ true → KindAt (phase % 3) e
 unfolding Kinds
-kind_first id phase e es h same = subst (λ (n : ℕ). KindAt n e) (zero_phase id phase) (h 0 e refl (same_of (id_of e) id same))
+kind_first id phase e es h same = subst (λ (n : ℕ). KindAt n e) (zero_phase id phase) (h 0 e refl (same_byte (id_of e) id same))
 
 live_at : (id phase decl from at k entry : ℕ) (es : List PoolEntry) → entry ≡ at + k → k ≤ length es → Kinds id phase es → now_in id phase decl from es k ≡ held_in id phase decl from at es entry
 live_at id phase decl from at zero entry es e le h =

@@ -1,69 +1,33 @@
 -- The lookups of registrations, entry by entry.
-use Rattle.std.proofs.Common.{◌≡◌, ◌≢◌, ℕ, ◌+◌, ◌-◌, ◌*◌, ◌<◌, ◌≤◌, ◌^◌, Bool, true, false, cond, List, [], ◌∷◌, ◌++◌, length, get_or, drop, Option, Some, None, refl, sym, ap, subst, ◌∙◌, arith}
-use Rattle.std.specs.Prelude.{◌&&◌, ◌==◌, nat_le, nat_lt}
-use Rattle.std.specs.Ordering.{is_eq, nat_cmp}
+use Rattle.shr_registrations.proofs.Common.{◌≡◌, ◌≢◌, ℕ, ◌+◌, ◌-◌, ◌*◌, ◌<◌, ◌≤◌, ◌^◌, Bool, true, false, cond, List, [], ◌∷◌, ◌++◌, length, get_or, drop, Option, Some, None, refl, sym, ap, subst, ◌∙◌, arith, ◌&&◌, ◌==◌, nat_le, nat_lt, nat_cmp, lookup, BTreeMap, IsEmpty, get, is_at, nat_tests, drop_more, PoolEntry, Registered, Unregistered, Idle, Registration, Span, AreNoted, decl_found, lookup_key, stop_key, has_key, last_in, same_byte}
+use Rattle.std.specs.Ordering.{is_eq}
 use Rattle.std.specs.declared.cmp.Ordering.TheVariants.{Less, Equal, Greater}
-use Rattle.std.specs.Map.{lookup}
-use Rattle.std.specs.BTreeMap.{BTreeMap, IsEmpty, get, is_at}
-use Rattle.std.proofs.lemmas.Bool.Decides.{nat_tests}
-use Rattle.std.proofs.lemmas.List.{drop_more}
-use Rattle.shr_base.specs.declared.journals.PoolEntry.{PoolEntry}
-use Rattle.shr_base.specs.declared.journals.PoolEntry.TheVariants.{Registered, Unregistered, Idle}
 use Rattle.shr_model.specs.Pool.{decl_at, end_of, is_before, registrations}
-use Rattle.shr_registrations.specs.declared.steps.Registration.{Registration}
-use Rattle.shr_registrations.specs.declared.steps.Span.{Span}
-use Rattle.shr_registrations.specs.Met.{AreNoted, decl_found, lookup_key, stop_key}
-use Rattle.shr_registrations.specs.Steps.{has_key, last_in}
 use Rattle.shr_registrations.proofs.Merging.{last_push, last_none}
+use Rattle.shr_model.proofs.Booleans.{itself, above_of, below_of, le_of, lt_of, more_of}
+use Rattle.shr_registrations.proofs.Living.{is_lt, not_lt}
 
 -- ---- keys
 
-lower_of : (a b : ℕ) → nat_le a b ≡ true → a ≤ b
-lower_of a b e = grind (arith, nat_tests)
-
-higher_of : (a b : ℕ) → nat_le a b ≡ false → b < a
-higher_of a b e = grind (arith, nat_tests)
-
-less_of : (a b : ℕ) → nat_lt a b ≡ true → a < b
-less_of a b e = grind (arith, nat_tests)
-
-more_of : (a b : ℕ) → nat_lt a b ≡ false → b ≤ a
-more_of a b e = grind (arith, nat_tests)
-
-same_of : (a b : ℕ) → (a == b) ≡ true → a ≡ b
-same_of a b e = grind (arith, nat_tests)
-
-apart_of : (a b : ℕ) → (a == b) ≡ false → a ≢ b
+pub apart_of : (a b : ℕ) → (a == b) ≡ false → a ≢ b
 apart_of a b e = grind (arith, nat_tests)
 
-itself : (n : ℕ) → (n == n) ≡ true
-itself n = grind (arith, nat_tests)
-
-is_le : (a b : ℕ) → a ≤ b → nat_le a b ≡ true
-is_le a b h = grind (arith, nat_tests)
-
-not_le : (a b : ℕ) → b < a → nat_le a b ≡ false
+pub not_le : (a b : ℕ) → b < a → nat_le a b ≡ false
 not_le a b h = grind (arith, nat_tests)
-
-is_lt : (a b : ℕ) → a < b → nat_lt a b ≡ true
-is_lt a b h = grind (arith, nat_tests)
-
-not_lt : (a b : ℕ) → b ≤ a → nat_lt a b ≡ false
-not_lt a b h = grind (arith, nat_tests)
 
 -- keys of one id stand as their numbers
 key_le : (i a b : ℕ) → nat_le (lookup_key i a) (lookup_key i b) ≡ nat_le a b
 key_le i a b = by (nat_le a b) refl
   where
     by : (x : Bool) → nat_le a b ≡ x → nat_le (lookup_key i a) (lookup_key i b) ≡ x
-    by true e = is_le (lookup_key i a) (lookup_key i b) (let h = lower_of a b e in omega (arith, h))
-    by false e = not_le (lookup_key i a) (lookup_key i b) (let h = higher_of a b e in omega (arith, h))
+    by true e = le_of (lookup_key i a) (lookup_key i b) (let h = below_of a b e in omega (arith, h))
+    by false e = not_le (lookup_key i a) (lookup_key i b) (let h = above_of a b e in omega (arith, h))
 
 key_lt : (i a b : ℕ) → nat_lt (lookup_key i a) (lookup_key i b) ≡ nat_lt a b
 key_lt i a b = by (nat_lt a b) refl
   where
     by : (x : Bool) → nat_lt a b ≡ x → nat_lt (lookup_key i a) (lookup_key i b) ≡ x
-    by true e = is_lt (lookup_key i a) (lookup_key i b) (let h = less_of a b e in omega (arith, h))
+    by true e = is_lt (lookup_key i a) (lookup_key i b) (let h = lt_of a b e in omega (arith, h))
     by false e = not_lt (lookup_key i a) (lookup_key i b) (let h = more_of a b e in omega (arith, h))
 
 -- below the end of a registration of the id, as its number is before its end
@@ -77,7 +41,7 @@ key_apart : (id i number from stop : ℕ) → id ≢ i → number < 4294967296 �
 key_apart id i number from stop ne few below over = by (nat_le (lookup_key id from) (lookup_key i number)) refl (nat_lt (lookup_key i number) stop) refl
   where
     by : (a : Bool) → nat_le (lookup_key id from) (lookup_key i number) ≡ a → (b : Bool) → nat_lt (lookup_key i number) stop ≡ b → (a && b) ≡ false
-    by true e true f = absurd (let g = lower_of (lookup_key id from) (lookup_key i number) e in let h = less_of (lookup_key i number) stop f in omega (arith, g, h, ne))
+    by true e true f = absurd (let g = below_of (lookup_key id from) (lookup_key i number) e in let h = lt_of (lookup_key i number) stop f in omega (arith, g, h, ne))
     by true e false f = refl
     by false e b f = refl
 
@@ -92,7 +56,7 @@ span_has id i number from to few low high = by (id == i) refl
   where
     by : (b : Bool) → (id == i) ≡ b → (nat_le (lookup_key id from) (lookup_key i number) && nat_lt (lookup_key i number) (stop_key id to)) ≡ (b && (nat_le from number && is_before number to))
     by true e =
-        subst (λ (k : ℕ). (nat_le (lookup_key id from) (lookup_key k number) && nat_lt (lookup_key k number) (stop_key id to)) ≡ (nat_le from number && is_before number to)) (same_of id i e)
+        subst (λ (k : ℕ). (nat_le (lookup_key id from) (lookup_key k number) && nat_lt (lookup_key k number) (stop_key id to)) ≡ (nat_le from number && is_before number to)) (same_byte id i e)
         (ap (λ (b : Bool). b && nat_lt (lookup_key id number) (stop_key id to)) (key_le id from number) ∙ ap (λ (b : Bool). nat_le from number && b) (stop_same id number to few))
     by false e = key_apart id i number from (stop_key id to) (apart_of id i e) few low (stop_over id to high)
 
@@ -132,7 +96,7 @@ noted_registered d i from es spans ends to x to_is of has h = record {
 
     by : (id number : ℕ) → number < 2 ^ 32 → (b : Bool) → (i == id) ≡ b → decl_found (last_in (spans ++ x ∷ []) (lookup_key id number)) ≡ decl_at number (registrations id (Registered d i from ∷ es))
     by id number few true e =
-        subst (λ (k : ℕ). decl_found (last_in (spans ++ x ∷ []) (lookup_key k number)) ≡ decl_at number (registrations k (Registered d i from ∷ es))) (same_of i id e)
+        subst (λ (k : ℕ). decl_found (last_in (spans ++ x ∷ []) (lookup_key k number)) ≡ decl_at number (registrations k (Registered d i from ∷ es))) (same_byte i id e)
         (ap decl_found (last_push spans x (lookup_key i number))
         ∙ ap (λ (b : Bool). decl_found (cond b (Some x.of) (last_in spans (lookup_key i number)))) (has i number few ∙ ap (λ (b : Bool). b && (nat_le from number && is_before number to)) (itself i))
         ∙ split (nat_le from number && is_before number to) number few
@@ -163,7 +127,7 @@ pub noted_idle : (i : ℕ) (es : List PoolEntry) (spans : List Span) (ends : BTr
 unfolding end_of registrations
 noted_idle i es spans ends h = record { ended = h.ended; met = h.met }
 
-none_left : (es : List PoolEntry) → drop (length es) es ≡ []
+pub none_left : (es : List PoolEntry) → drop (length es) es ≡ []
 none_left [] = refl
 none_left (e ∷ es) = none_left es
 
@@ -185,7 +149,7 @@ pub at_same : (i id : ℕ) → is_at (nat_cmp i) id ≡ (i == id)
 at_same i id = by (nat_lt i id) refl (i == id) refl
   where
     by : (a : Bool) → nat_lt i id ≡ a → (b : Bool) → (i == id) ≡ b → is_at (nat_cmp i) id ≡ b
-    by true e true f = absurd (let g = less_of i id e in let h = same_of i id f in omega (arith, g, h))
+    by true e true f = absurd (let g = lt_of i id e in let h = same_byte i id f in omega (arith, g, h))
     by true e false f = ap (λ (x : Bool). is_eq (cond x Less (cond (i == id) Equal Greater))) e
     by false e true f = ap (λ (x : Bool). is_eq (cond x Less (cond (i == id) Equal Greater))) e ∙ ap (λ (x : Bool). is_eq (cond x Equal Greater)) f
     by false e false f = ap (λ (x : Bool). is_eq (cond x Less (cond (i == id) Equal Greater))) e ∙ ap (λ (x : Bool). is_eq (cond x Equal Greater)) f

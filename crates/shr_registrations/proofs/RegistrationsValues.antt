@@ -1,10 +1,6 @@
 -- The predicates of this crate, by values that meet them and values that don't.
-use Rattle.std.proofs.Common.{◌≡◌, true, false, List, [], ◌∷◌, Some, None, refl}
-use Rattle.shr_registrations.specs.declared.steps.Registration.{Registration}
-use Rattle.shr_registrations.specs.declared.steps.Span.{Span}
-use Rattle.shr_registrations.specs.declared.steps.Step.{Step}
-use Rattle.shr_registrations.specs.Met.{decl_found, lookup_key, stop_key}
-use Rattle.shr_registrations.specs.Steps.{has_key, last_in, last_from, step_at, step_from}
+use Rattle.shr_registrations.proofs.Common.{◌≡◌, true, false, List, [], ◌∷◌, Some, None, refl, Registration, Span, Step, decl_found, lookup_key, stop_key, has_key, last_in, step_at}
+use Rattle.shr_registrations.specs.Steps.{last_from, step_from}
 
 abbrev first : Registration
 first = record { decl = 1; from = 2; to = Some 5 }

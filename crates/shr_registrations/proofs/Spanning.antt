@@ -1,49 +1,12 @@
 -- The entries between which registrations are live, entry by entry.
-use Rattle.std.proofs.Common.{◌≡◌, ◌≢◌, ℕ, ◌+◌, ◌-◌, ◌*◌, ◌<◌, ◌≤◌, ◌^◌, Bool, true, false, cond, List, [], ◌∷◌, ◌++◌, length, get_or, drop, Option, Some, None, refl, sym, ap, subst, ◌∙◌, arith}
-use Rattle.std.specs.Prelude.{◌&&◌, ◌==◌, nat_le, nat_lt}
-use Rattle.std.specs.Ordering.{nat_cmp}
-use Rattle.std.specs.Map.{lookup}
-use Rattle.std.specs.BTreeMap.{BTreeMap, IsEmpty, get, is_at}
-use Rattle.std.proofs.lemmas.Bool.Decides.{nat_tests}
-use Rattle.std.proofs.lemmas.List.{drop_more}
-use Rattle.shr_base.specs.declared.journals.PoolEntry.{PoolEntry}
-use Rattle.shr_base.specs.declared.journals.PoolEntry.TheVariants.{Registered, Unregistered, Idle}
-use Rattle.shr_registrations.specs.declared.steps.Registration.{Registration}
-use Rattle.shr_registrations.specs.declared.steps.Span.{Span}
-use Rattle.shr_registrations.specs.Met.{lookup_key}
-use Rattle.shr_registrations.specs.Steps.{has_key, last_in}
+use Rattle.shr_registrations.proofs.Common.{◌≡◌, ◌≢◌, ℕ, ◌+◌, ◌-◌, ◌*◌, ◌<◌, ◌≤◌, ◌^◌, Bool, true, false, cond, List, [], ◌∷◌, ◌++◌, length, get_or, drop, Option, Some, None, refl, sym, ap, subst, ◌∙◌, arith, ◌&&◌, ◌==◌, nat_le, nat_lt, nat_cmp, lookup, BTreeMap, IsEmpty, get, is_at, nat_tests, drop_more, PoolEntry, Registered, Unregistered, Idle, Registration, Span, lookup_key, has_key, last_in, End, AreLivesNoted, entry_key, is_within, to_of, same_byte}
 use Rattle.shr_registrations.proofs.Merging.{last_none, last_push}
-use Rattle.shr_registrations.specs.declared.live.End.{End}
-use Rattle.shr_registrations.specs.Live.{AreLivesNoted, cut, end_key, entry_key, is_within, live_in, next_end, to_of}
+use Rattle.shr_registrations.specs.Live.{cut, end_key, live_in, next_end}
+use Rattle.shr_registrations.proofs.Noting.{apart_of, none_left, not_le}
+use Rattle.shr_registrations.proofs.Living.{is_lt, not_lt}
+use Rattle.shr_model.proofs.Booleans.{below_of, le_of, lt_of, more_of}
 
 -- ---- keys
-
-less_of : (a b : ℕ) → nat_lt a b ≡ true → a < b
-less_of a b e = grind (arith, nat_tests)
-
-more_of : (a b : ℕ) → nat_lt a b ≡ false → b ≤ a
-more_of a b e = grind (arith, nat_tests)
-
-same_of : (a b : ℕ) → (a == b) ≡ true → a ≡ b
-same_of a b e = grind (arith, nat_tests)
-
-apart_of : (a b : ℕ) → (a == b) ≡ false → a ≢ b
-apart_of a b e = grind (arith, nat_tests)
-
-lower_of : (a b : ℕ) → nat_le a b ≡ true → a ≤ b
-lower_of a b e = grind (arith, nat_tests)
-
-is_le : (a b : ℕ) → a ≤ b → nat_le a b ≡ true
-is_le a b h = grind (arith, nat_tests)
-
-not_le : (a b : ℕ) → b < a → nat_le a b ≡ false
-not_le a b h = grind (arith, nat_tests)
-
-is_lt : (a b : ℕ) → a < b → nat_lt a b ≡ true
-is_lt a b h = grind (arith, nat_tests)
-
-not_lt : (a b : ℕ) → b ≤ a → nat_lt a b ≡ false
-not_lt a b h = grind (arith, nat_tests)
 
 cut_low : (a : ℕ) → a < 4294967296 → cut a ≡ a
 cut_low a h = ap (λ (b : Bool). cond b a 4294967296) (is_lt a 4294967296 h)
@@ -55,7 +18,7 @@ cut_most : (a : ℕ) → cut a ≤ 4294967296
 cut_most a = by (nat_lt a 4294967296) refl
   where
     by : (b : Bool) → nat_lt a 4294967296 ≡ b → cond b a 4294967296 ≤ 4294967296
-    by true e = let h = less_of a 4294967296 e in omega (arith, h)
+    by true e = let h = lt_of a 4294967296 e in omega (arith, h)
     by false e = omega arith
 
 -- a number of 32 bits is below another where it is below the cut one
@@ -63,32 +26,32 @@ cut_below : (entry a : ℕ) → entry < 4294967296 → nat_lt entry (cut a) ≡ 
 cut_below entry a few = by (nat_lt a 4294967296) refl
   where
     by : (b : Bool) → nat_lt a 4294967296 ≡ b → nat_lt entry (cut a) ≡ nat_lt entry a
-    by true e = ap (nat_lt entry) (cut_low a (less_of a 4294967296 e))
+    by true e = ap (nat_lt entry) (cut_low a (lt_of a 4294967296 e))
     by false e = let h = more_of a 4294967296 e in ap (nat_lt entry) (cut_high a h) ∙ is_lt entry 4294967296 few ∙ sym (is_lt entry a (omega (arith, h, few)))
 
 cut_behind : (at entry : ℕ) (c : Bool) → nat_lt (at + 1) 4294967296 ≡ c → entry < 4294967296 → entry ≤ at → nat_le (cut (at + 1)) entry ≡ false
-cut_behind at entry true f few le = ap (λ (n : ℕ). nat_le n entry) (cut_low (at + 1) (less_of (at + 1) 4294967296 f)) ∙ not_le (at + 1) entry (omega (arith, le))
+cut_behind at entry true f few le = ap (λ (n : ℕ). nat_le n entry) (cut_low (at + 1) (lt_of (at + 1) 4294967296 f)) ∙ not_le (at + 1) entry (omega (arith, le))
 cut_behind at entry false f few le = ap (λ (n : ℕ). nat_le n entry) (cut_high (at + 1) (more_of (at + 1) 4294967296 f)) ∙ not_le 4294967296 entry few
 
 cut_above : (at entry : ℕ) → entry < 4294967296 → nat_le (cut (at + 1)) entry ≡ nat_lt at entry
 cut_above at entry few = by (nat_lt at entry) refl
   where
     by : (b : Bool) → nat_lt at entry ≡ b → nat_le (cut (at + 1)) entry ≡ b
-    by true e = let h = less_of at entry e in ap (λ (n : ℕ). nat_le n entry) (cut_low (at + 1) (omega (arith, h, few))) ∙ is_le (at + 1) entry (omega (arith, h))
+    by true e = let h = lt_of at entry e in ap (λ (n : ℕ). nat_le n entry) (cut_low (at + 1) (omega (arith, h, few))) ∙ le_of (at + 1) entry (omega (arith, h))
     by false e = cut_behind at entry (nat_lt (at + 1) 4294967296) refl few (more_of at entry e)
 
 sum_le : (base a b : ℕ) → nat_le (base + a) (base + b) ≡ nat_le a b
 sum_le base a b = by (nat_le a b) refl
   where
     by : (x : Bool) → nat_le a b ≡ x → nat_le (base + a) (base + b) ≡ x
-    by true e = is_le (base + a) (base + b) (let h = lower_of a b e in omega (arith, h))
+    by true e = le_of (base + a) (base + b) (let h = below_of a b e in omega (arith, h))
     by false e = not_le (base + a) (base + b) (let h : b < a = grind (arith, nat_tests) in omega (arith, h))
 
 sum_lt : (base a b : ℕ) → nat_lt (base + a) (base + b) ≡ nat_lt a b
 sum_lt base a b = by (nat_lt a b) refl
   where
     by : (x : Bool) → nat_lt a b ≡ x → nat_lt (base + a) (base + b) ≡ x
-    by true e = is_lt (base + a) (base + b) (let h = less_of a b e in omega (arith, h))
+    by true e = is_lt (base + a) (base + b) (let h = lt_of a b e in omega (arith, h))
     by false e = not_lt (base + a) (base + b) (let h = more_of a b e in omega (arith, h))
 
 end_same : (id entry : ℕ) (end : Option End) → entry < 4294967296 → nat_lt (lookup_key id entry) (end_key id end) ≡ is_within entry end
@@ -104,7 +67,7 @@ entry_apart : (id i entry begin stop : ℕ) → id ≢ i → entry < 4294967296 
 entry_apart id i entry begin stop ne few low high = by (nat_le begin (lookup_key i entry)) refl (nat_lt (lookup_key i entry) stop) refl
   where
     by : (a : Bool) → nat_le begin (lookup_key i entry) ≡ a → (b : Bool) → nat_lt (lookup_key i entry) stop ≡ b → (a && b) ≡ false
-    by true e true f = absurd (let g = lower_of begin (lookup_key i entry) e in let h = less_of (lookup_key i entry) stop f in omega (arith, g, h, ne, low, high, few))
+    by true e true f = absurd (let g = below_of begin (lookup_key i entry) e in let h = lt_of (lookup_key i entry) stop f in omega (arith, g, h, ne, low, high, few))
     by true e false f = refl
     by false e b f = refl
 
@@ -115,7 +78,7 @@ entry_has id i at entry end few = by (id == i) refl
   where
     by : (b : Bool) → (id == i) ≡ b → (nat_le (entry_key id (at + 1)) (lookup_key i entry) && nat_lt (lookup_key i entry) (end_key id end)) ≡ (b && (nat_lt at entry && is_within entry end))
     by true e =
-        subst (λ (k : ℕ). (nat_le (entry_key id (at + 1)) (lookup_key k entry) && nat_lt (lookup_key k entry) (end_key id end)) ≡ (nat_lt at entry && is_within entry end)) (same_of id i e)
+        subst (λ (k : ℕ). (nat_le (entry_key id (at + 1)) (lookup_key k entry) && nat_lt (lookup_key k entry) (end_key id end)) ≡ (nat_lt at entry && is_within entry end)) (same_byte id i e)
         (ap (λ (b : Bool). b && nat_lt (lookup_key id entry) (end_key id end)) (sum_le (4294967296 * id) (cut (at + 1)) entry ∙ cut_above at entry few) ∙ ap (λ (b : Bool). nat_lt at entry && b) (end_same id entry end few))
     by false e = entry_apart id i entry (entry_key id (at + 1)) (end_key id end) (apart_of id i e) few (omega arith) (end_over id end)
 
@@ -156,7 +119,7 @@ lives_registered at d i from es spans ends end x end_is of has h = record {
         → cond (b && (nat_lt at entry && is_within entry end)) (Some (record { decl = d; from = from; to = to_of end })) (live_in id (at + 1) es entry)
         ≡ cond (b && (nat_lt at entry && is_within entry (next_end id (at + 1) es))) (Some (record { decl = d; from = from; to = to_of (next_end id (at + 1) es) })) (live_in id (at + 1) es entry)
     by id entry true e =
-        let there : end ≡ next_end id (at + 1) es = end_is ∙ h.ended i ∙ ap (λ (k : ℕ). next_end k (at + 1) es) (same_of i id e) in
+        let there : end ≡ next_end id (at + 1) es = end_is ∙ h.ended i ∙ ap (λ (k : ℕ). next_end k (at + 1) es) (same_byte i id e) in
         ap (λ (o : Option End). cond (nat_lt at entry && is_within entry o) (Some (record { decl = d; from = from; to = to_of o })) (live_in id (at + 1) es entry)) there
     by id entry false e = refl
 
@@ -179,10 +142,6 @@ lives_unregistered at d i to es spans ends new put h = record {
 pub lives_idle : (at i : ℕ) (es : List PoolEntry) (spans : List Span) (ends : BTreeMap ℕ End) → AreLivesNoted (at + 1) es spans ends → AreLivesNoted at (Idle i ∷ es) spans ends
 unfolding next_end live_in
 lives_idle at i es spans ends h = record { ended = h.ended; lives = h.lives }
-
-none_left : (es : List PoolEntry) → drop (length es) es ≡ []
-none_left [] = refl
-none_left (e ∷ es) = none_left es
 
 -- before the first is gone through
 pub lives_start : (es : List PoolEntry) (spans : List Span) (ends : BTreeMap ℕ End) → spans ≡ [] → IsEmpty ends → AreLivesNoted (length es) (drop (length es) es) spans ends

@@ -1,26 +1,17 @@
 -- The groups from the last to the root: the lists that are ready, and what was told.
-use Rattle.std.proofs.Common.{◌≡◌, ◌≢◌, ℕ, zero, suc, ◌+◌, ◌<◌, ◌≤◌, Bool, true, false, cond, List, [], ◌∷◌, ◌++◌, length, set, refl, sym, ap, ◌∙◌, subst, ⊎_elim, ◌⊎◌, inl, inr, arith, Option, Some, None, length-set, length-append}
-use Rattle.std.specs.Prelude.{slice_get, slice_index, slice_set, slice_index_or}
-use Rattle.std.proofs.lemmas.List.{get_or-set_same, get_or-set_other}
+use Rattle.shr_replay.proofs.Common.{◌≡◌, ◌≢◌, ℕ, ◌+◌, ◌<◌, ◌≤◌, Bool, true, false, cond, List, [], ◌∷◌, ◌++◌, length, set, refl, sym, ap, ◌∙◌, subst, ◌⊎◌, inl, inr, arith, Option, Some, None, length-set, length-append, slice_set, slice_index_or, get_or-set_same, get_or-set_other, cases_Bool, Object, Entry, Place, Queued, is_child, at_group, Family, before_closed, Replayed, given_by, no_list, took_of, KeepsOthers, IsReplayed, given_from, AreJournals, AreReplayed, entries_in}
+use Rattle.std.proofs.Common.{zero, suc, ⊎_elim}
+use Rattle.std.specs.Prelude.{slice_get, slice_index}
 use Rattle.std.proofs.lemmas.Option.{slice_get_within, slice_get_past}
-use Rattle.std.proofs.lemmas.Bool.{cases_Bool}
 use mathlib.Core.Logic.{dite}
 use native.Mathlib.Decide.{ℕ_discrete}
-use Rattle.shr_base.specs.declared.objects.Object.{Object}
 use Rattle.shr_base.specs.declared.ends.PlaceEnd.{PlaceEnd}
-use Rattle.shr_base.specs.declared.journals.Entry.{Entry}
-use Rattle.shr_base.specs.declared.places.Place.{Place}
-use Rattle.shr_list.specs.Nodes.{Queued}
-use Rattle.shr_model.specs.Groups.{IsTree, parent_of, is_child}
-use Rattle.shr_model.specs.Places.{at_group}
-use Rattle.shr_model.specs.Families.{Family, before_closed, items_within, items_given, lists_moved, lists_moved_at}
+use Rattle.shr_model.specs.Groups.{IsTree, parent_of}
+use Rattle.shr_model.specs.Families.{items_within, items_given, lists_moved, lists_moved_at}
 use Rattle.shr_model.specs.Items.{items_from}
 use Rattle.shr_model.proofs.GroupsLaws.{child_takes, child_higher}
 use Rattle.shr_model.proofs.MovesLaws.{same_items_within}
-use Rattle.shr_replay.specs.declared.journal.Replayed.{Replayed}
-use Rattle.shr_replay.specs.Lists.{given_by, no_list, took_of, KeepsOthers}
-use Rattle.shr_replay.specs.Journals.{IsReplayed, given_from}
-use Rattle.shr_replay.specs.Groups.{AreJournals, AreReplayed, IsReplayedAt, entries_in}
+use Rattle.shr_replay.specs.Groups.{IsReplayedAt}
 
 -- what the list of a group gives to that of its parent
 abbrev pub ready_items : List ℕ → Family → Place → ℕ → List Object

@@ -1,21 +1,13 @@
 -- A replay under way: what its entries so far told, and what those behind them will tell.
-use Rattle.std.proofs.Common.{◌≡◌, ℕ, ◌+◌, Bool, true, false, cond, List, [], ◌∷◌, ◌++◌, length, map, refl, sym, ap, ◌∙◌, subst, arith, append_assoc, append-nil, length-append}
-use Rattle.std.specs.Prelude.{◌↔◌, ◌||◌, not, if◌then◌else◌}
+use Rattle.shr_replay.proofs.Common.{◌≡◌, ℕ, ◌+◌, Bool, true, false, cond, List, [], ◌∷◌, ◌++◌, length, map, refl, sym, ap, ◌∙◌, subst, arith, append_assoc, append-nil, length-append, ◌↔◌, Decides, Object, Entry, Add, Look, Drop, Pin, Scan, MovedIn, Closed, Drained, moved_by, before_closed, without_child, FreedTag, Replayed, took_after, tag_of, freed_tag, given_from, IsReplayed}
+use Rattle.std.specs.Prelude.{◌||◌, not, if◌then◌else◌}
 use Rattle.std.proofs.lemmas.List.Sums.{take_while-cons}
-use Rattle.std.specs.Bool.{Decides}
-use Rattle.shr_base.specs.declared.objects.Object.{Object}
-use Rattle.shr_base.specs.declared.journals.Entry.{Entry}
-use Rattle.shr_base.specs.declared.journals.Entry.TheVariants.{Add, Look, Drop, Pin, Scan, MovedIn, Closed, Drained}
 use Rattle.shr_model.specs.Items.{step, freed_by, first_moved, later_moved, items_from, AreOutcomes, IsOutcome, is_closing}
-use Rattle.shr_model.specs.Families.{moved_by, lists_moved, before_closed, without_child}
-use Rattle.shr_replay.specs.declared.tags.FreedTag.{FreedTag}
+use Rattle.shr_model.specs.Families.{lists_moved}
 use Rattle.shr_replay.specs.declared.values.FoundValue.{FoundValue}
-use Rattle.shr_replay.specs.declared.journal.Replayed.{Replayed}
 use Rattle.shr_replay.specs.declared.journal.Course.{Course}
-use Rattle.shr_replay.specs.Lists.{took_after}
-use Rattle.shr_replay.specs.Tags.{tag_of, freed_tag}
 use Rattle.shr_replay.specs.Values.{value_met, values_noted}
-use Rattle.shr_replay.specs.Journals.{lens_from, freed_tags, values_from, given_from, IsReplayed, IsNew, Advances, Finishes}
+use Rattle.shr_replay.specs.Journals.{lens_from, freed_tags, values_from, IsNew, Advances, Finishes}
 
 -- an entry that closes is a Closed
 pub closing_is : (e : Entry) → is_closing e ≡ true → e ≡ Closed

@@ -1,3 +1,4 @@
+mod Common
 mod Listing
 mod Matching
 mod Moving

@@ -1,10 +1,5 @@
 -- What an entry takes of the children's lists, by the child that it names.
-use Rattle.std.proofs.Common.{◌≡◌, ◌≢◌, ℕ, ◌<◌, ◌≤◌, Bool, true, false, List, [], length, Option, Some, None, refl, sym, ap, ◌∙◌, subst, arith}
-use Rattle.shr_base.specs.declared.objects.Object.{Object}
-use Rattle.shr_base.specs.declared.journals.Entry.{Entry}
-use Rattle.shr_base.specs.declared.journals.Entry.TheVariants.{Add, Look, Drop, Pin, Scan, MovedIn, Closed, Drained}
-use Rattle.shr_model.specs.Families.{child_of, moved_by, without_child}
-use Rattle.shr_replay.specs.Lists.{took_after}
+use Rattle.shr_replay.proofs.Common.{◌≡◌, ◌≢◌, ℕ, ◌<◌, ◌≤◌, Bool, true, false, List, [], length, Option, Some, None, refl, sym, ap, ◌∙◌, subst, arith, Object, Entry, Add, Look, Drop, Pin, Scan, MovedIn, Closed, Drained, child_of, moved_by, without_child, took_after}
 use Rattle.shr_replay.specs.Replay.{left_given}
 
 module _ (took : ℕ → List Object) where

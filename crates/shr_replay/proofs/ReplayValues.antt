@@ -1,20 +1,10 @@
 -- Journals, replayed, at known values.
-use Rattle.std.proofs.Common.{arith, ap}
-use Rattle.std.specs.Prelude.{◌≡◌, ℕ, true, false, List, [], ◌∷◌, refl}
+use Rattle.shr_replay.proofs.Common.{arith, ap, ◌≡◌, ℕ, true, false, List, [], ◌∷◌, refl, Object, Entry, Add, Look, MovedIn, Closed, Drained, Queued, Tag, FreedTag, Replayed, tag_of, freed_tag, given_by, took_of, took_after, given_from, IsReplayed}
 use Rattle.shr_base.specs.declared.places.Serial.{Serial}
-use Rattle.shr_base.specs.declared.objects.Object.{Object}
-use Rattle.shr_base.specs.declared.journals.Entry.{Entry}
-use Rattle.shr_base.specs.declared.journals.Entry.TheVariants.{Add, Look, MovedIn, Closed, Drained}
-use Rattle.shr_list.specs.Nodes.{Queued}
 use Rattle.shr_model.specs.Items.{AreOutcomes, items_from}
 use Rattle.shr_model.specs.Families.{lists_moved}
 use Rattle.shr_model.specs.Objects.{fresh}
-use Rattle.shr_replay.specs.declared.tags.Tag.{Tag}
-use Rattle.shr_replay.specs.declared.tags.FreedTag.{FreedTag}
-use Rattle.shr_replay.specs.declared.journal.Replayed.{Replayed}
-use Rattle.shr_replay.specs.Tags.{tag_of, freed_tag}
-use Rattle.shr_replay.specs.Lists.{given_by, took_of, took_after}
-use Rattle.shr_replay.specs.Journals.{lens_from, freed_tags, given_from, IsReplayed}
+use Rattle.shr_replay.specs.Journals.{lens_from, freed_tags}
 
 abbrev by : Serial
 by = record { worker = 0; command = 5 }

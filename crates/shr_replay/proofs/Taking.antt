@@ -1,13 +1,9 @@
 -- The lists of children, before and after one was taken.
-use Rattle.std.proofs.Common.{◌≡◌, ◌≢◌, ℕ, ◌<◌, ◌≤◌, Bool, true, false, cond, List, [], length, set, refl, sym, ap, ◌∙◌, subst, arith, length-set, eq-eqb}
-use Rattle.std.specs.Prelude.{◌==◌, ◌&&◌, nat_lt, slice_index_or, slice_set}
-use Rattle.std.proofs.lemmas.Bool.{cases_Bool, ltb-false, ltb-true, eqb-true, ne_eqb}
-use Rattle.std.proofs.lemmas.List.{get_or-set_same, get_or-set_other, get_or_past}
-use Rattle.shr_base.specs.declared.objects.Object.{Object}
-use Rattle.shr_list.specs.Nodes.{Queued}
-use Rattle.shr_model.specs.Groups.{is_child}
-use Rattle.shr_model.specs.Families.{without_child}
-use Rattle.shr_replay.specs.Lists.{given_by, no_list, took_of, KeepsOthers}
+use Rattle.shr_replay.proofs.Common.{◌≡◌, ◌≢◌, ℕ, ◌<◌, ◌≤◌, Bool, true, false, cond, List, [], length, set, refl, sym, ap, ◌∙◌, subst, arith, length-set, slice_index_or, slice_set, cases_Bool, get_or-set_same, get_or-set_other, Object, Queued, is_child, without_child, given_by, no_list, took_of, KeepsOthers}
+use Rattle.std.proofs.Common.{eq-eqb}
+use Rattle.std.specs.Prelude.{◌==◌, ◌&&◌, nat_lt}
+use Rattle.std.proofs.lemmas.Bool.{ltb-false, ltb-true, eqb-true, ne_eqb}
+use Rattle.std.proofs.lemmas.List.{get_or_past}
 
 -- nothing is to be taken where there is no list
 pub took_none : (parents : List ℕ) (group : ℕ) (lists : List Queued) (c : ℕ) → (is_child parents group c && nat_lt c (length lists)) ≡ false → took_of parents group lists c ≡ []

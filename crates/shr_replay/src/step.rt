@@ -1,10 +1,11 @@
 //! One entry of a journal, replayed on a queue.
 
-ghost use Rattle.std.specs.Prelude.{◌≡◌, IfOk, OnOk, [], option_copied};
+ghost use Rattle.std.specs.Prelude.{◌≡◌, ℕ, IfOk, OnOk, [], option_copied};
 ghost use Rattle.shr_model.specs.Items.{drop_kind_of};
 ghost use Rattle.shr_base.specs.declared.journals.Entry.TheVariants.{Add, Look, Drop, Pin, Scan, MovedIn, Closed, Drained};
 ghost use Rattle.shr_replay.specs.Replay.{Replays, left_given};
 
+use crate::tags::Tag;
 use shr_base::journals::{DropKind, Entry};
 use shr_base::log::Log;
 use shr_base::memory::Memory;
@@ -26,18 +27,17 @@ pub struct Told {
 fn add(
     alloc: Global,
     queue: &mut Queue,
-    by: Serial,
-    birth: u16,
+    tag: Tag,
     key: &Text,
     value: &Text,
     added: bool,
 ) -> Result<Told, Memory>
     ensures { IfOk result (λ t. Replays [] queue.old.items queue.new.items
-        (Add by birth added key.now value.now) t) }
+        (Add tag.serial tag.birth added key.now value.now) t) }
 {
     let object = Object {
-        serial: by,
-        birth,
+        serial: tag.serial,
+        birth: tag.birth,
         key: key.copy()?,
         value: value.copy()?,
         marked: false,
@@ -73,20 +73,12 @@ fn look(
     })
 }
 
-fn pin(
-    alloc: Global,
-    queue: &mut Queue,
-    by: Serial,
-    birth: u16,
-    key: &Text,
-    pinned: bool,
-    hit: bool,
-) -> Told
+fn pin(alloc: Global, queue: &mut Queue, tag: Tag, key: &Text, pinned: bool, hit: bool) -> Told
     ensures { Replays [] queue.old.items queue.new.items
-        (Pin by birth key.now pinned hit) result }
+        (Pin tag.serial tag.birth key.now pinned hit) result }
 {
-    let held = queue.holds(birth, key);
-    queue.set_pin(birth, key, pinned);
+    let held = queue.holds(tag.birth, key);
+    queue.set_pin(tag.birth, key, pinned);
     Told {
         freed: Log::new(alloc),
         value: None,
@@ -96,15 +88,13 @@ fn pin(
 
 fn scan(
     queue: &mut Queue,
-    worker: u16,
-    walk: u64,
     asked: u32,
     policy: Policy,
     visits: u32,
     freed: u32,
     stopped: bool,
 ) -> Result<Told, Memory>
-    ensures { IfOk result (λ t. Replays [] queue.old.items queue.new.items
+    ensures { IfOk result (λ t. (worker walk : ℕ) → Replays [] queue.old.items queue.new.items
         (Scan worker walk asked policy visits freed stopped) t) }
 {
     let met = queue.scan(policy, asked)?;
@@ -220,7 +210,11 @@ pub fn replay_entry(
             key,
             value,
         } => {
-            let told = add(alloc, queue, *by, *birth, key, value, *added)?;
+            let tag = Tag {
+                serial: *by,
+                birth: *birth,
+            };
+            let told = add(alloc, queue, tag, key, value, *added)?;
             Ok(told)
         }
         Entry::Look {
@@ -247,19 +241,22 @@ pub fn replay_entry(
             key,
             pinned,
             hit,
-        } => Ok(pin(alloc, queue, *by, *birth, key, *pinned, *hit)),
+        } => {
+            let tag = Tag {
+                serial: *by,
+                birth: *birth,
+            };
+            Ok(pin(alloc, queue, tag, key, *pinned, *hit))
+        }
         Entry::Scan {
-            worker,
-            walk,
             asked,
             policy,
             visits,
             freed,
             stopped,
+            ..
         } => {
-            let told = scan(
-                queue, *worker, *walk, *asked, *policy, *visits, *freed, *stopped,
-            )?;
+            let told = scan(queue, *asked, *policy, *visits, *freed, *stopped)?;
             Ok(told)
         }
         Entry::MovedIn { child, objects } => {

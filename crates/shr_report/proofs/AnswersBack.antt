@@ -1,22 +1,10 @@
 -- The answers of workers are parted in one way, each with what else stands of its command.
-use Rattle.std.proofs.Common.{◌≡◌, ℕ, suc, ◌+◌, ◌≤◌, List, [], ◌∷◌, ◌++◌, length, Option, refl, sym, ap, ◌∙◌, append_assoc, arith}
-use Rattle.std.specs.List.{AllByRecursion, AllZip, prefix_len}
-use Rattle.shr_base.specs.declared.places.Serial.{Serial}
-use Rattle.shr_base.specs.declared.replies.Found.{Found}
-use Rattle.shr_base.specs.declared.replies.Reply.{Reply}
-use Rattle.shr_base.specs.declared.replies.Answered.{Answered}
-use Rattle.shr_base.specs.declared.walks.WalkRecord.{WalkRecord}
-use Rattle.shr_base.specs.declared.walks.Carry.{Carry}
-use Rattle.shr_base.specs.declared.walks.PlainWalk.{PlainWalk}
-use Rattle.shr_base.specs.declared.walks.Isolation.{Isolation}
-use Rattle.shr_report.specs.AnswerText.{reply_line, found_lines}
-use Rattle.shr_report.specs.Text.{is_walk_of, is_carry_of, is_plain_of, is_isolation_of, Logs, log_lines, after_command, answer_lines}
-use Rattle.shr_report.specs.Same.{IsSameWalk, IsSamePlain}
+use Rattle.shr_report.proofs.Common.{◌≡◌, ℕ, suc, ◌+◌, ◌≤◌, List, [], ◌∷◌, ◌++◌, length, Option, refl, sym, ap, ◌∙◌, append_assoc, arith, AllByRecursion, AllZip, prefix_len, Serial, Found, Reply, Answered, WalkRecord, Carry, PlainWalk, Isolation, reply_line, found_lines, is_walk_of, is_carry_of, is_plain_of, is_isolation_of, Logs, log_lines, after_command, IsSameWalk, IsSamePlain, read_reply_line}
+use Rattle.shr_report.specs.Text.{answer_lines}
 use Rattle.shr_report.proofs.Printed.{one_line}
 use Rattle.shr_report.proofs.LinesBack.{printed_reply}
 use Rattle.shr_report.proofs.Sections.{kind, kind_reply}
 use Rattle.shr_report.proofs.WalksBack.{HasBitWords}
-use Rattle.shr_report.specs.ReadLines.{read_reply_line}
 use Rattle.shr_report.proofs.PartsBack.{Remain, none_left, IsOutside, from_not, reply_outside, found_once, IsAny, IsAnyPlain, IsAnyIsolation, LogsRemain, logs_left, SameNow, log_from, logs_once, zip_parts, zip_none, same_parts, IsPast, IsAnsweredWell}
 
 -- ---- the answers of a worker, one behind another
@@ -83,7 +71,7 @@ one_answer w k N M a b us vs l m rest rest' h j p q o o' e =
       later = third.1;
     }
 
-count_down : (k n N : ℕ) → k + suc n ≡ N → (k + 1) + n ≡ N
+pub count_down : (k n N : ℕ) → k + suc n ≡ N → (k + 1) + n ≡ N
 count_down k n N e = omega arith
 
 none_both : {X : Type 0} (serial : X → Serial) (P : X → Type 0) (w k N M : ℕ) (xs ys : List X) → Remain X serial P w k N xs → Remain X serial P w k M ys → N ≤ k → M ≤ k → (xs ≡ []) × (ys ≡ [])

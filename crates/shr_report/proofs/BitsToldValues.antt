@@ -1,20 +1,9 @@
 -- The bits of the second whole report are told as they must be, and for each sentence of that a report of a run, changed in
 -- one place, whose aren't.
-use Rattle.std.specs.Prelude.{◌≡◌, ℕ, zero, suc, ◌<◌, true, List, [], ◌∷◌, length, take, find, flat_map, Contains, option_and_then, refl}
-use Rattle.std.proofs.Common.{arith, ap, subst, sym, inl, ⊎_elim}
-use Rattle.shr_base.specs.declared.ends.PlaceEnd.{PlaceEnd}
-use Rattle.shr_base.specs.declared.journals.Entry.{Entry}
-use Rattle.shr_base.specs.declared.objects.Object.{Object}
-use Rattle.shr_base.specs.declared.places.Place.{Place}
+use Rattle.shr_report.proofs.Common.{◌≡◌, ℕ, zero, suc, ◌<◌, true, List, [], ◌∷◌, length, take, find, flat_map, Contains, option_and_then, refl, arith, ap, subst, sym, inl, ⊎_elim, PlaceEnd, Entry, Object, Place, WalkRecord, items_given, is_place, Has_from_Contains, Report, serial_of, parents_of, cited_by, at, journal_of, journals_of, all_walks, FillsPlace}
 use Rattle.shr_base.specs.declared.replies.Reply.TheVariants as reply
-use Rattle.shr_base.specs.declared.walks.WalkRecord.{WalkRecord}
-use Rattle.shr_model.specs.Families.{lists_moved, items_given}
+use Rattle.shr_model.specs.Families.{lists_moved}
 use Rattle.shr_model.specs.Items.{items_from}
-use Rattle.shr_model.specs.Places.{is_place}
-use Rattle.shr_model.proofs.Members.{Has_from_Contains}
-use Rattle.shr_report.specs.declared.report.Report.{Report}
-use Rattle.shr_report.specs.Parts.{serial_of, parents_of, cited_by, at, journal_of, journals_of, all_walks}
-use Rattle.shr_report.specs.WalksLawful.{FillsPlace}
 use Rattle.shr_report.specs.BitsTold.{was_cleared_since, set_again_in, HasReason, AreBitsTold}
 use Rattle.shr_report.proofs.SecondCases.{each_walk, held_same}
 use Rattle.shr_report.proofs.SecondReport.{kept, unheld, script, report, part, place, walk, cleared}

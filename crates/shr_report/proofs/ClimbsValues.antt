@@ -1,15 +1,10 @@
 -- The lists on which the second whole report's worker acts go up only, and those of a report of a run, changed in one place,
 -- don't.
-use Rattle.std.specs.Prelude.{◌≡◌, ℕ, zero, suc, [], ◌∷◌, codes, refl}
-use Rattle.std.proofs.Common.{arith, ap, sym, subst, ⊎_elim}
-use Rattle.shr_base.specs.declared.places.At.{At}
-use Rattle.shr_base.specs.declared.places.Place.{Place}
+use Rattle.shr_report.proofs.Common.{◌≡◌, ℕ, zero, suc, [], ◌∷◌, codes, refl, arith, ap, sym, subst, ⊎_elim, At, Place, IsAtOrAbove, Has_from_Contains, parents_of, at}
 use Rattle.shr_base.specs.declared.replies.Reply.TheVariants as reply
 use Rattle.shr_base.specs.declared.scripts.Command.TheVariants.{Get}
-use Rattle.shr_model.specs.Groups.{path_within, IsAtOrAbove}
-use Rattle.shr_model.proofs.Members.{Has_from_Contains}
+use Rattle.shr_model.specs.Groups.{path_within}
 use Rattle.shr_report.specs.Climbs.{ActsOn, AreClimbing}
-use Rattle.shr_report.specs.Parts.{parents_of, at}
 use Rattle.shr_report.proofs.OfflineReport as offline
 use Rattle.shr_report.proofs.SecondCases.{held_same}
 use Rattle.shr_report.proofs.SecondReport.{kept, script, report, place, part, held}

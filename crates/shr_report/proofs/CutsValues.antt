@@ -1,13 +1,9 @@
 -- The second whole report's cuts are told, and reports of a run, changed in one place, whose aren't.
-use Rattle.std.specs.Prelude.{◌≡◌, ℕ, ◌≤◌, true, false, List, [], ◌∷◌, length, AllPairs, refl}
-use Rattle.std.proofs.Common.{arith}
-use Rattle.shr_base.specs.declared.replies.Answered.{Answered}
+use Rattle.shr_report.proofs.Common.{◌≡◌, ℕ, ◌≤◌, true, false, List, [], ◌∷◌, length, refl, arith, Answered, WalkAnswer, WalkRecord, Report}
+use Rattle.std.specs.Prelude.{AllPairs}
 use Rattle.shr_base.specs.declared.replies.Reply.TheVariants as reply
-use Rattle.shr_base.specs.declared.walks.WalkAnswer.{WalkAnswer}
 use Rattle.shr_base.specs.declared.walks.WalkAnswer.TheVariants as walk
-use Rattle.shr_base.specs.declared.walks.WalkRecord.{WalkRecord}
 use Rattle.shr_model.specs.Walks.{is_cut}
-use Rattle.shr_report.specs.declared.report.Report.{Report}
 use Rattle.shr_report.specs.Cuts.{AreCutsTold}
 use Rattle.shr_report.proofs.SecondCases.{each_answer}
 use Rattle.shr_report.proofs.SecondReport as second

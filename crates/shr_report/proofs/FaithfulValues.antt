@@ -1,20 +1,10 @@
 -- The second whole report is faithful, and for each sentence of that a report of a run, changed in one place, isn't.
-use Rattle.std.specs.Prelude.{◌≡◌, ℕ, zero, suc, ◌<◌, ◌≤◌, ◌≢◌, ◌==◌, true, false, cond, if◌then◌else◌, List, [], ◌∷◌, Some, refl, slice_get}
-use Rattle.std.proofs.Common.{arith, sym, ap, subst, ◌∙◌, ⊎_elim}
-use Rattle.shr_base.specs.declared.journals.PoolEntry.TheVariants.{Registered, Unregistered, Idle}
-use Rattle.shr_base.specs.declared.journals.TreeEntry.TheVariants.{Begin, Done}
-use Rattle.shr_base.specs.declared.journals.UseStep.{UseStep}
-use Rattle.shr_base.specs.declared.replies.Answered.{Answered}
+use Rattle.shr_report.proofs.Common.{◌≡◌, ℕ, zero, suc, ◌<◌, ◌≤◌, ◌≢◌, ◌==◌, true, false, cond, if◌then◌else◌, List, [], ◌∷◌, Some, refl, slice_get, arith, sym, ap, subst, ◌∙◌, ⊎_elim, Registered, Unregistered, Idle, Begin, Done, UseStep, Answered, last_number, Has_from_Contains, IsSomeAnd, Report, is_done_by, serial_of, reply_at, lookups_at, of_answer}
 use Rattle.shr_base.specs.declared.replies.Reply.TheVariants as reply
 use Rattle.shr_base.specs.declared.scripts.Command.TheVariants as command
 use Rattle.shr_model.specs.Groups.{path_within}
-use Rattle.shr_model.specs.Pool.{last_number, number_from, phase_of}
-use Rattle.shr_model.proofs.Members.{Has_from_Contains}
-use Rattle.std.specs.Option.{IsSomeAnd}
-use Rattle.shr_report.specs.declared.report.Report.{Report}
-use Rattle.shr_report.specs.Causes.{is_done_by}
-use Rattle.shr_report.specs.Parts.{serial_of, reply_at, lookups_at}
-use Rattle.shr_report.specs.Freshness.{of_answer, made_by, shows_offline}
+use Rattle.shr_model.specs.Pool.{number_from, phase_of}
+use Rattle.shr_report.specs.Freshness.{made_by, shows_offline}
 use Rattle.shr_report.specs.Faithful.{pool_reached, tree_reached, tree_made, AreNotAbove, IsOverOnPath, IsFaithful}
 use Rattle.shr_report.proofs.BitsToldValues as bits
 use Rattle.shr_report.proofs.ClimbsValues.{are_climbing}
@@ -28,11 +18,9 @@ use Rattle.shr_report.proofs.NotLawful.{with_answers}
 use Rattle.shr_report.proofs.OverReport as over
 use Rattle.shr_report.proofs.TriesValues.{are_tries}
 use Rattle.shr_report.proofs.ThirdReport as third
+use Rattle.shr_model.proofs.Booleans.{not_zero}
 
 -- the second report
-
-not_zero : (n : ℕ) → (0 == suc n) ≡ false
-not_zero n = grind (arith)
 
 reached_of : (id : ℕ) → last_number id report.pool.items ≤ lookups_at report id
 unfolding number_from
@@ -61,7 +49,7 @@ no_tree_made zero (suc (suc (suc zero))) = refl
 no_tree_made zero (suc (suc (suc (suc k)))) = refl
 no_tree_made (suc worker) k = refl
 
-above_none : (ns : List ℕ) → AreNotAbove ns []
+pub above_none : (ns : List ℕ) → AreNotAbove ns []
 above_none [] = tt
 above_none (n ∷ ns) = (tt, above_none ns)
 

@@ -1,34 +1,20 @@
 -- Changes that break the sentences that no other change here breaks: sizes and names, totals,
 -- rounds, walks that were cut, rows of the table of replies, and a list that two caches share.
-use Rattle.std.specs.Prelude.{◌≡◌, ◌≤◌, ℕ, true, List, [], ◌∷◌, codes, length, replicate, Some, None, refl}
-use Rattle.std.proofs.Common.{arith, ap, inl, inr}
+use Rattle.shr_report.proofs.Common.{◌≡◌, ◌≤◌, ℕ, true, List, [], ◌∷◌, codes, length, replicate, Some, None, refl, arith, ap, inl, inr, Entry, Add, Drop, Drained, Registered, Unregistered, Idle, WalkRecord, Has, Has_from_Contains, Report, serial_of, journals_of, IsReply, HasCause, AreRepliesLawful, AreJournalsLawful, IsBagLawful, AreWalksLawful, IsFoundRight, AreLookupsLawful, AreChargesLawful, IsDeferredLawful}
 use Rattle.shr_base.specs.declared.journals.DropKind.TheVariants as kind
-use Rattle.shr_base.specs.declared.journals.Entry.{Entry}
-use Rattle.shr_base.specs.declared.journals.Entry.TheVariants.{Add, Drop, MovedIn, Drained}
+use Rattle.shr_base.specs.declared.journals.Entry.TheVariants.{MovedIn}
 use Rattle.std.proofs.lemmas.List.Sorted.{length_permutation}
 use Rattle.shr_base.specs.declared.walks.Outcome.TheVariants as outcome
-use Rattle.shr_base.specs.declared.journals.PoolEntry.TheVariants.{Registered, Unregistered, Idle}
 use Rattle.shr_base.specs.declared.replies.Reply.TheVariants as reply
 use Rattle.shr_base.specs.declared.scripts.Command.TheVariants as command
 use Rattle.shr_base.specs.declared.walks.WalkAnswer.TheVariants as walk
-use Rattle.shr_base.specs.declared.walks.WalkRecord.{WalkRecord}
 use Rattle.shr_model.specs.Bag.{AreDistinct}
 use Rattle.shr_model.specs.Groups.{path_within, path_of}
 use Rattle.shr_model.specs.Items.{items_from, freed_from, AreOutcomes}
 use Rattle.shr_model.specs.Families.{lists_moved, items_within}
 use Rattle.shr_model.specs.Pool.{phase_of, decl_from, decl_at, registrations, end_of, number_from, is_live_below}
-use Rattle.shr_model.proofs.Members.{Has, Has_from_Contains}
-use Rattle.shr_report.specs.declared.report.Report.{Report}
-use Rattle.shr_report.specs.Parts.{serial_of, journals_of}
-use Rattle.shr_report.specs.ReplyTable.{IsReply, HasCause}
-use Rattle.shr_report.specs.Replies.{AreRepliesLawful}
-use Rattle.shr_report.specs.Journals.{AreJournalsLawful}
-use Rattle.shr_report.specs.Lawful.{IsBagLawful}
 use Rattle.shr_report.specs.LawfulWalk.{IsBegun}
-use Rattle.shr_report.specs.WalksLawful.{AreRounds, AreWalksLawful}
-use Rattle.shr_report.specs.Lookups.{IsFoundRight, AreLookupsLawful}
-use Rattle.shr_report.specs.Charges.{AreChargesLawful}
-use Rattle.shr_report.specs.Deferred.{IsDeferredLawful}
+use Rattle.shr_report.specs.WalksLawful.{AreRounds}
 use Rattle.shr_report.proofs.SecondReport as second
 use Rattle.shr_report.proofs.NotLawful.{with_list, with_walks}
 use Rattle.shr_report.proofs.OfflineReport as moves

@@ -1,69 +1,20 @@
 -- The first whole report is lawful for its script.
-use Rattle.std.specs.Prelude.{◌≡◌, ℕ, zero, suc, ◌+◌, ◌<◌, ◌≤◌, Bool, true, false, cond, ◌&&◌, nat_lt, fold, count_by, flat_map, List, [], ◌∷◌, ◌++◌, length, take, Some, None, slice_get, refl, Contains}
-use Rattle.std.proofs.Common.{arith, sym, ap, subst, ◌∙◌}
-use Rattle.std.proofs.lemmas.Bool.{and_parts}
-use Rattle.shr_base.specs.declared.places.Place.{Place}
-use Rattle.shr_base.specs.declared.journals.Entry.{Entry}
-use Rattle.shr_model.specs.Places.{at_group}
-use Rattle.shr_model.specs.Groups.{path_within, preorder_within, parent_of, is_child}
-use Rattle.shr_model.specs.Items.{is_closed, items_from, freed_from, AreOutcomes}
-use Rattle.shr_model.specs.Families.{moved_in, lists_moved, items_within, items_given, MayStand, IsBornAt}
+use Rattle.shr_report.proofs.Common.{◌≡◌, ℕ, zero, suc, ◌+◌, ◌<◌, ◌≤◌, Bool, true, false, cond, ◌&&◌, nat_lt, fold, count_by, flat_map, List, [], ◌∷◌, ◌++◌, length, take, Some, None, slice_get, refl, Contains, arith, sym, ap, subst, ◌∙◌, and_parts, Place, Entry, at_group, parent_of, is_child, is_closed, moved_in, items_given, MayStand, IsBornAt, cons_option, map, ◌%◌, UseStep, ops_by, is_refused, versions_at, ◌==◌, if◌then◌else◌, Registered, Found, Carry, decl_named, is_live, last_number, IsNextPool, IsPoolJournal, lookups_at, carries_of, found_numbers, tried_numbers, IsFoundRight, AreLookupsLawful, IsDeferredLawful, AreBitsLawful, pos, ◌-ℤ◌, IfSome, IsSomeAnd, ups, usage_after, IsNextUse, IsChargeHistory, AreTakenBack, is_put, command_at, reply_at, IsDownBetween, charged, freed_below, listed_below, AreChargesLawful, ◌||◌, list_any, PoolEntry, Answered, WalkRecord, answers_of, isolations_of, pool_seen, pool_made, tree_seen, of_answer, shown_by, is_begin_at, is_done_at, AreBelow, AreCausesLawful, IsLawful, IsOfIsolation, isolations_told, AreIsolationsLawful, AreNotFalling, IsOfPass, uses_at, limit_of, walks_of, parents_of, serial_of, cited_at, journals_of, items_left, at, EachEntry, AreRepliesLawful, AreJournalsLawful, AreWalksLawful, IsBagLawful, Serial, Command, At, PlainWalk, IsThere, EachAnswer, is_set_at, ArePoolsLawful, plain_of, plain_at, units_cited_at}
+use Rattle.shr_model.specs.Groups.{path_within, preorder_within}
+use Rattle.shr_model.specs.Items.{items_from, freed_from, AreOutcomes}
+use Rattle.shr_model.specs.Families.{lists_moved, items_within}
 use Rattle.shr_model.specs.Bag.{AreDistinct}
 use Rattle.shr_model.specs.Pool.{decl_at, registrations, end_of, phase_of, decl_from, from_from, number_from, is_live_below, lowest_free}
-use Rattle.std.specs.List.{cons_option}
-use Rattle.std.specs.Prelude.{map, ◌%◌}
-use Rattle.shr_base.specs.declared.journals.UseStep.{UseStep}
-use Rattle.shr_model.specs.Charges.{ops_by, is_refused}
 use Rattle.shr_model.specs.Commands.{rounds_from}
-use Rattle.shr_model.specs.Walks.{versions_at}
-use Rattle.std.specs.Prelude.{◌==◌, if◌then◌else◌}
-use Rattle.shr_base.specs.declared.journals.PoolEntry.TheVariants.{Registered}
-use Rattle.shr_base.specs.declared.replies.Found.{Found}
-use Rattle.shr_base.specs.declared.walks.Carry.{Carry}
-use Rattle.shr_model.specs.Commands.{decl_named}
-use Rattle.shr_model.specs.Pool.{is_live, last_number, IsNextPool, IsPoolJournal}
-use Rattle.shr_report.specs.Parts.{lookups_at, carries_of}
-use Rattle.shr_report.specs.Lookups.{found_numbers, tried_numbers, IsFoundRight, AreLookupsLawful}
-use Rattle.shr_report.specs.Deferred.{IsDeferredLawful}
-use Rattle.shr_report.specs.BitsLawful.{AreBitsLawful}
-use Rattle.std.specs.Prelude.{pos, ◌-ℤ◌, IfSome}
-use Rattle.std.specs.Option.{IsSomeAnd}
-use Rattle.shr_model.specs.Charges.{ups, usage_after, IsNextUse, IsChargeHistory, AreTakenBack}
-use Rattle.shr_model.specs.Commands.{is_put}
-use Rattle.shr_report.specs.Parts.{command_at, reply_at}
-use Rattle.shr_report.specs.Charges.{IsDownBetween, charged, freed_below, listed_below, AreChargesLawful}
-use Rattle.std.specs.Prelude.{◌||◌}
-use Rattle.std.specs.List.{list_any}
-use Rattle.shr_base.specs.declared.journals.PoolEntry.{PoolEntry}
 use Rattle.shr_base.specs.declared.replies.Reply.TheVariants as reply
-use Rattle.shr_base.specs.declared.replies.Answered.{Answered}
-use Rattle.shr_base.specs.declared.walks.WalkRecord.{WalkRecord}
-use Rattle.shr_report.specs.Parts.{answers_of, isolations_of}
-use Rattle.shr_report.specs.Freshness.{pool_seen, pool_made, tree_seen, of_answer, shown_by, is_begin_at, is_done_at, AreBelow}
-use Rattle.shr_report.specs.CausesLawful.{AreCausesLawful}
-use Rattle.shr_report.specs.Lawful.{IsLawful}
-use Rattle.shr_report.specs.Isolated.{IsOfIsolation, isolations_told, AreIsolationsLawful}
 use Rattle.shr_report.proofs.QuietIsolations.{quiet_isolations}
-use Rattle.shr_report.specs.WellFormed.{AreNotFalling}
-use Rattle.shr_report.specs.WalksLawful.{IsOfPass}
-use Rattle.shr_report.specs.Parts.{uses_at, limit_of, walks_of, parents_of, serial_of, cited_at, journals_of, items_left, at, EachEntry}
-use Rattle.shr_report.specs.Replies.{AreRepliesLawful}
-use Rattle.shr_report.specs.Journals.{AreJournalsLawful}
-use Rattle.shr_report.specs.WalksLawful.{AreWalksLawful}
-use Rattle.shr_report.specs.Lawful.{IsBagLawful}
-use Rattle.shr_base.specs.declared.places.Serial.{Serial}
-use Rattle.shr_base.specs.declared.scripts.Command.{Command}
-use Rattle.shr_base.specs.declared.places.At.{At}
-use Rattle.shr_base.specs.declared.walks.PlainWalk.{PlainWalk}
-use Rattle.shr_report.specs.Parts.{IsThere, EachAnswer, walk_at}
-use Rattle.shr_report.specs.BitsLawful.{is_set_at}
-use Rattle.shr_report.specs.Pools.{ArePoolsLawful}
-use Rattle.shr_report.specs.UnitParts.{plain_of, plain_at, units_cited_at}
+use Rattle.shr_report.specs.Parts.{walk_at}
 use Rattle.shr_report.proofs.SecondReport.{by, place, put, use_step}
 use Rattle.shr_report.proofs.FirstReport.{script, report, answer, entries, end}
 use Rattle.shr_report.proofs.SecondCases.{each_at, only_journal, AllAt}
 use Rattle.shr_report.proofs.QuietPools.{quiet_pools}
 use Rattle.shr_report.proofs.QuietSweep.{quiet_counts, quiet_last, quiet_sweep}
+use Rattle.shr_model.proofs.Booleans.{not_zero}
 
 each_by : (P : Serial → Command → Answered → Type 0) → P (by 0) put answer → (worker k : ℕ) (c : Command) (a : Answered)
     → slice_get (Rattle.shr_report.specs.Parts.commands_of script worker) k ≡ Some c → slice_get (answers_of report worker) k ≡ Some a → P (record { worker = worker; command = k }) c a
@@ -149,12 +100,12 @@ bag : IsBagLawful script report
 unfolding items_from freed_from lists_moved items_within AreDistinct
 bag = record { bag = record { distinct = (tt, tt); parts = record { moves = []; below = tt; is = refl } }; added = refl; freed = refl; listed = refl }
 
-no_limit : (group : ℕ) → limit_of script group ≡ None
+pub no_limit : (group : ℕ) → limit_of script group ≡ None
 no_limit zero = refl
 no_limit (suc zero) = refl
 no_limit (suc (suc group)) = refl
 
-none_refused : (a : ℕ) (ops : List UseStep) → fold (λ a (o : UseStep). a + cond (is_refused None o) 1 0) a ops ≡ a
+pub none_refused : (a : ℕ) (ops : List UseStep) → fold (λ a (o : UseStep). a + cond (is_refused None o) 1 0) a ops ≡ a
 none_refused a [] = refl
 none_refused a (o ∷ ops) = let later : fold (λ a (o : UseStep). a + cond (is_refused None o) 1 0) (a + 0) ops ≡ a + 0 = none_refused (a + 0) ops in omega (arith, later)
 
@@ -180,13 +131,10 @@ walks = record {
   bits = λ worker n w e. absurd (no_walk worker n w e);
 }
 
-not_zero : (n : ℕ) → (0 == suc n) ≡ false
-not_zero n = grind (arith)
-
-zero_not : (n : ℕ) → (suc n == 0) ≡ false
+pub zero_not : (n : ℕ) → (suc n == 0) ≡ false
 zero_not n = grind (arith)
 
-none_below : (n : ℕ) → nat_lt n 0 ≡ false
+pub none_below : (n : ℕ) → nat_lt n 0 ≡ false
 none_below n = grind (arith)
 
 number_of_first : (number : ℕ) → count_by (λ n. n == number) (0 ∷ []) ≡ (if nat_lt number 1 then 1 else 0)

@@ -1,14 +1,6 @@
 -- The first whole report, of one put, as a value with its script.
-use Rattle.std.specs.Prelude.{true, [], ◌∷◌, codes, List, None}
-use Rattle.shr_base.specs.declared.journals.Entry.{Entry}
-use Rattle.shr_base.specs.declared.journals.Entry.TheVariants.{Add}
-use Rattle.shr_base.specs.declared.journals.PoolEntry.TheVariants.{Registered}
+use Rattle.shr_report.proofs.Common.{true, [], ◌∷◌, codes, List, None, Entry, Add, Registered, Answered, Script, PlaceEnd, fresh, Report}
 use Rattle.shr_base.specs.declared.replies.Reply.TheVariants as reply
-use Rattle.shr_base.specs.declared.replies.Answered.{Answered}
-use Rattle.shr_base.specs.declared.scripts.Script.{Script}
-use Rattle.shr_base.specs.declared.ends.PlaceEnd.{PlaceEnd}
-use Rattle.shr_model.specs.Objects.{fresh}
-use Rattle.shr_report.specs.declared.report.Report.{Report}
 use Rattle.shr_report.proofs.SecondReport.{kept, by, place, put, group_a, dentry, held, use_step}
 
 -- one node, one id, one group below the root, one cache, and one put

@@ -1,24 +1,11 @@
 -- The second whole report is done in the use of its id, and reports of which no order is: a scan behind the drain, and an
 -- object that stays on the list of an id that came to be idle.
-use Rattle.std.specs.Prelude.{◌≡◌, ◌≢◌, ℕ, zero, suc, ◌+◌, ◌<◌, ◌≤◌, List, [], ◌∷◌, take, length, slice_get, Some, None, Contains, refl, codes, true, false}
-use Rattle.std.proofs.Common.{◌⊎◌, arith, sym, ap, subst, ◌∙◌, ⊎_elim, inl, inr}
-use mathlib.Core.Logic.{dite}
-use native.Mathlib.Decide.{ℕ_discrete}
-use Rattle.shr_base.specs.declared.journals.Entry.{Entry}
-use Rattle.shr_base.specs.declared.journals.Entry.TheVariants.{Add, Drop, Scan, Drained}
-use Rattle.shr_base.specs.declared.journals.PoolEntry.{PoolEntry}
-use Rattle.shr_base.specs.declared.journals.PoolEntry.TheVariants.{Registered, Unregistered, Idle}
-use Rattle.shr_base.specs.declared.objects.Policy.TheVariants.{Plain}
-use Rattle.shr_base.specs.declared.places.Place.{Place}
-use Rattle.shr_base.specs.declared.places.Serial.{Serial}
+use Rattle.shr_report.proofs.Common.{◌≡◌, ◌≢◌, ℕ, zero, suc, ◌+◌, ◌<◌, ◌≤◌, List, [], ◌∷◌, take, length, slice_get, Some, None, Contains, refl, codes, true, false, ◌⊎◌, arith, sym, ap, subst, ◌∙◌, ⊎_elim, inl, inr, dite, ℕ_discrete, Entry, Add, Drop, Scan, Drained, PoolEntry, Registered, Unregistered, Idle, Plain, Place, Serial, Has_from_Contains, Report, serial_of, journals_of, entry_by, Told, entry, lookup, turn, count, entries, lookups, turns, looked_by, IsBy, IsInOneOrder}
 use Rattle.shr_base.specs.declared.replies.Reply.TheVariants as reply
 use Rattle.shr_base.specs.declared.walks.Outcome.TheVariants as outcome
 use Rattle.shr_model.specs.Items.{HasJournal, items_from}
 use Rattle.shr_model.specs.Pool.{phase_of, registrations, end_of, decl_at, is_dying}
-use Rattle.shr_model.proofs.Members.{Has_from_Contains}
-use Rattle.shr_report.specs.declared.report.Report.{Report}
-use Rattle.shr_report.specs.Parts.{serial_of, journals_of, entry_by}
-use Rattle.shr_report.specs.OneOrder.{Told, entry, lookup, turn, count, entries, lookups, turns, looked_by, HasAt, IsBy, IsOfUse, IsDrained, EndsUse, ComesBehind, IsInUse, IsWhileDying, IsWhileEmpty, IsInOneOrder}
+use Rattle.shr_report.specs.OneOrder.{HasAt, IsOfUse, IsDrained, EndsUse, ComesBehind, IsInUse, IsWhileDying, IsWhileEmpty}
 use Rattle.shr_report.proofs.SecondCases.{each_entry, held_same}
 use Rattle.shr_report.proofs.SecondReport.{kept, report, part, place, by, held, unheld, walk}
 

@@ -1,8 +1,7 @@
 -- The objects of a list at rest, at values worked out by hand.
-use Rattle.std.proofs.Common.{◌≡◌, ℕ, [], ◌∷◌, false, Option, Some, None, refl}
+use Rattle.shr_report.proofs.Common.{◌≡◌, ℕ, [], ◌∷◌, false, Option, Some, None, refl, Object}
 use Rattle.slab.specs.Slab.{Slab}
 use Rattle.shr_base.specs.declared.items.Node.{Node}
-use Rattle.shr_base.specs.declared.objects.Object.{Object}
 use Rattle.shr_base.specs.Rest.{objects_from}
 
 -- an object by its command

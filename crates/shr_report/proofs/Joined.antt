@@ -1,14 +1,9 @@
 -- Parts of a text one after the other.
-use Rattle.std.proofs.Common.{◌≡◌, ℕ, ◌+◌, ◌<◌, ◌≤◌, List, [], ◌∷◌, ◌++◌, length, take, drop, get_or, flat_map, refl, sym, ap, ◌∙◌, append_assoc}
-use Rattle.std.specs.List.{prefix_len}
-use Rattle.std.proofs.lemmas.List.{take_more, drop_more, drop_all, drop-drop, append-nil, take-append-drop}
+use Rattle.shr_report.proofs.Common.{◌≡◌, ℕ, ◌+◌, ◌<◌, ◌≤◌, List, [], ◌∷◌, ◌++◌, length, take, drop, get_or, flat_map, refl, sym, ap, ◌∙◌, append_assoc, prefix_len, take_more, drop_more, drop_all, append-nil, take-append-drop, Attempt, MapSeen, Answered, reply_line, found_lines, attempt_line, map_line, is_in_unit, Logs, log_lines, after_command}
+use Rattle.std.proofs.lemmas.List.{drop-drop}
 use Rattle.std.proofs.lemmas.Grind.{flat_map-append}
-use Rattle.shr_base.specs.declared.walks.Attempt.{Attempt}
-use Rattle.shr_base.specs.declared.walks.MapSeen.{MapSeen}
-use Rattle.shr_base.specs.declared.replies.Answered.{Answered}
-use Rattle.shr_report.specs.AnswerText.{reply_line, found_lines}
-use Rattle.shr_report.specs.WalkText.{attempt_line, map_line, map_lines, is_in_unit}
-use Rattle.shr_report.specs.Text.{Logs, log_lines, after_command, answer_lines}
+use Rattle.shr_report.specs.WalkText.{map_lines}
+use Rattle.shr_report.specs.Text.{answer_lines}
 
 -- one unit more with its attempts
 pub units_next : (maps : List MapSeen) (i : ℕ) (d m : MapSeen) (all : List Attempt) (at n : ℕ) → i < length maps → m ≡ get_or maps i d → n ≡ prefix_len (is_in_unit m.unit) (drop at all)

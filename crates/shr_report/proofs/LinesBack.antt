@@ -1,43 +1,21 @@
 -- The lines of a report read back.
-use Rattle.std.proofs.Common.{◌≡◌, ℕ, Bool, true, false, List, [], ◌∷◌, ◌⊎◌, inl, inr, refl, sym, ap, subst}
-use Rattle.std.specs.Prelude.{codes, ℤ}
-use Rattle.std.specs.List.{list_all}
-use Rattle.shr_model.specs.Words.{is_key, is_value, is_name}
-use Rattle.shr_model.specs.Paths.{is_path}
-use Rattle.shr_base.specs.declared.places.Place.{Place}
-use Rattle.shr_base.specs.declared.places.Serial.{Serial}
-use Rattle.shr_base.specs.declared.objects.Object.{Object}
-use Rattle.shr_base.specs.declared.objects.Policy.TheVariants.{Plain, Clock, Halt}
+use Rattle.shr_report.proofs.Common.{◌≡◌, ℕ, Bool, true, false, List, [], ◌∷◌, ◌⊎◌, inl, inr, refl, sym, ap, subst, codes, ℤ, list_all, is_key, is_value, is_name, is_path, Place, Serial, Object, Plain, Clock, Entry, PoolEntry, TreeEntry, UseStep, Found, Reply, Attempt, MapSeen, WalkAnswer, Carry, PlaceAmount, MapEnd, line, hex, numeral, signed_numeral, spent_words, why_words, isolate_end_words, reply_line, place_words, pass_words, attempt_line, map_line, carry_line, group_line, cache_line, pool_line, tree_line, entry_line, item_line, bit_line, deferred_line, use_line, lookups_line, HasWords, LendsWord, IsSpelled, IsBitWord, read_reply_line, read_found, read_group, read_cache, read_pool, read_tree, read_attempt, read_map, WalkHead, read_walk, read_amount, read_list, read_bit, read_use, read_lookups, Totals, totals, read_total, read_version, read_size, read_item}
+use Rattle.shr_base.specs.declared.objects.Policy.TheVariants.{Halt}
 use Rattle.shr_base.specs.declared.journals.DropKind.TheVariants as kind
-use Rattle.shr_base.specs.declared.journals.Entry.{Entry}
 use Rattle.shr_base.specs.declared.journals.Entry.TheVariants as entry
-use Rattle.shr_base.specs.declared.journals.PoolEntry.{PoolEntry}
 use Rattle.shr_base.specs.declared.journals.PoolEntry.TheVariants as pool
-use Rattle.shr_base.specs.declared.journals.TreeEntry.{TreeEntry}
 use Rattle.shr_base.specs.declared.journals.TreeEntry.TheVariants as tree
-use Rattle.shr_base.specs.declared.journals.UseStep.{UseStep}
-use Rattle.shr_base.specs.declared.replies.Found.{Found}
-use Rattle.shr_base.specs.declared.replies.Reply.{Reply}
 use Rattle.shr_base.specs.declared.replies.Reply.TheVariants as reply
 use Rattle.shr_base.specs.declared.walks.GoneThen.TheVariants as gone
 use Rattle.shr_base.specs.declared.walks.Outcome.{Outcome}
 use Rattle.shr_base.specs.declared.walks.Outcome.TheVariants as outcome
-use Rattle.shr_base.specs.declared.walks.Attempt.{Attempt}
-use Rattle.shr_base.specs.declared.walks.MapSeen.{MapSeen}
-use Rattle.shr_base.specs.declared.walks.WalkAnswer.{WalkAnswer}
 use Rattle.shr_base.specs.declared.walks.WalkAnswer.TheVariants as answer
-use Rattle.shr_base.specs.declared.walks.Carry.{Carry}
-use Rattle.shr_base.specs.declared.ends.PlaceAmount.{PlaceAmount}
-use Rattle.shr_base.specs.declared.ends.MapEnd.{MapEnd}
-use Rattle.shr_report.specs.Lines.{line, hex, numeral, signed_numeral}
-use Rattle.shr_report.specs.AnswerText.{choice, spent_words, why_words, isolate_end_words, value_word, reply_line, place_words}
-use Rattle.shr_report.specs.WalkText.{pass_words, attempt_line, map_line, walked_words, carry_line}
-use Rattle.shr_report.specs.Text.{group_line, cache_line, pool_line, tree_line, entry_line, item_line, bit_line, deferred_line, use_line, lookups_line}
-use Rattle.shr_report.specs.WellFormed.{HasWords, LendsWord, IsSpelled, IsBitWord}
+use Rattle.shr_report.specs.AnswerText.{choice, value_word}
+use Rattle.shr_report.specs.WalkText.{walked_words}
 use Rattle.shr_report.proofs.Peel.{is_plain_word}
 use Rattle.shr_report.proofs.Reading.{value, hex_value, signed_value, plain_numeral, plain_key, plain_value, plain_name, plain_path, plain_hex, plain_signed}
 use Rattle.shr_report.proofs.Printed.{again_spent, plain_spent, again_why, plain_why, again_isolate_end, plain_isolate_end, again_pass, plain_ending, Printed, printed}
-use Rattle.shr_report.specs.ReadLines.{read_reply, read_reply_line, read_found, read_group, read_cache, read_pool, read_tree, read_outcome, read_attempt, read_map, WalkHead, read_walked, read_walk, read_amount, read_list, bits_of, read_bit, read_use, read_lookups, Totals, totals, read_total, read_version, read_size, read_kind, read_policy, read_entry, object_of, read_item}
+use Rattle.shr_report.specs.ReadLines.{read_reply, read_outcome, read_walked, bits_of, read_kind, read_policy, read_entry, object_of}
 
 -- the line of a reply reads back as that reply
 pub printed_reply : (worker command : ℕ) (r : Reply) → LendsWord r → Printed (ℕ × Reply) read_reply_line (worker, r) (reply_line worker command r)

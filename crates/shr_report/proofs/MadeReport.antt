@@ -1,19 +1,7 @@
 -- A report of a group that is made during the run: it is asked for before it is there, made, asked to be made again, given an
 -- object, and then in the way of its parent's offlining.
-use Rattle.std.specs.Prelude.{false, true, List, [], ◌∷◌, codes, None}
-use Rattle.shr_base.specs.declared.places.Place.{Place}
-use Rattle.shr_base.specs.declared.journals.Entry.{Entry}
-use Rattle.shr_base.specs.declared.journals.Entry.TheVariants.{Add}
-use Rattle.shr_base.specs.declared.journals.PoolEntry.TheVariants.{Registered}
-use Rattle.shr_base.specs.declared.journals.TreeEntry.TheVariants.{Made}
-use Rattle.shr_base.specs.declared.replies.Answered.{Answered}
+use Rattle.shr_report.proofs.Common.{false, true, List, [], ◌∷◌, codes, None, Place, Entry, Add, Registered, Made, Answered, Command, Put, Offline, MkGroup, Script, fresh, Report, at}
 use Rattle.shr_base.specs.declared.replies.Reply.TheVariants as reply
-use Rattle.shr_base.specs.declared.scripts.Command.{Command}
-use Rattle.shr_base.specs.declared.scripts.Command.TheVariants.{Put, Offline, MkGroup}
-use Rattle.shr_base.specs.declared.scripts.Script.{Script}
-use Rattle.shr_model.specs.Objects.{fresh}
-use Rattle.shr_report.specs.declared.report.Report.{Report}
-use Rattle.shr_report.specs.Parts.{at}
 use Rattle.shr_report.proofs.SecondReport.{kept, by, dentry, held, unheld, use_step}
 
 -- the place of a group's objects

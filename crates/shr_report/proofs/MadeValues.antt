@@ -1,25 +1,12 @@
 -- What the laws say of groups that are made during a run: by a report of one, and by changes that break them.
-use Rattle.std.specs.Prelude.{◌≡◌, ◌<◌, ℕ, zero, suc, true, false, List, [], ◌∷◌, codes, Some, None, Contains, refl}
-use Rattle.std.specs.Option.{IsSomeAnd}
-use Rattle.std.proofs.Common.{arith, inl, inr, ap, subst}
-use Rattle.shr_base.specs.declared.journals.Entry.TheVariants.{Closed}
-use Rattle.shr_base.specs.declared.journals.TreeEntry.TheVariants.{Begin, Done, Made}
-use Rattle.shr_base.specs.declared.places.Serial.{Serial}
-use Rattle.shr_base.specs.declared.replies.Answered.{Answered}
+use Rattle.shr_report.proofs.Common.{◌≡◌, ◌<◌, ℕ, zero, suc, true, false, List, [], ◌∷◌, codes, Some, None, Contains, refl, IsSomeAnd, arith, inl, inr, ap, subst, Closed, Begin, Done, Made, Serial, Answered, Shrink, Balance, Offline, MkGroup, IsAtOrAbove, Has, Has_from_Contains, Report, serial_of, parents_of, journals_of, reply_at, AreChargesLawful, AreCausesLawful, AreJournalsLawful, IsFreePut, IsReply, HasCause}
 use Rattle.shr_base.specs.declared.replies.Reply.TheVariants as reply
-use Rattle.shr_base.specs.declared.scripts.Command.TheVariants.{Shrink, Balance, Offline, MkGroup}
-use Rattle.shr_model.specs.Groups.{IsAtOrAbove, path_within}
+use Rattle.shr_model.specs.Groups.{path_within}
 use Rattle.shr_model.specs.TreeJournal.{MayBeMade, IsTreeJournal}
-use Rattle.shr_model.proofs.Members.{Has, Has_from_Contains}
-use Rattle.shr_report.specs.declared.report.Report.{Report}
-use Rattle.shr_report.specs.Parts.{serial_of, hierarchy_of, parents_of, journals_of, reply_at}
+use Rattle.shr_report.specs.Parts.{hierarchy_of}
 use Rattle.shr_report.specs.Causes.{is_made_by, IsMadeOnce}
-use Rattle.shr_report.specs.Charges.{AreChargesLawful}
-use Rattle.shr_report.specs.CausesLawful.{AreCausesLawful}
 use Rattle.shr_report.specs.Freshness.{made_shown, shows_made}
-use Rattle.shr_report.specs.Journals.{AreJournalsLawful}
-use Rattle.shr_report.specs.Puts.{IsFreePut}
-use Rattle.shr_report.specs.ReplyTable.{group_met, IsReply, HasCause}
+use Rattle.shr_report.specs.ReplyTable.{group_met}
 use Rattle.shr_report.proofs.SecondReport as second
 use Rattle.shr_report.proofs.NotLawful.{with_answers}
 use Rattle.shr_report.proofs.MadeReport.{script, report, place, put}

@@ -1,41 +1,19 @@
 -- Changes of further reports, each of which breaks a sentence.
-use Rattle.std.specs.Prelude.{◌≡◌, ◌<◌, ◌≤◌, ℕ, [], ◌∷◌, Option, Some, None, refl}
-use Rattle.std.proofs.Common.{arith, ap}
+use Rattle.shr_report.proofs.Common.{◌≡◌, ◌<◌, ◌≤◌, ℕ, [], ◌∷◌, Option, Some, None, refl, arith, ap, UseStep, Clock, PassRecord, FollowsArithmetic, scans_by, serial_of, journals_of, zero, suc, IsSomeAnd, Closed, Drained, Registered, Unregistered, Begin, Done, Report, reply_at, IsMadeBy, AreJournalsLawful, AreRepliesLawful, AreScansOf, IsStopped, IsLawfulWalk, AreWalksLawful, IsDeferredLawful, IsReply, HasCause, AreCausesLawful}
 use Rattle.std.specs.Prelude.{nat_abs}
 use Rattle.std.specs.Option.{option_map_or}
-use Rattle.shr_base.specs.declared.journals.UseStep.{UseStep}
 use Rattle.shr_base.specs.declared.replies.HalfWhy.TheVariants as why
 use Rattle.shr_base.specs.declared.replies.Reply.TheVariants as reply
 use Rattle.shr_base.specs.declared.replies.Spent.TheVariants as spent
 use Rattle.shr_base.specs.declared.scripts.Command.TheVariants as command
-use Rattle.shr_base.specs.declared.objects.Policy.TheVariants.{Clock}
 use Rattle.shr_base.specs.declared.walks.Ending.TheVariants as ending
 use Rattle.shr_base.specs.declared.walks.Outcome.TheVariants as outcome
-use Rattle.shr_base.specs.declared.walks.PassRecord.{PassRecord}
 use Rattle.shr_base.specs.declared.walks.WalkAnswer.TheVariants as walk
 use Rattle.shr_model.specs.Items.{items_from}
 use Rattle.shr_model.specs.Families.{lists_moved, items_within}
-use Rattle.shr_model.specs.Pass.{FollowsArithmetic}
 use Rattle.shr_model.specs.Pool.{phase_of, decl_from, is_live_below, lowest_free}
-use Rattle.shr_model.specs.Scans.{scans_by}
-use Rattle.shr_report.specs.Parts.{serial_of, journals_of}
-use Rattle.std.specs.Prelude.{zero, suc}
-use Rattle.std.specs.Option.{IsSomeAnd}
-use Rattle.shr_base.specs.declared.journals.Entry.TheVariants.{Closed, Drained}
-use Rattle.shr_base.specs.declared.journals.PoolEntry.TheVariants.{Registered, Unregistered}
-use Rattle.shr_base.specs.declared.journals.TreeEntry.TheVariants.{Begin, Done}
-use Rattle.shr_report.specs.declared.report.Report.{Report}
-use Rattle.shr_report.specs.Parts.{reply_at}
-use Rattle.shr_report.specs.Causes.{IsMadeBy}
-use Rattle.shr_report.specs.Journals.{AreJournalsLawful}
 use Rattle.shr_report.proofs.NotLawful.{with_list}
-use Rattle.shr_report.specs.Replies.{AreRepliesLawful}
-use Rattle.shr_report.specs.LawfulWalk.{AreScansOf, IsStopped, IsLawfulWalk}
-use Rattle.shr_report.specs.WalksLawful.{AreWalksLawful}
-use Rattle.shr_report.specs.Deferred.{IsDeferredLawful}
 use Rattle.shr_report.specs.Causes.{IsOver, IsSpent}
-use Rattle.shr_report.specs.ReplyTable.{IsReply, HasCause}
-use Rattle.shr_report.specs.CausesLawful.{AreCausesLawful}
 use Rattle.shr_report.proofs.SecondReport as second
 use Rattle.shr_report.proofs.NotLawful.{with_answers, with_walks}
 use Rattle.shr_report.proofs.ScansReport as scans

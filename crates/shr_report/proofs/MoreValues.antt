@@ -1,42 +1,25 @@
 -- Sentences on walks, rounds, offlining and unregistering at the values of further reports.
-use Rattle.std.specs.Prelude.{◌≡◌, ℕ, zero, suc, ◌+◌, false, cond, List, [], ◌∷◌, map, replicate, Some, None, slice_get, refl}
-use Rattle.std.proofs.Common.{arith, ap, subst}
+use Rattle.shr_report.proofs.Common.{◌≡◌, ℕ, zero, suc, ◌+◌, false, cond, [], ◌∷◌, map, replicate, Some, slice_get, refl, arith, ap, subst, IsAtOrAbove, Idle, Entry, Drained, Attempt, PassRecord, pass_of, scans_by, ◌==◌, fold, count_by, ops_by, is_refused, limit_of, uses_at, job_of, serial_of, parents_of, items_left, walks_by, IsLawfulWalk, AreScansOf, IsStopped, freed_below, listed_below, IsMadeBy, moved_from, drained_of, HasCause, IsFoundRight}
 use Rattle.shr_model.specs.Scan.{scan_from}
 use Rattle.shr_model.specs.Items.{items_from, freed_from}
 use Rattle.shr_model.specs.Families.{lists_moved, items_within}
-use Rattle.shr_model.specs.Groups.{path_within, preorder_within, IsAtOrAbove}
+use Rattle.shr_model.specs.Groups.{path_within, preorder_within}
 use Rattle.shr_model.specs.Pass.{due, ask_size}
 use Rattle.shr_model.specs.Pool.{decl_at, registrations, end_of, phase_of, decl_from, from_from, is_live_below}
 use Rattle.shr_model.specs.Commands.{rounds_from}
 use Rattle.shr_base.specs.declared.replies.Reply.TheVariants as reply
 use Rattle.shr_base.specs.declared.walks.Ending.TheVariants as ending
 use Rattle.shr_base.specs.declared.scripts.Command.TheVariants as command
-use Rattle.shr_base.specs.declared.journals.PoolEntry.TheVariants.{Idle}
-use Rattle.shr_base.specs.declared.journals.Entry.{Entry}
-use Rattle.shr_base.specs.declared.journals.Entry.TheVariants.{Drained}
-use Rattle.shr_base.specs.declared.walks.Attempt.{Attempt}
-use Rattle.shr_base.specs.declared.walks.PassRecord.{PassRecord}
-use Rattle.shr_model.specs.Attempts.{pass_of}
-use Rattle.shr_model.specs.Scans.{scans_by}
-use Rattle.std.specs.Prelude.{◌==◌, fold, count_by}
-use Rattle.shr_base.specs.declared.journals.UseStep.{UseStep}
-use Rattle.shr_model.specs.Charges.{ops_by, is_refused}
-use Rattle.shr_report.specs.Parts.{limit_of, uses_at}
 use Rattle.shr_report.specs.WalksLawful.{over_at}
-use Rattle.shr_model.specs.Walks.{job_of}
-use Rattle.shr_report.specs.Parts.{serial_of, parents_of, items_left, walks_by}
-use Rattle.shr_report.specs.LawfulWalk.{IsLawfulWalk, IsLastOfCut, AreScansOf, IsStopped}
+use Rattle.shr_report.specs.LawfulWalk.{IsLastOfCut}
 use Rattle.shr_report.specs.WalksLawful.{AreWalksOf, balance_reply}
-use Rattle.shr_report.specs.Charges.{freed_below, listed_below}
-use Rattle.shr_report.specs.Causes.{IsMadeBy, moved_from, drained_of}
-use Rattle.shr_report.specs.ReplyTable.{HasCause}
-use Rattle.shr_report.specs.Lookups.{IsFoundRight}
 use Rattle.shr_report.proofs.SecondCases.{each_at, only_journal, held_same, all_replicate}
 use Rattle.shr_report.proofs.ScansReport as scans
 use Rattle.shr_report.proofs.OfflineReport as moves
 use Rattle.shr_report.proofs.OverReport as over
 use Rattle.shr_report.proofs.UnregisterReport as leaves
 use Rattle.shr_report.proofs.GoneReport as gone
+use Rattle.shr_report.proofs.FirstLawful.{none_refused}
 
 -- the walk that skips
 skips : IsLawfulWalk scans.script scans.report 0 0 scans.walk_0
@@ -161,10 +144,6 @@ scanning = record {
 count_other : (a n x y : ℕ) → (x == y) ≡ false → fold (λ a (g : ℕ). a + cond (g == y) 1 0) a (replicate n x) ≡ a
 count_other a zero x y e = refl
 count_other a (suc n) x y e = let none : cond (x == y) 1 0 ≡ 0 = ap (λ b. cond {A = ℕ} b 1 0) e in let later : fold (λ a (g : ℕ). a + cond (g == y) 1 0) (a + cond (x == y) 1 0) (replicate n x) ≡ a + cond (x == y) 1 0 = count_other (a + cond (x == y) 1 0) n x y e in omega (arith, none, later)
-
-none_refused : (a : ℕ) (ops : List UseStep) → fold (λ a (o : UseStep). a + cond (is_refused None o) 1 0) a ops ≡ a
-none_refused a [] = refl
-none_refused a (o ∷ ops) = let later : fold (λ a (o : UseStep). a + cond (is_refused None o) 1 0) (a + 0) ops ≡ a + 0 = none_refused (a + 0) ops in omega (arith, later)
 
 refusals : (h : ℕ) → count_by (λ g. g == h) (replicate 13 1) + over_at h (reply.Over 1 28 2) ≡ count_by (is_refused (limit_of over.script h)) (ops_by (serial_of 0 4) (uses_at over.report h))
 refusals zero = refl

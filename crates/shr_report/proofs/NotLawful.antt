@@ -1,35 +1,11 @@
 -- Changes of the second whole report, each of which breaks a sentence.
-use Rattle.std.specs.Prelude.{◌≡◌, ℕ, zero, suc, true, false, List, [], ◌∷◌, codes, Some, None, refl}
-use Rattle.std.proofs.Common.{arith}
-use Rattle.shr_base.specs.declared.objects.Object.{Object}
-use Rattle.shr_base.specs.declared.objects.Policy.TheVariants.{Plain}
-use Rattle.shr_base.specs.declared.journals.Entry.{Entry}
-use Rattle.shr_base.specs.declared.journals.Entry.TheVariants.{Add, Scan}
-use Rattle.shr_base.specs.declared.journals.PoolEntry.TheVariants.{Registered}
-use Rattle.shr_base.specs.declared.journals.TreeEntry.TheVariants.{Begin}
-use Rattle.shr_base.specs.declared.replies.Reply.{Reply}
+use Rattle.shr_report.proofs.Common.{◌≡◌, ℕ, zero, suc, true, false, List, [], ◌∷◌, codes, Some, None, refl, arith, Object, Plain, Entry, Add, Scan, Registered, Begin, Reply, Answered, Walked, WalkRecord, fresh, Report, Offline, command_at, serial_of, AreRepliesLawful, AreJournalsLawful, AreWalksLawful, AreLookupsLawful, AreChargesLawful, IsDeferredLawful, AreBitsLawful, AreCausesLawful, IsBagLawful}
 use Rattle.shr_base.specs.declared.replies.Reply.TheVariants as reply
-use Rattle.shr_base.specs.declared.replies.Answered.{Answered}
 use Rattle.shr_base.specs.declared.walks.Outcome.TheVariants as outcome
-use Rattle.shr_base.specs.declared.walks.WalkAnswer.TheVariants.{Walked}
-use Rattle.shr_base.specs.declared.walks.WalkRecord.{WalkRecord}
-use Rattle.shr_model.specs.Objects.{fresh}
 use Rattle.shr_model.specs.Items.{items_from, freed_from}
 use Rattle.shr_model.specs.Families.{lists_moved, items_within}
 use Rattle.shr_model.specs.Groups.{path_within}
 use Rattle.shr_model.specs.Pool.{phase_of}
-use Rattle.shr_report.specs.declared.report.Report.{Report}
-use Rattle.shr_base.specs.declared.scripts.Command.TheVariants.{Offline}
-use Rattle.shr_report.specs.Parts.{command_at, serial_of}
-use Rattle.shr_report.specs.Replies.{AreRepliesLawful}
-use Rattle.shr_report.specs.Journals.{AreJournalsLawful}
-use Rattle.shr_report.specs.WalksLawful.{AreWalksLawful}
-use Rattle.shr_report.specs.Lookups.{AreLookupsLawful}
-use Rattle.shr_report.specs.Charges.{AreChargesLawful}
-use Rattle.shr_report.specs.Deferred.{IsDeferredLawful}
-use Rattle.shr_report.specs.BitsLawful.{AreBitsLawful}
-use Rattle.shr_report.specs.CausesLawful.{AreCausesLawful}
-use Rattle.shr_report.specs.Lawful.{IsBagLawful}
 use Rattle.shr_report.proofs.SecondReport.{kept, script, report, part, by, place, put, del, shrink, held, unheld, walk, cleared, first_walk, second_walk, entries, use_step}
 
 -- the report with other parts

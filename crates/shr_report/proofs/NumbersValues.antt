@@ -1,36 +1,19 @@
 -- The first whole report has its numbers; for each kind of data a value that has them, and one that doesn't.
-use Rattle.std.specs.Prelude.{ℕ, pos, negsuc, ◌-◌, ◌<◌, ◌^◌, true, false, List, [], ◌∷◌, length, codes, Some}
-use Rattle.std.proofs.Common.{arith, refl}
-use Rattle.std.proofs.lemmas.Option.{none-some}
+use Rattle.shr_report.proofs.Common.{ℕ, pos, negsuc, ◌-◌, ◌<◌, ◌^◌, true, false, List, [], ◌∷◌, length, codes, Some, arith, refl, none-some, Serial, Place, At, Clock, WorkerPart, Attempt, Carry, Ending, PassRecord, Isolation, PlainAnswer, PlainTry, PlainWalk, WalkRecord, fresh, IsAnsweredNumbered, IsAttemptNumbered, IsSeenNumbered, IsWalkNumbered, IsCarryNumbered, IsPartNumbered, IsEntryNumbered, IsObjectNumbered, IsListNumbered, IsMapNumbered, IsAmountNumbered, IsUseNumbered, HasNumbers, ArePartsWell, IsTryNumbered, IsPlainNumbered, IsIsolationNumbered, IsPlainEntryNumbered, AreUnitsNumbered}
 use Rattle.std.proofs.lemmas.Int.{ints}
-use Rattle.shr_base.specs.declared.places.Serial.{Serial}
-use Rattle.shr_base.specs.declared.places.Place.{Place}
-use Rattle.shr_base.specs.declared.places.At.{At}
-use Rattle.shr_base.specs.declared.objects.Policy.TheVariants.{Clock}
 use Rattle.shr_base.specs.declared.journals.Entry.TheVariants as entry
 use Rattle.shr_base.specs.declared.journals.PlainEntry.TheVariants as units
-use Rattle.shr_base.specs.declared.ends.WorkerPart.{WorkerPart}
 use Rattle.shr_base.specs.declared.replies.Spent.TheVariants as spent
 use Rattle.shr_base.specs.declared.replies.HalfWhy.TheVariants as why
 use Rattle.shr_base.specs.declared.replies.IsolateEnd.TheVariants as isolate
 use Rattle.shr_base.specs.declared.replies.Reply.TheVariants as reply
-use Rattle.shr_base.specs.declared.walks.Attempt.{Attempt}
-use Rattle.shr_base.specs.declared.walks.Carry.{Carry}
-use Rattle.shr_base.specs.declared.walks.Ending.{Ending}
 use Rattle.shr_base.specs.declared.walks.Ending.TheVariants as ending
 use Rattle.shr_base.specs.declared.walks.Outcome.TheVariants as outcome
-use Rattle.shr_base.specs.declared.walks.PassRecord.{PassRecord}
-use Rattle.shr_base.specs.declared.walks.Isolation.{Isolation}
-use Rattle.shr_base.specs.declared.walks.PlainAnswer.{PlainAnswer}
 use Rattle.shr_base.specs.declared.walks.PlainAnswer.TheVariants as plain
-use Rattle.shr_base.specs.declared.walks.PlainTry.{PlainTry}
 use Rattle.shr_base.specs.declared.walks.PlainTry.TheVariants as tried
-use Rattle.shr_base.specs.declared.walks.PlainWalk.{PlainWalk}
 use Rattle.shr_base.specs.declared.walks.WalkAnswer.TheVariants as answer
-use Rattle.shr_base.specs.declared.walks.WalkRecord.{WalkRecord}
-use Rattle.shr_model.specs.Objects.{fresh}
 use Rattle.shr_report.specs.WellFormed.{IsNumbered}
-use Rattle.shr_report.specs.Numbers.{IsSerialNumbered, IsAtNumbered, IsSpentNumbered, IsWhyNumbered, IsReplyNumbered, IsFindNumbered, IsAnsweredNumbered, IsEndingNumbered, IsPassNumbered, IsOutcomeNumbered, IsAttemptNumbered, IsSeenNumbered, IsWalkedNumbered, IsWalkNumbered, IsCarryNumbered, IsPartNumbered, IsEntryNumbered, IsObjectNumbered, IsListNumbered, IsMapNumbered, IsAmountNumbered, IsUseNumbered, HasNumbers, ArePartsWell, IsTryNumbered, IsPlainAnswerNumbered, IsPlainNumbered, IsIsolationNumbered, IsPlainEntryNumbered, AreUnitsNumbered}
+use Rattle.shr_report.specs.Numbers.{IsSerialNumbered, IsAtNumbered, IsSpentNumbered, IsWhyNumbered, IsReplyNumbered, IsFindNumbered, IsEndingNumbered, IsPassNumbered, IsOutcomeNumbered, IsWalkedNumbered, IsPlainAnswerNumbered}
 use Rattle.shr_report.proofs.SecondReport as second
 use Rattle.shr_report.proofs.FirstReport as first
 

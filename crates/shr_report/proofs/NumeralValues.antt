@@ -1,8 +1,6 @@
 -- Numbers as they are printed.
-use Rattle.std.proofs.Common.{◌≡◌, refl}
-use Rattle.std.specs.Prelude.{codes, negsuc}
-use Rattle.shr_report.specs.Lines.{numeral, signed_numeral, hex, hex_digits}
-use Rattle.shr_report.specs.Text.{bit_line}
+use Rattle.shr_report.proofs.Common.{◌≡◌, refl, codes, negsuc, signed_numeral, hex, bit_line}
+use Rattle.shr_report.specs.Lines.{numeral, hex_digits}
 
 nothing : numeral 0 ≡ codes "0"
 unfolding numeral

@@ -1,6 +1,5 @@
 -- The numbers of the code's types are spelled by std as the report has them.
-use Rattle.std.proofs.Common.{◌≡◌, ℕ, zero, suc, ◌^◌, ◌<◌, refl, arith}
-use Rattle.std.specs.Prelude.{decimal}
+use Rattle.shr_report.proofs.Common.{◌≡◌, ℕ, zero, suc, ◌^◌, ◌<◌, refl, arith, decimal}
 use Rattle.std.specs.Fmt.{digits}
 use Rattle.std.proofs.lemmas.Fmt.{decimal-digits_of}
 use Rattle.shr_report.specs.Lines.{numeral}

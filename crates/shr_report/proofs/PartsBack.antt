@@ -1,30 +1,11 @@
 -- What stands of a command behind its answer is parted in one way: isolations, walks, carries and walks of the pools.
-use Rattle.std.proofs.Common.{◌≡◌, ℕ, suc, ◌+◌, ◌<◌, ◌≤◌, Bool, true, false, List, [], ◌∷◌, ◌++◌, take, drop, flat_map, Option, Some, None, refl, sym, ap, subst, ◌∙◌, append_assoc, arith}
-use Rattle.std.specs.Prelude.{◌==◌, take_while, codes}
-use Rattle.std.specs.List.{AllByRecursion, AllZip, prefix_len}
-use Rattle.std.proofs.lemmas.List.{take-append-drop}
-use Rattle.std.proofs.lemmas.Bool.Decides.{nat_tests}
-use Rattle.shr_base.specs.declared.places.Serial.{Serial}
-use Rattle.shr_base.specs.declared.replies.Found.{Found}
-use Rattle.shr_base.specs.declared.replies.Reply.{Reply}
-use Rattle.shr_base.specs.declared.replies.Answered.{Answered}
-use Rattle.shr_base.specs.declared.walks.WalkRecord.{WalkRecord}
-use Rattle.shr_base.specs.declared.walks.Carry.{Carry}
-use Rattle.shr_base.specs.declared.walks.PlainWalk.{PlainWalk}
-use Rattle.shr_base.specs.declared.walks.Isolation.{Isolation}
-use Rattle.shr_base.specs.declared.ends.PlaceAmount.{PlaceAmount}
-use Rattle.shr_report.specs.Lines.{line, numbered, numeral}
-use Rattle.shr_report.specs.AnswerText.{reply_line, found_lines}
-use Rattle.shr_report.specs.WalkText.{walk_lines, carry_line, plain_lines, isolation_line}
-use Rattle.shr_report.specs.Text.{is_walk_of, is_carry_of, is_plain_of, is_isolation_of, Logs, log_lines, after_command}
-use Rattle.shr_report.specs.WellFormed.{LendsWord}
-use Rattle.shr_report.specs.Same.{IsSameWalk, IsSamePlain}
+use Rattle.shr_report.proofs.Common.{◌≡◌, ℕ, ◌+◌, ◌<◌, ◌≤◌, Bool, true, false, List, [], ◌∷◌, ◌++◌, take, drop, flat_map, Option, Some, None, refl, sym, ap, subst, ◌∙◌, append_assoc, arith, ◌==◌, take_while, codes, AllByRecursion, AllZip, prefix_len, take-append-drop, nat_tests, Serial, Found, Reply, Answered, WalkRecord, Carry, PlainWalk, Isolation, PlaceAmount, line, numbered, numeral, reply_line, found_lines, walk_lines, carry_line, plain_lines, isolation_line, is_walk_of, is_carry_of, is_plain_of, is_isolation_of, Logs, log_lines, after_command, LendsWord, IsSameWalk, IsSamePlain, read_found, read_amount, same_byte}
 use Rattle.shr_report.proofs.Printed.{one_line}
 use Rattle.shr_report.proofs.LinesBack.{printed_found, amount_of, printed_carry}
 use Rattle.shr_report.proofs.Sections.{kind, kind_found, kind_isolation, kind_carry, section, after_items, flat_numbered, after_flat, zip_same, all_taken}
 use Rattle.shr_report.proofs.PlainBack.{IsPlainBy, kind_plains, plains_once, IsIsolationBy, isolations_once}
 use Rattle.shr_report.proofs.WalksBack.{IsPastWalk, HasBitWords, IsWalkBy, walk_once, kind_walks}
-use Rattle.shr_report.specs.ReadLines.{read_found, read_amount}
+use Rattle.shr_model.proofs.PiecesLaws.{one-add}
 
 -- ---- what the commands of a worker's walks and carries are
 
@@ -36,12 +17,6 @@ Sorted c k (x ∷ xs) = (k ≤ c x) × Sorted c (c x) xs
 abbrev is_of : {X : Type 0} → (X → ℕ) → ℕ → X → Bool
 is_of c k x = c x == k
 
-one-add : (n : ℕ) → 1 + n ≡ suc n
-one-add n = omega arith
-
-same_number : (a b : ℕ) → (a == b) ≡ true → a ≡ b
-same_number a b e = grind (arith, nat_tests)
-
 other_number : (a b : ℕ) → (a == b) ≡ false → a ≡ b → ⊥
 other_number a b e = grind (arith, nat_tests)
 
@@ -50,7 +25,7 @@ sorted_at : {X : Type 0} (c : X → ℕ) (k : ℕ) (x : X) (xs : List X) (t : Bo
     → Sorted c (k + 1) (drop (prefix_len (is_of c k) (x ∷ xs)) (x ∷ xs))
 unfolding Sorted
 sorted_at c k x xs true e h more =
-    let same : k ≡ c x = sym (same_number (c x) k e) in
+    let same : k ≡ c x = sym (same_byte (c x) k e) in
     rw (e, one-add (prefix_len (is_of c k) xs)) (more same (subst (λ (n : ℕ). Sorted c n xs) (sym same) h.1))
 sorted_at c k x xs false e h more = let differ = other_number (c x) k e in let low : k ≤ c x = h.0 in rw e (above (c x) k low differ, h.1)
   where
@@ -64,7 +39,7 @@ sorted_left c k [] h = tt
 sorted_left c k (x ∷ xs) h = sorted_at c k x xs (c x == k) refl h (λ same s. sorted_left c k xs s)
 
 taken_at : {X : Type 0} (c : X → ℕ) (k : ℕ) (x : X) (xs : List X) (t : Bool) → (c x == k) ≡ t → AllByRecursion (λ y. c y ≡ k) (take_while (is_of c k) xs) → AllByRecursion (λ y. c y ≡ k) (take_while (is_of c k) (x ∷ xs))
-taken_at c k x xs true e h = rw (e, one-add (prefix_len (is_of c k) xs)) (same_number (c x) k e, h)
+taken_at c k x xs true e h = rw (e, one-add (prefix_len (is_of c k) xs)) (same_byte (c x) k e, h)
 taken_at c k x xs false e h = rw e tt
 
 -- the first command's are of that command

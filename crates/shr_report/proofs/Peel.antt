@@ -1,10 +1,8 @@
 -- A line is read back: words without separators, the first of a text that goes on.
-use Rattle.std.proofs.Common.{◌≡◌, ℕ, Bool, true, ◌&&◌, List, [], ◌∷◌, ◌++◌, refl, sym, ap, ◌∙◌, append_assoc}
-use Rattle.std.proofs.lemmas.List.{append-nil}
-use Rattle.std.specs.List.{list_all}
-use Rattle.shr_model.specs.Pieces.{Parts, cut, pieces, joined, differs, is_part_of}
-use Rattle.shr_model.proofs.PiecesLaws.{and_true, joined_cut, cut_first, pieces_joined}
-use Rattle.shr_report.specs.Lines.{spaced, line}
+use Rattle.shr_report.proofs.Common.{◌≡◌, ℕ, Bool, true, ◌&&◌, List, [], ◌∷◌, ◌++◌, refl, sym, ap, ◌∙◌, append_assoc, append-nil, list_all, cut, differs, and_true, joined_cut, spaced, line}
+use Rattle.shr_model.specs.Pieces.{Parts, pieces, joined, is_part_of}
+use Rattle.shr_model.proofs.PiecesLaws.{cut_first, pieces_joined}
+use Rattle.shr_model.proofs.Booleans.{both}
 
 -- a byte that parts neither words nor lines
 abbrev pub is_plain : ℕ → Bool
@@ -13,9 +11,6 @@ is_plain b = differs 10 b && differs 32 b
 -- a word of such bytes
 unfoldable pub is_plain_word : List ℕ → Bool
 is_plain_word w = list_all is_plain w
-
-both : (a b : Bool) → a ≡ true → b ≡ true → (a && b) ≡ true
-both a b e f = rw (e, f) refl
 
 lines_apart : (w : List ℕ) → list_all is_plain w ≡ true → is_part_of 10 w ≡ true
 lines_apart [] h = refl

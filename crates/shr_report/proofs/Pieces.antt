@@ -1,7 +1,5 @@
 -- The digits of numbers in a piece of a line.
-use Rattle.std.proofs.Common.{◌≡◌, ℕ, List, zero, suc, ◌^◌, ◌<◌, ◌≤◌, ◌+◌, ◌/◌, ◌%◌, [], ◌∷◌, ◌++◌, length, map, refl, ap, ◌∙◌, arith}
-use Rattle.std.specs.Prelude.{decimal}
-use Rattle.std.specs.Int.Digits.{digits_of}
+use Rattle.shr_report.proofs.Common.{◌≡◌, ℕ, List, zero, suc, ◌^◌, ◌<◌, ◌≤◌, ◌+◌, ◌/◌, ◌%◌, [], ◌∷◌, ◌++◌, length, map, refl, ap, ◌∙◌, arith, decimal, digits_of}
 use Rattle.std.proofs.lemmas.Int.Digits.{digits_of_step}
 use Rattle.std.proofs.lemmas.Fmt.{length-decimal-le}
 use Rattle.shr_report.specs.Lines.{numeral}

@@ -1,9 +1,7 @@
 -- The order of places by id, node and group.
-use Rattle.std.proofs.Common.{◌≡◌, ◌<◌, ◌⊎◌, inl, inr, sym, subst, arith}
+use Rattle.shr_report.proofs.Common.{◌≡◌, ◌<◌, ◌⊎◌, inl, inr, sym, subst, arith, Place, IsPlaceBefore, IsPlaceUpTo}
 use Rattle.std.proofs.lemmas.Bool.{cases_order}
-use Rattle.shr_base.specs.declared.places.Place.{Place}
 use Rattle.shr_model.specs.Places.{place_number}
-use Rattle.shr_report.specs.WellFormed.{IsPlaceBefore, IsPlaceUpTo}
 
 -- of two places one stands before the other at most
 before_one : (p q : Place) → IsPlaceBefore p q → IsPlaceBefore q p → ⊥

@@ -1,15 +1,8 @@
 -- Lists, and the journals of pools, are parted in one way.
-use Rattle.std.proofs.Common.{◌≡◌, ℕ, ◌<◌, List, ◌++◌, flat_map, sym, ap, ◌∙◌, append_assoc, arith}
-use Rattle.std.specs.Prelude.{codes}
-use Rattle.std.specs.List.{AllByRecursion, AllZip}
-use Rattle.shr_base.specs.declared.ends.PlaceEnd.{PlaceEnd}
-use Rattle.shr_base.specs.declared.ends.UnitsEnd.{UnitsEnd}
-use Rattle.shr_report.specs.Lines.{line}
-use Rattle.shr_report.specs.AnswerText.{place_words}
-use Rattle.shr_report.specs.Text.{entry_line, item_line, place_lines, plain_entry_line, units_lines}
-use Rattle.shr_report.specs.WellFormed.{HasWords, IsSpelled, IsPlaceWell}
-use Rattle.shr_report.specs.Same.{IsSameEnd, IsSameUnits}
-use Rattle.shr_report.specs.ReadLines.{read_list, read_entry, read_item, read_plain_entry, UnitsHead, read_units}
+use Rattle.shr_report.proofs.Common.{◌≡◌, ℕ, ◌<◌, List, ◌++◌, flat_map, sym, ap, ◌∙◌, append_assoc, arith, codes, AllByRecursion, AllZip, PlaceEnd, UnitsEnd, line, place_words, entry_line, item_line, place_lines, plain_entry_line, units_lines, HasWords, IsSpelled, IsSameUnits, read_list, read_item, UnitsHead, read_units}
+use Rattle.shr_report.specs.WellFormed.{IsPlaceWell}
+use Rattle.shr_report.specs.Same.{IsSameEnd}
+use Rattle.shr_report.specs.ReadLines.{read_entry, read_plain_entry}
 use Rattle.shr_report.proofs.Printed.{one_line}
 use Rattle.shr_report.proofs.LinesBack.{printed_list, printed_entry, printed_item}
 use Rattle.shr_report.proofs.PlainLinesBack.{units_head_of, units_line, printed_units, printed_plain_entry}

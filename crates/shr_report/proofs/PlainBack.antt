@@ -1,13 +1,5 @@
 -- Walks of the pools, and isolations, are parted in one way.
-use Rattle.std.proofs.Common.{◌≡◌, ℕ, List, ◌++◌, flat_map, sym, ap, ◌∙◌, append_assoc, arith}
-use Rattle.std.specs.List.{AllByRecursion, AllZip}
-use Rattle.shr_base.specs.declared.places.Serial.{Serial}
-use Rattle.shr_base.specs.declared.walks.Isolation.{Isolation}
-use Rattle.shr_base.specs.declared.walks.PlainWalk.{PlainWalk}
-use Rattle.shr_report.specs.Lines.{numbered}
-use Rattle.shr_report.specs.WalkText.{pass_line, plain_lines, isolation_line}
-use Rattle.shr_report.specs.Same.{IsSamePlain}
-use Rattle.shr_report.specs.ReadLines.{PlainHead, read_plain, read_pass_line, IsolationHead, read_isolation}
+use Rattle.shr_report.proofs.Common.{◌≡◌, ℕ, List, ◌++◌, flat_map, sym, ap, ◌∙◌, append_assoc, arith, AllByRecursion, AllZip, Serial, Isolation, PlainWalk, numbered, pass_line, plain_lines, isolation_line, IsSamePlain, PlainHead, read_plain, read_pass_line, IsolationHead, read_isolation}
 use Rattle.shr_report.proofs.Printed.{one_line}
 use Rattle.shr_report.proofs.PlainLinesBack.{plain_head_of, plain_line, printed_plain, printed_pass, isolation_head_of, printed_isolation}
 use Rattle.shr_report.proofs.Sections.{kind, kind_plain, kind_pass, kind_isolation, section, flat_numbered, lines_each, zip_same}

@@ -1,23 +1,11 @@
 -- The lines of pools of units and of isolations read back.
-use Rattle.std.proofs.Common.{◌≡◌, ℕ, ◌+◌, true, false, List, [], ◌∷◌, refl, sym, ap}
-use Rattle.std.specs.Prelude.{codes}
-use Rattle.std.specs.List.{list_all}
-use Rattle.shr_model.specs.Words.{is_name}
-use Rattle.shr_base.specs.declared.journals.PlainEntry.{PlainEntry}
+use Rattle.shr_report.proofs.Common.{◌≡◌, ℕ, ◌+◌, true, false, List, [], ◌∷◌, refl, sym, ap, codes, list_all, is_name, PlainEntry, PoolEntry, Isolation, PlainTry, PlainAnswer, PlaceAmount, line, numeral, isolate_end_words, pass_line, isolation_line, units_name_line, pool_line, plain_entry_line, pool_deferred_line, read_pass_line, PlainHead, read_plain, IsolationHead, read_isolation, read_units_name, UnitsHead, read_units, read_pool_amount}
 use Rattle.shr_base.specs.declared.journals.PlainEntry.TheVariants as units
-use Rattle.shr_base.specs.declared.journals.PoolEntry.{PoolEntry}
 use Rattle.shr_base.specs.declared.journals.PoolEntry.TheVariants as pool
-use Rattle.shr_base.specs.declared.walks.Isolation.{Isolation}
-use Rattle.shr_base.specs.declared.walks.PlainTry.{PlainTry}
 use Rattle.shr_base.specs.declared.walks.PlainTry.TheVariants as tried
-use Rattle.shr_base.specs.declared.walks.PlainAnswer.{PlainAnswer}
 use Rattle.shr_base.specs.declared.walks.PlainAnswer.TheVariants as plain
-use Rattle.shr_base.specs.declared.ends.PlaceAmount.{PlaceAmount}
-use Rattle.shr_report.specs.Lines.{line, numeral}
-use Rattle.shr_report.specs.AnswerText.{isolate_end_words}
-use Rattle.shr_report.specs.WalkText.{plain_walked_words, plain_try_words, pass_line, isolation_line}
-use Rattle.shr_report.specs.Text.{units_name_line, pool_line, plain_entry_line, pool_deferred_line}
-use Rattle.shr_report.specs.ReadLines.{read_try, read_pass_line, read_plain_answer, PlainHead, read_plain, IsolationHead, read_isolation, read_units_name, read_plain_entry, UnitsHead, read_units, read_pool_amount}
+use Rattle.shr_report.specs.WalkText.{plain_walked_words, plain_try_words}
+use Rattle.shr_report.specs.ReadLines.{read_try, read_plain_answer, read_plain_entry}
 use Rattle.shr_report.proofs.Peel.{is_plain_word}
 use Rattle.shr_report.proofs.Reading.{value, plain_numeral, plain_name}
 use Rattle.shr_report.proofs.Printed.{Printed, printed, again_pass, plain_pass, again_isolate_end, plain_isolate_end}

@@ -1,37 +1,24 @@
 -- The answers of commands on pools, and what a pool's worn journal asks: the report of two pools has what the
 -- law on replies asks, and changes of it break a sentence of that law or of the law on causes.
-use Rattle.std.specs.Prelude.{◌≡◌, ℕ, zero, suc, ◌^◌, false, replicate, List, [], ◌∷◌, length, codes, Some, slice_get, refl}
-use Rattle.std.proofs.Common.{arith, ap}
-use Rattle.shr_base.specs.declared.journals.PlainEntry.{PlainEntry}
+use Rattle.shr_report.proofs.Common.{◌≡◌, ℕ, zero, suc, ◌^◌, false, replicate, List, [], ◌∷◌, length, codes, Some, slice_get, refl, arith, ap, PlainEntry, Place, Serial, Answered, Command, Balance, Release, PlainTry, Empty, Ran, Report, parents_of, journals_of, commands_of, answers_of, serial_of, cited_at, at, EachAnswer, AreCausesLawful, AreRepliesLawful, IsReply}
 use Rattle.shr_base.specs.declared.journals.PlainEntry.TheVariants as units
-use Rattle.shr_base.specs.declared.places.Place.{Place}
-use Rattle.shr_base.specs.declared.places.Serial.{Serial}
-use Rattle.shr_base.specs.declared.replies.Answered.{Answered}
 use Rattle.shr_base.specs.declared.replies.Reply.TheVariants as reply
 use Rattle.shr_base.specs.declared.replies.Spent.TheVariants as spent
-use Rattle.shr_base.specs.declared.scripts.Command.{Command}
-use Rattle.shr_base.specs.declared.scripts.Command.TheVariants.{Balance, Release}
 use Rattle.shr_base.specs.declared.walks.Ending.TheVariants as ending
-use Rattle.shr_base.specs.declared.walks.PlainTry.{PlainTry}
-use Rattle.shr_base.specs.declared.walks.PlainTry.TheVariants.{Empty, Ran}
-use Rattle.shr_report.specs.declared.report.Report.{Report}
-use Rattle.shr_report.specs.Parts.{parents_of, journals_of, commands_of, answers_of, serial_of, cited_at, id_found, at, EachAnswer}
+use Rattle.shr_report.specs.Parts.{id_found}
 use Rattle.shr_report.specs.Causes.{IsPoolSpent}
-use Rattle.shr_report.specs.CausesLawful.{AreCausesLawful}
-use Rattle.shr_report.specs.Replies.{AreRepliesLawful}
-use Rattle.shr_report.specs.ReplyTable.{IsReply}
 use Rattle.shr_report.specs.UnitParts.{free_at}
 use Rattle.shr_report.proofs.SecondReport.{kept, by, held, unheld}
 use Rattle.shr_report.proofs.SecondCases.{AllTwo, each_two}
 use Rattle.shr_report.proofs.PoolsReport.{buf, commands, script, place, answers, pass, walk, end, part, report}
 use Rattle.shr_report.proofs.QuietSweep.{quiet_counts, quiet_last}
 
-each_by : (P : Serial → Command → Answered → Type 0) → AllTwo (λ k. P (by k)) commands answers → (worker k : ℕ) (c : Command) (a : Answered)
+pub each_by : (P : Serial → Command → Answered → Type 0) → AllTwo (λ k. P (by k)) commands answers → (worker k : ℕ) (c : Command) (a : Answered)
     → slice_get (commands_of script worker) k ≡ Some c → slice_get (answers_of report worker) k ≡ Some a → P (record { worker = worker; command = k }) c a
 each_by P h zero k c a e f = each_two (λ k. P (by k)) commands answers h k c a e f
 each_by P h (suc worker) k c a e f = absurd (cc)
 
-each_answer : (P : Serial → Command → Answered → Type 0) → AllTwo (λ k. P (by k)) commands answers → EachAnswer script report P
+pub each_answer : (P : Serial → Command → Answered → Type 0) → AllTwo (λ k. P (by k)) commands answers → EachAnswer script report P
 each_answer P h x c a e f = each_by P h x.worker x.command c a e f
 
 counted : (worker : ℕ) → length (answers_of report worker) ≡ length (commands_of script worker)

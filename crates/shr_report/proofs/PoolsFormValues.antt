@@ -1,21 +1,9 @@
 -- A report with a pool of units, a walk of the pools and an isolation is well formed, and changes of it
 -- in one place are not.
-use Rattle.std.specs.Prelude.{◌≡◌, ℕ, ◌<◌, ◌≤◌, true, false, List, [], ◌∷◌, ◌++◌, length, codes, slice_get, Some, refl}
-use Rattle.std.proofs.Common.{zero, suc, arith, inl, inr, ap, subst, length-append}
-use Rattle.std.proofs.lemmas.Option.{none-some, same_Some}
-use Rattle.shr_base.specs.declared.ends.PlaceAmount.{PlaceAmount}
-use Rattle.shr_base.specs.declared.ends.UnitsEnd.{UnitsEnd}
-use Rattle.shr_base.specs.declared.ends.WorkerPart.{WorkerPart}
-use Rattle.shr_base.specs.declared.journals.PlainEntry.{PlainEntry}
+use Rattle.shr_report.proofs.Common.{◌≡◌, ℕ, ◌<◌, ◌≤◌, true, false, List, [], ◌∷◌, ◌++◌, length, codes, slice_get, Some, refl, zero, suc, arith, inl, inr, ap, subst, length-append, none-some, same_Some, PlaceAmount, UnitsEnd, WorkerPart, PlainEntry, Place, Serial, Isolation, PlainWalk, Report, IsPartWell, IsWellFormed}
 use Rattle.shr_base.specs.declared.journals.PlainEntry.TheVariants.{Grab}
-use Rattle.shr_base.specs.declared.places.Place.{Place}
-use Rattle.shr_base.specs.declared.places.Serial.{Serial}
 use Rattle.shr_base.specs.declared.replies.IsolateEnd.TheVariants as isolate
-use Rattle.shr_base.specs.declared.walks.Isolation.{Isolation}
 use Rattle.shr_base.specs.declared.walks.PlainAnswer.TheVariants.{Walked}
-use Rattle.shr_base.specs.declared.walks.PlainWalk.{PlainWalk}
-use Rattle.shr_report.specs.declared.report.Report.{Report}
-use Rattle.shr_report.specs.WellFormed.{IsPartWell, IsWellFormed}
 use Rattle.shr_report.proofs.PlaceOrder.{not_before_itself, not_up_to}
 use Rattle.shr_report.proofs.SecondReport as second
 use Rattle.shr_report.proofs.FirstReport as first

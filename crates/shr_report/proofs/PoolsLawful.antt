@@ -1,40 +1,15 @@
 -- The report of two pools has what the law on pools asks of it.
-use Rattle.std.specs.Prelude.{◌≡◌, ◌⊎◌, ℕ, zero, suc, ◌+◌, ◌<◌, Bool, true, false, cond, filter_map, sum_by, option_and_then, option_map, option_to_list, List, [], ◌∷◌, ◌++◌, Option, Some, None, slice_get, refl}
-use Rattle.std.specs.List.{AllByRecursion}
-use Rattle.std.proofs.Common.{arith, sym, ap, subst, ◌∙◌, inl, inr}
-use Rattle.std.proofs.lemmas.Bool.{cases_Bool}
-use Rattle.shr_base.specs.declared.ends.UnitsEnd.{UnitsEnd}
-use Rattle.shr_base.specs.declared.journals.PlainEntry.{PlainEntry}
-use Rattle.shr_base.specs.declared.places.Place.{Place}
-use Rattle.shr_base.specs.declared.places.Serial.{Serial}
-use Rattle.shr_base.specs.declared.replies.Answered.{Answered}
+use Rattle.shr_report.proofs.Common.{◌≡◌, ◌⊎◌, ℕ, zero, suc, ◌+◌, ◌<◌, Bool, true, false, cond, filter_map, sum_by, option_and_then, List, [], ◌∷◌, ◌++◌, Option, Some, None, slice_get, refl, AllByRecursion, arith, sym, ap, subst, ◌∙◌, inl, inr, cases_Bool, UnitsEnd, PlainEntry, Place, PoolDecl, PassRecord, PlainTry, Ran, PlainWalk, is_place, deferred_word, is_place_same, reply_at, serial_of, at, units_in, units_of, units_cited_at, plain_of, pass_at, AreNotFalling, plain_versions, ArePoolsLawful}
+use Rattle.std.specs.Prelude.{option_map, option_to_list}
 use Rattle.shr_base.specs.declared.replies.Reply.TheVariants as reply
-use Rattle.shr_base.specs.declared.scripts.Command.{Command}
-use Rattle.shr_base.specs.declared.scripts.PoolDecl.{PoolDecl}
 use Rattle.shr_base.specs.declared.walks.Ending.TheVariants as ending
-use Rattle.shr_base.specs.declared.walks.PassRecord.{PassRecord}
-use Rattle.shr_base.specs.declared.walks.PlainTry.{PlainTry}
-use Rattle.shr_base.specs.declared.walks.PlainTry.TheVariants.{Ran}
-use Rattle.shr_base.specs.declared.walks.PlainWalk.{PlainWalk}
 use Rattle.shr_model.specs.Pass.{due, ask_size}
-use Rattle.shr_model.specs.Places.{is_place}
-use Rattle.shr_model.specs.Deferred.{deferred_word}
-use Rattle.shr_model.proofs.PlacesLaws.{is_place_same}
-use Rattle.shr_report.specs.Parts.{commands_of, answers_of, reply_at, serial_of, at, EachAnswer}
-use Rattle.shr_report.specs.UnitParts.{pool_place, units_in, units_of, EachUnits, units_cited_at, plain_of, EachPlain, EachTry, pass_in, try_at, pass_at}
-use Rattle.shr_report.specs.WellFormed.{AreNotFalling}
-use Rattle.shr_report.specs.Pools.{IsPlainCount, IsKind, IsLastTry, IsPlainLawful, IsPlainPass, version_in, plain_versions, reclaims_by, ArePoolsLawful}
+use Rattle.shr_report.specs.UnitParts.{pool_place, EachUnits, EachPlain, EachTry, pass_in, try_at}
+use Rattle.shr_report.specs.Pools.{IsPlainCount, IsKind, IsLastTry, IsPlainLawful, IsPlainPass, version_in, reclaims_by}
 use Rattle.shr_report.proofs.SecondReport.{by}
 use Rattle.shr_report.proofs.SecondCases.{AllAt, each_at, AllTwo, each_two}
-use Rattle.shr_report.proofs.PoolsReport.{buf, few, commands, script, place, answers, pass, tries, walk, entries, end, report}
-
-each_by : (P : Serial → Command → Answered → Type 0) → AllTwo (λ k. P (by k)) commands answers → (worker k : ℕ) (c : Command) (a : Answered)
-    → slice_get (commands_of script worker) k ≡ Some c → slice_get (answers_of report worker) k ≡ Some a → P (record { worker = worker; command = k }) c a
-each_by P h zero k c a e f = each_two (λ k. P (by k)) commands answers h k c a e f
-each_by P h (suc worker) k c a e f = absurd (cc)
-
-each_answer : (P : Serial → Command → Answered → Type 0) → AllTwo (λ k. P (by k)) commands answers → EachAnswer script report P
-each_answer P h x c a e f = each_by P h x.worker x.command c a e f
+use Rattle.shr_report.proofs.PoolsReport.{buf, few, commands, script, place, pass, tries, walk, entries, end, report}
+use Rattle.shr_report.proofs.PoolsCauses.{each_answer, each_by}
 
 each_plain : (P : ℕ → ℕ → PlainWalk → Type 0) → P 0 0 walk → EachPlain report P
 each_plain P h zero n w e = each_at (P 0) (walk ∷ []) (h, tt) n w e

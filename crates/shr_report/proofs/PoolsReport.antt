@@ -1,23 +1,9 @@
 -- A report of two pools of units, one of them flat, as a value with its script.
-use Rattle.std.specs.Prelude.{true, false, List, [], ◌∷◌, codes, None}
-use Rattle.shr_base.specs.declared.ends.UnitsEnd.{UnitsEnd}
-use Rattle.shr_base.specs.declared.ends.WorkerPart.{WorkerPart}
-use Rattle.shr_base.specs.declared.journals.PlainEntry.{PlainEntry}
+use Rattle.shr_report.proofs.Common.{true, false, List, [], ◌∷◌, codes, None, UnitsEnd, WorkerPart, PlainEntry, Place, Answered, Command, Balance, Release, PoolDecl, Script, Through, PassRecord, PlainTry, Empty, Ran, PlainWalk, Report}
 use Rattle.shr_base.specs.declared.journals.PlainEntry.TheVariants as units
-use Rattle.shr_base.specs.declared.places.Place.{Place}
-use Rattle.shr_base.specs.declared.replies.Answered.{Answered}
 use Rattle.shr_base.specs.declared.replies.Reply.TheVariants as reply
-use Rattle.shr_base.specs.declared.scripts.Command.{Command}
-use Rattle.shr_base.specs.declared.scripts.Command.TheVariants.{Balance, Release, Grab}
-use Rattle.shr_base.specs.declared.scripts.PoolDecl.{PoolDecl}
-use Rattle.shr_base.specs.declared.scripts.Script.{Script}
-use Rattle.shr_base.specs.declared.walks.Ending.TheVariants.{Through}
-use Rattle.shr_base.specs.declared.walks.PassRecord.{PassRecord}
+use Rattle.shr_base.specs.declared.scripts.Command.TheVariants.{Grab}
 use Rattle.shr_base.specs.declared.walks.PlainAnswer.TheVariants.{Walked}
-use Rattle.shr_base.specs.declared.walks.PlainTry.{PlainTry}
-use Rattle.shr_base.specs.declared.walks.PlainTry.TheVariants.{Empty, Ran}
-use Rattle.shr_base.specs.declared.walks.PlainWalk.{PlainWalk}
-use Rattle.shr_report.specs.declared.report.Report.{Report}
 use Rattle.shr_report.proofs.SecondReport.{kept, by, unheld}
 
 -- pool buf 2 0 0 flat, pool few 2 0 5 nodes

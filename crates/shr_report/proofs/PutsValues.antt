@@ -1,29 +1,16 @@
 -- Which puts must be added, by values that meet it and values that don't.
-use Rattle.std.specs.Prelude.{◌≡◌, ℕ, zero, suc, ◌<◌, [], ◌∷◌, List, codes, slice_get, Some, None, refl}
-use Rattle.std.proofs.Common.{arith, inl, inr, sym, ap, subst}
-use Rattle.shr_base.specs.declared.journals.PoolEntry.TheVariants.{Registered, Unregistered}
-use Rattle.shr_base.specs.declared.journals.TreeEntry.TheVariants.{Begin, Done}
-use Rattle.shr_base.specs.declared.replies.Answered.{Answered}
+use Rattle.shr_report.proofs.Common.{◌≡◌, ℕ, zero, suc, ◌<◌, [], ◌∷◌, List, codes, slice_get, Some, None, refl, arith, inl, inr, sym, ap, subst, Registered, Unregistered, Begin, Done, Answered, Put, Offline, Script, Report, IsOffline, commands_of, serial_of, IsFreePut}
 use Rattle.shr_base.specs.declared.replies.Reply.TheVariants as reply
 use Rattle.shr_base.specs.declared.replies.Spent.TheVariants as spent
-use Rattle.shr_base.specs.declared.scripts.Command.TheVariants.{Put, Offline}
-use Rattle.shr_base.specs.declared.scripts.Script.{Script}
 use Rattle.shr_model.specs.Groups.{path_within}
-use Rattle.shr_report.specs.declared.report.Report.{Report}
-use Rattle.shr_report.specs.Causes.{IsOffline, MayHaveBegun}
-use Rattle.shr_report.specs.Parts.{limit_of, commands_of, serial_of}
-use Rattle.shr_report.specs.Puts.{IsOnlyPut, IsUnlimited, StaysOn, StaysOnline, IsFreePut, IsAddedOrSpent, AreFreePutsAdded, IsEachAdded, DoPutsAddUp}
+use Rattle.shr_report.specs.Causes.{MayHaveBegun}
+use Rattle.shr_report.specs.Puts.{IsOnlyPut, IsUnlimited, StaysOn, StaysOnline, IsAddedOrSpent, AreFreePutsAdded, IsEachAdded, DoPutsAddUp}
 use Rattle.shr_report.proofs.SecondReport.{kept, place, put}
 use Rattle.shr_report.proofs.FirstReport.{script, report, answer}
 use Rattle.shr_report.proofs.OverReport as over
+use Rattle.shr_report.proofs.FirstLawful.{no_limit}
 
 -- ---- the first report's put: nothing is in its way
-
--- no group has a limit
-no_limit : (g : ℕ) → limit_of script g ≡ None
-no_limit zero = refl
-no_limit (suc zero) = refl
-no_limit (suc (suc g)) = refl
 
 -- it is the only one of the script
 only : IsOnlyPut script 0 0 1 (codes "k1")

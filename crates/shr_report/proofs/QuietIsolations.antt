@@ -1,13 +1,6 @@
 -- A report that says nothing of isolations has what the law on isolations asks of it.
-use Rattle.std.proofs.Common.{◌≡◌, ℕ, [], sym, ap, ◌∙◌}
-use Rattle.std.specs.Prelude.{slice_get, Some, filter}
-use Rattle.std.proofs.lemmas.Option.{none-some}
-use Rattle.shr_base.specs.declared.scripts.Script.{Script}
-use Rattle.shr_base.specs.declared.walks.Isolation.{Isolation}
-use Rattle.shr_model.specs.Commands.{is_serial}
-use Rattle.shr_report.specs.declared.report.Report.{Report}
-use Rattle.shr_report.specs.Parts.{isolations_of, isolation_at, EachAnswer, EachEntry}
-use Rattle.shr_report.specs.Isolated.{IsOfIsolation, isolations_told, AreIsolationsLawful}
+use Rattle.shr_report.proofs.Common.{◌≡◌, ℕ, [], sym, ap, ◌∙◌, slice_get, Some, filter, none-some, Script, Isolation, is_serial, Report, isolations_of, EachAnswer, EachEntry, IsOfIsolation, isolations_told, AreIsolationsLawful}
+use Rattle.shr_report.specs.Parts.{isolation_at}
 
 module _ (s : Script) (r : Report) (none : (worker : ℕ) → isolations_of r worker ≡ []) (scans : EachEntry r (λ place n e. IsOfIsolation r place e))
     (untold : EachAnswer s r (λ by c a. isolations_told by c a ≡ [])) where

@@ -1,8 +1,5 @@
 -- A part without walks of the pools or isolations, and a report without pools.
-use Rattle.std.proofs.Common.{◌≡◌, ℕ, List, [], length, sym, subst, arith}
-use Rattle.std.specs.List.{AllByRecursion, AllAdjacentBelow}
-use Rattle.shr_base.specs.declared.places.Serial.{Serial}
-use Rattle.shr_report.specs.WellFormed.{AreOfCommands}
+use Rattle.shr_report.proofs.Common.{◌≡◌, ℕ, List, [], length, sym, subst, arith, AllByRecursion, AllAdjacentBelow, Serial, AreOfCommands}
 
 -- none stands in the order of any commands
 pub none_of_commands : {X : Type 0} (serial : X → Serial) (worker answers : ℕ) (xs : List X) → xs ≡ [] → AreOfCommands X serial worker answers xs

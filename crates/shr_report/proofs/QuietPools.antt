@@ -1,28 +1,9 @@
 -- A report that says nothing of pools has what the law on pools asks of it, for a script without pools.
-use Rattle.std.proofs.Common.{◌≡◌, ℕ, ◌<◌, List, [], map, flat_map, sym, refl, ap, subst, ◌∙◌, arith}
-use Rattle.std.specs.Prelude.{slice_get, Some, find, filter, filter_map, sum_by}
-use Rattle.std.specs.List.{AllByRecursion}
-use Rattle.std.proofs.lemmas.Option.{none-some}
-use Rattle.shr_base.specs.declared.ends.PlaceAmount.{PlaceAmount}
-use Rattle.shr_base.specs.declared.ends.UnitsEnd.{UnitsEnd}
-use Rattle.shr_base.specs.declared.journals.PlainEntry.{PlainEntry}
-use Rattle.shr_base.specs.declared.places.At.{At}
-use Rattle.shr_base.specs.declared.places.Place.{Place}
-use Rattle.shr_base.specs.declared.replies.Reply.{Reply}
-use Rattle.shr_base.specs.declared.scripts.Command.{Command}
-use Rattle.shr_base.specs.declared.scripts.PoolDecl.{PoolDecl}
-use Rattle.shr_base.specs.declared.scripts.Script.{Script}
-use Rattle.shr_base.specs.declared.walks.PassRecord.{PassRecord}
-use Rattle.shr_base.specs.declared.walks.PlainWalk.{PlainWalk}
-use Rattle.shr_model.specs.Commands.{is_serial}
-use Rattle.shr_model.specs.Deferred.{deferred_word}
-use Rattle.shr_model.specs.Places.{is_place}
-use Rattle.shr_report.specs.declared.report.Report.{Report}
+use Rattle.shr_report.proofs.Common.{◌≡◌, ℕ, ◌<◌, List, [], map, flat_map, sym, refl, ap, subst, ◌∙◌, arith, slice_get, Some, find, filter, filter_map, sum_by, AllByRecursion, none-some, PlaceAmount, UnitsEnd, PlainEntry, At, Place, Reply, Command, PoolDecl, Script, PassRecord, PlainWalk, is_serial, deferred_word, is_place, Report, serial_of, EachAnswer, plain_versions, ArePoolsLawful, units_in, units_of, units_cited_at, plain_of, plain_at, pass_at, AreNotFalling}
 use Rattle.shr_report.specs.Deferred.{amount_in}
-use Rattle.shr_report.specs.Parts.{serial_of, EachAnswer}
-use Rattle.shr_report.specs.Pools.{AreUnitsRight, IsPoolReply, plain_versions, ArePoolsLawful}
-use Rattle.shr_report.specs.UnitParts.{units_in, units_of, units_cited_at, plain_of, all_plain, plain_at, plain_job_of, plain_due, pass_at}
-use Rattle.shr_report.specs.WellFormed.{units_place, AreNotFalling}
+use Rattle.shr_report.specs.Pools.{AreUnitsRight, IsPoolReply}
+use Rattle.shr_report.specs.UnitParts.{all_plain, plain_job_of, plain_due}
+use Rattle.shr_report.specs.WellFormed.{units_place}
 
 module _ (s : Script) (r : Report) (none : s.pools.items ≡ []) (units : r.units.items ≡ []) (deferred : r.pool_deferred.items ≡ []) (plain : (worker : ℕ) → plain_of r worker ≡ []) (all : all_plain r ≡ [])
     (replies : EachAnswer s r (λ by c a. IsPoolReply s r by c a.reply)) (uncited : (worker k : ℕ) (c : At) → units_cited_at r (serial_of worker k) ≡ Some c → ⊥) where

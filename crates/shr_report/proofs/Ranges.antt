@@ -1,21 +1,10 @@
 -- What holds of each item of a list that is read from its front.
-use Rattle.std.proofs.Common.{◌≡◌, ℕ, ◌+◌, ◌<◌, ◌≤◌, List, [], ◌∷◌, length, take, drop, get_or, sym, subst, ◌^◌, ◌⊎◌, inl, inr, arith}
-use Rattle.std.specs.List.{AllByRecursion}
+use Rattle.shr_report.proofs.Common.{◌≡◌, ℕ, ◌+◌, ◌<◌, ◌≤◌, List, [], ◌∷◌, length, take, drop, get_or, sym, subst, ◌^◌, ◌⊎◌, inl, inr, arith, AllByRecursion, take_more, take-append-drop, each_append, each_weaker, WorkerPart, WalkRecord, Carry, PlainWalk, Isolation, Report, IsPartWell, IsPoolAmountWell, IsWellFormed, Logs, after_command, logs_of, logs_from, AreNumberedTo, IsAnsweredNumbered, IsWalkNumbered, IsCarryNumbered, IsPlainNumbered, IsIsolationNumbered, IsAmountNumbered, IsListNumbered, AreUnitsNumbered, IsMapNumbered, IsUseNumbered, IsPartNumbered, HasNumbers}
 use Rattle.std.specs.Prelude.{OnOk, Result, Ok, Err}
-use Rattle.std.proofs.lemmas.List.{take_more, take_all, take-append-drop}
+use Rattle.std.proofs.lemmas.List.{take_all}
 use Rattle.std.proofs.Math.Seq.{take-add}
-use Rattle.shr_model.proofs.BagLaws.{each_append, each_weaker}
-use Rattle.shr_base.specs.declared.ends.WorkerPart.{WorkerPart}
-use Rattle.shr_base.specs.declared.walks.WalkRecord.{WalkRecord}
-use Rattle.shr_base.specs.declared.walks.Carry.{Carry}
-use Rattle.shr_base.specs.declared.walks.PlainWalk.{PlainWalk}
-use Rattle.shr_base.specs.declared.walks.Isolation.{Isolation}
-use Rattle.shr_report.specs.declared.report.Report.{Report}
-use Rattle.shr_report.specs.WellFormed.{IsPartWell, IsAmountWell, IsPoolAmountWell, IsWellFormed}
-use Rattle.shr_report.specs.Text.{Logs, after_command, logs_of}
-use Rattle.shr_report.specs.Printing.{logs_from, AreNumberedTo}
+use Rattle.shr_report.specs.WellFormed.{IsAmountWell}
 use Rattle.shr_report.specs.declared.logs.Printed.{Printed}
-use Rattle.shr_report.specs.Numbers.{IsAnsweredNumbered, IsWalkNumbered, IsCarryNumbered, IsPlainNumbered, IsIsolationNumbered, IsAmountNumbered, IsListNumbered, AreUnitsNumbered, IsMapNumbered, IsUseNumbered, IsPartNumbered, HasNumbers}
 use Rattle.shr_report.proofs.Sections.{all_taken}
 use Rattle.shr_report.proofs.PartsBack.{Sorted, sorted_left, none_left, all_second}
 use Rattle.shr_report.proofs.WorkersBack.{sorted_from}

@@ -1,16 +1,13 @@
 -- The words of a line are read back.
-use Rattle.std.proofs.Common.{◌≡◌, ℕ, zero, suc, ◌+◌, ◌*◌, ◌-◌, ◌/◌, ◌%◌, ◌^◌, ◌<◌, Bool, true, false, List, [], ◌∷◌, ◌++◌, refl, arith, inl, inr, ap, ◌∙◌, pow-suc, sub-one}
-use Rattle.std.specs.Prelude.{◌==◌, bytes_eq, ◌||◌, length, map, ℤ, pos, negsuc, ◌⊎◌}
-use Rattle.std.specs.List.{list_all}
-use Rattle.std.specs.Int.Digits.{digits_of, number_from_digits, AllBelowBase}
+use Rattle.shr_report.proofs.Common.{◌≡◌, ℕ, zero, suc, ◌+◌, ◌*◌, ◌-◌, ◌/◌, ◌%◌, ◌^◌, ◌<◌, Bool, true, false, List, [], ◌∷◌, ◌++◌, refl, arith, inl, inr, ap, ◌∙◌, sub-one, ◌==◌, bytes_eq, ◌||◌, length, map, ℤ, pos, negsuc, ◌⊎◌, list_all, digits_of, nat_tests, is_key, is_value, is_name, cut, differs, and_true, same_byte, joined_cut, signed_numeral, hex, hex_digit}
+use Rattle.std.proofs.Common.{pow-suc}
+use Rattle.std.specs.Int.Digits.{number_from_digits, AllBelowBase}
 use Rattle.std.proofs.lemmas.Int.Digits.{number_digits_of, all_below_base_digits_of}
-use Rattle.std.proofs.lemmas.Bool.Decides.{nat_tests}
-use Rattle.shr_model.specs.Words.{is_visible, is_key, is_value, is_name, is_between, is_name_byte}
+use Rattle.shr_model.specs.Words.{is_visible, is_between, is_name_byte}
 use Rattle.shr_model.specs.Words.{is_part}
 use Rattle.shr_model.specs.Paths.{is_path, all_parts}
-use Rattle.shr_model.specs.Pieces.{pieces, joined, cut, differs}
-use Rattle.shr_model.proofs.PiecesLaws.{and_true, same_byte, joined_cut}
-use Rattle.shr_report.specs.Lines.{numeral, signed_numeral, hex, hex_digit, hex_digits}
+use Rattle.shr_model.specs.Pieces.{pieces, joined}
+use Rattle.shr_report.specs.Lines.{numeral, hex_digits}
 use Rattle.shr_report.proofs.Peel.{is_plain, is_plain_word}
 use Rattle.shr_report.specs.ReadWords.{num, digit_of, hex_onto, unhex, starts_minus, later_bytes, signed_num}
 
@@ -87,7 +84,7 @@ joined_plain w (v ∷ vs) h =
     let a = and_true (is_part w) (list_all is_part (v ∷ vs)) h in
     append_plain w (47 ∷ joined 47 v vs) (part_plain w a.0) (joined_plain v vs a.1)
 
-either : (a b : Bool) → (a || b) ≡ true → (a ≡ true) ⊎ (b ≡ true)
+pub either : (a b : Bool) → (a || b) ≡ true → (a ≡ true) ⊎ (b ≡ true)
 either true b h = inl refl
 either false b h = inr h
 

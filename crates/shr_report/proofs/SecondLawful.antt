@@ -1,73 +1,26 @@
 -- The second whole report is lawful for its script.
-use Rattle.std.specs.Prelude.{◌≡◌, ◌⊎◌, ℕ, zero, suc, ◌+◌, ◌<◌, ◌≤◌, Bool, true, false, cond, ◌&&◌, nat_lt, fold, count_by, flat_map, List, [], ◌∷◌, ◌++◌, length, take, Some, None, slice_get, refl, Contains}
-use Rattle.std.proofs.Common.{arith, sym, ap, subst, ◌∙◌, inl, inr}
-use Rattle.std.proofs.lemmas.Bool.{cases_Bool, and_parts}
-use Rattle.shr_base.specs.declared.places.Place.{Place}
-use Rattle.shr_base.specs.declared.journals.Entry.{Entry}
-use Rattle.shr_base.specs.declared.walks.Attempt.{Attempt}
-use Rattle.shr_base.specs.declared.walks.PassRecord.{PassRecord}
-use Rattle.shr_model.specs.Places.{at_group, is_place}
-use Rattle.shr_model.specs.Groups.{path_within, preorder_within, parent_of, is_child}
-use Rattle.shr_model.specs.Items.{is_closed, items_from, freed_from, AreOutcomes}
-use Rattle.shr_model.specs.Families.{moved_in, lists_moved, items_within, items_given, MayStand, IsBornAt}
+use Rattle.shr_report.proofs.Common.{◌≡◌, ◌⊎◌, ℕ, zero, suc, ◌+◌, ◌<◌, ◌≤◌, Bool, true, false, cond, ◌&&◌, nat_lt, count_by, flat_map, List, [], ◌∷◌, ◌++◌, length, take, Some, None, slice_get, refl, Contains, arith, sym, ap, subst, ◌∙◌, inl, inr, cases_Bool, and_parts, Place, Entry, Attempt, PassRecord, at_group, is_place, parent_of, is_child, is_closed, moved_in, items_given, MayStand, IsBornAt, pass_of, AllByRecursion, cons_option, map, option_and_then, is_place_same, UseStep, ops_by, is_refused, versions_at, ◌==◌, if◌then◌else◌, filter_map, sum_by, Registered, Found, Carry, decl_named, deferred_word, is_live, last_number, IsNextPool, IsPoolJournal, lookups_at, carries_of, found_numbers, tried_numbers, IsFoundRight, AreLookupsLawful, IsDeferredLawful, AreBitsLawful, pos, ◌-ℤ◌, IfSome, IsSomeAnd, ups, usage_after, IsNextUse, IsChargeHistory, AreTakenBack, is_put, command_at, reply_at, IsDownBetween, charged, freed_below, listed_below, AreChargesLawful, ◌||◌, list_any, PoolEntry, Answered, WalkRecord, At, PlainWalk, answers_of, isolations_of, pool_seen, pool_made, tree_seen, of_answer, shown_by, is_begin_at, is_done_at, AreBelow, AreCausesLawful, IsLawful, IsOfIsolation, isolations_told, AreIsolationsLawful, AreNotFalling, IsOfPass, FillsPlace, was_cleared, uses_at, limit_of, walks_of, cited_by, parents_of, serial_of, cited_at, journals_of, items_left, at, AreRepliesLawful, AreJournalsLawful, IsLawfulWalk, AreWalksLawful, IsBagLawful, ArePoolsLawful, plain_of, plain_at, units_cited_at}
+use Rattle.shr_model.specs.Groups.{path_within, preorder_within}
+use Rattle.shr_model.specs.Items.{items_from, freed_from, AreOutcomes}
+use Rattle.shr_model.specs.Families.{lists_moved, items_within}
 use Rattle.shr_model.specs.Bag.{AreDistinct}
-use Rattle.shr_model.specs.Attempts.{pass_of}
 use Rattle.shr_model.specs.Pool.{decl_at, registrations, end_of, phase_of, decl_from, from_from, number_from, is_live_below, lowest_free}
-use Rattle.std.specs.List.{AllByRecursion, cons_option}
-use Rattle.std.specs.Prelude.{map, option_and_then}
-use Rattle.shr_model.proofs.PlacesLaws.{is_place_same}
-use Rattle.shr_base.specs.declared.journals.UseStep.{UseStep}
 use Rattle.shr_model.specs.Attempts.{Count, counts_of}
-use Rattle.shr_model.specs.Charges.{ops_by, is_refused}
 use Rattle.shr_model.specs.Commands.{rounds_from}
-use Rattle.shr_model.specs.Walks.{versions_at}
-use Rattle.std.specs.Prelude.{◌==◌, if◌then◌else◌, is_some, filter_map, sum_by}
-use Rattle.shr_base.specs.declared.journals.PoolEntry.TheVariants.{Registered}
-use Rattle.shr_base.specs.declared.replies.Found.{Found}
-use Rattle.shr_base.specs.declared.walks.Carry.{Carry}
+use Rattle.std.specs.Prelude.{is_some}
 use Rattle.shr_model.specs.Attempts.{number_of, is_held}
-use Rattle.shr_model.specs.Commands.{decl_named}
-use Rattle.shr_model.specs.Deferred.{deferred_word}
-use Rattle.shr_model.specs.Pool.{is_live, last_number, attempt_at, IsNextPool, IsPoolJournal}
+use Rattle.shr_model.specs.Pool.{attempt_at}
 use Rattle.shr_model.specs.Walks.{passes_at}
-use Rattle.shr_report.specs.Parts.{lookups_at, carries_of, EachAttempt}
-use Rattle.shr_report.specs.Lookups.{found_numbers, tried_numbers, IsFoundRight, AreLookupsLawful}
-use Rattle.shr_report.specs.Deferred.{IsDeferredLawful}
-use Rattle.shr_report.specs.BitsLawful.{AreBitsLawful}
-use Rattle.std.specs.Prelude.{pos, ◌-ℤ◌, IfSome}
-use Rattle.std.specs.Option.{IsSomeAnd}
-use Rattle.shr_model.specs.Charges.{ups, usage_after, IsNextUse, IsChargeHistory, AreTakenBack}
-use Rattle.shr_model.specs.Commands.{is_put}
-use Rattle.shr_report.specs.Parts.{command_at, reply_at}
-use Rattle.shr_report.specs.Charges.{IsDownBetween, charged, freed_below, listed_below, AreChargesLawful}
-use Rattle.std.specs.Prelude.{◌||◌}
-use Rattle.std.specs.List.{list_any}
-use Rattle.shr_base.specs.declared.journals.PoolEntry.{PoolEntry}
+use Rattle.shr_report.specs.Parts.{EachAttempt}
 use Rattle.shr_base.specs.declared.replies.Reply.TheVariants as reply
-use Rattle.shr_base.specs.declared.replies.Answered.{Answered}
-use Rattle.shr_base.specs.declared.walks.WalkRecord.{WalkRecord}
-use Rattle.shr_base.specs.declared.places.At.{At}
-use Rattle.shr_base.specs.declared.walks.PlainWalk.{PlainWalk}
-use Rattle.shr_report.specs.Parts.{answers_of, isolations_of}
-use Rattle.shr_report.specs.Freshness.{pool_seen, pool_made, tree_seen, walk_cited, of_answer, shown_by, is_begin_at, is_done_at, AreBelow}
-use Rattle.shr_report.specs.CausesLawful.{AreCausesLawful}
-use Rattle.shr_report.specs.Lawful.{IsLawful}
-use Rattle.shr_report.specs.Isolated.{IsOfIsolation, isolations_told, AreIsolationsLawful}
+use Rattle.shr_report.specs.Freshness.{walk_cited}
 use Rattle.shr_report.proofs.QuietIsolations.{quiet_isolations}
-use Rattle.shr_report.specs.WellFormed.{AreNotFalling}
-use Rattle.shr_report.specs.WalksLawful.{IsOfPass, FillsPlace, was_cleared}
-use Rattle.shr_report.specs.Parts.{uses_at, limit_of, walks_of, cited_by, parents_of, serial_of, cited_at, journals_of, items_left, at}
-use Rattle.shr_report.specs.Replies.{AreRepliesLawful}
-use Rattle.shr_report.specs.Journals.{AreJournalsLawful}
-use Rattle.shr_report.specs.LawfulWalk.{IsLawfulWalk}
-use Rattle.shr_report.specs.WalksLawful.{AreWalksLawful}
-use Rattle.shr_report.specs.Lawful.{IsBagLawful}
-use Rattle.shr_report.specs.Pools.{ArePoolsLawful}
-use Rattle.shr_report.specs.UnitParts.{plain_of, plain_at, units_cited_at}
 use Rattle.shr_report.proofs.SecondReport.{use_step, script, report, by, place, cleared, first_walk, second_walk}
 use Rattle.shr_report.proofs.SecondCases.{each_at, each_answer, each_walk, each_entry, each_journal}
 use Rattle.shr_report.proofs.QuietPools.{quiet_pools}
 use Rattle.shr_report.proofs.QuietSweep.{quiet_counts, quiet_last, quiet_sweep}
+use Rattle.shr_report.proofs.FirstLawful.{none_below, none_refused, zero_not}
+use Rattle.shr_model.proofs.Booleans.{not_zero}
 
 -- a command that cites an entry cites the one of its own number
 cites : (worker k : ℕ) (p : Place) (n : ℕ) → cited_at report (serial_of worker k) ≡ Some (at p n) → (n ≡ k) × (k < 2) × (p ≡ place)
@@ -146,10 +99,6 @@ no_limit : (group : ℕ) → limit_of script group ≡ None
 no_limit zero = refl
 no_limit (suc zero) = refl
 no_limit (suc (suc group)) = refl
-
-none_refused : (a : ℕ) (ops : List UseStep) → fold (λ a (o : UseStep). a + cond (is_refused None o) 1 0) a ops ≡ a
-none_refused a [] = refl
-none_refused a (o ∷ ops) = let later : fold (λ a (o : UseStep). a + cond (is_refused None o) 1 0) (a + 0) ops ≡ a + 0 = none_refused (a + 0) ops in omega (arith, later)
 
 never_refused : (group : ℕ) (ops : List UseStep) → count_by (is_refused (limit_of script group)) ops ≡ 0
 never_refused group ops = subst (λ limit. count_by (is_refused limit) ops ≡ 0) (sym (no_limit group)) (none_refused 0 ops)
@@ -236,16 +185,6 @@ numbers_of_first zero = refl
 numbers_of_first (suc zero) = refl
 numbers_of_first (suc (suc zero)) = refl
 numbers_of_first (suc (suc (suc n))) = grind (arith)
-
--- 0 is no later number
-not_zero : (n : ℕ) → (0 == suc n) ≡ false
-not_zero n = grind (arith)
-
-zero_not : (n : ℕ) → (suc n == 0) ≡ false
-zero_not n = grind (arith)
-
-none_below : (n : ℕ) → nat_lt n 0 ≡ false
-none_below n = grind (arith)
 
 none_drawn : (b : Bool) (number : ℕ) → b ≡ false → count_by (λ n. n == number) (cons_option (if b then Some 0 else None) (cons_option (if b then Some 1 else None) []) ++ [] ++ (filter_map (λ (a : Attempt). number_of a.outcome) (cond b (cleared ∷ []) []) ++ [])) ≡ 0
 none_drawn true number e = absurd (cc)

@@ -1,34 +1,10 @@
 -- The parts of a report, one behind another.
-use Rattle.std.proofs.Common.{◌≡◌, ℕ, ◌+◌, ◌≤◌, Bool, true, false, List, [], ◌∷◌, ◌++◌, take, drop, flat_map, refl, sym, ap, subst, ◌∙◌, append_assoc, arith}
-use Rattle.std.specs.Prelude.{◌==◌, ◌||◌, if◌then◌else◌, bytes_eq, codes}
-use Rattle.std.specs.List.{AllByRecursion, AllZip}
-use Rattle.std.proofs.lemmas.List.{take-append-drop}
-use Rattle.shr_base.specs.declared.places.Place.{Place}
-use Rattle.shr_base.specs.declared.objects.Object.{Object}
-use Rattle.shr_base.specs.declared.journals.Entry.{Entry}
+use Rattle.shr_report.proofs.Common.{◌≡◌, ℕ, ◌+◌, ◌≤◌, Bool, true, false, List, [], ◌∷◌, ◌++◌, take, drop, flat_map, refl, sym, ap, subst, ◌∙◌, append_assoc, arith, ◌==◌, ◌||◌, if◌then◌else◌, bytes_eq, codes, AllByRecursion, AllZip, take-append-drop, Place, Object, Entry, PlainEntry, PoolEntry, TreeEntry, UseStep, Found, Reply, Attempt, MapSeen, WalkAnswer, Carry, PlainTry, PlainAnswer, Isolation, PlaceAmount, MapEnd, line, numeral, reply_line, place_words, attempt_line, map_line, carry_line, pass_line, isolation_line, group_line, cache_line, pool_line, tree_line, entry_line, item_line, bit_line, deferred_line, use_line, lookups_line, units_name_line, plain_entry_line, pool_deferred_line}
 use Rattle.shr_base.specs.declared.journals.Entry.TheVariants as entry
-use Rattle.shr_base.specs.declared.journals.PlainEntry.{PlainEntry}
 use Rattle.shr_base.specs.declared.journals.PlainEntry.TheVariants as units
-use Rattle.shr_base.specs.declared.journals.PoolEntry.{PoolEntry}
 use Rattle.shr_base.specs.declared.journals.PoolEntry.TheVariants as pool
-use Rattle.shr_base.specs.declared.journals.TreeEntry.{TreeEntry}
 use Rattle.shr_base.specs.declared.journals.TreeEntry.TheVariants as tree
-use Rattle.shr_base.specs.declared.journals.UseStep.{UseStep}
-use Rattle.shr_base.specs.declared.replies.Found.{Found}
-use Rattle.shr_base.specs.declared.replies.Reply.{Reply}
-use Rattle.shr_base.specs.declared.walks.Attempt.{Attempt}
-use Rattle.shr_base.specs.declared.walks.MapSeen.{MapSeen}
-use Rattle.shr_base.specs.declared.walks.WalkAnswer.{WalkAnswer}
-use Rattle.shr_base.specs.declared.walks.Carry.{Carry}
-use Rattle.shr_base.specs.declared.walks.PlainTry.{PlainTry}
-use Rattle.shr_base.specs.declared.walks.PlainAnswer.{PlainAnswer}
-use Rattle.shr_base.specs.declared.walks.Isolation.{Isolation}
-use Rattle.shr_base.specs.declared.ends.PlaceAmount.{PlaceAmount}
-use Rattle.shr_base.specs.declared.ends.MapEnd.{MapEnd}
-use Rattle.shr_report.specs.Lines.{line, numbered, numeral}
-use Rattle.shr_report.specs.AnswerText.{reply_line, place_words}
-use Rattle.shr_report.specs.WalkText.{attempt_line, map_line, carry_line, pass_line, isolation_line}
-use Rattle.shr_report.specs.Text.{group_line, cache_line, pool_line, tree_line, entry_line, item_line, bit_line, deferred_line, use_line, lookups_line, units_name_line, plain_entry_line, pool_deferred_line}
+use Rattle.shr_report.specs.Lines.{numbered}
 use Rattle.shr_report.proofs.LinesBack.{walk_line}
 use Rattle.shr_report.proofs.PlainLinesBack.{plain_line, units_line}
 use Rattle.shr_report.proofs.Printed.{Printed, one_line}

@@ -1,18 +1,7 @@
 -- The law on a sweep, by a report that meets it and changes that break a sentence.
-use Rattle.std.specs.Prelude.{◌≡◌, ℕ, zero, suc, ◌<◌, ◌≤◌, true, false, List, [], ◌∷◌, Some, refl}
-use Rattle.std.specs.Option.{IsSomeAnd}
-use Rattle.std.proofs.Common.{arith, subst}
-use Rattle.shr_base.specs.declared.ends.WorkerPart.{WorkerPart}
-use Rattle.shr_base.specs.declared.replies.Answered.{Answered}
+use Rattle.shr_report.proofs.Common.{◌≡◌, ℕ, zero, suc, ◌<◌, ◌≤◌, true, false, List, [], ◌∷◌, Some, refl, IsSomeAnd, arith, subst, WorkerPart, Answered, Script, Sweep, Walked, WalkRecord, Report, answer_at, reply_at, AreRepliesLawful, sweep_serial, IsSweepLawful}
 use Rattle.shr_base.specs.declared.replies.Reply.TheVariants as reply
-use Rattle.shr_base.specs.declared.scripts.Script.{Script}
-use Rattle.shr_base.specs.declared.scripts.Sweep.{Sweep}
-use Rattle.shr_base.specs.declared.walks.WalkAnswer.TheVariants.{Walked}
-use Rattle.shr_base.specs.declared.walks.WalkRecord.{WalkRecord}
-use Rattle.shr_report.specs.declared.report.Report.{Report}
-use Rattle.shr_report.specs.Parts.{answer_at, reply_at}
-use Rattle.shr_report.specs.Replies.{AreRepliesLawful}
-use Rattle.shr_report.specs.Swept.{sweep_serial, sweep_walks, times_swept, IsSweptOut, IsSwept, IsSweepRight, IsSweepLawful}
+use Rattle.shr_report.specs.Swept.{sweep_walks, times_swept, IsSweptOut, IsSwept, IsSweepRight}
 use Rattle.shr_report.proofs.SecondReport.{kept, held, unheld}
 use Rattle.shr_report.proofs.FirstReport as first
 

@@ -1,25 +1,9 @@
 -- Reports whose deferred work is in one order, and two in which it is in none.
-use Rattle.std.specs.Prelude.{◌≡◌, ◌⊎◌, ℕ, zero, suc, ◌<◌, cond, List, [], ◌∷◌, ◌++◌, length, map, flat_map, slice_get, Some, refl}
-use Rattle.std.specs.List.{range_with_len}
-use Rattle.std.proofs.Common.{arith, sym, ap, subst, ◌∙◌, inl, inr, ⊎_elim, eq-eqb, ne_eqb}
-use mathlib.Core.Logic.{dite}
-use native.Mathlib.Decide.{ℕ_discrete}
-use Rattle.shr_base.specs.declared.ends.PlaceAmount.{PlaceAmount}
-use Rattle.shr_base.specs.declared.places.Place.{Place}
-use Rattle.shr_base.specs.declared.places.Serial.{Serial}
-use Rattle.shr_base.specs.declared.replies.Answered.{Answered}
+use Rattle.shr_report.proofs.Common.{◌≡◌, ◌⊎◌, ℕ, zero, suc, ◌<◌, cond, List, [], ◌∷◌, ◌++◌, length, map, flat_map, slice_get, Some, refl, range_with_len, arith, sym, ap, subst, ◌∙◌, inl, inr, ⊎_elim, dite, ℕ_discrete, PlaceAmount, Place, Serial, Answered, Command, Offline, Script, Carry, Through, WalkRecord, Report, printed_at, serial_of, answers_of, IsThere}
+use Rattle.std.proofs.Common.{eq-eqb, ne_eqb}
 use Rattle.shr_base.specs.declared.replies.Reply.TheVariants as reply
-use Rattle.shr_base.specs.declared.scripts.Command.{Command}
-use Rattle.shr_base.specs.declared.scripts.Command.TheVariants.{Offline}
-use Rattle.shr_base.specs.declared.scripts.Script.{Script}
-use Rattle.shr_base.specs.declared.walks.Carry.{Carry}
-use Rattle.shr_base.specs.declared.walks.Ending.TheVariants.{Through}
 use Rattle.shr_base.specs.declared.walks.Outcome.TheVariants as outcome
-use Rattle.shr_base.specs.declared.walks.WalkRecord.{WalkRecord}
 use Rattle.shr_model.specs.Deferred.{amount_of}
-use Rattle.shr_report.specs.declared.report.Report.{Report}
-use Rattle.shr_report.specs.Deferred.{printed_at}
-use Rattle.shr_report.specs.Parts.{serial_of, answers_of, IsThere}
 use Rattle.shr_report.specs.Takes.{WordStep, took, gave, Taking, steps_in, Amounts, TakesAll, AreTaken, after_step, after_all, nothing_deferred, steps_by, IsHanded, AreTakesInOrder}
 use Rattle.shr_report.proofs.SecondCases.{each_at}
 use Rattle.shr_report.proofs.SecondReport as second

@@ -1,25 +1,10 @@
 -- A report of two workers: three puts under a limit, a walk that defers, an offlining that moves
 -- and carries, an unregistering that drains; the other worker puts in the parent.
-use Rattle.std.specs.Prelude.{ℕ, pos, Bool, true, false, List, [], ◌∷◌, codes, Some, None}
-use Rattle.shr_base.specs.declared.places.Place.{Place}
-use Rattle.shr_base.specs.declared.places.Serial.{Serial}
-use Rattle.shr_base.specs.declared.journals.Entry.{Entry}
+use Rattle.shr_report.proofs.Common.{ℕ, pos, Bool, true, false, List, [], ◌∷◌, codes, Some, None, Place, Serial, Entry, Registered, Unregistered, Idle, Begin, Done, UseStep, Answered, Script, Carry, Through, PassRecord, Walked, WalkRecord, Report, serial_of, at}
 use Rattle.shr_base.specs.declared.journals.Entry.TheVariants as entry
-use Rattle.shr_base.specs.declared.journals.PoolEntry.TheVariants.{Registered, Unregistered, Idle}
-use Rattle.shr_base.specs.declared.journals.TreeEntry.TheVariants.{Begin, Done}
-use Rattle.shr_base.specs.declared.journals.UseStep.{UseStep}
-use Rattle.shr_base.specs.declared.replies.Answered.{Answered}
 use Rattle.shr_base.specs.declared.replies.Reply.TheVariants as reply
 use Rattle.shr_base.specs.declared.scripts.Command.TheVariants as command
-use Rattle.shr_base.specs.declared.scripts.Script.{Script}
-use Rattle.shr_base.specs.declared.walks.Carry.{Carry}
-use Rattle.shr_base.specs.declared.walks.Ending.TheVariants.{Through}
 use Rattle.shr_base.specs.declared.walks.Outcome.TheVariants as outcome
-use Rattle.shr_base.specs.declared.walks.PassRecord.{PassRecord}
-use Rattle.shr_base.specs.declared.walks.WalkAnswer.TheVariants.{Walked}
-use Rattle.shr_base.specs.declared.walks.WalkRecord.{WalkRecord}
-use Rattle.shr_report.specs.declared.report.Report.{Report}
-use Rattle.shr_report.specs.Parts.{serial_of, at}
 use Rattle.shr_report.proofs.SecondReport.{kept, dentry, unheld}
 
 abbrev pub place_of : ℕ → Place

@@ -1,28 +1,17 @@
 -- What the laws compute of the third report: each number is that of its sentence.
-use Rattle.std.specs.Prelude.{◌≡◌, pos, ◌-ℤ◌, true, false, [], ◌∷◌, ◌++◌, map, codes, Some, None, refl}
-use Rattle.std.proofs.Common.{arith}
+use Rattle.shr_report.proofs.Common.{◌≡◌, pos, ◌-ℤ◌, true, false, [], ◌∷◌, ◌++◌, map, codes, Some, None, refl, arith, usage_after, ops_by, jobs_of, deferred_word, given_at, FollowsArithmetic, scans_by, job_of, parents_of, limit_of, serial_of, command_at, reply_at, journals_of, items_before, items_left, walks_by, all_walks, uses_at, HasCause, AreScansOf, IsStopped, cache_of, shrink_reply, found_numbers, tried_numbers, IsFoundRight, charged, freed_below, listed_below, printed_at, moved_from, drained_of}
 use Rattle.shr_base.specs.declared.replies.Reply.TheVariants as reply
 use Rattle.shr_base.specs.declared.scripts.Command.TheVariants as command
 use Rattle.shr_model.specs.Items.{items_from, freed_from, AreOutcomes}
 use Rattle.shr_model.specs.Families.{lists_moved, items_within, lists_moved_at, IsPairedAt}
 use Rattle.shr_model.specs.Groups.{path_within}
 use Rattle.shr_model.specs.Bag.{freed_in}
-use Rattle.shr_model.specs.Charges.{usage_after, ops_by}
-use Rattle.shr_model.specs.Commands.{jobs_of}
-use Rattle.shr_model.specs.Deferred.{deferred_word}
-use Rattle.shr_model.specs.Moves.{given_at, taken_at}
-use Rattle.shr_model.specs.Pass.{due, ask_size, FollowsArithmetic}
+use Rattle.shr_model.specs.Moves.{taken_at}
+use Rattle.shr_model.specs.Pass.{due, ask_size}
 use Rattle.shr_model.specs.Pool.{decl_at, registrations, end_of, phase_of, decl_from, from_from}
-use Rattle.shr_model.specs.Scans.{scans_by}
-use Rattle.shr_model.specs.Walks.{job_of}
-use Rattle.shr_report.specs.Parts.{parents_of, later_of, limit_of, serial_of, command_at, reply_at, journals_of, places_of, items_before, items_left, walks_by, all_walks, all_carries, uses_at}
-use Rattle.shr_report.specs.ReplyTable.{HasCause}
-use Rattle.shr_report.specs.LawfulWalk.{AreScansOf, IsStopped, cache_of}
-use Rattle.shr_report.specs.WalksLawful.{shrink_reply}
-use Rattle.shr_report.specs.Lookups.{found_numbers, tried_numbers, IsFoundRight}
-use Rattle.shr_report.specs.Charges.{charged, freed_below, listed_below}
-use Rattle.shr_report.specs.Deferred.{printed_at, IsCarryRight}
-use Rattle.shr_report.specs.Causes.{moved_from, drained_of, became_idle}
+use Rattle.shr_report.specs.Parts.{later_of, places_of, all_carries}
+use Rattle.shr_report.specs.Deferred.{IsCarryRight}
+use Rattle.shr_report.specs.Causes.{became_idle}
 use Rattle.shr_report.proofs.SecondReport.{dentry, kept}
 use Rattle.shr_report.proofs.ThirdReport.{script, report, place_of, pass, walk, carry, child_entries, parent_entries}
 

@@ -1,16 +1,10 @@
 -- The second whole report's put tried once, and reports of a run, changed in one place, whose put's charges are not those of tries.
-use Rattle.std.specs.Prelude.{◌≡◌, ℕ, suc, zero, ◌==◌, ◌||◌, Bool, true, false, cond, List, [], ◌∷◌, ◌++◌, map, filter, length, refl}
-use Rattle.std.specs.List.{AllByRecursion}
-use Rattle.std.proofs.Common.{arith, ap, sym, ◌∙◌, ⊎_elim, length-append}
-use Rattle.std.proofs.lemmas.Bool.{cases_Bool, eqb-true}
-use Rattle.shr_base.specs.declared.journals.UseStep.{UseStep}
+use Rattle.shr_report.proofs.Common.{◌≡◌, ℕ, suc, zero, ◌==◌, ◌||◌, Bool, true, false, cond, List, [], ◌∷◌, ◌++◌, map, filter, length, refl, AllByRecursion, arith, ap, sym, ◌∙◌, ⊎_elim, length-append, cases_Bool, UseStep, Put, ops_by, is_refused, limit_of, uses_at, parents_of, at}
+use Rattle.std.proofs.lemmas.Bool.{eqb-true}
 use Rattle.shr_base.specs.declared.replies.Reply.TheVariants as reply
-use Rattle.shr_base.specs.declared.scripts.Command.TheVariants.{Put}
-use Rattle.shr_model.specs.Charges.{ops_by, is_refused}
 use Rattle.shr_model.specs.Commands.{rounds_from}
 use Rattle.shr_model.specs.Freeings.{is_at_or_above}
 use Rattle.shr_model.specs.Groups.{path_within}
-use Rattle.shr_report.specs.Parts.{limit_of, uses_at, parents_of, at}
 use Rattle.shr_report.specs.Tries.{outcomes_in, refused_in, AreTries, AreTriesOf, AreAllTries}
 use Rattle.shr_report.proofs.SecondCases.{each_answer}
 use Rattle.shr_report.proofs.SecondReport.{kept, by, put, place, held, unheld, uses, script, report}

@@ -1,20 +1,10 @@
 -- Walks are parted in one way: each with its maps and its attempts.
-use Rattle.std.proofs.Common.{◌≡◌, ℕ, List, [], ◌∷◌, ◌++◌, drop, flat_map, refl, sym, ap, ◌∙◌, append_assoc, arith}
-use Rattle.std.specs.Prelude.{take_while}
-use Rattle.std.specs.List.{AllByRecursion, prefix_len}
-use Rattle.std.proofs.lemmas.List.{take-append-drop}
+use Rattle.shr_report.proofs.Common.{◌≡◌, ℕ, List, [], ◌∷◌, ◌++◌, drop, flat_map, refl, sym, ap, ◌∙◌, append_assoc, arith, take_while, AllByRecursion, prefix_len, take-append-drop, Serial, Attempt, MapSeen, WalkRecord, attempt_line, map_line, is_in_unit, walk_lines, IsBitWord, IsSameWalk, read_attempt, read_map, WalkHead, read_walk}
 use Rattle.std.proofs.lemmas.List.Concat.{flat_map-append}
-use Rattle.shr_base.specs.declared.places.Serial.{Serial}
-use Rattle.shr_base.specs.declared.walks.Attempt.{Attempt}
-use Rattle.shr_base.specs.declared.walks.MapSeen.{MapSeen}
-use Rattle.shr_base.specs.declared.walks.WalkRecord.{WalkRecord}
-use Rattle.shr_report.specs.WalkText.{attempt_line, map_line, map_lines, is_in_unit, walk_lines}
-use Rattle.shr_report.specs.WellFormed.{IsBitWord}
-use Rattle.shr_report.specs.Same.{IsSameWalk}
+use Rattle.shr_report.specs.WalkText.{map_lines}
 use Rattle.shr_report.proofs.Printed.{one_line}
 use Rattle.shr_report.proofs.LinesBack.{head_of, walk_line, printed_walk, printed_attempt, printed_map}
 use Rattle.shr_report.proofs.Sections.{kind, kind_map, kind_attempt, kind_walk, flat_each, after_flat}
-use Rattle.shr_report.specs.ReadLines.{read_attempt, read_map, WalkHead, read_walk}
 
 -- neither a map nor an attempt
 abbrev pub IsPastWalk : ℕ → Type 0

@@ -1,33 +1,10 @@
 -- The first whole report is well formed, and changes of it in one place are not.
-use Rattle.std.specs.Prelude.{◌≡◌, ℕ, ◌<◌, ◌≤◌, ◌^◌, true, false, List, [], ◌∷◌, ◌++◌, length, map, codes, slice_get, Some, refl}
-use Rattle.std.specs.List.{AllAdjacentBelow}
-use Rattle.std.proofs.Common.{zero, suc, arith, ap, inl, inr, ⊎_elim, subst, length-append}
-use Rattle.std.proofs.lemmas.Option.{none-some, same_Some}
-use Rattle.shr_base.specs.declared.ends.MapEnd.{MapEnd}
-use Rattle.shr_base.specs.declared.ends.PlaceAmount.{PlaceAmount}
-use Rattle.shr_base.specs.declared.ends.PlaceEnd.{PlaceEnd}
-use Rattle.shr_base.specs.declared.ends.WorkerPart.{WorkerPart}
-use Rattle.shr_base.specs.declared.journals.Entry.{Entry}
-use Rattle.shr_base.specs.declared.journals.Entry.TheVariants.{Look}
-use Rattle.shr_base.specs.declared.journals.PoolEntry.{PoolEntry}
-use Rattle.shr_base.specs.declared.journals.PoolEntry.TheVariants.{Registered, Unregistered, Idle}
-use Rattle.shr_base.specs.declared.journals.TreeEntry.TheVariants.{Begin, Made}
-use Rattle.shr_base.specs.declared.places.Place.{Place}
-use Rattle.shr_base.specs.declared.places.Serial.{Serial}
+use Rattle.shr_report.proofs.Common.{◌≡◌, ℕ, ◌<◌, ◌≤◌, ◌^◌, true, false, List, [], ◌∷◌, ◌++◌, length, map, codes, slice_get, Some, refl, AllAdjacentBelow, zero, suc, arith, ap, inl, inr, ⊎_elim, subst, length-append, none-some, same_Some, MapEnd, PlaceAmount, PlaceEnd, WorkerPart, Entry, Look, PoolEntry, Registered, Unregistered, Idle, Begin, Made, Place, Serial, Attempt, Carry, Isolation, MapSeen, PlainWalk, Walked, WalkRecord, fresh, Report, AreOfCommands, IsPlaceBefore, IsPlaceUpTo, IsPartWell, map_units, bit_places, IsWellFormed}
 use Rattle.shr_base.specs.declared.replies.Reply.TheVariants as reply
-use Rattle.shr_base.specs.declared.walks.Attempt.{Attempt}
-use Rattle.shr_base.specs.declared.walks.Carry.{Carry}
-use Rattle.shr_base.specs.declared.walks.Isolation.{Isolation}
-use Rattle.shr_base.specs.declared.walks.MapSeen.{MapSeen}
 use Rattle.shr_base.specs.declared.walks.Outcome.TheVariants as outcome
-use Rattle.shr_base.specs.declared.walks.PlainWalk.{PlainWalk}
-use Rattle.shr_base.specs.declared.walks.WalkAnswer.TheVariants.{Walked}
-use Rattle.shr_base.specs.declared.walks.WalkRecord.{WalkRecord}
-use Rattle.shr_model.specs.Objects.{fresh}
 use Rattle.shr_model.specs.Paths.{is_path}
 use Rattle.shr_model.specs.Pieces.{pieces, cut}
-use Rattle.shr_report.specs.declared.report.Report.{Report}
-use Rattle.shr_report.specs.WellFormed.{AreOfCommands, IsPlaceBefore, IsPlaceUpTo, IsUseBefore, IsPartWell, map_units, bit_places, IsWellFormed}
+use Rattle.shr_report.specs.WellFormed.{IsUseBefore}
 use Rattle.shr_report.proofs.QuietParts.{none_of_commands}
 use Rattle.shr_report.proofs.PlaceOrder.{not_before_itself, not_up_to}
 use Rattle.shr_report.proofs.SecondReport as second

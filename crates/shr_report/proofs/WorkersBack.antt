@@ -1,19 +1,10 @@
 -- The workers of a report are parted in one way.
-use Rattle.std.proofs.Common.{◌≡◌, ℕ, suc, ◌+◌, ◌<◌, ◌≤◌, List, [], ◌∷◌, ◌++◌, length, map, Some, ◌⊎◌, inl, inr, refl, sym, ap, subst, ◌∙◌, append_assoc, arith, add-zero}
-use Rattle.std.specs.Prelude.{slice_get, slice_index_or}
-use Rattle.std.specs.List.{AllByRecursion, AllZip, AllAdjacentBelow}
-use Rattle.shr_base.specs.declared.places.Serial.{Serial}
-use Rattle.shr_base.specs.declared.replies.Reply.{Reply}
-use Rattle.shr_base.specs.declared.replies.Answered.{Answered}
-use Rattle.shr_base.specs.declared.walks.WalkRecord.{WalkRecord}
-use Rattle.shr_base.specs.declared.walks.Carry.{Carry}
-use Rattle.shr_base.specs.declared.walks.PlainWalk.{PlainWalk}
-use Rattle.shr_base.specs.declared.walks.Isolation.{Isolation}
-use Rattle.shr_base.specs.declared.ends.WorkerPart.{WorkerPart}
+use Rattle.shr_report.proofs.Common.{◌≡◌, ℕ, suc, ◌+◌, ◌<◌, ◌≤◌, List, [], ◌∷◌, ◌++◌, length, map, Some, ◌⊎◌, inl, inr, refl, sym, ap, subst, ◌∙◌, append_assoc, arith, slice_get, AllByRecursion, AllZip, AllAdjacentBelow, Serial, Reply, Answered, WalkRecord, Carry, PlainWalk, Isolation, WorkerPart, reply_line, logs_of, worker_lines, LendsWord, AreOfCommands, IsPartWell, read_reply_line}
+use Rattle.std.proofs.Common.{add-zero}
+use Rattle.std.specs.Prelude.{slice_index_or}
 use Rattle.shr_report.specs.Lines.{numbered}
-use Rattle.shr_report.specs.AnswerText.{reply_line}
-use Rattle.shr_report.specs.Text.{logs_of, answer_lines, worker_lines}
-use Rattle.shr_report.specs.WellFormed.{LendsWord, AreOfCommands, IsPartWell, IsWalkWell}
+use Rattle.shr_report.specs.Text.{answer_lines}
+use Rattle.shr_report.specs.WellFormed.{IsWalkWell}
 use Rattle.shr_report.specs.Same.{IsSamePart}
 use Rattle.shr_report.proofs.Printed.{one_line}
 use Rattle.shr_report.proofs.LinesBack.{printed_reply}
@@ -21,7 +12,6 @@ use Rattle.shr_report.proofs.Sections.{kind, kind_reply, all_any}
 use Rattle.shr_report.proofs.WalksBack.{HasBitWords}
 use Rattle.shr_report.proofs.PartsBack.{Sorted, all_second, Remain, IsAny, IsAnyPlain, IsAnyIsolation, LogsRemain, IsOutside, IsPast, IsAnsweredWell}
 use Rattle.shr_report.proofs.AnswersBack.{answers_once, answer_first}
-use Rattle.shr_report.specs.ReadLines.{read_reply_line}
 
 -- the parts are well formed, each for the worker of its number
 unfoldable pub AreParts : ℕ → List WorkerPart → Type 0
@@ -55,7 +45,7 @@ unfolding Sorted
 sorted_from c [] h = tt
 sorted_from c (x ∷ xs) h = (omega arith, sorted_tail c x xs h)
 
-all_first : {X : Type 0} (P Q : X → Type 0) (xs : List X) → AllByRecursion (λ x. P x × Q x) xs → AllByRecursion P xs
+pub all_first : {X : Type 0} (P Q : X → Type 0) (xs : List X) → AllByRecursion (λ x. P x × Q x) xs → AllByRecursion P xs
 all_first P Q [] h = tt
 all_first P Q (x ∷ xs) h = (h.0.0, all_first P Q xs h.1)
 
@@ -79,7 +69,7 @@ carries_remain w p h = record {
   each = all_any p.carries.items;
 }
 
-of_commands : {X : Type 0} (serial : X → Serial) (P : X → Type 0) (w n : ℕ) (xs : List X) → AllByRecursion P xs → AreOfCommands X serial w n xs → Remain X serial P w 0 n xs
+pub of_commands : {X : Type 0} (serial : X → Serial) (P : X → Type 0) (w n : ℕ) (xs : List X) → AllByRecursion P xs → AreOfCommands X serial w n xs → Remain X serial P w 0 n xs
 of_commands serial P w n xs each h = record {
   sorted = sorted_from (λ x. (serial x).command) xs h.order;
   workers = all_first (λ x. (serial x).worker ≡ w) (λ x. (serial x).command < n) xs h.by;
@@ -118,7 +108,7 @@ worker_parts : (m : ℕ) (p : WorkerPart) (ps : List WorkerPart) (rest : List �
 unfolding numbered
 worker_parts m p ps rest = append_assoc (worker_lines m p) (numbered worker_lines (m + 1) ps) rest
 
-silent : (m : ℕ) (p : WorkerPart) → p.answers.items ≡ [] → worker_lines m p ≡ []
+pub silent : (m : ℕ) (p : WorkerPart) → p.answers.items ≡ [] → worker_lines m p ≡ []
 unfolding answer_lines
 silent m p e = rw e refl
 
@@ -191,7 +181,7 @@ past_of w bytes (inr s) k r more l e =
     let low : w + 1 ≤ s.worker = s.low in
     absurd (omega arith)
 
-zero_on : (n : ℕ) → 0 + n ≡ n
+pub zero_on : (n : ℕ) → 0 + n ≡ n
 zero_on n = omega arith
 
 -- a text of workers is that of one list of workers only

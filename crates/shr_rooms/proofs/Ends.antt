@@ -1,15 +1,9 @@
 -- What a table of rooms leaves once all other seats were joined into the first.
-use Rattle.std.proofs.Common.{◌≡◌, ℕ, ◌<◌, true, false, cond, List, map, sym, refl, ap, subst, ◌∙◌, arith}
+use Rattle.shr_rooms.proofs.Common.{◌≡◌, ℕ, ◌<◌, true, false, cond, List, map, sym, refl, ap, subst, ◌∙◌, arith, some, get_elem?, State, at_map, Standing, RoomView, no_room, part_at, Law, IsSound, holds_it, times}
 use Rattle.std.specs.Prelude.{sum_by}
-use mathlib.Core.Option.{some}
-use lib.ListN.{get_elem?}
-use Rattle.atomic_table.specs.Table.{State}
-use Rattle.atomic_table.proofs.Lists.{at_map}
-use Rattle.shr_seats.specs.Standing.{Standing, IsWhole}
+use Rattle.shr_seats.specs.Standing.{IsWhole}
 use Rattle.shr_seats.proofs.Seating.{sum_by-sole}
 use Rattle.shr_seats.proofs.Sums.{sum_by-map}
-use Rattle.shr_rooms.specs.Views.{RoomView, no_room, part_at}
-use Rattle.shr_rooms.specs.Rule.{Law, IsSound, holds_it, times}
 use Rattle.shr_rooms.specs.Left.{IsLeft}
 
 module _ {E S V : Type 0} (law : Law E) (entries : S → List E) (parts : V → List (RoomView E)) (standing : V → Standing) (spent : V) (blank : (i : ℕ) → part_at (parts spent) i ≡ no_room)

@@ -1,10 +1,8 @@
 -- The rule of a room at known values: journals of numbers, each the number of entries before it.
-use Rattle.std.specs.Prelude.{◌≡◌, ℕ, ◌<◌, ◌≤◌, List, [], ◌∷◌, length, refl}
-use Rattle.std.proofs.Common.{lit<, lit≤, arith}
-use Rattle.shr_seats.proofs.Weighing.{Each-none, Each-one}
-use Rattle.shr_rooms.specs.Views.{Made, Counted, RoomView, no_room, with_count, with_known, with_entry, joined_room, part_at, with_part_at, joined_parts}
-use Rattle.shr_rooms.specs.Rule.{Law, IsJournal, Fits, IsMade, IsCounted, times, lock_index, count_index}
-use Rattle.shr_rooms.specs.Told.{IsRecent}
+use Rattle.shr_rooms.proofs.Common.{◌≡◌, ℕ, ◌<◌, ◌≤◌, List, [], ◌∷◌, length, refl, arith, Each-none, Each-one, Made, Counted, RoomView, no_room, with_count, joined_room, part_at, Law, Fits, IsMade, IsCounted, times, lock_index, count_index, IsRecent}
+use Rattle.std.proofs.Common.{lit<, lit≤}
+use Rattle.shr_rooms.specs.Views.{with_known, with_entry, with_part_at, joined_parts}
+use Rattle.shr_rooms.specs.Rule.{IsJournal}
 
 -- each entry is the number of those before it, and there are three at most
 abbrev numbers : Law ℕ

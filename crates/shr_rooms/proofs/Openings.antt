@@ -1,27 +1,18 @@
 -- A new table of rooms meets the rule.
-use Rattle.std.proofs.Common.{◌≡◌, ℕ, zero, suc, ◌+◌, ◌*◌, ◌<◌, ◌≤◌, true, ltb, cond, List, [], ◌∷◌, map, length, get_or, replicate, sym, refl, ap, subst, ◌∙◌, arith}
-use Rattle.std.proofs.lemmas.Bool.Decides.{nat_tests}
+use Rattle.shr_rooms.proofs.Common.{◌≡◌, ℕ, zero, suc, ◌+◌, ◌*◌, ◌<◌, ◌≤◌, true, List, [], ◌∷◌, map, length, get_or, sym, refl, ap, subst, ◌∙◌, arith, Option, some, get_elem?, State, at_map, Each, Standing, AreSeats, not_gone, Each-one, RoomView, no_room, part_at, Law, IsRoom, IsSound, IsSeen, lock_index, count_index}
+use Rattle.std.proofs.Common.{replicate}
 use Rattle.std.proofs.lemmas.List.{length-replicate, get_or-replicate}
-use mathlib.Core.Option.{Option, some}
-use lib.ListN.{get_elem?}
-use Rattle.atomic_table.specs.Table.{State, opening}
-use Rattle.atomic_table.proofs.Lists.{at_map}
-use Rattle.shr_seats.specs.Views.{Each}
-use Rattle.shr_seats.specs.Standing.{Standing, at_first, AreSeats}
-use Rattle.shr_seats.proofs.Seating.{AreSeats-first, not_gone}
-use Rattle.shr_seats.proofs.Weighing.{Each-one}
-use Rattle.shr_rooms.specs.Views.{RoomView, no_room, part_at}
-use Rattle.shr_rooms.specs.Rule.{Law, IsRoom, IsSound, IsSeen, lock_index, count_index}
+use Rattle.atomic_table.specs.Table.{opening}
+use Rattle.shr_seats.specs.Standing.{at_first}
+use Rattle.shr_seats.proofs.Seating.{AreSeats-first}
 use Rattle.shr_rooms.proofs.Room.{seen_none}
+use Rattle.shr_model.proofs.Numbers.{none_below}
 
 -- an element below the length is there
 some_at : {A : Type 0} (xs : List A) (i : ℕ) → i < length xs → (x : A) × (get_elem? xs i ≡ some x)
 some_at [] i low = absurd (omega (arith, low))
 some_at (x ∷ xs) zero low = (x, refl)
 some_at (x ∷ xs) (suc i) low = some_at xs i (omega (arith, low))
-
-none_below : (n : ℕ) → ◌≡◌ {A = ℕ} (cond (ltb n 0) 1 0) 0
-none_below n = grind (arith, nat_tests)
 
 module _ {E S V : Type 0} (law : Law E) (entries : S → List E) (parts : V → List (RoomView E)) (standing : V → Standing) (spent : V) (rooms : ℕ) (words : List ℕ) (slots : List S) (first : V)
     (zeros : words ≡ replicate {A = ℕ} (8 * rooms) 0) (many : length slots ≡ rooms) (bare : Each (λ (s : S). entries s ≡ []) slots) (none : law.len [] ≡ 0) (blank : parts first ≡ []) (stands : standing first ≡ at_first) where

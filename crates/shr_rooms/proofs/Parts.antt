@@ -1,7 +1,6 @@
 -- The parts of a view: changing one of them, and joining those of another view.
-use Rattle.std.proofs.Common.{◌≡◌, ◌≢◌, ℕ, zero, suc, List, [], ◌∷◌, map, refl, sym, ap}
-use Rattle.std.proofs.lemmas.List.{append-nil}
-use Rattle.shr_rooms.specs.Views.{RoomView, no_room, joined_room, part_at, with_part_at, joined_parts}
+use Rattle.shr_rooms.proofs.Common.{◌≡◌, ◌≢◌, ℕ, zero, suc, List, [], ◌∷◌, map, refl, sym, ap, append-nil, RoomView, no_room, joined_room, part_at}
+use Rattle.shr_rooms.specs.Views.{with_part_at, joined_parts}
 
 module _ {E : Type 0} where
   -- the part of the changed room, and of another

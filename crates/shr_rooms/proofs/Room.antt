@@ -1,26 +1,17 @@
 -- One room under each step of one seat, on plain data, for any kind of entry.
-use Rattle.std.proofs.Common.{◌≡◌, ℕ, ◌+◌, ◌*◌, ◌≢◌, ◌^◌, Bool, true, false, eqb, ltb, cond, List, [], ◌∷◌, ◌++◌, length, set, sym, refl, ap, subst, ◌∙◌, ⊎_elim, arith, length-append, append_assoc}
+use Rattle.shr_rooms.proofs.Common.{◌≡◌, ℕ, ◌+◌, ◌*◌, ◌≢◌, ◌^◌, true, false, eqb, cond, List, [], ◌∷◌, ◌++◌, length, set, sym, refl, ap, subst, ◌∙◌, arith, length-append, append-nil, Option, some, get_elem?, Each, Begins, Each-set, Each-push, Each-none, Made, Counted, RoomView, no_room, with_hand, with_given, with_stored, with_count, joined_room, Law, Fits, IsMade, IsCounted, times, holds_it, IsSeen, IsRoom}
+use Rattle.std.proofs.Common.{Bool, ltb, ⊎_elim, append_assoc}
 use Rattle.std.proofs.lemmas.Bool.{cases_Bool}
-use Rattle.std.proofs.lemmas.Bool.Decides.{nat_tests}
-use Rattle.std.proofs.lemmas.List.{append-nil}
 use Rattle.std.proofs.lemmas.List.Sums.{sum_by_push, sum_by-append}
-use mathlib.Core.Option.{Option, some}
-use lib.ListN.{get_elem?}
 use Rattle.atomic_table.proofs.Lists.{at_set}
-use Rattle.shr_seats.specs.Views.{Each}
-use Rattle.shr_seats.specs.Weights.{Begins}
-use Rattle.shr_seats.proofs.Sums.{sum_by-changed, sum_by-joined, sum_by-more, term_le, terms_le, Each-set, Each-push, Each-weaker}
-use Rattle.shr_seats.proofs.Weighing.{Each-append, Each-cons, Each-none}
+use Rattle.shr_seats.proofs.Sums.{sum_by-changed, sum_by-joined, sum_by-more, term_le, terms_le, Each-weaker}
+use Rattle.shr_seats.proofs.Weighing.{Each-append, Each-cons}
 use Rattle.shr_model.specs.Follow.{Follow}
-use Rattle.shr_rooms.specs.Views.{Made, Counted, RoomView, no_room, with_hand, with_given, with_stored, with_count, heard_of, joined_room}
-use Rattle.shr_rooms.specs.Rule.{Law, Fits, IsMade, IsCounted, times, holds_it, IsSeen, IsRoom}
+use Rattle.shr_rooms.specs.Views.{heard_of}
+use Rattle.shr_model.proofs.Numbers.{below_more}
 
 true_false : (b : Bool) → b ≡ true → b ≡ false → ⊥
 true_false b t f = let e : true ≡ false = sym t ∙ f in cc
-
--- the number of an entry is the length of the journal before it
-below_more : (n k m : ℕ) → m ≡ k → ◌≡◌ {A = ℕ} (cond (ltb n (k + 1)) 1 0) (cond (ltb n k) 1 0 + cond (eqb m n) 1 0)
-below_more n k m e = grind (arith, nat_tests)
 
 -- what is so of a prefix is so of the one that is heard of it
 each_heard : {E : Type 0} (P : List E → Type 0) (h : List E) → P h → Each P (heard_of h)

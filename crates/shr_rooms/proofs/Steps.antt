@@ -1,20 +1,18 @@
 -- The steps on a table of rooms keep its rule.
-use Rattle.std.proofs.Common.{◌≡◌, ℕ, ◌+◌, ◌*◌, ◌<◌, ◌≢◌, ◌^◌, ◌%◌, ◌/◌, true, false, eqb, cond, List, [], ◌∷◌, ◌++◌, map, length, set, get_or, sym, refl, ap, subst, ◌∙◌, arith, eq-eqb, ne_eqb, length-set, get_or-set_same, get_or-set_other}
+use Rattle.shr_rooms.proofs.Common.{◌≡◌, ℕ, ◌+◌, ◌*◌, ◌<◌, ◌≢◌, ◌^◌, true, false, eqb, cond, List, [], ◌∷◌, ◌++◌, map, length, set, get_or, sym, refl, ap, subst, ◌∙◌, arith, Option, some, get_elem?, State, at_map, Standing, AreSeats, Each-set, Each-push, not_gone, RoomView, with_hand, with_given, with_stored, with_count, joined_room, part_at, Law, Fits, IsRoom, IsSound, lock_index, count_index, IsTold}
+use Rattle.std.proofs.Common.{◌%◌, ◌/◌, eq-eqb, ne_eqb, length-set, get_or-set_same, get_or-set_other}
 use Rattle.std.proofs.lemmas.List.{map-set, set-get_or}
 use mathlib.Core.Logic.{dite}
 use native.Mathlib.Decide.{ℕ_discrete}
-use mathlib.Core.Option.{Option, some, none}
-use lib.ListN.{get_elem?}
+use mathlib.Core.Option.{none}
 use prog.Atomic.{either}
-use Rattle.atomic_table.specs.Table.{State, Me, Act, Valid, keeps, takes, gives, Allows, Splits, Joins, stepped, carried_after}
-use Rattle.atomic_table.proofs.Lists.{at_map, set_again, set_else, set_here, exchanged}
-use Rattle.shr_seats.specs.Standing.{Standing, at_split, at_end, with_split, with_join, AreSeats}
+use Rattle.atomic_table.specs.Table.{Me, Act, Valid, keeps, takes, gives, Allows, Splits, Joins, stepped, carried_after}
+use Rattle.atomic_table.proofs.Lists.{set_again, set_else, set_here, exchanged}
+use Rattle.shr_seats.specs.Standing.{at_split, at_end, with_split, with_join}
 use Rattle.shr_seats.proofs.Changed.{grown, kept, joined_list}
-use Rattle.shr_seats.proofs.Sums.{Each-set, Each-push}
-use Rattle.shr_seats.proofs.Seating.{AreSeats-split, AreSeats-join, not_gone}
-use Rattle.shr_rooms.specs.Views.{RoomView, with_hand, with_given, with_stored, with_count, joined_room, part_at, with_part_at}
-use Rattle.shr_rooms.specs.Rule.{Law, Fits, IsRoom, IsSound, lock_index, count_index}
-use Rattle.shr_rooms.specs.Told.{IsTold, IsCount}
+use Rattle.shr_seats.proofs.Seating.{AreSeats-split, AreSeats-join}
+use Rattle.shr_rooms.specs.Views.{with_part_at}
+use Rattle.shr_rooms.specs.Told.{IsCount}
 use Rattle.shr_rooms.proofs.Parts.{here, there}
 use Rattle.shr_rooms.proofs.Room as room
 

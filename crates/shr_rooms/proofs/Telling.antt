@@ -1,10 +1,6 @@
 -- What follows of a room from what a step told of it.
-use Rattle.std.proofs.Common.{◌<◌, ◌≤◌, List, ◌∷◌, length, ap, arith, length-append}
-use Rattle.shr_seats.specs.Weights.{Begins}
+use Rattle.shr_rooms.proofs.Common.{◌<◌, ◌≤◌, List, ◌∷◌, length, ap, arith, length-append, Begins, Made, Counted, RoomView, Law, IsMade, IsCounted, IsTold, IsRecent}
 use Rattle.shr_seats.proofs.Weighing.{Each-weaker}
-use Rattle.shr_rooms.specs.Views.{Made, Counted, RoomView}
-use Rattle.shr_rooms.specs.Rule.{Law, IsMade, IsCounted}
-use Rattle.shr_rooms.specs.Told.{IsTold, IsRecent}
 
 module _ {E : Type 0} (law : Law E) (journal : List E) where
   begins_short : (h : List E) → Begins h journal → length h ≤ length journal

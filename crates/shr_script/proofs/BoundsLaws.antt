@@ -1,34 +1,22 @@
 -- A valid script is within its bounds.
-use Rattle.std.proofs.Common.{◌≡◌, ℕ, zero, suc, ◌+◌, ◌≤◌, ◌<◌, Bool, true, false, cond, List, [], ◌∷◌, ◌++◌, length, map, inl, inr, ◌⊎◌, Option, Some, None, Ok, refl, sym, ap, subst, ◌∙◌, arith}
-use Rattle.std.specs.Prelude.{flat_map, nat_le, nat_lt, sum_by, IfSome}
-use Rattle.std.specs.List.{AllByRecursion, count_by}
-use Rattle.std.proofs.lemmas.Bool.Decides.{nat_tests}
-use Rattle.std.proofs.lemmas.List.{length_push}
-use Rattle.std.proofs.lemmas.List.Sums.{sum_by-cons}
-use Rattle.shr_model.specs.Paths.{is_path}
+use Rattle.shr_script.proofs.Common.{◌≡◌, ℕ, zero, suc, ◌+◌, ◌≤◌, ◌<◌, Bool, true, false, cond, List, [], ◌∷◌, ◌++◌, length, map, inl, inr, ◌⊎◌, Option, Some, None, Ok, refl, sym, ap, subst, ◌∙◌, arith, flat_map, nat_le, nat_lt, sum_by, IfSome, AllByRecursion, length_push, sum_by-cons, is_path, GroupDecl, CacheDecl, PoolDecl, Command, ◌>>=◌, Word, L, W, IsOf, flag_place, bind_ok, Group, Cache, Pool, Phase, Start, Sizes, Groups, Caches, Pools, Workers, Swept, Done, State, start, after, has, refused_if, most_ids, most_groups, is_served, misplaced, unless, IsLine, Content, group_line, cache_line, pool_line, worker_lines, sweep_lines, end_line, declarations, lines_of, IsValid, IsPoolWithin, IsSweepWithin}
+use Rattle.std.specs.List.{count_by}
 use Rattle.shr_model.specs.Words.{is_name}
 use Rattle.shr_base.specs.declared.scripts.Code.TheVariants as codes_of
-use Rattle.shr_base.specs.declared.scripts.GroupDecl.{GroupDecl}
-use Rattle.shr_base.specs.declared.scripts.CacheDecl.{CacheDecl}
-use Rattle.shr_base.specs.declared.scripts.PoolDecl.{PoolDecl}
 use Rattle.shr_base.specs.declared.scripts.Sweep.{Sweep}
-use Rattle.shr_base.specs.declared.scripts.Command.{Command}
-use Rattle.shr_words.specs.Classes.{◌>>=◌, Word, passes, Limit, L, W, IsOf, flag_place}
-use Rattle.shr_words.proofs.ClassLaws.{bind_ok}
-use Rattle.shr_script.specs.declared.kind.Kind.TheVariants.{Group, Cache, Pool}
+use Rattle.shr_words.specs.Classes.{passes, Limit}
 use Rattle.shr_script.specs.declared.kind.Kind.TheVariants as kinds
-use Rattle.shr_script.specs.declared.kind.Phase.{Phase}
-use Rattle.shr_script.specs.declared.kind.Phase.TheVariants.{Start, Sizes, Groups, Caches, Pools, Workers, Swept, Done}
-use Rattle.shr_script.specs.Lines.{State, start, after, has, refused_if, cache_rule, most_ids, most_groups, is_served, misplaced, unless}
-use Rattle.shr_script.specs.Script.{state_after, IsLine, AreLines}
-use Rattle.shr_script.specs.Content.{Content, group_line, cache_line, pool_line, worker_lines, sweep_lines, end_line, declarations, lines_of, IsValid}
-use Rattle.shr_script.specs.Bounds.{IsPoolWithin, IsSweepWithin, IsWithin}
+use Rattle.shr_script.specs.Lines.{cache_rule}
+use Rattle.shr_script.specs.Script.{state_after, AreLines}
+use Rattle.shr_script.specs.Bounds.{IsWithin}
 use Rattle.shr_script.proofs.LineLaws.{may_stand, is_taken}
 use Rattle.shr_script.proofs.ContentLaws.{is_workers, caches_phase, pools_phase}
 use Rattle.shr_script.proofs.HierarchyLaws.{hierarchy_is}
 use Rattle.shr_script.proofs.GrowthLaws.{group_room, most_within, Few, few_start, count_lines, not_refused}
 use Rattle.shr_script.proofs.SaidLaws.{cut_lines, on_in, cache_items, pool_items, caches_said, workers_said, sized, grouped, cached, declared_state, declared_in_turn, begun, parts_of}
 use Rattle.shr_script.proofs.CommandBounds.{workers_within}
+use Rattle.shr_model.proofs.BagLaws.{each_weaker}
+use Rattle.shr_model.proofs.Booleans.{more_of}
 
 -- ---- what each group and each cache keeps
 
@@ -86,16 +74,13 @@ unfolding AreLines
 none_taken [] st h e = refl
 none_taken (p ∷ ps) st h e = absurd (true_or_false (is_served st.version kinds.Pool) (is_taken st.version st.phase kinds.Pool kinds.Pool h.0.stands) e)
 
-at_most : (a b : ℕ) → nat_lt a b ≡ false → b ≤ a
-at_most a b e = grind (arith, nat_tests)
-
 -- a cache that is declared leaves no more on than there are ids
 room_for : (st : State) (name : Word) (on : ℕ) → cache_rule st name on ≡ Ok tt → st.on + on ≤ st.ids
 unfolding cache_rule
 room_for st name on e =
     let a = bind_ok (refused_if (has st.caches name) codes_of.Exists) (λ _. refused_if (nat_le 250 (length st.caches)) codes_of.TooMany >>= λ _. refused_if (nat_lt st.ids (st.on + on)) codes_of.TooMany) tt e in
     let b = bind_ok (refused_if (nat_le 250 (length st.caches)) codes_of.TooMany) (λ _. refused_if (nat_lt st.ids (st.on + on)) codes_of.TooMany) tt a.2 in
-    at_most st.ids (st.on + on) (not_refused (nat_lt st.ids (st.on + on)) codes_of.TooMany b.2)
+    more_of st.ids (st.on + on) (not_refused (nat_lt st.ids (st.on + on)) codes_of.TooMany b.2)
 
 on_within : (cs : List CacheDecl) (st : State) → AreLines st (map cache_line cs) → st.on ≤ st.ids → st.on + count_by on_in cs ≤ st.ids
 unfolding AreLines
@@ -123,10 +108,6 @@ one_or_two (suc (suc zero)) some low = inr refl
 one_or_two (suc (suc (suc v))) some low = absurd (omega (arith, low))
 
 -- ---- a valid script
-
-each_by : {X : Type 0} (P Q : X → Type 0) → ((x : X) → P x → Q x) → (xs : List X) → AllByRecursion P xs → AllByRecursion Q xs
-each_by P Q so [] h = tt
-each_by P Q so (x ∷ xs) h = (so x h.0, each_by P Q so xs h.1)
 
 record IsCounted (t : Content) : Type 0 where
   caches : length t.caches ≤ 250
@@ -226,12 +207,12 @@ within_of_valid t h =
       on = omega (arith, on);
       workers = n.workers;
       commands = n.commands;
-      paths = each_by IsGroupWithin (λ (x : GroupDecl). is_path x.path ≡ true) (λ x w. w.path) t.groups gs;
-      limits = each_by IsGroupWithin (λ (x : GroupDecl). IfSome x.limit (λ n. n ≤ 1000000)) (λ x w. w.limit) t.groups gs;
-      names = each_by IsCacheWithin (λ (x : CacheDecl). is_name x.name ≡ true) (λ x w. w.name) t.caches cs;
-      seeks = each_by IsCacheWithin (λ (x : CacheDecl). x.seeks ≤ 1000) (λ x w. w.seeks) t.caches cs;
-      batch = each_by IsCacheWithin (λ (x : CacheDecl). x.batch ≤ 20000) (λ x w. w.batch) t.caches cs;
-      floor = each_by IsCacheWithin (λ (x : CacheDecl). x.floor ≤ 20000) (λ x w. w.floor) t.caches cs;
+      paths = each_weaker IsGroupWithin (λ (x : GroupDecl). is_path x.path ≡ true) (λ x w. w.path) t.groups gs;
+      limits = each_weaker IsGroupWithin (λ (x : GroupDecl). IfSome x.limit (λ n. n ≤ 1000000)) (λ x w. w.limit) t.groups gs;
+      names = each_weaker IsCacheWithin (λ (x : CacheDecl). is_name x.name ≡ true) (λ x w. w.name) t.caches cs;
+      seeks = each_weaker IsCacheWithin (λ (x : CacheDecl). x.seeks ≤ 1000) (λ x w. w.seeks) t.caches cs;
+      batch = each_weaker IsCacheWithin (λ (x : CacheDecl). x.batch ≤ 20000) (λ x w. w.batch) t.caches cs;
+      floor = each_weaker IsCacheWithin (λ (x : CacheDecl). x.floor ≤ 20000) (λ x w. w.floor) t.caches cs;
       pools = n.pools;
       each_pool = pools_within t.pools (cached t) p.pools;
       sweep = sweep_within t t.sweep p.sweep;

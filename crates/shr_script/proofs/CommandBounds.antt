@@ -1,22 +1,13 @@
 -- What the commands of a valid script name is there.
-use Rattle.std.proofs.Common.{◌≡◌, ℕ, ◌+◌, ◌≤◌, ◌<◌, Bool, true, false, List, [], ◌∷◌, length, map, get_or, refl, sym, subst, ◌∙◌, arith}
-use Rattle.std.specs.Prelude.{flat_map, ◌&&◌, ◌==◌}
-use Rattle.std.specs.List.{AllByRecursion}
+use Rattle.shr_script.proofs.Common.{◌≡◌, ℕ, ◌+◌, ◌≤◌, ◌<◌, Bool, true, false, List, [], ◌∷◌, length, map, get_or, sym, subst, ◌∙◌, arith, flat_map, ◌&&◌, ◌==◌, AllByRecursion, is_later, Code, Command, Word, NameTest, Plain, Number, N, W, IsOf, place_takes, Worker, Isolate, Release, Grab, State, after, group_class, later_class, node_class, pool_class, state_after, IsLine, Content, command_line, worker_lines, IsIsolationWithin, IsPoolCommandWithin, IsCommandWithin, later_of, and_true}
 use Rattle.std.proofs.lemmas.Bool.{eqb-true}
-use Rattle.shr_model.specs.Groups.{is_later}
-use Rattle.shr_base.specs.declared.scripts.Code.{Code}
 use Rattle.shr_base.specs.declared.scripts.Code.TheVariants as codes_of
-use Rattle.shr_base.specs.declared.scripts.Command.{Command}
 use Rattle.shr_base.specs.declared.scripts.Command.TheVariants as commands
-use Rattle.shr_words.specs.Classes.{Word, Test, PathTest, NameTest, KeyTest, passes, Plain, Listed, Number, N, W, IsOf}
-use Rattle.shr_words.proofs.ClassLaws.{place_takes}
-use Rattle.shr_script.specs.declared.kind.Kind.TheVariants.{Worker}
+use Rattle.shr_words.specs.Classes.{Test, PathTest, KeyTest, passes, Listed}
 use Rattle.shr_script.specs.declared.kind.Kind.TheVariants as kinds
-use Rattle.shr_script.specs.declared.kind.Verb.TheVariants.{Isolate, Release, Grab}
-use Rattle.shr_script.specs.Lines.{State, after, group_class, later_class, node_class, cache_class, pool_class, serves_pools, serves_isolation}
-use Rattle.shr_script.specs.Script.{state_after, IsLine, AreLines}
-use Rattle.shr_script.specs.Content.{Content, command_line, worker_lines}
-use Rattle.shr_script.specs.Bounds.{IsGroup, IsCache, IsPool, IsObjectWithin, IsWalkWithin, IsIsolationWithin, IsPoolCommandWithin, IfServed, IsCommandWithin, later_of}
+use Rattle.shr_script.specs.Lines.{cache_class, serves_pools, serves_isolation}
+use Rattle.shr_script.specs.Script.{AreLines}
+use Rattle.shr_script.specs.Bounds.{IsGroup, IsCache, IsPool, IsObjectWithin, IsWalkWithin, IfServed}
 use Rattle.shr_script.proofs.LineLaws.{is_taken}
 use Rattle.shr_script.proofs.SaidLaws.{cut_lines, Declared, command_said, commands_said}
 
@@ -62,11 +53,6 @@ object_within t st group node decl key d g n c k =
 walk_within : (t : Content) (st : State) (node priority : ℕ) → Declared t st → IsOf (node_class st) (N node) → IsOf (Number 0 13) (N priority) → IsWalkWithin t node priority
 walk_within t st node priority d n p = let below = p.1 in record { on_node = node_within t st node d n; urgent = omega (arith, below) }
 
-both_so : (a b : Bool) → (a && b) ≡ true → (a ≡ true) × (b ≡ true)
-both_so true true e = (refl, refl)
-both_so true false e = absurd cc
-both_so false b e = absurd cc
-
 if_served : (served : Bool) (P : Type 0) → served ≡ true → P → IfServed served P
 if_served true P e p = p
 if_served false P e p = absurd cc
@@ -74,7 +60,7 @@ if_served false P e p = absurd cc
 -- a part whose lines are taken is served, and the version is 2
 taken_part : (t : Content) (st : State) (served : Bool) → Declared t st → (served && st.version == 2) ≡ true → (served ≡ true) × (t.version ≡ 2)
 taken_part t st served d e =
-    let both = both_so served (st.version == 2) e in
+    let both = and_true served (st.version == 2) e in
     let two : st.version ≡ 2 = eqb-true st.version 2 both.1 in
     (both.0, sym d.version ∙ two)
 

@@ -1,14 +1,7 @@
 -- A line in one form for all kinds: its words, its rule, and what it says and adds.
-use Rattle.std.proofs.Common.{◌≡◌, List, refl}
-use Rattle.std.specs.Prelude.{nat_le, Result, Ok, Err}
-use Rattle.shr_base.specs.declared.scripts.Code.{Code}
+use Rattle.shr_script.proofs.Common.{◌≡◌, List, refl, nat_le, Result, Ok, Err, Code, ◌>>=◌, Word, Item, items_of, Kind, Header, Size, Group, Cache, Pool, Worker, Work, Sweep, End, Verb, State, classes, verb_classes, own, after, refused_if, Drafted, command_by, added}
 use Rattle.shr_base.specs.declared.scripts.Code.TheVariants as codes_of
-use Rattle.shr_words.specs.Classes.{◌>>=◌, Word, Item, items_of}
-use Rattle.shr_script.specs.declared.kind.Kind.{Kind}
-use Rattle.shr_script.specs.declared.kind.Kind.TheVariants.{Header, Size, Group, Cache, Pool, Worker, Work, Sweep, End}
-use Rattle.shr_script.specs.declared.kind.Verb.{Verb}
-use Rattle.shr_script.specs.Lines.{State, classes, verb_classes, own, after, refused_if}
-use Rattle.shr_script.specs.Drafted.{Drafted, one_more, command_by, command_said, command_step, added, kind_step}
+use Rattle.shr_script.specs.Drafted.{one_more, command_said, command_step, kind_step}
 
 -- a command's, by what its words were read as
 by_items : (st : State) (d : Drafted) (verb : Verb) (r : Result (List Item) Code)

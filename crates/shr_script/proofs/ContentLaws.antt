@@ -1,24 +1,11 @@
 -- The lines of a valid script make that script.
-use Rattle.std.proofs.Common.{◌≡◌, ℕ, Bool, true, false, List, [], ◌∷◌, ◌++◌, map, Option, Some, None, refl, sym, ap, ◌∙◌, append_assoc}
-use Rattle.std.specs.Prelude.{flat_map, ◌==◌}
-use Rattle.std.proofs.lemmas.List.{append-nil}
-use Rattle.shr_model.specs.Paths.{parent_path}
+use Rattle.shr_script.proofs.Common.{◌≡◌, ℕ, Bool, true, false, List, [], ◌∷◌, ◌++◌, map, Option, Some, None, refl, sym, ap, ◌∙◌, append_assoc, flat_map, ◌==◌, append-nil, parent_path, GroupDecl, CacheDecl, PoolDecl, Command, Item, N, L, W, policy_place, policy_at, flag_place, place_of, Header, Size, Group, Cache, Pool, Worker, Phase, Start, Sizes, Groups, Caches, Pools, Workers, Swept, Done, State, start, Line, after, Content, group_line, cache_line, pool_line, command_line, worker_lines, sweep_lines, end_line, lines_of, or_root, AreBelow, IsValid, spell, Drafted, empty, content_by, cache_decl, pool_decl, with_command, added}
 use Rattle.shr_base.specs.declared.objects.Policy.{Policy}
-use Rattle.shr_base.specs.declared.scripts.GroupDecl.{GroupDecl}
-use Rattle.shr_base.specs.declared.scripts.CacheDecl.{CacheDecl}
-use Rattle.shr_base.specs.declared.scripts.PoolDecl.{PoolDecl}
 use Rattle.shr_base.specs.declared.scripts.Sweep.{Sweep}
-use Rattle.shr_base.specs.declared.scripts.Command.{Command}
 use Rattle.shr_base.specs.declared.scripts.Command.TheVariants as commands
-use Rattle.shr_words.specs.Classes.{Item, N, L, W, policy_place, policy_at, flag_place, place_of}
 use Rattle.shr_words.proofs.ClassLaws.{flag_again, policy_again}
-use Rattle.shr_script.specs.declared.kind.Kind.TheVariants.{Header, Size, Group, Cache, Pool, Worker}
-use Rattle.shr_script.specs.declared.kind.Phase.{Phase}
-use Rattle.shr_script.specs.declared.kind.Phase.TheVariants.{Start, Sizes, Groups, Caches, Pools, Workers, Swept, Done}
-use Rattle.shr_script.specs.Lines.{State, start, Line, after}
 use Rattle.shr_script.specs.Script.{state_after}
-use Rattle.shr_script.specs.Content.{Content, group_line, cache_line, pool_line, command_line, worker_lines, sweep_lines, end_line, lines_of, or_root, AreBelow, IsValid, spell}
-use Rattle.shr_script.specs.Drafted.{Drafted, empty, content_by, cache_decl, pool_decl, completed, with_command, added, made_by}
+use Rattle.shr_script.specs.Drafted.{completed, made_by}
 use Rattle.shr_script.proofs.MadeLaws.{content_made}
 use Rattle.shr_script.proofs.ScriptLaws.{once_lines}
 

@@ -1,17 +1,10 @@
 -- Nothing is against a group of a valid script where it was declared.
-use Rattle.std.proofs.Common.{◌≡◌, ℕ, zero, suc, ◌<◌, Bool, true, false, List, [], ◌∷◌, ◌++◌, length, map, take, get_or, Ok, sym, subst, append_assoc, arith}
-use Rattle.std.specs.Prelude.{bytes_eq, flat_map, not, nat_le, ◌&&◌}
-use Rattle.std.proofs.lemmas.Bool.Decides.{nat_tests}
-use Rattle.std.proofs.lemmas.List.{append-nil}
-use Rattle.shr_model.specs.Paths.{root_path, is_path, parent_path}
-use Rattle.shr_base.specs.declared.scripts.GroupDecl.{GroupDecl}
+use Rattle.shr_script.proofs.Common.{◌≡◌, ℕ, zero, suc, ◌<◌, Bool, true, false, List, [], ◌∷◌, ◌++◌, length, map, get_or, Ok, sym, subst, append_assoc, arith, bytes_eq, flat_map, not, nat_le, ◌&&◌, nat_tests, append-nil, root_path, is_path, parent_path, GroupDecl, ◌>>=◌, Word, N, L, W, place_of, bind_ok, Header, Size, Group, State, start, Line, after, has, may_hold, refused_if, most_groups, Content, group_line, cache_line, pool_line, worker_lines, sweep_lines, end_line, lines_of, IsValid}
+use Rattle.std.proofs.Common.{take}
 use Rattle.shr_base.specs.declared.scripts.Code.TheVariants as codes_of
-use Rattle.shr_words.specs.Classes.{◌>>=◌, Word, passes, N, L, W, place_of}
-use Rattle.shr_words.proofs.ClassLaws.{bind_ok}
-use Rattle.shr_script.specs.declared.kind.Kind.TheVariants.{Header, Size, Group}
-use Rattle.shr_script.specs.Lines.{State, start, Line, after, has, may_hold, refused_if, most_groups, group_rule}
+use Rattle.shr_words.specs.Classes.{passes}
+use Rattle.shr_script.specs.Lines.{group_rule}
 use Rattle.shr_script.specs.Script.{AreLines}
-use Rattle.shr_script.specs.Content.{Content, group_line, cache_line, pool_line, worker_lines, sweep_lines, end_line, lines_of, IsValid}
 use Rattle.shr_script.proofs.GrowthLaws.{not_refused, group_room, most_within}
 
 -- behind these groups, of which those marked are later, a path may be declared as one that is later or

@@ -1,23 +1,13 @@
 -- A script has few lines, since each counts towards a limit.
-use Rattle.std.proofs.Common.{◌≡◌, ℕ, ◌+◌, ◌≤◌, ◌<◌, ◌^◌, Bool, true, false, cond, List, [], ◌∷◌, ◌++◌, length, Option, Some, None, Result, Ok, refl, sym, ap, subst, ◌∙◌, arith}
-use Rattle.std.specs.Prelude.{nat_le, nat_lt, not, bytes_eq, ◌&&◌, ◌==◌}
-use Rattle.std.proofs.lemmas.Bool.Decides.{nat_tests}
-use Rattle.std.proofs.lemmas.List.{length_push}
-use Rattle.shr_model.specs.Paths.{root_path, parent_path}
-use Rattle.shr_base.specs.declared.scripts.Code.{Code}
+use Rattle.shr_script.proofs.Common.{◌≡◌, ℕ, ◌+◌, ◌≤◌, ◌<◌, Bool, true, false, cond, List, [], ◌∷◌, ◌++◌, length, Option, Some, None, Result, Ok, refl, sym, ap, subst, ◌∙◌, arith, nat_le, nat_lt, not, bytes_eq, ◌&&◌, ◌==◌, length_push, root_path, parent_path, Code, ◌>>=◌, Word, Item, word_in, number_in, first, seventh, place_of, bind_ok, Kind, Header, Size, Group, Cache, Pool, Worker, Work, Sweep, End, Phase, Start, Sizes, Groups, Caches, Pools, Workers, Swept, Done, State, start, Line, misplaced, unless, own, after, has, may_hold, refused_if, most_groups, IsLine, IsScript, is_done, Drafted, added, part_step}
+use Rattle.std.proofs.Common.{◌^◌}
 use Rattle.shr_base.specs.declared.scripts.Code.TheVariants as codes_of
-use Rattle.shr_words.specs.Classes.{◌>>=◌, Word, Item, word_in, number_in, first, seventh, place_of}
-use Rattle.shr_words.proofs.ClassLaws.{bind_ok}
-use Rattle.shr_script.specs.declared.kind.Kind.{Kind}
-use Rattle.shr_script.specs.declared.kind.Kind.TheVariants.{Header, Size, Group, Cache, Pool, Worker, Work, Sweep, End}
-use Rattle.shr_script.specs.declared.kind.Phase.{Phase}
-use Rattle.shr_script.specs.declared.kind.Phase.TheVariants.{Start, Sizes, Groups, Caches, Pools, Workers, Swept, Done}
-use Rattle.shr_script.specs.Lines.{State, start, Line, misplaced, unless, own, after, has, may_hold, refused_if, most_groups, group_rule, cache_rule, pool_rule}
-use Rattle.shr_script.specs.Script.{state_after, IsLine, AreLines, IsScript, verdict, is_done}
-use Rattle.shr_script.specs.Drafted.{Drafted, added, part_step}
+use Rattle.shr_script.specs.Lines.{group_rule, cache_rule, pool_rule}
+use Rattle.shr_script.specs.Script.{state_after, AreLines, verdict}
 use Rattle.shr_script.proofs.LineLaws.{may_stand}
 use Rattle.shr_script.proofs.ScriptLaws.{not_last, next_at}
 use Rattle.shr_script.proofs.RunLaws.{part_is, told}
+use Rattle.shr_model.proofs.Booleans.{above_of}
 
 -- what was said is within the limits
 pub record Few (st : State) : Type 0 where
@@ -51,9 +41,6 @@ pub not_refused : (b : Bool) (c : Code) → refused_if b c ≡ Ok tt → b ≡ f
 not_refused true c e = absurd cc
 not_refused false c e = refl
 
-below : (a b : ℕ) → nat_le a b ≡ false → b < a
-below a b e = grind (arith, nat_tests)
-
 within : (two : Bool) → (64 ≤ cond two 256 64) × (cond two 256 64 ≤ 256)
 within true = (omega arith, omega arith)
 within false = (omega arith, omega arith)
@@ -67,20 +54,20 @@ unfolding group_rule
 group_room st late path e =
     let a = bind_ok (refused_if (not (bytes_eq path root_path) && not (may_hold st.later late (place_of (parent_path path) st.groups))) codes_of.NoParent) (λ _. refused_if (has st.groups path) codes_of.Exists >>= λ _. refused_if (nat_le (most_groups st.version) (length st.groups)) codes_of.TooMany) tt e in
     let b = bind_ok (refused_if (has st.groups path) codes_of.Exists) (λ _. refused_if (nat_le (most_groups st.version) (length st.groups)) codes_of.TooMany) tt a.2 in
-    below (most_groups st.version) (length st.groups) (not_refused (nat_le (most_groups st.version) (length st.groups)) codes_of.TooMany b.2)
+    above_of (most_groups st.version) (length st.groups) (not_refused (nat_le (most_groups st.version) (length st.groups)) codes_of.TooMany b.2)
 
 cache_room : (st : State) (name : Word) (on : ℕ) → cache_rule st name on ≡ Ok tt → length st.caches < 250
 unfolding cache_rule
 cache_room st name on e =
     let a = bind_ok (refused_if (has st.caches name) codes_of.Exists) (λ _. refused_if (nat_le 250 (length st.caches)) codes_of.TooMany >>= λ _. refused_if (nat_lt st.ids (st.on + on)) codes_of.TooMany) tt e in
     let b = bind_ok (refused_if (nat_le 250 (length st.caches)) codes_of.TooMany) (λ _. refused_if (nat_lt st.ids (st.on + on)) codes_of.TooMany) tt a.2 in
-    below 250 (length st.caches) (not_refused (nat_le 250 (length st.caches)) codes_of.TooMany b.1)
+    above_of 250 (length st.caches) (not_refused (nat_le 250 (length st.caches)) codes_of.TooMany b.1)
 
 pool_room : (st : State) (name : Word) → pool_rule st name ≡ Ok tt → length st.pools < 64
 unfolding pool_rule
 pool_room st name e =
     let a = bind_ok (refused_if (has st.pools name) codes_of.Exists) (λ _. refused_if (nat_le 64 (length st.pools)) codes_of.TooMany) tt e in
-    below 64 (length st.pools) (not_refused (nat_le 64 (length st.pools)) codes_of.TooMany a.2)
+    above_of 64 (length st.pools) (not_refused (nat_le 64 (length st.pools)) codes_of.TooMany a.2)
 
 -- the same in this phase
 abbrev at : Phase → State → State
@@ -88,12 +75,12 @@ at p st = record st { phase = p }
 
 one_command : (p : Phase) (st : State) → refused_if (nat_le 20000 st.commands) codes_of.TooMany ≡ Ok tt → Few (at p st) → Grown (at p st) (record (at p st) { commands = st.commands + 1 })
 one_command p st e f =
-    let lt = below 20000 st.commands (not_refused (nat_le 20000 st.commands) codes_of.TooMany e) in
+    let lt = above_of 20000 st.commands (not_refused (nat_le 20000 st.commands) codes_of.TooMany e) in
     record { few = record { groups = f.groups; caches = f.caches; pools = f.pools; workers = f.workers; commands = omega (arith, lt) }; more = omega arith }
 
 one_worker : (p : Phase) (st : State) → phase_lines p ≡ 2 → refused_if (nat_le 64 st.workers) codes_of.TooMany ≡ Ok tt → Few (at p st) → Grown (at p st) (record (at Workers st) { workers = st.workers + 1 })
 one_worker p st two e f =
-    let lt = below 64 st.workers (not_refused (nat_le 64 st.workers) codes_of.TooMany e) in
+    let lt = above_of 64 st.workers (not_refused (nat_le 64 st.workers) codes_of.TooMany e) in
     record { few = record { groups = f.groups; caches = f.caches; pools = f.pools; workers = omega (arith, lt); commands = f.commands }; more = omega (arith, two) }
 
 one_cache : (p : Phase) (st : State) (name : Word) (o : ℕ) → phase_lines p ≡ 2 → cache_rule (at p st) name o ≡ Ok tt → Few (at p st) → Grown (at p st) (record (at Caches st) { caches = st.caches ++ name ∷ []; on = st.on + o })

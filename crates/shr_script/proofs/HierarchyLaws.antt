@@ -1,30 +1,19 @@
 -- The groups of a valid script are a tree, and the parent of one that isn't later isn't later.
-use Rattle.std.proofs.Common.{◌≡◌, ℕ, zero, suc, ◌<◌, Bool, true, false, List, [], ◌∷◌, ◌++◌, length, map, Option, Some, None, refl, sym, ap, subst, ◌∙◌, append_assoc, arith}
-use Rattle.std.specs.Prelude.{bytes_eq, not, ◌&&◌, ◌||◌}
-use Rattle.std.proofs.lemmas.List.{append-nil, length_push}
-use Rattle.std.proofs.lemmas.Slice.Eq.{bytes_eq-Decides}
-use Rattle.shr_model.specs.Paths.{root_path, parent_path}
-use Rattle.shr_model.specs.Groups.{Hierarchy, IsHierarchy, is_later}
+use Rattle.shr_script.proofs.Common.{◌≡◌, ℕ, zero, suc, ◌<◌, Bool, true, false, List, [], ◌∷◌, ◌++◌, length, map, Option, Some, None, refl, sym, ap, subst, ◌∙◌, append_assoc, arith, bytes_eq, not, ◌&&◌, append-nil, length_push, bytes_eq-Decides, root_path, parent_path, is_later, GroupDecl, Word, N, L, W, place_takes, Header, Size, Group, State, start, after, has, may_hold, Content, group_line, or_root, AreBelow}
+use Rattle.std.specs.Prelude.{◌||◌}
+use Rattle.shr_model.specs.Groups.{Hierarchy, IsHierarchy}
 use Rattle.shr_model.proofs.GroupsLaws.{IsHierarchy-push}
-use Rattle.shr_base.specs.declared.scripts.GroupDecl.{GroupDecl}
-use Rattle.shr_words.specs.Classes.{Word, N, L, W, place_of, passes}
-use Rattle.shr_words.proofs.ClassLaws.{place_takes}
-use Rattle.shr_script.specs.declared.kind.Kind.TheVariants.{Header, Size, Group}
-use Rattle.shr_script.specs.Lines.{State, start, after, has, may_hold}
+use Rattle.shr_words.specs.Classes.{place_of, passes}
 use Rattle.shr_script.specs.Script.{AreLines}
-use Rattle.shr_script.specs.Content.{Content, group_line, or_root, AreBelow}
 use Rattle.shr_script.specs.Bounds.{hierarchy_of}
 use Rattle.shr_script.proofs.GroupLaws.{MayBeAdded, may_by_rule}
+use Rattle.shr_model.proofs.Booleans.{or_true}
 
 abbrev parent_in : GroupDecl → ℕ
 parent_in g = g.parent
 
 abbrev late_in : GroupDecl → Bool
 late_in g = g.later
-
-or_true : (a b : Bool) → b ≡ false → (a || not b) ≡ true
-or_true true b e = refl
-or_true false b e = ap {B = Bool} (λ x. not x) e
 
 -- a group that may hold another is one that its lateness allows
 held : (a : Bool) (b : Bool) → a ≡ false → (not a && not b) ≡ false → b ≡ true

@@ -1,11 +1,7 @@
 -- What the commands of a small script may name.
-use Rattle.std.proofs.Common.{◌≡◌, List, [], ◌∷◌, None, refl, arith}
-use Rattle.std.specs.Prelude.{true, false, codes}
+use Rattle.shr_script.proofs.Common.{◌≡◌, List, [], ◌∷◌, None, refl, arith, true, false, codes, Command, Content, IsCommandWithin, IsIsolationWithin, IsPoolCommandWithin, IsPoolWithin, IsSweepWithin}
 use Rattle.shr_base.specs.declared.objects.Policy.TheVariants.{Plain as PlainPolicy}
-use Rattle.shr_base.specs.declared.scripts.Command.{Command}
 use Rattle.shr_base.specs.declared.scripts.Command.TheVariants as commands
-use Rattle.shr_script.specs.Content.{Content}
-use Rattle.shr_script.specs.Bounds.{IsCommandWithin, IsIsolationWithin, IsPoolCommandWithin, IsPoolWithin, IsSweepWithin}
 
 abbrev with : List Command → Content
 with cs = record {

@@ -1,18 +1,13 @@
 -- The lines of pools, isolations and a sweep: their spelling, where they stand, and their faults.
-use Rattle.std.specs.Prelude.{◌≡◌, ℕ, zero, suc, true, false, List, [], ◌∷◌, codes, None, Some, Ok, Err, refl}
+use Rattle.shr_script.proofs.Common.{◌≡◌, ℕ, zero, suc, true, false, List, [], ◌∷◌, codes, None, Some, Ok, Err, refl, root_path, Word, N, Number, Chosen, PoolKinds, item_of, Group, Cache, Pool, Worker, Work, Sweep, End, Put, Grab, Groups, Caches, Pools, Workers, Swept, State, start, misplaced, pool_class, Content, spell}
 use Rattle.std.specs.Fmt.{digits}
 use Rattle.shr_model.specs.Pieces.{joined}
-use Rattle.shr_model.specs.Paths.{root_path}
 use Rattle.shr_base.specs.declared.objects.Policy.TheVariants.{Plain as PlainPolicy}
 use Rattle.shr_base.specs.declared.scripts.Command.TheVariants as commands
 use Rattle.shr_base.specs.declared.scripts.Code.TheVariants.{UnknownWord, UnknownCache, BadNumber, Exists, TooMany, NoWorker}
-use Rattle.shr_words.specs.Classes.{Word, N, Number, Chosen, PoolKinds, item_of, number_of, is_numeral, chosen_of, listed_of, passes, place_of}
-use Rattle.shr_script.specs.declared.kind.Kind.TheVariants.{Group, Cache, Pool, Worker, Work, Sweep, End}
-use Rattle.shr_script.specs.declared.kind.Verb.TheVariants.{Put, Grab}
-use Rattle.shr_script.specs.declared.kind.Phase.TheVariants.{Groups, Caches, Pools, Workers, Swept}
-use Rattle.shr_script.specs.Lines.{State, start, kind_at, kind_of, verb_of, misplaced, pool_class, pool_rule}
+use Rattle.shr_words.specs.Classes.{number_of, is_numeral, chosen_of, listed_of, passes, place_of}
+use Rattle.shr_script.specs.Lines.{kind_at, kind_of, verb_of, pool_rule}
 use Rattle.shr_script.specs.Script.{spell_lines}
-use Rattle.shr_script.specs.Content.{Content, spell}
 
 -- ---- the spelling
 

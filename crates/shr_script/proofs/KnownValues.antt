@@ -1,16 +1,14 @@
 -- The spelling of a small script.
-use Rattle.std.specs.Prelude.{◌≡◌, true, false, [], ◌∷◌, codes, None, Some, Ok, Err, refl}
+use Rattle.shr_script.proofs.Common.{◌≡◌, true, false, [], ◌∷◌, codes, None, Some, Ok, Err, refl, root_path, N, item_of, Groups, State, start, later_class, most_ids, most_groups, Content, spell}
 use Rattle.std.specs.Fmt.{digits}
 use Rattle.shr_model.specs.Pieces.{cut, pieces, joined}
-use Rattle.shr_model.specs.Paths.{root_path, is_path, parent_path}
+use Rattle.shr_model.specs.Paths.{is_path, parent_path}
 use Rattle.shr_base.specs.declared.scripts.Code.TheVariants.{NoParent, UnknownGroup}
-use Rattle.shr_words.specs.Classes.{N, item_of, listed_of, passes, place_of}
-use Rattle.shr_script.specs.declared.kind.Phase.TheVariants.{Groups}
-use Rattle.shr_script.specs.Lines.{State, start, group_rule, later_class, most_ids, most_groups}
+use Rattle.shr_words.specs.Classes.{listed_of, passes, place_of}
+use Rattle.shr_script.specs.Lines.{group_rule}
 use Rattle.shr_base.specs.declared.objects.Policy.TheVariants.{Plain as PlainPolicy}
 use Rattle.shr_base.specs.declared.scripts.Command.TheVariants as commands
 use Rattle.shr_script.specs.Script.{spell_lines}
-use Rattle.shr_script.specs.Content.{Content, spell}
 
 abbrev small : Content
 small = record {

@@ -1,3 +1,4 @@
+mod Common
 pub mod LineFeeds
 pub mod PutLaws
 pub mod LineLaws

@@ -1,17 +1,8 @@
 -- A line that was read is spelled so, and a line that is spelled is read as itself.
-use Rattle.std.proofs.Common.{◌≡◌, ℕ, Bool, true, false, cond, List, [], ◌∷◌, Option, Some, None, Ok, Err, refl, ap, subst, ◌∙◌}
-use Rattle.std.specs.Prelude.{bytes_eq, option_map}
-use Rattle.std.proofs.lemmas.Slice.Eq.{bytes_eq-Decides}
-use Rattle.shr_base.specs.declared.scripts.Code.{Code}
-use Rattle.shr_words.specs.Classes.{◌>>=◌, Word, taken, items_of, words_of}
-use Rattle.shr_words.proofs.ClassLaws.{bind_ok, ok_is, items_take, items_again, IsClean}
-use Rattle.shr_script.specs.declared.kind.Kind.{Kind}
-use Rattle.shr_script.specs.declared.kind.Kind.TheVariants.{Header, Size, Group, Cache, Pool, Worker, Work, Sweep, End}
-use Rattle.shr_script.specs.declared.kind.Verb.{Verb}
-use Rattle.shr_script.specs.declared.kind.Verb.TheVariants.{Put, Get, Del, Pin, Unpin, Shrink, Balance, Offline, MkGroup, Register, Unregister, Isolate, Release, Grab}
-use Rattle.shr_script.specs.declared.kind.Phase.{Phase}
-use Rattle.shr_script.specs.Lines.{State, Line, verb_word, first_word, kind_of, verb_of, misplaced, unknown, unless, is_served, allowed, kind_at, classes, own, plain_line}
-use Rattle.shr_script.specs.Script.{IsLine}
+use Rattle.shr_script.proofs.Common.{◌≡◌, ℕ, Bool, true, false, cond, List, [], ◌∷◌, Option, Some, None, Ok, Err, refl, ap, subst, ◌∙◌, bytes_eq, option_map, bytes_eq-Decides, Code, ◌>>=◌, Word, items_of, words_of, bind_ok, ok_is, Kind, Header, Size, Group, Cache, Pool, Worker, Work, Sweep, End, Verb, Put, Get, Del, Pin, Unpin, Shrink, Balance, Offline, MkGroup, Register, Unregister, Isolate, Release, Grab, Phase, State, Line, first_word, misplaced, unless, is_served, allowed, classes, own, IsLine}
+use Rattle.shr_words.specs.Classes.{taken}
+use Rattle.shr_words.proofs.ClassLaws.{items_take, items_again, IsClean}
+use Rattle.shr_script.specs.Lines.{verb_word, kind_of, verb_of, unknown, kind_at, plain_line}
 
 -- ---- first words
 

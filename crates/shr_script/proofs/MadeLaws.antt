@@ -1,27 +1,14 @@
 -- The lines of what lines make are these lines, and what a script's lines make is the script.
-use Rattle.std.proofs.Common.{◌≡◌, ℕ, ◌+◌, Bool, true, List, [], ◌∷◌, ◌++◌, map, Option, None, Ok, refl, sym, ap, subst, ◌∙◌, append_assoc}
-use Rattle.std.specs.Prelude.{flat_map, ◌==◌}
-use Rattle.std.proofs.lemmas.List.{append-nil, map_push}
+use Rattle.shr_script.proofs.Common.{◌≡◌, ℕ, ◌+◌, Bool, true, List, [], ◌∷◌, ◌++◌, map, Option, None, Ok, refl, sym, ap, subst, ◌∙◌, append_assoc, flat_map, ◌==◌, append-nil, root_path, parent_path, GroupDecl, CacheDecl, PoolDecl, Command, Word, Number, Plain, Chosen, NameTest, PoolKinds, Item, N, W, IsOf, number_in, word_in, first, seventh, policy_place, policy_at, flag_place, place_of, Kind, Header, Size, Group, Cache, Pool, Worker, Work, Sweep, End, Verb, Put, Get, Del, Pin, Unpin, Shrink, Balance, Offline, MkGroup, Register, Unregister, Isolate, Release, Grab, Phase, Start, Sizes, Groups, Caches, Pools, Workers, Swept, Done, State, start, Line, misplaced, unless, classes, verb_classes, group_class, node_class, after, IsLine, is_done, IsScript, Content, group_line, cache_line, pool_line, command_line, worker_lines, sweep_lines, end_line, declarations, lines_of, or_root, AreBelow, Drafted, empty, content_by, cache_decl, pool_decl, with_command, command_by, added}
+use Rattle.std.proofs.lemmas.List.{map_push}
 use Rattle.std.proofs.lemmas.List.Concat.{flat_map-append}
-use Rattle.shr_model.specs.Paths.{root_path, parent_path}
-use Rattle.shr_base.specs.declared.scripts.GroupDecl.{GroupDecl}
-use Rattle.shr_base.specs.declared.scripts.CacheDecl.{CacheDecl}
-use Rattle.shr_base.specs.declared.scripts.PoolDecl.{PoolDecl}
 use Rattle.shr_base.specs.declared.scripts.Sweep.{Sweep as SweepSaid}
-use Rattle.shr_base.specs.declared.scripts.Command.{Command}
-use Rattle.shr_words.specs.Classes.{Word, Class, Number, Plain, Chosen, NameTest, Policies, Kinds, Starts, Walks, PoolKinds, Item, N, W, IsOf, AreOf, number_in, word_in, first, second, third, fourth, fifth, sixth, seventh, behind_first, policy_place, policy_at, flag_place, place_of}
+use Rattle.shr_words.specs.Classes.{Class, Policies, Kinds, Starts, Walks, AreOf, second, third, fourth, fifth, sixth, behind_first}
 use Rattle.shr_words.proofs.ClassLaws.{shape_is, chosen_below, flag_is, policy_is}
-use Rattle.shr_script.specs.declared.kind.Kind.{Kind}
-use Rattle.shr_script.specs.declared.kind.Kind.TheVariants.{Header, Size, Group, Cache, Pool, Worker, Work, Sweep, End}
-use Rattle.shr_script.specs.declared.kind.Verb.{Verb}
-use Rattle.shr_script.specs.declared.kind.Verb.TheVariants.{Put, Get, Del, Pin, Unpin, Shrink, Balance, Offline, MkGroup, Register, Unregister, Isolate, Release, Grab}
-use Rattle.shr_script.specs.declared.kind.Phase.{Phase}
-use Rattle.shr_script.specs.declared.kind.Phase.TheVariants.{Start, Sizes, Groups, Caches, Pools, Workers, Swept, Done}
-use Rattle.shr_script.specs.Lines.{State, start, Line, misplaced, unless, classes, verb_classes, group_class, node_class, after}
-use Rattle.shr_script.specs.Script.{state_after, IsLine, AreLines, is_done, IsScript}
-use Rattle.shr_script.specs.Content.{Content, header_line, size_line, group_line, cache_line, pool_line, worker_line, command_line, worker_lines, sweep_line, sweep_lines, end_line, declarations, lines_of, or_root, AreBelow}
+use Rattle.shr_script.specs.Script.{state_after, AreLines}
+use Rattle.shr_script.specs.Content.{header_line, size_line, worker_line, sweep_line}
 use Rattle.shr_script.proofs.LineLaws.{may_stand}
-use Rattle.shr_script.specs.Drafted.{Drafted, empty, content_by, group_decl, cache_decl, pool_decl, sweep_by, with_command, command_by, added, made_by}
+use Rattle.shr_script.specs.Drafted.{group_decl, sweep_by, made_by}
 
 -- ---- one line says what its words say
 

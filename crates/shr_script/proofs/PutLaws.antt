@@ -1,13 +1,9 @@
 -- A line that begins with put is one of a put.
-use Rattle.std.proofs.Common.{◌≡◌, ℕ, List, ◌++◌, refl}
-use Rattle.std.specs.Prelude.{codes}
+use Rattle.shr_script.proofs.Common.{◌≡◌, ℕ, List, ◌++◌, refl, codes, Word, Work, Put, Workers, State, Drafted, kind_step}
 use Rattle.shr_model.specs.Pieces.{cut, pieces}
-use Rattle.shr_words.specs.Classes.{Word, taken}
-use Rattle.shr_script.specs.declared.kind.Kind.TheVariants.{Work}
-use Rattle.shr_script.specs.declared.kind.Verb.TheVariants.{Put}
-use Rattle.shr_script.specs.declared.kind.Phase.TheVariants.{Workers}
-use Rattle.shr_script.specs.Lines.{State, kind_at, kind_of, verb_of}
-use Rattle.shr_script.specs.Drafted.{Drafted, plain_step, kind_step}
+use Rattle.shr_words.specs.Classes.{taken}
+use Rattle.shr_script.specs.Lines.{kind_at, kind_of, verb_of}
+use Rattle.shr_script.specs.Drafted.{plain_step}
 
 -- among workers such a line is a put of the words behind it
 pub put_is : (st : State) (d : Drafted) (ws : List Word) (behind : List ℕ) → st.phase ≡ Workers → ws ≡ pieces 32 (codes "put " ++ behind)

@@ -1,20 +1,15 @@
 -- What a run says of the bytes.
-use Rattle.std.proofs.Common.{◌≡◌, Bool, ℕ, List, Some, Result, Ok, Err, sym, ap, subst, ◌∙◌, ◌⊎◌, inl, inr, refl}
-use Rattle.shr_base.specs.declared.scripts.Code.{Code}
-use Rattle.shr_model.specs.Pieces.{pieces, next_of}
-use Rattle.shr_words.specs.Classes.{Word}
+use Rattle.shr_script.proofs.Common.{◌≡◌, Bool, ℕ, List, Some, Result, Ok, Err, sym, ap, subst, ◌∙◌, ◌⊎◌, inl, inr, refl, Code, pieces, next_of, Word, state_of, State, Line, start, IsScript, IsFault, Fault, lines_read, ◌>>>◌, state_after, is_last, Content, lines_of, Drafted, drafted, empty, content_by, part_step, run_from, run_of}
 use Rattle.shr_script.specs.declared.stopped.Stopped.{Stopped}
 use Rattle.shr_script.specs.declared.stopped.Stopped.TheVariants as stops
 use Rattle.shr_script.specs.declared.draft.Draft.{Draft}
 use Rattle.shr_script.specs.declared.said.Said.{Said}
 use Rattle.shr_script.specs.declared.read.ReadError.{ReadError}
 use Rattle.shr_script.specs.declared.read.ReadError.TheVariants as errors
-use Rattle.shr_script.specs.Said.{state_of}
-use Rattle.shr_script.specs.Lines.{State, Line, start}
-use Rattle.shr_script.specs.Script.{IsScript, IsFault, Fault, spell_lines, lines_read, ◌>>>◌, state_after, is_last}
-use Rattle.shr_script.specs.Content.{Content, lines_of, IsSpelling}
-use Rattle.shr_script.specs.Drafted.{Drafted, drafted, empty, content_by, made_by, Ends, part_step, run_from}
-use Rattle.shr_script.specs.Read.{error_at, Runs, run_of, Reads, IsCause, TellsFault}
+use Rattle.shr_script.specs.Script.{spell_lines}
+use Rattle.shr_script.specs.Content.{IsSpelling}
+use Rattle.shr_script.specs.Drafted.{made_by, Ends}
+use Rattle.shr_script.specs.Read.{error_at, Runs, Reads, IsCause, TellsFault}
 use Rattle.shr_script.proofs.RunLaws.{run_is, made, run_fails}
 use Rattle.shr_script.proofs.ScriptLaws.{bind_line, script_takes, script_again, fault_takes, fault_again}
 use Rattle.shr_script.proofs.MadeLaws.{content_made, lines_of-made, parents-made}

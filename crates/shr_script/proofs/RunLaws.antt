@@ -1,17 +1,11 @@
 -- A run over the parts of a script is the reading of its lines, and what they make.
-use Rattle.std.proofs.Common.{◌≡◌, ℕ, ◌+◌, Bool, true, false, cond, ◌&&◌, List, [], ◌∷◌, Option, Some, None, Result, Ok, Err, refl, sym, ap, subst, ◌∙◌}
-use Rattle.std.specs.Prelude.{bytes_eq}
-use Rattle.shr_base.specs.declared.scripts.Code.{Code}
+use Rattle.shr_script.proofs.Common.{◌≡◌, ℕ, ◌+◌, Bool, true, false, cond, ◌&&◌, List, [], ◌∷◌, Option, Some, None, Result, Ok, Err, refl, sym, ap, subst, ◌∙◌, bytes_eq, Code, pieces, next_of, ◌>>=◌, Word, Item, items_of, Kind, Phase, Start, Sizes, Groups, Caches, Pools, Workers, Swept, Done, State, Line, classes, own, after, as_header, is_done, part_verdict, is_last, Fault, ◌>>>◌, at_line, behind, Drafted, added, kind_step}
 use Rattle.shr_base.specs.declared.scripts.Code.TheVariants as codes_of
-use Rattle.shr_model.specs.Pieces.{pieces, next_of}
-use Rattle.shr_words.specs.Classes.{◌>>=◌, Word, Item, taken, items_of}
-use Rattle.shr_script.specs.declared.kind.Kind.{Kind}
-use Rattle.shr_script.specs.declared.kind.Phase.{Phase}
-use Rattle.shr_script.specs.declared.kind.Phase.TheVariants.{Start, Sizes, Groups, Caches, Pools, Workers, Swept, Done}
+use Rattle.shr_words.specs.Classes.{taken}
 use Rattle.shr_script.proofs.CommandLaws.{kind_step_is}
-use Rattle.shr_script.specs.Lines.{State, Line, kind_at, classes, own, after, plain_line, as_header, line_of}
-use Rattle.shr_script.specs.Script.{state_after, is_done, part_verdict, verdict, is_last, Fault, ◌>>>◌, at_line, behind, lines_from}
-use Rattle.shr_script.specs.Drafted.{Drafted, added, kind_step, plain_step, headed, step, part_by, part_step, run_from, made_by}
+use Rattle.shr_script.specs.Lines.{kind_at, plain_line, line_of}
+use Rattle.shr_script.specs.Script.{state_after, verdict, lines_from}
+use Rattle.shr_script.specs.Drafted.{plain_step, headed, step, part_by, part_step, run_from, made_by}
 
 -- what a line leads to
 abbrev pub led : State → Drafted → Line → Result (State × Drafted) Code

@@ -1,19 +1,8 @@
 -- What each part of a valid script's lines has said.
-use Rattle.std.proofs.Common.{◌≡◌, ℕ, suc, ◌+◌, Bool, true, false, List, [], ◌∷◌, ◌++◌, length, map, refl, sym, ap, subst, ◌∙◌, append_assoc, arith}
-use Rattle.std.specs.Prelude.{flat_map, sum_by}
-use Rattle.std.proofs.lemmas.List.{append-nil, length-map}
-use Rattle.std.proofs.lemmas.List.Sums.{sum_by-cons}
-use Rattle.shr_base.specs.declared.scripts.GroupDecl.{GroupDecl}
-use Rattle.shr_base.specs.declared.scripts.CacheDecl.{CacheDecl}
-use Rattle.shr_base.specs.declared.scripts.PoolDecl.{PoolDecl}
-use Rattle.shr_base.specs.declared.scripts.Command.{Command}
+use Rattle.shr_script.proofs.Common.{◌≡◌, ℕ, suc, ◌+◌, Bool, true, false, List, [], ◌∷◌, ◌++◌, length, map, refl, sym, ap, subst, ◌∙◌, append_assoc, arith, flat_map, sum_by, append-nil, sum_by-cons, GroupDecl, CacheDecl, PoolDecl, Command, Word, Item, N, L, W, policy_place, flag_place, Header, Size, Group, Cache, Pool, Worker, State, start, Line, after, IsLine, Content, group_line, cache_line, pool_line, command_line, worker_lines, sweep_lines, end_line, lines_of, later_of}
+use Rattle.std.proofs.lemmas.List.{length-map}
 use Rattle.shr_base.specs.declared.scripts.Command.TheVariants as commands
-use Rattle.shr_words.specs.Classes.{Word, Item, N, L, W, policy_place, flag_place}
-use Rattle.shr_script.specs.declared.kind.Kind.TheVariants.{Header, Size, Group, Cache, Pool, Worker}
-use Rattle.shr_script.specs.Lines.{State, start, Line, after}
-use Rattle.shr_script.specs.Script.{state_after, IsLine, AreLines}
-use Rattle.shr_script.specs.Content.{Content, group_line, cache_line, pool_line, command_line, worker_lines, sweep_lines, end_line, lines_of}
-use Rattle.shr_script.specs.Bounds.{later_of}
+use Rattle.shr_script.specs.Script.{state_after, AreLines}
 use Rattle.shr_script.proofs.ContentLaws.{state_after-append}
 
 -- ---- lines in two parts

@@ -1,21 +1,14 @@
 -- Scripts that are read are spelled so, scripts that are spelled are read, and a fault is that of
 -- the first bad line.
-use Rattle.std.proofs.Common.{◌≡◌, ℕ, suc, ◌+◌, Bool, true, false, cond, List, [], ◌∷◌, ◌++◌, length, Option, Some, None, Result, Ok, Err, refl, sym, ap, subst, ◌∙◌, append_assoc, zero-add, arith, inl, inr, ◌⊎◌}
-use Rattle.std.specs.Prelude.{bytes_eq}
+use Rattle.shr_script.proofs.Common.{◌≡◌, ℕ, suc, ◌+◌, Bool, true, false, cond, List, [], ◌∷◌, ◌++◌, length, Option, Some, None, Result, Ok, Err, refl, sym, ap, subst, ◌∙◌, append_assoc, arith, inl, inr, ◌⊎◌, bytes_eq, append-nil, bytes_eq-Decides, Code, Word, words_of, and_true, bind_ok, ok_is, Kind, Phase, Start, Sizes, Groups, Caches, Pools, Workers, Swept, Done, State, start, Line, first_word, misplaced, unless, allowed, classes, after, as_header, IsLine, is_done, IsScript, part_verdict, is_last, IsFault, Fault, ◌>>>◌, at_line, behind, lines_read}
+use Rattle.std.proofs.Common.{zero-add}
 use Rattle.std.specs.List.{list_all}
-use Rattle.std.proofs.lemmas.List.{append-nil}
-use Rattle.std.proofs.lemmas.Slice.Eq.{bytes_eq-Decides}
-use Rattle.shr_base.specs.declared.scripts.Code.{Code}
 use Rattle.shr_base.specs.declared.scripts.Code.TheVariants as codes_of
 use Rattle.shr_model.specs.Pieces.{cut, pieces, joined, is_part_of}
-use Rattle.shr_words.specs.Classes.{Word, words_of}
-use Rattle.shr_model.proofs.PiecesLaws.{and_true, cut_first, joined_cut, pieces_parts, pieces_joined}
-use Rattle.shr_words.proofs.ClassLaws.{bind_ok, ok_is, words_clean, line_parts, no_feed}
-use Rattle.shr_script.specs.declared.kind.Kind.{Kind}
-use Rattle.shr_script.specs.declared.kind.Phase.{Phase}
-use Rattle.shr_script.specs.declared.kind.Phase.TheVariants.{Start, Sizes, Groups, Caches, Pools, Workers, Swept, Done}
-use Rattle.shr_script.specs.Lines.{State, start, Line, first_word, misplaced, unless, allowed, classes, after, plain_line, as_header, line_of}
-use Rattle.shr_script.specs.Script.{line_text, spell_lines, state_after, IsLine, AreLines, is_done, IsScript, part_verdict, verdict, is_last, IsFaultFrom, IsFault, Fault, ◌>>>◌, at_line, behind, lines_from, lines_read}
+use Rattle.shr_model.proofs.PiecesLaws.{cut_first, joined_cut, pieces_parts, pieces_joined}
+use Rattle.shr_words.proofs.ClassLaws.{words_clean, line_parts, no_feed}
+use Rattle.shr_script.specs.Lines.{plain_line, line_of}
+use Rattle.shr_script.specs.Script.{line_text, spell_lines, state_after, AreLines, verdict, IsFaultFrom, lines_from}
 use Rattle.shr_script.proofs.LineLaws.{first_clean, may_stand, line_takes, line_again}
 
 -- ---- one line

@@ -1,14 +1,9 @@
 -- The line of all deeds while seats do more, are split and are joined.
-use Rattle.std.proofs.Common.{◌≡◌, ℕ, zero, suc, ◌+◌, ◌<◌, ◌≤◌, ◌≢◌, Bool, true, false, cond, eqb, List, [], ◌∷◌, ◌++◌, map, length, set, sym, refl, ap, subst, ◌∙◌, arith, eq-eqb, ne_eqb}
-use Rattle.std.proofs.lemmas.List.{append-nil}
-use mathlib.Core.Logic.{dite}
-use native.Mathlib.Decide.{ℕ_discrete, dec_lt}
-use mathlib.Core.Option.{some, some-injective, some-ne-none}
-use lib.ListN.{get_elem?}
-use Rattle.atomic_table.proofs.Lists.{set_else, at_longer}
-use Rattle.shr_seats.specs.Standing.{Standing, IsWhole, AreSeats, AreEmptied}
+use Rattle.shr_seats.proofs.Common.{◌≡◌, ℕ, zero, suc, ◌+◌, ◌<◌, ◌≤◌, ◌≢◌, Bool, true, false, cond, List, [], ◌∷◌, ◌++◌, map, length, set, sym, refl, ap, subst, ◌∙◌, arith, eq-eqb, ne_eqb, append-nil, dite, ℕ_discrete, some, some-injective, some-ne-none, get_elem?, set_else, Standing, IsWhole, AreSeats, AreEmptied, total}
+use Rattle.std.proofs.Common.{eqb}
+use native.Mathlib.Decide.{dec_lt}
+use Rattle.atomic_table.proofs.Lists.{at_longer}
 use Rattle.shr_seats.specs.Lines.{Deed, by_seat, acts_of, part, state_after, AreSo, did_at, IsHere, AreInLine}
-use Rattle.shr_seats.specs.Weights.{total}
 use Rattle.shr_seats.proofs.Seating.{sole}
 
 module _ {S E : Type 0} (next : S → E → S) where
@@ -64,7 +59,7 @@ module _ {A V : Type 0} (did : V → List (Deed A)) where
   did_at_more (x ∷ xs) zero new e = refl
   did_at_more (x ∷ xs) (suc i) new e = did_at_more xs i new e
 
-set_there : {V : Type 0} (l : List V) (k : ℕ) (x y : V) → get_elem? l k ≡ some x → get_elem? (set l k y) k ≡ some y
+pub set_there : {V : Type 0} (l : List V) (k : ℕ) (x y : V) → get_elem? l k ≡ some x → get_elem? (set l k y) k ≡ some y
 set_there [] k x y e = absurd (some-ne-none x (sym e))
 set_there (z ∷ zs) zero x y e = refl
 set_there (z ∷ zs) (suc k) x y e = set_there zs k x y e

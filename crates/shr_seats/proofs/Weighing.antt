@@ -1,13 +1,7 @@
 -- Sums over lists that change at one place, and what holds of each element.
-use Rattle.std.proofs.Common.{◌≡◌, ℕ, zero, suc, ◌+◌, ◌*◌, ◌<◌, ◌≤◌, ◌≢◌, Bool, List, [], ◌∷◌, ◌++◌, length, set, sym, refl, ap, subst, ◌∙◌, ⊎_elim, arith, cond, eq-eqb, ne_eqb, append_assoc}
-use Rattle.std.proofs.lemmas.List.{append-nil}
-use mathlib.Core.Logic.{dite}
-use native.Mathlib.Decide.{ℕ_discrete}
-use mathlib.Core.Option.{some, some-injective, some-ne-none}
-use lib.ListN.{get_elem?}
-use Rattle.atomic_table.proofs.Lists.{at_set, at_snoc, set_else}
-use Rattle.shr_seats.specs.Views.{Each}
-use Rattle.shr_seats.specs.Weights.{total, Begins, only, times, without}
+use Rattle.shr_seats.proofs.Common.{◌≡◌, ℕ, zero, suc, ◌+◌, ◌*◌, ◌<◌, ◌≤◌, ◌≢◌, Bool, List, [], ◌∷◌, ◌++◌, length, set, sym, refl, ap, subst, ◌∙◌, ⊎_elim, arith, cond, eq-eqb, ne_eqb, append-nil, dite, ℕ_discrete, some, some-injective, some-ne-none, get_elem?, at_set, at_snoc, set_else, Each, total}
+use Rattle.std.proofs.Common.{append_assoc}
+use Rattle.shr_seats.specs.Weights.{Begins, only, times, without}
 
 module _ {A : Type 0} (g : A → ℕ) where
   pub total-append : (l m : List A) → total g (l ++ m) ≡ total g l + total g m

@@ -1,11 +1,6 @@
 -- Sums by key at known values.
-use Rattle.std.proofs.Common.{arith, ap}
-use Rattle.std.specs.Prelude.{◌≡◌, ℕ, ◌^◌, ◌-◌, true, false, List, [], ◌∷◌, refl}
-use Rattle.shr_base.specs.declared.places.Place.{Place}
-use Rattle.shr_base.specs.declared.walks.Carry.{Carry}
-use Rattle.shr_sums.specs.declared.moves.Move.{Move}
-use Rattle.shr_sums.specs.Moves.{ups_at, downs_at, IsSettled, settles}
-use Rattle.shr_sums.specs.Deferred.{place_key, IsNarrow, Gains, carried_to, carried_from}
+use Rattle.shr_sums.proofs.Common.{arith, ap, ◌≡◌, ℕ, ◌^◌, ◌-◌, true, false, List, [], ◌∷◌, refl, Place, Carry, Move, ups_at, downs_at, IsSettled, place_key, IsNarrow, Gains, carried_to, carried_from}
+use Rattle.shr_sums.specs.Moves.{settles}
 
 abbrev move : ℕ → ℕ → ℕ → Move
 move key up down = record { key = key; up = up; down = down }

@@ -1,20 +1,18 @@
 -- Nothing stands in the way of the first registrations: none is live, and an id is free.
-use Rattle.std.proofs.Common.{◌≡◌, ℕ, zero, suc, ◌+◌, ◌<◌, ◌≤◌, ◌%◌, Bool, true, false, cond, nat_lt, List, [], ◌∷◌, ◌++◌, length, get_or, take, drop, sym, refl, ap, subst, ◌∙◌, arith, length-append}
-use Rattle.std.specs.Prelude.{◌==◌, ◌&&◌, if◌then◌else◌, Option, Some, None}
+use Rattle.shr_tables.proofs.Common.{◌≡◌, ℕ, zero, suc, ◌+◌, ◌<◌, Bool, true, false, List, [], ◌∷◌, ◌++◌, length, get_or, take, sym, refl, ap, subst, ◌∙◌, arith, Some, nat_tests, CacheDecl, View, HasEntered}
+use Rattle.std.proofs.Common.{◌≤◌, ◌%◌, cond, nat_lt, drop, length-append}
+use Rattle.std.specs.Prelude.{◌==◌, ◌&&◌, if◌then◌else◌, Option, None}
 use Rattle.std.specs.List.{count_by}
-use Rattle.std.proofs.lemmas.Bool.Decides.{nat_tests}
 use Rattle.std.proofs.lemmas.List.{append-nil, nil_from_length, take-append-drop}
 use Rattle.std.proofs.lemmas.Grind.{take_at_read}
 use Rattle.std.proofs.lemmas.List.Sums.{sum_by-cons}
 use Rattle.shr_base.specs.declared.journals.PoolEntry.{PoolEntry}
 use Rattle.shr_base.specs.declared.journals.PoolEntry.TheVariants.{Registered, Unregistered, Idle}
-use Rattle.shr_base.specs.declared.scripts.CacheDecl.{CacheDecl}
 use Rattle.shr_model.specs.Pool.{id_of, phase_of, decl_after, decl_from, decl_of, is_live, is_live_below, is_live_decl, is_free, lowest_free, lowest_idle}
 use Rattle.shr_core.specs.declared.setting.Setting.{Setting}
-use Rattle.shr_core.specs.declared.view.View.{View}
 use Rattle.shr_core.specs.Parts.{Turn}
 use Rattle.shr_registry.specs.Answers.{FindsLive, FindsNoId, Registers}
-use Rattle.shr_tables.specs.First.{AreBefore, HasEntered}
+use Rattle.shr_tables.specs.First.{AreBefore}
 
 -- and so below the next
 pub before_next : (decl : ℕ) (es : List PoolEntry) → AreBefore decl es → AreBefore (decl + 1) es
@@ -44,7 +42,7 @@ decl_low decl id d (Idle i ∷ es) h low = absurd h
 not_equal : (a b : ℕ) → a < b → (a == b) ≡ false
 not_equal a b low = grind (arith, nat_tests)
 
-and_false : (a b : Bool) → b ≡ false → (a && b) ≡ false
+pub and_false : (a b : Bool) → b ≡ false → (a && b) ≡ false
 and_false true b e = e
 and_false false b e = refl
 

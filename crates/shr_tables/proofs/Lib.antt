@@ -1,3 +1,4 @@
+mod Common
 pub mod Entering
 pub mod First
 pub mod Pooling

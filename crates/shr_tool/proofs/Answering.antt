@@ -1,12 +1,7 @@
 -- What an input is answered, by the script or the fault that was read.
-use Rattle.std.proofs.Common.{◌≡◌, ℕ, List, sym, subst}
-use Rattle.std.specs.Prelude.{Option}
-use Rattle.shr_base.specs.declared.scripts.Code.{Code}
-use Rattle.shr_script.specs.Script.{IsFault}
+use Rattle.shr_tool.proofs.Common.{◌≡◌, ℕ, List, sym, subst, Option, Code, IsFault, SinkSeen, RunGives, Status, Done, Usage, ReadFault, WriteFault, Refused, Memory, TooLong, Unlawful}
 use Rattle.shr_tool.specs.Reading.{ReadAll, script_limit}
-use Rattle.shr_tool.specs.Top.{SinkSeen, source_seen, refusal_text, refusal, AnswerGives, RefusalGives, RunGives}
-use Rattle.shr_tool.specs.declared.status.Status.{Status}
-use Rattle.shr_tool.specs.declared.status.Status.TheVariants.{Done, Usage, ReadFault, WriteFault, Refused, Memory, TooLong, Unlawful}
+use Rattle.shr_tool.specs.Top.{source_seen, refusal_text, refusal, AnswerGives, RefusalGives}
 
 -- bytes that are spelled so are answered as their spelling
 pub answers_spelling : (bytes other : List ℕ) (sink : SinkSeen) (status : Status) → bytes ≡ other → AnswerGives other sink status → AnswerGives bytes sink status

@@ -1,6 +1,5 @@
 -- Where a script ends, at known bytes.
-use Rattle.std.proofs.Common.{◌≡◌, inl, inr, [], ◌∷◌, refl, codes}
-use Rattle.shr_tool.specs.Audit.{IsOtherLine, AreOtherLines, IsSplit}
+use Rattle.shr_tool.proofs.Common.{◌≡◌, inl, inr, [], ◌∷◌, refl, codes, IsOtherLine, AreOtherLines, IsSplit}
 use Rattle.shr_tool.proofs.OneSplit.{one_split}
 
 -- no line

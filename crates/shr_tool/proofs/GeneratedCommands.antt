@@ -1,22 +1,20 @@
 -- The commands of a generated script, and how many they are.
-use Rattle.std.proofs.Common.{◌≡◌, ℕ, zero, suc, ◌+◌, ◌*◌, ◌<◌, ◌%◌, ◌^◌, ◌-◌, Bool, true, false, ◌==◌, eqb, eq-eqb, List, [], ◌∷◌, ◌++◌, length, map, refl, sym, ap, ◌∙◌, arith}
-use Rattle.std.specs.Prelude.{nat_lt, if◌then◌else◌, slice_get, slice_index_or, sum_by, Option, Some, None, decimal, codes, option_and_then}
+use Rattle.shr_tool.proofs.Common.{◌≡◌, ℕ, zero, suc, ◌+◌, ◌*◌, ◌<◌, ◌^◌, ◌-◌, Bool, true, false, List, [], ◌∷◌, ◌++◌, length, map, refl, sym, ap, ◌∙◌, arith, slice_get, sum_by, Option, Some, None, codes, same_Some, Command, Put, Unregister, Script, content_of, generated, is_offline, commands_of}
+use Rattle.std.proofs.Common.{◌%◌, ◌==◌, eqb, eq-eqb}
+use Rattle.std.specs.Prelude.{nat_lt, if◌then◌else◌, slice_index_or, decimal, option_and_then}
 use Rattle.std.specs.List.{range_with_len}
 use Rattle.std.proofs.lemmas.Bool.{and_parts, and_from, eqb-true}
 use Rattle.std.proofs.lemmas.Fmt.{decimal_injective}
 use Rattle.std.proofs.lemmas.List.FromFn.{length-map-range_with_len}
 use Rattle.std.proofs.lemmas.List.Sums.{sum_by-cons}
-use Rattle.std.proofs.lemmas.Option.{same_Some, none-some}
+use Rattle.std.proofs.lemmas.Option.{none-some}
 use Rattle.shr_base.specs.declared.ends.WorkerPart.{WorkerPart}
-use Rattle.shr_base.specs.declared.scripts.Command.{Command}
-use Rattle.shr_base.specs.declared.scripts.Command.TheVariants.{Put, Get, Shrink, Balance, Offline, Unregister}
+use Rattle.shr_base.specs.declared.scripts.Command.TheVariants.{Get, Shrink, Balance, Offline}
 use Rattle.shr_base.specs.declared.scripts.GroupDecl.{GroupDecl}
-use Rattle.shr_base.specs.declared.scripts.Script.{Script}
 use Rattle.shr_base.specs.declared.scripts.WorkerScript.{WorkerScript}
 use Rattle.shr_model.specs.Groups.{is_later}
-use Rattle.shr_script.specs.Content.{content_of}
-use Rattle.shr_gen.specs.Generated.{generated, commands_from, command_at, is_offline, node_by, cache_by, priority_by, key_of, value_of, group_of, group_at, drawn_after, chosen_by}
-use Rattle.shr_report.specs.Parts.{answers_in, commands_in, commands_of, later_of, limit_of}
+use Rattle.shr_gen.specs.Generated.{commands_from, command_at, node_by, cache_by, priority_by, key_of, value_of, group_of, group_at, drawn_after, chosen_by}
+use Rattle.shr_report.specs.Parts.{answers_in, commands_in, later_of, limit_of}
 
 -- ---- lists over numbers
 

@@ -1,10 +1,11 @@
 -- Each put of a generated script is added, where there is memory and no counter is used up.
-use Rattle.std.proofs.Common.{◌≡◌, ℕ, zero, suc, ◌+◌, ◌*◌, ◌<◌, ◌≤◌, ◌^◌, inl, inr, ⊎_elim, cond, List, [], ◌∷◌, length, refl, sym, ap, ◌∙◌, subst, arith}
-use Rattle.std.specs.Prelude.{slice_get, Option, Some, None, option_map, filter_map, Contains}
+use Rattle.shr_tool.proofs.Common.{◌≡◌, ℕ, zero, suc, ◌+◌, ◌*◌, ◌<◌, ◌≤◌, ◌^◌, inl, inr, cond, List, [], ◌∷◌, length, refl, sym, ap, ◌∙◌, subst, arith, slice_get, Option, Some, None, same_Some, Command, Put, Unregister, Script, content_of, generated, is_offline, commands_of}
+use Rattle.std.proofs.Common.{⊎_elim}
+use Rattle.std.specs.Prelude.{option_map, filter_map, Contains}
 use Rattle.std.specs.List.{enumerate_from}
 use Rattle.std.specs.Option.{IsSomeAnd}
 use Rattle.std.proofs.lemmas.Bool.{cases_lt}
-use Rattle.std.proofs.lemmas.Option.{same_Some, slice_get_within}
+use Rattle.std.proofs.lemmas.Option.{slice_get_within}
 use Rattle.shr_base.specs.declared.journals.PoolEntry.TheVariants.{Registered, Unregistered}
 use Rattle.shr_base.specs.declared.places.At.{At}
 use Rattle.shr_base.specs.declared.places.Serial.{Serial}
@@ -12,17 +13,13 @@ use Rattle.shr_base.specs.declared.replies.Answered.{Answered}
 use Rattle.shr_base.specs.declared.replies.Reply.{Reply}
 use Rattle.shr_base.specs.declared.replies.Reply.TheVariants as reply
 use Rattle.shr_base.specs.declared.scripts.CacheDecl.{CacheDecl}
-use Rattle.shr_base.specs.declared.scripts.Command.{Command}
-use Rattle.shr_base.specs.declared.scripts.Command.TheVariants.{Put, Unregister}
-use Rattle.shr_base.specs.declared.scripts.Script.{Script}
 use Rattle.shr_model.proofs.Members.{Has, Contains_from_Has}
-use Rattle.shr_script.specs.Content.{content_of}
-use Rattle.shr_gen.specs.Generated.{MayBeMade, generated, is_offline}
+use Rattle.shr_gen.specs.Generated.{MayBeMade}
 use Rattle.shr_report.specs.declared.report.Report.{Report}
 use Rattle.shr_report.specs.Causes.{IsMadeBy}
 use Rattle.shr_report.specs.Faithful.{IsFaithful}
 use Rattle.shr_report.specs.Lawful.{IsLawful}
-use Rattle.shr_report.specs.Parts.{parents_of, decls_on, commands_of, answers_of, answer_at, journals_of, id_found}
+use Rattle.shr_report.specs.Parts.{parents_of, decls_on, answers_of, answer_at, journals_of, id_found}
 use Rattle.shr_report.specs.Puts.{IsOnlyPut, StaysOn, StaysOnline, IsFreePut, IsAddedOrSpent, AreFreePutsAdded, IsEachAdded, DoPutsAddUp}
 use Rattle.shr_report.specs.WellFormed.{IsWellFormed}
 use Rattle.shr_report.specs.ReplyTable.{IsReply}
@@ -31,6 +28,7 @@ use Rattle.shr_forms.proofs.Reading.{few_commands}
 use Rattle.shr_run.specs.Made.{IsReportOfRun}
 use Rattle.shr_tool.specs.Summary.{replies_of, five_lines, IsUnhindered, HadEnough, IsSummary}
 use Rattle.shr_tool.proofs.GeneratedCommands.{sums_agree, commands_in_all, made, put_made, offline_made, no_unregister, no_limit, no_later, goes_later, same_key}
+use Rattle.shr_model.proofs.Lists.{there_at}
 
 -- an answer that was neither hindered nor refused
 added_of : (x : Reply) → IsAddedOrSpent x → IsUnhindered x → (c : At) × (x ≡ reply.Added c)
@@ -51,12 +49,6 @@ module _ (s : Script) (r : Report) (by : Serial) (n decl id to : ℕ) where
   ends_none (reply.Half i entry from end objects half) c None none h by_it = h
   ends_none (reply.Half i entry from end objects half) c (Some held) none h by_it = h
   ends_none x c found none h by_it = by_it
-
--- something stands at each number below a list's length
-stands_at : {A : Type 0} (xs : List A) (k : ℕ) → k < length xs → (x : A) × (slice_get xs k ≡ Some x)
-stands_at [] k lt = absurd (omega (arith, lt))
-stands_at (x ∷ xs) zero lt = (x, refl)
-stands_at (x ∷ xs) (suc k) lt = stands_at xs k (omega (arith, lt))
 
 some_answer : (o : Option Answered) (P : Reply → Type 0) → IsSomeAnd (option_map (λ (a : Answered). a.reply) o) P → (a : Answered) × (o ≡ Some a) × P a.reply
 some_answer None P h = absurd h
@@ -91,7 +83,7 @@ module _ (s : Script) (r : Report) (seed workers commands : ℕ) (may : MayBeMad
       long = ap length on
 
       first : n < 3 → ⊥
-      first lt = let t = stands_at (decls_on s) n (omega (arith, long, lt)) in let opened = lawful.lookups.opened n t.0 t.1 in
+      first lt = let t = there_at (decls_on s) n (omega (arith, long, lt)) in let opened = lawful.lookups.opened n t.0 t.1 in
           let no : Unregistered decl id to ≡ Registered t.0 n 0 = same_Some (Unregistered decl id to) (Registered t.0 n 0) (sym at ∙ opened) in absurd cc
 
       later : 3 ≤ n → ⊥
@@ -100,7 +92,7 @@ module _ (s : Script) (r : Report) (seed workers commands : ℕ) (may : MayBeMad
           let a = some_answer (answer_at r t.0) (IsMadeBy r (Unregistered decl id to) n) t.1 in
           let within = slice_get_within (answers_of r t.0.worker) t.0.command a.0 a.1 in
           let count = counts t.0.worker in
-          let c = stands_at (commands_of s t.0.worker) t.0.command (omega (arith, within, count)) in
+          let c = there_at (commands_of s t.0.worker) t.0.command (omega (arith, within, count)) in
           ends_none s r t.0 n decl id to a.0.reply c.0 (id_found a.0) (λ d same. no_unregister s seed workers commands content t.0.worker t.0.command d (c.1 ∙ ap Some same)) (lawful.replies.answered t.0 c.0 a.0 c.1 a.1) a.2
 
   module _ (worker k group node decl : ℕ) (key value : List ℕ) (at : slice_get (commands_of s worker) k ≡ Some (Put group node decl key value)) where

@@ -1,13 +1,11 @@
 -- What is told of an input is its verdict, where nothing fails.
-use Rattle.std.proofs.Common.{◌≡◌, ◌∙◌, ℕ, ◌⊎◌, inl, inr, List, refl, sym, ap, subst, arith}
+use Rattle.shr_tool.proofs.Common.{◌≡◌, ◌∙◌, ℕ, ◌⊎◌, inl, inr, List, refl, sym, ap, subst, arith, SourceSeen, SinkSeen, Status}
 use Rattle.shr_outside.specs.Outside.{Rose}
 use Rattle.shr_audit.specs.declared.verdict.Verdict.{Verdict}
 use Rattle.shr_audit.specs.declared.verdict.Verdict.TheVariants.{Lawful, BadScript, BadReport, Unlawful}
 use Rattle.shr_audit.specs.Verdict.{HoldsOf}
 use Rattle.shr_audit.proofs.OneVerdict.{one_verdict}
-use Rattle.shr_tool.specs.Top.{SourceSeen, SinkSeen}
 use Rattle.shr_tool.specs.Audit.{IsVerdictOf, status_of, IsBad, JudgeGives, IsJudged, AuditGives, HasVerdict, IsWhole, IsJudging}
-use Rattle.shr_tool.specs.declared.status.Status.{Status}
 use Rattle.shr_tool.specs.declared.status.Status.TheVariants as status
 use Rattle.shr_tool.proofs.Complete.{all_taken, not_too_many}
 use Rattle.shr_tool.proofs.OneSplit.{one_split}

@@ -1,11 +1,8 @@
 -- Bytes are split in one way.
-use Rattle.std.proofs.Common.{◌≡◌, ◌∙◌, ℕ, ◌⊎◌, inl, inr, true, false, List, [], ◌∷◌, ◌++◌, refl, sym, ap, ap₂, append_assoc, codes}
-use Rattle.std.specs.List.{AllByRecursion}
-use Rattle.std.proofs.lemmas.List.{append-nil}
-use Rattle.std.proofs.lemmas.List.Folds.{list_all-append}
-use Rattle.shr_model.specs.Pieces.{Parts, cut, differs, is_part_of}
+use Rattle.shr_tool.proofs.Common.{◌≡◌, ◌∙◌, ℕ, ◌⊎◌, inl, inr, true, false, List, [], ◌∷◌, ◌++◌, refl, sym, ap, ap₂, append_assoc, codes, AllByRecursion, append-nil, list_all-append, differs, is_part_of, IsOtherLine, IsSplit, with_feeds}
+use Rattle.shr_model.specs.Pieces.{Parts, cut}
 use Rattle.shr_model.proofs.PiecesLaws.{and_true, cut_first}
-use Rattle.shr_tool.specs.Audit.{IsOtherLine, HasEnd, HasNoEnd, IsSplit, with_feeds}
+use Rattle.shr_tool.specs.Audit.{HasEnd, HasNoEnd}
 
 append_same : (a x y : List ℕ) → a ++ x ≡ a ++ y → x ≡ y
 append_same [] x y e = e

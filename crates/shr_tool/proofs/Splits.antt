@@ -1,12 +1,9 @@
 -- A script and what stands behind it, found line by line.
-use Rattle.std.proofs.Common.{◌≡◌, ◌≢◌, ◌∙◌, ℕ, ◌+◌, ◌-◌, ◌≤◌, ◌<◌, inl, inr, true, false, ◌&&◌, cond, List, [], ◌∷◌, ◌++◌, length, take, drop, get_or, refl, sym, ap, ap₂, subst, append_assoc, codes, ne_eqb, arith, length-drop}
-use Rattle.std.specs.List.{AllByRecursion}
+use Rattle.shr_tool.proofs.Common.{◌≡◌, ◌∙◌, ℕ, ◌+◌, ◌-◌, ◌≤◌, ◌<◌, inl, inr, true, false, cond, List, [], ◌∷◌, ◌++◌, length, take, get_or, refl, sym, ap, ap₂, subst, append_assoc, codes, arith, AllByRecursion, append-nil, list_all-append, differs, is_part_of, IsOtherLine, AreOtherLines, IsSplit, with_feeds}
+use Rattle.std.proofs.Common.{◌≢◌, ◌&&◌, drop, ne_eqb, length-drop}
 use Rattle.std.proofs.Math.Seq.{take-add}
 use Rattle.std.proofs.lemmas.Grind.{flat_map-append}
-use Rattle.std.proofs.lemmas.List.{append-nil, take_more, get_or-drop, take-append-drop, drop_all}
-use Rattle.std.proofs.lemmas.List.Folds.{list_all-append}
-use Rattle.shr_model.specs.Pieces.{differs, is_part_of}
-use Rattle.shr_tool.specs.Audit.{IsOtherLine, AreOtherLines, IsSplit, with_feeds}
+use Rattle.std.proofs.lemmas.List.{take_more, get_or-drop, take-append-drop, drop_all}
 
 -- the bytes from the one place to the other
 abbrev pub between : List ℕ → ℕ → ℕ → List ℕ

@@ -1,2 +1,3 @@
+mod Common
 pub mod ChildrenLaws
 pub mod TreeLaws

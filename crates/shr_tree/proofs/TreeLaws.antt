@@ -1,13 +1,12 @@
 -- What the parts of a tree tell of what is seen of it.
-use Rattle.std.proofs.Common.{◌≡◌, ◌++◌, ◌∷◌, [], ◌≤◌, ◌<◌, ℕ, Bool, true, false, List, length, map, get_or, set, sym, ap, subst, ◌∙◌, arith}
-use Rattle.std.proofs.lemmas.List.{length-map, get_or-map, map_push, length_push}
+use Rattle.shr_tree.proofs.Common.{◌≡◌, ◌++◌, ◌∷◌, [], ◌<◌, ℕ, Bool, true, false, List, length, map, get_or, set, sym, ap, subst, ◌∙◌, arith, length-map, get_or-map, map_push, is_later, parent_of, children_of, preorder_of, Word, Group, may_hold, IsWhole}
+use Rattle.std.proofs.Common.{◌≤◌}
+use Rattle.std.proofs.lemmas.List.{length_push}
 use Rattle.std.proofs.lemmas.List.FromFn.{length-map-range_with_len, get_or-map-range_with_len}
-use Rattle.shr_model.specs.Groups.{IsTree, IsHierarchy, is_later, parent_of, children_of, preorder_of}
+use Rattle.shr_model.specs.Groups.{IsTree, IsHierarchy}
 use Rattle.shr_model.proofs.GroupsOrder.{preorder_of-IsAtOrAbove, preorder_of-Contains, preorder_of-pairs, preorder_of-parents}
 use Rattle.shr_model.proofs.GroupsLaws.{IsTree-push, IsHierarchy-push, children_lists-push}
-use Rattle.shr_words.specs.Classes.{Word}
-use Rattle.shr_tree.specs.declared.tree.Group.{Group}
-use Rattle.shr_tree.specs.Tree.{Groups, hierarchy_in, may_hold, seen_of, IsWhole, IsSubtree}
+use Rattle.shr_tree.specs.Tree.{Groups, hierarchy_in, seen_of, IsSubtree}
 
 -- each group has its list of children
 pub within : (paths : List Word) (groups : List Group) (lists : List (List ℕ)) (seen : Groups) (g : ℕ) → IsWhole paths groups lists → seen_of paths groups ≡ seen → g < length seen.parents → g < length lists

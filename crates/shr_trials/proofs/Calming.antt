@@ -1,5 +1,5 @@
 -- Each call leaves its seat calm, and where it stands among the seats.
-use Rattle.std.proofs.Common.{◌≡◌, ℕ, List, Bool, ap, ◌∙◌}
+use Rattle.shr_trials.proofs.Common.{◌≡◌, ℕ, List, Bool, ap, ◌∙◌, IsCalm}
 use Rattle.std.specs.Prelude.{None}
 use Rattle.shr_base.specs.declared.objects.Object.{Object}
 use Rattle.shr_base.specs.declared.objects.Policy.{Policy}
@@ -40,7 +40,6 @@ use Rattle.shr_registry.specs.declared.answers.UnregisterAnswer.{UnregisterAnswe
 use Rattle.shr_registry.specs.declared.answers.UnregisterAnswer.TheVariants as unregister
 use Rattle.shr_registry.specs.Answers.{FindGives, RegisterGives}
 use Rattle.shr_registry.specs.Ending.{UnregisterGives}
-use Rattle.shr_trials.specs.Calm.{IsCalm}
 
 -- the second view is calm where the first is, and stands where it stood
 pub record Keeps (v w : View) : Type 0 where

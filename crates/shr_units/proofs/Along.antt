@@ -1,13 +1,7 @@
 -- Lists of the state that a worker's steps make longer.
-use Rattle.std.proofs.Common.{◌≡◌, ℕ, zero, suc, ◌+◌, ◌<◌, ◌≤◌, ◌≢◌, ◌⊎◌, inl, inr, ⊎_elim, List, [], ◌∷◌, ◌++◌, length, drop, flat_map, sym, refl, ap, subst, ◌∙◌, arith, append_assoc}
-use Rattle.std.specs.Prelude.{slice_get, Some}
-use Rattle.std.proofs.lemmas.Option.{same_Some, none-some}
+use Rattle.shr_units.proofs.Common.{◌≡◌, ℕ, zero, suc, ◌+◌, ◌<◌, ◌≤◌, ◌≢◌, ◌⊎◌, inl, inr, ⊎_elim, List, [], ◌∷◌, ◌++◌, length, flat_map, sym, refl, ap, subst, ◌∙◌, arith, append_assoc, slice_get, Some, same_Some, none-some, append-nil, Begins, begins_all, begins_more, PlainState, UnitsStep, AreChained, state_after}
+use Rattle.std.proofs.Common.{drop}
 use Rattle.std.proofs.Math.Seq.{drop-append_seam}
-use Rattle.std.proofs.lemmas.List.{append-nil}
-use Rattle.shr_seats.specs.Weights.{Begins}
-use Rattle.shr_seats.proofs.Weighing.{begins_all, begins_more}
-use Rattle.shr_plain.specs.Seat.{PlainState}
-use Rattle.shr_units.specs.Steps.{UnitsStep, AreChained, state_after}
 
 pub slice_cases : {A : Type 0} (xs ys : List A) (n : ℕ) (x : A) → slice_get (xs ++ ys) n ≡ Some x → (slice_get xs n ≡ Some x) ⊎ ((m : ℕ) × (n ≡ length xs + m) × (slice_get ys m ≡ Some x))
 slice_cases [] ys n x e = inr (n, omega arith, e)

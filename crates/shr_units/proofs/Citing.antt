@@ -1,39 +1,14 @@
 -- Replies about pools: the entries that they cite, and what they tell.
-use Rattle.std.proofs.Common.{◌≡◌, ℕ, ◌+◌, ◌<◌, ◌≤◌, ◌⊎◌, ⊎_elim, true, false, List, [], ◌∷◌, ◌++◌, length, get_or, sym, refl, ap, subst, ◌∙◌, arith}
-use Rattle.std.specs.Prelude.{slice_get, Option, Some, None, option_map, option_and_then}
-use Rattle.std.proofs.lemmas.Bool.{cases_lt}
-use Rattle.std.proofs.lemmas.Option.{same_Some, none-some, slice_get_within, slice_get-get_or}
-use Rattle.shr_base.specs.declared.journals.PlainEntry.{PlainEntry}
+use Rattle.shr_units.proofs.Common.{◌≡◌, ℕ, ◌+◌, ◌<◌, ◌≤◌, ◌⊎◌, ⊎_elim, true, false, List, [], ◌∷◌, ◌++◌, length, get_or, sym, refl, ap, subst, ◌∙◌, arith, slice_get, Option, Some, None, option_map, option_and_then, cases_lt, same_Some, none-some, slice_get_within, slice_get-get_or, PlainEntry, At, Place, Answered, Reply, Release, Grab, Script, IsPlaceOf, row_of, IsRecent, Made, RoomView, part_at, with_known, with_entry, GrabAnswer, ReleaseAnswer, Sees, Makes, ReleaseGives, GrabGives, units, PlainState, no_state, IsPoolOf, Report, serial_of, commands_of, answers_of, reply_at, at, units_of, units_cited, units_cited_at, settings_of, pool_sizes, home_of, home_room, release_reply, grab_reply, IsOther, UnitsStep, steps_of, AreUnits}
 use Rattle.shr_base.specs.declared.journals.PlainEntry.TheVariants as entry
-use Rattle.shr_base.specs.declared.places.At.{At}
-use Rattle.shr_base.specs.declared.places.Place.{Place}
-use Rattle.shr_base.specs.declared.replies.Answered.{Answered}
-use Rattle.shr_base.specs.declared.replies.Reply.{Reply}
 use Rattle.shr_base.specs.declared.replies.Reply.TheVariants as reply
-use Rattle.shr_base.specs.declared.scripts.Command.TheVariants.{Release, Grab}
-use Rattle.shr_base.specs.declared.scripts.Script.{Script}
-use Rattle.shr_seats.specs.Rows.{IsPlaceOf, row_of}
-use Rattle.shr_rooms.specs.Told.{IsRecent}
-use Rattle.shr_rooms.specs.Views.{Made, RoomView, part_at, with_known, with_entry}
 use Rattle.shr_rooms.proofs.Parts as parts
 use Rattle.shr_rooms.proofs.Telling.{told_recent}
-use Rattle.shr_plain.specs.declared.answers.GrabAnswer.{GrabAnswer}
 use Rattle.shr_plain.specs.declared.answers.GrabAnswer.TheVariants as grab
-use Rattle.shr_plain.specs.declared.answers.ReleaseAnswer.{ReleaseAnswer}
 use Rattle.shr_plain.specs.declared.answers.ReleaseAnswer.TheVariants as release
-use Rattle.shr_plain.specs.Answers.{Sees, Makes, ReleaseGives, GrabGives}
-use Rattle.shr_plain.specs.Rule.{units}
-use Rattle.shr_plain.specs.Seat.{PlainState, no_state}
-use Rattle.shr_plain.specs.Settings.{IsPoolOf}
-use Rattle.shr_report.specs.declared.report.Report.{Report}
-use Rattle.shr_report.specs.Parts.{serial_of, commands_of, answers_of, answer_at, reply_at, at}
-use Rattle.shr_report.specs.UnitParts.{units_of, units_cited, units_cited_at}
+use Rattle.shr_report.specs.Parts.{answer_at}
 use Rattle.shr_report.specs.Swept.{IsSweepReply}
 use Rattle.shr_report.proofs.QuietSweep.{few_sweeps}
-use Rattle.shr_plain.specs.Opening.{settings_of, pool_sizes}
-use Rattle.shr_units.specs.Did.{home_of, home_room, release_reply, grab_reply, IsOther}
-use Rattle.shr_units.specs.Steps.{UnitsStep, steps_of}
-use Rattle.shr_units.specs.Runs.{AreUnits}
 use Rattle.shr_units.proofs.StepKinds.{Kind, released, grabbed, walked, idle}
 use Rattle.shr_units.proofs.Lists.{IsIn, in_right, begins_in, each_in}
 use Rattle.shr_units.proofs.Pooling.{IsHome, is_home}

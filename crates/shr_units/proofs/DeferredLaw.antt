@@ -1,31 +1,10 @@
 -- The deferred words of pools, of a run.
-use Rattle.std.proofs.Common.{◌≡◌, ℕ, zero, suc, ◌+◌, ◌<◌, ◌≤◌, ◌≢◌, ◌⊎◌, ⊎_elim, List, [], ◌∷◌, ◌++◌, length, flat_map, sym, refl, ap, subst, ◌∙◌, arith}
-use Rattle.std.specs.Prelude.{slice_get, Option, Some, None, filter_map, sum_by, option_and_then}
-use Rattle.std.proofs.lemmas.List.{append-nil}
-use Rattle.std.proofs.lemmas.List.Sums.{sum_by-append}
-use Rattle.std.proofs.lemmas.Option.{none-some}
+use Rattle.shr_units.proofs.Common.{◌≡◌, ℕ, zero, suc, ◌+◌, ◌<◌, ◌≤◌, ◌≢◌, ◌⊎◌, ⊎_elim, List, [], ◌∷◌, ◌++◌, length, flat_map, sym, refl, ap, subst, ◌∙◌, arith, slice_get, Option, Some, None, filter_map, sum_by, option_and_then, append-nil, sum_by-append, none-some, Place, Script, PassRecord, PlainTry, PlainWalk, sum_at, amount_at, IsPlaceOf, total, Begins, total-append, Moves, no_moves, both, takes_of, gives_of, takes_both, gives_both, PlainState, no_state, Report, cons_option, PlainJob, pass_in, pass_at, try_at, settings_of, pool_sizes, home_of, DidWalk, UnitsStep, steps_in, steps_of, last_of, AreUnits}
 use Rattle.shr_base.specs.declared.ends.PlaceAmount.{PlaceAmount}
 use Rattle.shr_base.specs.declared.ends.WorkerPart.{WorkerPart}
-use Rattle.shr_base.specs.declared.places.Place.{Place}
-use Rattle.shr_base.specs.declared.scripts.Script.{Script}
-use Rattle.shr_base.specs.declared.walks.PassRecord.{PassRecord}
-use Rattle.shr_base.specs.declared.walks.PlainTry.{PlainTry}
-use Rattle.shr_base.specs.declared.walks.PlainWalk.{PlainWalk}
-use Rattle.shr_model.specs.Deferred.{sum_at, amount_at, deferred_word}
-use Rattle.shr_seats.specs.Rows.{IsPlaceOf}
-use Rattle.shr_seats.specs.Weights.{total, Begins}
-use Rattle.shr_seats.proofs.Weighing.{total-append}
-use Rattle.shr_deferred.specs.Moves.{Moves, no_moves, both, takes_of, gives_of}
-use Rattle.shr_deferred.proofs.SeatLaws.{takes_both, gives_both}
-use Rattle.shr_plain.specs.Seat.{PlainState, no_state}
-use Rattle.shr_report.specs.declared.report.Report.{Report}
-use Rattle.std.specs.List.{cons_option}
-use Rattle.shr_report.specs.UnitParts.{PlainJob, plain_in, all_plain, pass_in, pass_at, passes_in, try_at}
+use Rattle.shr_model.specs.Deferred.{deferred_word}
+use Rattle.shr_report.specs.UnitParts.{plain_in, all_plain, passes_in}
 use Rattle.shr_report.specs.Pools.{pool_printed_at}
-use Rattle.shr_plain.specs.Opening.{settings_of, pool_sizes}
-use Rattle.shr_units.specs.Did.{home_of, DidWalk}
-use Rattle.shr_units.specs.Steps.{UnitsStep, steps_in, steps_of, last_of}
-use Rattle.shr_units.specs.Runs.{AreUnits}
 use Rattle.shr_units.proofs.StepKinds.{Kind, released, grabbed, walked, idle}
 use Rattle.shr_units.proofs.Lists.{IsIn, flat_in, sum_total, total_flat}
 use Rattle.shr_units.proofs.Pooling.{home_there, there_or_not}
@@ -59,7 +38,7 @@ sum_flat : (sum : Moves → ℕ) → IsSum sum → (f : UnitsStep → Moves) (xs
 sum_flat sum is f [] = is.none
 sum_flat sum is f (x ∷ xs) = omega (arith, is.more (f x) (flat_map f xs), sum_flat sum is f xs)
 
-same_totals : {A : Type 0} (g h : A → ℕ) (xs : List A) → ((j : ℕ) (x : A) → slice_get xs j ≡ Some x → g x ≡ h x) → total g xs ≡ total h xs
+pub same_totals : {A : Type 0} (g h : A → ℕ) (xs : List A) → ((j : ℕ) (x : A) → slice_get xs j ≡ Some x → g x ≡ h x) → total g xs ≡ total h xs
 same_totals g h [] e = refl
 same_totals g h (x ∷ xs) e = omega (arith, e 0 x refl, same_totals g h xs (λ j y d. e (suc j) y d))
 

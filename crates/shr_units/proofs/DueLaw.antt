@@ -1,23 +1,8 @@
 -- Each command has the walks of the pools that are due, and there is no other, of a run.
-use Rattle.std.proofs.Common.{◌≡◌, ℕ, zero, suc, ◌+◌, ◌<◌, ◌≤◌, ◌≢◌, ◌⊎◌, Bool, true, false, ◌&&◌, cond, List, [], ◌∷◌, ◌++◌, length, map, flat_map, sym, refl, ap, subst, ◌∙◌, arith, eq-eqb}
-use Rattle.std.specs.Prelude.{slice_get, Option, Some, option_map, filter, IsSomeAnd, ◌==◌}
-use Rattle.std.proofs.lemmas.Bool.{and_parts, eqb-true}
-use Rattle.std.proofs.lemmas.List.{append-nil}
-use Rattle.std.proofs.lemmas.Option.{same_Some, none-some}
-use native.Mathlib.Decide.{ℕ_discrete}
-use Rattle.shr_base.specs.declared.places.Serial.{Serial}
-use Rattle.shr_base.specs.declared.replies.Answered.{Answered}
-use Rattle.shr_base.specs.declared.replies.Reply.{Reply}
-use Rattle.shr_base.specs.declared.scripts.Command.{Command}
-use Rattle.shr_base.specs.declared.scripts.Script.{Script}
-use Rattle.shr_base.specs.declared.walks.PlainWalk.{PlainWalk}
+use Rattle.shr_units.proofs.Common.{◌≡◌, ℕ, zero, suc, ◌+◌, ◌<◌, ◌≤◌, ◌≢◌, ◌⊎◌, Bool, true, false, ◌&&◌, cond, List, [], ◌∷◌, ◌++◌, length, map, flat_map, sym, refl, ap, subst, ◌∙◌, arith, eq-eqb, slice_get, Option, Some, option_map, IsSomeAnd, ◌==◌, and_parts, eqb-true, append-nil, same_Some, none-some, ℕ_discrete, Serial, Answered, Reply, Command, Script, PlainWalk, no_state, Report, serial_of, command_at, reply_at, EachAnswer, PlainJob, plain_due, EachPlain, UnitsStep, steps_of, AreUnits}
+use Rattle.std.specs.Prelude.{filter}
 use Rattle.shr_model.specs.Commands.{is_serial}
-use Rattle.shr_plain.specs.Seat.{no_state}
-use Rattle.shr_report.specs.declared.report.Report.{Report}
-use Rattle.shr_report.specs.Parts.{serial_of, command_at, reply_at, EachAnswer}
-use Rattle.shr_report.specs.UnitParts.{PlainJob, plain_by, plain_job_of, plain_due, EachPlain}
-use Rattle.shr_units.specs.Steps.{UnitsStep, steps_of}
-use Rattle.shr_units.specs.Runs.{AreUnits}
+use Rattle.shr_report.specs.UnitParts.{plain_by, plain_job_of}
 use Rattle.shr_units.proofs.StepKinds.{Kind, released, grabbed, walked, idle}
 use Rattle.shr_units.proofs.Lists.{no_test}
 use Rattle.shr_units.proofs.Along.{gained, gained_is, all_gained}
@@ -26,7 +11,7 @@ use Rattle.shr_units.proofs.Walking.{walks_are}
 use Rattle.shr_units.proofs.Making.{walks_at, kind_at, longer_walks, Stepped, stepped}
 use Rattle.shr_units.proofs.WalkRecords.{WalkOf, walk_of, none_gained}
 
-filter_both : {A : Type 0} (p : A → Bool) (xs ys : List A) → filter p (xs ++ ys) ≡ filter p xs ++ filter p ys
+pub filter_both : {A : Type 0} (p : A → Bool) (xs ys : List A) → filter p (xs ++ ys) ≡ filter p xs ++ filter p ys
 filter_both p [] ys = refl
 filter_both {A} p (x ∷ xs) ys = kept (p x) (filter_both p xs ys)
   where
@@ -38,7 +23,7 @@ filter_flat : {A B : Type 0} (p : B → Bool) (f : A → List B) (xs : List A) �
 filter_flat p f [] = refl
 filter_flat p f (x ∷ xs) = filter_both p (f x) (flat_map f xs) ∙ ap (λ l. filter p (f x) ++ l) (filter_flat p f xs)
 
-flat_zero : {A B : Type 0} (f : A → List B) (xs : List A) → ((j : ℕ) (x : A) → slice_get xs j ≡ Some x → f x ≡ []) → flat_map f xs ≡ []
+pub flat_zero : {A B : Type 0} (f : A → List B) (xs : List A) → ((j : ℕ) (x : A) → slice_get xs j ≡ Some x → f x ≡ []) → flat_map f xs ≡ []
 flat_zero f [] h = refl
 flat_zero f (x ∷ xs) h = ap (λ l. l ++ flat_map f xs) (h 0 x refl) ∙ flat_zero f xs (λ j y e. h (suc j) y e)
 
@@ -47,7 +32,7 @@ flat_only f [] i x e h = absurd (none-some x e)
 flat_only f (y ∷ xs) zero x e h = ap (λ l. f y ++ l) (flat_zero f xs (λ j z d. h (suc j) z d (λ s. omega (arith, s)))) ∙ (append-nil (f y) ∙ ap f (same_Some y x e))
 flat_only f (y ∷ xs) (suc i) x e h = ap (λ l. l ++ flat_map f xs) (h 0 y refl (λ s. omega (arith, s))) ∙ flat_only f xs i x e (λ j z d ne. h (suc j) z d (λ s. ne (omega (arith, s))))
 
-serial_itself : (b : Serial) → is_serial b b ≡ true
+pub serial_itself : (b : Serial) → is_serial b b ≡ true
 serial_itself b = ap (λ (c : Bool). c && (b.command == b.command)) (eq-eqb b.worker b.worker refl) ∙ eq-eqb b.command b.command refl
 
 serial_same : (a b : Serial) → is_serial a b ≡ true → a.command ≡ b.command

@@ -1,30 +1,9 @@
 -- What a well formed report says of pools, of a run.
-use Rattle.std.proofs.Common.{◌≡◌, ℕ, zero, suc, ◌+◌, ◌<◌, ◌≤◌, ◌≢◌, ◌⊎◌, inl, inr, ⊎_elim, List, [], ◌∷◌, ◌++◌, length, map, get_or, sym, refl, ap, subst, ◌∙◌, arith}
-use Rattle.std.specs.Prelude.{slice_get, Some}
-use Rattle.std.specs.List.{AllByRecursion, AllAdjacentBelow}
-use Rattle.std.proofs.lemmas.Bool.{cases_lt}
-use Rattle.std.proofs.lemmas.List.{append-nil, map-append}
-use Rattle.std.proofs.lemmas.Option.{slice_get_within}
-use mathlib.Core.Logic.{dite}
-use native.Mathlib.Decide.{ℕ_discrete}
-use Rattle.shr_base.specs.declared.ends.UnitsEnd.{UnitsEnd}
-use Rattle.shr_base.specs.declared.journals.PlainEntry.{PlainEntry}
-use Rattle.shr_base.specs.declared.places.Place.{Place}
-use Rattle.shr_base.specs.declared.places.Serial.{Serial}
-use Rattle.shr_base.specs.declared.scripts.Script.{Script}
-use Rattle.shr_base.specs.declared.walks.PlainWalk.{PlainWalk}
-use Rattle.shr_seats.specs.declared.rows.Sizes.{Sizes}
-use Rattle.shr_seats.specs.Rows.{IsPlaceOf, row_of, row_count}
+use Rattle.shr_units.proofs.Common.{◌≡◌, ℕ, zero, suc, ◌+◌, ◌<◌, ◌≤◌, ◌≢◌, ◌⊎◌, inl, inr, ⊎_elim, List, [], ◌∷◌, ◌++◌, length, map, get_or, sym, refl, ap, subst, ◌∙◌, arith, slice_get, Some, AllByRecursion, cases_lt, append-nil, map-append, slice_get_within, dite, ℕ_discrete, UnitsEnd, PlainEntry, Place, Serial, Script, PlainWalk, Sizes, IsPlaceOf, row_of, row_count, EndValue, end_value, PlainState, no_state, Report, answers_of, serial_of, plain_of, AreNotFalling, units_place, pool_sizes, UnitsStep, steps_of, AreChained, state_after, last_of, AreUnits}
+use Rattle.std.specs.List.{AllAdjacentBelow}
 use Rattle.shr_seats.proofs.RowLaws as rows
-use Rattle.shr_plain.specs.Ending.{EndValue, end_value, ends_below}
-use Rattle.shr_plain.specs.Seat.{PlainState, no_state}
-use Rattle.shr_report.specs.declared.report.Report.{Report}
-use Rattle.shr_report.specs.Parts.{answers_of, serial_of}
-use Rattle.shr_report.specs.UnitParts.{plain_of}
-use Rattle.shr_report.specs.WellFormed.{AreNotFalling, AreOfCommands, IsPlaceBefore, IsPlaceUpTo, units_place}
-use Rattle.shr_plain.specs.Opening.{pool_sizes}
-use Rattle.shr_units.specs.Steps.{UnitsStep, steps_of, AreChained, state_after, last_of}
-use Rattle.shr_units.specs.Runs.{AreUnits}
+use Rattle.shr_plain.specs.Ending.{ends_below}
+use Rattle.shr_report.specs.WellFormed.{AreOfCommands, IsPlaceBefore, IsPlaceUpTo}
 use Rattle.shr_units.proofs.Lists.{IsIn, by_slices}
 use Rattle.shr_units.proofs.Pooling.{row_there}
 use Rattle.shr_units.proofs.Printing.{IsBelow, value_place, value_row, Rises, rises_below, among_below, printed, slice_map}

@@ -1,29 +1,6 @@
 -- Who made an entry of a pool's journal, who made a walk of the pools, and what steps knew.
-use Rattle.std.proofs.Common.{◌≡◌, ℕ, ◌+◌, ◌<◌, ◌≤◌, ◌≢◌, ◌⊎◌, ⊎_elim, cond, List, [], ◌∷◌, ◌++◌, length, get_or, sym, ap, subst, ◌∙◌, arith, append_assoc, eqb, ne_eqb}
-use Rattle.std.specs.Prelude.{slice_get, Some, nat_lt}
-use Rattle.std.proofs.lemmas.Bool.{lt-ltb}
-use Rattle.std.proofs.lemmas.Option.{same_Some, none-some, slice_get_within, slice_get-get_or}
-use mathlib.Core.Logic.{dite}
-use native.Mathlib.Decide.{ℕ_discrete}
-use Rattle.shr_base.specs.declared.journals.PlainEntry.{PlainEntry}
-use Rattle.shr_base.specs.declared.places.Serial.{Serial}
-use Rattle.shr_base.specs.declared.replies.Reply.{Reply}
-use Rattle.shr_base.specs.declared.scripts.Command.{Command}
-use Rattle.shr_base.specs.declared.scripts.Script.{Script}
-use Rattle.shr_base.specs.declared.walks.PlainWalk.{PlainWalk}
-use Rattle.shr_seats.specs.Rows.{row_count}
-use Rattle.shr_seats.specs.Weights.{total, Begins}
+use Rattle.shr_units.proofs.Common.{◌≡◌, ℕ, ◌+◌, ◌<◌, ◌≤◌, ◌≢◌, ◌⊎◌, ⊎_elim, cond, List, [], ◌∷◌, ◌++◌, length, get_or, sym, ap, subst, ◌∙◌, arith, append_assoc, eqb, ne_eqb, slice_get, Some, nat_lt, lt-ltb, same_Some, none-some, slice_get_within, slice_get-get_or, dite, ℕ_discrete, PlainEntry, Serial, Reply, Command, Script, PlainWalk, row_count, total, Begins, IsMade, IsCounted, Made, Counted, part_at, units, PlainState, no_state, Report, serial_of, commands_of, command_at, reply_at, plain_at, pool_sizes, UnitsStep, steps_in, steps_of, last_of, made_in, AreUnits}
 use Rattle.shr_seats.proofs.Weighing.{some_term}
-use Rattle.shr_rooms.specs.Rule.{IsMade, IsCounted}
-use Rattle.shr_rooms.specs.Views.{Made, Counted, part_at}
-use Rattle.shr_plain.specs.Rule.{units}
-use Rattle.shr_plain.specs.Seat.{PlainState, no_state}
-use Rattle.shr_report.specs.declared.report.Report.{Report}
-use Rattle.shr_report.specs.Parts.{serial_of, commands_of, command_at, reply_at}
-use Rattle.shr_report.specs.UnitParts.{plain_at}
-use Rattle.shr_plain.specs.Opening.{pool_sizes}
-use Rattle.shr_units.specs.Steps.{UnitsStep, steps_in, steps_of, last_of, made_in}
-use Rattle.shr_units.specs.Runs.{AreUnits}
 use Rattle.shr_units.proofs.StepKinds.{Kind, released, grabbed, walked, idle, kind_of}
 use Rattle.shr_units.proofs.Lists.{IsIn, each_in, flat_in, begins_in, count_total, at_some, slice_seam}
 use Rattle.shr_units.proofs.Rooms.{Gains, MayMake, same_gains, release_gains, grab_gains}

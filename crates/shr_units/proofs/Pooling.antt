@@ -1,18 +1,9 @@
 -- Places of pools, and their rooms.
-use Rattle.std.proofs.Common.{◌≡◌, ℕ, zero, suc, ◌+◌, ◌*◌, ◌/◌, ◌%◌, ◌<◌, ◌≤◌, ◌⊎◌, inl, inr, ⊎_elim, Bool, true, false, cond, List, [], ◌∷◌, length, map, sym, refl, ap, subst, ◌∙◌, arith, ne_eqb}
-use Rattle.std.specs.Prelude.{slice_get, ◌==◌}
-use Rattle.std.proofs.lemmas.Bool.{cases_lt}
+use Rattle.shr_units.proofs.Common.{◌≡◌, ℕ, zero, suc, ◌+◌, ◌*◌, ◌<◌, ◌≤◌, ◌⊎◌, inl, inr, ⊎_elim, Bool, true, false, cond, List, [], ◌∷◌, length, map, sym, refl, ap, subst, ◌∙◌, arith, ne_eqb, slice_get, ◌==◌, cases_lt, Place, PoolDecl, Script, Sizes, IsPlaceOf, row_of, row_count, place_in, setting_by, settings_of, pool_sizes, IsPoolOf, setting_of, place_of, pool_place, home_of}
+use Rattle.std.proofs.Common.{◌/◌, ◌%◌}
 use Rattle.std.proofs.lemmas.Nat.{div-mul-add, mod-mul-add}
-use Rattle.shr_base.specs.declared.places.Place.{Place}
-use Rattle.shr_base.specs.declared.scripts.PoolDecl.{PoolDecl}
-use Rattle.shr_base.specs.declared.scripts.Script.{Script}
-use Rattle.shr_seats.specs.declared.rows.Sizes.{Sizes}
-use Rattle.shr_seats.specs.Rows.{IsPlaceOf, row_of, row_count, place_in}
 use Rattle.shr_seats.proofs.RowLaws.{place_inside}
-use Rattle.shr_plain.specs.Opening.{setting_by, settings_of, pool_sizes}
-use Rattle.shr_plain.specs.Settings.{IsPoolOf, setting_of, place_of}
-use Rattle.shr_report.specs.UnitParts.{home_in, pool_place}
-use Rattle.shr_units.specs.Did.{home_of}
+use Rattle.shr_report.specs.UnitParts.{home_in}
 
 -- the home of a pool on a node, by its declaration and by its setting
 home_same : (ds : List PoolDecl) (pool node : ℕ) → (place_of (map setting_by ds) pool node).node ≡ home_in (slice_get ds pool) node
@@ -84,7 +75,7 @@ pub there_or_not : (z : Sizes) (p : Place) → IsPlaceOf z p ⊎ (IsPlaceOf z p 
 there_or_not z p = ⊎_elim (λ i. ⊎_elim (λ n. ⊎_elim (λ g. inl (record { id = i; node = n; group = g })) (λ g. inr (λ t. let h = t.group in omega (arith, h, g))) (cases_lt p.group z.groups))
     (λ n. inr (λ t. let h = t.node in omega (arith, h, n))) (cases_lt p.node z.nodes)) (λ i. inr (λ t. let h = t.id in omega (arith, h, i))) (cases_lt p.id z.ids)
 
-some_right : (a b : ℕ) → 0 < a * b → 0 < b
+pub some_right : (a b : ℕ) → 0 < a * b → 0 < b
 some_right a zero h = absurd (omega (arith, h))
 some_right a (suc b) h = omega arith
 

@@ -1,13 +1,7 @@
 -- The report of a run is lawful at the pools of units.
-use Rattle.std.specs.Prelude.{List}
-use Rattle.shr_base.specs.declared.scripts.Script.{Script}
-use Rattle.shr_report.specs.declared.report.Report.{Report}
+use Rattle.shr_units.proofs.Common.{List, Script, Report, UnitsStep, AreUnits, pool_sizes, refl}
 use Rattle.shr_report.specs.Pools.{ArePoolsLawful}
-use Rattle.shr_units.specs.Steps.{UnitsStep}
-use Rattle.shr_units.specs.Runs.{AreUnits}
 use Rattle.shr_units.proofs.Printing as printing
-use Rattle.shr_plain.specs.Opening.{pool_sizes}
-use Rattle.std.proofs.Common.{refl}
 use Rattle.shr_units.proofs.RepliesLaw as replies
 use Rattle.shr_units.proofs.Citing as citing
 use Rattle.shr_units.proofs.WalksLaw as walks

@@ -1,24 +1,9 @@
 -- The journals of pools that are printed, by their rooms.
-use Rattle.std.proofs.Common.{◌≡◌, ℕ, zero, suc, ◌+◌, ◌<◌, ◌≤◌, ◌≢◌, ◌⊎◌, ⊎_elim, Bool, true, false, cond, List, [], ◌∷◌, ◌++◌, length, map, sym, refl, ap, subst, ◌∙◌, arith}
-use Rattle.std.specs.Prelude.{slice_get, Option, Some, None, find}
-use Rattle.std.specs.List.{AllByRecursion}
-use Rattle.std.proofs.lemmas.List.{append-nil, map-append}
-use Rattle.std.proofs.lemmas.Option.{same_Some, none-some}
-use mathlib.Core.Logic.{dite}
-use native.Mathlib.Decide.{ℕ_discrete}
-use Rattle.shr_base.specs.declared.ends.UnitsEnd.{UnitsEnd}
-use Rattle.shr_base.specs.declared.journals.PlainEntry.{PlainEntry}
-use Rattle.shr_base.specs.declared.places.Place.{Place}
-use Rattle.shr_model.specs.Places.{is_place}
-use Rattle.shr_model.specs.Units.{free_of}
-use Rattle.shr_model.proofs.PlacesLaws.{is_place_same, is_place_itself}
-use Rattle.shr_seats.specs.declared.rows.Sizes.{Sizes}
-use Rattle.shr_seats.specs.Rows.{IsPlaceOf, row_of, row_count, place_in}
-use Rattle.shr_seats.proofs.RowLaws.{row_low, row_back}
-use Rattle.shr_plain.specs.Ending.{EndValue, end_value, end_of, ends_below}
-use Rattle.shr_report.specs.declared.report.Report.{Report}
-use Rattle.shr_report.specs.UnitParts.{units_in, units_of}
-use Rattle.shr_report.specs.WellFormed.{units_place}
+use Rattle.shr_units.proofs.Common.{◌≡◌, ℕ, zero, suc, ◌+◌, ◌<◌, ◌≤◌, ◌≢◌, ◌⊎◌, ⊎_elim, Bool, true, false, cond, List, [], ◌∷◌, ◌++◌, length, map, sym, refl, ap, subst, ◌∙◌, arith, slice_get, Option, Some, None, AllByRecursion, append-nil, map-append, same_Some, none-some, dite, ℕ_discrete, UnitsEnd, PlainEntry, Place, is_place, free_of, is_place_same, is_place_itself, Sizes, IsPlaceOf, row_of, row_count, place_in, row_low, EndValue, end_value, Report, units_of, units_place}
+use Rattle.std.specs.Prelude.{find}
+use Rattle.shr_seats.proofs.RowLaws.{row_back}
+use Rattle.shr_plain.specs.Ending.{end_of, ends_below}
+use Rattle.shr_report.specs.UnitParts.{units_in}
 use Rattle.shr_units.proofs.Lists.{IsIn, in_none, in_cases, no_test}
 use Rattle.shr_units.proofs.Pooling.{place_back, row_there}
 
@@ -41,11 +26,11 @@ seen_units (u ∷ us) p = choose (is_place (units_place u) p) (seen_units us p) 
   choose true others = refl
   choose false others = others
 
-find_front : {A : Type 0} (p : A → Bool) (xs ys : List A) → find p ys ≡ None → find p (xs ++ ys) ≡ find p xs
+pub find_front : {A : Type 0} (p : A → Bool) (xs ys : List A) → find p ys ≡ None → find p (xs ++ ys) ≡ find p xs
 find_front p [] ys none = none
 find_front p (x ∷ xs) ys none = ap (λ o. cond (p x) (Some x) o) (find_front p xs ys none)
 
-find_back : {A : Type 0} (p : A → Bool) (xs ys : List A) → find p xs ≡ None → find p (xs ++ ys) ≡ find p ys
+pub find_back : {A : Type 0} (p : A → Bool) (xs ys : List A) → find p xs ≡ None → find p (xs ++ ys) ≡ find p ys
 find_back p [] ys none = refl
 find_back {A} p (x ∷ xs) ys none = choose (p x) (λ h. find_back p xs ys h) none where
   some_none : Some x ≡ None → ⊥

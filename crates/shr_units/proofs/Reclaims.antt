@@ -1,31 +1,19 @@
 -- The Reclaim entries of a walk of the pools in a journal are those that the walk made there.
-use Rattle.std.proofs.Common.{◌≡◌, ℕ, zero, suc, ◌+◌, ◌*◌, ◌<◌, ◌≤◌, ◌≢◌, ◌⊎◌, inl, inr, ⊎_elim, Bool, true, false, ◌&&◌, cond, List, [], ◌∷◌, ◌++◌, length, sym, refl, ap, ◌∙◌, arith, eq-eqb, ne_eqb, le-leb}
-use Rattle.std.specs.Prelude.{slice_get, Option, Some, None, filter_map, sum, ◌==◌, nat_lt, nat_le}
-use Rattle.std.specs.List.{enumerate_from, cons_option}
-use Rattle.std.proofs.lemmas.Bool.{and_parts, eqb-true, cases_lt, leb-true, lt-ltb}
-use Rattle.std.proofs.lemmas.Option.{same_Some, none-some, slice_get_within}
-use mathlib.Core.Logic.{dite}
-use native.Mathlib.Decide.{ℕ_discrete}
-use Rattle.shr_base.specs.declared.journals.PlainEntry.{PlainEntry}
+use Rattle.shr_units.proofs.Common.{◌≡◌, ℕ, zero, suc, ◌+◌, ◌*◌, ◌<◌, ◌≤◌, ◌≢◌, ◌⊎◌, inl, inr, ⊎_elim, Bool, true, false, ◌&&◌, cond, List, [], ◌∷◌, ◌++◌, length, sym, refl, ap, ◌∙◌, arith, eq-eqb, ne_eqb, le-leb, slice_get, Option, Some, None, filter_map, sum, ◌==◌, nat_lt, nat_le, enumerate_from, cons_option, and_parts, eqb-true, cases_lt, leb-true, lt-ltb, same_Some, none-some, slice_get_within, dite, ℕ_discrete, PlainEntry, total, Made, ScanSeen, scan_by, ReclaimMade, reclaim_by}
 use Rattle.shr_base.specs.declared.journals.PlainEntry.TheVariants as entry
-use Rattle.shr_seats.specs.Weights.{total}
 use Rattle.shr_rooms.specs.Rule.{times}
-use Rattle.shr_rooms.specs.Views.{Made}
-use Rattle.shr_pass.specs.declared.answers.ScanSeen.{ScanSeen}
-use Rattle.shr_plain.specs.Counting.{scan_by}
-use Rattle.shr_report.specs.Pools.{ReclaimMade, reclaim_by}
 use Rattle.shr_units.proofs.Lists.{IsIn, all_zero, total_on, count_total, no_test}
 
 abbrev Makes : Type 0
 Makes = Made PlainEntry
 
-cond_yes : (b : Bool) (x y : ℕ) → b ≡ true → cond b x y ≡ x
+pub cond_yes : (b : Bool) (x y : ℕ) → b ≡ true → cond b x y ≡ x
 cond_yes b x y e = ap (λ c. cond c x y) e
 
-cond_no : (b : Bool) (x y : ℕ) → b ≡ false → cond b x y ≡ y
+pub cond_no : (b : Bool) (x y : ℕ) → b ≡ false → cond b x y ≡ y
 cond_no b x y e = ap (λ c. cond c x y) e
 
-not_le : (i n : ℕ) → n < i → nat_le i n ≡ false
+pub not_le : (i n : ℕ) → n < i → nat_le i n ≡ false
 not_le i n lt = no_test (nat_le i n) (λ e. let le = leb-true i n e in omega (arith, le, lt))
 
 -- ---- a sum over a journal is the sum over what was made, where each entry was made once

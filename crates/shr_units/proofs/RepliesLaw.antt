@@ -1,45 +1,13 @@
 -- The journals of pools that are printed, and the replies that cite them, of a run.
-use Rattle.std.proofs.Common.{◌≡◌, ℕ, ◌+◌, ◌<◌, ◌≤◌, ◌⊎◌, ⊎_elim, true, false, List, [], ◌∷◌, ◌++◌, length, take, sym, refl, ap, subst, ◌∙◌, arith, length-append}
-use Rattle.std.specs.Prelude.{slice_get, Option, Some, option_map, option_and_then, ⊤, IsSomeAnd}
-use Rattle.std.specs.List.{AllByRecursion}
-use Rattle.std.proofs.Math.Seq.{take-append_seam}
-use Rattle.std.proofs.lemmas.Option.{same_Some, none-some}
-use Rattle.shr_base.specs.declared.ends.UnitsEnd.{UnitsEnd}
-use Rattle.shr_base.specs.declared.journals.PlainEntry.{PlainEntry}
+use Rattle.shr_units.proofs.Common.{◌≡◌, ℕ, ◌+◌, ◌<◌, ◌≤◌, ◌⊎◌, ⊎_elim, true, false, List, [], ◌∷◌, ◌++◌, length, take, sym, refl, ap, subst, ◌∙◌, arith, length-append, slice_get, Option, Some, option_map, option_and_then, IsSomeAnd, AllByRecursion, take-append_seam, same_Some, none-some, UnitsEnd, PlainEntry, At, Place, Serial, Answered, Reply, Command, Release, Grab, Script, PassRecord, PlainWalk, free_of, IsPlaceOf, row_of, row_count, place_in, Begins, row_low, Made, RoomView, part_at, GrabAnswer, ReleaseAnswer, Sees, Makes, ReleaseGives, GrabGives, end_value, PlainState, no_state, IsPoolOf, Report, at, EachAnswer, pool_place, units_of, units_cited, units_cited_at, plain_at, pass_at, units_place, settings_of, pool_sizes, home_of, home_room, release_reply, grab_reply, IsOther, UnitsStep, steps_of, AreUnits}
+use Rattle.std.specs.Prelude.{⊤}
 use Rattle.shr_base.specs.declared.journals.PlainEntry.TheVariants as entry
-use Rattle.shr_base.specs.declared.places.At.{At}
-use Rattle.shr_base.specs.declared.places.Place.{Place}
-use Rattle.shr_base.specs.declared.places.Serial.{Serial}
-use Rattle.shr_base.specs.declared.replies.Answered.{Answered}
-use Rattle.shr_base.specs.declared.replies.Reply.{Reply}
 use Rattle.shr_base.specs.declared.replies.Reply.TheVariants as reply
-use Rattle.shr_base.specs.declared.scripts.Command.{Command}
-use Rattle.shr_base.specs.declared.scripts.Command.TheVariants.{Release, Grab}
-use Rattle.shr_base.specs.declared.scripts.Script.{Script}
-use Rattle.shr_base.specs.declared.walks.PassRecord.{PassRecord}
-use Rattle.shr_base.specs.declared.walks.PlainWalk.{PlainWalk}
-use Rattle.shr_model.specs.Units.{free_of, IsPlainJournal}
-use Rattle.shr_seats.specs.Rows.{IsPlaceOf, row_of, row_count, place_in}
-use Rattle.shr_seats.specs.Weights.{Begins}
-use Rattle.shr_seats.proofs.RowLaws.{row_low}
-use Rattle.shr_rooms.specs.Views.{Made, RoomView, part_at}
-use Rattle.shr_plain.specs.declared.answers.GrabAnswer.{GrabAnswer}
+use Rattle.shr_model.specs.Units.{IsPlainJournal}
 use Rattle.shr_plain.specs.declared.answers.GrabAnswer.TheVariants as grab
-use Rattle.shr_plain.specs.declared.answers.ReleaseAnswer.{ReleaseAnswer}
 use Rattle.shr_plain.specs.declared.answers.ReleaseAnswer.TheVariants as release
-use Rattle.shr_plain.specs.Answers.{Sees, Makes, ReleaseGives, GrabGives}
-use Rattle.shr_plain.specs.Ending.{end_value}
-use Rattle.shr_plain.specs.Seat.{PlainState, no_state}
-use Rattle.shr_plain.specs.Settings.{IsPoolOf}
-use Rattle.shr_report.specs.declared.report.Report.{Report}
-use Rattle.shr_report.specs.Parts.{at, EachAnswer}
-use Rattle.shr_report.specs.UnitParts.{pool_place, units_of, units_cited, units_cited_at, plain_by_of, plain_at, pass_at, EachUnits}
-use Rattle.shr_report.specs.WellFormed.{units_place}
+use Rattle.shr_report.specs.UnitParts.{plain_by_of, EachUnits}
 use Rattle.shr_report.specs.Pools.{AreUnitsRight, CitesUnits, IsTooFull, IsPoolReply, IsOfPlain}
-use Rattle.shr_plain.specs.Opening.{settings_of, pool_sizes}
-use Rattle.shr_units.specs.Did.{home_of, home_room, release_reply, grab_reply, IsOther}
-use Rattle.shr_units.specs.Steps.{UnitsStep, steps_of}
-use Rattle.shr_units.specs.Runs.{AreUnits}
 use Rattle.shr_units.proofs.StepKinds.{Kind, released, grabbed, walked, idle}
 use Rattle.shr_units.proofs.Lists.{IsIn, in_right, by_slices, slice_begins, slice_seam}
 use Rattle.shr_units.proofs.Pooling.{IsHome, home_there, pool_place_is, same_place, place_back, there_or_not}

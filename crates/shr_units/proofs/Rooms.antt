@@ -1,36 +1,10 @@
 -- What a step did and saw in one room.
-use Rattle.std.proofs.Common.{◌≡◌, ℕ, ◌+◌, ◌<◌, ◌≤◌, ◌≢◌, ◌⊎◌, true, false, List, [], ◌∷◌, ◌++◌, length, map, sym, refl, ap, subst, ◌∙◌, arith, append_assoc}
-use Rattle.std.specs.Prelude.{Some, flat_map}
-use Rattle.std.proofs.lemmas.List.{append-nil}
-use mathlib.Core.Logic.{dite}
-use native.Mathlib.Decide.{ℕ_discrete}
-use Rattle.shr_base.specs.declared.journals.PlainEntry.{PlainEntry}
+use Rattle.shr_units.proofs.Common.{◌≡◌, ℕ, ◌+◌, ◌<◌, ◌≤◌, ◌≢◌, ◌⊎◌, true, false, List, [], ◌∷◌, ◌++◌, length, map, sym, refl, ap, subst, ◌∙◌, arith, append_assoc, Some, flat_map, append-nil, dite, ℕ_discrete, PlainEntry, Place, Serial, Reply, Script, PassRecord, PlainWalk, IsPlaceOf, row_of, Begins, begins_all, Made, Counted, RoomView, part_at, with_known, with_entry, IsRecent, GrabAnswer, ReleaseAnswer, Sees, Makes, ReleaseGives, GrabGives, units, PlainState, IsPoolOf, at, units_cited, pass_at, plain_versions, settings_of, pool_sizes, home_of, home_room, release_reply, grab_reply, DidRelease, DidGrab}
 use Rattle.shr_base.specs.declared.journals.PlainEntry.TheVariants as entry
-use Rattle.shr_base.specs.declared.places.Place.{Place}
-use Rattle.shr_base.specs.declared.places.Serial.{Serial}
-use Rattle.shr_base.specs.declared.replies.Reply.{Reply}
-use Rattle.shr_base.specs.declared.scripts.Script.{Script}
-use Rattle.shr_base.specs.declared.walks.PassRecord.{PassRecord}
-use Rattle.shr_base.specs.declared.walks.PlainWalk.{PlainWalk}
-use Rattle.shr_seats.specs.Rows.{IsPlaceOf, row_of}
-use Rattle.shr_seats.specs.Weights.{Begins}
-use Rattle.shr_seats.proofs.Weighing.{begins_all}
-use Rattle.shr_rooms.specs.Views.{Made, Counted, RoomView, part_at, with_known, with_entry}
-use Rattle.shr_rooms.specs.Told.{IsTold, IsRecent}
+use Rattle.shr_rooms.specs.Told.{IsTold}
 use Rattle.shr_rooms.proofs.Parts as parts
-use Rattle.shr_plain.specs.declared.answers.GrabAnswer.{GrabAnswer}
 use Rattle.shr_plain.specs.declared.answers.GrabAnswer.TheVariants as grab
-use Rattle.shr_plain.specs.declared.answers.ReleaseAnswer.{ReleaseAnswer}
 use Rattle.shr_plain.specs.declared.answers.ReleaseAnswer.TheVariants as release
-use Rattle.shr_plain.specs.Answers.{Sees, Makes, ReleaseGives, GrabGives}
-use Rattle.shr_plain.specs.Rule.{units}
-use Rattle.shr_plain.specs.Seat.{PlainState}
-use Rattle.shr_plain.specs.Settings.{IsPoolOf}
-use Rattle.shr_report.specs.Parts.{at}
-use Rattle.shr_report.specs.UnitParts.{units_cited, pass_at}
-use Rattle.shr_report.specs.Pools.{plain_versions}
-use Rattle.shr_plain.specs.Opening.{settings_of, pool_sizes}
-use Rattle.shr_units.specs.Did.{home_of, home_room, release_reply, grab_reply, DidRelease, DidGrab}
 use Rattle.shr_units.proofs.Lists.{IsIn, in_none, in_one}
 use Rattle.shr_units.proofs.Pooling.{IsHome, is_home}
 

@@ -1,14 +1,7 @@
 -- The kinds of steps: a release, a grab, a walk of the pools, or none of these.
-use Rattle.std.proofs.Common.{◌≡◌, ℕ, List, [], ◌∷◌, refl, ap, ◌∙◌}
-use Rattle.shr_base.specs.declared.places.Serial.{Serial}
-use Rattle.shr_base.specs.declared.replies.Reply.{Reply}
-use Rattle.shr_base.specs.declared.scripts.Command.{Command}
-use Rattle.shr_base.specs.declared.scripts.Command.TheVariants.{Release, Grab}
-use Rattle.shr_base.specs.declared.scripts.PoolDecl.{PoolDecl}
-use Rattle.shr_base.specs.declared.scripts.Script.{Script}
-use Rattle.shr_plain.specs.Seat.{PlainState}
-use Rattle.shr_report.specs.UnitParts.{PlainJob, plain_jobs, plain_due}
-use Rattle.shr_units.specs.Did.{DidRelease, DidGrab, DidWalk, DidWalks, IsOther, DidUnitsOf}
+use Rattle.shr_units.proofs.Common.{◌≡◌, ℕ, List, [], ◌∷◌, refl, ap, ◌∙◌, Serial, Reply, Command, Release, Grab, PoolDecl, Script, PlainState, PlainJob, plain_due, DidRelease, DidGrab, DidWalk, IsOther, DidUnitsOf}
+use Rattle.shr_report.specs.UnitParts.{plain_jobs}
+use Rattle.shr_units.specs.Did.{DidWalks}
 
 -- what a command with this reply did between two states
 pub data Kind (s : Script) (by : Serial) (c : Command) (x : Reply) (t u : PlainState) : Type 0 where
@@ -18,7 +11,7 @@ pub data Kind (s : Script) (by : Serial) (c : Command) (x : Reply) (t u : PlainS
   idle : plain_due s c x ≡ [] → IsOther x → u ≡ t → Kind s by c x t u
 
 -- none is due after a release or a grab
-none_due : (s : Script) (c : Command) (x : Reply) → plain_jobs c x ≡ [] → plain_due s c x ≡ []
+pub none_due : (s : Script) (c : Command) (x : Reply) → plain_jobs c x ≡ [] → plain_due s c x ≡ []
 none_due s c x e = go s.pools.items where
   go : (ds : List PoolDecl) → plain_due (record s { pools = record s.pools { items = ds } }) c x ≡ []
   go [] = refl

@@ -1,31 +1,9 @@
 -- What the tries of a walk of the pools did in each room.
-use Rattle.std.proofs.Common.{◌≡◌, ℕ, zero, suc, ◌+◌, ◌<◌, ◌≤◌, ◌≢◌, ◌⊎◌, inl, inr, ⊎_elim, Bool, true, false, cond, List, [], ◌∷◌, ◌++◌, length, sym, refl, ap, subst, ◌∙◌, arith, append_assoc}
-use Rattle.std.specs.Prelude.{slice_get, Option, Some, None, sum_by}
-use Rattle.std.proofs.lemmas.List.{append-nil}
-use Rattle.std.proofs.lemmas.List.Sums.{sum_by-append, sum_by-cons}
-use Rattle.std.proofs.lemmas.Option.{same_Some, none-some}
-use mathlib.Core.Logic.{dite}
-use native.Mathlib.Decide.{ℕ_discrete}
-use Rattle.shr_base.specs.declared.places.Place.{Place}
-use Rattle.shr_base.specs.declared.places.Serial.{Serial}
-use Rattle.shr_base.specs.declared.walks.PassRecord.{PassRecord}
-use Rattle.shr_base.specs.declared.walks.PlainTry.{PlainTry}
-use Rattle.shr_base.specs.declared.walks.PlainTry.TheVariants.{Empty, Skip, Ran}
-use Rattle.shr_model.specs.Deferred.{sum_at, amount_at, amount_of}
-use Rattle.shr_model.specs.Places.{is_place}
-use Rattle.shr_model.proofs.PlacesLaws.{is_place_same, is_place_itself}
-use Rattle.shr_deferred.specs.Moves.{Moves, both, takes_of, gives_of, no_moves}
-use Rattle.shr_deferred.proofs.SeatLaws.{takes_both, gives_both}
+use Rattle.shr_units.proofs.Common.{◌≡◌, ℕ, zero, suc, ◌+◌, ◌<◌, ◌≤◌, ◌≢◌, ◌⊎◌, inl, inr, ⊎_elim, Bool, true, false, cond, List, [], ◌∷◌, ◌++◌, length, sym, refl, ap, subst, ◌∙◌, arith, append_assoc, slice_get, Option, Some, None, sum_by, append-nil, sum_by-append, sum_by-cons, same_Some, none-some, dite, ℕ_discrete, Place, Serial, PassRecord, PlainTry, Empty, Skip, Ran, sum_at, amount_at, is_place, is_place_same, is_place_itself, Moves, both, takes_of, gives_of, no_moves, takes_both, gives_both, Sizes, row_of, IsAcross, part_at, Setting, PlainState, place_of, answer_of, pass_in}
+use Rattle.shr_model.specs.Deferred.{amount_of}
 use Rattle.shr_pass.specs.Passes.{moves_by}
-use Rattle.shr_seats.specs.declared.rows.Sizes.{Sizes}
-use Rattle.shr_seats.specs.Rows.{row_of}
-use Rattle.shr_seats.proofs.RowLaws.{IsAcross, one_place}
-use Rattle.shr_rooms.specs.Views.{part_at}
-use Rattle.shr_plain.specs.declared.settings.Setting.{Setting}
-use Rattle.shr_plain.specs.Seat.{PlainState}
-use Rattle.shr_plain.specs.Settings.{place_of}
-use Rattle.shr_plain.specs.Walks.{TryGives, AreTried, answer_of}
-use Rattle.shr_report.specs.UnitParts.{pass_in}
+use Rattle.shr_seats.proofs.RowLaws.{one_place}
+use Rattle.shr_plain.specs.Walks.{TryGives, AreTried}
 use Rattle.shr_units.proofs.Lists.{no_test}
 
 -- what a pass weighs, if there is one

@@ -1,28 +1,6 @@
 -- The versions that a worker's walks of the pools counted at one place, of a run.
-use Rattle.std.proofs.Common.{◌≡◌, ℕ, zero, suc, ◌+◌, ◌<◌, ◌≤◌, ◌≢◌, ◌⊎◌, ⊎_elim, List, [], ◌∷◌, ◌++◌, length, map, flat_map, get_or, sym, refl, ap, subst, ◌∙◌, arith}
-use Rattle.std.specs.Prelude.{slice_get, Option, Some, None, option_map, option_to_list}
-use Rattle.std.specs.List.{AllByRecursion}
+use Rattle.shr_units.proofs.Common.{◌≡◌, ℕ, zero, suc, ◌+◌, ◌<◌, ◌≤◌, ◌≢◌, ◌⊎◌, ⊎_elim, List, [], ◌∷◌, ◌++◌, length, map, flat_map, get_or, sym, refl, ap, subst, ◌∙◌, arith, slice_get, Option, Some, None, option_map, option_to_list, AllByRecursion, append-nil, map-append, PlainEntry, Place, Serial, Script, PlainTry, PlainWalk, IsPlaceOf, row_of, IsRecent, Counted, RoomView, part_at, PlainState, no_state, Report, serial_of, at, AreNotFalling, plain_of, units_cited_at, try_at, EachPlain, version_in, plain_versions, pool_sizes, home_of, UnitsStep, steps_of, AreChained, state_after, last_of, AreUnits}
 use Rattle.std.proofs.lemmas.Grind.{flat_map-append}
-use Rattle.std.proofs.lemmas.List.{append-nil, map-append}
-use Rattle.shr_base.specs.declared.journals.PlainEntry.{PlainEntry}
-use Rattle.shr_base.specs.declared.places.Place.{Place}
-use Rattle.shr_base.specs.declared.places.Serial.{Serial}
-use Rattle.shr_base.specs.declared.scripts.Script.{Script}
-use Rattle.shr_base.specs.declared.walks.PlainTry.{PlainTry}
-use Rattle.shr_base.specs.declared.walks.PlainWalk.{PlainWalk}
-use Rattle.shr_seats.specs.Rows.{IsPlaceOf, row_of}
-use Rattle.shr_rooms.specs.Told.{IsRecent}
-use Rattle.shr_rooms.specs.Views.{Counted, RoomView, part_at}
-use Rattle.shr_plain.specs.Seat.{PlainState, no_state}
-use Rattle.shr_report.specs.declared.report.Report.{Report}
-use Rattle.shr_report.specs.Parts.{serial_of, at}
-use Rattle.shr_report.specs.WellFormed.{AreNotFalling}
-use Rattle.shr_report.specs.UnitParts.{plain_of, units_cited_at, try_at, EachPlain}
-use Rattle.shr_report.specs.Pools.{version_in, plain_versions}
-use Rattle.shr_plain.specs.Opening.{pool_sizes}
-use Rattle.shr_units.specs.Did.{home_of}
-use Rattle.shr_units.specs.Steps.{UnitsStep, steps_of, AreChained, state_after, last_of}
-use Rattle.shr_units.specs.Runs.{AreUnits}
 use Rattle.shr_units.proofs.Lists.{IsIn, each_in}
 use Rattle.shr_units.proofs.Pooling.{home_there, there_or_not}
 use Rattle.shr_units.proofs.Along.{gained, gained_is, all_gained}
@@ -31,6 +9,7 @@ use Rattle.shr_units.proofs.Walking.{inside, tried, try_there, count_version}
 use Rattle.shr_units.proofs.Making.{seen_at, walks_at, gains_at, longer_seen, longer_walks}
 use Rattle.shr_units.proofs.Citing.{Cited, cited_step, made_before}
 use Rattle.shr_units.proofs.WalkRecords.{WalkOf, walk_of}
+use Rattle.shr_units.proofs.DueLaw.{flat_zero}
 
 -- ---- what doesn't fall
 abbrev pub NotFalling : List ℕ → Type 0
@@ -71,10 +50,6 @@ along_counts : (i : ℕ) (t : PlainState) (mine : List UnitsStep) → AreChained
 along_counts i t [] c each h = h
 along_counts i t (x ∷ xs) c each h = let e = each 0 x refl in
     along_counts i x.after xs c.1 (λ k y d. each (suc k) y d) (subst (λ l. NotFalling (versions l)) (sym e.2) (one_more (seen_at i x.before) e.0 e.1 (subst (λ (u : PlainState). NotFalling (versions (seen_at i u))) (sym c.0) h) e.3))
-
-flat_zero : {A B : Type 0} (f : A → List B) (xs : List A) → ((j : ℕ) (x : A) → slice_get xs j ≡ Some x → f x ≡ []) → flat_map f xs ≡ []
-flat_zero f [] h = refl
-flat_zero f (x ∷ xs) h = ap (λ l. l ++ flat_map f xs) (h 0 x refl) ∙ flat_zero f xs (λ j y e. h (suc j) y e)
 
 module _ (s : Script) (r : Report) (workers : List (List UnitsStep)) (run : AreUnits s r workers) where
   -- the versions of the walks at a place are those that were counted there

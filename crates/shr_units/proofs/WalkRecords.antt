@@ -1,31 +1,6 @@
 -- The walks of the pools in a report: by the steps that made them.
-use Rattle.std.proofs.Common.{◌≡◌, ℕ, zero, suc, ◌+◌, ◌<◌, ◌≤◌, ◌≢◌, ◌⊎◌, ⊎_elim, List, [], ◌∷◌, ◌++◌, length, sym, refl, ap, subst, ◌∙◌, arith, length-append}
-use Rattle.std.specs.Prelude.{slice_get, Option, Some, None}
-use Rattle.std.specs.List.{enumerate_from}
-use Rattle.std.proofs.lemmas.Bool.{cases_lt}
-use Rattle.std.proofs.lemmas.List.{append-nil}
-use Rattle.std.proofs.lemmas.Option.{same_Some, none-some}
-use mathlib.Core.Logic.{dite}
-use native.Mathlib.Decide.{ℕ_discrete}
-use Rattle.shr_base.specs.declared.journals.PlainEntry.{PlainEntry}
+use Rattle.shr_units.proofs.Common.{◌≡◌, ℕ, zero, suc, ◌+◌, ◌<◌, ◌≤◌, ◌≢◌, ◌⊎◌, ⊎_elim, List, [], ◌∷◌, ◌++◌, length, sym, refl, ap, subst, ◌∙◌, arith, length-append, slice_get, Option, Some, None, enumerate_from, cases_lt, append-nil, same_Some, none-some, dite, ℕ_discrete, PlainEntry, Serial, Script, PlainWalk, row_count, total, IsMade, Made, ScanSeen, scan_by, scans_of, PlainState, no_state, Report, PlainJob, plain_at, plain_due, ReclaimMade, reclaim_by, reclaims_by, pool_sizes, DidWalk, UnitsStep, steps_in, steps_of, last_of, made_in, AreUnits}
 use Rattle.shr_base.specs.declared.journals.PlainEntry.TheVariants as entry
-use Rattle.shr_base.specs.declared.places.Serial.{Serial}
-use Rattle.shr_base.specs.declared.scripts.Script.{Script}
-use Rattle.shr_base.specs.declared.walks.PlainWalk.{PlainWalk}
-use Rattle.shr_seats.specs.Rows.{row_count}
-use Rattle.shr_seats.specs.Weights.{total}
-use Rattle.shr_rooms.specs.Rule.{IsMade}
-use Rattle.shr_rooms.specs.Views.{Made}
-use Rattle.shr_pass.specs.declared.answers.ScanSeen.{ScanSeen}
-use Rattle.shr_plain.specs.Counting.{scan_by, scans_of}
-use Rattle.shr_plain.specs.Seat.{PlainState, no_state}
-use Rattle.shr_report.specs.declared.report.Report.{Report}
-use Rattle.shr_report.specs.UnitParts.{PlainJob, plain_at, plain_due}
-use Rattle.shr_report.specs.Pools.{ReclaimMade, reclaim_by, reclaims_by}
-use Rattle.shr_plain.specs.Opening.{pool_sizes}
-use Rattle.shr_units.specs.Did.{DidWalk}
-use Rattle.shr_units.specs.Steps.{UnitsStep, steps_in, steps_of, last_of, made_in}
-use Rattle.shr_units.specs.Runs.{AreUnits}
 use Rattle.shr_units.proofs.StepKinds.{Kind, released, grabbed, walked, idle}
 use Rattle.shr_units.proofs.Lists.{IsIn, flat_in, each_in, total_flat, total_on, all_zero, only_at}
 use Rattle.shr_units.proofs.Along.{gained, gained_is, Longer, later_begins, Source, all_gained}

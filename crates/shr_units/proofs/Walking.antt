@@ -1,38 +1,9 @@
 -- What a walk of the pools did in each room.
-use Rattle.std.proofs.Common.{◌≡◌, ℕ, ◌+◌, ◌<◌, ◌≤◌, ◌≢◌, ◌⊎◌, ⊎_elim, Bool, true, false, cond, List, [], ◌∷◌, ◌++◌, length, sym, refl, ap, subst, ◌∙◌, arith}
-use Rattle.std.specs.Prelude.{slice_get, Option, Some, None, option_map, option_to_list, option_and_then, nat_le, ◌==◌}
-use Rattle.std.proofs.lemmas.List.{append-nil}
-use Rattle.std.proofs.lemmas.Option.{none-some, slice_get_within}
-use Rattle.shr_base.specs.declared.journals.PlainEntry.{PlainEntry}
+use Rattle.shr_units.proofs.Common.{◌≡◌, ℕ, ◌+◌, ◌<◌, ◌≤◌, ◌≢◌, ◌⊎◌, ⊎_elim, Bool, true, false, cond, List, [], ◌∷◌, ◌++◌, length, sym, refl, ap, subst, ◌∙◌, arith, slice_get, Option, Some, None, option_map, option_to_list, option_and_then, nat_le, ◌==◌, append-nil, none-some, slice_get_within, PlainEntry, Place, Serial, Reply, Script, PassRecord, PlainAnswer, PlainTry, Empty, Skip, Ran, PlainWalk, is_place, is_place_same, is_place_itself, row_of, Begins, IsAcross, Count, MatchPass, count_of, Made, Counted, RoomView, part_at, IsRecent, kind_of, PlainState, IsPoolOf, setting_of, place_of, Answers, answer_of, PlainJob, pass_in, pool_place, try_at, version_in, settings_of, pool_sizes, home_of, home_room, DidWalk}
 use Rattle.shr_base.specs.declared.journals.PlainEntry.TheVariants as entry
-use Rattle.shr_base.specs.declared.places.Place.{Place}
-use Rattle.shr_base.specs.declared.places.Serial.{Serial}
-use Rattle.shr_base.specs.declared.replies.Reply.{Reply}
-use Rattle.shr_base.specs.declared.scripts.Script.{Script}
-use Rattle.shr_base.specs.declared.walks.PassRecord.{PassRecord}
-use Rattle.shr_base.specs.declared.walks.PlainAnswer.{PlainAnswer}
 use Rattle.shr_base.specs.declared.walks.PlainAnswer.TheVariants as answer
-use Rattle.shr_base.specs.declared.walks.PlainTry.{PlainTry}
-use Rattle.shr_base.specs.declared.walks.PlainTry.TheVariants.{Empty, Skip, Ran}
-use Rattle.shr_base.specs.declared.walks.PlainWalk.{PlainWalk}
-use Rattle.shr_model.specs.Places.{is_place}
-use Rattle.shr_model.proofs.PlacesLaws.{is_place_same, is_place_itself}
-use Rattle.shr_seats.specs.Rows.{row_of}
-use Rattle.shr_seats.specs.Weights.{Begins}
-use Rattle.shr_seats.proofs.RowLaws.{IsAcross}
-use Rattle.shr_pass.specs.declared.answers.Count.{Count}
 use Rattle.shr_pass.specs.declared.answers.Count.TheVariants as counted
-use Rattle.shr_pass.specs.Passes.{MatchPass, count_of}
-use Rattle.shr_rooms.specs.Views.{Made, Counted, RoomView, part_at}
-use Rattle.shr_rooms.specs.Told.{IsRecent}
-use Rattle.shr_plain.specs.Counting.{kind_of, IsReclaimOf}
-use Rattle.shr_plain.specs.Seat.{PlainState}
-use Rattle.shr_plain.specs.Settings.{IsPoolOf, setting_of, place_of}
-use Rattle.shr_plain.specs.Walks.{Answers, answer_of}
-use Rattle.shr_report.specs.UnitParts.{PlainJob, pass_in, pool_place, try_at}
-use Rattle.shr_report.specs.Pools.{version_in}
-use Rattle.shr_plain.specs.Opening.{settings_of, pool_sizes}
-use Rattle.shr_units.specs.Did.{home_of, home_room, DidWalk}
+use Rattle.shr_plain.specs.Counting.{IsReclaimOf}
 use Rattle.shr_units.proofs.Lists.{IsIn, in_none, in_one, each_in}
 use Rattle.shr_units.proofs.Pooling.{pool_place_is, home_there, same_place, home_low, is_home}
 use Rattle.shr_units.proofs.Rooms.{Gains, MayMake}

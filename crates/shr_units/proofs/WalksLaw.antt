@@ -1,54 +1,20 @@
 -- Each walk of the pools in the report of a run is lawful.
-use Rattle.std.proofs.Common.{◌≡◌, ℕ, zero, suc, ◌+◌, ◌<◌, ◌≤◌, ◌≢◌, ◌⊎◌, inl, inr, ⊎_elim, Bool, true, false, cond, List, [], ◌∷◌, ◌++◌, length, map, take, sym, refl, ap, subst, ◌∙◌, arith, length-append, eqb, eq-eqb, le-leb}
-use Rattle.std.specs.Prelude.{slice_get, Some, sum_by, sum, nat_le, ◌==◌, replicate, All, ◌^◌}
-use Rattle.std.specs.List.{AllByRecursion, enumerate_from}
-use Rattle.std.proofs.Math.Seq.{take-append_seam}
-use Rattle.std.proofs.lemmas.Bool.{eqb-true, leb-true, cases_lt}
+use Rattle.shr_units.proofs.Common.{◌≡◌, ℕ, zero, suc, ◌+◌, ◌<◌, ◌≤◌, ◌≢◌, ◌⊎◌, inl, inr, ⊎_elim, Bool, true, false, cond, List, [], ◌∷◌, ◌++◌, length, map, take, sym, refl, ap, subst, ◌∙◌, arith, length-append, eqb, slice_get, Some, sum_by, sum, nat_le, ◌==◌, ◌^◌, AllByRecursion, enumerate_from, take-append_seam, eqb-true, leb-true, same_Some, none-some, slice_get_within, PlainEntry, Place, Serial, Spent, PoolDecl, Script, PassRecord, PlainAnswer, PlainTry, Empty, Skip, Ran, PlainWalk, free_of, IsPlaceOf, row_count, total, Begins, row_low, begins_more, Count, ScanSeen, MatchPass, count_of, IsCounted, Made, Counted, RoomView, part_at, Setting, IsWorn, kind_of, scan_by, scans_of, setting_by, settings_of, pool_sizes, units, setting_of, Answers, answer_of, Report, IsPoolSpent, pass_in, pool_place, units_of, EachPlain, version_in, ReclaimMade, reclaim_by, reclaims_by, home_of, home_room, DidWalk, UnitsStep, AreUnits}
+use Rattle.std.specs.Prelude.{replicate, All}
 use Rattle.std.proofs.lemmas.List.{append_cancel_left}
 use Rattle.std.proofs.lemmas.List.Sums.{sum-map}
-use Rattle.std.proofs.lemmas.Option.{same_Some, none-some, slice_get_within, get_or_from_slice_get}
-use Rattle.shr_base.specs.declared.journals.PlainEntry.{PlainEntry}
+use Rattle.std.proofs.lemmas.Option.{get_or_from_slice_get}
 use Rattle.shr_base.specs.declared.journals.PlainEntry.TheVariants as entry
-use Rattle.shr_base.specs.declared.places.Place.{Place}
-use Rattle.shr_base.specs.declared.places.Serial.{Serial}
-use Rattle.shr_base.specs.declared.replies.Spent.{Spent}
-use Rattle.shr_base.specs.declared.scripts.PoolDecl.{PoolDecl}
-use Rattle.shr_base.specs.declared.scripts.Script.{Script}
 use Rattle.shr_base.specs.declared.walks.Ending.{Ending}
 use Rattle.shr_base.specs.declared.walks.Ending.TheVariants as ending
-use Rattle.shr_base.specs.declared.walks.PassRecord.{PassRecord}
-use Rattle.shr_base.specs.declared.walks.PlainAnswer.{PlainAnswer}
 use Rattle.shr_base.specs.declared.walks.PlainAnswer.TheVariants.{Walked, Memory}
-use Rattle.shr_base.specs.declared.walks.PlainTry.{PlainTry}
-use Rattle.shr_base.specs.declared.walks.PlainTry.TheVariants.{Empty, Skip, Ran}
-use Rattle.shr_base.specs.declared.walks.PlainWalk.{PlainWalk}
 use Rattle.shr_model.specs.Pass.{batch_of, total_of, ask_size, due, FollowsArithmetic}
-use Rattle.shr_model.specs.Units.{free_of}
-use Rattle.shr_seats.specs.Rows.{IsPlaceOf, row_count}
-use Rattle.shr_seats.specs.Weights.{total, Begins}
-use Rattle.shr_seats.proofs.RowLaws.{row_low}
-use Rattle.shr_seats.proofs.Weighing.{begins_more}
-use Rattle.shr_pass.specs.declared.answers.Count.{Count}
 use Rattle.shr_pass.specs.declared.answers.Count.TheVariants as counted
-use Rattle.shr_pass.specs.declared.answers.ScanSeen.{ScanSeen}
-use Rattle.shr_pass.specs.Passes.{MatchPass, count_of, asked_of, freed_of}
-use Rattle.shr_rooms.specs.Rule.{IsCounted}
-use Rattle.shr_rooms.specs.Views.{Made, Counted, RoomView, part_at}
-use Rattle.shr_plain.specs.declared.settings.Setting.{Setting}
-use Rattle.shr_plain.specs.Answers.{IsWorn}
-use Rattle.shr_plain.specs.Counting.{kind_of, scan_by, scans_of}
-use Rattle.shr_plain.specs.Opening.{setting_by, settings_of, pool_sizes}
-use Rattle.shr_plain.specs.Rule.{units}
-use Rattle.shr_plain.specs.Settings.{setting_of}
+use Rattle.shr_pass.specs.Passes.{asked_of, freed_of}
 use Rattle.shr_plain.specs.Walks as plain
-use Rattle.shr_plain.specs.Walks.{Answers, AreCut, AreScans, EndsBy, HadMemory, lacked_memory, answer_of}
-use Rattle.shr_report.specs.declared.report.Report.{Report}
-use Rattle.shr_report.specs.Causes.{IsPoolSpent}
-use Rattle.shr_report.specs.UnitParts.{pass_in, pool_place, units_of, EachTry, EachPlain}
-use Rattle.shr_report.specs.Pools.{HasTries, plain_told, version_in, len_in, freed_in, IsPlainCount, IsKind, IsPlainEnding, ReclaimMade, reclaim_by, reclaims_by, IsPlainPass, IsPlainLawful}
-use Rattle.shr_units.specs.Did.{home_of, home_room, DidWalk}
-use Rattle.shr_units.specs.Steps.{UnitsStep}
-use Rattle.shr_units.specs.Runs.{AreUnits}
+use Rattle.shr_plain.specs.Walks.{AreCut, AreScans, EndsBy, HadMemory, lacked_memory}
+use Rattle.shr_report.specs.UnitParts.{EachTry}
+use Rattle.shr_report.specs.Pools.{HasTries, plain_told, len_in, freed_in, IsPlainCount, IsKind, IsPlainEnding, IsPlainPass, IsPlainLawful}
 use Rattle.shr_units.proofs.Lists.{IsIn, in_right, by_slices, total_on, sum_total, length_total, each_in, all_in}
 use Rattle.shr_units.proofs.Pooling.{home_there, settings_length}
 use Rattle.shr_units.proofs.Tries.{TriedAt}
@@ -58,6 +24,8 @@ use Rattle.shr_units.proofs.Citing.{journal_at}
 use Rattle.shr_units.proofs.WornLaw.{pool_spent}
 use Rattle.shr_units.proofs.Reclaims.{kept_in, kept_has, scan_is, enumerated, reclaim_is}
 use Rattle.shr_units.proofs.WalkRecords.{WalkOf, walk_of, more, reclaims_weigh, OfStep, of_step}
+use Rattle.shr_model.proofs.GroupsLaws.{above_zero}
+use Rattle.shr_model.proofs.Booleans.{above_of}
 
 -- ---- the answer of a walk
 has_tries : (pools : ℕ) (tries : List PlainTry) (a : PlainAnswer) → Answers pools tries a → HasTries pools a (length tries)
@@ -122,19 +90,12 @@ kind_number (counted.Empty version) = 0
 kind_number (counted.Skip len version) = 1
 kind_number (counted.Many len version) = 2
 
-some_if : (n : ℕ) → (n == 0) ≡ false → 0 < n
-some_if zero e = absurd (let f : true ≡ false = sym (eq-eqb 0 0 refl) ∙ e in cc)
-some_if (suc n) e = omega arith
-
-above_if : (n m : ℕ) → nat_le n m ≡ false → m < n
-above_if n m e = ⊎_elim (λ lt. lt) (λ le. absurd (let f : true ≡ false = sym (le-leb n m le) ∙ e in cc)) (cases_lt m n)
-
 -- a count of the second kind is from 1 to the floor, one of the third is above it
 skip_is : (floor : ℕ) (c : Counted) → kind_number (kind_of floor c) ≡ 1 → (0 < c.len) × (c.len ≤ floor)
 skip_is floor c = by_tests (c.len == 0) (nat_le c.len floor) refl refl where
   by_tests : (a b : Bool) → (c.len == 0) ≡ a → nat_le c.len floor ≡ b → kind_number (cond a (counted.Empty c.version) (cond b (counted.Skip c.len c.version) (counted.Many c.len c.version))) ≡ 1 → (0 < c.len) × (c.len ≤ floor)
   by_tests true b e f h = absurd (omega (arith, h))
-  by_tests false true e f h = (some_if c.len e, leb-true c.len floor f)
+  by_tests false true e f h = (above_zero c.len e, leb-true c.len floor f)
   by_tests false false e f h = absurd (omega (arith, h))
 
 many_is : (floor : ℕ) (c : Counted) → kind_number (kind_of floor c) ≡ 2 → floor < c.len
@@ -142,7 +103,7 @@ many_is floor c = by_tests (c.len == 0) (nat_le c.len floor) refl refl where
   by_tests : (a b : Bool) → (c.len == 0) ≡ a → nat_le c.len floor ≡ b → kind_number (cond a (counted.Empty c.version) (cond b (counted.Skip c.len c.version) (counted.Many c.len c.version))) ≡ 2 → floor < c.len
   by_tests true b e f h = absurd (omega (arith, h))
   by_tests false true e f h = absurd (omega (arith, h))
-  by_tests false false e f h = above_if c.len floor f
+  by_tests false false e f h = above_of c.len floor f
 
 setting_at : (ds : List PoolDecl) (k : ℕ) (d : PoolDecl) → slice_get ds k ≡ Some d → setting_of (map setting_by ds) k ≡ setting_by d
 setting_at [] k d e = absurd (none-some d e)
@@ -154,7 +115,7 @@ asked_alike : (size : ℕ) (xs : List ScanSeen) → AllByRecursion (λ v. v ≡ 
 asked_alike size [] h = tt
 asked_alike size (x ∷ xs) h = (h.0, asked_alike size xs h.1)
 
-take_alike : (size m n : ℕ) → AllByRecursion (λ v. v ≡ size) (take m (replicate n size))
+pub take_alike : (size m n : ℕ) → AllByRecursion (λ v. v ≡ size) (take m (replicate n size))
 take_alike size zero n = tt
 take_alike size (suc m) zero = tt
 take_alike size (suc m) (suc n) = (refl, take_alike size m n)

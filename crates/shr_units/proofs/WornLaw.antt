@@ -1,35 +1,9 @@
 -- A pool's journal that was found used up, of a run.
-use Rattle.std.proofs.Common.{◌≡◌, ℕ, ◌+◌, ◌<◌, ◌≤◌, List, ◌++◌, length, take, sym, refl, ap, subst, ◌∙◌, arith, length-append}
-use Rattle.std.specs.Prelude.{slice_get, Some, ◌^◌}
-use Rattle.std.proofs.Math.Seq.{take-append_seam}
-use Rattle.shr_base.specs.declared.journals.PlainEntry.{PlainEntry}
-use Rattle.shr_base.specs.declared.places.Place.{Place}
-use Rattle.shr_base.specs.declared.places.Serial.{Serial}
-use Rattle.shr_base.specs.declared.replies.Reply.{Reply}
+use Rattle.shr_units.proofs.Common.{◌≡◌, ℕ, ◌+◌, ◌<◌, ◌≤◌, List, ◌++◌, length, take, sym, refl, ap, subst, ◌∙◌, arith, length-append, slice_get, Some, ◌^◌, take-append_seam, PlainEntry, Place, Serial, Reply, Spent, Command, Release, Grab, Script, free_of, IsPlaceOf, row_of, Begins, row_low, RoomView, GrabAnswer, ReleaseAnswer, Sees, IsWorn, ReleaseGives, GrabGives, settings_of, pool_sizes, IsPoolOf, Report, IsPoolSpent, command_at, reply_at, pool_place, units_of, home_of, home_room, release_reply, grab_reply, DidUnitsOf, UnitsStep, steps_of, AreUnits}
 use Rattle.shr_base.specs.declared.replies.Reply.TheVariants as reply
-use Rattle.shr_base.specs.declared.replies.Spent.{Spent}
-use Rattle.shr_base.specs.declared.scripts.Command.{Command}
-use Rattle.shr_base.specs.declared.scripts.Command.TheVariants.{Release, Grab}
-use Rattle.shr_base.specs.declared.scripts.Script.{Script}
-use Rattle.shr_model.specs.Units.{free_of}
-use Rattle.shr_seats.specs.Rows.{IsPlaceOf, row_of}
-use Rattle.shr_seats.specs.Weights.{Begins}
-use Rattle.shr_seats.proofs.RowLaws.{row_low}
-use Rattle.shr_rooms.specs.Views.{RoomView}
-use Rattle.shr_plain.specs.declared.answers.GrabAnswer.{GrabAnswer}
 use Rattle.shr_plain.specs.declared.answers.GrabAnswer.TheVariants as grab
-use Rattle.shr_plain.specs.declared.answers.ReleaseAnswer.{ReleaseAnswer}
 use Rattle.shr_plain.specs.declared.answers.ReleaseAnswer.TheVariants as release
-use Rattle.shr_plain.specs.Answers.{Sees, IsWorn, ReleaseGives, GrabGives}
-use Rattle.shr_plain.specs.Opening.{settings_of, pool_sizes}
-use Rattle.shr_plain.specs.Settings.{IsPoolOf}
-use Rattle.shr_report.specs.declared.report.Report.{Report}
-use Rattle.shr_report.specs.Causes.{IsPoolSpent}
-use Rattle.shr_report.specs.Parts.{command_at, reply_at}
-use Rattle.shr_report.specs.UnitParts.{pool_place, units_of}
-use Rattle.shr_units.specs.Did.{home_of, home_room, release_reply, grab_reply, DidUnitsOf}
-use Rattle.shr_units.specs.Steps.{UnitsStep, steps_of}
-use Rattle.shr_units.specs.Runs.{AreUnits, IsPoolWorn}
+use Rattle.shr_units.specs.Runs.{IsPoolWorn}
 use Rattle.shr_units.proofs.Pooling.{home_there, pool_place_is}
 use Rattle.shr_units.proofs.Making.{known_is, Stepped, stepped}
 use Rattle.shr_units.proofs.Citing.{journal_at, sees_part}

@@ -1,21 +1,19 @@
 -- A word that was read is the one spelling of its item, and what is spelled so is read again.
-use Rattle.std.proofs.Common.{rules, ◌≡◌, ℕ, zero, suc, ◌+◌, ◌≤◌, ◌<◌, Bool, true, false, cond, ◌&&◌, ◌||◌, List, [], ◌∷◌, ◌++◌, length, get_or, Option, Some, None, Result, Ok, Err, refl, sym, ap, subst, ◌∙◌, arith, eq-eqb, lit<}
-use Rattle.std.specs.Prelude.{slice_index_or, ◌==◌, nat_le, nat_lt, option_map, bytes_eq, codes, decimal}
-use Rattle.std.specs.List.{list_all}
-use Rattle.std.specs.Str.Parse.{digits_value}
-use Rattle.std.proofs.lemmas.Bool.Decides.{nat_tests}
+use Rattle.shr_words.proofs.Common.{◌≡◌, ℕ, zero, suc, ◌+◌, ◌≤◌, ◌<◌, Bool, true, false, cond, ◌&&◌, ◌||◌, List, [], ◌∷◌, ◌++◌, length, get_or, Option, Some, None, Result, Ok, Err, refl, sym, ap, subst, ◌∙◌, arith, slice_index_or, ◌==◌, nat_le, nat_lt, option_map, bytes_eq, list_all, digits_value, nat_tests, is_visible, is_name_byte, Code, differs, is_part_of, all_parts, Word, Test, PathTest, NameTest, KeyTest, Number, Plain, Valued, Listed, Marked, Item, N, W, ◌>>=◌, is_digit, found_or, number_in, and_true, cut_part, same_byte}
+use Rattle.std.proofs.Common.{rules, eq-eqb, lit<}
+use Rattle.std.specs.Prelude.{codes, decimal}
 use Rattle.std.proofs.lemmas.Slice.Eq.{bytes_eq-Decides}
 use Rattle.std.proofs.lemmas.Str.Parse.{IsNumeralModel, numerals_by_value}
 use Rattle.std.proofs.lemmas.Fmt.{decimal-digits_value, digits_decimal, digits_value-decimal, decimal_nonempty, first_decimal, decimal_digit}
-use Rattle.shr_model.specs.Words.{is_visible, is_name_byte, is_value, is_part}
-use Rattle.shr_base.specs.declared.scripts.Code.{Code}
+use Rattle.shr_model.specs.Words.{is_value, is_part}
 use Rattle.shr_base.specs.declared.scripts.Code.TheVariants as codes_of
-use Rattle.shr_model.specs.Pieces.{cut, pieces, joined, differs, is_part_of}
-use Rattle.shr_model.specs.Paths.{is_path, all_parts}
-use Rattle.shr_words.specs.Classes.{Word, Test, PathTest, NameTest, KeyTest, passes, test_code, Choice, Policies, Kinds, Starts, Walks, PoolKinds, choice_words, Class, Number, Limit, Plain, Valued, Listed, Marked, Chosen, Item, N, L, W, ◌>>=◌, is_digit, is_numeral, number_of, limit_of, place_of, found_or, text_of, value_of, listed_of, marked_of, chosen_of, item_of, item_at, taken, ended, items_of, limit_word, word_of, IsOf, words_of, AreOf, number_in, as_of, shape, policy_place, policy_at, flag_place}
+use Rattle.shr_model.specs.Pieces.{cut, pieces, joined}
+use Rattle.shr_model.specs.Paths.{is_path}
+use Rattle.shr_words.specs.Classes.{passes, test_code, Choice, Policies, Kinds, Starts, Walks, PoolKinds, choice_words, Class, Limit, Chosen, L, is_numeral, number_of, limit_of, place_of, text_of, value_of, listed_of, marked_of, chosen_of, item_of, item_at, taken, ended, items_of, limit_word, word_of, IsOf, words_of, AreOf, as_of, shape, policy_place, policy_at, flag_place}
 use Rattle.shr_base.specs.declared.objects.Policy.{Policy}
 use Rattle.shr_base.specs.declared.objects.Policy.TheVariants as policies
-use Rattle.shr_model.proofs.PiecesLaws.{and_true, same_byte, joined_cut, cut_part, cut_first}
+use Rattle.shr_model.proofs.PiecesLaws.{joined_cut, cut_first}
+use Rattle.shr_model.proofs.Booleans.{and_right, below_of, le_of, lt_of}
 
 -- ---- tools
 
@@ -57,27 +55,15 @@ and4 true true false d e = absurd cc
 and4 true false c d e = absurd cc
 and4 false b c d e = absurd cc
 
-le_of : (a b : ℕ) → nat_le a b ≡ true → a ≤ b
-le_of a b e = grind (arith, nat_tests)
-
-lt_of : (a b : ℕ) → nat_lt a b ≡ true → a < b
-lt_of a b e = grind (arith, nat_tests)
-
-le_is : (a b : ℕ) → a ≤ b → nat_le a b ≡ true
-le_is a b e = grind (arith, nat_tests)
-
 lt_is : (a b : ℕ) → a < b → nat_lt a b ≡ true
 lt_is a b e = grind (arith, nat_tests)
-
-eq_of : (a b : ℕ) → (a == b) ≡ true → a ≡ b
-eq_of a b e = same_byte a b e
 
 numeral_is : (w : Word) → is_numeral w ≡ true → digits_value 10 w < 1000001 → w ≡ decimal (digits_value 10 w)
 unfolding is_numeral
 numeral_is w e small =
     let a = and3 (list_all is_digit w) (nat_le 1 (length w)) (cond (get_or w 0 0 == 48) (length w == 1) true) e in
-    let one : 1 ≤ length w = le_of 1 (length w) a.1 in
-    let first : get_or w 0 0 ≡ 48 → length w ≡ 1 = λ is. eq_of (length w) 1 (leads (get_or w 0 0 == 48) (length w == 1) a.2 (eq-eqb (get_or w 0 0) 48 is)) in
+    let one : 1 ≤ length w = below_of 1 (length w) a.1 in
+    let first : get_or w 0 0 ≡ 48 → length w ≡ 1 = λ is. same_byte (length w) 1 (leads (get_or w 0 0 == 48) (length w == 1) a.2 (eq-eqb (get_or w 0 0) 48 is)) in
     sym (decimal-digits_value own w a.0 (omega (arith, one)) first (omega (arith, small)))
 
 -- a word that was read as a number is its decimal spelling, and the number is within its bounds
@@ -89,7 +75,7 @@ number_takes low high w n e =
     let a = and4 (is_numeral w) (nat_le low v) (nat_lt v high) (nat_lt v 1000001) g.0 in
     let small : v < 1000001 = lt_of v 1000001 a.3 in
     subst (λ (m : ℕ). (w ≡ decimal m) × ((low ≤ m) × (m < high) × (m < 1000001))) g.1
-    (numeral_is w a.0 small, (le_of low v a.1, lt_of v high a.2, small))
+    (numeral_is w a.0 small, (below_of low v a.1, lt_of v high a.2, small))
 
 first_is : (n : ℕ) (w : Word) → decimal n ≡ w → n < 1000001 → (get_or w 0 0 ≡ 48) → length w ≡ 1
 first_is zero w e lt is = rw (sym e, decimal_digit 0 (lit< tt)) refl
@@ -104,15 +90,15 @@ unfolding is_numeral
 is_numeral-decimal n lt =
     let w = decimal n in
     let d : list_all is_digit w ≡ true = digits_decimal own n (omega (arith, lt)) in
-    let l : nat_le 1 (length w) ≡ true = le_is 1 (length w) (decimal_nonempty n (omega (arith, lt))) in
-    let z : cond (get_or w 0 0 == 48) (length w == 1) true ≡ true = led (get_or w 0 0 == 48) (length w == 1) (λ is. eq-eqb (length w) 1 (first_is n w refl lt (eq_of (get_or w 0 0) 48 is))) in
+    let l : nat_le 1 (length w) ≡ true = le_of 1 (length w) (decimal_nonempty n (omega (arith, lt))) in
+    let z : cond (get_or w 0 0 == 48) (length w == 1) true ≡ true = led (get_or w 0 0 == 48) (length w == 1) (λ is. eq-eqb (length w) 1 (first_is n w refl lt (same_byte (get_or w 0 0) 48 is))) in
     rw (d, l, z) refl
 
 -- the decimal spelling of a number within its bounds is read as that number
 pub number_again : (low high n : ℕ) → low ≤ n → n < high → n < 1000001 → number_of low high (decimal n) ≡ Ok n
 unfolding number_of
 number_again low high n le lt small =
-    rw (is_numeral-decimal n small, digits_value-decimal own n (omega (arith, small)), le_is low n le, lt_is n high lt, lt_is n 1000001 small) refl
+    rw (is_numeral-decimal n small, digits_value-decimal own n (omega (arith, small)), le_of low n le, lt_is n high lt, lt_is n 1000001 small) refl
 
 -- ---- places in lists
 
@@ -157,7 +143,7 @@ value_takes [] v e = absurd cc
 value_takes (b ∷ bs) v e =
     let g = guard_ok ((b == 61) && is_value bs) codes_of.BadText bs v e in
     let a = and_true (b == 61) (is_value bs) g.0 in
-    subst (λ (x : Word). (b ∷ bs ≡ 61 ∷ x) × (is_value x ≡ true)) g.1 (ap (λ (c : ℕ). c ∷ bs) (eq_of b 61 a.0), a.1)
+    subst (λ (x : Word). (b ∷ bs ≡ 61 ∷ x) × (is_value x ≡ true)) g.1 (ap (λ (c : ℕ). c ∷ bs) (same_byte b 61 a.0), a.1)
 
 found_takes : (code : Code) (r : Option ℕ) (i : ℕ) → found_or code r ≡ Ok i → r ≡ Some i
 found_takes code None i e = absurd cc
@@ -215,7 +201,7 @@ starts_with_digit n d ds lt e =
     let a : list_all is_digit (d ∷ ds) ≡ true = subst (λ (v : Word). list_all is_digit v ≡ true) e (digits_decimal own n (omega (arith, lt))) in
     let b = and_true (is_digit d) (list_all is_digit ds) a in
     let c = and_true (nat_le 48 d) (nat_le d 57) b.0 in
-    le_of d 57 c.1
+    below_of d 57 c.1
 
 not_max_at : (n : ℕ) → n < 1000001 → (t : Bool) → bytes_eq (decimal n) (codes "max") ≡ t → t ≡ false
 not_max_at n lt true e = let h = starts_with_digit n 109 (97 ∷ 120 ∷ []) lt ((bytes_eq-Decides (decimal n) (codes "max")).0 e) in absurd (omega (arith, h))
@@ -354,15 +340,12 @@ clean_visible b e = grind (arith, nat_tests)
 clean_digit : (b : ℕ) → is_digit b ≡ true → nat_lt 32 b ≡ true
 clean_digit b e = grind (arith, nat_tests)
 
-both : (a b : Bool) → (a && b) ≡ true → b ≡ true
-both a b e = (and_true a b e).1
-
 append_clean : (v w : Word) → IsClean v → IsClean w → IsClean (v ++ w)
 append_clean [] w g h = h
 append_clean (b ∷ v) w g h = let a = and_true (nat_lt 32 b) (list_all (nat_lt 32) v) g in rw (a.0, append_clean v w a.1 h) refl
 
 part_clean : (w : Word) → is_part w ≡ true → IsClean w
-part_clean w e = weaker is_name_byte (nat_lt 32) clean_name w (both (nat_le 1 (length w) && nat_le (length w) 32) (list_all is_name_byte w) e)
+part_clean w e = weaker is_name_byte (nat_lt 32) clean_name w (and_right (nat_le 1 (length w) && nat_le (length w) 32) (list_all is_name_byte w) e)
 
 joined_clean : (w : Word) (ws : List Word) → list_all is_part (w ∷ ws) ≡ true → IsClean (joined 47 w ws)
 unfolding joined
@@ -381,14 +364,14 @@ unfolding is_path pieces
 path_clean [] e = absurd cc
 path_clean (b ∷ bs) e =
     let a = and_true (b == 47) (bytes_eq bs [] || all_parts (pieces 47 bs)) e in
-    rw (eq_of b 47 a.0) (path_behind bs (bytes_eq bs []) refl a.1)
+    rw (same_byte b 47 a.0) (path_behind bs (bytes_eq bs []) refl a.1)
 
 -- a word that meets a test has no space and no line feed
 pub passes_clean : (t : Test) (w : Word) → passes t w ≡ true → IsClean w
 unfolding passes
 passes_clean PathTest w e = path_clean w e
-passes_clean NameTest w e = weaker is_name_byte (nat_lt 32) clean_name w (both (nat_le 1 (length w) && nat_le (length w) 16) (list_all is_name_byte w) e)
-passes_clean KeyTest w e = weaker is_visible (nat_lt 32) clean_visible w (both (nat_le 1 (length w) && nat_le (length w) 64) (list_all is_visible w) e)
+passes_clean NameTest w e = weaker is_name_byte (nat_lt 32) clean_name w (and_right (nat_le 1 (length w) && nat_le (length w) 16) (list_all is_name_byte w) e)
+passes_clean KeyTest w e = weaker is_visible (nat_lt 32) clean_visible w (and_right (nat_le 1 (length w) && nat_le (length w) 64) (list_all is_visible w) e)
 
 clean_at : (ws : List Word) (i : ℕ) → list_all (λ w. list_all (nat_lt 32) w) ws ≡ true → IsClean (get_or ws i [])
 clean_at [] i h = refl
@@ -419,7 +402,7 @@ word_clean (Plain t) (L l) h = absurd h
 word_clean (Plain t) (W w) h = passes_clean t w h
 word_clean Valued (N n) h = absurd h
 word_clean Valued (L l) h = absurd h
-word_clean Valued (W w) h = weaker is_visible (nat_lt 32) clean_visible w (both (nat_le 0 (length w) && nat_le (length w) 255) (list_all is_visible w) h)
+word_clean Valued (W w) h = weaker is_visible (nat_lt 32) clean_visible w (and_right (nat_le 0 (length w) && nat_le (length w) 255) (list_all is_visible w) h)
 word_clean (Listed t code ws) (N i) h = passes_clean t (get_or ws i []) h.0
 word_clean (Listed t code ws) (L l) h = absurd h
 word_clean (Listed t code ws) (W w) h = absurd h

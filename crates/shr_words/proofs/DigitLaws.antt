@@ -1,16 +1,11 @@
 -- The digits of a number.
-use Rattle.std.proofs.Common.{◌≡◌, ℕ, zero, suc, ◌+◌, ◌-◌, ◌*◌, ◌<◌, ◌≤◌, Bool, true, false, ◌&&◌, cond, List, [], ◌∷◌, length, take, drop, get_or, Ok, refl, arith, nat_lt}
-use Rattle.std.proofs.lemmas.List.{take_rest}
-use Rattle.std.specs.Prelude.{min, nat_le, ◌==◌}
-use Rattle.std.specs.List.{list_all}
+use Rattle.shr_words.proofs.Common.{◌≡◌, ℕ, zero, suc, ◌+◌, ◌-◌, ◌<◌, ◌≤◌, Bool, true, false, ◌&&◌, cond, List, [], ◌∷◌, length, take, drop, get_or, Ok, refl, arith, nat_lt, take_rest, min, nat_le, ◌==◌, list_all, digits_value, nat_tests, Word, N, Number, is_digit, and_true}
+use Rattle.std.proofs.Common.{◌*◌}
 use Rattle.std.specs.Char.{digit_value}
-use Rattle.std.specs.Str.Parse.{digits_value}
 use Rattle.std.proofs.lemmas.Int.Digits.{digits_value_more}
-use Rattle.std.proofs.lemmas.Bool.Decides.{nat_tests}
 use Rattle.shr_model.specs.Pieces.{cut, pieces}
-use Rattle.shr_words.specs.Classes.{Word, N, Number, is_digit, is_numeral, number_of, taken, item_at}
+use Rattle.shr_words.specs.Classes.{is_numeral, number_of, taken, item_at}
 use Rattle.shr_words.specs.Runs.{IsDigit}
-use Rattle.shr_model.proofs.PiecesLaws.{and_true}
 
 within : (b : ℕ) → is_digit b ≡ true → (48 ≤ b) × (b ≤ 57)
 within b e = grind (arith, nat_tests)

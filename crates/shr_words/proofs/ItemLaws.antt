@@ -1,14 +1,7 @@
 -- An item that a word of a class says, where the class is tested as the word is found.
-use Rattle.std.proofs.Common.{◌≡◌, ℕ, ◌-◌, ◌≤◌, Bool, true, false, cond, ◌&&◌, List, [], ◌∷◌, length, take, drop, get_or, Ok, Err, refl, arith}
-use Rattle.std.proofs.lemmas.List.{take_rest}
-use Rattle.std.specs.Prelude.{slice_index_or, ◌==◌, Result}
-use Rattle.std.specs.List.{list_all}
-use Rattle.shr_base.specs.declared.scripts.Code.{Code}
-use Rattle.shr_base.specs.declared.scripts.Code.TheVariants.{BadText, UnknownCache}
-use Rattle.shr_model.specs.Words.{is_visible, is_name_byte, is_between}
-use Rattle.shr_model.proofs.PiecesLaws.{same_byte}
-use Rattle.shr_words.specs.Classes.{◌>>=◌, Word, Item, N, W, Plain, NameTest, KeyTest, Valued, Listed, Marked, Test, taken, item_at, passes, text_of, value_of, listed_of, found_or, place_of, number_in}
-use Rattle.shr_words.specs.Runs.{taken_of}
+use Rattle.shr_words.proofs.Common.{◌≡◌, ℕ, ◌-◌, ◌≤◌, Bool, true, false, cond, ◌&&◌, List, [], ◌∷◌, length, take, drop, get_or, Ok, Err, refl, arith, take_rest, slice_index_or, ◌==◌, Result, list_all, Code, BadText, is_visible, is_name_byte, is_between, same_byte, ◌>>=◌, Word, Item, N, W, Plain, NameTest, KeyTest, Valued, Listed, Marked, Test, found_or, place_of, number_in, taken_of}
+use Rattle.shr_base.specs.declared.scripts.Code.TheVariants.{UnknownCache}
+use Rattle.shr_words.specs.Classes.{taken, item_at, passes, text_of, value_of, listed_of}
 
 -- a word of low to high bytes, as an item
 abbrev pub long_item : ℕ → ℕ → Word × List Word → Result (Item × List Word) Code

@@ -1,3 +1,4 @@
+mod Common
 pub mod ClassLaws
 pub mod DigitLaws
 pub mod ItemLaws

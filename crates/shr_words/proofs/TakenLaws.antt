@@ -1,14 +1,9 @@
 -- A word that is cut behind its bytes of a class is the next word of a line.
-use Rattle.std.proofs.Common.{◌≡◌, ℕ, suc, ◌+◌, Bool, true, false, cond, List, [], ◌∷◌, length, Some, Result, Ok, Err, refl, sym, ap, ◌∙◌, arith}
-use Rattle.std.specs.Prelude.{◌==◌, slice_index}
-use Rattle.std.specs.List.{prefix_len, list_all}
-use Rattle.std.proofs.lemmas.Bool.Decides.{nat_tests}
-use Rattle.shr_base.specs.declared.scripts.Code.{Code}
-use Rattle.shr_base.specs.declared.scripts.Code.TheVariants.{BadText}
+use Rattle.shr_words.proofs.Common.{◌≡◌, ℕ, suc, ◌+◌, Bool, true, false, cond, List, [], ◌∷◌, length, Some, Result, Ok, Err, refl, sym, ap, ◌∙◌, arith, ◌==◌, prefix_len, list_all, nat_tests, Code, BadText, same_byte, Word, taken_of, cut_at}
+use Rattle.std.specs.Prelude.{slice_index}
 use Rattle.shr_model.specs.Pieces.{Parts, onto, cut, pieces, left}
-use Rattle.shr_model.proofs.PiecesLaws.{same_byte}
-use Rattle.shr_words.specs.Classes.{Word, taken}
-use Rattle.shr_words.specs.Runs.{taken_of, cut_at}
+use Rattle.shr_words.specs.Classes.{taken}
+use Rattle.shr_model.proofs.Booleans.{not_zero}
 
 abbrev pub Found : Type 0
 Found = Result (Word × List Word) Code
@@ -20,9 +15,6 @@ longer b (Err e) = Err e
 
 same_suc : (m n : ℕ) → (suc m == suc n) ≡ (m == n)
 same_suc m n = grind (arith, nat_tests)
-
-zero_suc : (n : ℕ) → (0 == suc n) ≡ false
-zero_suc n = grind (arith, nat_tests)
 
 pub longer_at : (b : ℕ) (bs : List ℕ) (m : ℕ) (t u : Bool) → (m == length bs) ≡ t → (slice_index bs m == 32) ≡ u
     → cut_at (suc m) (b ∷ bs) ≡ longer b (cut_at m bs)
@@ -54,8 +46,8 @@ module _ (q : ℕ → Bool) (no : q 32 ≡ false) where
       let k : 1 + prefix_len q bs ≡ suc (prefix_len q bs) = omega arith in
       let one : cut_at (suc (prefix_len q bs)) (b ∷ bs) ≡ longer b (cut_at (prefix_len q bs) bs) = longer_at b bs (prefix_len q bs) _ _ refl refl in
       rw (e, f, k) (one ∙ (ap (longer b) h ∙ sym (longer_first b (cut 32 bs) _ refl e)))
-  step b bs false true e f h = rw (e, zero_suc (length bs), f) refl
-  step b bs false false e f h = rw (e, zero_suc (length bs), f, e) refl
+  step b bs false true e f h = rw (e, not_zero (length bs), f) refl
+  step b bs false false e f h = rw (e, not_zero (length bs), f, e) refl
 
   pub cut_first : (bytes : List ℕ) → cut_at (prefix_len q bytes) bytes ≡ first_of (cut 32 bytes)
   unfolding cut

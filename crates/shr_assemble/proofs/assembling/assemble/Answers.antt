@@ -1,12 +1,5 @@
-use Rattle.std.specs.Prelude.{◌≡◌, ◌+◌}
+use Rattle.shr_assemble.proofs.Common.{◌≡◌, ◌+◌, Report, IsFaithful, IsLawful, AreFreePutsAdded, DoPutsAddUp, IsWellFormed, IsMadeOf, IsPutTogether}
 use Rattle.std.proofs.lemmas.Result.{IfOk-weaker}
-use Rattle.shr_report.specs.declared.report.Report.{Report}
-use Rattle.shr_report.specs.Faithful.{IsFaithful}
-use Rattle.shr_report.specs.Lawful.{IsLawful}
-use Rattle.shr_report.specs.Puts.{AreFreePutsAdded, DoPutsAddUp}
-use Rattle.shr_report.specs.WellFormed.{IsWellFormed}
-use Rattle.shr_assemble.specs.Makes.{IsMadeOf}
-use Rattle.shr_assemble.specs.Putting.{IsPutTogether}
 use Rattle.shr_assemble.proofs.EndsLawful.{lawful, faithful, sums, free_puts, add_up, is_well_formed}
 use Rattle.shr_assemble.proofs.Made.{made_of}
 use Rattle.shr_assemble.proofs.assembling.assemble.Goals as goal

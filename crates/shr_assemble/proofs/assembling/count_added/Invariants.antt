@@ -1,5 +1,4 @@
-use Rattle.std.proofs.Common.{◌≡◌, ◌≤◌, take, length}
-use Rattle.shr_model.specs.Bag.{added_by_all}
+use Rattle.shr_assemble.proofs.Common.{◌≡◌, ◌≤◌, take, length, added_by_all}
 use Rattle.shr_assemble.proofs.assembling.count_added.Given as goal
 
 abbrev pub invariant-loop-entry : goal.invariant-loop-entry

@@ -1,5 +1,4 @@
-use Rattle.std.proofs.Common.{◌≡◌, ◌∷◌, map, take}
-use Rattle.std.specs.Prelude.{codes}
+use Rattle.shr_assemble.proofs.Common.{◌≡◌, ◌∷◌, map, take, codes}
 use Rattle.shr_assemble.proofs.assembling.paths_of.Given as goal
 
 abbrev pub invariant-loop-group : goal.invariant-loop-group

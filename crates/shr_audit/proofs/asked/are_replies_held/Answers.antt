@@ -1,7 +1,6 @@
+use Rattle.shr_audit.proofs.Common.{Holds, AreRepliesLawful}
 use Rattle.shr_formed.proofs.Eachs.{fails}
 use Rattle.shr_audit.specs.declared.verdict.Law.TheVariants as laws
-use Rattle.shr_audit.specs.Verdict.{Holds}
-use Rattle.shr_report.specs.Replies.{AreRepliesLawful}
 use Rattle.shr_audit.proofs.asked.are_replies_held.Goals as goal
 
 pub returns-then-not-branch : goal.returns-then-not-branch

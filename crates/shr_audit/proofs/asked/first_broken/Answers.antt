@@ -1,5 +1,5 @@
-use Rattle.std.proofs.Common.{arith}
-use Rattle.shr_audit.proofs.Premises.{is_tree, few_groups}
+use Rattle.shr_audit.proofs.Common.{arith, is_tree}
+use Rattle.shr_audit.proofs.Premises.{few_groups}
 use Rattle.shr_audit.proofs.Order.{held_none, held_more, first_broken, all_held}
 use Rattle.shr_audit.proofs.asked.first_broken.Goals as goal
 

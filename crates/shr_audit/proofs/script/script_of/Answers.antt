@@ -1,6 +1,4 @@
-use Rattle.std.proofs.Common.{sym, subst}
-use Rattle.shr_base.specs.declared.scripts.Script.{Script}
-use Rattle.shr_audit.specs.Script.{IsScriptOf}
+use Rattle.shr_audit.proofs.Common.{sym, subst, Script, IsScriptOf}
 use Rattle.shr_audit.proofs.OneScript.{tight_read}
 use Rattle.shr_audit.proofs.script.script_of.Goals as goal
 

@@ -1,5 +1,4 @@
-use Rattle.std.proofs.Common.{◌≡◌, map}
-use Rattle.shr_audit.specs.Script.{tight_worker}
+use Rattle.shr_audit.proofs.Common.{◌≡◌, map, tight_worker}
 use Rattle.shr_audit.proofs.script.tight_workers.Given as goal
 
 abbrev pub invariant-loop-worker : goal.invariant-loop-worker

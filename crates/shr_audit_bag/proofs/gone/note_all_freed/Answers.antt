@@ -1,11 +1,5 @@
-use Rattle.std.proofs.Common.{◌≡◌, ◌++◌, List, ap, ◌∙◌}
-use Rattle.std.specs.Prelude.{flat_map}
-use Rattle.shr_base.specs.declared.ends.PlaceEnd.{PlaceEnd}
-use Rattle.shr_base.specs.declared.places.Place.{Place}
-use Rattle.shr_base.specs.declared.places.Serial.{Serial}
-use Rattle.shr_model.specs.Bag.{freed_at, serials_of}
-use Rattle.shr_report.specs.Parts.{journals_of}
-use Rattle.shr_audit_bag.proofs.Adding.{flat_more, flat_all}
+use Rattle.shr_audit_bag.proofs.Common.{◌≡◌, ◌++◌, List, ap, ◌∙◌, flat_map, PlaceEnd, Place, Serial, freed_at, serials_of, journals_of, flat_all}
+use Rattle.shr_audit_bag.proofs.Adding.{flat_more}
 use Rattle.shr_audit_bag.proofs.Law.{by_places}
 use Rattle.shr_audit_bag.proofs.gone.note_all_freed.Goals as goal
 

@@ -1,8 +1,4 @@
-use Rattle.std.proofs.Common.{◌≡◌, ◌++◌, take}
-use Rattle.std.specs.Prelude.{flat_map}
-use Rattle.shr_base.specs.declared.ends.PlaceEnd.{PlaceEnd}
-use Rattle.shr_model.specs.Bag.{freed_at, serials_of}
-use Rattle.shr_report.specs.Parts.{journals_of}
+use Rattle.shr_audit_bag.proofs.Common.{◌≡◌, ◌++◌, take, flat_map, PlaceEnd, freed_at, serials_of, journals_of}
 use Rattle.shr_audit_bag.proofs.gone.note_all_freed.Given as goal
 
 abbrev pub invariant-loop-end : goal.invariant-loop-end

@@ -1,12 +1,5 @@
-use Rattle.std.proofs.Common.{◌≡◌, ◌++◌, List, ap, ◌∙◌}
-use Rattle.std.specs.Prelude.{flat_map}
-use Rattle.shr_base.specs.declared.ends.PlaceEnd.{PlaceEnd}
-use Rattle.shr_base.specs.declared.places.Place.{Place}
-use Rattle.shr_base.specs.declared.places.Serial.{Serial}
-use Rattle.shr_model.specs.Bag.{serials_of}
-use Rattle.shr_model.specs.Families.{items_of}
-use Rattle.shr_report.specs.Parts.{journals_of}
-use Rattle.shr_audit_bag.proofs.Adding.{flat_more, flat_all}
+use Rattle.shr_audit_bag.proofs.Common.{◌≡◌, ◌++◌, List, ap, ◌∙◌, flat_map, PlaceEnd, Place, Serial, serials_of, items_of, journals_of, flat_all}
+use Rattle.shr_audit_bag.proofs.Adding.{flat_more}
 use Rattle.shr_audit_bag.proofs.Law.{by_places}
 use Rattle.shr_audit_bag.proofs.gone.note_all_left.Goals as goal
 

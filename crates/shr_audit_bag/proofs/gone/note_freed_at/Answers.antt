@@ -1,7 +1,5 @@
-use Rattle.std.proofs.Common.{◌++◌, List, map, ap, [], ◌∙◌}
-use Rattle.shr_base.specs.declared.places.Serial.{Serial}
+use Rattle.shr_audit_bag.proofs.Common.{◌++◌, List, map, ap, [], ◌∙◌, Serial, freed_serial}
 use Rattle.shr_replay.specs.declared.tags.FreedTag.{FreedTag}
-use Rattle.shr_audit_bag.specs.Gone.{freed_serial}
 use Rattle.shr_audit_bag.proofs.Law.{freed_serials}
 use Rattle.shr_audit_bag.proofs.gone.note_freed_at.Goals as goal
 

@@ -1,5 +1,4 @@
-use Rattle.std.proofs.Common.{◌≡◌, ◌++◌, map, take}
-use Rattle.shr_audit_bag.specs.Gone.{left_serial}
+use Rattle.shr_audit_bag.proofs.Common.{◌≡◌, ◌++◌, map, take, left_serial}
 use Rattle.shr_audit_bag.proofs.gone.note_left.Given as goal
 
 abbrev pub invariant-loop-tag : goal.invariant-loop-tag

@@ -1,6 +1,4 @@
-use Rattle.std.proofs.Common.{◌++◌, List, map, ap, ◌∙◌}
-use Rattle.shr_base.specs.declared.places.Serial.{Serial}
-use Rattle.shr_audit_bag.specs.Gone.{left_serial}
+use Rattle.shr_audit_bag.proofs.Common.{◌++◌, List, map, ap, ◌∙◌, Serial, left_serial}
 use Rattle.shr_audit_bag.proofs.Law.{left_serials}
 use Rattle.shr_audit_bag.proofs.gone.note_left_at.Goals as goal
 

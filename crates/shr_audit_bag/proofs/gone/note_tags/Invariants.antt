@@ -1,5 +1,4 @@
-use Rattle.std.proofs.Common.{◌≡◌, ◌++◌, map, take}
-use Rattle.shr_audit_bag.specs.Gone.{freed_serial}
+use Rattle.shr_audit_bag.proofs.Common.{◌≡◌, ◌++◌, map, take, freed_serial}
 use Rattle.shr_audit_bag.proofs.gone.note_tags.Given as goal
 
 abbrev pub invariant-loop-freed : goal.invariant-loop-freed

@@ -1,11 +1,5 @@
-use Rattle.std.proofs.Common.{◌≡◌, ◌++◌, [], List, ap, ◌∙◌}
-use Rattle.std.specs.Prelude.{flat_map}
-use Rattle.shr_base.specs.declared.ends.PlaceEnd.{PlaceEnd}
-use Rattle.shr_base.specs.declared.journals.Entry.{Entry}
-use Rattle.shr_base.specs.declared.places.Place.{Place}
-use Rattle.shr_model.specs.Bag.{added_by_all}
-use Rattle.shr_report.specs.Parts.{journals_of}
-use Rattle.shr_audit_bag.proofs.Adding.{flat_more, flat_all}
+use Rattle.shr_audit_bag.proofs.Common.{◌≡◌, ◌++◌, [], List, ap, ◌∙◌, flat_map, PlaceEnd, Entry, Place, added_by_all, journals_of, flat_all}
+use Rattle.shr_audit_bag.proofs.Adding.{flat_more}
 use Rattle.shr_audit_bag.proofs.Law.{by_places}
 use Rattle.shr_audit_bag.proofs.noted.added_serials.Goals as goal
 

@@ -1,8 +1,4 @@
-use Rattle.std.proofs.Common.{◌≡◌, [], ◌++◌, take}
-use Rattle.std.specs.Prelude.{flat_map}
-use Rattle.shr_base.specs.declared.ends.PlaceEnd.{PlaceEnd}
-use Rattle.shr_model.specs.Bag.{added_by_all}
-use Rattle.shr_report.specs.Parts.{journals_of}
+use Rattle.shr_audit_bag.proofs.Common.{◌≡◌, [], ◌++◌, take, flat_map, PlaceEnd, added_by_all, journals_of}
 use Rattle.shr_audit_bag.proofs.noted.added_serials.Given as goal
 
 abbrev pub invariant-loop-end : goal.invariant-loop-end

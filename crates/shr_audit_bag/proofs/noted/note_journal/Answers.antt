@@ -1,5 +1,5 @@
-use Rattle.shr_model.specs.Bag.{added_by}
-use Rattle.shr_audit_bag.proofs.Adding.{flat_more, flat_all}
+use Rattle.shr_audit_bag.proofs.Common.{added_by, flat_all}
+use Rattle.shr_audit_bag.proofs.Adding.{flat_more}
 use Rattle.shr_audit_bag.proofs.noted.note_journal.Goals as goal
 
 pub loop-entry-preserved : goal.loop-entry-preserved

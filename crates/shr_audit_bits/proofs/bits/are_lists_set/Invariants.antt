@@ -1,7 +1,4 @@
-use Rattle.std.proofs.Common.{◌≡◌, ◌<◌, ℕ, Some}
-use Rattle.std.specs.Prelude.{slice_get}
-use Rattle.shr_base.specs.declared.ends.PlaceEnd.{PlaceEnd}
-use Rattle.shr_audit_bits.specs.Set.{IsSetIfLive}
+use Rattle.shr_audit_bits.proofs.Common.{◌≡◌, ◌<◌, ℕ, Some, slice_get, PlaceEnd, IsSetIfLive}
 use Rattle.shr_audit_bits.proofs.bits.are_lists_set.Given as goal
 
 abbrev pub invariant-loop-end : goal.invariant-loop-end

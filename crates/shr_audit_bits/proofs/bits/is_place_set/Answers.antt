@@ -1,5 +1,4 @@
-use Rattle.std.proofs.Common.{length, sym, ap, ◌∙◌}
-use Rattle.std.proofs.lemmas.Bool.{eqb-true, eq-eqb}
+use Rattle.shr_audit_bits.proofs.Common.{length, sym, ap, ◌∙◌, eqb-true, eq-eqb}
 use Rattle.shr_audit_bits.proofs.Setting.{nothing_left, not_live, live, clash}
 use Rattle.shr_audit_bits.proofs.bits.is_place_set.Goals as goal
 

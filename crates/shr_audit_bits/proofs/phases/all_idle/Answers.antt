@@ -1,6 +1,7 @@
 use Rattle.std.proofs.Common.{◌≡◌, ℕ, ◌+◌, List, [], ◌∷◌, length, length-append, get_or, sym, ap, subst, ◌∙◌, arith}
-use Rattle.shr_audit_bits.proofs.Phasing.{zero_more, phases_none}
+use Rattle.shr_audit_bits.proofs.Phasing.{phases_none}
 use Rattle.shr_audit_bits.proofs.phases.all_idle.Goals as goal
+use Rattle.shr_model.proofs.Lists.{zero_more}
 
 pub loop-id-preserved : goal.loop-id-preserved
 loop-id-preserved c =

@@ -1,7 +1,4 @@
-use Rattle.std.proofs.Common.{List, take, sym, subst}
-use Rattle.std.proofs.lemmas.List.{take_more, take_all}
-use Rattle.shr_base.specs.declared.journals.PoolEntry.{PoolEntry}
-use Rattle.shr_audit_bits.specs.Set.{ArePhases}
+use Rattle.shr_audit_bits.proofs.Common.{List, take, sym, subst, take_more, take_all, PoolEntry, ArePhases}
 use Rattle.shr_audit_bits.proofs.phases.phases_of.Goals as goal
 
 pub note_entry-requires : goal.note_entry-requires

@@ -1,5 +1,4 @@
-use Rattle.std.proofs.Common.{take}
-use Rattle.shr_audit_bits.specs.Set.{ArePhases}
+use Rattle.shr_audit_bits.proofs.Common.{take, ArePhases}
 use Rattle.shr_audit_bits.proofs.phases.phases_of.Given as goal
 
 abbrev pub invariant-loop-entry : goal.invariant-loop-entry

@@ -1,7 +1,4 @@
-use Rattle.std.proofs.Common.{List, take, sym, subst}
-use Rattle.std.proofs.lemmas.List.{take_more, take_all}
-use Rattle.shr_base.specs.declared.ends.MapEnd.{MapEnd}
-use Rattle.shr_audit_bits.specs.Words.{AreWords}
+use Rattle.shr_audit_bits.proofs.Common.{List, take, sym, subst, take_more, take_all, MapEnd, AreWords}
 use Rattle.shr_audit_bits.proofs.words.words_of.Goals as goal
 
 pub loop-map-preserved : goal.loop-map-preserved

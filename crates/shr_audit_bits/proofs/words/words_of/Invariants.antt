@@ -1,5 +1,4 @@
-use Rattle.std.proofs.Common.{take}
-use Rattle.shr_audit_bits.specs.Words.{AreWords}
+use Rattle.shr_audit_bits.proofs.Common.{take, AreWords}
 use Rattle.shr_audit_bits.proofs.words.words_of.Given as goal
 
 abbrev pub invariant-loop-map : goal.invariant-loop-map

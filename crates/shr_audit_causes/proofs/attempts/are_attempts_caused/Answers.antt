@@ -1,10 +1,7 @@
-use Rattle.std.proofs.Common.{◌≡◌, ℕ, List, Some, slice_get, subst}
-use Rattle.std.specs.Bool.{Decides}
-use Rattle.shr_base.specs.declared.ends.WorkerPart.{WorkerPart}
-use Rattle.shr_case.proofs.Eachs.{decides_iff, each_walk_of}
-use Rattle.shr_formed.specs.Each.{Each}
-use Rattle.shr_report.specs.Parts.{EachAttempt, EachWalk}
-use Rattle.shr_audit_causes.specs.Walks.{IsAttemptCaused, IsWornRightly}
+use Rattle.shr_audit_causes.proofs.Common.{◌≡◌, ℕ, List, Some, slice_get, subst, Decides, WorkerPart, each_walk_of, Each, EachAttempt, IsAttemptCaused}
+use Rattle.shr_case.proofs.Eachs.{decides_iff}
+use Rattle.shr_report.specs.Parts.{EachWalk}
+use Rattle.shr_audit_causes.specs.Walks.{IsWornRightly}
 use Rattle.shr_audit_causes.proofs.Wearing.{caused_rightly, rightly_caused}
 use Rattle.shr_audit_causes.proofs.attempts.are_attempts_caused.Goals as goal
 

@@ -1,12 +1,4 @@
-use Rattle.std.proofs.Common.{ℕ, List, subst, sym}
-use Rattle.shr_base.specs.declared.ends.WorkerPart.{WorkerPart}
-use Rattle.shr_base.specs.declared.scripts.Script.{Script}
-use Rattle.shr_base.specs.declared.walks.WalkRecord.{WalkRecord}
-use Rattle.shr_formed.specs.Each.{Each}
-use Rattle.shr_formed.proofs.Eachs.{all_at, more_at}
-use Rattle.shr_report.specs.declared.report.Report.{Report}
-use Rattle.shr_report.specs.Parts.{EachAttempt}
-use Rattle.shr_audit_causes.specs.Walks.{IsAttemptCaused}
+use Rattle.shr_audit_causes.proofs.Common.{ℕ, List, subst, sym, WorkerPart, Script, WalkRecord, Each, all_at, more_at, Report, EachAttempt, IsAttemptCaused}
 use Rattle.shr_audit_causes.proofs.attempts.parts_are_worn.Goals as goal
 
 abbrev walks : Script → Report → ℕ → List WalkRecord → Type 0

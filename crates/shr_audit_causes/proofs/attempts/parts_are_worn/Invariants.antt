@@ -1,8 +1,4 @@
-use Rattle.std.proofs.Common.{◌≡◌, ◌<◌, ℕ, Some, slice_get}
-use Rattle.shr_base.specs.declared.ends.WorkerPart.{WorkerPart}
-use Rattle.shr_formed.specs.Each.{Each}
-use Rattle.shr_report.specs.Parts.{EachAttempt}
-use Rattle.shr_audit_causes.specs.Walks.{IsAttemptCaused}
+use Rattle.shr_audit_causes.proofs.Common.{◌≡◌, ◌<◌, ℕ, Some, slice_get, WorkerPart, Each, EachAttempt, IsAttemptCaused}
 use Rattle.shr_audit_causes.proofs.attempts.parts_are_worn.Given as goal
 
 abbrev pub invariant-loop-worker : goal.invariant-loop-worker

@@ -1,7 +1,4 @@
-use Rattle.std.proofs.Common.{◌≡◌, ◌<◌, ℕ, Some, slice_get}
-use Rattle.shr_base.specs.declared.walks.WalkRecord.{WalkRecord}
-use Rattle.shr_report.specs.Parts.{EachAttempt}
-use Rattle.shr_audit_causes.specs.Walks.{IsAttemptCaused}
+use Rattle.shr_audit_causes.proofs.Common.{◌≡◌, ◌<◌, ℕ, Some, slice_get, WalkRecord, EachAttempt, IsAttemptCaused}
 use Rattle.shr_audit_causes.proofs.attempts.walks_are_worn.Given as goal
 
 abbrev pub invariant-loop-walk : goal.invariant-loop-walk

@@ -1,6 +1,4 @@
-use Rattle.std.proofs.Common.{◌≡◌, ◌<◌, ◌∷◌, [], ◌++◌, ℕ, ap, get_or, length, sym, subst, ◌∙◌}
-use Rattle.shr_base.specs.declared.journals.PoolEntry.TheVariants.{Registered}
-use Rattle.shr_model.specs.Pool.{id_of}
+use Rattle.shr_audit_causes.proofs.Common.{◌≡◌, ◌<◌, ◌∷◌, [], ◌++◌, ℕ, ap, get_or, length, sym, subst, ◌∙◌, Registered, id_of}
 use Rattle.shr_audit_causes.proofs.Behinds.{any_default, behinds_next}
 use Rattle.shr_audit_causes.proofs.behind.note.Goals as goal
 

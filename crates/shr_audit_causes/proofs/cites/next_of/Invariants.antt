@@ -1,5 +1,4 @@
-use Rattle.std.proofs.Common.{ℕ, ◌<◌, ◌≤◌}
-use Rattle.shr_audit_causes.specs.Cites.{IsOf}
+use Rattle.shr_audit_causes.proofs.Common.{ℕ, ◌<◌, ◌≤◌, IsOf}
 use Rattle.shr_audit_causes.proofs.cites.next_of.Given as goal
 
 abbrev pub invariant-loop-n : goal.invariant-loop-n

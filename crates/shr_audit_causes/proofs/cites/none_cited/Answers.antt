@@ -1,7 +1,4 @@
-use Rattle.std.proofs.Common.{◌≡◌, ◌+◌, ◌∷◌, [], ℕ, List, ap, arith, length, length-append, subst, sym, ◌∙◌}
-use Rattle.shr_audit_causes.specs.declared.cites.Cited.{Cited}
-use Rattle.shr_audit_causes.specs.declared.cites.Cited.TheVariants.{Never}
-use Rattle.shr_audit_causes.specs.Cites.{cited_in}
+use Rattle.shr_audit_causes.proofs.Common.{◌≡◌, ◌+◌, ◌∷◌, [], ℕ, List, ap, arith, length, length-append, subst, sym, ◌∙◌, Cited, Never, cited_in}
 use Rattle.shr_audit_causes.proofs.Noting.{never_none, never_push}
 use Rattle.shr_audit_causes.proofs.cites.none_cited.Goals as goal
 

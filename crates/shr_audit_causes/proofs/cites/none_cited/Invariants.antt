@@ -1,6 +1,4 @@
-use Rattle.std.proofs.Common.{◌≡◌, ℕ, length}
-use Rattle.shr_audit_causes.specs.declared.cites.Cited.TheVariants.{Never}
-use Rattle.shr_audit_causes.specs.Cites.{cited_in}
+use Rattle.shr_audit_causes.proofs.Common.{◌≡◌, ℕ, length, Never, cited_in}
 use Rattle.shr_audit_causes.proofs.cites.none_cited.Given as goal
 
 abbrev pub invariant-loop-n : goal.invariant-loop-n

@@ -1,9 +1,5 @@
-use Rattle.std.proofs.Common.{◌≡◌, ℕ, List, Option, Some, subst, sym}
-use Rattle.std.specs.Prelude.{◌↔◌}
+use Rattle.shr_audit_causes.proofs.Common.{◌≡◌, ℕ, List, Option, Some, subst, sym, ◌↔◌, command_at, serial_of, Cited, CitesNow, NotesAnswer}
 use Rattle.shr_base.specs.declared.scripts.Command.{Command}
-use Rattle.shr_report.specs.Parts.{command_at, serial_of}
-use Rattle.shr_audit_causes.specs.declared.cites.Cited.{Cited}
-use Rattle.shr_audit_causes.specs.Cites.{CitesNow, NotesAnswer}
 use Rattle.shr_audit_causes.proofs.Noting.{none_noted, told_noted}
 use Rattle.shr_audit_causes.proofs.cites.note_answer.Goals as goal
 

@@ -1,5 +1,4 @@
-use Rattle.std.proofs.Common.{ℕ, ◌≤◌, subst, ◌∙◌}
-use Rattle.shr_audit_causes.specs.Cites.{AreCited}
+use Rattle.shr_audit_causes.proofs.Common.{ℕ, ◌≤◌, subst, ◌∙◌, AreCited}
 use Rattle.shr_audit_causes.proofs.Noting.{first_worker, last_worker}
 use Rattle.shr_audit_causes.proofs.cites.note_answers.Goals as goal
 

@@ -1,5 +1,4 @@
-use Rattle.std.proofs.Common.{◌≡◌, length}
-use Rattle.shr_audit_causes.specs.Cites.{AreCitedBefore}
+use Rattle.shr_audit_causes.proofs.Common.{◌≡◌, length, AreCitedBefore}
 use Rattle.shr_audit_causes.proofs.cites.note_answers.Given as goal
 
 abbrev pub invariant-loop-worker : goal.invariant-loop-worker

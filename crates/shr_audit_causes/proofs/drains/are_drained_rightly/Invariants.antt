@@ -1,6 +1,4 @@
-use Rattle.std.proofs.Common.{◌≡◌, ◌<◌, ℕ, Some, slice_get}
-use Rattle.shr_base.specs.declared.journals.Entry.{Entry}
-use Rattle.shr_audit_causes.specs.Walks.{IsDrainedRightly}
+use Rattle.shr_audit_causes.proofs.Common.{◌≡◌, ◌<◌, ℕ, Some, slice_get, Entry, IsDrainedRightly}
 use Rattle.shr_audit_causes.proofs.drains.are_drained_rightly.Given as goal
 
 abbrev pub invariant-loop-entry : goal.invariant-loop-entry

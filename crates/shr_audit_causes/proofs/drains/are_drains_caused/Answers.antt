@@ -1,10 +1,5 @@
-use Rattle.std.proofs.Common.{List, subst}
-use Rattle.std.specs.Bool.{Decides}
-use Rattle.shr_base.specs.declared.ends.PlaceEnd.{PlaceEnd}
-use Rattle.shr_case.specs.Each.{EachFirst}
+use Rattle.shr_audit_causes.proofs.Common.{List, subst, Decides, PlaceEnd, EachFirst, Each, IsDrainedRightly}
 use Rattle.shr_case.proofs.Eachs.{each_entry_of}
-use Rattle.shr_formed.specs.Each.{Each}
-use Rattle.shr_audit_causes.specs.Walks.{IsDrainedRightly}
 use Rattle.shr_audit_causes.proofs.drains.are_drains_caused.Goals as goal
 
 pub returns : goal.returns

@@ -1,14 +1,7 @@
-use Rattle.std.proofs.Common.{◌≡◌, ℕ, List, Some, slice_get, length, refl}
-use Rattle.std.specs.Bool.{Decides}
+use Rattle.shr_audit_causes.proofs.Common.{◌≡◌, ℕ, List, Some, slice_get, length, refl, Decides, PlaceEnd, EachFirst, IsFirst, Each, all_at, more_at, Report, IsDrainedRightly}
 use Rattle.std.proofs.lemmas.Option.{slice_get_read}
-use Rattle.shr_base.specs.declared.ends.PlaceEnd.{PlaceEnd}
-use Rattle.shr_case.specs.Each.{EachFirst}
-use Rattle.shr_case.specs.Places.{IsFirst}
-use Rattle.shr_formed.specs.Each.{Each}
-use Rattle.shr_formed.proofs.Eachs.{all_at, fails, more_at}
-use Rattle.shr_report.specs.declared.report.Report.{Report}
+use Rattle.shr_formed.proofs.Eachs.{fails}
 use Rattle.shr_audit_replies.proofs.Deciding.{first_part}
-use Rattle.shr_audit_causes.specs.Walks.{IsDrainedRightly}
 use Rattle.shr_audit_causes.proofs.drains.are_lists_drained_rightly.Goals as goal
 
 abbrev whole : Report → PlaceEnd → Type 0

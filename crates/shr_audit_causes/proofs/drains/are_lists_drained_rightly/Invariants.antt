@@ -1,8 +1,4 @@
-use Rattle.std.proofs.Common.{◌≡◌, ◌<◌, ℕ, Some, slice_get}
-use Rattle.shr_base.specs.declared.ends.PlaceEnd.{PlaceEnd}
-use Rattle.shr_case.specs.Places.{IsFirst}
-use Rattle.shr_formed.specs.Each.{Each}
-use Rattle.shr_audit_causes.specs.Walks.{IsDrainedRightly}
+use Rattle.shr_audit_causes.proofs.Common.{◌≡◌, ◌<◌, ℕ, Some, slice_get, PlaceEnd, IsFirst, Each, IsDrainedRightly}
 use Rattle.shr_audit_causes.proofs.drains.are_lists_drained_rightly.Given as goal
 
 abbrev pub invariant-loop-k : goal.invariant-loop-k

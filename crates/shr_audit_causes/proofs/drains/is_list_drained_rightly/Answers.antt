@@ -1,8 +1,4 @@
-use Rattle.std.proofs.Common.{List, subst}
-use Rattle.std.specs.Bool.{Decides}
-use Rattle.shr_base.specs.declared.journals.Entry.{Entry}
-use Rattle.shr_formed.specs.Each.{Each}
-use Rattle.shr_audit_causes.specs.Walks.{IsDrainedRightly}
+use Rattle.shr_audit_causes.proofs.Common.{List, subst, Decides, Entry, Each, IsDrainedRightly}
 use Rattle.shr_audit_causes.proofs.drains.is_list_drained_rightly.Goals as goal
 
 pub returns : goal.returns

@@ -1,6 +1,4 @@
-use Rattle.std.proofs.Common.{◌≡◌, ◌<◌, ◌≤◌, ℕ, Some, slice_get}
-use Rattle.shr_base.specs.declared.journals.PoolEntry.{PoolEntry}
-use Rattle.shr_audit_causes.specs.Registrations.{IsEntryCited}
+use Rattle.shr_audit_causes.proofs.Common.{◌≡◌, ◌<◌, ◌≤◌, ℕ, Some, slice_get, PoolEntry, IsEntryCited}
 use Rattle.shr_audit_causes.proofs.registrations.are_entries_cited.Given as goal
 
 abbrev pub invariant-loop-n : goal.invariant-loop-n

@@ -1,5 +1,4 @@
-use Rattle.std.proofs.Common.{◌∙◌, ap}
-use Rattle.std.proofs.lemmas.List.{take_all}
+use Rattle.shr_audit_causes.proofs.Common.{◌∙◌, ap, take_all}
 use Rattle.shr_audit_causes.proofs.Making.{on_counted, on_in}
 use Rattle.shr_audit_causes.proofs.registrations.count_on.Goals as goal
 

@@ -1,10 +1,4 @@
-use Rattle.std.proofs.Common.{◌≡◌, ℕ, List, Some, slice_get, subst}
-use Rattle.std.specs.Bool.{Decides}
-use Rattle.shr_base.specs.declared.journals.TreeEntry.{TreeEntry}
-use Rattle.shr_formed.specs.Each.{Each}
-use Rattle.shr_report.specs.WellFormed.{IsTreeNumbered}
-use Rattle.shr_audit_causes.specs.declared.cites.Cited.{Cited}
-use Rattle.shr_audit_causes.specs.Trees.{IsBeginCited}
+use Rattle.shr_audit_causes.proofs.Common.{◌≡◌, ℕ, List, Some, slice_get, subst, Decides, TreeEntry, Each, IsTreeNumbered, Cited, IsBeginCited}
 use Rattle.shr_audit_causes.proofs.Treeing.{begins_of}
 use Rattle.shr_audit_causes.proofs.trees.are_begins_caused.Goals as goal
 

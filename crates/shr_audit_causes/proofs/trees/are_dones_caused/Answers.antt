@@ -1,10 +1,5 @@
-use Rattle.std.proofs.Common.{◌≡◌, ℕ, List, Some, length, slice_get, subst}
-use Rattle.std.specs.Bool.{Decides}
-use Rattle.shr_base.specs.declared.journals.TreeEntry.{TreeEntry}
-use Rattle.shr_audit_causes.specs.declared.cites.Cited.{Cited}
+use Rattle.shr_audit_causes.proofs.Common.{◌≡◌, ℕ, List, Some, length, slice_get, subst, Decides, TreeEntry, Cited, AreCited, IsDoneOnce}
 use Rattle.shr_audit_causes.specs.declared.cites.What.TheVariants as what
-use Rattle.shr_audit_causes.specs.Cites.{AreCited}
-use Rattle.shr_audit_causes.specs.Trees.{IsDoneOnce}
 use Rattle.shr_audit_causes.proofs.Treeing.{dones_of}
 use Rattle.shr_audit_causes.proofs.trees.are_dones_caused.Goals as goal
 

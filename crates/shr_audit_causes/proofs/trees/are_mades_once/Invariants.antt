@@ -1,6 +1,4 @@
-use Rattle.std.proofs.Common.{◌≡◌, ◌<◌, ℕ, Some, slice_get}
-use Rattle.shr_base.specs.declared.journals.TreeEntry.{TreeEntry}
-use Rattle.shr_audit_causes.specs.Trees.{IsMadeOnce}
+use Rattle.shr_audit_causes.proofs.Common.{◌≡◌, ◌<◌, ℕ, Some, slice_get, TreeEntry, IsMadeOnce}
 use Rattle.shr_audit_causes.proofs.trees.are_mades_once.Given as goal
 
 abbrev pub invariant-loop-n : goal.invariant-loop-n

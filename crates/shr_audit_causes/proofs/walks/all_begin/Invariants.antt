@@ -1,6 +1,4 @@
-use Rattle.std.proofs.Common.{◌≡◌, ◌<◌, ℕ, Some, slice_get}
-use Rattle.shr_base.specs.declared.walks.WalkRecord.{WalkRecord}
-use Rattle.shr_audit_causes.specs.Walks.{CitesBegin}
+use Rattle.shr_audit_causes.proofs.Common.{◌≡◌, ◌<◌, ℕ, Some, slice_get, WalkRecord, CitesBegin}
 use Rattle.shr_audit_causes.proofs.walks.all_begin.Given as goal
 
 abbrev pub invariant-loop-walk : goal.invariant-loop-walk

@@ -1,7 +1,4 @@
-use Rattle.std.proofs.Common.{◌≡◌, ◌<◌, ℕ, Some, slice_get}
-use Rattle.shr_base.specs.declared.ends.WorkerPart.{WorkerPart}
-use Rattle.shr_formed.specs.Each.{Each}
-use Rattle.shr_audit_causes.specs.Walks.{CitesBegin}
+use Rattle.shr_audit_causes.proofs.Common.{◌≡◌, ◌<◌, ℕ, Some, slice_get, WorkerPart, Each, CitesBegin}
 use Rattle.shr_audit_causes.proofs.walks.parts_begin.Given as goal
 
 abbrev pub invariant-loop-part : goal.invariant-loop-part

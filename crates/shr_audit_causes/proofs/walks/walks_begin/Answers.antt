@@ -1,9 +1,4 @@
-use Rattle.std.proofs.Common.{List, subst}
-use Rattle.std.specs.Bool.{Decides}
-use Rattle.shr_base.specs.declared.ends.WorkerPart.{WorkerPart}
-use Rattle.shr_case.proofs.Eachs.{each_walk_of}
-use Rattle.shr_formed.specs.Each.{Each}
-use Rattle.shr_audit_causes.specs.Walks.{CitesBegin}
+use Rattle.shr_audit_causes.proofs.Common.{List, subst, Decides, WorkerPart, each_walk_of, Each, CitesBegin}
 use Rattle.shr_audit_causes.proofs.walks.walks_begin.Goals as goal
 
 pub returns : goal.returns

@@ -1,7 +1,5 @@
-use Rattle.std.proofs.Common.{ap, ◌∙◌, [], ◌∷◌, ◌++◌}
-use Rattle.shr_sums.specs.declared.moves.Move.{Move}
-use Rattle.shr_audit_charges.specs.Balance.{unit}
-use Rattle.shr_audit_charges.proofs.Rows.{map_step, map_end}
+use Rattle.shr_audit_charges.proofs.Common.{ap, ◌∙◌, [], ◌∷◌, ◌++◌, Move, unit, map_end}
+use Rattle.shr_audit_charges.proofs.Rows.{map_step}
 use Rattle.shr_audit_charges.proofs.balance.note_units.Goals as goal
 
 pub loop-key-preserved : goal.loop-key-preserved

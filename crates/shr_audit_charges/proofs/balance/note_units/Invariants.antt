@@ -1,5 +1,4 @@
-use Rattle.std.proofs.Common.{◌≡◌, ◌++◌, map, take}
-use Rattle.shr_audit_charges.specs.Balance.{unit}
+use Rattle.shr_audit_charges.proofs.Common.{◌≡◌, ◌++◌, map, take, unit}
 use Rattle.shr_audit_charges.proofs.balance.note_units.Given as goal
 
 abbrev pub invariant-loop-key : goal.invariant-loop-key

@@ -1,6 +1,4 @@
-use Rattle.std.proofs.Common.{◌++◌, ◌<◌, ℕ, sym, ap, subst, length, arith}
-use Rattle.shr_model.specs.Groups.{path_of}
-use Rattle.shr_audit_charges.specs.Paths.{keys_with}
+use Rattle.shr_audit_charges.proofs.Common.{◌++◌, ◌<◌, ℕ, sym, ap, subst, length, arith, path_of, keys_with}
 use Rattle.shr_audit_charges.proofs.PathsLaw.{start_there, climbed, on_top}
 use Rattle.shr_audit_charges.proofs.climb.note_path.Goals as goal
 

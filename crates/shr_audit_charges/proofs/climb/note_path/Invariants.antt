@@ -1,6 +1,4 @@
-use Rattle.std.proofs.Common.{◌≡◌, ◌<◌, ◌++◌, length}
-use Rattle.shr_model.specs.Groups.{path_of}
-use Rattle.shr_audit_charges.specs.Paths.{keys_with, path_keys}
+use Rattle.shr_audit_charges.proofs.Common.{◌≡◌, ◌<◌, ◌++◌, length, path_of, keys_with, path_keys}
 use Rattle.shr_audit_charges.proofs.climb.note_path.Given as goal
 
 abbrev pub invariant-loop-group : goal.invariant-loop-group

@@ -1,6 +1,4 @@
-use Rattle.std.proofs.Common.{◌+◌, List, subst, sym}
-use Rattle.shr_audit_charges.specs.declared.history.Usage.{Usage}
-use Rattle.shr_audit_charges.specs.History.{AreNone}
+use Rattle.shr_audit_charges.proofs.Common.{◌+◌, List, subst, sym, Usage, AreNone}
 use Rattle.shr_audit_charges.proofs.HistoryLaw.{none_more}
 use Rattle.shr_audit_charges.proofs.history.first_usages.Goals as goal
 

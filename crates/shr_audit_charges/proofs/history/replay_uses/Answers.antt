@@ -1,6 +1,4 @@
-use Rattle.std.proofs.Common.{arith, ap, sym, ◌∙◌, List}
-use Rattle.std.specs.Prelude.{slice_get}
-use Rattle.shr_audit_charges.specs.declared.history.Usage.{Usage}
+use Rattle.shr_audit_charges.proofs.Common.{arith, ap, sym, ◌∙◌, List, slice_get, Usage}
 use Rattle.shr_audit_charges.proofs.HistoryLaw.{none_yet, one_more, not_one_more, small_usages}
 use Rattle.shr_audit_charges.proofs.history.replay_uses.Goals as goal
 

@@ -1,5 +1,4 @@
-use Rattle.std.proofs.Common.{take}
-use Rattle.shr_audit_charges.specs.History.{AreCharged, AreUsagesOf}
+use Rattle.shr_audit_charges.proofs.Common.{take, AreCharged, AreUsagesOf}
 use Rattle.shr_audit_charges.proofs.history.replay_uses.Given as goal
 
 abbrev pub invariant-loop-i : goal.invariant-loop-i

@@ -1,8 +1,4 @@
-use Rattle.std.proofs.Common.{ℕ, List, Option, ap, length, subst, ◌∙◌}
-use Rattle.std.specs.Bool.{Decides}
-use Rattle.shr_report.specs.Parts.{parents_of}
-use Rattle.shr_audit_charges.specs.Left.{AreFinal, AreWithin}
-use Rattle.shr_audit_charges.specs.Own.{AreOwnRight}
+use Rattle.shr_audit_charges.proofs.Common.{ℕ, List, Option, ap, length, subst, ◌∙◌, Decides, parents_of, AreFinal, AreWithin, AreOwnRight}
 use Rattle.shr_audit_charges.proofs.WholeLaw.{uses_decided}
 use Rattle.shr_audit_charges.proofs.law.are_uses_lawful.Goals as goal
 

@@ -1,5 +1,4 @@
-use Rattle.std.proofs.Common.{◌≡◌, false, ◌∷◌, map, take}
-use Rattle.shr_base.specs.declared.scripts.GroupDecl.{GroupDecl}
+use Rattle.shr_audit_charges.proofs.Common.{◌≡◌, false, ◌∷◌, map, take, GroupDecl}
 use Rattle.shr_audit_charges.proofs.law.later_of.Given as goal
 
 abbrev pub invariant-loop-group : goal.invariant-loop-group

@@ -1,8 +1,4 @@
-use Rattle.std.proofs.Common.{false, ◌++◌, List, ℕ, ap, subst, ◌∙◌}
-use Rattle.std.specs.Prelude.{flat_map}
-use Rattle.std.specs.Bool.{Decides}
-use Rattle.shr_audit_charges.specs.Balance.{AreBalanced}
-use Rattle.shr_audit_charges.specs.Uses.{up_keys, down_keys}
+use Rattle.shr_audit_charges.proofs.Common.{false, ◌++◌, List, ℕ, ap, subst, ◌∙◌, flat_map, Decides, AreBalanced, up_keys, down_keys}
 use Rattle.shr_audit_charges.proofs.LeftLaw.{final_decided}
 use Rattle.shr_audit_charges.proofs.left.are_final.Goals as goal
 

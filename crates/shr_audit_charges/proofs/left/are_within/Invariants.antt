@@ -1,7 +1,4 @@
-use Rattle.std.proofs.Common.{◌≡◌, ◌<◌, ℕ, Some, slice_get}
-use Rattle.shr_audit_charges.specs.declared.history.Usage.{Usage}
-use Rattle.shr_audit_charges.specs.Left.{IsWithin}
-use Rattle.shr_audit_charges.specs.Own.{limit_in}
+use Rattle.shr_audit_charges.proofs.Common.{◌≡◌, ◌<◌, ℕ, Some, slice_get, Usage, IsWithin, limit_in}
 use Rattle.shr_audit_charges.proofs.left.are_within.Given as goal
 
 abbrev pub invariant-loop-group : goal.invariant-loop-group

@@ -1,10 +1,6 @@
-use Rattle.std.proofs.Common.{◌++◌, List, ℕ, ap, subst, sym, ◌∙◌}
-use Rattle.std.specs.Prelude.{flat_map}
-use Rattle.shr_base.specs.declared.ends.PlaceEnd.{PlaceEnd}
-use Rattle.shr_model.specs.Groups.{IsTree}
+use Rattle.shr_audit_charges.proofs.Common.{◌++◌, List, ℕ, ap, subst, sym, ◌∙◌, flat_map, PlaceEnd, IsTree, left_keys, tag_keys, flat_all}
 use Rattle.shr_replay.specs.declared.tags.Tag.{Tag}
-use Rattle.shr_audit_charges.specs.Left.{left_keys, tag_keys}
-use Rattle.shr_audit_charges.proofs.Rows.{flat_step, flat_end}
+use Rattle.shr_audit_charges.proofs.Rows.{flat_step}
 use Rattle.shr_audit_charges.proofs.left.note_left.Goals as goal
 
 pub note_tags-requires : goal.note_tags-requires
@@ -16,4 +12,4 @@ loop-end-preserved c =
     flat_step (λ (end : PlaceEnd). left_keys c.args.case.now.parents.items c.args.report.now end.place) c.args.ends.now c.loop-end.end-index c.end-item.result c.args.keys.now.items c.loop-end.keys.items c.note_tags.new.keys.items c.loop-end-test.true c.end-item.is c.loop-end.invariant added
 
 pub returns : goal.returns
-returns c = flat_end (λ (end : PlaceEnd). left_keys c.args.case.now.parents.items c.args.report.now end.place) c.args.ends.now c.loop-end.end-index c.args.keys.now.items c.loop-end.keys.items c.loop-end-test.false c.loop-end.invariant
+returns c = flat_all (λ (end : PlaceEnd). left_keys c.args.case.now.parents.items c.args.report.now end.place) c.args.ends.now c.loop-end.end-index c.args.keys.now.items c.loop-end.keys.items c.loop-end-test.false c.loop-end.invariant

@@ -1,7 +1,4 @@
-use Rattle.std.proofs.Common.{◌≡◌, ◌++◌, take}
-use Rattle.std.specs.Prelude.{flat_map}
-use Rattle.shr_base.specs.declared.ends.PlaceEnd.{PlaceEnd}
-use Rattle.shr_audit_charges.specs.Left.{left_keys}
+use Rattle.shr_audit_charges.proofs.Common.{◌≡◌, ◌++◌, take, flat_map, PlaceEnd, left_keys}
 use Rattle.shr_audit_charges.proofs.left.note_left.Given as goal
 
 abbrev pub invariant-loop-end : goal.invariant-loop-end

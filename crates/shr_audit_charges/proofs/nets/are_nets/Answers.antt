@@ -1,12 +1,4 @@
-use Rattle.std.proofs.Common.{true, ◌<◌, ◌++◌, List, ℕ, ap, length, sym, subst, ◌∙◌}
-use Rattle.std.specs.Prelude.{flat_map}
-use Rattle.std.specs.Bool.{Decides}
-use Rattle.std.specs.List.{AllByRecursion}
-use Rattle.shr_base.specs.declared.journals.UseStep.{UseStep}
-use Rattle.shr_model.specs.Groups.{IsTree}
-use Rattle.shr_audit_charges.specs.Balance.{AreBalanced}
-use Rattle.shr_audit_charges.specs.Nets.{workers_keys}
-use Rattle.shr_audit_charges.specs.Uses.{up_keys, down_keys}
+use Rattle.shr_audit_charges.proofs.Common.{true, ◌<◌, ◌++◌, List, ℕ, ap, length, sym, subst, ◌∙◌, flat_map, Decides, AllByRecursion, UseStep, IsTree, AreBalanced, workers_keys, up_keys, down_keys}
 use Rattle.shr_audit_charges.proofs.NetsWhole.{nets_decided}
 use Rattle.shr_audit_charges.proofs.nets.are_nets.Goals as goal
 

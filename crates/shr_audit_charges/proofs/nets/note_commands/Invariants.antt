@@ -1,5 +1,4 @@
-use Rattle.std.proofs.Common.{◌≡◌, ◌++◌, take}
-use Rattle.shr_audit_charges.specs.Nets.{commands_keys}
+use Rattle.shr_audit_charges.proofs.Common.{◌≡◌, ◌++◌, take, commands_keys}
 use Rattle.shr_audit_charges.proofs.nets.note_commands.Given as goal
 
 abbrev pub invariant-loop-number : goal.invariant-loop-number

@@ -1,6 +1,4 @@
-use Rattle.std.proofs.Common.{◌≡◌, ◌++◌, take}
-use Rattle.std.specs.Prelude.{flat_map}
-use Rattle.shr_audit_charges.specs.Nets.{freed_keys}
+use Rattle.shr_audit_charges.proofs.Common.{◌≡◌, ◌++◌, take, flat_map, freed_keys}
 use Rattle.shr_audit_charges.proofs.nets.note_freed.Given as goal
 
 abbrev pub invariant-loop-tag : goal.invariant-loop-tag

@@ -1,12 +1,5 @@
-use Rattle.std.proofs.Common.{◌++◌, List, ℕ, ap, subst, sym, ◌∙◌}
-use Rattle.std.specs.Prelude.{flat_map}
-use Rattle.shr_base.specs.declared.ends.PlaceEnd.{PlaceEnd}
-use Rattle.shr_base.specs.declared.journals.Entry.{Entry}
-use Rattle.shr_model.specs.Groups.{IsTree}
-use Rattle.shr_replay.specs.declared.tags.FreedTag.{FreedTag}
-use Rattle.shr_report.specs.Parts.{journals_of}
-use Rattle.shr_audit_charges.specs.Nets.{freed_keys, place_keys}
-use Rattle.shr_audit_charges.proofs.Rows.{flat_step, flat_end}
+use Rattle.shr_audit_charges.proofs.Common.{◌++◌, List, ℕ, ap, subst, sym, ◌∙◌, flat_map, PlaceEnd, Entry, IsTree, FreedTag, journals_of, freed_keys, place_keys, flat_all}
+use Rattle.shr_audit_charges.proofs.Rows.{flat_step}
 use Rattle.shr_audit_charges.proofs.nets.note_lists.Goals as goal
 
 pub note_freed-requires : goal.note_freed-requires
@@ -20,4 +13,4 @@ loop-end-preserved c =
     flat_step (λ (end : PlaceEnd). place_keys c.args.case.now.parents.items c.args.report.now end.place) c.args.ends.now c.loop-end.end-index c.end-item.result c.args.keys.now.items c.loop-end.keys.items c.note_freed.new.keys.items c.loop-end-test.true c.end-item.is c.loop-end.invariant added
 
 pub returns : goal.returns
-returns c = flat_end (λ (end : PlaceEnd). place_keys c.args.case.now.parents.items c.args.report.now end.place) c.args.ends.now c.loop-end.end-index c.args.keys.now.items c.loop-end.keys.items c.loop-end-test.false c.loop-end.invariant
+returns c = flat_all (λ (end : PlaceEnd). place_keys c.args.case.now.parents.items c.args.report.now end.place) c.args.ends.now c.loop-end.end-index c.args.keys.now.items c.loop-end.keys.items c.loop-end-test.false c.loop-end.invariant

@@ -1,7 +1,4 @@
-use Rattle.std.proofs.Common.{◌++◌, List, ap, sym, ◌∙◌}
-use Rattle.shr_base.specs.declared.scripts.Command.{Command}
-use Rattle.shr_base.specs.declared.scripts.WorkerScript.{WorkerScript}
-use Rattle.shr_audit_charges.specs.Nets.{commands_keys}
+use Rattle.shr_audit_charges.proofs.Common.{◌++◌, List, ap, sym, ◌∙◌, Command, WorkerScript, commands_keys}
 use Rattle.shr_audit_charges.proofs.Workers.{workers_more, workers_all}
 use Rattle.shr_audit_charges.proofs.nets.note_workers.Goals as goal
 

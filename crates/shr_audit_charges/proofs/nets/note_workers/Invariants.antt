@@ -1,5 +1,4 @@
-use Rattle.std.proofs.Common.{◌≡◌, ◌++◌, take}
-use Rattle.shr_audit_charges.specs.Nets.{workers_keys}
+use Rattle.shr_audit_charges.proofs.Common.{◌≡◌, ◌++◌, take, workers_keys}
 use Rattle.shr_audit_charges.proofs.nets.note_workers.Given as goal
 
 abbrev pub invariant-loop-worker : goal.invariant-loop-worker

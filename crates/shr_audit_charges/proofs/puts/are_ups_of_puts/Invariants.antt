@@ -1,6 +1,4 @@
-use Rattle.std.proofs.Common.{◌≡◌, ◌<◌, ℕ, Some, slice_get}
-use Rattle.shr_base.specs.declared.journals.UseStep.{UseStep}
-use Rattle.shr_audit_charges.specs.Puts.{IsUpOfPut}
+use Rattle.shr_audit_charges.proofs.Common.{◌≡◌, ◌<◌, ℕ, Some, slice_get, UseStep, IsUpOfPut}
 use Rattle.shr_audit_charges.proofs.puts.are_ups_of_puts.Given as goal
 
 abbrev pub invariant-loop-step : goal.invariant-loop-step

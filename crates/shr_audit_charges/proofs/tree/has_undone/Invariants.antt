@@ -1,5 +1,4 @@
-use Rattle.std.proofs.Common.{◌<◌, ℕ}
-use Rattle.shr_audit_charges.specs.Tree.{IsUndone}
+use Rattle.shr_audit_charges.proofs.Common.{◌<◌, ℕ, IsUndone}
 use Rattle.shr_audit_charges.proofs.tree.has_undone.Given as goal
 
 abbrev pub invariant-loop-child : goal.invariant-loop-child

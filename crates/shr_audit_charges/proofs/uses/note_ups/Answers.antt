@@ -1,9 +1,9 @@
-use Rattle.shr_audit_charges.specs.Uses.{up_keys}
-use Rattle.shr_audit_charges.proofs.Rows.{flat_copied, flat_end}
+use Rattle.shr_audit_charges.proofs.Common.{up_keys, flat_all}
+use Rattle.shr_audit_charges.proofs.Rows.{flat_copied}
 use Rattle.shr_audit_charges.proofs.uses.note_ups.Goals as goal
 
 pub loop-step-preserved : goal.loop-step-preserved
 loop-step-preserved c = flat_copied (up_keys c.args.own) c.args.uses.now c.loop-step.step-index _ c.args.keys.now.items c.loop-step.keys.items c.note_up.new.keys.items c.loop-step-test.true c.loop-step.invariant c.in_ok-note_up.ensures
 
 pub returns : goal.returns
-returns c = flat_end (up_keys c.args.own) c.args.uses.now c.loop-step.step-index c.args.keys.now.items c.loop-step.keys.items c.loop-step-test.false c.loop-step.invariant
+returns c = flat_all (up_keys c.args.own) c.args.uses.now c.loop-step.step-index c.args.keys.now.items c.loop-step.keys.items c.loop-step-test.false c.loop-step.invariant

@@ -1,6 +1,4 @@
-use Rattle.std.proofs.Common.{◌≡◌, ◌++◌, take}
-use Rattle.std.specs.Prelude.{flat_map}
-use Rattle.shr_audit_charges.specs.Uses.{up_keys}
+use Rattle.shr_audit_charges.proofs.Common.{◌≡◌, ◌++◌, take, flat_map, up_keys}
 use Rattle.shr_audit_charges.proofs.uses.note_ups.Given as goal
 
 abbrev pub invariant-loop-step : goal.invariant-loop-step

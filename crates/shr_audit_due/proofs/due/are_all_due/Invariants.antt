@@ -1,6 +1,4 @@
-use Rattle.std.proofs.Common.{◌≡◌, ◌<◌, ℕ, Some, slice_get}
-use Rattle.shr_base.specs.declared.walks.PlainWalk.{PlainWalk}
-use Rattle.shr_audit_due.specs.Due.{IsDue}
+use Rattle.shr_audit_due.proofs.Common.{◌≡◌, ◌<◌, ℕ, Some, slice_get, PlainWalk, IsDue}
 use Rattle.shr_audit_due.proofs.due.are_all_due.Given as goal
 
 abbrev pub invariant-loop-walk : goal.invariant-loop-walk

@@ -1,7 +1,4 @@
-use Rattle.std.proofs.Common.{ℕ}
-use Rattle.shr_base.specs.declared.ends.WorkerPart.{WorkerPart}
-use Rattle.shr_formed.proofs.Eachs.{more_at}
-use Rattle.shr_audit_due.specs.Due.{IsPartDue}
+use Rattle.shr_audit_due.proofs.Common.{ℕ, WorkerPart, more_at, IsPartDue}
 use Rattle.shr_audit_due.proofs.Dues.{due_all, due_fails, stands_here}
 use Rattle.shr_audit_due.proofs.due.are_walks_due.Goals as goal
 

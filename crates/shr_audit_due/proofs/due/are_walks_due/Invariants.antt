@@ -1,6 +1,4 @@
-use Rattle.std.proofs.Common.{◌≡◌, ◌<◌, ℕ, Some, slice_get}
-use Rattle.shr_base.specs.declared.ends.WorkerPart.{WorkerPart}
-use Rattle.shr_audit_due.specs.Due.{IsPartDue}
+use Rattle.shr_audit_due.proofs.Common.{◌≡◌, ◌<◌, ℕ, Some, slice_get, WorkerPart, IsPartDue}
 use Rattle.shr_audit_due.proofs.due.are_walks_due.Given as goal
 
 abbrev pub invariant-loop-worker : goal.invariant-loop-worker

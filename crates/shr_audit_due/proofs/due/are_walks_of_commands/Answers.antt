@@ -1,10 +1,4 @@
-use Rattle.std.proofs.Common.{ℕ, List, true, false, subst}
-use Rattle.std.specs.Bool.{Decides}
-use Rattle.shr_base.specs.declared.ends.WorkerPart.{WorkerPart}
-use Rattle.shr_base.specs.declared.walks.PlainWalk.{PlainWalk}
-use Rattle.shr_formed.specs.Each.{Each}
-use Rattle.shr_formed.proofs.Eachs.{more_at}
-use Rattle.shr_audit_due.specs.Due.{IsDue}
+use Rattle.shr_audit_due.proofs.Common.{ℕ, List, true, false, subst, Decides, WorkerPart, PlainWalk, Each, more_at, IsDue}
 use Rattle.shr_audit_due.proofs.Loops.{each_plain_of, item_fails, items_whole}
 use Rattle.shr_audit_due.proofs.due.are_walks_of_commands.Goals as goal
 

@@ -1,7 +1,4 @@
-use Rattle.std.proofs.Common.{◌≡◌, ◌<◌, ℕ, Some, slice_get}
-use Rattle.shr_base.specs.declared.ends.WorkerPart.{WorkerPart}
-use Rattle.shr_formed.specs.Each.{Each}
-use Rattle.shr_audit_due.specs.Due.{IsDue}
+use Rattle.shr_audit_due.proofs.Common.{◌≡◌, ◌<◌, ℕ, Some, slice_get, WorkerPart, Each, IsDue}
 use Rattle.shr_audit_due.proofs.due.are_walks_of_commands.Given as goal
 
 abbrev pub invariant-loop-part : goal.invariant-loop-part

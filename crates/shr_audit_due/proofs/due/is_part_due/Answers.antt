@@ -1,9 +1,4 @@
-use Rattle.std.proofs.Common.{ℕ, refl}
-use Rattle.std.specs.Bool.{Decides}
-use Rattle.shr_base.specs.declared.replies.Answered.{Answered}
-use Rattle.shr_report.specs.Parts.{commands_of}
-use Rattle.shr_formed.proofs.Eachs.{more_at}
-use Rattle.shr_audit_due.specs.Due.{HasDue, walks_with}
+use Rattle.shr_audit_due.proofs.Common.{ℕ, refl, Decides, Answered, commands_of, more_at, HasDue, walks_with}
 use Rattle.shr_audit_due.proofs.Dues.{answer_due, part_fails, part_whole}
 use Rattle.shr_audit_due.proofs.due.is_part_due.Goals as goal
 

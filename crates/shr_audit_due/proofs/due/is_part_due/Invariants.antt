@@ -1,7 +1,4 @@
-use Rattle.std.proofs.Common.{◌≡◌, ◌<◌, ℕ, Some, slice_get}
-use Rattle.shr_base.specs.declared.replies.Answered.{Answered}
-use Rattle.shr_report.specs.Parts.{commands_of}
-use Rattle.shr_audit_due.specs.Due.{HasDue, walks_with}
+use Rattle.shr_audit_due.proofs.Common.{◌≡◌, ◌<◌, ℕ, Some, slice_get, Answered, commands_of, HasDue, walks_with}
 use Rattle.shr_audit_due.proofs.due.is_part_due.Given as goal
 
 abbrev pub invariant-loop-n : goal.invariant-loop-n

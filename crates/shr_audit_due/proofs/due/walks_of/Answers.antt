@@ -1,5 +1,4 @@
-use Rattle.std.proofs.Common.{arith}
-use Rattle.shr_base.specs.declared.walks.PlainWalk.{PlainWalk}
+use Rattle.shr_audit_due.proofs.Common.{arith, PlainWalk}
 use Rattle.shr_audit_walks.proofs.Ranged.{range_filter, none_filter}
 use Rattle.shr_audit_due.proofs.due.walks_of.Goals as goal
 

@@ -1,6 +1,4 @@
-use Rattle.std.proofs.Common.{ℕ, ◌+◌, Option, arith, subst, sym}
-use Rattle.std.specs.Prelude.{option_to_list}
-use Rattle.shr_audit_fresh.specs.Floors.{FloorWith}
+use Rattle.shr_audit_fresh.proofs.Common.{ℕ, ◌+◌, Option, arith, subst, sym, option_to_list, FloorWith}
 use Rattle.shr_audit_fresh.proofs.floors.floor_with.Goals as goal
 
 pub returns-then-n-floor : goal.returns-then-n-floor

@@ -1,7 +1,4 @@
-use Rattle.std.proofs.Common.{◌<◌, ℕ, List, length, get_or, ◌∙◌, subst, arith}
-use Rattle.std.specs.Prelude.{option_to_list}
-use Rattle.std.proofs.lemmas.List.{get_or_default}
-use Rattle.shr_audit_fresh.specs.Floors.{FloorWith}
+use Rattle.shr_audit_fresh.proofs.Common.{◌<◌, ℕ, List, length, get_or, ◌∙◌, subst, arith, option_to_list, get_or_default, FloorWith}
 use Rattle.shr_audit_fresh.proofs.WalkFloors.{no_command, one_noted, other_worker}
 use Rattle.shr_audit_fresh.proofs.floors.note_walk.Goals as goal
 

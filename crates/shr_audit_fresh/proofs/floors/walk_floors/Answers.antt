@@ -1,7 +1,4 @@
-use Rattle.std.proofs.Common.{List, ◌∷◌, [], ◌++◌, take, sym, ap, subst, ◌∙◌}
-use Rattle.std.proofs.lemmas.List.{take_more, take_all}
-use Rattle.shr_base.specs.declared.walks.WalkRecord.{WalkRecord}
-use Rattle.shr_audit_fresh.specs.Floors.{AreFloors}
+use Rattle.shr_audit_fresh.proofs.Common.{List, ◌∷◌, [], ◌++◌, take, sym, ap, subst, ◌∙◌, take_more, take_all, WalkRecord, AreFloors}
 use Rattle.shr_audit_fresh.proofs.WalkFloors.{none_floored}
 use Rattle.shr_audit_fresh.proofs.floors.walk_floors.Goals as goal
 

@@ -1,5 +1,4 @@
-use Rattle.std.proofs.Common.{◌≡◌, length, take}
-use Rattle.shr_audit_fresh.specs.Floors.{AreFloors}
+use Rattle.shr_audit_fresh.proofs.Common.{◌≡◌, length, take, AreFloors}
 use Rattle.shr_audit_fresh.proofs.floors.walk_floors.Given as goal
 
 abbrev pub invariant-loop-walk : goal.invariant-loop-walk

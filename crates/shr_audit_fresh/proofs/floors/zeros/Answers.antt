@@ -1,6 +1,6 @@
 use Rattle.std.proofs.Common.{◌≡◌, ℕ, ◌+◌, List, [], ◌∷◌, length, length-append, get_or, sym, ap, subst, ◌∙◌, arith}
-use Rattle.shr_audit_fresh.proofs.WalkFloors.{zero_more}
 use Rattle.shr_audit_fresh.proofs.floors.zeros.Goals as goal
+use Rattle.shr_model.proofs.Lists.{zero_more}
 
 pub loop-k-preserved : goal.loop-k-preserved
 loop-k-preserved c =

@@ -1,12 +1,5 @@
-use Rattle.std.proofs.Common.{List, subst}
-use Rattle.std.specs.Prelude.{flat_map}
-use Rattle.std.specs.Bool.{Decides}
-use Rattle.shr_base.specs.declared.replies.Answered.{Answered}
-use Rattle.shr_formed.proofs.Eachs.{fails}
-use Rattle.shr_report.specs.Freshness.{pool_seen, tree_seen}
-use Rattle.shr_report.specs.Parts.{answers_of}
-use Rattle.shr_report.specs.WellFormed.{AreNotFalling}
-use Rattle.shr_audit_fresh.specs.Worker.{AreNumbersFresh, IsOnSeen, IsOwnBelow}
+use Rattle.shr_audit_fresh.proofs.Common.{List, subst, flat_map, Decides, Answered, fails, pool_seen, tree_seen, answers_of, AreNotFalling, AreNumbersFresh}
+use Rattle.shr_audit_fresh.specs.Worker.{IsOnSeen, IsOwnBelow}
 use Rattle.shr_audit_fresh.proofs.law.are_numbers_fresh.Goals as goal
 
 pub returns-then-not-is_pool_rising : goal.returns-then-not-is_pool_rising

@@ -1,11 +1,5 @@
-use Rattle.std.proofs.Common.{ℕ, ◌≤◌, List, true, false, sym, subst, arith}
-use Rattle.shr_base.specs.declared.journals.TreeEntry.{TreeEntry}
-use Rattle.shr_audit_causes.specs.declared.cites.Cited.{Cited}
+use Rattle.shr_audit_fresh.proofs.Common.{ℕ, ◌≤◌, List, true, false, sym, subst, arith, TreeEntry, Cited, AreCited, Each, IsTreeNumbered, IsWorkerFresh}
 use Rattle.shr_audit_causes.specs.declared.cites.What.TheVariants as say
-use Rattle.shr_audit_causes.specs.Cites.{AreCited}
-use Rattle.shr_formed.specs.Each.{Each}
-use Rattle.shr_report.specs.WellFormed.{IsTreeNumbered}
-use Rattle.shr_audit_fresh.specs.Worker.{IsWorkerFresh}
 use Rattle.shr_audit_fresh.proofs.Upto.{upto_all, upto_fails, upto_more}
 use Rattle.shr_audit_fresh.proofs.Workers.{fresh_of, fresh_past}
 use Rattle.shr_audit_fresh.proofs.law.is_fresh.Goals as goal

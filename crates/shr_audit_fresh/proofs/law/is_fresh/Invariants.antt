@@ -1,5 +1,4 @@
-use Rattle.std.proofs.Common.{ℕ, ◌<◌}
-use Rattle.shr_audit_fresh.specs.Worker.{IsWorkerFresh}
+use Rattle.shr_audit_fresh.proofs.Common.{ℕ, ◌<◌, IsWorkerFresh}
 use Rattle.shr_audit_fresh.proofs.law.is_fresh.Given as goal
 
 abbrev pub invariant-loop-worker : goal.invariant-loop-worker

@@ -1,6 +1,4 @@
-use Rattle.std.proofs.Common.{ℕ, ◌<◌}
-use Rattle.shr_audit_fresh.specs.Firsts.{AreFirsts}
-use Rattle.shr_audit_fresh.specs.Worker.{StaysMadeAt}
+use Rattle.shr_audit_fresh.proofs.Common.{ℕ, ◌<◌, AreFirsts, StaysMadeAt}
 use Rattle.shr_audit_fresh.proofs.MadeLaws.{MadeBefore}
 use Rattle.shr_audit_fresh.proofs.made.stays_made.Given as goal
 

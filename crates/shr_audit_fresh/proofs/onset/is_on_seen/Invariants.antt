@@ -1,5 +1,4 @@
-use Rattle.std.proofs.Common.{ℕ, ◌<◌}
-use Rattle.shr_audit_fresh.specs.Worker.{IsOnSeenAt}
+use Rattle.shr_audit_fresh.proofs.Common.{ℕ, ◌<◌, IsOnSeenAt}
 use Rattle.shr_audit_fresh.proofs.onset.is_on_seen.Given as goal
 
 abbrev pub invariant-loop-number : goal.invariant-loop-number

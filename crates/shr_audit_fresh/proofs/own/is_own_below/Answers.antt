@@ -1,9 +1,4 @@
-use Rattle.std.proofs.Common.{ℕ, ◌≤◌, List, subst}
-use Rattle.shr_base.specs.declared.replies.Answered.{Answered}
-use Rattle.shr_report.specs.declared.report.Report.{Report}
-use Rattle.shr_report.specs.Freshness.{of_answer, pool_made, pool_seen}
-use Rattle.shr_report.specs.Parts.{serial_of}
-use Rattle.shr_audit_fresh.specs.Floors.{FloorWith}
+use Rattle.shr_audit_fresh.proofs.Common.{ℕ, ◌≤◌, List, subst, Answered, Report, of_answer, pool_made, pool_seen, serial_of, FloorWith}
 use Rattle.shr_audit_fresh.proofs.Answering.{of_past}
 use Rattle.shr_audit_fresh.proofs.FloorLaws.{floor_next, floor_start, known_all, known_fails, known_more, known_none, reaches_below}
 use Rattle.shr_audit_fresh.proofs.own.is_own_below.Goals as goal

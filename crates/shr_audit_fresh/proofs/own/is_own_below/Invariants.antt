@@ -1,7 +1,4 @@
-use Rattle.shr_base.specs.declared.replies.Answered.{Answered}
-use Rattle.shr_report.specs.Freshness.{of_answer, pool_made, pool_seen}
-use Rattle.shr_report.specs.Parts.{serial_of}
-use Rattle.shr_audit_fresh.specs.Floors.{AreKnownBelow, IsFloorBefore}
+use Rattle.shr_audit_fresh.proofs.Common.{Answered, of_answer, pool_made, pool_seen, serial_of, AreKnownBelow, IsFloorBefore}
 use Rattle.shr_audit_fresh.proofs.own.is_own_below.Given as goal
 
 abbrev pub invariant-loop-number : goal.invariant-loop-number

@@ -1,11 +1,4 @@
-use Rattle.std.proofs.Common.{ℕ, ◌<◌, ◌≤◌, List, length, get_or, subst, ◌∙◌, arith}
-use Rattle.std.specs.Bool.{Decides}
-use Rattle.std.proofs.lemmas.List.{get_or_default}
-use Rattle.shr_base.specs.declared.replies.Answered.{Answered}
-use Rattle.shr_report.specs.declared.report.Report.{Report}
-use Rattle.shr_report.specs.Freshness.{of_answer, shown_by, tree_cited, tree_seen}
-use Rattle.shr_report.specs.Parts.{serial_of, walks_of}
-use Rattle.shr_audit_fresh.specs.Floors.{FloorWith, IsHigher, Reaches, walks_cite}
+use Rattle.shr_audit_fresh.proofs.Common.{ℕ, ◌<◌, ◌≤◌, List, length, get_or, subst, ◌∙◌, arith, Decides, get_or_default, Answered, Report, of_answer, shown_by, tree_cited, tree_seen, serial_of, walks_of, FloorWith, IsHigher, Reaches, walks_cite}
 use Rattle.shr_audit_fresh.proofs.Answering.{of_past}
 use Rattle.shr_audit_fresh.proofs.FloorLaws.{floor_next, floor_start, known_all, known_fails, known_more, known_none, reaches_below, shown_floor}
 use Rattle.shr_audit_fresh.proofs.own.is_shown_below.Goals as goal

@@ -1,6 +1,4 @@
-use Rattle.shr_report.specs.Freshness.{of_answer, shown_by, tree_seen}
-use Rattle.shr_report.specs.Parts.{serial_of}
-use Rattle.shr_audit_fresh.specs.Floors.{AreKnownBelow, IsFloorBefore}
+use Rattle.shr_audit_fresh.proofs.Common.{of_answer, shown_by, tree_seen, serial_of, AreKnownBelow, IsFloorBefore}
 use Rattle.shr_audit_fresh.proofs.own.is_shown_below.Given as goal
 
 abbrev pub invariant-loop-number : goal.invariant-loop-number

@@ -1,8 +1,4 @@
-use Rattle.std.proofs.Common.{List, Option, ℕ, subst}
-use Rattle.std.specs.Prelude.{option_to_list}
-use Rattle.std.specs.Bool.{Decides}
-use Rattle.shr_report.specs.Freshness.{pool_told}
-use Rattle.shr_audit_fresh.specs.Floors.{Reaches}
+use Rattle.shr_audit_fresh.proofs.Common.{List, Option, ℕ, subst, option_to_list, Decides, pool_told, Reaches}
 use Rattle.shr_audit_fresh.proofs.FloorLaws.{reach_both, reach_fails}
 use Rattle.shr_audit_fresh.proofs.own.pool_reaches.Goals as goal
 

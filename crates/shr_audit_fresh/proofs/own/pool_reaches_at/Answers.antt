@@ -1,8 +1,4 @@
-use Rattle.std.proofs.Common.{List, ℕ, refl, sym, subst}
-use Rattle.std.specs.Bool.{Decides}
-use Rattle.shr_report.specs.Freshness.{pool_seen}
-use Rattle.shr_report.specs.Parts.{serial_of}
-use Rattle.shr_audit_fresh.specs.Floors.{Reaches}
+use Rattle.shr_audit_fresh.proofs.Common.{List, ℕ, refl, sym, subst, Decides, pool_seen, serial_of, Reaches}
 use Rattle.shr_audit_fresh.proofs.Answering.{of_answered, of_none}
 use Rattle.shr_audit_fresh.proofs.own.pool_reaches_at.Goals as goal
 

@@ -1,5 +1,4 @@
-use Rattle.std.proofs.Common.{ℕ, ◌≤◌, subst, arith}
-use Rattle.shr_audit_fresh.specs.Worker.{IsRefusedAt}
+use Rattle.shr_audit_fresh.proofs.Common.{ℕ, ◌≤◌, subst, arith, IsRefusedAt}
 use Rattle.shr_audit_fresh.proofs.RefusedLaws.{past_refused}
 use Rattle.shr_audit_fresh.proofs.Upto.{upto_all, upto_fails, upto_more}
 use Rattle.shr_audit_fresh.proofs.refused.is_refused.Goals as goal

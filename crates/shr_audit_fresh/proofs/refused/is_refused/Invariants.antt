@@ -1,5 +1,4 @@
-use Rattle.std.proofs.Common.{ℕ, ◌<◌}
-use Rattle.shr_audit_fresh.specs.Worker.{IsRefusedAt}
+use Rattle.shr_audit_fresh.proofs.Common.{ℕ, ◌<◌, IsRefusedAt}
 use Rattle.shr_audit_fresh.proofs.refused.is_refused.Given as goal
 
 abbrev pub invariant-loop-number : goal.invariant-loop-number

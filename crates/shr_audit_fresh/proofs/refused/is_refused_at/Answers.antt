@@ -1,7 +1,4 @@
-use Rattle.std.proofs.Common.{ℕ, Option, ap, sym, ◌∙◌}
-use Rattle.std.specs.Prelude.{option_and_then}
-use Rattle.shr_model.specs.Commands.{asks_online}
-use Rattle.shr_audit_fresh.specs.Worker.{is_before}
+use Rattle.shr_audit_fresh.proofs.Common.{ℕ, Option, ap, sym, ◌∙◌, option_and_then, asks_online, is_before}
 use Rattle.shr_audit_fresh.proofs.RefusedLaws.{asks_none, not_shown, was_shown}
 use Rattle.shr_audit_fresh.proofs.refused.is_refused_at.Goals as goal
 

@@ -1,9 +1,4 @@
-use Rattle.std.proofs.Common.{Option, sym, subst}
-use Rattle.std.specs.Bool.{Decides}
-use Rattle.std.specs.Option.{IsSomeAnd}
-use Rattle.shr_base.specs.declared.replies.Reply.{Reply}
-use Rattle.shr_report.specs.Freshness.{MayBeOffline}
-use Rattle.shr_report.specs.Parts.{serial_of}
+use Rattle.shr_audit_fresh.proofs.Common.{Option, sym, subst, Decides, IsSomeAnd, Reply, MayBeOffline, serial_of}
 use Rattle.shr_audit_fresh.proofs.Answering.{reply_answered, reply_none}
 use Rattle.shr_audit_fresh.proofs.refused.may_be_offline_at.Goals as goal
 

@@ -1,8 +1,4 @@
-use Rattle.std.proofs.Common.{List, ◌∷◌, [], ◌++◌, take, sym, ap, subst, ◌∙◌}
-use Rattle.std.proofs.lemmas.List.{take_more, take_all}
-use Rattle.shr_base.specs.declared.walks.WalkRecord.{WalkRecord}
-use Rattle.shr_audit_fresh.specs.Firsts.{AreFirsts}
-use Rattle.shr_audit_fresh.specs.Worker.{Shown}
+use Rattle.shr_audit_fresh.proofs.Common.{List, ◌∷◌, [], ◌++◌, take, sym, ap, subst, ◌∙◌, take_more, take_all, WalkRecord, AreFirsts, Shown}
 use Rattle.shr_audit_fresh.proofs.refused.note_walks.Goals as goal
 
 pub loop-walk-init : goal.loop-walk-init

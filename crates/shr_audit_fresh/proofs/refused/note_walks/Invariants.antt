@@ -1,6 +1,4 @@
-use Rattle.std.proofs.Common.{[], take}
-use Rattle.shr_audit_fresh.specs.Firsts.{AreFirsts}
-use Rattle.shr_audit_fresh.specs.Worker.{Shown}
+use Rattle.shr_audit_fresh.proofs.Common.{[], take, AreFirsts, Shown}
 use Rattle.shr_audit_fresh.proofs.refused.note_walks.Given as goal
 
 abbrev pub invariant-loop-walk : goal.invariant-loop-walk

@@ -1,6 +1,4 @@
-use Rattle.std.proofs.Common.{ℕ, Option, Some, None, arith, subst, sym}
-use Rattle.std.specs.Prelude.{option_to_list}
-use Rattle.shr_audit_fresh.specs.Rising.{After}
+use Rattle.shr_audit_fresh.proofs.Common.{ℕ, Option, Some, None, arith, subst, sym, option_to_list, After}
 use Rattle.shr_audit_fresh.proofs.rising.after.Goals as goal
 
 pub returns-then-n-low : goal.returns-then-n-low

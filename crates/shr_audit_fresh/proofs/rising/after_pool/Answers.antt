@@ -1,7 +1,4 @@
-use Rattle.std.proofs.Common.{List, Option, None, ℕ, ◌++◌, subst}
-use Rattle.std.specs.Prelude.{option_to_list}
-use Rattle.shr_report.specs.Freshness.{pool_told}
-use Rattle.shr_audit_fresh.specs.Rising.{After}
+use Rattle.shr_audit_fresh.proofs.Common.{List, Option, None, ℕ, ◌++◌, subst, option_to_list, pool_told, After}
 use Rattle.shr_audit_fresh.proofs.RisingLaws.{after_both, after_fall}
 use Rattle.shr_audit_fresh.proofs.rising.after_pool.Goals as goal
 

@@ -1,5 +1,4 @@
-use Rattle.std.proofs.Common.{List, ℕ, subst}
-use Rattle.shr_audit_fresh.specs.Rising.{After}
+use Rattle.shr_audit_fresh.proofs.Common.{List, ℕ, subst, After}
 use Rattle.shr_audit_fresh.proofs.rising.after_tree.Goals as goal
 
 pub returns : goal.returns

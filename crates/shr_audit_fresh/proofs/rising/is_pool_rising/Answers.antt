@@ -1,7 +1,4 @@
-use Rattle.std.proofs.Common.{Some, None, subst}
-use Rattle.shr_base.specs.declared.replies.Answered.{Answered}
-use Rattle.shr_report.specs.Freshness.{pool_seen}
-use Rattle.shr_audit_fresh.specs.Rising.{After}
+use Rattle.shr_audit_fresh.proofs.Common.{Some, None, subst, Answered, pool_seen, After}
 use Rattle.shr_audit_fresh.proofs.RisingLaws.{all_rise, falls_here, none_yet, one_further}
 use Rattle.shr_audit_fresh.proofs.rising.is_pool_rising.Goals as goal
 

@@ -1,7 +1,4 @@
-use Rattle.std.proofs.Common.{Some, None, subst}
-use Rattle.shr_base.specs.declared.replies.Answered.{Answered}
-use Rattle.shr_report.specs.Freshness.{tree_seen}
-use Rattle.shr_audit_fresh.specs.Rising.{After}
+use Rattle.shr_audit_fresh.proofs.Common.{Some, None, subst, Answered, tree_seen, After}
 use Rattle.shr_audit_fresh.proofs.RisingLaws.{all_rise, falls_here, none_yet, one_further}
 use Rattle.shr_audit_fresh.proofs.rising.is_tree_rising.Goals as goal
 

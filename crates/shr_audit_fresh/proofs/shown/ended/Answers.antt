@@ -1,7 +1,4 @@
-use Rattle.std.proofs.Common.{◌≡◌, ℕ, subst, sym}
-use Rattle.std.specs.Prelude.{◌||◌, ◌==◌}
-use Rattle.shr_base.specs.declared.journals.TreeEntry.{TreeEntry}
-use Rattle.shr_model.specs.TreeJournal.{is_begin, is_done}
+use Rattle.shr_audit_fresh.proofs.Common.{◌≡◌, ℕ, subst, sym, ◌||◌, ◌==◌, TreeEntry, is_begin, is_done}
 use Rattle.shr_audit_fresh.proofs.FirstLaws.{or_none}
 use Rattle.shr_audit_fresh.proofs.shown.ended.Goals as goal
 

@@ -1,11 +1,4 @@
-use Rattle.std.proofs.Common.{ℕ, ◌≤◌, List, subst, arith}
-use Rattle.std.specs.Bool.{Decides}
-use Rattle.shr_base.specs.declared.replies.Answered.{Answered}
-use Rattle.shr_audit_causes.specs.declared.cites.Cited.{Cited}
-use Rattle.shr_report.specs.declared.report.Report.{Report}
-use Rattle.shr_report.specs.Freshness.{of_answer, tree_cited}
-use Rattle.shr_report.specs.Parts.{serial_of}
-use Rattle.shr_audit_fresh.specs.Started.{IsEntryStarted}
+use Rattle.shr_audit_fresh.proofs.Common.{ℕ, ◌≤◌, List, subst, arith, Decides, Answered, Cited, Report, of_answer, tree_cited, serial_of, IsEntryStarted}
 use Rattle.shr_audit_fresh.proofs.StartedLaws.{past_started}
 use Rattle.shr_audit_fresh.proofs.Upto.{upto_all, upto_fails, upto_more}
 use Rattle.shr_audit_fresh.proofs.started.are_answers_started.Goals as goal

@@ -1,8 +1,4 @@
-use Rattle.std.proofs.Common.{ℕ, ◌<◌}
-use Rattle.shr_base.specs.declared.replies.Answered.{Answered}
-use Rattle.shr_report.specs.Freshness.{of_answer, tree_cited}
-use Rattle.shr_report.specs.Parts.{serial_of}
-use Rattle.shr_audit_fresh.specs.Started.{IsEntryStarted}
+use Rattle.shr_audit_fresh.proofs.Common.{ℕ, ◌<◌, Answered, of_answer, tree_cited, serial_of, IsEntryStarted}
 use Rattle.shr_audit_fresh.proofs.started.are_answers_started.Given as goal
 
 abbrev pub invariant-loop-number : goal.invariant-loop-number

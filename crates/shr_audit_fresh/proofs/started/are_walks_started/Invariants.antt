@@ -1,6 +1,4 @@
-use Rattle.std.proofs.Common.{◌≡◌, ◌<◌, ℕ, Some, slice_get}
-use Rattle.shr_base.specs.declared.walks.WalkRecord.{WalkRecord}
-use Rattle.shr_audit_fresh.specs.Started.{IsWalkStarted}
+use Rattle.shr_audit_fresh.proofs.Common.{◌≡◌, ◌<◌, ℕ, Some, slice_get, WalkRecord, IsWalkStarted}
 use Rattle.shr_audit_fresh.proofs.started.are_walks_started.Given as goal
 
 abbrev pub invariant-loop-walk : goal.invariant-loop-walk

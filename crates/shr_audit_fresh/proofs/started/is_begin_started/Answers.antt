@@ -1,8 +1,4 @@
-use Rattle.std.proofs.Common.{List, subst}
-use Rattle.std.specs.Bool.{Decides}
-use Rattle.shr_base.specs.declared.walks.WalkRecord.{WalkRecord}
-use Rattle.shr_formed.specs.Each.{Each}
-use Rattle.shr_audit_fresh.specs.Started.{IsWalkStarted}
+use Rattle.shr_audit_fresh.proofs.Common.{List, subst, Decides, WalkRecord, Each, IsWalkStarted}
 use Rattle.shr_audit_fresh.proofs.StartedLaws.{answers_fail, started}
 use Rattle.shr_audit_fresh.proofs.started.is_begin_started.Goals as goal
 

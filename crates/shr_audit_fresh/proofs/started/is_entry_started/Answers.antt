@@ -1,7 +1,4 @@
-use Rattle.std.proofs.Common.{ap, ◌∙◌}
-use Rattle.std.specs.Prelude.{option_to_list}
-use Rattle.shr_audit_causes.specs.declared.cites.Cited.{Cited}
-use Rattle.shr_audit_fresh.specs.Started.{may_show}
+use Rattle.shr_audit_fresh.proofs.Common.{ap, ◌∙◌, option_to_list, Cited, may_show}
 use Rattle.shr_audit_fresh.proofs.StartedLaws.{entry_none, entry_one}
 use Rattle.shr_audit_fresh.proofs.started.is_entry_started.Goals as goal
 

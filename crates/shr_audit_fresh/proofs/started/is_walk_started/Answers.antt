@@ -1,7 +1,4 @@
-use Rattle.std.proofs.Common.{ℕ, List, refl, subst}
-use Rattle.std.specs.Bool.{Decides}
-use Rattle.shr_report.specs.Freshness.{walk_cited}
-use Rattle.shr_audit_fresh.specs.Started.{IsEntryStarted}
+use Rattle.shr_audit_fresh.proofs.Common.{ℕ, List, refl, subst, Decides, walk_cited, IsEntryStarted}
 use Rattle.shr_audit_fresh.proofs.started.is_walk_started.Goals as goal
 
 pub returns-then-by-worker : goal.returns-then-by-worker

@@ -1,7 +1,4 @@
-use Rattle.std.proofs.Common.{sym, ◌∙◌}
-use Rattle.shr_base.specs.declared.replies.Answered.{Answered}
-use Rattle.shr_report.specs.Freshness.{tree_cited}
-use Rattle.shr_report.specs.Parts.{serial_of}
+use Rattle.shr_audit_fresh.proofs.Common.{sym, ◌∙◌, Answered, tree_cited, serial_of}
 use Rattle.shr_audit_fresh.proofs.Answering.{of_answered, of_none}
 use Rattle.shr_audit_fresh.proofs.told.cited_by.Goals as goal
 

@@ -1,7 +1,4 @@
-use Rattle.std.proofs.Common.{sym, ◌∙◌}
-use Rattle.shr_base.specs.declared.replies.Answered.{Answered}
-use Rattle.shr_report.specs.Freshness.{pool_made}
-use Rattle.shr_report.specs.Parts.{serial_of}
+use Rattle.shr_audit_fresh.proofs.Common.{sym, ◌∙◌, Answered, pool_made, serial_of}
 use Rattle.shr_audit_fresh.proofs.Answering.{of_answered, of_none}
 use Rattle.shr_audit_fresh.proofs.told.made_by.Goals as goal
 

@@ -1,6 +1,4 @@
-use Rattle.std.proofs.Common.{sym, ◌∙◌}
-use Rattle.shr_report.specs.Freshness.{tree_seen}
-use Rattle.shr_report.specs.Parts.{serial_of}
+use Rattle.shr_audit_fresh.proofs.Common.{sym, ◌∙◌, tree_seen, serial_of}
 use Rattle.shr_audit_fresh.proofs.Answering.{of_answered, of_none}
 use Rattle.shr_audit_fresh.proofs.told.tree_seen.Goals as goal
 

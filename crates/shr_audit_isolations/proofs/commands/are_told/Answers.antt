@@ -1,7 +1,4 @@
-use Rattle.std.proofs.Common.{ℕ}
-use Rattle.shr_base.specs.declared.ends.WorkerPart.{WorkerPart}
-use Rattle.shr_formed.proofs.Eachs.{more_at}
-use Rattle.shr_audit_isolations.specs.Commands.{IsPartTold}
+use Rattle.shr_audit_isolations.proofs.Common.{ℕ, WorkerPart, more_at, IsPartTold}
 use Rattle.shr_audit_isolations.proofs.Commanded.{owns_here, stands_here, told_all, told_fails}
 use Rattle.shr_audit_isolations.proofs.commands.are_told.Goals as goal
 

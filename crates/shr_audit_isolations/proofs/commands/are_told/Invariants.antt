@@ -1,6 +1,4 @@
-use Rattle.std.proofs.Common.{◌≡◌, ◌<◌, ℕ, Some, slice_get}
-use Rattle.shr_base.specs.declared.ends.WorkerPart.{WorkerPart}
-use Rattle.shr_audit_isolations.specs.Commands.{IsPartTold}
+use Rattle.shr_audit_isolations.proofs.Common.{◌≡◌, ◌<◌, ℕ, Some, slice_get, WorkerPart, IsPartTold}
 use Rattle.shr_audit_isolations.proofs.commands.are_told.Given as goal
 
 abbrev pub invariant-loop-worker : goal.invariant-loop-worker

@@ -1,9 +1,4 @@
-use Rattle.std.proofs.Common.{◌≡◌, true, false, subst, arith, rules}
-use Rattle.std.specs.Prelude.{nat_le}
-use Rattle.std.proofs.lemmas.Bool.Decides.{nat_tests}
-use Rattle.std.proofs.lemmas.List.Sorted.{IsPartitionPoint-from_clause}
-use Rattle.std.proofs.lemmas.Option.{get_or_from_slice_get, slice_get_within}
-use Rattle.shr_base.specs.declared.walks.Isolation.{Isolation}
+use Rattle.shr_audit_isolations.proofs.Common.{◌≡◌, true, false, subst, arith, rules, nat_le, nat_tests, IsPartitionPoint-from_clause, get_or_from_slice_get, slice_get_within, Isolation}
 use Rattle.shr_audit_isolations.proofs.Commanded.{parted_up_to}
 use Rattle.shr_audit_isolations.proofs.commands.behind_of.Goals as goal
 

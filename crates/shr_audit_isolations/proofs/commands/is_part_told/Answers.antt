@@ -1,8 +1,4 @@
-use Rattle.std.proofs.Common.{ℕ, refl}
-use Rattle.std.specs.Bool.{Decides}
-use Rattle.shr_base.specs.declared.replies.Answered.{Answered}
-use Rattle.shr_formed.proofs.Eachs.{more_at}
-use Rattle.shr_audit_isolations.specs.Commands.{IsAnswerTold}
+use Rattle.shr_audit_isolations.proofs.Common.{ℕ, refl, Decides, Answered, more_at, IsAnswerTold}
 use Rattle.shr_audit_isolations.proofs.Commanded.{answer_decided, part_fails, part_whole}
 use Rattle.shr_audit_isolations.proofs.commands.is_part_told.Goals as goal
 

@@ -1,5 +1,4 @@
-use Rattle.std.proofs.Common.{arith}
-use Rattle.shr_base.specs.declared.walks.Isolation.{Isolation}
+use Rattle.shr_audit_isolations.proofs.Common.{arith, Isolation}
 use Rattle.shr_audit_walks.proofs.Ranged.{range_filter, none_filter}
 use Rattle.shr_audit_isolations.proofs.commands.isolations_of.Goals as goal
 

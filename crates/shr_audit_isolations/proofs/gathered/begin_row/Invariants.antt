@@ -1,5 +1,4 @@
-use Rattle.std.proofs.Common.{◌≡◌, map, take}
-use Rattle.shr_audit_isolations.specs.Gathered.{begun, told_of}
+use Rattle.shr_audit_isolations.proofs.Common.{◌≡◌, map, take, begun, told_of}
 use Rattle.shr_audit_isolations.proofs.gathered.begin_row.Given as goal
 
 abbrev pub invariant-loop-isolation : goal.invariant-loop-isolation

@@ -1,7 +1,4 @@
-use Rattle.std.proofs.Common.{List, subst}
-use Rattle.shr_base.specs.declared.ends.WorkerPart.{WorkerPart}
-use Rattle.shr_formed.proofs.Eachs.{clash}
-use Rattle.shr_audit_isolations.specs.Gathered.{IsBegun}
+use Rattle.shr_audit_isolations.proofs.Common.{List, subst, WorkerPart, clash, IsBegun}
 use Rattle.shr_audit_isolations.proofs.Lists.{gathered_all, scans_decided}
 use Rattle.shr_audit_isolations.proofs.gathered.gather.Goals as goal
 

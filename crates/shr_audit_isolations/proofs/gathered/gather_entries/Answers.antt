@@ -1,5 +1,4 @@
-use Rattle.shr_formed.proofs.Eachs.{each_all}
-use Rattle.shr_audit_isolations.specs.Gathered.{IsOfTold}
+use Rattle.shr_audit_isolations.proofs.Common.{each_all, IsOfTold}
 use Rattle.shr_audit_isolations.proofs.Gathering.{entries_broken, entries_more, gains_more}
 use Rattle.shr_audit_isolations.proofs.gathered.gather_entries.Goals as goal
 

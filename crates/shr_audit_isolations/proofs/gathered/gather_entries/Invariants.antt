@@ -1,6 +1,4 @@
-use Rattle.std.proofs.Common.{◌≡◌, ◌<◌, ℕ, Some, slice_get, take}
-use Rattle.shr_base.specs.declared.journals.Entry.{Entry}
-use Rattle.shr_audit_isolations.specs.Gathered.{Gains, IsOfTold, at_place}
+use Rattle.shr_audit_isolations.proofs.Common.{◌≡◌, ◌<◌, ℕ, Some, slice_get, take, Entry, Gains, IsOfTold, at_place}
 use Rattle.shr_audit_isolations.proofs.gathered.gather_entries.Given as goal
 
 abbrev pub invariant-loop-entry : goal.invariant-loop-entry

@@ -1,5 +1,4 @@
-use Rattle.std.proofs.Common.{◌<◌, ℕ}
-use Rattle.shr_audit_isolations.specs.Gathered.{Gains, IsOfTheirs, journals_to}
+use Rattle.shr_audit_isolations.proofs.Common.{◌<◌, ℕ, Gains, IsOfTheirs, journals_to}
 use Rattle.shr_audit_isolations.proofs.gathered.gather_lists.Given as goal
 
 abbrev pub invariant-loop-k : goal.invariant-loop-k

@@ -1,10 +1,5 @@
-use Rattle.std.proofs.Common.{Option, subst}
-use Rattle.std.specs.Prelude.{IfSome, Vec}
-use Rattle.std.specs.declared.alloc.Global.{Global}
-use Rattle.shr_report.specs.Isolated.{IsOfIsolation}
-use Rattle.shr_report.specs.Parts.{EachEntry}
-use Rattle.shr_audit_isolations.specs.declared.gathered.Gathered.{Gathered}
-use Rattle.shr_audit_isolations.specs.Gathered.{AreGathered}
+use Rattle.shr_audit_isolations.proofs.Common.{Option, subst, Vec, Global, IsOfIsolation, EachEntry, Gathered, AreGathered}
+use Rattle.std.specs.Prelude.{IfSome}
 use Rattle.shr_audit_isolations.proofs.Lists.{rows_decided}
 use Rattle.shr_audit_isolations.proofs.isolations.are_gathered_right.Goals as goal
 

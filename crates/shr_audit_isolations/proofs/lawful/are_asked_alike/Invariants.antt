@@ -1,6 +1,4 @@
-use Rattle.std.proofs.Common.{◌≡◌, ◌<◌, ℕ, Some, slice_get}
-use Rattle.shr_audit_isolations.specs.declared.gathered.IsolationScan.{IsolationScan}
-use Rattle.shr_audit_isolations.specs.Lawful.{IsAskedAlike}
+use Rattle.shr_audit_isolations.proofs.Common.{◌≡◌, ◌<◌, ℕ, Some, slice_get, IsolationScan, IsAskedAlike}
 use Rattle.shr_audit_isolations.proofs.lawful.are_asked_alike.Given as goal
 
 abbrev pub invariant-loop-scan : goal.invariant-loop-scan

@@ -1,7 +1,4 @@
-use Rattle.std.proofs.Common.{◌≡◌, ◌<◌, ℕ, Some, slice_get}
-use Rattle.shr_model.specs.Isolations.{met_one}
-use Rattle.shr_audit_isolations.specs.declared.gathered.IsolationScan.{IsolationScan}
-use Rattle.shr_audit_isolations.specs.Lawful.{met_by}
+use Rattle.shr_audit_isolations.proofs.Common.{◌≡◌, ◌<◌, ℕ, Some, slice_get, met_one, IsolationScan, met_by}
 use Rattle.shr_audit_isolations.proofs.lawful.are_ones.Given as goal
 
 abbrev pub invariant-loop-scan : goal.invariant-loop-scan

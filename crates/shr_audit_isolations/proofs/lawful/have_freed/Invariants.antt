@@ -1,5 +1,4 @@
-use Rattle.std.proofs.Common.{◌≡◌, ◌+◌, sum_by, take}
-use Rattle.shr_audit_isolations.specs.Lawful.{freed_of}
+use Rattle.shr_audit_isolations.proofs.Common.{◌≡◌, ◌+◌, sum_by, take, freed_of}
 use Rattle.shr_audit_isolations.proofs.lawful.have_freed.Given as goal
 
 abbrev pub invariant-loop-scan : goal.invariant-loop-scan

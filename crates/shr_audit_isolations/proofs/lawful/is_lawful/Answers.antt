@@ -1,10 +1,4 @@
-use Rattle.shr_model.specs.Isolations.{IsLawfulIsolation}
-use Rattle.std.proofs.Common.{◌≡◌, map}
-use Rattle.shr_model.specs.Isolations.{mets_of}
-use Rattle.shr_formed.specs.Each.{Each}
-use Rattle.shr_formed.proofs.Eachs.{fails}
-use Rattle.shr_audit_isolations.specs.Gathered.{seen_of}
-use Rattle.shr_audit_isolations.specs.Lawful.{IsAskedAlike, IsBounded, met_by}
+use Rattle.shr_audit_isolations.proofs.Common.{IsLawfulIsolation, ◌≡◌, map, mets_of, Each, fails, seen_of, IsAskedAlike, IsBounded, met_by}
 use Rattle.shr_audit_isolations.proofs.Meeting.{all_tested, tested_lawful}
 use Rattle.shr_audit_isolations.proofs.lawful.is_lawful.Goals as goal
 

@@ -1,15 +1,5 @@
-use Rattle.std.proofs.Common.{ℕ, List, length, refl, subst}
-use Rattle.std.specs.Prelude.{Vec}
-use Rattle.std.specs.Bool.{Decides}
-use Rattle.std.specs.declared.alloc.Global.{Global}
+use Rattle.shr_audit_isolations.proofs.Common.{ℕ, List, length, refl, subst, Vec, Decides, Global, Script, Each, all_at, fails, more_at, Report, Gathered, told_of, AreRowsRight, IsToldRight}
 use Rattle.std.proofs.lemmas.Option.{slice_get_read}
-use Rattle.shr_base.specs.declared.scripts.Script.{Script}
-use Rattle.shr_formed.specs.Each.{Each}
-use Rattle.shr_formed.proofs.Eachs.{all_at, fails, more_at}
-use Rattle.shr_report.specs.declared.report.Report.{Report}
-use Rattle.shr_audit_isolations.specs.declared.gathered.Gathered.{Gathered}
-use Rattle.shr_audit_isolations.specs.Gathered.{told_of}
-use Rattle.shr_audit_isolations.specs.Right.{AreRowsRight, IsToldRight}
 use Rattle.shr_audit_isolations.proofs.right.are_rows_right.Goals as goal
 
 abbrev all : Script → Report → ℕ → List Gathered → Type 0

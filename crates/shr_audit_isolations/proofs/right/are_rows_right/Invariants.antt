@@ -1,10 +1,4 @@
-use Rattle.std.proofs.Common.{◌≡◌, ◌<◌, ℕ, Some, slice_get}
-use Rattle.std.specs.Prelude.{Vec}
-use Rattle.std.specs.declared.alloc.Global.{Global}
-use Rattle.shr_formed.specs.Each.{Each}
-use Rattle.shr_audit_isolations.specs.declared.gathered.Gathered.{Gathered}
-use Rattle.shr_audit_isolations.specs.Gathered.{told_of}
-use Rattle.shr_audit_isolations.specs.Right.{IsToldRight}
+use Rattle.shr_audit_isolations.proofs.Common.{◌≡◌, ◌<◌, ℕ, Some, slice_get, Vec, Global, Each, Gathered, told_of, IsToldRight}
 use Rattle.shr_audit_isolations.proofs.right.are_rows_right.Given as goal
 
 abbrev pub invariant-loop-worker : goal.invariant-loop-worker

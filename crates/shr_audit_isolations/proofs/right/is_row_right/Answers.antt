@@ -1,6 +1,4 @@
-use Rattle.shr_formed.proofs.Eachs.{each_all, each_more}
-use Rattle.shr_audit_isolations.specs.Gathered.{told_of}
-use Rattle.shr_audit_isolations.specs.Right.{IsToldRight}
+use Rattle.shr_audit_isolations.proofs.Common.{each_all, each_more, told_of, IsToldRight}
 use Rattle.shr_audit_isolations.proofs.right.is_row_right.Goals as goal
 
 pub loop-gathered-preserved : goal.loop-gathered-preserved

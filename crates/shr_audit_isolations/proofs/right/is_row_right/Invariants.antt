@@ -1,7 +1,4 @@
-use Rattle.std.proofs.Common.{◌≡◌, ◌<◌, ℕ, Some, slice_get}
-use Rattle.shr_audit_isolations.specs.declared.gathered.Gathered.{Gathered}
-use Rattle.shr_audit_isolations.specs.Gathered.{told_of}
-use Rattle.shr_audit_isolations.specs.Right.{IsToldRight}
+use Rattle.shr_audit_isolations.proofs.Common.{◌≡◌, ◌<◌, ℕ, Some, slice_get, Gathered, told_of, IsToldRight}
 use Rattle.shr_audit_isolations.proofs.right.is_row_right.Given as goal
 
 abbrev pub invariant-loop-gathered : goal.invariant-loop-gathered

@@ -1,6 +1,4 @@
-use Rattle.shr_base.specs.declared.ends.WorkerPart.{WorkerPart}
-use Rattle.shr_formed.proofs.Eachs.{each_more}
-use Rattle.shr_audit_later.specs.Filled.{IsPartFilled}
+use Rattle.shr_audit_later.proofs.Common.{WorkerPart, each_more, IsPartFilled}
 use Rattle.shr_audit_later.proofs.FilledLaw.{all_seen, part_fails}
 use Rattle.shr_audit_later.proofs.Standing.{stands_here}
 use Rattle.shr_audit_later.proofs.bits.are_bits_seen.Goals as goal

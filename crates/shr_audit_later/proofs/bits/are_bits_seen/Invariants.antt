@@ -1,6 +1,4 @@
-use Rattle.std.proofs.Common.{◌≡◌, ◌<◌, ℕ, Some, slice_get}
-use Rattle.shr_base.specs.declared.ends.WorkerPart.{WorkerPart}
-use Rattle.shr_audit_later.specs.Filled.{IsPartFilled}
+use Rattle.shr_audit_later.proofs.Common.{◌≡◌, ◌<◌, ℕ, Some, slice_get, WorkerPart, IsPartFilled}
 use Rattle.shr_audit_later.proofs.bits.are_bits_seen.Given as goal
 
 abbrev pub invariant-loop-worker : goal.invariant-loop-worker

@@ -1,9 +1,7 @@
-use Rattle.std.proofs.Common.{arith, length, refl}
-use Rattle.shr_formed.proofs.Eachs.{each_more}
-use Rattle.shr_audit_later.specs.Filled.{HasFilled}
+use Rattle.shr_audit_later.proofs.Common.{arith, length, refl, each_more, HasFilled, found_at}
 use Rattle.shr_audit_later.proofs.Filling.{none_yet}
 use Rattle.shr_audit_later.proofs.FilledLaw.{filled_decided, walk_fails, walks_all}
-use Rattle.shr_audit_later.proofs.Standing.{found_at, in_range, next_low, slices_stand}
+use Rattle.shr_audit_later.proofs.Standing.{in_range, next_low, slices_stand}
 use Rattle.shr_audit_later.proofs.bits.are_bits_seen_in.Goals as goal
 
 pub loop-n-init : goal.loop-n-init

@@ -1,6 +1,4 @@
-use Rattle.std.proofs.Common.{◌≡◌, ◌<◌, ◌≤◌, ℕ, Some, slice_get}
-use Rattle.shr_base.specs.declared.walks.WalkRecord.{WalkRecord}
-use Rattle.shr_audit_later.specs.Filled.{AreFilled, HasFilled}
+use Rattle.shr_audit_later.proofs.Common.{◌≡◌, ◌<◌, ◌≤◌, ℕ, Some, slice_get, WalkRecord, AreFilled, HasFilled}
 use Rattle.shr_audit_later.proofs.bits.are_bits_seen_in.Given as goal
 
 abbrev pub invariant-loop-n : goal.invariant-loop-n

@@ -1,6 +1,4 @@
-use Rattle.std.proofs.Common.{◌≡◌, ◌<◌, ℕ, Some, slice_get}
-use Rattle.shr_base.specs.declared.walks.MapSeen.{MapSeen}
-use Rattle.shr_audit_later.specs.Filled.{IsMapFull}
+use Rattle.shr_audit_later.proofs.Common.{◌≡◌, ◌<◌, ℕ, Some, slice_get, MapSeen, IsMapFull}
 use Rattle.shr_audit_later.proofs.bits.is_walk_full.Given as goal
 
 abbrev pub invariant-loop-map : goal.invariant-loop-map

@@ -1,6 +1,4 @@
-use Rattle.std.proofs.Common.{arith, subst, sym}
-use Rattle.shr_base.specs.declared.replies.Answered.{Answered}
-use Rattle.shr_audit_later.specs.Cited.{NotesReply}
+use Rattle.shr_audit_later.proofs.Common.{arith, subst, sym, Answered, NotesReply}
 use Rattle.shr_audit_later.proofs.Citing.{one_more}
 use Rattle.shr_audit_later.proofs.cited.note_answers.Goals as goal
 

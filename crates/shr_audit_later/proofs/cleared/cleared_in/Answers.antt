@@ -1,10 +1,4 @@
-use Rattle.std.proofs.Common.{subst, ap, List, flat_map}
-use Rattle.std.specs.Prelude.{nat_eq}
-use Rattle.std.specs.List.{list_any}
-use Rattle.shr_base.specs.declared.ends.WorkerPart.{WorkerPart}
-use Rattle.shr_base.specs.declared.walks.WalkRecord.{WalkRecord}
-use Rattle.shr_model.specs.Walks.{clearings_of}
-use Rattle.shr_audit_later.specs.Cleared.{Clears}
+use Rattle.shr_audit_later.proofs.Common.{subst, ap, List, flat_map, nat_eq, list_any, WorkerPart, WalkRecord, clearings_of, Clears}
 use Rattle.shr_audit_later.proofs.Clearing.{all_cleared, clears_all, clears_more, clears_none}
 use Rattle.shr_audit_later.proofs.cleared.cleared_in.Goals as goal
 

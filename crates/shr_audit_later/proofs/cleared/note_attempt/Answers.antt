@@ -1,8 +1,4 @@
-use Rattle.std.proofs.Common.{ℕ, true, cond, ◌∙◌, ◌∷◌, [], sym, ap, subst}
-use Rattle.std.specs.Prelude.{nat_eq}
-use Rattle.std.specs.HashSet.{contains}
-use Rattle.shr_base.specs.declared.places.Place.{Place}
-use Rattle.shr_audit_later.specs.Cleared.{Clears}
+use Rattle.shr_audit_later.proofs.Common.{ℕ, true, cond, ◌∙◌, ◌∷◌, [], sym, ap, subst, nat_eq, contains, Place, Clears}
 use Rattle.shr_audit_later.proofs.Citing.{fits_so}
 use Rattle.shr_audit_later.proofs.Clearing.{attempt_clears, attempt_leaves, clears_one}
 use Rattle.shr_audit_later.proofs.cleared.note_attempt.Goals as goal

@@ -1,7 +1,4 @@
-use Rattle.std.proofs.Common.{subst, ap, ◌∙◌, List, flat_map}
-use Rattle.shr_base.specs.declared.places.Place.{Place}
-use Rattle.shr_base.specs.declared.walks.Attempt.{Attempt}
-use Rattle.shr_audit_later.specs.Cleared.{Clears, cleared_by}
+use Rattle.shr_audit_later.proofs.Common.{subst, ap, ◌∙◌, List, flat_map, Place, Attempt, Clears, cleared_by}
 use Rattle.shr_audit_later.proofs.Clearing.{by_attempts, clears_all, clears_more}
 use Rattle.shr_audit_later.proofs.cleared.note_walk.Goals as goal
 

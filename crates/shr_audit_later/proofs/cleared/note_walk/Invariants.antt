@@ -1,5 +1,4 @@
-use Rattle.std.proofs.Common.{flat_map, take}
-use Rattle.shr_audit_later.specs.Cleared.{Clears, cleared_by}
+use Rattle.shr_audit_later.proofs.Common.{flat_map, take, Clears, cleared_by}
 use Rattle.shr_audit_later.proofs.cleared.note_walk.Given as goal
 
 abbrev pub invariant-loop-attempt : goal.invariant-loop-attempt

@@ -1,7 +1,4 @@
-use Rattle.std.proofs.Common.{subst}
-use Rattle.shr_base.specs.declared.walks.WalkRecord.{WalkRecord}
-use Rattle.shr_model.specs.Walks.{clearings_of}
-use Rattle.shr_audit_later.specs.Cleared.{Clears}
+use Rattle.shr_audit_later.proofs.Common.{subst, WalkRecord, clearings_of, Clears}
 use Rattle.shr_audit_later.proofs.Clearing.{clears_all, clears_more}
 use Rattle.shr_audit_later.proofs.cleared.note_walks.Goals as goal
 

@@ -1,6 +1,4 @@
-use Rattle.std.proofs.Common.{flat_map, take}
-use Rattle.shr_model.specs.Walks.{clearings_of}
-use Rattle.shr_audit_later.specs.Cleared.{Clears}
+use Rattle.shr_audit_later.proofs.Common.{flat_map, take, clearings_of, Clears}
 use Rattle.shr_audit_later.proofs.cleared.note_walks.Given as goal
 
 abbrev pub invariant-loop-n : goal.invariant-loop-n

@@ -1,6 +1,4 @@
-use Rattle.std.proofs.Common.{◌∙◌, ap}
-use Rattle.std.specs.Prelude.{nat_eq}
-use Rattle.std.specs.HashSet.{contains}
+use Rattle.shr_audit_later.proofs.Common.{◌∙◌, ap, nat_eq, contains}
 use Rattle.shr_audit_later.proofs.Citing.{fits_so}
 use Rattle.shr_audit_later.proofs.cleared.was_cleared.Goals as goal
 

@@ -1,5 +1,4 @@
-use Rattle.std.proofs.Common.{arith, ap, ◌∙◌}
-use Rattle.shr_audit_later.specs.Filled.{word_in}
+use Rattle.shr_audit_later.proofs.Common.{arith, ap, ◌∙◌, word_in}
 use Rattle.shr_audit_later.proofs.Filling.{map_decided}
 use Rattle.shr_audit_later.proofs.filled.is_map_full.Goals as goal
 

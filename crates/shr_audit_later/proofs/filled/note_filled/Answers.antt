@@ -1,5 +1,4 @@
-use Rattle.std.proofs.Common.{subst, sym}
-use Rattle.shr_audit_later.specs.Filled.{NotesFilled}
+use Rattle.shr_audit_later.proofs.Common.{subst, sym, NotesFilled}
 use Rattle.shr_audit_later.proofs.Filling.{none_set}
 use Rattle.shr_audit_later.proofs.filled.note_filled.Goals as goal
 

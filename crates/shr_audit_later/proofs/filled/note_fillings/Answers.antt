@@ -1,8 +1,4 @@
-use Rattle.std.proofs.Common.{arith, subst, sym}
-use Rattle.std.specs.Prelude.{Option}
-use Rattle.shr_base.specs.declared.places.Place.{Place}
-use Rattle.shr_base.specs.declared.replies.Answered.{Answered}
-use Rattle.shr_audit_later.specs.Filled.{NotesFilled, filled_by}
+use Rattle.shr_audit_later.proofs.Common.{arith, subst, sym, Option, Place, Answered, NotesFilled, filled_by}
 use Rattle.shr_audit_later.proofs.Filling.{one_more}
 use Rattle.shr_audit_later.proofs.filled.note_fillings.Goals as goal
 

@@ -1,6 +1,4 @@
-use Rattle.std.proofs.Common.{ℕ, ◌*◌, ◌%◌, ◌^◌, ap, arith}
-use Rattle.std.specs.Prelude.{bit_or}
-use Rattle.shr_model.specs.Places.{bit_of}
+use Rattle.shr_audit_later.proofs.Common.{ℕ, ◌*◌, ◌%◌, ◌^◌, ap, arith, bit_or, bit_of}
 use Rattle.shr_audit_later.proofs.Citing.{fits_so}
 use Rattle.shr_audit_later.proofs.Filling.{bit_set}
 use Rattle.shr_audit_later.proofs.filled.set_bit.Goals as goal

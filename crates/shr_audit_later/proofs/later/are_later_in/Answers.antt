@@ -1,11 +1,8 @@
-use Rattle.std.proofs.Common.{arith}
-use Rattle.shr_formed.proofs.Eachs.{each_more}
-use Rattle.shr_audit_later.specs.Cited.{IsLater}
+use Rattle.shr_audit_later.proofs.Common.{arith, each_more, IsLater, length, refl, found_at}
 use Rattle.shr_audit_later.proofs.Citing.{later_decided, none_yet}
 use Rattle.shr_audit_later.proofs.LaterLaw.{walk_fails, walks_all}
-use Rattle.shr_audit_later.proofs.Standing.{found_at, in_range, next_low, slices_stand}
+use Rattle.shr_audit_later.proofs.Standing.{in_range, next_low, slices_stand}
 use Rattle.shr_audit_later.proofs.later.are_later_in.Goals as goal
-use Rattle.std.proofs.Common.{length, refl}
 
 pub loop-n-init : goal.loop-n-init
 loop-n-init c = record { cited = none_yet c.as_slice-answers.result.now c.none_cited-cited.result c.none_cited-cited.ensures; low = λ w e. omega arith; before = λ k w lt e. absurd (omega arith) }

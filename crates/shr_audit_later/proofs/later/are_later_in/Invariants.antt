@@ -1,6 +1,4 @@
-use Rattle.std.proofs.Common.{◌≡◌, ◌<◌, ◌≤◌, ℕ, Some, slice_get}
-use Rattle.shr_base.specs.declared.walks.WalkRecord.{WalkRecord}
-use Rattle.shr_audit_later.specs.Cited.{AreCited, IsLater}
+use Rattle.shr_audit_later.proofs.Common.{◌≡◌, ◌<◌, ◌≤◌, ℕ, Some, slice_get, WalkRecord, AreCited, IsLater}
 use Rattle.shr_audit_later.proofs.later.are_later_in.Given as goal
 
 abbrev pub invariant-loop-n : goal.invariant-loop-n

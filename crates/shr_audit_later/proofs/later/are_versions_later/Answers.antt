@@ -1,5 +1,4 @@
-use Rattle.shr_formed.proofs.Eachs.{each_more}
-use Rattle.shr_audit_later.specs.Cited.{IsPartLater}
+use Rattle.shr_audit_later.proofs.Common.{each_more, IsPartLater}
 use Rattle.shr_audit_later.proofs.LaterLaw.{all_later, part_fails}
 use Rattle.shr_audit_later.proofs.Standing.{stands_here}
 use Rattle.shr_audit_later.proofs.later.are_versions_later.Goals as goal

@@ -1,7 +1,5 @@
-use Rattle.std.proofs.Common.{sym, subst}
-use Rattle.std.specs.Bool.{Decides}
+use Rattle.shr_audit_later.proofs.Common.{sym, subst, Decides, IsOutcomeAbove, IsAboveHighest}
 use Rattle.shr_base.specs.declared.walks.Outcome.{Outcome}
-use Rattle.shr_audit_later.specs.Cited.{IsOutcomeAbove, IsAboveHighest}
 use Rattle.shr_audit_later.proofs.Citing.{both_above, one_above}
 use Rattle.shr_audit_later.proofs.later.is_outcome_above.Goals as goal
 

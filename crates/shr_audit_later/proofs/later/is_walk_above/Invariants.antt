@@ -1,7 +1,4 @@
-use Rattle.std.proofs.Common.{◌≡◌, ◌<◌, ℕ, Some, slice_get}
-use Rattle.shr_base.specs.declared.walks.Attempt.{Attempt}
-use Rattle.shr_model.specs.Walks.{place_in}
-use Rattle.shr_audit_later.specs.Cited.{IsOutcomeAbove}
+use Rattle.shr_audit_later.proofs.Common.{◌≡◌, ◌<◌, ℕ, Some, slice_get, Attempt, place_in, IsOutcomeAbove}
 use Rattle.shr_audit_later.proofs.later.is_walk_above.Given as goal
 
 abbrev pub invariant-loop-attempt : goal.invariant-loop-attempt

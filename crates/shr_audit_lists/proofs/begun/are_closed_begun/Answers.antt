@@ -1,6 +1,4 @@
-use Rattle.std.proofs.Common.{List, Bool, sym, subst}
-use Rattle.shr_base.specs.declared.journals.TreeEntry.{TreeEntry}
-use Rattle.shr_audit_lists.specs.Begun.{AreBegun}
+use Rattle.shr_audit_lists.proofs.Common.{List, Bool, sym, subst, TreeEntry, AreBegun}
 use Rattle.shr_audit_lists.proofs.Beginning.{begun_of}
 use Rattle.shr_audit_lists.proofs.begun.are_closed_begun.Goals as goal
 

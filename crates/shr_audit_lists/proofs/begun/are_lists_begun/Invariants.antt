@@ -1,8 +1,4 @@
-use Rattle.std.proofs.Common.{◌≡◌, ◌<◌, ℕ, List, Some}
-use Rattle.std.specs.Prelude.{slice_get}
-use Rattle.shr_base.specs.declared.ends.PlaceEnd.{PlaceEnd}
-use Rattle.shr_case.specs.Places.{IsFirst}
-use Rattle.shr_audit_lists.specs.Begun.{AreBegun, IsBegunIfClosed}
+use Rattle.shr_audit_lists.proofs.Common.{◌≡◌, ◌<◌, ℕ, List, Some, slice_get, PlaceEnd, IsFirst, AreBegun, IsBegunIfClosed}
 use Rattle.shr_audit_lists.proofs.begun.are_lists_begun.Given as goal
 
 abbrev pub invariant-loop-k : goal.invariant-loop-k

@@ -1,6 +1,4 @@
-use Rattle.std.proofs.Common.{ℕ, ◌+◌, ◌∙◌, List, [], ◌∷◌, Bool, length, length-append, ap, subst}
-use Rattle.std.specs.Bool.{Decides}
-use Rattle.shr_audit_lists.specs.Begun.{IsBegun}
+use Rattle.shr_audit_lists.proofs.Common.{ℕ, ◌+◌, ◌∙◌, List, [], ◌∷◌, Bool, length, length-append, ap, subst, Decides, IsBegun}
 use Rattle.shr_audit_lists.proofs.Beginning.{begun_more}
 use Rattle.shr_audit_lists.proofs.begun.begun_groups.Goals as goal
 

@@ -1,5 +1,4 @@
-use Rattle.std.proofs.Common.{◌≡◌, length}
-use Rattle.shr_audit_lists.specs.Begun.{AreBegun}
+use Rattle.shr_audit_lists.proofs.Common.{◌≡◌, length, AreBegun}
 use Rattle.shr_audit_lists.proofs.begun.begun_groups.Given as goal
 
 abbrev pub invariant-loop-group : goal.invariant-loop-group

@@ -1,9 +1,5 @@
-use Rattle.std.proofs.Common.{◌≡◌, ℕ, ◌<◌, Bool, true, false, length, refl, sym, subst, arith}
-use Rattle.std.specs.Prelude.{slice_index_or, Contains}
-use Rattle.std.specs.Bool.{Decides}
-use Rattle.shr_base.specs.declared.journals.TreeEntry.TheVariants.{Begin}
-use Rattle.shr_model.specs.Groups.{parent_of}
-use Rattle.shr_audit_lists.specs.Begun.{IsBegun}
+use Rattle.shr_audit_lists.proofs.Common.{◌≡◌, ℕ, ◌<◌, Bool, true, false, length, refl, sym, subst, arith, Contains, Decides, Begin, parent_of, IsBegun}
+use Rattle.std.specs.Prelude.{slice_index_or}
 use Rattle.shr_audit_lists.proofs.Beginning.{root_decided, own_begun, below_decided}
 use Rattle.shr_audit_lists.proofs.begun.is_begun.Goals as goal
 

@@ -1,7 +1,4 @@
-use Rattle.std.proofs.Common.{◌<◌, ℕ}
-use Rattle.std.specs.Prelude.{Contains}
-use Rattle.shr_base.specs.declared.journals.TreeEntry.TheVariants.{Done}
-use Rattle.shr_audit_lists.specs.Fields.{IsClosedAt}
+use Rattle.shr_audit_lists.proofs.Common.{◌<◌, ℕ, Contains, Done, IsClosedAt}
 use Rattle.shr_audit_lists.proofs.done.are_done_closed.Given as goal
 
 abbrev pub invariant-loop-group : goal.invariant-loop-group

@@ -1,5 +1,4 @@
-use Rattle.std.proofs.Common.{◌≡◌, drop}
-use Rattle.shr_model.specs.Items.{is_closed}
+use Rattle.shr_audit_lists.proofs.Common.{◌≡◌, drop, is_closed}
 use Rattle.shr_audit_lists.proofs.done.is_closed.Given as goal
 
 abbrev pub invariant-loop-entry : goal.invariant-loop-entry

@@ -1,6 +1,4 @@
-use Rattle.std.proofs.Common.{◌≡◌, ◌<◌, ℕ, Some}
-use Rattle.std.specs.Prelude.{slice_get}
-use Rattle.shr_base.specs.declared.journals.TreeEntry.TheVariants.{Done}
+use Rattle.shr_audit_lists.proofs.Common.{◌≡◌, ◌<◌, ℕ, Some, slice_get, Done}
 use Rattle.shr_audit_lists.proofs.done.is_done.Given as goal
 
 abbrev pub invariant-loop-entry : goal.invariant-loop-entry

@@ -1,5 +1,4 @@
-use Rattle.std.proofs.Common.{◌<◌, ℕ}
-use Rattle.shr_audit_lists.specs.Fields.{IsClosedAt}
+use Rattle.shr_audit_lists.proofs.Common.{◌<◌, ℕ, IsClosedAt}
 use Rattle.shr_audit_lists.proofs.done.is_group_closed.Given as goal
 
 abbrev pub invariant-loop-id : goal.invariant-loop-id

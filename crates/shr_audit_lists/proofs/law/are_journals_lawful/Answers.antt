@@ -1,12 +1,4 @@
-use Rattle.std.proofs.Common.{◌≡◌, ◌≤◌, ℕ, List, length, sym, ap, subst, ◌∙◌, arith}
-use Rattle.shr_base.specs.declared.places.Place.{Place}
-use Rattle.shr_model.specs.Families.{IsPaired}
-use Rattle.shr_model.specs.Groups.{IsTree}
-use Rattle.shr_report.specs.Journals.{AreJournalsLawful}
-use Rattle.shr_report.specs.Parts.{journals_of, parents_of}
-use Rattle.shr_audit_lists.specs.Begun.{AreBegunIfClosed}
-use Rattle.shr_audit_lists.specs.Fields.{AreItemsLeft, AreOutcomesSo, ArePlacesOnce, ArePlacesThere}
-use Rattle.shr_audit_lists.specs.Standing.{IsPlaceStanding}
+use Rattle.shr_audit_lists.proofs.Common.{◌≡◌, ◌≤◌, ℕ, List, length, sym, ap, subst, ◌∙◌, arith, Place, IsPaired, IsTree, AreJournalsLawful, journals_of, parents_of, AreBegunIfClosed, AreItemsLeft, AreOutcomesSo, ArePlacesOnce, ArePlacesThere, IsPlaceStanding}
 use Rattle.shr_audit_lists.proofs.Whole.{refused, groups_there, law_of, stands_from}
 use Rattle.shr_audit_lists.proofs.law.are_journals_lawful.Goals as goal
 

@@ -1,6 +1,4 @@
-use Rattle.std.proofs.Common.{ℕ, arith}
-use Rattle.shr_base.specs.declared.ends.PlaceEnd.{PlaceEnd}
-use Rattle.shr_audit_lists.specs.Fields.{IsItemsLeft}
+use Rattle.shr_audit_lists.proofs.Common.{ℕ, arith, PlaceEnd, IsItemsLeft}
 use Rattle.shr_audit_lists.proofs.Loops.{one_fails, one_more, all_so}
 use Rattle.shr_audit_lists.proofs.left.are_items_left.Goals as goal
 

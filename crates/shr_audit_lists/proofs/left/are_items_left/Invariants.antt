@@ -1,7 +1,4 @@
-use Rattle.std.proofs.Common.{◌≡◌, ◌<◌, ℕ, Some}
-use Rattle.std.specs.Prelude.{slice_get}
-use Rattle.shr_base.specs.declared.ends.PlaceEnd.{PlaceEnd}
-use Rattle.shr_audit_lists.specs.Fields.{IsItemsLeft}
+use Rattle.shr_audit_lists.proofs.Common.{◌≡◌, ◌<◌, ℕ, Some, slice_get, PlaceEnd, IsItemsLeft}
 use Rattle.shr_audit_lists.proofs.left.are_items_left.Given as goal
 
 abbrev pub invariant-loop-k : goal.invariant-loop-k

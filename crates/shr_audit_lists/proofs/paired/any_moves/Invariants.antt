@@ -1,6 +1,4 @@
-use Rattle.std.proofs.Common.{◌≡◌, drop}
-use Rattle.std.specs.List.{list_any}
-use Rattle.shr_audit_lists.specs.Paired.{moves}
+use Rattle.shr_audit_lists.proofs.Common.{◌≡◌, drop, list_any, moves}
 use Rattle.shr_audit_lists.proofs.paired.any_moves.Given as goal
 
 abbrev pub invariant-loop-entry : goal.invariant-loop-entry

@@ -1,8 +1,5 @@
-use Rattle.std.proofs.Common.{◌≡◌, ℕ, true, below_more}
-use Rattle.shr_model.specs.Groups.{is_child}
-use Rattle.shr_model.specs.Places.{at_group}
-use Rattle.shr_model.specs.Families.{IsPairedAt}
-use Rattle.shr_report.specs.Parts.{journals_of}
+use Rattle.shr_audit_lists.proofs.Common.{◌≡◌, ℕ, true, is_child, at_group, IsPairedAt, journals_of}
+use Rattle.std.proofs.Common.{below_more}
 use Rattle.shr_audit_lists.proofs.paired.are_children_paired.Goals as goal
 
 pub loop-child-preserved : goal.loop-child-preserved

@@ -1,8 +1,4 @@
-use Rattle.std.proofs.Common.{◌≡◌, ◌<◌, ℕ, Some}
-use Rattle.std.specs.Prelude.{slice_get}
-use Rattle.shr_base.specs.declared.ends.PlaceEnd.{PlaceEnd}
-use Rattle.shr_case.specs.Places.{IsFirst}
-use Rattle.shr_audit_lists.specs.Paired.{IsPairedAround}
+use Rattle.shr_audit_lists.proofs.Common.{◌≡◌, ◌<◌, ℕ, Some, slice_get, PlaceEnd, IsFirst, IsPairedAround}
 use Rattle.shr_audit_lists.proofs.paired.are_lists_paired.Given as goal
 
 abbrev pub invariant-loop-k : goal.invariant-loop-k

@@ -1,6 +1,4 @@
-use Rattle.std.proofs.Common.{ℕ}
-use Rattle.shr_base.specs.declared.ends.PlaceEnd.{PlaceEnd}
-use Rattle.shr_case.specs.Places.{IsFirst}
+use Rattle.shr_audit_lists.proofs.Common.{ℕ, PlaceEnd, IsFirst}
 use Rattle.shr_audit_lists.proofs.Loops.{one_fails, all_so}
 use Rattle.shr_audit_lists.proofs.places.are_firsts.Goals as goal
 

@@ -1,7 +1,4 @@
-use Rattle.std.proofs.Common.{List, subst}
-use Rattle.std.specs.Bool.{Decides}
-use Rattle.shr_base.specs.declared.ends.PlaceEnd.{PlaceEnd}
-use Rattle.shr_audit_lists.specs.Fields.{AreFirsts}
+use Rattle.shr_audit_lists.proofs.Common.{List, subst, Decides, PlaceEnd, AreFirsts}
 use Rattle.shr_audit_lists.proofs.Journals.{once_of}
 use Rattle.shr_audit_lists.proofs.places.are_places_once.Goals as goal
 

@@ -1,6 +1,4 @@
-use Rattle.std.proofs.Common.{◌<◌, ℕ, List}
-use Rattle.shr_base.specs.declared.journals.Entry.{Entry}
-use Rattle.shr_audit_lists.specs.Standing.{AreMoved, IsMovedChild}
+use Rattle.shr_audit_lists.proofs.Common.{◌<◌, ℕ, List, Entry, AreMoved, IsMovedChild}
 use Rattle.shr_audit_lists.proofs.standing.are_children_moved.Given as goal
 
 abbrev pub invariant-loop-child : goal.invariant-loop-child

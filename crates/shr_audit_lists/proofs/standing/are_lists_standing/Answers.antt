@@ -1,7 +1,4 @@
-use Rattle.std.proofs.Common.{ℕ, arith}
-use Rattle.shr_base.specs.declared.ends.PlaceEnd.{PlaceEnd}
-use Rattle.shr_case.specs.Places.{IsFirst}
-use Rattle.shr_audit_lists.specs.Standing.{IsPlaceStanding}
+use Rattle.shr_audit_lists.proofs.Common.{ℕ, arith, PlaceEnd, IsFirst, IsPlaceStanding}
 use Rattle.shr_audit_lists.proofs.Loops.{one_fails, one_more, all_so}
 use Rattle.shr_audit_lists.proofs.standing.are_lists_standing.Goals as goal
 

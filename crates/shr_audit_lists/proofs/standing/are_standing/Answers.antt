@@ -1,7 +1,4 @@
-use Rattle.std.proofs.Common.{◌∙◌, Bool, List, sym, subst, ap, length, take}
-use Rattle.std.specs.Bool.{Decides}
-use Rattle.shr_model.specs.Families.{MayStand}
-use Rattle.shr_audit_lists.specs.Standing.{AreMoved}
+use Rattle.shr_audit_lists.proofs.Common.{◌∙◌, Bool, List, sym, subst, ap, length, take, Decides, MayStand, AreMoved}
 use Rattle.shr_audit_lists.proofs.Allowing.{stood_none, stood_more, stood_fails, stood_all}
 use Rattle.shr_audit_lists.proofs.standing.are_standing.Goals as goal
 

@@ -1,5 +1,4 @@
-use Rattle.std.proofs.Common.{arith}
-use Rattle.std.proofs.lemmas.Bool.{eqb-true, eq-eqb}
+use Rattle.shr_audit_lists.proofs.Common.{arith, eqb-true, eq-eqb}
 use Rattle.shr_audit_lists.proofs.Allowing.{not_in_tree, climbed_more, born_fails, born_ends}
 use Rattle.shr_audit_lists.proofs.standing.is_born_at.Goals as goal
 

@@ -1,6 +1,4 @@
-use Rattle.std.proofs.Common.{◌<◌, List, length}
-use Rattle.shr_base.specs.declared.journals.Entry.{Entry}
-use Rattle.shr_audit_lists.specs.Standing.{AreMoved}
+use Rattle.shr_audit_lists.proofs.Common.{◌<◌, List, length, Entry, AreMoved}
 use Rattle.shr_audit_lists.proofs.Allowing.{IsClimbed}
 use Rattle.shr_audit_lists.proofs.standing.is_born_at.Given as goal
 

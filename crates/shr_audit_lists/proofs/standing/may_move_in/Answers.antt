@@ -1,5 +1,4 @@
-use Rattle.std.proofs.Common.{sym, ◌∙◌, arith}
-use Rattle.shr_model.proofs.GroupsLaws.{child_takes}
+use Rattle.shr_audit_lists.proofs.Common.{sym, ◌∙◌, arith, child_takes}
 use Rattle.shr_audit_lists.proofs.Allowing.{move_refused, move_told}
 use Rattle.shr_audit_lists.proofs.standing.may_move_in.Goals as goal
 

@@ -1,5 +1,4 @@
-use Rattle.std.proofs.Common.{◌≡◌, [], length}
-use Rattle.shr_audit_lists.specs.Standing.{AreMoved}
+use Rattle.shr_audit_lists.proofs.Common.{◌≡◌, [], length, AreMoved}
 use Rattle.shr_audit_lists.proofs.standing.none_moved.Given as goal
 
 abbrev pub invariant-loop-group : goal.invariant-loop-group

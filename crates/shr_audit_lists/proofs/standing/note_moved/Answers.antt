@@ -1,5 +1,4 @@
-use Rattle.std.proofs.Common.{◌≡◌, ◌<◌, ◌≤◌, length, Some, sym, ◌∙◌, arith}
-use Rattle.shr_model.specs.Families.{child_of}
+use Rattle.shr_audit_lists.proofs.Common.{◌≡◌, ◌<◌, ◌≤◌, length, Some, sym, ◌∙◌, arith, child_of}
 use Rattle.shr_audit_lists.proofs.Allowing.{moved_same, moved_set, moved_past}
 use Rattle.shr_audit_lists.proofs.standing.note_moved.Goals as goal
 

@@ -1,5 +1,4 @@
-use Rattle.shr_formed.proofs.Eachs.{more_at, all_at}
-use Rattle.shr_audit_lookups.specs.Found.{IsFindAt}
+use Rattle.shr_audit_lookups.proofs.Common.{more_at, all_at, IsFindAt}
 use Rattle.shr_audit_lookups.proofs.Deciding.{one_fails}
 use Rattle.shr_audit_lookups.proofs.found.are_finds_right.Goals as goal
 

@@ -1,11 +1,7 @@
-use Rattle.std.proofs.Common.{◌≡◌, ℕ, List, Some, slice_get, length, subst, sym}
-use Rattle.std.specs.Bool.{Decides}
-use Rattle.shr_base.specs.declared.ends.WorkerPart.{WorkerPart}
+use Rattle.shr_audit_lookups.proofs.Common.{◌≡◌, ℕ, List, Some, slice_get, length, subst, sym, Decides, WorkerPart, Answered, IsFindAt, IsFindRight}
 use Rattle.shr_base.specs.declared.journals.PoolEntry.{PoolEntry}
-use Rattle.shr_base.specs.declared.replies.Answered.{Answered}
 use Rattle.shr_case.proofs.Eachs.{each_answer_of}
 use Rattle.shr_model.specs.Pool.{IsPoolJournal}
-use Rattle.shr_audit_lookups.specs.Found.{IsFindAt, IsFindRight}
 use Rattle.shr_registrations.specs.Live.{AreLives}
 use Rattle.shr_audit_lookups.proofs.found.are_found_right.Goals as goal
 

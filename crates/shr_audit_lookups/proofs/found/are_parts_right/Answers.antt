@@ -1,11 +1,4 @@
-use Rattle.std.specs.Bool.{Decides}
-use Rattle.std.proofs.Common.{◌≡◌, ℕ, List, Some, slice_get, subst, sym}
-use Rattle.shr_base.specs.declared.ends.WorkerPart.{WorkerPart}
-use Rattle.shr_base.specs.declared.replies.Answered.{Answered}
-use Rattle.shr_base.specs.declared.scripts.Script.{Script}
-use Rattle.shr_formed.proofs.Eachs.{more_at, all_at}
-use Rattle.shr_report.specs.declared.report.Report.{Report}
-use Rattle.shr_audit_lookups.specs.Found.{IsFindAt}
+use Rattle.shr_audit_lookups.proofs.Common.{Decides, ◌≡◌, ℕ, List, Some, slice_get, subst, sym, WorkerPart, Answered, Script, more_at, all_at, Report, IsFindAt}
 use Rattle.shr_audit_lookups.proofs.Deciding.{one_fails}
 use Rattle.shr_audit_lookups.proofs.found.are_parts_right.Goals as goal
 

@@ -1,7 +1,4 @@
-use Rattle.std.proofs.Common.{◌≡◌, ◌<◌, ℕ, Some, slice_get}
-use Rattle.shr_base.specs.declared.ends.WorkerPart.{WorkerPart}
-use Rattle.shr_base.specs.declared.replies.Answered.{Answered}
-use Rattle.shr_audit_lookups.specs.Found.{IsFindAt}
+use Rattle.shr_audit_lookups.proofs.Common.{◌≡◌, ◌<◌, ℕ, Some, slice_get, WorkerPart, Answered, IsFindAt}
 use Rattle.shr_audit_lookups.proofs.found.are_parts_right.Given as goal
 
 abbrev pub invariant-loop-worker : goal.invariant-loop-worker

@@ -1,8 +1,4 @@
-use Rattle.std.proofs.Common.{ap, length}
-use Rattle.std.specs.Bool.{Decides}
-use Rattle.shr_audit_tables.specs.Draws.{IsDrawn}
-use Rattle.shr_audit_lookups.specs.Found.{AreFoundRight}
-use Rattle.shr_audit_lookups.specs.Met.{AreMetRight}
+use Rattle.shr_audit_lookups.proofs.Common.{ap, length, Decides, IsDrawn, AreFoundRight, AreMetRight}
 use Rattle.shr_audit_lookups.proofs.Whole.{all_lawful, none_past}
 use Rattle.shr_audit_lookups.proofs.law.are_lookups_lawful.Goals as goal
 

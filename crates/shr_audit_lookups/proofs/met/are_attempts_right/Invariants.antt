@@ -1,6 +1,5 @@
-use Rattle.std.proofs.Common.{◌≡◌, ◌<◌, ℕ, Some, slice_get}
+use Rattle.shr_audit_lookups.proofs.Common.{◌≡◌, ◌<◌, ℕ, Some, slice_get, IsMetRight}
 use Rattle.shr_base.specs.declared.walks.Attempt.{Attempt}
-use Rattle.shr_audit_lookups.specs.Met.{IsMetRight}
 use Rattle.shr_audit_lookups.proofs.met.are_attempts_right.Given as goal
 
 abbrev pub invariant-loop-attempt : goal.invariant-loop-attempt

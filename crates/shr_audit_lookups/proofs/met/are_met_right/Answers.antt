@@ -1,10 +1,5 @@
-use Rattle.std.proofs.Common.{◌≡◌, ℕ, List, Some, slice_get, subst}
-use Rattle.std.specs.Bool.{Decides}
-use Rattle.shr_base.specs.declared.ends.WorkerPart.{WorkerPart}
+use Rattle.shr_audit_lookups.proofs.Common.{◌≡◌, ℕ, List, Some, slice_get, subst, Decides, WorkerPart, Each, EachAttempt, IsMetRight}
 use Rattle.shr_case.proofs.Eachs.{each_walk_of}
-use Rattle.shr_formed.specs.Each.{Each}
-use Rattle.shr_report.specs.Parts.{EachAttempt}
-use Rattle.shr_audit_lookups.specs.Met.{IsMetRight}
 use Rattle.shr_audit_lookups.proofs.met.are_met_right.Goals as goal
 
 pub returns : goal.returns

@@ -1,13 +1,4 @@
-use Rattle.std.proofs.Common.{◌≡◌, ℕ, List, Some, slice_get, length, refl, subst, sym}
-use Rattle.std.specs.Bool.{Decides}
-use Rattle.std.proofs.lemmas.Option.{slice_get_read}
-use Rattle.shr_base.specs.declared.ends.WorkerPart.{WorkerPart}
-use Rattle.shr_base.specs.declared.walks.WalkRecord.{WalkRecord}
-use Rattle.shr_formed.specs.Each.{Each}
-use Rattle.shr_formed.proofs.Eachs.{all_at, fails, more_at}
-use Rattle.shr_report.specs.declared.report.Report.{Report}
-use Rattle.shr_report.specs.Parts.{EachAttempt}
-use Rattle.shr_audit_lookups.specs.Met.{IsMetRight}
+use Rattle.shr_audit_lookups.proofs.Common.{◌≡◌, ℕ, List, Some, slice_get, length, refl, subst, sym, Decides, slice_get_read, WorkerPart, WalkRecord, Each, all_at, fails, more_at, Report, EachAttempt, IsMetRight}
 use Rattle.shr_audit_lookups.proofs.met.are_parts_right.Goals as goal
 
 abbrev walks : Report → List WalkRecord → Type 0

@@ -1,11 +1,5 @@
-use Rattle.std.proofs.Common.{length, refl}
-use Rattle.std.proofs.lemmas.Option.{slice_get_read}
-use Rattle.shr_base.specs.declared.walks.WalkRecord.{WalkRecord}
-use Rattle.shr_formed.specs.Each.{Each}
-use Rattle.shr_formed.proofs.Eachs.{each_all, each_more, fails}
-use Rattle.shr_report.specs.declared.report.Report.{Report}
-use Rattle.shr_report.specs.Parts.{EachAttempt}
-use Rattle.shr_audit_lookups.specs.Met.{IsMetRight}
+use Rattle.shr_audit_lookups.proofs.Common.{length, refl, slice_get_read, WalkRecord, Each, fails, Report, EachAttempt, IsMetRight}
+use Rattle.shr_formed.proofs.Eachs.{each_all, each_more}
 use Rattle.shr_audit_lookups.proofs.met.are_walks_right.Goals as goal
 
 abbrev right : Report → WalkRecord → Type 0

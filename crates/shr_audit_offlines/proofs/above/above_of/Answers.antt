@@ -1,11 +1,4 @@
-use Rattle.std.proofs.Common.{◌≡◌, ◌∙◌, ◌++◌, ◌∷◌, [], ℕ, List, get_or, ap, arith}
-use Rattle.shr_model.specs.Groups.{parent_of}
-use Rattle.shr_report.specs.Parts.{parents_of}
-use Rattle.shr_audit_causes.specs.declared.cites.Cited.{Cited}
-use Rattle.shr_audit_causes.specs.Cites.{cited_in}
-use Rattle.shr_audit_offlines.specs.declared.above.Whose.{Whose}
-use Rattle.shr_audit_offlines.specs.declared.above.Whose.TheVariants.{Nobody}
-use Rattle.shr_audit_offlines.specs.Above.{either, whose_of}
+use Rattle.shr_audit_offlines.proofs.Common.{◌≡◌, ◌∙◌, ◌++◌, ◌∷◌, [], ℕ, List, get_or, ap, arith, parent_of, parents_of, Cited, cited_in, Whose, Nobody, either, whose_of}
 use Rattle.shr_audit_offlines.proofs.AboveLaws.{upto_all, upto_more, upto_one, whose_next}
 use Rattle.shr_audit_offlines.proofs.PathLaws.{parent_lower}
 use Rattle.shr_audit_offlines.proofs.above.above_of.Goals as goal

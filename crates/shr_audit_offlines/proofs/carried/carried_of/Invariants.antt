@@ -1,5 +1,4 @@
-use Rattle.std.proofs.Common.{◌≡◌, length, take}
-use Rattle.shr_audit_offlines.specs.Carried.{AreCarried}
+use Rattle.shr_audit_offlines.proofs.Common.{◌≡◌, length, take, AreCarried}
 use Rattle.shr_audit_offlines.proofs.carried.carried_of.Given as goal
 
 abbrev pub invariant-loop-carry : goal.invariant-loop-carry

@@ -1,5 +1,4 @@
-use Rattle.std.proofs.Common.{◌<◌, ◌+◌, ◌%◌, ◌^◌, ◌∙◌, ℕ, ap, length, arith}
-use Rattle.std.proofs.lemmas.List.{get_or_default}
+use Rattle.shr_audit_offlines.proofs.Common.{◌<◌, ◌+◌, ◌%◌, ◌^◌, ◌∙◌, ℕ, ap, length, arith, get_or_default}
 use Rattle.shr_audit_offlines.proofs.CarriedLaws.{no_command, one_noted, other_worker}
 use Rattle.shr_audit_offlines.proofs.carried.note.Goals as goal
 

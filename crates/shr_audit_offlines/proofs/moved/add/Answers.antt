@@ -1,6 +1,4 @@
-use Rattle.std.proofs.Common.{◌<◌, ◌+◌, ◌-◌, ◌^◌, ◌∙◌, ℕ, ap, length, arith}
-use Rattle.std.specs.Prelude.{min}
-use Rattle.std.proofs.lemmas.List.{get_or_default}
+use Rattle.shr_audit_offlines.proofs.Common.{◌<◌, ◌+◌, ◌-◌, ◌^◌, ◌∙◌, ℕ, ap, length, arith, min, get_or_default}
 use Rattle.shr_audit_offlines.proofs.MovedLaws.{sums_more}
 use Rattle.shr_audit_offlines.proofs.moved.add.Goals as goal
 

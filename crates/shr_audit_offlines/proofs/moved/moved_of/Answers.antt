@@ -1,10 +1,7 @@
-use Rattle.std.proofs.Common.{◌+◌, ◌-◌, ◌*◌, ◌<◌, ◌∙◌, List, subst, take, arith}
-use Rattle.std.specs.Prelude.{sum_by}
-use Rattle.shr_base.specs.declared.journals.Entry.{Entry}
-use Rattle.shr_report.specs.Causes.{moved_of}
-use Rattle.shr_audit_offlines.specs.Moved.{AreSums}
-use Rattle.shr_audit_offlines.proofs.MovedLaws.{all_moved, many_none, moved_by, places_more, sums_none}
+use Rattle.shr_audit_offlines.proofs.Common.{◌+◌, ◌-◌, ◌*◌, ◌<◌, ◌∙◌, List, subst, take, arith, sum_by, Entry, moved_of, AreSums}
+use Rattle.shr_audit_offlines.proofs.MovedLaws.{all_moved, moved_by, places_more, sums_none}
 use Rattle.shr_audit_offlines.proofs.moved.moved_of.Goals as goal
+use Rattle.shr_audit_offlines.proofs.CarriedLaws.{many_none}
 
 pub loop-k-init : goal.loop-k-init
 loop-k-init c = record {

@@ -1,6 +1,4 @@
-use Rattle.std.proofs.Common.{◌≡◌, ◌-◌, length, take}
-use Rattle.std.specs.Prelude.{sum_by}
-use Rattle.shr_audit_offlines.specs.Moved.{AreSums}
+use Rattle.shr_audit_offlines.proofs.Common.{◌≡◌, ◌-◌, length, take, sum_by, AreSums}
 use Rattle.shr_audit_offlines.proofs.MovedLaws.{moved_by}
 use Rattle.shr_audit_offlines.proofs.moved.moved_of.Given as goal
 

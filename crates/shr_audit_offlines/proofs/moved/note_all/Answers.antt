@@ -1,9 +1,4 @@
-use Rattle.std.proofs.Common.{◌+◌, ◌*◌, ◌∙◌, List, ap, subst, take}
-use Rattle.std.specs.Prelude.{sum_by}
-use Rattle.std.proofs.lemmas.List.{take_all}
-use Rattle.shr_base.specs.declared.journals.Entry.{Entry}
-use Rattle.shr_report.specs.Causes.{moved_of}
-use Rattle.shr_audit_offlines.specs.Moved.{AreSums}
+use Rattle.shr_audit_offlines.proofs.Common.{◌+◌, ◌*◌, ◌∙◌, List, ap, subst, take, sum_by, take_all, Entry, moved_of, AreSums}
 use Rattle.shr_audit_offlines.proofs.MovedLaws.{entries_more, sums_same}
 use Rattle.shr_audit_offlines.proofs.moved.note_all.Goals as goal
 

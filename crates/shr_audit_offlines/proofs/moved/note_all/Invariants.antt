@@ -1,7 +1,4 @@
-use Rattle.std.proofs.Common.{◌≡◌, ◌+◌, ◌*◌, ℕ, length, take}
-use Rattle.std.specs.Prelude.{sum_by}
-use Rattle.shr_report.specs.Causes.{moved_of}
-use Rattle.shr_audit_offlines.specs.Moved.{AreSums}
+use Rattle.shr_audit_offlines.proofs.Common.{◌≡◌, ◌+◌, ◌*◌, ℕ, length, take, sum_by, moved_of, AreSums}
 use Rattle.shr_audit_offlines.proofs.moved.note_all.Given as goal
 
 abbrev pub invariant-loop-entry : goal.invariant-loop-entry

@@ -1,6 +1,4 @@
-use Rattle.std.proofs.Common.{ℕ, Option, subst, arith}
-use Rattle.std.specs.Bool.{Decides}
-use Rattle.shr_audit_offlines.specs.Rows.{IsMovedSo}
+use Rattle.shr_audit_offlines.proofs.Common.{ℕ, Option, subst, arith, Decides, IsMovedSo}
 use Rattle.shr_audit_offlines.proofs.RowLaws.{answer_there, both_so, carried_fails, no_answer, no_command}
 use Rattle.shr_audit_offlines.proofs.rows.is_caused_at.Goals as goal
 

@@ -1,7 +1,4 @@
-use Rattle.std.proofs.Common.{◌≤◌, ℕ, List, Bool, inl, inr, subst, sym, arith}
-use Rattle.std.proofs.lemmas.Bool.{cases_lt}
-use Rattle.shr_audit_fresh.proofs.Upto.{upto_more}
-use Rattle.shr_audit_offlines.specs.Spliced.{AddsSpliced, HasSpliced}
+use Rattle.shr_audit_offlines.proofs.Common.{◌≤◌, ℕ, List, Bool, inl, inr, subst, sym, arith, cases_lt, upto_more, AddsSpliced, HasSpliced}
 use Rattle.shr_audit_offlines.proofs.SplicedLaws.{adds_next, adds_none, adds_then, has_next, has_still, past_spliced}
 use Rattle.shr_audit_offlines.proofs.spliced.note_worker.Goals as goal
 

@@ -1,5 +1,4 @@
-use Rattle.std.proofs.Common.{ℕ, ◌<◌}
-use Rattle.shr_audit_offlines.specs.Spliced.{AddsSpliced, HasSpliced}
+use Rattle.shr_audit_offlines.proofs.Common.{ℕ, ◌<◌, AddsSpliced, HasSpliced}
 use Rattle.shr_audit_offlines.proofs.spliced.note_worker.Given as goal
 
 abbrev pub invariant-loop-number : goal.invariant-loop-number

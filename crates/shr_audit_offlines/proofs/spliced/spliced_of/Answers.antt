@@ -1,8 +1,4 @@
-use Rattle.std.proofs.Common.{◌≤◌, ℕ, inl, inr, ap, length, subst, ◌∙◌, false, arith}
-use Rattle.std.proofs.lemmas.Bool.{cases_lt}
-use Rattle.std.proofs.lemmas.List.{length-replicate}
-use Rattle.shr_audit_fresh.proofs.Upto.{upto_more}
-use Rattle.shr_audit_offlines.specs.Spliced.{HasSpliced}
+use Rattle.shr_audit_offlines.proofs.Common.{◌≤◌, ℕ, inl, inr, ap, length, subst, ◌∙◌, false, arith, cases_lt, length-replicate, upto_more, HasSpliced}
 use Rattle.shr_audit_offlines.proofs.SplicedLaws.{all_spliced, has_still, only_none, past_workers}
 use Rattle.shr_audit_offlines.proofs.spliced.spliced_of.Goals as goal
 

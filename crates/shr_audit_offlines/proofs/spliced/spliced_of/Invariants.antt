@@ -1,5 +1,4 @@
-use Rattle.std.proofs.Common.{◌≡◌, ℕ, ◌<◌, length}
-use Rattle.shr_audit_offlines.specs.Spliced.{AreOnlySpliced, HasSpliced}
+use Rattle.shr_audit_offlines.proofs.Common.{◌≡◌, ℕ, ◌<◌, length, AreOnlySpliced, HasSpliced}
 use Rattle.shr_audit_offlines.proofs.spliced.spliced_of.Given as goal
 
 abbrev pub invariant-loop-worker : goal.invariant-loop-worker

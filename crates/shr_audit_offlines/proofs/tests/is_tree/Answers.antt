@@ -1,6 +1,4 @@
-use Rattle.std.proofs.Common.{◌∷◌, List, map, subst, arith}
-use Rattle.shr_base.specs.declared.scripts.GroupDecl.{GroupDecl}
-use Rattle.shr_model.specs.Groups.{IsTree}
+use Rattle.shr_audit_offlines.proofs.Common.{◌∷◌, List, map, subst, arith, GroupDecl, IsTree}
 use Rattle.shr_audit_offlines.proofs.TreeLaws.{tree_of}
 use Rattle.shr_audit_offlines.proofs.tests.is_tree.Goals as goal
 

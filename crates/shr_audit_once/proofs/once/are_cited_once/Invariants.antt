@@ -1,5 +1,4 @@
-use Rattle.std.proofs.Common.{ℕ, ◌<◌}
-use Rattle.shr_audit_once.specs.Once.{IsCitedOnceAt}
+use Rattle.shr_audit_once.proofs.Common.{ℕ, ◌<◌, IsCitedOnceAt}
 use Rattle.shr_audit_once.proofs.once.are_cited_once.Given as goal
 
 abbrev pub invariant-loop-worker : goal.invariant-loop-worker

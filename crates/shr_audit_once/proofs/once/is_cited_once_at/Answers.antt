@@ -1,7 +1,4 @@
-use Rattle.std.proofs.Common.{List, subst}
-use Rattle.std.specs.Bool.{Decides}
-use Rattle.shr_base.specs.declared.ends.PlaceEnd.{PlaceEnd}
-use Rattle.shr_audit_once.specs.Once.{IsPrintedOnce}
+use Rattle.shr_audit_once.proofs.Common.{List, subst, Decides, PlaceEnd, IsPrintedOnce}
 use Rattle.shr_audit_once.proofs.OnceLaws.{cites_one}
 use Rattle.shr_audit_once.proofs.once.is_cited_once_at.Goals as goal
 

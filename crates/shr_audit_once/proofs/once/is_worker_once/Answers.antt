@@ -1,6 +1,4 @@
-use Rattle.std.proofs.Common.{ℕ, ◌≤◌, subst, arith}
-use Rattle.shr_audit_fresh.proofs.Upto.{upto_all, upto_fails, upto_more}
-use Rattle.shr_audit_once.specs.Once.{IsCitedOnceAt}
+use Rattle.shr_audit_once.proofs.Common.{ℕ, ◌≤◌, subst, arith, upto_all, upto_fails, upto_more, IsCitedOnceAt}
 use Rattle.shr_audit_once.proofs.OnceLaws.{past_once}
 use Rattle.shr_audit_once.proofs.once.is_worker_once.Goals as goal
 

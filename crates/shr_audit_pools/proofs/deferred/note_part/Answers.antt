@@ -1,7 +1,5 @@
-use Rattle.std.proofs.Common.{sum_by, take}
-use Rattle.shr_sums.proofs.Gaining.{gains_as, gains_more}
-use Rattle.shr_audit_pools.specs.Moved.{moved_at, next_of, nr_of}
-use Rattle.shr_audit_pools.proofs.Moving.{sum_all, sum_item}
+use Rattle.shr_audit_pools.proofs.Common.{sum_by, take, gains_as, gains_more, moved_at, next_of, nr_of, sum_item}
+use Rattle.shr_audit_pools.proofs.Moving.{sum_all}
 use Rattle.shr_audit_pools.proofs.deferred.note_part.Goals as goal
 
 pub loop-walk-preserved : goal.loop-walk-preserved

@@ -1,6 +1,4 @@
-use Rattle.std.proofs.Common.{sum_by, take}
-use Rattle.shr_sums.specs.Deferred.{Gains}
-use Rattle.shr_audit_pools.specs.Moved.{moved_at, next_of, nr_of}
+use Rattle.shr_audit_pools.proofs.Common.{sum_by, take, Gains, moved_at, next_of, nr_of}
 use Rattle.shr_audit_pools.proofs.deferred.note_part.Given as goal
 
 abbrev pub invariant-loop-walk : goal.invariant-loop-walk

@@ -1,5 +1,4 @@
-use Rattle.shr_sums.proofs.Gaining.{gains_as, gains_more}
-use Rattle.shr_audit_pools.specs.Moved.{next_of, nr_of}
+use Rattle.shr_audit_pools.proofs.Common.{gains_as, gains_more, next_of, nr_of}
 use Rattle.shr_audit_pools.proofs.Moving.{moved_here, tried_all, tried_to}
 use Rattle.shr_audit_pools.proofs.deferred.note_walk.Goals as goal
 

@@ -1,5 +1,4 @@
-use Rattle.shr_sums.specs.Deferred.{Gains}
-use Rattle.shr_audit_pools.specs.Moved.{next_of, nr_of}
+use Rattle.shr_audit_pools.proofs.Common.{Gains, next_of, nr_of}
 use Rattle.shr_audit_pools.proofs.Moving.{tried_to}
 use Rattle.shr_audit_pools.proofs.deferred.note_walk.Given as goal
 

@@ -1,8 +1,4 @@
-use Rattle.std.proofs.Common.{ℕ, true, false}
-use Rattle.shr_base.specs.declared.ends.UnitsEnd.{UnitsEnd}
-use Rattle.shr_formed.proofs.Eachs.{more_at}
-use Rattle.shr_audit_pools.specs.Cited.{AreEntriesRight}
-use Rattle.shr_audit_due.proofs.Loops.{item_fails, items_whole}
+use Rattle.shr_audit_pools.proofs.Common.{ℕ, true, false, UnitsEnd, more_at, AreEntriesRight, item_fails, items_whole}
 use Rattle.shr_audit_pools.proofs.Loops.{each_units_of}
 use Rattle.shr_audit_pools.proofs.entries.are_all_entries_right.Goals as goal
 

@@ -1,7 +1,4 @@
-use Rattle.std.proofs.Common.{◌≡◌, ◌<◌, ℕ, Some, slice_get}
-use Rattle.shr_base.specs.declared.journals.PlainEntry.{PlainEntry}
-use Rattle.shr_audit_pools.specs.Cited.{IsEntryRight}
-use Rattle.shr_audit_pools.specs.Places.{place_of}
+use Rattle.shr_audit_pools.proofs.Common.{◌≡◌, ◌<◌, ℕ, Some, slice_get, PlainEntry, IsEntryRight, place_of}
 use Rattle.shr_audit_pools.proofs.entries.are_entries_right.Given as goal
 
 abbrev pub invariant-loop-number : goal.invariant-loop-number

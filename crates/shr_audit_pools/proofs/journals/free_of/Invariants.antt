@@ -1,5 +1,4 @@
-use Rattle.std.proofs.Common.{◌≡◌, ◌≤◌, take}
-use Rattle.shr_model.specs.Units.{IsPlainJournal, free_of}
+use Rattle.shr_audit_pools.proofs.Common.{◌≡◌, ◌≤◌, take, IsPlainJournal, free_of}
 use Rattle.shr_audit_pools.proofs.journals.free_of.Given as goal
 
 abbrev pub invariant-loop-entry : goal.invariant-loop-entry

@@ -1,6 +1,4 @@
-use Rattle.std.proofs.Common.{◌≡◌, ◌<◌, ℕ, Some, slice_get}
-use Rattle.shr_audit_pools.specs.declared.stock.Reclaimed.{Reclaimed}
-use Rattle.shr_audit_pools.specs.Passes.{IsReclaimOf}
+use Rattle.shr_audit_pools.proofs.Common.{◌≡◌, ◌<◌, ℕ, Some, slice_get, Reclaimed, IsReclaimOf}
 use Rattle.shr_audit_pools.proofs.passes.are_alike.Given as goal
 
 abbrev pub invariant-loop-reclaimed : goal.invariant-loop-reclaimed

@@ -1,5 +1,4 @@
-use Rattle.std.proofs.Common.{◌≡◌, ◌+◌, sum_by, take}
-use Rattle.shr_audit_pools.specs.Passes.{freed_of}
+use Rattle.shr_audit_pools.proofs.Common.{◌≡◌, ◌+◌, sum_by, take, freed_of}
 use Rattle.shr_audit_pools.proofs.passes.have_freed.Given as goal
 
 abbrev pub invariant-loop-reclaimed : goal.invariant-loop-reclaimed

@@ -1,6 +1,4 @@
-use Rattle.std.proofs.Common.{ap, sym, ◌∙◌, arith}
-use Rattle.std.proofs.lemmas.Option.{get_or_from_slice_get, slice_get_within}
-use Rattle.shr_audit_pools.specs.Places.{units_key}
+use Rattle.shr_audit_pools.proofs.Common.{ap, sym, ◌∙◌, arith, get_or_from_slice_get, slice_get_within, units_key}
 use Rattle.shr_audit_pools.proofs.Shelved.{index_none, index_some}
 use Rattle.shr_audit_pools.proofs.places.index_of.Goals as goal
 

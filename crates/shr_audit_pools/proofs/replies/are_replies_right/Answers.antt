@@ -1,10 +1,5 @@
-use Rattle.std.proofs.Common.{ℕ, true, false}
-use Rattle.shr_base.specs.declared.ends.WorkerPart.{WorkerPart}
-use Rattle.shr_formed.proofs.Eachs.{more_at}
-use Rattle.shr_report.specs.Pools.{IsPoolReply}
+use Rattle.shr_audit_pools.proofs.Common.{ℕ, true, false, WorkerPart, more_at, IsPoolReply, IsPartRight, item_fails, items_whole}
 use Rattle.shr_case.proofs.Eachs.{each_answer_of}
-use Rattle.shr_audit_pools.specs.Cited.{IsPartRight}
-use Rattle.shr_audit_due.proofs.Loops.{item_fails, items_whole}
 use Rattle.shr_audit_pools.proofs.replies.are_replies_right.Goals as goal
 
 pub returns-then-not-is_part_right : goal.returns-then-not-is_part_right

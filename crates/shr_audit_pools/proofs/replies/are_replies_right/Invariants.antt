@@ -1,6 +1,4 @@
-use Rattle.std.proofs.Common.{◌≡◌, ◌<◌, ℕ, Some, slice_get}
-use Rattle.shr_base.specs.declared.ends.WorkerPart.{WorkerPart}
-use Rattle.shr_audit_pools.specs.Cited.{IsPartRight}
+use Rattle.shr_audit_pools.proofs.Common.{◌≡◌, ◌<◌, ℕ, Some, slice_get, WorkerPart, IsPartRight}
 use Rattle.shr_audit_pools.proofs.replies.are_replies_right.Given as goal
 
 abbrev pub invariant-loop-worker : goal.invariant-loop-worker

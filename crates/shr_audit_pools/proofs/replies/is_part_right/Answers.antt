@@ -1,9 +1,4 @@
-use Rattle.std.proofs.Common.{ℕ}
-use Rattle.shr_base.specs.declared.replies.Answered.{Answered}
-use Rattle.shr_report.specs.Parts.{commands_of}
-use Rattle.shr_formed.proofs.Eachs.{more_at}
-use Rattle.shr_audit_pools.specs.Cited.{HasRight}
-use Rattle.shr_audit_due.proofs.Loops.{item_fails, items_whole}
+use Rattle.shr_audit_pools.proofs.Common.{ℕ, Answered, commands_of, more_at, HasRight, item_fails, items_whole}
 use Rattle.shr_audit_pools.proofs.Loops.{right_here}
 use Rattle.shr_audit_pools.proofs.replies.is_part_right.Goals as goal
 

@@ -1,7 +1,4 @@
-use Rattle.std.proofs.Common.{◌≡◌, ◌<◌, ℕ, Some, slice_get}
-use Rattle.shr_base.specs.declared.replies.Answered.{Answered}
-use Rattle.shr_report.specs.Parts.{commands_of}
-use Rattle.shr_audit_pools.specs.Cited.{HasRight}
+use Rattle.shr_audit_pools.proofs.Common.{◌≡◌, ◌<◌, ℕ, Some, slice_get, Answered, commands_of, HasRight}
 use Rattle.shr_audit_pools.proofs.replies.is_part_right.Given as goal
 
 abbrev pub invariant-loop-n : goal.invariant-loop-n

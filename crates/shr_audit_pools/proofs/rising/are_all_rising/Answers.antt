@@ -1,10 +1,4 @@
-use Rattle.std.proofs.Common.{ℕ, List, subst}
-use Rattle.shr_base.specs.declared.ends.WorkerPart.{WorkerPart}
-use Rattle.shr_formed.proofs.Eachs.{more_at}
-use Rattle.std.specs.Bool.{Decides}
-use Rattle.shr_base.specs.declared.replies.Answered.{Answered}
-use Rattle.shr_audit_pools.specs.Lows.{AreRising}
-use Rattle.shr_audit_due.proofs.Loops.{item_fails, items_whole}
+use Rattle.shr_audit_pools.proofs.Common.{ℕ, List, subst, WorkerPart, more_at, Decides, Answered, AreRising, item_fails, items_whole}
 use Rattle.shr_audit_pools.proofs.rising.are_all_rising.Goals as goal
 
 pub returns-then-not-branch : goal.returns-then-not-branch

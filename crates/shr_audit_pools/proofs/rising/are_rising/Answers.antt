@@ -1,8 +1,4 @@
-use Rattle.std.proofs.Common.{length, refl, arith}
-use Rattle.std.proofs.lemmas.Option.{slice_get_read}
-use Rattle.shr_formed.proofs.Eachs.{all_at, more_at}
-use Rattle.shr_audit_pools.specs.Lows.{IsAbove}
-use Rattle.shr_audit_due.proofs.Loops.{item_fails}
+use Rattle.shr_audit_pools.proofs.Common.{length, refl, arith, slice_get_read, all_at, more_at, IsAbove, item_fails}
 use Rattle.shr_audit_pools.proofs.Risen.{above_decided, blank_lows, lows_more}
 use Rattle.shr_audit_pools.proofs.rising.are_rising.Goals as goal
 

@@ -1,6 +1,4 @@
-use Rattle.std.proofs.Common.{◌≡◌, ◌<◌, ℕ, Some, slice_get}
-use Rattle.shr_base.specs.declared.replies.Answered.{Answered}
-use Rattle.shr_audit_pools.specs.Lows.{AreLows, IsAbove}
+use Rattle.shr_audit_pools.proofs.Common.{◌≡◌, ◌<◌, ℕ, Some, slice_get, Answered, AreLows, IsAbove}
 use Rattle.shr_audit_pools.proofs.rising.are_rising.Given as goal
 
 abbrev pub invariant-loop-k : goal.invariant-loop-k

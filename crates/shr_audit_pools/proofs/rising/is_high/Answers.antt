@@ -1,5 +1,4 @@
-use Rattle.std.proofs.Common.{arith}
-use Rattle.std.proofs.lemmas.Bool.Decides.{nat_tests}
+use Rattle.shr_audit_pools.proofs.Common.{arith, nat_tests}
 use Rattle.shr_audit_pools.proofs.Risen.{high_some}
 use Rattle.shr_audit_pools.proofs.rising.is_high.Goals as goal
 

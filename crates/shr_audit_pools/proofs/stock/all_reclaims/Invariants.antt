@@ -1,5 +1,4 @@
-use Rattle.std.proofs.Common.{◌≡◌, take}
-use Rattle.shr_audit_pools.specs.Stock.{all_reclaims}
+use Rattle.shr_audit_pools.proofs.Common.{◌≡◌, take, all_reclaims}
 use Rattle.shr_audit_pools.proofs.stock.all_reclaims.Given as goal
 
 abbrev pub invariant-loop-number : goal.invariant-loop-number

@@ -1,9 +1,4 @@
-use Rattle.std.proofs.Common.{◌≡◌, true, false, subst, arith, rules}
-use Rattle.std.specs.Prelude.{nat_le}
-use Rattle.std.proofs.lemmas.Bool.Decides.{nat_tests}
-use Rattle.std.proofs.lemmas.List.Sorted.{IsPartitionPoint-from_clause}
-use Rattle.std.proofs.lemmas.Option.{get_or_from_slice_get, slice_get_within}
-use Rattle.shr_audit_pools.specs.declared.stock.Reclaimed.{Reclaimed}
+use Rattle.shr_audit_pools.proofs.Common.{◌≡◌, true, false, subst, arith, rules, nat_le, nat_tests, IsPartitionPoint-from_clause, get_or_from_slice_get, slice_get_within, Reclaimed}
 use Rattle.shr_audit_pools.proofs.Stocked.{parted_up_to}
 use Rattle.shr_audit_pools.proofs.stock.behind_of.Goals as goal
 

@@ -1,5 +1,4 @@
-use Rattle.std.proofs.Common.{◌≡◌, ◌+◌, ◌≤◌, ℕ, get_or, length, take}
-use Rattle.shr_model.specs.Units.{free_of}
+use Rattle.shr_audit_pools.proofs.Common.{◌≡◌, ◌+◌, ◌≤◌, ℕ, get_or, length, take, free_of}
 use Rattle.shr_audit_pools.proofs.stock.free_counts.Given as goal
 
 abbrev pub invariant-loop-entry : goal.invariant-loop-entry

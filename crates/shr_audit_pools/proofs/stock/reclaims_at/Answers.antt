@@ -1,5 +1,4 @@
-use Rattle.shr_report.specs.UnitParts.{units_of}
-use Rattle.shr_audit_pools.specs.Places.{place_of}
+use Rattle.shr_audit_pools.proofs.Common.{units_of, place_of}
 use Rattle.shr_audit_pools.proofs.Stocked.{stock_at}
 use Rattle.shr_audit_pools.proofs.stock.reclaims_at.Goals as goal
 

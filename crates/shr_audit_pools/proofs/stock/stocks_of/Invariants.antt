@@ -1,5 +1,4 @@
-use Rattle.std.proofs.Common.{take}
-use Rattle.shr_audit_pools.specs.Stock.{AreStocksOf}
+use Rattle.shr_audit_pools.proofs.Common.{take, AreStocksOf}
 use Rattle.shr_audit_pools.proofs.stock.stocks_of.Given as goal
 
 abbrev pub invariant-loop-units : goal.invariant-loop-units

@@ -1,5 +1,4 @@
-use Rattle.std.proofs.Common.{arith}
-use Rattle.shr_audit_pools.specs.declared.stock.Reclaimed.{Reclaimed}
+use Rattle.shr_audit_pools.proofs.Common.{arith, Reclaimed}
 use Rattle.shr_audit_walks.proofs.Ranged.{range_filter, none_filter}
 use Rattle.shr_audit_pools.proofs.stock.with_key.Goals as goal
 

@@ -1,10 +1,6 @@
-use Rattle.std.proofs.Common.{ℕ}
-use Rattle.shr_base.specs.declared.ends.WorkerPart.{WorkerPart}
-use Rattle.shr_formed.proofs.Eachs.{more_at}
+use Rattle.shr_audit_pools.proofs.Common.{ℕ, WorkerPart, more_at, IsPartVersed, item_fails, items_whole, here_at}
 use Rattle.shr_formed.proofs.WellParts.{parts_of}
-use Rattle.shr_audit_pools.specs.Lows.{IsPartVersed}
 use Rattle.shr_audit_due.proofs.Dues.{stands_here}
-use Rattle.shr_audit_due.proofs.Loops.{here_at, item_fails, items_whole}
 use Rattle.shr_audit_pools.proofs.versions.are_all_versed.Goals as goal
 
 pub is_part_versed-requires-clause-stand : goal.is_part_versed-requires-clause-stand

@@ -1,6 +1,4 @@
-use Rattle.std.proofs.Common.{◌≡◌, ◌<◌, ℕ, Some, slice_get}
-use Rattle.shr_base.specs.declared.ends.WorkerPart.{WorkerPart}
-use Rattle.shr_audit_pools.specs.Lows.{IsPartVersed}
+use Rattle.shr_audit_pools.proofs.Common.{◌≡◌, ◌<◌, ℕ, Some, slice_get, WorkerPart, IsPartVersed}
 use Rattle.shr_audit_pools.proofs.versions.are_all_versed.Given as goal
 
 abbrev pub invariant-loop-worker : goal.invariant-loop-worker

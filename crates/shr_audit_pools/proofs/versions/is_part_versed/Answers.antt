@@ -1,9 +1,4 @@
-use Rattle.std.proofs.Common.{ℕ, length, refl, take, arith}
-use Rattle.std.proofs.lemmas.Option.{slice_get_read}
-use Rattle.shr_base.specs.declared.walks.PlainWalk.{PlainWalk}
-use Rattle.shr_formed.proofs.Eachs.{more_at}
-use Rattle.shr_audit_pools.specs.Lows.{IsVersed}
-use Rattle.shr_audit_due.proofs.Loops.{here_at}
+use Rattle.shr_audit_pools.proofs.Common.{ℕ, length, refl, take, arith, slice_get_read, PlainWalk, more_at, IsVersed, here_at}
 use Rattle.shr_audit_pools.proofs.Versed.{later_command, part_fails, part_whole, versed_decided, versed_next, versed_none, versed_replied}
 use Rattle.shr_audit_pools.proofs.versions.is_part_versed.Goals as goal
 

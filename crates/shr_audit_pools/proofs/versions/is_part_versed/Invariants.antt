@@ -1,6 +1,4 @@
-use Rattle.std.proofs.Common.{◌≡◌, ◌<◌, ◌≤◌, ℕ, Some, slice_get, take}
-use Rattle.shr_base.specs.declared.walks.PlainWalk.{PlainWalk}
-use Rattle.shr_audit_pools.specs.Lows.{AreLowsOf, IsVersed}
+use Rattle.shr_audit_pools.proofs.Common.{◌≡◌, ◌<◌, ◌≤◌, ℕ, Some, slice_get, take, PlainWalk, AreLowsOf, IsVersed}
 use Rattle.shr_audit_pools.proofs.versions.is_part_versed.Given as goal
 
 abbrev pub invariant-loop-n : goal.invariant-loop-n

@@ -1,5 +1,4 @@
-use Rattle.std.proofs.Common.{◌<◌, length, arith}
-use Rattle.std.proofs.lemmas.Option.{slice_get-get_or}
+use Rattle.shr_audit_pools.proofs.Common.{◌<◌, length, arith, slice_get-get_or}
 use Rattle.shr_audit_pools.proofs.Risen.{replies_more}
 use Rattle.shr_audit_pools.proofs.Versed.{replies_all}
 use Rattle.shr_audit_pools.proofs.versions.note_replies.Goals as goal

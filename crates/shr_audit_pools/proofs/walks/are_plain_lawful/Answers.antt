@@ -1,5 +1,4 @@
-use Rattle.shr_formed.proofs.Eachs.{all_at, more_at}
-use Rattle.shr_report.specs.Pools.{IsPlainLawful}
+use Rattle.shr_audit_pools.proofs.Common.{all_at, more_at, IsPlainLawful}
 use Rattle.shr_audit_pools.proofs.walks.are_plain_lawful.Goals as goal
 
 pub loop-n-preserved : goal.loop-n-preserved

@@ -1,6 +1,4 @@
-use Rattle.std.proofs.Common.{◌≡◌, ◌<◌, ℕ, Some, slice_get}
-use Rattle.shr_base.specs.declared.walks.PlainWalk.{PlainWalk}
-use Rattle.shr_report.specs.Pools.{IsPlainLawful}
+use Rattle.shr_audit_pools.proofs.Common.{◌≡◌, ◌<◌, ℕ, Some, slice_get, PlainWalk, IsPlainLawful}
 use Rattle.shr_audit_pools.proofs.walks.are_plain_lawful.Given as goal
 
 abbrev pub invariant-loop-n : goal.invariant-loop-n

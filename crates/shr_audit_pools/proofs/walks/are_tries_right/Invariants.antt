@@ -1,8 +1,4 @@
-use Rattle.std.proofs.Common.{◌≡◌, ◌<◌, ℕ, Some, slice_get}
-use Rattle.shr_base.specs.declared.scripts.PoolDecl.{PoolDecl}
-use Rattle.shr_base.specs.declared.walks.PlainTry.{PlainTry}
-use Rattle.shr_report.specs.UnitParts.{pool_place}
-use Rattle.shr_audit_pools.specs.Passes.{IsTryRight}
+use Rattle.shr_audit_pools.proofs.Common.{◌≡◌, ◌<◌, ℕ, Some, slice_get, PoolDecl, PlainTry, pool_place, IsTryRight}
 use Rattle.shr_audit_pools.proofs.walks.are_tries_right.Given as goal
 
 abbrev pub invariant-loop-pool : goal.invariant-loop-pool

@@ -1,10 +1,5 @@
-use Rattle.std.proofs.Common.{◌≡◌, ℕ, List, Some, slice_get, true, false, subst}
-use Rattle.std.specs.Bool.{Decides}
-use Rattle.shr_base.specs.declared.ends.WorkerPart.{WorkerPart}
-use Rattle.shr_base.specs.declared.walks.PlainWalk.{PlainWalk}
-use Rattle.shr_formed.proofs.Eachs.{more_at}
-use Rattle.shr_report.specs.Pools.{IsPlainLawful}
-use Rattle.shr_audit_due.proofs.Loops.{each_plain_of, item_fails, items_whole}
+use Rattle.shr_audit_pools.proofs.Common.{◌≡◌, ℕ, List, Some, slice_get, true, false, subst, Decides, WorkerPart, PlainWalk, more_at, IsPlainLawful, item_fails, items_whole}
+use Rattle.shr_audit_due.proofs.Loops.{each_plain_of}
 use Rattle.shr_audit_pools.proofs.walks.are_walks_lawful.Goals as goal
 
 pub returns-then-not-are_plain_lawful : goal.returns-then-not-are_plain_lawful

@@ -1,7 +1,4 @@
-use Rattle.std.proofs.Common.{◌≡◌, ◌<◌, ℕ, Some, slice_get}
-use Rattle.shr_base.specs.declared.ends.WorkerPart.{WorkerPart}
-use Rattle.shr_base.specs.declared.walks.PlainWalk.{PlainWalk}
-use Rattle.shr_report.specs.Pools.{IsPlainLawful}
+use Rattle.shr_audit_pools.proofs.Common.{◌≡◌, ◌<◌, ℕ, Some, slice_get, WorkerPart, PlainWalk, IsPlainLawful}
 use Rattle.shr_audit_pools.proofs.walks.are_walks_lawful.Given as goal
 
 abbrev pub invariant-loop-worker : goal.invariant-loop-worker

@@ -1,5 +1,4 @@
-use Rattle.std.proofs.Common.{◌≡◌, ◌+◌, sum_by, take}
-use Rattle.shr_report.specs.Pools.{freed_in}
+use Rattle.shr_audit_pools.proofs.Common.{◌≡◌, ◌+◌, sum_by, take, freed_in}
 use Rattle.shr_audit_pools.proofs.walks.have_freed.Given as goal
 
 abbrev pub invariant-loop-tried : goal.invariant-loop-tried

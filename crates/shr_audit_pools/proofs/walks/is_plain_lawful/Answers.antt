@@ -1,5 +1,4 @@
-use Rattle.std.proofs.Common.{ℕ, length, subst}
-use Rattle.shr_report.specs.Pools.{HasTries}
+use Rattle.shr_audit_pools.proofs.Common.{ℕ, length, subst, HasTries}
 use Rattle.shr_audit_pools.proofs.Tried.{freed_decided, plain_decided, plain_fails}
 use Rattle.shr_audit_pools.proofs.walks.is_plain_lawful.Goals as goal
 

@@ -1,11 +1,5 @@
-use Rattle.std.proofs.Common.{◌≡◌, ℕ, List, Some, slice_get, subst}
-use Rattle.std.specs.Bool.{Decides}
-use Rattle.shr_base.specs.declared.ends.WorkerPart.{WorkerPart}
-use Rattle.shr_base.specs.declared.replies.Answered.{Answered}
-use Rattle.shr_base.specs.declared.scripts.Command.{Command}
+use Rattle.shr_audit_replies.proofs.Common.{◌≡◌, ℕ, List, Some, slice_get, subst, Decides, WorkerPart, Answered, Command, command_at, serial_of, IsAnswered}
 use Rattle.shr_case.proofs.Eachs.{each_answer_of}
-use Rattle.shr_report.specs.Parts.{command_at, serial_of}
-use Rattle.shr_audit_replies.specs.Answers.{IsAnswered}
 use Rattle.shr_audit_replies.proofs.answered.are_answered.Goals as goal
 
 pub returns : goal.returns

@@ -1,12 +1,4 @@
-use Rattle.std.proofs.Common.{◌≡◌, ℕ, List, Some, slice_get, subst, sym}
-use Rattle.shr_base.specs.declared.ends.WorkerPart.{WorkerPart}
-use Rattle.shr_base.specs.declared.replies.Answered.{Answered}
-use Rattle.shr_base.specs.declared.scripts.Command.{Command}
-use Rattle.shr_base.specs.declared.scripts.Script.{Script}
-use Rattle.shr_formed.proofs.Eachs.{more_at, all_at}
-use Rattle.shr_report.specs.declared.report.Report.{Report}
-use Rattle.shr_report.specs.Parts.{command_at, serial_of}
-use Rattle.shr_audit_replies.specs.Answers.{IsAnswered}
+use Rattle.shr_audit_replies.proofs.Common.{◌≡◌, ℕ, List, Some, slice_get, subst, sym, WorkerPart, Answered, Command, Script, more_at, all_at, Report, command_at, serial_of, IsAnswered}
 use Rattle.shr_audit_replies.proofs.answered.are_workers_answered.Goals as goal
 
 abbrev answers : Script → Report → ℕ → List Answered → Type 0

@@ -1,6 +1,4 @@
-use Rattle.shr_base.specs.declared.scripts.Command.{Command}
-use Rattle.shr_report.specs.Parts.{command_at, serial_of}
-use Rattle.shr_audit_replies.specs.Answers.{IsAnswered}
+use Rattle.shr_audit_replies.proofs.Common.{Command, command_at, serial_of, IsAnswered}
 use Rattle.shr_audit_replies.proofs.Deciding.{at_some}
 use Rattle.shr_audit_replies.proofs.answered.is_answered.Goals as goal
 

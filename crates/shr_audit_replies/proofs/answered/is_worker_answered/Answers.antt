@@ -1,11 +1,4 @@
-use Rattle.std.proofs.Common.{◌≡◌, ℕ, Some}
-use Rattle.shr_base.specs.declared.replies.Answered.{Answered}
-use Rattle.shr_base.specs.declared.scripts.Command.{Command}
-use Rattle.shr_base.specs.declared.scripts.Script.{Script}
-use Rattle.shr_report.specs.declared.report.Report.{Report}
-use Rattle.shr_report.specs.Parts.{command_at, serial_of}
-use Rattle.shr_formed.proofs.Eachs.{more_at, all_at}
-use Rattle.shr_audit_replies.specs.Answers.{IsAnswered}
+use Rattle.shr_audit_replies.proofs.Common.{◌≡◌, ℕ, Some, Answered, Command, Script, Report, command_at, serial_of, more_at, all_at, IsAnswered}
 use Rattle.shr_audit_replies.proofs.answered.is_worker_answered.Goals as goal
 
 abbrev part : Script → Report → ℕ → ℕ → Answered → Type 0

@@ -1,8 +1,4 @@
-use Rattle.std.proofs.Common.{◌≡◌, ◌<◌, ℕ, Some, slice_get}
-use Rattle.shr_base.specs.declared.replies.Answered.{Answered}
-use Rattle.shr_base.specs.declared.scripts.Command.{Command}
-use Rattle.shr_report.specs.Parts.{command_at, serial_of}
-use Rattle.shr_audit_replies.specs.Answers.{IsAnswered}
+use Rattle.shr_audit_replies.proofs.Common.{◌≡◌, ◌<◌, ℕ, Some, slice_get, Answered, Command, command_at, serial_of, IsAnswered}
 use Rattle.shr_audit_replies.proofs.answered.is_worker_answered.Given as goal
 
 abbrev pub invariant-loop-number : goal.invariant-loop-number

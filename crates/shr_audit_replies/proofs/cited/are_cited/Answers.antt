@@ -1,5 +1,4 @@
-use Rattle.shr_audit_replies.specs.Cited.{IsCited}
-use Rattle.shr_formed.proofs.Eachs.{more_at, all_at}
+use Rattle.shr_audit_replies.proofs.Common.{IsCited, more_at, all_at}
 use Rattle.shr_audit_replies.proofs.cited.are_cited.Goals as goal
 
 pub loop-n-preserved : goal.loop-n-preserved

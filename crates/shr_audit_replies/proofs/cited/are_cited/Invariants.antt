@@ -1,6 +1,4 @@
-use Rattle.std.proofs.Common.{◌≡◌, ◌<◌, ℕ, Some, slice_get}
-use Rattle.shr_base.specs.declared.journals.Entry.{Entry}
-use Rattle.shr_audit_replies.specs.Cited.{IsCited}
+use Rattle.shr_audit_replies.proofs.Common.{◌≡◌, ◌<◌, ℕ, Some, slice_get, Entry, IsCited}
 use Rattle.shr_audit_replies.proofs.cited.are_cited.Given as goal
 
 abbrev pub invariant-loop-n : goal.invariant-loop-n

@@ -1,10 +1,5 @@
-use Rattle.std.proofs.Common.{◌≡◌, ℕ, List, Some, slice_get, subst}
-use Rattle.std.specs.Bool.{Decides}
-use Rattle.shr_base.specs.declared.ends.PlaceEnd.{PlaceEnd}
-use Rattle.shr_base.specs.declared.journals.Entry.{Entry}
-use Rattle.shr_case.specs.Each.{EachFirst}
+use Rattle.shr_audit_replies.proofs.Common.{◌≡◌, ℕ, List, Some, slice_get, subst, Decides, PlaceEnd, Entry, EachFirst, IsCited}
 use Rattle.shr_case.proofs.Eachs.{each_entry_of}
-use Rattle.shr_audit_replies.specs.Cited.{IsCited}
 use Rattle.shr_audit_replies.proofs.cited.are_entries_cited.Goals as goal
 
 pub returns : goal.returns

@@ -1,8 +1,4 @@
-use Rattle.std.proofs.Common.{◌≡◌, ◌<◌, ℕ, Some, slice_get}
-use Rattle.shr_base.specs.declared.ends.PlaceEnd.{PlaceEnd}
-use Rattle.shr_base.specs.declared.journals.Entry.{Entry}
-use Rattle.shr_case.specs.Places.{IsFirst}
-use Rattle.shr_audit_replies.specs.Cited.{IsCited}
+use Rattle.shr_audit_replies.proofs.Common.{◌≡◌, ◌<◌, ℕ, Some, slice_get, PlaceEnd, Entry, IsFirst, IsCited}
 use Rattle.shr_audit_replies.proofs.cited.are_lists_cited.Given as goal
 
 abbrev pub invariant-loop-k : goal.invariant-loop-k

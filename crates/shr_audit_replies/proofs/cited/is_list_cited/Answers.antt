@@ -1,7 +1,4 @@
-use Rattle.std.proofs.Common.{◌≡◌, ℕ, List, Some, slice_get, subst}
-use Rattle.std.specs.Bool.{Decides}
-use Rattle.shr_base.specs.declared.journals.Entry.{Entry}
-use Rattle.shr_audit_replies.specs.Cited.{IsCited}
+use Rattle.shr_audit_replies.proofs.Common.{◌≡◌, ℕ, List, Some, slice_get, subst, Decides, Entry, IsCited}
 use Rattle.shr_audit_replies.proofs.cited.is_list_cited.Goals as goal
 
 pub returns : goal.returns

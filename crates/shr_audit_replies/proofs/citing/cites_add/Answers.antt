@@ -1,5 +1,4 @@
-use Rattle.shr_base.specs.declared.journals.Entry.TheVariants.{Add}
-use Rattle.shr_report.specs.Parts.{journals_of, serial_of}
+use Rattle.shr_audit_replies.proofs.Common.{Add, journals_of, serial_of}
 use Rattle.shr_audit_replies.proofs.Deciding.{cites_same, cites_none}
 use Rattle.shr_audit_replies.proofs.citing.cites_add.Goals as goal
 

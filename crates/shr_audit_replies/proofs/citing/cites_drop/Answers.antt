@@ -1,5 +1,4 @@
-use Rattle.shr_base.specs.declared.journals.Entry.TheVariants.{Drop}
-use Rattle.shr_report.specs.Parts.{journals_of, serial_of}
+use Rattle.shr_audit_replies.proofs.Common.{Drop, journals_of, serial_of}
 use Rattle.shr_audit_replies.proofs.Deciding.{cites_same, cites_none}
 use Rattle.shr_audit_replies.proofs.citing.cites_drop.Goals as goal
 

@@ -1,5 +1,4 @@
-use Rattle.shr_base.specs.declared.journals.Entry.TheVariants.{Look}
-use Rattle.shr_report.specs.Parts.{journals_of, serial_of}
+use Rattle.shr_audit_replies.proofs.Common.{Look, journals_of, serial_of}
 use Rattle.shr_audit_replies.proofs.Deciding.{cites_same, cites_none}
 use Rattle.shr_audit_replies.proofs.citing.cites_look.Goals as goal
 

@@ -1,5 +1,4 @@
-use Rattle.std.proofs.Common.{map}
-use Rattle.shr_base.specs.declared.scripts.GroupDecl.{GroupDecl}
+use Rattle.shr_audit_replies.proofs.Common.{map, GroupDecl}
 use Rattle.shr_audit_replies.proofs.Mapped.{rooted}
 use Rattle.shr_audit_replies.proofs.heads.are_all_paths.Goals as goal
 

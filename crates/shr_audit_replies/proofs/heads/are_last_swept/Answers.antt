@@ -1,12 +1,7 @@
-use Rattle.std.proofs.Common.{◌≡◌, ◌<◌, ◌≤◌, ℕ, List, length, true, Option, Some, None, refl, sym, ap, subst, ◌∙◌, below_more, inl, inr, arith}
-use Rattle.std.specs.Prelude.{slice_get}
-use Rattle.std.proofs.lemmas.Option.{slice_get_cases, slice_get_past, none-some}
-use Rattle.shr_base.specs.declared.ends.WorkerPart.{WorkerPart}
-use Rattle.shr_base.specs.declared.replies.Answered.{Answered}
-use Rattle.shr_base.specs.declared.scripts.Script.{Script}
-use Rattle.shr_report.specs.declared.report.Report.{Report}
-use Rattle.shr_report.specs.Parts.{answer_at, answers_in, commands_of}
-use Rattle.shr_audit_replies.specs.Heads.{IsLastSwept}
+use Rattle.shr_audit_replies.proofs.Common.{◌≡◌, ◌<◌, ◌≤◌, ℕ, List, length, true, Option, Some, None, refl, sym, ap, subst, ◌∙◌, inl, inr, arith, slice_get, slice_get_cases, none-some, WorkerPart, Answered, Script, Report, answer_at, commands_of, IsLastSwept}
+use Rattle.std.proofs.Common.{below_more}
+use Rattle.std.proofs.lemmas.Option.{slice_get_past}
+use Rattle.shr_report.specs.Parts.{answers_in}
 use Rattle.shr_audit_replies.proofs.heads.are_last_swept.Goals as goal
 
 -- past the last part there is no answer

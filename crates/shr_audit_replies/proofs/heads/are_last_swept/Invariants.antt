@@ -1,5 +1,4 @@
-use Rattle.std.proofs.Common.{◌<◌, ℕ}
-use Rattle.shr_audit_replies.specs.Heads.{IsLastSwept}
+use Rattle.shr_audit_replies.proofs.Common.{◌<◌, ℕ, IsLastSwept}
 use Rattle.shr_audit_replies.proofs.heads.are_last_swept.Given as goal
 
 abbrev pub invariant-loop-worker : goal.invariant-loop-worker

@@ -1,5 +1,4 @@
-use Rattle.std.proofs.Common.{◌≡◌, ◌<◌, ℕ, List, Some, slice_get}
-use Rattle.shr_base.specs.declared.scripts.CacheDecl.{CacheDecl}
+use Rattle.shr_audit_replies.proofs.Common.{◌≡◌, ◌<◌, ℕ, List, Some, slice_get, CacheDecl}
 use Rattle.shr_audit_replies.proofs.heads.are_names.Given as goal
 
 abbrev pub invariant-loop-i : goal.invariant-loop-i

@@ -1,5 +1,4 @@
-use Rattle.std.proofs.Common.{◌<◌, ℕ}
-use Rattle.shr_audit_replies.specs.Heads.{HasAnswers}
+use Rattle.shr_audit_replies.proofs.Common.{◌<◌, ℕ, HasAnswers}
 use Rattle.shr_audit_replies.proofs.heads.is_counted.Given as goal
 
 abbrev pub invariant-loop-worker : goal.invariant-loop-worker

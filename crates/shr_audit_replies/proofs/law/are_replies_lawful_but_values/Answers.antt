@@ -1,8 +1,4 @@
-use Rattle.shr_formed.proofs.Eachs.{fails}
-use Rattle.shr_audit_replies.specs.Answers.{AreAnswered}
-use Rattle.shr_audit_replies.specs.Cited.{AreEntriesCited}
-use Rattle.shr_audit_replies.specs.Heads.{IsCounted, AreLastSwept}
-use Rattle.shr_audit_replies.specs.Law.{AreRepliesLawfulButValues, HasHeads}
+use Rattle.shr_audit_replies.proofs.Common.{fails, AreAnswered, AreEntriesCited, IsCounted, AreLastSwept, AreRepliesLawfulButValues, HasHeads}
 use Rattle.shr_audit_replies.proofs.Answering.{journals_rise, replies_rise}
 use Rattle.shr_audit_replies.proofs.law.are_replies_lawful_but_values.Goals as goal
 

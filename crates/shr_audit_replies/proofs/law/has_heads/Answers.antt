@@ -1,6 +1,4 @@
-use Rattle.shr_formed.proofs.Eachs.{fails}
-use Rattle.shr_audit_replies.specs.Heads.{HasNames, HasPaths, HasSizes}
-use Rattle.shr_audit_replies.specs.Law.{HasHeads}
+use Rattle.shr_audit_replies.proofs.Common.{fails, HasNames, HasPaths, HasSizes, HasHeads}
 use Rattle.shr_audit_replies.proofs.law.has_heads.Goals as goal
 
 pub returns-then-not-has_sizes : goal.returns-then-not-has_sizes

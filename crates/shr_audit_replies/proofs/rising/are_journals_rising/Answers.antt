@@ -1,10 +1,5 @@
-use Rattle.std.proofs.Common.{[], List, subst, arith}
-use Rattle.std.specs.Bool.{Decides}
-use Rattle.std.proofs.lemmas.Option.{slice_get_within}
-use Rattle.shr_base.specs.declared.ends.PlaceEnd.{PlaceEnd}
-use Rattle.shr_case.specs.Each.{EachFirst}
+use Rattle.shr_audit_replies.proofs.Common.{[], List, subst, arith, Decides, slice_get_within, PlaceEnd, EachFirst, AreRising}
 use Rattle.shr_case.proofs.Eachs.{each_place_of}
-use Rattle.shr_audit_replies.specs.Cited.{AreRising}
 use Rattle.shr_audit_replies.proofs.rising.are_journals_rising.Goals as goal
 
 pub returns : goal.returns

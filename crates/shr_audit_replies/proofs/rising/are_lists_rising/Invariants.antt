@@ -1,8 +1,4 @@
-use Rattle.std.proofs.Common.{◌≡◌, ◌+◌, ◌<◌, ℕ, Some, slice_get}
-use Rattle.shr_base.specs.declared.ends.PlaceEnd.{PlaceEnd}
-use Rattle.shr_case.specs.Places.{IsFirst}
-use Rattle.shr_audit_replies.specs.Cited.{AreRising}
-use Rattle.shr_audit_replies.specs.Rising.{AreBelow}
+use Rattle.shr_audit_replies.proofs.Common.{◌≡◌, ◌+◌, ◌<◌, ℕ, Some, slice_get, PlaceEnd, IsFirst, AreRising, AreBelow}
 use Rattle.shr_audit_replies.proofs.rising.are_lists_rising.Given as goal
 
 abbrev pub invariant-loop-k : goal.invariant-loop-k

@@ -1,7 +1,4 @@
-use Rattle.std.proofs.Common.{List, subst}
-use Rattle.std.specs.Bool.{Decides}
-use Rattle.shr_base.specs.declared.journals.Entry.{Entry}
-use Rattle.shr_audit_replies.specs.Cited.{AreRising}
+use Rattle.shr_audit_replies.proofs.Common.{List, subst, Decides, Entry, AreRising}
 use Rattle.shr_audit_replies.proofs.Risings.{below_more}
 use Rattle.shr_audit_replies.proofs.rising.is_list_rising.Goals as goal
 

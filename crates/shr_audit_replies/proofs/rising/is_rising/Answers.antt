@@ -1,6 +1,4 @@
-use Rattle.std.proofs.Common.{◌≡◌, Some, length, refl, slice_get}
-use Rattle.std.proofs.lemmas.Option.{slice_get_read}
-use Rattle.shr_model.specs.Tenants.{by_of}
+use Rattle.shr_audit_replies.proofs.Common.{◌≡◌, Some, length, refl, slice_get, slice_get_read, by_of}
 use Rattle.shr_audit_replies.proofs.Risings.{all_below, fails, more, none_noted, whole}
 use Rattle.shr_audit_replies.proofs.rising.is_rising.Goals as goal
 

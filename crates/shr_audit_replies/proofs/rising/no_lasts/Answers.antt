@@ -1,6 +1,5 @@
-use Rattle.std.proofs.Common.{ap, arith, length, ◌∙◌, length-append, ◌∷◌, [], subst, List, ℕ, ◌<◌, sym, ◌+◌}
-use Rattle.shr_audit_replies.specs.declared.rising.Last.{Last}
-use Rattle.shr_audit_replies.specs.Rising.{last_of, no_last}
+use Rattle.shr_audit_replies.proofs.Common.{ap, arith, length, ◌∙◌, ◌∷◌, [], subst, List, ℕ, ◌<◌, sym, ◌+◌, Last, last_of, no_last}
+use Rattle.std.proofs.Common.{length-append}
 use Rattle.shr_audit_replies.proofs.Risings.{below_none, below_push}
 use Rattle.shr_audit_replies.proofs.rising.no_lasts.Goals as goal
 

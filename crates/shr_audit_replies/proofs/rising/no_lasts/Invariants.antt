@@ -1,5 +1,4 @@
-use Rattle.std.proofs.Common.{◌≡◌, ◌<◌, ℕ, length}
-use Rattle.shr_audit_replies.specs.Rising.{last_of}
+use Rattle.shr_audit_replies.proofs.Common.{◌≡◌, ◌<◌, ℕ, length, last_of}
 use Rattle.shr_audit_replies.proofs.rising.no_lasts.Given as goal
 
 abbrev pub invariant-loop-worker : goal.invariant-loop-worker

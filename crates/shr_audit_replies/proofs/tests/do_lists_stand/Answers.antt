@@ -1,5 +1,4 @@
-use Rattle.std.proofs.Common.{List, subst}
-use Rattle.shr_base.specs.declared.ends.PlaceEnd.{PlaceEnd}
+use Rattle.shr_audit_replies.proofs.Common.{List, subst, PlaceEnd}
 use Rattle.shr_formed.specs.Each.{Adjacent}
 use Rattle.shr_formed.proofs.Eachs.{below_of}
 use Rattle.shr_report.specs.WellFormed.{IsPlaceUpTo}

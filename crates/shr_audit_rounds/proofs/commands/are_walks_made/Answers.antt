@@ -1,11 +1,5 @@
-use Rattle.std.proofs.Common.{ℕ, List, subst}
-use Rattle.std.specs.Bool.{Decides}
-use Rattle.shr_base.specs.declared.ends.WorkerPart.{WorkerPart}
-use Rattle.shr_base.specs.declared.scripts.Command.{Command}
-use Rattle.shr_formed.proofs.Eachs.{more_at}
-use Rattle.shr_report.specs.Parts.{commands_of}
-use Rattle.shr_audit_rounds.specs.Commands.{IsPartMade}
-use Rattle.shr_audit_rounds.proofs.Commanding.{all_made, part_fails, stands_here}
+use Rattle.shr_audit_rounds.proofs.Common.{ℕ, List, subst, Decides, WorkerPart, Command, more_at, commands_of, IsPartMade, stands_here}
+use Rattle.shr_audit_rounds.proofs.Commanding.{all_made, part_fails}
 use Rattle.shr_audit_rounds.proofs.commands.are_walks_made.Goals as goal
 
 pub is_part_made-requires-clause-stand : goal.is_part_made-requires-clause-stand

@@ -1,7 +1,4 @@
-use Rattle.std.proofs.Common.{◌≡◌, ◌<◌, ℕ, Some, slice_get}
-use Rattle.shr_base.specs.declared.ends.WorkerPart.{WorkerPart}
-use Rattle.shr_report.specs.Parts.{commands_of}
-use Rattle.shr_audit_rounds.specs.Commands.{IsPartMade}
+use Rattle.shr_audit_rounds.proofs.Common.{◌≡◌, ◌<◌, ℕ, Some, slice_get, WorkerPart, commands_of, IsPartMade}
 use Rattle.shr_audit_rounds.proofs.commands.are_walks_made.Given as goal
 
 abbrev pub invariant-loop-worker : goal.invariant-loop-worker

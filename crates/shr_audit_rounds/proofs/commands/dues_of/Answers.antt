@@ -1,10 +1,4 @@
-use Rattle.std.proofs.Common.{◌≡◌, ◌<◌, ℕ, List, Vec, length, refl, sym, ap, subst, ◌∙◌}
-use Rattle.std.specs.declared.alloc.Global.{Global}
-use Rattle.std.specs.List.{AllByRecursion}
-use Rattle.shr_base.specs.declared.journals.UseStep.{UseStep}
-use Rattle.shr_report.specs.Parts.{parents_of}
-use Rattle.shr_audit_rounds.specs.declared.refusals.Refusal.{Refusal}
-use Rattle.shr_audit_rounds.specs.Refusals.{AreRefusals}
+use Rattle.shr_audit_rounds.proofs.Common.{◌≡◌, ◌<◌, ℕ, List, Vec, length, refl, sym, ap, subst, ◌∙◌, Global, AllByRecursion, UseStep, parents_of, Refusal, AreRefusals}
 use Rattle.shr_audit_rounds.proofs.Refusing.{there}
 use Rattle.shr_audit_rounds.proofs.commands.dues_of.Goals as goal
 

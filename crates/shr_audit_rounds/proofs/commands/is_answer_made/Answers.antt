@@ -1,8 +1,4 @@
-use Rattle.std.proofs.Common.{◌<◌, List, length, sym, ap, subst, ◌∙◌}
-use Rattle.std.specs.Prelude.{◌==◌}
-use Rattle.std.specs.List.{AllByRecursion}
-use Rattle.shr_audit_rounds.specs.declared.refusals.Refusal.{Refusal}
-use Rattle.shr_audit_rounds.specs.Refusals.{refusals_with, serial_key}
+use Rattle.shr_audit_rounds.proofs.Common.{◌<◌, List, length, sym, ap, subst, ◌∙◌, ◌==◌, AllByRecursion, Refusal, refusals_with, serial_key}
 use Rattle.shr_audit_rounds.proofs.Refusing.{some_there}
 use Rattle.shr_audit_rounds.proofs.commands.is_answer_made.Goals as goal
 

@@ -1,11 +1,6 @@
-use Rattle.std.proofs.Common.{ℕ, Bool, List, IfOk, sym, subst}
-use Rattle.std.specs.Bool.{Decides}
-use Rattle.shr_base.specs.declared.scripts.Command.{Command}
-use Rattle.shr_model.specs.Groups.{preorder_of}
+use Rattle.shr_audit_rounds.proofs.Common.{ℕ, Bool, List, sym, subst, Decides, Command, preorder_of, IsCommandMade, is_whole, groups_of, IsMade, jobs_made, jobs_over}
+use Rattle.std.proofs.Common.{IfOk}
 use Rattle.shr_audit_rounds.specs.declared.rows.Control.{Control}
-use Rattle.shr_audit_rounds.specs.Commands.{IsCommandMade, is_whole}
-use Rattle.shr_audit_rounds.specs.Refusals.{groups_of}
-use Rattle.shr_audit_rounds.specs.Rows.{IsMade, jobs_made, jobs_over}
 use Rattle.shr_audit_rounds.proofs.commands.is_command_made.Goals as goal
 
 pub returns-in-Put : goal.returns-in-Put

@@ -1,14 +1,5 @@
-use Rattle.std.proofs.Common.{◌≡◌, ℕ, List, Some, slice_get, get_or, refl, sym, ap, subst, ◌∙◌, arith}
-use Rattle.std.specs.Bool.{Decides}
-use Rattle.std.proofs.lemmas.Option.{slice_get_within}
-use Rattle.shr_base.specs.declared.replies.Answered.{Answered}
-use Rattle.shr_base.specs.declared.scripts.Command.{Command}
-use Rattle.shr_base.specs.declared.walks.WalkRecord.{WalkRecord}
-use Rattle.shr_formed.proofs.Eachs.{clash}
-use Rattle.shr_report.specs.Parts.{serial_of}
-use Rattle.shr_audit_rounds.specs.declared.commands.Dues.{Dues}
-use Rattle.shr_audit_rounds.specs.Commands.{IsAnswerMade}
-use Rattle.shr_audit_rounds.proofs.Commanding.{both_more, found_at}
+use Rattle.shr_audit_rounds.proofs.Common.{◌≡◌, ℕ, List, Some, slice_get, get_or, refl, sym, ap, subst, ◌∙◌, arith, Decides, slice_get_within, Answered, Command, WalkRecord, clash, serial_of, Dues, IsAnswerMade, here_at}
+use Rattle.shr_audit_rounds.proofs.Commanding.{both_more}
 use Rattle.shr_audit_rounds.proofs.commands.is_part_made.Goals as goal
 
 abbrev made : Dues → ℕ → List WalkRecord → ℕ → Answered → Command → Type 0
@@ -35,8 +26,8 @@ returns-then-not-branch c =
     let end = c.min-n-end.ensures in
     let b = c.in_ok-is_answer_made.field-0 in
     let one : Decides b (P k a d) = subst (λ (x : Answered). Decides b (P k x d)) (sym c.index-answers-n.is) (subst (λ (ws : List WalkRecord). Decides b (made c.args.dues.now c.args.worker ws k (get_or c.as_slice-answers.result.now k a) d)) c.as_slice-walks.ensures c.in_ok-is_answer_made.ensures) in
-    let at = found_at c.as_slice-answers.result.now c.args.part.now.answers.items k a c.as_slice-answers.ensures (omega (arith, t, end)) c.index-answers-n.is in
-    let here = found_at c.args.commands.now c.args.commands.now k d refl (omega (arith, t, end)) c.index-commands-n.is in
+    let at = here_at c.as_slice-answers.result.now c.args.part.now.answers.items k a c.as_slice-answers.ensures (omega (arith, t, end)) c.index-answers-n.is in
+    let here = here_at c.args.commands.now c.args.commands.now k d refl (omega (arith, t, end)) c.index-commands-n.is in
     (λ u. absurd cc, λ h. absurd (clash b (one.1 (h k a at d here)) c.if-not-branch.true))
 
 pub returns : goal.returns

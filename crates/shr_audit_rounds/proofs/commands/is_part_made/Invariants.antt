@@ -1,8 +1,4 @@
-use Rattle.std.proofs.Common.{◌≡◌, ◌<◌, ℕ, Some, slice_get}
-use Rattle.shr_base.specs.declared.replies.Answered.{Answered}
-use Rattle.shr_base.specs.declared.scripts.Command.{Command}
-use Rattle.shr_report.specs.Parts.{serial_of}
-use Rattle.shr_audit_rounds.specs.Commands.{IsAnswerMade}
+use Rattle.shr_audit_rounds.proofs.Common.{◌≡◌, ◌<◌, ℕ, Some, slice_get, Answered, Command, serial_of, IsAnswerMade}
 use Rattle.shr_audit_rounds.proofs.commands.is_part_made.Given as goal
 
 abbrev pub invariant-loop-n : goal.invariant-loop-n

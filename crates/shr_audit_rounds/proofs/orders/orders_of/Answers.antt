@@ -1,7 +1,4 @@
-use Rattle.std.proofs.Common.{◌≡◌, ◌+◌, ◌-◌, ℕ, List, [], ◌∷◌, ◌++◌, length, sym, ap, subst, ◌∙◌, arith}
-use Rattle.std.specs.declared.alloc.Global.{Global}
-use Rattle.std.specs.Prelude.{Vec}
-use Rattle.shr_audit_rounds.specs.Orders.{AreOrdersFrom}
+use Rattle.shr_audit_rounds.proofs.Common.{◌≡◌, ◌+◌, ◌-◌, ℕ, List, [], ◌∷◌, ◌++◌, length, sym, ap, subst, ◌∙◌, arith, Global, Vec, AreOrdersFrom}
 use Rattle.shr_audit_rounds.proofs.Ordering.{order_more, whole_order}
 use Rattle.shr_audit_rounds.proofs.orders.orders_of.Goals as goal
 

@@ -1,5 +1,4 @@
-use Rattle.std.proofs.Common.{◌-◌, length}
-use Rattle.shr_audit_rounds.specs.Orders.{AreOrdersFrom}
+use Rattle.shr_audit_rounds.proofs.Common.{◌-◌, length, AreOrdersFrom}
 use Rattle.shr_audit_rounds.proofs.orders.orders_of.Given as goal
 
 abbrev pub invariant-loop-k : goal.invariant-loop-k

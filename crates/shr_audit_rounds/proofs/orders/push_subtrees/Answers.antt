@@ -1,7 +1,4 @@
-use Rattle.std.proofs.Common.{◌+◌, ℕ, List, ◌++◌, Vec, sym, ap, ◌∙◌, arith}
-use Rattle.std.specs.declared.alloc.Global.{Global}
-use Rattle.std.proofs.lemmas.List.{append-nil, append_assoc}
-use Rattle.shr_model.specs.Groups.{preorder_of}
+use Rattle.shr_audit_rounds.proofs.Common.{◌+◌, ℕ, List, ◌++◌, Vec, sym, ap, ◌∙◌, arith, Global, append-nil, append_assoc, preorder_of}
 use Rattle.shr_audit_rounds.proofs.Ordering.{below, no_child, none_before, one_child, is_none, is_one, order_at}
 use Rattle.shr_audit_rounds.proofs.orders.push_subtrees.Goals as goal
 use Rattle.shr_audit_rounds.proofs.orders.push_subtrees.Goals.{then-parents-child+in_ok-extend_from_slice, else-parents-child}

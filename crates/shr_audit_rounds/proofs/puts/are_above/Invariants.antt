@@ -1,6 +1,4 @@
-use Rattle.std.proofs.Common.{ℕ, take}
-use Rattle.std.specs.List.{AllByRecursion}
-use Rattle.shr_model.specs.Groups.{IsAtOrAbove}
+use Rattle.shr_audit_rounds.proofs.Common.{ℕ, take, AllByRecursion, IsAtOrAbove}
 use Rattle.shr_audit_rounds.proofs.puts.are_above.Given as goal
 
 abbrev pub invariant-loop-above : goal.invariant-loop-above

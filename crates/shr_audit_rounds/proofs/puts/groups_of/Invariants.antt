@@ -1,5 +1,4 @@
-use Rattle.std.proofs.Common.{◌≡◌, take}
-use Rattle.shr_audit_rounds.specs.Refusals.{groups_of}
+use Rattle.shr_audit_rounds.proofs.Common.{◌≡◌, take, groups_of}
 use Rattle.shr_audit_rounds.proofs.puts.groups_of.Given as goal
 
 abbrev pub invariant-loop-refusal : goal.invariant-loop-refusal

@@ -1,5 +1,4 @@
-use Rattle.std.specs.Prelude.{◌↔◌}
-use Rattle.shr_model.specs.Groups.{IsAtOrAbove}
+use Rattle.shr_audit_rounds.proofs.Common.{◌↔◌, IsAtOrAbove}
 use Rattle.shr_audit_rounds.proofs.puts.is_at_or_above.Given as goal
 
 abbrev pub invariant-loop-at : goal.invariant-loop-at

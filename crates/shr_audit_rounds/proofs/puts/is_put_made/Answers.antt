@@ -1,21 +1,14 @@
-use Rattle.std.proofs.Common.{◌<◌, ℕ, Bool, List, length, refl, subst}
-use Rattle.std.specs.Bool.{Decides}
-use Rattle.std.specs.List.{AllByRecursion}
-use Rattle.shr_model.specs.Groups.{IsAtOrAbove}
-use Rattle.shr_audit_rounds.specs.Commands.{is_whole, over_of}
-use Rattle.shr_audit_rounds.specs.Refusals.{groups_of}
-use Rattle.shr_audit_rounds.specs.Rounds.{FitsRounds}
-use Rattle.shr_audit_rounds.specs.Rows.{jobs_made}
+use Rattle.shr_audit_rounds.proofs.Common.{◌<◌, ℕ, Bool, List, length, refl, subst, Decides, AllByRecursion, IsAtOrAbove, is_whole, over_of, groups_of, FitsRounds, jobs_made}
 use Rattle.shr_audit_rounds.proofs.Due.{above_put, due_found, due_so, groups_there, none_put, put_decided}
 use Rattle.shr_audit_rounds.proofs.puts.is_put_made.Goals as goal
 
 pub returns-then-not-leave_rounds : goal.returns-then-not-leave_rounds
 returns-then-not-leave_rounds c =
-    none_put c.args.subtrees.now.parents.items c.args.nodes c.args.group (over_of c.args.reply.now) (is_whole c.args.reply.now) (groups_of c.args.refusals.now) (jobs_made c.args.walks.now) c.over_of.result c.in_ok-groups.groups.items c.over_of.ensures c.in_ok-groups.ensures (c.if-not-leave_rounds.ensures.none refl)
+    none_put c.args.dues.now.subtrees.parents.items c.args.dues.now.nodes c.args.group (over_of c.args.reply.now) (is_whole c.args.reply.now) (groups_of c.args.refusals.now) (jobs_made c.args.walks.now) c.over_of.result c.in_ok-groups.groups.items c.over_of.ensures c.in_ok-groups.ensures (c.if-not-leave_rounds.ensures.none refl)
 
 pub returns-then-not-are_above : goal.returns-then-not-are_above
 returns-then-not-are_above c =
-    let parents = c.args.subtrees.now.parents.items in
+    let parents = c.args.dues.now.subtrees.parents.items in
     let group = c.args.group in
     let new = c.leave_rounds.new.groups.items in
     let refused = groups_of c.args.refusals.now in
@@ -25,11 +18,11 @@ returns-then-not-are_above c =
     let d : Decides b (AllByRecursion (λ (h : ℕ). IsAtOrAbove parents h group) new) =
     subst (λ (ps : List ℕ). Decides b (AllByRecursion (λ (h : ℕ). IsAtOrAbove ps h group) new)) c.as_slice.ensures.value
     (subst (λ (gs : List ℕ). Decides b (AllByRecursion (λ (h : ℕ). IsAtOrAbove c.as_slice.result.now h group) gs)) c.as_slice-2.ensures.value c.are_above.ensures) in
-    above_put parents c.args.nodes group over (is_whole c.args.reply.now) refused (jobs_made c.args.walks.now) new due b d c.if-not-are_above.true
+    above_put parents c.args.dues.now.nodes group over (is_whole c.args.reply.now) refused (jobs_made c.args.walks.now) new due b d c.if-not-are_above.true
 
 pub are_rounds-made-requires-clause-there : goal.are_rounds-made-requires-clause-there
 are_rounds-made-requires-clause-there c =
-    let n = length c.args.subtrees.now.parents.items in
+    let n = length c.args.dues.now.subtrees.parents.items in
     let new = c.leave_rounds.new.groups.items in
     let refused = groups_of c.args.refusals.now in
     let over = over_of c.args.reply.now in
@@ -38,7 +31,7 @@ are_rounds-made-requires-clause-there c =
 
 pub returns : goal.returns
 returns c =
-    let parents = c.args.subtrees.now.parents.items in
+    let parents = c.args.dues.now.subtrees.parents.items in
     let group = c.args.group in
     let new = c.leave_rounds.new.groups.items in
     let refused = groups_of c.args.refusals.now in
@@ -50,6 +43,6 @@ returns c =
     let d : Decides b (AllByRecursion (λ (h : ℕ). IsAtOrAbove parents h group) new) =
     subst (λ (ps : List ℕ). Decides b (AllByRecursion (λ (h : ℕ). IsAtOrAbove ps h group) new)) c.as_slice.ensures.value
     (subst (λ (gs : List ℕ). Decides b (AllByRecursion (λ (h : ℕ). IsAtOrAbove c.as_slice.result.now h group) gs)) c.as_slice-2.ensures.value c.are_above.ensures) in
-    let fits : Decides c.are_rounds-made.result (FitsRounds parents c.args.nodes whole 12 new walks) =
-    subst (λ (w : Bool). Decides c.are_rounds-made.result (FitsRounds parents c.args.nodes w 12 new walks)) c.is_whole.ensures c.are_rounds-made.ensures in
-    put_decided parents c.args.nodes group over whole refused walks new due c.are_rounds-made.result (d.0 c.if-not-are_above.false) fits
+    let fits : Decides c.are_rounds-made.result (FitsRounds parents c.args.dues.now.nodes whole 12 new walks) =
+    subst (λ (w : Bool). Decides c.are_rounds-made.result (FitsRounds parents c.args.dues.now.nodes w 12 new walks)) c.is_whole.ensures c.are_rounds-made.ensures in
+    put_decided parents c.args.dues.now.nodes group over whole refused walks new due c.are_rounds-made.result (d.0 c.if-not-are_above.false) fits

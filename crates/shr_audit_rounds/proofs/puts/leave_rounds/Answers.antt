@@ -1,7 +1,4 @@
-use Rattle.std.proofs.Common.{◌≡◌, ◌<◌, ℕ, Option, subst, arith}
-use Rattle.std.proofs.lemmas.Bool.{eq-eqb}
-use Rattle.std.proofs.lemmas.Bool.Decides.{nat_tests}
-use Rattle.shr_audit_rounds.specs.Rounds.{AreDue}
+use Rattle.shr_audit_rounds.proofs.Common.{◌≡◌, ◌<◌, ℕ, Option, subst, arith, eq-eqb, nat_tests, AreDue}
 use Rattle.shr_audit_rounds.proofs.Due.{not_all, not_named, too_many}
 use Rattle.shr_audit_rounds.proofs.puts.leave_rounds.Goals as goal
 

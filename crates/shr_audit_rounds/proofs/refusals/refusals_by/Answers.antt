@@ -1,7 +1,5 @@
-use Rattle.std.proofs.Common.{ℕ, ap, ◌∙◌, arith}
+use Rattle.shr_audit_rounds.proofs.Common.{ℕ, ap, ◌∙◌, arith, Refusal, refusals_with}
 use Rattle.shr_audit_walks.proofs.Ranged.{range_filter, none_filter}
-use Rattle.shr_audit_rounds.specs.declared.refusals.Refusal.{Refusal}
-use Rattle.shr_audit_rounds.specs.Refusals.{refusals_with}
 use Rattle.shr_audit_rounds.proofs.refusals.refusals_by.Goals as goal
 
 pub returns-then-low-high : goal.returns-then-low-high

@@ -1,5 +1,4 @@
-use Rattle.std.proofs.Common.{◌≡◌, take}
-use Rattle.shr_audit_rounds.specs.Refusals.{refusals_in}
+use Rattle.shr_audit_rounds.proofs.Common.{◌≡◌, take, refusals_in}
 use Rattle.shr_audit_rounds.proofs.refusals.refusals_in.Given as goal
 
 abbrev pub invariant-loop-step : goal.invariant-loop-step

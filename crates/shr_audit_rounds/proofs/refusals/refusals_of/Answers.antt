@@ -1,6 +1,5 @@
-use Rattle.std.proofs.Common.{rules}
+use Rattle.shr_audit_rounds.proofs.Common.{rules, Refusal}
 use Rattle.std.proofs.lemmas.List.Sorted.{answers_always, IsNonDecreasingBy-from_sort}
-use Rattle.shr_audit_rounds.specs.declared.refusals.Refusal.{Refusal}
 use Rattle.shr_audit_rounds.proofs.refusals.refusals_of.Goals as goal
 
 pub returns-clause-order : goal.returns-clause-order

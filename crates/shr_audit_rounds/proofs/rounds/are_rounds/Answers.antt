@@ -1,9 +1,5 @@
-use Rattle.std.proofs.Common.{◌≡◌, ℕ, Bool, true, false, refl, Vec, vec_len, length, ap, subst, ◌∙◌, arith}
-use Rattle.std.specs.declared.alloc.Global.{Global}
-use Rattle.std.specs.Prelude.{◌==◌, ◌||◌, not}
-use Rattle.std.specs.Bool.{Decides}
-use Rattle.shr_audit_rounds.specs.Rounds.{FitsRounds}
-use Rattle.shr_audit_rounds.specs.Rows.{jobs_made}
+use Rattle.shr_audit_rounds.proofs.Common.{◌≡◌, ℕ, Bool, true, false, refl, Vec, length, ap, subst, ◌∙◌, arith, Global, ◌==◌, ◌||◌, not, Decides, FitsRounds, jobs_made}
+use Rattle.std.proofs.Common.{vec_len}
 use Rattle.shr_audit_rounds.proofs.Fitting.{all_rounds, group_fails, group_there, nothing_left, round_fails, round_more, some_left, still_there}
 use Rattle.shr_audit_rounds.proofs.rounds.are_rounds.Goals as goal
 

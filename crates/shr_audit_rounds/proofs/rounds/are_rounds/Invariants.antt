@@ -1,8 +1,4 @@
-use Rattle.std.proofs.Common.{◌<◌, ℕ, length}
-use Rattle.std.specs.Prelude.{◌↔◌}
-use Rattle.std.specs.List.{AllByRecursion}
-use Rattle.shr_audit_rounds.specs.Rounds.{FitsRounds}
-use Rattle.shr_audit_rounds.specs.Rows.{jobs_made}
+use Rattle.shr_audit_rounds.proofs.Common.{◌<◌, ℕ, length, ◌↔◌, AllByRecursion, FitsRounds, jobs_made}
 use Rattle.shr_audit_rounds.proofs.rounds.are_rounds.Given as goal
 
 abbrev pub invariant-loop-rest : goal.invariant-loop-rest

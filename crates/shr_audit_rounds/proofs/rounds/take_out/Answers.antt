@@ -1,5 +1,4 @@
-use Rattle.std.proofs.Common.{◌≡◌, ℕ, List, ap, length, subst, arith}
-use Rattle.shr_audit_rounds.specs.Rounds.{times}
+use Rattle.shr_audit_rounds.proofs.Common.{◌≡◌, ℕ, List, ap, length, subst, arith, times}
 use Rattle.shr_audit_rounds.proofs.Alike.{none_there}
 use Rattle.shr_audit_rounds.proofs.rounds.take_out.Goals as goal
 

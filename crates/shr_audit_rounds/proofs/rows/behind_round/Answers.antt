@@ -1,5 +1,4 @@
-use Rattle.std.proofs.Common.{ℕ}
-use Rattle.shr_audit_rounds.specs.Rows.{jobs_made, jobs_over, round_control}
+use Rattle.shr_audit_rounds.proofs.Common.{ℕ, jobs_made, jobs_over, round_control}
 use Rattle.shr_audit_rounds.proofs.Begun.{behind_none, nodes_all, nodes_fail, nodes_more}
 use Rattle.shr_audit_rounds.proofs.rows.behind_round.Goals as goal
 

@@ -1,6 +1,4 @@
-use Rattle.std.proofs.Common.{ℕ, flat_map, take}
-use Rattle.std.specs.List.{range_with_len}
-use Rattle.shr_audit_rounds.specs.Rows.{IsBehind, jobs_made, jobs_over, round_control}
+use Rattle.shr_audit_rounds.proofs.Common.{ℕ, flat_map, take, range_with_len, IsBehind, jobs_made, jobs_over, round_control}
 use Rattle.shr_audit_rounds.proofs.rows.behind_round.Given as goal
 
 abbrev pub invariant-loop-node : goal.invariant-loop-node

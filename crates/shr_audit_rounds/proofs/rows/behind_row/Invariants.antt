@@ -1,5 +1,4 @@
-use Rattle.std.proofs.Common.{ℕ, [], ◌∷◌, flat_map, take}
-use Rattle.shr_audit_rounds.specs.Rows.{IsBehind, job_with, jobs_made}
+use Rattle.shr_audit_rounds.proofs.Common.{ℕ, [], ◌∷◌, flat_map, take, IsBehind, job_with, jobs_made}
 use Rattle.shr_audit_rounds.proofs.rows.behind_row.Given as goal
 
 abbrev pub invariant-loop-group : goal.invariant-loop-group

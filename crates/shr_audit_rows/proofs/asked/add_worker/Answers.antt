@@ -1,7 +1,4 @@
-use Rattle.std.proofs.Common.{◌≡◌, List, Option, length, subst, sym, arith}
-use Rattle.shr_report.specs.Parts.{answers_of}
-use Rattle.shr_audit_rows.specs.declared.asked.Asked.{Asked}
-use Rattle.shr_audit_rows.specs.Asked.{AddsSo, IsSoIfAsked, asked_at}
+use Rattle.shr_audit_rows.proofs.Common.{◌≡◌, List, Option, length, subst, sym, arith, answers_of, Asked, AddsSo, IsSoIfAsked, asked_at}
 use Rattle.shr_audit_rows.proofs.AskedLaws.{adds_end, adds_next, adds_one, adds_start}
 use Rattle.shr_audit_rows.proofs.asked.add_worker.Goals as goal
 

@@ -1,5 +1,4 @@
-use Rattle.std.proofs.Common.{ℕ, ◌<◌}
-use Rattle.shr_audit_rows.specs.Asked.{AddsSo, IsSoIfAsked, asked_at}
+use Rattle.shr_audit_rows.proofs.Common.{ℕ, ◌<◌, AddsSo, IsSoIfAsked, asked_at}
 use Rattle.shr_audit_rows.proofs.asked.add_worker.Given as goal
 
 abbrev pub invariant-loop-number : goal.invariant-loop-number

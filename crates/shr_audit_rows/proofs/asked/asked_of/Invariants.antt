@@ -1,5 +1,4 @@
-use Rattle.std.proofs.Common.{ℕ, ◌<◌}
-use Rattle.shr_audit_rows.specs.Asked.{AddsSo}
+use Rattle.shr_audit_rows.proofs.Common.{ℕ, ◌<◌, AddsSo}
 use Rattle.shr_audit_rows.proofs.AskedLaws.{IsWorkerSo}
 use Rattle.shr_audit_rows.proofs.asked.asked_of.Given as goal
 

@@ -1,5 +1,4 @@
-use Rattle.std.proofs.Common.{false}
-use Rattle.shr_base.specs.declared.scripts.GroupDecl.{GroupDecl}
+use Rattle.shr_audit_rows.proofs.Common.{false, GroupDecl}
 use Rattle.shr_audit_rows.proofs.GroupLaws.{group_none, group_root, group_some}
 use Rattle.shr_audit_rows.proofs.groups.is_later.Goals as goal
 

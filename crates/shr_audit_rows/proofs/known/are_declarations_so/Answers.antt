@@ -1,8 +1,4 @@
-use Rattle.std.proofs.Common.{List, subst}
-use Rattle.std.specs.Bool.{Decides}
-use Rattle.shr_formed.specs.Each.{Each}
-use Rattle.shr_audit_rows.specs.declared.asked.Asked.{Asked}
-use Rattle.shr_audit_rows.specs.Asked.{IsSo}
+use Rattle.shr_audit_rows.proofs.Common.{List, subst, Decides, Each, Asked, IsSo}
 use Rattle.shr_audit_rows.proofs.KnownLaws.{in_any_order}
 use Rattle.shr_audit_rows.proofs.known.are_declarations_so.Goals as goal
 

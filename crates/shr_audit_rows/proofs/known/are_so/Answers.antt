@@ -1,6 +1,5 @@
-use Rattle.std.proofs.Common.{arith}
+use Rattle.shr_audit_rows.proofs.Common.{arith, IsSo}
 use Rattle.shr_formed.proofs.Eachs.{each_all}
-use Rattle.shr_audit_rows.specs.Asked.{IsSo}
 use Rattle.shr_audit_rows.proofs.KnownLaws.{at_entry, from_start, low_next, so_fails, so_next}
 use Rattle.shr_audit_rows.proofs.known.are_so.Goals as goal
 

@@ -1,8 +1,4 @@
-use Rattle.std.proofs.Common.{◌≡◌, ℕ, ◌<◌, ◌≤◌, Some, get_or, length, take}
-use Rattle.std.specs.Prelude.{slice_get}
-use Rattle.shr_audit_rows.specs.declared.asked.Asked.{Asked}
-use Rattle.shr_audit_rows.specs.Asked.{IsSo}
-use Rattle.shr_audit_rows.specs.Pooled.{Stands}
+use Rattle.shr_audit_rows.proofs.Common.{◌≡◌, ℕ, ◌<◌, ◌≤◌, Some, get_or, length, take, slice_get, Asked, IsSo, Stands}
 use Rattle.shr_audit_rows.proofs.known.are_so.Given as goal
 
 abbrev pub invariant-loop-n : goal.invariant-loop-n

@@ -1,6 +1,4 @@
-use Rattle.std.proofs.Common.{Bool, subst, sym, take}
-use Rattle.std.specs.Bool.{Decides}
-use Rattle.shr_audit_rows.specs.Asked.{IsSaid}
+use Rattle.shr_audit_rows.proofs.Common.{Bool, subst, sym, take, Decides, IsSaid}
 use Rattle.shr_audit_rows.proofs.KnownLaws.{said_cached, said_full, said_uncached}
 use Rattle.shr_audit_rows.proofs.known.is_said.Goals as goal
 

@@ -1,6 +1,4 @@
-use Rattle.std.proofs.Common.{◌≡◌, subst, sym}
-use Rattle.shr_base.specs.declared.journals.PoolEntry.{PoolEntry}
-use Rattle.shr_model.specs.Pool.{decl_after, id_of}
+use Rattle.shr_audit_rows.proofs.Common.{◌≡◌, subst, sym, PoolEntry, decl_after, id_of}
 use Rattle.shr_audit_rows.proofs.PooledLaws.{decl_registered}
 use Rattle.shr_audit_rows.proofs.pooled.decl_after.Goals as goal
 

@@ -1,5 +1,4 @@
-use Rattle.std.proofs.Common.{ℕ, ◌<◌}
-use Rattle.shr_audit_rows.specs.Rows.{IsCausedAt}
+use Rattle.shr_audit_rows.proofs.Common.{ℕ, ◌<◌, IsCausedAt}
 use Rattle.shr_audit_rows.proofs.rows.are_caused.Given as goal
 
 abbrev pub invariant-loop-worker : goal.invariant-loop-worker

@@ -1,9 +1,5 @@
-use Rattle.std.proofs.Common.{ℕ, Option, subst, sym}
-use Rattle.std.specs.Bool.{Decides}
-use Rattle.std.specs.Option.{IsSomeAnd}
-use Rattle.shr_base.specs.declared.replies.Reply.{Reply}
+use Rattle.shr_audit_rows.proofs.Common.{ℕ, Option, subst, sym, Decides, IsSomeAnd, Reply, HasCountCause}
 use Rattle.shr_audit_rows.specs.Registered.{Registers}
-use Rattle.shr_audit_rows.specs.Rows.{HasCountCause}
 use Rattle.shr_audit_rows.proofs.rows.is_count_caused.Goals as goal
 
 pub returns-in-Registered : goal.returns-in-Registered

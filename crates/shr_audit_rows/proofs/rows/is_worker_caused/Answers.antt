@@ -1,6 +1,4 @@
-use Rattle.std.proofs.Common.{ℕ, ◌≤◌, subst, arith}
-use Rattle.shr_audit_fresh.proofs.Upto.{upto_all, upto_fails, upto_more}
-use Rattle.shr_audit_rows.specs.Rows.{IsCausedAt}
+use Rattle.shr_audit_rows.proofs.Common.{ℕ, ◌≤◌, subst, arith, upto_all, upto_fails, upto_more, IsCausedAt}
 use Rattle.shr_audit_rows.proofs.RowLaws.{past_caused}
 use Rattle.shr_audit_rows.proofs.rows.is_worker_caused.Goals as goal
 

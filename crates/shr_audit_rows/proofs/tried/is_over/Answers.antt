@@ -1,7 +1,4 @@
-use Rattle.std.proofs.Common.{arith, refl}
-use Rattle.std.specs.Prelude.{nat_eq}
-use Rattle.std.specs.HashMap.{get}
-use Rattle.shr_audit_rows.specs.Tried.{IsKeyed, own_key}
+use Rattle.shr_audit_rows.proofs.Common.{arith, refl, nat_eq, get, IsKeyed, own_key}
 use Rattle.shr_audit_rows.proofs.OverLaws.{not_fourteen, not_last, over_decided}
 use Rattle.shr_audit_rows.proofs.tried.is_over.Goals as goal
 

@@ -1,5 +1,4 @@
-use Rattle.std.proofs.Common.{take, arith}
-use Rattle.std.proofs.lemmas.List.{length-take}
+use Rattle.shr_audit_rows.proofs.Common.{take, arith, length-take}
 use Rattle.shr_audit_rows.proofs.TriedLaws.{tries_all, tries_more, uses_few}
 use Rattle.shr_audit_rows.proofs.tried.tries_of.Goals as goal
 

@@ -1,5 +1,4 @@
-use Rattle.std.proofs.Common.{take}
-use Rattle.shr_audit_rows.specs.Tried.{AreTries}
+use Rattle.shr_audit_rows.proofs.Common.{take, AreTries}
 use Rattle.shr_audit_rows.proofs.tried.tries_of.Given as goal
 
 abbrev pub invariant-loop-n : goal.invariant-loop-n

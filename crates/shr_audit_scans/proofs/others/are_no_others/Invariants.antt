@@ -1,5 +1,4 @@
-use Rattle.std.proofs.Common.{◌≡◌, ◌<◌, ℕ, Some, slice_get}
-use Rattle.shr_base.specs.declared.ends.PlaceEnd.{PlaceEnd}
+use Rattle.shr_audit_scans.proofs.Common.{◌≡◌, ◌<◌, ℕ, Some, slice_get, PlaceEnd}
 use Rattle.shr_audit_scans.proofs.OthersLaw.{IsListOfPasses}
 use Rattle.shr_audit_scans.proofs.others.are_no_others.Given as goal
 

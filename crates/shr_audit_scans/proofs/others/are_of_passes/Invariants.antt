@@ -1,7 +1,4 @@
-use Rattle.std.proofs.Common.{◌≡◌, ◌<◌, ℕ, Some, slice_get}
-use Rattle.shr_base.specs.declared.journals.Entry.{Entry}
-use Rattle.shr_report.specs.declared.report.Report.{Report}
-use Rattle.shr_audit_scans.specs.Others.{IsEntryOfPass}
+use Rattle.shr_audit_scans.proofs.Common.{◌≡◌, ◌<◌, ℕ, Some, slice_get, Entry, Report, IsEntryOfPass}
 use Rattle.shr_audit_scans.specs.Passes.{ArePassesOf}
 use Rattle.shr_audit_scans.proofs.others.are_of_passes.Given as goal
 

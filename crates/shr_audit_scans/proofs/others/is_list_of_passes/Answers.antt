@@ -1,6 +1,4 @@
-use Rattle.std.proofs.Common.{◌≡◌, get_or, ap, ◌∙◌}
-use Rattle.std.proofs.lemmas.Option.{get_or_from_slice_get}
-use Rattle.shr_base.specs.declared.ends.PlaceEnd.{PlaceEnd}
+use Rattle.shr_audit_scans.proofs.Common.{◌≡◌, get_or, ap, ◌∙◌, get_or_from_slice_get, PlaceEnd}
 use Rattle.shr_audit_scans.proofs.OthersLaw.{list_decided}
 use Rattle.shr_audit_scans.proofs.others.is_list_of_passes.Goals as goal
 

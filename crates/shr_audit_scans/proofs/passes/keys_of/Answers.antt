@@ -1,9 +1,4 @@
-use Rattle.std.proofs.Common.{ℕ, [], List, ◌++◌, ap, sym, ◌∙◌}
-use Rattle.std.specs.Prelude.{flat_map}
-use Rattle.std.specs.List.{enumerate_from}
-use Rattle.shr_base.specs.declared.ends.WorkerPart.{WorkerPart}
-use Rattle.shr_base.specs.declared.walks.WalkRecord.{WalkRecord}
-use Rattle.shr_audit_scans.specs.Passes.{keys_of_part}
+use Rattle.shr_audit_scans.proofs.Common.{ℕ, [], List, ◌++◌, ap, sym, ◌∙◌, flat_map, enumerate_from, WorkerPart, WalkRecord, keys_of_part}
 use Rattle.shr_audit_scans.proofs.Added.{numbered_all, numbered_more}
 use Rattle.shr_audit_scans.proofs.passes.keys_of.Goals as goal
 

@@ -1,6 +1,4 @@
-use Rattle.std.proofs.Common.{ℕ}
-use Rattle.shr_base.specs.declared.walks.WalkRecord.{WalkRecord}
-use Rattle.shr_audit_scans.specs.Passes.{keys_in}
+use Rattle.shr_audit_scans.proofs.Common.{ℕ, WalkRecord, keys_in}
 use Rattle.shr_audit_scans.proofs.Added.{numbered_all, numbered_more}
 use Rattle.shr_audit_scans.proofs.passes.note_part.Goals as goal
 

@@ -1,8 +1,4 @@
-use Rattle.std.proofs.Common.{◌≡◌, ◌++◌, ℕ, take}
-use Rattle.std.specs.Prelude.{flat_map}
-use Rattle.std.specs.List.{enumerate_from}
-use Rattle.shr_base.specs.declared.walks.WalkRecord.{WalkRecord}
-use Rattle.shr_audit_scans.specs.Passes.{keys_in}
+use Rattle.shr_audit_scans.proofs.Common.{◌≡◌, ◌++◌, ℕ, take, flat_map, enumerate_from, WalkRecord, keys_in}
 use Rattle.shr_audit_scans.proofs.passes.note_part.Given as goal
 
 abbrev pub invariant-loop-n : goal.invariant-loop-n

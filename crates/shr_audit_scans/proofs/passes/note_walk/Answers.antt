@@ -1,8 +1,5 @@
-use Rattle.std.proofs.Common.{List, ◌++◌, ap, ◌∙◌}
-use Rattle.std.specs.Prelude.{flat_map}
-use Rattle.shr_base.specs.declared.walks.Attempt.{Attempt}
-use Rattle.shr_audit_scans.specs.Passes.{keys_at}
-use Rattle.shr_audit_scans.proofs.Added.{flat_all, flat_step}
+use Rattle.shr_audit_scans.proofs.Common.{List, ◌++◌, ap, ◌∙◌, flat_map, Attempt, keys_at, flat_all}
+use Rattle.shr_audit_scans.proofs.Added.{flat_step}
 use Rattle.shr_audit_scans.proofs.passes.note_walk.Goals as goal
 
 pub loop-attempt-preserved : goal.loop-attempt-preserved

@@ -1,6 +1,4 @@
-use Rattle.std.proofs.Common.{◌≡◌, ◌++◌, take}
-use Rattle.std.specs.Prelude.{flat_map}
-use Rattle.shr_audit_scans.specs.Passes.{keys_at}
+use Rattle.shr_audit_scans.proofs.Common.{◌≡◌, ◌++◌, take, flat_map, keys_at}
 use Rattle.shr_audit_scans.proofs.passes.note_walk.Given as goal
 
 abbrev pub invariant-loop-attempt : goal.invariant-loop-attempt

@@ -1,6 +1,4 @@
-use Rattle.std.proofs.Common.{◌≡◌, ◌++◌, take}
-use Rattle.std.specs.Prelude.{filter_map}
-use Rattle.std.specs.List.{enumerate_from}
+use Rattle.shr_audit_scans.proofs.Common.{◌≡◌, ◌++◌, take, filter_map, enumerate_from}
 use Rattle.shr_audit_scans.proofs.Noted.{row_at}
 use Rattle.shr_audit_scans.proofs.rows.note_journal.Given as goal
 

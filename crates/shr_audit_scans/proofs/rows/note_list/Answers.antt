@@ -1,8 +1,4 @@
-use Rattle.std.proofs.Common.{◌≡◌, List, ◌++◌, ap, ◌∙◌}
-use Rattle.std.proofs.lemmas.Option.{get_or_from_slice_get}
-use Rattle.shr_base.specs.declared.ends.PlaceEnd.{PlaceEnd}
-use Rattle.shr_base.specs.declared.journals.Entry.{Entry}
-use Rattle.shr_audit_scans.specs.Rows.{rows_of}
+use Rattle.shr_audit_scans.proofs.Common.{◌≡◌, List, ◌++◌, ap, ◌∙◌, get_or_from_slice_get, PlaceEnd, Entry, rows_of}
 use Rattle.shr_audit_scans.proofs.rows.note_list.Goals as goal
 
 pub returns-in_ok-note_journal : goal.returns-in_ok-note_journal

@@ -1,8 +1,4 @@
-use Rattle.std.proofs.Common.{List, sym, subst}
-use Rattle.std.specs.List.{AllByRecursion}
-use Rattle.shr_base.specs.declared.ends.PlaceEnd.{PlaceEnd}
-use Rattle.shr_report.specs.Numbers.{IsListNumbered}
-use Rattle.shr_audit_scans.specs.Rows.{AreRowsOf}
+use Rattle.shr_audit_scans.proofs.Common.{List, sym, subst, AllByRecursion, PlaceEnd, IsListNumbered, AreRowsOf}
 use Rattle.shr_audit_scans.proofs.Noted.{noted_all, noted_more, noted_none}
 use Rattle.shr_audit_scans.proofs.rows.rows_of.Goals as goal
 

@@ -1,5 +1,4 @@
-use Rattle.std.proofs.Common.{take}
-use Rattle.shr_audit_scans.specs.Rows.{AreRowsOf}
+use Rattle.shr_audit_scans.proofs.Common.{take, AreRowsOf}
 use Rattle.shr_audit_scans.proofs.rows.rows_of.Given as goal
 
 abbrev pub invariant-loop-k : goal.invariant-loop-k

@@ -1,10 +1,6 @@
-use Rattle.std.proofs.Common.{◌≡◌, true, false, subst, arith, rules}
+use Rattle.shr_audit_scans.proofs.Common.{◌≡◌, true, false, subst, arith, rules, nat_tests, IsPartitionPoint-from_clause, get_or_from_slice_get, slice_get_within, ScanSeen, row_key}
 use Rattle.std.specs.Prelude.{nat_le}
-use Rattle.std.proofs.lemmas.Bool.Decides.{nat_tests}
-use Rattle.std.proofs.lemmas.List.Sorted.{IsPartitionPoint-from_clause, IsPartitionedBy-leb}
-use Rattle.std.proofs.lemmas.Option.{get_or_from_slice_get, slice_get_within}
-use Rattle.shr_audit_walks.specs.declared.scans.ScanSeen.{ScanSeen}
-use Rattle.shr_audit_scans.specs.Keys.{row_key}
+use Rattle.std.proofs.lemmas.List.Sorted.{IsPartitionedBy-leb}
 use Rattle.shr_audit_scans.proofs.table.behind_of.Goals as goal
 
 pub returns-clause-before : goal.returns-clause-before

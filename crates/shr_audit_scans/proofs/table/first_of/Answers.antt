@@ -1,10 +1,5 @@
-use Rattle.std.proofs.Common.{◌≡◌, true, false, subst, arith, rules}
-use Rattle.std.specs.Prelude.{nat_lt}
-use Rattle.std.proofs.lemmas.Bool.Decides.{nat_tests}
-use Rattle.std.proofs.lemmas.List.Sorted.{IsPartitionPoint-from_clause, IsPartitionedBy-ltb}
-use Rattle.std.proofs.lemmas.Option.{get_or_from_slice_get, slice_get_within}
-use Rattle.shr_audit_walks.specs.declared.scans.ScanSeen.{ScanSeen}
-use Rattle.shr_audit_scans.specs.Keys.{row_key}
+use Rattle.shr_audit_scans.proofs.Common.{◌≡◌, true, false, subst, arith, rules, nat_lt, nat_tests, IsPartitionPoint-from_clause, get_or_from_slice_get, slice_get_within, ScanSeen, row_key}
+use Rattle.std.proofs.lemmas.List.Sorted.{IsPartitionedBy-ltb}
 use Rattle.shr_audit_scans.proofs.table.first_of.Goals as goal
 
 pub returns-clause-before : goal.returns-clause-before

@@ -1,6 +1,5 @@
-use Rattle.std.proofs.Common.{arith}
+use Rattle.shr_audit_scans.proofs.Common.{arith, row_key}
 use Rattle.shr_audit_walks.proofs.Ranged.{range_filter, none_filter}
-use Rattle.shr_audit_scans.specs.Keys.{row_key}
 use Rattle.shr_audit_scans.proofs.table.range_of.Goals as goal
 
 pub returns-then-low-high : goal.returns-then-low-high

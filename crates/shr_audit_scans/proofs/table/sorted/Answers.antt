@@ -1,6 +1,5 @@
-use Rattle.std.proofs.Common.{rules}
-use Rattle.std.proofs.lemmas.List.Sorted.{answers_always, IsNonDecreasingBy-from_sort}
-use Rattle.shr_audit_scans.specs.Keys.{row_key}
+use Rattle.shr_audit_scans.proofs.Common.{rules, IsNonDecreasingBy-from_sort, row_key}
+use Rattle.std.proofs.lemmas.List.Sorted.{answers_always}
 use Rattle.shr_audit_scans.proofs.Ordered.{same_order}
 use Rattle.shr_audit_scans.proofs.table.sorted.Goals as goal
 

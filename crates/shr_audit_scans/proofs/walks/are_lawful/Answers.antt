@@ -1,6 +1,5 @@
-use Rattle.std.specs.Bool.{Decides}
-use Rattle.shr_formed.proofs.Eachs.{all_at, more_at}
-use Rattle.shr_report.specs.LawfulWalk.{IsLawfulWalk}
+use Rattle.shr_audit_scans.proofs.Common.{Decides, all_at, IsLawfulWalk}
+use Rattle.shr_formed.proofs.Eachs.{more_at}
 use Rattle.shr_audit_scans.proofs.LawfulLaw.{one_fails}
 use Rattle.shr_audit_scans.proofs.walks.are_lawful.Goals as goal
 

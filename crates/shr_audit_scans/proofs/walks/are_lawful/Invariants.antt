@@ -1,6 +1,4 @@
-use Rattle.std.proofs.Common.{◌≡◌, ◌<◌, ℕ, Some, slice_get}
-use Rattle.shr_base.specs.declared.walks.WalkRecord.{WalkRecord}
-use Rattle.shr_report.specs.LawfulWalk.{IsLawfulWalk}
+use Rattle.shr_audit_scans.proofs.Common.{◌≡◌, ◌<◌, ℕ, Some, slice_get, WalkRecord, IsLawfulWalk}
 use Rattle.shr_audit_scans.proofs.walks.are_lawful.Given as goal
 
 abbrev pub invariant-loop-n : goal.invariant-loop-n

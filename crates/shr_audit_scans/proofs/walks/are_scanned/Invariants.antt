@@ -1,6 +1,4 @@
-use Rattle.std.proofs.Common.{◌≡◌, ◌<◌, ℕ, Some, slice_get}
-use Rattle.shr_base.specs.declared.walks.Attempt.{Attempt}
-use Rattle.shr_audit_scans.specs.Walks.{IsScannedAt}
+use Rattle.shr_audit_scans.proofs.Common.{◌≡◌, ◌<◌, ℕ, Some, slice_get, Attempt, IsScannedAt}
 use Rattle.shr_audit_scans.proofs.walks.are_scanned.Given as goal
 
 abbrev pub invariant-loop-k : goal.invariant-loop-k

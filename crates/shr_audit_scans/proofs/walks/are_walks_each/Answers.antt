@@ -1,6 +1,4 @@
-use Rattle.std.specs.Bool.{Decides}
-use Rattle.shr_report.specs.LawfulWalk.{IsLawfulWalk}
-use Rattle.shr_audit_scans.specs.Walks.{AreLawful}
+use Rattle.shr_audit_scans.proofs.Common.{Decides, IsLawfulWalk, AreLawful}
 use Rattle.shr_audit_walks.proofs.Parts.{parts_all, parts_fail, parts_more}
 use Rattle.shr_audit_scans.proofs.walks.are_walks_each.Goals as goal
 

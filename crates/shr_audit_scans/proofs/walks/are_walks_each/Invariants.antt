@@ -1,6 +1,4 @@
-use Rattle.std.proofs.Common.{◌≡◌, ◌<◌, ℕ, Some, slice_get}
-use Rattle.shr_base.specs.declared.ends.WorkerPart.{WorkerPart}
-use Rattle.shr_audit_scans.specs.Walks.{AreLawful}
+use Rattle.shr_audit_scans.proofs.Common.{◌≡◌, ◌<◌, ℕ, Some, slice_get, WorkerPart, AreLawful}
 use Rattle.shr_audit_scans.proofs.walks.are_walks_each.Given as goal
 
 abbrev pub invariant-loop-worker : goal.invariant-loop-worker

@@ -1,5 +1,4 @@
-use Rattle.std.specs.Bool.{Decides}
-use Rattle.shr_audit_walks.specs.Fields.{IsShaped}
+use Rattle.shr_audit_scans.proofs.Common.{Decides, IsShaped}
 use Rattle.shr_audit_scans.proofs.LawfulLaw.{lawful_if, not_counts, not_kinds, not_shaped, not_stops}
 use Rattle.shr_audit_scans.proofs.walks.is_lawful_walk.Goals as goal
 

@@ -1,7 +1,4 @@
-use Rattle.std.proofs.Common.{◌≡◌, ◌+◌, ◌++◌, ◌∷◌, [], true, false, length, sym, subst, ◌∙◌, arith}
-use Rattle.std.specs.Prelude.{filter}
-use Rattle.shr_model.specs.Commands.{is_put}
-use Rattle.shr_audit_spent.specs.Counted.{IsCapped}
+use Rattle.shr_audit_spent.proofs.Common.{◌≡◌, ◌+◌, ◌++◌, ◌∷◌, [], true, false, length, sym, subst, ◌∙◌, arith, filter, is_put, IsCapped}
 use Rattle.shr_audit_spent.proofs.Counting.{filter_one}
 use Rattle.shr_audit_spent.proofs.counted.add_put.Goals as goal
 

@@ -1,9 +1,4 @@
-use Rattle.std.proofs.Common.{◌≡◌, ◌+◌, List, [], ◌∷◌, ◌++◌, length, take, sym, ap, subst, ◌∙◌, arith}
-use Rattle.std.specs.Prelude.{filter}
-use Rattle.std.proofs.lemmas.List.{take_more, take_all}
-use Rattle.shr_base.specs.declared.scripts.Command.{Command}
-use Rattle.shr_model.specs.Commands.{is_put}
-use Rattle.shr_audit_spent.specs.Counted.{IsCapped}
+use Rattle.shr_audit_spent.proofs.Common.{◌≡◌, ◌+◌, List, [], ◌∷◌, ◌++◌, length, take, sym, ap, subst, ◌∙◌, arith, filter, take_more, take_all, Command, is_put, IsCapped}
 use Rattle.shr_audit_spent.proofs.counted.add_puts.Goals as goal
 
 pub loop-command-init : goal.loop-command-init

@@ -1,7 +1,4 @@
-use Rattle.std.proofs.Common.{ℕ, ◌+◌, length, take}
-use Rattle.std.specs.Prelude.{filter}
-use Rattle.shr_model.specs.Commands.{is_put}
-use Rattle.shr_audit_spent.specs.Counted.{IsCapped}
+use Rattle.shr_audit_spent.proofs.Common.{ℕ, ◌+◌, length, take, filter, is_put, IsCapped}
 use Rattle.shr_audit_spent.proofs.counted.add_puts.Given as goal
 
 abbrev pub invariant-loop-command : goal.invariant-loop-command

@@ -1,10 +1,5 @@
-use Rattle.std.proofs.Common.{ℕ, ◌+◌, List, length, sym, subst, ap, ◌∙◌}
-use Rattle.std.specs.Prelude.{filter, sum_by}
+use Rattle.shr_audit_spent.proofs.Common.{ℕ, ◌+◌, List, length, sym, subst, ap, ◌∙◌, filter, sum_by, Command, WorkerScript, is_put, IsCapped}
 use Rattle.std.proofs.lemmas.List.Sums.{sum_by_push}
-use Rattle.shr_base.specs.declared.scripts.Command.{Command}
-use Rattle.shr_base.specs.declared.scripts.WorkerScript.{WorkerScript}
-use Rattle.shr_model.specs.Commands.{is_put}
-use Rattle.shr_audit_spent.specs.Counted.{IsCapped}
 use Rattle.shr_audit_spent.proofs.counted.add_worker.Goals as goal
 
 abbrev puts_in : WorkerScript → ℕ

@@ -1,5 +1,4 @@
-use Rattle.std.proofs.Common.{◌≡◌, take}
-use Rattle.shr_audit_spent.specs.Counted.{closed_of}
+use Rattle.shr_audit_spent.proofs.Common.{◌≡◌, take, closed_of}
 use Rattle.shr_audit_spent.proofs.counted.closed_of.Given as goal
 
 abbrev pub invariant-loop-end : goal.invariant-loop-end

@@ -1,9 +1,4 @@
-use Rattle.std.proofs.Common.{ℕ, ◌≤◌, List, [], ◌∷◌, ◌++◌, ap, ◌∙◌, length, take, sym, subst, refl, arith}
-use Rattle.std.specs.Prelude.{filter, sum_by}
-use Rattle.std.proofs.lemmas.List.{take_more, take_all}
-use Rattle.shr_base.specs.declared.scripts.WorkerScript.{WorkerScript}
-use Rattle.shr_model.specs.Commands.{is_put}
-use Rattle.shr_audit_spent.specs.Counted.{IsCapped}
+use Rattle.shr_audit_spent.proofs.Common.{ℕ, ◌≤◌, List, [], ◌∷◌, ◌++◌, ap, ◌∙◌, length, take, sym, subst, refl, arith, filter, sum_by, take_more, take_all, WorkerScript, is_put, IsCapped}
 use Rattle.shr_audit_spent.proofs.counted.count_puts.Goals as goal
 
 abbrev puts_in : WorkerScript → ℕ

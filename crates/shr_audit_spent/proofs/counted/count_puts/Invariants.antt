@@ -1,8 +1,4 @@
-use Rattle.std.proofs.Common.{length, take}
-use Rattle.std.specs.Prelude.{filter, sum_by}
-use Rattle.shr_base.specs.declared.scripts.WorkerScript.{WorkerScript}
-use Rattle.shr_model.specs.Commands.{is_put}
-use Rattle.shr_audit_spent.specs.Counted.{IsCapped}
+use Rattle.shr_audit_spent.proofs.Common.{length, take, filter, sum_by, WorkerScript, is_put, IsCapped}
 use Rattle.shr_audit_spent.proofs.counted.count_puts.Given as goal
 
 abbrev pub invariant-loop-worker : goal.invariant-loop-worker

@@ -1,7 +1,4 @@
-use Rattle.std.proofs.Common.{List, take, sym, subst, ◌∙◌}
-use Rattle.std.proofs.lemmas.List.{take_more, take_all}
-use Rattle.shr_base.specs.declared.journals.UseStep.{UseStep}
-use Rattle.shr_audit_spent.specs.Counted.{AreCounted}
+use Rattle.shr_audit_spent.proofs.Common.{List, take, sym, subst, ◌∙◌, take_more, take_all, UseStep, AreCounted}
 use Rattle.shr_audit_spent.proofs.Counting.{none_counted}
 use Rattle.shr_audit_spent.proofs.counted.count_steps.Goals as goal
 

@@ -1,5 +1,4 @@
-use Rattle.std.proofs.Common.{◌≡◌, length, take}
-use Rattle.shr_audit_spent.specs.Counted.{AreCounted}
+use Rattle.shr_audit_spent.proofs.Common.{◌≡◌, length, take, AreCounted}
 use Rattle.shr_audit_spent.proofs.counted.count_steps.Given as goal
 
 abbrev pub invariant-loop-step : goal.invariant-loop-step

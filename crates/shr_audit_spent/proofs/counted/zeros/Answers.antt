@@ -1,5 +1,4 @@
-use Rattle.std.proofs.Common.{◌≡◌, ℕ, ◌+◌, List, [], ◌∷◌, length, length-append, get_or, sym, ap, subst, ◌∙◌, arith}
-use Rattle.shr_audit_spent.proofs.Counting.{zero_more}
+use Rattle.shr_audit_spent.proofs.Common.{◌≡◌, ℕ, ◌+◌, List, [], ◌∷◌, length, length-append, get_or, sym, ap, subst, ◌∙◌, arith, zero_more}
 use Rattle.shr_audit_spent.proofs.counted.zeros.Goals as goal
 
 pub loop-i-preserved : goal.loop-i-preserved

@@ -1,14 +1,5 @@
-use Rattle.std.proofs.Common.{◌≡◌, ℕ, List, Some, slice_get, length, refl, subst, sym}
-use Rattle.std.specs.Bool.{Decides}
-use Rattle.std.proofs.lemmas.Option.{slice_get_read}
-use Rattle.shr_base.specs.declared.ends.WorkerPart.{WorkerPart}
-use Rattle.shr_base.specs.declared.scripts.Script.{Script}
-use Rattle.shr_base.specs.declared.walks.WalkRecord.{WalkRecord}
-use Rattle.shr_formed.specs.Each.{Each}
-use Rattle.shr_formed.proofs.Eachs.{all_at, fails, more_at}
-use Rattle.shr_report.specs.declared.report.Report.{Report}
-use Rattle.shr_report.specs.Parts.{EachAttempt}
-use Rattle.shr_audit_spent.specs.Passes.{IsRunCaused}
+use Rattle.shr_audit_spent.proofs.Common.{◌≡◌, ℕ, List, Some, slice_get, length, refl, subst, sym, Decides, slice_get_read, WorkerPart, Script, WalkRecord, Each, fails, Report, EachAttempt, IsRunCaused}
+use Rattle.shr_formed.proofs.Eachs.{all_at, more_at}
 use Rattle.shr_audit_spent.proofs.passes.are_parts_caused.Goals as goal
 
 abbrev walks : Script → Report → ℕ → List WalkRecord → Type 0

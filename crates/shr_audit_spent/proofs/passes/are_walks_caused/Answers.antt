@@ -1,12 +1,4 @@
-use Rattle.std.proofs.Common.{ℕ, length, refl}
-use Rattle.std.proofs.lemmas.Option.{slice_get_read}
-use Rattle.shr_base.specs.declared.scripts.Script.{Script}
-use Rattle.shr_base.specs.declared.walks.WalkRecord.{WalkRecord}
-use Rattle.shr_formed.specs.Each.{Each}
-use Rattle.shr_formed.proofs.Eachs.{each_all, each_more, fails}
-use Rattle.shr_report.specs.declared.report.Report.{Report}
-use Rattle.shr_report.specs.Parts.{EachAttempt}
-use Rattle.shr_audit_spent.specs.Passes.{IsRunCaused}
+use Rattle.shr_audit_spent.proofs.Common.{ℕ, length, refl, slice_get_read, Script, WalkRecord, Each, each_all, each_more, fails, Report, EachAttempt, IsRunCaused}
 use Rattle.shr_audit_spent.proofs.passes.are_walks_caused.Goals as goal
 
 abbrev caused : Script → Report → ℕ → WalkRecord → Type 0

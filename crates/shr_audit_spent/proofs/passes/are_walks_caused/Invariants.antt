@@ -1,7 +1,4 @@
-use Rattle.std.proofs.Common.{◌≡◌, ◌<◌, ℕ, Some, slice_get}
-use Rattle.shr_base.specs.declared.walks.WalkRecord.{WalkRecord}
-use Rattle.shr_report.specs.Parts.{EachAttempt}
-use Rattle.shr_audit_spent.specs.Passes.{IsRunCaused}
+use Rattle.shr_audit_spent.proofs.Common.{◌≡◌, ◌<◌, ℕ, Some, slice_get, WalkRecord, EachAttempt, IsRunCaused}
 use Rattle.shr_audit_spent.proofs.passes.are_walks_caused.Given as goal
 
 abbrev pub invariant-loop-walk : goal.invariant-loop-walk

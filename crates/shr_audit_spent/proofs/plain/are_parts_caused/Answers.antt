@@ -1,14 +1,4 @@
-use Rattle.std.proofs.Common.{◌≡◌, ℕ, List, Some, slice_get, length, refl, subst}
-use Rattle.std.specs.Bool.{Decides}
-use Rattle.std.proofs.lemmas.Option.{slice_get_read}
-use Rattle.shr_base.specs.declared.ends.WorkerPart.{WorkerPart}
-use Rattle.shr_base.specs.declared.scripts.Script.{Script}
-use Rattle.shr_base.specs.declared.walks.PlainTry.{PlainTry}
-use Rattle.shr_base.specs.declared.walks.PlainWalk.{PlainWalk}
-use Rattle.shr_formed.specs.Each.{Each}
-use Rattle.shr_formed.proofs.Eachs.{each_all, each_more, fails}
-use Rattle.shr_report.specs.declared.report.Report.{Report}
-use Rattle.shr_audit_spent.specs.Passes.{IsTryCaused}
+use Rattle.shr_audit_spent.proofs.Common.{◌≡◌, ℕ, List, Some, slice_get, length, refl, subst, Decides, slice_get_read, WorkerPart, Script, PlainTry, PlainWalk, Each, each_all, each_more, fails, Report, IsTryCaused}
 use Rattle.shr_audit_spent.proofs.plain.are_parts_caused.Goals as goal
 
 abbrev walks : Script → Report → List PlainWalk → Type 0

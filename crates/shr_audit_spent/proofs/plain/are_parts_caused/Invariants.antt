@@ -1,8 +1,4 @@
-use Rattle.std.proofs.Common.{◌≡◌, ◌<◌, ℕ, Some, slice_get}
-use Rattle.shr_base.specs.declared.ends.WorkerPart.{WorkerPart}
-use Rattle.shr_base.specs.declared.walks.PlainTry.{PlainTry}
-use Rattle.shr_formed.specs.Each.{Each}
-use Rattle.shr_audit_spent.specs.Passes.{IsTryCaused}
+use Rattle.shr_audit_spent.proofs.Common.{◌≡◌, ◌<◌, ℕ, Some, slice_get, WorkerPart, PlainTry, Each, IsTryCaused}
 use Rattle.shr_audit_spent.proofs.plain.are_parts_caused.Given as goal
 
 abbrev pub invariant-loop-part : goal.invariant-loop-part

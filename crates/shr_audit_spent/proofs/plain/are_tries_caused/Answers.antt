@@ -1,10 +1,5 @@
-use Rattle.std.proofs.Common.{◌≡◌, ℕ, List, Some, slice_get, subst}
-use Rattle.std.specs.Bool.{Decides}
-use Rattle.shr_base.specs.declared.ends.WorkerPart.{WorkerPart}
-use Rattle.shr_base.specs.declared.walks.PlainTry.{PlainTry}
-use Rattle.shr_formed.specs.Each.{Each}
+use Rattle.shr_audit_spent.proofs.Common.{◌≡◌, ℕ, List, Some, slice_get, subst, Decides, WorkerPart, PlainTry, Each, IsTryCaused, IsTrySpent}
 use Rattle.shr_report.specs.UnitParts.{EachTry}
-use Rattle.shr_audit_spent.specs.Passes.{IsTryCaused, IsTrySpent}
 use Rattle.shr_audit_spent.proofs.Finding.{each_plain_of}
 use Rattle.shr_audit_spent.proofs.plain.are_tries_caused.Goals as goal
 

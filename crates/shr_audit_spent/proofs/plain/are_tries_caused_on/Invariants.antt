@@ -1,6 +1,4 @@
-use Rattle.std.proofs.Common.{◌≡◌, ◌<◌, ℕ, Some, slice_get}
-use Rattle.shr_base.specs.declared.walks.PlainTry.{PlainTry}
-use Rattle.shr_audit_spent.specs.Passes.{IsTryCaused}
+use Rattle.shr_audit_spent.proofs.Common.{◌≡◌, ◌<◌, ℕ, Some, slice_get, PlainTry, IsTryCaused}
 use Rattle.shr_audit_spent.proofs.plain.are_tries_caused_on.Given as goal
 
 abbrev pub invariant-loop-pool : goal.invariant-loop-pool

@@ -1,7 +1,4 @@
-use Rattle.std.proofs.Common.{◌≡◌, ◌<◌, ℕ, Some, slice_get}
-use Rattle.shr_base.specs.declared.walks.PlainTry.{PlainTry}
-use Rattle.shr_base.specs.declared.walks.PlainWalk.{PlainWalk}
-use Rattle.shr_audit_spent.specs.Passes.{IsTryCaused}
+use Rattle.shr_audit_spent.proofs.Common.{◌≡◌, ◌<◌, ℕ, Some, slice_get, PlainTry, PlainWalk, IsTryCaused}
 use Rattle.shr_audit_spent.proofs.plain.are_walks_caused.Given as goal
 
 abbrev pub invariant-loop-walk : goal.invariant-loop-walk

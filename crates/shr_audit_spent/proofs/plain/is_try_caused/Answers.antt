@@ -1,5 +1,4 @@
-use Rattle.shr_report.specs.UnitParts.{pool_place}
-use Rattle.shr_audit_spent.specs.Passes.{IsTrySpent}
+use Rattle.shr_audit_spent.proofs.Common.{pool_place, IsTrySpent}
 use Rattle.shr_audit_spent.proofs.Finding.{at_some}
 use Rattle.shr_audit_spent.proofs.plain.is_try_caused.Goals as goal
 

@@ -1,7 +1,6 @@
-use Rattle.std.proofs.Common.{ap, sym}
+use Rattle.shr_audit_spent.proofs.Common.{ap, sym, pool_place, IsEndSpent}
 use Rattle.shr_base.specs.declared.walks.PassRecord.{PassRecord}
-use Rattle.shr_report.specs.UnitParts.{pass_in, pool_place}
-use Rattle.shr_audit_spent.specs.Passes.{IsEndSpent}
+use Rattle.shr_report.specs.UnitParts.{pass_in}
 use Rattle.shr_audit_spent.proofs.Finding.{at_some}
 use Rattle.shr_audit_spent.proofs.plain.is_try_spent.Goals as goal
 

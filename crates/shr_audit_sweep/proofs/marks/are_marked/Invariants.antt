@@ -1,5 +1,4 @@
-use Rattle.std.proofs.Common.{◌<◌, ℕ}
-use Rattle.shr_audit_sweep.specs.Marks.{IsGroupMarked}
+use Rattle.shr_audit_sweep.proofs.Common.{◌<◌, ℕ, IsGroupMarked}
 use Rattle.shr_audit_sweep.proofs.marks.are_marked.Given as goal
 
 abbrev pub invariant-loop-group : goal.invariant-loop-group

@@ -1,5 +1,4 @@
-use Rattle.std.proofs.Common.{◌≡◌, ◌<◌, ℕ, true, false, get_or}
-use Rattle.shr_audit_sweep.specs.Marks.{job_index}
+use Rattle.shr_audit_sweep.proofs.Common.{◌≡◌, ◌<◌, ℕ, true, false, get_or, job_index}
 use Rattle.shr_audit_sweep.proofs.marks.is_group_marked.Given as goal
 
 abbrev pub invariant-loop-node : goal.invariant-loop-node

@@ -1,6 +1,4 @@
-use Rattle.std.proofs.Common.{length}
-use Rattle.shr_report.specs.Parts.{parents_of}
-use Rattle.shr_audit_sweep.specs.Marks.{AreMarked}
+use Rattle.shr_audit_sweep.proofs.Common.{length, parents_of, AreMarked}
 use Rattle.shr_audit_sweep.proofs.Marking.{swept_to}
 use Rattle.shr_audit_sweep.proofs.marks.mark_all.Given as goal
 

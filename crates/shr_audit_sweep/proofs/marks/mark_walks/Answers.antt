@@ -1,6 +1,4 @@
-use Rattle.std.proofs.Common.{length, ap, refl, ◌∙◌}
-use Rattle.std.proofs.lemmas.List.{length-set}
-use Rattle.shr_audit_sweep.specs.Marks.{job_index}
+use Rattle.shr_audit_sweep.proofs.Common.{length, ap, refl, ◌∙◌, length-set, job_index}
 use Rattle.shr_audit_sweep.proofs.Marking.{in_marks, walks_all, walks_more, walks_twice, within_at}
 use Rattle.shr_audit_sweep.proofs.marks.mark_walks.Goals as goal
 

@@ -1,6 +1,4 @@
-use Rattle.std.proofs.Common.{◌≡◌, ◌*◌, ◌++◌, List, length, take}
-use Rattle.shr_base.specs.declared.walks.WalkRecord.{WalkRecord}
-use Rattle.shr_audit_sweep.specs.Marks.{AreMarked}
+use Rattle.shr_audit_sweep.proofs.Common.{◌≡◌, ◌*◌, ◌++◌, List, length, take, WalkRecord, AreMarked}
 use Rattle.shr_audit_sweep.proofs.marks.mark_walks.Given as goal
 
 abbrev pub invariant-loop-walk : goal.invariant-loop-walk

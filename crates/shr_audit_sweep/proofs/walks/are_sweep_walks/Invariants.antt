@@ -1,6 +1,4 @@
-use Rattle.std.proofs.Common.{◌≡◌, ◌<◌, ℕ, Some, slice_get}
-use Rattle.shr_base.specs.declared.walks.WalkRecord.{WalkRecord}
-use Rattle.shr_report.specs.Swept.{IsSweepWalk}
+use Rattle.shr_audit_sweep.proofs.Common.{◌≡◌, ◌<◌, ℕ, Some, slice_get, WalkRecord, IsSweepWalk}
 use Rattle.shr_audit_sweep.proofs.walks.are_sweep_walks.Given as goal
 
 abbrev pub invariant-loop-walk : goal.invariant-loop-walk

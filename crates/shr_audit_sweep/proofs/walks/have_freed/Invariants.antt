@@ -1,5 +1,4 @@
-use Rattle.std.proofs.Common.{◌≡◌, ◌+◌, sum_by, take}
-use Rattle.shr_base.specs.declared.walks.WalkRecord.{WalkRecord}
+use Rattle.shr_audit_sweep.proofs.Common.{◌≡◌, ◌+◌, sum_by, take, WalkRecord}
 use Rattle.shr_model.specs.Walks.{freed_told}
 use Rattle.shr_audit_sweep.proofs.walks.have_freed.Given as goal
 

@@ -1,6 +1,4 @@
-use Rattle.std.proofs.Common.{List, ap, subst, sym, ◌∙◌}
-use Rattle.shr_base.specs.declared.ends.WorkerPart.{WorkerPart}
-use Rattle.shr_base.specs.declared.walks.WalkRecord.{WalkRecord}
+use Rattle.shr_audit_sweep.proofs.Common.{List, ap, subst, sym, ◌∙◌, WorkerPart, WalkRecord}
 use Rattle.shr_audit_walks.specs.Commands.{StandByCommand}
 use Rattle.shr_audit_sweep.proofs.Sweeping.{swept_are, swept_stand}
 use Rattle.shr_audit_sweep.proofs.walks.sweep_walks.Goals as goal

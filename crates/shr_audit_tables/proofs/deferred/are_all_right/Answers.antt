@@ -1,10 +1,4 @@
-use Rattle.std.proofs.Common.{length}
-use Rattle.std.proofs.lemmas.Option.{slice_get_read}
-use Rattle.std.proofs.Common.{refl}
-use Rattle.shr_base.specs.declared.ends.WorkerPart.{WorkerPart}
-use Rattle.shr_report.specs.Deferred.{IsCarryRight}
-use Rattle.shr_formed.specs.Each.{Each}
-use Rattle.shr_formed.proofs.Eachs.{each_more, each_all}
+use Rattle.shr_audit_tables.proofs.Common.{length, slice_get_read, refl, WorkerPart, IsCarryRight, Each, each_more, each_all}
 use Rattle.shr_audit_tables.proofs.Steps.{along, failed}
 use Rattle.shr_audit_tables.proofs.deferred.are_all_right.Goals as goal
 

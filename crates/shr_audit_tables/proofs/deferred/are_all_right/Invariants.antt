@@ -1,7 +1,4 @@
-use Rattle.std.proofs.Common.{◌≡◌, ◌<◌, ℕ, Some, slice_get}
-use Rattle.shr_base.specs.declared.ends.WorkerPart.{WorkerPart}
-use Rattle.shr_report.specs.Deferred.{IsCarryRight}
-use Rattle.shr_formed.specs.Each.{Each}
+use Rattle.shr_audit_tables.proofs.Common.{◌≡◌, ◌<◌, ℕ, Some, slice_get, WorkerPart, IsCarryRight, Each}
 use Rattle.shr_audit_tables.proofs.deferred.are_all_right.Given as goal
 
 abbrev pub invariant-loop-part : goal.invariant-loop-part

@@ -1,5 +1,4 @@
-use Rattle.shr_report.specs.Deferred.{IsCarryRight}
-use Rattle.shr_formed.proofs.Eachs.{each_all}
+use Rattle.shr_audit_tables.proofs.Common.{IsCarryRight, each_all}
 use Rattle.shr_audit_tables.proofs.Steps.{each_copied}
 use Rattle.shr_audit_tables.proofs.deferred.are_carries_right.Goals as goal
 

@@ -1,6 +1,4 @@
-use Rattle.std.proofs.Common.{◌≡◌, ◌<◌, ℕ, Some, slice_get}
-use Rattle.shr_base.specs.declared.walks.Carry.{Carry}
-use Rattle.shr_report.specs.Deferred.{IsCarryRight}
+use Rattle.shr_audit_tables.proofs.Common.{◌≡◌, ◌<◌, ℕ, Some, slice_get, Carry, IsCarryRight}
 use Rattle.shr_audit_tables.proofs.deferred.are_carries_right.Given as goal
 
 abbrev pub invariant-loop-carry : goal.invariant-loop-carry

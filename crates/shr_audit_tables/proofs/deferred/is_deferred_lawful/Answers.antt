@@ -1,6 +1,4 @@
-use Rattle.shr_base.specs.declared.ends.WorkerPart.{WorkerPart}
-use Rattle.shr_report.specs.Deferred.{IsCarryRight}
-use Rattle.shr_formed.specs.Each.{Each}
+use Rattle.shr_audit_tables.proofs.Common.{WorkerPart, IsCarryRight, Each}
 use Rattle.shr_audit_tables.proofs.Steps.{along, failed}
 use Rattle.shr_audit_tables.proofs.Carried.{deferred_of, carries_of_law, words_of_law}
 use Rattle.shr_audit_tables.proofs.deferred.is_deferred_lawful.Goals as goal

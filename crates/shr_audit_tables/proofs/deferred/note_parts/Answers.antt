@@ -1,8 +1,4 @@
-use Rattle.std.proofs.Common.{take}
-use Rattle.std.specs.Prelude.{sum_by}
-use Rattle.shr_base.specs.declared.ends.WorkerPart.{WorkerPart}
-use Rattle.shr_sums.proofs.Gaining.{gains_more}
-use Rattle.shr_audit_tables.specs.Deferred.{given_by, taken_by}
+use Rattle.shr_audit_tables.proofs.Common.{take, sum_by, WorkerPart, gains_more, given_by, taken_by}
 use Rattle.shr_audit_tables.proofs.Steps.{sum_item}
 use Rattle.shr_audit_tables.proofs.deferred.note_parts.Goals as goal
 

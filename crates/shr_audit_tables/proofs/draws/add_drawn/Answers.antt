@@ -1,5 +1,5 @@
-use Rattle.shr_audit_tables.specs.Draws.{drawn}
-use Rattle.shr_audit_tables.proofs.Rows.{map_step, map_end}
+use Rattle.shr_audit_tables.proofs.Common.{drawn, map_end}
+use Rattle.shr_audit_tables.proofs.Rows.{map_step}
 use Rattle.shr_audit_tables.proofs.draws.add_drawn.Goals as goal
 
 pub loop-key-preserved : goal.loop-key-preserved

@@ -1,5 +1,4 @@
-use Rattle.std.proofs.Common.{◌≡◌, ◌++◌, map, take}
-use Rattle.shr_audit_tables.specs.Draws.{drawn}
+use Rattle.shr_audit_tables.proofs.Common.{◌≡◌, ◌++◌, map, take, drawn}
 use Rattle.shr_audit_tables.proofs.draws.add_drawn.Given as goal
 
 abbrev pub invariant-loop-key : goal.invariant-loop-key

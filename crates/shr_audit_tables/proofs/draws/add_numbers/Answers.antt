@@ -1,5 +1,4 @@
-use Rattle.std.proofs.Common.{◌++◌, ◌∷◌, [], ap, ◌∙◌}
-use Rattle.shr_audit_tables.specs.Draws.{draw_key, wanted}
+use Rattle.shr_audit_tables.proofs.Common.{◌++◌, ◌∷◌, [], ap, ◌∙◌, draw_key, wanted}
 use Rattle.shr_audit_tables.proofs.Rows.{range_step}
 use Rattle.shr_audit_tables.proofs.draws.add_numbers.Goals as goal
 

@@ -1,6 +1,4 @@
-use Rattle.std.proofs.Common.{◌≡◌, ◌++◌, map}
-use Rattle.std.specs.List.{range_with_len}
-use Rattle.shr_audit_tables.specs.Draws.{draw_key, wanted}
+use Rattle.shr_audit_tables.proofs.Common.{◌≡◌, ◌++◌, map, range_with_len, draw_key, wanted}
 use Rattle.shr_audit_tables.proofs.draws.add_numbers.Given as goal
 
 abbrev pub invariant-loop-number : goal.invariant-loop-number

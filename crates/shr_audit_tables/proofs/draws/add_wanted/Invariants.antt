@@ -1,5 +1,4 @@
-use Rattle.std.proofs.Common.{◌≡◌, ◌++◌, take}
-use Rattle.shr_audit_tables.specs.Draws.{wanted_from}
+use Rattle.shr_audit_tables.proofs.Common.{◌≡◌, ◌++◌, take, wanted_from}
 use Rattle.shr_audit_tables.proofs.draws.add_wanted.Given as goal
 
 abbrev pub invariant-loop-id : goal.invariant-loop-id

@@ -1,8 +1,4 @@
-use Rattle.std.proofs.Common.{◌<◌, ◌^◌, ℕ, ◌++◌, List, ap, subst, sym, ◌∙◌}
-use Rattle.std.specs.Prelude.{flat_map}
-use Rattle.shr_formed.specs.Each.{Each}
-use Rattle.shr_formed.proofs.Eachs.{each_in}
-use Rattle.shr_audit_tables.specs.Draws.{part_draws}
+use Rattle.shr_audit_tables.proofs.Common.{◌<◌, ◌^◌, ℕ, ◌++◌, List, ap, subst, sym, ◌∙◌, flat_map, Each, each_in, part_draws}
 use Rattle.shr_audit_tables.proofs.DrawnParts.{drawn_of}
 use Rattle.shr_audit_tables.proofs.draws.is_drawn.Goals as goal
 

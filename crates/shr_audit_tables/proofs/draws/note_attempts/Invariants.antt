@@ -1,6 +1,4 @@
-use Rattle.std.proofs.Common.{◌≡◌, ◌++◌, take}
-use Rattle.std.specs.Prelude.{flat_map}
-use Rattle.shr_audit_tables.specs.Draws.{attempt_draws}
+use Rattle.shr_audit_tables.proofs.Common.{◌≡◌, ◌++◌, take, flat_map, attempt_draws}
 use Rattle.shr_audit_tables.proofs.draws.note_attempts.Given as goal
 
 abbrev pub invariant-loop-attempt : goal.invariant-loop-attempt

@@ -1,9 +1,4 @@
-use Rattle.std.proofs.Common.{◌++◌, List, ap, ◌∙◌}
-use Rattle.std.specs.Prelude.{flat_map}
-use Rattle.std.proofs.lemmas.List.{append_assoc}
-use Rattle.shr_base.specs.declared.replies.Answered.{Answered}
-use Rattle.shr_base.specs.declared.walks.WalkRecord.{WalkRecord}
-use Rattle.shr_audit_tables.specs.Draws.{answer_draws, walk_draws}
+use Rattle.shr_audit_tables.proofs.Common.{◌++◌, List, ap, ◌∙◌, flat_map, append_assoc, Answered, WalkRecord, answer_draws, walk_draws}
 use Rattle.shr_audit_tables.proofs.draws.note_part.Goals as goal
 
 pub returns : goal.returns

@@ -1,8 +1,5 @@
-use Rattle.std.proofs.Common.{◌++◌, List, ap, ◌∙◌}
-use Rattle.std.specs.Prelude.{flat_map}
-use Rattle.shr_base.specs.declared.walks.Attempt.{Attempt}
-use Rattle.shr_audit_tables.specs.Draws.{attempt_draws, walk_draws}
-use Rattle.shr_audit_tables.proofs.Rows.{flat_step, flat_end}
+use Rattle.shr_audit_tables.proofs.Common.{◌++◌, List, ap, ◌∙◌, flat_map, Attempt, attempt_draws, walk_draws, flat_all}
+use Rattle.shr_audit_tables.proofs.Rows.{flat_step}
 use Rattle.shr_audit_tables.proofs.draws.note_walks.Goals as goal
 
 pub loop-walk-preserved : goal.loop-walk-preserved
@@ -11,4 +8,4 @@ loop-walk-preserved c =
     flat_step walk_draws c.args.walks.now c.loop-walk.walk-index c.walk-item.result c.args.keys.now.items c.loop-walk.keys.items c.note_attempts.new.keys.items c.loop-walk-test.true c.walk-item.is c.loop-walk.invariant added
 
 pub returns : goal.returns
-returns c = flat_end walk_draws c.args.walks.now c.loop-walk.walk-index c.args.keys.now.items c.loop-walk.keys.items c.loop-walk-test.false c.loop-walk.invariant
+returns c = flat_all walk_draws c.args.walks.now c.loop-walk.walk-index c.args.keys.now.items c.loop-walk.keys.items c.loop-walk-test.false c.loop-walk.invariant

@@ -1,6 +1,4 @@
-use Rattle.std.proofs.Common.{◌≡◌, ◌++◌, take}
-use Rattle.std.specs.Prelude.{flat_map}
-use Rattle.shr_audit_tables.specs.Draws.{walk_draws}
+use Rattle.shr_audit_tables.proofs.Common.{◌≡◌, ◌++◌, take, flat_map, walk_draws}
 use Rattle.shr_audit_tables.proofs.draws.note_walks.Given as goal
 
 abbrev pub invariant-loop-walk : goal.invariant-loop-walk

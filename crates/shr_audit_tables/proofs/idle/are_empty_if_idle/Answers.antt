@@ -1,8 +1,4 @@
-use Rattle.std.proofs.Common.{length, refl}
-use Rattle.std.proofs.lemmas.Option.{slice_get_read}
-use Rattle.shr_base.specs.declared.ends.PlaceEnd.{PlaceEnd}
-use Rattle.shr_audit_tables.specs.Idle.{IsEmptyIfIdle}
-use Rattle.shr_formed.proofs.Eachs.{each_more, each_all}
+use Rattle.shr_audit_tables.proofs.Common.{length, refl, slice_get_read, PlaceEnd, IsEmptyIfIdle, each_more, each_all}
 use Rattle.shr_audit_tables.proofs.Steps.{failed}
 use Rattle.shr_audit_tables.proofs.idle.are_empty_if_idle.Goals as goal
 

@@ -1,6 +1,4 @@
-use Rattle.std.proofs.Common.{◌≡◌, ◌<◌, ℕ, Some, slice_get}
-use Rattle.shr_base.specs.declared.ends.PlaceEnd.{PlaceEnd}
-use Rattle.shr_audit_tables.specs.Idle.{IsEmptyIfIdle}
+use Rattle.shr_audit_tables.proofs.Common.{◌≡◌, ◌<◌, ℕ, Some, slice_get, PlaceEnd, IsEmptyIfIdle}
 use Rattle.shr_audit_tables.proofs.idle.are_empty_if_idle.Given as goal
 
 abbrev pub invariant-loop-end : goal.invariant-loop-end

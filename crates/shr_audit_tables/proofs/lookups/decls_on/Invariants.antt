@@ -1,5 +1,4 @@
-use Rattle.std.proofs.Common.{◌≡◌, take}
-use Rattle.shr_audit_tables.specs.Lookups.{on_from}
+use Rattle.shr_audit_tables.proofs.Common.{◌≡◌, take, on_from}
 use Rattle.shr_audit_tables.proofs.lookups.decls_on.Given as goal
 
 abbrev pub invariant-loop-decl : goal.invariant-loop-decl

@@ -1,8 +1,5 @@
-use Rattle.std.proofs.Common.{ap, subst, ◌∙◌, arith}
+use Rattle.shr_audit_tables.proofs.Common.{ap, subst, ◌∙◌, arith, IsPoolJournal, AreStatesOf, on_from}
 use Rattle.std.proofs.lemmas.Option.{MatchOption-at_some}
-use Rattle.shr_model.specs.Pool.{IsPoolJournal}
-use Rattle.shr_audit_tables.specs.Registrations.{AreStatesOf}
-use Rattle.shr_audit_tables.specs.Lookups.{on_from}
 use Rattle.shr_audit_tables.proofs.Steps.{failed}
 use Rattle.shr_audit_tables.proofs.Replay.{opens_of, pool_of}
 use Rattle.shr_audit_tables.proofs.lookups.lawful_pool.Goals as goal

@@ -1,5 +1,4 @@
-use Rattle.std.proofs.Common.{◌≡◌, ℕ, Some, refl, slice_get}
-use Rattle.shr_base.specs.declared.journals.PoolEntry.TheVariants.{Registered}
+use Rattle.shr_audit_tables.proofs.Common.{◌≡◌, ℕ, Some, refl, slice_get, Registered}
 use Rattle.shr_audit_tables.proofs.Steps.{at_copied, failed}
 use Rattle.shr_audit_tables.proofs.Replay.{opening_at, opened_at, too_short, all_opened}
 use Rattle.shr_audit_tables.proofs.lookups.opens.Goals as goal

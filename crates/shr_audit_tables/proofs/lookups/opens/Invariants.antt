@@ -1,5 +1,4 @@
-use Rattle.std.proofs.Common.{◌≡◌, ◌<◌, ℕ, Some, slice_get}
-use Rattle.shr_base.specs.declared.journals.PoolEntry.TheVariants.{Registered}
+use Rattle.shr_audit_tables.proofs.Common.{◌≡◌, ◌<◌, ℕ, Some, slice_get, Registered}
 use Rattle.shr_audit_tables.proofs.lookups.opens.Given as goal
 
 abbrev pub invariant-loop-n : goal.invariant-loop-n

@@ -1,5 +1,4 @@
-use Rattle.std.proofs.Common.{◌≡◌, ◌%◌, ◌<◌, ◌≤◌, ℕ, Some, slice_get, slice_index}
-use Rattle.shr_audit_tables.specs.declared.registrations.IdState.{IdState}
+use Rattle.shr_audit_tables.proofs.Common.{◌≡◌, ◌%◌, ◌<◌, ◌≤◌, ℕ, Some, slice_get, slice_index, IdState}
 use Rattle.shr_audit_tables.proofs.registrations.are_last_reached.Given as goal
 
 abbrev pub invariant-loop-id : goal.invariant-loop-id

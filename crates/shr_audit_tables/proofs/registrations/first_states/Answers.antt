@@ -1,6 +1,4 @@
-use Rattle.std.proofs.Common.{◌+◌, List, subst, sym}
-use Rattle.shr_audit_tables.specs.declared.registrations.IdState.{IdState}
-use Rattle.shr_audit_tables.specs.Registrations.{AreFirst}
+use Rattle.shr_audit_tables.proofs.Common.{◌+◌, List, subst, sym, IdState, AreFirst}
 use Rattle.shr_audit_tables.proofs.Replay.{first_more}
 use Rattle.shr_audit_tables.proofs.registrations.first_states.Goals as goal
 

@@ -1,10 +1,5 @@
-use Rattle.std.proofs.Common.{List, subst}
-use Rattle.std.specs.Bool.{Decides}
-use Rattle.shr_base.specs.declared.ends.PlaceEnd.{PlaceEnd}
-use Rattle.shr_case.specs.Each.{EachFirst}
+use Rattle.shr_audit_unregisters.proofs.Common.{List, subst, Decides, PlaceEnd, EachFirst, Each, IsPlaced}
 use Rattle.shr_case.proofs.Eachs.{each_entry_of}
-use Rattle.shr_formed.specs.Each.{Each}
-use Rattle.shr_audit_unregisters.specs.Placed.{IsPlaced}
 use Rattle.shr_audit_unregisters.proofs.placed.are_drains_placed.Goals as goal
 
 pub returns : goal.returns

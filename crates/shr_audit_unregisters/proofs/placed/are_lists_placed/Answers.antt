@@ -1,15 +1,7 @@
-use Rattle.std.proofs.Common.{◌≡◌, ℕ, List, Some, slice_get, length, refl}
-use Rattle.std.specs.Bool.{Decides}
+use Rattle.shr_audit_unregisters.proofs.Common.{◌≡◌, ℕ, List, Some, slice_get, length, refl, Decides, PlaceEnd, EachFirst, IsFirst, Script, Each, Report, IsPlaced}
 use Rattle.std.proofs.lemmas.Option.{slice_get_read}
-use Rattle.shr_base.specs.declared.ends.PlaceEnd.{PlaceEnd}
-use Rattle.shr_case.specs.Each.{EachFirst}
-use Rattle.shr_case.specs.Places.{IsFirst}
-use Rattle.shr_base.specs.declared.scripts.Script.{Script}
-use Rattle.shr_formed.specs.Each.{Each}
 use Rattle.shr_formed.proofs.Eachs.{all_at, fails, more_at}
-use Rattle.shr_report.specs.declared.report.Report.{Report}
 use Rattle.shr_audit_replies.proofs.Deciding.{first_part}
-use Rattle.shr_audit_unregisters.specs.Placed.{IsPlaced}
 use Rattle.shr_audit_unregisters.proofs.placed.are_lists_placed.Goals as goal
 
 abbrev whole : Script → Report → PlaceEnd → Type 0

@@ -1,8 +1,4 @@
-use Rattle.std.proofs.Common.{◌≡◌, ◌<◌, ℕ, Some, slice_get}
-use Rattle.shr_base.specs.declared.ends.PlaceEnd.{PlaceEnd}
-use Rattle.shr_case.specs.Places.{IsFirst}
-use Rattle.shr_formed.specs.Each.{Each}
-use Rattle.shr_audit_unregisters.specs.Placed.{IsPlaced}
+use Rattle.shr_audit_unregisters.proofs.Common.{◌≡◌, ◌<◌, ℕ, Some, slice_get, PlaceEnd, IsFirst, Each, IsPlaced}
 use Rattle.shr_audit_unregisters.proofs.placed.are_lists_placed.Given as goal
 
 abbrev pub invariant-loop-k : goal.invariant-loop-k

@@ -1,6 +1,4 @@
-use Rattle.std.proofs.Common.{◌≡◌, ◌<◌, ℕ, Some, slice_get}
-use Rattle.shr_base.specs.declared.journals.Entry.{Entry}
-use Rattle.shr_audit_unregisters.specs.Placed.{IsPlaced}
+use Rattle.shr_audit_unregisters.proofs.Common.{◌≡◌, ◌<◌, ℕ, Some, slice_get, Entry, IsPlaced}
 use Rattle.shr_audit_unregisters.proofs.placed.are_placed.Given as goal
 
 abbrev pub invariant-loop-entry : goal.invariant-loop-entry

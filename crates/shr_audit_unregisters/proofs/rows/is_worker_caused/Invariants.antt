@@ -1,5 +1,4 @@
-use Rattle.std.proofs.Common.{ℕ, ◌<◌}
-use Rattle.shr_audit_unregisters.specs.Rows.{IsCausedAt}
+use Rattle.shr_audit_unregisters.proofs.Common.{ℕ, ◌<◌, IsCausedAt}
 use Rattle.shr_audit_unregisters.proofs.rows.is_worker_caused.Given as goal
 
 abbrev pub invariant-loop-number : goal.invariant-loop-number

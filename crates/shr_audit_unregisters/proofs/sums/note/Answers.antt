@@ -1,8 +1,4 @@
-use Rattle.std.proofs.Common.{◌+◌, ◌*◌, subst, sym}
-use Rattle.shr_base.specs.declared.journals.Entry.{Entry}
-use Rattle.shr_base.specs.declared.places.Serial.{Serial}
-use Rattle.shr_report.specs.Causes.{drained_by}
-use Rattle.shr_audit_unregisters.specs.Sums.{AreSums}
+use Rattle.shr_audit_unregisters.proofs.Common.{◌+◌, ◌*◌, subst, sym, Entry, Serial, drained_by, AreSums}
 use Rattle.shr_audit_unregisters.proofs.SumsLaws.{noted_drained}
 use Rattle.shr_audit_unregisters.proofs.sums.note.Goals as goal
 

@@ -1,7 +1,4 @@
-use Rattle.std.proofs.Common.{◌+◌, ◌*◌, take}
-use Rattle.std.specs.Prelude.{sum_by}
-use Rattle.shr_base.specs.declared.places.Serial.{Serial}
-use Rattle.shr_report.specs.Causes.{drained_by}
+use Rattle.shr_audit_unregisters.proofs.Common.{◌+◌, ◌*◌, take, sum_by, Serial, drained_by}
 use Rattle.shr_audit_unregisters.proofs.SumsLaws.{entries_more}
 use Rattle.shr_audit_unregisters.proofs.sums.note_all.Goals as goal
 

@@ -1,8 +1,4 @@
-use Rattle.std.proofs.Common.{◌+◌, ◌*◌, ℕ, take}
-use Rattle.std.specs.Prelude.{sum_by}
-use Rattle.shr_base.specs.declared.places.Serial.{Serial}
-use Rattle.shr_report.specs.Causes.{drained_by}
-use Rattle.shr_audit_unregisters.specs.Sums.{AreSums}
+use Rattle.shr_audit_unregisters.proofs.Common.{◌+◌, ◌*◌, ℕ, take, sum_by, Serial, drained_by, AreSums}
 use Rattle.shr_audit_unregisters.proofs.sums.note_all.Given as goal
 
 abbrev pub invariant-loop-entry : goal.invariant-loop-entry

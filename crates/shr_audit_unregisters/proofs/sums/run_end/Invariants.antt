@@ -1,5 +1,4 @@
-use Rattle.std.proofs.Common.{◌≡◌, ◌<◌, ◌≤◌, ℕ, Some, slice_get}
-use Rattle.shr_base.specs.declared.ends.PlaceEnd.{PlaceEnd}
+use Rattle.shr_audit_unregisters.proofs.Common.{◌≡◌, ◌<◌, ◌≤◌, ℕ, Some, slice_get, PlaceEnd}
 use Rattle.shr_audit_unregisters.proofs.sums.run_end.Given as goal
 
 abbrev pub invariant-loop-n : goal.invariant-loop-n

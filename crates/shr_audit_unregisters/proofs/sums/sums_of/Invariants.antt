@@ -1,5 +1,4 @@
-use Rattle.std.proofs.Common.{◌-◌, ◌≤◌, length}
-use Rattle.shr_audit_unregisters.specs.Sums.{AreSums}
+use Rattle.shr_audit_unregisters.proofs.Common.{◌-◌, ◌≤◌, length, AreSums}
 use Rattle.shr_audit_unregisters.proofs.SumsLaws.{drained_upto}
 use Rattle.shr_audit_unregisters.proofs.sums.sums_of.Given as goal
 

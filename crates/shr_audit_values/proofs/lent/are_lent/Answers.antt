@@ -1,9 +1,4 @@
-use Rattle.std.proofs.Common.{◌≡◌, ℕ, List, length, Option, Some, refl, subst, ◌∙◌, arith}
-use Rattle.std.specs.Prelude.{slice_get}
-use Rattle.std.specs.Bool.{Decides}
-use Rattle.std.proofs.lemmas.Option.{slice_get_read}
-use Rattle.shr_formed.proofs.Eachs.{all_at, fails, more_at}
-use Rattle.shr_audit_values.specs.Lent.{AreMetLent, IsLent, IsMetLent}
+use Rattle.shr_audit_values.proofs.Common.{◌≡◌, ℕ, List, length, Option, Some, refl, subst, ◌∙◌, arith, slice_get, Decides, slice_get_read, all_at, fails, more_at, AreMetLent, IsLent, IsMetLent}
 use Rattle.shr_audit_values.proofs.Lending.{ahead_first, ahead_next, first_met}
 use Rattle.shr_audit_values.proofs.lent.are_lent.Goals as goal
 

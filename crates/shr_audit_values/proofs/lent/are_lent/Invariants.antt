@@ -1,9 +1,4 @@
-use Rattle.std.proofs.Common.{◌≡◌, ◌<◌, ℕ, List, [], Some}
-use Rattle.std.specs.Prelude.{slice_get}
-use Rattle.shr_base.specs.declared.journals.Entry.{Entry}
-use Rattle.shr_base.specs.declared.objects.Object.{Object}
-use Rattle.shr_replay.specs.Journals.{values_from}
-use Rattle.shr_audit_values.specs.Lent.{AreAhead, IsMetLent}
+use Rattle.shr_audit_values.proofs.Common.{◌≡◌, ◌<◌, ℕ, List, [], Some, slice_get, Entry, Object, values_from, AreAhead, IsMetLent}
 use Rattle.shr_audit_values.proofs.lent.are_lent.Given as goal
 
 abbrev pub invariant-loop-n : goal.invariant-loop-n

@@ -1,14 +1,5 @@
-use Rattle.std.proofs.Common.{◌≡◌, ℕ, List, Some, length, refl}
-use Rattle.std.specs.Prelude.{slice_get}
-use Rattle.std.specs.Bool.{Decides}
-use Rattle.std.proofs.lemmas.Option.{slice_get_read}
-use Rattle.shr_base.specs.declared.ends.PlaceEnd.{PlaceEnd}
-use Rattle.shr_case.specs.Each.{EachFirst}
-use Rattle.shr_case.specs.Places.{IsFirst}
-use Rattle.shr_formed.proofs.Eachs.{all_at, fails, more_at}
-use Rattle.shr_report.specs.declared.report.Report.{Report}
+use Rattle.shr_audit_values.proofs.Common.{◌≡◌, ℕ, List, Some, length, refl, slice_get, Decides, slice_get_read, PlaceEnd, EachFirst, IsFirst, all_at, fails, more_at, Report, AreValuesLentAt}
 use Rattle.shr_audit_replies.proofs.Deciding.{first_part}
-use Rattle.shr_audit_values.specs.Lent.{AreValuesLentAt}
 use Rattle.shr_audit_values.proofs.lent.are_lists_lent.Goals as goal
 
 abbrev part : List ℕ → Report → List PlaceEnd → ℕ → PlaceEnd → Type 0

@@ -1,8 +1,4 @@
-use Rattle.std.proofs.Common.{List, subst}
-use Rattle.std.specs.Bool.{Decides}
-use Rattle.shr_base.specs.declared.ends.PlaceEnd.{PlaceEnd}
-use Rattle.shr_case.specs.Each.{EachFirst}
-use Rattle.shr_audit_values.specs.Lent.{AreValuesLentAt}
+use Rattle.shr_audit_values.proofs.Common.{List, subst, Decides, PlaceEnd, EachFirst, AreValuesLentAt}
 use Rattle.shr_audit_values.proofs.Places.{each_place_lent}
 use Rattle.shr_audit_values.proofs.lent.are_values_lent.Goals as goal
 

@@ -1,8 +1,4 @@
-use Rattle.std.proofs.Common.{List, [], sym, ap, ◌∙◌}
-use Rattle.shr_base.specs.declared.journals.Entry.{Entry}
-use Rattle.shr_model.specs.Families.{lists_moved_at}
-use Rattle.shr_replay.specs.Journals.{values_from}
-use Rattle.shr_report.specs.Parts.{journals_of}
+use Rattle.shr_audit_values.proofs.Common.{List, [], sym, ap, ◌∙◌, Entry, lists_moved_at, values_from, journals_of}
 use Rattle.shr_audit_values.proofs.Places.{lent_at}
 use Rattle.shr_audit_values.proofs.lent.is_place_lent.Goals as goal
 

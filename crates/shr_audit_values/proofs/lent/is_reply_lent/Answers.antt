@@ -1,5 +1,4 @@
-use Rattle.shr_report.specs.Parts.{at}
-use Rattle.shr_audit_values.specs.Lent.{value_first}
+use Rattle.shr_audit_values.proofs.Common.{at, value_first}
 use Rattle.shr_audit_values.proofs.Replying.{hit_lends}
 use Rattle.shr_audit_values.proofs.lent.is_reply_lent.Goals as goal
 

@@ -1,6 +1,4 @@
-use Rattle.std.proofs.Common.{◌≡◌, ◌<◌, ℕ, Some, slice_get}
-use Rattle.shr_base.specs.declared.ends.WorkerPart.{WorkerPart}
-use Rattle.shr_audit_versions.specs.Table.{IsPartRising}
+use Rattle.shr_audit_versions.proofs.Common.{◌≡◌, ◌<◌, ℕ, Some, slice_get, WorkerPart, IsPartRising}
 use Rattle.shr_audit_versions.proofs.report.versions_never_fall.Given as goal
 
 abbrev pub invariant-loop-worker : goal.invariant-loop-worker

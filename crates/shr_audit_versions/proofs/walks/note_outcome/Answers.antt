@@ -1,7 +1,6 @@
-use Rattle.std.proofs.Common.{map, sym, subst, IfOk}
+use Rattle.shr_audit_versions.proofs.Common.{map, sym, subst, counts_of, Notes, if_here}
+use Rattle.std.proofs.Common.{IfOk}
 use Rattle.shr_base.specs.declared.walks.Outcome.{Outcome}
-use Rattle.shr_model.specs.Attempts.{counts_of}
-use Rattle.shr_audit_versions.specs.Table.{Notes, if_here}
 use Rattle.shr_audit_versions.proofs.walks.note_outcome.Goals as goal
 
 pub returns-in-Skip : goal.returns-in-Skip

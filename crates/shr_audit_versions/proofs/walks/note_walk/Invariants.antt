@@ -1,5 +1,4 @@
-use Rattle.std.proofs.Common.{true, flat_map, take}
-use Rattle.shr_audit_versions.specs.Table.{Notes}
+use Rattle.shr_audit_versions.proofs.Common.{true, flat_map, take, Notes}
 use Rattle.shr_audit_versions.proofs.Noting.{tried}
 use Rattle.shr_audit_versions.proofs.walks.note_walk.Given as goal
 

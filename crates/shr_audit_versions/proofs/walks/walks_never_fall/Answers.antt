@@ -1,7 +1,4 @@
-use Rattle.std.proofs.Common.{true, false, flat_map, subst}
-use Rattle.shr_base.specs.declared.walks.WalkRecord.{WalkRecord}
-use Rattle.shr_model.specs.Walks.{versions_at}
-use Rattle.shr_audit_versions.specs.Table.{Notes}
+use Rattle.shr_audit_versions.proofs.Common.{true, false, flat_map, subst, WalkRecord, versions_at, Notes}
 use Rattle.shr_audit_versions.proofs.Noting.{noted_all, noted_falls, noted_more, notes_decide}
 use Rattle.shr_audit_versions.proofs.walks.walks_never_fall.Goals as goal
 

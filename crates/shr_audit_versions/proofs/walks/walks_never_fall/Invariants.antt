@@ -1,6 +1,4 @@
-use Rattle.std.proofs.Common.{true, flat_map, take}
-use Rattle.shr_model.specs.Walks.{versions_at}
-use Rattle.shr_audit_versions.specs.Table.{Notes}
+use Rattle.shr_audit_versions.proofs.Common.{true, flat_map, take, versions_at, Notes}
 use Rattle.shr_audit_versions.proofs.walks.walks_never_fall.Given as goal
 
 abbrev pub invariant-loop-k : goal.invariant-loop-k

@@ -1,5 +1,4 @@
-use Rattle.std.proofs.Common.{arith}
-use Rattle.std.proofs.lemmas.Bool.Decides.{nat_tests}
+use Rattle.shr_audit_walks.proofs.Common.{arith, nat_tests}
 use Rattle.shr_audit_walks.proofs.Tried.{before_tried}
 use Rattle.shr_audit_walks.proofs.alone.are_before_tried.Goals as goal
 

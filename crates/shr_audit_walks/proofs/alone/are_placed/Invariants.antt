@@ -1,5 +1,4 @@
-use Rattle.std.proofs.Common.{◌≡◌, ◌<◌, ℕ, Some, slice_get}
-use Rattle.shr_base.specs.declared.walks.Attempt.{Attempt}
+use Rattle.shr_audit_walks.proofs.Common.{◌≡◌, ◌<◌, ℕ, Some, slice_get, Attempt}
 use Rattle.shr_report.specs.LawfulWalk.{IsPlaced}
 use Rattle.shr_audit_walks.proofs.alone.are_placed.Given as goal
 

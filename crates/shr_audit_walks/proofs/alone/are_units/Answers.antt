@@ -1,5 +1,4 @@
-use Rattle.std.proofs.Common.{◌+◌, ◌/◌}
-use Rattle.shr_base.specs.declared.walks.MapSeen.{MapSeen}
+use Rattle.shr_audit_walks.proofs.Common.{◌+◌, ◌/◌, MapSeen}
 use Rattle.shr_audit_walks.proofs.Rising.{other_length, whole_prefix}
 use Rattle.shr_audit_walks.proofs.alone.are_units.Goals as goal
 

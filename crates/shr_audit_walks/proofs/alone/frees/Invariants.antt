@@ -1,5 +1,4 @@
-use Rattle.std.proofs.Common.{◌≡◌, ◌+◌, sum_by, take}
-use Rattle.shr_audit_walks.specs.Fields.{freed_in}
+use Rattle.shr_audit_walks.proofs.Common.{◌≡◌, ◌+◌, sum_by, take, freed_in}
 use Rattle.shr_audit_walks.proofs.alone.frees.Given as goal
 
 abbrev pub invariant-loop-attempt : goal.invariant-loop-attempt

@@ -1,9 +1,4 @@
-use Rattle.std.proofs.Common.{◌≡◌, List, ℕ, subst}
-use Rattle.std.specs.Prelude.{sum_by}
-use Rattle.std.specs.Bool.{Decides}
-use Rattle.shr_base.specs.declared.walks.Attempt.{Attempt}
-use Rattle.shr_model.specs.Walks.{freed_told}
-use Rattle.shr_audit_walks.specs.Fields.{freed_in}
+use Rattle.shr_audit_walks.proofs.Common.{◌≡◌, List, ℕ, subst, sum_by, Decides, Attempt, freed_told, freed_in}
 use Rattle.shr_audit_walks.proofs.Tried.{told_freed}
 use Rattle.shr_audit_walks.proofs.alone.is_freed_told.Goals as goal
 

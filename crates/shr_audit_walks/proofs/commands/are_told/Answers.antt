@@ -1,7 +1,4 @@
-use Rattle.std.proofs.Common.{ℕ}
-use Rattle.shr_base.specs.declared.ends.WorkerPart.{WorkerPart}
-use Rattle.shr_formed.proofs.Eachs.{more_at}
-use Rattle.shr_audit_walks.specs.Commands.{IsPartTold}
+use Rattle.shr_audit_walks.proofs.Common.{ℕ, WorkerPart, more_at, IsPartTold}
 use Rattle.shr_audit_walks.proofs.Answered.{stands_here, told_all, told_fails}
 use Rattle.shr_audit_walks.proofs.commands.are_told.Goals as goal
 

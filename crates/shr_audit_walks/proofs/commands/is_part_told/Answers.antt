@@ -1,9 +1,5 @@
-use Rattle.std.proofs.Common.{ℕ, sym, ap}
+use Rattle.shr_audit_walks.proofs.Common.{ℕ, sym, ap, Decides, Answered, more_at, IsAnswerTold}
 use Rattle.std.specs.Prelude.{option_copied}
-use Rattle.std.specs.Bool.{Decides}
-use Rattle.shr_base.specs.declared.replies.Answered.{Answered}
-use Rattle.shr_formed.proofs.Eachs.{more_at}
-use Rattle.shr_audit_walks.specs.Commands.{IsAnswerTold}
 use Rattle.shr_audit_walks.proofs.Answered.{answer_decided, part_fails, part_whole}
 use Rattle.shr_audit_walks.proofs.commands.is_part_told.Goals as goal
 

@@ -1,6 +1,4 @@
-use Rattle.std.proofs.Common.{◌≡◌, ◌<◌, ℕ, Some, slice_get}
-use Rattle.shr_base.specs.declared.replies.Answered.{Answered}
-use Rattle.shr_audit_walks.specs.Commands.{IsAnswerTold}
+use Rattle.shr_audit_walks.proofs.Common.{◌≡◌, ◌<◌, ℕ, Some, slice_get, Answered, IsAnswerTold}
 use Rattle.shr_audit_walks.proofs.commands.is_part_told.Given as goal
 
 abbrev pub invariant-loop-n : goal.invariant-loop-n

@@ -1,5 +1,4 @@
-use Rattle.std.proofs.Common.{arith}
-use Rattle.shr_base.specs.declared.walks.WalkRecord.{WalkRecord}
+use Rattle.shr_audit_walks.proofs.Common.{arith, WalkRecord}
 use Rattle.shr_audit_walks.proofs.Ranged.{range_filter, none_filter}
 use Rattle.shr_audit_walks.proofs.commands.walks_of.Goals as goal
 

@@ -1,6 +1,4 @@
-use Rattle.std.proofs.Common.{◌≡◌, ◌<◌, ℕ, Some, slice_get}
-use Rattle.shr_base.specs.declared.walks.Attempt.{Attempt}
-use Rattle.shr_audit_walks.specs.Counts.{AreCountsIn}
+use Rattle.shr_audit_walks.proofs.Common.{◌≡◌, ◌<◌, ℕ, Some, slice_get, Attempt, AreCountsIn}
 use Rattle.shr_audit_walks.proofs.counts.are_all_right.Given as goal
 
 abbrev pub invariant-loop-k : goal.invariant-loop-k

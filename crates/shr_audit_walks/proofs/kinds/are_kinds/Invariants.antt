@@ -1,6 +1,4 @@
-use Rattle.std.proofs.Common.{◌≡◌, ◌<◌, ℕ, Some, slice_get}
-use Rattle.shr_base.specs.declared.walks.Attempt.{Attempt}
-use Rattle.shr_audit_walks.specs.Kinds.{IsKindAt}
+use Rattle.shr_audit_walks.proofs.Common.{◌≡◌, ◌<◌, ℕ, Some, slice_get, Attempt, IsKindAt}
 use Rattle.shr_audit_walks.proofs.kinds.are_kinds.Given as goal
 
 abbrev pub invariant-loop-k : goal.invariant-loop-k

@@ -1,6 +1,4 @@
-use Rattle.std.proofs.Common.{◌*◌, ◌∙◌, ℕ, ap, subst, arith}
-use Rattle.std.proofs.lemmas.Bool.Decides.{nat_tests}
-use Rattle.shr_model.specs.Pass.{next_of, MadeOf}
+use Rattle.shr_audit_walks.proofs.Common.{◌*◌, ◌∙◌, ℕ, ap, subst, arith, nat_tests, next_of, MadeOf}
 use Rattle.shr_audit_walks.proofs.Arithmetic.{scanned_other, follows_if, product_is}
 use Rattle.shr_audit_walks.proofs.passes.follows.Goals as goal
 

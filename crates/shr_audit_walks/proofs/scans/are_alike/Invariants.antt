@@ -1,6 +1,4 @@
-use Rattle.std.proofs.Common.{◌≡◌, ◌<◌, ℕ, Some, slice_get}
-use Rattle.shr_audit_walks.specs.declared.scans.ScanSeen.{ScanSeen}
-use Rattle.shr_audit_walks.specs.Scans.{IsScanOf}
+use Rattle.shr_audit_walks.proofs.Common.{◌≡◌, ◌<◌, ℕ, Some, slice_get, ScanSeen, IsScanOf}
 use Rattle.shr_audit_walks.proofs.scans.are_alike.Given as goal
 
 abbrev pub invariant-loop-scan : goal.invariant-loop-scan

@@ -1,5 +1,4 @@
-use Rattle.std.proofs.Common.{◌≡◌, ◌-◌, ◌≤◌, length, arith}
-use Rattle.shr_model.specs.Pass.{due, batch_of, total_of}
+use Rattle.shr_audit_walks.proofs.Common.{◌≡◌, ◌-◌, ◌≤◌, length, arith, due, batch_of, total_of}
 use Rattle.shr_audit_walks.proofs.Scanned.{scans_freed, scans_differ}
 use Rattle.shr_audit_walks.proofs.scans.are_scans_of.Goals as goal
 

@@ -1,5 +1,4 @@
-use Rattle.std.proofs.Common.{◌≡◌, ◌+◌, sum_by, take}
-use Rattle.shr_audit_walks.specs.Scans.{freed_of_scan}
+use Rattle.shr_audit_walks.proofs.Common.{◌≡◌, ◌+◌, sum_by, take, freed_of_scan}
 use Rattle.shr_audit_walks.proofs.scans.scans_free.Given as goal
 
 abbrev pub invariant-loop-scan : goal.invariant-loop-scan

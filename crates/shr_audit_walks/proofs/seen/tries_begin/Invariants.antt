@@ -1,5 +1,4 @@
-use Rattle.std.proofs.Common.{◌≡◌, map, take}
-use Rattle.shr_base.specs.declared.walks.Attempt.{Attempt}
+use Rattle.shr_audit_walks.proofs.Common.{◌≡◌, map, take, Attempt}
 use Rattle.shr_audit_walks.proofs.seen.tries_begin.Given as goal
 
 abbrev pub invariant-loop-i : goal.invariant-loop-i

@@ -1,5 +1,4 @@
-use Rattle.std.proofs.Common.{arith}
-use Rattle.shr_base.specs.declared.walks.Attempt.{Attempt}
+use Rattle.shr_audit_walks.proofs.Common.{arith, Attempt}
 use Rattle.shr_audit_walks.proofs.Rising.{too_many, not_rising, all_rising, one_more}
 use Rattle.shr_audit_walks.proofs.seen.tries_rise.Goals as goal
 

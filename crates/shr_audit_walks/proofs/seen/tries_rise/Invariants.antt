@@ -1,6 +1,4 @@
-use Rattle.std.proofs.Common.{◌≡◌, map, take}
-use Rattle.std.specs.List.{range_with_len}
-use Rattle.shr_base.specs.declared.walks.Attempt.{Attempt}
+use Rattle.shr_audit_walks.proofs.Common.{◌≡◌, map, take, range_with_len, Attempt}
 use Rattle.shr_audit_walks.proofs.seen.tries_rise.Given as goal
 
 abbrev pub invariant-loop-i : goal.invariant-loop-i

@@ -1,5 +1,4 @@
-use Rattle.std.proofs.Common.{◌+◌, ◌/◌, arith}
-use Rattle.shr_base.specs.declared.walks.MapSeen.{MapSeen}
+use Rattle.shr_audit_walks.proofs.Common.{◌+◌, ◌/◌, arith, MapSeen}
 use Rattle.shr_audit_walks.proofs.Rising.{too_many, not_rising, all_rising, one_more}
 use Rattle.shr_audit_walks.proofs.seen.units_rise.Goals as goal
 

@@ -1,6 +1,4 @@
-use Rattle.std.specs.Bool.{Decides}
-use Rattle.shr_formed.proofs.Eachs.{each_more, each_all}
-use Rattle.shr_audit_walks.specs.Fields.{IsShaped}
+use Rattle.shr_audit_walks.proofs.Common.{Decides, each_more, each_all, IsShaped}
 use Rattle.shr_audit_walks.proofs.shape.are_shaped.Goals as goal
 
 pub loop-walk-preserved : goal.loop-walk-preserved

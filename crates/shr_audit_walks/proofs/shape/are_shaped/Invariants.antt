@@ -1,6 +1,4 @@
-use Rattle.std.proofs.Common.{◌≡◌, ◌<◌, ℕ, Some, slice_get}
-use Rattle.shr_base.specs.declared.walks.WalkRecord.{WalkRecord}
-use Rattle.shr_audit_walks.specs.Fields.{IsShaped}
+use Rattle.shr_audit_walks.proofs.Common.{◌≡◌, ◌<◌, ℕ, Some, slice_get, WalkRecord, IsShaped}
 use Rattle.shr_audit_walks.proofs.shape.are_shaped.Given as goal
 
 abbrev pub invariant-loop-walk : goal.invariant-loop-walk

@@ -1,6 +1,4 @@
-use Rattle.std.specs.Bool.{Decides}
-use Rattle.shr_formed.specs.Each.{Each}
-use Rattle.shr_audit_walks.specs.Fields.{IsShaped}
+use Rattle.shr_audit_walks.proofs.Common.{Decides, Each, IsShaped}
 use Rattle.shr_audit_walks.proofs.Parts.{parts_all, parts_fail, parts_more}
 use Rattle.shr_audit_walks.proofs.shape.walks_are_shaped.Goals as goal
 

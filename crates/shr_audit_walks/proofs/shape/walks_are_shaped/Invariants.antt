@@ -1,7 +1,4 @@
-use Rattle.std.proofs.Common.{◌≡◌, ◌<◌, ℕ, Some, slice_get}
-use Rattle.shr_base.specs.declared.ends.WorkerPart.{WorkerPart}
-use Rattle.shr_formed.specs.Each.{Each}
-use Rattle.shr_audit_walks.specs.Fields.{IsShaped}
+use Rattle.shr_audit_walks.proofs.Common.{◌≡◌, ◌<◌, ℕ, Some, slice_get, WorkerPart, Each, IsShaped}
 use Rattle.shr_audit_walks.proofs.shape.walks_are_shaped.Given as goal
 
 abbrev pub invariant-loop-worker : goal.invariant-loop-worker

@@ -1,6 +1,4 @@
-use Rattle.std.proofs.Common.{◌≡◌, ◌+◌, sum_by, take}
-use Rattle.shr_base.specs.declared.walks.WalkRecord.{WalkRecord}
-use Rattle.shr_model.specs.Walks.{freed_told}
+use Rattle.shr_audit_walks.proofs.Common.{◌≡◌, ◌+◌, sum_by, take, WalkRecord, freed_told}
 use Rattle.shr_audit_walks.proofs.told.walks_tell.Given as goal
 
 abbrev pub invariant-loop-walk : goal.invariant-loop-walk

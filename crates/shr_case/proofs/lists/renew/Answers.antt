@@ -1,5 +1,4 @@
-use Rattle.std.proofs.Common.{subst}
-use Rattle.shr_case.specs.Replaying.{IsNewAt}
+use Rattle.shr_case.proofs.Common.{subst, IsNewAt}
 use Rattle.shr_case.proofs.Replaying.{ready_new, ready_old}
 use Rattle.shr_case.proofs.lists.renew.Goals as goal
 

@@ -1,5 +1,4 @@
-use Rattle.std.proofs.Common.{◌+◌, ℕ, ◌∙◌, [], ◌∷◌, length, length-append, sym, ap, subst}
-use Rattle.shr_case.specs.Lists.{IsReplayOfList}
+use Rattle.shr_case.proofs.Common.{◌+◌, ℕ, ◌∙◌, [], ◌∷◌, length, length-append, sym, ap, subst, IsReplayOfList}
 use Rattle.shr_case.proofs.Replaying.{told_more}
 use Rattle.shr_case.proofs.lists.replay_lists.Goals as goal
 

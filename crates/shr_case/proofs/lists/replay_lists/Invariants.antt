@@ -1,8 +1,4 @@
-use Rattle.std.proofs.Common.{◌≡◌, ℕ, length, Some}
-use Rattle.std.specs.Prelude.{slice_get}
-use Rattle.shr_replay.specs.declared.journal.Replayed.{Replayed}
-use Rattle.shr_case.specs.Lists.{IsReplayOfList}
-use Rattle.shr_case.specs.Replaying.{IsLeft}
+use Rattle.shr_case.proofs.Common.{◌≡◌, ℕ, length, Some, slice_get, Replayed, IsReplayOfList, IsLeft}
 use Rattle.shr_case.proofs.lists.replay_lists.Given as goal
 
 abbrev pub invariant-loop-k : goal.invariant-loop-k

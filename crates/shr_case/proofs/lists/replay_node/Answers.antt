@@ -1,6 +1,4 @@
-use Rattle.std.proofs.Common.{ℕ, List, length, sym, subst}
-use Rattle.shr_replay.specs.Groups.{AreJournals, ArePrinted}
-use Rattle.shr_case.specs.Lists.{items_printed_in, journals_in}
+use Rattle.shr_case.proofs.Common.{ℕ, List, length, sym, subst, AreJournals, ArePrinted, items_printed_in, journals_in}
 use Rattle.shr_case.proofs.Replaying.{journals_there, printed_there}
 use Rattle.shr_case.proofs.lists.replay_node.Goals as goal
 

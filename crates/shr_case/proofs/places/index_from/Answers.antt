@@ -1,8 +1,6 @@
-use Rattle.std.proofs.Common.{◌≡◌, true, false, subst, arith, rules}
+use Rattle.shr_case.proofs.Common.{◌≡◌, true, false, subst, arith, get_or_from_slice_get, slice_get_within, PlaceEnd, comes_before}
+use Rattle.std.proofs.Common.{rules}
 use Rattle.std.proofs.lemmas.List.Sorted.{IsPartitionPoint-from_clause}
-use Rattle.std.proofs.lemmas.Option.{get_or_from_slice_get, slice_get_within}
-use Rattle.shr_base.specs.declared.ends.PlaceEnd.{PlaceEnd}
-use Rattle.shr_case.specs.Places.{comes_before}
 use Rattle.shr_case.proofs.Order.{parted}
 use Rattle.shr_case.proofs.places.index_from.Goals as goal
 

@@ -1,5 +1,4 @@
-use Rattle.std.proofs.Common.{sym, ◌∙◌, arith}
-use Rattle.std.proofs.lemmas.Option.{slice_get_within}
+use Rattle.shr_case.proofs.Common.{sym, ◌∙◌, arith, slice_get_within}
 use Rattle.shr_case.proofs.Firsts.{index_here, other_here}
 use Rattle.shr_case.proofs.Order.{first_here, away_here}
 use Rattle.shr_case.proofs.places.index_of.Goals.{else-k-ends-via-then-k-ends+else-is_place, else-k-ends-via-else-k-ends}

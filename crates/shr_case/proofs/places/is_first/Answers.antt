@@ -1,8 +1,4 @@
-use Rattle.std.proofs.Common.{◌-◌, get_or, subst, sym, ap, ◌∙◌, arith}
-use Rattle.std.specs.Bool.{Decides}
-use Rattle.std.proofs.lemmas.Option.{slice_get-get_or, get_or_from_slice_get}
-use Rattle.shr_base.specs.declared.ends.PlaceEnd.{PlaceEnd}
-use Rattle.shr_case.specs.Places.{IsFirst, comes_before}
+use Rattle.shr_case.proofs.Common.{◌-◌, get_or, subst, sym, ap, ◌∙◌, arith, Decides, slice_get-get_or, get_or_from_slice_get, PlaceEnd, IsFirst, comes_before}
 use Rattle.shr_case.proofs.Order.{first_decided}
 use Rattle.shr_case.proofs.places.is_first.Goals as goal
 

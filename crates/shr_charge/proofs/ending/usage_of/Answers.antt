@@ -1,10 +1,7 @@
-use Rattle.std.proofs.Common.{sym, ap, ◌∙◌, ◌++◌, ◌∷◌, [], ◌+◌, ◌*◌, List, ℕ, map, arith}
-use Rattle.std.specs.List.{range_with_len}
-use Rattle.std.specs.Mem.Slots.{slots_items}
+use Rattle.shr_charge.proofs.Common.{sym, ap, ◌∙◌, ◌++◌, ◌∷◌, [], ◌+◌, ◌*◌, List, ℕ, map, arith, range_with_len, slots_items, usage_in}
 use Rattle.std.proofs.lemmas.List.FromFn.{map-range_with_len_more}
-use Rattle.shr_charge.specs.Rule.{usage_in}
-use Rattle.shr_charge.proofs.Listing.{word_of}
 use Rattle.shr_charge.proofs.ending.usage_of.Goals as goal
+use Rattle.shr_model.proofs.Lists.{word_of}
 
 pub loop-group-preserved : goal.loop-group-preserved
 loop-group-preserved c = let words = slots_items c.args.closed.now.words in let g = c.loop-group.group in

@@ -1,5 +1,4 @@
-use Rattle.std.proofs.Common.{sym, ◌∙◌, arith}
-use Rattle.shr_charge.specs.Searching.{is_like}
+use Rattle.shr_charge.proofs.Common.{sym, ◌∙◌, arith, is_like}
 use Rattle.shr_charge.proofs.Searches.{found_first, none_more}
 use Rattle.shr_charge.proofs.searching.first_like.Goals as goal
 

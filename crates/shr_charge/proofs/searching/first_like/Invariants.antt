@@ -1,6 +1,4 @@
-use Rattle.std.proofs.Common.{◌≡◌, take}
-use Rattle.std.specs.Prelude.{None}
-use Rattle.shr_charge.specs.Searching.{number_of}
+use Rattle.shr_charge.proofs.Common.{◌≡◌, take, None, number_of}
 use Rattle.shr_charge.proofs.searching.first_like.Given as goal
 
 abbrev pub invariant-loop-i : goal.invariant-loop-i

@@ -1,5 +1,4 @@
-use Rattle.std.proofs.Common.{sym, ◌∙◌, arith}
-use Rattle.std.specs.Mem.Slots.{slots_items}
+use Rattle.shr_deferred.proofs.Common.{sym, ◌∙◌, arith, slots_items}
 use Rattle.shr_deferred.proofs.Amounts.{amounts_none, amounts_skip, amounts_push, word_read}
 use Rattle.shr_deferred.proofs.ending.amounts_of.Goals as goal
 

@@ -1,5 +1,4 @@
-use Rattle.std.proofs.Common.{◌≡◌, ◌%◌, ◌^◌, get_or}
-use Rattle.std.specs.Mem.Slots.{slots_items}
+use Rattle.shr_deferred.proofs.Common.{◌≡◌, ◌%◌, ◌^◌, get_or, slots_items}
 use Rattle.shr_deferred.specs.Left.{amounts}
 use Rattle.shr_deferred.proofs.ending.amounts_of.Given as goal
 

@@ -1,5 +1,4 @@
-use Rattle.std.proofs.Common.{◌≡◌, map}
-use Rattle.shr_draft.specs.Draft.{part_of}
+use Rattle.shr_draft.proofs.Common.{◌≡◌, map, part_of}
 use Rattle.shr_draft.proofs.finish.finish_parts.Given as goal
 
 abbrev pub invariant-loop-draft : goal.invariant-loop-draft

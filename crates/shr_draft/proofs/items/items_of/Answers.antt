@@ -1,5 +1,4 @@
-use Rattle.std.proofs.Common.{◌≡◌, ℕ, Some, None, subst, arith}
-use Rattle.slab.specs.Slab.{get, Updates}
+use Rattle.shr_draft.proofs.Common.{◌≡◌, ℕ, Some, None, subst, arith, get, Updates}
 use Rattle.shr_draft.proofs.Linking.{more_linked}
 use Rattle.shr_draft.proofs.items.items_of.Goals as goal
 

@@ -1,6 +1,4 @@
-use Rattle.std.proofs.Common.{◌≡◌, ◌++◌, length}
-use Rattle.slab.specs.Slab.{slab_len}
-use Rattle.shr_base.specs.Rest.{objects_from}
+use Rattle.shr_draft.proofs.Common.{◌≡◌, ◌++◌, length, slab_len, objects_from}
 use Rattle.shr_draft.proofs.items.items_of.Given as goal
 
 abbrev pub invariant-loop-object : goal.invariant-loop-object

@@ -1,7 +1,4 @@
-use Rattle.std.proofs.Common.{◌≡◌, ◌∷◌, [], ◌++◌, List, map, ap, sym, ◌∙◌}
-use Rattle.shr_base.specs.declared.objects.Object.{Object}
-use Rattle.shr_base.specs.declared.ends.PlaceEnd.{PlaceEnd}
-use Rattle.shr_draft.specs.Draft.{kept, with_more, list_of}
+use Rattle.shr_draft.proofs.Common.{◌≡◌, ◌∷◌, [], ◌++◌, List, map, ap, sym, ◌∙◌, Object, PlaceEnd, kept, with_more, list_of}
 use Rattle.shr_draft.proofs.Lasts.{changed_last, changed_none}
 use Rattle.shr_draft.proofs.lists.take_item.Goals as goal
 

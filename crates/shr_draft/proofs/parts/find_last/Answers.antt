@@ -1,5 +1,4 @@
-use Rattle.std.proofs.Common.{◌≡◌, ◌∷◌, [], ◌++◌, sym, ap, ◌∙◌}
-use Rattle.shr_draft.specs.Draft.{with_last, found_answer}
+use Rattle.shr_draft.proofs.Common.{◌≡◌, ◌∷◌, [], ◌++◌, sym, ap, ◌∙◌, with_last, found_answer}
 use Rattle.shr_draft.proofs.Lasts.{last_is, none_changed}
 use Rattle.shr_draft.proofs.parts.find_last.Goals as goal
 

@@ -1,6 +1,4 @@
-use Rattle.std.proofs.Common.{◌≡◌, ◌++◌}
-use Rattle.std.specs.Prelude.{replicate}
-use Rattle.shr_draft.specs.Draft.{parts_of, no_part}
+use Rattle.shr_draft.proofs.Common.{◌≡◌, ◌++◌, replicate, parts_of, no_part}
 use Rattle.shr_draft.proofs.parts.pad.Given as goal
 
 abbrev pub invariant-loop : goal.invariant-loop

@@ -1,9 +1,4 @@
-use Rattle.std.proofs.Common.{◌≡◌, ◌∷◌, [], ◌++◌, List, map, ap, sym, ◌∙◌}
-use Rattle.shr_base.specs.declared.walks.Carry.{Carry}
-use Rattle.shr_base.specs.declared.ends.WorkerPart.{WorkerPart}
-use Rattle.shr_draft.specs.Draft.{kept, with_more, last_command, part_of, parts_of}
-use Rattle.std.proofs.Common.{length, ◌-◌}
-use Rattle.shr_base.specs.declared.places.Serial.{Serial}
+use Rattle.shr_draft.proofs.Common.{◌≡◌, ◌∷◌, [], ◌++◌, List, map, ap, sym, ◌∙◌, Carry, WorkerPart, kept, with_more, last_command, part_of, parts_of, length, ◌-◌, Serial}
 use Rattle.shr_draft.proofs.Lasts.{by_last}
 use Rattle.shr_draft.proofs.Lasts.{changed_last, changed_none}
 use Rattle.shr_draft.proofs.parts.take_carry.Goals as goal

@@ -1,7 +1,4 @@
-use Rattle.std.proofs.Common.{◌≡◌, ◌∷◌, [], ◌++◌, List, map, ap, sym, ◌∙◌}
-use Rattle.shr_base.specs.declared.walks.PlainWalk.{PlainWalk}
-use Rattle.shr_base.specs.declared.ends.WorkerPart.{WorkerPart}
-use Rattle.shr_draft.specs.Draft.{kept, last_changed, part_of, passed_walk}
+use Rattle.shr_draft.proofs.Common.{◌≡◌, ◌∷◌, [], ◌++◌, List, map, ap, sym, ◌∙◌, PlainWalk, WorkerPart, kept, last_changed, part_of, passed_walk}
 use Rattle.shr_draft.proofs.Lasts.{changed_last, changed_none}
 use Rattle.shr_draft.proofs.parts.take_pass.Goals as goal
 

@@ -1,8 +1,4 @@
-use Rattle.std.proofs.Common.{◌≡◌, ◌∷◌, [], ◌++◌, List, map, ap, sym, ◌∙◌}
-use Rattle.shr_base.specs.declared.walks.PlainWalk.{PlainWalk}
-use Rattle.shr_base.specs.declared.ends.WorkerPart.{WorkerPart}
-use Rattle.shr_draft.specs.Draft.{kept, with_more, last_command, part_of, parts_of, plain_begun}
-use Rattle.std.proofs.Common.{length, ◌-◌}
+use Rattle.shr_draft.proofs.Common.{◌≡◌, ◌∷◌, [], ◌++◌, List, map, ap, sym, ◌∙◌, PlainWalk, WorkerPart, kept, with_more, last_command, part_of, parts_of, plain_begun, length, ◌-◌}
 use Rattle.shr_draft.proofs.Lasts.{by_last}
 use Rattle.shr_draft.proofs.Lasts.{plains_more, plain_begun_is}
 use Rattle.shr_draft.proofs.Lasts.{changed_last, changed_none}

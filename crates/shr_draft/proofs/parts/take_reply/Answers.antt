@@ -1,7 +1,5 @@
-use Rattle.std.proofs.Common.{◌≡◌, ◌∷◌, [], ◌++◌, List, map, ap, ◌∙◌}
-use Rattle.shr_base.specs.declared.replies.Answered.{Answered}
-use Rattle.shr_base.specs.declared.ends.WorkerPart.{WorkerPart}
-use Rattle.shr_draft.specs.Draft.{kept, with_more, with_last, part_of, replied}
+use Rattle.shr_draft.proofs.Common.{◌≡◌, ◌∷◌, [], ◌++◌, List, map, ap, ◌∙◌, Answered, WorkerPart, kept, with_more, with_last, part_of}
+use Rattle.shr_draft.specs.Draft.{replied}
 use Rattle.shr_draft.proofs.Lasts.{changed_last}
 use Rattle.shr_draft.proofs.parts.take_reply.Goals as goal
 

@@ -1,7 +1,4 @@
-use Rattle.std.proofs.Common.{◌≡◌, ◌∷◌, [], ◌++◌, List, map, ap, sym, ◌∙◌}
-use Rattle.shr_base.specs.declared.walks.WalkRecord.{WalkRecord}
-use Rattle.shr_base.specs.declared.ends.WorkerPart.{WorkerPart}
-use Rattle.shr_draft.specs.Draft.{kept, last_changed, part_of, seen_walk}
+use Rattle.shr_draft.proofs.Common.{◌≡◌, ◌∷◌, [], ◌++◌, List, map, ap, sym, ◌∙◌, WalkRecord, WorkerPart, kept, last_changed, part_of, seen_walk}
 use Rattle.shr_draft.proofs.Lasts.{changed_last, changed_none}
 use Rattle.shr_draft.proofs.parts.take_seen.Goals as goal
 

@@ -1,8 +1,4 @@
-use Rattle.std.proofs.Common.{◌≡◌, ◌∷◌, [], ◌++◌, List, map, ap, sym, ◌∙◌}
-use Rattle.shr_base.specs.declared.walks.WalkRecord.{WalkRecord}
-use Rattle.shr_base.specs.declared.ends.WorkerPart.{WorkerPart}
-use Rattle.shr_draft.specs.Draft.{kept, with_more, last_command, part_of, parts_of, begun}
-use Rattle.std.proofs.Common.{length, ◌-◌}
+use Rattle.shr_draft.proofs.Common.{◌≡◌, ◌∷◌, [], ◌++◌, List, map, ap, sym, ◌∙◌, WalkRecord, WorkerPart, kept, with_more, last_command, part_of, parts_of, begun, length, ◌-◌}
 use Rattle.shr_draft.proofs.Lasts.{by_last}
 use Rattle.shr_draft.proofs.Lasts.{walks_more, begun_is}
 use Rattle.shr_draft.proofs.Lasts.{changed_last, changed_none}

@@ -1,6 +1,4 @@
-use Rattle.std.proofs.Common.{◌≡◌, ◌∷◌, [], ◌++◌, List, map, ap, sym, ◌∙◌}
-use Rattle.shr_base.specs.declared.walks.Attempt.{Attempt}
-use Rattle.shr_draft.specs.Draft.{kept, walk_of, tried_walk}
+use Rattle.shr_draft.proofs.Common.{◌≡◌, ◌∷◌, [], ◌++◌, List, map, ap, sym, ◌∙◌, Attempt, kept, walk_of, tried_walk}
 use Rattle.shr_draft.proofs.Lasts.{changed_last, changed_none}
 use Rattle.shr_draft.proofs.parts.try_last.Goals as goal
 

@@ -1,10 +1,4 @@
-use Rattle.std.proofs.Common.{◌≡◌, Some, Option, sym, ap, subst, ◌∙◌}
-use Rattle.shr_model.specs.Pieces.{pieces}
-use Rattle.shr_report.specs.declared.report.Report.{Report}
-use Rattle.shr_reader.specs.declared.said.Said.{Said}
-use Rattle.shr_reader.specs.Said.{read_line, IsReadOf}
-use Rattle.shr_draft.specs.Draft.{drafted, with_said}
-use Rattle.shr_draft.specs.Reading.{Reads, IsTightReport}
+use Rattle.shr_draft.proofs.Common.{◌≡◌, Some, Option, sym, ap, subst, ◌∙◌, pieces, Report, Said, read_line, IsReadOf, drafted, with_said, Reads, IsTightReport}
 use Rattle.shr_draft.proofs.Tight.{tight_drafted}
 use Rattle.shr_draft.proofs.Whole.{reads_of}
 use Rattle.shr_draft.proofs.Steps.{goes_on, ends, not_none, found_is, not_both}

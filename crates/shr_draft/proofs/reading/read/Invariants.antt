@@ -1,8 +1,4 @@
-use Rattle.std.proofs.Common.{length}
-use Rattle.shr_model.specs.Pieces.{pieces}
-use Rattle.shr_report.specs.declared.report.Report.{Report}
-use Rattle.shr_draft.specs.Draft.{drafted}
-use Rattle.shr_draft.specs.Reading.{nothing, Reads}
+use Rattle.shr_draft.proofs.Common.{length, pieces, Report, drafted, nothing, Reads}
 use Rattle.shr_draft.proofs.reading.read.Given as goal
 
 abbrev pub invariant-loop-line : goal.invariant-loop-line

@@ -1,10 +1,4 @@
-use Rattle.std.proofs.Common.{◌<◌, List, length, subst}
-use Rattle.std.specs.Bool.{Decides}
-use Rattle.shr_base.specs.declared.ends.PlaceEnd.{PlaceEnd}
-use Rattle.shr_base.specs.declared.ends.UnitsEnd.{UnitsEnd}
-use Rattle.shr_report.specs.WellFormed.{IsPlaceUpTo, units_place}
-use Rattle.shr_formed.specs.Each.{Each, Adjacent, IsListFormed}
-use Rattle.shr_formed.specs.Formed.{AreListsFormed}
+use Rattle.shr_formed.proofs.Common.{◌<◌, List, length, subst, Decides, PlaceEnd, UnitsEnd, IsPlaceUpTo, units_place, Each, Adjacent, IsListFormed, AreListsFormed}
 use Rattle.shr_formed.proofs.Eachs.{fails}
 use Rattle.shr_formed.proofs.formed.are_lists_well.Goals as goal
 

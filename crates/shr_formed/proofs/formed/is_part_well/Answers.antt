@@ -1,8 +1,5 @@
-use Rattle.std.proofs.Common.{List, length, subst}
-use Rattle.std.specs.Bool.{Decides}
-use Rattle.shr_base.specs.declared.replies.Answered.{Answered}
-use Rattle.shr_base.specs.declared.walks.WalkRecord.{WalkRecord}
-use Rattle.shr_formed.specs.Formed.{IsPartFormed, AreWalksFormed}
+use Rattle.shr_formed.proofs.Common.{List, length, subst, Decides, Answered, WalkRecord, IsPartFormed}
+use Rattle.shr_formed.specs.Formed.{AreWalksFormed}
 use Rattle.shr_formed.proofs.Eachs.{fails}
 use Rattle.shr_formed.proofs.formed.is_part_well.Goals as goal
 

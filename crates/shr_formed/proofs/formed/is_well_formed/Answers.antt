@@ -1,8 +1,4 @@
-use Rattle.std.proofs.Common.{List, subst}
-use Rattle.std.specs.Bool.{Decides}
-use Rattle.shr_base.specs.declared.ends.WorkerPart.{WorkerPart}
-use Rattle.shr_report.specs.WellFormed.{IsWellFormed}
-use Rattle.shr_formed.specs.Formed.{ArePartsFormed, IsLastFormed, AreHeadsFormed, AreListsFormed, AreMapsPrinted}
+use Rattle.shr_formed.proofs.Common.{List, subst, Decides, WorkerPart, IsWellFormed, ArePartsFormed, IsLastFormed, AreHeadsFormed, AreListsFormed, AreMapsPrinted}
 use Rattle.shr_formed.proofs.Eachs.{fails}
 use Rattle.shr_formed.proofs.WellParts.{heads_of, parts_of, last_of, lists_of, maps_of, tables_of, well_of}
 use Rattle.shr_formed.proofs.formed.is_well_formed.Goals as goal

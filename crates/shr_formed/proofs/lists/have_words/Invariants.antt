@@ -1,6 +1,5 @@
-use Rattle.std.proofs.Common.{◌≡◌, ◌<◌, ℕ, Some, slice_get}
+use Rattle.shr_formed.proofs.Common.{◌≡◌, ◌<◌, ℕ, Some, slice_get, HasWords}
 use Rattle.shr_base.specs.declared.journals.Entry.{Entry}
-use Rattle.shr_report.specs.WellFormed.{HasWords}
 use Rattle.shr_formed.proofs.lists.have_words.Given as goal
 
 abbrev pub invariant-loop-entry : goal.invariant-loop-entry

@@ -1,6 +1,4 @@
-use Rattle.std.proofs.Common.{◌≡◌, ◌<◌, ℕ, Some, slice_get}
-use Rattle.shr_base.specs.declared.ends.PlaceEnd.{PlaceEnd}
-use Rattle.shr_formed.specs.Each.{IsListFormed}
+use Rattle.shr_formed.proofs.Common.{◌≡◌, ◌<◌, ℕ, Some, slice_get, PlaceEnd, IsListFormed}
 use Rattle.shr_formed.proofs.lists.lists_are_well.Given as goal
 
 abbrev pub invariant-loop-end : goal.invariant-loop-end

@@ -1,6 +1,4 @@
-use Rattle.std.proofs.Common.{◌≡◌, ◌+◌, ◌<◌, ℕ, Some, slice_get}
-use Rattle.shr_base.specs.declared.ends.PlaceEnd.{PlaceEnd}
-use Rattle.shr_report.specs.WellFormed.{IsPlaceUpTo}
+use Rattle.shr_formed.proofs.Common.{◌≡◌, ◌+◌, ◌<◌, ℕ, Some, slice_get, PlaceEnd, IsPlaceUpTo}
 use Rattle.shr_formed.proofs.lists.lists_stand.Given as goal
 
 abbrev pub invariant-loop-i : goal.invariant-loop-i

@@ -1,6 +1,4 @@
-use Rattle.std.specs.List.{range_with_len}
-use Rattle.shr_report.specs.WellFormed.{bit_places}
-use Rattle.shr_formed.specs.Stripped.{wheres}
+use Rattle.shr_formed.proofs.Common.{range_with_len, bit_places, wheres}
 use Rattle.shr_formed.proofs.Strip.{nothing_left, none_met, empty_decides}
 use Rattle.shr_formed.proofs.maps.maps_stand.Goals as goal
 

@@ -1,5 +1,4 @@
-use Rattle.std.proofs.Common.{◌+◌, ◌-◌, refl, arith}
-use Rattle.shr_formed.specs.Stripped.{wheres, unit_places}
+use Rattle.shr_formed.proofs.Common.{◌+◌, ◌-◌, refl, arith, wheres, unit_places}
 use Rattle.shr_formed.proofs.Strip.{met, not_met}
 use Rattle.shr_formed.proofs.maps.strip_groups.Goals as goal
 

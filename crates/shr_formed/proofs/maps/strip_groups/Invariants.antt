@@ -1,6 +1,4 @@
-use Rattle.std.proofs.Common.{◌≡◌, ◌++◌, flat_map}
-use Rattle.std.specs.List.{range_with_len}
-use Rattle.shr_formed.specs.Stripped.{wheres, unit_places}
+use Rattle.shr_formed.proofs.Common.{◌≡◌, ◌++◌, flat_map, range_with_len, wheres, unit_places}
 use Rattle.shr_formed.proofs.maps.strip_groups.Given as goal
 
 abbrev pub invariant-loop-k : goal.invariant-loop-k

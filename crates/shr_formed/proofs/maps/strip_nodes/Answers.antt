@@ -1,5 +1,4 @@
-use Rattle.std.proofs.Common.{arith}
-use Rattle.shr_formed.specs.Stripped.{wheres, group_places}
+use Rattle.shr_formed.proofs.Common.{arith, wheres, group_places}
 use Rattle.shr_formed.proofs.Strip.{met, not_met}
 use Rattle.shr_formed.proofs.maps.strip_nodes.Goals as goal
 

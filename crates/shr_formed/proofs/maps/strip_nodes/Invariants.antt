@@ -1,6 +1,4 @@
-use Rattle.std.proofs.Common.{◌≡◌, ◌++◌, flat_map}
-use Rattle.std.specs.List.{range_with_len}
-use Rattle.shr_formed.specs.Stripped.{wheres, group_places}
+use Rattle.shr_formed.proofs.Common.{◌≡◌, ◌++◌, flat_map, range_with_len, wheres, group_places}
 use Rattle.shr_formed.proofs.maps.strip_nodes.Given as goal
 
 abbrev pub invariant-loop-node : goal.invariant-loop-node

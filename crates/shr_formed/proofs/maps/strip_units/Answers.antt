@@ -1,6 +1,4 @@
-use Rattle.std.proofs.Common.{ℕ, ◌+◌, ◌++◌, List, [], ◌∷◌, sym, ap, subst, ◌∙◌, arith}
-use Rattle.std.specs.List.{range_with_len}
-use Rattle.shr_formed.specs.Stripped.{Where, at_unit, wheres, IsNotStripped}
+use Rattle.shr_formed.proofs.Common.{ℕ, ◌+◌, ◌++◌, List, [], ◌∷◌, sym, ap, subst, ◌∙◌, arith, range_with_len, Where, at_unit, wheres, IsNotStripped}
 use Rattle.shr_formed.proofs.Strip.{met, not_met, singles}
 use Rattle.shr_formed.proofs.maps.strip_units.Goals as goal
 

@@ -1,5 +1,4 @@
-use Rattle.std.proofs.Common.{◌≡◌, ◌++◌}
-use Rattle.shr_formed.specs.Stripped.{wheres, unit_places}
+use Rattle.shr_formed.proofs.Common.{◌≡◌, ◌++◌, wheres, unit_places}
 use Rattle.shr_formed.proofs.maps.strip_units.Given as goal
 
 abbrev pub invariant-loop-unit : goal.invariant-loop-unit

@@ -1,7 +1,4 @@
-use Rattle.std.proofs.Common.{◌≡◌, ◌<◌, ℕ, Some, slice_get}
-use Rattle.shr_base.specs.declared.walks.Attempt.{Attempt}
-use Rattle.shr_formed.specs.Each.{IsLoaded}
-use Rattle.shr_model.specs.Places.{unit_of}
+use Rattle.shr_formed.proofs.Common.{◌≡◌, ◌<◌, ℕ, Some, slice_get, Attempt, IsLoaded, unit_of}
 use Rattle.shr_formed.proofs.parts.are_loaded.Given as goal
 
 abbrev pub invariant-loop-attempt : goal.invariant-loop-attempt

@@ -1,6 +1,4 @@
-use Rattle.std.proofs.Common.{◌≡◌, ◌+◌, ◌<◌, ◌≤◌, ℕ, Some, slice_get}
-use Rattle.shr_base.specs.declared.walks.Attempt.{Attempt}
-use Rattle.shr_model.specs.Places.{unit_of}
+use Rattle.shr_formed.proofs.Common.{◌≡◌, ◌+◌, ◌<◌, ◌≤◌, ℕ, Some, slice_get, Attempt, unit_of}
 use Rattle.shr_formed.proofs.parts.attempts_stand.Given as goal
 
 abbrev pub invariant-loop-i : goal.invariant-loop-i

@@ -1,6 +1,4 @@
-use Rattle.std.proofs.Common.{◌≡◌, ◌<◌, ℕ, Some, slice_get}
-use Rattle.shr_base.specs.declared.walks.Carry.{Carry}
-use Rattle.shr_formed.specs.Each.{IsOf}
+use Rattle.shr_formed.proofs.Common.{◌≡◌, ◌<◌, ℕ, Some, slice_get, Carry, IsOf}
 use Rattle.shr_formed.proofs.parts.carries_are_of.Given as goal
 
 abbrev pub invariant-loop-carry : goal.invariant-loop-carry

@@ -1,6 +1,4 @@
-use Rattle.std.proofs.Common.{◌≡◌, ◌+◌, ◌<◌, ℕ, Some, slice_get}
-use Rattle.shr_base.specs.declared.walks.Carry.{Carry}
-use Rattle.shr_report.specs.WellFormed.{IsCarryBefore}
+use Rattle.shr_formed.proofs.Common.{◌≡◌, ◌+◌, ◌<◌, ℕ, Some, slice_get, Carry, IsCarryBefore}
 use Rattle.shr_formed.proofs.parts.carries_stand_by_place.Given as goal
 
 abbrev pub invariant-loop-i : goal.invariant-loop-i

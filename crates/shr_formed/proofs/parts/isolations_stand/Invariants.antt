@@ -1,5 +1,4 @@
-use Rattle.std.proofs.Common.{◌≡◌, ◌+◌, ◌<◌, ◌≤◌, ℕ, Some, slice_get}
-use Rattle.shr_base.specs.declared.walks.Isolation.{Isolation}
+use Rattle.shr_formed.proofs.Common.{◌≡◌, ◌+◌, ◌<◌, ◌≤◌, ℕ, Some, slice_get, Isolation}
 use Rattle.shr_formed.proofs.parts.isolations_stand.Given as goal
 
 abbrev pub invariant-loop-i : goal.invariant-loop-i

@@ -1,6 +1,4 @@
-use Rattle.std.proofs.Common.{◌≡◌, ◌<◌, ℕ, Some, slice_get}
-use Rattle.shr_base.specs.declared.replies.Answered.{Answered}
-use Rattle.shr_report.specs.WellFormed.{LendsWord}
+use Rattle.shr_formed.proofs.Common.{◌≡◌, ◌<◌, ℕ, Some, slice_get, Answered, LendsWord}
 use Rattle.shr_formed.proofs.parts.lend_words.Given as goal
 
 abbrev pub invariant-loop-answer : goal.invariant-loop-answer

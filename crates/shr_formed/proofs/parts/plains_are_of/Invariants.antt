@@ -1,6 +1,4 @@
-use Rattle.std.proofs.Common.{◌≡◌, ◌<◌, ℕ, Some, slice_get}
-use Rattle.shr_base.specs.declared.walks.PlainWalk.{PlainWalk}
-use Rattle.shr_formed.specs.Each.{IsOf}
+use Rattle.shr_formed.proofs.Common.{◌≡◌, ◌<◌, ℕ, Some, slice_get, PlainWalk, IsOf}
 use Rattle.shr_formed.proofs.parts.plains_are_of.Given as goal
 
 abbrev pub invariant-loop-plain : goal.invariant-loop-plain

@@ -1,5 +1,4 @@
-use Rattle.std.proofs.Common.{◌≡◌, ◌+◌, ◌<◌, ◌≤◌, ℕ, Some, slice_get}
-use Rattle.shr_base.specs.declared.walks.PlainWalk.{PlainWalk}
+use Rattle.shr_formed.proofs.Common.{◌≡◌, ◌+◌, ◌<◌, ◌≤◌, ℕ, Some, slice_get, PlainWalk}
 use Rattle.shr_formed.proofs.parts.plains_stand.Given as goal
 
 abbrev pub invariant-loop-i : goal.invariant-loop-i

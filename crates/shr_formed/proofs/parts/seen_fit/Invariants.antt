@@ -1,6 +1,4 @@
-use Rattle.std.proofs.Common.{◌≡◌, ◌<◌, ℕ, Some, slice_get}
-use Rattle.shr_base.specs.declared.walks.MapSeen.{MapSeen}
-use Rattle.shr_report.specs.WellFormed.{IsBitWord}
+use Rattle.shr_formed.proofs.Common.{◌≡◌, ◌<◌, ℕ, Some, slice_get, MapSeen, IsBitWord}
 use Rattle.shr_formed.proofs.parts.seen_fit.Given as goal
 
 abbrev pub invariant-loop-map : goal.invariant-loop-map

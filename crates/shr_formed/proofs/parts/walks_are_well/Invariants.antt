@@ -1,6 +1,4 @@
-use Rattle.std.proofs.Common.{◌≡◌, ◌<◌, ℕ, Some, slice_get}
-use Rattle.shr_base.specs.declared.walks.WalkRecord.{WalkRecord}
-use Rattle.shr_formed.specs.Each.{IsWalkFormed}
+use Rattle.shr_formed.proofs.Common.{◌≡◌, ◌<◌, ℕ, Some, slice_get, WalkRecord, IsWalkFormed}
 use Rattle.shr_formed.proofs.parts.walks_are_well.Given as goal
 
 abbrev pub invariant-loop-walk : goal.invariant-loop-walk

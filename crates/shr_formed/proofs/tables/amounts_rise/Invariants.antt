@@ -1,6 +1,4 @@
-use Rattle.std.proofs.Common.{◌≡◌, ◌+◌, ◌<◌, ℕ, Some, slice_get}
-use Rattle.shr_base.specs.declared.ends.PlaceAmount.{PlaceAmount}
-use Rattle.shr_report.specs.WellFormed.{IsPlaceBefore}
+use Rattle.shr_formed.proofs.Common.{◌≡◌, ◌+◌, ◌<◌, ℕ, Some, slice_get, PlaceAmount, IsPlaceBefore}
 use Rattle.shr_formed.proofs.tables.amounts_rise.Given as goal
 
 abbrev pub invariant-loop-i : goal.invariant-loop-i

@@ -1,5 +1,4 @@
-use Rattle.std.proofs.Common.{◌≡◌, ◌<◌, ℕ, Some, true, List, slice_get}
-use Rattle.shr_model.specs.Words.{is_name}
+use Rattle.shr_formed.proofs.Common.{◌≡◌, ◌<◌, ℕ, Some, true, List, slice_get, is_name}
 use Rattle.shr_formed.proofs.tables.are_names.Given as goal
 
 abbrev pub invariant-loop-name : goal.invariant-loop-name

@@ -1,5 +1,4 @@
-use Rattle.std.proofs.Common.{◌≡◌, ◌<◌, ℕ, Some, true, List, slice_get}
-use Rattle.shr_model.specs.Paths.{is_path}
+use Rattle.shr_formed.proofs.Common.{◌≡◌, ◌<◌, ℕ, Some, true, List, slice_get, is_path}
 use Rattle.shr_formed.proofs.tables.are_paths.Given as goal
 
 abbrev pub invariant-loop-path : goal.invariant-loop-path

@@ -1,6 +1,4 @@
-use Rattle.std.proofs.Common.{◌≡◌, ◌<◌, ℕ, Some, slice_get}
-use Rattle.shr_base.specs.declared.ends.MapEnd.{MapEnd}
-use Rattle.shr_report.specs.WellFormed.{IsBitWord}
+use Rattle.shr_formed.proofs.Common.{◌≡◌, ◌<◌, ℕ, Some, slice_get, MapEnd, IsBitWord}
 use Rattle.shr_formed.proofs.tables.bits_fit.Given as goal
 
 abbrev pub invariant-loop-map : goal.invariant-loop-map

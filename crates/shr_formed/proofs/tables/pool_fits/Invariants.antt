@@ -1,6 +1,5 @@
-use Rattle.std.proofs.Common.{◌≡◌, ◌<◌, ℕ, Some, slice_get}
+use Rattle.shr_formed.proofs.Common.{◌≡◌, ◌<◌, ℕ, Some, slice_get, IsPoolNumbered}
 use Rattle.shr_base.specs.declared.journals.PoolEntry.{PoolEntry}
-use Rattle.shr_report.specs.WellFormed.{IsPoolNumbered}
 use Rattle.shr_formed.proofs.tables.pool_fits.Given as goal
 
 abbrev pub invariant-loop-entry : goal.invariant-loop-entry

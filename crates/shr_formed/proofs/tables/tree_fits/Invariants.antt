@@ -1,6 +1,5 @@
-use Rattle.std.proofs.Common.{◌≡◌, ◌<◌, ℕ, Some, slice_get}
+use Rattle.shr_formed.proofs.Common.{◌≡◌, ◌<◌, ℕ, Some, slice_get, IsTreeNumbered}
 use Rattle.shr_base.specs.declared.journals.TreeEntry.{TreeEntry}
-use Rattle.shr_report.specs.WellFormed.{IsTreeNumbered}
 use Rattle.shr_formed.proofs.tables.tree_fits.Given as goal
 
 abbrev pub invariant-loop-entry : goal.invariant-loop-entry

@@ -1,5 +1,4 @@
-use Rattle.std.proofs.Common.{◌≡◌, ◌<◌, ℕ, Some, length, slice_get}
-use Rattle.shr_base.specs.declared.ends.UnitsEnd.{UnitsEnd}
+use Rattle.shr_formed.proofs.Common.{◌≡◌, ◌<◌, ℕ, Some, length, slice_get, UnitsEnd}
 use Rattle.shr_formed.proofs.tables.units_are_entered.Given as goal
 
 abbrev pub invariant-loop-pool : goal.invariant-loop-pool

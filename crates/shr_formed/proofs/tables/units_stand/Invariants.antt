@@ -1,6 +1,4 @@
-use Rattle.std.proofs.Common.{◌≡◌, ◌+◌, ◌<◌, ℕ, Some, slice_get}
-use Rattle.shr_base.specs.declared.ends.UnitsEnd.{UnitsEnd}
-use Rattle.shr_report.specs.WellFormed.{units_place, IsPlaceUpTo}
+use Rattle.shr_formed.proofs.Common.{◌≡◌, ◌+◌, ◌<◌, ℕ, Some, slice_get, UnitsEnd, units_place, IsPlaceUpTo}
 use Rattle.shr_formed.proofs.tables.units_stand.Given as goal
 
 abbrev pub invariant-loop-i : goal.invariant-loop-i

@@ -1,6 +1,5 @@
-use Rattle.std.proofs.Common.{◌≡◌, ◌+◌, ◌<◌, ℕ, Some, slice_get}
+use Rattle.shr_formed.proofs.Common.{◌≡◌, ◌+◌, ◌<◌, ℕ, Some, slice_get, IsUseBefore}
 use Rattle.shr_base.specs.declared.journals.UseStep.{UseStep}
-use Rattle.shr_report.specs.WellFormed.{IsUseBefore}
 use Rattle.shr_formed.proofs.tables.uses_stand.Given as goal
 
 abbrev pub invariant-loop-i : goal.invariant-loop-i

@@ -1,7 +1,4 @@
-use Rattle.std.proofs.Common.{◌≡◌, ◌∙◌, List, ap}
-use Rattle.std.specs.Prelude.{option_map, codes}
-use Rattle.std.proofs.lemmas.Option.{same_Some}
-use Rattle.clap.specs.Words.{Row, Text, first_of, found_of, rows_of}
+use Rattle.shr_forms.proofs.Common.{◌≡◌, ◌∙◌, List, ap, option_map, codes, same_Some, Row, Text, first_of, found_of, rows_of}
 use Rattle.shr_forms.proofs.form.form_in.Goals as goal
 
 pub returns-else-eq-2-clause-generated : goal.returns-else-eq-2-clause-generated

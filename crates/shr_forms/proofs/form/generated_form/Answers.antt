@@ -1,5 +1,4 @@
-use Rattle.std.specs.Prelude.{codes}
-use Rattle.clap.specs.Words.{found_of}
+use Rattle.shr_forms.proofs.Common.{codes, found_of}
 use Rattle.shr_forms.proofs.Matching.{given_is, given_not}
 use Rattle.shr_forms.proofs.form.generated_form.Goals as goal
 

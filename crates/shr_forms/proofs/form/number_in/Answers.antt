@@ -1,5 +1,4 @@
-use Rattle.std.proofs.Common.{◌∙◌}
-use Rattle.std.proofs.lemmas.Slice.Eq.{bytes_eq-Decides}
+use Rattle.shr_forms.proofs.Common.{◌∙◌, bytes_eq-Decides}
 use Rattle.shr_forms.proofs.Reading.{unread, spelled_otherwise}
 use Rattle.shr_forms.proofs.form.number_in.Goals as goal
 

@@ -1,7 +1,4 @@
-use Rattle.std.proofs.Common.{◌≡◌, ◌∙◌, ◌∷◌, [], List, codes, sym, ap, subst, arith}
-use Rattle.std.specs.Prelude.{ℕ, string_bytes}
-use lib.Pointwise.{bytes_decides}
-use Rattle.shr_forms.specs.Forms.{ReadsAs}
+use Rattle.shr_forms.proofs.Common.{◌≡◌, ◌∙◌, ◌∷◌, [], List, codes, sym, ap, subst, arith, ℕ, string_bytes, bytes_decides, ReadsAs}
 use Rattle.shr_forms.proofs.Reading.{one_word, four_words}
 use Rattle.shr_forms.proofs.form.plain_form.Goals as goal
 

@@ -1,6 +1,4 @@
-use Rattle.std.proofs.Common.{◌∙◌, ◌∷◌, [], List, ap, sym}
-use Rattle.std.specs.Prelude.{ℕ, codes}
-use lib.Pointwise.{bytes_decides}
+use Rattle.shr_forms.proofs.Common.{◌∙◌, ◌∷◌, [], List, ap, sym, ℕ, codes, bytes_decides}
 use Rattle.shr_forms.proofs.form.single_form.Goals as goal
 
 pub returns-then-eq : goal.returns-then-eq

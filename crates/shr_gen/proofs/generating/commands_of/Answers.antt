@@ -1,5 +1,4 @@
-use Rattle.std.proofs.Common.{◌∙◌, ◌+◌, ap}
-use Rattle.shr_gen.specs.Generated.{drawn_after, chosen_by, command_at}
+use Rattle.shr_gen.proofs.Common.{◌∙◌, ◌+◌, ap, drawn_after, chosen_by, command_at}
 use Rattle.shr_gen.proofs.Making.{made_more, one_more_drawn}
 use Rattle.shr_gen.proofs.generating.commands_of.Goals as goal
 

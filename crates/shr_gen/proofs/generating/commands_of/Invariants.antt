@@ -1,6 +1,4 @@
-use Rattle.std.proofs.Common.{◌≡◌, ◌+◌, map}
-use Rattle.std.specs.List.{range_with_len}
-use Rattle.shr_gen.specs.Generated.{drawn_after, chosen_by, command_at}
+use Rattle.shr_gen.proofs.Common.{◌≡◌, ◌+◌, map, range_with_len, drawn_after, chosen_by, command_at}
 use Rattle.shr_gen.proofs.generating.commands_of.Given as goal
 
 abbrev pub invariant-loop-number : goal.invariant-loop-number

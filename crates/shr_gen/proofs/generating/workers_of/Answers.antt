@@ -1,7 +1,6 @@
-use Rattle.std.proofs.Common.{◌≡◌, ◌∙◌, ◌+◌, ◌*◌, ◌∷◌, [], ℕ, map, ap, arith}
+use Rattle.shr_gen.proofs.Common.{◌≡◌, ◌∙◌, ◌+◌, ◌*◌, ◌∷◌, [], ℕ, map, ap, arith, drawn_after, commands_from}
 use Rattle.std.proofs.lemmas.List.{map-append}
 use Rattle.shr_base.specs.declared.scripts.WorkerScript.{WorkerScript}
-use Rattle.shr_gen.specs.Generated.{drawn_after, commands_from}
 use Rattle.shr_gen.proofs.Making.{made_more, drawn_on}
 use Rattle.shr_gen.proofs.generating.workers_of.Goals as goal
 

@@ -1,6 +1,4 @@
-use Rattle.std.proofs.Common.{◌≡◌, ◌*◌, map}
-use Rattle.std.specs.List.{range_with_len}
-use Rattle.shr_gen.specs.Generated.{drawn_after, commands_from}
+use Rattle.shr_gen.proofs.Common.{◌≡◌, ◌*◌, map, range_with_len, drawn_after, commands_from}
 use Rattle.shr_gen.proofs.generating.workers_of.Given as goal
 
 abbrev pub invariant-loop-worker : goal.invariant-loop-worker

@@ -1,10 +1,4 @@
-use Rattle.std.proofs.Common.{◌≡◌, ℕ, ◌-◌, [], length, sym, ap, subst, ◌∙◌, arith}
-use Rattle.shr_core.specs.declared.view.View.{View}
-use Rattle.shr_seats.specs.declared.shape.Shape.{Shape}
-use Rattle.shr_core.specs.Parts.{Claims}
-use Rattle.shr_seats.specs.Shapes.{groups_in}
-use Rattle.shr_core.specs.Seats.{view_of, shape_of}
-use Rattle.shr_node.specs.Draining.{made_in}
+use Rattle.shr_node.proofs.Common.{◌≡◌, ℕ, ◌-◌, [], length, sym, ap, subst, ◌∙◌, arith, View, Shape, Claims, groups_in, view_of, shape_of, made_in}
 use Rattle.shr_node.proofs.Draws.{IsDraining, draining_none, drawing_next, drawing_stops, filled_before, worn_before}
 use Rattle.shr_node.proofs.draining.drain.Goals as goal
 

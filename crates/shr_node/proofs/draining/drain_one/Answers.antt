@@ -1,9 +1,4 @@
-use Rattle.shr_seats.specs.declared.shape.Shape.{Shape}
-use Rattle.std.proofs.Common.{◌++◌, arith, ap, length, refl, sym, subst, ◌∙◌}
-use Rattle.shr_base.specs.declared.replies.Spent.{Spent}
-use Rattle.shr_core.specs.declared.rooms.Room.{Room}
-use Rattle.shr_core.specs.Seats.{view_of, shape_of}
-use Rattle.shr_node.specs.Draining.{DrainWorn}
+use Rattle.shr_node.proofs.Common.{Shape, ◌++◌, arith, ap, length, refl, sym, subst, ◌∙◌, Spent, Room, view_of, shape_of, DrainWorn}
 use Rattle.shr_node.proofs.Places.{IsOwnTaken, own_taken, own_met, filled_some, drain_ready, drain_leaves, drain_made, empty_leaves}
 use Rattle.shr_node.proofs.draining.drain_one.Goals as goal
 

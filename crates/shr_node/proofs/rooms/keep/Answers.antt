@@ -1,10 +1,4 @@
-use Rattle.std.proofs.Common.{◌≡◌, ◌<◌, cond, sym, ap, subst, ◌∙◌}
-use Rattle.shr_model.specs.Places.{place_number}
-use Rattle.shr_core.specs.declared.view.View.{View}
-use Rattle.shr_core.specs.Rule.{has_room}
-use Rattle.shr_core.specs.Seats.{view_of, shape_of}
-use Rattle.shr_core.specs.Steps.{with_stored, with_set, in_hand, last_entry}
-use Rattle.shr_core.specs.Tells.{IsInHand}
+use Rattle.shr_node.proofs.Common.{◌≡◌, ◌<◌, cond, sym, ap, subst, ◌∙◌, place_number, View, has_room, view_of, shape_of, with_stored, with_set, in_hand, last_entry, IsInHand}
 use Rattle.shr_node.proofs.Keeping.{kept_has, kept_same}
 use Rattle.shr_node.proofs.rooms.keep.Goals as goal
 

@@ -1,17 +1,6 @@
-use Rattle.std.proofs.Common.{◌≢◌, ℕ, sym, subst, ◌∙◌, arith}
-use Rattle.shr_model.specs.Groups.{parent_of}
-use Rattle.shr_model.specs.Places.{place_number}
-use Rattle.shr_base.specs.declared.places.Place.{Place}
-use Rattle.shr_core.specs.declared.view.View.{View}
-use Rattle.shr_core.specs.declared.rooms.Room.{Room}
-use Rattle.shr_core.specs.Rule.{list_content}
-use Rattle.shr_core.specs.Steps.{with_given}
-use Rattle.shr_core.specs.Seats.{view_of, shape_of}
+use Rattle.shr_node.proofs.Common.{◌≢◌, ℕ, sym, subst, ◌∙◌, arith, parent_of, place_number, Place, View, Room, list_content, with_given, view_of, shape_of, Shape, Content, group_of}
 use Rattle.shr_node.proofs.Climbing.{IsOnWay, way_begins, way_goes, way_ends, below_root, place_of}
 use Rattle.shr_node.proofs.Acting.{opened_here, bare_hands}
-use Rattle.shr_seats.specs.declared.shape.Shape.{Shape}
-use Rattle.shr_core.specs.Parts.{Content}
-use Rattle.shr_core.specs.Layout.{group_of}
 use Rattle.shr_node.proofs.rooms.open_room.Given.{Over}
 use Rattle.shr_node.proofs.rooms.open_room.Goals as goal
 

@@ -1,9 +1,5 @@
-use Rattle.std.proofs.Common.{sym, ap, subst, ◌∙◌}
-use Rattle.shr_base.specs.declared.replies.Spent.{Spent}
-use Rattle.shr_core.specs.declared.rooms.Room.{Room}
-use Rattle.shr_core.specs.Seats.{view_of, shape_of}
+use Rattle.shr_node.proofs.Common.{sym, ap, subst, ◌∙◌, Spent, Room, view_of, shape_of, IsReady, IsUntouched}
 use Rattle.shr_node.specs.Answers.{ScanGives}
-use Rattle.shr_node.specs.Opening.{IsReady, IsUntouched}
 use Rattle.shr_node.specs.declared.answers.NodeScan.{NodeScan}
 use Rattle.shr_node.specs.declared.answers.NodeScan.TheVariants as node
 use Rattle.shr_node.proofs.Acting.{bare_hands, grown, stayed, not_grown, not_left}

@@ -1,14 +1,4 @@
-use Rattle.std.proofs.Common.{sym, subst, ap, ◌∙◌}
-use Rattle.std.specs.Prelude.{◌&&◌, nat_lt}
-use Rattle.shr_base.specs.declared.replies.Spent.{Spent}
-use Rattle.shr_list.specs.Listed.{Listed}
-use Rattle.shr_core.specs.declared.view.View.{View}
-use Rattle.shr_core.specs.declared.rooms.Room.{Room}
-use Rattle.shr_core.specs.Seats.{view_of, shape_of}
-use Rattle.shr_model.specs.Places.{place_number}
-use Rattle.shr_core.specs.Steps.{with_given, MayStore}
-use Rattle.shr_node.specs.Splicing.{place_of, SpliceWorn}
-use Rattle.shr_node.specs.Pairs.{AreTaken}
+use Rattle.shr_node.proofs.Common.{sym, subst, ap, ◌∙◌, ◌&&◌, nat_lt, Spent, Listed, View, Room, view_of, shape_of, place_number, with_given, MayStore, place_of, SpliceWorn, AreTaken}
 use Rattle.shr_node.proofs.Pairing.{may_above, may_child, stored_raised, back_has, back_same, back_whole, last_has, last_same, last_whole}
 use Rattle.shr_node.proofs.Closing.{above_opens, both_met, both_gain}
 use Rattle.shr_node.proofs.ClosingOne.{may_take_above, pair_taken, was_closed, pair_ready, closes_one}

@@ -1,6 +1,4 @@
-use Rattle.shr_model.specs.Places.{place_number}
-use Rattle.shr_core.specs.Rule.{list_content}
-use Rattle.shr_core.specs.Seats.{view_of}
+use Rattle.shr_node.proofs.Common.{place_number, list_content, view_of}
 use Rattle.shr_node.proofs.Closing.{child_left}
 use Rattle.shr_node.proofs.splicing.leave_both.Goals as goal
 

@@ -1,9 +1,4 @@
-use Rattle.std.proofs.Common.{◌≡◌, ℕ, ◌-◌, true, false, length, sym, ap, subst, ◌∙◌, arith}
-use Rattle.shr_model.proofs.GroupsOrder.{IsAtOrAbove-le}
-use Rattle.shr_core.specs.declared.view.View.{View}
-use Rattle.shr_seats.specs.declared.shape.Shape.{Shape}
-use Rattle.shr_seats.specs.Shapes.{groups_in}
-use Rattle.shr_core.specs.Seats.{view_of, shape_of}
+use Rattle.shr_node.proofs.Common.{◌≡◌, ℕ, ◌-◌, true, false, length, sym, ap, subst, ◌∙◌, arith, IsAtOrAbove-le, View, Shape, groups_in, view_of, shape_of}
 use Rattle.shr_node.proofs.Splices.{IsSplicing, splicing_none, children_closed, splicing_stops, worn_before, free_before, splicing_skips, splicing_was, splicing_one}
 use Rattle.shr_node.proofs.splicing.splice.Goals as goal
 

@@ -1,6 +1,4 @@
-use Rattle.std.proofs.Common.{◌≤◌}
-use Rattle.shr_seats.specs.Shapes.{groups_in}
-use Rattle.shr_core.specs.Seats.{IsOf, view_of, shape_of}
+use Rattle.shr_node.proofs.Common.{◌≤◌, groups_in, IsOf, view_of, shape_of}
 use Rattle.shr_node.proofs.Splices.{IsSplicing}
 use Rattle.shr_node.proofs.splicing.splice.Given as goal
 

@@ -1,7 +1,5 @@
-use Rattle.std.proofs.Common.{◌≡◌, ℕ, ◌+◌, true, false, List, length, get_or, set, replicate, sym, ap, subst, ◌∙◌, arith}
-use Rattle.std.proofs.lemmas.List.{length-set, length-replicate}
-use Rattle.shr_seats.specs.declared.shape.Shape.{Shape}
-use Rattle.shr_core.specs.Seats.{shape_of}
+use Rattle.shr_node.proofs.Common.{◌≡◌, ℕ, ◌+◌, true, false, List, length, get_or, set, replicate, sym, ap, subst, ◌∙◌, arith, length-replicate, Shape, shape_of}
+use Rattle.std.proofs.lemmas.List.{length-set}
 use Rattle.shr_node.proofs.Subtrees.{AreMarked, marked_first, marked_next}
 use Rattle.shr_node.proofs.splicing.subtree.Goals as goal
 

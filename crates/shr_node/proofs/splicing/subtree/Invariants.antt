@@ -1,5 +1,4 @@
-use Rattle.std.proofs.Common.{◌≡◌, length}
-use Rattle.shr_core.specs.Seats.{shape_of}
+use Rattle.shr_node.proofs.Common.{◌≡◌, length, shape_of}
 use Rattle.shr_node.proofs.Subtrees.{AreMarked}
 use Rattle.shr_node.proofs.splicing.subtree.Given as goal
 

@@ -1,13 +1,7 @@
-use Rattle.std.proofs.Common.{◌≡◌, sym, refl, ap, subst, ◌∙◌}
-use Rattle.shr_model.specs.Objects.{named_in}
-use Rattle.shr_model.specs.Items.{drop_kind_of}
+use Rattle.shr_node.proofs.Common.{◌≡◌, sym, refl, ap, subst, ◌∙◌, named_in, drop_kind_of, Spent, Room, view_of, shape_of, IsReady, IsUntouched}
 use Rattle.shr_base.specs.declared.journals.DropKind.TheVariants as kind
-use Rattle.shr_base.specs.declared.replies.Spent.{Spent}
 use Rattle.shr_list.specs.Answers.{drop_entry}
-use Rattle.shr_core.specs.declared.rooms.Room.{Room}
-use Rattle.shr_core.specs.Seats.{view_of, shape_of}
 use Rattle.shr_node.specs.Answers.{DropGives}
-use Rattle.shr_node.specs.Opening.{IsReady, IsUntouched}
 use Rattle.shr_node.specs.declared.answers.NodeDrop.{NodeDrop}
 use Rattle.shr_node.specs.declared.answers.NodeDrop.TheVariants as node
 use Rattle.shr_node.proofs.Acting.{asked_of, dropped, tenant_ready, tenant_untouched, tenant_acts, tenant_worn, tenant_lacks, grown, stayed, not_grown, not_left}

@@ -1,12 +1,7 @@
-use Rattle.std.proofs.Common.{◌≡◌, false, sym, refl, ap, subst, ◌∙◌}
-use Rattle.std.specs.Prelude.{Some, option_map}
-use Rattle.shr_model.specs.Objects.{holds, named_in}
-use Rattle.shr_base.specs.declared.replies.Spent.{Spent}
+use Rattle.shr_node.proofs.Common.{◌≡◌, false, sym, refl, ap, subst, ◌∙◌, Some, holds, named_in, Spent, Room, view_of, shape_of, IsReady, IsUntouched}
+use Rattle.std.specs.Prelude.{option_map}
 use Rattle.shr_list.specs.Answers.{look_entry}
-use Rattle.shr_core.specs.declared.rooms.Room.{Room}
-use Rattle.shr_core.specs.Seats.{view_of, shape_of}
 use Rattle.shr_node.specs.Answers.{LookGives}
-use Rattle.shr_node.specs.Opening.{IsReady, IsUntouched}
 use Rattle.shr_node.specs.declared.answers.NodeLook.{NodeLook}
 use Rattle.shr_node.specs.declared.answers.NodeLook.TheVariants as node
 use Rattle.shr_node.proofs.Acting.{asked_of, tenant_ready, tenant_untouched, tenant_acts, tenant_worn, tenant_lacks, grown, stayed, not_grown, not_left}

@@ -1,11 +1,6 @@
-use Rattle.std.proofs.Common.{◌≡◌, true, false, sym, refl, ap, subst, ◌∙◌}
-use Rattle.shr_model.specs.Objects.{holds}
-use Rattle.shr_base.specs.declared.replies.Spent.{Spent}
+use Rattle.shr_node.proofs.Common.{◌≡◌, true, false, sym, refl, ap, subst, ◌∙◌, holds, Spent, Room, view_of, shape_of, IsReady, IsUntouched}
 use Rattle.shr_list.specs.Answers.{pin_entry}
-use Rattle.shr_core.specs.declared.rooms.Room.{Room}
-use Rattle.shr_core.specs.Seats.{view_of, shape_of}
 use Rattle.shr_node.specs.Answers.{PinGives}
-use Rattle.shr_node.specs.Opening.{IsReady, IsUntouched}
 use Rattle.shr_node.specs.declared.answers.NodePin.{NodePin}
 use Rattle.shr_node.specs.declared.answers.NodePin.TheVariants as node
 use Rattle.shr_node.proofs.Acting.{asked_of, tenant_ready, tenant_untouched, tenant_acts, tenant_worn, tenant_lacks, grown, stayed, not_grown, not_left}

@@ -1,11 +1,6 @@
-use Rattle.std.proofs.Common.{◌≡◌, ◌≢◌, ℕ, Bool, false, List, ◌++◌, map, get_or, sym, refl, ap, ◌∙◌, arith, get_or-set_same, get_or-set_other}
-use mathlib.Core.Logic.{dite}
-use native.Mathlib.Decide.{ℕ_discrete}
-use Rattle.std.specs.Mem.Slots.{slots_items, slots_filled, slots_counts}
-use Rattle.shr_seats.specs.declared.rows.Sizes.{Sizes}
-use Rattle.shr_base.specs.declared.places.Place.{Place}
-use Rattle.shr_plain.specs.declared.slot.Slot.{Slot}
-use Rattle.shr_plain.specs.Ending.{end_value, end_of, ends_below, entries_at}
+use Rattle.shr_plain.proofs.Common.{◌≡◌, ◌≢◌, ℕ, Bool, false, List, ◌++◌, map, get_or, sym, refl, ap, ◌∙◌, arith, dite, ℕ_discrete, slots_items, slots_filled, Sizes, Place, Slot, end_value, end_of, ends_below, entries_at}
+use Rattle.std.proofs.Common.{get_or-set_same, get_or-set_other}
+use Rattle.std.specs.Mem.Slots.{slots_counts}
 use Rattle.shr_seats.proofs.RowLaws.{place_inside}
 use Rattle.shr_plain.proofs.Endings.{ends_none, ends_more}
 use Rattle.shr_plain.proofs.ending.take_ends.Goals as goal

@@ -1,7 +1,6 @@
-use Rattle.std.proofs.Common.{◌≡◌, ℕ, ◌<◌, true, false, map, get_or}
-use Rattle.std.specs.Mem.Slots.{slots_items, slots_filled, slots_len}
+use Rattle.shr_plain.proofs.Common.{◌≡◌, ℕ, ◌<◌, true, false, map, get_or, slots_items, slots_filled, end_value, ends_below, entries_at}
+use Rattle.std.specs.Mem.Slots.{slots_len}
 use Rattle.std.specs.Mem.Slots.Ownership.{Filled}
-use Rattle.shr_plain.specs.Ending.{end_value, ends_below, entries_at}
 use Rattle.shr_plain.proofs.ending.take_ends.Given as goal
 
 abbrev pub invariant-loop-row : goal.invariant-loop-row

@@ -1,9 +1,5 @@
-use Rattle.std.proofs.Common.{◌≡◌, [], length, ap, sym, subst, ◌∙◌, arith}
-use Rattle.std.proofs.lemmas.List.{length_push}
-use Rattle.shr_seats.specs.Views.{Each}
+use Rattle.shr_plain.proofs.Common.{◌≡◌, [], length, ap, sym, subst, ◌∙◌, arith, length_push, Each, Slot, entries_in}
 use Rattle.shr_seats.proofs.Sums.{Each-push}
-use Rattle.shr_plain.specs.declared.slot.Slot.{Slot}
-use Rattle.shr_plain.specs.Rule.{entries_in}
 use Rattle.shr_plain.proofs.opening.bare_rooms.Goals as goal
 
 pub loop-room-preserved : goal.loop-room-preserved

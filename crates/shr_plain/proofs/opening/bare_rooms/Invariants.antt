@@ -1,7 +1,4 @@
-use Rattle.std.proofs.Common.{◌≡◌, length, []}
-use Rattle.shr_seats.specs.Views.{Each}
-use Rattle.shr_plain.specs.declared.slot.Slot.{Slot}
-use Rattle.shr_plain.specs.Rule.{entries_in}
+use Rattle.shr_plain.proofs.Common.{◌≡◌, length, [], Each, Slot, entries_in}
 use Rattle.shr_plain.proofs.opening.bare_rooms.Given as goal
 
 abbrev pub invariant-loop-room : goal.invariant-loop-room

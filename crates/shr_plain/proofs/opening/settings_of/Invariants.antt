@@ -1,5 +1,4 @@
-use Rattle.std.proofs.Common.{◌≡◌, map, take}
-use Rattle.shr_plain.specs.Opening.{setting_by}
+use Rattle.shr_plain.proofs.Common.{◌≡◌, map, take, setting_by}
 use Rattle.shr_plain.proofs.opening.settings_of.Given as goal
 
 abbrev pub invariant-loop-i : goal.invariant-loop-i

@@ -1,8 +1,4 @@
-use Rattle.std.proofs.Common.{ap, ◌∙◌, ◌∷◌, [], arith}
-use Rattle.shr_seats.proofs.Weighing.{total-append}
-use Rattle.shr_pool.specs.declared.view.PassView.{PassView}
-use Rattle.shr_pool.specs.declared.items.SweepItem.TheVariants.{Walk}
-use Rattle.shr_pool.specs.Lines.{ends, is_end}
+use Rattle.shr_pool.proofs.Common.{ap, ◌∙◌, ◌∷◌, [], arith, total-append, PassView, Walk, ends, is_end}
 use Rattle.shr_pool.proofs.tests.work.Goals as goal
 
 pub loop-turn-preserved : goal.loop-turn-preserved

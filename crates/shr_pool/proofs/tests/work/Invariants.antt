@@ -1,6 +1,5 @@
-use Rattle.std.proofs.Common.{◌≡◌, ◌≤◌}
-use Rattle.shr_pool.specs.Lines.{ends, most_helpers}
-use Rattle.shr_pool.specs.Passes.{IsHelper, IsOf, view_of}
+use Rattle.shr_pool.proofs.Common.{◌≡◌, ◌≤◌, ends, most_helpers, IsHelper}
+use Rattle.shr_pool.specs.Passes.{IsOf, view_of}
 use Rattle.shr_pool.proofs.tests.work.Given as goal
 
 abbrev pub invariant-loop-turn : goal.invariant-loop-turn

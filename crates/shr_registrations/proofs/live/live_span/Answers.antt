@@ -1,7 +1,4 @@
-use Rattle.std.proofs.Common.{◌+◌, ℕ, ap, ◌∙◌}
-use Rattle.std.specs.Prelude.{◌&&◌, nat_le, nat_lt}
-use Rattle.shr_registrations.specs.Live.{entry_key}
-use Rattle.shr_registrations.specs.Met.{lookup_key}
+use Rattle.shr_registrations.proofs.Common.{◌+◌, ℕ, ap, ◌∙◌, ◌&&◌, nat_le, nat_lt, entry_key, lookup_key}
 use Rattle.shr_registrations.proofs.Spanning.{entry_has}
 use Rattle.shr_registrations.proofs.live.live_span.Goals as goal
 

@@ -1,7 +1,4 @@
-use Rattle.std.proofs.Common.{List, ◌∷◌, sym, subst, ◌∙◌}
-use Rattle.shr_base.specs.declared.journals.PoolEntry.TheVariants.{Registered}
-use Rattle.shr_registrations.specs.declared.steps.Span.{Span}
-use Rattle.shr_registrations.specs.Live.{AreLivesNoted}
+use Rattle.shr_registrations.proofs.Common.{List, ◌∷◌, sym, subst, ◌∙◌, Registered, Span, AreLivesNoted}
 use Rattle.shr_registrations.proofs.Spanning.{lives_registered, of_is}
 use Rattle.shr_registrations.proofs.live.note_registered.Goals as goal
 

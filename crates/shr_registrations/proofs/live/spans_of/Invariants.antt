@@ -1,5 +1,4 @@
-use Rattle.std.proofs.Common.{◌≤◌, drop, length}
-use Rattle.shr_registrations.specs.Live.{AreLivesNoted}
+use Rattle.shr_registrations.proofs.Common.{◌≤◌, drop, length, AreLivesNoted}
 use Rattle.shr_registrations.proofs.live.spans_of.Given as goal
 
 abbrev pub invariant-loop-left : goal.invariant-loop-left

@@ -1,7 +1,4 @@
-use Rattle.std.proofs.Common.{List, ◌∷◌, sym, subst, ◌∙◌}
-use Rattle.shr_base.specs.declared.journals.PoolEntry.TheVariants.{Registered}
-use Rattle.shr_registrations.specs.declared.steps.Span.{Span}
-use Rattle.shr_registrations.specs.Met.{AreNoted}
+use Rattle.shr_registrations.proofs.Common.{List, ◌∷◌, sym, subst, ◌∙◌, Registered, Span, AreNoted}
 use Rattle.shr_registrations.proofs.Noting.{noted_registered}
 use Rattle.shr_registrations.proofs.met.note_registered.Goals as goal
 

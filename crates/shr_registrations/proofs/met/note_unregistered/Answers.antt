@@ -1,6 +1,4 @@
-use Rattle.std.proofs.Common.{Bool, Some, cond, ap, ◌∙◌}
-use Rattle.std.specs.Ordering.{nat_cmp}
-use Rattle.std.specs.BTreeMap.{get}
+use Rattle.shr_registrations.proofs.Common.{Bool, Some, cond, ap, ◌∙◌, nat_cmp, get}
 use Rattle.shr_registrations.proofs.Noting.{at_same, noted_unregistered}
 use Rattle.shr_registrations.proofs.met.note_unregistered.Goals as goal
 

@@ -1,5 +1,4 @@
-use Rattle.std.proofs.Common.{◌≤◌, drop, length}
-use Rattle.shr_registrations.specs.Met.{AreNoted}
+use Rattle.shr_registrations.proofs.Common.{◌≤◌, drop, length, AreNoted}
 use Rattle.shr_registrations.proofs.met.spans_of.Given as goal
 
 abbrev pub invariant-loop-left : goal.invariant-loop-left

@@ -1,10 +1,6 @@
-use Rattle.std.specs.Prelude.{slice_set, option_copied}
-use Rattle.shr_model.specs.Places.{at_group}
-use Rattle.shr_replay.specs.declared.journal.Replayed.{Replayed}
-use Rattle.std.proofs.Common.{length-set, length-append, List, [], ◌∷◌, ◌≡◌, ◌∙◌, ℕ, ◌+◌, ◌-◌, ◌<◌, ◌≤◌, length, sym, ap, subst, arith}
-use Rattle.shr_base.specs.declared.places.Place.{Place}
-use Rattle.shr_model.specs.Families.{Family}
-use Rattle.shr_replay.specs.Groups.{AreJournals, AreReplayed, entries_in, items_in}
+use Rattle.shr_replay.proofs.Common.{slice_set, at_group, Replayed, length-set, length-append, List, [], ◌∷◌, ◌≡◌, ◌∙◌, ℕ, ◌+◌, ◌-◌, ◌<◌, ◌≤◌, length, sym, ap, subst, arith, Place, Family, AreJournals, AreReplayed, entries_in}
+use Rattle.std.specs.Prelude.{option_copied}
+use Rattle.shr_replay.specs.Groups.{items_in}
 use Rattle.shr_replay.proofs.Climbing.{AreClimbed, climbed_none, climbed_more, one_told, one_given}
 use Rattle.shr_replay.proofs.groups.replay_groups.Goals as goal
 

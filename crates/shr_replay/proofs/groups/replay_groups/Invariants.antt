@@ -1,8 +1,5 @@
-use Rattle.std.proofs.Common.{◌≡◌, ℕ, ◌-◌, List, length}
-use Rattle.shr_base.specs.declared.objects.Object.{Object}
-use Rattle.shr_base.specs.declared.places.Place.{Place}
-use Rattle.shr_model.specs.Families.{Family}
-use Rattle.shr_replay.specs.Groups.{AreJournals, ArePrinted}
+use Rattle.shr_replay.proofs.Common.{◌≡◌, ℕ, ◌-◌, List, length, Object, Place, Family, AreJournals}
+use Rattle.shr_replay.specs.Groups.{ArePrinted}
 use Rattle.shr_replay.proofs.Climbing.{AreClimbed}
 use Rattle.shr_replay.proofs.groups.replay_groups.Given as goal
 

@@ -1,7 +1,4 @@
-use Rattle.std.proofs.Common.{◌≡◌, ◌∷◌, ◌∙◌, true, false, List, Option, Some, sym, ap, subst}
-use Rattle.std.specs.Bool.{Decides}
-use Rattle.shr_base.specs.declared.objects.Object.{Object}
-use Rattle.shr_list.specs.Nodes.{IsAt}
+use Rattle.shr_replay.proofs.Common.{◌≡◌, ◌∷◌, ◌∙◌, true, false, List, Option, Some, sym, ap, subst, Decides, Object, IsAt}
 use Rattle.shr_replay.proofs.Matching.{matched_none, matched_at, matched_more, matched_all, too_many, other_object}
 use Rattle.shr_replay.proofs.items.are_items.Goals as goal
 

@@ -1,8 +1,5 @@
-use Rattle.std.proofs.Common.{◌≡◌, ◌≤◌, ◌+◌, ◌∙◌, sym, ap, subst, List, [], ◌∷◌, length, drop, refl, ℕ}
+use Rattle.shr_replay.proofs.Common.{◌≡◌, ◌≤◌, ◌+◌, ◌∙◌, sym, ap, subst, List, [], ◌∷◌, length, drop, refl, ℕ, Entry, Object, took_of, KeepsOthers}
 use Rattle.std.proofs.lemmas.List.{drop_more, drop_all}
-use Rattle.shr_base.specs.declared.journals.Entry.{Entry}
-use Rattle.shr_base.specs.declared.objects.Object.{Object}
-use Rattle.shr_replay.specs.Lists.{took_of, KeepsOthers}
 use Rattle.shr_replay.proofs.Taking.{keeps_more}
 use Rattle.shr_replay.proofs.Following.{IsBehind, behind_none, behind_more, replayed_all, given_all}
 use Rattle.shr_replay.proofs.journal.replay_journal.Goals as goal

@@ -1,5 +1,4 @@
-use Rattle.std.proofs.Common.{drop}
-use Rattle.shr_replay.specs.Lists.{took_of, KeepsOthers}
+use Rattle.shr_replay.proofs.Common.{drop, took_of, KeepsOthers}
 use Rattle.shr_replay.proofs.Following.{IsBehind}
 use Rattle.shr_replay.proofs.journal.replay_journal.Given as goal
 

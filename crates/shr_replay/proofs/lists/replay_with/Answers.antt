@@ -1,6 +1,4 @@
-use Rattle.std.proofs.Common.{◌≡◌, sym, ◌∙◌, Some, false, true}
-use Rattle.shr_model.specs.Families.{child_of}
-use Rattle.shr_replay.specs.Lists.{took_of}
+use Rattle.shr_replay.proofs.Common.{◌≡◌, sym, ◌∙◌, Some, false, true, child_of, took_of}
 use Rattle.shr_replay.proofs.Moving.{after_some, left_some}
 use Rattle.shr_replay.proofs.Taking.{took_none, without_none, took_rest}
 use Rattle.shr_replay.proofs.lists.replay_with.Goals as goal

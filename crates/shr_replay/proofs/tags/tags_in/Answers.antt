@@ -1,9 +1,5 @@
-use Rattle.std.proofs.Common.{◌≡◌, ◌≤◌, ◌+◌, ◌++◌, ◌∷◌, [], Option, Some, ℕ, List, length, map, ◌∙◌, sym, ap, subst, inl, inr, arith}
+use Rattle.shr_replay.proofs.Common.{◌≡◌, ◌≤◌, ◌+◌, ◌++◌, ◌∷◌, [], Option, Some, ℕ, List, length, map, ◌∙◌, sym, ap, subst, inl, inr, arith, Keyed, objects_of, Object, Tag, tag_of}
 use Rattle.std.proofs.lemmas.List.{length-map}
-use Rattle.shr_list.specs.Nodes.{Keyed, objects_of}
-use Rattle.shr_base.specs.declared.objects.Object.{Object}
-use Rattle.shr_replay.specs.declared.tags.Tag.{Tag}
-use Rattle.shr_replay.specs.Tags.{tag_of}
 use Rattle.shr_replay.proofs.Listing.{IsListed, listed_none, node_here, listed_more, listed_all}
 use Rattle.shr_replay.proofs.tags.tags_in.Goals as goal
 

@@ -1,9 +1,4 @@
-use Rattle.std.proofs.Common.{length}
-use Rattle.std.specs.Prelude.{flat_map}
-use Rattle.std.specs.List.{AllByRecursion}
-use Rattle.shr_outside.specs.Paper.{PrintsTo}
-use Rattle.shr_report.specs.Numbers.{IsObjectNumbered}
-use Rattle.shr_report.specs.Text.{item_line}
+use Rattle.shr_report.proofs.Common.{length, flat_map, AllByRecursion, PrintsTo, IsObjectNumbered, item_line}
 use Rattle.shr_report.proofs.entries.items.Given as goal
 
 abbrev pub invariant-loop-o : goal.invariant-loop-o

@@ -1,7 +1,4 @@
-use Rattle.std.proofs.Common.{◌∷◌, [], ap}
-use Rattle.std.specs.Prelude.{decimal}
-use Rattle.shr_outside.proofs.Printing.{prints_both, prints_as}
-use Rattle.shr_report.specs.Lines.{numeral}
+use Rattle.shr_report.proofs.Common.{◌∷◌, [], ap, decimal, prints_both, prints_as, numeral}
 use Rattle.shr_report.proofs.Numerals.{decimal_is}
 use Rattle.shr_report.proofs.lines.add_number.Goals as goal
 

@@ -1,7 +1,4 @@
-use Rattle.std.proofs.Common.{take}
-use Rattle.shr_outside.specs.Paper.{Prints}
-use Rattle.shr_report.specs.Lines.{spaced}
-use Rattle.shr_report.specs.Words.{word_texts}
+use Rattle.shr_report.proofs.Common.{take, Prints, spaced, word_texts}
 use Rattle.shr_report.proofs.lines.put_words.Given as goal
 
 abbrev pub invariant-loop-word : goal.invariant-loop-word

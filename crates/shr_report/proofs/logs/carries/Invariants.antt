@@ -1,9 +1,4 @@
-use Rattle.std.proofs.Common.{take}
-use Rattle.std.specs.Prelude.{flat_map}
-use Rattle.std.specs.List.{AllByRecursion}
-use Rattle.shr_outside.specs.Paper.{Prints}
-use Rattle.shr_report.specs.Numbers.{IsCarryNumbered}
-use Rattle.shr_report.specs.WalkText.{carry_line}
+use Rattle.shr_report.proofs.Common.{take, flat_map, AllByRecursion, Prints, IsCarryNumbered, carry_line}
 use Rattle.shr_report.proofs.logs.carries.Given as goal
 
 abbrev pub invariant-loop-c : goal.invariant-loop-c

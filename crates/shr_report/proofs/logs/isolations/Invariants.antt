@@ -1,9 +1,4 @@
-use Rattle.std.proofs.Common.{take}
-use Rattle.std.specs.Prelude.{flat_map}
-use Rattle.std.specs.List.{AllByRecursion}
-use Rattle.shr_outside.specs.Paper.{Prints}
-use Rattle.shr_report.specs.Numbers.{IsIsolationNumbered}
-use Rattle.shr_report.specs.WalkText.{isolation_line}
+use Rattle.shr_report.proofs.Common.{take, flat_map, AllByRecursion, Prints, IsIsolationNumbered, isolation_line}
 use Rattle.shr_report.proofs.logs.isolations.Given as goal
 
 abbrev pub invariant-loop-i : goal.invariant-loop-i

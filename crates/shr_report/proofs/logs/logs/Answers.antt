@@ -1,13 +1,4 @@
-use Rattle.std.proofs.Common.{◌≡◌, ◌+◌, ◌-◌, ◌++◌, drop, flat_map, arith}
-use Rattle.std.proofs.lemmas.List.{take_rest}
-use Rattle.std.specs.Prelude.{take_while}
-use Rattle.std.specs.List.{prefix_len}
-use Rattle.shr_outside.proofs.Printing.{prints_both}
-use Rattle.shr_report.specs.Lines.{numbered}
-use Rattle.shr_report.specs.Numbers.{IsWalkNumbered, IsCarryNumbered, IsPlainNumbered, IsIsolationNumbered}
-use Rattle.shr_report.specs.Printing.{logs_from}
-use Rattle.shr_report.specs.WalkText.{walk_lines, carry_line, plain_lines, isolation_line}
-use Rattle.shr_report.specs.Text.{is_walk_of, is_carry_of, is_plain_of, is_isolation_of}
+use Rattle.shr_report.proofs.Common.{◌≡◌, ◌+◌, ◌-◌, ◌++◌, drop, flat_map, arith, take_rest, take_while, prefix_len, prints_both, numbered, IsWalkNumbered, IsCarryNumbered, IsPlainNumbered, IsIsolationNumbered, logs_from, walk_lines, carry_line, plain_lines, isolation_line, is_walk_of, is_carry_of, is_plain_of, is_isolation_of}
 use Rattle.shr_report.proofs.Ranges.{each_joined}
 use Rattle.shr_report.proofs.logs.logs.Goals as goal
 

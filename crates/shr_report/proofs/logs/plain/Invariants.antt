@@ -1,9 +1,4 @@
-use Rattle.std.proofs.Common.{◌+◌, drop, take}
-use Rattle.std.specs.List.{AllByRecursion}
-use Rattle.shr_outside.specs.Paper.{PrintsTo}
-use Rattle.shr_report.specs.Numbers.{IsPlainNumbered}
-use Rattle.shr_report.specs.Lines.{numbered}
-use Rattle.shr_report.specs.WalkText.{plain_lines}
+use Rattle.shr_report.proofs.Common.{◌+◌, drop, take, AllByRecursion, PrintsTo, IsPlainNumbered, numbered, plain_lines}
 use Rattle.shr_report.proofs.logs.plain.Given as goal
 
 abbrev pub invariant-loop-i : goal.invariant-loop-i

@@ -1,7 +1,4 @@
-use Rattle.std.proofs.Common.{◌+◌, add_assoc, sym}
-use Rattle.shr_outside.proofs.Printing.{prints_part, prints_all}
-use Rattle.shr_report.specs.WalkText.{walk_lines}
-use Rattle.shr_report.specs.Numbers.{IsWalkNumbered}
+use Rattle.shr_report.proofs.Common.{◌+◌, add_assoc, sym, prints_part, prints_all, walk_lines, IsWalkNumbered}
 use Rattle.shr_report.proofs.Ranges.{each_more, each_done}
 use Rattle.shr_report.proofs.Numbered.{numbered_next, numbered_end}
 use Rattle.shr_report.proofs.logs.walks.Goals as goal

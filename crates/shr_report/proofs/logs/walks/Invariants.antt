@@ -1,9 +1,4 @@
-use Rattle.std.proofs.Common.{◌+◌, drop, take}
-use Rattle.std.specs.List.{AllByRecursion}
-use Rattle.shr_outside.specs.Paper.{PrintsTo}
-use Rattle.shr_report.specs.Numbers.{IsWalkNumbered}
-use Rattle.shr_report.specs.Lines.{numbered}
-use Rattle.shr_report.specs.WalkText.{walk_lines}
+use Rattle.shr_report.proofs.Common.{◌+◌, drop, take, AllByRecursion, PrintsTo, IsWalkNumbered, numbered, walk_lines}
 use Rattle.shr_report.proofs.logs.walks.Given as goal
 
 abbrev pub invariant-loop-i : goal.invariant-loop-i

@@ -1,8 +1,4 @@
-use Rattle.std.proofs.Common.{get_or, refl}
-use Rattle.shr_outside.proofs.Printing.{prints_part, prints_all}
-use Rattle.shr_base.specs.declared.walks.PlainTry.TheVariants.{Empty}
-use Rattle.shr_report.specs.Numbers.{IsTryNumbered}
-use Rattle.shr_report.specs.WalkText.{pass_line}
+use Rattle.shr_report.proofs.Common.{get_or, refl, prints_part, prints_all, Empty, IsTryNumbered, pass_line}
 use Rattle.shr_report.proofs.Numbered.{numbered_next_at, numbered_end}
 use Rattle.shr_report.proofs.Ranges.{each_more_at, each_done}
 use Rattle.shr_report.proofs.plain.tries.Goals as goal

@@ -1,9 +1,4 @@
-use Rattle.std.proofs.Common.{drop, take}
-use Rattle.std.specs.List.{AllByRecursion}
-use Rattle.shr_outside.specs.Paper.{PrintsTo}
-use Rattle.shr_report.specs.Numbers.{IsTryNumbered}
-use Rattle.shr_report.specs.Lines.{numbered}
-use Rattle.shr_report.specs.WalkText.{pass_line}
+use Rattle.shr_report.proofs.Common.{drop, take, AllByRecursion, PrintsTo, IsTryNumbered, numbered, pass_line}
 use Rattle.shr_report.proofs.plain.tries.Given as goal
 
 abbrev pub invariant-loop-pool : goal.invariant-loop-pool

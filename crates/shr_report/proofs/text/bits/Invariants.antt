@@ -1,9 +1,4 @@
-use Rattle.std.proofs.Common.{take}
-use Rattle.std.specs.Prelude.{flat_map}
-use Rattle.std.specs.List.{AllByRecursion}
-use Rattle.shr_outside.specs.Paper.{Prints}
-use Rattle.shr_report.specs.Numbers.{IsMapNumbered}
-use Rattle.shr_report.specs.Text.{bit_line}
+use Rattle.shr_report.proofs.Common.{take, flat_map, AllByRecursion, Prints, IsMapNumbered, bit_line}
 use Rattle.shr_report.proofs.text.bits.Given as goal
 
 abbrev pub invariant-loop-map : goal.invariant-loop-map

@@ -1,7 +1,4 @@
-use Rattle.std.proofs.Common.{take}
-use Rattle.std.specs.Prelude.{flat_map}
-use Rattle.shr_outside.specs.Paper.{Prints}
-use Rattle.shr_report.specs.Text.{deferred_line}
+use Rattle.shr_report.proofs.Common.{take, flat_map, Prints, deferred_line}
 use Rattle.shr_report.proofs.text.deferred.Given as goal
 
 abbrev pub invariant-loop-word : goal.invariant-loop-word

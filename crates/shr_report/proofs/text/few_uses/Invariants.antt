@@ -1,8 +1,4 @@
-use Rattle.std.proofs.Common.{◌≡◌, ◌≤◌, ◌*◌, drop, length}
-use Rattle.std.specs.Prelude.{flat_map}
-use Rattle.std.specs.List.{AllByRecursion}
-use Rattle.shr_report.specs.Text.{use_line}
-use Rattle.shr_report.specs.Numbers.{IsUseNumbered}
+use Rattle.shr_report.proofs.Common.{◌≡◌, ◌≤◌, ◌*◌, drop, length, flat_map, AllByRecursion, use_line, IsUseNumbered}
 use Rattle.shr_report.proofs.text.few_uses.Given as goal
 
 abbrev pub invariant-loop-left : goal.invariant-loop-left

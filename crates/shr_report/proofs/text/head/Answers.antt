@@ -1,8 +1,4 @@
-use Rattle.std.proofs.Common.{[], ◌∷◌, ◌++◌}
-use Rattle.std.specs.Prelude.{codes}
-use Rattle.shr_outside.proofs.Printing.{prints_both}
-use Rattle.shr_report.specs.Lines.{line, numeral, numbered}
-use Rattle.shr_report.specs.Text.{group_line, cache_line, units_name_line}
+use Rattle.shr_report.proofs.Common.{[], ◌∷◌, ◌++◌, codes, prints_both, line, numeral, numbered, group_line, cache_line, units_name_line}
 use Rattle.shr_report.proofs.text.head.Goals as goal
 
 pub returns : goal.returns

@@ -1,8 +1,5 @@
-use Rattle.std.proofs.Common.{◌++◌}
-use Rattle.std.specs.Prelude.{flat_map}
-use Rattle.shr_outside.proofs.Printing.{prints_both}
-use Rattle.shr_report.specs.Lines.{numbered}
-use Rattle.shr_report.specs.Text.{text, head_lines, journal_lines, worker_lines, place_lines, units_lines, table_lines, end_lines}
+use Rattle.shr_report.proofs.Common.{◌++◌, flat_map, prints_both, numbered, worker_lines, place_lines, units_lines, end_lines}
+use Rattle.shr_report.specs.Text.{text, head_lines, journal_lines, table_lines}
 use Rattle.shr_report.proofs.Ranges.{numbers_of}
 use Rattle.shr_report.proofs.text.lines.Goals as goal
 

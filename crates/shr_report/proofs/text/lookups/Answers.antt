@@ -1,6 +1,4 @@
-use Rattle.std.proofs.Common.{get_or, refl}
-use Rattle.shr_outside.proofs.Printing.{prints_part, prints_all}
-use Rattle.shr_report.specs.Text.{lookups_line}
+use Rattle.shr_report.proofs.Common.{get_or, refl, prints_part, prints_all, lookups_line}
 use Rattle.shr_report.proofs.Numbered.{numbered_next_at, numbered_end}
 use Rattle.shr_report.proofs.text.lookups.Goals as goal
 

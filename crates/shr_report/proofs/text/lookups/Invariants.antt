@@ -1,7 +1,4 @@
-use Rattle.std.proofs.Common.{drop}
-use Rattle.shr_outside.specs.Paper.{PrintsTo}
-use Rattle.shr_report.specs.Lines.{numbered}
-use Rattle.shr_report.specs.Text.{lookups_line}
+use Rattle.shr_report.proofs.Common.{drop, PrintsTo, numbered, lookups_line}
 use Rattle.shr_report.proofs.text.lookups.Given as goal
 
 abbrev pub invariant-loop-id : goal.invariant-loop-id

@@ -1,7 +1,4 @@
-use Rattle.std.proofs.Common.{refl}
-use Rattle.std.specs.Prelude.{◌∷◌, []}
-use Rattle.shr_outside.proofs.Printing.{prints_part, prints_all}
-use Rattle.shr_report.specs.Lines.{line, numeral}
+use Rattle.shr_report.proofs.Common.{refl, ◌∷◌, [], prints_part, prints_all, line, numeral}
 use Rattle.shr_report.proofs.Numbered.{numbered_next, numbered_end}
 use Rattle.shr_report.proofs.text.names.Goals as goal
 

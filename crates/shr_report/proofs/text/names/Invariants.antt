@@ -1,6 +1,4 @@
-use Rattle.std.proofs.Common.{drop, ◌∷◌, []}
-use Rattle.shr_outside.specs.Paper.{PrintsTo}
-use Rattle.shr_report.specs.Lines.{line, numbered, numeral}
+use Rattle.shr_report.proofs.Common.{drop, ◌∷◌, [], PrintsTo, line, numbered, numeral}
 use Rattle.shr_report.proofs.text.names.Given as goal
 
 abbrev pub invariant-loop-i : goal.invariant-loop-i

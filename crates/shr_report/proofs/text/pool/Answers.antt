@@ -1,7 +1,4 @@
-use Rattle.std.proofs.Common.{refl}
-use Rattle.shr_outside.proofs.Printing.{prints_part, prints_all}
-use Rattle.shr_base.specs.declared.journals.PoolEntry.TheVariants.{Registered}
-use Rattle.shr_report.specs.Text.{pool_line}
+use Rattle.shr_report.proofs.Common.{refl, prints_part, prints_all, Registered, pool_line}
 use Rattle.shr_report.proofs.Numbered.{numbered_next_at, numbered_end}
 use Rattle.shr_report.proofs.text.pool.Goals as goal
 

@@ -1,7 +1,4 @@
-use Rattle.std.proofs.Common.{◌≡◌, ◌+◌, ◌-◌, arith}
-use Rattle.shr_outside.proofs.Printing.{prints_part}
-use Rattle.shr_report.specs.Text.{use_line}
-use Rattle.shr_report.specs.Numbers.{IsUseNumbered}
+use Rattle.shr_report.proofs.Common.{◌≡◌, ◌+◌, ◌-◌, arith, prints_part, use_line, IsUseNumbered}
 use Rattle.shr_report.proofs.Ranges.{each_joined}
 use Rattle.shr_report.proofs.Joined.{lines_next}
 use Rattle.shr_report.proofs.text.uses.Goals as goal

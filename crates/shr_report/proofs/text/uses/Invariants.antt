@@ -1,9 +1,4 @@
-use Rattle.std.proofs.Common.{◌≤◌, ◌-◌, take, drop, length}
-use Rattle.std.specs.Prelude.{flat_map}
-use Rattle.std.specs.List.{AllByRecursion}
-use Rattle.shr_outside.specs.Paper.{PrintsTo}
-use Rattle.shr_report.specs.Text.{use_line}
-use Rattle.shr_report.specs.Numbers.{IsUseNumbered}
+use Rattle.shr_report.proofs.Common.{◌≤◌, ◌-◌, take, drop, length, flat_map, AllByRecursion, PrintsTo, use_line, IsUseNumbered}
 use Rattle.shr_report.proofs.text.uses.Given as goal
 
 abbrev pub invariant-loop-done : goal.invariant-loop-done

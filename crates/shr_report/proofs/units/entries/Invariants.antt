@@ -1,9 +1,4 @@
-use Rattle.std.proofs.Common.{take}
-use Rattle.std.specs.Prelude.{flat_map}
-use Rattle.std.specs.List.{AllByRecursion}
-use Rattle.shr_outside.specs.Paper.{Prints}
-use Rattle.shr_report.specs.Numbers.{IsPlainEntryNumbered}
-use Rattle.shr_report.specs.Text.{plain_entry_line}
+use Rattle.shr_report.proofs.Common.{take, flat_map, AllByRecursion, Prints, IsPlainEntryNumbered, plain_entry_line}
 use Rattle.shr_report.proofs.units.entries.Given as goal
 
 abbrev pub invariant-loop-entry : goal.invariant-loop-entry

@@ -1,9 +1,4 @@
-use Rattle.std.proofs.Common.{take}
-use Rattle.std.specs.Prelude.{flat_map}
-use Rattle.std.specs.List.{AllByRecursion}
-use Rattle.shr_outside.specs.Paper.{Prints}
-use Rattle.shr_report.specs.Numbers.{AreUnitsNumbered}
-use Rattle.shr_report.specs.Text.{units_lines}
+use Rattle.shr_report.proofs.Common.{take, flat_map, AllByRecursion, Prints, AreUnitsNumbered, units_lines}
 use Rattle.shr_report.proofs.units.pool_ends.Given as goal
 
 abbrev pub invariant-loop-end : goal.invariant-loop-end

@@ -1,8 +1,4 @@
-use Rattle.std.proofs.Common.{get_or, take}
-use Rattle.std.specs.Prelude.{flat_map}
-use Rattle.shr_outside.proofs.Printing.{prints_both}
-use Rattle.shr_base.specs.declared.ends.PlaceAmount.{PlaceAmount}
-use Rattle.shr_report.specs.Text.{pool_deferred_line}
+use Rattle.shr_report.proofs.Common.{get_or, take, flat_map, prints_both, PlaceAmount, pool_deferred_line}
 use Rattle.shr_report.proofs.Joined.{lines_more}
 use Rattle.shr_report.proofs.units.pool_words.Goals as goal
 

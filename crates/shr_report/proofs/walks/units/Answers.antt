@@ -1,8 +1,5 @@
-use Rattle.std.proofs.Common.{◌≡◌, ◌+◌, ◌-◌, arith, get_or, length-drop, refl}
-use Rattle.std.proofs.lemmas.List.{take_rest}
-use Rattle.shr_outside.proofs.Printing.{prints_part, prints_all}
-use Rattle.shr_report.specs.WalkText.{map_line}
-use Rattle.shr_report.specs.Numbers.{IsSeenNumbered, IsAttemptNumbered}
+use Rattle.shr_report.proofs.Common.{◌≡◌, ◌+◌, ◌-◌, arith, get_or, refl, take_rest, prints_part, prints_all, map_line, IsSeenNumbered, IsAttemptNumbered}
+use Rattle.std.proofs.Common.{length-drop}
 use Rattle.shr_report.proofs.Ranges.{each_joined, each_rest, each_more_at}
 use Rattle.shr_report.proofs.Joined.{units_next, units_end}
 use Rattle.shr_report.proofs.walks.units.Goals as goal

@@ -1,7 +1,4 @@
-use Rattle.std.proofs.Common.{◌≤◌, drop, take, length}
-use Rattle.std.specs.List.{AllByRecursion}
-use Rattle.shr_outside.specs.Paper.{PrintsTo}
-use Rattle.shr_report.specs.Numbers.{IsSeenNumbered, IsAttemptNumbered}
+use Rattle.shr_report.proofs.Common.{◌≤◌, drop, take, length, AllByRecursion, PrintsTo, IsSeenNumbered, IsAttemptNumbered}
 use Rattle.shr_report.specs.WalkText.{map_lines}
 use Rattle.shr_report.proofs.walks.units.Given as goal
 

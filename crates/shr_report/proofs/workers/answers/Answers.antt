@@ -1,8 +1,4 @@
-use Rattle.std.proofs.Common.{◌+◌, ◌++◌, refl, sym, subst, arith}
-use Rattle.shr_outside.proofs.Printing.{prints_part, prints_all}
-use Rattle.shr_report.specs.AnswerText.{reply_line, found_lines}
-use Rattle.shr_report.specs.Numbers.{IsAnsweredNumbered}
-use Rattle.shr_report.specs.Printing.{logs_from}
+use Rattle.shr_report.proofs.Common.{◌+◌, ◌++◌, refl, sym, subst, arith, prints_part, prints_all, reply_line, found_lines, IsAnsweredNumbered, logs_from}
 use Rattle.shr_report.proofs.Ranges.{each_more, each_done, AreLeft, left_first, left_next, part_numbers}
 use Rattle.shr_report.proofs.Joined.{answers_next, answers_end}
 use Rattle.shr_report.proofs.workers.answers.Goals as goal

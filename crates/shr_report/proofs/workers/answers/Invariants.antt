@@ -1,10 +1,6 @@
-use Rattle.std.proofs.Common.{drop, take}
-use Rattle.std.specs.List.{AllByRecursion}
-use Rattle.shr_outside.specs.Paper.{PrintsTo}
-use Rattle.shr_report.specs.Numbers.{IsAnsweredNumbered}
-use Rattle.shr_report.specs.Printing.{logs_from, IsWithin, AreNumberedTo}
-use Rattle.shr_report.specs.Text.{answer_lines, logs_of}
-use Rattle.shr_report.specs.WellFormed.{IsPartWell}
+use Rattle.shr_report.proofs.Common.{drop, take, AllByRecursion, PrintsTo, IsAnsweredNumbered, logs_from, AreNumberedTo, logs_of, IsPartWell}
+use Rattle.shr_report.specs.Printing.{IsWithin}
+use Rattle.shr_report.specs.Text.{answer_lines}
 use Rattle.shr_report.proofs.Ranges.{AreLeft}
 use Rattle.shr_report.proofs.workers.answers.Given as goal
 

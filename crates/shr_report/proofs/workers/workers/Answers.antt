@@ -1,8 +1,5 @@
-use Rattle.std.proofs.Common.{refl}
+use Rattle.shr_report.proofs.Common.{refl, prints_part, prints_all, IsPartNumbered, worker_lines}
 use Rattle.std.proofs.lemmas.Option.{slice_get_read}
-use Rattle.shr_outside.proofs.Printing.{prints_part, prints_all}
-use Rattle.shr_report.specs.Numbers.{IsPartNumbered}
-use Rattle.shr_report.specs.Text.{worker_lines}
 use Rattle.shr_report.proofs.Ranges.{each_more, each_done}
 use Rattle.shr_report.proofs.Numbered.{numbered_next, numbered_end}
 use Rattle.shr_report.proofs.workers.workers.Goals as goal

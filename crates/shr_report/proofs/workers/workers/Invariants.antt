@@ -1,9 +1,4 @@
-use Rattle.std.proofs.Common.{drop, take}
-use Rattle.std.specs.List.{AllByRecursion}
-use Rattle.shr_outside.specs.Paper.{PrintsTo}
-use Rattle.shr_report.specs.Numbers.{IsPartNumbered, ArePartsWell}
-use Rattle.shr_report.specs.Lines.{numbered}
-use Rattle.shr_report.specs.Text.{worker_lines}
+use Rattle.shr_report.proofs.Common.{drop, take, AllByRecursion, PrintsTo, IsPartNumbered, ArePartsWell, numbered, worker_lines}
 use Rattle.shr_report.proofs.workers.workers.Given as goal
 
 abbrev pub invariant-loop-worker : goal.invariant-loop-worker

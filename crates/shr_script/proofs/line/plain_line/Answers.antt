@@ -1,7 +1,6 @@
+use Rattle.shr_script.proofs.Common.{state_of, drafted}
 use Rattle.shr_model.specs.Pieces.{left}
 use Rattle.shr_words.specs.Classes.{words_left}
-use Rattle.shr_script.specs.Said.{state_of}
-use Rattle.shr_script.specs.Drafted.{drafted}
 use Rattle.shr_script.proofs.PutLaws.{put_is}
 use Rattle.shr_script.proofs.line.plain_line.Goals as goal
 

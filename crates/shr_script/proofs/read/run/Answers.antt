@@ -1,9 +1,5 @@
-use Rattle.std.proofs.Common.{refl, sym, subst, ◌≡◌, option_map, arith, ◌≤◌}
+use Rattle.shr_script.proofs.Common.{refl, sym, subst, ◌≡◌, option_map, arith, ◌≤◌, State, start, state_of, drafted, run_of}
 use Rattle.shr_model.specs.Pieces.{left}
-use Rattle.shr_script.specs.Lines.{State, start}
-use Rattle.shr_script.specs.Said.{state_of}
-use Rattle.shr_script.specs.Drafted.{drafted}
-use Rattle.shr_script.specs.Read.{run_of}
 use Rattle.shr_script.proofs.RunLaws.{run_ended, run_goes_on, run_out}
 use Rattle.shr_script.proofs.ReadLaws.{run_stops}
 use Rattle.shr_script.proofs.GrowthLaws.{Few, few_start, few_lines, part_grows, said_lines}

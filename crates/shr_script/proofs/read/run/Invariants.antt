@@ -1,9 +1,5 @@
-use Rattle.std.proofs.Common.{◌≡◌, ◌≤◌, length}
-use Rattle.std.specs.Prelude.{option_map}
+use Rattle.shr_script.proofs.Common.{◌≡◌, ◌≤◌, length, option_map, state_of, drafted, run_from, run_of}
 use Rattle.shr_model.specs.Pieces.{left}
-use Rattle.shr_script.specs.Said.{state_of}
-use Rattle.shr_script.specs.Drafted.{drafted, run_from}
-use Rattle.shr_script.specs.Read.{run_of}
 use Rattle.shr_script.proofs.GrowthLaws.{Few, said_lines}
 use Rattle.shr_script.proofs.read.run.Given as goal
 

@@ -1,5 +1,4 @@
-use Rattle.std.proofs.Common.{◌≡◌, Bool, true, false, arith}
-use Rattle.shr_base.specs.declared.places.Serial.{Serial}
+use Rattle.shr_serials.proofs.Common.{◌≡◌, Bool, true, false, arith, Serial}
 use Rattle.shr_serials.proofs.Sorting.{same_lists, keys_at}
 use Rattle.shr_serials.proofs.bags.are_same.Goals as goal
 

@@ -1,5 +1,4 @@
-use Rattle.std.proofs.Common.{◌≡◌, ◌<◌, ℕ, get_or}
-use Rattle.shr_base.specs.declared.places.Serial.{Serial}
+use Rattle.shr_serials.proofs.Common.{◌≡◌, ◌<◌, ℕ, get_or, Serial}
 use Rattle.shr_serials.proofs.bags.are_same.Given as goal
 
 abbrev pub invariant-loop-i : goal.invariant-loop-i

@@ -1,8 +1,4 @@
-use Rattle.std.proofs.Common.{List, Bool, map, sym, ap, subst, ◌∙◌}
-use Rattle.std.specs.Bool.{Decides}
-use Rattle.shr_base.specs.declared.places.Serial.{Serial}
-use Rattle.shr_model.specs.Bag.{AreDistinct}
-use Rattle.shr_serials.specs.Keys.{serial_key}
+use Rattle.shr_serials.proofs.Common.{List, Bool, map, sym, ap, subst, ◌∙◌, Decides, Serial, AreDistinct, serial_key}
 use Rattle.shr_serials.proofs.Sorting.{bag_decided, not_apart}
 use Rattle.shr_serials.proofs.bags.is_bag_of.Goals as goal
 

@@ -1,12 +1,6 @@
-use Rattle.std.proofs.Common.{◌≡◌, ◌<◌, ◌+◌, ℕ, ap, sym, refl, length, get_or, List, true, false, ◌∙◌, arith}
-use Rattle.std.specs.Prelude.{Some, slice_get}
-use Rattle.std.proofs.lemmas.Bool.Decides.{nat_tests}
-use Rattle.shr_base.specs.declared.scripts.CacheDecl.{CacheDecl}
+use Rattle.shr_tables.proofs.Common.{◌≡◌, ◌<◌, ◌+◌, ℕ, ap, sym, refl, length, get_or, List, true, false, ◌∙◌, arith, Some, slice_get, nat_tests, CacheDecl, opener, view_of, content_of, within_of_valid}
 use Rattle.shr_charge.proofs.Listing.{get_here}
-use Rattle.shr_core.specs.Rule.{opener}
-use Rattle.shr_core.specs.Seats.{view_of, shape_of}
-use Rattle.shr_script.specs.Content.{content_of}
-use Rattle.shr_script.proofs.BoundsLaws.{within_of_valid}
+use Rattle.shr_core.specs.Seats.{shape_of}
 use Rattle.shr_tables.proofs.Entering.{entered_more, entered_less, still_untried}
 use Rattle.shr_tables.proofs.First.{entered_off, next_at, on_next, off_next, on_few}
 use Rattle.shr_tables.proofs.opening.enter_all.Goals as goal

@@ -1,10 +1,7 @@
-use Rattle.std.proofs.Common.{◌≡◌, [], length, take}
+use Rattle.shr_tables.proofs.Common.{◌≡◌, [], length, take, opener, view_of, AreEntered, HasEntered}
 use Rattle.shr_core.specs.Gained.{IsIdle}
-use Rattle.shr_core.specs.Rule.{opener}
-use Rattle.shr_core.specs.Seats.{IsOf, view_of}
+use Rattle.shr_core.specs.Seats.{IsOf}
 use Rattle.shr_seats.specs.Standing.{at_first}
-use Rattle.shr_tables.specs.Opened.{AreEntered}
-use Rattle.shr_tables.specs.First.{HasEntered}
 use Rattle.shr_tables.proofs.First.{on_count}
 use Rattle.shr_tables.proofs.opening.enter_all.Given as goal
 

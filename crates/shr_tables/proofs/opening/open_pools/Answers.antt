@@ -1,5 +1,4 @@
-use Rattle.shr_script.specs.Content.{content_of}
-use Rattle.shr_script.proofs.BoundsLaws.{within_of_valid}
+use Rattle.shr_tables.proofs.Common.{content_of, within_of_valid}
 use Rattle.shr_tables.proofs.Pooling.{all_settings}
 use Rattle.shr_tables.proofs.opening.open_pools.Goals as goal
 

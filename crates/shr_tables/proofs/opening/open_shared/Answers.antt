@@ -1,5 +1,4 @@
-use Rattle.std.proofs.Common.{length}
-use Rattle.shr_core.specs.Seats.{view_of}
+use Rattle.shr_tables.proofs.Common.{length, view_of}
 use Rattle.shr_tables.proofs.Entering.{entered_unowed}
 use Rattle.shr_tables.proofs.opening.open_shared.Goals as goal
 

@@ -1,5 +1,4 @@
-use Rattle.std.proofs.Common.{◌≤◌, ◌+◌, ◌-◌, length}
-use Rattle.std.specs.Io.KnownBytes.{Consumes}
+use Rattle.shr_tool.proofs.Common.{◌≤◌, ◌+◌, ◌-◌, length, Consumes}
 use Rattle.shr_tool.proofs.reading.read_all.Given as goal
 
 abbrev pub invariant-taking : goal.invariant-taking

@@ -1,5 +1,4 @@
-use Rattle.std.proofs.Common.{◌≡◌, take, length}
-use Rattle.std.specs.Prelude.{sum_by}
+use Rattle.shr_tool.proofs.Common.{◌≡◌, take, length, sum_by}
 use Rattle.shr_tool.proofs.summary.count_answers.Given as goal
 
 abbrev pub invariant-loop-part : goal.invariant-loop-part

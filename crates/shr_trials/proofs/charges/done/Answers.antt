@@ -1,8 +1,4 @@
-use Rattle.std.proofs.Common.{ℕ, Bool, List, ◌∙◌, ap}
-use Rattle.std.specs.Prelude.{Option}
-use Rattle.std.specs.Option.{is_some, IsSome}
-use Rattle.shr_base.specs.declared.journals.TreeEntry.{TreeEntry}
-use Rattle.shr_model.specs.TreeJournal.{begin_of}
+use Rattle.shr_trials.proofs.Common.{ℕ, Bool, List, ◌∙◌, ap, Option, is_some, IsSome, TreeEntry, begin_of}
 use Rattle.shr_charge.specs.Offlining.{IsPrefix}
 use Rattle.shr_charge.proofs.Listing.{some_is}
 use Rattle.shr_charge.proofs.Entries.{begin_grows}

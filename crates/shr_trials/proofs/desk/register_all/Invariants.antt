@@ -1,6 +1,4 @@
-use Rattle.std.proofs.Common.{◌≡◌}
-use Rattle.shr_core.specs.Seats.{IsOf, view_of}
-use Rattle.shr_trials.specs.Calm.{IsCalm}
+use Rattle.shr_trials.proofs.Common.{◌≡◌, IsOf, view_of, IsCalm}
 use Rattle.shr_trials.proofs.desk.register_all.Given as goal
 
 abbrev pub invariant-loop-decl : goal.invariant-loop-decl

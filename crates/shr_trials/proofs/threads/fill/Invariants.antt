@@ -1,6 +1,5 @@
-use Rattle.std.proofs.Common.{◌≡◌, ◌≤◌}
-use Rattle.shr_core.specs.Seats.{IsOf, view_of}
-use Rattle.shr_trials.specs.Calm.{IsCalm}
+use Rattle.shr_trials.proofs.Common.{◌≡◌, IsOf, view_of, IsCalm}
+use Rattle.std.proofs.Common.{◌≤◌}
 use Rattle.shr_trials.proofs.threads.fill.Given as goal
 
 abbrev pub invariant-loop-number : goal.invariant-loop-number

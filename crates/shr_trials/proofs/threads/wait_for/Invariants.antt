@@ -1,5 +1,4 @@
-use Rattle.shr_core.specs.Seats.{IsOf, view_of}
-use Rattle.shr_trials.specs.Calm.{IsCalm}
+use Rattle.shr_trials.proofs.Common.{IsOf, view_of, IsCalm}
 use Rattle.shr_trials.proofs.threads.wait_for.Given as goal
 
 abbrev pub invariant-loop-turn : goal.invariant-loop-turn

@@ -1,5 +1,4 @@
-use Rattle.std.proofs.Common.{◌∙◌, Bor, List, ℕ, ap, map}
-use Rattle.shr_words.specs.Classes.{place_of}
+use Rattle.shr_words.proofs.Common.{◌∙◌, Bor, List, ℕ, ap, map, place_of}
 use Rattle.shr_words.proofs.NamesLaws.{position_is}
 use Rattle.shr_words.proofs.names.place_in.Goals as goal
 

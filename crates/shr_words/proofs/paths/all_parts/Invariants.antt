@@ -1,7 +1,5 @@
-use Rattle.std.proofs.Common.{◌≡◌, length}
-use Rattle.std.specs.Prelude.{option_map}
-use Rattle.shr_model.specs.Pieces.{left, pieces}
-use Rattle.shr_model.specs.Paths.{all_parts}
+use Rattle.shr_words.proofs.Common.{◌≡◌, length, option_map, pieces, all_parts}
+use Rattle.shr_model.specs.Pieces.{left}
 use Rattle.shr_words.proofs.paths.all_parts.Given as goal
 
 abbrev pub invariant-loop-part : goal.invariant-loop-part

@@ -1,6 +1,4 @@
-use Rattle.std.proofs.Common.{◌-◌, ◌≤◌, length}
-use Rattle.shr_model.specs.Words.{is_name_byte}
-use Rattle.shr_words.specs.Runs.{AllPassBetween}
+use Rattle.shr_words.proofs.Common.{◌-◌, ◌≤◌, length, is_name_byte, AllPassBetween}
 use Rattle.shr_words.proofs.runs.name_len.Given as goal
 
 abbrev pub invariant-loop-n : goal.invariant-loop-n

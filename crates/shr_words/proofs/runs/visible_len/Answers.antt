@@ -1,5 +1,4 @@
-use Rattle.std.proofs.Common.{arith}
-use Rattle.shr_model.specs.Words.{is_visible}
+use Rattle.shr_words.proofs.Common.{arith, is_visible}
 use Rattle.shr_words.proofs.RunLaws.{front_is}
 use Rattle.shr_words.proofs.runs.visible_len.Goals as goal
 

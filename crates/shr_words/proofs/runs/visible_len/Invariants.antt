@@ -1,6 +1,4 @@
-use Rattle.std.proofs.Common.{◌-◌, ◌≤◌, length}
-use Rattle.shr_model.specs.Words.{is_visible}
-use Rattle.shr_words.specs.Runs.{AllPassBetween}
+use Rattle.shr_words.proofs.Common.{◌-◌, ◌≤◌, length, is_visible, AllPassBetween}
 use Rattle.shr_words.proofs.runs.visible_len.Given as goal
 
 abbrev pub invariant-loop-n : goal.invariant-loop-n

@@ -1,7 +1,4 @@
-use Rattle.std.proofs.Common.{ℕ, leb, cond, refl, arith}
-use Rattle.std.proofs.lemmas.Simd.{zip2_splat, length-chunk}
-use lib.Lanes.{chunk}
-use Rattle.shr_model.specs.Words.{is_visible}
+use Rattle.shr_words.proofs.Common.{ℕ, leb, cond, refl, arith, zip2_splat, length-chunk, chunk, is_visible}
 use Rattle.shr_words.proofs.RunLaws.{joined, splat_is, run_in}
 use Rattle.shr_words.proofs.runs.visible_run.Goals as goal
 

@@ -1,5 +1,4 @@
-use Rattle.std.proofs.Common.{◌∙◌, Bool, ap, get_or}
-use Rattle.std.specs.Prelude.{◌&&◌, ◌||◌, nat_lt, not}
+use Rattle.shr_audit_rows.proofs.Common.{◌∙◌, Bool, ap, get_or, ◌&&◌, ◌||◌, nat_lt, not}
 use Rattle.shr_audit_rows.proofs.MomentsLaws.{child_is, not_child}
 use Rattle.shr_audit_rows.proofs.children.Moments.is_undone.Goals as goal
 

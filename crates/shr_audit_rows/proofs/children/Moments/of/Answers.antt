@@ -1,7 +1,4 @@
-use Rattle.std.proofs.Common.{◌≡◌, ◌∙◌, length, ap, arith, refl}
-use Rattle.std.proofs.lemmas.List.{length-replicate}
-use Rattle.shr_model.specs.TreeJournal.{is_done, is_making}
-use Rattle.shr_audit_rows.specs.Moments.{done_in, made_in}
+use Rattle.shr_audit_rows.proofs.Common.{◌≡◌, ◌∙◌, length, ap, arith, refl, length-replicate, is_done, is_making, done_in, made_in}
 use Rattle.shr_audit_rows.proofs.MomentsLaws.{all_moments, doing, making, next_noted, noted_long, upto_none}
 use Rattle.shr_audit_rows.proofs.children.Moments.of.Goals as goal
 

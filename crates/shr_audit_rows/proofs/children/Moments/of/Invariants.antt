@@ -1,6 +1,4 @@
-use Rattle.std.proofs.Common.{◌≡◌, length}
-use Rattle.shr_model.specs.TreeJournal.{is_done, is_making}
-use Rattle.shr_audit_rows.specs.Moments.{done_in, made_in}
+use Rattle.shr_audit_rows.proofs.Common.{◌≡◌, length, is_done, is_making, done_in, made_in}
 use Rattle.shr_audit_rows.proofs.MomentsLaws.{Upto, doing, making}
 use Rattle.shr_audit_rows.proofs.children.Moments.of.Given as goal
 

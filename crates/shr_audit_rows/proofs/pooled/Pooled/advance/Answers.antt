@@ -1,5 +1,4 @@
-use Rattle.std.proofs.Common.{◌≤◌, ◌<◌, length, take, arith}
-use Rattle.std.proofs.lemmas.List.{length-take}
+use Rattle.shr_audit_rows.proofs.Common.{◌≤◌, ◌<◌, length, take, arith, length-take}
 use Rattle.shr_audit_rows.proofs.PooledLaws.{room_for, stands_more}
 use Rattle.shr_audit_rows.proofs.pooled.Pooled.advance.Goals as goal
 

@@ -1,5 +1,4 @@
-use Rattle.std.proofs.Common.{take}
-use Rattle.shr_audit_rows.specs.Pooled.{Stands}
+use Rattle.shr_audit_rows.proofs.Common.{take, Stands}
 use Rattle.shr_audit_rows.proofs.pooled.Pooled.advance.Given as goal
 
 abbrev pub invariant-loop-n : goal.invariant-loop-n

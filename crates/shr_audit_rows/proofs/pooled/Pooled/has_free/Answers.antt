@@ -1,5 +1,4 @@
-use Rattle.std.proofs.Common.{◌≡◌, ◌∙◌, ℕ, ◌<◌, false, arith, below_more, sym}
-use Rattle.shr_audit_rows.specs.Pooled.{is_free_in}
+use Rattle.shr_audit_rows.proofs.Common.{◌≡◌, ◌∙◌, ℕ, ◌<◌, false, arith, below_more, sym, is_free_in}
 use Rattle.shr_audit_rows.proofs.PooledLaws.{free_is, none_free, one_free}
 use Rattle.shr_audit_rows.proofs.pooled.Pooled.has_free.Goals as goal
 

@@ -1,5 +1,4 @@
-use Rattle.std.proofs.Common.{◌≡◌, ℕ, ◌<◌, false}
-use Rattle.shr_audit_rows.specs.Pooled.{is_free_in}
+use Rattle.shr_audit_rows.proofs.Common.{◌≡◌, ℕ, ◌<◌, false, is_free_in}
 use Rattle.shr_audit_rows.proofs.pooled.Pooled.has_free.Given as goal
 
 abbrev pub invariant-loop-id : goal.invariant-loop-id

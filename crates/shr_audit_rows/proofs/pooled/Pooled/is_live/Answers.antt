@@ -1,5 +1,4 @@
-use Rattle.std.proofs.Common.{◌≡◌, ◌∙◌, ℕ, ◌<◌, false, arith, subst, sym}
-use Rattle.shr_model.specs.Pool.{is_live_below}
+use Rattle.shr_audit_rows.proofs.Common.{◌≡◌, ◌∙◌, ℕ, ◌<◌, false, arith, subst, sym, is_live_below}
 use Rattle.shr_audit_rows.proofs.PooledLaws.{live_found, live_next, live_none}
 use Rattle.shr_audit_rows.proofs.pooled.Pooled.is_live.Goals as goal
 

@@ -1,7 +1,4 @@
-use Rattle.std.proofs.Common.{◌≡◌, false, List}
-use Rattle.shr_base.specs.declared.journals.PoolEntry.{PoolEntry}
-use Rattle.shr_model.specs.Pool.{is_live_below}
-use Rattle.shr_audit_rows.specs.Pooled.{Stands}
+use Rattle.shr_audit_rows.proofs.Common.{◌≡◌, false, List, PoolEntry, is_live_below, Stands}
 use Rattle.shr_audit_rows.proofs.pooled.Pooled.is_live.Given as goal
 
 abbrev pub invariant-loop-id : goal.invariant-loop-id

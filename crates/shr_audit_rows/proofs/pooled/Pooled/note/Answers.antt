@@ -1,7 +1,4 @@
-use Rattle.std.proofs.Common.{◌∙◌, ◌<◌, ◌+◌, ◌++◌, ◌∷◌, [], ℕ, length, get_or, set, ap, arith, subst, sym}
-use Rattle.std.proofs.lemmas.List.{get_or_default}
-use Rattle.shr_model.specs.Pool.{decl_after, id_of}
-use Rattle.shr_audit_rows.specs.Pooled.{Stands}
+use Rattle.shr_audit_rows.proofs.Common.{◌∙◌, ◌<◌, ◌+◌, ◌++◌, ◌∷◌, [], ℕ, length, get_or, set, ap, arith, subst, sym, get_or_default, decl_after, id_of, Stands}
 use Rattle.shr_audit_rows.proofs.PooledLaws.{stands_next}
 use Rattle.shr_audit_rows.proofs.pooled.Pooled.note.Goals as goal
 

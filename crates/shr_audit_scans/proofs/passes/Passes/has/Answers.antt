@@ -1,7 +1,4 @@
-use Rattle.std.proofs.Common.{ℕ, Bool, sym, subst}
-use Rattle.std.specs.Prelude.{Contains}
-use Rattle.std.specs.Bool.{Decides}
-use Rattle.shr_audit_scans.specs.Passes.{keys_of_report}
+use Rattle.shr_audit_scans.proofs.Common.{ℕ, Bool, sym, subst, Contains, Decides, keys_of_report}
 use Rattle.shr_audit_scans.proofs.Found.{found_if_there}
 use Rattle.shr_audit_scans.proofs.passes.Passes.has.Goals as goal
 

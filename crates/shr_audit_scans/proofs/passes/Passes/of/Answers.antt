@@ -1,6 +1,4 @@
-use Rattle.std.proofs.Common.{ℕ, List, subst}
-use Rattle.std.specs.List.Sorted.{IsPermutation}
-use Rattle.std.proofs.lemmas.List.Sorted.{IsNonDecreasingBy-from_sort}
+use Rattle.shr_audit_scans.proofs.Common.{ℕ, List, subst, IsPermutation, IsNonDecreasingBy-from_sort}
 use Rattle.shr_audit_scans.proofs.passes.Passes.of.Goals as goal
 
 pub returns : goal.returns

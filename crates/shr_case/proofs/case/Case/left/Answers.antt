@@ -1,5 +1,4 @@
-use Rattle.std.proofs.Common.{map, sym, ap}
-use Rattle.shr_replay.specs.Tags.{tag_of}
+use Rattle.shr_case.proofs.Common.{map, sym, ap, tag_of}
 use Rattle.shr_case.proofs.Telling.{no_journal, no_items}
 use Rattle.shr_case.proofs.case.Case.left.Goals as goal
 

@@ -1,9 +1,4 @@
-use Rattle.std.proofs.Common.{◌≡◌, Some, ◌∙◌, sym, ap, subst, arith}
-use Rattle.std.specs.Prelude.{slice_get, List}
-use Rattle.std.proofs.lemmas.Option.{slice_get-get_or}
-use Rattle.shr_base.specs.declared.ends.PlaceEnd.{PlaceEnd}
-use Rattle.shr_replay.specs.declared.journal.Replayed.{Replayed}
-use Rattle.shr_case.specs.Places.{IsIndexOf}
+use Rattle.shr_case.proofs.Common.{◌≡◌, Some, ◌∙◌, sym, ap, subst, arith, slice_get, List, slice_get-get_or, PlaceEnd, Replayed, IsIndexOf}
 use Rattle.shr_case.proofs.Telling.{tells_some}
 use Rattle.shr_case.proofs.case.Case.replay.Goals as goal
 

@@ -1,6 +1,4 @@
-use Rattle.std.proofs.Common.{false, arith}
-use Rattle.std.proofs.lemmas.List.{get_or-replicate}
-use Rattle.shr_model.specs.TreeJournal.{is_making, is_done}
+use Rattle.shr_charge.proofs.Common.{false, arith, get_or-replicate, is_making, is_done}
 use Rattle.shr_charge.proofs.Searches.{marked_more}
 use Rattle.shr_charge.proofs.searching.Marks.of.Goals as goal
 

@@ -1,5 +1,4 @@
-use Rattle.std.proofs.Common.{take}
-use Rattle.shr_charge.specs.Searching.{AreMarks}
+use Rattle.shr_charge.proofs.Common.{take, AreMarks}
 use Rattle.shr_charge.proofs.searching.Marks.of.Given as goal
 
 abbrev pub invariant-loop-i : goal.invariant-loop-i

@@ -1,16 +1,4 @@
-use Rattle.std.proofs.Common.{◌≡◌, ℕ, ◌+◌, ◌%◌, ◌*◌, ◌≤◌, ◌^◌, Bool, false, refl, subst, sym, arith}
-use Rattle.std.specs.Prelude.{All}
-use mir.Val.{bool_byte}
-use Rattle.atomic_table.specs.Table.{Allows}
-use Rattle.shr_base.specs.declared.places.Serial.{Serial}
-use Rattle.shr_base.specs.declared.journals.UseStep.{UseStep}
-use Rattle.shr_seats.specs.declared.shape.Shape.{Shape}
-use Rattle.shr_charge.specs.Charging.{count_of, IsLaterThan}
-use Rattle.shr_charge.specs.Rule.{IsSound, usage_index}
-use Rattle.shr_charge.specs.Told.{with_uses}
-use Rattle.shr_charge.specs.Uses.{op_of, downs_at, IsPaced}
-use Rattle.shr_charge.specs.Views.{Uses, both_uses, one_use}
-use Rattle.shr_charge.specs.Seat.{uses_of}
+use Rattle.shr_charge.proofs.Common.{◌≡◌, ℕ, ◌+◌, ◌%◌, ◌*◌, ◌≤◌, ◌^◌, Bool, false, refl, subst, sym, arith, All, bool_byte, Allows, Serial, UseStep, Shape, count_of, IsLaterThan, IsSound, usage_index, with_uses, op_of, downs_at, IsPaced, Uses, both_uses, one_use, uses_of}
 use Rattle.shr_charge.proofs.Moves.{uncharges}
 use Rattle.shr_charge.proofs.Pacing.{paced_down}
 use Rattle.shr_charge.proofs.SeatLaws.{IsOf-use, counted_byte}

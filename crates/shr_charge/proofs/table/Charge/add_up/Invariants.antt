@@ -1,9 +1,4 @@
-use Rattle.std.proofs.Common.{◌≡◌, true}
-use Rattle.std.specs.Prelude.{All}
-use Rattle.shr_charge.specs.Charging.{count_of, IsLaterThan}
-use Rattle.shr_charge.specs.Told.{with_uses}
-use Rattle.shr_charge.specs.Uses.{op_of}
-use Rattle.shr_charge.specs.Views.{both_uses, one_use}
+use Rattle.shr_charge.proofs.Common.{◌≡◌, true, All, count_of, IsLaterThan, with_uses, op_of, both_uses, one_use}
 use Rattle.shr_charge.proofs.table.Charge.add_up.Given as goal
 
 abbrev pub ghosts-add_as : goal.ghosts-add_as

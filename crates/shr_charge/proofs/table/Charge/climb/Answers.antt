@@ -1,5 +1,4 @@
-use Rattle.std.proofs.Common.{◌≡◌, ◌<◌, true, false, sym, subst, ◌∙◌, arith}
-use Rattle.shr_charge.specs.Loops.{IsClimbing}
+use Rattle.shr_charge.proofs.Common.{◌≡◌, ◌<◌, true, false, sym, subst, ◌∙◌, arith, IsClimbing}
 use Rattle.shr_charge.proofs.Climbs.{climbing_first, climbing_room, climbing_calls, climbing_spare, climbing_next, climbed, stopped}
 use Rattle.shr_charge.proofs.table.Charge.climb.Goals as goal
 

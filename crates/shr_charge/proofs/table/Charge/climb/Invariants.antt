@@ -1,6 +1,4 @@
-use Rattle.std.proofs.Common.{◌<◌, length}
-use Rattle.shr_charge.specs.Loops.{IsClimbing}
-use Rattle.shr_charge.specs.Seat.{IsOf}
+use Rattle.shr_charge.proofs.Common.{◌<◌, length, IsClimbing, IsOf}
 use Rattle.shr_charge.proofs.table.Charge.climb.Given as goal
 
 abbrev pub invariant-climbing : goal.invariant-climbing

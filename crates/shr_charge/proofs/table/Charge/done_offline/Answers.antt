@@ -1,11 +1,4 @@
-use Rattle.std.proofs.Common.{ℕ, Bool, List, [], ◌∷◌, ◌++◌, length, ap, subst, sym, ◌∙◌, arith}
-use Rattle.std.specs.Option.{is_some}
-use Rattle.std.specs.Prelude.{Option}
-use Rattle.shr_base.specs.declared.journals.TreeEntry.{TreeEntry}
-use Rattle.shr_base.specs.declared.journals.TreeEntry.TheVariants.{Done}
-use Rattle.shr_model.specs.TreeJournal.{MayBeDone, done_of}
-use Rattle.shr_charge.specs.declared.view.View.{View}
-use Rattle.shr_charge.specs.Offlining.{opens}
+use Rattle.shr_charge.proofs.Common.{ℕ, Bool, List, [], ◌∷◌, ◌++◌, length, ap, subst, sym, ◌∙◌, arith, is_some, Option, TreeEntry, Done, MayBeDone, done_of, View, opens}
 use Rattle.shr_charge.proofs.Listing.{some_is}
 use Rattle.shr_charge.proofs.Entries.{opens_some, opens_done}
 use Rattle.shr_charge.proofs.Giving.{given_view, done_view, begun_there, already_knows, done_tells, done_shows}

@@ -1,9 +1,4 @@
-use Rattle.std.proofs.Common.{ap, subst, ◌∙◌, ℕ, map}
-use Rattle.std.specs.List.{range_with_len}
-use Rattle.std.specs.Mem.Slots.{slots_items}
-use Rattle.atomic_table.specs.Table.{Final, Seen}
-use Rattle.shr_seats.specs.declared.shape.Shape.{Shape}
-use Rattle.shr_charge.specs.Rule.{IsSound, usage_in}
+use Rattle.shr_charge.proofs.Common.{ap, subst, ◌∙◌, ℕ, map, range_with_len, slots_items, Final, Seen, Shape, IsSound, usage_in}
 use Rattle.shr_charge.proofs.Finals.{ends}
 use Rattle.shr_charge.proofs.table.Charge.finish.Goals as goal
 

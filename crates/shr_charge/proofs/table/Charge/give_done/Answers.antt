@@ -1,11 +1,4 @@
-use Rattle.std.proofs.Common.{◌≡◌, ℕ, List, [], ◌∷◌, ap, subst, sym, ◌∙◌, arith}
-use Rattle.atomic_table.specs.Table.{Allows, rest}
-use Rattle.shr_base.specs.Kept.{Kept}
-use Rattle.shr_base.specs.declared.journals.TreeEntry.{TreeEntry}
-use Rattle.shr_seats.specs.declared.shape.Shape.{Shape}
-use Rattle.shr_charge.specs.Rule.{IsSound}
-use Rattle.shr_charge.specs.Steps.{with_done}
-use Rattle.shr_charge.specs.Told.{Sat}
+use Rattle.shr_charge.proofs.Common.{◌≡◌, ℕ, List, [], ◌∷◌, ap, subst, sym, ◌∙◌, arith, Allows, rest, Kept, TreeEntry, Shape, IsSound, with_done, Sat}
 use Rattle.shr_charge.proofs.Moves.{gives_done}
 use Rattle.shr_charge.proofs.Listing.{some_is}
 use Rattle.shr_charge.proofs.table.Charge.give_done.Goals as goal

@@ -1,5 +1,4 @@
-use Rattle.std.proofs.Common.{◌≡◌, []}
-use Rattle.shr_charge.specs.Steps.{with_done}
+use Rattle.shr_charge.proofs.Common.{◌≡◌, [], with_done}
 use Rattle.shr_charge.proofs.table.Charge.give_done.Given as goal
 
 abbrev pub ghosts-store_as : goal.ghosts-store_as

@@ -1,5 +1,4 @@
-use Rattle.std.proofs.Common.{◌≡◌, []}
-use Rattle.shr_charge.specs.Steps.{with_given}
+use Rattle.shr_charge.proofs.Common.{◌≡◌, [], with_given}
 use Rattle.shr_charge.proofs.table.Charge.give_tree.Given as goal
 
 abbrev pub ghosts-store_as : goal.ghosts-store_as

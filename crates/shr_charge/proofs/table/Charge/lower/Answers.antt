@@ -1,10 +1,4 @@
-use Rattle.std.proofs.Common.{◌≡◌, ◌<◌, ◌≤◌, ◌+◌, ◌*◌, ◌^◌, [], ◌∷◌, sym, ap, subst, ◌∙◌, ⊎_elim, arith}
-use Rattle.shr_charge.specs.Charging.{count_of}
-use Rattle.shr_charge.specs.Loops.{IsLowering}
-use Rattle.shr_charge.specs.Paths.{path_to}
-use Rattle.shr_charge.specs.Seat.{uses_of}
-use Rattle.shr_charge.specs.Uses.{downs_at}
-use Rattle.shr_charge.specs.Views.{both_uses, one_use}
+use Rattle.shr_charge.proofs.Common.{◌≡◌, ◌<◌, ◌≤◌, ◌+◌, ◌*◌, ◌^◌, [], ◌∷◌, sym, ap, subst, ◌∙◌, ⊎_elim, arith, count_of, IsLowering, path_to, uses_of, downs_at, both_uses, one_use}
 use Rattle.shr_charge.proofs.Ways.{way_here, way_root}
 use Rattle.shr_charge.proofs.Climbs.{lowering_first, lowering_room, lowering_calls, lowering_spare, lowering_next, lowered}
 use Rattle.shr_charge.proofs.table.Charge.lower.Goals as goal

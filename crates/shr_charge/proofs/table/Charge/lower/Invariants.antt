@@ -1,6 +1,4 @@
-use Rattle.std.proofs.Common.{◌<◌, length}
-use Rattle.shr_charge.specs.Loops.{IsLowering}
-use Rattle.shr_charge.specs.Seat.{IsOf}
+use Rattle.shr_charge.proofs.Common.{◌<◌, length, IsLowering, IsOf}
 use Rattle.shr_charge.proofs.table.Charge.lower.Given as goal
 
 abbrev pub invariant-lowering : goal.invariant-lowering

@@ -1,5 +1,4 @@
-use Rattle.std.proofs.Common.{◌≡◌, ◌+◌, ◌≤◌, length, sym, ◌∙◌, arith}
-use Rattle.std.specs.Prelude.{Result, Ok, Err, is_err, false, OnOk}
+use Rattle.shr_charge.proofs.Common.{◌≡◌, ◌+◌, ◌≤◌, length, sym, ◌∙◌, arith, Result, Ok, Err, is_err, false, OnOk}
 use Rattle.shr_charge.proofs.Entries.{opens_all}
 use Rattle.shr_charge.proofs.table.Charge.make_in.Goals as goal
 

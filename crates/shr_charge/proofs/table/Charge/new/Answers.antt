@@ -1,9 +1,4 @@
-use Rattle.std.proofs.Common.{◌≡◌, List, [], ◌∷◌, ◌++◌, ap, sym, subst, ◌∙◌}
-use Rattle.atomic_table.specs.Table.{opening}
-use Rattle.shr_base.specs.Kept.{Kept}
-use Rattle.shr_base.specs.declared.journals.TreeEntry.{TreeEntry}
-use Rattle.shr_charge.specs.Opening.{AreFirst}
-use Rattle.shr_charge.specs.Rule.{IsSound, first_view}
+use Rattle.shr_charge.proofs.Common.{◌≡◌, List, [], ◌∷◌, ◌++◌, ap, sym, subst, ◌∙◌, opening, Kept, TreeEntry, AreFirst, IsSound, first_view}
 use Rattle.shr_charge.proofs.Beginnings.{opened}
 use Rattle.shr_charge.proofs.table.Charge.new.Goals as goal
 

@@ -1,10 +1,4 @@
-use Rattle.std.proofs.Common.{◌≡◌, length, subst, sym, inl, inr, ⊎_elim, arith}
-use Rattle.atomic_table.specs.Table.{Allows}
-use Rattle.shr_seats.specs.declared.shape.Shape.{Shape}
-use Rattle.shr_seats.specs.Shapes.{hierarchy_of}
-use Rattle.shr_charge.specs.Rule.{IsSound, group_index}
-use Rattle.shr_charge.specs.Steps.{with_load}
-use Rattle.shr_charge.specs.Told.{with_tree, state_in, IsWord, Shows}
+use Rattle.shr_charge.proofs.Common.{◌≡◌, length, subst, sym, inl, inr, ⊎_elim, arith, Allows, Shape, hierarchy_of, IsSound, group_index, with_load, with_tree, state_in, IsWord, Shows}
 use Rattle.shr_charge.proofs.Moves.{loads}
 use Rattle.shr_charge.proofs.table.Charge.state.Goals as goal
 

@@ -1,7 +1,4 @@
-use Rattle.std.proofs.Common.{◌≡◌, length}
-use Rattle.shr_seats.specs.Shapes.{hierarchy_of}
-use Rattle.shr_charge.specs.Steps.{with_load}
-use Rattle.shr_charge.specs.Told.{with_tree, state_in, IsWord, Shows}
+use Rattle.shr_charge.proofs.Common.{◌≡◌, length, hierarchy_of, with_load, with_tree, state_in, IsWord, Shows}
 use Rattle.shr_charge.proofs.table.Charge.state.Given as goal
 
 abbrev pub ghosts-load_as : goal.ghosts-load_as

@@ -1,9 +1,4 @@
-use Rattle.std.proofs.Common.{◌≡◌, ◌+◌, subst, sym, arith}
-use Rattle.atomic_table.specs.Table.{Allows}
-use Rattle.shr_seats.specs.declared.shape.Shape.{Shape}
-use Rattle.shr_charge.specs.Rule.{IsSound, group_index}
-use Rattle.shr_charge.specs.Steps.{with_begin}
-use Rattle.shr_charge.specs.Told.{with_tree}
+use Rattle.shr_charge.proofs.Common.{◌≡◌, ◌+◌, subst, sym, arith, Allows, Shape, IsSound, group_index, with_begin, with_tree}
 use Rattle.shr_charge.proofs.Moves.{begins}
 use Rattle.shr_charge.proofs.table.Charge.store_begin.Goals as goal
 

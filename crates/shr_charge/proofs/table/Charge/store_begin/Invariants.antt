@@ -1,6 +1,4 @@
-use Rattle.std.proofs.Common.{◌≡◌}
-use Rattle.shr_charge.specs.Steps.{with_begin}
-use Rattle.shr_charge.specs.Told.{with_tree}
+use Rattle.shr_charge.proofs.Common.{◌≡◌, with_begin, with_tree}
 use Rattle.shr_charge.proofs.table.Charge.store_begin.Given as goal
 
 abbrev pub ghosts-store_as : goal.ghosts-store_as

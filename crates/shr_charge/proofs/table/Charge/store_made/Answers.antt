@@ -1,9 +1,4 @@
-use Rattle.std.proofs.Common.{◌≡◌, subst, sym, arith}
-use Rattle.atomic_table.specs.Table.{Allows}
-use Rattle.shr_seats.specs.declared.shape.Shape.{Shape}
-use Rattle.shr_charge.specs.Rule.{IsSound, group_index}
-use Rattle.shr_charge.specs.Steps.{with_made}
-use Rattle.shr_charge.specs.Told.{with_tree}
+use Rattle.shr_charge.proofs.Common.{◌≡◌, subst, sym, arith, Allows, Shape, IsSound, group_index, with_made, with_tree}
 use Rattle.shr_charge.proofs.Moves.{makes}
 use Rattle.shr_charge.proofs.table.Charge.store_made.Goals as goal
 

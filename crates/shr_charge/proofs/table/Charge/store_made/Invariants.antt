@@ -1,6 +1,4 @@
-use Rattle.std.proofs.Common.{◌≡◌}
-use Rattle.shr_charge.specs.Steps.{with_made}
-use Rattle.shr_charge.specs.Told.{with_tree}
+use Rattle.shr_charge.proofs.Common.{◌≡◌, with_made, with_tree}
 use Rattle.shr_charge.proofs.table.Charge.store_made.Given as goal
 
 abbrev pub ghosts-store_as : goal.ghosts-store_as

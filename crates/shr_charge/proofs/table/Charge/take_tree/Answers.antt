@@ -1,8 +1,4 @@
-use Rattle.std.proofs.Common.{ℕ, List, ◌∷◌, ap, sym, ◌∙◌}
-use Rattle.atomic_table.specs.Table.{rest}
-use Rattle.shr_base.specs.Kept.{Kept}
-use Rattle.shr_base.specs.declared.journals.TreeEntry.{TreeEntry}
-use Rattle.shr_charge.specs.Told.{Sat}
+use Rattle.shr_charge.proofs.Common.{ℕ, List, ◌∷◌, ap, sym, ◌∙◌, rest, Kept, TreeEntry, Sat}
 use Rattle.shr_charge.proofs.Holding.{has_room, shown}
 use Rattle.shr_charge.proofs.table.Charge.take_tree.Goals as goal
 

@@ -1,10 +1,5 @@
-use Rattle.std.proofs.Common.{◌≡◌, ◌≢◌, eqb, subst, sym, arith}
+use Rattle.shr_charge.proofs.Common.{◌≡◌, ◌≢◌, eqb, subst, sym, arith, Allows, Shape, IsSound, hierarchy_of, Takes}
 use prog.Atomic.{either}
-use Rattle.atomic_table.specs.Table.{Allows}
-use Rattle.shr_seats.specs.declared.shape.Shape.{Shape}
-use Rattle.shr_charge.specs.Rule.{IsSound}
-use Rattle.shr_seats.specs.Shapes.{hierarchy_of}
-use Rattle.shr_charge.specs.Told.{Takes}
 use Rattle.shr_charge.proofs.Moves.{locks}
 use Rattle.shr_charge.proofs.table.Charge.try_take.Goals as goal
 

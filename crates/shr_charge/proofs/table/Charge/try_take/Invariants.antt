@@ -1,6 +1,4 @@
-use Rattle.std.proofs.Common.{◌≡◌, ◌≢◌}
-use Rattle.shr_seats.specs.Shapes.{hierarchy_of}
-use Rattle.shr_charge.specs.Told.{Takes}
+use Rattle.shr_charge.proofs.Common.{◌≡◌, ◌≢◌, hierarchy_of, Takes}
 use Rattle.shr_charge.proofs.table.Charge.try_take.Given as goal
 
 abbrev pub ghosts-lock_as : goal.ghosts-lock_as

@@ -1,6 +1,4 @@
-use Rattle.std.proofs.Common.{sym, ◌∙◌, arith}
-use Rattle.shr_model.specs.TreeJournal.{is_undone_child}
-use Rattle.shr_seats.specs.Shapes.{hierarchy_of}
+use Rattle.shr_charge.proofs.Common.{sym, ◌∙◌, arith, is_undone_child, hierarchy_of}
 use Rattle.shr_charge.proofs.Searches.{find_here, find_more}
 use Rattle.shr_charge.proofs.table.Charge.undone_child.Goals as goal
 

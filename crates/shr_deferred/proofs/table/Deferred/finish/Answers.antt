@@ -1,11 +1,5 @@
-use Rattle.std.proofs.Common.{List, subst, sym, ◌∙◌}
+use Rattle.shr_deferred.proofs.Common.{List, subst, sym, ◌∙◌, slots_items, Final, Seen, PlaceAmount, Sizes, HasHistory, IsSound, strands_in}
 use Rattle.std.proofs.lemmas.Result.{IfOk-weaker}
-use Rattle.std.specs.Mem.Slots.{slots_items}
-use Rattle.atomic_table.specs.Table.{Final, Seen}
-use Rattle.shr_base.specs.declared.ends.PlaceAmount.{PlaceAmount}
-use Rattle.shr_seats.specs.declared.rows.Sizes.{Sizes}
-use Rattle.shr_deferred.specs.History.{HasHistory}
-use Rattle.shr_deferred.specs.Rule.{IsSound, strands_in}
 use Rattle.shr_deferred.proofs.Amounts.{ends, order_left}
 use Rattle.shr_deferred.proofs.table.Deferred.finish.Goals as goal
 

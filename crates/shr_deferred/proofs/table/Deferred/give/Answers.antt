@@ -1,9 +1,4 @@
-use Rattle.std.proofs.Common.{ℕ, ◌≡◌, ◌+◌, ◌^◌, ◌%◌, subst, sym, ap, ◌∙◌, arith}
-use Rattle.atomic_table.specs.Table.{Me, Allows}
-use Rattle.shr_deferred.specs.declared.view.View.{View}
-use Rattle.shr_seats.specs.declared.rows.Sizes.{Sizes}
-use Rattle.shr_deferred.specs.Moves.{give_of}
-use Rattle.shr_deferred.specs.Rule.{IsSound}
+use Rattle.shr_deferred.proofs.Common.{ℕ, ◌≡◌, ◌+◌, ◌^◌, ◌%◌, subst, sym, ap, ◌∙◌, arith, Me, Allows, View, Sizes, give_of, IsSound}
 use Rattle.shr_deferred.proofs.SeatLaws.{moves_more}
 use Rattle.shr_deferred.proofs.Steps.{with_moves, gives}
 use Rattle.shr_deferred.proofs.table.Deferred.give.Goals as goal

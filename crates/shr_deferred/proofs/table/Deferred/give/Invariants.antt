@@ -1,5 +1,4 @@
-use Rattle.std.proofs.Common.{◌≡◌}
-use Rattle.shr_deferred.specs.Moves.{give_of}
+use Rattle.shr_deferred.proofs.Common.{◌≡◌, give_of}
 use Rattle.shr_deferred.proofs.Steps.{with_moves}
 use Rattle.shr_deferred.proofs.table.Deferred.give.Given as goal
 

@@ -1,5 +1,4 @@
-use Rattle.std.proofs.Common.{◌∙◌, ℕ, ap}
-use Rattle.std.specs.Prelude.{replicate}
+use Rattle.shr_deferred.proofs.Common.{◌∙◌, ℕ, ap, replicate}
 use Rattle.shr_deferred.proofs.Seating.{begins}
 use Rattle.shr_deferred.proofs.table.Deferred.new.Goals as goal
 

@@ -1,11 +1,4 @@
-use Rattle.std.proofs.Common.{ℕ, ◌≡◌, subst, sym, ap, ◌∙◌, arith}
-use Rattle.atomic_table.specs.Table.{Me, Allows}
-use Rattle.shr_deferred.specs.declared.view.View.{View}
-use Rattle.shr_seats.specs.declared.rows.Sizes.{Sizes}
-use Rattle.shr_seats.specs.Lines.{acts_of}
-use Rattle.shr_deferred.specs.Alone.{IsAlone, left_at}
-use Rattle.shr_deferred.specs.Moves.{take_of}
-use Rattle.shr_deferred.specs.Rule.{IsSound}
+use Rattle.shr_deferred.proofs.Common.{ℕ, ◌≡◌, subst, sym, ap, ◌∙◌, arith, Me, Allows, View, Sizes, acts_of, IsAlone, left_at, take_of, IsSound}
 use Rattle.shr_deferred.proofs.SeatLaws.{moves_more}
 use Rattle.shr_deferred.proofs.Steps.{with_moves, takes}
 use Rattle.shr_deferred.proofs.table.Deferred.take.Goals as goal

@@ -1,7 +1,4 @@
-use Rattle.std.proofs.Common.{◌≡◌}
-use Rattle.shr_seats.specs.Lines.{acts_of}
-use Rattle.shr_deferred.specs.Alone.{IsAlone, left_at}
-use Rattle.shr_deferred.specs.Moves.{take_of}
+use Rattle.shr_deferred.proofs.Common.{◌≡◌, acts_of, IsAlone, left_at, take_of}
 use Rattle.shr_deferred.proofs.Steps.{with_moves}
 use Rattle.shr_deferred.proofs.table.Deferred.take.Given as goal
 

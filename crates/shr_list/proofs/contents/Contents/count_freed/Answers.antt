@@ -1,5 +1,4 @@
-use Rattle.std.proofs.Common.{rules, length, ap}
-use Rattle.shr_model.specs.Scan.{Scanned}
+use Rattle.shr_list.proofs.Common.{rules, length, ap, Scanned}
 use Rattle.shr_list.proofs.Scans.{scan_none}
 use Rattle.shr_list.proofs.contents.Contents.count_freed.Goals as goal
 

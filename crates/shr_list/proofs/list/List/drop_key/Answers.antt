@@ -1,9 +1,6 @@
-use Rattle.std.proofs.Common.{◌≡◌, ◌≢◌, Bool, true, false, Option, Some, None, refl, rules}
-use Rattle.std.specs.Prelude.{if◌then◌else◌}
-use Rattle.shr_base.specs.declared.objects.Object.{Object}
+use Rattle.shr_list.proofs.Common.{◌≡◌, ◌≢◌, Bool, true, false, Option, Some, None, refl, rules, if◌then◌else◌, Object, named_in}
 use Rattle.shr_base.specs.declared.journals.DropKind.TheVariants.{Dropped, Pinned, Miss}
 use Rattle.shr_model.specs.Items.{drop_kind_of}
-use Rattle.shr_model.specs.Objects.{named_in}
 use Rattle.shr_model.proofs.ObjectLaws.{length_after_drop}
 use Rattle.shr_list.specs.Answers.{drop_entry}
 use Rattle.shr_list.specs.Nodes.{loose_of}

@@ -1,8 +1,4 @@
-use Rattle.std.proofs.Common.{◌≡◌, Option, Some, None, is_some, refl, rules}
-use Rattle.std.specs.Prelude.{option_map}
-use Rattle.shr_base.specs.declared.objects.Object.{Object}
-use Rattle.shr_model.specs.Objects.{is_named, named_in, marked_object}
-use Rattle.shr_model.proofs.ObjectLaws.{length_change_first, is_some_find}
+use Rattle.shr_list.proofs.Common.{◌≡◌, Option, Some, None, is_some, refl, rules, option_map, Object, is_named, named_in, marked_object, length_change_first, is_some_find}
 use Rattle.shr_list.specs.Answers.{look_entry}
 use Rattle.shr_list.proofs.Keeping.{kept_taken}
 use Rattle.shr_list.proofs.list.List.look.Goals as goal

@@ -1,6 +1,4 @@
-use Rattle.std.proofs.Common.{◌≡◌, List, [], length, refl, ap, arith, rules}
-use Rattle.shr_base.specs.declared.objects.Object.{Object}
-use Rattle.shr_model.specs.Scan.{Scanned}
+use Rattle.shr_list.proofs.Common.{◌≡◌, List, [], length, refl, ap, arith, rules, Object, Scanned}
 use Rattle.shr_model.proofs.ScanLaws.{length_scan, visits_within, scan_parts}
 use Rattle.shr_list.specs.Answers.{scan_entry}
 use Rattle.shr_list.proofs.Keeping.{kept_taken}

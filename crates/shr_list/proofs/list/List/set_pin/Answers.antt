@@ -1,6 +1,4 @@
-use Rattle.std.proofs.Common.{refl, rules}
-use Rattle.shr_model.specs.Objects.{is_named, pinned_object}
-use Rattle.shr_model.proofs.ObjectLaws.{length_change_first}
+use Rattle.shr_list.proofs.Common.{refl, rules, is_named, pinned_object, length_change_first}
 use Rattle.shr_list.specs.Answers.{pin_entry}
 use Rattle.shr_list.proofs.Keeping.{kept_taken}
 use Rattle.shr_list.proofs.list.List.set_pin.Goals as goal

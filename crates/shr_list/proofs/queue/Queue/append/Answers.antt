@@ -1,9 +1,5 @@
-use Rattle.std.proofs.Common.{◌≡◌, ◌∷◌, ◌++◌, [], ◌∙◌, sym, ap, refl, true, false, rules, List}
-use Rattle.std.proofs.lemmas.List.{map-append}
-use Rattle.std.specs.Prelude.{is_some}
+use Rattle.shr_list.proofs.Common.{◌≡◌, ◌∷◌, ◌++◌, [], ◌∙◌, sym, ap, refl, true, false, rules, List, map-append, is_some, Held, Keyed, keys_of, objects_of, name_by, Keeps, AddsName}
 use Rattle.shr_model.specs.Objects.{holds, fresh}
-use Rattle.shr_list.specs.Nodes.{Held, Keyed, keys_of, objects_of}
-use Rattle.shr_list.specs.Names.{name_by, Keeps, AddsName}
 use Rattle.shr_list.proofs.Indexed.{indexed_pushed, knows_kept, unique_pushed, off_unheld, held_at, none_at, held_found}
 use Rattle.shr_list.proofs.Slots.{keys_kept, keys_pushed, keys_same, kept_itself}
 use Rattle.shr_list.proofs.queue.Queue.append.Goals as goal

@@ -1,6 +1,5 @@
-use Rattle.std.proofs.Common.{◌≡◌, ◌+◌, ◌-◌, ◌<◌, ◌≤◌, min, length, arith, rules, length-drop}
-use Rattle.std.proofs.lemmas.List.{drop_all, length-map}
-use Rattle.shr_list.specs.Nodes.{Keyed, objects_of}
+use Rattle.shr_list.proofs.Common.{◌≡◌, ◌+◌, ◌-◌, ◌<◌, ◌≤◌, min, length, arith, rules, drop_all, length-map, Keyed, objects_of}
+use Rattle.std.proofs.Common.{length-drop}
 use Rattle.shr_list.proofs.Walks.{here, is_at, past}
 use Rattle.shr_list.proofs.Counting.{counting_removed, counting_skipped, counting_rotated, counting_rotated_last, counting_stopped, counting_ends}
 use Rattle.shr_list.proofs.queue.Queue.count_freed.Goals as goal

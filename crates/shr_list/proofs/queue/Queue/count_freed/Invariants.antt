@@ -1,5 +1,4 @@
-use Rattle.std.proofs.Common.{◌≡◌, ◌+◌, ◌≤◌}
-use Rattle.shr_list.specs.Nodes.{objects_of, key_at}
+use Rattle.shr_list.proofs.Common.{◌≡◌, ◌+◌, ◌≤◌, objects_of, key_at}
 use Rattle.shr_list.proofs.Counting.{IsCounting}
 use Rattle.shr_list.proofs.queue.Queue.count_freed.Given as goal
 

@@ -1,7 +1,4 @@
-use Rattle.std.proofs.Common.{◌≡◌, false, sym, subst, None}
-use Rattle.shr_base.specs.declared.objects.Object.{Object}
-use Rattle.shr_list.specs.Nodes.{Queued, IsAt}
-use Rattle.shr_list.specs.Names.{Turns, name_by}
+use Rattle.shr_list.proofs.Common.{◌≡◌, false, sym, subst, None, Object, Queued, IsAt, Turns, name_by}
 use Rattle.shr_list.proofs.Indexed.{knows_removed}
 use Rattle.shr_list.proofs.queue.Queue.free.Goals as goal
 

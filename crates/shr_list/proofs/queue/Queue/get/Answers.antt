@@ -1,7 +1,4 @@
-use Rattle.std.proofs.Common.{◌≡◌, ◌∙◌, sym, ap, Some, None, rules}
-use Rattle.shr_model.specs.Objects.{is_named}
-use Rattle.shr_model.proofs.ObjectLaws.{find_none}
-use Rattle.shr_list.specs.Nodes.{key_named, objects_of}
+use Rattle.shr_list.proofs.Common.{◌≡◌, ◌∙◌, sym, ap, Some, None, rules, is_named, find_none, key_named, objects_of}
 use Rattle.shr_list.proofs.Indexed.{found_at, none_at}
 use Rattle.shr_list.proofs.queue.Queue.get.Goals as goal
 

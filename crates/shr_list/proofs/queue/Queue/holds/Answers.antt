@@ -1,5 +1,4 @@
-use Rattle.std.proofs.Common.{◌∙◌, ap}
-use Rattle.std.specs.Prelude.{is_some}
+use Rattle.shr_list.proofs.Common.{◌∙◌, ap, is_some}
 use Rattle.shr_list.proofs.Indexed.{held_at}
 use Rattle.shr_list.proofs.queue.Queue.holds.Goals as goal
 

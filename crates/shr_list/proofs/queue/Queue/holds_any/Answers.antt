@@ -1,9 +1,4 @@
-use Rattle.std.proofs.Common.{◌≡◌, ◌∷◌, [], take, drop, ◌+◌, None, true, rules, subst}
-use Rattle.std.specs.Prelude.{is_some}
-use Rattle.std.specs.List.{AllByRecursion}
-use Rattle.shr_base.specs.declared.objects.Object.{Object}
-use Rattle.shr_list.specs.Nodes.{Keyed}
-use Rattle.shr_list.specs.Names.{in_nodes, name_by, name_in}
+use Rattle.shr_list.proofs.Common.{◌≡◌, ◌∷◌, [], take, drop, ◌+◌, None, true, rules, subst, is_some, AllByRecursion, Object, Keyed, in_nodes, name_by, name_in}
 use Rattle.shr_list.proofs.Paths.{all_append, all_right}
 use Rattle.shr_list.proofs.Walks.{here, is_at}
 use Rattle.shr_list.proofs.queue.Queue.holds_any.Goals as goal

@@ -1,8 +1,4 @@
-use Rattle.std.proofs.Common.{◌≡◌, ◌∙◌, sym, ap, Some, None, rules, refl}
-use Rattle.shr_base.specs.declared.objects.Object.{Object}
-use Rattle.shr_model.specs.Objects.{is_named, marked_object}
-use Rattle.shr_model.proofs.ObjectLaws.{change_first_none, find_none}
-use Rattle.shr_list.specs.Nodes.{key_named, objects_of}
+use Rattle.shr_list.proofs.Common.{◌≡◌, ◌∙◌, sym, ap, Some, None, rules, refl, Object, is_named, marked_object, change_first_none, find_none, key_named, objects_of}
 use Rattle.shr_list.proofs.Slots.{keys_changed, keys_same}
 use Rattle.shr_list.proofs.Indexed.{found_at, none_at, knows_changed}
 use Rattle.shr_list.proofs.queue.Queue.look.Goals as goal

@@ -1,5 +1,4 @@
-use Rattle.std.proofs.Common.{◌++◌, rules}
-use Rattle.shr_list.specs.Names.{IsIndexed, Enters, AreStrangers}
+use Rattle.shr_list.proofs.Common.{◌++◌, rules, IsIndexed, Enters, AreStrangers}
 use Rattle.shr_list.proofs.Indexed.{unique_before}
 use Rattle.shr_list.proofs.Splicing.{indexed_spliced, take_front}
 use Rattle.shr_list.proofs.queue.Queue.put_before.Goals as goal

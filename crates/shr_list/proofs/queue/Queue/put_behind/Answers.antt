@@ -1,5 +1,4 @@
-use Rattle.std.proofs.Common.{◌++◌, rules}
-use Rattle.shr_list.specs.Names.{IsIndexed, AreStrangers}
+use Rattle.shr_list.proofs.Common.{◌++◌, rules, IsIndexed, AreStrangers}
 use Rattle.shr_list.proofs.Indexed.{unique_behind}
 use Rattle.shr_list.proofs.Splicing.{indexed_followed}
 use Rattle.shr_list.proofs.queue.Queue.put_behind.Goals as goal

@@ -1,5 +1,4 @@
-use Rattle.std.proofs.Common.{sym, subst, refl, false}
-use Rattle.shr_list.specs.Nodes.{Queued, IsAt, with_mark}
+use Rattle.shr_list.proofs.Common.{sym, subst, refl, false, Queued, IsAt, with_mark}
 use Rattle.shr_list.proofs.Indexed.{knows_rotated}
 use Rattle.shr_list.proofs.queue.Queue.rotate.Goals as goal
 

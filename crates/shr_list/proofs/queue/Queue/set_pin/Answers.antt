@@ -1,7 +1,4 @@
-use Rattle.std.proofs.Common.{◌≡◌, ◌∙◌, sym, ap, Some, None, rules, refl}
-use Rattle.shr_model.specs.Objects.{is_named, pinned_object}
-use Rattle.shr_model.proofs.ObjectLaws.{change_first_none}
-use Rattle.shr_list.specs.Nodes.{key_named, objects_of}
+use Rattle.shr_list.proofs.Common.{◌≡◌, ◌∙◌, sym, ap, Some, None, rules, refl, is_named, pinned_object, change_first_none, key_named, objects_of}
 use Rattle.shr_list.proofs.Slots.{keys_changed, keys_kept, kept_itself}
 use Rattle.shr_list.proofs.Indexed.{found_at, none_at, knows_changed}
 use Rattle.shr_list.proofs.queue.Queue.set_pin.Goals as goal

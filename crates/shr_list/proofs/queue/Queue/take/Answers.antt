@@ -1,7 +1,4 @@
-use Rattle.std.proofs.Common.{◌≡◌, ◌∙◌, sym, ap, true, false, Some, None, rules, refl}
-use Rattle.shr_model.specs.Objects.{is_named}
-use Rattle.shr_model.proofs.ObjectLaws.{find_none}
-use Rattle.shr_list.specs.Nodes.{key_named, keys_of, objects_of}
+use Rattle.shr_list.proofs.Common.{◌≡◌, ◌∙◌, sym, ap, true, false, Some, None, rules, refl, is_named, find_none, key_named, keys_of, objects_of}
 use Rattle.shr_list.proofs.Slots.{keys_whole, keys_same, nodes_removed}
 use Rattle.shr_list.proofs.Indexed.{found_at, none_at}
 use Rattle.shr_list.proofs.queue.Queue.take.Goals as goal

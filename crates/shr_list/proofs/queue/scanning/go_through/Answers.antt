@@ -1,9 +1,5 @@
-use Rattle.std.proofs.Common.{◌≡◌, ◌∙◌, sym, subst, ap, arith, rules, true, false, length, length-append, None, Some, Option, ℕ, List, [], ◌∷◌, ◌++◌, ◌+◌, ◌≤◌, refl}
+use Rattle.shr_list.proofs.Common.{◌≡◌, ◌∙◌, sym, subst, ap, arith, rules, true, false, length, length-append, None, Some, Option, ℕ, List, [], ◌∷◌, ◌++◌, ◌+◌, ◌≤◌, refl, Object, scan_of, unmarked_object, AreKept}
 use Rattle.shr_base.specs.declared.objects.LruStatus.{LruStatus}
-use Rattle.shr_base.specs.declared.objects.Object.{Object}
-use Rattle.shr_model.specs.Scan.{scan_of}
-use Rattle.shr_model.specs.Objects.{unmarked_object}
-use Rattle.shr_list.specs.Nodes.{AreKept}
 use Rattle.shr_list.specs.Scanning.{IsLeft}
 use Rattle.shr_list.proofs.Slots.{kept_itself, kept_without, kept_rotated, keys_whole}
 use Rattle.shr_list.proofs.Fitting.{on_err}

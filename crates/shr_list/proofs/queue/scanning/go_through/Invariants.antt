@@ -1,6 +1,4 @@
-use Rattle.std.proofs.Common.{◌≡◌, ◌+◌, ◌≤◌, true, false, [], length}
-use Rattle.shr_model.specs.Scan.{scan_of}
-use Rattle.shr_list.specs.Nodes.{IsWhole, AreKept}
+use Rattle.shr_list.proofs.Common.{◌≡◌, ◌+◌, ◌≤◌, true, false, [], length, scan_of, IsWhole, AreKept}
 use Rattle.shr_list.proofs.Scans.{IsScanning}
 use Rattle.shr_list.proofs.queue.scanning.go_through.Given as goal
 

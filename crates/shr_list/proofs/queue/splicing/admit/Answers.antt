@@ -1,6 +1,4 @@
-use Rattle.std.proofs.Common.{◌+◌, ◌<◌, length, take, drop, arith, rules, subst}
-use Rattle.shr_base.specs.declared.objects.Object.{Object}
-use Rattle.shr_list.specs.Names.{GainsName, Keeps, AreStrangers, name_by}
+use Rattle.shr_list.proofs.Common.{◌+◌, ◌<◌, length, take, drop, arith, rules, subst, Object, GainsName, Keeps, AreStrangers, name_by}
 use Rattle.shr_list.proofs.Walks.{here, is_at, past}
 use Rattle.shr_list.proofs.Splicing.{admits_one, withdrawn}
 use Rattle.shr_list.proofs.queue.splicing.admit.Goals as goal

@@ -1,6 +1,4 @@
-use Rattle.std.proofs.Common.{◌<◌, length, take, Some, arith, rules, subst}
-use Rattle.shr_base.specs.declared.objects.Object.{Object}
-use Rattle.shr_list.specs.Names.{Turns, name_by}
+use Rattle.shr_list.proofs.Common.{◌<◌, length, take, Some, arith, rules, subst, Object, Turns, name_by}
 use Rattle.shr_list.proofs.Walks.{here, is_at, past}
 use Rattle.shr_list.proofs.Splicing.{enters_none, enters_one}
 use Rattle.shr_list.proofs.queue.splicing.enter.Goals as goal

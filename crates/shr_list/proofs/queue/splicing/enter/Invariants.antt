@@ -1,6 +1,4 @@
-use Rattle.std.proofs.Common.{◌≡◌, take}
-use Rattle.shr_list.specs.Nodes.{key_at}
-use Rattle.shr_list.specs.Names.{Enters}
+use Rattle.shr_list.proofs.Common.{◌≡◌, take, key_at, Enters}
 use Rattle.shr_list.proofs.queue.splicing.enter.Given as goal
 
 abbrev pub invariant-loop-met : goal.invariant-loop-met

@@ -1,8 +1,4 @@
-use Rattle.std.proofs.Common.{◌≡◌, ◌+◌, List, ◌∷◌, ◌++◌, [], length, refl, ap, sym, subst, ◌∙◌, Some, arith, rules, append_assoc}
-use Rattle.std.proofs.lemmas.List.{append-nil}
-use Rattle.shr_base.specs.declared.objects.Object.{Object}
-use Rattle.shr_list.specs.Nodes.{Keyed, objects_of}
-use Rattle.shr_list.specs.Names.{Turns, name_by}
+use Rattle.shr_list.proofs.Common.{◌≡◌, ◌+◌, List, ◌∷◌, ◌++◌, [], length, refl, ap, sym, subst, ◌∙◌, Some, arith, rules, append_assoc, append-nil, Object, Keyed, objects_of, Turns, name_by}
 use Rattle.shr_list.proofs.Walks.{at_head, no_head}
 use Rattle.shr_list.proofs.Scans.{objects_append}
 use Rattle.shr_list.proofs.Splicing.{enters_none, enters_one}

@@ -1,6 +1,4 @@
-use Rattle.std.proofs.Common.{◌≡◌, ◌≤◌, ◌++◌, List, length}
-use Rattle.shr_list.specs.Nodes.{Keyed, objects_of}
-use Rattle.shr_list.specs.Names.{Enters}
+use Rattle.shr_list.proofs.Common.{◌≡◌, ◌≤◌, ◌++◌, List, length, Keyed, objects_of, Enters}
 use Rattle.shr_list.proofs.queue.splicing.move_behind.Given as goal
 
 abbrev pub invariant-loop-node : goal.invariant-loop-node

@@ -1,6 +1,4 @@
-use Rattle.std.proofs.Common.{◌<◌, length, take, None, arith, rules, subst}
-use Rattle.shr_base.specs.declared.objects.Object.{Object}
-use Rattle.shr_list.specs.Names.{Turns, name_by}
+use Rattle.shr_list.proofs.Common.{◌<◌, length, take, None, arith, rules, subst, Object, Turns, name_by}
 use Rattle.shr_list.proofs.Walks.{here, is_at, past}
 use Rattle.shr_list.proofs.Splicing.{withdraws_none, withdraws_one}
 use Rattle.shr_list.proofs.queue.splicing.withdraw.Goals as goal

@@ -1,8 +1,4 @@
-use Rattle.std.proofs.Common.{◌+◌, ◌*◌, ◌%◌, ◌/◌, ◌^◌, subst, sym}
-use Rattle.atomic_table.specs.Table.{Allows}
-use Rattle.shr_seats.specs.declared.rows.Sizes.{Sizes}
-use Rattle.shr_plain.specs.Rule.{IsPools}
-use Rattle.shr_plain.specs.Taking.{Counts}
+use Rattle.shr_plain.proofs.Common.{◌+◌, ◌*◌, ◌%◌, ◌/◌, ◌^◌, subst, sym, Allows, Sizes, IsPools, Counts}
 use Rattle.shr_plain.proofs.Holding.{pools_loads}
 use Rattle.shr_plain.proofs.table.Pools.count.Goals as goal
 

@@ -1,5 +1,4 @@
-use Rattle.std.proofs.Common.{◌%◌, ◌/◌, ◌^◌}
-use Rattle.shr_plain.specs.Taking.{Counts}
+use Rattle.shr_plain.proofs.Common.{◌%◌, ◌/◌, ◌^◌, Counts}
 use Rattle.shr_plain.proofs.table.Pools.count.Given as goal
 
 abbrev pub ghosts-load_as : goal.ghosts-load_as

@@ -1,11 +1,5 @@
-use Rattle.std.proofs.Common.{ap, subst, ◌∙◌}
-use Rattle.std.specs.Mem.Slots.{slots_items}
-use Rattle.atomic_table.specs.Table.{Final, Seen}
+use Rattle.shr_plain.proofs.Common.{ap, subst, ◌∙◌, slots_items, Final, Seen, Sizes, entries_at, IsPools, state_of}
 use Rattle.shr_deferred.specs.Left.{left_over}
-use Rattle.shr_seats.specs.declared.rows.Sizes.{Sizes}
-use Rattle.shr_plain.specs.Ending.{entries_at}
-use Rattle.shr_plain.specs.Rule.{IsPools}
-use Rattle.shr_plain.specs.Seat.{state_of}
 use Rattle.shr_plain.proofs.Endings.{rooms_left}
 use Rattle.shr_plain.proofs.table.Pools.finish.Goals as goal
 

@@ -1,10 +1,4 @@
-use Rattle.std.proofs.Common.{◌≡◌, ℕ, ◌*◌, List, [], ◌∷◌, ap, subst, sym, ◌∙◌}
-use Rattle.atomic_table.specs.Table.{Allows, rest}
-use Rattle.shr_seats.specs.declared.rows.Sizes.{Sizes}
-use Rattle.shr_rooms.specs.Views.{with_given}
-use Rattle.shr_plain.specs.declared.slot.Slot.{Slot}
-use Rattle.shr_plain.specs.Rule.{IsPools, with_part, part_of}
-use Rattle.shr_plain.specs.Taking.{Sat}
+use Rattle.shr_plain.proofs.Common.{◌≡◌, ℕ, ◌*◌, List, [], ◌∷◌, ap, subst, sym, ◌∙◌, Allows, rest, Sizes, with_given, Slot, IsPools, with_part, part_of, Sat}
 use Rattle.shr_plain.proofs.Holding.{pools_unlocks}
 use Rattle.shr_plain.proofs.table.Pools.give.Goals as goal
 

@@ -1,6 +1,4 @@
-use Rattle.std.proofs.Common.{◌≡◌, []}
-use Rattle.shr_rooms.specs.Views.{with_given}
-use Rattle.shr_plain.specs.Rule.{with_part, part_of}
+use Rattle.shr_plain.proofs.Common.{◌≡◌, [], with_given, with_part, part_of}
 use Rattle.shr_plain.proofs.table.Pools.give.Given as goal
 
 abbrev pub ghosts-free_as : goal.ghosts-free_as

@@ -1,9 +1,7 @@
-use Rattle.std.proofs.Common.{sym, subst, ◌∙◌, ℕ, Bool, arith, lt-ltb, le-ltb}
-use Rattle.shr_base.specs.declared.places.Place.{Place}
+use Rattle.shr_plain.proofs.Common.{sym, subst, ◌∙◌, ℕ, Bool, arith, Place, Grab, Makes, state_of}
+use Rattle.std.proofs.Common.{lt-ltb, le-ltb}
 use Rattle.shr_base.specs.declared.replies.Spent.TheVariants as spent
-use Rattle.shr_base.specs.declared.journals.PlainEntry.TheVariants.{Grab}
-use Rattle.shr_plain.specs.Answers.{GrabGives, Makes}
-use Rattle.shr_plain.specs.Seat.{state_of}
+use Rattle.shr_plain.specs.Answers.{GrabGives}
 use Rattle.shr_plain.specs.declared.answers.GrabAnswer.TheVariants as answered
 use Rattle.shr_plain.proofs.Holding.{in_hand, hand_is, looked, put}
 use Rattle.shr_plain.proofs.SeatLaws.{looked_seat, put_seat, sees, makes, worn_is, at_row, with_units}

@@ -1,8 +1,5 @@
-use Rattle.std.proofs.Common.{refl}
-use Rattle.shr_seats.specs.Rows.{row_count}
-use Rattle.shr_rooms.proofs.Parts.{part_joined}
+use Rattle.shr_plain.proofs.Common.{refl, row_count, part_joined, units, entries_in, parts_in, standing_in, spent_view, with_parts, joined_view}
 use Rattle.shr_rooms.proofs.Steps.{joins}
-use Rattle.shr_plain.specs.Rule.{units, entries_in, parts_in, standing_in, spent_view, with_parts, joined_view}
 use Rattle.shr_plain.proofs.SeatLaws.{has_words, unit_join}
 use Rattle.shr_plain.proofs.table.Pools.join.Goals as goal
 

@@ -1,13 +1,9 @@
-use Rattle.std.proofs.Common.{ℕ, ◌*◌, ap, sym, subst, refl, ◌∙◌, length, arith}
-use Rattle.std.specs.Prelude.{replicate, All}
+use Rattle.shr_plain.proofs.Common.{ℕ, ◌*◌, ap, sym, subst, refl, ◌∙◌, length, arith, All, row_count, Sizes, setting_by, IsSetting, units, entries_in, parts_in, standing_in, spent_view}
+use Rattle.std.specs.Prelude.{replicate}
 use Rattle.std.proofs.lemmas.List.{length-map, length-replicate}
 use Rattle.std.proofs.lemmas.List.Elements.{All-map}
-use Rattle.shr_seats.specs.Rows.{row_count}
-use Rattle.shr_seats.specs.declared.rows.Sizes.{Sizes}
 use Rattle.shr_rooms.proofs.Openings.{opened}
-use Rattle.shr_plain.specs.Opening.{setting_by}
-use Rattle.shr_plain.specs.Settings.{IsSetting}
-use Rattle.shr_plain.specs.Rule.{units, entries_in, parts_in, standing_in, spent_view, first_view}
+use Rattle.shr_plain.specs.Rule.{first_view}
 use Rattle.shr_plain.proofs.Beginnings.{ids_some, ids_all, ids_few}
 use Rattle.shr_plain.proofs.table.Pools.new.Goals as goal
 

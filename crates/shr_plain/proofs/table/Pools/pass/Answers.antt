@@ -1,16 +1,6 @@
-use Rattle.std.proofs.Common.{◌≡◌, ℕ, sym, subst, ◌∙◌, List}
-use Rattle.shr_base.specs.declared.places.Place.{Place}
-use Rattle.shr_pass.specs.Passes.{MatchPass, Scans, asks_due}
-use Rattle.shr_pass.specs.declared.answers.ScanAnswer.{ScanAnswer}
-use Rattle.shr_pass.specs.declared.answers.ScanSeen.{ScanSeen}
-use Rattle.shr_plain.specs.Counting.{Tells, scans_of}
-use Rattle.shr_plain.specs.Rule.{part_of}
-use Rattle.shr_plain.specs.Seat.{state_of}
-use Rattle.shr_plain.specs.Settings.{setting_of, place_of, room_of}
-use Rattle.shr_plain.specs.Walks.{PassGives}
+use Rattle.shr_plain.proofs.Common.{◌≡◌, ℕ, sym, subst, ◌∙◌, List, Place, MatchPass, Scans, asks_due, ScanAnswer, ScanSeen, Tells, scans_of, part_of, state_of, setting_of, place_of, room_of, PassGives, Setting}
 use Rattle.shr_plain.proofs.Passing.{pass_gives}
 use Rattle.shr_plain.proofs.SeatLaws.{at_row}
-use Rattle.shr_plain.specs.declared.settings.Setting.{Setting}
 use Rattle.shr_plain.proofs.table.Pools.pass.Goals as goal
 
 pub returns-clause-passed : goal.returns-clause-passed

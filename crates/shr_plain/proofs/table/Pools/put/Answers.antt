@@ -1,7 +1,5 @@
-use Rattle.std.proofs.Common.{[], ◌∷◌, ◌++◌, List, ap, sym, subst, ◌∙◌, length, arith, length-append}
-use Rattle.shr_base.specs.declared.journals.PlainEntry.{PlainEntry}
-use Rattle.shr_model.specs.Units.{IsPlainEntry}
-use Rattle.shr_plain.specs.Taking.{Sat}
+use Rattle.shr_plain.proofs.Common.{[], ◌∷◌, ◌++◌, List, ap, sym, subst, ◌∙◌, length, arith, PlainEntry, IsPlainEntry, Sat}
+use Rattle.std.proofs.Common.{length-append}
 use Rattle.shr_plain.proofs.Holding.{stored_in_hand, stored_hand, stored_given}
 use Rattle.shr_plain.proofs.table.Pools.put.Goals as goal
 

@@ -1,9 +1,6 @@
-use Rattle.std.proofs.Common.{sym, ◌∙◌, ℕ, arith}
-use Rattle.shr_base.specs.declared.places.Place.{Place}
+use Rattle.shr_plain.proofs.Common.{sym, ◌∙◌, ℕ, arith, Place, Release, state_of}
 use Rattle.shr_base.specs.declared.replies.Spent.TheVariants as spent
-use Rattle.shr_base.specs.declared.journals.PlainEntry.TheVariants.{Release}
 use Rattle.shr_plain.specs.Answers.{ReleaseGives}
-use Rattle.shr_plain.specs.Seat.{state_of}
 use Rattle.shr_plain.specs.declared.answers.ReleaseAnswer.TheVariants as answered
 use Rattle.shr_plain.proofs.Holding.{in_hand, hand_is, looked, put}
 use Rattle.shr_plain.proofs.SeatLaws.{looked_seat, put_seat, sees, makes, worn_is, at_row, with_units}

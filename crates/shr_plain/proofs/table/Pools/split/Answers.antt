@@ -1,7 +1,6 @@
-use Rattle.std.proofs.Common.{refl}
-use Rattle.shr_seats.specs.Rows.{row_count}
+use Rattle.shr_plain.proofs.Common.{refl, row_count, units, entries_in, parts_in, standing_in, spent_view, with_parts, with_split_view}
 use Rattle.shr_rooms.proofs.Steps.{splits}
-use Rattle.shr_plain.specs.Rule.{units, entries_in, parts_in, standing_in, spent_view, with_parts, with_split_view, new_view}
+use Rattle.shr_plain.specs.Rule.{new_view}
 use Rattle.shr_plain.proofs.SeatLaws.{has_words}
 use Rattle.shr_plain.proofs.table.Pools.split.Goals as goal
 

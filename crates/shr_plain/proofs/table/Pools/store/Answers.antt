@@ -1,11 +1,5 @@
-use Rattle.std.proofs.Common.{◌≡◌, ◌+◌, ◌*◌, subst, sym, refl, ap, ◌∙◌, arith, length}
-use Rattle.atomic_table.specs.Table.{Allows}
-use Rattle.shr_model.specs.Units.{free_of}
-use Rattle.shr_seats.specs.declared.rows.Sizes.{Sizes}
-use Rattle.shr_rooms.specs.Views.{with_stored}
+use Rattle.shr_plain.proofs.Common.{◌≡◌, ◌+◌, ◌*◌, subst, sym, refl, ap, ◌∙◌, arith, length, Allows, free_of, Sizes, with_stored, IsPools, units, entries_in, parts_in, standing_in, spent_view, with_parts, with_part, part_of, row_count}
 use Rattle.shr_rooms.proofs.Steps.{stores}
-use Rattle.shr_plain.specs.Rule.{IsPools, units, entries_in, parts_in, standing_in, spent_view, with_parts, with_part, part_of}
-use Rattle.shr_seats.specs.Rows.{row_count}
 use Rattle.shr_plain.proofs.table.Pools.store.Goals as goal
 
 pub store_as-requires-clause-step : goal.store_as-requires-clause-step

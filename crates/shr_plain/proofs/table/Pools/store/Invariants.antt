@@ -1,6 +1,4 @@
-use Rattle.std.proofs.Common.{◌≡◌}
-use Rattle.shr_rooms.specs.Views.{with_stored}
-use Rattle.shr_plain.specs.Rule.{with_part, part_of}
+use Rattle.shr_plain.proofs.Common.{◌≡◌, with_stored, with_part, part_of}
 use Rattle.shr_plain.proofs.table.Pools.store.Given as goal
 
 abbrev pub ghosts-store_as : goal.ghosts-store_as

@@ -1,7 +1,4 @@
-use Rattle.std.proofs.Common.{ℕ, List, ◌∷◌, ap, sym, ◌∙◌}
-use Rattle.atomic_table.specs.Table.{rest}
-use Rattle.shr_plain.specs.declared.slot.Slot.{Slot}
-use Rattle.shr_plain.specs.Taking.{Sat}
+use Rattle.shr_plain.proofs.Common.{ℕ, List, ◌∷◌, ap, sym, ◌∙◌, rest, Slot, Sat}
 use Rattle.shr_plain.proofs.Holding.{has_room}
 use Rattle.shr_plain.proofs.table.Pools.take.Goals as goal
 

@@ -1,9 +1,5 @@
-use Rattle.std.proofs.Common.{◌≡◌, ◌≢◌, ◌*◌, eqb, subst, sym}
+use Rattle.shr_plain.proofs.Common.{◌≡◌, ◌≢◌, ◌*◌, eqb, subst, sym, Allows, Sizes, IsPools, Takes}
 use prog.Atomic.{either}
-use Rattle.atomic_table.specs.Table.{Allows}
-use Rattle.shr_seats.specs.declared.rows.Sizes.{Sizes}
-use Rattle.shr_plain.specs.Rule.{IsPools}
-use Rattle.shr_plain.specs.Taking.{Takes}
 use Rattle.shr_plain.proofs.Holding.{pools_locks}
 use Rattle.shr_plain.proofs.table.Pools.try_take.Goals as goal
 

@@ -1,5 +1,4 @@
-use Rattle.std.proofs.Common.{◌≡◌, ◌≢◌}
-use Rattle.shr_plain.specs.Taking.{Takes}
+use Rattle.shr_plain.proofs.Common.{◌≡◌, ◌≢◌, Takes}
 use Rattle.shr_plain.proofs.table.Pools.try_take.Given as goal
 
 abbrev pub ghosts-lock_as : goal.ghosts-lock_as

@@ -1,13 +1,6 @@
-use Rattle.std.proofs.Common.{◌≡◌, ℕ, ◌+◌, ◌≤◌, List, length, ap, sym, subst, ◌∙◌, arith}
-use Rattle.std.specs.Prelude.{sum_by, All}
-use Rattle.std.proofs.lemmas.List.{length_push}
+use Rattle.shr_plain.proofs.Common.{◌≡◌, ℕ, ◌+◌, ◌≤◌, List, length, ap, sym, subst, ◌∙◌, arith, sum_by, All, length_push, PlainTry, PassAnswer, state_of, setting_of, place_of, room_of, AreTried, TryGives, PassGives, HadMemory, answer_of, freed_in}
 use Rattle.std.proofs.lemmas.List.Elements.{All-push}
 use Rattle.std.proofs.lemmas.List.Sums.{sum_by_push}
-use Rattle.shr_base.specs.declared.walks.PlainTry.{PlainTry}
-use Rattle.shr_pass.specs.declared.answers.PassAnswer.{PassAnswer}
-use Rattle.shr_plain.specs.Seat.{state_of}
-use Rattle.shr_plain.specs.Settings.{setting_of, place_of, room_of}
-use Rattle.shr_plain.specs.Walks.{AreTried, TryGives, PassGives, HadMemory, answer_of, freed_in}
 use Rattle.shr_plain.proofs.Trying.{answer_back, few_freed, tried_push}
 use Rattle.shr_plain.proofs.table.Pools.walk_pools.Goals as goal
 

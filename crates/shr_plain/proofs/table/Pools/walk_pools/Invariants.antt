@@ -1,7 +1,5 @@
-use Rattle.std.proofs.Common.{◌≡◌, ◌+◌, ◌*◌, ◌≤◌, length}
-use Rattle.std.specs.Prelude.{sum_by, All}
-use Rattle.shr_plain.specs.Seat.{IsOf, state_of, standing_of}
-use Rattle.shr_plain.specs.Walks.{AreTried, HadMemory, freed_in}
+use Rattle.shr_plain.proofs.Common.{◌≡◌, ◌+◌, ◌*◌, ◌≤◌, length, sum_by, All, IsOf, state_of, AreTried, HadMemory, freed_in}
+use Rattle.shr_plain.specs.Seat.{standing_of}
 use Rattle.shr_plain.proofs.table.Pools.walk_pools.Given as goal
 
 abbrev pub invariant-loop-pool : goal.invariant-loop-pool

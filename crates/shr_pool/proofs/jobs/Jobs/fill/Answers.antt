@@ -1,9 +1,4 @@
-use Rattle.std.proofs.Common.{ap, ◌∙◌, ◌++◌, ◌∷◌, [], length, arith}
-use Rattle.shr_pool.specs.declared.items.SweepItem.TheVariants.{Walk}
-use Rattle.shr_pool.specs.declared.items.SweepJob.{SweepJob}
-use Rattle.shr_pool.specs.declared.view.PassView.{PassView}
-use Rattle.shr_pool.specs.Passes.{filling}
-use Rattle.shr_pool.specs.Rule.{with_push}
+use Rattle.shr_pool.proofs.Common.{ap, ◌∙◌, ◌++◌, ◌∷◌, [], length, arith, Walk, SweepJob, PassView, filling, with_push}
 use Rattle.shr_pool.proofs.Filling.{walks, length_walks, length_line, next_walk}
 use Rattle.shr_pool.proofs.Keeping.{begins}
 use Rattle.shr_pool.proofs.jobs.Jobs.fill.Goals as goal

@@ -1,9 +1,5 @@
-use Rattle.std.proofs.Common.{◌≡◌, ◌++◌, map, replicate}
-use Rattle.std.specs.List.{range_with_len}
+use Rattle.shr_pool.proofs.Common.{◌≡◌, ◌++◌, map, replicate, range_with_len, Walk, End, job_at, table_jobs, filling}
 use Rattle.crossbeam_queue.specs.Passes.{view, IsPassOf}
-use Rattle.shr_pool.specs.declared.items.SweepItem.TheVariants.{Walk, End}
-use Rattle.shr_pool.specs.Lines.{job_at, table_jobs}
-use Rattle.shr_pool.specs.Passes.{filling}
 use Rattle.shr_pool.proofs.jobs.Jobs.fill.Given as goal
 
 abbrev pub invariant-loop-i : goal.invariant-loop-i

@@ -1,13 +1,6 @@
-use Rattle.std.proofs.Common.{ap, sym, subst, ◌∙◌}
-use Rattle.shr_seats.specs.Standing.{IsWhole}
-use Rattle.shr_seats.specs.Weights.{total}
-use Rattle.shr_pool.specs.declared.view.PassView.{PassView}
-use Rattle.shr_pool.specs.Worked.{ArePopped}
+use Rattle.shr_pool.proofs.Common.{ap, sym, subst, ◌∙◌, IsWhole, total, PassView, ArePopped, IsShown, SweepItem, ◌≡◌, List}
 use Rattle.shr_pool.proofs.Working.{worked}
 use Rattle.shr_pool.proofs.Once.{each_once}
-use Rattle.shr_pool.specs.Known.{IsShown}
-use Rattle.shr_pool.specs.declared.items.SweepItem.{SweepItem}
-use Rattle.std.specs.Prelude.{◌≡◌, List}
 use Rattle.shr_pool.proofs.Keeping.{merges, shown}
 use Rattle.shr_pool.proofs.jobs.Jobs.join.Goals as goal
 

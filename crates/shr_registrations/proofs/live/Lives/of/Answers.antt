@@ -1,7 +1,4 @@
-use Rattle.std.proofs.Common.{List, ap, ◌∙◌}
-use Rattle.shr_registrations.specs.declared.steps.Span.{Span}
-use Rattle.shr_registrations.specs.Met.{lookup_key}
-use Rattle.shr_registrations.specs.Steps.{last_in}
+use Rattle.shr_registrations.proofs.Common.{List, ap, ◌∙◌, Span, lookup_key, last_in}
 use Rattle.shr_registrations.proofs.Living.{live_is}
 use Rattle.shr_registrations.proofs.live.Lives.of.Goals as goal
 

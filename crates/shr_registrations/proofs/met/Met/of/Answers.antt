@@ -1,7 +1,4 @@
-use Rattle.std.proofs.Common.{List, ap, ◌∙◌}
-use Rattle.shr_registrations.specs.declared.steps.Span.{Span}
-use Rattle.shr_registrations.specs.Met.{decl_found, lookup_key}
-use Rattle.shr_registrations.specs.Steps.{last_in}
+use Rattle.shr_registrations.proofs.Common.{List, ap, ◌∙◌, Span, decl_found, lookup_key, last_in}
 use Rattle.shr_registrations.proofs.met.Met.of.Goals as goal
 
 pub returns : goal.returns

@@ -1,6 +1,4 @@
-use Rattle.std.proofs.Common.{sym, ap, ◌∙◌, ◌++◌, ◌-◌, ◌/◌, arith}
-use Rattle.std.specs.Prelude.{codes}
-use Rattle.shr_report.specs.Lines.{hex_digits}
+use Rattle.shr_report.proofs.Common.{sym, ap, ◌∙◌, ◌++◌, ◌-◌, ◌/◌, arith, codes, hex_digits}
 use Rattle.shr_report.proofs.HexLaws.{hex_next, hex_done, hex_low}
 use Rattle.shr_report.proofs.piece.Piece.hex_digits.Goals as goal
 

@@ -1,5 +1,4 @@
-use Rattle.std.proofs.Common.{◌≡◌, ◌≤◌, ◌+◌, ◌++◌, drop}
-use Rattle.shr_report.specs.Lines.{hex, hex_digits}
+use Rattle.shr_report.proofs.Common.{◌≡◌, ◌≤◌, ◌+◌, ◌++◌, drop, hex, hex_digits}
 use Rattle.shr_report.proofs.piece.Piece.hex_digits.Given as goal
 
 abbrev pub invariant-loop-digits : goal.invariant-loop-digits

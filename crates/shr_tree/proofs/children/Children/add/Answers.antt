@@ -1,5 +1,4 @@
-use Rattle.std.proofs.Common.{◌≡◌, ◌++◌, ◌∷◌, [], map, get_or, set, ap, ◌∙◌, List, ℕ}
-use Rattle.shr_tree.specs.Children.{ChildrenOfAll}
+use Rattle.shr_tree.proofs.Common.{◌≡◌, ◌++◌, ◌∷◌, [], map, get_or, set, ap, ◌∙◌, List, ℕ, ChildrenOfAll}
 use Rattle.shr_tree.proofs.ChildrenLaws.{seen_at, seen_more, seen_within}
 use Rattle.shr_tree.proofs.children.Children.add.Goals as goal
 

@@ -1,5 +1,4 @@
-use Rattle.std.proofs.Common.{◌≡◌, map, arith, ap, ◌∙◌}
-use Rattle.shr_tree.specs.Children.{ChildrenOfAll}
+use Rattle.shr_tree.proofs.Common.{◌≡◌, map, arith, ap, ◌∙◌, ChildrenOfAll}
 use Rattle.shr_tree.proofs.ChildrenLaws.{unseen_write, seen_write, seen_within}
 use Rattle.shr_tree.proofs.children.Children.reserve.Goals as goal
 

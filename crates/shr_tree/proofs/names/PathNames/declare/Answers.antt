@@ -1,5 +1,4 @@
-use Rattle.std.proofs.Common.{◌≡◌, ◌∙◌, refl, map, None}
-use Rattle.shr_words.specs.Classes.{place_of}
+use Rattle.shr_tree.proofs.Common.{◌≡◌, ◌∙◌, refl, map, None, place_of}
 use Rattle.shr_words.proofs.NamesLaws.{inserted_last}
 use Rattle.shr_tree.proofs.names.PathNames.declare.Goals as goal
 

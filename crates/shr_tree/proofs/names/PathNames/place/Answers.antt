@@ -1,7 +1,5 @@
-use Rattle.std.proofs.Common.{◌∙◌, ap}
+use Rattle.shr_tree.proofs.Common.{◌∙◌, ap, Word, place_of, List}
 use Rattle.shr_words.proofs.NamesLaws.{position_is}
-use Rattle.shr_words.specs.Classes.{Word, place_of}
-use Rattle.std.specs.Prelude.{List}
 use Rattle.shr_tree.proofs.names.PathNames.place.Goals as goal
 
 pub returns-clause-place : goal.returns-clause-place

@@ -1,7 +1,6 @@
-use Rattle.std.proofs.Common.{◌≡◌, ◌++◌, ◌∷◌, [], length, get_or, ℕ, List, arith, ap, sym, ◌∙◌, append_assoc}
-use Rattle.std.specs.Prelude.{flat_map}
+use Rattle.shr_tree.proofs.Common.{◌≡◌, ◌++◌, ◌∷◌, [], length, get_or, ℕ, List, arith, ap, sym, ◌∙◌, flat_map, children_of, preorder_of}
+use Rattle.std.proofs.Common.{append_assoc}
 use Rattle.std.proofs.lemmas.List.{take_all}
-use Rattle.shr_model.specs.Groups.{children_of, preorder_of}
 use Rattle.shr_model.proofs.GroupsLaws.{child_listed, child_higher, preorder_of-group}
 use Rattle.shr_tree.proofs.TreeLaws.{within, children_at, is_tree}
 use Rattle.shr_tree.proofs.tree.Tree.+visit.Goals as goal

@@ -1,6 +1,5 @@
-use Rattle.std.proofs.Common.{◌≡◌, ◌++◌, ◌∷◌, [], ◌-◌, length, take}
-use Rattle.std.specs.Prelude.{flat_map}
-use Rattle.shr_model.specs.Groups.{preorder_of}
+use Rattle.shr_tree.proofs.Common.{◌≡◌, ◌++◌, ◌∷◌, [], length, take, flat_map, preorder_of}
+use Rattle.std.proofs.Common.{◌-◌}
 use Rattle.shr_tree.proofs.tree.Tree.+visit.Given as goal
 
 abbrev pub decreases-visit : goal.decreases-visit

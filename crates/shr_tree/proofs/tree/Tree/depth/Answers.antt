@@ -1,7 +1,5 @@
-use Rattle.std.proofs.Common.{◌≡◌, ◌<◌, get_or, false, None, List, arith, ap, ◌∙◌}
-use Rattle.shr_model.specs.Groups.{depth_of, parent_of}
+use Rattle.shr_tree.proofs.Common.{◌≡◌, ◌<◌, get_or, false, None, List, arith, ap, ◌∙◌, depth_of, parent_of, Group}
 use Rattle.shr_model.proofs.GroupsLaws.{depth_of-root, depth_of-below, depth_of-le}
-use Rattle.shr_tree.specs.declared.tree.Group.{Group}
 use Rattle.shr_tree.proofs.TreeLaws.{is_tree, parent_at, few_groups}
 use Rattle.shr_tree.proofs.tree.Tree.depth.Goals as goal
 

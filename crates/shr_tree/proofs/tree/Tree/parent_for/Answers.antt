@@ -1,14 +1,14 @@
-use Rattle.std.proofs.Common.{◌≡◌, ℕ, Bool, true, false, not, ◌||◌, List, sym, ap, subst, ◌∙◌, refl}
-use Rattle.std.specs.Prelude.{Option, Some, None, unwrap_or}
+use Rattle.shr_tree.proofs.Common.{◌≡◌, ℕ, Bool, true, false, List, sym, ap, subst, ◌∙◌, refl, None, is_later, Word, place_of, may_hold}
+use Rattle.std.proofs.Common.{not, ◌||◌}
+use Rattle.std.specs.Prelude.{Option, Some, unwrap_or}
 use Rattle.std.specs.Option.{is_some}
 use Rattle.std.specs.Cmp.Lexicographic.{same_text}
-use Rattle.shr_model.specs.Groups.{is_later}
 use Rattle.shr_model.specs.Paths.{root_path, parent_path}
-use Rattle.shr_words.specs.Classes.{Word, place_of}
-use Rattle.shr_tree.specs.Tree.{may_hold, is_parent}
+use Rattle.shr_tree.specs.Tree.{is_parent}
 use Rattle.shr_tree.proofs.TreeLaws.{is_hierarchy}
 use Rattle.shr_tree.proofs.tree.Tree.parent_for.Goals as goal
 use Rattle.shr_tree.proofs.tree.Tree.parent_for.Goals.{else-ne-via-then-ne+else-not-is_parent, else-ne-via-else-ne}
+use Rattle.shr_model.proofs.Booleans.{or_true}
 
 holds_some : (later : List Bool) (late : Bool) (o : Option ℕ) (p : ℕ) → true ≡ is_parent later late o → p ≡ unwrap_or o 0 → may_hold later late p ≡ true
 holds_some later late None p t e = absurd (let c : true ≡ false = t in cc)
@@ -21,10 +21,6 @@ not_true false e = absurd (let c : false ≡ true = e in cc)
 none_is : (o : Option ℕ) → false ≡ is_some o → o ≡ None
 none_is None e = refl
 none_is (Some x) e = absurd (let c : false ≡ true = e in cc)
-
-or_true : (a b : Bool) → b ≡ false → (a || not b) ≡ true
-or_true true b e = refl
-or_true false b e = ap {B = Bool} (λ x. not x) e
 
 root_parent : parent_path root_path ≡ root_path
 unfolding parent_path

@@ -1,5 +1,4 @@
-use Rattle.std.proofs.Common.{◌≡◌, map, take}
-use Rattle.shr_tree.specs.declared.tree.Group.{Group}
+use Rattle.shr_tree.proofs.Common.{◌≡◌, map, take, Group}
 use Rattle.shr_tree.proofs.tree.Tree.parents.Given as goal
 
 abbrev pub invariant-loop-group : goal.invariant-loop-group

@@ -1,5 +1,4 @@
-use Rattle.std.proofs.Common.{◌≡◌}
-use Rattle.shr_model.specs.Groups.{preorder_of}
+use Rattle.shr_tree.proofs.Common.{◌≡◌, preorder_of}
 use Rattle.shr_tree.proofs.TreeLaws.{is_tree, is_subtree}
 use Rattle.shr_tree.proofs.tree.Tree.preorder.Goals as goal
 

@@ -1,6 +1,4 @@
-use Rattle.std.proofs.Common.{◌++◌, ◌∷◌, [], List, ap, ◌∙◌}
-use Rattle.shr_tree.specs.declared.tree.Group.{Group}
-use Rattle.shr_tree.specs.Tree.{IsWhole}
+use Rattle.shr_tree.proofs.Common.{◌++◌, ◌∷◌, [], List, ap, ◌∙◌, Group, IsWhole}
 use Rattle.shr_tree.proofs.TreeLaws.{within, whole_grown, groups_long, paths_long, holds_kept}
 use Rattle.shr_tree.proofs.tree.Tree.put.Goals as goal
 

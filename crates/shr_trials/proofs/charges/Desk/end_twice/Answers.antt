@@ -1,9 +1,6 @@
-use Rattle.std.proofs.Common.{◌≡◌, ℕ, Bool, List, ap, subst}
-use Rattle.std.specs.Prelude.{Option}
-use Rattle.std.specs.Option.{is_some, IsSome}
-use Rattle.shr_base.specs.declared.journals.TreeEntry.{TreeEntry}
+use Rattle.shr_trials.proofs.Common.{◌≡◌, ℕ, Bool, List, ap, Option, is_some, IsSome, TreeEntry, begin_of}
+use Rattle.std.proofs.Common.{subst}
 use Rattle.shr_model.specs.Groups.{Hierarchy}
-use Rattle.shr_model.specs.TreeJournal.{begin_of}
 use Rattle.shr_seats.specs.Shapes.{hierarchy_of}
 use Rattle.shr_charge.specs.declared.answers.BeginAnswer.{BeginAnswer}
 use Rattle.shr_charge.specs.declared.answers.BeginAnswer.TheVariants.{Resumed}

@@ -1,7 +1,4 @@
-use Rattle.std.proofs.Common.{◌≡◌, ◌≤◌, ◌++◌, List, length}
-use Rattle.slab.specs.Slab.{slab_len}
-use Rattle.shr_list.specs.Nodes.{IsApart, Keyed, objects_of}
-use Rattle.shr_list.specs.Links.{nodes_of, stops_of}
+use Rattle.shr_list.proofs.Common.{◌≡◌, ◌≤◌, ◌++◌, List, length, slab_len, IsApart, Keyed, objects_of, nodes_of, stops_of}
 use Rattle.shr_list.proofs.Emptied.{Leads}
 use Rattle.shr_list.proofs.queue.chain.Chain.empty_into.Given as goal
 

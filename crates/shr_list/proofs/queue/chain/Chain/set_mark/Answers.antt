@@ -1,5 +1,4 @@
-use Rattle.std.proofs.Common.{refl}
-use Rattle.shr_list.specs.Nodes.{with_mark}
+use Rattle.shr_list.proofs.Common.{refl, with_mark}
 use Rattle.shr_list.proofs.Chains.{writes_object}
 use Rattle.shr_list.proofs.queue.chain.Chain.set_mark.Goals as goal
 

@@ -1,5 +1,4 @@
-use Rattle.std.proofs.Common.{refl}
-use Rattle.shr_model.specs.Objects.{pinned_object}
+use Rattle.shr_list.proofs.Common.{refl, pinned_object}
 use Rattle.shr_list.proofs.Chains.{writes_object}
 use Rattle.shr_list.proofs.queue.chain.Chain.set_pin.Goals as goal
 

@@ -1,5 +1,4 @@
-use Rattle.std.proofs.Common.{◌≡◌}
-use Rattle.shr_list.specs.Nodes.{key_at}
+use Rattle.shr_list.proofs.Common.{◌≡◌, key_at}
 use Rattle.shr_list.proofs.queue.links.Links.at.Given as goal
 
 abbrev pub invariant-loop-met : goal.invariant-loop-met

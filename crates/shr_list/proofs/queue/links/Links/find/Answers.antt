@@ -1,5 +1,4 @@
-use Rattle.std.proofs.Common.{◌≡◌, true, false, ◌∙◌, rules, sym}
-use Rattle.shr_model.specs.Objects.{is_named}
+use Rattle.shr_list.proofs.Common.{◌≡◌, true, false, ◌∙◌, rules, sym, is_named}
 use Rattle.shr_list.proofs.Walks.{here, is_at, ahead_hit, ahead_miss}
 use Rattle.shr_list.proofs.queue.links.Links.find.Goals as goal
 

@@ -1,5 +1,4 @@
-use Rattle.std.proofs.Common.{◌≡◌, drop}
-use Rattle.shr_list.specs.Nodes.{key_at, key_named}
+use Rattle.shr_list.proofs.Common.{◌≡◌, drop, key_at, key_named}
 use Rattle.shr_list.proofs.queue.links.Links.find.Given as goal
 
 abbrev pub invariant-loop-met : goal.invariant-loop-met

@@ -1,5 +1,4 @@
-use Rattle.std.proofs.Common.{◌∙◌}
-use Rattle.shr_list.specs.Links.{IsLinked}
+use Rattle.shr_list.proofs.Common.{◌∙◌, IsLinked}
 use Rattle.shr_list.proofs.Linked.{stored_here, next_is}
 use Rattle.shr_list.proofs.queue.links.Links.next.Goals as goal
 

@@ -1,5 +1,4 @@
-use Rattle.std.proofs.Common.{sym, ◌∙◌}
-use Rattle.shr_list.specs.Links.{IsLinked}
+use Rattle.shr_list.proofs.Common.{sym, ◌∙◌, IsLinked}
 use Rattle.shr_list.proofs.Linked.{stored_here, names_at}
 use Rattle.shr_list.proofs.queue.links.Links.object.Goals as goal
 

@@ -1,6 +1,4 @@
-use Rattle.std.proofs.Common.{◌≡◌, ◌∙◌, ap}
-use Rattle.shr_list.specs.Nodes.{Held}
-use Rattle.shr_list.specs.Links.{IsLinked}
+use Rattle.shr_list.proofs.Common.{◌≡◌, ◌∙◌, ap, Held, IsLinked}
 use Rattle.shr_list.proofs.Linked.{nodes_are, settled, tail_stored, inserted_stop, linked_back}
 use Rattle.shr_list.proofs.queue.links.Links.push_back.Goals as goal
 

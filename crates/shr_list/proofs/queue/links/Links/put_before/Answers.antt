@@ -1,7 +1,4 @@
-use Rattle.std.proofs.Common.{◌≡◌, ◌+◌, List, ◌∷◌, ◌++◌, [], length, length-append, ap, sym, ◌∙◌, arith, rules, append_assoc}
-use Rattle.std.proofs.lemmas.List.{append-nil}
-use Rattle.shr_base.specs.declared.objects.Object.{Object}
-use Rattle.shr_list.specs.Nodes.{Keyed, objects_of}
+use Rattle.shr_list.proofs.Common.{◌≡◌, ◌+◌, List, ◌∷◌, ◌++◌, [], length, length-append, ap, sym, ◌∙◌, arith, rules, append_assoc, append-nil, Object, Keyed, objects_of}
 use Rattle.shr_list.proofs.Walks.{at_end, no_end}
 use Rattle.shr_list.proofs.Scans.{objects_append}
 use Rattle.shr_list.proofs.queue.links.Links.put_before.Goals as goal

@@ -1,5 +1,4 @@
-use Rattle.std.proofs.Common.{◌≡◌, ◌≤◌, ◌++◌, List, length}
-use Rattle.shr_list.specs.Nodes.{Keyed, objects_of}
+use Rattle.shr_list.proofs.Common.{◌≡◌, ◌≤◌, ◌++◌, List, length, Keyed, objects_of}
 use Rattle.shr_list.proofs.queue.links.Links.put_before.Given as goal
 
 abbrev pub invariant-loop-node : goal.invariant-loop-node

@@ -1,5 +1,4 @@
-use Rattle.shr_list.specs.Links.{IsLinked, Joins, next_of, prev_of}
-use Rattle.std.proofs.Common.{Some}
+use Rattle.shr_list.proofs.Common.{IsLinked, Joins, next_of, prev_of, Some}
 use Rattle.shr_list.proofs.Linked.{nodes_are, settled, stored_here, prev_stop, next_stop, linked_removed, taken_is}
 use Rattle.shr_list.proofs.queue.links.Links.remove.Goals as goal
 

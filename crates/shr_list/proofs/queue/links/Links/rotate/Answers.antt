@@ -1,5 +1,4 @@
-use Rattle.std.proofs.Common.{Some}
-use Rattle.shr_list.specs.Links.{IsLinked, Joins, next_of, prev_of}
+use Rattle.shr_list.proofs.Common.{Some, IsLinked, Joins, next_of, prev_of}
 use Rattle.shr_list.proofs.Linked.{nodes_are, settled, stored_here, prev_stop, next_stop, tail_left, linked_rotated}
 use Rattle.shr_list.proofs.queue.links.Links.rotate.Goals as goal
 

@@ -1,5 +1,4 @@
-use Rattle.shr_list.specs.Links.{IsLinked}
-use Rattle.shr_list.specs.Nodes.{with_mark}
+use Rattle.shr_list.proofs.Common.{IsLinked, with_mark}
 use Rattle.shr_list.proofs.Linked.{nodes_are, settled, stored_here, linked_changed}
 use Rattle.shr_list.proofs.queue.links.Links.set_mark.Goals as goal
 

@@ -1,5 +1,4 @@
-use Rattle.shr_list.specs.Links.{IsLinked}
-use Rattle.shr_model.specs.Objects.{pinned_object}
+use Rattle.shr_list.proofs.Common.{IsLinked, pinned_object}
 use Rattle.shr_list.proofs.Linked.{nodes_are, settled, stored_here, linked_changed}
 use Rattle.shr_list.proofs.queue.links.Links.set_pin.Goals as goal
 

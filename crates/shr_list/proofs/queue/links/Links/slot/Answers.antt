@@ -1,6 +1,4 @@
-use Rattle.std.proofs.Common.{◌≡◌, ◌+◌, ◌∙◌, Some, None, sym, arith, refl}
-use Rattle.std.specs.Prelude.{slice_get}
-use Rattle.shr_list.specs.Nodes.{keys_of}
+use Rattle.shr_list.proofs.Common.{◌≡◌, ◌+◌, ◌∙◌, Some, None, sym, arith, refl, slice_get, keys_of}
 use Rattle.shr_list.proofs.Walks.{here, is_at}
 use Rattle.shr_list.proofs.Slots.{key_got, key_left}
 use Rattle.shr_list.proofs.queue.links.Links.slot.Goals as goal

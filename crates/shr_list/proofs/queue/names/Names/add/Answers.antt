@@ -1,7 +1,4 @@
-use Rattle.std.proofs.Common.{◌≡◌, ◌∙◌, sym, refl, Some, None, rules}
-use Rattle.std.specs.Prelude.{IsSome}
-use Rattle.shr_list.specs.Clashes.{found_clash}
-use Rattle.shr_list.specs.Names.{Name, print_of, entry_at, in_nodes}
+use Rattle.shr_list.proofs.Common.{◌≡◌, ◌∙◌, sym, refl, Some, None, rules, IsSome, found_clash, Name, print_of, entry_at, in_nodes}
 use Rattle.shr_list.proofs.Fitting.{vacant_finds, fits_kept, on_err, gains_entry}
 use Rattle.shr_list.proofs.Lookups.{looked, told_clash, kept_clash}
 use Rattle.shr_list.proofs.queue.names.Names.add.Goals as goal

@@ -1,5 +1,4 @@
-use Rattle.std.proofs.Common.{◌≡◌, ◌∙◌, sym, Some, None, rules}
-use Rattle.shr_list.specs.Names.{print_of, entry_at, in_nodes}
+use Rattle.shr_list.proofs.Common.{◌≡◌, ◌∙◌, sym, Some, None, rules, print_of, entry_at, in_nodes}
 use Rattle.shr_list.proofs.Fitting.{vacant_finds}
 use Rattle.shr_list.proofs.Lookups.{looked}
 use Rattle.shr_list.proofs.queue.names.Names.get.Goals as goal

@@ -1,5 +1,4 @@
-use Rattle.std.proofs.Common.{◌≡◌, refl, None, rules}
-use Rattle.shr_list.specs.Names.{print_of, entry_at}
+use Rattle.shr_list.proofs.Common.{◌≡◌, refl, None, rules, print_of, entry_at}
 use Rattle.shr_list.proofs.Fitting.{fits_kept, on_err, gains_entry, gains_told}
 use Rattle.shr_list.proofs.queue.names.Names.put.Goals as goal
 

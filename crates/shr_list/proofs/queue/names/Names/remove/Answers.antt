@@ -1,8 +1,4 @@
-use Rattle.std.proofs.Common.{◌≡◌, refl, None, rules}
-use Rattle.std.specs.Prelude.{IsSome}
-use Rattle.shr_list.specs.declared.queue.names.Names.{Names}
-use Rattle.shr_list.specs.Clashes.{found_clash}
-use Rattle.shr_list.specs.Names.{print_of}
+use Rattle.shr_list.proofs.Common.{◌≡◌, refl, None, rules, IsSome, Names, found_clash, print_of}
 use Rattle.shr_list.proofs.Fitting.{SetsEntry, turns_clash, turns_entry}
 use Rattle.shr_list.proofs.queue.names.Names.remove.Goals as goal
 

@@ -1,5 +1,4 @@
-use Rattle.std.proofs.Common.{◌≡◌, Some, rules}
-use Rattle.shr_list.specs.declared.queue.twins.Twins.{Twins}
+use Rattle.shr_list.proofs.Common.{◌≡◌, Some, rules, Twins}
 use Rattle.shr_list.proofs.Indexes.{UpdatesKeys, UpdatesBirths, puts_among, found_some, found_none}
 use Rattle.shr_list.proofs.queue.twins.Twins.add.Goals as goal
 

@@ -1,0 +1,24 @@
+-- The names that the proofs of this crate cite most, passed on from one place. Declares nothing.
+pub use Rattle.std.proofs.Common.{Bool, List, None, Option, Some, [], ap, arith, false, flat_map, length, map, refl, slice_get, subst, suc, sym, true, zero, ℕ, ◌++◌, ◌+◌, ◌-◌, ◌<◌, ◌^◌, ◌∙◌, ◌∷◌, ◌≡◌, ◌≤◌}
+pub use Rattle.std.specs.Bool.{Decides}
+pub use Rattle.std.specs.List.{AllByRecursion, range_with_len}
+pub use Rattle.std.specs.Prelude.{Contains, ◌==◌}
+pub use Rattle.shr_base.specs.declared.ends.MapEnd.{MapEnd}
+pub use Rattle.shr_base.specs.declared.ends.PlaceAmount.{PlaceAmount}
+pub use Rattle.shr_base.specs.declared.ends.PlaceEnd.{PlaceEnd}
+pub use Rattle.shr_base.specs.declared.ends.UnitsEnd.{UnitsEnd}
+pub use Rattle.shr_base.specs.declared.ends.WorkerPart.{WorkerPart}
+pub use Rattle.shr_base.specs.declared.replies.Answered.{Answered}
+pub use Rattle.shr_base.specs.declared.walks.Attempt.{Attempt}
+pub use Rattle.shr_base.specs.declared.walks.Carry.{Carry}
+pub use Rattle.shr_base.specs.declared.walks.Isolation.{Isolation}
+pub use Rattle.shr_base.specs.declared.walks.MapSeen.{MapSeen}
+pub use Rattle.shr_base.specs.declared.walks.PlainWalk.{PlainWalk}
+pub use Rattle.shr_base.specs.declared.walks.WalkRecord.{WalkRecord}
+pub use Rattle.shr_model.specs.Paths.{is_path}
+pub use Rattle.shr_model.specs.Places.{unit_of}
+pub use Rattle.shr_model.specs.Words.{is_name}
+pub use Rattle.shr_report.specs.WellFormed.{HasWords, IsAmountWell, IsBitWord, IsCarryBefore, IsPlaceBefore, IsPlaceUpTo, IsPoolAmountWell, IsPoolNumbered, IsTreeNumbered, IsUseBefore, IsWellFormed, LendsWord, bit_places, units_place}
+pub use Rattle.shr_formed.specs.Each.{Adjacent, Each, IsListFormed, IsLoaded, IsOf, IsWalkFormed}
+pub use Rattle.shr_formed.specs.Formed.{AreHeadsFormed, AreListsFormed, AreMapsPrinted, ArePartsFormed, IsLastFormed, IsPartFormed}
+pub use Rattle.shr_formed.specs.Stripped.{IsNotStripped, Where, at_unit, group_places, unit_places, wheres}

@@ -1,0 +1,20 @@
+-- The names that the proofs of this crate cite most, passed on from one place. Declares nothing.
+pub use Rattle.std.proofs.Common.{Bool, List, None, Option, Some, [], ap, arith, cond, drop, false, get_or, length, refl, subst, suc, sym, take, true, zero, ℕ, ◌*◌, ◌++◌, ◌+◌, ◌-◌, ◌<◌, ◌^◌, ◌∙◌, ◌∷◌, ◌≡◌, ◌≢◌, ◌≤◌}
+pub use Rattle.std.proofs.lemmas.Bool.Decides.{nat_tests}
+pub use Rattle.std.proofs.lemmas.Grind.{common_steps}
+pub use Rattle.std.proofs.lemmas.List.{drop_more}
+pub use Rattle.std.specs.BTreeMap.{BTreeMap, IsEmpty, get, is_at}
+pub use Rattle.std.specs.Map.{lookup}
+pub use Rattle.std.specs.Option.{option_or}
+pub use Rattle.std.specs.Ordering.{nat_cmp}
+pub use Rattle.std.specs.Prelude.{nat_le, nat_lt, ◌&&◌, ◌==◌}
+pub use Rattle.shr_base.specs.declared.journals.PoolEntry.{PoolEntry}
+pub use Rattle.shr_base.specs.declared.journals.PoolEntry.TheVariants.{Idle, Registered, Unregistered}
+pub use Rattle.shr_model.proofs.PiecesLaws.{same_byte}
+pub use Rattle.shr_registrations.specs.Live.{AreLivesNoted, entry_key, is_within, to_of}
+pub use Rattle.shr_registrations.specs.Met.{AreNoted, decl_found, lookup_key, stop_key}
+pub use Rattle.shr_registrations.specs.Steps.{AreSteps, IsMerged, has_key, last_in, step_at}
+pub use Rattle.shr_registrations.specs.declared.live.End.{End}
+pub use Rattle.shr_registrations.specs.declared.steps.Registration.{Registration}
+pub use Rattle.shr_registrations.specs.declared.steps.Span.{Span}
+pub use Rattle.shr_registrations.specs.declared.steps.Step.{Step}

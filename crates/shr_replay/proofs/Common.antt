@@ -1,0 +1,21 @@
+-- The names that the proofs of this crate cite most, passed on from one place. Declares nothing.
+pub use Rattle.std.proofs.Common.{Bool, List, None, Option, Some, [], ap, append-nil, append_assoc, arith, cond, drop, false, inl, inr, length, length-append, length-set, map, refl, set, subst, sym, true, ℕ, ◌++◌, ◌+◌, ◌-◌, ◌<◌, ◌∙◌, ◌∷◌, ◌≡◌, ◌≢◌, ◌≤◌, ◌⊎◌}
+pub use Rattle.std.proofs.lemmas.Bool.{cases_Bool}
+pub use Rattle.std.proofs.lemmas.List.{get_or-set_other, get_or-set_same}
+pub use Rattle.std.specs.Bool.{Decides}
+pub use Rattle.std.specs.Prelude.{slice_index_or, slice_set, ◌↔◌}
+pub use Rattle.shr_base.specs.declared.journals.Entry.{Entry}
+pub use Rattle.shr_base.specs.declared.journals.Entry.TheVariants.{Add, Closed, Drained, Drop, Look, MovedIn, Pin, Scan}
+pub use Rattle.shr_base.specs.declared.objects.Object.{Object}
+pub use Rattle.shr_base.specs.declared.places.Place.{Place}
+pub use Rattle.shr_list.specs.Nodes.{AtNode, IsAt, Keyed, Queued, first_key, objects_of}
+pub use Rattle.shr_model.specs.Families.{Family, before_closed, child_of, moved_by, without_child}
+pub use Rattle.shr_model.specs.Groups.{is_child}
+pub use Rattle.shr_model.specs.Places.{at_group}
+pub use Rattle.shr_replay.specs.Groups.{AreJournals, AreReplayed, entries_in}
+pub use Rattle.shr_replay.specs.Journals.{IsReplayed, given_from}
+pub use Rattle.shr_replay.specs.Lists.{KeepsOthers, given_by, no_list, took_after, took_of}
+pub use Rattle.shr_replay.specs.Tags.{freed_tag, tag_of}
+pub use Rattle.shr_replay.specs.declared.journal.Replayed.{Replayed}
+pub use Rattle.shr_replay.specs.declared.tags.FreedTag.{FreedTag}
+pub use Rattle.shr_replay.specs.declared.tags.Tag.{Tag}

@@ -1,0 +1,65 @@
+-- The names that the proofs of this crate cite most, passed on from one place. Declares nothing.
+pub use Rattle.std.proofs.Common.{Bool, List, [], ap, append_assoc, arith, cond, eq-eqb, eqb, false, flat_map, get_or, inl, inr, le-leb, length, length-append, map, ne_eqb, refl, subst, suc, sym, take, true, zero, ℕ, ⊎_elim, ◌&&◌, ◌*◌, ◌++◌, ◌+◌, ◌<◌, ◌∙◌, ◌∷◌, ◌≡◌, ◌≢◌, ◌≤◌, ◌⊎◌}
+pub use Rattle.std.proofs.Math.Seq.{take-append_seam}
+pub use Rattle.std.proofs.lemmas.Bool.{and_parts, cases_lt, eqb-true, leb-true, lt-ltb}
+pub use Rattle.std.proofs.lemmas.List.{append-nil, map-append}
+pub use Rattle.std.proofs.lemmas.List.Sums.{sum_by-append, sum_by-cons}
+pub use Rattle.std.proofs.lemmas.Option.{none-some, same_Some, slice_get-get_or, slice_get_within}
+pub use Rattle.std.specs.List.{AllByRecursion, cons_option, enumerate_from}
+pub use Rattle.std.specs.Prelude.{IsSomeAnd, None, Option, Some, filter_map, nat_le, nat_lt, option_and_then, option_map, option_to_list, slice_get, sum, sum_by, ◌==◌, ◌^◌}
+pub use Rattle.shr_base.specs.declared.ends.UnitsEnd.{UnitsEnd}
+pub use Rattle.shr_base.specs.declared.journals.PlainEntry.{PlainEntry}
+pub use Rattle.shr_base.specs.declared.places.At.{At}
+pub use Rattle.shr_base.specs.declared.places.Place.{Place}
+pub use Rattle.shr_base.specs.declared.places.Serial.{Serial}
+pub use Rattle.shr_base.specs.declared.replies.Answered.{Answered}
+pub use Rattle.shr_base.specs.declared.replies.Reply.{Reply}
+pub use Rattle.shr_base.specs.declared.replies.Spent.{Spent}
+pub use Rattle.shr_base.specs.declared.scripts.Command.{Command}
+pub use Rattle.shr_base.specs.declared.scripts.Command.TheVariants.{Grab, Release}
+pub use Rattle.shr_base.specs.declared.scripts.PoolDecl.{PoolDecl}
+pub use Rattle.shr_base.specs.declared.scripts.Script.{Script}
+pub use Rattle.shr_base.specs.declared.walks.PassRecord.{PassRecord}
+pub use Rattle.shr_base.specs.declared.walks.PlainAnswer.{PlainAnswer}
+pub use Rattle.shr_base.specs.declared.walks.PlainTry.{PlainTry}
+pub use Rattle.shr_base.specs.declared.walks.PlainTry.TheVariants.{Empty, Ran, Skip}
+pub use Rattle.shr_base.specs.declared.walks.PlainWalk.{PlainWalk}
+pub use Rattle.shr_deferred.proofs.SeatLaws.{gives_both, takes_both}
+pub use Rattle.shr_deferred.specs.Moves.{Moves, both, gives_of, no_moves, takes_of}
+pub use Rattle.shr_model.proofs.PlacesLaws.{is_place_itself, is_place_same}
+pub use Rattle.shr_model.specs.Deferred.{amount_at, sum_at}
+pub use Rattle.shr_model.specs.Places.{is_place}
+pub use Rattle.shr_model.specs.Units.{free_of}
+pub use Rattle.shr_pass.specs.Passes.{MatchPass, count_of}
+pub use Rattle.shr_pass.specs.declared.answers.Count.{Count}
+pub use Rattle.shr_pass.specs.declared.answers.ScanSeen.{ScanSeen}
+pub use Rattle.shr_plain.specs.Answers.{GrabGives, IsWorn, Makes, ReleaseGives, Sees}
+pub use Rattle.shr_plain.specs.Counting.{kind_of, scan_by, scans_of}
+pub use Rattle.shr_plain.specs.Ending.{EndValue, end_value}
+pub use Rattle.shr_plain.specs.Opening.{pool_sizes, setting_by, settings_of}
+pub use Rattle.shr_plain.specs.Rule.{units}
+pub use Rattle.shr_plain.specs.Seat.{PlainState, no_state}
+pub use Rattle.shr_plain.specs.Settings.{IsPoolOf, place_of, setting_of}
+pub use Rattle.shr_plain.specs.Walks.{Answers, answer_of}
+pub use Rattle.shr_plain.specs.declared.answers.GrabAnswer.{GrabAnswer}
+pub use Rattle.shr_plain.specs.declared.answers.ReleaseAnswer.{ReleaseAnswer}
+pub use Rattle.shr_plain.specs.declared.settings.Setting.{Setting}
+pub use Rattle.shr_report.specs.Causes.{IsPoolSpent}
+pub use Rattle.shr_report.specs.Parts.{EachAnswer, answers_of, at, command_at, commands_of, reply_at, serial_of}
+pub use Rattle.shr_report.specs.Pools.{ReclaimMade, plain_versions, reclaim_by, reclaims_by, version_in}
+pub use Rattle.shr_report.specs.UnitParts.{EachPlain, PlainJob, pass_at, pass_in, plain_at, plain_due, plain_of, pool_place, try_at, units_cited, units_cited_at, units_of}
+pub use Rattle.shr_report.specs.WellFormed.{AreNotFalling, units_place}
+pub use Rattle.shr_report.specs.declared.report.Report.{Report}
+pub use Rattle.shr_rooms.specs.Rule.{IsCounted, IsMade}
+pub use Rattle.shr_rooms.specs.Told.{IsRecent}
+pub use Rattle.shr_rooms.specs.Views.{Counted, Made, RoomView, part_at, with_entry, with_known}
+pub use Rattle.shr_seats.proofs.RowLaws.{IsAcross, row_low}
+pub use Rattle.shr_seats.proofs.Weighing.{begins_all, begins_more, total-append}
+pub use Rattle.shr_seats.specs.Rows.{IsPlaceOf, place_in, row_count, row_of}
+pub use Rattle.shr_seats.specs.Weights.{Begins, total}
+pub use Rattle.shr_seats.specs.declared.rows.Sizes.{Sizes}
+pub use Rattle.shr_units.specs.Did.{DidGrab, DidRelease, DidUnitsOf, DidWalk, IsOther, grab_reply, home_of, home_room, release_reply}
+pub use Rattle.shr_units.specs.Runs.{AreUnits}
+pub use Rattle.shr_units.specs.Steps.{AreChained, UnitsStep, last_of, made_in, state_after, steps_in, steps_of}
+pub use mathlib.Core.Logic.{dite}
+pub use native.Mathlib.Decide.{ℕ_discrete}
