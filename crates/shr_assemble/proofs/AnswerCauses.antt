@@ -1,8 +1,7 @@
 -- The causes of answers that speak of what their worker knew.
-use Rattle.shr_assemble.proofs.Common.{◌≡◌, ℕ, zero, suc, ◌+◌, ◌≤◌, inl, inr, Bool, true, false, cond, List, [], ◌∷◌, length, take, drop, refl, sym, ap, subst, ◌∙◌, arith, take_all, length-take-le, slice_get, Some, filter, count_by, nat_lt, pos, slice_get_within, Registered, Done, UseStep, Script, ups, is_by, ops_by, IsChargeHistory, is_live_decl, lowest_idle, undone_child, Has, Has_filter, filter_has, Report, uses_at, IsOver, IsUncached, IsCached, IsFull, IsInTheWay, StandsInTree, Step, steps_of, ops_at, IsOverBy, WasDone, IsRun, done_at, count_total, some_at}
+use Rattle.shr_assemble.proofs.Common.{◌≡◌, ℕ, zero, suc, ◌+◌, ◌≤◌, inl, inr, Bool, true, false, cond, List, [], ◌∷◌, length, take, drop, refl, sym, ap, subst, ◌∙◌, arith, take_all, length-take-le, slice_get, Some, filter, count_by, nat_lt, pos, slice_get_within, Registered, Done, UseStep, Script, ups, is_by, ops_by, IsChargeHistory, is_live_decl, lowest_idle, undone_child, Has, Has_filter, filter_has, Report, uses_at, IsOver, IsUncached, IsCached, IsFull, IsInTheWay, StandsInTree, Step, steps_of, ops_at, IsOverBy, IsDoneKnown, IsRun, done_at, count_total, some_at, IsUncachedBy, IsCachedBy, IsFullBy, IsInTheWayBy, IsRegisteredBy}
 use Rattle.std.proofs.Common.{lt-ltb}
-use Rattle.shr_report.specs.Parts.{hierarchy_of}
-use Rattle.shr_assemble.specs.Causes.{IsUncachedBy, IsCachedBy, IsFullBy, IsInTheWayBy, IsRegisteredBy}
+use Rattle.shr_report.specs.Parts.{script_hierarchy}
 use Rattle.shr_assemble.proofs.Gathering.{weighs}
 use Rattle.shr_assemble.proofs.Listed.{no_test}
 use Rattle.shr_assemble.proofs.Makers.{turn_stands}
@@ -71,10 +70,10 @@ module _ (s : Script) (r : Report) (workers : List (List Step)) (run : IsRun s r
   registered id entry h = turn_stands s r workers run worker k x (record { number = entry; entry = Registered h.decl id h.from }) at h.made
 
   -- ---- offlining
-  pub was_done : (entry : ℕ) (h : WasDone x entry) → StandsInTree r entry (Done h.group)
+  pub was_done : (entry : ℕ) (h : IsDoneKnown x entry) → StandsInTree r entry (Done h.group)
   was_done entry h = tree_stands s r workers run worker k x at entry (Done h.group) (done_at x.after.tree.known h.group entry h.done)
 
   pub in_the_way : (child entry : ℕ) (h : IsInTheWayBy s x child entry) → IsInTheWay s r h.group child entry
   in_the_way child entry h =
       let same : take entry r.tree.items ≡ x.after.tree.known = sym (tree_known s r workers run worker k x at entry (omega (arith, h.all))) ∙ (ap (λ n. take n x.after.tree.known) h.all ∙ take_all (length x.after.tree.known) x.after.tree.known (omega arith)) in
-      record { known = omega (arith, h.all, tree_length s r workers run worker k x at); child_is = ap (λ es. undone_child (hierarchy_of s) es h.group) same ∙ h.lowest }
+      record { known = omega (arith, h.all, tree_length s r workers run worker k x at); child_is = ap (λ es. undone_child (script_hierarchy s) es h.group) same ∙ h.lowest }

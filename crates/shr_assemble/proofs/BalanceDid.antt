@@ -1,12 +1,9 @@
 -- A `balance` did what the report asks.
-use Rattle.shr_assemble.proofs.Common.{◌≡◌, ℕ, zero, suc, ◌+◌, ◌<◌, ◌≤◌, ◌⊎◌, inl, inr, ⊎_elim, Bool, true, false, ◌&&◌, List, [], ◌∷◌, ◌++◌, length, length-append, map, take, drop, sym, refl, ap, subst, ◌∙◌, arith, append_assoc, eq-eqb, ne_eqb, slice_get, Some, not, ◌==◌, if◌then◌else◌, Option, AllByRecursion, length-map, take-append-drop, map-append, none-some, Serial, Answered, Command, Balance, WalkAnswer, WalkRecord, preorder_of, Job, job, job_of, parents_of, Groups, HadMemory, WorkerState, no_work, Does, Shared, Walk, next_walk, unfound, walk_reply, in_take}
+use Rattle.shr_assemble.proofs.Common.{◌≡◌, ℕ, zero, suc, ◌+◌, ◌<◌, ◌≤◌, ◌⊎◌, inl, inr, ⊎_elim, Bool, true, false, ◌&&◌, List, [], ◌∷◌, ◌++◌, length, length-append, map, take, drop, sym, refl, ap, subst, ◌∙◌, arith, append_assoc, eq-eqb, ne_eqb, slice_get, Some, not, ◌==◌, if◌then◌else◌, Option, AllByRecursion, length-map, take-append-drop, map-append, none-some, Serial, Answered, Command, Balance, WalkAnswer, WalkRecord, preorder_of, Job, job, job_of, parents_of, Groups, HadMemory, WorkerState, no_work, Does, Shared, Walk, next_walk, unfound, walk_reply, in_take, balance_reply, all_groups, IsBalanced, IsBalanceCut, BalanceGives, Balances}
 use Rattle.shr_base.specs.declared.replies.Reply.TheVariants as reply
 use Rattle.shr_base.specs.declared.walks.WalkAnswer.TheVariants as answered
 use Rattle.shr_model.specs.Groups.{preorder_within}
-use Rattle.shr_report.specs.WalksLawful.{balance_reply}
-use Rattle.shr_walk.specs.Balances.{all_groups, IsBalanced, IsBalanceCut, BalanceGives}
 use Rattle.shr_walk.proofs.Balancing.{all_within}
-use Rattle.shr_worker.specs.Commands.{Balances}
 use Rattle.shr_assemble.proofs.Bringing.{brings_of}
 use Rattle.shr_assemble.proofs.Listed.{slice_contains}
 use Rattle.shr_assemble.proofs.WalkingTold.{IsTableOf}

@@ -1,5 +1,5 @@
 -- A worker's map has each bit that an earlier command of it set where it filled a list, unless it was cleared since, of a run.
-use Rattle.shr_assemble.proofs.Common.{◌≡◌, ◌≢◌, ◌⊎◌, inl, inr, ⊎_elim, ℕ, zero, suc, ◌+◌, ◌<◌, Bool, true, false, cond, List, [], ◌∷◌, ◌++◌, sym, refl, ap, subst, ◌∙◌, arith, append_assoc, eq-eqb, ne_eqb, slice_get, Some, ◌==◌, append-nil, map-append, same_Some, none-some, dite, ℕ_discrete, Script, Has, map_has, Deed, by_seat, part, AreSo, among, Moment, moment_next, IsSo, Event, Mapped, counted, made, looked, loaded, turned, put_back, raised, cleared, mapped, WorkerState, Report, IsSetLast, IsRun, Step, IsAmong, steps_of, AreChained, Brings}
+use Rattle.shr_assemble.proofs.Common.{◌≡◌, ◌≢◌, ◌⊎◌, inl, inr, ⊎_elim, ℕ, zero, suc, ◌+◌, ◌<◌, Bool, true, false, cond, List, [], ◌∷◌, ◌++◌, sym, refl, ap, subst, ◌∙◌, arith, append_assoc, eq-eqb, ne_eqb, slice_get, Some, ◌==◌, append-nil, map-append, same_Some, none-some, dite, ℕ_discrete, Script, Has, map_has, Deed, by_seat, part, AreSo, among, Moment, moment_next, IsSo, Event, Mapped, counted, made, looked, loaded, turned, put_back, raised, cleared, mapped, WorkerState, Report, IsSetLast, IsRun, Step, IsAmong, steps_of, AreStepsChained, BringsWork}
 use Rattle.shr_seats.specs.Lines as lines
 use Rattle.shr_core.specs.Gained.{cleared_in, maps_in}
 use Rattle.shr_core.specs.Order.{at_start}
@@ -111,7 +111,7 @@ record IsDoneBy (mine : List Step) (d : Deed Event) : Type 0 where
   k : ℕ
   step : Step
   at : slice_get mine k ≡ Some step
-  brings : Brings step.before step.after step.work
+  brings : BringsWork step.before step.after step.work
   has : Has (by_seat step.before.core.seat brings.core.did) d
 
 -- what a worker had done before a step, and by its end, behind what it had done at first
@@ -123,7 +123,7 @@ record IsBehind (t : WorkerState) (mine : List Step) (k : ℕ) (y : Step) : Type
 abbrev deeds : WorkerState → List (Deed Event)
 deeds t = t.core.did
 
-behind_first : (t : WorkerState) (mine : List Step) (k : ℕ) (y : Step) → AreChained t mine → slice_get mine k ≡ Some y → IsBehind t mine k y
+behind_first : (t : WorkerState) (mine : List Step) (k : ℕ) (y : Step) → AreStepsChained t mine → slice_get mine k ≡ Some y → IsBehind t mine k y
 behind_first t [] k y c e = absurd (none-some y e)
 behind_first t (x ∷ mine) zero y c e = record { more = []; is = ap (λ (z : Step). deeds z.before) (sym (same_Some x y e)) ∙ (ap deeds c.0 ∙ sym (append-nil (deeds t))); each = λ d none. absurd none }
 behind_first t (x ∷ mine) (suc k) y c e =
@@ -142,7 +142,7 @@ record IsBetween (mine : List Step) (k later : ℕ) (x y : Step) : Type 0 where
   is : y.before.core.did ≡ x.after.core.did ++ more
   each : (d : Deed Event) → Has more d → (by : IsDoneBy mine d) × (k < by.k) × (by.k < later)
 
-between_steps : (t : WorkerState) (mine : List Step) (k later : ℕ) (x y : Step) → AreChained t mine → k < later → slice_get mine k ≡ Some x → slice_get mine later ≡ Some y → IsBetween mine k later x y
+between_steps : (t : WorkerState) (mine : List Step) (k later : ℕ) (x y : Step) → AreStepsChained t mine → k < later → slice_get mine k ≡ Some x → slice_get mine later ≡ Some y → IsBetween mine k later x y
 between_steps t [] k later x y c lt e d = absurd (none-some x e)
 between_steps t (z ∷ mine) k zero x y c lt e d = absurd (omega (arith, lt))
 between_steps t (z ∷ mine) zero (suc later) x y c lt e d =
@@ -159,7 +159,7 @@ between_steps t (z ∷ mine) (suc k) (suc later) x y c lt e d =
     }
 
 -- the step that did what was done by the end of another
-done_by : (t : WorkerState) (mine : List Step) (k : ℕ) (y : Step) (d : Deed Event) → AreChained t mine → t.core.did ≡ [] → slice_get mine k ≡ Some y → Has y.after.core.did d → (c : Brings y.before y.after y.work) → IsDoneBy mine d
+done_by : (t : WorkerState) (mine : List Step) (k : ℕ) (y : Step) (d : Deed Event) → AreStepsChained t mine → t.core.did ≡ [] → slice_get mine k ≡ Some y → Has y.after.core.did d → (c : BringsWork y.before y.after y.work) → IsDoneBy mine d
 done_by t mine k y d c none at has brings =
     let r = behind_first t mine k y c at in
     either y.before.core.did (by_seat y.before.core.seat brings.core.did) d (subst (λ (l : List (Deed Event)). Has l d) brings.core.noted has)
@@ -222,7 +222,7 @@ module _ (s : Script) (r : Report) (workers : List (List Step)) (run : IsRun s r
     abbrev j : ℕ
     j = 1 + worker
 
-    brings : Brings y.before y.after y.work
+    brings : BringsWork y.before y.after y.work
     brings = work_of s r workers run worker later y at_y
 
     between : IsBetween mine k later x y

@@ -1,13 +1,12 @@
 -- The bits that are told are of ids that are there, have a reason, and aren't lost, of a run.
-use Rattle.shr_assemble.proofs.Common.{◌≡◌, ◌≢◌, ◌⊎◌, inl, inr, ⊎_elim, ℕ, zero, suc, ◌+◌, ◌*◌, ◌<◌, Bool, true, false, not, ◌||◌, List, [], ◌∷◌, ◌++◌, length, take, map, sym, refl, ap, subst, ◌∙◌, arith, eq-eqb, ne_eqb, slice_get, Option, Some, None, filter, flat_map, ◌==◌, nat_lt, bit_at, AllByRecursion, range_with_len, IsSomeAnd, cases_Bool, same_Some, none-some, dite, ℕ_discrete, MapEnd, Entry, Add, Look, Drop, Pin, Scan, MovedIn, Closed, Drained, Object, Place, Serial, Script, Attempt, MapSeen, Outcome, WalkRecord, is_held, counts_of, is_set, lists_moved_at, IsOutcome, first_moved, later_moved, step, place_number, is_place, unit_of, bit_of, place_in, clearings_of, each_weaker, Has, Has_map, map_has, Has_flat_map, flat_map_has, Has_filter, filter_has, each_has, Contains_from_Has, is_place_itself, times, only, some_term, only_no, place_at, map_number, map_of, Made, Report, IsLawfulWalk, IsCount, IsOutcomeOf, cache_of, parents_of, serial_of, journals_of, items_before, all_walks, walk_at, IsThere, FillsPlace, Covers, Fills, IsFilled, IsMarked, all_sets, IsRun, Step, IsAmong, gathered, steps_of, is_setting, set_in, at_some, some_at}
+use Rattle.shr_assemble.proofs.Common.{◌≡◌, ◌≢◌, ◌⊎◌, inl, inr, ⊎_elim, ℕ, zero, suc, ◌+◌, ◌*◌, ◌<◌, Bool, true, false, not, ◌||◌, List, [], ◌∷◌, ◌++◌, length, take, map, sym, refl, ap, subst, ◌∙◌, arith, eq-eqb, ne_eqb, slice_get, Option, Some, None, filter, flat_map, ◌==◌, nat_lt, bit_at, AllByRecursion, range_with_len, IsSomeAnd, cases_Bool, same_Some, none-some, dite, ℕ_discrete, MapEnd, Entry, Add, Look, Drop, Pin, Scan, MovedIn, Closed, Drained, Object, Place, Serial, Script, Attempt, MapSeen, Outcome, WalkRecord, is_held, counts_of, is_set, lists_moved_at, IsOutcome, first_moved, later_moved, step, place_number, is_place, unit_of, bit_of, place_in, clearings_of, each_weaker, Has, Has_map, map_has, Has_flat_map, flat_map_has, Has_filter, filter_has, each_has, Contains_from_Has, is_place_itself, times, only, some_term, only_no, place_at, map_number, map_of, Made, Report, IsLawfulWalk, IsCountRight, IsOutcomeOf, cache_of, parents_of, serial_of, journals_of, items_before, all_walks, walk_at, IsThere, FillsPlace, Covers, Fills, IsListFilled, IsMarked, all_sets, IsRun, Step, IsAmong, gathered, steps_of, is_setting, set_by_walk, at_some, some_at, ids_seen}
 use Rattle.std.proofs.Common.{lt-ltb}
 use Rattle.shr_base.specs.declared.walks.GoneThen.TheVariants as gone
 use Rattle.shr_base.specs.declared.walks.Outcome.TheVariants as outcome
 use Rattle.shr_model.specs.Bits.{set_bits_of, ids_in}
 use Rattle.shr_model.specs.Items.{items_from, moved_from}
-use Rattle.shr_model.specs.Walks.{ids_seen}
 use Rattle.shr_core.specs.Layout as layout
-use Rattle.shr_report.specs.BitsTold.{is_since, was_cleared_since, is_set_again, set_again_in, WasFilled, HasReason, place_of, AreBitsTold}
+use Rattle.shr_report.specs.BitsTold.{is_since, was_cleared_since, is_set_again, set_again_in, WasFilled, HasReason, bit_place, AreBitsTold}
 use Rattle.shr_assemble.proofs.BitsKeptLaw.{was_cleared_by}
 use Rattle.shr_assemble.proofs.Flattening.{all_walks_are, WalkOf, walk_of, walk_there}
 use Rattle.shr_assemble.proofs.FreeExists.{outcome_at}
@@ -62,7 +61,7 @@ since worker k w (inr later) = ap (λ (b : Bool). not (w.by.worker == worker) ||
 
 module _ (s : Script) (r : Report) (workers : List (List Step)) (run : IsRun s r workers) where
   -- a step filled the list
-  was_filled : (place : Place) → IsThere s place → (worker k : ℕ) (x : Step) → slice_get (steps_of workers worker) k ≡ Some x → IsFilled x.work.core.made (place_number place) → WasFilled s r place
+  was_filled : (place : Place) → IsThere s place → (worker k : ℕ) (x : Step) → slice_get (steps_of workers worker) k ≡ Some x → IsListFilled x.work.core.made (place_number place) → WasFilled s r place
   was_filled place there worker k x at f =
       let m : Made = f.entry in
       let stands = made_stands s r workers run worker k x at f.among.0 m f.among.1 in
@@ -91,11 +90,11 @@ module _ (s : Script) (r : Report) (workers : List (List Step)) (run : IsRun s r
         (Has_flat_map set_again_in (all_walks r) w (place_in w a.id) walks
         (Has_map (λ (b : Attempt). place_in w b.id) (filter (λ (b : Attempt). is_set_again b.outcome) w.attempts.items) a (Has_filter (λ (b : Attempt). is_set_again b.outcome) w.attempts.items a attempts (ap is_set_again is)))))
     set_again k a (outcome.RestoredSkip number first len version) at is sets =
-        let counts = subst (λ (o : Outcome). AllByRecursion (IsCount s r (place_in w a.id)) (counts_of o)) is (lawful.counts k a at) in
+        let counts = subst (λ (o : Outcome). AllByRecursion (IsCountRight s r (place_in w a.id)) (counts_of o)) is (lawful.counts k a at) in
         let kinds = lawful.kinds k a at (ap is_held is) in
         some_and (cache_of s r a) (λ d. IsOutcomeOf w.priority d a.outcome) (λ d kind. let skipped = subst (IsOutcomeOf w.priority d) is kind in inl (counted_some (place_in w a.id) len version skipped.0 counts.1.0.len)) kinds
     set_again k a (outcome.RestoredRan number first pass) at is sets =
-        let counts = subst (λ (o : Outcome). AllByRecursion (IsCount s r (place_in w a.id)) (counts_of o)) is (lawful.counts k a at) in
+        let counts = subst (λ (o : Outcome). AllByRecursion (IsCountRight s r (place_in w a.id)) (counts_of o)) is (lawful.counts k a at) in
         let kinds = lawful.kinds k a at (ap is_held is) in
         some_and (cache_of s r a) (λ d. IsOutcomeOf w.priority d a.outcome) (λ d kind. let ran = subst (IsOutcomeOf w.priority d) is kind in let above = ran.0 in inl (counted_some (place_in w a.id) pass.len pass.version (omega (arith, above)) counts.1.0.len)) kinds
     set_again k a (outcome.Gone number gone.Clear) at is sets = absurd (cc)
@@ -106,10 +105,10 @@ module _ (s : Script) (r : Report) (workers : List (List Step)) (run : IsRun s r
     set_again k a (outcome.Empty number version) at is sets = absurd (cc)
     set_again k a (outcome.Cleared number first second) at is sets = absurd (cc)
 
-  walked_again : (place : Place) → IsThere s place → (worker k : ℕ) (x : Step) → slice_get (steps_of workers worker) k ≡ Some x → IsAmong (place_number place) (flat_map set_in x.work.walks) → HasReason s r place
+  walked_again : (place : Place) → IsThere s place → (worker k : ℕ) (x : Step) → slice_get (steps_of workers worker) k ≡ Some x → IsAmong (place_number place) (flat_map set_by_walk x.work.walks) → HasReason s r place
   walked_again place there worker k x at has =
-      let v = flat_among set_in x.work.walks (place_number place) has in
-      let q = map_has place_number (map (λ (a : Attempt). place_in v.0 a.id) (filter (λ (a : Attempt). is_setting a.outcome) v.0.attempts.items)) (place_number place) (among_has (set_in v.0) (place_number place) v.2) in
+      let v = flat_among set_by_walk x.work.walks (place_number place) has in
+      let q = map_has place_number (map (λ (a : Attempt). place_in v.0 a.id) (filter (λ (a : Attempt). is_setting a.outcome) v.0.attempts.items)) (place_number place) (among_has (set_by_walk v.0) (place_number place) v.2) in
       let a = map_has (λ (b : Attempt). place_in v.0 b.id) (filter (λ (b : Attempt). is_setting b.outcome) v.0.attempts.items) q.0 q.1 in
       let kept = filter_has (λ (z : Attempt). is_setting z.outcome) v.0.attempts.items a.0 a.1 in
       let b = has_among v.0.attempts.items a.0 kept.0 in
@@ -127,10 +126,10 @@ module _ (s : Script) (r : Report) (workers : List (List Step)) (run : IsRun s r
       let t = some_term (only (place_number place)) (all_sets workers) lt in
       let number : t.1 ≡ place_number place = dite (ℕ_discrete t.1 (place_number place)) (λ e. e) (λ ne. absurd (omega (arith, t.3, only_no (place_number place) t.1 ne))) in
       let of = has_step (λ (x : Step). x.work.core.sets) workers t.1 (t.0, t.2) in
-      let why = each_among (λ (k : ℕ). IsFilled of.step.work.core.made k ⊎ IsAmong k (flat_map set_in of.step.work.walks)) of.step.work.core.sets t.1 (run.steps.each of.worker of.k of.step of.at).did.entries.sets of.has in
+      let why = each_among (λ (k : ℕ). IsListFilled of.step.work.core.made k ⊎ IsAmong k (flat_map set_by_walk of.step.work.walks)) of.step.work.core.sets t.1 (run.steps.each of.worker of.k of.step of.at).did.entries.sets of.has in
       ⊎_elim
-      (λ f. inl (was_filled place there of.worker of.k of.step of.at (subst (IsFilled of.step.work.core.made) number f)))
-      (λ w. walked_again place there of.worker of.k of.step of.at (subst (λ (k : ℕ). IsAmong k (flat_map set_in of.step.work.walks)) number w)) why
+      (λ f. inl (was_filled place there of.worker of.k of.step of.at (subst (IsListFilled of.step.work.core.made) number f)))
+      (λ w. walked_again place there of.worker of.k of.step of.at (subst (λ (k : ℕ). IsAmong k (flat_map set_by_walk of.step.work.walks)) number w)) why
 
   -- ---- the bits at the end
   each_end : (P : MapEnd → ℕ → Type 0) → ((m : MapEnd) → IsMarked s workers m → (bit : ℕ) → bit < 64 → is_set m.bits bit ≡ true → P m (64 * m.unit + bit)) → AllByRecursion (λ (m : MapEnd). AllByRecursion (P m) (ids_in m.unit m.bits)) r.maps.items
@@ -178,7 +177,7 @@ module _ (s : Script) (r : Report) (workers : List (List Step)) (run : IsRun s r
       lacks lacking =
           let there = f.2.there in let node = there.node in let group = there.group in let id = there.id in let nodes = run.sized.nodes in let groups = run.sized.groups in
           let map_is : map_of (place_number place) ≡ seen.map_is.map = (let e : map_of (place_number place) ≡ map_number place.node place.group (unit_of place.id) = omega (arith, node, group, nodes, groups) in e) ∙ (covered s r workers run w m place covers ∙ sym seen.number) in
-          let bit : layout.bit_of (place_number place) ≡ bit_of place.id = omega (arith, node, group, nodes, groups) in
+          let bit : layout.place_bit (place_number place) ≡ bit_of place.id = omega (arith, node, group, nodes, groups) in
           let command : w.by.command ≡ of.k = ap (λ (b : Serial). b.command) (of.did.by ∙ of.is.by) in
           let c = was_cleared_by s r workers run worker k of.k (place_number place) f.0 of.step seen.map_is (omega (arith, lt, command)) f.1 of.at f.2.last seen.among
           (λ t so one. absurd (let set : is_set m.bits (bit_of place.id) ≡ true = eq-eqb (bit_at m.bits (bit_of place.id)) 1 (sym (ap (λ (b : ℕ). bit_at b (bit_of place.id)) seen.bits) ∙ (sym (ap (bit_at seen.map_is.bits) bit) ∙ (so (place_number place) (omega (arith, id, node, group, nodes, groups)) map_is ∙ one))) in let bad : true ≡ false = sym set ∙ lacking in cc)) in
@@ -191,7 +190,7 @@ module _ (s : Script) (r : Report) (workers : List (List Step)) (run : IsRun s r
   pub bits_told : AreBitsTold s r
   bits_told = record {
     of_ids = each_end (λ m id. id < s.ids) (λ m marked bit few set. (marked bit few set).0.id);
-    raised = each_end (λ m id. HasReason s r (place_of m id)) (λ m marked bit few set. let k = marked bit few set in reason (place_of m (64 * m.unit + bit)) k.0 k.1);
+    raised = each_end (λ m id. HasReason s r (bit_place m id)) (λ m marked bit few set. let k = marked bit few set in reason (bit_place m (64 * m.unit + bit)) k.0 k.1);
     shown = shown;
     kept = kept;
   }

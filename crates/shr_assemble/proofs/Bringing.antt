@@ -1,9 +1,8 @@
 -- What a command brings to its worker's state, from what its calls do.
-use Rattle.shr_assemble.proofs.Common.{◌≡◌, ℕ, ◌+◌, List, ◌++◌, ap, ◌∙◌, arith, append_assoc, UseStep, begins_more, Uses, both_uses, adds_then, both, WorkerState, Work, then_work, Does, Brings}
-use Rattle.shr_walk.proofs.Doing.{moves_assoc}
+use Rattle.shr_assemble.proofs.Common.{◌≡◌, ℕ, ◌+◌, List, ◌++◌, ap, ◌∙◌, arith, append_assoc, UseStep, begins_more, Uses, both_uses, adds_then, both, WorkerState, Work, then_work, Does, BringsWork, moves_assoc}
 
 -- what a call does it brings
-pub brings_of : {s t : WorkerState} {w : Work} → Does s t w → Brings s t w
+pub brings_of : {s t : WorkerState} {w : Work} → Does s t w → BringsWork s t w
 brings_of d = record {
   core = d.core;
   uses = d.uses;
@@ -31,7 +30,7 @@ called_then x a b c d m n = let ops : (x.ops ++ a) ++ b ≡ x.ops ++ (a ++ b) = 
     λ i. record { ops = ops i; charges = charges i; uncharges = uncharges i; seats = seats i }
 
 -- what one call brings and then another is the work of both
-pub brings_then : (s t u : WorkerState) (w x : Work) → Brings s t w → Brings t u x → Brings s u (then_work w x)
+pub brings_then : (s t u : WorkerState) (w x : Work) → BringsWork s t w → BringsWork t u x → BringsWork s u (then_work w x)
 brings_then s t u w x a b = record {
   core = adds_then s.core t.core u.core w.core x.core a.core b.core;
   uses = b.uses ∙ (ap (λ y. both_uses y (called x.ops x.charges x.uncharges)) a.uses ∙ called_then s.uses w.ops x.ops w.charges x.charges w.uncharges x.uncharges);

@@ -1,11 +1,9 @@
 -- The law of causes, of a run.
-use Rattle.shr_assemble.proofs.Common.{◌≡◌, ℕ, ⊎_elim, List, sym, refl, subst, ap, ◌∙◌, slice_get, Some, option_and_then, Option, IsSomeAnd, Serial, Registered, Begin, Done, Answered, HalfWhy, Reply, Spent, Command, Release, Grab, Script, group_named, decl_named, Report, serial_of, command_at, answer_at, IsSpent, IsUnmade, IsOver, IsUncached, IsCached, IsFull, IsFreed, IsInTheWay, IsOfflined, StandsInTree, group_met, HasCause, Step, steps_of, IsWhyBy, IsUsedUpBy, IsCausedBy, Drains, IsRun, begin_at, made_at}
+use Rattle.shr_assemble.proofs.Common.{◌≡◌, ℕ, ⊎_elim, List, sym, refl, subst, ap, ◌∙◌, slice_get, Some, option_and_then, Option, IsSomeAnd, Serial, Registered, Begin, Done, Answered, HalfWhy, Reply, Spent, Command, Release, Grab, Script, group_named, decl_named, Report, serial_of, command_at, answer_at, IsSpent, IsUnmade, IsOver, IsUncached, IsCached, IsFull, IsFreed, IsInTheWay, IsOfflineDone, StandsInTree, group_met, HasCause, Step, steps_of, IsWhyBy, IsUsedUpBy, IsCausedBy, Drains, IsRun, begin_at, made_at, IsHalf, IsWhy, IsUsedUp}
 use Rattle.shr_base.specs.declared.journals.TreeEntry.TheVariants.{Made}
 use Rattle.shr_base.specs.declared.replies.HalfWhy.TheVariants as why
 use Rattle.shr_base.specs.declared.replies.Reply.TheVariants as reply
-use Rattle.shr_report.specs.Causes.{IsHalf, IsWhy}
 use Rattle.shr_report.specs.CausesLawful.{AreCausesLawful}
-use Rattle.shr_report.specs.ReplyTable.{IsUsedUp}
 use Rattle.shr_units.specs.Runs.{IsPoolWorn}
 use Rattle.shr_units.proofs.WalksLaw.{plain_worn}
 use Rattle.shr_units.proofs.WornLaw.{pool_worn}
@@ -51,7 +49,7 @@ module _ (s : Script) (r : Report) (workers : List (List Step)) (run : IsRun s r
   caused worker k x at own c is (reply.NoCache entry) answer h = of_decl (λ d. IsUncached s r d entry) x c is h.decl h.named (uncached s r workers run worker k x at entry h)
   caused worker k x at own c is (reply.Worn spent) answer h = used_up worker k x at own c spent
       (pool_worn s r run.plain run.units (serial_of worker k) c spent ((run.steps.each worker k x at).command ∙ is) (reply_is s r workers run worker k x at ∙ ap Some answer)) (subst (λ (o : Option Command). IsUsedUpBy s x o spent) is h)
-  caused worker k x at own c is (reply.OfflineDone entry moved deferred) answer h = of_group (λ g. IsOfflined s r x.by g entry moved deferred) x c is h.group h.named (offlined s r workers run worker k x at entry moved deferred h)
+  caused worker k x at own c is (reply.OfflineDone entry moved deferred) answer h = of_group (λ g. IsOfflineDone s r x.by g entry moved deferred) x c is h.group h.named (offlined s r workers run worker k x at entry moved deferred h)
   caused worker k x at own c is (reply.AlreadyDone entry) answer h = of_group (λ g. StandsInTree r entry (Done g)) x c is h.group h.named (was_done s r workers run worker k x at entry h)
   caused worker k x at own c is reply.Root answer h = of_group (λ g. g ≡ 0) x c is 0 h refl
   caused worker k x at own c is (reply.HasChildren child entry) answer h = of_group (λ g. IsInTheWay s r g child entry) x c is h.group h.named (in_the_way s r workers run worker k x at child entry h)

@@ -1,7 +1,6 @@
 -- The law of charges, of a run.
-use Rattle.shr_assemble.proofs.Common.{◌≡◌, ℕ, zero, suc, ◌+◌, ◌<◌, ◌≤◌, ◌⊎◌, inl, inr, ⊎_elim, Bool, true, false, cond, List, [], ◌∷◌, length, drop, map, sym, refl, ap, subst, ◌∙◌, arith, eqb, eq-eqb, slice_get, Some, None, Option, find, filter, sum_by, pos, ◌-ℤ◌, MatchOption, AllByRecursion, enumerate_from, IsSomeAnd, and_parts, and_from, eqb-true, cases_Bool, same_Some, none-some, slice_get_past, UseStep, Entry, Add, Look, Drop, Pin, Scan, MovedIn, Closed, Drained, Object, Place, Serial, Command, Put, Get, Del, SetPin, Script, ups, usage_after, is_by, ops_by, IsDownNext, AreTakenBack, is_serial, is_put, items_at, is_at_or_above, born_below, freed_by, by_of, Has, filter_has, total, place_at, Made, Report, parents_of, limit_of, journals_of, places_of, serial_of, command_at, commands_of, reply_at, uses_at, entry_by, at, id_found, IsDownBetween, charged, Step, IsAmong, steps_of, IsPut, ops_at, IsTold, IsDrained, MayMake, all_made, IsRun, all_zero, at_some, by_slices, count_total, some_at, sum_total}
-use Rattle.shr_model.specs.Freeings.{freeings_at}
-use Rattle.shr_report.specs.Charges.{ways_of, is_of, freed_in, freed_below}
+use Rattle.shr_assemble.proofs.Common.{◌≡◌, ℕ, zero, suc, ◌+◌, ◌<◌, ◌≤◌, ◌⊎◌, inl, inr, ⊎_elim, Bool, true, false, cond, List, [], ◌∷◌, length, drop, map, sym, refl, ap, subst, ◌∙◌, arith, eqb, eq-eqb, slice_get, Some, None, Option, find, filter, sum_by, pos, ◌-ℤ◌, MatchOption, AllByRecursion, enumerate_from, IsSomeAnd, and_parts, and_from, eqb-true, cases_Bool, same_Some, none-some, slice_get_past, UseStep, Entry, Add, Look, Drop, Pin, Scan, MovedIn, Closed, Drained, Object, Place, Serial, Command, Put, Get, Del, SetPin, Script, ups, usage_after, is_by, ops_by, IsDownNext, AreTakenBack, is_serial, is_put, items_at, is_at_or_above, born_below, freed_by, by_of, Has, filter_has, total, place_at, Made, Report, parents_of, limit_of, journals_of, places_of, serial_of, command_at, commands_of, reply_at, uses_at, entry_by, at, id_found, IsDownBetween, charged, Step, IsAmong, steps_of, IsPut, ops_at, IsTenantEntry, IsDrainedByCommand, MayMakeEntry, all_made, IsRun, all_zero, at_some, by_slices, count_total, some_at, sum_total, freeings_at}
+use Rattle.shr_report.specs.Charges.{ways_of, is_of, freed_in_command, freed_below}
 use Rattle.shr_assemble.specs.Charges as did
 use Rattle.shr_assemble.proofs.Gathering.{each_among, has_step, total_same_on}
 use Rattle.shr_assemble.proofs.Listed.{all_among, no_test}
@@ -145,30 +144,30 @@ module _ (s : Script) (r : Report) (workers : List (List Step)) (run : IsRun s r
   born_total g objects = count_total (λ (o : Object). is_at_or_above (parents_of s) g o.birth) objects
 
   -- an entry that a step made is of its command, or freed nothing
-  entry_own : (worker k : ℕ) (x : Step) (m : Made) (e : Entry) → slice_get (steps_of workers worker) k ≡ Some x → IsAmong m x.work.core.made → m.entry ≡ e → MayMake s x m e → (entry_by r e ≡ Some x.by) ⊎ (freed_by m.items e ≡ [])
+  entry_own : (worker k : ℕ) (x : Step) (m : Made) (e : Entry) → slice_get (steps_of workers worker) k ≡ Some x → IsAmong m x.work.core.made → m.entry ≡ e → MayMakeEntry s x m e → (entry_by r e ≡ Some x.by) ⊎ (freed_by m.items e ≡ [])
   entry_own worker k x m (Add by birth added key value) at among entry may = inr refl
   entry_own worker k x m (Look by birth key hit) at among entry may = inr refl
-  entry_own worker k x m (Drop by birth key kind) at among entry may = let t : IsTold x m by = may in inl (ap Some t.own)
+  entry_own worker k x m (Drop by birth key kind) at among entry may = let t : IsTenantEntry x m by = may in inl (ap Some t.own)
   entry_own worker k x m (Pin by birth key pinned hit) at among entry may = inr refl
   entry_own worker k x m (Scan w n asked policy visits freed stopped) at among entry may =
       inl (⊎_elim (λ t. scanned_by s r workers run worker k x m w n at t) (λ t. visited_by s r workers run worker k x m w n asked visits freed policy stopped at t among entry) may)
   entry_own worker k x m (MovedIn child objects) at among entry may = inr refl
   entry_own worker k x m Closed at among entry may = inr refl
-  entry_own worker k x m (Drained by objects) at among entry may = let t : IsDrained x m by = may in inl (ap Some t.own)
+  entry_own worker k x m (Drained by objects) at among entry may = let t : IsDrainedByCommand x m by = may in inl (ap Some t.own)
 
-  may_make : (worker k : ℕ) (x : Step) (j : ℕ) (m : Made) → slice_get (steps_of workers worker) k ≡ Some x → slice_get x.work.core.made j ≡ Some m → MayMake s x m m.entry
-  may_make worker k x j m at e = each_among (λ (z : Made). MayMake s x z z.entry) x.work.core.made m (run.steps.each worker k x at).did.entries.each (j, some_at x.work.core.made j m e)
+  may_make : (worker k : ℕ) (x : Step) (j : ℕ) (m : Made) → slice_get (steps_of workers worker) k ≡ Some x → slice_get x.work.core.made j ≡ Some m → MayMakeEntry s x m m.entry
+  may_make worker k x j m at e = each_among (λ (z : Made). MayMakeEntry s x z z.entry) x.work.core.made m (run.steps.each worker k x at).did.entries.each (j, some_at x.work.core.made j m e)
 
   abbrev weight_by : Serial → ℕ → Made → ℕ
   weight_by by g m = cond (is_of by (entry_by r m.entry)) (born_below (parents_of s) g (freed_by m.items m.entry)) 0
 
   -- the report's sum is that over what was made
   freed_made : (by : Serial) (g : ℕ) → freed_below s r by g ≡ total (weight_by by g) (all_made workers)
-  freed_made by g = sum_total (λ (p : Place). sum_by (freed_in r (parents_of s) by g) (freeings_at (parents_of s) (journals_of r) p)) (places_of r)
-      ∙ (total_same_on (λ (p : Place). sum_by (freed_in r (parents_of s) by g) (freeings_at (parents_of s) (journals_of r) p))
+  freed_made by g = sum_total (λ (p : Place). sum_by (freed_in_command r (parents_of s) by g) (freeings_at (parents_of s) (journals_of r) p)) (places_of r)
+      ∙ (total_same_on (λ (p : Place). sum_by (freed_in_command r (parents_of s) by g) (freeings_at (parents_of s) (journals_of r) p))
       (λ (p : Place). total (λ (e : ℕ × Entry). cond (is_of by (entry_by r e.1)) (born_below (parents_of s) g (freed_by (items_at (parents_of s) (journals_of r) p e.0) e.1)) 0) (enumerate_from 0 (journals_of r p))) (places_of r)
-      (λ p. sum_total (freed_in r (parents_of s) by g) (freeings_at (parents_of s) (journals_of r) p)
-      ∙ total_map (freed_in r (parents_of s) by g) (λ (e : ℕ × Entry). record { entry = e.1; objects = freed_by (items_at (parents_of s) (journals_of r) p e.0) e.1 }) (enumerate_from 0 (journals_of r p)))
+      (λ p. sum_total (freed_in_command r (parents_of s) by g) (freeings_at (parents_of s) (journals_of r) p)
+      ∙ total_map (freed_in_command r (parents_of s) by g) (λ (e : ℕ × Entry). record { entry = e.1; objects = freed_by (items_at (parents_of s) (journals_of r) p e.0) e.1 }) (enumerate_from 0 (journals_of r p)))
       ∙ journals_are s r workers run (weight_by by g) (λ p n e. cond (is_of by (entry_by r e)) (born_below (parents_of s) g (freed_by (items_at (parents_of s) (journals_of r) p n) e)) 0)
       (λ m p place stands items. ap (λ (l : List Object). cond (is_of by (entry_by r m.entry)) (born_below (parents_of s) g (freed_by l m.entry)) 0) items))
 
@@ -193,23 +192,23 @@ module _ (s : Script) (r : Report) (workers : List (List Step)) (run : IsRun s r
       (entry_own worker k x m m.entry at (j, some_at x.work.core.made j m e) refl (may_make worker k x j m at e)))
 
   -- of the command itself all does
-  own_weighs : (g worker k : ℕ) (x : Step) → slice_get (steps_of workers worker) k ≡ Some x → total (weight_by x.by g) x.work.core.made ≡ sum_by (did.freed_below (parents_of s) g) x.work.core.made
-  own_weighs g worker k x at = same_totals (weight_by x.by g) (did.freed_below (parents_of s) g) x.work.core.made (λ j m e. ⊎_elim
+  own_weighs : (g worker k : ℕ) (x : Step) → slice_get (steps_of workers worker) k ≡ Some x → total (weight_by x.by g) x.work.core.made ≡ sum_by (did.made_freed_below (parents_of s) g) x.work.core.made
+  own_weighs g worker k x at = same_totals (weight_by x.by g) (did.made_freed_below (parents_of s) g) x.work.core.made (λ j m e. ⊎_elim
       (λ own. ap (λ o. cond (is_of x.by o) (born_below (parents_of s) g (freed_by m.items m.entry)) 0) own ∙ ap (λ b. cond b (born_below (parents_of s) g (freed_by m.items m.entry)) 0) (serial_same x.by))
       (λ none. cond_zero (is_of x.by (entry_by r m.entry)) (born_below (parents_of s) g (freed_by m.items m.entry)) (born_none g (freed_by m.items m.entry) none) ∙ sym (born_none g (freed_by m.items m.entry) none))
       (entry_own worker k x m m.entry at (j, some_at x.work.core.made j m e) refl (may_make worker k x j m at e)))
-      ∙ sym (sum_total (did.freed_below (parents_of s) g) x.work.core.made)
+      ∙ sym (sum_total (did.made_freed_below (parents_of s) g) x.work.core.made)
 
   pub nets : (by : Serial) (g : ℕ) → g < length (parents_of s) → usage_after (ops_by by (uses_at r g)) ≡ pos (charged (parents_of s) g (command_at s by) (reply_at r by)) -ℤ pos (freed_below s r by g)
   nets by g lt = ⊎_elim
       (λ o. let is = run.steps.each by.worker by.command o.step o.there in
-      let freed : freed_below s r by g ≡ sum_by (did.freed_below (parents_of s) g) o.step.work.core.made =
+      let freed : freed_below s r by g ≡ sum_by (did.made_freed_below (parents_of s) g) o.step.work.core.made =
       freed_made by g ∙ (only_step (weight_by by g) (λ (y : Step). y.work.core.made) workers by.worker by.command o.step o.there
       (λ v j y at apart. other_weighs by g v j y at (λ same. let b : serial_of v j ≡ by = sym (run.steps.each v j y at).by ∙ same in apart (ap (λ (z : Serial). z.worker) b, ap (λ (z : Serial). z.command) b)))
       ∙ (ap (λ (b : Serial). total (weight_by b g) o.step.work.core.made) (sym o.own) ∙ own_weighs g by.worker by.command o.step o.there)) in
       ap usage_after (mine_are by g o) ∙ (is.did.charges.nets g lt
-      ∙ (ap (λ c. pos (charged (parents_of s) g c (Some o.step.answered.reply)) -ℤ pos (sum_by (did.freed_below (parents_of s) g) o.step.work.core.made)) (sym (command_of by o))
-      ∙ (ap (λ x. pos (charged (parents_of s) g (command_at s by) x) -ℤ pos (sum_by (did.freed_below (parents_of s) g) o.step.work.core.made)) (sym (reply_is s r workers run by.worker by.command o.step o.there))
+      ∙ (ap (λ c. pos (charged (parents_of s) g c (Some o.step.answered.reply)) -ℤ pos (sum_by (did.made_freed_below (parents_of s) g) o.step.work.core.made)) (sym (command_of by o))
+      ∙ (ap (λ x. pos (charged (parents_of s) g (command_at s by) x) -ℤ pos (sum_by (did.made_freed_below (parents_of s) g) o.step.work.core.made)) (sym (reply_is s r workers run by.worker by.command o.step o.there))
       ∙ ap (λ n. pos (charged (parents_of s) g (command_at s by) (reply_at r by)) -ℤ pos n) (sym freed)))))
       (λ never. let freed : freed_below s r by g ≡ 0 = freed_made by g ∙ none_weigh by g never in
       ap usage_after (ops_none s r workers run by g never) ∙ (ap (λ c. pos (charged (parents_of s) g c (reply_at r by)) -ℤ pos 0) (sym (no_command by never)) ∙ ap (λ n. pos (charged (parents_of s) g (command_at s by) (reply_at r by)) -ℤ pos n) (sym freed)))
@@ -247,7 +246,7 @@ module _ (s : Script) (r : Report) (workers : List (List Step)) (run : IsRun s r
   add_weighs g p n by birth key value added stands =
       let m = maker s r workers run p n (Add by birth added key value) stands in
       let is = run.steps.each m.worker m.k m.step m.at in
-      let told = told_of s m.step m.made m.made.entry by (ap by_of m.entry) (each_among (λ (z : Made). MayMake s m.step z z.entry) m.step.work.core.made m.made is.did.entries.each m.among) in
+      let told = told_of s m.step m.made m.made.entry by (ap by_of m.entry) (each_among (λ (z : Made). MayMakeEntry s m.step z z.entry) m.step.work.core.made m.made is.did.entries.each m.among) in
       let stand = made_stands s r workers run m.worker m.k m.step m.at in
       let answer = is.did.entries.reply (journals_of r) (λ j z e. (stand j z e).1) in
       let here = (stand m.among.0 m.made m.among.1).1.entry ∙ ap Some m.entry in

@@ -1,6 +1,5 @@
 -- The lists on which a worker acts for one group go up only, of a run.
-use Rattle.shr_assemble.proofs.Common.{◌≡◌, ℕ, ◌<◌, ◌≤◌, ⊎_elim, List, length, sym, ap, subst, ◌∙◌, arith, slice_get, Some, option_and_then, cases_lt, same_Some, Place, Script, group_named, path_of, IsAtOrAbove, place_number, at_group, on_le, IsAtOrAbove-le, IsAtOrAbove-refl, Has_from_Contains, Contains_from_Has, Begins, Known, place_at, back, Report, parents_of, cited_by, journals_of, at, IsCited, Step, IsAmong, steps_of, IsRun}
-use Rattle.shr_model.proofs.GroupsOrder.{on_chain}
+use Rattle.shr_assemble.proofs.Common.{◌≡◌, ℕ, ◌<◌, ◌≤◌, ⊎_elim, List, length, sym, ap, subst, ◌∙◌, arith, slice_get, Some, option_and_then, cases_lt, same_Some, Place, Script, group_named, path_of, IsAtOrAbove, place_number, at_group, on_le, IsAtOrAbove-le, IsAtOrAbove-refl, Has_from_Contains, Contains_from_Has, Begins, Known, place_at, back, Report, parents_of, cited_by, journals_of, at, IsMadeAsCited, Step, IsAmong, steps_of, IsRun, on_chain}
 use Rattle.shr_report.specs.Climbs.{ActsOn, AreClimbing}
 use Rattle.shr_assemble.proofs.Gathering.{among_begins}
 use Rattle.shr_assemble.proofs.Listed.{contains_among}
@@ -13,7 +12,7 @@ module _ (s : Script) (r : Report) (workers : List (List Step)) (run : IsRun s r
     step : Step
     step_at : slice_get (steps_of workers worker) k ≡ Some step
     entry : ℕ
-    cited : IsCited s step (at p entry)
+    cited : IsMadeAsCited s step (at p entry)
     same : cited.first.birth ≡ birth
 
   acted : (worker k birth : ℕ) (p : Place) → ActsOn s r worker k birth p → Acted worker k birth p

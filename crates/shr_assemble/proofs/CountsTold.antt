@@ -1,13 +1,11 @@
 -- The counts that a report tells of a worker are those of its steps, in the order in which it made them.
-use Rattle.shr_assemble.proofs.Common.{◌≡◌, ℕ, zero, suc, ◌+◌, ◌<◌, ◌≤◌, List, [], ◌∷◌, ◌++◌, length, length-append, map, take, sym, refl, ap, subst, ◌∙◌, arith, append_assoc, slice_get, Some, flat_map, flat_map-append, map-append, same_Some, none-some, some, some-ne-none, get_elem?, Serial, Script, Attempt, WalkRecord, Count, counts_of, place_number, place_in, Deed, by_seat, acts_of, part, Begins, among, seen_in, Event, Counted, counted, made, looked, loaded, turned, put_back, raised, cleared, mapped, WorkerState, Report, serial_of, Counting, countings_of, IsRun, Step, steps_of, AreChained, Brings, counted_in, some_at}
-use Rattle.shr_report.specs.OneOrder.{countings_in}
+use Rattle.shr_assemble.proofs.Common.{◌≡◌, ℕ, zero, suc, ◌+◌, ◌<◌, ◌≤◌, List, [], ◌∷◌, ◌++◌, length, length-append, map, take, sym, refl, ap, subst, ◌∙◌, arith, append_assoc, slice_get, Some, flat_map, flat_map-append, map-append, same_Some, none-some, some, some-ne-none, get_elem?, Serial, Script, Attempt, WalkRecord, Count, counts_of, place_number, place_in, Deed, by_seat, acts_of, part, Begins, among, seen_in, Event, Counted, counted, made, looked, loaded, turned, put_back, raised, cleared, mapped, WorkerState, Report, serial_of, Counting, countings_of, IsRun, Step, steps_of, AreStepsChained, BringsWork, counted_in, some_at, countings_in, among-append}
 use Rattle.shr_assemble.proofs.Flattening.{slice_map}
 use Rattle.shr_assemble.proofs.Gathering.{FlatAt, flat_at}
 use Rattle.shr_assemble.proofs.LineOrder.{counted_of}
 use Rattle.shr_assemble.proofs.Making.{work_of}
 use Rattle.shr_assemble.proofs.Spots.{kind_spot, kind_there, kind_from, kind_within}
 use Rattle.shr_seats.proofs.Sums.{from_map}
-use Rattle.shr_core.proofs.Gains.{among-append}
 
 -- ---- lists
 
@@ -82,7 +80,7 @@ of_steps (x ∷ xs) each = ap (map pair) (flat_map-append countings_in x.work.wa
     ∙ (ap (λ l. l ++ map pair (flat_map countings_in (flat_map (λ (y : Step). y.work.walks) xs))) (each 0 x refl) ∙ ap (λ l. timed x ++ l) (of_steps xs (λ k y at. each (suc k) y at))))
 
 -- how many counts a worker had made before a step
-counts_done : (y : Step) → Brings y.before y.after y.work → length (among seen_in (acts_of y.after.core.did)) ≡ length (among seen_in (acts_of y.before.core.did)) + length (timed y)
+counts_done : (y : Step) → BringsWork y.before y.after y.work → length (among seen_in (acts_of y.after.core.did)) ≡ length (among seen_in (acts_of y.before.core.did)) + length (timed y)
 counts_done y b =
     let noted : acts_of y.after.core.did ≡ acts_of y.before.core.did ++ b.core.did = ap acts_of b.core.noted ∙ (acts_both y.before.core.did (by_seat y.before.core.seat b.core.did) ∙ ap (λ l. acts_of y.before.core.did ++ l) (acts_seat y.before.core.seat b.core.did)) in
     omega (
@@ -98,7 +96,7 @@ counts_done y b =
     length_timed by [] = refl
     length_timed by (c ∷ cs) = let rest = length_timed by cs in omega (arith, rest)
 
-counts_before : (t : WorkerState) (mine : List Step) (k : ℕ) (x : Step) → AreChained t mine → slice_get mine k ≡ Some x
+counts_before : (t : WorkerState) (mine : List Step) (k : ℕ) (x : Step) → AreStepsChained t mine → slice_get mine k ≡ Some x
     → length (among seen_in (acts_of x.before.core.did)) ≡ length (among seen_in (acts_of t.core.did)) + length (flat_map timed (take k mine))
 counts_before t [] k x c e = absurd (none-some x e)
 counts_before t (y ∷ mine) zero x c e = omega (arith, ap (λ (z : Step). length (among seen_in (acts_of z.before.core.did))) (sym (same_Some y x e)), ap (λ (u : WorkerState). length (among seen_in (acts_of u.core.did))) c.0)

@@ -1,6 +1,6 @@
 -- The steps of all workers from what is known of them at the end, and what they have in all.
-use Rattle.shr_assemble.proofs.Common.{◌≡◌, ℕ, zero, suc, ◌<◌, List, [], ◌∷◌, ◌++◌, length, sym, refl, ap, subst, ◌∙◌, arith, slice_get, Some, flat_map, same_Some, none-some, slice_get_within, AllByRecursion, Sweep, View, SweepItem, sweeps_of, Shared, IsShared, WorkerState, CrewState, WorkerLog, Step, gathered, Brings, new_worker, HasWorked}
-use Rattle.shr_worker.specs.Chain.{commands_of, serial_of}
+use Rattle.shr_assemble.proofs.Common.{◌≡◌, ℕ, zero, suc, ◌<◌, List, [], ◌∷◌, ◌++◌, length, sym, refl, ap, subst, ◌∙◌, arith, slice_get, Some, flat_map, same_Some, none-some, slice_get_within, AllByRecursion, Sweep, View, SweepItem, sweeps_of, Shared, IsShared, WorkerState, CrewState, WorkerLog, Step, gathered, BringsWork, new_worker, HasWorked}
+use Rattle.shr_worker.specs.Chain.{worker_commands, command_serial}
 use Rattle.shr_assemble.proofs.Rows.{DidEach, IsThereItem, along}
 use Rattle.shr_assemble.proofs.SweptRows.{IsWorkerRow, worker_row}
 
@@ -38,7 +38,7 @@ pub record IsCrew (x : Shared) (opened : View) (popped : ℕ → List SweepItem)
   pub lasts_are : length lasts ≡ length logs
   pub workers_are : length workers ≡ length logs
   pub each : (i : ℕ) (log : WorkerLog) (last : CrewState) (mine : List Step) → slice_get logs i ≡ Some log → slice_get lasts i ≡ Some last → slice_get workers i ≡ Some mine
-      → IsWorkerRow x.script (serial_of i) (commands_of x.script i) (sweeps_of x.script i) (popped i) log.answers.items (new_worker opened i) last mine
+      → IsWorkerRow x.script (command_serial i) (worker_commands x.script i) (sweeps_of x.script i) (popped i) log.answers.items (new_worker opened i) last mine
 
 pub crew : (x : Shared) → IsShared x → DidEach x → (opened : View) (popped : ℕ → List SweepItem) (logs : List WorkerLog) (lasts : List CrewState) → length lasts ≡ length logs → length logs ≡ length x.script.workers.items
     → ((i : ℕ) → i < length logs → (z : Sweep) → x.script.sweep ≡ Some z → AllByRecursion (IsThereItem x.script) (popped i))
@@ -46,12 +46,12 @@ pub crew : (x : Shared) → IsShared x → DidEach x → (opened : View) (popped
     → (workers : List (List Step)) × IsCrew x opened popped logs lasts workers
 crew x shared did opened popped logs lasts same all there worked =
     let t = choose (λ (i : ℕ) (log : WorkerLog) (last : CrewState) (mine : List Step).
-    IsWorkerRow x.script (serial_of i) (commands_of x.script i) (sweeps_of x.script i) (popped i) log.answers.items (new_worker opened i) last mine) logs lasts same
+    IsWorkerRow x.script (command_serial i) (worker_commands x.script i) (sweeps_of x.script i) (popped i) log.answers.items (new_worker opened i) last mine) logs lasts same
     (λ i log last at_log at_last. let lt = slice_get_within logs i log at_log in worker_row x shared did opened i log (popped i) last (omega (arith, lt, all)) (there i lt) (worked i log last at_log at_last)) in
     (t.0, record { lasts_are = same; workers_are = t.1; each = t.2 })
 
 -- what the last states have of a list that each step makes longer, and that is empty at the start, the steps have
-pub all_of : {A : Type 0} (g : WorkerState → List A) (h : Step → List A) → ((x : Step) → Brings x.before x.after x.work → g x.after ≡ g x.before ++ h x)
+pub all_of : {A : Type 0} (g : WorkerState → List A) (h : Step → List A) → ((x : Step) → BringsWork x.before x.after x.work → g x.after ≡ g x.before ++ h x)
     → (x : Shared) (opened : View) (popped : ℕ → List SweepItem) (logs : List WorkerLog) (lasts : List CrewState) (workers : List (List Step)) → ((i : ℕ) → g (new_worker opened i).seats ≡ []) → IsCrew x opened popped logs lasts workers
     → flat_map (λ (w : CrewState). g w.seats) lasts ≡ gathered h workers
 all_of g h one x opened popped logs lasts workers none crew = flat_pairs (λ (w : CrewState). g w.seats) (λ (mine : List Step). flat_map h mine) lasts workers (crew.workers_are ∙ sym crew.lasts_are)

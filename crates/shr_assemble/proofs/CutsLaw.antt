@@ -1,6 +1,5 @@
 -- A walk that memory cut short ended its command, of a run.
-use Rattle.shr_assemble.proofs.Common.{◌≡◌, false, List, ap, sym, subst, ◌∙◌, AllPairs, list_any, Serial, Answered, Command, Script, WalkRecord, is_cut, Report, IsWant, Step, IsRun, DidJobs, AreWalksFor}
-use Rattle.shr_report.specs.Cuts.{AreCutsTold}
+use Rattle.shr_assemble.proofs.Common.{◌≡◌, false, List, ap, sym, subst, ◌∙◌, AllPairs, list_any, Serial, Answered, Command, Script, WalkRecord, is_cut, Report, IsWant, Step, IsRun, DidJobs, AreWalksFor, AreCutsTold}
 use Rattle.shr_assemble.proofs.Making.{Stepped, stepped}
 use Rattle.shr_assemble.proofs.WalksLaw.{walks_are}
 

@@ -1,14 +1,11 @@
 -- What a del did.
-use Rattle.shr_assemble.proofs.Common.{◌≡◌, ℕ, ◌+◌, ◌<◌, inl, inr, Bool, true, false, cond, ◌==◌, List, [], ◌∷◌, length, refl, sym, ap, ◌∙◌, arith, Option, Some, None, bytes_eq, same_Some, none-some, and_parts, eqb-true, append-nil, sum_by-cons, DropKind, born_below, path_of, drop_kind_of, dropped_of, Made, Turns, spent_by, Uses, within_of_valid, does_then, is_past_group, added_below, freed_below, Step, Object, Serial, At, Entry, Drop, Answered, Found, Reply, Spent, Command, Del, is_named, named_in, View, shape_of, Listed, IsObjectWithin, content_of, Shared, WorkerState, Work, no_work, then_work, Does, parents_of}
+use Rattle.shr_assemble.proofs.Common.{◌≡◌, ℕ, ◌+◌, ◌<◌, inl, inr, Bool, true, false, cond, ◌==◌, List, [], ◌∷◌, length, refl, sym, ap, ◌∙◌, arith, Option, Some, None, bytes_eq, same_Some, none-some, and_parts, eqb-true, append-nil, sum_by-cons, DropKind, born_below, path_of, drop_kind_of, dropped_of, Made, Turns, spent_by, Uses, within_of_valid, does_then, is_past_group, added_below, made_freed_below, Step, Object, Serial, At, Entry, Drop, Answered, Found, Reply, Spent, Command, Del, is_named, named_in, View, shape_of, Listed, IsObjectWithin, content_of, Shared, WorkerState, Work, no_work, then_work, Does, parents_of, length_after_drop, drop_entry, DropGives}
 use Rattle.shr_base.specs.declared.journals.DropKind.TheVariants as kind
 use Rattle.shr_charge.specs.declared.answers.GroupState.TheVariants as state
 use Rattle.shr_base.specs.declared.replies.Reply.TheVariants as reply
 use Rattle.shr_base.specs.declared.replies.Spent.TheVariants as spent
-use Rattle.shr_model.proofs.ObjectLaws.{length_after_drop}
-use Rattle.shr_list.specs.Answers.{drop_entry}
 use Rattle.shr_node.specs.declared.answers.NodeDrop.{NodeDrop}
 use Rattle.shr_node.specs.declared.answers.NodeDrop.TheVariants as drop
-use Rattle.shr_node.specs.Answers.{DropGives}
 use Rattle.shr_cache.specs.Dels.{Drops, DropsAndUncharges, DroppedFrom, DroppedNone, DroppedAs, DelGives}
 use Rattle.shr_assemble.proofs.Bringing.{brings_of}
 use Rattle.shr_assemble.proofs.Quiet.{step_of, HasDid, calm_walks, still_moves, still_pool, still_tree, some_met, meets_none}
@@ -150,7 +147,7 @@ module _ (x : Shared) (tables : AreTables x) (by : Serial) (group node decl : �
               downs = record { at = h.uncharges.downs.at ∙ (ap (λ (l : List ℕ). path_of l group) (tree_is x tables.shared) ∙ (ap (path_of ps) (sym out.born) ∙ sym (append-nil (path_of ps out.object.birth)))); each = h.uncharges.downs.each };
               charges = refl;
               uncharges = refl;
-              freed = λ g. omega (arith, sum_by-cons (freed_below ps g) m [], ap (born_below ps g) out.alone);
+              freed = λ g. omega (arith, sum_by-cons (made_freed_below ps g) m [], ap (born_below ps g) out.alone);
               added = λ g. omega (arith, sum_by-cons (λ (y : Made). added_below ps g y.entry) m []);
               charged = λ g. refl;
             });

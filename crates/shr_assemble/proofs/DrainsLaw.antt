@@ -1,18 +1,16 @@
 -- In a run a list is drained while its id is dying, and an id comes to be idle with empty lists.
-use Rattle.shr_assemble.proofs.Common.{◌≡◌, ◌≢◌, ◌⊎◌, ℕ, zero, suc, ◌+◌, ◌%◌, ◌<◌, ◌≤◌, ⊎_elim, Bool, cond, take, List, [], ◌∷◌, ◌++◌, length, length-append, get_or, sym, refl, ap, subst, ◌∙◌, arith, eqb, eq-eqb, ne_eqb, slice_get, Option, Some, None, same_Some, none-some, slice_get-get_or, dite, ℕ_discrete, dec_lt, some, some-injective, get_elem?, Entry, Add, Look, Drop, Pin, Scan, MovedIn, Closed, Drained, PoolEntry, Registered, Idle, Place, Serial, Script, HasJournal, place_number, HasJournal_none, Deed, Begins, begins_all, begins_more, id_of, Event, Made, Turn, counted, made, looked, loaded, turned, put_back, raised, cleared, mapped, Moment, moment_next, last_moment, IsTimely, IsSo, so_before, Report, journals_of, decls_on, IsThere, Told, entry, lookup, turn, count, HasAt, looked_by, IsInOneOrder, IsRun, Step}
+use Rattle.shr_assemble.proofs.Common.{◌≡◌, ◌≢◌, ◌⊎◌, ℕ, zero, suc, ◌+◌, ◌%◌, ◌<◌, ◌≤◌, ⊎_elim, Bool, cond, take, List, [], ◌∷◌, ◌++◌, length, length-append, get_or, sym, refl, ap, subst, ◌∙◌, arith, eqb, eq-eqb, ne_eqb, slice_get, Option, Some, None, same_Some, none-some, slice_get-get_or, dite, ℕ_discrete, dec_lt, some, some-injective, get_elem?, Entry, Add, Look, Drop, Pin, Scan, MovedIn, Closed, Drained, PoolEntry, Registered, Idle, Place, Serial, Script, HasJournal, place_number, HasJournal_none, Deed, Begins, begins_all, begins_more, place_id, Event, Made, Turn, counted, made, looked, loaded, turned, put_back, raised, cleared, mapped, Moment, moment_next, last_moment, IsTimely, IsSo, so_before, Report, journals_of, decls_on, IsThere, Told, entry, lookup, turn, count, HasAt, looked_by, IsInOneOrder, IsRun, Step, begins_push, before, before_next, moment_before, grown}
 use Rattle.shr_model.specs.Pool.{phase_of}
 use Rattle.shr_model.specs.Pool as pool
 use Rattle.shr_seats.specs.Lines.{state_after}
-use Rattle.shr_seats.proofs.Weighing.{begins_push}
 use Rattle.shr_core.specs.Order.{at_start, moment_after, LeavesNothing}
 use Rattle.shr_core.specs.Ranks.{entries, turns}
-use Rattle.shr_core.proofs.InUse.{before, before_next, moment_before, grown}
-use Rattle.shr_report.specs.OneOrder.{IsDrained, ComesBehind, IsWhileDying, IsWhileEmpty}
+use Rattle.shr_report.specs.OneOrder.{IsDrainedEntry, ComesBehind, IsWhileDying, IsWhileEmpty}
 use Rattle.shr_assemble.proofs.InUseLaw.{id_there, there_at, not_idle, take_all, used}
 use Rattle.shr_assemble.proofs.OneOrderLaw.{InLine, opened, rank, stands, start_rank, by_numbers, by_worker, looked_rise, counted_rise}
 
 -- ---- what the line says
-dying_at : (t : Moment) (id : ℕ) (e : Entry) → IsDrained e → IsTimely t id e → phase_of id t.pool % 3 ≡ 2
+dying_at : (t : Moment) (id : ℕ) (e : Entry) → IsDrainedEntry e → IsTimely t id e → phase_of id t.pool % 3 ≡ 2
 dying_at t id (Drained by objects) h m = m
 dying_at t id (Add by birth added key value) h m = absurd h
 dying_at t id (Look by birth key hit) h m = absurd h
@@ -171,14 +169,14 @@ module _ (s : Script) (r : Report) (workers : List (List Step)) (run : IsRun s r
         (λ n. let up : length (moment (suc t.index)).pool ≤ length (moment b).pool = grown 0 line turns (suc t.index) b (omega (arith, no, n)) in let high = t.high in absurd (omega (arith, up, high, le))));
   }
 
-  pub drained : (place : Place) (n : ℕ) → HasAt (journals_of r place) n IsDrained → IsWhileDying r rank_of place.id (entry place n)
+  pub drained : (place : Place) (n : ℕ) → HasAt (journals_of r place) n IsDrainedEntry → IsWhileDying r rank_of place.id (entry place n)
   drained place n told = ⊎_elim
       (λ start. absurd (not_turn start.0 start.1))
       (λ t. let m = t.says in
       let same : m.0.entry ≡ told.0 = same_Some m.0.entry told.0 (sym m.4 ∙ told.1) in
-      let id : id_of m.0.place ≡ place.id = ap id_of m.2 ∙ id_there s r workers run place (there_at s r workers run place n told.0 told.1) in
+      let id : place_id m.0.place ≡ place.id = ap place_id m.2 ∙ id_there s r workers run place (there_at s r workers run place n told.0 told.1) in
       let so = subst (IsSo s.ids (moment t.index)) m.1 (so_at t.index t.deed t.there) in
-      let dying : phase_of place.id (moment t.index).pool % 3 ≡ 2 = ap (λ (i : ℕ). phase_of i (moment t.index).pool % 3) (sym id) ∙ dying_at (moment t.index) (id_of m.0.place) m.0.entry (subst IsDrained (sym same) told.2) so.1 in
+      let dying : phase_of place.id (moment t.index).pool % 3 ≡ 2 = ap (λ (i : ℕ). phase_of i (moment t.index).pool % 3) (sym id) ∙ dying_at (moment t.index) (place_id m.0.place) m.0.entry (subst IsDrainedEntry (sym same) told.2) so.1 in
       record {
         turns = length (moment t.index).pool;
         behind = turns_behind (entry place n) t.index t.deed m.0 t.is t.there m.1 (past_start place.id t.index dying);

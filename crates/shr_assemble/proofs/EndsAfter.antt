@@ -1,10 +1,9 @@
 -- Each step's state is so in the report, of a run whose workers are done.
-use Rattle.shr_assemble.proofs.Common.{◌≡◌, ℕ, ◌≤◌, List, ◌∷◌, ◌++◌, sym, refl, ap, subst, ◌∙◌, arith, slice_get, Some, All, slice_get_within, PoolEntry, TreeEntry, UseStep, Hierarchy, Each, Begins, begins_more, Loaded, IsNamed, IsMade, Uses, Shared, WorkerState, CrewState, Ends, Report, lookups_at, uses_at, WorkerLog, AreEndsOf, at_start, new_worker, IsMadeOf, Step, IsAmong, steps_of, Grows, Brings, IsShownIn, AreSteps, at_some, some_at}
-use Rattle.shr_charge.specs.Offlining.{IsHeard}
-use Rattle.shr_charge.specs.Uses.{IsThere}
+use Rattle.shr_assemble.proofs.Common.{◌≡◌, ℕ, ◌≤◌, List, ◌∷◌, ◌++◌, sym, refl, ap, subst, ◌∙◌, arith, slice_get, Some, All, slice_get_within, PoolEntry, TreeEntry, UseStep, Hierarchy, Each, Begins, begins_more, Loaded, IsNamed, IsTreeEntryMade, Uses, Shared, WorkerState, CrewState, Ends, Report, lookups_at, uses_at, WorkerLog, AreEndsOf, firsts_at_start, new_worker, IsMadeOf, Step, IsAmong, steps_of, Grows, BringsWork, IsShownIn, AreRunSteps, at_some, some_at, IsHeard}
+use Rattle.shr_charge.specs.Uses.{StandsInHistory}
 use Rattle.shr_walk.proofs.Shares.{same_hierarchy}
 use Rattle.shr_report.specs.Parts as report
-use Rattle.shr_report.specs.Parts.{hierarchy_of}
+use Rattle.shr_report.specs.Parts.{script_hierarchy}
 use Rattle.shr_assemble.proofs.Crews.{there_at}
 use Rattle.shr_assemble.proofs.EndsGathered.{last, cleared_are, sets_are}
 use Rattle.shr_assemble.proofs.EndsHistories.{history_is}
@@ -30,7 +29,7 @@ module _ (x : Shared) (did : DidEach x) (logs : List WorkerLog) (e : Ends) (ends
     pub state : CrewState
     pub at : slice_get ends.lasts worker ≡ Some state
     pub grows : Grows y.after state.seats
-    pub begins : {A : Type 0} (g : WorkerState → List A) (h : Step → List A) → ((z : Step) → Brings z.before z.after z.work → g z.after ≡ g z.before ++ h z) → Begins (g y.after) (g state.seats)
+    pub begins : {A : Type 0} (g : WorkerState → List A) (h : Step → List A) → ((z : Step) → BringsWork z.before z.after z.work → g z.after ≡ g z.before ++ h z) → Begins (g y.after) (g state.seats)
 
   pub has_last : (worker k : ℕ) (y : Step) → slice_get (steps_of team worker) k ≡ Some y → HasLast worker k y
   has_last worker k y at =
@@ -54,7 +53,7 @@ module _ (x : Shared) (did : DidEach x) (logs : List WorkerLog) (e : Ends) (ends
 
   pub shown_after : (worker k : ℕ) (y : Step) → slice_get (steps_of team worker) k ≡ Some y → IsShownIn x.script r team y.after
   shown_after worker k y at =
-      let t = has_last worker k y at in let start = at_start ends.opened ends.standing in let all = last x did logs e ends r made in let left = ends.core in
+      let t = has_last worker k y at in let start = firsts_at_start ends.opened ends.standing in let all = last x did logs e ends r made in let left = ends.core in
       let lasts = ends.lasts in
       record {
         made = each_last _ (λ (w : CrewState). w.seats.core.traces.made) lasts all.core.traces.made start.core.traces.made (joined.joined_made start lasts) (shown.made_shown x ends.shared r all.core e.core left made.places made.pool) worker t.state t.at _
@@ -74,9 +73,9 @@ module _ (x : Shared) (did : DidEach x) (logs : List WorkerLog) (e : Ends) (ends
             (subst (IsAmong t.state.seats.core.turns.known) (sym (joined.joined_heard start lasts))
             (among_right start.core.turns.heard _ t.state.seats.core.turns.known (among_flat (λ (w : CrewState). w.seats.core.turns.known ∷ w.seats.core.turns.heard) lasts t.state t.state.seats.core.turns.known (worker, some_at lasts worker t.state t.at) (0, refl)))));
         words = all_from_each _ y.after.tree.loaded (each_last _ (λ (w : CrewState). w.seats.tree.loaded) lasts all.tree.loaded start.tree.loaded (joined.joined_words start lasts)
-            (subst (λ (es : List TreeEntry). Each (IsNamed (hierarchy_of x.script) es) all.tree.loaded) (sym made.tree) (each_from_all _ all.tree.loaded (subst (λ (h : Hierarchy). All (IsNamed h e.charge.tree.items) all.tree.loaded) (same_hierarchy x ends.shared ∙ hierarchy_is x ends.shared) ends.charge.tree.seen.loaded))) worker t.state t.at _ t.grows.words);
+            (subst (λ (es : List TreeEntry). Each (IsNamed (script_hierarchy x.script) es) all.tree.loaded) (sym made.tree) (each_from_all _ all.tree.loaded (subst (λ (h : Hierarchy). All (IsNamed h e.charge.tree.items) all.tree.loaded) (same_hierarchy x ends.shared ∙ hierarchy_is x ends.shared) ends.charge.tree.seen.loaded))) worker t.state t.at _ t.grows.words);
         entries = all_from_each _ y.after.tree.made (each_last _ (λ (w : CrewState). w.seats.tree.made) lasts all.tree.made start.tree.made (joined.joined_entries start lasts)
-            (subst (λ (es : List TreeEntry). Each (IsMade es) all.tree.made) (sym made.tree) (each_from_all _ all.tree.made ends.charge.tree.seen.made)) worker t.state t.at _
+            (subst (λ (es : List TreeEntry). Each (IsTreeEntryMade es) all.tree.made) (sym made.tree) (each_from_all _ all.tree.made ends.charge.tree.seen.made)) worker t.state t.at _
             (t.begins (λ (w : WorkerState). w.tree.made) (λ (z : Step). z.work.tree) (λ z d. d.tree)));
         tree = begins_more y.after.tree.known t.state.seats.tree.known r.tree.items t.grows.tree
             (subst (λ (es : List TreeEntry). Begins t.state.seats.tree.known es) (sym made.tree)
@@ -84,10 +83,10 @@ module _ (x : Shared) (did : DidEach x) (logs : List WorkerLog) (e : Ends) (ends
             (subst (IsAmong t.state.seats.tree.known) (sym (joined.joined_tree_heard start lasts))
             (among_right start.tree.heard _ t.state.seats.tree.known (among_flat (λ (w : CrewState). w.seats.tree.known ∷ w.seats.tree.heard) lasts t.state t.state.seats.tree.known (worker, some_at lasts worker t.state t.at) (0, refl))))));
         ops = all_from_each (λ (o : UseStep). slice_get (uses_at r o.group) o.operation ≡ Some o) y.after.uses.ops (each_last (λ (o : UseStep). slice_get (uses_at r o.group) o.operation ≡ Some o) (λ (w : CrewState). w.seats.uses.ops) lasts all.uses.ops start.uses.ops (joined.joined_ops start lasts)
-            (λ j o h. ap (λ l. slice_get l o.operation) (history_is x did logs e ends r made o.group) ∙ each_from_all (IsThere ends.charge.history) all.uses.ops ends.charge.operations.there j o h) worker t.state t.at _
+            (λ j o h. ap (λ l. slice_get l o.operation) (history_is x did logs e ends r made o.group) ∙ each_from_all (StandsInHistory ends.charge.history) all.uses.ops ends.charge.operations.there j o h) worker t.state t.at _
             (t.begins (λ (w : WorkerState). w.uses.ops) (λ (z : Step). z.work.ops) (λ z d. ap (λ (u : Uses). u.ops) d.uses)));
       }
 
   -- the steps of the run
-  pub are_steps : AreSteps x.script r team
+  pub are_steps : AreRunSteps x.script r team
   are_steps = steps x did logs e ends r made shown_after

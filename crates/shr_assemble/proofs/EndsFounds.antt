@@ -1,5 +1,5 @@
 -- A found cache's registration ends only after its lookup, of a run whose workers are done.
-use Rattle.shr_assemble.proofs.Common.{◌≡◌, ℕ, ◌+◌, ◌<◌, ◌≤◌, Bool, true, false, cond, List, [], ◌∷◌, length, drop, refl, sym, ap, subst, ◌∙◌, arith, ◌==◌, slice_get, Some, option_and_then, dite, dec_lt, PoolEntry, Found, decl_named, Registered, Unregistered, Idle, last_number, number_after, Each, lookups_of, Dated, past_none, Shared, CrewState, Ends, Report, lookups_at, WorkerLog, AreEndsOf, at_start, IsFoundBy, IsMadeOf, Step, steps_of}
+use Rattle.shr_assemble.proofs.Common.{◌≡◌, ℕ, ◌+◌, ◌<◌, ◌≤◌, Bool, true, false, cond, List, [], ◌∷◌, length, drop, refl, sym, ap, subst, ◌∙◌, arith, ◌==◌, slice_get, Some, option_and_then, dite, dec_lt, PoolEntry, Found, decl_named, Registered, Unregistered, Idle, last_number, number_after, Each, lookups_of, Dated, past_none, Shared, CrewState, Ends, Report, lookups_at, WorkerLog, AreEndsOf, firsts_at_start, IsFoundBy, IsMadeOf, Step, steps_of}
 use Rattle.shr_model.specs.Pool.{id_of, phase_of, is_before, end_of, number_from}
 use Rattle.shr_assemble.proofs.EndsAfter.{has_last, are_steps}
 use Rattle.shr_assemble.proofs.EndsGathered.{last}
@@ -39,7 +39,7 @@ module _ (x : Shared) (did : DidEach x) (logs : List WorkerLog) (e : Ends) (ends
       → is_before f.number (end_of f.id (drop f.entry r.pool.items)) ≡ true
   founds_end worker k decl y f at named found =
       let t = has_last x did logs e ends r made worker k y at in
-      let start = at_start ends.opened ends.standing in
+      let start = firsts_at_start ends.opened ends.standing in
       let h : IsFoundBy y decl f = ((are_steps x did logs e ends r made).each worker k y at).did.lookups.found decl f named found in
       each_among EndsLater y.after.core.turns.dated (record { id = f.id; number = f.number; entries = f.entry })
       (each_last EndsLater (λ (w : CrewState). w.seats.core.turns.dated) ends.lasts (last x did logs e ends r made).core.turns.dated start.core.turns.dated (joined_dated start ends.lasts) dated_shown worker t.state t.at y.after.core.turns.dated t.grows.dated) h.dated

@@ -1,5 +1,5 @@
 -- What the first seats have in the end is what the steps of all workers have, and the opening.
-use Rattle.shr_assemble.proofs.Common.{◌≡◌, ℕ, List, ◌++◌, sym, refl, ap, subst, ◌∙◌, arith, flat_map, IsPermutation, None, slice_get_within, PlaceAmount, UseStep, Made, Tried, Turn, Uses, Moves, takes_of, gives_of, takes_both, gives_both, Shared, WorkerState, CrewState, Ends, Report, WorkerLog, Firsts, with_workers, at_start, AreEndsOf, new_worker, IsMadeOf, Step, all_made, all_attempts, all_cleared, all_sets, all_turns, all_entries, all_ops, all_takes, all_gives, AreJournals}
+use Rattle.shr_assemble.proofs.Common.{◌≡◌, ℕ, List, ◌++◌, sym, refl, ap, subst, ◌∙◌, arith, flat_map, IsPermutation, None, slice_get_within, PlaceAmount, UseStep, Made, Tried, Turn, Uses, Moves, takes_of, gives_of, takes_both, gives_both, Shared, WorkerState, CrewState, Ends, Report, WorkerLog, Firsts, with_workers, firsts_at_start, AreEndsOf, new_worker, IsMadeOf, Step, all_made, all_attempts, all_cleared, all_sets, all_turns, all_entries, all_ops, all_takes, all_gives, AreRunJournals}
 use Rattle.shr_charge.specs.Views as charge
 use Rattle.shr_assemble.proofs.Crews.{all_of, flat_pairs, there_at}
 use Rattle.shr_assemble.proofs.EndsJournals as ends_journals
@@ -10,10 +10,10 @@ use Rattle.shr_assemble.proofs.Rows.{DidEach, along}
 
 module _ (x : Shared) (did : DidEach x) (logs : List WorkerLog) (e : Ends) (ends : AreEndsOf x logs e) (r : Report) (made : IsMadeOf x.script logs e r) where
   abbrev start : Firsts
-  start = at_start ends.opened ends.standing
+  start = firsts_at_start ends.opened ends.standing
 
   abbrev pub last : Firsts
-  last = with_workers (at_start ends.opened ends.standing) ends.lasts
+  last = with_workers (firsts_at_start ends.opened ends.standing) ends.lasts
 
   abbrev mine : List (List Step)
   mine = workers x did logs e ends r made
@@ -47,7 +47,7 @@ module _ (x : Shared) (did : DidEach x) (logs : List WorkerLog) (e : Ends) (ends
 
   pub entries_are : last.tree.made ≡ all_entries (workers x did logs e ends r made)
   entries_are = joined_entries start ends.lasts
-      ∙ all_of {A = charge.Made} (λ (w : WorkerState). w.tree.made) (λ (y : Step). y.work.tree) (λ y d. d.tree) x ends.opened ends.popped logs ends.lasts mine (λ i. refl) (is_crew x did logs e ends r made)
+      ∙ all_of {A = charge.TreeMade} (λ (w : WorkerState). w.tree.made) (λ (y : Step). y.work.tree) (λ y d. d.tree) x ends.opened ends.popped logs ends.lasts mine (λ i. refl) (is_crew x did logs e ends r made)
 
   pub takes_are : takes_of last.moves ≡ all_takes (workers x did logs e ends r made)
   takes_are = joined_takes start ends.lasts
@@ -61,7 +61,7 @@ module _ (x : Shared) (did : DidEach x) (logs : List WorkerLog) (e : Ends) (ends
   half_is = joined_half start ends.lasts ∙ ap (λ h. h.half) ends.idle.rooms
 
   -- the journals of the lists are those of a run
-  pub journals : AreJournals x.script r (workers x did logs e ends r made)
+  pub journals : AreRunJournals x.script r (workers x did logs e ends r made)
   journals = ends_journals.journals x ends.shared r last.core e.core ends.core made.places half_is (workers x did logs e ends r made) made_are
 
   -- the operations that were noted are those of the steps

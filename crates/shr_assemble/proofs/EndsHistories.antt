@@ -1,11 +1,9 @@
 -- The operations of each group, and the journal of the tree, of a run whose workers are done.
-use Rattle.shr_assemble.proofs.Common.{◌≡◌, ℕ, ◌+◌, ◌≤◌, ⊎_elim, Bool, true, false, ◌&&◌, cond, List, [], ◌∷◌, length, sym, refl, ap, subst, ◌∙◌, arith, eqb, slice_get, Some, filter, IsPermutation, nat_lt, eqb-true, sum_by-IsPermutation, Contains-permutation, TreeEntry, UseStep, IsChargeHistory, Hierarchy, IsTreeJournal, hierarchy_of, Has, Contains_from_Has, filter_has, total, Shared, Ends, Report, uses_at, WorkerLog, AreEndsOf, IsMadeOf, StandsBefore, count_total, some_at, sum_total}
-use Rattle.std.proofs.lemmas.Bool.{le-ltb}
+use Rattle.shr_assemble.proofs.Common.{◌≡◌, ℕ, ◌+◌, ◌≤◌, ⊎_elim, Bool, true, false, ◌&&◌, cond, List, [], ◌∷◌, length, sym, refl, ap, subst, ◌∙◌, arith, eqb, slice_get, Some, filter, IsPermutation, nat_lt, eqb-true, sum_by-IsPermutation, Contains-permutation, TreeEntry, UseStep, IsChargeHistory, Hierarchy, IsTreeJournal, hierarchy_of, Has, Contains_from_Has, filter_has, total, Shared, Ends, Report, uses_at, WorkerLog, AreEndsOf, IsMadeOf, StandsBefore, count_total, some_at, sum_total, le-ltb, AreUsesAndTree}
 use Rattle.shr_charge.specs.Offlining as offlining
-use Rattle.shr_charge.specs.Uses.{times_at, IsThere}
+use Rattle.shr_charge.specs.Uses.{times_at, StandsInHistory}
 use Rattle.shr_charge.specs.Views as charge
 use Rattle.shr_report.specs.Parts as report
-use Rattle.shr_assemble.specs.Runs.{AreUsesAndTree}
 use Rattle.shr_assemble.proofs.EndsGathered.{last, ops_are, entries_are, same}
 use Rattle.shr_assemble.proofs.EndsSteps.{workers}
 use Rattle.shr_assemble.proofs.EndsUses.{AreNumbered, numbers, sorted_history}
@@ -53,18 +51,18 @@ module _ (x : Shared) (did : DidEach x) (logs : List WorkerLog) (e : Ends) (ends
   history_is g = sorted_history (ends.charge.history g) (uses_at r g) (sorted g) (numbered g) (λ i o at.
       let of = of_group g o (among_has (uses_at r g) o (i, some_at (uses_at r g) i o at)) in
       let among = contains_among (last x did logs e ends r made).uses.ops o (Contains-permutation r.uses.items (last x did logs e ends r made).uses.ops o ours (Contains_from_Has r.uses.items o of.0)) in
-      let there = all_among (IsThere ends.charge.history) (last x did logs e ends r made).uses.ops o ends.charge.operations.there among in
+      let there = all_among (StandsInHistory ends.charge.history) (last x did logs e ends r made).uses.ops o ends.charge.operations.there among in
       subst (λ (h : ℕ). slice_get (ends.charge.history h) o.operation ≡ Some o) of.1 there)
 
   -- the groups of the charge table are those of the script
-  charged_hierarchy : hierarchy_of x.charge.shape ≡ report.hierarchy_of x.script
+  charged_hierarchy : hierarchy_of x.charge.shape ≡ report.script_hierarchy x.script
   charged_hierarchy = λ i. record { parents = (ends.shared.charged ∙ ap (λ t. t.parents) ends.shared.tree) i; later = (ends.shared.charged_later ∙ ap (λ t. t.later) ends.shared.tree) i }
 
   pub uses_and_tree : AreUsesAndTree x.script r (workers x did logs e ends r made)
   uses_and_tree = record {
     hierarchy = is_hierarchy x ends.shared;
-    tree = subst (λ (es : List TreeEntry). IsTreeJournal (report.hierarchy_of x.script) es) (sym made.tree) (subst (λ (h : Hierarchy). IsTreeJournal h e.charge.tree.items) charged_hierarchy ends.charge.tree.legal);
-    entered = λ n. ap (λ (l : List charge.Made). offlining.times n l) (sym (entries_are x did logs e ends r made)) ∙ (ends.charge.tree.once n ∙ ap (λ (l : List TreeEntry). cond (nat_lt n (length l)) 1 0) (sym made.tree));
+    tree = subst (λ (es : List TreeEntry). IsTreeJournal (report.script_hierarchy x.script) es) (sym made.tree) (subst (λ (h : Hierarchy). IsTreeJournal h e.charge.tree.items) charged_hierarchy ends.charge.tree.legal);
+    entered = λ n. ap (λ (l : List charge.TreeMade). offlining.times_noted n l) (sym (entries_are x did logs e ends r made)) ∙ (ends.charge.tree.once n ∙ ap (λ (l : List TreeEntry). cond (nat_lt n (length l)) 1 0) (sym made.tree));
     histories = λ g. subst (IsChargeHistory g) (sym (history_is g)) (ends.charge.operations.legal g);
     same = same x did logs e ends r made;
   }

@@ -1,5 +1,5 @@
 -- The lists of an id that is idle at the end are empty, of a run whose workers are done.
-use Rattle.shr_assemble.proofs.Common.{◌≡◌, ℕ, ◌≤◌, ⊎_elim, List, [], ◌∷◌, length, sym, ap, ◌∙◌, arith, ◌%◌, Entry, PoolEntry, Place, lists_moved_at, items_from, place_number, phase_of, items_none, id_of, place_back, Shared, Ends, Report, parents_of, journals_of, items_left, IsThere, WorkerLog, AreEndsOf, IsMadeOf}
+use Rattle.shr_assemble.proofs.Common.{◌≡◌, ℕ, ◌≤◌, ⊎_elim, List, [], ◌∷◌, length, sym, ap, ◌∙◌, arith, ◌%◌, Entry, PoolEntry, Place, lists_moved_at, items_from, place_number, phase_of, items_none, place_id, place_back, Shared, Ends, Report, parents_of, journals_of, items_left, IsThere, WorkerLog, AreEndsOf, IsMadeOf}
 use Rattle.shr_assemble.proofs.EndsGathered.{last}
 use Rattle.shr_assemble.proofs.EndsJournals.{there, items_same}
 use Rattle.shr_assemble.proofs.ScriptSizes.{sized_of}
@@ -12,7 +12,7 @@ module _ (x : Shared) (did : DidEach x) (logs : List WorkerLog) (e : Ends) (ends
   of_there place is idle =
       let sized = sized_of x ends.shared in let node = is.node in let group = is.group in let id = is.id in let nodes = sized.nodes in let groups = sized.groups in let ids = ends.shared.ids in
       let back = place_back place (omega (arith, node, nodes)) (omega (arith, group, groups)) in
-      let same_id : id_of (place_number place) ≡ place.id = ap (λ p. p.id) back in
+      let same_id : place_id (place_number place) ≡ place.id = ap (λ p. p.id) back in
       let rests = ends.core.resting (place_number place) (omega (arith, id, node, group, nodes, groups, ids))
       (ap (λ (i : ℕ). phase_of i e.core.pool.items % 3) same_id ∙ (ap (λ (es : List PoolEntry). phase_of place.id es % 3) (sym made.pool) ∙ idle)) in
       ap (items_left x.script r) (sym back) ∙ (sym (items_same x ends.shared r (last x did logs e ends r made).core e.core ends.core made.places (place_number place)) ∙ rests)

@@ -1,15 +1,10 @@
 -- The journals of the lists, of a report whose places are those that a finished core leaves.
-use Rattle.shr_assemble.proofs.Common.{◌≡◌, ℕ, zero, suc, ◌+◌, ◌<◌, ◌≤◌, ◌⊎◌, inl, inr, ⊎_elim, true, false, cond, List, [], ◌∷◌, ◌++◌, map, length, take, get_or, sym, refl, ap, subst, ◌∙◌, arith, add-one, slice_get, Some, None, Contains, nat_lt, AllByRecursion, append-nil, take_all, map-append, Place, PlaceEnd, Entry, Object, IsTree, parent_of, is_child, is_closed, items_from, place_number, at_group, moved_in, before_closed, lists_moved_at, items_at, IsLegal, child_takes, Has, content_of, within_of_valid, total, View, EndValue, end_value, end_of, place_at, group_of, beside, IsLeft, Made, hit, items_now, back, place_back, Shared, IsShared, Report, parents_of, journals_of, items_left, IsThere, Step, IsAmong, IsPrinted, AreJournals, all_made, some_at}
+use Rattle.shr_assemble.proofs.Common.{◌≡◌, ℕ, zero, suc, ◌+◌, ◌<◌, ◌≤◌, ◌⊎◌, inl, inr, ⊎_elim, true, false, cond, List, [], ◌∷◌, ◌++◌, map, length, take, get_or, sym, refl, ap, subst, ◌∙◌, arith, add-one, slice_get, Some, None, Contains, nat_lt, AllByRecursion, append-nil, take_all, map-append, Place, PlaceEnd, Entry, Object, IsTree, parent_of, is_child, is_closed, items_from, place_number, at_group, moved_in, before_closed, lists_moved_at, items_at, IsLegal, child_takes, Has, content_of, within_of_valid, total, View, EndValue, end_value, place_ends, place_at, group_of, beside, IsLeft, Made, hit, items_now, back, place_back, Shared, IsShared, Report, parents_of, journals_of, items_left, IsThere, Step, IsAmong, IsPrinted, AreRunJournals, all_made, some_at, IsPairedAt, items_stay, legal_stays, legal_none, places_in, node_of, above, family_of, slice_map}
 use Rattle.shr_base.specs.declared.ends.Closed.{Closed}
-use Rattle.shr_model.specs.Families.{IsPairedAt}
-use Rattle.shr_model.proofs.FamilyLaws.{items_stay, legal_stays, legal_none}
 use Rattle.shr_core.specs.Ending.{ends_below}
-use Rattle.shr_core.specs.Layout.{places_in, node_of, above}
-use Rattle.shr_core.specs.Rule.{family_of}
-use Rattle.shr_report.specs.WellFormed.{AreRising}
+use Rattle.shr_report.specs.WellFormed.{AreNumbersRising}
 use Rattle.shr_assemble.proofs.ScriptSizes.{sized_of}
 use Rattle.shr_assemble.proofs.EndsPlaces.{below_or, among_below, printed_at, printed_none}
-use Rattle.shr_units.proofs.Printing.{slice_map}
 
 -- rising numbers from this one on
 abbrev RisingFrom : ℕ → List ℕ → Type 0
@@ -42,14 +37,14 @@ number_of v = place_number v.place
 abbrev Rises : ℕ → List ℕ → Type 0
 Rises n ns = RisingFrom 0 ns × AllByRecursion (λ m. m < n) ns
 
-rises_one : (k : ℕ) (es : List Entry) (os : List Object) (ns : List ℕ) → Rises k ns → Rises (suc k) (ns ++ map number_of (end_of k es os))
+rises_one : (k : ℕ) (es : List Entry) (os : List Object) (ns : List ℕ) → Rises k ns → Rises (suc k) (ns ++ map number_of (place_ends k es os))
 rises_one k [] os ns h = subst (Rises (suc k)) (sym (append-nil ns)) (h.0, below_later k ns h.1)
 rises_one k (e ∷ es) os ns h = subst (λ (m : ℕ). Rises (suc k) (ns ++ m ∷ [])) (sym (back k)) (rising_snoc 0 k ns h.0 h.1 (omega arith), below_snoc k ns h.1)
 
 rises_below : (now : ℕ → List Entry) (items : ℕ → List Object) (n : ℕ) → Rises n (map number_of (ends_below n now items))
 unfolding ends_below
 rises_below now items zero = (tt, tt)
-rises_below now items (suc n) = subst (Rises (suc n)) (sym (map-append number_of (ends_below n now items) (end_of n (now n) (items n)))) (rises_one n (now n) (items n) (map number_of (ends_below n now items)) (rises_below now items n))
+rises_below now items (suc n) = subst (Rises (suc n)) (sym (map-append number_of (ends_below n now items) (place_ends n (now n) (items n)))) (rises_one n (now n) (items n) (map number_of (ends_below n now items)) (rises_below now items n))
 
 map_numbers : (es : List PlaceEnd) → map number_of (map end_value es) ≡ map (λ (end : PlaceEnd). place_number end.place) es
 map_numbers [] = refl
@@ -169,13 +164,13 @@ module _ (x : Shared) (shared : IsShared x) (r : Report) (v : View) (closed : Cl
         items = b.items_are ∙ (items_same b.k ∙ ap (items_left x.script r) (sym b.place));
       }
 
-  pub order : AreRising (map (λ (end : PlaceEnd). place_number end.place) r.places.items)
+  pub order : AreNumbersRising (map (λ (end : PlaceEnd). place_number end.place) r.places.items)
   order k d lt = let numbers : map (λ (end : PlaceEnd). place_number end.place) r.places.items ≡ map number_of (ends_below (places_in x.core.setting.shape.ids) left.now (items_now left.now left.after)) = sym (map_numbers r.places.items) ∙ ap (map number_of) are in
       subst (λ (ns : List ℕ). get_or ns k d < get_or ns (k + 1) d) (sym numbers)
       (rising_adjacent 0 _ (rises_below left.now (items_now left.now left.after) (places_in x.core.setting.shape.ids)).0 k d (subst (λ (ns : List ℕ). k + 1 < length ns) numbers lt))
 
   -- the journals are those of a run whose steps made what the view made
-  pub journals : v.holding.half ≡ None → (workers : List (List Step)) → v.traces.made ≡ all_made workers → AreJournals x.script r workers
+  pub journals : v.holding.half ≡ None → (workers : List (List Step)) → v.traces.made ≡ all_made workers → AreRunJournals x.script r workers
   journals rests workers made = record {
     parents = tree_of x shared;
     there = there;

@@ -1,5 +1,5 @@
 -- The report of a run whose workers are done is lawful for its script, and well formed.
-use Rattle.shr_assemble.proofs.Common.{◌≡◌, ◌+◌, List, Script, Shared, Ends, Report, IsFaithful, IsLawful, AreFreePutsAdded, DoPutsAddUp, IsWellFormed, within_of_valid, content_of, WorkerLog, Noted, IsMadeOf, part_of, ArePrinted, AreEnds, IsPutTogether, IsRun, sym, subst, map}
+use Rattle.shr_assemble.proofs.Common.{◌≡◌, ◌+◌, List, Script, Shared, Ends, Report, IsFaithful, IsLawful, AreFreePutsAdded, DoPutsAddUp, IsWellFormed, within_of_valid, content_of, WorkerLog, Noted, IsMadeOf, printed_part, ArePrintedParts, AreEnds, IsPutTogether, IsRun, sym, subst, map}
 use Rattle.shr_assemble.proofs.DidEach.{did_each}
 use Rattle.shr_assemble.proofs.ScriptSizes.{sized_of}
 use Rattle.shr_assemble.proofs.EndsReport.{laid_out}
@@ -45,6 +45,6 @@ module _ (logs : List WorkerLog) (e : Ends) (are : AreEnds logs e) (r : Report) 
   pub add_up : DoPutsAddUp e.script r
   add_up = subst (λ (s : Script). DoPutsAddUp s r) (sym are.ends.script) (puts_add_up x.script r (workers x each logs e are.ends r made_of_shared) run)
 
-  pub is_well_formed : (n : Noted) → ArePrinted (map part_of logs) n.parts.items → IsPutTogether e n r → IsWellFormed r
+  pub is_well_formed : (n : Noted) → ArePrintedParts (map printed_part logs) n.parts.items → IsPutTogether e n r → IsWellFormed r
   is_well_formed n printed together = well_formed x.script r (workers x each logs e are.ends r made_of_shared) run (within_of_valid (content_of x.script) are.ends.shared.script)
       (laid_out x logs e are.ends n r printed together made_of_shared)

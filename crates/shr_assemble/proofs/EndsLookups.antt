@@ -1,6 +1,5 @@
 -- The lookups that are printed.
-use Rattle.shr_assemble.proofs.Common.{◌≡◌, ℕ, zero, suc, ◌<◌, [], ◌∷◌, ◌++◌, length, length-append, get_or, sym, refl, ap, ◌∙◌, arith, get_or_append_left, dite, ℕ_discrete, lookups_of}
-use Rattle.std.proofs.Math.Seq.{get_or-append_seam}
+use Rattle.shr_assemble.proofs.Common.{◌≡◌, ℕ, zero, suc, ◌<◌, [], ◌∷◌, ◌++◌, length, length-append, get_or, sym, refl, ap, ◌∙◌, arith, get_or_append_left, dite, ℕ_discrete, lookups_of, get_or-append_seam}
 use Rattle.shr_core.specs.Ending.{lookups_below}
 
 pub lookups_long : (n : ℕ) (look : ℕ → ℕ) → length (lookups_below n look) ≡ n

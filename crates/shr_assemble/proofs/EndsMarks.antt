@@ -2,7 +2,7 @@
 use Rattle.shr_assemble.proofs.Common.{◌≡◌, ℕ, zero, suc, ◌+◌, ◌*◌, ◌/◌, ◌<◌, Bool, List, [], ◌∷◌, length, sym, ap, subst, ◌∙◌, arith, ne_eqb, if◌then◌else◌, ◌==◌, bit_at, AllByRecursion, eqb-true, MapEnd, Place, place_number, each_append, groups_in, times, units_in, map_number, map_of, Shared, Ends, Report, parents_of, IsThere, WorkerLog, AreEndsOf, IsMadeOf, IsMarked}
 use Rattle.shr_core.specs.Ending.{units_below, groups_below, nodes_below}
 use Rattle.shr_core.specs.Layout as layout
-use Rattle.shr_report.specs.BitsTold.{place_of}
+use Rattle.shr_report.specs.BitsTold.{bit_place}
 use Rattle.shr_assemble.proofs.EndsGathered.{last, sets_are}
 use Rattle.shr_assemble.proofs.EndsJournals.{same_parents}
 use Rattle.shr_assemble.proofs.EndsSteps.{workers}
@@ -44,7 +44,7 @@ module _ (x : Shared) (did : DidEach x) (logs : List WorkerLog) (e : Ends) (ends
       let same = ap (λ (l : List ℕ). length l) (same_parents x ends.shared r (last x did logs e ends r made).core e.core ends.core made.places) in
       let in_node : node < x.script.nodes = omega (arith, near, same_nodes) in
       let in_group : group < length (parents_of x.script) = omega (arith, low, same) in
-      let place : Place = place_of (word ends.core.bits node group unit) (64 * unit + bit) in
+      let place : Place = bit_place (word ends.core.bits node group unit) (64 * unit + bit) in
       let m : ℕ = map_number node group unit in
       let one : bit_at (ends.core.bits m) bit ≡ 1 = eqb-true (bit_at (ends.core.bits m) bit) 1 set in
       let is_unit : m / 1024 ≡ unit = omega (arith, in_node, in_group, nodes, groups) in
@@ -52,8 +52,8 @@ module _ (x : Shared) (did : DidEach x) (logs : List WorkerLog) (e : Ends) (ends
       let in_ids : 64 * unit + bit < x.core.setting.shape.ids = omega (arith, id, is_unit) in
       let is : IsThere x.script place = record { id = omega (arith, in_ids, ids); node = in_node; group = in_group } in
       let map_is : map_of (place_number place) ≡ m = omega (arith, few, in_node, in_group, nodes, groups) in
-      let bit_is : layout.bit_of (place_number place) ≡ bit = omega (arith, few, in_node, in_group, nodes, groups) in
-      let table : bit_at (ends.core.bits (map_of (place_number place))) (layout.bit_of (place_number place)) ≡ 1 = ap (λ (n : ℕ). bit_at (ends.core.bits n) (layout.bit_of (place_number place))) map_is ∙ (ap (bit_at (ends.core.bits m)) bit_is ∙ one) in
+      let bit_is : layout.place_bit (place_number place) ≡ bit = omega (arith, few, in_node, in_group, nodes, groups) in
+      let table : bit_at (ends.core.bits (map_of (place_number place))) (layout.place_bit (place_number place)) ≡ 1 = ap (λ (n : ℕ). bit_at (ends.core.bits n) (layout.place_bit (place_number place))) map_is ∙ (ap (bit_at (ends.core.bits m)) bit_is ∙ one) in
       let set_by = ends.core.raised (place_number place) (omega (arith, in_ids, in_node, in_group, nodes, groups)) table in
       (is, subst (λ (l : List ℕ). 0 < times (place_number place) l) (sets_are x did logs e ends r made) set_by)
 

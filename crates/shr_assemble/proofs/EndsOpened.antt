@@ -1,5 +1,5 @@
 -- How the journal of registrations begins, and who made its later entries, of a run whose workers are done.
-use Rattle.shr_assemble.proofs.Common.{◌≡◌, ℕ, ◌+◌, ◌<◌, ◌≤◌, ⊎_elim, Bool, cond, List, length, length-append, sym, ap, subst, ◌∙◌, arith, slice_get, Some, nat_lt, nat_le, ◌&&◌, cases_lt, le-leb, slice_get_within, some, get_elem?, PoolEntry, Registered, IsPoolJournal, total, Begins, total-append, total_zero, only_no, Turn, hit_turn, IsTurn, Shared, Ends, Report, decls_on, WorkerLog, AreEndsOf, at_start, new_worker, IsMadeOf, Step, IsAmong, AreChained, steps_of, all_turns, at_some, some_at, not_le}
+use Rattle.shr_assemble.proofs.Common.{◌≡◌, ℕ, ◌+◌, ◌<◌, ◌≤◌, ⊎_elim, Bool, cond, List, length, length-append, sym, ap, subst, ◌∙◌, arith, slice_get, Some, nat_lt, nat_le, ◌&&◌, cases_lt, le-leb, slice_get_within, some, get_elem?, PoolEntry, Registered, IsPoolJournal, total, Begins, total-append, total_zero, only_no, Turn, hit_turn, IsTurn, Shared, Ends, Report, decls_on, WorkerLog, AreEndsOf, firsts_at_start, new_worker, IsMadeOf, Step, IsAmong, AreStepsChained, steps_of, all_turns, at_some, some_at, not_le}
 use Rattle.shr_assemble.proofs.Chains.{first_grows}
 use Rattle.shr_assemble.proofs.Crews.{there_at}
 use Rattle.shr_assemble.proofs.EndsAfter.{are_steps}
@@ -28,7 +28,7 @@ module _ (x : Shared) (did : DidEach x) (logs : List WorkerLog) (e : Ends) (ends
   opening : AreMade (decls_on x.script) ends.opened
   opening = subst (λ (l : List ℕ). AreMade l ends.opened) (sym (decls_are x.script.caches.items 0)) (made_opened x.script.caches.items (length x.script.caches.items) ends.opened ends.entered)
 
-  chained : (worker k : ℕ) (y : Step) → slice_get (steps_of team worker) k ≡ Some y → AreChained (new_worker ends.opened worker).seats (steps_of team worker)
+  chained : (worker k : ℕ) (y : Step) → slice_get (steps_of team worker) k ≡ Some y → AreStepsChained (new_worker ends.opened worker).seats (steps_of team worker)
   chained worker k y at =
       let crew = is_crew x did logs e ends r made in let workers_are = crew.workers_are in let lasts_are = crew.lasts_are in
       let mine = mine_at team worker k y at in
@@ -47,7 +47,7 @@ module _ (x : Shared) (did : DidEach x) (logs : List WorkerLog) (e : Ends) (ends
       only_no n t.number (λ same. omega (arith, late, long, parts, lt, same)))
 
   all_known : known ≤ length e.core.pool.items
-  all_known = let b = subst (λ (l : List PoolEntry). Begins l e.core.pool.items) (joined_pool (at_start ends.opened ends.standing) ends.lasts) ends.core.pool in
+  all_known = let b = subst (λ (l : List PoolEntry). Begins l e.core.pool.items) (joined_pool (firsts_at_start ends.opened ends.standing) ends.lasts) ends.core.pool in
       let long = ap (λ (l : List PoolEntry). length l) b.1 in let parts = length-append ends.opened.turns.known b.0 in omega (arith, long, parts)
 
   -- each entry was made once, at the opening or by a step

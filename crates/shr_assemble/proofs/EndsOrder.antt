@@ -1,7 +1,6 @@
 -- The one order of all that the workers did, of a run whose workers are done.
-use Rattle.shr_assemble.proofs.Common.{◌≡◌, ◌≢◌, ℕ, zero, suc, ◌+◌, ◌<◌, ◌⊎◌, inl, inr, ⊎_elim, Bool, true, false, cond, List, [], ◌∷◌, ◌++◌, length, sym, refl, ap, subst, ◌∙◌, arith, eq-eqb, ne_eqb, slice_get, Option, Some, flat_map, ◌==◌, append-nil, same_Some, none-some, slice_get_within, CacheDecl, Has, map_has, flat_map_has, Deed, by_seat, part, times, Begins, begins_all, begins_more, View, last_users, last_moment, among, Event, cleared, opener, Shared, WorkerState, CrewState, Ends, EntersIf, AreEntered, is_on, place_number, Report, journals_of, WorkerLog, AreEndsOf, at_start, new_worker, with_workers, IsMadeOf, Step, IsAmong, steps_of, AreChained, state_after, at_some}
+use Rattle.shr_assemble.proofs.Common.{◌≡◌, ◌≢◌, ℕ, zero, suc, ◌+◌, ◌<◌, ◌⊎◌, inl, inr, ⊎_elim, Bool, true, false, cond, List, [], ◌∷◌, ◌++◌, length, sym, refl, ap, subst, ◌∙◌, arith, eq-eqb, ne_eqb, slice_get, Option, Some, flat_map, ◌==◌, append-nil, same_Some, none-some, slice_get_within, CacheDecl, Has, map_has, flat_map_has, Deed, by_seat, part, times, Begins, begins_all, begins_more, View, last_users, last_moment, among, Event, cleared, opener, Shared, WorkerState, CrewState, Ends, EntersIf, AreEntered, is_on, place_number, Report, journals_of, WorkerLog, AreEndsOf, firsts_at_start, new_worker, with_workers, IsMadeOf, Step, IsAmong, steps_of, AreStepsChained, worker_state_after, at_some, AreEvents, ids_of}
 use Rattle.shr_seats.proofs.Lining.{part-append}
-use Rattle.shr_core.specs.Order.{AreEvents, ids_of}
 use Rattle.shr_core.specs.Gained.{cleared_in}
 use Rattle.shr_assemble.specs.Order.{IsInLine, IsOfWorker}
 use Rattle.shr_assemble.proofs.Crews.{there_at}
@@ -70,24 +69,24 @@ part_flat from (w ∷ ws) own (suc i) v at = let same : from + suc i ≡ from + 
     ∙ (ap (λ (n : ℕ). part n (flat_map deeds_of ws)) same ∙ part_flat (from + 1) ws (rest_by from w ws own) i v at))
 
 -- ---- a worker's deeds are its seat's, and those of the opening the first seat's
-by_chain : (j : ℕ) (t : WorkerState) (mine : List Step) → AreChained t mine → t.core.seat ≡ j → IsBy j t.core.did → IsBy j (state_after t mine).core.did
+by_chain : (j : ℕ) (t : WorkerState) (mine : List Step) → AreStepsChained t mine → t.core.seat ≡ j → IsBy j t.core.did → IsBy j (worker_state_after t mine).core.did
 by_chain j t [] c seat h = h
 by_chain j t (x ∷ mine) c seat h =
     let at : x.before.core.seat ≡ j = ap (λ (u : WorkerState). u.core.seat) c.0 ∙ seat in
     by_chain j x.after mine c.2 (c.1.core.seat ∙ at) (subst (IsBy j) (sym c.1.core.noted) (by_more j x.before.core.seat x.before.core.did c.1.core.did (subst (λ (u : WorkerState). IsBy j u.core.did) (sym c.0) h) at))
 
 -- what a worker did up to the end of a step it did in the end
-did_along : (t : WorkerState) (mine : List Step) → AreChained t mine → Begins t.core.did (state_after t mine).core.did
+did_along : (t : WorkerState) (mine : List Step) → AreStepsChained t mine → Begins t.core.did (worker_state_after t mine).core.did
 did_along t [] c = begins_all _
 did_along t (x ∷ mine) c = begins_more _ _ _ (subst (λ (u : WorkerState). Begins u.core.did x.after.core.did) c.0 (by_seat x.before.core.seat c.1.core.did, c.1.core.noted)) (did_along x.after mine c.2)
 
-after_did : (t : WorkerState) (mine : List Step) (k : ℕ) (y : Step) → AreChained t mine → slice_get mine k ≡ Some y → Begins y.after.core.did (state_after t mine).core.did
+after_did : (t : WorkerState) (mine : List Step) (k : ℕ) (y : Step) → AreStepsChained t mine → slice_get mine k ≡ Some y → Begins y.after.core.did (worker_state_after t mine).core.did
 after_did t [] k y c e = absurd (none-some y e)
-after_did t (x ∷ mine) zero y c e = subst (λ (z : Step). Begins z.after.core.did (state_after x.after mine).core.did) (same_Some x y e) (did_along x.after mine c.2)
+after_did t (x ∷ mine) zero y c e = subst (λ (z : Step). Begins z.after.core.did (worker_state_after x.after mine).core.did) (same_Some x y e) (did_along x.after mine c.2)
 after_did t (x ∷ mine) (suc k) y c e = after_did x.after mine k y c.2 e
 
 -- the seat of a worker's steps is the worker's
-first_seat : (t : WorkerState) (mine : List Step) (k : ℕ) (y : Step) → AreChained t mine → slice_get mine k ≡ Some y → y.before.core.seat ≡ t.core.seat
+first_seat : (t : WorkerState) (mine : List Step) (k : ℕ) (y : Step) → AreStepsChained t mine → slice_get mine k ≡ Some y → y.before.core.seat ≡ t.core.seat
 first_seat t [] k y c e = absurd (none-some y e)
 first_seat t (x ∷ mine) zero y c e = ap (λ (z : Step). z.before.core.seat) (sym (same_Some x y e)) ∙ ap (λ (u : WorkerState). u.core.seat) c.0
 first_seat t (x ∷ mine) (suc k) y c e = first_seat x.after mine k y c.2 e ∙ (c.1.core.seat ∙ ap (λ (u : WorkerState). u.core.seat) c.0)
@@ -106,7 +105,7 @@ clear_none j (a ∷ acts) none d (inl e) = ap (λ (y : Deed Event). cleared_in y
 clear_none j (a ∷ acts) none d (inr h) = clear_none j acts (none_left (cleared_in a) (among cleared_in acts) none).1 d h
 
 -- what was done in the end was done by the end of a step, but for what was done before
-done_by : (t : WorkerState) (mine : List Step) (d : Deed Event) → Has (state_after t mine).core.did d → Has t.core.did d ⊎ ((k : ℕ) × (y : Step) × (slice_get mine k ≡ Some y) × Has y.after.core.did d)
+done_by : (t : WorkerState) (mine : List Step) (d : Deed Event) → Has (worker_state_after t mine).core.did d → Has t.core.did d ⊎ ((k : ℕ) × (y : Step) × (slice_get mine k ≡ Some y) × Has y.after.core.did d)
 done_by t [] d h = inl h
 done_by t (x ∷ mine) d h = ⊎_elim (λ early. inr (0, x, refl, early)) (λ late. inr (suc late.0, late.1, late.2, late.3)) (done_by x.after mine d h)
 
@@ -156,10 +155,10 @@ module _ (x : Shared) (did : DidEach x) (logs : List WorkerLog) (e : Ends) (ends
       subst (λ (u : WorkerState). IsBy (1 + i) u.core.did) row.ends (by_chain (1 + i) (new_worker ends.opened i).seats mine.0 row.chained refl ([], refl))
 
   -- all that the first seat has of a worker in the end is what the worker did
-  own_part : (worker : ℕ) (w : CrewState) → slice_get ends.lasts worker ≡ Some w → part (1 + worker) (with_workers (at_start ends.opened ends.standing) ends.lasts).core.did ≡ deeds_of w
+  own_part : (worker : ℕ) (w : CrewState) → slice_get ends.lasts worker ≡ Some w → part (1 + worker) (with_workers (firsts_at_start ends.opened ends.standing) ends.lasts).core.did ≡ deeds_of w
   own_part worker w at =
       let opened = entered x.script.caches.items (length x.script.caches.items) ends.opened ends.entered in
-      ap (part (1 + worker)) (joined_list {A = Deed Event} (λ g. g.core.did) deeds_of (λ g w. refl) (at_start ends.opened ends.standing) ends.lasts)
+      ap (part (1 + worker)) (joined_list {A = Deed Event} (λ g. g.core.did) deeds_of (λ g w. refl) (firsts_at_start ends.opened ends.standing) ends.lasts)
       ∙ (part-append (1 + worker) ends.opened.did (flat_map deeds_of ends.lasts)
       ∙ (ap (λ (l : List (Deed Event)). l ++ part (1 + worker) (flat_map deeds_of ends.lasts)) (part_not 0 (1 + worker) ends.opened.did opened.did (λ q. omega (arith, q)))
       ∙ part_flat 1 ends.lasts lasts_by worker w at))
@@ -181,8 +180,8 @@ module _ (x : Shared) (did : DidEach x) (logs : List WorkerLog) (e : Ends) (ends
   clearings : (d : Deed Event) (place : ℕ) → IsAmong d ends.core.line → d.act ≡ cleared place → IsOfWorker (workers x did logs e ends r made) d
   clearings d place among is =
       let opened = entered x.script.caches.items (length x.script.caches.items) ends.opened ends.entered in
-      let in_part : Has (part d.seat (with_workers (at_start ends.opened ends.standing) ends.lasts).core.did) d = subst (λ l. Has l d) (sym (ends.core.parts d.seat)) (part_has d ends.core.line (among_has ends.core.line d among)) in
-      let in_view : Has (ends.opened.did ++ flat_map deeds_of ends.lasts) d = subst (λ l. Has l d) (joined_list {A = Deed Event} (λ g. g.core.did) deeds_of (λ g w. refl) (at_start ends.opened ends.standing) ends.lasts) (has_part d d.seat _ in_part) in
+      let in_part : Has (part d.seat (with_workers (firsts_at_start ends.opened ends.standing) ends.lasts).core.did) d = subst (λ l. Has l d) (sym (ends.core.parts d.seat)) (part_has d ends.core.line (among_has ends.core.line d among)) in
+      let in_view : Has (ends.opened.did ++ flat_map deeds_of ends.lasts) d = subst (λ l. Has l d) (joined_list {A = Deed Event} (λ g. g.core.did) deeds_of (λ g w. refl) (firsts_at_start ends.opened ends.standing) ends.lasts) (has_part d d.seat _ in_part) in
       either ends.opened.did (flat_map deeds_of ends.lasts) d in_view
       (λ first. absurd (let none : place ∷ [] ≡ [] = ap cleared_in (sym is) ∙ opened.clears d first in cc))
       (λ later. let w = flat_map_has deeds_of ends.lasts d later in of_last (has_among ends.lasts w.0 w.1).0 w.0 (at_some ends.lasts _ w.0 (has_among ends.lasts w.0 w.1).1) w.2)
@@ -227,7 +226,7 @@ module _ (x : Shared) (did : DidEach x) (logs : List WorkerLog) (e : Ends) (ends
     free = free;
     listed = λ place there. let sized = sized_of x ends.shared in let nodes = sized.nodes in let groups = sized.groups in let on = there.node in let in_group = there.group in
         subst (λ (n : ℕ). (last_moment n ends.core.line).now (place_number place) ≡ journals_of r place) ends.from_start.first
-        (ends.core.ends.journals (place_number place) ∙ sym (proper x ends.shared r (with_workers (at_start ends.opened ends.standing) ends.lasts).core e.core ends.core made.places place (omega (arith, nodes, on)) (omega (arith, groups, in_group))));
+        (ends.core.ends.journals (place_number place) ∙ sym (proper x ends.shared r (with_workers (firsts_at_start ends.opened ends.standing) ends.lasts).core e.core ends.core made.places place (omega (arith, nodes, on)) (omega (arith, groups, in_group))));
     registered = subst (λ (n : ℕ). (last_moment n ends.core.line).pool ≡ r.pool.items) ends.from_start.first (ends.core.ends.registrations ∙ sym made.pool);
     clearings = clearings;
   }

@@ -1,8 +1,7 @@
 -- The journals that are printed, by the numbers of their places.
-use Rattle.shr_assemble.proofs.Common.{◌≡◌, ℕ, zero, suc, ◌<◌, ◌≤◌, ◌≢◌, ◌⊎◌, inl, inr, ⊎_elim, Bool, true, false, cond, List, [], ◌∷◌, ◌++◌, map, length, sym, refl, ap, subst, ◌∙◌, arith, Option, Some, None, find, dite, ℕ_discrete, some-injective, some-ne-none, Object, Place, PlaceEnd, Entry, place_number, is_place, is_place_same, is_place_itself, place_at, EndValue, end_value, end_of, back, journal_of, IsAmong, find_back}
+use Rattle.shr_assemble.proofs.Common.{◌≡◌, ℕ, zero, suc, ◌<◌, ◌≤◌, ◌≢◌, ◌⊎◌, inl, inr, ⊎_elim, Bool, true, false, cond, List, [], ◌∷◌, ◌++◌, map, length, sym, refl, ap, subst, ◌∙◌, arith, Option, Some, None, find, dite, ℕ_discrete, some-injective, some-ne-none, Object, Place, PlaceEnd, Entry, place_number, is_place, is_place_same, is_place_itself, place_at, EndValue, end_value, place_ends, back, journal_of, IsAmong, find_back, find_front}
 use Rattle.shr_core.specs.Ending.{ends_below}
 use Rattle.shr_assemble.proofs.Gathering.{among_cases}
-use Rattle.shr_units.proofs.Printing.{find_front}
 
 -- a value of this place, and its journal
 abbrev is_valued : Place → EndValue → Bool
@@ -31,7 +30,7 @@ below_or zero (suc n) = inl (omega arith)
 below_or (suc k) (suc n) = ⊎_elim (λ a. inl (omega (arith, a))) (λ b. inr (omega (arith, b))) (below_or k n)
 
 module _ (now : ℕ → List Entry) (items : ℕ → List Object) where
-  none_one : (k : ℕ) (place : Place) → is_place (place_at k) place ≡ false → (es : List Entry) (os : List Object) → find (is_valued place) (end_of k es os) ≡ None
+  none_one : (k : ℕ) (place : Place) → is_place (place_at k) place ≡ false → (es : List Entry) (os : List Object) → find (is_valued place) (place_ends k es os) ≡ None
   none_one k place never [] os = refl
   none_one k place never (e ∷ es) os = ap (λ b. cond b (Some (record { place = place_at k; entries = e ∷ es; items = os })) None) never
 
@@ -39,7 +38,7 @@ module _ (now : ℕ → List Entry) (items : ℕ → List Object) where
   none_below : (n : ℕ) (place : Place) → ((j : ℕ) → j < n → is_place (place_at j) place ≡ false) → find (is_valued place) (ends_below n now items) ≡ None
   unfolding ends_below
   none_below zero place never = refl
-  none_below (suc n) place never = find_back (is_valued place) (ends_below n now items) (end_of n (now n) (items n)) (none_below n place (λ j lt. never j (omega (arith, lt)))) ∙ none_one n place (never n (omega arith)) (now n) (items n)
+  none_below (suc n) place never = find_back (is_valued place) (ends_below n now items) (place_ends n (now n) (items n)) (none_below n place (λ j lt. never j (omega (arith, lt)))) ∙ none_one n place (never n (omega arith)) (now n) (items n)
 
   differs : (j : ℕ) (place : Place) → (place_at j ≡ place → ⊥) → is_place (place_at j) place ≡ false
   differs j place never = decide (is_place (place_at j) place) (is_place_same (place_at j) place) where
@@ -50,7 +49,7 @@ module _ (now : ℕ → List Entry) (items : ℕ → List Object) where
   apart : (j k : ℕ) → j ≢ k → is_place (place_at j) (place_at k) ≡ false
   apart j k ne = differs j (place_at k) (λ e. ne (sym (back j) ∙ (ap place_number e ∙ back k)))
 
-  own_one : (k : ℕ) (es : List Entry) (os : List Object) → entries_of (find (is_valued (place_at k)) (end_of k es os)) ≡ es
+  own_one : (k : ℕ) (es : List Entry) (os : List Object) → entries_of (find (is_valued (place_at k)) (place_ends k es os)) ≡ es
   own_one k [] os = refl
   own_one k (e ∷ es) os = ap (λ b. entries_of (cond b (Some (record { place = place_at k; entries = e ∷ es; items = os })) None)) (is_place_itself (place_at k))
 
@@ -58,9 +57,9 @@ module _ (now : ℕ → List Entry) (items : ℕ → List Object) where
   unfolding ends_below
   at_below zero k lt = absurd (omega (arith, lt))
   at_below (suc n) k lt = dite (ℕ_discrete k n)
-      (λ e. subst (λ (m : ℕ). entries_of (find (is_valued (place_at m)) (ends_below n now items ++ end_of n (now n) (items n))) ≡ now m) (sym e)
-      (ap entries_of (find_back (is_valued (place_at n)) (ends_below n now items) (end_of n (now n) (items n)) (none_below n (place_at n) (λ j below. apart j n (λ q. absurd (omega (arith, below, q)))))) ∙ own_one n (now n) (items n)))
-      (λ ne. ap entries_of (find_front (is_valued (place_at k)) (ends_below n now items) (end_of n (now n) (items n)) (none_one n (place_at k) (apart n k (λ q. ne (sym q))) (now n) (items n))) ∙ at_below n k (omega (arith, lt, ne)))
+      (λ e. subst (λ (m : ℕ). entries_of (find (is_valued (place_at m)) (ends_below n now items ++ place_ends n (now n) (items n))) ≡ now m) (sym e)
+      (ap entries_of (find_back (is_valued (place_at n)) (ends_below n now items) (place_ends n (now n) (items n)) (none_below n (place_at n) (λ j below. apart j n (λ q. absurd (omega (arith, below, q)))))) ∙ own_one n (now n) (items n)))
+      (λ ne. ap entries_of (find_front (is_valued (place_at k)) (ends_below n now items) (place_ends n (now n) (items n)) (none_one n (place_at k) (apart n k (λ q. ne (sym q))) (now n) (items n))) ∙ at_below n k (omega (arith, lt, ne)))
 
   -- each value is of a place with a journal
   pub record IsBelow (n : ℕ) (v : EndValue) : Type 0 where
@@ -71,7 +70,7 @@ module _ (now : ℕ → List Entry) (items : ℕ → List Object) where
     pub entries : v.entries ≡ now k
     pub items_are : v.items ≡ items k
 
-  one_of : (k : ℕ) (es : List Entry) (os : List Object) (v : EndValue) → IsAmong v (end_of k es os) → (0 < length es) × (v ≡ record { place = place_at k; entries = es; items = os })
+  one_of : (k : ℕ) (es : List Entry) (os : List Object) (v : EndValue) → IsAmong v (place_ends k es os) → (0 < length es) × (v ≡ record { place = place_at k; entries = es; items = os })
   one_of k [] os v (j, e) = absurd (some-ne-none v (sym e))
   one_of k (x ∷ es) os v (zero, e) = (omega arith, sym (some-injective (record { place = place_at k; entries = x ∷ es; items = os }) v e))
   one_of k (x ∷ es) os v (suc j, e) = absurd (some-ne-none v (sym e))
@@ -82,7 +81,7 @@ module _ (now : ℕ → List Entry) (items : ℕ → List Object) where
   among_below (suc n) v h = ⊎_elim
       (λ a. let b = among_below n v a in record { k = b.k; near = omega (arith, b.near); some_entry = b.some_entry; place = b.place; entries = b.entries; items_are = b.items_are })
       (λ a. let t = one_of n (now n) (items n) v a in record { k = n; near = omega arith; some_entry = t.0; place = ap (λ (w : EndValue). w.place) t.1; entries = ap (λ (w : EndValue). w.entries) t.1; items_are = ap (λ (w : EndValue). w.items) t.1 })
-      (among_cases (ends_below n now items) (end_of n (now n) (items n)) v h)
+      (among_cases (ends_below n now items) (place_ends n (now n) (items n)) v h)
 
   module _ (n : ℕ) (ends : List PlaceEnd) (are : map end_value ends ≡ ends_below n now items) (placed : (k : ℕ) → 0 < length (now k) → k < n) where
     -- the journal that is printed for the place of a number

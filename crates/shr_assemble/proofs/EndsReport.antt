@@ -1,10 +1,9 @@
 -- The report of a run whose workers are done is laid out as its words ask.
-use Rattle.shr_assemble.proofs.Common.{◌≡◌, ℕ, zero, suc, ◌<◌, ◌≤◌, ◌^◌, inl, inr, ⊎_elim, Bool, true, false, List, [], ◌∷◌, ◌/◌, ◌%◌, length, map, cond, sym, refl, ap, subst, ◌∙◌, arith, ne_eqb, All, if◌then◌else◌, ◌==◌, filter, AllByRecursion, AllAdjacentBelow, range_with_len, eqb-true, length-map, mod-lt, MapEnd, PlaceAmount, GroupDecl, Script, PoolEntry, last_number, each_append, units_in, nodes_below, lookups_of, groups_in, is_some_amount, amount_of, deferred_word, pool_sizes, IsWithin, content_of, within_of_valid, Shared, Ends, Report, parents_of, IsPlaceBefore, IsAmountWell, IsPoolAmountWell, map_units, WorkerLog, Noted, AreEndsOf, at_start, with_workers, StandsBefore, IsMadeOf, part_of, ArePrinted, IsPutTogether, IsSized}
-use Rattle.shr_model.specs.Bits.{units_of}
+use Rattle.shr_assemble.proofs.Common.{◌≡◌, ℕ, zero, suc, ◌<◌, ◌≤◌, ◌^◌, inl, inr, ⊎_elim, Bool, true, false, List, [], ◌∷◌, ◌/◌, ◌%◌, length, map, cond, sym, refl, ap, subst, ◌∙◌, arith, ne_eqb, All, if◌then◌else◌, ◌==◌, filter, AllByRecursion, AllAdjacentBelow, range_with_len, eqb-true, length-map, mod-lt, MapEnd, PlaceAmount, GroupDecl, Script, PoolEntry, last_number, each_append, units_in, nodes_below, lookups_of, groups_in, is_some_amount, amount_of, deferred_word, pool_sizes, IsWithin, content_of, within_of_valid, Shared, Ends, Report, parents_of, IsPlaceBefore, IsAmountWell, IsPoolAmountWell, map_units, WorkerLog, Noted, AreEndsOf, firsts_at_start, with_workers, StandsBefore, IsMadeOf, printed_part, ArePrintedParts, IsPutTogether, IsSized, units_of}
 use Rattle.shr_core.specs.Ending.{lookups_below}
 use Rattle.shr_seats.specs.Rows as rows
 use Rattle.shr_deferred.specs.Left.{amounts, left_over}
-use Rattle.shr_deferred.specs.Rule.{taken_at, given_at}
+use Rattle.shr_deferred.specs.Rule.{took_at, gave_at}
 use Rattle.shr_assemble.proofs.Operations.{pairs_by_slices}
 use Rattle.shr_assemble.proofs.ScriptSizes.{sized_of, version_of, few_of_first}
 use Rattle.shr_assemble.proofs.WellAmounts.{amounts_rise, amounts_numbered}
@@ -30,11 +29,11 @@ few_pools (suc n) few = subst (λ (b : Bool). cond {A = ℕ} b 1 (suc n) ≤ 256
 no_group : (s : Script) (f : ℕ → ℕ) → AllByRecursion (λ (d : PlaceAmount). d.place.group ≡ 0) (amounts (pool_sizes s) f (rows.row_count (pool_sizes s)))
 unfolding amounts
 no_group s f = kept (range_with_len 0 (rows.row_count (pool_sizes s))) where
-  kept : (is : List ℕ) → AllByRecursion (λ (d : PlaceAmount). d.place.group ≡ 0) (filter is_some_amount (map (λ i. amount_of (rows.place_in (pool_sizes s) i) (f i)) is))
+  kept : (is : List ℕ) → AllByRecursion (λ (d : PlaceAmount). d.place.group ≡ 0) (filter is_some_amount (map (λ i. amount_of (rows.place_of_row (pool_sizes s) i) (f i)) is))
   kept [] = tt
-  kept (i ∷ is) = choose (is_some_amount (amount_of (rows.place_in (pool_sizes s) i) (f i))) (kept is) where
-    choose : (b : Bool) → AllByRecursion (λ (d : PlaceAmount). d.place.group ≡ 0) (filter is_some_amount (map (λ j. amount_of (rows.place_in (pool_sizes s) j) (f j)) is))
-        → AllByRecursion (λ (d : PlaceAmount). d.place.group ≡ 0) (cond b (amount_of (rows.place_in (pool_sizes s) i) (f i) ∷ filter is_some_amount (map (λ j. amount_of (rows.place_in (pool_sizes s) j) (f j)) is)) (filter is_some_amount (map (λ j. amount_of (rows.place_in (pool_sizes s) j) (f j)) is)))
+  kept (i ∷ is) = choose (is_some_amount (amount_of (rows.place_of_row (pool_sizes s) i) (f i))) (kept is) where
+    choose : (b : Bool) → AllByRecursion (λ (d : PlaceAmount). d.place.group ≡ 0) (filter is_some_amount (map (λ j. amount_of (rows.place_of_row (pool_sizes s) j) (f j)) is))
+        → AllByRecursion (λ (d : PlaceAmount). d.place.group ≡ 0) (cond b (amount_of (rows.place_of_row (pool_sizes s) i) (f i) ∷ filter is_some_amount (map (λ j. amount_of (rows.place_of_row (pool_sizes s) j) (f j)) is)) (filter is_some_amount (map (λ j. amount_of (rows.place_of_row (pool_sizes s) j) (f j)) is)))
     choose true rest = (let low : i % 1 < 1 = mod-lt i (omega arith) in omega (arith, low), rest)
     choose false rest = rest
 
@@ -42,7 +41,7 @@ of_pools : (ds : List PlaceAmount) → AllByRecursion IsAmountWell ds → AllByR
 of_pools [] a g = tt
 of_pools (d ∷ ds) a g = (record { amount = a.0; group = g.0 }, of_pools ds a.1 g.1)
 
-module _ (x : Shared) (logs : List WorkerLog) (e : Ends) (ends : AreEndsOf x logs e) (n : Noted) (r : Report) (printed : ArePrinted (map part_of logs) n.parts.items) (together : IsPutTogether e n r) (made : IsMadeOf x.script logs e r) where
+module _ (x : Shared) (logs : List WorkerLog) (e : Ends) (ends : AreEndsOf x logs e) (n : Noted) (r : Report) (printed : ArePrintedParts (map printed_part logs) n.parts.items) (together : IsPutTogether e n r) (made : IsMadeOf x.script logs e r) where
   within : IsWithin (content_of x.script)
   within = within_of_valid (content_of x.script) ends.shared.script
 
@@ -73,25 +72,25 @@ module _ (x : Shared) (logs : List WorkerLog) (e : Ends) (ends : AreEndsOf x log
   deferred_rise = let nodes = ap (λ z. z.nodes) ends.shared.sizes in let some = within.some_node in let few = within.nodes in let high = tall in let groups = sized.groups in
       subst (λ (l : List PlaceAmount). AllAdjacentBelow (λ (d e : PlaceAmount). IsPlaceBefore d.place e.place) l (length l)) (sym (made.deferred ∙ ends.deferred))
       (amounts_rise x.deferred.sizes (omega (arith, nodes, few)) (omega (arith, high, groups)) (omega (arith, nodes, some)) (omega (arith, high))
-      (λ i. deferred_word (given_at (rows.place_in x.deferred.sizes i) (with_workers (at_start ends.opened ends.standing) ends.lasts).moves) (taken_at (rows.place_in x.deferred.sizes i) (with_workers (at_start ends.opened ends.standing) ends.lasts).moves)))
+      (λ i. deferred_word (gave_at (rows.place_of_row x.deferred.sizes i) (with_workers (firsts_at_start ends.opened ends.standing) ends.lasts).moves) (took_at (rows.place_of_row x.deferred.sizes i) (with_workers (firsts_at_start ends.opened ends.standing) ends.lasts).moves)))
 
   amounts_are : AllByRecursion IsAmountWell r.deferred.items
   amounts_are = let nodes = ap (λ z. z.nodes) ends.shared.sizes in let ids = ap (λ z. z.ids) ends.shared.sizes in let some = within.some_node in let few = within.nodes in let few_ids = sized.ids in let high = tall in let groups = sized.groups in
       subst (AllByRecursion IsAmountWell) (sym (made.deferred ∙ ends.deferred))
       (amounts_numbered x.deferred.sizes (omega (arith, nodes, few)) (omega (arith, high, groups)) (omega (arith, nodes, some)) (omega (arith, high)) (omega (arith, ids, few_ids))
-      (λ i. deferred_word (given_at (rows.place_in x.deferred.sizes i) (with_workers (at_start ends.opened ends.standing) ends.lasts).moves) (taken_at (rows.place_in x.deferred.sizes i) (with_workers (at_start ends.opened ends.standing) ends.lasts).moves))
+      (λ i. deferred_word (gave_at (rows.place_of_row x.deferred.sizes i) (with_workers (firsts_at_start ends.opened ends.standing) ends.lasts).moves) (took_at (rows.place_of_row x.deferred.sizes i) (with_workers (firsts_at_start ends.opened ends.standing) ends.lasts).moves))
       (λ i. mod-lt _ (omega arith)))
 
   -- the deferred words of pools
   abbrev pool_word : ℕ → ℕ
-  pool_word i = deferred_word (given_at (rows.place_in (pool_sizes x.script) i) (with_workers (at_start ends.opened ends.standing) ends.lasts).plain.moves) (taken_at (rows.place_in (pool_sizes x.script) i) (with_workers (at_start ends.opened ends.standing) ends.lasts).plain.moves)
+  pool_word i = deferred_word (gave_at (rows.place_of_row (pool_sizes x.script) i) (with_workers (firsts_at_start ends.opened ends.standing) ends.lasts).plain.moves) (took_at (rows.place_of_row (pool_sizes x.script) i) (with_workers (firsts_at_start ends.opened ends.standing) ends.lasts).plain.moves)
 
   pools_rise : AllAdjacentBelow (λ (d e : PlaceAmount). IsPlaceBefore d.place e.place) r.pool_deferred.items (length r.pool_deferred.items)
   pools_rise = subst (λ (l : List PlaceAmount). AllAdjacentBelow (λ (d e : PlaceAmount). IsPlaceBefore d.place e.place) l (length l)) (sym (made.pool_deferred ∙ ends.pools.deferred))
       (amounts_rise (pool_sizes x.script) within.nodes (omega arith) within.some_node (omega arith) pool_word)
 
   pool_amounts : AllByRecursion IsPoolAmountWell r.pool_deferred.items
-  pool_amounts = subst (AllByRecursion IsPoolAmountWell) (sym (made.pool_deferred ∙ ends.pools.deferred)) (of_pools (left_over (pool_sizes x.script) (with_workers (at_start ends.opened ends.standing) ends.lasts).plain.moves)
+  pool_amounts = subst (AllByRecursion IsPoolAmountWell) (sym (made.pool_deferred ∙ ends.pools.deferred)) (of_pools (left_over (pool_sizes x.script) (with_workers (firsts_at_start ends.opened ends.standing) ends.lasts).plain.moves)
       (amounts_numbered (pool_sizes x.script) within.nodes (omega arith) within.some_node (omega arith) (few_pools (length x.script.pools.items) within.pools) pool_word (λ i. mod-lt _ (omega arith))) (no_group x.script pool_word))
 
   lookups_fit : (n : ℕ) (look : ℕ → ℕ) → AllByRecursion (λ (k : ℕ). k < 2 ^ 32) (lookups_below n look)
@@ -108,11 +107,11 @@ module _ (x : Shared) (logs : List WorkerLog) (e : Ends) (ends : AreEndsOf x log
     bits = ends.core.bits;
     maps = maps_are;
     words = subst (All (λ (m : MapEnd). m.bits < 2 ^ 64)) (sym made.maps) ends.words;
-    all = map part_of logs;
+    all = map printed_part logs;
     many = printed.many;
     last = printed.last;
     front = together.parts ∙ printed.front;
-    few = let same = length-map logs part_of in let each = ends.workers in let most = within.workers in let many = length-map x.script.workers.items (λ w. w.commands.items) in omega (arith, same, each, most, many);
+    few = let same = length-map logs printed_part in let each = ends.workers in let most = within.workers in let many = length-map x.script.workers.items (λ w. w.commands.items) in omega (arith, same, each, most, many);
     deferred = deferred_rise;
     amounts = amounts_are;
     numbers = subst (AllByRecursion (λ (k : ℕ). k < 2 ^ 32)) (sym (made.lookups ∙ ends.core.lookups)) (lookups_fit x.core.setting.shape.ids ends.core.look);

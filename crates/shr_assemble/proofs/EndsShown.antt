@@ -33,14 +33,14 @@ module _ (x : Shared) (shared : IsShared x) (r : Report) (v : View) (closed : Cl
     set = λ place there of some none.
         let sized = sized_of x shared in let ids = shared.ids in let node = there.node in let group = there.group in let id = there.id in let nodes = sized.nodes in let groups = sized.groups in
         let map_is : map_of (place_number place) ≡ m.map = (let e : map_of (place_number place) ≡ map_number place.node place.group (unit_of place.id) = omega (arith, node, group, nodes, groups) in e) ∙ of in
-        let bit : layout.bit_of (place_number place) ≡ bit_of place.id = omega (arith, node, group, nodes, groups) in
+        let bit : layout.place_bit (place_number place) ≡ bit_of place.id = omega (arith, node, group, nodes, groups) in
         let set = left.mapped j m e (place_number place) (omega (arith, id, node, group, nodes, groups, ids)) map_is some (ap (times (place_number place)) cleared ∙ none) in
         eq-eqb (bit_at m.bits (bit_of place.id)) 1 (ap (bit_at m.bits) (sym bit) ∙ set);
     of_ids = λ bit few some. let id = left.none_shown j m e bit few (eqb-true (bit_at m.bits bit) 1 some) in subst (λ n. 64 * (m.map / 1024) + bit < n) shared.ids id;
     shown = λ place there of some.
         let sized = sized_of x shared in let ids = shared.ids in let node = there.node in let group = there.group in let id = there.id in let nodes = sized.nodes in let groups = sized.groups in
         let map_is : map_of (place_number place) ≡ m.map = (let e : map_of (place_number place) ≡ map_number place.node place.group (unit_of place.id) = omega (arith, node, group, nodes, groups) in e) ∙ of in
-        let bit : layout.bit_of (place_number place) ≡ bit_of place.id = omega (arith, node, group, nodes, groups) in
+        let bit : layout.place_bit (place_number place) ≡ bit_of place.id = omega (arith, node, group, nodes, groups) in
         let one : bit_at m.bits (bit_of place.id) ≡ 1 = eqb-true (bit_at m.bits (bit_of place.id)) 1 some in
         subst (λ (l : List ℕ). 0 < times (place_number place) l) sets (left.shown j m e (place_number place) (omega (arith, id, node, group, nodes, groups, ids)) map_is (ap (bit_at m.bits) bit ∙ one));
   }

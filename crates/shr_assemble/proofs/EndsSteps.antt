@@ -1,11 +1,8 @@
 -- The steps of a run whose workers are done: each worker's are its commands with the report's answers, from the first state on.
-use Rattle.shr_assemble.proofs.Common.{◌≡◌, ℕ, ◌+◌, ◌<◌, ◌≤◌, ⊎_elim, List, [], length, sym, refl, ap, subst, ◌∙◌, arith, slice_get, Option, Some, None, IfSome, flat_map, AllByRecursion, length-map, none-some, slice_get_past, Command, Sweep, WorkerScript, content_of, within_of_valid, Shared, WorkerState, CrewState, Ends, Report, commands_of, sweeps_in, sweeps_of, answers_of, walks_of, WorkerLog, AreEndsOf, new_worker, IsMadeOf, answers_in, walks_in, carries_in, isolations_in, isolated_in, isolated_before, DidIsolations, Step, AreChained, steps_in, steps_of, IsStep, IsShownIn, AreSteps, IsOfPops, ArePoppedOnce, all_popped}
-use Rattle.shr_script.specs.Bounds.{IsSweepWithin}
+use Rattle.shr_assemble.proofs.Common.{◌≡◌, ℕ, ◌+◌, ◌<◌, ◌≤◌, ⊎_elim, List, [], length, sym, refl, ap, subst, ◌∙◌, arith, slice_get, Option, Some, None, IfSome, flat_map, AllByRecursion, length-map, none-some, slice_get_past, Command, Sweep, WorkerScript, content_of, within_of_valid, Shared, WorkerState, CrewState, Ends, Report, commands_of, sweeps_in, sweeps_of, answers_of, walks_of, WorkerLog, AreEndsOf, new_worker, IsMadeOf, log_answers, log_walks, log_carries, log_isolations, isolated_in, isolated_before, DidIsolations, Step, AreStepsChained, steps_in, steps_of, IsStep, IsShownIn, AreRunSteps, IsOfPops, ArePoppedOnce, all_popped, IsSweepWithin, IsNewWorker, AreIsolating, AreSwept}
 use Rattle.shr_worker.specs.Chain as chain
 use Rattle.shr_report.specs.Parts as report
 use Rattle.shr_report.specs.Parts.{carries_of, isolations_of}
-use Rattle.shr_assemble.specs.Runs.{IsNew, AreIsolating}
-use Rattle.shr_assemble.specs.Sweeps.{AreSwept}
 use Rattle.shr_assemble.proofs.Fit.{IsFit}
 use Rattle.shr_assemble.proofs.Crews.{IsCrew, crew, there_at}
 use Rattle.shr_assemble.proofs.EndsPlaces.{below_or}
@@ -19,7 +16,7 @@ never_swept None = refl
 never_swept (Some z) = refl
 
 -- a worker's commands by either name
-pub same_in : (o : Option WorkerScript) → chain.commands_in o ≡ report.commands_in o
+pub same_in : (o : Option WorkerScript) → chain.listed_commands o ≡ report.commands_in o
 same_in None = refl
 same_in (Some w) = refl
 
@@ -41,7 +38,7 @@ module _ (x : Shared) (did : DidEach x) (logs : List WorkerLog) (e : Ends) (ends
   pub record IsOf (worker : ℕ) (mine : List Step) : Type 0 where
     commands : length mine ≡ length (commands_of x.script worker) + sweeps_of x.script worker
     answers : length (answers_of r worker) ≡ length mine
-    pub chained : AreChained (new_worker ends.opened worker).seats mine
+    pub chained : AreStepsChained (new_worker ends.opened worker).seats mine
     walks : walks_of r worker ≡ flat_map (λ (y : Step). y.work.walks) mine
     carries : carries_of r worker ≡ flat_map (λ (y : Step). y.work.carries) mine
     each : (k : ℕ) (y : Step) → slice_get mine k ≡ Some y → IsStep x.script r worker k y
@@ -55,15 +52,15 @@ module _ (x : Shared) (did : DidEach x) (logs : List WorkerLog) (e : Ends) (ends
       let script = ends.workers in
       let no_log = slice_get_past logs worker le in
       let no_script = slice_get_past x.script.workers.items worker (omega (arith, le, script)) in
-      let no_answer : answers_of r worker ≡ [] = made.answers worker ∙ ap answers_in no_log in
+      let no_answer : answers_of r worker ≡ [] = made.answers worker ∙ ap log_answers no_log in
       record {
         commands = let none = ap (λ o. length (report.commands_in o)) no_script in let no_sweep = ap (sweeps_in x.script.sweep) no_script ∙ never_swept x.script.sweep in omega (arith, none, no_sweep);
         answers = ap (λ l. length l) no_answer;
         chained = tt;
-        walks = made.walks worker ∙ ap walks_in no_log;
-        carries = made.carries worker ∙ ap carries_in no_log;
+        walks = made.walks worker ∙ ap log_walks no_log;
+        carries = made.carries worker ∙ ap log_carries no_log;
         each = λ k y h. absurd (none-some y h);
-        isolations = made.isolations worker ∙ ap isolations_in no_log;
+        isolations = made.isolations worker ∙ ap log_isolations no_log;
         by_law = λ k y h. absurd (none-some y h);
         pops = λ k y h none. absurd (none-some y h);
         fit = λ k y h. absurd (none-some y h);
@@ -73,21 +70,21 @@ module _ (x : Shared) (did : DidEach x) (logs : List WorkerLog) (e : Ends) (ends
   some_of worker log last mine at_log at_last at_mine =
       let row = is_crew.each worker log last mine at_log at_last at_mine in
       let worked = ends.worked worker log last at_log at_last in
-      let answers : answers_of r worker ≡ log.answers.items = made.answers worker ∙ ap answers_in at_log in
-      let commands : chain.commands_of x.script worker ≡ commands_of x.script worker = same_in (slice_get x.script.workers.items worker) in
+      let answers : answers_of r worker ≡ log.answers.items = made.answers worker ∙ ap log_answers at_log in
+      let commands : chain.worker_commands x.script worker ≡ commands_of x.script worker = same_in (slice_get x.script.workers.items worker) in
       record {
         commands = row.commands ∙ ap (λ (l : List Command). length l + sweeps_of x.script worker) commands;
         answers = ap (λ l. length l) answers ∙ row.answers;
         chained = row.chained;
-        walks = made.walks worker ∙ (ap walks_in at_log ∙ (worked.walks ∙ (ap (λ (t : WorkerState). t.walks) (sym row.ends) ∙ along (λ (t : WorkerState). t.walks) (λ (y : Step). y.work.walks) (λ y d. d.walks) (new_worker ends.opened worker).seats mine row.chained)));
-        carries = made.carries worker ∙ (ap carries_in at_log ∙ (worked.carries ∙ (ap (λ (t : WorkerState). t.carries) (sym row.ends) ∙ along (λ (t : WorkerState). t.carries) (λ (y : Step). y.work.carries) (λ y d. d.carries) (new_worker ends.opened worker).seats mine row.chained)));
+        walks = made.walks worker ∙ (ap log_walks at_log ∙ (worked.walks ∙ (ap (λ (t : WorkerState). t.walks) (sym row.ends) ∙ along (λ (t : WorkerState). t.walks) (λ (y : Step). y.work.walks) (λ y d. d.walks) (new_worker ends.opened worker).seats mine row.chained)));
+        carries = made.carries worker ∙ (ap log_carries at_log ∙ (worked.carries ∙ (ap (λ (t : WorkerState). t.carries) (sym row.ends) ∙ along (λ (t : WorkerState). t.carries) (λ (y : Step). y.work.carries) (λ y d. d.carries) (new_worker ends.opened worker).seats mine row.chained)));
         each = λ k y h. let s = row.each k y h in record {
           by = s.0;
           command = ap (λ l. slice_get l k) (sym commands) ∙ s.1;
           answered = ap (λ l. slice_get l k) answers ∙ s.2;
           did = s.3;
         };
-        isolations = made.isolations worker ∙ (ap isolations_in at_log ∙ (worked.isolations ∙ row.recorded));
+        isolations = made.isolations worker ∙ (ap log_isolations at_log ∙ (worked.isolations ∙ row.recorded));
         by_law = λ k y h. subst (λ (n : ℕ). DidIsolations x.script y n) (let z : 0 + isolated_before mine k ≡ isolated_before mine k = omega arith in z) (row.by_law k y h);
         pops = row.pops;
         fit = row.fit;
@@ -102,7 +99,7 @@ module _ (x : Shared) (did : DidEach x) (logs : List WorkerLog) (e : Ends) (ends
       (below_or worker (length logs))
 
   -- what each worker knows and has done at the start
-  is_new : (worker : ℕ) → IsNew x.script (new_worker ends.opened worker).seats
+  is_new : (worker : ℕ) → IsNewWorker x.script (new_worker ends.opened worker).seats
   is_new worker = record {
     did = refl;
     made = refl;
@@ -117,7 +114,7 @@ module _ (x : Shared) (did : DidEach x) (logs : List WorkerLog) (e : Ends) (ends
     carries = refl;
   }
 
-  pub steps : ((worker k : ℕ) (y : Step) → slice_get (steps_of workers worker) k ≡ Some y → IsShownIn x.script r workers y.after) → AreSteps x.script r workers
+  pub steps : ((worker k : ℕ) (y : Step) → slice_get (steps_of workers worker) k ≡ Some y → IsShownIn x.script r workers y.after) → AreRunSteps x.script r workers
   steps shown = record {
     each = λ worker k y h. (is_of worker).each k y h;
     commands = λ worker. (is_of worker).commands;

@@ -1,7 +1,5 @@
 -- The moves of each worker in the line of all moves of the deferred words, of a run whose workers are done.
-use Rattle.shr_assemble.proofs.Common.{◌≡◌, ℕ, zero, suc, ◌+◌, ◌<◌, ◌≤◌, List, [], ◌∷◌, ◌++◌, length, sym, refl, ap, subst, ◌∙◌, arith, flat_map, slice_get, Option, Some, None, same_Some, none-some, slice_get_within, dite, dec_lt, Deed, by_seat, part, Move, Moves, Shared, WorkerState, CrewState, Ends, Report, WorkerLog, Firsts, with_workers, at_start, AreEndsOf, new_worker, IsMadeOf, Step, steps_in, steps_of}
-use Rattle.shr_deferred.specs.Moves.{no_moves}
-use Rattle.shr_deferred.specs.Rule.{strand_at}
+use Rattle.shr_assemble.proofs.Common.{◌≡◌, ℕ, zero, suc, ◌+◌, ◌<◌, ◌≤◌, List, [], ◌∷◌, ◌++◌, length, sym, refl, ap, subst, ◌∙◌, arith, flat_map, slice_get, Option, Some, None, same_Some, none-some, slice_get_within, dite, dec_lt, Deed, by_seat, part, Move, Moves, Shared, WorkerState, CrewState, Ends, Report, WorkerLog, Firsts, with_workers, firsts_at_start, AreEndsOf, new_worker, IsMadeOf, Step, steps_in, steps_of, no_moves, strand_at}
 use Rattle.shr_assemble.proofs.Crews.{there_at}
 use Rattle.shr_assemble.proofs.EndsSteps.{workers, is_crew}
 use Rattle.shr_assemble.proofs.Joined.{joined_list}
@@ -27,7 +25,7 @@ past_end (x ∷ xs) (suc i) le = past_end xs i (omega (arith, le))
 
 module _ (x : Shared) (did : DidEach x) (logs : List WorkerLog) (e : Ends) (ends : AreEndsOf x logs e) (r : Report) (made : IsMadeOf x.script logs e r) where
   abbrev start : Firsts
-  start = at_start ends.opened ends.standing
+  start = firsts_at_start ends.opened ends.standing
 
   abbrev mine : List (List Step)
   mine = workers x did logs e ends r made
@@ -35,7 +33,7 @@ module _ (x : Shared) (did : DidEach x) (logs : List WorkerLog) (e : Ends) (ends
   abbrev moves_of : List Step → Moves
   moves_of steps = flat_map (λ (y : Step). y.work.moves) steps
 
-  strands_are : (with_workers (at_start ends.opened ends.standing) ends.lasts).strands ≡ no_moves ∷ flat_map own ends.lasts
+  strands_are : (with_workers (firsts_at_start ends.opened ends.standing) ends.lasts).strands ≡ no_moves ∷ flat_map own ends.lasts
   strands_are = joined_list {A = Moves} (λ g. g.strands) own (λ g w. refl) start ends.lasts
 
   -- what a worker's seat moved is what its steps did

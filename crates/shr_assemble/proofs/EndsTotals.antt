@@ -1,5 +1,5 @@
 -- How many objects were added, freed and are listed, of a run whose workers are done.
-use Rattle.shr_assemble.proofs.Common.{◌≡◌, ℕ, suc, ◌+◌, ◌<◌, inl, inr, ⊎_elim, List, [], ◌∷◌, ◌++◌, map, length, length-append, refl, ap, ◌∙◌, arith, slice_get, Some, sum_by, length_permutation, length-map, sum_by-cons, PlaceEnd, Entry, Object, serials_of, added_by_all, added_in, listed_in, items_of, IsWhole, bag_of_legal, AreApart_of_ends, find_end, Shared, Ends, Report, parents_of, journal_of, journals_of, places_of, WorkerLog, AreEndsOf, IsMadeOf, IsPrinted, AreJournals}
+use Rattle.shr_assemble.proofs.Common.{◌≡◌, ℕ, suc, ◌+◌, ◌<◌, inl, inr, ⊎_elim, List, [], ◌∷◌, ◌++◌, map, length, length-append, refl, ap, ◌∙◌, arith, slice_get, Some, sum_by, length_permutation, length-map, sum_by-cons, PlaceEnd, Entry, Object, serials_of, added_by_all, added_in, listed_in, items_of, IsWhole, bag_of_legal, AreApart_of_ends, find_end, Shared, Ends, Report, parents_of, journal_of, journals_of, places_of, WorkerLog, AreEndsOf, IsMadeOf, IsPrinted, AreRunJournals}
 use Rattle.shr_model.specs.Bag.{freed_in}
 use Rattle.shr_assemble.proofs.EndsGathered.{journals}
 use Rattle.shr_assemble.proofs.EndsSteps.{workers}
@@ -7,7 +7,7 @@ use Rattle.shr_assemble.proofs.Rows.{DidEach}
 use Rattle.shr_assemble.proofs.BagLaw.{all_mapped}
 
 module _ (x : Shared) (did : DidEach x) (logs : List WorkerLog) (e : Ends) (ends : AreEndsOf x logs e) (r : Report) (made : IsMadeOf x.script logs e r) where
-  are : AreJournals x.script r (workers x did logs e ends r made)
+  are : AreRunJournals x.script r (workers x did logs e ends r made)
   are = journals x did logs e ends r made
 
   whole : IsWhole (parents_of x.script) (journals_of r) (places_of r)

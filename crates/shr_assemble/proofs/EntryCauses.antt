@@ -1,11 +1,9 @@
 -- Each entry of the journals of registrations and of the tree, and each Drained, has its cause.
-use Rattle.shr_assemble.proofs.Common.{◌≡◌, ℕ, ◌+◌, ◌≤◌, true, false, List, length, refl, sym, ap, subst, ◌∙◌, arith, eq-eqb, slice_get, Option, Some, None, option_map, IsSomeAnd, eqb-true, Serial, Place, Entry, Drained, PoolEntry, Answered, Reply, Script, phase_of, Made, Turn, id_of, Report, decls_on, serial_of, answer_at, reply_at, journals_of, IsOffline, MayHaveBegun, is_done_by, IsMadeBy, StandsInTree, Step, IsAmong, steps_of, IsCausedBy, IsDrained, MayMake, Drains, IsBegun, IsEnded, IsEntryOf, IsTurnOf, IsRun}
+use Rattle.shr_assemble.proofs.Common.{◌≡◌, ℕ, ◌+◌, ◌≤◌, true, false, List, length, refl, sym, ap, subst, ◌∙◌, arith, eq-eqb, slice_get, Option, Some, None, option_map, IsSomeAnd, eqb-true, Serial, Place, Entry, Drained, PoolEntry, Answered, Reply, Script, phase_of, Made, Turn, place_id, Report, decls_on, serial_of, answer_at, reply_at, journals_of, IsOffline, MayHaveBegun, is_done_by, IsMadeBy, StandsInTree, Step, IsAmong, steps_of, IsCausedBy, IsDrainedByCommand, MayMakeEntry, Drains, IsBeginOf, IsEnded, IsEntryOf, IsTurnOf, IsRun, IsDoneOnce, is_made_by, IsMadeOnce, HasDrained, IsMaking}
 use Rattle.shr_base.specs.declared.journals.PoolEntry.TheVariants as pool
 use Rattle.shr_base.specs.declared.journals.TreeEntry.TheVariants.{Begin, Done, Made as MadeEntry}
 use Rattle.shr_base.specs.declared.replies.Reply.TheVariants as reply
 use Rattle.shr_charge.specs.Views as charge
-use Rattle.shr_report.specs.Causes.{IsDoneOnce, is_made_by, IsMadeOnce, HasDrained}
-use Rattle.shr_assemble.specs.Offlining.{IsMaking}
 use Rattle.shr_assemble.proofs.Gathering.{each_among}
 use Rattle.shr_assemble.proofs.Listed.{all_among}
 use Rattle.shr_assemble.proofs.Making.{answers, maker, reply_is}
@@ -14,12 +12,12 @@ use Rattle.shr_assemble.proofs.Shown.{pool_known}
 
 -- an answer that cites a Done as its own made it
 done_made : (s : Script) (y : Step) (n : ℕ) (x : Reply) → is_done_by n x ≡ true → IsCausedBy s y x → (group : ℕ) × IsAmong (record { number = n; entry = Done group }) y.work.tree
-done_made s y n (reply.OfflineDone entry moved deferred) is h = (h.group, subst (λ i. IsAmong {A = charge.Made} (record { number = i; entry = Done h.group }) y.work.tree) (eqb-true entry n is) h.made)
+done_made s y n (reply.OfflineDone entry moved deferred) is h = (h.group, subst (λ i. IsAmong {A = charge.TreeMade} (record { number = i; entry = Done h.group }) y.work.tree) (eqb-true entry n is) h.made)
 done_made s y n x is h = let t : false ≡ true = is in cc
 
 -- and so is a Made
 making_made : (s : Script) (y : Step) (n : ℕ) (x : Reply) → is_made_by n x ≡ true → IsCausedBy s y x → (group : ℕ) × IsAmong (record { number = n; entry = MadeEntry group }) y.work.tree
-making_made s y n (reply.Made entry) is h = (h.group, subst (λ i. IsAmong {A = charge.Made} (record { number = i; entry = MadeEntry h.group }) y.work.tree) (eqb-true entry n is) h.made)
+making_made s y n (reply.Made entry) is h = (h.group, subst (λ i. IsAmong {A = charge.TreeMade} (record { number = i; entry = MadeEntry h.group }) y.work.tree) (eqb-true entry n is) h.made)
 making_made s y n x is h = let t : false ≡ true = is in cc
 
 -- an answer that drained lists is one of those that may
@@ -53,14 +51,14 @@ module _ (s : Script) (r : Report) (workers : List (List Step)) (run : IsRun s r
   begins_caused n group stands =
       let m = entry_maker s r workers run n (Begin group) stands in
       let is = run.steps.each m.worker m.k m.step m.at in
-      let begun : IsBegun m.step group = subst (IsEntryOf s m.step m.made.number) m.entry (all_among (λ (z : charge.Made). (length m.step.before.tree.known ≤ z.number) × IsEntryOf s m.step z.number z.entry) m.step.work.tree m.made is.did.tree.each m.among).1 in
+      let begun : IsBeginOf m.step group = subst (IsEntryOf s m.step m.made.number) m.entry (all_among (λ (z : charge.TreeMade). (length m.step.before.tree.known ≤ z.number) × IsEntryOf s m.step z.number z.entry) m.step.work.tree m.made is.did.tree.each m.among).1 in
       (serial_of m.worker m.k, record { command_is = is.command ∙ begun.command; answer = subst (λ o. IsSomeAnd o MayHaveBegun) (sym (reply_is s r workers run m.worker m.k m.step m.at)) begun.answer })
 
   pub dones_caused : (n group : ℕ) → StandsInTree r n (Done group) → IsDoneOnce r n
   dones_caused n group stands =
       let m = entry_maker s r workers run n (Done group) stands in
       let is = run.steps.each m.worker m.k m.step m.at in
-      let ended : IsEnded s m.step group m.made.number = subst (IsEntryOf s m.step m.made.number) m.entry (all_among (λ (z : charge.Made). (length m.step.before.tree.known ≤ z.number) × IsEntryOf s m.step z.number z.entry) m.step.work.tree m.made is.did.tree.each m.among).1 in
+      let ended : IsEnded s m.step group m.made.number = subst (IsEntryOf s m.step m.made.number) m.entry (all_among (λ (z : charge.TreeMade). (length m.step.before.tree.known ≤ z.number) × IsEntryOf s m.step z.number z.entry) m.step.work.tree m.made is.did.tree.each m.among).1 in
       record {
         by = serial_of m.worker m.k;
         cited = subst (λ o. IsSomeAnd o (λ x. is_done_by n x ≡ true)) (sym (reply_is s r workers run m.worker m.k m.step m.at)) (subst (λ i. is_done_by i m.step.answered.reply ≡ true) m.number ended.answer);
@@ -74,7 +72,7 @@ module _ (s : Script) (r : Report) (workers : List (List Step)) (run : IsRun s r
   mades_caused n group stands =
       let m = entry_maker s r workers run n (MadeEntry group) stands in
       let is = run.steps.each m.worker m.k m.step m.at in
-      let making : IsMaking m.step group m.made.number = subst (IsEntryOf s m.step m.made.number) m.entry (all_among (λ (z : charge.Made). (length m.step.before.tree.known ≤ z.number) × IsEntryOf s m.step z.number z.entry) m.step.work.tree m.made is.did.tree.each m.among).1 in
+      let making : IsMaking m.step group m.made.number = subst (IsEntryOf s m.step m.made.number) m.entry (all_among (λ (z : charge.TreeMade). (length m.step.before.tree.known ≤ z.number) × IsEntryOf s m.step z.number z.entry) m.step.work.tree m.made is.did.tree.each m.among).1 in
       record {
         by = serial_of m.worker m.k;
         cited = subst (λ o. IsSomeAnd o (λ x. is_made_by n x ≡ true)) (sym (reply_is s r workers run m.worker m.k m.step m.at)) (subst (λ x. is_made_by n x ≡ true) (sym (making.answer ∙ ap reply.Made m.number)) (eq-eqb n n refl));
@@ -111,8 +109,8 @@ module _ (s : Script) (r : Report) (workers : List (List Step)) (run : IsRun s r
   drained_caused place n e stands by objects is_it =
       let m = maker s r workers run place n e stands in
       let is = run.steps.each m.worker m.k m.step m.at in
-      let may : IsDrained m.step m.made by = subst (MayMake s m.step m.made) (m.entry ∙ is_it) (each_among (λ (z : Made). MayMake s m.step z z.entry) m.step.work.core.made m.made is.did.entries.each m.among) in
+      let may : IsDrainedByCommand m.step m.made by = subst (MayMakeEntry s m.step m.made) (m.entry ∙ is_it) (each_among (λ (z : Made). MayMakeEntry s m.step z z.entry) m.step.work.core.made m.made is.did.entries.each m.among) in
       subst (λ (b : Serial). IsSomeAnd (reply_at r b) HasDrained) (sym (may.own ∙ is.by)) (subst (λ o. IsSomeAnd o HasDrained) (sym (reply_is s r workers run m.worker m.k m.step m.at)) (has_drained (shr_id m.made) m.step.answered.reply may.drains))
     where
       shr_id : Made → ℕ
-      shr_id m = id_of m.place
+      shr_id m = place_id m.place

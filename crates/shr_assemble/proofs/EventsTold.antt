@@ -1,5 +1,5 @@
 -- What an event tells of the measures that only grow, and which event it is that tells a number.
-use Rattle.shr_assemble.proofs.Common.{◌≡◌, ℕ, ◌+◌, ◌<◌, ◌≤◌, Bool, true, false, ◌&&◌, [], ◌∷◌, length, sym, ap, ◌∙◌, arith, eqb, nat_lt, and_parts, eqb-true, PoolEntry, Registered, Unregistered, Idle, place_number, attempts_in, Event, counted, made, looked, loaded, turned, put_back, raised, cleared, mapped, Tells, Measure, entries, lookups, turns, EntryTells}
+use Rattle.shr_assemble.proofs.Common.{◌≡◌, ℕ, ◌+◌, ◌<◌, ◌≤◌, Bool, true, false, ◌&&◌, [], ◌∷◌, length, sym, ap, ◌∙◌, arith, eqb, nat_lt, and_parts, eqb-true, PoolEntry, Registered, Unregistered, Idle, place_number, attempts_in, Event, counted, made, looked, loaded, turned, put_back, raised, cleared, mapped, EventTells, ToldMeasure, entries, lookups, turns, TurnTells}
 use Rattle.shr_core.specs.Ranks as core
 use Rattle.shr_assemble.proofs.Crews.{there_at}
 
@@ -17,7 +17,7 @@ is_turn n (turned t) = eqb t.number n
 is_turn n e = false
 
 -- those that pass tell the number
-pub entry_tells : (k n : ℕ) (e : Event) → is_entry k n e ≡ true → Tells (core.entries k) e n (n + 1)
+pub entry_tells : (k n : ℕ) (e : Event) → is_entry k n e ≡ true → EventTells (core.entries k) e n (n + 1)
 entry_tells k n (made m) h = let t = and_parts (eqb m.place k) (eqb m.number n) h in let p = eqb-true m.place k t.0 in let q = eqb-true m.number n t.1 in (p, sym q, ap (λ i. i + 1) (sym q))
 entry_tells k n (counted x) h = absurd (cc)
 entry_tells k n (looked x) h = absurd (cc)
@@ -28,7 +28,7 @@ entry_tells k n (raised x) h = absurd (cc)
 entry_tells k n (cleared x) h = absurd (cc)
 entry_tells k n (mapped x) h = absurd (cc)
 
-pub lookup_tells : (id n : ℕ) (e : Event) → is_lookup id n e ≡ true → Tells (core.lookups id) e n (n + 1)
+pub lookup_tells : (id n : ℕ) (e : Event) → is_lookup id n e ≡ true → EventTells (core.lookups id) e n (n + 1)
 lookup_tells id n (looked t) h = let b = and_parts (eqb t.id id) (eqb t.number n) h in let p = eqb-true t.id id b.0 in let q = eqb-true t.number n b.1 in (p, sym q, ap (λ i. i + 1) (sym q))
 lookup_tells id n (counted x) h = absurd (cc)
 lookup_tells id n (made x) h = absurd (cc)
@@ -39,7 +39,7 @@ lookup_tells id n (raised x) h = absurd (cc)
 lookup_tells id n (cleared x) h = absurd (cc)
 lookup_tells id n (mapped x) h = absurd (cc)
 
-pub turn_tells : (n : ℕ) (e : Event) → is_turn n e ≡ true → Tells core.turns e n (n + 1)
+pub turn_tells : (n : ℕ) (e : Event) → is_turn n e ≡ true → EventTells core.turns e n (n + 1)
 turn_tells n (turned t) h = let q = eqb-true t.number n h in (sym q, ap (λ i. i + 1) (sym q))
 turn_tells n (counted x) h = absurd (cc)
 turn_tells n (made x) h = absurd (cc)
@@ -56,7 +56,7 @@ entry_alone i low high low' high' (Registered decl id from) t u = (t.1 ∙ sym u
 entry_alone i low high low' high' (Unregistered decl id to) t u = (t.1 ∙ sym u.1, t.2 ∙ sym u.2)
 entry_alone i low high low' high' (Idle id) t u = absurd t
 
-pub alone : (m : core.Measure) (e : Event) (low high low' high' : ℕ) → Tells m e low high → Tells m e low' high' → (low ≡ low') × (high ≡ high')
+pub alone : (m : core.Measure) (e : Event) (low high low' high' : ℕ) → EventTells m e low high → EventTells m e low' high' → (low ≡ low') × (high ≡ high')
 alone (core.entries k) (counted x) low high low' high' t u = (t.1 ∙ sym u.1, t.2 ∙ sym u.2)
 alone (core.entries k) (made x) low high low' high' t u = (t.1 ∙ sym u.1, t.2 ∙ sym u.2)
 alone (core.entries k) e low high low' high' t u = absurd t
@@ -67,7 +67,7 @@ alone (core.lookups i) e low high low' high' t u = absurd t
 alone core.turns (turned x) low high low' high' t u = (t.0 ∙ sym u.0, t.1 ∙ sym u.1)
 alone core.turns e low high low' high' t u = absurd t
 
-abbrev pub core_of : Measure → core.Measure
+abbrev pub core_of : ToldMeasure → core.Measure
 core_of (entries place) = core.entries (place_number place)
 core_of (lookups id) = core.lookups id
 core_of turns = core.turns
@@ -86,13 +86,13 @@ one_try (mapped x) = omega arith
 pub not_below : (n l : ℕ) → l ≤ n → nat_lt n l ≡ false
 not_below n l le = grind (arith, le)
 
-pub registered : (i low high : ℕ) (e : PoolEntry) → EntryTells i low high e → core.EntryTells i e low high
+pub registered : (i low high : ℕ) (e : PoolEntry) → TurnTells i low high e → core.EntryTells i e low high
 registered i low high (Registered decl id from) t = t
 registered i low high (Unregistered decl id to) t = t
 registered i low high (Idle id) t = t
 
 -- a registration tells one number
-pub registered_flat : (i low high : ℕ) (e : PoolEntry) → EntryTells i low high e → low ≡ high
+pub registered_flat : (i low high : ℕ) (e : PoolEntry) → TurnTells i low high e → low ≡ high
 registered_flat i low high (Registered decl id from) t = t.1 ∙ sym t.2
 registered_flat i low high (Unregistered decl id to) t = t.1 ∙ sym t.2
 registered_flat i low high (Idle id) t = absurd t

@@ -1,9 +1,7 @@
 -- The report of a run is faithful: what its workers told stands in the order of their commands.
-use Rattle.shr_assemble.proofs.Common.{◌≡◌, ℕ, zero, suc, ◌+◌, ◌<◌, ◌≤◌, inr, ⊎_elim, List, [], ◌∷◌, ◌++◌, length, map, sym, ap, subst, ◌∙◌, arith, slice_get, Some, option_and_then, AllByRecursion, IsSomeAnd, none-some, same_Some, Registered, Unregistered, Done, UseStep, Serial, Answered, Reply, Command, Offline, Script, Carry, group_named, IsAtOrAbove, each_append, each_weaker, Has, slice_get_within, Begins, begins_all, begins_more, Turn, AreRising, IsLaterThan, WorkerState, Report, parents_of, decls_on, serial_of, all_carries, pool_seen, pool_made, of_answer, made_by, IsFaithful, DidCarry, IsEntryOf, Step, IsAmong, steps_of, AreChained, IsRun, done_at, by_slices, some_at}
+use Rattle.shr_assemble.proofs.Common.{◌≡◌, ℕ, zero, suc, ◌+◌, ◌<◌, ◌≤◌, inr, ⊎_elim, List, [], ◌∷◌, ◌++◌, length, map, sym, ap, subst, ◌∙◌, arith, slice_get, Some, option_and_then, AllByRecursion, IsSomeAnd, none-some, same_Some, Registered, Unregistered, Done, UseStep, Serial, Answered, Reply, Command, Offline, Script, Carry, group_named, IsAtOrAbove, each_append, each_weaker, Has, slice_get_within, Begins, begins_all, begins_more, Turn, AreRising, IsLaterThan, WorkerState, Report, parents_of, decls_on, serial_of, all_carries, pool_seen, pool_made, of_answer, pool_made_by, IsFaithful, DidCarry, IsEntryOf, Step, IsAmong, steps_of, AreStepsChained, IsRun, done_at, by_slices, some_at, EachAnswer, pool_reached, tree_reached, tree_made, AreNotAbove, IsOverOnPath}
 use Rattle.shr_base.specs.declared.replies.Reply.TheVariants as reply
 use Rattle.shr_charge.specs.Views as charge
-use Rattle.shr_report.specs.Parts.{EachAnswer}
-use Rattle.shr_report.specs.Faithful.{pool_reached, tree_reached, tree_made, AreNotAbove, IsOverOnPath}
 use Rattle.shr_assemble.specs.Causes as by
 use Rattle.shr_assemble.proofs.BitsToldLaw.{bits_told}
 use Rattle.shr_assemble.proofs.Chains.{first_grows}
@@ -33,12 +31,12 @@ around : (b : ℕ) (ns ms : List ℕ) → AllByRecursion (λ n. n ≤ b) ns → 
 around b ns ms lo hi = each_weaker (λ n. n ≤ b) (λ n. AllByRecursion (λ m. n ≤ m) ms) (λ n le. each_weaker (λ m. b ≤ m) (λ m. n ≤ m) (λ m ge. omega (arith, le, ge)) ms hi) ns lo
 
 -- ---- what a worker noted of charges along its steps
-first_ops : (t : WorkerState) (mine : List Step) (k : ℕ) (x : Step) → AreChained t mine → slice_get mine k ≡ Some x → Begins t.uses.ops x.before.uses.ops
+first_ops : (t : WorkerState) (mine : List Step) (k : ℕ) (x : Step) → AreStepsChained t mine → slice_get mine k ≡ Some x → Begins t.uses.ops x.before.uses.ops
 first_ops t [] k x c e = absurd (none-some x e)
 first_ops t (y ∷ mine) zero x c e = subst (λ (u : WorkerState). Begins u.uses.ops x.before.uses.ops) (ap (λ (z : Step). z.before) (sym (same_Some y x e)) ∙ c.0) (begins_all _)
 first_ops t (y ∷ mine) (suc k) x c e = begins_more _ _ _ (subst (λ (u : WorkerState). Begins u.uses.ops y.after.uses.ops) c.0 (y.work.ops, ap (λ u. u.ops) c.1.uses)) (first_ops y.after mine k x c.2 e)
 
-later_ops : (t : WorkerState) (mine : List Step) (k later : ℕ) (x y : Step) → AreChained t mine → k < later → slice_get mine k ≡ Some x → slice_get mine later ≡ Some y → Begins x.after.uses.ops y.before.uses.ops
+later_ops : (t : WorkerState) (mine : List Step) (k later : ℕ) (x y : Step) → AreStepsChained t mine → k < later → slice_get mine k ≡ Some x → slice_get mine later ≡ Some y → Begins x.after.uses.ops y.before.uses.ops
 later_ops t [] k later x y c lt e d = absurd (none-some x e)
 later_ops t (z ∷ mine) k zero x y c lt e d = absurd (omega arith)
 later_ops t (z ∷ mine) zero (suc later) x y c lt e d = subst (λ (v : Step). Begins v.after.uses.ops y.before.uses.ops) (same_Some z x e) (first_ops z.after mine later y c.2 d)
@@ -46,7 +44,7 @@ later_ops t (z ∷ mine) (suc k) (suc later) x y c lt e d = later_ops z.after mi
 
 module _ (s : Script) (r : Report) (workers : List (List Step)) (run : IsRun s r workers) where
   -- ---- the journal of registrations
-  made_once : (v i w j n : ℕ) → made_by r v i ≡ n ∷ [] → made_by r w j ≡ n ∷ [] → (v ≡ w) × (i ≡ j)
+  made_once : (v i w j n : ℕ) → pool_made_by r v i ≡ n ∷ [] → pool_made_by r w j ≡ n ∷ [] → (v ≡ w) × (i ≡ j)
   made_once v i w j n e f = let x = made_turn s r workers run v i n e in let y = made_turn s r workers run w j n f in
       one_turn_maker s r workers run v i w j x.0 y.0 x.2.0 y.2.0 x.1 y.1 x.2.1 y.2.1 (x.2.2 ∙ sym y.2.2)
 
@@ -54,7 +52,7 @@ module _ (s : Script) (r : Report) (workers : List (List Step)) (run : IsRun s r
   turn_later : (worker k : ℕ) (x : Step) (t : Turn) → slice_get (steps_of workers worker) k ≡ Some x → IsAmong t x.work.core.turns → length x.before.core.turns.known ≤ t.number
   turn_later worker k x t at among = each_among (λ (u : Turn). length x.before.core.turns.known ≤ u.number) x.work.core.turns t (run.steps.each worker k x at).did.pool.later among
 
-  made_later : (worker k n : ℕ) → made_by r worker k ≡ n ∷ [] → length (decls_on s) ≤ n
+  made_later : (worker k n : ℕ) → pool_made_by r worker k ≡ n ∷ [] → length (decls_on s) ≤ n
   made_later worker k n e = let x = made_turn s r workers run worker k n e in
       omega (arith, turn_later worker k x.0 x.2.0 x.1 x.2.1, x.2.2, (run.steps.new worker).pool, begins_length (run.steps.first worker).core.turns.known x.0.before.core.turns.known (first_grows (run.steps.first worker) (steps_of workers worker) k x.0 (run.steps.chained worker) x.1).pool)
 
@@ -76,17 +74,17 @@ module _ (s : Script) (r : Report) (workers : List (List Step)) (run : IsRun s r
       (each_weaker (λ n. (length x.before.core.turns.known ≤ n) × (n ≤ length x.after.core.turns.known)) (λ n. n ≤ length x.after.core.turns.known) (λ n p. p.1) (pool_seen x.answered) did.seen)
       (successors (length x.after.core.turns.known) (pool_made x.answered.reply) did.made)
 
-  pool_later : (worker k later : ℕ) → k < later → AreNotAbove (of_answer r (serial_of worker k) pool_reached) (made_by r worker later)
+  pool_later : (worker k later : ℕ) → k < later → AreNotAbove (of_answer r (serial_of worker k) pool_reached) (pool_made_by r worker later)
   pool_later worker k later lt = ⊎_elim
       (λ x. ⊎_elim
       (λ y. let g = begins_length x.0.after.core.turns.known y.0.before.core.turns.known (grows s r workers run worker k later x.0 y.0 lt x.1 y.1).pool in
-      subst (λ l. AreNotAbove l (made_by r worker later)) (sym (of_is s r workers run worker k x.0 pool_reached x.1))
+      subst (λ l. AreNotAbove l (pool_made_by r worker later)) (sym (of_is s r workers run worker k x.0 pool_reached x.1))
       (subst (AreNotAbove (pool_reached x.0.answered)) (sym (of_is s r workers run worker later y.0 (λ (a : Answered). pool_made a.reply) y.1))
       (around (length x.0.after.core.turns.known) (pool_reached x.0.answered) (pool_made y.0.answered.reply) (reached_of x.0 worker k x.1)
       (each_weaker (λ m. length y.0.before.core.turns.known ≤ m) (λ m. length x.0.after.core.turns.known ≤ m) (λ m le. omega (arith, le, g)) (pool_made y.0.answered.reply)
       (made_from worker later y.0 y.0.answered.reply y.1 (run.steps.each worker later y.0 y.1).did.cause)))))
       (λ none. subst (AreNotAbove (of_answer r (serial_of worker k) pool_reached)) (sym (none_given s r workers run worker later (λ (a : Answered). pool_made a.reply) none)) (above_none _)) (step_cases s r workers run worker later))
-      (λ none. subst (λ l. AreNotAbove l (made_by r worker later)) (sym (none_given s r workers run worker k pool_reached none)) tt) (step_cases s r workers run worker k)
+      (λ none. subst (λ l. AreNotAbove l (pool_made_by r worker later)) (sym (none_given s r workers run worker k pool_reached none)) tt) (step_cases s r workers run worker k)
 
   -- ---- the journal of the tree
   tree_known : (x : Step) (z : Reply) → by.IsCausedBy s x z → AllByRecursion (λ n. n ≤ length x.after.tree.known) (tree_reached z)
@@ -97,7 +95,7 @@ module _ (s : Script) (r : Report) (workers : List (List Step)) (run : IsRun s r
 
   tree_from : (worker k : ℕ) (x : Step) (z : Reply) → slice_get (steps_of workers worker) k ≡ Some x → by.IsCausedBy s x z → AllByRecursion (λ n. length x.before.tree.known ≤ n) (tree_made z)
   tree_from worker k x (reply.OfflineDone entry moved deferred) at h =
-      ((all_among (λ (m : charge.Made). (length x.before.tree.known ≤ m.number) × IsEntryOf s x m.number m.entry) x.work.tree (record { number = entry; entry = Done h.group }) (run.steps.each worker k x at).did.tree.each h.made).0, tt)
+      ((all_among (λ (m : charge.TreeMade). (length x.before.tree.known ≤ m.number) × IsEntryOf s x m.number m.entry) x.work.tree (record { number = entry; entry = Done h.group }) (run.steps.each worker k x at).did.tree.each h.made).0, tt)
   tree_from worker k x y at h = tt
 
   tree_later : (worker k later : ℕ) → k < later → AreNotAbove (of_answer r (serial_of worker k) (λ (a : Answered). tree_reached a.reply)) (of_answer r (serial_of worker later) (λ (a : Answered). tree_made a.reply))

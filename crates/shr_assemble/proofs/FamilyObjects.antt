@@ -1,14 +1,10 @@
 -- What holds of each object that is added holds of each that is listed or freed, and what journals free, entry by entry.
-use Rattle.shr_assemble.proofs.Common.{◌≡◌, ℕ, zero, suc, Bool, true, false, not, cond, List, [], ◌∷◌, ◌++◌, length, length-append, take, sym, refl, ap, ◌∙◌, arith, eqb, append_assoc, Some, None, Option, find, AllByRecursion, enumerate_from, take_at, Object, Policy, Place, Entry, Add, Look, Drop, Pin, Scan, MovedIn, Closed, Drained, is_child, is_named, holds, named_in, fresh, marked_object, unmarked_object, pinned_object, step, dropped_of, freed_by, first_moved, later_moved, is_closing, at_group, Family, without_child, items_given, lists_moved_at, items_at, before_closed, each_append, total, total-append}
-use Rattle.std.specs.Prelude.{take_while}
-use Rattle.std.specs.List.{prefix_len}
-use Rattle.shr_model.specs.Objects.{change_first, without_first}
+use Rattle.shr_assemble.proofs.Common.{◌≡◌, ℕ, zero, suc, Bool, true, false, not, cond, List, [], ◌∷◌, ◌++◌, length, length-append, take, sym, refl, ap, ◌∙◌, arith, eqb, append_assoc, Some, None, Option, find, AllByRecursion, enumerate_from, take_at, Object, Policy, Place, Entry, Add, Look, Drop, Pin, Scan, MovedIn, Closed, Drained, is_child, is_named, holds, named_in, fresh, marked_object, unmarked_object, pinned_object, step, dropped_of, freed_by, first_moved, later_moved, is_closing, at_group, Family, without_child, items_given, lists_moved_at, items_at, before_closed, each_append, total, total-append, take_while, prefix_len, change_first, without_first, items_from_push}
 use Rattle.shr_base.specs.declared.objects.LruStatus.{LruStatus}
 use Rattle.shr_base.specs.declared.objects.LruStatus.TheVariants.{Removed, Rotate, Skip, Stop}
 use Rattle.shr_model.specs.Scan.{case_of, Scanned, scan_ends, after_visit, after_freeing, scan_from}
 use Rattle.shr_model.specs.Items.{after_drop, items_from, freed_from, moved_from}
 use Rattle.shr_model.specs.Families.{lists_moved, items_within}
-use Rattle.shr_model.proofs.ItemsLaws.{items_from_push}
 
 module _ (P : Object → Type 0) (marks : (o : Object) → P o → P (marked_object o)) (unmarks : (o : Object) → P o → P (unmarked_object o)) (pins : (pinned : Bool) (o : Object) → P o → P (pinned_object pinned o)) where
   abbrev All : List Object → Type 0

@@ -1,5 +1,5 @@
 -- Which bits a command set: those of the lists that it filled, and those that its walks set again.
-use Rattle.shr_assemble.proofs.Common.{◌≡◌, ◌⊎◌, inl, inr, ℕ, zero, suc, ◌<◌, Bool, true, false, cond, List, [], ◌∷◌, ◌++◌, length, sym, refl, ap, subst, ◌∙◌, arith, append_assoc, ◌&&◌, ◌==◌, nat_lt, flat_map, map-append, dite, ℕ_discrete, and_parts, ltb-true, some-injective, some-ne-none, Entry, Add, Look, Drop, Pin, Scan, MovedIn, Closed, Drained, Object, WalkRecord, Has, step, Deed, by_seat, Each, times, only, Each-none, Each-weaker, some_term, only_no, View, Gained, Adds, among, group_of, Made, Event, counted, made, looked, loaded, turned, put_back, raised, cleared, mapped, is_raised, bits_for, Fills, IsFilled, IsAmong, set_in}
+use Rattle.shr_assemble.proofs.Common.{◌≡◌, ◌⊎◌, inl, inr, ℕ, zero, suc, ◌<◌, Bool, true, false, cond, List, [], ◌∷◌, ◌++◌, length, sym, refl, ap, subst, ◌∙◌, arith, append_assoc, ◌&&◌, ◌==◌, nat_lt, flat_map, map-append, dite, ℕ_discrete, and_parts, ltb-true, some-injective, some-ne-none, Entry, Add, Look, Drop, Pin, Scan, MovedIn, Closed, Drained, Object, WalkRecord, Has, step, Deed, by_seat, Each, times, only, Each-none, Each-weaker, some_term, only_no, View, Gained, Adds, among, group_of, Made, Event, counted, made, looked, loaded, turned, put_back, raised, cleared, mapped, is_raised, bits_for, Fills, IsListFilled, IsAmong, set_by_walk}
 use Rattle.shr_model.specs.Scan.{scan_from}
 use Rattle.shr_core.specs.Gained.{sets_in, cleared_in}
 use Rattle.shr_assemble.proofs.Operations.{among_has}
@@ -8,7 +8,7 @@ use Rattle.shr_node.proofs.Places.{none_in}
 
 -- the bit of a place was set by an entry, or in a walk
 abbrev pub IsSet : List Made → List WalkRecord → ℕ → Type 0
-IsSet ms walks place = IsFilled ms place ⊎ IsAmong place (flat_map set_in walks)
+IsSet ms walks place = IsListFilled ms place ⊎ IsAmong place (flat_map set_by_walk walks)
 
 -- an entry that leaves something in an empty list, where nothing is moved in, fills it
 fills_none : (e : Entry) → 0 < length (step [] [] e) → Fills [] e
@@ -23,16 +23,16 @@ fills_none (MovedIn child objects) lt = absurd (omega (arith, lt))
 fills_none Closed lt = absurd (omega (arith, lt))
 fills_none (Drained by objects) lt = absurd (omega (arith, lt))
 
-pub filled_one : (ms : List Made) (k : ℕ) → IsFilled ms k → Each (IsFilled ms) (k ∷ [])
-filled_one ms k h zero y e = subst (IsFilled ms) (some-injective k y e) h
+pub filled_one : (ms : List Made) (k : ℕ) → IsListFilled ms k → Each (IsListFilled ms) (k ∷ [])
+filled_one ms k h zero y e = subst (IsListFilled ms) (some-injective k y e) h
 filled_one ms k h (suc j) y e = absurd (some-ne-none y (sym e))
 
 -- the one bit that an entry of a tenant or a scan sets is of the list that it filled
-pub filled_by : (m : Made) → Each (IsFilled (m ∷ [])) (bits_for m.place m.items (step [] m.items m.entry))
+pub filled_by : (m : Made) → Each (IsListFilled (m ∷ [])) (bits_for m.place m.items (step [] m.items m.entry))
 filled_by m = by_cases (is_raised m.place m.items (step [] m.items m.entry)) refl
   where
-    by_cases : (b : Bool) → is_raised m.place m.items (step [] m.items m.entry) ≡ b → Each (IsFilled (m ∷ [])) (cond b (m.place ∷ []) [])
-    by_cases false e = Each-none (IsFilled (m ∷ []))
+    by_cases : (b : Bool) → is_raised m.place m.items (step [] m.items m.entry) ≡ b → Each (IsListFilled (m ∷ [])) (cond b (m.place ∷ []) [])
+    by_cases false e = Each-none (IsListFilled (m ∷ []))
     by_cases true e =
         let first = and_parts (length m.items == 0) (nat_lt 0 (length (step [] m.items m.entry))) (and_parts ((length m.items == 0) && nat_lt 0 (length (step [] m.items m.entry))) (nat_lt 0 (group_of m.place)) e).0 in
         let none = none_in m.items first.0 in
@@ -45,14 +45,14 @@ filled_by m = by_cases (is_raised m.place m.items (step [] m.items m.entry)) ref
         })
 
 -- among more entries
-pub filled_among : (ms more : List Made) → ((m : Made) → IsAmong m ms → IsAmong m more) → (places : List ℕ) → Each (IsFilled ms) places → Each (IsFilled more) places
-filled_among ms more into places h = Each-weaker (IsFilled ms) (IsFilled more) (λ k f. record { entry = f.entry; among = into f.entry f.among; here = f.here; fills = f.fills }) places h
+pub filled_among : (ms more : List Made) → ((m : Made) → IsAmong m ms → IsAmong m more) → (places : List ℕ) → Each (IsListFilled ms) places → Each (IsListFilled more) places
+filled_among ms more into places h = Each-weaker (IsListFilled ms) (IsListFilled more) (λ k f. record { entry = f.entry; among = into f.entry f.among; here = f.here; fills = f.fills }) places h
 
-pub set_filled : (ms : List Made) (walks : List WalkRecord) (places : List ℕ) → Each (IsFilled ms) places → Each (IsSet ms walks) places
-set_filled ms walks places h = Each-weaker (IsFilled ms) (IsSet ms walks) (λ k f. inl f) places h
+pub set_filled : (ms : List Made) (walks : List WalkRecord) (places : List ℕ) → Each (IsListFilled ms) places → Each (IsSet ms walks) places
+set_filled ms walks places h = Each-weaker (IsListFilled ms) (IsSet ms walks) (λ k f. inl f) places h
 
 -- what walks set
-pub set_walked : (ms : List Made) (walks : List WalkRecord) (places : List ℕ) → flat_map set_in walks ≡ places → Each (IsSet ms walks) places
+pub set_walked : (ms : List Made) (walks : List WalkRecord) (places : List ℕ) → flat_map set_by_walk walks ≡ places → Each (IsSet ms walks) places
 set_walked ms walks places e j k at = inr (subst (λ l. IsAmong k l) (sym e) (j, at))
 
 pub set_none : (ms : List Made) (walks : List WalkRecord) (places : List ℕ) → places ≡ [] → Each (IsSet ms walks) places

@@ -1,5 +1,5 @@
 -- All answers, walks and carries of a report are those of the steps.
-use Rattle.shr_assemble.proofs.Common.{◌≡◌, ℕ, zero, suc, ◌+◌, List, [], ◌∷◌, ◌++◌, length, length-append, take, sym, refl, ap, subst, ◌∙◌, arith, slice_get, Option, Some, None, flat_map, map, same_Some, none-some, WorkerPart, Script, WalkRecord, WorkerState, Report, all_walks, all_carries, answers_of, walk_at, Step, gathered, steps_in, steps_of, AreChained, DidWalk, IsRun, IsStep}
+use Rattle.shr_assemble.proofs.Common.{◌≡◌, ℕ, zero, suc, ◌+◌, List, [], ◌∷◌, ◌++◌, length, length-append, take, sym, refl, ap, subst, ◌∙◌, arith, slice_get, Option, Some, None, flat_map, map, same_Some, none-some, WorkerPart, Script, WalkRecord, WorkerState, Report, all_walks, all_carries, answers_of, walk_at, Step, gathered, steps_in, steps_of, AreStepsChained, DidWalk, IsRun, IsStep}
 use Rattle.shr_report.specs.Parts.{answers_in, walks_in, carries_in}
 use Rattle.shr_assemble.proofs.Gathering.{flat_at, flat_there}
 
@@ -45,7 +45,7 @@ module _ (s : Script) (r : Report) (workers : List (List Step)) (run : IsRun s r
       refl refl (λ part. refl) (λ mine. refl) answers_are
 
   -- how many walks a worker had before a step
-  walks_before : (t : WorkerState) (mine : List Step) (k : ℕ) (x : Step) → AreChained t mine → slice_get mine k ≡ Some x → length x.before.walks ≡ length t.walks + length (flat_map (λ (y : Step). y.work.walks) (take k mine))
+  walks_before : (t : WorkerState) (mine : List Step) (k : ℕ) (x : Step) → AreStepsChained t mine → slice_get mine k ≡ Some x → length x.before.walks ≡ length t.walks + length (flat_map (λ (y : Step). y.work.walks) (take k mine))
   walks_before t [] k x c e = absurd (none-some x e)
   walks_before t (y ∷ mine) zero x c e = omega (arith, ap (λ (z : Step). length z.before.walks) (sym (same_Some y x e)), ap (λ (u : WorkerState). length u.walks) c.0)
   walks_before t (y ∷ mine) (suc k) x c e = omega (

@@ -1,5 +1,5 @@
 -- A put whose group and key no other put names isn't answered that its object exists: each object so named is its own.
-use Rattle.shr_assemble.proofs.Common.{◌≡◌, ℕ, zero, suc, ◌<◌, ◌≤◌, inl, inr, Bool, true, false, not, ◌||◌, ◌==◌, cond, List, [], ◌∷◌, ◌++◌, length, take, sym, refl, ap, subst, ◌∙◌, arith, slice_get, Some, bytes_eq, AllByRecursion, list_any, cases_Bool, and_parts, eqb-true, Contains-permutation, IsPermutation-sym, same_Some, none-some, slice_get_within, Object, At, Place, Serial, Entry, Add, Look, Drop, Pin, Scan, MovedIn, Closed, Drained, Command, Put, Get, Del, SetPin, Script, added_by, added_by_all, added_in, listed_in, is_serial, items_at, lists_moved_at, step, IsOutcome, first_moved, later_moved, by_of, is_named, holds, marked_object, unmarked_object, pinned_object, Has, Has_from_Contains, Contains_from_Has, each_has, flat_map_has, weight, mass, weight_append, place_at, Made, Report, parents_of, commands_of, serial_of, journals_of, places_of, cited_at, id_found, at, IsOnlyPut, MayMake, IsRun, Step, by_slices, serial_itself}
+use Rattle.shr_assemble.proofs.Common.{◌≡◌, ℕ, zero, suc, ◌<◌, ◌≤◌, inl, inr, Bool, true, false, not, ◌||◌, ◌==◌, cond, List, [], ◌∷◌, ◌++◌, length, take, sym, refl, ap, subst, ◌∙◌, arith, slice_get, Some, bytes_eq, AllByRecursion, list_any, cases_Bool, and_parts, eqb-true, Contains-permutation, IsPermutation-sym, same_Some, none-some, slice_get_within, Object, At, Place, Serial, Entry, Add, Look, Drop, Pin, Scan, MovedIn, Closed, Drained, Command, Put, Get, Del, SetPin, Script, added_by, added_by_all, added_in, listed_in, is_serial, items_at, lists_moved_at, step, IsOutcome, first_moved, later_moved, by_of, is_named, holds, marked_object, unmarked_object, pinned_object, Has, Has_from_Contains, Contains_from_Has, each_has, flat_map_has, weight, mass, weight_append, place_at, Made, Report, parents_of, commands_of, serial_of, journals_of, places_of, cited_at, id_found, at, IsOnlyPut, MayMakeEntry, IsRun, Step, by_slices, serial_itself}
 use Rattle.std.specs.Cmp.Lexicographic.{bytes_decides}
 use Rattle.shr_model.specs.Bag.{freed_in}
 use Rattle.shr_model.specs.Items.{items_from, moved_from, AreOutcomes}
@@ -95,7 +95,7 @@ module _ (s : Script) (r : Report) (workers : List (List Step)) (run : IsRun s r
       let e : Entry = Add by birth added key value in
       let m = maker s r workers run place n e stands in
       let is = run.steps.each m.worker m.k m.step m.at in
-      let told = told_of s m.step m.made m.made.entry by (ap (λ z. by_of z) m.entry) (each_among (λ (z : Made). MayMake s m.step z z.entry) m.step.work.core.made m.made is.did.entries.each m.among) in
+      let told = told_of s m.step m.made m.made.entry by (ap (λ z. by_of z) m.entry) (each_among (λ (z : Made). MayMakeEntry s m.step z z.entry) m.step.work.core.made m.made is.did.entries.each m.among) in
       let own = is.did.entries.reply (journals_of r) (λ j z q. (made_stands s r workers run m.worker m.k m.step m.at j z q).1) in
       let here : slice_get (journals_of r (place_at m.made.place)) m.made.number ≡ Some e = ap (λ p. slice_get (journals_of r p) m.made.number) m.place_is ∙ (ap (slice_get (journals_of r place)) m.number ∙ stands) in
       let entry = entry_asked (parents_of s) (journals_of r) m.step.by m.step.answered.reply m.step.command (id_found m.step.answered) (at (place_at m.made.place) m.made.number) e own told.cited here in

@@ -1,7 +1,6 @@
 -- A cache that is `on` and stays so is live after each beginning of the journal of registrations that holds its opening.
-use Rattle.shr_assemble.proofs.Common.{◌≡◌, ◌≢◌, ℕ, zero, suc, ◌+◌, ◌%◌, ◌<◌, inl, inr, true, cond, List, [], ◌∷◌, ◌++◌, take, sym, refl, ap, subst, ◌∙◌, arith, eq-eqb, ne_eqb, slice_get, Option, Some, None, nat_lt, ◌==◌, cases_Bool, and_parts, eqb-true, same_Some, none-some, dite, ℕ_discrete, PoolEntry, Registered, Unregistered, Idle, phase_of, decl_of, is_live_decl, is_free, lowest_idle, IsNextPool, IsPoolJournal, phase_of_push, some_at}
+use Rattle.shr_assemble.proofs.Common.{◌≡◌, ◌≢◌, ℕ, zero, suc, ◌+◌, ◌%◌, ◌<◌, inl, inr, true, cond, List, [], ◌∷◌, ◌++◌, take, sym, refl, ap, subst, ◌∙◌, arith, eq-eqb, ne_eqb, slice_get, Option, Some, None, nat_lt, ◌==◌, cases_Bool, and_parts, eqb-true, same_Some, none-some, dite, ℕ_discrete, PoolEntry, Registered, Unregistered, Idle, phase_of, decl_of, is_live_decl, is_free, lowest_idle, IsNextPool, IsPoolJournal, phase_of_push, some_at, decl_from_push}
 use Rattle.shr_model.specs.Pool.{id_of, decl_after, lowest_free}
-use Rattle.shr_model.proofs.PoolLaws.{decl_from_push}
 use Rattle.shr_registry.proofs.Searches.{live_below}
 
 -- the lowest that can be registered is one of so many, and can be

@@ -1,8 +1,6 @@
 -- A put that nothing is in the way of is answered Added, or that there was no memory, or that a counter is used up.
-use Rattle.shr_assemble.proofs.Common.{◌≡◌, ℕ, ◌<◌, ◌≤◌, ⊎_elim, true, false, ◌||◌, eq-eqb, List, [], ◌∷◌, ◌++◌, length, sym, refl, ap, subst, ◌∙◌, arith, slice_get, Option, Some, None, option_map, option_and_then, option_to_list, flat_map, AllByRecursion, list_any, IsSomeAnd, same_Some, none-some, slice_get_within, At, Serial, Answered, Found, Reply, Begin, Command, Put, Script, WalkRecord, group_named, Family, IsAtOrAbove, is_later, begin_of, is_begin, Report, StandsInTree, IsUnmade, IsUncached, IsOffline, MayHaveBegun, pool_seen, pool_told, tree_cited, is_begin_at, shows_begin, walk_cited, of_answer, parents_of, limit_of, decls_on, commands_of, answers_of, serial_of, journals_of, cited_at, cited_by, walks_by, id_found, IsOnlyPut, AreFreePutsAdded, IsReply, HasCause, IsOverBy, IsCausedBy, IsRun, Step, begin_found}
+use Rattle.shr_assemble.proofs.Common.{◌≡◌, ℕ, ◌<◌, ◌≤◌, ⊎_elim, true, false, ◌||◌, eq-eqb, List, [], ◌∷◌, ◌++◌, length, sym, refl, ap, subst, ◌∙◌, arith, slice_get, Option, Some, None, option_map, option_and_then, option_to_list, flat_map, AllByRecursion, list_any, IsSomeAnd, same_Some, none-some, slice_get_within, At, Serial, Answered, Found, Reply, Begin, Command, Put, Script, WalkRecord, group_named, Family, IsAtOrAbove, is_later, begin_of, is_begin, Report, StandsInTree, IsUnmade, IsUncached, IsOffline, MayHaveBegun, pool_seen, pool_told, tree_cited, is_begin_at, shows_begin, walk_cited, of_answer, parents_of, limit_of, decls_on, commands_of, answers_of, serial_of, journals_of, cited_at, cited_by, walks_by, id_found, IsOnlyPut, AreFreePutsAdded, IsReply, HasCause, IsOverBy, IsCausedBy, IsRun, Step, begin_found, later_of, IsUnlimited, StaysOn, StaysOnline, IsFreePut, IsAddedOrSpent}
 use Rattle.shr_base.specs.declared.replies.Reply.TheVariants as reply
-use Rattle.shr_report.specs.Parts.{later_of}
-use Rattle.shr_report.specs.Puts.{IsUnlimited, StaysOn, StaysOnline, IsFreePut, IsAddedOrSpent}
 use Rattle.shr_assemble.proofs.CausesLaw.{causes_lawful}
 use Rattle.shr_assemble.proofs.FreeExists.{no_exists}
 use Rattle.shr_assemble.proofs.FreePool.{live_after}

@@ -1,20 +1,17 @@
 -- What an answer knew isn't older than what its worker had known before.
-use Rattle.shr_assemble.proofs.Common.{◌≡◌, ℕ, zero, suc, ◌+◌, ◌<◌, ◌≤◌, ◌⊎◌, inl, inr, ⊎_elim, Bool, true, false, ◌||◌, List, [], ◌∷◌, ◌++◌, length, length-append, take, map, get_or, sym, refl, ap, subst, ◌∙◌, arith, slice_get, Option, Some, None, flat_map, option_map, option_and_then, option_to_list, AllByRecursion, list_any, IsSomeAnd, same_Some, none-some, slice_get_within, cases_Bool, append-nil, Serial, Answered, Reply, TreeEntry, Begin, Done, Command, Script, WalkAnswer, WalkRecord, asks_online, is_begin, is_made, is_serial, MayBegin, each_append, each_weaker, Has, Contains_from_Has, each_has, flat_map_has, filter_has, Begins, WorkerState, IsNamed, Report, decls_on, serial_of, command_at, answers_of, walks_of, answer_at, reply_at, walks_by, MayHaveBegun, IsOffline, pool_seen, pool_made, tree_cited, walk_cited, made_shown, of_answer, is_begin_at, shows_begin, shows_offline, MayBeOffline, AreNotFalling, Step, IsAmong, steps_of, AreChained, Grows, KnowsOnline, IsBegun, IsEntryOf, IsRun, is_made_grows, is_there, begin_at, done_at, made_at, begin_found, begun_before}
+use Rattle.shr_assemble.proofs.Common.{◌≡◌, ℕ, zero, suc, ◌+◌, ◌<◌, ◌≤◌, ◌⊎◌, inl, inr, ⊎_elim, Bool, true, false, ◌||◌, List, [], ◌∷◌, ◌++◌, length, length-append, take, map, get_or, sym, refl, ap, subst, ◌∙◌, arith, slice_get, Option, Some, None, flat_map, option_map, option_and_then, option_to_list, AllByRecursion, list_any, IsSomeAnd, same_Some, none-some, slice_get_within, cases_Bool, append-nil, Serial, Answered, Reply, TreeEntry, Begin, Done, Command, Script, WalkAnswer, WalkRecord, asks_online, is_begin, is_made, is_serial, MayBegin, each_append, each_weaker, Has, Contains_from_Has, each_has, flat_map_has, filter_has, Begins, WorkerState, IsNamed, Report, decls_on, serial_of, command_at, answers_of, walks_of, answer_at, reply_at, walks_by, MayHaveBegun, IsOffline, pool_seen, pool_made, tree_cited, walk_cited, made_shown, of_answer, is_begin_at, shows_begin, shows_offline, MayBeOffline, AreNotFalling, Step, IsAmong, steps_of, AreStepsChained, Grows, KnowsOnline, IsBeginOf, IsEntryOf, IsRun, is_made_grows, is_there, begin_at, done_at, made_at, begin_found, begun_before, is_done, tree_told, tree_seen, shows_made, shown_by, is_done_at, AreBelow, IsFresh, is_begin_of, is_done_of}
 use Rattle.shr_base.specs.declared.replies.Reply.TheVariants as reply
 use Rattle.shr_base.specs.declared.journals.TreeEntry.TheVariants.{Made}
 use Rattle.shr_base.specs.declared.walks.WalkAnswer.TheVariants as walk
-use Rattle.shr_model.specs.TreeJournal.{is_done}
 use Rattle.shr_charge.specs.Views as charge
-use Rattle.shr_charge.specs.Views.{Loaded}
+use Rattle.shr_charge.specs.Views.{LoadedState}
 use Rattle.shr_charge.specs.declared.answers.GroupState.TheVariants as state
-use Rattle.shr_report.specs.Parts.{hierarchy_of}
-use Rattle.shr_report.specs.Freshness.{tree_told, tree_seen, shows_made, shown_by, is_done_at, AreBelow, IsFresh}
+use Rattle.shr_report.specs.Parts.{script_hierarchy}
 use Rattle.shr_assemble.specs.Causes as by
 use Rattle.shr_assemble.proofs.Gathering.{among_right, among_begins}
 use Rattle.shr_assemble.proofs.Listed.{all_among, begins_slice, slice_begins, contains_slice, no_test}
 use Rattle.shr_assemble.proofs.Making.{work_of, grows, answers, answer_is, reply_is, Stepped, stepped, command_step}
 use Rattle.shr_assemble.proofs.Makers.{entry_maker, entry_stands}
-use Rattle.shr_charge.proofs.TreeFacts.{is_begin_of, is_done_of}
 use Rattle.shr_assemble.proofs.Chains.{first_grows, grows_then, step_grows}
 use Rattle.shr_assemble.proofs.VersionsLaw.{adjacent, NotFalling}
 use Rattle.shr_assemble.proofs.Shown.{tree_stands}
@@ -41,7 +38,7 @@ both_fall_not [] ys b f g lo hi = g
 both_fall_not (x ∷ xs) ys b f g lo hi = (each_append (λ m. x ≤ m) xs ys f.0 (each_weaker (λ m. b ≤ m) (λ m. x ≤ m) (λ m le. let l = lo.0 in omega (arith, l, le)) ys hi), both_fall_not xs ys b f.1 g lo.1 hi)
 
 -- a list of numbers for each step, each between what its state before and after says
-along : (f : Step → List ℕ) (low : WorkerState → ℕ) (t : WorkerState) (mine : List Step) → AreChained t mine → ((k : ℕ) (x : Step) → slice_get mine k ≡ Some x → NotFalling (f x) × AllByRecursion (λ n. (low x.before ≤ n) × (n ≤ low x.after)) (f x) × (low x.before ≤ low x.after))
+along : (f : Step → List ℕ) (low : WorkerState → ℕ) (t : WorkerState) (mine : List Step) → AreStepsChained t mine → ((k : ℕ) (x : Step) → slice_get mine k ≡ Some x → NotFalling (f x) × AllByRecursion (λ n. (low x.before ≤ n) × (n ≤ low x.after)) (f x) × (low x.before ≤ low x.after))
     → NotFalling (flat_map f mine) × AllByRecursion (λ n. low t ≤ n) (flat_map f mine)
 along f low t [] c h = (tt, tt)
 along f low t (x ∷ mine) c h =
@@ -179,7 +176,7 @@ module _ (s : Script) (r : Report) (workers : List (List Step)) (run : IsRun s r
   below_told y (reply.HasChildren child entry) h n shown = (omega (arith, h.all, within), tt)
     where
       within : n < length y.after.tree.known
-      within = ⊎_elim (λ a. slice_get_within y.after.tree.known n (Begin a.0) (begin_at y.after.tree.known a.0 n (all_among (IsNamed (hierarchy_of s) y.after.tree.known) y.after.tree.loaded (record { group = a.0; state = state.Offline n }) h.shown a.1).1))
+      within = ⊎_elim (λ a. slice_get_within y.after.tree.known n (Begin a.0) (begin_at y.after.tree.known a.0 n (all_among (IsNamed (script_hierarchy s) y.after.tree.known) y.after.tree.loaded (record { group = a.0; state = state.Offline n }) h.shown a.1).1))
           (λ d. slice_get_within y.after.tree.known n d.0 d.1) shown
   below_told y z h n shown = tt
 
@@ -222,7 +219,7 @@ module _ (s : Script) (r : Report) (workers : List (List Step)) (run : IsRun s r
 
   -- an entry that a word tells of is the Begin of its group
   told_stands : (worker k : ℕ) (x : Step) (group n : ℕ) → slice_get (steps_of workers worker) k ≡ Some x → IsAmong (record { group = group; state = state.Offline n }) x.after.tree.loaded → slice_get r.tree.items n ≡ Some (Begin group)
-  told_stands worker k x group n e a = begin_at r.tree.items group n (all_among (IsNamed (hierarchy_of s) r.tree.items) x.after.tree.loaded (record { group = group; state = state.Offline n }) (run.steps.shown worker k x e).words a).1
+  told_stands worker k x group n e a = begin_at r.tree.items group n (all_among (IsNamed (script_hierarchy s) r.tree.items) x.after.tree.loaded (record { group = group; state = state.Offline n }) (run.steps.shown worker k x e).words a).1
 
   -- what was shown as a Begin came from a word or stands among what is known, and a Done stands there
   begin_was : (worker k : ℕ) (x : Step) (group n : ℕ) → slice_get (steps_of workers worker) k ≡ Some x → slice_get r.tree.items n ≡ Some (Begin group) → WasShown x.after n
@@ -239,7 +236,7 @@ module _ (s : Script) (r : Report) (workers : List (List Step)) (run : IsRun s r
   -- a worker that was shown the Begin of a group knows that it isn't online
   not_online : (worker k : ℕ) (x : Step) (group n : ℕ) (u : WorkerState) → slice_get (steps_of workers worker) k ≡ Some x → Grows x.after u → slice_get r.tree.items n ≡ Some (Begin group) → WasShown x.after n → KnowsOnline u.tree group → ⊥
   not_online worker k x group n u e g stands shown online = ⊎_elim
-      (λ a. all_among (λ (l : Loaded). l.group ≡ group → (entry : ℕ) → l.state ≡ state.Offline entry → ⊥) u.tree.loaded (record { group = group; state = state.Offline n }) online.loaded (among_begins x.after.tree.loaded u.tree.loaded (record { group = group; state = state.Offline n }) g.words a) refl n refl)
+      (λ a. all_among (λ (l : LoadedState). l.group ≡ group → (entry : ℕ) → l.state ≡ state.Offline entry → ⊥) u.tree.loaded (record { group = group; state = state.Offline n }) online.loaded (among_begins x.after.tree.loaded u.tree.loaded (record { group = group; state = state.Offline n }) g.words a) refl n refl)
       (λ d. let f = begin_found u.tree.known group n (begins_slice x.after.tree.known u.tree.known n (Begin group) g.tree d) in online.known f.0 f.1)
       (begin_was worker k x group n e stands shown)
 
@@ -260,7 +257,7 @@ module _ (s : Script) (r : Report) (workers : List (List Step)) (run : IsRun s r
       from_done (n, has, is) =
           let stands = done_there group n is in
           let below = done_was worker k x group n e stands (own n has) in
-          let b = begun_before (hierarchy_of s) run.uses.hierarchy r.tree.items run.uses.tree group n stands in
+          let b = begun_before (script_hierarchy s) run.uses.hierarchy r.tree.items run.uses.tree group n stands in
           let known = slice_begins x.after.tree.known r.tree.items b.0 (Begin group) (run.steps.shown worker k x e).tree (omega (arith, b.2, below)) b.1 in
           let there = begins_slice x.after.tree.known u.tree.known b.0 (Begin group) g.tree known in
           let f = begin_found u.tree.known group b.0 there in online.known f.0 f.1
@@ -270,10 +267,10 @@ module _ (s : Script) (r : Report) (workers : List (List Step)) (run : IsRun s r
   below_root worker k group shows = elim (cases_Bool (shows_begin r (serial_of worker k) group)) [
     | inl begins ↦ let t = any_has (is_begin_at r group) (shown_by r (serial_of worker k)) begins in (begin_may group t.0 (begin_there group t.0 t.2)).below
     | inr not_it ↦ let t = any_has (is_done_at r group) (shown_by r (serial_of worker k)) (sym (ap (λ b. b || list_any (is_done_at r group) (shown_by r (serial_of worker k))) not_it) ∙ shows) in
-        let b = begun_before (hierarchy_of s) run.uses.hierarchy r.tree.items run.uses.tree group t.0 (done_there group t.0 t.2) in (begin_may group b.0 b.1).below
+        let b = begun_before (script_hierarchy s) run.uses.hierarchy r.tree.items run.uses.tree group t.0 (done_there group t.0 t.2) in (begin_may group b.0 b.1).below
   ]
     where
-      begin_may : (g n : ℕ) → slice_get r.tree.items n ≡ Some (Begin g) → MayBegin (hierarchy_of s) (take n r.tree.items) g
+      begin_may : (g n : ℕ) → slice_get r.tree.items n ≡ Some (Begin g) → MayBegin (script_hierarchy s) (take n r.tree.items) g
       begin_may g n stands = run.uses.tree n (Begin g) stands
 
   refused : (worker k later group : ℕ) → k < later → shows_offline r (serial_of worker k) group ≡ true → option_and_then asks_online (command_at s (serial_of worker later)) ≡ Some group → IsSomeAnd (reply_at r (serial_of worker later)) MayBeOffline
@@ -302,7 +299,7 @@ module _ (s : Script) (r : Report) (workers : List (List Step)) (run : IsRun s r
       let x = shown_has worker k t.0 t.1 in
       let m = entry_maker s r workers run t.0 (Begin group) stands in
       let is = run.steps.each m.worker m.k m.step m.at in
-      let begun : IsBegun m.step group = subst (IsEntryOf s m.step m.made.number) m.entry (all_among (λ (z : charge.Made). (length m.step.before.tree.known ≤ z.number) × IsEntryOf s m.step z.number z.entry) m.step.work.tree m.made is.did.tree.each m.among).1 in
+      let begun : IsBeginOf m.step group = subst (IsEntryOf s m.step m.made.number) m.entry (all_among (λ (z : charge.TreeMade). (length m.step.before.tree.known ≤ z.number) × IsEntryOf s m.step z.number z.entry) m.step.work.tree m.made is.did.tree.each m.among).1 in
       let l = all_later (serial_of m.worker m.k) (record { command_is = is.command ∙ begun.command; answer = subst (λ o. IsSomeAnd o MayHaveBegun) (sym (reply_is s r workers run m.worker m.k m.step m.at)) begun.answer }) in
       let at : slice_get (steps_of workers worker) m.k ≡ Some m.step = subst (λ v. slice_get (steps_of workers v) m.k ≡ Some m.step) l.0 m.at in
       let g = grows s r workers run worker k m.k x.0 m.step l.1 x.1 at in
@@ -329,10 +326,10 @@ module _ (s : Script) (r : Report) (workers : List (List Step)) (run : IsRun s r
           let unmade = (run.steps.each worker later y at_y).did.tree.meets.unmade group (same_Some y.answered.reply (reply.NotMade group) (sym (reply_is s r workers run worker later y at_y) ∙ told)) in
           let g = grows s r workers run worker k later x y lt at_x at_y in
           ⊎_elim
-          (λ made. let no : false ≡ true = sym unmade.known ∙ subst (λ (l : List TreeEntry). is_made (hierarchy_of s) l group ≡ true) (sym g.tree.1) (is_made_grows (hierarchy_of s) x.after.tree.known g.tree.0 group made) in absurd (cc))
-          (λ m. let l : Loaded = record { group = group; state = m.0 } in
+          (λ made. let no : false ≡ true = sym unmade.known ∙ subst (λ (l : List TreeEntry). is_made (script_hierarchy s) l group ≡ true) (sym g.tree.1) (is_made_grows (script_hierarchy s) x.after.tree.known g.tree.0 group made) in absurd (cc))
+          (λ m. let l : LoadedState = record { group = group; state = m.0 } in
           let among = among_begins x.after.tree.loaded y.before.tree.loaded l g.words (subst (IsAmong l) (sym (work_of s r workers run worker k x at_x).words) (among_right x.before.tree.loaded x.work.words l m.2)) in
-          let no : false ≡ true = sym (all_among (λ (z : Loaded). z.group ≡ group → is_there z.state ≡ false) y.before.tree.loaded l unmade.loaded among refl) ∙ m.1 in absurd (cc))
+          let no : false ≡ true = sym (all_among (λ (z : LoadedState). z.group ≡ group → is_there z.state ≡ false) y.before.tree.loaded l unmade.loaded among refl) ∙ m.1 in absurd (cc))
           (is.did.tree.meets.met group shown)
 
   pub fresh_law : IsFresh s r

@@ -1,6 +1,5 @@
 -- What the steps of all workers have: which step has it, and that only one has.
-use Rattle.shr_assemble.proofs.Common.{◌≡◌, ℕ, zero, suc, ◌+◌, ◌<◌, ◌≤◌, ◌≢◌, ◌⊎◌, inl, inr, ⊎_elim, List, [], ◌∷◌, ◌++◌, length, length-append, take, sym, refl, ap, subst, ◌∙◌, arith, flat_map, slice_get, Some, AllByRecursion, same_Some, none-some, dite, ℕ_discrete, some, some-injective, some-ne-none, get_elem?, Each, total, Begins, total-append, term_le, Step, IsAmong, gathered, steps_in, steps_of, at_some, slice_left, some_at, slice_cases}
-use Rattle.shr_seats.proofs.Weighing.{terms_le}
+use Rattle.shr_assemble.proofs.Common.{◌≡◌, ℕ, zero, suc, ◌+◌, ◌<◌, ◌≤◌, ◌≢◌, ◌⊎◌, inl, inr, ⊎_elim, List, [], ◌∷◌, ◌++◌, length, length-append, take, sym, refl, ap, subst, ◌∙◌, arith, flat_map, slice_get, Some, AllByRecursion, same_Some, none-some, dite, ℕ_discrete, some, some-injective, some-ne-none, get_elem?, Each, total, Begins, total-append, term_le, Step, IsAmong, gathered, steps_in, steps_of, at_some, slice_left, some_at, slice_cases, terms_le}
 
 -- elements of two lists together
 pub among_left : {A : Type 0} (xs ys : List A) (x : A) → IsAmong x xs → IsAmong x (xs ++ ys)

@@ -1,12 +1,9 @@
 -- What a get did.
-use Rattle.shr_assemble.proofs.Common.{◌≡◌, ℕ, ◌<◌, inl, true, false, List, length, refl, sym, ap, ◌∙◌, arith, Option, Some, None, is_some, option_map, same_Some, none-some, Object, Serial, At, Entry, Look, Answered, Found, Reply, Spent, Command, Get, is_named, holds, named_in, marked_object, length_change_first, View, shape_of, Listed, IsObjectWithin, content_of, Shared, WorkerState, parents_of, is_past_group}
+use Rattle.shr_assemble.proofs.Common.{◌≡◌, ℕ, ◌<◌, inl, true, false, List, length, refl, sym, ap, ◌∙◌, arith, Option, Some, None, is_some, option_map, same_Some, none-some, Object, Serial, At, Entry, Look, Answered, Found, Reply, Spent, Command, Get, is_named, holds, named_in, marked_object, length_change_first, View, shape_of, Listed, IsObjectWithin, content_of, Shared, WorkerState, parents_of, is_past_group, is_some_find, look_entry, LookGives}
 use Rattle.shr_base.specs.declared.replies.Reply.TheVariants as reply
 use Rattle.shr_base.specs.declared.replies.Spent.TheVariants as spent
-use Rattle.shr_model.proofs.ObjectLaws.{is_some_find}
-use Rattle.shr_list.specs.Answers.{look_entry}
 use Rattle.shr_node.specs.declared.answers.NodeLook.{NodeLook}
 use Rattle.shr_node.specs.declared.answers.NodeLook.TheVariants as look
-use Rattle.shr_node.specs.Answers.{LookGives}
 use Rattle.shr_cache.specs.Gets.{LooksUp, GotFrom, GotAs, GetGives}
 use Rattle.shr_assemble.proofs.Quiet.{HasDid, some_met}
 use Rattle.shr_assemble.proofs.QuietSteps.{AreTables}

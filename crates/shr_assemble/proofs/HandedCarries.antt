@@ -1,22 +1,21 @@
 -- The carries of a group's places: in order, each at a place that is there, and together what was taken.
-use Rattle.shr_assemble.proofs.Common.{◌≡◌, ℕ, zero, suc, ◌+◌, ◌<◌, ◌≤◌, inl, inr, ⊎_elim, Bool, true, false, cond, List, [], ◌∷◌, ◌++◌, length, map, refl, sym, ap, subst, ◌∙◌, arith, ◌==◌, ◌*◌, ◌/◌, ◌%◌, AllPairs, sum, sum_by, AllByRecursion, range_with_len, eqb-true, cases_lt, All-from_recursion, AllPairs-cons, sum_by-cons, PlaceAmount, Place, Serial, Carry, total, total-append, Shape, carry_of, carries_of, IsBefore, sum_total}
-use Rattle.shr_offline.specs.Carries.{amount_in}
+use Rattle.shr_assemble.proofs.Common.{◌≡◌, ℕ, zero, suc, ◌+◌, ◌<◌, ◌≤◌, inl, inr, ⊎_elim, Bool, true, false, cond, List, [], ◌∷◌, ◌++◌, length, map, refl, sym, ap, subst, ◌∙◌, arith, ◌==◌, ◌*◌, ◌/◌, ◌%◌, AllPairs, sum, sum_by, AllByRecursion, range_with_len, eqb-true, cases_lt, All-from_recursion, AllPairs-cons, sum_by-cons, PlaceAmount, Place, Serial, Carry, total, total-append, Shape, carry_noted, carries_noted, IsBefore, sum_total, above_zero}
+use Rattle.shr_offline.specs.Carries.{amount_taken}
 use Rattle.shr_offline.specs.Carries as carry
-use Rattle.shr_offline.specs.Splices.{place_in}
-use Rattle.shr_model.proofs.GroupsLaws.{above_zero}
+use Rattle.shr_offline.specs.Splices.{place_by_number}
 
 -- ---- what was noted is what was taken
 
-noted_sum : (by : Serial) (amounts : List PlaceAmount) → total (λ (c : Carry). c.amount) (carries_of by amounts) ≡ sum (map amount_in amounts)
+noted_sum : (by : Serial) (amounts : List PlaceAmount) → total (λ (c : Carry). c.amount) (carries_noted by amounts) ≡ sum (map amount_taken amounts)
 noted_sum by [] = refl
-noted_sum by (a ∷ more) = omega (arith, total-append (λ (c : Carry). c.amount) (carry_of by a) (carries_of by more), noted_sum by more, one (a.amount == 0) refl, sum_by-cons (λ (n : ℕ). n) a.amount (map amount_in more))
+noted_sum by (a ∷ more) = omega (arith, total-append (λ (c : Carry). c.amount) (carry_noted by a) (carries_noted by more), noted_sum by more, one (a.amount == 0) refl, sum_by-cons (λ (n : ℕ). n) a.amount (map amount_taken more))
   where
     one : (b : Bool) → (a.amount == 0) ≡ b → total (λ (c : Carry). c.amount) (cond b [] (record { by = by; place = a.place; amount = a.amount } ∷ [])) ≡ a.amount
     one true e = sym (eqb-true a.amount 0 e)
     one false e = omega arith
 
-pub carried_sum : (by : Serial) (amounts : List PlaceAmount) → sum (map amount_in amounts) ≡ sum_by (λ (c : Carry). c.amount) (carries_of by amounts)
-carried_sum by amounts = sym (sum_total (λ (c : Carry). c.amount) (carries_of by amounts) ∙ noted_sum by amounts)
+pub carried_sum : (by : Serial) (amounts : List PlaceAmount) → sum (map amount_taken amounts) ≡ sum_by (λ (c : Carry). c.amount) (carries_noted by amounts)
+carried_sum by amounts = sym (sum_total (λ (c : Carry). c.amount) (carries_noted by amounts) ∙ noted_sum by amounts)
 
 -- ---- the places stand in a row
 
@@ -26,7 +25,7 @@ pub record IsCarryAt (shape : Shape) (by : Serial) (group low high : ℕ) (c : C
   pub reached : low ≤ number
   pub within : number < high
   pub own : c.by ≡ by
-  pub place : c.place ≡ place_in shape group number
+  pub place : c.place ≡ place_by_number shape group number
   pub some : 0 < c.amount
 
 -- the numbers rise
@@ -56,13 +55,13 @@ module _ (shape : Shape) (by : Serial) (group high : ℕ) where
   others [] = []
   others (p ∷ ps) = ps
 
-  pub in_row : (n k : ℕ) (amounts : List PlaceAmount) → n + k ≡ high → map carry.place_in amounts ≡ map (place_in shape group) (range_with_len n k) → AreInRow shape by group n high (carries_of by amounts)
+  pub in_row : (n k : ℕ) (amounts : List PlaceAmount) → n + k ≡ high → map carry.amount_place amounts ≡ map (place_by_number shape group) (range_with_len n k) → AreInRow shape by group n high (carries_noted by amounts)
   in_row n k [] end same = tt
   in_row n zero (a ∷ more) end same = absurd (let f = ap (λ (l : List Place). length l) same in omega (arith, f))
   in_row n (suc k) (a ∷ more) end same = by_test (a.amount == 0) refl (in_row (n + 1) k more (omega (arith, end)) (ap others same))
     where
-      by_test : (b : Bool) → (a.amount == 0) ≡ b → AreInRow shape by group (n + 1) high (carries_of by more) → AreInRow shape by group n high (cond b [] (record { by = by; place = a.place; amount = a.amount } ∷ []) ++ carries_of by more)
-      by_test true none rest = lower (n + 1) n (carries_of by more) (omega arith) rest
+      by_test : (b : Bool) → (a.amount == 0) ≡ b → AreInRow shape by group (n + 1) high (carries_noted by more) → AreInRow shape by group n high (cond b [] (record { by = by; place = a.place; amount = a.amount } ∷ []) ++ carries_noted by more)
+      by_test true none rest = lower (n + 1) n (carries_noted by more) (omega arith) rest
       by_test false some rest = (record { number = n; reached = omega arith; within = omega (arith, end); own = refl; place = ap (first a.place) same; some = above_zero a.amount some }, rest)
 
   pub each_in_row : (low : ℕ) (cs : List Carry) → AreInRow shape by group low high cs → AllByRecursion (IsCarryAt shape by group low high) cs
@@ -85,7 +84,7 @@ module _ (shape : Shape) (by : Serial) (group high : ℕ) where
     before_rest : (c : Carry) (low : ℕ) (h : IsCarryAt shape by group low high c) (cs : List Carry) → AllByRecursion (IsCarryAt shape by group (h.number + 1) high) cs → AllByRecursion (CarryBefore c) cs
     before_rest c low h [] all = tt
     before_rest c low h (d ∷ cs) all = let from = all.0.reached in (
-      subst (λ (p : Place). IsBefore p.id p.node d.place.id d.place.node) (sym h.place) (subst (λ (q : Place). IsBefore (place_in shape group h.number).id (place_in shape group h.number).node q.id q.node) (sym all.0.place) (rows shape.nodes h.number all.0.number some few (omega (arith, from)))),
+      subst (λ (p : Place). IsBefore p.id p.node d.place.id d.place.node) (sym h.place) (subst (λ (q : Place). IsBefore (place_by_number shape group h.number).id (place_by_number shape group h.number).node q.id q.node) (sym all.0.place) (rows shape.nodes h.number all.0.number some few (omega (arith, from)))),
       before_rest c low h cs all.1,
     )
 

@@ -2,7 +2,7 @@
 use Rattle.shr_assemble.proofs.Common.{◌≡◌, ℕ, ◌<◌, ◌≤◌, List, [], ◌∷◌, map, length, length-append, take, refl, sym, ap, subst, ◌∙◌, arith, eq-eqb, ◌%◌, ◌^◌, All-nil, All-from_recursion, PlaceAmount, TreeEntry, Begin, Done, Serial, Hierarchy, IsAtOrAbove, MayBegin, IsTreeJournal, IsAtOrAbove-refl, hierarchy_of, shape_of, Shared, WorkerState, parents_of, IsEntryOf}
 use Rattle.shr_base.specs.declared.replies.Reply.TheVariants as reply
 use Rattle.shr_base.specs.declared.scripts.Command.TheVariants as command
-use Rattle.shr_charge.specs.Views.{Made}
+use Rattle.shr_charge.specs.Views.{TreeMade}
 use Rattle.shr_charge.specs.declared.answers.DoneAnswer.TheVariants as ended
 use Rattle.shr_offline.specs.Offlined as offlined
 use Rattle.shr_assemble.proofs.Gathering.{among_right}
@@ -24,7 +24,7 @@ module _ (x : Shared) (tables : AreTables x) (by : Serial) (group : ℕ) (s t : 
   hierarchy = hierarchy_of (shape_of x.core)
 
   -- a group that began is there
-  in_tree : (moved deferred : ℕ) (made : List Made) (u : WorkerState) (b : HasBegunTo x group s u) (h : IsHandedTo x by group moved deferred made u t) → IsTreeJournal hierarchy t.tree.known → group < length (parents_of x.script)
+  in_tree : (moved deferred : ℕ) (made : List TreeMade) (u : WorkerState) (b : HasBegunTo x group s u) (h : IsHandedTo x by group moved deferred made u t) → IsTreeJournal hierarchy t.tree.known → group < length (parents_of x.script)
   in_tree moved deferred made u b h legal =
       let at = contains_slice t.tree.known (Begin group) (known_begin x tables by group s u t b moved deferred made h) in
       let may : MayBegin hierarchy (take at.0 t.tree.known) group = legal at.0 (Begin group) at.1 in
@@ -33,7 +33,7 @@ module _ (x : Shared) (tables : AreTables x) (by : Serial) (group : ℕ) (s t : 
 
   pub done : (entry moved deferred : ℕ) (u : WorkerState) → HasBegunTo x group s u → offlined.HandsOver x by group moved deferred (ended.Done entry) u t → HasDid x.script by (command.Offline group) (without (reply.OfflineDone entry moved deferred)) s t
   done entry moved deferred u b over =
-      let mark : Made = record { number = entry; entry = Done group } in
+      let mark : TreeMade = record { number = entry; entry = Done group } in
       let h = handed_to x tables by group moved deferred (ended.Done entry) (mark ∷ []) u t over over.ends.leaves in
       let there = in_tree moved deferred (mark ∷ []) u b h over.ends.knows.legal in
       let r = reply.OfflineDone entry moved deferred in
@@ -44,7 +44,7 @@ module _ (x : Shared) (tables : AreTables x) (by : Serial) (group : ℕ) (s t : 
       let begun = begins_length s.tree.known u.tree.known b.does.known in
       let same = same_groups x tables in
       handed_did x tables by group s u t b moved deferred (mark ∷ []) h there r tt tt (λ family. tt) refl refl refl
-      (All-from_recursion (λ (m : Made). (length s.tree.known ≤ m.number) × IsEntryOf x.script (handed_step x tables by group s u t b moved deferred (mark ∷ []) h r) m.number m.entry) (mark ∷ []) (
+      (All-from_recursion (λ (m : TreeMade). (length s.tree.known ≤ m.number) × IsEntryOf x.script (handed_step x tables by group s u t b moved deferred (mark ∷ []) h r) m.number m.entry) (mark ∷ []) (
         (
           omega (arith, number, seen, begun, ap (λ (l : List TreeEntry). length l) was),
           record {
@@ -68,12 +68,12 @@ module _ (x : Shared) (tables : AreTables x) (by : Serial) (group : ℕ) (s t : 
         unwalked = refl;
       })
 
-  pub done_before : (entry : ℕ) (u : WorkerState) → HasBegunTo x group s u → offlined.WasDone x by group entry u t → HasDid x.script by (command.Offline group) (without (reply.AlreadyDone entry)) s t
+  pub done_before : (entry : ℕ) (u : WorkerState) → HasBegunTo x group s u → offlined.WasDoneBefore x by group entry u t → HasDid x.script by (command.Offline group) (without (reply.AlreadyDone entry)) s t
   done_before entry u b was =
       let over = was.handed in
       let h = handed_to x tables by group was.moved was.deferred (ended.AlreadyDone entry) [] u t over over.ends.leaves in
       let there = in_tree was.moved was.deferred [] u b h over.ends.knows.legal in
       let r = reply.AlreadyDone entry in
       handed_did x tables by group s u t b was.moved was.deferred [] h there r tt tt (λ family. tt) refl refl refl
-      (All-nil (λ (m : Made). (length s.tree.known ≤ m.number) × IsEntryOf x.script (handed_step x tables by group s u t b was.moved was.deferred [] h r) m.number m.entry))
+      (All-nil (λ (m : TreeMade). (length s.tree.known ≤ m.number) × IsEntryOf x.script (handed_step x tables by group s u t b was.moved was.deferred [] h r) m.number m.entry))
       (record { group = group; named = refl; done = over.ends.tells })

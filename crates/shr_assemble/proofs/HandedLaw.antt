@@ -1,8 +1,7 @@
 -- What was carried for a group that was found done was carried by a worker that hadn't done it, of a run.
-use Rattle.shr_assemble.proofs.Common.{◌≡◌, ℕ, ◌<◌, ◌≤◌, ⊎_elim, true, false, List, length, sym, ap, subst, ◌∙◌, arith, length-append, slice_get, Some, option_and_then, AllByRecursion, IsSomeAnd, cases_lt, eqb-true, same_Some, slice_get_within, dite, ℕ_discrete, Done, Serial, Reply, Script, Carry, group_named, done_at, Report, serial_of, reply_at, all_carries, is_done_by, StandsInTree, IsCausedBy, WasDone, DidCarry, IsEnded, IsEntryOf, Step, IsAmong, steps_of, IsRun, by_slices, some_at}
+use Rattle.shr_assemble.proofs.Common.{◌≡◌, ℕ, ◌<◌, ◌≤◌, ⊎_elim, true, false, List, length, sym, ap, subst, ◌∙◌, arith, length-append, slice_get, Some, option_and_then, AllByRecursion, IsSomeAnd, cases_lt, eqb-true, same_Some, slice_get_within, dite, ℕ_discrete, Done, Serial, Reply, Script, Carry, group_named, done_at, Report, serial_of, reply_at, all_carries, is_done_by, StandsInTree, IsCausedBy, IsDoneKnown, DidCarry, IsEnded, IsEntryOf, Step, IsAmong, steps_of, IsRun, by_slices, some_at, IsDoneElsewhere}
 use Rattle.shr_base.specs.declared.replies.Reply.TheVariants as reply
 use Rattle.shr_charge.specs.Views as charge
-use Rattle.shr_report.specs.Faithful.{IsDoneElsewhere}
 use Rattle.shr_assemble.proofs.Flattening.{all_carries_are}
 use Rattle.shr_assemble.proofs.Gathering.{has_step, same_step}
 use Rattle.shr_assemble.proofs.Listed.{all_among, begins_slice, slice_begins}
@@ -18,7 +17,7 @@ knows_done s y n x is h = absurd (let t : false ≡ true = is in cc)
 module _ (s : Script) (r : Report) (workers : List (List Step)) (run : IsRun s r workers) where
   -- a step that carried, and found its group done
   module _ (worker k : ℕ) (x : Step) (at : slice_get (steps_of workers worker) k ≡ Some x) (c : Carry) (d : DidCarry s x c) (entry : ℕ) (answer : x.answered.reply ≡ reply.AlreadyDone entry) where
-    was_done : WasDone x entry
+    was_done : IsDoneKnown x entry
     was_done = subst (IsCausedBy s x) answer (run.steps.each worker k x at).did.cause
 
     known : slice_get x.after.tree.known entry ≡ Some (Done was_done.group)
@@ -37,7 +36,7 @@ module _ (s : Script) (r : Report) (workers : List (List Step)) (run : IsRun s r
     made_by = entry_maker s r workers run entry (Done c.place.group) stands
 
     of : (entry_from : length made_by.step.before.tree.known ≤ made_by.made.number) × IsEntryOf s made_by.step made_by.made.number made_by.made.entry
-    of = all_among (λ (z : charge.Made). (length made_by.step.before.tree.known ≤ z.number) × IsEntryOf s made_by.step z.number z.entry) made_by.step.work.tree made_by.made
+    of = all_among (λ (z : charge.TreeMade). (length made_by.step.before.tree.known ≤ z.number) × IsEntryOf s made_by.step z.number z.entry) made_by.step.work.tree made_by.made
         (run.steps.each made_by.worker made_by.k made_by.step made_by.at).did.tree.each made_by.among
 
     cited : is_done_by entry made_by.step.answered.reply ≡ true

@@ -1,12 +1,12 @@
 -- What an offline did whose call handed all over, whatever the end of it answered.
-use Rattle.shr_assemble.proofs.Common.{◌≡◌, ℕ, ◌<◌, ◌≤◌, List, [], ◌∷◌, ◌++◌, length, map, refl, sym, ap, subst, ◌∙◌, arith, true, inr, ◌*◌, ◌/◌, None, slice_get, Contains, All, sum, sum_by, ◌%◌, ◌^◌, Some, AllByRecursion, range_with_len, All-append, All-from_recursion, Contains-append_left, none-some, PlaceAmount, TreeEntry, Begin, Done, Place, Serial, Reply, Carry, Family, IsTree, given_at, Begins, Shape, View, nothing, groups_in, hierarchy_of, shape_of, gave, TreeView, Moves, both, moves_of, carries_of, AreSpliced, IsWithin, content_of, within_of_valid, is_made, is_made_grows, Shared, WorkerState, Work, no_work, then_work, Does, does_none, does_then, parents_of, cited_by, IsThere, MayHaveBegun, HasCarried, pool_told, pool_made, is_past_group, IsReply, Step, IsCausedBy, DidCarry, MayMake, IsEntryOf, places_offlined}
+use Rattle.shr_assemble.proofs.Common.{◌≡◌, ℕ, ◌<◌, ◌≤◌, List, [], ◌∷◌, ◌++◌, length, map, refl, sym, ap, subst, ◌∙◌, arith, true, inr, ◌*◌, ◌/◌, None, slice_get, Contains, All, sum, sum_by, ◌%◌, ◌^◌, Some, AllByRecursion, range_with_len, All-append, All-from_recursion, Contains-append_left, none-some, PlaceAmount, TreeEntry, Begin, Done, Place, Serial, Reply, Carry, Family, IsTree, given_at, Begins, Shape, View, nothing, groups_in, hierarchy_of, shape_of, gave, TreeView, Moves, both, carry_moves, carries_noted, AreSpliced, IsWithin, content_of, within_of_valid, is_made, is_made_grows, Shared, WorkerState, Work, no_work, then_work, Does, does_none, does_then, parents_of, cited_by, IsThere, MayHaveBegun, HasCarried, pool_told, pool_made, is_past_group, IsReply, Step, IsCausedBy, DidCarry, MayMakeEntry, IsEntryOf, places_offlined}
 use Rattle.shr_base.specs.declared.scripts.Command.TheVariants as command
 use Rattle.shr_core.specs.Parts as core
-use Rattle.shr_charge.specs.Views.{Made}
+use Rattle.shr_charge.specs.Views.{TreeMade}
 use Rattle.shr_charge.specs.declared.answers.DoneAnswer.{DoneAnswer}
-use Rattle.shr_offline.specs.Carries.{amount_in}
+use Rattle.shr_offline.specs.Carries.{amount_taken}
 use Rattle.shr_offline.specs.Carries as carry
-use Rattle.shr_offline.specs.Splices.{place_in, places_of, all_places}
+use Rattle.shr_offline.specs.Splices.{place_by_number, count_of_places, all_places}
 use Rattle.shr_offline.specs.Offlined.{AreClosed, HandsOver}
 use Rattle.shr_assemble.proofs.ScriptSizes.{sized_of}
 use Rattle.shr_assemble.proofs.Bringing.{brings_of}
@@ -22,19 +22,19 @@ use Rattle.shr_assemble.proofs.HandedMoved.{moved_by, moved_sum}
 use Rattle.shr_assemble.proofs.HandedCarries.{IsCarryAt, AreInRow, in_row, each_in_row, rising, row_of}
 
 -- lists were spliced, deferred work was carried, and entries of the journal of the tree were made
-abbrev pub handing : List core.Made → List ℕ → Moves → List Carry → List Made → Work
+abbrev pub handing : List core.Made → List ℕ → Moves → List Carry → List TreeMade → Work
 handing made sets moves carries tree = record no_work { core = record nothing { made = made; sets = sets }; tree = tree; gives = 1; moves = moves; carries = carries }
 
 -- all was handed over, with these entries of the journal of the tree
-pub record IsHandedTo (x : Shared) (by : Serial) (group moved deferred : ℕ) (made : List Made) (u t : WorkerState) : Type 0 where
+pub record IsHandedTo (x : Shared) (by : Serial) (group moved deferred : ℕ) (made : List TreeMade) (u t : WorkerState) : Type 0 where
   pub spliced : IsSplicedTo (parents_of x.script) group u.core t.core
   pub moved_is : moved ≡ sum_by (moved_by group) spliced.made
   pub closed : AreClosed (shape_of x.core) group t.core
   pub amounts : List PlaceAmount
-  pub places : map carry.place_in amounts ≡ all_places (shape_of x.core) group
-  pub moves : t.moves ≡ both u.moves (moves_of (shape_of x.core) amounts)
-  pub carries : t.carries ≡ u.carries ++ carries_of by amounts
-  pub deferred_is : deferred ≡ sum (map amount_in amounts) % 2 ^ 64
+  pub places : map carry.amount_place amounts ≡ all_places (shape_of x.core) group
+  pub moves : t.moves ≡ both u.moves (carry_moves (shape_of x.core) amounts)
+  pub carries : t.carries ≡ u.carries ++ carries_noted by amounts
+  pub deferred_is : deferred ≡ sum (map amount_taken amounts) % 2 ^ 64
   pub tree : t.tree ≡ gave u.tree made t.tree.known
   pub grows : Begins u.tree.known t.tree.known
   pub rest : t ≡ record u { core = t.core; tree = t.tree; moves = t.moves; carries = t.carries }
@@ -67,7 +67,7 @@ module _ (x : Shared) (tables : AreTables x) where
   some_nodes : 0 < shape.nodes
   some_nodes = let same = tables.shared.nodes in let some = script_within.some_node in omega (arith, same, some)
 
-  pub handed_to : (by : Serial) (group moved deferred : ℕ) (answer : DoneAnswer) (made : List Made) (u t : WorkerState) (h : HandsOver x by group moved deferred answer u t) → t.tree ≡ gave h.carried.tree made t.tree.known → IsHandedTo x by group moved deferred made u t
+  pub handed_to : (by : Serial) (group moved deferred : ℕ) (answer : DoneAnswer) (made : List TreeMade) (u t : WorkerState) (h : HandsOver x by group moved deferred answer u t) → t.tree ≡ gave h.carried.tree made t.tree.known → IsHandedTo x by group moved deferred made u t
   handed_to by group moved deferred answer made u t h leaves =
       let core_is : t.core ≡ h.listed.core = ap (λ (v : WorkerState). v.core) h.ends.rest ∙ ap (λ (v : WorkerState). v.core) h.carries.rest in
       let moves_is : t.moves ≡ h.carried.moves = ap (λ (v : WorkerState). v.moves) h.ends.rest in
@@ -77,15 +77,15 @@ module _ (x : Shared) (tables : AreTables x) where
       let tree_was : h.carried.tree ≡ u.tree = ap (λ (v : WorkerState). v.tree) h.carries.rest ∙ ap (λ (v : WorkerState). v.tree) h.splices.rest in
       let all : AreSpliced shape (all_places shape group) moved u.core t.core = subst (λ (v : View). AreSpliced shape (all_places shape group) moved u.core v) (sym core_is) h.splices.spliced in
       let c = h.carries.carried in
-      let sp : IsSplicedTo (parents_of x.script) group u.core t.core = subst (λ (l : List ℕ). IsSplicedTo l group u.core t.core) (tree_is x tables.shared) (spliced_all shape is_tree few_groups group (range_with_len 0 (places_of shape)) moved u.core t.core all) in
+      let sp : IsSplicedTo (parents_of x.script) group u.core t.core = subst (λ (l : List ℕ). IsSplicedTo l group u.core t.core) (tree_is x tables.shared) (spliced_all shape is_tree few_groups group (range_with_len 0 (count_of_places shape)) moved u.core t.core all) in
       record {
         spliced = sp;
-        moved_is = moved_sum shape group (parents_of x.script) (range_with_len 0 (places_of shape)) moved u.core t.core all sp;
+        moved_is = moved_sum shape group (parents_of x.script) (range_with_len 0 (count_of_places shape)) moved u.core t.core all sp;
         closed = subst (λ (v : View). AreClosed shape group v) (sym core_is) h.closed;
         amounts = c.amounts;
         places = c.places;
-        moves = moves_is ∙ (c.moved ∙ ap (λ (m : Moves). both m (moves_of shape c.amounts)) moves_were);
-        carries = carries_is ∙ (c.noted ∙ ap (λ (l : List Carry). l ++ carries_of by c.amounts) carries_were);
+        moves = moves_is ∙ (c.moved ∙ ap (λ (m : Moves). both m (carry_moves shape c.amounts)) moves_were);
+        carries = carries_is ∙ (c.noted ∙ ap (λ (l : List Carry). l ++ carries_noted by c.amounts) carries_were);
         deferred_is = c.total_is;
         tree = leaves ∙ ap (λ (y : TreeView). gave y made t.tree.known) tree_was;
         grows = subst (λ (y : TreeView). Begins y.known t.tree.known) tree_was h.ends.knows.grows;
@@ -94,15 +94,15 @@ module _ (x : Shared) (tables : AreTables x) where
             ∙ (λ i. record u { core = sym core_is i; tree = t.tree; moves = sym moves_is i; carries = sym carries_is i })));
       }
 
-  module _ (by : Serial) (group : ℕ) (s u t : WorkerState) (b : HasBegunTo x group s u) (moved deferred : ℕ) (made : List Made) (h : IsHandedTo x by group moved deferred made u t) where
+  module _ (by : Serial) (group : ℕ) (s u t : WorkerState) (b : HasBegunTo x group s u) (moved deferred : ℕ) (made : List TreeMade) (h : IsHandedTo x by group moved deferred made u t) where
     abbrev pub handed_work : Work
-    handed_work = then_work (giving b.made) (handing h.spliced.made h.spliced.sets (moves_of (shape_of x.core) h.amounts) (carries_of by h.amounts) made)
+    handed_work = then_work (giving b.made) (handing h.spliced.made h.spliced.sets (carry_moves (shape_of x.core) h.amounts) (carries_noted by h.amounts) made)
 
     abbrev pub handed_step : Reply → Step
     handed_step r = step_of by (command.Offline group) (without r) s t handed_work
 
-    then_does : Does u t (handing h.spliced.made h.spliced.sets (moves_of shape h.amounts) (carries_of by h.amounts) made)
-    then_does = let n = does_none u in subst (λ (v : WorkerState). Does u v (handing h.spliced.made h.spliced.sets (moves_of shape h.amounts) (carries_of by h.amounts) made)) (sym h.rest) record {
+    then_does : Does u t (handing h.spliced.made h.spliced.sets (carry_moves shape h.amounts) (carries_noted by h.amounts) made)
+    then_does = let n = does_none u in subst (λ (v : WorkerState). Does u v (handing h.spliced.made h.spliced.sets (carry_moves shape h.amounts) (carries_noted by h.amounts) made)) (sym h.rest) record {
       core = h.spliced.adds;
       uses = n.uses;
       noted = n.noted;
@@ -121,25 +121,25 @@ module _ (x : Shared) (tables : AreTables x) where
 
     -- all that it added
     pub handed_does : Does s t handed_work
-    handed_does = does_then s u t (giving b.made) (handing h.spliced.made h.spliced.sets (moves_of shape h.amounts) (carries_of by h.amounts) made) b.does then_does
+    handed_does = does_then s u t (giving b.made) (handing h.spliced.made h.spliced.sets (carry_moves shape h.amounts) (carries_noted by h.amounts) made) b.does then_does
 
     -- the group's Begin is still known
     pub known_begin : Contains t.tree.known (Begin group)
     known_begin = subst (λ (l : List TreeEntry). Contains l (Begin group)) (sym h.grows.1) (Contains-append_left u.tree.known h.grows.0 (Begin group) b.known)
 
-    row : AreInRow shape by group 0 (places_of shape) (carries_of by h.amounts)
-    row = in_row shape by group (places_of shape) 0 (places_of shape) h.amounts (omega arith) h.places
+    row : AreInRow shape by group 0 (count_of_places shape) (carries_noted by h.amounts)
+    row = in_row shape by group (count_of_places shape) 0 (count_of_places shape) h.amounts (omega arith) h.places
 
-    of_group : (ns : List ℕ) → AllByRecursion (λ (p : Place). p.group ≡ group) (map (place_in shape group) ns)
+    of_group : (ns : List ℕ) → AllByRecursion (λ (p : Place). p.group ≡ group) (map (place_by_number shape group) ns)
     of_group [] = tt
     of_group (n ∷ ns) = (refl, of_group ns)
 
-    by_places : (amounts : List PlaceAmount) → AllByRecursion (λ (p : Place). p.group ≡ group) (map carry.place_in amounts) → AllByRecursion (λ (a : PlaceAmount). a.place.group ≡ group) amounts
+    by_places : (amounts : List PlaceAmount) → AllByRecursion (λ (p : Place). p.group ≡ group) (map carry.amount_place amounts) → AllByRecursion (λ (a : PlaceAmount). a.place.group ≡ group) amounts
     by_places [] all = tt
     by_places (a ∷ more) all = (all.0, by_places more all.1)
 
     module _ (there : group < length (parents_of x.script)) (r : Reply) where
-      carried_one : HasCarried r → (c : Carry) → IsCarryAt shape by group 0 (places_of shape) c → DidCarry x.script (handed_step r) c
+      carried_one : HasCarried r → (c : Carry) → IsCarryAt shape by group 0 (count_of_places shape) c → DidCarry x.script (handed_step r) c
       carried_one answer c is =
           let within = row_of shape.nodes shape.ids is.number few_nodes is.within in
           let ids = tables.shared.ids in
@@ -155,13 +155,13 @@ module _ (x : Shared) (tables : AreTables x) where
             undone = λ n e. b.undone n (subst (λ (g : ℕ). slice_get s.tree.known n ≡ Some (Done g)) (ap (λ (p : Place). p.group) is.place) e);
           }
 
-      carried_all : HasCarried r → (cs : List Carry) → AllByRecursion (IsCarryAt shape by group 0 (places_of shape)) cs → AllByRecursion (DidCarry x.script (handed_step r)) cs
+      carried_all : HasCarried r → (cs : List Carry) → AllByRecursion (IsCarryAt shape by group 0 (count_of_places shape)) cs → AllByRecursion (DidCarry x.script (handed_step r)) cs
       carried_all answer [] all = tt
       carried_all answer (c ∷ cs) all = (carried_one answer c all.0, carried_all answer cs all.1)
 
       -- all was handed over, and the answer tells of no list and no registration
       pub handed_did : MayHaveBegun r → HasCarried r → ((family : Family) → IsReply (parents_of x.script) family by (command.Offline group) None r) → cited_by r ≡ None → pool_told r ≡ [] → pool_made r ≡ []
-          → All (λ (m : Made). (length s.tree.known ≤ m.number) × IsEntryOf x.script (handed_step r) m.number m.entry) made → IsCausedBy x.script (handed_step r) r → HasDid x.script by (command.Offline group) (without r) s t
+          → All (λ (m : TreeMade). (length s.tree.known ≤ m.number) × IsEntryOf x.script (handed_step r) m.number m.entry) made → IsCausedBy x.script (handed_step r) r → HasDid x.script by (command.Offline group) (without r) s t
       handed_did may carried replied uncited untold unmade ended cause =
           let z : Step = handed_step r in
           let each = subst (λ (v : View). AllByRecursion (IsSpliceEntry (parents_of x.script) group v h.spliced.made) h.spliced.made) (ap (λ (v : WorkerState). v.core) b.same) h.spliced.each in
@@ -172,7 +172,7 @@ module _ (x : Shared) (tables : AreTables x) where
             does = brings_of handed_does;
             did = record {
               entries = record {
-                each = each_rec (λ (m : core.Made). MayMake x.script z m m.entry) h.spliced.made (splices_may x z group h.spliced.made h.spliced.made refl refl may known_begin each);
+                each = each_rec (λ (m : core.Made). MayMakeEntry x.script z m m.entry) h.spliced.made (splices_may x z group h.spliced.made h.spliced.made refl refl may known_begin each);
                 reply = λ family stands. replied family;
                 sets = set_filled h.spliced.made [] h.spliced.sets h.spliced.filled;
                 cited = λ c e. absurd (none-some c (sym uncited ∙ e));
@@ -189,10 +189,10 @@ module _ (x : Shared) (tables : AreTables x) where
               });
               moves = record {
                 taken = λ p. carried_taken shape by h.amounts p;
-                given = λ p. carried_given shape by group h.amounts p low (omega (arith, there, same)) (by_places h.amounts (subst (λ (l : List Place). AllByRecursion (λ (q : Place). q.group ≡ group) l) (sym h.places) (of_group (range_with_len 0 (places_of shape)))))
-                    ∙ ap (λ (ps : List ℕ). given_at ps [] (carries_of by h.amounts) p) (tree_is x tables.shared);
-                carries = All-from_recursion (DidCarry x.script z) (carries_of by h.amounts) (carried_all carried (carries_of by h.amounts) (each_in_row shape by group (places_of shape) 0 (carries_of by h.amounts) row));
-                rise = rising shape by group (places_of shape) some_nodes few_nodes 0 (carries_of by h.amounts) row;
+                given = λ p. carried_given shape by group h.amounts p low (omega (arith, there, same)) (by_places h.amounts (subst (λ (l : List Place). AllByRecursion (λ (q : Place). q.group ≡ group) l) (sym h.places) (of_group (range_with_len 0 (count_of_places shape)))))
+                    ∙ ap (λ (ps : List ℕ). given_at ps [] (carries_noted by h.amounts) p) (tree_is x tables.shared);
+                carries = All-from_recursion (DidCarry x.script z) (carries_noted by h.amounts) (carried_all carried (carries_noted by h.amounts) (each_in_row shape by group (count_of_places shape) 0 (carries_noted by h.amounts) row));
+                rise = rising shape by group (count_of_places shape) some_nodes few_nodes 0 (carries_noted by h.amounts) row;
                 handed = h.amounts;
                 places = inr (h.places ∙ places_same group, carried);
                 noted = refl;
@@ -200,7 +200,7 @@ module _ (x : Shared) (tables : AreTables x) where
               };
               pool = still_pool x.script z handed_does.core.pool (record { turns = refl; made = unmade }) (subst (IsToldOnce z) (sym untold) tt);
               tree = record {
-                each = All-append (λ (m : Made). (length s.tree.known ≤ m.number) × IsEntryOf x.script z m.number m.entry) b.made made (b.each z refl refl may) ended;
+                each = All-append (λ (m : TreeMade). (length s.tree.known ≤ m.number) × IsEntryOf x.script z m.number m.entry) b.made made (b.each z refl refl may) ended;
                 online = λ g asks above. absurd (none-some g asks);
                 meets = known_meets x tables.shared z group (subst (λ (l : List TreeEntry). is_made (hierarchy_of (shape_of x.core)) l group ≡ true) (sym h.grows.1) (is_made_grows (hierarchy_of (shape_of x.core)) u.tree.known h.grows.0 group b.met)) (λ g e. some_met (is_past_group r) group g e) (λ g e. subst MayHaveBegun e may);
               };

@@ -1,10 +1,9 @@
 -- In a run what is done on an id's lists stands in its use, a list is drained while its id is dying, and an id comes to be idle
 -- with empty lists: what the line says of it, by the ranks of what is told.
-use Rattle.shr_assemble.proofs.Common.{◌≡◌, ◌≢◌, ◌⊎◌, ℕ, zero, suc, ◌+◌, ◌%◌, ◌<◌, ◌≤◌, inl, inr, ⊎_elim, take, List, [], ◌∷◌, ◌++◌, length, map, get_or, sym, refl, ap, subst, ◌∙◌, arith, eqb, eq-eqb, slice_get, Option, Some, None, Contains, same_Some, none-some, slice_get_within, slice_get-get_or, dite, ℕ_discrete, dec_lt, some, some-injective, get_elem?, Entry, Add, Look, Drop, Pin, Scan, MovedIn, Closed, Drained, PoolEntry, Registered, Idle, Place, Serial, Script, HasJournal, place_number, phase_of, decl_at, registrations, HasJournal_none, Has, Has_map, Contains_from_Has, Deed, by_seat, part, times, Begins, among, attempts_in, id_of, Event, Made, Tried, Turn, made, looked, turned, Moment, last_users, IsTimely, IsSo, so_before, Report, serial_of, journals_of, decls_on, IsThere, Told, entry, lookup, turn, count, looked_by, HasAt, IsBy, number_made, IsRun, Step, IsAmong, steps_of}
-use Rattle.shr_core.specs.Order.{Holders, no_holders, users_next, IsMadeInUse, IsOutOfUse}
+use Rattle.shr_assemble.proofs.Common.{◌≡◌, ◌≢◌, ◌⊎◌, ℕ, zero, suc, ◌+◌, ◌%◌, ◌<◌, ◌≤◌, inl, inr, ⊎_elim, take, List, [], ◌∷◌, ◌++◌, length, map, get_or, sym, refl, ap, subst, ◌∙◌, arith, eqb, eq-eqb, slice_get, Option, Some, None, Contains, same_Some, none-some, slice_get_within, slice_get-get_or, dite, ℕ_discrete, dec_lt, some, some-injective, get_elem?, Entry, Add, Look, Drop, Pin, Scan, MovedIn, Closed, Drained, PoolEntry, Registered, Idle, Place, Serial, Script, HasJournal, place_number, phase_of, decl_at, registrations, HasJournal_none, Has, Has_map, Contains_from_Has, Deed, by_seat, part, times, Begins, among, attempts_in, place_id, Event, Made, Tried, Turn, made, looked, turned, Moment, last_users, IsTimely, IsSo, so_before, Report, serial_of, journals_of, decls_on, IsThere, Told, entry, lookup, turn, count, looked_by, HasAt, IsBy, number_made, IsRun, Step, IsAmong, steps_of, Holders, no_holders, users_next, IsMadeInUse, IsOutOfUse}
 use Rattle.shr_core.specs.Order as order
 use Rattle.shr_core.proofs.InUse.{users_before, IsUsing, since_lookup, by_part}
-use Rattle.shr_report.specs.OneOrder.{IsOfUse, IsDrained, EndsUse, IsInUse}
+use Rattle.shr_report.specs.OneOrder.{IsOfUse, IsDrainedEntry, EndsUse, IsEntryInUse}
 use Rattle.shr_assemble.proofs.Gathering.{each_among, among_right}
 use Rattle.shr_assemble.proofs.LineParts.{front_of, back_of, at_below, by_seat_at, attempts_has, part_seat, own_spot, part_before}
 use Rattle.shr_assemble.proofs.Making.{work_of}
@@ -23,7 +22,7 @@ used_by u seat id (MovedIn child objects) h m = absurd h
 used_by u seat id Closed h m = absurd h
 used_by u seat id (Drained by objects) h m = absurd h
 
-unused_at : (u : Holders) (seat id : ℕ) (e : Entry) → IsDrained e → IsMadeInUse u seat id e → u id ≡ []
+unused_at : (u : Holders) (seat id : ℕ) (e : Entry) → IsDrainedEntry e → IsMadeInUse u seat id e → u id ≡ []
 unused_at u seat id (Drained by objects) h m = m
 unused_at u seat id (Add by birth added key value) h m = absurd h
 unused_at u seat id (Look by birth key hit) h m = absurd h
@@ -56,7 +55,7 @@ module _ (s : Script) (r : Report) (workers : List (List Step)) (run : IsRun s r
   used_at : (c : ℕ) (d : Deed Event) → get_elem? line c ≡ some d → order.IsInUse (users_before line c) d.seat d.act
   used_at c d at = so_before users_next (λ u y. order.IsInUse u y.seat y.act) no_holders line c d run.order.uses at
 
-  pub id_there : (place : Place) → IsThere s place → id_of (place_number place) ≡ place.id
+  pub id_there : (place : Place) → IsThere s place → place_id (place_number place) ≡ place.id
   id_there place there = let nodes = run.sized.nodes in let groups = run.sized.groups in let n = there.node in let g = there.group in omega (arith, nodes, groups, n, g)
 
   pub there_at : (place : Place) (n : ℕ) (e : Entry) → slice_get (journals_of r place) n ≡ Some e → IsThere s place
@@ -127,9 +126,9 @@ module _ (s : Script) (r : Report) (workers : List (List Step)) (run : IsRun s r
       (λ start. absurd (not_turn start.0 start.1))
       (λ t. let m = t.says in
       let same : m.0.entry ≡ h.1.0 = same_Some m.0.entry h.1.0 (sym m.4 ∙ h.1.1) in
-      let own : id_of m.0.place ≡ id = ap id_of m.2 ∙ (id_there q (there_at q k h.1.0 h.1.1) ∙ h.0) in
+      let own : place_id m.0.place ≡ id = ap place_id m.2 ∙ (id_there q (there_at q k h.1.0 h.1.1) ∙ h.0) in
       let used = subst (order.IsInUse (users_before line t.index) t.deed.seat) m.1 (used_at t.index t.deed t.there) in
-      (t.index, ap (users_before line t.index) (sym own) ∙ unused_at (users_before line t.index) t.deed.seat (id_of m.0.place) m.0.entry (subst IsDrained (sym same) h.1.2) used, t.is))
+      (t.index, ap (users_before line t.index) (sym own) ∙ unused_at (users_before line t.index) t.deed.seat (place_id m.0.place) m.0.entry (subst IsDrainedEntry (sym same) h.1.2) used, t.is))
       (stands s r workers run (entry q k) (h.1.0, h.1.1, tt))
     where
       not_turn : (n : ℕ) → entry q k ≡ turn n → ⊥
@@ -166,7 +165,7 @@ module _ (s : Script) (r : Report) (workers : List (List Step)) (run : IsRun s r
       known.1 ∙ ap (λ (i : ℕ). decl_at t.number (registrations i r.pool.items)) own
 
   -- ---- an add of a command, or a scan, is made in its use
-  pub used : (place : Place) (n : ℕ) (by : Serial) → HasAt (journals_of r place) n IsOfUse → IsBy r by (entry place n) → IsInUse r rank_of by place n
+  pub used : (place : Place) (n : ℕ) (by : Serial) → HasAt (journals_of r place) n IsOfUse → IsBy r by (entry place n) → IsEntryInUse r rank_of by place n
   used place n by told own =
       let t = by_step s r workers run (entry place n) by.worker by.command own in
       let j : ℕ = 1 + by.worker in
@@ -174,10 +173,10 @@ module _ (s : Script) (r : Report) (workers : List (List Step)) (run : IsRun s r
       let here = spot_there j line t.spot t.deed t.there in
       let m = t.says in
       let same : m.0.entry ≡ told.0 = same_Some m.0.entry told.0 (sym m.4 ∙ told.1) in
-      let id : id_of m.0.place ≡ place.id = ap id_of m.2 ∙ id_there place (there_at place n told.0 told.1) in
+      let id : place_id m.0.place ≡ place.id = ap place_id m.2 ∙ id_there place (there_at place n told.0 told.1) in
       let seat : t.deed.seat ≡ j = part_seat j line t.spot t.deed t.there in
       let in_use : order.IsInUse (users_before line b) j (made m.0) = subst (order.IsInUse (users_before line b) j) m.1 (subst (λ (k : ℕ). order.IsInUse (users_before line b) k t.deed.act) seat (used_at b t.deed here)) in
-      let uses : 0 < times j (users_before line b place.id) = subst (λ (i : ℕ). 0 < times j (users_before line b i)) id (used_by (users_before line b) j (id_of m.0.place) m.0.entry (subst IsOfUse (sym same) told.2) in_use) in
+      let uses : 0 < times j (users_before line b place.id) = subst (λ (i : ℕ). 0 < times j (users_before line b i)) id (used_by (users_before line b) j (place_id m.0.place) m.0.entry (subst IsOfUse (sym same) told.2) in_use) in
       let w = since_lookup line j place.id b uses in
       let among = tried_in by.worker by.command t.step t.at t.spot t.from t.to t.deed t.there place.id w in
       let looks : rank_of (lookup place.id w.try.number) ≡ first + w.at = lookup_ranked s r workers run place.id w.try.number w.try w.own refl w.at (record { seat = j; act = looked w.try }) w.stands refl in

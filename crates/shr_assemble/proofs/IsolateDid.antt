@@ -1,8 +1,8 @@
 -- What an isolation did.
-use Rattle.shr_assemble.proofs.Common.{◌≡◌, ◌⊎◌, inr, ℕ, ◌+◌, ◌<◌, false, List, [], ◌∷◌, ◌++◌, length, map, sym, refl, ap, subst, ◌∙◌, arith, slice_get, Option, Some, None, AllPairs, sum_by, option_and_then, AllByRecursion, append-nil, append_cancel_left, All-from_recursion, AllPairs-cons, sum_by-cons, same_Some, none-some, Entry, Add, Look, Drop, Pin, Scan, MovedIn, Closed, Drained, Object, Place, Serial, Answered, Found, IsolateEnd, Reply, Command, Isolate, Isolation, decl_named, place_number, first_isolation, Each, Each-none, Begins, View, nothing, Adds, place_at, Made, Turns, shape_of, with_put, AreDowns, AreRising, calls_with, both_uses, KnowsClosed, IsScanOf, freed_in, paths_of, WornSeen, WorkerState, Work, no_work, then_work, Shared, does_none, adds_put, OnCache, visitor_of, placed, placed_scan, Visitor, IsIsolationWithin, content_of, within_of_valid, parents_of, IsThere, is_past_group, isolations_told, Step, Brings, added_below, Did, MayMake, DidIsolation, DidIsolations, by_slices, some_at}
+use Rattle.shr_assemble.proofs.Common.{◌≡◌, ◌⊎◌, inr, ℕ, ◌+◌, ◌<◌, false, List, [], ◌∷◌, ◌++◌, length, map, sym, refl, ap, subst, ◌∙◌, arith, slice_get, Option, Some, None, AllPairs, sum_by, option_and_then, AllByRecursion, append-nil, append_cancel_left, All-from_recursion, AllPairs-cons, sum_by-cons, same_Some, none-some, Entry, Add, Look, Drop, Pin, Scan, MovedIn, Closed, Drained, Object, Place, Serial, Answered, Found, IsolateEnd, Reply, Command, Isolate, Isolation, decl_named, place_number, first_isolation, Each, Each-none, Begins, View, nothing, Adds, place_at, Made, Turns, shape_of, with_put, AreDowns, AreRising, calls_with, both_uses, KnowsClosed, IsScanOf, objects_freed, paths_of, WornSeen, WorkerState, Work, no_work, then_work, Shared, does_none, adds_put, OnCache, visitor_of, placed, placed_scan, Visitor, IsIsolationWithin, content_of, within_of_valid, parents_of, IsThere, is_past_group, isolations_told, Step, BringsWork, added_below, Did, MayMakeEntry, DidIsolation, DidIsolations, by_slices, some_at}
 use Rattle.shr_base.specs.declared.replies.Reply.TheVariants as reply
 use Rattle.shr_charge.specs.declared.answers.GroupState.TheVariants.{Online}
-use Rattle.shr_drop.specs.Isolating.{Isolates, IsolateGives, IsolatedAs, IsolatedFrom, RefusedBy, place_of}
+use Rattle.shr_drop.specs.Isolating.{Isolates, IsolateGives, IsolatedAs, IsolatedFrom, RefusedBy, found_place}
 use Rattle.shr_drop.proofs.ByLaw.{found_lawful}
 use Rattle.shr_assemble.proofs.Bringing.{brings_of, brings_then}
 use Rattle.shr_assemble.proofs.Filling.{IsSet}
@@ -62,7 +62,7 @@ module _ (x : Shared) (tables : AreTables x) (by : Serial) (group node decl budg
 
   module _ (f : Found) (visits freed : ℕ) (e : IsolateEnd) (s t : WorkerState) (before after : List Isolation) (h : Isolates x by group node decl budget f visits freed e s t before after) where
     abbrev place : Place
-    place = place_of f node group
+    place = found_place f node group
 
     abbrev visitor : Visitor
     visitor = visitor_of by (length before) place h.d
@@ -88,7 +88,7 @@ module _ (x : Shared) (tables : AreTables x) (by : Serial) (group node decl budg
 
     -- the visits, with the uncharges
     abbrev visiting : Work
-    visiting = record no_work { core = calling visited.made []; ops = visited.ops; uncharges = length (freed_in visited.made) }
+    visiting = record no_work { core = calling visited.made []; ops = visited.ops; uncharges = length (objects_freed visited.made) }
 
     abbrev work : Work
     work = then_work (loading group Online) (then_work (gaining (finding decl f h.holds.answers.gains.words)) visiting)
@@ -96,10 +96,10 @@ module _ (x : Shared) (tables : AreTables x) (by : Serial) (group node decl budg
     abbrev step : Step
     step = step_of by command answered s t work
 
-    end_is : t ≡ record called { uses = both_uses h.held.uses (calls_with visited.ops 0 (length (freed_in visited.made))); noted = h.held.noted ++ visited.ops }
+    end_is : t ≡ record called { uses = both_uses h.held.uses (calls_with visited.ops 0 (length (objects_freed visited.made))); noted = h.held.noted ++ visited.ops }
     end_is = h.back ∙ ap (λ (v : WorkerState). record v { core = with_put h.visited.core }) visited.rest
 
-    third : Brings h.held t visiting
+    third : BringsWork h.held t visiting
     third = let n = does_none h.held in record {
       core = subst (λ (u : WorkerState). Adds h.held.core u.core (calling visited.made [])) (sym end_is) (adds_put h.held.core h.visited.core (calling visited.made []) visited.gains.adds);
       uses = ap (λ (u : WorkerState). u.uses) end_is;
@@ -116,7 +116,7 @@ module _ (x : Shared) (tables : AreTables x) (by : Serial) (group node decl budg
       carries = ap (λ (u : WorkerState). u.carries) end_is ∙ n.carries;
     }
 
-    does : Brings s t work
+    does : BringsWork s t work
     does = brings_then s h.loaded t (loading group Online) (then_work (gaining (finding decl f h.holds.answers.gains.words)) visiting) (brings_of (does_load x group Online s h.loaded h.online))
         (brings_then h.loaded h.held t (gaining (finding decl f h.holds.answers.gains.words)) visiting (brings_of (does_gain h.loaded h.held (finding decl f h.holds.answers.gains.words) h.holds.answers.gains.adds h.holds.rest)) third)
 
@@ -127,7 +127,7 @@ module _ (x : Shared) (tables : AreTables x) (by : Serial) (group node decl budg
     place_there = record { id = subst (λ (n : ℕ). f.id < n) tables.shared.ids h.holds.answers.live.near; node = within.on_node; group = there }
 
     -- each entry is of the isolation
-    may_make : (m : Made) (d : Entry) → m.place ≡ place_number place → IsScanOf by.worker (first_isolation + length before) h.d.policy d → MayMake x.script step m d
+    may_make : (m : Made) (d : Entry) → m.place ≡ place_number place → IsScanOf by.worker (first_isolation + length before) h.d.policy d → MayMakeEntry x.script step m d
     may_make m (Scan worker n asked policy visits freed stopped) here k = let number = k.1 in inr (record {
       own = k.0;
       high = omega (arith, number);
@@ -146,9 +146,9 @@ module _ (x : Shared) (tables : AreTables x) (by : Serial) (group node decl budg
     each_visit : AllByRecursion (IsVisit visitor) visited.made
     each_visit = by_slices (IsVisit visitor) visited.made (λ j m at. visited.scans j m (some_at visited.made j m at))
 
-    born : AllByRecursion (λ (o : Object). o.birth < length (parents_of x.script)) (freed_in visited.made)
-    born = by_slices (λ (o : Object). o.birth < length (parents_of x.script)) (freed_in visited.made)
-        (λ j o at. subst (λ (ps : List ℕ). o.birth < length ps) (tree_is x tables.shared) (visited.born j o (some_at (freed_in visited.made) j o at)))
+    born : AllByRecursion (λ (o : Object). o.birth < length (parents_of x.script)) (objects_freed visited.made)
+    born = by_slices (λ (o : Object). o.birth < length (parents_of x.script)) (objects_freed visited.made)
+        (λ j o at. subst (λ (ps : List ℕ). o.birth < length ps) (tree_is x tables.shared) (visited.born j o (some_at (objects_freed visited.made) j o at)))
 
     all_did : Did x.script step
     all_did = record {
@@ -160,9 +160,9 @@ module _ (x : Shared) (tables : AreTables x) (by : Serial) (group node decl budg
       };
       lookups = found_lookups x.script step decl f refl refl refl (found_by x group decl f call s called on_cache visited.made [] visited.gains step turns_is (0, refl));
       walks = calm_walks x.script step tt (record { walks = refl; seen = refl; maps = refl; cleared = refl });
-      charges = uncharged_charges x.script step (freed_in visited.made) (within_of_valid (content_of x.script) tables.shared.script).tree (record {
+      charges = uncharged_charges x.script step (objects_freed visited.made) (within_of_valid (content_of x.script) tables.shared.script).tree (record {
         born = born;
-        downs = subst (λ (l : List ℕ). AreDowns by (paths_of l (freed_in visited.made)) visited.ops) (tree_is x tables.shared) visited.downs;
+        downs = subst (λ (l : List ℕ). AreDowns by (paths_of l (objects_freed visited.made)) visited.ops) (tree_is x tables.shared) visited.downs;
         charges = refl;
         uncharges = omega arith;
         freed = λ g. sym (made_below (parents_of x.script) g visited.made);

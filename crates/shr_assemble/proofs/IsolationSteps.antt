@@ -1,9 +1,7 @@
 -- The isolations of a report are those of the steps, and their scans are what their steps made.
-use Rattle.shr_assemble.proofs.Common.{◌≡◌, ℕ, zero, suc, ◌+◌, ◌-◌, ◌<◌, ◌≤◌, Bool, true, false, cond, List, [], ◌∷◌, map, sym, refl, ap, subst, ◌∙◌, arith, slice_get, Option, Some, option_map, nat_lt, ltb-true, same_Some, none-some, Entry, Scan, Policy, Serial, Answered, Found, Reply, Command, Isolate, Script, Isolation, WalkRecord, place_number, first_isolation, isolation_walk, ScanSeen, Made, Report, walk_at, isolation_at, Placed, placed, placed_scan, visitor_of, Step, IsAmong, steps_of, isolations_asked, IsScanned, IsVisited, isolated_in, isolated_before, DidIsolation, IsRun, IsStep, at_some}
-use Rattle.std.proofs.lemmas.Bool.{ltb-false}
+use Rattle.shr_assemble.proofs.Common.{◌≡◌, ℕ, zero, suc, ◌+◌, ◌-◌, ◌<◌, ◌≤◌, Bool, true, false, cond, List, [], ◌∷◌, map, sym, refl, ap, subst, ◌∙◌, arith, slice_get, Option, Some, option_map, nat_lt, ltb-true, same_Some, none-some, Entry, Scan, Policy, Serial, Answered, Found, Reply, Command, Isolate, Script, Isolation, WalkRecord, place_number, first_isolation, isolation_walk, ScanSeen, Made, Report, walk_at, isolation_at, Placed, placed, placed_scan, visitor_of, Step, IsAmong, steps_of, isolations_asked, IsScanned, IsIsolationVisit, isolated_in, isolated_before, DidIsolation, IsRun, IsStep, at_some, ltb-false, isolation_told}
 use Rattle.shr_base.specs.declared.replies.Reply.TheVariants as reply
-use Rattle.shr_report.specs.Parts.{scan_by}
-use Rattle.shr_report.specs.Isolated.{isolation_told}
+use Rattle.shr_report.specs.Parts.{scanning_command}
 use Rattle.shr_assemble.proofs.Flattening.{slice_map, walk_there}
 use Rattle.shr_assemble.proofs.Gathering.{flat_at, flat_there}
 use Rattle.shr_assemble.proofs.LawfulWalks.{among_map}
@@ -80,14 +78,14 @@ module _ (s : Script) (r : Report) (workers : List (List Step)) (run : IsRun s r
       }
 
   -- a visit's number is that of its isolation
-  pub visit_number : (worker k : ℕ) (x : Step) (m : Made) (w n asked visits freed : ℕ) (policy : Policy) (stopped : Bool) → slice_get (steps_of workers worker) k ≡ Some x → (t : IsVisited x m w n) → IsAmong m x.work.core.made → m.entry ≡ Scan w n asked policy visits freed stopped
+  pub visit_number : (worker k : ℕ) (x : Step) (m : Made) (w n asked visits freed : ℕ) (policy : Policy) (stopped : Bool) → slice_get (steps_of workers worker) k ≡ Some x → (t : IsIsolationVisit x m w n) → IsAmong m x.work.core.made → m.entry ≡ Scan w n asked policy visits freed stopped
       → n ≡ isolation_walk (isolated_before (steps_of workers worker) k)
   visit_number worker k x m w n asked visits freed policy stopped at t among entry =
       let d = run.isolations.did worker k x at t.isolation t.told in
       let o = scan_of s x (isolated_before (steps_of workers worker) k) t.isolation d m among in
       ap walk_in (sym entry ∙ o.entry)
 
-  pub visit_there : (worker k : ℕ) (x : Step) (m : Made) (w n asked visits freed : ℕ) (policy : Policy) (stopped : Bool) → slice_get (steps_of workers worker) k ≡ Some x → (t : IsVisited x m w n) → IsAmong m x.work.core.made → m.entry ≡ Scan w n asked policy visits freed stopped
+  pub visit_there : (worker k : ℕ) (x : Step) (m : Made) (w n asked visits freed : ℕ) (policy : Policy) (stopped : Bool) → slice_get (steps_of workers worker) k ≡ Some x → (t : IsIsolationVisit x m w n) → IsAmong m x.work.core.made → m.entry ≡ Scan w n asked policy visits freed stopped
       → isolation_at r w (n - first_isolation) ≡ Some t.isolation
   visit_there worker k x m w n asked visits freed policy stopped at t among entry =
       let own : w ≡ worker = t.own ∙ ap (λ (z : Serial). z.worker) (run.steps.each worker k x at).by in
@@ -96,7 +94,7 @@ module _ (s : Script) (r : Report) (workers : List (List Step)) (run : IsRun s r
       ap (λ v. isolation_at r v (n - first_isolation)) own ∙ (ap (isolation_at r worker) number ∙ isolation_there worker k x t.isolation at t.told)
 
   -- a Scan is by the command of its walk, or of its isolation
-  pub scanned_by : (worker k : ℕ) (x : Step) (m : Made) (w n : ℕ) → slice_get (steps_of workers worker) k ≡ Some x → IsScanned x m w n → scan_by r w n ≡ Some x.by
+  pub scanned_by : (worker k : ℕ) (x : Step) (m : Made) (w n : ℕ) → slice_get (steps_of workers worker) k ≡ Some x → IsScanned x m w n → scanning_command r w n ≡ Some x.by
   scanned_by worker k x m w n at t =
       let is = run.steps.each worker k x at in
       let own : w ≡ worker = t.own ∙ ap (λ (z : Serial). z.worker) is.by in
@@ -109,8 +107,8 @@ module _ (s : Script) (r : Report) (workers : List (List Step)) (run : IsRun s r
       low_by true e low h = h
       low_by false e low h = absurd (let f = ltb-false n first_isolation e in omega (arith, f, low))
 
-  pub visited_by : (worker k : ℕ) (x : Step) (m : Made) (w n asked visits freed : ℕ) (policy : Policy) (stopped : Bool) → slice_get (steps_of workers worker) k ≡ Some x → (t : IsVisited x m w n) → IsAmong m x.work.core.made → m.entry ≡ Scan w n asked policy visits freed stopped
-      → scan_by r w n ≡ Some x.by
+  pub visited_by : (worker k : ℕ) (x : Step) (m : Made) (w n asked visits freed : ℕ) (policy : Policy) (stopped : Bool) → slice_get (steps_of workers worker) k ≡ Some x → (t : IsIsolationVisit x m w n) → IsAmong m x.work.core.made → m.entry ≡ Scan w n asked policy visits freed stopped
+      → scanning_command r w n ≡ Some x.by
   visited_by worker k x m w n asked visits freed policy stopped at t among entry =
       high_by (nat_lt n first_isolation) refl t.high (ap (option_map (λ (i : Isolation). i.by)) (visit_there worker k x m w n asked visits freed policy stopped at t among entry) ∙ ap Some (told_by x.by x.command x.answered t.isolation (first_told x t.isolation t.told)))
     where

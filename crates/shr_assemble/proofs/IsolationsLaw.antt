@@ -1,8 +1,6 @@
 -- The law of isolations, of a run.
-use Rattle.shr_assemble.proofs.Common.{◌≡◌, ℕ, zero, suc, ◌+◌, ◌-◌, ◌<◌, ◌≤◌, ◌≢◌, ◌⊎◌, ⊎_elim, Bool, true, false, ◌&&◌, cond, List, [], ◌∷◌, length, drop, map, sym, refl, ap, subst, ◌∙◌, arith, eqb, eq-eqb, slice_get, Option, Some, None, filter, filter_map, option_and_then, ◌==◌, AllByRecursion, cons_option, IsSomeAnd, and_parts, and_from, eqb-true, same_Some, none-some, Entry, Add, Look, Drop, Pin, Scan, MovedIn, Closed, Drained, Place, Serial, Answered, IsolateEnd, Spent, CacheDecl, Command, Script, Isolation, is_serial, decl_named, is_closed, place_number, Has, each_has, isolation_walk, ScanSeen, place_at, Made, Report, command_at, serial_of, journals_of, isolation_at, isolations_told, visitor_of, Placed, placed, placed_scan, Visitor, Step, IsAmong, steps_of, isolations_asked, IsScanned, IsVisited, MayMake, isolated_in, isolated_before, IsRun, IsWornBy, by_slices, some_at, serial_itself}
+use Rattle.shr_assemble.proofs.Common.{◌≡◌, ℕ, zero, suc, ◌+◌, ◌-◌, ◌<◌, ◌≤◌, ◌≢◌, ◌⊎◌, ⊎_elim, Bool, true, false, ◌&&◌, cond, List, [], ◌∷◌, length, drop, map, sym, refl, ap, subst, ◌∙◌, arith, eqb, eq-eqb, slice_get, Option, Some, None, filter, filter_map, option_and_then, ◌==◌, AllByRecursion, cons_option, IsSomeAnd, and_parts, and_from, eqb-true, same_Some, none-some, Entry, Add, Look, Drop, Pin, Scan, MovedIn, Closed, Drained, Place, Serial, Answered, IsolateEnd, Spent, CacheDecl, Command, Script, Isolation, is_serial, decl_named, is_closed, place_number, Has, each_has, isolation_walk, ScanSeen, place_at, Made, Report, command_at, serial_of, journals_of, isolation_at, isolations_told, visitor_of, Placed, placed, placed_scan, Visitor, Step, IsAmong, steps_of, isolations_asked, IsScanned, IsIsolationVisit, MayMakeEntry, isolated_in, isolated_before, IsRun, IsWornBy, by_slices, some_at, serial_itself, IsLawfulIsolation, scan_seen, scans_seen, isolations_by, cache_named, IsEndCaused, IsOfIsolation, AreIsolationsLawful}
 use Rattle.shr_base.specs.declared.replies.IsolateEnd.TheVariants as isolate
-use Rattle.shr_model.specs.Isolations.{IsLawfulIsolation}
-use Rattle.shr_report.specs.Isolated.{scan_seen, scans_seen, isolations_by, cache_named, IsEndCaused, IsOfIsolation, AreIsolationsLawful}
 use Rattle.shr_assemble.proofs.Gathering.{each_among}
 use Rattle.shr_assemble.proofs.IsolationSteps.{first_told, told_once, told_by, scan_of, isolation_of, IsolationOf, isolation_there, visit_number, visit_there}
 use Rattle.shr_assemble.proofs.Listed.{closed_begins, contains_among, no_test}
@@ -113,8 +111,8 @@ scan_is worker walk Closed z h = absurd (none-some z h)
 scan_is worker walk (Drained by objects) z h = absurd (none-some z h)
 
 module _ (s : Script) (r : Report) (workers : List (List Step)) (run : IsRun s r workers) where
-  may_make : (worker k : ℕ) (x : Step) (m : Made) → slice_get (steps_of workers worker) k ≡ Some x → IsAmong m x.work.core.made → MayMake s x m m.entry
-  may_make worker k x m at among = each_among (λ (z : Made). MayMake s x z z.entry) x.work.core.made m (run.steps.each worker k x at).did.entries.each among
+  may_make : (worker k : ℕ) (x : Step) (m : Made) → slice_get (steps_of workers worker) k ≡ Some x → IsAmong m x.work.core.made → MayMakeEntry s x m m.entry
+  may_make worker k x m at among = each_among (λ (z : Made). MayMakeEntry s x z z.entry) x.work.core.made m (run.steps.each worker k x at).did.entries.each among
 
   -- ---- the scans of an isolation
   module _ (worker n : ℕ) (i : Isolation) (of : IsolationOf s r workers run worker n i) where
@@ -149,7 +147,7 @@ module _ (s : Script) (r : Report) (workers : List (List Step)) (run : IsRun s r
     from_step j e z at is =
         let m = maker s r workers run i.place j e at in
         let entry = m.entry ∙ scan_is worker (isolation_walk n) e z is in
-        let may : IsScanned m.step m.made worker (isolation_walk n) ⊎ IsVisited m.step m.made worker (isolation_walk n) = subst (MayMake s m.step m.made) entry (may_make m.worker m.k m.step m.made m.at m.among) in
+        let may : IsScanned m.step m.made worker (isolation_walk n) ⊎ IsIsolationVisit m.step m.made worker (isolation_walk n) = subst (MayMakeEntry s m.step m.made) entry (may_make m.worker m.k m.step m.made m.at m.among) in
         ⊎_elim
         (λ t. absurd (let low = ((run.steps.each m.worker m.k m.step m.at).did.walks.each t.index t.walk t.there).low in let number = t.number in omega (arith, low, number)))
         (λ t. let number : n ≡ isolated_before (steps_of workers m.worker) m.k = omega (arith, visit_number s r workers run m.worker m.k m.step m.made worker (isolation_walk n) z.asked z.visits z.freed z.policy z.stopped m.at t m.among entry) in
@@ -197,7 +195,7 @@ module _ (s : Script) (r : Report) (workers : List (List Step)) (run : IsRun s r
   end_caused worker k x at (isolate.Worn why) h = spent_law s r workers run worker k x why at (h why refl)
 
   -- ---- a Scan entry of an isolation
-  scan_of_isolation : (place : Place) (e : Entry) (x : Step) (m : Made) (worker k : ℕ) → slice_get (steps_of workers worker) k ≡ Some x → IsAmong m x.work.core.made → place_at m.place ≡ place → m.entry ≡ e → MayMake s x m e → IsOfIsolation r place e
+  scan_of_isolation : (place : Place) (e : Entry) (x : Step) (m : Made) (worker k : ℕ) → slice_get (steps_of workers worker) k ≡ Some x → IsAmong m x.work.core.made → place_at m.place ≡ place → m.entry ≡ e → MayMakeEntry s x m e → IsOfIsolation r place e
   scan_of_isolation place (Add by birth added key value) x m worker k at among here entry may = tt
   scan_of_isolation place (Look by birth key hit) x m worker k at among here entry may = tt
   scan_of_isolation place (Drop by birth key kind) x m worker k at among here entry may = tt
@@ -211,7 +209,7 @@ module _ (s : Script) (r : Report) (workers : List (List Step)) (run : IsRun s r
 
   scans : (place : Place) (n : ℕ) (e : Entry) → slice_get (journals_of r place) n ≡ Some e → IsOfIsolation r place e
   scans place n e stands = let m = maker s r workers run place n e stands in
-      scan_of_isolation place e m.step m.made m.worker m.k m.at m.among m.place_is m.entry (subst (MayMake s m.step m.made) m.entry (may_make m.worker m.k m.step m.made m.at m.among))
+      scan_of_isolation place e m.step m.made m.worker m.k m.at m.among m.place_is m.entry (subst (MayMakeEntry s m.step m.made) m.entry (may_make m.worker m.k m.step m.made m.at m.among))
 
   -- ---- the isolations of a command
   isolations_are : (worker k : ℕ) (x : Step) → slice_get (steps_of workers worker) k ≡ Some x → isolations_by r (serial_of worker k) ≡ isolated_in x

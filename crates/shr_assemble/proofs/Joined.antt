@@ -1,7 +1,6 @@
 -- What the first seats have once the workers' seats were joined into them, field by field.
-use Rattle.shr_assemble.proofs.Common.{◌≡◌, ℕ, List, [], ◌∷◌, ◌++◌, sym, refl, ap, ◌∙◌, append_assoc, flat_map, Option, append-nil, PlaceAmount, PoolEntry, TreeEntry, UseStep, Made, Known, Counted, Mapped, Tried, Loaded, Turn, Dated, CrewState, Firsts, with_workers, takes_of, gives_of, takes_both, gives_both}
+use Rattle.shr_assemble.proofs.Common.{◌≡◌, ℕ, List, [], ◌∷◌, ◌++◌, sym, refl, ap, ◌∙◌, append_assoc, flat_map, Option, append-nil, PlaceAmount, PoolEntry, TreeEntry, UseStep, Made, Known, Counted, Mapped, Tried, Loaded, Turn, Dated, CrewState, Firsts, with_workers, takes_of, gives_of, takes_both, gives_both, with_worker}
 use Rattle.shr_charge.specs.Views as charge
-use Rattle.shr_assemble.specs.Ends.{with_worker}
 
 -- a list that each join makes longer by the worker's
 pub joined_list : {A : Type 0} (g : Firsts → List A) (h : CrewState → List A) → ((f : Firsts) (w : CrewState) → g (with_worker f w) ≡ g f ++ h w)
@@ -61,10 +60,10 @@ module _ (f : Firsts) (ws : List CrewState) where
   joined_ops = joined_list {A = UseStep} (λ g. g.uses.ops) (λ (w : CrewState). w.seats.uses.ops) (λ g w. refl) f ws
 
   pub joined_entries : (with_workers f ws).tree.made ≡ f.tree.made ++ flat_map (λ (w : CrewState). w.seats.tree.made) ws
-  joined_entries = joined_list {A = charge.Made} (λ g. g.tree.made) (λ (w : CrewState). w.seats.tree.made) (λ g w. refl) f ws
+  joined_entries = joined_list {A = charge.TreeMade} (λ g. g.tree.made) (λ (w : CrewState). w.seats.tree.made) (λ g w. refl) f ws
 
   pub joined_words : (with_workers f ws).tree.loaded ≡ f.tree.loaded ++ flat_map (λ (w : CrewState). w.seats.tree.loaded) ws
-  joined_words = joined_list {A = charge.Loaded} (λ g. g.tree.loaded) (λ (w : CrewState). w.seats.tree.loaded) (λ g w. refl) f ws
+  joined_words = joined_list {A = charge.LoadedState} (λ g. g.tree.loaded) (λ (w : CrewState). w.seats.tree.loaded) (λ g w. refl) f ws
 
   pub joined_tree_heard : (with_workers f ws).tree.heard ≡ f.tree.heard ++ flat_map (λ (w : CrewState). w.seats.tree.known ∷ w.seats.tree.heard) ws
   joined_tree_heard = joined_list {A = List TreeEntry} (λ g. g.tree.heard) (λ (w : CrewState). w.seats.tree.known ∷ w.seats.tree.heard) (λ g w. refl) f ws

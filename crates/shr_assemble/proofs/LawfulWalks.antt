@@ -1,7 +1,6 @@
 -- Each walk of a run is lawful.
-use Rattle.shr_assemble.proofs.Common.{◌≡◌, ℕ, zero, suc, ◌≤◌, true, false, List, [], ◌∷◌, length, map, sym, refl, ap, subst, ◌∙◌, slice_get, Option, Some, option_and_then, IsSomeAnd, same_Some, none-some, CacheDecl, Script, Attempt, Outcome, PassRecord, WalkRecord, Count, number_of, is_held, pass_of, counts_of, place_number, place_in, Counted, Report, journals_of, items_before, IsThere, cache_of, IsCount, IsOutcomeOf, AreScansOf, IsStopped, IsLawfulWalk, Step, IsAmong, scans_made, WasHeld, counted_in, IsRun, at_some, by_slices, some_at}
+use Rattle.shr_assemble.proofs.Common.{◌≡◌, ℕ, zero, suc, ◌≤◌, true, false, List, [], ◌∷◌, length, map, sym, refl, ap, subst, ◌∙◌, slice_get, Option, Some, option_and_then, IsSomeAnd, same_Some, none-some, CacheDecl, Script, Attempt, Outcome, PassRecord, WalkRecord, Count, number_of, is_held, pass_of, counts_of, place_number, place_in, Counted, Report, journals_of, items_before, IsThere, cache_of, IsCountRight, IsOutcomeOf, AreScansOf, IsStopped, IsLawfulWalk, Step, IsAmong, scans_made, HasMetCache, counted_in, IsRun, at_some, by_slices, some_at, cache_met}
 use Rattle.shr_base.specs.declared.walks.Outcome.TheVariants.{Worn, Gone, Skip, Ran, Empty, Cleared, RestoredSkip, RestoredRan}
-use Rattle.shr_report.specs.LawfulWalk.{cache_met}
 use Rattle.shr_assemble.proofs.Gathering.{among_right, among_flat}
 use Rattle.shr_assemble.proofs.Making.{work_of, back_there}
 use Rattle.shr_assemble.proofs.Flattening.{WalkOf}
@@ -45,7 +44,7 @@ module _ (s : Script) (r : Report) (workers : List (List Step)) (run : IsRun s r
       subst (λ l. IsAmong (f c) l) of.is.did.walks.seen (among_flat counted_in of.step.work.walks w (f c) (of.i, some_at of.step.work.walks of.i w of.own)
       (among_flat (λ (b : Attempt). map (λ (z : Count). record { place = place_number (place_in w b.id); len = z.len; version = z.version }) (counts_of b.outcome)) w.attempts.items a (f c) (k, some_at w.attempts.items k a at) (among_map f (counts_of a.outcome) c among)))
 
-  count_right : (k : ℕ) (a : Attempt) (c : Count) → slice_get w.attempts.items k ≡ Some a → IsAmong c (counts_of a.outcome) → IsCount s r (place_in w a.id) c
+  count_right : (k : ℕ) (a : Attempt) (c : Count) → slice_get w.attempts.items k ≡ Some a → IsAmong c (counts_of a.outcome) → IsCountRight s r (place_in w a.id) c
   count_right k a c at among =
       let f : Counted = record { place = place_number (place_in w a.id); len = c.len; version = c.version } in
       let h = among_right of.step.before.core.traces.seen of.step.work.core.seen f (count_made k a c at among) in
@@ -54,11 +53,11 @@ module _ (s : Script) (r : Report) (workers : List (List Step)) (run : IsRun s r
       record { there = subst (λ p. c.version ≤ length (journals_of r p)) back shown.0; len = subst (λ p. c.len ≡ length (items_before s r p c.version)) back shown.1 }
 
   -- the cache of a held attempt
-  pub cache_is : (k : ℕ) (a : Attempt) (number : ℕ) → slice_get w.attempts.items k ≡ Some a → number_of a.outcome ≡ Some number → (h : WasHeld s of.step n w a number) → cache_of s r a ≡ Some h.cache
+  pub cache_is : (k : ℕ) (a : Attempt) (number : ℕ) → slice_get w.attempts.items k ≡ Some a → number_of a.outcome ≡ Some number → (h : HasMetCache s of.step n w a number) → cache_of s r a ≡ Some h.cache
   cache_is k a number at e h = ap (option_and_then (cache_met s r a.id)) e
       ∙ (ap (option_and_then (slice_get s.caches.items)) (sym (attempt_met s r workers run worker of.k of.step (record { id = a.id; number = number; held = Some h.decl }) of.at h.tried)) ∙ h.declared)
 
-  pub was_held : (k : ℕ) (a : Attempt) (number : ℕ) → slice_get w.attempts.items k ≡ Some a → number_of a.outcome ≡ Some number → is_held a.outcome ≡ true → WasHeld s of.step n w a number
+  pub was_held : (k : ℕ) (a : Attempt) (number : ℕ) → slice_get w.attempts.items k ≡ Some a → number_of a.outcome ≡ Some number → is_held a.outcome ≡ true → HasMetCache s of.step n w a number
   was_held k a number at e held = (of.did.attempts k a at).held number e held
 
   pub lawful_walk : IsLawfulWalk s r worker n w
@@ -67,7 +66,7 @@ module _ (s : Script) (r : Report) (workers : List (List Step)) (run : IsRun s r
     mapped = rec.mapped;
     root = rec.root;
     memory = rec.memory;
-    counts = λ k a at. by_slices (IsCount s r (place_in w a.id)) (counts_of a.outcome) (λ j c e. count_right k a c at (j, some_at (counts_of a.outcome) j c e));
+    counts = λ k a at. by_slices (IsCountRight s r (place_in w a.id)) (counts_of a.outcome) (λ j c e. count_right k a c at (j, some_at (counts_of a.outcome) j c e));
     kinds = λ k a at held. let t = held_number a.outcome held in let h = was_held k a t.0 at t.1 held in
         subst (λ (o : Option CacheDecl). IsSomeAnd o (λ d. IsOutcomeOf w.priority d a.outcome)) (sym (cache_is k a t.0 at t.1 h)) h.kind;
     placed = rec.placed;

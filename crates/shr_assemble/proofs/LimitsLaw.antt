@@ -1,7 +1,5 @@
 -- A charge history in which each refused up is taken back ends within the limit.
-use Rattle.shr_assemble.proofs.Common.{◌≡◌, ℕ, ◌+◌, ◌≤◌, ◌≢◌, ◌⊎◌, inl, inr, ⊎_elim, Bool, true, false, not, cond, List, [], ◌∷◌, ◌++◌, length, length-append, take, drop, sym, refl, ap, subst, ◌∙◌, arith, eqb, append_assoc, slice_get, Some, find, filter, pos, ◌-ℤ◌, MatchOption, AllByRecursion, and_parts, and_from, eqb-true, cases_lt, cases_Bool, sum_by-append, sum_by-cons, append-nil, take_at, ints, UseStep, Serial, ups, downs, usage_after, is_by, IsDownNext, AreTakenBack, IsChargeHistory, is_serial, AreApart, each_weaker, Has, filter_has, each_has, serial_itself}
-use Rattle.std.proofs.lemmas.List.{drop_at}
-use Rattle.shr_model.proofs.Members.{AreApart_filter}
+use Rattle.shr_assemble.proofs.Common.{◌≡◌, ℕ, ◌+◌, ◌≤◌, ◌≢◌, ◌⊎◌, inl, inr, ⊎_elim, Bool, true, false, not, cond, List, [], ◌∷◌, ◌++◌, length, length-append, take, drop, sym, refl, ap, subst, ◌∙◌, arith, eqb, append_assoc, slice_get, Some, find, filter, pos, ◌-ℤ◌, MatchOption, AllByRecursion, and_parts, and_from, eqb-true, cases_lt, cases_Bool, sum_by-append, sum_by-cons, append-nil, take_at, ints, UseStep, Serial, ups, downs, usage_after, is_by, IsDownNext, AreTakenBack, IsChargeHistory, is_serial, AreApart, each_weaker, Has, filter_has, each_has, serial_itself, drop_at, AreApart_filter}
 
 -- the serials that wait for their down, and those without one
 abbrev waits_not : Serial → Serial → Bool

@@ -1,7 +1,5 @@
 -- The law of lookups, of a run.
-use Rattle.shr_assemble.proofs.Common.{◌≡◌, ℕ, ◌+◌, ◌<◌, ◌≤◌, ⊎_elim, Bool, true, false, cond, List, [], ◌∷◌, ◌++◌, length, length-append, take, sym, refl, ap, subst, ◌∙◌, arith, eqb, eq-eqb, ne_eqb, slice_get, Option, Some, None, flat_map, map, filter, filter_map, count_by, nat_lt, is_some, option_and_then, ◌==◌, if◌then◌else◌, cases_lt, ltb-true, lt-ltb, AllByRecursion, cons_option, flat_map-append, take-append-le, Found, Answered, Serial, Command, Script, Attempt, WalkRecord, WorkerPart, PoolEntry, number_of, is_held, decl_named, registrations, decl_at, is_live, decl_of, from_of, total, total-append, total_zero, Tried, hit_attempt, Report, lookups_at, walk_at, Step, IsAmong, gathered, steps_in, steps_of, numbered, numbers_tried, number_found, number_made, IsFoundBy, all_attempts, IsRun, count_total}
-use Rattle.std.proofs.lemmas.List.{get_or_past}
-use Rattle.shr_model.specs.Pool.{attempt_at}
+use Rattle.shr_assemble.proofs.Common.{◌≡◌, ℕ, ◌+◌, ◌<◌, ◌≤◌, ⊎_elim, Bool, true, false, cond, List, [], ◌∷◌, ◌++◌, length, length-append, take, sym, refl, ap, subst, ◌∙◌, arith, eqb, eq-eqb, ne_eqb, slice_get, Option, Some, None, flat_map, map, filter, filter_map, count_by, nat_lt, is_some, option_and_then, ◌==◌, if◌then◌else◌, cases_lt, ltb-true, lt-ltb, AllByRecursion, cons_option, flat_map-append, take-append-le, Found, Answered, Serial, Command, Script, Attempt, WalkRecord, WorkerPart, PoolEntry, number_of, is_held, decl_named, registrations, decl_at, is_live, decl_of, from_of, total, total-append, total_zero, Tried, hit_attempt, Report, lookups_at, walk_at, Step, IsAmong, gathered, steps_in, steps_of, lookup_numbered, numbers_tried, number_found, number_made, IsFoundBy, all_attempts, IsRun, count_total, get_or_past, attempt_at}
 use Rattle.shr_report.specs.Parts.{answers_in}
 use Rattle.shr_report.specs.Lookups.{found_number, found_numbers, tried_numbers, IsFoundRight, AreLookupsLawful}
 use Rattle.shr_assemble.proofs.Gathering.{each_step, has_step, gathered_has, among_right, weighs}
@@ -41,7 +39,7 @@ module _ (id number : ℕ) where
   one_found None = refl
   one_found (Some f) = chosen (f.id == id) f.number
 
-  one_tried : (b : Bool) (i : ℕ) (o : Option ℕ) → (i == id) ≡ b → cond b (weight_of number o) 0 ≡ total (pair_hit id number) (numbered i o)
+  one_tried : (b : Bool) (i : ℕ) (o : Option ℕ) → (i == id) ≡ b → cond b (weight_of number o) 0 ≡ total (pair_hit id number) (lookup_numbered i o)
   one_tried true i None e = refl
   one_tried false i None e = refl
   one_tried true i (Some m) e = let z : cond (i == id) (weight number m) 0 ≡ weight number m = ap (λ c. cond c (weight number m) 0) e in omega (arith, z)
@@ -52,14 +50,14 @@ module _ (id number : ℕ) where
   kept_or_not true a xs = total_option number (number_of a.outcome) (filter_map (λ (y : Attempt). number_of y.outcome) xs)
   kept_or_not false a xs = omega arith
 
-  walk_tried : (xs : List Attempt) → total (weight number) (filter_map (λ (a : Attempt). number_of a.outcome) (filter (λ (a : Attempt). a.id == id) xs)) ≡ total (pair_hit id number) (flat_map (λ (a : Attempt). numbered a.id (number_of a.outcome)) xs)
+  walk_tried : (xs : List Attempt) → total (weight number) (filter_map (λ (a : Attempt). number_of a.outcome) (filter (λ (a : Attempt). a.id == id) xs)) ≡ total (pair_hit id number) (flat_map (λ (a : Attempt). lookup_numbered a.id (number_of a.outcome)) xs)
   walk_tried [] = refl
   walk_tried (a ∷ xs) = omega (
     arith,
     walk_tried xs,
     kept_or_not (a.id == id) a (filter (λ (y : Attempt). y.id == id) xs),
     one_tried (a.id == id) a.id (number_of a.outcome) refl,
-    total-append (pair_hit id number) (numbered a.id (number_of a.outcome)) (flat_map (λ (y : Attempt). numbered y.id (number_of y.outcome)) xs),
+    total-append (pair_hit id number) (lookup_numbered a.id (number_of a.outcome)) (flat_map (λ (y : Attempt). lookup_numbered y.id (number_of y.outcome)) xs),
   )
 
   walks_tried : (ws : List WalkRecord) → total (weight number) (flat_map (tried_at id) ws) ≡ total (pair_hit id number) (flat_map numbers_tried ws)

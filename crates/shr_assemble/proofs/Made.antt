@@ -1,6 +1,6 @@
 -- The report that is put together is made of the ends of the tables and of the workers' logs.
-use Rattle.shr_assemble.proofs.Common.{◌≡◌, ℕ, zero, suc, ◌<◌, ◌≤◌, ◌⊎◌, inl, inr, ⊎_elim, List, [], ◌∷◌, length, map, take, refl, sym, ap, subst, ◌∙◌, arith, ◌++◌, slice_get, flat_map, option_map, Option, Some, None, IsPermutation, cases_order, IsPermutation-sym, slice_get_within, same_Some, WorkerPart, UseStep, Answered, Shared, CrewState, IsWorkOf, Serial, Ends, Report, WorkerLog, Noted, new_worker, HelpsWith, answers_in, walks_in, carries_in, plain_in, isolations_in, IsMadeOf, part_of, ArePrinted, AreSorted, AreEnds, IsPutTogether, Sweep, SweepItem}
-use Rattle.shr_worker.specs.Chain.{commands_of, serial_of}
+use Rattle.shr_assemble.proofs.Common.{◌≡◌, ℕ, zero, suc, ◌<◌, ◌≤◌, ◌⊎◌, inl, inr, ⊎_elim, List, [], ◌∷◌, length, map, take, refl, sym, ap, subst, ◌∙◌, arith, ◌++◌, slice_get, flat_map, option_map, Option, Some, None, IsPermutation, cases_order, IsPermutation-sym, slice_get_within, same_Some, WorkerPart, UseStep, Answered, Shared, CrewState, IsWorkOf, Serial, Ends, Report, WorkerLog, Noted, new_worker, HelpsWith, log_answers, log_walks, log_carries, log_plain, log_isolations, IsMadeOf, printed_part, ArePrintedParts, AreUsesSorted, AreEnds, IsPutTogether, Sweep, SweepItem}
+use Rattle.shr_worker.specs.Chain.{worker_commands, command_serial}
 use Rattle.shr_report.specs.Parts as parts
 use Rattle.shr_report.specs.UnitParts as units
 use Rattle.shr_assemble.proofs.Crews.{there_at}
@@ -29,69 +29,69 @@ unhelped : (x : Shared) (o : Option Sweep) (by : Serial) (told : List Answered) 
 unhelped x None by told popped s t none h = h.1
 unhelped x (Some z) by told popped s t none h = absurd (let some = sym h.told_is ∙ none in cc)
 
-module _ (e : Ends) (logs : List WorkerLog) (n : Noted) (r : Report) (are : AreEnds logs e) (printed : ArePrinted (map part_of logs) n.parts.items) (together : IsPutTogether e n r) where
-  part_at : (worker : ℕ) → worker < printed.many → slice_get r.workers.items worker ≡ option_map part_of (slice_get logs worker)
-  part_at worker lt = ap (λ (l : List WorkerPart). slice_get l worker) (together.parts ∙ printed.front) ∙ (get_taken (map part_of logs) printed.many worker lt ∙ get_mapped part_of logs worker)
+module _ (e : Ends) (logs : List WorkerLog) (n : Noted) (r : Report) (are : AreEnds logs e) (printed : ArePrintedParts (map printed_part logs) n.parts.items) (together : IsPutTogether e n r) where
+  part_at : (worker : ℕ) → worker < printed.many → slice_get r.workers.items worker ≡ option_map printed_part (slice_get logs worker)
+  part_at worker lt = ap (λ (l : List WorkerPart). slice_get l worker) (together.parts ∙ printed.front) ∙ (get_taken (map printed_part logs) printed.many worker lt ∙ get_mapped printed_part logs worker)
 
   no_part : (worker : ℕ) → printed.many ≤ worker → slice_get r.workers.items worker ≡ None
-  no_part worker le = ap (λ (l : List WorkerPart). slice_get l worker) (together.parts ∙ printed.front) ∙ get_past (map part_of logs) printed.many worker le
+  no_part worker le = ap (λ (l : List WorkerPart). slice_get l worker) (together.parts ∙ printed.front) ∙ get_past (map printed_part logs) printed.many worker le
 
   -- a worker past the last one with an answer noted nothing
   silent : (worker : ℕ) (log : WorkerLog) → printed.many ≤ worker → slice_get logs worker ≡ Some log → log.answers.items ≡ []
-  silent worker log le at = printed.last.after worker (part_of log) le (get_mapped part_of logs worker ∙ ap (option_map part_of) at)
+  silent worker log le at = printed.last.after worker (printed_part log) le (get_mapped printed_part logs worker ∙ ap (option_map printed_part) at)
 
   idle : (worker : ℕ) (log : WorkerLog) → printed.many ≤ worker → slice_get logs worker ≡ Some log → (log.walks.items ≡ []) × (log.carries.items ≡ []) × (log.plain.items ≡ []) × (log.isolations.items ≡ [])
   idle worker log le at =
       let t = there_at are.ends.lasts worker (let lt = slice_get_within logs worker log at in let same = are.ends.last_states in omega (arith, lt, same)) in
       let w = are.ends.worked worker log t.0 at t.1 in
       let silence = none_left w.own w.told (sym w.answers ∙ silent worker log le at) in
-      let same : t.0 ≡ new_worker are.ends.opened worker = unhelped are.shared are.shared.script.sweep (serial_of worker (length (commands_of are.shared.script worker))) w.told (are.ends.popped worker) w.done t.0 silence.1 w.helped ∙ still are.shared worker w.own (new_worker are.ends.opened worker) w.done silence.0 w.work in
+      let same : t.0 ≡ new_worker are.ends.opened worker = unhelped are.shared are.shared.script.sweep (command_serial worker (length (worker_commands are.shared.script worker))) w.told (are.ends.popped worker) w.done t.0 silence.1 w.helped ∙ still are.shared worker w.own (new_worker are.ends.opened worker) w.done silence.0 w.work in
       (w.walks ∙ ap (λ (s : CrewState). s.seats.walks) same, w.carries ∙ ap (λ (s : CrewState). s.seats.carries) same, w.plain ∙ ap (λ (s : CrewState). s.plain.walks) same, w.isolations ∙ ap (λ (s : CrewState). s.isolations) same)
 
   cases_of : (worker : ℕ) → (worker < printed.many) ⊎ (printed.many ≤ worker)
   cases_of worker = ⊎_elim (λ same. inr (omega (arith, same))) (⊎_elim (λ lt. inl lt) (λ gt. inr (omega (arith, gt)))) (cases_order worker printed.many)
 
-  same_answers : (o : Option WorkerLog) → parts.answers_in (option_map part_of o) ≡ answers_in o
+  same_answers : (o : Option WorkerLog) → parts.answers_in (option_map printed_part o) ≡ log_answers o
   same_answers None = refl
   same_answers (Some log) = refl
 
-  same_walks : (o : Option WorkerLog) → parts.walks_in (option_map part_of o) ≡ walks_in o
+  same_walks : (o : Option WorkerLog) → parts.walks_in (option_map printed_part o) ≡ log_walks o
   same_walks None = refl
   same_walks (Some log) = refl
 
-  same_carries : (o : Option WorkerLog) → parts.carries_in (option_map part_of o) ≡ carries_in o
+  same_carries : (o : Option WorkerLog) → parts.carries_in (option_map printed_part o) ≡ log_carries o
   same_carries None = refl
   same_carries (Some log) = refl
 
-  same_plain : (o : Option WorkerLog) → units.plain_in (option_map part_of o) ≡ plain_in o
+  same_plain : (o : Option WorkerLog) → units.plain_in (option_map printed_part o) ≡ log_plain o
   same_plain None = refl
   same_plain (Some log) = refl
 
-  same_isolations : (o : Option WorkerLog) → parts.isolations_in (option_map part_of o) ≡ isolations_in o
+  same_isolations : (o : Option WorkerLog) → parts.isolations_in (option_map printed_part o) ≡ log_isolations o
   same_isolations None = refl
   same_isolations (Some log) = refl
 
-  no_answers : (worker : ℕ) (o : Option WorkerLog) → printed.many ≤ worker → slice_get logs worker ≡ o → answers_in o ≡ []
+  no_answers : (worker : ℕ) (o : Option WorkerLog) → printed.many ≤ worker → slice_get logs worker ≡ o → log_answers o ≡ []
   no_answers worker None le at = refl
   no_answers worker (Some log) le at = silent worker log le at
 
-  no_walks : (worker : ℕ) (o : Option WorkerLog) → printed.many ≤ worker → slice_get logs worker ≡ o → walks_in o ≡ []
+  no_walks : (worker : ℕ) (o : Option WorkerLog) → printed.many ≤ worker → slice_get logs worker ≡ o → log_walks o ≡ []
   no_walks worker None le at = refl
   no_walks worker (Some log) le at = (idle worker log le at).0
 
-  no_carries : (worker : ℕ) (o : Option WorkerLog) → printed.many ≤ worker → slice_get logs worker ≡ o → carries_in o ≡ []
+  no_carries : (worker : ℕ) (o : Option WorkerLog) → printed.many ≤ worker → slice_get logs worker ≡ o → log_carries o ≡ []
   no_carries worker None le at = refl
   no_carries worker (Some log) le at = (idle worker log le at).1
 
-  no_plain : (worker : ℕ) (o : Option WorkerLog) → printed.many ≤ worker → slice_get logs worker ≡ o → plain_in o ≡ []
+  no_plain : (worker : ℕ) (o : Option WorkerLog) → printed.many ≤ worker → slice_get logs worker ≡ o → log_plain o ≡ []
   no_plain worker None le at = refl
   no_plain worker (Some log) le at = (idle worker log le at).2
 
-  no_isolations : (worker : ℕ) (o : Option WorkerLog) → printed.many ≤ worker → slice_get logs worker ≡ o → isolations_in o ≡ []
+  no_isolations : (worker : ℕ) (o : Option WorkerLog) → printed.many ≤ worker → slice_get logs worker ≡ o → log_isolations o ≡ []
   no_isolations worker None le at = refl
   no_isolations worker (Some log) le at = (idle worker log le at).3
 
-  pub made_of : IsPermutation (flat_map (λ (log : WorkerLog). log.uses.items) logs) n.uses.items → AreSorted n.uses.items → IsMadeOf e.script logs e r
+  pub made_of : IsPermutation (flat_map (λ (log : WorkerLog). log.uses.items) logs) n.uses.items → AreUsesSorted n.uses.items → IsMadeOf e.script logs e r
   made_of same sorted = record {
     version = together.version;
     nodes = together.nodes;
@@ -123,7 +123,7 @@ module _ (e : Ends) (logs : List WorkerLog) (n : Noted) (r : Report) (are : AreE
         (λ lt. ap parts.isolations_in (part_at worker lt) ∙ same_isolations (slice_get logs worker))
         (λ le. ap parts.isolations_in (no_part worker le) ∙ sym (no_isolations worker (slice_get logs worker) le refl)) (cases_of worker);
     uses = subst (λ (l : List UseStep). IsPermutation l (flat_map (λ (log : WorkerLog). log.uses.items) logs)) (sym together.uses) (IsPermutation-sym (flat_map (λ (log : WorkerLog). log.uses.items) logs) n.uses.items same);
-    sorted = subst AreSorted (sym together.uses) sorted;
+    sorted = subst AreUsesSorted (sym together.uses) sorted;
     added = together.added;
     listed = together.listed;
     freed = together.freed;

@@ -1,11 +1,11 @@
 -- Who made an entry of the journal of the tree, and of the journal of registrations.
-use Rattle.shr_assemble.proofs.Common.{◌≡◌, ℕ, ◌<◌, ◌≤◌, Bool, true, false, ◌&&◌, cond, List, length, sym, refl, ap, subst, ◌∙◌, arith, eqb, eq-eqb, ne_eqb, slice_get, Some, nat_lt, nat_le, same_Some, slice_get_within, le-leb, dite, ℕ_discrete, PoolEntry, TreeEntry, Script, total, some_term, only_yes, only_no, Turn, hit_turn, IsMade, Report, decls_on, Step, IsAmong, steps_of, all_turns, all_entries, IsRun, at_some, count_total}
+use Rattle.shr_assemble.proofs.Common.{◌≡◌, ℕ, ◌<◌, ◌≤◌, Bool, true, false, ◌&&◌, cond, List, length, sym, refl, ap, subst, ◌∙◌, arith, eqb, eq-eqb, ne_eqb, slice_get, Some, nat_lt, nat_le, same_Some, slice_get_within, le-leb, dite, ℕ_discrete, PoolEntry, TreeEntry, Script, total, some_term, only_yes, only_no, Turn, hit_turn, IsTreeEntryMade, Report, decls_on, Step, IsAmong, steps_of, all_turns, all_entries, IsRun, at_some, count_total}
 use Rattle.shr_charge.specs.Views as charge
 use Rattle.shr_assemble.proofs.Gathering.{has_step, among_right, one_step, weighs}
 use Rattle.shr_assemble.proofs.Listed.{all_among}
 use Rattle.shr_assemble.proofs.Making.{work_of, below_one, below_most}
 
-numbered : ℕ → charge.Made → ℕ
+numbered : ℕ → charge.TreeMade → ℕ
 numbered n m = cond (eqb m.number n) 1 0
 
 module _ (s : Script) (r : Report) (workers : List (List Step)) (run : IsRun s r workers) where
@@ -15,22 +15,22 @@ module _ (s : Script) (r : Report) (workers : List (List Step)) (run : IsRun s r
     pub k : ℕ
     pub step : Step
     pub at : slice_get (steps_of workers worker) k ≡ Some step
-    pub made : charge.Made
+    pub made : charge.TreeMade
     pub among : IsAmong made step.work.tree
     pub number : made.number ≡ n
     pub entry : made.entry ≡ e
 
-  entries_once : (n : ℕ) → total (λ (m : charge.Made). cond (eqb m.number n) 1 0) (all_entries workers) ≡ cond (nat_lt n (length r.tree.items)) 1 0
-  entries_once n = sym (count_total (λ (m : charge.Made). eqb m.number n) (all_entries workers)) ∙ run.uses.entered n
+  entries_once : (n : ℕ) → total (λ (m : charge.TreeMade). cond (eqb m.number n) 1 0) (all_entries workers) ≡ cond (nat_lt n (length r.tree.items)) 1 0
+  entries_once n = sym (count_total (λ (m : charge.TreeMade). eqb m.number n) (all_entries workers)) ∙ run.uses.entered n
 
-  pub entry_stands : (worker k : ℕ) (x : Step) (m : charge.Made) → slice_get (steps_of workers worker) k ≡ Some x → IsAmong m x.work.tree → slice_get r.tree.items m.number ≡ Some m.entry
-  entry_stands worker k x m at among = all_among (IsMade r.tree.items) x.after.tree.made m (run.steps.shown worker k x at).entries
+  pub entry_stands : (worker k : ℕ) (x : Step) (m : charge.TreeMade) → slice_get (steps_of workers worker) k ≡ Some x → IsAmong m x.work.tree → slice_get r.tree.items m.number ≡ Some m.entry
+  entry_stands worker k x m at among = all_among (IsTreeEntryMade r.tree.items) x.after.tree.made m (run.steps.shown worker k x at).entries
       (subst (λ l. IsAmong m l) (sym (work_of s r workers run worker k x at).tree) (among_right x.before.tree.made x.work.tree m among))
 
   pub entry_maker : (n : ℕ) (e : TreeEntry) → slice_get r.tree.items n ≡ Some e → EntryMaker n e
   entry_maker n e stands =
-      let one : total (λ (m : charge.Made). cond (eqb m.number n) 1 0) (all_entries workers) ≡ 1 = entries_once n ∙ below_one n (length r.tree.items) (slice_get_within r.tree.items n e stands) in
-      let t = some_term (λ (m : charge.Made). cond (eqb m.number n) 1 0) (all_entries workers) (omega (arith, one)) in
+      let one : total (λ (m : charge.TreeMade). cond (eqb m.number n) 1 0) (all_entries workers) ≡ 1 = entries_once n ∙ below_one n (length r.tree.items) (slice_get_within r.tree.items n e stands) in
+      let t = some_term (λ (m : charge.TreeMade). cond (eqb m.number n) 1 0) (all_entries workers) (omega (arith, one)) in
       let number : t.1.number ≡ n = dite (ℕ_discrete t.1.number n) (λ q. q) (λ ne. absurd (omega (arith, t.3, ap (λ b. cond {A = ℕ} b 1 0) (ne_eqb t.1.number n ne)))) in
       let of = has_step (λ (x : Step). x.work.tree) workers t.1 (t.0, t.2) in
       record {
@@ -44,12 +44,12 @@ module _ (s : Script) (r : Report) (workers : List (List Step)) (run : IsRun s r
         entry = same_Some t.1.entry e (sym (entry_stands of.worker of.k of.step t.1 of.at of.has) ∙ (ap (λ i. slice_get r.tree.items i) number ∙ stands));
       }
 
-  pub one_entry_maker : (v i w j : ℕ) (x y : Step) (m n : charge.Made) → slice_get (steps_of workers v) i ≡ Some x → slice_get (steps_of workers w) j ≡ Some y → IsAmong m x.work.tree → IsAmong n y.work.tree
+  pub one_entry_maker : (v i w j : ℕ) (x y : Step) (m n : charge.TreeMade) → slice_get (steps_of workers v) i ≡ Some x → slice_get (steps_of workers w) j ≡ Some y → IsAmong m x.work.tree → IsAmong n y.work.tree
       → m.number ≡ n.number → (v ≡ w) × (i ≡ j)
   one_entry_maker v i w j x y m n at_x at_y of_x of_y same =
-      one_step (λ (z : charge.Made). cond (eqb z.number m.number) 1 0) (λ (z : Step). z.work.tree) workers (omega (arith, entries_once m.number, below_most m.number (length r.tree.items))) v i w j x y at_x at_y
-      (omega (arith, ap (λ b. cond {A = ℕ} b 1 0) (eq-eqb m.number m.number refl), weighs (λ (z : charge.Made). cond (eqb z.number m.number) 1 0) x.work.tree m of_x))
-      (omega (arith, ap (λ b. cond {A = ℕ} b 1 0) (eq-eqb n.number m.number (sym same)), weighs (λ (z : charge.Made). cond (eqb z.number m.number) 1 0) y.work.tree n of_y))
+      one_step (λ (z : charge.TreeMade). cond (eqb z.number m.number) 1 0) (λ (z : Step). z.work.tree) workers (omega (arith, entries_once m.number, below_most m.number (length r.tree.items))) v i w j x y at_x at_y
+      (omega (arith, ap (λ b. cond {A = ℕ} b 1 0) (eq-eqb m.number m.number refl), weighs (λ (z : charge.TreeMade). cond (eqb z.number m.number) 1 0) x.work.tree m of_x))
+      (omega (arith, ap (λ b. cond {A = ℕ} b 1 0) (eq-eqb n.number m.number (sym same)), weighs (λ (z : charge.TreeMade). cond (eqb z.number m.number) 1 0) y.work.tree n of_y))
 
   -- the step that made a later entry of the journal of registrations
   pub record TurnMaker (n : ℕ) (e : PoolEntry) : Type 0 where

@@ -1,5 +1,5 @@
 -- Who made an entry of a journal, and that what a step did is so in the report.
-use Rattle.shr_assemble.proofs.Common.{◌≡◌, ℕ, ◌<◌, ◌≤◌, Bool, true, false, cond, List, [], ◌∷◌, length, get_or, sym, refl, ap, subst, ◌∙◌, arith, eqb, eq-eqb, ne_eqb, slice_get, Option, Some, None, nat_lt, option_map, option_and_then, lt-ltb, dite, ℕ_discrete, same_Some, none-some, slice_get_within, slice_get-get_or, Place, Entry, Script, place_number, Each, total, some_term, place_at, Made, hit, place_back, Report, parents_of, journals_of, IsThere, serial_of, commands_of, command_at, answers_of, answer_at, reply_at, cited_at, cited_by, Serial, Command, Answered, Reply, Did, Step, IsAmong, steps_of, Grows, Brings, StandsIn, all_made, IsRun}
+use Rattle.shr_assemble.proofs.Common.{◌≡◌, ℕ, ◌<◌, ◌≤◌, Bool, true, false, cond, List, [], ◌∷◌, length, get_or, sym, refl, ap, subst, ◌∙◌, arith, eqb, eq-eqb, ne_eqb, slice_get, Option, Some, None, nat_lt, option_map, option_and_then, lt-ltb, dite, ℕ_discrete, same_Some, none-some, slice_get_within, slice_get-get_or, Place, Entry, Script, place_number, Each, total, some_term, place_at, Made, hit, place_back, Report, parents_of, journals_of, IsThere, serial_of, commands_of, command_at, answers_of, answer_at, reply_at, cited_at, cited_by, Serial, Command, Answered, Reply, Did, Step, IsAmong, steps_of, Grows, BringsWork, StandsIn, all_made, IsRun}
 use Rattle.shr_assemble.proofs.Gathering.{HasStep, has_step, among_right, one_step, weighs}
 use Rattle.shr_assemble.proofs.Chains.{does_at, later_grows}
 
@@ -27,7 +27,7 @@ first_of_list [] h = absurd (omega arith)
 first_of_list (x ∷ xs) h = x
 
 module _ (s : Script) (r : Report) (workers : List (List Step)) (run : IsRun s r workers) where
-  pub work_of : (worker k : ℕ) (x : Step) → slice_get (steps_of workers worker) k ≡ Some x → Brings x.before x.after x.work
+  pub work_of : (worker k : ℕ) (x : Step) → slice_get (steps_of workers worker) k ≡ Some x → BringsWork x.before x.after x.work
   work_of worker k x at = does_at (run.steps.first worker) (steps_of workers worker) k x (run.steps.chained worker) at
 
   pub grows : (worker k later : ℕ) (x y : Step) → k < later → slice_get (steps_of workers worker) k ≡ Some x → slice_get (steps_of workers worker) later ≡ Some y → Grows x.after y.before

@@ -1,14 +1,12 @@
 -- What an offline did.
-use Rattle.shr_assemble.proofs.Common.{◌≡◌, ◌⊎◌, inl, inr, ⊎_elim, ℕ, zero, suc, ◌<◌, ◌≤◌, Bool, true, false, not, ◌||◌, List, [], ◌∷◌, length, length-append, refl, sym, ap, subst, ◌∙◌, arith, Some, None, slice_index_or, Contains, All, slice_get, sum_by, AllByRecursion, sum_by-cons, All-nil, All-append, All-from_recursion, none-some, same_Some, TreeEntry, Begin, Done, Serial, Answered, Reply, Command, Family, begin_of, is_made, undone_child, IsTreeJournal, Begins, shape_of, Entry, born_below, freed_by, View, ◌*◌, ◌/◌, ◌%◌, range_with_len, Place, Spent, Hierarchy, is_later, IsTree, is_child, parent_of, place_number, IsAtOrAbove-le, Shape, groups_in, hierarchy_of, Closing, AreClosings, place_of, AreSpliced, IsWithin, content_of, within_of_valid, GroupState, is_there, IsListWorn, nothing, MayHaveBegun, added_below, freed_below, MayMake, IsClosing, begin_at, begun_before, done_at, done_found, begin_found, gave, IsNamed, TreeView, begin_grows, begun_made, is_made_grows, unfound, Shared, WorkerState, Work, no_work, then_work, Does, does_none, does_then, parents_of, cited_by, pool_told, pool_made, is_past_group, IsReply, Step, IsAmong, IsCausedBy, KnowsOnline, IsEntryOf, MeetsGroups, KnowsUnmade}
+use Rattle.shr_assemble.proofs.Common.{◌≡◌, ◌⊎◌, inl, inr, ⊎_elim, ℕ, zero, suc, ◌<◌, ◌≤◌, Bool, true, false, not, ◌||◌, List, [], ◌∷◌, length, length-append, refl, sym, ap, subst, ◌∙◌, arith, Some, None, slice_index_or, Contains, All, slice_get, sum_by, AllByRecursion, sum_by-cons, All-nil, All-append, All-from_recursion, none-some, same_Some, TreeEntry, Begin, Done, Serial, Answered, Reply, Command, Family, begin_of, is_made, undone_child, IsTreeJournal, Begins, shape_of, Entry, born_below, freed_by, View, ◌*◌, ◌/◌, ◌%◌, range_with_len, Place, Spent, Hierarchy, is_later, IsTree, is_child, parent_of, place_number, IsAtOrAbove-le, Shape, groups_in, hierarchy_of, Closing, AreClosings, group_place, AreSpliced, IsWithin, content_of, within_of_valid, GroupState, is_there, IsListWorn, nothing, MayHaveBegun, added_below, made_freed_below, MayMakeEntry, IsClosedByOffline, begin_at, begun_before, done_at, done_found, begin_found, gave, IsNamed, TreeView, begin_grows, begun_made, is_made_grows, unfound, Shared, WorkerState, Work, no_work, then_work, Does, does_none, does_then, parents_of, cited_by, pool_told, pool_made, is_past_group, IsReply, Step, IsAmong, IsCausedBy, KnowsOnline, IsEntryOf, MeetsGroups, KnowsUnmade, Contains-push, child_again, WasState, offline_reply}
 use Rattle.std.specs.Option.{is_some}
-use Rattle.std.proofs.lemmas.List.Elements.{Contains-push}
 use Rattle.shr_base.specs.declared.replies.Reply.TheVariants as reply
 use Rattle.shr_base.specs.declared.scripts.Command.TheVariants as command
 use Rattle.shr_model.specs.TreeJournal.{done_of, made_of}
 use Rattle.shr_base.specs.declared.replies.Spent.TheVariants as spent
-use Rattle.shr_model.proofs.GroupsLaws.{child_again}
 use Rattle.shr_node.specs.declared.answers.SpliceAnswer.TheVariants as splice
-use Rattle.shr_offline.specs.Splices.{place_in, first_places, AllGives}
+use Rattle.shr_offline.specs.Splices.{place_by_number, first_places, AllGives}
 use Rattle.shr_assemble.proofs.ScriptSizes.{sized_of}
 use Rattle.shr_core.specs.Parts as core
 use Rattle.shr_charge.specs.declared.answers.BeginAnswer.{BeginAnswer}
@@ -18,15 +16,13 @@ use Rattle.shr_assemble.proofs.Listed.{begins_slice, slice_contains, contains_am
 use Rattle.shr_assemble.proofs.QuietDrains.{each_rec}
 use Rattle.shr_assemble.proofs.Filling.{set_filled}
 use Rattle.shr_assemble.proofs.QuietSplices.{IsMovedIn, IsShut, IsSpliceEntry, IsSplicedTo, spliced_one, spliced_all, spliced_then}
-use Rattle.shr_charge.specs.Offlining.{WasState}
 use Rattle.shr_charge.specs.declared.answers.GroupState.TheVariants as state
-use Rattle.shr_charge.specs.Views.{Made, Loaded}
+use Rattle.shr_charge.specs.Views.{TreeMade, LoadedState}
 use Rattle.shr_charge.specs.declared.answers.DoneAnswer.TheVariants as ended
 use Rattle.shr_offline.specs.declared.answers.OfflineAnswer.{OfflineAnswer}
 use Rattle.shr_offline.specs.declared.answers.OfflineAnswer.TheVariants as answered
 use Rattle.shr_offline.specs.Offlined as offlined
 use Rattle.shr_worker.specs.Commands as worker
-use Rattle.shr_worker.specs.Replies.{offline_reply}
 use Rattle.shr_assemble.proofs.Quiet.{step_of, HasDid, calm_walks, still_moves, still_charges, still_pool, still_tree, IsToldOnce, some_met, meets_none}
 use Rattle.shr_assemble.proofs.ScriptGroups.{core_hierarchy}
 use Rattle.shr_assemble.proofs.QuietSteps.{AreTables, tree_is, hierarchy_is, gaining, does_gain, known_meets}
@@ -39,10 +35,10 @@ pub record IsHandless (t : TreeView) : Type 0 where
   pub none : t.hand ≡ []
 
 -- the room was taken and given back, with these entries more
-abbrev pub giving : List Made → Work
+abbrev pub giving : List TreeMade → Work
 giving made = record no_work { tree = made; gives = 1 }
 
-pub does_give : (s t : WorkerState) (made : List Made) → IsHandless s.tree → t.tree ≡ gave s.tree made t.tree.known → Begins s.tree.known t.tree.known → t ≡ record s { tree = t.tree } → Does s t (giving made)
+pub does_give : (s t : WorkerState) (made : List TreeMade) → IsHandless s.tree → t.tree ≡ gave s.tree made t.tree.known → Begins s.tree.known t.tree.known → t ≡ record s { tree = t.tree } → Does s t (giving made)
 does_give s t made home gives grows rest = let n = does_none s in subst (λ (u : WorkerState). Does s u (giving made)) (sym rest) record {
   core = n.core;
   uses = n.uses;
@@ -61,7 +57,7 @@ does_give s t made home gives grows rest = let n = does_none s in subst (λ (u :
 }
 
 -- the hand is empty once the room was given back
-pub handless_after : (s t : TreeView) (made : List Made) → t ≡ gave s made t.known → IsHandless t
+pub handless_after : (s t : TreeView) (made : List TreeMade) → t ≡ gave s made t.known → IsHandless t
 handless_after s t made gives = record { out = ap (λ (y : TreeView). y.in_hand) gives; none = ap (λ (y : TreeView). y.hand) gives }
 
 -- a worker whose journal before had no Begin of the group didn't know that it went offline
@@ -71,7 +67,7 @@ knew_online h group t before none grows named = record {
   known = λ entry e. none-some entry (sym none ∙ subst (λ (l : List TreeEntry). begin_of l group ≡ Some entry) (sym grows.1) (begin_grows t.known group grows.0 entry e));
 }
   where
-    told : (l : Loaded) (entry : ℕ) → IsNamed h before l → l.group ≡ group → l.state ≡ state.Offline entry → begin_of before group ≡ Some entry
+    told : (l : LoadedState) (entry : ℕ) → IsNamed h before l → l.group ≡ group → l.state ≡ state.Offline entry → begin_of before group ≡ Some entry
     told l entry named here is = let was : WasState h before group (state.Offline entry) = subst (WasState h before group) is (subst (λ (g : ℕ). WasState h before g l.state) here named) in was.1
 
 -- a group whose Begin is known is made
@@ -131,11 +127,11 @@ module _ (x : Shared) (tables : AreTables x) (by : Serial) (group : ℕ) (s t : 
   looked_meets r made apart = known_meets x tables.shared (step_of by asked (without r) s t (giving [])) group made (λ g e. some_met (is_past_group r) group g e) apart
 
   -- the root is never taken offline
-  pub root_did : offlined.Begins x group began.Root s t → HasDid x.script by asked (without reply.Root) s t
+  pub root_did : offlined.BeginsOffline x group began.Root s t → HasDid x.script by asked (without reply.Root) s t
   root_did h = nothing_did x.script by asked reply.Root s t (h.rest ∙ ap (λ (y : TreeView). record s { tree = y }) h.leaves) tt (λ family. tt) refl (λ g. refl) refl refl (λ g asks above. absurd (none-some g asks))
       (known_meets x tables.shared (step_of by asked (without reply.Root) s t no_work) group (ap {B = Bool} (λ (b : Bool). not b || is_some (made_of t.tree.known group)) (ap (is_later (hierarchy_of (shape_of x.core)).later) h.tells ∙ (core_hierarchy x tables.shared).root)) (λ g e. same_Some group g e) (λ g e. absurd (cc))) (ap Some h.tells)
 
-  pub children_did : (child entry : ℕ) → offlined.Begins x group (began.HasChildren child entry) s t → HasDid x.script by asked (without (reply.HasChildren child entry)) s t
+  pub children_did : (child entry : ℕ) → offlined.BeginsOffline x group (began.HasChildren child entry) s t → HasDid x.script by asked (without (reply.HasChildren child entry)) s t
   children_did child entry h = looked_did (reply.HasChildren child entry) h.leaves h.knows.grows h.rest (λ family. tt) refl refl refl (looked_meets (reply.HasChildren child entry) h.tells.there (λ g e. absurd (cc))) (record {
     group = group;
     below = h.tells.below_root;
@@ -145,22 +141,22 @@ module _ (x : Shared) (tables : AreTables x) (by : Serial) (group : ℕ) (s t : 
     shown = subst (λ (q : Hierarchy). All (IsNamed q t.tree.known) t.tree.loaded) (hierarchy_is x tables.shared) h.knows.seen.loaded;
   })
 
-  pub done_before_did : (entry : ℕ) → offlined.Begins x group (began.AlreadyDone entry) s t → HasDid x.script by asked (without (reply.AlreadyDone entry)) s t
+  pub done_before_did : (entry : ℕ) → offlined.BeginsOffline x group (began.AlreadyDone entry) s t → HasDid x.script by asked (without (reply.AlreadyDone entry)) s t
   done_before_did entry h = looked_did (reply.AlreadyDone entry) h.leaves h.knows.grows h.rest (λ family. tt) refl refl refl
       (looked_meets (reply.AlreadyDone entry) (let b = begun_before (hierarchy_of (shape_of x.core)) (core_hierarchy x tables.shared) t.tree.known h.knows.legal group entry (done_at t.tree.known group entry h.tells.done) in begun_there (hierarchy_of (shape_of x.core)) t.tree.known group b.0 h.knows.legal b.1) (λ g e. absurd (cc))) (record { group = group; named = refl; done = h.tells.done })
 
-  pub lacked_did : offlined.Begins x group began.Memory s t → HasDid x.script by asked (without reply.Memory) s t
+  pub lacked_did : offlined.BeginsOffline x group began.Memory s t → HasDid x.script by asked (without reply.Memory) s t
   lacked_did h = looked_did reply.Memory h.leaves h.knows.grows h.rest (λ family. tt) refl refl refl (meets_none x.script (step_of by asked (without reply.Memory) s t (giving [])) (λ g e. absurd (cc)) (λ g e. none-some g e)) tt
 
   pub none_did : t ≡ s → HasDid x.script by asked (without reply.Memory) s t
   none_did same = nothing_did x.script by asked reply.Memory s t same tt (λ family. tt) refl (λ g. refl) refl refl (λ g asks above. absurd (none-some g asks)) (meets_none x.script (step_of by asked (without reply.Memory) s t no_work) (λ g e. absurd (cc)) (λ g e. none-some g e)) tt
 
   -- the group isn't made
-  pub not_made_did : (g : ℕ) → offlined.Begins x group (began.NotMade g) s t → HasDid x.script by asked (without (reply.NotMade g)) s t
+  pub not_made_did : (g : ℕ) → offlined.BeginsOffline x group (began.NotMade g) s t → HasDid x.script by asked (without (reply.NotMade g)) s t
   not_made_did g h = looked_did (reply.NotMade g) h.leaves h.knows.grows h.rest (λ family. tt) refl refl refl
       (record {
         unmade = λ n e. let named : g ≡ n = cc in subst (λ (q : Hierarchy). KnowsUnmade q s.tree n) (hierarchy_is x tables.shared) (subst (KnowsUnmade (hierarchy_of (shape_of x.core)) s.tree) (sym h.tells.same ∙ named)
-            (unmade_before (hierarchy_of (shape_of x.core)) group s.tree t.tree.known h.tells.not_made h.knows.grows (subst (λ (l : List Loaded). All (IsNamed (hierarchy_of (shape_of x.core)) t.tree.known) l) (ap (λ (y : TreeView). y.loaded) h.leaves) h.knows.seen.loaded)));
+            (unmade_before (hierarchy_of (shape_of x.core)) group s.tree t.tree.known h.tells.not_made h.knows.grows (subst (λ (l : List LoadedState). All (IsNamed (hierarchy_of (shape_of x.core)) t.tree.known) l) (ap (λ (y : TreeView). y.loaded) h.leaves) h.knows.seen.loaded)));
         met = λ n e. absurd (none-some n e);
       })
       (record { met = ap Some (sym h.tells.same); late = subst (λ (q : Hierarchy). is_later q.later g ≡ true) (hierarchy_is x tables.shared) (subst (λ n. is_later (hierarchy_of (shape_of x.core)).later n ≡ true) (sym h.tells.same) (unmade_late (hierarchy_of (shape_of x.core)) t.tree.known group h.tells.not_made)) })
@@ -174,7 +170,7 @@ not_done group known es none begins n at = let f = done_found es group n (begins
 -- the group began, with these entries of the journal of the tree
 pub record HasBegunTo (x : Shared) (group : ℕ) (s u : WorkerState) : Type 0 where
   pub below : 0 < group
-  pub made : List Made
+  pub made : List TreeMade
   pub does : Does s u (giving made)
   pub hand : IsHandless u.tree
   pub known : Contains u.tree.known (Begin group)
@@ -182,11 +178,11 @@ pub record HasBegunTo (x : Shared) (group : ℕ) (s u : WorkerState) : Type 0 wh
   pub same : u ≡ record s { tree = u.tree }
   -- the worker didn't know before that the group was done
   pub undone : (n : ℕ) → slice_get s.tree.known n ≡ Some (Done group) → ⊥
-  pub each : (z : Step) → z.before ≡ s → z.command ≡ Some (command.Offline group) → MayHaveBegun z.answered.reply → All (λ (m : Made). (length z.before.tree.known ≤ m.number) × IsEntryOf x.script z m.number m.entry) made
+  pub each : (z : Step) → z.before ≡ s → z.command ≡ Some (command.Offline group) → MayHaveBegun z.answered.reply → All (λ (m : TreeMade). (length z.before.tree.known ≤ m.number) × IsEntryOf x.script z m.number m.entry) made
 
-pub begun_to : (x : Shared) (group : ℕ) (s u : WorkerState) → IsHandless s.tree → (answer : BeginAnswer) → offlined.GoesOn answer → offlined.Begins x group answer s u → HasBegunTo x group s u
+pub begun_to : (x : Shared) (group : ℕ) (s u : WorkerState) → IsHandless s.tree → (answer : BeginAnswer) → offlined.MayGoOn answer → offlined.BeginsOffline x group answer s u → HasBegunTo x group s u
 begun_to x group s u home (began.Begun entry) on h =
-    let made : List Made = record { number = entry; entry = Begin group } ∷ [] in
+    let made : List TreeMade = record { number = entry; entry = Begin group } ∷ [] in
     let b = h.tells in
     let number = b.gains.number_is in
     let longer = b.seen.known in
@@ -201,7 +197,7 @@ begun_to x group s u home (began.Begun entry) on h =
       met = let at = contains_slice u.tree.known (Begin group) known in begun_there (hierarchy_of (shape_of x.core)) u.tree.known group at.0 h.knows.legal at.1;
       same = h.rest;
       undone = not_done group s.tree.known b.before b.undone longer;
-      each = λ z start asked may. All-from_recursion (λ (m : Made). (length z.before.tree.known ≤ m.number) × IsEntryOf x.script z m.number m.entry) made (
+      each = λ z start asked may. All-from_recursion (λ (m : TreeMade). (length z.before.tree.known ≤ m.number) × IsEntryOf x.script z m.number m.entry) made (
         (
           omega (arith, long, ap (λ (v : WorkerState). length v.tree.known) start),
           record {
@@ -222,32 +218,32 @@ begun_to x group s u home (began.Resumed entry) on h = record {
   met = begun_made (hierarchy_of (shape_of x.core)) u.tree.known group entry h.knows.legal h.tells.begun;
   same = h.rest;
   undone = not_done group s.tree.known u.tree.known h.tells.undone h.knows.grows;
-  each = λ z start asked may. All-nil (λ (m : Made). (length z.before.tree.known ≤ m.number) × IsEntryOf x.script z m.number m.entry);
+  each = λ z start asked may. All-nil (λ (m : TreeMade). (length z.before.tree.known ≤ m.number) × IsEntryOf x.script z m.number m.entry);
 }
 begun_to x group s u home answer on h = absurd on
 
 -- entries of splices free and add nothing
-pub spliced_freed : (parents ps : List ℕ) (group g : ℕ) (v : View) (all ms : List core.Made) → AllByRecursion (IsSpliceEntry ps group v all) ms → (sum_by (freed_below parents g) ms ≡ 0) × (sum_by (λ (m : core.Made). added_below parents g m.entry) ms ≡ 0)
+pub spliced_freed : (parents ps : List ℕ) (group g : ℕ) (v : View) (all ms : List core.Made) → AllByRecursion (IsSpliceEntry ps group v all) ms → (sum_by (made_freed_below parents g) ms ≡ 0) × (sum_by (λ (m : core.Made). added_below parents g m.entry) ms ≡ 0)
 spliced_freed parents ps group g v all [] h = (refl, refl)
 spliced_freed parents ps group g v all (m ∷ ms) h = let r = spliced_freed parents ps group g v all ms h.1 in let one = by_kind m h.0.kind in
-    (omega (arith, r.0, one.0, sum_by-cons (freed_below parents g) m ms), omega (arith, r.1, one.1, sum_by-cons (λ (y : core.Made). added_below parents g y.entry) m ms))
+    (omega (arith, r.0, one.0, sum_by-cons (made_freed_below parents g) m ms), omega (arith, r.1, one.1, sum_by-cons (λ (y : core.Made). added_below parents g y.entry) m ms))
   where
-    by_kind : (y : core.Made) {child : ℕ} → IsMovedIn child all y ⊎ IsShut child y → (freed_below parents g y ≡ 0) × (added_below parents g y.entry ≡ 0)
+    by_kind : (y : core.Made) {child : ℕ} → IsMovedIn child all y ⊎ IsShut child y → (made_freed_below parents g y ≡ 0) × (added_below parents g y.entry ≡ 0)
     by_kind y (inl a) = (ap (λ (e : Entry). born_below parents g (freed_by y.items e)) a.entry, ap (added_below parents g) a.entry)
     by_kind y (inr b) = (ap (λ (e : Entry). born_below parents g (freed_by y.items e)) b.entry, ap (added_below parents g) b.entry)
 
 -- each entry of a splice may be made by an offline of its group that was answered so
 pub spliced_may : (x : Shared) (z : Step) (group : ℕ) (all ms : List core.Made) → z.work.core.made ≡ all → z.command ≡ Some (command.Offline group) → MayHaveBegun z.answered.reply → Contains z.after.tree.known (Begin group)
-    → AllByRecursion (IsSpliceEntry (parents_of x.script) group z.before.core all) ms → AllByRecursion (λ (m : core.Made). MayMake x.script z m m.entry) ms
+    → AllByRecursion (IsSpliceEntry (parents_of x.script) group z.before.core all) ms → AllByRecursion (λ (m : core.Made). MayMakeEntry x.script z m m.entry) ms
 spliced_may x z group all [] made named may known h = tt
 spliced_may x z group all (m ∷ ms) made named may known h = (by_kind h.0.kind, spliced_may x z group all ms made named may known h.1)
   where
-    closing : IsClosing x.script z m h.0.child
+    closing : IsClosedByOffline x.script z m h.0.child
     closing = record { group = group; command = named; answer = may; below = h.0.below; begun = known; later = h.0.later }
 
-    by_kind : IsMovedIn h.0.child all m ⊎ IsShut h.0.child m → MayMake x.script z m m.entry
-    by_kind (inl a) = subst (λ (e : Entry). MayMake x.script z m e) (sym a.entry) (record { closing = closing; closed = a.closed; among = subst (λ (l : List core.Made). IsAmong a.closed l) (sym made) a.among; place = a.place; entry = a.shut })
-    by_kind (inr b) = subst (λ (e : Entry). MayMake x.script z m e) (sym b.entry) (subst (λ (c : ℕ). IsClosing x.script z m c) (sym b.group) closing)
+    by_kind : IsMovedIn h.0.child all m ⊎ IsShut h.0.child m → MayMakeEntry x.script z m m.entry
+    by_kind (inl a) = subst (λ (e : Entry). MayMakeEntry x.script z m e) (sym a.entry) (record { closing = closing; closed = a.closed; among = subst (λ (l : List core.Made). IsAmong a.closed l) (sym made) a.among; place = a.place; entry = a.shut })
+    by_kind (inr b) = subst (λ (e : Entry). MayMakeEntry x.script z m e) (sym b.entry) (subst (λ (c : ℕ). IsClosedByOffline x.script z m c) (sym b.group) closing)
 
 module _ (x : Shared) (tables : AreTables x) (by : Serial) (group : ℕ) (s u t : WorkerState) (b : HasBegunTo x group s u) (sp : IsSplicedTo (parents_of x.script) group u.core t.core) (rest : t ≡ record u { core = t.core }) where
   abbrev spliced_work : Work
@@ -268,7 +264,7 @@ module _ (x : Shared) (tables : AreTables x) (by : Serial) (group : ℕ) (s u t 
         does = brings_of does;
         did = record {
           entries = record {
-            each = each_rec (λ (m : core.Made). MayMake x.script z m m.entry) sp.made (spliced_may x z group sp.made sp.made refl refl may known each);
+            each = each_rec (λ (m : core.Made). MayMakeEntry x.script z m m.entry) sp.made (spliced_may x z group sp.made sp.made refl refl may known each);
             reply = λ family stands. row family;
             sets = set_filled sp.made [] sp.sets sp.filled;
             cited = λ c e. absurd (none-some c (sym uncited ∙ e));
@@ -286,7 +282,7 @@ module _ (x : Shared) (tables : AreTables x) (by : Serial) (group : ℕ) (s u t 
           moves = still_moves x.script z (record { walks = refl; takes = refl; gives = refl; carries = refl });
           pool = still_pool x.script z does.core.pool (record { turns = refl; made = unmade }) (subst (IsToldOnce z) (sym untold) tt);
           tree = record {
-            each = All-append (λ (m : Made). (length s.tree.known ≤ m.number) × IsEntryOf x.script z m.number m.entry) b.made [] (b.each z refl refl may) (All-nil (λ (m : Made). (length s.tree.known ≤ m.number) × IsEntryOf x.script z m.number m.entry));
+            each = All-append (λ (m : TreeMade). (length s.tree.known ≤ m.number) × IsEntryOf x.script z m.number m.entry) b.made [] (b.each z refl refl may) (All-nil (λ (m : TreeMade). (length s.tree.known ≤ m.number) × IsEntryOf x.script z m.number m.entry));
             online = λ g asks above. absurd (none-some g asks);
             meets = known_meets x tables.shared z group (subst (λ (v : WorkerState). is_made (hierarchy_of (shape_of x.core)) v.tree.known group ≡ true) (sym rest) b.met) (λ g e. some_met (is_past_group r) group g e) (λ g e. subst MayHaveBegun e may);
           };
@@ -316,9 +312,9 @@ module _ (x : Shared) (tables : AreTables x) (by : Serial) (group : ℕ) (s u t 
   few_groups = let same = same_groups in let most = (sized_of x tables.shared).groups in omega (arith, same, most)
 
   -- all that was spliced before a place, and in it
-  spliced_up : (n moved : ℕ) (between : View) (cs : List Closing) → AreSpliced shape (first_places shape group n) moved u.core between → AreClosings shape between t.core (place_in shape group n).id (place_in shape group n).node group cs → IsSplicedTo (parents_of x.script) group u.core t.core
+  spliced_up : (n moved : ℕ) (between : View) (cs : List Closing) → AreSpliced shape (first_places shape group n) moved u.core between → AreClosings shape between t.core (place_by_number shape group n).id (place_by_number shape group n).node group cs → IsSplicedTo (parents_of x.script) group u.core t.core
   spliced_up n moved between cs before last = subst (λ (l : List ℕ). IsSplicedTo l group u.core t.core) (tree_is x tables.shared)
-      (spliced_then parents group u.core between t.core (spliced_all shape is_tree few_groups group (range_with_len 0 n) moved u.core between before) (spliced_one shape is_tree few_groups group between t.core (place_in shape group n).id (place_in shape group n).node cs last))
+      (spliced_then parents group u.core between t.core (spliced_all shape is_tree few_groups group (range_with_len 0 n) moved u.core between before) (spliced_one shape is_tree few_groups group between t.core (place_by_number shape group n).id (place_by_number shape group n).node cs last))
 
   pub lacking_did : AllGives shape group splice.Memory u.core t.core → HasDid x.script by (command.Offline group) (without reply.Memory) s t
   lacking_did h = spliced_did x tables by group s u t b (spliced_up h.reached h.moved h.between h.stopped.stops.cs h.spliced h.stopped.stops.closings) rest reply.Memory tt (λ family. tt) refl refl refl tt
@@ -347,8 +343,8 @@ module _ (x : Shared) (tables : AreTables x) (by : Serial) (group : ℕ) (s u t 
       cause z end =
           let k = h.stopped.worn in
           let child = h.stopped.child in
-          let p : Place = place_in shape group h.reached in
-          let up : Place = place_of p.id p.node (parent_of parents child) in
+          let p : Place = place_by_number shape group h.reached in
+          let up : Place = group_place p.id p.node (parent_of parents child) in
           let row = in_row h.reached shape.ids shape.nodes few_nodes h.within in
           let ids = tables.shared.ids in
           let nodes = tables.shared.nodes in
@@ -376,7 +372,7 @@ module _ (x : Shared) (tables : AreTables x) (by : Serial) (group : ℕ) (s u t 
               child_entries = k.given.entries;
               child_items = k.given.items;
               list = record {
-                knows = subst (λ (v : WorkerState). IsAmong (record { place = place_number (place_of p.id p.node child); entries = k.given.entries }) v.core.traces.known) (sym end) (contains_among t.core.traces.known (record { place = place_number (place_of p.id p.node child); entries = k.given.entries }) k.pair.met.known);
+                knows = subst (λ (v : WorkerState). IsAmong (record { place = place_number (group_place p.id p.node child); entries = k.given.entries }) v.core.traces.known) (sym end) (contains_among t.core.traces.known (record { place = place_number (group_place p.id p.node child); entries = k.given.entries }) k.pair.met.known);
                 journal = k.pair.met.was.journal;
               };
               most = (let n = k.worn.items_then in omega (arith, n, length-append k.given.items k.old.items));
@@ -387,7 +383,7 @@ module _ (x : Shared) (tables : AreTables x) (by : Serial) (group : ℕ) (s u t 
 
 module _ (x : Shared) (tables : AreTables x) (by : Serial) (group : ℕ) (s t : WorkerState) (home : IsHandless s.tree)
     (done : (entry moved deferred : ℕ) (u : WorkerState) → HasBegunTo x group s u → offlined.HandsOver x by group moved deferred (ended.Done entry) u t → HasDid x.script by (command.Offline group) (without (reply.OfflineDone entry moved deferred)) s t)
-    (done_before : (entry : ℕ) (u : WorkerState) → HasBegunTo x group s u → offlined.WasDone x by group entry u t → HasDid x.script by (command.Offline group) (without (reply.AlreadyDone entry)) s t) where
+    (done_before : (entry : ℕ) (u : WorkerState) → HasBegunTo x group s u → offlined.WasDoneBefore x by group entry u t → HasDid x.script by (command.Offline group) (without (reply.AlreadyDone entry)) s t) where
   begins : {next : WorkerState → Type 0} (h : offlined.BegunThen x group next s) → HasBegunTo x group s h.begun
   begins h = begun_to x group s h.begun home h.answer h.goes_on h.begins
 
@@ -408,9 +404,9 @@ module _ (x : Shared) (tables : AreTables x) (by : Serial) (group : ℕ) (s t : 
 
 -- ---- the same of splices that are a part of more
 
-pub splices_freed : (parents ps : List ℕ) (group g : ℕ) (v : View) (all ms : List core.Made) → AllByRecursion (IsSpliceEntry ps group v all) ms → (sum_by (freed_below parents g) ms ≡ 0) × (sum_by (λ (m : core.Made). added_below parents g m.entry) ms ≡ 0)
+pub splices_freed : (parents ps : List ℕ) (group g : ℕ) (v : View) (all ms : List core.Made) → AllByRecursion (IsSpliceEntry ps group v all) ms → (sum_by (made_freed_below parents g) ms ≡ 0) × (sum_by (λ (m : core.Made). added_below parents g m.entry) ms ≡ 0)
 splices_freed parents ps group g v all ms h = spliced_freed parents ps group g v all ms h
 
 pub splices_may : (x : Shared) (z : Step) (group : ℕ) (all ms : List core.Made) → z.work.core.made ≡ all → z.command ≡ Some (command.Offline group) → MayHaveBegun z.answered.reply → Contains z.after.tree.known (Begin group)
-    → AllByRecursion (IsSpliceEntry (parents_of x.script) group z.before.core all) ms → AllByRecursion (λ (m : core.Made). MayMake x.script z m m.entry) ms
+    → AllByRecursion (IsSpliceEntry (parents_of x.script) group z.before.core all) ms → AllByRecursion (λ (m : core.Made). MayMakeEntry x.script z m m.entry) ms
 splices_may x z group all ms made named may known h = spliced_may x z group all ms made named may known h

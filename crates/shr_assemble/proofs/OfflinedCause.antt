@@ -1,17 +1,15 @@
 -- The cause of an `offline` that was done.
-use Rattle.shr_assemble.proofs.Common.{◌≡◌, ℕ, ◌%◌, ◌^◌, ◌<◌, ◌≤◌, ◌≢◌, ⊎_elim, true, false, cond, eqb, List, length, take, refl, sym, ap, subst, ◌∙◌, arith, slice_get, Some, sum_by, filter, option_and_then, IsSomeAnd, cases_lt, eqb-true, same_Some, slice_get_within, dite, ℕ_discrete, Entry, Add, Look, Drop, Pin, Scan, MovedIn, Closed, Drained, Begin, Done, Place, Serial, Reply, Offline, Script, Carry, is_serial, group_named, IsAtOrAbove, is_closed, place_number, MayBegin, is_made, total, Begins, term_le, group_of, place_at, Made, Known, back, KnowsClosed, Report, parents_of, serial_of, journals_of, IsOffline, IsOfflined, MayHaveBegun, StandsInTree, moved_of, Step, IsAmong, steps_of, IsOfflinedBy, IsCausedBy, DidCarry, IsClosing, MayMake, IsEnded, IsEntryOf, IsRun, begun_made, begin_found, begun_before, take_in, all_zero, some_at, sum_total, closed_at, serial_itself}
+use Rattle.shr_assemble.proofs.Common.{◌≡◌, ℕ, ◌%◌, ◌^◌, ◌<◌, ◌≤◌, ◌≢◌, ⊎_elim, true, false, cond, eqb, List, length, take, refl, sym, ap, subst, ◌∙◌, arith, slice_get, Some, sum_by, filter, option_and_then, IsSomeAnd, cases_lt, eqb-true, same_Some, slice_get_within, dite, ℕ_discrete, Entry, Add, Look, Drop, Pin, Scan, MovedIn, Closed, Drained, Begin, Done, Place, Serial, Reply, Offline, Script, Carry, is_serial, group_named, IsAtOrAbove, is_closed, place_number, MayBegin, is_made, total, Begins, term_le, group_of, place_at, Made, Known, back, KnowsClosed, Report, parents_of, serial_of, journals_of, IsOffline, IsOfflineDone, MayHaveBegun, StandsInTree, moved_of, Step, IsAmong, steps_of, IsOfflinedBy, IsCausedBy, DidCarry, IsClosedByOffline, MayMakeEntry, IsEnded, IsEntryOf, IsRun, begun_made, begin_found, begun_before, take_in, all_zero, some_at, sum_total, closed_at, serial_itself, IsMoving, done_below}
 use Rattle.shr_base.specs.declared.replies.Reply.TheVariants as reply
 use Rattle.shr_charge.specs.Views as charge
-use Rattle.shr_report.specs.Parts.{hierarchy_of, carries_by}
-use Rattle.shr_report.specs.Causes.{IsAloneAt, MayHaveSpliced, moved_from}
-use Rattle.shr_assemble.specs.Entries.{IsMoving}
+use Rattle.shr_report.specs.Parts.{script_hierarchy, carries_by}
+use Rattle.shr_report.specs.Causes.{IsAloneAt, MayHaveSpliced, objects_moved_from}
 use Rattle.shr_assemble.proofs.Gathering.{each_among, mine_at, among_begins, total_gathered}
 use Rattle.shr_assemble.proofs.Listed.{all_among, all_slice, no_test, contains_slice, contains_among, at_closed, begins_slice}
 use Rattle.shr_assemble.proofs.Making.{made_stands, grows, reply_is}
 use Rattle.shr_assemble.proofs.Makers.{entry_stands, one_entry_maker}
 use Rattle.shr_assemble.proofs.EntrySums.{entries_made, entries_of_step}
 use Rattle.shr_assemble.proofs.Shown.{tree_stands}
-use Rattle.shr_charge.proofs.TreeFacts.{done_below}
 use Rattle.shr_assemble.proofs.StandsOnce.{done_once}
 use Rattle.shr_assemble.proofs.WalksLaw.{filter_part}
 use Rattle.shr_assemble.proofs.LimitsLaw.{serial_same}
@@ -45,14 +43,14 @@ module _ (s : Script) (r : Report) (workers : List (List Step)) (run : IsRun s r
     done = entry_stands s r workers run worker k x (record { number = entry; entry = Done h.group }) at h.made
 
     did_entry : (length x.before.tree.known ≤ entry) × IsEntryOf s x entry (Done h.group)
-    did_entry = all_among (λ (m : charge.Made). (length x.before.tree.known ≤ m.number) × IsEntryOf s x m.number m.entry) x.work.tree (record { number = entry; entry = Done h.group }) (run.steps.each worker k x at).did.tree.each h.made
+    did_entry = all_among (λ (m : charge.TreeMade). (length x.before.tree.known ≤ m.number) × IsEntryOf s x m.number m.entry) x.work.tree (record { number = entry; entry = Done h.group }) (run.steps.each worker k x at).did.tree.each h.made
 
     in_tree : h.group < length (parents_of s)
-    in_tree = let b = begun_before (hierarchy_of s) run.uses.hierarchy r.tree.items run.uses.tree h.group entry done in let may : MayBegin (hierarchy_of s) (take b.0 r.tree.items) h.group = run.uses.tree b.0 (Begin h.group) b.1 in may.there
+    in_tree = let b = begun_before (script_hierarchy s) run.uses.hierarchy r.tree.items run.uses.tree h.group entry done in let may : MayBegin (script_hierarchy s) (take b.0 r.tree.items) h.group = run.uses.tree b.0 (Begin h.group) b.1 in may.there
 
     -- a group that is done began, and so it is made
-    made : is_made (hierarchy_of s) r.tree.items h.group ≡ true
-    made = let b = begun_before (hierarchy_of s) run.uses.hierarchy r.tree.items run.uses.tree h.group entry done in let f = begin_found r.tree.items h.group b.0 b.1 in begun_made (hierarchy_of s) r.tree.items h.group f.0 run.uses.tree f.1
+    made : is_made (script_hierarchy s) r.tree.items h.group ≡ true
+    made = let b = begun_before (script_hierarchy s) run.uses.hierarchy r.tree.items run.uses.tree h.group entry done in let f = begin_found r.tree.items h.group b.0 b.1 in begun_made (script_hierarchy s) r.tree.items h.group f.0 run.uses.tree f.1
 
     own_serial : x.by ≡ serial_of worker k
     own_serial = (run.steps.each worker k x at).by
@@ -72,7 +70,7 @@ module _ (s : Script) (r : Report) (workers : List (List Step)) (run : IsRun s r
           let group : cause.group ≡ h.group = same_Some cause.group h.group (sym cause.named ∙ ap (option_and_then group_named) command) in
           let theirs : StandsInTree r other (Done cause.group) = entry_stands s r workers run v j y (record { number = other; entry = Done cause.group }) at_y cause.made in
           apart (one_entry_maker s r workers run v j worker k y x (record { number = other; entry = Done cause.group }) (record { number = entry; entry = Done h.group }) at_y at cause.made h.made
-          (done_once (hierarchy_of s) r.tree.items run.uses.tree h.group other entry (theirs ∙ ap (λ g. Some (Done g)) group) done))
+          (done_once (script_hierarchy s) r.tree.items run.uses.tree h.group other entry (theirs ∙ ap (λ g. Some (Done g)) group) done))
       of_group command (reply.Worn spent) replied may = alone.here (serial_of v j) not_here (is_offline h.group MayHaveSpliced command (subst MayHaveSpliced (sym replied) tt))
       of_group command reply.Memory replied may = alone.here (serial_of v j) not_here (is_offline h.group MayHaveSpliced command (subst MayHaveSpliced (sym replied) tt))
       of_group command (reply.AlreadyDone other) replied may = alone.here (serial_of v j) not_here (is_offline h.group MayHaveSpliced command (subst MayHaveSpliced (sym replied) tt))
@@ -83,13 +81,13 @@ module _ (s : Script) (r : Report) (workers : List (List Step)) (run : IsRun s r
       earlier same lt group other above n known =
           let g = grows s r workers run v j k y x lt at_y (subst (λ u. slice_get (steps_of workers u) k ≡ Some x) (sym same) at) in
           let begun : StandsInTree r n (Begin group) = tree_stands s r workers run v j y at_y n (Begin group) known in
-          let d = done_below (hierarchy_of s) run.uses.hierarchy r.tree.items run.uses.tree h.group group h.group n (omega arith) in_tree above other made begun in
-          let one : d.0 ≡ entry = done_once (hierarchy_of s) r.tree.items run.uses.tree h.group d.0 entry d.1 done in
+          let d = done_below (script_hierarchy s) run.uses.hierarchy r.tree.items run.uses.tree h.group group h.group n (omega arith) in_tree above other made begun in
+          let one : d.0 ≡ entry = done_once (script_hierarchy s) r.tree.items run.uses.tree h.group d.0 entry d.1 done in
           let within = slice_get_within x.before.tree.known n (Begin group) (begins_slice y.after.tree.known x.before.tree.known n (Begin group) g.tree known) in
           omega (arith, did_entry.0, within, one, d.2)
 
       -- a later one
-      later : v ≡ worker → k < j → (m : Made) → IsAmong m y.work.core.made → m.entry ≡ Closed → group_of m.place ≡ h.group → IsClosing s y m (group_of m.place) → ⊥
+      later : v ≡ worker → k < j → (m : Made) → IsAmong m y.work.core.made → m.entry ≡ Closed → group_of m.place ≡ h.group → IsClosedByOffline s y m (group_of m.place) → ⊥
       later same lt m among closed group closing =
           let g = grows s r workers run worker k j x y lt at (subst (λ u. slice_get (steps_of workers u) j ≡ Some y) same at_y) in
           let stands = made_stands s r workers run v j y at_y among.0 m among.1 in
@@ -121,10 +119,10 @@ module _ (s : Script) (r : Report) (workers : List (List Step)) (run : IsRun s r
           group_is : (m : Made) (child : ℕ) (t : IsMoving s y m child) → child ≡ h.group → group_of t.closed.place ≡ h.group
           group_is m child t from = let small = run.sized.groups in omega (arith, t.place, from, in_tree, small)
 
-          may_close : (c : Made) → IsAmong c y.work.core.made → c.entry ≡ Closed → IsClosing s y c (group_of c.place)
-          may_close c among closed = subst (MayMake s y c) closed (each_among (λ (z : Made). MayMake s y z z.entry) y.work.core.made c (run.steps.each v j y at_y).did.entries.each among)
+          may_close : (c : Made) → IsAmong c y.work.core.made → c.entry ≡ Closed → IsClosedByOffline s y c (group_of c.place)
+          may_close c among closed = subst (MayMakeEntry s y c) closed (each_among (λ (z : Made). MayMakeEntry s y z z.entry) y.work.core.made c (run.steps.each v j y at_y).did.entries.each among)
 
-      weighs_none : (m : Made) (e : Entry) → MayMake s y m e → moved_of h.group e ≡ 0
+      weighs_none : (m : Made) (e : Entry) → MayMakeEntry s y m e → moved_of h.group e ≡ 0
       weighs_none m (Add b birth added key value) may = refl
       weighs_none m (Look b birth key hit) may = refl
       weighs_none m (Drop b birth key kind) may = refl
@@ -135,9 +133,9 @@ module _ (s : Script) (r : Report) (workers : List (List Step)) (run : IsRun s r
       weighs_none m (Drained b objects) may = refl
 
       step_none : total (λ (m : Made). moved_of h.group m.entry) y.work.core.made ≡ 0
-      step_none = all_zero (λ (m : Made). moved_of h.group m.entry) y.work.core.made (λ i m e. weighs_none m m.entry (each_among (λ (z : Made). MayMake s y z z.entry) y.work.core.made m (run.steps.each v j y at_y).did.entries.each (i, some_at y.work.core.made i m e)))
+      step_none = all_zero (λ (m : Made). moved_of h.group m.entry) y.work.core.made (λ i m e. weighs_none m m.entry (each_among (λ (z : Made). MayMakeEntry s y z z.entry) y.work.core.made m (run.steps.each v j y at_y).did.entries.each (i, some_at y.work.core.made i m e)))
 
-    most : moved ≤ moved_from r h.group
+    most : moved ≤ objects_moved_from r h.group
     most = omega (
       arith,
       h.moved_is,
@@ -148,7 +146,7 @@ module _ (s : Script) (r : Report) (workers : List (List Step)) (run : IsRun s r
       entries_made s r workers run (moved_of h.group),
     )
 
-    pub offlined : IsOfflined s r x.by h.group entry moved deferred
+    pub offlined : IsOfflineDone s r x.by h.group entry moved deferred
     offlined = record {
       made = done;
       carried = h.deferred_is ∙ ap (λ (l : List Carry). sum_by (λ (c : Carry). c.amount) l % 2 ^ 64) (sym (ap (carries_by r) own_serial ∙ carries_are worker k x at));

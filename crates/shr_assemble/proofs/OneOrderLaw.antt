@@ -1,8 +1,8 @@
 -- What the report of a run tells is in one order: that of the events in the line of all that the workers did.
-use Rattle.shr_assemble.proofs.Common.{◌≡◌, ◌≢◌, ◌⊎◌, ℕ, zero, suc, ◌+◌, ◌<◌, ◌≤◌, inl, inr, ⊎_elim, Bool, true, cond, List, [], ◌∷◌, ◌++◌, length, map, get_or, sym, refl, ap, subst, ◌∙◌, arith, eqb, eq-eqb, slice_get, Option, Some, None, nat_lt, flat_map, option_map, option_to_list, Contains, IsSomeAnd, and_from, lt-ltb, append-nil, same_Some, none-some, slice_get-get_or, dite, ℕ_discrete, dec_lt, some, some-injective, some-ne-none, get_elem?, Entry, Add, Look, Drop, Pin, Scan, MovedIn, Closed, Drained, PoolEntry, Registered, Place, Serial, Answered, Reply, Script, WalkRecord, place_number, Has, Has_from_Contains, map_has, Deed, by_seat, acts_of, at_begins, among, seen_in, attempts_in, Event, Made, Tried, Turn, counted, made, looked, turned, Tells, back, Report, IsMadeBy, serial_of, decls_on, answer_at, reply_at, walks_by, journals_of, entry_by, Told, entry, lookup, turn, count, Counting, Measure, entries, lookups, turns, looked_by, countings_of, HasAt, IsBy, EntryTells, IsInOneOrder, MayMake, number_made, IsRun, Step, IsAmong, steps_of, some_at}
+use Rattle.shr_assemble.proofs.Common.{◌≡◌, ◌≢◌, ◌⊎◌, ℕ, zero, suc, ◌+◌, ◌<◌, ◌≤◌, inl, inr, ⊎_elim, Bool, true, cond, List, [], ◌∷◌, ◌++◌, length, map, get_or, sym, refl, ap, subst, ◌∙◌, arith, eqb, eq-eqb, slice_get, Option, Some, None, nat_lt, flat_map, option_map, option_to_list, Contains, IsSomeAnd, and_from, lt-ltb, append-nil, same_Some, none-some, slice_get-get_or, dite, ℕ_discrete, dec_lt, some, some-injective, some-ne-none, get_elem?, Entry, Add, Look, Drop, Pin, Scan, MovedIn, Closed, Drained, PoolEntry, Registered, Place, Serial, Answered, Reply, Script, WalkRecord, place_number, Has, Has_from_Contains, map_has, Deed, by_seat, acts_of, at_begins, among, seen_in, attempts_in, Event, Made, Tried, Turn, counted, made, looked, turned, EventTells, back, Report, IsMadeBy, serial_of, decls_on, answer_at, reply_at, walks_by, journals_of, entry_by, Told, entry, lookup, turn, count, Counting, ToldMeasure, entries, lookups, turns, looked_by, countings_of, HasAt, IsBy, TurnTells, IsInOneOrder, MayMakeEntry, number_made, IsRun, Step, IsAmong, steps_of, some_at}
 use Rattle.shr_core.specs.Ranks as core
 use Rattle.shr_core.proofs.Ranking as ranking
-use Rattle.shr_report.specs.OneOrder.{numbers_tried, number_found, IsTold, TellsOf}
+use Rattle.shr_report.specs.OneOrder.{numbers_tried, number_found, ReportTells, TellsOf}
 use Rattle.shr_assemble.proofs.CountsTold.{at_behind, at_less, mine, count_spot, CountAt, count_at, one_seen}
 use Rattle.shr_assemble.proofs.EventsTold.{is_entry, is_lookup, is_turn, entry_tells, lookup_tells, turn_tells, alone, core_of, one_try, not_below, registered, registered_flat}
 use Rattle.shr_assemble.proofs.FreshLaw.{step_cases, begins_length}
@@ -28,23 +28,23 @@ module _ (s : Script) (r : Report) (workers : List (List Step)) (run : IsRun s r
   Says (count worker n) e = HasAt (countings_of r worker) n (λ (c : Counting). e ≡ counted (record { place = place_number c.place; len = c.seen.len; version = c.seen.version }))
 
   -- it tells what the report tells
-  tells : (m : Measure) (x : Told) (e : Event) (low high : ℕ) → Says x e → TellsOf r m x low high → Tells (core_of m) e low high
-  tells (entries p) (entry place n) e low high is t = subst (λ (z : Event). Tells (core.entries (place_number p)) z low high) (sym is.1) (is.2 ∙ ap place_number t.0, t.1 ∙ sym is.3, t.2 ∙ ap (λ i. i + 1) (sym is.3))
+  tells : (m : ToldMeasure) (x : Told) (e : Event) (low high : ℕ) → Says x e → TellsOf r m x low high → EventTells (core_of m) e low high
+  tells (entries p) (entry place n) e low high is t = subst (λ (z : Event). EventTells (core.entries (place_number p)) z low high) (sym is.1) (is.2 ∙ ap place_number t.0, t.1 ∙ sym is.3, t.2 ∙ ap (λ i. i + 1) (sym is.3))
   tells (entries p) (count worker n) e low high is t =
       let same : is.0 ≡ t.0 = same_Some is.0 t.0 (sym is.1 ∙ t.1) in
-      subst (λ (z : Event). Tells (core.entries (place_number p)) z low high) (sym is.2)
+      subst (λ (z : Event). EventTells (core.entries (place_number p)) z low high) (sym is.2)
       (ap (λ (c : Counting). place_number c.place) same ∙ ap place_number t.2.0, t.2.1 ∙ ap (λ (c : Counting). c.seen.version) (sym same), t.2.2 ∙ ap (λ (c : Counting). c.seen.version) (sym same))
   tells (entries p) x e low high is t = absurd t
-  tells (lookups i) (lookup id n) e low high is t = subst (λ (z : Event). Tells (core.lookups i) z low high) (sym is.1) (is.2 ∙ t.0, t.1 ∙ sym is.3, t.2 ∙ ap (λ j. j + 1) (sym is.3))
+  tells (lookups i) (lookup id n) e low high is t = subst (λ (z : Event). EventTells (core.lookups i) z low high) (sym is.1) (is.2 ∙ t.0, t.1 ∙ sym is.3, t.2 ∙ ap (λ j. j + 1) (sym is.3))
   tells (lookups i) (turn n) e low high is t =
       let same : t.0 ≡ is.0.entry = same_Some t.0 is.0.entry (sym t.1 ∙ is.3) in
-      subst (λ (z : Event). Tells (core.lookups i) z low high) (sym is.1) (registered i low high is.0.entry (subst (EntryTells i low high) same t.2))
+      subst (λ (z : Event). EventTells (core.lookups i) z low high) (sym is.1) (registered i low high is.0.entry (subst (TurnTells i low high) same t.2))
   tells (lookups i) x e low high is t = absurd t
-  tells turns (turn n) e low high is t = subst (λ (z : Event). Tells core.turns z low high) (sym is.1) (t.0 ∙ sym is.2, t.1 ∙ ap (λ j. j + 1) (sym is.2))
+  tells turns (turn n) e low high is t = subst (λ (z : Event). EventTells core.turns z low high) (sym is.1) (t.0 ∙ sym is.2, t.1 ∙ ap (λ j. j + 1) (sym is.2))
   tells turns x e low high is t = absurd t
 
   -- two that tell the same numbers of one measure, with something between them, are one
-  not_same : (m : Measure) (x y : Told) (low high low' high' : ℕ) → TellsOf r m x low high → TellsOf r m y low' high' → low ≡ low' → high ≡ high' → low < high' → x ≢ y → ⊥
+  not_same : (m : ToldMeasure) (x y : Told) (low high low' high' : ℕ) → TellsOf r m x low high → TellsOf r m y low' high' → low ≡ low' → high ≡ high' → low < high' → x ≢ y → ⊥
   not_same (entries p) (entry a i) (entry b j) low high low' high' t u l h less apart =
       let place_is : a ≡ b = t.0 ∙ sym u.0 in let same : i ≡ j = sym t.1 ∙ (l ∙ u.1) in apart (λ d. entry (place_is d) (same d))
   not_same (entries p) (entry a i) (count w j) low high low' high' t u l h less apart = let flat : low' ≡ high' = u.2.1 ∙ sym u.2.2 in absurd (omega (arith, less, l, flat))
@@ -73,7 +73,7 @@ module _ (s : Script) (r : Report) (workers : List (List Step)) (run : IsRun s r
   rank (count worker n) = opened + spot_of (1 + worker) run.order.line (count_spot s r workers run worker n)
 
   -- an event that tells a number stands alone
-  first_is : (m : core.Measure) (n : ℕ) (test : Event → Bool) → ((e : Event) → test e ≡ true → Tells m e n (n + 1)) → (i : ℕ) → Passes test run.order.line i → first_of test run.order.line ≡ i
+  first_is : (m : core.Measure) (n : ℕ) (test : Event → Bool) → ((e : Event) → test e ≡ true → EventTells m e n (n + 1)) → (i : ℕ) → Passes test run.order.line i → first_of test run.order.line ≡ i
   first_is m n test each i p =
       let f = first_there test run.order.line i p in
       let a = ranking.by_numbers s.ids 0 run.order.line run.order.events i (first_of test run.order.line) p.0 f.0 p.1 f.1 m n (n + 1) n (n + 1) (each p.0.act p.2) (each f.0.act f.2) (omega arith) in
@@ -127,7 +127,7 @@ module _ (s : Script) (r : Report) (workers : List (List Step)) (run : IsRun s r
 
   -- ---- entries of lists
   -- an entry of a command is of the step that made it
-  step_by : (worker k : ℕ) (x : Step) (m : Made) (e : Entry) (b : Serial) → slice_get (steps_of workers worker) k ≡ Some x → IsAmong m x.work.core.made → m.entry ≡ e → MayMake s x m e → entry_by r e ≡ Some b → x.by ≡ b
+  step_by : (worker k : ℕ) (x : Step) (m : Made) (e : Entry) (b : Serial) → slice_get (steps_of workers worker) k ≡ Some x → IsAmong m x.work.core.made → m.entry ≡ e → MayMakeEntry s x m e → entry_by r e ≡ Some b → x.by ≡ b
   step_by worker k x m (Add by birth added key value) b at has here may is = sym may.own ∙ same_Some by b is
   step_by worker k x m (Look by birth key hit) b at has here may is = sym may.own ∙ same_Some by b is
   step_by worker k x m (Drop by birth key kind) b at has here may is = sym may.own ∙ same_Some by b is
@@ -153,14 +153,14 @@ module _ (s : Script) (r : Report) (workers : List (List Step)) (run : IsRun s r
   entry_step place n e stands =
       let t = maker s r workers run place n e stands in
       let work = (work_of s r workers run t.worker t.k t.step t.at).core in
-      let may = each_among (λ (m : Made). MayMake s t.step m m.entry) t.step.work.core.made t.made (run.steps.each t.worker t.k t.step t.at).did.entries.each t.among in
+      let may = each_among (λ (m : Made). MayMakeEntry s t.step m m.entry) t.step.work.core.made t.made (run.steps.each t.worker t.k t.step t.at).did.entries.each t.among in
       let here : t.made.place ≡ place_number place = sym (back t.made.place) ∙ ap place_number t.place_is in
       record {
         worker = t.worker;
         k = t.k;
         of = of_step (entry place n) t.worker t.k t.step t.at (made t.made) (has_made work.did t.made (subst (λ (l : List Made). Has l t.made) (sym work.kinds.made) (among_has t.step.work.core.made t.made t.among)))
             (t.made, refl, here, t.number, stands ∙ ap Some (sym t.entry)) (entry_ranked place n t.made here t.number);
-        by = λ b is. sym (run.steps.each t.worker t.k t.step t.at).by ∙ step_by t.worker t.k t.step t.made e b t.at t.among t.entry (subst (MayMake s t.step t.made) t.entry may) is;
+        by = λ b is. sym (run.steps.each t.worker t.k t.step t.at).by ∙ step_by t.worker t.k t.step t.made e b t.at t.among t.entry (subst (MayMakeEntry s t.step t.made) t.entry may) is;
       }
 
   -- ---- lookups
@@ -258,7 +258,7 @@ module _ (s : Script) (r : Report) (workers : List (List Step)) (run : IsRun s r
   abbrev pub IsOfStart : Told → Type 0
   IsOfStart x = (n : ℕ) × (x ≡ turn n) × (n < opened)
 
-  pub stands : (x : Told) → IsTold r x → IsOfStart x ⊎ InLine x
+  pub stands : (x : Told) → ReportTells r x → IsOfStart x ⊎ InLine x
   stands (entry place n) h = let t = entry_step place n h.0 h.1 in inr (of_line (entry place n) t.worker t.k t.of)
   stands (lookup id n) h = inr (of_line (lookup id n) h.0.worker h.0.command (lookup_step h.0.worker h.0.command id n h.1))
   stands (turn n) h = dite (dec_lt n opened)
@@ -270,17 +270,17 @@ module _ (s : Script) (r : Report) (workers : List (List Step)) (run : IsRun s r
   start_rank n lt = ap (λ b. cond b n (opened + first_of (is_turn n) run.order.line)) (lt-ltb n opened lt)
 
   -- only what is of the start comes before an entry of the start
-  before_start : (m : Measure) (x : Told) (n low high low' high' : ℕ) → n < opened → TellsOf r m x low high → TellsOf r m (turn n) low' high' → low < high' → (k : ℕ) × (x ≡ turn k) × (k ≤ n)
+  before_start : (m : ToldMeasure) (x : Told) (n low high low' high' : ℕ) → n < opened → TellsOf r m x low high → TellsOf r m (turn n) low' high' → low < high' → (k : ℕ) × (x ≡ turn k) × (k ≤ n)
   before_start (entries p) x n low high low' high' lt t u less = absurd u
   before_start (lookups id) x n low high low' high' lt t u less =
       let decl = get_or (decls_on s) n 0 in
       let first : slice_get r.pool.items n ≡ Some (Registered decl n 0) = run.pool.opened n decl (slice_get-get_or (decls_on s) n 0 lt) in
-      let at = subst (EntryTells id low' high') (same_Some u.0 (Registered decl n 0) (sym u.1 ∙ first)) u.2 in
+      let at = subst (TurnTells id low' high') (same_Some u.0 (Registered decl n 0) (sym u.1 ∙ first)) u.2 in
       let none = at.2 in absurd (omega (arith, less, none))
   before_start turns (turn k) n low high low' high' lt t u less = let l = t.0 in let h = u.1 in (k, refl, omega (arith, less, l, h))
   before_start turns x n low high low' high' lt t u less = absurd t
 
-  pub by_numbers : (x y : Told) → IsTold r x → IsTold r y → x ≢ y → (m : Measure) (low high low' high' : ℕ) → TellsOf r m x low high → TellsOf r m y low' high' → low < high' → rank x < rank y
+  pub by_numbers : (x y : Told) → ReportTells r x → ReportTells r y → x ≢ y → (m : ToldMeasure) (low high low' high' : ℕ) → TellsOf r m x low high → TellsOf r m y low' high' → low < high' → rank x < rank y
   by_numbers x y told told' apart m low high low' high' t u less = ⊎_elim
       (λ b. let start = before_start m x b.0 low high low' high' b.2 t (subst (λ z. TellsOf r m z low' high') b.1 u) less in
       let lt = b.2 in let le = start.2 in
@@ -301,7 +301,7 @@ module _ (s : Script) (r : Report) (workers : List (List Step)) (run : IsRun s r
           let is_a = a.is in let is_b = b.is in
           dite (ℕ_discrete a.index b.index)
           (λ same. let deed : a.deed ≡ b.deed = some-injective a.deed b.deed (sym a.there ∙ (ap (get_elem? run.order.line) same ∙ b.there)) in
-          let equal = alone (core_of m) b.deed.act low high low' high' (subst (λ (d : Deed Event). Tells (core_of m) d.act low high) deed first) second in
+          let equal = alone (core_of m) b.deed.act low high low' high' (subst (λ (d : Deed Event). EventTells (core_of m) d.act low high) deed first) second in
           absurd (not_same m x y low high low' high' t u equal.0 equal.1 less apart))
           (λ other. omega (arith, le, other, is_a, is_b))
 

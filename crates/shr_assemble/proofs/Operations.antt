@@ -1,5 +1,5 @@
 -- The operations of a command in a group, as the report has them, are those that its step made, in order.
-use Rattle.shr_assemble.proofs.Common.{◌≡◌, ℕ, zero, suc, ◌<◌, inl, inr, ⊎_elim, Bool, true, false, cond, List, [], ◌∷◌, ◌++◌, sym, refl, ap, subst, ◌∙◌, arith, eqb, eq-eqb, slice_get, Some, filter, AllPairs, AllByRecursion, and_parts, and_from, eqb-true, length-take-le, Contains-permutation, IsPermutation-sym, same_Some, none-some, slice_get_within, get_or_from_slice_get, UseStep, Serial, Script, is_by, ops_by, IsChargeHistory, Has, Has_from_Contains, Contains_from_Has, each_has, Has_filter, filter_has, AreRising, IsLaterThan, WorkerState, Report, uses_at, serial_of, Step, IsAmong, steps_of, AreChained, ops_at, all_ops, IsRun, at_some, by_slices}
+use Rattle.shr_assemble.proofs.Common.{◌≡◌, ℕ, zero, suc, ◌<◌, inl, inr, ⊎_elim, Bool, true, false, cond, List, [], ◌∷◌, ◌++◌, sym, refl, ap, subst, ◌∙◌, arith, eqb, eq-eqb, slice_get, Some, filter, AllPairs, AllByRecursion, and_parts, and_from, eqb-true, length-take-le, Contains-permutation, IsPermutation-sym, same_Some, none-some, slice_get_within, get_or_from_slice_get, UseStep, Serial, Script, is_by, ops_by, IsChargeHistory, Has, Has_from_Contains, Contains_from_Has, each_has, Has_filter, filter_has, AreRising, IsLaterThan, WorkerState, Report, uses_at, serial_of, Step, IsAmong, steps_of, AreStepsChained, ops_at, all_ops, IsRun, at_some, by_slices}
 use Rattle.shr_assemble.proofs.Gathering.{HasStep, has_step, gathered_has, same_step}
 use Rattle.shr_assemble.proofs.Listed.{all_among, contains_among, slice_contains}
 use Rattle.shr_assemble.proofs.Making.{work_of}
@@ -83,7 +83,7 @@ pub among_has : {A : Type 0} (xs : List A) (x : A) → IsAmong x xs → Has xs x
 among_has xs x (j, e) = Has_from_Contains xs x (slice_contains xs j x (at_some xs j x e))
 
 -- the numbers of each group's operations rise along a chain
-pub rise_along : (t : WorkerState) (mine : List Step) (k : ℕ) (x : Step) → AreChained t mine → AreRising t.uses.ops → slice_get mine k ≡ Some x → AreRising x.after.uses.ops
+pub rise_along : (t : WorkerState) (mine : List Step) (k : ℕ) (x : Step) → AreStepsChained t mine → AreRising t.uses.ops → slice_get mine k ≡ Some x → AreRising x.after.uses.ops
 rise_along t [] k x c h e = absurd (none-some x e)
 rise_along t (y ∷ mine) zero x c h e = subst (λ (z : Step). AreRising z.after.uses.ops) (same_Some y x e) (c.1.rise (subst (λ (u : WorkerState). AreRising u.uses.ops) (sym c.0) h))
 rise_along t (y ∷ mine) (suc k) x c h e = rise_along y.after mine k x c.2 (c.1.rise (subst (λ (u : WorkerState). AreRising u.uses.ops) (sym c.0) h)) e

@@ -1,8 +1,6 @@
 -- Whether the ups of operations in a group were refused, in order, and what the tries of a charge come to there.
-use Rattle.shr_assemble.proofs.Common.{◌≡◌, ◌≢◌, ℕ, ◌+◌, ◌<◌, ◌&&◌, ◌||◌, inl, inr, ⊎_elim, Bool, true, false, not, cond, ◌==◌, List, [], ◌∷◌, ◌++◌, length, map, refl, sym, ap, subst, ◌∙◌, arith, append_assoc, eq-eqb, ne_eqb, Option, Some, None, filter, replicate, pos, AllByRecursion, list_any, cases_Bool, eqb-true, append-nil, dite, ℕ_discrete, UseStep, is_refused, IsBelow, is_at_or_above, IsTree, parent_of, path_of, path_of-root, path_of-below, IsOn, by_parents, on_self, on_le, Has, path_to, way_here, way_root, way_up, times_of, count_first, way_once}
-use Rattle.std.specs.Prelude.{int_lt}
+use Rattle.shr_assemble.proofs.Common.{◌≡◌, ◌≢◌, ℕ, ◌+◌, ◌<◌, ◌&&◌, ◌||◌, inl, inr, ⊎_elim, Bool, true, false, not, cond, ◌==◌, List, [], ◌∷◌, ◌++◌, length, map, refl, sym, ap, subst, ◌∙◌, arith, append_assoc, eq-eqb, ne_eqb, Option, Some, None, filter, replicate, pos, AllByRecursion, list_any, cases_Bool, eqb-true, append-nil, dite, ℕ_discrete, UseStep, is_refused, IsBelow, is_at_or_above, IsTree, parent_of, path_of, path_of-root, path_of-below, IsOn, by_parents, on_self, on_le, Has, path_to, way_here, way_root, way_up, times_of, count_first, way_once, int_lt, below_not, not_true}
 use Rattle.shr_assemble.proofs.WalkingCharges.{GoesDown}
-use Rattle.shr_reclaim.proofs.Netting.{below_not, not_true}
 
 -- whether each up was refused
 abbrev pub outcomes : Option ℕ → List UseStep → List Bool

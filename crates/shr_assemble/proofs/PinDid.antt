@@ -1,12 +1,11 @@
 -- What a set_pin did.
-use Rattle.shr_assemble.proofs.Common.{◌≡◌, ℕ, ◌<◌, inl, Bool, true, false, List, length, refl, ap, arith, Option, Some, None, Object, Serial, At, Entry, Pin, Answered, Found, Reply, Spent, Command, SetPin, is_named, holds, pinned_object, length_change_first, View, shape_of, Listed, IsObjectWithin, content_of, Shared, WorkerState, parents_of, is_past_group, same_Some, none-some}
+use Rattle.shr_assemble.proofs.Common.{◌≡◌, ℕ, ◌<◌, inl, Bool, true, false, List, length, refl, ap, arith, Option, Some, None, Object, Serial, At, Entry, Pin, Answered, Found, Reply, Spent, Command, SetPin, is_named, holds, pinned_object, length_change_first, View, shape_of, Listed, IsObjectWithin, content_of, Shared, WorkerState, parents_of, is_past_group, same_Some, none-some, pin_entry}
 use Rattle.shr_base.specs.declared.replies.Reply.TheVariants as reply
 use Rattle.shr_base.specs.declared.replies.Spent.TheVariants as spent
-use Rattle.shr_list.specs.Answers.{pin_entry}
 use Rattle.shr_node.specs.declared.answers.NodePin.{NodePin}
 use Rattle.shr_node.specs.declared.answers.NodePin.TheVariants as pin
 use Rattle.shr_node.specs.Answers as lists
-use Rattle.shr_cache.specs.Pins.{Pins, PinnedFrom, PinnedAs, PinGives}
+use Rattle.shr_cache.specs.Pins.{Pins, PinnedFrom, PinnedAs, SetPinGives}
 use Rattle.shr_assemble.proofs.Quiet.{HasDid, some_met}
 use Rattle.shr_assemble.proofs.QuietSteps.{AreTables}
 use Rattle.shr_assemble.proofs.QuietTenant.{IsTenant, group_in, refused_did, acted_did, stood_did, stood_step, cites_is, list_worn}
@@ -86,5 +85,5 @@ module _ (x : Shared) (tables : AreTables x) (by : Serial) (group node decl : �
   got None r s t h = refused_did x tables by command group decl tenant r s t h
   got (Some f) r s t h = from f s t r h
 
-  pub pin_did : (a : Answered) (s t : WorkerState) → PinGives x by group node decl key pinned a s t → HasDid x.script by command a s t
+  pub pin_did : (a : Answered) (s t : WorkerState) → SetPinGives x by group node decl key pinned a s t → HasDid x.script by command a s t
   pin_did a s t h = got a.found a.reply s t h

@@ -1,11 +1,9 @@
 -- The causes of answers of `unregister` that ended a registration.
-use Rattle.shr_assemble.proofs.Common.{◌≡◌, ℕ, zero, suc, ◌+◌, ◌%◌, ◌<◌, ◌≤◌, ⊎_elim, inl, inr, Bool, true, false, ◌||◌, cond, eqb, List, [], ◌∷◌, ◌++◌, length, take, drop, refl, sym, ap, subst, ◌∙◌, arith, eq-eqb, slice_get, Some, sum_by, nat_lt, list_any, cases_Bool, cases_lt, eqb-true, and_parts, same_Some, none-some, slice_get_within, dite, ℕ_discrete, Entry, Add, Look, Drop, Pin, Scan, MovedIn, Closed, Drained, PoolEntry, Registered, Unregistered, Idle, Place, Serial, HalfWhy, Reply, Script, is_serial, phase_of, from_of, phase_of_push, Made, Turn, Report, decls_on, serial_of, drained_by, IsFreed, Step, steps_of, IsCausedBy, IsDrained, MayMake, Drains, IsTurnOf, IsRun, all_zero, some_at}
+use Rattle.shr_assemble.proofs.Common.{◌≡◌, ℕ, zero, suc, ◌+◌, ◌%◌, ◌<◌, ◌≤◌, ⊎_elim, inl, inr, Bool, true, false, ◌||◌, cond, eqb, List, [], ◌∷◌, ◌++◌, length, take, drop, refl, sym, ap, subst, ◌∙◌, arith, eq-eqb, slice_get, Some, sum_by, nat_lt, list_any, cases_Bool, cases_lt, eqb-true, and_parts, same_Some, none-some, slice_get_within, dite, ℕ_discrete, Entry, Add, Look, Drop, Pin, Scan, MovedIn, Closed, Drained, PoolEntry, Registered, Unregistered, Idle, Place, Serial, HalfWhy, Reply, Script, is_serial, phase_of, from_of, phase_of_push, Made, Turn, Report, decls_on, serial_of, drained_by, IsFreed, Step, steps_of, IsCausedBy, IsDrainedByCommand, MayMakeEntry, Drains, IsTurnOf, IsRun, all_zero, some_at, drained_of, is_idle_entry, became_idle, IsUnregistered, IsUnregisteredBy, IsFreedBy, IsHalfBy}
 use Rattle.shr_base.specs.declared.replies.Reply.TheVariants as reply
 use Rattle.shr_model.specs.Pool.{id_of}
 use Rattle.shr_core.specs.Layout as layout
 use Rattle.shr_core.proofs.LookupSteps.{lowest_free_is}
-use Rattle.shr_report.specs.Causes.{drained_of, is_idle_entry, became_idle, IsUnregistered}
-use Rattle.shr_assemble.specs.Causes.{IsUnregisteredBy, IsFreedBy, IsHalfBy}
 use Rattle.shr_assemble.proofs.Gathering.{each_among, same_step}
 use Rattle.shr_assemble.proofs.Making.{maker}
 use Rattle.shr_assemble.proofs.Makers.{turn_maker, turn_stands, one_turn_maker}
@@ -84,7 +82,7 @@ module _ (s : Script) (r : Report) (workers : List (List Step)) (run : IsRun s r
           gap g is within = omega (arith, same, own_next id n d at_n of_d, phase_later id (n + 1) g (omega (arith, is, within)), ap (λ i. phase_of id (take i r.pool.items)) is)
 
   module _ (worker k : ℕ) (x : Step) (at : slice_get (steps_of workers worker) k ≡ Some x) where
-    drained_other : (by : Serial) (m : Made) (e : Entry) (y : Step) → MayMake s y m e → (y.by ≡ by → ⊥) → drained_by by e ≡ 0
+    drained_other : (by : Serial) (m : Made) (e : Entry) (y : Step) → MayMakeEntry s y m e → (y.by ≡ by → ⊥) → drained_by by e ≡ 0
     drained_other by m (Add b birth added key value) y may ne = refl
     drained_other by m (Look b birth key hit) y may ne = refl
     drained_other by m (Drop b birth key kind) y may ne = refl
@@ -92,13 +90,13 @@ module _ (s : Script) (r : Report) (workers : List (List Step)) (run : IsRun s r
     drained_other by m (Scan w walk asked policy visits freed stopped) y may ne = refl
     drained_other by m (MovedIn child objects) y may ne = refl
     drained_other by m Closed y may ne = refl
-    drained_other by m (Drained b objects) y may ne = let t : IsDrained y m b = may in
+    drained_other by m (Drained b objects) y may ne = let t : IsDrainedByCommand y m b = may in
         ap (λ c. cond c objects 0) (no_test (is_serial by b) (λ same. ne (sym (serial_same by b same ∙ t.own))))
 
     drained_is : sum_by (λ (m : Made). drained_by x.by m.entry) x.work.core.made ≡ drained_of r x.by
     drained_is = sym (entries_of_step s r workers run (drained_by x.by) worker k x at (λ v j y at_y apart.
         all_zero (λ (m : Made). drained_by x.by m.entry) y.work.core.made (λ i m e. drained_other x.by m m.entry y
-        (each_among (λ (z : Made). MayMake s y z z.entry) y.work.core.made m (run.steps.each v j y at_y).did.entries.each (i, some_at y.work.core.made i m e))
+        (each_among (λ (z : Made). MayMakeEntry s y z z.entry) y.work.core.made m (run.steps.each v j y at_y).did.entries.each (i, some_at y.work.core.made i m e))
         (λ same. let b : serial_of v j ≡ serial_of worker k = sym (run.steps.each v j y at_y).by ∙ (same ∙ (run.steps.each worker k x at).by) in apart (ap (λ (z : Serial). z.worker) b, ap (λ (z : Serial). z.command) b)))))
 
     pub unregistered : (id entry from to objects : ℕ) (h : IsUnregisteredBy x id entry from to objects) → ((i : ℕ) → Drains i x.answered.reply → i ≡ id) → IsUnregistered r x.by h.decl id entry from to objects
@@ -109,10 +107,10 @@ module _ (s : Script) (r : Report) (workers : List (List Step)) (run : IsRun s r
       places = λ place n e stands m is_it.
           let z = maker s r workers run place n e stands in
           let is = run.steps.each z.worker z.k z.step z.at in
-          let may : IsDrained z.step z.made x.by = subst (MayMake s z.step z.made) (z.entry ∙ is_it) (each_among (λ (v : Made). MayMake s z.step v v.entry) z.step.work.core.made z.made is.did.entries.each z.among) in
+          let may : IsDrainedByCommand z.step z.made x.by = subst (MayMakeEntry s z.step z.made) (z.entry ∙ is_it) (each_among (λ (v : Made). MayMakeEntry s z.step v v.entry) z.step.work.core.made z.made is.did.entries.each z.among) in
           let own : serial_of z.worker z.k ≡ serial_of worker k = sym is.by ∙ (sym may.own ∙ (run.steps.each worker k x at).by) in
           let same : z.step ≡ x = same_step workers z.worker z.k worker k z.step x z.at at (ap (λ (b : Serial). b.worker) own) (ap (λ (b : Serial). b.command) own) in
-          ap (λ (p : Place). p.id) (sym z.place_is) ∙ drains (layout.id_of z.made.place) (subst (λ (y : Step). Drains (layout.id_of z.made.place) y.answered.reply) same may.drains);
+          ap (λ (p : Place). p.id) (sym z.place_is) ∙ drains (layout.place_id z.made.place) (subst (λ (y : Step). Drains (layout.place_id z.made.place) y.answered.reply) same may.drains);
     }
 
     pub freed : (id entry from to objects : ℕ) (h : IsFreedBy x id entry from to objects) → x.answered.reply ≡ reply.Freed id entry from to objects → IsFreed r x.by h.unregistered.decl id entry from to objects

@@ -1,12 +1,10 @@
 -- What a release and a grab did at the tables of the caches: nothing.
-use Rattle.shr_assemble.proofs.Common.{◌≡◌, ℕ, List, [], refl, sym, subst, ◌∙◌, Some, None, none-some, Place, Serial, Answered, Reply, Spent, Command, Release, Grab, Script, Family, GrabAnswer, ReleaseAnswer, PlainState, Shared, WorkerState, no_work, CrewState, DeedGives, units_place, unfound, pool_told, pool_made, made_shown, parents_of, cited_by, IsReply, IsCausedBy}
+use Rattle.shr_assemble.proofs.Common.{◌≡◌, ℕ, List, [], refl, sym, subst, ◌∙◌, Some, None, none-some, Place, Serial, Answered, Reply, Spent, Command, Release, Grab, Script, Family, GrabAnswer, ReleaseAnswer, PlainState, Shared, WorkerState, no_work, CrewState, DeedGives, worker_units_place, unfound, pool_told, pool_made, made_shown, parents_of, cited_by, IsReply, IsCausedBy, units_room, release_reply, grab_reply}
 use Rattle.shr_base.specs.declared.replies.Reply.TheVariants as reply
 use Rattle.shr_base.specs.declared.replies.Spent.TheVariants as spent
 use Rattle.shr_plain.specs.declared.answers.GrabAnswer.TheVariants as grab
 use Rattle.shr_plain.specs.declared.answers.ReleaseAnswer.TheVariants as release
 use Rattle.shr_plain.specs.Answers.{ReleaseGives, GrabGives}
-use Rattle.shr_worker.specs.Plain.{units_room}
-use Rattle.shr_worker.specs.Replies.{release_reply, grab_reply}
 use Rattle.shr_assemble.proofs.Quiet.{step_of, HasDid, meets_none}
 use Rattle.shr_assemble.proofs.QuietNothing.{nothing_did}
 use Rattle.shr_assemble.proofs.QuietTenant.{without}
@@ -56,9 +54,9 @@ module _ (s : Script) (by : Serial) (node pool : ℕ) (before after : WorkerStat
 -- a release
 pub release_did : (x : Shared) (by : Serial) (node pool n : ℕ) (a : Answered) (t u : CrewState) → DeedGives x by (Release node pool n) a t u → HasDid x.script by (Release node pool n) a t.seats u.seats
 release_did x by node pool n a t u g = subst (λ (b : Answered). HasDid x.script by (Release node pool n) b t.seats u.seats) (sym g.plain.told)
-    (release_none x.script by node pool n t.seats u.seats g.seats (units_place x.script pool node) (units_room x.script pool node) g.plain.answer t.plain u.plain g.plain.released)
+    (release_none x.script by node pool n t.seats u.seats g.seats (worker_units_place x.script pool node) (units_room x.script pool node) g.plain.answer t.plain u.plain g.plain.released)
 
 -- a grab
 pub grab_did : (x : Shared) (by : Serial) (node pool : ℕ) (a : Answered) (t u : CrewState) → DeedGives x by (Grab node pool) a t u → HasDid x.script by (Grab node pool) a t.seats u.seats
 grab_did x by node pool a t u g = subst (λ (b : Answered). HasDid x.script by (Grab node pool) b t.seats u.seats) (sym g.plain.told)
-    (grab_none x.script by node pool t.seats u.seats g.seats (units_place x.script pool node) (units_room x.script pool node) g.plain.answer t.plain u.plain g.plain.grabbed)
+    (grab_none x.script by node pool t.seats u.seats g.seats (worker_units_place x.script pool node) (units_room x.script pool node) g.plain.answer t.plain u.plain g.plain.grabbed)

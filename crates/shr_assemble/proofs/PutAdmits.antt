@@ -1,5 +1,5 @@
 -- What a put's charge with its reclaim did, by its answer: its rounds, and its operations group by group.
-use Rattle.shr_assemble.proofs.Common.{◌≡◌, ℕ, ◌+◌, ◌-◌, ◌<◌, ◌≤◌, inl, inr, ⊎_elim, List, [], ◌∷◌, ◌++◌, length, length-append, map, take, drop, refl, sym, ap, subst, ◌∙◌, arith, append_assoc, true, false, Some, AllByRecursion, append-nil, length-map, take-append-drop, map-append, Serial, Answered, Command, WalkRecord, round_of, rounds_from, IsAtOrAbove, path_of, Job, job_of, Begins, Each-none, parents_of, WorkerState, Work, no_work, then_work, Shared, Admission, Charged, Over, Memory, IsCutShort, AdmissionGives, Visit, Round, job_in, HadRoom, due_in, Refusal, refused}
+use Rattle.shr_assemble.proofs.Common.{◌≡◌, ℕ, ◌+◌, ◌-◌, ◌<◌, ◌≤◌, inl, inr, ⊎_elim, List, [], ◌∷◌, ◌++◌, length, length-append, map, take, drop, refl, sym, ap, subst, ◌∙◌, arith, append_assoc, true, false, Some, AllByRecursion, append-nil, length-map, take-append-drop, map-append, Serial, Answered, Command, WalkRecord, round_of, rounds_from, IsAtOrAbove, path_of, Job, job_of, Begins, Each-none, parents_of, WorkerState, Work, no_work, then_work, Shared, Admission, Charged, Over, Memory, AreRoundsCut, AdmissionGives, Visit, Round, job_in, VisitHadMemory, due_in, Refusal, refused}
 use Rattle.shr_charge.specs.declared.answers.ChargeAnswer.TheVariants as charge
 use Rattle.shr_assemble.proofs.PutTries.{AreOps, ops_then, ops_walks}
 use Rattle.shr_assemble.proofs.PutRounds.{EndsOver, Tried, tried_all}
@@ -62,7 +62,7 @@ module _ (x : Shared) (table : IsTableOf x) (by : Serial) (c : Command) (a : Ans
   none_made : (s : WorkerState) → AreOps x by group 0 [] [] no_work
   none_made s = ops_walks x table by group inside a s s no_work [] (freed_none x by) tt refl refl (Each-none (IsScanOne by (length s.walks) []))
 
-  cut_short : (s t : WorkerState) (h : IsCutShort x by group s t) → CutSeen x table by c a group inside s t (inr h) → Admits Memory s t
+  cut_short : (s t : WorkerState) (h : AreRoundsCut x by group s t) → CutSeen x table by c a group inside s t (inr h) → Admits Memory s t
   cut_short s t h seen =
       let r : Tried x table by c a group inside 12 h.rounds (refused h.over) s h.begun = tried_all x table by c a group inside h.rounds (refused h.over) s h.begun h.tried seen.0 in
       let same : h.priority ≡ 12 - length h.rounds = omega (arith, h.due) in
@@ -74,14 +74,14 @@ module _ (x : Shared) (table : IsTableOf x) (by : Serial) (c : Command) (a : Ans
       let there : AllByRecursion (IsThereJob x) (due_in x (12 - length h.rounds) h.over.group) = subst (AllByRecursion (IsThereJob x)) (sym (due_is x table (12 - length h.rounds) h.over.group)) (round_there x table (12 - length h.rounds) h.over.group r.at_last.1) in
       let all : GaveAll x by (Some c) a (map job_in h.walks) (map (λ (v : Visit). v.answer) h.walks) h.begun t = gave_all x table by (Some c) a (map job_in h.walks) (map (λ (v : Visit). v.answer) h.walks) h.begun t (visited_one x by h.walks h.begun t h.cut.visited) seen.1 (prefix_all (IsThereJob x) (map job_in h.walks) (due_in x (12 - length h.rounds) h.over.group) first there) in
       let begins : Begins (map job_of all.work.walks) (map job_in h.walks) = ⊎_elim
-      (λ had. let e = all_had (map job_in h.walks) (map (λ (v : Visit). v.answer) h.walks) all.work.walks all.noted (had_answers x table by c a group inside h.walks (rec_of HadRoom h.walks had)) in ([], sym e.jobs_are ∙ sym (append-nil _)))
+      (λ had. let e = all_had (map job_in h.walks) (map (λ (v : Visit). v.answer) h.walks) all.work.walks all.noted (had_answers x table by c a group inside h.walks (rec_of VisitHadMemory h.walks had)) in ([], sym e.jobs_are ∙ sym (append-nil _)))
       (λ cut. let e : map (λ (v : Visit). v.answer) h.walks ≡ map (λ (v : Visit). v.answer) cut.front ++ cut.last.answer ∷ [] = ap (map (λ (v : Visit). v.answer)) cut.whole ∙ map-append (λ (v : Visit). v.answer) cut.front (cut.last ∷ []) in
-      (all_cut (map job_in h.walks) (map (λ (v : Visit). v.answer) cut.front) cut.last.answer all.work.walks (subst (λ l. AllNoted (map job_in h.walks) l all.work.walks) e all.noted) (had_answers x table by c a group inside cut.front (rec_of HadRoom cut.front cut.had)) cut.lacked).begins)
+      (all_cut (map job_in h.walks) (map (λ (v : Visit). v.answer) cut.front) cut.last.answer all.work.walks (subst (λ l. AllNoted (map job_in h.walks) l all.work.walks) e all.noted) (had_answers x table by c a group inside cut.front (rec_of VisitHadMemory cut.front cut.had)) cut.lacked).begins)
       h.cut.cut in
       let cut : FrontHad all.work.walks = ⊎_elim
-      (λ had. front_had all.work.walks (all_had (map job_in h.walks) (map (λ (v : Visit). v.answer) h.walks) all.work.walks all.noted (had_answers x table by c a group inside h.walks (rec_of HadRoom h.walks had))).uncut)
+      (λ had. front_had all.work.walks (all_had (map job_in h.walks) (map (λ (v : Visit). v.answer) h.walks) all.work.walks all.noted (had_answers x table by c a group inside h.walks (rec_of VisitHadMemory h.walks had))).uncut)
       (λ cut. let e : map (λ (v : Visit). v.answer) h.walks ≡ map (λ (v : Visit). v.answer) cut.front ++ cut.last.answer ∷ [] = ap (map (λ (v : Visit). v.answer)) cut.whole ∙ map-append (λ (v : Visit). v.answer) cut.front (cut.last ∷ []) in
-      (all_cut (map job_in h.walks) (map (λ (v : Visit). v.answer) cut.front) cut.last.answer all.work.walks (subst (λ l. AllNoted (map job_in h.walks) l all.work.walks) e all.noted) (had_answers x table by c a group inside cut.front (rec_of HadRoom cut.front cut.had)) cut.lacked).front)
+      (all_cut (map job_in h.walks) (map (λ (v : Visit). v.answer) cut.front) cut.last.answer all.work.walks (subst (λ l. AllNoted (map job_in h.walks) l all.work.walks) e all.noted) (had_answers x table by c a group inside cut.front (rec_of VisitHadMemory cut.front cut.had)) cut.lacked).front)
       h.cut.cut in
       let rest : List Job = begins.0 ++ drop (length (map job_in h.walks)) (due_in x (12 - length h.rounds) h.over.group) in
       let whole : due_in x (12 - length h.rounds) h.over.group ≡ map job_of all.work.walks ++ rest = sym (take-append-drop (length (map job_in h.walks)) (due_in x (12 - length h.rounds) h.over.group))

@@ -1,12 +1,11 @@
 -- A put that asked for its charge, or didn't: what is left to say of its answer.
-use Rattle.shr_assemble.proofs.Common.{◌≡◌, ◌⊎◌, ⊎_elim, inl, inr, ℕ, ◌<◌, ◌≤◌, List, [], ◌∷◌, ◌++◌, length, map, refl, sym, ap, subst, ◌∙◌, arith, true, false, cond, Bool, ◌-◌, Some, None, sum_by, replicate, is_some, AllByRecursion, append-nil, sum_by-append, same_Some, none-some, UseStep, At, Serial, Answered, Found, Reply, Command, Put, Family, IsAtOrAbove, Job, job_of, Each, Begins, Each-none, LoadsWord, Asks, AreRising, Made, Mapped, hierarchy_of, GroupState, shape_of, Admission, times_of, times_both, charged, MayBeOffline, pool_seen, pool_made, pool_told, is_past_group, parents_of, cited_by, id_found, IsReply, over_at, WorkerState, Work, no_work, then_work, Does, Shared, does_none, does_then, fresh_none, IsCausedBy, added_below, freed_below, StandsIn, MayMake, IsFilled, IsCited, IsFoundBy, number_made, number_found, KnowsOnline, MeetsGroups, Step, Brings, IsAmong, IsWant, refusals_of, was_charged, is_at_or_above}
+use Rattle.shr_assemble.proofs.Common.{◌≡◌, ◌⊎◌, ⊎_elim, inl, inr, ℕ, ◌<◌, ◌≤◌, List, [], ◌∷◌, ◌++◌, length, map, refl, sym, ap, subst, ◌∙◌, arith, true, false, cond, Bool, ◌-◌, Some, None, sum_by, replicate, is_some, AllByRecursion, append-nil, sum_by-append, same_Some, none-some, UseStep, At, Serial, Answered, Found, Reply, Command, Put, Family, IsAtOrAbove, Job, job_of, Each, Begins, Each-none, LoadsWord, Asks, AreRising, Made, Mapped, hierarchy_of, GroupState, shape_of, Admission, times_of, times_both, charged, MayBeOffline, pool_seen, pool_made, pool_told, is_past_group, parents_of, cited_by, id_found, IsReply, over_at, WorkerState, Work, no_work, then_work, Does, Shared, does_none, does_then, fresh_none, IsCausedBy, added_below, made_freed_below, StandsIn, MayMakeEntry, IsListFilled, IsMadeAsCited, IsFoundBy, number_made, number_found, KnowsOnline, MeetsGroups, Step, BringsWork, IsAmong, IsWant, refusals_of, was_charged, is_at_or_above, DidRounds}
 use Rattle.shr_base.specs.declared.replies.Reply.TheVariants as reply
 use Rattle.shr_model.specs.Commands.{rounds_from}
-use Rattle.shr_charge.specs.Views.{Loaded}
+use Rattle.shr_charge.specs.Views.{LoadedState}
 use Rattle.shr_charge.specs.declared.answers.GroupState.TheVariants as state
 use Rattle.shr_reclaim.specs.declared.answers.Admission.TheVariants as admission
 use Rattle.shr_report.specs.WalksLawful as walks
-use Rattle.shr_assemble.specs.Walks.{DidRounds}
 use Rattle.shr_assemble.proofs.Bringing.{brings_of}
 use Rattle.shr_assemble.proofs.PutAdmits.{Admits, admits, stands_in, named_by, admitted_front, admitted_told, stood_by}
 use Rattle.shr_assemble.proofs.PutCharges.{ops_same, put_charges}
@@ -31,9 +30,9 @@ tail_none = record { walks = refl; seen = refl; maps = refl; cleared = refl; tur
 
 -- steps beside a charge that make no operation
 pub ops_quiet : (x : Shared) (by : Serial) (group tries : ℕ) (over kept : List ℕ) (v q : Work) → AreOps x by group tries over kept v → q.ops ≡ [] → q.charges ≡ 0 → q.uncharges ≡ 0
-    → ((g : ℕ) → sum_by (freed_below (parents_of x.script) g) q.core.made ≡ 0) → AreOps x by group tries over kept (then_work v q)
+    → ((g : ℕ) → sum_by (made_freed_below (parents_of x.script) g) q.core.made ≡ 0) → AreOps x by group tries over kept (then_work v q)
 ops_quiet x by group tries over kept v q h ops charges uncharges freed = ops_same x by group tries over kept v (then_work v q) h (ap (λ l. v.ops ++ l) ops ∙ append-nil v.ops) (omega (arith, charges)) (omega (arith, uncharges))
-    (λ g. let e = sum_by-append (freed_below (parents_of x.script) g) v.core.made q.core.made in let f = freed g in omega (arith, e, f))
+    (λ g. let e = sum_by-append (made_freed_below (parents_of x.script) g) v.core.made q.core.made in let f = freed g in omega (arith, e, f))
 
 no_rounds : (parents : List ℕ) (nodes : ℕ) → [] ≡ rounds_from parents nodes 12 []
 unfolding rounds_from
@@ -80,7 +79,7 @@ module _ (x : Shared) (table : IsTableOf x) (by : Serial) (group node decl : ℕ
 
   -- ---- the charge was not asked for
 
-  nothing_ops : (words : List Loaded) → AreOps x by group 0 [] [] (then_work (record no_work { words = words }) no_work)
+  nothing_ops : (words : List LoadedState) → AreOps x by group 0 [] [] (then_work (record no_work { words = words }) no_work)
   nothing_ops words = record {
     charges = refl;
     uncharges = omega arith;
@@ -99,7 +98,7 @@ module _ (x : Shared) (table : IsTableOf x) (by : Serial) (group node decl : ℕ
       closed_of [] e = tt
       closed_of (o ∷ b) e = absurd (omega (arith, e))
 
-  pub unasked_did : (r : Reply) (words : List Loaded) (s t : WorkerState) → Walked x.script by (Some command) (without r) s t (record no_work { words = words })
+  pub unasked_did : (r : Reply) (words : List LoadedState) (s t : WorkerState) → Walked x.script by (Some command) (without r) s t (record no_work { words = words })
       → ((family : Family) → IsReply (parents_of x.script) family by command None r) → cited_by r ≡ None → ((h : ℕ) → over_at h r ≡ 0) → ((g operation usage : ℕ) → r ≡ reply.Over g operation usage → ⊥)
       → ((g : ℕ) → charged (parents_of x.script) g (Some command) (Some r) ≡ 0) → refusals_of [] r ≡ [] → was_charged false r ≡ false → pool_told r ≡ [] → pool_made r ≡ [] → MayBeOffline r ⊎ KnowsOnline s.tree group
       → MeetsGroups x.script (whole x.script by command (without r) s t t (record no_work { words = words }) no_work)
@@ -108,9 +107,9 @@ module _ (x : Shared) (table : IsTableOf x) (by : Serial) (group node decl : ℕ
       let v : Work = record no_work { words = words } in
       let z : Step = whole x.script by command (without r) s t t v no_work in
       whole_did x.script by command (without r) s t t v no_work walked (brings_of (does_none t)) tail_none record {
-        may = Each-none (λ (y : Made). MayMake x.script z y y.entry);
+        may = Each-none (λ (y : Made). MayMakeEntry x.script z y y.entry);
         reply = λ family stands. row family;
-        sets = Each-none (IsFilled []);
+        sets = Each-none (IsListFilled []);
         cited = λ at e. absurd (none-some at (sym uncited ∙ e));
         numbers = refl;
         found = λ d f e has. absurd (none-some f has);
@@ -145,13 +144,13 @@ module _ (x : Shared) (table : IsTableOf x) (by : Serial) (group node decl : ℕ
 
     -- what is left to show where these steps came after the charge
     pub record IsAsked (q : Work) (kept : List ℕ) : Type 0 where
-      pub does : Brings charged_at t q
+      pub does : BringsWork charged_at t q
       pub tail : IsTail q
       pub ops : AreOps x by group adm.tries (adm.rounds ++ named_by answer) kept (then_work first q)
-      pub may : Each (λ (y : Made). MayMake x.script (whole x.script by command a s charged_at t first q) y y.entry) q.core.made
+      pub may : Each (λ (y : Made). MayMakeEntry x.script (whole x.script by command a s charged_at t first q) y y.entry) q.core.made
       pub row : (family : Family) → Each (StandsIn (parents_of x.script) family) (first.core.made ++ q.core.made) → IsReply (parents_of x.script) family by command (id_found a) a.reply
-      pub sets : Each (IsFilled q.core.made) q.core.sets
-      pub cited : (at : At) → cited_by a.reply ≡ Some at → IsCited x.script (whole x.script by command a s charged_at t first q) at
+      pub sets : Each (IsListFilled q.core.made) q.core.sets
+      pub cited : (at : At) → cited_by a.reply ≡ Some at → IsMadeAsCited x.script (whole x.script by command a s charged_at t first q) at
       pub numbers : map number_made q.core.attempts ≡ number_found a.found
       pub found : (f : Found) → a.found ≡ Some f → IsFoundBy (whole x.script by command a s charged_at t first q) decl f
       pub over : (h : ℕ) → over_at h a.reply ≡ times_of h (named_by answer)
@@ -186,7 +185,7 @@ module _ (x : Shared) (table : IsTableOf x) (by : Serial) (group node decl : ℕ
       known = h.known;
       unmade = h.unmade;
       online = λ g e above. inr (online_at s asks.loaded asks.online g e);
-      meets = record { unmade = λ g e. absurd (h.unnoted g e); met = λ g e. inr (state.Online, refl, subst (λ n. IsAmong {A = Loaded} (record { group = n; state = state.Online }) z.work.words) (some_met (is_past_group a.reply) group g e) (0, refl)) };
+      meets = record { unmade = λ g e. absurd (h.unnoted g e); met = λ g e. inr (state.Online, refl, subst (λ n. IsAmong {A = LoadedState} (record { group = n; state = state.Online }) z.work.words) (some_met (is_past_group a.reply) group g e) (0, refl)) };
       cause = h.cause;
     }
 
@@ -215,9 +214,9 @@ module _ (x : Shared) (table : IsTableOf x) (by : Serial) (group node decl : ℕ
         does = brings_of (does_none t);
         tail = tail_none;
         ops = ops_alone a answer s t t asks seen;
-        may = Each-none (λ (y : Made). MayMake x.script z y y.entry);
+        may = Each-none (λ (y : Made). MayMakeEntry x.script z y y.entry);
         row = λ family stands. tt;
-        sets = Each-none (IsFilled []);
+        sets = Each-none (IsListFilled []);
         cited = λ at e. absurd (none-some at e);
         numbers = refl;
         found = λ f e. absurd (none-some f e);
@@ -247,9 +246,9 @@ module _ (x : Shared) (table : IsTableOf x) (by : Serial) (group node decl : ℕ
         does = brings_of (does_none t);
         tail = tail_none;
         ops = ops_alone a admission.Memory s t t asks seen;
-        may = Each-none (λ (y : Made). MayMake x.script z y y.entry);
+        may = Each-none (λ (y : Made). MayMakeEntry x.script z y y.entry);
         row = λ family stands. tt;
-        sets = Each-none (IsFilled []);
+        sets = Each-none (IsListFilled []);
         cited = λ at e. absurd (none-some at e);
         numbers = refl;
         found = λ f e. absurd (none-some f e);

@@ -1,5 +1,5 @@
 -- The charge of a put, taken back.
-use Rattle.shr_assemble.proofs.Common.{◌≡◌, ℕ, ◌<◌, Bool, true, false, cond, List, [], ◌++◌, length, refl, sym, ap, subst, ◌∙◌, arith, append_assoc, None, sum_by, cons_option, append-nil, UseStep, Object, Serial, Answered, Found, Command, fresh, ScanMade, Moves, takes_of, gives_of, Begins, Uncharges, Asks, nothing, Adds, Made, Loaded, parents_of, WorkerState, Work, then_work, Does, Shared, does_none, scans_made, freed_below, Brings}
+use Rattle.shr_assemble.proofs.Common.{◌≡◌, ℕ, ◌<◌, Bool, true, false, cond, List, [], ◌++◌, length, refl, sym, ap, subst, ◌∙◌, arith, append_assoc, None, sum_by, cons_option, append-nil, UseStep, Object, Serial, Answered, Found, Command, fresh, ScanMade, Moves, takes_of, gives_of, Begins, Uncharges, Asks, nothing, Adds, Made, Loaded, parents_of, WorkerState, Work, then_work, Does, Shared, does_none, scans_made, made_freed_below, BringsWork}
 use Rattle.shr_reclaim.specs.declared.answers.Admission.TheVariants as admission
 use Rattle.shr_assemble.proofs.Bringing.{brings_of, brings_then}
 use Rattle.shr_assemble.proofs.PutAsked.{command, adm, first, first_ops, ops_quiet}
@@ -13,7 +13,7 @@ use Rattle.shr_assemble.proofs.QuietSteps.{AreTables}
 use Rattle.shr_assemble.proofs.WalkingTold.{IsTableOf}
 
 -- an uncharge
-back_brings : (x : Shared) (by : Serial) (group : ℕ) (s t : WorkerState) (h : Uncharges x by group s t) → Brings s t (uncharging h.ops)
+back_brings : (x : Shared) (by : Serial) (group : ℕ) (s t : WorkerState) (h : Uncharges x by group s t) → BringsWork s t (uncharging h.ops)
 back_brings x by group s t h = let n = does_none s in record {
   core = subst (λ (u : WorkerState). Adds s.core u.core nothing) (sym h.rest) n.core;
   uses = ap (λ (u : WorkerState). u.uses) h.rest;
@@ -64,9 +64,9 @@ module _ (x : Shared) (table : IsTableOf x) (tables : AreTables x) (by : Serial)
 
   -- the charge is taken back after steps that make no operation
   module _ (a : Answered) (s charged_at refused t : WorkerState) (asks : Asks x by group admission.Charged s charged_at) (seen : Seen x table tables by group node decl key value on inside a s charged_at asks)
-      (q : Work) (does : Does charged_at refused q) (ops : q.ops ≡ []) (charges : q.charges ≡ 0) (uncharges : q.uncharges ≡ 0) (freed : (g : ℕ) → sum_by (freed_below (parents_of x.script) g) q.core.made ≡ 0)
+      (q : Work) (does : Does charged_at refused q) (ops : q.ops ≡ []) (charges : q.charges ≡ 0) (uncharges : q.uncharges ≡ 0) (freed : (g : ℕ) → sum_by (made_freed_below (parents_of x.script) g) q.core.made ≡ 0)
       (back : Uncharges x by group refused t) where
-    pub vain_does : Brings charged_at t (then_work q (uncharging back.ops))
+    pub vain_does : BringsWork charged_at t (then_work q (uncharging back.ops))
     vain_does = brings_then charged_at refused t q (uncharging back.ops) (brings_of does) (back_brings x by group refused t back)
 
     abbrev pub before : Work
@@ -80,4 +80,4 @@ module _ (x : Shared) (table : IsTableOf x) (tables : AreTables x) (by : Serial)
         let two = ops_back x table by group inside d.tries (d.rounds ++ []) (then_work before q) back.ops one back.downs in
         ops_same x by group d.tries (d.rounds ++ []) [] (then_work (then_work before q) (uncharging back.ops)) (then_work before (then_work q (uncharging back.ops))) two
         (sym (append_assoc before.ops q.ops back.ops)) (omega arith) (omega arith)
-        (λ g. ap (sum_by (freed_below (parents_of x.script) g)) (sym (append_assoc before.core.made q.core.made [])))
+        (λ g. ap (sum_by (made_freed_below (parents_of x.script) g)) (sym (append_assoc before.core.made q.core.made [])))

@@ -1,5 +1,5 @@
 -- The charges of a put.
-use Rattle.shr_assemble.proofs.Common.{◌≡◌, ℕ, ◌+◌, ◌<◌, ◌≤◌, Bool, true, false, not, cond, ◌==◌, List, [], ◌∷◌, ◌++◌, length, refl, sym, ap, subst, ◌∙◌, arith, Some, count_by, sum_by, pos, ◌-ℤ◌, AllByRecursion, ints, append-nil, sum_by-append, UseStep, Serial, ups, downs, is_refused, path_of, AreDowns, IsDown, charged, parents_of, limit_of, Work, then_work, Shared, times_of, count_first, nets_downs, DidCharges, ops_at, added_below, freed_below, Made, Step, IsPut, each_append, each_weaker}
+use Rattle.shr_assemble.proofs.Common.{◌≡◌, ℕ, ◌+◌, ◌<◌, ◌≤◌, Bool, true, false, not, cond, ◌==◌, List, [], ◌∷◌, ◌++◌, length, refl, sym, ap, subst, ◌∙◌, arith, Some, count_by, sum_by, pos, ◌-ℤ◌, AllByRecursion, ints, append-nil, sum_by-append, UseStep, Serial, ups, downs, is_refused, path_of, AreDowns, IsDown, charged, parents_of, limit_of, Work, then_work, Shared, times_of, count_first, nets_downs, DidCharges, ops_at, added_below, made_freed_below, Made, Step, IsPut, each_append, each_weaker}
 use Rattle.shr_walk.specs.Keeping as keeping
 use Rattle.shr_assemble.proofs.Outcomes.{outcomes, outcomes_then, down_outcomes}
 use Rattle.shr_assemble.proofs.PutTries.{AreOps, charge_parents, count_then, of_groups, refusals_are, path_once, on_path}
@@ -10,7 +10,7 @@ use Rattle.shr_assemble.proofs.WalkingTold.{IsTableOf}
 
 -- what an operation comes to stays the same with other steps beside it
 pub ops_same : (x : Shared) (by : Serial) (group tries : ℕ) (over kept : List ℕ) (v w : Work) → AreOps x by group tries over kept v → w.ops ≡ v.ops → w.charges ≡ v.charges → w.uncharges ≡ v.uncharges
-    → ((g : ℕ) → sum_by (freed_below (parents_of x.script) g) w.core.made ≡ sum_by (freed_below (parents_of x.script) g) v.core.made) → AreOps x by group tries over kept w
+    → ((g : ℕ) → sum_by (made_freed_below (parents_of x.script) g) w.core.made ≡ sum_by (made_freed_below (parents_of x.script) g) v.core.made) → AreOps x by group tries over kept w
 ops_same x by group tries over kept v w h same charges uncharges freed = record {
   charges = charges ∙ h.charges;
   uncharges = let e = h.uncharges in let d = ap downs same in omega (arith, e, d, uncharges);
@@ -35,10 +35,10 @@ downs_all g (o ∷ ops) = let e = count_first (λ (y : UseStep). not y.up) o ops
 
 module _ (x : Shared) (table : IsTableOf x) (by : Serial) (group : ℕ) (inside : group < length (parents_of x.script)) where
   -- the charge that stands is taken back
-  pub ops_back : (tries : ℕ) (over : List ℕ) (v : Work) (back : List UseStep) → AreOps x by group tries over (path_of x.charge.shape.parents.items group) v → AreDowns by (path_of (keeping.parents_of x) group) back
+  pub ops_back : (tries : ℕ) (over : List ℕ) (v : Work) (back : List UseStep) → AreOps x by group tries over (path_of x.charge.shape.parents.items group) v → AreDowns by (path_of (keeping.shared_parents x) group) back
       → AreOps x by group tries over [] (then_work v (uncharging back))
   ops_back tries over v back h downs_made =
-      let same : path_of (keeping.parents_of x) group ≡ path_of x.charge.shape.parents.items group = ap (λ p. path_of p group) (same_parents x table ∙ sym (charge_parents x table)) in
+      let same : path_of (keeping.shared_parents x) group ≡ path_of x.charge.shape.parents.items group = ap (λ p. path_of p group) (same_parents x table ∙ sym (charge_parents x table)) in
       let made : AreDowns by (path_of x.charge.shape.parents.items group) back = subst (λ l. AreDowns by l back) same downs_made in
       let each : AllByRecursion (IsDown by) back = rec_of (IsDown by) back made.each in
       let down : AllByRecursion GoesDown back = each_weaker (IsDown by) GoesDown (λ o d. d.down) back each in
@@ -53,7 +53,7 @@ module _ (x : Shared) (table : IsTableOf x) (by : Serial) (group : ℕ) (inside 
         most = λ g. let e = count_then (λ (o : UseStep). o.up) g v.ops back in let z = ups_is g back in let n = (nets_downs x.charge.shape g by _ back made).up in let k = h.most g in omega (arith, e, z, n, k);
         net = λ g lt. let e = count_then (λ (o : UseStep). o.up) g v.ops back in let z = ups_is g back in let n = (nets_downs x.charge.shape g by _ back made).up in
             let f = count_then (λ (o : UseStep). not o.up) g v.ops back in let y = downs_is g back in let m = (nets_downs x.charge.shape g by _ back made).down in
-            let s = sum_by-append (freed_below (parents_of x.script) g) v.core.made [] in let k = h.net g lt in omega (arith, e, z, n, f, y, m, s, k);
+            let s = sum_by-append (made_freed_below (parents_of x.script) g) v.core.made [] in let k = h.net g lt in omega (arith, e, z, n, f, y, m, s, k);
         refusals = λ g. let e = count_then (is_refused (limit_of x.script g)) g v.ops back in let n = refusals_are x table by group inside g 0 back (nets_downs x.charge.shape g by _ back made).refused in let k = h.refusals g in omega (arith, e, n, k);
         settled = λ g b long d. subst (λ (l : List UseStep). Closed (ops_at g (v.ops ++ back) ++ l)) (sym (none_of b long)) (subst Closed (sym (append-nil (ops_at g (v.ops ++ back)))) (closed g));
         ends = λ g. closed_ends (limit_of x.script g) (ops_at g (v.ops ++ back)) (closed g);
@@ -76,7 +76,7 @@ module _ (x : Shared) (table : IsTableOf x) (by : Serial) (group : ℕ) (inside 
     puts = λ k d lt up. put;
     fourteen = λ g. let m = h.most g in omega (arith, m, few);
     between = λ g. ends_between (limit_of x.script g) (ops_at g z.work.ops) (h.ends g);
-    nets = λ g lt. same_net (ups (ops_at g z.work.ops)) (downs (ops_at g z.work.ops)) (sum_by (freed_below (parents_of x.script) g) z.work.core.made) (charged (parents_of x.script) g z.command (Some z.answered.reply))
+    nets = λ g lt. same_net (ups (ops_at g z.work.ops)) (downs (ops_at g z.work.ops)) (sum_by (made_freed_below (parents_of x.script) g) z.work.core.made) (charged (parents_of x.script) g z.command (Some z.answered.reply))
         (h.net g lt ∙ ap (λ (n : ℕ). downs (ops_at g z.work.ops) + n) (stands g lt));
     added = added;
     charges = let c = h.charges in let e = h.each in let low = ups_all group z.work.ops in omega (arith, c, e, low);

@@ -1,12 +1,10 @@
 -- What a put did.
-use Rattle.shr_assemble.proofs.Common.{◌≡◌, ℕ, ◌+◌, ◌<◌, inl, inr, Bool, true, false, ◌&&◌, not, cond, ◌==◌, List, [], ◌∷◌, ◌++◌, length, refl, sym, ap, subst, ◌∙◌, arith, Option, Some, None, nat_lt, if◌then◌else◌, Entry, Add, Object, At, Place, Serial, Answered, Found, Reply, Command, Put, is_at_or_above, path_of, is_later, Hierarchy, step, fresh, holds, place_number, times, only, total, total-append, only_yes, Asks, AreRising, spent_by, View, group_of, Made, shape_of, add_entry, Listed, AddGives, is_raised, bits_for, Admission, times_of, parents_of, IsObjectWithin, content_of, WorkerState, Work, no_work, Does, Shared, does_none, unfound, same_Some, none-some, hierarchy_of, added_below, KnowsUnmade, IsAmong, Step}
+use Rattle.shr_assemble.proofs.Common.{◌≡◌, ℕ, ◌+◌, ◌<◌, inl, inr, Bool, true, false, ◌&&◌, not, cond, ◌==◌, List, [], ◌∷◌, ◌++◌, length, refl, sym, ap, subst, ◌∙◌, arith, Option, Some, None, nat_lt, if◌then◌else◌, Entry, Add, Object, At, Place, Serial, Answered, Found, Reply, Command, Put, is_at_or_above, path_of, is_later, Hierarchy, step, fresh, holds, place_number, times, only, total, total-append, only_yes, Asks, AreRising, spent_by, View, group_of, Made, shape_of, add_entry, Listed, AddGives, is_raised, bits_for, Admission, times_of, parents_of, IsObjectWithin, content_of, WorkerState, Work, no_work, Does, Shared, does_none, unfound, same_Some, none-some, hierarchy_of, added_below, KnowsUnmade, IsAmong, Step, Puts, PutFrom, PutNone, PutAs, CommandGives}
 use Rattle.std.proofs.Common.{lt-ltb}
 use Rattle.shr_base.specs.declared.replies.Reply.TheVariants as reply
 use Rattle.shr_base.specs.declared.replies.Spent.TheVariants as spent
-use Rattle.shr_cache.specs.Puts.{Puts, PutFrom, PutNone, PutAs}
 use Rattle.shr_node.specs.declared.answers.NodeAdd.TheVariants as add
 use Rattle.shr_reclaim.specs.declared.answers.Admission.TheVariants as admission
-use Rattle.shr_worker.specs.Commands.{CommandGives}
 use Rattle.shr_report.specs.Parts as report
 use Rattle.shr_charge.specs.Views as charge
 use Rattle.shr_assemble.proofs.Bringing.{brings_of}
@@ -110,7 +108,7 @@ module _ (x : Shared) (table : IsTableOf x) (by : Serial) (group node decl : ℕ
   from f (reply.Added c) s t h = added f c s t h (asks_seen (record { reply = reply.Added c; found = Some f }) admission.Charged s h.charged h.asks)
   from f r s t h = vain_found x table tables by group node decl key value within.on_node inside f s t r tt h (asks_seen (record { reply = r; found = Some f }) admission.Charged s h.puts.charged h.puts.asks)
 
-  abbrev vain_step : Reply → List charge.Loaded → WorkerState → WorkerState → Step
+  abbrev vain_step : Reply → List charge.LoadedState → WorkerState → WorkerState → Step
   vain_step r words s t = whole x.script by Command_of (without r) s t t (record no_work { words = words }) no_work
 
   none : (r : Reply) (s t : WorkerState) → AreRising s.uses.ops → (h : PutNone x by group node decl object r s t) → HasDid x.script by Command_of (without r) s t
@@ -120,14 +118,14 @@ module _ (x : Shared) (table : IsTableOf x) (by : Serial) (group node decl : ℕ
   none (reply.Offline number) s t rise h = let r : Reply = reply.Offline number in
       unasked_did x table by group node decl key value inside r (record { group = group; state = state.Offline number } ∷ []) s t (load_walked x table by group node decl key value inside (without r) (state.Offline number) s t h.offline)
       (λ family. tt) refl (λ n. refl) (λ n operation usage e. cc) (λ n. refl) refl refl refl refl (inl tt)
-      (record { unmade = λ g e. absurd (cc); met = λ g e. inr (state.Offline number, refl, subst (λ n. IsAmong {A = charge.Loaded} (record { group = n; state = state.Offline number }) (record { group = group; state = state.Offline number } ∷ [])) (same_Some group g e) (0, refl)) })
+      (record { unmade = λ g e. absurd (cc); met = λ g e. inr (state.Offline number, refl, subst (λ n. IsAmong {A = charge.LoadedState} (record { group = n; state = state.Offline number }) (record { group = group; state = state.Offline number } ∷ [])) (same_Some group g e) (0, refl)) })
       (record { group = group; met = refl; told = inl (0, refl) })
   none (reply.NotMade g) s t rise h = let r : Reply = reply.NotMade g in
       unasked_did x table by group node decl key value inside r (record { group = group; state = state.NotMade } ∷ []) s t (load_walked x table by group node decl key value inside (without r) state.NotMade s t h.not_made)
       (λ family. tt) refl (λ n. refl) (λ n operation usage e. cc) (λ n. refl) refl refl refl refl
       (inr (knows_online (hierarchy_of (shape_of x.core)) s.tree group state.NotMade (λ entry e. absurd (cc)) h.not_made.shows))
       (record {
-        unmade = λ n e. let named : g ≡ n = cc in subst (KnowsUnmade (report.hierarchy_of x.script) s.tree) (sym h.same ∙ named) (subst (λ (q : Hierarchy). KnowsUnmade q s.tree group) (hierarchy_is x table.shared) (knows_unmade (hierarchy_of (shape_of x.core)) s.tree group h.not_made.shows));
+        unmade = λ n e. let named : g ≡ n = cc in subst (KnowsUnmade (report.script_hierarchy x.script) s.tree) (sym h.same ∙ named) (subst (λ (q : Hierarchy). KnowsUnmade q s.tree group) (hierarchy_is x table.shared) (knows_unmade (hierarchy_of (shape_of x.core)) s.tree group h.not_made.shows));
         met = λ n e. absurd (none-some n e);
       })
       (record { met = ap Some (sym h.same); late = subst (λ (q : Hierarchy). is_later q.later g ≡ true) (hierarchy_is x table.shared) (subst (λ n. is_later (hierarchy_of (shape_of x.core)).later n ≡ true) (sym h.same) (h.not_made.shows.late refl)) })

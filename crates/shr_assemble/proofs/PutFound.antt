@@ -1,5 +1,5 @@
 -- A put whose cache was found after its charge: with the entry that it cites, or with none.
-use Rattle.shr_assemble.proofs.Common.{◌≡◌, ℕ, ◌<◌, ◌≤◌, List, [], ◌∷◌, ◌++◌, length, map, refl, sym, ap, subst, ◌∙◌, arith, false, true, cond, Bool, Some, None, sum_by, sum_by-append, same_Some, none-some, Entry, Object, At, Serial, Answered, Found, Reply, Command, rounds_from, Family, job_of, place_number, Each, times, Each-none, Holds, Calls, Asks, View, place_at, Made, Known, shape_of, Listed, Acts, Gains, times_of, charged, pool_told, pool_made, parents_of, cited_by, IsReply, Cites, over_at, WorkerState, Work, then_work, Shared, IsCausedBy, added_below, IsTold, MayMake, IsSetLast, IsFilled, IsCited, IsFoundBy, number_made, Step, IsAmong, Brings, refusals_of, was_charged, append-nil, each_before, each_one}
+use Rattle.shr_assemble.proofs.Common.{◌≡◌, ℕ, ◌<◌, ◌≤◌, List, [], ◌∷◌, ◌++◌, length, map, refl, sym, ap, subst, ◌∙◌, arith, false, true, cond, Bool, Some, None, sum_by, sum_by-append, same_Some, none-some, Entry, Object, At, Serial, Answered, Found, Reply, Command, rounds_from, Family, job_of, place_number, Each, times, Each-none, HoldsCache, Calls, Asks, View, place_at, Made, Known, shape_of, Listed, Acts, Gains, times_of, charged, pool_told, pool_made, parents_of, cited_by, IsReply, Cites, over_at, WorkerState, Work, then_work, Shared, IsCausedBy, added_below, IsTenantEntry, MayMakeEntry, IsSetLast, IsListFilled, IsMadeAsCited, IsFoundBy, number_made, Step, IsAmong, BringsWork, refusals_of, was_charged, append-nil, each_before, each_one}
 use Rattle.shr_base.specs.declared.replies.Reply.TheVariants as reply
 use Rattle.shr_reclaim.specs.declared.answers.Admission.TheVariants as admission
 use Rattle.shr_report.specs.WalksLawful as walks
@@ -26,7 +26,7 @@ module _ (x : Shared) (table : IsTableOf x) (tables : AreTables x) (by : Serial)
 
   -- the cache was found from the charged state, its list was called, and all steps after the charge are these
   module _ (f : Found) (r : Reply) (s charged_at offered t : WorkerState) (asks : Asks x by group admission.Charged s charged_at) (seen : Seen (record { reply = r; found = Some f }) s charged_at asks)
-      (call : View → View → Type 0) (held : WorkerState) (holds : Holds x decl f charged_at held) (calls : Calls call held offered) (q : Work) (kept : List ℕ) where
+      (call : View → View → Type 0) (held : WorkerState) (holds : HoldsCache x decl f charged_at held) (calls : Calls call held offered) (q : Work) (kept : List ℕ) where
     abbrev a : Answered
     a = record { reply = r; found = Some f }
 
@@ -38,12 +38,12 @@ module _ (x : Shared) (table : IsTableOf x) (tables : AreTables x) (by : Serial)
 
     -- what both kinds of answers have
     pub record IsOffered (made : List Made) : Type 0 where
-      pub does : Brings charged_at t q
+      pub does : BringsWork charged_at t q
       pub tail : IsTail q
       pub ops : AreOps x by group (adm x table by group node decl key value inside a admission.Charged s charged_at t asks seen).tries ((adm x table by group node decl key value inside a admission.Charged s charged_at t asks seen).rounds ++ []) kept (then_work first_work q)
       pub attempts : q.core.attempts ≡ tried_by decl f ∷ []
       pub made_are : q.core.made ≡ made
-      pub filled : Each (IsFilled made) q.core.sets
+      pub filled : Each (IsListFilled made) q.core.sets
       pub core : t.core ≡ offered.core
       pub over : (h : ℕ) → over_at h r ≡ 0
       pub other : (g operation usage : ℕ) → r ≡ reply.Over g operation usage → ⊥
@@ -79,9 +79,9 @@ module _ (x : Shared) (table : IsTableOf x) (tables : AreTables x) (by : Serial)
           does = h.does;
           tail = h.tail;
           ops = h.ops;
-          may = subst (λ (l : List Made). Each (λ (y : Made). MayMake x.script step_is y y.entry) l) (sym (h.made_are ∙ none)) (Each-none (λ (y : Made). MayMake x.script step_is y y.entry));
+          may = subst (λ (l : List Made). Each (λ (y : Made). MayMakeEntry x.script step_is y y.entry) l) (sym (h.made_are ∙ none)) (Each-none (λ (y : Made). MayMakeEntry x.script step_is y y.entry));
           row = λ family stands. row family;
-          sets = subst (λ (l : List Made). Each (IsFilled l) q.core.sets) (sym h.made_are) h.filled;
+          sets = subst (λ (l : List Made). Each (IsListFilled l) q.core.sets) (sym h.made_are) h.filled;
           cited = λ at e. absurd (none-some at (sym uncited ∙ e));
           numbers = ap (map number_made) h.attempts;
           found = found_is;
@@ -104,7 +104,7 @@ module _ (x : Shared) (table : IsTableOf x) (tables : AreTables x) (by : Serial)
       abbrev pub noted : Made
       noted = entry x decl f call charged_at held offered holds calls tables node on group inside c so e acts
 
-      module _ (h : IsOffered (noted ∷ [])) (may : IsTold step_is noted by → MayMake x.script step_is noted (e acts.old)) (en : Entry) (is : e acts.old ≡ en) (row : (family : Family) → Cites family c f.id node en → IsReply (parents_of x.script) family by Command_of (Some f.id) r)
+      module _ (h : IsOffered (noted ∷ [])) (may : IsTenantEntry step_is noted by → MayMakeEntry x.script step_is noted (e acts.old)) (en : Entry) (is : e acts.old ≡ en) (row : (family : Family) → Cites family c f.id node en → IsReply (parents_of x.script) family by Command_of (Some f.id) r)
           (cites : cited_by r ≡ Some c) (filled : r ≡ reply.Added c → 0 < c.place.group → acts.old.items ≡ [] → (0 < times (place_number c.place) (first_work.core.sets ++ q.core.sets)) × IsSetLast step_is (place_number c.place)) where
         same_place : place_at (place_number c.place) ≡ c.place
         same_place = place_same x decl f call charged_at held offered holds calls tables node on group inside c so e acts
@@ -112,7 +112,7 @@ module _ (x : Shared) (table : IsTableOf x) (tables : AreTables x) (by : Serial)
         among : IsAmong noted (first_work.core.made ++ q.core.made)
         among = among_right first_work.core.made q.core.made noted (subst (IsAmong noted) (sym h.made_are) (0, refl))
 
-        cited_is : IsCited x.script step_is c
+        cited_is : IsMadeAsCited x.script step_is c
         cited_is = record {
           made = noted;
           among = among;
@@ -132,10 +132,10 @@ module _ (x : Shared) (table : IsTableOf x) (tables : AreTables x) (by : Serial)
           does = h.does;
           tail = h.tail;
           ops = h.ops;
-          may = subst (λ (l : List Made). Each (λ (y : Made). MayMake x.script step_is y y.entry) l) (sym h.made_are) (each_one (λ (y : Made). MayMake x.script step_is y y.entry) noted (may (is_told step_is noted c same_place (sym acts.number) cites)));
+          may = subst (λ (l : List Made). Each (λ (y : Made). MayMakeEntry x.script step_is y y.entry) l) (sym h.made_are) (each_one (λ (y : Made). MayMakeEntry x.script step_is y y.entry) noted (may (is_told step_is noted c same_place (sym acts.number) cites)));
           row = λ family stands. row family (cites_is x decl f call charged_at held offered holds calls tables node on group inside c so e acts family en (stands among.0 noted among.1) is);
-          sets = subst (λ (l : List Made). Each (IsFilled l) q.core.sets) (sym h.made_are) h.filled;
-          cited = λ d eq. subst (IsCited x.script step_is) (same_Some c d (sym cites ∙ eq)) cited_is;
+          sets = subst (λ (l : List Made). Each (IsListFilled l) q.core.sets) (sym h.made_are) h.filled;
+          cited = λ d eq. subst (IsMadeAsCited x.script step_is) (same_Some c d (sym cites ∙ eq)) cited_is;
           numbers = ap (map number_made) h.attempts;
           found = found_is (noted ∷ []) _ acts.gains h;
           over = h.over;

@@ -1,5 +1,5 @@
 -- An object that was offered to a list of the cache that was found, after its charge.
-use Rattle.shr_assemble.proofs.Common.{◌≡◌, ℕ, ◌<◌, ◌≤◌, ◌⊎◌, inl, inr, ⊎_elim, List, [], length, take, sym, ap, subst, ◌∙◌, arith, Some, slice_get, append-nil, Entry, PoolEntry, Object, At, Place, Found, Family, step, place_number, is_live, decl_of, from_of, Each, View, Adds, place_at, Made, Known, shape_of, with_put, Listed, Acts, TenantIsWorn, Gains, bits_for, made_of, Holds, Calls, WorkerState, Work, then_work, Does, Shared, does_then, adds_put, parents_of, IsThere, Cites, StandsIn, IsFoundBy, Step, IsAmong, IsListWorn, IsOneMore, AreBoth, each_before}
+use Rattle.shr_assemble.proofs.Common.{◌≡◌, ℕ, ◌<◌, ◌≤◌, ◌⊎◌, inl, inr, ⊎_elim, List, [], length, take, sym, ap, subst, ◌∙◌, arith, Some, slice_get, append-nil, Entry, PoolEntry, Object, At, Place, Found, Family, step, place_number, is_live, decl_of, from_of, Each, View, Adds, place_at, Made, Known, shape_of, with_put, Listed, Acts, TenantIsWorn, Gains, bits_for, entry_made, HoldsCache, Calls, WorkerState, Work, then_work, Does, Shared, does_then, adds_put, parents_of, IsThere, Cites, StandsIn, IsFoundBy, Step, IsAmong, IsListWorn, IsOneMore, AreBoth, each_before}
 use Rattle.shr_core.specs.Parts as core
 use Rattle.shr_assemble.proofs.Listed.{contains_among}
 use Rattle.shr_assemble.proofs.QuietSteps.{AreTables, gaining, does_gain, tried_by, dated_by, finding, calling, take_whole}
@@ -9,7 +9,7 @@ use Rattle.shr_assemble.proofs.QuietTenant.{there_is, back_is}
 abbrev pub offering : ℕ → Found → List core.Loaded → List Made → List ℕ → Work
 offering decl f words made bits = then_work (gaining (finding decl f words)) (gaining (calling made bits))
 
-module _ (x : Shared) (decl : ℕ) (f : Found) (call : View → View → Type 0) (s held t : WorkerState) (holds : Holds x decl f s held) (calls : Calls call held t) where
+module _ (x : Shared) (decl : ℕ) (f : Found) (call : View → View → Type 0) (s held t : WorkerState) (holds : HoldsCache x decl f s held) (calls : Calls call held t) where
   module _ (made : List Made) (bits : List ℕ) (g : Gains held.core calls.called made bits) where
     pool : List PoolEntry
     pool = held.core.turns.known
@@ -56,7 +56,7 @@ module _ (x : Shared) (decl : ℕ) (f : Found) (call : View → View → Type 0)
     -- it acted on the first open list, with one entry
     module _ (c : At) (so : List Object → Type 0) (e : Listed → Entry) (a : Acts (shape_of x.core) held.core calls.called f.id node birth c so e) where
       abbrev pub entry : Made
-      entry = made_of (place_number c.place) a.old (e a.old)
+      entry = entry_made (place_number c.place) a.old (e a.old)
 
       abbrev pub bits : List ℕ
       bits = bits_for (place_number c.place) a.old.items (step [] a.old.items (e a.old))
@@ -75,7 +75,7 @@ module _ (x : Shared) (decl : ℕ) (f : Found) (call : View → View → Type 0)
       pub knew_is : Each (λ (k : Known). k.place ≡ place_number c.place → length k.entries ≤ length a.old.entries) s.core.traces.known
       knew_is = each_before (λ (k : Known). k.place ≡ place_number c.place → length k.entries ≤ length a.old.entries) s.core.traces.known held.core.traces.known holds.answers.gains.adds.known a.was.later.known
 
-      pub cites_is : (family : Family) (en : Entry) → StandsIn (parents_of x.script) family (made_of (place_number c.place) a.old (e a.old)) → e a.old ≡ en → Cites family c f.id node en
+      pub cites_is : (family : Family) (en : Entry) → StandsIn (parents_of x.script) family (entry_made (place_number c.place) a.old (e a.old)) → e a.old ≡ en → Cites family c f.id node en
       cites_is family en stands same = record {
         id_is = a.first.same_id;
         node_is = a.first.same_node;

@@ -1,5 +1,5 @@
 -- A put's parts: what its tries and walks made first, and then what its cache's list made.
-use Rattle.shr_assemble.proofs.Common.{◌≡◌, ℕ, ◌+◌, ◌<◌, ◌⊎◌, inl, cond, List, [], ◌++◌, length, map, refl, sym, ap, subst, ◌∙◌, arith, true, false, slice_get, Some, flat_map, sum_by, All, AllPairs, append-nil, map-append, All-nil, filter_map-append, Entry, Add, Look, Drop, Pin, Scan, MovedIn, Closed, Drained, At, Place, Serial, Answered, Found, Command, Script, Carry, PassRecord, WalkRecord, decl_named, asks_online, jobs_of, sum_at, Family, is_below, is_place, job_of, passes_at, is_cut, takes_of, gives_of, takes_both, gives_both, Each, Begins, Each-append, Made, Mapped, AreFresh, WorkerState, Work, then_work, MayBeOffline, pool_seen, pool_made, parents_of, cited_by, id_found, IsReply, IsBefore, scan_made, scans_made, IsCausedBy, DidCharges, DidCarry, StandsIn, MayMake, IsFilled, IsCited, IsFoundBy, number_made, numbers_tried, number_found, KnowsOnline, MeetsGroups, Step, Brings, DidRoundsOf, counted_in, mapped_in, cleared_in, set_in, word_of, steps_walked, told_step, IsWant, slice_left}
+use Rattle.shr_assemble.proofs.Common.{◌≡◌, ℕ, ◌+◌, ◌<◌, ◌⊎◌, inl, cond, List, [], ◌++◌, length, map, refl, sym, ap, subst, ◌∙◌, arith, true, false, slice_get, Some, flat_map, sum_by, All, AllPairs, append-nil, map-append, All-nil, filter_map-append, Entry, Add, Look, Drop, Pin, Scan, MovedIn, Closed, Drained, At, Place, Serial, Answered, Found, Command, Script, Carry, PassRecord, WalkRecord, decl_named, asks_online, jobs_of, sum_at, Family, is_below, is_place, job_of, passes_at, is_cut, takes_of, gives_of, takes_both, gives_both, Each, Begins, Each-append, Made, Mapped, AreFresh, WorkerState, Work, then_work, MayBeOffline, pool_seen, pool_made, parents_of, cited_by, id_found, IsReply, IsBefore, scan_made, scans_made, IsCausedBy, DidCharges, DidCarry, StandsIn, MayMakeEntry, IsListFilled, IsMadeAsCited, IsFoundBy, number_made, numbers_tried, number_found, KnowsOnline, MeetsGroups, Step, BringsWork, DidRoundsOf, counted_in, mapped_in, cleared_by_walk, set_by_walk, map_word, steps_walked, told_step, IsWant, slice_left}
 use Rattle.shr_charge.specs.Views as charge
 use Rattle.shr_report.specs.WalksLawful as walks
 use Rattle.shr_assemble.proofs.Bringing.{brings_of, brings_then}
@@ -34,10 +34,10 @@ module _ (script : Script) (by : Serial) (c : Command) (a : Answered) (s m t : W
 
   -- what is asked of the parts together
   pub record IsWhole : Type 0 where
-    pub may : Each (λ (y : Made). MayMake script whole y y.entry) q.core.made
+    pub may : Each (λ (y : Made). MayMakeEntry script whole y y.entry) q.core.made
     pub reply : (family : Family) → Each (StandsIn (parents_of script) family) (v.core.made ++ q.core.made) → IsReply (parents_of script) family by c (id_found a) a.reply
-    pub sets : Each (IsFilled q.core.made) q.core.sets
-    pub cited : (at : At) → cited_by a.reply ≡ Some at → IsCited script whole at
+    pub sets : Each (IsListFilled q.core.made) q.core.sets
+    pub cited : (at : At) → cited_by a.reply ≡ Some at → IsMadeAsCited script whole at
     pub numbers : map number_made q.core.attempts ≡ number_found a.found
     pub found : (decl : ℕ) (f : Found) → decl_named c ≡ Some decl → a.found ≡ Some f → IsFoundBy whole decl f
     pub rounds : List ℕ
@@ -53,8 +53,8 @@ module _ (script : Script) (by : Serial) (c : Command) (a : Answered) (s m t : W
     pub meets : MeetsGroups script whole
     pub cause : IsCausedBy script whole a.reply
 
-  module _ (walked : Walked script by (Some c) a s m v) (does : Brings m t q) (tail : IsTail q) where
-    may_scan : (y : Made) (e : Entry) → OnlyScan by (length s.walks) v.walks y e → MayMake script whole y e
+  module _ (walked : Walked script by (Some c) a s m v) (does : BringsWork m t q) (tail : IsTail q) where
+    may_scan : (y : Made) (e : Entry) → OnlyScan by (length s.walks) v.walks y e → MayMakeEntry script whole y e
     may_scan y (Scan worker n asked policy visits freed stopped) h = inl (record { own = h.own; index = h.index; number = h.number; walk = h.walk; there = slice_left v.walks q.walks h.index h.walk h.there; passes = h.passes })
     may_scan y (Add by' birth added key value) h = absurd h
     may_scan y (Look by' birth key hit) h = absurd h
@@ -92,7 +92,7 @@ module _ (script : Script) (by : Serial) (c : Command) (a : Answered) (s m t : W
     no_pairs : (R : Carry → Carry → Type 0) → AllPairs R []
     no_pairs R = λ i j d lt within. absurd (omega (arith, within))
 
-    whole_does : Brings s t (then_work v q)
+    whole_does : BringsWork s t (then_work v q)
     whole_does = brings_then s m t v q (brings_of walked.does) does
 
     pub whole_did : IsWhole → HasDid script by c a s t
@@ -101,10 +101,10 @@ module _ (script : Script) (by : Serial) (c : Command) (a : Answered) (s m t : W
       does = whole_does;
       did = record {
         entries = record {
-          each = Each-append (λ (y : Made). MayMake script whole y y.entry) v.core.made q.core.made (λ j y e. may_scan y y.entry (walked.scans j y e)) h.may;
+          each = Each-append (λ (y : Made). MayMakeEntry script whole y y.entry) v.core.made q.core.made (λ j y e. may_scan y y.entry (walked.scans j y e)) h.may;
           reply = h.reply;
           sets = Each-append (IsSet (v.core.made ++ q.core.made) (v.walks ++ q.walks)) v.core.sets q.core.sets
-              (set_walked (v.core.made ++ q.core.made) (v.walks ++ q.walks) v.core.sets (ap (flat_map set_in) walks_same ∙ walked.sets))
+              (set_walked (v.core.made ++ q.core.made) (v.walks ++ q.walks) v.core.sets (ap (flat_map set_by_walk) walks_same ∙ walked.sets))
               (set_filled (v.core.made ++ q.core.made) (v.walks ++ q.walks) q.core.sets (filled_among q.core.made (v.core.made ++ q.core.made) (λ y has. among_right v.core.made q.core.made y has) q.core.sets h.sets));
           cited = h.cited;
         };
@@ -123,8 +123,8 @@ module _ (script : Script) (by : Serial) (c : Command) (a : Answered) (s m t : W
             cut_told = λ e. h.cut_told (ap any_cut (sym walks_same) ∙ e);
           };
           seen = ap (flat_map counted_in) walks_same ∙ (walked.seen ∙ sym (behind v.core.seen q.core.seen tail.seen));
-          maps = ap (flat_map mapped_in) walks_same ∙ (walked.maps ∙ ap (map word_of) (sym (behind v.core.maps q.core.maps tail.maps)));
-          cleared = ap (flat_map cleared_in) walks_same ∙ (walked.cleared ∙ sym (behind v.core.cleared q.core.cleared tail.cleared));
+          maps = ap (flat_map mapped_in) walks_same ∙ (walked.maps ∙ ap (map map_word) (sym (behind v.core.maps q.core.maps tail.maps)));
+          cleared = ap (flat_map cleared_by_walk) walks_same ∙ (walked.cleared ∙ sym (behind v.core.cleared q.core.cleared tail.cleared));
           fresh = subst (AreFresh s.core) (sym (behind v.core.seen q.core.seen tail.seen)) walked.fresh;
           set = subst (λ (l : List Mapped). Each (λ (k : Mapped). Begins s.core.marks.sets k.set) l) (sym (behind v.core.maps q.core.maps tail.maps)) walked.set;
         };

@@ -1,8 +1,8 @@
 -- The tries of a put's charge and the walks between them: their jobs and their operations.
-use Rattle.shr_assemble.proofs.Common.{◌≡◌, ℕ, ◌+◌, ◌-◌, ◌<◌, List, [], ◌∷◌, ◌++◌, length, map, refl, sym, ap, subst, ◌∙◌, arith, append_assoc, false, pos, Some, AllByRecursion, map-append, UseStep, Serial, Answered, Command, round_of, IsAtOrAbove, job_of, ChargeAnswer, ChargeOps, IsDown, parents_of, WorkerState, Work, then_work, Shared, Visit, Round, job_in, HadRoom, AreRounds, TriesInRounds, IsTried, Refusal, charge_work, over_of, kept_of, each_weaker}
+use Rattle.shr_assemble.proofs.Common.{◌≡◌, ℕ, ◌+◌, ◌-◌, ◌<◌, List, [], ◌∷◌, ◌++◌, length, map, refl, sym, ap, subst, ◌∙◌, arith, append_assoc, false, pos, Some, AllByRecursion, map-append, UseStep, Serial, Answered, Command, round_of, IsAtOrAbove, job_of, ChargeAnswer, ChargeOps, IsDown, parents_of, WorkerState, Work, then_work, Shared, Visit, Round, job_in, VisitHadMemory, AreRounds, TriesInRounds, IsChargeTried, Refusal, charge_work, over_of, kept_of, each_weaker}
 use Rattle.shr_model.specs.Commands.{rounds_from}
 use Rattle.shr_charge.specs.declared.answers.ChargeAnswer.TheVariants as charge
-use Rattle.shr_charge.specs.Charging.{IsOver}
+use Rattle.shr_charge.specs.Charging.{IsOverLimit}
 use Rattle.shr_assemble.proofs.PutTries.{AreOps, ops_then, ops_try, ops_walks}
 use Rattle.shr_assemble.proofs.RoundingWalks.{RoundsSeen, RefusedAt, refused_at, round_there, due_is, groups_in, had_answers, tried_walked}
 use Rattle.shr_assemble.proofs.WalkingCharges.{GoesDown, rec_of}
@@ -16,7 +16,7 @@ pub record EndsOver (x : Shared) (by : Serial) (r : Refusal) (ops : List UseStep
   pub over : UseStep
   pub back : List UseStep
   pub whole : ops ≡ front ++ over ∷ back
-  pub is : IsOver x.charge.shape by over
+  pub is : IsOverLimit x.charge.shape by over
   pub here : over.group ≡ r.group
   pub number : over.operation ≡ r.operation
   pub found : over.found ≡ pos r.usage
@@ -67,7 +67,7 @@ module _ (x : Shared) (table : IsTableOf x) (by : Serial) (c : Command) (a : Ans
     pub over : OverAtLast x by last work.ops
 
   -- a try, the walks that follow it, and what came later
-  pub tried_rounds : (priority : ℕ) (first : ChargeAnswer) (rounds : List Round) (last : ChargeAnswer) (r s t : WorkerState) → IsTried x by group first r s → (h : AreRounds x by group priority first rounds last s t)
+  pub tried_rounds : (priority : ℕ) (first : ChargeAnswer) (rounds : List Round) (last : ChargeAnswer) (r s t : WorkerState) → IsChargeTried x by group first r s → (h : AreRounds x by group priority first rounds last s t)
       → RoundsSeen x table by c a group inside priority first rounds last s t h → Tried priority rounds last r t
   unfolding rounds_from
   tried_rounds priority first [] last r s t try h seen = subst (λ (u : WorkerState). Tried priority [] last r u) h.1 (subst (λ (b : ChargeAnswer). Tried priority [] b r s) h.0 record {
@@ -86,7 +86,7 @@ module _ (x : Shared) (table : IsTableOf x) (by : Serial) (c : Command) (a : Ans
       let due : map job_in k.walks ≡ round_of (parents_of x.script) x.script.nodes k.priority k.over.group = one.walks.all ∙ due_is x table k.priority k.over.group in
       let there = subst (AllByRecursion (IsThereJob x)) (sym due) (round_there x table k.priority k.over.group at.1) in
       let all : GaveAll x by (Some c) a (map job_in k.walks) (map (λ (v : Visit). v.answer) k.walks) s k.walked = gave_all x table by (Some c) a (map job_in k.walks) (map (λ (v : Visit). v.answer) k.walks) s k.walked (visited_one x by k.walks s k.walked one.walks.visited) seen.0 there in
-      let had = all_had (map job_in k.walks) (map (λ (v : Visit). v.answer) k.walks) all.work.walks all.noted (had_answers x table by c a group inside k.walks (rec_of HadRoom k.walks one.walks.had)) in
+      let had = all_had (map job_in k.walks) (map (λ (v : Visit). v.answer) k.walks) all.work.walks all.noted (had_answers x table by c a group inside k.walks (rec_of VisitHadMemory k.walks one.walks.had)) in
       let between : AreOps x by group 0 [] [] all.work = ops_walks x table by group inside a s k.walked all.work all.work.walks all.freed all.born all.charges all.uncharges all.walked.scans in
       let later = tried_rounds (priority - 1) k.answer ks last k.walked k.tried t one.try more seen.1 in
       let trying = tried_walked x x.script by c a group first r s try in record {

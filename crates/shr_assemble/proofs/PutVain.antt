@@ -1,8 +1,7 @@
 -- A put that was not added after its charge, which was taken back.
-use Rattle.shr_assemble.proofs.Common.{◌≡◌, ℕ, ◌+◌, ◌<◌, ◌≤◌, inl, inr, Bool, true, false, not, ◌==◌, List, [], ◌∷◌, ◌++◌, length, length-append, map, refl, sym, ap, subst, ◌∙◌, arith, Some, None, sum_by, if◌then◌else◌, append-nil, append_cancel_left, none-some, Entry, Add, Object, At, Serial, Answered, Found, Reply, Spent, Command, fresh, holds, rounds_from, is_live_decl, job_of, Each, Each-none, View, Gained, nothing, Adds, Made, Loaded, shape_of, add_entry, Listed, AddGives, parents_of, WorkerState, Work, then_work, Does, Shared, added_below, freed_below, MayMake, IsFilled, Step}
+use Rattle.shr_assemble.proofs.Common.{◌≡◌, ℕ, ◌+◌, ◌<◌, ◌≤◌, inl, inr, Bool, true, false, not, ◌==◌, List, [], ◌∷◌, ◌++◌, length, length-append, map, refl, sym, ap, subst, ◌∙◌, arith, Some, None, sum_by, if◌then◌else◌, append-nil, append_cancel_left, none-some, Entry, Add, Object, At, Serial, Answered, Found, Reply, Spent, Command, fresh, holds, rounds_from, is_live_decl, job_of, Each, Each-none, View, Gained, nothing, Adds, Made, Loaded, shape_of, add_entry, Listed, AddGives, parents_of, WorkerState, Work, then_work, Does, Shared, added_below, made_freed_below, MayMakeEntry, IsListFilled, Step, PutsInVain}
 use Rattle.shr_base.specs.declared.replies.Reply.TheVariants as reply
 use Rattle.shr_base.specs.declared.replies.Spent.TheVariants as spent
-use Rattle.shr_cache.specs.Puts.{PutsInVain}
 use Rattle.shr_node.specs.declared.answers.NodeAdd.{NodeAdd}
 use Rattle.shr_node.specs.declared.answers.NodeAdd.TheVariants as add
 use Rattle.shr_reclaim.specs.declared.answers.Admission.TheVariants as admission
@@ -55,9 +54,9 @@ module _ (x : Shared) (table : IsTableOf x) (tables : AreTables x) (by : Serial)
           does = vain_does x table tables by group node decl key value on inside a s h.puts.charged h.refused t h.puts.asks seen q does refl refl refl (λ n. refl) h.back;
           tail = tail_back q h.back.ops (record { walks = refl; seen = refl; maps = refl; cleared = refl; turns = refl; tree = refl; takes = refl; gives = refl; carries = refl; scans = λ place worker n. refl });
           ops = vain_ops x table tables by group node decl key value on inside a s h.puts.charged h.refused t h.puts.asks seen q does refl refl refl (λ n. refl) h.back;
-          may = Each-none (λ (y : Made). MayMake x.script z y y.entry);
+          may = Each-none (λ (y : Made). MayMakeEntry x.script z y y.entry);
           row = λ family stands. tt;
-          sets = Each-none (IsFilled []);
+          sets = Each-none (IsListFilled []);
           cited = λ at e. absurd (none-some at e);
           numbers = refl;
           found = λ f e. absurd (none-some f e);
@@ -101,9 +100,9 @@ module _ (x : Shared) (table : IsTableOf x) (tables : AreTables x) (by : Serial)
           does = vain_does x table tables by group node decl key value on inside a s h.puts.charged h.refused t h.puts.asks seen q does refl refl refl (λ n. refl) h.back;
           tail = tail_back q h.back.ops (record { walks = refl; seen = refl; maps = refl; cleared = refl; turns = refl; tree = refl; takes = refl; gives = refl; carries = refl; scans = λ place worker n. refl });
           ops = vain_ops x table tables by group node decl key value on inside a s h.puts.charged h.refused t h.puts.asks seen q does refl refl refl (λ n. refl) h.back;
-          may = Each-none (λ (y : Made). MayMake x.script z y y.entry);
+          may = Each-none (λ (y : Made). MayMakeEntry x.script z y y.entry);
           row = λ family stands. tt;
-          sets = Each-none (IsFilled []);
+          sets = Each-none (IsListFilled []);
           cited = λ at e. absurd (none-some at e);
           numbers = refl;
           found = λ f e. absurd (none-some f e);
@@ -153,7 +152,7 @@ module _ (x : Shared) (table : IsTableOf x) (tables : AreTables x) (by : Serial)
         let set : List ℕ = bits x decl f call h.puts.charged o.held h.refused o.holds o.calls tables node on group inside c so adding acts in
         let q : Work = offering decl f o.holds.answers.gains.words (m ∷ []) set in
         let does : Does h.puts.charged h.refused q = offering_does x decl f call h.puts.charged o.held h.refused o.holds o.calls (m ∷ []) set acts.gains in
-        let freed : (n : ℕ) → sum_by (freed_below (parents_of x.script) n) (m ∷ []) ≡ 0 = λ n. refl in
+        let freed : (n : ℕ) → sum_by (made_freed_below (parents_of x.script) n) (m ∷ []) ≡ 0 = λ n. refl in
         let is : adding acts.old ≡ Add by group false key value = ap (λ b. Add by group (not b) key value) acts.before in
         let d = adm x table by group node decl key value inside a admission.Charged s h.puts.charged t h.puts.asks seen in
         noted_did x table tables by group node decl key value on inside f r s h.puts.charged h.refused t h.puts.asks seen call o.held o.holds o.calls (then_work q (uncharging h.back.ops)) [] c so adding acts (record {
@@ -162,7 +161,7 @@ module _ (x : Shared) (table : IsTableOf x) (tables : AreTables x) (by : Serial)
           ops = vain_ops x table tables by group node decl key value on inside a s h.puts.charged h.refused t h.puts.asks seen q does refl refl refl freed h.back;
           attempts = refl;
           made_are = refl;
-          filled = subst (Each (IsFilled (m ∷ []))) (sym (append-nil set)) (filled_by m);
+          filled = subst (Each (IsListFilled (m ∷ []))) (sym (append-nil set)) (filled_by m);
           core = ap (λ (u : WorkerState). u.core) h.back.rest;
           over = λ n. refl;
           other = λ n operation usage e. cc;
@@ -198,7 +197,7 @@ module _ (x : Shared) (table : IsTableOf x) (tables : AreTables x) (by : Serial)
           ops = vain_ops x table tables by group node decl key value on inside a s h.puts.charged h.refused t h.puts.asks seen q does refl refl refl (λ n. refl) h.back;
           attempts = refl;
           made_are = refl;
-          filled = Each-none (IsFilled []);
+          filled = Each-none (IsListFilled []);
           core = ap (λ (u : WorkerState). u.core) h.back.rest;
           over = λ n. refl;
           other = λ n operation usage e. cc;
@@ -230,7 +229,7 @@ module _ (x : Shared) (table : IsTableOf x) (tables : AreTables x) (by : Serial)
           ops = vain_ops x table tables by group node decl key value on inside a s h.puts.charged h.refused t h.puts.asks seen q does refl refl refl (λ n. refl) h.back;
           attempts = refl;
           made_are = refl;
-          filled = Each-none (IsFilled []);
+          filled = Each-none (IsListFilled []);
           core = ap (λ (u : WorkerState). u.core) h.back.rest;
           over = λ n. refl;
           other = λ n operation usage e. cc;

@@ -1,6 +1,6 @@
 -- The operations of a command in one group: each up is followed by a down, or is the last one and found room.
 use Rattle.shr_assemble.proofs.Common.{◌≡◌, ℕ, zero, suc, ◌+◌, ◌<◌, ◌≤◌, ◌&&◌, Bool, true, false, not, cond, ◌==◌, List, [], ◌∷◌, ◌++◌, length, drop, map, refl, sym, ap, subst, ◌∙◌, arith, eqb-true, slice_get, Option, Some, count_by, MatchOption, find, AllByRecursion, same_Some, none-some, slice_get_within, slice_get-get_or, dite, ℕ_discrete, UseStep, Serial, ups, downs, is_by, is_refused, IsBelow, IsDownNext, AreTakenBack, times_of, count_first, IsDownBetween, ops_at}
-use Rattle.shr_charge.specs.Charging.{group_of}
+use Rattle.shr_charge.specs.Charging.{use_group}
 use Rattle.shr_charge.specs.Uses.{ups_at, downs_at}
 use Rattle.shr_reclaim.proofs.Settling.{Closes}
 use Rattle.shr_assemble.proofs.WalkingCharges.{GoesDown}
@@ -125,11 +125,11 @@ at_all P g (o ∷ ops) h = kept (o.group == g) refl (at_all P g ops h.1)
     kept true e more = ((h.0, eqb-true o.group g e), more)
     kept false e more = more
 
-pub at_long : (g : ℕ) (ops : List UseStep) → length (ops_at g ops) ≡ times_of g (map group_of ops)
+pub at_long : (g : ℕ) (ops : List UseStep) → length (ops_at g ops) ≡ times_of g (map use_group ops)
 at_long g [] = refl
-at_long g (o ∷ ops) = kept (o.group == g) (at_long g ops) ∙ sym (count_first (λ (j : ℕ). j == g) o.group (map group_of ops))
+at_long g (o ∷ ops) = kept (o.group == g) (at_long g ops) ∙ sym (count_first (λ (j : ℕ). j == g) o.group (map use_group ops))
   where
-    kept : (t : Bool) → length (ops_at g ops) ≡ times_of g (map group_of ops) → length (cond t (o ∷ ops_at g ops) (ops_at g ops)) ≡ cond {A = ℕ} t 1 0 + times_of g (map group_of ops)
+    kept : (t : Bool) → length (ops_at g ops) ≡ times_of g (map use_group ops) → length (cond t (o ∷ ops_at g ops) (ops_at g ops)) ≡ cond {A = ℕ} t 1 0 + times_of g (map use_group ops)
     kept true e = omega (arith, e)
     kept false e = omega (arith, e)
 

@@ -1,13 +1,9 @@
 -- The parts of what a command did that are empty: of one that makes no walk, no move, no charge, no entry of a journal.
-use Rattle.shr_assemble.proofs.Common.{◌≡◌, ℕ, ◌<◌, ◌≤◌, pos, ◌-ℤ◌, Bool, true, false, cond, List, [], ◌∷◌, ◌++◌, inl, length, refl, sym, ap, subst, ◌∙◌, arith, ◌⊎◌, slice_get, Option, Some, None, option_and_then, map, flat_map, sum_by, All, AllPairs, AllByRecursion, list_any, IsSomeAnd, All-nil, none-some, same_Some, UseStep, Serial, Answered, Reply, Command, Put, Shrink, Balance, Script, Carry, WalkRecord, asks_online, jobs_of, sum_at, ups, usage_after, given_at, taken_at, Job, job_of, is_cut, Moves, takes_of, gives_of, Each, Begins, Each-none, Made, Mapped, Turn, WorkerState, Work, AreFresh, parents_of, charged, MayBeOffline, made_shown, pool_seen, pool_made, group_met, steps_walked, IsToldBy, IsBefore, AreNotFalling, Step, Brings, IsPut, DidRoundsOf, AreWalksFor, counted_in, mapped_in, cleared_in, word_of, DidCharges, ops_at, added_below, freed_below, DidMoves, DidCarry, told_step, DidPool, IsTurnOf, IsEntryOf, KnowsOnline, MeetsGroups, Did}
+use Rattle.shr_assemble.proofs.Common.{◌≡◌, ℕ, ◌<◌, ◌≤◌, pos, ◌-ℤ◌, Bool, true, false, cond, List, [], ◌∷◌, ◌++◌, inl, length, refl, sym, ap, subst, ◌∙◌, arith, ◌⊎◌, slice_get, Option, Some, None, option_and_then, map, flat_map, sum_by, All, AllPairs, AllByRecursion, list_any, IsSomeAnd, All-nil, none-some, same_Some, UseStep, Serial, Answered, Reply, Command, Put, Shrink, Balance, Script, Carry, WalkRecord, asks_online, jobs_of, sum_at, ups, usage_after, given_at, taken_at, Job, job_of, is_cut, Moves, takes_of, gives_of, Each, Begins, Each-none, Made, Mapped, Turn, WorkerState, Work, AreFresh, parents_of, charged, MayBeOffline, made_shown, pool_seen, pool_made, group_met, steps_walked, IsToldBy, IsBefore, AreNotFalling, Step, BringsWork, IsPut, DidRoundsOf, AreWalksFor, counted_in, mapped_in, cleared_by_walk, map_word, DidCharges, ops_at, added_below, made_freed_below, DidMoves, DidCarry, told_step, DidPool, IsTurnOf, IsEntryOf, KnowsOnline, MeetsGroups, Did, IsFreshAt, DidWalks, DidTree, IsUnmadeBy}
 use Rattle.shr_base.specs.declared.replies.Reply.TheVariants as reply
 use Rattle.shr_deferred.specs.Moves as moves
 use Rattle.shr_charge.specs.Views as charge
-use Rattle.shr_walk.specs.Fresh.{IsFreshAt}
 use Rattle.shr_report.specs.WalksLawful.{MayMake}
-use Rattle.shr_assemble.specs.Walks.{DidWalks}
-use Rattle.shr_assemble.specs.Offlining.{DidTree}
-use Rattle.shr_assemble.specs.Causes.{IsUnmadeBy}
 use Rattle.shr_assemble.proofs.FreshLaw.{begins_length}
 
 -- a step by its parts
@@ -17,7 +13,7 @@ step_of by c a before after work = record { by = by; command = Some c; answered 
 -- what a command added between two states, and that it did so
 pub record HasDid (s : Script) (by : Serial) (c : Command) (a : Answered) (before after : WorkerState) : Type 0 where
   pub work : Work
-  pub does : Brings before after work
+  pub does : BringsWork before after work
   pub did : Did s (step_of by c a before after work)
 
 -- ---- no walk
@@ -86,8 +82,8 @@ calm_walks s x calm none = record {
   each = λ i w at. absurd (no_element x.work.walks i w none.walks at);
   asked = calm_asked s x x.command calm none.walks;
   seen = ap (λ (ws : List WalkRecord). flat_map counted_in ws) none.walks ∙ sym none.seen;
-  maps = ap (λ (ws : List WalkRecord). flat_map mapped_in ws) none.walks ∙ sym (ap (λ (ms : List Mapped). map word_of ms) none.maps);
-  cleared = ap (λ (ws : List WalkRecord). flat_map cleared_in ws) none.walks ∙ sym none.cleared;
+  maps = ap (λ (ws : List WalkRecord). flat_map mapped_in ws) none.walks ∙ sym (ap (λ (ms : List Mapped). map map_word ms) none.maps);
+  cleared = ap (λ (ws : List WalkRecord). flat_map cleared_by_walk ws) none.walks ∙ sym none.cleared;
   fresh = subst (AreFresh x.before.core) (sym none.seen) (record { each = Each-none (IsFreshAt x.before.core); rising = tt });
   set = each_of_none (λ (m : Mapped). Begins x.before.core.marks.sets m.set) x.work.core.maps none.maps;
 }
@@ -124,7 +120,7 @@ pub record ChargesNot (s : Script) (x : Step) : Type 0 where
   pub ops : x.work.ops ≡ []
   pub charges : x.work.charges ≡ 0
   pub uncharges : x.work.uncharges ≡ 0
-  pub freed : (group : ℕ) → sum_by (freed_below (parents_of s) group) x.work.core.made ≡ 0
+  pub freed : (group : ℕ) → sum_by (made_freed_below (parents_of s) group) x.work.core.made ≡ 0
   pub added : (group : ℕ) → sum_by (λ (m : Made). added_below (parents_of s) group m.entry) x.work.core.made ≡ 0
   pub charged : (group : ℕ) → charged (parents_of s) group x.command (Some x.answered.reply) ≡ 0
 
@@ -193,7 +189,7 @@ some_met false group g e = absurd (none-some g e)
 
 pub still_tree : (s : Script) (x : Step) → x.work.tree ≡ [] → ((group : ℕ) → option_and_then asks_online x.command ≡ Some group → 0 < group → MayBeOffline x.answered.reply ⊎ KnowsOnline x.before.tree group) → MeetsGroups s x → DidTree s x
 still_tree s x none online meets = record {
-  each = all_of_none (λ (m : charge.Made). (length x.before.tree.known ≤ m.number) × IsEntryOf s x m.number m.entry) x.work.tree none;
+  each = all_of_none (λ (m : charge.TreeMade). (length x.before.tree.known ≤ m.number) × IsEntryOf s x m.number m.entry) x.work.tree none;
   online = online;
   meets = meets;
 }

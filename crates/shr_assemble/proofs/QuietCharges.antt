@@ -1,6 +1,6 @@
 -- What a command charged that made uncharges alone, one of each of some objects.
-use Rattle.shr_assemble.proofs.Common.{◌≡◌, ℕ, zero, suc, ◌+◌, ◌<◌, ◌≤◌, pos, ◌-ℤ◌, Bool, true, false, not, cond, ◌==◌, ◌||◌, List, [], ◌∷◌, ◌++◌, length, length-append, refl, sym, ap, subst, ◌∙◌, arith, ne_eqb, Some, None, slice_index_or, map, sum_by, nat_le, AllByRecursion, list_any, length-map, All-from_recursion, dite, ℕ_discrete, UseStep, Object, Serial, Script, ups, downs, is_at_or_above, born_below, IsTree, path_of, parent_of, path_of-root, path_of-below, by_parents, total, Made, AreDowns, IsDown, Spent, nat_tests, Begins, nothing, Adds, spent_by, Uses, Shared, WorkerState, Work, no_work, Does, does_none, Uncharges, paths_of, parents_of, charged, Step, DidCharges, ops_at, added_below, freed_below, each_append, by_slices, count_total}
-use Rattle.shr_charge.specs.Charging.{group_of}
+use Rattle.shr_assemble.proofs.Common.{◌≡◌, ℕ, zero, suc, ◌+◌, ◌<◌, ◌≤◌, pos, ◌-ℤ◌, Bool, true, false, not, cond, ◌==◌, ◌||◌, List, [], ◌∷◌, ◌++◌, length, length-append, refl, sym, ap, subst, ◌∙◌, arith, ne_eqb, Some, None, slice_index_or, map, sum_by, nat_le, AllByRecursion, list_any, length-map, All-from_recursion, dite, ℕ_discrete, UseStep, Object, Serial, Script, ups, downs, is_at_or_above, born_below, IsTree, path_of, parent_of, path_of-root, path_of-below, by_parents, total, Made, AreDowns, IsDown, Spent, nat_tests, Begins, nothing, Adds, spent_by, Uses, Shared, WorkerState, Work, no_work, Does, does_none, Uncharges, paths_of, parents_of, charged, Step, DidCharges, ops_at, added_below, made_freed_below, each_append, by_slices, count_total}
+use Rattle.shr_charge.specs.Charging.{use_group}
 use Rattle.shr_base.specs.declared.replies.Spent.TheVariants as spent
 use Rattle.shr_charge.specs.Seat.{counted}
 use Rattle.shr_assemble.proofs.Gathering.{total_flat}
@@ -100,14 +100,14 @@ module _ (by : Serial) where
       all [] h = refl
       all (o ∷ os) h = omega (arith, all os h.1, ap (λ b. cond {A = ℕ} (not b) 1 0) h.0.down)
 
-  downs_are : (g : ℕ) (ops : List UseStep) → AllByRecursion (IsDown by) ops → downs (ops_at g ops) ≡ total (one_at g) (map group_of ops)
+  downs_are : (g : ℕ) (ops : List UseStep) → AllByRecursion (IsDown by) ops → downs (ops_at g ops) ≡ total (one_at g) (map use_group ops)
   downs_are g ops h = count_total (λ (o : UseStep). not o.up) (ops_at g ops) ∙ each ops h
     where
-      each : (os : List UseStep) → AllByRecursion (IsDown by) os → total is_down (ops_at g os) ≡ total (one_at g) (map group_of os)
+      each : (os : List UseStep) → AllByRecursion (IsDown by) os → total is_down (ops_at g os) ≡ total (one_at g) (map use_group os)
       each [] h = refl
       each (o ∷ os) h = kept (o.group == g) (each os h.1)
         where
-          kept : (b : Bool) → total is_down (ops_at g os) ≡ total (one_at g) (map group_of os) → total is_down (cond b (o ∷ ops_at g os) (ops_at g os)) ≡ cond b 1 0 + total (one_at g) (map group_of os)
+          kept : (b : Bool) → total is_down (ops_at g os) ≡ total (one_at g) (map use_group os) → total is_down (cond b (o ∷ ops_at g os) (ops_at g os)) ≡ cond b 1 0 + total (one_at g) (map use_group os)
           kept true e = omega (arith, e, ap (λ b. cond {A = ℕ} (not b) 1 0) h.0.down)
           kept false e = omega (arith, e)
 
@@ -125,7 +125,7 @@ pub record Uncharged (s : Script) (z : Step) (objects : List Object) : Type 0 wh
   pub downs : AreDowns z.by (paths_of (parents_of s) objects) z.work.ops
   pub charges : z.work.charges ≡ 0
   pub uncharges : z.work.uncharges ≡ length objects
-  pub freed : (g : ℕ) → sum_by (freed_below (parents_of s) g) z.work.core.made ≡ born_below (parents_of s) g objects
+  pub freed : (g : ℕ) → sum_by (made_freed_below (parents_of s) g) z.work.core.made ≡ born_below (parents_of s) g objects
   pub added : (g : ℕ) → sum_by (λ (m : Made). added_below (parents_of s) g m.entry) z.work.core.made ≡ 0
   pub charged : (g : ℕ) → charged (parents_of s) g z.command (Some z.answered.reply) ≡ 0
 
@@ -139,11 +139,11 @@ uncharged_charges s z objects tree h = record {
   fourteen = λ group. let none = no_ups z.by (ops_at group z.work.ops) (at_down z.by group z.work.ops each) in omega (arith, none);
   between = λ group n m lt first second. not_both true refl (all_slice_by (λ b. b ≡ false) (map (λ (o : UseStep). o.up) (ops_at group z.work.ops)) n true (ways_down z.by (ops_at group z.work.ops) (at_down z.by group z.work.ops each)) first);
   nets = λ group near. let u : ups (ops_at group z.work.ops) ≡ charged (parents_of s) group z.command (Some z.answered.reply) = no_ups z.by (ops_at group z.work.ops) (at_down z.by group z.work.ops each) ∙ sym (h.charged group) in
-      let d : downs (ops_at group z.work.ops) ≡ sum_by (freed_below (parents_of s) group) z.work.core.made = downs_are z.by group z.work.ops each ∙ (ap (total (one_at group)) h.downs.at ∙ (paths_have (parents_of s) tree group objects h.born ∙ sym (h.freed group))) in
+      let d : downs (ops_at group z.work.ops) ≡ sum_by (made_freed_below (parents_of s) group) z.work.core.made = downs_are z.by group z.work.ops each ∙ (ap (total (one_at group)) h.downs.at ∙ (paths_have (parents_of s) tree group objects h.born ∙ sym (h.freed group))) in
       λ i. pos (u i) -ℤ pos (d i);
   added = λ group. h.added group ∙ sym (h.charged group);
   charges = let none = h.charges in omega (arith, none);
-  uncharges = let n = h.uncharges in let all = all_downs z.by z.work.ops each in let long = paths_long (parents_of s) tree objects h.born in let same = ap (λ (l : List ℕ). length l) h.downs.at in omega (arith, n, all, long, same, length-map z.work.ops group_of);
+  uncharges = let n = h.uncharges in let all = all_downs z.by z.work.ops each in let long = paths_long (parents_of s) tree objects h.born in let same = ap (λ (l : List ℕ). length l) h.downs.at in omega (arith, n, all, long, same, length-map z.work.ops use_group);
 }
   where
     each : AllByRecursion (IsDown z.by) z.work.ops

@@ -1,11 +1,9 @@
 -- A command that did nothing: there was no memory, or its worker's charges were used up.
-use Rattle.shr_assemble.proofs.Common.{◌≡◌, ◌⊎◌, inl, inr, ℕ, ◌<◌, ◌≤◌, Bool, true, false, cond, [], refl, sym, ap, subst, arith, Some, None, ◌||◌, nat_le, none-some, Serial, Reply, Spent, Command, Script, asks_online, Family, spent_by, Uses, WorkerState, no_work, Does, does_none, parents_of, cited_by, charged, MayBeOffline, pool_told, pool_made, IsReply, Step, IsCausedBy, KnowsOnline, MeetsGroups}
-use Rattle.std.proofs.lemmas.Bool.{leb-true}
+use Rattle.shr_assemble.proofs.Common.{◌≡◌, ◌⊎◌, inl, inr, ℕ, ◌<◌, ◌≤◌, Bool, true, false, cond, [], refl, sym, ap, subst, arith, Some, None, ◌||◌, nat_le, none-some, Serial, Reply, Spent, Command, Script, asks_online, Family, spent_by, Uses, WorkerState, no_work, Does, does_none, parents_of, cited_by, charged, MayBeOffline, pool_told, pool_made, IsReply, Step, IsCausedBy, KnowsOnline, MeetsGroups, leb-true, AreChargesWorn}
 use Rattle.shr_base.specs.declared.replies.Spent.TheVariants as spent
 use Rattle.shr_charge.specs.Seat.{counted}
 use Rattle.shr_assemble.proofs.Bringing.{brings_of}
 use Rattle.shr_assemble.proofs.Spending.{spent_is}
-use Rattle.shr_assemble.specs.Worn.{AreChargesWorn}
 use Rattle.shr_assemble.proofs.Quiet.{step_of, HasDid, IsCalm, calm_walks, still_moves, still_charges, still_pool, still_tree, IsToldOnce}
 use Rattle.shr_assemble.proofs.QuietTenant.{without, no_entries, unfound_lookups}
 

@@ -1,8 +1,7 @@
 -- The entries that splicing a group's lists made.
-use Rattle.shr_assemble.proofs.Common.{◌≡◌, ◌⊎◌, inl, inr, ⊎_elim, ℕ, suc, ◌<◌, ◌≤◌, Bool, true, false, cond, List, [], ◌∷◌, ◌++◌, length, refl, sym, subst, arith, map, ◌&&◌, nat_lt, ltb-true, AllByRecursion, append-nil, MovedIn, Closed, IsTree, IsAtOrAbove, parent_of, Each, Begins, at_begins, Each-none, Each-append, View, Shape, nothing, Adds, group_of, beside, Made, Known, groups_in, adds_then, Closing, made_in, AreClosings, AreSpliced, IsFilled, IsAmong, each_append}
-use Rattle.shr_core.proofs.Gains.{adds_none}
-use Rattle.shr_node.specs.Splicing.{made_by, bits_by, above_place, bits_in, own_number, IsClosing}
-use Rattle.shr_offline.specs.Splices.{place_in}
+use Rattle.shr_assemble.proofs.Common.{◌≡◌, ◌⊎◌, inl, inr, ⊎_elim, ℕ, suc, ◌<◌, ◌≤◌, Bool, true, false, cond, List, [], ◌∷◌, ◌++◌, length, refl, sym, subst, arith, map, ◌&&◌, nat_lt, ltb-true, AllByRecursion, append-nil, MovedIn, Closed, IsTree, IsAtOrAbove, parent_of, Each, Begins, at_begins, Each-none, Each-append, View, Shape, nothing, Adds, group_of, beside, Made, Known, groups_in, adds_then, Closing, made_by_closings, AreClosings, AreSpliced, IsListFilled, IsAmong, each_append, adds_none}
+use Rattle.shr_node.specs.Splicing.{made_by_closing, bits_by, above_place, bits_of_closings, own_number, IsClosing}
+use Rattle.shr_offline.specs.Splices.{place_by_number}
 use Rattle.shr_assemble.proofs.Filling.{filled_one, filled_among}
 use Rattle.shr_assemble.proofs.Gathering.{among_left, among_right}
 
@@ -44,10 +43,10 @@ pub record IsSplicedTo (parents : List ℕ) (group : ℕ) (v w : View) : Type 0 
   pub sets : List ℕ
   pub adds : Adds v w (record nothing { made = made; sets = sets })
   pub each : AllByRecursion (IsSpliceEntry parents group v made) made
-  pub filled : Each (IsFilled made) sets
+  pub filled : Each (IsListFilled made) sets
 
 pub spliced_none : (parents : List ℕ) (group : ℕ) (v : View) → IsSplicedTo parents group v v
-spliced_none parents group v = record { made = []; sets = []; adds = adds_none v; each = tt; filled = Each-none (IsFilled []) }
+spliced_none parents group v = record { made = []; sets = []; adds = adds_none v; each = tt; filled = Each-none (IsListFilled []) }
 
 pub spliced_then : (parents : List ℕ) (group : ℕ) (u v w : View) → IsSplicedTo parents group u v → IsSplicedTo parents group v w → IsSplicedTo parents group u w
 spliced_then parents group u v w a b = record {
@@ -57,7 +56,7 @@ spliced_then parents group u v w a b = record {
   each = each_append (IsSpliceEntry parents group u (a.made ++ b.made)) a.made b.made
       (each_more parents group u u a.made (a.made ++ b.made) a.made ([], sym (append-nil u.traces.known)) (λ c h. among_left a.made b.made c h) a.each)
       (each_more parents group u v b.made (a.made ++ b.made) b.made a.adds.known (λ c h. among_right a.made b.made c h) b.each);
-  filled = Each-append (IsFilled (a.made ++ b.made)) a.sets b.sets
+  filled = Each-append (IsListFilled (a.made ++ b.made)) a.sets b.sets
       (filled_among a.made (a.made ++ b.made) (λ c h. among_left a.made b.made c h) a.sets a.filled)
       (filled_among b.made (a.made ++ b.made) (λ c h. among_right a.made b.made c h) b.sets b.filled);
 }
@@ -66,7 +65,7 @@ module _ (shape : Shape) (tree : IsTree shape.parents.items) (few : groups_in sh
   abbrev ps : List ℕ
   ps = shape.parents.items
 
-  entries_of : (v : View) (id node : ℕ) (cs : List Closing) (all : List Made) → Each (IsClosing shape v id node group) cs → ((c : Made) → IsAmong c (made_in ps id node cs) → IsAmong c all) → AllByRecursion (IsSpliceEntry ps group v all) (made_in ps id node cs)
+  entries_of : (v : View) (id node : ℕ) (cs : List Closing) (all : List Made) → Each (IsClosing shape v id node group) cs → ((c : Made) → IsAmong c (made_by_closings ps id node cs) → IsAmong c all) → AllByRecursion (IsSpliceEntry ps group v all) (made_by_closings ps id node cs)
   entries_of v id node [] all each into = tt
   entries_of v id node (c ∷ cs) all each into =
       let is = each 0 c refl in
@@ -92,16 +91,16 @@ module _ (shape : Shape) (tree : IsTree shape.parents.items) (few : groups_in sh
       )
 
   -- a closing sets the bit of the parent's place where it moves an object into its list
-  bits_of : (id node : ℕ) (cs : List Closing) → Each (IsFilled (made_in ps id node cs)) (bits_in ps id node cs)
-  bits_of id node [] = Each-none (IsFilled [])
-  bits_of id node (c ∷ cs) = Each-append (IsFilled (made_in ps id node (c ∷ cs))) (bits_by ps id node c) (bits_in ps id node cs)
-      (filled_among (made_by ps id node c) (made_in ps id node (c ∷ cs)) (λ m h. among_left (made_by ps id node c) (made_in ps id node cs) m h) (bits_by ps id node c) (own (nat_lt 0 (length c.items)) (nat_lt 0 (parent_of ps c.child)) refl))
-      (filled_among (made_in ps id node cs) (made_in ps id node (c ∷ cs)) (λ m h. among_right (made_by ps id node c) (made_in ps id node cs) m h) (bits_in ps id node cs) (bits_of id node cs))
+  bits_of : (id node : ℕ) (cs : List Closing) → Each (IsListFilled (made_by_closings ps id node cs)) (bits_of_closings ps id node cs)
+  bits_of id node [] = Each-none (IsListFilled [])
+  bits_of id node (c ∷ cs) = Each-append (IsListFilled (made_by_closings ps id node (c ∷ cs))) (bits_by ps id node c) (bits_of_closings ps id node cs)
+      (filled_among (made_by_closing ps id node c) (made_by_closings ps id node (c ∷ cs)) (λ m h. among_left (made_by_closing ps id node c) (made_by_closings ps id node cs) m h) (bits_by ps id node c) (own (nat_lt 0 (length c.items)) (nat_lt 0 (parent_of ps c.child)) refl))
+      (filled_among (made_by_closings ps id node cs) (made_by_closings ps id node (c ∷ cs)) (λ m h. among_right (made_by_closing ps id node c) (made_by_closings ps id node cs) m h) (bits_of_closings ps id node cs) (bits_of id node cs))
     where
-      own : (a b : Bool) → nat_lt 0 (length c.items) ≡ a → Each (IsFilled (made_by ps id node c)) (cond (a && b) (above_place ps id node c ∷ []) [])
-      own false b e = Each-none (IsFilled (made_by ps id node c))
-      own true false e = Each-none (IsFilled (made_by ps id node c))
-      own true true e = filled_one (made_by ps id node c) (above_place ps id node c) (record {
+      own : (a b : Bool) → nat_lt 0 (length c.items) ≡ a → Each (IsListFilled (made_by_closing ps id node c)) (cond (a && b) (above_place ps id node c ∷ []) [])
+      own false b e = Each-none (IsListFilled (made_by_closing ps id node c))
+      own true false e = Each-none (IsListFilled (made_by_closing ps id node c))
+      own true true e = filled_one (made_by_closing ps id node c) (above_place ps id node c) (record {
         entry = record { place = above_place ps id node c; number = c.above_number; entry = MovedIn c.child (length c.items); items = c.above_items };
         among = (0, refl);
         here = refl;
@@ -109,8 +108,8 @@ module _ (shape : Shape) (tree : IsTree shape.parents.items) (few : groups_in sh
       })
 
   pub spliced_one : (v w : View) (id node : ℕ) (cs : List Closing) → AreClosings shape v w id node group cs → IsSplicedTo ps group v w
-  spliced_one v w id node cs h = record { made = made_in ps id node cs; sets = bits_in ps id node cs; adds = h.gains.adds; each = entries_of v id node cs (made_in ps id node cs) h.each (λ c among. among); filled = bits_of id node cs }
+  spliced_one v w id node cs h = record { made = made_by_closings ps id node cs; sets = bits_of_closings ps id node cs; adds = h.gains.adds; each = entries_of v id node cs (made_by_closings ps id node cs) h.each (λ c among. among); filled = bits_of id node cs }
 
-  pub spliced_all : (ns : List ℕ) (moved : ℕ) (v w : View) → AreSpliced shape (map (place_in shape group) ns) moved v w → IsSplicedTo ps group v w
+  pub spliced_all : (ns : List ℕ) (moved : ℕ) (v w : View) → AreSpliced shape (map (place_by_number shape group) ns) moved v w → IsSplicedTo ps group v w
   spliced_all [] moved v w h = subst (IsSplicedTo ps group v) h.1 (spliced_none ps group v)
-  spliced_all (n ∷ ns) moved v w (u, first, rest, sums, is, others) = spliced_then ps group v u w (spliced_one v u (place_in shape group n).id (place_in shape group n).node is.cs is.closings) (spliced_all ns rest u w others)
+  spliced_all (n ∷ ns) moved v w (u, first, rest, sums, is, others) = spliced_then ps group v u w (spliced_one v u (place_by_number shape group n).id (place_by_number shape group n).node is.cs is.closings) (spliced_all ns rest u w others)

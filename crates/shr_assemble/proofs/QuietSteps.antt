@@ -1,11 +1,9 @@
 -- What each step of a tenant's command adds to its worker's state, and what it leaves known.
-use Rattle.shr_assemble.proofs.Common.{◌≡◌, ℕ, zero, suc, inl, true, false, ◌≤◌, ◌^◌, List, [], ◌∷◌, length, take, refl, sym, ap, subst, ◌∙◌, arith, Some, option_and_then, slice_index_or, Contains, append-nil, PoolEntry, Found, is_live, decl_of, from_of, View, Gained, nothing, Adds, Begins, Hierarchy, hierarchy_of, shape_of, with_put, is_made, is_there, GroupState, TreeView, Gains, Shared, IsShared, WorkerState, Work, no_work, then_work, Does, does_none, does_then, adds_put, Groups, LoadsWord, OnCache, parents_of, Step, IsAmong, IsFoundBy, made_shown, KnowsOnline, KnowsUnmade, MeetsGroups}
-use Rattle.std.proofs.lemmas.List.Elements.{All-contains_itself}
+use Rattle.shr_assemble.proofs.Common.{◌≡◌, ℕ, zero, suc, inl, true, false, ◌≤◌, ◌^◌, List, [], ◌∷◌, length, take, refl, sym, ap, subst, ◌∙◌, arith, Some, option_and_then, slice_index_or, Contains, append-nil, PoolEntry, Found, is_live, decl_of, from_of, View, Gained, nothing, Adds, Begins, Hierarchy, hierarchy_of, shape_of, with_put, is_made, is_there, GroupState, TreeView, Gains, Shared, IsShared, WorkerState, Work, no_work, then_work, Does, does_none, does_then, adds_put, Groups, LoadsWord, OnCache, parents_of, Step, IsAmong, IsFoundBy, made_shown, KnowsOnline, KnowsUnmade, MeetsGroups, All-contains_itself, Shows}
 use Rattle.shr_base.specs.declared.replies.Reply.TheVariants as reply
 use Rattle.shr_core.specs.Parts as core
-use Rattle.shr_charge.specs.Told.{Shows}
 use Rattle.shr_charge.specs.declared.answers.GroupState.TheVariants as state
-use Rattle.shr_charge.specs.Views.{Loaded}
+use Rattle.shr_charge.specs.Views.{LoadedState}
 use Rattle.shr_report.specs.Parts as report
 use Rattle.shr_assemble.proofs.Listed.{contains_among, no_test}
 
@@ -20,7 +18,7 @@ pub tree_is : (x : Shared) → IsShared x → (shape_of x.core).parents.items �
 tree_is x h = h.parents ∙ ap (λ (g : Groups). g.parents) h.tree
 
 -- the groups of the core are those of the script
-pub hierarchy_is : (x : Shared) → IsShared x → hierarchy_of (shape_of x.core) ≡ report.hierarchy_of x.script
+pub hierarchy_is : (x : Shared) → IsShared x → hierarchy_of (shape_of x.core) ≡ report.script_hierarchy x.script
 hierarchy_is x h = λ i. record { parents = tree_is x h i; later = (h.later ∙ ap (λ (g : Groups). g.later) h.tree) i }
 
 -- ---- the work of each step
@@ -78,8 +76,8 @@ knows_online h t group found apart shows = record {
   known = λ entry e. apart entry (shows.known entry e);
 }
   where
-    told : (l : Loaded) (entry : ℕ) → Contains t.loaded l → l.group ≡ group → l.state ≡ state.Offline entry → Contains t.loaded (record { group = group; state = state.Offline entry })
-    told l entry has here is = subst (λ (y : Loaded). Contains t.loaded y) (λ i. record { group = here i; state = is i }) has
+    told : (l : LoadedState) (entry : ℕ) → Contains t.loaded l → l.group ≡ group → l.state ≡ state.Offline entry → Contains t.loaded (record { group = group; state = state.Offline entry })
+    told l entry has here is = subst (λ (y : LoadedState). Contains t.loaded y) (λ i. record { group = here i; state = is i }) has
 
 -- a word that says that a group isn't made agrees with what was known only where nobody knew it to be
 pub knows_unmade : (h : Hierarchy) (t : TreeView) (group : ℕ) → Shows h t group state.NotMade → KnowsUnmade h t group
@@ -91,8 +89,8 @@ knows_unmade h t group shows = record {
     apart : false ≡ true → ⊥
     apart e = absurd (cc)
 
-    told : (l : Loaded) → Contains t.loaded l → l.group ≡ group → Contains t.loaded (record { group = group; state = l.state })
-    told l has here = subst (λ (y : Loaded). Contains t.loaded y) (λ i. record { group = here i; state = l.state }) has
+    told : (l : LoadedState) → Contains t.loaded l → l.group ≡ group → Contains t.loaded (record { group = group; state = l.state })
+    told l has here = subst (λ (y : LoadedState). Contains t.loaded y) (λ i. record { group = here i; state = l.state }) has
 
 pub online_apart : (entry : ℕ) → state.Online ≡ state.Offline entry → ⊥
 online_apart entry is = absurd (cc)
@@ -101,7 +99,7 @@ online_apart entry is = absurd (cc)
 pub known_meets : (x : Shared) → IsShared x → (z : Step) (group : ℕ) → is_made (hierarchy_of (shape_of x.core)) z.after.tree.known group ≡ true → ((g : ℕ) → option_and_then (λ c. made_shown c z.answered.reply) z.command ≡ Some g → group ≡ g) → ((g : ℕ) → z.answered.reply ≡ reply.NotMade g → ⊥) → MeetsGroups x.script z
 known_meets x shared z group made own apart = record {
   unmade = λ g e. absurd (apart g e);
-  met = λ g e. inl (subst (λ n. is_made (report.hierarchy_of x.script) z.after.tree.known n ≡ true) (own g e) (subst (λ (q : Hierarchy). is_made q z.after.tree.known group ≡ true) (hierarchy_is x shared) made));
+  met = λ g e. inl (subst (λ n. is_made (report.script_hierarchy x.script) z.after.tree.known n ≡ true) (own g e) (subst (λ (q : Hierarchy). is_made q z.after.tree.known group ≡ true) (hierarchy_is x shared) made));
 }
 
 -- ---- a cache that is held

@@ -1,14 +1,11 @@
 -- What the commands on objects share: those that were refused before their list call, and those that called a list.
-use Rattle.shr_assemble.proofs.Common.{◌≡◌, ℕ, ◌<◌, ◌≤◌, ◌⊎◌, inl, inr, ⊎_elim, List, [], ◌∷◌, ◌++◌, length, refl, sym, ap, subst, ◌∙◌, arith, true, Some, None, option_and_then, slice_get, map, flat_map, same_Some, none-some, get_elem?, length-map, append_cancel_left, sum_by-cons, At, Place, Serial, Entry, Answered, Found, Reply, Spent, Command, Release, Grab, Script, group_named, decl_named, asks_online, Family, items_at, Object, IsAtOrAbove, is_later, Hierarchy, step, place_number, is_live_decl, IsAtOrAbove-le, Each, times, Begins, Each-none, View, Gained, nothing, Adds, place_at, Made, Known, Loaded, hierarchy_of, shape_of, place_back, Listed, Acts, TenantIsWorn, Gains, bits_for, IsFirstOpen, made_of, IsWithin, content_of, within_of_valid, GroupState, is_there, Shared, WorkerState, Work, then_work, Does, does_then, LoadsWord, OnCache, parents_of, cited_by, id_found, at, IsThere, charged, pool_told, pool_made, made_shown, IsReply, Cites, group_met, Step, IsAmong, IsReplyTo, StandsIn, IsTold, MayMake, IsSetLast, IsFilled, IsCited, DidEntries, IsFoundBy, number_made, numbers_tried, number_found, IsCausedBy, IsUsedUpBy, freed_below, added_below, KnowsOnline, MeetsGroups, KnowsUnmade, IsWornBy, IsListWorn, IsOneMore, AreBoth, each_before, each_one}
+use Rattle.shr_assemble.proofs.Common.{◌≡◌, ℕ, ◌<◌, ◌≤◌, ◌⊎◌, inl, inr, ⊎_elim, List, [], ◌∷◌, ◌++◌, length, refl, sym, ap, subst, ◌∙◌, arith, true, Some, None, option_and_then, slice_get, map, flat_map, same_Some, none-some, get_elem?, length-map, append_cancel_left, sum_by-cons, At, Place, Serial, Entry, Answered, Found, Reply, Spent, Command, Release, Grab, Script, group_named, decl_named, asks_online, Family, items_at, Object, IsAtOrAbove, is_later, Hierarchy, step, place_number, is_live_decl, IsAtOrAbove-le, Each, times, Begins, Each-none, View, Gained, nothing, Adds, place_at, Made, Known, Loaded, hierarchy_of, shape_of, place_back, Listed, Acts, TenantIsWorn, Gains, bits_for, IsFirstOpen, entry_made, IsWithin, content_of, within_of_valid, GroupState, is_there, Shared, WorkerState, Work, then_work, Does, does_then, LoadsWord, OnCache, parents_of, cited_by, id_found, at, IsThere, charged, pool_told, pool_made, made_shown, IsReply, Cites, group_met, Step, IsAmong, IsReplyTo, StandsIn, IsTenantEntry, MayMakeEntry, IsSetLast, IsListFilled, IsMadeAsCited, DidEntries, IsFoundBy, number_made, numbers_tried, number_found, IsCausedBy, IsUsedUpBy, made_freed_below, added_below, KnowsOnline, MeetsGroups, KnowsUnmade, IsWornBy, IsListWorn, IsOneMore, AreBoth, each_before, each_one, IsGroup, MissesCache, RefusedAs, DidLookups}
 use Rattle.shr_base.specs.declared.replies.Reply.TheVariants as reply
 use Rattle.shr_base.specs.declared.replies.Spent.TheVariants as spent
 use Rattle.shr_charge.specs.declared.answers.GroupState.TheVariants as state
-use Rattle.shr_script.specs.Bounds.{IsGroup}
 use Rattle.shr_report.specs.Parts as report
 use Rattle.shr_charge.specs.Views as charge
 use Rattle.shr_assemble.proofs.ScriptSizes.{sized_of}
-use Rattle.shr_opening.specs.Opening.{Misses, RefusedAs}
-use Rattle.shr_assemble.specs.Lookups.{DidLookups}
 use Rattle.shr_assemble.proofs.Bringing.{brings_of}
 use Rattle.shr_assemble.proofs.Filling.{IsSet, filled_by, set_filled, set_none}
 use Rattle.shr_assemble.proofs.FirstLists.{first_for}
@@ -25,25 +22,25 @@ without r = record { reply = r; found = None }
 -- no entry was made, and none is cited
 pub no_entries : (s : Script) (z : Step) → z.work.core.made ≡ [] → z.work.core.sets ≡ [] → ((family : Family) → IsReplyTo (parents_of s) family z.by z.command (id_found z.answered) z.answered.reply) → cited_by z.answered.reply ≡ None → DidEntries s z
 no_entries s z none unset row uncited = record {
-  each = subst (λ (l : List Made). Each (λ (m : Made). MayMake s z m m.entry) l) (sym none) (Each-none (λ (m : Made). MayMake s z m m.entry));
+  each = subst (λ (l : List Made). Each (λ (m : Made). MayMakeEntry s z m m.entry) l) (sym none) (Each-none (λ (m : Made). MayMakeEntry s z m m.entry));
   reply = λ family stands. row family;
   sets = set_none z.work.core.made z.work.walks z.work.core.sets unset;
   cited = λ c e. absurd (none-some c (sym uncited ∙ e));
 }
 
 -- one entry was made, which the answer cites
-pub one_entry : (s : Script) (z : Step) (m : Made) (c : At) → z.work.core.made ≡ m ∷ [] → z.work.core.sets ≡ bits_for m.place m.items (step [] m.items m.entry) → MayMake s z m m.entry
+pub one_entry : (s : Script) (z : Step) (m : Made) (c : At) → z.work.core.made ≡ m ∷ [] → z.work.core.sets ≡ bits_for m.place m.items (step [] m.items m.entry) → MayMakeEntry s z m m.entry
     → ((family : Family) → StandsIn (parents_of s) family m → IsReplyTo (parents_of s) family z.by z.command (id_found z.answered) z.answered.reply)
-    → cited_by z.answered.reply ≡ Some c → IsCited s z c → DidEntries s z
+    → cited_by z.answered.reply ≡ Some c → IsMadeAsCited s z c → DidEntries s z
 one_entry s z m c made sets may row cites cited = record {
-  each = subst (λ (l : List Made). Each (λ (y : Made). MayMake s z y y.entry) l) (sym made) (each_one (λ (y : Made). MayMake s z y y.entry) m may);
+  each = subst (λ (l : List Made). Each (λ (y : Made). MayMakeEntry s z y y.entry) l) (sym made) (each_one (λ (y : Made). MayMakeEntry s z y y.entry) m may);
   reply = λ family stands. row family (stands 0 m (ap (λ (l : List Made). get_elem? l 0) made));
-  sets = subst (λ (l : List Made). Each (IsSet l z.work.walks) z.work.core.sets) (sym made) (set_filled (m ∷ []) z.work.walks z.work.core.sets (subst (Each (IsFilled (m ∷ []))) (sym sets) (filled_by m)));
-  cited = λ d e. subst (IsCited s z) (same_Some c d (sym cites ∙ e)) cited;
+  sets = subst (λ (l : List Made). Each (IsSet l z.work.walks) z.work.core.sets) (sym made) (set_filled (m ∷ []) z.work.walks z.work.core.sets (subst (Each (IsListFilled (m ∷ []))) (sym sets) (filled_by m)));
+  cited = λ d e. subst (IsMadeAsCited s z) (same_Some c d (sym cites ∙ e)) cited;
 }
 
 -- the answer tells of an entry of the command
-pub is_told : (z : Step) (m : Made) (c : At) → place_at m.place ≡ c.place → m.number ≡ c.entry → cited_by z.answered.reply ≡ Some c → IsTold z m z.by
+pub is_told : (z : Step) (m : Made) (c : At) → place_at m.place ≡ c.place → m.number ≡ c.entry → cited_by z.answered.reply ≡ Some c → IsTenantEntry z m z.by
 is_told z m c place number cites = record { own = refl; cited = cites ∙ sym (λ i. Some (at (place i) (number i))) }
 
 -- ---- lookups
@@ -115,10 +112,10 @@ module _ (x : Shared) (tables : AreTables x) (by : Serial) (c : Command) (group 
   own_online t h g e = subst (KnowsOnline t) (is.asks g e) h
 
   -- its group was met where the word that it loaded said that it is there
-  pub own_met : (z : Step) (found : GroupState) → is_there found ≡ true → z.command ≡ Some c → IsAmong {A = charge.Loaded} (record { group = group; state = found }) z.work.words → ((g : ℕ) → z.answered.reply ≡ reply.NotMade g → ⊥) → MeetsGroups x.script z
+  pub own_met : (z : Step) (found : GroupState) → is_there found ≡ true → z.command ≡ Some c → IsAmong {A = charge.LoadedState} (record { group = group; state = found }) z.work.words → ((g : ℕ) → z.answered.reply ≡ reply.NotMade g → ⊥) → MeetsGroups x.script z
   own_met z found there same among apart = record {
     unmade = λ g e. absurd (apart g e);
-    met = λ g e. inr (found, there, subst (λ n. IsAmong {A = charge.Loaded} (record { group = n; state = found }) z.work.words) (is.shows z.answered.reply g (ap (option_and_then (λ d. made_shown d z.answered.reply)) (sym same) ∙ e)) among);
+    met = λ g e. inr (found, there, subst (λ n. IsAmong {A = charge.LoadedState} (record { group = n; state = found }) z.work.words) (is.shows z.answered.reply g (ap (option_and_then (λ d. made_shown d z.answered.reply)) (sym same) ∙ e)) among);
   }
 
   -- its group isn't made
@@ -134,7 +131,7 @@ module _ (x : Shared) (tables : AreTables x) (by : Serial) (c : Command) (group 
       moves = still_moves x.script z (record { walks = refl; takes = refl; gives = refl; carries = refl });
       pool = still_pool x.script z does.core.pool (record { turns = refl; made = refl }) tt;
       tree = still_tree x.script z refl (λ n e above. inr (own_online s.tree (knows_online (hierarchy_of (shape_of x.core)) s.tree group state.NotMade (λ entry e. absurd (cc)) h.shows) n e)) (record {
-        unmade = λ n e. let named : g ≡ n = cc in subst (KnowsUnmade (report.hierarchy_of x.script) s.tree) (sym own ∙ named) (subst (λ (q : Hierarchy). KnowsUnmade q s.tree group) (hierarchy_is x tables.shared) (knows_unmade (hierarchy_of (shape_of x.core)) s.tree group h.shows));
+        unmade = λ n e. let named : g ≡ n = cc in subst (KnowsUnmade (report.script_hierarchy x.script) s.tree) (sym own ∙ named) (subst (λ (q : Hierarchy). KnowsUnmade q s.tree group) (hierarchy_is x tables.shared) (knows_unmade (hierarchy_of (shape_of x.core)) s.tree group h.shows));
         met = λ n e. absurd (is.unshown g n e);
       });
       cause = record { met = is.met ∙ ap Some (sym own); late = subst (λ (q : Hierarchy). is_later q.later g ≡ true) (hierarchy_is x tables.shared) (subst (λ n. is_later (hierarchy_of (shape_of x.core)).later n ≡ true) (sym own) (h.shows.late refl)) };
@@ -157,7 +154,7 @@ module _ (x : Shared) (tables : AreTables x) (by : Serial) (c : Command) (group 
     };
   }
 
-  no_cache_did : (entry : ℕ) (s t : WorkerState) → Misses x group decl (reply.NoCache entry) s t → HasDid x.script by c (without (reply.NoCache entry)) s t
+  no_cache_did : (entry : ℕ) (s t : WorkerState) → MissesCache x group decl (reply.NoCache entry) s t → HasDid x.script by c (without (reply.NoCache entry)) s t
   no_cache_did entry s t h =
       let words = h.misses.answers.gains.words in
       let g : Gained = record nothing { loaded = words; gives = 1 } in
@@ -185,7 +182,7 @@ module _ (x : Shared) (tables : AreTables x) (by : Serial) (c : Command) (group 
         };
       }
 
-  worn_did : (worn : Spent) (s t : WorkerState) → Misses x group decl (reply.Worn worn) s t → HasDid x.script by c (without (reply.Worn worn)) s t
+  worn_did : (worn : Spent) (s t : WorkerState) → MissesCache x group decl (reply.Worn worn) s t → HasDid x.script by c (without (reply.Worn worn)) s t
   worn_did (spent.List place entries items) s t h = absurd h.misses.answers.worn
   worn_did (spent.Charges charges uncharges) s t h = absurd h.misses.answers.worn
   worn_did (spent.Lookups id seen) s t h =
@@ -233,7 +230,7 @@ module _ (x : Shared) (tables : AreTables x) (by : Serial) (c : Command) (group 
   module _ (birth : ℕ) (c_at : At) (so : List Object → Type 0) (e : Listed → Entry) (a : Acts (shape_of x.core) o.held.core o.calls.called f.id node birth c_at so e)
       (on : node < x.script.nodes) (there : birth < length (parents_of x.script)) where
     abbrev pub entry : Made
-    entry = made_of (place_number c_at.place) a.old (e a.old)
+    entry = entry_made (place_number c_at.place) a.old (e a.old)
 
     abbrev pub bits : List ℕ
     bits = bits_for (place_number c_at.place) a.old.items (step [] a.old.items (e a.old))
@@ -245,7 +242,7 @@ module _ (x : Shared) (tables : AreTables x) (by : Serial) (c : Command) (group 
     place_same = back_is x tables c_at.place place_there
 
     pub cited_is : (z : Step) → z.before ≡ s → z.after.core.traces.known ≡ t.core.traces.known → option_and_then group_named z.command ≡ Some birth → IsAmong entry z.work.core.made
-        → (z.answered.reply ≡ reply.Added c_at → 0 < c_at.place.group → a.old.items ≡ [] → (0 < times (place_number c_at.place) z.work.core.sets) × IsSetLast z (place_number c_at.place)) → IsCited x.script z c_at
+        → (z.answered.reply ≡ reply.Added c_at → 0 < c_at.place.group → a.old.items ≡ [] → (0 < times (place_number c_at.place) z.work.core.sets) × IsSetLast z (place_number c_at.place)) → IsMadeAsCited x.script z c_at
     cited_is z start end named among filled = record {
       made = entry;
       among = among;
@@ -273,8 +270,8 @@ module _ (x : Shared) (tables : AreTables x) (by : Serial) (c : Command) (group 
     acted_step = step_of by c (held r) s t (on_list group decl f o.holds.answers.gains.words (entry ∷ []) bits)
 
     -- a command that made an entry which freed nothing and added nothing
-    pub acted_did : group_named c ≡ Some birth → (IsTold acted_step entry by → MayMake x.script acted_step entry (e a.old)) → ((family : Family) → StandsIn (parents_of x.script) family entry → IsReply (parents_of x.script) family by c (Some f.id) r)
-        → cited_by r ≡ Some c_at → (r ≡ reply.Added c_at → ⊥) → ((g : ℕ) → freed_below (parents_of x.script) g entry ≡ 0) → ((g : ℕ) → added_below (parents_of x.script) g (e a.old) ≡ 0)
+    pub acted_did : group_named c ≡ Some birth → (IsTenantEntry acted_step entry by → MayMakeEntry x.script acted_step entry (e a.old)) → ((family : Family) → StandsIn (parents_of x.script) family entry → IsReply (parents_of x.script) family by c (Some f.id) r)
+        → cited_by r ≡ Some c_at → (r ≡ reply.Added c_at → ⊥) → ((g : ℕ) → made_freed_below (parents_of x.script) g entry ≡ 0) → ((g : ℕ) → added_below (parents_of x.script) g (e a.old) ≡ 0)
         → pool_told r ≡ [] → pool_made r ≡ [] → IsCausedBy x.script acted_step r → HasDid x.script by c (held r) s t
     acted_did named may row cites unadded unfreed none_added untold unmade cause =
         let does = on_list_does x group decl f call s t o (entry ∷ []) bits a.gains in
@@ -290,7 +287,7 @@ module _ (x : Shared) (tables : AreTables x) (by : Serial) (c : Command) (group 
               ops = refl;
               charges = refl;
               uncharges = refl;
-              freed = λ g. let w = unfreed g in omega (arith, sum_by-cons (freed_below (parents_of x.script) g) entry [], w);
+              freed = λ g. let w = unfreed g in omega (arith, sum_by-cons (made_freed_below (parents_of x.script) g) entry [], w);
               added = λ g. let w = none_added g in omega (arith, sum_by-cons (λ (m : Made). added_below (parents_of x.script) g m.entry) entry [], w);
               charged = λ g. is.charged (parents_of x.script) g r;
             });

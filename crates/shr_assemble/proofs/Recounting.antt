@@ -1,10 +1,9 @@
 -- A sum over a journal is the sum over the entries that the steps made there.
-use Rattle.shr_assemble.proofs.Common.{◌≡◌, ℕ, suc, ◌+◌, ◌*◌, ◌<◌, ◌≢◌, ⊎_elim, inl, inr, true, false, cond, List, [], ◌∷◌, length, sym, refl, ap, subst, ◌∙◌, arith, eq-eqb, ne_eqb, slice_get, Some, nat_lt, nat_le, ◌==◌, enumerate_from, AllByRecursion, cases_lt, same_Some, none-some, slice_get_within, dite, ℕ_discrete, Place, Entry, Script, place_number, AreApart, Has, Has_from_Contains, Contains_from_Has, map_has, AreApart_of_ends, find_end, PlaceEnd, Each, total, total_zero, total_both, place_at, Made, hit, back, Report, journal_of, journals_of, places_of, items_before, IsThere, Step, IsAmong, all_made, IsRun, not_le}
+use Rattle.shr_assemble.proofs.Common.{◌≡◌, ℕ, suc, ◌+◌, ◌*◌, ◌<◌, ◌≢◌, ⊎_elim, inl, inr, true, false, cond, List, [], ◌∷◌, length, sym, refl, ap, subst, ◌∙◌, arith, eq-eqb, ne_eqb, slice_get, Some, nat_lt, nat_le, ◌==◌, enumerate_from, AllByRecursion, cases_lt, same_Some, none-some, slice_get_within, dite, ℕ_discrete, Place, Entry, Script, place_number, AreApart, Has, Has_from_Contains, Contains_from_Has, map_has, AreApart_of_ends, find_end, PlaceEnd, Each, total, total_zero, total_both, place_at, Made, hit, back, Report, journal_of, journals_of, places_of, items_before, IsThere, Step, IsAmong, all_made, IsRun, not_le, cond_no, cond_yes}
 use Rattle.std.proofs.Common.{le-leb}
 use Rattle.shr_assemble.proofs.Gathering.{total_same_on, has_step}
 use Rattle.shr_assemble.proofs.Listed.{contains_slice}
 use Rattle.shr_assemble.proofs.Making.{made_stands, back_there, below_one}
-use Rattle.shr_units.proofs.Reclaims.{cond_no, cond_yes}
 
 -- a weight of the entries made at a place with this number; with numbers from a first one on; with one number
 abbrev pub at_place : ℕ → (Made → ℕ) → Made → ℕ

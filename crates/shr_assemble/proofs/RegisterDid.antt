@@ -1,12 +1,11 @@
 -- What a register did.
-use Rattle.shr_assemble.proofs.Common.{◌≡◌, ℕ, ◌+◌, ◌≤◌, true, false, List, [], ◌∷◌, length, length-append, take, refl, sym, ap, subst, ◌∙◌, arith, None, none-some, PoolEntry, Registered, Serial, Answered, Reply, Command, Family, is_live_decl, lowest_idle, nothing, Adds, Loaded, Turn, shape_of, Shared, WorkerState, Work, unfound, parents_of, cited_by, IsReply, is_past_group, Step, IsCausedBy, DidPool, IsTurnOf, each_one}
+use Rattle.shr_assemble.proofs.Common.{◌≡◌, ℕ, ◌+◌, ◌≤◌, true, false, List, [], ◌∷◌, length, length-append, take, refl, sym, ap, subst, ◌∙◌, arith, None, none-some, PoolEntry, Registered, Serial, Answered, Reply, Command, Family, is_live_decl, lowest_idle, nothing, Adds, Loaded, Turn, shape_of, Shared, WorkerState, Work, unfound, parents_of, cited_by, IsReply, is_past_group, Step, IsCausedBy, DidPool, IsTurnOf, each_one, register_reply}
 use Rattle.shr_base.specs.declared.replies.Reply.TheVariants as reply
 use Rattle.shr_base.specs.declared.scripts.Command.TheVariants as command
 use Rattle.shr_registry.specs.declared.answers.RegisterAnswer.{RegisterAnswer}
 use Rattle.shr_registry.specs.declared.answers.RegisterAnswer.TheVariants as register
 use Rattle.shr_registry.specs.Answers.{RegisterGives}
 use Rattle.shr_worker.specs.Commands as worker
-use Rattle.shr_worker.specs.Replies.{register_reply}
 use Rattle.shr_assemble.proofs.Bringing.{brings_of}
 use Rattle.shr_assemble.proofs.Quiet.{step_of, HasDid, calm_walks, still_moves, still_charges, still_pool, still_tree, meets_none, never_met}
 use Rattle.shr_assemble.proofs.QuietSteps.{AreTables, gaining, does_gain, take_whole}
@@ -79,5 +78,5 @@ module _ (x : Shared) (tables : AreTables x) (by : Serial) (decl : ℕ) (s t : W
       (record { decl = decl; named = refl; from = h.from; made = (0, refl) })
 
 -- a register
-pub register_did : (x : Shared) (tables : AreTables x) (by : Serial) (decl : ℕ) (a : Answered) (s t : WorkerState) → worker.Registers x decl a s t → HasDid x.script by (command.Register decl) a s t
+pub register_did : (x : Shared) (tables : AreTables x) (by : Serial) (decl : ℕ) (a : Answered) (s t : WorkerState) → worker.RegistersCache x decl a s t → HasDid x.script by (command.Register decl) a s t
 register_did x tables by decl a s t h = subst (λ (b : Answered). HasDid x.script by (command.Register decl) b s t) (sym h.told) (by_answer x tables by decl s t h.rest h.answer h.registered)

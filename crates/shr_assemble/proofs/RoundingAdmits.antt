@@ -1,5 +1,5 @@
 -- The walks that a charge with its reclaim made, by its answer.
-use Rattle.shr_assemble.proofs.Common.{◌≡◌, ℕ, suc, ◌-◌, ◌<◌, ◌≤◌, ◌⊎◌, inl, inr, ⊎_elim, List, [], ◌∷◌, ◌++◌, length, length-append, map, take, drop, sym, refl, ap, subst, ◌∙◌, arith, append_assoc, slice_get, Some, AllByRecursion, append-nil, length-map, take-append-drop, map-append, Serial, Answered, Command, round_of, IsAtOrAbove, Job, job_of, Begins, parents_of, WorkerState, Work, no_work, then_work, Does, Shared, Admission, Charged, Over, Memory, IsCutShort, AdmissionGives, Visit, Round, job_in, HadRoom, due_in, refused, in_take, by_slices}
+use Rattle.shr_assemble.proofs.Common.{◌≡◌, ℕ, suc, ◌-◌, ◌<◌, ◌≤◌, ◌⊎◌, inl, inr, ⊎_elim, List, [], ◌∷◌, ◌++◌, length, length-append, map, take, drop, sym, refl, ap, subst, ◌∙◌, arith, append_assoc, slice_get, Some, AllByRecursion, append-nil, length-map, take-append-drop, map-append, Serial, Answered, Command, round_of, IsAtOrAbove, Job, job_of, Begins, parents_of, WorkerState, Work, no_work, then_work, Does, Shared, Admission, Charged, Over, Memory, AreRoundsCut, AdmissionGives, Visit, Round, job_in, VisitHadMemory, due_in, refused, in_take, by_slices}
 use Rattle.shr_model.specs.Commands.{rounds_from}
 use Rattle.shr_charge.specs.declared.answers.ChargeAnswer.TheVariants as charge
 use Rattle.shr_assemble.proofs.Listed.{all_slice_by}
@@ -30,7 +30,7 @@ module _ (x : Shared) (table : IsTableOf x) (by : Serial) (c : Command) (a : Ans
   due_to groups = rounds_from (parents_of x.script) x.script.nodes 12 groups
 
   -- what the walks of a charge showed
-  abbrev pub CutSeen : (s t : WorkerState) → Does s t no_work ⊎ IsCutShort x by group s t → Type 0
+  abbrev pub CutSeen : (s t : WorkerState) → Does s t no_work ⊎ AreRoundsCut x by group s t → Type 0
   CutSeen s t (inl d) = Unit {0}
   CutSeen s t (inr h) = RoundsSeen x table by c a group inside 12 h.tried.first h.rounds (refused h.over) h.tried.tried h.begun h.tried.follow
       × AllSeen x by (map job_in h.walks) (map (λ (v : Visit). v.answer) h.walks) h.begun t (visited_one x by h.walks h.begun t h.cut.visited)
@@ -41,7 +41,7 @@ module _ (x : Shared) (table : IsTableOf x) (by : Serial) (c : Command) (a : Ans
   AdmissionSeen Memory s t h = CutSeen s t h
 
   -- what the charge gave tells it
-  cut_seen : (s t : WorkerState) (g : Does s t no_work ⊎ IsCutShort x by group s t) → CutSeen s t g
+  cut_seen : (s t : WorkerState) (g : Does s t no_work ⊎ AreRoundsCut x by group s t) → CutSeen s t g
   cut_seen s t (inl d) = tt
   cut_seen s t (inr h) = (
     rounds_seen x table by c a group inside 12 h.tried.first h.rounds (refused h.over) h.tried.tried h.begun h.tried.follow,
@@ -67,7 +67,7 @@ module _ (x : Shared) (table : IsTableOf x) (by : Serial) (c : Command) (a : Ans
     pub all : (g operation usage : ℕ) → answer ≡ Over g operation usage → length groups ≡ 13
     pub made : MadeDue answer (map job_of work.walks) (rounds_from (parents_of x.script) x.script.nodes 12 groups)
 
-  cut_short : (s t : WorkerState) (h : IsCutShort x by group s t) → CutSeen s t (inr h) → GaveAdmission Memory s t
+  cut_short : (s t : WorkerState) (h : AreRoundsCut x by group s t) → CutSeen s t (inr h) → GaveAdmission Memory s t
   cut_short s t h seen =
       let r = gave_tries x table by c a group inside h.rounds (refused h.over) s h.begun h.tried seen.0 in
       let same : h.priority ≡ 12 - length h.rounds = omega (arith, h.due) in
@@ -78,9 +78,9 @@ module _ (x : Shared) (table : IsTableOf x) (by : Serial) (c : Command) (a : Ans
       let there : AllByRecursion (IsThereJob x) (due_in x (12 - length h.rounds) h.over.group) = subst (AllByRecursion (IsThereJob x)) (sym (due_is x table (12 - length h.rounds) h.over.group)) (round_there x table (12 - length h.rounds) h.over.group r.at_last.1) in
       let all = gave_all x table by (Some c) a (map job_in h.walks) (map (λ (v : Visit). v.answer) h.walks) h.begun t (visited_one x by h.walks h.begun t h.cut.visited) seen.1 (prefix_all (IsThereJob x) (map job_in h.walks) (due_in x (12 - length h.rounds) h.over.group) first there) in
       let begins : Begins (map job_of all.work.walks) (map job_in h.walks) = ⊎_elim
-      (λ had. let e = all_had (map job_in h.walks) (map (λ (v : Visit). v.answer) h.walks) all.work.walks all.noted (had_answers x table by c a group inside h.walks (rec_of HadRoom h.walks had)) in ([], sym e.jobs_are ∙ sym (append-nil _)))
+      (λ had. let e = all_had (map job_in h.walks) (map (λ (v : Visit). v.answer) h.walks) all.work.walks all.noted (had_answers x table by c a group inside h.walks (rec_of VisitHadMemory h.walks had)) in ([], sym e.jobs_are ∙ sym (append-nil _)))
       (λ cut. let e : map (λ (v : Visit). v.answer) h.walks ≡ map (λ (v : Visit). v.answer) cut.front ++ cut.last.answer ∷ [] = ap (map (λ (v : Visit). v.answer)) cut.whole ∙ map-append (λ (v : Visit). v.answer) cut.front (cut.last ∷ []) in
-      (all_cut (map job_in h.walks) (map (λ (v : Visit). v.answer) cut.front) cut.last.answer all.work.walks (subst (λ l. AllNoted (map job_in h.walks) l all.work.walks) e all.noted) (had_answers x table by c a group inside cut.front (rec_of HadRoom cut.front cut.had)) cut.lacked).begins)
+      (all_cut (map job_in h.walks) (map (λ (v : Visit). v.answer) cut.front) cut.last.answer all.work.walks (subst (λ l. AllNoted (map job_in h.walks) l all.work.walks) e all.noted) (had_answers x table by c a group inside cut.front (rec_of VisitHadMemory cut.front cut.had)) cut.lacked).begins)
       h.cut.cut in
       let rest : List Job = begins.0 ++ drop (length (map job_in h.walks)) (due_in x (12 - length h.rounds) h.over.group) in
       let whole : due_in x (12 - length h.rounds) h.over.group ≡ map job_of all.work.walks ++ rest = sym (take-append-drop (length (map job_in h.walks)) (due_in x (12 - length h.rounds) h.over.group))

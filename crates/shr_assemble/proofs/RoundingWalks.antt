@@ -1,9 +1,7 @@
 -- The rounds of a charge: its tries and walks together, over the groups that refused.
-use Rattle.shr_assemble.proofs.Common.{false, ◌≡◌, ℕ, ◌-◌, ◌<◌, List, [], ◌∷◌, ◌++◌, length, map, sym, refl, ap, subst, ◌∙◌, flat_map, Some, AllByRecursion, range_with_len, map-append, none-some, Serial, Answered, Command, Script, UseStep, round_of, IsTree, IsAtOrAbove, preorder_of, job, job_of, Has_from_Contains, Begins, Each-none, Mapped, ChargeAnswer, ChargeOps, shape_of, parents_of, Groups, HadMemory, WorkerState, Work, no_work, then_work, Shared, fresh_none, Visit, Round, job_in, HadRoom, due_in, AreRounds, TriesInRounds, IsTried, charge_work, by_slices}
+use Rattle.shr_assemble.proofs.Common.{false, ◌≡◌, ℕ, ◌-◌, ◌<◌, List, [], ◌∷◌, ◌++◌, length, map, sym, refl, ap, subst, ◌∙◌, flat_map, Some, AllByRecursion, range_with_len, map-append, none-some, Serial, Answered, Command, Script, UseStep, round_of, IsTree, IsAtOrAbove, preorder_of, job, job_of, Has_from_Contains, Begins, Each-none, Mapped, ChargeAnswer, ChargeOps, shape_of, parents_of, Groups, HadMemory, WorkerState, Work, no_work, then_work, Shared, fresh_none, Visit, Round, job_in, VisitHadMemory, due_in, AreRounds, TriesInRounds, IsChargeTried, charge_work, by_slices, preorder_of-on, refused_above}
 use Rattle.shr_model.specs.Commands.{rounds_from}
-use Rattle.shr_model.proofs.GroupsOrder.{preorder_of-on}
 use Rattle.shr_charge.specs.declared.answers.ChargeAnswer.TheVariants.{Charged, Over}
-use Rattle.shr_reclaim.proofs.Refusing.{refused_above}
 use Rattle.shr_assemble.proofs.Spending.{refused_there}
 use Rattle.shr_assemble.proofs.Listed.{slice_contains}
 use Rattle.shr_assemble.proofs.WalkingIds.{up_to_below, ups_are}
@@ -13,7 +11,7 @@ use Rattle.shr_assemble.proofs.WalkingChain.{AllSeen, all_seen, IsThereJob, gave
 use Rattle.shr_assemble.proofs.WalkingSteps.{Walked, walked_none, walked_then, IsScanOne}
 
 -- a try makes operations alone
-pub tried_walked : (x : Shared) (script : Script) (by : Serial) (c : Command) (a : Answered) (group : ℕ) (answer : ChargeAnswer) (s t : WorkerState) (h : IsTried x by group answer s t) → Walked script by (Some c) a s t (charge_work h.ops)
+pub tried_walked : (x : Shared) (script : Script) (by : Serial) (c : Command) (a : Answered) (group : ℕ) (answer : ChargeAnswer) (s t : WorkerState) (h : IsChargeTried x by group answer s t) → Walked script by (Some c) a s t (charge_work h.ops)
 tried_walked x script by c a group answer s t h = record {
   does = h.does;
   each = λ i r e. absurd (none-some r e);
@@ -101,7 +99,7 @@ module _ (x : Shared) (table : IsTableOf x) where
       pub above : AllByRecursion (λ h. IsAtOrAbove (parents_of x.script) h group) (groups_in rounds)
       pub at_last : RefusedAt group last
 
-    pub had_answers : (vs : List Visit) → AllByRecursion HadRoom vs → AllByRecursion HadMemory (map (λ (v : Visit). v.answer) vs)
+    pub had_answers : (vs : List Visit) → AllByRecursion VisitHadMemory vs → AllByRecursion HadMemory (map (λ (v : Visit). v.answer) vs)
     had_answers [] h = tt
     had_answers (v ∷ vs) h = (h.0, had_answers vs h.1)
 
@@ -119,7 +117,7 @@ module _ (x : Shared) (table : IsTableOf x) where
         let due : map job_in k.walks ≡ round_of (parents_of x.script) x.script.nodes k.priority k.over.group = r.walks.all ∙ due_is k.priority k.over.group in
         let there = subst (AllByRecursion (IsThereJob x)) (sym due) (round_there k.priority k.over.group at.1) in
         let all = gave_all x table by (Some c) a (map job_in k.walks) (map (λ (v : Visit). v.answer) k.walks) s k.walked (visited_one x by k.walks s k.walked r.walks.visited) seen.0 there in
-        let had = all_had (map job_in k.walks) (map (λ (v : Visit). v.answer) k.walks) all.work.walks all.noted (had_answers k.walks (rec_of HadRoom k.walks r.walks.had)) in
+        let had = all_had (map job_in k.walks) (map (λ (v : Visit). v.answer) k.walks) all.work.walks all.noted (had_answers k.walks (rec_of VisitHadMemory k.walks r.walks.had)) in
         let later = gave_rounds (priority - 1) k.answer ks last k.tried t (refused_at by group inside k.answer r.try.ops r.try.made) more seen.1 in
         let try = tried_walked x x.script by c a group k.answer k.walked k.tried r.try in record {
           work = then_work all.work (then_work (charge_work r.try.ops) later.work);

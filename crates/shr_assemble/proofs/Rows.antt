@@ -1,6 +1,6 @@
 -- The steps of a worker from the states between its commands, and what they have in all.
-use Rattle.shr_assemble.proofs.Common.{◌≡◌, ℕ, zero, suc, ◌+◌, ◌<◌, List, [], ◌∷◌, ◌++◌, length, length-append, take, sym, refl, ap, subst, ◌∙◌, arith, append_assoc, slice_get, Option, Some, None, flat_map, AllByRecursion, append-nil, same_Some, none-some, Serial, Answered, Command, Script, Sweep, WorkerScript, Isolation, IsCommandWithin, isolations_told, content_of, IsShared, Shared, WorkerState, Work, CrewState, DeedGives, IsWorkOf, SweepItem, End, parents_of, Step, AreChained, state_after, Brings, Did, HasHelped, isolated_in, isolated_before, DidIsolations, IsOfPops}
-use Rattle.shr_worker.specs.Chain.{commands_in, commands_of, serial_of}
+use Rattle.shr_assemble.proofs.Common.{◌≡◌, ℕ, zero, suc, ◌+◌, ◌<◌, List, [], ◌∷◌, ◌++◌, length, length-append, take, sym, refl, ap, subst, ◌∙◌, arith, append_assoc, slice_get, Option, Some, None, flat_map, AllByRecursion, append-nil, same_Some, none-some, Serial, Answered, Command, Script, Sweep, WorkerScript, Isolation, IsCommandWithin, isolations_told, content_of, IsShared, Shared, WorkerState, Work, CrewState, DeedGives, IsWorkOf, SweepItem, End, parents_of, Step, AreStepsChained, worker_state_after, BringsWork, Did, HasHelped, isolated_in, isolated_before, DidIsolations, IsOfPops}
+use Rattle.shr_worker.specs.Chain.{listed_commands, worker_commands, command_serial}
 use Rattle.shr_worker.proofs.Within.{command_within}
 use Rattle.shr_pool.specs.declared.items.SweepItem.TheVariants.{Walk}
 use Rattle.shr_assemble.proofs.Fit.{IsFit, fit_kept}
@@ -8,7 +8,7 @@ use Rattle.shr_assemble.proofs.Fit.{IsFit, fit_kept}
 -- A command did its work, between these states. Its isolation stands behind those of its worker, and is as the law asks.
 pub record Worked (s : Script) (by : Serial) (c : Command) (a : Answered) (t u : CrewState) : Type 0 where
   pub work : Work
-  pub brings : Brings t.seats u.seats work
+  pub brings : BringsWork t.seats u.seats work
   pub did : Did s (record { by = by; command = Some c; answered = a; before = t.seats; after = u.seats; work = work })
   pub recorded : u.isolations ≡ t.isolations ++ isolations_told by c a
   pub by_law : DidIsolations s (record { by = by; command = Some c; answered = a; before = t.seats; after = u.seats; work = work }) (length t.isolations)
@@ -18,8 +18,8 @@ pub record Worked (s : Script) (by : Serial) (c : Command) (a : Answered) (t u :
 pub record IsRow (s : Script) (by : ℕ → Serial) (cs : List Command) (said : List Answered) (first last : CrewState) (mine : List Step) : Type 0 where
   pub commands : length cs ≡ length mine
   pub answers : length said ≡ length mine
-  pub chained : AreChained first.seats mine
-  pub ends : state_after first.seats mine ≡ last.seats
+  pub chained : AreStepsChained first.seats mine
+  pub ends : worker_state_after first.seats mine ≡ last.seats
   pub each : (k : ℕ) (x : Step) → slice_get mine k ≡ Some x → (x.by ≡ by k) × (slice_get cs k ≡ x.command) × (slice_get said k ≡ Some x.answered) × Did s x
   pub recorded : last.isolations ≡ first.isolations ++ flat_map isolated_in mine
   pub by_law : (k : ℕ) (x : Step) → slice_get mine k ≡ Some x → DidIsolations s x (length first.isolations + isolated_before mine k)
@@ -92,7 +92,7 @@ swept_step by a t u w = record { by = by; command = None; answered = a; before =
 -- it did so, by walks of jobs that its pass popped
 pub record SweptPart (s : Script) (by : Serial) (a : Answered) (popped : List SweepItem) (t u : WorkerState) : Type 0 where
   pub work : Work
-  pub does : Brings t u work
+  pub does : BringsWork t u work
   pub did : Did s (swept_step by a t u work)
   pub pops : IsOfPops popped work.walks a.reply
 
@@ -109,20 +109,20 @@ pub record DidEach (x : Shared) : Type 0 where
       → (a : Answered) × (told ≡ a ∷ []) × SweptPart x.script by a popped t.seats u.seats
 
 -- each command of a script that is valid names what is there
-pub within_at : (x : Shared) → IsShared x → (number k : ℕ) (c : Command) → slice_get (commands_of x.script number) k ≡ Some c → IsCommandWithin (content_of x.script) c
+pub within_at : (x : Shared) → IsShared x → (number k : ℕ) (c : Command) → slice_get (worker_commands x.script number) k ≡ Some c → IsCommandWithin (content_of x.script) c
 within_at x shared number k c at = in_script (slice_get x.script.workers.items number) refl at where
-  in_script : (w : Option WorkerScript) → w ≡ slice_get x.script.workers.items number → slice_get (commands_in w) k ≡ Some c → IsCommandWithin (content_of x.script) c
+  in_script : (w : Option WorkerScript) → w ≡ slice_get x.script.workers.items number → slice_get (listed_commands w) k ≡ Some c → IsCommandWithin (content_of x.script) c
   in_script None there e = absurd (none-some c e)
   in_script (Some w) there e = command_within x shared number w there k c e
 
 -- the steps of a worker that answered all its commands
-pub row_of : (x : Shared) → IsShared x → DidEach x → (number : ℕ) (said : List Answered) (first last : CrewState) → IsFit first.seats → length said ≡ length (commands_of x.script number) → IsWorkOf x number said first last
-    → (mine : List Step) × IsRow x.script (serial_of number) (commands_of x.script number) said first last mine
-row_of x shared did number said first last fit all work = row_from x.script (serial_of number) (commands_of x.script number) said first last work.states fit all work.starts work.ends work.one_more
-    (λ k c a v w fit_v at_c at_a at_v at_w. did.command (serial_of number k) c a v w (within_at x shared number k c at_c) fit_v (work.each k c a v w at_c at_a at_v at_w))
+pub row_of : (x : Shared) → IsShared x → DidEach x → (number : ℕ) (said : List Answered) (first last : CrewState) → IsFit first.seats → length said ≡ length (worker_commands x.script number) → IsWorkOf x number said first last
+    → (mine : List Step) × IsRow x.script (command_serial number) (worker_commands x.script number) said first last mine
+row_of x shared did number said first last fit all work = row_from x.script (command_serial number) (worker_commands x.script number) said first last work.states fit all work.starts work.ends work.one_more
+    (λ k c a v w fit_v at_c at_a at_v at_w. did.command (command_serial number k) c a v w (within_at x shared number k c at_c) fit_v (work.each k c a v w at_c at_a at_v at_w))
 
 -- a list of the state that each step makes longer
-pub along : {A : Type 0} (g : WorkerState → List A) (h : Step → List A) → ((x : Step) → Brings x.before x.after x.work → g x.after ≡ g x.before ++ h x)
-    → (t : WorkerState) (mine : List Step) → AreChained t mine → g (state_after t mine) ≡ g t ++ flat_map h mine
+pub along : {A : Type 0} (g : WorkerState → List A) (h : Step → List A) → ((x : Step) → BringsWork x.before x.after x.work → g x.after ≡ g x.before ++ h x)
+    → (t : WorkerState) (mine : List Step) → AreStepsChained t mine → g (worker_state_after t mine) ≡ g t ++ flat_map h mine
 along g h one t [] c = sym (append-nil (g t))
 along g h one t (x ∷ xs) c = along g h one x.after xs c.2 ∙ (ap (λ l. l ++ flat_map h xs) (one x c.1 ∙ ap (λ (u : WorkerState). g u ++ h x) c.0) ∙ append_assoc (g t) (h x) (flat_map h xs))

@@ -1,12 +1,9 @@
 -- The Scan entries of a walk in the journal of a place are those that its step made there.
-use Rattle.shr_assemble.proofs.Common.{◌≡◌, ℕ, zero, suc, ◌+◌, ◌-◌, ◌<◌, ◌≤◌, ◌≢◌, ◌⊎◌, inl, inr, ⊎_elim, Bool, true, false, ◌&&◌, cond, List, [], ◌∷◌, length, length-append, map, sym, refl, ap, subst, ◌∙◌, arith, eq-eqb, slice_get, Option, Some, None, filter_map, ◌==◌, AllByRecursion, enumerate_from, cons_option, and_parts, eqb-true, cases_lt, same_Some, none-some, slice_get_within, dite, ℕ_discrete, Place, Serial, Entry, Add, Look, Drop, Pin, Scan, MovedIn, Closed, Drained, CacheDecl, Script, PassRecord, WalkRecord, place_number, due, ask_size, batch_of, total_of, ScanMade, scan_by, Has, each_has, first_isolation, total, Made, back, Report, journals_of, IsThere, AreScansOf, Step, IsAmong, gathered, steps_of, MayMake, IsScanned, scan_made, scans_made, IsRun, all_zero, at_some, some_at, sum_total}
-use Rattle.shr_model.specs.Scans.{scans_by}
+use Rattle.shr_assemble.proofs.Common.{◌≡◌, ℕ, zero, suc, ◌+◌, ◌-◌, ◌<◌, ◌≤◌, ◌≢◌, ◌⊎◌, inl, inr, ⊎_elim, Bool, true, false, ◌&&◌, cond, List, [], ◌∷◌, length, length-append, map, sym, refl, ap, subst, ◌∙◌, arith, eq-eqb, slice_get, Option, Some, None, filter_map, ◌==◌, AllByRecursion, enumerate_from, cons_option, and_parts, eqb-true, cases_lt, same_Some, none-some, slice_get_within, dite, ℕ_discrete, Place, Serial, Entry, Add, Look, Drop, Pin, Scan, MovedIn, Closed, Drained, CacheDecl, Script, PassRecord, WalkRecord, place_number, due, ask_size, batch_of, total_of, ScanMade, scan_by, Has, each_has, first_isolation, total, Made, back, Report, journals_of, IsThere, AreScansOf, Step, IsAmong, gathered, steps_of, MayMakeEntry, IsScanned, scan_made, scans_made, IsRun, all_zero, at_some, some_at, sum_total, scans_by, length_total, only_at, enumerated}
 use Rattle.shr_assemble.proofs.Gathering.{each_among, total_gathered, mine_at, mine_is, same_step}
 use Rattle.shr_assemble.proofs.Making.{grows, maker, work_of}
 use Rattle.shr_assemble.proofs.Recounting.{at_place, journal_is}
 use Rattle.shr_assemble.proofs.Flattening.{WalkOf}
-use Rattle.shr_units.proofs.Lists.{length_total, only_at}
-use Rattle.shr_units.proofs.Reclaims.{enumerated}
 use Rattle.shr_units.proofs.WalksLaw.{take_alike}
 
 -- ---- a share that only one step has
@@ -52,7 +49,7 @@ has_kept h (y ∷ xs) zero x a e k = option_has (h y) (filter_map h xs) a (inl (
 has_kept h (y ∷ xs) (suc j) x a e k = option_has (h y) (filter_map h xs) a (inr (has_kept h xs j x a e k))
 
 -- a Scan that is told apart is of the worker and of the walk
-scan_is : (worker walk number : ℕ) (e : Entry) (s : Script) (x : Step) (m : Made) (a : ScanMade) → scan_by worker walk number e ≡ Some a → walk < first_isolation → MayMake s x m e → IsScanned x m worker walk
+scan_is : (worker walk number : ℕ) (e : Entry) (s : Script) (x : Step) (m : Made) (a : ScanMade) → scan_by worker walk number e ≡ Some a → walk < first_isolation → MayMakeEntry s x m e → IsScanned x m worker walk
 scan_is worker walk number (Add by birth added key value) s x m a h low may = absurd (none-some a h)
 scan_is worker walk number (Look by birth key hit) s x m a h low may = absurd (none-some a h)
 scan_is worker walk number (Drop by birth key kind) s x m a h low may = absurd (none-some a h)
@@ -125,9 +122,9 @@ module _ (s : Script) (r : Report) (workers : List (List Step)) (run : IsRun s r
 
         others : (v j : ℕ) (y : Step) → slice_get (steps_of workers v) j ≡ Some y → ((v ≡ worker) × (j ≡ of.k) → ⊥) → total (at_place (place_number p) (λ (m : Made). weight_of f (scan_by worker n m.number m.entry))) y.work.core.made ≡ 0
         others v j y at apart = all_zero (at_place (place_number p) (λ (m : Made). weight_of f (scan_by worker n m.number m.entry))) y.work.core.made
-            (λ i m e. none m (m.place == place_number p) (scan_by worker n m.number m.entry) refl (each_among (λ (z : Made). MayMake s y z z.entry) y.work.core.made m (run.steps.each v j y at).did.entries.each (i, some_at y.work.core.made i m e)))
+            (λ i m e. none m (m.place == place_number p) (scan_by worker n m.number m.entry) refl (each_among (λ (z : Made). MayMakeEntry s y z z.entry) y.work.core.made m (run.steps.each v j y at).did.entries.each (i, some_at y.work.core.made i m e)))
           where
-            none : (m : Made) (b : Bool) (o : Option ScanMade) → scan_by worker n m.number m.entry ≡ o → MayMake s y m m.entry → cond b (weight_of f o) 0 ≡ 0
+            none : (m : Made) (b : Bool) (o : Option ScanMade) → scan_by worker n m.number m.entry ≡ o → MayMakeEntry s y m m.entry → cond b (weight_of f o) 0 ≡ 0
             none m true None e may = refl
             none m false None e may = refl
             none m false (Some a) e may = refl
@@ -140,7 +137,7 @@ module _ (s : Script) (r : Report) (workers : List (List Step)) (run : IsRun s r
         let stands = enumerated 0 (journals_of r p) t.0 t.1 t.2 in
         let number : t.1.0 ≡ t.0 = stands.1 ∙ omega arith in
         let m = maker s r workers run p t.1.0 t.1.1 (ap (slice_get (journals_of r p)) number ∙ stands.0) in
-        let may = subst (MayMake s m.step m.made) m.entry (each_among (λ (z : Made). MayMake s m.step z z.entry) m.step.work.core.made m.made (run.steps.each m.worker m.k m.step m.at).did.entries.each m.among) in
+        let may = subst (MayMakeEntry s m.step m.made) m.entry (each_among (λ (z : Made). MayMakeEntry s m.step z z.entry) m.step.work.core.made m.made (run.steps.each m.worker m.k m.step m.at).did.entries.each m.among) in
         let same = walk_step m.worker m.k m.step m.made m.at (scan_is worker n t.1.0 t.1.1 s m.step m.made a t.3 of.did.low may) in
         let step : m.step ≡ of.step = same_step workers m.worker m.k worker of.k m.step of.step m.at of.at same.0 same.1 in
         let among : IsAmong m.made of.step.work.core.made = subst (λ (z : Step). IsAmong m.made z.work.core.made) step m.among in

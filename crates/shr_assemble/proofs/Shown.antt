@@ -1,8 +1,7 @@
 -- What a step made, loaded and knows is so in the report.
-use Rattle.shr_assemble.proofs.Common.{◌≡◌, ℕ, zero, suc, ◌+◌, ◌≤◌, Bool, true, false, cond, List, [], ◌∷◌, ◌++◌, length, length-append, take, sym, refl, ap, subst, ◌∙◌, arith, eq-eqb, slice_get, Some, flat_map, count_by, not, take-append-le, sum_by-IsPermutation, same_Some, none-some, PoolEntry, TreeEntry, Begin, UseStep, Serial, Script, ups, downs, total, total-append, term_le, Loaded, IsNamed, WorkerState, Report, uses_at, lookups_at, StandsInTree, Step, IsAmong, steps_of, AreChained, all_ops, IsRun, begin_at, count_total, some_at, sum_total}
+use Rattle.shr_assemble.proofs.Common.{◌≡◌, ℕ, zero, suc, ◌+◌, ◌≤◌, Bool, true, false, cond, List, [], ◌∷◌, ◌++◌, length, length-append, take, sym, refl, ap, subst, ◌∙◌, arith, eq-eqb, slice_get, Some, flat_map, count_by, not, take-append-le, sum_by-IsPermutation, same_Some, none-some, PoolEntry, TreeEntry, Begin, UseStep, Serial, Script, ups, downs, total, total-append, term_le, Loaded, IsNamed, WorkerState, Report, uses_at, lookups_at, StandsInTree, Step, IsAmong, steps_of, AreStepsChained, all_ops, IsRun, begin_at, count_total, some_at, sum_total, is_of_worker, ups_of, downs_of}
 use Rattle.shr_charge.specs.declared.answers.GroupState.TheVariants as state
-use Rattle.shr_report.specs.Parts.{hierarchy_of}
-use Rattle.shr_report.specs.Causes.{is_of_worker, ups_of, downs_of}
+use Rattle.shr_report.specs.Parts.{script_hierarchy}
 use Rattle.shr_assemble.proofs.Gathering.{among_right, mine_at, total_flat, total_same_on}
 use Rattle.shr_assemble.proofs.Listed.{all_among, begins_slice}
 use Rattle.shr_assemble.proofs.Making.{work_of}
@@ -10,7 +9,7 @@ use Rattle.shr_assemble.proofs.Making.{work_of}
 module _ (s : Script) (r : Report) (workers : List (List Step)) (run : IsRun s r workers) (worker k : ℕ) (x : Step) (at : slice_get (steps_of workers worker) k ≡ Some x) where
   -- a group word that was loaded names a Begin
   pub word_stands : (group entry : ℕ) → IsAmong (record { group = group; state = state.Offline entry }) x.work.words → StandsInTree r entry (Begin group)
-  word_stands group entry among = begin_at r.tree.items group entry (all_among (IsNamed (hierarchy_of s) r.tree.items) x.after.tree.loaded (record { group = group; state = state.Offline entry }) (run.steps.shown worker k x at).words
+  word_stands group entry among = begin_at r.tree.items group entry (all_among (IsNamed (script_hierarchy s) r.tree.items) x.after.tree.loaded (record { group = group; state = state.Offline entry }) (run.steps.shown worker k x at).words
       (subst (λ l. IsAmong (record { group = group; state = state.Offline entry }) l) (sym (work_of s r workers run worker k x at).words) (among_right x.before.tree.loaded x.work.words (record { group = group; state = state.Offline entry }) among))).1
 
   -- a lookup word that was loaded had no more lookups than are printed
@@ -49,7 +48,7 @@ ups_both xs ys = omega (arith, count_total (λ (o : UseStep). o.up) (xs ++ ys), 
 downs_both : (xs ys : List UseStep) → downs (xs ++ ys) ≡ downs xs + downs ys
 downs_both xs ys = omega (arith, count_total (λ (o : UseStep). not o.up) (xs ++ ys), count_total (λ (o : UseStep). not o.up) xs, count_total (λ (o : UseStep). not o.up) ys, total-append (λ (o : UseStep). cond (not o.up) 1 0) xs ys)
 
-calls_along : (t : WorkerState) (mine : List Step) (k : ℕ) (x : Step) → AreChained t mine → ((j : ℕ) (y : Step) → slice_get mine j ≡ Some y → paced y) → slice_get mine k ≡ Some x
+calls_along : (t : WorkerState) (mine : List Step) (k : ℕ) (x : Step) → AreStepsChained t mine → ((j : ℕ) (y : Step) → slice_get mine j ≡ Some y → paced y) → slice_get mine k ≡ Some x
     → (x.after.uses.charges ≤ t.uses.charges + ups (flat_map (λ (y : Step). y.work.ops) mine)) × (x.after.uses.uncharges ≤ t.uses.uncharges + downs (flat_map (λ (y : Step). y.work.ops) mine))
 calls_along t [] k x c p e = absurd (none-some x e)
 calls_along t (y ∷ mine) zero x c p e =

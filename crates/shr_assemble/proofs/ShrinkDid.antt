@@ -1,11 +1,9 @@
 -- A `shrink` did what the report asks.
-use Rattle.shr_assemble.proofs.Common.{◌≡◌, ℕ, ◌<◌, inl, inr, ⊎_elim, Bool, List, [], ◌∷◌, length, map, take, sym, refl, ap, subst, ◌∙◌, arith, true, false, slice_get, Option, Some, ◌||◌, same_Some, none-some, Serial, Answered, Command, Shrink, WalkAnswer, WalkRecord, IsPrefixOf, Job, job, job_of, is_cut, parents_of, WorkerState, Work, Shared, Walk, next_walk, unfound, walk_reply, KnowsOnline, IsAmong}
+use Rattle.shr_assemble.proofs.Common.{◌≡◌, ℕ, ◌<◌, inl, inr, ⊎_elim, Bool, List, [], ◌∷◌, length, map, take, sym, refl, ap, subst, ◌∙◌, arith, true, false, slice_get, Option, Some, ◌||◌, same_Some, none-some, Serial, Answered, Command, Shrink, WalkAnswer, WalkRecord, IsPrefixOf, Job, job, job_of, is_cut, parents_of, WorkerState, Work, Shared, Walk, next_walk, unfound, walk_reply, KnowsOnline, IsAmong, shrink_reply, reply_of, Shrinks}
 use Rattle.shr_base.specs.declared.replies.Reply.TheVariants as reply
 use Rattle.shr_base.specs.declared.walks.WalkAnswer.TheVariants as answered
 use Rattle.shr_charge.specs.Views as charge
 use Rattle.shr_charge.specs.declared.answers.GroupState.TheVariants as state
-use Rattle.shr_report.specs.WalksLawful.{shrink_reply, reply_of}
-use Rattle.shr_worker.specs.Commands.{Shrinks}
 use Rattle.shr_assemble.proofs.Bringing.{brings_of}
 use Rattle.shr_assemble.proofs.WalkingTold.{IsTableOf}
 use Rattle.shr_assemble.proofs.WalkingGives.{one_seen, one_online, IsNoted, Gave, gave}
@@ -31,7 +29,7 @@ module _ (x : Shared) (table : IsTableOf x) (by : Serial) (group node priority :
 
   offline_word : (entry : ℕ) (w : Work) → Walked x.script by Command_of (unfound (reply.Offline entry)) s t w → IsNoted (next_walk by s group node priority nofs) (answered.Offline entry) w.walks → IsAmong (record { group = group; state = state.Offline entry }) w.words
   offline_word entry w walked n = let d = walked.each 0 n.noted (ap (λ (l : List WalkRecord). slice_get l 0) n.walks_are) in
-      subst (λ g. IsAmong {A = charge.Loaded} (record { group = g; state = state.Offline entry }) w.words) (ap (λ (j : Job). j.group) n.job_is) (d.word entry n.answer_is)
+      subst (λ g. IsAmong {A = charge.LoadedState} (record { group = g; state = state.Offline entry }) w.words) (ap (λ (j : Job). j.group) n.job_is) (d.word entry n.answer_is)
 
   did_answer : (answer : WalkAnswer) → Gave x (next_walk by s group node priority nofs) Command_of (unfound (walk_reply answer)) answer s t → ((freed : ℕ) → answer ≡ answered.Walked freed → 0 < group → KnowsOnline s.tree group)
       → Stepping x by Command_of (unfound (walk_reply answer)) s t

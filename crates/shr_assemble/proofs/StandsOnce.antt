@@ -1,6 +1,5 @@
 -- In a legal journal of the tree the Done of a group stands once.
-use Rattle.shr_assemble.proofs.Common.{◌≡◌, ℕ, ◌<◌, ⊎_elim, List, take, sym, ◌∙◌, arith, slice_get, Some, cases_lt, none-some, dite, ℕ_discrete, TreeEntry, Done, Hierarchy, IsTreeJournal, done_found, take_in}
-use Rattle.shr_model.specs.TreeJournal.{MayBeDone}
+use Rattle.shr_assemble.proofs.Common.{◌≡◌, ℕ, ◌<◌, ⊎_elim, List, take, sym, ◌∙◌, arith, slice_get, Some, cases_lt, none-some, dite, ℕ_discrete, TreeEntry, Done, Hierarchy, IsTreeJournal, done_found, take_in, MayBeDone}
 
 module _ (h : Hierarchy) (es : List TreeEntry) (legal : IsTreeJournal h es) where
   pub done_once : (g n m : ℕ) → slice_get es n ≡ Some (Done g) → slice_get es m ≡ Some (Done g) → n ≡ m

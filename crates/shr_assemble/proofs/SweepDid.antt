@@ -1,14 +1,12 @@
 -- What a helper of a sweep did.
-use Rattle.shr_assemble.proofs.Common.{◌≡◌, ℕ, ◌<◌, Bool, List, [], ◌∷◌, ◌++◌, length, map, sym, refl, ap, subst, ◌∙◌, sum, Some, None, AllByRecursion, append-nil, map-append, length-map, none-some, Serial, Answered, Reply, Sweep, WalkAnswer, WalkRecord, Job, job_of, SweepItem, End, SweepJob, Visit, job_in, HadRoom, AreVisited, parents_of, IsSwept, HadMemory, WorkerState, Shared, CrewState, unfound, Did, HasHelped, job_walked}
+use Rattle.shr_assemble.proofs.Common.{◌≡◌, ℕ, ◌<◌, Bool, List, [], ◌∷◌, ◌++◌, length, map, sym, refl, ap, subst, ◌∙◌, sum, Some, None, AllByRecursion, append-nil, map-append, length-map, none-some, Serial, Answered, Reply, Sweep, WalkAnswer, WalkRecord, Job, job_of, SweepItem, End, SweepJob, Visit, job_in, VisitHadMemory, AreVisited, parents_of, IsSwept, HadMemory, WorkerState, Shared, CrewState, unfound, Did, HasHelped, job_walked, IsSweepWalk, sweep_reply}
 use Rattle.shr_base.specs.declared.replies.Reply.TheVariants as reply
 use Rattle.shr_pool.specs.declared.items.SweepItem.TheVariants.{Walk}
 use Rattle.shr_pool.specs.declared.view.PassView.{PassView}
-use Rattle.shr_report.specs.Swept.{IsSweepWalk}
 use Rattle.shr_sweep.specs.declared.answers.SweepAnswer.{SweepAnswer}
 use Rattle.shr_sweep.specs.declared.answers.SweepAnswer.TheVariants as sweep
-use Rattle.shr_sweep.specs.Helping.{HelpGives, HasSwept, HasStopped, walk_of, freed_in}
+use Rattle.shr_sweep.specs.Helping.{HelpGives, HasSwept, HasStopped, walk_of_job, visit_freed}
 use Rattle.shr_walk.specs.Balances as balances
-use Rattle.shr_assemble.specs.Ends.{sweep_reply}
 use Rattle.shr_assemble.proofs.Bringing.{brings_of}
 use Rattle.shr_assemble.proofs.Rows.{SweptPart, IsThereItem}
 use Rattle.shr_assemble.proofs.WalkingChain.{GaveAll, IsThereJob, AllNoted, gave_all, all_seen, visited_one, all_had, all_cut}
@@ -20,17 +18,17 @@ use Rattle.shr_assemble.proofs.WalkingTold.{IsTableOf}
 abbrev answer_in : Visit → WalkAnswer
 answer_in v = v.answer
 
-had_all : (vs : List Visit) → AllByRecursion HadRoom vs → AllByRecursion HadMemory (map answer_in vs)
+had_all : (vs : List Visit) → AllByRecursion VisitHadMemory vs → AllByRecursion HadMemory (map answer_in vs)
 had_all [] h = tt
 had_all (v ∷ vs) h = (h.0, had_all vs h.1)
 
-same_freed : (vs : List Visit) → map freed_in vs ≡ map balances.freed_told (map answer_in vs)
+same_freed : (vs : List Visit) → map visit_freed vs ≡ map balances.walk_freed (map answer_in vs)
 same_freed [] = refl
-same_freed (v ∷ vs) = ap (λ l. balances.freed_told v.answer ∷ l) (same_freed vs)
+same_freed (v ∷ vs) = ap (λ l. balances.walk_freed v.answer ∷ l) (same_freed vs)
 
 module _ (x : Shared) (priority : ℕ) (nofs : Bool) where
   abbrev walk_as : SweepJob → Job
-  walk_as j = walk_of priority nofs j
+  walk_as j = walk_of_job priority nofs j
 
   -- the jobs that were popped are there
   jobs_there : (jobs : List SweepJob) (rest : List SweepItem) → AllByRecursion (IsThereItem x.script) (map Walk jobs ++ rest) → AllByRecursion (IsThereJob x) (map walk_as jobs)
@@ -75,7 +73,7 @@ module _ (x : Shared) (priority : ℕ) (nofs : Bool) where
 
 module _ (x : Shared) (table : IsTableOf x) (z : Sweep) (asked : x.script.sweep ≡ Some z) (by : Serial) (s t : WorkerState) where
   abbrev walk_for : SweepJob → Job
-  walk_for j = walk_of z.priority z.nofs j
+  walk_for j = walk_of_job z.priority z.nofs j
 
   -- what the walks gave
   gave : (r : Reply) (walks : List Visit) → AreVisited x by walks s t → AllByRecursion (IsThereJob x) (map job_in walks) → GaveAll x by None (unfound r) (map job_in walks) (map answer_in walks) s t
@@ -121,7 +119,7 @@ module _ (x : Shared) (table : IsTableOf x) (z : Sweep) (asked : x.script.sweep 
       let pops : popped ≡ map Walk h.jobs ++ End ∷ [] = sym ended ∙ (ap (λ (y : PassView). y.popped) h.popped ∙ ap (λ (l : List SweepItem). l ++ (map Walk h.jobs ++ End ∷ [])) fresh) in
       let here : AllByRecursion (IsThereJob x) (map walk_for h.jobs) = jobs_there x z.priority z.nofs h.jobs (End ∷ []) (subst (AllByRecursion (IsThereItem x.script)) pops there) in
       let all = gave (reply.Swept count freed) h.walks h.walked.visited (subst (AllByRecursion (IsThereJob x)) (sym h.walked.all) here) in
-      let had = all_had (map job_in h.walks) (map answer_in h.walks) all.work.walks all.noted (had_all h.walks (rec_of HadRoom h.walks h.walked.had)) in
+      let had = all_had (map job_in h.walks) (map answer_in h.walks) all.work.walks all.noted (had_all h.walks (rec_of VisitHadMemory h.walks h.walked.had)) in
       let jobs : map job_of all.work.walks ≡ map walk_for h.jobs = had.jobs_are ∙ h.walked.all in
       let same : h.jobs ≡ map job_walked all.work.walks = all_jobs x z.priority z.nofs all.work.walks h.jobs jobs in
       let long : count ≡ length all.work.walks = h.counted ∙ (ap (λ (l : List SweepJob). length l) same ∙ length-map all.work.walks job_walked) in
@@ -147,7 +145,7 @@ module _ (x : Shared) (table : IsTableOf x) (z : Sweep) (asked : x.script.sweep 
       let all = gave (reply.WalkMemory freed) h.walks h.visited (subst (AllByRecursion (IsThereJob x)) (sym h.each) here) in
       let answers : map answer_in h.walks ≡ map answer_in h.cut.front ++ h.cut.last.answer ∷ [] = ap (map answer_in) h.cut.whole ∙ map-append answer_in h.cut.front (h.cut.last ∷ []) in
       let cut = all_cut (map job_in h.walks) (map answer_in h.cut.front) h.cut.last.answer all.work.walks (subst (λ (l : List WalkAnswer). AllNoted (map job_in h.walks) l all.work.walks) answers all.noted)
-      (had_all h.cut.front (rec_of HadRoom h.cut.front h.cut.had)) h.cut.lacked in
+      (had_all h.cut.front (rec_of VisitHadMemory h.cut.front h.cut.had)) h.cut.lacked in
       let jobs : map job_of all.work.walks ++ cut.begins.0 ≡ map walk_for h.jobs = sym cut.begins.1 ∙ h.each in
       let left = first_jobs x z.priority z.nofs all.work.walks h.jobs cut.begins.0 jobs in
       record {
@@ -158,7 +156,7 @@ module _ (x : Shared) (table : IsTableOf x) (z : Sweep) (asked : x.script.sweep 
           kind = tt;
           walks_are = walks_right x z.priority z.nofs z refl refl all.work.walks h.jobs cut.begins.0 jobs here;
           jobs = λ n f e. absurd (cc);
-          freed = h.sum_freed ∙ (ap sum (same_freed h.walks) ∙ (ap (λ (l : List WalkAnswer). sum (map balances.freed_told l)) answers ∙ sym cut.sum_told));
+          freed = h.sum_freed ∙ (ap sum (same_freed h.walks) ∙ (ap (λ (l : List WalkAnswer). sum (map balances.walk_freed l)) answers ∙ sym cut.sum_told));
         });
         pops = record { rest = map Walk left.0; first = pops ∙ (ap (map Walk) left.1 ∙ map-append Walk (map job_walked all.work.walks) left.0); all = λ out. absurd out };
       }

@@ -1,8 +1,7 @@
 -- The sweep of a run is lawful.
-use Rattle.shr_assemble.proofs.Common.{◌≡◌, ℕ, zero, suc, ◌+◌, ◌<◌, ◌≤◌, Bool, cond, List, [], ◌∷◌, ◌++◌, length, map, sym, refl, ap, subst, ◌∙◌, arith, slice_get, Option, Some, flat_map, count_by, ◌&&◌, ◌==◌, range_with_len, IsSomeAnd, sum_by-cons, sum_by-append, none-some, same_Some, Answered, Reply, Script, Sweep, WorkerScript, WalkRecord, SweepItem, End, of_job, only_job, Report, parents_of, commands_of, sweeps_in, sweeps_of, reply_at, sweep_serial, IsSwept, total, total-append, IsRun, Step, IsOfPops, job_walked, all_popped}
+use Rattle.shr_assemble.proofs.Common.{◌≡◌, ℕ, zero, suc, ◌+◌, ◌<◌, ◌≤◌, Bool, cond, List, [], ◌∷◌, ◌++◌, length, map, sym, refl, ap, subst, ◌∙◌, arith, slice_get, Option, Some, flat_map, count_by, ◌&&◌, ◌==◌, range_with_len, IsSomeAnd, sum_by-cons, sum_by-append, none-some, same_Some, Answered, Reply, Script, Sweep, WorkerScript, WalkRecord, SweepItem, End, of_job, only_job, Report, parents_of, commands_of, sweeps_in, sweeps_of, reply_at, sweep_serial, IsSwept, total, total-append, IsRun, Step, IsOfPops, job_walked, all_popped, sweep_walks, times_swept, IsSweptOut, IsSweepRight, IsSweepLawful}
 use Rattle.shr_pool.specs.declared.items.SweepItem.TheVariants.{Walk}
-use Rattle.shr_pool.specs.Lines.{job, is_end, ends}
-use Rattle.shr_report.specs.Swept.{sweep_walks, times_swept, IsSweptOut, IsSweepRight, IsSweepLawful}
+use Rattle.shr_pool.specs.Lines.{sweep_job, is_end, ends}
 use Rattle.shr_assemble.proofs.Crews.{there_at}
 use Rattle.shr_assemble.proofs.Making.{reply_is}
 use Rattle.shr_assemble.proofs.SweepSteps.{SweepStep, sweep_step}
@@ -14,7 +13,7 @@ abbrev is_job : ℕ → ℕ → WalkRecord → Bool
 is_job group node w = (w.group == group) && (w.node == node)
 
 -- the walks of a job weigh as much as the job among those that were walked
-jobs_weigh : (group node : ℕ) (ws : List WalkRecord) (rest : List SweepItem) → total (of_job (only_job (job group node))) (map Walk (map job_walked ws) ++ rest) ≡ count_by (is_job group node) ws + total (of_job (only_job (job group node))) rest
+jobs_weigh : (group node : ℕ) (ws : List WalkRecord) (rest : List SweepItem) → total (of_job (only_job (sweep_job group node))) (map Walk (map job_walked ws) ++ rest) ≡ count_by (is_job group node) ws + total (of_job (only_job (sweep_job group node))) rest
 jobs_weigh group node [] rest = omega arith
 jobs_weigh group node (w ∷ ws) rest = let e = sum_by-cons (λ (v : WalkRecord). cond (is_job group node v) 1 0) w ws in omega (arith, e, jobs_weigh group node ws rest)
 
@@ -65,9 +64,9 @@ module _ (s : Script) (r : Report) (workers : List (List Step)) (run : IsRun s r
   pops : (worker : ℕ) (t : SweepStep s r workers worker) → IsOfPops (popped worker) t.step.work.walks t.step.answered.reply
   pops worker t = run.sweep.walked worker (length (commands_of s worker)) t.step t.at t.command
 
-  weighs : (worker group node : ℕ) (t : SweepStep s r workers worker) → total (of_job (only_job (job group node))) (popped worker) ≡ count_by (is_job group node) (sweep_walks s r worker) + total (of_job (only_job (job group node))) (pops worker t).rest
-  weighs worker group node t = ap (total (of_job (only_job (job group node)))) (pops worker t).first
-      ∙ (jobs_weigh group node t.step.work.walks (pops worker t).rest ∙ ap (λ (l : List WalkRecord). count_by (is_job group node) l + total (of_job (only_job (job group node))) (pops worker t).rest) (sym (walks_of_part worker t)))
+  weighs : (worker group node : ℕ) (t : SweepStep s r workers worker) → total (of_job (only_job (sweep_job group node))) (popped worker) ≡ count_by (is_job group node) (sweep_walks s r worker) + total (of_job (only_job (sweep_job group node))) (pops worker t).rest
+  weighs worker group node t = ap (total (of_job (only_job (sweep_job group node)))) (pops worker t).first
+      ∙ (jobs_weigh group node t.step.work.walks (pops worker t).rest ∙ ap (λ (l : List WalkRecord). count_by (is_job group node) l + total (of_job (only_job (sweep_job group node))) (pops worker t).rest) (sym (walks_of_part worker t)))
 
   abbrev numbers : List ℕ
   numbers = range_with_len 0 (length s.workers.items)
@@ -75,10 +74,10 @@ module _ (s : Script) (r : Report) (workers : List (List Step)) (run : IsRun s r
   once : (group node : ℕ) → times_swept s r group node ≤ 1
   once group node =
       let all = run.sweep.once z asked in
-      let most = sums_most (is_job group node) (sweep_walks s r) (of_job (only_job (job group node))) popped numbers
+      let most = sums_most (is_job group node) (sweep_walks s r) (of_job (only_job (sweep_job group node))) popped numbers
       (λ m worker e. let w = weighs worker group node (part worker (below_in (length s.workers.items) m worker e)) in omega (arith, w)) in
-      let same = ap (total (of_job (only_job (job group node)))) all.same in
-      let one = all.once.once (job group node) in
+      let same = ap (total (of_job (only_job (sweep_job group node)))) all.same in
+      let one = all.once.once (sweep_job group node) in
       omega (arith, most, same, one)
 
   module _ (out : (worker : ℕ) → worker < length s.workers.items → IsSomeAnd (reply_at r (sweep_serial s worker)) IsSweptOut) where
@@ -98,16 +97,16 @@ module _ (s : Script) (r : Report) (workers : List (List Step)) (run : IsRun s r
     all_swept : (group node : ℕ) → group < length (parents_of s) → node < s.nodes → times_swept s r group node ≡ 1
     all_swept group node low on =
         let all = run.sweep.once z asked in
-        let same = ap (total (of_job (only_job (job group node)))) all.same in
-        let each = sums_same (is_job group node) (sweep_walks s r) (of_job (only_job (job group node))) popped numbers
+        let same = ap (total (of_job (only_job (sweep_job group node)))) all.same in
+        let each = sums_same (is_job group node) (sweep_walks s r) (of_job (only_job (sweep_job group node))) popped numbers
         (λ m worker e.
         let lt = below_in (length s.workers.items) m worker e in
         let t = part worker lt in
         let w = weighs worker group node t in
-        let none = ap (total (of_job (only_job (job group node)))) (behind worker lt t) in
+        let none = ap (total (of_job (only_job (sweep_job group node)))) (behind worker lt t) in
         omega (arith, w, none)) in
         let mark : 0 < ends all.view.popped = subst (λ (l : List SweepItem). 0 < ends l) (sym all.same) marked in
-        let one = all.once.all mark (job group node) (record { node = on; group = low }) in
+        let one = all.once.all mark (sweep_job group node) (record { node = on; group = low }) in
         omega (arith, each, same, one)
 
   right : IsSweepRight s r z

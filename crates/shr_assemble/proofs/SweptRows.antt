@@ -1,6 +1,6 @@
 -- The steps of a worker: those of its commands, and behind them that of the sweep of a script that has one.
-use Rattle.shr_assemble.proofs.Common.{◌≡◌, ℕ, zero, suc, ◌+◌, ◌<◌, ◌≤◌, ◌⊎◌, inl, inr, ⊎_elim, List, [], ◌∷◌, ◌++◌, length, length-append, take, sym, refl, ap, subst, ◌∙◌, arith, slice_get, Option, Some, None, flat_map, AllByRecursion, append-nil, same_Some, none-some, slice_get_within, slice_get_past, Serial, Answered, Command, Script, Sweep, WorkerScript, Isolation, SweepItem, sweeps_in, sweeps_of, IsShared, WorkerState, Shared, CrewState, View, WorkerLog, Did, HelpsWith, HasWorked, new_worker, isolated_in, isolated_before, DidIsolations, Step, AreChained, state_after, Brings, IsOfPops, slice_cases, slice_left}
-use Rattle.shr_worker.specs.Chain.{commands_of, serial_of}
+use Rattle.shr_assemble.proofs.Common.{◌≡◌, ℕ, zero, suc, ◌+◌, ◌<◌, ◌≤◌, ◌⊎◌, inl, inr, ⊎_elim, List, [], ◌∷◌, ◌++◌, length, length-append, take, sym, refl, ap, subst, ◌∙◌, arith, slice_get, Option, Some, None, flat_map, AllByRecursion, append-nil, same_Some, none-some, slice_get_within, slice_get_past, Serial, Answered, Command, Script, Sweep, WorkerScript, Isolation, SweepItem, sweeps_in, sweeps_of, IsShared, WorkerState, Shared, CrewState, View, WorkerLog, Did, HelpsWith, HasWorked, new_worker, isolated_in, isolated_before, DidIsolations, Step, AreStepsChained, worker_state_after, BringsWork, IsOfPops, slice_cases, slice_left}
+use Rattle.shr_worker.specs.Chain.{worker_commands, command_serial}
 use Rattle.shr_assemble.proofs.Fit.{IsFit, fit_new}
 use Rattle.shr_assemble.proofs.Rows.{IsRow, DidEach, SweptPart, IsThereItem, swept_step, row_of}
 
@@ -8,8 +8,8 @@ use Rattle.shr_assemble.proofs.Rows.{IsRow, DidEach, SweptPart, IsThereItem, swe
 pub record IsWorkerRow (s : Script) (by : ℕ → Serial) (cs : List Command) (sweeps : ℕ) (popped : List SweepItem) (said : List Answered) (first last : CrewState) (mine : List Step) : Type 0 where
   pub commands : length mine ≡ length cs + sweeps
   pub answers : length said ≡ length mine
-  pub chained : AreChained first.seats mine
-  pub ends : state_after first.seats mine ≡ last.seats
+  pub chained : AreStepsChained first.seats mine
+  pub ends : worker_state_after first.seats mine ≡ last.seats
   pub each : (k : ℕ) (x : Step) → slice_get mine k ≡ Some x → (x.by ≡ by k) × (slice_get cs k ≡ x.command) × (slice_get said k ≡ Some x.answered) × Did s x
   pub pops : (k : ℕ) (x : Step) → slice_get mine k ≡ Some x → x.command ≡ None → IsOfPops popped x.work.walks x.answered.reply
   pub recorded : last.isolations ≡ first.isolations ++ flat_map isolated_in mine
@@ -40,11 +40,11 @@ module _ (s : Script) (by : ℕ → Serial) (cs : List Command) (popped : List S
     fit = row.fit;
   }
 
-chain_more : (t : WorkerState) (mine : List Step) (x : Step) → AreChained t mine → x.before ≡ state_after t mine → Brings x.before x.after x.work → AreChained t (mine ++ x ∷ [])
+chain_more : (t : WorkerState) (mine : List Step) (x : Step) → AreStepsChained t mine → x.before ≡ worker_state_after t mine → BringsWork x.before x.after x.work → AreStepsChained t (mine ++ x ∷ [])
 chain_more t [] x c e b = (e, b, tt)
 chain_more t (y ∷ mine) x c e b = (c.0, c.1, chain_more y.after mine x c.2 e b)
 
-state_more : (t : WorkerState) (mine : List Step) (x : Step) → state_after t (mine ++ x ∷ []) ≡ x.after
+state_more : (t : WorkerState) (mine : List Step) (x : Step) → worker_state_after t (mine ++ x ∷ []) ≡ x.after
 state_more t [] x = refl
 state_more t (y ∷ mine) x = state_more y.after mine x
 
@@ -105,15 +105,15 @@ module _ (s : Script) (by : ℕ → Serial) (cs : List Command) (popped : List S
 
 -- steps of a worker that answered so
 abbrev IsWanted : Shared → View → ℕ → List SweepItem → CrewState → ℕ → List Answered → Type 0
-IsWanted x opened number popped last sweeps said = (mine : List Step) × IsWorkerRow x.script (serial_of number) (commands_of x.script number) sweeps popped said (new_worker opened number) last mine
+IsWanted x opened number popped last sweeps said = (mine : List Step) × IsWorkerRow x.script (command_serial number) (worker_commands x.script number) sweeps popped said (new_worker opened number) last mine
 
 -- the steps of a worker that answered all its commands, and the sweep of its script
 pub worker_row : (x : Shared) → IsShared x → DidEach x → (opened : View) (number : ℕ) (log : WorkerLog) (popped : List SweepItem) (last : CrewState) → number < length x.script.workers.items
     → ((z : Sweep) → x.script.sweep ≡ Some z → AllByRecursion (IsThereItem x.script) popped) → HasWorked x opened number log popped last
-    → (mine : List Step) × IsWorkerRow x.script (serial_of number) (commands_of x.script number) (sweeps_of x.script number) popped log.answers.items (new_worker opened number) last mine
+    → (mine : List Step) × IsWorkerRow x.script (command_serial number) (worker_commands x.script number) (sweeps_of x.script number) popped log.answers.items (new_worker opened number) last mine
 worker_row x shared did opened number log popped last within there w = by_sweep x.script.sweep refl w.helped
   where
-    row : (mine : List Step) × IsRow x.script (serial_of number) (commands_of x.script number) w.own (new_worker opened number) w.done mine
+    row : (mine : List Step) × IsRow x.script (command_serial number) (worker_commands x.script number) w.own (new_worker opened number) w.done mine
     row = row_of x shared did number w.own (new_worker opened number) w.done (fit_new opened number) w.all w.work
 
     one_sweep : (z : Sweep) (o : Option WorkerScript) → slice_get x.script.workers.items number ≡ o → sweeps_in (Some z) o ≡ 1
@@ -125,20 +125,20 @@ worker_row x shared did opened number log popped last within there w = by_sweep 
         past (v ∷ ws) (suc n) h = omega (arith, past ws n h)
     one_sweep z (Some v) e = refl
 
-    by_sweep : (o : Option Sweep) → x.script.sweep ≡ o → HelpsWith x o (serial_of number (length (commands_of x.script number))) w.told popped w.done last → IsWanted x opened number popped last (sweeps_of x.script number) log.answers.items
+    by_sweep : (o : Option Sweep) → x.script.sweep ≡ o → HelpsWith x o (command_serial number (length (worker_commands x.script number))) w.told popped w.done last → IsWanted x opened number popped last (sweeps_of x.script number) log.answers.items
     by_sweep None e h =
         let said : log.answers.items ≡ w.own = w.answers ∙ (ap (λ l. w.own ++ l) h.0 ∙ append-nil w.own) in
         let none : sweeps_of x.script number ≡ 0 = ap (λ (z : Option Sweep). sweeps_in z (slice_get x.script.workers.items number)) e in
         subst (λ n. IsWanted x opened number popped last n log.answers.items) (sym none) (subst (IsWanted x opened number popped last 0) (sym said) (
           row.0,
-          subst (λ (t : CrewState). IsWorkerRow x.script (serial_of number) (commands_of x.script number) 0 popped w.own (new_worker opened number) t row.0) (sym h.1)
-              (alone x.script (serial_of number) (commands_of x.script number) popped w.own (new_worker opened number) w.done row.0 row.1),
+          subst (λ (t : CrewState). IsWorkerRow x.script (command_serial number) (worker_commands x.script number) 0 popped w.own (new_worker opened number) t row.0) (sym h.1)
+              (alone x.script (command_serial number) (worker_commands x.script number) popped w.own (new_worker opened number) w.done row.0 row.1),
         ))
     by_sweep (Some z) e h =
-        let part = did.sweep z (serial_of number (length (commands_of x.script number))) w.told popped w.done last e (there z e) h in
+        let part = did.sweep z (command_serial number (length (worker_commands x.script number))) w.told popped w.done last e (there z e) h in
         let said : log.answers.items ≡ w.own ++ part.0 ∷ [] = w.answers ∙ ap (λ l. w.own ++ l) part.1 in
         let one : sweeps_of x.script number ≡ 1 = ap (λ (o : Option Sweep). sweeps_in o (slice_get x.script.workers.items number)) e ∙ one_sweep z (slice_get x.script.workers.items number) refl in
         subst (λ n. IsWanted x opened number popped last n log.answers.items) (sym one) (subst (IsWanted x opened number popped last 1) (sym said) (
-          row.0 ++ swept_step (serial_of number (length (commands_of x.script number))) part.0 w.done.seats last.seats part.2.work ∷ [],
-          with_sweep x.script (serial_of number) (commands_of x.script number) popped w.own part.0 (new_worker opened number) w.done last row.0 row.1 part.2 h.isolations,
+          row.0 ++ swept_step (command_serial number (length (worker_commands x.script number))) part.0 w.done.seats last.seats part.2.work ∷ [],
+          with_sweep x.script (command_serial number) (worker_commands x.script number) popped w.own part.0 (new_worker opened number) w.done last row.0 row.1 part.2 h.isolations,
         ))

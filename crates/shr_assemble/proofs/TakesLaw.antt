@@ -1,12 +1,11 @@
 -- In a run each take of a deferred word took what was given since the take before.
-use Rattle.shr_assemble.proofs.Common.{◌≡◌, ◌≢◌, ◌⊎◌, ℕ, zero, suc, ◌+◌, ◌-◌, ◌<◌, inl, inr, ⊎_elim, Bool, cond, List, [], ◌∷◌, ◌++◌, length, map, sym, refl, ap, subst, ◌∙◌, arith, eqb, eq-eqb, ne_eqb, slice_get, Option, Some, None, flat_map, range_with_len, append-nil, map-append, same_Some, none-some, dite, ℕ_discrete, PlaceAmount, Place, Serial, Answered, Reply, Command, Script, Carry, WalkRecord, Deed, by_seat, acts_of, part, AreSo, Move, Moves, takes_of, amounts_after, Report, HasCarried, serial_of, command_at, answer_at, answers_of, IsThere, WordStep, steps_walked, steps_handed, places_offlined, IsOfflinedBy, IsCausedBy, DidMoves, told_step, IsRun, Step, steps_of}
+use Rattle.shr_assemble.proofs.Common.{◌≡◌, ◌≢◌, ◌⊎◌, ℕ, zero, suc, ◌+◌, ◌-◌, ◌<◌, inl, inr, ⊎_elim, Bool, cond, List, [], ◌∷◌, ◌++◌, length, map, sym, refl, ap, subst, ◌∙◌, arith, eqb, eq-eqb, ne_eqb, slice_get, Option, Some, None, flat_map, range_with_len, append-nil, map-append, same_Some, none-some, dite, ℕ_discrete, PlaceAmount, Place, Serial, Answered, Reply, Command, Script, Carry, WalkRecord, Deed, by_seat, acts_of, part, AreSo, Move, Moves, takes_of, amounts_after, Report, HasCarried, serial_of, command_at, answer_at, answers_of, IsThere, WordStep, steps_walked, steps_handed, places_offlined, IsOfflinedBy, IsCausedBy, DidMoves, told_step, IsRun, Step, steps_of, after_move, amounts_next}
 use Rattle.shr_base.specs.declared.replies.Reply.TheVariants as reply
 use Rattle.shr_seats.specs.Lines.{state_after}
 use Rattle.shr_seats.proofs.Lining.{acts_by}
 use Rattle.shr_deferred.specs.Moves as moves
-use Rattle.shr_deferred.specs.Rule.{after_move, amounts_next}
 use Rattle.shr_deferred.specs.Rule as rule
-use Rattle.shr_report.specs.Takes.{Taking, Amounts, steps_in, steps_by, TakesAt, TakesAll, carry_of, IsHanded, after_step, after_all, AreTaken, nothing_deferred, AreTakesInOrder}
+use Rattle.shr_report.specs.Takes.{Taking, DeferredAmounts, steps_by_worker, steps_by, TakesAt, TakesWhole, carry_of, IsHanded, after_step, after_all, AreWholeTakes, none_deferred, AreTakesInOrder}
 use Rattle.shr_assemble.proofs.FreshLaw.{step_cases}
 use Rattle.shr_assemble.proofs.Making.{answer_is}
 use Rattle.shr_assemble.proofs.OfflinedCause.{carries_are}
@@ -31,35 +30,35 @@ none_told (a ∷ m) e = absurd (cc)
 abbrev taking : Deed Move → Taking
 taking d = record { worker = d.seat - 1; step = told_step d.act }
 
-same_after : (w : Amounts) (a : Move) → after_step w (told_step a) ≡ after_move w a
+same_after : (w : DeferredAmounts) (a : Move) → after_step w (told_step a) ≡ after_move w a
 same_after w (moves.took x) = refl
 same_after w (moves.gave x) = refl
 
-same_takes : (w : Amounts) (a : Move) → rule.TakesAll w a → TakesAll w (told_step a)
+same_takes : (w : DeferredAmounts) (a : Move) → rule.TakesAll w a → TakesWhole w (told_step a)
 same_takes w (moves.took x) h = h
 same_takes w (moves.gave x) h = h
 
-taken_told : (w : Amounts) (l : List (Deed Move)) → AreSo amounts_next (λ u d. rule.TakesAll u d.act) w l → AreTaken w (map taking l)
+taken_told : (w : DeferredAmounts) (l : List (Deed Move)) → AreSo amounts_next (λ u d. rule.TakesAll u d.act) w l → AreWholeTakes w (map taking l)
 taken_told w [] all = tt
-taken_told w (d ∷ l) all = (same_takes w d.act all.0, subst (λ (v : Amounts). AreTaken v (map taking l)) (sym (same_after w d.act)) (taken_told (after_move w d.act) l all.1))
+taken_told w (d ∷ l) all = (same_takes w d.act all.0, subst (λ (v : DeferredAmounts). AreWholeTakes v (map taking l)) (sym (same_after w d.act)) (taken_told (after_move w d.act) l all.1))
 
-after_told : (w : Amounts) (l : List (Deed Move)) → after_all w (map taking l) ≡ state_after amounts_next w l
+after_told : (w : DeferredAmounts) (l : List (Deed Move)) → after_all w (map taking l) ≡ state_after amounts_next w l
 after_told w [] = refl
-after_told w (d ∷ l) = ap (λ (v : Amounts). after_all v (map taking l)) (same_after w d.act) ∙ after_told (after_move w d.act) l
+after_told w (d ∷ l) = ap (λ (v : DeferredAmounts). after_all v (map taking l)) (same_after w d.act) ∙ after_told (after_move w d.act) l
 
 no_first : (x : Deed Move) (l : List (Deed Move)) → part 0 (x ∷ l) ≡ [] → (x.seat ≢ 0) × (part 0 l ≡ [])
 no_first x l e = dite (ℕ_discrete x.seat 0)
     (λ same. absurd (let filled : x ∷ part 0 l ≡ [] = sym (ap (λ b. cond b (x ∷ part 0 l) (part 0 l)) (eq-eqb x.seat 0 same)) ∙ e in cc))
     (λ ne. (ne, sym (ap (λ b. cond b (x ∷ part 0 l) (part 0 l)) (ne_eqb x.seat 0 ne)) ∙ e))
 
-steps_told : (worker : ℕ) (l : List (Deed Move)) → part 0 l ≡ [] → steps_in worker (map taking l) ≡ map told_step (acts_of (part (1 + worker) l))
+steps_told : (worker : ℕ) (l : List (Deed Move)) → part 0 l ≡ [] → steps_by_worker worker (map taking l) ≡ map told_step (acts_of (part (1 + worker) l))
 steps_told worker [] e = refl
 steps_told worker (d ∷ l) e =
     let apart = (no_first d l e).0 in let rest = steps_told worker l (no_first d l e).1 in
     dite (ℕ_discrete d.seat (1 + worker))
-    (λ same. ap (λ b. cond b (told_step d.act ∷ steps_in worker (map taking l)) (steps_in worker (map taking l))) (eq-eqb (d.seat - 1) worker (omega (arith, same)))
+    (λ same. ap (λ b. cond b (told_step d.act ∷ steps_by_worker worker (map taking l)) (steps_by_worker worker (map taking l))) (eq-eqb (d.seat - 1) worker (omega (arith, same)))
     ∙ (ap (λ r. told_step d.act ∷ r) rest ∙ sym (ap (λ b. map told_step (acts_of (cond b (d ∷ part (1 + worker) l) (part (1 + worker) l)))) (eq-eqb d.seat (1 + worker) same))))
-    (λ ne. ap (λ b. cond b (told_step d.act ∷ steps_in worker (map taking l)) (steps_in worker (map taking l))) (ne_eqb (d.seat - 1) worker (λ f. ne (omega (arith, apart, f))))
+    (λ ne. ap (λ b. cond b (told_step d.act ∷ steps_by_worker worker (map taking l)) (steps_by_worker worker (map taking l))) (ne_eqb (d.seat - 1) worker (λ f. ne (omega (arith, apart, f))))
     ∙ (rest ∙ sym (ap (λ b. map told_step (acts_of (cond b (d ∷ part (1 + worker) l) (part (1 + worker) l)))) (ne_eqb d.seat (1 + worker) ne))))
 
 -- ---- what was taken to hand it over
@@ -115,7 +114,7 @@ module _ (s : Script) (r : Report) (workers : List (List Step)) (run : IsRun s r
   abbrev line : List (Deed Move)
   line = run.deferred.line
 
-  parts : (worker : ℕ) → steps_in worker (map taking line) ≡ flat_map (λ k. steps_by s r (serial_of worker k) (handed worker k)) (range_with_len 0 (length (answers_of r worker)))
+  parts : (worker : ℕ) → steps_by_worker worker (map taking line) ≡ flat_map (λ k. steps_by s r (serial_of worker k) (handed worker k)) (range_with_len 0 (length (answers_of r worker)))
   parts worker = steps_told worker line run.deferred.others
       ∙ (ap (λ (l : List (Deed Move)). map told_step (acts_of l)) (run.deferred.parts worker)
       ∙ (ap (map told_step) (acts_by (1 + worker) (flat_map (λ (x : Step). x.work.moves) (steps_of workers worker)))
@@ -130,6 +129,6 @@ module _ (s : Script) (r : Report) (workers : List (List Step)) (run : IsRun s r
     hands = hands;
     line = map taking line;
     parts = parts;
-    taken = taken_told nothing_deferred line run.deferred.takes;
-    left = λ place there. run.deferred.left place there ∙ ap (λ (w : Amounts). w place) (sym (after_told nothing_deferred line));
+    taken = taken_told none_deferred line run.deferred.takes;
+    left = λ place there. run.deferred.left place there ∙ ap (λ (w : DeferredAmounts). w place) (sym (after_told none_deferred line));
   }

@@ -1,6 +1,5 @@
 -- A put's charges are those of its tries, of a run.
-use Rattle.shr_assemble.proofs.Common.{◌≡◌, ℕ, List, map, sym, ap, subst, ◌∙◌, filter, UseStep, Serial, Answered, Command, Put, Script, WalkRecord, ops_by, is_refused, jobs_of, job_of, Report, parents_of, limit_of, uses_at, ops_at, Step, IsRun, DidJobs, AreWalksFor}
-use Rattle.shr_report.specs.Tries.{AreTriesOf, AreAllTries}
+use Rattle.shr_assemble.proofs.Common.{◌≡◌, ℕ, List, map, sym, ap, subst, ◌∙◌, filter, UseStep, Serial, Answered, Command, Put, Script, WalkRecord, ops_by, is_refused, jobs_of, job_of, Report, parents_of, limit_of, uses_at, ops_at, Step, IsRun, DidJobs, AreWalksFor, AreTriesOf, AreAllTries}
 use Rattle.shr_report.specs.WalksLawful.{MayMake}
 use Rattle.shr_assemble.proofs.Making.{Stepped, stepped}
 use Rattle.shr_assemble.proofs.Operations.{ops_are}

@@ -1,16 +1,13 @@
 -- What a command did at the pools of units, in the words of the law on pools.
-use Rattle.shr_assemble.proofs.Common.{◌≡◌, ℕ, ◌<◌, ◌≤◌, Bool, true, false, not, ◌&&◌, cond, List, [], ◌∷◌, length, sym, refl, ap, subst, ◌∙◌, arith, ne_eqb, Option, Some, None, ◌==◌, Place, Serial, Answered, Reply, Command, Put, Get, Del, SetPin, Shrink, Balance, Offline, MkGroup, Register, Unregister, Isolate, Release, Grab, PoolDecl, Script, Family, IsCommandWithin, content_of, GrabAnswer, ReleaseAnswer, PlainState, units_place, PlainGives, IsReply, IsOther, DidUnitsOf}
-use Rattle.std.specs.Prelude.{⊤}
+use Rattle.shr_assemble.proofs.Common.{◌≡◌, ℕ, ◌<◌, ◌≤◌, Bool, true, false, not, ◌&&◌, cond, List, [], ◌∷◌, length, sym, refl, ap, subst, ◌∙◌, arith, ne_eqb, Option, Some, None, ◌==◌, Place, Serial, Answered, Reply, Command, Put, Get, Del, SetPin, Shrink, Balance, Offline, MkGroup, Register, Unregister, Isolate, Release, Grab, PoolDecl, Script, Family, IsCommandWithin, content_of, GrabAnswer, ReleaseAnswer, PlainState, worker_units_place, PlainGives, IsReply, IsOther, DidUnitsOf, ⊤, IsPoolCommandWithin, has_pools, is_walked, is_due, WalksIf}
 use Rattle.shr_base.specs.declared.replies.Reply.TheVariants as reply
-use Rattle.shr_script.specs.Bounds.{IsPoolCommandWithin}
 use Rattle.shr_script.specs.Lines.{serves_pools}
 use Rattle.shr_plain.specs.declared.answers.GrabAnswer.TheVariants as grab
 use Rattle.shr_plain.specs.declared.answers.ReleaseAnswer.TheVariants as release
 use Rattle.shr_worker.proofs.Pooled.{served}
-use Rattle.shr_worker.specs.Plain.{has_pools, is_walked, is_due, WalksIf}
 use Rattle.shr_worker.specs.Replies as worker
 use Rattle.shr_report.specs.UnitParts.{PlainJob, one_plain, plain_jobs, plain_due}
-use Rattle.shr_units.specs.Did.{release_reply, grab_reply, DidWalks}
+use Rattle.shr_units.specs.Did.{units_release_reply, units_grab_reply, DidPoolWalks}
 use Rattle.shr_units.proofs.Pooling.{settings_length}
 use Rattle.shr_units.proofs.StepKinds.{none_due}
 
@@ -54,13 +51,13 @@ module _ (parents : List ℕ) (family : Family) (by : Serial) where
   other_reply c found x is row = tt
 
 -- ---- the walk that is due
-same_release : (p : Place) (a : ReleaseAnswer) → worker.release_reply p a ≡ release_reply p a
+same_release : (p : Place) (a : ReleaseAnswer) → worker.release_reply p a ≡ units_release_reply p a
 same_release p (release.Full entries free) = refl
 same_release p (release.Worn x) = refl
 same_release p release.Memory = refl
 same_release p (release.Released entry) = refl
 
-same_grab : (p : Place) (a : GrabAnswer) → worker.grab_reply p a ≡ grab_reply p a
+same_grab : (p : Place) (a : GrabAnswer) → worker.grab_reply p a ≡ units_grab_reply p a
 same_grab p (grab.Worn x) = refl
 same_grab p grab.Memory = refl
 same_grab p (grab.Grabbed entry) = refl
@@ -105,12 +102,12 @@ shrink_due : (s : Script) (group node priority : ℕ) (nofs : Bool) (x : Reply) 
 shrink_due s group node priority nofs x = due_if s s.pools.items (Shrink group node priority nofs) x ∙ (ap (λ l. cond (has_pools s) l []) (shrink_jobs group node priority nofs x) ∙ cond_swap (has_pools s) (group == 0) (is_walked x) (one_plain node priority))
 
 module _ (s : Script) (by : Serial) (t u : PlainState) where
-  walks_if : (b : Bool) (node priority : ℕ) → node < s.nodes → WalksIf b s by node priority t u → DidWalks s by (cond b (one_plain node priority) []) t u
+  walks_if : (b : Bool) (node priority : ℕ) → node < s.nodes → WalksIf b s by node priority t u → DidPoolWalks s by (cond b (one_plain node priority) []) t u
   walks_if true node priority low h = (refl, record { node = low; answer = h.answer; gives = h.walked })
   walks_if false node priority low h = h
 
-  still : (c : Command) (x : Reply) → plain_jobs c x ≡ [] → u ≡ t → DidWalks s by (plain_due s c x) t u
-  still c x none e = subst (λ l. DidWalks s by l t u) (sym (none_due s c x none)) e
+  still : (c : Command) (x : Reply) → plain_jobs c x ≡ [] → u ≡ t → DidPoolWalks s by (plain_due s c x) t u
+  still c x none e = subst (λ l. DidPoolWalks s by l t u) (sym (none_due s c x none)) e
 
   -- a command's clause at the pools, in the words of the law
   pub did_units : (c : Command) (a : Answered) → IsCommandWithin (content_of s) c → (IsElsewhere c → IsOther a.reply) → PlainGives s by c a t u → DidUnitsOf s by c a.reply t u
@@ -118,8 +115,8 @@ module _ (s : Script) (by : Serial) (t u : PlainState) where
   did_units (Get group node decl key) a within other g = (other tt, still (Get group node decl key) a.reply refl g)
   did_units (Del group node decl key) a within other g = (other tt, still (Del group node decl key) a.reply refl g)
   did_units (SetPin group node decl key pinned) a within other g = (other tt, still (SetPin group node decl key pinned) a.reply refl g)
-  did_units (Shrink group node priority nofs) a within other g = (other tt, subst (λ l. DidWalks s by l t u) (sym (shrink_due s group node priority nofs a.reply)) (walks_if ((group == 0) && is_due s a.reply) node priority within.1.on_node g))
-  did_units (Balance node priority nofs) a within other g = (other tt, subst (λ l. DidWalks s by l t u) (sym (balance_due s node priority nofs a.reply)) (walks_if (is_due s a.reply) node priority within.on_node g))
+  did_units (Shrink group node priority nofs) a within other g = (other tt, subst (λ l. DidPoolWalks s by l t u) (sym (shrink_due s group node priority nofs a.reply)) (walks_if ((group == 0) && is_due s a.reply) node priority within.1.on_node g))
+  did_units (Balance node priority nofs) a within other g = (other tt, subst (λ l. DidPoolWalks s by l t u) (sym (balance_due s node priority nofs a.reply)) (walks_if (is_due s a.reply) node priority within.on_node g))
   did_units (Offline group) a within other g = (other tt, still (Offline group) a.reply refl g)
   did_units (MkGroup group) a within other g = (other tt, still (MkGroup group) a.reply refl g)
   did_units (Register decl) a within other g = (other tt, still (Register decl) a.reply refl g)
@@ -128,12 +125,12 @@ module _ (s : Script) (by : Serial) (t u : PlainState) where
   did_units (Release node pool n) a within other g = let w = served serves_pools (IsPoolCommandWithin (content_of s) node pool × (1 ≤ n) × (n ≤ 20000)) within in record {
     there = record { pool = (let low = w.0.in_pool in let same = settings_length s in omega (arith, low, same)); node = w.0.on_node };
     answer = g.answer;
-    told = ap (λ (z : Answered). z.reply) g.told ∙ same_release (units_place s pool node) g.answer;
+    told = ap (λ (z : Answered). z.reply) g.told ∙ same_release (worker_units_place s pool node) g.answer;
     gives = g.released;
   }
   did_units (Grab node pool) a within other g = let w = served serves_pools (IsPoolCommandWithin (content_of s) node pool) within in record {
     there = record { pool = (let low = w.in_pool in let same = settings_length s in omega (arith, low, same)); node = w.on_node };
     answer = g.answer;
-    told = ap (λ (z : Answered). z.reply) g.told ∙ same_grab (units_place s pool node) g.answer;
+    told = ap (λ (z : Answered). z.reply) g.told ∙ same_grab (worker_units_place s pool node) g.answer;
     gives = g.grabbed;
   }

@@ -1,7 +1,7 @@
 -- What each worker did at the pools of units, command by command, from the states between its commands.
 use Rattle.shr_assemble.proofs.Common.{◌≡◌, ℕ, zero, suc, List, [], ◌∷◌, length, sym, refl, ap, subst, ◌∙◌, arith, ◌++◌, slice_get, Some, Option, None, same_Some, none-some, Serial, Answered, Command, Script, View, PlainState, Shared, CrewState, IsWorkOf, PlainGives, UnitsStep, WorkerLog, new_worker, HelpsWith, HasWorked, Sweep, SweepItem, slice_left}
-use Rattle.shr_worker.specs.Chain.{commands_of, serial_of}
-use Rattle.shr_units.specs.Steps.{AreChained, state_after}
+use Rattle.shr_worker.specs.Chain.{worker_commands, command_serial}
+use Rattle.shr_units.specs.Steps.{AreChained, units_state_after}
 use Rattle.shr_assemble.proofs.Crews.{choose}
 
 -- a command with its answer, and what it did at the pools
@@ -17,7 +17,7 @@ pub record IsDeed (s : Script) (by : ℕ → Serial) (cs : List Command) (said :
 pub record IsUnitsRow (s : Script) (by : ℕ → Serial) (cs : List Command) (said : List Answered) (first last : PlainState) (mine : List UnitsStep) : Type 0 where
   pub commands : length cs ≡ length mine
   pub chained : AreChained first mine
-  pub ends : state_after first mine ≡ last
+  pub ends : units_state_after first mine ≡ last
   pub each : (k : ℕ) (x : UnitsStep) → slice_get mine k ≡ Some x → IsDeed s by cs said k x
 
 row : (s : Script) (by : ℕ → Serial) (cs : List Command) (said : List Answered) (t : CrewState) (us : List CrewState) (last : CrewState) → length said ≡ length cs → length us ≡ length said
@@ -53,16 +53,16 @@ row_from s by cs said first last (t ∷ us) same start end more each =
     subst (λ (f : CrewState). (mine : List UnitsStep) × IsUnitsRow s by cs said f.plain last.plain mine) (same_Some t first start) (row s by cs said t us last same (omega (arith, more)) each end)
 
 -- the steps of a worker that answered all its commands
-units_row : (x : Shared) (number : ℕ) (said : List Answered) (first last : CrewState) → length said ≡ length (commands_of x.script number) → IsWorkOf x number said first last
-    → (mine : List UnitsStep) × IsUnitsRow x.script (serial_of number) (commands_of x.script number) said first.plain last.plain mine
-units_row x number said first last all work = row_from x.script (serial_of number) (commands_of x.script number) said first last work.states all work.starts work.ends work.one_more
+units_row : (x : Shared) (number : ℕ) (said : List Answered) (first last : CrewState) → length said ≡ length (worker_commands x.script number) → IsWorkOf x number said first last
+    → (mine : List UnitsStep) × IsUnitsRow x.script (command_serial number) (worker_commands x.script number) said first.plain last.plain mine
+units_row x number said first last all work = row_from x.script (command_serial number) (worker_commands x.script number) said first last work.states all work.starts work.ends work.one_more
     (λ k c a v w at_c at_a at_v at_w. (work.each k c a v w at_c at_a at_v at_w).plain)
 
 -- the steps of all workers
 pub record IsUnitsCrew (x : Shared) (opened : View) (logs : List WorkerLog) (lasts : List CrewState) (workers : List (List UnitsStep)) : Type 0 where
   pub workers_are : length workers ≡ length logs
   pub each : (i : ℕ) (log : WorkerLog) (last : CrewState) (mine : List UnitsStep) → slice_get logs i ≡ Some log → slice_get lasts i ≡ Some last → slice_get workers i ≡ Some mine
-      → IsUnitsRow x.script (serial_of i) (commands_of x.script i) log.answers.items (new_worker opened i).plain last.plain mine
+      → IsUnitsRow x.script (command_serial i) (worker_commands x.script i) log.answers.items (new_worker opened i).plain last.plain mine
 
 -- the sweep of its script does nothing at the pools
 still_plain : (x : Shared) (o : Option Sweep) (by : Serial) (told : List Answered) (popped : List SweepItem) (s t : CrewState) → HelpsWith x o by told popped s t → s.plain ≡ t.plain
@@ -71,14 +71,14 @@ still_plain x (Some z) by told popped s t h = sym h.plain
 
 -- so its steps there are those of its commands
 whole_row : (x : Shared) (opened : View) (number : ℕ) (log : WorkerLog) (popped : List SweepItem) (last : CrewState) → HasWorked x opened number log popped last
-    → (mine : List UnitsStep) × IsUnitsRow x.script (serial_of number) (commands_of x.script number) log.answers.items (new_worker opened number).plain last.plain mine
+    → (mine : List UnitsStep) × IsUnitsRow x.script (command_serial number) (worker_commands x.script number) log.answers.items (new_worker opened number).plain last.plain mine
 whole_row x opened number log popped last w =
     let row = units_row x number w.own (new_worker opened number) w.done w.all w.work in (
       row.0,
       record {
         commands = row.1.commands;
         chained = row.1.chained;
-        ends = row.1.ends ∙ still_plain x x.script.sweep (serial_of number (length (commands_of x.script number))) w.told popped w.done last w.helped;
+        ends = row.1.ends ∙ still_plain x x.script.sweep (command_serial number (length (worker_commands x.script number))) w.told popped w.done last w.helped;
         each = λ k y at. let d = row.1.each k y at in record {
           by_is = d.by_is;
           command = d.command;
@@ -94,6 +94,6 @@ pub units_crew : (x : Shared) (opened : View) (popped : ℕ → List SweepItem) 
     → ((i : ℕ) (log : WorkerLog) (last : CrewState) → slice_get logs i ≡ Some log → slice_get lasts i ≡ Some last → HasWorked x opened i log (popped i) last)
     → (workers : List (List UnitsStep)) × IsUnitsCrew x opened logs lasts workers
 units_crew x opened popped logs lasts same worked =
-    let t = choose (λ (i : ℕ) (log : WorkerLog) (last : CrewState) (mine : List UnitsStep). IsUnitsRow x.script (serial_of i) (commands_of x.script i) log.answers.items (new_worker opened i).plain last.plain mine) logs lasts same
+    let t = choose (λ (i : ℕ) (log : WorkerLog) (last : CrewState) (mine : List UnitsStep). IsUnitsRow x.script (command_serial i) (worker_commands x.script i) log.answers.items (new_worker opened i).plain last.plain mine) logs lasts same
     (λ i log last at_log at_last. whole_row x opened i log (popped i) last (worked i log last at_log at_last)) in
     (t.0, record { workers_are = t.1; each = t.2 })

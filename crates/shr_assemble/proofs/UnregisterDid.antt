@@ -1,5 +1,5 @@
 -- What an unregister did.
-use Rattle.shr_assemble.proofs.Common.{◌≡◌, ◌⊎◌, inl, inr, ⊎_elim, ℕ, zero, suc, ◌+◌, ◌<◌, ◌≤◌, List, [], ◌∷◌, ◌++◌, length, length-append, append_assoc, take, refl, sym, ap, subst, ◌∙◌, arith, Some, None, sum_by, AllByRecursion, none-some, some, some-injective, get_elem?, Entry, PoolEntry, Unregistered, Idle, UseStep, Object, is_past_group, added_below, freed_below, Place, Serial, Answered, HalfWhy, Reply, Spent, Command, Family, born_below, place_number, is_live_decl, phase_of, from_of, Each, Begins, nothing, Adds, id_of, Made, Loaded, Turn, groups_in, Shape, shape_of, AreDowns, spent_by, Draw, place_of, made_from, drawn_from, within_of_valid, content_of, IsWithin, Each-none, Each-weaker, Shared, paths_of, WorkerState, Work, no_work, does_none, unfound, parents_of, cited_by, Step, IsAmong, IsReplyTo, MayMake, Drains, DidEntries, IsCausedBy, IsWhyBy, DidPool, IsTurnOf, IsListWorn, each_one}
+use Rattle.shr_assemble.proofs.Common.{◌≡◌, ◌⊎◌, inl, inr, ⊎_elim, ℕ, zero, suc, ◌+◌, ◌<◌, ◌≤◌, List, [], ◌∷◌, ◌++◌, length, length-append, append_assoc, take, refl, sym, ap, subst, ◌∙◌, arith, Some, None, sum_by, AllByRecursion, none-some, some, some-injective, get_elem?, Entry, PoolEntry, Unregistered, Idle, UseStep, Object, is_past_group, added_below, made_freed_below, Place, Serial, Answered, HalfWhy, Reply, Spent, Command, Family, born_below, place_number, is_live_decl, phase_of, from_of, Each, Begins, nothing, Adds, place_id, Made, Loaded, Turn, groups_in, Shape, shape_of, AreDowns, spent_by, Draw, group_place, made_from, drawn_from, within_of_valid, content_of, IsWithin, Each-none, Each-weaker, Shared, paths_of, WorkerState, Work, no_work, does_none, unfound, parents_of, cited_by, Step, IsAmong, IsReplyTo, MayMakeEntry, Drains, DidEntries, IsCausedBy, IsWhyBy, DidPool, IsTurnOf, IsListWorn, each_one, AreNodeDraws, ended_turn, Frees, Halves, StoppedBy, UnregisterGives, unregister_reply, objects_drained}
 use Rattle.shr_base.specs.declared.replies.HalfWhy.TheVariants as why
 use Rattle.shr_base.specs.declared.replies.Reply.TheVariants as reply
 use Rattle.shr_base.specs.declared.replies.Spent.TheVariants as spent
@@ -7,13 +7,11 @@ use Rattle.shr_base.specs.declared.scripts.Command.TheVariants as command
 use Rattle.shr_charge.specs.Seat.{counted}
 use Rattle.shr_registry.specs.declared.answers.UnregisterAnswer.{UnregisterAnswer}
 use Rattle.shr_registry.specs.declared.answers.UnregisterAnswer.TheVariants as unregister
-use Rattle.shr_registry.specs.Ending.{AreNodeDraws, ended_turn, Frees, Halves, StoppedBy, UnregisterGives}
 use Rattle.shr_assemble.proofs.ScriptSizes.{sized_of}
-use Rattle.shr_opening.specs.Opening.{IsSpent}
+use Rattle.shr_opening.specs.Opening.{IsWorkerSpent}
 use Rattle.shr_assemble.proofs.Spending.{spent_is}
 use Rattle.shr_walk.specs.Keeping as keeping
 use Rattle.shr_worker.specs.Commands as worker
-use Rattle.shr_worker.specs.Replies.{unregister_reply, objects_of}
 use Rattle.shr_worker.specs.Uncharging.{UnchargesEach}
 use Rattle.shr_worker.proofs.Drained.{drained_from}
 use Rattle.shr_assemble.proofs.Listed.{contains_among}
@@ -47,12 +45,12 @@ module _ (x : Shared) (tables : AreTables x) (by : Serial) (decl : ℕ) (s t : W
   abbrev ending : List Made → List Loaded → List Turn → ℕ → List UseStep → ℕ → Work
   ending made words turns gives ops uncharges = record no_work { core = record nothing { made = made; turns = turns; loaded = words; gives = gives }; ops = ops; uncharges = uncharges }
 
-  module _ (r : Reply) (objects : List Object) (u : UnchargesEach (keeping.parents_of x) by objects s t) (made : List Made) (words : List Loaded) (turns : List Turn) (gives : ℕ) where
+  module _ (r : Reply) (objects : List Object) (u : UnchargesEach (keeping.shared_parents x) by objects s t) (made : List Made) (words : List Loaded) (turns : List Turn) (gives : ℕ) where
     abbrev ends : Step
     ends = step_of by asked (without r) s t (ending made words turns gives u.ops (length objects))
 
     ended : Adds s.core t.core (record nothing { made = made; turns = turns; loaded = words; gives = gives }) → DidEntries x.script ends
-        → AllByRecursion (λ (o : Object). o.birth < length ps) objects → ((g : ℕ) → sum_by (freed_below ps g) made ≡ born_below ps g objects) → ((g : ℕ) → sum_by (λ (m : Made). added_below ps g m.entry) made ≡ 0)
+        → AllByRecursion (λ (o : Object). o.birth < length ps) objects → ((g : ℕ) → sum_by (made_freed_below ps g) made ≡ born_below ps g objects) → ((g : ℕ) → sum_by (λ (m : Made). added_below ps g m.entry) made ≡ 0)
         → DidPool x.script ends → IsCausedBy x.script ends r → HasDid x.script by asked (without r) s t
     ended adds entries born freed added pool cause =
         let n = does_none s in
@@ -122,9 +120,9 @@ module _ (x : Shared) (tables : AreTables x) (by : Serial) (decl : ℕ) (s t : W
 
   -- the entries of an answer that drained lists of this id
   drain_entries : (id : ℕ) (draws : List (List Draw)) → AreDraws id draws → length draws ≤ shape.nodes → (z : Step) → z.by ≡ by → Drains id z.answered.reply → ((i : ℕ) → Drains id z.answered.reply → i ≡ id → Drains i z.answered.reply) → z.work.core.made ≡ made_from id 0 by draws
-      → ((family : Family) → IsReplyTo ps family z.by z.command None z.answered.reply) → z.answered.found ≡ None → cited_by z.answered.reply ≡ None → Each (λ (m : Made). MayMake x.script z m m.entry) z.work.core.made
-  drain_entries id draws each short z own of move made row none uncited = subst (λ (l : List Made). Each (λ (m : Made). MayMake x.script z m m.entry) l) (sym made)
-      (Each-weaker (IsDrainOf id by) (λ (m : Made). MayMake x.script z m m.entry) (λ m d. subst (λ (e : Entry). MayMake x.script z m e) (sym d.entry) (record { own = sym own; drains = move (id_of m.place) of d.place })) (made_from id 0 by draws) (drains id draws each short))
+      → ((family : Family) → IsReplyTo ps family z.by z.command None z.answered.reply) → z.answered.found ≡ None → cited_by z.answered.reply ≡ None → Each (λ (m : Made). MayMakeEntry x.script z m m.entry) z.work.core.made
+  drain_entries id draws each short z own of move made row none uncited = subst (λ (l : List Made). Each (λ (m : Made). MayMakeEntry x.script z m m.entry) l) (sym made)
+      (Each-weaker (IsDrainOf id by) (λ (m : Made). MayMakeEntry x.script z m m.entry) (λ m d. subst (λ (e : Entry). MayMakeEntry x.script z m e) (sym d.entry) (record { own = sym own; drains = move (place_id m.place) of d.place })) (made_from id 0 by draws) (drains id draws each short))
 
   -- what the journal of registrations is before the Unregistered
   taken_is : (entry id to : ℕ) (before more : List PoolEntry) → entry ≡ length before → t.core.turns.known ≡ before ++ Unregistered decl id to ∷ more → take entry t.core.turns.known ≡ before
@@ -133,7 +131,7 @@ module _ (x : Shared) (tables : AreTables x) (by : Serial) (decl : ℕ) (s t : W
   known_past : (entry id to : ℕ) (before more : List PoolEntry) → entry ≡ length before → t.core.turns.known ≡ before ++ Unregistered decl id to ∷ more → entry < length t.core.turns.known
   known_past entry id to before more e known = omega (arith, e, ap (λ (l : List PoolEntry). length l) known, length-append before (Unregistered decl id to ∷ more))
 
-  freed_did : (id entry from to : ℕ) (objects : List Object) → Frees shape s.core decl by id entry from to objects t.core → UnchargesEach (keeping.parents_of x) by objects s t → HasDid x.script by asked (without (reply.Freed id entry from to (length objects))) s t
+  freed_did : (id entry from to : ℕ) (objects : List Object) → Frees shape s.core decl by id entry from to objects t.core → UnchargesEach (keeping.shared_parents x) by objects s t → HasDid x.script by asked (without (reply.Freed id entry from to (length objects))) s t
   freed_did id entry from to objects h u =
       let r : Reply = reply.Freed id entry from to (length objects) in
       let late : length s.core.turns.known ≤ length h.before = begins_length s.core.turns.known h.before h.seen in
@@ -177,7 +175,7 @@ module _ (x : Shared) (tables : AreTables x) (by : Serial) (decl : ℕ) (s t : W
         idle = (1, refl);
       })
 
-  half_did : (id entry from to : ℕ) (objects : List Object) (half : HalfWhy) → Halves shape s.core decl by id entry from to objects half t.core → UnchargesEach (keeping.parents_of x) by objects s t → HasDid x.script by asked (without (reply.Half id entry from to (length objects) half)) s t
+  half_did : (id entry from to : ℕ) (objects : List Object) (half : HalfWhy) → Halves shape s.core decl by id entry from to objects half t.core → UnchargesEach (keeping.shared_parents x) by objects s t → HasDid x.script by asked (without (reply.Half id entry from to (length objects) half)) s t
   half_did id entry from to objects half h u =
       let r : Reply = reply.Half id entry from to (length objects) half in
       let turn : Turn = ended_turn h.before decl id to in
@@ -218,7 +216,7 @@ module _ (x : Shared) (tables : AreTables x) (by : Serial) (decl : ℕ) (s t : W
       why_is (why.Worn (spent.Lookups i seen)) k z end = absurd k
       why_is (why.Worn (spent.Charges charges uncharges)) k z end = absurd k
       why_is (why.Worn (spent.List place entries items)) k z end =
-          let here : Place = place_of id h.stops.node h.stops.group in
+          let here : Place = group_place id h.stops.node h.stops.group in
           let near = h.ended.live.near in let ids = tables.shared.ids in let on = h.stops.near in let nodes = tables.shared.nodes in let there = k.filled.there in let groups = same_groups in
           subst (λ (p : Place). IsListWorn x.script z p entries items) (sym k.here) (record {
             there = record { id = omega (arith, near, ids); node = omega (arith, on, nodes); group = omega (arith, there, groups) };
@@ -233,7 +231,7 @@ module _ (x : Shared) (tables : AreTables x) (by : Serial) (decl : ℕ) (s t : W
             most = inl (let n = k.worn.items_then in omega (arith, n));
           })
 
-  by_answer : (answer : UnregisterAnswer) → UnregisterGives shape s.core decl by answer t.core → UnchargesEach (keeping.parents_of x) by (objects_of answer) s t → HasDid x.script by asked (unfound (unregister_reply answer)) s t
+  by_answer : (answer : UnregisterAnswer) → UnregisterGives shape s.core decl by answer t.core → UnchargesEach (keeping.shared_parents x) by (objects_drained answer) s t → HasDid x.script by asked (unfound (unregister_reply answer)) s t
   by_answer (unregister.NoCache entry) h u =
       let r : Reply = reply.NoCache entry in let z : Step = ends r [] u [] h.gains.words [] 1 in let after = h.after in
       ended r [] u [] h.gains.words [] 1 h.gains.adds (no_entries x.script z refl refl (λ family. tt) refl) tt (λ g. refl) (λ g. refl) (still_pool x.script z h.gains.adds.pool (record { turns = refl; made = refl }) h.after)
@@ -252,7 +250,7 @@ module _ (x : Shared) (tables : AreTables x) (by : Serial) (decl : ℕ) (s t : W
   none_did : (a : Answered) → worker.UnregistersNone a s t → HasDid x.script by asked a s t
   none_did a h = subst (λ (b : Answered). HasDid x.script by asked b s t) (sym h.told) (by_spent h.spent h.used_up)
     where
-      by_spent : (w : Spent) → IsSpent w s t → HasDid x.script by asked (unfound (reply.Worn w)) s t
+      by_spent : (w : Spent) → IsWorkerSpent w s t → HasDid x.script by asked (unfound (reply.Worn w)) s t
       by_spent w k = subst (λ (y : Spent). HasDid x.script by asked (unfound (reply.Worn y)) s t) (sym (spent_is s.uses w k.numbers))
           (nothing_did x.script by asked (reply.Worn (spent.Charges (counted s.uses.charges) (counted s.uses.uncharges))) s t k.rest tt (λ family. tt) refl (λ g. refl) refl refl (λ g asks above. inl tt)
           (meets_none x.script (step_of by asked (without (reply.Worn (spent.Charges (counted s.uses.charges) (counted s.uses.uncharges)))) s t no_work) (λ g e. absurd (cc)) (λ g e. none-some g e))

@@ -1,7 +1,6 @@
 -- The final usage of a group is the number of the listed objects born at or below it.
-use Rattle.shr_assemble.proofs.Common.{◌≡◌, ℕ, suc, ◌+◌, ◌<◌, ◌≤◌, ⊎_elim, true, false, not, cond, List, [], ◌∷◌, ◌++◌, length, sym, refl, ap, subst, ◌∙◌, arith, eqb, slice_get, Some, None, Option, sum_by, option_and_then, pos, IfSome, AllByRecursion, enumerate_from, ints, take_all, length-map, sum_by-IsPermutation, none-some, slice_get_past, cases_lt, UseStep, Entry, Add, Look, Drop, Pin, Scan, MovedIn, Closed, Drained, Object, Place, Serial, GroupDecl, Script, serials_of, added_by, added_by_all, added_in, freed_at, listed_in, ups, downs, usage_after, AreTakenBack, lists_moved_at, items_at, items_of, is_at_or_above, born_below, freed_by, items_from, total, total-append, Made, Report, parents_of, limits_of, limit_of, journals_of, places_of, uses_at, items_left, Step, gathered, ops_at, added_below, freed_below, all_made, all_ops, IsRun, count_total, sum_total}
+use Rattle.shr_assemble.proofs.Common.{◌≡◌, ℕ, suc, ◌+◌, ◌<◌, ◌≤◌, ⊎_elim, true, false, not, cond, List, [], ◌∷◌, ◌++◌, length, sym, refl, ap, subst, ◌∙◌, arith, eqb, slice_get, Some, None, Option, sum_by, option_and_then, pos, IfSome, AllByRecursion, enumerate_from, ints, take_all, length-map, sum_by-IsPermutation, none-some, slice_get_past, cases_lt, UseStep, Entry, Add, Look, Drop, Pin, Scan, MovedIn, Closed, Drained, Object, Place, Serial, GroupDecl, Script, serials_of, added_by, added_by_all, added_in, freed_at, listed_in, ups, downs, usage_after, AreTakenBack, lists_moved_at, items_at, items_of, is_at_or_above, born_below, freed_by, items_from, total, total-append, Made, Report, parents_of, limits_of, limit_of, journals_of, places_of, uses_at, items_left, Step, gathered, ops_at, added_below, made_freed_below, all_made, all_ops, IsRun, count_total, sum_total, listed_below, AreChargesLawful}
 use Rattle.shr_model.specs.Bag as bags
-use Rattle.shr_report.specs.Charges.{listed_below, AreChargesLawful}
 use Rattle.shr_assemble.proofs.Gathering.{each_step, total_gathered, total_flat, total_same_on}
 use Rattle.shr_assemble.proofs.Recounting.{journals_are}
 use Rattle.shr_assemble.proofs.BagLaw.{bag}
@@ -87,8 +86,8 @@ module _ (s : Script) (r : Report) (workers : List (List Step)) (run : IsRun s r
       ∙ total_weaker (Weighs s r workers run g) born (λ (o : Object). w o.serial) (freed_by (items_at (parents_of s) (journals_of r) p e.0) e.1) (λ o h. sym h)
       (frees_kept (Weighs s r workers run g) (λ o h. h) (λ o h. h) (λ pinned o h. h) (items_at (parents_of s) (journals_of r) p e.0) e.1 (items_weigh p e.0))
 
-  freed_is : total (freed_below (parents_of s) g) (all_made workers) ≡ total w (bags.freed_in (places_of r) (parents_of s) (journals_of r))
-  freed_is = sym (journals_are s r workers run (freed_below (parents_of s) g) (λ p n e. born_below (parents_of s) g (freed_by (items_at (parents_of s) (journals_of r) p n) e)) (λ m p place stands items. ap (λ (l : List Object). born_below (parents_of s) g (freed_by l m.entry)) items))
+  freed_is : total (made_freed_below (parents_of s) g) (all_made workers) ≡ total w (bags.freed_in (places_of r) (parents_of s) (journals_of r))
+  freed_is = sym (journals_are s r workers run (made_freed_below (parents_of s) g) (λ p n e. born_below (parents_of s) g (freed_by (items_at (parents_of s) (journals_of r) p n) e)) (λ m p place stands items. ap (λ (l : List Object). born_below (parents_of s) g (freed_by l m.entry)) items))
       ∙ (total_same_on (λ (p : Place). total (λ (e : ℕ × Entry). born_below (parents_of s) g (freed_by (items_at (parents_of s) (journals_of r) p e.0) e.1)) (enumerate_from 0 (journals_of r p)))
       (λ (p : Place). total w (serials_of (freed_at (parents_of s) (journals_of r) p))) (places_of r)
       (λ p. total_same_on (λ (e : ℕ × Entry). born_below (parents_of s) g (freed_by (items_at (parents_of s) (journals_of r) p e.0) e.1)) (λ (e : ℕ × Entry). total (λ (o : Object). w o.serial) (freed_by (items_at (parents_of s) (journals_of r) p e.0) e.1)) (enumerate_from 0 (journals_of r p)) (freed_entry p)
@@ -120,12 +119,12 @@ module _ (s : Script) (r : Report) (workers : List (List Step)) (run : IsRun s r
   pub counts : g < length (parents_of s) → ups (uses_at r g) ≡ downs (uses_at r g) + listed_below s r g
   counts lt = omega (
     arith,
-    four_sums (λ x. ups (ops_at g x.work.ops)) (λ x. sum_by (freed_below (parents_of s) g) x.work.core.made) (λ x. downs (ops_at g x.work.ops)) (λ x. sum_by (λ (m : Made). added_below (parents_of s) g m.entry) x.work.core.made) workers
-        (each_step (λ (x : Step). ups (ops_at g x.work.ops) + sum_by (freed_below (parents_of s) g) x.work.core.made ≡ downs (ops_at g x.work.ops) + sum_by (λ (m : Made). added_below (parents_of s) g m.entry) x.work.core.made) workers
+    four_sums (λ x. ups (ops_at g x.work.ops)) (λ x. sum_by (made_freed_below (parents_of s) g) x.work.core.made) (λ x. downs (ops_at g x.work.ops)) (λ x. sum_by (λ (m : Made). added_below (parents_of s) g m.entry) x.work.core.made) workers
+        (each_step (λ (x : Step). ups (ops_at g x.work.ops) + sum_by (made_freed_below (parents_of s) g) x.work.core.made ≡ downs (ops_at g x.work.ops) + sum_by (λ (m : Made). added_below (parents_of s) g m.entry) x.work.core.made) workers
         (λ worker k x at. let d = (run.steps.each worker k x at).did.charges in omega (arith, ints, d.nets g lt, d.added g))),
     all_steps up_weight (λ (x : Step). x.work.ops) (λ x. ups (ops_at g x.work.ops)) workers (λ x. ups_of x.work.ops),
     all_steps down_weight (λ (x : Step). x.work.ops) (λ x. downs (ops_at g x.work.ops)) workers (λ x. downs_of x.work.ops),
-    all_steps (freed_below (parents_of s) g) (λ (x : Step). x.work.core.made) (λ x. sum_by (freed_below (parents_of s) g) x.work.core.made) workers (λ x. sum_total (freed_below (parents_of s) g) x.work.core.made),
+    all_steps (made_freed_below (parents_of s) g) (λ (x : Step). x.work.core.made) (λ x. sum_by (made_freed_below (parents_of s) g) x.work.core.made) workers (λ x. sum_total (made_freed_below (parents_of s) g) x.work.core.made),
     all_steps (λ (m : Made). added_below (parents_of s) g m.entry) (λ (x : Step). x.work.core.made) (λ x. sum_by (λ (m : Made). added_below (parents_of s) g m.entry) x.work.core.made) workers (λ x. sum_total (λ (m : Made). added_below (parents_of s) g m.entry) x.work.core.made),
     ups_of r.uses.items,
     downs_of r.uses.items,

@@ -1,5 +1,5 @@
 -- Along a worker's walks the versions at a place never fall.
-use Rattle.shr_assemble.proofs.Common.{◌≡◌, ℕ, zero, suc, ◌+◌, ◌≤◌, ⊎_elim, Bool, true, false, cond, List, [], ◌∷◌, ◌++◌, length, get_or, map, sym, refl, ap, subst, ◌∙◌, arith, eqb, eq-eqb, ne_eqb, slice_get, Some, flat_map, filter, AllByRecursion, some, some-ne-none, get_elem?, eqb-true, flat_map-append, map-append, Place, Script, Attempt, WalkRecord, Count, counts_of, place_number, is_place, place_in, versions_at, is_place_same, is_place_itself, Each, Each-append, at_begins, place_at, Counted, Rising, AreFresh, WorkerState, Report, walks_of, IsThere, AreNotFalling, Step, steps_of, AreChained, counted_in, IsRun, by_slices, flat_zero}
+use Rattle.shr_assemble.proofs.Common.{◌≡◌, ℕ, zero, suc, ◌+◌, ◌≤◌, ⊎_elim, Bool, true, false, cond, List, [], ◌∷◌, ◌++◌, length, get_or, map, sym, refl, ap, subst, ◌∙◌, arith, eqb, eq-eqb, ne_eqb, slice_get, Some, flat_map, filter, AllByRecursion, some, some-ne-none, get_elem?, eqb-true, flat_map-append, map-append, Place, Script, Attempt, WalkRecord, Count, counts_of, place_number, is_place, place_in, versions_at, is_place_same, is_place_itself, Each, Each-append, at_begins, place_at, Counted, Rising, AreFresh, WorkerState, Report, walks_of, IsThere, AreNotFalling, Step, steps_of, AreStepsChained, counted_in, IsRun, by_slices, flat_zero}
 use Rattle.shr_assemble.proofs.Listed.{no_test}
 use Rattle.shr_assemble.proofs.Making.{back_there}
 use Rattle.shr_assemble.proofs.Flattening.{walk_of}
@@ -18,7 +18,7 @@ rising_append [] ys a b h = b
 rising_append (x ∷ xs) ys a b h = (Each-append (λ (y : Counted). y.place ≡ x.place → x.version ≤ y.version) xs ys a.0 (λ j y e same. h j y e 0 x refl (sym same)), rising_append xs ys a.1 b (λ j y e i d f. h j y e (suc i) d f))
 
 -- the counts of a worker's steps rise, and come after those that stood before
-rises_along : (t : WorkerState) (mine : List Step) → AreChained t mine → AllByRecursion (λ (x : Step). AreFresh x.before.core x.work.core.seen) mine
+rises_along : (t : WorkerState) (mine : List Step) → AreStepsChained t mine → AllByRecursion (λ (x : Step). AreFresh x.before.core x.work.core.seen) mine
     → Rising (flat_map (λ (x : Step). x.work.core.seen) mine) × Each (λ (c : Counted). Each (λ (d : Counted). d.place ≡ c.place → d.version ≤ c.version) t.core.traces.seen) (flat_map (λ (x : Step). x.work.core.seen) mine)
 rises_along t [] c h = (tt, λ j x e. absurd (some-ne-none x (sym e)))
 rises_along t (x ∷ mine) c h =

@@ -1,14 +1,8 @@
 -- What the visits of an isolation came to in all: entries of the list, each object that they freed uncharged, and nothing else.
-use Rattle.shr_assemble.proofs.Common.{◌≡◌, inl, inr, ⊎_elim, ℕ, ◌+◌, ◌<◌, Bool, true, false, List, [], ◌∷◌, ◌++◌, length, length-append, append_assoc, sym, refl, ap, subst, ◌∙◌, AllByRecursion, flat_map-append, append-nil, All-nil, UseStep, Object, IsolateEnd, Spent, freed_by, place_number, Has, groups_in, Each, Each-append, Each-none, View, Made, shape_of, AreDowns, AreRising, IsDown, calls_with, both_uses, Gains, made_of, IsScanOf, freed_in, paths_of, WorkerState, Shared, Visitor, IsAmong}
+use Rattle.shr_assemble.proofs.Common.{◌≡◌, inl, inr, ⊎_elim, ℕ, ◌+◌, ◌<◌, Bool, true, false, List, [], ◌∷◌, ◌++◌, length, length-append, append_assoc, sym, refl, ap, subst, ◌∙◌, AllByRecursion, flat_map-append, append-nil, All-nil, UseStep, Object, IsolateEnd, Spent, freed_by, place_number, Has, groups_in, Each, Each-append, Each-none, View, Made, shape_of, AreDowns, AreRising, IsDown, calls_with, both_uses, Gains, entry_made, IsScanOf, objects_freed, paths_of, WorkerState, Shared, Visitor, IsAmong, Each-one, AreBorn, scan_entry, gains_none, gains_then, called_none, ScansOnce, AreVisits, AreIsolated, MeetsWorn, EndsAs}
 use Rattle.shr_base.specs.declared.replies.IsolateEnd.TheVariants as ending
 use Rattle.shr_base.specs.declared.replies.Spent.TheVariants as spent
-use Rattle.shr_seats.proofs.Weighing.{Each-one}
-use Rattle.shr_core.specs.Rule.{AreBorn}
-use Rattle.shr_list.specs.Answers.{scan_entry}
-use Rattle.shr_node.proofs.Gaining.{gains_none, gains_then}
-use Rattle.shr_walk.specs.Keeping.{parents_of}
-use Rattle.shr_walk.proofs.Doing.{called_none}
-use Rattle.shr_drop.specs.Visiting.{ScansOnce, AreVisits, AreIsolated, MeetsWorn, EndsAs}
+use Rattle.shr_walk.specs.Keeping.{shared_parents}
 use Rattle.shr_assemble.proofs.Bringing.{called_then}
 use Rattle.shr_assemble.proofs.Gathering.{among_left, among_right}
 use Rattle.shr_assemble.proofs.Operations.{PairsRec, has_among}
@@ -31,9 +25,9 @@ pub record Visits (x : Shared) (i : Visitor) (s t : WorkerState) : Type 0 where
   pub after : Each (IsLast i s.core.traces.made) made
   pub numbers : PairsRec (λ (m n : Made). m.number < n.number) made
   pub downs : Freed x i.by made ops
-  pub born : AreBorn (groups_in (shape_of x.core)) (freed_in made)
+  pub born : AreBorn (groups_in (shape_of x.core)) (objects_freed made)
   pub rise : AreRising s.uses.ops → AreRising t.uses.ops
-  pub rest : t ≡ record s { core = t.core; uses = both_uses s.uses (calls_with ops 0 (length (freed_in made))); noted = s.noted ++ ops }
+  pub rest : t ≡ record s { core = t.core; uses = both_uses s.uses (calls_with ops 0 (length (objects_freed made))); noted = s.noted ++ ops }
 
 module _ (x : Shared) (i : Visitor) where
   -- no visit was made
@@ -54,15 +48,15 @@ module _ (x : Shared) (i : Visitor) where
   -- one visit
   visits_one : (freed visits : ℕ) (stopped : Bool) (s t : WorkerState) → ScansOnce x i freed visits stopped s t → Visits x i s t
   visits_one freed visits stopped s t h =
-      let m : Made = made_of (place_number i.place) h.scan.old (scan_entry h.scan.old i.by.worker i.walk i.policy 1) in
-      let same : h.objects ≡ freed_in (m ∷ []) = h.scan.told.removed ∙ sym (append-nil (freed_by m.items m.entry)) in record {
+      let m : Made = entry_made (place_number i.place) h.scan.old (scan_entry h.scan.old i.by.worker i.walk i.policy 1) in
+      let same : h.objects ≡ objects_freed (m ∷ []) = h.scan.told.removed ∙ sym (append-nil (freed_by m.items m.entry)) in record {
         made = m ∷ [];
         ops = h.ops;
         gains = h.scan.gains;
         scans = Each-one (IsVisit i) m (refl, (refl, refl, refl));
         after = Each-one (IsLast i s.core.traces.made) m h.scan.was.later.made;
         numbers = (tt, tt);
-        downs = subst (λ (l : List Object). AreDowns i.by (paths_of (parents_of x) l) h.ops) same h.downs;
+        downs = subst (λ (l : List Object). AreDowns i.by (paths_of (shared_parents x) l) h.ops) same h.downs;
         born = subst (AreBorn (groups_in (shape_of x.core))) same h.scan.born;
         rise = h.rise;
         rest = subst (λ (l : List Object). t ≡ record s { core = t.core; uses = both_uses s.uses (calls_with h.ops 0 (length l)); noted = s.noted ++ h.ops }) same h.rest;
@@ -78,18 +72,18 @@ module _ (x : Shared) (i : Visitor) where
     after = Each-append (IsLast i s.core.traces.made) a.made b.made a.after (λ j m e k d at same. earlier m (b.after j m e) d (k, at) same);
     numbers = numbers_then a.made b.made a.numbers b.numbers (λ m n in_a in_b. own n (has_among b.made n in_b) m (has_among a.made m in_a));
     downs = freed_then x i.by a.made b.made a.ops b.ops a.downs b.downs;
-    born = subst (AreBorn (groups_in (shape_of x.core))) (sym both) (Each-append (λ (o : Object). o.birth < groups_in (shape_of x.core)) (freed_in a.made) (freed_in b.made) a.born b.born);
+    born = subst (AreBorn (groups_in (shape_of x.core))) (sym both) (Each-append (λ (o : Object). o.birth < groups_in (shape_of x.core)) (objects_freed a.made) (objects_freed b.made) a.born b.born);
     rise = λ r. b.rise (a.rise r);
-    rest = b.rest ∙ (ap (λ (v : WorkerState). record v { core = t.core; uses = both_uses v.uses (calls_with b.ops 0 (length (freed_in b.made))); noted = v.noted ++ b.ops }) a.rest
-        ∙ ((λ j. record s { core = t.core; uses = called_then s.uses a.ops b.ops 0 0 (length (freed_in a.made)) (length (freed_in b.made)) j; noted = append_assoc s.noted a.ops b.ops j })
+    rest = b.rest ∙ (ap (λ (v : WorkerState). record v { core = t.core; uses = both_uses v.uses (calls_with b.ops 0 (length (objects_freed b.made))); noted = v.noted ++ b.ops }) a.rest
+        ∙ ((λ j. record s { core = t.core; uses = called_then s.uses a.ops b.ops 0 0 (length (objects_freed a.made)) (length (objects_freed b.made)) j; noted = append_assoc s.noted a.ops b.ops j })
         ∙ ap (λ (n : ℕ). record s { core = t.core; uses = both_uses s.uses (calls_with (a.ops ++ b.ops) 0 n); noted = s.noted ++ (a.ops ++ b.ops) }) long));
   }
     where
-      both : freed_in (a.made ++ b.made) ≡ freed_in a.made ++ freed_in b.made
+      both : objects_freed (a.made ++ b.made) ≡ objects_freed a.made ++ objects_freed b.made
       both = flat_map-append (λ (m : Made). freed_by m.items m.entry) a.made b.made
 
-      long : length (freed_in a.made) + length (freed_in b.made) ≡ length (freed_in (a.made ++ b.made))
-      long = sym (ap (λ (l : List Object). length l) both ∙ length-append (freed_in a.made) (freed_in b.made))
+      long : length (objects_freed a.made) + length (objects_freed b.made) ≡ length (objects_freed (a.made ++ b.made))
+      long = sym (ap (λ (l : List Object). length l) both ∙ length-append (objects_freed a.made) (objects_freed b.made))
 
       grown : u.core.traces.made ≡ s.core.traces.made ++ a.made
       grown = a.gains.adds.made

@@ -1,10 +1,9 @@
 -- The causes of what walks met.
-use Rattle.shr_assemble.proofs.Common.{◌≡◌, ℕ, List, refl, arith, slice_get, Some, Begin, Spent, Script, Attempt, Ending, PassRecord, WalkRecord, pass_of, place_number, place_in, Report, journals_of, walk_at, IsSpent, StandsInTree, Step, steps_of, IsWornBy, IsRun}
+use Rattle.shr_assemble.proofs.Common.{◌≡◌, ℕ, List, refl, arith, slice_get, Some, Begin, Spent, Script, Attempt, Ending, PassRecord, WalkRecord, pass_of, place_number, place_in, Report, journals_of, walk_at, IsSpent, StandsInTree, Step, steps_of, IsWornBy, IsRun, IsEndingRight, IsPassCaused}
 use Rattle.shr_base.specs.declared.replies.Spent.TheVariants as spent
 use Rattle.shr_base.specs.declared.walks.Ending.TheVariants as ending
 use Rattle.shr_base.specs.declared.walks.Outcome.TheVariants as outcome
 use Rattle.shr_base.specs.declared.walks.WalkAnswer.TheVariants as walk
-use Rattle.shr_report.specs.Causes.{IsEndingRight, IsPassCaused}
 use Rattle.shr_assemble.proofs.Listed.{closed_begins, contains_among}
 use Rattle.shr_assemble.proofs.Flattening.{walk_of}
 use Rattle.shr_assemble.proofs.LawfulWalks.{held_number, pass_held, attempt_there, was_held}

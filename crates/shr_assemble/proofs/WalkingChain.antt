@@ -1,10 +1,7 @@
 -- Walks over jobs, one after another, each from where the one before it ended.
-use Rattle.shr_assemble.proofs.Common.{◌≡◌, ℕ, suc, ◌+◌, ◌<◌, ◌⊎◌, inl, inr, ⊎_elim, Bool, true, false, ◌||◌, List, [], ◌∷◌, ◌++◌, length, length-append, map, sym, refl, ap, subst, ◌∙◌, arith, sum, zero, get_or, append_assoc, ◌≤◌, sum_by, Option, AllPairs, AllByRecursion, list_any, append-nil, get_or_append_left, sum_by-cons, sum-map, flat_map-append, Object, Serial, Answered, Command, WalkAnswer, WalkRecord, freed_by, Job, job, job_of, is_cut, Begins, Made, parents_of, OneGives, HadMemory, freed_in, WorkerState, Work, no_work, then_work, Shared, Walk, Visit, job_in, AreVisited, each_append}
+use Rattle.shr_assemble.proofs.Common.{◌≡◌, ℕ, suc, ◌+◌, ◌<◌, ◌⊎◌, inl, inr, ⊎_elim, Bool, true, false, ◌||◌, List, [], ◌∷◌, ◌++◌, length, length-append, map, sym, refl, ap, subst, ◌∙◌, arith, sum, zero, get_or, append_assoc, ◌≤◌, sum_by, Option, AllPairs, AllByRecursion, list_any, append-nil, get_or_append_left, sum_by-cons, sum-map, flat_map-append, Object, Serial, Answered, Command, WalkAnswer, WalkRecord, freed_by, Job, job, job_of, is_cut, Begins, Made, parents_of, OneGives, HadMemory, objects_freed, WorkerState, Work, no_work, then_work, Shared, Walk, Visit, job_in, AreVisited, each_append, freed_told, AreWalked, lacked_memory, walk_for}
 use Rattle.shr_base.specs.declared.walks.WalkAnswer.TheVariants as answered
-use Rattle.shr_model.specs.Walks.{freed_told}
-use Rattle.shr_walk.specs.Balances.{AreWalked, lacked_memory}
 use Rattle.shr_walk.specs.Balances as balances
-use Rattle.shr_reclaim.specs.Rounds.{walk_for}
 use Rattle.shr_assemble.proofs.WalkingTold.{IsTableOf}
 use Rattle.shr_assemble.proofs.WalkingGives.{OneSeen, one_seen, gave, Freed, freed_none, freed_then}
 use Rattle.shr_assemble.proofs.WalkingSteps.{Walked, walked_none, walked_then}
@@ -40,18 +37,18 @@ pub record GaveAll (x : Shared) (by : Serial) (c : Option Command) (a : Answered
   pub walked : Walked x.script by c a s t work
   pub noted : AllNoted jobs answers work.walks
   pub freed : Freed x by work.core.made work.ops
-  pub born : AllByRecursion (λ (o : Object). o.birth < length (parents_of x.script)) (freed_in work.core.made)
+  pub born : AllByRecursion (λ (o : Object). o.birth < length (parents_of x.script)) (objects_freed work.core.made)
   pub charges : work.charges ≡ 0
-  pub uncharges : work.uncharges ≡ length (freed_in work.core.made)
+  pub uncharges : work.uncharges ≡ length (objects_freed work.core.made)
 
-freed_both : (m n : List Made) → freed_in (m ++ n) ≡ freed_in m ++ freed_in n
+freed_both : (m n : List Made) → objects_freed (m ++ n) ≡ objects_freed m ++ objects_freed n
 freed_both m n = flat_map-append (λ (y : Made). freed_by y.items y.entry) m n
 
-pub born_then : (x : Shared) (m n : List Made) → AllByRecursion (λ (o : Object). o.birth < length (parents_of x.script)) (freed_in m) → AllByRecursion (λ (o : Object). o.birth < length (parents_of x.script)) (freed_in n) → AllByRecursion (λ (o : Object). o.birth < length (parents_of x.script)) (freed_in (m ++ n))
-born_then x m n a b = subst (AllByRecursion (λ (o : Object). o.birth < length (parents_of x.script))) (sym (freed_both m n)) (each_append (λ (o : Object). o.birth < length (parents_of x.script)) (freed_in m) (freed_in n) a b)
+pub born_then : (x : Shared) (m n : List Made) → AllByRecursion (λ (o : Object). o.birth < length (parents_of x.script)) (objects_freed m) → AllByRecursion (λ (o : Object). o.birth < length (parents_of x.script)) (objects_freed n) → AllByRecursion (λ (o : Object). o.birth < length (parents_of x.script)) (objects_freed (m ++ n))
+born_then x m n a b = subst (AllByRecursion (λ (o : Object). o.birth < length (parents_of x.script))) (sym (freed_both m n)) (each_append (λ (o : Object). o.birth < length (parents_of x.script)) (objects_freed m) (objects_freed n) a b)
 
-pub uncharges_then : (m n : List Made) (i j : ℕ) → i ≡ length (freed_in m) → j ≡ length (freed_in n) → i + j ≡ length (freed_in (m ++ n))
-uncharges_then m n i j a b = let e = ap (λ (l : List Object). length l) (freed_both m n) in let d = length-append (freed_in m) (freed_in n) in omega (arith, a, b, e, d)
+pub uncharges_then : (m n : List Made) (i j : ℕ) → i ≡ length (objects_freed m) → j ≡ length (objects_freed n) → i + j ≡ length (objects_freed (m ++ n))
+uncharges_then m n i j a b = let e = ap (λ (l : List Object). length l) (freed_both m n) in let d = length-append (objects_freed m) (objects_freed n) in omega (arith, a, b, e, d)
 
 pub gave_all : (x : Shared) → IsTableOf x → (by : Serial) (c : Option Command) (a : Answered) (jobs : List Job) (answers : List WalkAnswer) (s t : WorkerState) (h : AreOne x by jobs answers s t) → AllSeen x by jobs answers s t h → AllByRecursion (IsThereJob x) jobs
     → GaveAll x by c a jobs answers s t
@@ -90,7 +87,7 @@ visited_one x by (v ∷ vs) s t (one, more) = (v.answer, map (λ (w : Visit). w.
 not_lacked : (a : WalkAnswer) → a ≡ answered.Memory 0 → lacked_memory a ≡ false → ⊥
 not_lacked a e h = let d : true ≡ false = sym (ap lacked_memory e) ∙ h in cc
 
-same_told : (a : WalkAnswer) → freed_told a ≡ balances.freed_told a
+same_told : (a : WalkAnswer) → freed_told a ≡ balances.walk_freed a
 same_told (answered.Walked freed) = refl
 same_told (answered.Offline entry) = refl
 same_told (answered.Memory freed) = refl
@@ -160,11 +157,11 @@ front_pairs ws h i j d lt lj =
 -- where each walk had memory, each left its record
 pub record AllHad (jobs : List Job) (answers : List WalkAnswer) (ws : List WalkRecord) : Type 0 where
   pub jobs_are : map job_of ws ≡ jobs
-  pub sum_told : told_by ws ≡ sum (map balances.freed_told answers)
+  pub sum_told : told_by ws ≡ sum (map balances.walk_freed answers)
   pub uncut : any_cut ws ≡ false
 
-sum_cons : (a : WalkAnswer) (rest : List WalkAnswer) → sum (map balances.freed_told (a ∷ rest)) ≡ balances.freed_told a + sum (map balances.freed_told rest)
-sum_cons a rest = let e = sum-map balances.freed_told (a ∷ rest) in let d = sum-map balances.freed_told rest in let c = sum_by-cons balances.freed_told a rest in omega (arith, e, d, c)
+sum_cons : (a : WalkAnswer) (rest : List WalkAnswer) → sum (map balances.walk_freed (a ∷ rest)) ≡ balances.walk_freed a + sum (map balances.walk_freed rest)
+sum_cons a rest = let e = sum-map balances.walk_freed (a ∷ rest) in let d = sum-map balances.walk_freed rest in let c = sum_by-cons balances.walk_freed a rest in omega (arith, e, d, c)
 
 had_more : (j : Job) (js : List Job) (a : WalkAnswer) (rest : List WalkAnswer) (r : WalkRecord) (later : List WalkRecord) → job_of r ≡ j → r.answer ≡ a → lacked_memory a ≡ false → AllHad js rest later → AllHad (j ∷ js) (a ∷ rest) (r ∷ later)
 had_more j js a rest r later is answer had h = record {
@@ -185,7 +182,7 @@ all_had (j ∷ js) answers ws (a, rest, first, later, e, d, how, more) h =
 pub record AllCut (jobs : List Job) (answers : List WalkAnswer) (ws : List WalkRecord) : Type 0 where
   pub front : FrontHad ws
   pub begins : Begins (map job_of ws) jobs
-  pub sum_told : told_by ws ≡ sum (map balances.freed_told answers)
+  pub sum_told : told_by ws ≡ sum (map balances.walk_freed answers)
   pub short : (length ws < length jobs) ⊎ (any_cut ws ≡ true)
 
 or_true : (a b : Bool) → b ≡ true → (a || b) ≡ true
@@ -205,7 +202,7 @@ cut_last : (j : Job) (last : WalkAnswer) (ws : List WalkRecord) → lacked_memor
 cut_last j last ws lacked (inl (e, d)) = subst (AllCut (j ∷ []) (last ∷ [])) (sym e) record {
   front = front_had [] refl;
   begins = (j ∷ [], refl);
-  sum_told = let f = ap balances.freed_told d in let s = sum_cons last [] in let z : 0 ≡ sum (map balances.freed_told (last ∷ [])) = omega (arith, f, s) in z;
+  sum_told = let f = ap balances.walk_freed d in let s = sum_cons last [] in let z : 0 ≡ sum (map balances.walk_freed (last ∷ [])) = omega (arith, f, s) in z;
   short = inl (omega arith);
 }
 cut_last j last ws lacked (inr (r, e, is, answer)) = subst (AllCut (j ∷ []) (last ∷ [])) (sym e) record {

@@ -1,6 +1,6 @@
 -- The operations of walks: one down for each object freed, on each level of its birth.
-use Rattle.shr_assemble.proofs.Common.{◌≡◌, ℕ, zero, suc, ◌+◌, ◌<◌, ◌≤◌, Bool, true, false, ◌||◌, cond, List, [], ◌∷◌, ◌++◌, length, length-append, map, sym, refl, ap, subst, ◌∙◌, arith, eq-eqb, ne_eqb, slice_get, Option, Some, pos, ◌-ℤ◌, not, ◌==◌, sum_by, count_by, All, AllByRecursion, list_any, length-map, sum_by-cons, sum_by-append, same_Some, none-some, dite, ℕ_discrete, Entry, Add, Look, Drop, Pin, Scan, MovedIn, Closed, Drained, UseStep, Object, Serial, Answered, Command, WalkRecord, ups, downs, is_at_or_above, born_below, IsTree, path_of, parent_of, freed_by, path_of-root, path_of-below, Each, Made, charged, parents_of, freed_in, paths_of, Groups, WorkerState, Work, Shared, ops_at, added_below, freed_below, DidCharges, each_append, each_weaker, by_slices}
-use Rattle.shr_charge.specs.Charging.{group_of}
+use Rattle.shr_assemble.proofs.Common.{◌≡◌, ℕ, zero, suc, ◌+◌, ◌<◌, ◌≤◌, Bool, true, false, ◌||◌, cond, List, [], ◌∷◌, ◌++◌, length, length-append, map, sym, refl, ap, subst, ◌∙◌, arith, eq-eqb, ne_eqb, slice_get, Option, Some, pos, ◌-ℤ◌, not, ◌==◌, sum_by, count_by, All, AllByRecursion, list_any, length-map, sum_by-cons, sum_by-append, same_Some, none-some, dite, ℕ_discrete, Entry, Add, Look, Drop, Pin, Scan, MovedIn, Closed, Drained, UseStep, Object, Serial, Answered, Command, WalkRecord, ups, downs, is_at_or_above, born_below, IsTree, path_of, parent_of, freed_by, path_of-root, path_of-below, Each, Made, charged, parents_of, objects_freed, paths_of, Groups, WorkerState, Work, Shared, ops_at, added_below, made_freed_below, DidCharges, each_append, each_weaker, by_slices}
+use Rattle.shr_charge.specs.Charging.{use_group}
 use Rattle.shr_walk.specs.Keeping as keeping
 use Rattle.shr_assemble.proofs.Listed.{all_slice, all_slice_by}
 use Rattle.shr_assemble.proofs.WalkingTold.{IsTableOf}
@@ -73,10 +73,10 @@ module _ (parents : List ℕ) (tree : IsTree parents) where
   paths_many (o ∷ os) h = let e = length-append (path_of parents o.birth) (paths_of parents os) in let p = (path_is o.birth o.birth (omega arith) h.0).some in omega (arith, e, p, paths_many os h.1)
 
 -- what entries freed, object by object and entry by entry
-pub made_below : (parents : List ℕ) (g : ℕ) (made : List Made) → born_below parents g (freed_in made) ≡ sum_by (freed_below parents g) made
+pub made_below : (parents : List ℕ) (g : ℕ) (made : List Made) → born_below parents g (objects_freed made) ≡ sum_by (made_freed_below parents g) made
 made_below parents g [] = refl
-made_below parents g (m ∷ made) = let e = sum_by-append (λ (z : Object). cond (is_at_or_above parents g z.birth) 1 0) (freed_by m.items m.entry) (freed_in made) in
-    let d = sum_by-cons (freed_below parents g) m made in omega (arith, e, d, made_below parents g made)
+made_below parents g (m ∷ made) = let e = sum_by-append (λ (z : Object). cond (is_at_or_above parents g z.birth) 1 0) (freed_by m.items m.entry) (objects_freed made) in
+    let d = sum_by-cons (made_freed_below parents g) m made in omega (arith, e, d, made_below parents g made)
 
 -- ---- downs
 abbrev pub GoesDown : UseStep → Type 0
@@ -95,9 +95,9 @@ module _ (g : ℕ) where
   downs_more o rest true d = let e = sum_by-cons (λ (y : UseStep). cond (not y.up) 1 0) o rest in let c = ap (λ t. cond {A = ℕ} (not t) 1 0) d in omega (arith, e, c)
   downs_more o rest false d = omega arith
 
-  pub count_downs : (ops : List UseStep) → AllByRecursion GoesDown ops → downs (ops_at g ops) ≡ times_in g (map group_of ops)
+  pub count_downs : (ops : List UseStep) → AllByRecursion GoesDown ops → downs (ops_at g ops) ≡ times_in g (map use_group ops)
   count_downs [] h = refl
-  count_downs (o ∷ ops) h = let e = downs_more o (ops_at g ops) (o.group == g) h.0 in let d = sum_by-cons (λ (y : ℕ). cond (y == g) 1 0) o.group (map group_of ops) in omega (arith, e, d, count_downs ops h.1)
+  count_downs (o ∷ ops) h = let e = downs_more o (ops_at g ops) (o.group == g) h.0 in let d = sum_by-cons (λ (y : ℕ). cond (y == g) 1 0) o.group (map use_group ops) in omega (arith, e, d, count_downs ops h.1)
 
   keep_down : (o : UseStep) (rest : List UseStep) (b : Bool) → o.up ≡ false → AllByRecursion GoesDown rest → AllByRecursion GoesDown (cond b (o ∷ rest) rest)
   keep_down o rest true d r = (d, r)
@@ -119,7 +119,7 @@ down_at [] h n e = none-some true e
 down_at (o ∷ ops) h zero e = not_up o.up h.0 (same_Some o.up true e)
 down_at (o ∷ ops) h (suc n) e = down_at ops h.1 n e
 
-groups_back : (n : ℕ) (ops : List UseStep) → AllByRecursion (λ y. y < n) (map group_of ops) → AllByRecursion (λ (o : UseStep). o.group < n) ops
+groups_back : (n : ℕ) (ops : List UseStep) → AllByRecursion (λ y. y < n) (map use_group ops) → AllByRecursion (λ (o : UseStep). o.group < n) ops
 groups_back n [] h = tt
 groups_back n (o ∷ ops) h = (h.0, groups_back n ops h.1)
 
@@ -139,7 +139,7 @@ none_added parents g by start walks [] h = refl
 none_added parents g by start walks (m ∷ made) h = let e = sum_by-cons (λ (z : Made). added_below parents g z.entry) m made in
     omega (arith, e, no_added parents g by start walks m m.entry (h 0 m refl), none_added parents g by start walks made (λ j y d. h (suc j) y d))
 
-pub same_parents : (x : Shared) → IsTableOf x → keeping.parents_of x ≡ parents_of x.script
+pub same_parents : (x : Shared) → IsTableOf x → keeping.shared_parents x ≡ parents_of x.script
 same_parents x table = table.shared.parents ∙ ap (λ (t : Groups). t.parents) table.shared.tree
 
 pub tree_is : (x : Shared) → IsTableOf x → IsTree (parents_of x.script)
@@ -147,21 +147,21 @@ tree_is x table = subst IsTree (same_parents x table) x.core.tree
 
 -- the charges of a command that has walks alone
 pub walks_charge : (x : Shared) → IsTableOf x → (by : Serial) (c : Option Command) (a : Answered) (s t : WorkerState) (w : Work) (walks : List WalkRecord)
-    → ((g : ℕ) → charged (parents_of x.script) g c (Some a.reply) ≡ 0) → Freed x by w.core.made w.ops → AllByRecursion (λ (o : Object). o.birth < length (parents_of x.script)) (freed_in w.core.made)
-    → w.charges ≡ 0 → w.uncharges ≡ length (freed_in w.core.made) → Each (IsScanOne by (length s.walks) walks) w.core.made → DidCharges x.script (step_of x.script by c a s t w)
+    → ((g : ℕ) → charged (parents_of x.script) g c (Some a.reply) ≡ 0) → Freed x by w.core.made w.ops → AllByRecursion (λ (o : Object). o.birth < length (parents_of x.script)) (objects_freed w.core.made)
+    → w.charges ≡ 0 → w.uncharges ≡ length (objects_freed w.core.made) → Each (IsScanOne by (length s.walks) walks) w.core.made → DidCharges x.script (step_of x.script by c a s t w)
 walks_charge x table by c a s t w walks free freed born charges uncharges scans = record {
   own = λ k d lt. (freed.each k d lt).made;
-  there = all_of (λ (o : UseStep). o.group < length parents) w.ops (groups_back (length parents) w.ops (subst (AllByRecursion (λ y. y < length parents)) (sym at) (paths_within parents tree (freed_in w.core.made) born)));
+  there = all_of (λ (o : UseStep). o.group < length parents) w.ops (groups_back (length parents) w.ops (subst (AllByRecursion (λ y. y < length parents)) (sym at) (paths_within parents tree (objects_freed w.core.made) born)));
   taken_back = λ g n o e up refused. absurd (not_up o.up (all_slice_by GoesDown (ops_at g w.ops) n o (all_down g w.ops down) e) up);
   puts = λ k d lt up. absurd (not_up _ (freed.each k d lt).down up);
   fourteen = λ g. let z = no_ups g w.ops down in omega (arith, z);
   between = λ g n m lt e f. absurd (down_at (ops_at g w.ops) (all_down g w.ops down) n e);
   nets = λ g lt. let u : ups (ops_at g w.ops) ≡ charged parents g c (Some a.reply) = no_ups g w.ops down ∙ sym (free g) in
-      let d : downs (ops_at g w.ops) ≡ sum_by (freed_below parents g) w.core.made = count_downs g w.ops down ∙ (ap (times_in g) at ∙ (paths_count parents tree g (freed_in w.core.made) born ∙ made_below parents g w.core.made)) in
+      let d : downs (ops_at g w.ops) ≡ sum_by (made_freed_below parents g) w.core.made = count_downs g w.ops down ∙ (ap (times_in g) at ∙ (paths_count parents tree g (objects_freed w.core.made) born ∙ made_below parents g w.core.made)) in
       λ i. pos (u i) -ℤ pos (d i);
   added = λ g. none_added parents g by (length s.walks) walks w.core.made scans ∙ sym (free g);
   charges = omega (arith, charges);
-  uncharges = let e = every_down w.ops down in let l = ap (λ (z : List ℕ). length z) at in let m = length-map w.ops group_of in let n = paths_many parents tree (freed_in w.core.made) born in omega (arith, uncharges, e, l, m, n);
+  uncharges = let e = every_down w.ops down in let l = ap (λ (z : List ℕ). length z) at in let m = length-map w.ops use_group in let n = paths_many parents tree (objects_freed w.core.made) born in omega (arith, uncharges, e, l, m, n);
 }
   where
     parents : List ℕ
@@ -170,8 +170,8 @@ walks_charge x table by c a s t w walks free freed born charges uncharges scans 
     tree : IsTree (parents_of x.script)
     tree = tree_is x table
 
-    at : map group_of w.ops ≡ paths_of (parents_of x.script) (freed_in w.core.made)
-    at = freed.at ∙ ap (λ p. paths_of p (freed_in w.core.made)) (same_parents x table)
+    at : map use_group w.ops ≡ paths_of (parents_of x.script) (objects_freed w.core.made)
+    at = freed.at ∙ ap (λ p. paths_of p (objects_freed w.core.made)) (same_parents x table)
 
     down : AllByRecursion GoesDown w.ops
     down = rec_of GoesDown w.ops (λ k d lt. (freed.each k d lt).down)

@@ -1,5 +1,5 @@
 -- A command that made walks alone did what the report asks.
-use Rattle.shr_assemble.proofs.Common.{◌≡◌, ℕ, ◌<◌, ◌≤◌, ◌⊎◌, inl, [], length, refl, sym, ap, subst, ◌∙◌, arith, cond, Option, Some, None, option_and_then, sum_by, All, AllPairs, AllByRecursion, append-nil, All-nil, none-some, Entry, Add, Look, Drop, Pin, Scan, MovedIn, Closed, Drained, Object, Place, Serial, Answered, Reply, Command, Carry, decl_named, asks_online, Family, is_below, is_place, Each, Each-none, Made, Turn, charged, MayBeOffline, pool_told, pool_made, parents_of, cited_by, AreNotFalling, IsBefore, freed_in, WorkerState, Work, Shared, unfound, IsCausedBy, DidCarry, Did, IsReplyTo, MayMake, KnowsOnline, IsEntryOf, MeetsGroups, IsTurnOf, Step, Brings, AreWalksFor}
+use Rattle.shr_assemble.proofs.Common.{◌≡◌, ℕ, ◌<◌, ◌≤◌, ◌⊎◌, inl, [], length, refl, sym, ap, subst, ◌∙◌, arith, cond, Option, Some, None, option_and_then, sum_by, All, AllPairs, AllByRecursion, append-nil, All-nil, none-some, Entry, Add, Look, Drop, Pin, Scan, MovedIn, Closed, Drained, Object, Place, Serial, Answered, Reply, Command, Carry, decl_named, asks_online, Family, is_below, is_place, Each, Each-none, Made, Turn, charged, MayBeOffline, pool_told, pool_made, parents_of, cited_by, AreNotFalling, IsBefore, objects_freed, WorkerState, Work, Shared, unfound, IsCausedBy, DidCarry, Did, IsReplyTo, MayMakeEntry, KnowsOnline, IsEntryOf, MeetsGroups, IsTurnOf, Step, BringsWork, AreWalksFor}
 use Rattle.shr_charge.specs.Views as charge
 use Rattle.shr_assemble.proofs.WalkingTold.{IsTableOf}
 use Rattle.shr_assemble.proofs.WalkingGives.{Freed}
@@ -7,7 +7,7 @@ use Rattle.shr_assemble.proofs.WalkingCharges.{walks_charge}
 use Rattle.shr_assemble.proofs.Filling.{set_walked}
 use Rattle.shr_assemble.proofs.WalkingSteps.{OnlyScan, step_of, Walked}
 
-pub may_make : (x : Shared) (by : Serial) (c : Option Command) (a : Answered) (s t : WorkerState) (w : Work) (m : Made) (e : Entry) → OnlyScan by (length s.walks) w.walks m e → MayMake x.script (step_of x.script by c a s t w) m e
+pub may_make : (x : Shared) (by : Serial) (c : Option Command) (a : Answered) (s t : WorkerState) (w : Work) (m : Made) (e : Entry) → OnlyScan by (length s.walks) w.walks m e → MayMakeEntry x.script (step_of x.script by c a s t w) m e
 may_make x by c a s t w m (Scan worker n asked policy visits freed stopped) h = inl (record { own = h.own; index = h.index; number = h.number; walk = h.walk; there = h.there; passes = h.passes })
 may_make x by c a s t w m (Add by' birth added key value) h = absurd h
 may_make x by c a s t w m (Look by' birth key hit) h = absurd h
@@ -20,7 +20,7 @@ may_make x by c a s t w m (Drained by' objects) h = absurd h
 -- a step with its work
 pub record Stepping (x : Shared) (by : Serial) (c : Option Command) (a : Answered) (s t : WorkerState) : Type 0 where
   pub work : Work
-  pub does : Brings s t work
+  pub does : BringsWork s t work
   pub did : Did x.script (step_of x.script by c a s t work)
 
 -- what the command and its reply are, beside the walks
@@ -37,7 +37,7 @@ pub record IsOfWalks (x : Shared) (by : Serial) (c : Option Command) (r : Reply)
   pub cause : IsCausedBy x.script (step_of x.script by c (unfound r) s t w) r
 
 pub walks_did : (x : Shared) → IsTableOf x → (by : Serial) (c : Option Command) (r : Reply) (s t : WorkerState) (w : Work) → Walked x.script by c (unfound r) s t w → Freed x by w.core.made w.ops
-    → AllByRecursion (λ (o : Object). o.birth < length (parents_of x.script)) (freed_in w.core.made) → w.charges ≡ 0 → w.uncharges ≡ length (freed_in w.core.made) → IsOfWalks x by c r s t w → Did x.script (step_of x.script by c (unfound r) s t w)
+    → AllByRecursion (λ (o : Object). o.birth < length (parents_of x.script)) (objects_freed w.core.made) → w.charges ≡ 0 → w.uncharges ≡ length (objects_freed w.core.made) → IsOfWalks x by c r s t w → Did x.script (step_of x.script by c (unfound r) s t w)
 walks_did x table by c r s t w walked freed born charges uncharges is = record {
   entries = record {
     each = λ j m e. may_make x by c (unfound r) s t w m m.entry (walked.scans j m e);
@@ -77,7 +77,7 @@ walks_did x table by c r s t w walked freed born charges uncharges is = record {
     made = subst (AllByRecursion (λ n. n < length t.core.turns.known)) (sym is.no_made) tt;
   };
   tree = record {
-    each = subst (All (λ (m : charge.Made). (length s.tree.known ≤ m.number) × IsEntryOf x.script step m.number m.entry)) (sym walked.tree) (All-nil (λ (m : charge.Made). (length s.tree.known ≤ m.number) × IsEntryOf x.script step m.number m.entry));
+    each = subst (All (λ (m : charge.TreeMade). (length s.tree.known ≤ m.number) × IsEntryOf x.script step m.number m.entry)) (sym walked.tree) (All-nil (λ (m : charge.TreeMade). (length s.tree.known ≤ m.number) × IsEntryOf x.script step m.number m.entry));
     online = is.online;
     meets = is.meets;
   };

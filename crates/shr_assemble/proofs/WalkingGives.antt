@@ -1,11 +1,10 @@
 -- A walk of a group or of the root, by its answer, gave what the report asks of it.
-use Rattle.shr_assemble.proofs.Common.{◌≡◌, ℕ, ◌+◌, ◌<◌, ◌⊎◌, inl, inr, ⊎_elim, Bool, true, false, List, [], ◌∷◌, ◌++◌, length, map, sym, refl, ap, subst, ◌∙◌, arith, AllByRecursion, append-nil, map-append, All-nil, All-append, flat_map-append, none-some, dite, ℕ_discrete, Kept, UseStep, Object, Serial, Answered, Command, Script, Attempt, MapSeen, WalkAnswer, WalkRecord, path_of, freed_by, job, job_of, Rise, Each-none, Gained, nothing, Made, Mapped, shape_of, Begins, AreDowns, IsDown, parents_of, OneGives, AreFresh, freed_in, paths_of, WorkerState, Work, no_work, then_work, Does, IsRecordOf, Parts, AreParts, record_of, parts_of, Shared, Walk, does_then, fresh_none, fresh_then, IsSeen, hierarchy_of, GroupState, KnowsOnline, IsAmong, Option}
+use Rattle.shr_assemble.proofs.Common.{◌≡◌, ℕ, ◌+◌, ◌<◌, ◌⊎◌, inl, inr, ⊎_elim, Bool, true, false, List, [], ◌∷◌, ◌++◌, length, map, sym, refl, ap, subst, ◌∙◌, arith, AllByRecursion, append-nil, map-append, All-nil, All-append, flat_map-append, none-some, dite, ℕ_discrete, Kept, UseStep, Object, Serial, Answered, Command, Script, Attempt, MapSeen, WalkAnswer, WalkRecord, path_of, freed_by, job, job_of, Rise, Each-none, Gained, nothing, Made, Mapped, shape_of, Begins, AreDowns, IsDown, parents_of, OneGives, AreFresh, objects_freed, paths_of, WorkerState, Work, no_work, then_work, Does, IsRecordOf, WalkParts, AreParts, record_of, parts_of, Shared, Walk, does_then, fresh_none, fresh_then, IsWalkSeen, hierarchy_of, GroupState, KnowsOnline, IsAmong, Option, then_gained}
 use Rattle.shr_base.specs.declared.walks.WalkAnswer.TheVariants as answered
-use Rattle.shr_core.specs.Gained.{then_gained}
-use Rattle.shr_charge.specs.Charging.{group_of}
+use Rattle.shr_charge.specs.Charging.{use_group}
 use Rattle.shr_charge.specs.Views as charge
 use Rattle.shr_walk.specs.Keeping as keeping
-use Rattle.shr_walk.specs.Walked.{GoesOn, WalkMade, WalkGives, RootMade, RootGives, walk_work, id_of, units_in}
+use Rattle.shr_walk.specs.Walked.{GoesOn, WalkMade, WalkGives, RootMade, RootGives, walk_work, id_of_attempt}
 use Rattle.shr_walk.proofs.Recording.{record_none}
 use Rattle.shr_walk.proofs.ShownLaws.{seen_none, seen_earlier, seen_later}
 use Rattle.shr_charge.specs.declared.answers.GroupState.TheVariants as state
@@ -16,24 +15,25 @@ use Rattle.shr_assemble.proofs.WalkingParts.{found_cases}
 use Rattle.shr_assemble.proofs.WalkingOne.{whole, OneWalk, one_walk}
 use Rattle.shr_assemble.proofs.WalkingWell.{record_below_whole, record_below_cut, record_root_whole, record_root_cut, record_offline}
 use Rattle.shr_assemble.proofs.WalkingSteps.{IsScanOne, Walked}
+use Rattle.shr_core.specs.Ending.{units_in}
 
 -- what these entries freed was uncharged, group by group
 abbrev pub Freed : Shared → Serial → List Made → List UseStep → Type 0
-Freed x by made ops = AreDowns by (paths_of (keeping.parents_of x) (freed_in made)) ops
+Freed x by made ops = AreDowns by (paths_of (keeping.shared_parents x) (objects_freed made)) ops
 
 pub freed_none : (x : Shared) (by : Serial) → Freed x by [] []
 freed_none x by = record { at = refl; each = All-nil (IsDown by) }
 
 pub freed_then : (x : Shared) (by : Serial) (m n : List Made) (o p : List UseStep) → Freed x by m o → Freed x by n p → Freed x by (m ++ n) (o ++ p)
 freed_then x by m n o p a b = record {
-  at = map-append group_of o p ∙ (ap (λ l. l ++ map group_of p) a.at ∙ (ap (λ l. paths_of (keeping.parents_of x) (freed_in m) ++ l) b.at
-      ∙ (sym (flat_map-append (λ (y : Object). path_of (keeping.parents_of x) y.birth) (freed_in m) (freed_in n)) ∙ ap (paths_of (keeping.parents_of x)) (sym (flat_map-append (λ (y : Made). freed_by y.items y.entry) m n)))));
+  at = map-append use_group o p ∙ (ap (λ l. l ++ map use_group p) a.at ∙ (ap (λ l. paths_of (keeping.shared_parents x) (objects_freed m) ++ l) b.at
+      ∙ (sym (flat_map-append (λ (y : Object). path_of (keeping.shared_parents x) y.birth) (objects_freed m) (objects_freed n)) ∙ ap (paths_of (keeping.shared_parents x)) (sym (flat_map-append (λ (y : Made). freed_by y.items y.entry) m n)))));
   each = All-append (IsDown by) o p a.each b.each;
 }
 
-parts_freed : (x : Shared) (walk : Walk) (l : List Attempt) (p : Parts) → AreParts x walk l p → Freed x walk.by p.made p.ops
-parts_freed x walk [] p h = subst (λ (y : Parts). Freed x walk.by y.made y.ops) (sym h) (freed_none x walk.by)
-parts_freed x walk (a ∷ l) p (q, s, e, i, rest) = subst (λ (y : Parts). Freed x walk.by y.made y.ops) (sym e) (freed_then x walk.by q.made s.made q.ops s.ops
+parts_freed : (x : Shared) (walk : Walk) (l : List Attempt) (p : WalkParts) → AreParts x walk l p → Freed x walk.by p.made p.ops
+parts_freed x walk [] p h = subst (λ (y : WalkParts). Freed x walk.by y.made y.ops) (sym h) (freed_none x walk.by)
+parts_freed x walk (a ∷ l) p (q, s, e, i, rest) = subst (λ (y : WalkParts). Freed x walk.by y.made y.ops) (sym e) (freed_then x walk.by q.made s.made q.ops s.ops
     (⊎_elim
     (λ none. subst (λ (z : List Made). Freed x walk.by z q.ops) (sym none.0.no_entry) (subst (λ (z : List UseStep). Freed x walk.by [] z) (sym none.0.no_use) (freed_none x walk.by)))
     (λ some. some.0.by.downs)
@@ -42,8 +42,8 @@ parts_freed x walk (a ∷ l) p (q, s, e, i, rest) = subst (λ (y : Parts). Freed
 
 -- ---- what a walk showed, by its answer
 abbrev pub MadeSeen : (x : Shared) (walk : Walk) (full : Bool) (answer : WalkAnswer) (freed : ℕ) (s t : WorkerState) → WalkMade x walk full answer freed s t → Type 0
-MadeSeen x walk true answer freed s t m = IsSeen x walk m.maps.items m.attempts.items s t m.walked.w
-MadeSeen x walk false answer freed s t m = IsSeen x walk m.maps.items m.attempts.items s t m.walked.w
+MadeSeen x walk true answer freed s t m = IsWalkSeen x walk m.maps.items m.attempts.items s t m.walked.w
+MadeSeen x walk false answer freed s t m = IsWalkSeen x walk m.maps.items m.attempts.items s t m.walked.w
 
 abbrev pub CutSeen : (x : Shared) (walk : Walk) (freed : ℕ) (s t : WorkerState) → ((freed ≡ 0) × Does s t no_work) ⊎ WalkMade x walk false (answered.Memory freed) freed s t → Type 0
 CutSeen x walk freed s t (inl none) = Unit {0}
@@ -55,8 +55,8 @@ WalkSeen x walk (answered.Offline entry) s t g = Unit {0}
 WalkSeen x walk (answered.Memory freed) s t g = CutSeen x walk freed s t g
 
 abbrev pub RootMadeSeen : (x : Shared) (walk : Walk) (full : Bool) (answer : WalkAnswer) (freed : ℕ) (s t : WorkerState) → RootMade x walk full answer freed s t → Type 0
-RootMadeSeen x walk true answer freed s t m = IsSeen x walk m.maps.items m.attempts.items s t m.walked.w
-RootMadeSeen x walk false answer freed s t m = IsSeen x walk m.maps.items m.attempts.items s t m.walked.w
+RootMadeSeen x walk true answer freed s t m = IsWalkSeen x walk m.maps.items m.attempts.items s t m.walked.w
+RootMadeSeen x walk false answer freed s t m = IsWalkSeen x walk m.maps.items m.attempts.items s t m.walked.w
 
 abbrev pub RootCutSeen : (x : Shared) (walk : Walk) (freed : ℕ) (s t : WorkerState) → ((freed ≡ 0) × Does s t no_work) ⊎ RootMade x walk false (answered.Memory freed) freed s t → Type 0
 RootCutSeen x walk freed s t (inl none) = Unit {0}
@@ -82,8 +82,8 @@ walk_seen x walk (answered.Offline entry) s t g = tt
 walk_seen x walk (answered.Memory freed) s t g = cut_seen x walk freed s t g
 
 -- the root's walk loads no map
-at_root : (x : Shared) (walk : Walk) (maps : List MapSeen) (l : List Attempt) (s t : WorkerState) (w : Work) → maps ≡ [] → IsSeen x walk [] l s t w → IsSeen x walk maps l s t w
-at_root x walk maps l s t w none h = subst (λ (m : List MapSeen). IsSeen x walk m l s t w) (sym none) h
+at_root : (x : Shared) (walk : Walk) (maps : List MapSeen) (l : List Attempt) (s t : WorkerState) (w : Work) → maps ≡ [] → IsWalkSeen x walk [] l s t w → IsWalkSeen x walk maps l s t w
+at_root x walk maps l s t w none h = subst (λ (m : List MapSeen). IsWalkSeen x walk m l s t w) (sym none) h
 
 root_made_seen : (x : Shared) (walk : Walk) (full : Bool) (answer : WalkAnswer) (freed : ℕ) (s t : WorkerState) (m : RootMade x walk full answer freed s t) → RootMadeSeen x walk full answer freed s t m
 root_made_seen x walk true answer freed s t m = at_root x walk m.maps.items m.attempts.items s t m.walked.w m.no_map (seen_earlier x walk [] m.attempts.items s m.begun t _ m.walked.w m.same (seen_later x walk [] m.attempts.items m.begun m.ended t _ m.walked.w m.recorded m.walked.seen))
@@ -131,9 +131,9 @@ pub record Gave (x : Shared) (walk : Walk) (c : Option Command) (a : Answered) (
   pub walked : Walked x.script walk.by c a s t work
   pub told : ((work.walks ≡ []) × (answer ≡ answered.Memory 0)) ⊎ IsNoted walk answer work.walks
   pub freed : Freed x walk.by work.core.made work.ops
-  pub born : AllByRecursion (λ (o : Object). o.birth < length (parents_of x.script)) (freed_in work.core.made)
+  pub born : AllByRecursion (λ (o : Object). o.birth < length (parents_of x.script)) (objects_freed work.core.made)
   pub charges : work.charges ≡ 0
-  pub uncharges : work.uncharges ≡ length (freed_in work.core.made)
+  pub uncharges : work.uncharges ≡ length (objects_freed work.core.made)
 
 -- the parts of a walk's work, put together
 same_core : (g : Gained) → then_gained (then_gained nothing g) nothing ≡ g
@@ -141,7 +141,7 @@ same_core g = let made = append-nil g.made in let seen = append-nil g.seen in le
     let cleared = append-nil g.cleared in let attempts = append-nil g.attempts in let loaded = append-nil g.loaded in let turns = append-nil g.turns in let gives : 0 + g.gives + 0 ≡ g.gives = omega arith in
     λ i. record { made = made i; seen = seen i; tries = tries i; maps = maps i; sets = sets i; cleared = cleared i; attempts = attempts i; loaded = loaded i; turns = turns i; gives = gives i }
 
-same_whole : (words : List charge.Loaded) (w : Work) (r : WalkRecord) → w.words ≡ [] → w.walks ≡ [] → then_work (then_work (record no_work { words = words }) w) (walk_work r) ≡ whole w words r
+same_whole : (words : List charge.LoadedState) (w : Work) (r : WalkRecord) → w.words ≡ [] → w.walks ≡ [] → then_work (then_work (record no_work { words = words }) w) (walk_work r) ≡ whole w words r
 same_whole words w r none no_walk =
     let core = same_core w.core in let ops = append-nil w.ops in let charges : 0 + w.charges + 0 ≡ w.charges = omega arith in let uncharges : 0 + w.uncharges + 0 ≡ w.uncharges = omega arith in
     let loaded : (words ++ w.words) ++ [] ≡ words = append-nil (words ++ w.words) ∙ (ap (λ l. words ++ l) none ∙ append-nil words) in
@@ -171,7 +171,7 @@ idle_walked script by c a s t d = record {
 }
 
 module _ (x : Shared) (table : IsTableOf x) (walk : Walk) (c : Option Command) (a : Answered) (s t : WorkerState) (number : walk.number ≡ length s.walks) (node : walk.node < x.script.nodes) (group : walk.group < length (parents_of x.script)) where
-  gave_one : (maps : Kept MapSeen) (tries : Kept Attempt) (answer : WalkAnswer) (words : List charge.Loaded) (w : Work) → OneWalk x walk maps tries answer words w s t → Gave x walk c a answer s t
+  gave_one : (maps : Kept MapSeen) (tries : Kept Attempt) (answer : WalkAnswer) (words : List charge.LoadedState) (w : Work) → OneWalk x walk maps tries answer words w s t → Gave x walk c a answer s t
   gave_one maps tries answer words w one = record {
     work = whole w words (record_of walk maps tries answer);
     walked = one_walk x table walk c a maps tries answer words w s t one;
@@ -194,7 +194,7 @@ module _ (x : Shared) (table : IsTableOf x) (walk : Walk) (c : Option Command) (
     uncharges = refl;
   }
 
-  module _ (maps : Kept MapSeen) (tries : Kept Attempt) (answer : WalkAnswer) (words : List charge.Loaded) (begun ended : WorkerState) (w : Work) (first : Does s begun (record no_work { words = words })) (middle : Does begun ended w) (last : Does ended t (walk_work (record_of walk maps tries answer)))
+  module _ (maps : Kept MapSeen) (tries : Kept Attempt) (answer : WalkAnswer) (words : List charge.LoadedState) (begun ended : WorkerState) (w : Work) (first : Does s begun (record no_work { words = words })) (middle : Does begun ended w) (last : Does ended t (walk_work (record_of walk maps tries answer)))
       (fresh : AreFresh begun.core w.core.seen) (is : IsRecordOf x walk maps.items tries.items w) where
     whole_does : Does s t (whole w words (record_of walk maps tries answer))
     whole_does = subst (Does s t) (same_whole words w (record_of walk maps tries answer) is.words is.walks) (does_then s ended t (then_work (record no_work { words = words }) w) (walk_work (record_of walk maps tries answer)) (does_then s begun ended (record no_work { words = words }) w first middle) last)
@@ -202,10 +202,10 @@ module _ (x : Shared) (table : IsTableOf x) (walk : Walk) (c : Option Command) (
     whole_fresh : AreFresh s.core w.core.seen
     whole_fresh = fresh_then s.core begun.core nothing w.core.seen first.core (fresh_none s.core) fresh
 
-  no_offline : (freed : ℕ) (words : List charge.Loaded) (entry : ℕ) → answered.Walked freed ≡ answered.Offline entry → IsAmong (record { group = walk.group; state = state.Offline entry }) words
+  no_offline : (freed : ℕ) (words : List charge.LoadedState) (entry : ℕ) → answered.Walked freed ≡ answered.Offline entry → IsAmong (record { group = walk.group; state = state.Offline entry }) words
   no_offline freed words entry e = absurd (cc)
 
-  no_offline_cut : (freed : ℕ) (words : List charge.Loaded) (entry : ℕ) → answered.Memory freed ≡ answered.Offline entry → IsAmong (record { group = walk.group; state = state.Offline entry }) words
+  no_offline_cut : (freed : ℕ) (words : List charge.LoadedState) (entry : ℕ) → answered.Memory freed ≡ answered.Offline entry → IsAmong (record { group = walk.group; state = state.Offline entry }) words
   no_offline_cut freed words entry e = absurd (cc)
 
   gave_walk : (answer : WalkAnswer) (g : WalkGives x walk answer s t) → 0 < walk.group → WalkSeen x walk answer s t g → Gave x walk c a answer s t
@@ -235,15 +235,15 @@ module _ (x : Shared) (table : IsTableOf x) (walk : Walk) (c : Option Command) (
     is = subst (λ (m : List MapSeen). IsRecordOf x walk m g.attempts.items no_work) (sym g.no_map) (subst (λ (l : List Attempt). IsRecordOf x walk [] l no_work) (sym g.no_attempt) (record_none x walk));
     fresh = fresh_none s.core;
     record_is = record_offline x walk g.maps g.attempts entry below g.no_map g.no_attempt;
-    rise = subst (λ (l : List Attempt). Rise (map id_of l)) (sym g.no_attempt) tt;
-    seen = subst (λ (m : List MapSeen). IsSeen x walk m g.attempts.items s t no_work) (sym g.no_map) (subst (λ (l : List Attempt). IsSeen x walk [] l s t no_work) (sym g.no_attempt) (seen_later x walk [] [] s s t _ no_work g.does (seen_none x walk s)));
-    word = λ e is. subst (λ n. IsAmong {A = charge.Loaded} (record { group = walk.group; state = state.Offline n }) (record { group = walk.group; state = state.Offline entry } ∷ [])) (let z : entry ≡ e = cc in z) (0, refl);
+    rise = subst (λ (l : List Attempt). Rise (map id_of_attempt l)) (sym g.no_attempt) tt;
+    seen = subst (λ (m : List MapSeen). IsWalkSeen x walk m g.attempts.items s t no_work) (sym g.no_map) (subst (λ (l : List Attempt). IsWalkSeen x walk [] l s t no_work) (sym g.no_attempt) (seen_later x walk [] [] s s t _ no_work g.does (seen_none x walk s)));
+    word = λ e is. subst (λ n. IsAmong {A = charge.LoadedState} (record { group = walk.group; state = state.Offline n }) (record { group = walk.group; state = state.Offline entry } ∷ [])) (let z : entry ≡ e = cc in z) (0, refl);
     online = λ lt on. absurd (on entry refl);
   }
   gave_walk (answered.Memory freed) (inl none) below seen = subst (λ n. Gave x walk c a (answered.Memory n) s t) (sym none.0) (gave_none none.1)
   gave_walk (answered.Memory freed) (inr g) below seen =
       let v = g.walked in let f = whole_fresh g.maps g.attempts (answered.Memory freed) (record { group = walk.group; state = g.state } ∷ []) g.begun g.ended v.w g.loaded v.does g.recorded v.fresh v.is in
-      let rise = rise_front (map id_of g.attempts.items) v.rest (subst Rise v.ids (maps_rise g.maps.items v.n v.units)) in
+      let rise = rise_front (map id_of_attempt g.attempts.items) v.rest (subst Rise v.ids (maps_rise g.maps.items v.n v.units)) in
       gave_one g.maps g.attempts (answered.Memory freed) (record { group = walk.group; state = g.state } ∷ []) v.w record {
         number = number;
         low = g.numbered;

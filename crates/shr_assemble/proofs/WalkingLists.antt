@@ -1,13 +1,12 @@
 -- The lists of a walk's work are those that its record tells of.
-use Rattle.shr_assemble.proofs.Common.{◌≡◌, ℕ, zero, suc, ◌+◌, ◌<◌, ◌≤◌, ⊎_elim, Bool, true, false, ◌&&◌, cond, List, [], ◌∷◌, ◌++◌, length, map, sym, refl, ap, subst, ◌∙◌, arith, eq-eqb, slice_get, Option, Some, None, flat_map, filter, filter_map, sum_by, ◌==◌, cons_option, sum_by-cons, sum_by-append, same_Some, none-some, Scan, Policy, Place, Attempt, Outcome, PassRecord, pass_of, is_clearing, amount_of, amount_at, sum_at, place_number, is_place, is_place_itself, takes_of, gives_of, takes_both, gives_both, Each, Each-append, Each-none, Made, IsScanOf, scan_at, IsScanMade, AreScannedBy, Parts, AreParts, Shared, Walk, map-append, WordStep, told_step, is_setting}
+use Rattle.shr_assemble.proofs.Common.{◌≡◌, ℕ, zero, suc, ◌+◌, ◌<◌, ◌≤◌, ⊎_elim, Bool, true, false, ◌&&◌, cond, List, [], ◌∷◌, ◌++◌, length, map, sym, refl, ap, subst, ◌∙◌, arith, eq-eqb, slice_get, Option, Some, None, flat_map, filter, filter_map, sum_by, ◌==◌, cons_option, sum_by-cons, sum_by-append, same_Some, none-some, Scan, Policy, Place, Attempt, Outcome, PassRecord, pass_of, is_clearing, amount_of, amount_at, sum_at, place_number, is_place, is_place_itself, takes_of, gives_of, takes_both, gives_both, Each, Each-append, Each-none, Made, IsScanOf, scan_at, IsScanMade, AreScannedBy, WalkParts, AreParts, Shared, Walk, map-append, WordStep, told_step, is_setting, steps_passed}
 use Rattle.shr_base.specs.declared.walks.Outcome.TheVariants as outcome
 use Rattle.shr_pass.specs.declared.answers.ScanSeen.{ScanSeen}
 use Rattle.shr_walk.specs.Attempts.{WasHeld}
-use Rattle.shr_walk.specs.Listing.{scan_by}
-use Rattle.shr_walk.specs.Records.{place_in}
+use Rattle.shr_walk.specs.Listing.{list_scan_by}
+use Rattle.shr_walk.specs.Records.{place_of_walk}
 use Rattle.shr_walk.specs.Visits.{visit_moves}
 use Rattle.shr_walk.specs.Walked.{place_of, cleared_of, set_of, moves_of}
-use Rattle.shr_report.specs.Takes.{steps_passed}
 use Rattle.shr_assemble.proofs.WalkingParts.{found_cases}
 use Rattle.shr_assemble.proofs.WalkingRecord.{listed, same_cleared, same_set, same_passes}
 use Rattle.shr_walk.proofs.Passing.{scan_is}
@@ -102,7 +101,7 @@ all_steps walk (a ∷ l) = map-append told_step (visit_moves (place_of walk a) a
 none_there : (k worker walk : ℕ) (policy : Policy) (made : List Made) → Each (IsScanMade k worker walk policy) made → filter_map (scan_at k worker walk) made ≡ [] → made ≡ []
 none_there k worker walk policy [] h e = refl
 none_there k worker walk policy (m ∷ made) h e = let here = h 0 m refl in let z = scan_is worker walk policy m.entry here.1 in
-    let one : scan_at k worker walk m ≡ Some z.0 = ap (λ (b : Bool). cond b (scan_by worker walk m.entry) None) (eq-eqb m.place k here.0) ∙ z.1 in
+    let one : scan_at k worker walk m ≡ Some z.0 = ap (λ (b : Bool). cond b (list_scan_by worker walk m.entry) None) (eq-eqb m.place k here.0) ∙ z.1 in
     let n : suc (length (filter_map (scan_at k worker walk) made)) ≡ 0 = ap (λ (o : Option ScanSeen). length (cons_option o (filter_map (scan_at k worker walk) made))) (sym one) ∙ ap (λ (l : List ScanSeen). length l) e in absurd (omega (arith, n))
 
 -- the attempt, its pass, and that the entry is a Scan of the walk at its place
@@ -112,14 +111,14 @@ pub record IsOfAttempt (walk : Walk) (l : List Attempt) (m : Made) : Type 0 wher
   pub at : slice_get l k ≡ Some attempt
   pub pass : PassRecord
   pub passed : pass_of attempt.outcome ≡ Some pass
-  pub place : m.place ≡ place_number (place_in walk attempt.id)
+  pub place : m.place ≡ place_number (place_of_walk walk attempt.id)
   pub policy : Policy
   pub scan : IsScanOf walk.by.worker walk.number policy m.entry
 
 module _ (x : Shared) (walk : Walk) where
-  pub of_attempts : (l : List Attempt) (p : Parts) → AreParts x walk l p → Each (IsOfAttempt walk l) p.made
-  of_attempts [] p h = subst (λ (y : Parts). Each (IsOfAttempt walk []) y.made) (sym h) (Each-none (IsOfAttempt walk []))
-  of_attempts (a ∷ l) p (q, s, e, i, rest) = subst (λ (y : Parts). Each (IsOfAttempt walk (a ∷ l)) y.made) (sym e)
+  pub of_attempts : (l : List Attempt) (p : WalkParts) → AreParts x walk l p → Each (IsOfAttempt walk l) p.made
+  of_attempts [] p h = subst (λ (y : WalkParts). Each (IsOfAttempt walk []) y.made) (sym h) (Each-none (IsOfAttempt walk []))
+  of_attempts (a ∷ l) p (q, s, e, i, rest) = subst (λ (y : WalkParts). Each (IsOfAttempt walk (a ∷ l)) y.made) (sym e)
       (Each-append (IsOfAttempt walk (a ∷ l)) q.made s.made
       (⊎_elim
       (λ none. subst (Each (IsOfAttempt walk (a ∷ l))) (sym none.0.no_entry) (Each-none (IsOfAttempt walk (a ∷ l))))
@@ -127,10 +126,10 @@ module _ (x : Shared) (walk : Walk) where
       (found_cases x walk a.id a.outcome i.first i.more i.held q.made q.ops i.found))
       (λ j m at. let z = of_attempts l s rest j m at in record { k = suc z.k; attempt = z.attempt; at = z.at; pass = z.pass; passed = z.passed; place = z.place; policy = z.policy; scan = z.scan }))
     where
-      by_pass : (o : Option PassRecord) → pass_of a.outcome ≡ o → WasHeld x walk (place_in walk a.id) a.outcome i.more i.held q.made q.ops → Each (IsOfAttempt walk (a ∷ l)) q.made
+      by_pass : (o : Option PassRecord) → pass_of a.outcome ≡ o → WasHeld x walk (place_of_walk walk a.id) a.outcome i.more i.held q.made q.ops → Each (IsOfAttempt walk (a ∷ l)) q.made
       by_pass (Some p') e' h = λ j m at. let here = h.by.scans j m at in record { k = 0; attempt = a; at = refl; pass = p'; passed = e'; place = here.0; policy = h.d.policy; scan = here.1 }
-      by_pass None e' h = let none : q.made ≡ [] = none_there (place_number (place_in walk a.id)) walk.by.worker walk.number h.d.policy q.made h.by.scans
-          (subst (λ ps. AreScannedBy walk.priority h.d.seeks h.d.batch ps (filter_map (scan_at (place_number (place_in walk a.id)) walk.by.worker walk.number) q.made)) (same_passes a.outcome ∙ ap listed e') h.by.scanned) in
+      by_pass None e' h = let none : q.made ≡ [] = none_there (place_number (place_of_walk walk a.id)) walk.by.worker walk.number h.d.policy q.made h.by.scans
+          (subst (λ ps. AreScannedBy walk.priority h.d.seeks h.d.batch ps (filter_map (scan_at (place_number (place_of_walk walk a.id)) walk.by.worker walk.number) q.made)) (same_passes a.outcome ∙ ap listed e') h.by.scanned) in
           subst (Each (IsOfAttempt walk (a ∷ l))) (sym none) (Each-none (IsOfAttempt walk (a ∷ l)))
 
 -- the pass of an attempt at a place is among those there

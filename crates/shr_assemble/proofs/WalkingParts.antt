@@ -1,18 +1,17 @@
 -- The part that each attempt of a walk has in the walk's work.
-use Rattle.shr_assemble.proofs.Common.{◌≡◌, ℕ, zero, suc, ◌-◌, ◌<◌, ◌≤◌, ◌≢◌, ◌⊎◌, inl, inr, ⊎_elim, Bool, true, false, ◌&&◌, cond, List, [], ◌∷◌, ◌++◌, length, map, take, sym, refl, ap, subst, ◌∙◌, arith, ne_eqb, sum, slice_get, Option, Some, None, filter_map, ◌==◌, AllByRecursion, cons_option, append-nil, filter_map-append, sum-map, same_Some, none-some, LookupWord, Entry, Add, Look, Drop, Pin, Scan, MovedIn, Closed, Drained, UseStep, Policy, CacheDecl, Attempt, Outcome, PassRecord, number_of, is_held, pass_of, place_number, ScanMade, scan_by, Each, Each-append, Each-none, Made, Loaded, Tried, AreScansOf, IsScanOf, passes_in, IsScanMade, Parts, AreParts, Shared, Walk, IsAmong, scan_made, scans_made, Rise}
+use Rattle.shr_assemble.proofs.Common.{◌≡◌, ℕ, zero, suc, ◌-◌, ◌<◌, ◌≤◌, ◌≢◌, ◌⊎◌, inl, inr, ⊎_elim, Bool, true, false, ◌&&◌, cond, List, [], ◌∷◌, ◌++◌, length, map, take, sym, refl, ap, subst, ◌∙◌, arith, ne_eqb, sum, slice_get, Option, Some, None, filter_map, ◌==◌, AllByRecursion, cons_option, append-nil, filter_map-append, sum-map, same_Some, none-some, LookupWord, Entry, Add, Look, Drop, Pin, Scan, MovedIn, Closed, Drained, UseStep, Policy, CacheDecl, Attempt, Outcome, PassRecord, number_of, is_held, pass_of, place_number, ScanMade, scan_by, Each, Each-append, Each-none, Made, Loaded, Tried, AreScansOf, IsScanOf, passes_in, IsScanMade, WalkParts, AreParts, Shared, Walk, IsAmong, scan_made, scans_made, Rise, cache_asks_due}
 use Rattle.shr_base.specs.declared.walks.Outcome.TheVariants as outcome
 use Rattle.shr_pass.specs.declared.answers.ScanSeen.{ScanSeen}
-use Rattle.shr_pass.specs.Passes.{asked_of, freed_of}
-use Rattle.shr_report.specs.LawfulWalk.{asks_due}
+use Rattle.shr_pass.specs.Passes.{asked_of, scan_freed}
 use Rattle.shr_walk.specs.Attempts.{MadeNone, WasHeld, Found, tries_in}
 use Rattle.shr_walk.specs.Listing as listing
-use Rattle.shr_walk.specs.Records.{place_in, IsScannedBy}
-use Rattle.shr_walk.specs.Walked.{IsPart, id_of}
+use Rattle.shr_walk.specs.Records.{place_of_walk, IsScannedBy}
+use Rattle.shr_walk.specs.Walked.{IsPart, id_of_attempt}
 use Rattle.shr_assemble.proofs.Gathering.{among_left, among_right}
 
 -- an attempt found a held cache, or made nothing
 pub found_cases : (x : Shared) (walk : Walk) (id : ℕ) (o : Outcome) (first : LookupWord) (more : List Loaded) (held : Option ℕ) (made : List Made) (ops : List UseStep)
-    → Found x walk id o first more held made ops → (MadeNone more held made ops × (is_held o ≡ false)) ⊎ (WasHeld x walk (place_in walk id) o more held made ops × (is_held o ≡ true))
+    → Found x walk id o first more held made ops → (MadeNone more held made ops × (is_held o ≡ false)) ⊎ (WasHeld x walk (place_of_walk walk id) o more held made ops × (is_held o ≡ true))
 found_cases x walk id (outcome.Worn seen) first more held made ops f = inl (f.3, refl)
 found_cases x walk id (outcome.Gone n then) first more held made ops f = inl (f.1, refl)
 found_cases x walk id (outcome.Skip n len version) first more held made ops f = inr (f, refl)
@@ -23,7 +22,7 @@ found_cases x walk id (outcome.RestoredSkip n one len version) first more held m
 found_cases x walk id (outcome.RestoredRan n one p) first more held made ops f = inr (f, refl)
 
 pub found_held : (x : Shared) (walk : Walk) (id : ℕ) (o : Outcome) (first : LookupWord) (more : List Loaded) (held : Option ℕ) (made : List Made) (ops : List UseStep)
-    → Found x walk id o first more held made ops → is_held o ≡ true → WasHeld x walk (place_in walk id) o more held made ops
+    → Found x walk id o first more held made ops → is_held o ≡ true → WasHeld x walk (place_of_walk walk id) o more held made ops
 found_held x walk id o first more held made ops f h = ⊎_elim (λ none. absurd (let e : false ≡ true = sym none.1 ∙ h in cc)) (λ some. some.0) (found_cases x walk id o first more held made ops f)
 
 -- the lookup of an attempt that has a number
@@ -57,7 +56,7 @@ forget_some None = None
 forget_some (Some z) = Some (record { asked = z.asked; freed = z.freed })
 
 module _ (k worker walk : ℕ) where
-  forget_entry : (number : ℕ) (e : Entry) → forget_some (scan_by worker walk number e) ≡ listing.scan_by worker walk e
+  forget_entry : (number : ℕ) (e : Entry) → forget_some (scan_by worker walk number e) ≡ listing.list_scan_by worker walk e
   forget_entry number (Scan w s asked policy visits freed stopped) = by_test ((w == worker) && (s == walk)) where
     by_test : (b : Bool) → forget_some (cond b (Some (record { number = number; asked = asked; policy = policy; freed = freed })) None) ≡ cond b (Some (record { asked = asked; freed = freed })) None
     by_test true = refl
@@ -72,7 +71,7 @@ module _ (k worker walk : ℕ) where
 
   forget_made : (m : Made) → forget_some (scan_made k worker walk m) ≡ listing.scan_at k worker walk m
   forget_made m = by_test (m.place == k) where
-    by_test : (b : Bool) → forget_some (cond b (scan_by worker walk m.number m.entry) None) ≡ cond b (listing.scan_by worker walk m.entry) None
+    by_test : (b : Bool) → forget_some (cond b (scan_by worker walk m.number m.entry) None) ≡ cond b (listing.list_scan_by worker walk m.entry) None
     by_test true = forget_entry m.number m.entry
     by_test false = refl
 
@@ -83,10 +82,10 @@ module _ (k worker walk : ℕ) where
     by_option None e = e
     by_option (Some z) e = ap (λ l. z.asked ∷ l) e
 
-  pub same_freed : (made : List Made) → map (λ (z : ScanMade). z.freed) (scans_made k worker walk made) ≡ map freed_of (filter_map (listing.scan_at k worker walk) made)
+  pub same_freed : (made : List Made) → map (λ (z : ScanMade). z.freed) (scans_made k worker walk made) ≡ map scan_freed (filter_map (listing.scan_at k worker walk) made)
   same_freed [] = refl
-  same_freed (m ∷ made) = by_option (scan_made k worker walk m) (same_freed made) ∙ ap (λ (o : Option ScanSeen). map freed_of (cons_option o (filter_map (listing.scan_at k worker walk) made))) (forget_made m) where
-    by_option : (o : Option ScanMade) → map (λ (z : ScanMade). z.freed) (scans_made k worker walk made) ≡ map freed_of (filter_map (listing.scan_at k worker walk) made) → map (λ (z : ScanMade). z.freed) (cons_option o (scans_made k worker walk made)) ≡ map freed_of (cons_option (forget_some o) (filter_map (listing.scan_at k worker walk) made))
+  same_freed (m ∷ made) = by_option (scan_made k worker walk m) (same_freed made) ∙ ap (λ (o : Option ScanSeen). map scan_freed (cons_option o (filter_map (listing.scan_at k worker walk) made))) (forget_made m) where
+    by_option : (o : Option ScanMade) → map (λ (z : ScanMade). z.freed) (scans_made k worker walk made) ≡ map scan_freed (filter_map (listing.scan_at k worker walk) made) → map (λ (z : ScanMade). z.freed) (cons_option o (scans_made k worker walk made)) ≡ map scan_freed (cons_option (forget_some o) (filter_map (listing.scan_at k worker walk) made))
     by_option None e = e
     by_option (Some z) e = ap (λ l. z.freed ∷ l) e
 
@@ -141,7 +140,7 @@ module _ (k worker walk : ℕ) where
   part_scans priority d p made each by later =
       let n : length (scans_made k worker walk made) ≡ p.asks - p.closed = let e = by.number in omega (arith, same_length made, e) in
       let m : length (filter_map (listing.scan_at k worker walk) made) ≡ p.asks - p.closed = sym (same_length made) ∙ n in record {
-        asked = same_asked made ∙ (by.asked ∙ ap (λ i. take i (asks_due priority d p)) m);
+        asked = same_asked made ∙ (by.asked ∙ ap (λ i. take i (cache_asks_due priority d p)) m);
         number = n;
         policy = policies d.policy made each;
         freed = sym (sum-map (λ (z : ScanMade). z.freed) (scans_made k worker walk made)) ∙ (ap sum (same_freed made) ∙ by.freed);
@@ -156,48 +155,48 @@ other_scans k worker walk (m ∷ made) h = ap (λ (b : Bool). cons_option (cond 
 -- ---- the part of one attempt among the parts of all
 module _ (x : Shared) (walk : Walk) where
   abbrev pub number_at : ℕ → ℕ
-  number_at id = place_number (place_in walk id)
+  number_at id = place_number (place_of_walk walk id)
 
-  pub record PartAt (a : Attempt) (p : Parts) : Type 0 where
-    pub part : Parts
+  pub record PartAt (a : Attempt) (p : WalkParts) : Type 0 where
+    pub part : WalkParts
     pub is : IsPart x walk a part
     pub tried : (e : Tried) → IsAmong e part.tried → IsAmong e p.tried
     pub loaded : (e : Loaded) → IsAmong e part.loaded → IsAmong e p.loaded
     pub scans : (worker n : ℕ) → scans_made (number_at a.id) worker n p.made ≡ scans_made (number_at a.id) worker n part.made
 
   -- the entries of a part are at its place
-  pub part_places : (a : Attempt) (q : Parts) → IsPart x walk a q → Each (λ (m : Made). m.place ≡ number_at a.id) q.made
+  pub part_places : (a : Attempt) (q : WalkParts) → IsPart x walk a q → Each (λ (m : Made). m.place ≡ number_at a.id) q.made
   part_places a q i = ⊎_elim
       (λ none. subst (Each (λ (m : Made). m.place ≡ number_at a.id)) (sym none.0.no_entry) (Each-none (λ (m : Made). m.place ≡ number_at a.id)))
       (λ some. λ j m e. (some.0.by.scans j m e).0)
       (found_cases x walk a.id a.outcome i.first i.more i.held q.made q.ops i.found)
 
   -- those of later attempts are at places of later ids
-  later_places : (id : ℕ) (l : List Attempt) (p : Parts) → AreParts x walk l p → AllByRecursion (λ y. id < y) (map id_of l) → Each (λ (m : Made). m.place ≢ number_at id) p.made
-  later_places id [] p h r = subst (λ (y : Parts). Each (λ (m : Made). m.place ≢ number_at id) y.made) (sym h) (Each-none (λ (m : Made). m.place ≢ number_at id))
-  later_places id (a ∷ l) p (q, s, e, i, rest) r = subst (λ (y : Parts). Each (λ (m : Made). m.place ≢ number_at id) y.made) (sym e)
+  later_places : (id : ℕ) (l : List Attempt) (p : WalkParts) → AreParts x walk l p → AllByRecursion (λ y. id < y) (map id_of_attempt l) → Each (λ (m : Made). m.place ≢ number_at id) p.made
+  later_places id [] p h r = subst (λ (y : WalkParts). Each (λ (m : Made). m.place ≢ number_at id) y.made) (sym h) (Each-none (λ (m : Made). m.place ≢ number_at id))
+  later_places id (a ∷ l) p (q, s, e, i, rest) r = subst (λ (y : WalkParts). Each (λ (m : Made). m.place ≢ number_at id) y.made) (sym e)
       (Each-append (λ (m : Made). m.place ≢ number_at id) q.made s.made (λ j m at same. let here = part_places a q i j m at in let lt = r.0 in omega (arith, here, lt, same)) (later_places id l s rest r.1))
 
-  pub part_at : (l : List Attempt) (p : Parts) → AreParts x walk l p → Rise (map id_of l) → (k : ℕ) (a : Attempt) → slice_get l k ≡ Some a → PartAt a p
+  pub part_at : (l : List Attempt) (p : WalkParts) → AreParts x walk l p → Rise (map id_of_attempt l) → (k : ℕ) (a : Attempt) → slice_get l k ≡ Some a → PartAt a p
   part_at [] p h r k a at = absurd (none-some a at)
   part_at (b ∷ l) p (q, s, e, i, rest) r zero a at = let same : b ≡ a = same_Some b a at in subst (λ (z : Attempt). PartAt z p) same record {
     part = q;
     is = i;
-    tried = λ y h. subst (λ (z : Parts). IsAmong y z.tried) (sym e) (among_left q.tried s.tried y h);
-    loaded = λ y h. subst (λ (z : Parts). IsAmong y z.loaded) (sym e) (among_left q.loaded s.loaded y h);
-    scans = λ worker n. ap (λ (z : Parts). scans_made (number_at b.id) worker n z.made) e ∙ (filter_map-append (scan_made (number_at b.id) worker n) q.made s.made
+    tried = λ y h. subst (λ (z : WalkParts). IsAmong y z.tried) (sym e) (among_left q.tried s.tried y h);
+    loaded = λ y h. subst (λ (z : WalkParts). IsAmong y z.loaded) (sym e) (among_left q.loaded s.loaded y h);
+    scans = λ worker n. ap (λ (z : WalkParts). scans_made (number_at b.id) worker n z.made) e ∙ (filter_map-append (scan_made (number_at b.id) worker n) q.made s.made
         ∙ (ap (λ v. scans_made (number_at b.id) worker n q.made ++ v) (other_scans (number_at b.id) worker n s.made (later_places b.id l s rest r.0)) ∙ append-nil _));
   }
   part_at (b ∷ l) p (q, s, e, i, rest) r (suc k) a at = let z = part_at l s rest r.1 k a at in record {
     part = z.part;
     is = z.is;
-    tried = λ y h. subst (λ (v : Parts). IsAmong y v.tried) (sym e) (among_right q.tried s.tried y (z.tried y h));
-    loaded = λ y h. subst (λ (v : Parts). IsAmong y v.loaded) (sym e) (among_right q.loaded s.loaded y (z.loaded y h));
-    scans = λ worker n. ap (λ (v : Parts). scans_made (number_at a.id) worker n v.made) e ∙ (filter_map-append (scan_made (number_at a.id) worker n) q.made s.made
+    tried = λ y h. subst (λ (v : WalkParts). IsAmong y v.tried) (sym e) (among_right q.tried s.tried y (z.tried y h));
+    loaded = λ y h. subst (λ (v : WalkParts). IsAmong y v.loaded) (sym e) (among_right q.loaded s.loaded y (z.loaded y h));
+    scans = λ worker n. ap (λ (v : WalkParts). scans_made (number_at a.id) worker n v.made) e ∙ (filter_map-append (scan_made (number_at a.id) worker n) q.made s.made
         ∙ (ap (λ v. v ++ scans_made (number_at a.id) worker n s.made) (other_scans (number_at a.id) worker n q.made (λ j m there same. let here = part_places b q i j m there in let lt = later_id l k a r.0 at in omega (arith, here, lt, same))) ∙ z.scans worker n));
   }
     where
-      later_id : (l : List Attempt) (k : ℕ) (a : Attempt) → AllByRecursion (λ y. b.id < y) (map id_of l) → slice_get l k ≡ Some a → b.id < a.id
+      later_id : (l : List Attempt) (k : ℕ) (a : Attempt) → AllByRecursion (λ y. b.id < y) (map id_of_attempt l) → slice_get l k ≡ Some a → b.id < a.id
       later_id [] k a h at = absurd (none-some a at)
       later_id (c ∷ l) zero a h at = subst (λ (y : Attempt). b.id < y.id) (same_Some c a at) h.0
       later_id (c ∷ l) (suc k) a h at = later_id l k a h.1 at

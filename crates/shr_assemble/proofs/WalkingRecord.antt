@@ -1,16 +1,14 @@
 -- What the record of a walk says by itself, outcome by outcome.
-use Rattle.shr_assemble.proofs.Common.{◌≡◌, ℕ, zero, suc, ◌+◌, ◌<◌, ◌≤◌, ◌≢◌, ⊎_elim, Bool, true, false, ◌&&◌, cond, List, [], ◌∷◌, ◌++◌, length, length-append, map, sym, refl, ap, subst, ◌∙◌, arith, sum, slice_get, Option, Some, None, flat_map, filter_map, sum_by, All, cons_option, and_parts, and_from, sum_by-cons, sum-map, same_Some, none-some, LookupWord, UseStep, Place, CacheDecl, Attempt, Ending, Outcome, PassRecord, WalkRecord, Count, number_of, pass_of, is_clearing, due, ask_size, batch_of, total_of, place_number, Each, Each-none, Made, Loaded, Counted, IsPlaced, IsOutcomeOf, IsStopped, Rising, passes_in, number_in, IsUncut, IsCutLast, Shared, Walk, numbered, is_setting, slice_cases}
-use Rattle.std.proofs.lemmas.List.{length-replicate}
+use Rattle.shr_assemble.proofs.Common.{◌≡◌, ℕ, zero, suc, ◌+◌, ◌<◌, ◌≤◌, ◌≢◌, ⊎_elim, Bool, true, false, ◌&&◌, cond, List, [], ◌∷◌, ◌++◌, length, length-append, map, sym, refl, ap, subst, ◌∙◌, arith, sum, slice_get, Option, Some, None, flat_map, filter_map, sum_by, All, cons_option, and_parts, and_from, sum_by-cons, sum-map, same_Some, none-some, LookupWord, UseStep, Place, CacheDecl, Attempt, Ending, Outcome, PassRecord, WalkRecord, Count, number_of, pass_of, is_clearing, due, ask_size, batch_of, total_of, place_number, Each, Each-none, Made, Loaded, Counted, IsPlaced, IsOutcomeOf, IsStopped, Rising, passes_in, number_in, IsUncut, IsCutLast, Shared, Walk, lookup_numbered, is_setting, slice_cases, length-replicate, FollowsArithmetic, MadeOf, due_asks}
 use Rattle.shr_base.specs.declared.walks.Ending.TheVariants as ending
 use Rattle.shr_base.specs.declared.walks.GoneThen.{GoneThen}
 use Rattle.shr_base.specs.declared.walks.GoneThen.TheVariants as gone
 use Rattle.shr_base.specs.declared.walks.Outcome.TheVariants as outcome
 use Rattle.shr_model.specs.Attempts as model
-use Rattle.shr_model.specs.Pass.{FollowsArithmetic, MadeOf, due_asks}
-use Rattle.shr_walk.specs.Attempts.{Found, IsHeldBy, IsShown}
-use Rattle.shr_walk.specs.Records.{place_in, counts_in, cleared_in, set_in}
+use Rattle.shr_walk.specs.Attempts.{Found, IsVisitMade, IsLoadShown}
+use Rattle.shr_walk.specs.Records.{place_of_walk, counts_of_outcome, cleared_by_outcome, set_by_outcome}
 use Rattle.shr_walk.specs.Records as records
-use Rattle.shr_walk.specs.Walked.{counts_of, is_cut, is_cut_by}
+use Rattle.shr_walk.specs.Walked.{counts_of, is_outcome_cut, is_cut_by}
 use Rattle.shr_walk.specs.Walked as walked
 use Rattle.shr_assemble.proofs.Gathering.{among_left}
 use Rattle.shr_assemble.proofs.Listed.{all_slice}
@@ -33,7 +31,7 @@ rising_at walk [] r k a at = absurd (none-some a at)
 rising_at walk (b ∷ l) r zero a at = subst (λ (y : Attempt). Rising (counts_of walk y)) (same_Some b a at) (rising_left (counts_of walk b) (flat_map (counts_of walk) l) r)
 rising_at walk (b ∷ l) r (suc k) a at = rising_at walk l (rising_right (counts_of walk b) (flat_map (counts_of walk) l) r) k a at
 
-pub same_counts : (k : ℕ) (o : Outcome) → map (λ (c : Count). record { place = k; len = c.len; version = c.version }) (model.counts_of o) ≡ counts_in k o
+pub same_counts : (k : ℕ) (o : Outcome) → map (λ (c : Count). record { place = k; len = c.len; version = c.version }) (model.counts_of o) ≡ counts_of_outcome k o
 same_counts k (outcome.Worn seen) = refl
 same_counts k (outcome.Gone n then) = refl
 same_counts k (outcome.Skip n len version) = refl
@@ -43,7 +41,7 @@ same_counts k (outcome.Cleared n first second) = refl
 same_counts k (outcome.RestoredSkip n first len version) = refl
 same_counts k (outcome.RestoredRan n first p) = refl
 
-pub same_numbers : (id : ℕ) (o : Outcome) → numbered id (number_of o) ≡ number_in id o
+pub same_numbers : (id : ℕ) (o : Outcome) → lookup_numbered id (number_of o) ≡ number_in id o
 same_numbers id (outcome.Worn seen) = refl
 same_numbers id (outcome.Gone n then) = refl
 same_numbers id (outcome.Skip n len version) = refl
@@ -54,7 +52,7 @@ same_numbers id (outcome.RestoredSkip n first len version) = refl
 same_numbers id (outcome.RestoredRan n first p) = refl
 
 -- one place, where the attempt cleared its bit
-pub same_cleared : (k : ℕ) (o : Outcome) → cleared_in k o ≡ cond (is_clearing o) (k ∷ []) []
+pub same_cleared : (k : ℕ) (o : Outcome) → cleared_by_outcome k o ≡ cond (is_clearing o) (k ∷ []) []
 same_cleared k (outcome.Worn seen) = refl
 same_cleared k (outcome.Gone n gone.Set) = refl
 same_cleared k (outcome.Gone n gone.Clear) = refl
@@ -67,7 +65,7 @@ same_cleared k (outcome.RestoredSkip n first len version) = refl
 same_cleared k (outcome.RestoredRan n first p) = refl
 
 -- one place, where the attempt set its bit again
-pub same_set : (k : ℕ) (o : Outcome) → set_in k o ≡ cond (is_setting o) (k ∷ []) []
+pub same_set : (k : ℕ) (o : Outcome) → set_by_outcome k o ≡ cond (is_setting o) (k ∷ []) []
 same_set k (outcome.Worn seen) = refl
 same_set k (outcome.Gone n gone.Set) = refl
 same_set k (outcome.Gone n gone.Clear) = refl
@@ -99,9 +97,9 @@ freed_more : (o : Option PassRecord) (ps : List PassRecord) → sum_by (λ (p : 
 freed_more None ps = omega arith
 freed_more (Some p) ps = let e = sum_by-cons (λ (q : PassRecord). q.freed) p ps in omega (arith, e)
 
-pub same_freed : (l : List Attempt) → sum (map walked.freed_of l) ≡ sum_by (λ (p : PassRecord). p.freed) (filter_map (λ (a : Attempt). pass_of a.outcome) l)
+pub same_freed : (l : List Attempt) → sum (map walked.freed_in_attempt l) ≡ sum_by (λ (p : PassRecord). p.freed) (filter_map (λ (a : Attempt). pass_of a.outcome) l)
 same_freed [] = refl
-same_freed (a ∷ l) = let f = sum-map walked.freed_of (a ∷ l) in let g = sum-map walked.freed_of l in let h = sum_by-cons walked.freed_of a l in let e = freed_more (pass_of a.outcome) (filter_map (λ (b : Attempt). pass_of b.outcome) l) in
+same_freed (a ∷ l) = let f = sum-map walked.freed_in_attempt (a ∷ l) in let g = sum-map walked.freed_in_attempt l in let h = sum_by-cons walked.freed_in_attempt a l in let e = freed_more (pass_of a.outcome) (filter_map (λ (b : Attempt). pass_of b.outcome) l) in
     let d = ap (λ ps. sum (map (λ (p : PassRecord). p.freed) ps)) (same_passes a.outcome) in omega (arith, e, d, f, g, h, same_freed l)
 
 -- ---- outcomes
@@ -111,13 +109,13 @@ not_zero n lt e = omega (arith, lt, e)
 second_later : (k a b m n : ℕ) → Rising (record { place = k; len = m; version = a } ∷ record { place = k; len = n; version = b } ∷ []) → a ≤ b
 second_later k a b m n r = r.0 0 (record { place = k; len = n; version = b }) refl refl
 
-placed_gone : (id group n : ℕ) (then : GoneThen) (more : List Loaded) → IsShown id group then more → IsPlaced group (outcome.Gone n then)
+placed_gone : (id group n : ℕ) (then : GoneThen) (more : List Loaded) → IsLoadShown id group then more → IsPlaced group (outcome.Gone n then)
 placed_gone id group n gone.Root more h = h.0
 placed_gone id group n gone.Set more h = not_zero group h.0
 placed_gone id group n gone.Clear more h = not_zero group h.0
 
 pub placed : (x : Shared) (walk : Walk) (id : ℕ) (o : Outcome) (first : LookupWord) (more : List Loaded) (held : Option ℕ) (made : List Made) (ops : List UseStep)
-    → Found x walk id o first more held made ops → Rising (counts_in (place_number (place_in walk id)) o) → IsPlaced walk.group o
+    → Found x walk id o first more held made ops → Rising (counts_of_outcome (place_number (place_of_walk walk id)) o) → IsPlaced walk.group o
 placed x walk id (outcome.Worn seen) first more held made ops f r = tt
 placed x walk id (outcome.Gone n then) first more held made ops f r = placed_gone id walk.group n then more f.0
 placed x walk id (outcome.Skip n len version) first more held made ops f r = tt
@@ -127,7 +125,7 @@ placed x walk id (outcome.Cleared n one second) first more held made ops f r = (
 placed x walk id (outcome.RestoredSkip n one len version) first more held made ops f r = (not_zero walk.group f.by.level, second_later _ one version 0 len r)
 placed x walk id (outcome.RestoredRan n one p) first more held made ops f r = (not_zero walk.group f.by.level, second_later _ one p.version 0 p.len r)
 
-pub outcome_kind : (x : Shared) (walk : Walk) (place : Place) (d : CacheDecl) (o : Outcome) (made : List Made) (ops : List UseStep) → IsHeldBy x walk place d o made ops → IsOutcomeOf walk.priority d o
+pub outcome_kind : (x : Shared) (walk : Walk) (place : Place) (d : CacheDecl) (o : Outcome) (made : List Made) (ops : List UseStep) → IsVisitMade x walk place d o made ops → IsOutcomeOf walk.priority d o
 outcome_kind x walk place d (outcome.Worn seen) made ops h = tt
 outcome_kind x walk place d (outcome.Gone n then) made ops h = tt
 outcome_kind x walk place d (outcome.Skip n len version) made ops h = h.kind
@@ -138,7 +136,7 @@ outcome_kind x walk place d (outcome.RestoredSkip n first len version) made ops 
 outcome_kind x walk place d (outcome.RestoredRan n first p) made ops h = (h.kind, h.scanned.1)
 
 -- a pass stops exactly where its cache's scans can't make progress
-pub stopped : (r : WalkRecord) (d : CacheDecl) (p : PassRecord) → FollowsArithmetic r.priority d.seeks d.batch p → records.IsStopped (d.fs && r.nofs) r.priority d.seeks d.batch p → IsStopped r d p
+pub stopped : (r : WalkRecord) (d : CacheDecl) (p : PassRecord) → FollowsArithmetic r.priority d.seeks d.batch p → records.IsPassStopped (d.fs && r.nofs) r.priority d.seeks d.batch p → IsStopped r d p
 stopped r d p follows h = record {
   exactly = (
     λ e. let both = and_parts d.fs r.nofs (h.only e) in let lt = subst (λ (z : Ending). MadeOf p.asks z count) e follows.made in (both.0, both.1, omega (arith, lt, many)),
@@ -154,7 +152,7 @@ stopped r d p follows h = record {
     many = length-replicate (due (batch_of d.batch) p.len (total_of p.len p.nr r.priority d.seeks)) (ask_size (batch_of d.batch) p.len (total_of p.len p.nr r.priority d.seeks))
 
 -- a pass that ended by want of room cuts its attempt
-pub cut_by : (o : Outcome) (p : PassRecord) → pass_of o ≡ Some p → p.ending ≡ ending.NoRoom → is_cut o ≡ true
+pub cut_by : (o : Outcome) (p : PassRecord) → pass_of o ≡ Some p → p.ending ≡ ending.NoRoom → is_outcome_cut o ≡ true
 cut_by (outcome.Worn seen) p e n = absurd (none-some p e)
 cut_by (outcome.Gone k then) p e n = absurd (none-some p e)
 cut_by (outcome.Skip k len version) p e n = absurd (none-some p e)
@@ -167,10 +165,10 @@ cut_by (outcome.RestoredRan k first q) p e n = ap is_cut_by (ap (λ (z : PassRec
 not_both : (b : Bool) → b ≡ true → b ≡ false → ⊥
 not_both b t f = let e : true ≡ false = sym t ∙ f in cc
 
-pub never_cut : (l : List Attempt) → All IsUncut l → (k : ℕ) (a : Attempt) → slice_get l k ≡ Some a → is_cut a.outcome ≡ true → ⊥
-never_cut l all k a at cut = not_both (is_cut a.outcome) cut (all_slice IsUncut l k a all at)
+pub never_cut : (l : List Attempt) → All IsUncut l → (k : ℕ) (a : Attempt) → slice_get l k ≡ Some a → is_outcome_cut a.outcome ≡ true → ⊥
+never_cut l all k a at cut = not_both (is_outcome_cut a.outcome) cut (all_slice IsUncut l k a all at)
 
-pub last_cut : (l : List Attempt) → IsCutLast l → (k : ℕ) (a : Attempt) → slice_get l k ≡ Some a → is_cut a.outcome ≡ true → length l ≡ k + 1
+pub last_cut : (l : List Attempt) → IsCutLast l → (k : ℕ) (a : Attempt) → slice_get l k ≡ Some a → is_outcome_cut a.outcome ≡ true → length l ≡ k + 1
 last_cut l (front, last, e, uncut, cut) k a at is = ⊎_elim
     (λ early. absurd (never_cut front uncut k a early is))
     (λ late. here late.0 late.1 late.2)

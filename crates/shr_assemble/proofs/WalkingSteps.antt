@@ -1,5 +1,5 @@
 -- Walks after walks in one step: what holds of a part of a step's work holds of the whole.
-use Rattle.shr_assemble.proofs.Common.{◌≡◌, ℕ, suc, ◌+◌, ◌<◌, ◌≤◌, ◌≢◌, ◌⊎◌, inl, inr, ⊎_elim, Bool, true, false, ◌&&◌, cond, List, [], ◌∷◌, ◌++◌, length, length-append, map, sym, refl, ap, subst, ◌∙◌, arith, ne_eqb, slice_get, Option, Some, None, flat_map, ◌==◌, Contains, sum_by, cons_option, append-nil, map-append, filter_map-append, Contains-append_left, sum_by-append, flat_map-append, none-some, slice_get_within, Entry, Add, Look, Drop, Pin, Scan, MovedIn, Closed, Drained, Place, Serial, Answered, Spent, CacheDecl, Command, Script, Object, Attempt, PassRecord, WalkRecord, PlaceAmount, sum_at, amount_at, ScanMade, scan_by, passes_at, place_in, takes_of, gives_of, takes_both, gives_both, Each, Begins, Each-append, Each-none, begins_more, place_at, Made, Known, Mapped, Tried, Loaded, KnowsClosed, AreFresh, WorkerState, Work, no_work, then_work, Does, does_none, does_then, fresh_none, fresh_then, AreScansOf, WordStep, steps_walked, told_step, Step, IsAmong, scan_made, scans_made, DidPass, DidAttempt, numbers_tried, number_made, DidWalk, counted_in, mapped_in, cleared_in, set_in, word_of, KnowsOnline, KnowsList, IsOneMore, AreBoth, IsWornBy, slice_cases, slice_left}
+use Rattle.shr_assemble.proofs.Common.{◌≡◌, ℕ, suc, ◌+◌, ◌<◌, ◌≤◌, ◌≢◌, ◌⊎◌, inl, inr, ⊎_elim, Bool, true, false, ◌&&◌, cond, List, [], ◌∷◌, ◌++◌, length, length-append, map, sym, refl, ap, subst, ◌∙◌, arith, ne_eqb, slice_get, Option, Some, None, flat_map, ◌==◌, Contains, sum_by, cons_option, append-nil, map-append, filter_map-append, Contains-append_left, sum_by-append, flat_map-append, none-some, slice_get_within, Entry, Add, Look, Drop, Pin, Scan, MovedIn, Closed, Drained, Place, Serial, Answered, Spent, CacheDecl, Command, Script, Object, Attempt, PassRecord, WalkRecord, PlaceAmount, sum_at, amount_at, ScanMade, scan_by, passes_at, place_in, takes_of, gives_of, takes_both, gives_both, Each, Begins, Each-append, Each-none, begins_more, place_at, Made, Known, Mapped, Tried, Loaded, KnowsClosed, AreFresh, WorkerState, Work, no_work, then_work, Does, does_none, does_then, fresh_none, fresh_then, AreScansOf, WordStep, steps_walked, told_step, Step, IsAmong, scan_made, scans_made, DidPass, DidAttempt, numbers_tried, number_made, DidWalk, counted_in, mapped_in, cleared_by_walk, set_by_walk, map_word, KnowsOnline, KnowsList, IsOneMore, AreBoth, IsWornBy, slice_cases, slice_left}
 use Rattle.shr_base.specs.declared.replies.Spent.TheVariants as spent
 use Rattle.shr_charge.specs.Views as charge
 use Rattle.shr_assemble.proofs.Gathering.{among_left, among_right, among_begins}
@@ -95,7 +95,7 @@ module _ (script : Script) (by : Serial) (c : Option Command) (a : Answered) whe
   pub record Has (s t : WorkerState) (w : Work) (s' t' : WorkerState) (w' : Work) (n : ℕ) : Type 0 where
     pub attempts : (e : Tried) → IsAmong e w.core.attempts → IsAmong e w'.core.attempts
     pub loaded : (e : Loaded) → IsAmong e w.core.loaded → IsAmong e w'.core.loaded
-    pub words : (e : charge.Loaded) → IsAmong e w.words → IsAmong e w'.words
+    pub words : (e : charge.LoadedState) → IsAmong e w.words → IsAmong e w'.words
     pub scans : (place : ℕ) → scans_made place by.worker n w'.core.made ≡ scans_made place by.worker n w.core.made
     pub known : Begins t.core.traces.known t'.core.traces.known
     pub charges : t.uses.charges ≤ t'.uses.charges
@@ -165,9 +165,9 @@ module _ (script : Script) (by : Serial) (c : Option Command) (a : Answered) whe
     pub does : Does s t w
     pub each : (i : ℕ) (r : WalkRecord) → slice_get w.walks i ≡ Some r → DidWalk script (step_of s t w) (length s.walks + i) r
     pub seen : flat_map counted_in w.walks ≡ w.core.seen
-    pub maps : flat_map mapped_in w.walks ≡ map word_of w.core.maps
-    pub cleared : flat_map cleared_in w.walks ≡ w.core.cleared
-    pub sets : flat_map set_in w.walks ≡ w.core.sets
+    pub maps : flat_map mapped_in w.walks ≡ map map_word w.core.maps
+    pub cleared : flat_map cleared_by_walk w.walks ≡ w.core.cleared
+    pub sets : flat_map set_by_walk w.walks ≡ w.core.sets
     pub numbers : map number_made w.core.attempts ≡ flat_map numbers_tried w.walks
     pub fresh : AreFresh s.core w.core.seen
     pub set : Each (λ (m : Mapped). Begins s.core.marks.sets m.set) w.core.maps
@@ -239,9 +239,9 @@ module _ (script : Script) (by : Serial) (c : Option Command) (a : Answered) whe
           subst (λ k. DidWalk script (step_of s t (then_work v w)) k r) n (walk_later u t w s t (then_work v w) (length u.walks + at.0) (last_in at.0) r (q.each at.0 r at.2)))
           (slice_cases v.walks w.walks i r e);
       seen = flat_map-append counted_in v.walks w.walks ∙ (ap (λ l. l ++ flat_map counted_in w.walks) p.seen ∙ ap (λ l. v.core.seen ++ l) q.seen);
-      maps = flat_map-append mapped_in v.walks w.walks ∙ (ap (λ l. l ++ flat_map mapped_in w.walks) p.maps ∙ (ap (λ l. map word_of v.core.maps ++ l) q.maps ∙ sym (map-append word_of v.core.maps w.core.maps)));
-      cleared = flat_map-append cleared_in v.walks w.walks ∙ (ap (λ l. l ++ flat_map cleared_in w.walks) p.cleared ∙ ap (λ l. v.core.cleared ++ l) q.cleared);
-      sets = flat_map-append set_in v.walks w.walks ∙ (ap (λ l. l ++ flat_map set_in w.walks) p.sets ∙ ap (λ l. v.core.sets ++ l) q.sets);
+      maps = flat_map-append mapped_in v.walks w.walks ∙ (ap (λ l. l ++ flat_map mapped_in w.walks) p.maps ∙ (ap (λ l. map map_word v.core.maps ++ l) q.maps ∙ sym (map-append map_word v.core.maps w.core.maps)));
+      cleared = flat_map-append cleared_by_walk v.walks w.walks ∙ (ap (λ l. l ++ flat_map cleared_by_walk w.walks) p.cleared ∙ ap (λ l. v.core.cleared ++ l) q.cleared);
+      sets = flat_map-append set_by_walk v.walks w.walks ∙ (ap (λ l. l ++ flat_map set_by_walk w.walks) p.sets ∙ ap (λ l. v.core.sets ++ l) q.sets);
       numbers = map-append number_made v.core.attempts w.core.attempts ∙ (ap (λ l. l ++ map number_made w.core.attempts) p.numbers ∙ (ap (λ l. flat_map numbers_tried v.walks ++ l) q.numbers ∙ sym (flat_map-append numbers_tried v.walks w.walks)));
       fresh = fresh_then s.core u.core v.core w.core.seen p.does.core p.fresh q.fresh;
       set = Each-append (λ (m : Mapped). Begins s.core.marks.sets m.set) v.core.maps w.core.maps p.set (λ j m e. begins_more s.core.marks.sets u.core.marks.sets m.set (v.core.sets, p.does.core.sets) (q.set j m e));

@@ -1,22 +1,21 @@
 -- The record of a walk is as it must be, by how the walk went.
-use Rattle.shr_assemble.proofs.Common.{◌≡◌, ℕ, ◌+◌, ◌/◌, ◌<◌, ◌≤◌, ◌⊎◌, inr, ⊎_elim, true, false, List, [], ◌∷◌, ◌++◌, length, length-append, map, take, sym, refl, ap, subst, ◌∙◌, arith, sum, slice_get, Some, flat_map, Contains, All, sum_by, filter_map, AllByRecursion, range_with_len, append-nil, map-id, length-range_with_len, none-some, take-append_seam, Kept, Attempt, MapSeen, PassRecord, WalkAnswer, pass_of, IsPrefixOf, Rise, shape_of, IsPlaced, IsBitWord, IsWalkWell, AreFresh, Rising, IsSeen, WorkerState, Work, IsRecordOf, record_of, parts_of, ids_in, up_to, IsUncut, IsCutLast, Shared, Walk, IsRecord}
-use Rattle.std.proofs.lemmas.List.FromFn.{take-map-range_with_len}
+use Rattle.shr_assemble.proofs.Common.{◌≡◌, ℕ, ◌+◌, ◌/◌, ◌<◌, ◌≤◌, ◌⊎◌, inr, ⊎_elim, true, false, List, [], ◌∷◌, ◌++◌, length, length-append, map, take, sym, refl, ap, subst, ◌∙◌, arith, sum, slice_get, Some, flat_map, Contains, All, sum_by, filter_map, AllByRecursion, range_with_len, append-nil, map-id, length-range_with_len, none-some, take-append_seam, Kept, Attempt, MapSeen, PassRecord, WalkAnswer, pass_of, IsPrefixOf, Rise, shape_of, IsPlaced, IsBitWord, IsWalkWell, AreFresh, Rising, IsWalkSeen, WorkerState, Work, IsRecordOf, record_of, parts_of, ids_shown, up_to, IsUncut, IsCutLast, Shared, Walk, IsRecord, take-map-range_with_len, IsLastOfCut}
 use Rattle.shr_base.specs.declared.walks.Ending.TheVariants as ending
 use Rattle.shr_base.specs.declared.walks.WalkAnswer.TheVariants as answered
 use Rattle.shr_model.specs.Bits as bits
 use Rattle.shr_model.specs.Places as places
 use Rattle.shr_model.specs.Walks as walks
-use Rattle.shr_report.specs.LawfulWalk.{IsLastOfCut}
-use Rattle.shr_report.specs.WellFormed.{AreRising}
-use Rattle.shr_walk.specs.Walked.{id_of, unit_of, units_in, freed_of}
+use Rattle.shr_report.specs.WellFormed.{AreNumbersRising}
+use Rattle.shr_walk.specs.Walked.{id_of_attempt, map_unit, freed_in_attempt}
 use Rattle.shr_assemble.proofs.WalkingIds.{ups_are, all_ids_are, units_rise, tries_known, tries_stay}
 use Rattle.shr_assemble.proofs.WalkingTold.{IsTableOf, seen_bits}
 use Rattle.shr_assemble.proofs.WalkingParts.{part_at}
 use Rattle.shr_assemble.proofs.WalkingRecord.{rising_at, placed, same_freed, cut_by, never_cut, last_cut}
+use Rattle.shr_core.specs.Ending.{units_in}
 
 -- no map has no unit, and no last one
-no_units : (maps : List MapSeen) → maps ≡ [] → AreRising (map (λ (m : MapSeen). m.unit) maps)
-no_units maps none = subst (λ (l : List MapSeen). AreRising (map (λ (m : MapSeen). m.unit) l)) (sym none) (λ k d lt. absurd (omega (arith, lt)))
+no_units : (maps : List MapSeen) → maps ≡ [] → AreNumbersRising (map (λ (m : MapSeen). m.unit) maps)
+no_units maps none = subst (λ (l : List MapSeen). AreNumbersRising (map (λ (m : MapSeen). m.unit) l)) (sym none) (λ k d lt. absurd (omega (arith, lt)))
 
 no_last : (before : List MapSeen) (last : MapSeen) → [] ≡ before ++ last ∷ [] → ⊥
 no_last before last e = let long = ap (λ (l : List MapSeen). length l) e in let sum = length-append before (last ∷ []) in omega (arith, long, sum)
@@ -33,16 +32,16 @@ pub begins_prefix : {A : Type 0} (xs rest ys : List A) → ys ≡ xs ++ rest →
 begins_prefix xs rest ys e = ap (take (length xs)) e ∙ take-append_seam xs rest
 
 -- all maps but the last show no more ids than were tried, in the words of the model
-front_tried : (maps : List MapSeen) (many : ℕ) → ((front : List MapSeen) (last : MapSeen) → maps ≡ front ++ last ∷ [] → length (flat_map ids_in front) ≤ many)
+front_tried : (maps : List MapSeen) (many : ℕ) → ((front : List MapSeen) (last : MapSeen) → maps ≡ front ++ last ∷ [] → length (flat_map ids_shown front) ≤ many)
     → (front : List MapSeen) (last : MapSeen) → maps ≡ front ++ last ∷ [] → length (flat_map (λ (m : MapSeen). bits.ids_in m.unit m.bits) front) ≤ many
 front_tried maps many tried front last e = subst (λ (l : List ℕ). length l ≤ many) (all_ids_are front) (tried front last e)
 
-module _ (x : Shared) (table : IsTableOf x) (walk : Walk) (maps : Kept MapSeen) (tries : Kept Attempt) (w : Work) (s t : WorkerState) (is : IsRecordOf x walk maps.items tries.items w) (fresh : AreFresh s.core w.core.seen) (seen : IsSeen x walk maps.items tries.items s t w) (rise : Rise (map id_of tries.items)) where
+module _ (x : Shared) (table : IsTableOf x) (walk : Walk) (maps : Kept MapSeen) (tries : Kept Attempt) (w : Work) (s t : WorkerState) (is : IsRecordOf x walk maps.items tries.items w) (fresh : AreFresh s.core w.core.seen) (seen : IsWalkSeen x walk maps.items tries.items s t w) (rise : Rise (map id_of_attempt tries.items)) where
   placed_all : (k : ℕ) (a : Attempt) → slice_get tries.items k ≡ Some a → IsPlaced walk.group a.outcome
   placed_all k a at = let p = part_at x walk tries.items (parts_of w) is.parts rise k a at in
       placed x walk a.id a.outcome p.is.first p.is.more p.is.held p.part.made p.part.ops p.is.found (rising_at walk tries.items (subst Rising (sym is.counts) fresh.rising) k a at)
 
-  well_below : (answer : WalkAnswer) → 0 < walk.group → (n : ℕ) → map unit_of maps.items ≡ up_to n → (rest : List ℕ) → flat_map ids_in maps.items ≡ map id_of tries.items ++ rest → IsWalkWell (record_of walk maps tries answer)
+  well_below : (answer : WalkAnswer) → 0 < walk.group → (n : ℕ) → map map_unit maps.items ≡ up_to n → (rest : List ℕ) → flat_map ids_shown maps.items ≡ map id_of_attempt tries.items ++ rest → IsWalkWell (record_of walk maps tries answer)
   well_below answer below n units rest ids = record {
     root = λ e. absurd (omega (arith, below, e));
     words = seen_bits x table walk maps.items tries.items s t w seen;
@@ -66,7 +65,7 @@ module _ (x : Shared) (table : IsTableOf x) (walk : Walk) (maps : Kept MapSeen) 
       (λ last. record { cut = cut; last = last_cut tries.items last k a at (cut_by a.outcome p e n) })
       how
 
-  pub record_below_whole : (freed : ℕ) → 0 < walk.group → freed ≡ sum (map freed_of tries.items) → map unit_of maps.items ≡ up_to (units_in (shape_of x.core).ids) → map id_of tries.items ≡ flat_map ids_in maps.items → All IsUncut tries.items
+  pub record_below_whole : (freed : ℕ) → 0 < walk.group → freed ≡ sum (map freed_in_attempt tries.items) → map map_unit maps.items ≡ up_to (units_in (shape_of x.core).ids) → map id_of_attempt tries.items ≡ flat_map ids_shown maps.items → All IsUncut tries.items
       → IsRecord x.script (record_of walk maps tries (answered.Walked freed))
   record_below_whole freed below sums units ids uncut = record {
     offline = λ entry e. absurd (cc);
@@ -75,11 +74,11 @@ module _ (x : Shared) (table : IsTableOf x) (walk : Walk) (maps : Kept MapSeen) 
     memory = (λ e. absurd (let f : false ≡ true = e in cc), λ k a p at e n. absurd (never_cut tries.items uncut k a at (cut_by a.outcome p e n)));
     placed = placed_all;
     freed = sums ∙ same_freed tries.items;
-    well = well_below (answered.Walked freed) below (units_in (shape_of x.core).ids) units [] (sym ids ∙ sym (append-nil (map id_of tries.items)));
+    well = well_below (answered.Walked freed) below (units_in (shape_of x.core).ids) units [] (sym ids ∙ sym (append-nil (map id_of_attempt tries.items)));
   }
 
-  pub record_below_cut : (freed : ℕ) → 0 < walk.group → freed ≡ sum (map freed_of tries.items) → (n : ℕ) → n ≤ units_in (shape_of x.core).ids → map unit_of maps.items ≡ up_to n → (rest : List ℕ) → flat_map ids_in maps.items ≡ map id_of tries.items ++ rest
-      → ((front : List MapSeen) (last : MapSeen) → maps.items ≡ front ++ last ∷ [] → length (flat_map ids_in front) ≤ length tries.items) → All IsUncut tries.items ⊎ IsCutLast tries.items
+  pub record_below_cut : (freed : ℕ) → 0 < walk.group → freed ≡ sum (map freed_in_attempt tries.items) → (n : ℕ) → n ≤ units_in (shape_of x.core).ids → map map_unit maps.items ≡ up_to n → (rest : List ℕ) → flat_map ids_shown maps.items ≡ map id_of_attempt tries.items ++ rest
+      → ((front : List MapSeen) (last : MapSeen) → maps.items ≡ front ++ last ∷ [] → length (flat_map ids_shown front) ≤ length tries.items) → All IsUncut tries.items ⊎ IsCutLast tries.items
       → IsRecord x.script (record_of walk maps tries (answered.Memory freed))
   record_below_cut freed below sums n within units rest ids tried cut = record {
     offline = λ entry e. absurd (cc);
@@ -99,7 +98,7 @@ module _ (x : Shared) (table : IsTableOf x) (walk : Walk) (maps : Kept MapSeen) 
     well = well_below (answered.Memory freed) below n units rest ids;
   }
 
-  pub record_root_whole : (freed : ℕ) → walk.group ≡ 0 → maps.items ≡ [] → freed ≡ sum (map freed_of tries.items) → map id_of tries.items ≡ up_to (shape_of x.core).ids → All IsUncut tries.items → IsRecord x.script (record_of walk maps tries (answered.Walked freed))
+  pub record_root_whole : (freed : ℕ) → walk.group ≡ 0 → maps.items ≡ [] → freed ≡ sum (map freed_in_attempt tries.items) → map id_of_attempt tries.items ≡ up_to (shape_of x.core).ids → All IsUncut tries.items → IsRecord x.script (record_of walk maps tries (answered.Walked freed))
   record_root_whole freed root none sums ids uncut = record {
     offline = λ entry e. absurd (cc);
     mapped = λ f e ne. absurd (ne root);
@@ -110,7 +109,7 @@ module _ (x : Shared) (table : IsTableOf x) (walk : Walk) (maps : Kept MapSeen) 
     well = well_root (answered.Walked freed) root none;
   }
 
-  pub record_root_cut : (freed : ℕ) → walk.group ≡ 0 → maps.items ≡ [] → freed ≡ sum (map freed_of tries.items) → (n : ℕ) → n ≤ (shape_of x.core).ids → map id_of tries.items ≡ up_to n → IsCutLast tries.items → IsRecord x.script (record_of walk maps tries (answered.Memory freed))
+  pub record_root_cut : (freed : ℕ) → walk.group ≡ 0 → maps.items ≡ [] → freed ≡ sum (map freed_in_attempt tries.items) → (n : ℕ) → n ≤ (shape_of x.core).ids → map id_of_attempt tries.items ≡ up_to n → IsCutLast tries.items → IsRecord x.script (record_of walk maps tries (answered.Memory freed))
   record_root_cut freed root none sums n within ids cut = record {
     offline = λ entry e. absurd (cc);
     mapped = λ f e ne. absurd (ne root);

@@ -1,5 +1,5 @@
 -- The law of walks, of a run.
-use Rattle.shr_assemble.proofs.Common.{◌≡◌, ℕ, zero, suc, ◌<◌, ◌≤◌, ◌≢◌, inl, inr, ⊎_elim, Bool, true, false, ◌||◌, cond, List, [], ◌∷◌, ◌++◌, length, map, sym, refl, ap, subst, ◌∙◌, arith, slice_get, Option, Some, flat_map, filter, count_by, option_and_then, AllByRecursion, list_any, IsSomeAnd, append-nil, dite, ℕ_discrete, same_Some, none-some, Place, Serial, Entry, Add, Look, Drop, Pin, Scan, MovedIn, Closed, Drained, Answered, Reply, Command, Put, Script, Attempt, MapSeen, WalkRecord, Count, counts_of, is_clearing, is_set, ops_by, is_refused, is_serial, jobs_of, place_number, is_place, unit_of, bit_of, job_of, place_in, passes_at, versions_at, clearings_of, is_place_same, is_place_itself, times, only, Begins, total-append, some_term, only_no, place_at, map_number, Made, Mapped, back, Report, parents_of, limit_of, journals_of, serial_of, walks_by, walk_at, all_walks, cited_at, cited_by, uses_at, items_before, at, IsThere, IsToldBy, FillsPlace, Covers, Step, IsAmong, gathered, steps_of, IsSetLast, IsCited, mapped_in, cleared_in, word_of, DidRoundsOf, DidJobs, AreWalksFor, ops_at, all_cleared, IsMapOf, IsRun, Has, filter_has, map_has, Has_flat_map, at_some, by_slices, some_at, serial_itself}
+use Rattle.shr_assemble.proofs.Common.{◌≡◌, ℕ, zero, suc, ◌<◌, ◌≤◌, ◌≢◌, inl, inr, ⊎_elim, Bool, true, false, ◌||◌, cond, List, [], ◌∷◌, ◌++◌, length, map, sym, refl, ap, subst, ◌∙◌, arith, slice_get, Option, Some, flat_map, filter, count_by, option_and_then, AllByRecursion, list_any, IsSomeAnd, append-nil, dite, ℕ_discrete, same_Some, none-some, Place, Serial, Entry, Add, Look, Drop, Pin, Scan, MovedIn, Closed, Drained, Answered, Reply, Command, Put, Script, Attempt, MapSeen, WalkRecord, Count, counts_of, is_clearing, is_set, ops_by, is_refused, is_serial, jobs_of, place_number, is_place, unit_of, bit_of, job_of, place_in, passes_at, versions_at, clearings_of, is_place_same, is_place_itself, times, only, Begins, total-append, some_term, only_no, place_at, map_number, Made, Mapped, back, Report, parents_of, limit_of, journals_of, serial_of, walks_by, walk_at, all_walks, cited_at, cited_by, uses_at, items_before, at, IsThere, IsToldBy, FillsPlace, Covers, Step, IsAmong, gathered, steps_of, IsSetLast, IsMadeAsCited, mapped_in, cleared_by_walk, map_word, DidRoundsOf, DidJobs, AreWalksFor, ops_at, all_cleared, IsMapOf, IsRun, Has, filter_has, map_has, Has_flat_map, at_some, by_slices, some_at, serial_itself, filter_both}
 use Rattle.shr_base.specs.declared.replies.Reply.TheVariants as reply
 use Rattle.shr_report.specs.WalksLawful.{IsOfPass, AreRoundsOf, AreWalksOf, MayMake, was_cleared, AreWalksLawful}
 use Rattle.shr_assemble.specs.Entries as entries
@@ -10,7 +10,6 @@ use Rattle.shr_assemble.proofs.Operations.{ops_are, has_among, among_has}
 use Rattle.shr_assemble.proofs.Flattening.{all_walks_are, WalkOf, walk_of, walk_there}
 use Rattle.shr_assemble.proofs.LawfulWalks.{lawful_walk, count_made, among_map}
 use Rattle.shr_assemble.proofs.VersionsLaw.{versions_fall_not}
-use Rattle.shr_units.proofs.DueLaw.{filter_both}
 use Rattle.shr_assemble.proofs.DeferredLaw.{filter_none}
 use Rattle.shr_assemble.proofs.LimitsLaw.{serial_same}
 
@@ -49,7 +48,7 @@ module _ (s : Script) (r : Report) (workers : List (List Step)) (run : IsRun s r
       others i j y w at_y ne e = no_test (is_serial (serial_of worker k) w.by) (λ same. ne (ap (λ (z : Serial). z.command) (sym (serial_same (serial_of worker k) w.by same ∙ by_of i j y w at_y e))))
 
   -- ---- the Scan entries are those of passes
-  scan_of_pass : (place : Place) (e : Entry) (x : Step) (m : Made) (worker k : ℕ) → slice_get (steps_of workers worker) k ≡ Some x → place_at m.place ≡ place → entries.MayMake s x m e → IsOfPass r place e
+  scan_of_pass : (place : Place) (e : Entry) (x : Step) (m : Made) (worker k : ℕ) → slice_get (steps_of workers worker) k ≡ Some x → place_at m.place ≡ place → entries.MayMakeEntry s x m e → IsOfPass r place e
   scan_of_pass place (Add by birth added key value) x m worker k at here may = tt
   scan_of_pass place (Look by birth key hit) x m worker k at here may = tt
   scan_of_pass place (Drop by birth key kind) x m worker k at here may = tt
@@ -66,8 +65,8 @@ module _ (s : Script) (r : Report) (workers : List (List Step)) (run : IsRun s r
   no_others : (place : Place) (n : ℕ) (e : Entry) → slice_get (journals_of r place) n ≡ Some e → IsOfPass r place e
   no_others place n e stands =
       let m = maker s r workers run place n e stands in
-      let may = each_among (λ (z : Made). entries.MayMake s m.step z z.entry) m.step.work.core.made m.made (run.steps.each m.worker m.k m.step m.at).did.entries.each m.among in
-      scan_of_pass place e m.step m.made m.worker m.k m.at m.place_is (subst (entries.MayMake s m.step m.made) m.entry may)
+      let may = each_among (λ (z : Made). entries.MayMakeEntry s m.step z z.entry) m.step.work.core.made m.made (run.steps.each m.worker m.k m.step m.at).did.entries.each m.among in
+      scan_of_pass place e m.step m.made m.worker m.k m.at m.place_is (subst (entries.MayMakeEntry s m.step m.made) m.entry may)
 
   -- ---- the walks are those of the commands
   rounds_are : (by : Serial) (c : Command) (x : Step) (rounds : List ℕ) → ((g : ℕ) → ops_by by (uses_at r g) ≡ ops_at g x.work.ops) → DidRoundsOf s x rounds c → AreRoundsOf s r by c x.answered.reply rounds
@@ -102,13 +101,13 @@ module _ (s : Script) (r : Report) (workers : List (List Step)) (run : IsRun s r
   later worker n w at_w k entry place lt cites =
       let of = walk_of s r workers run worker n w at_w in
       let a = replies s r workers run cited_by worker k (at place entry) cites in
-      let c : IsCited s a.step (at place entry) = (run.steps.each worker k a.step a.at).did.entries.cited (at place entry) a.reply in
+      let c : IsMadeAsCited s a.step (at place entry) = (run.steps.each worker k a.step a.at).did.entries.cited (at place entry) a.reply in
       let number : w.by.command ≡ of.k = ap (λ (b : Serial). b.command) (of.did.by ∙ of.is.by) in
       let done : IsAmong c.made a.step.after.core.traces.made = subst (λ l. IsAmong c.made l) (sym (work_of s r workers run worker k a.step a.at).core.made) (among_right a.step.before.core.traces.made a.step.work.core.made c.made c.among) in
       let before : IsAmong c.made of.step.before.core.traces.made = among_begins a.step.after.core.traces.made of.step.before.core.traces.made c.made (grows s r workers run worker k of.k a.step of.step (omega (arith, lt, number)) a.at of.at).made done in
       all_versions w.attempts.items (λ j b at_b same d e. count_after of j b d at_b same e a.step c before)
     where
-      count_after : (of : WalkOf s r workers run worker n w) (j : ℕ) (b : Attempt) (d : Count) → slice_get w.attempts.items j ≡ Some b → is_place place (place_in w b.id) ≡ true → IsAmong d (counts_of b.outcome) → (x : Step) (c : IsCited s x (at place entry)) → IsAmong c.made of.step.before.core.traces.made → entry < d.version
+      count_after : (of : WalkOf s r workers run worker n w) (j : ℕ) (b : Attempt) (d : Count) → slice_get w.attempts.items j ≡ Some b → is_place place (place_in w b.id) ≡ true → IsAmong d (counts_of b.outcome) → (x : Step) (c : IsMadeAsCited s x (at place entry)) → IsAmong c.made of.step.before.core.traces.made → entry < d.version
       count_after of j b d at_b same e x c before =
           let f = count_made s r workers run worker n w of j b d at_b e in
           let fresh = (of.is.did.walks.fresh.each f.0 (record { place = place_number (place_in w b.id); len = d.len; version = d.version }) f.1).made before.0 c.made before.1 in
@@ -147,8 +146,8 @@ module _ (s : Script) (r : Report) (workers : List (List Step)) (run : IsRun s r
   pub clearing_of : (place : Place) → IsThere s place → (worker k : ℕ) (x : Step) → slice_get (steps_of workers worker) k ≡ Some x → IsAmong (place_number place) x.work.core.cleared → HasClearing worker k place
   clearing_of place there worker k x at has =
       let is = run.steps.each worker k x at in
-      let v = flat_among cleared_in x.work.walks (place_number place) (subst (λ l. IsAmong (place_number place) l) (sym is.did.walks.cleared) has) in
-      let q = map_has place_number (clearings_of v.0) (place_number place) (among_has (cleared_in v.0) (place_number place) v.2) in
+      let v = flat_among cleared_by_walk x.work.walks (place_number place) (subst (λ l. IsAmong (place_number place) l) (sym is.did.walks.cleared) has) in
+      let q = map_has place_number (clearings_of v.0) (place_number place) (among_has (cleared_by_walk v.0) (place_number place) v.2) in
       let a = map_has (λ (b : Attempt). place_in v.0 b.id) (filter (λ (b : Attempt). is_clearing b.outcome) v.0.attempts.items) q.0 q.1 in
       let b = has_among v.0.attempts.items a.0 (filter_has (λ (z : Attempt). is_clearing z.outcome) v.0.attempts.items a.0 a.1).0 in
       let d = is.did.walks.each v.1.0 v.0 (at_some x.work.walks v.1.0 v.0 v.1.1) in
@@ -187,9 +186,9 @@ module _ (s : Script) (r : Report) (workers : List (List Step)) (run : IsRun s r
 
   pub map_seen : (worker n : ℕ) (w : WalkRecord) (of : WalkOf s r workers run worker n w) (i : ℕ) (m : MapSeen) → slice_get w.maps.items i ≡ Some m → IsMapSeen of.step w m
   map_seen worker n w of i m at_m =
-      let pair : IsAmong (map_number w.node w.group m.unit, m.bits) (map word_of of.step.work.core.maps) = subst (λ l. IsAmong (map_number w.node w.group m.unit, m.bits) l) of.is.did.walks.maps
+      let pair : IsAmong (map_number w.node w.group m.unit, m.bits) (map map_word of.step.work.core.maps) = subst (λ l. IsAmong (map_number w.node w.group m.unit, m.bits) l) of.is.did.walks.maps
       (among_flat mapped_in of.step.work.walks w (map_number w.node w.group m.unit, m.bits) (of.i, some_at of.step.work.walks of.i w of.own) (among_map (λ (z : MapSeen). (map_number w.node w.group z.unit, z.bits)) w.maps.items m (i, some_at w.maps.items i m at_m))) in
-      let x = map_has word_of of.step.work.core.maps (map_number w.node w.group m.unit, m.bits) (among_has (map word_of of.step.work.core.maps) (map_number w.node w.group m.unit, m.bits) pair) in
+      let x = map_has map_word of.step.work.core.maps (map_number w.node w.group m.unit, m.bits) (among_has (map map_word of.step.work.core.maps) (map_number w.node w.group m.unit, m.bits) pair) in
       record { map_is = x.0; among = has_among of.step.work.core.maps x.0 x.1; number = ap (λ p. p.0) x.2; bits = ap (λ p. p.1) x.2 }
 
   -- what is so of a map of a step
@@ -219,7 +218,7 @@ module _ (s : Script) (r : Report) (workers : List (List Step)) (run : IsRun s r
   fill_of worker k place below fills =
       let a = replies s r workers run (λ x. Some x) worker k (reply.Added (at place fills.entry)) (ap (option_and_then (λ (x : Reply). Some x)) fills.added) in
       let answered : a.step.answered.reply ≡ reply.Added (at place fills.entry) = same_Some a.step.answered.reply (reply.Added (at place fills.entry)) a.reply in
-      let c : IsCited s a.step (at place fills.entry) = (run.steps.each worker k a.step a.at).did.entries.cited (at place fills.entry) (ap cited_by answered) in
+      let c : IsMadeAsCited s a.step (at place fills.entry) = (run.steps.each worker k a.step a.at).did.entries.cited (at place fills.entry) (ap cited_by answered) in
       let stands = made_stands s r workers run worker k a.step a.at c.among.0 c.made c.among.1 in
       let number : c.made.place ≡ place_number place = sym (back c.made.place) ∙ ap place_number c.place in
       let items : c.made.items ≡ [] = stands.1.items ∙ (ap (λ p. items_before s r p c.made.number) c.place ∙ (ap (items_before s r place) c.number ∙ fills.empty)) in

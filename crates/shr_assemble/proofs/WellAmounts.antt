@@ -1,9 +1,7 @@
 -- The deferred words that are printed stand in the order of their places.
-use Rattle.shr_assemble.proofs.Common.{◌≡◌, ℕ, ◌+◌, ◌*◌, ◌/◌, ◌%◌, ◌<◌, ◌≤◌, ◌^◌, ◌⊎◌, inl, inr, ⊎_elim, Bool, true, false, not, eq-eqb, List, [], ◌∷◌, length, map, sym, refl, ap, ◌∙◌, arith, filter, if◌then◌else◌, ◌==◌, AllByRecursion, AllAdjacentBelow, range_with_len, cases_order, get_or-range_with_len, length-range_with_len, get_or_from_slice_get, slice_get_within, mod-lt, PlaceAmount, amount_of, Sizes, row_count, is_some_amount, IsPlaceBefore, IsAmountWell, by_slices}
-use Rattle.std.proofs.Math.Nat.{mul-le-mul_right, mod-add-div'}
-use Rattle.shr_seats.specs.Rows.{place_in}
+use Rattle.shr_assemble.proofs.Common.{◌≡◌, ℕ, ◌+◌, ◌*◌, ◌/◌, ◌%◌, ◌<◌, ◌≤◌, ◌^◌, ◌⊎◌, inl, inr, ⊎_elim, Bool, true, false, not, eq-eqb, List, [], ◌∷◌, length, map, sym, refl, ap, ◌∙◌, arith, filter, if◌then◌else◌, ◌==◌, AllByRecursion, AllAdjacentBelow, range_with_len, cases_order, get_or-range_with_len, length-range_with_len, get_or_from_slice_get, slice_get_within, mod-lt, PlaceAmount, amount_of, Sizes, row_count, is_some_amount, IsPlaceBefore, IsAmountWell, by_slices, mul-le-mul_right, mod-add-div', IsNumbered}
+use Rattle.shr_seats.specs.Rows.{place_of_row}
 use Rattle.shr_deferred.specs.Left.{amounts}
-use Rattle.shr_report.specs.WellFormed.{IsNumbered}
 use Rattle.shr_assemble.proofs.Operations.{PairsRec, pairs_by_slices, pairs_filter}
 use Rattle.shr_assemble.proofs.WellPairs.{pairs_map, adjacent}
 
@@ -28,7 +26,7 @@ by_order n m never = ⊎_elim (λ same. absurd (never (let e = same in omega (ar
 
 -- places by their numbers in the table
 module _ (z : Sizes) (nodes : z.nodes ≤ 4) (groups : z.groups ≤ 256) (some_node : 0 < z.nodes) (some_group : 0 < z.groups) where
-  place_rises : (i j : ℕ) → i < j → IsPlaceBefore (place_in z i) (place_in z j)
+  place_rises : (i j : ℕ) → i < j → IsPlaceBefore (place_of_row z i) (place_of_row z j)
   place_rises i j lt = by_group (cases_order (i / z.groups) (j / z.groups))
     where
       a : IsCut i z.groups (i / z.groups) (i % z.groups)
@@ -43,12 +41,12 @@ module _ (z : Sizes) (nodes : z.nodes ≤ 4) (groups : z.groups ≤ 256) (some_n
       d : IsCut (j / z.groups) z.nodes (j / z.groups / z.nodes) (j / z.groups % z.nodes)
       d = cut (j / z.groups) z.nodes some_node
 
-      by_node : i / z.groups < j / z.groups → ((i / z.groups / z.nodes) ≡ (j / z.groups / z.nodes)) ⊎ (((i / z.groups / z.nodes) < (j / z.groups / z.nodes)) ⊎ ((j / z.groups / z.nodes) < (i / z.groups / z.nodes))) → IsPlaceBefore (place_in z i) (place_in z j)
+      by_node : i / z.groups < j / z.groups → ((i / z.groups / z.nodes) ≡ (j / z.groups / z.nodes)) ⊎ (((i / z.groups / z.nodes) < (j / z.groups / z.nodes)) ⊎ ((j / z.groups / z.nodes) < (i / z.groups / z.nodes))) → IsPlaceBefore (place_of_row z i) (place_of_row z j)
       by_node less (inl same) = let ci = c.is in let di = d.is in let e : (i / z.groups / z.nodes) * z.nodes ≡ (j / z.groups / z.nodes) * z.nodes = ap (λ n. n * z.nodes) same in inr (same, inl (omega (arith, less, ci, di, e)))
       by_node less (inr (inl low)) = inl low
       by_node less (inr (inr high)) = absurd (let h = greater (i / z.groups) (j / z.groups) z.nodes (i / z.groups / z.nodes) (j / z.groups / z.nodes) (i / z.groups % z.nodes) (j / z.groups % z.nodes) c d high in omega (arith, less, h))
 
-      by_group : ((i / z.groups) ≡ (j / z.groups)) ⊎ (((i / z.groups) < (j / z.groups)) ⊎ ((j / z.groups) < (i / z.groups))) → IsPlaceBefore (place_in z i) (place_in z j)
+      by_group : ((i / z.groups) ≡ (j / z.groups)) ⊎ (((i / z.groups) < (j / z.groups)) ⊎ ((j / z.groups) < (i / z.groups))) → IsPlaceBefore (place_of_row z i) (place_of_row z j)
       by_group (inl same) = let ai = a.is in let bi = b.is in let e : (i / z.groups) * z.groups ≡ (j / z.groups) * z.groups = ap (λ n. n * z.groups) same in
           let q : i / z.groups / z.nodes ≡ j / z.groups / z.nodes = ap (λ n. n / z.nodes) same in let r : i / z.groups % z.nodes ≡ j / z.groups % z.nodes = ap (λ n. n % z.nodes) same in inr (q, inr (r, omega (arith, lt, ai, bi, e)))
       by_group (inr (inl less)) = by_node less (cases_order (i / z.groups / z.nodes) (j / z.groups / z.nodes))
@@ -64,19 +62,19 @@ module _ (z : Sizes) (nodes : z.nodes ≤ 4) (groups : z.groups ≤ 256) (some_n
   pub amounts_rise : (f : ℕ → ℕ) → AllAdjacentBelow (λ (x y : PlaceAmount). IsPlaceBefore x.place y.place) (amounts z f (row_count z)) (length (amounts z f (row_count z)))
   unfolding amounts
   amounts_rise f = adjacent (λ (x y : PlaceAmount). IsPlaceBefore x.place y.place) _
-      (pairs_filter (λ (x y : PlaceAmount). IsPlaceBefore x.place y.place) is_some_amount (map (λ i. amount_of (place_in z i) (f i)) (range_with_len 0 (row_count z)))
-      (pairs_map (λ (x y : PlaceAmount). IsPlaceBefore x.place y.place) (λ i. amount_of (place_in z i) (f i)) (range_with_len 0 (row_count z))
+      (pairs_filter (λ (x y : PlaceAmount). IsPlaceBefore x.place y.place) is_some_amount (map (λ i. amount_of (place_of_row z i) (f i)) (range_with_len 0 (row_count z)))
+      (pairs_map (λ (x y : PlaceAmount). IsPlaceBefore x.place y.place) (λ i. amount_of (place_of_row z i) (f i)) (range_with_len 0 (row_count z))
       (rising (range_with_len 0 (row_count z)) (range_rises (row_count z)))))
     where
-      rising : (is : List ℕ) → PairsRec (λ i j. i < j) is → PairsRec (λ i j. IsPlaceBefore (place_in z i) (place_in z j)) is
+      rising : (is : List ℕ) → PairsRec (λ i j. i < j) is → PairsRec (λ i j. IsPlaceBefore (place_of_row z i) (place_of_row z j)) is
       rising [] h = tt
       rising (i ∷ is) h = (heads is h.0, rising is h.1) where
-        heads : (js : List ℕ) → AllByRecursion (λ j. i < j) js → AllByRecursion (λ j. IsPlaceBefore (place_in z i) (place_in z j)) js
+        heads : (js : List ℕ) → AllByRecursion (λ j. i < j) js → AllByRecursion (λ j. IsPlaceBefore (place_of_row z i) (place_of_row z j)) js
         heads [] h = tt
         heads (j ∷ js) h = (place_rises i j h.0, heads js h.1)
 
   -- the place of a word has the numbers of its type, where there are few ids
-  place_numbered : z.ids ≤ 256 → (i : ℕ) → i < row_count z → IsNumbered (place_in z i)
+  place_numbered : z.ids ≤ 256 → (i : ℕ) → i < row_count z → IsNumbered (place_of_row z i)
   place_numbered ids i lt = record {
     id = let low = id_below in omega (arith, low, ids);
     node = let low = mod-lt (i / z.groups) some_node in omega (arith, low, nodes);
@@ -103,9 +101,9 @@ module _ (z : Sizes) (nodes : z.nodes ≤ 4) (groups : z.groups ≤ 256) (some_n
       let within = slice_get_within (range_with_len 0 (row_count z)) j i at in let g = get_or-range_with_len 0 (row_count z) j 0 (omega (arith, within, long)) in omega (arith, e, g, within, long)))
     where
       amount : ℕ → PlaceAmount
-      amount i = amount_of (place_in z i) (f i)
+      amount i = amount_of (place_of_row z i) (f i)
 
-      one : (i : ℕ) (b : Bool) → (f i == 0) ≡ b → IsNumbered (place_in z i) → (xs : List PlaceAmount) → AllByRecursion IsAmountWell xs → AllByRecursion IsAmountWell (if not b then (amount i ∷ xs) else xs)
+      one : (i : ℕ) (b : Bool) → (f i == 0) ≡ b → IsNumbered (place_of_row z i) → (xs : List PlaceAmount) → AllByRecursion IsAmountWell xs → AllByRecursion IsAmountWell (if not b then (amount i ∷ xs) else xs)
       one i true e there xs h = h
       one i false e there xs h = (record { numbers = there; some = λ zero. absurd (let t = eq-eqb (f i) 0 zero in let c : true ≡ false = sym t ∙ e in cc); amount = low i }, h)
 

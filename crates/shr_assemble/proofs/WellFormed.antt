@@ -1,11 +1,8 @@
 -- The report of a run is well formed.
-use Rattle.shr_assemble.proofs.Common.{◌≡◌, ℕ, suc, ◌+◌, ◌<◌, ◌≤◌, ◌^◌, ◌⊎◌, inl, inr, ⊎_elim, Bool, true, false, List, [], ◌∷◌, ◌++◌, length, length-append, map, take, get_or, sym, refl, ap, subst, ◌∙◌, arith, eq-eqb, slice_get, Some, filter, codes, All, if◌then◌else◌, ◌==◌, AllByRecursion, AllAdjacentBelow, range_with_len, length-map, length-take-le, slice_get-get_or, MapEnd, PlaceAmount, PlaceEnd, WorkerPart, UseStep, CacheDecl, GroupDecl, PoolDecl, Script, place_number, last_number, nodes_below, IsWithin, content_of, Report, uses_at, IsPlaceBefore, map_units, bit_places, IsAmountWell, IsBitWord, HasWords, IsSpelled, IsWellFormed, IsPoolAmountWell, StandsBefore, IsLastAnswered, Step, IsRun, by_slices}
-use Rattle.std.proofs.lemmas.List.{get_or-map, length-take}
+use Rattle.shr_assemble.proofs.Common.{◌≡◌, ℕ, suc, ◌+◌, ◌<◌, ◌≤◌, ◌^◌, ◌⊎◌, inl, inr, ⊎_elim, Bool, true, false, List, [], ◌∷◌, ◌++◌, length, length-append, map, take, get_or, sym, refl, ap, subst, ◌∙◌, arith, eq-eqb, slice_get, Some, filter, codes, All, if◌then◌else◌, ◌==◌, AllByRecursion, AllAdjacentBelow, range_with_len, length-map, length-take-le, slice_get-get_or, MapEnd, PlaceAmount, PlaceEnd, WorkerPart, UseStep, CacheDecl, GroupDecl, PoolDecl, Script, place_number, last_number, nodes_below, IsWithin, content_of, Report, uses_at, IsPlaceBefore, map_units, bit_places, IsAmountWell, IsBitWord, HasWords, IsSpelled, IsWellFormed, IsPoolAmountWell, StandsBefore, IsLastAnswered, Step, IsRun, by_slices, get_or-map, length-take, IsPoolWithin, IsUseBefore, IsPlaceWell}
 use Rattle.shr_model.specs.Paths.{is_path}
 use Rattle.shr_model.specs.Words.{is_name}
-use Rattle.shr_script.specs.Bounds.{IsPoolWithin}
-use Rattle.shr_report.specs.Parts.{hierarchy_of}
-use Rattle.shr_report.specs.WellFormed.{IsUseBefore, IsPlaceWell}
+use Rattle.shr_report.specs.Parts.{script_hierarchy}
 use Rattle.shr_report.proofs.PlaceOrder.{IsLow, before_by_number}
 use Rattle.shr_units.proofs.FormLaw.{entered, unit_order}
 use Rattle.shr_assemble.proofs.Listed.{all_slice}
@@ -118,7 +115,7 @@ module _ (s : Script) (r : Report) (workers : List (List Step)) (run : IsRun s r
     paths = subst (AllByRecursion (λ (path : List ℕ). is_path path ≡ true)) (sym run.paths) (root_is_path, all_mapped (λ (path : List ℕ). is_path path ≡ true) (λ (g : GroupDecl). g.path) s.groups.items within.paths);
     names = subst (AllByRecursion (λ (name : List ℕ). is_name name ≡ true)) (sym run.names) (all_mapped (λ (name : List ℕ). is_name name ≡ true) (λ (c : CacheDecl). c.name) s.caches.items within.names);
     pool = pool_numbered s.ids (length s.caches.items) r.pool.items run.pool.journal run.sized.ids within.caches laid.last_numbers;
-    tree = tree_numbered (hierarchy_of s) r.tree.items run.uses.tree run.sized.groups;
+    tree = tree_numbered (script_hierarchy s) r.tree.items run.uses.tree run.sized.groups;
     few_parts = let same = ap (λ (ps : List WorkerPart). length ps) laid.front in let few = laid.few in let most = length-take laid.many laid.all in omega (arith, same, few, most);
     parts = λ worker part at. part_well s r workers run within worker part at;
     last = λ before part is. last_answered laid.all r.workers.items before laid.many part laid.last laid.front is;

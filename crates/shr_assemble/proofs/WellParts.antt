@@ -1,8 +1,7 @@
 -- The part of a worker in the report of a run is well formed: its walks and its carries stand in the order of its commands.
-use Rattle.shr_assemble.proofs.Common.{◌≡◌, ℕ, ◌<◌, ◌≤◌, List, [], ◌∷◌, length, map, sym, ap, subst, ◌∙◌, arith, slice_get, Option, Some, flat_map, AllByRecursion, AllAdjacentBelow, slice_get_within, WorkerPart, Serial, Answered, Script, Carry, Isolation, WalkRecord, IsWithin, content_of, Report, serial_of, LendsWord, IsBefore, AreNotFalling, IsWalkWell, DidCarry, isolated_in, Step, steps_of, IsRun, by_slices}
+use Rattle.shr_assemble.proofs.Common.{◌≡◌, ℕ, ◌<◌, ◌≤◌, List, [], ◌∷◌, length, map, sym, ap, subst, ◌∙◌, arith, slice_get, Option, Some, flat_map, AllByRecursion, AllAdjacentBelow, slice_get_within, WorkerPart, Serial, Answered, Script, Carry, Isolation, WalkRecord, IsWithin, content_of, Report, serial_of, LendsWord, IsBefore, AreNotFalling, IsWalkWell, DidCarry, isolated_in, Step, steps_of, IsRun, by_slices, IsCarryBefore, AreOfCommands, IsPartWell}
 use Rattle.shr_base.specs.declared.walks.PlainWalk.{PlainWalk}
 use Rattle.shr_report.specs.Parts.{answers_in, walks_in, carries_in, isolations_in}
-use Rattle.shr_report.specs.WellFormed.{IsCarryBefore, AreOfCommands, IsPartWell}
 use Rattle.shr_report.specs.UnitParts.{plain_in}
 use Rattle.shr_units.proofs.FormLaw.{plain_order}
 use Rattle.shr_assemble.proofs.Flattening.{answers_are, slice_map}

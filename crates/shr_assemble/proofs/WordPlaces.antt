@@ -1,12 +1,10 @@
 -- The word of each place of a table of deferred words, by its number.
-use Rattle.shr_assemble.proofs.Common.{◌≡◌, ℕ, ◌+◌, ◌*◌, ◌/◌, ◌%◌, ◌<◌, sym, ◌∙◌, arith, range_with_len, length-range_with_len, get_or-range_with_len, Has, Has_from_Contains, Contains_from_Has, Sizes, IsPlaceOf, row_count}
-use Rattle.std.proofs.Math.Nat.{mul_comm}
-use Rattle.shr_seats.specs.Rows.{place_in}
-use Rattle.shr_seats.proofs.RowLaws.{place_inside}
+use Rattle.shr_assemble.proofs.Common.{◌≡◌, ℕ, ◌+◌, ◌*◌, ◌/◌, ◌%◌, ◌<◌, sym, ◌∙◌, arith, range_with_len, length-range_with_len, get_or-range_with_len, Has, Has_from_Contains, Contains_from_Has, Sizes, IsPlaceOf, row_count, mul_comm, place_inside}
+use Rattle.shr_seats.specs.Rows.{place_of_row}
 use Rattle.shr_units.proofs.Pooling.{place_back, some_right}
 
 -- each number below the number of words is that of a place
-pub inside_word : (z : Sizes) (i : ℕ) → i < row_count z → IsPlaceOf z (place_in z i)
+pub inside_word : (z : Sizes) (i : ℕ) → i < row_count z → IsPlaceOf z (place_of_row z i)
 inside_word z i lt =
     let groups : 0 < z.groups = some_right (z.ids * z.nodes) z.groups (omega (arith, lt)) in
     let both : 0 < z.ids * z.nodes = some_right z.groups (z.ids * z.nodes) (let c = mul_comm z.groups (z.ids * z.nodes) in omega (arith, lt, c)) in

@@ -1,9 +1,6 @@
 -- The objects that were added are each of another put that was answered so, and where each put was, there are as many.
-use Rattle.shr_assemble.proofs.Common.{◌≡◌, ℕ, zero, suc, ◌+◌, ◌≤◌, ◌⊎◌, inl, inr, ⊎_elim, Bool, true, false, ◌||◌, ◌==◌, cond, List, [], ◌∷◌, length, length-append, take, sym, refl, ap, subst, ◌∙◌, arith, eqb, eq-eqb, slice_get, Option, Some, None, filter, flat_map, sum_by, enumerate_from, list_any, same_Some, none-some, sum_by-cons, Entry, Add, Look, Drop, Pin, Scan, MovedIn, Closed, Drained, At, Place, Reply, Command, Put, Script, WorkerScript, added_by, added_by_all, added_in, is_put, is_at_or_above, path_of, Has, Has_from_Contains, Each, total, place_at, Made, Report, charged, parents_of, puts_of, commands_in, commands_of, answers_of, serial_of, id_found, journals_of, places_of, DoPutsAddUp, IsReply, added_below, Step, steps_in, steps_of, IsPut, IsRun, all_made, sum_total}
+use Rattle.shr_assemble.proofs.Common.{◌≡◌, ℕ, zero, suc, ◌+◌, ◌≤◌, ◌⊎◌, inl, inr, ⊎_elim, Bool, true, false, ◌||◌, ◌==◌, cond, List, [], ◌∷◌, length, length-append, take, sym, refl, ap, subst, ◌∙◌, arith, eqb, eq-eqb, slice_get, Option, Some, None, filter, flat_map, sum_by, enumerate_from, list_any, same_Some, none-some, sum_by-cons, Entry, Add, Look, Drop, Pin, Scan, MovedIn, Closed, Drained, At, Place, Reply, Command, Put, Script, WorkerScript, added_by, added_by_all, added_in, is_put, is_at_or_above, path_of, Has, Has_from_Contains, Each, total, place_at, Made, Report, charged, parents_of, puts_of, commands_in, commands_of, answers_of, serial_of, id_found, journals_of, places_of, DoPutsAddUp, IsReply, added_below, Step, steps_in, steps_of, IsPut, IsRun, all_made, sum_total, MayStand, IsAtOrAbove-root, IsEachAdded}
 use Rattle.shr_base.specs.declared.replies.Reply.TheVariants as reply
-use Rattle.shr_model.specs.Families.{MayStand}
-use Rattle.shr_model.proofs.GroupsOrder.{IsAtOrAbove-root}
-use Rattle.shr_report.specs.Puts.{IsEachAdded}
 use Rattle.shr_assemble.proofs.Gathering.{total_gathered, total_same_on, mine_at}
 use Rattle.shr_assemble.proofs.RepliesLaw.{replies_lawful}
 use Rattle.shr_assemble.proofs.Recounting.{all_stand, journals_are}

@@ -37,7 +37,7 @@ pub record DidPass (s : Script) (x : Step) (n : ℕ) (w : WalkRecord) (place : P
   pub worn : (spent : Spent) → p.ending ≡ ending.Worn spent → IsWornBy s x spent
 
 -- the cache that a held attempt met, and what it did by its declaration
-pub record WasHeld (s : Script) (x : Step) (n : ℕ) (w : WalkRecord) (a : Attempt) (number : ℕ) : Type 0 where
+pub record HasMetCache (s : Script) (x : Step) (n : ℕ) (w : WalkRecord) (a : Attempt) (number : ℕ) : Type 0 where
   pub decl : ℕ
   pub tried : IsAmong (record { id = a.id; number = number; held = Some decl }) x.work.core.attempts
   pub cache : CacheDecl
@@ -51,7 +51,7 @@ pub record DidAttempt (s : Script) (x : Step) (n : ℕ) (w : WalkRecord) (a : At
   -- its lookup was held exactly where its outcome is one of a held cache
   pub tried : (number : ℕ) → number_of a.outcome ≡ Some number
       → (held : Option ℕ) × IsAmong (record { id = a.id; number = number; held = held }) x.work.core.attempts × (is_held a.outcome ≡ is_some held)
-  pub held : (number : ℕ) → number_of a.outcome ≡ Some number → is_held a.outcome ≡ true → WasHeld s x n w a number
+  pub held : (number : ℕ) → number_of a.outcome ≡ Some number → is_held a.outcome ≡ true → HasMetCache s x n w a number
   -- a load showed that its lookups are used up
   pub worn : (seen : ℕ) → a.outcome ≡ outcome.Worn seen
       → (word : LookupWord) × IsAmong (record { id = a.id; word = word }) x.work.core.loaded × (word.lookups ≡ seen) × (2 ^ 32 - 256 ≤ seen)

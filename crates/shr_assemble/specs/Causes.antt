@@ -22,10 +22,10 @@ use Rattle.shr_model.specs.TreeJournal.{begin_of, done_of, made_of, undone_child
 use Rattle.shr_core.specs.Parts.{Made}
 use Rattle.shr_charge.specs.Offlining.{IsNamed}
 use Rattle.shr_charge.specs.declared.answers.GroupState.TheVariants as state
-use Rattle.shr_charge.specs.Views.{Loaded}
+use Rattle.shr_charge.specs.Views.{LoadedState}
 use Rattle.shr_deferred.specs.Moves.{takes_of}
 use Rattle.shr_report.specs.Takes.{places_offlined}
-use Rattle.shr_report.specs.Parts.{parents_of, later_of, hierarchy_of, limit_of}
+use Rattle.shr_report.specs.Parts.{parents_of, later_of, script_hierarchy, limit_of}
 use Rattle.shr_report.specs.ReplyTable.{group_met}
 use Rattle.shr_report.specs.Causes.{drained_by, moved_of}
 use Rattle.shr_assemble.specs.Steps.{Step, IsAmong}
@@ -34,7 +34,7 @@ use Rattle.shr_assemble.specs.Worn.{IsWornBy}
 
 -- the group that the command met began to go offline by this entry: its word was loaded and told so, or the entry stands
 -- among those that the worker knows
-pub record IsOffline (s : Script) (x : Step) (entry : ℕ) : Type 0 where
+pub record HasMetOffline (s : Script) (x : Step) (entry : ℕ) : Type 0 where
   pub group : ℕ
   pub met : option_and_then (group_met s) x.command ≡ Some group
   pub told : IsAmong (record { group = group; state = state.Offline entry }) x.work.words ⊎ (begin_of x.after.tree.known group ≡ Some entry)
@@ -45,7 +45,7 @@ pub record IsUnmadeBy (s : Script) (x : Step) (group : ℕ) : Type 0 where
   pub late : is_later (later_of s) group ≡ true
 
 -- the group was made by this entry
-pub record IsMadeBy (x : Step) (entry : ℕ) : Type 0 where
+pub record IsGroupMadeBy (x : Step) (entry : ℕ) : Type 0 where
   pub group : ℕ
   pub named : option_and_then group_named x.command ≡ Some group
   pub made : IsAmong (record { number = entry; entry = MadeEntry group }) x.work.tree
@@ -121,7 +121,7 @@ pub record IsHalfBy (s : Script) (x : Step) (id entry from to objects : ℕ) (ha
   pub reason : IsWhyBy s x half
 
 -- the group's Done stands in the journal of the tree that the worker knows
-pub record WasDone (x : Step) (entry : ℕ) : Type 0 where
+pub record IsDoneKnown (x : Step) (entry : ℕ) : Type 0 where
   pub group : ℕ
   pub named : option_and_then group_named x.command ≡ Some group
   pub done : done_of x.after.tree.known group ≡ Some entry
@@ -133,8 +133,8 @@ pub record IsInTheWayBy (s : Script) (x : Step) (child entry : ℕ) : Type 0 whe
   pub below : 0 < group
   pub named : option_and_then group_named x.command ≡ Some group
   pub all : entry ≡ length x.after.tree.known
-  pub lowest : undone_child (hierarchy_of s) x.after.tree.known group ≡ Some child
-  pub shown : All (λ (l : Loaded). IsNamed (hierarchy_of s) x.after.tree.known l) x.after.tree.loaded
+  pub lowest : undone_child (script_hierarchy s) x.after.tree.known group ≡ Some child
+  pub shown : All (λ (l : LoadedState). IsNamed (script_hierarchy s) x.after.tree.known l) x.after.tree.loaded
 
 -- the group was done by this entry, with what was moved in from its lists and what was carried
 pub record IsOfflinedBy (s : Script) (x : Step) (entry moved deferred : ℕ) : Type 0 where
@@ -156,15 +156,15 @@ IsUsedUpBy s x c y = IsWornBy s x y
 
 -- a reply has its cause in what the step did or knows
 abbrev pub IsCausedBy : Script → Step → Reply → Type 0
-IsCausedBy s x (reply.Offline entry) = IsOffline s x entry
+IsCausedBy s x (reply.Offline entry) = HasMetOffline s x entry
 IsCausedBy s x (reply.NotMade group) = IsUnmadeBy s x group
-IsCausedBy s x (reply.Made entry) = IsMadeBy x entry
+IsCausedBy s x (reply.Made entry) = IsGroupMadeBy x entry
 IsCausedBy s x (reply.AlreadyMade entry) = WasMade x entry
 IsCausedBy s x (reply.Over group operation usage) = IsOverBy s x group operation usage
 IsCausedBy s x (reply.NoCache entry) = IsUncachedBy s x entry
 IsCausedBy s x (reply.Worn spent) = IsUsedUpBy s x x.command spent
 IsCausedBy s x (reply.OfflineDone entry moved deferred) = IsOfflinedBy s x entry moved deferred
-IsCausedBy s x (reply.AlreadyDone entry) = WasDone x entry
+IsCausedBy s x (reply.AlreadyDone entry) = IsDoneKnown x entry
 IsCausedBy s x reply.Root = option_and_then group_named x.command ≡ Some 0
 IsCausedBy s x (reply.HasChildren child entry) = IsInTheWayBy s x child entry
 IsCausedBy s x (reply.Registered id entry) = IsRegisteredBy x id entry

@@ -22,8 +22,8 @@ added_below parents group (Add by birth added key value) = cond added (cond (is_
 added_below parents group e = 0
 
 -- how many an entry freed that was made
-abbrev pub freed_below : List ℕ → ℕ → Made → ℕ
-freed_below parents group m = born_below parents group (freed_by m.items m.entry)
+abbrev pub made_freed_below : List ℕ → ℕ → Made → ℕ
+made_freed_below parents group m = born_below parents group (freed_by m.items m.entry)
 
 -- what a command charged and uncharged
 pub record DidCharges (s : Script) (x : Step) : Type 0 where
@@ -36,7 +36,7 @@ pub record DidCharges (s : Script) (x : Step) : Type 0 where
   pub between : (group : ℕ) → IsDownBetween (map (λ (o : UseStep). o.up) (ops_at group x.work.ops))
   -- ups less downs are the objects that were added less those that were freed
   pub nets : (group : ℕ) → group < length (parents_of s)
-      → usage_after (ops_at group x.work.ops) ≡ pos (charged (parents_of s) group x.command (Some x.answered.reply)) -ℤ pos (sum_by (freed_below (parents_of s) group) x.work.core.made)
+      → usage_after (ops_at group x.work.ops) ≡ pos (charged (parents_of s) group x.command (Some x.answered.reply)) -ℤ pos (sum_by (made_freed_below (parents_of s) group) x.work.core.made)
   -- the entries that added an object are that of a `put` answered Added
   pub added : (group : ℕ) → sum_by (λ (m : Made). added_below (parents_of s) group m.entry) x.work.core.made ≡ charged (parents_of s) group x.command (Some x.answered.reply)
   -- each call made an operation at least

@@ -12,7 +12,7 @@ use Rattle.shr_core.specs.declared.view.View.{View}
 use Rattle.shr_core.specs.Gained.{IsIdle}
 use Rattle.shr_core.specs.Leaving.{IsLeft}
 use Rattle.shr_core.specs.Rule.{opener}
-use Rattle.shr_core.specs.Steps.{split_off, joined}
+use Rattle.shr_core.specs.Steps.{split_off, with_joined}
 use Rattle.shr_seats.specs.Shapes.{hierarchy_of}
 use Rattle.shr_charge.specs.Ends.{IsEndOf}
 use Rattle.shr_charge.specs.Steps.{joined_tree}
@@ -25,7 +25,7 @@ use Rattle.shr_plain.specs.Opening.{pool_sizes}
 use Rattle.shr_plain.specs.Seat.{PlainState, no_state, joined_state}
 use Rattle.shr_walk.specs.declared.seats.Shared.{Shared}
 use Rattle.shr_walk.specs.Sharing.{IsShared, IsFromStart}
-use Rattle.shr_worker.specs.Chain.{CrewState, IsWorkOf, commands_of, serial_of}
+use Rattle.shr_worker.specs.Chain.{CrewState, IsWorkOf, worker_commands, command_serial}
 use Rattle.shr_worker.specs.Replies.{unfound}
 use Rattle.shr_pool.specs.declared.items.SweepItem.{SweepItem}
 use Rattle.shr_pool.specs.declared.view.PassView.{PassView}
@@ -51,7 +51,7 @@ pub record Firsts : Type 0 where
 -- what they have done and seen once a worker's seats were joined into them
 abbrev pub with_worker : Firsts → CrewState → Firsts
 with_worker f w = record {
-  core = joined f.core w.seats.core;
+  core = with_joined f.core w.seats.core;
   uses = both_uses f.uses w.seats.uses;
   tree = joined_tree f.tree w.seats.tree;
   moves = both f.moves w.seats.moves;
@@ -65,8 +65,8 @@ with_workers f ws = fold with_worker f ws
 
 -- what they have done and seen when the workers start: the caches that are on were registered by this view, which was then
 -- split so often
-abbrev pub at_start : View → Standing → Firsts
-at_start opened standing = record { core = record opened { standing = standing }; uses = own_uses; tree = no_tree; moves = no_moves; strands = no_moves ∷ []; plain = no_state }
+abbrev pub firsts_at_start : View → Standing → Firsts
+firsts_at_start opened standing = record { core = record opened { standing = standing }; uses = own_uses; tree = no_tree; moves = no_moves; strands = no_moves ∷ []; plain = no_state }
 
 -- a worker's state at the start, by its number: the first seats have number 0, and the workers' were
 -- split off them in order
@@ -105,10 +105,10 @@ pub record HasWorked (x : Shared) (opened : View) (number : ℕ) (log : WorkerLo
   pub own : List Answered
   pub told : List Answered
   pub answers : log.answers.items ≡ own ++ told
-  pub all : length own ≡ length (commands_of x.script number)
+  pub all : length own ≡ length (worker_commands x.script number)
   pub done : CrewState
   pub work : IsWorkOf x number own (new_worker opened number) done
-  pub helped : HelpsWith x x.script.sweep (serial_of number (length (commands_of x.script number))) told popped done last
+  pub helped : HelpsWith x x.script.sweep (command_serial number (length (worker_commands x.script number))) told popped done last
   pub walks : log.walks.items ≡ last.seats.walks
   pub carries : log.carries.items ≡ last.seats.carries
   pub uses : log.uses.items ≡ last.seats.noted
@@ -135,10 +135,10 @@ pub record AreEndsOf (x : Shared) (logs : List WorkerLog) (e : Ends) : Type 0 wh
   pub worked : (i : ℕ) (log : WorkerLog) (last : CrewState) → slice_get logs i ≡ Some log → slice_get lasts i ≡ Some last → HasWorked x opened i log (popped i) last
   pub swept : (z : Sweep) → x.script.sweep ≡ Some z → ArePoppedOnce x.script (all_popped popped (length logs))
   -- what is left
-  pub core : IsLeft x.core.setting (with_workers (at_start opened standing) lasts).core e.core
+  pub core : IsLeft x.core.setting (with_workers (firsts_at_start opened standing) lasts).core e.core
   -- each bit word is one of 64 bits
   pub words : All (λ (m : MapEnd). m.bits < 2 ^ 64) e.core.maps.items
-  pub deferred : e.deferred.items ≡ left_over x.deferred.sizes (with_workers (at_start opened standing) lasts).moves
-  pub history : HasHistory x.deferred.sizes (with_workers (at_start opened standing) lasts).strands e.deferred.items
-  pub charge : IsEndOf (hierarchy_of x.charge.shape) (with_workers (at_start opened standing) lasts).uses (with_workers (at_start opened standing) lasts).tree e.charge
-  pub pools : IsPoolsEnd (pool_sizes x.script) (with_workers (at_start opened standing) lasts).plain e.pools
+  pub deferred : e.deferred.items ≡ left_over x.deferred.sizes (with_workers (firsts_at_start opened standing) lasts).moves
+  pub history : HasHistory x.deferred.sizes (with_workers (firsts_at_start opened standing) lasts).strands e.deferred.items
+  pub charge : IsEndOf (hierarchy_of x.charge.shape) (with_workers (firsts_at_start opened standing) lasts).uses (with_workers (firsts_at_start opened standing) lasts).tree e.charge
+  pub pools : IsPoolsEnd (pool_sizes x.script) (with_workers (firsts_at_start opened standing) lasts).plain e.pools

@@ -26,7 +26,7 @@ use Rattle.shr_seats.specs.Views.{Each}
 use Rattle.shr_seats.specs.Weights.{times}
 use Rattle.shr_core.specs.Gained.{among, cleared_in}
 use Rattle.shr_core.specs.Parts.{Made, Known, Event, raised}
-use Rattle.shr_core.specs.Layout.{id_of, group_of, place_at, beside}
+use Rattle.shr_core.specs.Layout.{place_id, group_of, place_at, beside}
 use Rattle.shr_node.specs.Gains.{KnowsClosed}
 use Rattle.shr_report.specs.Parts.{parents_of, cited_by, id_found, at}
 use Rattle.shr_report.specs.Isolated.{isolations_told}
@@ -34,7 +34,7 @@ use Rattle.shr_report.specs.ReplyTable.{IsReply}
 use Rattle.shr_report.specs.Causes.{MayHaveBegun}
 use Rattle.shr_report.specs.Swept.{IsSweepReply}
 use Rattle.shr_assemble.specs.Steps.{Step, IsAmong}
-use Rattle.shr_assemble.specs.Walks.{set_in}
+use Rattle.shr_assemble.specs.Walks.{set_by_walk}
 
 -- an entry that was made stands in a family of journals, and these items are there before it
 pub record StandsIn (parents : List ℕ) (family : Family) (m : Made) : Type 0 where
@@ -42,7 +42,7 @@ pub record StandsIn (parents : List ℕ) (family : Family) (m : Made) : Type 0 w
   pub items : m.items ≡ items_at parents family (place_at m.place) m.number
 
 -- a tenant's entry is of the command, and the reply cites it
-pub record IsTold (x : Step) (m : Made) (by : Serial) : Type 0 where
+pub record IsTenantEntry (x : Step) (m : Made) (by : Serial) : Type 0 where
   pub own : by ≡ x.by
   pub cited : cited_by x.answered.reply ≡ Some (at (place_at m.place) m.number)
 
@@ -61,7 +61,7 @@ isolations_asked by (Some c) a = isolations_told by c a
 isolations_asked by None a = []
 
 -- or it is a visit of the isolation that the command's answer tells of, at the isolation's place
-pub record IsVisited (x : Step) (m : Made) (worker n : ℕ) : Type 0 where
+pub record IsIsolationVisit (x : Step) (m : Made) (worker n : ℕ) : Type 0 where
   pub own : worker ≡ x.by.worker
   pub high : first_isolation ≤ n
   pub isolation : Isolation
@@ -70,7 +70,7 @@ pub record IsVisited (x : Step) (m : Made) (worker n : ℕ) : Type 0 where
 
 -- The list of a group is closed by an `offline` of a group at or above it, whose Begin the worker knows. The entry comes
 -- after all that the worker knew of the journal before.
-pub record IsClosing (s : Script) (x : Step) (m : Made) (child : ℕ) : Type 0 where
+pub record IsClosedByOffline (s : Script) (x : Step) (m : Made) (child : ℕ) : Type 0 where
   pub group : ℕ
   pub command : x.command ≡ Some (command.Offline group)
   pub answer : MayHaveBegun x.answered.reply
@@ -80,7 +80,7 @@ pub record IsClosing (s : Script) (x : Step) (m : Made) (child : ℕ) : Type 0 w
 
 -- a MovedIn stands beside the Closed of the child's list
 pub record IsMoving (s : Script) (x : Step) (m : Made) (child : ℕ) : Type 0 where
-  pub closing : IsClosing s x m child
+  pub closing : IsClosedByOffline s x m child
   pub closed : Made
   pub among : IsAmong closed x.work.core.made
   pub place : closed.place ≡ beside m.place child
@@ -93,20 +93,20 @@ Drains id (reply.Half i entry from to objects why) = i ≡ id
 Drains id x = ⊥
 
 -- a Drained is of the command, at a list of the id that it unregistered
-pub record IsDrained (x : Step) (m : Made) (by : Serial) : Type 0 where
+pub record IsDrainedByCommand (x : Step) (m : Made) (by : Serial) : Type 0 where
   pub own : by ≡ x.by
-  pub drains : Drains (id_of m.place) x.answered.reply
+  pub drains : Drains (place_id m.place) x.answered.reply
 
 -- an entry is one that the command may make
-abbrev pub MayMake : Script → Step → Made → Entry → Type 0
-MayMake s x m (Add by birth added key value) = IsTold x m by
-MayMake s x m (Look by birth key hit) = IsTold x m by
-MayMake s x m (Drop by birth key kind) = IsTold x m by
-MayMake s x m (Pin by birth key pinned hit) = IsTold x m by
-MayMake s x m (Scan worker n asked policy visits freed stopped) = IsScanned x m worker n ⊎ IsVisited x m worker n
-MayMake s x m (MovedIn child objects) = IsMoving s x m child
-MayMake s x m Closed = IsClosing s x m (group_of m.place)
-MayMake s x m (Drained by objects) = IsDrained x m by
+abbrev pub MayMakeEntry : Script → Step → Made → Entry → Type 0
+MayMakeEntry s x m (Add by birth added key value) = IsTenantEntry x m by
+MayMakeEntry s x m (Look by birth key hit) = IsTenantEntry x m by
+MayMakeEntry s x m (Drop by birth key kind) = IsTenantEntry x m by
+MayMakeEntry s x m (Pin by birth key pinned hit) = IsTenantEntry x m by
+MayMakeEntry s x m (Scan worker n asked policy visits freed stopped) = IsScanned x m worker n ⊎ IsIsolationVisit x m worker n
+MayMakeEntry s x m (MovedIn child objects) = IsMoving s x m child
+MayMakeEntry s x m Closed = IsClosedByOffline s x m (group_of m.place)
+MayMakeEntry s x m (Drained by objects) = IsDrainedByCommand x m by
 
 -- the list of a place is the first one, from the group up that the command names, that the worker doesn't know to be closed at
 -- the command's end
@@ -127,7 +127,7 @@ pub record IsSetLast (x : Step) (place : ℕ) : Type 0 where
 -- The entry that a reply cites was made by the command, after all that the worker had made and known at the place, on the first
 -- open list. If an Added found an empty list below the root, the place's bit was set, and no bit was
 -- cleared behind that.
-pub record IsCited (s : Script) (x : Step) (c : At) : Type 0 where
+pub record IsMadeAsCited (s : Script) (x : Step) (c : At) : Type 0 where
   pub made : Made
   pub among : IsAmong made x.work.core.made
   pub place : place_at made.place ≡ c.place
@@ -144,7 +144,7 @@ Fills items (MovedIn child objects) = 0 < objects
 Fills items e = ⊥
 
 -- one of these entries filled the list of this place
-pub record IsFilled (made : List Made) (place : ℕ) : Type 0 where
+pub record IsListFilled (made : List Made) (place : ℕ) : Type 0 where
   pub entry : Made
   pub among : IsAmong entry made
   pub here : entry.place ≡ place
@@ -157,10 +157,10 @@ IsReplyTo parents family by None found x = (found ≡ None) × IsSweepReply x
 
 -- the entries that a command made in the journals of lists, and what its answer cites of them
 pub record DidEntries (s : Script) (x : Step) : Type 0 where
-  pub each : Each (λ (m : Made). MayMake s x m m.entry) x.work.core.made
+  pub each : Each (λ (m : Made). MayMakeEntry s x m m.entry) x.work.core.made
   -- in each family of journals in which these entries stand, the answer is one that the command may have
   pub reply : (family : Family) → Each (StandsIn (parents_of s) family) x.work.core.made
       → IsReplyTo (parents_of s) family x.by x.command (id_found x.answered) x.answered.reply
   -- each bit that was set was that of a place whose list it filled, or a walk of the command tells it
-  pub sets : Each (λ place. IsFilled x.work.core.made place ⊎ IsAmong place (flat_map set_in x.work.walks)) x.work.core.sets
-  pub cited : (c : At) → cited_by x.answered.reply ≡ Some c → IsCited s x c
+  pub sets : Each (λ place. IsListFilled x.work.core.made place ⊎ IsAmong place (flat_map set_by_walk x.work.walks)) x.work.core.sets
+  pub cited : (c : At) → cited_by x.answered.reply ≡ Some c → IsMadeAsCited s x c

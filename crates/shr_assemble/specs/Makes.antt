@@ -16,29 +16,29 @@ use Rattle.shr_report.specs.UnitParts.{plain_of}
 use Rattle.shr_assemble.specs.declared.logs.WorkerLog.{WorkerLog}
 
 -- the answers, the walks and the carries of a worker, none past the last worker
-abbrev pub answers_in : Option WorkerLog → List Answered
-answers_in None = []
-answers_in (Some log) = log.answers.items
+abbrev pub log_answers : Option WorkerLog → List Answered
+log_answers None = []
+log_answers (Some log) = log.answers.items
 
 -- its walks
-abbrev pub walks_in : Option WorkerLog → List WalkRecord
-walks_in None = []
-walks_in (Some log) = log.walks.items
+abbrev pub log_walks : Option WorkerLog → List WalkRecord
+log_walks None = []
+log_walks (Some log) = log.walks.items
 
 -- its carries
-abbrev pub carries_in : Option WorkerLog → List Carry
-carries_in None = []
-carries_in (Some log) = log.carries.items
+abbrev pub log_carries : Option WorkerLog → List Carry
+log_carries None = []
+log_carries (Some log) = log.carries.items
 
 -- its walks of the pools
-abbrev pub plain_in : Option WorkerLog → List PlainWalk
-plain_in None = []
-plain_in (Some log) = log.plain.items
+abbrev pub log_plain : Option WorkerLog → List PlainWalk
+log_plain None = []
+log_plain (Some log) = log.plain.items
 
 -- its isolations
-abbrev pub isolations_in : Option WorkerLog → List Isolation
-isolations_in None = []
-isolations_in (Some log) = log.isolations.items
+abbrev pub log_isolations : Option WorkerLog → List Isolation
+log_isolations None = []
+log_isolations (Some log) = log.isolations.items
 
 -- how many objects the journals of these places added, and how many their lists hold
 abbrev pub added_count : List PlaceEnd → ℕ
@@ -71,11 +71,11 @@ pub record IsMadeOf (s : Script) (logs : List WorkerLog) (e : Ends) (r : Report)
   pub units : r.units.items ≡ e.pools.units.items
   pub pool_deferred : r.pool_deferred.items ≡ e.pools.pool_deferred.items
   -- what the workers noted, up to the last one that has an answer
-  pub answers : (worker : ℕ) → answers_of r worker ≡ answers_in (slice_get logs worker)
-  pub walks : (worker : ℕ) → walks_of r worker ≡ walks_in (slice_get logs worker)
-  pub carries : (worker : ℕ) → carries_of r worker ≡ carries_in (slice_get logs worker)
-  pub plain : (worker : ℕ) → plain_of r worker ≡ plain_in (slice_get logs worker)
-  pub isolations : (worker : ℕ) → isolations_of r worker ≡ isolations_in (slice_get logs worker)
+  pub answers : (worker : ℕ) → answers_of r worker ≡ log_answers (slice_get logs worker)
+  pub walks : (worker : ℕ) → walks_of r worker ≡ log_walks (slice_get logs worker)
+  pub carries : (worker : ℕ) → carries_of r worker ≡ log_carries (slice_get logs worker)
+  pub plain : (worker : ℕ) → plain_of r worker ≡ log_plain (slice_get logs worker)
+  pub isolations : (worker : ℕ) → isolations_of r worker ≡ log_isolations (slice_get logs worker)
   -- their operations, by group and number
   pub uses : IsPermutation r.uses.items (flat_map (λ (log : WorkerLog). log.uses.items) logs)
   pub sorted : (i j : ℕ) (o p : UseStep) → i < j → slice_get r.uses.items i ≡ Some o → slice_get r.uses.items j ≡ Some p → StandsBefore o p

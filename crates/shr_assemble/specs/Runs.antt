@@ -27,20 +27,20 @@ use Rattle.shr_seats.specs.Weights.{total, times, Begins}
 use Rattle.shr_core.specs.Layout.{place_at, map_number}
 use Rattle.shr_core.specs.Parts.{Made, Known, Counted, Mapped, Tried, Loaded, Turn}
 use Rattle.shr_core.specs.Rule.{hit, hit_attempt, hit_turn, IsTurn}
-use Rattle.shr_charge.specs.Offlining.{IsNamed, IsMade}
+use Rattle.shr_charge.specs.Offlining.{IsNamed, IsTreeEntryMade}
 use Rattle.shr_charge.specs.Offlining as offlining
 use Rattle.shr_charge.specs.Views.{no_tree}
 use Rattle.shr_charge.specs.Views as charge
 use Rattle.shr_walk.specs.State.{WorkerState}
 use Rattle.shr_report.specs.declared.report.Report.{Report}
-use Rattle.shr_report.specs.Parts.{parents_of, hierarchy_of, decls_on, serial_of, commands_of, sweeps_of, answers_of, walks_of, carries_of, isolations_of, journals_of, places_of, items_before, items_left, uses_at, lookups_at, IsThere}
+use Rattle.shr_report.specs.Parts.{parents_of, script_hierarchy, decls_on, serial_of, commands_of, sweeps_of, answers_of, walks_of, carries_of, isolations_of, journals_of, places_of, items_before, items_left, uses_at, lookups_at, IsThere}
 use Rattle.shr_report.specs.BitsLawful.{AreBitsLawful}
-use Rattle.shr_report.specs.BitsTold.{place_of}
+use Rattle.shr_report.specs.BitsTold.{bit_place}
 use Rattle.shr_report.specs.Deferred.{printed_at}
-use Rattle.shr_report.specs.WellFormed.{AreRising}
+use Rattle.shr_report.specs.WellFormed.{AreNumbersRising}
 use Rattle.shr_units.specs.Steps.{UnitsStep}
 use Rattle.shr_units.specs.Runs.{AreUnits}
-use Rattle.shr_assemble.specs.Steps.{Step, gathered, steps_of, AreChained}
+use Rattle.shr_assemble.specs.Steps.{Step, gathered, steps_of, AreStepsChained}
 use Rattle.shr_assemble.specs.Entries.{StandsIn}
 use Rattle.shr_assemble.specs.Order.{IsInLine}
 use Rattle.shr_assemble.specs.Did.{Did}
@@ -68,7 +68,7 @@ abbrev pub all_turns : List (List Step) → List Turn
 all_turns workers = gathered (λ x. x.work.core.turns) workers
 
 -- those in the journal of the tree
-abbrev pub all_entries : List (List Step) → List charge.Made
+abbrev pub all_entries : List (List Step) → List charge.TreeMade
 all_entries workers = gathered (λ x. x.work.tree) workers
 
 -- the charges and uncharges
@@ -84,7 +84,7 @@ abbrev pub all_gives : List (List Step) → List PlaceAmount
 all_gives workers = gathered (λ x. gives_of x.work.moves) workers
 
 -- a worker's state at the start: it has done and seen nothing, but knows the registrations of the caches that are `on`
-pub record IsNew (s : Script) (t : WorkerState) : Type 0 where
+pub record IsNewWorker (s : Script) (t : WorkerState) : Type 0 where
   pub did : t.core.did ≡ []
   pub made : t.core.traces.made ≡ []
   pub seen : t.core.traces.seen ≡ []
@@ -116,7 +116,7 @@ pub record IsMapOf (s : Script) (workers : List (List Step)) (m : Mapped) : Type
 -- each bit of a printed word is of a place that is there, and that a worker set
 abbrev pub IsMarked : Script → List (List Step) → MapEnd → Type 0
 IsMarked s workers m = (bit : ℕ) → bit < 64 → is_set m.bits bit ≡ true
-    → IsThere s (place_of m (64 * m.unit + bit)) × (0 < times (place_number (place_of m (64 * m.unit + bit))) (all_sets workers))
+    → IsThere s (bit_place m (64 * m.unit + bit)) × (0 < times (place_number (bit_place m (64 * m.unit + bit))) (all_sets workers))
 
 -- what a worker has made, seen and known is so in the report
 pub record IsShownIn (s : Script) (r : Report) (workers : List (List Step)) (t : WorkerState) : Type 0 where
@@ -128,19 +128,19 @@ pub record IsShownIn (s : Script) (r : Report) (workers : List (List Step)) (t :
   pub loaded : Each (λ (l : Loaded). l.word.lookups ≤ lookups_at r l.id) t.core.claims.loaded
   pub turns : Each (IsTurn r.pool.items) t.core.turns.made
   pub pool : Begins t.core.turns.known r.pool.items
-  pub words : All (IsNamed (hierarchy_of s) r.tree.items) t.tree.loaded
-  pub entries : All (IsMade r.tree.items) t.tree.made
+  pub words : All (IsNamed (script_hierarchy s) r.tree.items) t.tree.loaded
+  pub entries : All (IsTreeEntryMade r.tree.items) t.tree.made
   pub tree : Begins t.tree.known r.tree.items
   pub ops : All (λ (o : UseStep). slice_get (uses_at r o.group) o.operation ≡ Some o) t.uses.ops
 
 -- the steps of each worker: one for each of its commands and one for the sweep, from a new state on, with the report's answers, walks and carries
-pub record AreSteps (s : Script) (r : Report) (workers : List (List Step)) : Type 0 where
+pub record AreRunSteps (s : Script) (r : Report) (workers : List (List Step)) : Type 0 where
   pub each : (worker k : ℕ) (x : Step) → slice_get (steps_of workers worker) k ≡ Some x → IsStep s r worker k x
   pub commands : (worker : ℕ) → length (steps_of workers worker) ≡ length (commands_of s worker) + sweeps_of s worker
   pub answers : (worker : ℕ) → length (answers_of r worker) ≡ length (steps_of workers worker)
   pub first : ℕ → WorkerState
-  pub new : (worker : ℕ) → IsNew s (first worker)
-  pub chained : (worker : ℕ) → AreChained (first worker) (steps_of workers worker)
+  pub new : (worker : ℕ) → IsNewWorker s (first worker)
+  pub chained : (worker : ℕ) → AreStepsChained (first worker) (steps_of workers worker)
   pub walks : (worker : ℕ) → walks_of r worker ≡ flat_map (λ (x : Step). x.work.walks) (steps_of workers worker)
   pub carries : (worker : ℕ) → carries_of r worker ≡ flat_map (λ (x : Step). x.work.carries) (steps_of workers worker)
   pub shown : (worker k : ℕ) (x : Step) → slice_get (steps_of workers worker) k ≡ Some x → IsShownIn s r workers x.after
@@ -158,13 +158,13 @@ pub record IsPrinted (s : Script) (r : Report) (end : PlaceEnd) : Type 0 where
   pub items : end.items.items ≡ items_left s r end.place
 
 -- the printed journals are legal, paired, and made by the steps, an entry by one step
-pub record AreJournals (s : Script) (r : Report) (workers : List (List Step)) : Type 0 where
+pub record AreRunJournals (s : Script) (r : Report) (workers : List (List Step)) : Type 0 where
   pub parents : IsTree (parents_of s)
   pub there : (place : Place) → 0 < length (journals_of r place) → IsThere s place
   pub legal : (place : Place) → IsLegal (parents_of s) (journals_of r) place
   pub paired : IsPaired (parents_of s) (journals_of r)
   pub printed : (n : ℕ) (end : PlaceEnd) → slice_get r.places.items n ≡ Some end → IsPrinted s r end
-  pub order : AreRising (map (λ (end : PlaceEnd). place_number end.place) r.places.items)
+  pub order : AreNumbersRising (map (λ (end : PlaceEnd). place_number end.place) r.places.items)
   -- each entry of each journal was made by one step, and no other was
   pub once : (k n : ℕ) → total (hit k n) (all_made workers) ≡ cond (nat_lt n (length (journals_of r (place_at k)))) 1 0
 
@@ -185,9 +185,9 @@ pub record ArePoolAndLookups (s : Script) (r : Report) (workers : List (List Ste
 
 -- the journal of the tree is legal, the operations are those of the steps, and those of a group are a history
 pub record AreUsesAndTree (s : Script) (r : Report) (workers : List (List Step)) : Type 0 where
-  pub hierarchy : IsHierarchy (hierarchy_of s)
-  pub tree : IsTreeJournal (hierarchy_of s) r.tree.items
-  pub entered : (n : ℕ) → offlining.times n (all_entries workers) ≡ cond (nat_lt n (length r.tree.items)) 1 0
+  pub hierarchy : IsHierarchy (script_hierarchy s)
+  pub tree : IsTreeJournal (script_hierarchy s) r.tree.items
+  pub entered : (n : ℕ) → offlining.times_noted n (all_entries workers) ≡ cond (nat_lt n (length r.tree.items)) 1 0
   pub histories : (group : ℕ) → IsChargeHistory group (uses_at r group)
   pub same : IsPermutation r.uses.items (all_ops workers)
 
@@ -219,9 +219,9 @@ pub record IsRun (s : Script) (r : Report) (workers : List (List Step)) : Type 0
   pub paths : r.groups.items ≡ codes "/" ∷ map (λ g. g.path) s.groups.items
   pub names : r.caches.items ≡ map (λ c. c.name) s.caches.items
   pub pools : r.pools.items ≡ map (λ p. p.name) s.pools.items
-  pub steps : AreSteps s r workers
+  pub steps : AreRunSteps s r workers
   pub isolations : AreIsolating s r workers
-  pub journals : AreJournals s r workers
+  pub journals : AreRunJournals s r workers
   pub bits : AreBitsLawful s r
   pub marks : AllByRecursion (IsMarked s workers) r.maps.items
   pub pool : ArePoolAndLookups s r workers

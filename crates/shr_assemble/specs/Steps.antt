@@ -46,12 +46,12 @@ abbrev pub steps_of : List (List Step) → ℕ → List Step
 steps_of workers worker = steps_in (slice_get workers worker)
 
 -- the step of a command, by the numbers of its worker and its own
-abbrev pub step_at : List (List Step) → Serial → Option Step
-step_at workers by = slice_get (steps_of workers by.worker) by.command
+abbrev pub step_of_command : List (List Step) → Serial → Option Step
+step_of_command workers by = slice_get (steps_of workers by.worker) by.command
 
 -- All that a command adds to its worker's state, and nothing else. Whether the worker may uncharge
 -- once more it doesn't say: where a charge is taken back, no clause tells that.
-pub record Brings (s t : WorkerState) (w : Work) : Type 0 where
+pub record BringsWork (s t : WorkerState) (w : Work) : Type 0 where
   pub core : Adds s.core t.core w.core
   pub uses : t.uses ≡ both_uses s.uses (record { ops = w.ops; charges = w.charges; uncharges = w.uncharges; seats = 0 })
   pub noted : t.noted ≡ s.noted ++ w.ops
@@ -68,14 +68,14 @@ pub record Brings (s t : WorkerState) (w : Work) : Type 0 where
   pub carries : t.carries ≡ s.carries ++ w.carries
 
 -- each step begins in the state in which the one before it ended, and the first in this one
-abbrev pub AreChained : WorkerState → List Step → Type 0
-AreChained s [] = Unit {0}
-AreChained s (x ∷ xs) = (x.before ≡ s) × Brings x.before x.after x.work × AreChained x.after xs
+abbrev pub AreStepsChained : WorkerState → List Step → Type 0
+AreStepsChained s [] = Unit {0}
+AreStepsChained s (x ∷ xs) = (x.before ≡ s) × BringsWork x.before x.after x.work × AreStepsChained x.after xs
 
 -- the state after these steps
-abbrev pub state_after : WorkerState → List Step → WorkerState
-state_after s [] = s
-state_after s (x ∷ xs) = state_after x.after xs
+abbrev pub worker_state_after : WorkerState → List Step → WorkerState
+worker_state_after s [] = s
+worker_state_after s (x ∷ xs) = worker_state_after x.after xs
 
 -- A state has all that an earlier one had, in order, and maybe more.
 pub record Grows (s t : WorkerState) : Type 0 where

@@ -9,7 +9,7 @@ use Rattle.shr_pool.specs.declared.items.SweepItem.{SweepItem}
 use Rattle.shr_pool.specs.declared.items.SweepItem.TheVariants.{Walk, End}
 use Rattle.shr_pool.specs.declared.items.SweepJob.{SweepJob}
 use Rattle.shr_pool.specs.declared.view.PassView.{PassView}
-use Rattle.shr_pool.specs.Lines.{job}
+use Rattle.shr_pool.specs.Lines.{sweep_job}
 use Rattle.shr_pool.specs.Worked.{AreEachOnce}
 use Rattle.shr_report.specs.Parts.{parents_of}
 use Rattle.shr_report.specs.Swept.{IsSweptOut}
@@ -17,7 +17,7 @@ use Rattle.shr_assemble.specs.Steps.{Step, steps_of}
 
 -- the group and the node of a walk
 abbrev pub job_walked : WalkRecord → SweepJob
-job_walked w = job w.group w.node
+job_walked w = sweep_job w.group w.node
 
 -- A helper's walks are of the first jobs that its pass popped, in order. Where it was answered that no job was left, they
 -- are of all of them, and behind these it popped its mark.

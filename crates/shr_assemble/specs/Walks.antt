@@ -75,8 +75,8 @@ abbrev pub mapped_in : WalkRecord → List (ℕ × ℕ)
 mapped_in w = map (λ (m : MapSeen). (map_number w.node w.group m.unit, m.bits)) w.maps.items
 
 -- the places whose bits it tells to be cleared
-abbrev pub cleared_in : WalkRecord → List ℕ
-cleared_in w = map place_number (clearings_of w)
+abbrev pub cleared_by_walk : WalkRecord → List ℕ
+cleared_by_walk w = map place_number (clearings_of w)
 
 -- the attempt set the bit of its place again, as it had cleared it and its id was there, or its list had an object
 abbrev pub is_setting : Outcome → Bool
@@ -86,12 +86,12 @@ is_setting (outcome.RestoredRan number first pass) = true
 is_setting o = false
 
 -- the places whose bits it tells to be set again
-abbrev pub set_in : WalkRecord → List ℕ
-set_in w = map place_number (map (λ (a : Attempt). place_in w a.id) (filter (λ (a : Attempt). is_setting a.outcome) w.attempts.items))
+abbrev pub set_by_walk : WalkRecord → List ℕ
+set_by_walk w = map place_number (map (λ (a : Attempt). place_in w a.id) (filter (λ (a : Attempt). is_setting a.outcome) w.attempts.items))
 
 -- a map with its number, without the places that were set
-abbrev pub word_of : Mapped → ℕ × ℕ
-word_of m = (m.map, m.bits)
+abbrev pub map_word : Mapped → ℕ × ℕ
+map_word m = (m.map, m.bits)
 
 -- the rounds of a `put` were over these groups, by its own operations
 pub record DidRounds (s : Script) (x : Step) (group : ℕ) (rounds : List ℕ) : Type 0 where
@@ -135,8 +135,8 @@ pub record DidWalks (s : Script) (x : Step) : Type 0 where
   pub asked : AreWalksFor s x x.command
   -- the counts, the maps and the cleared bits are those of the walks, in order
   pub seen : flat_map counted_in x.work.walks ≡ x.work.core.seen
-  pub maps : flat_map mapped_in x.work.walks ≡ map word_of x.work.core.maps
-  pub cleared : flat_map cleared_in x.work.walks ≡ x.work.core.cleared
+  pub maps : flat_map mapped_in x.work.walks ≡ map map_word x.work.core.maps
+  pub cleared : flat_map cleared_by_walk x.work.walks ≡ x.work.core.cleared
   -- no count is older than what the worker had counted and made at its place
   pub fresh : AreFresh x.before.core x.work.core.seen
   -- each map stands with all bits that the worker had set

@@ -1,17 +1,17 @@
 -- The names that the proofs of this crate cite most, passed on from one place. Declares nothing.
-pub use Rattle.std.proofs.Common.{List, None, Some, [], ap, arith, inl, inr, map, refl, slice_get, subst, sym, ℕ, ◌<◌, ◌∙◌, ◌∷◌, ◌≡◌, ◌≤◌, ◌⊎◌}
+pub use Rattle.std.proofs.Common.{Bool, List, None, Option, Some, [], add_comm, ap, arith, false, get_or, inl, inr, length, map, refl, slice_get, subst, sym, true, ℕ, ◌+◌, ◌-◌, ◌<◌, ◌^◌, ◌∙◌, ◌∷◌, ◌≡◌, ◌≤◌, ◌⊎◌}
 pub use Rattle.std.proofs.lemmas.Bool.{cases_order}
 pub use Rattle.shr_audit_causes_law.proofs.Few.{few_commands, few_workers, is_tree}
 pub use Rattle.shr_base.specs.declared.scripts.Script.{Script}
 pub use Rattle.shr_base.specs.declared.scripts.WorkerScript.{WorkerScript}
-pub use Rattle.shr_draft.specs.Draft.{kept}
-pub use Rattle.shr_draft.specs.Reading.{nothing}
+pub use Rattle.shr_draft.specs.Draft.{kept, with_said}
+pub use Rattle.shr_draft.specs.Reading.{nothing_read}
 pub use Rattle.shr_report.specs.Lawful.{IsLawful}
 pub use Rattle.shr_report.specs.Replies.{AreRepliesLawful}
 pub use Rattle.shr_report.specs.declared.report.Report.{Report}
-pub use Rattle.shr_script.specs.Content.{content_of}
+pub use Rattle.shr_script.specs.Content.{Content, IsSpelling, IsValid, content_of}
 pub use Rattle.shr_script.specs.Script.{IsFault}
-pub use Rattle.shr_audit.specs.Script.{IsScriptOf, IsTightScript, tight_worker}
-pub use Rattle.shr_audit.specs.Verdict.{Holds, HoldsOf, IsFirstBroken, number_of}
+pub use Rattle.shr_audit.specs.Script.{IsScriptOf, IsTightScript, IsTightWorker, tight_script, tight_worker}
+pub use Rattle.shr_audit.specs.Verdict.{AreTextsOf, Holds, HoldsOf, IsFirstBroken, law_number}
 pub use Rattle.shr_audit.specs.declared.verdict.Law.{Law}
-pub use Rattle.shr_audit.specs.declared.verdict.Verdict.TheVariants.{BadReport, BadScript, Lawful}
+pub use Rattle.shr_audit.specs.declared.verdict.Verdict.TheVariants.{BadReport, BadScript, Lawful, Unlawful}

@@ -1,8 +1,7 @@
 -- Bytes are the text of one report whose lists have no room to spare.
-use Rattle.shr_audit.proofs.Common.{◌≡◌, ℕ, List, [], ◌∷◌, sym, subst, ◌∙◌, Report, nothing}
+use Rattle.shr_audit.proofs.Common.{◌≡◌, ℕ, List, [], ◌∷◌, sym, subst, ◌∙◌, Report, nothing_read, with_said}
 use Rattle.shr_model.specs.Pieces.{pieces}
 use Rattle.shr_reader.specs.declared.said.Said.{Said}
-use Rattle.shr_draft.specs.Draft.{with_said}
 use Rattle.shr_draft.specs.Reading.{Says, Reads, IsReportOf}
 use Rattle.shr_draft.proofs.Whole.{reads_of}
 use Rattle.shr_case.proofs.Firsts.{some_is}
@@ -19,4 +18,4 @@ one_reads (line ∷ next ∷ ls) before r s h k =
     one_reads (next ∷ ls) (with_said h.0 before) r s h.1.1 (subst (λ (x : Said). Reads (next ∷ ls) (with_said x before) s) (sym (one_said before.version line h.0 k.0 h.1.0 k.1.0)) k.1.1)
 
 pub one_report : (bytes : List ℕ) (r s : Report) → IsReportOf bytes r → IsReportOf bytes s → r ≡ s
-one_report bytes r s h k = one_reads (pieces 10 bytes) nothing r s (reads_of bytes r h) (reads_of bytes s k)
+one_report bytes r s h k = one_reads (pieces 10 bytes) nothing_read r s (reads_of bytes r h) (reads_of bytes s k)

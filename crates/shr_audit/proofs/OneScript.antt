@@ -1,12 +1,10 @@
 -- Bytes spell one script whose lists have no room to spare.
-use Rattle.shr_audit.proofs.Common.{◌≡◌, ℕ, List, [], ◌∷◌, map, refl, sym, ap, subst, ◌∙◌, Script, WorkerScript, content_of, kept, IsTightScript, IsScriptOf, tight_worker}
+use Rattle.shr_audit.proofs.Common.{◌≡◌, ℕ, List, [], ◌∷◌, map, refl, sym, ap, subst, ◌∙◌, Script, WorkerScript, content_of, kept, IsTightScript, IsScriptOf, tight_worker, Content, IsSpelling, IsTightWorker, tight_script}
 use Rattle.std.specs.List.{AllByRecursion}
 use Rattle.shr_base.specs.Kept.{Kept}
 use Rattle.shr_base.specs.declared.scripts.Command.{Command}
-use Rattle.shr_script.specs.Content.{Content, IsSpelling}
 use Rattle.shr_script.proofs.ContentLaws.{same_content}
 use Rattle.shr_draft.proofs.Lasts.{tight_is}
-use Rattle.shr_audit.specs.Script.{IsTightWorker, tight_script}
 
 -- a worker of these commands, with a list that has no room to spare
 worker_from : List Command → WorkerScript

@@ -1,14 +1,12 @@
 -- No two verdicts hold of the same bytes.
-use Rattle.shr_audit.proofs.Common.{◌≡◌, ◌⊎◌, inl, inr, ℕ, ◌<◌, List, refl, ap, subst, Some, arith, ◌∙◌, slice_get, sym, cases_order, Script, content_of, IsFault, Report, IsLawful, Law, Lawful, BadScript, BadReport, IsScriptOf, number_of, Holds, IsFirstBroken, HoldsOf}
+use Rattle.shr_audit.proofs.Common.{◌≡◌, ◌⊎◌, inl, inr, ℕ, ◌<◌, List, refl, ap, subst, Some, arith, ◌∙◌, slice_get, sym, cases_order, Script, content_of, IsFault, Report, IsLawful, Law, Lawful, BadScript, BadReport, IsScriptOf, law_number, Holds, IsFirstBroken, HoldsOf, Unlawful, AreTextsOf}
 use Rattle.shr_base.specs.declared.ends.PlaceEnd.{PlaceEnd}
 use Rattle.shr_base.specs.declared.places.Place.{Place}
 use Rattle.shr_base.specs.declared.scripts.Code.{Code}
 use Rattle.shr_script.proofs.ReadLaws.{faultless, same_fault}
 use Rattle.shr_audit.specs.declared.verdict.Law.TheVariants as laws
 use Rattle.shr_audit.specs.declared.verdict.Verdict.{Verdict}
-use Rattle.shr_audit.specs.declared.verdict.Verdict.TheVariants.{Unlawful}
 use Rattle.shr_audit_once.specs.Once.{IsPrintedOnce}
-use Rattle.shr_audit.specs.Verdict.{AreOf}
 use Rattle.shr_audit.proofs.Order.{one_number}
 use Rattle.shr_audit.proofs.OneReport.{one_report}
 use Rattle.shr_audit.proofs.OneScript.{one_script}
@@ -34,15 +32,15 @@ each_holds s r h laws.Sweep = h.sweep
 
 -- one law is the first that is broken
 one_broken : (a b : Law) (s : Script) (r : Report) → IsFirstBroken a s r → IsFirstBroken b s r → a ≡ b
-one_broken a b s r h k = by_order (cases_order (number_of a) (number_of b))
+one_broken a b s r h k = by_order (cases_order (law_number a) (law_number b))
   where
-    by_order : (number_of a ≡ number_of b) ⊎ ((number_of a < number_of b) ⊎ (number_of b < number_of a)) → a ≡ b
+    by_order : (law_number a ≡ law_number b) ⊎ ((law_number a < law_number b) ⊎ (law_number b < law_number a)) → a ≡ b
     by_order (inl e) = one_number a b e
     by_order (inr (inl lt)) = absurd (h.broken (k.before a lt))
     by_order (inr (inr lt)) = absurd (k.broken (h.before b lt))
 
 -- what is so of one script and report of these bytes is so of another
-of_same : (script report : List ℕ) (s t : Script) (r q : Report) (P : Script → Report → Type 0) → AreOf script report s r → AreOf script report t q → P s r → P t q
+of_same : (script report : List ℕ) (s t : Script) (r q : Report) (P : Script → Report → Type 0) → AreTextsOf script report s r → AreTextsOf script report t q → P s r → P t q
 of_same script report s t r q P h k p =
     subst (λ (u : Script). P u q) (one_script script s t h.script k.script) (subst (λ (u : Report). P s u) (one_report report r q h.report k.report) p)
 
@@ -53,7 +51,7 @@ pub no_fault : (script : List ℕ) (s : Script) (line : ℕ) (code : Code) → I
 no_fault script s line code h f = faultless script (content_of s) line code h.spelling f
 
 -- a lawful report has no law that is broken
-not_both : (script report : List ℕ) (s t : Script) (r q : Report) (law : Law) → AreOf script report s r → IsLawful s r → AreOf script report t q → IsFirstBroken law t q → ⊥
+not_both : (script report : List ℕ) (s t : Script) (r q : Report) (law : Law) → AreTextsOf script report s r → IsLawful s r → AreTextsOf script report t q → IsFirstBroken law t q → ⊥
 not_both script report s t r q law h lawful k broken = broken.broken (of_same script report s t r q (λ (x : Script) (y : Report). Holds law x y) h k (each_holds s r lawful law))
 
 pub one_verdict : (script report : List ℕ) (v w : Verdict) → HoldsOf script report v → HoldsOf script report w → v ≡ w

@@ -1,6 +1,5 @@
 -- The laws are asked in the order of their numbers.
-use Rattle.shr_audit.proofs.Common.{◌≡◌, ◌⊎◌, inl, inr, ℕ, ◌<◌, ◌≤◌, refl, sym, ap, subst, ◌∙◌, arith, cases_order, Script, Report, IsLawful, Law, number_of, Holds, IsFirstBroken}
-use Rattle.std.proofs.Common.{◌+◌, ◌-◌, Bool, true, false, get_or, add_comm}
+use Rattle.shr_audit.proofs.Common.{◌≡◌, ◌⊎◌, inl, inr, ℕ, ◌<◌, ◌≤◌, refl, sym, ap, subst, ◌∙◌, arith, cases_order, Script, Report, IsLawful, Law, law_number, Holds, IsFirstBroken, ◌+◌, ◌-◌, Bool, true, false, get_or, add_comm}
 use Rattle.std.specs.Bool.{Decides}
 use Rattle.std.proofs.lemmas.List.{get_or-map}
 use Rattle.std.proofs.lemmas.List.FromFn.{get_or-range_with_len}
@@ -14,7 +13,7 @@ abbrev pub law_at : ℕ → Law
 law_at k = get_or LAWS k laws.Replies
 
 -- each law is at the place before its number
-again : (law : Law) → law_at (number_of law - 1) ≡ law
+again : (law : Law) → law_at (law_number law - 1) ≡ law
 again laws.Replies = refl
 again laws.Journals = refl
 again laws.Bag = refl
@@ -29,11 +28,11 @@ again laws.Isolations = refl
 again laws.Sweep = refl
 
 -- no two laws have one number
-pub one_number : (a b : Law) → number_of a ≡ number_of b → a ≡ b
+pub one_number : (a b : Law) → law_number a ≡ law_number b → a ≡ b
 one_number a b e = sym (again a) ∙ ap (λ n. law_at (n - 1)) e ∙ again b
 
 -- the numbers begin with 1
-pub no_less : (law : Law) → number_of law < 1 → ⊥
+pub no_less : (law : Law) → law_number law < 1 → ⊥
 no_less laws.Replies h = omega (arith, h)
 no_less laws.Journals h = omega (arith, h)
 no_less laws.Bag h = omega (arith, h)
@@ -48,9 +47,9 @@ no_less laws.Isolations h = omega (arith, h)
 no_less laws.Sweep h = omega (arith, h)
 
 -- and rise by 1
-number_at : (k : ℕ) → k < 12 → number_of (law_at k) ≡ k + 1
+number_at : (k : ℕ) → k < 12 → law_number (law_at k) ≡ k + 1
 number_at k lt =
-    sym (get_or-map number_of LAWS k laws.Replies 1 lt) ∙ get_or-range_with_len 1 12 k 1 lt ∙ add_comm 1 k
+    sym (get_or-map law_number LAWS k laws.Replies 1 lt) ∙ get_or-range_with_len 1 12 k 1 lt ∙ add_comm 1 k
 
 -- what is decided of the law that was found is decided of the one that was asked
 pub decided : (law found : Law) (s : Script) (r : Report) (b : Result Bool Memory) → law ≡ found → IfOk b (λ b. Decides b (Holds found s r)) → IfOk b (λ b. Decides b (Holds law s r))
@@ -58,7 +57,7 @@ decided law found s r b e h = subst (λ (l : Law). IfOk b (λ b. Decides b (Hold
 
 -- each law that was asked holds
 abbrev pub AreHeldTo : ℕ → Script → Report → Type 0
-AreHeldTo n s r = (law : Law) → number_of law ≤ n → Holds law s r
+AreHeldTo n s r = (law : Law) → law_number law ≤ n → Holds law s r
 
 -- none was asked
 pub held_none : (s : Script) (r : Report) → AreHeldTo 0 s r
@@ -66,10 +65,10 @@ held_none s r law le = absurd (no_less law (omega (arith, le)))
 
 -- one more holds
 pub held_more : (k : ℕ) (s : Script) (r : Report) → AreHeldTo k s r → Holds (law_at k) s r → AreHeldTo (k + 1) s r
-held_more k s r h holds law le = by_order (cases_order (number_of law) (k + 1))
+held_more k s r h holds law le = by_order (cases_order (law_number law) (k + 1))
   where
-    by_order : (number_of law ≡ k + 1) ⊎ ((number_of law < k + 1) ⊎ (k + 1 < number_of law)) → Holds law s r
-    by_order (inl e) = subst (λ (l : Law). Holds l s r) (let same : k ≡ number_of law - 1 = omega (arith, e) in ap law_at same ∙ again law) holds
+    by_order : (law_number law ≡ k + 1) ⊎ ((law_number law < k + 1) ⊎ (k + 1 < law_number law)) → Holds law s r
+    by_order (inl e) = subst (λ (l : Law). Holds l s r) (let same : k ≡ law_number law - 1 = omega (arith, e) in ap law_at same ∙ again law) holds
     by_order (inr (inl below)) = h law (omega (arith, below))
     by_order (inr (inr above)) = absurd (omega (arith, le, above))
 

@@ -1,8 +1,6 @@
 -- What the laws' functions ask of a script and a report that were read.
-use Rattle.shr_audit.proofs.Common.{◌≡◌, ℕ, ◌<◌, ◌≤◌, [], map, Some, None, refl, ◌∙◌, arith, slice_get, Script, WorkerScript, content_of, few_commands, few_workers, is_tree}
-use Rattle.std.proofs.Common.{◌^◌, length, Option}
+use Rattle.shr_audit.proofs.Common.{◌≡◌, ℕ, ◌<◌, ◌≤◌, [], map, Some, None, refl, ◌∙◌, arith, slice_get, Script, WorkerScript, content_of, few_commands, few_workers, is_tree, ◌^◌, length, Option, IsValid}
 use Rattle.std.proofs.lemmas.List.{length-map}
-use Rattle.shr_script.specs.Content.{IsValid}
 use Rattle.shr_script.proofs.BoundsLaws.{within_of_valid}
 use Rattle.shr_report.specs.Parts.{parents_of, commands_of, commands_in}
 

@@ -1,8 +1,8 @@
 -- What a verdict asks, by values.
-use Rattle.shr_audit.proofs.Common.{◌≡◌, [], None, refl, arith, Script, IsFault, Report, AreRepliesLawful, kept, nothing, Lawful, BadScript, BadReport, IsTightScript, IsFirstBroken, HoldsOf}
+use Rattle.shr_audit.proofs.Common.{◌≡◌, [], None, refl, arith, Script, IsFault, Report, AreRepliesLawful, kept, nothing_read, Lawful, BadScript, BadReport, IsTightScript, IsFirstBroken, HoldsOf}
 use Rattle.shr_model.specs.Pieces.{cut, pieces, joined}
 use Rattle.shr_base.specs.declared.scripts.Code.TheVariants.{NoEnd}
-use Rattle.shr_script.specs.Script.{spell_lines, state_after, verdict, AreLines}
+use Rattle.shr_script.specs.Script.{spell_lines, state_after_lines, verdict, AreLines}
 use Rattle.shr_audit.specs.declared.verdict.Law.TheVariants as laws
 use Rattle.shr_audit.specs.declared.given.Given.TheVariants.{Both, Bad}
 use Rattle.shr_audit.specs.Given.{IsGiven}
@@ -30,19 +30,19 @@ roomy : IsTightScript (record small { groups = record { items = []; spare = 1 } 
 roomy h = absurd (let e : 1 ≡ 0 = h.groups in omega (arith, e))
 
 -- a report of another version breaks the law on replies, the first
-other_version : AreRepliesLawful small nothing → ⊥
+other_version : AreRepliesLawful small nothing_read → ⊥
 other_version h = absurd (let e : 0 ≡ 1 = h.version in omega (arith, e))
 
-replies_first : IsFirstBroken laws.Replies small nothing
+replies_first : IsFirstBroken laws.Replies small nothing_read
 replies_first = record { before = λ other lt. absurd (no_less other lt); broken = λ h. other_version h.0 }
 
 -- whatever else it breaks, that isn't the first
-journals_not_first : IsFirstBroken laws.Journals small nothing → ⊥
+journals_not_first : IsFirstBroken laws.Journals small nothing_read → ⊥
 journals_not_first h = other_version (h.before laws.Replies (omega arith)).0
 
 -- no bytes are a script that ends at once
 none_end : IsFault [] 1 NoEnd
-unfolding pieces cut joined spell_lines state_after verdict AreLines
+unfolding pieces cut joined spell_lines state_after_lines verdict AreLines
 none_end = record { good = []; part = []; others = []; are_good = tt; bytes_are = refl; parted = refl; line_is = refl; bad = refl }
 
 none_bad : HoldsOf [] [] (BadScript 1 NoEnd)

@@ -24,19 +24,19 @@ use Rattle.shr_audit.specs.declared.verdict.Verdict.TheVariants.{Lawful, BadScri
 use Rattle.shr_audit.specs.Script.{IsScriptOf}
 
 -- the number of a law: its place among the fields of `IsLawful`, from 1
-abbrev pub number_of : Law → ℕ
-number_of laws.Replies = 1
-number_of laws.Journals = 2
-number_of laws.Bag = 3
-number_of laws.Walks = 4
-number_of laws.Lookups = 5
-number_of laws.Charges = 6
-number_of laws.Deferred = 7
-number_of laws.Bits = 8
-number_of laws.Causes = 9
-number_of laws.Pools = 10
-number_of laws.Isolations = 11
-number_of laws.Sweep = 12
+abbrev pub law_number : Law → ℕ
+law_number laws.Replies = 1
+law_number laws.Journals = 2
+law_number laws.Bag = 3
+law_number laws.Walks = 4
+law_number laws.Lookups = 5
+law_number laws.Charges = 6
+law_number laws.Deferred = 7
+law_number laws.Bits = 8
+law_number laws.Causes = 9
+law_number laws.Pools = 10
+law_number laws.Isolations = 11
+law_number laws.Sweep = 12
 
 -- A law holds of a script and a report. That on replies doesn't where an answer cites a place that is printed twice: which of the
 -- two lists it means isn't said. In a lawful report no place is.
@@ -56,21 +56,21 @@ Holds laws.Sweep s r = IsSweepLawful s r
 
 -- a law is the first that doesn't hold: it doesn't, and each before it does
 pub record IsFirstBroken (law : Law) (s : Script) (r : Report) : Type 0 where
-  pub before : (other : Law) → number_of other < number_of law → Holds other s r
+  pub before : (other : Law) → law_number other < law_number law → Holds other s r
   pub broken : Holds law s r → ⊥
 
 -- bytes spell this script, and others are the text of this report
-pub record AreOf (bytes others : List ℕ) (s : Script) (r : Report) : Type 0 where
+pub record AreTextsOf (bytes others : List ℕ) (s : Script) (r : Report) : Type 0 where
   pub script : IsScriptOf bytes s
   pub report : IsReportOf others r
 
 -- When a verdict holds of bytes that were given as a script and as a report. The script is looked at first: where it is bad, nothing
 -- is said of the report.
 abbrev pub HoldsOf : List ℕ → List ℕ → Verdict → Type 0
-HoldsOf script report Lawful = (s : Script) × ((r : Report) × (AreOf script report s r × IsLawful s r))
+HoldsOf script report Lawful = (s : Script) × ((r : Report) × (AreTextsOf script report s r × IsLawful s r))
 HoldsOf script report (BadScript line code) = IsFault script line code
 HoldsOf script report BadReport = ((s : Script) × IsScriptOf script s) × ((r : Report) → IsReportOf report r → ⊥)
-HoldsOf script report (Unlawful clause) = (s : Script) × ((r : Report) × (AreOf script report s r × IsFirstBroken clause s r))
+HoldsOf script report (Unlawful clause) = (s : Script) × ((r : Report) × (AreTextsOf script report s r × IsFirstBroken clause s r))
 
 -- no two verdicts hold of the same bytes
 abbrev pub IsOneVerdict : Type 0

@@ -1,7 +1,7 @@
 //! What an auditor says.
 
 ghost use Rattle.std.specs.Prelude.{◌≡◌};
-ghost use Rattle.shr_audit.specs.Verdict.{number_of};
+ghost use Rattle.shr_audit.specs.Verdict.{law_number};
 
 use shr_base::scripts::Code;
 
@@ -54,7 +54,7 @@ pub const LAWS: [Law; 12] = [
 impl Law {
     /// The number of the law in a verdict, from 1 to 12. Our own.
     pub fn number(self) -> u8
-        ensures { result ≡ number_of self }
+        ensures { result ≡ law_number self }
     {
         match self {
             Law::Replies => 1,

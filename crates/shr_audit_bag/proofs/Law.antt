@@ -1,21 +1,16 @@
 -- The bag of a report, by the serials that were added, were freed and are left.
-use Rattle.shr_audit_bag.proofs.Common.{◌≡◌, ℕ, ◌+◌, ◌-◌, List, [], ◌∷◌, ◌++◌, length, map, sym, ap, ◌∙◌, arith, flat_map, Place, Serial, Entry, PlaceEnd, serials_of, journals_of, freed_serial, left_serial}
-use Rattle.std.proofs.Common.{Bool, true, false, refl, subst, length-append}
-use Rattle.std.specs.Prelude.{IsPermutation}
+use Rattle.shr_audit_bag.proofs.Common.{◌≡◌, ℕ, ◌+◌, ◌-◌, List, [], ◌∷◌, ◌++◌, length, map, sym, ap, ◌∙◌, arith, flat_map, Place, Serial, Entry, PlaceEnd, serials_of, journals_of, freed_serial, left_serial, Bool, true, false, refl, subst, length-append, IsPermutation, added_in, freed_in, listed_in, AreDistinct, IsBag, parents_of, places_of, IsGone}
 use Rattle.std.specs.Bool.{Decides}
 use Rattle.std.proofs.lemmas.List.{map-append}
 use Rattle.std.proofs.lemmas.List.Folds.{flat_map-map}
 use Rattle.shr_base.specs.declared.objects.Object.{Object}
 use Rattle.shr_base.specs.declared.scripts.Script.{Script}
-use Rattle.shr_model.specs.Bag.{added_in, freed_in, listed_in, AreDistinct, IsBag}
 use Rattle.shr_model.specs.Items.{first_moved, later_moved, step, freed_by, freed_from}
 use Rattle.shr_replay.specs.Journals.{freed_tags}
 use Rattle.shr_replay.specs.Tags.{tag_of, freed_tag}
 use Rattle.shr_report.specs.declared.report.Report.{Report}
 use Rattle.shr_report.specs.Lawful.{IsBagLawful}
-use Rattle.shr_report.specs.Parts.{parents_of, places_of}
 use Rattle.shr_audit_bag.specs.declared.gone.Gone.{Gone}
-use Rattle.shr_audit_bag.specs.Gone.{IsGone}
 
 clash : (b : Bool) → b ≡ true → b ≡ false → ⊥
 clash b e f = cc

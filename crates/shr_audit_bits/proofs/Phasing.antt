@@ -1,7 +1,5 @@
 -- The phases of ids, entry by entry.
-use Rattle.shr_audit_bits.proofs.Common.{◌≡◌, ◌≢◌, ℕ, ◌+◌, ◌%◌, ◌<◌, List, [], ◌∷◌, ◌++◌, length, get_or, refl, sym, ap, subst, ◌∙◌, arith, dite, ℕ_discrete, eq-eqb, ne_eqb, PoolEntry, ArePhases, zero_more}
-use Rattle.std.proofs.Common.{set}
-use Rattle.std.proofs.lemmas.List.{get_or-set_same, get_or-set_other, length-set}
+use Rattle.shr_audit_bits.proofs.Common.{◌≡◌, ◌≢◌, ℕ, ◌+◌, ◌%◌, ◌<◌, List, [], ◌∷◌, ◌++◌, length, get_or, refl, sym, ap, subst, ◌∙◌, arith, dite, ℕ_discrete, eq-eqb, ne_eqb, PoolEntry, ArePhases, zero_more, set, get_or-set_same, get_or-set_other, length-set}
 use Rattle.shr_model.specs.Pool.{id_of, phase_of}
 use Rattle.shr_model.proofs.PoolLaws.{one_of, phase_of_push}
 

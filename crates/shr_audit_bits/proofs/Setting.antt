@@ -1,6 +1,5 @@
 -- The bit of a place, by what is told of it.
-use Rattle.shr_audit_bits.proofs.Common.{◌≡◌, ◌≢◌, ℕ, ◌%◌, Bool, true, false, List, [], ◌∷◌, length, Some, refl, sym, ap, subst, ◌∙◌, inl, inr, arith, slice_get, eqb-true, eq-eqb, Place, PlaceEnd, Report, is_set_at, IsSetIfLive}
-use Rattle.std.proofs.Common.{map}
+use Rattle.shr_audit_bits.proofs.Common.{◌≡◌, ◌≢◌, ℕ, ◌%◌, Bool, true, false, List, [], ◌∷◌, length, Some, refl, sym, ap, subst, ◌∙◌, inl, inr, arith, slice_get, eqb-true, eq-eqb, Place, PlaceEnd, Report, is_set_at, IsSetIfLive, map, AreBitsLawful}
 use Rattle.std.specs.Bool.{Decides}
 use Rattle.shr_base.specs.declared.objects.Object.{Object}
 use Rattle.shr_base.specs.declared.journals.Entry.{Entry}
@@ -9,7 +8,6 @@ use Rattle.shr_model.specs.Families.{items_of, lists_moved_at}
 use Rattle.shr_model.specs.Items.{items_from}
 use Rattle.shr_model.specs.Pool.{phase_of}
 use Rattle.shr_replay.specs.Tags.{tag_of}
-use Rattle.shr_report.specs.BitsLawful.{AreBitsLawful}
 use Rattle.shr_report.specs.Parts.{journal_of, journals_of, parents_of}
 use Rattle.shr_case.proofs.Eachs.{decides_iff}
 use Rattle.shr_case.proofs.Firsts.{found_or_none}

@@ -1,15 +1,10 @@
 -- Bit words by their numbers.
-use Rattle.shr_audit_bits.proofs.Common.{◌≡◌, ◌≢◌, ℕ, ◌<◌, Bool, true, false, List, [], ◌∷◌, ◌++◌, Some, refl, sym, ap, ◌∙◌, inl, inr, arith, dite, ℕ_discrete, eqb-true, eq-eqb, ne_eqb, MapEnd, Place, Report, is_set_at, AreWords}
-use Rattle.std.proofs.Common.{◌^◌, cond, Option, None}
-use Rattle.std.specs.Prelude.{◌&&◌, ◌==◌, nat_eq, find, is_some, option_map}
+use Rattle.shr_audit_bits.proofs.Common.{◌≡◌, ◌≢◌, ℕ, ◌<◌, Bool, true, false, List, [], ◌∷◌, ◌++◌, Some, refl, sym, ap, ◌∙◌, inl, inr, arith, dite, ℕ_discrete, eqb-true, eq-eqb, ne_eqb, MapEnd, Place, Report, is_set_at, AreWords, ◌^◌, cond, Option, None, ◌&&◌, ◌==◌, nat_eq, find, is_some, option_map, cases_Bool, and_parts, and_from, has_bit, shows_bit, Words, map_key, word_at, word_key}
 use Rattle.std.specs.HashMap.{get}
 use Rattle.std.specs.List.{AllByRecursion}
-use Rattle.std.proofs.lemmas.Bool.{cases_Bool, and_parts, and_from}
 use Rattle.shr_model.specs.Bits.{is_set}
 use Rattle.shr_model.specs.Places.{bit_of, unit_of}
-use Rattle.shr_report.specs.BitsLawful.{has_bit, shows_bit}
 use Rattle.shr_report.specs.Numbers.{HasNumbers, IsMapNumbered}
-use Rattle.shr_audit_bits.specs.Words.{Words, map_key, word_at, word_key}
 use Rattle.shr_model.proofs.Booleans.{same_test}
 
 clash : (b : Bool) → b ≡ true → b ≡ false → ⊥

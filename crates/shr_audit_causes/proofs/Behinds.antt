@@ -1,7 +1,5 @@
 -- The entry of an id before each entry, one entry after another.
-use Rattle.shr_audit_causes.proofs.Common.{◌≡◌, inl, inr, ℕ, zero, suc, ◌+◌, ◌-◌, ◌<◌, List, [], ◌∷◌, ◌++◌, length, length-append, get_or, refl, sym, ap, subst, ◌∙◌, arith, option_map, cases_lt, slice_get-get_or, PoolEntry, id_of, AreBehind, HasBehinds, IsBehindOf, IsOf}
-use Rattle.std.proofs.Common.{length-set, get_or-set_same, get_or-set_other, set, replicate}
-use Rattle.std.proofs.lemmas.List.{get_or-replicate, length-replicate, get_or_append_left}
+use Rattle.shr_audit_causes.proofs.Common.{◌≡◌, inl, inr, ℕ, zero, suc, ◌+◌, ◌-◌, ◌<◌, List, [], ◌∷◌, ◌++◌, length, length-append, get_or, refl, sym, ap, subst, ◌∙◌, arith, option_map, cases_lt, slice_get-get_or, PoolEntry, id_of, AreBehind, HasBehinds, IsBehindOf, IsEntryOfId, length-set, get_or-set_same, get_or-set_other, set, replicate, get_or-replicate, length-replicate, get_or_append_left}
 use Rattle.std.proofs.Math.Seq.{get_or-append_seam}
 use mathlib.Core.Logic.{dite}
 use native.Mathlib.Decide.{ℕ_discrete}
@@ -36,13 +34,13 @@ module _ (pool : List PoolEntry) (n : ℕ) (d : PoolEntry) (lasts behinds : List
   abbrev own : ℕ
   own = id_of (get_or pool n d)
 
-  is_own : IsOf pool own n
+  is_own : IsEntryOfId pool own n
   is_own = ap (option_map id_of) (slice_get-get_or pool n d there)
 
   here : IsBehindOf pool own (n + 1) (n + 1)
   here = record {
     low = omega arith;
-    of = inr (let e : n ≡ n + 1 - 1 = omega arith in subst (λ (k : ℕ). IsOf pool own k) e is_own);
+    of = inr (let e : n ≡ n + 1 - 1 = omega arith in subst (λ (k : ℕ). IsEntryOfId pool own k) e is_own);
     quiet = λ m le lt. absurd (omega (arith, le, lt));
   }
 

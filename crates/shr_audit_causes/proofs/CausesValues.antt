@@ -1,6 +1,5 @@
 -- What is tested of the law on causes, at known values.
-use Rattle.shr_audit_causes.proofs.Common.{◌≡◌, ℕ, ◌<◌, ◌≤◌, true, false, List, [], ◌∷◌, Some, None, refl, subst, inl, inr, arith, ◌-◌, Serial, PoolEntry, Registered, Unregistered, Idle, Begin, Done, Cited, Never, Once, Often, IsBehindOf, IsIdledBy, IsSecondOf, CitesNow, IsEarlier, IsFreedAt, IsOf, Tells, cited_in, is_registered_by, is_unregistered_by, noted_at, IsBeginCited, IsDoneOnce, is_cited, is_once, IsAttemptCaused, IsDrainedRightly}
-use Rattle.std.specs.Prelude.{◌^◌}
+use Rattle.shr_audit_causes.proofs.Common.{◌≡◌, ℕ, ◌<◌, ◌≤◌, true, false, List, [], ◌∷◌, Some, None, refl, subst, inl, inr, arith, ◌-◌, Serial, PoolEntry, Registered, Unregistered, Idle, Begin, Done, Cited, Never, Once, Often, IsBehindOf, IsIdledBy, IsSecondOf, CitesNow, IsEarlier, IsFreedAt, IsEntryOfId, TellsCited, cited_in, is_registered_by, is_unregistered_by, noted_at, IsBeginCited, IsDoneNotedOnce, is_cited, is_once, IsAttemptCaused, IsDrainedRightly, ◌^◌}
 use Rattle.shr_base.specs.declared.journals.Entry.TheVariants.{Drained}
 use Rattle.shr_base.specs.declared.replies.Reply.TheVariants as reply
 use Rattle.shr_base.specs.declared.scripts.Command.TheVariants as command
@@ -34,10 +33,10 @@ begun_by_root h = h.1
 abbrev entries : List PoolEntry
 entries = Registered 1 0 0 ∷ Unregistered 1 0 5 ∷ Registered 2 3 0 ∷ Idle 0 ∷ []
 
-next_here : IsOf entries 0 1
+next_here : IsEntryOfId entries 0 1
 next_here = refl
 
-of_another : IsOf entries 0 2 → ⊥
+of_another : IsEntryOfId entries 0 2 → ⊥
 of_another h = absurd cc
 
 second : IsSecondOf entries 0 1 3
@@ -56,7 +55,7 @@ freed_here = (omega arith, omega arith, refl, λ n le lt of. absurd (omega (arit
 freed_of_another : IsFreedAt entries 1 (reply.Freed 3 1 0 5 2) → ⊥
 freed_of_another h = of_another_here h.2
   where
-    of_another_here : IsOf entries 3 1 → ⊥
+    of_another_here : IsEntryOfId entries 3 1 → ⊥
     of_another_here e = absurd cc
 
 -- behind entry 1 there is none of id 0 before entry 3, and behind entry 0 there is
@@ -64,7 +63,7 @@ behind_one : IsBehindOf entries 0 3 2
 behind_one = record {
   low = omega arith;
   of = inr refl;
-  quiet = λ m le lt of. (let same : m ≡ 2 = omega (arith, le, lt) in of_another (subst (λ (k : ℕ). IsOf entries 0 k) same of));
+  quiet = λ m le lt of. (let same : m ≡ 2 = omega (arith, le, lt) in of_another (subst (λ (k : ℕ). IsEntryOfId entries 0 k) same of));
 }
 
 behind_none : IsBehindOf entries 0 3 1 → ⊥
@@ -97,10 +96,10 @@ later_command : IsEarlier 1 4 (by 1 4) → ⊥
 later_command (inl below) = let lt : 1 < 1 = below in absurd (omega arith)
 later_command (inr below) = let lt : 4 < 4 = below.1 in absurd (omega arith)
 
-tells_one : Tells (λ x. x ≡ by 0 3) (Once 0 3)
+tells_one : TellsCited (λ x. x ≡ by 0 3) (Once 0 3)
 tells_one = (refl, λ x same. same)
 
-tells_none : Tells (λ x. x ≡ by 0 3) Never → ⊥
+tells_none : TellsCited (λ x. x ≡ by 0 3) Never → ⊥
 tells_none h = h (by 0 3) refl
 
 once : is_once (Once 0 3) ≡ true
@@ -112,10 +111,10 @@ often_is_not_once = refl
 often_is_cited : is_cited (Often 0 3 false) ≡ true
 often_is_cited = refl
 
-done_once : IsDoneOnce table 1 (Done 2)
+done_once : IsDoneNotedOnce table 1 (Done 2)
 done_once = refl
 
-done_never : IsDoneOnce table 0 (Done 2) → ⊥
+done_never : IsDoneNotedOnce table 0 (Done 2) → ⊥
 done_never h = absurd cc
 
 begin_uncited : IsBeginCited table (Begin 0) → ⊥

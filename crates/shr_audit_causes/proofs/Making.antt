@@ -1,16 +1,12 @@
 -- The entries of the journal of registrations against the tables of the answers that made them.
-use Rattle.shr_audit_causes.proofs.Common.{◌≡◌, ℕ, ◌+◌, ◌-◌, ◌<◌, ◌≤◌, Bool, true, false, cond, List, [], ◌∷◌, length, get_or, take, Option, Some, None, refl, sym, ap, subst, ◌∙◌, arith, eq-eqb, slice_get, option_map, Decides, IsSomeAnd, nat_tests, slice_get_within, Serial, Reply, PoolEntry, Registered, Unregistered, Idle, Script, id_of, phase_of, Report, reply_at, IsBehindOf, IsIdledBy, IsSecondOf, Cites, IsFreedAt, IsNextOf, IsOf, cited_in, is_registered_by, is_unregistered_by, IsEntryCited}
-use Rattle.std.specs.Prelude.{filter_map, count_by}
+use Rattle.shr_audit_causes.proofs.Common.{◌≡◌, ℕ, ◌+◌, ◌-◌, ◌<◌, ◌≤◌, Bool, true, false, cond, List, [], ◌∷◌, length, get_or, take, Option, Some, None, refl, sym, ap, subst, ◌∙◌, arith, eq-eqb, slice_get, option_map, Decides, IsSomeAnd, nat_tests, slice_get_within, Serial, Reply, PoolEntry, Registered, Unregistered, Idle, Script, id_of, phase_of, Report, reply_at, IsBehindOf, IsIdledBy, IsSecondOf, AnswerCites, IsFreedAt, IsNextOf, IsEntryOfId, cited_in, is_registered_by, is_unregistered_by, IsEntryCited, filter_map, count_by, get_or_from_slice_get, decls_on, AreMade, AreRegistrationsCaused}
 use Rattle.std.specs.List.{cons_option, enumerate_from}
 use Rattle.std.proofs.lemmas.List.Sums.{sum_by-cons}
-use Rattle.std.proofs.lemmas.Option.{get_or_from_slice_get}
 use Rattle.shr_base.specs.declared.replies.Reply.TheVariants as reply
 use Rattle.shr_base.specs.declared.scripts.CacheDecl.{CacheDecl}
 use Rattle.shr_report.specs.Causes.{IsMadeBy}
-use Rattle.shr_report.specs.Parts.{decls_on}
 use Rattle.shr_audit_causes.specs.declared.cites.What.TheVariants as what
 use Rattle.shr_audit_causes.specs.declared.registrations.Made.{Made}
-use Rattle.shr_audit_causes.specs.Registrations.{AreMade, AreRegistrationsCaused}
 use Rattle.shr_audit_causes.proofs.Phases.{before_of, first_of_second, second_of_first}
 use Rattle.shr_audit_causes.proofs.Treeing.{of_some, some_of}
 use Rattle.shr_model.proofs.Lists.{some_same}
@@ -77,7 +73,7 @@ some_apart r A Q h = there (reply_at r h.0) h.1
     there (Some x) a = a.0
 
 module _ (r : Report) (id n behind : ℕ) (at : slice_get r.pool.items n ≡ Some (Idle id)) (b : IsBehindOf r.pool.items id n behind) where
-  own : IsOf r.pool.items id n
+  own : IsEntryOfId r.pool.items id n
   own = ap (option_map id_of) at
 
   freed_made : 0 < behind → (x : Reply) → IsFreedAt r.pool.items (behind - 1) x → IsMadeBy r (Idle id) n x
@@ -106,21 +102,21 @@ module _ (s : Script) (r : Report) (made : Made) (noted : AreMade s r made) wher
 
   made_of : (n : ℕ) (e : PoolEntry) → slice_get r.pool.items n ≡ Some e → IsEntryCited made n e → (by : Serial) × IsSomeAnd (reply_at r by) (IsMadeBy r e n)
   made_of n (Registered decl id from) at h = some_weaker r (λ x. is_registered_by n x ≡ true) (IsMadeBy r (Registered decl id from) n) (registered_made r decl id from n)
-      (some_of (λ x. Cites s r what.Registered n x) (cited_in made.registered.items n) (noted.registered.each n (slice_get_within r.pool.items n (Registered decl id from) at)) h)
+      (some_of (λ x. AnswerCites s r what.Registered n x) (cited_in made.registered.items n) (noted.registered.each n (slice_get_within r.pool.items n (Registered decl id from) at)) h)
   made_of n (Unregistered decl id to) at h = some_weaker r (λ x. is_unregistered_by n x ≡ true) (IsMadeBy r (Unregistered decl id to) n) (unregistered_made r decl id to n)
-      (some_of (λ x. Cites s r what.Unregistered n x) (cited_in made.unregistered.items n) (noted.unregistered.each n (slice_get_within r.pool.items n (Unregistered decl id to) at)) h)
+      (some_of (λ x. AnswerCites s r what.Unregistered n x) (cited_in made.unregistered.items n) (noted.unregistered.each n (slice_get_within r.pool.items n (Unregistered decl id to) at)) h)
   made_of n (Idle id) at h =
       let behind = get_or made.behinds.items n 0 in
       some_weaker r (IsFreedAt r.pool.items (behind - 1)) (IsMadeBy r (Idle id) n) (freed_made r id n behind at (behind_of id n at) h.some)
-      (some_of (λ x. Cites s r what.Freed (behind - 1) x) (cited_in made.freed.items (behind - 1)) (noted.freed.each (behind - 1) (before_there id n at h.some)) h.cited)
+      (some_of (λ x. AnswerCites s r what.Freed (behind - 1) x) (cited_in made.freed.items (behind - 1)) (noted.freed.each (behind - 1) (before_there id n at h.some)) h.cited)
 
   of_made : (n : ℕ) (e : PoolEntry) → slice_get r.pool.items n ≡ Some e → (by : Serial) × IsSomeAnd (reply_at r by) (IsMadeBy r e n) → IsEntryCited made n e
   of_made n (Registered decl id from) at h =
       let o = some_weaker r (IsMadeBy r (Registered decl id from) n) (λ x. is_registered_by n x ≡ true) (made_registered r decl id from n) h in
-      of_some (λ x. Cites s r what.Registered n x) (cited_in made.registered.items n) (noted.registered.each n (slice_get_within r.pool.items n (Registered decl id from) at)) o.0 o.1
+      of_some (λ x. AnswerCites s r what.Registered n x) (cited_in made.registered.items n) (noted.registered.each n (slice_get_within r.pool.items n (Registered decl id from) at)) o.0 o.1
   of_made n (Unregistered decl id to) at h =
       let o = some_weaker r (IsMadeBy r (Unregistered decl id to) n) (λ x. is_unregistered_by n x ≡ true) (made_unregistered r decl id to n) h in
-      of_some (λ x. Cites s r what.Unregistered n x) (cited_in made.unregistered.items n) (noted.unregistered.each n (slice_get_within r.pool.items n (Unregistered decl id to) at)) o.0 o.1
+      of_some (λ x. AnswerCites s r what.Unregistered n x) (cited_in made.unregistered.items n) (noted.unregistered.each n (slice_get_within r.pool.items n (Unregistered decl id to) at)) o.0 o.1
   of_made n (Idle id) at h =
       let behind = get_or made.behinds.items n 0 in
       let both = some_weaker r (IsMadeBy r (Idle id) n) (λ x. (0 < behind) × IsFreedAt r.pool.items (behind - 1) x) (made_freed r id n behind at (behind_of id n at)) h in
@@ -128,7 +124,7 @@ module _ (s : Script) (r : Report) (made : Made) (noted : AreMade s r made) wher
       let o = some_weaker r (λ x. (0 < behind) × IsFreedAt r.pool.items (behind - 1) x) (IsFreedAt r.pool.items (behind - 1)) (λ x p. p.1) both in
       record {
         some = some;
-        cited = of_some (λ x. Cites s r what.Freed (behind - 1) x) (cited_in made.freed.items (behind - 1)) (noted.freed.each (behind - 1) (before_there id n at some)) o.0 o.1;
+        cited = of_some (λ x. AnswerCites s r what.Freed (behind - 1) x) (cited_in made.freed.items (behind - 1)) (noted.freed.each (behind - 1) (before_there id n at some)) o.0 o.1;
       }
 
   pub made_decided : (flag : Bool) → Decides flag ((n : ℕ) (e : PoolEntry) → length (decls_on s) ≤ n → slice_get r.pool.items n ≡ Some e → IsEntryCited made n e) → Decides flag (AreRegistrationsCaused s r)

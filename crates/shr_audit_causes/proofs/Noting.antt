@@ -1,12 +1,8 @@
 -- Answers noted one after another.
-use Rattle.shr_audit_causes.proofs.Common.{◌≡◌, ℕ, zero, suc, ◌++◌, [], ◌∷◌, ◌+◌, ◌<◌, ◌≤◌, Bool, true, false, List, length, Option, Some, None, refl, sym, ap, subst, ◌∙◌, inl, inr, arith, ◌↔◌, slice_get, option_map, IsSomeAnd, nat_tests, slice_get_within, Serial, Reply, Script, WorkerPart, Report, command_at, reply_at, serial_of, Cited, Never, Once, Often, AreCited, AreCitedBefore, Cites, CitesNow, IsEarlier, NotesAnswer, Tells, cited_in, noted_at}
-use Rattle.std.proofs.Common.{◌⊎◌}
-use Rattle.std.specs.Prelude.{◌==◌, not, ◌||◌}
+use Rattle.shr_audit_causes.proofs.Common.{◌≡◌, ℕ, zero, suc, ◌++◌, [], ◌∷◌, ◌+◌, ◌<◌, ◌≤◌, Bool, true, false, List, length, Option, Some, None, refl, sym, ap, subst, ◌∙◌, inl, inr, arith, ◌↔◌, slice_get, option_map, IsSomeAnd, nat_tests, slice_get_within, Serial, Reply, Script, WorkerPart, Report, command_at, reply_at, serial_of, Cited, Never, Once, Often, AreCited, AreCitedBefore, AnswerCites, CitesNow, IsEarlier, NotesAnswer, TellsCited, cited_in, noted_at, ◌⊎◌, ◌==◌, not, ◌||◌, answer_at, answers_in, answers_of, IsNever, after_cited}
 use Rattle.std.proofs.lemmas.List.{get_or-set_same, get_or-set_other, length-set}
 use Rattle.shr_base.specs.declared.replies.Answered.{Answered}
-use Rattle.shr_report.specs.Parts.{answer_at, answers_in, answers_of}
 use Rattle.shr_audit_causes.specs.declared.cites.What.{What}
-use Rattle.shr_audit_causes.specs.Cites.{IsNever, after_cited}
 use Rattle.shr_report.proofs.Reading.{either}
 use Rattle.shr_case.proofs.Firsts.{some_is}
 
@@ -38,7 +34,7 @@ before_or_itself w k x (inr h) = by_order (x.command == k) refl
     by_order false f = inl (inr (h.0, (let below = h.1 in let other : x.command ≡ k → ⊥ = grind (arith, nat_tests) in grind arith)))
 
 -- the same is told of what is so of the same commands
-pub tells_same : (P Q : Serial → Type 0) → ((x : Serial) → P x → Q x) → ((x : Serial) → Q x → P x) → (c : Cited) → Tells P c → Tells Q c
+pub tells_same : (P Q : Serial → Type 0) → ((x : Serial) → P x → Q x) → ((x : Serial) → Q x → P x) → (c : Cited) → TellsCited P c → TellsCited Q c
 tells_same P Q to from Never t = λ x q. t x (from x q)
 tells_same P Q to from (Once w k) t = (to (serial_of w k) t.0, λ x q. t.1 x (from x q))
 tells_same P Q to from (Often w k others) t = record {
@@ -85,7 +81,7 @@ module _ (P Q : Serial → Type 0) (w k : ℕ) (to : (x : Serial) → P x → Q 
         ]
   ]
 
-  pub tells_more : (c : Cited) → Tells P c → Tells Q (after_cited c w k)
+  pub tells_more : (c : Cited) → TellsCited P c → TellsCited Q (after_cited c w k)
   tells_more Never t = (own, λ x q. elim (from x q) [ inl p ↦ absurd (t x p) | inr same ↦ same ])
   tells_more (Once v j) t = record {
     so = to (serial_of v j) t.0;
@@ -114,22 +110,22 @@ module _ (P Q : Serial → Type 0) (w k : ℕ) (to : (x : Serial) → P x → Q 
 -- ---- one answer
 
 -- an answer that says nothing of an entry
-pub nothing_told : (s : Script) (r : Report) (what : What) (w k n : ℕ) (c : Cited) → (Cites s r what n (serial_of w k) → ⊥)
-    → Tells (λ x. IsEarlier w k x × Cites s r what n x) c → Tells (λ x. IsEarlier w (k + 1) x × Cites s r what n x) c
-nothing_told s r what w k n c silent t = tells_same (λ x. IsEarlier w k x × Cites s r what n x) (λ x. IsEarlier w (k + 1) x × Cites s r what n x)
+pub nothing_told : (s : Script) (r : Report) (what : What) (w k n : ℕ) (c : Cited) → (AnswerCites s r what n (serial_of w k) → ⊥)
+    → TellsCited (λ x. IsEarlier w k x × AnswerCites s r what n x) c → TellsCited (λ x. IsEarlier w (k + 1) x × AnswerCites s r what n x) c
+nothing_told s r what w k n c silent t = tells_same (λ x. IsEarlier w k x × AnswerCites s r what n x) (λ x. IsEarlier w (k + 1) x × AnswerCites s r what n x)
     (λ x p. (one_later w k x p.0, p.1))
-    (λ x q. elim (before_or_itself w k x q.0) [ inl before ↦ (before, q.1) | inr same ↦ absurd (silent (subst (λ (y : Serial). Cites s r what n y) same q.1)) ]) c t
+    (λ x q. elim (before_or_itself w k x q.0) [ inl before ↦ (before, q.1) | inr same ↦ absurd (silent (subst (λ (y : Serial). AnswerCites s r what n y) same q.1)) ]) c t
 
 -- one that speaks of it
-something_told : (s : Script) (r : Report) (what : What) (w k n : ℕ) (c : Cited) → Cites s r what n (serial_of w k)
-    → Tells (λ x. IsEarlier w k x × Cites s r what n x) c → Tells (λ x. IsEarlier w (k + 1) x × Cites s r what n x) (after_cited c w k)
-something_told s r what w k n c own t = tells_more (λ x. IsEarlier w k x × Cites s r what n x) (λ x. IsEarlier w (k + 1) x × Cites s r what n x) w k
+something_told : (s : Script) (r : Report) (what : What) (w k n : ℕ) (c : Cited) → AnswerCites s r what n (serial_of w k)
+    → TellsCited (λ x. IsEarlier w k x × AnswerCites s r what n x) c → TellsCited (λ x. IsEarlier w (k + 1) x × AnswerCites s r what n x) (after_cited c w k)
+something_told s r what w k n c own t = tells_more (λ x. IsEarlier w k x × AnswerCites s r what n x) (λ x. IsEarlier w (k + 1) x × AnswerCites s r what n x) w k
     (λ x p. (one_later w k x p.0, p.1))
     (λ x q. elim (before_or_itself w k x q.0) [ inl before ↦ inl (before, q.1) | inr same ↦ inr same ])
     (λ x p. p.0) (itself_later w k, own) c t
 
 -- what an answer tells is noted
-pub answer_noted : (s : Script) (r : Report) (what : What) (w k : ℕ) (told : Option ℕ) (table : List Cited) → ((n : ℕ) → Cites s r what n (serial_of w k) ↔ (told ≡ Some n)) → NotesAnswer s r what w k table (noted_at told w k table)
+pub answer_noted : (s : Script) (r : Report) (what : What) (w k : ℕ) (told : Option ℕ) (table : List Cited) → ((n : ℕ) → AnswerCites s r what n (serial_of w k) ↔ (told ≡ Some n)) → NotesAnswer s r what w k table (noted_at told w k table)
 answer_noted s r what w k None table tells = record {
   count = refl;
   noted = λ before n lt. nothing_told s r what w k n (cited_in table n) (λ c. let e : ◌≡◌ {A = Option ℕ} None (Some n) = (tells n).0 c in cc) (before n lt);
@@ -142,23 +138,23 @@ answer_noted s r what w k (Some m) table tells = record {
     new : List Cited
     new = noted_at (Some m) w k table
 
-    at : AreCitedBefore s r what w k table → (n : ℕ) → n < length table → Tells (λ x. IsEarlier w (k + 1) x × Cites s r what n x) (cited_in new n)
+    at : AreCitedBefore s r what w k table → (n : ℕ) → n < length table → TellsCited (λ x. IsEarlier w (k + 1) x × AnswerCites s r what n x) (cited_in new n)
     at before n lt = by_order (n == m) refl
       where
-        by_order : (b : Bool) → (n == m) ≡ b → Tells (λ x. IsEarlier w (k + 1) x × Cites s r what n x) (cited_in new n)
+        by_order : (b : Bool) → (n == m) ≡ b → TellsCited (λ x. IsEarlier w (k + 1) x × AnswerCites s r what n x) (cited_in new n)
         by_order true f =
             let same : m ≡ n = grind (arith, nat_tests) in
             let here : m < length table = subst (λ (i : ℕ). i < length table) (sym same) lt in
-            subst (λ (i : ℕ). Tells (λ x. IsEarlier w (k + 1) x × Cites s r what i x) (cited_in new i)) same
-            (subst (Tells (λ x. IsEarlier w (k + 1) x × Cites s r what m x)) (sym (get_or-set_same table m (after_cited (cited_in table m) w k) Never here))
+            subst (λ (i : ℕ). TellsCited (λ x. IsEarlier w (k + 1) x × AnswerCites s r what i x) (cited_in new i)) same
+            (subst (TellsCited (λ x. IsEarlier w (k + 1) x × AnswerCites s r what m x)) (sym (get_or-set_same table m (after_cited (cited_in table m) w k) Never here))
             (something_told s r what w k m (cited_in table m) ((tells m).1 refl) (before m here)))
         by_order false f =
             let other : n ≡ m → ⊥ = grind (arith, nat_tests) in
-            subst (Tells (λ x. IsEarlier w (k + 1) x × Cites s r what n x)) (sym (get_or-set_other table m n (after_cited (cited_in table m) w k) Never other))
+            subst (TellsCited (λ x. IsEarlier w (k + 1) x × AnswerCites s r what n x)) (sym (get_or-set_other table m n (after_cited (cited_in table m) w k) Never other))
             (nothing_told s r what w k n (cited_in table n) (λ c. other (sym (some_is m n ((tells n).0 c)))) (before n lt))
 
 -- what the answer to a command tells, by its reply
-cites_reply : (s : Script) (r : Report) (what : What) (w k n : ℕ) (a : Answered) → answer_at r (serial_of w k) ≡ Some a → Cites s r what n (serial_of w k) ↔ CitesNow r what (command_at s (serial_of w k)) a.reply n
+cites_reply : (s : Script) (r : Report) (what : What) (w k n : ℕ) (a : Answered) → answer_at r (serial_of w k) ≡ Some a → AnswerCites s r what n (serial_of w k) ↔ CitesNow r what (command_at s (serial_of w k)) a.reply n
 cites_reply s r what w k n a there = (to (answer_at r (serial_of w k)) there, from (answer_at r (serial_of w k)) there)
   where
     to : (o : Option Answered) → o ≡ Some a → IsSomeAnd (option_map (λ (b : Answered). b.reply) o) (λ x. CitesNow r what (command_at s (serial_of w k)) x n) → CitesNow r what (command_at s (serial_of w k)) a.reply n
@@ -204,14 +200,14 @@ has_part r x P h = there (slice_get r.workers.items x.worker) refl (has_answer r
 
 -- the next worker begins where the last answer of this one was noted
 pub next_worker : (s : Script) (r : Report) (what : What) (w k : ℕ) (table : List Cited) → length (answers_of r w) ≤ k → AreCitedBefore s r what w k table → AreCitedBefore s r what (w + 1) 0 table
-next_worker s r what w k table over before n lt = tells_same (λ x. IsEarlier w k x × Cites s r what n x) (λ x. IsEarlier (w + 1) 0 x × Cites s r what n x)
+next_worker s r what w k table over before n lt = tells_same (λ x. IsEarlier w k x × AnswerCites s r what n x) (λ x. IsEarlier (w + 1) 0 x × AnswerCites s r what n x)
     (λ x p. (up x p.0, p.1)) (λ x q. (down x q.0 q.1, q.1)) (cited_in table n) (before n lt)
   where
     up : (x : Serial) → IsEarlier w k x → IsEarlier (w + 1) 0 x
     up x (inl below) = inl (omega (arith, below))
     up x (inr h) = inl (let same = h.0 in omega (arith, same))
 
-    down : (x : Serial) → IsEarlier (w + 1) 0 x → Cites s r what n x → IsEarlier w k x
+    down : (x : Serial) → IsEarlier (w + 1) 0 x → AnswerCites s r what n x → IsEarlier w k x
     down x (inr h) c = absurd (let below = h.1 in omega (arith, below))
     down x (inl below) c = by_order (x.worker == w) refl
       where
@@ -234,12 +230,12 @@ never_push (x ∷ xs) h (suc n) = never_push xs (λ m. h (suc m)) n
 
 -- before the first
 pub first_worker : (s : Script) (r : Report) (what : What) (size : ℕ) (table : List Cited) → IsNever size table → AreCitedBefore s r what 0 0 table
-first_worker s r what size table never n lt = subst (Tells (λ x. IsEarlier 0 0 x × Cites s r what n x)) (sym (never.each n)) (λ x p. none_before x p.0)
+first_worker s r what size table never n lt = subst (TellsCited (λ x. IsEarlier 0 0 x × AnswerCites s r what n x)) (sym (never.each n)) (λ x p. none_before x p.0)
 
 -- behind the last
 pub last_worker : (s : Script) (r : Report) (what : What) (w : ℕ) (table : List Cited) → length r.workers.items ≤ w → AreCitedBefore s r what w 0 table → AreCited s r what (length table) table
 last_worker s r what w table over before = record {
   count = refl;
-  each = λ n lt. tells_same (λ x. IsEarlier w 0 x × Cites s r what n x) (λ x. Cites s r what n x) (λ x p. p.1)
+  each = λ n lt. tells_same (λ x. IsEarlier w 0 x × AnswerCites s r what n x) (λ x. AnswerCites s r what n x) (λ x p. p.1)
       (λ x c. (inl (let part = has_part r x (λ y. CitesNow r what (command_at s x) y n) c in omega (arith, part, over)), c)) (cited_in table n) (before n lt);
 }

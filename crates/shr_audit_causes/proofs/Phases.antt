@@ -1,8 +1,5 @@
 -- The phases of an id along the journal of registrations.
-use Rattle.shr_audit_causes.proofs.Common.{◌≡◌, ℕ, zero, suc, ◌+◌, ◌-◌, ◌<◌, ◌≤◌, Bool, cond, List, length, get_or, take, Option, Some, None, refl, sym, ap, subst, ◌∙◌, inl, inr, arith, eq-eqb, ◌↔◌, slice_get, option_map, cases_lt, take_all, slice_get-get_or, PoolEntry, id_of, phase_of, IsBehindOf, IsSecondOf, IsNextOf, IsOf}
-use Rattle.std.proofs.Common.{ne_eqb}
-use Rattle.std.proofs.lemmas.List.{take_more}
-use Rattle.std.proofs.lemmas.Option.{slice_get_cases, slice_get_past}
+use Rattle.shr_audit_causes.proofs.Common.{◌≡◌, ℕ, zero, suc, ◌+◌, ◌-◌, ◌<◌, ◌≤◌, Bool, cond, List, length, get_or, take, Option, Some, None, refl, sym, ap, subst, ◌∙◌, inl, inr, arith, eq-eqb, ◌↔◌, slice_get, option_map, cases_lt, take_all, slice_get-get_or, PoolEntry, id_of, phase_of, IsBehindOf, IsSecondOf, IsNextOf, IsEntryOfId, ne_eqb, take_more, slice_get_cases, slice_get_past}
 use Rattle.std.proofs.Math.Nat.{eq-or-lt_of_le}
 use Rattle.shr_model.proofs.PoolLaws.{one_of, phase_of_push}
 use Rattle.shr_model.proofs.Lists.{some_same}
@@ -42,14 +39,14 @@ raised_none id None none = refl
 raised_none id (Some e) none = ap (λ (b : Bool). cond b 1 0) (ne_eqb (id_of e) id (λ same. none (ap (λ (n : ℕ). Some n) same)))
 
 -- an entry of the id, and another
-next_phase : (pool : List PoolEntry) (id k : ℕ) → IsOf pool id k → phase pool id (k + 1) ≡ phase pool id k + 1
+next_phase : (pool : List PoolEntry) (id k : ℕ) → IsEntryOfId pool id k → phase pool id (k + 1) ≡ phase pool id k + 1
 next_phase pool id k h = one_more pool id k ∙ ap (λ (n : ℕ). phase pool id k + n) (raised_one id (slice_get pool k) h)
 
-same_phase : (pool : List PoolEntry) (id k : ℕ) → (IsOf pool id k → ⊥) → phase pool id (k + 1) ≡ phase pool id k
+same_phase : (pool : List PoolEntry) (id k : ℕ) → (IsEntryOfId pool id k → ⊥) → phase pool id (k + 1) ≡ phase pool id k
 same_phase pool id k none = let e = one_more pool id k ∙ ap (λ (n : ℕ). phase pool id k + n) (raised_none id (slice_get pool k) none) in omega (arith, e)
 
 -- so many entries further
-quiet_for : (pool : List PoolEntry) (id a m : ℕ) → ((n : ℕ) → a ≤ n → n < a + m → IsOf pool id n → ⊥) → phase pool id (a + m) ≡ phase pool id a
+quiet_for : (pool : List PoolEntry) (id a m : ℕ) → ((n : ℕ) → a ≤ n → n < a + m → IsEntryOfId pool id n → ⊥) → phase pool id (a + m) ≡ phase pool id a
 quiet_for pool id a zero none = ap (phase pool id) (let e : a + 0 ≡ a = omega arith in e)
 quiet_for pool id a (suc m) none =
     ap (phase pool id) (let e : a + suc m ≡ (a + m) + 1 = omega arith in e)
@@ -65,7 +62,7 @@ rises_for pool id a (suc m) =
     omega (arith, before, step, e)
 
 -- no entry of the id stands between two numbers, and any do
-quiet : (pool : List PoolEntry) (id a b : ℕ) → a ≤ b → ((n : ℕ) → a ≤ n → n < b → IsOf pool id n → ⊥) → phase pool id b ≡ phase pool id a
+quiet : (pool : List PoolEntry) (id a b : ℕ) → a ≤ b → ((n : ℕ) → a ≤ n → n < b → IsEntryOfId pool id n → ⊥) → phase pool id b ≡ phase pool id a
 quiet pool id a b le none =
     let e : a + (b - a) ≡ b = omega (arith, le) in
     ap (phase pool id) (sym e) ∙ quiet_for pool id a (b - a) (λ n from lt. none n from (omega (arith, lt, le)))
@@ -78,19 +75,19 @@ rises pool id a b le =
 -- ---- going through the entries
 
 pub next_more : (pool : List PoolEntry) (id from n : ℕ) (d : PoolEntry) → n < length pool → (id_of (get_or pool n d) ≡ id → ⊥)
-    → ((m : ℕ) → from ≤ m → m < n → IsOf pool id m → ⊥) → (m : ℕ) → from ≤ m → m < n + 1 → IsOf pool id m → ⊥
+    → ((m : ℕ) → from ≤ m → m < n → IsEntryOfId pool id m → ⊥) → (m : ℕ) → from ≤ m → m < n + 1 → IsEntryOfId pool id m → ⊥
 next_more pool id from n d there none before m le lt of = elim (cases_lt m n) [
   | inl below ↦ before m le below of
   | inr above ↦
       let same : m ≡ n = omega (arith, lt, above) in
-      let here : option_map id_of (slice_get pool n) ≡ Some id = subst (λ (k : ℕ). IsOf pool id k) same of in
+      let here : option_map id_of (slice_get pool n) ≡ Some id = subst (λ (k : ℕ). IsEntryOfId pool id k) same of in
       none (some_same (id_of (get_or pool n d)) id (sym (ap (option_map id_of) (slice_get-get_or pool n d there)) ∙ here))
 ]
 
-pub next_found : (pool : List PoolEntry) (id from n : ℕ) (d : PoolEntry) → from ≤ n → n < length pool → id_of (get_or pool n d) ≡ id → ((m : ℕ) → from ≤ m → m < n → IsOf pool id m → ⊥) → IsNextOf pool id from (Some n)
+pub next_found : (pool : List PoolEntry) (id from n : ℕ) (d : PoolEntry) → from ≤ n → n < length pool → id_of (get_or pool n d) ≡ id → ((m : ℕ) → from ≤ m → m < n → IsEntryOfId pool id m → ⊥) → IsNextOf pool id from (Some n)
 next_found pool id from n d le there same before = (le, there, ap (option_map id_of) (slice_get-get_or pool n d there) ∙ ap (λ (k : ℕ). Some k) same, before)
 
-pub next_past : (pool : List PoolEntry) (id from n : ℕ) → length pool ≤ n → ((m : ℕ) → from ≤ m → m < n → IsOf pool id m → ⊥) → IsNextOf pool id from None
+pub next_past : (pool : List PoolEntry) (id from n : ℕ) → length pool ≤ n → ((m : ℕ) → from ≤ m → m < n → IsEntryOfId pool id m → ⊥) → IsNextOf pool id from None
 next_past pool id from n over before m le of = elim (cases_lt m n) [
   | inl below ↦ before m le below of
   | inr above ↦
@@ -118,7 +115,7 @@ next_one pool id from (Some m) g n = (to, λ e. subst (λ (k : ℕ). IsNextOf po
 
 -- ---- the second entry of an id, by the one before it
 
-pub of_within : (pool : List PoolEntry) (id n : ℕ) → IsOf pool id n → n < length pool
+pub of_within : (pool : List PoolEntry) (id n : ℕ) → IsEntryOfId pool id n → n < length pool
 of_within pool id n of = elim (slice_get_cases pool n).1 [
   | inl there ↦ there.1
   | inr past ↦ absurd (let none = ap (option_map id_of) past.1 in no_some id (sym none ∙ of))
@@ -127,7 +124,7 @@ of_within pool id n of = elim (slice_get_cases pool n).1 [
     no_some : (k : ℕ) → ◌≡◌ {A = Option ℕ} None (Some k) → ⊥
     no_some k e = cc
 
-pub before_of : (pool : List PoolEntry) (id n behind : ℕ) → IsBehindOf pool id n behind → 0 < behind → IsOf pool id (behind - 1)
+pub before_of : (pool : List PoolEntry) (id n behind : ℕ) → IsBehindOf pool id n behind → 0 < behind → IsEntryOfId pool id (behind - 1)
 before_of pool id n behind b some = elim b.of [
   | inl none ↦ absurd (omega (arith, none, some))
   | inr of ↦ of
@@ -141,7 +138,7 @@ module _ (pool : List PoolEntry) (id entry n behind : ℕ) (b : IsBehindOf pool 
       let e : behind - 1 + 1 ≡ behind = omega (arith, some) in
       quiet pool id behind n low b.quiet ∙ sym (ap (phase pool id) e) ∙ next_phase pool id (behind - 1) (before_of pool id n behind b some)
 
-  pub second_of_first : IsOf pool id n → 0 < behind → IsNextOf pool id entry (Some (behind - 1)) → IsSecondOf pool id entry n
+  pub second_of_first : IsEntryOfId pool id n → 0 < behind → IsNextOf pool id entry (Some (behind - 1)) → IsSecondOf pool id entry n
   second_of_first of some f =
       let low = b.low in
       let from = f.0 in
@@ -176,7 +173,7 @@ module _ (pool : List PoolEntry) (id entry n behind : ℕ) (b : IsBehindOf pool 
         | inr le ↦ le
       ]
 
-      none : (m : ℕ) → entry ≤ m → m < behind - 1 → IsOf pool id m → ⊥
+      none : (m : ℕ) → entry ≤ m → m < behind - 1 → IsEntryOfId pool id m → ⊥
       none m le lt of =
           let up = rises pool id entry m le in
           let here = next_phase pool id m of in

@@ -4,13 +4,13 @@ use Rattle.shr_base.specs.declared.journals.PoolEntry.{PoolEntry}
 use Rattle.shr_base.specs.declared.replies.Reply.{Reply}
 use Rattle.shr_base.specs.declared.replies.Reply.TheVariants as reply
 use Rattle.shr_model.specs.Pool.{id_of, phase_of}
-use Rattle.shr_audit_causes.specs.Cites.{IsOf}
+use Rattle.shr_audit_causes.specs.Cites.{IsEntryOfId}
 
 -- This number is the one behind the last entry of an id before an entry, 0 where there is none.
 pub record IsBehindOf (pool : List PoolEntry) (id n behind : ℕ) : Type 0 where
   pub low : behind ≤ n
-  pub of : (behind ≡ 0) ⊎ IsOf pool id (behind - 1)
-  pub quiet : (m : ℕ) → behind ≤ m → m < n → IsOf pool id m → ⊥
+  pub of : (behind ≡ 0) ⊎ IsEntryOfId pool id (behind - 1)
+  pub quiet : (m : ℕ) → behind ≤ m → m < n → IsEntryOfId pool id m → ⊥
 
 -- so it is for each id, after so many entries
 pub record AreBehind (pool : List PoolEntry) (n : ℕ) (table : List ℕ) : Type 0 where
@@ -24,7 +24,7 @@ pub record HasBehinds (pool : List PoolEntry) (n : ℕ) (table : List ℕ) : Typ
 
 -- an entry of an id is its next one behind the first from a number on
 abbrev pub IsSecondOf : List PoolEntry → ℕ → ℕ → ℕ → Type 0
-IsSecondOf pool id entry n = IsOf pool id n × (entry < n) × (phase_of id (take n pool) ≡ phase_of id (take entry pool) + 1)
+IsSecondOf pool id entry n = IsEntryOfId pool id n × (entry < n) × (phase_of id (take n pool) ≡ phase_of id (take entry pool) + 1)
 
 -- the answer freed an id by an entry, and this is the id's next one
 abbrev pub IsIdledBy : List PoolEntry → ℕ → Reply → Type 0

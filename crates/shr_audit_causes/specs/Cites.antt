@@ -29,13 +29,13 @@ is_unregistered_by n (reply.Half id entry from to objects why) = entry == n
 is_unregistered_by n x = false
 
 -- the entry with this number is one of an id
-abbrev pub IsOf : List PoolEntry → ℕ → ℕ → Type 0
-IsOf pool id n = option_map id_of (slice_get pool n) ≡ Some id
+abbrev pub IsEntryOfId : List PoolEntry → ℕ → ℕ → Type 0
+IsEntryOfId pool id n = option_map id_of (slice_get pool n) ≡ Some id
 
 -- the first entry of an id from a number on, if there is one
 abbrev pub IsNextOf : List PoolEntry → ℕ → ℕ → Option ℕ → Type 0
-IsNextOf pool id from None = (n : ℕ) → from ≤ n → IsOf pool id n → ⊥
-IsNextOf pool id from (Some q) = (from ≤ q) × (q < length pool) × IsOf pool id q × ((n : ℕ) → from ≤ n → n < q → IsOf pool id n → ⊥)
+IsNextOf pool id from None = (n : ℕ) → from ≤ n → IsEntryOfId pool id n → ⊥
+IsNextOf pool id from (Some q) = (from ≤ q) × (q < length pool) × IsEntryOfId pool id q × ((n : ℕ) → from ≤ n → n < q → IsEntryOfId pool id n → ⊥)
 
 -- the answer freed an id, and this is the id's first entry from the one on that it cites
 abbrev pub IsFreedAt : List PoolEntry → ℕ → Reply → Type 0
@@ -56,8 +56,8 @@ CitesNow r say.Freed c x n = IsFreedAt r.pool.items n x
 CitesNow r say.Begun c x n = IsBegunBy c x n
 
 -- the answer to a command says so of it
-abbrev pub Cites : Script → Report → What → ℕ → Serial → Type 0
-Cites s r what n by = IsSomeAnd (reply_at r by) (λ x. CitesNow r what (command_at s by) x n)
+abbrev pub AnswerCites : Script → Report → What → ℕ → Serial → Type 0
+AnswerCites s r what n by = IsSomeAnd (reply_at r by) (λ x. CitesNow r what (command_at s by) x n)
 
 -- It is so of this command and of another; of its worker's it is the first, and whether another worker has one is
 -- told.
@@ -69,10 +69,10 @@ pub record IsOften (P : Serial → Type 0) (worker command : ℕ) (others : Bool
   pub apart : others ≡ true → (y : Serial) × (y.worker ≢ worker) × P y
 
 -- what is noted of those of which this is so: there is none, just this one, or there are more
-abbrev pub Tells : (Serial → Type 0) → Cited → Type 0
-Tells P Never = (x : Serial) → P x → ⊥
-Tells P (Once worker command) = P (serial_of worker command) × ((x : Serial) → P x → x ≡ serial_of worker command)
-Tells P (Often worker command others) = IsOften P worker command others
+abbrev pub TellsCited : (Serial → Type 0) → Cited → Type 0
+TellsCited P Never = (x : Serial) → P x → ⊥
+TellsCited P (Once worker command) = P (serial_of worker command) × ((x : Serial) → P x → x ≡ serial_of worker command)
+TellsCited P (Often worker command others) = IsOften P worker command others
 
 -- one more says so
 abbrev pub after_cited : Cited → ℕ → ℕ → Cited
@@ -95,12 +95,12 @@ IsEarlier worker command x = (x.worker < worker) ⊎ ((x.worker ≡ worker) × (
 
 -- the answers to the commands before this one were noted
 abbrev pub AreCitedBefore : Script → Report → What → ℕ → ℕ → List Cited → Type 0
-AreCitedBefore s r what worker command table = (n : ℕ) → n < length table → Tells (λ x. IsEarlier worker command x × Cites s r what n x) (cited_in table n)
+AreCitedBefore s r what worker command table = (n : ℕ) → n < length table → TellsCited (λ x. IsEarlier worker command x × AnswerCites s r what n x) (cited_in table n)
 
 -- all were
 pub record AreCited (s : Script) (r : Report) (what : What) (size : ℕ) (table : List Cited) : Type 0 where
   pub count : length table ≡ size
-  pub each : (n : ℕ) → n < size → Tells (λ x. Cites s r what n x) (cited_in table n)
+  pub each : (n : ℕ) → n < size → TellsCited (λ x. AnswerCites s r what n x) (cited_in table n)
 
 -- none was
 pub record IsNever (size : ℕ) (table : List Cited) : Type 0 where

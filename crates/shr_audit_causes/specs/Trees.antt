@@ -24,14 +24,14 @@ is_cited (Once worker command) = true
 is_cited (Often worker command others) = true
 
 -- an entry, if it is a Done, was noted once
-abbrev pub IsDoneOnce : List Cited → ℕ → TreeEntry → Type 0
-IsDoneOnce table n (Done group) = is_once (cited_in table n) ≡ true
-IsDoneOnce table n e = ⊤
+abbrev pub IsDoneNotedOnce : List Cited → ℕ → TreeEntry → Type 0
+IsDoneNotedOnce table n (Done group) = is_once (cited_in table n) ≡ true
+IsDoneNotedOnce table n e = ⊤
 
 -- the same of a Made
-abbrev pub IsMadeOnce : List Cited → ℕ → TreeEntry → Type 0
-IsMadeOnce table n (Made group) = is_once (cited_in table n) ≡ true
-IsMadeOnce table n e = ⊤
+abbrev pub IsMadeNotedOnce : List Cited → ℕ → TreeEntry → Type 0
+IsMadeNotedOnce table n (Made group) = is_once (cited_in table n) ≡ true
+IsMadeNotedOnce table n e = ⊤
 
 -- the group of an entry, if it is a Begin, was noted
 abbrev pub IsBeginCited : List Cited → TreeEntry → Type 0

@@ -5,7 +5,7 @@ ghost use Rattle.std.specs.Bool.{Decides};
 ghost use Rattle.shr_base.specs.declared.ends.WorkerPart.{WorkerPart};
 ghost use Rattle.shr_base.specs.declared.replies.Spent.TheVariants.{Lookups};
 ghost use Rattle.shr_base.specs.declared.walks.WalkRecord.{WalkRecord};
-ghost use Rattle.shr_formed.specs.Each.{Each};
+ghost use Rattle.shr_formed.specs.Each.{EachItem};
 ghost use Rattle.shr_report.specs.Causes.{IsSpent};
 ghost use Rattle.shr_report.specs.Parts.{EachAttempt, EachWalk, lookups_at};
 ghost use Rattle.shr_audit_causes.specs.Walks.{IsAttemptCaused, IsWornRightly};
@@ -50,7 +50,7 @@ fn is_worn_rightly(script: &Script, report: &Report, worker: usize, attempt: &At
 
 // Whether each of these attempts is.
 fn attempts_are_worn(script: &Script, report: &Report, worker: usize, attempts: &[Attempt]) -> bool
-    ensures { Decides result (Each
+    ensures { Decides result (EachItem
         (λ a. IsAttemptCaused script.now report.now worker a) attempts.now) }
 {
     for attempt in attempts {
@@ -63,7 +63,7 @@ fn attempts_are_worn(script: &Script, report: &Report, worker: usize, attempts: 
 
 // Whether each attempt of these walks is.
 fn walks_are_worn(script: &Script, report: &Report, worker: usize, walks: &[WalkRecord]) -> bool
-    ensures { Decides result (Each (λ w. EachAttempt w
+    ensures { Decides result (EachItem (λ w. EachAttempt w
         (λ a. IsAttemptCaused script.now report.now worker a)) walks.now) }
 {
     for walk in walks {
@@ -78,7 +78,7 @@ fn walks_are_worn(script: &Script, report: &Report, worker: usize, walks: &[Walk
 fn parts_are_worn(script: &Script, report: &Report, parts: &[WorkerPart]) -> bool
     ensures { Decides result ((worker : ℕ) (part : WorkerPart)
         → slice_get parts.now worker ≡ Some part
-        → Each (λ w. EachAttempt w
+        → EachItem (λ w. EachAttempt w
         (λ a. IsAttemptCaused script.now report.now worker a)) part.walks.items) }
 {
     for worker in 0..parts.len() {

@@ -5,7 +5,7 @@ ghost use Rattle.std.specs.Bool.{Decides};
 ghost use Rattle.std.specs.Option.{IsSomeAnd};
 ghost use Rattle.shr_case.specs.Each.{EachFirst};
 ghost use Rattle.shr_case.specs.Places.{AreInOrder};
-ghost use Rattle.shr_formed.specs.Each.{Each};
+ghost use Rattle.shr_formed.specs.Each.{EachItem};
 ghost use Rattle.shr_report.specs.Causes.{HasDrained};
 ghost use Rattle.shr_report.specs.Parts.{EachEntry, reply_at};
 ghost use Rattle.shr_audit_causes.specs.Walks.{IsDrainedRightly};
@@ -51,7 +51,7 @@ fn is_drained_rightly(report: &Report, entry: &Entry) -> bool
 
 // Whether each of these entries is.
 fn are_drained_rightly(report: &Report, entries: &[Entry]) -> bool
-    ensures { Decides result (Each (λ e. IsDrainedRightly report.now e) entries.now) }
+    ensures { Decides result (EachItem (λ e. IsDrainedRightly report.now e) entries.now) }
 {
     for entry in entries {
         if !is_drained_rightly(report, entry) {
@@ -63,7 +63,7 @@ fn are_drained_rightly(report: &Report, entries: &[Entry]) -> bool
 
 // Whether each entry of a list is, if the list is the first one of its place.
 fn is_list_drained_rightly(report: &Report, first: bool, end: &PlaceEnd) -> bool
-    ensures { Decides result (first ≡ true → Each
+    ensures { Decides result (first ≡ true → EachItem
         (λ e. IsDrainedRightly report.now e) end.now.entries.items) }
 {
     if !first {
@@ -76,7 +76,7 @@ fn is_list_drained_rightly(report: &Report, first: bool, end: &PlaceEnd) -> bool
 // Whether each entry of these lists is, of those that are the first ones of their places.
 fn are_lists_drained_rightly(report: &Report, ends: &[PlaceEnd]) -> bool
     requires { AreInOrder ends.now }
-    ensures { Decides result (EachFirst ends.now (λ end. Each
+    ensures { Decides result (EachFirst ends.now (λ end. EachItem
         (λ e. IsDrainedRightly report.now e) end.entries.items)) }
 {
     for k in 0..ends.len() {

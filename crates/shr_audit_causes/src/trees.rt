@@ -3,7 +3,7 @@
 ghost use Rattle.std.specs.Prelude.{◌≡◌, ℕ, Some, true, slice_get, IfOk};
 ghost use Rattle.std.specs.Bool.{Decides};
 ghost use Rattle.shr_base.specs.declared.journals.TreeEntry.{TreeEntry};
-ghost use Rattle.shr_audit_causes.specs.Trees.{AreBeginsCaused, AreDonesCaused, AreMadesCaused, IsBeginCited, IsDoneOnce, IsMadeOnce, is_cited, is_once};
+ghost use Rattle.shr_audit_causes.specs.Trees.{AreBeginsCaused, AreDonesCaused, AreMadesCaused, IsBeginCited, IsDoneNotedOnce, IsMadeNotedOnce, is_cited, is_once};
 
 use crate::cites::{Cited, What, cited_at, note_answers};
 use shr_base::journals::TreeEntry;
@@ -34,7 +34,7 @@ pub(crate) fn is_cited(cited: Cited) -> bool
 
 // Whether an entry, if it is a Done, is cited once.
 fn is_done_once(table: &[Cited], n: usize, entry: &TreeEntry) -> bool
-    ensures { Decides result (IsDoneOnce table.now n entry.now) }
+    ensures { Decides result (IsDoneNotedOnce table.now n entry.now) }
 {
     match entry {
         TreeEntry::Done { .. } => is_once(cited_at(table, n)),
@@ -44,7 +44,7 @@ fn is_done_once(table: &[Cited], n: usize, entry: &TreeEntry) -> bool
 
 // The same of a Made.
 fn is_made_once(table: &[Cited], n: usize, entry: &TreeEntry) -> bool
-    ensures { Decides result (IsMadeOnce table.now n entry.now) }
+    ensures { Decides result (IsMadeNotedOnce table.now n entry.now) }
 {
     match entry {
         TreeEntry::Made { .. } => is_once(cited_at(table, n)),
@@ -65,7 +65,7 @@ fn is_begin_cited(table: &[Cited], entry: &TreeEntry) -> bool
 // Whether each Done is.
 fn are_dones_once(table: &[Cited], tree: &[TreeEntry]) -> bool
     ensures { Decides result ((n : ℕ) (e : TreeEntry) → slice_get tree.now n ≡ Some e
-        → IsDoneOnce table.now n e) }
+        → IsDoneNotedOnce table.now n e) }
 {
     for n in 0..tree.len() {
         if !is_done_once(table, n, &tree[n]) {
@@ -78,7 +78,7 @@ fn are_dones_once(table: &[Cited], tree: &[TreeEntry]) -> bool
 // Whether each Made is.
 fn are_mades_once(table: &[Cited], tree: &[TreeEntry]) -> bool
     ensures { Decides result ((n : ℕ) (e : TreeEntry) → slice_get tree.now n ≡ Some e
-        → IsMadeOnce table.now n e) }
+        → IsMadeNotedOnce table.now n e) }
 {
     for n in 0..tree.len() {
         if !is_made_once(table, n, &tree[n]) {

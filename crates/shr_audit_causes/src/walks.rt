@@ -1,7 +1,7 @@
 //! Walks that found their groups offline.
 
 ghost use Rattle.std.specs.Bool.{Decides};
-ghost use Rattle.shr_formed.specs.Each.{Each};
+ghost use Rattle.shr_formed.specs.Each.{EachItem};
 ghost use Rattle.shr_report.specs.Parts.{EachWalk};
 ghost use Rattle.shr_audit_causes.specs.Walks.{CitesBegin};
 
@@ -22,7 +22,7 @@ fn walk_begins(report: &Report, walk: &WalkRecord) -> bool
 
 // Whether each of these walks does.
 fn all_begin(report: &Report, walks: &[WalkRecord]) -> bool
-    ensures { Decides result (Each (λ w. CitesBegin report.now w) walks.now) }
+    ensures { Decides result (EachItem (λ w. CitesBegin report.now w) walks.now) }
 {
     for walk in walks {
         if !walk_begins(report, walk) {
@@ -34,7 +34,7 @@ fn all_begin(report: &Report, walks: &[WalkRecord]) -> bool
 
 // Whether each walk of each part does.
 fn parts_begin(report: &Report, parts: &[WorkerPart]) -> bool
-    ensures { Decides result (Each (λ part. Each
+    ensures { Decides result (EachItem (λ part. EachItem
         (λ w. CitesBegin report.now w) part.walks.items) parts.now) }
 {
     for part in parts {

@@ -1,40 +1,39 @@
 -- When keys that go up and keys that go down settle.
-use Rattle.shr_audit_charges.proofs.Common.{◌≡◌, ◌≢◌, ℕ, ◌<◌, ◌%◌, ◌^◌, ◌⊎◌, inl, inr, Bool, true, false, cond, List, [], ◌∷◌, ◌++◌, length, map, refl, sym, ap, subst, ◌∙◌, arith, ne_eqb, ◌==◌, Decides, AllByRecursion, cases_eq, count_by-le-length, sum_by-cons, sum_by-append, Move, AreBalanced, unit}
-use Rattle.std.specs.Prelude.{◌↔◌}
-use Rattle.shr_sums.specs.Moves.{ups_at, downs_at, IsSettled}
+use Rattle.shr_audit_charges.proofs.Common.{◌≡◌, ◌≢◌, ℕ, ◌<◌, ◌%◌, ◌^◌, ◌⊎◌, inl, inr, Bool, true, false, cond, List, [], ◌∷◌, ◌++◌, length, map, refl, sym, ap, subst, ◌∙◌, arith, ne_eqb, ◌==◌, Decides, AllByRecursion, cases_eq, count_by-le-length, sum_by-cons, sum_by-append, Move, AreBalanced, unit, ◌↔◌}
+use Rattle.shr_sums.specs.Moves.{sum_up_at, sum_down_at, IsSettled}
 use Rattle.shr_audit_charges.proofs.PathsLaw.{times, times_cons}
 use Rattle.shr_model.proofs.Booleans.{nothing}
 
-ups_map : (key : ℕ) (ks : List ℕ) → ups_at key (map (unit true) ks) ≡ times key ks
+ups_map : (key : ℕ) (ks : List ℕ) → sum_up_at key (map (unit true) ks) ≡ times key ks
 ups_map key [] = refl
 ups_map key (k ∷ ks) =
     let a = sum_by-cons (λ (m : Move). cond (m.key == key) m.up 0) (unit true k) (map (unit true) ks) in
     let b = times_cons key k ks in let r = ups_map key ks in omega (arith, a, b, r)
 
-downs_map : (key : ℕ) (ks : List ℕ) → downs_at key (map (unit false) ks) ≡ times key ks
+downs_map : (key : ℕ) (ks : List ℕ) → sum_down_at key (map (unit false) ks) ≡ times key ks
 downs_map key [] = refl
 downs_map key (k ∷ ks) =
     let a = sum_by-cons (λ (m : Move). cond (m.key == key) m.down 0) (unit false k) (map (unit false) ks) in
     let b = times_cons key k ks in let r = downs_map key ks in omega (arith, a, b, r)
 
-no_ups : (key : ℕ) (ks : List ℕ) → ups_at key (map (unit false) ks) ≡ 0
+no_ups : (key : ℕ) (ks : List ℕ) → sum_up_at key (map (unit false) ks) ≡ 0
 no_ups key [] = refl
 no_ups key (k ∷ ks) =
     let a = sum_by-cons (λ (m : Move). cond (m.key == key) m.up 0) (unit false k) (map (unit false) ks) in
     let z = nothing (k == key) in let r = no_ups key ks in omega (arith, a, z, r)
 
-no_downs : (key : ℕ) (ks : List ℕ) → downs_at key (map (unit true) ks) ≡ 0
+no_downs : (key : ℕ) (ks : List ℕ) → sum_down_at key (map (unit true) ks) ≡ 0
 no_downs key [] = refl
 no_downs key (k ∷ ks) =
     let a = sum_by-cons (λ (m : Move). cond (m.key == key) m.down 0) (unit true k) (map (unit true) ks) in
     let z = nothing (k == key) in let r = no_downs key ks in omega (arith, a, z, r)
 
-all_ups : (key : ℕ) (us ds : List ℕ) → ups_at key (map (unit true) us ++ map (unit false) ds) ≡ times key us
+all_ups : (key : ℕ) (us ds : List ℕ) → sum_up_at key (map (unit true) us ++ map (unit false) ds) ≡ times key us
 all_ups key us ds =
     let a = sum_by-append (λ (m : Move). cond (m.key == key) m.up 0) (map (unit true) us) (map (unit false) ds) in
     let b = ups_map key us in let c = no_ups key ds in omega (arith, a, b, c)
 
-all_downs : (key : ℕ) (us ds : List ℕ) → downs_at key (map (unit true) us ++ map (unit false) ds) ≡ times key ds
+all_downs : (key : ℕ) (us ds : List ℕ) → sum_down_at key (map (unit true) us ++ map (unit false) ds) ≡ times key ds
 all_downs key us ds =
     let a = sum_by-append (λ (m : Move). cond (m.key == key) m.down 0) (map (unit true) us) (map (unit false) ds) in
     let b = no_downs key us in let c = downs_map key ds in omega (arith, a, b, c)
@@ -48,14 +47,14 @@ balanced us ds none first both b few_us few_ds none_is first_is both_is settled 
     whole : both ≡ map (unit true) us ++ map (unit false) ds
     whole = both_is ∙ ap (λ (l : List Move). l ++ map (unit false) ds) (first_is ∙ ap (λ (l : List Move). l ++ map (unit true) us) none_is)
 
-    to : (key : ℕ) → ups_at key both % 2 ^ 64 ≡ downs_at key both % 2 ^ 64 → times key us ≡ times key ds
+    to : (key : ℕ) → sum_up_at key both % 2 ^ 64 ≡ sum_down_at key both % 2 ^ 64 → times key us ≡ times key ds
     to key e =
-        let u = ap (ups_at key) whole ∙ all_ups key us ds in let d = ap (downs_at key) whole ∙ all_downs key us ds in
+        let u = ap (sum_up_at key) whole ∙ all_ups key us ds in let d = ap (sum_down_at key) whole ∙ all_downs key us ds in
         let x = small key us few_us in let y = small key ds few_ds in omega (arith, e, u, d, x, y)
 
-    from : (key : ℕ) → times key us ≡ times key ds → ups_at key both % 2 ^ 64 ≡ downs_at key both % 2 ^ 64
+    from : (key : ℕ) → times key us ≡ times key ds → sum_up_at key both % 2 ^ 64 ≡ sum_down_at key both % 2 ^ 64
     from key e =
-        let u = ap (ups_at key) whole ∙ all_ups key us ds in let d = ap (downs_at key) whole ∙ all_downs key us ds in
+        let u = ap (sum_up_at key) whole ∙ all_ups key us ds in let d = ap (sum_down_at key) whole ∙ all_downs key us ds in
         ap (λ (n : ℕ). n % 2 ^ 64) (u ∙ e ∙ sym d)
 
 -- a key that isn't of a kind is none of those that are

@@ -1,11 +1,8 @@
 -- The keys of operations and of objects that are left, counted by their groups.
-use Rattle.shr_audit_charges.proofs.Common.{◌≡◌, ◌≢◌, ℕ, ◌+◌, ◌/◌, ◌<◌, ◌≤◌, ◌⊎◌, inl, inr, Bool, true, false, not, cond, List, [], ◌∷◌, ◌++◌, length, map, refl, sym, ap, subst, ◌∙◌, arith, ne_eqb, eq-eqb, ◌==◌, flat_map, sum_by, Decides, AllByRecursion, cases_eq, cases_lt, Decides-like, ints, sum_by-cons, PlaceEnd, UseStep, Object, Serial, ups, downs, is_at_or_above, born_below, IsTree, path_of, Report, journals_of, AreBalanced, uses_of, tag_keys, left_keys, AreFinal, own_key, keys_with, start_of, up_keys, down_keys}
-use Rattle.shr_model.specs.Families.{items_of}
+use Rattle.shr_audit_charges.proofs.Common.{◌≡◌, ◌≢◌, ℕ, ◌+◌, ◌/◌, ◌<◌, ◌≤◌, ◌⊎◌, inl, inr, Bool, true, false, not, cond, List, [], ◌∷◌, ◌++◌, length, map, refl, sym, ap, subst, ◌∙◌, arith, ne_eqb, eq-eqb, ◌==◌, flat_map, sum_by, Decides, AllByRecursion, cases_eq, cases_lt, Decides-like, ints, sum_by-cons, PlaceEnd, UseStep, Object, Serial, ups, downs, is_at_or_above, born_below, IsTree, path_of, Report, journals_of, AreBalanced, group_uses, tag_keys, left_keys, AreFinal, own_key, keys_with, start_of, up_keys, down_keys, items_of, left_below, all_both}
 use Rattle.shr_replay.specs.Tags.{tag_of}
-use Rattle.shr_audit_charges.specs.Left.{left_below}
 use Rattle.shr_audit_charges.proofs.BalanceLaw.{none_of}
 use Rattle.shr_audit_charges.proofs.PathsLaw.{times, times_cons, times_both, path_times, path_there, keyed_group, IsOfGroup}
-use Rattle.shr_model.proofs.Lists.{all_both}
 
 abbrev nobody : Serial
 nobody = record { worker = 0; command = 0 }
@@ -59,7 +56,7 @@ one_way up o g = by_eq up o.up (cases_eq o.group g)
         nothing true = refl
         nothing false = refl
 
-pub ways_times : (up : Bool) (uses : List UseStep) (g : ℕ) → times (own_key g 0 0) (flat_map (keys_of up false) uses) ≡ ways up (uses_of uses g)
+pub ways_times : (up : Bool) (uses : List UseStep) (g : ℕ) → times (own_key g 0 0) (flat_map (keys_of up false) uses) ≡ ways up (group_uses uses g)
 ways_times true [] g = refl
 ways_times false [] g = refl
 ways_times up (o ∷ os) g = by_group (o.group == g) refl (ways_times up os g)
@@ -67,13 +64,13 @@ ways_times up (o ∷ os) g = by_group (o.group == g) refl (ways_times up os g)
     split : times (own_key g 0 0) (flat_map (keys_of up false) (o ∷ os)) ≡ cond (o.group == g) (way up o) 0 + times (own_key g 0 0) (flat_map (keys_of up false) os)
     split = times_both (own_key g 0 0) (keys_of up false o) (flat_map (keys_of up false) os) ∙ ap (λ (n : ℕ). n + times (own_key g 0 0) (flat_map (keys_of up false) os)) (one_way up o g)
 
-    by_group : (b : Bool) → (o.group == g) ≡ b → times (own_key g 0 0) (flat_map (keys_of up false) os) ≡ ways up (uses_of os g) → times (own_key g 0 0) (flat_map (keys_of up false) (o ∷ os)) ≡ ways up (uses_of (o ∷ os) g)
+    by_group : (b : Bool) → (o.group == g) ≡ b → times (own_key g 0 0) (flat_map (keys_of up false) os) ≡ ways up (group_uses os g) → times (own_key g 0 0) (flat_map (keys_of up false) (o ∷ os)) ≡ ways up (group_uses (o ∷ os) g)
     by_group true e more =
-        let s = split in let x = ap {B = ℕ} (λ (t : Bool). cond t (way up o) 0) e in let w = ways_cons up o (uses_of os g) in
-        let l = ap (λ (t : Bool). ways up (cond t (o ∷ uses_of os g) (uses_of os g))) e in omega (arith, s, x, w, l, more)
+        let s = split in let x = ap {B = ℕ} (λ (t : Bool). cond t (way up o) 0) e in let w = ways_cons up o (group_uses os g) in
+        let l = ap (λ (t : Bool). ways up (cond t (o ∷ group_uses os g) (group_uses os g))) e in omega (arith, s, x, w, l, more)
     by_group false e more =
         let s = split in let x = ap {B = ℕ} (λ (t : Bool). cond t (way up o) 0) e in
-        let l = ap (λ (t : Bool). ways up (cond t (o ∷ uses_of os g) (uses_of os g))) e in omega (arith, s, x, l, more)
+        let l = ap (λ (t : Bool). ways up (cond t (o ∷ group_uses os g) (group_uses os g))) e in omega (arith, s, x, l, more)
 
 -- ---- objects
 
@@ -147,16 +144,16 @@ final_decided parents r uses ends us some ds b tree there ends_are us_are some_a
     downs_are : ds ≡ flat_map (down_keys false) uses ++ flat_map (λ (end : PlaceEnd). left_keys parents r end.place) r.places.items
     downs_are = ds_are ∙ ap (λ (l : List ℕ). l ++ flat_map (λ (end : PlaceEnd). left_keys parents r end.place) ends) some_are ∙ ap (λ (l : List PlaceEnd). flat_map (down_keys false) uses ++ flat_map (λ (end : PlaceEnd). left_keys parents r end.place) l) ends_are
 
-    up_times : (g : ℕ) → times (own_key g 0 0) us ≡ ups (uses_of uses g)
+    up_times : (g : ℕ) → times (own_key g 0 0) us ≡ ups (group_uses uses g)
     up_times g = ap (times (own_key g 0 0)) us_are ∙ ways_times true uses g
 
-    down_times : (g : ℕ) → g < length parents → times (own_key g 0 0) ds ≡ downs (uses_of uses g) + left_below parents r g
+    down_times : (g : ℕ) → g < length parents → times (own_key g 0 0) ds ≡ downs (group_uses uses g) + left_below parents r g
     down_times g lt =
         ap (times (own_key g 0 0)) downs_are ∙ times_both (own_key g 0 0) (flat_map (down_keys false) uses) (flat_map (λ (end : PlaceEnd). left_keys parents r end.place) r.places.items)
-        ∙ ap (λ (n : ℕ). n + times (own_key g 0 0) (flat_map (λ (end : PlaceEnd). left_keys parents r end.place) r.places.items)) (ways_times false uses g) ∙ ap (λ (n : ℕ). downs (uses_of uses g) + n) (left_times parents r g r.places.items tree lt)
+        ∙ ap (λ (n : ℕ). n + times (own_key g 0 0) (flat_map (λ (end : PlaceEnd). left_keys parents r end.place) r.places.items)) (ways_times false uses g) ∙ ap (λ (n : ℕ). downs (group_uses uses g) + n) (left_times parents r g r.places.items tree lt)
 
     to : AreBalanced us ds → AreFinal parents r uses
-    to law g lt = let u = up_times g in let d = down_times g lt in let e = law (own_key g 0 0) in let same : ups (uses_of uses g) ≡ downs (uses_of uses g) + left_below parents r g = omega (arith, u, d, e) in omega (arith, ints, same)
+    to law g lt = let u = up_times g in let d = down_times g lt in let e = law (own_key g 0 0) in let same : ups (group_uses uses g) ≡ downs (group_uses uses g) + left_below parents r g = omega (arith, u, d, e) in omega (arith, ints, same)
 
     from : AreFinal parents r uses → AreBalanced us ds
     from law key = by_kind (alone_or_not (length parents) key)
@@ -165,7 +162,7 @@ final_decided parents r uses ends us some ds b tree there ends_are us_are some_a
         by_kind (inl k) = unfold IsAlone in
             let g = key / 281474976710656 in
             let u = up_times g in let d = down_times g k.1 in let f = law g k.1 in
-            let same : ups (uses_of uses g) ≡ downs (uses_of uses g) + left_below parents r g = omega (arith, ints, f) in
+            let same : ups (group_uses uses g) ≡ downs (group_uses uses g) + left_below parents r g = omega (arith, ints, f) in
             subst (λ (q : ℕ). times q us ≡ times q ds) (sym k.0) (u ∙ same ∙ sym d)
         by_kind (inr not) =
             ap (times key) us_are ∙ none_of (IsAlone (length parents)) key (flat_map (up_keys false) uses) not (uses_alone true (length parents) uses there)

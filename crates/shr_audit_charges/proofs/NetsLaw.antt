@@ -1,9 +1,8 @@
 -- What each command charged and freed, counted by its keys.
-use Rattle.shr_audit_charges.proofs.Common.{◌≡◌, ◌≢◌, ℕ, zero, suc, ◌+◌, ◌<◌, ◌≤◌, ◌^◌, ◌⊎◌, inl, inr, Bool, true, false, not, ◌&&◌, cond, List, [], ◌∷◌, ◌++◌, length, map, take, Option, Some, None, refl, sym, ap, ◌∙◌, arith, ne_eqb, eq-eqb, ◌==◌, flat_map, sum_by, slice_get, option_map, option_and_then, AllByRecursion, enumerate_from, cases_eq, sum_by-cons, PlaceEnd, Entry, UseStep, Object, Place, Serial, Answered, Reply, Command, WorkerScript, is_serial, items_at, Freeing, freeings_at, is_at_or_above, born_below, IsTree, path_of, freed_by, Report, charged, freed_in, is_of, IsUseNumbered, answer_at, commands_in, entry_by, journals_of, reply_at, serial_of, by_keys, freed_keys, place_keys, charge_keys, answer_keys, commands_keys, workers_keys, own_key, keys_with, path_keys, start_of}
+use Rattle.shr_audit_charges.proofs.Common.{◌≡◌, ◌≢◌, ℕ, zero, suc, ◌+◌, ◌<◌, ◌≤◌, ◌^◌, ◌⊎◌, inl, inr, Bool, true, false, not, ◌&&◌, cond, List, [], ◌∷◌, ◌++◌, length, map, take, Option, Some, None, refl, sym, ap, ◌∙◌, arith, ne_eqb, eq-eqb, ◌==◌, flat_map, sum_by, slice_get, option_map, option_and_then, AllByRecursion, enumerate_from, cases_eq, sum_by-cons, PlaceEnd, Entry, UseStep, Object, Place, Serial, Answered, Reply, Command, WorkerScript, is_serial, items_at, Freeing, freeings_at, is_at_or_above, born_below, IsTree, path_of, freed_by, Report, charged, freed_in_command, is_of, IsUseNumbered, answer_at, commands_in, entry_by, journals_of, reply_at, serial_of, by_keys, freed_keys, place_keys, charge_keys, answer_keys, commands_keys, workers_keys, own_key, keys_with, path_keys, start_of, lists_moved_at}
 use Rattle.std.proofs.lemmas.List.Concat.{flat_map-append}
 use Rattle.shr_base.specs.declared.replies.Reply.TheVariants as reply
 use Rattle.shr_base.specs.declared.scripts.Command.TheVariants as command
-use Rattle.shr_model.specs.Families.{lists_moved_at}
 use Rattle.shr_model.specs.Items.{step, first_moved, later_moved, items_from}
 use Rattle.shr_replay.specs.Journals.{freed_tags}
 use Rattle.shr_replay.specs.Tags.{freed_tag}
@@ -256,7 +255,7 @@ cond_none : (b : Bool) → ◌≡◌ {A = ℕ} 0 (cond b 0 0)
 cond_none true = refl
 cond_none false = refl
 
-objects_count : (parents : List ℕ) (r : Report) (entries : List Entry) (g n : ℕ) (by : Serial) (x : Option Serial) (os : List Object) → IsTree parents → g < length parents → InRange by → InRangeIf x → nets.freed_by r entries n ≡ x
+objects_count : (parents : List ℕ) (r : Report) (entries : List Entry) (g n : ℕ) (by : Serial) (x : Option Serial) (os : List Object) → IsTree parents → g < length parents → InRange by → InRangeIf x → nets.freeing_command r entries n ≡ x
     → times (key_in g by) (flat_map (freed_keys parents r entries) (map (freed_tag n) os)) ≡ cond (is_of by x) (born_below parents g os) 0
 objects_count parents r entries g n by x [] tree lt ra rx is = cond_none (is_of by x)
 objects_count parents r entries g n by x (o ∷ os) tree lt ra rx is =
@@ -270,7 +269,7 @@ objects_count parents r entries g n by x (o ∷ os) tree lt ra rx is =
 
 tags_count : (parents : List ℕ) (r : Report) (entries : List Entry) (g : ℕ) (by : Serial) (I : ℕ → List Object) (n : ℕ) (moved : List (List Object)) (items : List Object) (rest : List Entry) → IsTree parents → g < length parents → InRange by
     → ((k : ℕ) (e : Entry) → slice_get entries k ≡ Some e → InRangeIf (entry_by r e)) → ((k : ℕ) (e : Entry) → slice_get rest k ≡ Some e → slice_get entries (n + k) ≡ Some e) → ((k : ℕ) → I (n + k) ≡ items_from moved items (take k rest))
-    → times (key_in g by) (flat_map (freed_keys parents r entries) (freed_tags n moved items rest)) ≡ sum_by (freed_in r parents by g) (map (λ (e : ℕ × Entry). let f : Freeing = record { entry = e.1; objects = freed_by (I e.0) e.1 } in f) (enumerate_from n rest))
+    → times (key_in g by) (flat_map (freed_keys parents r entries) (freed_tags n moved items rest)) ≡ sum_by (freed_in_command r parents by g) (map (λ (e : ℕ × Entry). let f : Freeing = record { entry = e.1; objects = freed_by (I e.0) e.1 } in f) (enumerate_from n rest))
 unfolding freed_tags items_from
 tags_count parents r entries g by I n moved items [] tree lt ra numbered stands H = refl
 tags_count parents r entries g by I n moved items (e ∷ es) tree lt ra numbered stands H =
@@ -281,8 +280,8 @@ tags_count parents r entries g by I n moved items (e ∷ es) tree lt ra numbered
     let more = tags_count parents r entries g by I (n + 1) (later_moved e moved) (step (first_moved moved) items e) es tree lt ra numbered
     (λ k d there. ap (slice_get entries) (let z : n + 1 + k ≡ n + suc k = omega arith in z) ∙ stands (suc k) d there) (λ k. ap I (let z : n + 1 + k ≡ n + suc k = omega arith in z) ∙ H (suc k)) in
     let F : Freeing = record { entry = e; objects = freed_by (I n) e } in
-    let sum = sum_by-cons (freed_in r parents by g) F (map (λ (d : ℕ × Entry). let f : Freeing = record { entry = d.1; objects = freed_by (I d.0) d.1 } in f) (enumerate_from (n + 1) es)) in
-    let own : freed_in r parents by g F ≡ cond (is_of by (entry_by r e)) (born_below parents g (freed_by items e)) 0 = ap (λ (l : List Object). cond (is_of by (entry_by r e)) (born_below parents g (freed_by l e)) 0) items_is in
+    let sum = sum_by-cons (freed_in_command r parents by g) F (map (λ (d : ℕ × Entry). let f : Freeing = record { entry = d.1; objects = freed_by (I d.0) d.1 } in f) (enumerate_from (n + 1) es)) in
+    let own : freed_in_command r parents by g F ≡ cond (is_of by (entry_by r e)) (born_below parents g (freed_by items e)) 0 = ap (λ (l : List Object). cond (is_of by (entry_by r e)) (born_below parents g (freed_by l e)) 0) items_is in
     omega (arith, head, here, more, sum, own)
   where
     freed_tags_head : times (key_in g by) (flat_map (freed_keys parents r entries) (map (freed_tag n) (freed_by items e) ++ freed_tags (n + 1) (later_moved e moved) (step (first_moved moved) items e) es))
@@ -291,15 +290,15 @@ tags_count parents r entries g by I n moved items (e ∷ es) tree lt ra numbered
         ∙ times_both (key_in g by) (flat_map (freed_keys parents r entries) (map (freed_tag n) (freed_by items e))) (flat_map (freed_keys parents r entries) (freed_tags (n + 1) (later_moved e moved) (step (first_moved moved) items e) es))
 
 pub place_count : (parents : List ℕ) (r : Report) (place : Place) (g : ℕ) (by : Serial) → IsTree parents → g < length parents → InRange by → ((k : ℕ) (e : Entry) → slice_get (journals_of r place) k ≡ Some e → InRangeIf (entry_by r e))
-    → times (key_in g by) (place_keys parents r place) ≡ sum_by (freed_in r parents by g) (freeings_at parents (journals_of r) place)
+    → times (key_in g by) (place_keys parents r place) ≡ sum_by (freed_in_command r parents by g) (freeings_at parents (journals_of r) place)
 place_count parents r place g by tree lt ra numbered = tags_count parents r (journals_of r place) g by (items_at parents (journals_of r) place) 0 (lists_moved_at parents (journals_of r) place) [] (journals_of r place) tree lt ra numbered
     (λ k e at. ap (slice_get (journals_of r place)) (let z : 0 + k ≡ k = omega arith in z) ∙ at) (λ k. ap (items_at parents (journals_of r) place) (let z : 0 + k ≡ k = omega arith in z))
 
 pub ends_count : (parents : List ℕ) (r : Report) (g : ℕ) (by : Serial) (ends : List PlaceEnd) → IsTree parents → g < length parents → InRange by → ((place : Place) (k : ℕ) (e : Entry) → slice_get (journals_of r place) k ≡ Some e → InRangeIf (entry_by r e))
-    → times (key_in g by) (flat_map (λ (end : PlaceEnd). place_keys parents r end.place) ends) ≡ sum_by (λ place. sum_by (freed_in r parents by g) (freeings_at parents (journals_of r) place)) (map (λ (end : PlaceEnd). end.place) ends)
+    → times (key_in g by) (flat_map (λ (end : PlaceEnd). place_keys parents r end.place) ends) ≡ sum_by (λ place. sum_by (freed_in_command r parents by g) (freeings_at parents (journals_of r) place)) (map (λ (end : PlaceEnd). end.place) ends)
 ends_count parents r g by [] tree lt ra numbered = refl
 ends_count parents r g by (end ∷ ends) tree lt ra numbered =
     let here = place_count parents r end.place g by tree lt ra (numbered end.place) in
     let both = times_both (key_in g by) (place_keys parents r end.place) (flat_map (λ (x : PlaceEnd). place_keys parents r x.place) ends) in
     let more = ends_count parents r g by ends tree lt ra numbered in
-    let sum = sum_by-cons (λ place. sum_by (freed_in r parents by g) (freeings_at parents (journals_of r) place)) end.place (map (λ (x : PlaceEnd). x.place) ends) in omega (arith, here, both, more, sum)
+    let sum = sum_by-cons (λ place. sum_by (freed_in_command r parents by g) (freeings_at parents (journals_of r) place)) end.place (map (λ (x : PlaceEnd). x.place) ends) in omega (arith, here, both, more, sum)

@@ -1,14 +1,10 @@
 -- The law on what each command's operations come to, against the keys that go up and down.
-use Rattle.shr_audit_charges.proofs.Common.{◌≡◌, ℕ, suc, ◌+◌, ◌-◌, ◌/◌, ◌%◌, ◌<◌, ◌≤◌, ◌^◌, ◌⊎◌, inl, inr, Bool, true, false, cond, List, [], ◌∷◌, ◌++◌, length, map, Option, Some, None, refl, sym, ap, subst, ◌∙◌, arith, pos, find, flat_map, sum_by, slice_get, nat_lt, option_map, option_and_then, Decides, AllByRecursion, enumerate_from, cases_lt, nat_tests, Decides-like, ints, sum_by-cons, slice_get_past, slice_get_within, PlaceEnd, Entry, UseStep, Place, Serial, Answered, Reply, Command, Script, WorkerScript, ups, downs, is_serial, Freeing, freeings_at, born_below, items_at, IsTree, freed_by, FreedTag, Report, charged, freed_in, is_of, IsUseNumbered, answer_at, commands_in, entry_by, journals_of, parents_of, reply_at, serial_of, AreBalanced, AreFew, AreNets, by_keys, freed_keys, place_keys, answer_keys, commands_keys, workers_keys, up_keys, down_keys, some_is}
-use Rattle.std.specs.Prelude.{◌-ℤ◌}
+use Rattle.shr_audit_charges.proofs.Common.{◌≡◌, ℕ, suc, ◌+◌, ◌-◌, ◌/◌, ◌%◌, ◌<◌, ◌≤◌, ◌^◌, ◌⊎◌, inl, inr, Bool, true, false, cond, List, [], ◌∷◌, ◌++◌, length, map, Option, Some, None, refl, sym, ap, subst, ◌∙◌, arith, pos, find, flat_map, sum_by, slice_get, nat_lt, option_map, option_and_then, Decides, AllByRecursion, enumerate_from, cases_lt, nat_tests, Decides-like, ints, sum_by-cons, slice_get_past, slice_get_within, PlaceEnd, Entry, UseStep, Place, Serial, Answered, Reply, Command, Script, WorkerScript, ups, downs, is_serial, Freeing, freeings_at, born_below, items_at, IsTree, freed_by, FreedTag, Report, charged, freed_in_command, is_of, IsUseNumbered, answer_at, commands_in, entry_by, journals_of, parents_of, reply_at, serial_of, AreBalanced, AreWorkersFew, AreNets, by_keys, freed_keys, place_keys, answer_keys, commands_keys, workers_keys, up_keys, down_keys, some_is, ◌-ℤ◌, usage_after, HasNumbers, IsEntryNumbered, IsIsolationNumbered, IsListNumbered, IsPartNumbered, IsWalkNumbered, command_at, isolations_in, journal_of, walks_in, all_both}
 use Rattle.shr_base.specs.declared.ends.WorkerPart.{WorkerPart}
 use Rattle.shr_base.specs.declared.journals.Entry.TheVariants as entry
 use Rattle.shr_base.specs.declared.walks.Isolation.{Isolation}
 use Rattle.shr_base.specs.declared.walks.WalkRecord.{WalkRecord}
-use Rattle.shr_model.specs.Charges.{usage_after}
 use Rattle.shr_model.specs.Places.{is_place}
-use Rattle.shr_report.specs.Numbers.{HasNumbers, IsEntryNumbered, IsIsolationNumbered, IsListNumbered, IsPartNumbered, IsWalkNumbered}
-use Rattle.shr_report.specs.Parts.{command_at, isolations_in, journal_of, walks_in}
 use Rattle.shr_formed.proofs.Eachs.{each_in}
 use Rattle.shr_audit_charges.proofs.BalanceLaw.{none_of}
 use Rattle.shr_audit_charges.proofs.LeftLaw.{keys_of}
@@ -16,7 +12,6 @@ use Rattle.shr_audit_charges.proofs.NetsLaw.{InRange, InRangeIf, Short, Charges,
 use Rattle.shr_audit_charges.proofs.OwnLaw.{own, IsOwn, own_or_not}
 use Rattle.shr_audit_charges.proofs.PathsLaw.{times, times_both, path_there, keyed_group, IsOfGroup}
 use Rattle.shr_audit_charges.proofs.Pushed.{none_some}
-use Rattle.shr_model.proofs.Lists.{all_both}
 
 -- ---- the numbers of the commands of entries
 
@@ -98,21 +93,21 @@ not_of by (Some other) out rx = by_bool (is_serial by other) refl
 abbrev freeing_at : (ℕ → List (Rattle.shr_base.specs.declared.objects.Object.Object)) → ℕ × Entry → Freeing
 freeing_at I e = record { entry = e.1; objects = freed_by (I e.0) e.1 }
 
-entries_none : (parents : List ℕ) (r : Report) (g : ℕ) (by : Serial) (I : ℕ → List (Rattle.shr_base.specs.declared.objects.Object.Object)) (n : ℕ) (rest : List Entry) → (InRange by → ⊥) → ((k : ℕ) (e : Entry) → slice_get rest k ≡ Some e → InRangeIf (entry_by r e)) → sum_by (freed_in r parents by g) (map (freeing_at I) (enumerate_from n rest)) ≡ 0
+entries_none : (parents : List ℕ) (r : Report) (g : ℕ) (by : Serial) (I : ℕ → List (Rattle.shr_base.specs.declared.objects.Object.Object)) (n : ℕ) (rest : List Entry) → (InRange by → ⊥) → ((k : ℕ) (e : Entry) → slice_get rest k ≡ Some e → InRangeIf (entry_by r e)) → sum_by (freed_in_command r parents by g) (map (freeing_at I) (enumerate_from n rest)) ≡ 0
 entries_none parents r g by I n [] out h = refl
 entries_none parents r g by I n (e ∷ es) out h =
     let f = ap {B = ℕ} (λ (b : Bool). cond b (born_below parents g (freed_by (I n) e)) 0) (not_of by (entry_by r e) out (h 0 e refl)) in
-    let sum = sum_by-cons (freed_in r parents by g) (freeing_at I (n, e)) (map (freeing_at I) (enumerate_from (n + 1) es)) in
+    let sum = sum_by-cons (freed_in_command r parents by g) (freeing_at I (n, e)) (map (freeing_at I) (enumerate_from (n + 1) es)) in
     let more = entries_none parents r g by I (n + 1) es out (λ k d at. h (suc k) d at) in omega (arith, f, sum, more)
 
-places_none : (parents : List ℕ) (r : Report) (g : ℕ) (by : Serial) (places : List Place) → HasNumbers r → (InRange by → ⊥) → sum_by (λ place. sum_by (freed_in r parents by g) (freeings_at parents (journals_of r) place)) places ≡ 0
+places_none : (parents : List ℕ) (r : Report) (g : ℕ) (by : Serial) (places : List Place) → HasNumbers r → (InRange by → ⊥) → sum_by (λ place. sum_by (freed_in_command r parents by g) (freeings_at parents (journals_of r) place)) places ≡ 0
 places_none parents r g by [] numbers out = refl
 places_none parents r g by (p ∷ ps) numbers out =
     let here = entries_none parents r g by (items_at parents (journals_of r) p) 0 (journals_of r p) out (numbered r numbers p) in
-    let sum = sum_by-cons (λ place. sum_by (freed_in r parents by g) (freeings_at parents (journals_of r) place)) p ps in
+    let sum = sum_by-cons (λ place. sum_by (freed_in_command r parents by g) (freeings_at parents (journals_of r) place)) p ps in
     let more = places_none parents r g by ps numbers out in omega (arith, here, sum, more)
 
-charged_none : (parents : List ℕ) (g : ℕ) (workers : List WorkerScript) (by : Serial) (x : Option Reply) → AreFew workers → (InRange by → ⊥) → charged parents g (slice_get (commands_in (slice_get workers by.worker)) by.command) x ≡ 0
+charged_none : (parents : List ℕ) (g : ℕ) (workers : List WorkerScript) (by : Serial) (x : Option Reply) → AreWorkersFew workers → (InRange by → ⊥) → charged parents g (slice_get (commands_in (slice_get workers by.worker)) by.command) x ≡ 0
 charged_none parents g workers by x few out = by_worker (slice_get workers by.worker) refl
   where
     by_worker : (o : Option WorkerScript) → slice_get workers by.worker ≡ o → charged parents g (slice_get (commands_in o) by.command) x ≡ 0
@@ -179,19 +174,19 @@ all_short : (ws : List WorkerScript) → ((worker : ℕ) (w : WorkerScript) → 
 all_short [] h = tt
 all_short (w ∷ ws) h = (h 0 w refl, all_short ws (λ k x at. h (suc k) x at))
 
-pub nets_decided : (s : Script) (r : Report) (parents : List ℕ) (uses : List UseStep) (ends : List PlaceEnd) (workers : List WorkerScript) (first us second ds : List ℕ) (b : Bool) → parents ≡ parents_of s → IsTree parents → AreFew s.workers.items → HasNumbers r → AllByRecursion (λ (o : UseStep). o.group < length parents) r.uses.items
+pub nets_decided : (s : Script) (r : Report) (parents : List ℕ) (uses : List UseStep) (ends : List PlaceEnd) (workers : List WorkerScript) (first us second ds : List ℕ) (b : Bool) → parents ≡ parents_of s → IsTree parents → AreWorkersFew s.workers.items → HasNumbers r → AllByRecursion (λ (o : UseStep). o.group < length parents) r.uses.items
     → uses ≡ r.uses.items → ends ≡ r.places.items → workers ≡ s.workers.items → first ≡ [] ++ flat_map (up_keys true) uses → us ≡ first ++ flat_map (λ (end : PlaceEnd). place_keys parents r end.place) ends
     → second ≡ [] ++ flat_map (down_keys true) uses → ds ≡ second ++ workers_keys parents r 0 workers → Decides b (AreBalanced us ds) → Decides b (AreNets s r)
 nets_decided s r parents uses ends workers first us second ds b parents_are tree few numbers there uses_are ends_are workers_are first_is us_are second_is ds_are decided = subst (λ (ps : List ℕ). Decides b (law ps)) parents_are (Decides-like b to from decided)
   where
     law : List ℕ → Type 0
-    law ps = (by : Serial) (g : ℕ) → g < length ps → usage_after (own g by r.uses.items) ≡ pos (charged ps g (command_at s by) (reply_at r by)) -ℤ pos (sum_by (λ place. sum_by (freed_in r ps by g) (freeings_at ps (journals_of r) place)) (map (λ (end : PlaceEnd). end.place) r.places.items))
+    law ps = (by : Serial) (g : ℕ) → g < length ps → usage_after (own g by r.uses.items) ≡ pos (charged ps g (command_at s by) (reply_at r by)) -ℤ pos (sum_by (λ place. sum_by (freed_in_command r ps by g) (freeings_at ps (journals_of r) place)) (map (λ (end : PlaceEnd). end.place) r.places.items))
 
     short : AllByRecursion Short s.workers.items
     short = all_short s.workers.items few.short
 
     freed : ℕ → Serial → ℕ
-    freed g by = sum_by (λ place. sum_by (freed_in r parents by g) (freeings_at parents (journals_of r) place)) (map (λ (end : PlaceEnd). end.place) r.places.items)
+    freed g by = sum_by (λ place. sum_by (freed_in_command r parents by g) (freeings_at parents (journals_of r) place)) (map (λ (end : PlaceEnd). end.place) r.places.items)
 
     ups_are : us ≡ flat_map (up_keys true) r.uses.items ++ flat_map (λ (end : PlaceEnd). place_keys parents r end.place) r.places.items
     ups_are = us_are ∙ ap (λ (l : List ℕ). l ++ flat_map (λ (end : PlaceEnd). place_keys parents r end.place) ends) (first_is ∙ ap (flat_map (up_keys true)) uses_are) ∙ ap (λ (l : List PlaceEnd). flat_map (up_keys true) r.uses.items ++ flat_map (λ (end : PlaceEnd). place_keys parents r end.place) l) ends_are

@@ -1,9 +1,7 @@
 -- Lists with one item more at the end, and what is so of each item and those before it.
-use Rattle.shr_audit_charges.proofs.Common.{◌≡◌, ◌≢◌, ℕ, zero, suc, ◌+◌, ◌<◌, ◌≤◌, Bool, true, false, cond, List, [], ◌∷◌, ◌++◌, length, get_or, set, take, drop, Option, Some, None, refl, sym, ap, subst, ◌∙◌, arith, ◌⊎◌, inl, inr, filter, slice_get, AllByRecursion, cases_lt, get_or_default, length-set, slice_get-get_or, slice_get_past, some_is}
-use Rattle.std.proofs.lemmas.List.{take-append-drop, at_drop_more, get_or-set_same, get_or-set_other}
+use Rattle.shr_audit_charges.proofs.Common.{◌≡◌, ◌≢◌, ℕ, zero, suc, ◌+◌, ◌<◌, ◌≤◌, Bool, true, false, cond, List, [], ◌∷◌, ◌++◌, length, get_or, set, take, drop, Option, Some, None, refl, sym, ap, subst, ◌∙◌, arith, ◌⊎◌, inl, inr, filter, slice_get, AllByRecursion, cases_lt, get_or_default, length-set, slice_get-get_or, slice_get_past, some_is, take-append-drop, at_drop_more, get_or-set_same, get_or-set_other, all_push}
 use Rattle.std.proofs.lemmas.List.Elements.{filter-append}
 use Rattle.shr_formed.proofs.Eachs.{each_more}
-use Rattle.shr_model.proofs.Lists.{all_push}
 
 pub none_some : {X : Type 0} (a : X) → ◌≡◌ {A = Option X} None (Some a) → ⊥
 none_some a e = cc

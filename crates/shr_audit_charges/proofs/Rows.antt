@@ -1,7 +1,5 @@
 -- Lists that a loop adds to, item by item.
-use Rattle.shr_audit_charges.proofs.Common.{◌≡◌, ℕ, ◌+◌, ◌<◌, ◌≤◌, List, [], ◌∷◌, ◌++◌, length, get_or, map, take, sym, ap, ◌∙◌, flat_map, get_or_default, flat_all, map_end}
-use Rattle.std.proofs.lemmas.List.{map_more}
-use Rattle.shr_model.proofs.Lists.{added_to, flat_one}
+use Rattle.shr_audit_charges.proofs.Common.{◌≡◌, ℕ, ◌+◌, ◌<◌, ◌≤◌, List, [], ◌∷◌, ◌++◌, length, get_or, map, take, sym, ap, ◌∙◌, flat_map, get_or_default, flat_all, map_end, map_more, added_to, flat_one}
 
 -- one item more
 pub flat_step : {X Y : Type 0} (f : X → List Y) (xs : List X) (i : ℕ) (y : X) (a old next : List Y) → i < length xs → y ≡ get_or xs i y → old ≡ a ++ flat_map f (take i xs) → next ≡ old ++ f y → next ≡ a ++ flat_map f (take (i + 1) xs)

@@ -1,16 +1,10 @@
 -- What the journal of the tree says of each group after one entry more, and when it may follow.
-use Rattle.shr_audit_charges.proofs.Common.{◌≡◌, ◌≢◌, ℕ, zero, suc, ◌+◌, ◌<◌, ◌≤◌, ◌⊎◌, inl, inr, Bool, true, false, not, ◌&&◌, ◌||◌, cond, List, [], ◌∷◌, ◌++◌, length, get_or, set, take, drop, Option, Some, None, refl, sym, ap, subst, ◌∙◌, arith, ne_eqb, eq-eqb, find, slice_get, cases_eq, take_more, take_all, length-set, length_push, get_or_default, slice_get-get_or, slice_get_within, Begin, Made, IsTree, parent_of, IsTreeJournal, hierarchy, state_of, AreStatesOf, IsUndone, some_is}
-use Rattle.std.proofs.Common.{⊎_elim}
-use Rattle.std.specs.Prelude.{is_some, is_none}
-use Rattle.std.specs.List.{position_from, range_with_len}
-use Rattle.std.proofs.lemmas.Bool.{eqb-true}
+use Rattle.shr_audit_charges.proofs.Common.{◌≡◌, ◌≢◌, ℕ, zero, suc, ◌+◌, ◌<◌, ◌≤◌, ◌⊎◌, inl, inr, Bool, true, false, not, ◌&&◌, ◌||◌, cond, List, [], ◌∷◌, ◌++◌, length, get_or, set, take, drop, Option, Some, None, refl, sym, ap, subst, ◌∙◌, arith, ne_eqb, eq-eqb, find, slice_get, cases_eq, take_more, take_all, length-set, length_push, get_or_default, slice_get-get_or, slice_get_within, Begin, Made, IsTree, parent_of, IsTreeJournal, hierarchy, state_of_group, AreGroupStatesOf, IsUndone, some_is, ⊎_elim, is_some, is_none, position_from, range_with_len, eqb-true, Done, Hierarchy, is_child, is_later}
 use Rattle.shr_base.specs.declared.journals.TreeEntry.{TreeEntry}
-use Rattle.shr_base.specs.declared.journals.TreeEntry.TheVariants.{Done}
-use Rattle.shr_model.specs.Groups.{Hierarchy, is_child, is_later}
 use Rattle.shr_model.specs.TreeJournal.{is_begin, is_done, is_making, begin_of, done_of, made_of, is_made, is_undone_child, undone_child, MayBegin, MayBeDone, MayBeMade, MayFollow}
 use Rattle.shr_model.proofs.GroupsLaws.{child_again, child_takes}
 use Rattle.shr_audit_charges.specs.declared.tree.GroupState.{GroupState}
-use Rattle.shr_audit_charges.specs.Tree.{group_of, AreFirst, state_with, put_state, noted, HasUndone, MayBeginNow, MayBeDoneNow, MayBeMadeNow, MayStandNow}
+use Rattle.shr_audit_charges.specs.Tree.{entry_group, AreFirstStates, group_state_with, put_group_state, with_tree_entry, HasUndone, MayBeginNow, MayBeDoneNow, MayBeMadeNow, MayStandNow}
 use Rattle.shr_audit_charges.proofs.Pushed.{push_each, here_each, split_at, set_own, set_other, none_some}
 use Rattle.shr_model.proofs.Booleans.{both_and, or_false}
 
@@ -79,38 +73,38 @@ module _ (h : Hierarchy) (es : List TreeEntry) where
   made_not : (e : TreeEntry) (g : ℕ) → is_making g e ≡ false → is_made h (es ++ e ∷ []) g ≡ is_made h es g
   made_not e g f = made_push e g ∙ ap (λ (b : Bool). not (is_later h.later g) || (is_some (made_of es g) || b)) f ∙ ap (λ (b : Bool). not (is_later h.later g) || b) (or_false (is_some (made_of es g)))
 
-  own_state : (e : TreeEntry) → state_of h (es ++ e ∷ []) (group_of e) ≡ state_with (state_of h es (group_of e)) e
+  own_state : (e : TreeEntry) → state_of_group h (es ++ e ∷ []) (entry_group e) ≡ group_state_with (state_of_group h es (entry_group e)) e
   own_state (Begin g) = state_is _ _ _ _ _ _ (made_not (Begin g) g refl) (begun_push (Begin g) g ∙ ap (λ (b : Bool). is_some (begin_of es g) || b) (eq-eqb g g refl) ∙ or_true (is_some (begin_of es g))) (done_not (Begin g) g refl)
   own_state (Done g) = state_is _ _ _ _ _ _ (made_not (Done g) g refl) (begun_not (Done g) g refl) (done_push (Done g) g ∙ ap (λ (b : Bool). is_some (done_of es g) || b) (eq-eqb g g refl) ∙ or_true (is_some (done_of es g)))
   own_state (Made g) = state_is _ _ _ _ _ _
       (made_push (Made g) g ∙ ap (λ (b : Bool). not (is_later h.later g) || (is_some (made_of es g) || b)) (eq-eqb g g refl) ∙ ap (λ (b : Bool). not (is_later h.later g) || b) (or_true (is_some (made_of es g))) ∙ or_true (not (is_later h.later g)))
       (begun_not (Made g) g refl) (done_not (Made g) g refl)
 
-  other_state : (e : TreeEntry) (g : ℕ) → group_of e ≢ g → state_of h (es ++ e ∷ []) g ≡ state_of h es g
+  other_state : (e : TreeEntry) (g : ℕ) → entry_group e ≢ g → state_of_group h (es ++ e ∷ []) g ≡ state_of_group h es g
   other_state (Begin k) g ne = state_is _ _ _ _ _ _ (made_not (Begin k) g refl) (begun_not (Begin k) g (ne_eqb k g ne)) (done_not (Begin k) g refl)
   other_state (Done k) g ne = state_is _ _ _ _ _ _ (made_not (Done k) g refl) (begun_not (Done k) g refl) (done_not (Done k) g (ne_eqb k g ne))
   other_state (Made k) g ne = state_is _ _ _ _ _ _ (made_not (Made k) g (ne_eqb k g ne)) (begun_not (Made k) g refl) (done_not (Made k) g refl)
 
-noted_length : (xs : List GroupState) (e : TreeEntry) → length (noted xs e) ≡ length xs
-noted_length xs e = by_state (slice_get xs (group_of e))
+noted_length : (xs : List GroupState) (e : TreeEntry) → length (with_tree_entry xs e) ≡ length xs
+noted_length xs e = by_state (slice_get xs (entry_group e))
   where
-    by_state : (o : Option GroupState) → length (put_state xs e o) ≡ length xs
+    by_state : (o : Option GroupState) → length (put_group_state xs e o) ≡ length xs
     by_state None = refl
-    by_state (Some x) = length-set xs (group_of e) (state_with x e)
+    by_state (Some x) = length-set xs (entry_group e) (group_state_with x e)
 
-noted_states : (h : Hierarchy) (es : List TreeEntry) (xs : List GroupState) (e : TreeEntry) → AreStatesOf h es xs → AreStatesOf h (es ++ e ∷ []) (noted xs e)
-noted_states h es xs e are = record { count = noted_length xs e ∙ are.count; each = λ g x at. by_state g x (slice_get xs (group_of e)) refl at }
+noted_states : (h : Hierarchy) (es : List TreeEntry) (xs : List GroupState) (e : TreeEntry) → AreGroupStatesOf h es xs → AreGroupStatesOf h (es ++ e ∷ []) (with_tree_entry xs e)
+noted_states h es xs e are = record { count = noted_length xs e ∙ are.count; each = λ g x at. by_state g x (slice_get xs (entry_group e)) refl at }
   where
-    by_group : (g : ℕ) (x y : GroupState) → slice_get xs (group_of e) ≡ Some y → (g ≡ group_of e) ⊎ (g ≢ group_of e) → slice_get (set xs (group_of e) (state_with y e)) g ≡ Some x → x ≡ state_of h (es ++ e ∷ []) g
+    by_group : (g : ℕ) (x y : GroupState) → slice_get xs (entry_group e) ≡ Some y → (g ≡ entry_group e) ⊎ (g ≢ entry_group e) → slice_get (set xs (entry_group e) (group_state_with y e)) g ≡ Some x → x ≡ state_of_group h (es ++ e ∷ []) g
     by_group g x y there (inl own) at =
-        let here : slice_get (set xs (group_of e) (state_with y e)) (group_of e) ≡ Some x = subst (λ (j : ℕ). slice_get (set xs (group_of e) (state_with y e)) j ≡ Some x) own at in
-        let x_is : state_with y e ≡ x = some_is (state_with y e) x (sym (set_own xs (group_of e) (state_with y e) (slice_get_within xs (group_of e) y there)) ∙ here) in
-        sym x_is ∙ ap (λ (v : GroupState). state_with v e) (are.each (group_of e) y there) ∙ sym (own_state h es e) ∙ ap (state_of h (es ++ e ∷ [])) (sym own)
-    by_group g x y there (inr other) at = are.each g x (sym (set_other xs (group_of e) g (state_with y e) other) ∙ at) ∙ sym (other_state h es e g (λ same. other (sym same)))
+        let here : slice_get (set xs (entry_group e) (group_state_with y e)) (entry_group e) ≡ Some x = subst (λ (j : ℕ). slice_get (set xs (entry_group e) (group_state_with y e)) j ≡ Some x) own at in
+        let x_is : group_state_with y e ≡ x = some_is (group_state_with y e) x (sym (set_own xs (entry_group e) (group_state_with y e) (slice_get_within xs (entry_group e) y there)) ∙ here) in
+        sym x_is ∙ ap (λ (v : GroupState). group_state_with v e) (are.each (entry_group e) y there) ∙ sym (own_state h es e) ∙ ap (state_of_group h (es ++ e ∷ [])) (sym own)
+    by_group g x y there (inr other) at = are.each g x (sym (set_other xs (entry_group e) g (group_state_with y e) other) ∙ at) ∙ sym (other_state h es e g (λ same. other (sym same)))
 
-    by_state : (g : ℕ) (x : GroupState) (o : Option GroupState) → slice_get xs (group_of e) ≡ o → slice_get (put_state xs e o) g ≡ Some x → x ≡ state_of h (es ++ e ∷ []) g
+    by_state : (g : ℕ) (x : GroupState) (o : Option GroupState) → slice_get xs (entry_group e) ≡ o → slice_get (put_group_state xs e o) g ≡ Some x → x ≡ state_of_group h (es ++ e ∷ []) g
     by_state g x None none at = are.each g x at ∙ sym (other_state h es e g (λ same. absurd (let here = ap (slice_get xs) same in cc)))
-    by_state g x (Some y) there at = by_group g x y there (cases_eq g (group_of e)) at
+    by_state g x (Some y) there at = by_group g x y there (cases_eq g (entry_group e)) at
 
 at_push : (xs : List GroupState) (y : GroupState) (g : ℕ) (x : GroupState) → slice_get (xs ++ y ∷ []) g ≡ Some x → (slice_get xs g ≡ Some x) ⊎ ((g ≡ length xs) × (y ≡ x))
 at_push [] y zero x at = inr (refl, some_is y x at)
@@ -135,10 +129,10 @@ first_more later i d xs ys lt f is = record {
   ];
 }
 
-pub first_all : (later : List Bool) (i : ℕ) (xs : List GroupState) → length later ≤ i → i ≤ length later → AreFirstTo later i xs → AreFirst later xs
+pub first_all : (later : List Bool) (i : ℕ) (xs : List GroupState) → length later ≤ i → i ≤ length later → AreFirstTo later i xs → AreFirstStates later xs
 first_all later i xs over within f = record { count = (let c = f.count in omega (arith, c, over, within)); each = f.each }
 
-pub first_of : (parents : List ℕ) (later : List Bool) (xs : List GroupState) → length later ≡ length parents → AreFirst later xs → IsTreeJournal (hierarchy parents later) [] × AreStatesOf (hierarchy parents later) [] xs
+pub first_of : (parents : List ℕ) (later : List Bool) (xs : List GroupState) → length later ≡ length parents → AreFirstStates later xs → IsTreeJournal (hierarchy parents later) [] × AreGroupStatesOf (hierarchy parents later) [] xs
 first_of parents later xs same f = (λ n e at. absurd (none_some e at), record { count = f.count ∙ same; each = λ g x at. f.each g x at ∙ state_is _ _ _ _ _ _ (sym (or_false (not (is_later later g)))) refl refl })
 
 -- ---- children that are there and aren't done
@@ -164,11 +158,11 @@ and_both true true false e = absurd (let no : false ≡ true = e in cc)
 and_both true false c e = absurd (let no : false ≡ true = e in cc)
 and_both false b c e = absurd (let no : false ≡ true = e in cc)
 
-module _ (parents : List ℕ) (later : List Bool) (es : List TreeEntry) (xs : List GroupState) (are : AreStatesOf (hierarchy parents later) es xs) where
+module _ (parents : List ℕ) (later : List Bool) (es : List TreeEntry) (xs : List GroupState) (are : AreGroupStatesOf (hierarchy parents later) es xs) where
   abbrev h : Hierarchy
   h = hierarchy parents later
 
-  state_at : (g : ℕ) → g < length parents → (x : GroupState) × ((slice_get xs g ≡ Some x) × (x ≡ state_of h es g))
+  state_at : (g : ℕ) → g < length parents → (x : GroupState) × ((slice_get xs g ≡ Some x) × (x ≡ state_of_group h es g))
   state_at g lt =
       let d : GroupState = record { made = false; begun = false; done = false } in
       let c = are.count in
@@ -278,17 +272,17 @@ module _ (parents : List ℕ) (later : List Bool) (es : List TreeEntry) (xs : Li
 
 -- ---- the loop
 
-pub one_more : (parents : List ℕ) (later : List Bool) (es : List TreeEntry) (i : ℕ) (d : TreeEntry) (xs ys zs : List GroupState) → i < length es → IsTreeJournal (hierarchy parents later) (take i es) × AreStatesOf (hierarchy parents later) (take i es) xs → ys ≡ xs → MayStandNow parents later ys (get_or es i d) → zs ≡ noted xs (get_or es i d)
-    → IsTreeJournal (hierarchy parents later) (take (i + 1) es) × AreStatesOf (hierarchy parents later) (take (i + 1) es) zs
+pub one_more : (parents : List ℕ) (later : List Bool) (es : List TreeEntry) (i : ℕ) (d : TreeEntry) (xs ys zs : List GroupState) → i < length es → IsTreeJournal (hierarchy parents later) (take i es) × AreGroupStatesOf (hierarchy parents later) (take i es) xs → ys ≡ xs → MayStandNow parents later ys (get_or es i d) → zs ≡ with_tree_entry xs (get_or es i d)
+    → IsTreeJournal (hierarchy parents later) (take (i + 1) es) × AreGroupStatesOf (hierarchy parents later) (take (i + 1) es) zs
 one_more parents later es i d xs ys zs lt h same may is =
     let e = get_or es i d in
     let one = take_more es i d lt in
     let follow = to_follow parents later (take i es) xs h.1 e (subst (λ (l : List GroupState). MayStandNow parents later l e) same may) in (
       subst (IsTreeJournal (hierarchy parents later)) (sym one) (push_each (MayFollow (hierarchy parents later)) (take i es) e h.0 follow),
-      subst (λ (l : List TreeEntry). AreStatesOf (hierarchy parents later) l zs) (sym one) (subst (λ (l : List GroupState). AreStatesOf (hierarchy parents later) (take i es ++ e ∷ []) l) (sym is) (noted_states (hierarchy parents later) (take i es) xs e h.1)),
+      subst (λ (l : List TreeEntry). AreGroupStatesOf (hierarchy parents later) l zs) (sym one) (subst (λ (l : List GroupState). AreGroupStatesOf (hierarchy parents later) (take i es ++ e ∷ []) l) (sym is) (noted_states (hierarchy parents later) (take i es) xs e h.1)),
     )
 
-pub not_one_more : (parents : List ℕ) (later : List Bool) (es : List TreeEntry) (i : ℕ) (d : TreeEntry) (xs ys : List GroupState) → i < length es → IsTree parents → IsTreeJournal (hierarchy parents later) (take i es) × AreStatesOf (hierarchy parents later) (take i es) xs → ys ≡ xs → (MayStandNow parents later ys (get_or es i d) → ⊥) → IsTreeJournal (hierarchy parents later) es → ⊥
+pub not_one_more : (parents : List ℕ) (later : List Bool) (es : List TreeEntry) (i : ℕ) (d : TreeEntry) (xs ys : List GroupState) → i < length es → IsTree parents → IsTreeJournal (hierarchy parents later) (take i es) × AreGroupStatesOf (hierarchy parents later) (take i es) xs → ys ≡ xs → (MayStandNow parents later ys (get_or es i d) → ⊥) → IsTreeJournal (hierarchy parents later) es → ⊥
 not_one_more parents later es i d xs ys lt tree h same not law =
     let e = get_or es i d in
     let follow = here_each (MayFollow (hierarchy parents later)) (take i es) e (drop (i + 1) es) (subst (IsTreeJournal (hierarchy parents later)) (split_at es i d lt) law) in

@@ -1,11 +1,6 @@
 -- The law on charges from its parts.
-use Rattle.shr_audit_charges.proofs.Common.{◌≡◌, ℕ, ◌+◌, ◌-◌, ◌<◌, ◌≤◌, ◌⊎◌, inl, inr, Bool, true, false, List, length, get_or, Option, Some, None, sym, ap, subst, arith, slice_get, option_and_then, Decides, cases_lt, ints, slice_get-get_or, slice_get_past, slice_get_within, UseStep, GroupDecl, Script, ups, downs, Report, parents_of, Usage, AreCharged, AreUsagesOf, uses_of, AreFinal, AreWithin, AreNets, AreOwnRight}
-use Rattle.std.specs.Prelude.{IfSome}
-use Rattle.std.proofs.lemmas.List.{length-map}
-use Rattle.shr_report.specs.Charges.{AreChargesLawful, listed_below}
-use Rattle.shr_report.specs.Parts.{later_of, limit_of, limits_of}
+use Rattle.shr_audit_charges.proofs.Common.{◌≡◌, ℕ, ◌+◌, ◌-◌, ◌<◌, ◌≤◌, ◌⊎◌, inl, inr, Bool, true, false, List, length, get_or, Option, Some, None, sym, ap, subst, arith, slice_get, option_and_then, Decides, cases_lt, ints, slice_get-get_or, slice_get_past, slice_get_within, UseStep, GroupDecl, Script, ups, downs, Report, parents_of, Usage, AreCharged, AreUsagesOf, group_uses, AreFinal, AreWithin, AreNets, AreOwnRight, IfSome, length-map, AreChargesLawful, listed_below, later_of, limit_of, limits_of, AreUpsOfPuts}
 use Rattle.shr_audit_charges.specs.Law.{AreUsesLawful, IsTreeLawful}
-use Rattle.shr_audit_charges.specs.Puts.{AreUpsOfPuts}
 use Rattle.shr_formed.proofs.Eachs.{fails}
 
 pub clash : (b : Bool) → b ≡ true → b ≡ false → ⊥
@@ -26,7 +21,7 @@ module _ (s : Script) (r : Report) (usages : List Usage) (are : AreUsagesOf (len
       let is = are.each g x at in
       let lt = slice_get_within usages g x at in let c = are.count in
       let f = final g (omega (arith, lt, c)) in
-      let same : ups (uses_of r.uses.items g) ≡ downs (uses_of r.uses.items g) + listed_below s r g = omega (arith, ints, f) in
+      let same : ups (group_uses r.uses.items g) ≡ downs (group_uses r.uses.items g) + listed_below s r g = omega (arith, ints, f) in
       let u = ap (λ (v : Usage). v.ups) is in let d = ap (λ (v : Usage). v.downs) is in omega (arith, same, u, d)
 
   limits_if : (limit : Option ℕ) (n m : ℕ) → n ≡ m → IfSome limit (λ l. n ≤ l) → IfSome limit (λ l. m ≤ l)

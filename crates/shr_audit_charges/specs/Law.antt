@@ -4,7 +4,7 @@ use Rattle.shr_base.specs.declared.scripts.Script.{Script}
 use Rattle.shr_model.specs.TreeJournal.{IsTreeJournal}
 use Rattle.shr_report.specs.declared.report.Report.{Report}
 use Rattle.shr_report.specs.Charges.{listed_below}
-use Rattle.shr_report.specs.Parts.{hierarchy_of, limit_of, limits_of, parents_of}
+use Rattle.shr_report.specs.Parts.{script_hierarchy, limit_of, limits_of, parents_of}
 use Rattle.shr_audit_charges.specs.History.{AreCharged}
 use Rattle.shr_audit_charges.specs.Left.{AreFinal}
 use Rattle.shr_audit_charges.specs.Own.{AreOwnRight}
@@ -12,7 +12,7 @@ use Rattle.shr_audit_charges.specs.Puts.{AreUpsOfPuts}
 
 -- the journal of the tree is one
 abbrev pub IsTreeLawful : Script → Report → Type 0
-IsTreeLawful s r = IsTreeJournal (hierarchy_of s) r.tree.items
+IsTreeLawful s r = IsTreeJournal (script_hierarchy s) r.tree.items
 
 -- the operations are the histories of the groups, each command took back what it had to, and what is
 -- left is what is listed

@@ -10,7 +10,7 @@ use Rattle.shr_replay.specs.Tags.{tag_of}
 use Rattle.shr_report.specs.declared.report.Report.{Report}
 use Rattle.shr_report.specs.Parts.{journals_of, places_of}
 use Rattle.shr_audit_charges.specs.declared.history.Usage.{Usage}
-use Rattle.shr_audit_charges.specs.History.{uses_of}
+use Rattle.shr_audit_charges.specs.History.{group_uses}
 use Rattle.shr_audit_charges.specs.Own.{limit_in}
 use Rattle.shr_audit_charges.specs.Paths.{path_keys}
 
@@ -28,12 +28,12 @@ left_below parents r group = sum_by (λ place. born_below parents group (items_o
 
 -- the operations of each group that is there come to the number of these
 abbrev pub AreFinal : List ℕ → Report → List UseStep → Type 0
-AreFinal parents r uses = (group : ℕ) → group < length parents → usage_after (uses_of uses group) ≡ pos (left_below parents r group)
+AreFinal parents r uses = (group : ℕ) → group < length parents → usage_after (group_uses uses group) ≡ pos (left_below parents r group)
 
 -- what operations come to isn't above a limit
-abbrev pub IsWithin : Option ℕ → Usage → Type 0
-IsWithin limit x = IfSome limit (λ l. x.ups - x.downs ≤ l)
+abbrev pub IsWithinLimit : Option ℕ → Usage → Type 0
+IsWithinLimit limit x = IfSome limit (λ l. x.ups - x.downs ≤ l)
 
 -- the same of each group and its limit
 abbrev pub AreWithin : List (Option ℕ) → List Usage → Type 0
-AreWithin limits usages = (group : ℕ) (x : Usage) → slice_get usages group ≡ Some x → IsWithin (limit_in limits group) x
+AreWithin limits usages = (group : ℕ) (x : Usage) → slice_get usages group ≡ Some x → IsWithinLimit (limit_in limits group) x

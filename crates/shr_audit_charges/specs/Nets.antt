@@ -18,16 +18,16 @@ use Rattle.shr_replay.specs.Journals.{freed_tags}
 use Rattle.shr_report.specs.declared.report.Report.{Report}
 use Rattle.shr_report.specs.Charges.{charged, freed_below}
 use Rattle.shr_report.specs.Parts.{answer_at, command_at, entry_by, isolation_at, journals_of, parents_of, reply_at, serial_of}
-use Rattle.shr_audit_charges.specs.History.{uses_of}
+use Rattle.shr_audit_charges.specs.History.{group_uses}
 use Rattle.shr_audit_charges.specs.Paths.{path_keys}
 
 -- a command's operations in each group that is there come to what it charged less what it freed
 abbrev pub AreNets : Script → Report → Type 0
 AreNets s r = (by : Serial) (group : ℕ) → group < length (parents_of s)
-    → usage_after (ops_by by (uses_of r.uses.items group)) ≡ pos (charged (parents_of s) group (command_at s by) (reply_at r by)) -ℤ pos (freed_below s r by group)
+    → usage_after (ops_by by (group_uses r.uses.items group)) ≡ pos (charged (parents_of s) group (command_at s by) (reply_at r by)) -ℤ pos (freed_below s r by group)
 
 -- the workers and their commands have numbers of their types, as in a valid script
-pub record AreFew (workers : List WorkerScript) : Type 0 where
+pub record AreWorkersFew (workers : List WorkerScript) : Type 0 where
   pub few : length workers ≤ 2 ^ 16
   pub short : (worker : ℕ) (w : WorkerScript) → slice_get workers worker ≡ Some w → length w.commands.items ≤ 2 ^ 32
 
@@ -36,8 +36,8 @@ abbrev pub isolation_by : Report → ℕ → ℕ → Option Serial
 isolation_by r worker k = option_map (λ (i : Isolation). i.by) (isolation_at r worker k)
 
 -- the command of the entry with this number, if there is one
-abbrev pub freed_by : Report → List Entry → ℕ → Option Serial
-freed_by r entries n = option_and_then (entry_by r) (slice_get entries n)
+abbrev pub freeing_command : Report → List Entry → ℕ → Option Serial
+freeing_command r entries n = option_and_then (entry_by r) (slice_get entries n)
 
 -- a command in each group at or above another, if there is a command
 abbrev pub by_keys : List ℕ → Option Serial → ℕ → List ℕ
@@ -46,7 +46,7 @@ by_keys parents (Some by) birth = path_keys parents by birth
 
 -- the command that freed an object in each group at or above the object's
 abbrev pub freed_keys : List ℕ → Report → List Entry → FreedTag → List ℕ
-freed_keys parents r entries t = by_keys parents (freed_by r entries t.entry) t.tag.birth
+freed_keys parents r entries t = by_keys parents (freeing_command r entries t.entry) t.tag.birth
 
 -- the same of each object that was freed from the list of a place
 abbrev pub place_keys : List ℕ → Report → Place → List ℕ

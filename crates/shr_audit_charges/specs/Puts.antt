@@ -5,7 +5,7 @@ use Rattle.shr_base.specs.declared.journals.UseStep.{UseStep}
 use Rattle.shr_base.specs.declared.scripts.Script.{Script}
 use Rattle.shr_model.specs.Commands.{is_put}
 use Rattle.shr_report.specs.Parts.{command_at}
-use Rattle.shr_formed.specs.Each.{Each}
+use Rattle.shr_formed.specs.Each.{EachItem}
 
 -- an operation that goes up is of a put
 abbrev pub IsUpOfPut : Script → UseStep → Type 0
@@ -13,4 +13,4 @@ IsUpOfPut s o = o.up ≡ true → IsSomeAnd (command_at s o.by) (λ c. is_put c 
 
 -- each of these is
 abbrev pub AreUpsOfPuts : Script → List UseStep → Type 0
-AreUpsOfPuts s uses = Each (IsUpOfPut s) uses
+AreUpsOfPuts s uses = EachItem (IsUpOfPut s) uses

@@ -3,7 +3,7 @@
 ghost use Rattle.std.specs.Prelude.{◌≡◌, ℕ, ◌+◌, ◌-◌, ◌<◌, ◌^◌, Some, slice_get, length, IfOk, IfSome, IfNone};
 ghost use Rattle.std.specs.Bool.{Decides};
 ghost use Rattle.shr_audit_charges.specs.declared.history.Usage.{Usage};
-ghost use Rattle.shr_audit_charges.specs.History.{AreCharged, AreNone, AreUsagesOf, FoundSo, MayFollow, noted, usage_with};
+ghost use Rattle.shr_audit_charges.specs.History.{AreCharged, AreNone, AreUsagesOf, FoundSo, IsNextOfGroup, with_use, usage_with};
 
 use shr_base::journals::UseStep;
 use shr_base::memory::Memory;
@@ -27,7 +27,7 @@ fn found_so(found: i64, usage: Usage) -> bool
 fn may_follow(usages: &[Usage], step: UseStep) -> bool
     requires { (group : ℕ) (x : Usage) → slice_get usages.now group ≡ Some x
         → x.ups + x.downs < 2 ^ 64 - 1 }
-    ensures { Decides result (MayFollow usages.now step) }
+    ensures { Decides result (IsNextOfGroup usages.now step) }
 {
     if step.group as usize >= usages.len() {
         return false;
@@ -58,7 +58,7 @@ fn usage_with(usage: Usage, up: bool) -> Usage
 fn note_step(usages: &mut Vec<Usage>, step: UseStep)
     requires { (group : ℕ) (x : Usage) → slice_get usages.old.items group ≡ Some x
         → x.ups + x.downs < 2 ^ 64 - 1 }
-    ensures { usages.new.items ≡ noted usages.old.items step }
+    ensures { usages.new.items ≡ with_use usages.old.items step }
 {
     let group = step.group as usize;
     if group < usages.len() {

@@ -8,7 +8,7 @@ ghost use Rattle.shr_report.specs.Charges.{AreChargesLawful};
 ghost use Rattle.shr_report.specs.Numbers.{HasNumbers};
 ghost use Rattle.shr_report.specs.Parts.{later_of, limits_of, parents_of};
 ghost use Rattle.shr_audit_charges.specs.Law.{AreUsesLawful, IsTreeLawful};
-ghost use Rattle.shr_audit_charges.specs.Nets.{AreFew};
+ghost use Rattle.shr_audit_charges.specs.Nets.{AreWorkersFew};
 
 use crate::history::replay_uses;
 use crate::left::{are_final, are_within};
@@ -102,7 +102,7 @@ pub fn are_charges_lawful(
 ) -> Result<bool, Memory>
     requires case { IsCaseOf script.now report.now case.now }
     requires tree { IsTree (parents_of script.now) }
-    requires few { AreFew script.now.workers.items }
+    requires few { AreWorkersFew script.now.workers.items }
     requires numbers { HasNumbers report.now }
     ensures { IfOk result (λ b. Decides b (AreChargesLawful script.now report.now)) }
 {

@@ -9,7 +9,7 @@ ghost use Rattle.shr_base.specs.declared.journals.UseStep.{UseStep};
 ghost use Rattle.shr_case.specs.Lists.{IsReplayOf};
 ghost use Rattle.shr_model.specs.Groups.{IsTree};
 ghost use Rattle.shr_report.specs.declared.report.Report.{Report};
-ghost use Rattle.shr_audit_charges.specs.Left.{AreFinal, AreWithin, IsWithin, left_keys, tag_keys};
+ghost use Rattle.shr_audit_charges.specs.Left.{AreFinal, AreWithin, IsWithinLimit, left_keys, tag_keys};
 
 use crate::balance::are_balanced;
 use crate::climb::note_path;
@@ -86,7 +86,7 @@ pub fn are_final(
 
 // Whether what goes up less what goes down isn't above a limit.
 fn is_within(limit: Option<u32>, usage: Usage) -> bool
-    ensures { Decides result (IsWithin limit usage) }
+    ensures { Decides result (IsWithinLimit limit usage) }
 {
     match limit {
         Some(limit) => usage.ups.saturating_sub(usage.downs) <= limit as u64,

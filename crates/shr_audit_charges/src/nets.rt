@@ -8,8 +8,8 @@ ghost use Rattle.shr_base.specs.declared.journals.UseStep.{UseStep};
 ghost use Rattle.shr_case.specs.Lists.{IsCaseOf, IsReplayOf};
 ghost use Rattle.shr_model.specs.Groups.{IsTree};
 ghost use Rattle.shr_report.specs.Numbers.{HasNumbers};
-ghost use Rattle.shr_report.specs.Parts.{answer_at, entry_by, parents_of, scan_by};
-ghost use Rattle.shr_audit_charges.specs.Nets.{AreFew, AreNets, answer_keys, by_keys, charge_keys, commands_keys, freed_by, freed_keys, isolation_by, place_keys, workers_keys};
+ghost use Rattle.shr_report.specs.Parts.{answer_at, entry_by, parents_of, scanning_command};
+ghost use Rattle.shr_audit_charges.specs.Nets.{AreWorkersFew, AreNets, answer_keys, by_keys, charge_keys, commands_keys, freeing_command, freed_keys, isolation_by, place_keys, workers_keys};
 
 use crate::balance::are_balanced;
 use crate::climb::note_path;
@@ -29,7 +29,7 @@ use std::alloc::Global;
 
 // The command of the walk or the isolation with this number in a Scan entry.
 fn scan_by(report: &Report, worker: u16, n: u64) -> Option<Serial>
-    ensures { result ≡ scan_by report.now worker n }
+    ensures { result ≡ scanning_command report.now worker n }
 {
     if n < 0x8000_0000_0000_0000 {
         match walk_at(report, worker, n) {
@@ -72,7 +72,7 @@ fn entry_by(report: &Report, entry: &Entry) -> Option<Serial>
 
 // The command of the entry with this number, if there is one.
 fn freed_by(report: &Report, entries: &[Entry], entry: usize) -> Option<Serial>
-    ensures { result ≡ freed_by report.now entries.now entry }
+    ensures { result ≡ freeing_command report.now entries.now entry }
 {
     match entries.get(entry) {
         Some(entry) => entry_by(report, entry),
@@ -221,7 +221,7 @@ fn note_workers(
     workers: &[WorkerScript],
 ) -> Result<(), Memory>
     requires tree { IsTree parents.now }
-    requires few { AreFew workers.now }
+    requires few { AreWorkersFew workers.now }
     ensures { OnOk result (keys.new.items
         ≡ keys.old.items ++ workers_keys parents.now report.now 0 workers.now) }
 {
@@ -243,7 +243,7 @@ pub fn are_nets(
 ) -> Result<bool, Memory>
     requires case { IsCaseOf script.now report.now case.now }
     requires tree { IsTree (parents_of script.now) }
-    requires few { AreFew script.now.workers.items }
+    requires few { AreWorkersFew script.now.workers.items }
     requires numbers { HasNumbers report.now }
     requires there { AllByRecursion (λ (o : UseStep).
         o.group < length (parents_of script.now)) report.now.uses.items }

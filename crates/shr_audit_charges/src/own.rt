@@ -7,7 +7,7 @@ ghost use Rattle.std.specs.BTreeMap.{get};
 ghost use Rattle.std.specs.Ordering.{nat_cmp};
 ghost use Rattle.shr_model.specs.Charges.{is_refused};
 ghost use Rattle.shr_audit_charges.specs.declared.own.Own.{Own};
-ghost use Rattle.shr_audit_charges.specs.Own.{AreOwnRight, IsKeyed, MayStand, few_ups, limit_in, own_key, own_with};
+ghost use Rattle.shr_audit_charges.specs.Own.{AreOwnRight, IsKeyed, MayStandBefore, few_ups, limit_in, own_key, own_with};
 
 use crate::climb::own_key;
 use shr_base::journals::UseStep;
@@ -46,7 +46,7 @@ fn is_refused(limit: Option<u32>, step: UseStep) -> bool
 
 // Whether an operation of a command in a group may stand before the others that it has there.
 fn may_stand(limit: Option<u32>, step: UseStep, next: Option<Own>) -> bool
-    ensures { Decides result (MayStand limit step next) }
+    ensures { Decides result (MayStandBefore limit step next) }
 {
     match next {
         Some(next) => !step.up || (!next.up && next.ups < 14),

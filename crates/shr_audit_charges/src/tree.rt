@@ -6,7 +6,7 @@ ghost use Rattle.shr_base.specs.declared.journals.TreeEntry.TheVariants.{Begin, 
 ghost use Rattle.shr_model.specs.Groups.{Hierarchy, IsTree, is_later};
 ghost use Rattle.shr_model.specs.TreeJournal.{IsTreeJournal};
 ghost use Rattle.shr_audit_charges.specs.declared.tree.GroupState.{GroupState};
-ghost use Rattle.shr_audit_charges.specs.Tree.{AreFirst, HasUndone, IsUndone, MayBeDoneNow, MayBeMadeNow, MayBeginNow, MayStandNow, group_of, hierarchy, noted, state_with};
+ghost use Rattle.shr_audit_charges.specs.Tree.{AreFirstStates, HasUndone, IsUndone, MayBeDoneNow, MayBeMadeNow, MayBeginNow, MayStandNow, entry_group, hierarchy, with_tree_entry, group_state_with};
 
 use shr_base::journals::TreeEntry;
 use shr_base::memory::Memory;
@@ -23,7 +23,7 @@ pub struct GroupState {
 
 // The group that an entry speaks of.
 fn group_of(entry: TreeEntry) -> u16
-    ensures { result ≡ group_of entry }
+    ensures { result ≡ entry_group entry }
 {
     match entry {
         TreeEntry::Begin { group } => group,
@@ -34,7 +34,7 @@ fn group_of(entry: TreeEntry) -> u16
 
 // The state of a group after one entry more that is of it.
 fn state_with(state: GroupState, entry: TreeEntry) -> GroupState
-    ensures { result ≡ state_with state entry }
+    ensures { result ≡ group_state_with state entry }
 {
     match entry {
         TreeEntry::Begin { .. } => GroupState {
@@ -57,7 +57,7 @@ fn state_with(state: GroupState, entry: TreeEntry) -> GroupState
 
 // The states after one entry more.
 fn note_entry(states: &mut Vec<GroupState>, entry: TreeEntry)
-    ensures { states.new.items ≡ noted states.old.items entry }
+    ensures { states.new.items ≡ with_tree_entry states.old.items entry }
 {
     let group = group_of(entry) as usize;
     if group < states.len() {
@@ -150,7 +150,7 @@ fn may_follow(parents: &[u16], later: &[bool], states: &[GroupState], entry: Tre
 
 // The states of the groups before any entry: a group is there if it isn't later.
 fn first_states(alloc: Global, later: &[bool]) -> Result<Vec<GroupState>, Memory>
-    ensures { IfOk result (λ states. AreFirst later.now states.items) }
+    ensures { IfOk result (λ states. AreFirstStates later.now states.items) }
 {
     let mut states = Vec::new(alloc);
     for is_later in later {

@@ -1,43 +1,34 @@
 -- The walks of the pools of commands, gone through worker by worker.
-use Rattle.shr_audit_due.proofs.Common.{◌≡◌, ℕ, ◌<◌, ◌≤◌, Bool, true, false, List, length, get_or, Option, Some, refl, sym, ap, subst, ◌∙◌, arith, nat_lt, nat_le, slice_get, Decides, nat_tests, slice_get-get_or, slice_get_within, WorkerPart, Answered, PlainWalk, Report, commands_of, plain_in, Each, all_at, clash, HasDue, IsPartDue, walks_with, here_at}
-use Rattle.std.proofs.Common.{suc, cond, [], ◌∷◌, map}
-use Rattle.std.specs.Prelude.{◌==◌, ◌&&◌, filter}
+use Rattle.shr_audit_due.proofs.Common.{◌≡◌, ℕ, ◌<◌, ◌≤◌, Bool, true, false, List, length, get_or, Option, Some, refl, sym, ap, subst, ◌∙◌, arith, nat_lt, nat_le, slice_get, Decides, nat_tests, slice_get-get_or, slice_get_within, WorkerPart, Answered, PlainWalk, Report, commands_of, plain_in, EachItem, all_at, clash, HasDue, IsPartDue, plain_walks_with, here_at, suc, cond, [], ◌∷◌, map, ◌==◌, ◌&&◌, filter, IsNonDecreasingBy-from_all_adjacent, serial_of, EachAnswer, PlainJob, plain_by, plain_due, plain_job_of, IsWorkerCommand, below_of, PoolWalksByCommand, same_test}
 use Rattle.std.specs.List.Sorted.{IsPartitionedBy, IsNonDecreasingBy}
-use Rattle.std.proofs.lemmas.List.Sorted.{IsNonDecreasingBy-from_all_adjacent}
 use Rattle.shr_base.specs.declared.scripts.Command.{Command}
 use Rattle.shr_base.specs.declared.scripts.Script.{Script}
 use Rattle.shr_model.specs.Commands.{is_serial}
-use Rattle.shr_report.specs.Parts.{serial_of, EachAnswer}
-use Rattle.shr_report.specs.UnitParts.{PlainJob, plain_by, plain_due, plain_job_of}
 use Rattle.shr_report.specs.WellFormed.{IsWellFormed}
-use Rattle.shr_formed.specs.Each.{IsOf}
 use Rattle.shr_formed.proofs.WellParts.{parts_of}
-use Rattle.shr_formed.proofs.Eachs.{below_of}
 use Rattle.shr_case.specs.Each.{AnswersInParts}
 use Rattle.shr_case.proofs.Eachs.{each_answer_of}
-use Rattle.shr_audit_due.specs.Due.{StandByCommand}
-use Rattle.shr_audit_walks.proofs.Answered.{same_test}
 
 -- ---- walks in the order of their commands
 
-rising : (xs : List PlainWalk) → StandByCommand xs → IsNonDecreasingBy (λ (w : PlainWalk). w.by.command) xs
+rising : (xs : List PlainWalk) → PoolWalksByCommand xs → IsNonDecreasingBy (λ (w : PlainWalk). w.by.command) xs
 rising xs h = IsNonDecreasingBy-from_all_adjacent (λ (w : PlainWalk). w.by.command) xs (below_of (λ (x y : PlainWalk). x.by.command ≤ y.by.command) xs h)
 
-pub parted_below : (xs : List PlainWalk) (command : ℕ) → StandByCommand xs → IsPartitionedBy (λ (w : PlainWalk). nat_lt w.by.command command) xs
+pub parted_below : (xs : List PlainWalk) (command : ℕ) → PoolWalksByCommand xs → IsPartitionedBy (λ (w : PlainWalk). nat_lt w.by.command command) xs
 parted_below xs command h i j d le lt e = let up = rising xs h i j d le lt in grind (arith, nat_tests)
 
-pub parted_up_to : (xs : List PlainWalk) (command : ℕ) → StandByCommand xs → IsPartitionedBy (λ (w : PlainWalk). nat_le w.by.command command) xs
+pub parted_up_to : (xs : List PlainWalk) (command : ℕ) → PoolWalksByCommand xs → IsPartitionedBy (λ (w : PlainWalk). nat_le w.by.command command) xs
 parted_up_to xs command h i j d le lt e = let up = rising xs h i j d le lt in grind (arith, nat_tests)
 
 -- ---- those of a command
 
-own_walks : (worker n answers : ℕ) (xs : List PlainWalk) → Each (λ w. IsOf worker answers w.by) xs → filter (λ (w : PlainWalk). is_serial (serial_of worker n) w.by) xs ≡ walks_with xs n
+own_walks : (worker n answers : ℕ) (xs : List PlainWalk) → EachItem (λ w. IsWorkerCommand worker answers w.by) xs → filter (λ (w : PlainWalk). is_serial (serial_of worker n) w.by) xs ≡ plain_walks_with xs n
 own_walks worker n answers [] h = refl
 own_walks worker n answers (x ∷ xs) h =
     ap (λ (t : Bool). cond t (x ∷ filter (λ (w : PlainWalk). is_serial (serial_of worker n) w.by) xs) (filter (λ (w : PlainWalk). is_serial (serial_of worker n) w.by) xs)) (same_test worker n x.by.worker x.by.command (h 0 x refl).0)
     ∙ ap (λ (ys : List PlainWalk). cond (x.by.command == n) (x ∷ ys) ys) (own_walks worker n answers xs (λ k y e. h (suc k) y e))
 
-walks_are : (r : Report) (worker n : ℕ) (part : WorkerPart) → IsWellFormed r → slice_get r.workers.items worker ≡ Some part → plain_by r (serial_of worker n) ≡ walks_with part.plain.items n
+walks_are : (r : Report) (worker n : ℕ) (part : WorkerPart) → IsWellFormed r → slice_get r.workers.items worker ≡ Some part → plain_by r (serial_of worker n) ≡ plain_walks_with part.plain.items n
 walks_are r worker n part well at =
     ap (λ (x : Option WorkerPart). filter (λ (w : PlainWalk). is_serial (serial_of worker n) w.by) (plain_in x)) at ∙ own_walks worker n (length part.answers.items) part.plain.items (parts_of r well worker part at).1.1.1.0
 
@@ -46,7 +37,7 @@ walks_are r worker n part well at =
 abbrev Due : Script → Report → Type 0
 Due s r = EachAnswer s r (λ by c a. map plain_job_of (plain_by r by) ≡ plain_due s c a.reply)
 
-pub stands_here : (r : Report) (parts : List WorkerPart) (worker : ℕ) (part : WorkerPart) → IsWellFormed r → parts ≡ r.workers.items → worker < length parts → part ≡ get_or parts worker part → StandByCommand part.plain.items
+pub stands_here : (r : Report) (parts : List WorkerPart) (worker : ℕ) (part : WorkerPart) → IsWellFormed r → parts ≡ r.workers.items → worker < length parts → part ≡ get_or parts worker part → PoolWalksByCommand part.plain.items
 stands_here r parts worker part well e lt is = (parts_of r well worker part (here_at parts r.workers.items worker part e lt is)).1.1.1.1.0
 
 pub due_all : (s : Script) (r : Report) (parts : List WorkerPart) (i : ℕ) → IsWellFormed r → parts ≡ r.workers.items → length parts ≤ i
@@ -86,18 +77,18 @@ has_none s commands n walks a past = (λ t c here. absurd (let lt = slice_get_wi
 
 -- what is so of the commands and walks as they were found
 pub answer_due : (s : Script) (worker n : ℕ) (commands : List Command) (own xs walks : List PlainWalk) (read a : Answered) (b : Bool)
-    → commands ≡ commands_of s worker → own ≡ walks_with xs n → xs ≡ walks → read ≡ a → Decides b (HasDue s commands n read own) → Decides b (HasDue s (commands_of s worker) n a (walks_with walks n))
+    → commands ≡ commands_of s worker → own ≡ plain_walks_with xs n → xs ≡ walks → read ≡ a → Decides b (HasDue s commands n read own) → Decides b (HasDue s (commands_of s worker) n a (plain_walks_with walks n))
 answer_due s worker n commands own xs walks read a b ec eo ex er d =
-    subst (λ (cs : List Command). Decides b (HasDue s cs n a (walks_with walks n))) ec
-    (subst (λ (ws : List PlainWalk). Decides b (HasDue s commands n a ws)) (eo ∙ ap (λ (ys : List PlainWalk). walks_with ys n) ex)
+    subst (λ (cs : List Command). Decides b (HasDue s cs n a (plain_walks_with walks n))) ec
+    (subst (λ (ws : List PlainWalk). Decides b (HasDue s commands n a ws)) (eo ∙ ap (λ (ys : List PlainWalk). plain_walks_with ys n) ex)
     (subst (λ (x : Answered). Decides b (HasDue s commands n x own)) er d))
 
 pub part_fails : (s : Script) (worker : ℕ) (part : WorkerPart) (answers : List Answered) (n : ℕ) (a : Answered) (b : Bool) → answers ≡ part.answers.items → n < length answers → a ≡ get_or answers n a
-    → Decides b (HasDue s (commands_of s worker) n a (walks_with part.plain.items n)) → b ≡ false → Decides false (IsPartDue s worker part)
+    → Decides b (HasDue s (commands_of s worker) n a (plain_walks_with part.plain.items n)) → b ≡ false → Decides false (IsPartDue s worker part)
 part_fails s worker part answers n a b e lt is dec f = (λ t. absurd cc, λ h. absurd (clash b (dec.1 (h n a (here_at answers part.answers.items n a e lt is))) f))
 
 pub part_whole : (s : Script) (worker : ℕ) (part : WorkerPart) (answers : List Answered) (i : ℕ) → answers ≡ part.answers.items → length answers ≤ i
-    → ((n : ℕ) (a : Answered) → n < i → slice_get answers n ≡ Some a → HasDue s (commands_of s worker) n a (walks_with part.plain.items n)) → Decides true (IsPartDue s worker part)
+    → ((n : ℕ) (a : Answered) → n < i → slice_get answers n ≡ Some a → HasDue s (commands_of s worker) n a (plain_walks_with part.plain.items n)) → Decides true (IsPartDue s worker part)
 part_whole s worker part answers i e over before =
-    subst (λ (xs : List Answered). Decides true ((n : ℕ) (a : Answered) → slice_get xs n ≡ Some a → HasDue s (commands_of s worker) n a (walks_with part.plain.items n))) e
-    (all_at (λ (n : ℕ) (a : Answered). HasDue s (commands_of s worker) n a (walks_with part.plain.items n)) answers i over before)
+    subst (λ (xs : List Answered). Decides true ((n : ℕ) (a : Answered) → slice_get xs n ≡ Some a → HasDue s (commands_of s worker) n a (plain_walks_with part.plain.items n))) e
+    (all_at (λ (n : ℕ) (a : Answered). HasDue s (commands_of s worker) n a (plain_walks_with part.plain.items n)) answers i over before)

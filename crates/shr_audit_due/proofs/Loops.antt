@@ -1,9 +1,6 @@
 -- Loops over what a report prints: what is so of each item, and of each walk of the pools.
-use Rattle.shr_audit_due.proofs.Common.{◌≡◌, ℕ, ◌<◌, ◌≤◌, Bool, true, false, List, length, get_or, Option, Some, refl, sym, ap, subst, ◌∙◌, arith, slice_get, Decides, slice_get-get_or, WorkerPart, PlainWalk, Report, plain_in, all_at, clash, here_at}
-use Rattle.std.proofs.Common.{◌⊎◌, inl, inr, ◌+◌, None}
+use Rattle.shr_audit_due.proofs.Common.{◌≡◌, ℕ, ◌<◌, ◌≤◌, Bool, true, false, List, length, get_or, Option, Some, refl, sym, ap, subst, ◌∙◌, arith, slice_get, Decides, slice_get-get_or, WorkerPart, PlainWalk, Report, plain_in, all_at, clash, here_at, ◌⊎◌, inl, inr, ◌+◌, None, same_Some, EachPlain}
 use Rattle.std.proofs.lemmas.Bool.{cases_lt}
-use Rattle.std.proofs.lemmas.Option.{same_Some}
-use Rattle.shr_report.specs.UnitParts.{EachPlain}
 
 -- ---- any items
 

@@ -17,12 +17,12 @@ abbrev pub job_told : Job → PlainJob
 job_told j = record { node = j.node; priority = j.priority }
 
 -- as the walks of the pools of a worker stand in a well formed report
-abbrev pub StandByCommand : List PlainWalk → Type 0
-StandByCommand walks = Adjacent (λ x y. x.by.command ≤ y.by.command) walks
+abbrev pub PoolWalksByCommand : List PlainWalk → Type 0
+PoolWalksByCommand walks = Adjacent (λ x y. x.by.command ≤ y.by.command) walks
 
 -- the walks of a command of a worker
-abbrev pub walks_with : List PlainWalk → ℕ → List PlainWalk
-walks_with walks n = filter (λ (w : PlainWalk). w.by.command == n) walks
+abbrev pub plain_walks_with : List PlainWalk → ℕ → List PlainWalk
+plain_walks_with walks n = filter (λ (w : PlainWalk). w.by.command == n) walks
 
 -- the command with this number, if there is one, has these walks by its answer
 abbrev pub HasDue : Script → List Command → ℕ → Answered → List PlainWalk → Type 0
@@ -30,7 +30,7 @@ HasDue s commands n a walks = (c : Command) → slice_get commands n ≡ Some c 
 
 -- and so does each command of a worker
 abbrev pub IsPartDue : Script → ℕ → WorkerPart → Type 0
-IsPartDue s worker part = (n : ℕ) (a : Answered) → slice_get part.answers.items n ≡ Some a → HasDue s (commands_of s worker) n a (walks_with part.plain.items n)
+IsPartDue s worker part = (n : ℕ) (a : Answered) → slice_get part.answers.items n ≡ Some a → HasDue s (commands_of s worker) n a (plain_walks_with part.plain.items n)
 
 -- a walk is due to a command of the script, by its reply
 abbrev pub IsDue : Script → Report → PlainWalk → Type 0

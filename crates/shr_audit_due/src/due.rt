@@ -3,11 +3,11 @@
 ghost use Rattle.std.specs.Prelude.{◌≡◌, ◌==◌, ℕ, ◌<◌, ◌≤◌, filter, length, map, slice_get, Some, option_map, option_to_list};
 ghost use Rattle.std.specs.Bool.{Decides};
 ghost use Rattle.shr_base.specs.declared.walks.PlainWalk.{PlainWalk};
-ghost use Rattle.shr_formed.specs.Each.{Each};
+ghost use Rattle.shr_formed.specs.Each.{EachItem};
 ghost use Rattle.shr_report.specs.Parts.{commands_of, EachAnswer};
 ghost use Rattle.shr_report.specs.UnitParts.{EachPlain, plain_by, plain_due, plain_job_of, plain_jobs};
 ghost use Rattle.shr_report.specs.WellFormed.{IsWellFormed};
-ghost use Rattle.shr_audit_due.specs.Due.{HasDue, IsDue, IsPartDue, StandByCommand, job_told};
+ghost use Rattle.shr_audit_due.specs.Due.{HasDue, IsDue, IsPartDue, PoolWalksByCommand, job_told};
 
 use shr_base::ends::WorkerPart;
 use shr_base::replies::{Answered, Reply};
@@ -85,7 +85,7 @@ fn are_due(due: Option<Job>, walks: &[PlainWalk]) -> bool
 
 // The index of the first walk that isn't of an earlier command.
 fn first_of(walks: &[PlainWalk], command: usize) -> usize
-    requires { StandByCommand walks.now }
+    requires { PoolWalksByCommand walks.now }
     ensures within { result ≤ length walks.now }
     ensures before { (n : ℕ) (w : PlainWalk) → n < result → slice_get walks.now n ≡ Some w
         → w.by.command < command }
@@ -97,7 +97,7 @@ fn first_of(walks: &[PlainWalk], command: usize) -> usize
 
 // The index behind the last walk that isn't of a later command.
 fn behind_of(walks: &[PlainWalk], command: usize) -> usize
-    requires { StandByCommand walks.now }
+    requires { PoolWalksByCommand walks.now }
     ensures within { result ≤ length walks.now }
     ensures before { (n : ℕ) (w : PlainWalk) → n < result → slice_get walks.now n ≡ Some w
         → w.by.command ≤ command }
@@ -109,7 +109,7 @@ fn behind_of(walks: &[PlainWalk], command: usize) -> usize
 
 // The walks of a command, of those of its worker in the order of their commands.
 fn walks_of(walks: &[PlainWalk], command: usize) -> &[PlainWalk]
-    requires { StandByCommand walks.now }
+    requires { PoolWalksByCommand walks.now }
     ensures { result.now ≡ filter (λ (w : PlainWalk). w.by.command == command) walks.now }
 {
     let low = first_of(walks, command);
@@ -145,7 +145,7 @@ fn has_due(
 
 // Whether each command of a worker has the walks that are due.
 fn is_part_due(script: &Script, worker: usize, part: &WorkerPart) -> bool
-    requires { StandByCommand part.now.plain.items }
+    requires { PoolWalksByCommand part.now.plain.items }
     ensures { Decides result (IsPartDue script.now worker part.now) }
 {
     let commands = commands_of(script, worker);
@@ -189,7 +189,7 @@ fn is_due(script: &Script, report: &Report, walk: &PlainWalk) -> bool
 
 // Whether each of these walks is.
 fn are_all_due(script: &Script, report: &Report, walks: &[PlainWalk]) -> bool
-    ensures { Decides result (Each (IsDue script.now report.now) walks.now) }
+    ensures { Decides result (EachItem (IsDue script.now report.now) walks.now) }
 {
     for walk in walks {
         if !is_due(script, report, walk) {

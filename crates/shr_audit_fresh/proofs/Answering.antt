@@ -1,6 +1,5 @@
 -- What the answer to a command gives.
-use Rattle.shr_audit_fresh.proofs.Common.{◌≡◌, ℕ, ◌≤◌, List, [], length, Option, Some, None, sym, ap, ◌∙◌, flat_map, option_to_list, append-nil, slice_get_past, Serial, Answered, Report, of_answer, answer_at, answers_of, reply_at, serial_of}
-use Rattle.std.specs.Prelude.{option_map}
+use Rattle.shr_audit_fresh.proofs.Common.{◌≡◌, ℕ, ◌≤◌, List, [], length, Option, Some, None, sym, ap, ◌∙◌, flat_map, option_to_list, append-nil, slice_get_past, Serial, Answered, Report, of_answer, answer_at, answers_of, reply_at, serial_of, option_map}
 
 pub of_answered : (r : Report) (by : Serial) (f : Answered → List ℕ) (a : Answered) → Some a ≡ answer_at r by → of_answer r by f ≡ f a
 of_answered r by f a e = ap (λ (o : Option Answered). flat_map f (option_to_list o)) (sym e) ∙ append-nil (f a)

@@ -1,6 +1,5 @@
 -- The least command of each group, one command after another.
-use Rattle.shr_audit_fresh.proofs.Common.{◌≡◌, ◌⊎◌, ℕ, ◌<◌, ◌≤◌, Bool, true, false, cond, List, [], ◌∷◌, Option, Some, None, refl, sym, ap, subst, ◌∙◌, inl, inr, arith, ◌||◌, nat_eq, slice_get, option_to_list, get, list_any, nat_tests, TreeEntry, is_begin, is_done, Report, is_begin_at, is_done_at, AreFirsts, Firsts, IsBlank, IsLeast, NotesFirst, first_with, is_group, shows_in, either, or_left, or_right}
-use Rattle.std.specs.Prelude.{nat_lt}
+use Rattle.shr_audit_fresh.proofs.Common.{◌≡◌, ◌⊎◌, ℕ, ◌<◌, ◌≤◌, Bool, true, false, cond, List, [], ◌∷◌, Option, Some, None, refl, sym, ap, subst, ◌∙◌, inl, inr, arith, ◌||◌, nat_eq, slice_get, option_to_list, get, list_any, nat_tests, TreeEntry, is_begin, is_done, Report, is_begin_at, is_done_at, AreLeastOfGroups, FirstCommands, HasNoFirsts, IsLeast, NotesFirst, first_with, is_group, shows_in, either, or_left, or_right, nat_lt}
 
 -- ---- tests
 
@@ -60,17 +59,17 @@ module _ (P Q : ℕ → Type 0) (command : ℕ) (to : (k : ℕ) → P k → Q k)
           (own, λ k q. elim (from k q) [ inl p ↦ (let at = t.1 k p in omega (arith, at, le)) | inr same ↦ omega (arith, same) ])
 
 -- of each group, with what one command more shows
-module _ (P Q : ℕ → ℕ → Type 0) (command : ℕ) (group : Option ℕ) (old new : Firsts) (to : (g k : ℕ) → P g k → Q g k)
+module _ (P Q : ℕ → ℕ → Type 0) (command : ℕ) (group : Option ℕ) (old new : FirstCommands) (to : (g k : ℕ) → P g k → Q g k)
     (from : (g k : ℕ) → Q g k → P g k ⊎ ((k ≡ command) × (is_group g group ≡ true))) (own : (g : ℕ) → is_group g group ≡ true → Q g command) (notes : NotesFirst group command old new) where
-  pub firsts_next : AreFirsts P old → AreFirsts Q new
+  pub firsts_next : AreLeastOfGroups P old → AreLeastOfGroups Q new
   firsts_next are g = subst (IsLeast (Q g)) (sym (notes g)) (by (is_group g group) refl)
     where
       by : (b : Bool) → is_group g group ≡ b → IsLeast (Q g) (cond b (Some (first_with (get nat_eq old g) command)) (get nat_eq old g))
       by true e = least_more (P g) (Q g) command (to g) (λ k q. elim (from g k q) [ inl p ↦ inl p | inr h ↦ inr h.0 ]) (own g e) (get nat_eq old g) (are g)
       by false e = least_same (P g) (Q g) (to g) (λ k q. elim (from g k q) [ inl p ↦ p | inr h ↦ absurd (let holds = h.1 in cc) ]) (get nat_eq old g) (are g)
 
-pub firsts_same : (P Q : ℕ → ℕ → Type 0) (firsts : Firsts) → ((g k : ℕ) → P g k → Q g k) → ((g k : ℕ) → Q g k → P g k) → AreFirsts P firsts → AreFirsts Q firsts
+pub firsts_same : (P Q : ℕ → ℕ → Type 0) (firsts : FirstCommands) → ((g k : ℕ) → P g k → Q g k) → ((g k : ℕ) → Q g k → P g k) → AreLeastOfGroups P firsts → AreLeastOfGroups Q firsts
 firsts_same P Q firsts to from are g = least_same (P g) (Q g) (to g) (from g) (get nat_eq firsts g) (are g)
 
-pub firsts_blank : (P : ℕ → ℕ → Type 0) (firsts : Firsts) → ((g k : ℕ) → P g k → ⊥) → IsBlank firsts → AreFirsts P firsts
+pub firsts_blank : (P : ℕ → ℕ → Type 0) (firsts : FirstCommands) → ((g k : ℕ) → P g k → ⊥) → HasNoFirsts firsts → AreLeastOfGroups P firsts
 firsts_blank P firsts unlike blank g = subst (IsLeast (P g)) (sym (blank g)) (unlike g)

@@ -1,7 +1,5 @@
 -- Floors: the least number above all that was known.
-use Rattle.shr_audit_fresh.proofs.Common.{◌≡◌, ℕ, ◌+◌, ◌<◌, ◌≤◌, Bool, true, false, List, [], ◌∷◌, ◌++◌, refl, sym, subst, inl, inr, arith, ◌↔◌, Decides, cases_lt, AreBelow, AreKnownBelow, FloorWith, IsFloor, IsFloorBefore, IsHigher, Reaches}
-use Rattle.std.specs.List.{AllByRecursion}
-use Rattle.shr_model.proofs.Lists.{all_both}
+use Rattle.shr_audit_fresh.proofs.Common.{◌≡◌, ℕ, ◌+◌, ◌<◌, ◌≤◌, Bool, true, false, List, [], ◌∷◌, ◌++◌, refl, sym, subst, inl, inr, arith, ◌↔◌, Decides, cases_lt, AreBelow, AreKnownBelow, FloorWith, IsFloor, IsFloorBefore, IsHigher, Reaches, AllByRecursion, all_both}
 
 -- ---- of lists
 

@@ -1,12 +1,12 @@
 -- What is tested of freshness, at known values.
-use Rattle.shr_audit_fresh.proofs.Common.{◌≡◌, ◌<◌, ◌≤◌, true, false, [], ◌∷◌, Some, None, refl, arith, Never, Once, Often, first_with, is_group, IsFloor, Reaches, After, NotFallingFrom, may_show, is_before}
+use Rattle.shr_audit_fresh.proofs.Common.{◌≡◌, ◌<◌, ◌≤◌, true, false, [], ◌∷◌, Some, None, refl, arith, Never, Once, Often, first_with, is_group, IsFloor, Reaches, After, NeverFallsFrom, may_show, is_first_before}
 
 -- ---- numbers that never fall
 
-same_again : NotFallingFrom 2 (2 ∷ 5 ∷ 5 ∷ [])
+same_again : NeverFallsFrom 2 (2 ∷ 5 ∷ 5 ∷ [])
 same_again = (omega arith, (omega arith, (omega arith, tt)))
 
-falls : NotFallingFrom 2 (3 ∷ 1 ∷ []) → ⊥
+falls : NeverFallsFrom 2 (3 ∷ 1 ∷ []) → ⊥
 falls h = let le : 3 ≤ 1 = h.1.0 in absurd (omega (arith, le))
 
 too_low : After 4 (3 ∷ []) None
@@ -46,10 +46,10 @@ other_group = refl
 no_group : is_group 0 None ≡ false
 no_group = refl
 
-before : is_before (Some 2) 3 ≡ true
+before : is_first_before (Some 2) 3 ≡ true
 before = refl
 
-not_before_itself : is_before (Some 3) 3 ≡ false
+not_before_itself : is_first_before (Some 3) 3 ≡ false
 not_before_itself = refl
 
 -- ---- who may have begun

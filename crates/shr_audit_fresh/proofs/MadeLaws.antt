@@ -1,10 +1,8 @@
 -- Groups that a worker's answers showed to be made, one answer after another.
-use Rattle.shr_audit_fresh.proofs.Common.{◌≡◌, ℕ, ◌+◌, ◌<◌, ◌≤◌, Bool, true, false, cond, length, Option, Some, None, refl, sym, ap, subst, ◌∙◌, inl, inr, arith, ◌↔◌, nat_eq, option_and_then, Decides, get, cases_lt, eq-eqb, nat_tests, Serial, Answered, Reply, Script, Report, answer_at, answers_of, command_at, reply_at, serial_of, AreFirsts, Firsts, IsBlank, IsLeast, NotesFirst, is_group, StaysMadeAt, some_is}
+use Rattle.shr_audit_fresh.proofs.Common.{◌≡◌, ℕ, ◌+◌, ◌<◌, ◌≤◌, Bool, true, false, cond, length, Option, Some, None, refl, sym, ap, subst, ◌∙◌, inl, inr, arith, ◌↔◌, nat_eq, option_and_then, Decides, get, cases_lt, eq-eqb, nat_tests, Serial, Answered, Reply, Script, Report, answer_at, answers_of, command_at, reply_at, serial_of, AreLeastOfGroups, FirstCommands, HasNoFirsts, IsLeast, NotesFirst, is_group, StaysMadeAt, some_is, asks_made, is_past_group, made_shown, shows_made, makes, unmade}
 use Rattle.shr_base.specs.declared.replies.Reply.TheVariants as reply
 use Rattle.shr_base.specs.declared.scripts.Command.{Command}
 use Rattle.shr_base.specs.declared.scripts.Command.TheVariants.{MkGroup}
-use Rattle.shr_report.specs.Freshness.{asks_made, is_past_group, made_shown, shows_made}
-use Rattle.shr_audit_fresh.specs.Worker.{makes, unmade}
 use Rattle.shr_audit_fresh.proofs.Answering.{answer_past, reply_answered, reply_none}
 use Rattle.shr_audit_fresh.proofs.FirstLaws.{firsts_blank, firsts_next}
 
@@ -24,10 +22,10 @@ is_the_group g None e = absurd cc
 is_the_group g (Some h) e = eq-eqb h g (some_is h g e)
 
 module _ (s : Script) (r : Report) (worker : ℕ) where
-  pub made_start : (firsts : Firsts) → IsBlank firsts → AreFirsts (MadeBefore s r worker 0) firsts
+  pub made_start : (firsts : FirstCommands) → HasNoFirsts firsts → AreLeastOfGroups (MadeBefore s r worker 0) firsts
   made_start firsts blank = firsts_blank (MadeBefore s r worker 0) firsts (λ g k p. (let lt : k < 0 = p.0 in absurd (omega arith))) blank
 
-  pub made_next : (n : ℕ) (group : Option ℕ) (old new : Firsts) → group ≡ shows_made s r (serial_of worker n) → NotesFirst group n old new → AreFirsts (MadeBefore s r worker n) old → AreFirsts (MadeBefore s r worker (n + 1)) new
+  pub made_next : (n : ℕ) (group : Option ℕ) (old new : FirstCommands) → group ≡ shows_made s r (serial_of worker n) → NotesFirst group n old new → AreLeastOfGroups (MadeBefore s r worker n) old → AreLeastOfGroups (MadeBefore s r worker (n + 1)) new
   made_next n group old new is notes = firsts_next (MadeBefore s r worker n) (MadeBefore s r worker (n + 1)) n group old new
       (λ g k p. (let lt = p.0 in let more : k < n + 1 = omega (arith, lt) in (more, p.1)))
       (λ g k q. elim (cases_lt k n) [
@@ -36,7 +34,7 @@ module _ (s : Script) (r : Report) (worker : ℕ) where
       ])
       (λ g e. (let more : n < n + 1 = omega arith in (more, sym is ∙ group_is g group e))) notes
 
-  module _ (n : ℕ) (firsts : Firsts) (unmade : Option ℕ) (are : AreFirsts (MadeBefore s r worker n) firsts) (says : (g : ℕ) → (unmade ≡ Some g) ↔ (reply_at r (serial_of worker n) ≡ Some (reply.NotMade g))) where
+  module _ (n : ℕ) (firsts : FirstCommands) (unmade : Option ℕ) (are : AreLeastOfGroups (MadeBefore s r worker n) firsts) (says : (g : ℕ) → (unmade ≡ Some g) ↔ (reply_at r (serial_of worker n) ≡ Some (reply.NotMade g))) where
     at_least : (g k : ℕ) → k < n → shows_made s r (serial_of worker k) ≡ Some g → (o : Option ℕ) → o ≡ None → IsLeast (MadeBefore s r worker n g) o → ⊥
     at_least g k lt sh None e t = t k (lt, sh)
     at_least g k lt sh (Some m) e t = absurd (none_some m (sym e))

@@ -1,7 +1,5 @@
 -- Answers against the number of the caches that are `on`, and past the last one.
-use Rattle.shr_audit_fresh.proofs.Common.{◌≡◌, ℕ, ◌<◌, ◌≤◌, Bool, true, length, Option, Some, None, refl, sym, subst, ◌∙◌, inl, inr, arith, Decides, slice_get_within, Answered, Script, Report, pool_seen, answer_at, answers_of, commands_of, serial_of, Reaches, IsOnSeenAt, some_is}
-use Rattle.std.proofs.lemmas.Option.{slice_get_cases}
-use Rattle.shr_report.specs.Parts.{decls_on}
+use Rattle.shr_audit_fresh.proofs.Common.{◌≡◌, ℕ, ◌<◌, ◌≤◌, Bool, true, length, Option, Some, None, refl, sym, subst, ◌∙◌, inl, inr, arith, Decides, slice_get_within, Answered, Script, Report, pool_seen, answer_at, answers_of, commands_of, serial_of, Reaches, IsOnSeenAt, some_is, slice_get_cases, decls_on}
 use Rattle.shr_audit_fresh.proofs.Answering.{answer_past}
 
 none_some : {X : Type 0} (a : X) → ◌≡◌ {A = Option X} None (Some a) → ⊥

@@ -1,14 +1,9 @@
 -- Begins that are shown, against those who may have begun.
-use Rattle.shr_audit_fresh.proofs.Common.{◌≡◌, ℕ, zero, suc, ◌<◌, ◌≤◌, Bool, true, false, cond, List, [], ◌∷◌, ◌++◌, length, Option, Some, None, refl, sym, ap, subst, ◌∙◌, inl, inr, arith, ◌||◌, ◌&&◌, ◌==◌, slice_get, flat_map, filter, option_to_list, Decides, list_any, nat_tests, list_any-append, slice_get_within, Serial, TreeEntry, Answered, Script, WalkRecord, is_serial, is_begin, Cited, Never, Once, Often, AreCited, Each, Report, is_begin_at, of_answer, shown_by, tree_cited, walk_cited, answers_of, serial_of, walks_of, IsTreeNumbered, is_group, walks_cite, IsEntryStarted, IsWalkStarted, may_show, IsBeginStarted, either, or_left, or_right}
-use Rattle.std.specs.Prelude.{not, nat_le}
+use Rattle.shr_audit_fresh.proofs.Common.{◌≡◌, ℕ, zero, suc, ◌<◌, ◌≤◌, Bool, true, false, cond, List, [], ◌∷◌, ◌++◌, length, Option, Some, None, refl, sym, ap, subst, ◌∙◌, inl, inr, arith, ◌||◌, ◌&&◌, ◌==◌, slice_get, flat_map, filter, option_to_list, Decides, list_any, nat_tests, list_any-append, slice_get_within, Serial, TreeEntry, Answered, Script, WalkRecord, is_serial, is_begin, Cited, Never, Once, Often, AreCited, EachItem, Report, is_begin_at, of_answer, shown_by, tree_cited, walk_cited, answers_of, serial_of, walks_of, IsTreeNumbered, is_group, walks_cite, IsEntryStarted, IsWalkStarted, may_show, IsBeginStarted, either, or_left, or_right, not, nat_le, AnswerCites, TellsCited, cited_in, shows_begin, AreAnswersStarted, MayShow}
 use Rattle.shr_base.specs.declared.journals.TreeEntry.TheVariants.{Begin, Done, Made}
 use Rattle.shr_audit_causes.specs.declared.cites.What.TheVariants as say
-use Rattle.shr_audit_causes.specs.Cites.{Cites, Tells, cited_in}
 use Rattle.shr_audit_causes.proofs.Treeing.{begun_of, of_begun}
 use Rattle.shr_report.specs.Causes.{IsOffline, MayHaveBegun}
-use Rattle.shr_report.specs.Freshness.{shows_begin}
-use Rattle.shr_audit_fresh.specs.Started.{AreAnswersStarted}
-use Rattle.shr_audit_fresh.specs.Worker.{MayShow}
 use Rattle.shr_audit_fresh.proofs.Answering.{of_past}
 use Rattle.shr_audit_fresh.proofs.FirstLaws.{or_none}
 use Rattle.shr_audit_fresh.proofs.MadeLaws.{group_is, is_the_group}
@@ -49,7 +44,7 @@ own_and_later w c worker k e = (by (w == worker) refl e, late)
     late : k < c
     late = let unlike = right (not (w == worker)) (nat_le c k) e in grind (arith, nat_tests)
 
-may_of : (P : Serial → Type 0) (c : Cited) (worker k : ℕ) → Tells P c → may_show c worker k ≡ true → AllLater P worker k → ⊥
+may_of : (P : Serial → Type 0) (c : Cited) (worker k : ℕ) → TellsCited P c → may_show c worker k ≡ true → AllLater P worker k → ⊥
 may_of P Never worker k t e all = absurd cc
 may_of P (Once w j) worker k t e all = other_or_early w j worker k e (all (serial_of w j) t.0)
 may_of P (Often w j others) worker k t e all = elim (either others (not (w == worker) || nat_le j k) e) [
@@ -57,7 +52,7 @@ may_of P (Often w j others) worker k t e all = elim (either others (not (w == wo
   | inr here ↦ other_or_early w j worker k here (all (serial_of w j) t.so)
 ]
 
-all_of : (P : Serial → Type 0) (c : Cited) (worker k : ℕ) → Tells P c → may_show c worker k ≡ false → AllLater P worker k
+all_of : (P : Serial → Type 0) (c : Cited) (worker k : ℕ) → TellsCited P c → may_show c worker k ≡ false → AllLater P worker k
 all_of P Never worker k t e by p = absurd (t by p)
 all_of P (Once w j) worker k t e by p =
     let same = t.1 by p in
@@ -72,19 +67,19 @@ all_of P (Often w j others) worker k t e by p =
 -- ---- one group
 
 module _ (s : Script) (r : Report) (begun : List Cited) (cited : AreCited s r say.Begun 65536 begun) where
-  begins : (group : ℕ) → group < 65536 → Tells (λ x. Cites s r say.Begun group x) (cited_in begun group)
+  begins : (group : ℕ) → group < 65536 → TellsCited (λ x. AnswerCites s r say.Begun group x) (cited_in begun group)
   begins group lt = cited.each group lt
 
   pub may_begin : (group worker k : ℕ) → group < 65536 → may_show (cited_in begun group) worker k ≡ true → MayShow s r worker k group
-  may_begin group worker k lt e all = may_of (λ x. Cites s r say.Begun group x) (cited_in begun group) worker k (begins group lt) e (λ by c. all by (begun_of s r by group c))
+  may_begin group worker k lt e all = may_of (λ x. AnswerCites s r say.Begun group x) (cited_in begun group) worker k (begins group lt) e (λ by c. all by (begun_of s r by group c))
 
   pub all_later : (group worker k : ℕ) → group < 65536 → may_show (cited_in begun group) worker k ≡ false → (by : Serial) → IsOffline s r by group MayHaveBegun → (by.worker ≡ worker) × (k < by.command)
-  all_later group worker k lt e by o = all_of (λ x. Cites s r say.Begun group x) (cited_in begun group) worker k (begins group lt) e by (of_begun s r by group o)
+  all_later group worker k lt e by o = all_of (λ x. AnswerCites s r say.Begun group x) (cited_in begun group) worker k (begins group lt) e by (of_begun s r by group o)
 
 -- ---- the group of a Begin
 
 -- it is one of 65,536
-begin_few : (r : Report) → Each IsTreeNumbered r.tree.items → (group n : ℕ) → is_begin_at r group n ≡ true → group < 65536
+begin_few : (r : Report) → EachItem IsTreeNumbered r.tree.items → (group n : ℕ) → is_begin_at r group n ≡ true → group < 65536
 begin_few r fits group n e = by (slice_get r.tree.items n) refl e
   where
     by : (o : Option TreeEntry) → slice_get r.tree.items n ≡ o → list_any (is_begin group) (option_to_list o) ≡ true → group < 65536
@@ -96,7 +91,7 @@ begin_few r fits group n e = by (slice_get r.tree.items n) refl e
     by (Some (Done g)) at e = absurd cc
     by (Some (Made g)) at e = absurd cc
 
-few_of : (r : Report) → Each IsTreeNumbered r.tree.items → (group : ℕ) (ns : List ℕ) → list_any (is_begin_at r group) ns ≡ true → group < 65536
+few_of : (r : Report) → EachItem IsTreeNumbered r.tree.items → (group : ℕ) (ns : List ℕ) → list_any (is_begin_at r group) ns ≡ true → group < 65536
 few_of r fits group [] e = absurd cc
 few_of r fits group (n ∷ ns) e = elim (either (is_begin_at r group n) (list_any (is_begin_at r group) ns) e) [
   | inl here ↦ begin_few r fits group n here
@@ -184,7 +179,7 @@ and_left : (a b : Bool) → (a && b) ≡ true → a ≡ true
 and_left true b e = refl
 and_left false b e = absurd cc
 
-module _ (s : Script) (r : Report) (begun : List Cited) (cited : AreCited s r say.Begun 65536 begun) (fits : Each IsTreeNumbered r.tree.items) (worker : ℕ) where
+module _ (s : Script) (r : Report) (begun : List Cited) (cited : AreCited s r say.Begun 65536 begun) (fits : EachItem IsTreeNumbered r.tree.items) (worker : ℕ) where
   abbrev replies : ℕ → List ℕ
   replies k = of_answer r (serial_of worker k) (λ (a : Answered). tree_cited a.reply)
 
@@ -208,14 +203,14 @@ module _ (s : Script) (r : Report) (begun : List Cited) (cited : AreCited s r sa
   answers_of_law : IsBeginStarted s r worker → AreAnswersStarted r begun worker
   answers_of_law h k g e = may h k g (both k g ∙ or_left (list_any (is_begin_at r g) (replies k)) (list_any (is_begin_at r g) (walks k)) e)
 
-  walks_of_law : IsBeginStarted s r worker → Each (λ w. IsWalkStarted r begun worker w) (walks_of r worker)
+  walks_of_law : IsBeginStarted s r worker → EachItem (λ w. IsWalkStarted r begun worker w) (walks_of r worker)
   walks_of_law h n w at mine g e = may h w.by.command g (both w.by.command g ∙ or_right (list_any (is_begin_at r g) (replies w.by.command)) (list_any (is_begin_at r g) (walks w.by.command))
       (cites_walk r worker g (walks_of r worker) n w at mine e))
 
   pub answers_fail : (b : Bool) → Decides b (AreAnswersStarted r begun worker) → b ≡ false → Decides false (IsBeginStarted s r worker)
   answers_fail b d isnt = (λ t. absurd cc, λ h. absurd (let holds = d.1 (answers_of_law h) in cc))
 
-  pub started : (b : Bool) → AreAnswersStarted r begun worker → Decides b (Each (λ w. IsWalkStarted r begun worker w) (walks_of r worker)) → Decides b (IsBeginStarted s r worker)
+  pub started : (b : Bool) → AreAnswersStarted r begun worker → Decides b (EachItem (λ w. IsWalkStarted r begun worker w) (walks_of r worker)) → Decides b (IsBeginStarted s r worker)
   started b answers d = (λ t k g all. not_shown t k g all, λ h. d.1 (walks_of_law h))
     where
       shown : b ≡ true → (k g : ℕ) → shows_begin r (serial_of worker k) g ≡ true → may_show (cited_in begun g) worker k ≡ true

@@ -8,12 +8,12 @@ use Rattle.shr_report.specs.declared.report.Report.{Report}
 use Rattle.shr_report.specs.Freshness.{is_begin_at, is_done_at}
 
 -- a table of commands by groups
-abbrev pub Firsts : Type 0
-Firsts = HashMap ℕ ℕ (BuildHasherDefault FoldHasher)
+abbrev pub FirstCommands : Type 0
+FirstCommands = HashMap ℕ ℕ (BuildHasherDefault FoldHasher)
 
 -- no group has one
-abbrev pub IsBlank : Firsts → Type 0
-IsBlank firsts = (group : ℕ) → get nat_eq firsts group ≡ None
+abbrev pub HasNoFirsts : FirstCommands → Type 0
+HasNoFirsts firsts = (group : ℕ) → get nat_eq firsts group ≡ None
 
 -- the group is this one, if there is one
 abbrev pub is_group : ℕ → Option ℕ → Bool
@@ -26,7 +26,7 @@ first_with None command = command
 first_with (Some first) command = cond (nat_lt first command) first command
 
 -- one more was noted, if it shows something of a group
-abbrev pub NotesFirst : Option ℕ → ℕ → Firsts → Firsts → Type 0
+abbrev pub NotesFirst : Option ℕ → ℕ → FirstCommands → FirstCommands → Type 0
 NotesFirst group command old new = (g : ℕ) → get nat_eq new g ≡ cond (is_group g group) (Some (first_with (get nat_eq old g) command)) (get nat_eq old g)
 
 -- the least of which it is so
@@ -35,8 +35,8 @@ IsLeast P None = (k : ℕ) → P k → ⊥
 IsLeast P (Some first) = P first × ((k : ℕ) → P k → first ≤ k)
 
 -- these are the least of each group
-abbrev pub AreFirsts : (ℕ → ℕ → Type 0) → Firsts → Type 0
-AreFirsts P firsts = (group : ℕ) → IsLeast (P group) (get nat_eq firsts group)
+abbrev pub AreLeastOfGroups : (ℕ → ℕ → Type 0) → FirstCommands → Type 0
+AreLeastOfGroups P firsts = (group : ℕ) → IsLeast (P group) (get nat_eq firsts group)
 
 -- an entry with one of these numbers is a Begin or a Done of a group
 abbrev pub shows_in : Report → ℕ → List ℕ → Bool

@@ -35,17 +35,17 @@ abbrev pub IsShownBelow : Report → ℕ → Type 0
 IsShownBelow r worker = (k later : ℕ) → k < later → AreBelow (shown_by r (serial_of worker k)) (of_answer r (serial_of worker later) tree_seen)
 
 -- of these groups a command shows that they are offline, by its answer or by one of these walks
-abbrev pub Shown : Report → ℕ → List WalkRecord → ℕ → ℕ → Type 0
-Shown r worker walks group k = shows_in r group (of_answer r (serial_of worker k) (λ (a : Answered). tree_cited a.reply) ++ walks_cite worker walks k) ≡ true
+abbrev pub ShownByWalks : Report → ℕ → List WalkRecord → ℕ → ℕ → Type 0
+ShownByWalks r worker walks group k = shows_in r group (of_answer r (serial_of worker k) (λ (a : Answered). tree_cited a.reply) ++ walks_cite worker walks k) ≡ true
 
 -- by its answer or one of its walks
 abbrev pub ShownOffline : Report → ℕ → ℕ → ℕ → Type 0
 ShownOffline r worker group k = shows_offline r (serial_of worker k) group ≡ true
 
 -- there is a command, and it is before another
-abbrev pub is_before : Option ℕ → ℕ → Bool
-is_before None command = false
-is_before (Some first) command = nat_lt first command
+abbrev pub is_first_before : Option ℕ → ℕ → Bool
+is_first_before None command = false
+is_first_before (Some first) command = nat_lt first command
 
 -- a command finds a group offline which an earlier answer or walk showed to be
 abbrev pub IsRefusedAt : Script → Report → ℕ → ℕ → Type 0
@@ -53,8 +53,8 @@ IsRefusedAt s r worker later = (k group : ℕ) → k < later → shows_offline r
     → option_and_then asks_online (command_at s (serial_of worker later)) ≡ Some group → IsSomeAnd (reply_at r (serial_of worker later)) MayBeOffline
 
 -- each does
-abbrev pub IsRefused : Script → Report → ℕ → Type 0
-IsRefused s r worker = (later : ℕ) → IsRefusedAt s r worker later
+abbrev pub IsWorkerRefused : Script → Report → ℕ → Type 0
+IsWorkerRefused s r worker = (later : ℕ) → IsRefusedAt s r worker later
 
 -- somebody may have begun a group's offlining by this command
 abbrev pub MayShow : Script → Report → ℕ → ℕ → ℕ → Type 0
@@ -92,6 +92,6 @@ pub record AreNumbersFresh (s : Script) (r : Report) (worker : ℕ) : Type 0 whe
 -- no answer and no walk of a worker knew less than the worker had known before
 pub record IsWorkerFresh (s : Script) (r : Report) (worker : ℕ) : Type 0 where
   pub numbers : AreNumbersFresh s r worker
-  pub refused : IsRefused s r worker
+  pub refused : IsWorkerRefused s r worker
   pub first : IsBeginStarted s r worker
   pub made : StaysMade s r worker

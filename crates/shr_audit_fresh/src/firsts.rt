@@ -2,7 +2,7 @@
 
 ghost use Rattle.std.specs.Prelude.{◌≡◌, ℕ, nat_eq, OnOk};
 ghost use Rattle.std.specs.HashMap.{get};
-ghost use Rattle.shr_audit_fresh.specs.Firsts.{IsBlank, NotesFirst, first_with};
+ghost use Rattle.shr_audit_fresh.specs.Firsts.{HasNoFirsts, NotesFirst, first_with};
 
 use shr_base::memory::Memory;
 use std::alloc::Global;
@@ -10,7 +10,7 @@ use std::collections::HashMap;
 
 // A table of no groups.
 pub(crate) fn no_firsts(alloc: Global) -> HashMap<u16, usize>
-    ensures { IsBlank result }
+    ensures { HasNoFirsts result }
 {
     HashMap::new(alloc)
 }

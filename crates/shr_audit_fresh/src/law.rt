@@ -4,7 +4,7 @@ ghost use Rattle.std.specs.Prelude.{◌≡◌, length, IfOk};
 ghost use Rattle.std.specs.Bool.{Decides};
 ghost use Rattle.shr_audit_causes.specs.declared.cites.What.TheVariants as say;
 ghost use Rattle.shr_audit_causes.specs.Cites.{AreCited};
-ghost use Rattle.shr_formed.specs.Each.{Each};
+ghost use Rattle.shr_formed.specs.Each.{EachItem};
 ghost use Rattle.shr_report.specs.Freshness.{IsFresh};
 ghost use Rattle.shr_report.specs.Parts.{answers_of, decls_on};
 ghost use Rattle.shr_report.specs.WellFormed.{IsTreeNumbered};
@@ -74,7 +74,7 @@ fn is_worker_fresh(
 ) -> Result<bool, Memory>
     requires on { on ≡ length (decls_on script.now) }
     requires begun { AreCited script.now report.now say.Begun 65536 begun.now }
-    requires numbered { Each IsTreeNumbered report.now.tree.items }
+    requires numbered { EachItem IsTreeNumbered report.now.tree.items }
     ensures { IfOk result (λ b. Decides b (IsWorkerFresh script.now report.now worker)) }
 {
     if !are_numbers_fresh(alloc, script, report, on, worker)? {

@@ -7,8 +7,8 @@ ghost use Rattle.shr_base.specs.declared.walks.WalkRecord.{WalkRecord};
 ghost use Rattle.shr_model.specs.Commands.{asks_online};
 ghost use Rattle.shr_report.specs.Freshness.{MayBeOffline};
 ghost use Rattle.shr_report.specs.Parts.{reply_at, serial_of, walks_of};
-ghost use Rattle.shr_audit_fresh.specs.Firsts.{AreFirsts, IsBlank};
-ghost use Rattle.shr_audit_fresh.specs.Worker.{IsRefused, IsRefusedAt, Shown, ShownOffline, is_before};
+ghost use Rattle.shr_audit_fresh.specs.Firsts.{AreLeastOfGroups, HasNoFirsts};
+ghost use Rattle.shr_audit_fresh.specs.Worker.{IsWorkerRefused, IsRefusedAt, ShownByWalks, ShownOffline, is_first_before};
 
 use crate::firsts::{first_of, no_firsts, note};
 use crate::shown::offline_at;
@@ -62,7 +62,7 @@ fn may_be_offline_at(report: &Report, worker: usize, number: usize) -> bool
 
 // Whether there is a command, and it is before another.
 fn is_before(first: Option<usize>, number: usize) -> bool
-    ensures { result ≡ is_before first number }
+    ensures { result ≡ is_first_before first number }
 {
     match first {
         Some(first) => first < number,
@@ -76,8 +76,8 @@ fn note_answers(
     report: &Report,
     worker: usize,
 ) -> Result<(), Memory>
-    ensures { OnOk result (IsBlank firsts.old
-        → AreFirsts (Shown report.now worker []) firsts.new) }
+    ensures { OnOk result (HasNoFirsts firsts.old
+        → AreLeastOfGroups (ShownByWalks report.now worker []) firsts.new) }
 {
     for number in 0..count_answers(report, worker) {
         let group = offline_at(report, cited_by(report, worker, number));
@@ -94,8 +94,8 @@ fn note_walk(
     walk: &WalkRecord,
 ) -> Result<(), Memory>
     ensures { OnOk result ((before : List WalkRecord)
-        → AreFirsts (Shown report.now worker before) firsts.old
-        → AreFirsts (Shown report.now worker (before ++ walk.now ∷ [])) firsts.new) }
+        → AreLeastOfGroups (ShownByWalks report.now worker before) firsts.old
+        → AreLeastOfGroups (ShownByWalks report.now worker (before ++ walk.now ∷ [])) firsts.new) }
 {
     let by = walk.by.worker as usize;
     if by != worker {
@@ -112,8 +112,8 @@ fn note_walks(
     report: &Report,
     worker: usize,
 ) -> Result<(), Memory>
-    ensures { OnOk result (AreFirsts (Shown report.now worker []) firsts.old
-        → AreFirsts (Shown report.now worker (walks_of report.now worker)) firsts.new) }
+    ensures { OnOk result (AreLeastOfGroups (ShownByWalks report.now worker []) firsts.old
+        → AreLeastOfGroups (ShownByWalks report.now worker (walks_of report.now worker)) firsts.new) }
 {
     for walk in walks_of(report, worker) {
         note_walk(firsts, report, worker, walk)?;
@@ -127,7 +127,7 @@ fn offline_firsts(
     report: &Report,
     worker: usize,
 ) -> Result<HashMap<u16, usize>, Memory>
-    ensures { IfOk result (λ firsts. AreFirsts (ShownOffline report.now worker) firsts) }
+    ensures { IfOk result (λ firsts. AreLeastOfGroups (ShownOffline report.now worker) firsts) }
 {
     let mut firsts = no_firsts(alloc);
     note_answers(&mut firsts, report, worker)?;
@@ -143,7 +143,7 @@ fn is_refused_at(
     firsts: &HashMap<u16, usize>,
     number: usize,
 ) -> bool
-    requires { AreFirsts (ShownOffline report.now worker) firsts.now }
+    requires { AreLeastOfGroups (ShownOffline report.now worker) firsts.now }
     ensures { Decides result (IsRefusedAt script.now report.now worker number) }
 {
     let Some(group) = asks_online(command_of(script, worker, number)) else {
@@ -162,7 +162,7 @@ pub(crate) fn is_refused(
     report: &Report,
     worker: usize,
 ) -> Result<bool, Memory>
-    ensures { IfOk result (λ b. Decides b (IsRefused script.now report.now worker)) }
+    ensures { IfOk result (λ b. Decides b (IsWorkerRefused script.now report.now worker)) }
 {
     let firsts = offline_firsts(alloc, report, worker)?;
     for number in 0..count_commands(script, worker) {

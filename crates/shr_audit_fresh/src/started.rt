@@ -5,7 +5,7 @@ ghost use Rattle.std.specs.Bool.{Decides};
 ghost use Rattle.std.specs.List.{list_any};
 ghost use Rattle.shr_audit_causes.specs.declared.cites.What.TheVariants as say;
 ghost use Rattle.shr_audit_causes.specs.Cites.{AreCited, cited_in};
-ghost use Rattle.shr_formed.specs.Each.{Each};
+ghost use Rattle.shr_formed.specs.Each.{EachItem};
 ghost use Rattle.shr_report.specs.Freshness.{is_begin_at};
 ghost use Rattle.shr_report.specs.Parts.{walks_of};
 ghost use Rattle.shr_report.specs.WellFormed.{IsTreeNumbered};
@@ -82,7 +82,7 @@ fn is_walk_started(report: &Report, begun: &[Cited], worker: usize, walk: &WalkR
 
 // Whether it is so of what each of these walks cites.
 fn are_walks_started(report: &Report, begun: &[Cited], worker: usize, walks: &[WalkRecord]) -> bool
-    ensures { Decides result (Each (λ w. IsWalkStarted report.now begun.now worker w) walks.now) }
+    ensures { Decides result (EachItem (λ w. IsWalkStarted report.now begun.now worker w) walks.now) }
 {
     for walk in walks {
         if !is_walk_started(report, begun, worker, walk) {
@@ -100,7 +100,7 @@ pub(crate) fn is_begin_started(
     worker: usize,
 ) -> bool
     requires begun { AreCited script.now report.now say.Begun 65536 begun.now }
-    requires numbered { Each IsTreeNumbered report.now.tree.items }
+    requires numbered { EachItem IsTreeNumbered report.now.tree.items }
     ensures { Decides result (IsBeginStarted script.now report.now worker) }
 {
     if !are_answers_started(report, begun, worker) {

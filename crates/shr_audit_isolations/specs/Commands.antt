@@ -10,17 +10,17 @@ use Rattle.shr_report.specs.Isolated.{isolations_told}
 use Rattle.shr_report.specs.Parts.{commands_of, serial_of}
 
 -- as the isolations of a worker stand in a well formed report
-abbrev pub StandByCommand : List Isolation → Type 0
-StandByCommand isolations = Adjacent (λ x y. x.by.command ≤ y.by.command) isolations
+abbrev pub IsolationsByCommand : List Isolation → Type 0
+IsolationsByCommand isolations = Adjacent (λ x y. x.by.command ≤ y.by.command) isolations
 
 -- the isolations of a command of a worker
 abbrev pub isolations_with : List Isolation → ℕ → List Isolation
 isolations_with isolations n = filter (λ (i : Isolation). i.by.command == n) isolations
 
 -- the answer with this number tells of the isolations of its command, if that is one of the script
-abbrev pub IsAnswerTold : Script → ℕ → List Isolation → ℕ → Answered → Type 0
-IsAnswerTold s worker isolations n a = (c : Command) → slice_get (commands_of s worker) n ≡ Some c → isolations_with isolations n ≡ isolations_told (serial_of worker n) c a
+abbrev pub TellsIsolations : Script → ℕ → List Isolation → ℕ → Answered → Type 0
+TellsIsolations s worker isolations n a = (c : Command) → slice_get (commands_of s worker) n ≡ Some c → isolations_with isolations n ≡ isolations_told (serial_of worker n) c a
 
 -- and so does each answer of a worker
-abbrev pub IsPartTold : Script → ℕ → WorkerPart → Type 0
-IsPartTold s worker part = (n : ℕ) (a : Answered) → slice_get part.answers.items n ≡ Some a → IsAnswerTold s worker part.isolations.items n a
+abbrev pub PartTellsIsolations : Script → ℕ → WorkerPart → Type 0
+PartTellsIsolations s worker part = (n : ℕ) (a : Answered) → slice_get part.answers.items n ≡ Some a → TellsIsolations s worker part.isolations.items n a

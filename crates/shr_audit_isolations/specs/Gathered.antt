@@ -13,8 +13,8 @@ use Rattle.shr_model.specs.Isolations.{ScanSeen, first_isolation, isolation_walk
 use Rattle.shr_report.specs.declared.report.Report.{Report}
 use Rattle.shr_report.specs.Isolated.{scans_seen}
 use Rattle.shr_report.specs.Parts.{isolation_at, journal_of, journals_of}
-use Rattle.shr_formed.specs.Each.{Each}
-use Rattle.shr_case.specs.Places.{IsFirst, end_of}
+use Rattle.shr_formed.specs.Each.{EachItem}
+use Rattle.shr_case.specs.Places.{IsFirst, end_printed}
 use Rattle.shr_audit_isolations.specs.declared.gathered.Gathered.{Gathered}
 use Rattle.shr_audit_isolations.specs.declared.gathered.IsolationScan.{IsolationScan}
 
@@ -23,24 +23,24 @@ abbrev pub seen_of : IsolationScan → ScanSeen
 seen_of x = record { asked = x.asked; policy = x.policy; visits = x.visits; freed = x.freed; stopped = x.stopped }
 
 -- an isolation and scans of it
-pub record Told : Type 0 where
+pub record IsolationTold : Type 0 where
   pub isolation : Isolation
   pub scans : List ScanSeen
 
 -- the same of what is gathered
-abbrev pub told_of : Gathered → Told
+abbrev pub told_of : Gathered → IsolationTold
 told_of g = record { isolation = g.isolation; scans = map seen_of g.scans.items }
 
 -- an isolation of which nothing is gathered yet
-abbrev pub begun : Isolation → Told
+abbrev pub begun : Isolation → IsolationTold
 begun i = record { isolation = i; scans = [] }
 
 -- those of all workers
-abbrev pub IsBegun : List WorkerPart → List (Vec Gathered Global) → Type 0
-IsBegun parts table = map (λ (row : Vec Gathered Global). map told_of row.items) table ≡ map (λ (part : WorkerPart). map begun part.isolations.items) parts
+abbrev pub IsGatheringBegun : List WorkerPart → List (Vec Gathered Global) → Type 0
+IsGatheringBegun parts table = map (λ (row : Vec Gathered Global). map told_of row.items) table ≡ map (λ (part : WorkerPart). map begun part.isolations.items) parts
 
 -- one scan more
-abbrev pub pushed : ScanSeen → Told → Told
+abbrev pub pushed : ScanSeen → IsolationTold → IsolationTold
 pushed x t = record t { scans = t.scans ++ x ∷ [] }
 
 -- the isolation with this number has one scan more, the others are as they were
@@ -48,13 +48,13 @@ abbrev pub RowGains : ℕ → ScanSeen → List Gathered → List Gathered → T
 RowGains number x old new = (k : ℕ) → option_map told_of (slice_get new k) ≡ option_map (λ t. cond (k == number) (pushed x t) t) (option_map told_of (slice_get old k))
 
 -- the isolations of a worker, none past the last one
-abbrev pub row_of : Option (Vec Gathered Global) → List Gathered
-row_of None = []
-row_of (Some row) = row.items
+abbrev pub gathered_row : Option (Vec Gathered Global) → List Gathered
+gathered_row None = []
+gathered_row (Some row) = row.items
 
 -- the isolation with this number of a worker, with what is gathered of it
-abbrev pub told_at : List (Vec Gathered Global) → ℕ → ℕ → Option Told
-told_at table worker k = option_map told_of (slice_get (row_of (slice_get table worker)) k)
+abbrev pub told_at : List (Vec Gathered Global) → ℕ → ℕ → Option IsolationTold
+told_at table worker k = option_map told_of (slice_get (gathered_row (slice_get table worker)) k)
 
 -- that of this worker with this number has one scan more, the others are as they were
 pub record TableGains (worker number : ℕ) (x : ScanSeen) (old new : List (Vec Gathered Global)) : Type 0 where
@@ -67,11 +67,11 @@ IsOfTold table place (Scan worker n asked policy visits freed stopped) = first_i
 IsOfTold table place e = ⊤
 
 -- with the scans of its walk in these entries
-abbrev pub with_scans : ℕ → ℕ → List Entry → Told → Told
+abbrev pub with_scans : ℕ → ℕ → List Entry → IsolationTold → IsolationTold
 with_scans worker k entries t = record t { scans = t.scans ++ scans_seen worker (isolation_walk k) entries }
 
 -- each isolation has in addition the scans of its walk in the entries that its place has more
-pub record Gains (more : Place → List Entry) (old new : List (Vec Gathered Global)) : Type 0 where
+pub record GainsScans (more : Place → List Entry) (old new : List (Vec Gathered Global)) : Type 0 where
   pub count : length new ≡ length old
   pub each : (w k : ℕ) → told_at new w k ≡ option_map (λ t. with_scans w k (more t.isolation.place) t) (told_at old w k)
 
@@ -81,18 +81,18 @@ at_place place entries p = cond (is_place p place) entries []
 
 -- each Scan entry of a list is of one of these, if the list is the first one of its place
 abbrev pub IsOfTheirs : List (Vec Gathered Global) → List PlaceEnd → ℕ → Type 0
-IsOfTheirs table ends k = (end : PlaceEnd) → slice_get ends k ≡ Some end → IsFirst ends k end.place → Each (IsOfTold table end.place) end.entries.items
+IsOfTheirs table ends k = (end : PlaceEnd) → slice_get ends k ≡ Some end → IsFirst ends k end.place → EachItem (IsOfTold table end.place) end.entries.items
 
 -- the journal of a place in the first so many lists
 abbrev pub journals_to : List PlaceEnd → ℕ → Place → List Entry
-journals_to ends n place = journal_of (end_of (take n ends) place)
+journals_to ends n place = journal_of (end_printed (take n ends) place)
 
 -- the entries that the list with this number adds for a place: its own, if it is the first one there
 abbrev pub new_at : List PlaceEnd → ℕ → Place → List Entry
-new_at ends k place = cond (is_some (end_of (take k ends) place)) [] (journal_of (end_of (option_to_list (slice_get ends k)) place))
+new_at ends k place = cond (is_some (end_printed (take k ends) place)) [] (journal_of (end_printed (option_to_list (slice_get ends k)) place))
 
 -- an isolation with the scans of its walk in the journal of its place
-abbrev pub gathered_of : Report → ℕ → ℕ → Isolation → Told
+abbrev pub gathered_of : Report → ℕ → ℕ → Isolation → IsolationTold
 gathered_of r worker k i = record { isolation = i; scans = scans_seen worker (isolation_walk k) (journals_of r i.place) }
 
 -- each isolation of a report, so

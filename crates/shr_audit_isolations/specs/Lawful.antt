@@ -20,8 +20,8 @@ abbrev pub met_by : IsolationScan → Met
 met_by x = met_of (seen_of x)
 
 -- how many objects it freed
-abbrev pub freed_of : IsolationScan → ℕ
-freed_of x = x.freed
+abbrev pub isolation_freed : IsolationScan → ℕ
+isolation_freed x = x.freed
 
 -- no more visits than the budget, and as many as the end says
 pub record IsBounded (i : Isolation) : Type 0 where

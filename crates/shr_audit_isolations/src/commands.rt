@@ -5,11 +5,11 @@ ghost use Rattle.std.specs.Bool.{Decides};
 ghost use Rattle.shr_base.specs.declared.places.Serial.{Serial};
 ghost use Rattle.shr_base.specs.declared.scripts.Command.{Command};
 ghost use Rattle.shr_base.specs.declared.walks.Isolation.{Isolation};
-ghost use Rattle.shr_formed.specs.Each.{Each};
+ghost use Rattle.shr_formed.specs.Each.{EachItem};
 ghost use Rattle.shr_report.specs.Isolated.{isolations_by, isolations_told};
 ghost use Rattle.shr_report.specs.Parts.{commands_of, EachAnswer};
 ghost use Rattle.shr_report.specs.WellFormed.{IsWellFormed};
-ghost use Rattle.shr_audit_isolations.specs.Commands.{IsPartTold, StandByCommand};
+ghost use Rattle.shr_audit_isolations.specs.Commands.{PartTellsIsolations, IsolationsByCommand};
 
 use shr_base::ends::WorkerPart;
 use shr_base::replies::{Answered, Reply};
@@ -19,7 +19,7 @@ use shr_report::report::Report;
 
 // The index of the first isolation that isn't of an earlier command.
 fn first_of(isolations: &[Isolation], command: usize) -> usize
-    requires { StandByCommand isolations.now }
+    requires { IsolationsByCommand isolations.now }
     ensures within { result ≤ length isolations.now }
     ensures before { (n : ℕ) (i : Isolation) → n < result → slice_get isolations.now n ≡ Some i
         → i.by.command < command }
@@ -31,7 +31,7 @@ fn first_of(isolations: &[Isolation], command: usize) -> usize
 
 // The index behind the last isolation that isn't of a later command.
 fn behind_of(isolations: &[Isolation], command: usize) -> usize
-    requires { StandByCommand isolations.now }
+    requires { IsolationsByCommand isolations.now }
     ensures within { result ≤ length isolations.now }
     ensures before { (n : ℕ) (i : Isolation) → n < result → slice_get isolations.now n ≡ Some i
         → i.by.command ≤ command }
@@ -43,7 +43,7 @@ fn behind_of(isolations: &[Isolation], command: usize) -> usize
 
 // The isolations of a command, of those of its worker in the order of their commands.
 fn isolations_of(isolations: &[Isolation], command: usize) -> &[Isolation]
-    requires { StandByCommand isolations.now }
+    requires { IsolationsByCommand isolations.now }
     ensures { result.now
         ≡ filter (λ (i : Isolation). i.by.command == command) isolations.now }
 {
@@ -100,7 +100,7 @@ fn tells_of(command: &Command, answer: &Answered, isolation: &Isolation) -> bool
 
 // Whether an answer tells of these isolations of its command.
 fn tells_of_all(command: &Command, answer: &Answered, isolations: &[Isolation]) -> bool
-    ensures { (by : Serial) → Each (λ i. i.by ≡ by) isolations.now
+    ensures { (by : Serial) → EachItem (λ i. i.by ≡ by) isolations.now
         → Decides result (isolations.now ≡ isolations_told by command.now answer.now) }
 {
     match isolations.first() {
@@ -131,7 +131,7 @@ fn is_answer_told(
     answer: &Answered,
     isolations: &[Isolation],
 ) -> bool
-    ensures { (by : Serial) → Each (λ i. i.by ≡ by) isolations.now
+    ensures { (by : Serial) → EachItem (λ i. i.by ≡ by) isolations.now
         → Decides result ((c : Command) → slice_get commands.now number ≡ Some c
         → isolations.now ≡ isolations_told by c answer.now) }
 {
@@ -143,9 +143,9 @@ fn is_answer_told(
 
 // Whether each answer to a command of a worker tells of its isolations.
 fn is_part_told(script: &Script, worker: usize, part: &WorkerPart) -> bool
-    requires stand { StandByCommand part.now.isolations.items }
-    requires own { Each (λ i. i.by.worker ≡ worker) part.now.isolations.items }
-    ensures { Decides result (IsPartTold script.now worker part.now) }
+    requires stand { IsolationsByCommand part.now.isolations.items }
+    requires own { EachItem (λ i. i.by.worker ≡ worker) part.now.isolations.items }
+    ensures { Decides result (PartTellsIsolations script.now worker part.now) }
 {
     let commands = commands_of(script, worker);
     let isolations = part.isolations.as_slice();

@@ -3,11 +3,11 @@
 ghost use Rattle.std.specs.Prelude.{◌≡◌, ℕ, ◌<◌, ◌∷◌, [], length, map, slice_get, option_map, IfOk, IfSome, IfNone, IsTrue};
 ghost use Rattle.std.specs.Bool.{Decides};
 ghost use Rattle.std.specs.Option.{IsSomeAnd};
-ghost use Rattle.shr_formed.specs.Each.{Each};
+ghost use Rattle.shr_formed.specs.Each.{EachItem};
 ghost use Rattle.shr_report.specs.Isolated.{IsOfIsolation};
 ghost use Rattle.shr_report.specs.Parts.{EachEntry};
 ghost use Rattle.shr_case.specs.Places.{AreInOrder};
-ghost use Rattle.shr_audit_isolations.specs.Gathered.{AreGathered, Gains, IsBegun, IsOfTheirs, IsOfTold, RowGains, TableGains, at_place, begun, journals_to, new_at, pushed, seen_of, told_at, told_of};
+ghost use Rattle.shr_audit_isolations.specs.Gathered.{AreGathered, GainsScans, IsGatheringBegun, IsOfTheirs, IsOfTold, RowGains, TableGains, at_place, begun, journals_to, new_at, pushed, seen_of, told_at, told_of};
 
 use shr_base::ends::{PlaceEnd, WorkerPart};
 use shr_base::journals::Entry;
@@ -63,7 +63,7 @@ fn begin_row(alloc: Global, isolations: &[Isolation]) -> Result<Vec<Gathered>, M
 
 // Those of all workers.
 fn begin_table(alloc: Global, parts: &[WorkerPart]) -> Result<Vec<Vec<Gathered>>, Memory>
-    ensures { IfOk result (λ table. IsBegun parts.now table.items) }
+    ensures { IfOk result (λ table. IsGatheringBegun parts.now table.items) }
 {
     let mut table = Vec::new(alloc);
     for part in parts {
@@ -130,7 +130,7 @@ fn add_to_table(
 fn gather_entry(table: &mut Vec<Vec<Gathered>>, place: Place, entry: &Entry) -> Result<bool, Memory>
     ensures right { IfOk result (λ b. Decides b (IsOfTold table.old.items place entry.now)) }
     ensures gains { IfOk result (λ b. IsTrue b
-        → Gains (at_place place (entry.now ∷ [])) table.old.items table.new.items) }
+        → GainsScans (at_place place (entry.now ∷ [])) table.old.items table.new.items) }
 {
     match *entry {
         Entry::Scan {
@@ -166,10 +166,10 @@ fn gather_entries(
     place: Place,
     entries: &[Entry],
 ) -> Result<bool, Memory>
-    ensures right { IfOk result (λ b. Decides b (Each (IsOfTold table.old.items place)
+    ensures right { IfOk result (λ b. Decides b (EachItem (IsOfTold table.old.items place)
         entries.now)) }
     ensures gains { IfOk result (λ b. IsTrue b
-        → Gains (at_place place entries.now) table.old.items table.new.items) }
+        → GainsScans (at_place place entries.now) table.old.items table.new.items) }
 {
     for entry in entries {
         if !gather_entry(table, place, entry)? {
@@ -185,7 +185,7 @@ fn gather_first(table: &mut Vec<Vec<Gathered>>, ends: &[PlaceEnd], k: usize) -> 
     requires there { k < length ends.now }
     ensures right { IfOk result (λ b. Decides b (IsOfTheirs table.old.items ends.now k)) }
     ensures gains { IfOk result (λ b. IsTrue b
-        → Gains (new_at ends.now k) table.old.items table.new.items) }
+        → GainsScans (new_at ends.now k) table.old.items table.new.items) }
 {
     if !is_first(ends, k) {
         return Ok(true);
@@ -201,7 +201,7 @@ fn gather_lists(table: &mut Vec<Vec<Gathered>>, ends: &[PlaceEnd]) -> Result<boo
     ensures right { IfOk result (λ b. Decides b ((k : ℕ) → k < length ends.now
         → IsOfTheirs table.old.items ends.now k)) }
     ensures gains { IfOk result (λ b. IsTrue b
-        → Gains (journals_to ends.now (length ends.now)) table.old.items table.new.items) }
+        → GainsScans (journals_to ends.now (length ends.now)) table.old.items table.new.items) }
 {
     for k in 0..ends.len() {
         if !gather_first(table, ends, k)? {

@@ -3,9 +3,9 @@
 ghost use Rattle.std.specs.Prelude.{◌≡◌, ◌++◌, ◌∷◌, [], map, replicate, sum_by};
 ghost use Rattle.std.specs.Bool.{Decides};
 ghost use Rattle.shr_model.specs.Isolations.{IsLawfulIsolation, met_one, mets_of};
-ghost use Rattle.shr_formed.specs.Each.{Each};
+ghost use Rattle.shr_formed.specs.Each.{EachItem};
 ghost use Rattle.shr_audit_isolations.specs.Gathered.{seen_of};
-ghost use Rattle.shr_audit_isolations.specs.Lawful.{IsAskedAlike, IsBounded, freed_of, met, met_by};
+ghost use Rattle.shr_audit_isolations.specs.Lawful.{IsAskedAlike, IsBounded, isolation_freed, met, met_by};
 
 use crate::gathered::IsolationScan;
 use shr_base::objects::Policy;
@@ -21,7 +21,7 @@ fn is_asked_alike(policy: Policy, scan: &IsolationScan) -> bool
 
 // Whether each of these was.
 fn are_asked_alike(policy: Policy, scans: &[IsolationScan]) -> bool
-    ensures { Decides result (Each (IsAskedAlike policy) scans.now) }
+    ensures { Decides result (EachItem (IsAskedAlike policy) scans.now) }
 {
     for scan in scans {
         if !is_asked_alike(policy, scan) {
@@ -40,7 +40,7 @@ fn has_met(visits: u32, stopped: bool, scan: &IsolationScan) -> bool
 
 // Whether each of these met one object and didn't stop.
 fn are_ones(scans: &[IsolationScan]) -> bool
-    ensures { Decides result (Each (λ x. met_by x ≡ met_one) scans.now) }
+    ensures { Decides result (EachItem (λ x. met_by x ≡ met_one) scans.now) }
 {
     for scan in scans {
         if !has_met(1, false, scan) {
@@ -81,7 +81,7 @@ fn have_met(visits: u32, ending: IsolateEnd, scans: &[IsolationScan]) -> bool
 
 // Whether these scans freed so much.
 fn have_freed(freed: u32, scans: &[IsolationScan]) -> bool
-    ensures { Decides result (sum_by freed_of scans.now ≡ freed) }
+    ensures { Decides result (sum_by isolation_freed scans.now ≡ freed) }
 {
     let mut left = freed;
     for scan in scans {

@@ -2,13 +2,13 @@
 
 ghost use Rattle.std.specs.Prelude.{◌≡◌, ◌<◌, length, option_copied};
 ghost use Rattle.std.specs.Bool.{Decides};
-ghost use Rattle.shr_formed.specs.Each.{Each};
+ghost use Rattle.shr_formed.specs.Each.{EachItem};
 ghost use Rattle.shr_model.specs.Commands.{decl_named};
 ghost use Rattle.shr_report.specs.Isolated.{cache_named};
 ghost use Rattle.shr_case.specs.Places.{AreInOrder};
 ghost use Rattle.shr_audit_spent.specs.Counted.{IsCountOf};
 ghost use Rattle.shr_audit_isolations.specs.Gathered.{told_of};
-ghost use Rattle.shr_audit_isolations.specs.Right.{AreRowsRight, IsEndRight, IsMadeRight, IsToldRight, cache_of};
+ghost use Rattle.shr_audit_isolations.specs.Right.{AreRowsRight, IsEndRight, IsMadeRight, IsToldRight, cache_of_command};
 
 use crate::gathered::Gathered;
 use crate::lawful::is_lawful;
@@ -39,7 +39,7 @@ fn decl_named(command: &Command) -> Option<u8>
 
 // The cache that a command names.
 fn cache_of<'a>(script: &'a Script, command: &Command) -> Option<&'a CacheDecl>
-    ensures { option_copied result ≡ cache_of script.now command.now }
+    ensures { option_copied result ≡ cache_of_command script.now command.now }
 {
     match decl_named(command) {
         Some(decl) => script.caches.get(decl as usize),
@@ -116,7 +116,7 @@ fn is_row_right(
     requires order { AreInOrder report.now.places.items }
     requires counted { IsCountOf script.now report.now counted.now }
     requires there { worker < length report.now.workers.items }
-    ensures { Decides result (Each (λ g. IsToldRight script.now report.now worker (told_of g))
+    ensures { Decides result (EachItem (λ g. IsToldRight script.now report.now worker (told_of g))
         row.now) }
 {
     for gathered in row {

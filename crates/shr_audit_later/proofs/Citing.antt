@@ -1,13 +1,7 @@
 -- Entries noted one after another, and the versions that are above them.
-use Rattle.shr_audit_later.proofs.Common.{◌≡◌, ◌≢◌, ◌⊎◌, ℕ, ◌+◌, ◌*◌, ◌<◌, ◌≤◌, Bool, true, false, cond, List, [], ◌∷◌, ◌++◌, length, get_or, map, filter, flat_map, Option, Some, None, refl, sym, ap, subst, ◌∙◌, inl, inr, arith, nat_eq, nat_lt, slice_get, Decides, get, AllByRecursion, cases_Bool, and_parts, and_from, eq-eqb, ne_eqb, nat_tests, slice_get-get_or, get_or_from_slice_get, slice_get_within, Each, each_all, each_more, decides_iff, At, Place, Answered, Attempt, WalkRecord, is_place, place_in, is_place_itself, is_place_same, at, cited_by, fits, place_key, AreCited, IsAboveHighest, IsLater, IsOutcomeAbove, NotesReply}
-use Rattle.std.proofs.Common.{zero, suc}
-use Rattle.std.specs.Prelude.{◌↔◌}
-use Rattle.shr_formed.proofs.Eachs.{all_of, each_in}
+use Rattle.shr_audit_later.proofs.Common.{◌≡◌, ◌≢◌, ◌⊎◌, ℕ, ◌+◌, ◌*◌, ◌<◌, ◌≤◌, Bool, true, false, cond, List, [], ◌∷◌, ◌++◌, length, get_or, map, filter, flat_map, Option, Some, None, refl, sym, ap, subst, ◌∙◌, inl, inr, arith, nat_eq, nat_lt, slice_get, Decides, get, AllByRecursion, cases_Bool, and_parts, and_from, eq-eqb, ne_eqb, nat_tests, slice_get-get_or, get_or_from_slice_get, slice_get_within, EachItem, each_all, each_more, decides_iff, At, Place, Answered, Attempt, WalkRecord, is_place, place_in, is_place_itself, is_place_same, at, cited_by, fits, place_key, AreHighestCited, IsAboveHighest, IsWalkLater, IsOutcomeAbove, NotesReply, zero, suc, ◌↔◌, all_of, each_in, Versions, IsAboveEntry, IsAboveAt, IsBlank, IsWalkAbove, NotesEntry, highest_at, all_front, all_right}
 use Rattle.shr_model.specs.Attempts.{Count, counts_of}
-use Rattle.shr_audit_versions.specs.Table.{Versions}
-use Rattle.shr_audit_later.specs.Cited.{IsAbove, IsAboveAt, IsBlank, IsWalkAbove, NotesEntry, highest_at}
 use Rattle.shr_model.proofs.BagLaws.{each_append}
-use Rattle.shr_model.proofs.Lists.{all_front, all_right}
 
 clash : (b : Bool) → b ≡ true → b ≡ false → ⊥
 clash b e f = cc
@@ -40,8 +34,8 @@ module _ (old new : Versions) (c : At) (fit : fits c.place ≡ true) where
   -- at another place nothing is new
   other : (q : Place) (v : ℕ) → (c.place ≢ q) → (highest_at new q ≡ highest_at old q) → IsAboveHighest new q v ↔ (IsAboveHighest old q v × IsAboveAt (Some c) q v)
   other q v ne same = (
-    λ h. (subst (λ (o : Option ℕ). IsAbove o v) same h, λ entry e. absurd (ne (ap (λ (x : At). x.place) (some_same c (at q entry) e)))),
-    λ h. subst (λ (o : Option ℕ). IsAbove o v) (sym same) h.0,
+    λ h. (subst (λ (o : Option ℕ). IsAboveEntry o v) same h, λ entry e. absurd (ne (ap (λ (x : At). x.place) (some_same c (at q entry) e)))),
+    λ h. subst (λ (o : Option ℕ). IsAboveEntry o v) (sym same) h.0,
   )
 
   highest_own : (t : Versions) → highest_at t c.place ≡ get nat_eq t (place_key c.place)
@@ -57,11 +51,11 @@ module _ (old new : Versions) (c : At) (fit : fits c.place ≡ true) where
             let place : c.place ≡ q = ap (λ (x : At). x.place) e in
             let number : c.entry ≡ entry = ap (λ (x : At). x.entry) e in
             let above : IsAboveHighest old c.place v = subst (λ (p : Place). IsAboveHighest old p v) (sym place) h in
-            let lt : highest < v = subst (λ (o : Option ℕ). IsAbove o v) (highest_own old ∙ is) above in
+            let lt : highest < v = subst (λ (o : Option ℕ). IsAboveEntry o v) (highest_own old ∙ is) above in
             omega arith
 
   -- it is: it stands in the table
-  pub put : IsAbove (get nat_eq old (place_key c.place)) c.entry → ((k : ℕ) → get nat_eq new k ≡ cond (nat_eq (place_key c.place) k) (Some c.entry) (get nat_eq old k)) → NotesEntry old new (Some c)
+  pub put : IsAboveEntry (get nat_eq old (place_key c.place)) c.entry → ((k : ℕ) → get nat_eq new k ≡ cond (nat_eq (place_key c.place) k) (Some c.entry) (get nat_eq old k)) → NotesEntry old new (Some c)
   put above puts q v = elim (cases_Bool (is_place c.place q)) [
     | inl t ↦ own q (is_place_same c.place q t)
     | inr f ↦ other q v (λ e. clash (is_place c.place q) (subst (λ (p : Place). is_place c.place p ≡ true) e (is_place_itself c.place)) f) (elsewhere q f)
@@ -78,17 +72,17 @@ module _ (old new : Versions) (c : At) (fit : fits c.place ≡ true) where
       here : highest_at new c.place ≡ Some c.entry
       here = highest_own new ∙ puts (place_key c.place) ∙ ap (λ (b : Bool). cond b (Some c.entry) (get nat_eq old (place_key c.place))) (eq-eqb (place_key c.place) (place_key c.place) refl)
 
-      up : (o : Option ℕ) (v : ℕ) → IsAbove o c.entry → c.entry < v → IsAbove o v
+      up : (o : Option ℕ) (v : ℕ) → IsAboveEntry o c.entry → c.entry < v → IsAboveEntry o v
       up None v a lt = tt
       up (Some highest) v a lt = omega arith
 
       own : (q : Place) → c.place ≡ q → IsAboveHighest new q v ↔ (IsAboveHighest old q v × IsAboveAt (Some c) q v)
       own q e = subst (λ (p : Place). IsAboveHighest new p v ↔ (IsAboveHighest old p v × IsAboveAt (Some c) p v)) e (
-        λ h. let lt : c.entry < v = subst (λ (o : Option ℕ). IsAbove o v) here h in (
-          subst (λ (o : Option ℕ). IsAbove o v) (sym (highest_own old)) (up (get nat_eq old (place_key c.place)) v above lt),
+        λ h. let lt : c.entry < v = subst (λ (o : Option ℕ). IsAboveEntry o v) here h in (
+          subst (λ (o : Option ℕ). IsAboveEntry o v) (sym (highest_own old)) (up (get nat_eq old (place_key c.place)) v above lt),
           λ entry e. let number : c.entry ≡ entry = ap (λ (x : At). x.entry) (some_same c (at c.place entry) e) in omega arith,
         ),
-        λ h. subst (λ (o : Option ℕ). IsAbove o v) (sym here) (h.1 c.entry refl),
+        λ h. subst (λ (o : Option ℕ). IsAboveEntry o v) (sym here) (h.1 c.entry refl),
       )
 
 pub under : (n : ℕ) → n < 65536 → nat_lt n 65536 ≡ true
@@ -102,27 +96,27 @@ module _ (t : Versions) (p : Place) (v k : ℕ) (is : k ≡ place_key p) (fit : 
   own_at = ap (λ (b : Bool). cond b (get nat_eq t (place_key p)) None) fit ∙ ap (get nat_eq t) (sym is)
 
   pub above_none : get nat_eq t k ≡ None → Decides true (IsAboveHighest t p v)
-  above_none e = subst (λ (o : Option ℕ). Decides true (IsAbove o v)) (sym (own_at ∙ e)) (λ t. tt, λ h. refl)
+  above_none e = subst (λ (o : Option ℕ). Decides true (IsAboveEntry o v)) (sym (own_at ∙ e)) (λ t. tt, λ h. refl)
 
   pub above_some : (highest : ℕ) (b : Bool) → get nat_eq t k ≡ Some highest → Decides b (highest < v) → Decides b (IsAboveHighest t p v)
-  above_some highest b e d = subst (λ (o : Option ℕ). Decides b (IsAbove o v)) (sym (own_at ∙ e)) d
+  above_some highest b e d = subst (λ (o : Option ℕ). Decides b (IsAboveEntry o v)) (sym (own_at ∙ e)) d
 
 module _ (old new : Versions) (c : At) (b : Bool) (fit : fits c.place ≡ true) (d : Decides b (IsAboveHighest old c.place c.entry)) where
   pub kept_so : b ≡ false → NotesEntry old old (Some c)
   kept_so f = by (get nat_eq old (place_key c.place)) refl
     where
-      away : IsAbove (get nat_eq old (place_key c.place)) c.entry → ⊥
-      away h = clash b (d.1 (subst (λ (o : Option ℕ). IsAbove o c.entry) (sym (highest_own old new c fit old)) h)) f
+      away : IsAboveEntry (get nat_eq old (place_key c.place)) c.entry → ⊥
+      away h = clash b (d.1 (subst (λ (o : Option ℕ). IsAboveEntry o c.entry) (sym (highest_own old new c fit old)) h)) f
 
       by : (o : Option ℕ) → get nat_eq old (place_key c.place) ≡ o → NotesEntry old old (Some c)
-      by None e = absurd (away (subst (λ (o : Option ℕ). IsAbove o c.entry) (sym e) tt))
-      by (Some highest) e = kept old old c fit highest e (at_least highest (λ lt. away (subst (λ (o : Option ℕ). IsAbove o c.entry) (sym e) lt)))
+      by None e = absurd (away (subst (λ (o : Option ℕ). IsAboveEntry o c.entry) (sym e) tt))
+      by (Some highest) e = kept old old c fit highest e (at_least highest (λ lt. away (subst (λ (o : Option ℕ). IsAboveEntry o c.entry) (sym e) lt)))
         where
           at_least : (n : ℕ) → (n < c.entry → ⊥) → c.entry ≤ n
           at_least n isnt = grind arith
 
   pub put_so : (k : ℕ) → k ≡ place_key c.place → b ≡ true → ((q : ℕ) → get nat_eq new q ≡ cond (nat_eq k q) (Some c.entry) (get nat_eq old q)) → NotesEntry old new (Some c)
-  put_so k is t puts = put old new c fit (subst (λ (o : Option ℕ). IsAbove o c.entry) (highest_own old new c fit old) (d.0 t)) (λ q. puts q ∙ ap (λ (n : ℕ). cond (nat_eq n q) (Some c.entry) (get nat_eq old q)) is)
+  put_so k is t puts = put old new c fit (subst (λ (o : Option ℕ). IsAboveEntry o c.entry) (highest_own old new c fit old) (d.0 t)) (λ q. puts q ∙ ap (λ (n : ℕ). cond (nat_eq n q) (Some c.entry) (get nat_eq old q)) is)
 
 -- nothing is cited
 pub none_noted : (t : Versions) → NotesEntry t t None
@@ -130,14 +124,14 @@ none_noted t q v = (λ h. (h, λ entry e. absurd (let x : ◌≡◌ {A = Option 
 
 -- ---- answer by answer
 
-pub none_yet : (answers : List Answered) (t : Versions) → IsBlank t → AreCited answers 0 t
-none_yet answers t blank place v = (λ h k a lt e. absurd (omega arith), λ h. subst (λ (o : Option ℕ). IsAbove o v) (sym (by (fits place))) tt)
+pub none_yet : (answers : List Answered) (t : Versions) → IsBlank t → AreHighestCited answers 0 t
+none_yet answers t blank place v = (λ h k a lt e. absurd (omega arith), λ h. subst (λ (o : Option ℕ). IsAboveEntry o v) (sym (by (fits place))) tt)
   where
     by : (b : Bool) → cond b (get nat_eq t (place_key place)) None ≡ None
     by true = blank (place_key place)
     by false = refl
 
-pub one_more : (answers : List Answered) (n : ℕ) (a : Answered) (old new : Versions) → n < length answers → a ≡ get_or answers n a → AreCited answers n old → NotesReply old new a.reply → AreCited answers (n + 1) new
+pub one_more : (answers : List Answered) (n : ℕ) (a : Answered) (old new : Versions) → n < length answers → a ≡ get_or answers n a → AreHighestCited answers n old → NotesReply old new a.reply → AreHighestCited answers (n + 1) new
 one_more answers n a old new lt is before notes place v = (
   λ h. let both = (notes place v).0 h in each_more (λ (x : Answered). IsAboveAt (cited_by x.reply) place v) answers n a lt is ((before place v).0 both.0) both.1,
   λ all. (notes place v).1 ((before place v).1 (λ k x below e. all k x (omega arith) e), all n a (omega arith) (slice_get-get_or answers n a lt ∙ ap (λ (x : Answered). Some x) (sym is))),
@@ -177,33 +171,33 @@ module _ {X : Type 0} (P : ℕ → Type 0) (g : X → List ℕ) (t : X → Bool)
 abbrev told : Attempt → List ℕ
 told a = map (λ (c : Count). c.version) (counts_of a.outcome)
 
-module _ (answers : List Answered) (t : Versions) (w : WalkRecord) (cited : AreCited answers w.by.command t) where
-  pub walk_later : IsWalkAbove t w → IsLater answers w
+module _ (answers : List Answered) (t : Versions) (w : WalkRecord) (cited : AreHighestCited answers w.by.command t) where
+  pub walk_later : IsWalkAbove t w → IsWalkLater answers w
   walk_later above k entry place a lt here cites = filtered_to (λ v. entry < v) told (λ (x : Attempt). is_place place (place_in w x.id)) w.attempts.items
       (λ j x e is. all_of (λ v. entry < v) (told x) (λ i v f. let place_is = is_place_same place (place_in w x.id) is in
       (cited (place_in w x.id) v).0 (each_in (λ u. IsAboveHighest t (place_in w x.id) u) (told x) (above j x e) i v f) k a lt here entry (cites ∙ ap (λ (p : Place). Some (at p entry)) place_is)))
 
-  pub walk_above : IsLater answers w → IsWalkAbove t w
+  pub walk_above : IsWalkLater answers w → IsWalkAbove t w
   walk_above later j x e = all_of (λ u. IsAboveHighest t (place_in w x.id) u) (told x) (λ i v f.
       (cited (place_in w x.id) v).1 (λ k a lt here entry cites.
       each_in (λ u. entry < u) (told x) (filtered_from (λ u. entry < u) told (λ (y : Attempt). is_place (place_in w x.id) (place_in w y.id)) w.attempts.items (later k entry (place_in w x.id) a lt here cites) j x e (is_place_itself (place_in w x.id))) i v f))
 
 -- whether a walk is later is whether its versions are above the highest entries
-pub later_decided : (answers : List Answered) (t : Versions) (w : WalkRecord) (n : ℕ) (b : Bool) → n ≡ w.by.command → AreCited answers n t → Decides b (IsWalkAbove t w) → Decides b (IsLater answers w)
+pub later_decided : (answers : List Answered) (t : Versions) (w : WalkRecord) (n : ℕ) (b : Bool) → n ≡ w.by.command → AreHighestCited answers n t → Decides b (IsWalkAbove t w) → Decides b (IsWalkLater answers w)
 later_decided answers t w n b e cited d =
-    let at_command = subst (λ (k : ℕ). AreCited answers k t) e cited in
-    decides_iff b (IsWalkAbove t w) (IsLater answers w) (walk_later answers t w at_command) (walk_above answers t w at_command) d
+    let at_command = subst (λ (k : ℕ). AreHighestCited answers k t) e cited in
+    decides_iff b (IsWalkAbove t w) (IsWalkLater answers w) (walk_later answers t w at_command) (walk_above answers t w at_command) d
 
 -- ---- items by an index
 
 pub each_step : {X : Type 0} (P : X → Type 0) (xs : List X) (i : ℕ) (d : X) → i < length xs → ((n : ℕ) (x : X) → n < i → slice_get xs n ≡ Some x → P x) → P (get_or xs i d) → (n : ℕ) (x : X) → n < i + 1 → slice_get xs n ≡ Some x → P x
 each_step P xs i d lt before here = each_more P xs i (get_or xs i d) lt (sym (get_or_from_slice_get xs i (get_or xs i d) (get_or xs i d) (slice_get-get_or xs i d lt))) before here
 
-pub each_fail : {X : Type 0} (P : X → Type 0) (xs ys : List X) (i : ℕ) (d : X) (b : Bool) → xs ≡ ys → i < length xs → Decides b (P (get_or xs i d)) → b ≡ false → Decides false (Each P ys)
+pub each_fail : {X : Type 0} (P : X → Type 0) (xs ys : List X) (i : ℕ) (d : X) (b : Bool) → xs ≡ ys → i < length xs → Decides b (P (get_or xs i d)) → b ≡ false → Decides false (EachItem P ys)
 each_fail {X} P xs ys i d b e lt dec f = (λ t. absurd cc, λ h. absurd (clash b (dec.1 (h i (get_or xs i d) (ap (λ (zs : List X). slice_get zs i) (sym e) ∙ slice_get-get_or xs i d lt))) f))
 
-pub each_whole : {X : Type 0} (P : X → Type 0) (xs ys : List X) (i : ℕ) → xs ≡ ys → length xs ≤ i → ((n : ℕ) (x : X) → n < i → slice_get xs n ≡ Some x → P x) → Decides true (Each P ys)
-each_whole {X} P xs ys i e over before = subst (λ (zs : List X). Decides true (Each P zs)) e (each_all P xs i over before)
+pub each_whole : {X : Type 0} (P : X → Type 0) (xs ys : List X) (i : ℕ) → xs ≡ ys → length xs ≤ i → ((n : ℕ) (x : X) → n < i → slice_get xs n ≡ Some x → P x) → Decides true (EachItem P ys)
+each_whole {X} P xs ys i e over before = subst (λ (zs : List X). Decides true (EachItem P zs)) e (each_all P xs i over before)
 
 -- ---- an attempt
 

@@ -1,10 +1,9 @@
 -- Places whose bits were cleared, walk by walk.
-use Rattle.shr_audit_later.proofs.Common.{◌≡◌, ◌⊎◌, ℕ, ◌+◌, ◌<◌, ◌≤◌, Bool, true, false, cond, List, [], ◌∷◌, ◌++◌, length, get_or, take, map, filter, flat_map, refl, sym, ap, subst, ◌∙◌, inl, inr, ◌||◌, nat_eq, contains, list_any, cases_Bool, eq-eqb, ne_eqb, WorkerPart, Place, Attempt, WalkRecord, is_place, clearings_of, place_in, is_place_itself, is_place_same, clash, Report, fits, place_key, Clears, cleared_by}
+use Rattle.shr_audit_later.proofs.Common.{◌≡◌, ◌⊎◌, ℕ, ◌+◌, ◌<◌, ◌≤◌, Bool, true, false, cond, List, [], ◌∷◌, ◌++◌, length, get_or, take, map, filter, flat_map, refl, sym, ap, subst, ◌∙◌, inl, inr, ◌||◌, nat_eq, contains, list_any, cases_Bool, eq-eqb, ne_eqb, WorkerPart, Place, Attempt, WalkRecord, is_place, clearings_of, place_in, is_place_itself, is_place_same, clash, Report, fits, place_key, Clears, cleared_by, HasCleared, HasPlaces, PlaceSet}
 use Rattle.std.proofs.lemmas.List.{append-nil, append_assoc, take_more, take_all}
 use Rattle.std.proofs.lemmas.List.Concat.{flat_map-append}
 use Rattle.std.proofs.lemmas.List.Folds.{list_any-append}
 use Rattle.shr_model.specs.Attempts.{is_clearing}
-use Rattle.shr_audit_later.specs.Cleared.{HasCleared, HasPlaces, PlaceSet}
 use Rattle.shr_audit_later.proofs.Citing.{same_key}
 use Rattle.shr_model.proofs.Booleans.{or_false}
 

@@ -1,6 +1,5 @@
 -- What is so of each walk of each worker is what the law asks of the bits.
-use Rattle.shr_audit_later.proofs.Common.{◌≡◌, ℕ, ◌<◌, ◌≤◌, Bool, true, false, cond, List, [], ◌∷◌, length, get_or, take, Option, Some, None, refl, sym, ap, subst, ◌∙◌, arith, ◌==◌, option_map, slice_get, Decides, and_parts, and_from, eqb-true, eq-eqb, get_or_from_slice_get, slice_get-get_or, slice_get_within, WorkerPart, At, Place, Answered, MapSeen, WalkRecord, is_set, bit_of, Report, EachWalk, answers_in, at, serial_of, Each, all_at, clash, each_all, InParts, decides_iff, each_walk_of, Words, AreFilled, HasFilled, IsPartFilled, filled_by, is_filled, is_place_itself, is_place_same, found_at}
-use Rattle.std.specs.Prelude.{◌&&◌, not}
+use Rattle.shr_audit_later.proofs.Common.{◌≡◌, ℕ, ◌<◌, ◌≤◌, Bool, true, false, cond, List, [], ◌∷◌, length, get_or, take, Option, Some, None, refl, sym, ap, subst, ◌∙◌, arith, ◌==◌, option_map, slice_get, Decides, and_parts, and_from, eqb-true, eq-eqb, get_or_from_slice_get, slice_get-get_or, slice_get_within, WorkerPart, At, Place, Answered, MapSeen, WalkRecord, is_set, bit_of, Report, EachWalk, answers_in, at, serial_of, EachItem, all_at, clash, each_all, InParts, decides_iff, each_walk_of, Words, AreFilled, HasFilled, IsPartFilled, filled_by, is_filled, is_place_itself, is_place_same, found_at, ◌&&◌, not, journals_of, parents_of, reply_at, IsWalkFull}
 use Rattle.std.proofs.lemmas.List.{get_or-take, length-take}
 use Rattle.std.proofs.lemmas.List.Folds.{list_any_at, Any-from_list_any}
 use Rattle.shr_base.specs.declared.objects.Object.{Object}
@@ -8,9 +7,7 @@ use Rattle.shr_base.specs.declared.replies.Reply.{Reply}
 use Rattle.shr_base.specs.declared.replies.Reply.TheVariants as reply
 use Rattle.shr_base.specs.declared.scripts.Script.{Script}
 use Rattle.shr_model.specs.Families.{items_at}
-use Rattle.shr_report.specs.Parts.{journals_of, parents_of, reply_at}
 use Rattle.shr_report.specs.WalksLawful.{Covers, FillsPlace, was_cleared}
-use Rattle.shr_audit_later.specs.Filled.{IsWalkFull}
 
 -- ---- one walk
 
@@ -120,7 +117,7 @@ module _ (parents : List ℕ) (r : Report) (part : WorkerPart) (answers : List A
 
   pub walks_all : length walks ≤ n → ((k : ℕ) (w : WalkRecord) → k < n → slice_get walks k ≡ Some w → HasFilled parents r answers w) → Decides true (IsPartFilled parents r part)
   walks_all over before =
-      subst (λ (xs : List Answered). Decides true (Each (HasFilled parents r xs) part.walks.items)) a (subst (λ (xs : List WalkRecord). Decides true (Each (HasFilled parents r answers) xs)) ws (each_all (HasFilled parents r answers) walks n over before))
+      subst (λ (xs : List Answered). Decides true (EachItem (HasFilled parents r xs) part.walks.items)) a (subst (λ (xs : List WalkRecord). Decides true (EachItem (HasFilled parents r answers) xs)) ws (each_all (HasFilled parents r answers) walks n over before))
 
 -- ---- all workers
 

@@ -1,8 +1,5 @@
 -- What is so of each walk of each worker is what the law asks of the versions.
-use Rattle.shr_audit_later.proofs.Common.{◌≡◌, ℕ, ◌<◌, ◌≤◌, Bool, true, false, List, length, get_or, Option, Some, None, refl, sym, ap, subst, ◌∙◌, option_map, slice_get, Decides, AllByRecursion, WorkerPart, At, Place, Answered, WalkRecord, Report, EachWalk, answers_in, at, cited_by, serial_of, Each, all_at, clash, each_all, InParts, each_walk_of, IsLater, IsPartLater, found_at}
-use Rattle.std.specs.Prelude.{option_and_then}
-use Rattle.shr_model.specs.Walks.{versions_at}
-use Rattle.shr_report.specs.Parts.{cited_at}
+use Rattle.shr_audit_later.proofs.Common.{◌≡◌, ℕ, ◌<◌, ◌≤◌, Bool, true, false, List, length, get_or, Option, Some, None, refl, sym, ap, subst, ◌∙◌, option_map, slice_get, Decides, AllByRecursion, WorkerPart, At, Place, Answered, WalkRecord, Report, EachWalk, answers_in, at, cited_by, serial_of, EachItem, all_at, clash, each_all, InParts, each_walk_of, IsWalkLater, IsPartLater, found_at, option_and_then, versions_at, cited_at}
 
 -- what the law asks of a walk of a worker
 abbrev pub LawLater : Report → ℕ → WalkRecord → Type 0
@@ -19,24 +16,24 @@ module _ (r : Report) (worker : ℕ) (part : WorkerPart) (here : slice_get r.wor
   cited_in : (k : ℕ) → cited_at r (serial_of worker k) ≡ option_and_then cited_by (option_map (λ (a : Answered). a.reply) (slice_get part.answers.items k))
   cited_in k = ap (λ (o : Option WorkerPart). option_and_then cited_by (option_map (λ (a : Answered). a.reply) (slice_get (answers_in o) k))) here
 
-  pub law_of : (w : WalkRecord) → IsLater part.answers.items w → LawLater r worker w
+  pub law_of : (w : WalkRecord) → IsWalkLater part.answers.items w → LawLater r worker w
   law_of w later k entry place lt e =
       let f = cited_found (slice_get part.answers.items k) (at place entry) (sym (cited_in k) ∙ e) in
       later k entry place f.0 lt f.1.0 f.1.1
 
-  pub of_law : (w : WalkRecord) → LawLater r worker w → IsLater part.answers.items w
+  pub of_law : (w : WalkRecord) → LawLater r worker w → IsWalkLater part.answers.items w
   of_law w law k entry place a lt at_k cites = law k entry place lt (cited_in k ∙ (ap (λ (o : Option Answered). option_and_then cited_by (option_map (λ (x : Answered). x.reply) o)) at_k ∙ cites))
 
 -- ---- the walks of one worker
 
 module _ (part : WorkerPart) (answers : List Answered) (walks : List WalkRecord) (a : answers ≡ part.answers.items) (ws : walks ≡ part.walks.items) (n : ℕ) where
-  pub walk_fails : (w : WalkRecord) (b : Bool) → n < length walks → w ≡ get_or walks n w → Decides b (IsLater answers w) → b ≡ false → Decides false (IsPartLater part)
+  pub walk_fails : (w : WalkRecord) (b : Bool) → n < length walks → w ≡ get_or walks n w → Decides b (IsWalkLater answers w) → b ≡ false → Decides false (IsPartLater part)
   walk_fails w b lt is d isnt =
       let here : slice_get part.walks.items n ≡ Some w = ap (λ (xs : List WalkRecord). slice_get xs n) (sym ws) ∙ found_at walks n w lt is in
-      (λ t. absurd cc, λ h. absurd (clash b (d.1 (subst (λ (xs : List Answered). IsLater xs w) (sym a) (h n w here))) isnt))
+      (λ t. absurd cc, λ h. absurd (clash b (d.1 (subst (λ (xs : List Answered). IsWalkLater xs w) (sym a) (h n w here))) isnt))
 
-  pub walks_all : length walks ≤ n → ((k : ℕ) (w : WalkRecord) → k < n → slice_get walks k ≡ Some w → IsLater answers w) → Decides true (IsPartLater part)
-  walks_all over before = subst (λ (xs : List Answered). Decides true (Each (IsLater xs) part.walks.items)) a (subst (λ (xs : List WalkRecord). Decides true (Each (IsLater answers) xs)) ws (each_all (IsLater answers) walks n over before))
+  pub walks_all : length walks ≤ n → ((k : ℕ) (w : WalkRecord) → k < n → slice_get walks k ≡ Some w → IsWalkLater answers w) → Decides true (IsPartLater part)
+  walks_all over before = subst (λ (xs : List Answered). Decides true (EachItem (IsWalkLater xs) part.walks.items)) a (subst (λ (xs : List WalkRecord). Decides true (EachItem (IsWalkLater answers) xs)) ws (each_all (IsWalkLater answers) walks n over before))
 
 -- ---- all workers
 

@@ -1,8 +1,6 @@
 -- The walks of a worker, in the order of its commands.
-use Rattle.shr_audit_later.proofs.Common.{◌≡◌, ℕ, ◌+◌, ◌<◌, ◌≤◌, List, length, get_or, Some, sym, ap, subst, ◌∙◌, arith, slice_get, WorkerPart, Answered, WalkRecord, Report, found_at}
+use Rattle.shr_audit_later.proofs.Common.{◌≡◌, ℕ, ◌+◌, ◌<◌, ◌≤◌, List, length, get_or, Some, sym, ap, subst, ◌∙◌, arith, slice_get, WorkerPart, Answered, WalkRecord, Report, found_at, IsWorkerCommand, each_weaker}
 use Rattle.shr_report.specs.WellFormed.{IsWellFormed}
-use Rattle.shr_formed.specs.Each.{IsOf}
-use Rattle.shr_formed.proofs.Eachs.{each_weaker}
 use Rattle.shr_formed.proofs.WellParts.{parts_of}
 use Rattle.shr_audit_later.specs.Walks.{AreOfAnswers}
 
@@ -10,7 +8,7 @@ use Rattle.shr_audit_later.specs.Walks.{AreOfAnswers}
 pub part_stands : (r : Report) (worker : ℕ) (part : WorkerPart) → IsWellFormed r → slice_get r.workers.items worker ≡ Some part → AreOfAnswers (length part.answers.items) part.walks.items
 part_stands r worker part well at =
     let walks = (parts_of r well worker part at).1.0.1 in
-    record { order = walks.1; answered = each_weaker (λ (w : WalkRecord). IsOf worker (length part.answers.items) w.by) (λ (w : WalkRecord). w.by.command < length part.answers.items) part.walks.items (λ w h. h.1) walks.0 }
+    record { order = walks.1; answered = each_weaker (λ (w : WalkRecord). IsWorkerCommand worker (length part.answers.items) w.by) (λ (w : WalkRecord). w.by.command < length part.answers.items) part.walks.items (λ w h. h.1) walks.0 }
 
 pub stands_here : (r : Report) (parts : List WorkerPart) (worker : ℕ) (part : WorkerPart) → IsWellFormed r → parts ≡ r.workers.items → worker < length parts → part ≡ get_or parts worker part → AreOfAnswers (length part.answers.items) part.walks.items
 stands_here r parts worker part well same lt is = part_stands r worker part well (ap (λ (xs : List WorkerPart). slice_get xs worker) (sym same) ∙ found_at parts worker part lt is)

@@ -10,28 +10,24 @@ use Rattle.shr_base.specs.declared.replies.Reply.{Reply}
 use Rattle.shr_base.specs.declared.walks.Attempt.{Attempt}
 use Rattle.shr_base.specs.declared.walks.Outcome.{Outcome}
 use Rattle.shr_base.specs.declared.walks.WalkRecord.{WalkRecord}
-use Rattle.shr_formed.specs.Each.{Each}
+use Rattle.shr_formed.specs.Each.{EachItem}
 use Rattle.shr_model.specs.Attempts.{counts_of}
 use Rattle.shr_model.specs.Walks.{place_in, versions_at}
 use Rattle.shr_report.specs.Parts.{at, cited_by}
 use Rattle.shr_audit_versions.specs.Table.{Versions, fits, place_key}
-
--- no entry was cited
-abbrev pub IsBlank : Versions → Type 0
-IsBlank t = (key : ℕ) → get nat_eq t key ≡ None
 
 -- the highest entry that was cited at a place, if one was
 abbrev pub highest_at : Versions → Place → Option ℕ
 highest_at t place = cond (fits place) (get nat_eq t (place_key place)) None
 
 -- a version is above an entry, if there is one
-abbrev pub IsAbove : Option ℕ → ℕ → Type 0
-IsAbove None version = Unit {0}
-IsAbove (Some entry) version = entry < version
+abbrev pub IsAboveEntry : Option ℕ → ℕ → Type 0
+IsAboveEntry None version = Unit {0}
+IsAboveEntry (Some entry) version = entry < version
 
 -- a version is above the highest entry that was cited at a place
 abbrev pub IsAboveHighest : Versions → Place → ℕ → Type 0
-IsAboveHighest t place version = IsAbove (highest_at t place) version
+IsAboveHighest t place version = IsAboveEntry (highest_at t place) version
 
 -- a version is above the entry that is cited, if it is of this place
 abbrev pub IsAboveAt : Option At → Place → ℕ → Type 0
@@ -54,8 +50,8 @@ abbrev pub IsAboveCited : List Answered → ℕ → Place → ℕ → Type 0
 IsAboveCited answers n place version = (k : ℕ) (a : Answered) → k < n → slice_get answers k ≡ Some a → IsAboveAt (cited_by a.reply) place version
 
 -- the table has the highest entries that so many answers cite
-abbrev pub AreCited : List Answered → ℕ → Versions → Type 0
-AreCited answers n t = (place : Place) (version : ℕ) → IsAboveHighest t place version ↔ IsAboveCited answers n place version
+abbrev pub AreHighestCited : List Answered → ℕ → Versions → Type 0
+AreHighestCited answers n t = (place : Place) (version : ℕ) → IsAboveHighest t place version ↔ IsAboveCited answers n place version
 
 -- both of two versions are above
 abbrev pub AreBothAbove : Versions → Place → ℕ → ℕ → Type 0
@@ -70,10 +66,10 @@ abbrev pub IsWalkAbove : Versions → WalkRecord → Type 0
 IsWalkAbove t w = (k : ℕ) (a : Attempt) → slice_get w.attempts.items k ≡ Some a → IsOutcomeAbove t (place_in w a.id) a.outcome
 
 -- the versions of a walk at each place are above every entry that the answers to earlier commands cite there
-abbrev pub IsLater : List Answered → WalkRecord → Type 0
-IsLater answers w = (k entry : ℕ) (place : Place) (a : Answered) → k < w.by.command → slice_get answers k ≡ Some a → cited_by a.reply ≡ Some (at place entry)
+abbrev pub IsWalkLater : List Answered → WalkRecord → Type 0
+IsWalkLater answers w = (k entry : ℕ) (place : Place) (a : Answered) → k < w.by.command → slice_get answers k ≡ Some a → cited_by a.reply ≡ Some (at place entry)
     → AllByRecursion (λ version. entry < version) (versions_at place w)
 
 -- each walk of a worker is later than its answers
 abbrev pub IsPartLater : WorkerPart → Type 0
-IsPartLater part = Each (IsLater part.answers.items) part.walks.items
+IsPartLater part = EachItem (IsWalkLater part.answers.items) part.walks.items

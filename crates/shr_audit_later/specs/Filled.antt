@@ -10,7 +10,7 @@ use Rattle.shr_base.specs.declared.replies.Reply.{Reply}
 use Rattle.shr_base.specs.declared.replies.Reply.TheVariants as reply
 use Rattle.shr_base.specs.declared.walks.MapSeen.{MapSeen}
 use Rattle.shr_base.specs.declared.walks.WalkRecord.{WalkRecord}
-use Rattle.shr_formed.specs.Each.{Each}
+use Rattle.shr_formed.specs.Each.{EachItem}
 use Rattle.shr_model.specs.Bits.{is_set}
 use Rattle.shr_model.specs.Families.{items_at}
 use Rattle.shr_model.specs.Places.{bit_of, is_place, unit_of}
@@ -21,8 +21,8 @@ use Rattle.shr_audit_bits.specs.Words.{Words, word_key}
 use Rattle.shr_audit_versions.specs.Table.{fits, read_as}
 
 -- the word with this number, 0 where there is none
-abbrev pub word_in : Words → ℕ → ℕ
-word_in t key = read_as (get nat_eq t key)
+abbrev pub word_by_key : Words → ℕ → ℕ
+word_by_key t key = read_as (get nat_eq t key)
 
 -- there is no word
 abbrev pub IsNoWord : Words → Type 0
@@ -30,7 +30,7 @@ IsNoWord t = (key : ℕ) → get nat_eq t key ≡ None
 
 -- the bit of a place is set
 abbrev pub filled_at : Words → Place → Bool
-filled_at t place = cond (fits place) (is_set (word_in t (word_key place.node place.group (unit_of place.id))) (bit_of place.id)) false
+filled_at t place = cond (fits place) (is_set (word_by_key t (word_key place.node place.group (unit_of place.id))) (bit_of place.id)) false
 
 -- a place had nothing before an entry, and no walk cleared its bit
 abbrev pub is_filling : List ℕ → Report → At → Bool
@@ -70,4 +70,4 @@ HasFilled parents r answers w = (i k entry : ℕ) (m : MapSeen) (place : Place) 
 
 -- each walk of a worker has what its answers filled
 abbrev pub IsPartFilled : List ℕ → Report → WorkerPart → Type 0
-IsPartFilled parents r part = Each (HasFilled parents r part.answers.items) part.walks.items
+IsPartFilled parents r part = EachItem (HasFilled parents r part.answers.items) part.walks.items

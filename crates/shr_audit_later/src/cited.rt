@@ -6,7 +6,8 @@ ghost use Rattle.std.specs.List.{AllByRecursion};
 ghost use Rattle.shr_base.specs.declared.places.Place.{Place};
 ghost use Rattle.shr_base.specs.declared.replies.Answered.{Answered};
 ghost use Rattle.shr_report.specs.Parts.{at};
-ghost use Rattle.shr_audit_later.specs.Cited.{AreCited, IsAboveHighest, IsBlank, NotesCited, NotesReply};
+ghost use Rattle.shr_audit_later.specs.Cited.{AreHighestCited, IsAboveHighest, NotesCited, NotesReply};
+ghost use Rattle.shr_audit_versions.specs.Table.{IsBlank};
 
 use shr_audit_versions::table::place_key;
 use shr_base::memory::Memory;
@@ -68,10 +69,10 @@ pub(crate) fn note_answers(
     from: usize,
     until: usize,
 ) -> Result<(), Memory>
-    requires before { AreCited answers.now from cited.old }
+    requires before { AreHighestCited answers.now from cited.old }
     requires rising { from ≤ until }
     requires there { until ≤ length answers.now }
-    ensures { OnOk result (AreCited answers.now until cited.new) }
+    ensures { OnOk result (AreHighestCited answers.now until cited.new) }
 {
     for k in from..until {
         note_reply(cited, &answers[k].reply)?;

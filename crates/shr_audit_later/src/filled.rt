@@ -5,7 +5,7 @@ ghost use Rattle.std.specs.Bool.{Decides};
 ghost use Rattle.shr_base.specs.declared.places.Place.{Place};
 ghost use Rattle.shr_case.specs.Lists.{IsReplayOf};
 ghost use Rattle.shr_audit_later.specs.Cleared.{HasCleared};
-ghost use Rattle.shr_audit_later.specs.Filled.{AreFilled, IsMapFull, IsNoWord, NotesFilled, filled_by, is_filling, word_in};
+ghost use Rattle.shr_audit_later.specs.Filled.{AreFilled, IsMapFull, IsNoWord, NotesFilled, filled_by, is_filling, word_by_key};
 
 use crate::cleared::was_cleared;
 use shr_audit_bits::words::word_key;
@@ -27,7 +27,7 @@ pub(crate) fn none_filled(alloc: Global) -> HashMap<u64, u64>
 
 // The word with this number, 0 where there is none.
 fn word_in(filled: &HashMap<u64, u64>, key: u64) -> u64
-    ensures { result ≡ word_in filled.now key }
+    ensures { result ≡ word_by_key filled.now key }
 {
     match filled.get(&key) {
         None => 0,

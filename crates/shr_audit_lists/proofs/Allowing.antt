@@ -1,19 +1,11 @@
 -- Entries that may stand where they do, against a table of the lists that were moved in.
-use Rattle.shr_audit_lists.proofs.Common.{◌≡◌, ℕ, zero, suc, ◌+◌, ◌<◌, ◌≤◌, Bool, true, false, List, [], ◌∷◌, ◌++◌, length, length-append, get_or, take, Option, Some, None, refl, sym, ap, subst, ◌∙◌, ◌⊎◌, inl, inr, arith, ◌||◌, slice_get, Contains, Decides, list_any, cases_order, get_or_append_left, get_or-append_seam, get_or_from_slice_get, slice_get_within, Place, Entry, Add, Look, Drop, Pin, Scan, MovedIn, Closed, Drained, IsTree, is_child, parent_of, path_of, is_closed, MayStand, child_of, moved_in, child_takes, child_again, path_of-root, path_of-below, Has, Has_from_Contains, Contains_from_Has, Report, journals_of, EachFirst, AreMoved, IsMovedChild, IsPlaceStanding}
-use Rattle.std.proofs.Common.{◌≢◌, set}
-use Rattle.std.specs.Prelude.{◌↔◌, not}
-use Rattle.std.proofs.lemmas.List.{take_more, get_or-set_same, get_or-set_other, length-set}
+use Rattle.shr_audit_lists.proofs.Common.{◌≡◌, ℕ, zero, suc, ◌+◌, ◌<◌, ◌≤◌, Bool, true, false, List, [], ◌∷◌, ◌++◌, length, length-append, get_or, take, Option, Some, None, refl, sym, ap, subst, ◌∙◌, ◌⊎◌, inl, inr, arith, ◌||◌, slice_get, Contains, Decides, list_any, cases_order, get_or_append_left, get_or-append_seam, get_or_from_slice_get, slice_get_within, Place, Entry, Add, Look, Drop, Pin, Scan, MovedIn, Closed, Drained, IsTree, is_child, parent_of, path_of, is_closed, MayStand, child_of, moved_in, child_takes, child_again, path_of-root, path_of-below, Has, Has_from_Contains, Contains_from_Has, Report, journals_of, EachFirst, AreMovesTold, IsMovedChild, IsPlaceStanding, ◌≢◌, set, ◌↔◌, not, take_more, get_or-set_same, get_or-set_other, length-set, IsAtOrAbove, is_closing, AreChildrenMovedIn, IsAllowed, IsBornAt, child_higher, AreStanding}
 use Rattle.std.proofs.lemmas.List.Elements.{filter_map-append}
 use Rattle.std.proofs.lemmas.List.Folds.{list_any-append}
 use native.Mathlib.Decide.{ℕ_discrete}
 use mathlib.Core.Logic.{dite}
-use Rattle.shr_model.specs.Groups.{IsAtOrAbove}
-use Rattle.shr_model.specs.Items.{is_closing}
-use Rattle.shr_model.specs.Families.{AreChildrenMovedIn, IsAllowed, IsBornAt}
-use Rattle.shr_model.proofs.GroupsLaws.{child_higher}
 use Rattle.shr_audit_lists.proofs.Journals.{each_printed_of}
 use Rattle.shr_audit_lists.proofs.Loops.{one_fails, one_more, all_so}
-use Rattle.shr_audit_lists.specs.Standing.{AreStanding}
 
 clash : (b : Bool) → b ≡ true → b ≡ false → ⊥
 clash b e f = cc
@@ -196,7 +188,7 @@ has_none (y ∷ xs) x (inl same) = inl same
 has_none (y ∷ xs) x (inr more) = inr (has_none xs x more)
 
 -- an entry that moves nothing in
-pub moved_same : (before : List Entry) (e : Entry) (moved : List Bool) → child_of e ≡ None → AreMoved before moved → AreMoved (before ++ e ∷ []) moved
+pub moved_same : (before : List Entry) (e : Entry) (moved : List Bool) → child_of e ≡ None → AreMovesTold before moved → AreMovesTold (before ++ e ∷ []) moved
 moved_same before e moved none all g lt = let d = all g lt in let is = more_none before e none in (
   λ t. subst (λ (xs : List ℕ). Contains xs g) (sym is) (Contains_from_Has (moved_in before ++ []) g (has_left (moved_in before) [] g (Has_from_Contains (moved_in before) g (d.0 t)))),
   λ c. d.1 (Contains_from_Has (moved_in before) g (has_none (moved_in before) g (Has_from_Contains (moved_in before ++ []) g (subst (λ (xs : List ℕ). Contains xs g) is c)))),
@@ -216,7 +208,7 @@ module _ (before : List Entry) (e : Entry) (child : ℕ) (some : child_of e ≡ 
   after_own : Contains (moved_in (before ++ e ∷ [])) child
   after_own = subst (λ (xs : List ℕ). Contains xs child) (sym (more_some before e child some)) (Contains_from_Has (moved_in before ++ child ∷ []) child (has_last (moved_in before) child))
 
-  pub moved_set : (moved : List Bool) → child < length moved → AreMoved before moved → AreMoved (before ++ e ∷ []) (set moved child true)
+  pub moved_set : (moved : List Bool) → child < length moved → AreMovesTold before moved → AreMovesTold (before ++ e ∷ []) (set moved child true)
   moved_set moved lt all g below = dite (ℕ_discrete g child) own other
     where
       within : g < length moved
@@ -228,12 +220,12 @@ module _ (before : List Entry) (e : Entry) (child : ℕ) (some : child_of e ≡ 
       other : g ≢ child → Decides (get_or (set moved child true) g false) (Contains (moved_in (before ++ e ∷ [])) g)
       other ne = subst (λ (b : Bool). Decides b (Contains (moved_in (before ++ e ∷ [])) g)) (sym (get_or-set_other moved child g true false ne)) (after_other g (get_or moved g false) ne (all g within))
 
-  pub moved_past : (moved : List Bool) → length moved ≤ child → AreMoved before moved → AreMoved (before ++ e ∷ []) moved
+  pub moved_past : (moved : List Bool) → length moved ≤ child → AreMovesTold before moved → AreMovesTold (before ++ e ∷ []) moved
   moved_past moved le all g lt = after_other g (get_or moved g false) (λ same. omega arith) (all g lt)
 
 -- one group more, where nothing was moved in
-pub none_more : (moved after : List Bool) → after ≡ moved ++ false ∷ [] → AreMoved [] moved → AreMoved [] after
-none_more moved after pushed all = subst (AreMoved []) (sym pushed) (λ g lt. by g lt (cases_order g (length moved)))
+pub none_more : (moved after : List Bool) → after ≡ moved ++ false ∷ [] → AreMovesTold [] moved → AreMovesTold [] after
+none_more moved after pushed all = subst (AreMovesTold []) (sym pushed) (λ g lt. by g lt (cases_order g (length moved)))
   where
     nothing : (g : ℕ) → Decides false (Contains (moved_in []) g)
     nothing g = (λ t. absurd cc, λ c. absurd (Has_from_Contains [] g c))
@@ -261,11 +253,11 @@ stands_closed parents group before e b t is = (λ u. absurd cc, λ m. absurd (cl
 -- the entries so far may stand where they do, and this is told of them
 pub record IsStood (parents : List ℕ) (group : ℕ) (entries : List Entry) (i : ℕ) (moved : List Bool) (closed : Bool) : Type 0 where
   pub each : (n : ℕ) (e : Entry) → n < i → slice_get entries n ≡ Some e → MayStand parents group (take n entries) e
-  pub told : AreMoved (take i entries) moved
+  pub told : AreMovesTold (take i entries) moved
   pub many : length moved ≡ length parents
   pub is : closed ≡ is_closed (take i entries)
 
-pub stood_none : (parents : List ℕ) (group : ℕ) (entries : List Entry) (moved : List Bool) → AreMoved [] moved → length moved ≡ length parents → IsStood parents group entries 0 moved false
+pub stood_none : (parents : List ℕ) (group : ℕ) (entries : List Entry) (moved : List Bool) → AreMovesTold [] moved → length moved ≡ length parents → IsStood parents group entries 0 moved false
 stood_none parents group entries moved told many = record { each = λ n e lt at. absurd (omega arith); told = told; many = many; is = refl }
 
 module _ (parents : List ℕ) (group : ℕ) (entries : List Entry) (i : ℕ) (e : Entry) (lt : i < length entries) (is : e ≡ get_or entries i e) where
@@ -275,11 +267,11 @@ module _ (parents : List ℕ) (group : ℕ) (entries : List Entry) (i : ℕ) (e 
   here : (b : Bool) → Decides b (MayStand parents group (take i entries) e) → (x : Entry) → slice_get entries i ≡ Some x → Decides b (MayStand parents group (take i entries) x)
   here b d x at = subst (λ (y : Entry). Decides b (MayStand parents group (take i entries) y)) (is ∙ get_or_from_slice_get entries i x e at) d
 
-  pub stood_more : (moved after : List Bool) (closed : Bool) (b : Bool) → b ≡ true → Decides b (MayStand parents group (take i entries) e) → IsStood parents group entries i moved closed → AreMoved (take i entries ++ e ∷ []) after → length after ≡ length moved
+  pub stood_more : (moved after : List Bool) (closed : Bool) (b : Bool) → b ≡ true → Decides b (MayStand parents group (take i entries) e) → IsStood parents group entries i moved closed → AreMovesTold (take i entries ++ e ∷ []) after → length after ≡ length moved
       → (shut : Bool) → shut ≡ is_closing e → IsStood parents group entries (i + 1) after shut
   stood_more moved after closed b t d s told many shut same = record {
     each = one_more (λ (n : ℕ) (x : Entry). MayStand parents group (take n entries) x) entries i b t (here b d) s.each;
-    told = subst (λ (es : List Entry). AreMoved es after) (sym next) told;
+    told = subst (λ (es : List Entry). AreMovesTold es after) (sym next) told;
     many = many ∙ s.many;
     is = same ∙ (closed_more (take i entries) e (d.0 t).«open» ∙ ap is_closed (sym next));
   }

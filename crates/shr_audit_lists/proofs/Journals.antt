@@ -1,21 +1,19 @@
 -- Fields of the law on journals, against loops over the lists.
-use Rattle.shr_audit_lists.proofs.Common.{◌≡◌, ℕ, ◌+◌, ◌<◌, ◌≤◌, Bool, true, false, List, [], length, get_or, Some, refl, sym, ap, subst, ◌⊎◌, inl, inr, arith, slice_get, Contains, Decides, cases_order, get_or_from_slice_get, Place, PlaceEnd, Entry, Done, Script, Report, journal_of, journals_of, parents_of, EachFirst, IsFirst, decides_iff, found_or_none, AreDoneClosed, AreFirsts, AreOutcomesSo, ArePlacesOnce, IsClosedAt, IsOutcomeSo}
-use Rattle.std.proofs.lemmas.List.{length-map}
+use Rattle.shr_audit_lists.proofs.Common.{◌≡◌, ℕ, ◌+◌, ◌<◌, ◌≤◌, Bool, true, false, List, [], length, get_or, Some, refl, sym, ap, subst, ◌⊎◌, inl, inr, arith, slice_get, Contains, Decides, cases_order, get_or_from_slice_get, Place, PlaceEnd, Entry, Done, Script, Report, journal_of, journals_of, parents_of, EachFirst, IsFirst, decides_iff, found_or_none, AreDoneClosed, ArePrintedOnce, AreOutcomesSo, ArePlacesOnce, IsClosedAt, IsOutcomeSo, length-map, lists_moved_at}
 use Rattle.shr_base.specs.declared.scripts.GroupDecl.{GroupDecl}
 use Rattle.shr_model.specs.Items.{AreOutcomes}
-use Rattle.shr_model.specs.Families.{lists_moved_at}
 
 -- the number of groups
 pub groups_many : (s : Script) → length (parents_of s) ≡ length s.groups.items + 1
 groups_many s = let many = length-map s.groups.items (λ (g : GroupDecl). g.parent) in omega arith
 
 -- each list is the first one of its place if and only if none is printed twice
-pub once_of : (r : Report) (b : Bool) → Decides b (AreFirsts r.places.items) → Decides b (ArePlacesOnce r)
-once_of r b d = decides_iff b (AreFirsts r.places.items) (ArePlacesOnce r)
+pub once_of : (r : Report) (b : Bool) → Decides b (ArePrintedOnce r.places.items) → Decides b (ArePlacesOnce r)
+once_of r b d = decides_iff b (ArePrintedOnce r.places.items) (ArePlacesOnce r)
     (λ firsts n m x y at there same. by_order n m x y at there same firsts (cases_order n m))
     (λ once k end at m x lt there same. let is : m ≡ k = once m k x end there at same in absurd (omega arith)) d
   where
-    by_order : (n m : ℕ) (x y : PlaceEnd) → slice_get r.places.items n ≡ Some x → slice_get r.places.items m ≡ Some y → x.place ≡ y.place → AreFirsts r.places.items → (n ≡ m) ⊎ ((n < m) ⊎ (m < n)) → n ≡ m
+    by_order : (n m : ℕ) (x y : PlaceEnd) → slice_get r.places.items n ≡ Some x → slice_get r.places.items m ≡ Some y → x.place ≡ y.place → ArePrintedOnce r.places.items → (n ≡ m) ⊎ ((n < m) ⊎ (m < n)) → n ≡ m
     by_order n m x y at there same firsts (inl is) = is
     by_order n m x y at there same firsts (inr (inl lt)) = absurd (firsts m y there n x lt at same)
     by_order n m x y at there same firsts (inr (inr lt)) = absurd (firsts n x at m y lt there (sym same))

@@ -1,13 +1,11 @@
 -- Fields of the law on journals, at known values.
-use Rattle.shr_audit_lists.proofs.Common.{false, ◌≡◌, ℕ, zero, suc, ◌<◌, Option, Some, None, List, [], ◌∷◌, refl, ap, subst, arith, true, inl, inr, slice_get, slice_get_within, PlaceEnd, Place, Closed, Drop, MovedIn, Begin, Done, Report, IsThere, parents_of, Has, Has_from_Contains, AreBegun, AreBegunIfClosed, HaveGroups, IsBegun, IsBegunIfClosed, IsPairedAround, moves, AreDoneClosed, AreFirsts, AreOutcomesSo, ArePlacesOnce, ArePlacesThere, IsClosedAt, IsOutcomeSo}
-use Rattle.std.specs.Prelude.{codes}
+use Rattle.shr_audit_lists.proofs.Common.{false, ◌≡◌, ℕ, zero, suc, ◌<◌, Option, Some, None, List, [], ◌∷◌, refl, ap, subst, arith, true, inl, inr, slice_get, slice_get_within, PlaceEnd, Place, Closed, Drop, MovedIn, Begin, Done, Report, IsThere, parents_of, Has, Has_from_Contains, AreBegun, AreBegunIfClosed, HaveGroups, HasBegunAbove, IsBegunIfClosed, IsPairedAround, moves, AreDoneClosed, ArePrintedOnce, AreOutcomesSo, ArePlacesOnce, ArePlacesThere, IsClosedAt, IsOutcomeSo, codes, AreChildrenPaired, IsOwnPaired}
 use Rattle.shr_base.specs.declared.journals.DropKind.TheVariants as kind
 use Rattle.shr_model.specs.Items.{AreOutcomes}
 use Rattle.shr_model.specs.Families.{lists_moved}
 use Rattle.shr_report.proofs.SecondReport as second
 use Rattle.shr_report.proofs.NotLawful.{with_list}
 use Rattle.shr_model.specs.Groups.{path_within}
-use Rattle.shr_audit_lists.specs.Paired.{AreChildrenPaired, IsOwnPaired}
 
 -- a report with one list, which is closed
 abbrev closed_one : Report
@@ -27,7 +25,7 @@ there (suc n) end at = let few = one_list (suc n) end at in absurd (omega arith)
 once : ArePlacesOnce closed_one
 once n m x y at here same = let few = one_list n x at in let too = one_list m y here in omega arith
 
-firsts : AreFirsts closed_one.places.items
+firsts : ArePrintedOnce closed_one.places.items
 firsts k end at m x lt here = let few = one_list k end at in absurd (omega arith)
 
 outcomes : AreOutcomesSo (parents_of second.script) (record second.report { places = second.kept [] })
@@ -49,7 +47,7 @@ twice = record { place = second.place; entries = second.kept second.entries; ite
 printed_twice : ArePlacesOnce (record second.report { places = second.kept twice }) → ⊥
 printed_twice h = let e : 0 ≡ 1 = h 0 1 _ _ refl refl refl in absurd (omega (arith, e))
 
-second_is_not_first : AreFirsts twice → ⊥
+second_is_not_first : ArePrintedOnce twice → ⊥
 second_is_not_first h = h 1 _ refl 0 _ (omega arith) refl refl
 
 -- an object was dropped that never was there
@@ -73,11 +71,11 @@ done_open : AreDoneClosed second.script (record second.report { tree = second.ke
 done_open h = absurd (let e = h second.place (record { id = omega arith; node = omega arith; group = omega arith }) (1, omega arith, refl) in cc)
 
 -- a group that began, one below it, and one that didn't
-root_began : IsBegun (0 ∷ 0 ∷ []) (Begin 0 ∷ []) 1
+root_began : HasBegunAbove (0 ∷ 0 ∷ []) (Begin 0 ∷ []) 1
 unfolding path_within
 root_began = (0, (1, omega arith, refl), (0, omega arith, refl))
 
-child_began : IsBegun (0 ∷ 0 ∷ []) (Begin 1 ∷ []) 0 → ⊥
+child_began : HasBegunAbove (0 ∷ 0 ∷ []) (Begin 1 ∷ []) 0 → ⊥
 unfolding path_within
 child_began b = no (Has_from_Contains (0 ∷ []) b.0 b.1) (Has_from_Contains (Begin 1 ∷ []) (Begin b.0) b.2)
   where

@@ -1,6 +1,5 @@
 -- What is so of each item with its number, while a list is gone through.
-use Rattle.shr_audit_lists.proofs.Common.{◌≡◌, ℕ, ◌+◌, ◌<◌, ◌≤◌, Bool, true, false, List, length, Some, refl, sym, subst, ◌⊎◌, inl, inr, arith, slice_get, Decides, cases_order, slice_get_within}
-use Rattle.std.proofs.lemmas.Option.{slice_get_cases}
+use Rattle.shr_audit_lists.proofs.Common.{◌≡◌, ℕ, ◌+◌, ◌<◌, ◌≤◌, Bool, true, false, List, length, Some, refl, sym, subst, ◌⊎◌, inl, inr, arith, slice_get, Decides, cases_order, slice_get_within, slice_get_cases}
 
 clash : (b : Bool) → b ≡ true → b ≡ false → ⊥
 clash b e f = cc

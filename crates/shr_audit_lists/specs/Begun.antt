@@ -11,12 +11,12 @@ use Rattle.shr_report.specs.declared.report.Report.{Report}
 use Rattle.shr_report.specs.Parts.{journals_of}
 
 -- a group at or above this one began to go offline
-abbrev pub IsBegun : List ℕ → List TreeEntry → ℕ → Type 0
-IsBegun parents tree group = (g : ℕ) × IsAtOrAbove parents g group × Contains tree (Begin g)
+abbrev pub HasBegunAbove : List ℕ → List TreeEntry → ℕ → Type 0
+HasBegunAbove parents tree group = (g : ℕ) × IsAtOrAbove parents g group × Contains tree (Begin g)
 
 -- a place whose list is closed is of such a group
 abbrev pub IsBegunIfClosed : List ℕ → Report → Place → Type 0
-IsBegunIfClosed parents r place = is_closed (journals_of r place) ≡ true → IsBegun parents r.tree.items place.group
+IsBegunIfClosed parents r place = is_closed (journals_of r place) ≡ true → HasBegunAbove parents r.tree.items place.group
 
 -- each place is
 abbrev pub AreBegunIfClosed : List ℕ → Report → Type 0
@@ -24,7 +24,7 @@ AreBegunIfClosed parents r = (place : Place) → IsBegunIfClosed parents r place
 
 -- of each of the first groups it is told whether it is such a group
 abbrev pub AreBegun : List ℕ → List TreeEntry → List Bool → Type 0
-AreBegun parents tree begun = (g : ℕ) → g < length begun → Decides (slice_index_or begun g false) (IsBegun parents tree g)
+AreBegun parents tree begun = (g : ℕ) → g < length begun → Decides (slice_index_or begun g false) (HasBegunAbove parents tree g)
 
 -- lists are of one of so many groups
 abbrev pub HaveGroups : ℕ → List PlaceEnd → Type 0

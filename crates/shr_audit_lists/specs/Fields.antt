@@ -19,8 +19,8 @@ abbrev pub ArePlacesOnce : Report → Type 0
 ArePlacesOnce r = (n m : ℕ) (x y : PlaceEnd) → slice_get r.places.items n ≡ Some x → slice_get r.places.items m ≡ Some y → x.place ≡ y.place → n ≡ m
 
 -- the same, list by list
-abbrev pub AreFirsts : List PlaceEnd → Type 0
-AreFirsts ends = (k : ℕ) (end : PlaceEnd) → slice_get ends k ≡ Some end → IsFirst ends k end.place
+abbrev pub ArePrintedOnce : List PlaceEnd → Type 0
+ArePrintedOnce ends = (k : ℕ) (end : PlaceEnd) → slice_get ends k ≡ Some end → IsFirst ends k end.place
 
 -- each entry of a place says of its outcome what is so
 abbrev pub IsOutcomeSo : List ℕ → Report → Place → Type 0

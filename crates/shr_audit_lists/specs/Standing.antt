@@ -9,8 +9,8 @@ use Rattle.shr_report.specs.declared.report.Report.{Report}
 use Rattle.shr_report.specs.Parts.{journals_of}
 
 -- of each of the first groups it is told whether its list was moved in
-abbrev pub AreMoved : List Entry → List Bool → Type 0
-AreMoved before moved = (g : ℕ) → g < length moved → Decides (slice_index_or moved g false) (Contains (moved_in before) g)
+abbrev pub AreMovesTold : List Entry → List Bool → Type 0
+AreMovesTold before moved = (g : ℕ) → g < length moved → Decides (slice_index_or moved g false) (Contains (moved_in before) g)
 
 -- if a group is a child of this one, its list was moved in
 abbrev pub IsMovedChild : List ℕ → ℕ → List Entry → ℕ → Type 0

@@ -7,7 +7,7 @@ ghost use Rattle.shr_base.specs.declared.journals.TreeEntry.TheVariants.{Begin};
 ghost use Rattle.shr_model.specs.Groups.{IsTree};
 ghost use Rattle.shr_case.specs.Each.{EachFirst};
 ghost use Rattle.shr_case.specs.Places.{AreInOrder, IsFirst};
-ghost use Rattle.shr_audit_lists.specs.Begun.{AreBegun, AreBegunIfClosed, HaveGroups, IsBegun, IsBegunIfClosed};
+ghost use Rattle.shr_audit_lists.specs.Begun.{AreBegun, AreBegunIfClosed, HaveGroups, HasBegunAbove, IsBegunIfClosed};
 
 use crate::done::is_closed;
 use shr_base::journals::TreeEntry;
@@ -36,7 +36,7 @@ fn is_begun(parents: &[u16], tree: &[TreeEntry], begun: &[bool]) -> bool
     requires tree { IsTree parents.now }
     requires there { length begun.now < length parents.now }
     requires before { AreBegun parents.now tree.now begun.now }
-    ensures { Decides result (IsBegun parents.now tree.now (length begun.now)) }
+    ensures { Decides result (HasBegunAbove parents.now tree.now (length begun.now)) }
 {
     let group = begun.len();
     if is_begin(tree, group) {

@@ -7,7 +7,7 @@ ghost use Rattle.shr_report.specs.Parts.{IsThere};
 ghost use Rattle.shr_case.specs.Each.{EachFirst};
 ghost use Rattle.shr_case.specs.Lists.{IsReplayOf};
 ghost use Rattle.shr_case.specs.Places.{AreInOrder, IsFirst};
-ghost use Rattle.shr_audit_lists.specs.Fields.{AreFirsts, AreOutcomesSo, ArePlacesOnce, ArePlacesThere, IsOutcomeSo};
+ghost use Rattle.shr_audit_lists.specs.Fields.{ArePrintedOnce, AreOutcomesSo, ArePlacesOnce, ArePlacesThere, IsOutcomeSo};
 
 use shr_base::ends::PlaceEnd;
 use shr_base::places::Place;
@@ -40,7 +40,7 @@ pub fn are_places_there(script: &Script, report: &Report) -> bool
 // Whether each list is the first one of its place.
 fn are_firsts(ends: &[PlaceEnd]) -> bool
     requires { AreInOrder ends.now }
-    ensures { Decides result (AreFirsts ends.now) }
+    ensures { Decides result (ArePrintedOnce ends.now) }
 {
     for k in 0..ends.len() {
         if !is_first(ends, k) {

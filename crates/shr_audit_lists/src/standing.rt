@@ -10,7 +10,7 @@ ghost use Rattle.shr_model.specs.Groups.{IsTree, is_child};
 ghost use Rattle.shr_model.specs.Items.{is_closed};
 ghost use Rattle.shr_case.specs.Each.{EachFirst};
 ghost use Rattle.shr_case.specs.Places.{AreInOrder, IsFirst};
-ghost use Rattle.shr_audit_lists.specs.Standing.{AreMoved, AreStanding, IsMovedChild, IsPlaceStanding};
+ghost use Rattle.shr_audit_lists.specs.Standing.{AreMovesTold, AreStanding, IsMovedChild, IsPlaceStanding};
 
 use crate::done::is_closing;
 use shr_base::journals::Entry;
@@ -25,7 +25,7 @@ use std::alloc::Global;
 fn is_moved_child(parents: &[u16], group: u16, moved: &[bool], child: usize) -> bool
     requires each { length moved.now ≡ length parents.now }
     requires there { child < length parents.now }
-    ensures { (before : List Entry) → AreMoved before moved.now
+    ensures { (before : List Entry) → AreMovesTold before moved.now
         → Decides result (IsMovedChild parents.now group before child) }
 {
     let above = parents[child];
@@ -41,7 +41,7 @@ fn is_born_at(parents: &[u16], group: u16, moved: &[bool], birth: u16) -> bool
     requires tree { IsTree parents.now }
     requires each { length moved.now ≡ length parents.now }
     requires there { group < length parents.now }
-    ensures { (before : List Entry) → AreMoved before moved.now
+    ensures { (before : List Entry) → AreMovesTold before moved.now
         → Decides result (IsBornAt parents.now group before birth) }
 {
     if birth as usize >= parents.len() {
@@ -60,7 +60,7 @@ fn is_born_at(parents: &[u16], group: u16, moved: &[bool], birth: u16) -> bool
 // Whether the list of each child of a group was moved in.
 fn are_children_moved(parents: &[u16], group: u16, moved: &[bool]) -> bool
     requires { length moved.now ≡ length parents.now }
-    ensures { (before : List Entry) → AreMoved before moved.now
+    ensures { (before : List Entry) → AreMovesTold before moved.now
         → Decides result (AreChildrenMovedIn parents.now group before) }
 {
     for child in 1..parents.len() {
@@ -81,7 +81,7 @@ fn is_child(parents: &[u16], group: u16, child: u16) -> bool
 // Whether a child's list may be moved in.
 fn may_move_in(parents: &[u16], group: u16, moved: &[bool], child: u16) -> bool
     requires { length moved.now ≡ length parents.now }
-    ensures { (before : List Entry) → AreMoved before moved.now
+    ensures { (before : List Entry) → AreMovesTold before moved.now
         → Decides result ((is_child parents.now group child ≡ true)
         × (Contains (moved_in before) child → ⊥)) }
 {
@@ -94,7 +94,7 @@ fn may_move_in(parents: &[u16], group: u16, moved: &[bool], child: u16) -> bool
 // Whether a list of this group may be closed.
 fn may_close(parents: &[u16], group: u16, moved: &[bool]) -> bool
     requires { length moved.now ≡ length parents.now }
-    ensures { (before : List Entry) → AreMoved before moved.now
+    ensures { (before : List Entry) → AreMovesTold before moved.now
         → Decides result ((group ≢ 0) × AreChildrenMovedIn parents.now group before) }
 {
     if group == 0 {
@@ -109,7 +109,7 @@ fn is_allowed(parents: &[u16], group: u16, moved: &[bool], entry: &Entry) -> boo
     requires tree { IsTree parents.now }
     requires each { length moved.now ≡ length parents.now }
     requires there { group < length parents.now }
-    ensures { (before : List Entry) → AreMoved before moved.now
+    ensures { (before : List Entry) → AreMovesTold before moved.now
         → Decides result (IsAllowed parents.now group before entry.now) }
 {
     match entry {
@@ -129,7 +129,7 @@ fn may_stand(parents: &[u16], group: u16, moved: &[bool], closed: bool, entry: &
     requires tree { IsTree parents.now }
     requires each { length moved.now ≡ length parents.now }
     requires there { group < length parents.now }
-    ensures { (before : List Entry) → AreMoved before moved.now → closed ≡ is_closed before
+    ensures { (before : List Entry) → AreMovesTold before moved.now → closed ≡ is_closed before
         → Decides result (MayStand parents.now group before entry.now) }
 {
     if closed {
@@ -152,8 +152,8 @@ fn child_of(entry: &Entry) -> Option<u16>
 // Notes the list that an entry moved in.
 fn note_moved(moved: &mut Vec<bool>, entry: &Entry)
     ensures many { length moved.new.items ≡ length moved.old.items }
-    ensures noted { (before : List Entry) → AreMoved before moved.old.items
-        → AreMoved (before ++ entry.now ∷ []) moved.new.items }
+    ensures noted { (before : List Entry) → AreMovesTold before moved.old.items
+        → AreMovesTold (before ++ entry.now ∷ []) moved.new.items }
 {
     let Some(child) = child_of(entry) else {
         return;
@@ -166,7 +166,7 @@ fn note_moved(moved: &mut Vec<bool>, entry: &Entry)
 // Nothing was moved in.
 fn none_moved(alloc: Global, count: usize) -> Result<Vec<bool>, Memory>
     ensures count { IfOk result (λ moved. length moved.items ≡ count) }
-    ensures none { IfOk result (λ moved. AreMoved [] moved.items) }
+    ensures none { IfOk result (λ moved. AreMovesTold [] moved.items) }
 {
     let mut moved = Vec::new(alloc);
     for _group in 0..count {

@@ -1,13 +1,10 @@
 -- What is tested of a found cache, against what the law says of it.
-use Rattle.shr_audit_lookups.proofs.Common.{◌≡◌, ℕ, ◌<◌, ◌≤◌, Bool, List, length, Some, refl, sym, ap, subst, ◌∙◌, slice_get, Decides, fails, Report}
-use Rattle.std.proofs.Common.{true, false, cond, get_or, take, drop, Option, None}
-use Rattle.std.proofs.lemmas.Option.{slice_get-get_or}
+use Rattle.shr_audit_lookups.proofs.Common.{◌≡◌, ℕ, ◌<◌, ◌≤◌, Bool, List, length, Some, refl, sym, ap, subst, ◌∙◌, slice_get, Decides, fails, Report, true, false, cond, get_or, take, drop, Option, None, slice_get-get_or, IsLiveRight}
 use Rattle.shr_base.specs.declared.replies.Found.{Found}
 use Rattle.shr_model.specs.Pool.{decl_of, end_of, from_of, is_live}
 use Rattle.shr_report.specs.Lookups.{IsFoundRight}
 use Rattle.shr_registrations.specs.declared.steps.Registration.{Registration}
 use Rattle.shr_registrations.specs.Live.{live_now}
-use Rattle.shr_audit_lookups.specs.Found.{IsLiveRight}
 
 -- what is so of the command that is there
 pub at_some : {X : Type 0} (o : Option X) (x : X) (P : X → Type 0) (b : Bool) → Some x ≡ o → Decides b (P x) → Decides b ((y : X) → o ≡ Some y → P y)

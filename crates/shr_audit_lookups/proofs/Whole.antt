@@ -1,7 +1,6 @@
 -- The law on lookups, from its fields.
-use Rattle.shr_audit_lookups.proofs.Common.{◌≡◌, ℕ, ◌≤◌, Bool, List, length, subst, ◌∙◌, Decides, Script, Report, IsDrawn, AreFoundRight, AreMetRight}
+use Rattle.shr_audit_lookups.proofs.Common.{◌≡◌, ℕ, ◌≤◌, Bool, List, length, subst, ◌∙◌, Decides, Script, Report, IsDrawn, AreFoundRight, AreMetRight, parents_of}
 use Rattle.shr_report.specs.Lookups.{AreLookupsLawful}
-use Rattle.shr_report.specs.Parts.{parents_of}
 use Rattle.shr_audit_tables.specs.Idle.{AreIdleEmpty, NonePast}
 use Rattle.shr_audit_tables.specs.Lookups.{IsPoolLawful}
 use Rattle.shr_audit_tables.specs.Registrations.{AreStatesOf}

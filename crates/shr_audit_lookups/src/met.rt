@@ -3,7 +3,7 @@
 ghost use Rattle.std.specs.Prelude.{◌≡◌, ℕ, Some, is_some, slice_get, IfOk};
 ghost use Rattle.std.specs.Bool.{Decides};
 ghost use Rattle.shr_base.specs.declared.ends.WorkerPart.{WorkerPart};
-ghost use Rattle.shr_formed.specs.Each.{Each};
+ghost use Rattle.shr_formed.specs.Each.{EachItem};
 ghost use Rattle.shr_model.specs.Attempts.{is_held, number_of};
 ghost use Rattle.shr_report.specs.Parts.{EachAttempt, lookups_at};
 ghost use Rattle.shr_model.specs.Pool.{attempt_at, decl_at, registrations};
@@ -107,7 +107,7 @@ fn are_attempts_right(report: &Report, met: &Met, walk: &WalkRecord) -> bool
 // Whether each of these walks was.
 fn are_walks_right(report: &Report, met: &Met, walks: &[WalkRecord]) -> bool
     requires { IsMetIn report.now.pool.items met.now }
-    ensures { Decides result (Each (λ w. EachAttempt w (IsMetRight report.now)) walks.now) }
+    ensures { Decides result (EachItem (λ w. EachAttempt w (IsMetRight report.now)) walks.now) }
 {
     for walk in walks {
         if !are_attempts_right(report, met, walk) {
@@ -122,7 +122,7 @@ fn are_parts_right(report: &Report, met: &Met, parts: &[WorkerPart]) -> bool
     requires { IsMetIn report.now.pool.items met.now }
     ensures { Decides result ((worker : ℕ) (part : WorkerPart)
         → slice_get parts.now worker ≡ Some part
-        → Each (λ w. EachAttempt w (IsMetRight report.now)) part.walks.items) }
+        → EachItem (λ w. EachAttempt w (IsMetRight report.now)) part.walks.items) }
 {
     for worker in 0..parts.len() {
         if !are_walks_right(report, met, parts[worker].walks.as_slice()) {

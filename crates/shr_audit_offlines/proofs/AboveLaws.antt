@@ -1,12 +1,7 @@
 -- The workers that may have begun the offlining of groups above others, from the root down.
-use Rattle.shr_audit_offlines.proofs.Common.{◌≡◌, ◌≢◌, ◌⊎◌, ℕ, ◌+◌, ◌<◌, Bool, true, false, cond, List, [], ◌∷◌, ◌++◌, length, get_or, refl, sym, ap, subst, ◌∙◌, inl, inr, arith, eq-eqb, ne_eqb, ◌==◌, Decides, cases_lt, dite, ℕ_discrete, Serial, Script, Cited, Never, Often, cited_in, IsTree, parent_of, IsAtOrAbove-le, Report, parents_of, serial_of, Whose, Nobody, One, Several, BeganAbove, BeganAt, IsWhose, either, is_only, whose_of}
-use Rattle.std.proofs.Common.{length-append}
-use Rattle.std.proofs.lemmas.List.{get_or_append_left, get_or_push}
-use Rattle.shr_audit_causes.specs.declared.cites.Cited.TheVariants.{Once}
+use Rattle.shr_audit_offlines.proofs.Common.{◌≡◌, ◌≢◌, ◌⊎◌, ℕ, ◌+◌, ◌<◌, Bool, true, false, cond, List, [], ◌∷◌, ◌++◌, length, get_or, refl, sym, ap, subst, ◌∙◌, inl, inr, arith, eq-eqb, ne_eqb, ◌==◌, Decides, cases_lt, dite, ℕ_discrete, Serial, Script, Cited, Never, Often, cited_in, IsTree, parent_of, IsAtOrAbove-le, Report, parents_of, serial_of, Whose, Nobody, One, Several, BeganAbove, BeganAt, IsWhose, either, is_only, whose_of, length-append, get_or_append_left, get_or_push, Once, AreCited, AnswerCites, TellsCited, AreAbove}
 use Rattle.shr_audit_causes.specs.declared.cites.What.TheVariants as say
-use Rattle.shr_audit_causes.specs.Cites.{AreCited, Cites, Tells}
 use Rattle.shr_audit_causes.proofs.Treeing.{begun_of, of_begun}
-use Rattle.shr_audit_offlines.specs.Above.{AreAbove}
 use Rattle.shr_audit_offlines.proofs.PathLaws.{above_parent, parent_above, parent_itself, parent_lower, parent_other}
 
 -- ---- workers
@@ -47,14 +42,14 @@ only_decided P Several worker h = (
 -- ---- one group
 
 module _ (s : Script) (r : Report) (group : ℕ) where
-  began_here : (x : Serial) → Cites s r say.Begun group x → BeganAt s r group x.worker
+  began_here : (x : Serial) → AnswerCites s r say.Begun group x → BeganAt s r group x.worker
   began_here x c = record { by = x; own = refl; began = begun_of s r x group c }
 
-  cites_here : (w : ℕ) (b : BeganAt s r group w) → Cites s r say.Begun group b.by
+  cites_here : (w : ℕ) (b : BeganAt s r group w) → AnswerCites s r say.Begun group b.by
   cites_here w b = of_begun s r b.by group b.began
 
   -- the workers of those that are noted
-  whose_told : (c : Cited) → Tells (λ x. Cites s r say.Begun group x) c → IsWhose (BeganAt s r group) (whose_of c)
+  whose_told : (c : Cited) → TellsCited (λ x. AnswerCites s r say.Begun group x) c → IsWhose (BeganAt s r group) (whose_of c)
   whose_told Never t = λ w b. t b.by (cites_here w b)
   whose_told (Once v k) t = (began_here (serial_of v k) t.0, λ w b. sym b.own ∙ ap (λ (y : Serial). y.worker) (t.1 b.by (cites_here w b)))
   whose_told (Often v k false) t = (began_here (serial_of v k) t.so, λ w b. sym b.own ∙ t.alone refl b.by (cites_here w b))

@@ -1,13 +1,8 @@
 -- What commands carried, one carry after another.
-use Rattle.shr_audit_offlines.proofs.Common.{◌≡◌, ℕ, ◌+◌, ◌*◌, ◌%◌, ◌^◌, ◌<◌, ◌≤◌, Bool, true, false, cond, List, [], ◌∷◌, ◌++◌, length, get_or, set, take, replicate, refl, sym, ap, subst, ◌∙◌, arith, eq-eqb, ne_eqb, length-set, get_or-set_same, get_or-set_other, ◌==◌, sum_by, get_or-replicate, length-replicate, take_all, sum_by-cons, dite, ℕ_discrete, Carry, Report, answers_of, serial_of, AreCarried, IsCarriedOf, carried_by}
-use Rattle.std.proofs.Common.{◌/◌, filter}
-use Rattle.std.specs.Prelude.{◌&&◌}
-use Rattle.std.proofs.lemmas.List.{take_more}
+use Rattle.shr_audit_offlines.proofs.Common.{◌≡◌, ℕ, ◌+◌, ◌*◌, ◌%◌, ◌^◌, ◌<◌, ◌≤◌, Bool, true, false, cond, List, [], ◌∷◌, ◌++◌, length, get_or, set, take, replicate, refl, sym, ap, subst, ◌∙◌, arith, eq-eqb, ne_eqb, length-set, get_or-set_same, get_or-set_other, ◌==◌, sum_by, get_or-replicate, length-replicate, take_all, sum_by-cons, dite, ℕ_discrete, Carry, Report, answers_of, serial_of, HasCarriedSums, IsCarriedOf, carried_by, ◌/◌, filter, ◌&&◌, take_more, sum_by-append, carries_of}
 use Rattle.std.proofs.lemmas.List.Elements.{filter-append}
-use Rattle.std.proofs.lemmas.List.Sums.{sum_by-append}
 use Rattle.std.proofs.Math.Nat.{mod-add-div, add-mul-mod_self_right}
 use Rattle.shr_model.specs.Commands.{is_serial}
-use Rattle.shr_report.specs.Parts.{carries_of}
 
 one_sum : (c : Carry) (b : Bool) → sum_by (λ (x : Carry). x.amount) (cond b (c ∷ []) []) ≡ cond {A = ℕ} b c.amount 0
 one_sum c true = sum_by-cons (λ (x : Carry). x.amount) c [] ∙ (let e : c.amount + 0 ≡ c.amount = omega arith in e)
@@ -46,14 +41,14 @@ module _ (worker : ℕ) (c : Carry) (table : List ℕ) where
   stays : (before : List Carry) (k n : ℕ) → is_serial (serial_of worker k) c.by ≡ false → n ≡ carried_by worker k before % 2 ^ 64 → n ≡ carried_by worker k (before ++ c ∷ []) % 2 ^ 64
   stays before k n off is = is ∙ ap (λ (m : ℕ). m % 2 ^ 64) (let e = carried_more worker k before c false off in let same : carried_by worker k before ≡ carried_by worker k (before ++ c ∷ []) = omega (arith, e) in same)
 
-  pub other_worker : (c.by.worker ≡ worker → ⊥) → (before : List Carry) → AreCarried worker before table → AreCarried worker (before ++ c ∷ []) table
+  pub other_worker : (c.by.worker ≡ worker → ⊥) → (before : List Carry) → HasCarriedSums worker before table → HasCarriedSums worker (before ++ c ∷ []) table
   other_worker other before are k lt = stays before k (get_or table k 0) (off_worker k other) (are k lt)
 
-  pub no_command : length table ≤ c.by.command → (before : List Carry) → AreCarried worker before table → AreCarried worker (before ++ c ∷ []) table
+  pub no_command : length table ≤ c.by.command → (before : List Carry) → HasCarriedSums worker before table → HasCarriedSums worker (before ++ c ∷ []) table
   no_command past before are k lt = stays before k (get_or table k 0) (off_command k (λ same. (let e : c.by.command ≡ k = same in omega (arith, e, lt, past)))) (are k lt)
 
   pub one_noted : (amount : ℕ) → c.by.worker ≡ worker → c.by.command < length table → amount ≡ (get_or table c.by.command 0 + c.amount) % 2 ^ 64
-      → (before : List Carry) → AreCarried worker before table → AreCarried worker (before ++ c ∷ []) (set table c.by.command amount)
+      → (before : List Carry) → HasCarriedSums worker before table → HasCarriedSums worker (before ++ c ∷ []) (set table c.by.command amount)
   one_noted amount same there is before are k lt = dite (ℕ_discrete k c.by.command) here away
     where
       within : k < length table
@@ -67,18 +62,18 @@ module _ (worker : ℕ) (c : Carry) (table : List ℕ) where
       away : (k ≡ c.by.command → ⊥) → get_or (set table c.by.command amount) k 0 ≡ carried_by worker k (before ++ c ∷ []) % 2 ^ 64
       away ne = get_or-set_other table c.by.command k amount 0 ne ∙ stays before k (get_or table k 0) (off_command k (λ e. ne (sym e))) (are k within)
 
-pub none_carried : (worker count : ℕ) (table : List ℕ) → table ≡ replicate count 0 → AreCarried worker [] table
+pub none_carried : (worker count : ℕ) (table : List ℕ) → table ≡ replicate count 0 → HasCarriedSums worker [] table
 none_carried worker count table is k lt = ap (λ (xs : List ℕ). get_or xs k 0) is ∙ get_or-replicate count k 0 0 (subst (λ (n : ℕ). k < n) (ap length is ∙ length-replicate count 0) lt)
 
 pub many_none : (count : ℕ) (table : List ℕ) → table ≡ replicate count 0 → length table ≡ count
 many_none count table is = ap length is ∙ length-replicate count 0
 
-pub carries_more : (worker : ℕ) (carries : List Carry) (n : ℕ) (d : Carry) (table : List ℕ) → n < length carries → AreCarried worker (take n carries ++ get_or carries n d ∷ []) table → AreCarried worker (take (n + 1) carries) table
-carries_more worker carries n d table lt are = subst (λ (cs : List Carry). AreCarried worker cs table) (sym (take_more carries n d lt)) are
+pub carries_more : (worker : ℕ) (carries : List Carry) (n : ℕ) (d : Carry) (table : List ℕ) → n < length carries → HasCarriedSums worker (take n carries ++ get_or carries n d ∷ []) table → HasCarriedSums worker (take (n + 1) carries) table
+carries_more worker carries n d table lt are = subst (λ (cs : List Carry). HasCarriedSums worker cs table) (sym (take_more carries n d lt)) are
 
 pub all_carried : (r : Report) (worker count : ℕ) (carries : List Carry) (n : ℕ) (table : List ℕ) → carries ≡ carries_of r worker → length carries ≤ n → count ≡ length (answers_of r worker) → length table ≡ count
-    → AreCarried worker (take n carries) table → IsCarriedOf r worker table
+    → HasCarriedSums worker (take n carries) table → IsCarriedOf r worker table
 all_carried r worker count carries n table is over many long are = record {
   count = long ∙ many;
-  each = subst (λ (cs : List Carry). AreCarried worker cs table) (take_all n carries over ∙ is) are;
+  each = subst (λ (cs : List Carry). HasCarriedSums worker cs table) (take_all n carries over ∙ is) are;
 }

@@ -1,10 +1,6 @@
 -- Sums of moved objects, one entry and one list after another.
-use Rattle.shr_audit_offlines.proofs.Common.{◌≡◌, ℕ, zero, suc, ◌+◌, ◌-◌, ◌*◌, ◌^◌, ◌<◌, ◌≤◌, Bool, cond, List, [], ◌∷◌, length, get_or, set, take, map, replicate, Some, refl, sym, ap, subst, ◌∙◌, arith, eq-eqb, ne_eqb, length-set, get_or-set_same, get_or-set_other, ◌==◌, min, slice_get, sum_by, get_or-replicate, length-replicate, take_all, sum_by-cons, dite, ℕ_discrete, PlaceEnd, Entry, Report, moved_from, moved_of, AreSums}
-use Rattle.std.proofs.lemmas.List.Sums.{sum_by_more}
-use Rattle.std.proofs.lemmas.Option.{slice_get-get_or}
+use Rattle.shr_audit_offlines.proofs.Common.{◌≡◌, ℕ, zero, suc, ◌+◌, ◌-◌, ◌*◌, ◌^◌, ◌<◌, ◌≤◌, Bool, cond, List, [], ◌∷◌, length, get_or, set, take, map, replicate, Some, refl, sym, ap, subst, ◌∙◌, arith, eq-eqb, ne_eqb, length-set, get_or-set_same, get_or-set_other, ◌==◌, min, slice_get, sum_by, get_or-replicate, length-replicate, take_all, sum_by-cons, dite, ℕ_discrete, PlaceEnd, Entry, Report, objects_moved_from, moved_of, AreCappedSums, sum_by_more, slice_get-get_or, journals_of, AreMoved}
 use Rattle.shr_base.specs.declared.places.Place.{Place}
-use Rattle.shr_report.specs.Parts.{journals_of}
-use Rattle.shr_audit_offlines.specs.Moved.{AreMoved}
 use Rattle.shr_model.proofs.Numbers.{kept_sum}
 use Rattle.shr_audit_offlines.proofs.CarriedLaws.{many_none}
 
@@ -13,10 +9,10 @@ use Rattle.shr_audit_offlines.proofs.CarriedLaws.{many_none}
 abbrev most : ℕ
 most = 2 ^ 128 - 1
 
-pub sums_same : (f g : ℕ → ℕ) (table : List ℕ) → ((k : ℕ) → f k ≡ g k) → AreSums f table → AreSums g table
+pub sums_same : (f g : ℕ → ℕ) (table : List ℕ) → ((k : ℕ) → f k ≡ g k) → AreCappedSums f table → AreCappedSums g table
 sums_same f g table same are group lt = are group lt ∙ ap (λ (n : ℕ). min n most) (same group)
 
-pub sums_none : (count : ℕ) (table : List ℕ) → table ≡ replicate count 0 → AreSums (λ g. 0) table
+pub sums_none : (count : ℕ) (table : List ℕ) → table ≡ replicate count 0 → AreCappedSums (λ g. 0) table
 sums_none count table is group lt = ap (λ (xs : List ℕ). get_or xs group 0) is ∙ get_or-replicate count group 0 0 (subst (λ (n : ℕ). group < n) (ap length is ∙ length-replicate count 0) lt) ∙ sym (zero_kept most)
   where
     zero_kept : (m : ℕ) → min 0 m ≡ 0
@@ -30,7 +26,7 @@ module _ (table : List ℕ) (group objects times : ℕ) where
   away_is g n ne = ap (λ (b : Bool). n + times * cond {A = ℕ} b objects 0) (ne_eqb group g ne) ∙ (let e : n + times * 0 ≡ n = omega arith in e)
 
   pub sums_more : (part sum : ℕ) → group < length table → part ≡ min (objects * times) most → sum ≡ min (get_or table group 0 + part) most
-      → (sums : ℕ → ℕ) → AreSums sums table → AreSums (λ g. sums g + times * cond (group == g) objects 0) (set table group sum)
+      → (sums : ℕ → ℕ) → AreCappedSums sums table → AreCappedSums (λ g. sums g + times * cond (group == g) objects 0) (set table group sum)
   sums_more part sum there of is sums are g lt = dite (ℕ_discrete g group) here away
     where
       within : g < length table
@@ -49,7 +45,7 @@ module _ (table : List ℕ) (group objects times : ℕ) where
 -- ---- entries
 
 pub entries_more : (es : List Entry) (n : ℕ) (d : Entry) (times : ℕ) (sums : ℕ → ℕ) (table : List ℕ) → n < length es
-    → AreSums (λ g. (sums g + times * sum_by (moved_of g) (take n es)) + times * moved_of g (get_or es n d)) table → AreSums (λ g. sums g + times * sum_by (moved_of g) (take (n + 1) es)) table
+    → AreCappedSums (λ g. (sums g + times * sum_by (moved_of g) (take n es)) + times * moved_of g (get_or es n d)) table → AreCappedSums (λ g. sums g + times * sum_by (moved_of g) (take (n + 1) es)) table
 entries_more es n d times sums table lt = sums_same (λ g. (sums g + times * sum_by (moved_of g) (take n es)) + times * moved_of g (get_or es n d)) (λ g. sums g + times * sum_by (moved_of g) (take (n + 1) es)) table
     (λ g. spread (sums g) (sum_by (moved_of g) (take n es)) (moved_of g (get_or es n d)) ∙ ap (λ (m : ℕ). sums g + times * m) (sym (sum_by_more (moved_of g) es n d lt)))
   where
@@ -82,7 +78,7 @@ module _ (r : Report) (ends : List PlaceEnd) (k next : ℕ) (d : PlaceEnd) (low 
       (λ here. ap (λ (i : ℕ). moved_by r g (get_or ends i d)) here)
       (λ ne. ap (λ (p : Place). sum_by (moved_of g) (journals_of r p)) (same j (get_or ends j d) (omega (arith, from, ne)) to (slice_get-get_or ends j d (omega (arith, to, high)))))
 
-  pub places_more : (table : List ℕ) → AreSums (λ g. sum_by (moved_by r g) (take k ends) + (next - k) * moved_by r g (get_or ends k d)) table → AreSums (λ g. sum_by (moved_by r g) (take next ends)) table
+  pub places_more : (table : List ℕ) → AreCappedSums (λ g. sum_by (moved_by r g) (take k ends) + (next - k) * moved_by r g (get_or ends k d)) table → AreCappedSums (λ g. sum_by (moved_by r g) (take next ends)) table
   places_more table = sums_same (λ g. sum_by (moved_by r g) (take k ends) + (next - k) * moved_by r g (get_or ends k d)) (λ g. sum_by (moved_by r g) (take next ends)) table
       (λ g. sym (ap (λ (j : ℕ). sum_by (moved_by r g) (take j ends)) (let e : next ≡ k + (next - k) = omega (arith, low) in e) ∙ run_of (moved_by r g) ends d k (moved_by r g (get_or ends k d)) (next - k) (omega (arith, low, high)) (λ j from to. alike g j from (omega (arith, to, low)))))
 
@@ -91,8 +87,8 @@ by_places r g [] = refl
 by_places r g (end ∷ ends) = sum_by-cons (moved_by r g) end ends ∙ ap (λ (n : ℕ). moved_by r g end + n) (by_places r g ends)
     ∙ sym (sum_by-cons (λ (p : Place). sum_by (moved_of g) (journals_of r p)) end.place (map (λ (x : PlaceEnd). x.place) ends))
 
-pub all_moved : (r : Report) (ends : List PlaceEnd) (k : ℕ) (table : List ℕ) → ends ≡ r.places.items → length ends ≤ k → length table ≡ 65536 → AreSums (λ g. sum_by (moved_by r g) (take k ends)) table → AreMoved r table
+pub all_moved : (r : Report) (ends : List PlaceEnd) (k : ℕ) (table : List ℕ) → ends ≡ r.places.items → length ends ≤ k → length table ≡ 65536 → AreCappedSums (λ g. sum_by (moved_by r g) (take k ends)) table → AreMoved r table
 all_moved r ends k table is over many are = record {
   count = many;
-  each = sums_same (λ g. sum_by (moved_by r g) (take k ends)) (moved_from r) table (λ g. ap (sum_by (moved_by r g)) (take_all k ends over ∙ is) ∙ by_places r g r.places.items) are;
+  each = sums_same (λ g. sum_by (moved_by r g) (take k ends)) (objects_moved_from r) table (λ g. ap (sum_by (moved_by r g)) (take_all k ends over ∙ is) ∙ by_places r g r.places.items) are;
 }

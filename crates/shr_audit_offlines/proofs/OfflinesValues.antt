@@ -1,8 +1,7 @@
 -- What is tested of answers to an `offline` that was done, at known values.
-use Rattle.shr_audit_offlines.proofs.Common.{◌≡◌, ℕ, zero, suc, ◌<◌, ◌≤◌, ◌^◌, ◌-◌, true, false, [], ◌∷◌, Some, None, refl, subst, arith, slice_get, IsSomeAnd, GroupDecl, Carry, IsAtOrAbove-le, IsOffline, moved_from, parents_of, reply_at, serial_of, Never, Often, Nobody, One, Several, BeganAbove, BeganAt, IsWhose, either, is_only, whose_of, AreCarried, IsCarriedOf, carried_by, AreSums, HasOfflineCause, IsCarriedSo, IsCausedAt, IsMoveRight, IsMovedSo, AddsSpliced, AreOnlySpliced, HasSpliced, IsIn, with_group}
+use Rattle.shr_audit_offlines.proofs.Common.{◌≡◌, ℕ, zero, suc, ◌<◌, ◌≤◌, ◌^◌, ◌-◌, true, false, [], ◌∷◌, Some, None, refl, subst, arith, slice_get, IsSomeAnd, GroupDecl, Carry, IsAtOrAbove-le, IsOffline, objects_moved_from, parents_of, reply_at, serial_of, Never, Often, Nobody, One, Several, BeganAbove, BeganAt, IsWhose, either, is_only, whose_of, HasCarriedSums, IsCarriedOf, carried_by, AreCappedSums, HasOfflineCause, IsCarriedSo, IsOfflineCausedAt, IsMoveRight, IsMovedSo, AddsSpliced, AreOnlySpliced, HasSpliced, IsIn, with_spliced_group, MayHaveBegun}
 use Rattle.shr_base.specs.declared.replies.Reply.TheVariants as reply
 use Rattle.shr_base.specs.declared.scripts.Command.TheVariants as command
-use Rattle.shr_report.specs.Causes.{MayHaveBegun}
 use Rattle.shr_report.proofs.OfflineReport.{place, report, script}
 use Rattle.shr_audit_offlines.proofs.TreeLaws.{tree_of}
 
@@ -84,7 +83,7 @@ by_another = refl
 five_commands : IsCarriedOf report 0 (0 ∷ 0 ∷ 0 ∷ 0 ∷ 0 ∷ [])
 five_commands = record { count = refl; each = each }
   where
-    each : AreCarried 0 [] (0 ∷ 0 ∷ 0 ∷ 0 ∷ 0 ∷ [])
+    each : HasCarriedSums 0 [] (0 ∷ 0 ∷ 0 ∷ 0 ∷ 0 ∷ [])
     each zero lt = refl
     each (suc zero) lt = refl
     each (suc (suc zero)) lt = refl
@@ -95,7 +94,7 @@ five_commands = record { count = refl; each = each }
 not_four : IsCarriedOf report 0 (0 ∷ 0 ∷ 0 ∷ 0 ∷ []) → ⊥
 not_four h = let e : 4 ≡ 5 = h.count in absurd (omega (arith, e))
 
-modulo : AreCarried 0 (carry 0 18446744073709551615 ∷ carry 0 4 ∷ []) (3 ∷ [])
+modulo : HasCarriedSums 0 (carry 0 18446744073709551615 ∷ carry 0 4 ∷ []) (3 ∷ [])
 modulo zero lt = refl
 modulo (suc k) lt = absurd (omega (arith, lt))
 
@@ -110,19 +109,19 @@ of_another_reply = tt
 
 -- ---- moved objects
 
-two_moved : moved_from report 2 ≡ 2
+two_moved : objects_moved_from report 2 ≡ 2
 two_moved = refl
 
-sums : AreSums (λ g. 7) (7 ∷ 7 ∷ [])
+sums : AreCappedSums (λ g. 7) (7 ∷ 7 ∷ [])
 sums zero lt = refl
 sums (suc zero) lt = refl
 sums (suc (suc g)) lt = absurd (omega (arith, lt))
 
-most : AreSums (λ g. 2 ^ 130) ((2 ^ 128 - 1) ∷ [])
+most : AreCappedSums (λ g. 2 ^ 130) ((2 ^ 128 - 1) ∷ [])
 most zero lt = refl
 most (suc g) lt = absurd (omega (arith, lt))
 
-not_sums : AreSums (λ g. 7) (6 ∷ []) → ⊥
+not_sums : AreCappedSums (λ g. 7) (6 ∷ []) → ⊥
 not_sums h = let e : 6 ≡ 7 = h 0 (omega arith) in absurd (omega (arith, e))
 
 all_told : IsMoveRight script report 0 2 2
@@ -149,15 +148,15 @@ done_without h = let le : 3 ≤ 2 = h.most in absurd (omega (arith, le))
 asks_nothing_else : HasOfflineCause script report (serial_of 0 3) (command.Offline 2) (reply.AlreadyDone 7)
 asks_nothing_else = tt
 
-no_such_worker : IsCausedAt script report 1 0
+no_such_worker : IsOfflineCausedAt script report 1 0
 no_such_worker c a e f = absurd cc
 
 -- ---- groups that may have been spliced
 
-noted : with_group (Some 1) (false ∷ false ∷ []) ≡ false ∷ true ∷ []
+noted : with_spliced_group (Some 1) (false ∷ false ∷ []) ≡ false ∷ true ∷ []
 noted = refl
 
-past_the_last : with_group (Some 2) (false ∷ false ∷ []) ≡ false ∷ false ∷ []
+past_the_last : with_spliced_group (Some 2) (false ∷ false ∷ []) ≡ false ∷ false ∷ []
 past_the_last = refl
 
 is_in : IsIn (false ∷ true ∷ []) 1

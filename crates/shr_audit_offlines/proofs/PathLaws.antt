@@ -1,8 +1,7 @@
 -- Groups above others, also above one that isn't there, whose parent is the root.
-use Rattle.shr_audit_offlines.proofs.Common.{◌≡◌, ◌≢◌, ℕ, zero, suc, ◌<◌, ◌≤◌, List, [], ◌∷◌, length, refl, sym, subst, inl, inr, arith, ◌==◌, cases_lt, get_or_past, IsTree, parent_of, IsAtOrAbove-le}
+use Rattle.shr_audit_offlines.proofs.Common.{◌≡◌, ◌≢◌, ℕ, zero, suc, ◌<◌, ◌≤◌, List, [], ◌∷◌, length, refl, sym, subst, inl, inr, arith, ◌==◌, cases_lt, get_or_past, IsTree, parent_of, IsAtOrAbove-le, IsAtOrAbove-refl}
 use Rattle.shr_model.specs.Groups.{IsAtOrAbove, path_of, path_within}
 use Rattle.shr_model.proofs.GroupsLaws.{path_of-below, not_zero}
-use Rattle.shr_model.proofs.GroupsOrder.{IsAtOrAbove-refl}
 use Rattle.shr_model.proofs.Members.{Contains_from_Has, Has, Has_from_Contains}
 
 root_path : (parents : List ℕ) (k : ℕ) → path_within k parents 0 ≡ 0 ∷ []

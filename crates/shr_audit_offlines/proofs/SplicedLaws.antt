@@ -1,8 +1,6 @@
 -- Groups that may have been spliced, one command after another.
-use Rattle.shr_audit_offlines.proofs.Common.{◌≡◌, ◌⊎◌, ℕ, ◌<◌, ◌≤◌, Bool, true, false, List, length, get_or, set, replicate, Option, Some, None, refl, sym, ap, subst, ◌∙◌, inl, inr, arith, length-set, get_or-set_same, get_or-set_other, option_map, Decides, IsSomeAnd, cases_lt, get_or-replicate, get_or_past, length-replicate, slice_get_past, dite, ℕ_discrete, WorkerPart, Answered, Reply, Command, Script, Report, IsOffline, MayHaveSpliced, answer_at, answers_in, answers_of, command_at, reply_at, serial_of, AddsSpliced, AreOnlySpliced, HasSpliced, IsIn, with_group, some_is}
-use Rattle.std.specs.Prelude.{◌↔◌}
+use Rattle.shr_audit_offlines.proofs.Common.{◌≡◌, ◌⊎◌, ℕ, ◌<◌, ◌≤◌, Bool, true, false, List, length, get_or, set, replicate, Option, Some, None, refl, sym, ap, subst, ◌∙◌, inl, inr, arith, length-set, get_or-set_same, get_or-set_other, option_map, Decides, IsSomeAnd, cases_lt, get_or-replicate, get_or_past, length-replicate, slice_get_past, dite, ℕ_discrete, WorkerPart, Answered, Reply, Command, Script, Report, IsOffline, MayHaveSpliced, answer_at, answers_in, answers_of, command_at, reply_at, serial_of, AddsSpliced, AreOnlySpliced, HasSpliced, IsIn, with_spliced_group, some_is, ◌↔◌, HasSplicedGroups}
 use Rattle.shr_base.specs.declared.scripts.Command.TheVariants.{Offline}
-use Rattle.shr_audit_offlines.specs.Spliced.{AreSpliced}
 
 none_some : {X : Type 0} (a : X) → ◌≡◌ {A = Option X} None (Some a) → ⊥
 none_some a e = cc
@@ -63,11 +61,11 @@ module _ (s : Script) (r : Report) (worker k : ℕ) (table : List Bool) where
         (λ ne. only group (sym (get_or-set_other table h group true false ne) ∙ is));
   }
 
-  pub adds_next : (o : Option ℕ) → Splices s r worker k o → AddsSpliced s r table (with_group o table)
+  pub adds_next : (o : Option ℕ) → Splices s r worker k o → AddsSpliced s r table (with_spliced_group o table)
   adds_next None of = adds_none s r table
   adds_next (Some h) of = adds_one h ((of h).1 refl)
 
-  pub has_next : (o : Option ℕ) → Splices s r worker k o → HasSpliced s r (with_group o table) worker k
+  pub has_next : (o : Option ℕ) → Splices s r worker k o → HasSpliced s r (with_spliced_group o table) worker k
   has_next None of group lt h = absurd (none_some group ((of group).0 h))
   has_next (Some h) of group lt own =
       let same = some_is h group ((of group).0 own) in
@@ -97,7 +95,7 @@ only_none s r count table is group h = absurd (let clash : false ≡ true = sym 
     none (inl lt) = ap (λ (xs : List Bool). get_or xs group false) is ∙ get_or-replicate count group false false lt
     none (inr le) = get_or_past table group false (let long = ap length is in let many = length-replicate count false in omega (arith, long, many, le))
 
-pub all_spliced : (s : Script) (r : Report) (table : List Bool) → length table ≡ 65536 → AreOnlySpliced s r table → ((worker k : ℕ) → HasSpliced s r table worker k) → AreSpliced s r table
+pub all_spliced : (s : Script) (r : Report) (table : List Bool) → length table ≡ 65536 → AreOnlySpliced s r table → ((worker k : ℕ) → HasSpliced s r table worker k) → HasSplicedGroups s r table
 all_spliced s r table many only all = record {
   count = many;
   each = λ group lt. (λ h. only group h, λ x. all x.0.worker x.0.command group (omega (arith, lt, many)) x.1);

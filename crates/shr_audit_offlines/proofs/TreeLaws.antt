@@ -1,7 +1,5 @@
 -- Groups that are a tree, by their declarations.
-use Rattle.shr_audit_offlines.proofs.Common.{◌≡◌, ℕ, zero, suc, ◌<◌, ◌≤◌, List, ◌∷◌, length, map, Some, refl, ap, ◌∙◌, inl, inr, arith, slice_get, GroupDecl, IsTree, parent_of}
-use Rattle.std.proofs.lemmas.List.{get_or-map, length-map}
-use Rattle.std.proofs.lemmas.Option.{slice_get_cases}
+use Rattle.shr_audit_offlines.proofs.Common.{◌≡◌, ℕ, zero, suc, ◌<◌, ◌≤◌, List, ◌∷◌, length, map, Some, refl, ap, ◌∙◌, inl, inr, arith, slice_get, GroupDecl, IsTree, parent_of, get_or-map, length-map, slice_get_cases}
 
 pub tree_of : (groups : List GroupDecl) → ((k : ℕ) (g : GroupDecl) → k < length groups → slice_get groups k ≡ Some g → g.parent ≤ k) → IsTree (0 ∷ map (λ (g : GroupDecl). g.parent) groups)
 tree_of groups low = record { has_root = omega arith; root = refl; lower = lower }

@@ -10,10 +10,10 @@ abbrev pub carried_by : ℕ → ℕ → List Carry → ℕ
 carried_by worker k carries = sum_by (λ (c : Carry). c.amount) (filter (λ (c : Carry). is_serial (serial_of worker k) c.by) carries)
 
 -- the table has it modulo 2^64
-abbrev pub AreCarried : ℕ → List Carry → List ℕ → Type 0
-AreCarried worker carries table = (k : ℕ) → k < length table → get_or table k 0 ≡ carried_by worker k carries % 2 ^ 64
+abbrev pub HasCarriedSums : ℕ → List Carry → List ℕ → Type 0
+HasCarriedSums worker carries table = (k : ℕ) → k < length table → get_or table k 0 ≡ carried_by worker k carries % 2 ^ 64
 
 -- for each command of a worker that has an answer, of all carries
 pub record IsCarriedOf (r : Report) (worker : ℕ) (table : List ℕ) : Type 0 where
   pub count : length table ≡ length (answers_of r worker)
-  pub each : AreCarried worker (carries_of r worker) table
+  pub each : HasCarriedSums worker (carries_of r worker) table

@@ -11,13 +11,13 @@ use Rattle.shr_base.specs.declared.scripts.Script.{Script}
 use Rattle.shr_base.specs.declared.walks.Carry.{Carry}
 use Rattle.shr_model.specs.Groups.{IsAtOrAbove}
 use Rattle.shr_report.specs.declared.report.Report.{Report}
-use Rattle.shr_report.specs.Causes.{IsOffline, MayHaveBegun, MayHaveSpliced, StandsInTree, moved_from}
+use Rattle.shr_report.specs.Causes.{IsOffline, MayHaveBegun, MayHaveSpliced, StandsInTree, objects_moved_from}
 use Rattle.shr_report.specs.Parts.{answer_at, carries_by, command_at, parents_of, serial_of}
 use Rattle.shr_report.specs.ReplyTable.{HasCause}
 use Rattle.shr_audit_offlines.specs.declared.rows.Notes.{Notes}
 use Rattle.shr_audit_offlines.specs.Above.{AreAbove}
 use Rattle.shr_audit_offlines.specs.Moved.{AreMoved}
-use Rattle.shr_audit_offlines.specs.Spliced.{AreSpliced}
+use Rattle.shr_audit_offlines.specs.Spliced.{HasSplicedGroups}
 
 -- an answer has its cause, if it is one that an offlining was done
 abbrev pub HasOfflineCause : Script → Report → Serial → Command → Reply → Type 0
@@ -25,18 +25,18 @@ HasOfflineCause s r by c (reply.OfflineDone entry moved deferred) = HasCause s r
 HasOfflineCause s r by c x = ⊤
 
 -- so has the answer with this number
-abbrev pub IsCausedAt : Script → Report → ℕ → ℕ → Type 0
-IsCausedAt s r worker k = (c : Command) (a : Answered) → command_at s (serial_of worker k) ≡ Some c → answer_at r (serial_of worker k) ≡ Some a → HasOfflineCause s r (serial_of worker k) c a.reply
+abbrev pub IsOfflineCausedAt : Script → Report → ℕ → ℕ → Type 0
+IsOfflineCausedAt s r worker k = (c : Command) (a : Answered) → command_at s (serial_of worker k) ≡ Some c → answer_at r (serial_of worker k) ≡ Some a → HasOfflineCause s r (serial_of worker k) c a.reply
 
 -- nobody but a command of this worker that was done can have spliced lists of the group
-pub record IsAlone (s : Script) (r : Report) (worker group : ℕ) : Type 0 where
+pub record IsSoleSplicer (s : Script) (r : Report) (worker group : ℕ) : Type 0 where
   pub here : (x : Serial) → IsOffline s r x group MayHaveSpliced → ⊥
   pub above : (x : Serial) (g : ℕ) → x.worker ≢ worker → g ≢ group → IsAtOrAbove (parents_of s) g group → IsOffline s r x g MayHaveBegun → ⊥
 
 -- so many objects may be told: no more than were moved from the group, and all where nobody else can have moved some
 pub record IsMoveRight (s : Script) (r : Report) (worker group moved : ℕ) : Type 0 where
-  pub most : moved ≤ moved_from r group
-  pub whole : IsAlone s r worker group → moved ≡ moved_from r group
+  pub most : moved ≤ objects_moved_from r group
+  pub whole : IsSoleSplicer s r worker group → moved ≡ objects_moved_from r group
 
 -- a reply that an offlining was done cites the group's Done, and tells such a number
 abbrev pub IsMovedSo : Script → Report → ℕ → Option ℕ → Reply → Type 0
@@ -49,7 +49,7 @@ IsCarriedSo r worker k (reply.OfflineDone entry moved deferred) = deferred ≡ s
 IsCarriedSo r worker k x = ⊤
 
 -- what is noted once of a script and a report
-pub record AreNotes (s : Script) (r : Report) (n : Notes) : Type 0 where
+pub record AreOfflineNotes (s : Script) (r : Report) (n : Notes) : Type 0 where
   pub moved : AreMoved r n.moved.items
-  pub spliced : AreSpliced s r n.spliced.items
+  pub spliced : HasSplicedGroups s r n.spliced.items
   pub above : AreAbove s r n.above.items

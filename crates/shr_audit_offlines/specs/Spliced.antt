@@ -11,9 +11,9 @@ abbrev pub IsIn : List Bool → ℕ → Type 0
 IsIn table group = get_or table group false ≡ true
 
 -- one group more, if there is one
-abbrev pub with_group : Option ℕ → List Bool → List Bool
-with_group None table = table
-with_group (Some group) table = slice_set table group true
+abbrev pub with_spliced_group : Option ℕ → List Bool → List Bool
+with_spliced_group None table = table
+with_spliced_group (Some group) table = slice_set table group true
 
 -- each group in the table is one that a command may have spliced
 abbrev pub AreOnlySpliced : Script → Report → List Bool → Type 0
@@ -30,11 +30,11 @@ pub record AddsSpliced (s : Script) (r : Report) (old new : List Bool) : Type 0 
   pub only : AreOnlySpliced s r old → AreOnlySpliced s r new
 
 -- those of a worker were
-pub record NotesWorker (s : Script) (r : Report) (worker : ℕ) (old new : List Bool) : Type 0 where
+pub record NotesWorkerSpliced (s : Script) (r : Report) (worker : ℕ) (old new : List Bool) : Type 0 where
   pub adds : AddsSpliced s r old new
   pub noted : (k : ℕ) → HasSpliced s r new worker k
 
 -- the table has all
-pub record AreSpliced (s : Script) (r : Report) (table : List Bool) : Type 0 where
+pub record HasSplicedGroups (s : Script) (r : Report) (table : List Bool) : Type 0 where
   pub count : length table ≡ 65536
   pub each : (group : ℕ) → group < 65536 → IsIn table group ↔ ((by : Serial) × IsOffline s r by group MayHaveSpliced)

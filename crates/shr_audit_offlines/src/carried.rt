@@ -3,7 +3,7 @@
 ghost use Rattle.std.specs.Prelude.{◌≡◌, ◌∷◌, [], ◌++◌, List, length, replicate, IfOk};
 ghost use Rattle.shr_base.specs.declared.walks.Carry.{Carry};
 ghost use Rattle.shr_report.specs.Parts.{carries_of};
-ghost use Rattle.shr_audit_offlines.specs.Carried.{AreCarried, IsCarriedOf};
+ghost use Rattle.shr_audit_offlines.specs.Carried.{HasCarriedSums, IsCarriedOf};
 
 use shr_audit_replies::numbers::count_answers;
 use shr_base::memory::Memory;
@@ -31,8 +31,8 @@ fn carries_of(report: &Report, worker: usize) -> &[Carry]
 // Notes a carry of a worker.
 fn note(carried: &mut Vec<u64>, worker: usize, carry: &Carry)
     ensures count { length carried.new.items ≡ length carried.old.items }
-    ensures noted { (before : List Carry) → AreCarried worker before carried.old.items
-        → AreCarried worker (before ++ carry.now ∷ []) carried.new.items }
+    ensures noted { (before : List Carry) → HasCarriedSums worker before carried.old.items
+        → HasCarriedSums worker (before ++ carry.now ∷ []) carried.new.items }
 {
     let by = carry.by.worker as usize;
     if by != worker {

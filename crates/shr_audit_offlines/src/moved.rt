@@ -4,7 +4,7 @@ ghost use Rattle.std.specs.Prelude.{◌≡◌, ℕ, ◌+◌, ◌*◌, ◌≤◌,
 ghost use Rattle.shr_base.specs.declared.ends.PlaceEnd.{PlaceEnd};
 ghost use Rattle.shr_case.specs.Places.{AreInOrder};
 ghost use Rattle.shr_report.specs.Causes.{moved_of};
-ghost use Rattle.shr_audit_offlines.specs.Moved.{AreMoved, AreSums};
+ghost use Rattle.shr_audit_offlines.specs.Moved.{AreMoved, AreCappedSums};
 
 use shr_base::ends::PlaceEnd;
 use shr_base::journals::Entry;
@@ -24,8 +24,8 @@ fn nothing(alloc: Global, count: usize) -> Result<Vec<u128>, Memory>
 // Adds to the sum of a group what a list says that is printed so many times.
 fn add(moved: &mut Vec<u128>, group: usize, objects: u32, times: usize)
     ensures count { length moved.new.items ≡ length moved.old.items }
-    ensures added { (sums : ℕ → ℕ) → AreSums sums moved.old.items
-        → AreSums (λ g. sums g + times * cond (group == g) objects 0) moved.new.items }
+    ensures added { (sums : ℕ → ℕ) → AreCappedSums sums moved.old.items
+        → AreCappedSums (λ g. sums g + times * cond (group == g) objects 0) moved.new.items }
 {
     if group < moved.len() {
         let more = (objects as u128).saturating_mul(times as u128);
@@ -37,8 +37,8 @@ fn add(moved: &mut Vec<u128>, group: usize, objects: u32, times: usize)
 // Notes an entry of such a list.
 fn note(moved: &mut Vec<u128>, entry: &Entry, times: usize)
     ensures count { length moved.new.items ≡ length moved.old.items }
-    ensures noted { (sums : ℕ → ℕ) → AreSums sums moved.old.items
-        → AreSums (λ g. sums g + times * moved_of g entry.now) moved.new.items }
+    ensures noted { (sums : ℕ → ℕ) → AreCappedSums sums moved.old.items
+        → AreCappedSums (λ g. sums g + times * moved_of g entry.now) moved.new.items }
 {
     match entry {
         Entry::MovedIn { child, objects } => add(moved, *child as usize, *objects, times),
@@ -49,8 +49,8 @@ fn note(moved: &mut Vec<u128>, entry: &Entry, times: usize)
 // Notes its entries.
 fn note_all(moved: &mut Vec<u128>, entries: &[Entry], times: usize)
     ensures count { length moved.new.items ≡ length moved.old.items }
-    ensures noted { (sums : ℕ → ℕ) → AreSums sums moved.old.items
-        → AreSums (λ g. sums g + times * sum_by (moved_of g) entries.now) moved.new.items }
+    ensures noted { (sums : ℕ → ℕ) → AreCappedSums sums moved.old.items
+        → AreCappedSums (λ g. sums g + times * sum_by (moved_of g) entries.now) moved.new.items }
 {
     for entry in entries {
         note(moved, entry, times);

@@ -6,7 +6,7 @@ ghost use Rattle.shr_case.specs.Places.{AreInOrder};
 ghost use Rattle.shr_model.specs.Groups.{IsTree};
 ghost use Rattle.shr_report.specs.Parts.{parents_of};
 ghost use Rattle.shr_audit_offlines.specs.Carried.{IsCarriedOf};
-ghost use Rattle.shr_audit_offlines.specs.Rows.{AreNotes, IsAlone, IsCarriedSo, IsCausedAt, IsMoveRight, IsMovedSo};
+ghost use Rattle.shr_audit_offlines.specs.Rows.{AreOfflineNotes, IsSoleSplicer, IsCarriedSo, IsOfflineCausedAt, IsMoveRight, IsMovedSo};
 
 use crate::above::{Whose, above_of, is_only};
 use crate::carried::carried_of;
@@ -35,7 +35,7 @@ pub(crate) struct Notes {
 pub(crate) fn noted(alloc: Global, script: &Script, report: &Report) -> Result<Notes, Memory>
     requires tree { IsTree (parents_of script.now) }
     requires order { AreInOrder report.now.places.items }
-    ensures { IfOk result (λ n. AreNotes script.now report.now n) }
+    ensures { IfOk result (λ n. AreOfflineNotes script.now report.now n) }
 {
     let moved = moved_of(alloc, report)?;
     let spliced = spliced_of(alloc, script, report)?;
@@ -49,8 +49,8 @@ pub(crate) fn noted(alloc: Global, script: &Script, report: &Report) -> Result<N
 
 // Whether nobody but a command of a worker that was done can have spliced lists of a group.
 fn is_alone(script: &Script, report: &Report, notes: &Notes, worker: usize, group: u16) -> bool
-    requires { AreNotes script.now report.now notes.now }
-    ensures { Decides result (IsAlone script.now report.now worker group) }
+    requires { AreOfflineNotes script.now report.now notes.now }
+    ensures { Decides result (IsSoleSplicer script.now report.now worker group) }
 {
     if notes.spliced[group as usize] {
         return false;
@@ -68,7 +68,7 @@ fn is_move_right(
     group: u16,
     moved: u64,
 ) -> bool
-    requires { AreNotes script.now report.now notes.now }
+    requires { AreOfflineNotes script.now report.now notes.now }
     ensures { Decides result (IsMoveRight script.now report.now worker group moved) }
 {
     let whole = notes.moved[group as usize];
@@ -92,7 +92,7 @@ fn is_moved_so(
     group: Option<u16>,
     reply: &Reply,
 ) -> bool
-    requires { AreNotes script.now report.now notes.now }
+    requires { AreOfflineNotes script.now report.now notes.now }
     ensures { Decides result (IsMovedSo script.now report.now worker group reply.now) }
 {
     let Reply::OfflineDone { entry, moved, .. } = reply else {
@@ -134,9 +134,9 @@ fn is_caused_at(
     worker: usize,
     number: usize,
 ) -> bool
-    requires notes { AreNotes script.now report.now notes.now }
+    requires notes { AreOfflineNotes script.now report.now notes.now }
     requires carried { IsCarriedOf report.now worker carried.now.items }
-    ensures { Decides result (IsCausedAt script.now report.now worker number) }
+    ensures { Decides result (IsOfflineCausedAt script.now report.now worker number) }
 {
     let Some(command) = command_of(script, worker, number) else {
         return true;
@@ -159,8 +159,8 @@ fn is_worker_caused(
     notes: &Notes,
     worker: usize,
 ) -> Result<bool, Memory>
-    requires { AreNotes script.now report.now notes.now }
-    ensures { IfOk result (λ b. Decides b ((k : ℕ) → IsCausedAt script.now report.now worker k)) }
+    requires { AreOfflineNotes script.now report.now notes.now }
+    ensures { IfOk result (λ b. Decides b ((k : ℕ) → IsOfflineCausedAt script.now report.now worker k)) }
 {
     let carried = carried_of(alloc, report, worker)?;
     for number in 0..count_answers(report, worker) {
@@ -178,9 +178,9 @@ pub(crate) fn are_caused(
     report: &Report,
     notes: &Notes,
 ) -> Result<bool, Memory>
-    requires { AreNotes script.now report.now notes.now }
+    requires { AreOfflineNotes script.now report.now notes.now }
     ensures { IfOk result (λ b. Decides b ((worker k : ℕ)
-        → IsCausedAt script.now report.now worker k)) }
+        → IsOfflineCausedAt script.now report.now worker k)) }
 {
     for worker in 0..report.workers.len() {
         let caused = is_worker_caused(alloc, script, report, notes, worker)?;

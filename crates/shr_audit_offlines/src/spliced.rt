@@ -5,7 +5,7 @@ ghost use Rattle.std.specs.Bool.{Decides};
 ghost use Rattle.shr_base.specs.declared.scripts.Command.TheVariants.{Offline};
 ghost use Rattle.shr_report.specs.Causes.{IsOffline, MayHaveSpliced};
 ghost use Rattle.shr_report.specs.Parts.{serial_of};
-ghost use Rattle.shr_audit_offlines.specs.Spliced.{AreSpliced, NotesWorker, with_group};
+ghost use Rattle.shr_audit_offlines.specs.Spliced.{HasSplicedGroups, NotesWorkerSpliced, with_spliced_group};
 
 use shr_audit_replies::numbers::{answer_of, command_of, count_answers};
 use shr_base::memory::Memory;
@@ -55,7 +55,7 @@ fn splices_at(script: &Script, report: &Report, worker: usize, number: usize) ->
 
 // Notes a group.
 fn note(spliced: &mut Vec<bool>, group: Option<u16>)
-    ensures { spliced.new.items ≡ with_group group spliced.old.items }
+    ensures { spliced.new.items ≡ with_spliced_group group spliced.old.items }
 {
     let Some(group) = group else {
         return;
@@ -75,7 +75,7 @@ fn nothing(alloc: Global, count: usize) -> Result<Vec<bool>, Memory>
 
 // Notes the groups of a worker's commands.
 fn note_worker(spliced: &mut Vec<bool>, script: &Script, report: &Report, worker: usize)
-    ensures { NotesWorker script.now report.now worker spliced.old.items spliced.new.items }
+    ensures { NotesWorkerSpliced script.now report.now worker spliced.old.items spliced.new.items }
 {
     for number in 0..count_answers(report, worker) {
         let group = splices_at(script, report, worker, number);
@@ -89,7 +89,7 @@ pub(crate) fn spliced_of(
     script: &Script,
     report: &Report,
 ) -> Result<Vec<bool>, Memory>
-    ensures { IfOk result (λ spliced. AreSpliced script.now report.now spliced.items) }
+    ensures { IfOk result (λ spliced. HasSplicedGroups script.now report.now spliced.items) }
 {
     let mut spliced = nothing(alloc, 65536)?;
     for worker in 0..report.workers.len() {

@@ -1,7 +1,5 @@
 -- Whether a place is printed once, and whether answers cite such places.
-use Rattle.shr_audit_once.proofs.Common.{◌≡◌, ℕ, zero, suc, ◌+◌, ◌<◌, ◌≤◌, List, [], ◌∷◌, length, get_or, Some, refl, sym, subst, ◌∙◌, inl, inr, arith, slice_get, Decides, PlaceEnd, Place, AreInOrder, IsCitedOnceAt, IsPrintedOnce}
-use Rattle.std.proofs.Common.{Bool, true, false, Option, None, ap}
-use Rattle.std.specs.Prelude.{not, option_and_then, option_map}
+use Rattle.shr_audit_once.proofs.Common.{◌≡◌, ℕ, zero, suc, ◌+◌, ◌<◌, ◌≤◌, List, [], ◌∷◌, length, get_or, Some, refl, sym, subst, ◌∙◌, inl, inr, arith, slice_get, Decides, PlaceEnd, Place, AreInOrder, IsCitedOnceAt, IsPrintedOnce, Bool, true, false, Option, None, ap, not, option_and_then, option_map, IsFirst, IsIndexOf, end_printed}
 use Rattle.std.proofs.lemmas.Bool.{cases_Bool, cases_lt}
 use Rattle.std.proofs.lemmas.Option.{get_or_from_slice_get, slice_get-get_or, slice_get_past, slice_get_within}
 use Rattle.shr_base.specs.declared.ends.WorkerPart.{WorkerPart}
@@ -9,7 +7,6 @@ use Rattle.shr_base.specs.declared.places.At.{At}
 use Rattle.shr_base.specs.declared.replies.Answered.{Answered}
 use Rattle.shr_model.specs.Places.{is_place}
 use Rattle.shr_model.proofs.PlacesLaws.{is_place_same}
-use Rattle.shr_case.specs.Places.{IsFirst, IsIndexOf, end_of}
 use Rattle.shr_case.proofs.Firsts.{first_found, found_or_none, none_first, some_is}
 use Rattle.shr_report.specs.declared.report.Report.{Report}
 use Rattle.shr_report.specs.Parts.{answer_at, answers_in, answers_of, cited_at, cited_by, serial_of}
@@ -19,17 +16,17 @@ none_some : {X : Type 0} (x : X) → ◌≡◌ {A = Option X} None (Some x) → 
 none_some x e = cc
 
 -- a place that isn't found is printed nowhere
-none_all : (ends : List PlaceEnd) (place : Place) (k : ℕ) (end : PlaceEnd) → end_of ends place ≡ None → slice_get ends k ≡ Some end → end.place ≡ place → ⊥
+none_all : (ends : List PlaceEnd) (place : Place) (k : ℕ) (end : PlaceEnd) → end_printed ends place ≡ None → slice_get ends k ≡ Some end → end.place ≡ place → ⊥
 none_all [] place k end none at same = let lt = slice_get_within [] k end at in absurd (omega (arith, lt))
 none_all (e ∷ es) place zero end none at same =
     let here : e.place ≡ place = ap (λ (x : PlaceEnd). x.place) (some_is e end at) ∙ same in
     none_some e (sym none ∙ first_found (e ∷ es) place 0 e refl here (none_first (e ∷ es) place))
 none_all (e ∷ es) place (suc k) end none at same = elim (cases_Bool (is_place e.place place)) [
   | inl own ↦ none_some e (sym none ∙ first_found (e ∷ es) place 0 e refl (is_place_same e.place place own) (none_first (e ∷ es) place))
-  | inr other ↦ none_all es place k end (let step : end_of (e ∷ es) place ≡ end_of es place = rw other refl in sym step ∙ none) at same
+  | inr other ↦ none_all es place k end (let step : end_printed (e ∷ es) place ≡ end_printed es place = rw other refl in sym step ∙ none) at same
 ]
 
-pub none_printed : (ends : List PlaceEnd) (place : Place) → end_of ends place ≡ None → Decides true (IsPrintedOnce ends place)
+pub none_printed : (ends : List PlaceEnd) (place : Place) → end_printed ends place ≡ None → Decides true (IsPrintedOnce ends place)
 none_printed ends place none = (λ t k end at same. absurd (none_all ends place k end none at same), λ h. refl)
 
 -- the list at the index of a place is printed for it

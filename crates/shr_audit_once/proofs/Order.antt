@@ -1,6 +1,5 @@
 -- Lists in the order of their places.
-use Rattle.shr_audit_once.proofs.Common.{◌≡◌, ℕ, zero, suc, ◌+◌, ◌<◌, List, length, get_or, sym, subst, ◌∙◌, inl, inr, arith, Place, PlaceEnd, AreInOrder}
-use Rattle.std.proofs.Common.{◌-◌}
+use Rattle.shr_audit_once.proofs.Common.{◌≡◌, ℕ, zero, suc, ◌+◌, ◌<◌, List, length, get_or, sym, subst, ◌∙◌, inl, inr, arith, Place, PlaceEnd, AreInOrder, ◌-◌}
 use Rattle.shr_report.specs.WellFormed.{IsPlaceBefore, IsPlaceUpTo}
 use Rattle.shr_case.proofs.Order.{before_up_to}
 

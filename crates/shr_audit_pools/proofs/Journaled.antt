@@ -1,13 +1,6 @@
 -- Journals of pools, entry by entry, and journals that stand next to one another.
-use Rattle.shr_audit_pools.proofs.Common.{◌≡◌, ◌≢◌, ◌⊎◌, inl, inr, ℕ, zero, suc, ◌+◌, ◌-◌, ◌<◌, Bool, false, List, [], ◌∷◌, ◌++◌, length, get_or, take, drop, Some, refl, sym, ap, subst, ◌∙◌, arith, slice_get, Decides, cases_order, drop_more, take-append-drop, take_more, slice_get_within, slice_get-get_or, UnitsEnd, PlainEntry, Place, Script, IsPlainJournal, free_of, Report, AreUnitsRight, IsPlaceUpTo, IsWellFormed, units_place, Each, each_in, lists_of, AreJournalsRight}
-use Rattle.std.proofs.lemmas.List.{append_assoc}
-use Rattle.std.proofs.lemmas.List.Sums.{fold-append}
+use Rattle.shr_audit_pools.proofs.Common.{◌≡◌, ◌≢◌, ◌⊎◌, inl, inr, ℕ, zero, suc, ◌+◌, ◌-◌, ◌<◌, Bool, false, List, [], ◌∷◌, ◌++◌, length, get_or, take, drop, Some, refl, sym, ap, subst, ◌∙◌, arith, slice_get, Decides, cases_order, drop_more, take-append-drop, take_more, slice_get_within, slice_get-get_or, UnitsEnd, PlainEntry, Place, Script, IsPlainJournal, free_of, Report, AreUnitsRight, IsPlaceUpTo, IsWellFormed, units_place, EachItem, each_in, lists_of, AreJournalsRight, append_assoc, fold-append, IsPlainEntry, free_after, IsPlaceBefore, Adjacent, all_of, clash, AreApart}
 use Rattle.shr_model.specs.Follow.{Follow}
-use Rattle.shr_model.specs.Units.{IsPlainEntry, free_after}
-use Rattle.shr_report.specs.WellFormed.{IsPlaceBefore}
-use Rattle.shr_formed.specs.Each.{Adjacent}
-use Rattle.shr_formed.proofs.Eachs.{all_of, clash}
-use Rattle.shr_audit_pools.specs.Journals.{AreApart}
 use Rattle.shr_case.proofs.Order.{not_itself, before_before}
 
 -- ---- entries behind others
@@ -80,17 +73,17 @@ pub apart_from : (ends : List UnitsEnd) → ((i j : ℕ) (u v : UnitsEnd) → sl
 apart_from ends once n u v at there same = let e = once n (n + 1) u v at there same in omega (arith, e)
 
 -- the two fields
-pub journals_decided : (s : Script) (r : Report) (ends : List UnitsEnd) (b : Bool) → IsWellFormed r → ends ≡ r.units.items → Each (AreUnitsRight s) ends → Decides b (AreApart ends) → Decides b (AreJournalsRight s r)
+pub journals_decided : (s : Script) (r : Report) (ends : List UnitsEnd) (b : Bool) → IsWellFormed r → ends ≡ r.units.items → EachItem (AreUnitsRight s) ends → Decides b (AreApart ends) → Decides b (AreJournalsRight s r)
 journals_decided s r ends b well same rights aparts = (
   λ u. record {
-    units = all_of (AreUnitsRight s) r.units.items (subst (Each (AreUnitsRight s)) same rights);
+    units = all_of (AreUnitsRight s) r.units.items (subst (EachItem (AreUnitsRight s)) same rights);
     once = once_from r.units.items (lists_of r well).1.1.1 (subst AreApart same (aparts.0 u));
   },
   λ h. aparts.1 (subst AreApart (sym same) (apart_from r.units.items h.once)),
 )
 
-pub journals_wrong : (s : Script) (r : Report) (ends : List UnitsEnd) (a : Bool) → ends ≡ r.units.items → Decides a (Each (AreUnitsRight s) ends) → a ≡ false → Decides a (AreJournalsRight s r)
+pub journals_wrong : (s : Script) (r : Report) (ends : List UnitsEnd) (a : Bool) → ends ≡ r.units.items → Decides a (EachItem (AreUnitsRight s) ends) → a ≡ false → Decides a (AreJournalsRight s r)
 journals_wrong s r ends a same rights f = (
   λ t. absurd (clash a t f),
-  λ h. rights.1 (subst (Each (AreUnitsRight s)) (sym same) (each_in (AreUnitsRight s) r.units.items h.units)),
+  λ h. rights.1 (subst (EachItem (AreUnitsRight s)) (sym same) (each_in (AreUnitsRight s) r.units.items h.units)),
 )

@@ -1,17 +1,9 @@
 -- The fields of the law on pools, put together.
-use Rattle.shr_audit_pools.proofs.Common.{◌≡◌, ◌≢◌, ◌⊎◌, inl, inr, ℕ, zero, suc, ◌+◌, ◌-◌, ◌<◌, ◌≤◌, Bool, true, false, cond, List, [], ◌∷◌, ◌++◌, length, get_or, take, drop, map, Option, Some, None, refl, sym, ap, subst, ◌∙◌, arith, flat_map, option_and_then, option_map, option_to_list, slice_get, Decides, AllByRecursion, drop_more, get_or_append_left, length-append, take-append-drop, take_all, take_more, IsNonDecreasingBy-from_all_adjacent, all_adjacent_from_non_decreasing, flat_map-append, get_or-append_seam, get_or_from_slice_get, same_Some, slice_get_within, PlaceAmount, UnitsEnd, WorkerPart, At, Place, Answered, Reply, Script, PlainAnswer, PlainTry, PlainWalk, is_place_same, is_place_itself, is_place, Report, HasNumbers, at, AreUnitsRight, HasTries, IsPlainLawful, IsPoolReply, plain_versions, version_in, EachUnits, place_at, pool_place, units_cited, IsPlaceUpTo, IsPoolAmountWell, IsWellFormed, units_place, each_in, fails, lists_of, IsEntryRight, AreJournalsRight, AreUpTo, IsPartVersed, asked_of, cited_in, AreWordsRight, units_key}
-use Rattle.std.proofs.lemmas.List.Sorted.{IsNonDecreasingBy-push}
+use Rattle.shr_audit_pools.proofs.Common.{◌≡◌, ◌≢◌, ◌⊎◌, inl, inr, ℕ, zero, suc, ◌+◌, ◌-◌, ◌<◌, ◌≤◌, Bool, true, false, cond, List, [], ◌∷◌, ◌++◌, length, get_or, take, drop, map, Option, Some, None, refl, sym, ap, subst, ◌∙◌, arith, flat_map, option_and_then, option_map, option_to_list, slice_get, Decides, AllByRecursion, drop_more, get_or_append_left, length-append, take-append-drop, take_all, take_more, IsNonDecreasingBy-from_all_adjacent, all_adjacent_from_non_decreasing, flat_map-append, get_or-append_seam, get_or_from_slice_get, same_Some, slice_get_within, PlaceAmount, UnitsEnd, WorkerPart, At, Place, Answered, Reply, Script, PlainAnswer, PlainTry, PlainWalk, is_place_same, is_place_itself, is_place, Report, HasNumbers, at, AreUnitsRight, HasTries, IsPlainLawful, IsPoolReply, plain_versions, version_in, EachUnits, units_place_at, pool_place, units_cited, IsPlaceUpTo, IsPoolAmountWell, IsWellFormed, units_place, each_in, fails, lists_of, IsEntryRight, AreJournalsRight, AreUpTo, IsPartVersed, cited_or_next, cited_at_reply, ArePoolWordsRight, units_key, IsNonDecreasingBy-push, AreUnitsNumbered, answers_in, reply_at, serial_of, EachAnswer, ArePoolsLawful, EachPlain, plain_by, plain_due, plain_in, plain_job_of, plain_of, units_cited_at, AreNotFalling, AreAllRising, AreAllVersed, HaveFewTries, AreKept}
 use Rattle.shr_base.specs.declared.replies.Reply.TheVariants.{Released, Full, Grabbed, Bare}
 use Rattle.shr_base.specs.declared.walks.PlainAnswer.TheVariants.{Walked, Memory}
-use Rattle.shr_report.specs.Numbers.{AreUnitsNumbered}
-use Rattle.shr_report.specs.Parts.{answers_in, reply_at, serial_of, EachAnswer}
-use Rattle.shr_report.specs.Pools.{ArePoolsLawful}
-use Rattle.shr_report.specs.UnitParts.{EachPlain, plain_by, plain_due, plain_in, plain_job_of, plain_of, units_cited_at}
-use Rattle.shr_report.specs.WellFormed.{AreNotFalling}
 use Rattle.shr_audit_due.specs.Due.{IsDue}
 use Rattle.shr_audit_pools.specs.Law.{AreCitesRight, AreWalksRight}
-use Rattle.shr_audit_pools.specs.Lows.{AreAllRising, AreAllVersed, HaveFewTries}
-use Rattle.shr_audit_pools.specs.Places.{AreKept}
 use Rattle.shr_audit_pools.proofs.Versed.{versions_push}
 
 -- ---- the journals
@@ -44,14 +36,14 @@ none_some x e = cc
 same_at : (p q : Place) (n m : ℕ) → ◌≡◌ {A = Option At} (Some (at p n)) (Some (at q m)) → p ≡ q
 same_at p q n m e = ap (λ (x : At). x.place) (same_Some (at p n) (at q m) e)
 
-own_place : (pool node : ℕ) (q : Place) → place_at pool node ≡ q → q ≡ place_at q.id q.node
-own_place pool node q e = subst (λ (x : Place). x ≡ place_at x.id x.node) e refl
+own_place : (pool node : ℕ) (q : Place) → units_place_at pool node ≡ q → q ≡ units_place_at q.id q.node
+own_place pool node q e = subst (λ (x : Place). x ≡ units_place_at x.id x.node) e refl
 
 -- a reply cites an entry of a place without a group
-placed : (x : Reply) (place : Place) (n : ℕ) → units_cited x ≡ Some (at place n) → place ≡ place_at place.id place.node
-placed (Released pool node entry) place n e = own_place pool node place (same_at (place_at pool node) place entry n e)
-placed (Grabbed pool node entry) place n e = own_place pool node place (same_at (place_at pool node) place entry n e)
-placed (Bare pool node entry) place n e = own_place pool node place (same_at (place_at pool node) place entry n e)
+placed : (x : Reply) (place : Place) (n : ℕ) → units_cited x ≡ Some (at place n) → place ≡ units_place_at place.id place.node
+placed (Released pool node entry) place n e = own_place pool node place (same_at (units_place_at pool node) place entry n e)
+placed (Grabbed pool node entry) place n e = own_place pool node place (same_at (units_place_at pool node) place entry n e)
+placed (Bare pool node entry) place n e = own_place pool node place (same_at (units_place_at pool node) place entry n e)
 placed x place n e = absurd (none_some (at place n) e)
 
 -- what a reply asks for is what it cites, or what it found full
@@ -59,13 +51,13 @@ pub record IsFullOf (x : Reply) (y : At) : Type 0 where
   pub free : ℕ
   pub is : x ≡ Full y.place.id y.place.node y.entry free
 
-asked_cases : (x : Reply) (y : At) → asked_of x ≡ Some y → (units_cited x ≡ Some y) ⊎ IsFullOf x y
+asked_cases : (x : Reply) (y : At) → cited_or_next x ≡ Some y → (units_cited x ≡ Some y) ⊎ IsFullOf x y
 asked_cases (Full pool node entries free) y e =
-    let same : at (place_at pool node) entries ≡ y = same_Some (at (place_at pool node) entries) y e in
+    let same : at (units_place_at pool node) entries ≡ y = same_Some (at (units_place_at pool node) entries) y e in
     inr (record { free = free; is = ap (λ (z : At). Full z.place.id z.place.node z.entry free) same })
 asked_cases x y e = inl e
 
-cited_by : {P : Type 0} (answers : List Answered) (k : ℕ) (y : At) → cited_in answers k ≡ Some y → ((a : Answered) → slice_get answers k ≡ Some a → units_cited a.reply ≡ Some y → P) → P
+cited_by : {P : Type 0} (answers : List Answered) (k : ℕ) (y : At) → cited_at_reply answers k ≡ Some y → ((a : Answered) → slice_get answers k ≡ Some a → units_cited a.reply ≡ Some y → P) → P
 cited_by {P} answers k y e then = by (slice_get answers k) refl e
   where
     by : (o : Option Answered) → slice_get answers k ≡ o → option_and_then units_cited (option_map (λ (a : Answered). a.reply) o) ≡ Some y → P
@@ -79,21 +71,21 @@ replied_by {P} answers k x e then = by (slice_get answers k) refl e
     by None here f = absurd (none_some x f)
     by (Some a) here f = then a here (same_Some a.reply x f)
 
-cited_from : (answers : List Answered) (k : ℕ) (a : Answered) (y : At) → slice_get answers k ≡ Some a → units_cited a.reply ≡ Some y → cited_in answers k ≡ Some y
+cited_from : (answers : List Answered) (k : ℕ) (a : Answered) (y : At) → slice_get answers k ≡ Some a → units_cited a.reply ≡ Some y → cited_at_reply answers k ≡ Some y
 cited_from answers k a y here e = ap (λ (o : Option Answered). option_and_then units_cited (option_map (λ (x : Answered). x.reply) o)) here ∙ e
 
 -- the answers of a worker by its part
-answers_at : (r : Report) (worker k : ℕ) (part : WorkerPart) → slice_get r.workers.items worker ≡ Some part → units_cited_at r (serial_of worker k) ≡ cited_in part.answers.items k
-answers_at r worker k part here = ap (λ (o : Option WorkerPart). cited_in (answers_in o) k) here
+answers_at : (r : Report) (worker k : ℕ) (part : WorkerPart) → slice_get r.workers.items worker ≡ Some part → units_cited_at r (serial_of worker k) ≡ cited_at_reply part.answers.items k
+answers_at r worker k part here = ap (λ (o : Option WorkerPart). cited_at_reply (answers_in o) k) here
 
 reply_here : (r : Report) (worker k : ℕ) (part : WorkerPart) → slice_get r.workers.items worker ≡ Some part → reply_at r (serial_of worker k) ≡ option_map (λ (a : Answered). a.reply) (slice_get part.answers.items k)
 reply_here r worker k part here = ap (λ (o : Option WorkerPart). option_map (λ (a : Answered). a.reply) (slice_get (answers_in o) k)) here
 
 -- a worker that cites has a part
-with_part : {P : Type 0} (r : Report) (worker k : ℕ) (y : At) → units_cited_at r (serial_of worker k) ≡ Some y → ((part : WorkerPart) → slice_get r.workers.items worker ≡ Some part → cited_in part.answers.items k ≡ Some y → P) → P
+with_part : {P : Type 0} (r : Report) (worker k : ℕ) (y : At) → units_cited_at r (serial_of worker k) ≡ Some y → ((part : WorkerPart) → slice_get r.workers.items worker ≡ Some part → cited_at_reply part.answers.items k ≡ Some y → P) → P
 with_part {P} r worker k y e then = by (slice_get r.workers.items worker) refl e
   where
-    by : (o : Option WorkerPart) → slice_get r.workers.items worker ≡ o → cited_in (answers_in o) k ≡ Some y → P
+    by : (o : Option WorkerPart) → slice_get r.workers.items worker ≡ o → cited_at_reply (answers_in o) k ≡ Some y → P
     by None here f = absurd (none_some y f)
     by (Some part) here f = then part here f
 
@@ -103,18 +95,18 @@ cites_decided s r b replies entries d = (
   λ h. d.1 (rising h),
 )
   where
-    moved : (answers : List Answered) (k n : ℕ) (place : Place) → place ≡ place_at place.id place.node → cited_in answers k ≡ Some (at place n) → cited_in answers k ≡ Some (at (place_at place.id place.node) n)
+    moved : (answers : List Answered) (k n : ℕ) (place : Place) → place ≡ units_place_at place.id place.node → cited_at_reply answers k ≡ Some (at place n) → cited_at_reply answers k ≡ Some (at (units_place_at place.id place.node) n)
     moved answers k n place own e = e ∙ ap (λ (q : Place). Some (at q n)) own
 
     rise : AreAllRising r.workers.items → (worker k later : ℕ) (place : Place) (n m : ℕ) → k < later → units_cited_at r (serial_of worker k) ≡ Some (at place n) → units_cited_at r (serial_of worker later) ≡ Some (at place m) → n < m
     rise up worker k later place n m lt first then = with_part r worker later (at place m) then (λ part here cited.
         cited_by part.answers.items later (at place m) cited (λ a at_later own.
         let q = placed a.reply place m own in
-        let asked : asked_of a.reply ≡ Some (at place m) = asked_cited a.reply (at place m) own in
+        let asked : cited_or_next a.reply ≡ Some (at place m) = asked_cited a.reply (at place m) own in
         up worker part here later a at_later place.id place.node m (asked ∙ ap (λ (x : Place). Some (at x m)) q) k n lt
         (moved part.answers.items k n place q (sym (answers_at r worker k part here) ∙ first))))
       where
-        asked_cited : (x : Reply) (y : At) → units_cited x ≡ Some y → asked_of x ≡ Some y
+        asked_cited : (x : Reply) (y : At) → units_cited x ≡ Some y → cited_or_next x ≡ Some y
         asked_cited (Full pool node entries free) y e = absurd (none_some y e)
         asked_cited x y e = e
 
@@ -122,17 +114,17 @@ cites_decided s r b replies entries d = (
     full up worker k later place n entries free lt first then = with_part r worker k (at place n) first (λ part here cited.
         replied_by part.answers.items later (Full place.id place.node entries free) (sym (reply_here r worker later part here) ∙ then) (λ a at_later is.
         cited_by part.answers.items k (at place n) cited (λ x at_k own.
-        up worker part here later a at_later place.id place.node entries (ap asked_of is) k n lt (moved part.answers.items k n place (placed x.reply place n own) cited))))
+        up worker part here later a at_later place.id place.node entries (ap cited_or_next is) k n lt (moved part.answers.items k n place (placed x.reply place n own) cited))))
 
     rising : AreCitesRight s r → AreAllRising r.workers.items
-    rising h worker part here k a at_k pool node n asked j i lt cited = by (asked_cases a.reply (at (place_at pool node) n) asked)
+    rising h worker part here k a at_k pool node n asked j i lt cited = by (asked_cases a.reply (at (units_place_at pool node) n) asked)
       where
-        before : units_cited_at r (serial_of worker j) ≡ Some (at (place_at pool node) i)
+        before : units_cited_at r (serial_of worker j) ≡ Some (at (units_place_at pool node) i)
         before = answers_at r worker j part here ∙ cited
 
-        by : (units_cited a.reply ≡ Some (at (place_at pool node) n)) ⊎ IsFullOf a.reply (at (place_at pool node) n) → i < n
-        by (inl own) = h.rise worker j k (place_at pool node) i n lt before (answers_at r worker k part here ∙ cited_from part.answers.items k a (at (place_at pool node) n) at_k own)
-        by (inr f) = h.full worker j k (place_at pool node) i n f.free lt before (reply_here r worker k part here ∙ (ap (option_map (λ (x : Answered). x.reply)) at_k ∙ ap (λ (x : Reply). Some x) f.is))
+        by : (units_cited a.reply ≡ Some (at (units_place_at pool node) n)) ⊎ IsFullOf a.reply (at (units_place_at pool node) n) → i < n
+        by (inl own) = h.rise worker j k (units_place_at pool node) i n lt before (answers_at r worker k part here ∙ cited_from part.answers.items k a (at (units_place_at pool node) n) at_k own)
+        by (inr f) = h.full worker j k (units_place_at pool node) i n f.free lt before (reply_here r worker k part here ∙ (ap (option_map (λ (x : Answered). x.reply)) at_k ∙ ap (λ (x : Reply). Some x) f.is))
 
 -- ---- versions
 
@@ -223,7 +215,7 @@ falling_all s part h place = subst (λ (ws : List PlainWalk). AreNotFalling (fla
 -- the two fields of a worker
 pub record IsPartLater (s : Script) (part : WorkerPart) : Type 0 where
   pub versions : (place : Place) → AreNotFalling (flat_map (plain_versions s place) part.plain.items)
-  pub later : (n : ℕ) (w : PlainWalk) → slice_get part.plain.items n ≡ Some w → (k entry : ℕ) (place : Place) → k < w.by.command → cited_in part.answers.items k ≡ Some (at place entry)
+  pub later : (n : ℕ) (w : PlainWalk) → slice_get part.plain.items n ≡ Some w → (k entry : ℕ) (place : Place) → k < w.by.command → cited_at_reply part.answers.items k ≡ Some (at place entry)
       → AllByRecursion (λ version. entry < version) (plain_versions s place w)
 
 later_from : (s : Script) (part : WorkerPart) → IsPartVersed s part → IsPartLater s part
@@ -284,7 +276,7 @@ few_tries s r few walks worker part here n w at_n = fewer w.answer (walks worker
     fewer (Memory freed) h = omega (arith, few, h)
 
 pub walks_decided : (s : Script) (r : Report) (b : Bool) → EachPlain r (IsPlainLawful s r) → EachAnswer s r (λ by c a. map plain_job_of (plain_by r by) ≡ plain_due s c a.reply) → EachPlain r (λ worker n w. IsDue s r w)
-    → AreAllVersed s r.workers.items → Decides b (AreWordsRight s r) → Decides b (AreWalksRight s r)
+    → AreAllVersed s r.workers.items → Decides b (ArePoolWordsRight s r) → Decides b (AreWalksRight s r)
 walks_decided s r b walks due commands versed d = (
   λ t. record { walks = walks; due = due; commands = commands; versions = all_versions s r versed; later = all_later s r versed; deferred = d.0 t },
   λ h. d.1 h.deferred,

@@ -1,20 +1,9 @@
 -- What is read of the journal of a pool.
-use Rattle.shr_audit_pools.proofs.Common.{◌≡◌, ◌⊎◌, inl, inr, ℕ, zero, suc, ◌+◌, ◌<◌, ◌≤◌, Bool, true, false, cond, List, [], ◌∷◌, ◌++◌, length, map, get_or, take, Option, Some, None, refl, sym, ap, subst, ◌∙◌, arith, ◌==◌, ◌&&◌, filter_map, nat_lt, nat_le, option_to_list, slice_get, cons_option, enumerate_from, IsPartitionedBy, cases_lt, nat_tests, get_or_append_left, length-append, take_all, take_more, filter_map-append, IsNonDecreasingBy-from_all_adjacent, IsPartitionedBy-ltb, all_adjacent_from_non_decreasing, same_Some, slice_get-get_or, slice_get_within, get_or-append_seam, UnitsEnd, PlainEntry, Place, free_of, Report, ReclaimMade, units_in, units_of, Each, below_of, Reclaimed, printed_at, AreStocksOf, all_reclaims, made_of}
-use Rattle.std.proofs.Common.{◌^◌}
-use Rattle.std.specs.Prelude.{filter, not}
-use Rattle.std.specs.List.Sorted.{IsNonDecreasingBy, IsStableByKey, ties}
+use Rattle.shr_audit_pools.proofs.Common.{◌≡◌, ◌⊎◌, inl, inr, ℕ, zero, suc, ◌+◌, ◌<◌, ◌≤◌, Bool, true, false, cond, List, [], ◌∷◌, ◌++◌, length, map, get_or, take, Option, Some, None, refl, sym, ap, subst, ◌∙◌, arith, ◌==◌, ◌&&◌, filter_map, nat_lt, nat_le, option_to_list, slice_get, cons_option, enumerate_from, IsPartitionedBy, cases_lt, nat_tests, get_or_append_left, length-append, take_all, take_more, filter_map-append, IsNonDecreasingBy-from_all_adjacent, IsPartitionedBy-ltb, all_adjacent_from_non_decreasing, same_Some, slice_get-get_or, slice_get_within, get_or-append_seam, UnitsEnd, PlainEntry, Place, free_of, Report, ReclaimMade, units_entries, units_journal, EachItem, below_of, Reclaimed, journal_printed_at, AreStocksOf, all_reclaims, made_of_reclaim, ◌^◌, filter, not, IsNonDecreasingBy, IsStableByKey, ties, length-take, IsPartitionedBy-leb, slice_get_cases, IsPlainEntryNumbered, reclaim_by, adjacent_in, AreFree, AreReclaims, IsStockOf, StandByWalk, reclaimed_of, walk_key, reclaims_with_key, last_get}
 use Rattle.std.specs.Ordering.{nat_cmp, is_lt}
 use Rattle.std.specs.declared.cmp.Ordering.TheVariants.{Less, Equal, Greater}
-use Rattle.std.proofs.lemmas.List.{length-take}
-use Rattle.std.proofs.lemmas.List.Sorted.{IsPartitionedBy-leb}
-use Rattle.std.proofs.lemmas.Option.{slice_get_cases}
 use Rattle.shr_base.specs.declared.journals.PlainEntry.TheVariants.{Release, Grab, Reclaim}
-use Rattle.shr_report.specs.Numbers.{IsPlainEntryNumbered}
-use Rattle.shr_report.specs.Pools.{reclaim_by}
-use Rattle.shr_formed.proofs.Eachs.{adjacent_in}
 use Rattle.shr_audit_pools.specs.declared.stock.Stock.{Stock}
-use Rattle.shr_audit_pools.specs.Stock.{AreFree, AreReclaims, IsStockOf, StandByWalk, reclaimed_of, walk_key, with_key}
-use Rattle.shr_formed.proofs.WellParts.{last_get}
 
 -- ---- how many units are free
 
@@ -82,11 +71,11 @@ wide_test worker walk w n a b = by (worker == w) (walk == n) (let ne : (walk == 
 abbrev walked : ℕ → ℕ → ℕ × PlainEntry → Option ReclaimMade
 walked w n e = reclaim_by w n e.0 e.1
 
-picked : (b : Bool) (x : Reclaimed) (xs : List Reclaimed) (ys : List ReclaimMade) → map made_of xs ≡ ys → map made_of (cond b (x ∷ xs) xs) ≡ cons_option (cond b (Some (made_of x)) None) ys
-picked true x xs ys e = ap (λ (zs : List ReclaimMade). made_of x ∷ zs) e
+picked : (b : Bool) (x : Reclaimed) (xs : List Reclaimed) (ys : List ReclaimMade) → map made_of_reclaim xs ≡ ys → map made_of_reclaim (cond b (x ∷ xs) xs) ≡ cons_option (cond b (Some (made_of_reclaim x)) None) ys
+picked true x xs ys e = ap (λ (zs : List ReclaimMade). made_of_reclaim x ∷ zs) e
 picked false x xs ys e = e
 
-keyed_from : (w n k : ℕ) (es : List PlainEntry) → n < 2 ^ 32 → Each IsPlainEntryNumbered es → map made_of (with_key (walk_key w n) (filter_map pick (enumerate_from k es))) ≡ filter_map (walked w n) (enumerate_from k es)
+keyed_from : (w n k : ℕ) (es : List PlainEntry) → n < 2 ^ 32 → EachItem IsPlainEntryNumbered es → map made_of_reclaim (reclaims_with_key (walk_key w n) (filter_map pick (enumerate_from k es))) ≡ filter_map (walked w n) (enumerate_from k es)
 keyed_from w n k [] small h = refl
 keyed_from w n k (Release by units ∷ es) small h = keyed_from w n (k + 1) es small (λ i x at. h (suc i) x at)
 keyed_from w n k (Grab by got ∷ es) small h = keyed_from w n (k + 1) es small (λ i x at. h (suc i) x at)
@@ -94,10 +83,10 @@ keyed_from w n k (Reclaim worker walk asked freed ∷ es) small h =
     let more = keyed_from w n (k + 1) es small (λ i x at. h (suc i) x at) in
     let x : Reclaimed = record { key = walk_key worker walk; number = k; asked = asked; freed = freed } in
     let fits = (h 0 (Reclaim worker walk asked freed) refl).1 in
-    picked (walk_key worker walk == walk_key w n) x (with_key (walk_key w n) (filter_map pick (enumerate_from (k + 1) es))) (filter_map (walked w n) (enumerate_from (k + 1) es)) more
-    ∙ ap (λ (b : Bool). cons_option (cond b (Some (made_of x)) None) (filter_map (walked w n) (enumerate_from (k + 1) es))) (key_test worker walk w n fits small)
+    picked (walk_key worker walk == walk_key w n) x (reclaims_with_key (walk_key w n) (filter_map pick (enumerate_from (k + 1) es))) (filter_map (walked w n) (enumerate_from (k + 1) es)) more
+    ∙ ap (λ (b : Bool). cons_option (cond b (Some (made_of_reclaim x)) None) (filter_map (walked w n) (enumerate_from (k + 1) es))) (key_test worker walk w n fits small)
 
-far_from : (w n k : ℕ) (es : List PlainEntry) → 2 ^ 32 ≤ n → Each IsPlainEntryNumbered es → filter_map (walked w n) (enumerate_from k es) ≡ []
+far_from : (w n k : ℕ) (es : List PlainEntry) → 2 ^ 32 ≤ n → EachItem IsPlainEntryNumbered es → filter_map (walked w n) (enumerate_from k es) ≡ []
 far_from w n k [] wide h = refl
 far_from w n k (Release by units ∷ es) wide h = far_from w n (k + 1) es wide (λ i x at. h (suc i) x at)
 far_from w n k (Grab by got ∷ es) wide h = far_from w n (k + 1) es wide (λ i x at. h (suc i) x at)
@@ -127,18 +116,18 @@ tied_test a b = ap (λ (t : Bool). not t && not (is_lt (nat_cmp b a))) (lower a 
     by_order : (not (nat_lt a b) && not (nat_lt b a)) ≡ (b == a)
     by_order = grind (arith, nat_tests)
 
-tied : (key : ℕ) (xs : List Reclaimed) → filter_ties key xs ≡ with_key key xs
+tied : (key : ℕ) (xs : List Reclaimed) → filter_ties key xs ≡ reclaims_with_key key xs
 tied key [] = refl
 tied key (x ∷ xs) =
     ap (λ (b : Bool). cond b (x ∷ filter_ties key xs) (filter_ties key xs)) (tied_test key x.key)
     ∙ ap (λ (ys : List Reclaimed). cond (x.key == key) (x ∷ ys) ys) (tied key xs)
 
 -- a stable sort by the walk keeps those of each walk in order
-pub reclaims_sorted : (entries : List PlainEntry) (xs ys : List Reclaimed) → Each IsPlainEntryNumbered entries → xs ≡ all_reclaims entries → IsNonDecreasingBy (λ (x : Reclaimed). x.key) ys → IsStableByKey (λ (x : Reclaimed). x.key) nat_cmp xs ys → AreReclaims entries ys
+pub reclaims_sorted : (entries : List PlainEntry) (xs ys : List Reclaimed) → EachItem IsPlainEntryNumbered entries → xs ≡ all_reclaims entries → IsNonDecreasingBy (λ (x : Reclaimed). x.key) ys → IsStableByKey (λ (x : Reclaimed). x.key) nat_cmp xs ys → AreReclaims entries ys
 reclaims_sorted entries xs ys numbered all up stable = record {
   stand = adjacent_in (λ (x y : Reclaimed). x.key ≤ y.key) ys (all_adjacent_from_non_decreasing (λ (x : Reclaimed). x.key) ys up);
   each = λ worker walk small.
-      ap (map made_of) (sym (tied (walk_key worker walk) ys) ∙ (stable (blank (walk_key worker walk)) ∙ (tied (walk_key worker walk) xs ∙ ap (with_key (walk_key worker walk)) all)))
+      ap (map made_of_reclaim) (sym (tied (walk_key worker walk) ys) ∙ (stable (blank (walk_key worker walk)) ∙ (tied (walk_key worker walk) xs ∙ ap (reclaims_with_key (walk_key worker walk)) all)))
       ∙ keyed_from worker walk 0 entries small numbered;
   far = λ worker walk wide. far_from worker walk 0 entries wide numbered;
 }
@@ -185,18 +174,18 @@ stocks_more ends i u es stocks after x lt is own pushed here before = record {
         subst (λ (z : Stock). IsStockOf v.entries.items z) same_x (subst (λ (zs : List PlainEntry). IsStockOf zs x) (own ∙ ap (λ (z : UnitsEnd). z.entries.items) same_u) here)
 
 -- what was read of the journal of a place is that of its journal
-pub stock_at : (r : Report) (ends : List UnitsEnd) (stocks : List Stock) (p : Place) (k : ℕ) (x : Stock) → ends ≡ r.units.items → AreStocksOf r.units.items stocks → k < length ends → slice_get ends k ≡ printed_at ends p → x ≡ get_or stocks k x → IsStockOf (units_of r p) x
+pub stock_at : (r : Report) (ends : List UnitsEnd) (stocks : List Stock) (p : Place) (k : ℕ) (x : Stock) → ends ≡ r.units.items → AreStocksOf r.units.items stocks → k < length ends → slice_get ends k ≡ journal_printed_at ends p → x ≡ get_or stocks k x → IsStockOf (units_journal r p) x
 stock_at r ends stocks p k x all h lt found is = by (slice_get_cases r.units.items k).1
   where
     within : k < length r.units.items
     within = subst (λ (us : List UnitsEnd). k < length us) all lt
 
-    here : slice_get r.units.items k ≡ printed_at r.units.items p
-    here = subst (λ (us : List UnitsEnd). slice_get us k ≡ printed_at us p) all found
+    here : slice_get r.units.items k ≡ journal_printed_at r.units.items p
+    here = subst (λ (us : List UnitsEnd). slice_get us k ≡ journal_printed_at us p) all found
 
     stock_k : slice_get stocks k ≡ Some x
     stock_k = slice_get-get_or stocks k x (let c = h.count in let w = within in omega (arith, c, w)) ∙ ap (λ (y : Stock). Some y) (sym is)
 
-    by : ((u : UnitsEnd) × (k < length r.units.items) × (slice_get r.units.items k ≡ Some u) × (get_or r.units.items k u ≡ u)) ⊎ ((length r.units.items ≤ k) × (slice_get r.units.items k ≡ None)) → IsStockOf (units_of r p) x
-    by (inl u) = subst (λ (o : Option UnitsEnd). IsStockOf (units_in o) x) (sym u.2 ∙ here) (h.each k u.0 x u.2 stock_k)
+    by : ((u : UnitsEnd) × (k < length r.units.items) × (slice_get r.units.items k ≡ Some u) × (get_or r.units.items k u ≡ u)) ⊎ ((length r.units.items ≤ k) × (slice_get r.units.items k ≡ None)) → IsStockOf (units_journal r p) x
+    by (inl u) = subst (λ (o : Option UnitsEnd). IsStockOf (units_entries o) x) (sym u.2 ∙ here) (h.each k u.0 x u.2 stock_k)
     by (inr past) = absurd (let w = within in let o = past.0 in omega (arith, w, o))

@@ -1,8 +1,5 @@
 -- Walks of the pools, try by try.
-use Rattle.shr_audit_pools.proofs.Common.{◌≡◌, ◌⊎◌, inl, inr, ℕ, ◌+◌, ◌<◌, ◌≤◌, Bool, true, false, List, length, get_or, Some, refl, sym, ap, subst, ◌∙◌, arith, slice_get, sum_by, Decides, cases_lt, same_Some, slice_get-get_or, slice_get_within, Place, PoolDecl, Script, PlainAnswer, PlainTry, PlainWalk, Report, HasTries, IsPlainLawful, freed_in, pool_place, fails, PoolPlace, IsTryRight, place_of}
-use Rattle.shr_report.specs.Pools.{IsKind, IsPlainCount, plain_told}
-use Rattle.shr_report.specs.UnitParts.{EachTry}
-use Rattle.shr_audit_pools.specs.Passes.{IsRunRight}
+use Rattle.shr_audit_pools.proofs.Common.{◌≡◌, ◌⊎◌, inl, inr, ℕ, ◌+◌, ◌<◌, ◌≤◌, Bool, true, false, List, length, get_or, Some, refl, sym, ap, subst, ◌∙◌, arith, slice_get, sum_by, Decides, cases_lt, same_Some, slice_get-get_or, slice_get_within, Place, PoolDecl, Script, PlainAnswer, PlainTry, PlainWalk, Report, HasTries, IsPlainLawful, freed_in_try, pool_place, fails, PoolPlace, IsTryRight, named_place, IsKind, IsPlainCount, plain_told, EachTry, IsRunRight}
 
 -- one try more
 pub try_more : (P : ℕ → PoolDecl → PlainTry → Type 0) (decls : List PoolDecl) (tries : List PlainTry) (i : ℕ) (d : PoolDecl) (x : PlainTry) → i < length decls → d ≡ get_or decls i d → i < length tries
@@ -39,8 +36,8 @@ tries_fail s w P decls tries i d x b decls_are tries_are lt is in_tries dec f =
 
 -- the same at the place that the code found
 pub try_step : (s : Script) (r : Report) (worker n : ℕ) (w : PlainWalk) (decls : List PoolDecl) (tries : List PlainTry) (i : ℕ) (d : PoolDecl) (x : PlainTry) (p : PoolPlace) → decls ≡ s.pools.items → tries ≡ w.tries.items → length w.tries.items ≤ length s.pools.items
-    → i < length tries → d ≡ get_or decls i d → place_of p ≡ pool_place s i w.node
-    → ((k : ℕ) (e : PoolDecl) (y : PlainTry) → k < i → slice_get decls k ≡ Some e → slice_get tries k ≡ Some y → IsTryRight r worker n w k (pool_place s k w.node) e y) → IsTryRight r worker n w i (place_of p) d (get_or tries i x)
+    → i < length tries → d ≡ get_or decls i d → named_place p ≡ pool_place s i w.node
+    → ((k : ℕ) (e : PoolDecl) (y : PlainTry) → k < i → slice_get decls k ≡ Some e → slice_get tries k ≡ Some y → IsTryRight r worker n w k (pool_place s k w.node) e y) → IsTryRight r worker n w i (named_place p) d (get_or tries i x)
     → (k : ℕ) (e : PoolDecl) (y : PlainTry) → k < i + 1 → slice_get decls k ≡ Some e → slice_get tries k ≡ Some y → IsTryRight r worker n w k (pool_place s k w.node) e y
 try_step s r worker n w decls tries i d x p decls_are tries_are few lt is home before here =
     try_more (λ (k : ℕ) (e : PoolDecl) (y : PlainTry). IsTryRight r worker n w k (pool_place s k w.node) e y) decls tries i d x (let a = ap length decls_are in let b = ap length tries_are in omega (arith, a, b, few, lt)) is lt before
@@ -53,8 +50,8 @@ try_decided r worker n w pool place d x b count kind run = (λ t. record { count
 
 -- ---- the walk
 
-pub freed_decided : (a : PlainAnswer) (told : ℕ) (xs ys : List PlainTry) (b : Bool) → told ≡ plain_told a → xs ≡ ys → Decides b (told ≡ sum_by freed_in xs) → Decides b (plain_told a ≡ sum_by freed_in ys)
-freed_decided a told xs ys b e f d = subst (λ (n : ℕ). Decides b (n ≡ sum_by freed_in ys)) e (subst (λ (zs : List PlainTry). Decides b (told ≡ sum_by freed_in zs)) f d)
+pub freed_decided : (a : PlainAnswer) (told : ℕ) (xs ys : List PlainTry) (b : Bool) → told ≡ plain_told a → xs ≡ ys → Decides b (told ≡ sum_by freed_in_try xs) → Decides b (plain_told a ≡ sum_by freed_in_try ys)
+freed_decided a told xs ys b e f d = subst (λ (n : ℕ). Decides b (n ≡ sum_by freed_in_try ys)) e (subst (λ (zs : List PlainTry). Decides b (told ≡ sum_by freed_in_try zs)) f d)
 
 abbrev Tries : Script → Report → ℕ → ℕ → PlainWalk → Type 0
 Tries s r worker n w = EachTry s w (λ pool place d x. IsTryRight r worker n w pool place d x)
@@ -69,7 +66,7 @@ tries_of s r worker n w h pool d x decl_k try_k = record {
 pub plain_fails : (s : Script) (r : Report) (worker n : ℕ) (w : PlainWalk) (a : Bool) → Decides a (Tries s r worker n w) → a ≡ false → Decides false (IsPlainLawful s r worker n w)
 plain_fails s r worker n w a d f = fails (Tries s r worker n w) (IsPlainLawful s r worker n w) a d f (tries_of s r worker n w)
 
-pub plain_decided : (s : Script) (r : Report) (worker n : ℕ) (w : PlainWalk) (b : Bool) → HasTries (length s.pools.items) w.answer (length w.tries.items) → Tries s r worker n w → Decides b (plain_told w.answer ≡ sum_by freed_in w.tries.items) → Decides b (IsPlainLawful s r worker n w)
+pub plain_decided : (s : Script) (r : Report) (worker n : ℕ) (w : PlainWalk) (b : Bool) → HasTries (length s.pools.items) w.answer (length w.tries.items) → Tries s r worker n w → Decides b (plain_told w.answer ≡ sum_by freed_in_try w.tries.items) → Decides b (IsPlainLawful s r worker n w)
 plain_decided s r worker n w b has tries d = (
   λ t. record {
     tries = has;

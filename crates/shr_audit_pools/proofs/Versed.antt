@@ -1,9 +1,6 @@
 -- The least numbers at places, walk by walk.
-use Rattle.shr_audit_pools.proofs.Common.{◌≡◌, ◌⊎◌, inl, inr, ℕ, ◌+◌, ◌<◌, ◌≤◌, Bool, true, false, cond, List, [], ◌∷◌, ◌++◌, length, get_or, take, Option, Some, None, refl, sym, ap, subst, ◌∙◌, arith, ◌==◌, ◌&&◌, flat_map, option_map, option_to_list, slice_get, Decides, AllByRecursion, cases_lt, flat_map-append, take_more, same_Some, slice_get-get_or, slice_get_within, WorkerPart, Place, Answered, PoolDecl, Script, PlainTry, PlainWalk, is_place, at, plain_versions, version_in, home_in, place_at, pool_place, PoolPlace, AreBelow, AreLowsOf, AreUpTo, IsBlank, IsPartVersed, IsVersed, Lows, NotesReplies, NotesTries, Raises, cited_in, key_of, place_of, item_fails, items_whole, here_at}
-use Rattle.std.proofs.lemmas.Bool.{eq-eqb, eqb-true}
-use Rattle.std.proofs.lemmas.List.{append-nil}
-use Rattle.shr_audit_pools.specs.Lows.{IsWalkHigh}
-use Rattle.shr_audit_due.specs.Due.{StandByCommand}
+use Rattle.shr_audit_pools.proofs.Common.{◌≡◌, ◌⊎◌, inl, inr, ℕ, ◌+◌, ◌<◌, ◌≤◌, Bool, true, false, cond, List, [], ◌∷◌, ◌++◌, length, get_or, take, Option, Some, None, refl, sym, ap, subst, ◌∙◌, arith, ◌==◌, ◌&&◌, flat_map, option_map, option_to_list, slice_get, Decides, AllByRecursion, cases_lt, flat_map-append, take_more, same_Some, slice_get-get_or, slice_get_within, WorkerPart, Place, Answered, PoolDecl, Script, PlainTry, PlainWalk, is_place, at, plain_versions, version_in, home_in, units_place_at, pool_place, PoolPlace, AreCitedBelow, AreLowsOf, AreUpTo, HasNoLows, IsPartVersed, IsVersed, Lows, NotesReplies, NotesTries, RaisesLow, cited_at_reply, pool_key, named_place, item_fails, items_whole, here_at, eq-eqb, eqb-true, append-nil, IsWalkHigh}
+use Rattle.shr_audit_due.specs.Due.{PoolWalksByCommand}
 use Rattle.shr_audit_pools.proofs.Risen.{blank_lows, key_parts}
 
 -- ---- the tries of a walk
@@ -11,10 +8,10 @@ use Rattle.shr_audit_pools.proofs.Risen.{blank_lows, key_parts}
 pub tries_none : (s : Script) (w : PlainWalk) (t : Lows) → NotesTries s w 0 t t
 tries_none s w t pool node m fits = (λ le. (le, λ x lt. absurd (omega (arith, lt))), λ h. h.0)
 
-pub tries_more : (s : Script) (w : PlainWalk) (i v : ℕ) (x : PlainTry) (p : PoolPlace) (old now new : Lows) → place_of p ≡ pool_place s i w.node → p.node < 256 → slice_get w.tries.items i ≡ Some x → v ≡ version_in x
-    → NotesTries s w i old now → Raises (key_of p.pool p.node) v now new → NotesTries s w (i + 1) old new
+pub tries_more : (s : Script) (w : PlainWalk) (i v : ℕ) (x : PlainTry) (p : PoolPlace) (old now new : Lows) → named_place p ≡ pool_place s i w.node → p.node < 256 → slice_get w.tries.items i ≡ Some x → v ≡ version_in x
+    → NotesTries s w i old now → RaisesLow (pool_key p.pool p.node) v now new → NotesTries s w (i + 1) old new
 tries_more s w i v x p old now new home small here version before raised pool node m fits =
-    let r = raised (key_of pool node) m in
+    let r = raised (pool_key pool node) m in
     let b = before pool node m fits in (
       λ le. ((b.0 (r.0 le).0).0, λ y lt there at_home. upper (b.0 (r.0 le).0).1 (r.0 le).1 y lt there at_home (cases_lt pool i)),
       λ h. r.1 (
@@ -32,7 +29,7 @@ tries_more s w i v x p old now new home small here version before raised pool no
     homes : (k : ℕ) → k ≡ i → p.node ≡ home_in (slice_get s.pools.items k) w.node
     homes k e = ap (λ (q : Place). q.node) home ∙ ap (λ (j : ℕ). home_in (slice_get s.pools.items j) w.node) (sym e)
 
-    upper : ((y : PlainTry) → pool < i → slice_get w.tries.items pool ≡ Some y → home_in (slice_get s.pools.items pool) w.node ≡ node → version_in y ≤ m) → (key_of pool node ≡ key_of p.pool p.node → v ≤ m)
+    upper : ((y : PlainTry) → pool < i → slice_get w.tries.items pool ≡ Some y → home_in (slice_get s.pools.items pool) w.node ≡ node → version_in y ≤ m) → (pool_key pool node ≡ pool_key p.pool p.node → v ≤ m)
         → (y : PlainTry) → pool < i + 1 → slice_get w.tries.items pool ≡ Some y → home_in (slice_get s.pools.items pool) w.node ≡ node → (pool < i) ⊎ (i ≤ pool) → version_in y ≤ m
     upper older raise y lt there at_home (inl less) = older y less there at_home
     upper older raise y lt there at_home (inr ge) =
@@ -44,7 +41,7 @@ tries_more s w i v x p old now new home small here version before raised pool no
 
 -- ---- the versions of a walk at a place
 
-home_test : (pool node home : ℕ) → is_place (place_at pool node) (place_at pool home) ≡ (node == home)
+home_test : (pool node home : ℕ) → is_place (units_place_at pool node) (units_place_at pool home) ≡ (node == home)
 home_test pool node home = by (pool == pool) (eq-eqb pool pool refl) (node == home)
   where
     by : (a : Bool) → a ≡ true → (b : Bool) → (a && b && true) ≡ b
@@ -53,17 +50,17 @@ home_test pool node home = by (pool == pool) (eq-eqb pool pool refl) (node == ho
     by false e b = absurd cc
 
 versions_from : (s : Script) (w : PlainWalk) (pool node m : ℕ) → ((x : PlainTry) → slice_get w.tries.items pool ≡ Some x → home_in (slice_get s.pools.items pool) w.node ≡ node → version_in x ≤ m)
-    → AllByRecursion (λ v. v ≤ m) (plain_versions s (place_at pool node) w)
-versions_from s w pool node m h = by (is_place (place_at pool node) (pool_place s pool w.node)) refl (slice_get w.tries.items pool) refl
+    → AllByRecursion (λ v. v ≤ m) (plain_versions s (units_place_at pool node) w)
+versions_from s w pool node m h = by (is_place (units_place_at pool node) (pool_place s pool w.node)) refl (slice_get w.tries.items pool) refl
   where
-    by : (b : Bool) → is_place (place_at pool node) (pool_place s pool w.node) ≡ b → (o : Option PlainTry) → slice_get w.tries.items pool ≡ o → AllByRecursion (λ v. v ≤ m) (option_to_list (option_map version_in (cond b o None)))
+    by : (b : Bool) → is_place (units_place_at pool node) (pool_place s pool w.node) ≡ b → (o : Option PlainTry) → slice_get w.tries.items pool ≡ o → AllByRecursion (λ v. v ≤ m) (option_to_list (option_map version_in (cond b o None)))
     by true own (Some x) e = (h x e (sym (eqb-true node (home_in (slice_get s.pools.items pool) w.node) (sym (home_test pool node (home_in (slice_get s.pools.items pool) w.node)) ∙ own))), tt)
     by true own None e = tt
     by false other o e = tt
 
-versions_at : (s : Script) (w : PlainWalk) (pool node m : ℕ) (x : PlainTry) → AllByRecursion (λ v. v ≤ m) (plain_versions s (place_at pool node) w) → slice_get w.tries.items pool ≡ Some x → home_in (slice_get s.pools.items pool) w.node ≡ node → version_in x ≤ m
+versions_at : (s : Script) (w : PlainWalk) (pool node m : ℕ) (x : PlainTry) → AllByRecursion (λ v. v ≤ m) (plain_versions s (units_place_at pool node) w) → slice_get w.tries.items pool ≡ Some x → home_in (slice_get s.pools.items pool) w.node ≡ node → version_in x ≤ m
 versions_at s w pool node m x all here home =
-    let own : is_place (place_at pool node) (pool_place s pool w.node) ≡ true = home_test pool node (home_in (slice_get s.pools.items pool) w.node) ∙ eq-eqb node (home_in (slice_get s.pools.items pool) w.node) (sym home) in
+    let own : is_place (units_place_at pool node) (pool_place s pool w.node) ≡ true = home_test pool node (home_in (slice_get s.pools.items pool) w.node) ∙ eq-eqb node (home_in (slice_get s.pools.items pool) w.node) (sym home) in
     (subst (λ (o : Option PlainTry). AllByRecursion (λ v. v ≤ m) (option_to_list (option_map version_in o))) (ap (λ (b : Bool). cond b (slice_get w.tries.items pool) None) own ∙ here) all).0
 
 -- ---- walks one after another
@@ -83,10 +80,10 @@ all_second m (x ∷ xs) ys h = all_second m xs ys h.1
 pub versions_push : (s : Script) (place : Place) (walks : List PlainWalk) (w : PlainWalk) → flat_map (plain_versions s place) (walks ++ w ∷ []) ≡ flat_map (plain_versions s place) walks ++ plain_versions s place w
 versions_push s place walks w = flat_map-append (plain_versions s place) walks (w ∷ []) ∙ ap (λ (vs : List ℕ). flat_map (plain_versions s place) walks ++ vs) (append-nil (plain_versions s place w))
 
-pub versed_none : (s : Script) (answers : List Answered) (walks : List PlainWalk) (t : Lows) → IsBlank t → AreLowsOf s answers 0 (take 0 walks) t
+pub versed_none : (s : Script) (answers : List Answered) (walks : List PlainWalk) (t : Lows) → HasNoLows t → AreLowsOf s answers 0 (take 0 walks) t
 versed_none s answers walks t blank pool node m fits =
     let l = blank_lows answers t blank pool node m fits in
-    (λ le. (l.0 le, subst (λ (ws : List PlainWalk). AreUpTo s ws (place_at pool node) m) (sym (none walks)) tt), λ h. l.1 h.0)
+    (λ le. (l.0 le, subst (λ (ws : List PlainWalk). AreUpTo s ws (units_place_at pool node) m) (sym (none walks)) tt), λ h. l.1 h.0)
   where
     none : (ws : List PlainWalk) → take 0 ws ≡ []
     none [] = refl
@@ -101,8 +98,8 @@ versed_replied s answers known command walks old new order lows noted pool node 
       λ h. n.1 (l.1 (λ k i lt cited. h.0 k i (omega (arith, lt, order)) cited, h.1), λ k i ge lt cited. h.0 k i lt cited),
     )
   where
-    by : AreBelow answers known (place_at pool node) m → ((k i : ℕ) → known ≤ k → k < command → cited_in answers k ≡ Some (at (place_at pool node) i) → i < m)
-        → (k i : ℕ) → k < command → cited_in answers k ≡ Some (at (place_at pool node) i) → (k < known) ⊎ (known ≤ k) → i < m
+    by : AreCitedBelow answers known (units_place_at pool node) m → ((k i : ℕ) → known ≤ k → k < command → cited_at_reply answers k ≡ Some (at (units_place_at pool node) i) → i < m)
+        → (k i : ℕ) → k < command → cited_at_reply answers k ≡ Some (at (units_place_at pool node) i) → (k < known) ⊎ (known ≤ k) → i < m
     by older newer k i lt cited (inl less) = older k i less cited
     by older newer k i lt cited (inr ge) = newer k i ge lt cited
 
@@ -111,18 +108,18 @@ pub versed_more : (s : Script) (answers : List Answered) (count : ℕ) (walks : 
 versed_more s answers count walks w old new lows noted pool node m fits =
     let l = lows pool node m fits in
     let n = noted pool node m fits in
-    let whole = versions_push s (place_at pool node) walks w in (
+    let whole = versions_push s (units_place_at pool node) walks w in (
       λ le. (
         (l.0 (n.0 le).0).0,
         subst (λ (vs : List ℕ). AllByRecursion (λ v. v ≤ m) vs) (sym whole)
-            (all_both m (flat_map (plain_versions s (place_at pool node)) walks) (plain_versions s (place_at pool node) w) (l.0 (n.0 le).0).1
+            (all_both m (flat_map (plain_versions s (units_place_at pool node)) walks) (plain_versions s (units_place_at pool node) w) (l.0 (n.0 le).0).1
             (versions_from s w pool node m (λ x here home. (n.0 le).1 x (within pool x here) here home))),
       ),
       λ h.
           let all = subst (λ (vs : List ℕ). AllByRecursion (λ v. v ≤ m) vs) whole h.1 in
           n.1 (
-            l.1 (h.0, all_first m (flat_map (plain_versions s (place_at pool node)) walks) (plain_versions s (place_at pool node) w) all),
-            λ x lt here home. versions_at s w pool node m x (all_second m (flat_map (plain_versions s (place_at pool node)) walks) (plain_versions s (place_at pool node) w) all) here home,
+            l.1 (h.0, all_first m (flat_map (plain_versions s (units_place_at pool node)) walks) (plain_versions s (units_place_at pool node) w) all),
+            λ x lt here home. versions_at s w pool node m x (all_second m (flat_map (plain_versions s (units_place_at pool node)) walks) (plain_versions s (units_place_at pool node) w) all) here home,
           ),
     )
   where
@@ -151,8 +148,8 @@ versed_decided s answers before w t b small lows d = (
 
 -- ---- as the code goes on
 
-pub tries_step : (s : Script) (w : PlainWalk) (tries : List PlainTry) (i v : ℕ) (d : PlainTry) (p : PoolPlace) (old now new : Lows) → tries ≡ w.tries.items → i < length tries → place_of p ≡ pool_place s i w.node → p.node < 256 → v ≡ version_in (get_or tries i d)
-    → NotesTries s w i old now → Raises (key_of p.pool p.node) v now new → NotesTries s w (i + 1) old new
+pub tries_step : (s : Script) (w : PlainWalk) (tries : List PlainTry) (i v : ℕ) (d : PlainTry) (p : PoolPlace) (old now new : Lows) → tries ≡ w.tries.items → i < length tries → named_place p ≡ pool_place s i w.node → p.node < 256 → v ≡ version_in (get_or tries i d)
+    → NotesTries s w i old now → RaisesLow (pool_key p.pool p.node) v now new → NotesTries s w (i + 1) old new
 tries_step s w tries i v d p old now new all lt home small version before raised =
     tries_more s w i v (get_or tries i d) p old now new home small (ap (λ (xs : List PlainTry). slice_get xs i) (sym all) ∙ slice_get-get_or tries i d lt) version before raised
 
@@ -180,5 +177,5 @@ part_whole s part walks answers i e f over before =
     (λ n w lt at_n. (of_part s part walks answers n w true e f (λ t. before n w lt at_n, λ h. refl)).0 refl)
 
 -- the next walk isn't of an earlier command
-pub later_command : (part : WorkerPart) (walks : List PlainWalk) (n : ℕ) (w : PlainWalk) → walks ≡ part.plain.items → StandByCommand part.plain.items → n < length walks → w ≡ get_or walks n w → (x : PlainWalk) → slice_get walks (n + 1) ≡ Some x → w.by.command ≤ x.by.command
+pub later_command : (part : WorkerPart) (walks : List PlainWalk) (n : ℕ) (w : PlainWalk) → walks ≡ part.plain.items → PoolWalksByCommand part.plain.items → n < length walks → w ≡ get_or walks n w → (x : PlainWalk) → slice_get walks (n + 1) ≡ Some x → w.by.command ≤ x.by.command
 later_command part walks n w e stand lt is x at_next = stand n w x (here_at walks part.plain.items n w e lt is) (ap (λ (ws : List PlainWalk). slice_get ws (n + 1)) (sym e) ∙ at_next)

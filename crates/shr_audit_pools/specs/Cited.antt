@@ -15,11 +15,11 @@ use Rattle.shr_report.specs.Pools.{IsOfPlain, IsPoolReply}
 use Rattle.shr_report.specs.UnitParts.{plain_by_of, units_cited_at}
 use Rattle.shr_report.specs.WellFormed.{units_place}
 use Rattle.shr_audit_pools.specs.declared.cites.Cite.{Cite}
-use Rattle.shr_audit_pools.specs.Places.{place_of}
+use Rattle.shr_audit_pools.specs.Places.{named_place}
 
 -- an entry of a pool's journal, as a reply names it
 abbrev pub cite_at : Cite → At
-cite_at c = at (place_of c.place) c.entry
+cite_at c = at (named_place c.place) c.entry
 
 -- the reply to the command with this number, if there is such a command, cites its entry or has its cause
 abbrev pub HasRight : Script → Report → ℕ → List Command → ℕ → Answered → Type 0

@@ -8,7 +8,7 @@ use Rattle.shr_model.specs.Units.{IsPlainJournal, free_of}
 use Rattle.shr_formed.specs.Each.{Adjacent}
 use Rattle.shr_report.specs.declared.report.Report.{Report}
 use Rattle.shr_report.specs.Pools.{AreUnitsRight}
-use Rattle.shr_report.specs.UnitParts.{pool_place, place_at}
+use Rattle.shr_report.specs.UnitParts.{pool_place, units_place_at}
 use Rattle.shr_report.specs.WellFormed.{units_place}
 
 -- each entry has the outcome that those before it leave it, and so many units are free behind the last
@@ -17,10 +17,10 @@ pub record Leaves (entries : List PlainEntry) (free : ℕ) : Type 0 where
   pub left : free ≡ free_of entries
 
 -- there is a pool with this number, and its units on this node are kept there
-pub record IsHome (s : Script) (pool node : ℕ) : Type 0 where
+pub record IsPoolHome (s : Script) (pool node : ℕ) : Type 0 where
   pub declared : pool < length s.pools.items
   pub within : node < s.nodes
-  pub home : pool_place s pool node ≡ place_at pool node
+  pub home : pool_place s pool node ≡ units_place_at pool node
 
 -- each two journals that stand next to one another are of two places
 abbrev pub AreApart : List UnitsEnd → Type 0

@@ -11,7 +11,7 @@ use Rattle.shr_report.specs.UnitParts.{EachPlain, EachUnits, plain_by, plain_due
 use Rattle.shr_report.specs.WellFormed.{AreNotFalling}
 use Rattle.shr_audit_pools.specs.Cited.{IsEntryRight}
 use Rattle.shr_audit_due.specs.Due.{IsDue}
-use Rattle.shr_audit_pools.specs.Moved.{AreWordsRight}
+use Rattle.shr_audit_pools.specs.Moved.{ArePoolWordsRight}
 
 -- the fields on replies about pools
 pub record AreCitesRight (s : Script) (r : Report) : Type 0 where
@@ -30,4 +30,4 @@ pub record AreWalksRight (s : Script) (r : Report) : Type 0 where
   pub versions : (worker : ℕ) (place : Place) → AreNotFalling (flat_map (plain_versions s place) (plain_of r worker))
   pub later : EachPlain r (λ worker n w. (k entry : ℕ) (place : Place) → k < w.by.command → units_cited_at r (serial_of worker k) ≡ Some (at place entry)
       → AllByRecursion (λ version. entry < version) (plain_versions s place w))
-  pub deferred : AreWordsRight s r
+  pub deferred : ArePoolWordsRight s r

@@ -10,32 +10,32 @@ use Rattle.shr_model.specs.Deferred.{deferred_word}
 use Rattle.shr_model.specs.Places.{is_place}
 use Rattle.shr_report.specs.declared.report.Report.{Report}
 use Rattle.shr_report.specs.Pools.{pool_printed_at}
-use Rattle.shr_report.specs.UnitParts.{pass_at, pass_in, passes_in, pool_place}
+use Rattle.shr_report.specs.UnitParts.{pass_at, pass_in, pool_passes, pool_place}
 
 -- what this says of a pass, 0 where there is none
-abbrev pub part_of : (PassRecord → ℕ) → Option PassRecord → ℕ
-part_of f None = 0
-part_of f (Some p) = f p
+abbrev pub said_of_pass : (PassRecord → ℕ) → Option PassRecord → ℕ
+said_of_pass f None = 0
+said_of_pass f (Some p) = f p
 
 -- the same of the pass of a walk at a place
 abbrev pub moved_at : (PassRecord → ℕ) → Script → Place → PlainWalk → ℕ
-moved_at f s place w = part_of f (pass_at s place w)
+moved_at f s place w = said_of_pass f (pass_at s place w)
 
 -- of the try of a walk at this pool, if it is at this place
-abbrev pub moved_in : (PassRecord → ℕ) → Script → Place → PlainWalk → ℕ → PlainTry → ℕ
-moved_in f s place w pool x = cond (is_place place (pool_place s pool w.node)) (part_of f (pass_in x)) 0
+abbrev pub moved_in_try : (PassRecord → ℕ) → Script → Place → PlainWalk → ℕ → PlainTry → ℕ
+moved_in_try f s place w pool x = cond (is_place place (pool_place s pool w.node)) (said_of_pass f (pass_in x)) 0
 
 -- what a pass deferred, and what it took over
-abbrev pub next_of : PassRecord → ℕ
-next_of p = p.next
+abbrev pub pass_next : PassRecord → ℕ
+pass_next p = p.next
 
 abbrev pub nr_of : PassRecord → ℕ
 nr_of p = p.nr
 
 -- what the walks of a worker came to at a place
-abbrev pub moved_by : (PassRecord → ℕ) → Script → Place → WorkerPart → ℕ
-moved_by f s place part = sum_by (moved_at f s place) part.plain.items
+abbrev pub moved_by_worker : (PassRecord → ℕ) → Script → Place → WorkerPart → ℕ
+moved_by_worker f s place part = sum_by (moved_at f s place) part.plain.items
 
 -- each deferred word of a pool is what the passes there deferred less what they took over
-abbrev pub AreWordsRight : Script → Report → Type 0
-AreWordsRight s r = (place : Place) → pool_printed_at r place ≡ deferred_word (sum_by (λ (p : PassRecord). p.next) (passes_in s r place)) (sum_by (λ (p : PassRecord). p.nr) (passes_in s r place))
+abbrev pub ArePoolWordsRight : Script → Report → Type 0
+ArePoolWordsRight s r = (place : Place) → pool_printed_at r place ≡ deferred_word (sum_by (λ (p : PassRecord). p.next) (pool_passes s r place)) (sum_by (λ (p : PassRecord). p.nr) (pool_passes s r place))

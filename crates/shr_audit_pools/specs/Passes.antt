@@ -11,16 +11,16 @@ use Rattle.shr_base.specs.declared.walks.PlainWalk.{PlainWalk}
 use Rattle.shr_model.specs.Pass.{batch_of, due_asks, total_of}
 use Rattle.shr_report.specs.declared.report.Report.{Report}
 use Rattle.shr_report.specs.Pools.{IsKind, IsLastTry, IsPlainCount, IsPlainPass, ReclaimMade, reclaims_by}
-use Rattle.shr_report.specs.UnitParts.{units_of}
+use Rattle.shr_report.specs.UnitParts.{units_journal}
 use Rattle.shr_audit_pools.specs.declared.stock.Reclaimed.{Reclaimed}
 
 -- a Reclaim asked for so many units, and stands at this number or behind it
-abbrev pub IsReclaimOf : ℕ → ℕ → Reclaimed → Type 0
-IsReclaimOf size version x = (x.asked ≡ size) × (version ≤ x.number)
+abbrev pub IsReclaimAfter : ℕ → ℕ → Reclaimed → Type 0
+IsReclaimAfter size version x = (x.asked ≡ size) × (version ≤ x.number)
 
 -- how many units it freed
-abbrev pub freed_of : Reclaimed → ℕ
-freed_of x = x.freed
+abbrev pub reclaim_freed : Reclaimed → ℕ
+reclaim_freed x = x.freed
 
 -- these are the Reclaims of a pass
 pub record AreReclaimsOf (d : PoolDecl) (priority : ℕ) (p : PassRecord) (reclaims : List ReclaimMade) : Type 0 where
@@ -34,7 +34,7 @@ IsCutRight w pool p = p.ending ≡ ending.NoRoom → IsLastTry w pool
 
 -- the pass of a try, if it ran one, is one of its pool
 abbrev pub IsRunRight : Report → ℕ → ℕ → PlainWalk → ℕ → Place → PoolDecl → PlainTry → Type 0
-IsRunRight r worker n w pool place d x = (p : PassRecord) → x ≡ Ran p → IsPlainPass r place d w.priority p (reclaims_by worker n (units_of r place)) × IsCutRight w pool p
+IsRunRight r worker n w pool place d x = (p : PassRecord) → x ≡ Ran p → IsPlainPass r place d w.priority p (reclaims_by worker n (units_journal r place)) × IsCutRight w pool p
 
 -- what the law asks of a try
 pub record IsTryRight (r : Report) (worker n : ℕ) (w : PlainWalk) (pool : ℕ) (place : Place) (d : PoolDecl) (x : PlainTry) : Type 0 where

@@ -15,8 +15,8 @@ abbrev pub walk_key : ℕ → ℕ → ℕ
 walk_key worker walk = 4294967296 * worker + walk
 
 -- a Reclaim as the law sees it
-abbrev pub made_of : Reclaimed → ReclaimMade
-made_of x = record { number = x.number; asked = x.asked; freed = x.freed }
+abbrev pub made_of_reclaim : Reclaimed → ReclaimMade
+made_of_reclaim x = record { number = x.number; asked = x.asked; freed = x.freed }
 
 -- the entry with this number, if it is a Reclaim
 abbrev pub reclaimed_of : ℕ → PlainEntry → Option Reclaimed
@@ -28,8 +28,8 @@ abbrev pub all_reclaims : List PlainEntry → List Reclaimed
 all_reclaims entries = filter_map (λ (e : ℕ × PlainEntry). reclaimed_of e.0 e.1) (enumerate_from 0 entries)
 
 -- those of a walk
-abbrev pub with_key : ℕ → List Reclaimed → List Reclaimed
-with_key key xs = filter (λ (x : Reclaimed). x.key == key) xs
+abbrev pub reclaims_with_key : ℕ → List Reclaimed → List Reclaimed
+reclaims_with_key key xs = filter (λ (x : Reclaimed). x.key == key) xs
 
 -- as the Reclaims stand that were read
 abbrev pub StandByWalk : List Reclaimed → Type 0
@@ -43,7 +43,7 @@ pub record AreFree (entries : List PlainEntry) (free : List ℕ) : Type 0 where
 -- the Reclaims of each walk of a journal, in order
 pub record AreReclaims (entries : List PlainEntry) (xs : List Reclaimed) : Type 0 where
   pub stand : StandByWalk xs
-  pub each : (worker walk : ℕ) → walk < 2 ^ 32 → map made_of (with_key (walk_key worker walk) xs) ≡ reclaims_by worker walk entries
+  pub each : (worker walk : ℕ) → walk < 2 ^ 32 → map made_of_reclaim (reclaims_with_key (walk_key worker walk) xs) ≡ reclaims_by worker walk entries
   pub far : (worker walk : ℕ) → 2 ^ 32 ≤ walk → reclaims_by worker walk entries ≡ []
 
 -- both

@@ -2,10 +2,10 @@
 
 ghost use Rattle.std.specs.Prelude.{◌≡◌, ◌<◌, Some, option_copied, option_map, slice_get, IfSome};
 ghost use Rattle.std.specs.Bool.{Decides};
-ghost use Rattle.shr_report.specs.UnitParts.{units_cited, units_cited_at, units_of};
+ghost use Rattle.shr_report.specs.UnitParts.{units_cited, units_cited_at, units_journal};
 ghost use Rattle.shr_report.specs.Parts.{at};
 ghost use Rattle.shr_audit_pools.specs.Cited.{cite_at};
-ghost use Rattle.shr_audit_pools.specs.Places.{AreKept, place_of};
+ghost use Rattle.shr_audit_pools.specs.Places.{AreKept, named_place};
 
 use crate::places::{PoolPlace, entries_at};
 use shr_base::journals::PlainEntry;
@@ -53,14 +53,14 @@ pub(crate) fn cited_by(reply: &Reply) -> Option<Cite>
 pub(crate) fn entry_at(report: &Report, cite: Cite) -> Option<&PlainEntry>
     requires { AreKept report.now }
     ensures { option_copied result
-        ≡ slice_get (units_of report.now (place_of cite.place)) cite.entry }
+        ≡ slice_get (units_journal report.now (named_place cite.place)) cite.entry }
 {
     entries_at(report, cite.place).get(cite.entry as usize)
 }
 
 // Whether the reply to a command cites the entry of a pool on a node with this number.
 pub(crate) fn is_cited(report: &Report, by: Serial, place: PoolPlace, number: usize) -> bool
-    ensures { Decides result (units_cited_at report.now by ≡ Some (at (place_of place) number)) }
+    ensures { Decides result (units_cited_at report.now by ≡ Some (at (named_place place) number)) }
 {
     let Some(answer) = answer_at(report, by) else {
         return false;

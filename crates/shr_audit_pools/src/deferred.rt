@@ -2,15 +2,15 @@
 
 ghost use Rattle.std.specs.Prelude.{◌≡◌, ◌≤◌, cond, length, sum_by, IfOk, OnOk};
 ghost use Rattle.std.specs.Bool.{Decides};
-ghost use Rattle.shr_formed.specs.Each.{Each};
+ghost use Rattle.shr_formed.specs.Each.{EachItem};
 ghost use Rattle.shr_model.specs.Places.{is_place};
 ghost use Rattle.shr_report.specs.Numbers.{HasNumbers};
 ghost use Rattle.shr_report.specs.UnitParts.{pass_in};
 ghost use Rattle.shr_report.specs.WellFormed.{IsWellFormed};
-ghost use Rattle.shr_sums.specs.Deferred.{Gains};
+ghost use Rattle.shr_sums.specs.Deferred.{GainsAtEach};
 ghost use Rattle.shr_audit_pools.specs.Lows.{HaveFewTries};
-ghost use Rattle.shr_audit_pools.specs.Moved.{AreWordsRight, moved_at, moved_by, next_of, nr_of, part_of};
-ghost use Rattle.shr_audit_pools.specs.Places.{place_of};
+ghost use Rattle.shr_audit_pools.specs.Moved.{ArePoolWordsRight, moved_at, moved_by_worker, pass_next, nr_of, said_of_pass};
+ghost use Rattle.shr_audit_pools.specs.Places.{named_place};
 
 use crate::places::{PoolPlace, home_of, key_of};
 use shr_base::ends::WorkerPart;
@@ -24,9 +24,9 @@ use std::alloc::Global;
 
 // Adds what the pass of a try at a place deferred, and what it took over, if it ran one.
 fn note_try(moves: &mut Vec<Move>, place: PoolPlace, tried: &PlainTry) -> Result<(), Memory>
-    ensures { OnOk result (Gains
-        (λ p. cond (is_place p (place_of place)) (part_of next_of (pass_in tried.now)) 0)
-        (λ p. cond (is_place p (place_of place)) (part_of nr_of (pass_in tried.now)) 0)
+    ensures { OnOk result (GainsAtEach
+        (λ p. cond (is_place p (named_place place)) (said_of_pass pass_next (pass_in tried.now)) 0)
+        (λ p. cond (is_place p (named_place place)) (said_of_pass nr_of (pass_in tried.now)) 0)
         moves.old.items moves.new.items) }
 {
     match tried {
@@ -46,7 +46,7 @@ fn note_try(moves: &mut Vec<Move>, place: PoolPlace, tried: &PlainTry) -> Result
 // The same of those of a walk of the pools.
 fn note_walk(script: &Script, moves: &mut Vec<Move>, walk: &PlainWalk) -> Result<(), Memory>
     requires { length walk.now.tries.items ≤ 256 }
-    ensures { OnOk result (Gains (λ p. moved_at next_of script.now p walk.now)
+    ensures { OnOk result (GainsAtEach (λ p. moved_at pass_next script.now p walk.now)
         (λ p. moved_at nr_of script.now p walk.now) moves.old.items moves.new.items) }
 {
     let tries = walk.tries.as_slice();
@@ -59,9 +59,9 @@ fn note_walk(script: &Script, moves: &mut Vec<Move>, walk: &PlainWalk) -> Result
 
 // The same of those of a worker.
 fn note_part(script: &Script, moves: &mut Vec<Move>, part: &WorkerPart) -> Result<(), Memory>
-    requires { Each (λ w. length w.tries.items ≤ 256) part.now.plain.items }
-    ensures { OnOk result (Gains (λ p. moved_by next_of script.now p part.now)
-        (λ p. moved_by nr_of script.now p part.now) moves.old.items moves.new.items) }
+    requires { EachItem (λ w. length w.tries.items ≤ 256) part.now.plain.items }
+    ensures { OnOk result (GainsAtEach (λ p. moved_by_worker pass_next script.now p part.now)
+        (λ p. moved_by_worker nr_of script.now p part.now) moves.old.items moves.new.items) }
 {
     for walk in part.plain.as_slice() {
         note_walk(script, moves, walk)?;
@@ -72,9 +72,9 @@ fn note_part(script: &Script, moves: &mut Vec<Move>, part: &WorkerPart) -> Resul
 // The same of all workers.
 fn note_parts(script: &Script, moves: &mut Vec<Move>, parts: &[WorkerPart]) -> Result<(), Memory>
     requires { HaveFewTries parts.now }
-    ensures { OnOk result (Gains
-        (λ p. sum_by (moved_by next_of script.now p) parts.now)
-        (λ p. sum_by (moved_by nr_of script.now p) parts.now)
+    ensures { OnOk result (GainsAtEach
+        (λ p. sum_by (moved_by_worker pass_next script.now p) parts.now)
+        (λ p. sum_by (moved_by_worker nr_of script.now p) parts.now)
         moves.old.items moves.new.items) }
 {
     for part in parts {
@@ -92,7 +92,7 @@ pub(crate) fn are_words_right(
     requires well { IsWellFormed report.now }
     requires numbers { HasNumbers report.now }
     requires few { HaveFewTries report.now.workers.items }
-    ensures { IfOk result (λ b. Decides b (AreWordsRight script.now report.now)) }
+    ensures { IfOk result (λ b. Decides b (ArePoolWordsRight script.now report.now)) }
 {
     let mut moves = Vec::new(alloc);
     note_words(&mut moves, report.pool_deferred.as_slice())?;

@@ -4,11 +4,11 @@
 ghost use Rattle.std.specs.Prelude.{◌≡◌, ℕ, ◌<◌, ⊤, Some, option_copied, length, slice_get};
 ghost use Rattle.std.specs.Bool.{Decides};
 ghost use Rattle.std.specs.Option.{IsSomeAnd, IsSome};
-ghost use Rattle.shr_formed.specs.Each.{Each};
+ghost use Rattle.shr_formed.specs.Each.{EachItem};
 ghost use Rattle.shr_report.specs.UnitParts.{EachUnits, pass_at, plain_at};
 ghost use Rattle.shr_report.specs.WellFormed.{units_place};
 ghost use Rattle.shr_audit_pools.specs.Cited.{AreEntriesRight, IsEntryRight};
-ghost use Rattle.shr_audit_pools.specs.Places.{AreKept, place_of};
+ghost use Rattle.shr_audit_pools.specs.Places.{AreKept, named_place};
 
 use crate::cites::is_cited;
 use crate::places::{PoolPlace, home_of};
@@ -30,7 +30,7 @@ fn plain_at(report: &Report, worker: u16, walk: u32) -> Option<&PlainWalk>
 
 // Whether a walk of the pools ran a pass at this place.
 fn has_passed(script: &Script, place: PoolPlace, walk: &PlainWalk) -> bool
-    ensures { Decides result (IsSomeAnd (pass_at script.now (place_of place) walk.now)
+    ensures { Decides result (IsSomeAnd (pass_at script.now (named_place place) walk.now)
         (λ p. ⊤)) }
 {
     place == home_of(script, place.pool, walk.node)
@@ -43,7 +43,7 @@ fn has_passed(script: &Script, place: PoolPlace, walk: &PlainWalk) -> bool
 // Whether there is a walk of the pools with these numbers, and it did.
 fn is_passed(script: &Script, report: &Report, place: PoolPlace, worker: u16, walk: u32) -> bool
     ensures { Decides result (IsSomeAnd (plain_at report.now worker walk)
-        (λ w. IsSomeAnd (pass_at script.now (place_of place) w) (λ p. ⊤))) }
+        (λ w. IsSomeAnd (pass_at script.now (named_place place) w) (λ p. ⊤))) }
 {
     match plain_at(report, worker, walk) {
         Some(walk) => has_passed(script, place, walk),
@@ -59,7 +59,7 @@ fn is_entry_right(
     number: usize,
     entry: &PlainEntry,
 ) -> bool
-    ensures { Decides result (IsEntryRight script.now report.now (place_of place) number
+    ensures { Decides result (IsEntryRight script.now report.now (named_place place) number
         entry.now) }
 {
     match *entry {

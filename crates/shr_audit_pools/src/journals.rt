@@ -3,11 +3,11 @@
 ghost use Rattle.std.specs.Prelude.{◌≡◌, ◌≢◌, ◌≤◌, List, IfSome, IfNone, MatchOption};
 ghost use Rattle.std.specs.Bool.{Decides};
 ghost use Rattle.shr_base.specs.declared.journals.PlainEntry.{PlainEntry};
-ghost use Rattle.shr_formed.specs.Each.{Each};
+ghost use Rattle.shr_formed.specs.Each.{EachItem};
 ghost use Rattle.shr_model.specs.Units.{IsPlainEntry, IsPlainJournal, free_after, free_of};
 ghost use Rattle.shr_report.specs.Pools.{AreUnitsRight};
 ghost use Rattle.shr_report.specs.WellFormed.{IsWellFormed, units_place};
-ghost use Rattle.shr_audit_pools.specs.Journals.{AreApart, AreJournalsRight, IsHome, Leaves};
+ghost use Rattle.shr_audit_pools.specs.Journals.{AreApart, AreJournalsRight, IsPoolHome, Leaves};
 
 use shr_base::ends::UnitsEnd;
 use shr_base::journals::PlainEntry;
@@ -71,7 +71,7 @@ fn leaves(entries: &[PlainEntry], free: u32) -> bool
 
 // Whether there is a pool with this number, of which this node is a home.
 fn is_home(script: &Script, pool: u8, node: u8) -> bool
-    ensures { Decides result (IsHome script.now pool node) }
+    ensures { Decides result (IsPoolHome script.now pool node) }
 {
     match script.pools.get(pool as usize) {
         Some(decl) => node < script.nodes && (!decl.flat || node == 0),
@@ -89,7 +89,7 @@ fn are_units_right(script: &Script, units: &UnitsEnd) -> bool
 
 // Whether each journal is.
 fn are_all_right(script: &Script, ends: &[UnitsEnd]) -> bool
-    ensures { Decides result (Each (AreUnitsRight script.now) ends.now) }
+    ensures { Decides result (EachItem (AreUnitsRight script.now) ends.now) }
 {
     for units in ends {
         if !are_units_right(script, units) {

@@ -1,8 +1,8 @@
 //! The least number that an entry or a version may have at each place.
 
 ghost use Rattle.std.specs.Prelude.{◌≡◌, OnOk};
-ghost use Rattle.shr_audit_pools.specs.Lows.{IsBlank, Raises, low_at};
-ghost use Rattle.shr_audit_pools.specs.Places.{key_of};
+ghost use Rattle.shr_audit_pools.specs.Lows.{HasNoLows, RaisesLow, low_at};
+ghost use Rattle.shr_audit_pools.specs.Places.{pool_key};
 
 use crate::places::{PoolPlace, key_of};
 use shr_base::memory::Memory;
@@ -11,14 +11,14 @@ use std::collections::HashMap;
 
 // A table that keeps none.
 pub(crate) fn no_lows(alloc: Global) -> HashMap<u64, u64>
-    ensures { IsBlank result }
+    ensures { HasNoLows result }
 {
     HashMap::new(alloc)
 }
 
 // The least number at a place.
 pub(crate) fn low_at(lows: &HashMap<u64, u64>, place: PoolPlace) -> u64
-    ensures { result ≡ low_at lows.now (key_of place.pool place.node) }
+    ensures { result ≡ low_at lows.now (pool_key place.pool place.node) }
 {
     let key = key_of(place) as u64;
     match lows.get(&key) {
@@ -29,7 +29,7 @@ pub(crate) fn low_at(lows: &HashMap<u64, u64>, place: PoolPlace) -> u64
 
 // Raises it, if it is below `to`.
 pub(crate) fn raise(lows: &mut HashMap<u64, u64>, place: PoolPlace, to: u64) -> Result<(), Memory>
-    ensures { OnOk result (Raises (key_of place.pool place.node) to lows.old lows.new) }
+    ensures { OnOk result (RaisesLow (pool_key place.pool place.node) to lows.old lows.new) }
 {
     if to <= low_at(lows, place) {
         return Ok(());

@@ -3,13 +3,13 @@
 ghost use Rattle.std.specs.Prelude.{◌≡◌, ℕ, length, map, sum_by};
 ghost use Rattle.std.specs.Bool.{Decides};
 ghost use Rattle.shr_base.specs.declared.places.Place.{Place};
-ghost use Rattle.shr_formed.specs.Each.{Each};
+ghost use Rattle.shr_formed.specs.Each.{EachItem};
 ghost use Rattle.shr_model.specs.Pass.{FollowsArithmetic};
 ghost use Rattle.shr_report.specs.declared.report.Report.{Report};
 ghost use Rattle.shr_report.specs.Pools.{IsPlainEnding, IsPlainPass};
-ghost use Rattle.shr_report.specs.UnitParts.{units_of};
-ghost use Rattle.shr_audit_pools.specs.Passes.{AreReclaimsOf, IsReclaimOf, freed_of};
-ghost use Rattle.shr_audit_pools.specs.Stock.{made_of};
+ghost use Rattle.shr_report.specs.UnitParts.{units_journal};
+ghost use Rattle.shr_audit_pools.specs.Passes.{AreReclaimsOf, IsReclaimAfter, reclaim_freed};
+ghost use Rattle.shr_audit_pools.specs.Stock.{made_of_reclaim};
 
 use crate::stock::Reclaimed;
 use shr_audit_walks::passes::{asks_due, follows};
@@ -18,14 +18,14 @@ use shr_base::walks::{Ending, PassRecord};
 
 // Whether a Reclaim asked for so many units, and stands at this number or behind it.
 fn is_reclaim_of(size: u64, version: u32, reclaimed: &Reclaimed) -> bool
-    ensures { Decides result (IsReclaimOf size version reclaimed.now) }
+    ensures { Decides result (IsReclaimAfter size version reclaimed.now) }
 {
     reclaimed.asked as u64 == size && version as usize <= reclaimed.number
 }
 
 // Whether each of these did.
 fn are_alike(size: u64, version: u32, reclaims: &[Reclaimed]) -> bool
-    ensures { Decides result (Each (IsReclaimOf size version) reclaims.now) }
+    ensures { Decides result (EachItem (IsReclaimAfter size version) reclaims.now) }
 {
     for reclaimed in reclaims {
         if !is_reclaim_of(size, version, reclaimed) {
@@ -37,7 +37,7 @@ fn are_alike(size: u64, version: u32, reclaims: &[Reclaimed]) -> bool
 
 // Whether these Reclaims freed so much.
 fn have_freed(reclaims: &[Reclaimed], told: u64) -> bool
-    ensures { Decides result (sum_by freed_of reclaims.now ≡ told) }
+    ensures { Decides result (sum_by reclaim_freed reclaims.now ≡ told) }
 {
     let mut left = told;
     for reclaimed in reclaims {
@@ -53,7 +53,7 @@ fn have_freed(reclaims: &[Reclaimed], told: u64) -> bool
 fn are_reclaims_of(decl: &PoolDecl, priority: u8, pass: &PassRecord, reclaims: &[Reclaimed]) -> bool
     requires { FollowsArithmetic priority decl.now.seeks decl.now.batch pass.now }
     ensures { Decides result (AreReclaimsOf decl.now priority pass.now
-        (map made_of reclaims.now)) }
+        (map made_of_reclaim reclaims.now)) }
 {
     let due = asks_due(priority, decl.seeks, decl.batch, pass);
     if reclaims.len() != pass.asks as usize {
@@ -68,7 +68,7 @@ fn are_reclaims_of(decl: &PoolDecl, priority: u8, pass: &PassRecord, reclaims: &
 
 // Whether a pass at a place with so many entries may end so.
 fn is_plain_ending(entries: usize, ending: Ending) -> bool
-    ensures { (r : Report) (place : Place) → entries ≡ length (units_of r place)
+    ensures { (r : Report) (place : Place) → entries ≡ length (units_journal r place)
         → Decides result (IsPlainEnding r place ending) }
 {
     match ending {
@@ -88,9 +88,9 @@ pub(crate) fn is_plain_pass(
     pass: &PassRecord,
     reclaims: &[Reclaimed],
 ) -> bool
-    ensures { (r : Report) (place : Place) → entries ≡ length (units_of r place)
+    ensures { (r : Report) (place : Place) → entries ≡ length (units_journal r place)
         → Decides result (IsPlainPass r place decl.now priority pass.now
-        (map made_of reclaims.now)) }
+        (map made_of_reclaim reclaims.now)) }
 {
     if !follows(priority, decl.seeks, decl.batch, pass) {
         return false;

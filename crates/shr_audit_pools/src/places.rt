@@ -3,8 +3,8 @@
 ghost use Rattle.std.specs.Prelude.{◌≡◌, ℕ, ◌<◌, ◌≤◌, length, slice_get, Some, None, IfSome, IfNone};
 ghost use Rattle.std.specs.Bool.{Decides};
 ghost use Rattle.shr_base.specs.declared.ends.UnitsEnd.{UnitsEnd};
-ghost use Rattle.shr_report.specs.UnitParts.{home_in, pool_place, units_of};
-ghost use Rattle.shr_audit_pools.specs.Places.{AreKept, AreShelved, key_of, place_of, printed_at, units_key};
+ghost use Rattle.shr_report.specs.UnitParts.{home_in, pool_place, units_journal};
+ghost use Rattle.shr_audit_pools.specs.Places.{AreKept, AreShelved, pool_key, named_place, journal_printed_at, units_key};
 
 use shr_base::ends::UnitsEnd;
 use shr_base::journals::PlainEntry;
@@ -20,7 +20,7 @@ pub struct PoolPlace {
 
 // A pool on a node by one number.
 pub(crate) fn key_of(place: PoolPlace) -> usize
-    ensures key { result ≡ key_of place.pool place.node }
+    ensures key { result ≡ pool_key place.pool place.node }
     ensures node { place.node < 256 }
 {
     256 * place.pool as usize + place.node as usize
@@ -48,8 +48,8 @@ fn index_from(ends: &[UnitsEnd], key: usize) -> usize
 pub(crate) fn index_of(ends: &[UnitsEnd], place: PoolPlace) -> Option<usize>
     requires { AreShelved ends.now }
     ensures within { IfSome result (λ k. k < length ends.now) }
-    ensures some { IfSome result (λ k. slice_get ends.now k ≡ printed_at ends.now (place_of place)) }
-    ensures none { IfNone result (printed_at ends.now (place_of place) ≡ None) }
+    ensures some { IfSome result (λ k. slice_get ends.now k ≡ journal_printed_at ends.now (named_place place)) }
+    ensures none { IfNone result (journal_printed_at ends.now (named_place place) ≡ None) }
 {
     let key = key_of(place);
     let k = index_from(ends, key);
@@ -66,7 +66,7 @@ pub(crate) fn index_of(ends: &[UnitsEnd], place: PoolPlace) -> Option<usize>
 // The journal of a pool on a node; one that isn't printed is empty.
 pub(crate) fn entries_at(report: &Report, place: PoolPlace) -> &[PlainEntry]
     requires { AreKept report.now }
-    ensures { result.now ≡ units_of report.now (place_of place) }
+    ensures { result.now ≡ units_journal report.now (named_place place) }
 {
     let ends = report.units.as_slice();
     match index_of(ends, place) {
@@ -88,7 +88,7 @@ fn home_in(script: &Script, pool: usize, node: u8) -> u8
 
 // Where a pool keeps the units of a node.
 pub(crate) fn home_of(script: &Script, pool: u8, node: u8) -> PoolPlace
-    ensures home { place_of result ≡ pool_place script.now pool node }
+    ensures home { named_place result ≡ pool_place script.now pool node }
     ensures small { result.node < 256 }
 {
     PoolPlace {

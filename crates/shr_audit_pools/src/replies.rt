@@ -7,9 +7,9 @@ ghost use Rattle.shr_base.specs.declared.scripts.Command.TheVariants as command;
 ghost use Rattle.shr_base.specs.declared.scripts.Script.{Script};
 ghost use Rattle.shr_report.specs.Parts.{serial_of, EachAnswer};
 ghost use Rattle.shr_report.specs.Pools.{IsPoolReply};
-ghost use Rattle.shr_report.specs.UnitParts.{pool_place, units_of};
+ghost use Rattle.shr_report.specs.UnitParts.{pool_place, units_journal};
 ghost use Rattle.shr_audit_pools.specs.Cited.{HasRight, IsPartRight};
-ghost use Rattle.shr_audit_pools.specs.Places.{AreKept, place_of};
+ghost use Rattle.shr_audit_pools.specs.Places.{AreKept, named_place};
 ghost use Rattle.shr_audit_pools.specs.Stock.{AreStocksOf};
 
 use crate::cites::{Cite, entry_at};
@@ -32,7 +32,7 @@ pub struct AnswerAt {
 // Whether the entry that is cited is the Release of so many units by this command.
 fn is_release(report: &Report, cite: Cite, at: AnswerAt, units: u32) -> bool
     requires { AreKept report.now }
-    ensures { Decides result (slice_get (units_of report.now (place_of cite.place)) cite.entry
+    ensures { Decides result (slice_get (units_journal report.now (named_place cite.place)) cite.entry
         ≡ Some (plain.Release (serial_of at.worker at.number) units)) }
 {
     match entry_at(report, cite) {
@@ -53,7 +53,7 @@ fn is_release(report: &Report, cite: Cite, at: AnswerAt, units: u32) -> bool
 // Whether it is the Grab of this command, and got a unit or not.
 fn is_grab(report: &Report, cite: Cite, at: AnswerAt, got: bool) -> bool
     requires { AreKept report.now }
-    ensures { Decides result (slice_get (units_of report.now (place_of cite.place)) cite.entry
+    ensures { Decides result (slice_get (units_journal report.now (named_place cite.place)) cite.entry
         ≡ Some (plain.Grab (serial_of at.worker at.number) got)) }
 {
     match entry_at(report, cite) {
@@ -76,7 +76,7 @@ fn is_release_right(
 ) -> bool
     requires kept { AreKept report.now }
     requires stocks { AreStocksOf report.now.units.items stocks.now }
-    ensures { (s : Script) (pool node : ℕ) → place_of home ≡ pool_place s pool node
+    ensures { (s : Script) (pool node : ℕ) → named_place home ≡ pool_place s pool node
         → Decides result (IsPoolReply s report.now (serial_of at.worker at.number)
         (command.Release node pool units) reply.now) }
 {
@@ -103,7 +103,7 @@ fn is_release_right(
 // Whether that to a `grab` does.
 fn is_grab_right(report: &Report, home: PoolPlace, at: AnswerAt, reply: &Reply) -> bool
     requires { AreKept report.now }
-    ensures { (s : Script) (pool node : ℕ) → place_of home ≡ pool_place s pool node
+    ensures { (s : Script) (pool node : ℕ) → named_place home ≡ pool_place s pool node
         → Decides result (IsPoolReply s report.now (serial_of at.worker at.number)
         (command.Grab node pool) reply.now) }
 {

@@ -3,7 +3,7 @@
 ghost use Rattle.std.specs.Prelude.{◌≡◌, ◌<◌, option_map, IfOk, IfSome, OnOk};
 ghost use Rattle.std.specs.Bool.{Decides};
 ghost use Rattle.shr_audit_pools.specs.Cited.{cite_at};
-ghost use Rattle.shr_audit_pools.specs.Lows.{AreAllRising, AreRising, IsHigh, IsSmall, NotesReply, asked_of};
+ghost use Rattle.shr_audit_pools.specs.Lows.{AreAllRising, AreCitesRising, IsHigh, IsSmall, NotesUnitsReply, cited_or_next};
 
 use crate::cites::{Cite, cited_by};
 use crate::lows::{low_at, no_lows, raise};
@@ -16,7 +16,7 @@ use std::collections::HashMap;
 
 // The entry that a reply cites, or that it would have been.
 fn asked_of(reply: &Reply) -> Option<Cite>
-    ensures asked { option_map cite_at result ≡ asked_of reply.now }
+    ensures asked { option_map cite_at result ≡ cited_or_next reply.now }
     ensures small { IfSome result (λ c. c.place.node < 256) }
 {
     match *reply {
@@ -43,7 +43,7 @@ fn is_high(lows: &HashMap<u64, u64>, reply: &Reply) -> bool
 
 // Notes that later entries are to be above the one that a reply cites.
 pub(crate) fn note_reply(lows: &mut HashMap<u64, u64>, reply: &Reply) -> Result<(), Memory>
-    ensures { OnOk result (NotesReply reply.now lows.old lows.new) }
+    ensures { OnOk result (NotesUnitsReply reply.now lows.old lows.new) }
 {
     match cited_by(reply) {
         Some(cite) => {
@@ -57,7 +57,7 @@ pub(crate) fn note_reply(lows: &mut HashMap<u64, u64>, reply: &Reply) -> Result<
 // Whether each entry that the replies of a worker cite, or would have made, is above those that
 // earlier ones cite there.
 fn are_rising(alloc: Global, answers: &[Answered]) -> Result<bool, Memory>
-    ensures { IfOk result (λ b. Decides b (AreRising answers.now)) }
+    ensures { IfOk result (λ b. Decides b (AreCitesRising answers.now)) }
 {
     let mut lows = no_lows(alloc);
     for k in 0..answers.len() {

@@ -5,13 +5,13 @@ ghost use Rattle.std.specs.Prelude.{◌≡◌, ℕ, ◌<◌, ◌≤◌, ◌++◌
 ghost use Rattle.std.specs.Bool.{Decides};
 ghost use Rattle.shr_base.specs.declared.ends.UnitsEnd.{UnitsEnd};
 ghost use Rattle.shr_base.specs.declared.journals.PlainEntry.{PlainEntry};
-ghost use Rattle.shr_formed.specs.Each.{Each};
+ghost use Rattle.shr_formed.specs.Each.{EachItem};
 ghost use Rattle.shr_model.specs.Units.{IsPlainJournal};
 ghost use Rattle.shr_report.specs.Numbers.{IsPlainEntryNumbered};
 ghost use Rattle.shr_report.specs.Pools.{reclaims_by};
-ghost use Rattle.shr_report.specs.UnitParts.{units_of};
-ghost use Rattle.shr_audit_pools.specs.Places.{AreKept, place_of};
-ghost use Rattle.shr_audit_pools.specs.Stock.{AreFree, AreReclaims, AreStocksOf, IsFreeAfter, IsStockOf, StandByWalk, all_reclaims, made_of, reclaimed_of, walk_key, with_key};
+ghost use Rattle.shr_report.specs.UnitParts.{units_journal};
+ghost use Rattle.shr_audit_pools.specs.Places.{AreKept, named_place};
+ghost use Rattle.shr_audit_pools.specs.Stock.{AreFree, AreReclaims, AreStocksOf, IsFreeAfter, IsStockOf, StandByWalk, all_reclaims, made_of_reclaim, reclaimed_of, walk_key, reclaims_with_key};
 
 use crate::journals::free_after;
 use crate::places::{PoolPlace, index_of};
@@ -104,7 +104,7 @@ fn all_reclaims(alloc: Global, entries: &[PlainEntry]) -> Result<Vec<Reclaimed>,
 
 // The Reclaims of a journal by their walks.
 fn reclaims_of(alloc: Global, entries: &[PlainEntry]) -> Result<Vec<Reclaimed>, Memory>
-    requires { Each IsPlainEntryNumbered entries.now }
+    requires { EachItem IsPlainEntryNumbered entries.now }
     ensures { IfOk result (λ xs. AreReclaims entries.now xs.items) }
 {
     let mut reclaims = all_reclaims(alloc, entries)?;
@@ -114,7 +114,7 @@ fn reclaims_of(alloc: Global, entries: &[PlainEntry]) -> Result<Vec<Reclaimed>, 
 
 fn stock_of(alloc: Global, entries: &[PlainEntry]) -> Result<Stock, Memory>
     requires journal { IsPlainJournal entries.now }
-    requires numbered { Each IsPlainEntryNumbered entries.now }
+    requires numbered { EachItem IsPlainEntryNumbered entries.now }
     ensures { IfOk result (λ stock. IsStockOf entries.now stock) }
 {
     let free = free_counts(alloc, entries)?;
@@ -154,7 +154,7 @@ pub(crate) fn is_free_after(
 ) -> bool
     requires kept { AreKept report.now }
     requires stocks { AreStocksOf report.now.units.items stocks.now }
-    ensures { Decides result (IsFreeAfter (units_of report.now (place_of place)) entries free) }
+    ensures { Decides result (IsFreeAfter (units_journal report.now (named_place place)) entries free) }
 {
     match index_of(report.units.as_slice(), place) {
         Some(k) => is_free_in(&stocks[k], entries, free),
@@ -189,7 +189,7 @@ fn behind_of(reclaims: &[Reclaimed], key: u64) -> usize
 // The Reclaims of a walk.
 fn with_key(reclaims: &[Reclaimed], key: u64) -> &[Reclaimed]
     requires { StandByWalk reclaims.now }
-    ensures { result.now ≡ with_key key reclaims.now }
+    ensures { result.now ≡ reclaims_with_key key reclaims.now }
 {
     let low = first_of(reclaims, key);
     let high = behind_of(reclaims, key);
@@ -205,7 +205,7 @@ fn of_walk(stock: &Stock, worker: usize, walk: usize) -> &[Reclaimed]
     requires small { worker < 65536 }
     requires stand { StandByWalk stock.now.reclaims.items }
     ensures { (es : List PlainEntry) → IsStockOf es stock.now
-        → map made_of result.now ≡ reclaims_by worker walk es }
+        → map made_of_reclaim result.now ≡ reclaims_by worker walk es }
 {
     if walk >= 0x1_0000_0000 {
         return &[];
@@ -225,8 +225,8 @@ pub(crate) fn reclaims_at<'a>(
     requires kept { AreKept report.now }
     requires stocks { AreStocksOf report.now.units.items stocks.now }
     requires small { worker < 65536 }
-    ensures { map made_of result.now
-        ≡ reclaims_by worker walk (units_of report.now (place_of place)) }
+    ensures { map made_of_reclaim result.now
+        ≡ reclaims_by worker walk (units_journal report.now (named_place place)) }
 {
     match index_of(report.units.as_slice(), place) {
         Some(k) => of_walk(&stocks[k], worker, walk),

@@ -3,10 +3,10 @@
 ghost use Rattle.std.specs.Prelude.{◌≡◌, ℕ, ◌<◌, ◌≤◌, Some, length, slice_get, IfOk, OnOk};
 ghost use Rattle.std.specs.Bool.{Decides};
 ghost use Rattle.shr_base.specs.declared.ends.WorkerPart.{WorkerPart};
-ghost use Rattle.shr_formed.specs.Each.{Each};
+ghost use Rattle.shr_formed.specs.Each.{EachItem};
 ghost use Rattle.shr_report.specs.Pools.{version_in};
 ghost use Rattle.shr_report.specs.WellFormed.{IsWellFormed};
-ghost use Rattle.shr_audit_due.specs.Due.{StandByCommand};
+ghost use Rattle.shr_audit_due.specs.Due.{PoolWalksByCommand};
 ghost use Rattle.shr_audit_pools.specs.Lows.{AreAllVersed, HaveFewTries, IsPartVersed, IsWalkHigh, NotesReplies, NotesTries};
 
 use crate::lows::{low_at, no_lows, raise};
@@ -83,9 +83,9 @@ fn note_replies(
 // Whether each version of the walks of the pools of a worker is above what its earlier replies cite
 // at its place, and none is below one before it there.
 fn is_part_versed(alloc: Global, script: &Script, part: &WorkerPart) -> Result<bool, Memory>
-    requires stand { StandByCommand part.now.plain.items }
-    requires own { Each (λ w. w.by.command < length part.now.answers.items) part.now.plain.items }
-    requires few { Each (λ w. length w.tries.items ≤ 256) part.now.plain.items }
+    requires stand { PoolWalksByCommand part.now.plain.items }
+    requires own { EachItem (λ w. w.by.command < length part.now.answers.items) part.now.plain.items }
+    requires few { EachItem (λ w. length w.tries.items ≤ 256) part.now.plain.items }
     ensures { IfOk result (λ b. Decides b (IsPartVersed script.now part.now)) }
 {
     let walks = part.plain.as_slice();

@@ -5,10 +5,10 @@ ghost use Rattle.std.specs.Bool.{Decides};
 ghost use Rattle.shr_base.specs.declared.ends.WorkerPart.{WorkerPart};
 ghost use Rattle.shr_base.specs.declared.walks.PlainWalk.{PlainWalk};
 ghost use Rattle.shr_model.specs.Places.{is_place};
-ghost use Rattle.shr_report.specs.Pools.{HasTries, IsKind, IsLastTry, IsPlainCount, IsPlainLawful, IsPlainPass, freed_in, len_in, plain_told, reclaims_by};
-ghost use Rattle.shr_report.specs.UnitParts.{EachPlain, EachTry, units_of};
+ghost use Rattle.shr_report.specs.Pools.{HasTries, IsKind, IsLastTry, IsPlainCount, IsPlainLawful, IsPlainPass, freed_in_try, len_in, plain_told, reclaims_by};
+ghost use Rattle.shr_report.specs.UnitParts.{EachPlain, EachTry, units_journal};
 ghost use Rattle.shr_audit_pools.specs.Passes.{IsCutRight, IsRunRight, IsTryRight};
-ghost use Rattle.shr_audit_pools.specs.Places.{AreKept, place_of};
+ghost use Rattle.shr_audit_pools.specs.Places.{AreKept, named_place};
 ghost use Rattle.shr_audit_pools.specs.Stock.{AreStocksOf};
 
 use crate::passes::is_plain_pass;
@@ -44,7 +44,7 @@ fn len_in(tried: &PlainTry) -> u32
 fn is_counted(report: &Report, stocks: &[Stock], place: PoolPlace, tried: &PlainTry) -> bool
     requires kept { AreKept report.now }
     requires stocks { AreStocksOf report.now.units.items stocks.now }
-    ensures { Decides result (IsPlainCount report.now (place_of place) tried.now) }
+    ensures { Decides result (IsPlainCount report.now (named_place place) tried.now) }
 {
     is_free_after(report, stocks, place, version_in(tried), len_in(tried))
 }
@@ -91,8 +91,8 @@ fn is_pass_right(
     requires kept { AreKept report.now }
     requires stocks { AreStocksOf report.now.units.items stocks.now }
     requires small { at.worker < 65536 }
-    ensures { Decides result (IsPlainPass report.now (place_of at.place) decl.now priority pass.now
-        (reclaims_by at.worker at.walk (units_of report.now (place_of at.place)))) }
+    ensures { Decides result (IsPlainPass report.now (named_place at.place) decl.now priority pass.now
+        (reclaims_by at.worker at.walk (units_journal report.now (named_place at.place)))) }
 {
     let entries = entries_at(report, at.place).len();
     let reclaims = reclaims_at(report, stocks, at.place, at.worker, at.walk);
@@ -114,7 +114,7 @@ fn is_run_right(
     requires small { at.worker < 65536 }
     requires within { at.pool < length walk.now.tries.items }
     ensures { Decides result (IsRunRight report.now at.worker at.walk walk.now at.pool
-        (place_of at.place) decl.now tried.now) }
+        (named_place at.place) decl.now tried.now) }
 {
     match tried {
         PlainTry::Ran { pass } => {
@@ -139,7 +139,7 @@ fn is_try_right(
     requires small { at.worker < 65536 }
     requires within { at.pool < length walk.now.tries.items }
     ensures { Decides result (IsTryRight report.now at.worker at.walk walk.now at.pool
-        (place_of at.place) decl.now tried.now) }
+        (named_place at.place) decl.now tried.now) }
 {
     if !is_counted(report, stocks, at.place, tried) {
         return false;
@@ -186,7 +186,7 @@ fn are_tries_right(
 
 // How many units a try freed.
 fn freed_in(tried: &PlainTry) -> u64
-    ensures { result ≡ freed_in tried.now }
+    ensures { result ≡ freed_in_try tried.now }
 {
     match tried {
         PlainTry::Ran { pass } => pass.freed,
@@ -196,7 +196,7 @@ fn freed_in(tried: &PlainTry) -> u64
 
 // Whether the passes of these tries freed so much.
 fn have_freed(tries: &[PlainTry], told: u64) -> bool
-    ensures { Decides result (told ≡ sum_by freed_in tries.now) }
+    ensures { Decides result (told ≡ sum_by freed_in_try tries.now) }
 {
     let mut left = told;
     for tried in tries {

@@ -1,12 +1,9 @@
 -- The fields of the law on replies that speak of all answers and entries, from those that are tested.
-use Rattle.shr_audit_replies.proofs.Common.{◌≡◌, ℕ, ◌<◌, ◌≤◌, length, true, Option, Some, None, refl, sym, ap, subst, ◌∙◌, inl, inr, arith, slice_get, none-some, slice_get_cases, slice_get_within, Serial, At, Entry, Look, Answered, Reply, Command, Script, by_of, Report, parents_of, journals_of, answer_at, commands_of, command_at, cited_by, cited_at, at, serial_of, IsReply, IsCounted, AreLastSwept, AreAnswered, AreValuesLent, AreEntriesCited, some_is}
-use Rattle.std.specs.Prelude.{option_map, option_and_then}
+use Rattle.shr_audit_replies.proofs.Common.{◌≡◌, ℕ, ◌<◌, ◌≤◌, length, true, Option, Some, None, refl, sym, ap, subst, ◌∙◌, inl, inr, arith, slice_get, none-some, slice_get_cases, slice_get_within, Serial, At, Entry, Look, Answered, Reply, Command, Script, by_of, Report, parents_of, journals_of, answer_at, commands_of, command_at, cited_by, cited_at, at, serial_of, IsReply, AllHaveAnswers, AreLastSwept, AreAnswered, AreValuesLent, AreEntriesCited, some_is, option_map, option_and_then, answers_of, reply_at, id_found, EachAnswer, AreJournalsRising}
 use Rattle.shr_base.specs.declared.places.Place.{Place}
 use Rattle.shr_base.specs.declared.replies.Reply.TheVariants as reply
-use Rattle.shr_report.specs.Parts.{answers_of, reply_at, id_found, EachAnswer}
 use Rattle.shr_report.specs.Swept.{IsSweepReply}
 use Rattle.shr_report.proofs.QuietSweep.{few_sweeps, sweep_cites}
-use Rattle.shr_audit_replies.specs.Cited.{AreJournalsRising}
 use Rattle.shr_audit_replies.proofs.Replying.{Own, own_cited, whole, without_value, lent}
 
 -- ---- answers by what they reply
@@ -22,7 +19,7 @@ given f None y e = absurd (cc)
 given f (Some a) y e = record { answer = a; there = refl; gives = e }
 
 -- an answer behind those to a worker's commands is the next one
-behind : (s : Script) (r : Report) → IsCounted s r → (by : Serial) (a : Answered) → answer_at r by ≡ Some a → length (commands_of s by.worker) ≤ by.command → length (commands_of s by.worker) ≡ by.command
+behind : (s : Script) (r : Report) → AllHaveAnswers s r → (by : Serial) (a : Answered) → answer_at r by ≡ Some a → length (commands_of s by.worker) ≤ by.command → length (commands_of s by.worker) ≡ by.command
 behind s r counted by a e past =
     let lt = slice_get_within (answers_of r by.worker) by.command a e in
     let same = counted by.worker in
@@ -30,14 +27,14 @@ behind s r counted by a e past =
     omega (arith, lt, same, few, past)
 
 -- each answer has its command, if it isn't to a sweep
-command_of : (s : Script) (r : Report) → IsCounted s r → AreLastSwept s r → (by : Serial) (a : Answered) → answer_at r by ≡ Some a → (IsSweepReply a.reply → ⊥) → (c : Command) × (command_at s by ≡ Some c)
+command_of : (s : Script) (r : Report) → AllHaveAnswers s r → AreLastSwept s r → (by : Serial) (a : Answered) → answer_at r by ≡ Some a → (IsSweepReply a.reply → ⊥) → (c : Command) × (command_at s by ≡ Some c)
 command_of s r counted last by a e own = elim ((slice_get_cases (commands_of s by.worker) by.command).1) [
   | inl there ↦ (there.0, there.2)
   | inr past ↦ absurd (own (last by.worker a (ap (λ (n : ℕ). answer_at r (serial_of by.worker n)) (behind s r counted by a e past.0) ∙ e)))
 ]
 
 -- what the reply to a command cites is its own entry
-own_of : (s : Script) (r : Report) → IsCounted s r → AreLastSwept s r → AreAnswered s r → (by : Serial) (a : At) → cited_at r by ≡ Some a → Own (journals_of r) a by
+own_of : (s : Script) (r : Report) → AllHaveAnswers s r → AreLastSwept s r → AreAnswered s r → (by : Serial) (a : At) → cited_at r by ≡ Some a → Own (journals_of r) a by
 own_of s r counted last answered by a e =
     let g = given cited_by (answer_at r by) a e in
     let c = command_of s r counted last by g.answer g.there (λ is. none-some a (sym (sweep_cites g.answer.reply is) ∙ g.gives)) in
@@ -57,7 +54,7 @@ answers_whole s r answered lends by c a known there =
 pub answers_without : (s : Script) (r : Report) → EachAnswer s r (λ by c a. IsReply (parents_of s) (journals_of r) by c (id_found a) a.reply) → AreAnswered s r
 answers_without s r all by c a known there = without_value (parents_of s) (journals_of r) by c (id_found a) a.reply (all by c a known there)
 
-pub values_of : (s : Script) (r : Report) → IsCounted s r → AreLastSwept s r → EachAnswer s r (λ by c a. IsReply (parents_of s) (journals_of r) by c (id_found a) a.reply) → AreValuesLent s r
+pub values_of : (s : Script) (r : Report) → AllHaveAnswers s r → AreLastSwept s r → EachAnswer s r (λ by c a. IsReply (parents_of s) (journals_of r) by c (id_found a) a.reply) → AreValuesLent s r
 values_of s r counted last all place n e stands by birth key value is replies =
     let g = given (λ x. Some x) (answer_at r by) (reply.Hit (at place n) value) replies_so in
     let same : g.answer.reply ≡ reply.Hit (at place n) value = some_is g.answer.reply (reply.Hit (at place n) value) g.gives in
@@ -100,7 +97,7 @@ journals_rise s r cited rise place n m d e by later lt here there by_is later_is
         omega (arith, number, lt)
 
 -- and the other way round
-pub replies_rise : (s : Script) (r : Report) → IsCounted s r → AreLastSwept s r → AreAnswered s r → AreJournalsRising r
+pub replies_rise : (s : Script) (r : Report) → AllHaveAnswers s r → AreLastSwept s r → AreAnswered s r → AreJournalsRising r
     → (worker k later : ℕ) (place : Place) (n m : ℕ) → k < later → cited_at r (serial_of worker k) ≡ Some (at place n) → cited_at r (serial_of worker later) ≡ Some (at place m) → n < m
 replies_rise s r counted last answered rising worker k later place n m lt first second = later_or m n falls equal
   where

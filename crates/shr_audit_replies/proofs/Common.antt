@@ -1,9 +1,9 @@
 -- The names that the proofs of this crate cite most, passed on from one place. Declares nothing.
-pub use Rattle.std.proofs.Common.{Bool, List, None, Option, Some, [], ap, arith, false, inl, inr, length, map, refl, slice_get, subst, suc, sym, true, ℕ, ◌+◌, ◌<◌, ◌∙◌, ◌∷◌, ◌≡◌, ◌≤◌}
+pub use Rattle.std.proofs.Common.{Bool, List, None, Option, Some, [], ap, arith, below_more, drop, false, get_or, inl, inr, length, length-append, lit<, map, refl, slice_get, subst, suc, sym, take, true, zero, ℕ, ◌++◌, ◌+◌, ◌-◌, ◌<◌, ◌∙◌, ◌∷◌, ◌≡◌, ◌≤◌}
 pub use Rattle.std.proofs.lemmas.Bool.Decides.{nat_tests}
-pub use Rattle.std.proofs.lemmas.Option.{none-some, slice_get_cases, slice_get_read, slice_get_within}
+pub use Rattle.std.proofs.lemmas.Option.{get_or_from_slice_get, none-some, slice_get_cases, slice_get_past, slice_get_read, slice_get_within}
 pub use Rattle.std.specs.Bool.{Decides}
-pub use Rattle.std.specs.Prelude.{◌==◌}
+pub use Rattle.std.specs.Prelude.{codes, option_and_then, option_map, ◌==◌, ◌↔◌}
 pub use Rattle.shr_base.specs.declared.ends.PlaceEnd.{PlaceEnd}
 pub use Rattle.shr_base.specs.declared.ends.WorkerPart.{WorkerPart}
 pub use Rattle.shr_base.specs.declared.journals.Entry.{Entry}
@@ -14,22 +14,22 @@ pub use Rattle.shr_base.specs.declared.replies.Answered.{Answered}
 pub use Rattle.shr_base.specs.declared.replies.Reply.{Reply}
 pub use Rattle.shr_base.specs.declared.scripts.CacheDecl.{CacheDecl}
 pub use Rattle.shr_base.specs.declared.scripts.Command.{Command}
-pub use Rattle.shr_base.specs.declared.scripts.Command.TheVariants.{Get}
+pub use Rattle.shr_base.specs.declared.scripts.Command.TheVariants.{Del, Get, Put, SetPin}
 pub use Rattle.shr_base.specs.declared.scripts.GroupDecl.{GroupDecl}
 pub use Rattle.shr_base.specs.declared.scripts.PoolDecl.{PoolDecl}
 pub use Rattle.shr_base.specs.declared.scripts.Script.{Script}
 pub use Rattle.shr_case.proofs.Firsts.{some_is}
 pub use Rattle.shr_case.specs.Each.{EachFirst}
 pub use Rattle.shr_case.specs.Places.{IsFirst}
-pub use Rattle.shr_formed.proofs.Eachs.{all_at, fails, more_at}
+pub use Rattle.shr_formed.proofs.Eachs.{all_at, below_of, clash, fails, more_at}
 pub use Rattle.shr_model.specs.Families.{Family}
 pub use Rattle.shr_model.specs.Tenants.{by_of}
-pub use Rattle.shr_report.specs.Parts.{answer_at, at, cited_at, cited_by, command_at, commands_of, journals_of, parents_of, serial_of}
-pub use Rattle.shr_report.specs.ReplyTable.{Cites, IsReply}
+pub use Rattle.shr_report.specs.Parts.{EachAnswer, answer_at, answers_in, answers_of, at, cited_at, cited_by, command_at, commands_of, id_found, journals_of, parents_of, reply_at, serial_of}
+pub use Rattle.shr_report.specs.ReplyTable.{Cites, IsReply, LendsValue}
 pub use Rattle.shr_report.specs.declared.report.Report.{Report}
 pub use Rattle.shr_audit_replies.specs.Answers.{AreAnswered, AreValuesLent, IsAnswered, MayReply}
-pub use Rattle.shr_audit_replies.specs.Cited.{AreEntriesCited, AreRising, IsCited}
-pub use Rattle.shr_audit_replies.specs.Heads.{AreLastSwept, HasAnswers, HasNames, HasPaths, HasSizes, IsCounted, IsLastSwept}
+pub use Rattle.shr_audit_replies.specs.Cited.{AreEntriesCited, AreJournalsRising, AreCommandsRising, IsCited}
+pub use Rattle.shr_audit_replies.specs.Heads.{AreLastSwept, HasAnswers, HasNames, HasPaths, HasPoolNames, HasSizes, AllHaveAnswers, IsLastSwept}
 pub use Rattle.shr_audit_replies.specs.Law.{AreRepliesLawfulButValues, HasHeads}
-pub use Rattle.shr_audit_replies.specs.Rising.{AreBelow, IsAfter, last_of, no_last, noted_by}
+pub use Rattle.shr_audit_replies.specs.Rising.{AreOfEarlierJournals, GoesOnBy, IsAfter, last_of_worker, no_last, noted_by}
 pub use Rattle.shr_audit_replies.specs.declared.rising.Last.{Last}

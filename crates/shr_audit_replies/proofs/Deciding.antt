@@ -1,6 +1,5 @@
 -- What is decided by what was found.
-use Rattle.shr_audit_replies.proofs.Common.{◌≡◌, ℕ, Bool, true, false, List, Option, Some, None, sym, ap, subst, ◌∙◌, Decides, At, Entry, PlaceEnd, IsFirst, Family, Cites, some_is}
-use Rattle.std.specs.Prelude.{◌↔◌}
+use Rattle.shr_audit_replies.proofs.Common.{◌≡◌, ℕ, Bool, true, false, List, Option, Some, None, sym, ap, subst, ◌∙◌, Decides, At, Entry, PlaceEnd, IsFirst, Family, Cites, some_is, ◌↔◌}
 
 -- an entry that is cited is the one that was found
 pub cites_same : (family : Family) (a : At) (id node : ℕ) (x e : Entry) (b : Bool) → ((y : Entry) → Cites family a id node y ↔ (◌≡◌ {A = Option Entry} (Some x) (Some y))) → Decides b (x ≡ e) → Decides b (Cites family a id node e)

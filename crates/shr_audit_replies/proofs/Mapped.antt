@@ -1,9 +1,6 @@
 -- The items of a list against those of another, one by one.
-use Rattle.shr_audit_replies.proofs.Common.{◌≡◌, ℕ, suc, ◌+◌, ◌<◌, ◌≤◌, Bool, true, false, List, [], ◌∷◌, length, map, Some, refl, sym, ap, subst, ◌∙◌, arith, ◌==◌, slice_get, Decides, nat_tests, slice_get_within}
-use Rattle.std.proofs.Common.{◌-◌, get_or, take, drop}
+use Rattle.shr_audit_replies.proofs.Common.{◌≡◌, ℕ, suc, ◌+◌, ◌<◌, ◌≤◌, Bool, true, false, List, [], ◌∷◌, length, map, Some, refl, sym, ap, subst, ◌∙◌, arith, ◌==◌, slice_get, Decides, nat_tests, slice_get_within, ◌-◌, get_or, take, drop, get_or_from_slice_get, clash}
 use Rattle.std.proofs.lemmas.List.{get_or-map, take_all}
-use Rattle.std.proofs.lemmas.Option.{get_or_from_slice_get}
-use Rattle.shr_formed.proofs.Eachs.{clash}
 
 -- a list is the image of another where each item is that of the other's
 pub mapped_all : {X Y : Type 0} (f : X → Y) (xs : List Y) (ys : List X) → length xs ≡ length ys → ((n : ℕ) (x : Y) (y : X) → slice_get xs n ≡ Some x → slice_get ys n ≡ Some y → x ≡ f y) → xs ≡ map f ys

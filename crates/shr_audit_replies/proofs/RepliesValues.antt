@@ -1,10 +1,8 @@
 -- What is tested of the law on replies, at known values.
-use Rattle.shr_audit_replies.proofs.Common.{◌≡◌, ℕ, ◌<◌, ◌≤◌, true, List, [], ◌∷◌, length, Option, Some, refl, ap, subst, arith, none-some, slice_get_within, At, Serial, Entry, Add, Look, Get, Family, at, cited_at, Last, HasAnswers, HasNames, HasPaths, HasSizes, IsLastSwept, MayReply, AreRising, IsCited, IsAfter, last_of, noted_by}
-use Rattle.std.specs.Prelude.{codes}
+use Rattle.shr_audit_replies.proofs.Common.{◌≡◌, ℕ, ◌<◌, ◌≤◌, true, List, [], ◌∷◌, length, Option, Some, refl, ap, subst, arith, none-some, slice_get_within, At, Serial, Entry, Add, Look, Get, Family, at, cited_at, Last, HasAnswers, HasNames, HasPaths, HasSizes, IsLastSwept, MayReply, AreCommandsRising, IsCited, IsAfter, last_of_worker, noted_by, codes, HasPoolNames}
 use Rattle.shr_base.specs.declared.replies.Reply.TheVariants as reply
 use Rattle.shr_report.proofs.SecondReport.{kept, by, place}
 use Rattle.shr_report.proofs.FirstReport.{script, report, answer}
-use Rattle.shr_audit_replies.specs.Heads.{HasPoolNames}
 
 -- ---- heads
 
@@ -67,10 +65,10 @@ not_first : IsCited report place 1 added → ⊥
 not_first h = let both : ◌≡◌ {A = Option At} (Some (at place 0)) (Some (at place 1)) = h (by 0) refl in let e : at place 0 ≡ at place 1 = cc in let number : ◌≡◌ {A = ℕ} 0 1 = ap (λ (a : At). a.entry) e in absurd (omega arith)
 
 -- the second of two entries of one worker has the lower command
-falls : AreRising (Look (by 1) 1 (codes "k1") true ∷ added ∷ []) → ⊥
+falls : AreCommandsRising (Look (by 1) 1 (codes "k1") true ∷ added ∷ []) → ⊥
 falls h = let lt : 1 < 0 = h 0 1 (Look (by 1) 1 (codes "k1") true) added (by 1) (by 0) (omega arith) refl refl refl refl refl in absurd (omega arith)
 
-alone : AreRising (added ∷ [])
+alone : AreCommandsRising (added ∷ [])
 alone n m d e b later lt first second = absurd (let within = slice_get_within (added ∷ []) m e second in omega (arith, lt, within))
 
 -- ---- the last entries of workers
@@ -78,13 +76,13 @@ alone n m d e b later lt first second = absurd (let within = slice_get_within (a
 abbrev seen : List Last
 seen = record { journal = 3; next = 2 } ∷ record { journal = 1; next = 7 } ∷ []
 
-after_its_last : IsAfter 3 (by 2) (last_of seen 0)
+after_its_last : IsAfter 3 (by 2) (last_of_worker seen 0)
 after_its_last e = omega arith
 
-not_after : IsAfter 3 (by 1) (last_of seen 0) → ⊥
+not_after : IsAfter 3 (by 1) (last_of_worker seen 0) → ⊥
 not_after h = let le : 2 ≤ 1 = h refl in absurd (omega arith)
 
-of_an_older_journal : IsAfter 3 (by 1) (last_of seen 1)
+of_an_older_journal : IsAfter 3 (by 1) (last_of_worker seen 1)
 of_an_older_journal e = let same : ◌≡◌ {A = ℕ} 1 3 = e in absurd (omega arith)
 
 noted : noted_by 3 (by 4) seen ≡ record { journal = 3; next = 5 } ∷ record { journal = 1; next = 7 } ∷ []

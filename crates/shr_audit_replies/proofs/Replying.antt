@@ -1,9 +1,7 @@
 -- What the table of replies says of entries that replies cite.
-use Rattle.shr_audit_replies.proofs.Common.{◌≡◌, ℕ, true, false, List, Option, Some, None, refl, sym, subst, ◌∙◌, slice_get, Serial, At, Entry, Add, Look, Drop, Pin, Reply, Command, Get, Family, by_of, cited_by, Cites, IsReply, MayReply, some_is}
+use Rattle.shr_audit_replies.proofs.Common.{◌≡◌, ℕ, true, false, List, Option, Some, None, refl, sym, subst, ◌∙◌, slice_get, Serial, At, Entry, Add, Look, Drop, Pin, Reply, Command, Get, Family, by_of, cited_by, Cites, IsReply, MayReply, some_is, Put, Del, SetPin, LendsValue}
 use Rattle.shr_base.specs.declared.journals.DropKind.TheVariants as kind
 use Rattle.shr_base.specs.declared.replies.Reply.TheVariants as reply
-use Rattle.shr_base.specs.declared.scripts.Command.TheVariants.{Put, Del, SetPin}
-use Rattle.shr_report.specs.ReplyTable.{LendsValue}
 
 -- an entry stands where it is cited, and is the command's own
 pub record Own (family : Family) (a : At) (by : Serial) : Type 0 where

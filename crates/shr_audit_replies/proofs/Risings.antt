@@ -1,8 +1,6 @@
 -- One journal gone through with the last entry of each worker's at hand.
-use Rattle.shr_audit_replies.proofs.Common.{◌≡◌, ℕ, suc, ◌+◌, [], ◌∷◌, ◌<◌, ◌≤◌, Bool, true, false, List, length, Option, Some, None, refl, sym, ap, subst, ◌∙◌, arith, slice_get, ◌==◌, nat_tests, slice_get_within, Serial, Entry, by_of, Last, AreRising, AreBelow, IsAfter, last_of, no_last, noted_by, some_is}
-use Rattle.std.proofs.Common.{zero, lit<, ◌++◌}
+use Rattle.shr_audit_replies.proofs.Common.{◌≡◌, ℕ, suc, ◌+◌, [], ◌∷◌, ◌<◌, ◌≤◌, Bool, true, false, List, length, Option, Some, None, refl, sym, ap, subst, ◌∙◌, arith, slice_get, ◌==◌, nat_tests, slice_get_within, Serial, Entry, by_of, Last, AreCommandsRising, AreOfEarlierJournals, IsAfter, last_of_worker, no_last, noted_by, some_is, zero, lit<, ◌++◌, GoesOnBy}
 use Rattle.std.proofs.lemmas.List.{get_or-set_same, get_or-set_other, length-set}
-use Rattle.shr_audit_replies.specs.Rising.{GoesOnBy}
 
 -- a command is before the worker's last one in this journal, or is it
 pub record IsNoted (journal : ℕ) (by : Serial) (last : Last) : Type 0 where
@@ -28,13 +26,13 @@ AreRisingBefore entries i = (n m : ℕ) (d e : Entry) (by later : Serial) → n 
 -- the entries of a journal before a number were gone through
 pub record AreNoted (journal : ℕ) (entries : List Entry) (i : ℕ) (seen : List Last) : Type 0 where
   pub count : length seen ≡ 65536
-  pub past : (worker : ℕ) → (last_of seen worker).journal ≤ journal
-  pub noted : (n : ℕ) (e : Entry) (by : Serial) → n < i → slice_get entries n ≡ Some e → by_of e ≡ Some by → IsNoted journal by (last_of seen by.worker)
-  pub real : (worker : ℕ) → (last_of seen worker).journal ≡ journal → HasLast entries i worker (last_of seen worker).next
+  pub past : (worker : ℕ) → (last_of_worker seen worker).journal ≤ journal
+  pub noted : (n : ℕ) (e : Entry) (by : Serial) → n < i → slice_get entries n ≡ Some e → by_of e ≡ Some by → IsNoted journal by (last_of_worker seen by.worker)
+  pub real : (worker : ℕ) → (last_of_worker seen worker).journal ≡ journal → HasLast entries i worker (last_of_worker seen worker).next
   pub rising : AreRisingBefore entries i
 
 -- none was
-pub none_noted : (journal : ℕ) (entries : List Entry) (seen : List Last) → AreBelow journal seen → AreNoted journal entries 0 seen
+pub none_noted : (journal : ℕ) (entries : List Entry) (seen : List Last) → AreOfEarlierJournals journal seen → AreNoted journal entries 0 seen
 none_noted journal entries seen old = record {
   count = old.count;
   past = λ worker. (let b = old.below worker in omega (arith, b));
@@ -44,20 +42,20 @@ none_noted journal entries seen old = record {
 }
 
 -- no worker has had an entry
-pub below_none : (seen : List Last) → seen ≡ [] → (worker : ℕ) → (last_of seen worker).journal < 1
-below_none seen none worker = subst (λ (xs : List Last). (last_of xs worker).journal < 1) (sym none) (lit< tt)
+pub below_none : (seen : List Last) → seen ≡ [] → (worker : ℕ) → (last_of_worker seen worker).journal < 1
+below_none seen none worker = subst (λ (xs : List Last). (last_of_worker xs worker).journal < 1) (sym none) (lit< tt)
 
-pub below_push : (seen : List Last) → ((worker : ℕ) → (last_of seen worker).journal < 1) → (worker : ℕ) → (last_of (seen ++ no_last ∷ []) worker).journal < 1
+pub below_push : (seen : List Last) → ((worker : ℕ) → (last_of_worker seen worker).journal < 1) → (worker : ℕ) → (last_of_worker (seen ++ no_last ∷ []) worker).journal < 1
 below_push [] h zero = lit< tt
 below_push [] h (suc worker) = h worker
 below_push (x ∷ xs) h zero = h 0
 below_push (x ∷ xs) h (suc worker) = below_push xs (λ w. h (suc w)) worker
 
-pub below_more : (journal : ℕ) (seen : List Last) → AreBelow journal seen → AreBelow (journal + 1) seen
+pub below_more : (journal : ℕ) (seen : List Last) → AreOfEarlierJournals journal seen → AreOfEarlierJournals (journal + 1) seen
 below_more journal seen h = record { count = h.count; below = λ worker. (let b = h.below worker in omega (arith, b)) }
 
 -- one journal later
-pub all_below : (journal : ℕ) (entries : List Entry) (i : ℕ) (seen : List Last) → AreNoted journal entries i seen → AreBelow (journal + 1) seen
+pub all_below : (journal : ℕ) (entries : List Entry) (i : ℕ) (seen : List Last) → AreNoted journal entries i seen → AreOfEarlierJournals (journal + 1) seen
 all_below journal entries i seen h = record { count = h.count; below = λ worker. (let p = h.past worker in omega (arith, p)) }
 
 -- an entry before the next number is one before, or the one here
@@ -88,7 +86,7 @@ more_none journal entries i seen e at none h = record {
     clash x by is by_is = let both : ◌≡◌ {A = Option Serial} None (Some by) = sym none ∙ (ap by_of (sym is) ∙ by_is) in cc
 
 -- a tenant's, whose command comes after the last one
-pub more_one : (journal : ℕ) (entries : List Entry) (i : ℕ) (seen : List Last) (e : Entry) (own : Serial) → slice_get entries i ≡ Some e → by_of e ≡ Some own → own.worker < 65536 → IsAfter journal own (last_of seen own.worker)
+pub more_one : (journal : ℕ) (entries : List Entry) (i : ℕ) (seen : List Last) (e : Entry) (own : Serial) → slice_get entries i ≡ Some e → by_of e ≡ Some own → own.worker < 65536 → IsAfter journal own (last_of_worker seen own.worker)
     → AreNoted journal entries i seen → AreNoted journal entries (i + 1) (noted_by journal own seen)
 more_one journal entries i seen e own at own_is numbered after h = record {
   count = length-set seen own.worker last ∙ h.count;
@@ -96,7 +94,7 @@ more_one journal entries i seen e own at own_is numbered after h = record {
   noted = λ n x by below stands by_is. here_or_before entries i n e x at below stands
       (λ lt. at_worker by.worker (IsNoted journal by) (λ same. record { here = refl; before = earlier n x by lt stands by_is same }) (h.noted n x by lt stands by_is))
       (λ there is. let by_own : by ≡ own = own_by x by is by_is in
-      subst (λ (b : Serial). IsNoted journal b (last_of new b.worker)) (sym by_own) (subst (IsNoted journal own) (sym (get_or-set_same seen own.worker last no_last (subst (λ (k : ℕ). own.worker < k) (sym h.count) numbered))) (record { here = refl; before = omega arith })));
+      subst (λ (b : Serial). IsNoted journal b (last_of_worker new b.worker)) (sym by_own) (subst (IsNoted journal own) (sym (get_or-set_same seen own.worker last no_last (subst (λ (k : ℕ). own.worker < k) (sym h.count) numbered))) (record { here = refl; before = omega arith })));
   real = λ worker. at_worker worker (λ (x : Last). x.journal ≡ journal → HasLast entries (i + 1) worker x.next)
       (λ same there. record { number = i; entry = e; by = own; before = omega arith; stands = at; by_is = own_is; worker_is = sym same; next_is = refl })
       (λ there. further (h.real worker there));
@@ -118,21 +116,21 @@ more_one journal entries i seen e own at own_is numbered after h = record {
     own_by : (x : Entry) (by : Serial) → x ≡ e → by_of x ≡ Some by → by ≡ own
     own_by x by is by_is = some_is by own (sym by_is ∙ (ap by_of is ∙ own_is))
 
-    at_worker : (worker : ℕ) (P : Last → Type 0) → (worker ≡ own.worker → P last) → P (last_of seen worker) → P (last_of new worker)
+    at_worker : (worker : ℕ) (P : Last → Type 0) → (worker ≡ own.worker → P last) → P (last_of_worker seen worker) → P (last_of_worker new worker)
     at_worker worker P here other = by_order (worker == own.worker) refl
       where
-        by_order : (t : Bool) → (worker == own.worker) ≡ t → P (last_of new worker)
+        by_order : (t : Bool) → (worker == own.worker) ≡ t → P (last_of_worker new worker)
         by_order true t =
             let same : worker ≡ own.worker = grind (arith, nat_tests) in
             let within : own.worker < length seen = subst (λ (k : ℕ). own.worker < k) (sym h.count) numbered in
-            subst (λ (w : ℕ). P (last_of new w)) (sym same) (subst P (sym (get_or-set_same seen own.worker last no_last within)) (here same))
+            subst (λ (w : ℕ). P (last_of_worker new w)) (sym same) (subst P (sym (get_or-set_same seen own.worker last no_last within)) (here same))
         by_order false t =
             let differ : worker ≡ own.worker → ⊥ = grind (arith, nat_tests) in
             subst P (sym (get_or-set_other seen own.worker worker last no_last differ)) other
 
     below_own : (n : ℕ) (d : Entry) (by : Serial) → n < i → slice_get entries n ≡ Some d → by_of d ≡ Some by → by.worker ≡ own.worker → by.command < own.command
     below_own n d by lt stands by_is same =
-        let told : IsNoted journal by (last_of seen own.worker) = subst (λ (w : ℕ). IsNoted journal by (last_of seen w)) same (h.noted n d by lt stands by_is) in
+        let told : IsNoted journal by (last_of_worker seen own.worker) = subst (λ (w : ℕ). IsNoted journal by (last_of_worker seen w)) same (h.noted n d by lt stands by_is) in
         let up = after told.here in
         let under = told.before in
         omega (arith, up, under)
@@ -148,14 +146,14 @@ more journal entries i old new e went at (Some own) is g t h = subst (AreNoted j
 
 -- and one with which it didn't
 pub fails : (journal : ℕ) (entries : List Entry) (i : ℕ) (old new : List Last) (e : Entry) (went : Bool) → slice_get entries i ≡ Some e → (o : Option Serial) → by_of e ≡ o → GoesOnBy o journal old new went → went ≡ false
-    → AreNoted journal entries i old → AreRising entries → ⊥
+    → AreNoted journal entries i old → AreCommandsRising entries → ⊥
 fails journal entries i old new e went at None is g f h rising = cc (g.0, f)
 fails journal entries i old new e went at (Some own) is g f h rising = absurd (other (g.after.1 after))
   where
     other : went ≡ true → ⊥
     other t = cc
 
-    after : IsAfter journal own (last_of old own.worker)
+    after : IsAfter journal own (last_of_worker old own.worker)
     after here =
         let l = h.real own.worker here in
         let up = rising l.number i l.entry e l.by own l.before l.stands at l.by_is is l.worker_is in
@@ -163,6 +161,6 @@ fails journal entries i old new e went at (Some own) is g f h rising = absurd (o
         omega (arith, up, next)
 
 -- all were gone through
-pub whole : (journal : ℕ) (entries : List Entry) (i : ℕ) (seen : List Last) → length entries ≤ i → AreNoted journal entries i seen → AreRising entries
+pub whole : (journal : ℕ) (entries : List Entry) (i : ℕ) (seen : List Last) → length entries ≤ i → AreNoted journal entries i seen → AreCommandsRising entries
 whole journal entries i seen over h n m d e by later lt first second =
     h.rising n m d e by later lt (let within = slice_get_within entries m e second in omega (arith, within, over)) first second

@@ -16,10 +16,10 @@ abbrev pub AreEntriesCited : Report → Type 0
 AreEntriesCited r = EachEntry r (λ place n e. IsCited r place n e)
 
 -- along a journal the commands of each worker rise
-abbrev pub AreRising : List Entry → Type 0
-AreRising entries = (n m : ℕ) (d e : Entry) (by later : Serial) → n < m → slice_get entries n ≡ Some d → slice_get entries m ≡ Some e
+abbrev pub AreCommandsRising : List Entry → Type 0
+AreCommandsRising entries = (n m : ℕ) (d e : Entry) (by later : Serial) → n < m → slice_get entries n ≡ Some d → slice_get entries m ≡ Some e
     → by_of d ≡ Some by → by_of e ≡ Some later → by.worker ≡ later.worker → by.command < later.command
 
 -- along each journal they do
 abbrev pub AreJournalsRising : Report → Type 0
-AreJournalsRising r = (place : Place) → AreRising (journals_of r place)
+AreJournalsRising r = (place : Place) → AreCommandsRising (journals_of r place)

@@ -29,8 +29,8 @@ abbrev pub HasAnswers : Script → Report → ℕ → Type 0
 HasAnswers s r worker = length (answers_of r worker) ≡ length (commands_of s worker) + sweeps_of s worker
 
 -- each worker has
-abbrev pub IsCounted : Script → Report → Type 0
-IsCounted s r = (worker : ℕ) → HasAnswers s r worker
+abbrev pub AllHaveAnswers : Script → Report → Type 0
+AllHaveAnswers s r = (worker : ℕ) → HasAnswers s r worker
 
 -- the answer behind those to a worker's commands, if there is one, is to a sweep
 abbrev pub IsLastSwept : Script → Report → ℕ → Type 0

@@ -4,7 +4,7 @@ use Rattle.shr_base.specs.declared.places.Place.{Place}
 use Rattle.shr_base.specs.declared.scripts.Script.{Script}
 use Rattle.shr_report.specs.declared.report.Report.{Report}
 use Rattle.shr_report.specs.Parts.{at, cited_at, serial_of}
-use Rattle.shr_audit_replies.specs.Heads.{HasNames, HasPaths, HasPoolNames, HasSizes, IsCounted, AreLastSwept}
+use Rattle.shr_audit_replies.specs.Heads.{HasNames, HasPaths, HasPoolNames, HasSizes, AllHaveAnswers, AreLastSwept}
 use Rattle.shr_audit_replies.specs.Answers.{AreAnswered}
 use Rattle.shr_audit_replies.specs.Cited.{AreEntriesCited}
 
@@ -23,7 +23,7 @@ DoCitesRise r = (worker k later : ℕ) (place : Place) (n m : ℕ) → k < later
 -- the replies are lawful, whatever values hits lend
 pub record AreRepliesLawfulButValues (s : Script) (r : Report) : Type 0 where
   pub heads : HasHeads s r
-  pub counts : IsCounted s r
+  pub counts : AllHaveAnswers s r
   pub last : AreLastSwept s r
   pub answered : AreAnswered s r
   pub cited : AreEntriesCited r

@@ -3,7 +3,7 @@
 ghost use Rattle.std.specs.Prelude.{◌≡◌, ◌∷◌, codes, map};
 ghost use Rattle.std.specs.Bool.{Decides};
 ghost use Rattle.shr_report.specs.Swept.{IsSweepReply};
-ghost use Rattle.shr_audit_replies.specs.Heads.{AreLastSwept, HasAnswers, HasNames, HasPaths, HasPoolNames, HasSizes, IsCounted, IsLastSwept};
+ghost use Rattle.shr_audit_replies.specs.Heads.{AreLastSwept, HasAnswers, HasNames, HasPaths, HasPoolNames, HasSizes, AllHaveAnswers, IsLastSwept};
 
 use crate::numbers::{answer_of, count_answers, count_commands, count_sweeps};
 use shr_base::replies::Reply;
@@ -144,7 +144,7 @@ fn has_answers(script: &Script, report: &Report, worker: usize) -> bool
 /// Whether each worker has one answer per command, and behind them one to the sweep of a script
 /// that has one. Our own.
 pub fn is_counted(script: &Script, report: &Report) -> bool
-    ensures { Decides result (IsCounted script.now report.now) }
+    ensures { Decides result (AllHaveAnswers script.now report.now) }
 {
     let workers = script.workers.len().max(report.workers.len());
     for worker in 0..workers {

@@ -4,8 +4,8 @@ ghost use Rattle.std.specs.Prelude.{◌≡◌, ◌+◌, IfOk, length, true};
 ghost use Rattle.std.specs.Bool.{Decides};
 ghost use Rattle.shr_case.specs.Each.{EachFirst};
 ghost use Rattle.shr_case.specs.Places.{AreInOrder};
-ghost use Rattle.shr_audit_replies.specs.Cited.{AreJournalsRising, AreRising};
-ghost use Rattle.shr_audit_replies.specs.Rising.{AreBelow, GoesOn, IsAfter};
+ghost use Rattle.shr_audit_replies.specs.Cited.{AreJournalsRising, AreCommandsRising};
+ghost use Rattle.shr_audit_replies.specs.Rising.{AreOfEarlierJournals, EntryGoesOn, IsAfter};
 
 use crate::cited::by_of;
 use shr_base::ends::PlaceEnd;
@@ -33,7 +33,7 @@ fn is_after(last: Last, journal: usize, by: Serial) -> bool
 
 // No worker has had an entry yet.
 fn no_lasts(alloc: Global) -> Result<Vec<Last>, Memory>
-    ensures { IfOk result (λ seen. AreBelow 1 seen.items) }
+    ensures { IfOk result (λ seen. AreOfEarlierJournals 1 seen.items) }
 {
     let mut seen = Vec::new(alloc);
     for _worker in 0..65536usize {
@@ -48,7 +48,7 @@ fn no_lasts(alloc: Global) -> Result<Vec<Last>, Memory>
 // Goes on by an entry of a journal, if its command comes after the last one of its worker there.
 fn goes_on(seen: &mut Vec<Last>, journal: usize, entry: &Entry) -> bool
     requires { length seen.old.items ≡ 65536 }
-    ensures { GoesOn journal entry.now seen.old.items seen.new.items result }
+    ensures { EntryGoesOn journal entry.now seen.old.items seen.new.items result }
 {
     let Some(by) = by_of(entry) else {
         return true;
@@ -66,9 +66,9 @@ fn goes_on(seen: &mut Vec<Last>, journal: usize, entry: &Entry) -> bool
 
 // Whether they rise along this journal, whose number is above those before it.
 fn is_rising(seen: &mut Vec<Last>, journal: usize, entries: &[Entry]) -> bool
-    requires { AreBelow journal seen.old.items }
-    ensures rising { Decides result (AreRising entries.now) }
-    ensures seen { result ≡ true → AreBelow (journal + 1) seen.new.items }
+    requires { AreOfEarlierJournals journal seen.old.items }
+    ensures rising { Decides result (AreCommandsRising entries.now) }
+    ensures seen { result ≡ true → AreOfEarlierJournals (journal + 1) seen.new.items }
 {
     for n in 0..entries.len() {
         if !goes_on(seen, journal, &entries[n]) {
@@ -80,9 +80,9 @@ fn is_rising(seen: &mut Vec<Last>, journal: usize, entries: &[Entry]) -> bool
 
 // Whether they rise along this list, if it is the first one of its place.
 fn is_list_rising(seen: &mut Vec<Last>, journal: usize, first: bool, end: &PlaceEnd) -> bool
-    requires { AreBelow journal seen.old.items }
-    ensures rising { Decides result (first ≡ true → AreRising end.now.entries.items) }
-    ensures seen { result ≡ true → AreBelow (journal + 1) seen.new.items }
+    requires { AreOfEarlierJournals journal seen.old.items }
+    ensures rising { Decides result (first ≡ true → AreCommandsRising end.now.entries.items) }
+    ensures seen { result ≡ true → AreOfEarlierJournals (journal + 1) seen.new.items }
 {
     if !first {
         return true;
@@ -95,7 +95,7 @@ fn is_list_rising(seen: &mut Vec<Last>, journal: usize, first: bool, end: &Place
 fn are_lists_rising(alloc: Global, ends: &[PlaceEnd]) -> Result<bool, Memory>
     requires { AreInOrder ends.now }
     ensures { IfOk result (λ b. Decides b (EachFirst ends.now
-        (λ end. AreRising end.entries.items))) }
+        (λ end. AreCommandsRising end.entries.items))) }
 {
     let mut seen = no_lasts(alloc)?;
     for k in 0..ends.len() {

@@ -1,23 +1,22 @@
 -- What was made begins with what was due, piece by piece.
-use Rattle.shr_audit_rounds.proofs.Common.{◌≡◌, ℕ, zero, suc, ◌+◌, ◌-◌, ◌<◌, ◌≤◌, Bool, true, false, List, [], ◌∷◌, ◌++◌, length, get_or, take, drop, map, flat_map, refl, sym, ap, subst, ◌∙◌, arith, ◌==◌, Decides, range_with_len, eqb-true, eq-eqb, append-nil, append_assoc, length-drop, take_more, flat_map-append, Job, Begins, IsBehind, IsMade, IsNotBegun}
-use Rattle.std.proofs.lemmas.List.{take_all, take-append-drop}
+use Rattle.shr_audit_rounds.proofs.Common.{◌≡◌, ℕ, zero, suc, ◌+◌, ◌-◌, ◌<◌, ◌≤◌, Bool, true, false, List, [], ◌∷◌, ◌++◌, length, get_or, take, drop, map, flat_map, refl, sym, ap, subst, ◌∙◌, arith, ◌==◌, Decides, range_with_len, eqb-true, eq-eqb, append-nil, append_assoc, length-drop, take_more, flat_map-append, Job, BeginsAsDue, IsBehind, IsMadeAsDue, IsNotBegun, take_all, take-append-drop}
 use Rattle.std.proofs.lemmas.List.FromFn.{length-range_with_len, get_or-range_with_len}
 
-pub begins_empty : (w : Bool) (due : List Job) → w ≡ false → Begins w due []
+pub begins_empty : (w : Bool) (due : List Job) → w ≡ false → BeginsAsDue w due []
 begins_empty w [] e = tt
 begins_empty w (j ∷ js) e = e
 
-pub begins_then : (w : Bool) (xs ys all : List Job) → Begins w xs all → Begins w ys (drop (length xs) all) → Begins w (xs ++ ys) all
+pub begins_then : (w : Bool) (xs ys all : List Job) → BeginsAsDue w xs all → BeginsAsDue w ys (drop (length xs) all) → BeginsAsDue w (xs ++ ys) all
 begins_then w [] ys all h g = g
 begins_then w (x ∷ xs) ys [] h g = h
 begins_then w (x ∷ xs) ys (m ∷ ms) h g = (h.0, begins_then w xs ys ms h.1 g)
 
-pub begins_front : (w : Bool) (xs ys all : List Job) → Begins w (xs ++ ys) all → Begins w xs all
+pub begins_front : (w : Bool) (xs ys all : List Job) → BeginsAsDue w (xs ++ ys) all → BeginsAsDue w xs all
 begins_front w [] ys all h = tt
 begins_front w (x ∷ xs) ys [] h = h
 begins_front w (x ∷ xs) ys (m ∷ ms) h = (h.0, begins_front w xs ys ms h.1)
 
-pub begins_back : (w : Bool) (xs ys all : List Job) → Begins w (xs ++ ys) all → Begins w ys (drop (length xs) all)
+pub begins_back : (w : Bool) (xs ys all : List Job) → BeginsAsDue w (xs ++ ys) all → BeginsAsDue w ys (drop (length xs) all)
 begins_back w [] ys all h = h
 begins_back w (x ∷ xs) ys [] h = begins_empty w ys h
 begins_back w (x ∷ xs) ys (m ∷ ms) h = begins_back w xs ys ms h.1
@@ -34,13 +33,13 @@ drop_then (x ∷ xs) ys (m ∷ ms) = drop_then xs ys ms
 -- one piece behind others
 pub behind_then : (w : Bool) (xs ys all rest more : List Job) → IsBehind w xs all rest → IsBehind w ys rest more → IsBehind w (xs ++ ys) all more
 behind_then w xs ys all rest more h g = record {
-  begins = begins_then w xs ys all h.begins (subst (Begins w ys) h.behind g.begins);
+  begins = begins_then w xs ys all h.begins (subst (BeginsAsDue w ys) h.behind g.begins);
   behind = g.behind ∙ ap (drop (length ys)) h.behind ∙ sym (drop_then xs ys all);
 }
 
 -- where one isn't there, the whole isn't
 pub not_behind : (w : Bool) (xs ys zs all rest : List Job) → IsBehind w xs all rest → IsNotBegun w ys rest → IsNotBegun w (xs ++ (ys ++ zs)) all
-not_behind w xs ys zs all rest h none g = none (subst (Begins w ys) (sym h.behind) (begins_front w ys zs (drop (length xs) all) (begins_back w xs (ys ++ zs) all g)))
+not_behind w xs ys zs all rest h none g = none (subst (BeginsAsDue w ys) (sym h.behind) (begins_front w ys zs (drop (length xs) all) (begins_back w xs (ys ++ zs) all g)))
 
 pub behind_none : (w : Bool) (all : List Job) → IsBehind w [] all all
 behind_none w all = record { begins = tt; behind = refl }
@@ -121,7 +120,7 @@ not_none j h = let e : ◌≡◌ {A = Bool} true false = h in cc
 
 -- ---- all of them
 
-pub made_behind : (w : Bool) (due made rest : List Job) (b : Bool) → IsBehind w due made rest → b ≡ (length rest == 0) → Decides b (IsMade w due made)
+pub made_behind : (w : Bool) (due made rest : List Job) (b : Bool) → IsBehind w due made rest → b ≡ (length rest == 0) → Decides b (IsMadeAsDue w due made)
 made_behind w due made rest b h e = (
   λ t. record { begins = h.begins; few = let none : length rest ≡ 0 = eqb-true (length rest) 0 (sym e ∙ t) in omega (arith, long, same, none) },
   λ m. e ∙ eq-eqb (length rest) 0 (let few = m.few in omega (arith, long, same, few)),
@@ -133,5 +132,5 @@ made_behind w due made rest b h e = (
     same : length rest ≡ length (drop (length due) made)
     same = ap length h.behind
 
-pub not_made : (w : Bool) (due made : List Job) → IsNotBegun w due made → Decides false (IsMade w due made)
+pub not_made : (w : Bool) (due made : List Job) → IsNotBegun w due made → Decides false (IsMadeAsDue w due made)
 not_made w due made none = (λ t. absurd cc, λ m. absurd (none m.begins))

@@ -1,7 +1,6 @@
 -- The groups at or above another, one after the other.
-use Rattle.shr_audit_rounds.proofs.Common.{◌≡◌, ℕ, zero, suc, ◌+◌, ◌<◌, ◌≤◌, Bool, true, false, cond, List, [], ◌∷◌, ◌++◌, length, get_or, take, refl, sym, ap, subst, ◌∙◌, inl, inr, arith, ◌↔◌, ◌==◌, nat_lt, Decides, AllByRecursion, cases_Bool, eqb-true, eq-eqb, ne_eqb, nat_tests, take_more, IsAtOrAbove, IsTree, parent_of}
+use Rattle.shr_audit_rounds.proofs.Common.{◌≡◌, ℕ, zero, suc, ◌+◌, ◌<◌, ◌≤◌, Bool, true, false, cond, List, [], ◌∷◌, ◌++◌, length, get_or, take, refl, sym, ap, subst, ◌∙◌, inl, inr, arith, ◌↔◌, ◌==◌, nat_lt, Decides, AllByRecursion, cases_Bool, eqb-true, eq-eqb, ne_eqb, nat_tests, take_more, IsAtOrAbove, IsTree, parent_of, path_of-below, path_of-root}
 use Rattle.shr_model.specs.Groups.{path_of, path_within}
-use Rattle.shr_model.proofs.GroupsLaws.{path_of-below, path_of-root}
 use Rattle.shr_model.proofs.Members.{Has, Contains_from_Has, Has_from_Contains}
 use Rattle.shr_model.proofs.Lists.{none_past}
 

@@ -1,16 +1,12 @@
 -- The commands of all workers, against the law.
-use Rattle.shr_audit_rounds.proofs.Common.{◌≡◌, ℕ, ◌+◌, ◌^◌, ◌<◌, ◌≤◌, Bool, true, false, List, [], ◌∷◌, length, get_or, map, Some, refl, sym, ap, subst, ◌∙◌, arith, ◌&&◌, ◌==◌, count_by, slice_get, Decides, AllByRecursion, get_or_from_slice_get, slice_get_within, WorkerPart, UseStep, Serial, Answered, Reply, Command, Script, is_refused, ops_by, Job, job_of, Report, commands_of, limit_of, parents_of, serial_of, uses_at, walks_by, AreWalksOf, clash, more_at, Dues, IsAnswerMade, IsCommandMade, IsPartMade, groups_of, refusals_with, serial_key, times, jobs_made, stands_here, here_at}
+use Rattle.shr_audit_rounds.proofs.Common.{◌≡◌, ℕ, ◌+◌, ◌^◌, ◌<◌, ◌≤◌, Bool, true, false, List, [], ◌∷◌, length, get_or, map, Some, refl, sym, ap, subst, ◌∙◌, arith, ◌&&◌, ◌==◌, count_by, slice_get, Decides, AllByRecursion, get_or_from_slice_get, slice_get_within, WorkerPart, UseStep, Serial, Answered, Reply, Command, Script, is_refused, ops_by, Job, job_of, Report, commands_of, limit_of, parents_of, serial_of, uses_at, walks_by, AreWalksOf, clash, more_at, Dues, IsAnswerMade, IsCommandMade, IsPartMade, refused_groups, refusals_with, refusal_key, times_over, jobs_made, stands_here, here_at, EachAnswer, all_at, AreDues, walks_are, same_test}
 use Rattle.shr_report.specs.Numbers.{HasNumbers, IsUseNumbered}
-use Rattle.shr_report.specs.Parts.{EachAnswer}
 use Rattle.shr_report.specs.WellFormed.{IsWellFormed}
-use Rattle.shr_formed.proofs.Eachs.{all_at}
 use Rattle.shr_case.specs.Each.{AnswersInParts}
 use Rattle.shr_case.proofs.Eachs.{each_answer_of}
 use Rattle.shr_audit_walks.specs.Commands.{walks_with}
-use Rattle.shr_audit_rounds.specs.Commands.{AreDues}
 use Rattle.shr_audit_rounds.proofs.Making.{made_walks, walks_made}
 use Rattle.shr_audit_rounds.proofs.Refusing.{refusals_counted}
-use Rattle.shr_audit_walks.proofs.Answered.{walks_are, same_test}
 
 -- what is so of each two items with one number
 pub both_more : {X Y : Type 0} (P : ℕ → X → Y → Type 0) (xs : List X) (ys : List Y) (i : ℕ) (x : X) (y : Y) → i < length xs → x ≡ get_or xs i x → y ≡ get_or ys i y
@@ -34,7 +30,7 @@ found_as ps qs m n refused c x vs ws p q e h =
 
 module _ (s : Script) (r : Report) (dues : Dues) (are : AreDues s r.uses.items dues) (well : IsWellFormed r) (numbers : HasNumbers r) (few : (worker : ℕ) → length (commands_of s worker) ≤ 2 ^ 32) where
   module _ (worker : ℕ) (part : WorkerPart) (at : slice_get r.workers.items worker ≡ Some part) (n : ℕ) (c : Command) (here : slice_get (commands_of s worker) n ≡ Some c) (x : Reply) where
-    counts : (h : ℕ) → times h (groups_of (refusals_with (serial_key (serial_of worker n)) dues.refusals.items)) ≡ count_by (is_refused (limit_of s h)) (ops_by (serial_of worker n) (uses_at r h))
+    counts : (h : ℕ) → times_over h (refused_groups (refusals_with (refusal_key (serial_of worker n)) dues.refusals.items)) ≡ count_by (is_refused (limit_of s h)) (ops_by (serial_of worker n) (uses_at r h))
     counts h =
         let within = slice_get_within (commands_of s worker) n c here in
         let limit = few worker in
@@ -44,12 +40,12 @@ module _ (s : Script) (r : Report) (dues : Dues) (are : AreDues s r.uses.items d
     jobs = ap jobs_made (sym (walks_are r worker n part well at))
 
     to_law : IsAnswerMade dues (serial_of worker n) part.walks.items c x → AreWalksOf s r (serial_of worker n) c x
-    to_law h = made_walks s r (serial_of worker n) (groups_of (refusals_with (serial_key (serial_of worker n)) dues.refusals.items)) counts c x
-        (found_as dues.subtrees.parents.items (parents_of s) dues.nodes s.nodes (groups_of (refusals_with (serial_key (serial_of worker n)) dues.refusals.items)) c x (jobs_made (walks_with part.walks.items n)) (map job_of (walks_by r (serial_of worker n))) are.parents are.nodes jobs h)
+    to_law h = made_walks s r (serial_of worker n) (refused_groups (refusals_with (refusal_key (serial_of worker n)) dues.refusals.items)) counts c x
+        (found_as dues.subtrees.parents.items (parents_of s) dues.nodes s.nodes (refused_groups (refusals_with (refusal_key (serial_of worker n)) dues.refusals.items)) c x (jobs_made (walks_with part.walks.items n)) (map job_of (walks_by r (serial_of worker n))) are.parents are.nodes jobs h)
 
     of_law : AreWalksOf s r (serial_of worker n) c x → IsAnswerMade dues (serial_of worker n) part.walks.items c x
-    of_law h = found_as (parents_of s) dues.subtrees.parents.items s.nodes dues.nodes (groups_of (refusals_with (serial_key (serial_of worker n)) dues.refusals.items)) c x (map job_of (walks_by r (serial_of worker n))) (jobs_made (walks_with part.walks.items n)) (sym are.parents) (sym are.nodes) (sym jobs)
-        (walks_made s r (serial_of worker n) (groups_of (refusals_with (serial_key (serial_of worker n)) dues.refusals.items)) counts c x h)
+    of_law h = found_as (parents_of s) dues.subtrees.parents.items s.nodes dues.nodes (refused_groups (refusals_with (refusal_key (serial_of worker n)) dues.refusals.items)) c x (map job_of (walks_by r (serial_of worker n))) (jobs_made (walks_with part.walks.items n)) (sym are.parents) (sym are.nodes) (sym jobs)
+        (walks_made s r (serial_of worker n) (refused_groups (refusals_with (refusal_key (serial_of worker n)) dues.refusals.items)) counts c x h)
 
   abbrev Law : Serial → Command → Answered → Type 0
   Law by c a = AreWalksOf s r by c a.reply

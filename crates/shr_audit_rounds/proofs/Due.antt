@@ -1,6 +1,5 @@
 -- The rounds that were due, by how often each group refused.
-use Rattle.shr_audit_rounds.proofs.Common.{◌≡◌, ℕ, ◌+◌, ◌<◌, ◌≤◌, Bool, true, false, cond, List, [], ◌∷◌, length, Option, Some, None, refl, sym, ap, subst, ◌∙◌, arith, ◌==◌, Decides, AllByRecursion, eq-eqb, IsAtOrAbove, Job, AreAlike, AreDue, FitsRounds, IsWithout, TakesOut, named, times, Refusal, groups_of, some_is}
-use Rattle.shr_audit_rounds.specs.Rounds.{IsPutMade}
+use Rattle.shr_audit_rounds.proofs.Common.{◌≡◌, ℕ, ◌+◌, ◌<◌, ◌≤◌, Bool, true, false, cond, List, [], ◌∷◌, length, Option, Some, None, refl, sym, ap, subst, ◌∙◌, arith, ◌==◌, Decides, AllByRecursion, eq-eqb, IsAtOrAbove, Job, AreAlike, AreDue, FitsRounds, IsWithout, TakesOut, named, times_over, Refusal, refused_groups, some_is, IsPutMade}
 use Rattle.shr_audit_rounds.proofs.Alike.{all_alike, same_length, so_of, so_of_each}
 
 -- ---- what is left of the groups that refused
@@ -24,7 +23,7 @@ due_too over refused xs ys a same =
       all = λ g e. long ∙ a.all g e;
     }
 
-pub not_named : (group : ℕ) (old rounds : List ℕ) → times group old ≡ 0 → AreDue (Some group) old rounds → ⊥
+pub not_named : (group : ℕ) (old rounds : List ℕ) → times_over group old ≡ 0 → AreDue (Some group) old rounds → ⊥
 not_named group old rounds none d =
     let one : ◌≡◌ {A = ℕ} (cond (group == group) 1 0) 1 = rw (eq-eqb group group refl) refl in
     let e = d.refusals group in omega (arith, one, e, none)
@@ -81,7 +80,7 @@ module _ (parents : List ℕ) (nodes group : ℕ) (over : Option ℕ) (whole : B
 pub due_so : (P : ℕ → Type 0) (over : Option ℕ) (refused new : List ℕ) → AreDue over refused new → AllByRecursion P refused → AllByRecursion P new
 due_so P over refused new d all = so_of_each P new (λ h lt. so_of P h refused all (let e = d.refusals h in omega (arith, e, lt)))
 
-pub groups_there : (n : ℕ) (refusals : List Refusal) → AllByRecursion (λ (x : Refusal). x.group < n) refusals → AllByRecursion (λ (g : ℕ). g < n) (groups_of refusals)
+pub groups_there : (n : ℕ) (refusals : List Refusal) → AllByRecursion (λ (x : Refusal). x.group < n) refusals → AllByRecursion (λ (g : ℕ). g < n) (refused_groups refusals)
 groups_there n [] all = tt
 groups_there n (x ∷ xs) all = (all.0, groups_there n xs all.1)
 
@@ -91,6 +90,6 @@ pub taken : (b : Bool) (x : ℕ) (old new : List ℕ) → TakesOut b x old new �
 taken true x old new h e = h
 taken false x old new h e = absurd cc
 
-pub not_taken : (b : Bool) (x : ℕ) (old new : List ℕ) → TakesOut b x old new → b ≡ false → times x old ≡ 0
+pub not_taken : (b : Bool) (x : ℕ) (old new : List ℕ) → TakesOut b x old new → b ≡ false → times_over x old ≡ 0
 not_taken false x old new h e = h
 not_taken true x old new h e = absurd cc

@@ -1,9 +1,6 @@
 -- Rounds over some groups in some order, round by round.
-use Rattle.shr_audit_rounds.proofs.Common.{◌≡◌, ℕ, zero, suc, ◌+◌, ◌-◌, ◌<◌, ◌≤◌, Bool, true, false, List, [], ◌∷◌, ◌++◌, length, get_or, map, flat_map, refl, sym, ap, subst, ◌∙◌, arith, ◌↔◌, ◌==◌, ◌||◌, not, Decides, AllByRecursion, range_with_len, eqb-true, eq-eqb, length-append, length-drop, WalkRecord, IsTree, preorder_of, Job, job_of, preorder_of-group, AreAlike, FitsRounds, IsWithout, TakesOut, times, Begins, IsBehind, IsMade, IsNotBegun, jobs_made}
+use Rattle.shr_audit_rounds.proofs.Common.{◌≡◌, ℕ, zero, suc, ◌+◌, ◌-◌, ◌<◌, ◌≤◌, Bool, true, false, List, [], ◌∷◌, ◌++◌, length, get_or, map, flat_map, refl, sym, ap, subst, ◌∙◌, arith, ◌↔◌, ◌==◌, ◌||◌, not, Decides, AllByRecursion, range_with_len, eqb-true, eq-eqb, length-append, length-drop, WalkRecord, IsTree, preorder_of, Job, job_of, preorder_of-group, AreAlike, FitsRounds, IsWithout, TakesOut, times_over, BeginsAsDue, IsBehind, IsMadeAsDue, IsNotBegun, jobs_made, job, subtrees_of, round_over}
 use Rattle.shr_model.specs.Commands.{round_of, rounds_from}
-use Rattle.shr_model.specs.Walks.{job}
-use Rattle.shr_model.proofs.GroupsLaws.{subtrees_of}
-use Rattle.shr_audit_rounds.specs.Rows.{round_over}
 use Rattle.shr_audit_rounds.proofs.Alike.{alike_with, alike_without, all_alike, all_without, nothing_alike, out_so, own_time}
 use Rattle.shr_audit_rounds.proofs.Due.{not_taken, taken}
 use Rattle.shr_audit_rounds.proofs.Begun.{begins_back, begins_empty, begins_front, begins_then}
@@ -42,39 +39,39 @@ module _ (parents : List ℕ) (nodes : ℕ) (tree : IsTree parents) (some : 0 < 
   rounds_next p g gs = refl
 
   -- what begins with a round is over its group
-  first_is : (w : Bool) (p g : ℕ) (due : List Job) (m : Job) (ms : List Job) → g < length parents → Begins w (round_of parents nodes p g ++ due) (m ∷ ms) → m ≡ job g 0 p false
-  first_is w p g due m ms lt h = let f = round_first p g lt in (subst (λ (js : List Job). Begins w (js ++ due) (m ∷ ms)) f.1 h).0
+  first_is : (w : Bool) (p g : ℕ) (due : List Job) (m : Job) (ms : List Job) → g < length parents → BeginsAsDue w (round_of parents nodes p g ++ due) (m ∷ ms) → m ≡ job g 0 p false
+  first_is w p g due m ms lt h = let f = round_first p g lt in (subst (λ (js : List Job). BeginsAsDue w (js ++ due) (m ∷ ms)) f.1 h).0
 
   -- where walks were made, the rounds have a first one, over the group of the first walk
   abbrev Heads : Bool → ℕ → List ℕ → Job → List Job → Type 0
-  Heads w p groups m ms = (others : List ℕ) × (AreAlike (m.group ∷ others) groups × (Begins w (round_of parents nodes p m.group ++ rounds_from parents nodes (p - 1) others) (m ∷ ms)
+  Heads w p groups m ms = (others : List ℕ) × (AreAlike (m.group ∷ others) groups × (BeginsAsDue w (round_of parents nodes p m.group ++ rounds_from parents nodes (p - 1) others) (m ∷ ms)
       × (length (m ∷ ms) ≤ length (round_of parents nodes p m.group ++ rounds_from parents nodes (p - 1) others))))
 
   heads : (w : Bool) (p : ℕ) (groups : List ℕ) (m : Job) (ms : List Job) → There groups → FitsRounds parents nodes w p groups (m ∷ ms) → Heads w p groups m ms
   heads w p groups m ms there h = by h.rounds h.alike h.made
     where
-      at_group : (g : ℕ) (gs : List ℕ) → g ≡ m.group → AreAlike (g ∷ gs) groups → IsMade w (rounds_from parents nodes p (g ∷ gs)) (m ∷ ms) → Heads w p groups m ms
+      at_group : (g : ℕ) (gs : List ℕ) → g ≡ m.group → AreAlike (g ∷ gs) groups → IsMadeAsDue w (rounds_from parents nodes p (g ∷ gs)) (m ∷ ms) → Heads w p groups m ms
       at_group g gs e same made =
           let whole = rounds_next p g gs ∙ ap (λ (x : ℕ). round_of parents nodes p x ++ rounds_from parents nodes (p - 1) gs) e in (
             gs,
             (
               subst (λ (x : ℕ). AreAlike (x ∷ gs) groups) e same,
               (
-                subst (λ (due : List Job). Begins w due (m ∷ ms)) whole made.begins,
+                subst (λ (due : List Job). BeginsAsDue w due (m ∷ ms)) whole made.begins,
                 subst (λ (due : List Job). length (m ∷ ms) ≤ length due) whole made.few,
               ),
             ),
           )
 
-      by : (rounds : List ℕ) → AreAlike rounds groups → IsMade w (rounds_from parents nodes p rounds) (m ∷ ms) → Heads w p groups m ms
+      by : (rounds : List ℕ) → AreAlike rounds groups → IsMadeAsDue w (rounds_from parents nodes p rounds) (m ∷ ms) → Heads w p groups m ms
       by [] same made = absurd (let e = ap length (rounds_none p) in let few = made.few in omega (arith, e, few))
       by (g ∷ gs) same made =
           let lt : g < length parents = (all_alike (λ (x : ℕ). x < length parents) (g ∷ gs) groups same there).0 in
-          let is = first_is w p g (rounds_from parents nodes (p - 1) gs) m ms lt (subst (λ (due : List Job). Begins w due (m ∷ ms)) (rounds_next p g gs) made.begins) in
+          let is = first_is w p g (rounds_from parents nodes (p - 1) gs) m ms lt (subst (λ (due : List Job). BeginsAsDue w due (m ∷ ms)) (rounds_next p g gs) made.begins) in
           at_group g gs (sym (ap (λ (j : Job). j.group) is)) same made
 
   -- a round whose group isn't there is none
-  pub not_there : (w : Bool) (p : ℕ) (groups : List ℕ) (m : Job) (ms : List Job) → There groups → times m.group groups ≡ 0 → FitsRounds parents nodes w p groups (m ∷ ms) → ⊥
+  pub not_there : (w : Bool) (p : ℕ) (groups : List ℕ) (m : Job) (ms : List Job) → There groups → times_over m.group groups ≡ 0 → FitsRounds parents nodes w p groups (m ∷ ms) → ⊥
   not_there w p groups m ms there none h =
       let f = heads w p groups m ms there h in
       let e = f.1.0 m.group in let own = own_time m.group f.0 in omega (arith, e, own, none)
@@ -106,7 +103,7 @@ module _ (parents : List ℕ) (nodes : ℕ) (tree : IsTree parents) (some : 0 < 
             rounds = m.group ∷ h.rounds;
             alike = alike_with m.group h.rounds groups new h.alike out;
             made = record {
-              begins = subst (λ (due : List Job). Begins w due (m ∷ ms)) whole (begins_then w own more (m ∷ ms) behind.begins (subst (Begins w more) behind.behind h.made.begins));
+              begins = subst (λ (due : List Job). BeginsAsDue w due (m ∷ ms)) whole (begins_then w own more (m ∷ ms) behind.begins (subst (BeginsAsDue w more) behind.behind h.made.begins));
               few = subst (λ (due : List Job). length (m ∷ ms) ≤ length due) whole (let s = short (length more) h.made.few in let l = length-append own more in omega (arith, s, l));
             };
           }
@@ -119,7 +116,7 @@ module _ (parents : List ℕ) (nodes : ℕ) (tree : IsTree parents) (some : 0 < 
             rounds = f.0;
             alike = alike_without m.group f.0 groups new f.1.0 out;
             made = record {
-              begins = subst (Begins w more) (sym behind.behind) (begins_back w own more (m ∷ ms) f.1.1.0);
+              begins = subst (BeginsAsDue w more) (sym behind.behind) (begins_back w own more (m ∷ ms) f.1.1.0);
               few = back (length more) (let l = length-append own more in let few = f.1.1.1 in omega (arith, l, few));
             };
           }
@@ -129,16 +126,16 @@ module _ (parents : List ℕ) (nodes : ℕ) (tree : IsTree parents) (some : 0 < 
   made_none : (p : ℕ) (groups : List ℕ) → There groups → FitsRounds parents nodes true p groups [] → groups ≡ []
   made_none p groups there h = by h.rounds h.alike h.made
     where
-      by : (rounds : List ℕ) → AreAlike rounds groups → IsMade true (rounds_from parents nodes p rounds) [] → groups ≡ []
+      by : (rounds : List ℕ) → AreAlike rounds groups → IsMadeAsDue true (rounds_from parents nodes p rounds) [] → groups ≡ []
       by [] same made = nothing_alike groups same
       by (g ∷ gs) same made =
           let lt : g < length parents = (all_alike (λ (x : ℕ). x < length parents) (g ∷ gs) groups same there).0 in
           let f = round_first p g lt in
-          let bad : ◌≡◌ {A = Bool} true false = subst (λ (js : List Job). Begins true (js ++ rounds_from parents nodes (p - 1) gs) []) f.1 (subst (λ (due : List Job). Begins true due []) (rounds_next p g gs) made.begins) in
+          let bad : ◌≡◌ {A = Bool} true false = subst (λ (js : List Job). BeginsAsDue true (js ++ rounds_from parents nodes (p - 1) gs) []) f.1 (subst (λ (due : List Job). BeginsAsDue true due []) (rounds_next p g gs) made.begins) in
           absurd cc
 
   none_made : (p : ℕ) → FitsRounds parents nodes true p [] []
-  none_made p = record { rounds = []; alike = λ h. refl; made = record { begins = subst (λ (due : List Job). Begins true due []) (sym (rounds_none p)) tt; few = omega arith } }
+  none_made p = record { rounds = []; alike = λ h. refl; made = record { begins = subst (λ (due : List Job). BeginsAsDue true due []) (sym (rounds_none p)) tt; few = omega arith } }
 
   -- where not the whole need be there, no walk may be
   none_needed : (p : ℕ) (groups : List ℕ) → FitsRounds parents nodes false p groups []
@@ -161,9 +158,9 @@ module _ (parents : List ℕ) (nodes : ℕ) (tree : IsTree parents) (some : 0 < 
         by [] lt e = absurd (omega arith)
         by (v ∷ vs) lt e = (job_of v, (jobs_made vs, (refl, ap (λ (x : WalkRecord). x.group) (sym e))))
 
-    pub walks_not_there : times first.group groups ≡ 0 → FitsRounds parents nodes w p groups (jobs_made walks) → ⊥
+    pub walks_not_there : times_over first.group groups ≡ 0 → FitsRounds parents nodes w p groups (jobs_made walks) → ⊥
     walks_not_there none h =
-        not_there w p groups seen.0 seen.1.0 there (ap (λ (g : ℕ). times g groups) seen.1.1.1 ∙ none) (subst (λ (js : List Job). FitsRounds parents nodes w p groups js) seen.1.1.0 h)
+        not_there w p groups seen.0 seen.1.0 there (ap (λ (g : ℕ). times_over g groups) seen.1.1.1 ∙ none) (subst (λ (js : List Job). FitsRounds parents nodes w p groups js) seen.1.1.0 h)
 
     pub walks_not_begun : IsNotBegun w (round_of parents nodes p first.group) (jobs_made walks) → FitsRounds parents nodes w p groups (jobs_made walks) → ⊥
     walks_not_begun none h =

@@ -1,8 +1,5 @@
 -- The preorders of groups, from the last group up.
-use Rattle.shr_audit_rounds.proofs.Common.{◌≡◌, ◌⊎◌, ℕ, zero, suc, ◌+◌, ◌-◌, ◌<◌, ◌≤◌, Bool, true, false, cond, List, [], ◌∷◌, ◌++◌, length, get_or, filter, flat_map, Some, refl, sym, ap, subst, ◌∙◌, inl, inr, arith, Global, slice_get, Vec, range_with_len, cases_Bool, append-nil, length-append, flat_map-append, filter-append, slice_get_within, IsTree, parent_of, preorder_of, preorder_of-group, AreOrdersFrom, some_is}
-use Rattle.std.proofs.lemmas.Option.{slice_get-get_or}
-use Rattle.shr_model.specs.Groups.{is_child}
-use Rattle.shr_model.proofs.GroupsLaws.{child_again, child_higher, child_takes}
+use Rattle.shr_audit_rounds.proofs.Common.{◌≡◌, ◌⊎◌, ℕ, zero, suc, ◌+◌, ◌-◌, ◌<◌, ◌≤◌, Bool, true, false, cond, List, [], ◌∷◌, ◌++◌, length, get_or, filter, flat_map, Some, refl, sym, ap, subst, ◌∙◌, inl, inr, arith, Global, slice_get, Vec, range_with_len, cases_Bool, append-nil, length-append, flat_map-append, filter-append, slice_get_within, IsTree, parent_of, preorder_of, preorder_of-group, AreOrdersFrom, some_is, slice_get-get_or, is_child, child_again, child_higher, child_takes}
 use Rattle.shr_audit_rounds.specs.Orders.{subtrees_of}
 use Rattle.shr_formed.proofs.Strip.{range_more}
 

@@ -1,18 +1,7 @@
 -- The refused charges of a command, counted by their groups.
-use Rattle.shr_audit_rounds.proofs.Common.{◌≡◌, ◌⊎◌, ℕ, zero, suc, ◌+◌, ◌-◌, ◌^◌, ◌<◌, Bool, true, false, cond, List, [], ◌∷◌, ◌++◌, length, get_or, map, filter, take, Option, Some, None, refl, sym, ap, subst, ◌∙◌, inl, inr, arith, ◌&&◌, ◌==◌, count_by, nat_lt, nat_le, slice_get, AllByRecursion, cases_Bool, eqb-true, eq-eqb, nat_tests, length-map, take_more, sum_by-cons, filter-append, get_or_from_slice_get, slice_get_within, UseStep, Serial, Script, is_refused, ops_by, limit_of, parents_of, Refusal, AreRefusals, groups_of, refusals_in, refusals_with, serial_key, times}
-use Rattle.std.proofs.Common.{◌*◌}
-use Rattle.std.specs.Prelude.{sum_by, option_and_then, option_map}
+use Rattle.shr_audit_rounds.proofs.Common.{◌≡◌, ◌⊎◌, ℕ, zero, suc, ◌+◌, ◌-◌, ◌^◌, ◌<◌, Bool, true, false, cond, List, [], ◌∷◌, ◌++◌, length, get_or, map, filter, take, Option, Some, None, refl, sym, ap, subst, ◌∙◌, inl, inr, arith, ◌&&◌, ◌==◌, count_by, nat_lt, nat_le, slice_get, AllByRecursion, cases_Bool, eqb-true, eq-eqb, nat_tests, length-map, take_more, sum_by-cons, filter-append, get_or_from_slice_get, slice_get_within, UseStep, Serial, Script, is_refused, ops_by, limit_of, parents_of, Refusal, AreRefusals, refused_groups, refusals_in, refusals_with, refusal_key, times_over, ◌*◌, sum_by, option_and_then, option_map, and_parts, and_from, map-append, All-from_recursion, All-permutation, sum_by-IsPermutation, slice_get-map, is_by, limits_of, all_of, StandByKey, as_refusal}
 use Rattle.std.specs.List.Sorted.{IsPartitionedBy}
-use Rattle.std.proofs.lemmas.Bool.{and_parts, and_from}
-use Rattle.std.proofs.lemmas.List.{map-append}
-use Rattle.std.proofs.lemmas.List.Elements.{All-from_recursion}
-use Rattle.std.proofs.lemmas.List.Sorted.{All-permutation, sum_by-IsPermutation}
-use Rattle.std.proofs.lemmas.Option.{slice_get-map}
 use Rattle.shr_base.specs.declared.scripts.GroupDecl.{GroupDecl}
-use Rattle.shr_model.specs.Charges.{is_by}
-use Rattle.shr_report.specs.Parts.{limits_of}
-use Rattle.shr_formed.proofs.Eachs.{all_of}
-use Rattle.shr_audit_rounds.specs.Refusals.{StandByKey, refusal_of}
 
 -- ---- the limit of a group below the root
 
@@ -46,8 +35,8 @@ no_limit s group some e = sym (limit_below s group None some e)
 pub refusals_more : (s : Script) (uses : List UseStep) (i : ℕ) (d : UseStep) → i < length uses → refusals_in s (take (i + 1) uses) ≡ refusals_in s (take i uses) ++ refusals_in s (get_or uses i d ∷ [])
 refusals_more s uses i d lt =
     ap (refusals_in s) (take_more uses i d lt)
-    ∙ ap (map refusal_of) (filter-append (λ (o : UseStep). is_refused (limit_of s o.group) o) (take i uses) (get_or uses i d ∷ []))
-    ∙ map-append refusal_of (filter (λ (o : UseStep). is_refused (limit_of s o.group) o) (take i uses)) (filter (λ (o : UseStep). is_refused (limit_of s o.group) o) (get_or uses i d ∷ []))
+    ∙ ap (map as_refusal) (filter-append (λ (o : UseStep). is_refused (limit_of s o.group) o) (take i uses) (get_or uses i d ∷ []))
+    ∙ map-append as_refusal (filter (λ (o : UseStep). is_refused (limit_of s o.group) o) (take i uses)) (filter (λ (o : UseStep). is_refused (limit_of s o.group) o) (get_or uses i d ∷ []))
 
 -- ---- refused charges by their keys
 
@@ -82,8 +71,8 @@ module _ (s : Script) where
       rest = filter (λ (x : UseStep). is_refused (limit_of s x.group) x) os
 
       by : AllByRecursion (λ (x : Refusal). x.group < length (parents_of s)) (refusals_in s os) → ((is_refused (limit_of s o.group) o ≡ true) ⊎ (is_refused (limit_of s o.group) o ≡ false)) → AllByRecursion (λ (x : Refusal). x.group < length (parents_of s)) (refusals_in s (o ∷ os))
-      by more (inl t) = subst (λ (b : Bool). AllByRecursion (λ (x : Refusal). x.group < length (parents_of s)) (map refusal_of (cond b (o ∷ rest) rest))) (sym t) (refused_there o (limit_of s o.group) refl t, more)
-      by more (inr f) = subst (λ (b : Bool). AllByRecursion (λ (x : Refusal). x.group < length (parents_of s)) (map refusal_of (cond b (o ∷ rest) rest))) (sym f) more
+      by more (inl t) = subst (λ (b : Bool). AllByRecursion (λ (x : Refusal). x.group < length (parents_of s)) (map as_refusal (cond b (o ∷ rest) rest))) (sym t) (refused_there o (limit_of s o.group) refl t, more)
+      by more (inr f) = subst (λ (b : Bool). AllByRecursion (λ (x : Refusal). x.group < length (parents_of s)) (map as_refusal (cond b (o ∷ rest) rest))) (sym f) more
 
   pub there : (uses : List UseStep) (refusals : List Refusal) → AreRefusals s uses refusals → AllByRecursion (λ (x : Refusal). x.group < length (parents_of s)) refusals
   there uses refusals are =
@@ -107,28 +96,28 @@ one b = cond b 1 0
 module _ (s : Script) (by : Serial) (h : ℕ) (fits : by.command < 2 ^ 32) where
   -- a refused charge is of this command and group
   abbrev is : Refusal → Bool
-  is x = (x.key == serial_key by) && (x.group == h)
+  is x = (x.key == refusal_key by) && (x.group == h)
 
-  grouped : (refusals : List Refusal) → times h (groups_of (refusals_with (serial_key by) refusals)) ≡ sum_by (λ (x : Refusal). one (is x)) refusals
+  grouped : (refusals : List Refusal) → times_over h (refused_groups (refusals_with (refusal_key by) refusals)) ≡ sum_by (λ (x : Refusal). one (is x)) refusals
   grouped [] = refl
-  grouped (x ∷ xs) = head (x.key == serial_key by) ∙ ap (λ (n : ℕ). one (is x) + n) (grouped xs) ∙ sym (sum_by-cons (λ (y : Refusal). one (is y)) x xs)
+  grouped (x ∷ xs) = head (x.key == refusal_key by) ∙ ap (λ (n : ℕ). one (is x) + n) (grouped xs) ∙ sym (sum_by-cons (λ (y : Refusal). one (is y)) x xs)
     where
       rest : List Refusal
-      rest = refusals_with (serial_key by) xs
+      rest = refusals_with (refusal_key by) xs
 
-      head : (b : Bool) → times h (groups_of (cond b (x ∷ rest) rest)) ≡ one (b && (x.group == h)) + times h (groups_of rest)
-      head true = sum_by-cons (λ (z : ℕ). cond (z == h) 1 0) x.group (groups_of rest)
+      head : (b : Bool) → times_over h (refused_groups (cond b (x ∷ rest) rest)) ≡ one (b && (x.group == h)) + times_over h (refused_groups rest)
+      head true = sum_by-cons (λ (z : ℕ). cond (z == h) 1 0) x.group (refused_groups rest)
       head false = omega arith
 
-  counted : (uses : List UseStep) → sum_by (λ (x : Refusal). one (is x)) (refusals_in s uses) ≡ sum_by (λ (o : UseStep). one (is_refused (limit_of s o.group) o && is (refusal_of o))) uses
+  counted : (uses : List UseStep) → sum_by (λ (x : Refusal). one (is x)) (refusals_in s uses) ≡ sum_by (λ (o : UseStep). one (is_refused (limit_of s o.group) o && is (as_refusal o))) uses
   counted [] = refl
-  counted (o ∷ os) = head (is_refused (limit_of s o.group) o) ∙ ap (λ (n : ℕ). one (is_refused (limit_of s o.group) o && is (refusal_of o)) + n) (counted os) ∙ sym (sum_by-cons (λ (x : UseStep). one (is_refused (limit_of s x.group) x && is (refusal_of x))) o os)
+  counted (o ∷ os) = head (is_refused (limit_of s o.group) o) ∙ ap (λ (n : ℕ). one (is_refused (limit_of s o.group) o && is (as_refusal o)) + n) (counted os) ∙ sym (sum_by-cons (λ (x : UseStep). one (is_refused (limit_of s x.group) x && is (as_refusal x))) o os)
     where
       rest : List UseStep
       rest = filter (λ (x : UseStep). is_refused (limit_of s x.group) x) os
 
-      head : (b : Bool) → sum_by (λ (x : Refusal). one (is x)) (map refusal_of (cond b (o ∷ rest) rest)) ≡ one (b && is (refusal_of o)) + sum_by (λ (x : Refusal). one (is x)) (map refusal_of rest)
-      head true = sum_by-cons (λ (x : Refusal). one (is x)) (refusal_of o) (map refusal_of rest)
+      head : (b : Bool) → sum_by (λ (x : Refusal). one (is x)) (map as_refusal (cond b (o ∷ rest) rest)) ≡ one (b && is (as_refusal o)) + sum_by (λ (x : Refusal). one (is x)) (map as_refusal rest)
+      head true = sum_by-cons (λ (x : Refusal). one (is x)) (as_refusal o) (map as_refusal rest)
       head false = omega arith
 
   told : (uses : List UseStep) → count_by (is_refused (limit_of s h)) (ops_by by (filter (λ (o : UseStep). o.group == h) uses)) ≡ sum_by (λ (o : UseStep). one ((o.group == h) && (is_by by o && is_refused (limit_of s h) o))) uses
@@ -147,7 +136,7 @@ module _ (s : Script) (by : Serial) (h : ℕ) (fits : by.command < 2 ^ 32) where
       head false = omega arith
 
   -- the two tests are of the same operations
-  same_keys : (o : UseStep) → o.by.command < 2 ^ 32 → (serial_key o.by == serial_key by) ≡ is_by by o
+  same_keys : (o : UseStep) → o.by.command < 2 ^ 32 → (refusal_key o.by == refusal_key by) ≡ is_by by o
   same_keys o small = numbers o.by.worker o.by.command by.worker by.command small fits
     where
       numbers : (a b c d : ℕ) → b < 2 ^ 32 → d < 2 ^ 32 → (4294967296 * a + b == 4294967296 * c + d) ≡ ((a == c) && (b == d))
@@ -166,17 +155,17 @@ module _ (s : Script) (by : Serial) (h : ℕ) (fits : by.command < 2 ^ 32) where
               by_test (inl t) = absurd (let x = both (eqb-true (4294967296 * a + b) (4294967296 * c + d) t) in cc)
               by_test (inr g) = g ∙ sym f
 
-  same_tests : (o : UseStep) → o.by.command < 2 ^ 32 → (is_refused (limit_of s o.group) o && is (refusal_of o)) ≡ ((o.group == h) && (is_by by o && is_refused (limit_of s h) o))
+  same_tests : (o : UseStep) → o.by.command < 2 ^ 32 → (is_refused (limit_of s o.group) o && is (as_refusal o)) ≡ ((o.group == h) && (is_by by o && is_refused (limit_of s h) o))
   same_tests o small = elim (cases_Bool (o.group == h)) [
     | inl t ↦
-        ap (λ (b : Bool). is_refused (limit_of s o.group) o && ((serial_key o.by == serial_key by) && b)) t
+        ap (λ (b : Bool). is_refused (limit_of s o.group) o && ((refusal_key o.by == refusal_key by) && b)) t
         ∙ ap (λ (b : Bool). is_refused (limit_of s o.group) o && (b && true)) (same_keys o small)
         ∙ ap (λ (g : ℕ). is_refused (limit_of s g) o && (is_by by o && true)) (eqb-true o.group h t)
         ∙ turned (is_refused (limit_of s h) o) (is_by by o)
         ∙ ap (λ (b : Bool). b && (is_by by o && is_refused (limit_of s h) o)) (sym t)
     | inr f ↦
-        ap (λ (b : Bool). is_refused (limit_of s o.group) o && ((serial_key o.by == serial_key by) && b)) f
-        ∙ never (is_refused (limit_of s o.group) o) (serial_key o.by == serial_key by)
+        ap (λ (b : Bool). is_refused (limit_of s o.group) o && ((refusal_key o.by == refusal_key by) && b)) f
+        ∙ never (is_refused (limit_of s o.group) o) (refusal_key o.by == refusal_key by)
         ∙ ap (λ (b : Bool). b && (is_by by o && is_refused (limit_of s h) o)) (sym f)
   ]
     where
@@ -192,15 +181,15 @@ module _ (s : Script) (by : Serial) (h : ℕ) (fits : by.command < 2 ^ 32) where
       never false b = refl
 
   same_sums : (uses : List UseStep) → AllByRecursion (λ (o : UseStep). o.by.command < 2 ^ 32) uses
-      → sum_by (λ (o : UseStep). one (is_refused (limit_of s o.group) o && is (refusal_of o))) uses ≡ sum_by (λ (o : UseStep). one ((o.group == h) && (is_by by o && is_refused (limit_of s h) o))) uses
+      → sum_by (λ (o : UseStep). one (is_refused (limit_of s o.group) o && is (as_refusal o))) uses ≡ sum_by (λ (o : UseStep). one ((o.group == h) && (is_by by o && is_refused (limit_of s h) o))) uses
   same_sums [] small = refl
   same_sums (o ∷ os) small =
-      sum_by-cons (λ (x : UseStep). one (is_refused (limit_of s x.group) x && is (refusal_of x))) o os
-      ∙ ap (λ (b : Bool). one b + sum_by (λ (x : UseStep). one (is_refused (limit_of s x.group) x && is (refusal_of x))) os) (same_tests o small.0)
+      sum_by-cons (λ (x : UseStep). one (is_refused (limit_of s x.group) x && is (as_refusal x))) o os
+      ∙ ap (λ (b : Bool). one b + sum_by (λ (x : UseStep). one (is_refused (limit_of s x.group) x && is (as_refusal x))) os) (same_tests o small.0)
       ∙ ap (λ (n : ℕ). one ((o.group == h) && (is_by by o && is_refused (limit_of s h) o)) + n) (same_sums os small.1)
       ∙ sym (sum_by-cons (λ (x : UseStep). one ((x.group == h) && (is_by by x && is_refused (limit_of s h) x))) o os)
 
   pub refusals_counted : (uses : List UseStep) (refusals : List Refusal) → AllByRecursion (λ (o : UseStep). o.by.command < 2 ^ 32) uses → AreRefusals s uses refusals
-      → times h (groups_of (refusals_with (serial_key by) refusals)) ≡ count_by (is_refused (limit_of s h)) (ops_by by (filter (λ (o : UseStep). o.group == h) uses))
+      → times_over h (refused_groups (refusals_with (refusal_key by) refusals)) ≡ count_by (is_refused (limit_of s h)) (ops_by by (filter (λ (o : UseStep). o.group == h) uses))
   refusals_counted uses refusals small are =
       grouped refusals ∙ sum_by-IsPermutation (λ (x : Refusal). one (is x)) (refusals_in s uses) refusals are ∙ counted uses ∙ same_sums uses small ∙ sym (told uses)

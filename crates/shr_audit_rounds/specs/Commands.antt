@@ -18,9 +18,9 @@ use Rattle.shr_audit_walks.specs.Commands.{walks_with}
 use Rattle.shr_audit_rounds.specs.declared.commands.Dues.{Dues}
 use Rattle.shr_audit_rounds.specs.declared.refusals.Refusal.{Refusal}
 use Rattle.shr_audit_rounds.specs.Orders.{AreSubtrees}
-use Rattle.shr_audit_rounds.specs.Refusals.{AreRefusals, StandByKey, groups_of, refusals_with, serial_key}
+use Rattle.shr_audit_rounds.specs.Refusals.{AreRefusals, StandByKey, refused_groups, refusals_with, refusal_key}
 use Rattle.shr_audit_rounds.specs.Rounds.{IsPutMade}
-use Rattle.shr_audit_rounds.specs.Rows.{IsMade, jobs_made}
+use Rattle.shr_audit_rounds.specs.Rows.{IsMadeAsDue, jobs_made}
 
 -- the group that an answer names as the one that refused last
 abbrev pub over_of : Reply → Option ℕ
@@ -36,7 +36,7 @@ is_whole x = true
 -- a command that was answered so, and whose charges these groups refused, made the walks that were due
 abbrev pub IsCommandMade : List ℕ → ℕ → List ℕ → Command → Reply → List Job → Type 0
 IsCommandMade parents nodes refused (Put group node decl key value) x walks = IsPutMade parents nodes group (over_of x) (is_whole x) refused walks
-IsCommandMade parents nodes refused c x walks = IsMade (is_whole x) (jobs_of parents nodes [] c) walks
+IsCommandMade parents nodes refused c x walks = IsMadeAsDue (is_whole x) (jobs_of parents nodes [] c) walks
 
 -- groups that are a tree, some nodes, and refused charges by their commands, each of a group that is there
 pub record CanBeDue (dues : Dues) : Type 0 where
@@ -54,7 +54,7 @@ pub record AreDues (s : Script) (uses : List UseStep) (dues : Dues) : Type 0 whe
 
 -- a command made, of its worker's walks, those that were due
 abbrev pub IsAnswerMade : Dues → Serial → List WalkRecord → Command → Reply → Type 0
-IsAnswerMade dues by walks c x = IsCommandMade dues.subtrees.parents.items dues.nodes (groups_of (refusals_with (serial_key by) dues.refusals.items)) c x (jobs_made (walks_with walks by.command))
+IsAnswerMade dues by walks c x = IsCommandMade dues.subtrees.parents.items dues.nodes (refused_groups (refusals_with (refusal_key by) dues.refusals.items)) c x (jobs_made (walks_with walks by.command))
 
 -- each command of a worker did
 abbrev pub IsPartMade : Dues → ℕ → List Command → WorkerPart → Type 0

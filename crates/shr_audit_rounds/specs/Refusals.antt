@@ -9,16 +9,16 @@ use Rattle.shr_report.specs.Parts.{limit_of}
 use Rattle.shr_audit_rounds.specs.declared.refusals.Refusal.{Refusal}
 
 -- the numbers of a worker and of its command as one
-abbrev pub serial_key : Serial → ℕ
-serial_key by = 4294967296 * by.worker + by.command
+abbrev pub refusal_key : Serial → ℕ
+refusal_key by = 4294967296 * by.worker + by.command
 
 -- an operation that was refused, as its command's
-abbrev pub refusal_of : UseStep → Refusal
-refusal_of o = record { key = serial_key o.by; group = o.group }
+abbrev pub as_refusal : UseStep → Refusal
+as_refusal o = record { key = refusal_key o.by; group = o.group }
 
 -- the operations that were refused, in their order
 abbrev pub refusals_in : Script → List UseStep → List Refusal
-refusals_in s ops = map refusal_of (filter (λ (o : UseStep). is_refused (limit_of s o.group) o) ops)
+refusals_in s ops = map as_refusal (filter (λ (o : UseStep). is_refused (limit_of s o.group) o) ops)
 
 -- they stand by their commands
 abbrev pub StandByKey : List Refusal → Type 0
@@ -33,5 +33,5 @@ abbrev pub refusals_with : ℕ → List Refusal → List Refusal
 refusals_with key refusals = filter (λ (x : Refusal). x.key == key) refusals
 
 -- the groups of refused charges
-abbrev pub groups_of : List Refusal → List ℕ
-groups_of refusals = map (λ (x : Refusal). x.group) refusals
+abbrev pub refused_groups : List Refusal → List ℕ
+refused_groups refusals = map (λ (x : Refusal). x.group) refusals

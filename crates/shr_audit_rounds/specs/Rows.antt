@@ -26,21 +26,21 @@ abbrev pub round_over : ℕ → ℕ → List ℕ → List Job
 round_over nodes priority groups = flat_map (λ node. jobs_over (round_control priority node) groups) (range_with_len 0 nodes)
 
 -- What was made begins with what was due. Where not the whole of it need be there, it may end within.
-abbrev pub Begins : Bool → List Job → List Job → Type 0
-Begins whole [] made = ⊤
-Begins whole (j ∷ js) [] = whole ≡ false
-Begins whole (j ∷ js) (m ∷ ms) = (m ≡ j) × Begins whole js ms
+abbrev pub BeginsAsDue : Bool → List Job → List Job → Type 0
+BeginsAsDue whole [] made = ⊤
+BeginsAsDue whole (j ∷ js) [] = whole ≡ false
+BeginsAsDue whole (j ∷ js) (m ∷ ms) = (m ≡ j) × BeginsAsDue whole js ms
 
 -- it does, and this is behind it
 pub record IsBehind (whole : Bool) (due made rest : List Job) : Type 0 where
-  pub begins : Begins whole due made
+  pub begins : BeginsAsDue whole due made
   pub behind : rest ≡ drop (length due) made
 
 -- it doesn't
 abbrev pub IsNotBegun : Bool → List Job → List Job → Type 0
-IsNotBegun whole due made = Begins whole due made → ⊥
+IsNotBegun whole due made = BeginsAsDue whole due made → ⊥
 
 -- what was made is what was due, or where not the whole of it need be there, the first of it
-pub record IsMade (whole : Bool) (due made : List Job) : Type 0 where
-  pub begins : Begins whole due made
+pub record IsMadeAsDue (whole : Bool) (due made : List Job) : Type 0 where
+  pub begins : BeginsAsDue whole due made
   pub few : length made ≤ length due

@@ -11,7 +11,7 @@ ghost use Rattle.shr_report.specs.Parts.{EachAnswer, commands_of, parents_of};
 ghost use Rattle.shr_report.specs.WalksLawful.{AreWalksOf};
 ghost use Rattle.shr_report.specs.WellFormed.{IsWellFormed};
 ghost use Rattle.shr_audit_rounds.specs.Commands.{AreDues, CanBeDue, IsAnswerMade, IsCommandMade, IsPartMade};
-ghost use Rattle.shr_audit_rounds.specs.Refusals.{groups_of};
+ghost use Rattle.shr_audit_rounds.specs.Refusals.{refused_groups};
 ghost use Rattle.shr_audit_rounds.specs.Rows.{jobs_made};
 
 use crate::orders::Subtrees;
@@ -69,7 +69,7 @@ pub fn is_command_made(
     requires there { AllByRecursion (λ (x : Refusal). x.group < length
         dues.now.subtrees.parents.items) refusals.now }
     ensures { IfOk result (λ b. Decides b (IsCommandMade dues.now.subtrees.parents.items
-        dues.now.nodes (groups_of refusals.now) command.now reply.now (jobs_made walks.now))) }
+        dues.now.nodes (refused_groups refusals.now) command.now reply.now (jobs_made walks.now))) }
 {
     let whole = is_whole(reply);
     match command {

@@ -7,7 +7,7 @@ ghost use Rattle.shr_audit_rounds.specs.declared.refusals.Refusal.{Refusal};
 ghost use Rattle.shr_model.specs.Groups.{IsAtOrAbove, IsTree, parent_of};
 ghost use Rattle.shr_audit_rounds.specs.Commands.{is_whole, over_of};
 ghost use Rattle.shr_audit_rounds.specs.Orders.{AreSubtrees};
-ghost use Rattle.shr_audit_rounds.specs.Refusals.{groups_of};
+ghost use Rattle.shr_audit_rounds.specs.Refusals.{refused_groups};
 ghost use Rattle.shr_audit_rounds.specs.Rounds.{AreDue, IsPutMade};
 ghost use Rattle.shr_audit_rounds.specs.Rows.{jobs_made};
 
@@ -82,7 +82,7 @@ fn are_above(parents: &[u16], groups: &[u16], group: u16) -> bool
 
 // The groups of refused charges.
 fn groups_of(alloc: Global, refusals: &[Refusal]) -> Result<Vec<u16>, Memory>
-    ensures { IfOk result (λ groups. groups.items ≡ groups_of refusals.now) }
+    ensures { IfOk result (λ groups. groups.items ≡ refused_groups refusals.now) }
 {
     let mut groups = Vec::new(alloc);
     for refusal in refusals {
@@ -124,7 +124,7 @@ pub fn is_put_made(
     requires there { AllByRecursion (λ (x : Refusal). x.group < length
         dues.now.subtrees.parents.items) refusals.now }
     ensures { IfOk result (λ b. Decides b (IsPutMade dues.now.subtrees.parents.items
-        dues.now.nodes group (over_of reply.now) (is_whole reply.now) (groups_of refusals.now)
+        dues.now.nodes group (over_of reply.now) (is_whole reply.now) (refused_groups refusals.now)
         (jobs_made walks.now))) }
 {
     let mut groups = groups_of(alloc, refusals)?;

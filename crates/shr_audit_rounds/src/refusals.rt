@@ -4,7 +4,7 @@ ghost use Rattle.std.specs.Prelude.{◌≡◌, ◌<◌, ◌≤◌, ◌^◌, ◌+
 ghost use Rattle.shr_audit_rounds.specs.declared.refusals.Refusal.{Refusal};
 ghost use Rattle.shr_model.specs.Charges.{is_refused};
 ghost use Rattle.shr_report.specs.Parts.{limit_of};
-ghost use Rattle.shr_audit_rounds.specs.Refusals.{AreRefusals, StandByKey, refusals_in, refusals_with, serial_key};
+ghost use Rattle.shr_audit_rounds.specs.Refusals.{AreRefusals, StandByKey, refusals_in, refusals_with, refusal_key};
 
 use shr_base::journals::UseStep;
 use shr_base::memory::Memory;
@@ -21,7 +21,7 @@ pub struct Refusal {
 
 // The numbers of a worker and of its command as one.
 fn serial_key(by: Serial) -> u64
-    ensures key { result ≡ serial_key by }
+    ensures key { result ≡ refusal_key by }
     ensures command { by.command < 2 ^ 32 }
 {
     0x1_0000_0000 * by.worker as u64 + by.command as u64
@@ -112,7 +112,7 @@ fn behind_of(refusals: &[Refusal], key: u64) -> usize
 /// Those of a command. Our own.
 pub fn refusals_by(refusals: &[Refusal], by: Serial) -> &[Refusal]
     requires { StandByKey refusals.now }
-    ensures { result.now ≡ refusals_with (serial_key by) refusals.now }
+    ensures { result.now ≡ refusals_with (refusal_key by) refusals.now }
 {
     let key = serial_key(by);
     let low = first_of(refusals, key);

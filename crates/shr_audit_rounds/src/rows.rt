@@ -3,7 +3,7 @@
 ghost use Rattle.std.specs.Prelude.{◌≡◌, [], ◌∷◌, IfSome, IfNone};
 ghost use Rattle.std.specs.Bool.{Decides};
 ghost use Rattle.shr_model.specs.Walks.{job_of};
-ghost use Rattle.shr_audit_rounds.specs.Rows.{IsBehind, IsNotBegun, IsMade, job_with, jobs_made, jobs_over, round_over};
+ghost use Rattle.shr_audit_rounds.specs.Rows.{IsBehind, IsNotBegun, IsMadeAsDue, job_with, jobs_made, jobs_over, round_over};
 
 use shr_base::walks::WalkRecord;
 
@@ -101,7 +101,7 @@ pub fn behind_round<'a>(
 /// Whether the walks are those over these groups, or the first of them where not the `whole` of them
 /// need be there. Our own.
 pub fn is_row_made(walks: &[WalkRecord], groups: &[u16], control: Control, whole: bool) -> bool
-    ensures { Decides result (IsMade whole (jobs_over control groups.now) (jobs_made walks.now)) }
+    ensures { Decides result (IsMadeAsDue whole (jobs_over control groups.now) (jobs_made walks.now)) }
 {
     match behind_row(walks, groups, control, whole) {
         Some(rest) => rest.is_empty(),

@@ -1,8 +1,6 @@
 -- What answers say of declarations, added one after another.
-use Rattle.shr_audit_rows.proofs.Common.{◌≡◌, ℕ, ◌+◌, ◌<◌, ◌≤◌, List, [], ◌∷◌, ◌++◌, length, Option, Some, None, sym, ap, subst, ◌∙◌, inl, inr, arith, option_and_then, option_map, cases_lt, append-nil, slice_get_past, WorkerPart, Answered, Reply, Command, Script, Each, decl_named, Report, answer_at, answers_in, answers_of, command_at, reply_at, serial_of, Asked, AddsSo, AreAllSo, IsSo, IsSoIfAsked, asked_at, asked_in}
-use Rattle.std.specs.Prelude.{option_to_list}
+use Rattle.shr_audit_rows.proofs.Common.{◌≡◌, ℕ, ◌+◌, ◌<◌, ◌≤◌, List, [], ◌∷◌, ◌++◌, length, Option, Some, None, sym, ap, subst, ◌∙◌, inl, inr, arith, option_and_then, option_map, cases_lt, append-nil, slice_get_past, WorkerPart, Answered, Reply, Command, Script, EachItem, decl_named, Report, answer_at, answers_in, answers_of, command_at, reply_at, serial_of, Asked, AddsSo, AreAllSo, IsAskedRight, IsSoIfAsked, asked_at, asked_in, option_to_list, all_of, each_in}
 use Rattle.std.specs.List.{AllByRecursion}
-use Rattle.shr_formed.proofs.Eachs.{all_of, each_in}
 use Rattle.shr_model.proofs.Lists.{all_push}
 
 -- ---- one more
@@ -16,10 +14,10 @@ last_all P [] x h = h.0
 last_all P (y ∷ ys) x h = last_all P ys x h.1
 
 pub adds_one : (s : Script) (r : Report) (asked : List Asked) (o : Option Asked) → AddsSo s r asked (asked ++ option_to_list o) (IsSoIfAsked s r o)
-adds_one s r asked None = (λ h. (subst (Each (IsSo s r)) (append-nil asked) h, tt), λ h. subst (Each (IsSo s r)) (sym (append-nil asked)) h.0)
+adds_one s r asked None = (λ h. (subst (EachItem (IsAskedRight s r)) (append-nil asked) h, tt), λ h. subst (EachItem (IsAskedRight s r)) (sym (append-nil asked)) h.0)
 adds_one s r asked (Some a) = (
-  λ h. (let all = all_of (IsSo s r) (asked ++ a ∷ []) h in (each_in (IsSo s r) asked (front_all (IsSo s r) asked a all), last_all (IsSo s r) asked a all)),
-  λ h. each_in (IsSo s r) (asked ++ a ∷ []) (all_push (IsSo s r) asked a (all_of (IsSo s r) asked h.0) h.1),
+  λ h. (let all = all_of (IsAskedRight s r) (asked ++ a ∷ []) h in (each_in (IsAskedRight s r) asked (front_all (IsAskedRight s r) asked a all), last_all (IsAskedRight s r) asked a all)),
+  λ h. each_in (IsAskedRight s r) (asked ++ a ∷ []) (all_push (IsAskedRight s r) asked a (all_of (IsAskedRight s r) asked h.0) h.1),
 )
 
 -- ---- one after another
@@ -70,7 +68,7 @@ all_said s r empty asked n none over h = (
       | inr above ↦ (let e = no_answers r worker (omega (arith, over, above)) in absurd (omega (arith, e, there)))
     ]
   ],
-  λ so. h.1 (subst (Each (IsSo s r)) (sym none) (each_in (IsSo s r) [] tt), λ worker lt k there. so worker k),
+  λ so. h.1 (subst (EachItem (IsAskedRight s r)) (sym none) (each_in (IsAskedRight s r) [] tt), λ worker lt k there. so worker k),
 )
 
 -- ---- single answers

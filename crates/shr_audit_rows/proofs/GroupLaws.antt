@@ -1,7 +1,5 @@
 -- The groups of a script, the root first.
-use Rattle.shr_audit_rows.proofs.Common.{◌≡◌, ℕ, zero, suc, ◌-◌, List, ◌∷◌, get_or, map, Option, Some, None, refl, sym, ap, ◌∙◌, arith, slice_get, option_map, get_or_from_slice_get, slice_get-map, GroupDecl}
-use Rattle.std.specs.Prelude.{unwrap_or}
-use Rattle.std.proofs.lemmas.Option.{unwrap_or-slice_get}
+use Rattle.shr_audit_rows.proofs.Common.{◌≡◌, ℕ, zero, suc, ◌-◌, List, ◌∷◌, get_or, map, Option, Some, None, refl, sym, ap, ◌∙◌, arith, slice_get, option_map, get_or_from_slice_get, slice_get-map, GroupDecl, unwrap_or, unwrap_or-slice_get}
 
 module _ {Y : Type 0} (f : GroupDecl → Y) (root : Y) (xs : List GroupDecl) where
   pub group_some : (group : ℕ) (d : GroupDecl) → (group ≡ 0 → ⊥) → Some d ≡ slice_get xs (group - 1) → f d ≡ get_or (root ∷ map f xs) group root

@@ -1,12 +1,8 @@
 -- What is said of declarations, in the order of the entries.
-use Rattle.shr_audit_rows.proofs.Common.{◌≡◌, ℕ, ◌+◌, ◌<◌, ◌≤◌, Bool, true, false, List, [], ◌∷◌, length, get_or, take, Option, Some, None, refl, sym, ap, subst, ◌∙◌, arith, ◌&&◌, not, is_some, slice_get, Decides, IsSomeAnd, and_parts, and_from, get_or_from_slice_get, slice_get_within, PoolEntry, Script, Each, decides_iff, Report, Asked, AreAllSo, IsAskedSo, IsSaid, IsSo, Stands}
-use Rattle.std.specs.Prelude.{IsPermutation}
+use Rattle.shr_audit_rows.proofs.Common.{◌≡◌, ℕ, ◌+◌, ◌<◌, ◌≤◌, Bool, true, false, List, [], ◌∷◌, length, get_or, take, Option, Some, None, refl, sym, ap, subst, ◌∙◌, arith, ◌&&◌, not, is_some, slice_get, Decides, IsSomeAnd, and_parts, and_from, get_or_from_slice_get, slice_get_within, PoolEntry, Script, EachItem, decides_iff, Report, Asked, AreAllSo, IsAskedSo, IsSaid, IsAskedRight, Stands, IsPermutation, slice_get-get_or, clash, each_more, is_live_decl, lowest_idle}
 use Rattle.std.specs.List.{All}
 use Rattle.std.specs.List.Sorted.{IsNonDecreasingBy}
 use Rattle.std.proofs.lemmas.List.Sorted.{All-permutation, IsPermutation-sym}
-use Rattle.std.proofs.lemmas.Option.{slice_get-get_or}
-use Rattle.shr_formed.proofs.Eachs.{clash, each_more}
-use Rattle.shr_model.specs.Pool.{is_live_decl, lowest_idle}
 use Rattle.shr_report.specs.Causes.{IsCached, IsFull, IsUncached}
 use Rattle.shr_audit_rows.specs.declared.asked.Said.{Said}
 use Rattle.shr_audit_rows.specs.declared.asked.Said.TheVariants.{Uncached, Cached, Full}
@@ -53,17 +49,17 @@ known_of s r Uncached decl entry h = h.known
 known_of s r Cached decl entry h = h.known
 known_of s r Full decl entry h = h.known
 
-pub not_known : (s : Script) (r : Report) (a : Asked) → length r.pool.items < a.entry → Decides false (IsSo s r a)
+pub not_known : (s : Script) (r : Report) (a : Asked) → length r.pool.items < a.entry → Decides false (IsAskedRight s r a)
 not_known s r a over = (λ t. absurd cc, λ h. absurd (by a.decl h))
   where
     by : (o : Option ℕ) → IsSomeAnd o (λ decl. IsSaid s r a.said decl a.entry) → ⊥
     by None h = h
     by (Some decl) h = let le = known_of s r a.said decl a.entry h in omega (arith, le, over)
 
-pub so_of : (s : Script) (r : Report) (a : Asked) (decl : ℕ) (b : Bool) → a.decl ≡ Some decl → Decides b (IsSaid s r a.said decl a.entry) → Decides b (IsSo s r a)
+pub so_of : (s : Script) (r : Report) (a : Asked) (decl : ℕ) (b : Bool) → a.decl ≡ Some decl → Decides b (IsSaid s r a.said decl a.entry) → Decides b (IsAskedRight s r a)
 so_of s r a decl b is d = subst (λ (o : Option ℕ). Decides b (IsSomeAnd o (λ x. IsSaid s r a.said x a.entry))) (sym is) d
 
-pub so_none : (s : Script) (r : Report) (a : Asked) → a.decl ≡ None → Decides false (IsSo s r a)
+pub so_none : (s : Script) (r : Report) (a : Asked) → a.decl ≡ None → Decides false (IsAskedRight s r a)
 so_none s r a is = subst (λ (o : Option ℕ). Decides false (IsSomeAnd o (λ x. IsSaid s r a.said x a.entry))) (sym is) (λ t. absurd cc, λ h. absurd h)
 
 -- ---- all
@@ -91,21 +87,21 @@ low_next asked n next d order is m e le lt = by (order n m d (omega (arith, le))
 pub so_next : {X : Type 0} (P : X → Type 0) (xs : List X) (i : ℕ) (d : X) → i < length xs → ((n : ℕ) (x : X) → n < i → slice_get xs n ≡ Some x → P x) → P (get_or xs i d) → (n : ℕ) (x : X) → n < i + 1 → slice_get xs n ≡ Some x → P x
 so_next P xs i d lt before here = each_more P xs i (get_or xs i d) lt (sym (get_or_from_slice_get xs i (get_or xs i d) (get_or xs i d) (slice_get-get_or xs i d lt))) before here
 
-pub so_fails : {X : Type 0} (P : X → Type 0) (xs : List X) (i : ℕ) (d : X) (b : Bool) → i < length xs → Decides b (P (get_or xs i d)) → b ≡ false → Decides false (Each P xs)
+pub so_fails : {X : Type 0} (P : X → Type 0) (xs : List X) (i : ℕ) (d : X) (b : Bool) → i < length xs → Decides b (P (get_or xs i d)) → b ≡ false → Decides false (EachItem P xs)
 so_fails P xs i d b lt dec f = (λ t. absurd cc, λ h. absurd (clash b (dec.1 (h i (get_or xs i d) (slice_get-get_or xs i d lt))) f))
 
 -- ---- in any order
 
-all_of_each : {X : Type 0} (P : X → Type 0) (xs : List X) → Each P xs → All P xs
+all_of_each : {X : Type 0} (P : X → Type 0) (xs : List X) → EachItem P xs → All P xs
 all_of_each P xs h k d lt = h k (get_or xs k d) (slice_get-get_or xs k d lt)
 
-each_of_all : {X : Type 0} (P : X → Type 0) (xs : List X) → All P xs → Each P xs
+each_of_all : {X : Type 0} (P : X → Type 0) (xs : List X) → All P xs → EachItem P xs
 each_of_all P xs h n x e = subst P (get_or_from_slice_get xs n x x e) (h n x (within e))
   where
     within : slice_get xs n ≡ Some x → n < length xs
     within f = slice_get_within xs n x f
 
-pub in_any_order : (s : Script) (r : Report) (xs ys : List Asked) (b : Bool) → AreAllSo s r xs → IsPermutation xs ys → Decides b (Each (IsSo s r) ys) → Decides b (IsAskedSo s r)
-in_any_order s r xs ys b all p d = decides_iff b (Each (IsSo s r) ys) (IsAskedSo s r)
-    (λ h. all.0 (each_of_all (IsSo s r) xs (All-permutation (IsSo s r) ys xs (IsPermutation-sym xs ys p) (all_of_each (IsSo s r) ys h))))
-    (λ h. each_of_all (IsSo s r) ys (All-permutation (IsSo s r) xs ys p (all_of_each (IsSo s r) xs (all.1 h)))) d
+pub in_any_order : (s : Script) (r : Report) (xs ys : List Asked) (b : Bool) → AreAllSo s r xs → IsPermutation xs ys → Decides b (EachItem (IsAskedRight s r) ys) → Decides b (IsAskedSo s r)
+in_any_order s r xs ys b all p d = decides_iff b (EachItem (IsAskedRight s r) ys) (IsAskedSo s r)
+    (λ h. all.0 (each_of_all (IsAskedRight s r) xs (All-permutation (IsAskedRight s r) ys xs (IsPermutation-sym xs ys p) (all_of_each (IsAskedRight s r) ys h))))
+    (λ h. each_of_all (IsAskedRight s r) ys (All-permutation (IsAskedRight s r) xs ys p (all_of_each (IsAskedRight s r) xs (all.1 h)))) d

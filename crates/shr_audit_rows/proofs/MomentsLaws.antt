@@ -1,15 +1,11 @@
 -- When groups were made, and done, one entry of the journal of the tree after another.
-use Rattle.shr_audit_rows.proofs.Common.{◌≡◌, ◌⊎◌, ℕ, zero, suc, ◌+◌, ◌<◌, ◌≤◌, Bool, true, false, cond, List, [], ◌∷◌, ◌++◌, length, get_or, set, take, replicate, Option, Some, None, refl, sym, ap, subst, ◌∙◌, inl, inr, arith, eq-eqb, ne_eqb, length-set, get_or-set_same, get_or-set_other, ◌&&◌, ◌||◌, ◌==◌, nat_lt, is_some, not, Decides, and_from, nat_tests, get_or-replicate, length-replicate, take_more, eq-or-lt_of_le, dite, ℕ_discrete, Script, is_done, is_making, Report, done_in, made_in}
-use Rattle.std.specs.Prelude.{find, is_none}
+use Rattle.shr_audit_rows.proofs.Common.{◌≡◌, ◌⊎◌, ℕ, zero, suc, ◌+◌, ◌<◌, ◌≤◌, Bool, true, false, cond, List, [], ◌∷◌, ◌++◌, length, get_or, set, take, replicate, Option, Some, None, refl, sym, ap, subst, ◌∙◌, inl, inr, arith, eq-eqb, ne_eqb, length-set, get_or-set_same, get_or-set_other, ◌&&◌, ◌||◌, ◌==◌, nat_lt, is_some, not, Decides, and_from, nat_tests, get_or-replicate, length-replicate, take_more, eq-or-lt_of_le, dite, ℕ_discrete, Script, is_done, is_making, Report, done_in, group_made_in, find, is_none, done_of, is_made, is_undone_child, made_of, undone_child, script_hierarchy, later_of, parents_of, AreMoments, moment_noted}
 use Rattle.std.specs.List.{position_from, range_with_len}
 use Rattle.shr_base.specs.declared.journals.TreeEntry.{TreeEntry}
 use Rattle.shr_base.specs.declared.journals.TreeEntry.TheVariants.{Begin, Done, Made}
 use Rattle.shr_model.specs.Groups.{is_child, is_later}
-use Rattle.shr_model.specs.TreeJournal.{done_of, is_made, is_undone_child, made_of, undone_child}
 use Rattle.shr_report.specs.Causes.{IsInTheWay}
-use Rattle.shr_report.specs.Parts.{hierarchy_of, later_of, parents_of}
 use Rattle.shr_audit_rows.specs.declared.children.Moments.{Moments}
-use Rattle.shr_audit_rows.specs.Moments.{AreMoments, noted_at}
 use Rattle.shr_audit_fresh.proofs.FirstLaws.{or_none}
 
 -- ---- tests
@@ -44,7 +40,7 @@ is_it g (Some h) = h == g
 -- ---- what is noted
 
 module _ (total n : ℕ) (ms : List ℕ) where
-  noted_count : (o : Option ℕ) → length (noted_at total n o ms) ≡ length ms
+  noted_count : (o : Option ℕ) → length (moment_noted total n o ms) ≡ length ms
   noted_count None = refl
   noted_count (Some h) = by (nat_lt h (length ms) && (get_or ms h 0 == total))
     where
@@ -52,17 +48,17 @@ module _ (total n : ℕ) (ms : List ℕ) where
       by true = length-set ms h n
       by false = refl
 
-  noted_other : (h g : ℕ) → (g ≡ h → ⊥) → get_or (noted_at total n (Some h) ms) g 0 ≡ get_or ms g 0
+  noted_other : (h g : ℕ) → (g ≡ h → ⊥) → get_or (moment_noted total n (Some h) ms) g 0 ≡ get_or ms g 0
   noted_other h g ne = by (nat_lt h (length ms) && (get_or ms h 0 == total))
     where
       by : (b : Bool) → get_or (cond b (set ms h n) ms) g 0 ≡ get_or ms g 0
       by true = get_or-set_other ms h g n 0 ne
       by false = refl
 
-  noted_free : (g : ℕ) → g < length ms → get_or ms g 0 ≡ total → get_or (noted_at total n (Some g) ms) g 0 ≡ n
+  noted_free : (g : ℕ) → g < length ms → get_or ms g 0 ≡ total → get_or (moment_noted total n (Some g) ms) g 0 ≡ n
   noted_free g lt free = ap (λ (b : Bool). get_or (cond b (set ms g n) ms) g 0) (and_from (nat_lt g (length ms)) (get_or ms g 0 == total) (lt_true g (length ms) lt) (eq-eqb (get_or ms g 0) total free)) ∙ get_or-set_same ms g n 0 lt
 
-  noted_kept : (g : ℕ) → (get_or ms g 0 ≡ total → ⊥) → get_or (noted_at total n (Some g) ms) g 0 ≡ get_or ms g 0
+  noted_kept : (g : ℕ) → (get_or ms g 0 ≡ total → ⊥) → get_or (moment_noted total n (Some g) ms) g 0 ≡ get_or ms g 0
   noted_kept g ne = ap (λ (b : Bool). get_or (cond b (set ms g n) ms) g 0) (and_false (nat_lt g (length ms)) (get_or ms g 0 == total) (ne_eqb (get_or ms g 0) total ne))
     where
       and_false : (a b : Bool) → b ≡ false → (a && b) ≡ false
@@ -101,7 +97,7 @@ module _ (p : ℕ → TreeEntry → Bool) (of : TreeEntry → Option ℕ) (same 
         | inr below ↦ (let few : entry ≤ n = omega (arith, below) in before.each g entry there few ∙ low entry few)
       ]
 
-    new_at : (g : ℕ) (o : Option ℕ) → of (get_or tree n d) ≡ o → g < length ms → ((entry : ℕ) → entry ≤ n + 1 → is_some (position_from (p g) 0 (take entry tree)) ≡ nat_lt (get_or (noted_at (length tree) n o ms) g 0) entry) × ((get_or (noted_at (length tree) n o ms) g 0 < n + 1) ⊎ (get_or (noted_at (length tree) n o ms) g 0 ≡ length tree))
+    new_at : (g : ℕ) (o : Option ℕ) → of (get_or tree n d) ≡ o → g < length ms → ((entry : ℕ) → entry ≤ n + 1 → is_some (position_from (p g) 0 (take entry tree)) ≡ nat_lt (get_or (moment_noted (length tree) n o ms) g 0) entry) × ((get_or (moment_noted (length tree) n o ms) g 0 < n + 1) ⊎ (get_or (moment_noted (length tree) n o ms) g 0 ≡ length tree))
     new_at g o is there = by o is
       where
         -- it stays as it was
@@ -137,41 +133,41 @@ module _ (p : ℕ → TreeEntry → Bool) (of : TreeEntry → Option ℕ) (same 
           inl (omega (arith, early, e)),
         )
 
-        by : (o : Option ℕ) → of (get_or tree n d) ≡ o → ((entry : ℕ) → entry ≤ n + 1 → is_some (position_from (p g) 0 (take entry tree)) ≡ nat_lt (get_or (noted_at (length tree) n o ms) g 0) entry) × ((get_or (noted_at (length tree) n o ms) g 0 < n + 1) ⊎ (get_or (noted_at (length tree) n o ms) g 0 ≡ length tree))
+        by : (o : Option ℕ) → of (get_or tree n d) ≡ o → ((entry : ℕ) → entry ≤ n + 1 → is_some (position_from (p g) 0 (take entry tree)) ≡ nat_lt (get_or (moment_noted (length tree) n o ms) g 0) entry) × ((get_or (moment_noted (length tree) n o ms) g 0 < n + 1) ⊎ (get_or (moment_noted (length tree) n o ms) g 0 ≡ length tree))
         by None f = unlike (ap (is_it g) f) (get_or ms g 0) refl
         by (Some h) f = dite (ℕ_discrete g h)
-            (λ e. subst (λ (k : ℕ). ((entry : ℕ) → entry ≤ n + 1 → is_some (position_from (p g) 0 (take entry tree)) ≡ nat_lt (get_or (noted_at (length tree) n (Some k) ms) g 0) entry) × ((get_or (noted_at (length tree) n (Some k) ms) g 0 < n + 1) ⊎ (get_or (noted_at (length tree) n (Some k) ms) g 0 ≡ length tree))) e
+            (λ e. subst (λ (k : ℕ). ((entry : ℕ) → entry ≤ n + 1 → is_some (position_from (p g) 0 (take entry tree)) ≡ nat_lt (get_or (moment_noted (length tree) n (Some k) ms) g 0) entry) × ((get_or (moment_noted (length tree) n (Some k) ms) g 0 < n + 1) ⊎ (get_or (moment_noted (length tree) n (Some k) ms) g 0 ≡ length tree))) e
             (elim (before.either g there) [
-              | inl early ↦ had (ap (is_it g) f ∙ eq-eqb h g (sym e)) early (get_or (noted_at (length tree) n (Some g) ms) g 0) (noted_kept (length tree) n ms g (λ all. (omega (arith, all, early, lt))))
-              | inr none ↦ free (ap (is_it g) f ∙ eq-eqb h g (sym e)) none (get_or (noted_at (length tree) n (Some g) ms) g 0) (noted_free (length tree) n ms g there none)
+              | inl early ↦ had (ap (is_it g) f ∙ eq-eqb h g (sym e)) early (get_or (moment_noted (length tree) n (Some g) ms) g 0) (noted_kept (length tree) n ms g (λ all. (omega (arith, all, early, lt))))
+              | inr none ↦ free (ap (is_it g) f ∙ eq-eqb h g (sym e)) none (get_or (moment_noted (length tree) n (Some g) ms) g 0) (noted_free (length tree) n ms g there none)
             ]))
-            (λ ne. unlike (ap (is_it g) f ∙ ne_eqb h g (λ e. ne (sym e))) (get_or (noted_at (length tree) n (Some h) ms) g 0) (noted_other (length tree) n ms h g ne))
+            (λ ne. unlike (ap (is_it g) f ∙ ne_eqb h g (λ e. ne (sym e))) (get_or (moment_noted (length tree) n (Some h) ms) g 0) (noted_other (length tree) n ms h g ne))
 
-    pub upto_next : Upto (n + 1) (noted_at (length tree) n (of (get_or tree n d)) ms)
+    pub upto_next : Upto (n + 1) (moment_noted (length tree) n (of (get_or tree n d)) ms)
     upto_next = record {
       each = λ g entry there le. (new_at g (of (get_or tree n d)) refl (within g there)).0 entry le;
       either = λ g there. (new_at g (of (get_or tree n d)) refl (within g there)).1;
     }
       where
-        within : (g : ℕ) → g < length (noted_at (length tree) n (of (get_or tree n d)) ms) → g < length ms
+        within : (g : ℕ) → g < length (moment_noted (length tree) n (of (get_or tree n d)) ms) → g < length ms
         within g there = subst (λ (k : ℕ). g < k) (noted_count (length tree) n ms (of (get_or tree n d))) there
 
-    pub upto_count : length (noted_at (length tree) n (of (get_or tree n d)) ms) ≡ length ms
+    pub upto_count : length (moment_noted (length tree) n (of (get_or tree n d)) ms) ≡ length ms
     upto_count = noted_count (length tree) n ms (of (get_or tree n d))
 
   -- with what the code has
-  pub next_noted : (n total : ℕ) (d : TreeEntry) (ms new : List ℕ) (o : Option ℕ) → n < length tree → total ≡ length tree → o ≡ of (get_or tree n d) → new ≡ noted_at total n o ms → Upto n ms → Upto (n + 1) new
-  next_noted n total d ms new o lt all is e before = subst (Upto (n + 1)) (sym (e ∙ ap (λ (t : ℕ). noted_at t n o ms) all ∙ ap (λ (x : Option ℕ). noted_at (length tree) n x ms) is)) (upto_next n d ms lt before)
+  pub next_noted : (n total : ℕ) (d : TreeEntry) (ms new : List ℕ) (o : Option ℕ) → n < length tree → total ≡ length tree → o ≡ of (get_or tree n d) → new ≡ moment_noted total n o ms → Upto n ms → Upto (n + 1) new
+  next_noted n total d ms new o lt all is e before = subst (Upto (n + 1)) (sym (e ∙ ap (λ (t : ℕ). moment_noted t n o ms) all ∙ ap (λ (x : Option ℕ). moment_noted (length tree) n x ms) is)) (upto_next n d ms lt before)
 
   pub start_noted : (count total : ℕ) (ms : List ℕ) → total ≡ length tree → ms ≡ replicate count total → Upto 0 ms
   start_noted count total ms all is = upto_none count ms (is ∙ ap (replicate count) all)
 
-pub noted_long : (n total : ℕ) (ms new : List ℕ) (o : Option ℕ) → new ≡ noted_at total n o ms → length new ≡ length ms
+pub noted_long : (n total : ℕ) (ms new : List ℕ) (o : Option ℕ) → new ≡ moment_noted total n o ms → length new ≡ length ms
 noted_long n total ms new o e = ap length e ∙ noted_count total n ms o
 
 -- ---- both
 
-pub making : (g : ℕ) (e : TreeEntry) → is_making g e ≡ is_it g (made_in e)
+pub making : (g : ℕ) (e : TreeEntry) → is_making g e ≡ is_it g (group_made_in e)
 making g (Begin h) = refl
 making g (Done h) = refl
 making g (Made h) = refl
@@ -189,21 +185,21 @@ none_not (Some x) = refl
 
 -- a child that is made and isn't done after so many entries
 abbrev pub undone : Script → Report → ℕ → ℕ → ℕ → Bool
-undone s r group entry child = is_undone_child (hierarchy_of s) (take entry r.tree.items) group child
+undone s r group entry child = is_undone_child (script_hierarchy s) (take entry r.tree.items) group child
 
 module _ (s : Script) (r : Report) (m : Moments) (moments : AreMoments s r m) (group entry : ℕ) (known : entry ≤ length r.tree.items) where
-  pub not_child : (child : ℕ) (b : Bool) → b ≡ is_child m.parents.items group child → b ≡ false → false ≡ is_undone_child (hierarchy_of s) (take entry r.tree.items) group child
-  not_child child b is isnt = sym (ap (λ (c : Bool). (c && is_made (hierarchy_of s) (take entry r.tree.items) child) && is_none (done_of (take entry r.tree.items) child))
+  pub not_child : (child : ℕ) (b : Bool) → b ≡ is_child m.parents.items group child → b ≡ false → false ≡ is_undone_child (script_hierarchy s) (take entry r.tree.items) group child
+  not_child child b is isnt = sym (ap (λ (c : Bool). (c && is_made (script_hierarchy s) (take entry r.tree.items) child) && is_none (done_of (take entry r.tree.items) child))
       (ap (λ (ps : List ℕ). is_child ps group child) (sym moments.parents) ∙ sym is ∙ isnt))
 
   pub child_is : (child : ℕ) (b later : Bool) → child < length m.parents.items → b ≡ is_child m.parents.items group child → b ≡ true → later ≡ is_later (later_of s) child
-      → ((not later || nat_lt (get_or m.made.items child 0) entry) && not (nat_lt (get_or m.done.items child 0) entry)) ≡ is_undone_child (hierarchy_of s) (take entry r.tree.items) group child
+      → ((not later || nat_lt (get_or m.made.items child 0) entry) && not (nat_lt (get_or m.done.items child 0) entry)) ≡ is_undone_child (script_hierarchy s) (take entry r.tree.items) group child
   child_is child b later lt is holds late =
       ap (λ (c : Bool). (not c || nat_lt (get_or m.made.items child 0) entry) && not (nat_lt (get_or m.done.items child 0) entry)) late
       ∙ ap (λ (c : Bool). (not (is_later (later_of s) child) || c) && not (nat_lt (get_or m.done.items child 0) entry)) (sym (moments.made child entry (subst (λ (k : ℕ). child < k) (sym moments.made_count) lt) known))
-      ∙ ap (λ (c : Bool). is_made (hierarchy_of s) (take entry r.tree.items) child && not c) (sym (moments.done child entry (subst (λ (k : ℕ). child < k) (sym moments.done_count) lt) known))
-      ∙ ap (λ (c : Bool). is_made (hierarchy_of s) (take entry r.tree.items) child && c) (sym (none_not (done_of (take entry r.tree.items) child)))
-      ∙ sym (ap (λ (c : Bool). (c && is_made (hierarchy_of s) (take entry r.tree.items) child) && is_none (done_of (take entry r.tree.items) child))
+      ∙ ap (λ (c : Bool). is_made (script_hierarchy s) (take entry r.tree.items) child && not c) (sym (moments.done child entry (subst (λ (k : ℕ). child < k) (sym moments.done_count) lt) known))
+      ∙ ap (λ (c : Bool). is_made (script_hierarchy s) (take entry r.tree.items) child && c) (sym (none_not (done_of (take entry r.tree.items) child)))
+      ∙ sym (ap (λ (c : Bool). (c && is_made (script_hierarchy s) (take entry r.tree.items) child) && is_none (done_of (take entry r.tree.items) child))
       (ap (λ (ps : List ℕ). is_child ps group child) (sym moments.parents) ∙ sym is ∙ holds))
 
   find_none : (p : ℕ → Bool) (a n : ℕ) → ((c : ℕ) → a ≤ c → c < a + n → p c ≡ false) → find p (range_with_len a n) ≡ None
@@ -217,22 +213,22 @@ module _ (s : Script) (r : Report) (m : Moments) (moments : AreMoments s r m) (g
     | inr below ↦ ap (λ (b : Bool). cond b (Some a) (find p (range_with_len (a + 1) n))) (none a (omega arith) below) ∙ find_first p (a + 1) n c (omega (arith, below)) (omega (arith, high)) t (λ k le lt. none k (omega (arith, le)) lt)
   ]
 
-  pub undone_first : (child : ℕ) → child < length m.parents.items → true ≡ undone s r group entry child → ((k : ℕ) → k < child → undone s r group entry k ≡ false) → Some child ≡ undone_child (hierarchy_of s) (take entry r.tree.items) group
+  pub undone_first : (child : ℕ) → child < length m.parents.items → true ≡ undone s r group entry child → ((k : ℕ) → k < child → undone s r group entry k ≡ false) → Some child ≡ undone_child (script_hierarchy s) (take entry r.tree.items) group
   undone_first child lt is none = sym (find_first (undone s r group entry) 0 (length (parents_of s)) child (omega arith) (subst (λ (k : ℕ). child < 0 + k) (ap length moments.parents) (omega (arith, lt))) (sym is) (λ k le below. none k below))
 
-  pub undone_none : (n : ℕ) → length m.parents.items ≤ n → ((k : ℕ) → k < n → undone s r group entry k ≡ false) → None ≡ undone_child (hierarchy_of s) (take entry r.tree.items) group
+  pub undone_none : (n : ℕ) → length m.parents.items ≤ n → ((k : ℕ) → k < n → undone s r group entry k ≡ false) → None ≡ undone_child (script_hierarchy s) (take entry r.tree.items) group
   undone_none n over none = sym (find_none (undone s r group entry) 0 (length (parents_of s)) (λ c le lt. none c (let long = ap length moments.parents in omega (arith, lt, over, long))))
 
   some_same : (a b : ℕ) → ◌≡◌ {A = Option ℕ} (Some a) (Some b) → a ≡ b
   some_same a b e = cc
 
-  pub way_of : (first child : ℕ) (b : Bool) → Some first ≡ undone_child (hierarchy_of s) (take entry r.tree.items) group → Decides b (first ≡ child) → Decides b (IsInTheWay s r group child entry)
+  pub way_of : (first child : ℕ) (b : Bool) → Some first ≡ undone_child (script_hierarchy s) (take entry r.tree.items) group → Decides b (first ≡ child) → Decides b (IsInTheWay s r group child entry)
   way_of first child b is d = (
     λ t. record { known = known; child_is = sym is ∙ ap (λ (k : ℕ). Some k) (d.0 t) },
     λ h. d.1 (some_same first child (is ∙ h.child_is)),
   )
 
-  pub way_none : (child : ℕ) → None ≡ undone_child (hierarchy_of s) (take entry r.tree.items) group → Decides false (IsInTheWay s r group child entry)
+  pub way_none : (child : ℕ) → None ≡ undone_child (script_hierarchy s) (take entry r.tree.items) group → Decides false (IsInTheWay s r group child entry)
   way_none child is = (λ t. absurd cc, λ h. absurd (no (is ∙ h.child_is)))
     where
       no : ◌≡◌ {A = Option ℕ} None (Some child) → ⊥
@@ -244,7 +240,7 @@ way_past s r group child entry over = (λ t. absurd cc, λ h. absurd (let le = h
 -- ---- all of them
 
 pub all_moments : (s : Script) (r : Report) (m : Moments) (tree : List TreeEntry) (n : ℕ) → tree ≡ r.tree.items → m.parents.items ≡ parents_of s → length m.made.items ≡ length m.parents.items → length m.done.items ≡ length m.parents.items
-    → n ≡ length tree → Upto is_making made_in making tree n m.made.items → Upto is_done done_in doing tree n m.done.items → AreMoments s r m
+    → n ≡ length tree → Upto is_making group_made_in making tree n m.made.items → Upto is_done done_in doing tree n m.done.items → AreMoments s r m
 all_moments s r m tree n is parents a b all made done = record {
   parents = parents;
   made_count = a;

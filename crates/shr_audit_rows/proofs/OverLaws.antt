@@ -1,13 +1,9 @@
 -- An Over against the charges of its command.
-use Rattle.shr_audit_rows.proofs.Common.{◌≡◌, ℕ, zero, suc, ◌+◌, ◌-◌, ◌<◌, ◌≤◌, Bool, true, false, cond, List, [], ◌∷◌, drop, map, Option, Some, None, refl, sym, ap, subst, ◌∙◌, inl, inr, arith, ◌==◌, nat_eq, slice_get, option_and_then, option_map, Decides, get, IsSomeAnd, and_from, cases_lt, nat_tests, sum_by-cons, slice_get-map, slice_get_within, UseStep, Serial, GroupDecl, Script, is_by, ops_by, ups, Report, Tried, AreTries, IsKeyed, TriedMap, TriesIn, own_key, some_is}
-use Rattle.std.proofs.Common.{pos}
-use Rattle.std.specs.Prelude.{nat_le}
+use Rattle.shr_audit_rows.proofs.Common.{◌≡◌, ℕ, zero, suc, ◌+◌, ◌-◌, ◌<◌, ◌≤◌, Bool, true, false, cond, List, [], ◌∷◌, drop, map, Option, Some, None, refl, sym, ap, subst, ◌∙◌, inl, inr, arith, ◌==◌, nat_eq, slice_get, option_and_then, option_map, Decides, get, IsSomeAnd, and_from, cases_lt, nat_tests, sum_by-cons, slice_get-map, slice_get_within, UseStep, Serial, GroupDecl, Script, is_by, ops_by, ups, Report, Tried, AreTries, IsTriedKeyed, TriedMap, TriesIn, tried_key, some_is, pos, nat_le, limit_of, uses_at, IsTriedBy}
 use Rattle.std.proofs.lemmas.Bool.{eq-eqb}
 use Rattle.shr_report.specs.Causes.{IsOver}
-use Rattle.shr_report.specs.Parts.{limit_of, uses_at}
 use Rattle.shr_audit_rows.specs.declared.tried.Refused.{Refused}
 use Rattle.shr_audit_rows.specs.Over.{AreFourteen, IsFullAt, IsSaidOf}
-use Rattle.shr_audit_rows.specs.Tried.{IsTriedBy}
 
 -- ---- a charge among others
 
@@ -101,8 +97,8 @@ module _ (s : Script) (r : Report) (by : Serial) (own : ℕ) (refused : Refused)
     tried = (let e = w.count in omega (arith, e, fourteen));
   }
 
-  module _ (tries : TriedMap) (counts : List ℕ) (all : AreTries r.uses.items tries counts) (keyed : IsKeyed refused.group by.worker by.command) (own_keyed : IsKeyed own by.worker by.command) (last whole : Option Tried)
-      (last_is : last ≡ get nat_eq tries (own_key refused.group by.worker by.command)) (whole_is : whole ≡ get nat_eq tries (own_key own by.worker by.command)) where
+  module _ (tries : TriedMap) (counts : List ℕ) (all : AreTries r.uses.items tries counts) (keyed : IsTriedKeyed refused.group by.worker by.command) (own_keyed : IsTriedKeyed own by.worker by.command) (last whole : Option Tried)
+      (last_is : last ≡ get nat_eq tries (tried_key refused.group by.worker by.command)) (whole_is : whole ≡ get nat_eq tries (tried_key own by.worker by.command)) where
     tried_last : TriesIn (uses_at r refused.group) by last
     tried_last = subst (TriesIn (uses_at r refused.group) by) (sym last_is) (all.each refused.group by.worker by.command keyed)
 

@@ -1,11 +1,8 @@
 -- Each id, one entry of the journal of registrations after another.
-use Rattle.shr_audit_rows.proofs.Common.{◌≡◌, ℕ, zero, suc, ◌+◌, ◌<◌, ◌≤◌, Bool, true, false, cond, List, [], ◌∷◌, ◌++◌, length, get_or, set, take, replicate, Option, Some, None, refl, sym, ap, subst, ◌∙◌, inl, inr, arith, eq-eqb, ne_eqb, length-set, get_or-set_same, get_or-set_other, ◌&&◌, ◌||◌, ◌==◌, nat_lt, is_some, cases_lt, get_or-replicate, length-replicate, take_more, eq-or-lt_of_le, dite, ℕ_discrete, PoolEntry, decl_after, id_of, Stands, is_free_in}
-use Rattle.std.proofs.Common.{◌%◌, add-one}
-use Rattle.std.specs.Prelude.{if◌then◌else◌}
+use Rattle.shr_audit_rows.proofs.Common.{◌≡◌, ℕ, zero, suc, ◌+◌, ◌<◌, ◌≤◌, Bool, true, false, cond, List, [], ◌∷◌, ◌++◌, length, get_or, set, take, replicate, Option, Some, None, refl, sym, ap, subst, ◌∙◌, inl, inr, arith, eq-eqb, ne_eqb, length-set, get_or-set_same, get_or-set_other, ◌&&◌, ◌||◌, ◌==◌, nat_lt, is_some, cases_lt, get_or-replicate, length-replicate, take_more, eq-or-lt_of_le, dite, ℕ_discrete, PoolEntry, decl_after, id_of, Stands, is_free_in, ◌%◌, add-one, if◌then◌else◌, IsBlankFor, is_live_in}
 use Rattle.shr_base.specs.declared.journals.PoolEntry.TheVariants.{Registered, Unregistered, Idle}
 use Rattle.shr_model.specs.Pool.{decl_from, decl_of, is_free, is_live, is_live_below, lowest_free, phase_of}
 use Rattle.shr_model.proofs.PoolLaws.{decl_from_push, one_of, phase_of_push}
-use Rattle.shr_audit_rows.specs.Pooled.{IsBlankFor, is_live_in}
 use Rattle.shr_case.proofs.Order.{or_right}
 
 -- ---- at the start

@@ -1,12 +1,7 @@
 -- The charges of commands in groups, one operation after another.
-use Rattle.shr_audit_rows.proofs.Common.{◌≡◌, ◌⊎◌, ℕ, zero, suc, ◌+◌, ◌<◌, ◌≤◌, Bool, true, false, cond, List, [], ◌∷◌, ◌++◌, length, get_or, set, take, drop, replicate, Option, Some, None, refl, sym, ap, subst, ◌∙◌, inl, inr, arith, eq-eqb, ne_eqb, length-set, get_or-set_same, get_or-set_other, ◌==◌, nat_eq, nat_lt, not, slice_get, get, and_parts, and_from, nat_tests, append-nil, get_or-replicate, length-replicate, take_more, sum_by-cons, slice_get_within, dite, ℕ_discrete, UseStep, Serial, is_by, ops_by, ups, serial_of, Tried, AreTries, IsKeyed, TriedMap, TriesIn, own_key}
-use Rattle.std.proofs.Common.{min, length-append, filter}
-use Rattle.std.proofs.lemmas.Bool.{cases_Bool, eqb-true}
-use Rattle.std.proofs.lemmas.List.{drop-append-le, take_all}
+use Rattle.shr_audit_rows.proofs.Common.{◌≡◌, ◌⊎◌, ℕ, zero, suc, ◌+◌, ◌<◌, ◌≤◌, Bool, true, false, cond, List, [], ◌∷◌, ◌++◌, length, get_or, set, take, drop, replicate, Option, Some, None, refl, sym, ap, subst, ◌∙◌, inl, inr, arith, eq-eqb, ne_eqb, length-set, get_or-set_same, get_or-set_other, ◌==◌, nat_eq, nat_lt, not, slice_get, get, and_parts, and_from, nat_tests, append-nil, get_or-replicate, length-replicate, take_more, sum_by-cons, slice_get_within, dite, ℕ_discrete, UseStep, Serial, is_by, ops_by, ups, serial_of, Tried, AreTries, IsTriedKeyed, TriedMap, TriesIn, tried_key, min, length-append, filter, cases_Bool, eqb-true, drop-append-le, take_all, count_by-le-length, length-filter, sum_by-append, IsLastNoted, step_key, last_with, ups_with, tried_uses}
 use Rattle.std.proofs.lemmas.List.Elements.{filter-append}
-use Rattle.std.proofs.lemmas.List.Sums.{count_by-le-length, length-filter, sum_by-append}
 use Rattle.std.proofs.Math.Seq.{drop-append_seam}
-use Rattle.shr_audit_rows.specs.Tried.{IsLast, key_of, last_with, ups_with, uses_of}
 use Rattle.shr_formed.proofs.WellParts.{last_get}
 use Rattle.shr_model.proofs.Booleans.{not_true}
 
@@ -91,7 +86,7 @@ adds by ops step index own up is o t = record {
 
 -- ---- all commands in all groups
 
-one_key : (g w n h v m : ℕ) → IsKeyed g w n → IsKeyed h v m → own_key g w n ≡ own_key h v m → (g ≡ h) × (w ≡ v) × (n ≡ m)
+one_key : (g w n h v m : ℕ) → IsTriedKeyed g w n → IsTriedKeyed h v m → tried_key g w n ≡ tried_key h v m → (g ≡ h) × (w ≡ v) × (n ≡ m)
 one_key g w n h v m a b e =
     let ag = a.group in let aw = a.worker in let an = a.command in let bh = b.group in let bv = b.worker in let bm = b.command in (
       omega (arith, ag, aw, an, bh, bv, bm, e),
@@ -106,19 +101,19 @@ by_itself : (step : UseStep) → is_by (serial_of step.by.worker step.by.command
 by_itself step = and_from (step.by.worker == step.by.worker) (step.by.command == step.by.command) (eq-eqb step.by.worker step.by.worker refl) (eq-eqb step.by.command step.by.command refl)
 
 module _ (before : List UseStep) (step : UseStep) (g : ℕ) where
-  own_group : step.group ≡ g → uses_of (before ++ step ∷ []) g ≡ uses_of before g ++ step ∷ []
+  own_group : step.group ≡ g → tried_uses (before ++ step ∷ []) g ≡ tried_uses before g ++ step ∷ []
   own_group e = passed (λ (o : UseStep). o.group == g) before step true (eq-eqb step.group g e)
 
-  other_group : (step.group ≡ g → ⊥) → uses_of (before ++ step ∷ []) g ≡ uses_of before g
+  other_group : (step.group ≡ g → ⊥) → tried_uses (before ++ step ∷ []) g ≡ tried_uses before g
   other_group ne = passed_not (λ (o : UseStep). o.group == g) before step (ne_eqb step.group g ne)
 
 -- the operations of each group are counted
 counts_next : (before : List UseStep) (step : UseStep) (counts : List ℕ) (index : ℕ) → length counts ≡ 65536 → step.group < 65536 → index ≡ get_or counts step.group 0
-    → ((g : ℕ) → g < 65536 → get_or counts g 0 ≡ length (uses_of before g)) → (g : ℕ) → g < 65536 → get_or (set counts step.group (index + 1)) g 0 ≡ length (uses_of (before ++ step ∷ []) g)
+    → ((g : ℕ) → g < 65536 → get_or counts g 0 ≡ length (tried_uses before g)) → (g : ℕ) → g < 65536 → get_or (set counts step.group (index + 1)) g 0 ≡ length (tried_uses (before ++ step ∷ []) g)
 counts_next before step counts index sized few is all g lt = dite (ℕ_discrete g step.group)
-    (λ same. subst (λ (k : ℕ). get_or (set counts step.group (index + 1)) k 0 ≡ length (uses_of (before ++ step ∷ []) k)) (sym same)
+    (λ same. subst (λ (k : ℕ). get_or (set counts step.group (index + 1)) k 0 ≡ length (tried_uses (before ++ step ∷ []) k)) (sym same)
     (get_or-set_same counts step.group (index + 1) 0 (subst (λ (n : ℕ). step.group < n) (sym sized) few) ∙ ap (λ (n : ℕ). n + 1) (is ∙ all step.group few)
-    ∙ sym (ap length (own_group before step step.group refl) ∙ length-append (uses_of before step.group) (step ∷ []))))
+    ∙ sym (ap length (own_group before step step.group refl) ∙ length-append (tried_uses before step.group) (step ∷ []))))
     (λ ne. get_or-set_other counts step.group g (index + 1) 0 ne ∙ all g lt ∙ ap length (sym (other_group before step g (λ e. ne (sym e)))))
 
 -- a charge of no command
@@ -127,45 +122,45 @@ step_down before step tried counts index few is down t = record {
   sized = length-set counts step.group (index + 1) ∙ t.sized;
   counted = counts_next before step counts index t.sized few is t.counted;
   each = λ g w n keyed. dite (ℕ_discrete step.group g)
-      (λ same. subst (λ (os : List UseStep). TriesIn os (serial_of w n) (get nat_eq tried (own_key g w n))) (sym (own_group before step g same))
-      (keeps (serial_of w n) (uses_of before g) step (inr down) (get nat_eq tried (own_key g w n)) (t.each g w n keyed)))
-      (λ ne. subst (λ (os : List UseStep). TriesIn os (serial_of w n) (get nat_eq tried (own_key g w n))) (sym (other_group before step g ne)) (t.each g w n keyed));
+      (λ same. subst (λ (os : List UseStep). TriesIn os (serial_of w n) (get nat_eq tried (tried_key g w n))) (sym (own_group before step g same))
+      (keeps (serial_of w n) (tried_uses before g) step (inr down) (get nat_eq tried (tried_key g w n)) (t.each g w n keyed)))
+      (λ ne. subst (λ (os : List UseStep). TriesIn os (serial_of w n) (get nat_eq tried (tried_key g w n))) (sym (other_group before step g ne)) (t.each g w n keyed));
 }
 
 -- a charge
-pub step_up : (before : List UseStep) (step : UseStep) (old new : TriedMap) (counts : List ℕ) (index : ℕ) → step.group < 65536 → index ≡ get_or counts step.group 0 → step.up ≡ true → IsLast step index old new → AreTries before old counts → AreTries (before ++ step ∷ []) new (set counts step.group (index + 1))
+pub step_up : (before : List UseStep) (step : UseStep) (old new : TriedMap) (counts : List ℕ) (index : ℕ) → step.group < 65536 → index ≡ get_or counts step.group 0 → step.up ≡ true → IsLastNoted step index old new → AreTries before old counts → AreTries (before ++ step ∷ []) new (set counts step.group (index + 1))
 step_up before step old new counts index few is up last t = record {
   sized = length-set counts step.group (index + 1) ∙ t.sized;
   counted = counts_next before step counts index t.sized few is t.counted;
   each = each;
 }
   where
-    place : index ≡ length (uses_of before step.group)
+    place : index ≡ length (tried_uses before step.group)
     place = is ∙ t.counted step.group few
 
-    own : (g w n : ℕ) → IsKeyed g w n → step.group ≡ g → step.by.worker ≡ w → step.by.command ≡ n → TriesIn (uses_of (before ++ step ∷ []) g) (serial_of w n) (get nat_eq new (own_key g w n))
-    own g w n keyed a b c = subst (λ (k : ℕ). TriesIn (uses_of (before ++ step ∷ []) k) (serial_of w n) (get nat_eq new (own_key k w n))) a
-        (subst (λ (k : ℕ). TriesIn (uses_of (before ++ step ∷ []) step.group) (serial_of k n) (get nat_eq new (own_key step.group k n))) b
-        (subst (λ (k : ℕ). TriesIn (uses_of (before ++ step ∷ []) step.group) (serial_of step.by.worker k) (get nat_eq new (own_key step.group step.by.worker k))) c here))
+    own : (g w n : ℕ) → IsTriedKeyed g w n → step.group ≡ g → step.by.worker ≡ w → step.by.command ≡ n → TriesIn (tried_uses (before ++ step ∷ []) g) (serial_of w n) (get nat_eq new (tried_key g w n))
+    own g w n keyed a b c = subst (λ (k : ℕ). TriesIn (tried_uses (before ++ step ∷ []) k) (serial_of w n) (get nat_eq new (tried_key k w n))) a
+        (subst (λ (k : ℕ). TriesIn (tried_uses (before ++ step ∷ []) step.group) (serial_of k n) (get nat_eq new (tried_key step.group k n))) b
+        (subst (λ (k : ℕ). TriesIn (tried_uses (before ++ step ∷ []) step.group) (serial_of step.by.worker k) (get nat_eq new (tried_key step.group step.by.worker k))) c here))
       where
-        here : TriesIn (uses_of (before ++ step ∷ []) step.group) (serial_of step.by.worker step.by.command) (get nat_eq new (key_of step))
-        here = subst (TriesIn (uses_of (before ++ step ∷ []) step.group) (serial_of step.by.worker step.by.command))
-            (sym (last.put (key_of step) ∙ ap (λ (b : Bool). cond b (Some (last_with (get nat_eq old (key_of step)) step index)) (get nat_eq old (key_of step))) (eq-eqb (key_of step) (key_of step) refl)))
-            (subst (λ (os : List UseStep). TriesIn os (serial_of step.by.worker step.by.command) (Some (last_with (get nat_eq old (key_of step)) step index))) (sym (own_group before step step.group refl))
-            (adds (serial_of step.by.worker step.by.command) (uses_of before step.group) step index (by_itself step) up place (get nat_eq old (key_of step)) (t.each step.group step.by.worker step.by.command last.keyed)))
+        here : TriesIn (tried_uses (before ++ step ∷ []) step.group) (serial_of step.by.worker step.by.command) (get nat_eq new (step_key step))
+        here = subst (TriesIn (tried_uses (before ++ step ∷ []) step.group) (serial_of step.by.worker step.by.command))
+            (sym (last.put (step_key step) ∙ ap (λ (b : Bool). cond b (Some (last_with (get nat_eq old (step_key step)) step index)) (get nat_eq old (step_key step))) (eq-eqb (step_key step) (step_key step) refl)))
+            (subst (λ (os : List UseStep). TriesIn os (serial_of step.by.worker step.by.command) (Some (last_with (get nat_eq old (step_key step)) step index))) (sym (own_group before step step.group refl))
+            (adds (serial_of step.by.worker step.by.command) (tried_uses before step.group) step index (by_itself step) up place (get nat_eq old (step_key step)) (t.each step.group step.by.worker step.by.command last.keyed)))
 
-    kept : (g w n : ℕ) → (key_of step ≡ own_key g w n → ⊥) → get nat_eq old (own_key g w n) ≡ get nat_eq new (own_key g w n)
-    kept g w n ne = sym (last.put (own_key g w n) ∙ ap (λ (b : Bool). cond b (Some (last_with (get nat_eq old (key_of step)) step index)) (get nat_eq old (own_key g w n))) (ne_eqb (key_of step) (own_key g w n) ne))
+    kept : (g w n : ℕ) → (step_key step ≡ tried_key g w n → ⊥) → get nat_eq old (tried_key g w n) ≡ get nat_eq new (tried_key g w n)
+    kept g w n ne = sym (last.put (tried_key g w n) ∙ ap (λ (b : Bool). cond b (Some (last_with (get nat_eq old (step_key step)) step index)) (get nat_eq old (tried_key g w n))) (ne_eqb (step_key step) (tried_key g w n) ne))
 
-    each : (g w n : ℕ) → IsKeyed g w n → TriesIn (uses_of (before ++ step ∷ []) g) (serial_of w n) (get nat_eq new (own_key g w n))
-    each g w n keyed = dite (ℕ_discrete (key_of step) (own_key g w n))
+    each : (g w n : ℕ) → IsTriedKeyed g w n → TriesIn (tried_uses (before ++ step ∷ []) g) (serial_of w n) (get nat_eq new (tried_key g w n))
+    each g w n keyed = dite (ℕ_discrete (step_key step) (tried_key g w n))
         (λ same. (let e = one_key step.group step.by.worker step.by.command g w n last.keyed keyed same in own g w n keyed e.0 e.1 e.2))
-        (λ ne. subst (TriesIn (uses_of (before ++ step ∷ []) g) (serial_of w n)) (kept g w n ne) (dite (ℕ_discrete step.group g)
-        (λ same. subst (λ (os : List UseStep). TriesIn os (serial_of w n) (get nat_eq old (own_key g w n))) (sym (own_group before step g same))
-        (keeps (serial_of w n) (uses_of before g) step (inl (not_by g w n ne same)) (get nat_eq old (own_key g w n)) (t.each g w n keyed)))
-        (λ away. subst (λ (os : List UseStep). TriesIn os (serial_of w n) (get nat_eq old (own_key g w n))) (sym (other_group before step g away)) (t.each g w n keyed))))
+        (λ ne. subst (TriesIn (tried_uses (before ++ step ∷ []) g) (serial_of w n)) (kept g w n ne) (dite (ℕ_discrete step.group g)
+        (λ same. subst (λ (os : List UseStep). TriesIn os (serial_of w n) (get nat_eq old (tried_key g w n))) (sym (own_group before step g same))
+        (keeps (serial_of w n) (tried_uses before g) step (inl (not_by g w n ne same)) (get nat_eq old (tried_key g w n)) (t.each g w n keyed)))
+        (λ away. subst (λ (os : List UseStep). TriesIn os (serial_of w n) (get nat_eq old (tried_key g w n))) (sym (other_group before step g away)) (t.each g w n keyed))))
       where
-        not_by : (g w n : ℕ) → (key_of step ≡ own_key g w n → ⊥) → step.group ≡ g → is_by (serial_of w n) step ≡ false
+        not_by : (g w n : ℕ) → (step_key step ≡ tried_key g w n → ⊥) → step.group ≡ g → is_by (serial_of w n) step ≡ false
         not_by g w n ne same = elim (cases_Bool (is_by (serial_of w n) step)) [
           | inl holds ↦ (let p = is_by_parts w n step holds in let a = p.0 in let b = p.1 in absurd (ne (omega (arith, same, a, b))))
           | inr isnt ↦ isnt
@@ -177,7 +172,7 @@ pub tries_none : (count : ℕ) (tried : TriedMap) (counts : List ℕ) → count 
 tries_none count tried counts is e none = record {
   sized = ap length e ∙ length-replicate count 0 ∙ is;
   counted = λ g lt. ap (λ (xs : List ℕ). get_or xs g 0) e ∙ get_or-replicate count g 0 0 (subst (λ (n : ℕ). g < n) (sym is) lt);
-  each = λ g w n keyed. subst (TriesIn [] (serial_of w n)) (sym (none (own_key g w n))) refl;
+  each = λ g w n keyed. subst (TriesIn [] (serial_of w n)) (sym (none (tried_key g w n))) refl;
 }
 
 pub tries_more : (uses : List UseStep) (n : ℕ) (d : UseStep) (tried : TriedMap) (counts : List ℕ) → n < length uses → AreTries (take n uses ++ get_or uses n d ∷ []) tried counts → AreTries (take (n + 1) uses) tried counts
@@ -187,7 +182,7 @@ pub tries_all : (uses all : List UseStep) (n : ℕ) (tried : TriedMap) (counts :
 tries_all uses all n tried counts is over t = subst (λ (us : List UseStep). AreTries us tried counts) (take_all n uses over ∙ is) t
 
 -- a group has no more operations than there are
-pub uses_few : (uses : List UseStep) (group : ℕ) → length (uses_of uses group) ≤ length uses
+pub uses_few : (uses : List UseStep) (group : ℕ) → length (tried_uses uses group) ≤ length uses
 uses_few uses group = (let e = length-filter (λ (o : UseStep). o.group == group) uses in let le = count_by-le-length (λ (o : UseStep). o.group == group) uses in omega (arith, e, le))
 
 pub up_of : (b : Bool) → not b ≡ false → b ≡ true

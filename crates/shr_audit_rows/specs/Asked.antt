@@ -5,7 +5,7 @@ use Rattle.shr_base.specs.declared.replies.Reply.{Reply}
 use Rattle.shr_base.specs.declared.replies.Reply.TheVariants as reply
 use Rattle.shr_base.specs.declared.scripts.Command.{Command}
 use Rattle.shr_base.specs.declared.scripts.Script.{Script}
-use Rattle.shr_formed.specs.Each.{Each}
+use Rattle.shr_formed.specs.Each.{EachItem}
 use Rattle.shr_model.specs.Commands.{decl_named}
 use Rattle.shr_report.specs.declared.report.Report.{Report}
 use Rattle.shr_report.specs.Causes.{IsCached, IsFull, IsUncached}
@@ -32,17 +32,17 @@ IsSaid s r Cached decl entry = IsCached s r decl entry
 IsSaid s r Full decl entry = IsFull s r decl entry
 
 -- there is a declaration, and what is said of it is so
-abbrev pub IsSo : Script → Report → Asked → Type 0
-IsSo s r a = IsSomeAnd a.decl (λ decl. IsSaid s r a.said decl a.entry)
+abbrev pub IsAskedRight : Script → Report → Asked → Type 0
+IsAskedRight s r a = IsSomeAnd a.decl (λ decl. IsSaid s r a.said decl a.entry)
 
 -- the same, if something is said
 abbrev pub IsSoIfAsked : Script → Report → Option Asked → Type 0
 IsSoIfAsked s r None = Unit {0}
-IsSoIfAsked s r (Some a) = IsSo s r a
+IsSoIfAsked s r (Some a) = IsAskedRight s r a
 
 -- all that is said is so exactly where what was said before is, and this is
 abbrev pub AddsSo : Script → Report → List Asked → List Asked → Type 0 → Type 0
-AddsSo s r old new more = Each (IsSo s r) new ↔ (Each (IsSo s r) old × more)
+AddsSo s r old new more = EachItem (IsAskedRight s r) new ↔ (EachItem (IsAskedRight s r) old × more)
 
 -- what an answer says of a declaration is so
 abbrev pub IsAskedSo : Script → Report → Type 0
@@ -50,4 +50,4 @@ IsAskedSo s r = (worker k : ℕ) → IsSoIfAsked s r (asked_at s r worker k)
 
 -- this is all that answers say
 abbrev pub AreAllSo : Script → Report → List Asked → Type 0
-AreAllSo s r asked = Each (IsSo s r) asked ↔ IsAskedSo s r
+AreAllSo s r asked = EachItem (IsAskedRight s r) asked ↔ IsAskedSo s r

@@ -9,10 +9,10 @@ use Rattle.shr_report.specs.Parts.{parents_of}
 use Rattle.shr_audit_rows.specs.declared.children.Moments.{Moments}
 
 -- the group that an entry makes, and the one that is done with it
-abbrev pub made_in : TreeEntry → Option ℕ
-made_in (Begin g) = None
-made_in (Done g) = None
-made_in (Made g) = Some g
+abbrev pub group_made_in : TreeEntry → Option ℕ
+group_made_in (Begin g) = None
+group_made_in (Done g) = None
+group_made_in (Made g) = Some g
 
 abbrev pub done_in : TreeEntry → Option ℕ
 done_in (Begin g) = None
@@ -20,9 +20,9 @@ done_in (Done g) = Some g
 done_in (Made g) = None
 
 -- one more is noted, of a group that had none
-abbrev pub noted_at : ℕ → ℕ → Option ℕ → List ℕ → List ℕ
-noted_at total n None moments = moments
-noted_at total n (Some g) moments = cond (nat_lt g (length moments) && (get_or moments g 0 == total)) (set moments g n) moments
+abbrev pub moment_noted : ℕ → ℕ → Option ℕ → List ℕ → List ℕ
+moment_noted total n None moments = moments
+moment_noted total n (Some g) moments = cond (nat_lt g (length moments) && (get_or moments g 0 == total)) (set moments g n) moments
 
 -- the moments of all groups: an entry of a group stands among so many exactly where the group's moment is below that
 pub record AreMoments (s : Script) (r : Report) (m : Moments) : Type 0 where

@@ -4,5 +4,5 @@ use Rattle.shr_base.specs.declared.journals.PoolEntry.TheVariants.{Registered}
 use Rattle.shr_report.specs.declared.report.Report.{Report}
 
 -- an entry registered a declaration with an id
-abbrev pub Registers : Report → ℕ → ℕ → ℕ → Type 0
-Registers r decl id entry = (from : ℕ) × (slice_get r.pool.items entry ≡ Some (Registered decl id from))
+abbrev pub EntryRegisters : Report → ℕ → ℕ → ℕ → Type 0
+EntryRegisters r decl id entry = (from : ℕ) × (slice_get r.pool.items entry ≡ Some (Registered decl id from))

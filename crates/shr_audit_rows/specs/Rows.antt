@@ -17,7 +17,7 @@ use Rattle.shr_report.specs.ReplyTable.{HasCause, IsUsedUp, group_met}
 use Rattle.shr_audit_spent.specs.Counted.{IsCountOf}
 use Rattle.shr_audit_rows.specs.declared.rows.Notes.{Notes}
 use Rattle.shr_audit_rows.specs.Moments.{AreMoments}
-use Rattle.shr_audit_rows.specs.Registered.{Registers}
+use Rattle.shr_audit_rows.specs.Registered.{EntryRegisters}
 use Rattle.shr_audit_rows.specs.Tried.{AreTries}
 
 -- the commands of a script have numbers of their types, as in each valid script
@@ -51,7 +51,7 @@ abbrev pub HasCountCause : Script → Report → Serial → Command → Reply �
 HasCountCause s r by c (reply.Over h operation usage) = IsOverSo s r by (group_named c) h operation usage
 HasCountCause s r by c (reply.Worn x) = IsUsedUp s r by c x
 HasCountCause s r by c (reply.HasChildren child entry) = IsSomeAnd (group_named c) (λ g. IsInTheWay s r g child entry)
-HasCountCause s r by c (reply.Registered id entry) = IsSomeAnd (decl_named c) (λ d. Registers r d id entry)
+HasCountCause s r by c (reply.Registered id entry) = IsSomeAnd (decl_named c) (λ d. EntryRegisters r d id entry)
 HasCountCause s r by c x = ⊤
 
 -- so has the answer with this number, but for what it says of declarations
@@ -60,7 +60,7 @@ IsCausedAt s r worker k = (c : Command) (a : Answered) → command_at s (serial_
     → HasStateCause s r c a.reply × HasCountCause s r (serial_of worker k) c a.reply
 
 -- what is noted once of a script and a report
-pub record AreNotes (s : Script) (r : Report) (n : Notes) : Type 0 where
+pub record AreRowNotes (s : Script) (r : Report) (n : Notes) : Type 0 where
   pub counted : IsCountOf s r n.counted
   pub tries : AreTries r.uses.items n.tries.tried n.tries.counts.items
   pub moments : AreMoments s r n.moments

@@ -10,18 +10,18 @@ use Rattle.shr_report.specs.Parts.{serial_of}
 use Rattle.shr_audit_rows.specs.declared.tried.Tried.{Tried}
 
 -- a command in a group by one number
-abbrev pub own_key : ℕ → ℕ → ℕ → ℕ
-own_key group worker command = 281474976710656 * group + 4294967296 * worker + command
+abbrev pub tried_key : ℕ → ℕ → ℕ → ℕ
+tried_key group worker command = 281474976710656 * group + 4294967296 * worker + command
 
 -- the numbers have the ranges of their types
-pub record IsKeyed (g w n : ℕ) : Type 0 where
+pub record IsTriedKeyed (g w n : ℕ) : Type 0 where
   pub group : g < 2 ^ 16
   pub worker : w < 2 ^ 16
   pub command : n < 2 ^ 32
 
 -- the operations of a group
-abbrev pub uses_of : List UseStep → ℕ → List UseStep
-uses_of uses group = filter (λ (o : UseStep). o.group == group) uses
+abbrev pub tried_uses : List UseStep → ℕ → List UseStep
+tried_uses uses group = filter (λ (o : UseStep). o.group == group) uses
 
 -- a table of charges by commands in groups
 abbrev pub TriedMap : Type 0
@@ -47,8 +47,8 @@ TriesIn ops by (Some t) = IsTriedBy ops by t
 -- the table has the charges of each command in each group, and how many operations there are in each
 pub record AreTries (uses : List UseStep) (tried : TriedMap) (counts : List ℕ) : Type 0 where
   pub sized : length counts ≡ 65536
-  pub counted : (group : ℕ) → group < 65536 → get_or counts group 0 ≡ length (uses_of uses group)
-  pub each : (group worker command : ℕ) → IsKeyed group worker command → TriesIn (uses_of uses group) (serial_of worker command) (get nat_eq tried (own_key group worker command))
+  pub counted : (group : ℕ) → group < 65536 → get_or counts group 0 ≡ length (tried_uses uses group)
+  pub each : (group worker command : ℕ) → IsTriedKeyed group worker command → TriesIn (tried_uses uses group) (serial_of worker command) (get nat_eq tried (tried_key group worker command))
 
 -- one charge more, 15 where there are more
 abbrev pub ups_with : Option Tried → ℕ
@@ -60,10 +60,10 @@ abbrev pub last_with : Option Tried → UseStep → ℕ → Tried
 last_with before step index = record { ups = ups_with before; index = index; last = step }
 
 -- the key of an operation
-abbrev pub key_of : UseStep → ℕ
-key_of step = own_key step.group step.by.worker step.by.command
+abbrev pub step_key : UseStep → ℕ
+step_key step = tried_key step.group step.by.worker step.by.command
 
 -- it was noted
-pub record IsLast (step : UseStep) (index : ℕ) (old new : TriedMap) : Type 0 where
-  pub keyed : IsKeyed step.group step.by.worker step.by.command
-  pub put : (key : ℕ) → get nat_eq new key ≡ cond (nat_eq (key_of step) key) (Some (last_with (get nat_eq old (key_of step)) step index)) (get nat_eq old key)
+pub record IsLastNoted (step : UseStep) (index : ℕ) (old new : TriedMap) : Type 0 where
+  pub keyed : IsTriedKeyed step.group step.by.worker step.by.command
+  pub put : (key : ℕ) → get nat_eq new key ≡ cond (nat_eq (step_key step) key) (Some (last_with (get nat_eq old (step_key step)) step index)) (get nat_eq old key)

@@ -5,8 +5,8 @@ ghost use Rattle.std.specs.Bool.{Decides};
 ghost use Rattle.shr_model.specs.Groups.{is_child};
 ghost use Rattle.shr_model.specs.TreeJournal.{is_undone_child, undone_child};
 ghost use Rattle.shr_report.specs.Causes.{IsInTheWay};
-ghost use Rattle.shr_report.specs.Parts.{hierarchy_of};
-ghost use Rattle.shr_audit_rows.specs.Moments.{AreMoments, done_in, made_in, noted_at};
+ghost use Rattle.shr_report.specs.Parts.{script_hierarchy};
+ghost use Rattle.shr_audit_rows.specs.Moments.{AreMoments, done_in, group_made_in, moment_noted};
 
 use crate::groups::is_later;
 use shr_base::journals::TreeEntry;
@@ -27,7 +27,7 @@ pub struct Moments {
 
 // The group that an entry makes.
 fn made_in(entry: TreeEntry) -> Option<u16>
-    ensures { result ≡ made_in entry }
+    ensures { result ≡ group_made_in entry }
 {
     match entry {
         TreeEntry::Begin { .. } => None,
@@ -49,7 +49,7 @@ fn done_in(entry: TreeEntry) -> Option<u16>
 
 // Notes the group of an entry, if it has none yet.
 fn note(moments: &mut Vec<usize>, total: usize, n: usize, group: Option<u16>)
-    ensures { moments.new.items ≡ noted_at total n group moments.old.items }
+    ensures { moments.new.items ≡ moment_noted total n group moments.old.items }
 {
     let Some(group) = group else {
         return;
@@ -136,7 +136,7 @@ impl Moments {
         requires moments { AreMoments script.now report.now self.now }
         requires known { entry ≤ length report.now.tree.items }
         requires there { child < length self.now.parents.items }
-        ensures { result ≡ is_undone_child (hierarchy_of script.now)
+        ensures { result ≡ is_undone_child (script_hierarchy script.now)
             (take entry report.now.tree.items) group child }
     {
         if !self.is_child(group, child) {
@@ -158,7 +158,7 @@ impl Moments {
     ) -> Option<usize>
         requires moments { AreMoments script.now report.now self.now }
         requires known { entry ≤ length report.now.tree.items }
-        ensures { result ≡ undone_child (hierarchy_of script.now)
+        ensures { result ≡ undone_child (script_hierarchy script.now)
             (take entry report.now.tree.items) group }
     {
         for child in 0..self.parents.len() {

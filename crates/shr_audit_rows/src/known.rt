@@ -3,9 +3,9 @@
 ghost use Rattle.std.specs.Prelude.{◌≡◌, ◌≤◌, ◌&&◌, not, true, length, take, IsPermutation, IfOk};
 ghost use Rattle.std.specs.Bool.{Decides};
 ghost use Rattle.std.specs.List.Sorted.{IsNonDecreasingBy};
-ghost use Rattle.shr_formed.specs.Each.{Each};
+ghost use Rattle.shr_formed.specs.Each.{EachItem};
 ghost use Rattle.shr_audit_rows.specs.declared.asked.Asked.{Asked};
-ghost use Rattle.shr_audit_rows.specs.Asked.{IsAskedSo, IsSaid, IsSo};
+ghost use Rattle.shr_audit_rows.specs.Asked.{IsAskedSo, IsSaid, IsAskedRight};
 ghost use Rattle.shr_audit_rows.specs.Pooled.{Stands};
 
 use crate::asked::{Asked, Said, asked_of};
@@ -43,7 +43,7 @@ fn is_so(pooled: &mut Pooled, script: &Script, report: &Report, asked: Asked) ->
     requires stands { Stands (take pooled.old.next report.now.pool.items) pooled.old.phases.items
         pooled.old.decls.items }
     requires low { pooled.old.next ≤ asked.entry }
-    ensures so { Decides result (IsSo script.now report.now asked) }
+    ensures so { Decides result (IsAskedRight script.now report.now asked) }
     ensures stands { result ≡ true → Stands (take asked.entry report.now.pool.items)
         pooled.new.phases.items pooled.new.decls.items }
     ensures next { result ≡ true → pooled.new.next ≡ asked.entry }
@@ -62,7 +62,7 @@ fn is_so(pooled: &mut Pooled, script: &Script, report: &Report, asked: Asked) ->
 // Whether all of these are so, in the order of their entries.
 fn are_so(alloc: Global, script: &Script, report: &Report, asked: &[Asked]) -> Result<bool, Memory>
     requires { IsNonDecreasingBy (λ (a : Asked). a.entry) asked.now }
-    ensures { IfOk result (λ b. Decides b (Each (IsSo script.now report.now) asked.now)) }
+    ensures { IfOk result (λ b. Decides b (EachItem (IsAskedRight script.now report.now) asked.now)) }
 {
     let mut pooled = Pooled::start(alloc)?;
     for n in 0..asked.len() {

@@ -6,7 +6,7 @@ ghost use Rattle.std.specs.Option.{IsSomeAnd};
 ghost use Rattle.shr_case.specs.Places.{AreInOrder};
 ghost use Rattle.shr_report.specs.Causes.{IsInTheWay};
 ghost use Rattle.shr_report.specs.Parts.{EachAnswer};
-ghost use Rattle.shr_audit_rows.specs.Rows.{AreFew, AreNotes, HasCauseButEnds, HasCountCause, HasStateCause, IsCausedAt, IsOverSo};
+ghost use Rattle.shr_audit_rows.specs.Rows.{AreFew, AreRowNotes, HasCauseButEnds, HasCountCause, HasStateCause, IsCausedAt, IsOverSo};
 
 use crate::children::Moments;
 use crate::groups::{is_begin_there, is_done_there, is_made_there, is_root, is_unmade};
@@ -35,7 +35,7 @@ pub struct Notes {
 impl Notes {
     /// Notes it. Our own.
     pub fn of(alloc: Global, script: &Script, report: &Report) -> Result<Notes, Memory>
-        ensures { IfOk result (λ n. AreNotes script.now report.now n) }
+        ensures { IfOk result (λ n. AreRowNotes script.now report.now n) }
     {
         let counted = Counted::of(alloc, script, report)?;
         let tries = tries_of(alloc, report)?;
@@ -57,7 +57,7 @@ fn is_over_so(
     group: Option<u16>,
     refused: Refused,
 ) -> bool
-    requires { AreNotes script.now report.now notes.now }
+    requires { AreRowNotes script.now report.now notes.now }
     ensures { Decides result (IsOverSo script.now report.now by group refused.group
         refused.operation refused.usage) }
 {
@@ -76,7 +76,7 @@ fn is_way_so(
     child: u16,
     entry: u32,
 ) -> bool
-    requires { AreNotes script.now report.now notes.now }
+    requires { AreRowNotes script.now report.now notes.now }
     ensures { Decides result (IsSomeAnd group (λ g. IsInTheWay script.now report.now g child entry)) }
 {
     match group {
@@ -114,7 +114,7 @@ fn is_count_caused(
     reply: &Reply,
 ) -> bool
     requires order { AreInOrder report.now.places.items }
-    requires notes { AreNotes script.now report.now notes.now }
+    requires notes { AreRowNotes script.now report.now notes.now }
     requires there { by.worker < length report.now.workers.items }
     ensures { Decides result (HasCountCause script.now report.now by command.now reply.now) }
 {
@@ -152,7 +152,7 @@ fn is_caused_at(
 ) -> bool
     requires few { AreFew script.now.workers.items }
     requires order { AreInOrder report.now.places.items }
-    requires notes { AreNotes script.now report.now notes.now }
+    requires notes { AreRowNotes script.now report.now notes.now }
     ensures { Decides result (IsCausedAt script.now report.now worker number) }
 {
     let Some(command) = command_of(script, worker, number) else {
@@ -175,7 +175,7 @@ fn is_caused_at(
 fn is_worker_caused(script: &Script, report: &Report, notes: &Notes, worker: usize) -> bool
     requires few { AreFew script.now.workers.items }
     requires order { AreInOrder report.now.places.items }
-    requires notes { AreNotes script.now report.now notes.now }
+    requires notes { AreRowNotes script.now report.now notes.now }
     ensures { Decides result ((k : ℕ) → IsCausedAt script.now report.now worker k) }
 {
     for number in 0..count_answers(report, worker) {
@@ -190,7 +190,7 @@ fn is_worker_caused(script: &Script, report: &Report, notes: &Notes, worker: usi
 fn are_caused(script: &Script, report: &Report, notes: &Notes) -> bool
     requires few { AreFew script.now.workers.items }
     requires order { AreInOrder report.now.places.items }
-    requires notes { AreNotes script.now report.now notes.now }
+    requires notes { AreRowNotes script.now report.now notes.now }
     ensures { Decides result ((worker k : ℕ) → IsCausedAt script.now report.now worker k) }
 {
     for worker in 0..report.workers.len() {

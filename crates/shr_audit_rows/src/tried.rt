@@ -7,7 +7,7 @@ ghost use Rattle.std.specs.HashMap.{get};
 ghost use Rattle.shr_base.specs.declared.journals.UseStep.{UseStep};
 ghost use Rattle.shr_report.specs.Causes.{IsOver};
 ghost use Rattle.shr_audit_rows.specs.Over.{AreFourteen, IsFullAt, IsSaidOf};
-ghost use Rattle.shr_audit_rows.specs.Tried.{AreTries, IsKeyed, IsLast, IsUntried, own_key, ups_with};
+ghost use Rattle.shr_audit_rows.specs.Tried.{AreTries, IsTriedKeyed, IsLastNoted, IsUntried, tried_key, ups_with};
 
 use shr_base::journals::UseStep;
 use shr_base::memory::Memory;
@@ -36,8 +36,8 @@ pub struct Tries {
 
 // A command in a group, by one number.
 fn own_key(group: u16, worker: u16, command: u32) -> u64
-    ensures key { result ≡ own_key group worker command }
-    ensures keyed { IsKeyed group worker command }
+    ensures key { result ≡ tried_key group worker command }
+    ensures keyed { IsTriedKeyed group worker command }
 {
     0x1_0000_0000_0000 * group as u64 + 0x1_0000_0000 * worker as u64 + command as u64
 }
@@ -68,7 +68,7 @@ fn zeros(alloc: Global, count: usize) -> Result<Vec<u64>, Memory>
 
 // The charges of a command in a group.
 fn tried_in(tried: &HashMap<u64, Tried>, group: u16, by: Serial) -> Option<Tried>
-    ensures { result ≡ get nat_eq tried.now (own_key group by.worker by.command) }
+    ensures { result ≡ get nat_eq tried.now (tried_key group by.worker by.command) }
 {
     let key = own_key(group, by.worker, by.command);
     tried.get(&key).copied()
@@ -76,7 +76,7 @@ fn tried_in(tried: &HashMap<u64, Tried>, group: u16, by: Serial) -> Option<Tried
 
 // Notes a charge, which stands there among the operations of its group.
 fn note_up(tried: &mut HashMap<u64, Tried>, step: UseStep, index: u64) -> Result<(), Memory>
-    ensures { OnOk result (IsLast step index tried.old tried.new) }
+    ensures { OnOk result (IsLastNoted step index tried.old tried.new) }
 {
     let before = tried_in(tried, step.group, step.by);
     let ups = ups_with(before);

@@ -1,10 +1,8 @@
 -- What a binary search answers of keys in order.
-use Rattle.shr_audit_scans.proofs.Common.{◌≡◌, ℕ, ◌<◌, ◌≤◌, Bool, true, false, List, length, get_or, refl, subst, ◌∙◌, arith, Contains, nat_lt, Decides, IsPermutation, nat_cmp, nat_tests, get_or_from_slice_get, slice_get-get_or}
-use Rattle.std.specs.List.Sorted.{IsBinarySearchResult, IsNonDecreasing}
+use Rattle.shr_audit_scans.proofs.Common.{◌≡◌, ℕ, ◌<◌, ◌≤◌, Bool, true, false, List, length, get_or, refl, subst, ◌∙◌, arith, Contains, nat_lt, Decides, IsPermutation, nat_cmp, nat_tests, get_or_from_slice_get, slice_get-get_or, IsBinarySearchResult, IsNonDecreasing, Contains-permutation, IsPermutation-sym, searched}
 use Rattle.std.specs.Result.{is_ok}
 use Rattle.std.specs.declared.result.Result.{Result}
 use Rattle.std.specs.declared.result.Result.TheVariants.{Ok, Err}
-use Rattle.std.proofs.lemmas.List.Sorted.{Contains-permutation, IsPermutation-sym, searched}
 
 contained : (keys : List ℕ) (key i : ℕ) → i < length keys → get_or keys i 0 ≡ key → Contains keys key
 contained keys key i lt e = (i, lt, get_or_from_slice_get keys i (get_or keys i 0) key (slice_get-get_or keys i 0 lt) ∙ e)

@@ -1,7 +1,5 @@
 -- Passes with one key are one.
-use Rattle.shr_audit_scans.proofs.Common.{◌≡◌, ℕ, ◌+◌, ◌^◌, ◌<◌, false, ap, ◌∙◌, inl, inr, arith, ◌==◌, ◌&&◌, cases_Bool, eq-eqb, eqb-true, Place, IsNumbered, key_of}
-use Rattle.std.proofs.Common.{◌*◌}
-use Rattle.std.proofs.lemmas.Bool.{and_parts, and_from}
+use Rattle.shr_audit_scans.proofs.Common.{◌≡◌, ℕ, ◌+◌, ◌^◌, ◌<◌, false, ap, ◌∙◌, inl, inr, arith, ◌==◌, ◌&&◌, cases_Bool, eq-eqb, eqb-true, Place, IsNumbered, key_of, ◌*◌, and_parts, and_from}
 use Rattle.shr_model.proofs.Booleans.{same_test}
 
 -- a number by its last digit of 16 bits and the rest

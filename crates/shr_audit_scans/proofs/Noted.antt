@@ -1,22 +1,18 @@
 -- The Scan entries of lists, noted one list after another.
-use Rattle.shr_audit_scans.proofs.Common.{◌≡◌, ℕ, zero, suc, ◌+◌, ◌^◌, ◌<◌, ◌≤◌, Bool, true, false, cond, List, [], ◌∷◌, ◌++◌, length, get_or, take, Option, Some, None, refl, sym, ap, subst, ◌∙◌, inl, inr, arith, ◌==◌, ◌&&◌, filter_map, slice_get, AllByRecursion, enumerate_from, cases_Bool, append-nil, append_assoc, take_more, get_or-enumerate_from, length-enumerate_from, get_or_from_slice_get, slice_get_within, PlaceEnd, Entry, Add, Look, Drop, Pin, Scan, MovedIn, Closed, Drained, Place, is_place, is_place_same, is_place_itself, IsEntryNumbered, IsListNumbered, IsNumbered, IsFirst, clash, each_in, ScanSeen, key_of, row_key, AreRowsOf, row_of, rows_of, rows_with, with_key}
-use Rattle.std.proofs.Common.{◌≢◌, map, ◌⊎◌}
+use Rattle.shr_audit_scans.proofs.Common.{◌≡◌, ℕ, zero, suc, ◌+◌, ◌^◌, ◌<◌, ◌≤◌, Bool, true, false, cond, List, [], ◌∷◌, ◌++◌, length, get_or, take, Option, Some, None, refl, sym, ap, subst, ◌∙◌, inl, inr, arith, ◌==◌, ◌&&◌, filter_map, slice_get, AllByRecursion, enumerate_from, cases_Bool, append-nil, append_assoc, take_more, get_or-enumerate_from, length-enumerate_from, get_or_from_slice_get, slice_get_within, PlaceEnd, Entry, Add, Look, Drop, Pin, Scan, MovedIn, Closed, Drained, Place, is_place, is_place_same, is_place_itself, IsEntryNumbered, IsListNumbered, IsNumbered, IsFirst, clash, each_in, ScanSeen, key_of, row_key, AreRowsOf, scan_row, rows_of, rows_with, with_key, ◌≢◌, map, ◌⊎◌, map-append, take_all, end_printed, AddsRowsOf}
 use Rattle.std.specs.Option.{option_or}
-use Rattle.std.proofs.lemmas.List.{map-append, take_all}
 use Rattle.std.proofs.lemmas.List.Elements.{filter-append, filter_map-append}
 use Rattle.std.proofs.lemmas.List.Folds.{find-append}
 use Rattle.shr_model.specs.Scans.{ScanMade, scan_by, scans_by}
 use Rattle.shr_report.specs.Parts.{journal_of}
-use Rattle.shr_case.specs.Places.{end_of}
 use Rattle.shr_case.proofs.Firsts.{found_or_none}
-use Rattle.shr_audit_walks.specs.Scans.{made_of}
-use Rattle.shr_audit_scans.specs.Rows.{AddsRowsOf}
+use Rattle.shr_audit_walks.specs.Scans.{made_of_scan}
 use Rattle.shr_audit_scans.proofs.Keyed.{key_here, key_elsewhere}
 
 -- ---- one entry more
 
 abbrev pub row_at : Place → ℕ × Entry → Option ScanSeen
-row_at place e = row_of place e.0 e.1
+row_at place e = scan_row place e.0 e.1
 
 one_row : (place : Place) (e : ℕ × Entry) (rows : List ScanSeen) → rows_with rows (row_at place e) ≡ rows ++ filter_map (row_at place) (e ∷ [])
 one_row place (n, Add by birth added key value) rows = sym (append-nil rows)
@@ -29,7 +25,7 @@ one_row place (n, Closed) rows = sym (append-nil rows)
 one_row place (n, Drained by objects) rows = sym (append-nil rows)
 
 pub rows_more : (place : Place) (es : List Entry) (i : ℕ) (e : Entry) (a old next : List ScanSeen) → i < length es → e ≡ get_or es i e
-    → old ≡ a ++ filter_map (row_at place) (take i (enumerate_from 0 es)) → next ≡ rows_with old (row_of place i e)
+    → old ≡ a ++ filter_map (row_at place) (take i (enumerate_from 0 es)) → next ≡ rows_with old (scan_row place i e)
     → next ≡ a ++ filter_map (row_at place) (take (i + 1) (enumerate_from 0 es))
 rows_more place es i e a old next lt is before added =
     let all = enumerate_from 0 es in
@@ -51,7 +47,7 @@ rows_all place es i a old over before = before ∙ ap (λ (xs : List (ℕ × Ent
 -- ---- the rows of one list
 
 abbrev made_in : ℕ → ℕ → Place → List ScanSeen → List ScanMade
-made_in worker walk place rows = map made_of (with_key (key_of worker walk place) rows)
+made_in worker walk place rows = map made_of_scan (with_key (key_of worker walk place) rows)
 
 abbrev Short : List (ℕ × Entry) → Type 0
 Short es = AllByRecursion (λ (e : ℕ × Entry). IsEntryNumbered e.1) es
@@ -96,8 +92,8 @@ made_elsewhere worker walk place other ((n, Scan w k asked policy visits freed s
 
 made_append : (worker walk : ℕ) (place : Place) (xs ys : List ScanSeen) → made_in worker walk place (xs ++ ys) ≡ made_in worker walk place xs ++ made_in worker walk place ys
 made_append worker walk place xs ys =
-    ap (map made_of) (filter-append (λ (x : ScanSeen). row_key x == key_of worker walk place) xs ys)
-    ∙ map-append made_of (with_key (key_of worker walk place) xs) (with_key (key_of worker walk place) ys)
+    ap (map made_of_scan) (filter-append (λ (x : ScanSeen). row_key x == key_of worker walk place) xs ys)
+    ∙ map-append made_of_scan (with_key (key_of worker walk place) xs) (with_key (key_of worker walk place) ys)
 
 -- ---- which list is the first one of its place
 
@@ -113,14 +109,14 @@ first_behind e es k place other first (suc m) x lt at = first m x (omega arith) 
 some_none : (e : PlaceEnd) → ◌≡◌ {A = Option PlaceEnd} (Some e) None → ⊥
 some_none e h = cc
 
-first_of_more : (e : PlaceEnd) (es : List PlaceEnd) (k : ℕ) (place : Place) → end_of (take (suc k) (e ∷ es)) place ≡ None → (end_of (take k es) place ≡ None → IsFirst es k place) → IsFirst (e ∷ es) (suc k) place
+first_of_more : (e : PlaceEnd) (es : List PlaceEnd) (k : ℕ) (place : Place) → end_printed (take (suc k) (e ∷ es)) place ≡ None → (end_printed (take k es) place ≡ None → IsFirst es k place) → IsFirst (e ∷ es) (suc k) place
 first_of_more e es k place none rest = elim (cases_Bool (is_place e.place place)) [
   | inl own ↦ absurd (some_none e (rw own at none))
   | inr other ↦ first_behind e es k place other (rest (rw other at none))
 ]
 
 -- a place that is printed nowhere before is printed first there
-first_if_none : (ends : List PlaceEnd) (k : ℕ) (place : Place) → end_of (take k ends) place ≡ None → IsFirst ends k place
+first_if_none : (ends : List PlaceEnd) (k : ℕ) (place : Place) → end_printed (take k ends) place ≡ None → IsFirst ends k place
 first_if_none [] k place none = λ m x lt at. absurd (let within = slice_get_within [] m x at in omega arith)
 first_if_none (e ∷ es) zero place none = λ m x lt at. absurd (omega arith)
 first_if_none (e ∷ es) (suc k) place none = first_of_more e es k place none (λ rest. first_if_none es k place rest)
@@ -139,11 +135,11 @@ not_again ends k m x place at same first = let before = taken_at ends k m x at i
 -- ---- one list more
 
 abbrev found_in : List PlaceEnd → Place → Option PlaceEnd
-found_in ends place = end_of ends place
+found_in ends place = end_printed ends place
 
-found_more : (ends : List PlaceEnd) (k : ℕ) (end : PlaceEnd) (place : Place) → slice_get ends k ≡ Some end → end_of (take (k + 1) ends) place ≡ option_or (end_of (take k ends) place) (end_of (end ∷ []) place)
+found_more : (ends : List PlaceEnd) (k : ℕ) (end : PlaceEnd) (place : Place) → slice_get ends k ≡ Some end → end_printed (take (k + 1) ends) place ≡ option_or (end_printed (take k ends) place) (end_printed (end ∷ []) place)
 found_more ends k end place at =
-    ap (λ (xs : List PlaceEnd). end_of xs place) (take_more ends k end (slice_get_within ends k end at) ∙ ap (λ (x : PlaceEnd). take k ends ++ x ∷ []) (get_or_from_slice_get ends k end end at))
+    ap (λ (xs : List PlaceEnd). end_printed xs place) (take_more ends k end (slice_get_within ends k end at) ∙ ap (λ (x : PlaceEnd). take k ends ++ x ∷ []) (get_or_from_slice_get ends k end end at))
     ∙ find-append (λ (x : PlaceEnd). is_place x.place place) (take k ends) (end ∷ [])
 
 or_none : (o : Option PlaceEnd) → option_or o None ≡ o
@@ -151,29 +147,29 @@ or_none None = refl
 or_none (Some x) = refl
 
 -- a list of another place changes nothing
-found_elsewhere : (ends : List PlaceEnd) (k : ℕ) (end : PlaceEnd) (place : Place) → slice_get ends k ≡ Some end → is_place end.place place ≡ false → end_of (take (k + 1) ends) place ≡ end_of (take k ends) place
+found_elsewhere : (ends : List PlaceEnd) (k : ℕ) (end : PlaceEnd) (place : Place) → slice_get ends k ≡ Some end → is_place end.place place ≡ false → end_printed (take (k + 1) ends) place ≡ end_printed (take k ends) place
 found_elsewhere ends k end place at other =
     found_more ends k end place at
-    ∙ ap (option_or (end_of (take k ends) place)) (ap (λ (b : Bool). cond b (Some end) None) other)
-    ∙ or_none (end_of (take k ends) place)
+    ∙ ap (option_or (end_printed (take k ends) place)) (ap (λ (b : Bool). cond b (Some end) None) other)
+    ∙ or_none (end_printed (take k ends) place)
 
 -- the first one of its place is found there, where none was found before
 found_first : (ends : List PlaceEnd) (k : ℕ) (end : PlaceEnd) (place : Place) → slice_get ends k ≡ Some end → is_place end.place place ≡ true → IsFirst ends k place
-    → (end_of (take k ends) place ≡ None) × (end_of (take (k + 1) ends) place ≡ Some end)
+    → (end_printed (take k ends) place ≡ None) × (end_printed (take (k + 1) ends) place ≡ Some end)
 found_first ends k end place at own first = elim (found_or_none (take k ends) place) [
   | inl none ↦ (
     none,
-    found_more ends k end place at ∙ ap (λ (o : Option PlaceEnd). option_or o (end_of (end ∷ []) place)) none ∙ ap (λ (b : Bool). cond b (Some end) None) own,
+    found_more ends k end place at ∙ ap (λ (o : Option PlaceEnd). option_or o (end_printed (end ∷ []) place)) none ∙ ap (λ (b : Bool). cond b (Some end) None) own,
   )
   | inr found ↦ absurd (not_again ends k found.0 found.1.0 place found.1.1.at found.1.1.same first)
 ]
 
 -- a later one changes nothing
-found_again : (ends : List PlaceEnd) (k : ℕ) (end : PlaceEnd) (place : Place) → slice_get ends k ≡ Some end → (IsFirst ends k place → ⊥) → end_of (take (k + 1) ends) place ≡ end_of (take k ends) place
+found_again : (ends : List PlaceEnd) (k : ℕ) (end : PlaceEnd) (place : Place) → slice_get ends k ≡ Some end → (IsFirst ends k place → ⊥) → end_printed (take (k + 1) ends) place ≡ end_printed (take k ends) place
 found_again ends k end place at later = elim (found_or_none (take k ends) place) [
   | inl none ↦ absurd (later (first_if_none ends k place none))
   | inr found ↦
-      found_more ends k end place at ∙ (ap (λ (o : Option PlaceEnd). option_or o (end_of (end ∷ []) place)) found.1.1.found ∙ sym found.1.1.found)
+      found_more ends k end place at ∙ (ap (λ (o : Option PlaceEnd). option_or o (end_printed (end ∷ []) place)) found.1.1.found ∙ sym found.1.1.found)
 ]
 
 abbrev Noted : List PlaceEnd → ℕ → List ScanSeen → Type 0
@@ -209,7 +205,7 @@ noted_again ends k end old new at later same before worker walk place few np =
     ∙ before worker walk place few np
     ∙ ap (λ (o : Option PlaceEnd). scans_by worker walk (journal_of o)) (sym unchanged)
   where
-    unchanged : end_of (take (k + 1) ends) place ≡ end_of (take k ends) place
+    unchanged : end_printed (take (k + 1) ends) place ≡ end_printed (take k ends) place
     unchanged = elim (cases_Bool (is_place end.place place)) [
       | inl own ↦ found_again ends k end place at (λ first. later (subst (IsFirst ends k) (sym (is_place_same end.place place own)) first))
       | inr other ↦ found_elsewhere ends k end place at other

@@ -1,7 +1,5 @@
 -- A stable sort by keys leaves the rows of each key in order.
-use Rattle.shr_audit_scans.proofs.Common.{◌≡◌, ℕ, List, sym, ap, ◌∙◌, arith, ◌==◌, ◌&&◌, nat_cmp, Plain, ScanSeen, row_key, with_key}
-use Rattle.std.specs.List.Sorted.{IsStableByKey, ties}
-use Rattle.std.specs.Ordering.{is_lt}
+use Rattle.shr_audit_scans.proofs.Common.{◌≡◌, ℕ, List, sym, ap, ◌∙◌, arith, ◌==◌, ◌&&◌, nat_cmp, Plain, ScanSeen, row_key, with_key, IsStableByKey, ties, is_lt}
 use Rattle.std.proofs.lemmas.List.Elements.{filter_agree}
 use Rattle.shr_model.proofs.Numbers.{tie}
 

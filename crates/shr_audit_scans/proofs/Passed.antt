@@ -1,12 +1,10 @@
 -- A key is among those of the passes of a report if and only if there is such a pass.
-use Rattle.shr_audit_scans.proofs.Common.{◌≡◌, ℕ, zero, suc, ◌+◌, ◌^◌, ◌<◌, Bool, true, false, cond, List, [], ◌∷◌, length, Option, Some, None, refl, sym, ap, subst, ◌∙◌, inl, inr, arith, Contains, filter_map, slice_get, enumerate_from, cases_Bool, slice_get_within, WorkerPart, Place, Attempt, WalkRecord, is_place, is_place_same, is_place_itself, Report, HasNumbers, IsNumbered, each_in, key_of, key_if, keys_at, keys_in, keys_of_part, keys_of_report}
-use Rattle.std.specs.Prelude.{◌↔◌, filter}
+use Rattle.shr_audit_scans.proofs.Common.{◌≡◌, ℕ, zero, suc, ◌+◌, ◌^◌, ◌<◌, Bool, true, false, cond, List, [], ◌∷◌, length, Option, Some, None, refl, sym, ap, subst, ◌∙◌, inl, inr, arith, Contains, filter_map, slice_get, enumerate_from, cases_Bool, slice_get_within, WorkerPart, Place, Attempt, WalkRecord, is_place, is_place_same, is_place_itself, Report, HasNumbers, IsNumbered, each_in, key_of, key_if, keys_at, keys_in, keys_of_part, keys_of_report, ◌↔◌, filter, IsPartNumbered, IsWalkNumbered, IsAttemptNumbered}
 use Rattle.std.specs.Option.{IsSomeAnd}
 use Rattle.shr_base.specs.declared.walks.PassRecord.{PassRecord}
 use Rattle.shr_model.specs.Attempts.{pass_of}
 use Rattle.shr_model.specs.Walks.{passes_at, place_in}
 use Rattle.shr_model.proofs.Members.{Has, Has_from_Contains, Contains_from_Has, Has_flat_map, flat_map_has, each_has}
-use Rattle.shr_report.specs.Numbers.{IsPartNumbered, IsWalkNumbered, IsAttemptNumbered}
 use Rattle.shr_report.specs.Parts.{walk_at, walks_in}
 use Rattle.shr_audit_scans.proofs.Keyed.{one_pass}
 

@@ -1,5 +1,5 @@
 -- Keys, rows and passes at known values.
-use Rattle.shr_audit_scans.proofs.Common.{◌≡◌, ℕ, [], ◌∷◌, None, Some, false, refl, Entry, Scan, Closed, Plain, Place, ScanSeen, key_of, row_key, key_if, row_of, rows_of, rows_with, with_key}
+use Rattle.shr_audit_scans.proofs.Common.{◌≡◌, ℕ, [], ◌∷◌, None, Some, false, refl, Entry, Scan, Closed, Plain, Place, ScanSeen, key_of, row_key, key_if, scan_row, rows_of, rows_with, with_key}
 
 abbrev place : ℕ → ℕ → ℕ → Place
 place id node group = record { id = id; node = node; group = group }
@@ -31,7 +31,7 @@ key_of_row = refl
 scans_alone : rows_of (place 0 0 1) (scan 0 3 ∷ Closed ∷ scan 1 3 ∷ []) ≡ row 0 3 0 ∷ row 1 3 2 ∷ []
 scans_alone = refl
 
-no_row : row_of (place 0 0 1) 4 Closed ≡ None
+no_row : scan_row (place 0 0 1) 4 Closed ≡ None
 no_row = refl
 
 one_more : rows_with (row 0 3 0 ∷ []) (Some (row 1 3 2)) ≡ row 0 3 0 ∷ row 1 3 2 ∷ []

@@ -5,7 +5,7 @@ use Rattle.shr_base.specs.declared.journals.Entry.TheVariants.{Scan}
 use Rattle.shr_base.specs.declared.places.Place.{Place}
 use Rattle.shr_report.specs.declared.report.Report.{Report}
 use Rattle.shr_model.specs.Isolations.{first_isolation}
-use Rattle.shr_formed.specs.Each.{Each}
+use Rattle.shr_formed.specs.Each.{EachItem}
 use Rattle.shr_audit_scans.specs.Keys.{key_of}
 use Rattle.shr_audit_scans.specs.Passes.{keys_of_report}
 
@@ -16,4 +16,4 @@ IsEntryOfPass r place e = ⊤
 
 -- each entry of a place is
 abbrev pub AreOfPasses : Report → Place → List Entry → Type 0
-AreOfPasses r place entries = Each (IsEntryOfPass r place) entries
+AreOfPasses r place entries = EachItem (IsEntryOfPass r place) entries

@@ -10,18 +10,18 @@ use Rattle.shr_report.specs.WellFormed.{IsNumbered}
 use Rattle.shr_case.specs.Lists.{journals_in}
 use Rattle.shr_case.specs.Places.{IsFirst}
 use Rattle.shr_audit_walks.specs.declared.scans.ScanSeen.{ScanSeen}
-use Rattle.shr_audit_walks.specs.Scans.{made_of}
+use Rattle.shr_audit_walks.specs.Scans.{made_of_scan}
 use Rattle.shr_audit_scans.specs.Keys.{key_of, row_key}
 
 -- the entry of a place with this number, where it is a Scan
-abbrev pub row_of : Place → ℕ → Entry → Option ScanSeen
-row_of place n (Scan worker walk asked policy visits freed stopped) =
+abbrev pub scan_row : Place → ℕ → Entry → Option ScanSeen
+scan_row place n (Scan worker walk asked policy visits freed stopped) =
     Some (record { worker = worker; walk = walk; place = place; number = n; asked = asked; policy = policy; freed = freed })
-row_of place n e = None
+scan_row place n e = None
 
 -- the Scan entries of a place's journal
 abbrev pub rows_of : Place → List Entry → List ScanSeen
-rows_of place entries = filter_map (λ (e : ℕ × Entry). row_of place e.0 e.1) (enumerate_from 0 entries)
+rows_of place entries = filter_map (λ (e : ℕ × Entry). scan_row place e.0 e.1) (enumerate_from 0 entries)
 
 -- one row more, where there is one
 abbrev pub rows_with : List ScanSeen → Option ScanSeen → List ScanSeen
@@ -40,4 +40,4 @@ pub record AddsRowsOf (ends : List PlaceEnd) (k : ℕ) (old new : List ScanSeen)
 -- at each place the rows of a walk of a worker are the Scan entries that it made there, in the order of the journal
 abbrev pub AreRowsOf : List PlaceEnd → List ScanSeen → Type 0
 AreRowsOf ends rows = (worker walk : ℕ) (place : Place) → worker < 2 ^ 16 → IsNumbered place
-    → map made_of (with_key (key_of worker walk place) rows) ≡ scans_by worker walk (journals_in ends place)
+    → map made_of_scan (with_key (key_of worker walk place) rows) ≡ scans_by worker walk (journals_in ends place)

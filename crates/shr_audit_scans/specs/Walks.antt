@@ -18,7 +18,7 @@ use Rattle.shr_audit_scans.specs.Table.{AreScansIn, AreSorted}
 
 -- the case is that of the script and the report, what the lookups met is by the report's registrations, and the Scan
 -- entries are those of the report
-pub record IsKnown (k : Known) : Type 0 where
+pub record IsCaseKnown (k : Known) : Type 0 where
   pub case : IsCaseOf k.script.now k.report.now k.case.now
   pub met : IsMetIn k.report.now.pool.items k.met.now
   pub sorted : AreSorted k.scans.now

@@ -3,7 +3,7 @@
 ghost use Rattle.std.specs.Prelude.{◌≡◌, ◌<◌, ◌++◌, length, IfOk, OnOk};
 ghost use Rattle.shr_case.specs.Places.{AreInOrder};
 ghost use Rattle.shr_report.specs.Numbers.{HasNumbers};
-ghost use Rattle.shr_audit_scans.specs.Rows.{AreRowsOf, AddsRowsOf, row_of, rows_of, rows_with};
+ghost use Rattle.shr_audit_scans.specs.Rows.{AreRowsOf, AddsRowsOf, scan_row, rows_of, rows_with};
 
 use shr_audit_walks::scans::ScanSeen;
 use shr_base::ends::PlaceEnd;
@@ -22,7 +22,7 @@ fn note_entry(
     entry: &Entry,
 ) -> Result<(), Memory>
     ensures { OnOk result (rows.new.items ≡ rows_with rows.old.items
-        (row_of place number entry.now)) }
+        (scan_row place number entry.now)) }
 {
     match entry {
         Entry::Scan {

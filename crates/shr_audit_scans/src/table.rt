@@ -8,7 +8,7 @@ ghost use Rattle.shr_report.specs.declared.report.Report.{Report};
 ghost use Rattle.shr_report.specs.Numbers.{HasNumbers};
 ghost use Rattle.shr_report.specs.Parts.{journals_of};
 ghost use Rattle.shr_audit_walks.specs.declared.scans.ScanSeen.{ScanSeen};
-ghost use Rattle.shr_audit_walks.specs.Scans.{made_of};
+ghost use Rattle.shr_audit_walks.specs.Scans.{made_of_scan};
 ghost use Rattle.shr_audit_scans.specs.Keys.{row_key};
 ghost use Rattle.shr_audit_scans.specs.Rows.{with_key};
 ghost use Rattle.shr_audit_scans.specs.Table.{AreScansIn, AreSorted};
@@ -96,7 +96,7 @@ impl Scans {
     pub fn of_pass(&self, worker: u16, walk: u64, place: Place) -> &[ScanSeen]
         requires { AreSorted self.now }
         ensures { (r : Report) → AreScansIn r self.now
-            → map made_of result.now ≡ scans_by worker walk (journals_of r place) }
+            → map made_of_scan result.now ≡ scans_by worker walk (journals_of r place) }
     {
         range_of(self.rows.as_slice(), key_of(worker, walk, place))
     }

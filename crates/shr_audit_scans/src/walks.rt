@@ -3,11 +3,11 @@
 ghost use Rattle.std.specs.Prelude.{◌≡◌, IfOk};
 ghost use Rattle.std.specs.Bool.{Decides};
 ghost use Rattle.shr_model.specs.Walks.{place_in};
-ghost use Rattle.shr_formed.specs.Each.{Each};
+ghost use Rattle.shr_formed.specs.Each.{EachItem};
 ghost use Rattle.shr_report.specs.LawfulWalk.{IsLawfulWalk};
 ghost use Rattle.shr_report.specs.Numbers.{HasNumbers};
 ghost use Rattle.shr_report.specs.Parts.{EachWalk};
-ghost use Rattle.shr_audit_scans.specs.Walks.{AreLawful, IsKnown, IsScannedAt};
+ghost use Rattle.shr_audit_scans.specs.Walks.{AreLawful, IsCaseKnown, IsScannedAt};
 
 use crate::table::Scans;
 use shr_audit_walks::alone::pass_of;
@@ -50,7 +50,7 @@ fn place_in(walk: &WalkRecord, id: u16) -> Place
 // Whether the Scan entries of the walk with this number of a worker at the place of an attempt are
 // those of its pass, if one ran.
 fn is_scanned_at(known: &Known, worker: u16, n: usize, walk: &WalkRecord, attempt: &Attempt) -> bool
-    requires { IsKnown known.now }
+    requires { IsCaseKnown known.now }
     ensures { Decides result (IsScannedAt known.now.script.now known.now.report.now
         worker n walk.now attempt.now) }
 {
@@ -67,8 +67,8 @@ fn is_scanned_at(known: &Known, worker: u16, n: usize, walk: &WalkRecord, attemp
 
 // Whether so it is with each pass of a walk.
 fn are_scanned(known: &Known, worker: u16, n: usize, walk: &WalkRecord) -> bool
-    requires { IsKnown known.now }
-    ensures { Decides result (Each (IsScannedAt known.now.script.now known.now.report.now
+    requires { IsCaseKnown known.now }
+    ensures { Decides result (EachItem (IsScannedAt known.now.script.now known.now.report.now
         worker n walk.now) walk.now.attempts.items) }
 {
     let attempts = walk.attempts.as_slice();
@@ -88,7 +88,7 @@ pub fn is_lawful_walk(
     n: usize,
     walk: &WalkRecord,
 ) -> Result<bool, Memory>
-    requires { IsKnown known.now }
+    requires { IsCaseKnown known.now }
     ensures { IfOk result (λ b. Decides b (IsLawfulWalk known.now.script.now known.now.report.now
         worker n walk.now)) }
 {
@@ -115,7 +115,7 @@ fn are_lawful(
     worker: u16,
     walks: &[WalkRecord],
 ) -> Result<bool, Memory>
-    requires { IsKnown known.now }
+    requires { IsCaseKnown known.now }
     ensures { IfOk result (λ b. Decides b (AreLawful known.now.script.now known.now.report.now
         worker walks.now)) }
 {
@@ -129,7 +129,7 @@ fn are_lawful(
 
 /// Whether each walk of a report is lawful. Our own.
 pub fn are_walks_each(alloc: Global, known: &Known) -> Result<bool, Memory>
-    requires known { IsKnown known.now }
+    requires known { IsCaseKnown known.now }
     requires numbers { HasNumbers known.now.report.now }
     ensures { IfOk result (λ b. Decides b (EachWalk known.now.report.now
         (IsLawfulWalk known.now.script.now known.now.report.now))) }

@@ -1,15 +1,11 @@
 -- Operations and puts counted one after another.
-use Rattle.shr_audit_spent.proofs.Common.{◌≡◌, ℕ, ◌+◌, ◌<◌, ◌≤◌, Bool, true, false, List, [], ◌∷◌, ◌++◌, length, length-append, get_or, refl, sym, ap, subst, ◌∙◌, arith, filter, UseStep, AreCounted, IsCapped, is_of_kind, zero_more}
-use Rattle.std.proofs.Common.{cond, set}
-use Rattle.std.specs.Prelude.{count_by}
+use Rattle.shr_audit_spent.proofs.Common.{◌≡◌, ℕ, ◌+◌, ◌<◌, ◌≤◌, Bool, true, false, List, [], ◌∷◌, ◌++◌, length, length-append, get_or, refl, sym, ap, subst, ◌∙◌, arith, filter, UseStep, AreCounted, IsCapped, is_of_kind, zero_more, cond, set, count_by, get_or-set_same, get_or-set_other, length-set, worker_uses}
 use mathlib.Core.Logic.{dite}
 use native.Mathlib.Decide.{ℕ_discrete}
 use Rattle.std.proofs.lemmas.Bool.{eq-eqb, ne_eqb}
-use Rattle.std.proofs.lemmas.List.{get_or-set_same, get_or-set_other, length-set}
 use Rattle.std.proofs.lemmas.List.Elements.{filter-append}
 use Rattle.std.proofs.lemmas.List.Sums.{length-filter}
 use Rattle.shr_report.specs.Causes.{is_of_worker}
-use Rattle.shr_audit_spent.specs.Counted.{steps_of}
 
 one_in : {X : Type 0} (p : X → Bool) (y : X) (b : Bool) → p y ≡ b → length (filter p (y ∷ [])) ≡ cond b 1 0
 one_in p y true e = rw e refl
@@ -25,10 +21,10 @@ count_one p xs y b e = sym (length-filter p (xs ++ y ∷ [])) ∙ (filter_one p 
 -- ---- operations
 
 -- an operation that isn't counted for a worker, and one that is
-step_off : (kind : Bool) (w : ℕ) (before : List UseStep) (o : UseStep) → cond (is_of_worker w o) (is_of_kind kind o.up) false ≡ false → steps_of kind w (before ++ o ∷ []) ≡ steps_of kind w before
+step_off : (kind : Bool) (w : ℕ) (before : List UseStep) (o : UseStep) → cond (is_of_worker w o) (is_of_kind kind o.up) false ≡ false → worker_uses kind w (before ++ o ∷ []) ≡ worker_uses kind w before
 step_off kind w before o off = let one = count_one (λ (x : UseStep). cond (is_of_worker w x) (is_of_kind kind x.up) false) before o false off in omega (arith, one)
 
-step_on : (kind : Bool) (w : ℕ) (before : List UseStep) (o : UseStep) → cond (is_of_worker w o) (is_of_kind kind o.up) false ≡ true → steps_of kind w (before ++ o ∷ []) ≡ steps_of kind w before + 1
+step_on : (kind : Bool) (w : ℕ) (before : List UseStep) (o : UseStep) → cond (is_of_worker w o) (is_of_kind kind o.up) false ≡ true → worker_uses kind w (before ++ o ∷ []) ≡ worker_uses kind w before + 1
 step_on kind w before o on = count_one (λ (x : UseStep). cond (is_of_worker w x) (is_of_kind kind x.up) false) before o true on
 
 never : (b k : Bool) → k ≡ false → cond b k false ≡ false
@@ -54,14 +50,14 @@ one_noted kind o counts more there own grows before are w lt = dite (ℕ_discret
     within : w < length counts
     within = subst (λ (n : ℕ). w < n) (length-set counts o.by.worker more) lt
 
-    here : w ≡ o.by.worker → IsCapped (get_or (set counts o.by.worker more) w 0) (steps_of kind w (before ++ o ∷ []))
-    here same = subst (λ (v : ℕ). IsCapped (get_or (set counts o.by.worker more) v 0) (steps_of kind v (before ++ o ∷ []))) (sym same)
-        (subst (λ (n : ℕ). IsCapped n (steps_of kind o.by.worker (before ++ o ∷ []))) (sym (get_or-set_same counts o.by.worker more 0 there))
+    here : w ≡ o.by.worker → IsCapped (get_or (set counts o.by.worker more) w 0) (worker_uses kind w (before ++ o ∷ []))
+    here same = subst (λ (v : ℕ). IsCapped (get_or (set counts o.by.worker more) v 0) (worker_uses kind v (before ++ o ∷ []))) (sym same)
+        (subst (λ (n : ℕ). IsCapped n (worker_uses kind o.by.worker (before ++ o ∷ []))) (sym (get_or-set_same counts o.by.worker more 0 there))
         (subst (IsCapped more) (sym (step_on kind o.by.worker before o (ap (λ (b : Bool). cond b (is_of_kind kind o.up) false) (eq-eqb o.by.worker o.by.worker refl) ∙ own)))
-        (grows (steps_of kind o.by.worker before) (are o.by.worker there))))
+        (grows (worker_uses kind o.by.worker before) (are o.by.worker there))))
 
-    away : (w ≡ o.by.worker → ⊥) → IsCapped (get_or (set counts o.by.worker more) w 0) (steps_of kind w (before ++ o ∷ []))
-    away ne = subst (λ (n : ℕ). IsCapped n (steps_of kind w (before ++ o ∷ []))) (sym (get_or-set_other counts o.by.worker w more 0 ne))
+    away : (w ≡ o.by.worker → ⊥) → IsCapped (get_or (set counts o.by.worker more) w 0) (worker_uses kind w (before ++ o ∷ []))
+    away ne = subst (λ (n : ℕ). IsCapped n (worker_uses kind w (before ++ o ∷ []))) (sym (get_or-set_other counts o.by.worker w more 0 ne))
         (subst (IsCapped (get_or counts w 0)) (sym (step_off kind w before o (off kind w o (λ same. ne (sym same))))) (are w within))
 
 -- none was noted

@@ -1,8 +1,5 @@
 -- What is so of whatever was found, and of each walk of the pools.
-use Rattle.shr_audit_spent.proofs.Common.{◌≡◌, ℕ, Bool, [], Option, Some, refl, sym, ap, subst, ◌∙◌, arith, slice_get, Decides, WorkerPart, PlainWalk, Report}
-use Rattle.std.proofs.Common.{None}
-use Rattle.std.proofs.lemmas.Option.{slice_get_within}
-use Rattle.shr_report.specs.UnitParts.{EachPlain, plain_in}
+use Rattle.shr_audit_spent.proofs.Common.{◌≡◌, ℕ, Bool, [], Option, Some, refl, sym, ap, subst, ◌∙◌, arith, slice_get, Decides, WorkerPart, PlainWalk, Report, None, slice_get_within, EachPlain, plain_in}
 use Rattle.shr_case.specs.Each.{InParts}
 
 -- what is so of whatever stands there is so of the one that was found

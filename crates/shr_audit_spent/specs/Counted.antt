@@ -19,8 +19,8 @@ is_of_kind true up = up
 is_of_kind false up = cond up false true
 
 -- how many of these operations are a worker's charges, or its uncharges
-abbrev pub steps_of : Bool → ℕ → List UseStep → ℕ
-steps_of kind worker steps = count_by (λ (o : UseStep). cond (is_of_worker worker o) (is_of_kind kind o.up) false) steps
+abbrev pub worker_uses : Bool → ℕ → List UseStep → ℕ
+worker_uses kind worker steps = count_by (λ (o : UseStep). cond (is_of_worker worker o) (is_of_kind kind o.up) false) steps
 
 -- a count of so many, or 2^32 - 1 where there are more
 pub record IsCapped (n count : ℕ) : Type 0 where
@@ -29,7 +29,7 @@ pub record IsCapped (n count : ℕ) : Type 0 where
 
 -- the steps of each worker that has a part
 abbrev pub AreCounted : Bool → List UseStep → List ℕ → Type 0
-AreCounted kind steps counts = (worker : ℕ) → worker < length counts → IsCapped (get_or counts worker 0) (steps_of kind worker steps)
+AreCounted kind steps counts = (worker : ℕ) → worker < length counts → IsCapped (get_or counts worker 0) (worker_uses kind worker steps)
 
 -- all that is counted
 pub record IsCountOf (s : Script) (r : Report) (c : Counted) : Type 0 where

@@ -4,7 +4,7 @@ ghost use Rattle.std.specs.Prelude.{◌≡◌, ℕ, ◌<◌, Some, length, slice
 ghost use Rattle.std.specs.Bool.{Decides};
 ghost use Rattle.shr_base.specs.declared.ends.WorkerPart.{WorkerPart};
 ghost use Rattle.shr_base.specs.declared.walks.WalkRecord.{WalkRecord};
-ghost use Rattle.shr_formed.specs.Each.{Each};
+ghost use Rattle.shr_formed.specs.Each.{EachItem};
 ghost use Rattle.shr_model.specs.Attempts.{pass_of};
 ghost use Rattle.shr_report.specs.Causes.{IsPassCaused};
 ghost use Rattle.shr_report.specs.Parts.{EachAttempt};
@@ -109,7 +109,7 @@ fn are_walks_caused(
     requires order { AreInOrder report.now.places.items }
     requires counted { IsCountOf script.now report.now counted.now }
     requires there { worker < length report.now.workers.items }
-    ensures { Decides result (Each (λ w. EachAttempt w
+    ensures { Decides result (EachItem (λ w. EachAttempt w
         (λ a. IsRunCaused script.now report.now worker w a)) walks.now) }
 {
     for walk in walks {
@@ -132,7 +132,7 @@ fn are_parts_caused(
     requires whole { parts.now ≡ report.now.workers.items }
     ensures { Decides result ((worker : ℕ) (part : WorkerPart)
         → slice_get parts.now worker ≡ Some part
-        → Each (λ w. EachAttempt w
+        → EachItem (λ w. EachAttempt w
         (λ a. IsRunCaused script.now report.now worker w a)) part.walks.items) }
 {
     for worker in 0..parts.len() {

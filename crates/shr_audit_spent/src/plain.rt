@@ -3,7 +3,7 @@
 ghost use Rattle.std.specs.Prelude.{◌≡◌, ℕ, Some, slice_get};
 ghost use Rattle.std.specs.Bool.{Decides};
 ghost use Rattle.shr_base.specs.declared.walks.PlainTry.{PlainTry};
-ghost use Rattle.shr_formed.specs.Each.{Each};
+ghost use Rattle.shr_formed.specs.Each.{EachItem};
 ghost use Rattle.shr_report.specs.UnitParts.{pool_place};
 ghost use Rattle.shr_audit_spent.specs.Passes.{AreTriesCaused, IsEndSpent, IsTryCaused, IsTrySpent};
 
@@ -58,7 +58,7 @@ fn are_tries_caused_on(script: &Script, report: &Report, node: u8, tries: &[Plai
 
 // Whether each pass of these walks is.
 fn are_walks_caused(script: &Script, report: &Report, walks: &[PlainWalk]) -> bool
-    ensures { Decides result (Each (λ w. (pool : ℕ) (x : PlainTry)
+    ensures { Decides result (EachItem (λ w. (pool : ℕ) (x : PlainTry)
         → slice_get w.tries.items pool ≡ Some x
         → IsTryCaused script.now report.now w.node pool x) walks.now) }
 {
@@ -72,7 +72,7 @@ fn are_walks_caused(script: &Script, report: &Report, walks: &[PlainWalk]) -> bo
 
 // Whether each pass of these parts is.
 fn are_parts_caused(script: &Script, report: &Report, parts: &[WorkerPart]) -> bool
-    ensures { Decides result (Each (λ part. Each (λ w. (pool : ℕ) (x : PlainTry)
+    ensures { Decides result (EachItem (λ part. EachItem (λ w. (pool : ℕ) (x : PlainTry)
         → slice_get w.tries.items pool ≡ Some x
         → IsTryCaused script.now report.now w.node pool x) part.plain.items) parts.now) }
 {

@@ -5,7 +5,7 @@ ghost use Rattle.std.specs.Bool.{Decides};
 ghost use Rattle.shr_model.specs.Places.{is_place};
 ghost use Rattle.shr_model.specs.Units.{free_after, free_of};
 ghost use Rattle.shr_report.specs.Causes.{IsPoolSpent};
-ghost use Rattle.shr_report.specs.UnitParts.{home_in, pool_place, units_of};
+ghost use Rattle.shr_report.specs.UnitParts.{home_in, pool_place, units_journal};
 ghost use Rattle.shr_report.specs.WellFormed.{units_place};
 
 use shr_base::ends::UnitsEnd;
@@ -24,7 +24,7 @@ fn is_of_place(units: &UnitsEnd, place: Place) -> bool
 
 // The journal of a pool at a place; one that isn't printed is empty.
 fn units_at(report: &Report, place: Place) -> &[PlainEntry]
-    ensures { result.now ≡ units_of report.now place }
+    ensures { result.now ≡ units_journal report.now place }
 {
     for units in report.units.as_slice() {
         if is_of_place(units, place) {
@@ -78,8 +78,8 @@ fn is_pool_place(script: &Script, pool: usize, node: u8, place: Place) -> bool
 
 // Whether the journal of a place has 2^31 entries, which leave so many units free.
 fn is_full_at(report: &Report, place: Place, free: u32) -> bool
-    ensures { Decides result ((length (units_of report.now place) ≡ 2 ^ 31) ×
-        (free ≡ free_of (units_of report.now place))) }
+    ensures { Decides result ((length (units_journal report.now place) ≡ 2 ^ 31) ×
+        (free ≡ free_of (units_journal report.now place))) }
 {
     let units = units_at(report, place);
     units.len() == 0x8000_0000 && free as u64 == free_of(units)

@@ -1,19 +1,14 @@
 -- Marks of groups on nodes, walk by walk.
-use Rattle.shr_audit_sweep.proofs.Common.{◌≡◌, ℕ, ◌+◌, ◌*◌, ◌<◌, ◌≤◌, Bool, true, false, cond, List, [], ◌∷◌, ◌++◌, length, get_or, take, Some, refl, sym, ap, subst, ◌∙◌, arith, ◌&&◌, ◌==◌, sum_by, Decides, length-set, Script, Sweep, WalkRecord, Report, parents_of, sweep_walks, Each, clash, AreMarked, IsGroupMarked, job_index}
-use Rattle.std.proofs.Common.{◌-◌, set, drop}
-use Rattle.std.specs.Prelude.{nat_lt, flat_map}
+use Rattle.shr_audit_sweep.proofs.Common.{◌≡◌, ℕ, ◌+◌, ◌*◌, ◌<◌, ◌≤◌, Bool, true, false, cond, List, [], ◌∷◌, ◌++◌, length, get_or, take, Some, refl, sym, ap, subst, ◌∙◌, arith, ◌&&◌, ◌==◌, sum_by, Decides, length-set, Script, Sweep, WalkRecord, Report, parents_of, sweep_walks, EachItem, clash, AreMarked, IsGroupMarked, job_index, ◌-◌, set, drop, nat_lt, flat_map, append_assoc, drop_more, get_or-set_same, get_or-set_other, length-map, take-append-drop, take_all, take_more, IsSweepRight, all_sweep_walks, AreWalkedOnce, AreSweptOnce, IsSweptWithin, times_in}
 use Rattle.std.specs.List.{range_with_len}
 use Rattle.std.proofs.lemmas.Bool.{eq-eqb, eqb-true}
 use Rattle.std.proofs.lemmas.Bool.Decides.{nat_tests}
 use Rattle.std.proofs.lemmas.Grind.{flat_map-append}
-use Rattle.std.proofs.lemmas.List.{append_assoc, drop_more, get_or-set_same, get_or-set_other, length-map, take-append-drop, take_all, take_more}
 use Rattle.std.proofs.lemmas.List.Sums.{sum_by-append, sum_by-cons}
 use Rattle.std.proofs.lemmas.Nat.{mul-add-lt, same_from_place}
 use Rattle.std.proofs.lemmas.Option.{slice_get-get_or}
 use Rattle.shr_base.specs.declared.scripts.GroupDecl.{GroupDecl}
-use Rattle.shr_report.specs.Swept.{IsSweepRight, all_sweep_walks}
-use Rattle.shr_audit_sweep.specs.Swept.{AreAnswered, AreSweptOut}
-use Rattle.shr_audit_sweep.specs.Marks.{AreOnce, AreWalked, IsWithin, times_in}
+use Rattle.shr_audit_sweep.specs.Swept.{HaveSweepAnswers, AreSweptOut}
 use Rattle.shr_model.proofs.PiecesLaws.{and_true}
 use Rattle.shr_model.proofs.Numbers.{range_more}
 
@@ -52,10 +47,10 @@ of_none n e = grind (arith, nat_tests)
 
 -- ---- one walk more
 
-pub in_marks : (groups nodes : ℕ) (w : WalkRecord) (n : ℕ) → n ≡ groups * nodes → IsWithin groups nodes w → job_index nodes w.group w.node < n
+pub in_marks : (groups nodes : ℕ) (w : WalkRecord) (n : ℕ) → n ≡ groups * nodes → IsSweptWithin groups nodes w → job_index nodes w.group w.node < n
 in_marks groups nodes w n size within = let lt = mul-add-lt w.group nodes w.node groups within.0 within.1 in omega (arith, lt, size)
 
-pub mark_more : (groups nodes : ℕ) (before : List WalkRecord) (w : WalkRecord) (marks : List Bool) → IsWithin groups nodes w → AreMarked groups nodes before marks → get_or marks (job_index nodes w.group w.node) false ≡ false
+pub mark_more : (groups nodes : ℕ) (before : List WalkRecord) (w : WalkRecord) (marks : List Bool) → IsSweptWithin groups nodes w → AreMarked groups nodes before marks → get_or marks (job_index nodes w.group w.node) false ≡ false
     → AreMarked groups nodes (before ++ w ∷ []) (set marks (job_index nodes w.group w.node) true)
 mark_more groups nodes before w marks within h fresh = record {
   size = length-set marks (job_index nodes w.group w.node) true ∙ h.size;
@@ -104,8 +99,8 @@ mark_more groups nodes before w marks within h fresh = record {
         omega (arith, more, one, up)
 
 -- one that was marked already is walked twice
-pub mark_twice : (groups nodes : ℕ) (before rest : List WalkRecord) (w : WalkRecord) (marks : List Bool) → IsWithin groups nodes w → AreMarked groups nodes before marks → get_or marks (job_index nodes w.group w.node) false ≡ true
-    → AreOnce (before ++ w ∷ rest) → ⊥
+pub mark_twice : (groups nodes : ℕ) (before rest : List WalkRecord) (w : WalkRecord) (marks : List Bool) → IsSweptWithin groups nodes w → AreMarked groups nodes before marks → get_or marks (job_index nodes w.group w.node) false ≡ true
+    → AreWalkedOnce (before ++ w ∷ rest) → ⊥
 mark_twice groups nodes before rest w marks within h set_before once =
     let had = of_positive (times_in before w.group w.node) (sym (h.each w.group w.node within.0 within.1) ∙ set_before) in
     let whole = times_append before (w ∷ rest) w.group w.node in
@@ -123,22 +118,22 @@ not_fresh : (b v : Bool) → Decides b (v ≡ false) → b ≡ false → v ≡ t
 not_fresh b true d f = refl
 not_fresh b false d f = absurd (clash b (d.1 refl) f)
 
-pub within_at : (groups nodes : ℕ) (walks : List WalkRecord) (i : ℕ) (w : WalkRecord) → Each (IsWithin groups nodes) walks → i < length walks → w ≡ get_or walks i w → IsWithin groups nodes w
+pub within_at : (groups nodes : ℕ) (walks : List WalkRecord) (i : ℕ) (w : WalkRecord) → EachItem (IsSweptWithin groups nodes) walks → i < length walks → w ≡ get_or walks i w → IsSweptWithin groups nodes w
 within_at groups nodes walks i w all lt is = all i w (slice_get-get_or walks i w lt ∙ ap (λ (x : WalkRecord). Some x) (sym is))
 
-pub walks_more : (groups nodes : ℕ) (before walks : List WalkRecord) (i : ℕ) (w : WalkRecord) (marks after : List Bool) (b : Bool) → IsWithin groups nodes w → i < length walks → w ≡ get_or walks i w → Decides b (get_or marks (job_index nodes w.group w.node) false ≡ false) → b ≡ true
+pub walks_more : (groups nodes : ℕ) (before walks : List WalkRecord) (i : ℕ) (w : WalkRecord) (marks after : List Bool) (b : Bool) → IsSweptWithin groups nodes w → i < length walks → w ≡ get_or walks i w → Decides b (get_or marks (job_index nodes w.group w.node) false ≡ false) → b ≡ true
     → after ≡ set marks (job_index nodes w.group w.node) true → AreMarked groups nodes (before ++ take i walks) marks → AreMarked groups nodes (before ++ take (i + 1) walks) after
 walks_more groups nodes before walks i w marks after b within lt is fresh t now h =
     let next : take (i + 1) walks ≡ take i walks ++ w ∷ [] = take_more walks i w lt ∙ ap (λ (x : WalkRecord). take i walks ++ x ∷ []) (sym is) in
     subst (λ (ws : List WalkRecord). AreMarked groups nodes ws after) (append_assoc before (take i walks) (w ∷ []) ∙ ap (λ (ws : List WalkRecord). before ++ ws) (sym next))
     (subst (AreMarked groups nodes ((before ++ take i walks) ++ w ∷ [])) (sym now) (mark_more groups nodes (before ++ take i walks) w marks within h (fresh.0 t)))
 
-pub walks_twice : (groups nodes : ℕ) (before walks : List WalkRecord) (i : ℕ) (w : WalkRecord) (marks : List Bool) (b : Bool) → IsWithin groups nodes w → i < length walks → w ≡ get_or walks i w → Decides b (get_or marks (job_index nodes w.group w.node) false ≡ false) → b ≡ false
-    → AreMarked groups nodes (before ++ take i walks) marks → Decides false (AreOnce (before ++ walks))
+pub walks_twice : (groups nodes : ℕ) (before walks : List WalkRecord) (i : ℕ) (w : WalkRecord) (marks : List Bool) (b : Bool) → IsSweptWithin groups nodes w → i < length walks → w ≡ get_or walks i w → Decides b (get_or marks (job_index nodes w.group w.node) false ≡ false) → b ≡ false
+    → AreMarked groups nodes (before ++ take i walks) marks → Decides false (AreWalkedOnce (before ++ walks))
 walks_twice groups nodes before walks i w marks b within lt is fresh f h = (
   λ t. absurd cc,
   λ once. absurd (mark_twice groups nodes (before ++ take i walks) (drop (i + 1) walks) w marks within h (not_fresh b (get_or marks (job_index nodes w.group w.node) false) fresh f)
-      (subst AreOnce (ap (λ (ws : List WalkRecord). before ++ ws) (split walks i w lt ∙ ap (λ (x : WalkRecord). take i walks ++ x ∷ drop (i + 1) walks) (sym is)) ∙ sym (append_assoc before (take i walks) (w ∷ drop (i + 1) walks))) once)),
+      (subst AreWalkedOnce (ap (λ (ws : List WalkRecord). before ++ ws) (split walks i w lt ∙ ap (λ (x : WalkRecord). take i walks ++ x ∷ drop (i + 1) walks) (sym is)) ∙ sym (append_assoc before (take i walks) (w ∷ drop (i + 1) walks))) once)),
 )
 
 pub walks_all : (groups nodes : ℕ) (before walks : List WalkRecord) (i : ℕ) (marks : List Bool) → length walks ≤ i → AreMarked groups nodes (before ++ take i walks) marks → AreMarked groups nodes (before ++ walks) marks
@@ -164,15 +159,15 @@ one_swept s r n = search_nil (sweep_walks s r n)
 pub next_worker : (s : Script) (r : Report) (n : ℕ) → swept_to s r (n + 1) ≡ swept_to s r n ++ sweep_walks s r n
 next_worker s r n = swept_on s r n 1 ∙ ap (λ (ws : List WalkRecord). swept_to s r n ++ ws) (one_swept s r n)
 
-once_before : (xs ys : List WalkRecord) → AreOnce (xs ++ ys) → AreOnce xs
+once_before : (xs ys : List WalkRecord) → AreWalkedOnce (xs ++ ys) → AreWalkedOnce xs
 once_before xs ys once group node = let whole = times_append xs ys group node in let most = once group node in omega (arith, whole, most)
 
 -- what isn't walked once by the first workers isn't by all
-pub all_twice : (s : Script) (r : Report) (n : ℕ) (walks : List WalkRecord) → n < length s.workers.items → walks ≡ sweep_walks s r n → (AreOnce (swept_to s r n ++ walks) → ⊥) → AreOnce (all_sweep_walks s r) → ⊥
+pub all_twice : (s : Script) (r : Report) (n : ℕ) (walks : List WalkRecord) → n < length s.workers.items → walks ≡ sweep_walks s r n → (AreWalkedOnce (swept_to s r n ++ walks) → ⊥) → AreWalkedOnce (all_sweep_walks s r) → ⊥
 all_twice s r n walks lt own twice once =
     let whole : length s.workers.items ≡ n + 1 + (length s.workers.items - (n + 1)) = omega (arith, lt) in
     let split : all_sweep_walks s r ≡ swept_to s r (n + 1) ++ flat_map (sweep_walks s r) (range_with_len (n + 1) (length s.workers.items - (n + 1))) = ap (swept_to s r) whole ∙ swept_on s r (n + 1) (length s.workers.items - (n + 1)) in
-    twice (subst AreOnce (next_worker s r n ∙ ap (λ (ws : List WalkRecord). swept_to s r n ++ ws) (sym own)) (once_before (swept_to s r (n + 1)) (flat_map (sweep_walks s r) (range_with_len (n + 1) (length s.workers.items - (n + 1)))) (subst AreOnce split once)))
+    twice (subst AreWalkedOnce (next_worker s r n ∙ ap (λ (ws : List WalkRecord). swept_to s r n ++ ws) (sym own)) (once_before (swept_to s r (n + 1)) (flat_map (sweep_walks s r) (range_with_len (n + 1) (length s.workers.items - (n + 1)))) (subst AreWalkedOnce split once)))
 
 -- the groups, the root among them
 pub parents_count : (s : Script) (n : ℕ) → n ≡ length s.groups.items → n + 1 ≡ length (parents_of s)
@@ -193,7 +188,7 @@ workers_all s r n worker marks over under h =
     let same : worker ≡ length s.workers.items = omega (arith, over, under) in
     subst (λ (k : ℕ). AreMarked (length (parents_of s)) n (swept_to s r k) marks) same h
 
-pub workers_twice : (s : Script) (r : Report) (worker : ℕ) (walks : List WalkRecord) (b : Bool) → worker < length s.workers.items → walks ≡ sweep_walks s r worker → Decides b (AreOnce (swept_to s r worker ++ walks)) → b ≡ false → Decides false (AreOnce (all_sweep_walks s r))
+pub workers_twice : (s : Script) (r : Report) (worker : ℕ) (walks : List WalkRecord) (b : Bool) → worker < length s.workers.items → walks ≡ sweep_walks s r worker → Decides b (AreWalkedOnce (swept_to s r worker ++ walks)) → b ≡ false → Decides false (AreWalkedOnce (all_sweep_walks s r))
 workers_twice s r worker walks b lt own d f = (λ t. absurd cc, λ once. absurd (all_twice s r worker walks lt own (λ h. clash b (d.1 h) f) once))
 
 -- ---- all groups on all nodes
@@ -202,7 +197,7 @@ pub none_marked : (groups nodes : ℕ) (marks : List Bool) → length marks ≡ 
 none_marked groups nodes marks size none = record { size = size; each = λ group node g n. none (job_index nodes group node); once = λ group node. omega arith }
 
 pub marked_walked : (s : Script) (r : Report) (groups : ℕ) (marks : List Bool) (b : Bool) → groups ≡ length (parents_of s) → AreMarked (length (parents_of s)) s.nodes (all_sweep_walks s r) marks
-    → Decides b ((group : ℕ) → group < groups → IsGroupMarked s.nodes group marks) → Decides b (AreWalked s r true)
+    → Decides b ((group : ℕ) → group < groups → IsGroupMarked s.nodes group marks) → Decides b (AreSweptOnce s r true)
 marked_walked s r groups marks b same h d = (
   λ t. record {
     once = h.once;
@@ -221,17 +216,17 @@ marked_walked s r groups marks b same h d = (
     below group g = subst (λ (k : ℕ). group < k) same g
 
 -- where not all must be walked
-pub once_walked : (s : Script) (r : Report) (whole b : Bool) → whole ≡ false → Decides b (AreOnce (all_sweep_walks s r)) → b ≡ true → Decides true (AreWalked s r whole)
+pub once_walked : (s : Script) (r : Report) (whole b : Bool) → whole ≡ false → Decides b (AreWalkedOnce (all_sweep_walks s r)) → b ≡ true → Decides true (AreSweptOnce s r whole)
 once_walked s r whole b f d t = (λ u. record { once = d.0 t; all = λ w. absurd (clash whole w f) }, λ h. refl)
 
 pub whole_walked : (s : Script) (r : Report) (whole : Bool) (groups : ℕ) (marks read : List Bool) (b : Bool) → whole ≡ true → groups ≡ length (parents_of s) → read ≡ marks → AreMarked (length (parents_of s)) s.nodes (all_sweep_walks s r) marks
-    → Decides b ((group : ℕ) → group < groups → IsGroupMarked s.nodes group read) → Decides b (AreWalked s r whole)
+    → Decides b ((group : ℕ) → group < groups → IsGroupMarked s.nodes group read) → Decides b (AreSweptOnce s r whole)
 whole_walked s r whole groups marks read b w same own h d =
-    subst (λ (v : Bool). Decides b (AreWalked s r v)) (sym w)
+    subst (λ (v : Bool). Decides b (AreSweptOnce s r v)) (sym w)
     (marked_walked s r groups marks b same h (subst (λ (ms : List Bool). Decides b ((group : ℕ) → group < groups → IsGroupMarked s.nodes group ms)) own d))
 
 -- the whole law
-pub right_decided : (s : Script) (r : Report) (z : Sweep) (whole b : Bool) → AreAnswered s r z → Decides whole (AreSweptOut s r) → Decides b (AreWalked s r whole) → Decides b (IsSweepRight s r z)
+pub right_decided : (s : Script) (r : Report) (z : Sweep) (whole b : Bool) → HaveSweepAnswers s r z → Decides whole (AreSweptOut s r) → Decides b (AreSweptOnce s r whole) → Decides b (IsSweepRight s r z)
 right_decided s r z whole b answered out d = (
   λ t. (let w = d.0 t in record { answers = answered; once = w.once; all = λ o. w.all (out.1 o) }),
   λ h. d.1 (record { once = h.once; all = λ t. h.all (out.0 t) }),

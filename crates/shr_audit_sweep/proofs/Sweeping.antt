@@ -1,18 +1,13 @@
 -- The walks that a worker made for the sweep, in its part.
-use Rattle.shr_audit_sweep.proofs.Common.{◌≡◌, ℕ, ◌<◌, ◌≤◌, Bool, true, false, cond, List, [], ◌∷◌, length, get_or, Some, refl, sym, ap, ◌∙◌, ◌==◌, ◌&&◌, slice_get, Decides, WorkerPart, Script, Sweep, WalkRecord, Report, IsSweepWalk, IsSwept, sweep_serial, sweep_walks, Each, clash}
-use Rattle.std.proofs.Common.{suc, Option, None}
-use Rattle.std.specs.Prelude.{filter, is_some, not}
+use Rattle.shr_audit_sweep.proofs.Common.{◌≡◌, ℕ, ◌<◌, ◌≤◌, Bool, true, false, cond, List, [], ◌∷◌, length, get_or, Some, refl, sym, ap, ◌∙◌, ◌==◌, ◌&&◌, slice_get, Decides, WorkerPart, Script, Sweep, WalkRecord, Report, IsSweepWalk, IsSwept, sweep_serial, sweep_walks, EachItem, clash, suc, Option, None, filter, is_some, not, commands_of, serial_of, walks_in, Adjacent, IsWorkerCommand, all_of, each_in}
 use Rattle.shr_base.specs.declared.replies.Answered.{Answered}
 use Rattle.shr_model.specs.Commands.{is_serial}
-use Rattle.shr_report.specs.Parts.{commands_of, serial_of, walks_in}
 use Rattle.shr_report.specs.WellFormed.{IsWellFormed}
-use Rattle.shr_formed.specs.Each.{Adjacent, IsOf}
-use Rattle.shr_formed.proofs.Eachs.{all_of, each_in}
 use Rattle.shr_formed.proofs.WellParts.{parts_of}
-use Rattle.shr_audit_sweep.specs.Swept.{IsTold}
+use Rattle.shr_audit_sweep.specs.Swept.{IsSweepTold}
 use Rattle.shr_audit_walks.proofs.Answered.{here_at, same_test}
 
-own_walks : (worker n answers : ℕ) (walks : List WalkRecord) → Each (λ x. IsOf worker answers x.by) walks → filter (λ (w : WalkRecord). is_serial (serial_of worker n) w.by) walks ≡ filter (λ (w : WalkRecord). w.by.command == n) walks
+own_walks : (worker n answers : ℕ) (walks : List WalkRecord) → EachItem (λ x. IsWorkerCommand worker answers x.by) walks → filter (λ (w : WalkRecord). is_serial (serial_of worker n) w.by) walks ≡ filter (λ (w : WalkRecord). w.by.command == n) walks
 own_walks worker n answers [] h = refl
 own_walks worker n answers (w ∷ ws) h =
     ap (λ (t : Bool). cond t (w ∷ filter (λ (x : WalkRecord). is_serial (serial_of worker n) x.by) ws) (filter (λ (x : WalkRecord). is_serial (serial_of worker n) x.by) ws)) (same_test worker n w.by.worker w.by.command (h 0 w refl).0)
@@ -39,7 +34,7 @@ none_of None b e t = refl
 none_of (Some x) b e t = absurd (let f : not b ≡ false = ap not t in cc)
 
 -- an answer that found no cache and tells these walks is right if these are of the sweep
-pub swept_told : (s : Script) (z : Sweep) (walks : List WalkRecord) (a : Answered) (n t b : Bool) → is_some a.found ≡ not n → n ≡ true → Decides t (IsTold walks a.reply) → t ≡ true → Decides b (Each (IsSweepWalk s z) walks) → Decides b (IsSwept s z walks a)
+pub swept_told : (s : Script) (z : Sweep) (walks : List WalkRecord) (a : Answered) (n t b : Bool) → is_some a.found ≡ not n → n ≡ true → Decides t (IsSweepTold walks a.reply) → t ≡ true → Decides b (EachItem (IsSweepWalk s z) walks) → Decides b (IsSwept s z walks a)
 swept_told s z walks a n t b found is_none told is_told d = (
   λ u. (let h = told.0 is_told in record { alone = none_of a.found n found is_none; kind = h.kind; walks_are = all_of (IsSweepWalk s z) walks (d.0 u); jobs = h.jobs; freed = h.freed }),
   λ h. d.1 (each_in (IsSweepWalk s z) walks h.walks_are),

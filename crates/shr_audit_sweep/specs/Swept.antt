@@ -12,14 +12,14 @@ use Rattle.shr_report.specs.Parts.{answer_at, reply_at}
 use Rattle.shr_report.specs.Swept.{IsSwept, IsSweepReply, IsSweptOut, freed_swept, sweep_serial, sweep_walks}
 
 -- a reply says how many walks these are, or that memory was short, and what they freed
-pub record IsTold (walks : List WalkRecord) (x : Reply) : Type 0 where
+pub record IsSweepTold (walks : List WalkRecord) (x : Reply) : Type 0 where
   pub kind : IsSweepReply x
   pub jobs : (jobs freed : ℕ) → x ≡ reply.Swept jobs freed → jobs ≡ length walks
   pub freed : freed_swept x ≡ sum_by (λ (w : WalkRecord). freed_told w.answer) walks
 
 -- each worker has its last answer
-abbrev pub AreAnswered : Script → Report → Sweep → Type 0
-AreAnswered s r z = (worker : ℕ) → worker < length s.workers.items → IsSomeAnd (answer_at r (sweep_serial s worker)) (IsSwept s z (sweep_walks s r worker))
+abbrev pub HaveSweepAnswers : Script → Report → Sweep → Type 0
+HaveSweepAnswers s r z = (worker : ℕ) → worker < length s.workers.items → IsSomeAnd (answer_at r (sweep_serial s worker)) (IsSwept s z (sweep_walks s r worker))
 
 -- each worker says that no job was left
 abbrev pub AreSweptOut : Script → Report → Type 0

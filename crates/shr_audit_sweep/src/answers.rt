@@ -6,7 +6,7 @@ ghost use Rattle.std.specs.Option.{IsSomeAnd};
 ghost use Rattle.shr_report.specs.Parts.{answer_at, reply_at};
 ghost use Rattle.shr_report.specs.Swept.{IsSwept, IsSweptOut, sweep_serial, sweep_walks};
 ghost use Rattle.shr_report.specs.WellFormed.{IsWellFormed};
-ghost use Rattle.shr_audit_sweep.specs.Swept.{AreAnswered, AreSweptOut, IsTold};
+ghost use Rattle.shr_audit_sweep.specs.Swept.{HaveSweepAnswers, AreSweptOut, IsSweepTold};
 
 use crate::walks::{are_sweep_walks, count_commands, have_freed, sweep_walks};
 use shr_base::replies::{Answered, Reply};
@@ -16,7 +16,7 @@ use shr_report::report::Report;
 
 // Whether a reply says how many walks these are, or that memory was short, and what they freed.
 fn is_told(reply: &Reply, walks: &[WalkRecord]) -> bool
-    ensures { Decides result (IsTold walks.now reply.now) }
+    ensures { Decides result (IsSweepTold walks.now reply.now) }
 {
     match *reply {
         Reply::Swept { jobs, freed } => jobs as usize == walks.len() && have_freed(walks, freed),
@@ -58,7 +58,7 @@ fn is_answered(script: &Script, report: &Report, sweep: Sweep, worker: usize) ->
 // Whether each worker of the script has, and it is.
 pub(crate) fn are_answered(script: &Script, report: &Report, sweep: Sweep) -> bool
     requires { IsWellFormed report.now }
-    ensures { Decides result (AreAnswered script.now report.now sweep) }
+    ensures { Decides result (HaveSweepAnswers script.now report.now sweep) }
 {
     for worker in 0..script.workers.len() {
         if !is_answered(script, report, sweep, worker) {

@@ -3,11 +3,11 @@
 ghost use Rattle.std.specs.Prelude.{◌≡◌, ℕ, ◌+◌, ◌<◌, ◌*◌, ◌≤◌, ◌++◌, List, [], true, false, get_or, length, slice_set, IfOk, IsTrue};
 ghost use Rattle.std.specs.Bool.{Decides};
 ghost use Rattle.shr_base.specs.declared.walks.WalkRecord.{WalkRecord};
-ghost use Rattle.shr_formed.specs.Each.{Each};
+ghost use Rattle.shr_formed.specs.Each.{EachItem};
 ghost use Rattle.shr_report.specs.Parts.{parents_of};
 ghost use Rattle.shr_report.specs.Swept.{all_sweep_walks, sweep_walks};
 ghost use Rattle.shr_report.specs.WellFormed.{IsWellFormed};
-ghost use Rattle.shr_audit_sweep.specs.Marks.{AreMarked, AreOnce, AreWalked, IsGroupMarked, IsWithin, job_index};
+ghost use Rattle.shr_audit_sweep.specs.Marks.{AreMarked, AreWalkedOnce, AreSweptOnce, IsGroupMarked, IsSweptWithin, job_index};
 
 use crate::walks::sweep_walks;
 use shr_base::memory::Memory;
@@ -54,11 +54,11 @@ fn mark_walk(marks: &mut Vec<bool>, nodes: u8, walk: &WalkRecord) -> bool
 // once at most.
 fn mark_walks(marks: &mut Vec<bool>, groups: usize, nodes: u8, walks: &[WalkRecord]) -> bool
     requires few { groups ≤ 65536 }
-    requires within { Each (IsWithin groups nodes) walks.now }
+    requires within { EachItem (IsSweptWithin groups nodes) walks.now }
     requires size { length marks.old.items ≡ groups * nodes }
     ensures size { length marks.new.items ≡ groups * nodes }
     ensures once { (before : List WalkRecord) → AreMarked groups nodes before marks.old.items
-        → Decides result (AreOnce (before ++ walks.now)) }
+        → Decides result (AreWalkedOnce (before ++ walks.now)) }
     ensures marked { (before : List WalkRecord) → AreMarked groups nodes before marks.old.items
         → IsTrue result → AreMarked groups nodes (before ++ walks.now) marks.new.items }
 {
@@ -75,10 +75,10 @@ fn mark_all(script: &Script, report: &Report, marks: &mut Vec<bool>) -> bool
     requires well { IsWellFormed report.now }
     requires few { length (parents_of script.now) ≤ 65536 }
     requires within { (worker : ℕ) → worker < length script.now.workers.items
-        → Each (IsWithin (length (parents_of script.now)) script.now.nodes)
+        → EachItem (IsSweptWithin (length (parents_of script.now)) script.now.nodes)
         (sweep_walks script.now report.now worker) }
     requires blank { AreMarked (length (parents_of script.now)) script.now.nodes [] marks.old.items }
-    ensures once { Decides result (AreOnce (all_sweep_walks script.now report.now)) }
+    ensures once { Decides result (AreWalkedOnce (all_sweep_walks script.now report.now)) }
     ensures marked { IsTrue result → AreMarked (length (parents_of script.now)) script.now.nodes
         (all_sweep_walks script.now report.now) marks.new.items }
 {
@@ -137,9 +137,9 @@ pub(crate) fn are_walked(
     requires well { IsWellFormed report.now }
     requires few { length (parents_of script.now) ≤ 65536 }
     requires within { (worker : ℕ) → worker < length script.now.workers.items
-        → Each (IsWithin (length (parents_of script.now)) script.now.nodes)
+        → EachItem (IsSweptWithin (length (parents_of script.now)) script.now.nodes)
         (sweep_walks script.now report.now worker) }
-    ensures { IfOk result (λ b. Decides b (AreWalked script.now report.now whole)) }
+    ensures { IfOk result (λ b. Decides b (AreSweptOnce script.now report.now whole)) }
 {
     let groups = script.groups.len() + 1;
     let mut marks = blank(alloc, groups * script.nodes as usize)?;

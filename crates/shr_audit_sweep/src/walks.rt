@@ -3,7 +3,7 @@
 ghost use Rattle.std.specs.Prelude.{◌≡◌, ◌≤◌, length, sum_by};
 ghost use Rattle.std.specs.Bool.{Decides};
 ghost use Rattle.shr_base.specs.declared.walks.WalkRecord.{WalkRecord};
-ghost use Rattle.shr_formed.specs.Each.{Each};
+ghost use Rattle.shr_formed.specs.Each.{EachItem};
 ghost use Rattle.shr_model.specs.Walks.{freed_told};
 ghost use Rattle.shr_report.specs.Parts.{commands_of};
 ghost use Rattle.shr_report.specs.Swept.{IsSweepWalk, sweep_walks};
@@ -53,7 +53,7 @@ fn is_sweep_walk(script: &Script, sweep: Sweep, walk: &WalkRecord) -> bool
 
 // Whether each of these walks is.
 pub(crate) fn are_sweep_walks(script: &Script, sweep: Sweep, walks: &[WalkRecord]) -> bool
-    ensures { Decides result (Each (IsSweepWalk script.now sweep) walks.now) }
+    ensures { Decides result (EachItem (IsSweepWalk script.now sweep) walks.now) }
 {
     for walk in walks {
         if !is_sweep_walk(script, sweep, walk) {

@@ -1,20 +1,17 @@
 -- Printed words that stand by place, and places that no table has.
-use Rattle.shr_audit_tables.proofs.Common.{◌≡◌, ℕ, suc, ◌+◌, ◌<◌, ◌≤◌, ◌^◌, ◌⊎◌, inl, inr, Bool, true, false, cond, List, [], ◌∷◌, length, get_or, Some, refl, sym, subst, ◌∙◌, arith, ◌==◌, sum_by, AllByRecursion, AllAdjacentBelow, cases_lt, nat_tests, sum_by-cons, Place, PlaceAmount, is_place, amount_at, sum_at, IsAmountWell, place_key, IsNarrow}
-use Rattle.std.specs.Prelude.{find}
-use Rattle.shr_report.specs.Deferred.{amount_in}
-use Rattle.shr_report.specs.WellFormed.{IsNumbered, IsPlaceBefore}
+use Rattle.shr_audit_tables.proofs.Common.{◌≡◌, ℕ, suc, ◌+◌, ◌<◌, ◌≤◌, ◌^◌, ◌⊎◌, inl, inr, Bool, true, false, cond, List, [], ◌∷◌, length, get_or, Some, refl, sym, subst, ◌∙◌, arith, ◌==◌, sum_by, AllByRecursion, AllAdjacentBelow, cases_lt, nat_tests, sum_by-cons, Place, PlaceAmount, is_place, amount_at, sum_at, IsAmountWell, deferred_key, IsNarrow, find, amount_in, IsNumbered, IsPlaceBefore}
 
 -- ---- places and their numbers
 
 pub narrow : (p : Place) → IsNumbered p → IsNarrow p
 narrow p h = let n = h.node in let g = h.group in record { node = omega arith; group = omega arith }
 
-pub before_key : (p q : Place) → IsNarrow p → IsPlaceBefore p q → place_key p < place_key q
+pub before_key : (p q : Place) → IsNarrow p → IsPlaceBefore p q → deferred_key p < deferred_key q
 before_key p q n (inl a) = let x = n.node in let y = n.group in omega (arith, a)
 before_key p q n (inr (id, inl a)) = let x = n.node in let y = n.group in omega (arith, id, a)
 before_key p q n (inr (id, inr (node, a))) = omega (arith, id, node, a)
 
-pub same_key : (p q : Place) → is_place p q ≡ true → place_key p ≡ place_key q
+pub same_key : (p q : Place) → is_place p q ≡ true → deferred_key p ≡ deferred_key q
 same_key p q e = grind (arith, nat_tests)
 
 pub flipped : (p q : Place) → is_place p q ≡ is_place q p
@@ -23,7 +20,7 @@ flipped p q = rw (flip p.id q.id, flip p.node q.node, flip p.group q.group) refl
     flip : (a b : ℕ) → (a == b) ≡ (b == a)
     flip a b = grind (arith, nat_tests)
 
-apart_keys : (p q : Place) → (place_key p ≡ place_key q → ⊥) → is_place p q ≡ false
+apart_keys : (p q : Place) → (deferred_key p ≡ deferred_key q → ⊥) → is_place p q ≡ false
 apart_keys p q ne = by_bool (is_place p q) refl
   where
     by_bool : (b : Bool) → is_place p q ≡ b → is_place p q ≡ false
@@ -35,16 +32,16 @@ apart_keys p q ne = by_bool (is_place p q) refl
 -- the numbers of the places of these are at least this one, and rise
 AreAbove : ℕ → List PlaceAmount → Type 0
 AreAbove k [] = Unit {0}
-AreAbove k (x ∷ xs) = (k ≤ place_key x.place) × AreAbove (place_key x.place + 1) xs
+AreAbove k (x ∷ xs) = (k ≤ deferred_key x.place) × AreAbove (deferred_key x.place + 1) xs
 
-none_above : (k : ℕ) (xs : List PlaceAmount) (p : Place) → AreAbove k xs → place_key p < k → sum_at p xs ≡ 0
+none_above : (k : ℕ) (xs : List PlaceAmount) (p : Place) → AreAbove k xs → deferred_key p < k → sum_at p xs ≡ 0
 unfolding AreAbove
 none_above k [] p h lt = refl
 none_above k (x ∷ xs) p h lt =
     let low = h.0 in
     let other : is_place p x.place ≡ false = apart_keys p x.place (λ e. absurd (omega (arith, e, low, lt))) in
-    let more : place_key p < place_key x.place + 1 = omega (arith, low, lt) in
-    let rest : sum_at p xs ≡ 0 = none_above (place_key x.place + 1) xs p h.1 more in
+    let more : deferred_key p < deferred_key x.place + 1 = omega (arith, low, lt) in
+    let rest : sum_at p xs ≡ 0 = none_above (deferred_key x.place + 1) xs p h.1 more in
     sum_by-cons (amount_at p) x xs ∙ rw other (omega (arith, rest))
 
 found_first : (x : PlaceAmount) (xs : List PlaceAmount) (p : Place) → (is_place x.place p ≡ true → sum_at p xs ≡ 0) → sum_at p xs ≡ amount_in (find (λ (x : PlaceAmount). is_place x.place p) xs)
@@ -55,9 +52,9 @@ found_first x xs p none more false e = rw (flipped p x.place, e) (omega (arith, 
 found_above : (k : ℕ) (xs : List PlaceAmount) (p : Place) → AreAbove k xs → sum_at p xs ≡ amount_in (find (λ (x : PlaceAmount). is_place x.place p) xs)
 unfolding AreAbove
 found_above k [] p h = refl
-found_above k (x ∷ xs) p h = sum_by-cons (amount_at p) x xs ∙ found_first x xs p (λ e. none_above (place_key x.place + 1) xs p h.1 (omega (arith, same_key x.place p e))) (found_above (place_key x.place + 1) xs p h.1) (is_place x.place p) refl
+found_above k (x ∷ xs) p h = sum_by-cons (amount_at p) x xs ∙ found_first x xs p (λ e. none_above (deferred_key x.place + 1) xs p h.1 (omega (arith, same_key x.place p e))) (found_above (deferred_key x.place + 1) xs p h.1) (is_place x.place p) refl
 
-above_from : (x : PlaceAmount) (xs : List PlaceAmount) → AllByRecursion IsAmountWell (x ∷ xs) → AllAdjacentBelow (λ (d e : PlaceAmount). IsPlaceBefore d.place e.place) (x ∷ xs) (length (x ∷ xs)) → AreAbove (place_key x.place + 1) xs
+above_from : (x : PlaceAmount) (xs : List PlaceAmount) → AllByRecursion IsAmountWell (x ∷ xs) → AllAdjacentBelow (λ (d e : PlaceAmount). IsPlaceBefore d.place e.place) (x ∷ xs) (length (x ∷ xs)) → AreAbove (deferred_key x.place + 1) xs
 unfolding AreAbove
 above_from x [] well h = tt
 above_from x (y ∷ ys) well h =

@@ -1,13 +1,8 @@
 -- The law on deferred words: what well formed gives of it, and its fields put together.
-use Rattle.shr_audit_tables.proofs.Common.{◌≡◌, ℕ, zero, suc, ◌+◌, ◌<◌, ◌≤◌, ◌⊎◌, inl, inr, List, [], ◌∷◌, length, get_or, Option, Some, None, refl, sym, ap, subst, ◌∙◌, arith, slice_get, AllByRecursion, AllAdjacentBelow, cases_lt, cases_order, slice_get_within, Place, Carry, PlaceAmount, WorkerPart, Script, Report, IsCarryRight, parents_of, IsAmountWell, IsWellFormed, Each, AreWordsRight}
+use Rattle.shr_audit_tables.proofs.Common.{◌≡◌, ℕ, zero, suc, ◌+◌, ◌<◌, ◌≤◌, ◌⊎◌, inl, inr, List, [], ◌∷◌, length, get_or, Option, Some, None, refl, sym, ap, subst, ◌∙◌, arith, slice_get, AllByRecursion, AllAdjacentBelow, cases_lt, cases_order, slice_get_within, Place, Carry, PlaceAmount, WorkerPart, Script, Report, IsCarryRight, parents_of, IsAmountWell, IsWellFormed, EachItem, AreWordsRight, get_or_from_slice_get, IsDeferredLawful, carries_in, IsBefore, IsCarryBefore, below_of, unmapped}
 use Rattle.std.specs.List.Sorted.{IsNonDecreasingBy}
 use Rattle.std.proofs.lemmas.List.Sorted.{IsNonDecreasingBy-from_all_adjacent}
-use Rattle.std.proofs.lemmas.Option.{get_or_from_slice_get}
 use Rattle.shr_base.specs.declared.places.Serial.{Serial}
-use Rattle.shr_report.specs.Deferred.{IsDeferredLawful}
-use Rattle.shr_report.specs.Parts.{carries_in}
-use Rattle.shr_report.specs.WellFormed.{IsBefore, IsCarryBefore}
-use Rattle.shr_formed.proofs.Eachs.{below_of, unmapped}
 use Rattle.shr_audit_tables.proofs.Steps.{in_a_row, from_a_row}
 
 then_before : (a b c d e f : ℕ) → IsBefore a b c d → IsBefore c d e f → IsBefore a b e f
@@ -69,7 +64,7 @@ all_shown [] h = tt
 all_shown (x ∷ xs) h = (let some = h.0.some in omega (arith, some), all_shown xs h.1)
 
 -- the law from the two fields that well formed doesn't give
-pub deferred_of : (s : Script) (r : Report) (parents : List ℕ) → parents ≡ parents_of s → IsWellFormed r → Each (λ (part : WorkerPart). Each (IsCarryRight s r) part.carries.items) r.workers.items → AreWordsRight parents r → IsDeferredLawful s r
+pub deferred_of : (s : Script) (r : Report) (parents : List ℕ) → parents ≡ parents_of s → IsWellFormed r → EachItem (λ (part : WorkerPart). EachItem (IsCarryRight s r) part.carries.items) r.workers.items → AreWordsRight parents r → IsDeferredLawful s r
 deferred_of s r parents e well carries words = record {
   words = subst (λ (ps : List ℕ). AreWordsRight ps r) e words;
   shown = all_shown r.deferred.items well.deferred;
@@ -78,7 +73,7 @@ deferred_of s r parents e well carries words = record {
 }
 
 -- these two fields from the law
-pub carries_of_law : (s : Script) (r : Report) → IsDeferredLawful s r → Each (λ (part : WorkerPart). Each (IsCarryRight s r) part.carries.items) r.workers.items
+pub carries_of_law : (s : Script) (r : Report) → IsDeferredLawful s r → EachItem (λ (part : WorkerPart). EachItem (IsCarryRight s r) part.carries.items) r.workers.items
 carries_of_law s r law = from_a_row (IsCarryRight s r) (λ (part : WorkerPart). part.carries.items) r.workers.items law.carries
 
 pub words_of_law : (s : Script) (r : Report) (parents : List ℕ) → parents ≡ parents_of s → IsDeferredLawful s r → AreWordsRight parents r

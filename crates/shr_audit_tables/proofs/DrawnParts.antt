@@ -1,11 +1,9 @@
 -- The numbers of lookups of an id, among those of all workers.
-use Rattle.shr_audit_tables.proofs.Common.{◌≡◌, ◌≢◌, ℕ, ◌+◌, ◌/◌, ◌%◌, ◌^◌, ◌<◌, ◌≤◌, ◌⊎◌, inl, inr, ⊎_elim, Bool, true, false, cond, List, [], ◌∷◌, ◌++◌, length, get_or, Option, Some, None, refl, sym, ap, subst, ◌∙◌, arith, ◌==◌, ◌&&◌, nat_lt, count_by, filter, filter_map, flat_map, slice_index, Decides, AllByRecursion, cons_option, cases_lt, nat_tests, Decides-like, get_or_past, flat_map-append, sum_by-cons, sum_by-append, slice_get-get_or, Answered, Attempt, WalkRecord, WorkerPart, number_of, Report, HasNumbers, IsPartNumbered, IsWalkNumbered, lookups_at, Each, AreDrawnOnce, IsDrawn, found_draws, answer_draws, tried_draws, attempt_draws, draw_key, part_draws, walk_draws}
-use Rattle.std.specs.Prelude.{option_and_then, if◌then◌else◌}
+use Rattle.shr_audit_tables.proofs.Common.{◌≡◌, ◌≢◌, ℕ, ◌+◌, ◌/◌, ◌%◌, ◌^◌, ◌<◌, ◌≤◌, ◌⊎◌, inl, inr, ⊎_elim, Bool, true, false, cond, List, [], ◌∷◌, ◌++◌, length, get_or, Option, Some, None, refl, sym, ap, subst, ◌∙◌, arith, ◌==◌, ◌&&◌, nat_lt, count_by, filter, filter_map, flat_map, slice_index, Decides, AllByRecursion, cons_option, cases_lt, nat_tests, Decides-like, get_or_past, flat_map-append, sum_by-cons, sum_by-append, slice_get-get_or, Answered, Attempt, WalkRecord, WorkerPart, number_of, Report, HasNumbers, IsPartNumbered, IsWalkNumbered, lookups_at, EachItem, AreDrawnOnce, IsDrawn, found_draws, answer_draws, tried_draws, attempt_draws, draw_key, part_draws, walk_draws, option_and_then, if◌then◌else◌, IsAnsweredNumbered, IsAttemptNumbered, IsFindNumbered, IsOutcomeNumbered}
 use Rattle.shr_base.specs.declared.replies.Found.{Found}
 use Rattle.shr_base.specs.declared.walks.Outcome.{Outcome}
 use Rattle.shr_base.specs.declared.walks.Outcome.TheVariants as outcome
 use Rattle.shr_report.specs.Lookups.{found_number, found_numbers, tried_numbers}
-use Rattle.shr_report.specs.Numbers.{IsAnsweredNumbered, IsAttemptNumbered, IsFindNumbered, IsOutcomeNumbered}
 
 -- a draw is of this id, with this number
 of_draw : ℕ → ℕ → ℕ → Bool
@@ -194,15 +192,15 @@ none_above id number (k ∷ ks) high =
         by_row true = column
         by_row false = refl
 
-low_lookups : (ls : List ℕ) (id : ℕ) → Each (λ (l : ℕ). l < 2 ^ 32) ls → slice_index ls id < 2 ^ 32
+low_lookups : (ls : List ℕ) (id : ℕ) → EachItem (λ (l : ℕ). l < 2 ^ 32) ls → slice_index ls id < 2 ^ 32
 low_lookups ls id low = ⊎_elim (λ lt. let h = low id (get_or ls id 0) (slice_get-get_or ls id 0 lt) in omega (arith, h)) (λ ge. let h = get_or_past ls id 0 ge in omega (arith, h)) (cases_lt id (length ls))
 
 -- what is decided of the draws is so of the report
-pub drawn_of : (r : Report) (keys lookups : List ℕ) (b : Bool) → HasNumbers r → Each (λ (l : ℕ). l < 2 ^ 32) lookups → keys ≡ flat_map part_draws r.workers.items → lookups ≡ r.lookups.items → Decides b (AreDrawnOnce keys lookups) → Decides b (IsDrawn r)
+pub drawn_of : (r : Report) (keys lookups : List ℕ) (b : Bool) → HasNumbers r → EachItem (λ (l : ℕ). l < 2 ^ 32) lookups → keys ≡ flat_map part_draws r.workers.items → lookups ≡ r.lookups.items → Decides b (AreDrawnOnce keys lookups) → Decides b (IsDrawn r)
 drawn_of r keys lookups b numbers low keys_are lookups_are d = Decides-like b to from d
   where
-    low' : Each (λ (l : ℕ). l < 2 ^ 32) r.lookups.items
-    low' = subst (λ (ls : List ℕ). Each (λ (l : ℕ). l < 2 ^ 32) ls) lookups_are low
+    low' : EachItem (λ (l : ℕ). l < 2 ^ 32) r.lookups.items
+    low' = subst (λ (ls : List ℕ). EachItem (λ (l : ℕ). l < 2 ^ 32) ls) lookups_are low
 
     to : AreDrawnOnce keys lookups → IsDrawn r
     to law id number = by_size (cases_lt number (2 ^ 32))

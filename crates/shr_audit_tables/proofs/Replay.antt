@@ -1,10 +1,7 @@
 -- The journal of registrations, entry by entry, and how it begins.
-use Rattle.shr_audit_tables.proofs.Common.{◌≡◌, ℕ, zero, suc, ◌+◌, ◌%◌, ◌<◌, ◌≤◌, ◌⊎◌, inl, inr, Bool, true, false, cond, List, [], ◌∷◌, ◌++◌, length, get_or, take, Option, Some, None, refl, sym, ap, subst, ◌∙◌, arith, filter_map, slice_get, cons_option, cases_lt, nat_tests, take_more, length-take-le, slice_get-get_or, slice_get_within, PoolEntry, Registered, Script, is_live, last_number, phase_of, IsNextPool, IsPoolJournal, Report, lookups_at, IdState, AreStates, noted, MayRegister, AreFirst, AreStatesOf, AreLastReached, on_from, Opens, IsPoolLawful}
-use Rattle.std.specs.List.{enumerate_from}
-use Rattle.std.proofs.lemmas.List.{length_push}
+use Rattle.shr_audit_tables.proofs.Common.{◌≡◌, ℕ, zero, suc, ◌+◌, ◌%◌, ◌<◌, ◌≤◌, ◌⊎◌, inl, inr, Bool, true, false, cond, List, [], ◌∷◌, ◌++◌, length, get_or, take, Option, Some, None, refl, sym, ap, subst, ◌∙◌, arith, filter_map, slice_get, cons_option, cases_lt, nat_tests, take_more, length-take-le, slice_get-get_or, slice_get_within, PoolEntry, Registered, Script, is_live, last_number, phase_of, IsNextPool, IsPoolJournal, Report, lookups_at, IdState, AreStates, with_pool_entry, MayRegister, AreBlankStates, AreStatesOf, AreLastReached, on_from, OpensWith, IsPoolLawful, enumerate_from, length_push, decls_on}
 use Rattle.shr_base.specs.declared.scripts.CacheDecl.{CacheDecl}
 use Rattle.shr_model.proofs.PoolLaws.{IsPoolJournal_push, IsPoolJournal_none}
-use Rattle.shr_report.specs.Parts.{decls_on}
 use Rattle.shr_audit_tables.proofs.States.{state_none, noted_length, noted_states, phases_small, next_of, next_yes, next_no, past_none}
 
 blank_pushed : (xs : List IdState) (b : IdState) → ((id : ℕ) (x : IdState) → slice_get xs id ≡ Some x → x ≡ b) → (id : ℕ) (x : IdState) → slice_get (xs ++ b ∷ []) id ≡ Some x → x ≡ b
@@ -13,16 +10,16 @@ blank_pushed [] b h (suc id) x e = absurd cc
 blank_pushed (y ∷ xs) b h zero x e = h 0 x e
 blank_pushed (y ∷ xs) b h (suc id) x e = blank_pushed xs b (λ n z f. h (suc n) z f) id x e
 
-pub first_more : (n : ℕ) (xs : List IdState) → AreFirst n xs → AreFirst (n + 1) (xs ++ record { phase = 0; decl = 0; from = 0; last = 0 } ∷ [])
+pub first_more : (n : ℕ) (xs : List IdState) → AreBlankStates n xs → AreBlankStates (n + 1) (xs ++ record { phase = 0; decl = 0; from = 0; last = 0 } ∷ [])
 first_more n xs f = record {
   count = (let l = length_push xs (record { phase = 0; decl = 0; from = 0; last = 0 }) in let c = f.count in omega (arith, l, c));
   blank = blank_pushed xs (record { phase = 0; decl = 0; from = 0; last = 0 }) f.blank;
 }
 
-pub replay_none : (ids decls : ℕ) (xs : List IdState) → AreFirst ids xs → IsPoolJournal ids decls [] × AreStatesOf ids [] xs
+pub replay_none : (ids decls : ℕ) (xs : List IdState) → AreBlankStates ids xs → IsPoolJournal ids decls [] × AreStatesOf ids [] xs
 replay_none ids decls xs f = (IsPoolJournal_none ids decls, record { count = f.count; each = λ id x at. f.blank id x at ∙ sym (state_none id) })
 
-pub replay_more : (ids decls : ℕ) (pool : List PoolEntry) (i : ℕ) (d : PoolEntry) (xs ys zs : List IdState) → i < length pool → IsPoolJournal ids decls (take i pool) × AreStatesOf ids (take i pool) xs → zs ≡ xs → MayRegister decls zs (get_or pool i d) → ys ≡ noted xs (get_or pool i d)
+pub replay_more : (ids decls : ℕ) (pool : List PoolEntry) (i : ℕ) (d : PoolEntry) (xs ys zs : List IdState) → i < length pool → IsPoolJournal ids decls (take i pool) × AreStatesOf ids (take i pool) xs → zs ≡ xs → MayRegister decls zs (get_or pool i d) → ys ≡ with_pool_entry xs (get_or pool i d)
     → IsPoolJournal ids decls (take (i + 1) pool) × AreStatesOf ids (take (i + 1) pool) ys
 replay_more ids decls pool i d xs ys zs lt h same may is =
     let e = get_or pool i d in
@@ -80,7 +77,7 @@ on_all k (c ∷ cs) = by_bool c.on (on_all (k + 1) cs)
     by_bool true e = ap (λ (l : List ℕ). k ∷ l) e
     by_bool false e = e
 
-pub opening_at : (on : List ℕ) (pool : List PoolEntry) (n d : ℕ) (e : PoolEntry) → n < length on → n < length pool → Opens on pool → get_or pool n e ≡ Registered (get_or on n d) n 0
+pub opening_at : (on : List ℕ) (pool : List PoolEntry) (n d : ℕ) (e : PoolEntry) → n < length on → n < length pool → OpensWith on pool → get_or pool n e ≡ Registered (get_or on n d) n 0
 opening_at on pool n d e lt within h =
     let there = h n (get_or on n d) (slice_get-get_or on n d lt) in
     let here = slice_get-get_or pool n e within in
@@ -89,10 +86,10 @@ opening_at on pool n d e lt within h =
 pub opened_at : (on : List ℕ) (pool : List PoolEntry) (n d : ℕ) (e : PoolEntry) → n < length pool → get_or pool n e ≡ Registered (get_or on n d) n 0 → slice_get pool n ≡ Some (Registered (get_or on n d) n 0)
 opened_at on pool n d e within is = slice_get-get_or pool n e within ∙ ap (λ (x : PoolEntry). Some x) is
 
-pub too_short : (on : List ℕ) (pool : List PoolEntry) (n : ℕ) → n < length on → length pool ≤ n → Opens on pool → ⊥
+pub too_short : (on : List ℕ) (pool : List PoolEntry) (n : ℕ) → n < length on → length pool ≤ n → OpensWith on pool → ⊥
 too_short on pool n lt over h = let there = slice_get_within pool n _ (h n (get_or on n 0) (slice_get-get_or on n 0 lt)) in absurd (omega (arith, there, over))
 
-pub all_opened : (on : List ℕ) (pool : List PoolEntry) (i : ℕ) → length on ≤ i → ((n decl : ℕ) → n < i → slice_get on n ≡ Some decl → slice_get pool n ≡ Some (Registered decl n 0)) → Opens on pool
+pub all_opened : (on : List ℕ) (pool : List PoolEntry) (i : ℕ) → length on ≤ i → ((n decl : ℕ) → n < i → slice_get on n ≡ Some decl → slice_get pool n ≡ Some (Registered decl n 0)) → OpensWith on pool
 all_opened on pool i over h n decl at = h n decl (let lt = slice_get_within on n decl at in omega (arith, lt, over)) at
 
 -- ---- the fields together
@@ -120,22 +117,22 @@ reached_of r ids xs are last id x at phase =
     let live : is_live id r.pool.items ≡ true = grind (arith, nat_tests) in
     let h = last id live in let l = ap (λ (v : IdState). v.last) is in omega (arith, h, l)
 
-pub pool_of : (s : Script) (r : Report) (on : List ℕ) (pool : List PoolEntry) (xs : List IdState) (lookups : List ℕ) (ys : List IdState) → pool ≡ r.pool.items → lookups ≡ r.lookups.items → ys ≡ xs → on ≡ on_from 0 s.caches.items → length r.lookups.items ≡ s.ids → Opens on pool
+pub pool_of : (s : Script) (r : Report) (on : List ℕ) (pool : List PoolEntry) (xs : List IdState) (lookups : List ℕ) (ys : List IdState) → pool ≡ r.pool.items → lookups ≡ r.lookups.items → ys ≡ xs → on ≡ on_from 0 s.caches.items → length r.lookups.items ≡ s.ids → OpensWith on pool
     → IsPoolJournal s.ids (length s.caches.items) pool × AreStatesOf s.ids pool xs → AreLastReached ys lookups → IsPoolLawful s r × AreStatesOf s.ids r.pool.items xs
 pool_of s r on pool xs lookups ys pool_is lookups_are same on_is printed opens legal reached =
     let legal' : IsPoolJournal s.ids (length s.caches.items) r.pool.items × AreStatesOf s.ids r.pool.items xs = subst (λ (es : List PoolEntry). IsPoolJournal s.ids (length s.caches.items) es × AreStatesOf s.ids es xs) pool_is legal in
     let reached' : AreLastReached xs r.lookups.items = subst (λ (ls : List ℕ). AreLastReached xs ls) lookups_are (subst (λ (zs : List IdState). AreLastReached zs lookups) same reached) in (
       record {
         pool = legal'.0;
-        opened = subst (λ (es : List PoolEntry). Opens (decls_on s) es) pool_is (subst (λ (ds : List ℕ). Opens ds pool) (on_is ∙ sym (on_all 0 s.caches.items)) opens);
+        opened = subst (λ (es : List PoolEntry). OpensWith (decls_on s) es) pool_is (subst (λ (ds : List ℕ). OpensWith ds pool) (on_is ∙ sym (on_all 0 s.caches.items)) opens);
         printed = printed;
         last = last_of s r xs legal'.0 legal'.1 reached';
       },
       legal'.1,
     )
 
-pub opens_of : (s : Script) (r : Report) (on : List ℕ) (pool : List PoolEntry) → pool ≡ r.pool.items → on ≡ on_from 0 s.caches.items → IsPoolLawful s r → Opens on pool
-opens_of s r on pool pool_is on_is law = subst (λ (es : List PoolEntry). Opens on es) (sym pool_is) (subst (λ (ds : List ℕ). Opens ds r.pool.items) (on_all 0 s.caches.items ∙ sym on_is) law.opened)
+pub opens_of : (s : Script) (r : Report) (on : List ℕ) (pool : List PoolEntry) → pool ≡ r.pool.items → on ≡ on_from 0 s.caches.items → IsPoolLawful s r → OpensWith on pool
+opens_of s r on pool pool_is on_is law = subst (λ (es : List PoolEntry). OpensWith on es) (sym pool_is) (subst (λ (ds : List ℕ). OpensWith ds r.pool.items) (on_all 0 s.caches.items ∙ sym on_is) law.opened)
 
 pub legal_of : (s : Script) (r : Report) (pool : List PoolEntry) → pool ≡ r.pool.items → IsPoolLawful s r → IsPoolJournal s.ids (length s.caches.items) pool
 legal_of s r pool pool_is law = subst (λ (es : List PoolEntry). IsPoolJournal s.ids (length s.caches.items) es) (sym pool_is) law.pool

@@ -1,8 +1,6 @@
 -- Lists that a loop adds to, item by item.
-use Rattle.shr_audit_tables.proofs.Common.{◌≡◌, ℕ, suc, ◌+◌, ◌<◌, ◌≤◌, List, [], ◌∷◌, ◌++◌, length, get_or, map, take, sym, ap, ◌∙◌, arith, flat_map, range_with_len, append_assoc, take_more, take_all, length-take-le, get_or_default, Move, draw_key, wanted, wanted_from, flat_all, map_end}
-use Rattle.std.proofs.lemmas.List.{append-nil, map_more}
+use Rattle.shr_audit_tables.proofs.Common.{◌≡◌, ℕ, suc, ◌+◌, ◌<◌, ◌≤◌, List, [], ◌∷◌, ◌++◌, length, get_or, map, take, sym, ap, ◌∙◌, arith, flat_map, range_with_len, append_assoc, take_more, take_all, length-take-le, get_or_default, Move, draw_key, wanted_move, wanted_from, flat_all, map_end, append-nil, map_more, added_to, flat_one}
 use Rattle.std.proofs.lemmas.List.FromFn.{map-range_with_len_more}
-use Rattle.shr_model.proofs.Lists.{added_to, flat_one}
 
 -- one item more
 pub flat_step : {X Y : Type 0} (f : X → List Y) (xs : List X) (i : ℕ) (y : X) (a old next : List Y) → i < length xs → y ≡ get_or xs i y → old ≡ a ++ flat_map f (take i xs) → next ≡ old ++ f y → next ≡ a ++ flat_map f (take (i + 1) xs)
@@ -20,7 +18,7 @@ range_step {Y} f i a old next before added = added_to a old (map f (range_with_l
 
 -- the lookups that are wanted, of one id more
 abbrev numbers_of : ℕ → ℕ → List Move
-numbers_of id count = map (λ n. wanted (draw_key id n)) (range_with_len 0 count)
+numbers_of id count = map (λ n. wanted_move (draw_key id n)) (range_with_len 0 count)
 
 wanted_push : (k : ℕ) (ls : List ℕ) (l : ℕ) → wanted_from k (ls ++ l ∷ []) ≡ wanted_from k ls ++ numbers_of (k + length ls) l
 wanted_push k [] l = append-nil (numbers_of k l) ∙ ap (λ (n : ℕ). numbers_of n l) (let e : k ≡ k + 0 = omega arith in e)

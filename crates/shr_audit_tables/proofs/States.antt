@@ -1,29 +1,22 @@
 -- The states of ids after one entry more of the journal of registrations, and when it may follow.
-use Rattle.shr_audit_tables.proofs.Common.{◌≡◌, ◌≢◌, ℕ, zero, suc, ◌+◌, ◌%◌, ◌<◌, ◌≤◌, ◌⊎◌, inl, inr, ⊎_elim, Bool, true, false, cond, List, [], ◌∷◌, ◌++◌, length, get_or, take, Option, Some, None, refl, sym, ap, subst, ◌∙◌, arith, ne_eqb, ◌==◌, ◌&&◌, slice_get, Decides, cases_lt, nat_tests, take_more, take_all, slice_get-get_or, slice_get_within, PoolEntry, Registered, Unregistered, Idle, last_number, is_live, IsNextPool, IsPoolJournal, IdState, state_of, AreStates, state_with, noted, HasLive, IsFreeNow, IsLowestFree, MayRegister}
-use Rattle.std.proofs.Common.{set}
-use Rattle.std.proofs.lemmas.Bool.{cases_eq}
-use Rattle.std.proofs.lemmas.Bool.Decides.{Decides-below_or, Decides-eqb, Decides-and}
-use Rattle.std.proofs.lemmas.List.{length-set, get_or-set_same, get_or-set_other}
-use Rattle.std.proofs.lemmas.Option.{slice_get_past}
+use Rattle.shr_audit_tables.proofs.Common.{◌≡◌, ◌≢◌, ℕ, zero, suc, ◌+◌, ◌%◌, ◌<◌, ◌≤◌, ◌⊎◌, inl, inr, ⊎_elim, Bool, true, false, cond, List, [], ◌∷◌, ◌++◌, length, get_or, take, Option, Some, None, refl, sym, ap, subst, ◌∙◌, arith, ne_eqb, ◌==◌, ◌&&◌, slice_get, Decides, cases_lt, nat_tests, take_more, take_all, slice_get-get_or, slice_get_within, PoolEntry, Registered, Unregistered, Idle, last_number, is_live, IsNextPool, IsPoolJournal, IdState, state_of_id, AreStates, state_with, with_pool_entry, HasLive, IsFreeNow, IsLowestFree, MayRegister, set, cases_eq, Decides-below_or, Decides-eqb, Decides-and, length-set, get_or-set_same, get_or-set_other, slice_get_past, put_state, some_at}
 use lib.ListN.{get_elem?}
 use Rattle.shr_model.specs.Pool.{id_of, phase_of, decl_from, decl_of, number_from, from_from, is_live_below, is_live_decl, is_free, lowest_free, lowest_idle}
 use Rattle.shr_model.proofs.PoolLaws.{phase_of_push, decl_from_push, number_from_push, from_from_push}
-use Rattle.shr_audit_tables.specs.Registrations.{put_state}
-use Rattle.shr_model.proofs.Lists.{some_at}
 
 -- ---- the states of the empty journal, and of one entry more
 
 pub blank : IdState
 blank = record { phase = 0; decl = 0; from = 0; last = 0 }
 
-pub state_none : (id : ℕ) → state_of id [] ≡ record { phase = 0; decl = 0; from = 0; last = 0 }
+pub state_none : (id : ℕ) → state_of_id id [] ≡ record { phase = 0; decl = 0; from = 0; last = 0 }
 unfolding phase_of decl_from from_from number_from
 state_none id = refl
 
 state_is : (p d f l p' d' f' l' : ℕ) → p ≡ p' → d ≡ d' → f ≡ f' → l ≡ l' → ◌≡◌ {A = IdState} (record { phase = p; decl = d; from = f; last = l }) (record { phase = p'; decl = d'; from = f'; last = l' })
 state_is p d f l p' d' f' l' a b c e = rw (a, b, c, e) refl
 
-own_state : (es : List PoolEntry) (e : PoolEntry) → state_of (id_of e) (es ++ e ∷ []) ≡ state_with (state_of (id_of e) es) e
+own_state : (es : List PoolEntry) (e : PoolEntry) → state_of_id (id_of e) (es ++ e ∷ []) ≡ state_with (state_of_id (id_of e) es) e
 own_state es (Registered decl id from) =
     let t : (id == id) ≡ true = grind (arith, nat_tests) in
     state_is _ _ _ _ _ _ _ _ (phase_of_push id es (Registered decl id from) ∙ rw t refl) (decl_from_push id 0 es (Registered decl id from) ∙ rw t refl) (from_from_push id 0 es (Registered decl id from) ∙ rw t refl) (number_from_push id 0 es (Registered decl id from) ∙ rw t refl)
@@ -34,7 +27,7 @@ own_state es (Idle id) =
     let t : (id == id) ≡ true = grind (arith, nat_tests) in
     state_is _ _ _ _ _ _ _ _ (phase_of_push id es (Idle id) ∙ rw t refl) (decl_from_push id 0 es (Idle id)) (from_from_push id 0 es (Idle id)) (number_from_push id 0 es (Idle id))
 
-other_state : (id : ℕ) (es : List PoolEntry) (e : PoolEntry) → id_of e ≢ id → state_of id (es ++ e ∷ []) ≡ state_of id es
+other_state : (id : ℕ) (es : List PoolEntry) (e : PoolEntry) → id_of e ≢ id → state_of_id id (es ++ e ∷ []) ≡ state_of_id id es
 other_state id es (Registered decl i from) ne =
     let t : (i == id) ≡ false = ne_eqb i id ne in
     state_is _ _ _ _ _ _ _ _ (phase_of_push id es (Registered decl i from) ∙ rw t (omega arith)) (decl_from_push id 0 es (Registered decl i from) ∙ rw t refl) (from_from_push id 0 es (Registered decl i from) ∙ rw t refl) (number_from_push id 0 es (Registered decl i from) ∙ rw t refl)
@@ -45,7 +38,7 @@ other_state id es (Idle i) ne =
     let t : (i == id) ≡ false = ne_eqb i id ne in
     state_is _ _ _ _ _ _ _ _ (phase_of_push id es (Idle i) ∙ rw t (omega arith)) (decl_from_push id 0 es (Idle i)) (from_from_push id 0 es (Idle i)) (number_from_push id 0 es (Idle i))
 
-pub noted_length : (xs : List IdState) (e : PoolEntry) → length (noted xs e) ≡ length xs
+pub noted_length : (xs : List IdState) (e : PoolEntry) → length (with_pool_entry xs e) ≡ length xs
 noted_length xs e = by_state (slice_get xs (id_of e))
   where
     by_state : (o : Option IdState) → length (put_state xs (id_of e) e o) ≡ length xs
@@ -62,19 +55,19 @@ set_other xs i j y ne = by_length (cases_lt j (length xs))
     by_length (inl lt) = slice_get-get_or (set xs i y) j y (let l = length-set xs i y in omega (arith, l)) ∙ ap (λ (v : IdState). Some v) (get_or-set_other xs i j y y ne) ∙ sym (slice_get-get_or xs j y lt)
     by_length (inr ge) = slice_get_past (set xs i y) j (let l = length-set xs i y in omega (arith, l)) ∙ sym (slice_get_past xs j ge)
 
-pub noted_states : (es : List PoolEntry) (xs : List IdState) (e : PoolEntry) → AreStates es xs → AreStates (es ++ e ∷ []) (noted xs e)
+pub noted_states : (es : List PoolEntry) (xs : List IdState) (e : PoolEntry) → AreStates es xs → AreStates (es ++ e ∷ []) (with_pool_entry xs e)
 noted_states es xs e h id x at = by_state (slice_get xs (id_of e)) refl at
   where
-    by_id : (y : IdState) → slice_get xs (id_of e) ≡ Some y → (id ≡ id_of e) ⊎ (id ≢ id_of e) → slice_get (set xs (id_of e) (state_with y e)) id ≡ Some x → x ≡ state_of id (es ++ e ∷ [])
+    by_id : (y : IdState) → slice_get xs (id_of e) ≡ Some y → (id ≡ id_of e) ⊎ (id ≢ id_of e) → slice_get (set xs (id_of e) (state_with y e)) id ≡ Some x → x ≡ state_of_id id (es ++ e ∷ [])
     by_id y there (inl own) at =
         let here : slice_get (set xs (id_of e) (state_with y e)) (id_of e) ≡ Some x = subst (λ (j : ℕ). slice_get (set xs (id_of e) (state_with y e)) j ≡ Some x) own at in
         let put = set_own xs (id_of e) (state_with y e) (slice_get_within xs (id_of e) y there) in
         let x_is : x ≡ state_with y e = let both : ◌≡◌ {A = Option IdState} (Some x) (Some (state_with y e)) = sym here ∙ put in cc in
         let y_is = h (id_of e) y there in
-        x_is ∙ ap (λ (v : IdState). state_with v e) y_is ∙ sym (own_state es e) ∙ ap (λ (j : ℕ). state_of j (es ++ e ∷ [])) (sym own)
+        x_is ∙ ap (λ (v : IdState). state_with v e) y_is ∙ sym (own_state es e) ∙ ap (λ (j : ℕ). state_of_id j (es ++ e ∷ [])) (sym own)
     by_id y there (inr other) at = h id x (sym (set_other xs (id_of e) id (state_with y e) other) ∙ at) ∙ sym (other_state id es e (λ same. other (sym same)))
 
-    by_state : (o : Option IdState) → slice_get xs (id_of e) ≡ o → slice_get (put_state xs (id_of e) e o) id ≡ Some x → x ≡ state_of id (es ++ e ∷ [])
+    by_state : (o : Option IdState) → slice_get xs (id_of e) ≡ o → slice_get (put_state xs (id_of e) e o) id ≡ Some x → x ≡ state_of_id id (es ++ e ∷ [])
     by_state None none at = h id x at ∙ sym (other_state id es e (λ same. absurd (let here = ap (slice_get xs) same in cc)))
     by_state (Some y) there at = by_id y there (cases_eq id (id_of e)) at
 

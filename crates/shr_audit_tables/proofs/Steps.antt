@@ -1,8 +1,6 @@
 -- Steps of loops, and lists of lists gone through one by one.
-use Rattle.shr_audit_tables.proofs.Common.{◌≡◌, ℕ, suc, ◌+◌, ◌<◌, Bool, false, List, [], ◌∷◌, ◌++◌, length, get_or, take, Some, refl, sym, ap, subst, ◌∙◌, flat_map, sum_by, slice_get, Decides, AllByRecursion, get_or_default, sum_by_more, Each, each_more, each_in}
-use Rattle.shr_formed.proofs.Eachs.{more_at, all_of}
+use Rattle.shr_audit_tables.proofs.Common.{◌≡◌, ℕ, suc, ◌+◌, ◌<◌, Bool, false, List, [], ◌∷◌, ◌++◌, length, get_or, take, Some, refl, sym, ap, subst, ◌∙◌, flat_map, sum_by, slice_get, Decides, AllByRecursion, get_or_default, sum_by_more, EachItem, each_more, each_in, more_at, all_of, all_front, all_right}
 use Rattle.shr_model.proofs.BagLaws.{each_append}
-use Rattle.shr_model.proofs.Lists.{all_front, all_right}
 
 -- one item more, where it was copied out of its list
 pub each_copied : {X : Type 0} (P : X → Type 0) (xs : List X) (i : ℕ) (d : X) → i < length xs → ((n : ℕ) (x : X) → n < i → slice_get xs n ≡ Some x → P x) → P (get_or xs i d) → (n : ℕ) (x : X) → n < i + 1 → slice_get xs n ≡ Some x → P x
@@ -25,13 +23,13 @@ pub failed : (P : Type 0) (b : Bool) → Decides b P → b ≡ false → P → �
 failed P b d f h = let t = d.1 h in cc
 
 -- it is so of each item of each part, and of all of them in a row
-pub in_a_row : {X Y : Type 0} (P : Y → Type 0) (f : X → List Y) (xs : List X) → Each (λ (x : X). Each P (f x)) xs → AllByRecursion P (flat_map f xs)
+pub in_a_row : {X Y : Type 0} (P : Y → Type 0) (f : X → List Y) (xs : List X) → EachItem (λ (x : X). EachItem P (f x)) xs → AllByRecursion P (flat_map f xs)
 in_a_row P f [] h = tt
 in_a_row P f (x ∷ xs) h = each_append P (f x) (flat_map f xs) (all_of P (f x) (h 0 x refl)) (in_a_row P f xs (λ n y e. h (suc n) y e))
 
-pub from_a_row : {X Y : Type 0} (P : Y → Type 0) (f : X → List Y) (xs : List X) → AllByRecursion P (flat_map f xs) → Each (λ (x : X). Each P (f x)) xs
-from_a_row {X} {Y} P f xs h = each_in (λ (x : X). Each P (f x)) xs (by_part xs h)
+pub from_a_row : {X Y : Type 0} (P : Y → Type 0) (f : X → List Y) (xs : List X) → AllByRecursion P (flat_map f xs) → EachItem (λ (x : X). EachItem P (f x)) xs
+from_a_row {X} {Y} P f xs h = each_in (λ (x : X). EachItem P (f x)) xs (by_part xs h)
   where
-    by_part : (ys : List X) → AllByRecursion P (flat_map f ys) → AllByRecursion (λ (x : X). Each P (f x)) ys
+    by_part : (ys : List X) → AllByRecursion P (flat_map f ys) → AllByRecursion (λ (x : X). EachItem P (f x)) ys
     by_part [] h = tt
     by_part (y ∷ ys) h = (each_in P (f y) (all_front P (f y) (flat_map f ys) h), by_part ys (all_right P (f y) (flat_map f ys) h))

@@ -1,5 +1,5 @@
 -- What the laws on tables are tested by, at known values.
-use Rattle.shr_audit_tables.proofs.Common.{◌≡◌, ℕ, zero, suc, ◌%◌, false, List, [], ◌∷◌, true, Option, Some, None, refl, sym, ap, arith, flat_map, Place, WorkerPart, PoolEntry, Registered, Unregistered, Idle, number_of, parents_of, IdState, given_by, taken_by, AreWordsRight, state_of, state_with, noted, IsLiveAs, HasLive, IsFreeNow, NoneFree, IsLowestFree, MayRegister, AreLastReached, AreFirst, on_from, Opens, IsPoolLawful, AreDrawnOnce, IsDrawn, found_draws, answer_draws, tried_draws, attempt_draws, draw_key, drawn, part_draws, walk_draws, wanted, wanted_from, AreIdleEmpty, IsIdleIn, NonePast}
+use Rattle.shr_audit_tables.proofs.Common.{◌≡◌, ℕ, zero, suc, ◌%◌, false, List, [], ◌∷◌, true, Option, Some, None, refl, sym, ap, arith, flat_map, Place, WorkerPart, PoolEntry, Registered, Unregistered, Idle, number_of, parents_of, IdState, given_by_worker, taken_by, AreWordsRight, state_of_id, state_with, with_pool_entry, IsStateLiveAs, HasLive, IsFreeNow, NoneFree, IsLowestFree, MayRegister, AreLastReached, AreBlankStates, on_from, OpensWith, IsPoolLawful, AreDrawnOnce, IsDrawn, found_draws, answer_draws, tried_draws, attempt_draws, draw_key, drawn_move, part_draws, walk_draws, wanted_move, wanted_from, AreIdleEmpty, IsIdleIn, NonePast}
 use Rattle.shr_base.specs.declared.walks.Outcome.TheVariants as outcome
 use Rattle.shr_model.specs.Families.{lists_moved, items_within}
 use Rattle.shr_model.specs.Groups.{path_within}
@@ -16,10 +16,10 @@ place group = record { id = 0; node = 0; group = group }
 abbrev carrier : WorkerPart
 carrier = record { answers = kept []; walks = kept []; carries = kept (record { by = by 0; place = place 2; amount = 4 } ∷ []); plain = kept []; isolations = kept [] }
 
-gave_the_parent : given_by (0 ∷ 0 ∷ 1 ∷ []) carrier (place 1) ≡ 4
+gave_the_parent : given_by_worker (0 ∷ 0 ∷ 1 ∷ []) carrier (place 1) ≡ 4
 gave_the_parent = refl
 
-gave_no_other : given_by (0 ∷ 0 ∷ 1 ∷ []) carrier (place 0) ≡ 0
+gave_no_other : given_by_worker (0 ∷ 0 ∷ 1 ∷ []) carrier (place 0) ≡ 0
 gave_no_other = refl
 
 took_from_its_own : taken_by carrier (place 2) ≡ 4
@@ -39,18 +39,18 @@ entries = Registered 0 0 0 ∷ Unregistered 0 0 3 ∷ Idle 0 ∷ Registered 1 0 
 abbrev live : IdState
 live = record { phase = 4; decl = 1; from = 5; last = 5 }
 
-live_again : state_of 0 entries ≡ live
+live_again : state_of_id 0 entries ≡ live
 unfolding phase_of decl_from from_from number_from
 live_again = refl
 
 ended : state_with live (Unregistered 1 0 7) ≡ record { phase = 5; decl = 1; from = 5; last = 7 }
 ended = refl
 
-one_noted : noted (live ∷ live ∷ []) (Unregistered 1 1 7) ≡ live ∷ record { phase = 5; decl = 1; from = 5; last = 7 } ∷ []
+one_noted : with_pool_entry (live ∷ live ∷ []) (Unregistered 1 1 7) ≡ live ∷ record { phase = 5; decl = 1; from = 5; last = 7 } ∷ []
 one_noted = refl
 
 -- an id past the last is none of these
-none_noted : noted (live ∷ []) (Idle 1) ≡ live ∷ []
+none_noted : with_pool_entry (live ∷ []) (Idle 1) ≡ live ∷ []
 none_noted = refl
 
 abbrev idle : IdState
@@ -59,7 +59,7 @@ idle = record { phase = 3; decl = 1; from = 5; last = 7 }
 is_live : HasLive 1 (idle ∷ live ∷ [])
 is_live = (1, (live, (refl, (refl, refl))))
 
-of_no_other : IsLiveAs 0 live → ⊥
+of_no_other : IsStateLiveAs 0 live → ⊥
 of_no_other h = absurd (let e = h.1 in omega (arith, e))
 
 is_free : IsFreeNow idle
@@ -87,18 +87,18 @@ from_live = (live, (refl, (refl, (refl, omega arith))))
 not_reached : AreLastReached (live ∷ []) (4 ∷ []) → ⊥
 not_reached h = absurd (let le = h 0 live refl refl in omega (arith, le))
 
-not_blank : AreFirst 1 (live ∷ []) → ⊥
+not_blank : AreBlankStates 1 (live ∷ []) → ⊥
 not_blank h = absurd (let e = h.blank 0 live refl in let phase = ap (λ (x : IdState). x.phase) e in omega (arith, phase))
 
 -- the second of two caches is `on`
 one_on : on_from 0 (record dentry { on = false } ∷ dentry ∷ []) ≡ 1 ∷ []
 one_on = refl
 
-opens_so : Opens (0 ∷ []) (Registered 0 0 0 ∷ [])
+opens_so : OpensWith (0 ∷ []) (Registered 0 0 0 ∷ [])
 opens_so zero decl e = let same : 0 ≡ decl = cc in ap (λ (d : ℕ). Some (Registered d 0 0)) same
 opens_so (suc n) decl e = absurd cc
 
-opens_late : Opens (0 ∷ []) (Registered 0 0 1 ∷ []) → ⊥
+opens_late : OpensWith (0 ∷ []) (Registered 0 0 1 ∷ []) → ⊥
 opens_late h = absurd (let e = h 0 0 refl in cc)
 
 opened_later : IsPoolLawful script (record report { pool = kept (Registered 0 0 1 ∷ []) }) → ⊥
@@ -130,10 +130,10 @@ none_walked = refl
 of_the_part : part_draws (record carrier { answers = kept (answer ∷ answer ∷ []) }) ≡ draw_key 0 0 ∷ draw_key 0 0 ∷ []
 of_the_part = refl
 
-up_by_one : drawn 7 ≡ record { key = 7; up = 1; down = 0 }
+up_by_one : drawn_move 7 ≡ record { key = 7; up = 1; down = 0 }
 up_by_one = refl
 
-three_wanted : wanted_from 0 (1 ∷ 2 ∷ []) ≡ wanted (draw_key 0 0) ∷ wanted (draw_key 1 0) ∷ wanted (draw_key 1 1) ∷ []
+three_wanted : wanted_from 0 (1 ∷ 2 ∷ []) ≡ wanted_move (draw_key 0 0) ∷ wanted_move (draw_key 1 0) ∷ wanted_move (draw_key 1 1) ∷ []
 three_wanted = refl
 
 drawn_twice : AreDrawnOnce (draw_key 0 0 ∷ draw_key 0 0 ∷ []) (1 ∷ []) → ⊥

@@ -9,8 +9,8 @@ use Rattle.shr_report.specs.Deferred.{printed_at}
 use Rattle.shr_report.specs.Parts.{all_walks, all_carries}
 
 -- what a worker's passes and carries gave at a place
-abbrev pub given_by : List ℕ → WorkerPart → Place → ℕ
-given_by parents part place = given_at parents part.walks.items part.carries.items place
+abbrev pub given_by_worker : List ℕ → WorkerPart → Place → ℕ
+given_by_worker parents part place = given_at parents part.walks.items part.carries.items place
 
 -- what they took there
 abbrev pub taken_by : WorkerPart → Place → ℕ

@@ -43,17 +43,17 @@ abbrev pub part_draws : WorkerPart → List ℕ
 part_draws part = flat_map answer_draws part.answers.items ++ flat_map walk_draws part.walks.items
 
 -- a lookup that was drawn goes up by one
-abbrev pub drawn : ℕ → Move
-drawn key = record { key = key; up = 1; down = 0 }
+abbrev pub drawn_move : ℕ → Move
+drawn_move key = record { key = key; up = 1; down = 0 }
 
 -- one that is wanted goes down by one
-abbrev pub wanted : ℕ → Move
-wanted key = record { key = key; up = 0; down = 1 }
+abbrev pub wanted_move : ℕ → Move
+wanted_move key = record { key = key; up = 0; down = 1 }
 
 -- the lookups that are wanted: of each id, the first of which has this number, those up to its lookups
 abbrev pub wanted_from : ℕ → List ℕ → List Move
 wanted_from id [] = []
-wanted_from id (count ∷ counts) = map (λ n. wanted (draw_key id n)) (range_with_len 0 count) ++ wanted_from (id + 1) counts
+wanted_from id (count ∷ counts) = map (λ n. wanted_move (draw_key id n)) (range_with_len 0 count) ++ wanted_from (id + 1) counts
 
 -- these draw each number of an id below its lookups once, and no other
 abbrev pub AreDrawnOnce : List ℕ → List ℕ → Type 0

@@ -6,12 +6,12 @@ use Rattle.shr_model.specs.Pool.{id_of, phase_of, decl_of, from_of, last_number}
 use Rattle.shr_audit_tables.specs.declared.registrations.IdState.{IdState}
 
 -- what a journal says of an id
-abbrev pub state_of : ℕ → List PoolEntry → IdState
-state_of id es = record { phase = phase_of id es; decl = decl_of id es; from = from_of id es; last = last_number id es }
+abbrev pub state_of_id : ℕ → List PoolEntry → IdState
+state_of_id id es = record { phase = phase_of id es; decl = decl_of id es; from = from_of id es; last = last_number id es }
 
 -- these are the states of the first ids after a journal
 abbrev pub AreStates : List PoolEntry → List IdState → Type 0
-AreStates es states = (id : ℕ) (x : IdState) → slice_get states id ≡ Some x → x ≡ state_of id es
+AreStates es states = (id : ℕ) (x : IdState) → slice_get states id ≡ Some x → x ≡ state_of_id id es
 
 -- the state of an id after one entry more that is of it
 abbrev pub state_with : IdState → PoolEntry → IdState
@@ -25,16 +25,16 @@ put_state states id e None = states
 put_state states id e (Some x) = slice_set states id (state_with x e)
 
 -- the states after one entry more
-abbrev pub noted : List IdState → PoolEntry → List IdState
-noted states e = put_state states (id_of e) e (slice_get states (id_of e))
+abbrev pub with_pool_entry : List IdState → PoolEntry → List IdState
+with_pool_entry states e = put_state states (id_of e) e (slice_get states (id_of e))
 
 -- the id is live with this declaration
-abbrev pub IsLiveAs : ℕ → IdState → Type 0
-IsLiveAs decl x = (x.phase % 3 ≡ 1) × (x.decl ≡ decl)
+abbrev pub IsStateLiveAs : ℕ → IdState → Type 0
+IsStateLiveAs decl x = (x.phase % 3 ≡ 1) × (x.decl ≡ decl)
 
 -- an id of these is live with this declaration
 abbrev pub HasLive : ℕ → List IdState → Type 0
-HasLive decl states = (id : ℕ) × ((x : IdState) × ((slice_get states id ≡ Some x) × IsLiveAs decl x))
+HasLive decl states = (id : ℕ) × ((x : IdState) × ((slice_get states id ≡ Some x) × IsStateLiveAs decl x))
 
 -- the id can be registered
 abbrev pub IsFreeNow : IdState → Type 0
@@ -59,7 +59,7 @@ MayRegister decls states (Unregistered decl id to) = StateIs states id (λ x. (x
 MayRegister decls states (Idle id) = StateIs states id (λ x. x.phase % 3 ≡ 2)
 
 -- so many ids of which nothing is said
-pub record AreFirst (ids : ℕ) (states : List IdState) : Type 0 where
+pub record AreBlankStates (ids : ℕ) (states : List IdState) : Type 0 where
   pub count : length states ≡ ids
   pub blank : (id : ℕ) (x : IdState) → slice_get states id ≡ Some x → x ≡ record { phase = 0; decl = 0; from = 0; last = 0 }
 

@@ -8,9 +8,9 @@ ghost use Rattle.shr_report.specs.Deferred.{HasCarried, IsCarryRight, IsDeferred
 ghost use Rattle.shr_report.specs.Numbers.{HasNumbers};
 ghost use Rattle.shr_report.specs.Parts.{IsThere, parents_of};
 ghost use Rattle.shr_report.specs.WellFormed.{IsWellFormed};
-ghost use Rattle.shr_formed.specs.Each.{Each};
-ghost use Rattle.shr_sums.specs.Deferred.{Gains};
-ghost use Rattle.shr_audit_tables.specs.Deferred.{given_by, taken_by, AreWordsRight};
+ghost use Rattle.shr_formed.specs.Each.{EachItem};
+ghost use Rattle.shr_sums.specs.Deferred.{GainsAtEach};
+ghost use Rattle.shr_audit_tables.specs.Deferred.{given_by_worker, taken_by, AreWordsRight};
 
 use shr_base::ends::WorkerPart;
 use shr_base::memory::Memory;
@@ -26,7 +26,7 @@ use std::alloc::Global;
 
 // The numbers of parents have the range of their type.
 fn parents_fit(parents: &[u16])
-    ensures { Each (λ n. n < 2 ^ 16) parents.now }
+    ensures { EachItem (λ n. n < 2 ^ 16) parents.now }
 {
     for parent in parents {
         let _parent = *parent;
@@ -35,7 +35,7 @@ fn parents_fit(parents: &[u16])
 
 // Adds what a worker's passes and carries gave, and what they took.
 fn note_part(moves: &mut Vec<Move>, parents: &[u16], part: &WorkerPart) -> Result<(), Memory>
-    ensures { OnOk result (Gains (given_by parents.now part.now) (taken_by part.now)
+    ensures { OnOk result (GainsAtEach (given_by_worker parents.now part.now) (taken_by part.now)
         moves.old.items moves.new.items) }
 {
     note_walks(moves, part.walks.as_slice())?;
@@ -45,8 +45,8 @@ fn note_part(moves: &mut Vec<Move>, parents: &[u16], part: &WorkerPart) -> Resul
 
 // The same of all workers.
 fn note_parts(moves: &mut Vec<Move>, parents: &[u16], parts: &[WorkerPart]) -> Result<(), Memory>
-    ensures { OnOk result (Gains
-        (λ p. sum_by (λ (part : WorkerPart). given_by parents.now part p) parts.now)
+    ensures { OnOk result (GainsAtEach
+        (λ p. sum_by (λ (part : WorkerPart). given_by_worker parents.now part p) parts.now)
         (λ p. sum_by (λ (part : WorkerPart). taken_by part p) parts.now)
         moves.old.items moves.new.items) }
 {
@@ -121,7 +121,7 @@ fn is_carry_right(script: &Script, report: &Report, carry: &Carry) -> bool
 
 // Whether each of a worker's carries is.
 fn are_carries_right(script: &Script, report: &Report, carries: &[Carry]) -> bool
-    ensures { Decides result (Each (IsCarryRight script.now report.now) carries.now) }
+    ensures { Decides result (EachItem (IsCarryRight script.now report.now) carries.now) }
 {
     for carry in carries {
         if !is_carry_right(script, report, carry) {
@@ -133,8 +133,8 @@ fn are_carries_right(script: &Script, report: &Report, carries: &[Carry]) -> boo
 
 // Whether each of those of these workers is.
 fn are_all_right(script: &Script, report: &Report, parts: &[WorkerPart]) -> bool
-    ensures { Decides result (Each (λ (part : WorkerPart).
-        Each (IsCarryRight script.now report.now) part.carries.items) parts.now) }
+    ensures { Decides result (EachItem (λ (part : WorkerPart).
+        EachItem (IsCarryRight script.now report.now) part.carries.items) parts.now) }
 {
     for part in parts {
         if !are_carries_right(script, report, part.carries.as_slice()) {

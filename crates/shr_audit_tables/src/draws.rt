@@ -6,8 +6,8 @@ ghost use Rattle.std.specs.List.{range_with_len};
 ghost use Rattle.shr_model.specs.Attempts.{number_of};
 ghost use Rattle.shr_report.specs.Numbers.{HasNumbers};
 ghost use Rattle.shr_report.specs.WellFormed.{IsWellFormed};
-ghost use Rattle.shr_formed.specs.Each.{Each};
-ghost use Rattle.shr_audit_tables.specs.Draws.{AreDrawnOnce, IsDrawn, answer_draws, attempt_draws, draw_key, drawn, part_draws, walk_draws, wanted, wanted_from};
+ghost use Rattle.shr_formed.specs.Each.{EachItem};
+ghost use Rattle.shr_audit_tables.specs.Draws.{AreDrawnOnce, IsDrawn, answer_draws, attempt_draws, draw_key, drawn_move, part_draws, walk_draws, wanted_move, wanted_from};
 
 use shr_base::ends::WorkerPart;
 use shr_base::memory::Memory;
@@ -133,7 +133,7 @@ fn are_few(lookups: &[u32], draws: usize) -> bool
 
 // Adds a draw for each of these.
 fn add_drawn(moves: &mut Vec<Move>, keys: &[u64]) -> Result<(), Memory>
-    ensures { OnOk result (moves.new.items ≡ moves.old.items ++ map drawn keys.now) }
+    ensures { OnOk result (moves.new.items ≡ moves.old.items ++ map drawn_move keys.now) }
 {
     for key in keys {
         moves.push(Move {
@@ -148,7 +148,7 @@ fn add_drawn(moves: &mut Vec<Move>, keys: &[u64]) -> Result<(), Memory>
 // Adds that the numbers of an id up to its lookups are wanted.
 fn add_numbers(moves: &mut Vec<Move>, id: u16, count: u32) -> Result<(), Memory>
     ensures { OnOk result (moves.new.items
-        ≡ moves.old.items ++ map (λ n. wanted (draw_key id n)) (range_with_len 0 count)) }
+        ≡ moves.old.items ++ map (λ n. wanted_move (draw_key id n)) (range_with_len 0 count)) }
 {
     for number in 0..count {
         moves.push(Move {
@@ -174,7 +174,7 @@ fn add_wanted(moves: &mut Vec<Move>, lookups: &[u32]) -> Result<(), Memory>
 // Whether the numbers drawn of each id are those from 0 up to its lookups, each once.
 fn are_drawn_once(alloc: Global, keys: &[u64], lookups: &[u32]) -> Result<bool, Memory>
     requires few { length lookups.now < 2 ^ 16 }
-    requires counts { Each (λ n. n < 2 ^ 32) lookups.now }
+    requires counts { EachItem (λ n. n < 2 ^ 32) lookups.now }
     ensures { IfOk result (λ b. Decides b (AreDrawnOnce keys.now lookups.now)) }
 {
     if !are_few(lookups, count_of(keys)) {

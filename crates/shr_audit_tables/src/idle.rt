@@ -4,7 +4,7 @@ ghost use Rattle.std.specs.Prelude.{length};
 ghost use Rattle.std.specs.Bool.{Decides};
 ghost use Rattle.shr_base.specs.declared.ends.PlaceEnd.{PlaceEnd};
 ghost use Rattle.shr_case.specs.Lists.{IsReplayOf};
-ghost use Rattle.shr_formed.specs.Each.{Each};
+ghost use Rattle.shr_formed.specs.Each.{EachItem};
 ghost use Rattle.shr_audit_tables.specs.Idle.{AreIdleEmpty, IsEmptyAt, IsEmptyIfIdle, IsIdleIn, NonePast};
 ghost use Rattle.shr_audit_tables.specs.Registrations.{AreStates};
 
@@ -47,7 +47,7 @@ fn is_empty_if_idle(case: &Case, report: &Report, states: &[IdState], place: Pla
 // Whether each of these lists has not if its id is idle.
 fn are_empty_if_idle(case: &Case, report: &Report, states: &[IdState], ends: &[PlaceEnd]) -> bool
     requires { IsReplayOf report.now case.now }
-    ensures { Decides result (Each (λ (end : PlaceEnd).
+    ensures { Decides result (EachItem (λ (end : PlaceEnd).
         IsEmptyIfIdle case.now.parents.items report.now states.now end.place) ends.now) }
 {
     for end in ends {

@@ -5,7 +5,7 @@ ghost use Rattle.std.specs.Prelude.{◌≡◌, ◌++◌, [], ◌∷◌, cond, If
 ghost use Rattle.std.specs.Bool.{Decides};
 ghost use Rattle.shr_base.specs.declared.journals.PoolEntry.TheVariants.{Registered};
 ghost use Rattle.shr_report.specs.WellFormed.{IsWellFormed};
-ghost use Rattle.shr_audit_tables.specs.Lookups.{IsPoolLawful, Opens, on_from};
+ghost use Rattle.shr_audit_tables.specs.Lookups.{IsPoolLawful, OpensWith, on_from};
 ghost use Rattle.shr_audit_tables.specs.Registrations.{AreStatesOf};
 
 use crate::registrations::{IdState, are_last_reached, replay_pool};
@@ -52,7 +52,7 @@ fn is_opening(entry: PoolEntry, decl: usize, n: usize) -> bool
 
 // Whether a journal begins with the registrations of these declarations.
 fn opens(on: &[usize], pool: &[PoolEntry]) -> bool
-    ensures { Decides result (Opens on.now pool.now) }
+    ensures { Decides result (OpensWith on.now pool.now) }
 {
     for n in 0..on.len() {
         if n >= pool.len() {

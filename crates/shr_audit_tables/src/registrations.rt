@@ -5,7 +5,7 @@ ghost use Rattle.std.specs.Bool.{Decides};
 ghost use Rattle.shr_base.specs.declared.journals.PoolEntry.TheVariants.{Registered};
 ghost use Rattle.shr_model.specs.Pool.{id_of, IsPoolJournal};
 ghost use Rattle.shr_audit_tables.specs.declared.registrations.IdState.{IdState};
-ghost use Rattle.shr_audit_tables.specs.Registrations.{AreFirst, AreLastReached, AreStatesOf, HasLive, IsLowestFree, MayRegister, NoneFree, noted, state_with};
+ghost use Rattle.shr_audit_tables.specs.Registrations.{AreBlankStates, AreLastReached, AreStatesOf, HasLive, IsLowestFree, MayRegister, NoneFree, with_pool_entry, state_with};
 
 use shr_base::journals::PoolEntry;
 use shr_base::memory::Memory;
@@ -66,7 +66,7 @@ fn state_with(state: IdState, entry: PoolEntry) -> IdState
 fn note_entry(states: &mut Vec<IdState>, entry: PoolEntry)
     requires { (id : ℕ) (x : IdState) → slice_get states.old.items id ≡ Some x
         → x.phase < 2 ^ 64 - 1 }
-    ensures { states.new.items ≡ noted states.old.items entry }
+    ensures { states.new.items ≡ with_pool_entry states.old.items entry }
 {
     let id = id_of(entry) as usize;
     if id < states.len() {
@@ -145,7 +145,7 @@ fn may_follow(states: &[IdState], decls: usize, entry: PoolEntry) -> bool
 
 // So many ids of which a journal says nothing.
 fn first_states(alloc: Global, ids: u16) -> Result<Vec<IdState>, Memory>
-    ensures { IfOk result (λ states. AreFirst ids states.items) }
+    ensures { IfOk result (λ states. AreBlankStates ids states.items) }
 {
     let mut states = Vec::new(alloc);
     for _ in 0..ids {

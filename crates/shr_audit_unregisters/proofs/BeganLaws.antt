@@ -1,7 +1,5 @@
 -- Where registrations began, and where ids became idle, one entry after another.
-use Rattle.shr_audit_unregisters.proofs.Common.{◌≡◌, ℕ, zero, suc, ◌+◌, ◌<◌, ◌≤◌, Bool, true, false, cond, List, [], ◌∷◌, length, get_or, take, refl, sym, ap, subst, ◌∙◌, inl, inr, arith, eq-eqb, Registered, Idle, IsUpto, is_idle, Began}
-use Rattle.std.proofs.Common.{◌++◌, length-append, set, drop, replicate, ne_eqb, length-set, get_or-set_same, get_or-set_other}
-use Rattle.std.specs.Prelude.{◌||◌, nat_lt}
+use Rattle.shr_audit_unregisters.proofs.Common.{◌≡◌, ℕ, zero, suc, ◌+◌, ◌<◌, ◌≤◌, Bool, true, false, cond, List, [], ◌∷◌, length, get_or, take, refl, sym, ap, subst, ◌∙◌, inl, inr, arith, eq-eqb, Registered, Idle, IsUpto, is_idle, Began, ◌++◌, length-append, set, drop, replicate, ne_eqb, length-set, get_or-set_same, get_or-set_other, ◌||◌, nat_lt, Unregistered, is_idle_entry}
 use Rattle.std.specs.List.{list_any}
 use Rattle.std.proofs.lemmas.Bool.{cases_lt}
 use Rattle.std.proofs.lemmas.List.{drop-append-le, get_or_default, get_or-replicate, length-replicate, take_more, length-take, get_or_append_left}
@@ -10,10 +8,8 @@ use Rattle.std.proofs.Math.Seq.{get_or-append_seam}
 use mathlib.Core.Logic.{dite}
 use native.Mathlib.Decide.{ℕ_discrete}
 use Rattle.shr_base.specs.declared.journals.PoolEntry.{PoolEntry}
-use Rattle.shr_base.specs.declared.journals.PoolEntry.TheVariants.{Unregistered}
 use Rattle.shr_model.specs.Pool.{from_after, from_from, from_of, id_of}
 use Rattle.shr_model.proofs.PoolLaws.{from_from_push}
-use Rattle.shr_report.specs.Causes.{is_idle_entry}
 use Rattle.shr_audit_fresh.proofs.FirstLaws.{or_none}
 use Rattle.shr_audit_rows.proofs.MomentsLaws.{or_true, lt_true, lt_false}
 

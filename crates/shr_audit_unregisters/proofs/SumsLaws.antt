@@ -1,8 +1,5 @@
 -- Objects that were drained, one entry and one run of lists after another.
-use Rattle.shr_audit_unregisters.proofs.Common.{◌≡◌, ℕ, zero, suc, ◌+◌, ◌-◌, ◌*◌, ◌^◌, ◌<◌, ◌≤◌, Bool, true, false, cond, List, length, get_or, take, Option, Some, refl, sym, ap, ◌∙◌, inl, inr, arith, eq-eqb, slice_get, sum_by, unwrap_or, BTreeMap, PlaceEnd, Entry, Drained, Place, Serial, Report, drained_by, journals_of, serial_of, AreSums, IsKeyed, IsNothing, IsRun, capped, serial_key, some_is}
-use Rattle.std.proofs.Common.{◌≢◌, min}
-use Rattle.std.specs.Prelude.{◌==◌}
-use Rattle.std.specs.BTreeMap.{get, is_at, Updates}
+use Rattle.shr_audit_unregisters.proofs.Common.{◌≡◌, ℕ, zero, suc, ◌+◌, ◌-◌, ◌*◌, ◌^◌, ◌<◌, ◌≤◌, Bool, true, false, cond, List, length, get_or, take, Option, Some, refl, sym, ap, ◌∙◌, inl, inr, arith, eq-eqb, slice_get, sum_by, unwrap_or, BTreeMap, PlaceEnd, Entry, Drained, Place, Serial, Report, drained_by, journals_of, serial_of, AreSums, IsSerialKeyed, IsNothing, AreOfOnePlace, capped, drained_key, some_is, ◌≢◌, min, ◌==◌, get, is_at, Updates}
 use Rattle.std.specs.Ordering.{is_eq, nat_cmp}
 use Rattle.std.specs.declared.cmp.Ordering.{Ordering}
 use Rattle.std.specs.declared.cmp.Ordering.TheVariants.{Less, Equal, Greater}
@@ -20,7 +17,7 @@ pub same_sums : (sums : BTreeMap ℕ ℕ) (f g : Serial → ℕ) → ((by : Seri
 same_sums sums f g same h = record { each = λ w n k. h.each w n k ∙ ap capped (same (serial_of w n)) }
 
 pub none_summed : (sums : BTreeMap ℕ ℕ) → IsNothing sums → AreSums sums (λ by. 0)
-none_summed sums none = record { each = λ w n k. ap (λ (o : Option ℕ). unwrap_or o 0) (none (serial_key w n)) }
+none_summed sums none = record { each = λ w n k. ap (λ (o : Option ℕ). unwrap_or o 0) (none (drained_key w n)) }
 
 -- ---- keys
 
@@ -32,29 +29,29 @@ apart k q ne = by_order (nat_cmp k q) refl
     by_order Equal e = absurd (ne (exact_unsigned k q e))
     by_order Greater e = refl
 
-one_key : (w n v m : ℕ) → IsKeyed w n → IsKeyed v m → serial_key w n ≡ serial_key v m → (w ≡ v) × (n ≡ m)
+one_key : (w n v m : ℕ) → IsSerialKeyed w n → IsSerialKeyed v m → drained_key w n ≡ drained_key v m → (w ≡ v) × (n ≡ m)
 one_key w n v m a b e = let an = a.command_few in let bm = b.command_few in (omega (arith, an, bm, e), omega (arith, an, bm, e))
 
 own_serial : (w n : ℕ) (by : Serial) → w ≡ by.worker → n ≡ by.command → is_serial (serial_of w n) by ≡ true
 own_serial w n by e f = and_from (w == by.worker) (n == by.command) (eq-eqb w by.worker e) (eq-eqb n by.command f)
 
 -- one amount more of a command
-pub sums_add : (old new : BTreeMap ℕ ℕ) (by : Serial) (key before more put : ℕ) → key ≡ serial_key by.worker by.command → IsKeyed by.worker by.command → before ≡ unwrap_or (get nat_cmp old key) 0 → put ≡ min (before + more) (2 ^ 64 - 1) → Updates nat_cmp old new key (Some put)
+pub sums_add : (old new : BTreeMap ℕ ℕ) (by : Serial) (key before more put : ℕ) → key ≡ drained_key by.worker by.command → IsSerialKeyed by.worker by.command → before ≡ unwrap_or (get nat_cmp old key) 0 → put ≡ min (before + more) (2 ^ 64 - 1) → Updates nat_cmp old new key (Some put)
     → (total : Serial → ℕ) (amount : ℕ) → more ≡ capped amount → AreSums old total → AreSums new (λ x. total x + cond (is_serial x by) amount 0)
 sums_add old new by key before more put key_is keyed before_is put_is up total amount more_is h = record { each = each }
   where
-    each : (w n : ℕ) → IsKeyed w n → unwrap_or (get nat_cmp new (serial_key w n)) 0 ≡ capped (total (serial_of w n) + cond (is_serial (serial_of w n) by) amount 0)
+    each : (w n : ℕ) → IsSerialKeyed w n → unwrap_or (get nat_cmp new (drained_key w n)) 0 ≡ capped (total (serial_of w n) + cond (is_serial (serial_of w n) by) amount 0)
     each w n k = elim (cases_Bool (is_serial (serial_of w n) by)) [
       | inl own ↦
           let parts = and_parts (w == by.worker) (n == by.command) own in
-          let same : serial_key w n ≡ key = (let a = eqb-true w by.worker parts.0 in let b = eqb-true n by.command parts.1 in omega (arith, a, b, key_is)) in
+          let same : drained_key w n ≡ key = (let a = eqb-true w by.worker parts.0 in let b = eqb-true n by.command parts.1 in omega (arith, a, b, key_is)) in
           let was : before ≡ capped (total (serial_of w n)) = before_is ∙ ap (λ (j : ℕ). unwrap_or (get nat_cmp old j) 0) (sym same) ∙ h.each w n k in
           ap (λ (j : ℕ). unwrap_or (get nat_cmp new j) 0) same ∙ ap (λ (o : Option ℕ). unwrap_or o 0) up.1 ∙ put_is
           ∙ ap (λ (j : ℕ). min (j + more) (2 ^ 64 - 1)) was ∙ ap (λ (j : ℕ). min (capped (total (serial_of w n)) + j) (2 ^ 64 - 1)) more_is
           ∙ kept_sum (total (serial_of w n)) amount (2 ^ 64 - 1) ∙ ap (λ (b : Bool). capped (total (serial_of w n) + cond b amount 0)) (sym own)
       | inr other ↦
-          let ne : key ≢ serial_key w n = λ e. (let t = one_key by.worker by.command w n keyed k (sym key_is ∙ e) in let yes = own_serial w n by (sym t.0) (sym t.1) in let no : true ≡ false = sym yes ∙ other in cc) in
-          ap (λ (o : Option ℕ). unwrap_or o 0) (up.2 (serial_key w n) (apart key (serial_key w n) ne)) ∙ h.each w n k
+          let ne : key ≢ drained_key w n = λ e. (let t = one_key by.worker by.command w n keyed k (sym key_is ∙ e) in let yes = own_serial w n by (sym t.0) (sym t.1) in let no : true ≡ false = sym yes ∙ other in cc) in
+          ap (λ (o : Option ℕ). unwrap_or o 0) (up.2 (drained_key w n) (apart key (drained_key w n) ne)) ∙ h.each w n k
           ∙ ap capped (let z : total (serial_of w n) ≡ total (serial_of w n) + 0 = omega arith in z) ∙ ap (λ (b : Bool). capped (total (serial_of w n) + cond b amount 0)) (sym other)
     ]
 
@@ -84,7 +81,7 @@ drained_at r by place = sum_by (drained_by by) (journals_of r place)
 abbrev pub drained_upto : Report → List PlaceEnd → ℕ → Serial → ℕ
 drained_upto r ends k by = sum_by (λ (end : PlaceEnd). drained_at r by end.place) (take k ends)
 
-run_sum : (r : Report) (ends : List PlaceEnd) (k stop : ℕ) (end : PlaceEnd) (by : Serial) → IsRun ends k stop → slice_get ends k ≡ Some end → (m : ℕ) → k + m ≤ stop
+run_sum : (r : Report) (ends : List PlaceEnd) (k stop : ℕ) (end : PlaceEnd) (by : Serial) → AreOfOnePlace ends k stop → slice_get ends k ≡ Some end → (m : ℕ) → k + m ≤ stop
     → drained_upto r ends (k + m) by ≡ drained_upto r ends k by + m * drained_at r by end.place
 run_sum r ends k stop end by run at zero le = ap (λ (n : ℕ). drained_upto r ends n by) (let z : k + 0 ≡ k = omega arith in z) ∙ (let z : drained_upto r ends k by ≡ drained_upto r ends k by + 0 * drained_at r by end.place = omega arith in z)
 run_sum r ends k stop end by run at (suc m) le =
@@ -97,7 +94,7 @@ run_sum r ends k stop end by run at (suc m) le =
     ap (λ (n : ℕ). drained_upto r ends n by) (let z : k + suc m ≡ k + m + 1 = omega arith in z) ∙ more ∙ ap (λ (n : ℕ). n + drained_at r by end.place) before
     ∙ (let z : (drained_upto r ends k by + m * drained_at r by end.place) + drained_at r by end.place ≡ drained_upto r ends k by + suc m * drained_at r by end.place = omega arith in z)
 
-pub run_more : (sums : BTreeMap ℕ ℕ) (r : Report) (ends : List PlaceEnd) (k stop : ℕ) (d : PlaceEnd) (entries : List Entry) → IsRun ends k stop → k < length ends → entries ≡ journals_of r (get_or ends k d).place
+pub run_more : (sums : BTreeMap ℕ ℕ) (r : Report) (ends : List PlaceEnd) (k stop : ℕ) (d : PlaceEnd) (entries : List Entry) → AreOfOnePlace ends k stop → k < length ends → entries ≡ journals_of r (get_or ends k d).place
     → AreSums sums (λ by. drained_upto r ends k by + (stop - k) * sum_by (drained_by by) entries) → AreSums sums (drained_upto r ends stop)
 run_more sums r ends k stop d entries run lt is h = same_sums sums (λ by. drained_upto r ends k by + (stop - k) * sum_by (drained_by by) entries) (drained_upto r ends stop) one h
   where

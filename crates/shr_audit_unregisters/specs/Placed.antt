@@ -27,6 +27,6 @@ IsOfId place None = ⊤
 IsOfId place (Some id) = place.id ≡ id
 
 -- an entry of a place, if it is a Drained, is of a command that drained the place's id
-abbrev pub IsPlaced : Script → Report → Place → Entry → Type 0
-IsPlaced s r place (Drained by objects) = IsOfId place (id_drained_by s r by)
-IsPlaced s r place e = ⊤
+abbrev pub IsDrainPlaced : Script → Report → Place → Entry → Type 0
+IsDrainPlaced s r place (Drained by objects) = IsOfId place (id_drained_by s r by)
+IsDrainPlaced s r place e = ⊤

@@ -22,21 +22,21 @@ HasUnregisterCause s r by c (reply.Half id entry from to objects why) = HasCause
 HasUnregisterCause s r by c x = ⊤
 
 -- what such an answer says, in one
-abbrev pub ended : ℕ → ℕ → ℕ → ℕ → ℕ → Ended
-ended id entry from to objects = record { id = id; entry = entry; from = from; to = to; objects = objects }
+abbrev pub as_ended : ℕ → ℕ → ℕ → ℕ → ℕ → Ended
+as_ended id entry from to objects = record { id = id; entry = entry; from = from; to = to; objects = objects }
 
 -- it is right of its entry, of where its registration began, of its objects, and of whether its id is idle afterwards
 abbrev pub HasEnd : Report → Serial → Command → Reply → Type 0
-HasEnd r by c (reply.Freed id entry from to objects) = IsSomeAnd (decl_named c) (λ d. IsEndedSo r by d (ended id entry from to objects) true)
-HasEnd r by c (reply.Half id entry from to objects why) = IsSomeAnd (decl_named c) (λ d. IsEndedSo r by d (ended id entry from to objects) false)
+HasEnd r by c (reply.Freed id entry from to objects) = IsSomeAnd (decl_named c) (λ d. IsEndedSo r by d (as_ended id entry from to objects) true)
+HasEnd r by c (reply.Half id entry from to objects why) = IsSomeAnd (decl_named c) (λ d. IsEndedSo r by d (as_ended id entry from to objects) false)
 HasEnd r by c x = ⊤
 
 -- it had a reason, if it stopped half way
-abbrev pub HasReason : Script → Report → ℕ → Reply → Type 0
-HasReason s r worker (reply.Half id entry from to objects why) = IsWhy s r worker why
-HasReason s r worker x = ⊤
+abbrev pub HasHalfReason : Script → Report → ℕ → Reply → Type 0
+HasHalfReason s r worker (reply.Half id entry from to objects why) = IsWhy s r worker why
+HasHalfReason s r worker x = ⊤
 
 -- the answer with this number has both
-abbrev pub IsCausedAt : Script → Report → ℕ → ℕ → Type 0
-IsCausedAt s r worker k = (c : Command) (a : Answered) → command_at s (serial_of worker k) ≡ Some c → answer_at r (serial_of worker k) ≡ Some a
-    → HasEnd r (serial_of worker k) c a.reply × HasReason s r worker a.reply
+abbrev pub IsUnregisterCausedAt : Script → Report → ℕ → ℕ → Type 0
+IsUnregisterCausedAt s r worker k = (c : Command) (a : Answered) → command_at s (serial_of worker k) ≡ Some c → answer_at r (serial_of worker k) ≡ Some a
+    → HasEnd r (serial_of worker k) c a.reply × HasHalfReason s r worker a.reply

@@ -11,11 +11,11 @@ abbrev pub capped : ℕ → ℕ
 capped n = min n (2 ^ 64 - 1)
 
 -- a command by one number
-abbrev pub serial_key : ℕ → ℕ → ℕ
-serial_key worker command = 4294967296 * worker + command
+abbrev pub drained_key : ℕ → ℕ → ℕ
+drained_key worker command = 4294967296 * worker + command
 
 -- the numbers have the ranges of their types
-pub record IsKeyed (worker command : ℕ) : Type 0 where
+pub record IsSerialKeyed (worker command : ℕ) : Type 0 where
   pub worker_few : worker < 2 ^ 16
   pub command_few : command < 2 ^ 32
 
@@ -25,10 +25,10 @@ IsNothing sums = (key : ℕ) → get nat_cmp sums key ≡ None
 
 -- a table has what each command comes to
 pub record AreSums (sums : BTreeMap ℕ ℕ) (total : Serial → ℕ) : Type 0 where
-  pub each : (worker command : ℕ) → IsKeyed worker command → unwrap_or (get nat_cmp sums (serial_key worker command)) 0 ≡ capped (total (serial_of worker command))
+  pub each : (worker command : ℕ) → IsSerialKeyed worker command → unwrap_or (get nat_cmp sums (drained_key worker command)) 0 ≡ capped (total (serial_of worker command))
 
 -- the lists from one up to this index are of its place
-pub record IsRun (ends : List PlaceEnd) (k stop : ℕ) : Type 0 where
+pub record AreOfOnePlace (ends : List PlaceEnd) (k stop : ℕ) : Type 0 where
   pub some : k < stop
   pub within : stop ≤ length ends
   pub same : (n : ℕ) (x y : PlaceEnd) → k ≤ n → n < stop → slice_get ends k ≡ Some x → slice_get ends n ≡ Some y → y.place ≡ x.place

@@ -4,9 +4,9 @@ ghost use Rattle.std.specs.Prelude.{◌≡◌, true};
 ghost use Rattle.std.specs.Bool.{Decides};
 ghost use Rattle.shr_case.specs.Each.{EachFirst};
 ghost use Rattle.shr_case.specs.Places.{AreInOrder};
-ghost use Rattle.shr_formed.specs.Each.{Each};
+ghost use Rattle.shr_formed.specs.Each.{EachItem};
 ghost use Rattle.shr_report.specs.Parts.{EachEntry};
-ghost use Rattle.shr_audit_unregisters.specs.Placed.{IsOfId, IsPlaced, id_drained, id_drained_by};
+ghost use Rattle.shr_audit_unregisters.specs.Placed.{IsOfId, IsDrainPlaced, id_drained, id_drained_by};
 
 use shr_base::ends::PlaceEnd;
 use shr_base::journals::Entry;
@@ -53,7 +53,7 @@ fn is_of_id(place: Place, id: Option<u16>) -> bool
 
 // Whether an entry of a place, if it is a Drained, is of a command that drained the place's id.
 fn is_placed(script: &Script, report: &Report, place: Place, entry: &Entry) -> bool
-    ensures { Decides result (IsPlaced script.now report.now place entry.now) }
+    ensures { Decides result (IsDrainPlaced script.now report.now place entry.now) }
 {
     match entry {
         Entry::Drained { by, .. } => {
@@ -66,7 +66,7 @@ fn is_placed(script: &Script, report: &Report, place: Place, entry: &Entry) -> b
 
 // Whether each of these entries is.
 fn are_placed(script: &Script, report: &Report, place: Place, entries: &[Entry]) -> bool
-    ensures { Decides result (Each (λ e. IsPlaced script.now report.now place e) entries.now) }
+    ensures { Decides result (EachItem (λ e. IsDrainPlaced script.now report.now place e) entries.now) }
 {
     for entry in entries {
         if !is_placed(script, report, place, entry) {
@@ -78,8 +78,8 @@ fn are_placed(script: &Script, report: &Report, place: Place, entries: &[Entry])
 
 // Whether each entry of a list is, if the list is the first one of its place.
 fn is_list_placed(script: &Script, report: &Report, first: bool, end: &PlaceEnd) -> bool
-    ensures { Decides result (first ≡ true → Each
-        (λ e. IsPlaced script.now report.now end.now.place e) end.now.entries.items) }
+    ensures { Decides result (first ≡ true → EachItem
+        (λ e. IsDrainPlaced script.now report.now end.now.place e) end.now.entries.items) }
 {
     if !first {
         return true;
@@ -91,8 +91,8 @@ fn is_list_placed(script: &Script, report: &Report, first: bool, end: &PlaceEnd)
 // Whether each entry of these lists is, of those that are the first ones of their places.
 fn are_lists_placed(script: &Script, report: &Report, ends: &[PlaceEnd]) -> bool
     requires { AreInOrder ends.now }
-    ensures { Decides result (EachFirst ends.now (λ end. Each
-        (λ e. IsPlaced script.now report.now end.place e) end.entries.items)) }
+    ensures { Decides result (EachFirst ends.now (λ end. EachItem
+        (λ e. IsDrainPlaced script.now report.now end.place e) end.entries.items)) }
 {
     for k in 0..ends.len() {
         let first = is_first(ends, k);
@@ -107,7 +107,7 @@ fn are_lists_placed(script: &Script, report: &Report, ends: &[PlaceEnd]) -> bool
 pub fn are_drains_placed(script: &Script, report: &Report) -> bool
     requires { AreInOrder report.now.places.items }
     ensures { Decides result (EachEntry report.now
-        (λ place n e. IsPlaced script.now report.now place e)) }
+        (λ place n e. IsDrainPlaced script.now report.now place e)) }
 {
     let all = are_lists_placed(script, report, report.places.as_slice());
     all

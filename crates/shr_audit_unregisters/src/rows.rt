@@ -6,7 +6,7 @@ ghost use Rattle.shr_audit_rows.specs.Rows.{AreFew};
 ghost use Rattle.shr_audit_spent.specs.Counted.{IsCountOf};
 ghost use Rattle.shr_case.specs.Places.{AreInOrder};
 ghost use Rattle.shr_audit_unregisters.specs.Ended.{AreNotes};
-ghost use Rattle.shr_audit_unregisters.specs.Rows.{HasEnd, HasReason, IsCausedAt};
+ghost use Rattle.shr_audit_unregisters.specs.Rows.{HasEnd, HasHalfReason, IsUnregisterCausedAt};
 
 use crate::ended::{Ended, Notes, is_ended_so, is_why};
 use shr_audit_replies::numbers::{answer_of, command_of, count_answers};
@@ -73,7 +73,7 @@ fn has_reason(
     requires order { AreInOrder report.now.places.items }
     requires counted { IsCountOf script.now report.now counted.now }
     requires there { worker < length report.now.workers.items }
-    ensures { Decides result (HasReason script.now report.now worker reply.now) }
+    ensures { Decides result (HasHalfReason script.now report.now worker reply.now) }
 {
     match reply {
         Reply::Half { why, .. } => is_why(script, report, counted, worker, *why),
@@ -94,7 +94,7 @@ fn is_caused_at(
     requires order { AreInOrder report.now.places.items }
     requires counted { IsCountOf script.now report.now counted.now }
     requires notes { AreNotes report.now notes.now }
-    ensures { Decides result (IsCausedAt script.now report.now worker number) }
+    ensures { Decides result (IsUnregisterCausedAt script.now report.now worker number) }
 {
     let Some(command) = command_of(script, worker, number) else {
         return true;
@@ -124,7 +124,7 @@ fn is_worker_caused(
     requires order { AreInOrder report.now.places.items }
     requires counted { IsCountOf script.now report.now counted.now }
     requires notes { AreNotes report.now notes.now }
-    ensures { Decides result ((k : ℕ) → IsCausedAt script.now report.now worker k) }
+    ensures { Decides result ((k : ℕ) → IsUnregisterCausedAt script.now report.now worker k) }
 {
     for number in 0..count_answers(report, worker) {
         if !is_caused_at(script, report, counted, notes, worker, number) {
@@ -140,7 +140,7 @@ pub fn are_caused(script: &Script, report: &Report, counted: &Counted, notes: &N
     requires order { AreInOrder report.now.places.items }
     requires counted { IsCountOf script.now report.now counted.now }
     requires notes { AreNotes report.now notes.now }
-    ensures { Decides result ((worker k : ℕ) → IsCausedAt script.now report.now worker k) }
+    ensures { Decides result ((worker k : ℕ) → IsUnregisterCausedAt script.now report.now worker k) }
 {
     for worker in 0..report.workers.len() {
         if !is_worker_caused(script, report, counted, notes, worker) {

@@ -8,7 +8,7 @@ ghost use Rattle.shr_case.specs.Places.{AreInOrder};
 ghost use Rattle.shr_model.specs.Commands.{is_serial};
 ghost use Rattle.shr_model.specs.Places.{is_place};
 ghost use Rattle.shr_report.specs.Causes.{drained_by, drained_of};
-ghost use Rattle.shr_audit_unregisters.specs.Sums.{AreSums, IsKeyed, IsNothing, IsRun, capped, serial_key};
+ghost use Rattle.shr_audit_unregisters.specs.Sums.{AreSums, IsSerialKeyed, IsNothing, AreOfOnePlace, capped, drained_key};
 
 use shr_base::ends::PlaceEnd;
 use shr_base::journals::Entry;
@@ -21,8 +21,8 @@ use std::collections::BTreeMap;
 
 // A command by one number.
 fn serial_key(by: Serial) -> u64
-    ensures key { result ≡ serial_key by.worker by.command }
-    ensures keyed { IsKeyed by.worker by.command }
+    ensures key { result ≡ drained_key by.worker by.command }
+    ensures keyed { IsSerialKeyed by.worker by.command }
 {
     0x1_0000_0000 * by.worker as u64 + by.command as u64
 }
@@ -97,7 +97,7 @@ fn is_place(p: Place, q: Place) -> bool
 // How far the lists reach that are of the place of one, from it on.
 fn run_end(ends: &[PlaceEnd], k: usize) -> usize
     requires { k < length ends.now }
-    ensures { IsRun ends.now k result }
+    ensures { AreOfOnePlace ends.now k result }
 {
     for n in k + 1..ends.len() {
         if !is_place(ends[n].place, ends[k].place) {

@@ -1,13 +1,10 @@
 -- Values that Looks found, while a journal is gone through.
-use Rattle.shr_audit_values.proofs.Common.{◌≡◌, ℕ, ◌<◌, List, [], ◌∷◌, length, take, Option, Some, None, refl, sym, ap, ◌∙◌, arith, Object, Entry, FoundValue, value_met, AreAhead, value_first, values_behind}
-use Rattle.std.proofs.Common.{◌+◌, false, ◌++◌, get_or, drop}
-use Rattle.std.specs.Prelude.{◌==◌, cond}
+use Rattle.shr_audit_values.proofs.Common.{◌≡◌, ℕ, ◌<◌, List, [], ◌∷◌, length, take, Option, Some, None, refl, sym, ap, ◌∙◌, arith, Object, Entry, FoundValue, value_met, AreAhead, value_first, values_behind, ◌+◌, false, ◌++◌, get_or, drop, ◌==◌, cond, values_noted}
 use Rattle.std.proofs.lemmas.Bool.Decides.{nat_tests}
 use Rattle.std.proofs.lemmas.List.{take_more, drop_more}
 use Rattle.shr_model.specs.Items.{items_from, moved_from, step, first_moved, later_moved}
 use Rattle.shr_model.proofs.ItemsLaws.{items_from_push}
 use Rattle.shr_replay.specs.Journals.{values_from}
-use Rattle.shr_replay.specs.Values.{values_noted}
 use Rattle.shr_model.proofs.Booleans.{itself}
 
 -- ---- the first of the values that are left

@@ -1,15 +1,10 @@
 -- What hits lend at each place, against a loop over the lists that are printed.
-use Rattle.shr_audit_values.proofs.Common.{◌≡◌, ℕ, Bool, List, [], take, Some, refl, sym, ap, subst, arith, slice_get, Decides, Place, Entry, Add, Look, lists_moved_at, value_met, Report, journals_of, EachFirst, IsFirst, AreMetLent, AreValuesLentAt, IsLent}
-use Rattle.std.proofs.Common.{inl, inr}
-use Rattle.std.proofs.lemmas.Option.{slice_get_within}
-use Rattle.shr_base.specs.declared.journals.Entry.TheVariants.{Drop, Pin, Scan, MovedIn, Closed, Drained}
+use Rattle.shr_audit_values.proofs.Common.{◌≡◌, ℕ, Bool, List, [], take, Some, refl, sym, ap, subst, arith, slice_get, Decides, Place, Entry, Add, Look, lists_moved_at, value_met, Report, journals_of, EachFirst, IsFirst, AreMetLent, AreValuesLentAt, IsLent, inl, inr, slice_get_within, Drop, Pin, Scan, MovedIn, Closed, Drained, journal_of, parents_of, IsValueLent}
 use Rattle.shr_base.specs.declared.scripts.Script.{Script}
 use Rattle.shr_model.specs.Items.{items_from}
-use Rattle.shr_report.specs.Parts.{journal_of, parents_of}
 use Rattle.shr_case.proofs.Eachs.{decides_iff}
 use Rattle.shr_case.proofs.Firsts.{found_or_none}
 use Rattle.shr_audit_replies.specs.Answers.{AreValuesLent}
-use Rattle.shr_audit_values.specs.Lent.{IsValueLent}
 
 -- ---- one entry
 

@@ -1,13 +1,10 @@
 -- What a reply lends, against what was found.
-use Rattle.shr_audit_values.proofs.Common.{◌≡◌, ℕ, Bool, List, Option, Some, sym, ap, ◌∙◌, Decides, Place, Report, at}
-use Rattle.std.specs.Prelude.{option_map}
+use Rattle.shr_audit_values.proofs.Common.{◌≡◌, ℕ, Bool, List, Option, Some, sym, ap, ◌∙◌, Decides, Place, Report, at, option_map, answer_at, IsLentTo}
 use Rattle.shr_base.specs.declared.places.At.{At}
 use Rattle.shr_base.specs.declared.places.Serial.{Serial}
 use Rattle.shr_base.specs.declared.replies.Answered.{Answered}
 use Rattle.shr_base.specs.declared.replies.Reply.{Reply}
 use Rattle.shr_base.specs.declared.replies.Reply.TheVariants.{Hit}
-use Rattle.shr_report.specs.Parts.{answer_at}
-use Rattle.shr_audit_values.specs.Lent.{IsLentTo}
 use Rattle.shr_case.proofs.Firsts.{some_is}
 
 hit_value : (c d : At) (v w : List ℕ) → Hit c v ≡ Hit d w → v ≡ w

@@ -1,14 +1,11 @@
 -- Versions noted one after_suc another.
-use Rattle.shr_audit_versions.proofs.Common.{◌≡◌, ℕ, ◌<◌, ◌≤◌, Bool, true, false, List, length, get_or, take, map, flat_map, Option, None, refl, sym, ap, subst, ◌∙◌, arith, Decides, Place, WalkRecord, counts_of, versions_at, AreNotFalling, Notes, if_here}
-use Rattle.std.proofs.Common.{zero, suc, ◌+◌, cond, [], ◌∷◌, ◌++◌, drop, filter}
+use Rattle.shr_audit_versions.proofs.Common.{◌≡◌, ℕ, ◌<◌, ◌≤◌, Bool, true, false, List, length, get_or, take, map, flat_map, Option, None, refl, sym, ap, subst, ◌∙◌, arith, Decides, Place, WalkRecord, counts_of, versions_at, AreNotFalling, Notes, if_here, zero, suc, ◌+◌, cond, [], ◌∷◌, ◌++◌, drop, filter, place_in, NotFallingFrom, NotFallingOn, Versions, fits, last_at, place_key, read_as}
 use Rattle.std.specs.Prelude.{nat_eq}
 use Rattle.std.specs.HashMap.{get}
 use Rattle.std.proofs.lemmas.List.{append-nil, append_assoc, take_more, take_all, take-append-drop}
 use Rattle.std.proofs.lemmas.List.Concat.{flat_map-append}
 use Rattle.shr_base.specs.declared.walks.Attempt.{Attempt}
 use Rattle.shr_model.specs.Places.{is_place}
-use Rattle.shr_model.specs.Walks.{place_in}
-use Rattle.shr_audit_versions.specs.Table.{NotFallingFrom, NotFallingOn, Versions, fits, last_at, place_key, read_as}
 use Rattle.shr_model.proofs.Numbers.{after_suc}
 
 -- ---- tables and lists of the same

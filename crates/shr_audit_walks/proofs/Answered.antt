@@ -1,13 +1,10 @@
 -- What commands are answered, gone through worker by worker.
-use Rattle.shr_audit_walks.proofs.Common.{◌≡◌, ℕ, suc, ◌<◌, ◌≤◌, Bool, true, false, cond, List, [], ◌∷◌, length, get_or, Option, Some, refl, sym, ap, subst, ◌∙◌, arith, ◌==◌, filter, slice_get, Decides, slice_get-get_or, nat_tests, WorkerPart, Answered, Script, WalkRecord, Report, serial_of, walks_in, Each, all_at, clash, StandByCommand, IsAnswerTold, IsPartTold, walks_with}
-use Rattle.std.specs.Prelude.{◌&&◌}
+use Rattle.shr_audit_walks.proofs.Common.{◌≡◌, ℕ, suc, ◌<◌, ◌≤◌, Bool, true, false, cond, List, [], ◌∷◌, length, get_or, Option, Some, refl, sym, ap, subst, ◌∙◌, arith, ◌==◌, filter, slice_get, Decides, slice_get-get_or, nat_tests, WorkerPart, Answered, Script, WalkRecord, Report, serial_of, walks_in, EachItem, all_at, clash, StandByCommand, IsAnswerTold, IsPartTold, walks_with, ◌&&◌, command_at, walks_by, EachAnswer, IsWorkerCommand}
 use Rattle.shr_base.specs.declared.replies.Reply.{Reply}
 use Rattle.shr_base.specs.declared.scripts.Command.{Command}
 use Rattle.shr_model.specs.Commands.{is_serial}
-use Rattle.shr_report.specs.Parts.{command_at, walks_by, EachAnswer}
 use Rattle.shr_report.specs.WalksLawful.{IsToldBy}
 use Rattle.shr_report.specs.WellFormed.{IsWellFormed}
-use Rattle.shr_formed.specs.Each.{IsOf}
 use Rattle.shr_formed.proofs.WellParts.{parts_of}
 use Rattle.shr_case.specs.Each.{AnswersInParts}
 use Rattle.shr_case.proofs.Eachs.{each_answer_of}
@@ -16,7 +13,7 @@ pub same_test : (worker n a b : ℕ) → a ≡ worker → ((worker == a) && (n =
 same_test worker n a b e = grind (arith, nat_tests)
 
 -- of walks of one worker, those of a serial are those of its number
-pub own_walks : (worker n answers : ℕ) (walks : List WalkRecord) → Each (λ x. IsOf worker answers x.by) walks → filter (λ (w : WalkRecord). is_serial (serial_of worker n) w.by) walks ≡ walks_with walks n
+pub own_walks : (worker n answers : ℕ) (walks : List WalkRecord) → EachItem (λ x. IsWorkerCommand worker answers x.by) walks → filter (λ (w : WalkRecord). is_serial (serial_of worker n) w.by) walks ≡ walks_with walks n
 own_walks worker n answers [] h = refl
 own_walks worker n answers (w ∷ ws) h =
     ap (λ (t : Bool). cond t (w ∷ filter (λ (x : WalkRecord). is_serial (serial_of worker n) x.by) ws) (filter (λ (x : WalkRecord). is_serial (serial_of worker n) x.by) ws)) (same_test worker n w.by.worker w.by.command (h 0 w refl).0)

@@ -1,10 +1,6 @@
 -- The arithmetic of a pass, by the number and the size of the asks that were due.
-use Rattle.shr_audit_walks.proofs.Common.{◌≡◌, ℕ, ◌*◌, ◌/◌, ◌<◌, ◌≤◌, Bool, true, false, take, refl, sym, ap, ◌∙◌, arith, nat_le, replicate, Decides, common_steps, nat_tests, PassRecord, due, ask_size, batch_of, total_of, next_of, MadeOf}
-use Rattle.std.proofs.Common.{◌^◌}
-use Rattle.std.specs.Prelude.{min, sum}
+use Rattle.shr_audit_walks.proofs.Common.{◌≡◌, ℕ, ◌*◌, ◌/◌, ◌<◌, ◌≤◌, Bool, true, false, take, refl, sym, ap, ◌∙◌, arith, nat_le, replicate, Decides, common_steps, nat_tests, PassRecord, due, ask_size, batch_of, total_of, next_of, MadeOf, ◌^◌, min, sum, length-replicate, due_asks, delta_of, FollowsArithmetic}
 use Rattle.std.proofs.Math.Nat.{pow-le-pow_right, div-eq_of_lt}
-use Rattle.std.proofs.lemmas.List.{length-replicate}
-use Rattle.shr_model.specs.Pass.{due_asks, delta_of, FollowsArithmetic}
 use Rattle.shr_model.proofs.PassLaws.{asks_sum}
 
 -- halved more often than it has bits, nothing is left of a number

@@ -1,9 +1,6 @@
 -- Items with rising keys: those of one key stand together.
-use Rattle.shr_audit_walks.proofs.Common.{◌≡◌, ℕ, zero, suc, ◌-◌, ◌<◌, ◌≤◌, Bool, true, false, cond, List, [], ◌∷◌, length, take, Some, refl, sym, ap, ◌∙◌, arith, ◌==◌, filter, nat_lt, nat_le, slice_get, nat_tests, common_steps, WalkRecord, StandByCommand}
-use Rattle.std.proofs.Common.{drop}
+use Rattle.shr_audit_walks.proofs.Common.{◌≡◌, ℕ, zero, suc, ◌-◌, ◌<◌, ◌≤◌, Bool, true, false, cond, List, [], ◌∷◌, length, take, Some, refl, sym, ap, ◌∙◌, arith, ◌==◌, filter, nat_lt, nat_le, slice_get, nat_tests, common_steps, WalkRecord, StandByCommand, drop, IsNonDecreasingBy-from_all_adjacent, below_of}
 use Rattle.std.specs.List.Sorted.{IsPartitionedBy, IsNonDecreasingBy}
-use Rattle.std.proofs.lemmas.List.Sorted.{IsNonDecreasingBy-from_all_adjacent}
-use Rattle.shr_formed.proofs.Eachs.{below_of}
 use Rattle.shr_model.proofs.Booleans.{is_same}
 
 other : (a k : ℕ) → (a ≡ k → ⊥) → (a == k) ≡ false

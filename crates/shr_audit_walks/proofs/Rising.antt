@@ -1,12 +1,9 @@
 -- Numbers from 0 up, as far as they are seen, and the ids of the bits of a word.
-use Rattle.shr_audit_walks.proofs.Common.{◌≡◌, ℕ, zero, suc, ◌+◌, ◌*◌, ◌<◌, ◌≤◌, Bool, true, false, cond, List, [], ◌∷◌, ◌++◌, length, get_or, map, filter, take, refl, sym, ap, subst, ◌∙◌, arith, Decides, range_with_len, append-nil, length-map, common_steps, ids_in}
-use Rattle.std.proofs.Common.{append_assoc}
-use Rattle.std.proofs.lemmas.List.{map-append, get_or-map, map_more, take-map}
+use Rattle.shr_audit_walks.proofs.Common.{◌≡◌, ℕ, zero, suc, ◌+◌, ◌*◌, ◌<◌, ◌≤◌, Bool, true, false, cond, List, [], ◌∷◌, ◌++◌, length, get_or, map, filter, take, refl, sym, ap, subst, ◌∙◌, arith, Decides, range_with_len, append-nil, length-map, common_steps, ids_in, append_assoc, map-append, get_or-map, map_more, take-map, is_set}
 use Rattle.std.proofs.lemmas.List.FromFn.{length-range_with_len, get_or-range_with_len}
 use Rattle.std.proofs.lemmas.List.Elements.{filter-append}
-use Rattle.shr_model.specs.Bits.{is_set}
 use Rattle.shr_model.specs.Prefixes.{IsPrefixOf}
-use Rattle.shr_audit_walks.specs.Seen.{ids_below}
+use Rattle.shr_audit_walks.specs.Seen.{ids_set_below}
 use Rattle.shr_formed.proofs.Strip.{range_more}
 
 pub take_range : (a n k : ℕ) → k ≤ n → take k (range_with_len a n) ≡ range_with_len a k
@@ -51,32 +48,32 @@ one_more f xs i d lt at h =
 
 -- ---- the bits of a word
 
-ids_are : (unit bits : ℕ) → ids_below unit bits 64 ≡ ids_in unit bits
-unfolding ids_below
+ids_are : (unit bits : ℕ) → ids_set_below unit bits 64 ≡ ids_in unit bits
+unfolding ids_set_below
 ids_are unit bits = refl
 
-pub ids_whole : (unit bits i : ℕ) → i ≡ 64 → ids_below unit bits i ≡ ids_in unit bits
-ids_whole unit bits i e = ap (ids_below unit bits) e ∙ ids_are unit bits
+pub ids_whole : (unit bits i : ℕ) → i ≡ 64 → ids_set_below unit bits i ≡ ids_in unit bits
+ids_whole unit bits i e = ap (ids_set_below unit bits) e ∙ ids_are unit bits
 
-ids_step : (unit bits n : ℕ) → ids_below unit bits (n + 1) ≡ ids_below unit bits n ++ map (λ (bit : ℕ). 64 * unit + bit) (cond (is_set bits n) (n ∷ []) [])
-unfolding ids_below
+ids_step : (unit bits n : ℕ) → ids_set_below unit bits (n + 1) ≡ ids_set_below unit bits n ++ map (λ (bit : ℕ). 64 * unit + bit) (cond (is_set bits n) (n ∷ []) [])
+unfolding ids_set_below
 ids_step unit bits n =
     ap (λ (xs : List ℕ). map (λ (bit : ℕ). 64 * unit + bit) (filter (is_set bits) xs)) (range_more 0 n n (omega arith))
     ∙ ap (map (λ (bit : ℕ). 64 * unit + bit)) (filter-append (is_set bits) (range_with_len 0 n) (n ∷ []))
     ∙ map-append (λ (bit : ℕ). 64 * unit + bit) (filter (is_set bits) (range_with_len 0 n)) (cond (is_set bits n) (n ∷ []) [])
 
-pub no_ids : (unit bits : ℕ) → ids_below unit bits 0 ≡ []
-unfolding ids_below
+pub no_ids : (unit bits : ℕ) → ids_set_below unit bits 0 ≡ []
+unfolding ids_set_below
 no_ids unit bits = refl
 
-pub id_added : (old start new : List ℕ) (unit bits n : ℕ) → start ≡ old ++ ids_below unit bits n → is_set bits n ≡ true → new ≡ start ++ (64 * unit + n) ∷ [] → new ≡ old ++ ids_below unit bits (n + 1)
+pub id_added : (old start new : List ℕ) (unit bits n : ℕ) → start ≡ old ++ ids_set_below unit bits n → is_set bits n ≡ true → new ≡ start ++ (64 * unit + n) ∷ [] → new ≡ old ++ ids_set_below unit bits (n + 1)
 id_added old start new unit bits n s is e =
-    let step = ids_step unit bits n ∙ ap (λ (b : Bool). ids_below unit bits n ++ map (λ (bit : ℕ). 64 * unit + bit) (cond b (n ∷ []) [])) is in
-    e ∙ ap (λ (xs : List ℕ). xs ++ (64 * unit + n) ∷ []) s ∙ append_assoc old (ids_below unit bits n) ((64 * unit + n) ∷ []) ∙ ap (λ (xs : List ℕ). old ++ xs) (sym step)
+    let step = ids_step unit bits n ∙ ap (λ (b : Bool). ids_set_below unit bits n ++ map (λ (bit : ℕ). 64 * unit + bit) (cond b (n ∷ []) [])) is in
+    e ∙ ap (λ (xs : List ℕ). xs ++ (64 * unit + n) ∷ []) s ∙ append_assoc old (ids_set_below unit bits n) ((64 * unit + n) ∷ []) ∙ ap (λ (xs : List ℕ). old ++ xs) (sym step)
 
-pub id_passed : (old start : List ℕ) (unit bits n : ℕ) → start ≡ old ++ ids_below unit bits n → is_set bits n ≡ false → start ≡ old ++ ids_below unit bits (n + 1)
+pub id_passed : (old start : List ℕ) (unit bits n : ℕ) → start ≡ old ++ ids_set_below unit bits n → is_set bits n ≡ false → start ≡ old ++ ids_set_below unit bits (n + 1)
 id_passed old start unit bits n s isnt =
-    let step = ids_step unit bits n ∙ ap (λ (b : Bool). ids_below unit bits n ++ map (λ (bit : ℕ). 64 * unit + bit) (cond b (n ∷ []) [])) isnt ∙ append-nil (ids_below unit bits n) in
+    let step = ids_step unit bits n ∙ ap (λ (b : Bool). ids_set_below unit bits n ++ map (λ (bit : ℕ). 64 * unit + bit) (cond b (n ∷ []) [])) isnt ∙ append-nil (ids_set_below unit bits n) in
     s ∙ ap (λ (xs : List ℕ). old ++ xs) (sym step)
 
 -- ---- whole lists

@@ -1,11 +1,7 @@
 -- What a walk shows by itself is what the law on walks asks of it in these fields.
-use Rattle.shr_audit_walks.proofs.Common.{◌≡◌, ℕ, true, Some, slice_get, AllByRecursion, Script, Attempt, PassRecord, WalkRecord, counts_of, pass_of, place_in, Report, IsCount, Each, IsShaped, AreCountsAt, IsKindAt, IsStopAt}
+use Rattle.shr_audit_walks.proofs.Common.{◌≡◌, ℕ, true, Some, slice_get, AllByRecursion, Script, Attempt, PassRecord, WalkRecord, counts_of, pass_of, place_in, Report, IsCountRight, EachItem, IsShaped, AreCountsAt, IsKindAt, IsStopAt, is_held, is_cut, IsLawfulWalk, IsBegun, IsLastOfCut, IsStopped, IsOutcomeOf, EachPass, cache_of, EachAttempt}
 use Rattle.std.specs.Option.{IsSomeAnd}
 use Rattle.shr_base.specs.declared.walks.Ending.TheVariants as ending
-use Rattle.shr_model.specs.Attempts.{is_held}
-use Rattle.shr_model.specs.Walks.{is_cut}
-use Rattle.shr_report.specs.LawfulWalk.{IsLawfulWalk, IsBegun, IsLastOfCut, IsStopped, IsOutcomeOf, EachPass, cache_of}
-use Rattle.shr_report.specs.Parts.{EachAttempt}
 
 -- a lawful walk shows it
 pub shaped_of : (s : Script) (r : Report) (worker n : ℕ) (w : WalkRecord) → IsLawfulWalk s r worker n w → IsShaped s w
@@ -26,11 +22,11 @@ pub memory_of : (s : Script) (w : WalkRecord) → IsShaped s w
 memory_of s w h = (h.begun, λ k a p at ran ended. h.room k a at p ran ended)
 
 -- its counts, kinds and stops are those of the law
-pub counts_are : (s : Script) (r : Report) (w : WalkRecord) → Each (AreCountsAt s r w) w.attempts.items → EachAttempt w (λ a. AllByRecursion (IsCount s r (place_in w a.id)) (counts_of a.outcome))
+pub counts_are : (s : Script) (r : Report) (w : WalkRecord) → EachItem (AreCountsAt s r w) w.attempts.items → EachAttempt w (λ a. AllByRecursion (IsCountRight s r (place_in w a.id)) (counts_of a.outcome))
 counts_are s r w h = h
 
-pub kinds_are : (s : Script) (r : Report) (w : WalkRecord) → Each (IsKindAt s r w.priority) w.attempts.items → EachAttempt w (λ a. is_held a.outcome ≡ true → IsSomeAnd (cache_of s r a) (λ d. IsOutcomeOf w.priority d a.outcome))
+pub kinds_are : (s : Script) (r : Report) (w : WalkRecord) → EachItem (IsKindAt s r w.priority) w.attempts.items → EachAttempt w (λ a. is_held a.outcome ≡ true → IsSomeAnd (cache_of s r a) (λ d. IsOutcomeOf w.priority d a.outcome))
 kinds_are s r w h = h
 
-pub stops_are : (s : Script) (r : Report) (w : WalkRecord) → Each (IsStopAt s r w) w.attempts.items → EachPass s r w (λ place d p. IsStopped w d p)
+pub stops_are : (s : Script) (r : Report) (w : WalkRecord) → EachItem (IsStopAt s r w) w.attempts.items → EachPass s r w (λ place d p. IsStopped w d p)
 stops_are s r w h = h

@@ -1,9 +1,5 @@
 -- The words before the last one, and what passes freed.
-use Rattle.shr_audit_walks.proofs.Common.{◌≡◌, ℕ, suc, ◌+◌, ◌-◌, ◌<◌, ◌≤◌, Bool, List, [], ◌∷◌, ◌++◌, length, take, Option, Some, None, refl, sym, ap, subst, ◌∙◌, arith, flat_map, sum_by, Decides, sum_by-cons, common_steps, Attempt, MapSeen, PassRecord, WalkRecord, pass_of, ids_in, AreTried, freed_by, freed_in}
-use Rattle.std.specs.Prelude.{filter_map}
-use Rattle.std.specs.List.{cons_option}
-use Rattle.std.proofs.lemmas.List.{length-append}
-use Rattle.shr_model.specs.Walks.{freed_of}
+use Rattle.shr_audit_walks.proofs.Common.{◌≡◌, ℕ, suc, ◌+◌, ◌-◌, ◌<◌, ◌≤◌, Bool, List, [], ◌∷◌, ◌++◌, length, take, Option, Some, None, refl, sym, ap, subst, ◌∙◌, arith, flat_map, sum_by, Decides, sum_by-cons, common_steps, Attempt, MapSeen, PassRecord, WalkRecord, pass_of, ids_in, AreTried, pass_freed, attempt_freed, filter_map, cons_option, length-append, freed_of}
 
 -- all but the last
 front_is : {X : Type 0} (xs before : List X) (last : X) → xs ≡ before ++ last ∷ [] → take (length xs - 1) xs ≡ before
@@ -39,13 +35,13 @@ before_tried maps seen attempts b e lt d = (
 )
 
 -- what passes freed, attempt by attempt
-freed_sum : (attempts : List Attempt) → sum_by (λ (p : PassRecord). p.freed) (filter_map (λ (a : Attempt). pass_of a.outcome) attempts) ≡ sum_by freed_in attempts
+freed_sum : (attempts : List Attempt) → sum_by (λ (p : PassRecord). p.freed) (filter_map (λ (a : Attempt). pass_of a.outcome) attempts) ≡ sum_by attempt_freed attempts
 freed_sum [] = refl
-freed_sum (a ∷ more) = step (pass_of a.outcome) (filter_map (λ (x : Attempt). pass_of x.outcome) more) (freed_sum more) ∙ sym (sum_by-cons freed_in a more)
+freed_sum (a ∷ more) = step (pass_of a.outcome) (filter_map (λ (x : Attempt). pass_of x.outcome) more) (freed_sum more) ∙ sym (sum_by-cons attempt_freed a more)
   where
-    step : (o : Option PassRecord) (ps : List PassRecord) → sum_by (λ (p : PassRecord). p.freed) ps ≡ sum_by freed_in more → sum_by (λ (p : PassRecord). p.freed) (cons_option o ps) ≡ freed_by o + sum_by freed_in more
+    step : (o : Option PassRecord) (ps : List PassRecord) → sum_by (λ (p : PassRecord). p.freed) ps ≡ sum_by attempt_freed more → sum_by (λ (p : PassRecord). p.freed) (cons_option o ps) ≡ pass_freed o + sum_by attempt_freed more
     step None ps e = omega arith
     step (Some p) ps e = sum_by-cons (λ (q : PassRecord). q.freed) p ps ∙ ap (λ (n : ℕ). p.freed + n) e
 
-pub told_freed : (w : WalkRecord) (told : ℕ) (b : Bool) → Decides b (told ≡ sum_by freed_in w.attempts.items) → Decides b (told ≡ freed_of w)
+pub told_freed : (w : WalkRecord) (told : ℕ) (b : Bool) → Decides b (told ≡ sum_by attempt_freed w.attempts.items) → Decides b (told ≡ freed_of w)
 told_freed w told b d = (λ t. d.0 t ∙ sym (freed_sum w.attempts.items), λ h. d.1 (h ∙ freed_sum w.attempts.items))

@@ -1,5 +1,5 @@
 -- What is asked of walks, at known values.
-use Rattle.shr_audit_walks.proofs.Common.{◌≡◌, ℕ, ◌≤◌, false, List, [], ◌∷◌, ◌++◌, length, None, refl, arith, flat_map, Attempt, MapSeen, PassRecord, WalkRecord, ids_in, parents_of, serial_of, IsCountIn, IsKindAt, IsStopAt, ScanSeen, AreTried, IsRoomAt, freed_by, freed_in, made_of, freed_of_scan, IsScanOf, StandByCommand, IsAnswerTold, walks_with}
+use Rattle.shr_audit_walks.proofs.Common.{◌≡◌, ℕ, ◌≤◌, false, List, [], ◌∷◌, ◌++◌, length, None, refl, arith, flat_map, Attempt, MapSeen, PassRecord, WalkRecord, ids_in, parents_of, serial_of, IsCountIn, IsKindAt, IsStopAt, ScanSeen, AreTried, IsRoomAt, pass_freed, attempt_freed, made_of_scan, freed_of_scan, IsScanAfter, StandByCommand, IsAnswerTold, walks_with, as_count, IsBareOffline, IsWalkWhole, IsWalkMapped, IsOfRoot, AreFirstTries, IsRoomLast}
 use Rattle.shr_base.specs.declared.objects.Policy.TheVariants.{Plain, Halt}
 use Rattle.shr_base.specs.declared.walks.Ending.{Ending}
 use Rattle.shr_base.specs.declared.walks.Ending.TheVariants.{Through, NoRoom}
@@ -7,12 +7,10 @@ use Rattle.shr_base.specs.declared.walks.GoneThen.TheVariants as gone
 use Rattle.shr_base.specs.declared.walks.Outcome.TheVariants as outcome
 use Rattle.shr_base.specs.declared.walks.WalkAnswer.{WalkAnswer}
 use Rattle.shr_base.specs.declared.walks.WalkAnswer.TheVariants.{Walked, Offline, Memory}
-use Rattle.shr_model.specs.Attempts.{counted}
 use Rattle.shr_model.specs.Items.{items_from}
 use Rattle.shr_report.proofs.ThirdReport.{place_of, script, report}
 use Rattle.shr_report.proofs.SecondReport.{kept}
-use Rattle.shr_audit_walks.specs.Seen.{ids_below}
-use Rattle.shr_audit_walks.specs.Fields.{IsBareOffline, IsWhole, IsMapped, IsOfRoot, AreFirstTries, IsRoomLast}
+use Rattle.shr_audit_walks.specs.Seen.{ids_set_below}
 use Rattle.shr_base.specs.declared.replies.Reply.TheVariants as reply
 use Rattle.shr_base.specs.declared.replies.Reply.TheVariants.{Root}
 use Rattle.shr_base.specs.declared.scripts.Command.TheVariants.{Shrink}
@@ -34,8 +32,8 @@ walk group maps attempts answer = record { by = serial_of 0 3; group = group; no
 
 -- ---- maps and attempts
 
-first_two_bits : ids_below 1 7 2 ≡ 64 ∷ 65 ∷ []
-unfolding ids_below
+first_two_bits : ids_set_below 1 7 2 ≡ 64 ∷ 65 ∷ []
+unfolding ids_set_below
 first_two_bits = refl
 
 bare : IsBareOffline (walk 1 [] [] (Offline 4))
@@ -44,13 +42,13 @@ bare entry e = (refl, refl)
 not_bare : IsBareOffline (walk 1 (word 0 ∷ []) [] (Offline 4)) → ⊥
 not_bare h = let none : ◌≡◌ {A = List MapSeen} (word 0 ∷ []) [] = (h 4 refl).0 in cc
 
-whole : IsWhole 3 (walk 1 (word 5 ∷ []) (gone_at 0 ∷ gone_at 2 ∷ []) (Walked 0))
+whole : IsWalkWhole 3 (walk 1 (word 5 ∷ []) (gone_at 0 ∷ gone_at 2 ∷ []) (Walked 0))
 whole = (refl, refl)
 
-bit_left_out : IsMapped 3 (walk 1 (word 5 ∷ []) (gone_at 0 ∷ []) (Walked 0)) → ⊥
+bit_left_out : IsWalkMapped 3 (walk 1 (word 5 ∷ []) (gone_at 0 ∷ []) (Walked 0)) → ⊥
 bit_left_out h = let ids : ◌≡◌ {A = List ℕ} (0 ∷ []) (0 ∷ 2 ∷ []) = (h 0 refl (λ e. absurd (omega arith))).1 in cc
 
-mapped_if_cut : IsMapped 3 (walk 1 [] [] (Memory 0))
+mapped_if_cut : IsWalkMapped 3 (walk 1 [] [] (Memory 0))
 mapped_if_cut freed e below = absurd (cc)
 
 of_root : IsOfRoot 2 (walk 0 [] (gone_at 0 ∷ gone_at 1 ∷ []) (Walked 0))
@@ -84,10 +82,10 @@ no_room_last p e f = record { cut = refl; last = refl }
 no_room_before : IsRoomLast (walk 1 (word 5 ∷ []) (ran NoRoom ∷ gone_at 2 ∷ []) (Memory 5)) → ⊥
 no_room_before h = let last : ◌≡◌ {A = ℕ} 2 1 = (h 0 (ran NoRoom) refl (pass NoRoom) refl refl).last in absurd (omega arith)
 
-freed_by_none : freed_by None ≡ 0
+freed_by_none : pass_freed None ≡ 0
 freed_by_none = refl
 
-freed_in_pass : freed_in (ran Through) ≡ 5
+freed_in_pass : attempt_freed (ran Through) ≡ 5
 freed_in_pass = refl
 
 -- ---- lookups, scans, counts and commands
@@ -95,19 +93,19 @@ freed_in_pass = refl
 abbrev scan : ScanSeen
 scan = record { worker = 0; walk = 2; place = record { id = 0; node = 0; group = 1 }; number = 4; asked = 128; policy = Plain; freed = 6 }
 
-made : (made_of scan).number ≡ 4
+made : (made_of_scan scan).number ≡ 4
 made = refl
 
 freed_six : freed_of_scan scan ≡ 6
 freed_six = refl
 
-scan_of : IsScanOf 128 Plain 4 scan
+scan_of : IsScanAfter 128 Plain 4 scan
 scan_of = (refl, (refl, omega arith))
 
-scan_before : IsScanOf 128 Plain 5 scan → ⊥
+scan_before : IsScanAfter 128 Plain 5 scan → ⊥
 scan_before h = let le : 5 ≤ 4 = h.1.1 in absurd (omega arith)
 
-scan_of_other : IsScanOf 128 Halt 4 scan → ⊥
+scan_of_other : IsScanAfter 128 Halt 4 scan → ⊥
 scan_of_other h = let policies = h.1.0 in cc
 
 abbrev by_command : ℕ → WalkRecord
@@ -118,11 +116,11 @@ falls h = let le : 3 ≤ 2 = h 0 (by_command 3) (by_command 2) refl refl in absu
 
 -- ---- counts, kinds and stops, in a report of three objects
 
-count_of_none : IsCountIn (parents_of script) report (place_of 2) (counted 0 0)
+count_of_none : IsCountIn (parents_of script) report (place_of 2) (as_count 0 0)
 unfolding items_from
 count_of_none = record { there = omega arith; len = refl }
 
-count_past : IsCountIn (parents_of script) report (place_of 2) (counted 0 9) → ⊥
+count_past : IsCountIn (parents_of script) report (place_of 2) (as_count 0 9) → ⊥
 count_past h = let le : 9 ≤ 4 = h.there in absurd (omega arith)
 
 gone_of_none : IsKindAt script report 1 (gone_at 0)

@@ -9,7 +9,7 @@ use Rattle.shr_model.specs.Attempts.{Count, counts_of}
 use Rattle.shr_model.specs.Families.{items_at}
 use Rattle.shr_model.specs.Walks.{place_in}
 use Rattle.shr_report.specs.declared.report.Report.{Report}
-use Rattle.shr_report.specs.LawfulWalk.{IsCount}
+use Rattle.shr_report.specs.LawfulWalk.{IsCountRight}
 use Rattle.shr_report.specs.Parts.{journals_of}
 
 -- a count of a place is right, in a tree with these parents
@@ -23,4 +23,4 @@ AreCountsIn parents r w a = AllByRecursion (IsCountIn parents r (place_in w a.id
 
 -- each is, in the tree of the script
 abbrev pub AreCountsAt : Script → Report → WalkRecord → Attempt → Type 0
-AreCountsAt s r w a = AllByRecursion (IsCount s r (place_in w a.id)) (counts_of a.outcome)
+AreCountsAt s r w a = AllByRecursion (IsCountRight s r (place_in w a.id)) (counts_of a.outcome)

@@ -13,19 +13,19 @@ use Rattle.shr_model.specs.Bits.{units_of, ids_in}
 use Rattle.shr_model.specs.Walks.{units_seen, ids_seen, ids_tried, is_cut, freed_of, freed_told}
 use Rattle.shr_model.specs.Prefixes.{IsPrefixOf}
 use Rattle.shr_report.specs.LawfulWalk.{IsBegun, IsLastOfCut, IsPlaced}
-use Rattle.shr_formed.specs.Each.{Each}
+use Rattle.shr_formed.specs.Each.{EachItem}
 
 -- a walk that found its group offline has no map and no attempt
 abbrev pub IsBareOffline : WalkRecord → Type 0
 IsBareOffline w = (entry : ℕ) → w.answer ≡ Offline entry → (w.maps.items ≡ []) × (w.attempts.items ≡ [])
 
 -- it has a map for each unit, and an attempt for each set bit
-abbrev pub IsWhole : ℕ → WalkRecord → Type 0
-IsWhole ids w = (units_seen w ≡ units_of ids) × (ids_tried w ≡ ids_seen w)
+abbrev pub IsWalkWhole : ℕ → WalkRecord → Type 0
+IsWalkWhole ids w = (units_seen w ≡ units_of ids) × (ids_tried w ≡ ids_seen w)
 
 -- so has one below the root that went through
-abbrev pub IsMapped : ℕ → WalkRecord → Type 0
-IsMapped ids w = (freed : ℕ) → w.answer ≡ Walked freed → w.group ≢ 0 → IsWhole ids w
+abbrev pub IsWalkMapped : ℕ → WalkRecord → Type 0
+IsWalkMapped ids w = (freed : ℕ) → w.answer ≡ Walked freed → w.group ≢ 0 → IsWalkWhole ids w
 
 -- one of the root has no map, and unless it was cut an attempt for each id
 abbrev pub IsOfRoot : ℕ → WalkRecord → Type 0
@@ -53,20 +53,20 @@ abbrev pub IsRoomLast : WalkRecord → Type 0
 IsRoomLast w = (k : ℕ) (a : Attempt) → slice_get w.attempts.items k ≡ Some a → IsRoomAt w k a
 
 -- what a pass freed, nothing where none ran
-abbrev pub freed_by : Option PassRecord → ℕ
-freed_by None = 0
-freed_by (Some p) = p.freed
+abbrev pub pass_freed : Option PassRecord → ℕ
+pass_freed None = 0
+pass_freed (Some p) = p.freed
 
 -- what the pass of an attempt freed
-abbrev pub freed_in : Attempt → ℕ
-freed_in a = freed_by (pass_of a.outcome)
+abbrev pub attempt_freed : Attempt → ℕ
+attempt_freed a = pass_freed (pass_of a.outcome)
 
 -- what a walk shows by itself, and against the number of ids of its script, is as in a lawful one
 pub record IsShaped (s : Script) (w : WalkRecord) : Type 0 where
   pub offline : IsBareOffline w
-  pub mapped : IsMapped s.ids w
+  pub mapped : IsWalkMapped s.ids w
   pub root : IsOfRoot s.ids w
   pub begun : IsCutBegun s w
   pub room : IsRoomLast w
-  pub placed : Each (λ (a : Attempt). IsPlaced w.group a.outcome) w.attempts.items
+  pub placed : EachItem (λ (a : Attempt). IsPlaced w.group a.outcome) w.attempts.items
   pub freed : freed_told w.answer ≡ freed_of w

@@ -4,5 +4,5 @@ use Rattle.std.specs.List.{range_with_len}
 use Rattle.shr_model.specs.Bits.{is_set}
 
 -- the ids that the set ones of the first so many bits stand for
-unfoldable pub ids_below : ℕ → ℕ → ℕ → List ℕ
-ids_below unit bits n = map (λ bit. 64 * unit + bit) (filter (is_set bits) (range_with_len 0 n))
+unfoldable pub ids_set_below : ℕ → ℕ → ℕ → List ℕ
+ids_set_below unit bits n = map (λ bit. 64 * unit + bit) (filter (is_set bits) (range_with_len 0 n))

@@ -8,9 +8,9 @@ ghost use Rattle.shr_base.specs.declared.walks.MapSeen.{MapSeen};
 ghost use Rattle.shr_model.specs.Attempts.{pass_of};
 ghost use Rattle.shr_model.specs.Bits.{units_of};
 ghost use Rattle.shr_model.specs.Walks.{freed_of, freed_told, is_cut};
-ghost use Rattle.shr_formed.specs.Each.{Each};
+ghost use Rattle.shr_formed.specs.Each.{EachItem};
 ghost use Rattle.shr_report.specs.LawfulWalk.{IsBegun, IsPlaced};
-ghost use Rattle.shr_audit_walks.specs.Fields.{AreFirstTries, AreTried, IsBareOffline, IsCutBegun, IsMapped, IsOfRoot, IsRoomAt, IsRoomLast, IsWhole, freed_in};
+ghost use Rattle.shr_audit_walks.specs.Fields.{AreFirstTries, AreTried, IsBareOffline, IsCutBegun, IsWalkMapped, IsOfRoot, IsRoomAt, IsRoomLast, IsWalkWhole, attempt_freed};
 
 use crate::seen::{ids_seen, tries_begin, tries_rise, units_rise};
 use shr_base::memory::Memory;
@@ -94,7 +94,7 @@ fn are_all_tried(attempts: &[Attempt], ids: u16) -> bool
 
 // Whether a walk has a map for each unit, and an attempt for each set bit.
 fn is_whole(alloc: Global, ids: u16, walk: &WalkRecord) -> Result<bool, Memory>
-    ensures { IfOk result (λ b. Decides b (IsWhole ids walk.now)) }
+    ensures { IfOk result (λ b. Decides b (IsWalkWhole ids walk.now)) }
 {
     let maps = walk.maps.as_slice();
     if !are_units(maps, ids) {
@@ -108,7 +108,7 @@ fn is_whole(alloc: Global, ids: u16, walk: &WalkRecord) -> Result<bool, Memory>
 /// Whether a walk below the root, if it went through, has a map for each unit, and an attempt for
 /// each set bit. Our own.
 pub fn is_mapped(alloc: Global, ids: u16, walk: &WalkRecord) -> Result<bool, Memory>
-    ensures { IfOk result (λ b. Decides b (IsMapped ids walk.now)) }
+    ensures { IfOk result (λ b. Decides b (IsWalkMapped ids walk.now)) }
 {
     if walk.group == 0 {
         return Ok(true);
@@ -234,7 +234,7 @@ fn is_placed(group: u16, outcome: &Outcome) -> bool
 
 /// Whether each outcome may stand in a walk of this group. Our own.
 pub fn are_placed(group: u16, attempts: &[Attempt]) -> bool
-    ensures { Decides result (Each (λ a. IsPlaced group a.outcome) attempts.now) }
+    ensures { Decides result (EachItem (λ a. IsPlaced group a.outcome) attempts.now) }
 {
     for attempt in attempts {
         if !is_placed(group, &attempt.outcome) {
@@ -246,7 +246,7 @@ pub fn are_placed(group: u16, attempts: &[Attempt]) -> bool
 
 // What the pass of an attempt freed.
 fn freed_in(attempt: &Attempt) -> u64
-    ensures { result ≡ freed_in attempt.now }
+    ensures { result ≡ attempt_freed attempt.now }
 {
     match pass_of(&attempt.outcome) {
         Some(pass) => pass.freed,
@@ -256,7 +256,7 @@ fn freed_in(attempt: &Attempt) -> u64
 
 // Whether the passes of these attempts freed so much.
 fn frees(attempts: &[Attempt], told: u64) -> bool
-    ensures { Decides result (told ≡ sum_by freed_in attempts.now) }
+    ensures { Decides result (told ≡ sum_by attempt_freed attempts.now) }
 {
     let mut left = told;
     for attempt in attempts {

@@ -4,10 +4,10 @@ ghost use Rattle.std.specs.Prelude.{◌≡◌};
 ghost use Rattle.std.specs.Bool.{Decides};
 ghost use Rattle.std.specs.List.{AllByRecursion};
 ghost use Rattle.shr_base.specs.declared.scripts.Script.{Script};
-ghost use Rattle.shr_model.specs.Attempts.{counted, counts_of};
+ghost use Rattle.shr_model.specs.Attempts.{as_count, counts_of};
 ghost use Rattle.shr_model.specs.Walks.{place_in};
 ghost use Rattle.shr_case.specs.Lists.{IsCaseOf, IsReplayOf};
-ghost use Rattle.shr_formed.specs.Each.{Each};
+ghost use Rattle.shr_formed.specs.Each.{EachItem};
 ghost use Rattle.shr_audit_walks.specs.Counts.{AreCountsAt, AreCountsIn, IsCountIn};
 
 use shr_base::places::Place;
@@ -31,7 +31,7 @@ fn place_in(walk: &WalkRecord, id: u16) -> Place
 fn is_count(case: &Case, report: &Report, place: Place, len: u32, version: u32) -> bool
     requires { IsReplayOf report.now case.now }
     ensures { Decides result (IsCountIn case.now.parents.items report.now place
-        (counted len version)) }
+        (as_count len version)) }
 {
     if version as usize > journal_at(report, place).len() {
         return false;
@@ -70,7 +70,7 @@ fn are_right(case: &Case, report: &Report, place: Place, outcome: &Outcome) -> b
 // Whether each count of a walk is, in the tree of the case.
 fn are_all_right(case: &Case, report: &Report, walk: &WalkRecord) -> bool
     requires { IsReplayOf report.now case.now }
-    ensures { Decides result (Each (AreCountsIn case.now.parents.items report.now walk.now)
+    ensures { Decides result (EachItem (AreCountsIn case.now.parents.items report.now walk.now)
         walk.now.attempts.items) }
 {
     let attempts = walk.attempts.as_slice();
@@ -88,7 +88,7 @@ fn are_all_right(case: &Case, report: &Report, walk: &WalkRecord) -> bool
 pub fn are_counts(case: &Case, report: &Report, walk: &WalkRecord) -> bool
     requires { IsReplayOf report.now case.now }
     ensures { (s : Script) → IsCaseOf s report.now case.now
-        → Decides result (Each (AreCountsAt s report.now walk.now) walk.now.attempts.items) }
+        → Decides result (EachItem (AreCountsAt s report.now walk.now) walk.now.attempts.items) }
 {
     let right = are_all_right(case, report, walk);
     right

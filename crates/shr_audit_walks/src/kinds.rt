@@ -2,7 +2,7 @@
 
 ghost use Rattle.std.specs.Prelude.{◌≡◌};
 ghost use Rattle.std.specs.Bool.{Decides};
-ghost use Rattle.shr_formed.specs.Each.{Each};
+ghost use Rattle.shr_formed.specs.Each.{EachItem};
 ghost use Rattle.shr_audit_walks.specs.Kinds.{IsKindAt, IsStopAt};
 ghost use Rattle.shr_registrations.specs.Met.{IsMetIn};
 
@@ -52,7 +52,7 @@ fn is_stop_at(
 /// (`Met`). Our own.
 pub fn are_kinds(script: &Script, report: &Report, met: &Met, walk: &WalkRecord) -> bool
     requires { IsMetIn report.now.pool.items met.now }
-    ensures { Decides result (Each (IsKindAt script.now report.now walk.now.priority)
+    ensures { Decides result (EachItem (IsKindAt script.now report.now walk.now.priority)
         walk.now.attempts.items) }
 {
     let attempts = walk.attempts.as_slice();
@@ -68,7 +68,7 @@ pub fn are_kinds(script: &Script, report: &Report, met: &Met, walk: &WalkRecord)
 /// cache. What each lookup met is known (`Met`). Our own.
 pub fn are_stops(script: &Script, report: &Report, met: &Met, walk: &WalkRecord) -> bool
     requires { IsMetIn report.now.pool.items met.now }
-    ensures { Decides result (Each (IsStopAt script.now report.now walk.now)
+    ensures { Decides result (EachItem (IsStopAt script.now report.now walk.now)
         walk.now.attempts.items) }
 {
     let attempts = walk.attempts.as_slice();

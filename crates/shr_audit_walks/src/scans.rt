@@ -3,9 +3,9 @@
 ghost use Rattle.std.specs.Prelude.{◌≡◌, ◌≤◌, map, sum_by};
 ghost use Rattle.std.specs.Bool.{Decides};
 ghost use Rattle.shr_base.specs.declared.objects.Policy.{Policy};
-ghost use Rattle.shr_formed.specs.Each.{Each};
+ghost use Rattle.shr_formed.specs.Each.{EachItem};
 ghost use Rattle.shr_report.specs.LawfulWalk.{AreScansOf};
-ghost use Rattle.shr_audit_walks.specs.Scans.{IsScanOf, freed_of_scan, made_of};
+ghost use Rattle.shr_audit_walks.specs.Scans.{IsScanAfter, freed_of_scan, made_of_scan};
 
 use crate::passes::asks_due;
 use shr_base::objects::Policy;
@@ -27,14 +27,14 @@ pub struct ScanSeen {
 
 // Whether a scan asked for so many objects by this policy, and stands at this number or behind it.
 fn is_scan_of(size: u64, policy: Policy, version: u32, scan: &ScanSeen) -> bool
-    ensures { Decides result (IsScanOf size policy version scan.now) }
+    ensures { Decides result (IsScanAfter size policy version scan.now) }
 {
     scan.asked as u64 == size && scan.policy == policy && version as usize <= scan.number
 }
 
 // Whether each of these did.
 fn are_alike(size: u64, policy: Policy, version: u32, scans: &[ScanSeen]) -> bool
-    ensures { Decides result (Each (IsScanOf size policy version) scans.now) }
+    ensures { Decides result (EachItem (IsScanAfter size policy version) scans.now) }
 {
     for scan in scans {
         if !is_scan_of(size, policy, version, scan) {
@@ -61,7 +61,7 @@ fn scans_free(scans: &[ScanSeen], told: u64) -> bool
 /// Whether these are the Scan entries of a pass: the first of its asks, those that found the list
 /// closed left out. Our own.
 pub fn are_scans_of(priority: u8, decl: &CacheDecl, pass: &PassRecord, scans: &[ScanSeen]) -> bool
-    ensures { Decides result (AreScansOf priority decl.now pass.now (map made_of scans.now)) }
+    ensures { Decides result (AreScansOf priority decl.now pass.now (map made_of_scan scans.now)) }
 {
     let due = asks_due(priority, decl.seeks, decl.batch, pass);
     let made = pass.asks.saturating_sub(pass.closed);

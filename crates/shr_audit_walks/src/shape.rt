@@ -2,7 +2,7 @@
 
 ghost use Rattle.std.specs.Prelude.{◌≡◌, IfOk};
 ghost use Rattle.std.specs.Bool.{Decides};
-ghost use Rattle.shr_formed.specs.Each.{Each};
+ghost use Rattle.shr_formed.specs.Each.{EachItem};
 ghost use Rattle.shr_report.specs.Parts.{EachWalk};
 ghost use Rattle.shr_audit_walks.specs.Fields.{IsShaped};
 
@@ -43,7 +43,7 @@ pub fn is_shaped(alloc: Global, script: &Script, walk: &WalkRecord) -> Result<bo
 
 // Whether each of these walks shows it.
 fn are_shaped(alloc: Global, script: &Script, walks: &[WalkRecord]) -> Result<bool, Memory>
-    ensures { IfOk result (λ b. Decides b (Each (IsShaped script.now) walks.now)) }
+    ensures { IfOk result (λ b. Decides b (EachItem (IsShaped script.now) walks.now)) }
 {
     for walk in walks {
         if !is_shaped(alloc, script, walk)? {

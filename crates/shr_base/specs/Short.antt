@@ -10,6 +10,6 @@ bytes_of (Short len bytes) = take len bytes
 bytes_of (Shared bytes) = arc_slice_items bytes
 
 -- those in place are within it
-abbrev pub IsWithin : Bytes → Type 0
-IsWithin (Short len bytes) = len ≤ 22
-IsWithin (Shared bytes) = Unit {0}
+abbrev pub IsShortWithin : Bytes → Type 0
+IsShortWithin (Short len bytes) = len ≤ 22
+IsShortWithin (Shared bytes) = Unit {0}

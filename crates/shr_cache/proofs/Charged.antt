@@ -1,25 +1,13 @@
 -- What a put did, by the reply that tells of it.
-use Rattle.std.proofs.Common.{◌≡◌, ℕ, List, true, false}
+use Rattle.shr_cache.proofs.Common.{◌≡◌, ℕ, List, true, false, Object, Serial, Found, Reply, NodeAdd, fresh, same_for, same_then, Acting, IsSame, Shared, WorkerState, Uncharges, OfferedFrom, IsStill, LoadsWord, MayCharge, Offers, OfferedAs, Puts, PutAs}
 use Rattle.std.specs.Prelude.{Option, Some, None}
-use Rattle.shr_base.specs.declared.objects.Object.{Object}
-use Rattle.shr_base.specs.declared.places.Serial.{Serial}
-use Rattle.shr_base.specs.declared.replies.Found.{Found}
-use Rattle.shr_base.specs.declared.replies.Reply.{Reply}
 use Rattle.shr_base.specs.declared.replies.Reply.TheVariants as reply
 use Rattle.shr_base.specs.declared.replies.Spent.TheVariants as spent
-use Rattle.shr_node.specs.declared.answers.NodeAdd.{NodeAdd}
 use Rattle.shr_node.specs.declared.answers.NodeAdd.TheVariants as add
-use Rattle.shr_model.specs.Objects.{fresh}
 use Rattle.shr_charge.specs.declared.answers.GroupState.TheVariants.{Online}
 use Rattle.shr_reclaim.specs.Admitting.{AdmissionGives}
 use Rattle.shr_reclaim.specs.declared.answers.Admission.TheVariants.{Charged}
-use Rattle.shr_walk.proofs.Acted.{same_for, same_then}
-use Rattle.shr_walk.specs.Acting.{Acting, IsSame, IsStill}
-use Rattle.shr_walk.specs.declared.seats.Shared.{Shared}
-use Rattle.shr_walk.specs.State.{WorkerState}
-use Rattle.shr_opening.specs.Opening.{LoadsWord, MayCharge, Uncharges}
 use Rattle.shr_opening.specs.declared.target.Target.{Target}
-use Rattle.shr_cache.specs.Puts.{Offers, OfferedFrom, OfferedAs, Puts, PutAs}
 use Rattle.shr_cache.specs.Replies.{add_reply, has_added}
 
 module _ (x : Shared) (node decl : ℕ) (o : Object) where

@@ -1,3 +1,4 @@
+mod Common
 pub mod Stays
 pub mod Links
 pub mod Told

@@ -1,14 +1,10 @@
 -- Each step from the seats before it to those after it.
-use Rattle.std.proofs.Common.{◌≡◌, ℕ, List, ap, subst, ◌∙◌}
+use Rattle.shr_cache.proofs.Common.{◌≡◌, ℕ, List, ap, subst, ◌∙◌, Serial, Found, View, view_of, Shared, WorkerState, state_of, OnCache, Uncharges, IsFit, AreHolding, Opens, Calls}
 use Rattle.shr_base.specs.Kept.{Kept}
-use Rattle.shr_base.specs.declared.places.Serial.{Serial}
 use Rattle.shr_base.specs.declared.journals.UseStep.{UseStep}
-use Rattle.shr_base.specs.declared.replies.Found.{Found}
 use Rattle.shr_model.specs.Groups.{path_of}
-use Rattle.shr_core.specs.declared.view.View.{View}
 use Rattle.shr_core.specs.declared.seat.Seat.{Seat}
 use Rattle.shr_core.specs.Parts.{Claims}
-use Rattle.shr_core.specs.Seats.{view_of}
 use Rattle.shr_core.specs.Seats as core
 use Rattle.shr_core.proofs.Owing.{still_none}
 use Rattle.shr_core.specs.Steps.{with_put}
@@ -17,12 +13,8 @@ use Rattle.shr_charge.specs.Charging as charging
 use Rattle.shr_charge.specs.Charging.{AreDowns}
 use Rattle.shr_deferred.specs.Seat.{moves_of}
 use Rattle.shr_walk.specs.declared.seats.Seats.{Seats}
-use Rattle.shr_walk.specs.declared.seats.Shared.{Shared}
 use Rattle.shr_walk.specs.Sharing.{IsShared}
-use Rattle.shr_walk.specs.Acting.{IsFit}
-use Rattle.shr_walk.specs.State.{WorkerState, state_of}
 use Rattle.shr_walk.proofs.Shares.{same_parents}
-use Rattle.shr_opening.specs.Opening.{IsHolding, Opens, OnCache, Calls, Uncharges}
 use Rattle.shr_cache.proofs.Stays.{Stays}
 
 -- the seats with another seat of one table
@@ -34,7 +26,7 @@ abbrev pub with_charge : Seats → ChargeSeat → Kept UseStep → Seats
 with_charge s seat uses = record { cache = record { core = s.cache.core; charge = seat; uses = uses }; deferred = s.deferred; walks = s.walks; carries = s.carries }
 
 -- an uncharge
-pub uncharged : (x : Shared) (shared : IsShared x) (by : Serial) (group : ℕ) (s : Seats) (seat : ChargeSeat) (uses : Kept UseStep) → charging.Uncharges x.charge.shape by group s.cache.charge seat s.cache.uses uses → Uncharges x by group (state_of s) (state_of (with_charge s seat uses))
+pub uncharged : (x : Shared) (shared : IsShared x) (by : Serial) (group : ℕ) (s : Seats) (seat : ChargeSeat) (uses : Kept UseStep) → charging.UnchargesOne x.charge.shape by group s.cache.charge seat s.cache.uses uses → Uncharges x by group (state_of s) (state_of (with_charge s seat uses))
 uncharged x shared by group s seat uses h = record {
   ops = h.ops;
   downs = subst (λ (ps : List ℕ). AreDowns by (path_of ps group) h.ops) (same_parents x shared) h.made;
@@ -69,7 +61,7 @@ asked x group decl f call s opened seat last opens made back = record {
 }
 
 -- the worker is fit once the reference was given back
-pub fit_called : (x : Shared) (id : ℕ) (s : Seats) (seat last : Seat) → IsShared x → IsHolding x id s → Stays (view_of s.cache.core) (view_of seat) → core.IsOf x.core last → view_of last ≡ with_put (view_of seat) → IsFit x (with_core s last)
+pub fit_called : (x : Shared) (id : ℕ) (s : Seats) (seat last : Seat) → IsShared x → AreHolding x id s → Stays (view_of s.cache.core) (view_of seat) → core.IsOf x.core last → view_of last ≡ with_put (view_of seat) → IsFit x (with_core s last)
 fit_called x id s seat last shared h stays of back = record {
   shared = shared;
   rested = record {

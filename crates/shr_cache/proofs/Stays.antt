@@ -1,25 +1,16 @@
 -- What a call on a list leaves of a view, whatever it answered.
-use Rattle.std.proofs.Common.{ℕ, List}
-use Rattle.std.specs.Prelude.{Bool}
-use Rattle.shr_base.specs.declared.objects.Object.{Object}
-use Rattle.shr_base.specs.declared.places.Serial.{Serial}
+use Rattle.shr_cache.proofs.Common.{ℕ, List, Bool, Object, Serial, View, NodeAdd, NodeLook, NodeDrop, NodePin, AddGives, LookGives, DropGives, PinGives, TenantWorn, TenantLacks}
 use Rattle.shr_base.specs.declared.journals.Entry.{Entry}
 use Rattle.shr_base.specs.declared.replies.Spent.{Spent}
 use Rattle.shr_base.specs.declared.replies.Spent.TheVariants as spent
 use Rattle.shr_list.specs.Listed.{Listed}
-use Rattle.shr_core.specs.declared.view.View.{View}
 use Rattle.shr_seats.specs.declared.shape.Shape.{Shape}
 use Rattle.shr_core.specs.Parts.{Made}
-use Rattle.shr_node.specs.declared.answers.NodeAdd.{NodeAdd}
 use Rattle.shr_node.specs.declared.answers.NodeAdd.TheVariants as add
-use Rattle.shr_node.specs.declared.answers.NodeLook.{NodeLook}
 use Rattle.shr_node.specs.declared.answers.NodeLook.TheVariants as look
-use Rattle.shr_node.specs.declared.answers.NodeDrop.{NodeDrop}
 use Rattle.shr_node.specs.declared.answers.NodeDrop.TheVariants as drop
-use Rattle.shr_node.specs.declared.answers.NodePin.{NodePin}
 use Rattle.shr_node.specs.declared.answers.NodePin.TheVariants as pin
 use Rattle.shr_node.specs.Gains.{Gains}
-use Rattle.shr_node.specs.Answers.{TenantWorn, TenantLacks, AddGives, LookGives, DropGives, PinGives}
 
 -- entries may have been made and bits set; nothing else changed that a seat at rest is asked for
 pub record Stays (v w : View) : Type 0 where

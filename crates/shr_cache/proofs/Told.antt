@@ -1,19 +1,8 @@
 -- What was done, by the reply that tells of it.
-use Rattle.std.proofs.Common.{◌≡◌, ℕ, Bool, true, false, List}
-use Rattle.shr_base.specs.declared.places.Serial.{Serial}
-use Rattle.shr_base.specs.declared.replies.Found.{Found}
-use Rattle.shr_node.specs.declared.answers.NodeLook.{NodeLook}
+use Rattle.shr_cache.proofs.Common.{◌≡◌, ℕ, Bool, true, false, List, Serial, Found, NodeLook, NodeDrop, NodePin, Shared, WorkerState, Uncharges, GotFrom, PinnedFrom, DroppedFrom, LooksUp, Pins, Drops}
 use Rattle.shr_node.specs.declared.answers.NodeLook.TheVariants as look
-use Rattle.shr_node.specs.declared.answers.NodeDrop.{NodeDrop}
 use Rattle.shr_node.specs.declared.answers.NodeDrop.TheVariants as drop
-use Rattle.shr_node.specs.declared.answers.NodePin.{NodePin}
 use Rattle.shr_node.specs.declared.answers.NodePin.TheVariants as pin
-use Rattle.shr_walk.specs.declared.seats.Shared.{Shared}
-use Rattle.shr_walk.specs.State.{WorkerState}
-use Rattle.shr_opening.specs.Opening.{Uncharges}
-use Rattle.shr_cache.specs.Gets.{LooksUp, GotFrom}
-use Rattle.shr_cache.specs.Pins.{Pins, PinnedFrom}
-use Rattle.shr_cache.specs.Dels.{Drops, DroppedFrom}
 use Rattle.shr_cache.specs.Replies.{look_reply, pin_reply, drop_reply, has_dropped}
 
 module _ (x : Shared) (by : Serial) (group node decl : ℕ) (key : List ℕ) (f : Found) (s t : WorkerState) where

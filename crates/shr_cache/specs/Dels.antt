@@ -12,7 +12,7 @@ use Rattle.shr_node.specs.declared.answers.NodeDrop.TheVariants as drop
 use Rattle.shr_node.specs.Answers.{DropGives}
 use Rattle.shr_walk.specs.declared.seats.Shared.{Shared}
 use Rattle.shr_walk.specs.State.{WorkerState}
-use Rattle.shr_opening.specs.Opening.{OnCache, RefusedAs, Uncharges, MayCharge, IsSpent}
+use Rattle.shr_opening.specs.Opening.{OnCache, RefusedAs, Uncharges, MayCharge, IsWorkerSpent}
 
 -- what finding the cache and asking its list for the object did: the list answered, or the command was refused before. No
 -- public clause cites this.
@@ -58,7 +58,7 @@ pub record DelRefused (x : Shared) (group decl : ℕ) (r : Reply) (s t : WorkerS
   pub refused : RefusedAs x group decl r s t
 
 -- the charges weren't used up, there was no memory, and nothing was done
-pub record LacksMemory (s t : WorkerState) : Type 0 where
+pub record DelLacksMemory (s t : WorkerState) : Type 0 where
   pub charges : MayCharge s
   pub rest : t ≡ s
 
@@ -66,8 +66,8 @@ pub record LacksMemory (s t : WorkerState) : Type 0 where
 -- an uncharge
 abbrev pub DroppedNone : Shared → ℕ → ℕ → Reply → WorkerState → WorkerState → Type 0
 DroppedNone x group decl (reply.Worn (spent.Charges charges uncharges)) s t =
-    IsSpent (spent.Charges charges uncharges) s t
-DroppedNone x group decl reply.Memory s t = LacksMemory s t
+    IsWorkerSpent (spent.Charges charges uncharges) s t
+DroppedNone x group decl reply.Memory s t = DelLacksMemory s t
 DroppedNone x group decl r s t = DelRefused x group decl r s t
 
 -- by whether the cache was found

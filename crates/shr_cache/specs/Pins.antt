@@ -41,7 +41,7 @@ PinnedAs x by group node decl key pinned (Some f) r s t =
     PinnedFrom x by group node decl key pinned f r s t
 
 -- What a set_pin did. The cache is told where it was found, and nowhere else.
-abbrev pub PinGives : Shared → Serial → ℕ → ℕ → ℕ → List ℕ → Bool → Answered → WorkerState
+abbrev pub SetPinGives : Shared → Serial → ℕ → ℕ → ℕ → List ℕ → Bool → Answered → WorkerState
     → WorkerState → Type 0
-PinGives x by group node decl key pinned a s t =
+SetPinGives x by group node decl key pinned a s t =
     PinnedAs x by group node decl key pinned a.found a.reply s t

@@ -18,7 +18,7 @@ use Rattle.shr_reclaim.specs.declared.answers.Admission.TheVariants as admission
 use Rattle.shr_reclaim.specs.Admitting.{AdmissionGives}
 use Rattle.shr_walk.specs.declared.seats.Shared.{Shared}
 use Rattle.shr_walk.specs.State.{WorkerState}
-use Rattle.shr_opening.specs.Opening.{LoadsWord, Holds, MissesAs, Calls, Uncharges, MayCharge, IsSpent}
+use Rattle.shr_opening.specs.Opening.{LoadsWord, HoldsCache, MissesAs, Calls, Uncharges, MayCharge, IsWorkerSpent}
 
 -- the group was online, and then its charge was asked for with this answer, with rounds of reclaim
 -- where it was refused
@@ -34,7 +34,7 @@ pub record Asks (x : Shared) (by : Serial) (group : ℕ) (answer : Admission)
 pub record Offers (x : Shared) (node decl : ℕ) (o : Object) (f : Found) (answer : NodeAdd)
     (s t : WorkerState) : Type 0 where
   pub held : WorkerState
-  pub holds : Holds x decl f s held
+  pub holds : HoldsCache x decl f s held
   pub calls : Calls (λ v w. AddGives (shape_of x.core) v f.id node o answer w) held t
 
 -- what offering an object did where the cache was found, by the reply
@@ -67,7 +67,7 @@ pub record PutsInVain (x : Shared) (by : Serial) (group node decl : ℕ) (o : Ob
   pub back : Uncharges x by group refused t
 
 -- the charges weren't used up, and the group was offline
-pub record IsOffline (x : Shared) (group entry : ℕ) (s t : WorkerState) : Type 0 where
+pub record GroupWasOffline (x : Shared) (group entry : ℕ) (s t : WorkerState) : Type 0 where
   pub charges : MayCharge s
   pub offline : LoadsWord x group (Offline entry) s t
 
@@ -88,8 +88,8 @@ PutFrom x by group node decl o f r s t = PutsInVain x by group node decl o (Some
 abbrev pub PutNone : Shared → Serial → ℕ → ℕ → ℕ → Object → Reply → WorkerState → WorkerState
     → Type 0
 PutNone x by group node decl o (reply.Worn (spent.Charges charges uncharges)) s t =
-    IsSpent (spent.Charges charges uncharges) s t
-PutNone x by group node decl o (reply.Offline entry) s t = IsOffline x group entry s t
+    IsWorkerSpent (spent.Charges charges uncharges) s t
+PutNone x by group node decl o (reply.Offline entry) s t = GroupWasOffline x group entry s t
 PutNone x by group node decl o (reply.NotMade named) s t = IsNotMade x group named s t
 PutNone x by group node decl o (reply.Over over operation usage) s t =
     Asks x by group (admission.Over over operation usage) s t

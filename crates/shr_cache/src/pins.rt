@@ -4,7 +4,7 @@ ghost use Rattle.std.specs.Prelude.{◌≡◌};
 ghost use Rattle.shr_core.specs.Seats.{shape_of};
 ghost use Rattle.shr_walk.specs.Acting.{IsSame};
 ghost use Rattle.shr_opening.specs.Opening.{IsTargetOf};
-ghost use Rattle.shr_cache.specs.Pins.{PinGives};
+ghost use Rattle.shr_cache.specs.Pins.{SetPinGives};
 ghost use Rattle.shr_cache.specs.Replies.{pin_reply};
 
 use shr_base::replies::{Answered, Reply};
@@ -43,7 +43,7 @@ pub fn set_pin<R: Wait>(
     pinned: bool,
 ) -> Answered
     requires target { IsTargetOf (shape_of worker.old.shared.core) target }
-    ensures pinned { PinGives worker.old.shared worker.old.by target.group target.node target.decl
+    ensures pinned { SetPinGives worker.old.shared worker.old.by target.group target.node target.decl
         key.now pinned result worker.old.state worker.new.state }
     ensures same { IsSame worker.old worker.new }
 {

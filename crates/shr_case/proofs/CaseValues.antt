@@ -1,10 +1,9 @@
 -- A report by the index, at known values.
-use Rattle.shr_case.proofs.Common.{◌≡◌, ℕ, ◌<◌, zero, suc, Bool, true, false, Option, List, [], ◌∷◌, refl, sym, ap, ◌∙◌, arith, inl, inr, Some, None, slice_get, slice_index, Place, PlaceEnd, WorkerPart, slice_get_within, IsPlaceUpTo, AreInOrder, IsFirst, IsIndexOf, comes_before, end_of, Replayed, AreReplays, journals_in, AreFirsts, IsNewAt, IsTakenOut, on_node, AnswersInParts, EachFirst, InParts}
+use Rattle.shr_case.proofs.Common.{◌≡◌, ℕ, ◌<◌, zero, suc, Bool, true, false, Option, List, [], ◌∷◌, refl, sym, ap, ◌∙◌, arith, inl, inr, Some, None, slice_get, slice_index, Place, PlaceEnd, WorkerPart, slice_get_within, IsPlaceUpTo, AreInOrder, IsFirst, IsIndexOf, comes_before, end_printed, Replayed, AreReplays, journals_in, AreFirsts, IsNewAt, IsTakenOut, on_node, AnswersInParts, EachFirst, InParts, TellsReplayed}
 use Rattle.shr_base.specs.declared.journals.Entry.TheVariants.{Closed}
 use Rattle.shr_report.proofs.SecondReport.{kept, put}
 use Rattle.shr_report.proofs.FirstReport.{answer, report, script}
 use Rattle.shr_replay.specs.Journals.{lens_from}
-use Rattle.shr_case.specs.Lists.{Tells}
 
 abbrev at : ℕ → ℕ → ℕ → Place
 at id node group = record { id = id; node = node; group = group }
@@ -42,10 +41,10 @@ falling h = no (h 0 (list (at 0 0 1)) (omega arith))
     no (inl (inr (a, inr (b, c)))) = absurd (omega arith)
     no (inr same) = let groups : ◌≡◌ {A = ℕ} 2 1 = ap (λ (p : Place). p.group) same in absurd (omega arith)
 
-found : end_of twice (at 0 0 1) ≡ Some (list (at 0 0 1))
+found : end_printed twice (at 0 0 1) ≡ Some (list (at 0 0 1))
 found = refl
 
-not_found : end_of twice (at 0 0 0) ≡ None
+not_found : end_printed twice (at 0 0 0) ≡ None
 not_found = refl
 
 first : IsFirst twice 0 (at 0 0 1)
@@ -112,7 +111,7 @@ other_node_is_not_old h = let same : ◌≡◌ {A = Bool} false true = h.1 (list
 firsts : AreFirsts twice (at 0 0 5) 2 (2 ∷ 0 ∷ [])
 firsts = record { many = refl; each = is }
   where
-    is : (group : ℕ) → group < 2 → slice_get twice (slice_index (2 ∷ 0 ∷ []) group) ≡ end_of twice (at 0 0 group)
+    is : (group : ℕ) → group < 2 → slice_get twice (slice_index (2 ∷ 0 ∷ []) group) ≡ end_printed twice (at 0 0 group)
     is zero lt = refl
     is (suc zero) lt = refl
     is (suc (suc n)) lt = absurd (omega arith)
@@ -123,10 +122,10 @@ second_for_the_first h = let none : ◌≡◌ {A = Option PlaceEnd} (Some (list 
 one_more : (r : Replayed) → IsTakenOut 2 0 [] (r ∷ []) → ⊥
 one_more r h = let many : ◌≡◌ {A = ℕ} 1 0 = h.many in absurd (omega arith)
 
-unprinted_tells : Tells (0 ∷ []) twice (at 0 0 0) None
+unprinted_tells : TellsReplayed (0 ∷ []) twice (at 0 0 0) None
 unprinted_tells = refl
 
-printed_tells : Tells (0 ∷ []) (with_entry ∷ []) (at 0 0 1) None → ⊥
+printed_tells : TellsReplayed (0 ∷ []) (with_entry ∷ []) (at 0 0 1) None → ⊥
 printed_tells h = cc
 
 wrong_lens : (r : Replayed) → r.lens.items ≡ [] → AreReplays (0 ∷ []) (with_entry ∷ []) (r ∷ []) → ⊥

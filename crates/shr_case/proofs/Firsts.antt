@@ -1,5 +1,5 @@
 -- The list that is printed for a place, and the first one.
-use Rattle.shr_case.proofs.Common.{◌≡◌, ◌≢◌, ℕ, zero, suc, ◌<◌, true, false, List, [], ◌∷◌, length, get_or, Option, Some, None, refl, sym, ap, ◌∙◌, ◌⊎◌, inl, inr, arith, slice_get, cases_Bool, get_or_from_slice_get, slice_get-get_or, slice_get_within, Place, PlaceEnd, IsFirst, IsIndexOf, end_of}
+use Rattle.shr_case.proofs.Common.{◌≡◌, ◌≢◌, ℕ, zero, suc, ◌<◌, true, false, List, [], ◌∷◌, length, get_or, Option, Some, None, refl, sym, ap, ◌∙◌, ◌⊎◌, inl, inr, arith, slice_get, cases_Bool, get_or_from_slice_get, slice_get-get_or, slice_get_within, Place, PlaceEnd, IsFirst, IsIndexOf, end_printed}
 use Rattle.shr_model.specs.Places.{is_place}
 use Rattle.shr_model.proofs.PlacesLaws.{is_place_same, is_place_itself}
 
@@ -8,7 +8,7 @@ pub record IsFound (ends : List PlaceEnd) (place : Place) (k : ℕ) (end : Place
   pub at : slice_get ends k ≡ Some end
   pub same : end.place ≡ place
   pub first : IsFirst ends k place
-  pub found : end_of ends place ≡ Some end
+  pub found : end_printed ends place ≡ Some end
 
 pub some_is : {X : Type 0} (a b : X) → ◌≡◌ {A = Option X} (Some a) (Some b) → a ≡ b
 some_is a b e = cc
@@ -17,7 +17,7 @@ pub none_first : (ends : List PlaceEnd) (place : Place) → IsFirst ends 0 place
 none_first ends place m x lt = absurd (omega (arith, lt))
 
 -- the first list that is printed for a place is found there
-pub first_found : (ends : List PlaceEnd) (place : Place) (k : ℕ) (end : PlaceEnd) → slice_get ends k ≡ Some end → end.place ≡ place → IsFirst ends k place → end_of ends place ≡ Some end
+pub first_found : (ends : List PlaceEnd) (place : Place) (k : ℕ) (end : PlaceEnd) → slice_get ends k ≡ Some end → end.place ≡ place → IsFirst ends k place → end_printed ends place ≡ Some end
 first_found [] place k end at same first = let lt = slice_get_within [] k end at in absurd (omega (arith, lt))
 first_found (e ∷ es) place zero end at same first =
     let here : e.place ≡ place = ap (λ (x : PlaceEnd). x.place) (some_is e end at) ∙ same in
@@ -29,7 +29,7 @@ first_found (e ∷ es) place (suc k) end at same first = elim (cases_Bool (is_pl
 ]
 
 -- a place is printed nowhere, or there is a first list for it
-pub found_or_none : (ends : List PlaceEnd) (place : Place) → (end_of ends place ≡ None) ⊎ ((k : ℕ) × ((end : PlaceEnd) × IsFound ends place k end))
+pub found_or_none : (ends : List PlaceEnd) (place : Place) → (end_printed ends place ≡ None) ⊎ ((k : ℕ) × ((end : PlaceEnd) × IsFound ends place k end))
 found_or_none [] place = inl refl
 found_or_none (e ∷ es) place = elim (cases_Bool (is_place e.place place)) [
   | inl own ↦ inr (0, (e, record { at = refl; same = is_place_same e.place place own; first = none_first (e ∷ es) place; found = rw own refl }))
@@ -55,7 +55,7 @@ found_or_none (e ∷ es) place = elim (cases_Bool (is_place e.place place)) [
   not_before other k first (suc m) x lt at = first m x (omega (arith, lt)) at
 
 -- a place that no list is printed for
-pub none_found : (ends : List PlaceEnd) (place : Place) → ((n : ℕ) (x : PlaceEnd) → slice_get ends n ≡ Some x → x.place ≢ place) → end_of ends place ≡ None
+pub none_found : (ends : List PlaceEnd) (place : Place) → ((n : ℕ) (x : PlaceEnd) → slice_get ends n ≡ Some x → x.place ≢ place) → end_printed ends place ≡ None
 none_found ends place other = elim (found_or_none ends place) [
   | inl none ↦ none
   | inr found ↦ absurd (other found.0 found.1.0 found.1.1.at found.1.1.same)

@@ -1,9 +1,6 @@
 -- Lists in the order of their places.
-use Rattle.shr_case.proofs.Common.{◌≡◌, ◌≢◌, ℕ, zero, suc, ◌+◌, ◌-◌, ◌<◌, ◌≤◌, Bool, true, false, List, length, get_or, refl, sym, ap, subst, ◌∙◌, ◌⊎◌, inl, inr, arith, ◌==◌, nat_lt, slice_get, Some, None, Decides, get_or_from_slice_get, slice_get-get_or, slice_get_within, cases_Bool, cases_order, and_parts, eqb-true, ltb-true, Place, PlaceEnd, IsPlaceBefore, IsPlaceUpTo, AreInOrder, IsFirst, comes_before, end_of}
-use Rattle.std.specs.Prelude.{◌&&◌, ◌||◌}
+use Rattle.shr_case.proofs.Common.{◌≡◌, ◌≢◌, ℕ, zero, suc, ◌+◌, ◌-◌, ◌<◌, ◌≤◌, Bool, true, false, List, length, get_or, refl, sym, ap, subst, ◌∙◌, ◌⊎◌, inl, inr, arith, ◌==◌, nat_lt, slice_get, Some, None, Decides, get_or_from_slice_get, slice_get-get_or, slice_get_within, cases_Bool, cases_order, and_parts, eqb-true, ltb-true, Place, PlaceEnd, IsPlaceBefore, IsPlaceUpTo, AreInOrder, IsFirst, comes_before, end_printed, ◌&&◌, ◌||◌, and_from, eq-eqb, lt-ltb, IsBefore}
 use Rattle.std.specs.List.Sorted.{IsPartitionedBy}
-use Rattle.std.proofs.lemmas.Bool.{and_from, eq-eqb, lt-ltb}
-use Rattle.shr_report.specs.WellFormed.{IsBefore}
 use Rattle.shr_case.proofs.Firsts.{none_found}
 use Rattle.shr_report.proofs.Reading.{either}
 
@@ -107,7 +104,7 @@ first_here ends place k before m x lt at = not_itself x.place place (before_from
 
 pub away_here : (ends : List PlaceEnd) (place : Place) (k : ℕ) → AreInOrder ends → ((n : ℕ) (x : PlaceEnd) → n < k → slice_get ends n ≡ Some x → comes_before x.place place ≡ true)
     → ((n : ℕ) (x : PlaceEnd) → k ≤ n → slice_get ends n ≡ Some x → comes_before x.place place ≡ false)
-    → ((x : PlaceEnd) → slice_get ends k ≡ Some x → x.place ≢ place) → end_of ends place ≡ None
+    → ((x : PlaceEnd) → slice_get ends k ≡ Some x → x.place ≢ place) → end_printed ends place ≡ None
 away_here ends place k order before behind here = none_found ends place (λ n x at. by_index n x at (cases_order n k))
   where
     by_index : (n : ℕ) (x : PlaceEnd) → slice_get ends n ≡ Some x → (n ≡ k) ⊎ ((n < k) ⊎ (k < n)) → x.place ≢ place

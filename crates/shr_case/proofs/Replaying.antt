@@ -1,20 +1,16 @@
 -- A replay of the lists under way: what is there for the next list, and what is left after it.
-use Rattle.shr_case.proofs.Common.{◌≡◌, ◌≢◌, ℕ, ◌+◌, ◌-◌, ◌<◌, ◌≤◌, true, false, List, [], ◌∷◌, length, length-append, get_or, Option, Some, None, refl, sym, ap, subst, ◌∙◌, ◌⊎◌, inl, inr, arith, slice_get, slice_index, ◌==◌, nat_lt, cases_Bool, cases_order, and_parts, eqb-true, ltb-true, get_or_from_slice_get, slice_get-get_or, slice_get_within, Place, Object, Entry, PlaceEnd, journal_of, IsPlaceBefore, IsPlaceUpTo, Replayed, AreJournals, ArePrinted, IsReplayedAt, items_in, IsReplayed, AreInOrder, IsFirst, IsReplayOfList, items_printed_in, journals_in, AreFirsts, IsLeft, IsNewAt, IsTakenOut, on_node}
-use Rattle.std.proofs.Common.{cond, ◌++◌}
-use Rattle.std.proofs.lemmas.Bool.{ltb-false}
+use Rattle.shr_case.proofs.Common.{◌≡◌, ◌≢◌, ℕ, ◌+◌, ◌-◌, ◌<◌, ◌≤◌, true, false, List, [], ◌∷◌, length, length-append, get_or, Option, Some, None, refl, sym, ap, subst, ◌∙◌, ◌⊎◌, inl, inr, arith, slice_get, slice_index, ◌==◌, nat_lt, cases_Bool, cases_order, and_parts, eqb-true, ltb-true, get_or_from_slice_get, slice_get-get_or, slice_get_within, Place, Object, Entry, PlaceEnd, journal_of, IsPlaceBefore, IsPlaceUpTo, Replayed, AreJournals, ArePrinted, IsReplayedAt, printed_items, IsReplayed, AreInOrder, IsFirst, IsReplayOfList, items_printed_in, journals_in, AreFirsts, AreReplaysBefore, IsNewAt, IsTakenOut, on_node, cond, ◌++◌, ltb-false, AreReplayed, printed_entries, AreReplaysAt}
 use Rattle.std.proofs.lemmas.List.{get_or_append_left}
 use Rattle.std.proofs.Math.Seq.{get_or-append_seam}
 use Rattle.shr_model.specs.Groups.{IsTree, is_child}
 use Rattle.shr_model.specs.Places.{at_group}
 use Rattle.shr_model.specs.Families.{Family, items_given, items_within, before_closed, lists_moved}
 use Rattle.shr_model.proofs.GroupsLaws.{child_takes}
-use Rattle.shr_replay.specs.Groups.{AreReplayed, entries_in}
 use Rattle.shr_replay.specs.Lists.{given_by, took_of}
-use Rattle.shr_case.specs.Replaying.{IsReady}
 use Rattle.shr_case.proofs.Firsts.{first_found}
 
 -- the journal of a list that is printed, by its two names
-journal_entries : (x : Option PlaceEnd) → journal_of x ≡ entries_in x
+journal_entries : (x : Option PlaceEnd) → journal_of x ≡ printed_entries x
 journal_entries None = refl
 journal_entries (Some end) = refl
 
@@ -24,7 +20,7 @@ journals_there ends place count firsts f group lt = ap journal_of (sym (f.each g
 
 -- and so are the objects that are printed
 pub printed_there : (ends : List PlaceEnd) (place : Place) (count : ℕ) (firsts : List ℕ) → AreFirsts ends place count firsts → ArePrinted ends firsts count (items_printed_in ends) place
-printed_there ends place count firsts f group lt = ap items_in (sym (f.each group lt))
+printed_there ends place count firsts f group lt = ap printed_items (sym (f.each group lt))
 
 -- a group's replay among those of all groups
 from_told : (parents : List ℕ) (ends : List PlaceEnd) (place : Place) (node : List Replayed) → AreReplayed parents (journals_in ends) (items_printed_in ends) place node → (group : ℕ) (r : Replayed) → group < length parents
@@ -32,7 +28,7 @@ from_told : (parents : List ℕ) (ends : List PlaceEnd) (place : Place) (node : 
 from_told parents ends place node told group r lt at = told.each (length parents - 1 - group) group r at (omega arith)
 
 -- at a new id and node
-pub ready_new : (parents : List ℕ) (ends : List PlaceEnd) (k : ℕ) (x : PlaceEnd) (node : List Replayed) → AreReplayed parents (journals_in ends) (items_printed_in ends) (get_or ends k x).place node → IsReady parents ends k node
+pub ready_new : (parents : List ℕ) (ends : List PlaceEnd) (k : ℕ) (x : PlaceEnd) (node : List Replayed) → AreReplayed parents (journals_in ends) (items_printed_in ends) (get_or ends k x).place node → AreReplaysAt parents ends k node
 ready_new parents ends k x node told = record {
   many = told.count;
   own = λ end r at first lt here. subst (λ (e : PlaceEnd). IsReplayedAt parents (journals_in ends) (items_printed_in ends) (at_group e.place end.place.group) r) (get_or_from_slice_get ends k end x at)
@@ -68,7 +64,7 @@ record Neighbours (x end : PlaceEnd) : Type 0 where
   order : IsPlaceUpTo x.place end.place
 
 -- at the id and node of the list before
-pub ready_old : (parents : List ℕ) (ends : List PlaceEnd) (k : ℕ) (node : List Replayed) → AreInOrder ends → k < length ends → IsLeft parents ends k node → IsNewAt ends k false → IsReady parents ends k node
+pub ready_old : (parents : List ℕ) (ends : List PlaceEnd) (k : ℕ) (node : List Replayed) → AreInOrder ends → k < length ends → AreReplaysBefore parents ends k node → IsNewAt ends k false → AreReplaysAt parents ends k node
 ready_old parents ends k node order lt left not_new = record {
   many = left.many not_new.0;
   own = λ end r at first below here. let f = facts end at in
@@ -98,7 +94,7 @@ ready_old parents ends k node order lt left not_new = record {
       }
 
 -- behind a list
-pub left_after : (parents : List ℕ) (ends : List PlaceEnd) (k : ℕ) (end : PlaceEnd) (old new : List Replayed) → slice_get ends k ≡ Some end → IsReady parents ends k old → IsTakenOut (length parents) end.place.group old new → IsLeft parents ends (k + 1) new
+pub left_after : (parents : List ℕ) (ends : List PlaceEnd) (k : ℕ) (end : PlaceEnd) (old new : List Replayed) → slice_get ends k ≡ Some end → AreReplaysAt parents ends k old → IsTakenOut (length parents) end.place.group old new → AreReplaysBefore parents ends (k + 1) new
 left_after parents ends k end old new at ready out = record {
   many = λ some. out.many ∙ ready.many;
   behind = λ x some there group r above lt here.
@@ -126,7 +122,7 @@ nothing_given parents family place tree out = λ i c. at c i
         ∙ sym (ap (λ b. cond b (items_within (length parents) parents family (at_group place c) (before_closed (family (at_group place c)))) []) (no_child parents place.group c tree out))
 
 -- the next list's replay
-pub next_replayed : (parents : List ℕ) (ends : List PlaceEnd) (k : ℕ) (end : PlaceEnd) (node : List Replayed) (r : Replayed) → IsTree parents → slice_get ends k ≡ Some end → IsReady parents ends k node
+pub next_replayed : (parents : List ℕ) (ends : List PlaceEnd) (k : ℕ) (end : PlaceEnd) (node : List Replayed) (r : Replayed) → IsTree parents → slice_get ends k ≡ Some end → AreReplaysAt parents ends k node
     → (end.place.group < length parents → slice_get node (length parents - 1 - end.place.group) ≡ Some r)
     → (length parents ≤ end.place.group → IsReplayed (lists_moved (took_of parents end.place.group []) end.entries.items) end.entries.items end.items.items r) → IsReplayOfList parents ends k r
 next_replayed parents ends k end node r tree at ready taken alone x there first =
@@ -147,7 +143,7 @@ next_replayed parents ends k end node r tree at ready taken alone x there first 
       | inl lt ↦ ready.own end r at mine lt (taken lt)
       | inr out ↦
           let here : journals_in ends end.place ≡ end.entries.items = ap journal_of (first_found ends end.place k end at refl mine) in
-          let there : items_printed_in ends end.place ≡ end.items.items = ap items_in (first_found ends end.place k end at refl mine) in
+          let there : items_printed_in ends end.place ≡ end.items.items = ap printed_items (first_found ends end.place k end at refl mine) in
           subst (λ (es : List Entry). IsReplayed (lists_moved (items_given parents (journals_in ends) end.place) es) es (items_printed_in ends end.place) r) (sym here)
           (subst (λ (os : List Object). IsReplayed (lists_moved (items_given parents (journals_in ends) end.place) end.entries.items) end.entries.items os r) (sym there)
           (subst (λ (took : ℕ → List Object). IsReplayed (lists_moved took end.entries.items) end.entries.items end.items.items r) (nothing_given parents (journals_in ends) end.place tree out) (alone out)))

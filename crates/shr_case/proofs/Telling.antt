@@ -1,5 +1,5 @@
 -- What the replay of a place tells.
-use Rattle.shr_case.proofs.Common.{◌≡◌, ℕ, zero, suc, ◌+◌, ◌<◌, ◌≤◌, true, List, [], ◌∷◌, length, get_or, take, Some, None, refl, sym, ap, subst, ◌∙◌, inl, inr, arith, slice_get, Decides, Place, Object, Entry, PlaceEnd, Replayed, tag_of, IsReplayedAt, items_in, IsReplayed, journal_of, IsFirst, IsIndexOf, end_of, AreReplays, items_printed_in, journals_in}
+use Rattle.shr_case.proofs.Common.{◌≡◌, ℕ, zero, suc, ◌+◌, ◌<◌, ◌≤◌, true, List, [], ◌∷◌, length, get_or, take, Some, None, refl, sym, ap, subst, ◌∙◌, inl, inr, arith, slice_get, Decides, Place, Object, Entry, PlaceEnd, Replayed, tag_of, IsReplayedAt, printed_items, IsReplayed, journal_of, IsFirst, IsIndexOf, end_printed, AreReplays, items_printed_in, journals_in}
 use Rattle.std.proofs.lemmas.List.{length-map}
 use Rattle.shr_model.specs.Items.{items_from, step, first_moved, later_moved, AreOutcomes}
 use Rattle.shr_replay.specs.declared.tags.FreedTag.{FreedTag}
@@ -50,7 +50,7 @@ tells_some parents ends told place k r all index here = elim (found_or_none ends
 ]
 
 -- a place that isn't printed has no journal
-pub no_journal : (ends : List PlaceEnd) (place : Place) → end_of ends place ≡ None → journals_in ends place ≡ []
+pub no_journal : (ends : List PlaceEnd) (place : Place) → end_printed ends place ≡ None → journals_in ends place ≡ []
 no_journal ends place none = ap journal_of none
 
 -- without entries nothing was done
@@ -70,8 +70,8 @@ unfolding values_from
 no_values moved es none = sym (ap (λ (xs : List Entry). values_from 0 moved [] xs) none)
 
 -- and nothing is printed or left
-pub no_printed : (moved : List (List Object)) (ends : List PlaceEnd) (place : Place) → end_of ends place ≡ None → Decides true (items_printed_in ends place ≡ items_from moved [] (journals_in ends place))
-no_printed moved ends place none = (λ t. ap items_in none ∙ sym (no_items moved (journals_in ends place) (no_journal ends place none)), λ h. refl)
+pub no_printed : (moved : List (List Object)) (ends : List PlaceEnd) (place : Place) → end_printed ends place ≡ None → Decides true (items_printed_in ends place ≡ items_from moved [] (journals_in ends place))
+no_printed moved ends place none = (λ t. ap printed_items none ∙ sym (no_items moved (journals_in ends place) (no_journal ends place none)), λ h. refl)
 
 pub no_outcomes : (moved : List (List Object)) (es : List Entry) → es ≡ [] → Decides true (AreOutcomes moved [] es)
 unfolding AreOutcomes

@@ -8,17 +8,17 @@ use Rattle.shr_model.specs.Families.{Family}
 use Rattle.shr_report.specs.declared.report.Report.{Report}
 use Rattle.shr_report.specs.Parts.{journal_of, parents_of}
 use Rattle.shr_replay.specs.declared.journal.Replayed.{Replayed}
-use Rattle.shr_replay.specs.Groups.{IsReplayedAt, items_in}
+use Rattle.shr_replay.specs.Groups.{IsReplayedAt, printed_items}
 use Rattle.shr_case.specs.declared.case.Case.{Case}
-use Rattle.shr_case.specs.Places.{AreInOrder, IsFirst, end_of}
+use Rattle.shr_case.specs.Places.{AreInOrder, IsFirst, end_printed}
 
 -- the journals of these lists, which are those of the report that has them
 abbrev pub journals_in : List PlaceEnd → Family
-journals_in ends place = journal_of (end_of ends place)
+journals_in ends place = journal_of (end_printed ends place)
 
 -- the objects of these lists that are printed
 abbrev pub items_printed_in : List PlaceEnd → Place → List Object
-items_printed_in ends place = items_in (end_of ends place)
+items_printed_in ends place = printed_items (end_printed ends place)
 
 -- the replay of the list with this index, if it is the first one of its place, tells what is so of its journal
 abbrev pub IsReplayOfList : List ℕ → List PlaceEnd → ℕ → Replayed → Type 0
@@ -40,6 +40,6 @@ pub record IsCaseOf (s : Script) (r : Report) (c : Case) : Type 0 where
   pub replayed : IsReplayOf r c
 
 -- what is told of a place, if it is printed, is so
-abbrev pub Tells : List ℕ → List PlaceEnd → Place → Option Replayed → Type 0
-Tells parents ends place None = end_of ends place ≡ None
-Tells parents ends place (Some r) = IsReplayedAt parents (journals_in ends) (items_printed_in ends) place r
+abbrev pub TellsReplayed : List ℕ → List PlaceEnd → Place → Option Replayed → Type 0
+TellsReplayed parents ends place None = end_printed ends place ≡ None
+TellsReplayed parents ends place (Some r) = IsReplayedAt parents (journals_in ends) (items_printed_in ends) place r

@@ -15,8 +15,8 @@ abbrev pub comes_before : Place → Place → Bool
 comes_before p q = nat_lt p.id q.id || ((p.id == q.id) && (nat_lt p.node q.node || ((p.node == q.node) && nat_lt p.group q.group)))
 
 -- the list that is printed for a place, the first one where there are more
-abbrev pub end_of : List PlaceEnd → Place → Option PlaceEnd
-end_of ends place = find (λ (end : PlaceEnd). is_place end.place place) ends
+abbrev pub end_printed : List PlaceEnd → Place → Option PlaceEnd
+end_printed ends place = find (λ (end : PlaceEnd). is_place end.place place) ends
 
 -- the place is printed nowhere before this index
 abbrev pub IsFirst : List PlaceEnd → ℕ → Place → Type 0
@@ -25,5 +25,5 @@ IsFirst ends k place = (m : ℕ) (x : PlaceEnd) → m < k → slice_get ends m �
 -- the list that is printed for a place has this index
 pub record IsIndexOf (ends : List PlaceEnd) (place : Place) (k : ℕ) : Type 0 where
   pub within : k < length ends
-  pub at : slice_get ends k ≡ end_of ends place
+  pub at : slice_get ends k ≡ end_printed ends place
   pub first : IsFirst ends k place

@@ -5,13 +5,13 @@ use Rattle.shr_base.specs.declared.ends.PlaceEnd.{PlaceEnd}
 use Rattle.shr_model.specs.Places.{at_group}
 use Rattle.shr_replay.specs.declared.journal.Replayed.{Replayed}
 use Rattle.shr_replay.specs.Groups.{IsReplayedAt}
-use Rattle.shr_case.specs.Places.{IsFirst, end_of}
+use Rattle.shr_case.specs.Places.{IsFirst, end_printed}
 use Rattle.shr_case.specs.Lists.{items_printed_in, journals_in}
 
 -- each group's list at the id and node of a place has this index
 pub record AreFirsts (ends : List PlaceEnd) (place : Place) (count : ℕ) (firsts : List ℕ) : Type 0 where
   pub many : length firsts ≡ count
-  pub each : (group : ℕ) → group < count → slice_get ends (slice_index firsts group) ≡ end_of ends (at_group place group)
+  pub each : (group : ℕ) → group < count → slice_get ends (slice_index firsts group) ≡ end_printed ends (at_group place group)
 
 -- the places are of one id and node
 abbrev pub on_node : Place → Place → Bool
@@ -28,18 +28,18 @@ pub record IsTakenOut (count group : ℕ) (old new : List Replayed) : Type 0 whe
   pub others : (other : ℕ) → other < count → other ≢ group → slice_get new (count - 1 - other) ≡ slice_get old (count - 1 - other)
 
 -- of replays of all groups, those of the groups behind that of a place are of its id and node
-abbrev pub AreBehind : List ℕ → List PlaceEnd → Place → List Replayed → Type 0
-AreBehind parents ends place node = (group : ℕ) (r : Replayed) → place.group < group → group < length parents → slice_get node (length parents - 1 - group) ≡ Some r
+abbrev pub AreReplayedBehind : List ℕ → List PlaceEnd → Place → List Replayed → Type 0
+AreReplayedBehind parents ends place node = (group : ℕ) (r : Replayed) → place.group < group → group < length parents → slice_get node (length parents - 1 - group) ≡ Some r
     → IsReplayedAt parents (journals_in ends) (items_printed_in ends) (at_group place group) r
 
 -- before a list these replays are there: those of the groups behind that of the list before
-pub record IsLeft (parents : List ℕ) (ends : List PlaceEnd) (k : ℕ) (node : List Replayed) : Type 0 where
+pub record AreReplaysBefore (parents : List ℕ) (ends : List PlaceEnd) (k : ℕ) (node : List Replayed) : Type 0 where
   pub many : 0 < k → length node ≡ length parents
-  pub behind : (x : PlaceEnd) → 0 < k → slice_get ends (k - 1) ≡ Some x → AreBehind parents ends x.place node
+  pub behind : (x : PlaceEnd) → 0 < k → slice_get ends (k - 1) ≡ Some x → AreReplayedBehind parents ends x.place node
 
 -- those of the list's own group and of the groups behind it
-pub record IsReady (parents : List ℕ) (ends : List PlaceEnd) (k : ℕ) (node : List Replayed) : Type 0 where
+pub record AreReplaysAt (parents : List ℕ) (ends : List PlaceEnd) (k : ℕ) (node : List Replayed) : Type 0 where
   pub many : length node ≡ length parents
   pub own : (end : PlaceEnd) (r : Replayed) → slice_get ends k ≡ Some end → IsFirst ends k end.place → end.place.group < length parents → slice_get node (length parents - 1 - end.place.group) ≡ Some r
       → IsReplayedAt parents (journals_in ends) (items_printed_in ends) end.place r
-  pub behind : (end : PlaceEnd) → slice_get ends k ≡ Some end → AreBehind parents ends end.place node
+  pub behind : (end : PlaceEnd) → slice_get ends k ≡ Some end → AreReplayedBehind parents ends end.place node

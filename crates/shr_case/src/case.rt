@@ -11,7 +11,7 @@ ghost use Rattle.shr_replay.specs.Journals.{IsReplayed, freed_tags, values_from}
 ghost use Rattle.shr_replay.specs.Tags.{tag_of};
 ghost use Rattle.shr_report.specs.Parts.{journals_of, parents_of};
 ghost use Rattle.shr_case.specs.Places.{AreInOrder};
-ghost use Rattle.shr_case.specs.Lists.{IsCaseOf, IsReplayOf, Tells, items_printed_in};
+ghost use Rattle.shr_case.specs.Lists.{IsCaseOf, IsReplayOf, TellsReplayed, items_printed_in};
 
 use crate::lists::replay_lists;
 use crate::places::index_of;
@@ -63,7 +63,7 @@ impl Case {
     // What the journal of a place tells; nothing of a place that isn't printed.
     fn replay(&self, report: &Report, place: Place) -> Option<&Replayed>
         requires { IsReplayOf report.now self.now }
-        ensures { Tells self.now.parents.items report.now.places.items place
+        ensures { TellsReplayed self.now.parents.items report.now.places.items place
             (option_copied result) }
     {
         match index_of(report.places.as_slice(), place) {

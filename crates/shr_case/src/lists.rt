@@ -7,8 +7,8 @@ ghost use Rattle.shr_replay.specs.Groups.{AreReplayed};
 ghost use Rattle.shr_replay.specs.Journals.{IsReplayed};
 ghost use Rattle.shr_replay.specs.Lists.{took_of};
 ghost use Rattle.shr_case.specs.Lists.{AreReplays, IsReplayOfList, items_printed_in, journals_in};
-ghost use Rattle.shr_case.specs.Places.{AreInOrder, end_of};
-ghost use Rattle.shr_case.specs.Replaying.{AreFirsts, IsLeft, IsNewAt, IsReady, IsTakenOut, on_node};
+ghost use Rattle.shr_case.specs.Places.{AreInOrder, end_printed};
+ghost use Rattle.shr_case.specs.Replaying.{AreFirsts, AreReplaysBefore, IsNewAt, AreReplaysAt, IsTakenOut, on_node};
 
 use crate::places::index_of;
 use shr_base::ends::PlaceEnd;
@@ -23,7 +23,7 @@ use std::mem::replace;
 // The index of the list of a place, or one past the last list.
 fn first_at(ends: &[PlaceEnd], place: Place) -> usize
     requires { AreInOrder ends.now }
-    ensures { slice_get ends.now result ≡ end_of ends.now place }
+    ensures { slice_get ends.now result ≡ end_printed ends.now place }
 {
     match index_of(ends, place) {
         Some(k) => k,
@@ -144,8 +144,8 @@ fn renew(
     requires few { length parents.now ≤ 65536 }
     requires order { AreInOrder ends.now }
     requires there { k < length ends.now }
-    requires left { IsLeft parents.now ends.now k node.old.items }
-    ensures { OnOk result (IsReady parents.now ends.now k node.new.items) }
+    requires left { AreReplaysBefore parents.now ends.now k node.old.items }
+    ensures { OnOk result (AreReplaysAt parents.now ends.now k node.new.items) }
 {
     if !is_new(ends, k) {
         return Ok(());
@@ -166,9 +166,9 @@ fn replay_next(
     requires few { length parents.now ≤ 65536 }
     requires order { AreInOrder ends.now }
     requires there { k < length ends.now }
-    requires left { IsLeft parents.now ends.now k node.old.items }
+    requires left { AreReplaysBefore parents.now ends.now k node.old.items }
     ensures replayed { IfOk result (λ r. IsReplayOfList parents.now ends.now k r) }
-    ensures left { OnOk result (IsLeft parents.now ends.now (k + 1) node.new.items) }
+    ensures left { OnOk result (AreReplaysBefore parents.now ends.now (k + 1) node.new.items) }
 {
     renew(alloc, parents, ends, k, node)?;
     let replayed = take_replay(alloc, parents, &ends[k], node)?;

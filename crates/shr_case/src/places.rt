@@ -5,7 +5,7 @@ ghost use Rattle.std.specs.Bool.{Decides};
 ghost use Rattle.shr_base.specs.declared.ends.PlaceEnd.{PlaceEnd};
 ghost use Rattle.shr_model.specs.Places.{is_place};
 ghost use Rattle.shr_report.specs.Parts.{journals_of};
-ghost use Rattle.shr_case.specs.Places.{AreInOrder, IsFirst, IsIndexOf, comes_before, end_of};
+ghost use Rattle.shr_case.specs.Places.{AreInOrder, IsFirst, IsIndexOf, comes_before, end_printed};
 
 use shr_base::ends::PlaceEnd;
 use shr_base::journals::Entry;
@@ -41,7 +41,7 @@ fn index_from(ends: &[PlaceEnd], place: Place) -> usize
 pub fn index_of(ends: &[PlaceEnd], place: Place) -> Option<usize>
     requires { AreInOrder ends.now }
     ensures some { IfSome result (λ k. IsIndexOf ends.now place k) }
-    ensures none { IfNone result (end_of ends.now place ≡ None) }
+    ensures none { IfNone result (end_printed ends.now place ≡ None) }
 {
     let k = index_from(ends, place);
     if k < ends.len() && is_place(ends[k].place, place) {
@@ -64,7 +64,7 @@ pub fn is_first(ends: &[PlaceEnd], k: usize) -> bool
 /// The list that is printed for a place. Our own.
 pub fn end_at(report: &Report, place: Place) -> Option<&PlaceEnd>
     requires { AreInOrder report.now.places.items }
-    ensures { option_copied result ≡ end_of report.now.places.items place }
+    ensures { option_copied result ≡ end_printed report.now.places.items place }
 {
     let ends = report.places.as_slice();
     match index_of(ends, place) {

@@ -1,5 +1,5 @@
 -- The Begin and the Done of a group in a journal that grows, and sums over groups.
-use Rattle.shr_charge.proofs.Common.{◌≡◌, ℕ, zero, suc, ◌+◌, ◌*◌, ◌<◌, ◌≤◌, ◌≢◌, ◌-◌, Bool, true, false, not, ◌&&◌, ◌||◌, eqb, cond, List, [], ◌∷◌, ◌++◌, length, take, drop, sym, refl, ap, subst, ◌∙◌, ⊎_elim, arith, eq-eqb, Option, Some, None, slice_get, position_from, option_or, is_some, is_none, cases_Bool, eqb-true, take-append-drop, TreeEntry, Begin, Done, Made, is_begin, is_done, is_making, begin_of, done_of, made_of, is_made, MayBegin, IsTreeJournal, Hierarchy, is_later, sum_below, entries_of, is_open, opens}
+use Rattle.shr_charge.proofs.Common.{◌≡◌, ℕ, zero, suc, ◌+◌, ◌*◌, ◌<◌, ◌≤◌, ◌≢◌, ◌-◌, Bool, true, false, not, ◌&&◌, ◌||◌, eqb, cond, List, [], ◌∷◌, ◌++◌, length, take, drop, sym, refl, ap, subst, ◌∙◌, ⊎_elim, arith, eq-eqb, Option, Some, None, slice_get, position_from, option_or, is_some, is_none, cases_Bool, eqb-true, take-append-drop, TreeEntry, Begin, Done, Made, is_begin, is_done, is_making, begin_of, done_of, made_of, is_made, MayBegin, IsTreeJournal, Hierarchy, is_later, sum_below, count_of_entries, is_open, opens}
 use Rattle.shr_charge.proofs.Listing.{get_below, position-append, position-at}
 use Rattle.shr_model.proofs.Booleans.{bit_small}
 
@@ -118,14 +118,14 @@ pub sum_small : (f : ℕ → ℕ) (m n : ℕ) → ((k : ℕ) → f k ≤ m) → 
 sum_small f m zero h = omega arith
 sum_small f m (suc n) h = let rest = sum_small f m n h in let one = h n in let e : m * suc n ≡ m * n + m = omega arith in omega arith
 
-pub entries_small : (es : List TreeEntry) (g : ℕ) → entries_of es g ≤ 3
+pub entries_small : (es : List TreeEntry) (g : ℕ) → count_of_entries es g ≤ 3
 entries_small es g = omega (arith, bit_small (is_some (begin_of es g)), bit_small (is_some (done_of es g)), bit_small (is_some (made_of es g)))
 
 -- a Begin more
 module _ (es : List TreeEntry) (g n : ℕ) (low : g < n) (once : begin_of es g ≡ None) where
   -- a Begin adds one entry
-  pub entries_begin : sum_below (entries_of (es ++ Begin g ∷ [])) n ≡ sum_below (entries_of es) n + 1
-  entries_begin = let flip = sum_flip (entries_of es) (entries_of (es ++ Begin g ∷ [])) n g low (λ k apart. let f = not_same g k apart in
+  pub entries_begin : sum_below (count_of_entries (es ++ Begin g ∷ [])) n ≡ sum_below (count_of_entries es) n + 1
+  entries_begin = let flip = sum_flip (count_of_entries es) (count_of_entries (es ++ Begin g ∷ [])) n g low (λ k apart. let f = not_same g k apart in
       let b = ap {B = ℕ} (λ (x : Option ℕ). cond (is_some x) 1 0) (begin_other es g k f) in let d = ap {B = ℕ} (λ (x : Option ℕ). cond (is_some x) 1 0) (done_past_begin es g k) in let m = ap {B = ℕ} (λ (x : Option ℕ). cond (is_some x) 1 0) (made_past_begin es g k) in omega (arith, b, d, m)) in
       let b = ap {B = ℕ} (λ (x : Option ℕ). cond (is_some x) 1 0) (begin_new es g once) in let was = ap {B = ℕ} (λ (x : Option ℕ). cond (is_some x) 1 0) once in
       let d = ap {B = ℕ} (λ (x : Option ℕ). cond (is_some x) 1 0) (done_past_begin es g g) in let m = ap {B = ℕ} (λ (x : Option ℕ). cond (is_some x) 1 0) (made_past_begin es g g) in omega (arith, flip, b, was, d, m)
@@ -139,8 +139,8 @@ module _ (es : List TreeEntry) (g n : ℕ) (low : g < n) (once : begin_of es g �
 -- a Done more
 module _ (es : List TreeEntry) (g n : ℕ) (low : g < n) (b : ℕ) (begun : begin_of es g ≡ Some b) (once : done_of es g ≡ None) where
   -- a Done adds one entry
-  pub entries_done : sum_below (entries_of (es ++ Done g ∷ [])) n ≡ sum_below (entries_of es) n + 1
-  entries_done = let flip = sum_flip (entries_of es) (entries_of (es ++ Done g ∷ [])) n g low (λ k apart. let f = not_same g k apart in
+  pub entries_done : sum_below (count_of_entries (es ++ Done g ∷ [])) n ≡ sum_below (count_of_entries es) n + 1
+  entries_done = let flip = sum_flip (count_of_entries es) (count_of_entries (es ++ Done g ∷ [])) n g low (λ k apart. let f = not_same g k apart in
       let x = ap {B = ℕ} (λ (x : Option ℕ). cond (is_some x) 1 0) (begin_past_done es g k) in let d = ap {B = ℕ} (λ (x : Option ℕ). cond (is_some x) 1 0) (done_other es g k f) in let m = ap {B = ℕ} (λ (x : Option ℕ). cond (is_some x) 1 0) (made_past_done es g k) in omega (arith, x, d, m)) in
       let x = ap {B = ℕ} (λ (x : Option ℕ). cond (is_some x) 1 0) (begin_past_done es g g) in
       let d = ap {B = ℕ} (λ (x : Option ℕ). cond (is_some x) 1 0) (done_new es g once) in let was = ap {B = ℕ} (λ (x : Option ℕ). cond (is_some x) 1 0) once in let m = ap {B = ℕ} (λ (x : Option ℕ). cond (is_some x) 1 0) (made_past_done es g g) in omega (arith, flip, x, was, d, m)
@@ -160,8 +160,8 @@ module _ (es : List TreeEntry) (g n : ℕ) (low : g < n) (b : ℕ) (begun : begi
 -- a Made more
 module _ (es : List TreeEntry) (g n : ℕ) (low : g < n) (once : made_of es g ≡ None) where
   -- a Made adds one entry
-  pub entries_made : sum_below (entries_of (es ++ Made g ∷ [])) n ≡ sum_below (entries_of es) n + 1
-  entries_made = let flip = sum_flip (entries_of es) (entries_of (es ++ Made g ∷ [])) n g low (λ k apart. let f = not_same g k apart in
+  pub entries_made : sum_below (count_of_entries (es ++ Made g ∷ [])) n ≡ sum_below (count_of_entries es) n + 1
+  entries_made = let flip = sum_flip (count_of_entries es) (count_of_entries (es ++ Made g ∷ [])) n g low (λ k apart. let f = not_same g k apart in
       let b = ap {B = ℕ} (λ (x : Option ℕ). cond (is_some x) 1 0) (begin_past_made es g k) in let d = ap {B = ℕ} (λ (x : Option ℕ). cond (is_some x) 1 0) (done_past_made es g k) in let m = ap {B = ℕ} (λ (x : Option ℕ). cond (is_some x) 1 0) (made_other es g k f) in omega (arith, b, d, m)) in
       let b = ap {B = ℕ} (λ (x : Option ℕ). cond (is_some x) 1 0) (begin_past_made es g g) in let d = ap {B = ℕ} (λ (x : Option ℕ). cond (is_some x) 1 0) (done_past_made es g g) in
       let m = ap {B = ℕ} (λ (x : Option ℕ). cond (is_some x) 1 0) (made_new es g once) in let was = ap {B = ℕ} (λ (x : Option ℕ). cond (is_some x) 1 0) once in omega (arith, flip, b, d, m, was)

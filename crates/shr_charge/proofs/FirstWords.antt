@@ -1,6 +1,5 @@
 -- The words of a new table, group by group.
-use Rattle.shr_charge.proofs.Common.{◌≡◌, ◌≢◌, ℕ, ◌+◌, ◌*◌, ◌%◌, ◌^◌, ◌<◌, ◌≤◌, ◌⊎◌, inl, inr, ⊎_elim, Bool, true, false, cond, List, length, replicate, set, get_or, sym, ap, subst, ◌∙◌, arith, length-set, get_or-set_same, get_or-set_other, get_or-replicate, cases_lt, is_later, group_in, group_index, AreFirst}
-use Rattle.std.proofs.lemmas.List.{length-replicate}
+use Rattle.shr_charge.proofs.Common.{◌≡◌, ◌≢◌, ℕ, ◌+◌, ◌*◌, ◌%◌, ◌^◌, ◌<◌, ◌≤◌, ◌⊎◌, inl, inr, ⊎_elim, Bool, true, false, cond, List, length, replicate, set, get_or, sym, ap, subst, ◌∙◌, arith, length-set, get_or-set_same, get_or-set_other, get_or-replicate, cases_lt, is_later, group_in, group_index, AreFirstGroupWords, length-replicate}
 
 -- the words of the groups below n are those of a new table, and all others are 0
 pub record AreFirstTo (later : List Bool) (n : ℕ) (words : List ℕ) : Type 0 where
@@ -41,7 +40,7 @@ module _ (later : List Bool) (n : ℕ) (words : List ℕ) (to : AreFirstTo later
         ∙ to.others i (omega (arith, near, same-long)) (⊎_elim (λ no. inl no) (λ le. inr (omega (arith, le))) h);
   }
 
-pub first_all : (later : List Bool) (n : ℕ) (words : List ℕ) → length later ≤ n → AreFirstTo later n words → AreFirst later words
+pub first_all : (later : List Bool) (n : ℕ) (words : List ℕ) → length later ≤ n → AreFirstTo later n words → AreFirstGroupWords later words
 first_all later n words all to = record {
   long = to.long;
   groups = λ g low. to.groups g (omega (arith, low, all));

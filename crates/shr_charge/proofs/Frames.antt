@@ -1,19 +1,19 @@
 -- The rule after a step of one seat, part by part.
-use Rattle.shr_charge.proofs.Common.{◌≡◌, ◌≢◌, ℕ, true, false, List, map, set, length, sym, ap, subst, ◌∙◌, arith, length-set, get_or-set_other, sum_by, map-set, some, get_elem?, State, at_map, set_again, Kept, TreeEntry, AreSeats, Each, Each-set, sum_by-changed, not_gone, View, Shape, Uses, TreeView, Histories, AreUsed, IsPaced, hierarchy_of, IsOfflined, IsSound, usage_index, group_index, usage_in, group_in, lock_in, uses_in, tree_in, standing_in, spent_view}
+use Rattle.shr_charge.proofs.Common.{◌≡◌, ◌≢◌, ℕ, true, false, List, map, set, length, sym, ap, subst, ◌∙◌, arith, length-set, get_or-set_other, sum_by, map-set, some, get_elem?, State, at_map, set_again, Kept, TreeEntry, AreSeats, Each, Each-set, sum_by-changed, not_gone, View, Shape, Uses, TreeView, UseHistories, AreUsed, IsPaced, hierarchy_of, IsOfflined, IsChargeSound, usage_index, group_index, usage_in, group_in, lock_in, uses_in, tree_in, charge_standing_in, spent_charge_view}
 use mathlib.Core.Option.{Option}
 use Rattle.shr_charge.proofs.Numbering.{used_words}
 use Rattle.shr_charge.proofs.Journaling.{offlined_words}
 
-module _ (k : Shape) (s : State (Kept TreeEntry) View) (o : IsSound k s) (id : ℕ) (v : View) (me : get_elem? s.views id ≡ some v) (here : v.standing.gone ≡ false) where
-  emptied : (w : View) → w.standing ≡ v.standing → (j : ℕ) (x : View) → get_elem? (set s.views id w) j ≡ some x → x.standing.gone ≡ true → x ≡ spent_view
-  emptied w same = Each-set (λ (x : View). x.standing.gone ≡ true → x ≡ spent_view) s.views id w (λ t. absurd (not_gone v.standing here (ap (λ z. z.gone) (sym same) ∙ t))) o.emptied
+module _ (k : Shape) (s : State (Kept TreeEntry) View) (o : IsChargeSound k s) (id : ℕ) (v : View) (me : get_elem? s.views id ≡ some v) (here : v.standing.gone ≡ false) where
+  emptied : (w : View) → w.standing ≡ v.standing → (j : ℕ) (x : View) → get_elem? (set s.views id w) j ≡ some x → x.standing.gone ≡ true → x ≡ spent_charge_view
+  emptied w same = Each-set (λ (x : View). x.standing.gone ≡ true → x ≡ spent_charge_view) s.views id w (λ t. absurd (not_gone v.standing here (ap (λ z. z.gone) (sym same) ∙ t))) o.emptied
 
-  seats : (w : View) → w.standing ≡ v.standing → AreSeats (map standing_in (set s.views id w))
-  seats w same = subst AreSeats (sym (map-set standing_in s.views id w ∙ (ap (λ z. set (map standing_in s.views) id z) same ∙ set_again (map standing_in s.views) id v.standing (at_map standing_in s.views id v me)))) o.seats
+  seats : (w : View) → w.standing ≡ v.standing → AreSeats (map charge_standing_in (set s.views id w))
+  seats w same = subst AreSeats (sym (map-set charge_standing_in s.views id w ∙ (ap (λ z. set (map charge_standing_in s.views) id z) same ∙ set_again (map charge_standing_in s.views) id v.standing (at_map charge_standing_in s.views id v me)))) o.seats
 
   -- a usage word changes, and the seat's operations
-  pub on_use : (g n : ℕ) (u : Uses) (history : Histories) → AreUsed (length k.parents.items) (usage_in (set s.words (usage_index g) n)) history (set (map uses_in s.views) id u) → IsPaced u → u.seats ≡ v.uses.seats
-      → IsSound k record { words = set s.words (usage_index g) n; homes = s.homes; views = set s.views id (record v { uses = u }) }
+  pub on_use : (g n : ℕ) (u : Uses) (history : UseHistories) → AreUsed (length k.parents.items) (usage_in (set s.words (usage_index g) n)) history (set (map uses_in s.views) id u) → IsPaced u → u.seats ≡ v.uses.seats
+      → IsChargeSound k record { words = set s.words (usage_index g) n; homes = s.homes; views = set s.views id (record v { uses = u }) }
   on_use g n u history used paced same = let w : View = record v { uses = u } in let i : ℕ = usage_index g in record {
     history = history;
     journal = o.journal;
@@ -31,7 +31,7 @@ module _ (k : Shape) (s : State (Kept TreeEntry) View) (o : IsSound k s) (id : �
 
   -- another word changes, and what the seat did and saw of the tree
   pub on_tree : (i n : ℕ) → ((g : ℕ) → usage_index g ≢ i) → (homes : List (Option (Kept TreeEntry))) (t : TreeView) (journal : List TreeEntry) → IsOfflined (hierarchy_of k) journal (group_in (set s.words i n)) (lock_in (set s.words i n)) homes (set (map tree_in s.views) id t)
-      → IsSound k record { words = set s.words i n; homes = homes; views = set s.views id (record v { tree = t }) }
+      → IsChargeSound k record { words = set s.words i n; homes = homes; views = set s.views id (record v { tree = t }) }
   on_tree i n apart homes t journal offlined = let w : View = record v { tree = t } in record {
     history = o.history;
     journal = journal;

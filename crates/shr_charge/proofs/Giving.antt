@@ -1,14 +1,13 @@
 -- What is left of a seat that gave the room back.
-use Rattle.shr_charge.proofs.Common.{◌≡◌, ℕ, ◌+◌, ◌<◌, ◌≤◌, true, false, List, [], ◌∷◌, ◌++◌, length, sym, refl, ap, subst, ◌∙◌, Some, append-nil, All-push, Kept, TreeEntry, begin_of, done_of, MayBeDone, MayFollow, Charge, ChargeSeat, View, Hierarchy, hierarchy_of, Uses, TreeView, IsPaced, IsMade, with_hand, with_given, with_done, Sat, with_tree, HasRoom, Shown, IsOf, uses_of, tree_of, standing_of, counted}
+use Rattle.shr_charge.proofs.Common.{◌≡◌, ℕ, ◌+◌, ◌<◌, ◌≤◌, true, false, List, [], ◌∷◌, ◌++◌, length, sym, refl, ap, subst, ◌∙◌, Some, append-nil, All-push, Kept, TreeEntry, begin_of, done_of, MayBeDone, MayFollow, Charge, ChargeSeat, View, Hierarchy, hierarchy_of, Uses, TreeView, IsPaced, IsTreeEntryMade, with_tree_hand, with_tree_given, with_done, ChargeSat, with_tree, HoldsTreeRoom, Shown, IsChargeSeat, uses_of, tree_of, standing_of, counted, Decides, Settles, hand_by, hand_made}
 use Rattle.shr_base.specs.declared.journals.TreeEntry.TheVariants.{Begin, Done, Made as MadeEntry}
 use Rattle.shr_charge.specs.declared.answers.BeginAnswer.{BeginAnswer}
 use Rattle.shr_charge.specs.declared.answers.BeginAnswer.TheVariants as began
 use Rattle.shr_charge.specs.declared.answers.DoneAnswer.TheVariants as ended
 use Rattle.shr_charge.specs.declared.answers.MakeAnswer.{MakeAnswer}
 use Rattle.shr_charge.specs.declared.answers.MakeAnswer.TheVariants as make
-use Rattle.shr_charge.specs.Answers.{gave, Knows, BeginTells, BeginLeaves, IfGiven, MakeTells, MakeLeaves, DoneTells, DoneLeaves}
-use Rattle.shr_charge.specs.Views.{Made}
-use Rattle.shr_charge.specs.Rooms.{Decides, Settles, hand_by, hand_made}
+use Rattle.shr_charge.specs.Answers.{gave, KnowsTree, BeginTells, BeginLeaves, IfGiven, MakeTells, MakeLeaves, DoneTells, DoneLeaves}
+use Rattle.shr_charge.specs.Views.{TreeMade}
 use Rattle.shr_charge.proofs.Listing.{get_last, stands_push}
 use Rattle.shr_charge.proofs.Entries.{begin_grows}
 use Rattle.shr_charge.proofs.Journaling.{prefix_longer, prefix_whole, heard_longer, loaded_longer, made_longer}
@@ -16,19 +15,19 @@ use Rattle.shr_charge.proofs.Journaling.{prefix_longer, prefix_whole, heard_long
 -- on plain data
 module _ (groups : Hierarchy) (t : TreeView) (room : Kept TreeEntry) (shown : Shown groups t room) where
   -- with its journal
-  knows_same : Knows groups t (with_given (with_hand t room.items))
+  knows_same : KnowsTree groups t (with_tree_given (with_tree_hand t room.items))
   knows_same = record {
     legal = shown.legal;
     grows = shown.seen.known;
     seen = record { known = prefix_whole room.items room.items refl; heard = shown.seen.heard; hand = λ h. absurd (let c : false ≡ true = h in cc); loaded = shown.seen.loaded; made = shown.seen.made };
   }
 
-  leaves_same : with_given (with_hand t room.items) ≡ gave t [] room.items
-  leaves_same = ap (λ (m : List Made). record t { made = m; known = room.items; gives = t.gives + 1; in_hand = false; hand = [] }) (sym (append-nil t.made))
+  leaves_same : with_tree_given (with_tree_hand t room.items) ≡ gave t [] room.items
+  leaves_same = ap (λ (m : List TreeMade). record t { made = m; known = room.items; gives = t.gives + 1; in_hand = false; hand = [] }) (sym (append-nil t.made))
 
   -- with one entry more
   knows_more : (e : TreeEntry) → MayFollow groups room.items e → ((g n : ℕ) → begin_of room.items g ≡ Some n → begin_of (room.items ++ e ∷ []) g ≡ Some n)
-      → Knows groups t (gave t ((record { number = length room.items; entry = e }) ∷ []) (room.items ++ e ∷ []))
+      → KnowsTree groups t (gave t ((record { number = length room.items; entry = e }) ∷ []) (room.items ++ e ∷ []))
   knows_more e may grows = let j : List TreeEntry = room.items in record {
     legal = stands_push (MayFollow groups) j e shown.legal may;
     grows = prefix_longer t.known j e shown.seen.known;
@@ -37,13 +36,13 @@ module _ (groups : Hierarchy) (t : TreeView) (room : Kept TreeEntry) (shown : Sh
       heard = heard_longer groups j e grows t.heard shown.seen.heard;
       hand = λ h. absurd (let c : false ≡ true = h in cc);
       loaded = loaded_longer groups j e grows t.loaded shown.seen.loaded;
-      made = All-push (IsMade (j ++ e ∷ [])) t.made (record { number = length j; entry = e }) (made_longer groups j e grows t.made shown.seen.made) (get_last j e (length j) refl);
+      made = All-push (IsTreeEntryMade (j ++ e ∷ [])) t.made (record { number = length j; entry = e }) (made_longer groups j e grows t.made shown.seen.made) (get_last j e (length j) refl);
     };
   }
 
   -- by the answer of begin_offline
   abbrev given : ℕ → BeginAnswer → TreeView
-  given g answer = with_given (hand_by g answer (with_hand t room.items))
+  given g answer = with_tree_given (hand_by g answer (with_tree_hand t room.items))
 
   module _ (g : ℕ) (above : 0 < g) (after : List TreeEntry) where
     begin_tells : (answer : BeginAnswer) → Decides groups g answer room.items after → BeginTells groups g answer t (given g answer).known
@@ -64,7 +63,7 @@ module _ (groups : Hierarchy) (t : TreeView) (room : Kept TreeEntry) (shown : Sh
     begin_leaves began.Memory d = leaves_same
     begin_leaves (began.Begun entry) d = ap (λ (n : ℕ). gave t ((record { number = n; entry = Begin g }) ∷ []) (room.items ++ Begin g ∷ [])) (sym d.0.number_is)
 
-    begin_knows : (answer : BeginAnswer) → Decides groups g answer room.items after → IfGiven answer (Knows groups t (given g answer))
+    begin_knows : (answer : BeginAnswer) → Decides groups g answer room.items after → IfGiven answer (KnowsTree groups t (given g answer))
     begin_knows began.Root d = absurd d
     begin_knows (began.AlreadyDone entry) d = knows_same
     begin_knows (began.Resumed entry) d = knows_same
@@ -75,7 +74,7 @@ module _ (groups : Hierarchy) (t : TreeView) (room : Kept TreeEntry) (shown : Sh
 
   -- by the answer of make_group
   abbrev pub given_made : ℕ → MakeAnswer → TreeView
-  given_made g answer = with_given (hand_made g answer (with_hand t room.items))
+  given_made g answer = with_tree_given (hand_made g answer (with_tree_hand t room.items))
 
   module _ (g : ℕ) (after : List TreeEntry) where
     make_tells : (answer : MakeAnswer) → Settles groups g answer room.items after → MakeTells groups g answer t (given_made g answer).known
@@ -92,7 +91,7 @@ module _ (groups : Hierarchy) (t : TreeView) (room : Kept TreeEntry) (shown : Sh
     make_leaves make.Memory d = leaves_same
     make_leaves (make.Made entry) d = ap (λ (n : ℕ). gave t ((record { number = n; entry = MadeEntry g }) ∷ []) (room.items ++ MadeEntry g ∷ [])) (sym d.0.number_is)
 
-    make_knows : (answer : MakeAnswer) → Settles groups g answer room.items after → Knows groups t (given_made g answer)
+    make_knows : (answer : MakeAnswer) → Settles groups g answer room.items after → KnowsTree groups t (given_made g answer)
     make_knows (make.AlreadyMade entry) d = knows_same
     make_knows (make.NotMade group) d = knows_same
     make_knows (make.Offline entry) d = knows_same
@@ -100,7 +99,7 @@ module _ (groups : Hierarchy) (t : TreeView) (room : Kept TreeEntry) (shown : Sh
     make_knows (make.Made entry) d = knows_more (MadeEntry g) d.1 (λ h n is. begin_grows room.items h (MadeEntry g ∷ []) n is)
 
   -- the Done of a group more
-  done_knows : (g : ℕ) → MayBeDone room.items g → Knows groups t (with_done (with_hand t room.items) g)
+  done_knows : (g : ℕ) → MayBeDone room.items g → KnowsTree groups t (with_done (with_tree_hand t room.items) g)
   done_knows g may = knows_more (Done g) may (λ h n is. begin_grows room.items h (Done g ∷ []) n is)
 
   -- the Begin that a view knows stands in the journal of the room
@@ -108,7 +107,7 @@ module _ (groups : Hierarchy) (t : TreeView) (room : Kept TreeEntry) (shown : Sh
   begun_there g b is = let grows = shown.seen.known in ap (λ l. begin_of l g) grows.1 ∙ begin_grows t.known g grows.0 b is
 
 -- on seats
-module _ (c : Charge) (old new : ChargeSeat) (t : TreeView) (was : IsOf c old) (view : new.seat.me.0 ≡ record old.seat.me.0 { tree = t }) where
+module _ (c : Charge) (old new : ChargeSeat) (t : TreeView) (was : IsChargeSeat c old) (view : new.seat.me.0 ≡ record old.seat.me.0 { tree = t }) where
   pub tree_is : tree_of new ≡ t
   tree_is = ap (λ (v : View). v.tree) view
 
@@ -119,7 +118,7 @@ module _ (c : Charge) (old new : ChargeSeat) (t : TreeView) (was : IsOf c old) (
   standing_is = ap (λ (v : View). v.standing) view
 
   -- the seat is one of this table after the room was given back
-  pub back : t.in_hand ≡ false → new.seat.table_id ≡ old.seat.table_id → new.seat.me.1 ≡ [] → new.charges ≡ old.charges → new.uncharges ≡ old.uncharges → IsOf c new
+  pub back : t.in_hand ≡ false → new.seat.table_id ≡ old.seat.table_id → new.seat.me.1 ≡ [] → new.charges ≡ old.charges → new.uncharges ≡ old.uncharges → IsChargeSeat c new
   back out table bare charges uncharges = record {
     seat = record { same = table ∙ was.seat.same; here = ap (λ (v : View). v.standing.gone) view ∙ was.seat.here };
     bare = bare;
@@ -131,30 +130,30 @@ module _ (c : Charge) (old new : ChargeSeat) (t : TreeView) (was : IsOf c old) (
   }
 
 -- the view after begin_in and give_tree
-pub begun_view : (c : Charge) (old s1 s2 new : ChargeSeat) (journal : List TreeEntry) (g : ℕ) (answer : BeginAnswer) → HasRoom c old s1 journal → s2.seat.me ≡ with_tree s1.seat.me (hand_by g answer (tree_of s1)) → new.seat.me.0 ≡ record s2.seat.me.0 { tree = with_given (tree_of s2) }
-    → new.seat.me.0 ≡ record old.seat.me.0 { tree = with_given (hand_by g answer (with_hand (tree_of old) journal)) }
-begun_view c old s1 s2 new journal g answer has two three = three ∙ (ap (λ (m : Sat). record m.0 { tree = with_given m.0.tree }) two ∙ ap (λ (v : View). record v { tree = with_given (hand_by g answer v.tree) }) has.view)
+pub begun_view : (c : Charge) (old s1 s2 new : ChargeSeat) (journal : List TreeEntry) (g : ℕ) (answer : BeginAnswer) → HoldsTreeRoom c old s1 journal → s2.seat.me ≡ with_tree s1.seat.me (hand_by g answer (tree_of s1)) → new.seat.me.0 ≡ record s2.seat.me.0 { tree = with_tree_given (tree_of s2) }
+    → new.seat.me.0 ≡ record old.seat.me.0 { tree = with_tree_given (hand_by g answer (with_tree_hand (tree_of old) journal)) }
+begun_view c old s1 s2 new journal g answer has two three = three ∙ (ap (λ (m : ChargeSat). record m.0 { tree = with_tree_given m.0.tree }) two ∙ ap (λ (v : View). record v { tree = with_tree_given (hand_by g answer v.tree) }) has.view)
 
 -- the view after a room was taken and given back as it was
-pub given_view : (c : Charge) (old s1 new : ChargeSeat) (journal : List TreeEntry) → HasRoom c old s1 journal → new.seat.me.0 ≡ record s1.seat.me.0 { tree = with_given (tree_of s1) } → new.seat.me.0 ≡ record old.seat.me.0 { tree = with_given (with_hand (tree_of old) journal) }
-given_view c old s1 new journal has three = three ∙ ap (λ (v : View). record v { tree = with_given v.tree }) has.view
+pub given_view : (c : Charge) (old s1 new : ChargeSeat) (journal : List TreeEntry) → HoldsTreeRoom c old s1 journal → new.seat.me.0 ≡ record s1.seat.me.0 { tree = with_tree_given (tree_of s1) } → new.seat.me.0 ≡ record old.seat.me.0 { tree = with_tree_given (with_tree_hand (tree_of old) journal) }
+given_view c old s1 new journal has three = three ∙ ap (λ (v : View). record v { tree = with_tree_given v.tree }) has.view
 
 -- and with a Done more
-pub done_view : (c : Charge) (old s1 new : ChargeSeat) (journal : List TreeEntry) (g : ℕ) → HasRoom c old s1 journal → new.seat.me.0 ≡ record s1.seat.me.0 { tree = with_done (tree_of s1) g } → new.seat.me.0 ≡ record old.seat.me.0 { tree = with_done (with_hand (tree_of old) journal) g }
+pub done_view : (c : Charge) (old s1 new : ChargeSeat) (journal : List TreeEntry) (g : ℕ) → HoldsTreeRoom c old s1 journal → new.seat.me.0 ≡ record s1.seat.me.0 { tree = with_done (tree_of s1) g } → new.seat.me.0 ≡ record old.seat.me.0 { tree = with_done (with_tree_hand (tree_of old) journal) g }
 done_view c old s1 new journal g has three = three ∙ ap (λ (v : View). record v { tree = with_done v.tree g }) has.view
 
 -- the view after make_in and give_tree
-pub made_view : (c : Charge) (old s1 s2 new : ChargeSeat) (journal : List TreeEntry) (g : ℕ) (answer : MakeAnswer) → HasRoom c old s1 journal → s2.seat.me ≡ with_tree s1.seat.me (hand_made g answer (tree_of s1)) → new.seat.me.0 ≡ record s2.seat.me.0 { tree = with_given (tree_of s2) }
-    → new.seat.me.0 ≡ record old.seat.me.0 { tree = with_given (hand_made g answer (with_hand (tree_of old) journal)) }
-made_view c old s1 s2 new journal g answer has two three = three ∙ (ap (λ (m : Sat). record m.0 { tree = with_given m.0.tree }) two ∙ ap (λ (v : View). record v { tree = with_given (hand_made g answer v.tree) }) has.view)
+pub made_view : (c : Charge) (old s1 s2 new : ChargeSeat) (journal : List TreeEntry) (g : ℕ) (answer : MakeAnswer) → HoldsTreeRoom c old s1 journal → s2.seat.me ≡ with_tree s1.seat.me (hand_made g answer (tree_of s1)) → new.seat.me.0 ≡ record s2.seat.me.0 { tree = with_tree_given (tree_of s2) }
+    → new.seat.me.0 ≡ record old.seat.me.0 { tree = with_tree_given (hand_made g answer (with_tree_hand (tree_of old) journal)) }
+made_view c old s1 s2 new journal g answer has two three = three ∙ (ap (λ (m : ChargeSat). record m.0 { tree = with_tree_given m.0.tree }) two ∙ ap (λ (v : View). record v { tree = with_tree_given (hand_made g answer v.tree) }) has.view)
 
-given_out : (g : ℕ) (answer : BeginAnswer) (t : TreeView) → (with_given (hand_by g answer t)).in_hand ≡ false
+given_out : (g : ℕ) (answer : BeginAnswer) (t : TreeView) → (with_tree_given (hand_by g answer t)).in_hand ≡ false
 given_out g answer t = refl
 
-module _ (c : Charge) (old new : ChargeSeat) (room : Kept TreeEntry) (g : ℕ) (was : IsOf c old) (shown : Shown (hierarchy_of c.shape) (tree_of old) room) where
-  module _ (above : 0 < g) (after : List TreeEntry) (answer : BeginAnswer) (d : Decides (hierarchy_of c.shape) g answer room.items after) (view : new.seat.me.0 ≡ record old.seat.me.0 { tree = with_given (hand_by g answer (with_hand (tree_of old) room.items)) }) where
-    is : tree_of new ≡ with_given (hand_by g answer (with_hand (tree_of old) room.items))
-    is = tree_is c old new (with_given (hand_by g answer (with_hand (tree_of old) room.items))) was view
+module _ (c : Charge) (old new : ChargeSeat) (room : Kept TreeEntry) (g : ℕ) (was : IsChargeSeat c old) (shown : Shown (hierarchy_of c.shape) (tree_of old) room) where
+  module _ (above : 0 < g) (after : List TreeEntry) (answer : BeginAnswer) (d : Decides (hierarchy_of c.shape) g answer room.items after) (view : new.seat.me.0 ≡ record old.seat.me.0 { tree = with_tree_given (hand_by g answer (with_tree_hand (tree_of old) room.items)) }) where
+    is : tree_of new ≡ with_tree_given (hand_by g answer (with_tree_hand (tree_of old) room.items))
+    is = tree_is c old new (with_tree_given (hand_by g answer (with_tree_hand (tree_of old) room.items))) was view
 
     -- what `begin_offline` answers is told by the journal
     pub offline_tells : BeginTells (hierarchy_of c.shape) g answer (tree_of old) (tree_of new).known
@@ -165,13 +164,13 @@ module _ (c : Charge) (old new : ChargeSeat) (room : Kept TreeEntry) (g : ℕ) (
     offline_leaves = subst (BeginLeaves g answer (tree_of old)) (sym is) (begin_leaves (hierarchy_of c.shape) (tree_of old) room shown g above after answer d)
 
     -- and what the seat then knows
-    pub offline_knows : IfGiven answer (Knows (hierarchy_of c.shape) (tree_of old) (tree_of new))
-    offline_knows = subst (λ (x : TreeView). IfGiven answer (Knows (hierarchy_of c.shape) (tree_of old) x)) (sym is) (begin_knows (hierarchy_of c.shape) (tree_of old) room shown g above after answer d)
+    pub offline_knows : IfGiven answer (KnowsTree (hierarchy_of c.shape) (tree_of old) (tree_of new))
+    offline_knows = subst (λ (x : TreeView). IfGiven answer (KnowsTree (hierarchy_of c.shape) (tree_of old) x)) (sym is) (begin_knows (hierarchy_of c.shape) (tree_of old) room shown g above after answer d)
 
   -- a group was made, or not
-  module _ (after : List TreeEntry) (answer : MakeAnswer) (d : Settles (hierarchy_of c.shape) g answer room.items after) (view : new.seat.me.0 ≡ record old.seat.me.0 { tree = with_given (hand_made g answer (with_hand (tree_of old) room.items)) }) where
-    makes : tree_of new ≡ with_given (hand_made g answer (with_hand (tree_of old) room.items))
-    makes = tree_is c old new (with_given (hand_made g answer (with_hand (tree_of old) room.items))) was view
+  module _ (after : List TreeEntry) (answer : MakeAnswer) (d : Settles (hierarchy_of c.shape) g answer room.items after) (view : new.seat.me.0 ≡ record old.seat.me.0 { tree = with_tree_given (hand_made g answer (with_tree_hand (tree_of old) room.items)) }) where
+    makes : tree_of new ≡ with_tree_given (hand_made g answer (with_tree_hand (tree_of old) room.items))
+    makes = tree_is c old new (with_tree_given (hand_made g answer (with_tree_hand (tree_of old) room.items))) was view
 
     -- what `make_group` answers is told by the journal
     pub group_tells : MakeTells (hierarchy_of c.shape) g answer (tree_of old) (tree_of new).known
@@ -182,13 +181,13 @@ module _ (c : Charge) (old new : ChargeSeat) (room : Kept TreeEntry) (g : ℕ) (
     group_leaves = subst (MakeLeaves g answer (tree_of old)) (sym makes) (make_leaves (hierarchy_of c.shape) (tree_of old) room shown g after answer d)
 
     -- and what the seat then knows
-    pub group_knows : Knows (hierarchy_of c.shape) (tree_of old) (tree_of new)
-    group_knows = subst (Knows (hierarchy_of c.shape) (tree_of old)) (sym makes) (make_knows (hierarchy_of c.shape) (tree_of old) room shown g after answer d)
+    pub group_knows : KnowsTree (hierarchy_of c.shape) (tree_of old) (tree_of new)
+    group_knows = subst (KnowsTree (hierarchy_of c.shape) (tree_of old)) (sym makes) (make_knows (hierarchy_of c.shape) (tree_of old) room shown g after answer d)
 
   -- done before
-  module _ (entry : ℕ) (found : done_of room.items g ≡ Some entry) (view : new.seat.me.0 ≡ record old.seat.me.0 { tree = with_given (with_hand (tree_of old) room.items) }) where
-    same : tree_of new ≡ with_given (with_hand (tree_of old) room.items)
-    same = tree_is c old new (with_given (with_hand (tree_of old) room.items)) was view
+  module _ (entry : ℕ) (found : done_of room.items g ≡ Some entry) (view : new.seat.me.0 ≡ record old.seat.me.0 { tree = with_tree_given (with_tree_hand (tree_of old) room.items) }) where
+    same : tree_of new ≡ with_tree_given (with_tree_hand (tree_of old) room.items)
+    same = tree_is c old new (with_tree_given (with_tree_hand (tree_of old) room.items)) was view
 
     -- what `done_offline` answers of a group that was done
     pub already_tells : DoneTells (hierarchy_of c.shape) g (ended.AlreadyDone entry) (tree_of old) (tree_of new).known
@@ -197,13 +196,13 @@ module _ (c : Charge) (old new : ChargeSeat) (room : Kept TreeEntry) (g : ℕ) (
     pub already_leaves : DoneLeaves g (ended.AlreadyDone entry) (tree_of old) (tree_of new)
     already_leaves = subst (DoneLeaves g (ended.AlreadyDone entry) (tree_of old)) (sym same) (leaves_same (hierarchy_of c.shape) (tree_of old) room shown)
 
-    pub already_knows : Knows (hierarchy_of c.shape) (tree_of old) (tree_of new)
-    already_knows = subst (Knows (hierarchy_of c.shape) (tree_of old)) (sym same) (knows_same (hierarchy_of c.shape) (tree_of old) room shown)
+    pub already_knows : KnowsTree (hierarchy_of c.shape) (tree_of old) (tree_of new)
+    already_knows = subst (KnowsTree (hierarchy_of c.shape) (tree_of old)) (sym same) (knows_same (hierarchy_of c.shape) (tree_of old) room shown)
 
   -- done now
-  module _ (entry : ℕ) (number : entry ≡ length room.items) (may : MayBeDone room.items g) (view : new.seat.me.0 ≡ record old.seat.me.0 { tree = with_done (with_hand (tree_of old) room.items) g }) where
-    more : tree_of new ≡ with_done (with_hand (tree_of old) room.items) g
-    more = tree_is c old new (with_done (with_hand (tree_of old) room.items) g) was view
+  module _ (entry : ℕ) (number : entry ≡ length room.items) (may : MayBeDone room.items g) (view : new.seat.me.0 ≡ record old.seat.me.0 { tree = with_done (with_tree_hand (tree_of old) room.items) g }) where
+    more : tree_of new ≡ with_done (with_tree_hand (tree_of old) room.items) g
+    more = tree_is c old new (with_done (with_tree_hand (tree_of old) room.items) g) was view
 
     -- what `done_offline` answers of a group that is done now
     pub done_tells : DoneTells (hierarchy_of c.shape) g (ended.Done entry) (tree_of old) (tree_of new).known
@@ -212,5 +211,5 @@ module _ (c : Charge) (old new : ChargeSeat) (room : Kept TreeEntry) (g : ℕ) (
     pub done_leaves : DoneLeaves g (ended.Done entry) (tree_of old) (tree_of new)
     done_leaves = subst (DoneLeaves g (ended.Done entry) (tree_of old)) (sym more) (ap (λ (n : ℕ). gave (tree_of old) ((record { number = n; entry = Done g }) ∷ []) (room.items ++ Done g ∷ [])) (sym number))
 
-    pub done_shows : Knows (hierarchy_of c.shape) (tree_of old) (tree_of new)
-    done_shows = subst (Knows (hierarchy_of c.shape) (tree_of old)) (sym more) (done_knows (hierarchy_of c.shape) (tree_of old) room shown g may)
+    pub done_shows : KnowsTree (hierarchy_of c.shape) (tree_of old) (tree_of new)
+    done_shows = subst (KnowsTree (hierarchy_of c.shape) (tree_of old)) (sym more) (done_knows (hierarchy_of c.shape) (tree_of old) room shown g may)

@@ -1,11 +1,7 @@
 -- The group words, the room and the journal under each step of one seat, on plain data.
-use Rattle.shr_charge.proofs.Common.{◌≡◌, ℕ, ◌+◌, ◌*◌, ◌<◌, ◌≤◌, ◌≢◌, Bool, true, false, not, ◌||◌, eqb, ltb, cond, List, [], ◌∷◌, ◌++◌, length, set, sym, refl, ap, subst, ◌∙◌, ⊎_elim, arith, length-append, append_assoc, eq-eqb, Option, Some, None, sum_by, All, cases_Bool, eqb-true, append-nil, sum_by_push, sum_by-append, All-push, All-append, All-weaker, All-nil, some, get_elem?, Kept, TreeEntry, is_some, Hierarchy, is_later, begin_of, made_of, is_made, MayBegin, MayBeMade, MayBeDone, MayFollow, IsTreeJournal, GroupState, Online, Offline, NotMade, Each, sum_by-changed, sum_by-joined, sum_by-more, Each-set, Each-push, TreeView, no_tree, IsPrefix, begun_state, state_at, word_of, WasState, entries_of, times, IsMade, IsNamed, IsSeen, IsHome, IsOfflined, with_load, with_hand, with_given, with_begin, with_made, with_done, joined_tree}
-use Rattle.std.proofs.lemmas.List.Elements.{All-cons}
-use Rattle.atomic_table.proofs.Lists.{at_set}
+use Rattle.shr_charge.proofs.Common.{◌≡◌, ℕ, ◌+◌, ◌*◌, ◌<◌, ◌≤◌, ◌≢◌, Bool, true, false, not, ◌||◌, eqb, ltb, cond, List, [], ◌∷◌, ◌++◌, length, set, sym, refl, ap, subst, ◌∙◌, ⊎_elim, arith, length-append, append_assoc, eq-eqb, Option, Some, None, sum_by, All, cases_Bool, eqb-true, append-nil, sum_by_push, sum_by-append, All-push, All-append, All-weaker, All-nil, some, get_elem?, Kept, TreeEntry, is_some, Hierarchy, is_later, begin_of, made_of, is_made, MayBegin, MayBeMade, MayBeDone, MayFollow, IsTreeJournal, GroupState, Online, Offline, NotMade, Each, sum_by-changed, sum_by-joined, sum_by-more, Each-set, Each-push, TreeView, no_tree, IsPrefix, begun_state, state_at, state_word, WasState, count_of_entries, times_noted, IsTreeEntryMade, IsNamed, IsTreeSeen, IsHome, IsOfflined, with_load, with_tree_hand, with_tree_given, with_begin, with_made, with_done, joined_tree, All-cons, at_set, term_le, terms_le, IsHeard}
 use Rattle.shr_base.specs.declared.journals.TreeEntry.TheVariants.{Begin, Done, Made as MadeEntry}
-use Rattle.shr_seats.proofs.Sums.{term_le, terms_le}
-use Rattle.shr_charge.specs.Views.{Made, Loaded}
-use Rattle.shr_charge.specs.Offlining.{IsHeard}
+use Rattle.shr_charge.specs.Views.{TreeMade, LoadedState}
 use Rattle.shr_charge.proofs.Listing.{get_longer, get_last, stands_push}
 use Rattle.shr_charge.proofs.Entries.{begin_new, begin_other, begin_past_done, begin_past_made, begin_grows, made_new, made_other, made_past_begin, made_past_done, is_made_grows, begun_made, sum_small, entries_small, entries_begin, entries_done, entries_made}
 use Rattle.shr_model.proofs.Numbers.{below_more}
@@ -77,18 +73,18 @@ module _ (h : Hierarchy) (journal : List TreeEntry) (e : TreeEntry) (grows : (g 
   was_longer g NotMade w = tt
 
   -- what a word said is so of a longer journal
-  pub loaded_longer : (l : List Loaded) → All (IsNamed h journal) l → All (IsNamed h (journal ++ e ∷ [])) l
+  pub loaded_longer : (l : List LoadedState) → All (IsNamed h journal) l → All (IsNamed h (journal ++ e ∷ [])) l
   loaded_longer l all = All-weaker (IsNamed h journal) (IsNamed h (journal ++ e ∷ [])) (λ x named. was_longer x.group x.state named) l all
 
   -- an entry stays where it stands in a longer journal
-  pub made_longer : (l : List Made) → All (IsMade journal) l → All (IsMade (journal ++ e ∷ [])) l
-  made_longer l all = All-weaker (IsMade journal) (IsMade (journal ++ e ∷ [])) (λ x made. get_longer journal (e ∷ []) x.number x.entry made) l all
+  pub made_longer : (l : List TreeMade) → All (IsTreeEntryMade journal) l → All (IsTreeEntryMade (journal ++ e ∷ [])) l
+  made_longer l all = All-weaker (IsTreeEntryMade journal) (IsTreeEntryMade (journal ++ e ∷ [])) (λ x made. get_longer journal (e ∷ []) x.number x.entry made) l all
 
   -- what was heard begins a longer journal too
   pub heard_longer : (l : List (List TreeEntry)) → All (IsHeard journal) l → All (IsHeard (journal ++ e ∷ [])) l
   heard_longer l all = All-weaker (IsHeard journal) (IsHeard (journal ++ e ∷ [])) (λ x begins. prefix_longer x journal e begins) l all
 
-  seen_longer : (t : TreeView) → t.in_hand ≡ false → IsSeen h journal t → IsSeen h (journal ++ e ∷ []) t
+  seen_longer : (t : TreeView) → t.in_hand ≡ false → IsTreeSeen h journal t → IsTreeSeen h (journal ++ e ∷ []) t
   seen_longer t out s = record {
     known = prefix_longer t.known journal e s.known;
     heard = heard_longer t.heard s.heard;
@@ -107,7 +103,7 @@ module _ (h : Hierarchy) (journal : List TreeEntry) (word : ℕ → ℕ) (lock :
 
   -- the journal has at most three entries for each group
   pub short : length journal ≤ 3 * length h.parents
-  short = omega (arith, o.counted, sum_small (entries_of journal) 3 (length h.parents) (entries_small journal))
+  short = omega (arith, o.counted, sum_small (count_of_entries journal) 3 (length h.parents) (entries_small journal))
 
   -- a group word is loaded
   pub loads : (g : ℕ) → g < length h.parents → IsOfflined h journal word lock homes (set trees id (with_load t g (state_at h journal g)))
@@ -118,40 +114,40 @@ module _ (h : Hierarchy) (journal : List TreeEntry) (word : ℕ → ℕ) (lock :
     locks = omega (arith, o.locks, sum_by-changed (λ (y : TreeView). cond y.in_hand 1 0) trees id t w me);
     one = o.one;
     home = o.home;
-    seen = Each-set (IsSeen h journal) trees id w (record {
+    seen = Each-set (IsTreeSeen h journal) trees id w (record {
       known = s.known;
       heard = s.heard;
       hand = s.hand;
       loaded = All-push (IsNamed h journal) t.loaded (record { group = g; state = state_at h journal g }) s.loaded (was_state h journal g);
       made = s.made;
     }) o.seen;
-    once = λ n. omega (arith, o.once n, sum_by-changed (λ (y : TreeView). times n y.made) trees id t w me);
+    once = λ n. omega (arith, o.once n, sum_by-changed (λ (y : TreeView). times_noted n y.made) trees id t w me);
   }
 
   -- the room is taken
-  pub takes : (homes' : Homes) → lock ≡ 0 → t.in_hand ≡ false → IsOfflined h journal word 1 homes' (set trees id (with_hand t journal))
-  takes homes' free out = let w : TreeView = with_hand t journal in let s = o.seen id t me in record {
+  pub takes : (homes' : Homes) → lock ≡ 0 → t.in_hand ≡ false → IsOfflined h journal word 1 homes' (set trees id (with_tree_hand t journal))
+  takes homes' free out = let w : TreeView = with_tree_hand t journal in let s = o.seen id t me in record {
     legal = o.legal;
     counted = o.counted;
     words = o.words;
     locks = omega (arith, o.locks, free, in_none t out, sum_by-changed (λ (y : TreeView). cond y.in_hand 1 0) trees id t w me);
     one = omega arith;
     home = λ z. absurd (omega (arith, z));
-    seen = Each-set (IsSeen h journal) trees id w (record { known = s.known; heard = s.heard; hand = λ _. refl; loaded = s.loaded; made = s.made }) o.seen;
-    once = λ n. omega (arith, o.once n, sum_by-changed (λ (y : TreeView). times n y.made) trees id t w me);
+    seen = Each-set (IsTreeSeen h journal) trees id w (record { known = s.known; heard = s.heard; hand = λ _. refl; loaded = s.loaded; made = s.made }) o.seen;
+    once = λ n. omega (arith, o.once n, sum_by-changed (λ (y : TreeView). times_noted n y.made) trees id t w me);
   }
 
   -- it is given back
-  pub gives : (homes' : Homes) (room : Kept TreeEntry) → t.in_hand ≡ true → get_elem? homes' 0 ≡ some (some room) → IsHome (length h.parents) t.hand room → IsOfflined h journal word 0 homes' (set trees id (with_given t))
-  gives homes' room has there fits = let w : TreeView = with_given t in let s = o.seen id t me in let is = s.hand has in record {
+  pub gives : (homes' : Homes) (room : Kept TreeEntry) → t.in_hand ≡ true → get_elem? homes' 0 ≡ some (some room) → IsHome (length h.parents) t.hand room → IsOfflined h journal word 0 homes' (set trees id (with_tree_given t))
+  gives homes' room has there fits = let w : TreeView = with_tree_given t in let s = o.seen id t me in let is = s.hand has in record {
     legal = o.legal;
     counted = o.counted;
     words = o.words;
     locks = omega (arith, o.locks, taken has, in_one t has, sum_by-changed (λ (y : TreeView). cond y.in_hand 1 0) trees id t w me);
     one = omega arith;
     home = λ _. (room, there, subst (λ (l : List TreeEntry). IsHome (length h.parents) l room) is fits);
-    seen = Each-set (IsSeen h journal) trees id w (record { known = prefix_whole t.hand journal is; heard = s.heard; hand = λ b. absurd (let c : true ≡ false = sym b in cc); loaded = s.loaded; made = s.made }) o.seen;
-    once = λ n. omega (arith, o.once n, sum_by-changed (λ (y : TreeView). times n y.made) trees id t w me);
+    seen = Each-set (IsTreeSeen h journal) trees id w (record { known = prefix_whole t.hand journal is; heard = s.heard; hand = λ b. absurd (let c : true ≡ false = sym b in cc); loaded = s.loaded; made = s.made }) o.seen;
+    once = λ n. omega (arith, o.once n, sum_by-changed (λ (y : TreeView). times_noted n y.made) trees id t w me);
   }
 
   -- the views of a journal that gained an entry, which the seat with the room made
@@ -163,25 +159,25 @@ module _ (h : Hierarchy) (journal : List TreeEntry) (word : ℕ → ℕ) (lock :
     grown_legal : IsTreeJournal h (journal ++ e ∷ [])
     grown_legal = stands_push (MayFollow h) journal e o.legal may
 
-    grown_seen : Each (IsSeen h (journal ++ e ∷ [])) (set trees id w)
+    grown_seen : Each (IsTreeSeen h (journal ++ e ∷ [])) (set trees id w)
     grown_seen j x there = ⊎_elim
-        (λ (g : (j ≡ id) × (w ≡ x)). subst (IsSeen h (journal ++ e ∷ [])) g.1 (record {
+        (λ (g : (j ≡ id) × (w ≡ x)). subst (IsTreeSeen h (journal ++ e ∷ [])) g.1 (record {
           known = known;
           heard = subst (All (IsHeard (journal ++ e ∷ []))) (sym heard) (heard_longer h journal e grows t.heard (o.seen id t me).heard);
           hand = hand;
           loaded = subst (All (IsNamed h (journal ++ e ∷ []))) (sym loaded) (loaded_longer h journal e grows t.loaded (o.seen id t me).loaded);
-          made = subst (All (IsMade (journal ++ e ∷ []))) (sym made) (All-push (IsMade (journal ++ e ∷ [])) t.made (record { number = length t.hand; entry = e }) (made_longer h journal e grows t.made (o.seen id t me).made) (get_last journal e (length t.hand) number_is));
+          made = subst (All (IsTreeEntryMade (journal ++ e ∷ []))) (sym made) (All-push (IsTreeEntryMade (journal ++ e ∷ [])) t.made (record { number = length t.hand; entry = e }) (made_longer h journal e grows t.made (o.seen id t me).made) (get_last journal e (length t.hand) number_is));
         }))
         (λ (g : (j ≢ id) × (get_elem? trees j ≡ some x)). seen_longer h journal e grows x (alone has j x g.0 g.1) (o.seen j x g.1))
         (at_set trees id j w x there)
 
-    grown_once : (n : ℕ) → sum_by (λ (y : TreeView). times n y.made) (set trees id w) ≡ cond (ltb n (length (journal ++ e ∷ []))) 1 0
-    grown_once n = let changed = sum_by-changed (λ (y : TreeView). times n y.made) trees id t w me in
-        let more = ap (times n) made ∙ sum_by_push (λ (m : Made). cond (eqb m.number n) 1 0) t.made (record { number = length t.hand; entry = e }) in
+    grown_once : (n : ℕ) → sum_by (λ (y : TreeView). times_noted n y.made) (set trees id w) ≡ cond (ltb n (length (journal ++ e ∷ []))) 1 0
+    grown_once n = let changed = sum_by-changed (λ (y : TreeView). times_noted n y.made) trees id t w me in
+        let more = ap (times_noted n) made ∙ sum_by_push (λ (m : TreeMade). cond (eqb m.number n) 1 0) t.made (record { number = length t.hand; entry = e }) in
         let long = length-append journal (e ∷ []) in let flag = ap {B = ℕ} (λ (k : ℕ). cond (ltb n k) 1 0) (let l : length (journal ++ e ∷ []) ≡ length journal + 1 = omega (arith, long) in l) in
         omega (arith, o.once n, changed, more, flag, below_more n (length journal) (length t.hand) number_is)
 
-    grown : IsTreeJournal h (journal ++ e ∷ []) × Each (IsSeen h (journal ++ e ∷ [])) (set trees id w) × ((n : ℕ) → sum_by (λ (y : TreeView). times n y.made) (set trees id w) ≡ cond (ltb n (length (journal ++ e ∷ []))) 1 0)
+    grown : IsTreeJournal h (journal ++ e ∷ []) × Each (IsTreeSeen h (journal ++ e ∷ [])) (set trees id w) × ((n : ℕ) → sum_by (λ (y : TreeView). times_noted n y.made) (set trees id w) ≡ cond (ltb n (length (journal ++ e ∷ []))) 1 0)
     grown = (grown_legal, grown_seen, grown_once)
 
   -- a Begin is stored
@@ -194,8 +190,8 @@ module _ (h : Hierarchy) (journal : List TreeEntry) (word : ℕ → ℕ) (lock :
         legal = fact.0;
         counted = omega (arith, o.counted, length-append journal (Begin g ∷ []), entries_begin journal g (length h.parents) may'.there may'.once);
         words = λ k low. ⊎_elim
-            (λ (t : eqb g k ≡ true). let same = eqb-true g k t in subst (λ (j : ℕ). word' j ≡ word_of (state_at h (journal ++ Begin g ∷ []) j)) same (now ∙ (ap (λ (l : List TreeEntry). length l + 1) is ∙ ap word_of (sym (state_made h (journal ++ Begin g ∷ []) g (Some (length journal)) (is_made_grows h journal (Begin g ∷ []) g may'.made) (begin_new journal g may'.once))))))
-            (λ (f : eqb g k ≡ false). others k low (λ e. eqb_apart g k f (sym e)) ∙ (o.words k low ∙ ap word_of (sym (state_same h journal (journal ++ Begin g ∷ []) k (made_past_begin journal g k) (begin_other journal g k f)))))
+            (λ (t : eqb g k ≡ true). let same = eqb-true g k t in subst (λ (j : ℕ). word' j ≡ state_word (state_at h (journal ++ Begin g ∷ []) j)) same (now ∙ (ap (λ (l : List TreeEntry). length l + 1) is ∙ ap state_word (sym (state_made h (journal ++ Begin g ∷ []) g (Some (length journal)) (is_made_grows h journal (Begin g ∷ []) g may'.made) (begin_new journal g may'.once))))))
+            (λ (f : eqb g k ≡ false). others k low (λ e. eqb_apart g k f (sym e)) ∙ (o.words k low ∙ ap state_word (sym (state_same h journal (journal ++ Begin g ∷ []) k (made_past_begin journal g k) (begin_other journal g k f)))))
             (cases_Bool (eqb g k));
         locks = omega (arith, o.locks, sum_by-changed (λ (y : TreeView). cond y.in_hand 1 0) trees id t w me);
         one = o.one;
@@ -214,8 +210,8 @@ module _ (h : Hierarchy) (journal : List TreeEntry) (word : ℕ → ℕ) (lock :
         legal = fact.0;
         counted = omega (arith, o.counted, length-append journal (MadeEntry g ∷ []), entries_made journal g (length h.parents) may'.there may'.once);
         words = λ k low. ⊎_elim
-            (λ (t : eqb g k ≡ true). let same = eqb-true g k t in subst (λ (j : ℕ). word' j ≡ word_of (state_at h (journal ++ MadeEntry g ∷ []) j)) same (now ∙ ap word_of (sym (state_made h (journal ++ MadeEntry g ∷ []) g None (made_now h journal g may'.once) (begin_past_made journal g g ∙ unmade_online h journal g o.legal may'.late may'.once)))))
-            (λ (f : eqb g k ≡ false). others k low (λ e. eqb_apart g k f (sym e)) ∙ (o.words k low ∙ ap word_of (sym (state_same h journal (journal ++ MadeEntry g ∷ []) k (made_other journal g k f) (begin_past_made journal g k)))))
+            (λ (t : eqb g k ≡ true). let same = eqb-true g k t in subst (λ (j : ℕ). word' j ≡ state_word (state_at h (journal ++ MadeEntry g ∷ []) j)) same (now ∙ ap state_word (sym (state_made h (journal ++ MadeEntry g ∷ []) g None (made_now h journal g may'.once) (begin_past_made journal g g ∙ unmade_online h journal g o.legal may'.late may'.once)))))
+            (λ (f : eqb g k ≡ false). others k low (λ e. eqb_apart g k f (sym e)) ∙ (o.words k low ∙ ap state_word (sym (state_same h journal (journal ++ MadeEntry g ∷ []) k (made_other journal g k f) (begin_past_made journal g k)))))
             (cases_Bool (eqb g k));
         locks = omega (arith, o.locks, sum_by-changed (λ (y : TreeView). cond y.in_hand 1 0) trees id t w me);
         one = o.one;
@@ -235,7 +231,7 @@ module _ (h : Hierarchy) (journal : List TreeEntry) (word : ℕ → ℕ) (lock :
       let fact = grown (Done g) has may' grows w refl refl (prefix_whole (t.hand ++ Done g ∷ []) (journal ++ Done g ∷ []) hand-grown) refl (λ b. absurd (let c : true ≡ false = sym b in cc)) in record {
         legal = fact.0;
         counted = omega (arith, o.counted, length-append journal (Done g ∷ []), entries_done journal g (length h.parents) low b begun' may'.once);
-        words = λ k near. o.words k near ∙ ap word_of (sym (state_same h journal (journal ++ Done g ∷ []) k (made_past_done journal g k) (begin_past_done journal g k)));
+        words = λ k near. o.words k near ∙ ap state_word (sym (state_same h journal (journal ++ Done g ∷ []) k (made_past_done journal g k) (begin_past_done journal g k)));
         locks = omega (arith, o.locks, taken has, in_one t has, sum_by-changed (λ (y : TreeView). cond y.in_hand 1 0) trees id t w me);
         one = omega arith;
         home = λ _. (room, there, subst (λ (l : List TreeEntry). IsHome (length h.parents) l room) hand-grown fits);
@@ -244,8 +240,8 @@ module _ (h : Hierarchy) (journal : List TreeEntry) (word : ℕ → ℕ) (lock :
       }
 
 -- what a new seat knows is so of any journal
-pub seen_none : (h : Hierarchy) (journal : List TreeEntry) → IsSeen h journal no_tree
-seen_none h journal = record { known = (journal, refl); heard = All-nil (IsHeard journal); hand = λ b. absurd (let c : true ≡ false = sym b in cc); loaded = All-nil (IsNamed h journal); made = All-nil (IsMade journal) }
+pub seen_none : (h : Hierarchy) (journal : List TreeEntry) → IsTreeSeen h journal no_tree
+seen_none h journal = record { known = (journal, refl); heard = All-nil (IsHeard journal); hand = λ b. absurd (let c : true ≡ false = sym b in cc); loaded = All-nil (IsNamed h journal); made = All-nil (IsTreeEntryMade journal) }
 
 -- a view that knows nothing is added
 pub offlined_split : (h : Hierarchy) (journal : List TreeEntry) (word : ℕ → ℕ) (lock : ℕ) (homes : Homes) (trees : List TreeView) → IsOfflined h journal word lock homes trees → IsOfflined h journal word lock homes (trees ++ no_tree ∷ [])
@@ -256,8 +252,8 @@ offlined_split h journal word lock homes trees o = record {
   locks = omega (arith, o.locks, sum_by-more (λ (y : TreeView). cond y.in_hand 1 0) trees no_tree);
   one = o.one;
   home = o.home;
-  seen = Each-push (IsSeen h journal) trees no_tree (seen_none h journal) o.seen;
-  once = λ n. omega (arith, o.once n, sum_by-more (λ (y : TreeView). times n y.made) trees no_tree);
+  seen = Each-push (IsTreeSeen h journal) trees no_tree (seen_none h journal) o.seen;
+  once = λ n. omega (arith, o.once n, sum_by-more (λ (y : TreeView). times_noted n y.made) trees no_tree);
 }
 
 -- what one view did and knows goes to another
@@ -270,14 +266,14 @@ offlined_join h journal word lock homes trees id other t u at apart them out o =
   locks = omega (arith, o.locks, in_none u out, sum_by-joined (λ (y : TreeView). cond y.in_hand 1 0) trees id other t u b no_tree at apart them);
   one = o.one;
   home = o.home;
-  seen = Each-set (IsSeen h journal) (set trees id b) other no_tree (seen_none h journal) (Each-set (IsSeen h journal) trees id b (record {
+  seen = Each-set (IsTreeSeen h journal) (set trees id b) other no_tree (seen_none h journal) (Each-set (IsTreeSeen h journal) trees id b (record {
     known = s.known;
     heard = All-append (IsHeard journal) t.heard (u.known ∷ u.heard) s.heard (All-cons (IsHeard journal) u.known u.heard r.known r.heard);
     hand = s.hand;
     loaded = All-append (IsNamed h journal) t.loaded u.loaded s.loaded r.loaded;
-    made = All-append (IsMade journal) t.made u.made s.made r.made;
+    made = All-append (IsTreeEntryMade journal) t.made u.made s.made r.made;
   }) o.seen);
-  once = λ n. omega (arith, o.once n, sum_by-joined (λ (y : TreeView). times n y.made) trees id other t u b no_tree at apart them, sum_by-append (λ (m : Made). cond (eqb m.number n) 1 0) t.made u.made);
+  once = λ n. omega (arith, o.once n, sum_by-joined (λ (y : TreeView). times_noted n y.made) trees id other t u b no_tree at apart them, sum_by-append (λ (m : TreeMade). cond (eqb m.number n) 1 0) t.made u.made);
 }
 
 -- the words and the slots are the same

@@ -1,9 +1,8 @@
 -- The words, records and joins of the table at known values.
-use Rattle.shr_charge.proofs.Common.{◌≡◌, ℕ, true, false, List, [], ◌∷◌, length, map, replicate, set, refl, ap, arith, Option, Some, None, pos, get_or-replicate, All-head, none-some, UseStep, TreeEntry, Hierarchy, Online, Offline, NotMade, Shows, state_in, AreFirst, AreRising, IsPrefix, IsSeen, IsNamed, state_at, word_of, opens, AreMarks, is_like, number_of, joined_tree, usage_word, op_of, ups_at, downs_at, times_at, TreeView, no_tree, own_uses}
+use Rattle.shr_charge.proofs.Common.{◌≡◌, ℕ, true, false, List, [], ◌∷◌, length, map, replicate, set, refl, ap, arith, Option, Some, None, pos, get_or-replicate, All-head, none-some, UseStep, TreeEntry, Hierarchy, Online, Offline, NotMade, Shows, state_in, AreFirstGroupWords, AreRising, IsPrefix, IsTreeSeen, IsNamed, state_at, state_word, opens, AreMarkedGroups, is_like, entry_number, joined_tree, usage_word, op_of, ups_at, downs_at, times_at, TreeView, no_tree, own_uses, spent_by}
 use Rattle.shr_base.specs.declared.journals.TreeEntry.TheVariants.{Begin, Done, Made as MadeEntry}
 use Rattle.shr_base.specs.declared.replies.Spent.TheVariants.{Charges}
 use Rattle.shr_charge.specs.Answers.{HasBegun, WasNotMade, LacksParent, IsBelowOffline, IsMadeNow}
-use Rattle.shr_charge.specs.Seat.{spent_by}
 
 -- the third operation of a group, after a charge and an uncharge
 abbrev third_up : UseStep
@@ -46,17 +45,17 @@ abbrev groups : Hierarchy
 groups = record { parents = 0 ∷ 0 ∷ 1 ∷ []; later = false ∷ false ∷ true ∷ [] }
 
 -- a group word is one more than the number of its Begin, and 0 while there is none
-word_of_begin : word_of (state_at groups (MadeEntry 2 ∷ Begin 2 ∷ Begin 1 ∷ []) 1) ≡ 3
+word_of_begin : state_word (state_at groups (MadeEntry 2 ∷ Begin 2 ∷ Begin 1 ∷ []) 1) ≡ 3
 word_of_begin = refl
 
-word_online : word_of (state_at groups (Begin 2 ∷ []) 1) ≡ 0
+word_online : state_word (state_at groups (Begin 2 ∷ []) 1) ≡ 0
 word_online = refl
 
 -- that of a later group is 2^63 until it is made
-word_not_made : word_of (state_at groups (Begin 1 ∷ []) 2) ≡ 9223372036854775808
+word_not_made : state_word (state_at groups (Begin 1 ∷ []) 2) ≡ 9223372036854775808
 word_not_made = refl
 
-word_made : word_of (state_at groups (MadeEntry 2 ∷ []) 2) ≡ 0
+word_made : state_word (state_at groups (MadeEntry 2 ∷ []) 2) ≡ 0
 word_made = refl
 
 -- and the words are told apart
@@ -101,7 +100,7 @@ some_group None = 0
 some_group (Some e) = group_in e
 
 -- it is so of the journal, so a journal with another first entry is not the one that it knew
-heard_refuses : IsSeen groups (Begin 1 ∷ []) (joined_tree no_tree knew_more) → ⊥
+heard_refuses : IsTreeSeen groups (Begin 1 ∷ []) (joined_tree no_tree knew_more) → ⊥
 heard_refuses seen = let begins = All-head (λ (es : List TreeEntry). IsPrefix es (Begin 1 ∷ [])) (Begin 2 ∷ []) ((Begin 2 ∷ Done 2 ∷ []) ∷ []) seen.heard in
     absurd (omega (arith, ap {B = ℕ} (λ (l : List TreeEntry). some_group (head_of l)) begins.1))
 
@@ -112,7 +111,7 @@ saw_begin = record no_tree { loaded = (record { group = 1; state = Offline 0 }) 
 named_none : ◌≡◌ {A = Option ℕ} None (Some 0) → ⊥
 named_none e = cc
 
-begun_before : (before : List TreeEntry) → 0 ≡ length before → IsSeen groups before saw_begin → ⊥
+begun_before : (before : List TreeEntry) → 0 ≡ length before → IsTreeSeen groups before saw_begin → ⊥
 begun_before [] number seen = named_none (All-head (IsNamed groups []) (record { group = 1; state = Offline 0 }) [] seen.loaded).1
 begun_before (e ∷ es) number seen = absurd (omega (arith, number))
 
@@ -171,7 +170,7 @@ shown_later : Shows line no_tree 2 NotMade
 shown_later = record { known = λ e is. absurd (none-some e is); loaded = λ e c. absurd (omega (arith, c.1)); made = λ t. absurd (let made : false ≡ true = t in cc); met = λ before there c. absurd (omega (arith, c.1)); late = λ _. refl }
 
 -- nor can it make that group
-made_before : (before : List TreeEntry) → 0 ≡ length before → IsSeen line before saw_online → ⊥
+made_before : (before : List TreeEntry) → 0 ≡ length before → IsTreeSeen line before saw_online → ⊥
 made_before [] number seen = let made : false ≡ true = (All-head (IsNamed line []) (record { group = 2; state = Online }) [] seen.loaded) in cc
 made_before (e ∷ es) number seen = absurd (omega (arith, number))
 
@@ -179,17 +178,17 @@ made_after_seen : IsMadeNow line 2 0 saw_online (MadeEntry 2 ∷ []) → ⊥
 made_after_seen made = made_before made.before made.gains.number_is made.seen
 
 -- the word of a later group isn't 0 at the start
-first_not_zero : AreFirst (true ∷ []) (0 ∷ 0 ∷ 0 ∷ 0 ∷ 0 ∷ 0 ∷ 0 ∷ 0 ∷ 0 ∷ []) → ⊥
+first_not_zero : AreFirstGroupWords (true ∷ []) (0 ∷ 0 ∷ 0 ∷ 0 ∷ 0 ∷ 0 ∷ 0 ∷ 0 ∷ 0 ∷ []) → ⊥
 first_not_zero first = absurd (omega (arith, first.groups 0 (omega arith)))
 
 -- group 1 is made, and begins, after group 2 began and was done
 abbrev searched : List TreeEntry
 searched = Begin 2 ∷ Done 2 ∷ MadeEntry 1 ∷ Begin 1 ∷ []
 
-begin_found : number_of (Begin 1) searched ≡ Some 3
+begin_found : entry_number (Begin 1) searched ≡ Some 3
 begin_found = refl
 
-done_not_found : number_of (Done 1) searched ≡ None
+done_not_found : entry_number (Done 1) searched ≡ None
 done_not_found = refl
 
 another_group : is_like (MadeEntry 1) (MadeEntry 2) ≡ false
@@ -199,13 +198,13 @@ another_kind : is_like (MadeEntry 1) (Begin 1) ≡ false
 another_kind = refl
 
 -- nothing is marked where the journal is empty
-none_marked : AreMarks [] (record { made = replicate 256 false; done = replicate 256 false })
+none_marked : AreMarkedGroups [] (record { made = replicate 256 false; done = replicate 256 false })
 none_marked = record { made = λ g low. get_or-replicate 256 g false false low; done = λ g low. get_or-replicate 256 g false false low }
 
 -- where group 1 is made its mark is wanted
-made_without_mark : AreMarks (MadeEntry 1 ∷ []) (record { made = replicate 256 false; done = replicate 256 false }) → ⊥
+made_without_mark : AreMarkedGroups (MadeEntry 1 ∷ []) (record { made = replicate 256 false; done = replicate 256 false }) → ⊥
 made_without_mark h = let m = h.made 1 (omega arith) in cc
 
 -- and a mark of a group that isn't done is one too many
-mark_without_done : AreMarks [] (record { made = replicate 256 false; done = set (replicate 256 false) 1 true }) → ⊥
+mark_without_done : AreMarkedGroups [] (record { made = replicate 256 false; done = set (replicate 256 false) 1 true }) → ⊥
 mark_without_done h = let m = h.done 1 (omega arith) in cc

@@ -1,13 +1,7 @@
 -- Each step on a word keeps the rule, and what it tells.
-use Rattle.shr_charge.proofs.Common.{◌≡◌, ◌≢◌, ℕ, ◌+◌, ◌*◌, ◌^◌, ◌%◌, ◌-◌, ◌<◌, ◌≤◌, ◌⊎◌, inl, inr, ⊎_elim, Bool, true, false, not, ◌||◌, eqb, cond, List, [], ◌∷◌, ◌++◌, map, set, get_or, length, sym, refl, ap, subst, ◌∙◌, arith, get_or-set_same, get_or-set_other, sum_by, Some, None, Option, All, sum_by_push, All-weaker, some, get_elem?, State, Allows, at_map, set_again, Kept, Serial, UseStep, TreeEntry, ups, downs, Hierarchy, is_later, begin_of, made_of, is_made, MayBegin, MayBeMade, MayBeDone, IsTreeJournal, is_some, cases_Bool, hierarchy_of, GroupState, Online, Offline, NotMade, View, Shape, Uses, TreeView, both_uses, one_use, usage_word, op_of, grown, IsPaced, IsThere, IsLaterThan, begun_state, state_at, word_of, opens, WasState, IsNamed, IsSeen, IsHome, IsOfflined, with_load, with_hand, with_given, with_begin, with_made, with_done, IsSound, usage_index, group_index, usage_in, group_in, lock_in, uses_in, tree_in, Sat, with_uses, with_tree, state_in, IsWord, Shows, Takes}
-use Rattle.std.proofs.lemmas.List.{set-get_or}
-use Rattle.std.proofs.lemmas.List.Elements.{All-contains}
-use mathlib.Core.Option.{none}
+use Rattle.shr_charge.proofs.Common.{◌≡◌, ◌≢◌, ℕ, ◌+◌, ◌*◌, ◌^◌, ◌%◌, ◌-◌, ◌<◌, ◌≤◌, ◌⊎◌, inl, inr, ⊎_elim, Bool, true, false, not, ◌||◌, eqb, cond, List, [], ◌∷◌, ◌++◌, map, set, get_or, length, sym, refl, ap, subst, ◌∙◌, arith, get_or-set_same, get_or-set_other, sum_by, Some, None, Option, All, sum_by_push, All-weaker, some, get_elem?, State, Allows, at_map, set_again, Kept, Serial, UseStep, TreeEntry, ups, downs, Hierarchy, is_later, begin_of, made_of, is_made, MayBegin, MayBeMade, MayBeDone, IsTreeJournal, is_some, cases_Bool, hierarchy_of, GroupState, Online, Offline, NotMade, View, Shape, Uses, TreeView, both_uses, one_use, usage_word, op_of, grown, IsPaced, StandsInHistory, IsLaterThan, begun_state, state_at, state_word, opens, WasState, IsNamed, IsTreeSeen, IsHome, IsOfflined, with_load, with_tree_hand, with_tree_given, with_begin, with_made, with_done, IsChargeSound, usage_index, group_index, usage_in, group_in, lock_in, uses_in, tree_in, ChargeSat, with_uses, with_tree, state_in, IsWord, Shows, TakesTreeRoom, set-get_or, All-contains, none, Act, Valid, keeps, gives, takes, stepped, carried_after, exchanged, set_here, is_there}
 use prog.Atomic.{either}
-use Rattle.atomic_table.specs.Table.{Act, Valid, keeps, gives, takes, stepped, carried_after}
-use Rattle.atomic_table.proofs.Lists.{exchanged, set_here}
 use Rattle.shr_base.specs.declared.journals.TreeEntry.TheVariants.{Begin, Done, Made as MadeEntry}
-use Rattle.shr_charge.specs.Told.{is_there}
 use Rattle.shr_charge.proofs.Frames.{on_use, on_tree}
 use Rattle.shr_charge.proofs.Numbering.{op_next, used_more, later_than}
 use Rattle.shr_charge.proofs.Pacing.{ups_few, downs_few}
@@ -16,8 +10,8 @@ use Rattle.shr_charge.proofs.Journaling.{offlined_words, was_state, state_made}
 use Rattle.shr_charge.proofs.Entries.{begin_grows, begin_below, is_made_grows, begun_made, not_same}
 
 -- One operation of the group g, which makes its usage word `new`.
-module _ (k : Shape) (id : ℕ) (m : Sat) (g : ℕ) (low : g < length k.parents.items) (here : m.0.standing.gone ≡ false) (by : Serial) (c d : ℕ) (up : Bool) (paced : (w : ℕ) → IsPaced (both_uses m.0.uses (one_use (op_of g by up w) c d)))
-    (s : State (Kept TreeEntry) View) (o : IsSound k s) (me : get_elem? s.views id ≡ some m.0) where
+module _ (k : Shape) (id : ℕ) (m : ChargeSat) (g : ℕ) (low : g < length k.parents.items) (here : m.0.standing.gone ≡ false) (by : Serial) (c d : ℕ) (up : Bool) (paced : (w : ℕ) → IsPaced (both_uses m.0.uses (one_use (op_of g by up w) c d)))
+    (s : State (Kept TreeEntry) View) (o : IsChargeSound k s) (me : get_elem? s.views id ≡ some m.0) where
   abbrev word : ℕ
   word = get_or s.words (usage_index g) 0
 
@@ -33,7 +27,7 @@ module _ (k : Shape) (id : ℕ) (m : Sat) (g : ℕ) (low : g < length k.parents.
   deep : downs (o.history g) ≤ (2 ^ 21 + 2 ^ 25) * 65
   deep = omega (arith, o.used.down g, downs_few (map uses_in s.views) few-calls o.paced g)
 
-  used : (new : ℕ) → new ≡ usage_word (o.history g ++ op ∷ []) → IsSound k record { words = set s.words (usage_index g) new; homes = s.homes; views = set s.views id (record m.0 { uses = both_uses m.0.uses (one_use op c d) }) }
+  used : (new : ℕ) → new ≡ usage_word (o.history g ++ op ∷ []) → IsChargeSound k record { words = set s.words (usage_index g) new; homes = s.homes; views = set s.views id (record m.0 { uses = both_uses m.0.uses (one_use op c d) }) }
   used new is = let groups : ℕ = length k.parents.items in let i : ℕ = usage_index g in let wide = o.wide in
       let next = op_next g by up word (o.history g) (o.used.words g low) (omega (arith, deep)) in
       on_use k s o id m.0 me here g new (both_uses m.0.uses (one_use op c d)) (grown o.history op)
@@ -42,9 +36,9 @@ module _ (k : Shape) (id : ℕ) (m : Sat) (g : ℕ) (low : g < length k.parents.
       (λ j near apart. get_or-set_other s.words i (usage_index j) new 0 (λ e. apart (omega (arith, e)))))
       (paced word) (let e : m.0.uses.seats + 0 ≡ m.0.uses.seats = omega arith in e)
 
-module _ (k : Shape) (slots id : ℕ) (m : Sat) (g : ℕ) (low : g < length k.parents.items) (here : m.0.standing.gone ≡ false) (by : Serial) (c d : ℕ) where
+module _ (k : Shape) (slots id : ℕ) (m : ChargeSat) (g : ℕ) (low : g < length k.parents.items) (here : m.0.standing.gone ≡ false) (by : Serial) (c d : ℕ) where
   -- the addition of an up is a step that the rule allows
-  pub charges : ((w : ℕ) → IsPaced (both_uses m.0.uses (one_use (op_of g by true w) c d))) → Allows (IsSound k) slots id m (usage_index g) (λ y. (y + 2 ^ 32) % 2 ^ 64) (λ w r. (r ≡ with_uses m (both_uses m.0.uses (one_use (op_of g by true w) c d))) × All (IsLaterThan (op_of g by true w)) m.0.uses.ops)
+  pub charges : ((w : ℕ) → IsPaced (both_uses m.0.uses (one_use (op_of g by true w) c d))) → Allows (IsChargeSound k) slots id m (usage_index g) (λ y. (y + 2 ^ 32) % 2 ^ 64) (λ w r. (r ≡ with_uses m (both_uses m.0.uses (one_use (op_of g by true w) c d))) × All (IsLaterThan (op_of g by true w)) m.0.uses.ops)
   charges paced s o deep-homes me fits = let w : ℕ = get_or s.words (usage_index g) 0 in let h = o.history g in
       let a = high k id m g low here by c d true paced s o me in let b = deep k id m g low here by c d true paced s o me in
       let p = sum_by_push (λ (x : UseStep). cond x.up 1 0) h (op_of g by true w) in let q = sum_by_push (λ (x : UseStep). cond (not x.up) 1 0) h (op_of g by true w) in let is = o.used.words g low in (
@@ -52,11 +46,11 @@ module _ (k : Shape) (slots id : ℕ) (m : Sat) (g : ℕ) (low : g < length k.pa
         keeps,
         tt,
         used k id m g low here by c d true paced s o me ((w + 2 ^ 32) % 2 ^ 64) (omega (arith, a, b, p, q, is)),
-        (refl, All-weaker (IsThere o.history) (IsLaterThan (op_of g by true w)) (λ x there. later_than o.history (op_of g by true w) (op_next g by true w h is (omega (arith, b))) x there) m.0.uses.ops (o.used.there id m.0.uses (at_map uses_in s.views id m.0 me))),
+        (refl, All-weaker (StandsInHistory o.history) (IsLaterThan (op_of g by true w)) (λ x there. later_than o.history (op_of g by true w) (op_next g by true w h is (omega (arith, b))) x there) m.0.uses.ops (o.used.there id m.0.uses (at_map uses_in s.views id m.0 me))),
       )
 
   -- the addition of a down is a step that the rule allows
-  pub uncharges : ((w : ℕ) → IsPaced (both_uses m.0.uses (one_use (op_of g by false w) c d))) → Allows (IsSound k) slots id m (usage_index g) (λ y. (y + 1) % 2 ^ 64) (λ w r. (r ≡ with_uses m (both_uses m.0.uses (one_use (op_of g by false w) c d))) × All (IsLaterThan (op_of g by false w)) m.0.uses.ops)
+  pub uncharges : ((w : ℕ) → IsPaced (both_uses m.0.uses (one_use (op_of g by false w) c d))) → Allows (IsChargeSound k) slots id m (usage_index g) (λ y. (y + 1) % 2 ^ 64) (λ w r. (r ≡ with_uses m (both_uses m.0.uses (one_use (op_of g by false w) c d))) × All (IsLaterThan (op_of g by false w)) m.0.uses.ops)
   uncharges paced s o deep-homes me fits = let w : ℕ = get_or s.words (usage_index g) 0 in let h = o.history g in
       let a = high k id m g low here by c d false paced s o me in let b = deep k id m g low here by c d false paced s o me in
       let p = sum_by_push (λ (x : UseStep). cond x.up 1 0) h (op_of g by false w) in let q = sum_by_push (λ (x : UseStep). cond (not x.up) 1 0) h (op_of g by false w) in let is = o.used.words g low in (
@@ -64,11 +58,11 @@ module _ (k : Shape) (slots id : ℕ) (m : Sat) (g : ℕ) (low : g < length k.pa
         keeps,
         tt,
         used k id m g low here by c d false paced s o me ((w + 1) % 2 ^ 64) (omega (arith, a, b, p, q, is)),
-        (refl, All-weaker (IsThere o.history) (IsLaterThan (op_of g by false w)) (λ x there. later_than o.history (op_of g by false w) (op_next g by false w h is (omega (arith, b))) x there) m.0.uses.ops (o.used.there id m.0.uses (at_map uses_in s.views id m.0 me))),
+        (refl, All-weaker (StandsInHistory o.history) (IsLaterThan (op_of g by false w)) (λ x there. later_than o.history (op_of g by false w) (op_next g by false w h is (omega (arith, b))) x there) m.0.uses.ops (o.used.there id m.0.uses (at_map uses_in s.views id m.0 me))),
       )
 
 -- the word of a state that names no entry from n on: it tells that state
-bounded : (n : ℕ) (x : GroupState) → n ≤ 768 → ((e : ℕ) → x ≡ Offline e → e < n) → ((word_of x ≡ 2 ^ 63) ⊎ (word_of x ≤ n)) × (state_in (word_of x) ≡ x)
+bounded : (n : ℕ) (x : GroupState) → n ≤ 768 → ((e : ℕ) → x ≡ Offline e → e < n) → ((state_word x ≡ 2 ^ 63) ⊎ (state_word x ≤ n)) × (state_in (state_word x) ≡ x)
 bounded n Online few h = (inr (omega arith), refl)
 bounded n (Offline e) few h = let low = h e refl in (
   inr (omega (arith, low)),
@@ -101,7 +95,7 @@ module _ (h : Hierarchy) (journal : List TreeEntry) (g : ℕ) (legal : IsTreeJou
       (λ (f : is_later h.later g ≡ false). let made : is_made h journal g ≡ true = ap {B = Bool} (λ b. not b || is_some (made_of journal g)) f in let no : false ≡ true = ap is_there (sym is) ∙ there_at made in cc)
       (cases_Bool (is_later h.later g))
 
-  shows_at : (t : TreeView) → IsSeen h journal t → Shows h t g (state_at h journal g)
+  shows_at : (t : TreeView) → IsTreeSeen h journal t → Shows h t g (state_at h journal g)
   shows_at t seen = let same : t.known ++ seen.known.0 ≡ journal = sym seen.known.1 in record {
     known = λ e known. let is : begin_of journal g ≡ Some e = ap (λ (l : List TreeEntry). begin_of l g) seen.known.1 ∙ begin_grows t.known g seen.known.0 e known in state_made h journal g (Some e) (begun_made h journal g e legal is) is;
     loaded = λ e has. let w = All-contains (IsNamed h journal) t.loaded (record { group = g; state = Offline e }) seen.loaded has in state_made h journal g (Some e) w.0 w.1;
@@ -117,9 +111,9 @@ apart_group g h e = absurd (omega (arith, e))
 apart_lock : (h : ℕ) → usage_index h ≢ 0
 apart_lock h e = absurd (omega (arith, e))
 
-module _ (k : Shape) (slots id : ℕ) (m : Sat) (here : m.0.standing.gone ≡ false) where
+module _ (k : Shape) (slots id : ℕ) (m : ChargeSat) (here : m.0.standing.gone ≡ false) where
   -- a group word is loaded
-  pub loads : (g : ℕ) → g < length k.parents.items → length k.parents.items ≤ 256 → Allows (IsSound k) slots id m (group_index g) (λ y. y) (λ w r. (r ≡ with_tree m (with_load m.0.tree g (state_in w))) × Shows (hierarchy_of k) m.0.tree g (state_in w) × IsWord (length k.parents.items) w)
+  pub loads : (g : ℕ) → g < length k.parents.items → length k.parents.items ≤ 256 → Allows (IsChargeSound k) slots id m (group_index g) (λ y. y) (λ w r. (r ≡ with_tree m (with_load m.0.tree g (state_in w))) × Shows (hierarchy_of k) m.0.tree g (state_in w) × IsWord (length k.parents.items) w)
   loads g low few s o deep me fits = let v : View = m.0 in let t : TreeView = v.tree in let i : ℕ = group_index g in let w : ℕ = get_or s.words i 0 in let f = o.offlined in let h : Hierarchy = hierarchy_of k in
       let at = at_map tree_in s.views id v me in let same = set-get_or s.words i 0 in let is = f.words g low in let seen = f.seen id t at in
       let short = journaling.short h o.journal (group_in s.words) (lock_in s.words) s.homes (map tree_in s.views) id t at f in
@@ -141,24 +135,24 @@ module _ (k : Shape) (slots id : ℕ) (m : Sat) (here : m.0.standing.gone ≡ fa
       )
 
   -- the room is taken, where the lock word was 0
-  pub locks : m.1 ≡ [] → m.0.tree.in_hand ≡ false → Allows (IsSound k) slots id m 0 (λ y. either (eqb y 0) 1 y) (λ n r. (n ≡ 0 → Takes (hierarchy_of k) m r) × (n ≢ 0 → r ≡ m))
+  pub locks : m.1 ≡ [] → m.0.tree.in_hand ≡ false → Allows (IsChargeSound k) slots id m 0 (λ y. either (eqb y 0) 1 y) (λ n r. (n ≡ 0 → TakesTreeRoom (hierarchy_of k) m r) × (n ≢ 0 → r ≡ m))
   locks bare out s o deep me fits = let v : View = m.0 in let t : TreeView = v.tree in let n : ℕ = lock_in s.words in let f = o.offlined in let at = at_map tree_in s.views id v me in let wide = o.wide in let ps = hierarchy_of k in
-      exchanged n 0 1 (λ y. (w : View) × (a : Act (Kept TreeEntry)) × Valid s.homes m.1 a × IsSound k (stepped s 0 y id m.1 w a) × ((n ≡ 0 → Takes ps m (w, carried_after m.1 a)) × (n ≢ 0 → (w, carried_after m.1 a) ≡ m)))
+      exchanged n 0 1 (λ y. (w : View) × (a : Act (Kept TreeEntry)) × Valid s.homes m.1 a × IsChargeSound k (stepped s 0 y id m.1 w a) × ((n ≡ 0 → TakesTreeRoom ps m (w, carried_after m.1 a)) × (n ≢ 0 → (w, carried_after m.1 a) ≡ m)))
       (λ free. let home = f.home free in let room = home.0 in let is = home.2.items in (
-        record v { tree = with_hand t room.items },
+        record v { tree = with_tree_hand t room.items },
         takes 0 room,
         home.1,
-        on_tree k s o id v me here 0 1 apart_lock (set s.homes 0 none) (with_hand t room.items) o.journal
-            (offlined_words ps o.journal (group_in s.words) (group_in (set s.words 0 1)) 1 (lock_in (set s.words 0 1)) (set s.homes 0 none) (set (map tree_in s.views) id (with_hand t room.items))
+        on_tree k s o id v me here 0 1 apart_lock (set s.homes 0 none) (with_tree_hand t room.items) o.journal
+            (offlined_words ps o.journal (group_in s.words) (group_in (set s.words 0 1)) 1 (lock_in (set s.words 0 1)) (set s.homes 0 none) (set (map tree_in s.views) id (with_tree_hand t room.items))
             (λ h near. get_or-set_other s.words 0 (group_index h) 1 0 (λ e. absurd (omega (arith, e)))) (get_or-set_same s.words 0 1 0 (omega (arith, wide)))
-            (subst (λ (l : List TreeEntry). IsOfflined ps o.journal (group_in s.words) 1 (set s.homes 0 none) (set (map tree_in s.views) id (with_hand t l))) (sym is)
+            (subst (λ (l : List TreeEntry). IsOfflined ps o.journal (group_in s.words) 1 (set s.homes 0 none) (set (map tree_in s.views) id (with_tree_hand t l))) (sym is)
             (journaling.takes ps o.journal (group_in s.words) n s.homes (map tree_in s.views) id t at f (set s.homes 0 none) free out))),
         (
           (λ _. record {
             room = room;
-            seat = ap (λ (l : List (ℕ × Kept TreeEntry)). (record v { tree = with_hand t room.items }, (0, room) ∷ l)) bare;
+            seat = ap (λ (l : List (ℕ × Kept TreeEntry)). (record v { tree = with_tree_hand t room.items }, (0, room) ∷ l)) bare;
             legal = subst (IsTreeJournal ps) (sym is) f.legal;
-            seen = subst (λ (l : List TreeEntry). IsSeen ps l t) (sym is) (f.seen id t at);
+            seen = subst (λ (l : List TreeEntry). IsTreeSeen ps l t) (sym is) (f.seen id t at);
             spare = let a = ap (opens (length ps.parents)) is in let b = home.2.spare in omega (arith, a, b);
             short = let a = ap (length {A = TreeEntry}) is in let b = journaling.short ps o.journal (group_in s.words) n s.homes (map tree_in s.views) id t at f in omega (arith, a, b);
           }),
@@ -177,7 +171,7 @@ module _ (k : Shape) (slots id : ℕ) (m : Sat) (here : m.0.standing.gone ≡ fa
       ))
 
   -- the Begin of a group is stored
-  pub begins : (g new : ℕ) → m.0.tree.in_hand ≡ true → MayBegin (hierarchy_of k) m.0.tree.hand g → new ≡ length m.0.tree.hand + 1 → Allows (IsSound k) slots id m (group_index g) (λ _. new) (λ _ r. r ≡ with_tree m (with_begin m.0.tree g))
+  pub begins : (g new : ℕ) → m.0.tree.in_hand ≡ true → MayBegin (hierarchy_of k) m.0.tree.hand g → new ≡ length m.0.tree.hand + 1 → Allows (IsChargeSound k) slots id m (group_index g) (λ _. new) (λ _ r. r ≡ with_tree m (with_begin m.0.tree g))
   begins g new has may is s o deep me fits = let v : View = m.0 in let t : TreeView = v.tree in let i : ℕ = group_index g in let f = o.offlined in let at = at_map tree_in s.views id v me in let wide = o.wide in let ps = hierarchy_of k in let there = may.there in (
     record v { tree = with_begin t g },
     keeps,
@@ -191,7 +185,7 @@ module _ (k : Shape) (slots id : ℕ) (m : Sat) (here : m.0.standing.gone ≡ fa
   )
 
   -- the Made of a group is stored
-  pub makes : (g : ℕ) → m.0.tree.in_hand ≡ true → MayBeMade (hierarchy_of k) m.0.tree.hand g → Allows (IsSound k) slots id m (group_index g) (λ _. 0) (λ _ r. r ≡ with_tree m (with_made m.0.tree g))
+  pub makes : (g : ℕ) → m.0.tree.in_hand ≡ true → MayBeMade (hierarchy_of k) m.0.tree.hand g → Allows (IsChargeSound k) slots id m (group_index g) (λ _. 0) (λ _ r. r ≡ with_tree m (with_made m.0.tree g))
   makes g has may s o deep me fits = let v : View = m.0 in let t : TreeView = v.tree in let i : ℕ = group_index g in let f = o.offlined in let at = at_map tree_in s.views id v me in let wide = o.wide in let ps = hierarchy_of k in let there = may.there in (
     record v { tree = with_made t g },
     keeps,
@@ -207,13 +201,13 @@ module _ (k : Shape) (slots id : ℕ) (m : Sat) (here : m.0.standing.gone ≡ fa
 -- the room is given back, from a seat with the slot
 module _ (k : Shape) (slots id : ℕ) (one : slots ≡ 1) (v : View) (here : v.standing.gone ≡ false) (has : v.tree.in_hand ≡ true) (content : Kept TreeEntry) where
   -- the store that frees the lock word is a step that the rule allows
-  pub gives_back : IsHome (length k.parents.items) v.tree.hand content → Allows (IsSound k) slots id (v, (0, content) ∷ []) 0 (λ _. 0) (λ _ r. r ≡ (record v { tree = with_given v.tree }, []))
+  pub gives_back : IsHome (length k.parents.items) v.tree.hand content → Allows (IsChargeSound k) slots id (v, (0, content) ∷ []) 0 (λ _. 0) (λ _ r. r ≡ (record v { tree = with_tree_given v.tree }, []))
   gives_back fits-home s o deep me fits = let t : TreeView = v.tree in let f = o.offlined in let at = at_map tree_in s.views id v me in let wide = o.wide in let ps = hierarchy_of k in (
-    record v { tree = with_given t },
+    record v { tree = with_tree_given t },
     gives,
     tt,
-    on_tree k s o id v me here 0 0 apart_lock (set s.homes 0 (some content)) (with_given t) o.journal
-        (offlined_words ps o.journal (group_in s.words) (group_in (set s.words 0 0)) 0 (lock_in (set s.words 0 0)) (set s.homes 0 (some content)) (set (map tree_in s.views) id (with_given t))
+    on_tree k s o id v me here 0 0 apart_lock (set s.homes 0 (some content)) (with_tree_given t) o.journal
+        (offlined_words ps o.journal (group_in s.words) (group_in (set s.words 0 0)) 0 (lock_in (set s.words 0 0)) (set s.homes 0 (some content)) (set (map tree_in s.views) id (with_tree_given t))
         (λ h near. get_or-set_other s.words 0 (group_index h) 0 0 (λ e. absurd (omega (arith, e)))) (get_or-set_same s.words 0 0 0 (omega (arith, wide)))
         (journaling.gives ps o.journal (group_in s.words) (lock_in s.words) s.homes (map tree_in s.views) id t at f (set s.homes 0 (some content)) content has (set_here s.homes 0 (some content) (omega (arith, deep, one))) fits-home)),
     refl,
@@ -221,7 +215,7 @@ module _ (k : Shape) (slots id : ℕ) (one : slots ≡ 1) (v : View) (here : v.s
 
   -- the same, with a Done more in the room
   pub gives_done : (g : ℕ) → g < length k.parents.items → MayBeDone v.tree.hand g → (b : ℕ) → begin_of v.tree.hand g ≡ Some b → IsHome (length k.parents.items) (v.tree.hand ++ Done g ∷ []) content
-      → Allows (IsSound k) slots id (v, (0, content) ∷ []) 0 (λ _. 0) (λ _ r. r ≡ (record v { tree = with_done v.tree g }, []))
+      → Allows (IsChargeSound k) slots id (v, (0, content) ∷ []) 0 (λ _. 0) (λ _ r. r ≡ (record v { tree = with_done v.tree g }, []))
   gives_done g low may b begun fits-home s o deep me fits = let t : TreeView = v.tree in let f = o.offlined in let at = at_map tree_in s.views id v me in let wide = o.wide in let ps = hierarchy_of k in (
     record v { tree = with_done t g },
     gives,

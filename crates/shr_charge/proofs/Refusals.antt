@@ -1,8 +1,6 @@
 -- A charge that was refused, and taking it back.
-use Rattle.shr_charge.proofs.Common.{◌≡◌, ℕ, ◌+◌, ◌*◌, ◌≤◌, ◌^◌, true, false, not, ◌&&◌, eqb, cond, List, [], ◌∷◌, ◌++◌, map, length, sym, refl, ap, subst, ◌∙◌, arith, append_assoc, length-append, pos, Some, All, length-map, sum_by-cons, sum_by-append, All-head, All-weaker, All-push, Kept, UseStep, Serial, depth_of, ChargeSeat, Shape, Uses, both_uses, downs_at, IsPaced, path_to, uses_of, group_of, IsUp, calls_with, Climbs, Lowers}
-use Rattle.std.proofs.lemmas.List.Elements.{All-tail}
+use Rattle.shr_charge.proofs.Common.{◌≡◌, ℕ, ◌+◌, ◌*◌, ◌≤◌, ◌^◌, true, false, not, ◌&&◌, eqb, cond, List, [], ◌∷◌, ◌++◌, map, length, sym, refl, ap, subst, ◌∙◌, arith, append_assoc, length-append, pos, Some, All, length-map, sum_by-cons, sum_by-append, All-head, All-weaker, All-push, Kept, UseStep, Serial, depth_of, ChargeSeat, Shape, Uses, both_uses, downs_at, IsPaced, path_to, uses_of, use_group, IsUp, calls_with, Climbs, Lowers, All-tail, Charges}
 use Rattle.shr_charge.specs.declared.answers.ChargeAnswer.TheVariants.{Over}
-use Rattle.shr_charge.specs.Charging.{Charges}
 use Rattle.shr_charge.proofs.Ways.{way_short}
 use Rattle.shr_charge.proofs.Climbs.{uses_same}
 use Rattle.shr_charge.proofs.Pacing.{cond_and}
@@ -30,7 +28,7 @@ module _ (k : Shape) (by : Serial) (group : ℕ) (over : UseStep) (old mid : Cha
   -- there is room for each operation that takes it back
   pub refused_spare : 2 * depth_of k.parents.items group ≤ uses.spare → length (path_to k.parents.items group over.group) ≤ um.spare
   refused_spare enough = let m = c.made in let levels = ap (length {A = ℕ}) m.levels in let whole = ap (length {A = UseStep}) m.whole in let spare = c.noted.spare in
-      omega (arith, enough, levels, whole, spare, length-append (map group_of m.ups) (over.group ∷ []), length-map m.ups group_of, length-append m.ups (over ∷ []), way_short k.parents.items group over.group)
+      omega (arith, enough, levels, whole, spare, length-append (map use_group m.ups) (over.group ∷ []), length-map m.ups use_group, length-append m.ups (over ∷ []), way_short k.parents.items group over.group)
 
   -- a charge that was taken back was refused
   pub refused : (new : ChargeSeat) (uses' : Kept UseStep) (usage : ℕ) → over.found ≡ pos usage → Lowers k.parents.items by group over.group false mid new um uses' → Charges k by group (Over over.group over.operation usage) old new uses uses'

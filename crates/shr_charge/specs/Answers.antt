@@ -10,18 +10,18 @@ use Rattle.shr_charge.specs.declared.answers.BeginAnswer.{BeginAnswer}
 use Rattle.shr_charge.specs.declared.answers.BeginAnswer.TheVariants as began
 use Rattle.shr_charge.specs.declared.answers.DoneAnswer.{DoneAnswer}
 use Rattle.shr_charge.specs.declared.answers.DoneAnswer.TheVariants as ended
-use Rattle.shr_charge.specs.Views.{Made, TreeView}
-use Rattle.shr_charge.specs.Offlining.{IsPrefix, IsSeen}
+use Rattle.shr_charge.specs.Views.{TreeMade, TreeView}
+use Rattle.shr_charge.specs.Offlining.{IsPrefix, IsTreeSeen}
 
 -- the room was given back with this journal, and these entries were made
-abbrev pub gave : TreeView → List Made → List TreeEntry → TreeView
+abbrev pub gave : TreeView → List TreeMade → List TreeEntry → TreeView
 gave t made journal = record t { made = t.made ++ made; known = journal; gives = t.gives + 1; in_hand = false; hand = [] }
 
 -- the journal that is known now is legal, and holds all that was known, loaded and made
-pub record Knows (h : Hierarchy) (old new : TreeView) : Type 0 where
+pub record KnowsTree (h : Hierarchy) (old new : TreeView) : Type 0 where
   pub legal : IsTreeJournal h new.known
   pub grows : IsPrefix old.known new.known
-  pub seen : IsSeen h new.known new
+  pub seen : IsTreeSeen h new.known new
 
 -- a journal that was one entry shorter
 pub record GainsEntry (before after : List TreeEntry) (e : TreeEntry) (number : ℕ) : Type 0 where
@@ -68,14 +68,14 @@ pub record HasBegun (h : Hierarchy) (g entry : ℕ) (old : TreeView) (journal : 
   pub gains : GainsEntry before journal (Begin g) entry
   pub undone : done_of before g ≡ None
   pub may : MayBegin h before g
-  pub seen : IsSeen h before old
+  pub seen : IsTreeSeen h before old
 
 -- the group is done by this entry; what the view had seen before is so of the journal without it
 pub record IsDoneNow (h : Hierarchy) (g entry : ℕ) (old : TreeView) (journal : List TreeEntry) : Type 0 where
   pub before : List TreeEntry
   pub gains : GainsEntry before journal (Done g) entry
   pub may : MayBeDone before g
-  pub seen : IsSeen h before old
+  pub seen : IsTreeSeen h before old
 
 -- what an answer of begin_offline says of the journal that was given back
 abbrev pub BeginTells : Hierarchy → ℕ → BeginAnswer → TreeView → List TreeEntry → Type 0
@@ -124,7 +124,7 @@ pub record IsMadeNow (h : Hierarchy) (g entry : ℕ) (old : TreeView) (journal :
   pub before : List TreeEntry
   pub gains : GainsEntry before journal (MadeEntry g) entry
   pub may : MayBeMade h before g
-  pub seen : IsSeen h before old
+  pub seen : IsTreeSeen h before old
 
 -- what an answer of make_group says of the journal that was given back
 abbrev pub MakeTells : Hierarchy → ℕ → MakeAnswer → TreeView → List TreeEntry → Type 0

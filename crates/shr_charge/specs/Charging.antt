@@ -14,12 +14,12 @@ use Rattle.shr_charge.specs.Paths.{path_to}
 use Rattle.shr_charge.specs.Seat.{uses_of, tree_of, standing_of}
 
 -- 1 if an operation begins a call that counts, else 0
-abbrev pub count_of : Bool → ℕ
-count_of first = cond first 1 0
+abbrev pub call_count : Bool → ℕ
+call_count first = cond first 1 0
 
 -- the limit of a group
-abbrev pub limit_of : Shape → ℕ → Option ℕ
-limit_of k g = slice_index_or k.limits.items g None
+abbrev pub shape_limit : Shape → ℕ → Option ℕ
+shape_limit k g = slice_index_or k.limits.items g None
 
 -- an operation has a higher number than x, where x is of the same group
 abbrev pub IsLaterThan : UseStep → UseStep → Type 0
@@ -30,14 +30,14 @@ abbrev pub AreRising : List UseStep → Type 0
 AreRising ops = AllPairs (λ x o. IsLaterThan o x) ops
 
 -- the group of an operation
-abbrev pub group_of : UseStep → ℕ
-group_of o = o.group
+abbrev pub use_group : UseStep → ℕ
+use_group o = o.group
 
 -- an up of this command that found the usage below the limit
 pub record IsUp (k : Shape) (by : Serial) (o : UseStep) : Type 0 where
   pub up : o.up ≡ true
   pub made : o.by ≡ by
-  pub below : IsBelow (limit_of k o.group) o
+  pub below : IsBelow (shape_limit k o.group) o
 
 -- a down of this command
 pub record IsDown (by : Serial) (o : UseStep) : Type 0 where
@@ -45,31 +45,31 @@ pub record IsDown (by : Serial) (o : UseStep) : Type 0 where
   pub made : o.by ≡ by
 
 -- an up of this command that didn't find the usage below the limit
-pub record IsOver (k : Shape) (by : Serial) (o : UseStep) : Type 0 where
+pub record IsOverLimit (k : Shape) (by : Serial) (o : UseStep) : Type 0 where
   pub up : o.up ≡ true
   pub made : o.by ≡ by
-  pub above : IsBelow (limit_of k o.group) o → ⊥
+  pub above : IsBelow (shape_limit k o.group) o → ⊥
 
 -- one up at each of these groups, in order
 pub record AreUps (k : Shape) (by : Serial) (groups : List ℕ) (ops : List UseStep) : Type 0 where
-  pub at : map group_of ops ≡ groups
+  pub at : map use_group ops ≡ groups
   pub each : All (IsUp k by) ops
 
 -- one down at each of these groups, in order
 pub record AreDowns (by : Serial) (groups : List ℕ) (ops : List UseStep) : Type 0 where
-  pub at : map group_of ops ≡ groups
+  pub at : map use_group ops ≡ groups
   pub each : All (IsDown by) ops
 
 -- A refused charge went up to the first level that had no room, and then was taken back on each
 -- level.
-pub record IsRefused (k : Shape) (by : Serial) (group level number usage : ℕ) (ops : List UseStep) : Type 0 where
+pub record IsChargeRefused (k : Shape) (by : Serial) (group level number usage : ℕ) (ops : List UseStep) : Type 0 where
   pub ups : List UseStep
   pub over : UseStep
   pub downs : List UseStep
   pub whole : ops ≡ ups ++ over ∷ downs
   pub below : All (IsUp k by) ups
-  pub levels : map group_of ups ++ over.group ∷ [] ≡ path_to k.parents.items group level
-  pub refused : IsOver k by over
+  pub levels : map use_group ups ++ over.group ∷ [] ≡ path_to k.parents.items group level
+  pub refused : IsOverLimit k by over
   pub here : over.group ≡ level
   pub operation : over.operation ≡ number
   pub found : over.found ≡ pos usage
@@ -78,7 +78,7 @@ pub record IsRefused (k : Shape) (by : Serial) (group level number usage : ℕ) 
 -- the operations of a charge, by its answer
 abbrev pub ChargeOps : Shape → Serial → ℕ → ChargeAnswer → List UseStep → Type 0
 ChargeOps k by group Charged ops = AreUps k by (path_of k.parents.items group) ops
-ChargeOps k by group (Over level number usage) ops = IsRefused k by group level number usage ops
+ChargeOps k by group (Over level number usage) ops = IsChargeRefused k by group level number usage ops
 
 -- the view gained these operations and calls, each operation was noted, and nothing else of the
 -- seat changed
@@ -101,7 +101,7 @@ pub record Charges (k : Shape) (by : Serial) (group : ℕ) (answer : ChargeAnswe
   pub made : ChargeOps k by group answer ops
 
 -- one uncharge was made
-pub record Uncharges (k : Shape) (by : Serial) (group : ℕ) (old new : ChargeSeat) (uses uses' : Kept UseStep) : Type 0 where
+pub record UnchargesOne (k : Shape) (by : Serial) (group : ℕ) (old new : ChargeSeat) (uses uses' : Kept UseStep) : Type 0 where
   pub ops : List UseStep
   pub noted : IsNoted old new uses uses' (calls_with ops 0 1)
   pub made : AreDowns by (path_of k.parents.items group) ops

@@ -13,16 +13,16 @@ use Rattle.shr_charge.specs.declared.answers.BeginAnswer.{BeginAnswer}
 use Rattle.shr_charge.specs.declared.answers.BeginAnswer.TheVariants as began
 use Rattle.shr_charge.specs.Answers.{GainsEntry}
 use Rattle.shr_charge.specs.Views.{TreeView}
-use Rattle.shr_charge.specs.Offlining.{opens, IsSeen}
-use Rattle.shr_charge.specs.Steps.{with_hand, with_begin, with_made}
-use Rattle.shr_charge.specs.Seat.{IsOf, tree_of}
+use Rattle.shr_charge.specs.Offlining.{opens, IsTreeSeen}
+use Rattle.shr_charge.specs.Steps.{with_tree_hand, with_begin, with_made}
+use Rattle.shr_charge.specs.Seat.{IsChargeSeat, tree_of}
 
 -- The seat `new` is `old`, a seat of this table, but for the room with this journal, which it has
 -- in hand.
-pub record HasRoom (c : Charge) (old new : ChargeSeat) (journal : List TreeEntry) : Type 0 where
-  pub was : IsOf c old
+pub record HoldsTreeRoom (c : Charge) (old new : ChargeSeat) (journal : List TreeEntry) : Type 0 where
+  pub was : IsChargeSeat c old
   pub table : new.seat.table_id ≡ old.seat.table_id
-  pub view : new.seat.me.0 ≡ record old.seat.me.0 { tree = with_hand (tree_of old) journal }
+  pub view : new.seat.me.0 ≡ record old.seat.me.0 { tree = with_tree_hand (tree_of old) journal }
   pub slot : (left : Kept TreeEntry) × (new.seat.me.1 ≡ (0, left) ∷ [])
   pub charges : new.charges ≡ old.charges
   pub uncharges : new.uncharges ≡ old.uncharges
@@ -63,6 +63,6 @@ Settles h g (make.Made entry) before after = GainsEntry before after (MadeEntry 
 -- what a taken room shows
 pub record Shown (h : Hierarchy) (old : TreeView) (room : Kept TreeEntry) : Type 0 where
   pub legal : IsTreeJournal h room.items
-  pub seen : IsSeen h room.items old
+  pub seen : IsTreeSeen h room.items old
   pub spare : opens (length h.parents) room.items ≤ room.spare
   pub short : length room.items ≤ 3 * length h.parents

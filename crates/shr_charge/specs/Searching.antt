@@ -14,14 +14,14 @@ is_like (Done group) = is_done group
 is_like (Made group) = is_making group
 
 -- the number of the first entry like this one
-abbrev pub number_of : TreeEntry → List TreeEntry → Option ℕ
-number_of wanted entries = position_from (is_like wanted) 0 entries
+abbrev pub entry_number : TreeEntry → List TreeEntry → Option ℕ
+entry_number wanted entries = position_from (is_like wanted) 0 entries
 
 -- a group is marked
 abbrev pub is_marked : List Bool → ℕ → Bool
 is_marked marks group = slice_index_or marks group false
 
 -- the groups that were made are marked, and those that are done
-pub record AreMarks (entries : List TreeEntry) (marks : Marks) : Type 0 where
+pub record AreMarkedGroups (entries : List TreeEntry) (marks : Marks) : Type 0 where
   pub made : (group : ℕ) → group < 256 → is_marked marks.made group ≡ is_some (made_of entries group)
   pub done : (group : ℕ) → group < 256 → is_marked marks.done group ≡ is_some (done_of entries group)

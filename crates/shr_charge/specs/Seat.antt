@@ -25,7 +25,7 @@ abbrev pub counted : ℕ → ℕ
 counted n = min n (2 ^ 32 - 1)
 
 -- a seat of this table, which was not joined away and has not the room in hand
-pub record IsOf (c : Charge) (s : ChargeSeat) : Type 0 where
+pub record IsChargeSeat (c : Charge) (s : ChargeSeat) : Type 0 where
   pub seat : IsSeatOf c.table.shared.table_id s.seat.table_id (standing_of s)
   pub bare : s.seat.me.1 ≡ []
   pub out : (tree_of s).in_hand ≡ false

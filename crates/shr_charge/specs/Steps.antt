@@ -10,12 +10,12 @@ abbrev pub with_load : TreeView → ℕ → GroupState → TreeView
 with_load t g state = record t { loaded = t.loaded ++ (record { group = g; state = state }) ∷ [] }
 
 -- the room was taken with this journal
-abbrev pub with_hand : TreeView → List TreeEntry → TreeView
-with_hand t journal = record t { in_hand = true; hand = journal }
+abbrev pub with_tree_hand : TreeView → List TreeEntry → TreeView
+with_tree_hand t journal = record t { in_hand = true; hand = journal }
 
 -- the room was given back: its journal is known
-abbrev pub with_given : TreeView → TreeView
-with_given t = record t { known = t.hand; gives = t.gives + 1; in_hand = false; hand = [] }
+abbrev pub with_tree_given : TreeView → TreeView
+with_tree_given t = record t { known = t.hand; gives = t.gives + 1; in_hand = false; hand = [] }
 
 -- a group began: its word was stored, and its Begin stands in the journal
 abbrev pub with_begin : TreeView → ℕ → TreeView

@@ -9,19 +9,19 @@ use Rattle.shr_model.specs.Groups.{Hierarchy, is_later}
 use Rattle.shr_model.specs.TreeJournal.{begin_of, is_made, IsTreeJournal}
 use Rattle.shr_charge.specs.declared.view.View.{View}
 use Rattle.shr_charge.specs.Views.{Uses, TreeView}
-use Rattle.shr_charge.specs.Offlining.{opens, IsSeen}
-use Rattle.shr_charge.specs.Steps.{with_hand}
+use Rattle.shr_charge.specs.Offlining.{opens, IsTreeSeen}
+use Rattle.shr_charge.specs.Steps.{with_tree_hand}
 
 -- a seat as the table knows it: its view, and the slots that it has taken
-abbrev pub Sat : Type 0
-Sat = Me (Kept TreeEntry) View
+abbrev pub ChargeSat : Type 0
+ChargeSat = Me (Kept TreeEntry) View
 
 -- the seat with these operations and calls
-abbrev pub with_uses : Sat → Uses → Sat
+abbrev pub with_uses : ChargeSat → Uses → ChargeSat
 with_uses m u = (record m.0 { uses = u }, m.1)
 
 -- the seat that did and saw this of the tree
-abbrev pub with_tree : Sat → TreeView → Sat
+abbrev pub with_tree : ChargeSat → TreeView → ChargeSat
 with_tree m t = (record m.0 { tree = t }, m.1)
 
 -- a group is online or offline
@@ -52,10 +52,10 @@ IsWord groups w = (w ≡ 2 ^ 63) ⊎ (w ≤ 3 * groups)
 
 -- the room was taken: its journal is legal and holds what the view knows, and there is room for
 -- each open group's Done
-pub record Takes (h : Hierarchy) (m r : Sat) : Type 0 where
+pub record TakesTreeRoom (h : Hierarchy) (m r : ChargeSat) : Type 0 where
   pub room : Kept TreeEntry
-  pub seat : r ≡ (record m.0 { tree = with_hand m.0.tree room.items }, (0, room) ∷ [])
+  pub seat : r ≡ (record m.0 { tree = with_tree_hand m.0.tree room.items }, (0, room) ∷ [])
   pub legal : IsTreeJournal h room.items
-  pub seen : IsSeen h room.items m.0.tree
+  pub seen : IsTreeSeen h room.items m.0.tree
   pub spare : opens (length h.parents) room.items ≤ room.spare
   pub short : length room.items ≤ 3 * length h.parents

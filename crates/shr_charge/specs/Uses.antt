@@ -27,26 +27,26 @@ abbrev pub times_at : ℕ → ℕ → List UseStep → ℕ
 times_at g n ops = count_by (λ (o : UseStep). (o.group == g) && (o.operation == n)) ops
 
 -- a history of each group
-abbrev pub Histories : Type 0
-Histories = ℕ → List UseStep
+abbrev pub UseHistories : Type 0
+UseHistories = ℕ → List UseStep
 
 -- the histories with one operation more
-abbrev pub grown : Histories → UseStep → Histories
+abbrev pub grown : UseHistories → UseStep → UseHistories
 grown history o k = cond (o.group == k) (history k ++ o ∷ []) (history k)
 
 -- an operation stands at its number in the history of its group
-abbrev pub IsThere : Histories → UseStep → Type 0
-IsThere history o = slice_get (history o.group) o.operation ≡ Some o
+abbrev pub StandsInHistory : UseHistories → UseStep → Type 0
+StandsInHistory history o = slice_get (history o.group) o.operation ≡ Some o
 
 -- each operation of each group is made in one view, the usage words count them, and nothing else is
 -- made
-pub record AreUsed (groups : ℕ) (usage : ℕ → ℕ) (history : Histories) (uses : List Uses) : Type 0 where
+pub record AreUsed (groups : ℕ) (usage : ℕ → ℕ) (history : UseHistories) (uses : List Uses) : Type 0 where
   pub legal : (g : ℕ) → IsChargeHistory g (history g)
   pub words : (g : ℕ) → g < groups → usage g ≡ usage_word (history g)
   pub up : (g : ℕ) → sum_by (λ u. ups_at g u.ops) uses ≡ ups (history g)
   pub down : (g : ℕ) → sum_by (λ u. downs_at g u.ops) uses ≡ downs (history g)
   pub once : (g n : ℕ) → sum_by (λ u. times_at g n u.ops) uses ≡ cond (nat_lt n (length (history g))) 1 0
-  pub there : Each (λ u. All (IsThere history) u.ops) uses
+  pub there : Each (λ u. All (StandsInHistory history) u.ops) uses
 
 -- A call of charge makes at most one up and one down in a group, one of uncharge one down. Each
 -- seat makes fewer calls than would let a half of a usage word wrap.

@@ -13,26 +13,26 @@ pub record Uses : Type 0 where
   pub seats : ℕ
 
 -- an entry of the journal of the tree, with its number
-pub record Made : Type 0 where
+pub record TreeMade : Type 0 where
   pub number : ℕ
   pub entry : TreeEntry
 
 -- what a group word said when it was loaded
-pub record Loaded : Type 0 where
+pub record LoadedState : Type 0 where
   pub group : ℕ
   pub state : GroupState
 
 -- what a seat did and saw of the tree: of groups that are made and go offline
 pub record TreeView : Type 0 where
   -- the entries that it made
-  pub made : List Made
+  pub made : List TreeMade
   -- the prefix of the journal that it knows, and how often it gave the room back
   pub known : List TreeEntry
   pub gives : ℕ
   -- the prefixes that the seats knew which were joined into it
   pub heard : List (List TreeEntry)
   -- the group words that it loaded, in order
-  pub loaded : List Loaded
+  pub loaded : List LoadedState
   -- whether it has the room in hand, and then the journal
   pub in_hand : Bool
   pub hand : List TreeEntry

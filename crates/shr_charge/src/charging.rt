@@ -3,10 +3,10 @@
 ghost use Rattle.std.specs.Prelude.{◌≡◌, ℕ, ◌+◌, ◌*◌, ◌^◌, ◌<◌, ◌≤◌, ◌↔◌, true, false, length, All, IsTrue, pos, ◌<ℤ◌, ◌&&◌, ◌==◌};
 ghost use Rattle.shr_model.specs.Charges.{IsBelow};
 ghost use Rattle.shr_model.specs.Groups.{parent_of, depth_of};
-ghost use Rattle.shr_charge.specs.Charging.{count_of, limit_of, Charges, Uncharges, IsLaterThan};
+ghost use Rattle.shr_charge.specs.Charging.{call_count, shape_limit, Charges, UnchargesOne, IsLaterThan};
 ghost use Rattle.shr_charge.specs.Loops.{Climbs, Lowers};
 ghost use Rattle.shr_charge.specs.Paths.{path_to};
-ghost use Rattle.shr_charge.specs.Seat.{IsOf, uses_of, tree_of, standing_of};
+ghost use Rattle.shr_charge.specs.Seat.{IsChargeSeat, uses_of, tree_of, standing_of};
 ghost use Rattle.shr_charge.specs.Uses.{op_of, ups_at, downs_at};
 ghost use Rattle.shr_charge.specs.Views.{both_uses, one_use};
 
@@ -49,18 +49,18 @@ impl Charge {
     // mm/page_counter.c.
     fn add_up(&self, seat: &mut ChargeSeat, by: Serial, group: u16, first: bool) -> UseStep
         requires group { group < length self.now.shape.parents.items }
-        requires seat { IsOf self.now seat.old }
+        requires seat { IsChargeSeat self.now seat.old }
         requires room { ups_at group (uses_of seat.old).ops + 1 ≤ (uses_of seat.old).charges
-            + count_of first }
-        requires calls { (uses_of seat.old).charges + count_of first
+            + call_count first }
+        requires calls { (uses_of seat.old).charges + call_count first
             ≤ 2 ^ 21 * (uses_of seat.old).seats }
-        ensures seat { IsOf self.now seat.new }
+        ensures seat { IsChargeSeat self.now seat.new }
         ensures group { result.group ≡ group }
         ensures up { result.up ≡ true }
         ensures by { result.by ≡ by }
         ensures small { result.found <ℤ pos (2 ^ 32) }
         ensures gains { uses_of seat.new ≡ both_uses (uses_of seat.old)
-            (one_use result (count_of first) 0) }
+            (one_use result (call_count first) 0) }
         ensures later { All (IsLaterThan result) (uses_of seat.old).ops }
         ensures tree { tree_of seat.new ≡ tree_of seat.old }
         ensures standing { standing_of seat.new ≡ standing_of seat.old }
@@ -80,17 +80,17 @@ impl Charge {
     // Takes one from a group's usage. Linux: `page_counter_cancel` in mm/page_counter.c.
     fn add_down(&self, seat: &mut ChargeSeat, by: Serial, group: u16, first: bool) -> UseStep
         requires group { group < length self.now.shape.parents.items }
-        requires seat { IsOf self.now seat.old }
+        requires seat { IsChargeSeat self.now seat.old }
         requires room { downs_at group (uses_of seat.old).ops + 1 ≤ (uses_of seat.old).charges
-            + ((uses_of seat.old).uncharges + count_of first) }
-        requires calls { (uses_of seat.old).uncharges + count_of first
+            + ((uses_of seat.old).uncharges + call_count first) }
+        requires calls { (uses_of seat.old).uncharges + call_count first
             ≤ 2 ^ 25 * (uses_of seat.old).seats }
-        ensures seat { IsOf self.now seat.new }
+        ensures seat { IsChargeSeat self.now seat.new }
         ensures group { result.group ≡ group }
         ensures up { result.up ≡ false }
         ensures by { result.by ≡ by }
         ensures gains { uses_of seat.new ≡ both_uses (uses_of seat.old)
-            (one_use result 0 (count_of first)) }
+            (one_use result 0 (call_count first)) }
         ensures later { All (IsLaterThan result) (uses_of seat.old).ops }
         ensures tree { tree_of seat.new ≡ tree_of seat.old }
         ensures standing { standing_of seat.new ≡ standing_of seat.old }
@@ -110,7 +110,7 @@ impl Charge {
     // Whether an operation found the usage of its group below the limit.
     fn is_below(&self, step: &UseStep) -> bool
         requires { step.now.group < length self.now.shape.parents.items }
-        ensures { IsTrue result ↔ IsBelow (limit_of self.now.shape step.now.group) step.now }
+        ensures { IsTrue result ↔ IsBelow (shape_limit self.now.shape step.now.group) step.now }
     {
         match self.shape.limits.as_slice()[step.group as usize] {
             Some(limit) => step.found < limit as i64,
@@ -138,10 +138,10 @@ impl Charge {
         group: u16,
     ) -> Option<UseStep>
         requires group { group < length self.now.shape.parents.items }
-        requires seat { IsOf self.now seat.old }
+        requires seat { IsChargeSeat self.now seat.old }
         requires calls { (uses_of seat.old).charges < 2 ^ 21 }
         requires spare { depth_of self.now.shape.parents.items group ≤ uses.old.spare }
-        ensures seat { IsOf self.now seat.new }
+        ensures seat { IsChargeSeat self.now seat.new }
         ensures climbs { Climbs self.now.shape by group result seat.old seat.new uses.old uses.new }
     {
         let mut at = group;
@@ -169,13 +169,13 @@ impl Charge {
         count: bool,
     )
         requires group { group < length self.now.shape.parents.items }
-        requires seat { IsOf self.now seat.old }
+        requires seat { IsChargeSeat self.now seat.old }
         requires room { (j : ℕ) → downs_at j (uses_of seat.old).ops + 1
-            ≤ (uses_of seat.old).charges + ((uses_of seat.old).uncharges + count_of count) }
-        requires calls { (uses_of seat.old).uncharges + count_of count
+            ≤ (uses_of seat.old).charges + ((uses_of seat.old).uncharges + call_count count) }
+        requires calls { (uses_of seat.old).uncharges + call_count count
             ≤ 2 ^ 25 * (uses_of seat.old).seats }
         requires spare { length (path_to self.now.shape.parents.items group last) ≤ uses.old.spare }
-        ensures seat { IsOf self.now seat.new }
+        ensures seat { IsChargeSeat self.now seat.new }
         ensures lowers { Lowers self.now.shape.parents.items by group last count seat.old seat.new
             uses.old uses.new }
     {
@@ -205,10 +205,10 @@ impl Charge {
         group: u16,
     ) -> ChargeAnswer
         requires group { group < length self.now.shape.parents.items }
-        requires seat { IsOf self.now seat.old }
+        requires seat { IsChargeSeat self.now seat.old }
         requires calls { (uses_of seat.old).charges < 2 ^ 21 }
         requires spare { 2 * depth_of self.now.shape.parents.items group ≤ uses.old.spare }
-        ensures seat { IsOf self.now seat.new }
+        ensures seat { IsChargeSeat self.now seat.new }
         ensures charges { Charges self.now.shape by group result seat.old seat.new uses.old
             uses.new }
     {
@@ -229,11 +229,11 @@ impl Charge {
     /// `page_counter_uncharge` in mm/page_counter.c.
     pub fn uncharge(&self, seat: &mut ChargeSeat, uses: &mut Log<UseStep>, by: Serial, group: u16)
         requires group { group < length self.now.shape.parents.items }
-        requires seat { IsOf self.now seat.old }
+        requires seat { IsChargeSeat self.now seat.old }
         requires calls { (uses_of seat.old).uncharges < 2 ^ 25 }
         requires spare { depth_of self.now.shape.parents.items group ≤ uses.old.spare }
-        ensures seat { IsOf self.now seat.new }
-        ensures uncharges { Uncharges self.now.shape by group seat.old seat.new uses.old uses.new }
+        ensures seat { IsChargeSeat self.now seat.new }
+        ensures uncharges { UnchargesOne self.now.shape by group seat.old seat.new uses.old uses.new }
     {
         self.lower(seat, uses, by, group, 0, true);
     }

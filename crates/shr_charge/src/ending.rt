@@ -6,7 +6,7 @@ ghost use Rattle.std.specs.Mem.Slots.{slots_items, slots_len, IsFull};
 ghost use Rattle.shr_seats.specs.Standing.{IsWhole};
 ghost use Rattle.shr_seats.specs.Shapes.{hierarchy_of};
 ghost use Rattle.shr_charge.specs.Rule.{usage_in};
-ghost use Rattle.shr_charge.specs.Seat.{IsOf, uses_of, tree_of, standing_of};
+ghost use Rattle.shr_charge.specs.Seat.{IsChargeSeat, uses_of, tree_of, standing_of};
 ghost use Rattle.shr_charge.specs.Ends.{IsEndOf};
 
 use crate::table::{Charge, ChargeSeat};
@@ -40,7 +40,7 @@ impl Charge {
     /// other seats were joined into the first one, whose view has each operation and each entry. On
     /// `Memory` the table is gone too. Our own.
     pub fn finish(self, seat: ChargeSeat) -> Result<ChargeEnd, Memory>
-        requires seat { IsOf self seat }
+        requires seat { IsChargeSeat self seat }
         requires first { (standing_of seat).first ≡ true }
         requires whole { IsWhole (standing_of seat) }
         ensures { IfOk result (IsEndOf (hierarchy_of self.shape) (uses_of seat) (tree_of seat)) }

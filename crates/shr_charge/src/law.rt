@@ -1,6 +1,6 @@
 //! The rule of the table, which each of its steps keeps.
 
-ghost use Rattle.shr_charge.specs.Rule.{IsSound, first_view, new_view, spent_view, with_split_view, joined_view};
+ghost use Rattle.shr_charge.specs.Rule.{IsChargeSound, first_charge_view, new_charge_view, spent_charge_view, split_charge_view, joined_charge_view};
 
 use crate::view::View;
 use atomic_table::{Join, Split, TableRule};
@@ -13,22 +13,22 @@ use shr_seats::shape::Shape;
 pub struct Law;
 
 impl TableRule<Log<TreeEntry>, View, Shape> for Law {
-    ghost holds = { IsSound };
+    ghost holds = { IsChargeSound };
 
-    ghost first = { λ _. first_view };
+    ghost first = { λ _. first_charge_view };
 }
 
 /// How the first seat is split, and how another is joined into it. Our own.
 pub struct Seating;
 
 impl Split<View> for Seating {
-    ghost left = { with_split_view };
+    ghost left = { split_charge_view };
 
-    ghost right = { λ _. new_view };
+    ghost right = { λ _. new_charge_view };
 }
 
 impl Join<View> for Seating {
-    ghost both = { joined_view };
+    ghost both = { joined_charge_view };
 
-    ghost spent = { spent_view };
+    ghost spent = { spent_charge_view };
 }

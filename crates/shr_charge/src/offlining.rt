@@ -6,11 +6,11 @@ ghost use Rattle.shr_model.specs.Groups.{is_later};
 ghost use Rattle.shr_model.specs.TreeJournal.{begin_of, is_made, undone_child};
 ghost use Rattle.shr_seats.specs.Shapes.{hierarchy_of};
 ghost use Rattle.shr_model.specs.TreeJournal as journal;
-ghost use Rattle.shr_charge.specs.Answers.{Knows, BeginTells, BeginLeaves, IfGiven, MakeTells, MakeLeaves, DoneTells, DoneLeaves};
+ghost use Rattle.shr_charge.specs.Answers.{KnowsTree, BeginTells, BeginLeaves, IfGiven, MakeTells, MakeLeaves, DoneTells, DoneLeaves};
 ghost use Rattle.shr_charge.specs.Offlining.{opens};
 ghost use Rattle.shr_charge.specs.Rooms.{Decides, Settles, hand_by, hand_made};
-ghost use Rattle.shr_charge.specs.Searching.{AreMarks};
-ghost use Rattle.shr_charge.specs.Seat.{IsOf, uses_of, tree_of, standing_of};
+ghost use Rattle.shr_charge.specs.Searching.{AreMarkedGroups};
+ghost use Rattle.shr_charge.specs.Seat.{IsChargeSeat, uses_of, tree_of, standing_of};
 ghost use Rattle.shr_charge.specs.Steps.{with_load};
 ghost use Rattle.shr_charge.specs.Told.{Shows, IsWord, state_in, with_tree};
 
@@ -63,7 +63,7 @@ impl Charge {
     // Whether a group is a child that is made and isn't done.
     fn is_undone(&self, marks: &Marks, group: u16, child: u16) -> bool
         requires child { child < length self.now.shape.parents.items }
-        ensures { (entries : List TreeEntry) → AreMarks entries marks.now
+        ensures { (entries : List TreeEntry) → AreMarkedGroups entries marks.now
             → result ≡ journal.is_undone_child (hierarchy_of self.now.shape) entries group child }
     {
         child > 0
@@ -135,12 +135,12 @@ impl Charge {
     /// `mem_cgroup_css_offline` in mm/memcontrol.c.
     pub fn begin_offline<R: Wait>(&self, rt: &R, seat: &mut ChargeSeat, group: u16) -> BeginAnswer
         requires group { group < length self.now.shape.parents.items }
-        requires seat { IsOf self.now seat.old }
-        ensures seat { IsOf self.now seat.new }
+        requires seat { IsChargeSeat self.now seat.old }
+        ensures seat { IsChargeSeat self.now seat.new }
         ensures tells { BeginTells (hierarchy_of self.now.shape) group result (tree_of seat.old)
             (tree_of seat.new).known }
         ensures view { BeginLeaves group result (tree_of seat.old) (tree_of seat.new) }
-        ensures knows { IfGiven result (Knows (hierarchy_of self.now.shape) (tree_of seat.old)
+        ensures knows { IfGiven result (KnowsTree (hierarchy_of self.now.shape) (tree_of seat.old)
             (tree_of seat.new)) }
         ensures uses { uses_of seat.new ≡ uses_of seat.old }
         ensures standing { standing_of seat.new ≡ standing_of seat.old }
@@ -202,12 +202,12 @@ impl Charge {
     pub fn make_group<R: Wait>(&self, rt: &R, seat: &mut ChargeSeat, group: u16) -> MakeAnswer
         requires group { group < length self.now.shape.parents.items }
         requires late { is_later self.now.shape.later.items group ≡ true }
-        requires seat { IsOf self.now seat.old }
-        ensures seat { IsOf self.now seat.new }
+        requires seat { IsChargeSeat self.now seat.old }
+        ensures seat { IsChargeSeat self.now seat.new }
         ensures tells { MakeTells (hierarchy_of self.now.shape) group result (tree_of seat.old)
             (tree_of seat.new).known }
         ensures view { MakeLeaves group result (tree_of seat.old) (tree_of seat.new) }
-        ensures knows { Knows (hierarchy_of self.now.shape) (tree_of seat.old) (tree_of seat.new) }
+        ensures knows { KnowsTree (hierarchy_of self.now.shape) (tree_of seat.old) (tree_of seat.new) }
         ensures uses { uses_of seat.new ≡ uses_of seat.old }
         ensures standing { standing_of seat.new ≡ standing_of seat.old }
     {
@@ -226,11 +226,11 @@ impl Charge {
     pub fn done_offline<R: Wait>(&self, rt: &R, seat: &mut ChargeSeat, group: u16) -> DoneAnswer
         requires group { group < length self.now.shape.parents.items }
         requires begun { IsSome (begin_of (tree_of seat.old).known group) }
-        requires seat { IsOf self.now seat.old }
-        ensures seat { IsOf self.now seat.new }
+        requires seat { IsChargeSeat self.now seat.old }
+        ensures seat { IsChargeSeat self.now seat.new }
         ensures tells { DoneTells (hierarchy_of self.now.shape) group result (tree_of seat.old) (tree_of seat.new).known }
         ensures view { DoneLeaves group result (tree_of seat.old) (tree_of seat.new) }
-        ensures knows { Knows (hierarchy_of self.now.shape) (tree_of seat.old) (tree_of seat.new) }
+        ensures knows { KnowsTree (hierarchy_of self.now.shape) (tree_of seat.old) (tree_of seat.new) }
         ensures uses { uses_of seat.new ≡ uses_of seat.old }
         ensures standing { standing_of seat.new ≡ standing_of seat.old }
     {
@@ -251,8 +251,8 @@ impl Charge {
     /// include/linux/memcontrol.h.
     pub fn state(&self, seat: &mut ChargeSeat, group: u16) -> GroupState
         requires group { group < length self.now.shape.parents.items }
-        requires seat { IsOf self.now seat.old }
-        ensures seat { IsOf self.now seat.new }
+        requires seat { IsChargeSeat self.now seat.old }
+        ensures seat { IsChargeSeat self.now seat.new }
         ensures view { tree_of seat.new ≡ with_load (tree_of seat.old) group result }
         ensures shows { Shows (hierarchy_of self.now.shape) (tree_of seat.old) group result }
         ensures uses { uses_of seat.new ≡ uses_of seat.old }

@@ -4,8 +4,8 @@ ghost use Rattle.std.specs.Prelude.{◌≡◌, ◌≤◌, ◌+◌, ◌*◌, leng
 ghost use Rattle.shr_seats.specs.Shapes.{HasLimits};
 ghost use Rattle.shr_seats.specs.Standing.{at_first};
 ghost use Rattle.shr_charge.specs.Views.{own_uses, no_tree};
-ghost use Rattle.shr_charge.specs.Opening.{AreFirst};
-ghost use Rattle.shr_charge.specs.Seat.{IsOf, uses_of, tree_of, standing_of};
+ghost use Rattle.shr_charge.specs.Opening.{AreFirstGroupWords};
+ghost use Rattle.shr_charge.specs.Seat.{IsChargeSeat, uses_of, tree_of, standing_of};
 
 use crate::offlining::NOT_MADE;
 use crate::table::{Charge, ChargeSeat};
@@ -25,7 +25,7 @@ fn zeros(alloc: Global, count: usize) -> Result<Vec<u64>, Memory>
 // The words of a new table.
 fn first_words(alloc: Global, later: &[bool]) -> Result<Vec<u64>, Memory>
     requires { length later.now ≤ 256 }
-    ensures { IfOk result (λ v. AreFirst later.now v.items) }
+    ensures { IfOk result (λ v. AreFirstGroupWords later.now v.items) }
 {
     let mut words = zeros(alloc, WORDS_A_GROUP * later.len() + 1)?;
     for group in 0..later.len() {
@@ -44,7 +44,7 @@ impl Charge {
     pub fn new(alloc: Global, shape: Shape) -> Result<(Charge, ChargeSeat), Memory>
         requires shape { HasLimits shape }
         ensures shape { IfOk result (λ t. t.0.shape ≡ shape) }
-        ensures seat { IfOk result (λ t. IsOf t.0 t.1) }
+        ensures seat { IfOk result (λ t. IsChargeSeat t.0 t.1) }
         ensures uses { IfOk result (λ t. uses_of t.1 ≡ own_uses) }
         ensures tree { IfOk result (λ t. tree_of t.1 ≡ no_tree) }
         ensures standing { IfOk result (λ t. standing_of t.1 ≡ at_first) }

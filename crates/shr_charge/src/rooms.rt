@@ -5,10 +5,10 @@ ghost use Rattle.shr_base.specs.declared.journals.TreeEntry.TheVariants.{Done as
 ghost use Rattle.shr_model.specs.TreeJournal.{MayBegin, MayBeDone, MayBeMade};
 ghost use Rattle.shr_seats.specs.Shapes.{hierarchy_of};
 ghost use Rattle.shr_charge.specs.Offlining.{IsHome};
-ghost use Rattle.shr_charge.specs.Rooms.{HasRoom, Shown};
-ghost use Rattle.shr_charge.specs.Seat.{IsOf, tree_of};
-ghost use Rattle.shr_charge.specs.Steps.{with_given, with_begin, with_made, with_done};
-ghost use Rattle.shr_charge.specs.Told.{Takes, with_tree};
+ghost use Rattle.shr_charge.specs.Rooms.{HoldsTreeRoom, Shown};
+ghost use Rattle.shr_charge.specs.Seat.{IsChargeSeat, tree_of};
+ghost use Rattle.shr_charge.specs.Steps.{with_tree_given, with_begin, with_made, with_done};
+ghost use Rattle.shr_charge.specs.Told.{TakesTreeRoom, with_tree};
 
 use crate::table::{Charge, ChargeSeat, TableSeat};
 use crate::words::WORDS_A_GROUP;
@@ -26,7 +26,7 @@ impl Charge {
         requires bare { seat.old.me.1 ≡ [] }
         requires out { seat.old.me.0.tree.in_hand ≡ false }
         ensures table { seat.new.table_id ≡ seat.old.table_id }
-        ensures taken { MatchBool result (Takes (hierarchy_of self.now.shape) seat.old.me
+        ensures taken { MatchBool result (TakesTreeRoom (hierarchy_of self.now.shape) seat.old.me
             seat.new.me) (seat.new.me ≡ seat.old.me) }
     {
         self.lock_as::<Brand>(seat) == 0
@@ -34,8 +34,8 @@ impl Charge {
 
     /// Waits for the room, and takes its journal out of it. Our own.
     pub(crate) fn take_tree<R: Wait>(&self, rt: &R, seat: &mut ChargeSeat) -> Log<TreeEntry>
-        requires seat { IsOf self.now seat.old }
-        ensures room { HasRoom self.now seat.old seat.new result.items }
+        requires seat { IsChargeSeat self.now seat.old }
+        ensures room { HoldsTreeRoom self.now seat.old seat.new result.items }
         ensures shown { Shown (hierarchy_of self.now.shape) (tree_of seat.old) result }
     {
         let backoff = Backoff::new();
@@ -60,7 +60,7 @@ impl Charge {
         requires home { IsHome (length self.now.shape.parents.items) (tree_of seat.old).hand room }
         ensures table { seat.new.seat.table_id ≡ seat.old.seat.table_id }
         ensures view { seat.new.seat.me.0 ≡ record seat.old.seat.me.0
-            { tree = with_given (tree_of seat.old) } }
+            { tree = with_tree_given (tree_of seat.old) } }
         ensures bare { seat.new.seat.me.1 ≡ [] }
         ensures charges { seat.new.charges ≡ seat.old.charges }
         ensures uncharges { seat.new.uncharges ≡ seat.old.uncharges }

@@ -2,7 +2,7 @@
 
 ghost use Rattle.std.specs.Prelude.{◌≡◌, ◌==◌, ◌^◌, ◌<◌, ◌||◌, ℕ, length};
 ghost use Rattle.shr_model.specs.TreeJournal.{is_making, is_done};
-ghost use Rattle.shr_charge.specs.Searching.{AreMarks, is_marked, is_like, number_of};
+ghost use Rattle.shr_charge.specs.Searching.{AreMarkedGroups, is_marked, is_like, entry_number};
 
 use shr_base::journals::TreeEntry;
 
@@ -19,7 +19,7 @@ fn is_like(entry: TreeEntry, wanted: TreeEntry) -> bool
 /// The number of the first entry of this kind and group. Our own.
 pub(crate) fn first_like(entries: &[TreeEntry], wanted: TreeEntry) -> Option<u32>
     requires { length entries.now < 2 ^ 32 }
-    ensures { result ≡ number_of wanted entries.now }
+    ensures { result ≡ entry_number wanted entries.now }
 {
     for i in 0..entries.len() {
         if is_like(entries[i], wanted) {
@@ -50,7 +50,7 @@ pub(crate) struct Marks {
 impl Marks {
     /// What a journal says, read once from its begin to its end. Our own.
     pub(crate) fn of(entries: &[TreeEntry]) -> Marks
-        ensures { AreMarks entries.now result }
+        ensures { AreMarkedGroups entries.now result }
     {
         let mut marks = Marks {
             made: [false; MOST_GROUPS],

@@ -3,7 +3,7 @@
 ghost use Rattle.std.specs.Prelude.{◌≡◌, ◌+◌, ◌<◌, ◌%◌, ◌^◌, ◌==◌};
 ghost use prog.Atomic.{either};
 ghost use Rattle.atomic_table.specs.Table.{Allows};
-ghost use Rattle.shr_charge.specs.Rule.{IsSound};
+ghost use Rattle.shr_charge.specs.Rule.{IsChargeSound};
 
 use crate::table::{Charge, TableSeat};
 use crate::view::View;
@@ -30,7 +30,7 @@ impl Charge {
     ) -> u64
         requires seat { seat.old.table_id ≡ self.now.table.shared.table_id }
         requires word { word < self.now.table.shared.table_id.words }
-        requires step { Allows (IsSound self.now.table.shared.key)
+        requires step { Allows (IsChargeSound self.now.table.shared.key)
             self.now.table.shared.table_id.slots seat.old.id seat.old.me word
             (λ y. (y + n) % 2 ^ 64) T.tells }
         ensures table { seat.new.table_id ≡ seat.old.table_id }
@@ -48,7 +48,7 @@ impl Charge {
     ) -> u64
         requires seat { seat.old.table_id ≡ self.now.table.shared.table_id }
         requires word { word < self.now.table.shared.table_id.words }
-        requires step { Allows (IsSound self.now.table.shared.key)
+        requires step { Allows (IsChargeSound self.now.table.shared.key)
             self.now.table.shared.table_id.slots seat.old.id seat.old.me word (λ y. y) T.tells }
         ensures table { seat.new.table_id ≡ seat.old.table_id }
         ensures told { T.tells result seat.new.me }
@@ -66,7 +66,7 @@ impl Charge {
     )
         requires seat { seat.old.table_id ≡ self.now.table.shared.table_id }
         requires word { word < self.now.table.shared.table_id.words }
-        requires step { Allows (IsSound self.now.table.shared.key)
+        requires step { Allows (IsChargeSound self.now.table.shared.key)
             self.now.table.shared.table_id.slots seat.old.id seat.old.me word (λ _. new)
             (λ _. T.tells new) }
         ensures table { seat.new.table_id ≡ seat.old.table_id }
@@ -80,7 +80,7 @@ impl Charge {
     pub(crate) fn lock_as<T: Tells<Log<TreeEntry>, View>>(&self, seat: &mut TableSeat) -> u64
         requires seat { seat.old.table_id ≡ self.now.table.shared.table_id }
         requires word { 0 < self.now.table.shared.table_id.words }
-        requires step { Allows (IsSound self.now.table.shared.key)
+        requires step { Allows (IsChargeSound self.now.table.shared.key)
             self.now.table.shared.table_id.slots seat.old.id seat.old.me 0 (λ y. either (y == 0) 1
             y) T.tells }
         ensures table { seat.new.table_id ≡ seat.old.table_id }

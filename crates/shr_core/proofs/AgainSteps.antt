@@ -1,29 +1,8 @@
 -- A lookup of an id that the seat met keeps the rule.
-use Rattle.std.proofs.Common.{◌≡◌, ℕ, zero, suc, ◌+◌, ◌*◌, ◌%◌, ◌^◌, ◌<◌, true, false, cond, eqb, List, [], ◌∷◌, map, length, set, get_or, sym, refl, ap, subst, ◌∙◌, arith, eq-eqb}
-use Rattle.std.proofs.lemmas.Option.{same_Some}
+use Rattle.shr_core.proofs.Common.{◌≡◌, ℕ, zero, suc, ◌+◌, ◌*◌, ◌%◌, ◌^◌, ◌<◌, true, false, cond, eqb, List, [], ◌∷◌, map, length, set, get_or, sym, refl, ap, subst, ◌∙◌, arith, eq-eqb, same_Some, some, get_elem?, State, Act, Valid, keeps, Allows, stepped, carried_after, exchanged, LookupWord, PoolEntry, phase_of, decl_of, is_live, decl_at, Begins, Each-set, View, Slot, Setting, Claims, Dated, bits_in, looks_in, sizes_of, refs_of, lookups_of, phase_in, decl_in, word_in, Sound, HasOwnEnd, AreDated, AreLookupsOf, claims_of, turns_of, only_some, Sat, MetLive, with_again, looked_again, set_there}
 use Rattle.shr_core.proofs.Options.{only_some_no}
 use Rattle.std.specs.Prelude.{Some, None, Option as Maybe}
 use prog.Atomic.{either}
-use mathlib.Core.Option.{some}
-use lib.ListN.{get_elem?}
-use Rattle.atomic_table.specs.Table.{State, Act, Valid, keeps, Allows, stepped, carried_after}
-use Rattle.atomic_table.proofs.Lists.{exchanged}
-use Rattle.shr_base.specs.declared.ends.LookupWord.{LookupWord}
-use Rattle.shr_base.specs.declared.journals.PoolEntry.{PoolEntry}
-use Rattle.shr_model.specs.Pool.{phase_of, decl_of, is_live, decl_at}
-use Rattle.shr_seats.specs.Weights.{Begins}
-use Rattle.shr_seats.proofs.Weighing.{Each-set}
-use Rattle.shr_core.specs.declared.view.View.{View}
-use Rattle.shr_core.specs.Slots.{Slot}
-use Rattle.shr_core.specs.declared.setting.Setting.{Setting}
-use Rattle.shr_core.specs.Parts.{Claims, Dated}
-use Rattle.shr_core.specs.Layout.{bits_in, looks_in}
-use Rattle.shr_seats.specs.Shapes.{sizes_of}
-use Rattle.shr_core.specs.Lookup.{refs_of, lookups_of, phase_in, decl_in, word_in}
-use Rattle.shr_core.specs.Rule.{Sound, HasOwnEnd, AreDated, AreLookupsOf, claims_of, turns_of, only_some}
-use Rattle.shr_core.specs.Steps.{Sat}
-use Rattle.shr_core.specs.Answers.{MetLive}
-use Rattle.shr_core.specs.Again.{with_again, looked_again}
 use Rattle.shr_core.proofs.Ordering as ordering
 use Rattle.shr_core.proofs.Frames.{here, on_look, state, unmoved, lists_stay, rooms_stay, traces_stay, marks_stay, seats_stay}
 use Rattle.shr_core.proofs.Packing as packing
@@ -34,7 +13,6 @@ use Rattle.shr_core.proofs.Turning as turning
 use Rattle.shr_core.proofs.Dating as dating
 use Rattle.shr_core.proofs.Lasting.{Lasts, lasts}
 use Rattle.shr_core.proofs.LookupSteps.{look_here, look_else}
-use Rattle.shr_seats.proofs.Lining.{set_there}
 
 -- what is set twice is what was set last
 set_twice : {A : Type 0} (xs : List A) (i : ℕ) (a b : A) → set (set xs i a) i b ≡ set xs i b

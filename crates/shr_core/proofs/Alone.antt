@@ -1,24 +1,5 @@
 -- What the words say while one seat alone is there.
-use Rattle.std.proofs.Common.{◌≡◌, ◌≢◌, ℕ, zero, suc, ◌+◌, ◌<◌, ◌≤◌, true, false, Bool, cond, nat_lt, List, [], ◌∷◌, length, map, sym, refl, ap, subst, ◌∙◌, arith}
-use Rattle.std.specs.Prelude.{nat_le, ◌&&◌}
-use Rattle.std.proofs.lemmas.Bool.Decides.{nat_tests}
-use mathlib.Core.Option.{some, some-injective, some-ne-none}
-use lib.ListN.{get_elem?}
-use Rattle.atomic_table.specs.Table.{State}
-use Rattle.atomic_table.proofs.Lists.{at_map}
-use Rattle.shr_seats.specs.Standing.{IsWhole}
-use Rattle.shr_seats.specs.Weights.{total, only}
-use Rattle.shr_seats.proofs.Sums.{from_map}
-use Rattle.shr_seats.proofs.Seating.{sole}
-use Rattle.shr_seats.proofs.Weighing.{total_zero}
-use Rattle.shr_core.specs.declared.view.View.{View}
-use Rattle.shr_core.specs.Slots.{Slot}
-use Rattle.shr_core.specs.declared.setting.Setting.{Setting}
-use Rattle.shr_core.specs.Parts.{Claims, Tried, Turn, Turns}
-use Rattle.shr_core.specs.Layout.{looks_in, locks_in}
-use Rattle.shr_seats.specs.Shapes.{sizes_of}
-use Rattle.shr_core.specs.Lookup.{refs_of, lookups_of}
-use Rattle.shr_core.specs.Rule.{Sound, IsRoom, spent, hit_attempt, hit_turn, only_some, has_room, holding_of, claims_of, turns_of, standing_of}
+use Rattle.shr_core.proofs.Common.{◌≡◌, ◌≢◌, ℕ, zero, suc, ◌+◌, ◌<◌, ◌≤◌, true, false, Bool, cond, nat_lt, List, [], ◌∷◌, length, map, sym, refl, ap, subst, ◌∙◌, arith, nat_le, ◌&&◌, nat_tests, some, some-injective, some-ne-none, get_elem?, State, at_map, IsWhole, total, only, from_map, sole, total_zero, View, Slot, Setting, Claims, Tried, Turn, Turns, looks_in, locks_in, sizes_of, refs_of, lookups_of, Sound, IsRoom, spent, hit_attempt, hit_turn, only_some, has_room, holding_of, claims_of, turns_of, view_standing}
 
 -- a sum to which one element alone adds
 spike : {A : Type 0} (f : A → ℕ) (l : List A) (id : ℕ) (v : A) → get_elem? l id ≡ some v → ((j : ℕ) (x : A) → j ≢ id → get_elem? l j ≡ some x → f x ≡ 0) → total f l ≡ f v
@@ -75,7 +56,7 @@ module _ (key : Setting) (s : State Slot View) (o : Sound key s) (id : ℕ) (v :
   -- a sum over the seats is the share of the first one, once all others were joined
   pub sum_alone : {A : Type 0} (part : View → A) (f : A → ℕ) → f (part spent) ≡ 0 → total f (map part s.views) ≡ f (part v)
   sum_alone part f none = spike f (map part s.views) id (part v) (at_map part s.views id v me) (λ j x n at. let t = from_map part s.views j x at in
-      ap f (sym t.2) ∙ (ap (λ (u : View). f (part u)) (sole standing_of spent s.views id v me first whole o.rules.seated o.emptied j t.0 n t.1) ∙ none))
+      ap f (sym t.2) ∙ (ap (λ (u : View). f (part u)) (sole view_standing spent s.views id v me first whole o.rules.seated o.emptied j t.0 n t.1) ∙ none))
 
   -- the references are those that the seat holds
   pub refs_alone : (i : ℕ) → i < key.shape.ids → refs_of (looks_in s.words i) ≡ only_some i v.claims.held + only_some i v.claims.probe

@@ -1,16 +1,7 @@
 -- The objects that an entry leaves and frees are born in groups where those before it are.
-use Rattle.std.proofs.Common.{ℕ, zero, suc, ◌<◌, Bool, true, false, if◌then◌else◌, List, [], ◌∷◌, ◌++◌, refl}
-use Rattle.std.specs.Prelude.{Option, Some, None, find}
-use Rattle.shr_base.specs.declared.objects.Object.{Object}
-use Rattle.shr_base.specs.declared.objects.Policy.{Policy}
-use Rattle.shr_base.specs.declared.journals.Entry.{Entry}
-use Rattle.shr_base.specs.declared.journals.Entry.TheVariants.{Add, Look, Drop, Pin, Scan, MovedIn, Closed, Drained}
-use Rattle.shr_model.specs.Objects.{is_named, holds, named_in, fresh, marked_object, unmarked_object, pinned_object, change_first, without_first}
-use Rattle.shr_model.specs.Items.{step, after_drop, dropped_of, freed_by}
+use Rattle.shr_core.proofs.Common.{ℕ, zero, suc, ◌<◌, Bool, true, false, if◌then◌else◌, List, [], ◌∷◌, ◌++◌, refl, Option, Some, None, Object, Policy, Entry, Add, Look, Drop, Pin, Scan, MovedIn, Closed, Drained, fresh, step, Each-append, Each-cons, Each-none, Each-push, AreBorn, find, is_named, holds, named_in, marked_object, unmarked_object, pinned_object, change_first, without_first, after_drop, dropped_of, freed_by}
 use Rattle.shr_base.specs.declared.objects.LruStatus.TheVariants.{Removed, Rotate, Skip, Stop}
 use Rattle.shr_model.specs.Scan.{Scanned, case_of, scan_ends, after_visit, after_freeing, scan_from}
-use Rattle.shr_seats.proofs.Weighing.{Each-append, Each-cons, Each-none, Each-push}
-use Rattle.shr_core.specs.Rule.{AreBorn}
 
 -- an Add is of a group
 abbrev pub IsBornIn : ℕ → Entry → Type 0

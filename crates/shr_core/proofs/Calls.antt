@@ -1,26 +1,8 @@
 -- A seat after a step is of its core still.
-use Rattle.std.proofs.Common.{◌≡◌, ℕ, ◌/◌, ◌<◌, ◌≤◌, Bool, cond, eq-eqb, ne_eqb, List, [], ◌∷◌, map, length, sym, refl, ap, subst, ◌∙◌, ⊎_elim, arith}
-use Rattle.std.specs.Prelude.{Option, Some, None}
-use mathlib.Core.Logic.{dite}
-use native.Mathlib.Decide.{ℕ_discrete}
-use Rattle.atomic_table.specs.Table.{Allows}
-use Rattle.shr_base.specs.declared.places.Place.{Place}
-use Rattle.shr_model.specs.Places.{place_number}
+use Rattle.shr_core.proofs.Common.{◌≡◌, ℕ, ◌/◌, ◌<◌, ◌≤◌, Bool, cond, eq-eqb, ne_eqb, List, [], ◌∷◌, map, length, sym, refl, ap, subst, ◌∙◌, ⊎_elim, arith, Option, Some, None, dite, ℕ_discrete, Allows, Place, place_number, PoolEntry, Met, View, Shape, Setting, Slot, Hand, RoomContent, Sound, IsInside, groups_in, sizes_of, Sat, with_taken, with_content, row_in, words_in, map_of, slot_numbers, numbers_of, IsOf, IsPlaceOfShape, IsHolding, IsMeeting, MayTake, view_of, room_numbers, room_rows}
 use Rattle.shr_core.specs.declared.table.Core.{Core}
-use Rattle.shr_base.specs.declared.journals.PoolEntry.{PoolEntry}
 use Rattle.shr_core.specs.declared.seat.Seat.{Seat}
-use Rattle.shr_core.specs.declared.seat.Met.{Met}
-use Rattle.shr_core.specs.declared.view.View.{View}
-use Rattle.shr_seats.specs.declared.shape.Shape.{Shape}
-use Rattle.shr_core.specs.declared.setting.Setting.{Setting}
-use Rattle.shr_core.specs.Slots.{Slot}
-use Rattle.shr_core.specs.Parts.{Hand, Content}
-use Rattle.shr_core.specs.Rule.{Sound, IsInside}
-use Rattle.shr_seats.specs.Shapes.{groups_in, sizes_of}
-use Rattle.shr_core.specs.Steps.{Sat, with_taken, with_content}
-use Rattle.shr_core.specs.Layout.{row_in, words_in, map_of}
 use Rattle.shr_core.specs.Moves.{Token, MayStep}
-use Rattle.shr_core.specs.Seats.{IsOf, IsPlaceOf, IsHolding, IsMeeting, MayTake, view_of, slot_numbers, room_numbers, room_rows, numbers_of}
 
 -- a seat may make a step that the rule allows with the core's setting, on the word with that number
 pub may : (core : Core) (token : Token) (word at : ℕ) (f : ℕ → ℕ) (tells : ℕ → Sat → Type 0) → token.table_id ≡ core.table.shared.table_id → word ≡ at → at < words_in (sizes_of core.setting.shape)
@@ -50,20 +32,20 @@ changed core old new w o table held me gone holds may probe rooms slots met know
   keeps (Some i) e h = (e ∙ h.0, h.1)
 
 -- a room was taken, and the content of its slot is out
-pub taken : (core : Core) (old new : Seat) (number row : ℕ) (c : Content) (left : Slot) → IsOf core old → new.token.table_id ≡ old.token.table_id → new.held ≡ old.held → new.token.me ≡ (with_taken (view_of old) number c, (row, left) ∷ old.token.me.1) → row ≡ row_in (sizes_of core.setting.shape) number
+pub taken : (core : Core) (old new : Seat) (number row : ℕ) (c : RoomContent) (left : Slot) → IsOf core old → new.token.table_id ≡ old.token.table_id → new.held ≡ old.held → new.token.me ≡ (with_taken (view_of old) number c, (row, left) ∷ old.token.me.1) → row ≡ row_in (sizes_of core.setting.shape) number
     → numbers_of new.rooms ≡ number ∷ numbers_of old.rooms → new.met ≡ old.met → IsOf core new
 taken core old new number row c left o table held me is rooms met = changed core old new (with_taken (view_of old) number c) o table held (ap (λ (m : Sat). m.0) me) refl refl o.may o.probe
     (rooms ∙ ap (λ (l : List ℕ). number ∷ l) o.rooms) (ap (λ (m : Sat). slot_numbers m.1) me ∙ (ap (λ (x : ℕ). x ∷ slot_numbers old.token.me.1) is ∙ ap (λ (l : List ℕ). row_in (sizes_of core.setting.shape) number ∷ l) o.slots)) met refl
 
 -- a content that changes keeps the rooms
-content_numbers : (r : ℕ) (c : Content) (hs : List Hand) → map (λ (h : Hand). h.room) (with_content r c hs) ≡ map (λ (h : Hand). h.room) hs
+content_numbers : (r : ℕ) (c : RoomContent) (hs : List Hand) → map (λ (h : Hand). h.room) (with_content r c hs) ≡ map (λ (h : Hand). h.room) hs
 content_numbers r c [] = refl
 content_numbers r c (h ∷ hs) = dite (ℕ_discrete h.room r)
     (λ e. subst (λ (b : Bool). map (λ (x : Hand). x.room) (cond b (record { room = r; content = c } ∷ hs) (h ∷ with_content r c hs)) ≡ h.room ∷ map (λ (x : Hand). x.room) hs) (sym (eq-eqb h.room r e)) (ap (λ (x : ℕ). x ∷ map (λ (y : Hand). y.room) hs) (sym e)))
     (λ n. subst (λ (b : Bool). map (λ (x : Hand). x.room) (cond b (record { room = r; content = c } ∷ hs) (h ∷ with_content r c hs)) ≡ h.room ∷ map (λ (x : Hand). x.room) hs) (sym (ne_eqb h.room r n)) (ap (λ (l : List ℕ). h.room ∷ l) (content_numbers r c hs)))
 
 -- a room's content changed in hand
-pub content_changed : (core : Core) (old new : Seat) (r : ℕ) (c : Content) (w : View) → IsOf core old → new.token.table_id ≡ old.token.table_id → new.held ≡ old.held → new.rooms ≡ old.rooms → new.token.me ≡ (w, old.token.me.1)
+pub content_changed : (core : Core) (old new : Seat) (r : ℕ) (c : RoomContent) (w : View) → IsOf core old → new.token.table_id ≡ old.token.table_id → new.held ≡ old.held → new.rooms ≡ old.rooms → new.token.me ≡ (w, old.token.me.1)
     → w.standing.gone ≡ (view_of old).standing.gone → w.claims.held ≡ (view_of old).claims.held → w.claims.may ≡ (view_of old).claims.may → w.claims.probe ≡ (view_of old).claims.probe → w.holding.hands ≡ with_content r c (view_of old).holding.hands → new.met ≡ old.met → w.turns.known ≡ (view_of old).turns.known → IsOf core new
 content_changed core old new r c w o table held rooms me gone holds may probe hands met known = let same : room_numbers w ≡ room_numbers (view_of old) = ap (map (λ (h : Hand). h.room)) hands ∙ content_numbers r c (view_of old).holding.hands in
     changed core old new w o table held (ap (λ (m : Sat). m.0) me) gone holds (may ∙ o.may) (probe ∙ o.probe) (ap numbers_of rooms ∙ (o.rooms ∙ sym same)) (ap (λ (m : Sat). slot_numbers m.1) me ∙ (o.slots ∙ sym (ap (map (row_in (sizes_of core.setting.shape))) same))) met known
@@ -74,11 +56,11 @@ few_rooms core seat place o may = ⊎_elim (λ h. omega (arith, ap (λ (l : List
     (λ h. omega (arith, ap (λ (l : List ℕ). length l) o.rooms, ap (λ (l : List Hand). length (map (λ (x : Hand). x.room) l)) h.1)) may
 
 -- the number of a place of the shape, and its parts
-pub inside : (shape : Shape) (place : Place) → IsPlaceOf shape place → shape.nodes ≤ 4 → groups_in shape ≤ 256 → IsInside shape (place_number place)
+pub inside : (shape : Shape) (place : Place) → IsPlaceOfShape shape place → shape.nodes ≤ 4 → groups_in shape ≤ 256 → IsInside shape (place_number place)
 inside shape place p nodes groups = record { place = omega (arith, p.id, p.node, p.group, nodes, groups); node = omega (arith, p.id, p.node, p.group, nodes, groups); group = omega (arith, p.id, p.node, p.group, nodes, groups) }
 
 -- the place in whose row a place's bit stands has the number of its bit word
-pub map_there : (place : Place) (k : ℕ) → k ≡ place_number place → (shape : Shape) → shape.nodes ≤ 4 → groups_in shape ≤ 256 → IsPlaceOf shape place → place_number (record { id = place.id / 64; node = place.node; group = place.group }) ≡ map_of k
+pub map_there : (place : Place) (k : ℕ) → k ≡ place_number place → (shape : Shape) → shape.nodes ≤ 4 → groups_in shape ≤ 256 → IsPlaceOfShape shape place → place_number (record { id = place.id / 64; node = place.node; group = place.group }) ≡ map_of k
 map_there place k e shape nodes groups p = omega (arith, e, p.node, p.group, nodes, groups)
 
 -- no slot is out

@@ -1,25 +1,6 @@
 -- Lookup words and claims keep their part of the rule.
-use Rattle.std.proofs.Common.{◌≡◌, ◌⊎◌, ℕ, ◌+◌, ◌*◌, ◌%◌, ◌<◌, ◌≤◌, ◌≢◌, Bool, true, false, cond, eqb, ltb, leb, List, [], ◌∷◌, ◌++◌, length, set, sym, refl, ap, subst, ◌∙◌, inl, inr, ⊎_elim, arith, eq-eqb, ne_eqb, length-set}
-use Rattle.std.proofs.lemmas.Option.{none-some, same_Some}
+use Rattle.shr_core.proofs.Common.{◌≡◌, ◌⊎◌, ℕ, ◌+◌, ◌*◌, ◌%◌, ◌<◌, ◌≤◌, ◌≢◌, Bool, true, false, cond, eqb, ltb, List, [], ◌∷◌, ◌++◌, length, set, sym, refl, ap, subst, ◌∙◌, inl, inr, ⊎_elim, arith, eq-eqb, ne_eqb, length-set, none-some, same_Some, ◌&&◌, Option, Some, None, nat_tests, dite, ℕ_discrete, dec_lt, some, get_elem?, LookupWord, PoolEntry, Registered, Unregistered, Idle, phase_of, decl_of, decl_after, last_number, from_of, from_after, is_live, registrations, decl_at, one_of, phase_of_push, decl_from_push, Each, total, total_same, total-set, total-append, term_le, Each-set, Each-push, Each-weaker, Claims, Tried, Loaded, refs_of, lookups_of, phase_in, decl_in, AreLookups, IsHeld, IsTried, IsLoaded, only_some, hit_attempt, met_now, turn_at, leb, number_after, HaveEndedBy, number_from_push, from_from_push, registrations_else, ended_push, ended_later, Numbered, met_after, decl_at_push_low, decl_at_push_high, or_else, total_le, total_both, claimed}
 use Rattle.shr_core.proofs.Options.{not_some, only_some_yes, only_some_no, only_some_le, only_none}
-use Rattle.std.specs.Prelude.{◌&&◌, Option, Some, None}
-use Rattle.std.proofs.lemmas.Bool.Decides.{nat_tests}
-use mathlib.Core.Logic.{dite}
-use native.Mathlib.Decide.{ℕ_discrete, dec_lt}
-use mathlib.Core.Option.{some}
-use lib.ListN.{get_elem?}
-use Rattle.shr_base.specs.declared.ends.LookupWord.{LookupWord}
-use Rattle.shr_base.specs.declared.journals.PoolEntry.{PoolEntry}
-use Rattle.shr_base.specs.declared.journals.PoolEntry.TheVariants.{Registered, Unregistered, Idle}
-use Rattle.shr_model.specs.Pool.{phase_of, decl_of, decl_after, last_number, number_after, from_of, from_after, is_live, registrations, EndedBy, decl_at}
-use Rattle.shr_model.proofs.PoolLaws.{one_of, phase_of_push, decl_from_push, number_from_push, from_from_push, registrations_else, ended_push, ended_later, Numbered, met_after, decl_at_push_low, decl_at_push_high, or_else}
-use Rattle.shr_seats.specs.Views.{Each}
-use Rattle.shr_seats.specs.Weights.{total}
-use Rattle.shr_seats.proofs.Weighing.{total_same, total-set, total-append, total_le, total_both, term_le, Each-set, Each-push, Each-weaker}
-use Rattle.shr_core.specs.Parts.{Claims, Tried, Loaded}
-use Rattle.shr_core.specs.Lookup.{refs_of, lookups_of, phase_in, decl_in}
-use Rattle.shr_core.specs.Rule.{AreLookups, IsHeld, IsTried, IsLoaded, only_some, hit_attempt, met_now}
-use Rattle.shr_core.specs.Steps.{claimed, turn_at}
 
 pub attempt_yes : (i n : ℕ) (x : Tried) → x.id ≡ i → x.number ≡ n → hit_attempt i n x ≡ 1
 attempt_yes i n x p q = ap (λ b. cond b (cond (eqb x.number n) 1 0) 0) (eq-eqb x.id i p) ∙ ap (λ b. cond b 1 0) (eq-eqb x.number n q)
@@ -275,7 +256,7 @@ phases ids first look look' pool cs id i d owner quiet drained c word at near id
     let from-else : (j : ℕ) → j ≢ i → from_of j pool' ≡ from_of j pool = λ j n. from_from_push j 0 pool e ∙ from_else i j d (from_of j pool) word n in
     let apart : (j : ℕ) → j ≢ i → registrations j pool' ≡ registrations j pool = λ j n. registrations_else j pool e (λ q. n (sym q ∙ turn_id i d word)) in
     let numbered : Numbered i l e = turn_numbered i d l word refl in
-    let ended : EndedBy l (registrations i pool) = subst (λ (x : ℕ). EndedBy x (registrations i pool)) (sym is-l) (o.ended i near) in
+    let ended : HaveEndedBy l (registrations i pool) = subst (λ (x : ℕ). HaveEndedBy x (registrations i pool)) (sym is-l) (o.ended i near) in
     -- below the lookups, nothing changes
     let low : (j n : ℕ) → n < lookups_of (look j) → decl_at n (registrations j pool') ≡ decl_at n (registrations j pool) = λ j n h. dite (ℕ_discrete j i)
     (λ q. subst (λ (x : ℕ). decl_at n (registrations x pool') ≡ decl_at n (registrations x pool)) (sym q) (decl_at_push_low n l i pool e numbered (omega (arith, h, is-l, ap (λ x. lookups_of (look x)) q)))) (λ ne. ap (decl_at n) (apart j ne)) in
@@ -304,8 +285,8 @@ phases ids first look look' pool cs id i d owner quiet drained c word at near id
           decl_at_push_high n l i pool e numbered (omega (arith, is-l, high)) ended ∙ (ap (met_after e) (o.edges i n near high) ∙ (met_next i d (phase_of i pool) (decl_of i pool) word (is_live i pool) refl (sym was) owned
           ∙ sym (ap {B = Option ℕ} (λ (x : ℕ). cond (eqb (x % 3) 1) (Some (decl_of i pool')) None) phase-here ∙ ap {B = Option ℕ} (λ (x : ℕ). cond (eqb ((phase_of i pool + 1) % 3) 1) (Some x) None) decl-here)))))
           (λ ne. ap (decl_at n) (apart j ne) ∙ (o.edges j n inside (omega (arith, h, same j)) ∙ sym (ap {B = Option ℕ} (λ (x : ℕ). cond (eqb (x % 3) 1) (Some (decl_of j pool')) None) (phase-else j ne) ∙ ap {B = Option ℕ} (λ (x : ℕ). cond (eqb (phase_of j pool % 3) 1) (Some x) None) (decl-else j ne))));
-      ended = λ j inside. dite (ℕ_discrete j i) (λ q. subst (λ (x : ℕ). EndedBy (lookups_of (look' x)) (registrations x pool')) (sym q) (subst (λ (x : ℕ). EndedBy x (registrations i pool')) (is-l ∙ sym lookups) (ended_push l i pool e numbered ended)))
-          (λ n. subst (EndedBy (lookups_of (look' j))) (sym (apart j n)) (subst (λ (x : ℕ). EndedBy x (registrations j pool)) (sym (same j)) (o.ended j inside)));
+      ended = λ j inside. dite (ℕ_discrete j i) (λ q. subst (λ (x : ℕ). HaveEndedBy (lookups_of (look' x)) (registrations x pool')) (sym q) (subst (λ (x : ℕ). HaveEndedBy x (registrations i pool')) (is-l ∙ sym lookups) (ended_push l i pool e numbered ended)))
+          (λ n. subst (HaveEndedBy (lookups_of (look' j))) (sym (apart j n)) (subst (λ (x : ℕ). HaveEndedBy x (registrations j pool)) (sym (same j)) (o.ended j inside)));
       numbers = λ j inside. dite (ℕ_discrete j i) (λ q. subst (λ (x : ℕ). last_number x pool' ≤ lookups_of (look' x)) (sym q) (omega (arith, number_from_push i 0 pool e, number_here i d (last_number i pool) word (omega (arith, o.numbers i near, is-l)), is-l, lookups)))
           (λ n. omega (arith, number_from_push j 0 pool e, number_else i j d (last_number j pool) word n, o.numbers j inside, same j));
       began = λ j inside. dite (ℕ_discrete j i) (λ q. subst (λ (x : ℕ). from_of x pool' ≤ lookups_of (look' x)) (sym q) (omega (arith, from_from_push i 0 pool e, from_here i d (from_of i pool) word (omega (arith, o.began i near, is-l)), is-l, lookups)))

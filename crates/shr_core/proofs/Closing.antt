@@ -1,41 +1,21 @@
 -- What is left of a finished core is that of its last state.
-use Rattle.std.proofs.Common.{◌≡◌, ℕ, zero, suc, ◌<◌, Bool, true, false, cond, List, [], ◌∷◌, ◌++◌, map, length, sym, refl, ap, ◌∙◌, arith}
-use mathlib.Core.Logic.{dite}
-use native.Mathlib.Decide.{ℕ_discrete}
-use mathlib.Core.Option.{some, some-injective}
-use lib.ListN.{get_elem?}
-use Rattle.atomic_table.specs.Table.{State, Final, Seen}
-use Rattle.shr_base.specs.declared.objects.Object.{Object}
-use Rattle.shr_base.specs.declared.journals.Entry.{Entry}
+use Rattle.shr_core.proofs.Common.{◌≡◌, ℕ, zero, suc, ◌<◌, Bool, true, false, cond, List, [], ◌∷◌, ◌++◌, map, length, sym, refl, ap, ◌∙◌, arith, dite, ℕ_discrete, some, some-injective, get_elem?, State, Final, Seen, Object, Entry, IsWhole, total, Sizes, from_map, sole, total_zero, View, Slot, Setting, Hand, Holding, is_row, row_in, bits_in, looks_in, places_in, sizes_of, groups_in, Sound, IsRoom, IsRoomAtHome, spent, has_room, is_room, holding_of, view_standing, items_now, end_value, place_ends, lookups_below, nodes_below, units_in, entries_of, items_of_slot, entries_in, items_in, IsClosedOf}
 use Rattle.shr_base.specs.declared.ends.Closed.{Closed}
-use Rattle.shr_seats.specs.Standing.{IsWhole}
-use Rattle.shr_seats.specs.Weights.{total}
-use Rattle.shr_seats.specs.declared.rows.Sizes.{Sizes}
-use Rattle.shr_seats.proofs.Sums.{from_map}
-use Rattle.shr_seats.proofs.Seating.{sole}
-use Rattle.shr_seats.proofs.Weighing.{total_zero}
-use Rattle.shr_core.specs.declared.view.View.{View}
-use Rattle.shr_core.specs.Slots.{Slot}
-use Rattle.shr_core.specs.declared.setting.Setting.{Setting}
-use Rattle.shr_core.specs.Parts.{Hand, Holding}
-use Rattle.shr_core.specs.Layout.{is_row, row_in, bits_in, looks_in, places_in}
-use Rattle.shr_seats.specs.Shapes.{sizes_of, groups_in}
-use Rattle.shr_core.specs.Rule.{Sound, IsRoom, Keeps, spent, has_room, is_room, holding_of, standing_of, items_now}
 use Rattle.shr_core.proofs.Laying.{across, lacking, inside_is, pool_room}
-use Rattle.shr_core.specs.Ending.{end_value, end_of, ends_below, lookups_below, nodes_below, units_in, entries_of, items_of_slot, entries_in, items_in, IsClosedOf}
+use Rattle.shr_core.specs.Ending.{ends_below}
 
 -- the ends of places that have the same journals and items
 ends_same : (n : ℕ) (es es' : ℕ → List Entry) (is is' : ℕ → List Object) → ((k : ℕ) → k < n → es k ≡ es' k) → ((k : ℕ) → k < n → is k ≡ is' k) → ends_below n es is ≡ ends_below n es' is'
 unfolding ends_below
 ends_same zero es es' is is' p q = refl
-ends_same (suc n) es es' is is' p q = let more = ends_same n es es' is is' (λ k h. p k (omega (arith, h))) (λ k h. q k (omega (arith, h))) in let e = p n (omega arith) in let i = q n (omega arith) in λ j. more j ++ end_of n (e j) (i j)
+ends_same (suc n) es es' is is' p q = let more = ends_same n es es' is is' (λ k h. p k (omega (arith, h))) (λ k h. q k (omega (arith, h))) in let e = p n (omega arith) in let i = q n (omega arith) in λ j. more j ++ place_ends n (e j) (i j)
 
 -- once all others were joined, no seat has a room
 no_hands : (key : Setting) (s : State Slot View) (o : Sound key s) (id : ℕ) (v : View) → get_elem? s.views id ≡ some v → v.standing.first ≡ true → IsWhole v.standing → v.holding.hands ≡ [] → (r : ℕ) → total (has_room r) (map holding_of s.views) ≡ 0
 no_hands key s o id v me first whole none r = total_zero (has_room r) (map holding_of s.views) (λ j h at. let t = from_map holding_of s.views j h at in
     let hands : (h.hands ≡ []) = ap (λ (x : Holding). x.hands) (sym t.2) ∙ dite (ℕ_discrete j id)
     (λ e. ap (λ (x : View). x.holding.hands) (some-injective t.0 v (sym t.1 ∙ (ap (get_elem? s.views) e ∙ me))) ∙ none)
-    (λ n. ap (λ (x : View). x.holding.hands) (sole standing_of spent s.views id v me first whole o.rules.seated o.emptied j t.0 n t.1)) in
+    (λ n. ap (λ (x : View). x.holding.hands) (sole view_standing spent s.views id v me first whole o.rules.seated o.emptied j t.0 n t.1)) in
     ap (λ (l : List Hand). total (is_room r) l) hands)
 
 -- what is read of a number is so where it has a row, and nothing where it has none
@@ -59,7 +39,7 @@ pub closed_of : (key : Setting) (id : ℕ) (v : View) (ws : List ℕ) (xs : List
     → IsClosedOf key id v closed
 closed_of key id v ws xs pool closed final first whole none maps lookups places last-slot is-pool =
     let s : State Slot View = final.0 in let o : Sound key s = final.1.0 in let me = final.1.1 in let words = final.2 in
-    let z : Sizes = sizes_of key.shape in let sh = o.sized.shape in let home : (r : ℕ) → IsRoom key.shape r → (slot : Slot) × (get_elem? xs (row_in z r) ≡ some slot) × Keeps key.shape o.now o.after o.pool r slot = λ r near.
+    let z : Sizes = sizes_of key.shape in let sh = o.sized.shape in let home : (r : ℕ) → IsRoom key.shape r → (slot : Slot) × (get_elem? xs (row_in z r) ≡ some slot) × IsRoomAtHome key.shape o.now o.after o.pool r slot = λ r near.
     let t = o.rules.roomed.home r near (omega (arith, o.rules.roomed.locks r near, no_hands key s o id v me first whole none r)) in (t.0, final.4 (row_in z r) t.0 t.1, t.2) in
     let pooled = home (places_in key.shape.ids) (pool_room key.shape sh.some_nodes sh.tree.has_root) in
     let room : (k : ℕ) → k < places_in key.shape.ids → is_row z k ≡ true → IsRoom key.shape k = λ k low is. let t = across z k is in record { room = omega (arith, low); node = t.node; group = t.group } in

@@ -1,21 +1,7 @@
 -- That the registration of a dated id ends only after its lookup is kept.
-use Rattle.std.proofs.Common.{◌≡◌, ◌≢◌, ℕ, ◌<◌, ◌≤◌, Bool, true, false, cond, eqb, List, [], ◌∷◌, ◌++◌, length, set, drop, sym, refl, ap, subst, ◌∙◌, arith, eq-eqb, ne_eqb, lt-ltb, length-append}
-use Rattle.std.proofs.lemmas.List.{drop-append-le}
-use mathlib.Core.Logic.{dite}
-use native.Mathlib.Decide.{ℕ_discrete}
-use mathlib.Core.Option.{some}
-use lib.ListN.{get_elem?}
-use Rattle.shr_base.specs.declared.ends.LookupWord.{LookupWord}
-use Rattle.shr_base.specs.declared.journals.PoolEntry.{PoolEntry}
-use Rattle.shr_base.specs.declared.journals.PoolEntry.TheVariants.{Registered, Unregistered, Idle}
+use Rattle.shr_core.proofs.Common.{◌≡◌, ◌≢◌, ℕ, ◌<◌, ◌≤◌, Bool, true, false, cond, eqb, List, [], ◌∷◌, ◌++◌, length, set, drop, sym, refl, ap, subst, ◌∙◌, arith, eq-eqb, ne_eqb, lt-ltb, length-append, dite, ℕ_discrete, some, get_elem?, LookupWord, PoolEntry, Registered, Unregistered, Idle, is_before, Each, Each-set, Each-push, Each-append, Each-none, Each-one, Each-join, Claims, Dated, Turns, no_turns, lookups_of, IsDated, AreDated, IsHeld, turn_at, dated_now, drop-append-le, dating_of}
 use Rattle.std.specs.Prelude.{Some, Option as Maybe, None}
-use Rattle.shr_model.specs.Pool.{end_of, is_before}
-use Rattle.shr_seats.specs.Views.{Each}
-use Rattle.shr_seats.proofs.Weighing.{Each-set, Each-push, Each-append, Each-none, Each-one, Each-join}
-use Rattle.shr_core.specs.Parts.{Claims, Dated, Turns, no_turns}
-use Rattle.shr_core.specs.Lookup.{lookups_of}
-use Rattle.shr_core.specs.Rule.{IsDated, AreDated, IsHeld}
-use Rattle.shr_core.specs.Steps.{turn_at, dated_now, dating_of}
+use Rattle.shr_model.specs.Pool.{end_of}
 use Rattle.shr_core.proofs.Claiming.{by_phase}
 
 -- an end that is later in each of two parts of a journal is later in both together

@@ -1,12 +1,5 @@
 -- What an entry leaves of an empty list.
-use Rattle.std.proofs.Common.{◌≡◌, ◌⊎◌, ℕ, zero, suc, ◌≢◌, Bool, List, [], ◌∷◌, length, refl, ap, ◌∙◌, inl, inr, arith}
-use Rattle.std.proofs.lemmas.List.{append-nil}
-use Rattle.shr_base.specs.declared.objects.Object.{Object}
-use Rattle.shr_base.specs.declared.places.Serial.{Serial}
-use Rattle.shr_base.specs.declared.objects.Policy.{Policy}
-use Rattle.shr_base.specs.declared.journals.Entry.{Entry}
-use Rattle.shr_base.specs.declared.journals.Entry.TheVariants.{Add, Look, Drop, Pin, Scan, MovedIn, Closed, Drained}
-use Rattle.shr_model.specs.Items.{step}
+use Rattle.shr_core.proofs.Common.{◌≡◌, ◌⊎◌, ℕ, zero, suc, ◌≢◌, Bool, List, [], ◌∷◌, length, refl, ap, ◌∙◌, inl, inr, arith, append-nil, Object, Serial, Policy, Entry, Add, Look, Drop, Pin, Scan, MovedIn, Closed, Drained, step}
 use Rattle.shr_model.specs.Scan.{scan_of, scan_from}
 
 -- a scan of nothing leaves nothing

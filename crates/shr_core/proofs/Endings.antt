@@ -1,22 +1,8 @@
 -- What is left, one word or room more.
-use Rattle.std.proofs.Common.{◌≡◌, ℕ, zero, suc, ◌+◌, ◌*◌, ◌<◌, ◌≤◌, true, cond, eqb, List, [], ◌∷◌, ◌++◌, get_or, sym, refl, ap, ◌∙◌, arith, append_assoc}
-use Rattle.std.specs.Prelude.{if◌then◌else◌}
-use Rattle.std.proofs.lemmas.List.{append-nil}
-use mathlib.Core.Logic.{dite}
-use native.Mathlib.Decide.{ℕ_discrete}
-use mathlib.Core.Option.{some}
-use lib.ListN.{get_elem?}
-use Rattle.shr_base.specs.declared.objects.Object.{Object}
-use Rattle.shr_base.specs.declared.journals.Entry.{Entry}
-use Rattle.shr_base.specs.declared.ends.MapEnd.{MapEnd}
-use Rattle.shr_seats.specs.declared.rows.Sizes.{Sizes}
-use Rattle.shr_seats.specs.Rows.{row_of, row_count}
+use Rattle.shr_core.proofs.Common.{◌≡◌, ℕ, zero, suc, ◌+◌, ◌*◌, ◌<◌, ◌≤◌, true, cond, eqb, List, [], ◌∷◌, ◌++◌, get_or, sym, refl, ap, ◌∙◌, arith, append_assoc, if◌then◌else◌, append-nil, dite, ℕ_discrete, some, get_elem?, Object, Entry, MapEnd, Sizes, row_of, row_count, map_number, is_row, row_in, bits_in, places_in, Slot, lookups_of, entries_of, items_of_slot, entries_in, items_in, place_ends}
 use Rattle.shr_seats.proofs.RowLaws.{place_first, place_last}
-use Rattle.shr_core.specs.Layout.{map_number, is_row, row_in, bits_in, places_in}
 use Rattle.shr_core.proofs.Laying.{row_yes, numbered, bits_read, number_at, number_is, number_row, next, gap}
-use Rattle.shr_core.specs.Slots.{Slot}
-use Rattle.shr_core.specs.Lookup.{lookups_of}
-use Rattle.shr_core.specs.Ending.{EndValue, entries_of, items_of_slot, entries_in, items_in, end_of, ends_below, lookups_below, units_below, groups_below, nodes_below}
+use Rattle.shr_core.specs.Ending.{EndValue, ends_below, lookups_below, units_below, groups_below, nodes_below}
 use Rattle.shr_model.proofs.Lists.{word_of}
 
 -- the same by another name of its number
@@ -46,9 +32,9 @@ unfolding ends_below
 ends_none entries items = refl
 
 -- one more place after those with lower numbers
-pub ends_more : (n : ℕ) (entries : ℕ → List Entry) (items : ℕ → List Object) (ends : List EndValue) (es : List Entry) (is : List Object) → ends ≡ ends_below n entries items → es ≡ entries n → is ≡ items n → ends ++ end_of n es is ≡ ends_below (suc n) entries items
+pub ends_more : (n : ℕ) (entries : ℕ → List Entry) (items : ℕ → List Object) (ends : List EndValue) (es : List Entry) (is : List Object) → ends ≡ ends_below n entries items → es ≡ entries n → is ≡ items n → ends ++ place_ends n es is ≡ ends_below (suc n) entries items
 unfolding ends_below
-ends_more n entries items ends es is e f g = λ i. e i ++ end_of n (f i) (g i)
+ends_more n entries items ends es is e f g = λ i. e i ++ place_ends n (f i) (g i)
 
 -- places without a journal add nothing
 ends_reach : (n m : ℕ) (entries : ℕ → List Entry) (items : ℕ → List Object) → n ≤ m → ((k : ℕ) → n ≤ k → k < m → entries k ≡ []) → ends_below n entries items ≡ ends_below m entries items
@@ -56,7 +42,7 @@ unfolding ends_below
 ends_reach n zero entries items le none = let e : n ≡ 0 = omega (arith, le) in ap (λ (x : ℕ). ends_below x entries items) e
 ends_reach n (suc m) entries items le none = dite (ℕ_discrete n (suc m)) (λ e. ap (λ (x : ℕ). ends_below x entries items) e)
     (λ ne. ends_reach n m entries items (omega (arith, le, ne)) (λ k low high. none k low (omega (arith, high)))
-    ∙ (sym (append-nil (ends_below m entries items)) ∙ ap (λ (es : List Entry). ends_below m entries items ++ end_of m es (items m)) (sym (none m (omega (arith, le, ne)) (omega arith)))))
+    ∙ (sym (append-nil (ends_below m entries items)) ∙ ap (λ (es : List Entry). ends_below m entries items ++ place_ends m es (items m)) (sym (none m (omega (arith, le, ne)) (omega arith)))))
 
 -- the number of the first row, and the one after the last row's
 first_number : (z : Sizes) → 0 < z.nodes → 0 < z.groups → number_at z 0 ≡ 0
@@ -73,7 +59,7 @@ rows_all z entries items row nodes groups e = ap (λ (x : ℕ). ends_below x ent
 
 -- the place of a row more
 pub rows_more : (z : Sizes) (row : ℕ) (slots : List Slot) (ends : List EndValue) (slot : Slot) → 0 < z.nodes → z.nodes ≤ 4 → 0 < z.groups → z.groups ≤ 256 → get_elem? slots row ≡ some slot
-    → ends ≡ ends_below (number_at z row) (entries_in z slots) (items_in z slots) → ends ++ end_of (number_at z row) slot.list.entries slot.list.items ≡ ends_below (number_at z (row + 1)) (entries_in z slots) (items_in z slots)
+    → ends ≡ ends_below (number_at z row) (entries_in z slots) (items_in z slots) → ends ++ place_ends (number_at z row) slot.list.entries slot.list.items ≡ ends_below (number_at z (row + 1)) (entries_in z slots) (items_in z slots)
 rows_more z row slots ends slot nodes most-nodes groups most-groups value e = let n : ℕ = number_at z row in let es = entries_in z slots in let is = items_in z slots in
     let yes : is_row z n ≡ true = number_is z row nodes most-nodes groups most-groups in let at : get_elem? slots (row_in z n) ≡ some slot = ap (get_elem? slots) (number_row z row nodes most-nodes groups most-groups) ∙ value in
     ends_more n es is ends slot.list.entries slot.list.items e

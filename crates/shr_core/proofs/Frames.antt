@@ -1,24 +1,7 @@
 -- From the parts of the rule after a step to the rule of the table after it.
-use Rattle.std.proofs.Common.{◌≡◌, ℕ, ◌+◌, ◌*◌, ◌%◌, ◌<◌, ◌≢◌, Bool, true, false, cond, List, map, length, set, get_or, sym, subst, ◌∙◌, arith, length-set, get_or-set_other}
-use Rattle.std.proofs.lemmas.List.{map-set, set-get_or}
-use mathlib.Core.Option.{Option, some}
-use lib.ListN.{get_elem?}
-use Rattle.atomic_table.specs.Table.{State}
-use Rattle.atomic_table.proofs.Lists.{set_again}
-use Rattle.shr_base.specs.declared.journals.PoolEntry.{PoolEntry}
-use Rattle.shr_seats.specs.Views.{Each}
-use Rattle.shr_seats.specs.declared.rows.Sizes.{Sizes}
-use Rattle.shr_seats.specs.Standing.{Standing, AreSeats, AreEmptied}
-use Rattle.shr_seats.proofs.Weighing.{Each-set}
+use Rattle.shr_core.proofs.Common.{◌≡◌, ℕ, ◌+◌, ◌*◌, ◌%◌, ◌<◌, ◌≢◌, Bool, true, false, cond, List, map, length, set, get_or, sym, subst, ◌∙◌, arith, length-set, get_or-set_other, some, get_elem?, State, PoolEntry, Each, Sizes, AreSeats, Each-set, View, Slot, Setting, Holding, Traces, Marks, Claims, Turns, is_row, row_in, counts_in, locks_in, bits_in, looks_in, sizes_of, AreOrdered, Sound, HasOwnEnd, Journals, Histories, spent, AreRoomsOf, AreLists, AreTraces, AreMarks, AreLookupsOf, AreOwned, AreTurns, AreDated, phases, holding_of, traces_of, marks_of, claims_of, turns_of, view_standing, map-set, set-get_or, set_again, Standing, AreEmptied, Rules}
+use mathlib.Core.Option.{Option}
 use Rattle.shr_seats.proofs.Changed as changed
-use Rattle.shr_core.specs.declared.view.View.{View}
-use Rattle.shr_core.specs.Slots.{Slot}
-use Rattle.shr_core.specs.declared.setting.Setting.{Setting}
-use Rattle.shr_core.specs.Parts.{Holding, Traces, Marks, Claims, Turns}
-use Rattle.shr_core.specs.Layout.{is_row, row_in, counts_in, locks_in, bits_in, looks_in}
-use Rattle.shr_seats.specs.Shapes.{sizes_of}
-use Rattle.shr_core.specs.Order.{AreOrdered}
-use Rattle.shr_core.specs.Rule.{Sound, Rules, HasOwnEnd, Journals, Histories, spent, AreRoomsOf, AreLists, AreTraces, AreMarks, AreLookupsOf, AreOwned, AreTurns, AreDated, phases, holding_of, traces_of, marks_of, claims_of, turns_of, standing_of}
 
 -- the word i becomes n
 module _ (z : Sizes) (ws : List ℕ) (i n : ℕ) where
@@ -56,17 +39,17 @@ module _ {B : Type 0} (views : List View) (id : ℕ) (v : View) (me : get_elem? 
 -- the parts of the views after the step, as parts of the list of views
 abbrev pub After : Setting → Journals → Histories → List PoolEntry → (ℕ → ℕ) → (ℕ → ℕ) → (ℕ → ℕ) → (ℕ → ℕ) → List (Option Slot) → List View → ℕ → View → Type 0
 After key now after pool count lock bits look homes views id w = Rules key now after pool count lock bits look homes
-    (set (map holding_of views) id w.holding) (set (map traces_of views) id w.traces) (set (map marks_of views) id w.marks) (set (map claims_of views) id w.claims) (set (map turns_of views) id w.turns) (set (map standing_of views) id w.standing)
+    (set (map holding_of views) id w.holding) (set (map traces_of views) id w.traces) (set (map marks_of views) id w.marks) (set (map claims_of views) id w.claims) (set (map turns_of views) id w.turns) (set (map view_standing views) id w.standing)
 
 -- the rule by parts set one by one is the rule over the views with one set
 pub seated : (key : Setting) (now : Journals) (after : Histories) (pool : List PoolEntry) (count lock bits look : ℕ → ℕ) (homes : List (Option Slot)) (views : List View) (id : ℕ) (w : View)
     → After key now after pool count lock bits look homes views id w
-    → Rules key now after pool count lock bits look homes (map holding_of (set views id w)) (map traces_of (set views id w)) (map marks_of (set views id w)) (map claims_of (set views id w)) (map turns_of (set views id w)) (map standing_of (set views id w))
+    → Rules key now after pool count lock bits look homes (map holding_of (set views id w)) (map traces_of (set views id w)) (map marks_of (set views id w)) (map claims_of (set views id w)) (map turns_of (set views id w)) (map view_standing (set views id w))
 seated key now after pool count lock bits look homes views id w r =
     let U : List Holding → List Traces → List Marks → List Claims → List Turns → List Standing → Type 0 = λ h t m k u z. Rules key now after pool count lock bits look homes h t m k u z in
     let h : List Holding = map holding_of (set views id w) in let t : List Traces = map traces_of (set views id w) in let m : List Marks = map marks_of (set views id w) in let k : List Claims = map claims_of (set views id w) in let u : List Turns = map turns_of (set views id w) in
-    let t' : List Traces = set (map traces_of views) id w.traces in let m' : List Marks = set (map marks_of views) id w.marks in let k' : List Claims = set (map claims_of views) id w.claims in let u' : List Turns = set (map turns_of views) id w.turns in let z' : List Standing = set (map standing_of views) id w.standing in
-    subst (λ (x : List Standing). U h t m k u x) (sym (map-set standing_of views id w)) (subst (λ (x : List Turns). U h t m k x z') (sym (map-set turns_of views id w)) (subst (λ (x : List Claims). U h t m x u' z') (sym (map-set claims_of views id w))
+    let t' : List Traces = set (map traces_of views) id w.traces in let m' : List Marks = set (map marks_of views) id w.marks in let k' : List Claims = set (map claims_of views) id w.claims in let u' : List Turns = set (map turns_of views) id w.turns in let z' : List Standing = set (map view_standing views) id w.standing in
+    subst (λ (x : List Standing). U h t m k u x) (sym (map-set view_standing views id w)) (subst (λ (x : List Turns). U h t m k x z') (sym (map-set turns_of views id w)) (subst (λ (x : List Claims). U h t m x u' z') (sym (map-set claims_of views id w))
     (subst (λ (x : List Marks). U h t x k' u' z') (sym (map-set marks_of views id w)) (subst (λ (x : List Traces). U h x m' k' u' z') (sym (map-set traces_of views id w)) (subst (λ (x : List Holding). U x t' m' k' u' z') (sym (map-set holding_of views id w)) r)))))
 
 -- a state of these words, slots and views
@@ -77,7 +60,7 @@ not_both : (b : Bool) → b ≡ false → b ≡ true → ⊥
 not_both b f t = let e : false ≡ true = sym f ∙ t in cc
 
 module _ (key : Setting) (s : State Slot View) (o : Sound key s) (id : ℕ) (w : View) (present : w.standing.gone ≡ false) where
-  emptied : AreEmptied standing_of spent (set s.views id w)
+  emptied : AreEmptied view_standing spent (set s.views id w)
   emptied = Each-set (λ (v : View). v.standing.gone ≡ true → v ≡ spent) s.views id w (λ t. absurd (not_both w.standing.gone present t)) o.emptied
 
 module _ (key : Setting) (s : State Slot View) (o : Sound key s) (id : ℕ) (w : View) (present : w.standing.gone ≡ false) (own : HasOwnEnd o.pool w) where
@@ -206,5 +189,5 @@ module _ (key : Setting) (s : State Slot View) (o : Sound key s) (id : ℕ) (v :
   dated_stay = still s.views id v me turns_of (AreDated key.shape.ids (looks_in s.words) o.pool) o.rules.dated
 
   -- the same for the standings
-  pub seats_stay : AreSeats (set (map standing_of s.views) id v.standing)
-  seats_stay = still s.views id v me standing_of AreSeats o.rules.seated
+  pub seats_stay : AreSeats (set (map view_standing s.views) id v.standing)
+  seats_stay = still s.views id v me view_standing AreSeats o.rules.seated

@@ -1,15 +1,6 @@
 -- The slot of a room that is given back comes to the front.
-use Rattle.std.proofs.Common.{◌≡◌, ◌≢◌, ℕ, ◌<◌, cond, List, [], ◌∷◌, map, length, get_or, sym, ap, ◌∙◌, arith, eq-eqb, ne_eqb}
-use mathlib.Core.Logic.{dite}
-use native.Mathlib.Decide.{ℕ_discrete}
-use Rattle.atomic_table.specs.Table.{rest, turned}
-use Rattle.shr_seats.specs.Weights.{total}
-use Rattle.shr_seats.proofs.Weighing.{only_no}
-use Rattle.shr_core.specs.Slots.{Slot}
-use Rattle.shr_core.specs.Parts.{Hand}
-use Rattle.shr_core.specs.Rule.{is_room}
-use Rattle.shr_core.specs.Steps.{without_room}
-use Rattle.shr_core.specs.Seats.{HasFirst, slot_numbers}
+use Rattle.shr_core.proofs.Common.{◌≡◌, ◌≢◌, ℕ, ◌<◌, cond, List, [], ◌∷◌, map, length, get_or, sym, ap, ◌∙◌, arith, eq-eqb, ne_eqb, dite, ℕ_discrete, rest, total, only_no, Slot, Hand, is_room, without_room, HasFirst, slot_numbers}
+use Rattle.atomic_table.specs.Table.{turned}
 use Rattle.shr_model.proofs.Lists.{heads}
 
 abbrev room : Hand → ℕ

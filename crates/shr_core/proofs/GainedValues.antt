@@ -1,18 +1,6 @@
 -- What a call gains, what a lookup met and what a map shows, at known values.
-use Rattle.std.proofs.Common.{◌≡◌, ℕ, ◌*◌, ◌<◌, false, true, [], ◌∷◌, length, refl, ap, subst, arith, sym}
-use Rattle.shr_base.specs.declared.journals.Entry.TheVariants.{MovedIn, Closed}
-use Rattle.shr_core.specs.Layout.{beside}
-use Rattle.std.proofs.lemmas.Option.{none-some}
-use Rattle.std.specs.Prelude.{List, Some, None}
-use Rattle.shr_base.specs.declared.journals.PoolEntry.TheVariants.{Registered, Unregistered, Idle}
-use Rattle.shr_model.specs.Pool.{phase_of, decl_from, from_from, from_of, end_of, registrations, decl_at}
-use Rattle.shr_seats.specs.Weights.{total, times}
-use Rattle.shr_core.specs.Parts.{Marks, no_marks, no_claims}
-use Rattle.shr_core.specs.Rule.{IsShown, HasOnlyIds, IsDated, opener, only_some}
-use Rattle.shr_core.specs.Steps.{with_set, dated_now, split_off, half_after, is_drained}
-use Rattle.shr_core.specs.Tells.{IsBusy}
-use Rattle.shr_core.specs.Gained.{nothing, then_gained, Adds, OwesNoMore, IsIdle}
-use Rattle.shr_core.specs.Answers.{MetLive}
+use Rattle.shr_core.proofs.Common.{◌≡◌, ℕ, ◌*◌, ◌<◌, false, true, [], ◌∷◌, length, refl, ap, subst, arith, sym, MovedIn, Closed, beside, none-some, List, Some, None, Registered, Unregistered, Idle, from_of, total, times, Marks, no_marks, no_claims, IsShown, HasOnlyIds, IsDated, opener, only_some, with_set, dated_now, split_off, half_after, is_drained, nothing, then_gained, Adds, OwesNoMore, MetLive, IsBusy, IsIdle}
+use Rattle.shr_model.specs.Pool.{phase_of, decl_from, from_from, end_of, registrations, decl_at}
 use Rattle.shr_core.proofs.Gains.{of_set}
 
 -- a bit that was set is gained, and not nothing

@@ -1,21 +1,6 @@
 -- What each step adds to a view, and what calls add one after another.
-use Rattle.std.proofs.Common.{◌≡◌, ℕ, ◌+◌, ◌%◌, eqb, List, [], ◌∷◌, ◌++◌, length, sym, refl, ap, ◌∙◌, arith, append_assoc}
-use Rattle.std.specs.Prelude.{Option, Some, None}
-use Rattle.std.proofs.lemmas.List.{append-nil, map-append}
-use Rattle.shr_seats.specs.Lines.{Deed, by_seat}
-use Rattle.shr_base.specs.declared.objects.Object.{Object}
-use Rattle.shr_base.specs.declared.ends.LookupWord.{LookupWord}
-use Rattle.shr_base.specs.declared.journals.Entry.{Entry}
-use Rattle.shr_seats.specs.Weights.{Begins}
-use Rattle.shr_seats.proofs.Weighing.{begins_all, begins_push, begins_more}
-use Rattle.shr_core.specs.declared.view.View.{View}
-use Rattle.shr_seats.specs.declared.shape.Shape.{Shape}
-use Rattle.shr_core.specs.Parts.{Content, Event, counted, made, looked, loaded, turned, raised, cleared, mapped}
-use Rattle.shr_core.specs.Layout.{places_in}
-use Rattle.shr_core.specs.Steps.{in_hand, with_count, with_map, with_set, with_clear, with_taken, with_try, with_given, with_pool_given, with_stored, with_word, with_leave, with_given_up, with_lookup, with_put, puts_of, with_phase, met_in, turn_at, dated_now}
-use Rattle.shr_core.specs.Again.{with_again}
+use Rattle.shr_core.proofs.Common.{◌≡◌, ℕ, ◌+◌, ◌%◌, eqb, List, [], ◌∷◌, ◌++◌, length, sym, refl, ap, ◌∙◌, arith, append_assoc, Option, Some, None, append-nil, Deed, by_seat, Object, LookupWord, Entry, Begins, begins_all, begins_push, begins_more, View, Shape, RoomContent, Event, counted, made, looked, loaded, turned, raised, cleared, mapped, places_in, in_hand, with_count, with_map, with_set, with_clear, with_taken, with_try, with_given, with_pool_given, with_stored, with_word, with_leave, with_given_up, with_lookup, with_put, put_events, with_phase, met_in, turn_at, dated_now, with_again, nothing, then_gained, Adds, map-append, Gained, AreKinds, among, seen_in, made_in, attempts_in, loaded_in, turns_in, sets_in, cleared_in, maps_in}
 use Rattle.shr_core.proofs.Uses.{using_still, using_looked, using_put}
-use Rattle.shr_core.specs.Gained.{Gained, nothing, then_gained, Adds, AreKinds, among, seen_in, made_in, attempts_in, loaded_in, turns_in, sets_in, cleared_in, maps_in}
 
 pub among-append : {A : Type 0} (f : Event → List A) (l m : List Event) → among f (l ++ m) ≡ among f l ++ among f m
 among-append f [] m = refl
@@ -195,7 +180,7 @@ of_clear v k = let n = adds_none v in record {
 }
 
 -- a room was taken, was tried in vain, or was given back
-pub of_taken : (v : View) (r : ℕ) (c : Content) → Adds v (with_taken v r c) nothing
+pub of_taken : (v : View) (r : ℕ) (c : RoomContent) → Adds v (with_taken v r c) nothing
 of_taken v r c = let n = adds_none v in record {
   made = n.made;
   seen = n.seen;
@@ -444,7 +429,7 @@ of_again v id word free = let n = of_lookup v id word free in record {
   using = using_looked v (with_again v id word) id word.decl word.lookups (eqb (word.phase % 3) 1) free refl refl refl;
 }
 
-no_kinds : (held probe : Option ℕ) → AreKinds (puts_of held probe) nothing
+no_kinds : (held probe : Option ℕ) → AreKinds (put_events held probe) nothing
 no_kinds (Some i) probe = record { seen = refl; made = refl; attempts = refl; loaded = refl; turns = refl; sets = refl; cleared = refl; maps = refl }
 no_kinds None (Some i) = record { seen = refl; made = refl; attempts = refl; loaded = refl; turns = refl; sets = refl; cleared = refl; maps = refl }
 no_kinds None None = record { seen = refl; made = refl; attempts = refl; loaded = refl; turns = refl; sets = refl; cleared = refl; maps = refl }
@@ -467,7 +452,7 @@ of_put v = let n = adds_none v in record {
   heard = n.heard;
   dated = n.dated;
   standing = n.standing;
-  did = puts_of v.claims.held v.claims.probe;
+  did = put_events v.claims.held v.claims.probe;
   noted = refl;
   kinds = no_kinds v.claims.held v.claims.probe;
   seat = refl;

@@ -1,31 +1,17 @@
 -- What a seat has in hand after it took a room, stored a count or raised a phase.
-use Rattle.std.proofs.Common.{◌≡◌, ℕ, zero, suc, ◌%◌, ◌<◌, Bool, false, cond, eqb, List, [], ◌∷◌, ◌++◌, sym, refl, ap, subst, ◌∙◌, arith, eq-eqb, ne_eqb}
-use Rattle.std.specs.Prelude.{Some}
-use mathlib.Core.Logic.{dite}
-use native.Mathlib.Decide.{ℕ_discrete}
-use Rattle.shr_base.specs.declared.ends.LookupWord.{LookupWord}
-use Rattle.shr_base.specs.declared.journals.PoolEntry.{PoolEntry}
-use Rattle.shr_base.specs.declared.journals.PoolEntry.TheVariants.{Registered, Unregistered, Idle}
-use Rattle.shr_model.specs.Pool.{phase_of, is_live_decl, is_live_below, lowest_idle, lowest_free, dying_in}
-use Rattle.shr_seats.specs.Weights.{total}
-use Rattle.shr_seats.proofs.Weighing.{only_yes, only_no}
-use Rattle.shr_core.specs.declared.view.View.{View}
-use Rattle.shr_seats.specs.declared.shape.Shape.{Shape}
-use Rattle.shr_core.specs.Parts.{Content, Hand}
-use Rattle.shr_core.specs.Layout.{places_in}
-use Rattle.shr_core.specs.Rule.{is_room, has_room}
-use Rattle.shr_core.specs.Steps.{content_in, in_hand, with_content, with_taken, with_phase, turn_at, MayPhase}
+use Rattle.shr_core.proofs.Common.{◌≡◌, ℕ, zero, suc, ◌%◌, ◌<◌, Bool, false, cond, eqb, List, [], ◌∷◌, ◌++◌, sym, refl, ap, subst, ◌∙◌, arith, eq-eqb, ne_eqb, Some, dite, ℕ_discrete, LookupWord, PoolEntry, Registered, Unregistered, Idle, is_live_decl, lowest_idle, total, only_yes, only_no, View, Shape, RoomContent, Hand, places_in, is_room, has_room, content_in, in_hand, with_content, with_taken, with_phase, turn_at, MayPhase}
+use Rattle.shr_model.specs.Pool.{phase_of, is_live_below, lowest_free, dying_in}
 
 -- the room that was just taken
-pub taken_in_hand : (v : View) (r : ℕ) (c : Content) → in_hand (with_taken v r c) r ≡ c
+pub taken_in_hand : (v : View) (r : ℕ) (c : RoomContent) → in_hand (with_taken v r c) r ≡ c
 taken_in_hand v r c = ap (λ b. cond b c (content_in r v.holding.hands)) (eq-eqb r r refl)
 
 -- a room that was taken is in hand
-pub has_taken : (v : View) (r : ℕ) (c : Content) → 0 < has_room r (with_taken v r c).holding
+pub has_taken : (v : View) (r : ℕ) (c : RoomContent) → 0 < has_room r (with_taken v r c).holding
 has_taken v r c = omega (arith, only_yes r r refl)
 
 -- the room whose content was changed
-pub changed_in_hand : (r : ℕ) (c : Content) (hs : List Hand) → 0 < total (is_room r) hs → content_in r (with_content r c hs) ≡ c
+pub changed_in_hand : (r : ℕ) (c : RoomContent) (hs : List Hand) → 0 < total (is_room r) hs → content_in r (with_content r c hs) ≡ c
 changed_in_hand r c [] h = absurd (omega (arith, h))
 changed_in_hand r c (x ∷ hs) h = dite (ℕ_discrete x.room r)
     (λ e. subst (λ (b : Bool). content_in r (cond b (record { room = r; content = c } ∷ hs) (x ∷ with_content r c hs)) ≡ c) (sym (eq-eqb x.room r e)) (ap (λ b. cond b c (content_in r hs)) (eq-eqb r r refl)))
@@ -33,7 +19,7 @@ changed_in_hand r c (x ∷ hs) h = dite (ℕ_discrete x.room r)
 
 -- the pool in hand after a phase step
 pub phase_in_hand : (shape : Shape) (v : View) (id decl : ℕ) (w : LookupWord) → 0 < has_room (places_in shape.ids) v.holding → (in_hand (with_phase shape v id decl w) (places_in shape.ids)).pool ≡ (in_hand v (places_in shape.ids)).pool ++ turn_at id decl w ∷ []
-phase_in_hand shape v id decl w h = let r : ℕ = places_in shape.ids in ap (λ (c : Content). c.pool) (changed_in_hand r (record (in_hand v r) { pool = (in_hand v r).pool ++ turn_at id decl w ∷ [] }) v.holding.hands h)
+phase_in_hand shape v id decl w h = let r : ℕ = places_in shape.ids in ap (λ (c : RoomContent). c.pool) (changed_in_hand r (record (in_hand v r) { pool = (in_hand v r).pool ++ turn_at id decl w ∷ [] }) v.holding.hands h)
 
 pub no_phase : (i : ℕ) → phase_of i [] ≡ 0
 unfolding phase_of

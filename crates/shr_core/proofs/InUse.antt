@@ -1,17 +1,7 @@
 -- A seat uses an id since a lookup of its own that found the id live, and what ends the use comes behind it.
-use Rattle.std.proofs.Common.{◌≡◌, ℕ, zero, suc, ◌+◌, ◌<◌, ◌≤◌, Bool, true, false, cond, List, [], ◌∷◌, ◌++◌, sym, refl, ap, subst, ◌∙◌, arith, eqb, eq-eqb, ne_eqb}
+use Rattle.shr_core.proofs.Common.{◌≡◌, ℕ, zero, suc, ◌+◌, ◌<◌, ◌≤◌, Bool, true, false, cond, List, [], ◌∷◌, ◌++◌, sym, refl, ap, subst, ◌∙◌, arith, eqb, eq-eqb, ne_eqb, append-nil, dite, ℕ_discrete, get_elem?, Deed, state_after, AreSo, times, without, times-push_same, times-without_same, Event, Tried, counted, made, looked, loaded, turned, put_back, raised, cleared, mapped, Moment, at_start, moment_next, Holders, no_holders, finder, users_after, users_next, last_users, Measure, value, part}
 use Rattle.std.specs.Prelude.{Some, None, Option as Maybe, take}
-use Rattle.std.proofs.lemmas.List.{append-nil}
-use mathlib.Core.Logic.{dite}
-use native.Mathlib.Decide.{ℕ_discrete}
 use mathlib.Core.Option.{Option as Optional, none, some, some-injective, some-ne-none}
-use lib.ListN.{get_elem?}
-use Rattle.shr_seats.specs.Lines.{Deed, part, state_after, AreSo}
-use Rattle.shr_seats.specs.Weights.{times, without}
-use Rattle.shr_seats.proofs.Weighing.{times-push_same, times-without_same}
-use Rattle.shr_core.specs.Parts.{Event, Tried, counted, made, looked, loaded, turned, put_back, raised, cleared, mapped}
-use Rattle.shr_core.specs.Order.{Moment, at_start, moment_next, Holders, no_holders, finder, users_after, users_next, last_users}
-use Rattle.shr_core.specs.Ranks.{Measure, value}
 use Rattle.shr_core.proofs.Ranking.{grows}
 use Rattle.shr_core.proofs.Uses.{users_else}
 

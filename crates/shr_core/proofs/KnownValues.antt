@@ -1,12 +1,5 @@
 -- The words of the table at known values.
-use Rattle.std.specs.Prelude.{◌≡◌, ◌+◌, ◌*◌, refl, [], ◌∷◌, Some, None, List, ℕ}
-use Rattle.shr_base.specs.declared.journals.PoolEntry.TheVariants.{Registered, Unregistered, Idle}
-use Rattle.shr_model.specs.Places.{place_number}
-use Rattle.shr_core.specs.Layout.{place_at, row_in, places_in, rooms_in, words_in, counts_in, locks_in, bits_in, map_of, map_number, bit_of, above, version_of, length_of}
-use Rattle.shr_seats.specs.declared.rows.Sizes.{Sizes}
-use Rattle.shr_core.specs.Lookup.{word_in}
-use Rattle.shr_core.specs.Steps.{turn_at, met_in, owed_after}
-use Rattle.shr_core.specs.Tells.{raise}
+use Rattle.shr_core.proofs.Common.{◌≡◌, ◌+◌, ◌*◌, refl, [], ◌∷◌, Some, None, List, ℕ, Registered, Unregistered, Idle, place_number, place_at, row_in, places_in, rooms_in, words_in, counts_in, locks_in, bits_in, map_of, map_number, place_bit, above, version_of, length_of, Sizes, word_in, turn_at, met_in, owed_after, raise}
 
 -- declaration 0 in its first registration, after one held lookup
 after_one_lookup : word_in 1099511628033 ≡ record { decl = 0; phase = 1; lookups = 1; refs = 1 }
@@ -79,7 +72,7 @@ count_of_none = refl
 map_of_place : map_of 67075 ≡ map_number 2 3 1
 map_of_place = refl
 
-bit_of_place : bit_of 67075 ≡ 1
+bit_of_place : place_bit 67075 ≡ 1
 bit_of_place = refl
 
 -- the place of the parent of group 2 under root, 1 and 2

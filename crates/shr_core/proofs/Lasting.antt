@@ -1,13 +1,8 @@
 -- What a journal says of an id lasts while it gains no entry of that id.
-use Rattle.std.proofs.Common.{◌≡◌, ℕ, ◌+◌, ◌≤◌, Bool, true, false, cond, eqb, List, [], ◌∷◌, ◌++◌, length, drop, refl, ap, ◌∙◌, arith, ne_eqb, eq-eqb, length-append}
+use Rattle.shr_core.proofs.Common.{◌≡◌, ℕ, ◌+◌, ◌≤◌, Bool, true, false, cond, eqb, List, [], ◌∷◌, ◌++◌, length, drop, refl, ap, ◌∙◌, arith, ne_eqb, eq-eqb, length-append, dite, ℕ_discrete, PoolEntry, Registered, Unregistered, Idle, decl_of, decl_after, from_of, from_after, is_before, Begins}
 use Rattle.std.specs.Prelude.{Some, None, Option as Maybe}
-use mathlib.Core.Logic.{dite}
-use native.Mathlib.Decide.{ℕ_discrete}
-use Rattle.shr_base.specs.declared.journals.PoolEntry.{PoolEntry}
-use Rattle.shr_base.specs.declared.journals.PoolEntry.TheVariants.{Registered, Unregistered, Idle}
-use Rattle.shr_model.specs.Pool.{phase_of, decl_of, decl_from, decl_after, from_of, from_from, from_after, end_of, is_before, Registration, registrations}
+use Rattle.shr_model.specs.Pool.{phase_of, decl_from, from_from, end_of, Registration, registrations}
 use Rattle.shr_model.specs.Pool as pool
-use Rattle.shr_seats.specs.Weights.{Begins}
 
 -- the phase counts the entries of both parts
 phase_both : (i : ℕ) (a b : List PoolEntry) → phase_of i (a ++ b) ≡ phase_of i a + phase_of i b

@@ -1,22 +1,8 @@
 -- Numbers of places, rows and words answer to one another.
-use Rattle.std.proofs.Common.{◌≡◌, ◌⊎◌, inl, inr, ℕ, ◌+◌, ◌*◌, ◌/◌, ◌%◌, ◌<◌, ◌≤◌, ◌≢◌, Bool, true, false, cond, ltb, ◌&&◌, List, length, set, get_or, sym, refl, ap, ◌∙◌, ⊎_elim, arith, lt-ltb, get_or-set_same, get_or-set_other}
-use Rattle.std.proofs.lemmas.Bool.{cases_Bool}
-use Rattle.std.proofs.lemmas.Bool.Decides.{nat_tests}
+use Rattle.shr_core.proofs.Common.{◌≡◌, ◌⊎◌, inl, inr, ℕ, ◌+◌, ◌*◌, ◌/◌, ◌%◌, ◌<◌, ◌≤◌, ◌≢◌, Bool, true, false, cond, ltb, ◌&&◌, List, length, set, get_or, sym, refl, ap, ◌∙◌, ⊎_elim, arith, lt-ltb, get_or-set_same, get_or-set_other, cases_Bool, nat_tests, dite, dec_lt, some, set_else, Place, place_number, Sizes, row_count, row_of, Shape, Slot, is_row, row_in, counts_in, locks_in, bits_in, homes_in, places_in, rooms_in, words_in, place_id, node_of, group_of, place_at, sizes_of, groups_in, IsInside, IsRoom, set_here, place_of_row}
 use Rattle.std.proofs.Math.Nat.{mod-lt}
-use mathlib.Core.Logic.{dite}
-use native.Mathlib.Decide.{dec_lt}
-use mathlib.Core.Option.{Option, some}
-use Rattle.atomic_table.proofs.Lists.{set_here, set_else}
-use Rattle.shr_base.specs.declared.places.Place.{Place}
-use Rattle.shr_model.specs.Places.{place_number}
-use Rattle.shr_seats.specs.declared.rows.Sizes.{Sizes}
-use Rattle.shr_seats.specs.Rows.{row_count, row_of, place_in}
+use mathlib.Core.Option.{Option}
 use Rattle.shr_seats.proofs.RowLaws.{IsAcross, one_place, row_low, ids_low, row_back, later, same_row}
-use Rattle.shr_seats.specs.declared.shape.Shape.{Shape}
-use Rattle.shr_core.specs.Slots.{Slot}
-use Rattle.shr_core.specs.Layout.{is_row, row_in, counts_in, locks_in, bits_in, homes_in, places_in, rooms_in, words_in, id_of, node_of, group_of, place_at}
-use Rattle.shr_seats.specs.Shapes.{sizes_of, groups_in}
-use Rattle.shr_core.specs.Rule.{IsInside, IsRoom}
 
 parts : (a b c d : ℕ) → (ltb a b && ltb c d) ≡ true → (a < b) × (c < d)
 parts a b c d e = (grind (arith, nat_tests), grind (arith, nat_tests))
@@ -43,8 +29,8 @@ one_number z k j a b e = let s = one_place z (place_at j) (place_at k) (across z
 
 -- a higher number has a later row
 pub rising : (z : Sizes) (k j : ℕ) → is_row z k ≡ true → k < j → row_in z k < row_in z j
-rising z k j a l = let t = later z (place_at k) (place_at j) (across z k a) in dite (dec_lt (id_of k) (id_of j)) t.0
-    (λ h. let e : id_of k ≡ id_of j = omega arith in dite (dec_lt (node_of k) (node_of j)) (t.1 e) (λ g. t.2 e (omega arith) (omega arith)))
+rising z k j a l = let t = later z (place_at k) (place_at j) (across z k a) in dite (dec_lt (place_id k) (place_id j)) t.0
+    (λ h. let e : place_id k ≡ place_id j = omega arith in dite (dec_lt (node_of k) (node_of j)) (t.1 e) (λ g. t.2 e (omega arith) (omega arith)))
 
 -- the row of a place of the sizes is that of its number
 pub numbered : (z : Sizes) (p : Place) → p.node < 4 → p.group < 256 → row_in z (place_number p) ≡ row_of z p
@@ -157,7 +143,7 @@ look_low shape i nodes groups near = omega (arith, near, ids_low (sizes_of shape
 
 -- the number of the place of a row
 abbrev pub number_at : Sizes → ℕ → ℕ
-number_at z row = place_number (place_in z row)
+number_at z row = place_number (place_of_row z row)
 
 fits_node : (i m g w : ℕ) → m < w → m < 4 → g < 256 → (1024 * i + 256 * m + g) / 256 % 4 < w
 fits_node i m g w a b c = omega (arith, a, b, c)
@@ -175,7 +161,7 @@ module _ (z : Sizes) (row : ℕ) (nodes : 0 < z.nodes) (most-nodes : z.nodes ≤
 
   -- the number of a row has that row
   pub number_row : row_in z (number_at z row) ≡ row
-  number_row = numbered z (place_in z row) (omega (arith, near_node, most-nodes)) (omega (arith, near_group, most-groups)) ∙ row_back z row
+  number_row = numbered z (place_of_row z row) (omega (arith, near_node, most-nodes)) (omega (arith, near_group, most-groups)) ∙ row_back z row
 
   pub number_is : is_row z (number_at z row) ≡ true
   number_is = row_yes z (number_at z row) (fits_node (row / z.groups / z.nodes) (row / z.groups % z.nodes) (row % z.groups) z.nodes near_node (omega (arith, near_node, most-nodes)) (omega (arith, near_group, most-groups)))

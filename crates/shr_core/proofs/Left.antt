@@ -1,31 +1,8 @@
 -- What a last state's rule says of the one seat that is left.
-use Rattle.std.proofs.Common.{◌≡◌, ℕ, ◌+◌, ◌%◌, ◌<◌, ◌≤◌, true, false, cond, List, map, length, sym, refl, ap, subst, ◌∙◌, ⊎_elim, arith}
+use Rattle.shr_core.proofs.Common.{◌≡◌, ℕ, ◌+◌, ◌%◌, ◌<◌, ◌≤◌, true, false, cond, List, map, length, sym, refl, ap, subst, ◌∙◌, ⊎_elim, arith, Contains, nat_lt, nat_le, ◌&&◌, None, Some, bit_at, cases_Bool, at_map, is_closed, moved_in, phase_of, last_number, IsPoolJournal, PoolEntry, Place, place_number, Each, IsWhole, total, times, Begins, View, Setting, Traces, Marks, Claims, Turns, counts_in, bits_in, looks_in, places_in, place_at, place_id, node_of, group_of, above, map_of, place_bit, sizes_of, refs_of, lookups_of, spent, IsTried, IsTurn, IsDated, HasLastEnd, only_some, hit, hit_attempt, hit_turn, half_of, holding_of, traces_of, marks_of, claims_of, turns_of, IsClosedOf, stands_at, did_in, IsMoment, last_moment, lined_sole}
 use Rattle.shr_core.proofs.Options.{only_none}
-use Rattle.std.specs.Prelude.{Contains, nat_lt, nat_le, ◌&&◌, None, Some}
-use Rattle.std.specs.Int.{bit_at}
-use Rattle.std.proofs.lemmas.Bool.{cases_Bool}
-use Rattle.atomic_table.proofs.Lists.{at_map}
 use Rattle.shr_base.specs.declared.ends.Closed.{Closed}
-use Rattle.shr_model.specs.Items.{is_closed}
-use Rattle.shr_model.specs.Families.{moved_in}
-use Rattle.shr_model.specs.Pool.{phase_of, last_number, IsPoolJournal}
-use Rattle.shr_base.specs.declared.journals.PoolEntry.{PoolEntry}
-use Rattle.shr_base.specs.declared.places.Place.{Place}
-use Rattle.shr_model.specs.Places.{place_number}
-use Rattle.shr_seats.specs.Views.{Each}
-use Rattle.shr_seats.specs.Standing.{IsWhole}
-use Rattle.shr_seats.specs.Weights.{total, times, Begins}
-use Rattle.shr_core.specs.declared.view.View.{View}
-use Rattle.shr_core.specs.declared.setting.Setting.{Setting}
-use Rattle.shr_core.specs.Parts.{Traces, Marks, Claims, Turns}
-use Rattle.shr_core.specs.Layout.{counts_in, bits_in, looks_in, places_in, place_at, id_of, node_of, group_of, above, map_of, bit_of}
-use Rattle.shr_seats.specs.Shapes.{sizes_of}
-use Rattle.shr_core.specs.Lookup.{refs_of, lookups_of}
-use Rattle.shr_core.specs.Rule.{spent, IsTried, IsTurn, IsDated, HasLastEnd, only_some, hit, hit_attempt, hit_turn, half_of, holding_of, traces_of, marks_of, claims_of, turns_of}
-use Rattle.shr_core.specs.Ending.{IsClosedOf}
 use Rattle.shr_core.specs.Leaving.{IsLeft}
-use Rattle.shr_seats.proofs.Lining.{lined_sole}
-use Rattle.shr_core.specs.Order.{stands_at, did_in, IsMoment, last_moment}
 use Rattle.shr_core.proofs.Tracing.{count_fields}
 use Rattle.shr_core.proofs.Alone.{sum_alone, refs_alone}
 
@@ -52,11 +29,11 @@ module _ (key : Setting) (id : ℕ) (v : View) (closed : Closed) (c : IsClosedOf
   left_turns n = sym (alone turns_of (λ (t : Turns). total (hit_turn n) t.made) refl) ∙ c.sound.rules.turned.once n
 
   -- a live place below the root that has items and is not owed has its bit set
-  pub left_flagged : (k : ℕ) → k < places_in key.shape.ids → 0 < group_of k → phase_of (id_of k) c.sound.pool % 3 ≡ 1 → 0 < counts_in (sizes_of key.shape) c.last.words k % 4294967296 → times k v.marks.owed ≡ 0 → bit_at (bits_in (sizes_of key.shape) c.last.words (map_of k)) (bit_of k) ≡ 1
+  pub left_flagged : (k : ℕ) → k < places_in key.shape.ids → 0 < group_of k → phase_of (place_id k) c.sound.pool % 3 ≡ 1 → 0 < counts_in (sizes_of key.shape) c.last.words k % 4294967296 → times k v.marks.owed ≡ 0 → bit_at (bits_in (sizes_of key.shape) c.last.words (map_of k)) (place_bit k) ≡ 1
   left_flagged k near below live items not_owed = ⊎_elim (λ e. e) (λ h. absurd (omega (arith, h, not_owed, alone marks_of (λ (m : Marks). times k m.owed) refl))) (c.sound.rules.marked.flagged k near below live items)
 
   -- a bit that was set and never cleared is set
-  pub left_settled : (k : ℕ) → k < places_in key.shape.ids → 0 < times k v.marks.sets → times k v.marks.cleared ≡ 0 → bit_at (bits_in (sizes_of key.shape) c.last.words (map_of k)) (bit_of k) ≡ 1
+  pub left_settled : (k : ℕ) → k < places_in key.shape.ids → 0 < times k v.marks.sets → times k v.marks.cleared ≡ 0 → bit_at (bits_in (sizes_of key.shape) c.last.words (map_of k)) (place_bit k) ≡ 1
   left_settled k near set none = c.sound.rules.marked.settled k near (omega (arith, set, alone marks_of (λ (m : Marks). times k m.sets) refl)) (alone marks_of (λ (m : Marks). times k m.cleared) refl ∙ none)
 
   -- with no splice half done, a list that was moved in is closed
@@ -92,7 +69,7 @@ module _ (key : Setting) (id : ℕ) (v : View) (closed : Closed) (c : IsClosedOf
     once = left_entries;
     known = r.traced.known id v.traces (at_map traces_of c.last.views id v c.seat);
     seen = r.traced.seen id v.traces (at_map traces_of c.last.views id v c.seat);
-    flagged = λ k near below live some. left_flagged k near below (ap (λ (l : List PoolEntry). phase_of (id_of k) l % 3) (sym c.pool) ∙ live) (omega (arith, some, (count_fields key.shape (counts_in (sizes_of key.shape) c.last.words) c.sound.now c.sound.after k r.counted sh.most_items near).1));
+    flagged = λ k near below live some. left_flagged k near below (ap (λ (l : List PoolEntry). phase_of (place_id k) l % 3) (sym c.pool) ∙ live) (omega (arith, some, (count_fields key.shape (counts_in (sizes_of key.shape) c.last.words) c.sound.now c.sound.after k r.counted sh.most_items near).1));
     settled = left_settled;
     mapped = λ j m at k near same set none. r.marked.mapped id v.marks (at_map marks_of c.last.views id v c.seat) j m at k near same set (alone marks_of (λ (x : Marks). times k x.cleared) refl ∙ none);
     raised = λ k near is-one. omega (arith, r.marked.raised k near is-one, alone marks_of (λ (x : Marks). times k x.sets) refl);
@@ -100,7 +77,7 @@ module _ (key : Setting) (id : ℕ) (v : View) (closed : Closed) (c : IsClosedOf
     drawn = left_attempts;
     tried = subst (λ (l : List PoolEntry). Each (IsTried key.shape.ids l) v.claims.attempts) (sym c.pool) (r.looked.tried id v.claims (at_map claims_of c.last.views id v c.seat));
     loaded = r.looked.loaded id v.claims (at_map claims_of c.last.views id v c.seat);
-    resting = λ k near idle. r.owned.resting k near (ap (λ (l : List PoolEntry). phase_of (id_of k) l % 3) (sym c.pool) ∙ idle);
+    resting = λ k near idle. r.owned.resting k near (ap (λ (l : List PoolEntry). phase_of (place_id k) l % 3) (sym c.pool) ∙ idle);
     journal = subst (IsPoolJournal key.shape.ids key.shape.decls) (sym c.pool) r.turned.journal;
     turned = subst (λ (l : List PoolEntry). Each (IsTurn l) v.turns.made) (sym c.pool) (r.turned.made id v.turns (at_map turns_of c.last.views id v c.seat));
     turned_once = λ n. left_turns n ∙ ap (λ (l : List PoolEntry). cond (nat_lt n (length l)) 1 0) (sym c.pool);
@@ -120,5 +97,5 @@ module _ (key : Setting) (id : ℕ) (v : View) (closed : Closed) (c : IsClosedOf
 
 -- the place of a place's number
 pub place_back : (p : Place) → p.node < 4 → p.group < 256 → place_at (place_number p) ≡ p
-place_back p n g = let a : id_of (place_number p) ≡ p.id = omega (arith, n, g) in let b : node_of (place_number p) ≡ p.node = omega (arith, n, g) in let c : group_of (place_number p) ≡ p.group = omega (arith, n, g) in
+place_back p n g = let a : place_id (place_number p) ≡ p.id = omega (arith, n, g) in let b : node_of (place_number p) ≡ p.node = omega (arith, n, g) in let c : group_of (place_number p) ≡ p.group = omega (arith, n, g) in
     λ i. record { id = a i; node = b i; group = c i }

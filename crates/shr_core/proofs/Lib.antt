@@ -1,3 +1,4 @@
+mod Common
 pub mod Laying
 pub mod Uses
 pub mod Ordering

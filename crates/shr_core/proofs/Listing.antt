@@ -1,43 +1,18 @@
 -- The family of journals keeps its part of the rule.
-use Rattle.std.proofs.Common.{◌≡◌, ◌⊎◌, ℕ, ◌+◌, ◌<◌, ◌≤◌, ◌≢◌, Bool, true, false, List, [], ◌∷◌, ◌++◌, length, take, set, sym, refl, ap, subst, ◌∙◌, inl, inr, ⊎_elim, arith, length-append}
+use Rattle.shr_core.proofs.Common.{◌≡◌, ◌⊎◌, ℕ, ◌+◌, ◌<◌, ◌≤◌, ◌≢◌, Bool, true, false, List, [], ◌∷◌, ◌++◌, length, take, set, sym, refl, ap, subst, ◌∙◌, inl, inr, ⊎_elim, arith, length-append, append-nil, take_all, none-some, Contains, Option, Some, None, dite, ℕ_discrete, some, some-injective, get_elem?, at_set, Object, Entry, Add, Look, Drop, Pin, Scan, MovedIn, Closed, Drained, place_number, IsTree, parent_of, is_child, step, IsOutcome, is_closed, is_closing, HasJournal, moved_in, MayStand, IsAllowed, Has_from_Contains, Contains_from_Has, child_takes, total, total_same, total-set, total-append, total_join, term_le, Each-set, Each-push, Each-join, Each-one, Each-none, some_term, Shape, View, Hand, Holding, no_rooms, place_id, node_of, group_of, place_at, beside, above, Journals, Histories, half_of, has_room, is_room, AreLists, AreBorn, items_now, only_some, in_hand, moved_in_hand, slice_get_cases, dec_le, at_group, items_from, before_closed, lists_moved_at, items_at, items_of, items_given, moved_by, IsLegal, Has, child_higher, family_of, IsHalfSpliced}
 use Rattle.shr_core.proofs.Options.{some_or_not, not_some, one_some, only_some_yes, only_some_no, only_none, only_some_is}
-use Rattle.std.proofs.lemmas.List.{append-nil, take_all}
-use Rattle.std.proofs.lemmas.Option.{slice_get_cases, none-some}
-use Rattle.std.specs.Prelude.{Contains, Option, Some, None}
-use mathlib.Core.Logic.{dite}
-use native.Mathlib.Decide.{ℕ_discrete, dec_le}
-use mathlib.Core.Option.{some, some-injective}
-use lib.ListN.{get_elem?}
-use Rattle.atomic_table.proofs.Lists.{at_set}
-use Rattle.shr_base.specs.declared.objects.Object.{Object}
-use Rattle.shr_base.specs.declared.journals.Entry.{Entry}
-use Rattle.shr_base.specs.declared.journals.Entry.TheVariants.{Add, Look, Drop, Pin, Scan, MovedIn, Closed, Drained}
-use Rattle.shr_model.specs.Places.{place_number, at_group}
-use Rattle.shr_model.specs.Groups.{IsTree, parent_of, is_child}
-use Rattle.shr_model.specs.Items.{step, IsOutcome, items_from, is_closed, is_closing, HasJournal}
-use Rattle.shr_model.specs.Families.{moved_in, before_closed, lists_moved_at, items_at, items_of, items_given, moved_by, MayStand, IsAllowed, IsLegal}
-use Rattle.shr_model.proofs.Members.{Has, Has_from_Contains, Contains_from_Has}
-use Rattle.shr_model.proofs.GroupsLaws.{child_takes, child_higher}
 use Rattle.shr_model.proofs.FamilyLaws.{items_stay, legal_stays, items_after, legal_after, given_open, before_open, closed_push, push_has, has_push, has_pushed, legal_none, items_none}
-use Rattle.shr_seats.specs.Weights.{total}
-use Rattle.shr_seats.proofs.Weighing.{total_same, total-set, total-append, total_join, term_le, Each-set, Each-push, Each-join, Each-one, Each-none, some_term}
-use Rattle.shr_seats.specs.declared.shape.Shape.{Shape}
-use Rattle.shr_core.specs.declared.view.View.{View}
-use Rattle.shr_core.specs.Parts.{Hand, Holding, no_rooms}
-use Rattle.shr_core.specs.Layout.{id_of, node_of, group_of, place_at, beside, above}
-use Rattle.shr_core.specs.Rule.{Journals, Histories, family_of, half_of, has_room, is_room, IsHalf, AreLists, AreBorn, items_now, only_some}
-use Rattle.shr_core.specs.Steps.{in_hand, moved_in_hand}
 use Rattle.shr_core.proofs.Births.{IsBornIn, step_born}
 
 -- the rooms in hand change, and those that a half needs stay
-pub rooms_change : (parents : List ℕ) (now : Journals) (after : Histories) (hs : List Holding) (id : ℕ) (v w : Holding) → get_elem? hs id ≡ some v → w.half ≡ v.half → ((k : ℕ) → v.half ≡ Some k → IsHalf parents now v k → (0 < has_room k w) × (0 < has_room (above parents k) w)) → AreLists parents now after hs → AreLists parents now after (set hs id w)
+pub rooms_change : (parents : List ℕ) (now : Journals) (after : Histories) (hs : List Holding) (id : ℕ) (v w : Holding) → get_elem? hs id ≡ some v → w.half ≡ v.half → ((k : ℕ) → v.half ≡ Some k → IsHalfSpliced parents now v k → (0 < has_room k w) × (0 < has_room (above parents k) w)) → AreLists parents now after hs → AreLists parents now after (set hs id w)
 rooms_change parents now after hs id v w at same keep o = record {
   items = o.items;
   births = o.births;
   legal = o.legal;
   closed = o.closed;
   taken = λ k below near there. ⊎_elim inl (λ h. inr (omega (arith, h, total_same (half_of k) hs id v w at (ap (only_some k) same)))) (o.taken k below near there);
-  halves = Each-set (λ h. (k : ℕ) → h.half ≡ Some k → IsHalf parents now h k) hs id w (λ k e. let q = o.halves id v at k (sym same ∙ e) in
+  halves = Each-set (λ h. (k : ℕ) → h.half ≡ Some k → IsHalfSpliced parents now h k) hs id w (λ k e. let q = o.halves id v at k (sym same ∙ e) in
       record { below_root = q.below_root; group = q.group; own = (keep k (sym same ∙ e) q).0; parent = (keep k (sym same ∙ e) q).1; child = q.child; taken = q.taken }) o.halves;
 }
 
@@ -49,7 +24,7 @@ more parents now after hs o = record {
   legal = o.legal;
   closed = o.closed;
   taken = λ k below near there. ⊎_elim inl (λ h. inr (omega (arith, h, total-append (half_of k) hs (no_rooms ∷ [])))) (o.taken k below near there);
-  halves = Each-push (λ h. (k : ℕ) → h.half ≡ Some k → IsHalf parents now h k) hs no_rooms (λ k e. absurd (none-some k e)) o.halves;
+  halves = Each-push (λ h. (k : ℕ) → h.half ≡ Some k → IsHalfSpliced parents now h k) hs no_rooms (λ k e. absurd (none-some k e)) o.halves;
 }
 
 -- a seat with no room in hand is joined away
@@ -62,7 +37,7 @@ joins parents now after hs id other v u at apart them none o = record {
   taken = λ k below near there. ⊎_elim inl
       (λ h. inr (omega (arith, h, total_join (half_of k) hs id other v u v no_rooms at apart them, no_half k)))
       (o.taken k below near there);
-  halves = Each-join (λ h. (k : ℕ) → h.half ≡ Some k → IsHalf parents now h k) hs id other v no_rooms (o.halves id v at) (λ k e. absurd (none-some k e)) o.halves;
+  halves = Each-join (λ h. (k : ℕ) → h.half ≡ Some k → IsHalfSpliced parents now h k) hs id other v no_rooms (o.halves id v at) (λ k e. absurd (none-some k e)) o.halves;
 } where
   no_half : (k : ℕ) → half_of k u ≡ 0
   no_half k = dite (some_or_not k u.half) (λ e. let q = o.halves other u them k e in absurd (omega (arith, q.own, ap (λ (l : List Hand). total (is_room k) l) none))) (λ n. only_some_no k u.half n)
@@ -75,7 +50,7 @@ opens parents = record {
   legal = λ k. legal_none parents (family_of (λ _. [])) (place_at k) refl;
   closed = λ k below near e. absurd (false_true e);
   taken = λ k below near there. absurd (omega (arith, there.1));
-  halves = Each-one (λ h. (k : ℕ) → h.half ≡ Some k → IsHalf parents (λ _. []) h k) no_rooms (λ k e. absurd (none-some k e));
+  halves = Each-one (λ h. (k : ℕ) → h.half ≡ Some k → IsHalfSpliced parents (λ _. []) h k) no_rooms (λ k e. absurd (none-some k e));
 } where
   false_true : false ≡ true → ⊥
   false_true e = cc
@@ -256,7 +231,7 @@ module _ (shape : Shape) (now now' : Journals) (after after' : Histories) (hs : 
     by_kind (moving c objects is) = let t = s.child c objects is in let allowed = subst (IsAllowed shape.parents.items (group_of k) (now k)) is s.stands.allowed in
         let child = child_takes shape.parents.items (group_of k) c allowed.0 in let small : c < 256 = omega (arith, child.there, s.short) in
         let q : ℕ = beside k c in let same : place_number (at_group (place_at k) c) ≡ q = omega arith in
-        let place : at_group (place_at k) c ≡ place_at q = λ i. record { id = (let d : id_of k ≡ id_of q = omega (arith, small) in d) i; node = (let d : node_of k ≡ node_of q = omega (arith, small) in d) i; group = (let d : c ≡ group_of q = omega (arith, small) in d) i } in
+        let place : at_group (place_at k) c ≡ place_at q = λ i. record { id = (let d : place_id k ≡ place_id q = omega (arith, small) in d) i; node = (let d : node_of k ≡ node_of q = omega (arith, small) in d) i; group = (let d : c ≡ group_of q = omega (arith, small) in d) i } in
         ap (moved_in_hand v k) is ∙ (t.0 ∙ (items_are q ∙ (ap (items_of shape.parents.items (family_of now)) (sym place)
         ∙ (sym (given_open shape.parents.items s.tree (family_of now) (place_at k) (group_of k) c allowed.0 (ap (λ (x : ℕ). is_closed (now x)) same ∙ t.2)) ∙ ap (moved_by (items_given shape.parents.items (family_of now) (place_at k))) (sym is)))))
     by_kind (closing is) = moves_nothing (items_given shape.parents.items (family_of now) (place_at k)) v k e (λ c objects d. omega (arith, ap tag is, ap tag d))
@@ -363,12 +338,12 @@ module _ (shape : Shape) (now now' : Journals) (after after' : Histories) (hs : 
         (λ m. old (subst (λ (l : List Entry). Has (moved_in l) (group_of j)) (s.others a m) (Has_from_Contains (moved_in (now' a)) (group_of j) there)))
 
     -- a splice whose two places gained nothing
-    half_stays : (j : ℕ) (u x : Holding) → j ≢ k → above shape.parents.items j ≢ k → ((r : ℕ) → has_room r x ≡ has_room r u) → IsHalf shape.parents.items now u j → IsHalf shape.parents.items now' x j
+    half_stays : (j : ℕ) (u x : Holding) → j ≢ k → above shape.parents.items j ≢ k → ((r : ℕ) → has_room r x ≡ has_room r u) → IsHalfSpliced shape.parents.items now u j → IsHalfSpliced shape.parents.items now' x j
     half_stays j u x m n same q = record { below_root = q.below_root; group = q.group; own = omega (arith, q.own, same j); parent = omega (arith, q.parent, same (above shape.parents.items j)); child = closed_stays j m ∙ q.child; taken = subst (λ (l : List Entry). Contains (moved_in l) (group_of j)) (sym (s.others (above shape.parents.items j) n)) q.taken }
 
-    own_half : (j : ℕ) → w.half ≡ Some j → IsHalf shape.parents.items now' w j
+    own_half : (j : ℕ) → w.half ≡ Some j → IsHalfSpliced shape.parents.items now' w j
     own_half j is = by_kind (kind_of e) where
-      by_kind : Kind e → IsHalf shape.parents.items now' w j
+      by_kind : Kind e → IsHalfSpliced shape.parents.items now' w j
       by_kind (moving c objects f) = let b = s.splice.begun c objects f in let t = s.child c objects f in let allowed = subst (IsAllowed shape.parents.items (group_of k) (now k)) f s.stands.allowed in let child = child_takes shape.parents.items (group_of k) c allowed.0 in
           let low : group_of k < c = child_higher shape.parents.items (group_of k) c s.tree child in let small : c < 256 = omega (arith, child.there, s.short) in
           let d : j ≡ beside k c = one_some j (beside k c) w.half is (half-is ∙ b.1) in let group : group_of j ≡ c = omega (arith, d, small) in
@@ -393,7 +368,7 @@ module _ (shape : Shape) (now now' : Journals) (after after' : Histories) (hs : 
       closed = closed_next;
       taken = taken_next;
       halves = λ a u at j is. ⊎_elim
-          (λ (t : (a ≡ id) × (w ≡ u)). subst (λ (x : Holding). IsHalf shape.parents.items now' x j) t.1 (own_half j (ap (λ (x : Holding). x.half) t.1 ∙ is)))
+          (λ (t : (a ≡ id) × (w ≡ u)). subst (λ (x : Holding). IsHalfSpliced shape.parents.items now' x j) t.1 (own_half j (ap (λ (x : Holding). x.half) t.1 ∙ is)))
           (λ (t : (a ≢ id) × (get_elem? hs a ≡ some u)). let q = o.halves a u t.1 j is in
           half_stays j u u (λ d. t.0 (s.alone a u t.1 (subst (λ (x : ℕ). 0 < has_room x u) d q.own))) (λ d. t.0 (s.alone a u t.1 (subst (λ (x : ℕ). 0 < has_room x u) d q.parent))) (λ r. refl) q)
           (at_set hs id a w u at);

@@ -1,20 +1,6 @@
 -- Loads of count words and bit words keep the rule.
-use Rattle.std.proofs.Common.{◌≡◌, ℕ, ◌+◌, ◌*◌, ◌/◌, ◌<◌, ◌≤◌, Bool, true, false, cond, List, length, map, set, get_or, sym, refl, ap, subst, ◌∙◌, arith, eq-eqb, ne_eqb, length-append}
-use Rattle.std.specs.Int.{bit_at}
-use mathlib.Core.Logic.{dite}
-use native.Mathlib.Decide.{ℕ_discrete}
-use Rattle.atomic_table.specs.Table.{keeps, Allows}
-use Rattle.shr_base.specs.declared.journals.Entry.{Entry}
-use Rattle.shr_seats.specs.Weights.{without, Begins}
-use Rattle.shr_seats.proofs.Weighing.{times-without_other}
-use Rattle.shr_core.specs.declared.view.View.{View}
-use Rattle.shr_core.specs.declared.setting.Setting.{Setting}
-use Rattle.shr_core.specs.Parts.{Marks}
-use Rattle.shr_core.specs.Layout.{row_in, counts_in, bits_in, looks_in, is_row, places_in, length_of, version_of}
-use Rattle.shr_seats.specs.Shapes.{sizes_of}
-use Rattle.shr_core.specs.Rule.{Sound, IsInside, items_now, AreMarks, phases, marks_of, traces_of}
-use Rattle.shr_core.specs.Steps.{Sat, with_count, with_map}
-use Rattle.shr_core.specs.Tells.{counted, mapped}
+use Rattle.shr_core.proofs.Common.{◌≡◌, ℕ, ◌+◌, ◌*◌, ◌/◌, ◌<◌, ◌≤◌, Bool, true, false, cond, List, length, map, set, get_or, sym, refl, ap, subst, ◌∙◌, arith, eq-eqb, ne_eqb, length-append, bit_at, dite, ℕ_discrete, keeps, Allows, Entry, without, Begins, times-without_other, View, Setting, Marks, row_in, counts_in, bits_in, looks_in, is_row, places_in, length_of, version_of, sizes_of, Sound, IsInside, items_now, AreMarks, phases, marks_of, traces_of, Sat, with_count, with_map}
+use Rattle.shr_core.specs.Tells.{count_loaded, mapped}
 use Rattle.shr_core.proofs.Ordering as ordering
 use Rattle.shr_core.proofs.Frames.{here, on_load, lists_stay, rooms_stay, traces_stay, marks_stay, lookups_stay, owned_stay, turns_stay, dated_stay, seats_stay}
 use Rattle.shr_core.proofs.Laying.{inside_is, count_read, bits_read}
@@ -26,7 +12,7 @@ pub begins_le : (xs ys : List Entry) → Begins xs ys → length xs ≤ length y
 begins_le xs ys b = omega (arith, ap (λ (l : List Entry). length l) b.1, length-append xs b.0)
 
 -- a load of a count word is a step that the rule allows
-pub counts : (key : Setting) (n id : ℕ) (m : Sat) (k : ℕ) → IsInside key.shape k → m.0.standing.gone ≡ false → Allows (Sound key) n id m (8 * row_in (sizes_of key.shape) k) (λ y. y) (counted key.shape m k)
+pub counts : (key : Setting) (n id : ℕ) (m : Sat) (k : ℕ) → IsInside key.shape k → m.0.standing.gone ≡ false → Allows (Sound key) n id m (8 * row_in (sizes_of key.shape) k) (λ y. y) (count_loaded key.shape m k)
 counts key n id m k inside present s o deep me _ =
     let word : ℕ = 8 * row_in (sizes_of key.shape) k in let found : ℕ = get_or s.words word 0 in let len : ℕ = length_of found in let version : ℕ = version_of found in let v : View = m.0 in let w : View = with_count v k len version in let r = o.rules in let ms : List Marks = map marks_of s.views in
     let sh = o.sized.shape in let ids : ℕ = key.shape.ids in let at = here s.views id v me traces_of in

@@ -1,34 +1,9 @@
 -- Steps on lookup words keep the rule.
-use Rattle.std.proofs.Common.{◌≡◌, ◌⊎◌, ℕ, zero, suc, ◌+◌, ◌-◌, ◌*◌, ◌%◌, ◌^◌, ◌<◌, ◌≤◌, ◌≢◌, Bool, true, false, cond, eqb, List, [], ◌∷◌, ◌++◌, map, length, set, get_or, sym, refl, ap, subst, ◌∙◌, ⊎_elim, arith, eq-eqb, ne_eqb, lt-ltb, le-ltb, get_or-set_same, get_or-set_other}
-use Rattle.std.proofs.lemmas.Option.{none-some, same_Some}
+use Rattle.shr_core.proofs.Common.{◌≡◌, ◌⊎◌, ℕ, zero, suc, ◌+◌, ◌-◌, ◌*◌, ◌%◌, ◌^◌, ◌<◌, ◌≤◌, ◌≢◌, Bool, true, false, cond, eqb, List, [], ◌∷◌, ◌++◌, map, length, set, get_or, sym, refl, ap, subst, ◌∙◌, ⊎_elim, arith, eq-eqb, ne_eqb, lt-ltb, le-ltb, get_or-set_same, get_or-set_other, none-some, same_Some, nat_tests, dite, ℕ_discrete, dec_lt, some, get_elem?, State, keeps, Allows, at_map, LookupWord, PoolEntry, HasJournal, phase_of, decl_of, from_of, registrations, decl_at, is_live_decl, lowest_idle, is_free, IsNextPool, phase_of_push, Each, by_seat, total, times, only_no, term_le, terms_le, Each-push, Each-set, View, Slot, Setting, RoomContent, Claims, Event, put_back, counts_in, locks_in, bits_in, looks_in, homes_in, places_in, place_id, above, sizes_of, refs_of, lookups_of, phase_in, decl_in, word_in, IsRoom, Sound, HasLastEnd, HasOwnEnd, Fits, IsRoomAtHome, AreMarks, AreLookupsOf, AreOwned, AreTurns, IsLoaded, met_now, phases, has_room, mark_of, holding_of, marks_of, claims_of, turns_of, is_some_of, only_some, Sat, with_word, with_leave, with_given_up, with_lookup, with_put, put_events, turn_at, undrained, with_phase, MayPhase, in_hand, worded, raise, phase_told, without_id}
 use Rattle.shr_core.proofs.Options.{one_some, is_some_is, only_some_yes, only_some_no}
 use Rattle.std.specs.Prelude.{◌&&◌, Some, None, Option as Maybe}
-use Rattle.std.proofs.lemmas.Bool.Decides.{nat_tests}
-use mathlib.Core.Logic.{dite}
-use native.Mathlib.Decide.{ℕ_discrete, dec_lt}
-use mathlib.Core.Option.{some}
-use lib.ListN.{get_elem?}
-use Rattle.atomic_table.specs.Table.{State, keeps, Allows}
-use Rattle.atomic_table.proofs.Lists.{at_map}
-use Rattle.shr_base.specs.declared.ends.LookupWord.{LookupWord}
-use Rattle.shr_base.specs.declared.journals.PoolEntry.{PoolEntry}
-use Rattle.shr_model.specs.Items.{HasJournal}
-use Rattle.shr_model.specs.Pool.{phase_of, decl_of, from_of, registrations, decl_at, is_live_decl, lowest_idle, lowest_free, is_free, IsNextPool}
-use Rattle.shr_model.proofs.PoolLaws.{phase_of_push}
-use Rattle.shr_seats.specs.Views.{Each}
-use Rattle.shr_seats.specs.Lines.{by_seat}
-use Rattle.shr_seats.specs.Weights.{total, times}
-use Rattle.shr_seats.proofs.Weighing.{only_no, term_le, terms_le, Each-push, Each-set}
-use Rattle.shr_core.specs.declared.view.View.{View}
-use Rattle.shr_core.specs.Slots.{Slot}
-use Rattle.shr_core.specs.declared.setting.Setting.{Setting}
-use Rattle.shr_core.specs.Parts.{Content, Claims, Event, put_back}
-use Rattle.shr_core.specs.Layout.{counts_in, locks_in, bits_in, looks_in, homes_in, places_in, id_of, above}
-use Rattle.shr_seats.specs.Shapes.{sizes_of}
-use Rattle.shr_core.specs.Lookup.{refs_of, lookups_of, phase_in, decl_in, word_in}
-use Rattle.shr_core.specs.Rule.{IsRoom, Sound, HasLastEnd, HasOwnEnd, Fits, Keeps, AreMarks, AreLookupsOf, AreOwned, AreTurns, IsLoaded, met_now, phases, has_room, mark_of, holding_of, marks_of, claims_of, turns_of, is_some_of, only_some}
-use Rattle.shr_core.specs.Steps.{Sat, with_word, with_leave, with_given_up, without_id, with_lookup, with_put, puts_of, turn_at, undrained, with_phase, MayPhase, in_hand}
-use Rattle.shr_core.specs.Tells.{IsOfPool, worded, looked, raise, phase_told}
+use Rattle.shr_model.specs.Pool.{lowest_free}
+use Rattle.shr_core.specs.Tells.{IsOfPool, looked}
 use Rattle.shr_core.proofs.Ordering as ordering
 use Rattle.shr_core.proofs.Frames.{here, on_load, on_look, lists_stay, rooms_stay, traces_stay, marks_stay, turns_stay, dated_stay, seats_stay}
 use Rattle.shr_core.proofs.PoolLengths.{declared_in}
@@ -46,11 +21,11 @@ use Rattle.shr_core.proofs.Turning as turning
 use Rattle.shr_core.proofs.Dating as dating
 use Rattle.shr_core.proofs.Unregistering as unregistering
 
-times-without_id : (k i : ℕ) (xs : List ℕ) → id_of k ≢ i → times k (without_id i xs) ≡ times k xs
+times-without_id : (k i : ℕ) (xs : List ℕ) → place_id k ≢ i → times k (without_id i xs) ≡ times k xs
 times-without_id k i [] n = refl
 times-without_id k i (x ∷ xs) n = let F : Bool → Type 0 = λ b. times k (cond b (without_id i xs) (x ∷ without_id i xs)) ≡ times k (x ∷ xs) in
-    dite (ℕ_discrete (id_of x) i) (λ e. subst F (sym (eq-eqb (id_of x) i e)) (omega (arith, only_no k x (λ d. n (ap id_of (sym d) ∙ e)), times-without_id k i xs n)))
-    (λ m. subst F (sym (ne_eqb (id_of x) i m)) (omega (arith, times-without_id k i xs n)))
+    dite (ℕ_discrete (place_id x) i) (λ e. subst F (sym (eq-eqb (place_id x) i e)) (omega (arith, only_no k x (λ d. n (ap place_id (sym d) ∙ e)), times-without_id k i xs n)))
+    (λ m. subst F (sym (ne_eqb (place_id x) i m)) (omega (arith, times-without_id k i xs n)))
 
 both : (a : Bool) (b y : ℕ) → (a && eqb b y) ≡ true → (a ≡ true) × (b ≡ y)
 both a b y is = (grind (arith, nat_tests), grind (arith, nat_tests))
@@ -91,7 +66,7 @@ module _ (key : Setting) (s : State Slot View) (o : Sound key s) (id i : ℕ) (v
 -- what the word of an id says to a seat
 pub of_pool : (key : Setting) (s : State Slot View) (o : Sound key s) (id i : ℕ) (v : View) → get_elem? s.views id ≡ some v → i < key.shape.ids → IsOfPool key v i (word_in (looks_in s.words i))
 of_pool key s o id i v me near = let mine : 0 < has_room (places_in key.shape.ids) v.holding → (in_hand v (places_in key.shape.ids)).pool ≡ o.pool = λ has.
-    (rooming.mine (IsRoom key.shape) (locks_in (sizes_of key.shape) s.words) (homes_in (sizes_of key.shape) s.homes) (Keeps key.shape o.now o.after o.pool) (Fits key.shape o.now o.after o.pool) (map holding_of s.views) o.rules.roomed id (places_in key.shape.ids) v.holding (here s.views id v me holding_of) has).1.turns refl in record {
+    (rooming.mine (IsRoom key.shape) (locks_in (sizes_of key.shape) s.words) (homes_in (sizes_of key.shape) s.homes) (IsRoomAtHome key.shape o.now o.after o.pool) (Fits key.shape o.now o.after o.pool) (map holding_of s.views) o.rules.roomed id (places_in key.shape.ids) v.holding (here s.views id v me holding_of) has).1.turns refl in record {
       phase = λ has. o.rules.looked.phase i near ∙ ap (phase_of i) (sym (mine has));
       decl = λ has. o.rules.looked.decl i near ∙ ap (decl_of i) (sym (mine has));
       declared = λ some. omega (arith, o.rules.looked.decl i near, declared_in key.shape.ids key.shape.decls i o.pool o.rules.turned.journal (λ z. some (o.rules.looked.phase i near ∙ z)));
@@ -217,8 +192,8 @@ looks key n id m i near present may held probe s o deep me fits =
     )
 
 -- the reference that is given back is that of the id
-put_is : (i : ℕ) (held probe : Maybe ℕ) → ((held ≡ Some i) × (probe ≡ None)) ⊎ ((held ≡ None) × (probe ≡ Some i)) → puts_of held probe ≡ put_back i ∷ []
-put_is i held probe has = ⊎_elim (λ h. ap (λ (x : Maybe ℕ). puts_of x probe) h.0) (λ h. ap (λ (x : Maybe ℕ). puts_of x probe) h.0 ∙ ap (λ (x : Maybe ℕ). puts_of None x) h.1) has
+put_is : (i : ℕ) (held probe : Maybe ℕ) → ((held ≡ Some i) × (probe ≡ None)) ⊎ ((held ≡ None) × (probe ≡ Some i)) → put_events held probe ≡ put_back i ∷ []
+put_is i held probe has = ⊎_elim (λ h. ap (λ (x : Maybe ℕ). put_events x probe) h.0) (λ h. ap (λ (x : Maybe ℕ). put_events x probe) h.0 ∙ ap (λ (x : Maybe ℕ). put_events None x) h.1) has
 
 -- the reference is given back
 pub puts : (key : Setting) (n id : ℕ) (m : Sat) (i : ℕ) → i < key.shape.ids → m.0.standing.gone ≡ false → ((m.0.claims.held ≡ Some i) × (m.0.claims.probe ≡ None)) ⊎ ((m.0.claims.held ≡ None) × (m.0.claims.probe ≡ Some i)) → Allows (Sound key) n id m (8 * i + 3) (λ y. (y + (2 ^ 64 - 1)) % 2 ^ 64) (λ r q. q ≡ (with_put m.0, m.1))
@@ -273,7 +248,7 @@ pub phased : (key : Setting) (n id : ℕ) (m : Sat) (i d k : ℕ) → m.0.standi
 phased key n id m i d k present may is-k s o deep me fits =
     let v : View = m.0 in let found : ℕ = get_or s.words (8 * i + 3) 0 in let word : LookupWord = word_in found in let w : View = with_phase key.shape v i d word in let q = o.rules in let cs : List Claims = map claims_of s.views in let c : Claims = v.claims in let at = here s.views id v me claims_of in let wide = o.wide in
     let near = may.near in let r : ℕ = places_in key.shape.ids in let at-holding = here s.views id v me holding_of in let sh = o.sized.shape in
-    let mine = rooming.mine (IsRoom key.shape) (locks_in (sizes_of key.shape) s.words) (homes_in (sizes_of key.shape) s.homes) (Keeps key.shape o.now o.after o.pool) (Fits key.shape o.now o.after o.pool) (map holding_of s.views) q.roomed id r v.holding at-holding may.room in
+    let mine = rooming.mine (IsRoom key.shape) (locks_in (sizes_of key.shape) s.words) (homes_in (sizes_of key.shape) s.homes) (IsRoomAtHome key.shape o.now o.after o.pool) (Fits key.shape o.now o.after o.pool) (map holding_of s.views) q.roomed id r v.holding at-holding may.room in
     let in-pool : (in_hand v r).pool ≡ o.pool = mine.1.turns refl in
     let e : PoolEntry = turn_at i d word in let pool' : List PoolEntry = o.pool ++ e ∷ [] in
     let phase : word.phase ≡ phase_of i o.pool = q.looked.phase i near in let decl : word.decl ≡ decl_of i o.pool = q.looked.decl i near in
@@ -304,27 +279,27 @@ phased key n id m i d k present may is-k s o deep me fits =
     (λ z. (may-now.4 (omega (arith, z, phase))).0) becomes
     (ap (λ (l : List PoolEntry). v.turns.made ++ record { number = length l; entry = e } ∷ []) in-pool) o.ended in
     let owned-now : AreOwned key.shape o.now o.after pool' (set cs id w.claims) = owning.phases key.shape o.now o.after o.pool cs id i d word c w.claims at near (sym phase) (λ z. may-now.2 (omega (arith, z, phase))) (λ z. let two : phase_of i o.pool % 3 ≡ 2 = omega (arith, z, phase) in let t = may-now.4 two in (t.0, t.1, may-now.5 two)) becomes refl q.owned in
-    let empty : word.phase % 3 ≡ 2 → (x : ℕ) → id_of x ≡ i → HasJournal (o.now x) [] = λ two x own. subst (HasJournal (o.now x))
+    let empty : word.phase % 3 ≡ 2 → (x : ℕ) → place_id x ≡ i → HasJournal (o.now x) [] = λ two x own. subst (HasJournal (o.now x))
     (owned-now.resting x (omega (arith, own, near)) (omega (arith, two, phase, phase_of_push i o.pool e, turn_here i d word, ap (λ z. phase_of z pool') own)))
     (listing.journal_here key.shape.parents.items o.now o.after (map holding_of s.views) q.listed x) in
-    let content : Content = record (in_hand v r) { pool = (in_hand v r).pool ++ e ∷ [] } in (
+    let content : RoomContent = record (in_hand v r) { pool = (in_hand v r).pool ++ e ∷ [] } in (
       w,
       keeps,
       tt,
       on_look key s o id w present pool' ended-now i new (ordering.phases key.shape.ids key.first_lookup o.now o.pool (bits_in (sizes_of key.shape) s.words) (looks_in s.words) s.views id v me present o.ordered look' w i d word (in_hand v r).pool near refl refl refl in-pool refl (ap lookups_of is ∙ f.lookups_is) (ap refs_of is ∙ f.refs_is) (look_else s.words i new inside) empty
           (λ two. ordering.unused key.shape.ids key.first_lookup o.now o.pool (bits_in (sizes_of key.shape) s.words) (looks_in s.words) s.views id v me present o.ordered i (none-held (omega (arith, two, phase))))) record {
             counted = q.counted;
-            roomed = rooming.refits (IsRoom key.shape) (locks_in (sizes_of key.shape) s.words) (homes_in (sizes_of key.shape) s.homes) (Keeps key.shape o.now o.after o.pool) (Keeps key.shape o.now o.after pool') (Fits key.shape o.now o.after o.pool) (Fits key.shape o.now o.after pool') (map holding_of s.views) id r v.holding.half v.holding content at-holding may.room
+            roomed = rooming.refits (IsRoom key.shape) (locks_in (sizes_of key.shape) s.words) (homes_in (sizes_of key.shape) s.homes) (IsRoomAtHome key.shape o.now o.after o.pool) (IsRoomAtHome key.shape o.now o.after pool') (Fits key.shape o.now o.after o.pool) (Fits key.shape o.now o.after pool') (map holding_of s.views) id r v.holding.half v.holding content at-holding may.room
                 (record { entries = λ l. absurd (omega (arith, l)); items = λ l. absurd (omega (arith, l)); most_items = λ l. absurd (omega (arith, l)); most_entries = λ l. absurd (omega (arith, l)); turns = λ _. ap (λ (l : List PoolEntry). l ++ e ∷ []) in-pool })
                 (λ x c ne fit. record { entries = fit.entries; items = fit.items; most_items = fit.most_items; most_entries = fit.most_entries; turns = λ at-pool. absurd (ne at-pool) })
                 (λ x c ne kept. record { fits = record { entries = kept.fits.entries; items = kept.fits.items; most_items = kept.fits.most_items; most_entries = kept.fits.most_entries; turns = λ at-pool. absurd (ne at-pool) }; spare = λ at-pool. absurd (ne at-pool) }) q.roomed;
             listed = listing.rooms_change key.shape.parents.items o.now o.after (map holding_of s.views) id v.holding w.holding at-holding refl (λ x half h. (omega (arith, h.own, rooming.content_rooms r x content v.holding.hands), omega (arith, h.parent, rooming.content_rooms r (above key.shape.parents.items x) content v.holding.hands))) q.listed;
             traced = traces_stay key s o id v me;
             marked = marking.turns key.shape.ids (counts_in (sizes_of key.shape) s.words) (bits_in (sizes_of key.shape) s.words) (phases o.pool) (phases pool') (set (map marks_of s.views) id v.marks)
-                (λ x inside live some-items. dite (ℕ_discrete (id_of x) i)
-                (λ y. let zero : phase_of (id_of x) o.pool % 3 ≡ 0 = omega (arith, live, phase_of_push i o.pool e, turn_here i d word, ap (λ z. phase_of z pool') y, ap (λ z. phase_of z o.pool) y) in
+                (λ x inside live some-items. dite (ℕ_discrete (place_id x) i)
+                (λ y. let zero : phase_of (place_id x) o.pool % 3 ≡ 0 = omega (arith, live, phase_of_push i o.pool e, turn_here i d word, ap (λ z. phase_of z pool') y, ap (λ z. phase_of z o.pool) y) in
                 absurd (omega (arith, some-items, q.counted.is x inside, ap (λ l. length l) (q.owned.resting x inside zero))))
-                (λ n. omega (arith, live, phase_of_push (id_of x) o.pool e, turn_else i (id_of x) d word n)))
+                (λ n. omega (arith, live, phase_of_push (place_id x) o.pool e, turn_else i (place_id x) d word n)))
                 (marks_stay key s o id v me);
             looked = claiming.phases key.shape.ids key.first_lookup (looks_in s.words) look' o.pool cs id i d w.claims.owner w.claims.quiet w.claims.drained c word at near none-held may-now.3 refl refl (ap refs_of is ∙ f.refs_is) (ap lookups_of is ∙ f.lookups_is) (ap phase_in is ∙ f.phase_is) (ap decl_in is ∙ f.decl_is) (look_else s.words i new inside) q.looked;
             owned = owned-now;

@@ -1,33 +1,7 @@
 -- The table at the start meets the rule.
-use Rattle.std.proofs.Common.{◌≡◌, ◌⊎◌, ℕ, zero, suc, ◌+◌, ◌*◌, ◌%◌, ◌^◌, ◌<◌, ◌≢◌, true, false, List, [], ◌∷◌, ◌++◌, length, get_or, sym, refl, subst, ◌∙◌, inl, arith, length-append, ap}
-use Rattle.std.specs.Prelude.{Some, None}
-use Rattle.std.proofs.lemmas.Option.{none-some}
-use Rattle.std.specs.Int.{bit_at}
-use Rattle.std.proofs.lemmas.List.{length-map}
+use Rattle.shr_core.proofs.Common.{◌≡◌, ◌⊎◌, ℕ, zero, suc, ◌+◌, ◌*◌, ◌%◌, ◌^◌, ◌<◌, ◌≢◌, true, false, List, [], ◌∷◌, ◌++◌, length, get_or, sym, refl, subst, ◌∙◌, inl, arith, length-append, ap, Some, None, none-some, bit_at, length-map, dite, ℕ_discrete, dec_lt, some, get_elem?, opening, at_map, PoolEntry, decl_of, last_number, from_of, Each, Begins, Each-one, Each-none, View, Slot, Setting, Hand, Traces, Marks, Claims, Turns, row_in, counts_in, locks_in, bits_in, looks_in, places_in, rooms_in, words_in, map_of, place_bit, sizes_of, IsShape, lookups_of, AreFreshRooms, AreFirstWords, HasOwnEnd, Sound, IsRoom, Fits, AreInHand, IsMade, IsKnown, IsSeen, IsMapped, IsShown, HasOnlyIds, IsTried, IsLoaded, IsHeld, IsOwner, IsTurn, IsDated, Journals, Histories, opener, spent, met_now, Sizes, ended_none, dying_none, IsPoolJournal_none, AreSeats-first}
 use Rattle.std.proofs.lemmas.Nat.Bits.{bit_at-zero}
-use mathlib.Core.Logic.{dite}
-use native.Mathlib.Decide.{ℕ_discrete, dec_lt}
-use mathlib.Core.Option.{some}
-use lib.ListN.{get_elem?}
-use Rattle.atomic_table.specs.Table.{opening}
-use Rattle.atomic_table.proofs.Lists.{at_map}
-use Rattle.shr_base.specs.declared.journals.PoolEntry.{PoolEntry}
-use Rattle.shr_model.specs.Pool.{phase_of, decl_of, decl_from, last_number, number_from, from_of, from_from, registrations, decl_at}
-use Rattle.shr_model.proofs.PoolLaws.{ended_none, dying_none, IsPoolJournal_none}
-use Rattle.shr_seats.specs.Views.{Each}
-use Rattle.shr_seats.specs.Weights.{Begins}
-use Rattle.shr_seats.proofs.Seating.{AreSeats-first}
-use Rattle.shr_seats.proofs.Weighing.{Each-one, Each-none}
-use Rattle.shr_core.specs.declared.view.View.{View}
-use Rattle.shr_core.specs.Slots.{Slot}
-use Rattle.shr_core.specs.declared.setting.Setting.{Setting}
-use Rattle.shr_core.specs.Parts.{Hand, Traces, Marks, Claims, Turns}
-use Rattle.shr_core.specs.Layout.{row_in, counts_in, locks_in, bits_in, looks_in, places_in, rooms_in, words_in, map_of, bit_of}
-use Rattle.shr_seats.specs.Shapes.{sizes_of, IsShape}
-use Rattle.shr_core.specs.Lookup.{lookups_of}
-use Rattle.shr_core.specs.Opening.{AreFresh, AreFirstWords}
-use Rattle.shr_core.specs.Rule.{HasOwnEnd, Sound, IsRoom, Fits, AreInHand, IsMade, IsKnown, IsSeen, IsMapped, IsShown, HasOnlyIds, IsTried, IsLoaded, IsHeld, IsOwner, IsTurn, IsDated, Journals, Histories, opener, spent, met_now}
-use Rattle.shr_seats.specs.declared.rows.Sizes.{Sizes}
+use Rattle.shr_model.specs.Pool.{phase_of, decl_from, number_from, from_from, registrations, decl_at}
 use Rattle.shr_core.proofs.Ordering as ordering
 use Rattle.shr_core.proofs.Laying.{count_none, lock_none, bits_none, look_low, room_low}
 use Rattle.shr_core.proofs.Claiming.{between_none}
@@ -64,7 +38,7 @@ not_third : (row : ℕ) → (8 * row % 8 ≢ 3) × ((8 * row + 1) % 8 ≢ 3) × 
 not_third row = ((λ e. absurd (omega (arith, e))), (λ e. absurd (omega (arith, e))), λ e. absurd (omega (arith, e)))
 
 -- a new core meets the rule
-pub opens : (key : Setting) (ws : List ℕ) (slots : List Slot) → IsShape key.shape → key.first_lookup < 2 ^ 32 → length ws ≡ words_in (sizes_of key.shape) → length slots ≡ rooms_in (sizes_of key.shape) → AreFirstWords key.first_lookup ws → AreFresh key.shape.most_items key.shape.most_entries slots
+pub opens : (key : Setting) (ws : List ℕ) (slots : List Slot) → IsShape key.shape → key.first_lookup < 2 ^ 32 → length ws ≡ words_in (sizes_of key.shape) → length slots ≡ rooms_in (sizes_of key.shape) → AreFirstWords key.first_lookup ws → AreFreshRooms key.shape.most_items key.shape.most_entries slots
     → Sound key (opening ws slots opener)
 opens key ws slots shape small wide deep words fresh =
     let now : Journals = λ _. [] in let after : Histories = λ _ _. [] in let ids : ℕ = key.shape.ids in
@@ -108,7 +82,7 @@ opens key ws slots shape small wide deep words fresh =
           flagged = λ k near below live some-items. absurd (omega (arith, some-items, count k));
           settled = λ k near some-set none-cleared. absurd (omega arith);
           mapped = Each-one (λ (m : Marks). Each (IsMapped (places_in ids) (opener.marks ∷ [])) m.maps) opener.marks (Each-none (IsMapped (places_in ids) (opener.marks ∷ [])));
-          raised = λ k near is-one. absurd (no_bit (bit_of k) (subst (λ (x : ℕ). bit_at x (bit_of k) ≡ 1) (bits (map_of k)) is-one));
+          raised = λ k near is-one. absurd (no_bit (place_bit k) (subst (λ (x : ℕ). bit_at x (place_bit k) ≡ 1) (bits (map_of k)) is-one));
           shown = Each-one (λ (m : Marks). Each (IsShown (places_in ids) (opener.marks ∷ [])) m.maps) opener.marks (Each-none (IsShown (places_in ids) (opener.marks ∷ [])));
           none_else = λ m b near low is-one. absurd (no_bit b (subst (λ (x : ℕ). bit_at x b ≡ 1) (bits m) is-one));
           none_shown = Each-one (λ (m : Marks). Each (HasOnlyIds ids) m.maps) opener.marks (Each-none (HasOnlyIds ids));

@@ -1,11 +1,5 @@
 -- What an Option is, and its weight in a sum: 1 where it is Some of one number, and else 0.
-use Rattle.std.proofs.Common.{◌≡◌, ℕ, ◌<◌, refl, ap, ◌∙◌, arith, sym, true, false, eq-eqb, ne_eqb, cond, ◌≤◌}
-use Rattle.std.specs.Prelude.{Option, Some, None}
-use Rattle.std.proofs.lemmas.Option.{none-some, same_Some}
-use mathlib.Core.Logic.{dite}
-use native.Mathlib.Decide.{ℕ_discrete}
-use Rattle.shr_seats.proofs.Weighing.{only_yes, only_no}
-use Rattle.shr_core.specs.Rule.{only_some, is_some_of}
+use Rattle.shr_core.proofs.Common.{◌≡◌, ℕ, ◌<◌, refl, ap, ◌∙◌, arith, sym, true, false, eq-eqb, ne_eqb, cond, ◌≤◌, Option, Some, None, none-some, same_Some, dite, ℕ_discrete, only_yes, only_no, only_some, is_some_of}
 
 -- it is Some of k or it is not
 pub some_or_not : (k : ℕ) (o : Option ℕ) → Dec (o ≡ Some k)

@@ -1,22 +1,8 @@
 -- Orders of events at known values, and stories that no order tells.
-use Rattle.std.proofs.Common.{Bool, true, cond, sym, subst, arith, eq-eqb, ne_eqb}
-use mathlib.Core.Logic.{dite}
-use native.Mathlib.Decide.{ℕ_discrete}
-use Rattle.std.specs.Prelude.{◌≡◌, ℕ, ◌<◌, List, [], ◌∷◌, ◌++◌, Some, None, refl}
-use mathlib.Core.Option.{some}
-use lib.ListN.{get_elem?}
-use Rattle.shr_base.specs.declared.journals.Entry.TheVariants.{Add, Closed, Drained}
-use Rattle.shr_base.specs.declared.journals.PoolEntry.TheVariants.{Registered, Unregistered, Idle}
-use Rattle.shr_base.specs.declared.places.Serial.{Serial}
-use Rattle.shr_model.specs.Items.{HasJournal, items_from}
-use Rattle.shr_model.specs.Objects.{fresh}
+use Rattle.shr_core.proofs.Common.{Bool, true, cond, sym, subst, arith, eq-eqb, ne_eqb, dite, ℕ_discrete, ◌≡◌, ℕ, ◌<◌, List, [], ◌∷◌, ◌++◌, Some, None, refl, some, get_elem?, Add, Closed, Drained, Registered, Unregistered, Idle, Serial, HasJournal, fresh, Deed, Event, counted, made, looked, loaded, turned, put_back, raised, cleared, mapped, place_id, AreEvents, AreOwn, last_moment, entries, lookups, AreInUse}
+use Rattle.shr_model.specs.Items.{items_from}
 use Rattle.shr_model.specs.Pool.{phase_of}
 use Rattle.shr_model.proofs.ItemsLaws.{HasJournal_push, HasJournal_none}
-use Rattle.shr_seats.specs.Lines.{Deed}
-use Rattle.shr_core.specs.Parts.{Event, counted, made, looked, loaded, loaded, turned, put_back, raised, cleared, mapped}
-use Rattle.shr_core.specs.Layout.{id_of}
-use Rattle.shr_core.specs.Order.{AreEvents, AreOwn, AreInUse, last_moment}
-use Rattle.shr_core.specs.Ranks.{entries, lookups}
 use Rattle.shr_core.proofs.Ranking.{by_numbers}
 use Rattle.shr_core.proofs.References.{given_back}
 
@@ -102,7 +88,7 @@ module _ (by : Serial) (value : List ℕ) where
   filled : HasJournal (Add by 0 true [] value ∷ []) (fresh by 0 [] value ∷ [])
   filled = HasJournal_push [] [] (Add by 0 true [] value) (fresh by 0 [] value ∷ []) HasJournal_none refl (λ moved. (refl, refl))
 
-  rests : (k : ℕ) → id_of k ≡ 0 → HasJournal ((last_moment 0 (deed 0 begin ∷ deed 0 add ∷ deed 0 end ∷ deed 0 drain ∷ [])).now k) []
+  rests : (k : ℕ) → place_id k ≡ 0 → HasJournal ((last_moment 0 (deed 0 begin ∷ deed 0 add ∷ deed 0 end ∷ deed 0 drain ∷ [])).now k) []
   rests k own = let F : Bool → Type 0 = λ b. HasJournal (cond b (cond b (Add by 0 true [] value ∷ []) [] ++ Drained by 1 ∷ []) (cond b (Add by 0 true [] value ∷ []) [])) [] in dite (ℕ_discrete k 0)
       (λ e. subst F (sym (eq-eqb k 0 e)) (HasJournal_push (Add by 0 true [] value ∷ []) (fresh by 0 [] value ∷ []) (Drained by 1) [] filled refl (λ moved. (refl, refl))))
       (λ n. subst F (sym (ne_eqb k 0 n)) HasJournal_none)

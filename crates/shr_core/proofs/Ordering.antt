@@ -1,28 +1,6 @@
 -- The order of all events while seats do more, are split and are joined, on plain data.
-use Rattle.std.proofs.Common.{◌≡◌, ◌⊎◌, ℕ, zero, suc, ◌+◌, ◌-◌, ◌%◌, ◌<◌, ◌≤◌, ◌≢◌, Bool, true, false, cond, eqb, List, [], ◌∷◌, ◌++◌, map, length, set, sym, refl, ap, subst, ◌∙◌, ⊎_elim, inl, inr, arith, eq-eqb, ne_eqb, length-set, length-append}
+use Rattle.shr_core.proofs.Common.{◌≡◌, ◌⊎◌, ℕ, zero, suc, ◌+◌, ◌-◌, ◌%◌, ◌<◌, ◌≤◌, ◌≢◌, Bool, true, false, cond, eqb, List, [], ◌∷◌, ◌++◌, map, length, set, sym, refl, ap, subst, ◌∙◌, ⊎_elim, inl, inr, arith, eq-eqb, ne_eqb, length-set, length-append, bit_at, dite, ℕ_discrete, dec_lt, some, some-injective, some-ne-none, get_elem?, at_set, at_map, LookupWord, Entry, PoolEntry, HasJournal, phase_of, decl_of, is_live, Deed, total, only, times, without, only_yes, only_no, term_le, total-append, times-push_same, times-push_other, times-without_same, times-without_other, state_after_push, View, Claims, Event, Counted, Made, Mapped, counted, made, looked, loaded, turned, put_back, raised, cleared, mapped, places_in, place_id, map_of, place_bit, refs_of, lookups_of, opener, spent, claims_of, only_some, Moment, at_start, moment_after, moment_next, IsDrawnAt, IsTimely, IsSo, last_moment, IsMoment, Holders, no_holders, holders_after, holders_next, IsOwn, users_after, users_next, last_users, IsMadeInUse, ids_of, stands_at, did_in, AreOrdered, noted, turn_at, with_one_split, split_off, with_joined, AreSo-push, lined_keep, lined_do, lined_split, lined_join, lined_first, LeavesNothing, last_holders, IsOutOfUse, IsInUse, references_of}
 use Rattle.std.specs.Prelude.{Some, None, Option as Maybe}
-use Rattle.std.specs.Int.{bit_at}
-use mathlib.Core.Logic.{dite}
-use native.Mathlib.Decide.{ℕ_discrete, dec_lt}
-use mathlib.Core.Option.{some, some-injective, some-ne-none}
-use lib.ListN.{get_elem?}
-use Rattle.atomic_table.proofs.Lists.{at_set, at_map}
-use Rattle.shr_base.specs.declared.ends.LookupWord.{LookupWord}
-use Rattle.shr_base.specs.declared.journals.Entry.{Entry}
-use Rattle.shr_base.specs.declared.journals.PoolEntry.{PoolEntry}
-use Rattle.shr_model.specs.Items.{HasJournal}
-use Rattle.shr_model.specs.Pool.{phase_of, decl_of, is_live}
-use Rattle.shr_seats.specs.Lines.{Deed}
-use Rattle.shr_seats.specs.Weights.{total, only, times, without}
-use Rattle.shr_seats.proofs.Weighing.{only_yes, only_no, term_le, total-append, times-push_same, times-push_other, times-without_same, times-without_other}
-use Rattle.shr_seats.proofs.Lining.{state_after_push, AreSo-push, lined_keep, lined_do, lined_split, lined_join, lined_first}
-use Rattle.shr_core.specs.declared.view.View.{View}
-use Rattle.shr_core.specs.Parts.{Claims, Event, Counted, Made, Mapped, counted, made, looked, loaded, turned, put_back, raised, cleared, mapped}
-use Rattle.shr_core.specs.Layout.{places_in, id_of, map_of, bit_of}
-use Rattle.shr_core.specs.Lookup.{refs_of, lookups_of}
-use Rattle.shr_core.specs.Rule.{opener, spent, claims_of, only_some}
-use Rattle.shr_core.specs.Order.{Moment, at_start, moment_after, moment_next, IsDrawnAt, LeavesNothing, IsTimely, IsSo, last_moment, IsMoment, Holders, no_holders, holders_after, holders_next, IsOwn, last_holders, users_after, users_next, last_users, IsMadeInUse, IsOutOfUse, IsInUse, ids_of, references_of, stands_at, did_in, AreOrdered}
-use Rattle.shr_core.specs.Steps.{noted, turn_at, with_one_split, split_off, joined}
 use Rattle.shr_core.proofs.Marking.{OnlyAt, elsewhere}
 use Rattle.shr_core.proofs.Claiming.{by_phase}
 use Rattle.shr_core.proofs.Uses.{users_else, users_looked, users_put, nowhere}
@@ -191,11 +169,11 @@ module _ (ids first : ℕ) (now : ℕ → List Entry) (pool : List PoolEntry) (b
   -- a bit word was loaded
   pub maps : (w : View) (x : Mapped) → w.seat ≡ v.seat → w.did ≡ noted v (mapped x) → refs_in w ≡ refs_in v → x.bits ≡ bits x.map → AreOrdered ids first now pool bits look (set views id w)
   maps w x same did refs read = does now pool bits look w (mapped x) same did
-      (λ t is k inside at. ap (λ (y : ℕ). bit_at y (bit_of k)) (read ∙ ap bits (sym at)) ∙ sym (is.flags k inside)) (λ t is. is) (λ h mine. tt) (same_mine w refs) tt (same_used w refs)
+      (λ t is k inside at. ap (λ (y : ℕ). bit_at y (place_bit k)) (read ∙ ap bits (sym at)) ∙ sym (is.flags k inside)) (λ t is. is) (λ h mine. tt) (same_mine w refs) tt (same_used w refs)
 
   -- a count with one entry more was stored
   pub makes : (now' : ℕ → List Entry) (w : View) (x : Made) → w.seat ≡ v.seat → w.did ≡ noted v (made x) → refs_in w ≡ refs_in v → x.number ≡ length (now x.place) → now' x.place ≡ now x.place ++ x.entry ∷ [] → ((j : ℕ) → j ≢ x.place → now' j ≡ now j)
-      → ((t : Moment) → t.pool ≡ pool → IsTimely t (id_of x.place) x.entry) → IsMadeInUse (last_users o.line) id (id_of x.place) x.entry → AreOrdered ids first now' pool bits look (set views id w)
+      → ((t : Moment) → t.pool ≡ pool → IsTimely t (place_id x.place) x.entry) → IsMadeInUse (last_users o.line) id (place_id x.place) x.entry → AreOrdered ids first now' pool bits look (set views id w)
   makes now' w x same did refs number gains others timely used-now = does now' pool bits look w (made x) same did (λ t is. (number ∙ ap (λ (l : List Entry). length l) (sym (is.journals x.place)), timely t is.registrations))
       (λ t is. record {
         journals = λ j. dite (ℕ_discrete j x.place)
@@ -251,7 +229,7 @@ module _ (ids first : ℕ) (now : ℕ → List Entry) (pool : List PoolEntry) (b
 
   -- the phase of an id rose
   pub phases : (look' : ℕ → ℕ) (w : View) (i d : ℕ) (word : LookupWord) (had : List PoolEntry) → i < ids → w.seat ≡ v.seat → w.did ≡ noted v (turned (record { number = length had; entry = turn_at i d word })) → refs_in w ≡ refs_in v → had ≡ pool → word.lookups ≡ lookups_of (look i)
-      → lookups_of (look' i) ≡ lookups_of (look i) → refs_of (look' i) ≡ refs_of (look i) → ((j : ℕ) → j ≢ i → look' j ≡ look j) → (word.phase % 3 ≡ 2 → (k : ℕ) → id_of k ≡ i → HasJournal (now k) []) → (word.phase % 3 ≡ 2 → last_users o.line i ≡ [])
+      → lookups_of (look' i) ≡ lookups_of (look i) → refs_of (look' i) ≡ refs_of (look i) → ((j : ℕ) → j ≢ i → look' j ≡ look j) → (word.phase % 3 ≡ 2 → (k : ℕ) → place_id k ≡ i → HasJournal (now k) []) → (word.phase % 3 ≡ 2 → last_users o.line i ≡ [])
       → AreOrdered ids first now (pool ++ turn_at i d word ∷ []) bits look' (set views id w)
   phases look' w i d word had near same did refs is-had lookups kept shown others empty none = does now (pool ++ turn_at i d word ∷ []) bits look' w (turned (record { number = length had; entry = turn_at i d word })) same did
       (λ t is. (
@@ -268,26 +246,26 @@ module _ (ids first : ℕ) (now : ℕ → List Entry) (pool : List PoolEntry) (b
       }) (λ h mine. tt) (same_mine w refs) (by_phase (IsOutOfUse (last_users o.line)) i d word (λ _. tt) (λ _. tt) none) (same_used w refs)
 
   -- a bit was set
-  pub sets : (bits' : ℕ → ℕ) (w : View) (k : ℕ) → w.seat ≡ v.seat → w.did ≡ noted v (raised k) → refs_in w ≡ refs_in v → OnlyAt (places_in ids) k bits bits' → bit_at (bits' (map_of k)) (bit_of k) ≡ 1 → AreOrdered ids first now pool bits' look (set views id w)
+  pub sets : (bits' : ℕ → ℕ) (w : View) (k : ℕ) → w.seat ≡ v.seat → w.did ≡ noted v (raised k) → refs_in w ≡ refs_in v → OnlyAt (places_in ids) k bits bits' → bit_at (bits' (map_of k)) (place_bit k) ≡ 1 → AreOrdered ids first now pool bits' look (set views id w)
   sets bits' w k same did refs only is-set = does now pool bits' look w (raised k) same did (λ t is. tt) (λ t is. record {
     journals = is.journals;
     registrations = is.registrations;
     lookups = is.lookups;
     references = is.references;
     flags = λ j inside. dite (ℕ_discrete j k)
-        (λ (e : j ≡ k). ap (λ b. cond b 1 (t.bits j)) (eq-eqb j k e) ∙ subst (λ (y : ℕ). 1 ≡ bit_at (bits' (map_of y)) (bit_of y)) (sym e) (sym is-set))
+        (λ (e : j ≡ k). ap (λ b. cond b 1 (t.bits j)) (eq-eqb j k e) ∙ subst (λ (y : ℕ). 1 ≡ bit_at (bits' (map_of y)) (place_bit y)) (sym e) (sym is-set))
         (λ n. ap (λ b. cond b 1 (t.bits j)) (ne_eqb j k n) ∙ (is.flags j inside ∙ sym (elsewhere ids k bits bits' only j inside n)));
   }) (λ h mine. tt) (same_mine w refs) tt (same_used w refs)
 
   -- a bit was cleared
-  pub clears : (bits' : ℕ → ℕ) (w : View) (k : ℕ) → w.seat ≡ v.seat → w.did ≡ noted v (cleared k) → refs_in w ≡ refs_in v → OnlyAt (places_in ids) k bits bits' → bit_at (bits' (map_of k)) (bit_of k) ≡ 0 → AreOrdered ids first now pool bits' look (set views id w)
+  pub clears : (bits' : ℕ → ℕ) (w : View) (k : ℕ) → w.seat ≡ v.seat → w.did ≡ noted v (cleared k) → refs_in w ≡ refs_in v → OnlyAt (places_in ids) k bits bits' → bit_at (bits' (map_of k)) (place_bit k) ≡ 0 → AreOrdered ids first now pool bits' look (set views id w)
   clears bits' w k same did refs only is-clear = does now pool bits' look w (cleared k) same did (λ t is. tt) (λ t is. record {
     journals = is.journals;
     registrations = is.registrations;
     lookups = is.lookups;
     references = is.references;
     flags = λ j inside. dite (ℕ_discrete j k)
-        (λ (e : j ≡ k). ap (λ b. cond b 0 (t.bits j)) (eq-eqb j k e) ∙ subst (λ (y : ℕ). 0 ≡ bit_at (bits' (map_of y)) (bit_of y)) (sym e) (sym is-clear))
+        (λ (e : j ≡ k). ap (λ b. cond b 0 (t.bits j)) (eq-eqb j k e) ∙ subst (λ (y : ℕ). 0 ≡ bit_at (bits' (map_of y)) (place_bit y)) (sym e) (sym is-clear))
         (λ n. ap (λ b. cond b 0 (t.bits j)) (ne_eqb j k n) ∙ (is.flags j inside ∙ sym (elsewhere ids k bits bits' only j inside n)));
   }) (λ h mine. tt) (same_mine w refs) tt (same_used w refs)
 
@@ -317,28 +295,28 @@ module _ (ids first : ℕ) (now : ℕ → List Entry) (pool : List PoolEntry) (b
   }
 
   -- another seat is joined into this one
-  pub joins : (other : ℕ) (u : View) → other ≢ id → get_elem? views other ≡ some u → u.standing.gone ≡ false → references_of u ≡ [] → AreOrdered ids first now pool bits look (set (set views id (joined v u)) other spent)
+  pub joins : (other : ℕ) (u : View) → other ≢ id → get_elem? views other ≡ some u → u.standing.gone ≡ false → references_of u ≡ [] → AreOrdered ids first now pool bits look (set (set views id (with_joined v u)) other spent)
   joins other u apart them there free = record {
     line = o.line;
-    lined = lined_join stands_at did_in views id v me present o.line o.lined other u (joined v u) spent apart them there refl refl refl;
+    lined = lined_join stands_at did_in views id v me present o.line o.lined other u (with_joined v u) spent apart them there refl refl refl;
     events = o.events;
     ends = o.ends;
     named = λ i x at here. ⊎_elim
         (λ (g : (i ≡ other) × (spent ≡ x)). absurd (gone_here x (ap (λ (y : View). y.standing.gone) (sym g.1)) here))
-        (λ (g : (i ≢ other) × (get_elem? (set views id (joined v u)) i ≡ some x)). named_still (joined v u) refl i x g.1 here)
-        (at_set (set views id (joined v u)) other i spent x at);
+        (λ (g : (i ≢ other) × (get_elem? (set views id (with_joined v u)) i ≡ some x)). named_still (with_joined v u) refl i x g.1 here)
+        (at_set (set views id (with_joined v u)) other i spent x at);
     own = o.own;
     held = λ j x at i. ⊎_elim
         (λ (g : (j ≡ other) × (spent ≡ x)). ap (λ (n : ℕ). times n (last_holders o.line i)) g.0 ∙ (o.held other u them i ∙ (ap (times i) free ∙ ap (λ (y : View). times i (references_of y)) g.1)))
-        (λ (g : (j ≢ other) × (get_elem? (set views id (joined v u)) j ≡ some x)). refs_now (last_holders o.line) (joined v u) (o.held id v me) (λ k n q. refl) j x g.1 i)
-        (at_set (set views id (joined v u)) other j spent x at);
-    none_else = λ j far i. o.none_else j (omega (arith, far, length-set (set views id (joined v u)) other spent, length-set views id (joined v u))) i;
+        (λ (g : (j ≢ other) × (get_elem? (set views id (with_joined v u)) j ≡ some x)). refs_now (last_holders o.line) (with_joined v u) (o.held id v me) (λ k n q. refl) j x g.1 i)
+        (at_set (set views id (with_joined v u)) other j spent x at);
+    none_else = λ j far i. o.none_else j (omega (arith, far, length-set (set views id (with_joined v u)) other spent, length-set views id (with_joined v u))) i;
     uses = o.uses;
     users = λ j x at i. ⊎_elim
         (λ (g : (j ≡ other) × (spent ≡ x)). ap (λ (n : ℕ). times n (last_users o.line i)) g.0 ∙ (o.users other u them i ∙ (none_held u.claims.held u.claims.probe i (ap (times i) free) ∙ ap (λ (y : View). times i (ids_of y.claims.held)) g.1)))
-        (λ (g : (j ≢ other) × (get_elem? (set views id (joined v u)) j ≡ some x)). users_now (last_users o.line) (joined v u) (o.users id v me) (λ k n q. refl) j x g.1 i)
-        (at_set (set views id (joined v u)) other j spent x at);
-    no_user = λ j far i. o.no_user j (omega (arith, far, length-set (set views id (joined v u)) other spent, length-set views id (joined v u))) i;
+        (λ (g : (j ≢ other) × (get_elem? (set views id (with_joined v u)) j ≡ some x)). users_now (last_users o.line) (with_joined v u) (o.users id v me) (λ k n q. refl) j x g.1 i)
+        (at_set (set views id (with_joined v u)) other j spent x at);
+    no_user = λ j far i. o.no_user j (omega (arith, far, length-set (set views id (with_joined v u)) other spent, length-set views id (with_joined v u))) i;
   }
 
 -- the order of a new core
@@ -347,7 +325,7 @@ opens ids first bits look unset begins free = record {
   line = [];
   lined = lined_first stands_at did_in opener refl;
   events = tt;
-  ends = record { journals = λ k. refl; registrations = refl; lookups = λ i near. sym (begins i near); references = λ i near. sym (free i near); flags = λ k inside. sym (unset (map_of k) (bit_of k)) };
+  ends = record { journals = λ k. refl; registrations = refl; lookups = λ i near. sym (begins i near); references = λ i near. sym (free i near); flags = λ k inside. sym (unset (map_of k) (place_bit k)) };
   named = λ i x at here. one i x at;
   own = tt;
   held = λ j x at i. none_yet i j x at;

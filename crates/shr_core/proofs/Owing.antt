@@ -1,8 +1,5 @@
 -- What a call leaves owed.
-use Rattle.std.proofs.Common.{◌≡◌, ◌<◌, ℕ, List, [], ◌∷◌, refl, subst, arith}
-use Rattle.shr_seats.specs.Weights.{times}
-use Rattle.shr_core.specs.declared.view.View.{View}
-use Rattle.shr_core.specs.Gained.{OwesNoMore}
+use Rattle.shr_core.proofs.Common.{◌≡◌, ◌<◌, ℕ, List, [], ◌∷◌, refl, subst, arith, times, View, OwesNoMore}
 
 none_owed : (owed : List ℕ) → ((k : ℕ) → 0 < times k owed → 0 < times k []) → owed ≡ []
 none_owed [] only = refl

@@ -1,26 +1,6 @@
 -- Owned ids and empty lists keep their part of the rule.
-use Rattle.std.proofs.Common.{◌≡◌, ◌⊎◌, ℕ, zero, suc, ◌+◌, ◌%◌, ◌<◌, ◌≤◌, ◌≢◌, Bool, true, false, cond, List, [], ◌∷◌, ◌++◌, length, set, get_or, sym, refl, ap, subst, ◌∙◌, inl, inr, ⊎_elim, arith, length-set, get_or-set_same, get_or-set_other}
+use Rattle.shr_core.proofs.Common.{◌≡◌, ◌⊎◌, ℕ, zero, suc, ◌+◌, ◌%◌, ◌<◌, ◌≤◌, ◌≢◌, Bool, true, false, cond, List, [], ◌∷◌, ◌++◌, length, set, get_or, sym, refl, ap, subst, ◌∙◌, inl, inr, ⊎_elim, arith, length-set, get_or-set_same, get_or-set_other, Some, None, nat_tests, dite, ℕ_discrete, dec_lt, some, get_elem?, at_set, Object, LookupWord, PoolEntry, phase_of, phase_of_push, total, total_same, total-set, total_zero, term_le, terms_le, Each-set, Shape, Claims, group_of, node_of, place_id, AreOwned, IsOwner, IsInside, Journals, Histories, items_now, mark_of, only_some, is_some_of, groups_in, turn_at, undrained, is_drained, drained_after, is_empty}
 use Rattle.shr_core.proofs.Options.{not_some, one_some, is_some_is, only_some_yes, only_some_no, only_none}
-use Rattle.std.specs.Prelude.{Some, None}
-use Rattle.std.proofs.lemmas.Bool.Decides.{nat_tests}
-use mathlib.Core.Logic.{dite}
-use native.Mathlib.Decide.{ℕ_discrete, dec_lt}
-use mathlib.Core.Option.{some}
-use lib.ListN.{get_elem?}
-use Rattle.atomic_table.proofs.Lists.{at_set}
-use Rattle.shr_base.specs.declared.objects.Object.{Object}
-use Rattle.shr_base.specs.declared.ends.LookupWord.{LookupWord}
-use Rattle.shr_base.specs.declared.journals.PoolEntry.{PoolEntry}
-use Rattle.shr_model.specs.Pool.{phase_of}
-use Rattle.shr_model.proofs.PoolLaws.{phase_of_push}
-use Rattle.shr_seats.specs.Weights.{total}
-use Rattle.shr_seats.proofs.Weighing.{total_same, total-set, total_zero, term_le, terms_le, Each-set}
-use Rattle.shr_seats.specs.declared.shape.Shape.{Shape}
-use Rattle.shr_core.specs.Parts.{Claims}
-use Rattle.shr_core.specs.Layout.{group_of, node_of, id_of}
-use Rattle.shr_core.specs.Rule.{AreOwned, IsOwner, IsInside, Journals, Histories, items_now, mark_of, only_some, is_some_of}
-use Rattle.shr_seats.specs.Shapes.{groups_in}
-use Rattle.shr_core.specs.Steps.{turn_at, undrained, is_drained, drained_after, is_empty}
 use Rattle.shr_core.proofs.Claiming.{turn_here, turn_else}
 
 abbrev owns : ℕ → Claims → ℕ
@@ -34,7 +14,7 @@ pub record Owner (shape : Shape) (now : Journals) (after : Histories) (cs : List
   pub quiet : c.quiet ≡ true → total (holds i) cs ≡ 0
   pub nodes : length c.drained ≡ 4
   pub unmoved : c.quiet ≡ false → (node : ℕ) → node < 4 → groups_in shape ≤ mark_of c node
-  pub drained : (k : ℕ) → id_of k ≡ i → mark_of c (node_of k) ≤ group_of k → items_now now after k ≡ []
+  pub drained : (k : ℕ) → place_id k ≡ i → mark_of c (node_of k) ≤ group_of k → items_now now after k ≡ []
 
 -- a Bool is true or false
 true_or_false : {P : Type 0} (b : Bool) → (b ≡ true → P) → (b ≡ false → P) → P
@@ -78,12 +58,12 @@ gives_up shape now after pool cs id c w at none same o = record {
 -- Why a place may have items after a store: the seat holds its id, or there were some at a place
 -- above the same mark
 abbrev pub Grounds : Journals → Histories → Claims → ℕ → Type 0
-Grounds now after c k = (c.held ≡ Some (id_of k)) ⊎ ((q : ℕ) × (id_of q ≡ id_of k) × (node_of q ≡ node_of k) × (group_of k ≤ group_of q) × (items_now now after q ≢ []))
+Grounds now after c k = (c.held ≡ Some (place_id k)) ⊎ ((q : ℕ) × (place_id q ≡ place_id k) × (node_of q ≡ node_of k) × (group_of k ≤ group_of q) × (items_now now after q ≢ []))
 
 -- the journal of the place k changes
 pub stores : (shape : Shape) (now now' : Journals) (after after' : Histories) (pool : List PoolEntry) (cs : List Claims) (id k : ℕ) (c : Claims) → get_elem? cs id ≡ some c → IsInside shape k → shape.nodes ≤ 4
     → ((j : ℕ) → j ≢ k → items_now now' after' j ≡ items_now now after j)
-    → (c.held ≡ Some (id_of k) → phase_of (id_of k) pool % 3 ≢ 0)
+    → (c.held ≡ Some (place_id k) → phase_of (place_id k) pool % 3 ≢ 0)
     → (items_now now' after' k ≡ []) ⊎ Grounds now after c k
     → AreOwned shape now after pool cs → AreOwned shape now' after' pool cs
 stores shape now now' after after' pool cs id k c at inside four others busy why o = record {
@@ -97,7 +77,7 @@ stores shape now now' after after' pool cs id k c at inside four others busy why
     drained = λ q place mark. dite (ℕ_discrete q k)
         (λ s. subst (λ (x : ℕ). items_now now' after' x ≡ []) (sym s) (⊎_elim (λ h. h) (⊎_elim
         (λ h. absurd (true_or_false z.quiet
-        (λ y. omega (arith, d.quiet y, term_le (holds i) cs id c at, only_some_yes i c.held (h ∙ ap (λ (x : ℕ). Some x) (sym (ap id_of s) ∙ place))))
+        (λ y. omega (arith, d.quiet y, term_le (holds i) cs id c at, only_some_yes i c.held (h ∙ ap (λ (x : ℕ). Some x) (sym (ap place_id s) ∙ place))))
         (λ n. let m = d.unmoved n (node_of k) (omega arith) in omega (arith, m, inside.group, mark, s, ap (λ x. mark_of z (node_of x)) s))))
         (λ t. absurd (t.4 (d.drained t.0 (omega (arith, t.1, place, s)) (omega (arith, t.3, mark, s, ap (mark_of z) t.2, ap (λ x. mark_of z (node_of x)) s))))))
         why))
@@ -106,8 +86,8 @@ stores shape now now' after after' pool cs id k c at inside four others busy why
   outside = λ q out. dite (ℕ_discrete q k) (λ s. absurd (⊎_elim (λ h. omega (arith, h, s, inside.group)) (λ h. omega (arith, h, s, inside.node)) out)) (λ n. others q n ∙ o.outside q out);
   resting = λ q near idle. dite (ℕ_discrete q k)
       (λ s. subst (λ (x : ℕ). items_now now' after' x ≡ []) (sym s) (⊎_elim (λ h. h) (⊎_elim
-      (λ h. absurd (busy h (subst (λ (x : ℕ). phase_of (id_of x) pool % 3 ≡ 0) s idle)))
-      (λ t. absurd (t.4 (o.resting t.0 (omega (arith, t.1, near, s)) (ap (λ x. phase_of x pool % 3) (t.1 ∙ ap id_of (sym s)) ∙ idle)))))
+      (λ h. absurd (busy h (subst (λ (x : ℕ). phase_of (place_id x) pool % 3 ≡ 0) s idle)))
+      (λ t. absurd (t.4 (o.resting t.0 (omega (arith, t.1, near, s)) (ap (λ x. phase_of x pool % 3) (t.1 ∙ ap place_id (sym s)) ∙ idle)))))
       why))
       (λ n. others q n ∙ o.resting q near idle);
 }
@@ -121,7 +101,7 @@ pub marks_fall : (shape : Shape) (now : Journals) (after : Histories) (cs : List
 marks_fall shape now after cs c k i items is owner o =
     let P : Bool → Type 0 = λ b. is_drained c k items ≡ b → Owner shape now after cs (record c { drained = cond b (set c.drained (node_of k) (group_of k)) c.drained }) i in
     let all : (b : Bool) → P b = λ b. elim b as P [
-      | true ↦ λ yes. let quiet : c.quiet ≡ true = grind (arith, nat_tests) in let test : is_some_of (id_of k) c.owner ≡ true = grind (arith, nat_tests) in let mine : id_of k ≡ i = one_some (id_of k) i c.owner (is_some_is (id_of k) c.owner test) owner in let mark : mark_of c (node_of k) ≡ group_of k + 1 = grind (arith, nat_tests) in
+      | true ↦ λ yes. let quiet : c.quiet ≡ true = grind (arith, nat_tests) in let test : is_some_of (place_id k) c.owner ≡ true = grind (arith, nat_tests) in let mine : place_id k ≡ i = one_some (place_id k) i c.owner (is_some_is (place_id k) c.owner test) owner in let mark : mark_of c (node_of k) ≡ group_of k + 1 = grind (arith, nat_tests) in
           let none : is_empty items ≡ true = grind (arith, nat_tests) in
           let new : List ℕ = set c.drained (node_of k) (group_of k) in
           let here : get_or new (node_of k) 0 ≡ group_of k = get_or-set_same c.drained (node_of k) (group_of k) 0 (omega (arith, o.nodes)) in record {
@@ -193,8 +173,8 @@ phases shape now after pool cs id i d word c w at near is to_dying to_idle becom
           (λ (g : (j ≢ id) × (get_elem? cs j ≡ some z)). moved j z g.1 (inl g.0) q has z refl refl)
           (at_set cs id j w z f);
       outside = o.outside;
-      resting = λ k inside idle. dite (ℕ_discrete (id_of k) i)
+      resting = λ k inside idle. dite (ℕ_discrete (place_id k) i)
           (λ s. let two : t % 3 ≡ 2 = omega (arith, idle, ap (λ x. phase_of x pool') s, turns-here) in let m = to_idle two in
           dite (dec_lt (node_of k) shape.nodes) (λ l. (o.owner id c at i m.0).drained k s (omega (arith, m.2 (node_of k) l))) (λ l. o.outside k (inr (omega arith))))
-          (λ n. o.resting k inside (sym (ap (λ x. x % 3) (turns-else (id_of k) n)) ∙ idle));
+          (λ n. o.resting k inside (sym (ap (λ x. x % 3) (turns-else (place_id k) n)) ∙ idle));
     }

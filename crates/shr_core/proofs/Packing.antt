@@ -1,6 +1,5 @@
 -- What each step does to the fields of a lookup word.
-use Rattle.std.proofs.Common.{◌≡◌, ℕ, ◌+◌, ◌-◌, ◌*◌, ◌%◌, ◌<◌, arith}
-use Rattle.shr_core.specs.Lookup.{refs_of, lookups_of, phase_in, decl_in}
+use Rattle.shr_core.proofs.Common.{◌≡◌, ℕ, ◌+◌, ◌-◌, ◌*◌, ◌%◌, ◌<◌, arith, refs_of, lookups_of, phase_in, decl_in}
 
 -- a lookup
 pub record Fields (w w' : ℕ) (refs lookups phase decl : ℕ) : Type 0 where

@@ -1,15 +1,6 @@
 -- How long a pool's journal is, and which declarations its ids have.
-use Rattle.std.proofs.Common.{◌≡◌, ◌≢◌, ℕ, zero, suc, ◌+◌, ◌*◌, ◌<◌, ◌≤◌, List, [], ◌∷◌, ◌++◌, length, take, sym, refl, ap, subst, arith, length-append, eq-eqb, ne_eqb, Bool, true, false, cond}
-use Rattle.std.specs.Prelude.{Option, Some, None}
-use Rattle.std.proofs.lemmas.List.{take_all}
-use mathlib.Core.Logic.{dite}
-use native.Mathlib.Decide.{ℕ_discrete, dec_lt}
-use mathlib.Core.Option.{some}
-use lib.ListN.{get_elem?}
-use Rattle.shr_base.specs.declared.journals.PoolEntry.{PoolEntry}
-use Rattle.shr_base.specs.declared.journals.PoolEntry.TheVariants.{Registered, Unregistered, Idle}
-use Rattle.shr_model.specs.Pool.{id_of, phase_of, decl_of, decl_after, is_free, lowest_free, IsNextPool, IsPoolJournal}
-use Rattle.shr_model.proofs.PoolLaws.{one_of, phase_of_push, decl_from_push}
+use Rattle.shr_core.proofs.Common.{◌≡◌, ◌≢◌, ℕ, zero, suc, ◌+◌, ◌*◌, ◌<◌, ◌≤◌, List, [], ◌∷◌, ◌++◌, length, take, sym, refl, ap, subst, arith, length-append, eq-eqb, ne_eqb, Bool, true, false, cond, Option, Some, None, take_all, dite, ℕ_discrete, dec_lt, some, get_elem?, PoolEntry, Registered, Unregistered, Idle, decl_of, decl_after, is_free, IsNextPool, IsPoolJournal, one_of, phase_of_push, decl_from_push}
+use Rattle.shr_model.specs.Pool.{id_of, phase_of, lowest_free}
 use Rattle.shr_core.proofs.Hands.{no_phase}
 
 -- the phases of the ids below a bound, together

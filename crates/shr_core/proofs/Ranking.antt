@@ -1,17 +1,5 @@
 -- Events stand in the order of their numbers.
-use Rattle.std.proofs.Common.{◌≡◌, ℕ, ◌+◌, ◌<◌, ◌≤◌, cond, eqb, List, [], ◌∷◌, ◌++◌, length, sym, refl, ap, ◌∙◌, arith, eq-eqb, ne_eqb, length-append}
-use mathlib.Core.Logic.{dite}
-use native.Mathlib.Decide.{ℕ_discrete}
-use mathlib.Core.Option.{some}
-use lib.ListN.{get_elem?}
-use Rattle.shr_base.specs.declared.journals.PoolEntry.{PoolEntry}
-use Rattle.shr_base.specs.declared.journals.PoolEntry.TheVariants.{Registered, Unregistered, Idle}
-use Rattle.shr_seats.specs.Lines.{Deed}
-use Rattle.shr_seats.proofs.Lining.{in_order, counted_once}
-use Rattle.shr_seats.specs.Weights.{total}
-use Rattle.shr_core.specs.Parts.{Event, counted, made, looked, loaded, turned, put_back, raised, cleared, mapped}
-use Rattle.shr_core.specs.Order.{Moment, at_start, moment_after, moment_next, IsDrawnAt, IsSo, AreEvents, last_moment}
-use Rattle.shr_core.specs.Ranks.{Measure, entries, lookups, turns, value, EntryTells, Tells}
+use Rattle.shr_core.proofs.Common.{◌≡◌, ℕ, ◌+◌, ◌<◌, ◌≤◌, cond, eqb, List, [], ◌∷◌, ◌++◌, length, sym, refl, ap, ◌∙◌, arith, eq-eqb, ne_eqb, length-append, dite, ℕ_discrete, some, get_elem?, PoolEntry, Registered, Unregistered, Idle, Deed, total, Event, counted, made, looked, loaded, turned, put_back, raised, cleared, mapped, Moment, at_start, moment_after, moment_next, IsDrawnAt, IsSo, AreEvents, last_moment, Measure, entries, lookups, value, in_order, counted_once, turns, EntryTells, EventTells}
 
 -- no event takes anything away
 pub grows : (m : Measure) (t : Moment) (e : Event) → value m t ≤ value m (moment_after t e)
@@ -52,7 +40,7 @@ drawn t i low high (Unregistered decl id to) at tells = let is : t.next i ≡ to
 drawn t i low high (Idle id) at tells = absurd tells
 
 -- what an event tells is so before it, and after it
-told : (ids : ℕ) (m : Measure) (t : Moment) (e : Event) (low high : ℕ) → IsSo ids t e → Tells m e low high → (value m t ≡ low) × (value m (moment_after t e) ≡ high)
+told : (ids : ℕ) (m : Measure) (t : Moment) (e : Event) (low high : ℕ) → IsSo ids t e → EventTells m e low high → (value m t ≡ low) × (value m (moment_after t e) ≡ high)
 told ids (entries k) t (counted x) low high is tells = let now : length (t.now k) ≡ x.version = ap (λ (j : ℕ). length (t.now j)) (sym tells.0) ∙ sym is in (now ∙ sym tells.1, now ∙ sym tells.2)
 told ids (entries k) t (made x) low high is tells = let now : length (t.now k) ≡ x.number = ap (λ (j : ℕ). length (t.now j)) (sym tells.0) ∙ sym is.0 in (
   now ∙ sym tells.1,
@@ -89,7 +77,7 @@ told ids turns t (mapped x) low high is tells = absurd tells
 
 -- an event stands at or before another by what they tell
 pub by_numbers : (ids first : ℕ) (line : List (Deed Event)) → AreEvents ids first line → (i j : ℕ) (d e : Deed Event) → get_elem? line i ≡ some d → get_elem? line j ≡ some e
-    → (m : Measure) (low high low' high' : ℕ) → Tells m d.act low high → Tells m e.act low' high' → low < high' → i ≤ j
+    → (m : Measure) (low high low' high' : ℕ) → EventTells m d.act low high → EventTells m e.act low' high' → low < high' → i ≤ j
 by_numbers ids first line events i j d e at there m low high low' high' tells tells' less =
     in_order moment_next (λ t x. IsSo ids t x.act) (value m) (λ t x. grows m t x.act) (at_start first) line events i j d e at there low high' (λ t is. (told ids m t d.act low high is tells).0) (λ t is. (told ids m t e.act low' high' is tells').1) less
 

@@ -1,14 +1,5 @@
 -- A load that shows no reference stands behind the puts of all lookups before it.
-use Rattle.std.proofs.Common.{◌≡◌, ◌⊎◌, ℕ, zero, suc, ◌+◌, ◌<◌, ◌≤◌, ◌-◌, inl, inr, ⊎_elim, Bool, cond, List, [], ◌∷◌, ◌++◌, length, sym, refl, ap, subst, ◌∙◌, arith, eq-eqb, ne_eqb, length-append}
-use mathlib.Core.Logic.{dite}
-use native.Mathlib.Decide.{ℕ_discrete}
-use mathlib.Core.Option.{some, some-injective, some-ne-none}
-use lib.ListN.{get_elem?}
-use Rattle.shr_seats.specs.Lines.{Deed, AreSo}
-use Rattle.shr_seats.specs.Weights.{times, without}
-use Rattle.shr_seats.proofs.Weighing.{times-push_same, times-push_le, times-without_other}
-use Rattle.shr_core.specs.Parts.{Event, Tried, Loaded, counted, made, looked, loaded, turned, put_back, raised, cleared, mapped}
-use Rattle.shr_core.specs.Order.{Moment, at_start, moment_after, moment_next, IsSo, AreEvents, Holders, no_holders, holders_after, holders_next, IsOwn, AreOwn}
+use Rattle.shr_core.proofs.Common.{◌≡◌, ◌⊎◌, ℕ, zero, suc, ◌+◌, ◌<◌, ◌≤◌, ◌-◌, inl, inr, ⊎_elim, Bool, cond, List, [], ◌∷◌, ◌++◌, length, sym, refl, ap, subst, ◌∙◌, arith, eq-eqb, ne_eqb, length-append, dite, ℕ_discrete, some, some-injective, some-ne-none, get_elem?, Deed, AreSo, times, without, times-push_same, times-push_le, times-without_other, Event, Tried, Loaded, counted, made, looked, loaded, turned, put_back, raised, cleared, mapped, Moment, at_start, moment_after, moment_next, IsSo, AreEvents, Holders, no_holders, holders_after, holders_next, IsOwn, AreOwn}
 
 -- as many are left as don't stand there
 length_without : (k : ℕ) (xs : List ℕ) → length (without k xs) + times k xs ≡ length xs

@@ -1,34 +1,7 @@
 -- Steps on lock words keep the rule.
-use Rattle.std.proofs.Common.{◌≡◌, ℕ, ◌+◌, ◌*◌, ◌<◌, ◌≤◌, Bool, true, false, eqb, List, [], ◌∷◌, ◌++◌, map, length, set, get_or, sym, refl, ap, subst, ◌∙◌, ⊎_elim, arith, length-set}
+use Rattle.shr_core.proofs.Common.{◌≡◌, ℕ, ◌+◌, ◌*◌, ◌<◌, ◌≤◌, Bool, true, false, eqb, List, [], ◌∷◌, ◌++◌, map, length, set, get_or, sym, refl, ap, subst, ◌∙◌, ⊎_elim, arith, length-set, some, some-injective, get_elem?, State, Act, Valid, keeps, Allows, stepped, carried_after, exchanged, Entry, PoolEntry, Contains, Some, take, None, dite, ℕ_discrete, parent_of, is_child, is_closed, is_closing, HasJournal, moved_in, MayStand, child_takes, some_term, terms_le, Begins, Sizes, View, Slot, Shape, Setting, RoomContent, Claims, Holding, row_in, locks_in, homes_in, looks_in, places_in, rooms_in, group_of, above, beside, bits_in, sizes_of, groups_in, Sound, IsInside, IsRoom, AreBorn, Journals, Histories, Fits, IsRoomAtHome, list_content, has_room, half_of, holding_of, traces_of, claims_of, turns_of, Sat, with_taken, with_try, with_given, with_pool_given, in_hand, took, place_content, turns_content, PlaceTold, PoolTold, IsInHand, none, takes, gives, slice_get, ◌||◌, dying_in, slot_content}
 use Rattle.shr_core.proofs.Options.{only_some_is, not_some}
-use mathlib.Core.Option.{none, some, some-injective}
 use prog.Atomic.{either}
-use lib.ListN.{get_elem?}
-use Rattle.atomic_table.specs.Table.{State, Act, Valid, keeps, takes, gives, Allows, stepped, carried_after}
-use Rattle.atomic_table.proofs.Lists.{exchanged}
-use Rattle.shr_base.specs.declared.journals.Entry.{Entry}
-use Rattle.shr_base.specs.declared.journals.PoolEntry.{PoolEntry}
-use Rattle.std.specs.Prelude.{Contains, Some, take, slice_get, ◌||◌, None}
-use mathlib.Core.Logic.{dite}
-use native.Mathlib.Decide.{ℕ_discrete}
-use Rattle.shr_model.specs.Pool.{dying_in}
-use Rattle.shr_model.specs.Groups.{parent_of, is_child}
-use Rattle.shr_model.specs.Items.{is_closed, is_closing, HasJournal}
-use Rattle.shr_model.specs.Families.{moved_in, MayStand}
-use Rattle.shr_model.proofs.GroupsLaws.{child_takes}
-use Rattle.shr_seats.proofs.Weighing.{some_term, terms_le}
-use Rattle.shr_seats.specs.Weights.{Begins}
-use Rattle.shr_seats.specs.declared.rows.Sizes.{Sizes}
-use Rattle.shr_core.specs.declared.view.View.{View}
-use Rattle.shr_core.specs.Slots.{Slot}
-use Rattle.shr_seats.specs.declared.shape.Shape.{Shape}
-use Rattle.shr_core.specs.declared.setting.Setting.{Setting}
-use Rattle.shr_core.specs.Parts.{Content, Claims, Holding}
-use Rattle.shr_core.specs.Layout.{row_in, locks_in, homes_in, looks_in, places_in, rooms_in, group_of, above, beside, bits_in}
-use Rattle.shr_seats.specs.Shapes.{sizes_of, groups_in}
-use Rattle.shr_core.specs.Rule.{Sound, IsInside, IsRoom, AreBorn, Journals, Histories, Fits, Keeps, content_of, list_content, has_room, half_of, holding_of, traces_of, claims_of, turns_of}
-use Rattle.shr_core.specs.Steps.{Sat, with_taken, with_try, with_given, with_pool_given, in_hand}
-use Rattle.shr_core.specs.Tells.{took, place_content, turns_content, PlaceTold, PoolTold, IsInHand}
 use Rattle.shr_core.proofs.Ordering as ordering
 use Rattle.shr_core.proofs.Frames.{here, on_load, on_lock, unmoved, state, lists_stay, rooms_stay, traces_stay, marks_stay, lookups_stay, owned_stay, turns_stay, dated_stay, seats_stay}
 use Rattle.shr_core.proofs.PoolLengths.{most_entries}
@@ -44,9 +17,9 @@ use Rattle.shr_core.proofs.Claiming as claiming
 use Rattle.shr_core.proofs.Owning as owning
 
 -- the step on the lock word, from what the room at home says and from the rule where it is missed
-taken_by : (key : Setting) (n id : ℕ) (m : Sat) (missed : View) (r : ℕ) (of : Slot → Content) (told : Slot → Type 0) → IsRoom key.shape r → m.0.standing.gone ≡ false
-    → ((now : Journals) (after : Histories) (pool : List PoolEntry) (slot : Slot) → Fits key.shape now after pool r (content_of slot) → Fits key.shape now after pool r (of slot))
-    → ((s : State Slot View) (o : Sound key s) → get_elem? s.views id ≡ some m.0 → (slot : Slot) → Keeps key.shape o.now o.after o.pool r slot → told slot)
+taken_by : (key : Setting) (n id : ℕ) (m : Sat) (missed : View) (r : ℕ) (of : Slot → RoomContent) (told : Slot → Type 0) → IsRoom key.shape r → m.0.standing.gone ≡ false
+    → ((now : Journals) (after : Histories) (pool : List PoolEntry) (slot : Slot) → Fits key.shape now after pool r (slot_content slot) → Fits key.shape now after pool r (of slot))
+    → ((s : State Slot View) (o : Sound key s) → get_elem? s.views id ≡ some m.0 → (slot : Slot) → IsRoomAtHome key.shape o.now o.after o.pool r slot → told slot)
     → ((s : State Slot View) (o : Sound key s) → get_elem? s.views id ≡ some m.0 → Sound key (state (set s.words (8 * row_in (sizes_of key.shape) r + 1) (get_or s.words (8 * row_in (sizes_of key.shape) r + 1) 0)) s.homes (set s.views id missed)))
     → Allows (Sound key) n id m (8 * row_in (sizes_of key.shape) r + 1) (λ y. either (eqb y 0) 1 y) (took m missed r (row_in (sizes_of key.shape) r) of told)
 taken_by key n id m missed r of told near present fit tells misses s o deep me _ = let z : Sizes = sizes_of key.shape in let row : ℕ = row_in z r in let is = room_is key.shape r near in let low : row < rooms_in z = room_low key.shape r near in let v : View = m.0 in let i : ℕ = 8 * row + 1 in let wide = o.wide in let q = o.rules in
@@ -59,7 +32,7 @@ taken_by key n id m missed r of told near present fit tells misses s o deep me _
       t.1,
       on_lock key s o id w present (o.ended id v me) row 1 (set s.homes row none) (length-set s.homes row none) (ordering.stays key.shape.ids key.first_lookup o.now o.pool (bits_in (sizes_of key.shape) s.words) (looks_in s.words) s.views id v me present o.ordered w refl refl refl) record {
         counted = q.counted;
-        roomed = rooming.takes (IsRoom key.shape) (locks_in z s.words) (locks_in z (set s.words i 1)) (homes_in z s.homes) (homes_in z (set s.homes row none)) (Keeps key.shape o.now o.after o.pool) (Fits key.shape o.now o.after o.pool) (map holding_of s.views) id r v.holding (of slot) (here s.views id v me holding_of) near (found ∙ hit) (lock_here z s.words r 1 is (omega (arith, wide, low))) (lock_else z s.words r 1 is) (λ x other. home_else z s.homes r none is x (room_is key.shape x other)) (fit o.now o.after o.pool slot t.2.fits) q.roomed;
+        roomed = rooming.takes (IsRoom key.shape) (locks_in z s.words) (locks_in z (set s.words i 1)) (homes_in z s.homes) (homes_in z (set s.homes row none)) (IsRoomAtHome key.shape o.now o.after o.pool) (Fits key.shape o.now o.after o.pool) (map holding_of s.views) id r v.holding (of slot) (here s.views id v me holding_of) near (found ∙ hit) (lock_here z s.words r 1 is (omega (arith, wide, low))) (lock_else z s.words r 1 is) (λ x other. home_else z s.homes r none is x (room_is key.shape x other)) (fit o.now o.after o.pool slot t.2.fits) q.roomed;
         listed = listing.rooms_change key.shape.parents.items o.now o.after (map holding_of s.views) id v.holding w.holding (here s.views id v me holding_of) refl (λ k half h. (omega (arith, h.own), omega (arith, h.parent))) q.listed;
         traced = traces_stay key s o id v me;
         marked = marks_stay key s o id v me;
@@ -84,14 +57,14 @@ not_both : (b : Bool) → b ≡ false → b ≡ true → ⊥
 not_both b f t = let e : false ≡ true = sym f ∙ t in cc
 
 -- what is told of a place's room
-place_told : (key : Setting) (id : ℕ) (v : View) (r : ℕ) → IsInside key.shape r → (s : State Slot View) (o : Sound key s) → get_elem? s.views id ≡ some v → (slot : Slot) → Keeps key.shape o.now o.after o.pool r slot → PlaceTold key.shape v r slot
+place_told : (key : Setting) (id : ℕ) (v : View) (r : ℕ) → IsInside key.shape r → (s : State Slot View) (o : Sound key s) → get_elem? s.views id ≡ some v → (slot : Slot) → IsRoomAtHome key.shape o.now o.after o.pool r slot → PlaceTold key.shape v r slot
 place_told key id v r inside s o me slot kept = let near = inside.place in let at = here s.views id v me traces_of in let q = o.rules in let f = kept.fits in let is = f.entries near in let long = ap (λ (l : List Entry). length l) is in let sh = o.sized.shape in let parents : List ℕ = key.shape.parents.items in
     -- the places of the parent and the child
     let up : (c : ℕ) → is_child parents (group_of r) c ≡ true → (above parents (beside r c) ≡ r) × (group_of (beside r c) ≡ c) × (0 < c) × (c < length parents) = λ c ch. let child = child_takes parents (group_of r) c ch in let small : c < 256 = omega (arith, child.there, sh.groups) in
     let group : group_of (beside r c) ≡ c = omega (arith, small) in (omega (arith, small, ap (parent_of parents) group, child.parent), group, child.above, child.there) in
     let closed-in : (c : ℕ) → is_child parents (group_of r) c ≡ true → is_closed (o.now (beside r c)) ≡ true → Contains (moved_in slot.list.entries) c = λ c ch cl. let t = up c ch in
     subst (λ (l : List Entry). Contains (moved_in l) c) (ap o.now t.0 ∙ sym is) (subst (Contains (moved_in (o.now (above parents (beside r c))))) t.1 (q.listed.closed (beside r c) (omega (arith, t.1, t.2)) (omega (arith, t.1, t.3)) cl)) in
-    let in-place : (x : ℕ) → 0 < has_room x v.holding → x < places_in key.shape.ids → (in_hand v x).entries ≡ o.now x = λ x has inside. (rooming.mine (IsRoom key.shape) (locks_in (sizes_of key.shape) s.words) (homes_in (sizes_of key.shape) s.homes) (Keeps key.shape o.now o.after o.pool) (Fits key.shape o.now o.after o.pool) (map holding_of s.views) q.roomed id x v.holding (here s.views id v me holding_of) has).1.entries inside in
+    let in-place : (x : ℕ) → 0 < has_room x v.holding → x < places_in key.shape.ids → (in_hand v x).entries ≡ o.now x = λ x has inside. (rooming.mine (IsRoom key.shape) (locks_in (sizes_of key.shape) s.words) (homes_in (sizes_of key.shape) s.homes) (IsRoomAtHome key.shape o.now o.after o.pool) (Fits key.shape o.now o.after o.pool) (map holding_of s.views) q.roomed id x v.holding (here s.views id v me holding_of) has).1.entries inside in
     let low : (c : ℕ) → is_child parents (group_of r) c ≡ true → beside r c < places_in key.shape.ids = λ c ch. let t = up c ch in omega (arith, near, t.3, sh.groups) in
     let room : (c : ℕ) → is_child parents (group_of r) c ≡ true → IsRoom key.shape (beside r c) = λ c ch. let t = up c ch in record { room = omega (arith, low c ch); node = omega (arith, inside.node, t.3, sh.groups); group = omega (arith, t.1, t.3) } in record {
       known = λ j x e place. subst (λ (l : List Entry). Begins x.entries l) (ap o.now place ∙ sym is) (q.traced.known id v.traces at j x e);
@@ -116,7 +89,7 @@ place_told key id v r inside s o me slot kept = let near = inside.place in let a
     }
 
 -- what a place's room says is what its list says
-place_fits : (shape : Shape) (r : ℕ) → r < places_in shape.ids → (now : Journals) (after : Histories) (pool : List PoolEntry) (slot : Slot) → Fits shape now after pool r (content_of slot) → Fits shape now after pool r (list_content slot.list)
+place_fits : (shape : Shape) (r : ℕ) → r < places_in shape.ids → (now : Journals) (after : Histories) (pool : List PoolEntry) (slot : Slot) → Fits shape now after pool r (slot_content slot) → Fits shape now after pool r (list_content slot.list)
 place_fits shape r near now after pool slot f = record { entries = f.entries; items = f.items; most_items = f.most_items; most_entries = f.most_entries; turns = λ e. absurd (omega (arith, e, near)) }
 
 -- `take_room`: nothing changes where it is missed
@@ -160,9 +133,9 @@ pub given : (key : Setting) (n id : ℕ) (v : View) (r : ℕ) (slot : Slot) (mor
     → Allows (Sound key) n id (v, (row_in (sizes_of key.shape) r, slot) ∷ more) (8 * row_in (sizes_of key.shape) r + 1) (λ _. 0) (λ _ q. q ≡ (with_given v r, more))
 given key n id v r slot more placed present has whole same s o deep me _ = let w : View = with_given v r in let z : Sizes = sizes_of key.shape in let row : ℕ = row_in z r in let i : ℕ = 8 * row + 1 in let wide = o.wide in let q = o.rules in let near = placed.place in let inside = place_room key.shape r placed in
     let is = room_is key.shape r inside in let low : row < rooms_in z = room_low key.shape r inside in
-    let mine = rooming.mine (IsRoom key.shape) (locks_in (sizes_of key.shape) s.words) (homes_in (sizes_of key.shape) s.homes) (Keeps key.shape o.now o.after o.pool) (Fits key.shape o.now o.after o.pool) (map holding_of s.views) q.roomed id r v.holding (here s.views id v me holding_of) has in
+    let mine = rooming.mine (IsRoom key.shape) (locks_in (sizes_of key.shape) s.words) (homes_in (sizes_of key.shape) s.homes) (IsRoomAtHome key.shape o.now o.after o.pool) (Fits key.shape o.now o.after o.pool) (map holding_of s.views) q.roomed id r v.holding (here s.views id v me holding_of) has in
     let fits = mine.1 in let c : Claims = v.claims in let at = here s.views id v me claims_of in
-    let kept : Keeps key.shape o.now o.after o.pool r slot = record {
+    let kept : IsRoomAtHome key.shape o.now o.after o.pool r slot = record {
       fits = record { entries = λ l. same.entries ∙ fits.entries l; items = λ l. same.items ∙ fits.items l; most_items = λ l. same.most_items ∙ fits.most_items l; most_entries = λ l. same.most_entries ∙ fits.most_entries l; turns = λ e. absurd (omega (arith, e, near)) };
       spare = λ e. absurd (omega (arith, e, near));
     } in (
@@ -171,7 +144,7 @@ given key n id v r slot more placed present has whole same s o deep me _ = let w
       tt,
       on_lock key s o id w present (o.ended id v me) row 0 (set s.homes row (some slot)) (length-set s.homes row (some slot)) (ordering.stays key.shape.ids key.first_lookup o.now o.pool (bits_in (sizes_of key.shape) s.words) (looks_in s.words) s.views id v me present o.ordered w refl refl refl) record {
         counted = q.counted;
-        roomed = rooming.gives (IsRoom key.shape) (locks_in z s.words) (locks_in z (set s.words i 0)) (homes_in z s.homes) (homes_in z (set s.homes row (some slot))) (Keeps key.shape o.now o.after o.pool) (Fits key.shape o.now o.after o.pool) (map holding_of s.views) id r v.holding slot (here s.views id v me holding_of) inside has kept (home_here z s.homes r (some slot) is (omega (arith, o.deep, low))) (λ x other. home_else z s.homes r (some slot) is x (room_is key.shape x other)) (lock_here z s.words r 0 is (omega (arith, wide, low))) (lock_else z s.words r 0 is) q.roomed;
+        roomed = rooming.gives (IsRoom key.shape) (locks_in z s.words) (locks_in z (set s.words i 0)) (homes_in z s.homes) (homes_in z (set s.homes row (some slot))) (IsRoomAtHome key.shape o.now o.after o.pool) (Fits key.shape o.now o.after o.pool) (map holding_of s.views) id r v.holding slot (here s.views id v me holding_of) inside has kept (home_here z s.homes r (some slot) is (omega (arith, o.deep, low))) (λ x other. home_else z s.homes r (some slot) is x (room_is key.shape x other)) (lock_here z s.words r 0 is (omega (arith, wide, low))) (lock_else z s.words r 0 is) q.roomed;
         listed = listing.rooms_change key.shape.parents.items o.now o.after (map holding_of s.views) id v.holding w.holding (here s.views id v me holding_of) refl (λ k half _. absurd (not_some k v.holding.half whole half)) q.listed;
         traced = tracing.knows o.now o.after (map traces_of s.views) id r v.traces (in_hand v r).entries (here s.views id v me traces_of) (fits.entries near) q.traced;
         marked = marks_stay key s o id v me;
@@ -190,9 +163,9 @@ pub pool_given : (key : Setting) (n id : ℕ) (v : View) (slot : Slot) (more : L
     → Allows (Sound key) n id (v, (row_in (sizes_of key.shape) (places_in key.shape.ids), slot) ∷ more) (8 * row_in (sizes_of key.shape) (places_in key.shape.ids) + 1) (λ _. 0) (λ _ q. q ≡ (with_pool_given v (places_in key.shape.ids), more))
 pool_given key n id v slot more present has same enough s o deep me _ = let r : ℕ = places_in key.shape.ids in let w : View = with_pool_given v r in let z : Sizes = sizes_of key.shape in let row : ℕ = row_in z r in let i : ℕ = 8 * row + 1 in let wide = o.wide in let q = o.rules in let inside = pool_room key.shape o.sized.shape.some_nodes o.sized.shape.tree.has_root in
     let is = room_is key.shape r inside in let low : row < rooms_in z = room_low key.shape r inside in
-    let mine = rooming.mine (IsRoom key.shape) (locks_in (sizes_of key.shape) s.words) (homes_in (sizes_of key.shape) s.homes) (Keeps key.shape o.now o.after o.pool) (Fits key.shape o.now o.after o.pool) (map holding_of s.views) q.roomed id r v.holding (here s.views id v me holding_of) has in
+    let mine = rooming.mine (IsRoom key.shape) (locks_in (sizes_of key.shape) s.words) (homes_in (sizes_of key.shape) s.homes) (IsRoomAtHome key.shape o.now o.after o.pool) (Fits key.shape o.now o.after o.pool) (map holding_of s.views) q.roomed id r v.holding (here s.views id v me holding_of) has in
     let pooled = mine.1.turns refl in
-    let kept : Keeps key.shape o.now o.after o.pool r slot = record {
+    let kept : IsRoomAtHome key.shape o.now o.after o.pool r slot = record {
       fits = record { entries = λ l. absurd (omega (arith, l)); items = λ l. absurd (omega (arith, l)); most_items = λ l. absurd (omega (arith, l)); most_entries = λ l. absurd (omega (arith, l)); turns = λ e. same ∙ pooled };
       spare = λ e. subst (λ (l : List PoolEntry). dying_in key.shape.ids l ≤ slot.pool.spare) (same ∙ pooled) enough;
     } in (
@@ -201,9 +174,9 @@ pool_given key n id v slot more present has same enough s o deep me _ = let r : 
       tt,
       on_lock key s o id w present (o.ended id v me) row 0 (set s.homes row (some slot)) (length-set s.homes row (some slot)) (ordering.stays key.shape.ids key.first_lookup o.now o.pool (bits_in (sizes_of key.shape) s.words) (looks_in s.words) s.views id v me present o.ordered w refl refl refl) record {
         counted = q.counted;
-        roomed = rooming.gives (IsRoom key.shape) (locks_in z s.words) (locks_in z (set s.words i 0)) (homes_in z s.homes) (homes_in z (set s.homes row (some slot))) (Keeps key.shape o.now o.after o.pool) (Fits key.shape o.now o.after o.pool) (map holding_of s.views) id r v.holding slot (here s.views id v me holding_of) inside has kept (home_here z s.homes r (some slot) is (omega (arith, o.deep, low))) (λ x other. home_else z s.homes r (some slot) is x (room_is key.shape x other)) (lock_here z s.words r 0 is (omega (arith, wide, low))) (lock_else z s.words r 0 is) q.roomed;
+        roomed = rooming.gives (IsRoom key.shape) (locks_in z s.words) (locks_in z (set s.words i 0)) (homes_in z s.homes) (homes_in z (set s.homes row (some slot))) (IsRoomAtHome key.shape o.now o.after o.pool) (Fits key.shape o.now o.after o.pool) (map holding_of s.views) id r v.holding slot (here s.views id v me holding_of) inside has kept (home_here z s.homes r (some slot) is (omega (arith, o.deep, low))) (λ x other. home_else z s.homes r (some slot) is x (room_is key.shape x other)) (lock_here z s.words r 0 is (omega (arith, wide, low))) (lock_else z s.words r 0 is) q.roomed;
         listed = listing.rooms_change key.shape.parents.items o.now o.after (map holding_of s.views) id v.holding w.holding (here s.views id v me holding_of) refl
-            (λ k half h. let below = (rooming.mine (IsRoom key.shape) (locks_in (sizes_of key.shape) s.words) (homes_in (sizes_of key.shape) s.homes) (Keeps key.shape o.now o.after o.pool) (Fits key.shape o.now o.after o.pool) (map holding_of s.views) q.roomed id k v.holding (here s.views id v me holding_of) h.own).0 in
+            (λ k half h. let below = (rooming.mine (IsRoom key.shape) (locks_in (sizes_of key.shape) s.words) (homes_in (sizes_of key.shape) s.homes) (IsRoomAtHome key.shape o.now o.after o.pool) (Fits key.shape o.now o.after o.pool) (map holding_of s.views) q.roomed id k v.holding (here s.views id v me holding_of) h.own).0 in
             let lower = o.sized.shape.tree.lower (group_of k) h.below_root h.group in (
               omega (arith, h.own, rooming.without_else r k v.holding.hands (λ d. omega (arith, d, h.below_root))),
               omega (arith, h.parent, rooming.without_else r (above key.shape.parents.items k) v.holding.hands (λ d. omega (arith, d, below.room, lower, h.below_root))),

@@ -1,21 +1,10 @@
 -- Rooms and hands keep their part of the rule.
-use Rattle.std.proofs.Common.{◌≡◌, ℕ, suc, ◌<◌, ◌≤◌, ◌≢◌, Bool, true, false, cond, eqb, List, [], ◌∷◌, set, sym, refl, ap, subst, ◌∙◌, ⊎_elim, arith, eq-eqb, ne_eqb}
+use Rattle.shr_core.proofs.Common.{◌≡◌, ℕ, suc, ◌<◌, ◌≤◌, ◌≢◌, Bool, true, false, cond, eqb, List, [], ◌∷◌, set, sym, refl, ap, subst, ◌∙◌, ⊎_elim, arith, eq-eqb, ne_eqb, dite, ℕ_discrete, some, some-ne-none, get_elem?, at_set, Each, total, only, total_same, total-set, term_le, terms_le, Each-set, Each-cons, only_yes, only_no, Slot, RoomContent, Hand, Holding, AreRooms, AreInHand, is_room, has_room, content_in, without_room, with_content}
 use Rattle.std.specs.Prelude.{Option as Maybe}
-use mathlib.Core.Logic.{dite}
-use native.Mathlib.Decide.{ℕ_discrete}
-use mathlib.Core.Option.{Option, some, some-ne-none}
-use lib.ListN.{get_elem?}
-use Rattle.atomic_table.proofs.Lists.{at_set}
-use Rattle.shr_seats.specs.Views.{Each}
-use Rattle.shr_seats.specs.Weights.{total, only}
-use Rattle.shr_seats.proofs.Weighing.{total_same, total-set, term_le, terms_le, Each-set, Each-cons, only_yes, only_no}
-use Rattle.shr_core.specs.Slots.{Slot}
-use Rattle.shr_core.specs.Parts.{Content, Hand, Holding}
-use Rattle.shr_core.specs.Rule.{AreRooms, AreInHand, is_room, has_room}
-use Rattle.shr_core.specs.Steps.{content_in, without_room, with_content}
+use mathlib.Core.Option.{Option}
 
 -- a room that is in hand has what it has there
-pub held : (rooms : ℕ → Type 0) (r : ℕ) (fits : ℕ → Content → Type 0) (hs : List Hand) → 0 < total (is_room r) hs → Each (λ h. rooms h.room × fits h.room h.content) hs → rooms r × fits r (content_in r hs)
+pub held : (rooms : ℕ → Type 0) (r : ℕ) (fits : ℕ → RoomContent → Type 0) (hs : List Hand) → 0 < total (is_room r) hs → Each (λ h. rooms h.room × fits h.room h.content) hs → rooms r × fits r (content_in r hs)
 held rooms r fits [] some-room all = absurd (omega arith)
 held rooms r fits (h ∷ hs) some-room all = dite (ℕ_discrete h.room r)
     (λ e. let mine = all 0 h refl in subst (λ (b : Bool). rooms r × fits r (cond b h.content (content_in r hs))) (sym (eq-eqb h.room r e)) (subst rooms e mine.0, subst (λ (x : ℕ). fits x h.content) e mine.1))
@@ -39,14 +28,14 @@ Each-without P r [] all = all
 Each-without P r (h ∷ hs) all = elim (eqb h.room r) as (λ b. Each P (cond b hs (h ∷ without_room r hs))) [ true ↦ (λ j x e. all (suc j) x e) | false ↦ Each-cons P h (without_room r hs) (all 0 h refl) (Each-without P r hs (λ j x e. all (suc j) x e)) ]
 
 -- the rooms in hand where one's content changes
-pub content_rooms : (r x : ℕ) (c : Content) (hs : List Hand) → total (is_room x) (with_content r c hs) ≡ total (is_room x) hs
+pub content_rooms : (r x : ℕ) (c : RoomContent) (hs : List Hand) → total (is_room x) (with_content r c hs) ≡ total (is_room x) hs
 content_rooms r x c [] = refl
 content_rooms r x c (h ∷ hs) = dite (ℕ_discrete h.room r)
     (λ e. subst (λ (b : Bool). total (is_room x) (cond b (record { room = r; content = c } ∷ hs) (h ∷ with_content r c hs)) ≡ total (is_room x) (h ∷ hs)) (sym (eq-eqb h.room r e)) (omega (arith, ap (only x) e)))
     (λ n. subst (λ (b : Bool). total (is_room x) (cond b (record { room = r; content = c } ∷ hs) (h ∷ with_content r c hs)) ≡ total (is_room x) (h ∷ hs)) (sym (ne_eqb h.room r n)) (omega (arith, content_rooms r x c hs)))
 
 -- each room in hand fits, where one's content changes and the others fit as before
-Each-content : (rooms : ℕ → Type 0) (r : ℕ) (c : Content) (fits fits' : ℕ → Content → Type 0) (hs : List Hand) → rooms r → total (is_room r) hs ≤ 1 → fits' r c → ((x : ℕ) (d : Content) → x ≢ r → fits x d → fits' x d)
+Each-content : (rooms : ℕ → Type 0) (r : ℕ) (c : RoomContent) (fits fits' : ℕ → RoomContent → Type 0) (hs : List Hand) → rooms r → total (is_room r) hs ≤ 1 → fits' r c → ((x : ℕ) (d : RoomContent) → x ≢ r → fits x d → fits' x d)
     → Each (λ h. rooms h.room × fits h.room h.content) hs → Each (λ h. rooms h.room × fits' h.room h.content) (with_content r c hs)
 Each-content rooms r c fits fits' [] near few mine others all = λ j x e. absurd (some-ne-none x (sym e))
 Each-content rooms r c fits fits' (h ∷ hs) near few mine others all = let P : Hand → Type 0 = λ x. rooms x.room × fits' x.room x.content in dite (ℕ_discrete h.room r)
@@ -55,7 +44,7 @@ Each-content rooms r c fits fits' (h ∷ hs) near few mine others all = let P : 
     (λ n. subst (λ (b : Bool). Each P (cond b (record { room = r; content = c } ∷ hs) (h ∷ with_content r c hs))) (sym (ne_eqb h.room r n))
     (Each-cons P h (with_content r c hs) (let t = all 0 h refl in (t.0, others h.room h.content n t.1)) (Each-content rooms r c fits fits' hs near (omega (arith, few, only_no r h.room n)) mine others (λ j x at. all (suc j) x at))))
 
-module _ (rooms : ℕ → Type 0) (lock : ℕ → ℕ) (home : ℕ → Option (Option Slot)) (keeps : ℕ → Slot → Type 0) (fits : ℕ → Content → Type 0) (hs : List Holding) (o : AreRooms rooms lock home keeps fits hs) where
+module _ (rooms : ℕ → Type 0) (lock : ℕ → ℕ) (home : ℕ → Option (Option Slot)) (keeps : ℕ → Slot → Type 0) (fits : ℕ → RoomContent → Type 0) (hs : List Holding) (o : AreRooms rooms lock home keeps fits hs) where
   -- a seat has a room in hand at most once
   pub once : (id r : ℕ) (v : Holding) → get_elem? hs id ≡ some v → rooms r → has_room r v ≤ 1
   once id r v at near = omega (arith, o.locks r near, o.one r near, term_le (has_room r) hs id v at)
@@ -65,7 +54,7 @@ module _ (rooms : ℕ → Type 0) (lock : ℕ → ℕ) (home : ℕ → Option (O
   mine id r v at some-room = held rooms r fits v.hands some-room (o.hand id v at)
 
 -- the room r is taken
-pub takes : (rooms : ℕ → Type 0) (lock lock' : ℕ → ℕ) (home home' : ℕ → Option (Option Slot)) (keeps : ℕ → Slot → Type 0) (fits : ℕ → Content → Type 0) (hs : List Holding) (id r : ℕ) (v : Holding) (c : Content)
+pub takes : (rooms : ℕ → Type 0) (lock lock' : ℕ → ℕ) (home home' : ℕ → Option (Option Slot)) (keeps : ℕ → Slot → Type 0) (fits : ℕ → RoomContent → Type 0) (hs : List Holding) (id r : ℕ) (v : Holding) (c : RoomContent)
     → get_elem? hs id ≡ some v → rooms r → lock r ≡ 0 → lock' r ≡ 1 → ((x : ℕ) → x ≢ r → lock' x ≡ lock x) → ((x : ℕ) → rooms x → x ≢ r → home' x ≡ home x)
     → fits r c → AreRooms rooms lock home keeps fits hs
     → AreRooms rooms lock' home' keeps fits (set hs id (record v { hands = record { room = r; content = c } ∷ v.hands }))
@@ -80,7 +69,7 @@ takes rooms lock lock' home home' keeps fits hs id r v c at near was is others e
 }
 
 -- the room r is given back
-pub gives : (rooms : ℕ → Type 0) (lock lock' : ℕ → ℕ) (home home' : ℕ → Option (Option Slot)) (keeps : ℕ → Slot → Type 0) (fits : ℕ → Content → Type 0) (hs : List Holding) (id r : ℕ) (v : Holding) (slot : Slot)
+pub gives : (rooms : ℕ → Type 0) (lock lock' : ℕ → ℕ) (home home' : ℕ → Option (Option Slot)) (keeps : ℕ → Slot → Type 0) (fits : ℕ → RoomContent → Type 0) (hs : List Holding) (id r : ℕ) (v : Holding) (slot : Slot)
     → get_elem? hs id ≡ some v → rooms r → 0 < has_room r v → keeps r slot → home' r ≡ some (some slot) → ((x : ℕ) → rooms x → x ≢ r → home' x ≡ home x) → lock' r ≡ 0 → ((x : ℕ) → x ≢ r → lock' x ≡ lock x)
     → AreRooms rooms lock home keeps fits hs
     → AreRooms rooms lock' home' keeps fits (set hs id (record v { hands = without_room r v.hands }))
@@ -97,8 +86,8 @@ gives rooms lock lock' home home' keeps fits hs id r v slot at near has kept bac
     }
 
 -- the content of the room r changes in hand
-pub refits : (rooms : ℕ → Type 0) (lock : ℕ → ℕ) (home : ℕ → Option (Option Slot)) (keeps keeps' : ℕ → Slot → Type 0) (fits fits' : ℕ → Content → Type 0) (hs : List Holding) (id r : ℕ) (half : Maybe ℕ) (v : Holding) (c : Content)
-    → get_elem? hs id ≡ some v → 0 < has_room r v → fits' r c → ((x : ℕ) (d : Content) → x ≢ r → fits x d → fits' x d) → ((x : ℕ) (d : Slot) → x ≢ r → keeps x d → keeps' x d)
+pub refits : (rooms : ℕ → Type 0) (lock : ℕ → ℕ) (home : ℕ → Option (Option Slot)) (keeps keeps' : ℕ → Slot → Type 0) (fits fits' : ℕ → RoomContent → Type 0) (hs : List Holding) (id r : ℕ) (half : Maybe ℕ) (v : Holding) (c : RoomContent)
+    → get_elem? hs id ≡ some v → 0 < has_room r v → fits' r c → ((x : ℕ) (d : RoomContent) → x ≢ r → fits x d → fits' x d) → ((x : ℕ) (d : Slot) → x ≢ r → keeps x d → keeps' x d)
     → AreRooms rooms lock home keeps fits hs → AreRooms rooms lock home keeps' fits' (set hs id (record { hands = with_content r c v.hands; half = half }))
 refits rooms lock home keeps keeps' fits fits' hs id r half v c at has mine-now others others-home o =
     let w : Holding = record { hands = with_content r c v.hands; half = half } in

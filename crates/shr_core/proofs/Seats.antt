@@ -1,28 +1,7 @@
 -- Splitting a seat, and taking one in, keep the rule.
-use Rattle.std.proofs.Common.{◌≡◌, ◌⊎◌, ℕ, ◌+◌, ◌<◌, ◌≢◌, true, false, List, [], ◌∷◌, ◌++◌, map, length, set, get_or, sym, refl, ap, ◌∙◌, inl, inr, ⊎_elim, arith, length-set, length-append}
-use Rattle.std.specs.Prelude.{Some, None}
-use Rattle.std.proofs.lemmas.Option.{none-some}
-use Rattle.std.proofs.lemmas.List.{length-map}
-use mathlib.Core.Option.{Option, some}
-use lib.ListN.{get_elem?}
-use Rattle.atomic_table.specs.Table.{Splits, Joins}
-use Rattle.atomic_table.proofs.Lists.{at_map, set_else}
-use Rattle.shr_base.specs.declared.journals.PoolEntry.{PoolEntry}
-use Rattle.shr_seats.specs.Views.{Each}
-use Rattle.shr_seats.specs.Standing.{AreSeats}
-use Rattle.shr_seats.specs.Weights.{total, times, only, Begins}
-use Rattle.shr_seats.proofs.Seating.{AreSeats-split, AreSeats-join}
-use Rattle.shr_seats.proofs.Weighing.{total-append, total_join, Each-one, Each-set, Each-push, Each-append, Each-none, Each-join, Each-weaker}
+use Rattle.shr_core.proofs.Common.{◌≡◌, ◌⊎◌, ℕ, ◌+◌, ◌<◌, ◌≢◌, true, false, List, [], ◌∷◌, ◌++◌, map, length, set, get_or, sym, refl, ap, ◌∙◌, inl, inr, ⊎_elim, arith, length-set, length-append, Some, None, none-some, length-map, some, get_elem?, Splits, Joins, at_map, set_else, PoolEntry, Each, AreSeats, total, times, only, Begins, total-append, total_join, Each-one, Each-set, Each-push, Each-append, Each-none, Each-join, Each-weaker, View, Slot, Shape, Setting, RoomContent, Hand, Holding, Traces, Marks, Claims, Turns, no_rooms, no_marks, no_claims, no_turns, counts_in, locks_in, bits_in, looks_in, homes_in, places_in, node_of, sizes_of, IsRoom, HasOwnEnd, Sound, Fits, IsRoomAtHome, Journals, Histories, AreRooms, AreRoomsOf, AreLists, AreInHand, AreTraces, IsMade, IsKnown, IsSeen, AreMarks, IsMapped, IsShown, HasOnlyIds, AreLookups, AreLookupsOf, IsTried, IsLoaded, IsHeld, AreOwned, IsOwner, AreTurns, AreDated, IsTurn, phases, is_room, has_room, hit, hit_attempt, hit_turn, spent, holding_of, traces_of, marks_of, claims_of, turns_of, view_standing, only_some, with_one_split, split_off, with_joined, AreSeats-split, AreSeats-join, no_traces, IsAtRest}
+use mathlib.Core.Option.{Option}
 use Rattle.shr_seats.proofs.Changed.{grown, kept, joined_list}
-use Rattle.shr_core.specs.declared.view.View.{View}
-use Rattle.shr_core.specs.Slots.{Slot}
-use Rattle.shr_seats.specs.declared.shape.Shape.{Shape}
-use Rattle.shr_core.specs.declared.setting.Setting.{Setting}
-use Rattle.shr_core.specs.Parts.{Content, Hand, Holding, Traces, Marks, Claims, Turns, no_rooms, no_traces, no_marks, no_claims, no_turns}
-use Rattle.shr_core.specs.Layout.{counts_in, locks_in, bits_in, looks_in, homes_in, places_in, node_of}
-use Rattle.shr_seats.specs.Shapes.{sizes_of}
-use Rattle.shr_core.specs.Rule.{IsRoom, HasOwnEnd, Sound, Fits, Keeps, Journals, Histories, AreRooms, AreRoomsOf, AreLists, AreInHand, AreTraces, IsMade, IsKnown, IsSeen, AreMarks, IsMapped, IsShown, HasOnlyIds, AreLookups, AreLookupsOf, IsTried, IsLoaded, IsHeld, AreOwned, IsOwner, AreTurns, AreDated, IsTurn, phases, is_room, has_room, hit, hit_attempt, hit_turn, spent, holding_of, traces_of, marks_of, claims_of, turns_of, standing_of, only_some}
-use Rattle.shr_core.specs.Steps.{with_one_split, split_off, joined, IsAtRest}
 use Rattle.shr_core.proofs.Claiming.{R}
 use Rattle.shr_core.proofs.Ordering as ordering
 use Rattle.shr_core.proofs.Listing as listing
@@ -30,7 +9,7 @@ use Rattle.shr_core.proofs.Dating as dating
 use Rattle.shr_core.proofs.Unregistering as unregistering
 
 -- one more seat, which has nothing
-room_more : (rooms : ℕ → Type 0) (lock : ℕ → ℕ) (home : ℕ → Option (Option Slot)) (keeps : ℕ → Slot → Type 0) (fits : ℕ → Content → Type 0) (hs : List Holding) → AreRooms rooms lock home keeps fits hs → AreRooms rooms lock home keeps fits (hs ++ no_rooms ∷ [])
+room_more : (rooms : ℕ → Type 0) (lock : ℕ → ℕ) (home : ℕ → Option (Option Slot)) (keeps : ℕ → Slot → Type 0) (fits : ℕ → RoomContent → Type 0) (hs : List Holding) → AreRooms rooms lock home keeps fits hs → AreRooms rooms lock home keeps fits (hs ++ no_rooms ∷ [])
 room_more rooms lock home keeps fits hs o = record {
   locks = λ r near. omega (arith, o.locks r near, total-append (has_room r) hs (no_rooms ∷ []));
   one = o.one;
@@ -103,8 +82,8 @@ false_true e = cc
 -- the rule holds after a split of the first seat
 pub splits : (key : Setting) (id : ℕ) (v : View) → v.standing.first ≡ true → v.standing.gone ≡ false → v.standing.splits < 64 → Splits (Sound key) id v (with_one_split v) (split_off v)
 splits key id v is present few s o me = let q = o.rules in let w : View = with_one_split v in let new : View = split_off v in
-    let at = at_map standing_of s.views id v me in
-    let shorter : length (map claims_of s.views) < 65 = omega (arith, length-map s.views claims_of, length-map s.views standing_of, q.seated.number id v.standing at is, few) in record {
+    let at = at_map view_standing s.views id v me in
+    let shorter : length (map claims_of s.views) < 65 = omega (arith, length-map s.views claims_of, length-map s.views view_standing, q.seated.number id v.standing at is, few) in record {
       now = o.now;
       after = o.after;
       pool = o.pool;
@@ -113,10 +92,10 @@ splits key id v is present few s o me = let q = o.rules in let w : View = with_o
       deep = o.deep;
       emptied = Each-push (λ (x : View). x.standing.gone ≡ true → x ≡ spent) (set s.views id w) new (λ t. absurd (false_true t)) (Each-set (λ (x : View). x.standing.gone ≡ true → x ≡ spent) s.views id w (λ t. absurd (false_true (sym present ∙ t))) o.emptied);
       ended = Each-push (HasOwnEnd o.pool) (set s.views id w) new (λ i e. absurd (none-some i e)) (Each-set (HasOwnEnd o.pool) s.views id w (o.ended id v me) o.ended);
-      ordered = ordering.splits key.shape.ids key.first_lookup o.now o.pool (bits_in (sizes_of key.shape) s.words) (looks_in s.words) s.views id v me present o.ordered (sym (length-map s.views standing_of) ∙ o.rules.seated.number id v.standing (at_map standing_of s.views id v me) is);
+      ordered = ordering.splits key.shape.ids key.first_lookup o.now o.pool (bits_in (sizes_of key.shape) s.words) (looks_in s.words) s.views id v me present o.ordered (sym (length-map s.views view_standing) ∙ o.rules.seated.number id v.standing (at_map view_standing s.views id v me) is);
       rules = record {
         counted = q.counted;
-        roomed = kept s.views id v me holding_of w new (AreRoomsOf key o.now o.after o.pool (locks_in (sizes_of key.shape) s.words) s.homes) refl (room_more (IsRoom key.shape) (locks_in (sizes_of key.shape) s.words) (homes_in (sizes_of key.shape) s.homes) (Keeps key.shape o.now o.after o.pool) (Fits key.shape o.now o.after o.pool) (map holding_of s.views) q.roomed);
+        roomed = kept s.views id v me holding_of w new (AreRoomsOf key o.now o.after o.pool (locks_in (sizes_of key.shape) s.words) s.homes) refl (room_more (IsRoom key.shape) (locks_in (sizes_of key.shape) s.words) (homes_in (sizes_of key.shape) s.homes) (IsRoomAtHome key.shape o.now o.after o.pool) (Fits key.shape o.now o.after o.pool) (map holding_of s.views) q.roomed);
         listed = kept s.views id v me holding_of w new (AreLists key.shape.parents.items o.now o.after) refl (listing.more key.shape.parents.items o.now o.after (map holding_of s.views) q.listed);
         traced = kept s.views id v me traces_of w new (AreTraces o.now o.after) refl (trace_more o.now o.after (map traces_of s.views) q.traced);
         marked = kept s.views id v me marks_of w new (AreMarks key.shape.ids (counts_in (sizes_of key.shape) s.words) (bits_in (sizes_of key.shape) s.words) (phases o.pool)) refl (mark_more key.shape.ids (counts_in (sizes_of key.shape) s.words) (bits_in (sizes_of key.shape) s.words) (phases o.pool) (map marks_of s.views) q.marked);
@@ -124,11 +103,11 @@ splits key id v is present few s o me = let q = o.rules in let w : View = with_o
         owned = kept s.views id v me claims_of w new (AreOwned key.shape o.now o.after o.pool) refl (own_more key.shape o.now o.after o.pool (map claims_of s.views) q.owned);
         turned = kept s.views id v me turns_of w new (AreTurns key.shape.ids key.shape.decls o.pool) refl (turn_more key.shape.ids key.shape.decls o.pool (map turns_of s.views) v.turns.known (q.turned.known id v.turns (at_map turns_of s.views id v me)) q.turned);
         dated = kept s.views id v me turns_of w new (AreDated key.shape.ids (looks_in s.words) o.pool) refl (dating.more key.shape.ids (looks_in s.words) o.pool (map turns_of s.views) new.turns refl q.dated);
-        seated = grown s.views id v me standing_of w new AreSeats (AreSeats-split (map standing_of s.views) id v.standing at is q.seated);
+        seated = grown s.views id v me view_standing w new AreSeats (AreSeats-split (map view_standing s.views) id v.standing at is q.seated);
       };
     }
 
-room_join : (rooms : ℕ → Type 0) (lock : ℕ → ℕ) (home : ℕ → Option (Option Slot)) (keeps : ℕ → Slot → Type 0) (fits : ℕ → Content → Type 0) (hs : List Holding) (id other : ℕ) (v u : Holding) → get_elem? hs id ≡ some v → other ≢ id → get_elem? hs other ≡ some u → u.hands ≡ []
+room_join : (rooms : ℕ → Type 0) (lock : ℕ → ℕ) (home : ℕ → Option (Option Slot)) (keeps : ℕ → Slot → Type 0) (fits : ℕ → RoomContent → Type 0) (hs : List Holding) (id other : ℕ) (v u : Holding) → get_elem? hs id ≡ some v → other ≢ id → get_elem? hs other ≡ some u → u.hands ≡ []
     → AreRooms rooms lock home keeps fits hs → AreRooms rooms lock home keeps fits (set (set hs id v) other no_rooms)
 room_join rooms lock home keeps fits hs id other v u at apart them none o = record {
   locks = λ r near. omega (arith, o.locks r near, total_join (has_room r) hs id other v u v no_rooms at apart them, ap (λ (l : List Hand). total (is_room r) l) none);
@@ -214,8 +193,8 @@ turn_join ids decls pool ts id other v u at apart them o = let b : Turns = recor
 }
 
 -- the rule holds after another seat at rest is joined into the first
-pub joins : (key : Setting) (id : ℕ) (v : View) (other : ℕ) (u : View) → v.standing.first ≡ true → v.standing.gone ≡ false → u.standing.gone ≡ false → IsAtRest u → Joins (Sound key) id v other u (joined v u) spent
-joins key id v other u is present here rest s o me apart them = let q = o.rules in let w : View = joined v u in
+pub joins : (key : Setting) (id : ℕ) (v : View) (other : ℕ) (u : View) → v.standing.first ≡ true → v.standing.gone ≡ false → u.standing.gone ≡ false → IsAtRest u → Joins (Sound key) id v other u (with_joined v u) spent
+joins key id v other u is present here rest s o me apart them = let q = o.rules in let w : View = with_joined v u in
     let there : get_elem? s.views other ≡ some u = sym (set_else s.views id other w apart) ∙ them in record {
       now = o.now;
       after = o.after;
@@ -229,7 +208,7 @@ joins key id v other u is present here rest s o me apart them = let q = o.rules 
       rules = record {
         counted = q.counted;
         roomed = joined_list holding_of (AreRoomsOf key o.now o.after o.pool (locks_in (sizes_of key.shape) s.words) s.homes) s.views id other w spent
-            (room_join (IsRoom key.shape) (locks_in (sizes_of key.shape) s.words) (homes_in (sizes_of key.shape) s.homes) (Keeps key.shape o.now o.after o.pool) (Fits key.shape o.now o.after o.pool) (map holding_of s.views) id other v.holding u.holding (at_map holding_of s.views id v me) apart (at_map holding_of s.views other u there) rest.rooms q.roomed);
+            (room_join (IsRoom key.shape) (locks_in (sizes_of key.shape) s.words) (homes_in (sizes_of key.shape) s.homes) (IsRoomAtHome key.shape o.now o.after o.pool) (Fits key.shape o.now o.after o.pool) (map holding_of s.views) id other v.holding u.holding (at_map holding_of s.views id v me) apart (at_map holding_of s.views other u there) rest.rooms q.roomed);
         listed = joined_list holding_of (AreLists key.shape.parents.items o.now o.after) s.views id other w spent
             (listing.joins key.shape.parents.items o.now o.after (map holding_of s.views) id other v.holding u.holding (at_map holding_of s.views id v me) apart (at_map holding_of s.views other u there) rest.rooms q.listed);
         traced = joined_list traces_of (AreTraces o.now o.after) s.views id other w spent (trace_join o.now o.after (map traces_of s.views) id other v.traces u.traces (at_map traces_of s.views id v me) apart (at_map traces_of s.views other u there) q.traced);
@@ -241,6 +220,6 @@ joins key id v other u is present here rest s o me apart them = let q = o.rules 
             (own_join key.shape o.now o.after o.pool (map claims_of s.views) id other v.claims u.claims w.claims (at_map claims_of s.views id v me) apart (at_map claims_of s.views other u there) refl refl refl refl rest.owner rest.held q.owned);
         turned = joined_list turns_of (AreTurns key.shape.ids key.shape.decls o.pool) s.views id other w spent (turn_join key.shape.ids key.shape.decls o.pool (map turns_of s.views) id other v.turns u.turns (at_map turns_of s.views id v me) apart (at_map turns_of s.views other u there) q.turned);
         dated = joined_list turns_of (AreDated key.shape.ids (looks_in s.words) o.pool) s.views id other w spent (dating.joins key.shape.ids (looks_in s.words) o.pool (map turns_of s.views) id other v.turns u.turns w.turns (at_map turns_of s.views id v me) (at_map turns_of s.views other u there) refl q.dated);
-        seated = joined_list standing_of AreSeats s.views id other w spent (AreSeats-join (map standing_of s.views) id other v.standing u.standing (at_map standing_of s.views id v me) apart (at_map standing_of s.views other u there) is here q.seated);
+        seated = joined_list view_standing AreSeats s.views id other w spent (AreSeats-join (map view_standing s.views) id other v.standing u.standing (at_map view_standing s.views id v me) apart (at_map view_standing s.views other u there) is here q.seated);
       };
     }

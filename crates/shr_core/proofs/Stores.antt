@@ -1,33 +1,6 @@
 -- A step on a count word keeps the rule.
-use Rattle.std.proofs.Common.{◌≡◌, ◌⊎◌, ℕ, ◌+◌, ◌*◌, ◌%◌, ◌<◌, ◌≤◌, ◌≢◌, Bool, true, false, cond, eqb, ltb, List, [], ◌∷◌, ◌++◌, map, length, set, sym, refl, ap, subst, ◌∙◌, inl, inr, ⊎_elim, arith, eq-eqb, ne_eqb, lt-ltb, length-append}
+use Rattle.shr_core.proofs.Common.{◌≡◌, ◌⊎◌, ℕ, ◌+◌, ◌*◌, ◌%◌, ◌<◌, ◌≤◌, ◌≢◌, Bool, true, false, cond, eqb, ltb, List, [], ◌∷◌, ◌++◌, map, length, set, sym, refl, ap, subst, ◌∙◌, inl, inr, ⊎_elim, arith, eq-eqb, ne_eqb, lt-ltb, length-append, ◌&&◌, Some, nat_tests, dite, ℕ_discrete, keeps, Allows, Serial, Object, Entry, Add, Look, Drop, Pin, Scan, MovedIn, Closed, Drained, PoolEntry, phase_of, IsTree, parent_of, is_child, step, IsOutcome, is_closed, IsAllowed, MayStand, Listed, times, Sizes, times-push_le, times-push_same, terms_le, View, Shape, Setting, RoomContent, row_in, counts_in, locks_in, bits_in, looks_in, homes_in, places_in, place_id, group_of, beside, above, sizes_of, groups_in, IsShape, Sound, IsRoom, Fits, IsRoomAtHome, IsInside, Journals, Histories, items_now, has_room, phases, holding_of, traces_of, marks_of, claims_of, AreTraces, AreOwned, Sat, with_stored, IsLater, in_hand, owed_after, half_after, last_entry, moved_in_hand, IsBacked, MayStore, Moment, IsTimely, Holders, last_users, IsMadeInUse, and_false}
 use Rattle.shr_core.proofs.Options.{not_some}
-use Rattle.std.specs.Prelude.{◌&&◌, Some}
-use Rattle.std.proofs.lemmas.Bool.Decides.{nat_tests}
-use mathlib.Core.Logic.{dite}
-use native.Mathlib.Decide.{ℕ_discrete}
-use Rattle.atomic_table.specs.Table.{keeps, Allows}
-use Rattle.shr_base.specs.declared.places.Serial.{Serial}
-use Rattle.shr_base.specs.declared.objects.Object.{Object}
-use Rattle.shr_base.specs.declared.journals.Entry.{Entry}
-use Rattle.shr_base.specs.declared.journals.Entry.TheVariants.{Add, Look, Drop, Pin, Scan, MovedIn, Closed, Drained}
-use Rattle.shr_base.specs.declared.journals.PoolEntry.{PoolEntry}
-use Rattle.shr_model.specs.Pool.{phase_of}
-use Rattle.shr_model.specs.Groups.{IsTree, parent_of, is_child}
-use Rattle.shr_model.specs.Items.{step, IsOutcome, is_closed}
-use Rattle.shr_model.specs.Families.{IsAllowed, MayStand}
-use Rattle.shr_list.specs.Listed.{Listed}
-use Rattle.shr_seats.specs.Weights.{times}
-use Rattle.shr_seats.specs.declared.rows.Sizes.{Sizes}
-use Rattle.shr_seats.proofs.Weighing.{times-push_le, times-push_same, terms_le}
-use Rattle.shr_core.specs.declared.view.View.{View}
-use Rattle.shr_seats.specs.declared.shape.Shape.{Shape}
-use Rattle.shr_core.specs.declared.setting.Setting.{Setting}
-use Rattle.shr_core.specs.Parts.{Content}
-use Rattle.shr_core.specs.Layout.{row_in, counts_in, locks_in, bits_in, looks_in, homes_in, places_in, id_of, group_of, beside, above}
-use Rattle.shr_seats.specs.Shapes.{sizes_of, groups_in, IsShape}
-use Rattle.shr_core.specs.Rule.{Sound, IsRoom, Fits, Keeps, IsInside, Journals, Histories, items_now, has_room, phases, holding_of, traces_of, marks_of, claims_of, AreTraces, AreOwned}
-use Rattle.shr_core.specs.Steps.{Sat, with_stored, IsLater, in_hand, owed_after, half_after, last_entry, moved_in_hand, IsBacked, MayStore}
-use Rattle.shr_core.specs.Order.{Moment, IsTimely, Holders, last_users, IsMadeInUse}
 use Rattle.shr_core.proofs.Ordering as ordering
 use Rattle.shr_core.proofs.Frames.{here, on_count, lookups_stay, turns_stay, dated_stay, seats_stay, still}
 use Rattle.shr_core.proofs.Births.{IsBornIn}
@@ -38,7 +11,6 @@ use Rattle.shr_core.proofs.Tracing as tracing
 use Rattle.shr_core.proofs.Laying.{inside_is, inside_low, count_here, count_else}
 use Rattle.shr_core.proofs.Marking as marking
 use Rattle.shr_core.proofs.Owning as owning
-use Rattle.shr_model.proofs.PoolLaws.{and_false}
 
 -- the journals, with one changed
 abbrev pub changed : ℕ → List Entry → Journals → Journals
@@ -144,7 +116,7 @@ born_of shape v k Closed b = tt
 born_of shape v k (Drained by objects) b = tt
 
 -- a seat that owns the id drains its list while it is dying
-timely : (shape : Shape) (v : View) (k : ℕ) (e : Entry) (t : Moment) → IsBacked shape v k e → (v.claims.owner ≡ Some (id_of k) → phase_of (id_of k) t.pool % 3 ≡ 2) → IsTimely t (id_of k) e
+timely : (shape : Shape) (v : View) (k : ℕ) (e : Entry) (t : Moment) → IsBacked shape v k e → (v.claims.owner ≡ Some (place_id k) → phase_of (place_id k) t.pool % 3 ≡ 2) → IsTimely t (place_id k) e
 timely shape v k (Add by birth added key value) t b dying = tt
 timely shape v k (Look by birth key hit) t b dying = tt
 timely shape v k (Drop by birth key kind) t b dying = tt
@@ -155,7 +127,7 @@ timely shape v k Closed t b dying = tt
 timely shape v k (Drained by objects) t b dying = dying b.0
 
 -- an entry stands in the use of its id, and a Drained out of it
-in_use : (shape : Shape) (v : View) (k : ℕ) (e : Entry) (u : Holders) (seat : ℕ) → IsBacked shape v k e → (v.claims.held ≡ Some (id_of k) → 0 < times seat (u (id_of k))) → (v.claims.owner ≡ Some (id_of k) → v.claims.quiet ≡ true → u (id_of k) ≡ []) → IsMadeInUse u seat (id_of k) e
+in_use : (shape : Shape) (v : View) (k : ℕ) (e : Entry) (u : Holders) (seat : ℕ) → IsBacked shape v k e → (v.claims.held ≡ Some (place_id k) → 0 < times seat (u (place_id k))) → (v.claims.owner ≡ Some (place_id k) → v.claims.quiet ≡ true → u (place_id k) ≡ []) → IsMadeInUse u seat (place_id k) e
 in_use shape v k (Add by birth added key value) u seat b holds quiet = holds b.0
 in_use shape v k (Look by birth key hit) u seat b holds quiet = tt
 in_use shape v k (Drop by birth key kind) u seat b holds quiet = tt
@@ -187,9 +159,9 @@ pub stored : (key : Setting) (n id : ℕ) (m : Sat) (k new : ℕ) (list : Listed
     → Allows (Sound key) n id m (8 * row_in (sizes_of key.shape) k) (λ _. new) (λ _ q. (q ≡ (with_stored m.0 k (last_entry list.entries) list.items, m.1)) × IsLater m.0 k)
 stored key n id m k new list may present is-new s o deep me _ =
     let v : View = m.0 in let e : Entry = last_entry list.entries in let w : View = with_stored v k e list.items in let z : Sizes = sizes_of key.shape in let row : ℕ = row_in z k in let i : ℕ = 8 * row in let wide = o.wide in let now : Journals = o.now in let after : Histories = o.after in let q = o.rules in let sh = o.sized.shape in
-    let ids : ℕ = key.shape.ids in let near = may.inside.place in let is = inside_is key.shape k may.inside in let c : Content = in_hand v k in
+    let ids : ℕ = key.shape.ids in let near = may.inside.place in let is = inside_is key.shape k may.inside in let c : RoomContent = in_hand v k in
     let at-holding = here s.views id v me holding_of in
-    let mine : (r : ℕ) → 0 < has_room r v.holding → IsRoom key.shape r × Fits key.shape now after o.pool r (in_hand v r) = λ r has. rooming.mine (IsRoom key.shape) (locks_in z s.words) (homes_in z s.homes) (Keeps key.shape now after o.pool) (Fits key.shape now after o.pool) (map holding_of s.views) q.roomed id r v.holding at-holding has in
+    let mine : (r : ℕ) → 0 < has_room r v.holding → IsRoom key.shape r × Fits key.shape now after o.pool r (in_hand v r) = λ r has. rooming.mine (IsRoom key.shape) (locks_in z s.words) (homes_in z s.homes) (IsRoomAtHome key.shape now after o.pool) (Fits key.shape now after o.pool) (map holding_of s.views) q.roomed id r v.holding at-holding has in
     let fits = (mine k may.room).1 in
     -- what is in hand is the journal now
     let held-entries : c.entries ≡ now k = fits.entries near in let held-items : c.items ≡ items_now now after k = fits.items near in
@@ -207,7 +179,7 @@ stored key n id m k new list may present is-new s o deep me _ =
     let few : length list.items < 4294967296 = omega (arith, may.few_items, sh.most_items) in
     let old-len : counts_in (sizes_of key.shape) s.words k % 4294967296 ≡ length c.items = omega (arith, (tracing.count_fields key.shape (counts_in (sizes_of key.shape) s.words) now after k q.counted sh.most_items near).1, ap (λ (l : List Object). length l) held-items) in
     let new-len : counts_in (sizes_of key.shape) (set s.words i new) k % 4294967296 ≡ length list.items = omega (arith, count-here, is-new, few) in
-    let content : Content = record c { entries = c.entries ++ e ∷ []; items = list.items } in
+    let content : RoomContent = record c { entries = c.entries ++ e ∷ []; items = list.items } in
     let why : (items_now now' after' k ≡ []) ⊎ owning.Grounds now after v.claims k = ⊎_elim
     (λ z. ⊎_elim (λ h. inl (items-here ∙ (may.items ∙ (ap (λ (l : List Object). step (moved_in_hand v k e) l e) (held-items ∙ z) ∙ h)))) (λ g. inr g)
     (grounds key.shape now after v k e sh near (λ child has small. let t = mine (beside k child) has in t.1.items (omega (arith, near, small))) may.stands.allowed may.backed))
@@ -236,9 +208,9 @@ stored key n id m k new list may present is-new s o deep me _ =
       keeps,
       tt,
       on_count key s o id w present (o.ended id v me) row new now' after' (ordering.makes key.shape.ids key.first_lookup o.now o.pool (bits_in (sizes_of key.shape) s.words) (looks_in s.words) s.views id v me present o.ordered now' w (record { place = k; number = length c.entries; entry = e; items = c.items }) refl refl refl (ap (λ (l : List Entry). length l) held-entries) grown others
-          (λ t pool. timely key.shape v k e t may.backed (λ own. ap (λ (l : List PoolEntry). phase_of (id_of k) l % 3) pool ∙ (q.owned.owner id v.claims (here s.views id v me claims_of) (id_of k) own).dying))
-          (in_use key.shape v k e (last_users o.ordered.line) id may.backed (ordering.uses_it ids key.first_lookup o.now o.pool (bits_in (sizes_of key.shape) s.words) (looks_in s.words) s.views id v me present o.ordered (id_of k))
-          (λ own quiet. ordering.unused ids key.first_lookup o.now o.pool (bits_in (sizes_of key.shape) s.words) (looks_in s.words) s.views id v me present o.ordered (id_of k) ((q.owned.owner id v.claims (here s.views id v me claims_of) (id_of k) own).quiet quiet)))) record {
+          (λ t pool. timely key.shape v k e t may.backed (λ own. ap (λ (l : List PoolEntry). phase_of (place_id k) l % 3) pool ∙ (q.owned.owner id v.claims (here s.views id v me claims_of) (place_id k) own).dying))
+          (in_use key.shape v k e (last_users o.ordered.line) id may.backed (ordering.uses_it ids key.first_lookup o.now o.pool (bits_in (sizes_of key.shape) s.words) (looks_in s.words) s.views id v me present o.ordered (place_id k))
+          (λ own quiet. ordering.unused ids key.first_lookup o.now o.pool (bits_in (sizes_of key.shape) s.words) (looks_in s.words) s.views id v me present o.ordered (place_id k) ((q.owned.owner id v.claims (here s.views id v me claims_of) (place_id k) own).quiet quiet)))) record {
             counted = record {
               is = λ j inside. dite (ℕ_discrete j k)
                   (λ d. subst (λ (x : ℕ). counts_in (sizes_of key.shape) (set s.words i new) x ≡ length (now' x) * 4294967296 + length (items_now now' after' x)) (sym d) (omega (arith, count-here, is-new, whole, longer, ap (λ (l : List Object). length l) items-here)))
@@ -251,7 +223,7 @@ stored key n id m k new list may present is-new s o deep me _ =
                   (λ ne. omega (arith, q.counted.entries j, ap (λ (l : List Entry). length l) (others j ne)));
               placed = λ j some. dite (ℕ_discrete j k) (λ d. subst (IsInside key.shape) (sym d) may.inside) (λ ne. q.counted.placed j (omega (arith, some, ap (λ (l : List Entry). length l) (others j ne))));
             };
-            roomed = rooming.refits (IsRoom key.shape) (locks_in z s.words) (homes_in z s.homes) (Keeps key.shape now after o.pool) (Keeps key.shape now' after' o.pool) (Fits key.shape now after o.pool) (Fits key.shape now' after' o.pool) (map holding_of s.views) id k (half_after v.holding.half k e) v.holding content at-holding may.room
+            roomed = rooming.refits (IsRoom key.shape) (locks_in z s.words) (homes_in z s.homes) (IsRoomAtHome key.shape now after o.pool) (IsRoomAtHome key.shape now' after' o.pool) (Fits key.shape now after o.pool) (Fits key.shape now' after' o.pool) (map holding_of s.views) id k (half_after v.holding.half k e) v.holding content at-holding may.room
                 (record { entries = λ l. sym at-k; items = λ l. sym items-here; most_items = fits.most_items; most_entries = fits.most_entries; turns = fits.turns })
                 (λ x d ne fit. record { entries = λ l. fit.entries l ∙ sym (others x ne); items = λ l. fit.items l ∙ sym (items-else x ne); most_items = fit.most_items; most_entries = fit.most_entries; turns = fit.turns })
                 (λ x d ne kept. record { fits = record { entries = λ l. kept.fits.entries l ∙ sym (others x ne); items = λ l. kept.fits.items l ∙ sym (items-else x ne); most_items = kept.fits.most_items; most_entries = kept.fits.most_entries; turns = kept.fits.turns }; spare = kept.spare }) q.roomed;
@@ -263,7 +235,7 @@ stored key n id m k new list may present is-new s o deep me _ =
             looked = lookups_stay key s o id v me;
             owned = still s.views id v me claims_of (AreOwned key.shape now' after' o.pool)
                 (owning.stores key.shape now now' after after' o.pool (map claims_of s.views) id k v.claims (here s.views id v me claims_of) may.inside sh.nodes items-else
-                (λ h. (q.looked.held id v.claims (here s.views id v me claims_of) (id_of k) h).busy) why q.owned);
+                (λ h. (q.looked.held id v.claims (here s.views id v me claims_of) (place_id k) h).busy) why q.owned);
             turned = turns_stay key s o id v me;
             dated = dated_stay key s o id v me;
             seated = seats_stay key s o id v me;

@@ -1,23 +1,8 @@
 -- What may be stored after a call of the list in hand, and what is in hand then.
-use Rattle.std.proofs.Common.{◌≡◌, ℕ, ◌<◌, List, [], ◌∷◌, ◌++◌, length, sym, refl, ap, subst, ◌∙◌, inl, ⊎_elim, arith, length-append}
+use Rattle.shr_core.proofs.Common.{◌≡◌, ℕ, ◌<◌, List, [], ◌∷◌, ◌++◌, length, sym, refl, ap, subst, ◌∙◌, inl, ⊎_elim, arith, length-append, None, Entry, Object, step, IsOutcome, MayStand, IsAllowed, Has_from_Contains, Contains_from_Has, child_takes, Listed, View, Shape, RoomContent, group_of, has_room, list_content, IsInside, in_hand, moved_in_hand, last_entry, half_after, with_taken, with_stored, IsBacked, MayStore, IsInHand, IsBornAt, IsTaken, IsUnspliced}
 use Rattle.shr_core.proofs.Options.{not_some}
-use Rattle.std.specs.Prelude.{None}
-use Rattle.shr_base.specs.declared.journals.Entry.{Entry}
-use Rattle.shr_base.specs.declared.objects.Object.{Object}
 use Rattle.shr_model.specs.Groups.{path_within, path_of}
-use Rattle.shr_model.specs.Items.{step, IsOutcome}
-use Rattle.shr_model.specs.Families.{MayStand, IsAllowed, IsBornAt}
-use Rattle.shr_model.proofs.Members.{Has_from_Contains, Contains_from_Has}
-use Rattle.shr_model.proofs.GroupsLaws.{child_takes}
-use Rattle.shr_list.specs.Listed.{Listed}
 use Rattle.shr_list.specs.Answers.{Takes}
-use Rattle.shr_core.specs.declared.view.View.{View}
-use Rattle.shr_seats.specs.declared.shape.Shape.{Shape}
-use Rattle.shr_core.specs.Parts.{Content}
-use Rattle.shr_core.specs.Layout.{group_of}
-use Rattle.shr_core.specs.Rule.{has_room, list_content, IsInside}
-use Rattle.shr_core.specs.Steps.{in_hand, moved_in_hand, last_entry, half_after, with_taken, with_stored, IsTaken, IsUnspliced, IsBacked, MayStore}
-use Rattle.shr_core.specs.Tells.{IsInHand}
 use Rattle.shr_core.proofs.Hands.{taken_in_hand, has_taken, changed_in_hand}
 use Rattle.shr_core.proofs.Rooming as rooming
 
@@ -56,7 +41,7 @@ unspliced shape v k whole child half = absurd (not_some child v.holding.half who
 
 -- the list took an entry that is allowed and backed, and that moves no other list in
 pub may_store : (shape : Shape) (v : View) (k n : ℕ) (old new : Listed) (e : Entry) → IsReady shape v k old → moved_in_hand v k e ≡ [] → Takes old new e n → IsAllowed shape.parents.items (group_of k) old.entries e → IsBacked shape v k e → MayStore shape v k new
-may_store shape v k n old new e r none t allowed backed = let c : Content = in_hand v k in let is : last_entry new.entries ≡ e = last_taken old new e n t in record {
+may_store shape v k n old new e r none t allowed backed = let c : RoomContent = in_hand v k in let is : last_entry new.entries ≡ e = last_taken old new e n t in record {
   inside = r.inside;
   room = r.room;
   entries = subst (λ (x : Entry). new.entries ≡ c.entries ++ x ∷ []) (sym is) (t.gains.entries ∙ ap (λ (l : List Entry). l ++ e ∷ []) r.hand.entries);
@@ -70,8 +55,8 @@ may_store shape v k n old new e r none t allowed backed = let c : Content = in_h
 
 -- and after the store of an entry that is no part of a splice, the new list is ready
 pub ready_stored : (shape : Shape) (v : View) (k n : ℕ) (old new : Listed) (e : Entry) → IsReady shape v k old → half_after v.holding.half k e ≡ v.holding.half → Takes old new e n → IsReady shape (with_stored v k (last_entry new.entries) new.items) k new
-ready_stored shape v k n old new e r alone t = let c : Content = in_hand v k in let is : last_entry new.entries ≡ e = last_taken old new e n t in
-    let now : Content = record c { entries = c.entries ++ last_entry new.entries ∷ []; items = new.items } in record {
+ready_stored shape v k n old new e r alone t = let c : RoomContent = in_hand v k in let is : last_entry new.entries ≡ e = last_taken old new e n t in
+    let now : RoomContent = record c { entries = c.entries ++ last_entry new.entries ∷ []; items = new.items } in record {
       inside = r.inside;
       room = omega (arith, r.room, rooming.content_rooms k k now v.holding.hands);
       hand = subst (IsInHand new) (sym (changed_in_hand k now v.holding.hands r.room)) (record {

@@ -1,20 +1,5 @@
 -- The traces keep their part of the rule.
-use Rattle.std.proofs.Common.{◌≡◌, ℕ, ◌+◌, ◌<◌, ◌≤◌, ◌≢◌, cond, eqb, ltb, List, [], ◌∷◌, ◌++◌, length, set, sym, refl, ap, subst, ◌∙◌, arith, length-append, eq-eqb, ne_eqb, le-ltb}
-use Rattle.std.proofs.lemmas.List.{append-nil}
-use mathlib.Core.Logic.{dite}
-use native.Mathlib.Decide.{ℕ_discrete, dec_lt}
-use mathlib.Core.Option.{some}
-use lib.ListN.{get_elem?}
-use Rattle.shr_base.specs.declared.objects.Object.{Object}
-use Rattle.shr_base.specs.declared.journals.Entry.{Entry}
-use Rattle.shr_seats.specs.Views.{Each}
-use Rattle.shr_seats.specs.Weights.{total, Begins}
-use Rattle.shr_seats.proofs.Weighing.{total_same, total-set, total-append, term_le, Each-set, Each-push, Each-weaker, begins_all, begins_more, at_begins}
-use Rattle.shr_seats.specs.declared.shape.Shape.{Shape}
-use Rattle.shr_core.specs.Parts.{Traces, Made, Known, Counted}
-use Rattle.shr_core.specs.Layout.{places_in, length_of, version_of}
-use Rattle.shr_core.specs.Rule.{AreCounts, AreTraces, IsMade, IsKnown, IsSeen, Journals, Histories, items_now, hit}
-use Rattle.shr_model.proofs.Numbers.{later}
+use Rattle.shr_core.proofs.Common.{◌≡◌, ℕ, ◌+◌, ◌<◌, ◌≤◌, ◌≢◌, cond, eqb, ltb, List, [], ◌∷◌, ◌++◌, length, set, sym, refl, ap, subst, ◌∙◌, arith, length-append, eq-eqb, ne_eqb, le-ltb, append-nil, dite, ℕ_discrete, dec_lt, some, get_elem?, Object, Entry, Each, total, Begins, total_same, total-set, total-append, term_le, Each-set, Each-push, Each-weaker, begins_all, begins_more, at_begins, Shape, Traces, Made, Counted, places_in, length_of, version_of, AreTraces, IsMade, IsKnown, IsSeen, Journals, Histories, items_now, hit, later, Known, AreCounts}
 
 pub below_no : (n len : ℕ) → len ≤ n → ◌≡◌ {A = ℕ} (cond (ltb n len) 1 0) 0
 below_no n len h = ap (λ b. cond b 1 0) (le-ltb n len h)

@@ -1,19 +1,6 @@
 -- The pool's journal keeps its part of the rule.
-use Rattle.std.proofs.Common.{◌≡◌, ℕ, ◌+◌, ◌<◌, List, [], ◌∷◌, ◌++◌, length, set, refl, subst, ◌∙◌, arith, length-append}
-use mathlib.Core.Logic.{dite}
-use native.Mathlib.Decide.{ℕ_discrete, dec_lt}
-use mathlib.Core.Option.{some}
-use lib.ListN.{get_elem?}
-use Rattle.shr_base.specs.declared.journals.PoolEntry.{PoolEntry}
-use Rattle.shr_model.specs.Pool.{IsNextPool}
-use Rattle.shr_model.proofs.PoolLaws.{IsPoolJournal_push}
-use Rattle.shr_seats.specs.Views.{Each}
-use Rattle.shr_seats.specs.Weights.{total, Begins}
-use Rattle.shr_seats.proofs.Weighing.{total_same, total-set, total-append, term_le, Each-set, Each-push, Each-weaker, only_yes, only_no, begins_all, begins_push, begins_more, at_begins}
-use Rattle.shr_core.specs.Parts.{Turns, Turn, Dated}
-use Rattle.shr_core.specs.Rule.{AreTurns, IsTurn, hit_turn}
+use Rattle.shr_core.proofs.Common.{◌≡◌, ℕ, ◌+◌, ◌<◌, List, [], ◌∷◌, ◌++◌, length, set, refl, subst, ◌∙◌, arith, length-append, dite, ℕ_discrete, dec_lt, some, get_elem?, PoolEntry, IsNextPool, Each, total, Begins, total_same, total-set, total-append, term_le, Each-set, Each-push, Each-weaker, only_yes, only_no, begins_all, begins_push, begins_more, at_begins, Turns, Turn, Dated, AreTurns, IsTurn, hit_turn, later, IsPoolJournal_push}
 use Rattle.shr_core.proofs.Tracing.{below_no}
-use Rattle.shr_model.proofs.Numbers.{later}
 
 at_last : (es : List PoolEntry) (e : PoolEntry) → get_elem? (es ++ e ∷ []) (length es) ≡ some e
 at_last [] e = refl

@@ -1,17 +1,6 @@
 -- The seats that use an id, event by event.
-use Rattle.std.proofs.Common.{◌≡◌, ℕ, ◌≢◌, Bool, true, false, cond, eqb, List, [], ◌∷◌, ◌++◌, sym, refl, ap, ◌∙◌, arith, eq-eqb, ne_eqb}
+use Rattle.shr_core.proofs.Common.{◌≡◌, ℕ, ◌≢◌, Bool, true, false, cond, eqb, List, [], ◌∷◌, ◌++◌, sym, refl, ap, ◌∙◌, arith, eq-eqb, ne_eqb, append-nil, dite, ℕ_discrete, Deed, by_seat, state_after, only, times, without, only_yes, only_no, times-push_same, times-push_other, times-without_same, times-without_other, state_after_push, View, Event, counted, made, looked, loaded, turned, put_back, raised, cleared, mapped, Holders, no_holders, finder, users_after, users_next, last_users, ids_of, noted, with_put, put_events, IsUsing}
 use Rattle.std.specs.Prelude.{Some, None, Option as Maybe}
-use Rattle.std.proofs.lemmas.List.{append-nil}
-use mathlib.Core.Logic.{dite}
-use native.Mathlib.Decide.{ℕ_discrete}
-use Rattle.shr_seats.specs.Lines.{Deed, by_seat, state_after}
-use Rattle.shr_seats.specs.Weights.{only, times, without}
-use Rattle.shr_seats.proofs.Weighing.{only_yes, only_no, times-push_same, times-push_other, times-without_same, times-without_other}
-use Rattle.shr_seats.proofs.Lining.{state_after_push}
-use Rattle.shr_core.specs.declared.view.View.{View}
-use Rattle.shr_core.specs.Parts.{Event, counted, made, looked, loaded, turned, put_back, raised, cleared, mapped}
-use Rattle.shr_core.specs.Order.{Holders, no_holders, finder, users_after, users_next, last_users, ids_of, IsUsing}
-use Rattle.shr_core.specs.Steps.{noted, with_put, puts_of}
 
 -- an event changes what its own seat alone uses
 pub users_else : (u : Holders) (seat j i : ℕ) (e : Event) → j ≢ seat → times j (users_after u seat e i) ≡ times j (u i)
@@ -93,11 +82,11 @@ using_put v is = by_reference v.claims.held v.claims.probe refl refl where
   after : (k : ℕ) → ((j : ℕ) → j ≢ k → times v.seat (last_users v.did j) ≡ 0) → (j : ℕ) → times v.seat (last_users (v.did ++ by_seat v.seat (put_back k ∷ [])) j) ≡ 0
   after k others j = ap (λ (u : Holders). times v.seat (u j)) (push v (put_back k)) ∙ users_put (last_users v.did) v.seat k j (others j)
 
-  by_reference : (held probe : Maybe ℕ) → v.claims.held ≡ held → v.claims.probe ≡ probe → (j : ℕ) → times v.seat (last_users (v.did ++ by_seat v.seat (puts_of v.claims.held v.claims.probe)) j) ≡ 0
-  by_reference (Some k) probe a b j = ap (λ (o : Maybe ℕ). times v.seat (last_users (v.did ++ by_seat v.seat (puts_of o v.claims.probe)) j)) a
+  by_reference : (held probe : Maybe ℕ) → v.claims.held ≡ held → v.claims.probe ≡ probe → (j : ℕ) → times v.seat (last_users (v.did ++ by_seat v.seat (put_events v.claims.held v.claims.probe)) j) ≡ 0
+  by_reference (Some k) probe a b j = ap (λ (o : Maybe ℕ). times v.seat (last_users (v.did ++ by_seat v.seat (put_events o v.claims.probe)) j)) a
       ∙ after k (λ i n. is i ∙ (ap (λ (o : Maybe ℕ). times i (ids_of o)) a ∙ omega (arith, only_no i k (λ e. n (sym e))))) j
-  by_reference None (Some k) a b j = ap (λ (o : Maybe ℕ). times v.seat (last_users (v.did ++ by_seat v.seat (puts_of o v.claims.probe)) j)) a
-      ∙ (ap (λ (o : Maybe ℕ). times v.seat (last_users (v.did ++ by_seat v.seat (puts_of None o)) j)) b ∙ after k (λ i n. is i ∙ ap (λ (o : Maybe ℕ). times i (ids_of o)) a) j)
-  by_reference None None a b j = ap (λ (o : Maybe ℕ). times v.seat (last_users (v.did ++ by_seat v.seat (puts_of o v.claims.probe)) j)) a
-      ∙ (ap (λ (o : Maybe ℕ). times v.seat (last_users (v.did ++ by_seat v.seat (puts_of None o)) j)) b
+  by_reference None (Some k) a b j = ap (λ (o : Maybe ℕ). times v.seat (last_users (v.did ++ by_seat v.seat (put_events o v.claims.probe)) j)) a
+      ∙ (ap (λ (o : Maybe ℕ). times v.seat (last_users (v.did ++ by_seat v.seat (put_events None o)) j)) b ∙ after k (λ i n. is i ∙ ap (λ (o : Maybe ℕ). times i (ids_of o)) a) j)
+  by_reference None None a b j = ap (λ (o : Maybe ℕ). times v.seat (last_users (v.did ++ by_seat v.seat (put_events o v.claims.probe)) j)) a
+      ∙ (ap (λ (o : Maybe ℕ). times v.seat (last_users (v.did ++ by_seat v.seat (put_events None o)) j)) b
       ∙ (ap (λ (l : List (Deed Event)). times v.seat (last_users l j)) (append-nil v.did) ∙ (is j ∙ ap (λ (o : Maybe ℕ). times j (ids_of o)) a)))

@@ -33,14 +33,14 @@ abbrev pub end_value : PlaceEnd → EndValue
 end_value end = record { place = end.place; entries = end.entries.items; items = end.items.items }
 
 -- the end of the place with this number, if it has a journal
-abbrev pub end_of : ℕ → List Entry → List Object → List EndValue
-end_of k [] items = []
-end_of k (e ∷ es) items = record { place = place_at k; entries = e ∷ es; items = items } ∷ []
+abbrev pub place_ends : ℕ → List Entry → List Object → List EndValue
+place_ends k [] items = []
+place_ends k (e ∷ es) items = record { place = place_at k; entries = e ∷ es; items = items } ∷ []
 
 -- the ends of the places with lower numbers that have a journal, in the order of their numbers
 unfoldable pub ends_below : ℕ → (ℕ → List Entry) → (ℕ → List Object) → List EndValue
 ends_below zero entries items = []
-ends_below (suc k) entries items = ends_below k entries items ++ end_of k (entries k) (items k)
+ends_below (suc k) entries items = ends_below k entries items ++ place_ends k (entries k) (items k)
 
 -- the lookups of the ids with lower numbers
 unfoldable pub lookups_below : ℕ → (ℕ → ℕ) → List ℕ

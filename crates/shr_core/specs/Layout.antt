@@ -11,8 +11,8 @@ use Rattle.shr_seats.specs.Rows.{row_of, row_count}
 use Rattle.shr_core.specs.Slots.{Slot}
 
 -- the id of the place with this number
-abbrev pub id_of : ℕ → ℕ
-id_of k = k / 1024
+abbrev pub place_id : ℕ → ℕ
+place_id k = k / 1024
 
 -- the node of the place with this number
 abbrev pub node_of : ℕ → ℕ
@@ -24,7 +24,7 @@ group_of k = k % 256
 
 -- the place with this number
 abbrev pub place_at : ℕ → Place
-place_at k = record { id = id_of k; node = node_of k; group = group_of k }
+place_at k = record { id = place_id k; node = node_of k; group = group_of k }
 
 -- the number of the place of another group at the same id and node
 abbrev pub beside : ℕ → ℕ → ℕ
@@ -43,8 +43,8 @@ abbrev pub map_of : ℕ → ℕ
 map_of k = 1024 * (k / 65536) + k % 1024
 
 -- the bit of the place with this number, in its bit word
-abbrev pub bit_of : ℕ → ℕ
-bit_of k = k / 1024 % 64
+abbrev pub place_bit : ℕ → ℕ
+place_bit k = k / 1024 % 64
 
 -- the sizes have the node and the group of this number
 abbrev pub is_row : Sizes → ℕ → Bool

@@ -9,7 +9,7 @@ use Rattle.shr_seats.specs.Views.{Each}
 use Rattle.shr_seats.specs.Weights.{total, times, Begins}
 use Rattle.shr_core.specs.declared.view.View.{View}
 use Rattle.shr_core.specs.declared.setting.Setting.{Setting}
-use Rattle.shr_core.specs.Layout.{places_in, place_at, id_of, group_of, above, map_of, bit_of}
+use Rattle.shr_core.specs.Layout.{places_in, place_at, place_id, group_of, above, map_of, place_bit}
 use Rattle.shr_core.specs.Lookup.{lookups_of}
 use Rattle.shr_seats.specs.Lines.{Deed, part}
 use Rattle.shr_core.specs.Parts.{Event}
@@ -44,19 +44,19 @@ pub record IsLeft (key : Setting) (v : View) (closed : Closed) : Type 0 where
   pub known : Each (IsKnown now) v.traces.known
   pub seen : Each (IsSeen now after) v.traces.seen
   -- a live place below the root with items, of which nothing is owed, has its bit
-  pub flagged : (k : ℕ) → k < places_in key.shape.ids → 0 < group_of k → phase_of (id_of k) closed.pool.items % 3 ≡ 1 → 0 < length (items_now now after k) → times k v.marks.owed ≡ 0 → bit_at (bits (map_of k)) (bit_of k) ≡ 1
+  pub flagged : (k : ℕ) → k < places_in key.shape.ids → 0 < group_of k → phase_of (place_id k) closed.pool.items % 3 ≡ 1 → 0 < length (items_now now after k) → times k v.marks.owed ≡ 0 → bit_at (bits (map_of k)) (place_bit k) ≡ 1
   -- a bit that was set and never cleared is set, in each map seen since too
-  pub settled : (k : ℕ) → k < places_in key.shape.ids → 0 < times k v.marks.sets → times k v.marks.cleared ≡ 0 → bit_at (bits (map_of k)) (bit_of k) ≡ 1
-  pub mapped : Each (λ m. (k : ℕ) → k < places_in key.shape.ids → map_of k ≡ m.map → 0 < times k m.set → times k v.marks.cleared ≡ 0 → bit_at m.bits (bit_of k) ≡ 1) v.marks.maps
+  pub settled : (k : ℕ) → k < places_in key.shape.ids → 0 < times k v.marks.sets → times k v.marks.cleared ≡ 0 → bit_at (bits (map_of k)) (place_bit k) ≡ 1
+  pub mapped : Each (λ m. (k : ℕ) → k < places_in key.shape.ids → map_of k ≡ m.map → 0 < times k m.set → times k v.marks.cleared ≡ 0 → bit_at m.bits (place_bit k) ≡ 1) v.marks.maps
   -- a bit that is set, or was seen to be, was set
-  pub raised : (k : ℕ) → k < places_in key.shape.ids → bit_at (bits (map_of k)) (bit_of k) ≡ 1 → 0 < times k v.marks.sets
-  pub shown : Each (λ m. (k : ℕ) → k < places_in key.shape.ids → map_of k ≡ m.map → bit_at m.bits (bit_of k) ≡ 1 → 0 < times k v.marks.sets) v.marks.maps
+  pub raised : (k : ℕ) → k < places_in key.shape.ids → bit_at (bits (map_of k)) (place_bit k) ≡ 1 → 0 < times k v.marks.sets
+  pub shown : Each (λ m. (k : ℕ) → k < places_in key.shape.ids → map_of k ≡ m.map → bit_at m.bits (place_bit k) ≡ 1 → 0 < times k v.marks.sets) v.marks.maps
   -- each number of each id was drawn once, and was held exactly where it lies in a registration
   pub drawn : (i n : ℕ) → i < key.shape.ids → total (hit_attempt i n) v.claims.attempts ≡ cond (nat_le key.first_lookup n && nat_lt n (lookups_of (look i))) 1 0
   pub tried : Each (IsTried key.shape.ids closed.pool.items) v.claims.attempts
   pub loaded : Each (IsLoaded key.shape.ids look) v.claims.loaded
   -- an idle id has empty lists
-  pub resting : (k : ℕ) → k < places_in key.shape.ids → phase_of (id_of k) closed.pool.items % 3 ≡ 0 → items_now now after k ≡ []
+  pub resting : (k : ℕ) → k < places_in key.shape.ids → phase_of (place_id k) closed.pool.items % 3 ≡ 0 → items_now now after k ≡ []
   -- the pool's journal is legal, each entry was made once, and what any seat knew of it begins it
   pub journal : IsPoolJournal key.shape.ids key.shape.decls closed.pool.items
   pub turned : Each (IsTurn closed.pool.items) v.turns.made

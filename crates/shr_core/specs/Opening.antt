@@ -4,7 +4,7 @@ use Rattle.shr_core.specs.Slots.{Slot}
 use Rattle.shr_seats.specs.Views.{Each}
 
 -- a room with an empty list of these limits, or an empty journal of the pool
-pub record IsFresh (items_limit entries_limit : ℕ) (slot : Slot) : Type 0 where
+pub record IsFreshRoom (items_limit entries_limit : ℕ) (slot : Slot) : Type 0 where
   pub entries : slot.list.entries ≡ []
   pub items : slot.list.items ≡ []
   pub most_items : slot.list.most_items ≡ items_limit
@@ -12,8 +12,8 @@ pub record IsFresh (items_limit entries_limit : ℕ) (slot : Slot) : Type 0 wher
   pub pool : slot.pool.items ≡ []
 
 -- each of these rooms is fresh
-abbrev pub AreFresh : ℕ → ℕ → List Slot → Type 0
-AreFresh items_limit entries_limit slots = Each (IsFresh items_limit entries_limit) slots
+abbrev pub AreFreshRooms : ℕ → ℕ → List Slot → Type 0
+AreFreshRooms items_limit entries_limit slots = Each (IsFreshRoom items_limit entries_limit) slots
 
 -- lookup words have the first lookup's number, and all other words are 0
 pub record AreFirstWords (first : ℕ) (words : List ℕ) : Type 0 where

@@ -14,7 +14,7 @@ use Rattle.shr_seats.specs.Lines.{Deed, state_after, AreSo, AreInLine}
 use Rattle.shr_seats.specs.Weights.{times, without}
 use Rattle.shr_core.specs.declared.view.View.{View}
 use Rattle.shr_core.specs.Parts.{Event, counted, made, looked, loaded, turned, put_back, raised, cleared, mapped}
-use Rattle.shr_core.specs.Layout.{places_in, id_of, map_of, bit_of}
+use Rattle.shr_core.specs.Layout.{places_in, place_id, map_of, place_bit}
 use Rattle.shr_core.specs.Lookup.{refs_of, lookups_of}
 
 -- What the core has at one moment: the journal of each place, the pool's journal, the number of
@@ -52,7 +52,7 @@ IsDrawnAt t (Idle id) = Unit {0}
 abbrev pub LeavesNothing : Moment → PoolEntry → Type 0
 LeavesNothing t (Registered decl id from) = Unit {0}
 LeavesNothing t (Unregistered decl id to) = Unit {0}
-LeavesNothing t (Idle id) = (k : ℕ) → id_of k ≡ id → HasJournal (t.now k) []
+LeavesNothing t (Idle id) = (k : ℕ) → place_id k ≡ id → HasJournal (t.now k) []
 
 -- a list is drained while its id is dying
 abbrev pub IsTimely : Moment → ℕ → Entry → Type 0
@@ -66,14 +66,14 @@ IsTimely t id e = Unit {0}
 -- Drained stands where the id is dying.
 abbrev pub IsSo : ℕ → Moment → Event → Type 0
 IsSo ids t (counted x) = x.version ≡ length (t.now x.place)
-IsSo ids t (made x) = (x.number ≡ length (t.now x.place)) × IsTimely t (id_of x.place) x.entry
+IsSo ids t (made x) = (x.number ≡ length (t.now x.place)) × IsTimely t (place_id x.place) x.entry
 IsSo ids t (looked x) = (x.number ≡ t.next x.id) × (x.held ≡ (if is_live x.id t.pool then Some (decl_of x.id t.pool) else None))
 IsSo ids t (loaded x) = (x.word.lookups ≡ t.next x.id) × (x.word.phase ≡ phase_of x.id t.pool) × (x.word.refs ≡ t.refs x.id)
 IsSo ids t (turned x) = (x.number ≡ length t.pool) × IsDrawnAt t x.entry × LeavesNothing t x.entry
 IsSo ids t (put_back i) = 0 < t.refs i
 IsSo ids t (raised k) = Unit {0}
 IsSo ids t (cleared k) = Unit {0}
-IsSo ids t (mapped x) = (k : ℕ) → k < places_in ids → map_of k ≡ x.map → bit_at x.bits (bit_of k) ≡ t.bits k
+IsSo ids t (mapped x) = (k : ℕ) → k < places_in ids → map_of k ≡ x.map → bit_at x.bits (place_bit k) ≡ t.bits k
 
 abbrev pub moment_next : Moment → Deed Event → Moment
 moment_next t d = moment_after t d.act
@@ -92,7 +92,7 @@ pub record IsMoment (ids : ℕ) (now : ℕ → List Entry) (pool : List PoolEntr
   pub registrations : t.pool ≡ pool
   pub lookups : (i : ℕ) → i < ids → t.next i ≡ lookups_of (look i)
   pub references : (i : ℕ) → i < ids → t.refs i ≡ refs_of (look i)
-  pub flags : (k : ℕ) → k < places_in ids → t.bits k ≡ bit_at (bits (map_of k)) (bit_of k)
+  pub flags : (k : ℕ) → k < places_in ids → t.bits k ≡ bit_at (bits (map_of k)) (place_bit k)
 
 -- the seats that have a reference to each id
 abbrev pub Holders : Type 0
@@ -181,7 +181,7 @@ IsOutOfUse u (Idle id) = u id ≡ []
 
 abbrev pub IsInUse : Holders → ℕ → Event → Type 0
 IsInUse u seat (counted x) = Unit {0}
-IsInUse u seat (made x) = IsMadeInUse u seat (id_of x.place) x.entry
+IsInUse u seat (made x) = IsMadeInUse u seat (place_id x.place) x.entry
 IsInUse u seat (looked x) = Unit {0}
 IsInUse u seat (loaded x) = Unit {0}
 IsInUse u seat (turned x) = IsOutOfUse u x.entry

@@ -7,7 +7,7 @@ use Rattle.shr_base.specs.declared.ends.LookupWord.{LookupWord}
 
 -- what a room has: the journal of its place, its items and the two limits of its list, or the
 -- pool's journal
-pub record Content : Type 0 where
+pub record RoomContent : Type 0 where
   pub entries : List Entry
   pub items : List Object
   pub most_items : ℕ
@@ -17,7 +17,7 @@ pub record Content : Type 0 where
 -- a room in hand
 pub record Hand : Type 0 where
   pub room : ℕ
-  pub content : Content
+  pub content : RoomContent
 
 -- The rooms in hand, the one taken last first, with the entries whose counts are stored; and the
 -- child's place whose list was moved into its parent's and is not closed yet, if there is one

@@ -13,7 +13,7 @@ use Rattle.shr_base.specs.declared.journals.PoolEntry.TheVariants.{Registered, U
 use Rattle.shr_model.specs.Places.{place_number}
 use Rattle.shr_model.specs.Items.{is_closed}
 use Rattle.shr_model.specs.Families.{Family, moved_in, items_at, IsLegal}
-use Rattle.shr_model.specs.Pool.{phase_of, decl_of, last_number, from_of, is_live, dying_in, registrations, EndedBy, decl_at, end_of, is_before, IsPoolJournal}
+use Rattle.shr_model.specs.Pool.{phase_of, decl_of, last_number, from_of, is_live, dying_in, registrations, HaveEndedBy, decl_at, end_of, is_before, IsPoolJournal}
 use Rattle.shr_list.specs.Listed.{Listed}
 use Rattle.shr_seats.specs.Views.{Each}
 use Rattle.shr_seats.specs.Standing.{Standing, at_first, at_split, at_end, AreSeats, AreEmptied}
@@ -22,8 +22,8 @@ use Rattle.shr_core.specs.declared.view.View.{View}
 use Rattle.shr_core.specs.Slots.{Slot}
 use Rattle.shr_seats.specs.declared.shape.Shape.{Shape}
 use Rattle.shr_core.specs.declared.setting.Setting.{Setting}
-use Rattle.shr_core.specs.Parts.{Content, Hand, Holding, Made, Known, Counted, Traces, Mapped, Marks, Tried, Loaded, Claims, Turn, Turns, Dated, no_rooms, no_traces, no_marks, no_claims, no_turns}
-use Rattle.shr_core.specs.Layout.{counts_in, locks_in, bits_in, looks_in, homes_in, places_in, rooms_in, words_in, id_of, node_of, group_of, place_at, above, map_of, bit_of}
+use Rattle.shr_core.specs.Parts.{RoomContent, Hand, Holding, Made, Known, Counted, Traces, Mapped, Marks, Tried, Loaded, Claims, Turn, Turns, Dated, no_rooms, no_traces, no_marks, no_claims, no_turns}
+use Rattle.shr_core.specs.Layout.{counts_in, locks_in, bits_in, looks_in, homes_in, places_in, rooms_in, words_in, place_id, node_of, group_of, place_at, above, map_of, place_bit}
 use Rattle.shr_seats.specs.Shapes.{IsShape, groups_in, sizes_of}
 use Rattle.shr_core.specs.Lookup.{refs_of, lookups_of, phase_in, decl_in}
 use Rattle.shr_core.specs.Order.{AreOrdered}
@@ -41,7 +41,7 @@ abbrev pub spent : View
 spent = record blank { standing = at_end }
 
 -- what a core may be made with: a shape, and a number of the first lookups
-pub record IsSetting (key : Setting) : Type 0 where
+pub record IsCoreSetting (key : Setting) : Type 0 where
   pub shape : IsShape key.shape
   -- a number has 32 bits
   pub first : key.first_lookup < 2 ^ 32
@@ -86,19 +86,19 @@ pub record AreCounts (shape : Shape) (now : Journals) (after : Histories) (count
   pub placed : (k : ℕ) → 0 < length (now k) → IsInside shape k
 
 -- all that a slot has
-abbrev pub content_of : Slot → Content
-content_of slot = record { entries = slot.list.entries; items = slot.list.items; most_items = slot.list.most_items; most_entries = slot.list.most_entries; pool = slot.pool.items }
+abbrev pub slot_content : Slot → RoomContent
+slot_content slot = record { entries = slot.list.entries; items = slot.list.items; most_items = slot.list.most_items; most_entries = slot.list.most_entries; pool = slot.pool.items }
 
 -- what a place's room has when its list is this one
-abbrev pub list_content : Listed → Content
+abbrev pub list_content : Listed → RoomContent
 list_content list = record { entries = list.entries; items = list.items; most_items = list.most_items; most_entries = list.most_entries; pool = [] }
 
 -- what the pool's room has when its journal is this one
-abbrev pub pool_content : List PoolEntry → Content
+abbrev pub pool_content : List PoolEntry → RoomContent
 pool_content pool = record { entries = []; items = []; most_items = 0; most_entries = 0; pool = pool }
 
 -- what a room has is so now: its place's journal, items and limits, or the pool's journal
-pub record Fits (shape : Shape) (now : Journals) (after : Histories) (pool : List PoolEntry) (room : ℕ) (c : Content) : Type 0 where
+pub record Fits (shape : Shape) (now : Journals) (after : Histories) (pool : List PoolEntry) (room : ℕ) (c : RoomContent) : Type 0 where
   pub entries : room < places_in shape.ids → c.entries ≡ now room
   pub items : room < places_in shape.ids → c.items ≡ items_now now after room
   pub most_items : room < places_in shape.ids → c.most_items ≡ shape.most_items
@@ -107,8 +107,8 @@ pub record Fits (shape : Shape) (now : Journals) (after : Histories) (pool : Lis
   pub turns : room ≡ places_in shape.ids → c.pool ≡ pool
 
 -- a room at home; the pool has a spare of at least the number of dying ids
-pub record Keeps (shape : Shape) (now : Journals) (after : Histories) (pool : List PoolEntry) (room : ℕ) (slot : Slot) : Type 0 where
-  pub fits : Fits shape now after pool room (content_of slot)
+pub record IsRoomAtHome (shape : Shape) (now : Journals) (after : Histories) (pool : List PoolEntry) (room : ℕ) (slot : Slot) : Type 0 where
+  pub fits : Fits shape now after pool room (slot_content slot)
   pub spare : room ≡ places_in shape.ids → dying_in shape.ids pool ≤ slot.pool.spare
 
 -- 1 if the room in hand has this number, else 0
@@ -120,11 +120,11 @@ abbrev pub has_room : ℕ → Holding → ℕ
 has_room r v = total (is_room r) v.hands
 
 -- each room in a seat's hand has what it has now
-abbrev pub AreInHand : (ℕ → Type 0) → (ℕ → Content → Type 0) → Holding → Type 0
+abbrev pub AreInHand : (ℕ → Type 0) → (ℕ → RoomContent → Type 0) → Holding → Type 0
 AreInHand IsOne fits v = Each (λ h. IsOne h.room × fits h.room h.content) v.hands
 
 -- Each room is at home if its lock word is 0, and in the hand of one seat if it is 1.
-pub record AreRooms (IsOne : ℕ → Type 0) (lock : ℕ → ℕ) (home_of : ℕ → Option (Option Slot)) (keeps : ℕ → Slot → Type 0) (fits : ℕ → Content → Type 0) (hands : List Holding) : Type 0 where
+pub record AreRooms (IsOne : ℕ → Type 0) (lock : ℕ → ℕ) (home_of : ℕ → Option (Option Slot)) (keeps : ℕ → Slot → Type 0) (fits : ℕ → RoomContent → Type 0) (hands : List Holding) : Type 0 where
   -- a lock word counts the seats that have the room in hand
   pub locks : (r : ℕ) → IsOne r → total (has_room r) hands ≡ lock r
   pub one : (r : ℕ) → IsOne r → lock r ≤ 1
@@ -150,7 +150,7 @@ abbrev pub half_of : ℕ → Holding → ℕ
 half_of k h = only_some k h.half
 
 -- The splice of a child's list of which only the parent's MovedIn is stored.
-pub record IsHalf (parents : List ℕ) (now : Journals) (h : Holding) (k : ℕ) : Type 0 where
+pub record IsHalfSpliced (parents : List ℕ) (now : Journals) (h : Holding) (k : ℕ) : Type 0 where
   -- the place is of a child
   pub below_root : 0 < group_of k
   pub group : group_of k < length parents
@@ -175,7 +175,7 @@ pub record AreLists (parents : List ℕ) (now : Journals) (after : Histories) (h
   -- one that was moved in is closed, or a seat is between the two stores
   pub taken : (k : ℕ) → 0 < group_of k → group_of k < length parents → Contains (moved_in (now (above parents k))) (group_of k) → (is_closed (now k) ≡ true) ⊎ (0 < total (half_of k) hands)
   -- a seat between the two stores is as it should be
-  pub halves : Each (λ h. (k : ℕ) → h.half ≡ Some k → IsHalf parents now h k) hands
+  pub halves : Each (λ h. (k : ℕ) → h.half ≡ Some k → IsHalfSpliced parents now h k) hands
 
 -- 1 if this is the entry of the place with this number, else 0
 abbrev pub hit : ℕ → ℕ → Made → ℕ
@@ -206,11 +206,11 @@ pub record AreTraces (now : Journals) (after : Histories) (traces : List Traces)
 
 -- a map has the bit of each place that its seat had set by then and that no seat has cleared
 abbrev pub IsMapped : ℕ → List Marks → Mapped → Type 0
-IsMapped places marks x = (k : ℕ) → k < places → map_of k ≡ x.map → 0 < times k x.set → total (λ m. times k m.cleared) marks ≡ 0 → bit_at x.bits (bit_of k) ≡ 1
+IsMapped places marks x = (k : ℕ) → k < places → map_of k ≡ x.map → 0 < times k x.set → total (λ m. times k m.cleared) marks ≡ 0 → bit_at x.bits (place_bit k) ≡ 1
 
 -- each bit that a map has was set by some seat
 abbrev pub IsShown : ℕ → List Marks → Mapped → Type 0
-IsShown places marks x = (k : ℕ) → k < places → map_of k ≡ x.map → bit_at x.bits (bit_of k) ≡ 1 → 0 < total (λ m. times k m.sets) marks
+IsShown places marks x = (k : ℕ) → k < places → map_of k ≡ x.map → bit_at x.bits (place_bit k) ≡ 1 → 0 < total (λ m. times k m.sets) marks
 
 -- each bit that a map has stands for an id
 abbrev pub HasOnlyIds : ℕ → Mapped → Type 0
@@ -219,13 +219,13 @@ HasOnlyIds ids x = (b : ℕ) → b < 64 → bit_at x.bits b ≡ 1 → 64 * (x.ma
 -- the bit words are as the seats have set and cleared them, and what they owe is enough
 pub record AreMarks (ids : ℕ) (count bits phase : ℕ → ℕ) (marks : List Marks) : Type 0 where
   -- if a place below the root has items and its id is live, its bit is set or a seat owes it
-  pub flagged : (k : ℕ) → k < places_in ids → 0 < group_of k → phase (id_of k) % 3 ≡ 1 → 0 < count k % 2 ^ 32 → (bit_at (bits (map_of k)) (bit_of k) ≡ 1) ⊎ (0 < total (λ m. times k m.owed) marks)
+  pub flagged : (k : ℕ) → k < places_in ids → 0 < group_of k → phase (place_id k) % 3 ≡ 1 → 0 < count k % 2 ^ 32 → (bit_at (bits (map_of k)) (place_bit k) ≡ 1) ⊎ (0 < total (λ m. times k m.owed) marks)
   -- a bit that a seat has set and none has cleared is set
-  pub settled : (k : ℕ) → k < places_in ids → 0 < total (λ m. times k m.sets) marks → total (λ m. times k m.cleared) marks ≡ 0 → bit_at (bits (map_of k)) (bit_of k) ≡ 1
+  pub settled : (k : ℕ) → k < places_in ids → 0 < total (λ m. times k m.sets) marks → total (λ m. times k m.cleared) marks ≡ 0 → bit_at (bits (map_of k)) (place_bit k) ≡ 1
   -- and so in each map that was seen since
   pub mapped : Each (λ m. Each (IsMapped (places_in ids) marks) m.maps) marks
   -- a bit that is set, or was seen to be, some seat has set
-  pub raised : (k : ℕ) → k < places_in ids → bit_at (bits (map_of k)) (bit_of k) ≡ 1 → 0 < total (λ m. times k m.sets) marks
+  pub raised : (k : ℕ) → k < places_in ids → bit_at (bits (map_of k)) (place_bit k) ≡ 1 → 0 < total (λ m. times k m.sets) marks
   pub shown : Each (λ m. Each (IsShown (places_in ids) marks) m.maps) marks
   -- each bit that is set stands for an id
   pub none_else : (m b : ℕ) → m < places_in ids → b < 64 → bit_at (bits m) b ≡ 1 → 64 * (m / 1024) + b < ids
@@ -279,7 +279,7 @@ pub record AreLookups (ids first : ℕ) (look : ℕ → ℕ) (pool : List PoolEn
   -- a lookup made from now on meets what the journal's last entry says
   pub edges : (i n : ℕ) → i < ids → lookups_of (look i) ≤ n → decl_at n (registrations i pool) ≡ met_now i pool
   -- a registration that has ended did so by the lookups now
-  pub ended : (i : ℕ) → i < ids → EndedBy (lookups_of (look i)) (registrations i pool)
+  pub ended : (i : ℕ) → i < ids → HaveEndedBy (lookups_of (look i)) (registrations i pool)
   -- no entry of the id has a number past the lookups now
   pub numbers : (i : ℕ) → i < ids → last_number i pool ≤ lookups_of (look i)
   -- the last registration began by then too
@@ -305,7 +305,7 @@ pub record IsOwner (shape : Shape) (now : Journals) (after : Histories) (pool : 
   -- a mark moves only when the id is quiet
   pub unmoved : c.quiet ≡ false → (node : ℕ) → node < 4 → groups_in shape ≤ mark_of c node
   -- lists at or above the mark of their node are empty
-  pub drained : (k : ℕ) → id_of k ≡ i → mark_of c (node_of k) ≤ group_of k → items_now now after k ≡ []
+  pub drained : (k : ℕ) → place_id k ≡ i → mark_of c (node_of k) ≤ group_of k → items_now now after k ≡ []
 
 -- who owns dying ids, and which lists are empty
 pub record AreOwned (shape : Shape) (now : Journals) (after : Histories) (pool : List PoolEntry) (claims : List Claims) : Type 0 where
@@ -316,7 +316,7 @@ pub record AreOwned (shape : Shape) (now : Journals) (after : Histories) (pool :
   -- a place that the shape lacks has nothing
   pub outside : (k : ℕ) → (groups_in shape ≤ group_of k) ⊎ (shape.nodes ≤ node_of k) → items_now now after k ≡ []
   -- an idle id has empty lists
-  pub resting : (k : ℕ) → k < places_in shape.ids → phase_of (id_of k) pool % 3 ≡ 0 → items_now now after k ≡ []
+  pub resting : (k : ℕ) → k < places_in shape.ids → phase_of (place_id k) pool % 3 ≡ 0 → items_now now after k ≡ []
 
 -- 1 if this is the pool's entry with this number, else 0
 abbrev pub hit_turn : ℕ → Turn → ℕ
@@ -352,10 +352,10 @@ abbrev pub AreDated : ℕ → (ℕ → ℕ) → List PoolEntry → List Turns �
 AreDated ids look pool turns = Each (λ t. Each (IsDated ids look pool) t.dated) turns
 
 -- the entry ends a registration of the id
-abbrev pub is_end : ℕ → PoolEntry → Bool
-is_end i (Registered decl id from) = false
-is_end i (Unregistered decl id to) = id == i
-is_end i (Idle id) = false
+abbrev pub ends_registration : ℕ → PoolEntry → Bool
+ends_registration i (Registered decl id from) = false
+ends_registration i (Unregistered decl id to) = id == i
+ends_registration i (Idle id) = false
 
 -- one of these turns is the id's last Unregistered in the pool's journal
 pub record HasLastEnd (i : ℕ) (pool : List PoolEntry) (turns : List Turn) : Type 0 where
@@ -364,9 +364,9 @@ pub record HasLastEnd (i : ℕ) (pool : List PoolEntry) (turns : List Turn) : Ty
   -- it is one of these turns
   pub own : get_elem? turns place ≡ some turn
   pub stands : IsTurn pool turn
-  pub ends : is_end i turn.entry ≡ true
+  pub ends : ends_registration i turn.entry ≡ true
   -- no later entry ends a registration of the id
-  pub last : (n : ℕ) (e : PoolEntry) → turn.number < n → get_elem? pool n ≡ some e → is_end i e ≡ false
+  pub last : (n : ℕ) (e : PoolEntry) → turn.number < n → get_elem? pool n ≡ some e → ends_registration i e ≡ false
   -- and the id has no later entry
   pub alone : phase_of i pool ≡ phase_of i (take turn.number pool) + 1
 
@@ -395,8 +395,8 @@ abbrev pub turns_of : View → Turns
 turns_of v = v.turns
 
 -- where a view stands among the seats
-abbrev pub standing_of : View → Standing
-standing_of v = v.standing
+abbrev pub view_standing : View → Standing
+view_standing v = v.standing
 
 -- the phase of an id by the pool's journal
 abbrev pub phases : List PoolEntry → ℕ → ℕ
@@ -404,7 +404,7 @@ phases pool i = phase_of i pool
 
 -- the rooms and lock words of a core with this setting
 abbrev pub AreRoomsOf : Setting → Journals → Histories → List PoolEntry → (ℕ → ℕ) → List (Option Slot) → List Holding → Type 0
-AreRoomsOf key now after pool lock homes hands = AreRooms (IsRoom key.shape) lock (homes_in (sizes_of key.shape) homes) (Keeps key.shape now after pool) (Fits key.shape now after pool) hands
+AreRoomsOf key now after pool lock homes hands = AreRooms (IsRoom key.shape) lock (homes_in (sizes_of key.shape) homes) (IsRoomAtHome key.shape now after pool) (Fits key.shape now after pool) hands
 
 -- the lookup words of a core with this setting
 abbrev pub AreLookupsOf : Setting → (ℕ → ℕ) → List PoolEntry → List Claims → Type 0
@@ -431,15 +431,15 @@ pub record Sound (key : Setting) (s : State Slot View) : Type 0 where
   pub now : Journals
   pub after : Histories
   pub pool : List PoolEntry
-  pub sized : IsSetting key
+  pub sized : IsCoreSetting key
   -- a row of words and a slot for each room
   pub wide : length s.words ≡ words_in (sizes_of key.shape)
   pub deep : length s.homes ≡ rooms_in (sizes_of key.shape)
   -- a view that was joined away holds nothing else
-  pub emptied : AreEmptied standing_of spent s.views
+  pub emptied : AreEmptied view_standing spent s.views
   -- a view that owns an id made the id's last Unregistered
   pub ended : Each (HasOwnEnd pool) s.views
   -- all that the seats did, in one order
   pub ordered : AreOrdered key.shape.ids key.first_lookup now pool (bits_in (sizes_of key.shape) s.words) (looks_in s.words) s.views
   pub rules : Rules key now after pool (counts_in (sizes_of key.shape) s.words) (locks_in (sizes_of key.shape) s.words) (bits_in (sizes_of key.shape) s.words) (looks_in s.words) s.homes
-      (map holding_of s.views) (map traces_of s.views) (map marks_of s.views) (map claims_of s.views) (map turns_of s.views) (map standing_of s.views)
+      (map holding_of s.views) (map traces_of s.views) (map marks_of s.views) (map claims_of s.views) (map turns_of s.views) (map view_standing s.views)

@@ -28,8 +28,8 @@ abbrev pub shape_of : Core → Shape
 shape_of core = core.setting.shape
 
 -- a place is of the core's shape
-abbrev pub IsPlaceOf : Shape → Place → Type 0
-IsPlaceOf shape place = rows.IsPlaceOf (sizes_of shape) place
+abbrev pub IsPlaceOfShape : Shape → Place → Type 0
+IsPlaceOfShape shape place = rows.IsPlaceOf (sizes_of shape) place
 
 -- the numbers of the rooms in hand, the one taken last first
 abbrev pub numbers_of : InHand → List ℕ

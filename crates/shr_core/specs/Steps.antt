@@ -20,9 +20,9 @@ use Rattle.shr_seats.specs.Weights.{without, Begins}
 use Rattle.shr_core.specs.declared.view.View.{View}
 use Rattle.shr_core.specs.Slots.{Slot}
 use Rattle.shr_seats.specs.declared.shape.Shape.{Shape}
-use Rattle.shr_core.specs.Parts.{Content, Hand, Claims, Dated, Event, counted, made, looked, loaded, turned, put_back, raised, cleared, mapped}
+use Rattle.shr_core.specs.Parts.{RoomContent, Hand, Claims, Dated, Event, counted, made, looked, loaded, turned, put_back, raised, cleared, mapped}
 use Rattle.shr_core.specs.Lookup.{last_lookups}
-use Rattle.shr_core.specs.Layout.{places_in, id_of, node_of, group_of, beside}
+use Rattle.shr_core.specs.Layout.{places_in, place_id, node_of, group_of, beside}
 use Rattle.shr_core.specs.Rule.{blank, has_room, mark_of, IsInside, AreBorn, is_some_of}
 use Rattle.shr_seats.specs.Shapes.{groups_in}
 
@@ -71,12 +71,12 @@ abbrev pub with_clear : View → ℕ → View
 with_clear v k = record v { marks = record v.marks { owed = v.marks.owed ++ k ∷ []; cleared = v.marks.cleared ++ k ∷ [] }; did = noted v (cleared k) }
 
 -- what the room with this number has, among the rooms in hand
-abbrev pub content_in : ℕ → List Hand → Content
+abbrev pub content_in : ℕ → List Hand → RoomContent
 content_in r [] = record { entries = []; items = []; most_items = 0; most_entries = 0; pool = [] }
 content_in r (h ∷ hs) = if h.room == r then h.content else content_in r hs
 
 -- what the room with this number has in the hand of a view
-abbrev pub in_hand : View → ℕ → Content
+abbrev pub in_hand : View → ℕ → RoomContent
 in_hand v r = content_in r v.holding.hands
 
 -- the rooms in hand, without one
@@ -85,12 +85,12 @@ without_room r [] = []
 without_room r (h ∷ hs) = if h.room == r then hs else (h ∷ without_room r hs)
 
 -- the rooms in hand, with one's content changed
-abbrev pub with_content : ℕ → Content → List Hand → List Hand
+abbrev pub with_content : ℕ → RoomContent → List Hand → List Hand
 with_content r c [] = []
 with_content r c (h ∷ hs) = if h.room == r then (record { room = r; content = c } ∷ hs) else (h ∷ with_content r c hs)
 
 -- a room was taken, with its content
-abbrev pub with_taken : View → ℕ → Content → View
+abbrev pub with_taken : View → ℕ → RoomContent → View
 with_taken v r c = record v { holding = record v.holding { hands = record { room = r; content = c } ∷ v.holding.hands } }
 
 -- a room was tried in vain
@@ -100,7 +100,7 @@ with_try v k = record v { traces = record v.traces { tries = v.traces.tries ++ k
 -- What a taken place's room has: all that the seat knows of the journal is a beginning of it, and
 -- the list is within the core's limits, with the objects that its journal leaves, born in groups of
 -- the shape
-pub record IsTaken (shape : Shape) (v : View) (k : ℕ) (c : Content) : Type 0 where
+pub record IsTaken (shape : Shape) (v : View) (k : ℕ) (c : RoomContent) : Type 0 where
   pub known : Each (λ x. x.place ≡ k → Begins x.entries c.entries) v.traces.known
   pub seen : Each (λ x. x.place ≡ k → x.version ≤ length c.entries) v.traces.seen
   pub made : Each (λ x. x.place ≡ k → x.number < length c.entries) v.traces.made
@@ -132,7 +132,7 @@ is_empty (x ∷ xs) = false
 
 -- the place is that up to which the quiet owner's mark can fall
 abbrev pub is_drained : Claims → ℕ → List Object → Bool
-is_drained c k items = c.quiet && is_some_of (id_of k) c.owner && (mark_of c (node_of k) == group_of k + 1) && is_empty items
+is_drained c k items = c.quiet && is_some_of (place_id k) c.owner && (mark_of c (node_of k) == group_of k + 1) && is_empty items
 
 -- the marks after a place's room is given back with these items
 abbrev pub drained_after : Claims → ℕ → List Object → List ℕ
@@ -189,7 +189,7 @@ half_after half k (Drained by objects) = half
 
 -- the count of a list in hand with one entry more was stored
 abbrev pub with_stored : View → ℕ → Entry → List Object → View
-with_stored v k e items = let c : Content = in_hand v k in record v {
+with_stored v k e items = let c : RoomContent = in_hand v k in record v {
   holding = record { hands = with_content k (record c { entries = c.entries ++ e ∷ []; items = items }) v.holding.hands; half = half_after v.holding.half k e };
   traces = record v.traces { made = v.traces.made ++ record { place = k; number = length c.entries; entry = e; items = c.items } ∷ [] };
   marks = record v.marks { owed = owed_after k (length c.items) (length items) v.marks.owed };
@@ -214,14 +214,14 @@ IsUnspliced shape v k = (child : ℕ) → v.holding.half ≡ Some child → (k �
 -- showed no reference. A MovedIn needs the child's room, and is followed by the child's Closed.
 -- Nothing else is stored in the two places between these two.
 abbrev pub IsBacked : Shape → View → ℕ → Entry → Type 0
-IsBacked shape v k (Add by birth added key value) = (v.claims.held ≡ Some (id_of k)) × (birth < groups_in shape) × IsUnspliced shape v k
+IsBacked shape v k (Add by birth added key value) = (v.claims.held ≡ Some (place_id k)) × (birth < groups_in shape) × IsUnspliced shape v k
 IsBacked shape v k (Look by birth key hit) = IsUnspliced shape v k
 IsBacked shape v k (Drop by birth key kind) = IsUnspliced shape v k
 IsBacked shape v k (Pin by birth key pinned hit) = IsUnspliced shape v k
-IsBacked shape v k (Scan worker walk asked policy visits freed stopped) = (v.claims.held ≡ Some (id_of k)) × IsUnspliced shape v k
+IsBacked shape v k (Scan worker walk asked policy visits freed stopped) = (v.claims.held ≡ Some (place_id k)) × IsUnspliced shape v k
 IsBacked shape v k (MovedIn child objects) = (v.holding.half ≡ None) × (0 < has_room (beside k child) v.holding) × (is_closed (in_hand v (beside k child)).entries ≡ false)
 IsBacked shape v k Closed = v.holding.half ≡ Some k
-IsBacked shape v k (Drained by objects) = (v.claims.owner ≡ Some (id_of k)) × (v.claims.quiet ≡ true) × IsUnspliced shape v k
+IsBacked shape v k (Drained by objects) = (v.claims.owner ≡ Some (place_id k)) × (v.claims.quiet ≡ true) × IsUnspliced shape v k
 
 -- the list is the one in hand with one legal entry more, and the seat may store it
 pub record MayStore (shape : Shape) (v : View) (k : ℕ) (list : Listed) : Type 0 where
@@ -238,7 +238,7 @@ pub record MayStore (shape : Shape) (v : View) (k : ℕ) (list : Listed) : Type 
 -- the places of other ids
 abbrev pub without_id : ℕ → List ℕ → List ℕ
 without_id i [] = []
-without_id i (x ∷ xs) = if id_of x == i then without_id i xs else (x ∷ without_id i xs)
+without_id i (x ∷ xs) = if place_id x == i then without_id i xs else (x ∷ without_id i xs)
 
 -- a lookup word was loaded: what is owed of an id that is not live ends, and its owner sees whether
 -- it is quiet
@@ -280,14 +280,14 @@ abbrev pub with_lookup : View → ℕ → LookupWord → View
 with_lookup v id w = record v { claims = claimed v.claims id w (w.phase % 3 == 1); did = noted v (looked (record { id = id; number = w.lookups; held = cond (w.phase % 3 == 1) (Some w.decl) None })) }
 
 -- the reference that a seat has is given back
-abbrev pub puts_of : Option ℕ → Option ℕ → List Event
-puts_of (Some i) probe = put_back i ∷ []
-puts_of None (Some i) = put_back i ∷ []
-puts_of None None = []
+abbrev pub put_events : Option ℕ → Option ℕ → List Event
+put_events (Some i) probe = put_back i ∷ []
+put_events None (Some i) = put_back i ∷ []
+put_events None None = []
 
 -- the reference was given back
 abbrev pub with_put : View → View
-with_put v = record v { claims = record v.claims { held = None; probe = None }; did = v.did ++ by_seat v.seat (puts_of v.claims.held v.claims.probe) }
+with_put v = record v { claims = record v.claims { held = None; probe = None }; did = v.did ++ by_seat v.seat (put_events v.claims.held v.claims.probe) }
 
 -- the entry of a phase step, by the word that it found
 abbrev pub turn_at : ℕ → ℕ → LookupWord → PoolEntry
@@ -299,7 +299,7 @@ undrained shape = groups_in shape ∷ groups_in shape ∷ groups_in shape ∷ gr
 
 -- the phase of an id rose, with the pool in hand: the seat owns it from dying to idle
 abbrev pub with_phase : Shape → View → ℕ → ℕ → LookupWord → View
-with_phase shape v id decl w = let r : ℕ = places_in shape.ids in let c : Content = in_hand v r in record v {
+with_phase shape v id decl w = let r : ℕ = places_in shape.ids in let c : RoomContent = in_hand v r in record v {
   holding = record v.holding { hands = with_content r (record c { pool = c.pool ++ turn_at id decl w ∷ [] }) v.holding.hands };
   claims = record v.claims {
     owner = cond (w.phase % 3 == 0) v.claims.owner (cond (w.phase % 3 == 1) (Some id) None);
@@ -334,8 +334,8 @@ abbrev pub split_off : View → View
 split_off v = record blank { turns = record { made = []; known = v.turns.known; gives = 0; heard = []; dated = [] }; seat = 1 + v.standing.splits }
 
 -- what another seat has seen and made goes into the first
-abbrev pub joined : View → View → View
-joined v u = record v {
+abbrev pub with_joined : View → View → View
+with_joined v u = record v {
   traces = record { made = v.traces.made ++ u.traces.made; known = v.traces.known ++ u.traces.known; seen = v.traces.seen ++ u.traces.seen; tries = v.traces.tries ++ u.traces.tries };
   marks = record { owed = v.marks.owed; sets = v.marks.sets ++ u.marks.sets; cleared = v.marks.cleared ++ u.marks.cleared; maps = v.marks.maps ++ u.marks.maps };
   claims = record v.claims { attempts = v.claims.attempts ++ u.claims.attempts; loaded = v.claims.loaded ++ u.claims.loaded };

@@ -10,39 +10,39 @@ use Rattle.shr_core.specs.declared.view.View.{View}
 use Rattle.shr_core.specs.Slots.{Slot}
 use Rattle.shr_seats.specs.declared.shape.Shape.{Shape}
 use Rattle.shr_core.specs.declared.setting.Setting.{Setting}
-use Rattle.shr_core.specs.Parts.{Content}
+use Rattle.shr_core.specs.Parts.{RoomContent}
 use Rattle.shr_core.specs.Layout.{places_in, length_of, version_of}
 use Rattle.shr_core.specs.Lookup.{word_in}
 use Rattle.shr_core.specs.Rule.{HasLastEnd, has_room, only_some, list_content, pool_content, met_now}
 use Rattle.shr_core.specs.Steps.{Sat, with_count, IsCounted, with_map, IsOfIds, with_taken, IsTaken, IsTakenPool, with_word, with_lookup, with_phase, in_hand}
 
 -- a load of the count word of the place k
-abbrev pub counted : Shape → Sat → ℕ → ℕ → Sat → Type 0
-counted shape m k r n = (n ≡ (with_count m.0 k (length_of r) (version_of r), m.1)) × IsCounted shape m.0 k (length_of r) (version_of r)
+abbrev pub count_loaded : Shape → Sat → ℕ → ℕ → Sat → Type 0
+count_loaded shape m k r n = (n ≡ (with_count m.0 k (length_of r) (version_of r), m.1)) × IsCounted shape m.0 k (length_of r) (version_of r)
 
 -- a load of the bit word b of a unit
 abbrev pub mapped : Shape → Sat → ℕ → ℕ → ℕ → Sat → Type 0
 mapped shape m b unit r n = (n ≡ (with_map m.0 b r, m.1)) × IsOfIds shape.ids unit r
 
 -- what a slot is as a place's room
-abbrev pub place_content : Slot → Content
+abbrev pub place_content : Slot → RoomContent
 place_content slot = list_content slot.list
 
 -- what a slot is as the pool's room
-abbrev pub turns_content : Slot → Content
+abbrev pub turns_content : Slot → RoomContent
 turns_content slot = pool_content slot.pool.items
 
 -- a room was taken, out of the slot of its row, and this is told of what it has
-abbrev pub Takes : Sat → ℕ → ℕ → (Slot → Content) → (Slot → Type 0) → Sat → Type 0
-Takes m r row of told n = (slot : Slot) × (n ≡ (with_taken m.0 r (of slot), (row, slot) ∷ m.1)) × told slot
+abbrev pub TakesRoom : Sat → ℕ → ℕ → (Slot → RoomContent) → (Slot → Type 0) → Sat → Type 0
+TakesRoom m r row of told n = (slot : Slot) × (n ≡ (with_taken m.0 r (of slot), (row, slot) ∷ m.1)) × told slot
 
 -- a seat that is alone finds a room taken only if it has the room itself
 abbrev pub IsBusy : View → ℕ → Type 0
 IsBusy v r = v.standing.first ≡ true → IsWhole v.standing → 0 < has_room r v.holding
 
 -- a compare and exchange of a lock word: if it found 0 the room is taken, else the view is `missed`
-abbrev pub took : Sat → View → ℕ → ℕ → (Slot → Content) → (Slot → Type 0) → ℕ → Sat → Type 0
-took m missed r row of told found n = (found ≡ 0 → Takes m r row of told n) × (found ≢ 0 → n ≡ (missed, m.1)) × (found ≢ 0 → IsBusy m.0 r)
+abbrev pub took : Sat → View → ℕ → ℕ → (Slot → RoomContent) → (Slot → Type 0) → ℕ → Sat → Type 0
+took m missed r row of told found n = (found ≡ 0 → TakesRoom m r row of told n) × (found ≢ 0 → n ≡ (missed, m.1)) × (found ≢ 0 → IsBusy m.0 r)
 
 -- what is told of the slot of a place's room that was taken
 abbrev pub PlaceTold : Shape → View → ℕ → Slot → Type 0
@@ -58,7 +58,7 @@ abbrev pub PoolTold : Shape → View → Slot → Type 0
 PoolTold shape v slot = IsTakenPool v slot.pool.items × (dying_in shape.ids slot.pool.items ≤ slot.pool.spare) × (length slot.pool.items ≤ 65535 * shape.ids) × MadeAll v slot.pool.items
 
 -- a list has what the seat has in hand
-pub record IsInHand (list : Listed) (c : Content) : Type 0 where
+pub record IsInHand (list : Listed) (c : RoomContent) : Type 0 where
   pub entries : list.entries ≡ c.entries
   pub items : list.items ≡ c.items
   pub most_items : list.most_items ≡ c.most_items

@@ -5,7 +5,7 @@ ghost use Rattle.shr_seats.specs.Rows.{row_count};
 ghost use Rattle.shr_core.specs.Layout.{map_number, row_in};
 ghost use Rattle.shr_seats.specs.Shapes.{sizes_of, groups_in};
 ghost use Rattle.shr_core.specs.Steps.{with_count, IsCounted, with_map, IsOfIds, with_set, with_clear};
-ghost use Rattle.shr_core.specs.Seats.{IsOf, IsPlaceOf, view_of, shape_of};
+ghost use Rattle.shr_core.specs.Seats.{IsOf, IsPlaceOfShape, view_of, shape_of};
 
 use crate::seat::Seat;
 use crate::table::Core;
@@ -45,7 +45,7 @@ fn map_with(place: Place) -> Place
 impl Core {
     /// The row of a place. Our own.
     pub(crate) fn row(&self, place: Place) -> usize
-        requires { IsPlaceOf (shape_of self.now) place }
+        requires { IsPlaceOfShape (shape_of self.now) place }
         ensures row { result ≡ row_in (sizes_of (shape_of self.now)) (place_number place) }
         ensures low { result < row_count (sizes_of (shape_of self.now)) }
         ensures small { result < 2 ^ 40 }
@@ -58,7 +58,7 @@ impl Core {
     /// Linux: `list_lru_count_one` in mm/list_lru.c, which reads `nr_items` without the lock.
     pub fn count(&self, seat: &mut Seat, place: Place) -> Seen
         requires seat { IsOf self.now seat.old }
-        requires place { IsPlaceOf (shape_of self.now) place }
+        requires place { IsPlaceOfShape (shape_of self.now) place }
         ensures seat { IsOf self.now seat.new }
         ensures loaded { view_of seat.new ≡ with_count (view_of seat.old) (place_number place)
             result.len result.version }
@@ -103,7 +103,7 @@ impl Core {
     /// Linux: `set_shrinker_bit` in mm/shrinker.c.
     pub fn set_bit(&self, seat: &mut Seat, place: Place)
         requires seat { IsOf self.now seat.old }
-        requires place { IsPlaceOf (shape_of self.now) place }
+        requires place { IsPlaceOfShape (shape_of self.now) place }
         requires below_root { 0 < place.group }
         ensures seat { IsOf self.now seat.new }
         ensures set { view_of seat.new ≡ with_set (view_of seat.old) (place_number place) }
@@ -120,7 +120,7 @@ impl Core {
     /// Linux: `clear_bit` in `shrink_slab_memcg` of mm/shrinker.c.
     pub fn clear_bit(&self, seat: &mut Seat, place: Place)
         requires seat { IsOf self.now seat.old }
-        requires place { IsPlaceOf (shape_of self.now) place }
+        requires place { IsPlaceOfShape (shape_of self.now) place }
         requires below_root { 0 < place.group }
         ensures seat { IsOf self.now seat.new }
         ensures cleared { view_of seat.new ≡ with_clear (view_of seat.old) (place_number place) }

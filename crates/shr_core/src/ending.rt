@@ -5,7 +5,7 @@ ghost use Rattle.std.specs.Mem.Slots.Ownership.{Filled};
 ghost use Rattle.shr_seats.specs.Rows.{row_count};
 ghost use Rattle.shr_model.specs.Places.{place_number};
 ghost use Rattle.shr_core.specs.Layout.{places_in, bits_in, looks_in, words_in};
-ghost use Rattle.shr_core.specs.Ending.{AreNarrow, end_value, end_of, ends_below, lookups_below, units_below, groups_below, nodes_below, entries_in, items_in};
+ghost use Rattle.shr_core.specs.Ending.{AreNarrow, end_value, place_ends, ends_below, lookups_below, units_below, groups_below, nodes_below, entries_in, items_in};
 
 use crate::lookups::unpack;
 use crate::slot::Slot;
@@ -22,7 +22,7 @@ use std::alloc::Global;
 #[tactic(auto, using(crate::proofs::Left::place_back))]
 fn add_end(ends: &mut Log<PlaceEnd>, place: Place, slot: Slot) -> Result<(), Memory>
     requires { (place.node < 4) × (place.group < 256) }
-    ensures { OnOk result (map end_value ends.new.items ≡ map end_value ends.old.items ++ end_of
+    ensures { OnOk result (map end_value ends.new.items ≡ map end_value ends.old.items ++ place_ends
         (place_number place) slot.list.entries slot.list.items) }
 {
     let list = slot.into_list();
@@ -73,7 +73,7 @@ fn add_where(ends: &mut Log<PlaceEnd>, place: Place, slot: Slot, whole: bool) ->
     requires { (place.node < 4) × (place.group < 256) }
     ensures whole { result ≡ true → whole ≡ true }
     ensures added { result ≡ true → map end_value ends.new.items ≡ map end_value ends.old.items
-        ++ end_of (place_number place) slot.list.entries slot.list.items }
+        ++ place_ends (place_number place) slot.list.entries slot.list.items }
 {
     whole && add_end(ends, place, slot).is_ok()
 }

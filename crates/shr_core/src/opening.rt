@@ -1,9 +1,9 @@
 //! A core from its start to its end.
 ghost use Rattle.std.specs.Prelude.{◌≡◌, ◌≢◌, ◌%◌, ◌+◌, ◌*◌, ◌<◌, ◌≤◌, ◌^◌, [], All, IfOk, IsOk, length, true};
-ghost use Rattle.shr_core.specs.Opening.{IsFresh, AreFresh, AreFirstWords};
+ghost use Rattle.shr_core.specs.Opening.{IsFreshRoom, AreFreshRooms, AreFirstWords};
 ghost use Rattle.shr_core.specs.Rule.{opener, spent};
 ghost use Rattle.shr_seats.specs.Shapes.{IsShape};
-ghost use Rattle.shr_core.specs.Steps.{with_one_split, split_off, joined, IsAtRest};
+ghost use Rattle.shr_core.specs.Steps.{with_one_split, split_off, with_joined, IsAtRest};
 ghost use Rattle.shr_seats.specs.Standing.{IsWhole};
 ghost use Rattle.shr_core.specs.Ending.{IsClosedOf};
 ghost use Rattle.shr_core.specs.Leaving.{IsLeft};
@@ -33,7 +33,7 @@ impl Split<View> for Parting {
 }
 
 impl Join<View> for Parting {
-    ghost both = { joined };
+    ghost both = { with_joined };
 
     ghost spent = { spent };
 }
@@ -41,7 +41,7 @@ impl Join<View> for Parting {
 // A room with an empty list.
 fn fresh(alloc: Global, most_items: u32, most_entries: u32) -> Slot
     requires { (most_items ≤ 2 ^ 20) × (most_entries ≤ 2 ^ 31) }
-    ensures { IsFresh most_items most_entries result }
+    ensures { IsFreshRoom most_items most_entries result }
 {
     Slot::of_list(alloc, List::new(alloc, most_items, most_entries))
 }
@@ -54,7 +54,7 @@ fn fresh_rooms(
     most_entries: u32,
 ) -> Result<Vec<Slot>, Memory>
     requires { (most_items ≤ 2 ^ 20) × (most_entries ≤ 2 ^ 31) }
-    ensures { IfOk result (λ v. (length v.items ≡ count) × AreFresh most_items most_entries
+    ensures { IfOk result (λ v. (length v.items ≡ count) × AreFreshRooms most_items most_entries
         v.items) }
 {
     let mut rooms = Vec::with_capacity(alloc, count)?;
@@ -161,7 +161,7 @@ impl Core {
         requires other { IsOf self.now other }
         requires rest { IsAtRest (view_of other) }
         ensures seat { IsOf self.now seat.new }
-        ensures joined { view_of seat.new ≡ joined (view_of seat.old) (view_of other) }
+        ensures joined { view_of seat.new ≡ with_joined (view_of seat.old) (view_of other) }
     {
         let shared = &self.table.shared;
         shared.join_seat::<Parting>(&mut seat.token, other.into_token());

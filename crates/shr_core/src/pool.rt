@@ -7,7 +7,7 @@ ghost use Rattle.shr_seats.specs.Shapes.{sizes_of};
 ghost use Rattle.shr_core.specs.Rule.{has_room, pool_content};
 ghost use Rattle.shr_core.specs.Steps.{with_taken, IsTakenPool, with_pool_given, with_phase, in_hand, MayPhase};
 ghost use Rattle.shr_core.specs.Moves.{IsSameSeat};
-ghost use Rattle.shr_core.specs.Tells.{Takes, turns_content, MadeAll, PoolTold, IsOfPool, raise, Raises};
+ghost use Rattle.shr_core.specs.Tells.{TakesRoom, turns_content, MadeAll, PoolTold, IsOfPool, raise, Raises};
 ghost use Rattle.shr_core.specs.Seats.{IsOf, HasFirst, view_of, shape_of};
 
 use crate::lookups::unpack;
@@ -58,7 +58,7 @@ impl Core {
         requires row { (row ≡ row_in (sizes_of (shape_of self.now))
             (places_in (shape_of self.now).ids)) × (row < 2 ^ 40) }
         ensures id { IsSameSeat token.old token.new }
-        ensures took { MatchBool result (Takes token.old.me (places_in (shape_of self.now).ids) row
+        ensures took { MatchBool result (TakesRoom token.old.me (places_in (shape_of self.now).ids) row
             turns_content (PoolTold (shape_of self.now) token.old.me.0) token.new.me) (token.new.me
             ≡ token.old.me) }
     {
@@ -72,7 +72,7 @@ impl Core {
         requires row { (row ≡ row_in (sizes_of (shape_of self.now))
             (places_in (shape_of self.now).ids)) × (row < 2 ^ 40) }
         ensures id { IsSameSeat token.old token.new }
-        ensures took { Takes token.old.me (places_in (shape_of self.now).ids) row turns_content
+        ensures took { TakesRoom token.old.me (places_in (shape_of self.now).ids) row turns_content
             (PoolTold (shape_of self.now) token.old.me.0) token.new.me }
     {
         let backoff = Backoff::new();

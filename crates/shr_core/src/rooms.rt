@@ -7,8 +7,8 @@ ghost use Rattle.shr_seats.specs.Shapes.{sizes_of};
 ghost use Rattle.shr_core.specs.Rule.{IsInside, has_room, list_content};
 ghost use Rattle.shr_core.specs.Steps.{with_taken, with_try, IsTaken, with_given, with_stored, IsLater, in_hand, last_entry, MayStore, without_room};
 ghost use Rattle.shr_core.specs.Moves.{IsSameSeat};
-ghost use Rattle.shr_core.specs.Tells.{Takes, place_content, PlaceTold, IsBusy, IsInHand};
-ghost use Rattle.shr_core.specs.Seats.{IsOf, IsPlaceOf, MayTake, HasFirst, view_of, shape_of, numbers_of, slot_numbers};
+ghost use Rattle.shr_core.specs.Tells.{TakesRoom, place_content, PlaceTold, IsBusy, IsInHand};
+ghost use Rattle.shr_core.specs.Seats.{IsOf, IsPlaceOfShape, MayTake, HasFirst, view_of, shape_of, numbers_of, slot_numbers};
 ghost use Rattle.shr_core.specs.Parts.{Hand};
 ghost use Rattle.shr_core.specs.Slots.{Slot as SlotValue};
 
@@ -58,7 +58,7 @@ impl Core {
         requires room { IsInside (shape_of self.now) room }
         requires row { (row ≡ row_in (sizes_of (shape_of self.now)) room) × (row < 2 ^ 40) }
         ensures id { IsSameSeat token.old token.new }
-        ensures took { MatchBool result (Takes token.old.me room row place_content
+        ensures took { MatchBool result (TakesRoom token.old.me room row place_content
             (PlaceTold (shape_of self.now) token.old.me.0 room) token.new.me) (token.new.me
             ≡ token.old.me) }
     {
@@ -72,7 +72,7 @@ impl Core {
         requires room { IsInside (shape_of self.now) room }
         requires row { (row ≡ row_in (sizes_of (shape_of self.now)) room) × (row < 2 ^ 40) }
         ensures id { IsSameSeat token.old token.new }
-        ensures took { MatchBool result (Takes token.old.me room row place_content
+        ensures took { MatchBool result (TakesRoom token.old.me room row place_content
             (PlaceTold (shape_of self.now) token.old.me.0 room) token.new.me) (token.new.me
             ≡ (with_try token.old.me.0 room, token.old.me.1)) }
         ensures busy { result ≡ false → IsBusy token.old.me.0 room }
@@ -86,7 +86,7 @@ impl Core {
         requires room { IsInside (shape_of self.now) room }
         requires row { (row ≡ row_in (sizes_of (shape_of self.now)) room) × (row < 2 ^ 40) }
         ensures id { IsSameSeat token.old token.new }
-        ensures took { Takes token.old.me room row place_content (PlaceTold (shape_of self.now)
+        ensures took { TakesRoom token.old.me room row place_content (PlaceTold (shape_of self.now)
             token.old.me.0 room) token.new.me }
     {
         let backoff = Backoff::new();
@@ -105,7 +105,7 @@ impl Core {
     /// Linux: `spin_lock(&nlru->lock)` in mm/list_lru.c.
     pub fn take_room<R: Wait>(&self, rt: &R, seat: &mut Seat, place: Place) -> Room
         requires seat { IsOf self.now seat.old }
-        requires place { IsPlaceOf (shape_of self.now) place }
+        requires place { IsPlaceOfShape (shape_of self.now) place }
         requires rooms { MayTake (shape_of self.now) (view_of seat.old) place }
         ensures seat { IsOf self.now seat.new }
         ensures place { result.place ≡ place }
@@ -128,7 +128,7 @@ impl Core {
     /// Linux: `spin_trylock`, which mm/list_lru.c doesn't use.
     pub fn try_room(&self, seat: &mut Seat, place: Place) -> Option<Room>
         requires seat { IsOf self.now seat.old }
-        requires place { IsPlaceOf (shape_of self.now) place }
+        requires place { IsPlaceOfShape (shape_of self.now) place }
         requires rooms { MayTake (shape_of self.now) (view_of seat.old) place }
         ensures seat { IsOf self.now seat.new }
         ensures missed { result ≡ None → view_of seat.new ≡ with_try (view_of seat.old)
@@ -157,7 +157,7 @@ impl Core {
     /// changed under the lock. The number of entries is our own.
     pub fn store_count(&self, seat: &mut Seat, place: Place, list: &List)
         requires seat { IsOf self.now seat.old }
-        requires place { IsPlaceOf (shape_of self.now) place }
+        requires place { IsPlaceOfShape (shape_of self.now) place }
         requires may { MayStore (shape_of self.now) (view_of seat.old) (place_number place)
             list.now }
         ensures seat { IsOf self.now seat.new }
@@ -206,7 +206,7 @@ impl Core {
     /// Linux: `spin_unlock(&nlru->lock)` in mm/list_lru.c.
     pub fn give_room(&self, seat: &mut Seat, room: Room)
         requires seat { IsOf self.now seat.old }
-        requires place { IsPlaceOf (shape_of self.now) room.place }
+        requires place { IsPlaceOfShape (shape_of self.now) room.place }
         requires has { 0 < has_room (place_number room.place) (view_of seat.old).holding }
         requires same { IsInHand room.list (in_hand (view_of seat.old) (place_number room.place)) }
         requires whole { (view_of seat.old).holding.half ≡ None }

@@ -1,6 +1,6 @@
 //! Where each word lies, and what one of a thing is in it.
 ghost use Rattle.std.specs.Prelude.{◌≡◌, ◌==◌, ◌+◌, ◌*◌, ◌%◌, ◌<◌, ◌^◌};
-ghost use Rattle.shr_core.specs.Layout.{bit_of};
+ghost use Rattle.shr_core.specs.Layout.{place_bit};
 
 /// Each row has four words: the count word of its place, the lock word of its room, a bit word, and
 /// the lookup word of an id. A row may lack some of these; their words stay 0. So do four more: if
@@ -71,7 +71,7 @@ pub(crate) fn is_lookup(word: usize) -> bool
 
 /// Which bit of its bit word a place has. Our own.
 pub(crate) fn own_bit(place: usize) -> usize
-    ensures { result ≡ bit_of place }
+    ensures { result ≡ place_bit place }
 {
     place / PLACES_AN_ID % IDS_A_WORD
 }

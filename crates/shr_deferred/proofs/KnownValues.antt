@@ -1,6 +1,5 @@
 -- Words, places and moves of the table at known values.
-use Rattle.shr_deferred.proofs.Common.{arith, ◌≡◌, ℕ, ◌^◌, List, [], ◌∷◌, refl, Place, Sizes, IsPlaceOf, row_of, place_in, row_count, left_at, amount_of, Deed, part, Move, Moves, took, gave, both, take_of, give_of, AreTaken, amounts_after}
-use Rattle.std.specs.Prelude.{◌-◌}
+use Rattle.shr_deferred.proofs.Common.{arith, ◌≡◌, ℕ, ◌^◌, List, [], ◌∷◌, refl, Place, Sizes, IsPlaceOf, row_of, place_of_row, row_count, left_at, amount_of, Deed, part, Move, Moves, took, gave, both, take_of, give_of, AreTaken, amounts_after, ◌-◌}
 
 -- a table of 3 ids, 2 nodes and 4 groups
 abbrev sizes : Sizes
@@ -12,7 +11,7 @@ place = record { id = 2; node = 1; group = 3 }
 last_word : row_of sizes place ≡ 23
 last_word = refl
 
-place_of_last : place_in sizes 23 ≡ place
+place_of_last : place_of_row sizes 23 ≡ place
 place_of_last = refl
 
 words_there_are : row_count sizes ≡ 24

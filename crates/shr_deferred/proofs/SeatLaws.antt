@@ -1,18 +1,16 @@
 -- What calls gain on a seat, none and one after the other.
-use Rattle.shr_deferred.proofs.Common.{◌≡◌, ℕ, List, [], ◌∷◌, ◌++◌, sym, refl, ap, ◌∙◌, append-nil, map-append, Deed, by_seat, acts_of, acts_by, Move, Moves, took, gave, takes_of, gives_of, both}
-use Rattle.std.proofs.Common.{append_assoc}
-use Rattle.shr_deferred.specs.Moves.{no_moves}
-use Rattle.shr_deferred.specs.Seat.{DeferredSeat, Gains, did_of, moves_of, own_of}
+use Rattle.shr_deferred.proofs.Common.{◌≡◌, ℕ, List, [], ◌∷◌, ◌++◌, sym, refl, ap, ◌∙◌, append-nil, map-append, Deed, by_seat, acts_of, acts_by, Move, Moves, took, gave, takes_of, gives_of, both, append_assoc, no_moves}
+use Rattle.shr_deferred.specs.Seat.{DeferredSeat, GainsMoves, did_of, moves_of, own_of}
 
 -- the moves of a seat that did these more
 pub moves_more : (id : ℕ) (old new : List (Deed Move)) (more : Moves) → new ≡ old ++ by_seat id more → acts_of new ≡ both (acts_of old) more
 moves_more id old new more e = ap acts_of e ∙ (map-append (λ (d : Deed Move). d.act) old (by_seat id more) ∙ ap (λ (m : Moves). acts_of old ++ m) (acts_by id more))
 
-pub Gains-none : (s : DeferredSeat) → Gains s s no_moves
+pub Gains-none : (s : DeferredSeat) → GainsMoves s s no_moves
 Gains-none s = record { table = refl; id = refl; did = sym (append-nil (did_of s)); moves = sym (append-nil (moves_of s)); own = sym (append-nil (own_of s)); joined = refl; standing = refl }
 
 -- what two calls gain, one after the other
-pub Gains-trans : (s t u : DeferredSeat) (m k : Moves) → Gains s t m → Gains t u k → Gains s u (both m k)
+pub Gains-trans : (s t u : DeferredSeat) (m k : Moves) → GainsMoves s t m → GainsMoves t u k → GainsMoves s u (both m k)
 Gains-trans s t u m k a b = record {
   table = b.table ∙ a.table;
   id = b.id ∙ a.id;

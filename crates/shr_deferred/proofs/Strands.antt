@@ -1,10 +1,5 @@
 -- What each seat did itself, while seats do more, are split and are joined.
-use Rattle.shr_deferred.proofs.Common.{◌≡◌, ◌≢◌, ◌⊎◌, ℕ, zero, suc, ◌+◌, ◌<◌, ⊎_elim, Bool, true, false, cond, List, [], ◌∷◌, ◌++◌, map, length, set, sym, refl, ap, subst, ◌∙◌, arith, eqb, eq-eqb, ne_eqb, append-nil, map-append, dite, ℕ_discrete, dec_lt, some, some-injective, some-ne-none, get_elem?, State, at_map, set_else, Deed, by_seat, acts_of, part, acts_by, not_gone, Sizes, View, Move, Moves, IsSound, AreStrands, strands_in, strand_at, did_in, standing_in, first_view, new_view, spent_view, with_split_view, joined_view}
-use Rattle.std.proofs.Common.{length-append}
-use Rattle.atomic_table.proofs.Lists.{at_set, at_snoc, at_longer}
-use Rattle.shr_seats.proofs.Lining.{part-append, part_own, part_other, did_at_some, set_there}
-use Rattle.shr_seats.proofs.Seating.{others}
-use Rattle.shr_deferred.specs.Rule.{IsGone, IsOwn, AreOwn}
+use Rattle.shr_deferred.proofs.Common.{◌≡◌, ◌≢◌, ◌⊎◌, ℕ, zero, suc, ◌+◌, ◌<◌, ⊎_elim, Bool, true, false, cond, List, [], ◌∷◌, ◌++◌, map, length, set, sym, refl, ap, subst, ◌∙◌, arith, eqb, eq-eqb, ne_eqb, append-nil, map-append, dite, ℕ_discrete, dec_lt, some, some-injective, some-ne-none, get_elem?, State, at_map, set_else, Deed, by_seat, acts_of, part, acts_by, not_gone, Sizes, View, Move, Moves, IsDeferredSound, AreStrands, strands_in, strand_at, deeds_in, standing_in, first_view, new_view, spent_view, with_split_view, joined_view, length-append, at_set, at_snoc, at_longer, part-append, part_own, part_other, did_at_some, set_there, others, IsSeatGone, IsOwnView, AreOwnViews}
 
 -- a view whose seat did one thing more
 abbrev pub moved : ℕ → View → Move → View
@@ -37,7 +32,7 @@ part_by_other i j [] n = refl
 part_by_other i j (m ∷ ms) n = ap (λ b. cond b (record { seat = i; act = m } ∷ part j (by_seat i ms)) (part j (by_seat i ms))) (ne_eqb i j n) ∙ part_by_other i j ms n
 
 -- ---- the views
-own_views : (views views' : List View) (i : ℕ) (u : View) → ((j : ℕ) → IsGone views j → IsGone views' j) → IsOwn views i u → IsOwn views' i u
+own_views : (views views' : List View) (i : ℕ) (u : View) → ((j : ℕ) → IsSeatGone views j → IsSeatGone views' j) → IsOwnView views i u → IsOwnView views' i u
 own_views views views' i u keep o = record {
   plain = o.plain;
   first = λ is. let t = o.first is in record {
@@ -51,20 +46,20 @@ own_views views views' i u keep o = record {
 }
 
 module _ (views : List View) (id : ℕ) (v : View) (me : get_elem? views id ≡ some v) (here : v.standing.gone ≡ false) where
-  gone_apart : (j : ℕ) → IsGone views j → j ≢ id
+  gone_apart : (j : ℕ) → IsSeatGone views j → j ≢ id
   gone_apart j g e = not_gone v.standing here (subst (λ (u : View). u.standing.gone ≡ true) (some-injective g.0 v (sym g.1 ∙ (ap (get_elem? views) e ∙ me))) g.2)
 
-  gone_set : (w : View) (j : ℕ) → IsGone views j → IsGone (set views id w) j
+  gone_set : (w : View) (j : ℕ) → IsSeatGone views j → IsSeatGone (set views id w) j
   gone_set w j g = (g.0, set_else views id j w (gone_apart j g) ∙ g.1, g.2)
 
-  own_set : (w : View) → AreOwn views → IsOwn (set views id w) id w → AreOwn (set views id w)
+  own_set : (w : View) → AreOwnViews views → IsOwnView (set views id w) id w → AreOwnViews (set views id w)
   own_set w all mine i u at live = ⊎_elim
-      (λ (g : (i ≡ id) × (w ≡ u)). subst (λ (x : View). IsOwn (set views id w) i x) g.1 (subst (λ k. IsOwn (set views id w) k w) (sym g.0) mine))
+      (λ (g : (i ≡ id) × (w ≡ u)). subst (λ (x : View). IsOwnView (set views id w) i x) g.1 (subst (λ k. IsOwnView (set views id w) k w) (sym g.0) mine))
       (λ (g : (i ≢ id) × (get_elem? views i ≡ some u)). own_views views (set views id w) i u (gone_set w) (all i u g.1 live))
       (at_set views id i w u at)
 
   -- the seat did one thing more
-  pub own_move : (a : Move) → AreOwn views → AreOwn (set views id (moved id v a))
+  pub own_move : (a : Move) → AreOwnViews views → AreOwnViews (set views id (moved id v a))
   own_move a all = let d : Deed Move = record { seat = id; act = a } in let o = all id v me here in own_set (moved id v a) all (record {
     plain = λ p. ap (λ (l : List (Deed Move)). l ++ d ∷ []) (o.plain p) ∙ sym (map-append (λ (x : Move). record { seat = id; act = x }) v.own (a ∷ []));
     first = λ is. let t = o.first is in record {
@@ -84,22 +79,22 @@ module _ (views : List View) (id : ℕ) (v : View) (me : get_elem? views id ≡ 
         ∙ (ap (λ (l : List (Deed Move)). part (t.name (suc k)) v.did ++ l) (part_other (t.name (suc k)) (record { seat = id; act = a }) (λ e. gone_apart (t.name (suc k)) (t.gone (suc k) (omega arith) low) (sym e)))
         ∙ (append-nil (part (t.name (suc k)) v.did) ∙ t.theirs (suc k) low))
 
-  split_kept : AreOwn views → AreOwn (set views id (with_split_view v))
+  split_kept : AreOwnViews views → AreOwnViews (set views id (with_split_view v))
   split_kept all = let w : View = with_split_view v in own_set w all (own_views views (set views id w) id w (gone_set w) (let o = all id v me here in record {
     plain = o.plain;
     first = λ is. let t = o.first is in record { name = t.name; mine = t.mine; gone = t.gone; apart = t.apart; theirs = t.theirs; others = t.others };
   }))
 
   -- a seat was split off, which did nothing
-  pub own_split : AreOwn views → AreOwn (set views id (with_split_view v) ++ new_view ∷ [])
+  pub own_split : AreOwnViews views → AreOwnViews (set views id (with_split_view v) ++ new_view ∷ [])
   own_split all i u at live = let w : View = with_split_view v in ⊎_elim
       (λ (e : get_elem? (set views id w) i ≡ some u). own_views (set views id w) (set views id w ++ new_view ∷ []) i u (λ j g. (g.0, at_longer (set views id w) (new_view ∷ []) j g.0 g.1, g.2)) (split_kept all i u e live))
-      (λ (e : new_view ≡ u). subst (λ (x : View). IsOwn (set views id w ++ new_view ∷ []) i x) e (record { plain = λ p. refl; first = λ is. absurd (not_both false is refl) }))
+      (λ (e : new_view ≡ u). subst (λ (x : View). IsOwnView (set views id w ++ new_view ∷ []) i x) e (record { plain = λ p. refl; first = λ is. absurd (not_both false is refl) }))
       (at_snoc (set views id w) new_view u i at)
 
 -- the one seat of a new table
-pub own_first : AreOwn (first_view ∷ [])
-own_first zero v e live = subst (λ (x : View). IsOwn (first_view ∷ []) 0 x) (some-injective first_view v e) (record {
+pub own_first : AreOwnViews (first_view ∷ [])
+own_first zero v e live = subst (λ (x : View). IsOwnView (first_view ∷ []) 0 x) (some-injective first_view v e) (record {
   plain = λ p. refl;
   first = λ is. record {
     name = λ k. k;
@@ -115,7 +110,7 @@ own_first zero v e live = subst (λ (x : View). IsOwn (first_view ∷ []) 0 x) (
   nothing (suc k) = refl
 own_first (suc i) v e live = absurd (some-ne-none v (sym e))
 
-module _ (z : Sizes) (s : State (Unit {0}) View) (o : IsSound z s) (id : ℕ) (v : View) (me : get_elem? s.views id ≡ some v) (here : v.standing.gone ≡ false)
+module _ (z : Sizes) (s : State (Unit {0}) View) (o : IsDeferredSound z s) (id : ℕ) (v : View) (me : get_elem? s.views id ≡ some v) (here : v.standing.gone ≡ false)
     (other : ℕ) (u : View) (at : get_elem? s.views other ≡ some u) (there : u.standing.gone ≡ false) (apart : other ≢ id) (is : v.standing.first ≡ true) where
   abbrev w : View
   w = joined_view v u
@@ -126,10 +121,10 @@ module _ (z : Sizes) (s : State (Unit {0}) View) (o : IsSound z s) (id : ℕ) (v
   abbrev n : ℕ
   n = length (strands_in v)
 
-  gone_kept : (j : ℕ) → IsGone s.views j → IsGone after j
+  gone_kept : (j : ℕ) → IsSeatGone s.views j → IsSeatGone after j
   gone_kept j g = (g.0, set_else (set s.views id w) other j spent_view (gone_apart s.views other u at there j g) ∙ (set_else s.views id j w (gone_apart s.views id v me here j g) ∙ g.1), g.2)
 
-  other_gone : IsGone after other
+  other_gone : IsSeatGone after other
   other_gone = (spent_view, set_there (set s.views id w) other u spent_view (set_else s.views id other w apart ∙ at), refl)
 
   -- what the other seat did, its view tells alone
@@ -138,7 +133,7 @@ module _ (z : Sizes) (s : State (Unit {0}) View) (o : IsSound z s) (id : ℕ) (v
 
   untold : part other v.did ≡ []
   untold = let mine : o.lined.holder other ≡ other = o.lined.own other (λ x e. subst (λ (y : View). y.standing.gone ≡ false) (some-injective u x (sym at ∙ e)) there) in
-      ap (part other) (sym (did_at_some did_in s.views id v me)) ∙ (o.lined.parts other id ∙ ap (λ b. cond b (part other o.line) []) (ne_eqb id (o.lined.holder other) (λ e. apart (sym (e ∙ mine)))))
+      ap (part other) (sym (did_at_some deeds_in s.views id v me)) ∙ (o.lined.parts other id ∙ ap (λ b. cond b (part other o.line) []) (ne_eqb id (o.lined.holder other) (λ e. apart (sym (e ∙ mine)))))
 
   acts_are : acts_of u.did ≡ u.own
   acts_are = ap acts_of theirs_is ∙ acts_by other u.own
@@ -160,10 +155,10 @@ module _ (z : Sizes) (s : State (Unit {0}) View) (o : IsSound z s) (id : ℕ) (v
     longer : length (strands_in w) ≡ n + 1
     longer = let a = length-append (strands_in v) (acts_of u.did ∷ []) in omega (arith, a)
 
-    joined_gone : (k : ℕ) → 0 < k → k < length (strands_in w) → IsGone after (name k)
+    joined_gone : (k : ℕ) → 0 < k → k < length (strands_in w) → IsSeatGone after (name k)
     joined_gone k past low = dite (dec_lt k n)
-        (λ lt. subst (IsGone after) (sym (name_old k lt)) (gone_kept (t.name k) (t.gone k past lt)))
-        (λ no. subst (IsGone after) (sym (name_new k (omega (arith, no, low, longer)))) other_gone)
+        (λ lt. subst (IsSeatGone after) (sym (name_old k lt)) (gone_kept (t.name k) (t.gone k past lt)))
+        (λ no. subst (IsSeatGone after) (sym (name_new k (omega (arith, no, low, longer)))) other_gone)
 
     joined_apart : (k l : ℕ) → k < length (strands_in w) → l < length (strands_in w) → name k ≡ name l → k ≡ l
     joined_apart k l low low' same = dite (dec_lt k n)
@@ -192,11 +187,11 @@ module _ (z : Sizes) (s : State (Unit {0}) View) (o : IsSound z s) (id : ℕ) (v
     joined = record { name = name; mine = name_old 0 (omega arith) ∙ t.mine; gone = joined_gone; apart = joined_apart; theirs = joined_theirs; others = joined_others }
 
   -- the other seat was joined into the first
-  pub own_join : AreOwn after
+  pub own_join : AreOwnViews after
   own_join i x e live = ⊎_elim
       (λ (g : (i ≡ other) × (spent_view ≡ x)). absurd (not_gone x.standing live (ap (λ (y : View). y.standing.gone) (sym g.1))))
       (λ (g : (i ≢ other) × (get_elem? (set s.views id w) i ≡ some x)). ⊎_elim
-      (λ (h : (i ≡ id) × (w ≡ x)). subst (λ (y : View). IsOwn after i y) h.1 (subst (λ k. IsOwn after k w) (sym h.0) (record {
+      (λ (h : (i ≡ id) × (w ≡ x)). subst (λ (y : View). IsOwnView after i y) h.1 (subst (λ k. IsOwnView after k w) (sym h.0) (record {
         plain = λ p. absurd (not_both v.standing.first is p);
         first = λ _. joined ((o.own id v me here).first is);
       })))

@@ -1,15 +1,11 @@
 -- The words and the line of all moves, on plain data.
-use Rattle.shr_deferred.proofs.Common.{◌≡◌, ℕ, ◌+◌, ◌^◌, ◌%◌, ◌<◌, ◌≢◌, true, false, cond, eqb, List, [], ◌∷◌, ◌++◌, sym, refl, ap, ◌∙◌, ⊎_elim, arith, eq-eqb, Place, amount_of, Sizes, IsPlaceOf, row_of, Deed, acts_of, part, state_after, AreSo, Move, Moves, took, gave, takes_of, gives_of, Amounts, amounts_next, TakesAll, nothing_deferred, amounts_after, AreTaken, left_at}
-use Rattle.std.proofs.Common.{◌&&◌}
+use Rattle.shr_deferred.proofs.Common.{◌≡◌, ℕ, ◌+◌, ◌^◌, ◌%◌, ◌<◌, ◌≢◌, true, false, cond, eqb, List, [], ◌∷◌, ◌++◌, sym, refl, ap, ◌∙◌, ⊎_elim, arith, eq-eqb, Place, amount_of, Sizes, IsPlaceOf, row_of, Deed, acts_of, part, state_after, AreSo, Move, Moves, took, gave, takes_of, gives_of, Amounts, amounts_next, TakesAll, nothing_deferred, amounts_after, AreTaken, left_at, ◌&&◌, amount_at, state_after_push, total_parts, after_move, took_at, gave_at}
 use Rattle.std.proofs.lemmas.Bool.{cases_Bool}
 use Rattle.std.proofs.lemmas.Bool.Decides.{nat_tests}
 use Rattle.std.proofs.lemmas.List.Sums.{sum_by-cons}
 use Rattle.shr_model.specs.Places.{is_place}
-use Rattle.shr_model.specs.Deferred.{amount_at}
 use Rattle.shr_seats.proofs.RowLaws.{SamePlace, IsAcross, one_place, same_row}
 use Rattle.shr_seats.specs.Weights.{total}
-use Rattle.shr_seats.proofs.Lining.{state_after_push, total_parts}
-use Rattle.shr_deferred.specs.Rule.{after_move, taken_at, given_at}
 use Rattle.shr_model.proofs.PlacesLaws.{is_place_same}
 
 is_same : (p q : Place) → is_place p q ≡ true → SamePlace p q
@@ -52,31 +48,31 @@ module _ (z : Sizes) (word word' : ℕ → ℕ) (line : List (Deed Move)) (o : A
 module _ (p : Place) where
   -- what a move takes at the place, and gives there
   taken_in : Deed Move → ℕ
-  taken_in d = taken_at p (d.act ∷ [])
+  taken_in d = took_at p (d.act ∷ [])
 
   given_in : Deed Move → ℕ
-  given_in d = given_at p (d.act ∷ [])
+  given_in d = gave_at p (d.act ∷ [])
 
-  taken_cons : (a : Move) (m : Moves) → taken_at p (a ∷ m) ≡ taken_at p (a ∷ []) + taken_at p m
+  taken_cons : (a : Move) (m : Moves) → took_at p (a ∷ m) ≡ took_at p (a ∷ []) + took_at p m
   taken_cons (took x) m = omega (arith, sum_by-cons (amount_at p) x (takes_of m), sum_by-cons (amount_at p) x [])
   taken_cons (gave x) m = omega arith
 
-  given_cons : (a : Move) (m : Moves) → given_at p (a ∷ m) ≡ given_at p (a ∷ []) + given_at p m
+  given_cons : (a : Move) (m : Moves) → gave_at p (a ∷ m) ≡ gave_at p (a ∷ []) + gave_at p m
   given_cons (took x) m = omega arith
   given_cons (gave x) m = omega (arith, sum_by-cons (amount_at p) x (gives_of m), sum_by-cons (amount_at p) x [])
 
-  taken_total : (l : List (Deed Move)) → taken_at p (acts_of l) ≡ total taken_in l
+  taken_total : (l : List (Deed Move)) → took_at p (acts_of l) ≡ total taken_in l
   unfolding taken_in
   taken_total [] = refl
   taken_total (d ∷ ds) = omega (arith, taken_cons d.act (acts_of ds), taken_total ds)
 
-  given_total : (l : List (Deed Move)) → given_at p (acts_of l) ≡ total given_in l
+  given_total : (l : List (Deed Move)) → gave_at p (acts_of l) ≡ total given_in l
   unfolding given_in
   given_total [] = refl
   given_total (d ∷ ds) = omega (arith, given_cons d.act (acts_of ds), given_total ds)
 
   -- a move that takes all changes the word by what it gives less what it takes
-  changed : (w : Amounts) (a : Move) → TakesAll w a → (after_move w a p + taken_at p (a ∷ [])) % 2 ^ 64 ≡ (w p + given_at p (a ∷ [])) % 2 ^ 64
+  changed : (w : Amounts) (a : Move) → TakesAll w a → (after_move w a p + took_at p (a ∷ [])) % 2 ^ 64 ≡ (w p + gave_at p (a ∷ [])) % 2 ^ 64
   changed w (took x) all = let s = sum_by-cons (amount_at p) x [] in ⊎_elim
       (λ hit. omega (arith, s, ap (λ b. cond b 0 (w p)) hit, ap (λ b. cond b x.amount 0) hit, all, ap w (is_place_same p x.place hit)))
       (λ miss. omega (arith, s, ap (λ b. cond b 0 (w p)) miss, ap (λ b. cond b x.amount 0) miss))
@@ -90,7 +86,7 @@ module _ (p : Place) where
   small w (took x) low = ⊎_elim (λ hit. omega (arith, ap (λ b. cond b 0 (w p)) hit)) (λ miss. omega (arith, low, ap (λ b. cond b 0 (w p)) miss)) (cases_Bool (is_place p x.place))
   small w (gave x) low = ⊎_elim (λ hit. omega (arith, ap (λ b. cond b ((w p + x.amount) % 2 ^ 64) (w p)) hit)) (λ miss. omega (arith, low, ap (λ b. cond b ((w p + x.amount) % 2 ^ 64) (w p)) miss)) (cases_Bool (is_place p x.place))
 
-  sums : (w : Amounts) (l : List (Deed Move)) → AreSo amounts_next (λ v d. TakesAll v d.act) w l → (state_after amounts_next w l p + taken_at p (acts_of l)) % 2 ^ 64 ≡ (w p + given_at p (acts_of l)) % 2 ^ 64
+  sums : (w : Amounts) (l : List (Deed Move)) → AreSo amounts_next (λ v d. TakesAll v d.act) w l → (state_after amounts_next w l p + took_at p (acts_of l)) % 2 ^ 64 ≡ (w p + gave_at p (acts_of l)) % 2 ^ 64
   sums w [] all = refl
   sums w (d ∷ ds) all = omega (arith, sums (amounts_next w d) ds all.1, changed w d.act all.0, taken_cons d.act (acts_of ds), given_cons d.act (acts_of ds))
 

@@ -2,7 +2,7 @@
 use Rattle.std.specs.Prelude.{◌≡◌, ℕ, List}
 use Rattle.shr_base.specs.declared.ends.PlaceAmount.{PlaceAmount}
 use Rattle.shr_seats.specs.declared.rows.Sizes.{Sizes}
-use Rattle.shr_seats.specs.Rows.{place_in, row_count}
+use Rattle.shr_seats.specs.Rows.{place_of_row, row_count}
 use Rattle.shr_seats.specs.Lines.{Deed, by_seat, part}
 use Rattle.shr_deferred.specs.Moves.{Move, Moves}
 use Rattle.shr_deferred.specs.Rule.{AreTaken, amounts_after, strand_at}
@@ -14,4 +14,4 @@ pub record HasHistory (z : Sizes) (strands : List Moves) (rest : List PlaceAmoun
   pub line : List (Deed Move)
   pub parts : (k : ℕ) → part k line ≡ by_seat k (strand_at strands k)
   pub taken : AreTaken line
-  pub left : rest ≡ amounts z (λ i. amounts_after line (place_in z i)) (row_count z)
+  pub left : rest ≡ amounts z (λ i. amounts_after line (place_of_row z i)) (row_count z)

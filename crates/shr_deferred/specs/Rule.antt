@@ -14,8 +14,8 @@ use Rattle.shr_seats.specs.Rows.{IsPlaceOf, row_of, row_count}
 use Rattle.shr_deferred.specs.Moves.{Move, Moves, took, gave, takes_of, gives_of}
 
 -- what a view did, and the seats that were joined into it
-abbrev pub did_in : View → List (Deed Move)
-did_in v = v.did
+abbrev pub deeds_in : View → List (Deed Move)
+deeds_in v = v.did
 
 -- where a view stands among the seats
 abbrev pub standing_in : View → Standing
@@ -42,12 +42,12 @@ abbrev pub joined_view : View → View → View
 joined_view v u = record v { did = v.did ++ u.did; joined = v.joined ++ acts_of u.did ∷ []; standing = with_join v.standing }
 
 -- how much was taken at a place
-abbrev pub taken_at : Place → Moves → ℕ
-taken_at p m = sum_at p (takes_of m)
+abbrev pub took_at : Place → Moves → ℕ
+took_at p m = sum_at p (takes_of m)
 
 -- how much was given at a place
-abbrev pub given_at : Place → Moves → ℕ
-given_at p m = sum_at p (gives_of m)
+abbrev pub gave_at : Place → Moves → ℕ
+gave_at p m = sum_at p (gives_of m)
 
 -- what each place has
 abbrev pub Amounts : Type 0
@@ -89,8 +89,8 @@ strand_at (m ∷ ms) zero = m
 strand_at (m ∷ ms) (suc k) = strand_at ms k
 
 -- the seat with this number was joined away
-abbrev pub IsGone : List View → ℕ → Type 0
-IsGone views j = (u : View) × (get_elem? views j ≡ some u) × (u.standing.gone ≡ true)
+abbrev pub IsSeatGone : List View → ℕ → Type 0
+IsSeatGone views j = (u : View) × (get_elem? views j ≡ some u) × (u.standing.gone ≡ true)
 
 -- the strands of the first view are those of its seat and of seats that were joined away, each another, and it tells no other
 -- deeds
@@ -98,29 +98,29 @@ pub record AreStrands (views : List View) (seat : ℕ) (v : View) : Type 0 where
   -- the seat of each strand
   pub name : ℕ → ℕ
   pub mine : name 0 ≡ seat
-  pub gone : (k : ℕ) → 0 < k → k < length (strands_in v) → IsGone views (name k)
+  pub gone : (k : ℕ) → 0 < k → k < length (strands_in v) → IsSeatGone views (name k)
   pub apart : (k l : ℕ) → k < length (strands_in v) → l < length (strands_in v) → name k ≡ name l → k ≡ l
   pub theirs : (k : ℕ) → k < length (strands_in v) → part (name k) v.did ≡ by_seat (name k) (strand_at (strands_in v) k)
   pub others : (j : ℕ) → ((k : ℕ) → k < length (strands_in v) → name k ≢ j) → part j v.did ≡ []
 
 -- a view tells its own seat's deeds, and the first those of others too
-pub record IsOwn (views : List View) (seat : ℕ) (v : View) : Type 0 where
+pub record IsOwnView (views : List View) (seat : ℕ) (v : View) : Type 0 where
   pub plain : v.standing.first ≡ false → v.did ≡ by_seat seat v.own
   pub first : v.standing.first ≡ true → AreStrands views seat v
 
 -- so does each that wasn't joined away
-abbrev pub AreOwn : List View → Type 0
-AreOwn views = (i : ℕ) (v : View) → get_elem? views i ≡ some v → v.standing.gone ≡ false → IsOwn views i v
+abbrev pub AreOwnViews : List View → Type 0
+AreOwnViews views = (i : ℕ) (v : View) → get_elem? views i ≡ some v → v.standing.gone ≡ false → IsOwnView views i v
 
 -- the rule of the deferred table, which holds between any two steps
-pub record IsSound (z : Sizes) (s : State (Unit {0}) View) : Type 0 where
+pub record IsDeferredSound (z : Sizes) (s : State (Unit {0}) View) : Type 0 where
   pub wide : length s.words ≡ row_count z
   -- all moves of all seats, in the order in which they were made
   pub line : List (Deed Move)
-  pub lined : AreInLine standing_in did_in s.views line
+  pub lined : AreInLine standing_in deeds_in s.views line
   pub taken : AreTaken line
   -- each word is what they leave
   pub left : (p : Place) → IsPlaceOf z p → slice_index s.words (row_of z p) ≡ amounts_after line p
-  pub own : AreOwn s.views
+  pub own : AreOwnViews s.views
   pub seats : AreSeats (map standing_in s.views)
   pub emptied : AreEmptied standing_in spent_view s.views

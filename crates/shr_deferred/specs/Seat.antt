@@ -28,21 +28,21 @@ abbrev pub strands_of : DeferredSeat → List Moves
 strands_of s = own_of s ∷ s.me.0.joined
 
 -- its place among the seats
-abbrev pub standing_of : DeferredSeat → Standing
-standing_of s = s.me.0.standing
+abbrev pub deferred_standing : DeferredSeat → Standing
+deferred_standing s = s.me.0.standing
 
 -- a seat of this table, which was not joined away
-pub record IsOf (d : Deferred) (s : DeferredSeat) : Type 0 where
+pub record IsDeferredSeat (d : Deferred) (s : DeferredSeat) : Type 0 where
   pub seat : IsSeatOf d.table.shared.table_id s.table_id s.me.0.standing
   -- the table has no slots to hold
   pub bare : s.me.1 ≡ []
 
 -- the seat took and gave these, and nothing else of it changed
-pub record Gains (old new : DeferredSeat) (more : Moves) : Type 0 where
+pub record GainsMoves (old new : DeferredSeat) (more : Moves) : Type 0 where
   pub table : new.table_id ≡ old.table_id
   pub id : new.id ≡ old.id
   pub did : did_of new ≡ did_of old ++ by_seat old.id more
   pub moves : moves_of new ≡ both (moves_of old) more
   pub own : own_of new ≡ both (own_of old) more
   pub joined : new.me.0.joined ≡ old.me.0.joined
-  pub standing : standing_of new ≡ standing_of old
+  pub standing : deferred_standing new ≡ deferred_standing old

@@ -6,7 +6,7 @@ ghost use Rattle.shr_seats.specs.Standing.{IsWhole};
 ghost use Rattle.shr_seats.specs.Rows.{row_count};
 ghost use Rattle.shr_deferred.specs.Left.{amounts, left_over};
 ghost use Rattle.shr_deferred.specs.History.{HasHistory};
-ghost use Rattle.shr_deferred.specs.Seat.{IsOf, moves_of, standing_of, strands_of};
+ghost use Rattle.shr_deferred.specs.Seat.{IsDeferredSeat, moves_of, deferred_standing, strands_of};
 
 use crate::table::{Deferred, DeferredSeat};
 use atomic_table::Closed;
@@ -48,9 +48,9 @@ impl Deferred {
     /// By then all other seats were joined into the first one, so each amount is what that seat's
     /// view gave at the place less what it took. On `Memory` the table is gone too. Our own.
     pub fn finish(self, alloc: Global, seat: DeferredSeat) -> Result<Log<PlaceAmount>, Memory>
-        requires seat { IsOf self seat }
-        requires first { (standing_of seat).first ≡ true }
-        requires whole { IsWhole (standing_of seat) }
+        requires seat { IsDeferredSeat self seat }
+        requires first { (deferred_standing seat).first ≡ true }
+        requires whole { IsWhole (deferred_standing seat) }
         ensures left { IfOk result (λ v. v.items ≡ left_over self.sizes (moves_of seat)) }
         ensures history { IfOk result (λ v. HasHistory self.sizes (strands_of seat) v.items) }
     {

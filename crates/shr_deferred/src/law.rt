@@ -1,6 +1,6 @@
 //! The rule of the table, which each of its steps keeps.
 
-ghost use Rattle.shr_deferred.specs.Rule.{IsSound, first_view, new_view, spent_view, with_split_view, joined_view};
+ghost use Rattle.shr_deferred.specs.Rule.{IsDeferredSound, first_view, new_view, spent_view, with_split_view, joined_view};
 
 use crate::view::View;
 use atomic_table::{Join, Split, TableRule};
@@ -10,7 +10,7 @@ use shr_seats::rows::Sizes;
 pub struct Law;
 
 impl TableRule<(), View, Sizes> for Law {
-    ghost holds = { IsSound };
+    ghost holds = { IsDeferredSound };
 
     ghost first = { λ _. first_view };
 }

@@ -4,9 +4,9 @@ ghost use Rattle.std.specs.Prelude.{◌≡◌, ℕ, ◌+◌, ◌<◌, ◌%◌, �
 ghost use Rattle.atomic_table.specs.Table.{Allows};
 ghost use Rattle.shr_seats.specs.Rows.{IsPlaceOf};
 ghost use Rattle.shr_deferred.specs.Moves.{take_of, give_of};
-ghost use Rattle.shr_deferred.specs.Rule.{IsSound};
+ghost use Rattle.shr_deferred.specs.Rule.{IsDeferredSound};
 ghost use Rattle.shr_deferred.specs.Alone.{IsAlone, left_at};
-ghost use Rattle.shr_deferred.specs.Seat.{IsOf, Gains, moves_of, standing_of};
+ghost use Rattle.shr_deferred.specs.Seat.{IsDeferredSeat, GainsMoves, moves_of, deferred_standing};
 
 use crate::table::{Deferred, DeferredSeat};
 use crate::view::View;
@@ -23,7 +23,7 @@ impl Deferred {
     ) -> u64
         requires seat { seat.old.table_id ≡ self.now.table.shared.table_id }
         requires word { word < self.now.table.shared.table_id.words }
-        requires step { Allows (IsSound self.now.table.shared.key)
+        requires step { Allows (IsDeferredSound self.now.table.shared.key)
             self.now.table.shared.table_id.slots seat.old.id seat.old.me word (λ _. 0) T.tells }
         ensures table { (seat.new.table_id ≡ seat.old.table_id) × (seat.new.id ≡ seat.old.id) }
         ensures told { T.tells result seat.new.me }
@@ -40,7 +40,7 @@ impl Deferred {
     )
         requires seat { seat.old.table_id ≡ self.now.table.shared.table_id }
         requires word { word < self.now.table.shared.table_id.words }
-        requires step { Allows (IsSound self.now.table.shared.key)
+        requires step { Allows (IsDeferredSound self.now.table.shared.key)
             self.now.table.shared.table_id.slots seat.old.id seat.old.me word
             (λ y. (y + n) % 2 ^ 64) T.tells }
         ensures table { (seat.new.table_id ≡ seat.old.table_id) × (seat.new.id ≡ seat.old.id) }
@@ -55,10 +55,10 @@ impl Deferred {
     /// of groups.
     pub fn take(&self, seat: &mut DeferredSeat, place: Place) -> u64
         requires place { IsPlaceOf self.now.sizes place }
-        requires seat { IsOf self.now seat.old }
-        ensures seat { IsOf self.now seat.new }
-        ensures step { Gains seat.old seat.new (take_of place result) }
-        ensures alone { IsAlone (standing_of seat.old) → result
+        requires seat { IsDeferredSeat self.now seat.old }
+        ensures seat { IsDeferredSeat self.now seat.new }
+        ensures step { GainsMoves seat.old seat.new (take_of place result) }
+        ensures alone { IsAlone (deferred_standing seat.old) → result
             ≡ left_at place (moves_of seat.old) }
     {
         let word = self.sizes.row(place);
@@ -71,9 +71,9 @@ impl Deferred {
     /// of groups. Its counter is signed.
     pub fn give(&self, seat: &mut DeferredSeat, place: Place, n: u64)
         requires place { IsPlaceOf self.now.sizes place }
-        requires seat { IsOf self.now seat.old }
-        ensures seat { IsOf self.now seat.new }
-        ensures step { Gains seat.old seat.new (give_of place n) }
+        requires seat { IsDeferredSeat self.now seat.old }
+        ensures seat { IsDeferredSeat self.now seat.new }
+        ensures step { GainsMoves seat.old seat.new (give_of place n) }
     {
         let word = self.sizes.row(place);
         self.add_as::<Brand>(seat, word, n, place);

@@ -3,7 +3,7 @@
 ghost use Rattle.std.specs.Prelude.{◌≡◌, ◌<◌, [], ◌∷◌, replicate, IfOk};
 ghost use Rattle.shr_seats.specs.Standing.{at_first};
 ghost use Rattle.shr_deferred.specs.Moves.{no_moves};
-ghost use Rattle.shr_deferred.specs.Seat.{IsOf, did_of, moves_of, standing_of, strands_of};
+ghost use Rattle.shr_deferred.specs.Seat.{IsDeferredSeat, did_of, moves_of, deferred_standing, strands_of};
 
 use crate::table::{Deferred, DeferredSeat};
 use atomic_table::Table;
@@ -25,8 +25,8 @@ impl Deferred {
     pub fn new(alloc: Global, sizes: Sizes) -> Result<(Deferred, DeferredSeat), Memory>
         requires { (0 < sizes.ids) × (0 < sizes.nodes) × (0 < sizes.groups) }
         ensures sizes { IfOk result (λ t. t.0.sizes ≡ sizes) }
-        ensures seat { IfOk result (λ t. IsOf t.0 t.1) }
-        ensures standing { IfOk result (λ t. standing_of t.1 ≡ at_first) }
+        ensures seat { IfOk result (λ t. IsDeferredSeat t.0 t.1) }
+        ensures standing { IfOk result (λ t. deferred_standing t.1 ≡ at_first) }
         ensures did { IfOk result (λ t. did_of t.1 ≡ []) }
         ensures moves { IfOk result (λ t. moves_of t.1 ≡ no_moves) }
         ensures strands { IfOk result (λ t. strands_of t.1 ≡ no_moves ∷ []) }

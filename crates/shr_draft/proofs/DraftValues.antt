@@ -1,5 +1,5 @@
 -- What drafts say, at known lines.
-use Rattle.shr_draft.proofs.Common.{◌≡◌, ℕ, ◌+◌, [], ◌∷◌, None, refl, arith, codes, Report, kept, no_part, padded, with_reply, nothing}
+use Rattle.shr_draft.proofs.Common.{◌≡◌, ℕ, ◌+◌, [], ◌∷◌, None, refl, arith, codes, Report, kept, no_part, padded, with_reply, nothing_read}
 use Rattle.shr_base.specs.declared.replies.Reply.TheVariants as reply
 use Rattle.shr_model.specs.Pieces.{cut, pieces, left}
 use Rattle.shr_report.specs.ReadWords.{num}
@@ -25,12 +25,12 @@ same_worker : padded 0 (no_part ∷ []) ≡ no_part ∷ []
 same_worker = refl
 
 -- one line that says the version, and a line feed at the end
-version_read : Reads (codes "report 2" ∷ [] ∷ []) nothing (record nothing { version = 2 })
+version_read : Reads (codes "report 2" ∷ [] ∷ []) nothing_read (record nothing_read { version = 2 })
 unfolding Reads left cut pieces plain_kind_of num
 version_read = (said.Version 2, (record { is = refl; numbered = omega arith }, (refl, refl)))
 
 -- without the line feed it isn't a line
-no_line_feed : (r : Report) → Reads (codes "report 2" ∷ []) nothing r → ⊥
+no_line_feed : (r : Report) → Reads (codes "report 2" ∷ []) nothing_read r → ⊥
 unfolding Reads
 no_line_feed r h = no h.0
   where

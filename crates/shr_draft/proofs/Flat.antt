@@ -1,6 +1,5 @@
 -- The sections whose lines stand one behind another: the head, the journals of registrations and of the tree, and the tables.
-use Rattle.shr_draft.proofs.Common.{◌≡◌, ℕ, ◌<◌, ◌^◌, true, List, [], ◌∷◌, ◌++◌, flat_map, Some, refl, codes, AllByRecursion, PlaceAmount, PlaceEnd, UnitsEnd, WorkerPart, Report, line, numbered, numeral, group_line, cache_line, units_name_line, pool_line, tree_line, bit_line, deferred_line, pool_deferred_line, use_line, lookups_line, totals, read_amount, IsBitWord, IsMapNumbered, IsAmountNumbered, IsPrintable, Printed, kind_of, kept, Said}
-use Rattle.std.proofs.Common.{◌⊎◌}
+use Rattle.shr_draft.proofs.Common.{◌≡◌, ℕ, ◌<◌, ◌^◌, true, List, [], ◌∷◌, ◌++◌, flat_map, Some, refl, codes, AllByRecursion, PlaceAmount, PlaceEnd, UnitsEnd, WorkerPart, Report, line, numbered, numeral, numbered_group_line, numbered_cache_line, units_name_line, pool_entry_line, tree_line, bit_line, deferred_line, pool_deferred_line, use_line, lookups_line, totals, read_amount, IsBitWord, IsMapNumbered, IsAmountNumbered, IsPrintable, Printed, line_kind, kept, Said, ◌⊎◌, Totals, read_group, read_cache, read_tree, read_bit, read_use, read_lookups, read_version, read_size, read_total, read_pool_amount, IsPoolNumbered, IsTreeNumbered, IsShort, IsCountNumber, IsUseNumbered, printed_group, printed_cache, printed_tree, printed_bit, printed_deferred, printed_use, printed_lookups, printed_version, printed_size, printed_total, printed}
 use Rattle.shr_model.specs.Pieces.{cut, pieces}
 use Rattle.shr_model.specs.Paths.{is_path}
 use Rattle.shr_model.specs.Words.{is_name}
@@ -10,16 +9,11 @@ use Rattle.shr_base.specs.declared.journals.TreeEntry.{TreeEntry}
 use Rattle.shr_base.specs.declared.journals.TreeEntry.TheVariants as tree
 use Rattle.shr_base.specs.declared.journals.UseStep.{UseStep}
 use Rattle.shr_base.specs.declared.ends.MapEnd.{MapEnd}
-use Rattle.shr_report.specs.ReadLines.{Totals, read_group, read_cache, read_tree, read_bit, read_use, read_lookups, read_version, read_size, read_total, read_pool_amount}
-use Rattle.shr_report.specs.WellFormed.{IsPoolNumbered, IsTreeNumbered}
-use Rattle.shr_report.specs.Numbers.{IsShort, IsCount, IsUseNumbered}
-use Rattle.shr_report.proofs.LinesBack.{printed_group, printed_cache, printed_tree, printed_bit, printed_deferred, printed_use, printed_lookups, printed_version, printed_size, printed_total}
 use Rattle.shr_reader.specs.declared.said.Said.TheVariants as said
 use Rattle.shr_reader.specs.declared.kinds.Kind.TheVariants as kind
 use Rattle.shr_reader.specs.declared.kinds.PlainKind.TheVariants as plain
 use Rattle.shr_report.proofs.Peel.{is_plain_word}
 use Rattle.shr_report.proofs.Reading.{value, plain_numeral, plain_name}
-use Rattle.shr_report.proofs.Printed.{printed}
 use Rattle.shr_report.proofs.PlainLinesBack.{printed_pool_deferred}
 use Rattle.shr_reader.specs.Said.{plain_kind_of, within_kind_of, is_entry, is_unit, pool_said}
 use Rattle.shr_draft.proofs.Leads.{Leads, first_word, leads_printed, leads_items, leads_flat}
@@ -90,19 +84,19 @@ unfolding first_word cut pieces plain_kind_of
 lead_size version nodes ids few fits = leads_printed read_size (totals nodes ids 0) (line (codes "size") (numeral nodes ∷ numeral ids ∷ [])) (kind.Plain plain.Sizes) (λ t. said.Sizes t.added t.freed) (report_of (head version 0 0 [] [] [] [] []) [] [] [] no_tail)
     (printed_size nodes ids) refl (λ f ws. refl) (few, fits)
 
-pub lead_groups : (version nodes ids : ℕ) (xs : List (List ℕ)) → AllByRecursion (λ (w : List ℕ). is_path w ≡ true) xs → Leads (numbered group_line 0 xs) (report_of (head version nodes ids [] [] [] [] []) [] [] [] no_tail) (report_of (head version nodes ids xs [] [] [] []) [] [] [] no_tail)
+pub lead_groups : (version nodes ids : ℕ) (xs : List (List ℕ)) → AllByRecursion (λ (w : List ℕ). is_path w ≡ true) xs → Leads (numbered numbered_group_line 0 xs) (report_of (head version nodes ids [] [] [] [] []) [] [] [] no_tail) (report_of (head version nodes ids xs [] [] [] []) [] [] [] no_tail)
 unfolding first_word cut pieces plain_kind_of within_kind_of is_entry is_unit
-lead_groups version nodes ids xs h = leads_items (λ ys. report_of (head version nodes ids ys [] [] [] []) [] [] [] no_tail) group_line (λ (w : List ℕ). is_path w ≡ true) one 0 xs [] h
+lead_groups version nodes ids xs h = leads_items (λ ys. report_of (head version nodes ids ys [] [] [] []) [] [] [] no_tail) numbered_group_line (λ (w : List ℕ). is_path w ≡ true) one 0 xs [] h
   where
-    one : (n : ℕ) (x : List ℕ) (done : List (List ℕ)) → is_path x ≡ true → Leads (group_line n x) (report_of (head version nodes ids done [] [] [] []) [] [] [] no_tail) (report_of (head version nodes ids (done ++ x ∷ []) [] [] [] []) [] [] [] no_tail)
-    one n x done k = leads_printed read_group x (group_line n x) kind.Group (λ p. said.Group p) (report_of (head version nodes ids done [] [] [] []) [] [] [] no_tail) (printed_group n x k) refl (λ f ws. refl) tt
+    one : (n : ℕ) (x : List ℕ) (done : List (List ℕ)) → is_path x ≡ true → Leads (numbered_group_line n x) (report_of (head version nodes ids done [] [] [] []) [] [] [] no_tail) (report_of (head version nodes ids (done ++ x ∷ []) [] [] [] []) [] [] [] no_tail)
+    one n x done k = leads_printed read_group x (numbered_group_line n x) kind.Group (λ p. said.Group p) (report_of (head version nodes ids done [] [] [] []) [] [] [] no_tail) (printed_group n x k) refl (λ f ws. refl) tt
 
-pub lead_caches : (version nodes ids : ℕ) (groups xs : List (List ℕ)) → AllByRecursion (λ (w : List ℕ). is_name w ≡ true) xs → Leads (numbered cache_line 0 xs) (report_of (head version nodes ids groups [] [] [] []) [] [] [] no_tail) (report_of (head version nodes ids groups xs [] [] []) [] [] [] no_tail)
+pub lead_caches : (version nodes ids : ℕ) (groups xs : List (List ℕ)) → AllByRecursion (λ (w : List ℕ). is_name w ≡ true) xs → Leads (numbered numbered_cache_line 0 xs) (report_of (head version nodes ids groups [] [] [] []) [] [] [] no_tail) (report_of (head version nodes ids groups xs [] [] []) [] [] [] no_tail)
 unfolding first_word cut pieces plain_kind_of within_kind_of is_entry is_unit
-lead_caches version nodes ids groups xs h = leads_items (λ ys. report_of (head version nodes ids groups ys [] [] []) [] [] [] no_tail) cache_line (λ (w : List ℕ). is_name w ≡ true) one 0 xs [] h
+lead_caches version nodes ids groups xs h = leads_items (λ ys. report_of (head version nodes ids groups ys [] [] []) [] [] [] no_tail) numbered_cache_line (λ (w : List ℕ). is_name w ≡ true) one 0 xs [] h
   where
-    one : (n : ℕ) (x : List ℕ) (done : List (List ℕ)) → is_name x ≡ true → Leads (cache_line n x) (report_of (head version nodes ids groups done [] [] []) [] [] [] no_tail) (report_of (head version nodes ids groups (done ++ x ∷ []) [] [] []) [] [] [] no_tail)
-    one n x done k = leads_printed read_cache x (cache_line n x) kind.Cache (λ p. said.Cache p) (report_of (head version nodes ids groups done [] [] []) [] [] [] no_tail) (printed_cache n x k) refl (λ f ws. refl) tt
+    one : (n : ℕ) (x : List ℕ) (done : List (List ℕ)) → is_name x ≡ true → Leads (numbered_cache_line n x) (report_of (head version nodes ids groups done [] [] []) [] [] [] no_tail) (report_of (head version nodes ids groups (done ++ x ∷ []) [] [] []) [] [] [] no_tail)
+    one n x done k = leads_printed read_cache x (numbered_cache_line n x) kind.Cache (λ p. said.Cache p) (report_of (head version nodes ids groups done [] [] []) [] [] [] no_tail) (printed_cache n x k) refl (λ f ws. refl) tt
 
 -- what a line that begins with `pool` says, behind its first word
 abbrev said_of_pool : List ℕ → List (List ℕ) → Said
@@ -113,7 +107,7 @@ said_name : (n : ℕ) (w : List ℕ) → is_name w ≡ true → Printed Said sai
 unfolding is_plain_word
 said_name n w h = printed said_of_pool (said.PoolName w) (codes "pool") (numeral n ∷ w ∷ []) (simp (plain_numeral, plain_name w h)) refl
 
-said_entry : (n : ℕ) (e : PoolEntry) → Printed Said said_of_pool (said.Pool e) (pool_line n e)
+said_entry : (n : ℕ) (e : PoolEntry) → Printed Said said_of_pool (said.Pool e) (pool_entry_line n e)
 unfolding is_plain_word
 said_entry n (pool.Registered decl id from) = printed said_of_pool (said.Pool (pool.Registered decl id from)) (codes "pool") (numeral n ∷ codes "registered" ∷ numeral decl ∷ numeral id ∷ numeral from ∷ []) (simp plain_numeral) (simp value)
 said_entry n (pool.Unregistered decl id to) = printed said_of_pool (said.Pool (pool.Unregistered decl id to)) (codes "pool") (numeral n ∷ codes "unregistered" ∷ numeral decl ∷ numeral id ∷ numeral to ∷ []) (simp plain_numeral) (simp value)
@@ -126,19 +120,19 @@ lead_names version nodes ids groups caches xs h = leads_items (λ ys. report_of 
     one : (n : ℕ) (x : List ℕ) (done : List (List ℕ)) → is_name x ≡ true → Leads (units_name_line n x) (report_of (head version nodes ids groups caches done [] []) [] [] [] no_tail) (report_of (head version nodes ids groups caches (done ++ x ∷ []) [] []) [] [] [] no_tail)
     one n x done k = leads_printed said_of_pool (said.PoolName x) (units_name_line n x) kind.Pool (λ s. s) (report_of (head version nodes ids groups caches done [] []) [] [] [] no_tail) (said_name n x k) refl (λ f ws. refl) tt
 
-pool_word : (n : ℕ) (e : PoolEntry) → kind_of (first_word (pool_line n e ++ [])) ≡ Some kind.Pool
+pool_word : (n : ℕ) (e : PoolEntry) → line_kind (first_word (pool_entry_line n e ++ [])) ≡ Some kind.Pool
 unfolding first_word cut pieces plain_kind_of within_kind_of is_entry is_unit
 pool_word n (pool.Registered decl id from) = refl
 pool_word n (pool.Unregistered decl id to) = refl
 pool_word n (pool.Idle id) = refl
 
-pub lead_pool : (version nodes ids : ℕ) (groups caches names : List (List ℕ)) (xs : List PoolEntry) → AllByRecursion IsPoolNumbered xs → Leads (numbered pool_line 0 xs) (report_of (head version nodes ids groups caches names [] []) [] [] [] no_tail) (report_of (head version nodes ids groups caches names xs []) [] [] [] no_tail)
-lead_pool version nodes ids groups caches names xs h = leads_items (λ ys. report_of (head version nodes ids groups caches names ys []) [] [] [] no_tail) pool_line IsPoolNumbered one 0 xs [] h
+pub lead_pool : (version nodes ids : ℕ) (groups caches names : List (List ℕ)) (xs : List PoolEntry) → AllByRecursion IsPoolNumbered xs → Leads (numbered pool_entry_line 0 xs) (report_of (head version nodes ids groups caches names [] []) [] [] [] no_tail) (report_of (head version nodes ids groups caches names xs []) [] [] [] no_tail)
+lead_pool version nodes ids groups caches names xs h = leads_items (λ ys. report_of (head version nodes ids groups caches names ys []) [] [] [] no_tail) pool_entry_line IsPoolNumbered one 0 xs [] h
   where
-    one : (n : ℕ) (x : PoolEntry) (done : List PoolEntry) → IsPoolNumbered x → Leads (pool_line n x) (report_of (head version nodes ids groups caches names done []) [] [] [] no_tail) (report_of (head version nodes ids groups caches names (done ++ x ∷ []) []) [] [] [] no_tail)
-    one n x done k = leads_printed said_of_pool (said.Pool x) (pool_line n x) kind.Pool (λ s. s) (report_of (head version nodes ids groups caches names done []) [] [] [] no_tail) (said_entry n x) (pool_word n x) (λ f ws. refl) k
+    one : (n : ℕ) (x : PoolEntry) (done : List PoolEntry) → IsPoolNumbered x → Leads (pool_entry_line n x) (report_of (head version nodes ids groups caches names done []) [] [] [] no_tail) (report_of (head version nodes ids groups caches names (done ++ x ∷ []) []) [] [] [] no_tail)
+    one n x done k = leads_printed said_of_pool (said.Pool x) (pool_entry_line n x) kind.Pool (λ s. s) (report_of (head version nodes ids groups caches names done []) [] [] [] no_tail) (said_entry n x) (pool_word n x) (λ f ws. refl) k
 
-tree_word : (n : ℕ) (e : TreeEntry) → kind_of (first_word (tree_line n e ++ [])) ≡ Some (kind.Plain plain.Tree)
+tree_word : (n : ℕ) (e : TreeEntry) → line_kind (first_word (tree_line n e ++ [])) ≡ Some (kind.Plain plain.Tree)
 unfolding first_word cut pieces plain_kind_of
 tree_word n (tree.Begin group) = refl
 tree_word n (tree.Done group) = refl
@@ -188,11 +182,11 @@ lead_uses h ws ps us maps words pools xs all = leads_flat (λ ys. report_of h ws
     one : (x : UseStep) (done : List UseStep) → IsUseNumbered x → Leads (use_line x) (report_of h ws ps us (tail maps words pools done [] (totals 0 0 0))) (report_of h ws ps us (tail maps words pools (done ++ x ∷ []) [] (totals 0 0 0)))
     one x done k = leads_printed read_use x (use_line x) (kind.Plain plain.Use) (λ u. said.Use u) (report_of h ws ps us (tail maps words pools done [] (totals 0 0 0))) (printed_use x) refl (λ f ws. refl) k
 
-pub lead_lookups : (h : Head) (ws : List WorkerPart) (ps : List PlaceEnd) (us : List UnitsEnd) (maps : List MapEnd) (words pools : List PlaceAmount) (uses : List UseStep) (xs : List ℕ) → AllByRecursion IsCount xs → Leads (numbered lookups_line 0 xs) (report_of h ws ps us (tail maps words pools uses [] (totals 0 0 0))) (report_of h ws ps us (tail maps words pools uses xs (totals 0 0 0)))
+pub lead_lookups : (h : Head) (ws : List WorkerPart) (ps : List PlaceEnd) (us : List UnitsEnd) (maps : List MapEnd) (words pools : List PlaceAmount) (uses : List UseStep) (xs : List ℕ) → AllByRecursion IsCountNumber xs → Leads (numbered lookups_line 0 xs) (report_of h ws ps us (tail maps words pools uses [] (totals 0 0 0))) (report_of h ws ps us (tail maps words pools uses xs (totals 0 0 0)))
 unfolding first_word cut pieces plain_kind_of
-lead_lookups h ws ps us maps words pools uses xs all = leads_items (λ ys. report_of h ws ps us (tail maps words pools uses ys (totals 0 0 0))) lookups_line IsCount one 0 xs [] all
+lead_lookups h ws ps us maps words pools uses xs all = leads_items (λ ys. report_of h ws ps us (tail maps words pools uses ys (totals 0 0 0))) lookups_line IsCountNumber one 0 xs [] all
   where
-    one : (n : ℕ) (x : ℕ) (done : List ℕ) → IsCount x → Leads (lookups_line n x) (report_of h ws ps us (tail maps words pools uses done (totals 0 0 0))) (report_of h ws ps us (tail maps words pools uses (done ++ x ∷ []) (totals 0 0 0)))
+    one : (n : ℕ) (x : ℕ) (done : List ℕ) → IsCountNumber x → Leads (lookups_line n x) (report_of h ws ps us (tail maps words pools uses done (totals 0 0 0))) (report_of h ws ps us (tail maps words pools uses (done ++ x ∷ []) (totals 0 0 0)))
     one n x done k = leads_printed read_lookups x (lookups_line n x) (kind.Plain plain.Lookups) (λ l. said.Lookups l) (report_of h ws ps us (tail maps words pools uses done (totals 0 0 0))) (printed_lookups n x) refl (λ f ws. refl) k
 
 pub lead_totals : (h : Head) (ws : List WorkerPart) (ps : List PlaceEnd) (us : List UnitsEnd) (maps : List MapEnd) (words pools : List PlaceAmount) (uses : List UseStep) (lookups : List ℕ) (added freed listed replies walks : ℕ) → IsBitWord added × IsBitWord freed × IsBitWord listed

@@ -1,8 +1,6 @@
 -- The last of some.
-use Rattle.shr_draft.proofs.Common.{◌≡◌, ℕ, ◌+◌, ◌-◌, ◌%◌, ◌^◌, List, [], ◌∷◌, ◌++◌, length, refl, sym, ap, ◌∙◌, append_assoc, arith, replicate, map, append-nil, replicate-append-replicate, length-append, Kept, WorkerPart, Serial, WalkRecord, MapSeen, Attempt, PlainTry, PlainWalk, WalkDraft, PlainDraft, PartDraft, kept, no_part, padded, part_of, parts_of, walk_of, walks_of, plain_of, plains_of, last_command, begun, plain_begun}
-use Rattle.std.proofs.lemmas.List.{length-replicate, map-append, length-map}
+use Rattle.shr_draft.proofs.Common.{◌≡◌, ℕ, ◌+◌, ◌-◌, ◌%◌, ◌^◌, List, [], ◌∷◌, ◌++◌, length, refl, sym, ap, ◌∙◌, append_assoc, arith, replicate, map, append-nil, replicate-append-replicate, length-append, Kept, WorkerPart, Serial, WalkRecord, MapSeen, Attempt, PlainTry, PlainWalk, WalkDraft, PlainDraft, PartDraft, kept, no_part, padded, drafted_part, drafted_parts, drafted_walk, drafted_walks, drafted_plain, plains_of, last_command, walk_begun, plain_begun, length-replicate, map-append, length-map, Global}
 use Rattle.std.specs.declared.vec.Vec.{Vec}
-use Rattle.std.proofs.Common.{Global}
 use Rattle.shr_reader.specs.declared.walks.Head.{Head}
 use Rattle.shr_reader.specs.declared.pools.PlainHead.{PlainHead}
 use Rattle.shr_draft.specs.Draft.{with_last}
@@ -59,27 +57,27 @@ none_changed change (x ∷ xs) new e g = absurd (omega arith)
 
 -- the last command of the last part, by the number of those before it
 pub by_last : (old rest : List PartDraft) (x : PartDraft) (n : ℕ) (by : Serial) → old ≡ rest ++ x ∷ [] → n ≡ length rest → by.worker ≡ n % 2 ^ 16 → by.command ≡ (length x.answers.items - 1) % 2 ^ 32
-    → by ≡ last_command (length (parts_of old) - 1) (part_of x)
+    → by ≡ last_command (length (drafted_parts old) - 1) (drafted_part x)
 by_last old rest x n by e f worker command =
-    let count : length (parts_of old) ≡ length rest + 1 = length-map old part_of ∙ ap length e ∙ length-append rest (x ∷ []) in
-    let same : length (parts_of old) - 1 ≡ n = omega arith in
-    parts by.worker by.command (n % 2 ^ 16) ((length x.answers.items - 1) % 2 ^ 32) worker command ∙ ap (λ (m : ℕ). last_command m (part_of x)) (sym same)
+    let count : length (drafted_parts old) ≡ length rest + 1 = length-map old drafted_part ∙ ap length e ∙ length-append rest (x ∷ []) in
+    let same : length (drafted_parts old) - 1 ≡ n = omega arith in
+    parts by.worker by.command (n % 2 ^ 16) ((length x.answers.items - 1) % 2 ^ 32) worker command ∙ ap (λ (m : ℕ). last_command m (drafted_part x)) (sym same)
   where
     parts : (a b d g : ℕ) → a ≡ d → b ≡ g → (let s : Serial = record { worker = a; command = b } in s) ≡ (let s : Serial = record { worker = d; command = g } in s)
     parts a b d g e f = rw (e, f) refl
 
 -- a walk more
-pub walks_more : (old new : List WalkDraft) (w : WalkDraft) (r : WalkRecord) → new ≡ old ++ w ∷ [] → walk_of w ≡ r → walks_of new ≡ walks_of old ++ r ∷ []
-walks_more old new w r e f = ap walks_of e ∙ map-append walk_of old (w ∷ []) ∙ ap (λ (x : WalkRecord). walks_of old ++ x ∷ []) f
+pub walks_more : (old new : List WalkDraft) (w : WalkDraft) (r : WalkRecord) → new ≡ old ++ w ∷ [] → drafted_walk w ≡ r → drafted_walks new ≡ drafted_walks old ++ r ∷ []
+walks_more old new w r e f = ap drafted_walks e ∙ map-append drafted_walk old (w ∷ []) ∙ ap (λ (x : WalkRecord). drafted_walks old ++ x ∷ []) f
 
 -- a walk of which nothing but its head was read
-pub begun_is : (made by : Serial) (h : Head) (maps : Vec MapSeen Global) (attempts : Vec Attempt Global) → made ≡ by → maps.items ≡ [] → attempts.items ≡ [] → walk_of (record { by = made; head = h; maps = maps; attempts = attempts }) ≡ begun by h
+pub begun_is : (made by : Serial) (h : Head) (maps : Vec MapSeen Global) (attempts : Vec Attempt Global) → made ≡ by → maps.items ≡ [] → attempts.items ≡ [] → drafted_walk (record { by = made; head = h; maps = maps; attempts = attempts }) ≡ walk_begun by h
 begun_is made by h maps attempts e f g = rw (e, f, g) refl
 
 -- a walk of the pools more
-pub plains_more : (old new : List PlainDraft) (w : PlainDraft) (r : PlainWalk) → new ≡ old ++ w ∷ [] → plain_of w ≡ r → plains_of new ≡ plains_of old ++ r ∷ []
-plains_more old new w r e f = ap plains_of e ∙ map-append plain_of old (w ∷ []) ∙ ap (λ (x : PlainWalk). plains_of old ++ x ∷ []) f
+pub plains_more : (old new : List PlainDraft) (w : PlainDraft) (r : PlainWalk) → new ≡ old ++ w ∷ [] → drafted_plain w ≡ r → plains_of new ≡ plains_of old ++ r ∷ []
+plains_more old new w r e f = ap plains_of e ∙ map-append drafted_plain old (w ∷ []) ∙ ap (λ (x : PlainWalk). plains_of old ++ x ∷ []) f
 
 -- a walk of the pools of which nothing but its head was read
-pub plain_begun_is : (made by : Serial) (h : PlainHead) (tries : Vec PlainTry Global) → made ≡ by → tries.items ≡ [] → plain_of (record { by = made; head = h; tries = tries }) ≡ plain_begun by h
+pub plain_begun_is : (made by : Serial) (h : PlainHead) (tries : Vec PlainTry Global) → made ≡ by → tries.items ≡ [] → drafted_plain (record { by = made; head = h; tries = tries }) ≡ plain_begun by h
 plain_begun_is made by h tries e f = rw (e, f) refl

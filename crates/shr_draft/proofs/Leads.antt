@@ -1,14 +1,10 @@
 -- Lines lead from what was read before them to what is read with them.
-use Rattle.shr_draft.proofs.Common.{◌≡◌, ℕ, ◌+◌, true, List, [], ◌∷◌, ◌++◌, flat_map, Option, Some, refl, sym, ap, subst, ◌∙◌, append_assoc, AllByRecursion, append-nil, cut, Report, line, Printed, Said, kind_of, read_line, with_said, Says}
-use Rattle.std.specs.Prelude.{option_map}
-use Rattle.std.specs.List.{list_all}
+use Rattle.shr_draft.proofs.Common.{◌≡◌, ℕ, ◌+◌, true, List, [], ◌∷◌, ◌++◌, flat_map, Option, Some, refl, sym, ap, subst, ◌∙◌, append_assoc, AllByRecursion, append-nil, cut, Report, line, Printed, Said, line_kind, read_line, with_said, Says, option_map, list_all, flat_numbered, said_of, IsSaidNumbered}
 use Rattle.shr_model.specs.Pieces.{pieces, left}
 use Rattle.shr_report.specs.Lines.{numbered}
 use Rattle.shr_report.specs.ReadWords.{first_of, later}
 use Rattle.shr_report.proofs.Peel.{is_plain_word, body_of, body_words, cut_line}
-use Rattle.shr_report.proofs.Sections.{flat_numbered}
 use Rattle.shr_reader.specs.declared.kinds.Kind.{Kind}
-use Rattle.shr_reader.specs.Said.{said_of, IsSaidNumbered}
 use Rattle.shr_draft.specs.Reading.{Reads}
 
 -- whatever follows them, these bytes lead from one report to another
@@ -31,17 +27,17 @@ lines_of f ws rest h = let c = cut_line f ws rest h in both (cut 10 (line f ws +
     both a b ans bs e f = cc
 
 said_in : ℕ → List (List ℕ) → Option Said
-said_in version ws = option_map (λ k. said_of k version (first_of ws) (later ws)) (kind_of (first_of ws))
+said_in version ws = option_map (λ k. said_of k version (first_of ws) (later ws)) (line_kind (first_of ws))
 
 of_words : (version : ℕ) (body : List ℕ) → read_line version body ≡ said_in version (pieces 32 body)
 unfolding left said_in
 of_words version body = refl
 
-of_kind : (version : ℕ) (f : List ℕ) (ws : List (List ℕ)) (k : Kind) → kind_of f ≡ Some k → said_in version (f ∷ ws) ≡ Some (said_of k version f ws)
+of_kind : (version : ℕ) (f : List ℕ) (ws : List (List ℕ)) (k : Kind) → line_kind f ≡ Some k → said_in version (f ∷ ws) ≡ Some (said_of k version f ws)
 unfolding said_in
 of_kind version f ws k e = ap (option_map (λ k. said_of k version f ws)) e
 
-pub leads_line : (before : Report) (f : List ℕ) (ws : List (List ℕ)) (s : Said) (k : Kind) → list_all is_plain_word (f ∷ ws) ≡ true → kind_of f ≡ Some k → said_of k before.version f ws ≡ s → IsSaidNumbered s
+pub leads_line : (before : Report) (f : List ℕ) (ws : List (List ℕ)) (s : Said) (k : Kind) → list_all is_plain_word (f ∷ ws) ≡ true → line_kind f ≡ Some k → said_of k before.version f ws ≡ s → IsSaidNumbered s
     → Leads (line f ws) before (with_said s before)
 unfolding pieces Reads
 leads_line before f ws s k plain e said fits = record { lead = λ rest r h. subst (λ (ls : List (List ℕ)). Reads ls before r) (sym (lines_of f ws rest plain)) (one rest r h) }
@@ -64,12 +60,12 @@ unfolding first_word
 first_is f ws rest h = ap (λ (l : List ℕ). first_of (pieces 32 l)) (cut_line f ws rest h).0 ∙ ap first_of (body_words f ws h)
 
 -- a line that is read back leads to what it says
-pub leads_printed : {X : Type 0} (read : List ℕ → List (List ℕ) → X) (x : X) (text : List ℕ) (k : Kind) (to : X → Said) (before : Report) → Printed X read x text → kind_of (first_word (text ++ [])) ≡ Some k
+pub leads_printed : {X : Type 0} (read : List ℕ → List (List ℕ) → X) (x : X) (text : List ℕ) (k : Kind) (to : X → Said) (before : Report) → Printed X read x text → line_kind (first_word (text ++ [])) ≡ Some k
     → ((f : List ℕ) (ws : List (List ℕ)) → said_of k before.version f ws ≡ to (read f ws)) → IsSaidNumbered (to x) → Leads text before (with_said (to x) before)
 leads_printed read x text k to before p e said fits =
     let first : first_word (text ++ []) ≡ p.first = ap (λ (t : List ℕ). first_word (t ++ [])) p.is ∙ first_is p.first p.words [] p.plain in
     subst (λ (t : List ℕ). Leads t before (with_said (to x) before)) (sym p.is)
-    (leads_line before p.first p.words (to x) k p.plain (ap kind_of (sym first) ∙ e) (said p.first p.words ∙ ap to p.again) fits)
+    (leads_line before p.first p.words (to x) k p.plain (ap line_kind (sym first) ∙ e) (said p.first p.words ∙ ap to p.again) fits)
 
 -- ---- lines one behind another
 

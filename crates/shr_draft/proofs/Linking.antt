@@ -1,7 +1,5 @@
 -- A node more at the head of objects at rest.
-use Rattle.shr_draft.proofs.Common.{◌≡◌, ℕ, suc, ◌+◌, List, [], ◌∷◌, ◌++◌, length, append_assoc, Option, Some, None, refl, sym, ap, ◌∙◌, arith, get, slab_len, Updates, Object, objects_from}
-use Rattle.std.proofs.Common.{◌≢◌, zero}
-use Rattle.slab.specs.Slab.{Slab}
+use Rattle.shr_draft.proofs.Common.{◌≡◌, ℕ, suc, ◌+◌, List, [], ◌∷◌, ◌++◌, length, append_assoc, Option, Some, None, refl, sym, ap, ◌∙◌, arith, get, slab_len, Updates, Object, objects_from, ◌≢◌, zero, Slab}
 use Rattle.shr_base.specs.declared.items.Node.{Node}
 
 few_more : (n m : ℕ) → suc n ≡ suc m → n ≡ m

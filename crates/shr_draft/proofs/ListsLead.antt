@@ -1,15 +1,10 @@
 -- The lines of a list lead to it.
-use Rattle.shr_draft.proofs.Common.{◌≡◌, true, false, List, [], ◌∷◌, ◌++◌, flat_map, Some, refl, subst, codes, AllByRecursion, Kept, Object, Entry, PlaceEnd, PlainEntry, UnitsEnd, WorkerPart, line, place_lines, units_lines, IsPlaceWell, IsListNumbered, AreUnitsNumbered, all_both, kind_of, kept, with_more, IsTightList, AreTightUnits, ℕ, ap}
+use Rattle.shr_draft.proofs.Common.{◌≡◌, true, false, List, [], ◌∷◌, ◌++◌, flat_map, Some, refl, subst, codes, AllByRecursion, Kept, Object, Entry, PlaceEnd, PlainEntry, UnitsEnd, WorkerPart, line, place_lines, units_lines, IsPlaceWell, IsListNumbered, AreUnitsNumbered, all_both, line_kind, kept, with_more, IsTightList, AreTightUnits, ℕ, ap, entry_line, item_line, plain_entry_line, read_list, read_entry, read_item, read_plain_entry, read_units, HasWords, IsSpelled, IsNumbered, IsEntryNumbered, IsObjectNumbered, IsPlainEntryNumbered, printed_list, printed_entry, printed_item}
 use Rattle.shr_model.specs.Pieces.{cut, pieces}
 use Rattle.shr_base.specs.declared.places.Place.{Place}
 use Rattle.shr_base.specs.declared.journals.Entry.TheVariants as entry
 use Rattle.shr_base.specs.declared.journals.PlainEntry.TheVariants as units
 use Rattle.shr_report.specs.AnswerText.{place_words}
-use Rattle.shr_report.specs.Text.{entry_line, item_line, plain_entry_line}
-use Rattle.shr_report.specs.ReadLines.{read_list, read_entry, read_item, read_plain_entry, read_units}
-use Rattle.shr_report.specs.WellFormed.{HasWords, IsSpelled, IsNumbered}
-use Rattle.shr_report.specs.Numbers.{IsEntryNumbered, IsObjectNumbered, IsPlainEntryNumbered}
-use Rattle.shr_report.proofs.LinesBack.{printed_list, printed_entry, printed_item}
 use Rattle.shr_report.proofs.PlainLinesBack.{printed_plain_entry, units_line, printed_units}
 use Rattle.shr_report.proofs.PlainLinesBack as lines
 use Rattle.shr_reader.specs.declared.said.Said.TheVariants as said
@@ -24,7 +19,7 @@ use Rattle.shr_draft.proofs.Lasts.{last_is, tight_is}
 abbrev ended : Place → List Entry → List Object → PlaceEnd
 ended place entries items = record { place = place; entries = kept entries; items = kept items }
 
-entry_word : (e : Entry) → kind_of (first_word (entry_line e ++ [])) ≡ Some kind.Entry
+entry_word : (e : Entry) → line_kind (first_word (entry_line e ++ [])) ≡ Some kind.Entry
 unfolding first_word cut pieces plain_kind_of within_kind_of is_entry is_unit
 entry_word (entry.Add by birth added key value) = refl
 entry_word (entry.Look by birth key hit) = refl
@@ -104,7 +99,7 @@ pub record IsUnitsFit (u : UnitsEnd) : Type 0 where
   pub numbers : AreUnitsNumbered u
   pub tight : AreTightUnits u
 
-unit_word : (e : PlainEntry) → kind_of (first_word (plain_entry_line e ++ [])) ≡ Some kind.Unit
+unit_word : (e : PlainEntry) → line_kind (first_word (plain_entry_line e ++ [])) ≡ Some kind.Unit
 unfolding first_word cut pieces plain_kind_of within_kind_of is_entry is_unit
 unit_word (units.Release by n) = refl
 unit_word (units.Grab by got) = refl

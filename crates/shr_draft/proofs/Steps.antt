@@ -1,8 +1,6 @@
 -- One line more of a text, and the last.
-use Rattle.shr_draft.proofs.Common.{◌≡◌, ℕ, suc, ◌+◌, ◌-◌, ◌<◌, List, [], ◌∷◌, length, take, drop, true, false, Option, Some, None, refl, ap, subst, arith, cut, prefix_len, Report, Said, read_line, IsReadOf, with_said, Says}
-use Rattle.std.proofs.Common.{Bool}
+use Rattle.shr_draft.proofs.Common.{◌≡◌, ℕ, suc, ◌+◌, ◌-◌, ◌<◌, List, [], ◌∷◌, length, take, drop, true, false, Option, Some, None, refl, ap, subst, arith, cut, prefix_len, Report, Said, read_line, IsReadOf, with_said, Says, Bool, ◌==◌}
 use Rattle.shr_model.specs.Pieces.{pieces, differs, left}
-use Rattle.std.specs.Prelude.{◌==◌}
 use Rattle.shr_model.proofs.PiecesLaws.{next_more, next_last}
 use Rattle.shr_draft.specs.Reading.{Reads}
 

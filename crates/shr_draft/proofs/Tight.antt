@@ -1,11 +1,10 @@
 -- What a draft says has no room to spare.
-use Rattle.shr_draft.proofs.Common.{List, [], ◌∷◌, refl, map, AllByRecursion, WalkDraft, PlainDraft, PartDraft, walk_of, plain_of, part_of, list_of, pool_of, walks_of, plains_of, parts_of, drafted, IsTightWalk, IsTightPlain, IsTightPart, IsTightList, AreTightUnits, IsTightReport}
+use Rattle.shr_draft.proofs.Common.{List, [], ◌∷◌, refl, map, AllByRecursion, WalkDraft, PlainDraft, PartDraft, drafted_walk, drafted_plain, drafted_part, list_of, drafted_pool, drafted_walks, plains_of, drafted_parts, drafted_report, IsTightWalk, IsTightPlain, IsTightPart, IsTightList, AreTightUnits, IsTightReport, lists_of, pools_of}
 use Rattle.shr_draft.specs.declared.lists.ListDraft.{ListDraft}
 use Rattle.shr_draft.specs.declared.lists.UnitsDraft.{UnitsDraft}
 use Rattle.shr_draft.specs.declared.draft.Draft.{Draft}
-use Rattle.shr_draft.specs.Draft.{lists_of, pools_of}
 
-walks : (ws : List WalkDraft) → AllByRecursion IsTightWalk (walks_of ws)
+walks : (ws : List WalkDraft) → AllByRecursion IsTightWalk (drafted_walks ws)
 walks [] = tt
 walks (w ∷ ws) = (record { maps = refl; attempts = refl }, walks ws)
 
@@ -13,7 +12,7 @@ plains : (ws : List PlainDraft) → AllByRecursion IsTightPlain (plains_of ws)
 plains [] = tt
 plains (w ∷ ws) = (record { tries = refl }, plains ws)
 
-parts : (ps : List PartDraft) → AllByRecursion IsTightPart (parts_of ps)
+parts : (ps : List PartDraft) → AllByRecursion IsTightPart (drafted_parts ps)
 parts [] = tt
 parts (p ∷ ps) = (record { answers = refl; walks = refl; each = walks p.walks.items; carries = refl; plain = refl; each_plain = plains p.plain.items; isolations = refl }, parts ps)
 
@@ -25,7 +24,7 @@ pools : (us : List UnitsDraft) → AllByRecursion AreTightUnits (pools_of us)
 pools [] = tt
 pools (u ∷ us) = (record { entries = refl }, pools us)
 
-pub tight_drafted : (d : Draft) → IsTightReport (drafted d)
+pub tight_drafted : (d : Draft) → IsTightReport (drafted_report d)
 tight_drafted d = record {
   groups = refl;
   caches = refl;

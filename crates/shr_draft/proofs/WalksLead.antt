@@ -1,25 +1,18 @@
 -- The lines of a walk, and of a carry, lead to it.
-use Rattle.shr_draft.proofs.Common.{◌≡◌, ℕ, ◌-◌, ◌<◌, ◌%◌, ◌^◌, List, [], ◌∷◌, ◌++◌, length, take, drop, flat_map, refl, sym, ap, subst, ◌∙◌, append_assoc, arith, AllByRecursion, prefix_len, append-nil, take-append-drop, length-append, Kept, Serial, Answered, Attempt, MapSeen, WalkRecord, Carry, PlainTry, PlainWalk, Isolation, WorkerPart, Report, numbered, walk_lines, carry_line, plain_lines, isolation_line, read_amount, IsBitWord, IsWalkNumbered, IsCarryNumbered, IsIsolationNumbered, IsPlainNumbered, all_both, kept, with_more, with_last, last_changed, last_command, begun, isolated, plain_begun, passed_walk, IsTightWalk, IsTightPlain}
+use Rattle.shr_draft.proofs.Common.{◌≡◌, ℕ, ◌-◌, ◌<◌, ◌%◌, ◌^◌, List, [], ◌∷◌, ◌++◌, length, take, drop, flat_map, refl, sym, ap, subst, ◌∙◌, append_assoc, arith, AllByRecursion, prefix_len, append-nil, take-append-drop, length-append, Kept, Serial, Answered, Attempt, MapSeen, WalkRecord, Carry, PlainTry, PlainWalk, Isolation, WorkerPart, Report, numbered, walk_lines, carry_line, plain_lines, isolation_line, read_amount, IsBitWord, IsWalkNumbered, IsCarryNumbered, IsIsolationNumbered, IsPlainNumbered, all_both, kept, with_more, with_last, last_changed, last_command, walk_begun, isolated, plain_begun, passed_walk, IsTightWalk, IsTightPlain, read_attempt, read_map, read_walk, IsSeenNumbered, IsAttemptNumbered, IsTryNumbered, printed_attempt, printed_map, printed_walk, walk_line, amount_of, printed_carry, all_taken, with_walk, with_carry, with_isolation, with_plain, plain_head_of, isolation_head_of, read_isolation, read_pass_line, read_plain}
 use Rattle.shr_model.specs.Pieces.{cut, pieces}
 use Rattle.shr_report.specs.WalkText.{attempt_line, map_line, map_lines, is_in_unit, pass_line}
-use Rattle.shr_report.specs.ReadLines.{read_attempt, read_map, read_walk}
-use Rattle.shr_report.specs.Numbers.{IsSeenNumbered, IsAttemptNumbered, IsTryNumbered}
-use Rattle.shr_report.proofs.LinesBack.{printed_attempt, printed_map, printed_walk, walk_line, amount_of, printed_carry}
 use Rattle.shr_report.proofs.LinesBack as walk_heads
 use Rattle.shr_report.proofs.PlainLinesBack.{printed_isolation, printed_pass, plain_line, printed_plain}
 use Rattle.shr_report.proofs.PlainLinesBack as lines
-use Rattle.shr_report.proofs.Sections.{all_taken}
 use Rattle.shr_report.proofs.WalksBack.{HasBitWords}
 use Rattle.shr_reader.specs.declared.said.Said.TheVariants as said
 use Rattle.shr_reader.specs.declared.kinds.Kind.TheVariants as kind
 use Rattle.shr_reader.specs.declared.kinds.PlainKind.TheVariants as plain
 use Rattle.shr_reader.specs.Said.{plain_kind_of, head_of}
-use Rattle.shr_draft.specs.Draft.{with_walk, with_carry, with_isolation, with_plain}
 use Rattle.shr_draft.proofs.Leads.{Leads, first_word, leads_then, leads_printed, leads_items, leads_flat}
 use Rattle.shr_draft.proofs.Flat.{Head, report_of, no_tail}
 use Rattle.shr_draft.proofs.Lasts.{last_is, tight_is}
-use Rattle.shr_reader.specs.Said.{plain_head_of, isolation_head_of}
-use Rattle.shr_report.specs.ReadLines.{read_isolation, read_pass_line, read_plain}
 
 -- what a worker has besides its answers
 pub record Kinds : Type 0 where
@@ -138,8 +131,8 @@ one_walk h w k n done ans a ws cs is ps x e f fit by =
     let head = walk_heads.head_of x.group x.node x.priority x.nofs x.answer in
     let text = walk_line n x.group x.node x.priority x.nofs x.answer in
     let begins : with_walk (head_of head) (done ++ part us (kinds is ws cs ps) ∷ []) ≡ done ++ part us (kinds is (ws ++ walked x [] [] ∷ []) cs ps) ∷ [] =
-    last_is (λ (p : WorkerPart). record p { walks = with_more (begun (last_command (length (done ++ part us (kinds is ws cs ps) ∷ []) - 1) p) (head_of head)) p.walks }) done (part us (kinds is ws cs ps))
-    ∙ ap (λ (s : Serial). done ++ part us (kinds is (ws ++ begun s (head_of head) ∷ []) cs ps) ∷ []) command in
+    last_is (λ (p : WorkerPart). record p { walks = with_more (walk_begun (last_command (length (done ++ part us (kinds is ws cs ps) ∷ []) - 1) p) (head_of head)) p.walks }) done (part us (kinds is ws cs ps))
+    ∙ ap (λ (s : Serial). done ++ part us (kinds is (ws ++ walk_begun s (head_of head) ∷ []) cs ps) ∷ []) command in
     let first = subst (λ (all : List WorkerPart). Leads text (at_part h done (part us (kinds is ws cs ps))) (report_of h all [] [] no_tail)) begins (first_line h w n done us ws cs is ps x fit) in
     let others = maps_lead h done us ws cs is ps x x.maps.items [] x.attempts.items [] (all_both (λ m. IsBitWord m.bits) IsSeenNumbered x.maps.items fit.bits fit.numbers.maps) fit.numbers.attempts in
     subst (λ (y : WalkRecord). Leads (walk_lines n x) (at_part h done (part us (kinds is ws cs ps))) (at_part h done (part us (kinds is (ws ++ y ∷ []) cs ps)))) (walked_is x fit.tight)

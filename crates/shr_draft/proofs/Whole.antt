@@ -1,9 +1,7 @@
 -- The lines of a report's text are read as that report.
-use Rattle.shr_draft.proofs.Common.{◌≡◌, ℕ, ◌+◌, ◌^◌, List, [], ◌∷◌, ◌++◌, length, flat_map, refl, sym, subst, ◌∙◌, append_assoc, ◌≤◌, append-nil, codes, AllByRecursion, WorkerPart, PlaceEnd, Report, line, numbered, numeral, group_line, cache_line, units_name_line, pool_line, tree_line, worker_lines, place_lines, units_lines, bit_line, deferred_line, pool_deferred_line, use_line, lookups_line, totals, IsPlaceWell, IsPartWell, IsPartNumbered, IsListNumbered, IsMapNumbered, AreUnitsNumbered, IsAmountNumbered, IsPrintable, all_both, nothing, IsTightPart, IsTightList, AreTightUnits, IsTightReport, PlaceAmount, UnitsEnd}
+use Rattle.shr_draft.proofs.Common.{◌≡◌, ℕ, ◌+◌, ◌^◌, List, [], ◌∷◌, ◌++◌, length, flat_map, refl, sym, subst, ◌∙◌, append_assoc, ◌≤◌, append-nil, codes, AllByRecursion, WorkerPart, PlaceEnd, Report, line, numbered, numeral, numbered_group_line, numbered_cache_line, units_name_line, pool_entry_line, tree_line, worker_lines, place_lines, units_lines, bit_line, deferred_line, pool_deferred_line, use_line, lookups_line, totals, IsPlaceWell, IsPartWell, IsPartNumbered, IsListNumbered, IsMapNumbered, AreUnitsNumbered, IsAmountNumbered, IsPrintable, all_both, nothing_read, IsTightPart, IsTightList, AreTightUnits, IsTightReport, PlaceAmount, UnitsEnd, IsWellFormed, IsPoolAmountWell, HasNumbers}
 use Rattle.shr_model.specs.Pieces.{cut, pieces}
 use Rattle.shr_report.specs.Text.{text, end_lines, reply_count, walk_count}
-use Rattle.shr_report.specs.WellFormed.{IsWellFormed, IsPoolAmountWell}
-use Rattle.shr_report.specs.Numbers.{HasNumbers}
 use Rattle.shr_report.proofs.Peel.{is_plain_word}
 use Rattle.shr_report.proofs.WorkersBack.{AreParts, parts_from}
 use Rattle.shr_report.proofs.ReportBack.{printable}
@@ -71,12 +69,12 @@ abbrev words_of : Report → List (List ℕ)
 words_of r = numeral r.added ∷ numeral r.freed ∷ numeral r.listed ∷ numeral (reply_count r) ∷ numeral (walk_count r) ∷ []
 
 -- the text, part by part
-text_in_parts : (r : Report) → text r ≡ line (codes "report") (numeral r.version ∷ []) ++ (line (codes "size") (numeral r.nodes ∷ numeral r.ids ∷ []) ++ (numbered group_line 0 r.groups.items ++ (numbered cache_line 0 r.caches.items ++ (numbered units_name_line 0 r.pools.items ++ (numbered pool_line 0 r.pool.items
+text_in_parts : (r : Report) → text r ≡ line (codes "report") (numeral r.version ∷ []) ++ (line (codes "size") (numeral r.nodes ∷ numeral r.ids ∷ []) ++ (numbered numbered_group_line 0 r.groups.items ++ (numbered numbered_cache_line 0 r.caches.items ++ (numbered units_name_line 0 r.pools.items ++ (numbered pool_entry_line 0 r.pool.items
     ++ (numbered tree_line 0 r.tree.items ++ (numbered worker_lines 0 r.workers.items ++ (flat_map place_lines r.places.items ++ (flat_map units_lines r.units.items ++ (flat_map (bit_line r.version) r.maps.items ++ (flat_map deferred_line r.deferred.items ++ (flat_map pool_deferred_line r.pool_deferred.items ++ (flat_map use_line r.uses.items
     ++ (numbered lookups_line 0 r.lookups.items ++ (line (codes "total") (words_of r) ++ line (codes "end") [])))))))))))))))
 unfolding text
-text_in_parts r = regrouped (line (codes "report") (numeral r.version ∷ [])) (line (codes "size") (numeral r.nodes ∷ numeral r.ids ∷ [])) (numbered group_line 0 r.groups.items) (numbered cache_line 0 r.caches.items) (numbered units_name_line 0 r.pools.items)
-    (numbered pool_line 0 r.pool.items) (numbered tree_line 0 r.tree.items) (numbered worker_lines 0 r.workers.items) (flat_map place_lines r.places.items) (flat_map units_lines r.units.items)
+text_in_parts r = regrouped (line (codes "report") (numeral r.version ∷ [])) (line (codes "size") (numeral r.nodes ∷ numeral r.ids ∷ [])) (numbered numbered_group_line 0 r.groups.items) (numbered numbered_cache_line 0 r.caches.items) (numbered units_name_line 0 r.pools.items)
+    (numbered pool_entry_line 0 r.pool.items) (numbered tree_line 0 r.tree.items) (numbered worker_lines 0 r.workers.items) (flat_map place_lines r.places.items) (flat_map units_lines r.units.items)
     (flat_map (bit_line r.version) r.maps.items) (flat_map deferred_line r.deferred.items) (flat_map pool_deferred_line r.pool_deferred.items) (flat_map use_line r.uses.items) (numbered lookups_line 0 r.lookups.items) (end_lines r)
   where
     regrouped : (a b c d n e f g h u i j w k l m : List ℕ) → (a ++ b ++ c ++ d ++ n) ++ (e ++ f) ++ g ++ h ++ u ++ (i ++ j ++ w ++ k ++ l) ++ m ≡ a ++ (b ++ (c ++ (d ++ (n ++ (e ++ (f ++ (g ++ (h ++ (u ++ (i ++ (j ++ (w ++ (k ++ (l ++ m))))))))))))))
@@ -105,9 +103,9 @@ tail_leads r w n =
     (then (lead_lookups h ws ps us m d p u l n.lookups) (then (lead_totals h ws ps us m d p u l r.added r.freed r.listed (reply_count r) (walk_count r) n.totals) (end_leads (report_of h ws ps us (tail_in r))))))))
 
 -- the text of a report leads from nothing to it
-text_leads : (r : Report) → IsWellFormed r → HasNumbers r → length r.workers.items ≤ 2 ^ 16 → IsTightReport r → Leads (text r) nothing r
+text_leads : (r : Report) → IsWellFormed r → HasNumbers r → length r.workers.items ≤ 2 ^ 16 → IsTightReport r → Leads (text r) nothing_read r
 unfolding head_in
-text_leads r w n few t = subst (λ (s : Report). Leads (text r) nothing s) (whole r t) (subst (λ (bytes : List ℕ). Leads bytes nothing (report_of (head_in r) r.workers.items r.places.items r.units.items (tail_in r))) (sym (text_in_parts r)) all)
+text_leads r w n few t = subst (λ (s : Report). Leads (text r) nothing_read s) (whole r t) (subst (λ (bytes : List ℕ). Leads bytes nothing_read (report_of (head_in r) r.workers.items r.places.items r.units.items (tail_in r))) (sym (text_in_parts r)) all)
   where
     parts : AreParts 0 r.workers.items
     parts = parts_from 0 r.workers.items (λ i p e. subst (λ (j : ℕ). IsPartWell j p) (zero_plus i) (w.parts i p e))
@@ -121,17 +119,17 @@ text_leads r w n few t = subst (λ (s : Report). Leads (text r) nothing s) (whol
     units : Leads (flat_map units_lines r.units.items) (report_of (head_in r) r.workers.items r.places.items [] no_tail) (report_of (head_in r) r.workers.items r.places.items r.units.items no_tail)
     units = lead_units (head_in r) r.workers.items r.places.items r.units.items (all_units_fit r.units.items n.units t.journals)
 
-    all : Leads (line (codes "report") (numeral r.version ∷ []) ++ (line (codes "size") (numeral r.nodes ∷ numeral r.ids ∷ []) ++ (numbered group_line 0 r.groups.items ++ (numbered cache_line 0 r.caches.items ++ (numbered units_name_line 0 r.pools.items ++ (numbered pool_line 0 r.pool.items
+    all : Leads (line (codes "report") (numeral r.version ∷ []) ++ (line (codes "size") (numeral r.nodes ∷ numeral r.ids ∷ []) ++ (numbered numbered_group_line 0 r.groups.items ++ (numbered numbered_cache_line 0 r.caches.items ++ (numbered units_name_line 0 r.pools.items ++ (numbered pool_entry_line 0 r.pool.items
         ++ (numbered tree_line 0 r.tree.items ++ (numbered worker_lines 0 r.workers.items ++ (flat_map place_lines r.places.items ++ (flat_map units_lines r.units.items ++ (flat_map (bit_line r.version) r.maps.items ++ (flat_map deferred_line r.deferred.items ++ (flat_map pool_deferred_line r.pool_deferred.items ++ (flat_map use_line r.uses.items
-        ++ (numbered lookups_line 0 r.lookups.items ++ (line (codes "total") (words_of r) ++ line (codes "end") [])))))))))))))))) nothing (report_of (head_in r) r.workers.items r.places.items r.units.items (tail_in r))
+        ++ (numbered lookups_line 0 r.lookups.items ++ (line (codes "total") (words_of r) ++ line (codes "end") [])))))))))))))))) nothing_read (report_of (head_in r) r.workers.items r.places.items r.units.items (tail_in r))
     all = then (lead_version r.version n.version) (then (lead_size r.version r.nodes r.ids n.nodes n.ids) (then (lead_groups r.version r.nodes r.ids r.groups.items w.paths) (then (lead_caches r.version r.nodes r.ids r.groups.items r.caches.items w.names)
         (then (lead_names r.version r.nodes r.ids r.groups.items r.caches.items r.pools.items w.pools) (then (lead_pool r.version r.nodes r.ids r.groups.items r.caches.items r.pools.items r.pool.items n.pool)
         (then (lead_tree r.version r.nodes r.ids r.groups.items r.caches.items r.pools.items r.pool.items r.tree.items n.tree) (then workers (then lists (then units (tail_leads r w n))))))))))
 
 -- the lines of a report's text make that report of nothing
-pub reads_of : (bytes : List ℕ) (r : Report) → IsReportOf bytes r → Reads (pieces 10 bytes) nothing r
+pub reads_of : (bytes : List ℕ) (r : Report) → IsReportOf bytes r → Reads (pieces 10 bytes) nothing_read r
 unfolding pieces cut Reads
-reads_of bytes r is = subst (λ (b : List ℕ). Reads (pieces 10 b) nothing r) (append-nil (text r) ∙ is.text_is) ((text_leads r is.well_formed is.numbers is.well_formed.few_parts is.tight).lead [] r at_end)
+reads_of bytes r is = subst (λ (b : List ℕ). Reads (pieces 10 b) nothing_read r) (append-nil (text r) ∙ is.text_is) ((text_leads r is.well_formed is.numbers is.well_formed.few_parts is.tight).lead [] r at_end)
   where
     at_end : Reads (pieces 10 []) r r
     at_end = (refl, refl)

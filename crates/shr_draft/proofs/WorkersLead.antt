@@ -1,22 +1,17 @@
 -- The lines of the workers lead to what they did.
-use Rattle.shr_draft.proofs.Common.{◌≡◌, ℕ, suc, ◌+◌, ◌<◌, ◌≤◌, ◌^◌, List, [], ◌∷◌, ◌++◌, length, take, drop, flat_map, Option, Some, None, refl, sym, ap, subst, ◌∙◌, append_assoc, arith, codes, replicate, AllByRecursion, prefix_len, append-nil, take-append-drop, length-append, replicate-append-replicate, Answered, WalkRecord, Carry, PlainWalk, Isolation, WorkerPart, Report, line, numeral, walk_lines, carry_line, plain_lines, isolation_line, worker_lines, IsPartWell, IsWalkNumbered, IsCarryNumbered, IsIsolationNumbered, IsPlainNumbered, IsPartNumbered, with_more, with_last, last_changed, no_part, padded, with_reply, IsTightPart, IsTightWalk, IsTightPlain}
+use Rattle.shr_draft.proofs.Common.{◌≡◌, ℕ, suc, ◌+◌, ◌<◌, ◌≤◌, ◌^◌, List, [], ◌∷◌, ◌++◌, length, take, drop, flat_map, Option, Some, None, refl, sym, ap, subst, ◌∙◌, append_assoc, arith, codes, replicate, AllByRecursion, prefix_len, append-nil, take-append-drop, length-append, replicate-append-replicate, Answered, WalkRecord, Carry, PlainWalk, Isolation, WorkerPart, Report, line, numeral, walk_lines, carry_line, plain_lines, isolation_line, worker_lines, IsPartWell, IsWalkNumbered, IsCarryNumbered, IsIsolationNumbered, IsPlainNumbered, IsPartNumbered, with_more, with_last, last_changed, no_part, padded, with_reply, IsTightPart, IsTightWalk, IsTightPlain, read_reply_line, read_found, LendsWord, IsWalkWell, IsAnsweredNumbered, IsFindNumbered, IsReplyNumbered, printed_reply, printed_found, with_found}
 use Rattle.shr_model.specs.Pieces.{cut, pieces}
 use Rattle.shr_base.specs.declared.replies.Found.{Found}
 use Rattle.shr_base.specs.declared.replies.Reply.{Reply}
 use Rattle.shr_report.specs.Lines.{numbered}
 use Rattle.shr_report.specs.AnswerText.{reply_line, found_lines}
 use Rattle.shr_report.specs.Text.{is_walk_of, is_carry_of, is_plain_of, is_isolation_of, Logs, log_lines, after_command, logs_of, answer_lines}
-use Rattle.shr_report.specs.ReadLines.{read_reply_line, read_found}
-use Rattle.shr_report.specs.WellFormed.{LendsWord, IsWalkWell}
-use Rattle.shr_report.specs.Numbers.{IsAnsweredNumbered, IsFindNumbered, IsReplyNumbered}
-use Rattle.shr_report.proofs.LinesBack.{printed_reply, printed_found}
 use Rattle.shr_report.proofs.PartsBack.{Remain, now_of, none_left}
 use Rattle.shr_report.proofs.WorkersBack.{AreParts, LastAnswers, of_commands, silent, zero_on}
 use Rattle.shr_reader.specs.declared.said.Said.TheVariants as said
 use Rattle.shr_reader.specs.declared.kinds.Kind.TheVariants as kind
 use Rattle.shr_reader.specs.declared.kinds.PlainKind.TheVariants as plain
 use Rattle.shr_reader.specs.Said.{plain_kind_of, within_kind_of, is_entry, is_unit}
-use Rattle.shr_draft.specs.Draft.{with_found}
 use Rattle.shr_draft.proofs.Leads.{Leads, first_word, leads_none, leads_then, leads_printed, leads_items, leads_flat}
 use Rattle.shr_draft.proofs.Flat.{Head, report_of, no_tail}
 use Rattle.shr_draft.proofs.Lasts.{last_is, tight_is, padded_same, padded_more}

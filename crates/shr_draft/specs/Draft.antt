@@ -53,35 +53,35 @@ last_changed change xs = kept (with_last change xs.items)
 
 -- ---- what is kept of a worker and of a list
 
-abbrev pub walk_of : WalkDraft → WalkRecord
-walk_of w = record { by = w.by; group = w.head.group; node = w.head.node; priority = w.head.priority; nofs = w.head.nofs; maps = kept w.maps.items; attempts = kept w.attempts.items; answer = w.head.answer }
+abbrev pub drafted_walk : WalkDraft → WalkRecord
+drafted_walk w = record { by = w.by; group = w.head.group; node = w.head.node; priority = w.head.priority; nofs = w.head.nofs; maps = kept w.maps.items; attempts = kept w.attempts.items; answer = w.head.answer }
 
-abbrev pub walks_of : List WalkDraft → List WalkRecord
-walks_of walks = map walk_of walks
+abbrev pub drafted_walks : List WalkDraft → List WalkRecord
+drafted_walks walks = map drafted_walk walks
 
-abbrev pub plain_of : PlainDraft → PlainWalk
-plain_of w = record { by = w.by; node = w.head.node; priority = w.head.priority; tries = kept w.tries.items; answer = w.head.answer }
+abbrev pub drafted_plain : PlainDraft → PlainWalk
+drafted_plain w = record { by = w.by; node = w.head.node; priority = w.head.priority; tries = kept w.tries.items; answer = w.head.answer }
 
 abbrev pub plains_of : List PlainDraft → List PlainWalk
-plains_of walks = map plain_of walks
+plains_of walks = map drafted_plain walks
 
-abbrev pub part_of : PartDraft → WorkerPart
-part_of p = record { answers = kept p.answers.items; walks = kept (walks_of p.walks.items); carries = kept p.carries.items; plain = kept (plains_of p.plain.items); isolations = kept p.isolations.items }
+abbrev pub drafted_part : PartDraft → WorkerPart
+drafted_part p = record { answers = kept p.answers.items; walks = kept (drafted_walks p.walks.items); carries = kept p.carries.items; plain = kept (plains_of p.plain.items); isolations = kept p.isolations.items }
 
 abbrev pub list_of : ListDraft → PlaceEnd
 list_of l = record { place = l.place; entries = kept l.entries.items; items = kept l.items.items }
 
-abbrev pub pool_of : UnitsDraft → UnitsEnd
-pool_of u = record { pool = u.head.pool; node = u.head.node; entries = kept u.entries.items; free = u.head.free }
+abbrev pub drafted_pool : UnitsDraft → UnitsEnd
+drafted_pool u = record { pool = u.head.pool; node = u.head.node; entries = kept u.entries.items; free = u.head.free }
 
-abbrev pub parts_of : List PartDraft → List WorkerPart
-parts_of parts = map part_of parts
+abbrev pub drafted_parts : List PartDraft → List WorkerPart
+drafted_parts parts = map drafted_part parts
 
 abbrev pub lists_of : List ListDraft → List PlaceEnd
 lists_of lists = map list_of lists
 
 abbrev pub pools_of : List UnitsDraft → List UnitsEnd
-pools_of units = map pool_of units
+pools_of units = map drafted_pool units
 
 -- ---- what a line adds to the parts of the workers
 
@@ -114,12 +114,12 @@ abbrev pub with_found : Found → List WorkerPart → List WorkerPart
 with_found found parts = with_last (λ part. record part { answers = last_changed (found_answer found) part.answers }) parts
 
 -- a walk of this command that begins with this head
-abbrev pub begun : Serial → Head → WalkRecord
-begun by h = record { by = by; group = h.group; node = h.node; priority = h.priority; nofs = h.nofs; maps = kept []; attempts = kept []; answer = h.answer }
+abbrev pub walk_begun : Serial → Head → WalkRecord
+walk_begun by h = record { by = by; group = h.group; node = h.node; priority = h.priority; nofs = h.nofs; maps = kept []; attempts = kept []; answer = h.answer }
 
 -- a walk of the last answer
 abbrev pub with_walk : Head → List WorkerPart → List WorkerPart
-with_walk head parts = with_last (λ part. record part { walks = with_more (begun (last_command (length parts - 1) part) head) part.walks }) parts
+with_walk head parts = with_last (λ part. record part { walks = with_more (walk_begun (last_command (length parts - 1) part) head) part.walks }) parts
 
 -- a walk that loaded another word of bits
 abbrev pub seen_walk : MapSeen → WalkRecord → WalkRecord
@@ -172,8 +172,8 @@ abbrev pub with_place : Place → List PlaceEnd → List PlaceEnd
 with_place place ends = ends ++ record { place = place; entries = kept []; items = kept [] } ∷ []
 
 -- an entry of the last list
-abbrev pub with_entry : Entry → List PlaceEnd → List PlaceEnd
-with_entry entry ends = with_last (λ end. record end { entries = with_more entry end.entries }) ends
+abbrev pub with_list_entry : Entry → List PlaceEnd → List PlaceEnd
+with_list_entry entry ends = with_last (λ end. record end { entries = with_more entry end.entries }) ends
 
 -- an object of the last list
 abbrev pub with_item : Object → List PlaceEnd → List PlaceEnd
@@ -207,7 +207,7 @@ with_said (said.Carry amount) r = record r { workers = kept (with_carry amount r
 with_said (said.Plain head) r = record r { workers = kept (with_plain head r.workers.items) }
 with_said (said.Pass came) r = record r { workers = kept (with_pass came r.workers.items) }
 with_said (said.List place) r = record r { places = kept (with_place place r.places.items) }
-with_said (said.Entry entry) r = record r { places = kept (with_entry entry r.places.items) }
+with_said (said.Entry entry) r = record r { places = kept (with_list_entry entry r.places.items) }
 with_said (said.Item item) r = record r { places = kept (with_item item r.places.items) }
 with_said (said.Units head) r = record r { units = kept (with_units head r.units.items) }
 with_said (said.Unit entry) r = record r { units = kept (with_unit entry r.units.items) }
@@ -220,8 +220,8 @@ with_said (said.Totals added freed listed) r = record r { added = added; freed =
 with_said said.End r = r
 
 -- the report that a draft says
-abbrev pub drafted : Draft → Report
-drafted d = record {
+abbrev pub drafted_report : Draft → Report
+drafted_report d = record {
   version = d.version;
   nodes = d.nodes;
   ids = d.ids;
@@ -230,7 +230,7 @@ drafted d = record {
   pools = kept d.pools.items;
   pool = kept d.pool.items;
   tree = kept d.tree.items;
-  workers = kept (parts_of d.parts.items);
+  workers = kept (drafted_parts d.parts.items);
   places = kept (lists_of d.lists.items);
   units = kept (pools_of d.units.items);
   maps = kept d.maps.items;

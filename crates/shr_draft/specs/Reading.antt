@@ -16,8 +16,8 @@ use Rattle.shr_reader.specs.Said.{read_line, IsSaidNumbered}
 use Rattle.shr_draft.specs.Draft.{kept, with_said}
 
 -- a report of which nothing was read
-abbrev pub nothing : Report
-nothing = record {
+abbrev pub nothing_read : Report
+nothing_read = record {
   version = 0;
   nodes = 0;
   ids = 0;

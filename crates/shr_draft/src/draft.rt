@@ -1,8 +1,8 @@
 //! A report as far as it was read.
 
 ghost use Rattle.std.specs.Prelude.{◌≡◌, IfOk};
-ghost use Rattle.shr_draft.specs.Draft.{drafted, with_said};
-ghost use Rattle.shr_draft.specs.Reading.{nothing};
+ghost use Rattle.shr_draft.specs.Draft.{drafted_report, with_said};
+ghost use Rattle.shr_draft.specs.Reading.{nothing_read};
 
 use crate::lists::{
     ListDraft, UnitsDraft, take_entry, take_item, take_place, take_unit, take_units,
@@ -46,7 +46,7 @@ pub struct Draft {
 impl Draft {
     /// A report of which nothing was read. It takes no memory. Our own.
     pub fn new(alloc: Global) -> Draft
-        ensures { drafted result ≡ nothing }
+        ensures { drafted_report result ≡ nothing_read }
     {
         Draft {
             alloc,
@@ -74,7 +74,7 @@ impl Draft {
 
     /// Another line. Want of memory alone is an error, after which the draft says nothing. Our own.
     pub fn take(&mut self, said: Said) -> Result<(), Memory>
-        ensures { IfOk result (λ _. drafted self.new ≡ with_said said (drafted self.old)) }
+        ensures { IfOk result (λ _. drafted_report self.new ≡ with_said said (drafted_report self.old)) }
     {
         match said {
             Said::Version { version } => self.version = version,

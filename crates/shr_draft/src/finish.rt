@@ -1,7 +1,7 @@
 //! The report that a draft says.
 
 ghost use Rattle.std.specs.Prelude.{◌≡◌, IfOk, map};
-ghost use Rattle.shr_draft.specs.Draft.{drafted, walk_of, plains_of, parts_of, lists_of, pools_of, part_of, list_of};
+ghost use Rattle.shr_draft.specs.Draft.{drafted_report, drafted_walk, plains_of, drafted_parts, lists_of, pools_of, drafted_part, list_of};
 
 use crate::draft::Draft;
 use crate::items::items_of;
@@ -16,7 +16,7 @@ use std::alloc::Global;
 
 // A walk.
 fn finish_walk(walk: WalkDraft) -> WalkRecord
-    ensures { result ≡ walk_of walk }
+    ensures { result ≡ drafted_walk walk }
 {
     WalkRecord {
         by: walk.by,
@@ -32,7 +32,7 @@ fn finish_walk(walk: WalkDraft) -> WalkRecord
 
 // The walks of a worker.
 fn finish_walks(alloc: Global, drafts: Vec<WalkDraft>) -> Result<Vec<WalkRecord>, Memory>
-    ensures { IfOk result (λ walks. walks.items ≡ map walk_of drafts.items) }
+    ensures { IfOk result (λ walks. walks.items ≡ map drafted_walk drafts.items) }
 {
     let mut walks = Vec::new(alloc);
     for draft in drafts {
@@ -60,7 +60,7 @@ fn finish_plain(alloc: Global, drafts: Vec<PlainDraft>) -> Result<Vec<PlainWalk>
 
 // The part of a worker.
 fn finish_part(alloc: Global, part: PartDraft) -> Result<WorkerPart, Memory>
-    ensures { IfOk result (λ done. done ≡ part_of part) }
+    ensures { IfOk result (λ done. done ≡ drafted_part part) }
 {
     Ok(WorkerPart {
         answers: Log::from_vec(part.answers),
@@ -73,7 +73,7 @@ fn finish_part(alloc: Global, part: PartDraft) -> Result<WorkerPart, Memory>
 
 // The parts of the workers.
 fn finish_parts(alloc: Global, drafts: Vec<PartDraft>) -> Result<Vec<WorkerPart>, Memory>
-    ensures { IfOk result (λ parts. parts.items ≡ parts_of drafts.items) }
+    ensures { IfOk result (λ parts. parts.items ≡ drafted_parts drafts.items) }
 {
     let mut parts = Vec::new(alloc);
     for draft in drafts {
@@ -122,7 +122,7 @@ fn finish_units(alloc: Global, drafts: Vec<UnitsDraft>) -> Result<Vec<UnitsEnd>,
 
 /// The report that a draft says. Want of memory alone is an error. Our own.
 pub fn finish(alloc: Global, draft: Draft) -> Result<Report, Memory>
-    ensures { IfOk result (λ report. report ≡ drafted draft) }
+    ensures { IfOk result (λ report. report ≡ drafted_report draft) }
 {
     Ok(Report {
         version: draft.version,

@@ -1,7 +1,7 @@
 //! The lists and the pools, as far as they were read.
 
 ghost use Rattle.std.specs.Prelude.{◌≡◌, IfOk};
-ghost use Rattle.shr_draft.specs.Draft.{lists_of, pools_of, with_place, with_entry, with_item, with_units, with_unit};
+ghost use Rattle.shr_draft.specs.Draft.{lists_of, pools_of, with_place, with_list_entry, with_item, with_units, with_unit};
 
 use shr_base::journals::{Entry, PlainEntry};
 use shr_base::memory::Memory;
@@ -34,7 +34,7 @@ pub fn take_place(alloc: Global, lists: &mut Vec<ListDraft>, place: Place) -> Re
 /// An entry of the last list. Our own.
 pub fn take_entry(lists: &mut Vec<ListDraft>, entry: Entry) -> Result<(), Memory>
     ensures { IfOk result (λ _. lists_of lists.new.items
-        ≡ with_entry entry (lists_of lists.old.items)) }
+        ≡ with_list_entry entry (lists_of lists.old.items)) }
 {
     let Some(mut list) = lists.pop() else {
         return Ok(());

@@ -1,7 +1,7 @@
 //! What the workers did, as far as it was read.
 
 ghost use Rattle.std.specs.Prelude.{◌≡◌, ◌-◌, ◌%◌, ◌^◌, [], length, IfOk};
-ghost use Rattle.shr_draft.specs.Draft.{parts_of, walks_of, padded, with_last, found_answer, seen_walk, tried_walk, with_reply, with_found, with_walk, with_seen, with_attempt, with_carry, plains_of, passed_walk, with_isolation, with_plain, with_pass};
+ghost use Rattle.shr_draft.specs.Draft.{drafted_parts, drafted_walks, padded, with_last, found_answer, seen_walk, tried_walk, with_reply, with_found, with_walk, with_seen, with_attempt, with_carry, plains_of, passed_walk, with_isolation, with_plain, with_pass};
 
 use shr_base::ends::PlaceAmount;
 use shr_base::memory::Memory;
@@ -72,8 +72,8 @@ impl PartDraft {
 
 // Makes parts up to that of this worker.
 fn pad(alloc: Global, parts: &mut Vec<PartDraft>, worker: u16) -> Result<(), Memory>
-    ensures { IfOk result (λ _. parts_of parts.new.items
-        ≡ padded worker (parts_of parts.old.items)) }
+    ensures { IfOk result (λ _. drafted_parts parts.new.items
+        ≡ padded worker (drafted_parts parts.old.items)) }
 {
     let more = (worker as usize + 1).saturating_sub(parts.len());
     for _ in 0..more {
@@ -89,8 +89,8 @@ pub fn take_reply(
     worker: u16,
     reply: Reply,
 ) -> Result<(), Memory>
-    ensures { IfOk result (λ _. parts_of parts.new.items
-        ≡ with_reply worker reply (parts_of parts.old.items)) }
+    ensures { IfOk result (λ _. drafted_parts parts.new.items
+        ≡ with_reply worker reply (drafted_parts parts.old.items)) }
 {
     pad(alloc, parts, worker)?;
     let Some(mut part) = parts.pop() else {
@@ -116,8 +116,8 @@ fn find_last(answers: &mut Vec<Answered>, found: Found) -> Result<(), Memory>
 
 /// What `find` gave at the last answer. Our own.
 pub fn take_found(parts: &mut Vec<PartDraft>, found: Found) -> Result<(), Memory>
-    ensures { IfOk result (λ _. parts_of parts.new.items
-        ≡ with_found found (parts_of parts.old.items)) }
+    ensures { IfOk result (λ _. drafted_parts parts.new.items
+        ≡ with_found found (drafted_parts parts.old.items)) }
 {
     let Some(mut part) = parts.pop() else {
         return Ok(());
@@ -129,8 +129,8 @@ pub fn take_found(parts: &mut Vec<PartDraft>, found: Found) -> Result<(), Memory
 
 /// A walk of the last answer. Our own.
 pub fn take_walk(alloc: Global, parts: &mut Vec<PartDraft>, head: Head) -> Result<(), Memory>
-    ensures { IfOk result (λ _. parts_of parts.new.items
-        ≡ with_walk head (parts_of parts.old.items)) }
+    ensures { IfOk result (λ _. drafted_parts parts.new.items
+        ≡ with_walk head (drafted_parts parts.old.items)) }
 {
     let Some(mut part) = parts.pop() else {
         return Ok(());
@@ -148,8 +148,8 @@ pub fn take_walk(alloc: Global, parts: &mut Vec<PartDraft>, head: Head) -> Resul
 
 // A word of bits that the last of these walks loaded.
 fn see_last(walks: &mut Vec<WalkDraft>, seen: MapSeen) -> Result<(), Memory>
-    ensures { IfOk result (λ _. walks_of walks.new.items
-        ≡ with_last (seen_walk seen) (walks_of walks.old.items)) }
+    ensures { IfOk result (λ _. drafted_walks walks.new.items
+        ≡ with_last (seen_walk seen) (drafted_walks walks.old.items)) }
 {
     let Some(mut walk) = walks.pop() else {
         return Ok(());
@@ -161,8 +161,8 @@ fn see_last(walks: &mut Vec<WalkDraft>, seen: MapSeen) -> Result<(), Memory>
 
 /// A word of bits that the last walk loaded. Our own.
 pub fn take_seen(parts: &mut Vec<PartDraft>, seen: MapSeen) -> Result<(), Memory>
-    ensures { IfOk result (λ _. parts_of parts.new.items
-        ≡ with_seen seen (parts_of parts.old.items)) }
+    ensures { IfOk result (λ _. drafted_parts parts.new.items
+        ≡ with_seen seen (drafted_parts parts.old.items)) }
 {
     let Some(mut part) = parts.pop() else {
         return Ok(());
@@ -174,8 +174,8 @@ pub fn take_seen(parts: &mut Vec<PartDraft>, seen: MapSeen) -> Result<(), Memory
 
 // An attempt of the last of these walks.
 fn try_last(walks: &mut Vec<WalkDraft>, attempt: Attempt) -> Result<(), Memory>
-    ensures { IfOk result (λ _. walks_of walks.new.items
-        ≡ with_last (tried_walk attempt) (walks_of walks.old.items)) }
+    ensures { IfOk result (λ _. drafted_walks walks.new.items
+        ≡ with_last (tried_walk attempt) (drafted_walks walks.old.items)) }
 {
     let Some(mut walk) = walks.pop() else {
         return Ok(());
@@ -187,8 +187,8 @@ fn try_last(walks: &mut Vec<WalkDraft>, attempt: Attempt) -> Result<(), Memory>
 
 /// An attempt of the last walk. Our own.
 pub fn take_attempt(parts: &mut Vec<PartDraft>, attempt: Attempt) -> Result<(), Memory>
-    ensures { IfOk result (λ _. parts_of parts.new.items
-        ≡ with_attempt attempt (parts_of parts.old.items)) }
+    ensures { IfOk result (λ _. drafted_parts parts.new.items
+        ≡ with_attempt attempt (drafted_parts parts.old.items)) }
 {
     let Some(mut part) = parts.pop() else {
         return Ok(());
@@ -200,8 +200,8 @@ pub fn take_attempt(parts: &mut Vec<PartDraft>, attempt: Attempt) -> Result<(), 
 
 /// A carry of the last answer. Our own.
 pub fn take_carry(parts: &mut Vec<PartDraft>, carried: PlaceAmount) -> Result<(), Memory>
-    ensures { IfOk result (λ _. parts_of parts.new.items
-        ≡ with_carry carried (parts_of parts.old.items)) }
+    ensures { IfOk result (λ _. drafted_parts parts.new.items
+        ≡ with_carry carried (drafted_parts parts.old.items)) }
 {
     let Some(mut part) = parts.pop() else {
         return Ok(());
@@ -218,8 +218,8 @@ pub fn take_carry(parts: &mut Vec<PartDraft>, carried: PlaceAmount) -> Result<()
 
 /// An isolation of the last answer. Our own.
 pub fn take_isolation(parts: &mut Vec<PartDraft>, head: IsolationHead) -> Result<(), Memory>
-    ensures { IfOk result (λ _. parts_of parts.new.items
-        ≡ with_isolation head (parts_of parts.old.items)) }
+    ensures { IfOk result (λ _. drafted_parts parts.new.items
+        ≡ with_isolation head (drafted_parts parts.old.items)) }
 {
     let Some(mut part) = parts.pop() else {
         return Ok(());
@@ -239,8 +239,8 @@ pub fn take_isolation(parts: &mut Vec<PartDraft>, head: IsolationHead) -> Result
 
 /// A walk of the pools of the last answer. Our own.
 pub fn take_plain(alloc: Global, parts: &mut Vec<PartDraft>, head: PlainHead) -> Result<(), Memory>
-    ensures { IfOk result (λ _. parts_of parts.new.items
-        ≡ with_plain head (parts_of parts.old.items)) }
+    ensures { IfOk result (λ _. drafted_parts parts.new.items
+        ≡ with_plain head (drafted_parts parts.old.items)) }
 {
     let Some(mut part) = parts.pop() else {
         return Ok(());
@@ -270,8 +270,8 @@ fn pass_last(walks: &mut Vec<PlainDraft>, came: PlainTry) -> Result<(), Memory>
 
 /// What the last walk of the pools came to at another pool. Our own.
 pub fn take_pass(parts: &mut Vec<PartDraft>, came: PlainTry) -> Result<(), Memory>
-    ensures { IfOk result (λ _. parts_of parts.new.items
-        ≡ with_pass came (parts_of parts.old.items)) }
+    ensures { IfOk result (λ _. drafted_parts parts.new.items
+        ≡ with_pass came (drafted_parts parts.old.items)) }
 {
     let Some(mut part) = parts.pop() else {
         return Ok(());

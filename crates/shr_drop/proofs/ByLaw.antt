@@ -1,42 +1,26 @@
 -- An isolation's scans are lawful.
-use Rattle.std.proofs.Common.{◌≡◌, ℕ, ◌+◌, ◌-◌, ◌<◌, Bool, true, false, List, [], ◌∷◌, ◌++◌, length, map, sym, refl, ap, subst, ◌∙◌, ◌⊎◌, ⊎_elim, arith, append_assoc}
+use Rattle.shr_drop.proofs.Common.{◌≡◌, ℕ, ◌+◌, ◌<◌, Bool, true, false, List, [], ◌∷◌, ◌++◌, length, sym, refl, ap, subst, ◌∙◌, ◌⊎◌, ⊎_elim, arith, sum, Object, Policy, Serial, Spent, place_number, scan_of, View, shape_of, with_put, WorkerState, Shared, common_steps, Isolation, Isolates, found_place, visitor_of, Visitor, ScansOnce, AreVisits, AreIsolated, MeetsWorn, ◌-◌, map, append_assoc, replicate, RefusedBy}
 use Rattle.std.specs.List.{AllByRecursion}
-use Rattle.std.specs.Prelude.{sum, replicate}
 use Rattle.std.proofs.lemmas.List.{append-nil, map-append}
 use Rattle.shr_base.specs.declared.journals.Entry.TheVariants.{Scan}
-use Rattle.shr_base.specs.declared.objects.Object.{Object}
-use Rattle.shr_base.specs.declared.objects.Policy.{Policy}
-use Rattle.shr_base.specs.declared.places.Serial.{Serial}
 use Rattle.shr_base.specs.declared.replies.Found.{Found}
 use Rattle.shr_base.specs.declared.replies.Reply.{Reply}
 use Rattle.shr_base.specs.declared.replies.Reply.TheVariants as reply
-use Rattle.shr_base.specs.declared.replies.Spent.{Spent}
 use Rattle.shr_base.specs.declared.replies.Spent.TheVariants as spent
-use Rattle.shr_model.specs.Places.{place_number}
-use Rattle.shr_model.specs.Scan.{scan_of}
 use Rattle.shr_model.proofs.ScanLaws.{length_scan}
 use Rattle.shr_model.specs.Isolations.{ScanSeen, met_of, met_one, met_stop, met_none, IsLawfulIsolation}
 use Rattle.shr_core.specs.Parts.{Made}
-use Rattle.shr_core.specs.declared.view.View.{View}
-use Rattle.shr_core.specs.Seats.{shape_of}
-use Rattle.shr_core.specs.Steps.{with_put}
 use Rattle.shr_walk.specs.Shown.{WornSeen}
-use Rattle.shr_walk.specs.State.{WorkerState}
-use Rattle.shr_walk.specs.declared.seats.Shared.{Shared}
 use Rattle.shr_walk.proofs.ListScanning.{charges_spent}
-use Rattle.std.proofs.lemmas.Grind.{common_steps}
 use Rattle.shr_registry.specs.declared.answers.FindAnswer.{FindAnswer}
 use Rattle.shr_registry.specs.declared.answers.FindAnswer.TheVariants as find
 use Rattle.shr_charge.specs.declared.answers.GroupState.{GroupState}
 use Rattle.shr_charge.specs.declared.answers.GroupState.TheVariants.{Online, Offline, NotMade}
-use Rattle.shr_opening.specs.Opening.{LoadsWord, Finds, RefusedAs}
-use Rattle.shr_base.specs.declared.walks.Isolation.{Isolation}
+use Rattle.shr_opening.specs.Opening.{LoadsWord, LooksForCache, RefusedAs}
 use Rattle.shr_base.specs.declared.replies.IsolateEnd.{IsolateEnd}
 use Rattle.shr_base.specs.declared.replies.IsolateEnd.TheVariants as ending
-use Rattle.shr_drop.specs.Isolating.{Isolates, RefusedBy, place_of, visitor_of}
 use Rattle.shr_drop.specs.Lawful.{AreScanned, IsolatesByLaw, IsAnsweredByLaw, Placed, placed, placed_scan}
 use Rattle.shr_drop.proofs.Turning.{sum_push}
-use Rattle.shr_drop.specs.Visiting.{Visitor, ScansOnce, AreVisits, AreIsolated, MeetsWorn}
 
 -- a scan with a budget of 1
 abbrev pub seen_of : Policy → ℕ → ℕ → Bool → ScanSeen
@@ -230,7 +214,7 @@ module _ (x : Shared) (i : Visitor) where
   }
 
 module _ (x : Shared) (by : Serial) (group node decl budget : ℕ) where
-  finds_made : (answer : FindAnswer) (s t : WorkerState) → Finds x decl answer s t → t.core.traces.made ≡ s.core.traces.made
+  finds_made : (answer : FindAnswer) (s t : WorkerState) → LooksForCache x decl answer s t → t.core.traces.made ≡ s.core.traces.made
   finds_made (find.Held id number entry) s t h = h.answers.gains.adds.made ∙ append-nil s.core.traces.made
   finds_made (find.NoCache entry) s t h = h.answers.gains.adds.made ∙ append-nil s.core.traces.made
   finds_made (find.Worn why) s t h = h.answers.gains.adds.made ∙ append-nil s.core.traces.made
@@ -251,12 +235,12 @@ module _ (x : Shared) (by : Serial) (group node decl budget : ℕ) where
 
   -- what an isolation did that found its cache is lawful
   pub found_lawful : (f : Found) (visits freed : ℕ) (e : IsolateEnd) (s t : WorkerState) (before after : List Isolation) → Isolates x by group node decl budget f visits freed e s t before after → IsAnsweredByLaw x by group node decl budget (length before) f visits freed e s t
-  found_lawful f visits freed e s t before after h = let i = visitor_of by (length before) (place_of f node group) h.d in
+  found_lawful f visits freed e s t before after h = let i = visitor_of by (length before) (found_place f node group) h.d in
       let l = isolated_lawful x i budget visits freed e h.held h.visited h.visiting in
       let same = finds_made (find.Held f.id f.number f.entry) h.loaded h.held h.holds ∙ loads_made Online s h.loaded h.online in record {
         d = h.d;
         declared = h.declared;
-        isolates = subst (λ (w : WorkerState). IsolatesByLaw x i (record { by = by; place = place_of f node group; budget = budget; visits = visits; freed = freed; ending = e }) s w) (sym h.back) record {
+        isolates = subst (λ (w : WorkerState). IsolatesByLaw x i (record { by = by; place = found_place f node group; budget = budget; visits = visits; freed = freed; ending = e }) s w) (sym h.back) record {
           scans = l.scans;
           scanned = record { made = l.scanned.made; gained = l.scanned.gained ∙ ap (λ (m : List Made). m ++ l.scanned.made) same; entries = l.scanned.entries };
           lawful = l.lawful;

@@ -1,2 +1,3 @@
+mod Common
 pub mod Turning
 pub mod ByLaw

@@ -1,38 +1,22 @@
 -- What a lister's scan is to the state of the worker's seats.
-use Rattle.std.proofs.Common.{◌≡◌, ℕ, zero, suc, ◌+◌, ◌<◌, ◌≤◌, Bool, true, false, List, [], ◌∷◌, ◌++◌, length, sym, refl, ap, subst, ◌∙◌, inl, inr, ⊎_elim, arith, length-append}
-use Rattle.std.specs.Prelude.{◌⊎◌, ◌≢◌, Option, Some, None, sum}
-use Rattle.std.proofs.lemmas.Grind.{common_steps}
-use Rattle.shr_base.specs.declared.objects.Object.{Object}
-use Rattle.shr_base.specs.declared.objects.Policy.{Policy}
+use Rattle.shr_drop.proofs.Common.{◌≡◌, ℕ, ◌+◌, ◌<◌, ◌≤◌, Bool, true, false, List, [], ◌∷◌, ◌++◌, length, sym, refl, ap, subst, ◌∙◌, ⊎_elim, arith, ◌⊎◌, sum, common_steps, Object, Policy, Place, Serial, Spent, scan_of, place_number, with_put, View, Keeps, Shared, WorkerState, state_of, Visitor, ScansOnce, AreVisits, AreIsolated, MeetsWorn, IsSameElse, zero, suc, inl, inr, length-append, ◌≢◌, Option, Some, None, Scanned, case_of, scan_from, view_of, IsRested, MeetsClosed}
 use Rattle.shr_base.specs.declared.objects.LruStatus.{LruStatus}
 use Rattle.shr_base.specs.declared.objects.LruStatus.TheVariants as status
-use Rattle.shr_base.specs.declared.places.Place.{Place}
-use Rattle.shr_base.specs.declared.places.Serial.{Serial}
-use Rattle.shr_base.specs.declared.replies.Spent.{Spent}
 use Rattle.shr_base.specs.declared.replies.Spent.TheVariants as spent
-use Rattle.shr_model.specs.Scan.{Scanned, case_of, scan_from, scan_of}
 use Rattle.shr_model.specs.Objects.{unmarked_object}
 use Rattle.shr_model.proofs.ScanLaws.{scan_spent, scan_none, scan_removed, scan_skipped, scan_rotated, scan_rotated_last, scan_stopped, freed_asked}
-use Rattle.shr_model.specs.Places.{place_number}
 use Rattle.shr_core.specs.Parts.{Claims}
-use Rattle.shr_core.specs.Seats.{view_of}
 use Rattle.shr_core.specs.Seats as core
-use Rattle.shr_core.specs.Steps.{with_put}
 use Rattle.shr_core.proofs.Owing.{still_none}
 use Rattle.shr_core.specs.declared.seat.Seat.{Seat}
-use Rattle.shr_core.specs.declared.view.View.{View}
 use Rattle.shr_charge.specs.Seat.{uses_of, tree_of}
 use Rattle.shr_deferred.specs.Seat as deferred
 use Rattle.shr_deferred.specs.Seat.{moves_of}
-use Rattle.shr_opening.specs.Opening.{IsHolding}
-use Rattle.shr_walk.specs.Keeping.{Keeps}
+use Rattle.shr_opening.specs.Opening.{AreHolding}
 use Rattle.shr_walk.specs.declared.seats.CacheSeat.{CacheSeat}
 use Rattle.shr_walk.specs.declared.seats.Seats.{Seats}
-use Rattle.shr_walk.specs.declared.seats.Shared.{Shared}
-use Rattle.shr_walk.specs.ListScans.{ScansList, FindsClosed, FindsWorn, LacksRoom, NoneUncharged}
-use Rattle.shr_walk.specs.State.{WorkerState, IsRested, state_of}
+use Rattle.shr_walk.specs.ListScans.{ScansList, FindsClosed, FindsUsedUp, LacksRoom, NoneUncharged}
 use Rattle.shr_base.specs.declared.replies.IsolateEnd.TheVariants as ending
-use Rattle.shr_drop.specs.Visiting.{Visitor, ScansOnce, AreVisits, AreIsolated, MeetsClosed, MeetsWorn, IsSameElse}
 use Rattle.shr_drop.specs.Visiting as visiting
 
 -- a scan with a budget of 1 meets nothing, and then it frees nothing and isn't stopped, or it meets one object
@@ -95,12 +79,12 @@ module _ (x : Shared) (i : Visitor) (s : Seats) (c : CacheSeat) where
   pub meets_closed : FindsClosed i.place s.cache c → MeetsClosed i (state_of s) (state_of (with_cache s c))
   meets_closed h = record { may = h.may; list = h.list; rest = only_core h.same }
 
-  pub meets_worn : (why : Spent) → FindsWorn x i.place i.walk i.by i.policy 1 why s.cache c → MeetsWorn x i why (state_of s) (state_of (with_cache s c))
+  pub meets_worn : (why : Spent) → FindsUsedUp x i.place i.walk i.by i.policy 1 why s.cache c → MeetsWorn x i why (state_of s) (state_of (with_cache s c))
   meets_worn (spent.Charges charges uncharges) h = record { numbers = h.numbers; rest = ap (λ (d : CacheSeat). state_of (with_cache s d)) h.rest }
   meets_worn (spent.List at entries items) h = record { may = h.may; list = h.list; rest = only_core h.same }
   meets_worn (spent.Lookups id seen) h = absurd h
 
-  pub lacks_room : LacksRoom x i.place i.walk i.by i.policy 1 s.cache c → visiting.LacksRoom x i (state_of s) (state_of (with_cache s c))
+  pub lacks_room : LacksRoom x i.place i.walk i.by i.policy 1 s.cache c → visiting.VisitLacksRoom x i (state_of s) (state_of (with_cache s c))
   lacks_room h = record { may = h.may; lacks = h.lacks; rest = only_core h.same }
 
 module _ (x : Shared) (i : Visitor) where
@@ -175,7 +159,7 @@ module _ (x : Shared) (i : Visitor) where
     ends_worn why left h = record { each = a.each; last = u; visited = a.visited; ended = record { count = a.count; total = a.total; left = left; cause = h } }
 
     -- there was no memory
-    pub ends_lacking : visits < budget → visiting.LacksRoom x i u t → AreIsolated x i budget visits freed ending.NoRoom s t
+    pub ends_lacking : visits < budget → visiting.VisitLacksRoom x i u t → AreIsolated x i budget visits freed ending.NoRoom s t
     ends_lacking left h = record { each = a.each; last = u; visited = a.visited; ended = record { count = a.count; total = a.total; left = left; cause = h } }
 
 -- visits keep the id held, and once it is given back the seats are at rest
@@ -183,10 +167,10 @@ module _ (x : Shared) (place : Place) (walk : ℕ) (by : Serial) (policy : Polic
   some_id : (id : ℕ) (h : Option ℕ) → h ≡ Some id → h ≢ None
   some_id id h e gone = absurd (let both : Some id ≡ None = sym e ∙ gone in cc)
 
-  pub held_still : (c : CacheSeat) → IsHolding x place.id s → Keeps x (place_number place) walk by policy s.cache c → (view_of c.core).claims.held ≢ None
+  pub held_still : (c : CacheSeat) → AreHolding x place.id s → Keeps x (place_number place) walk by policy s.cache c → (view_of c.core).claims.held ≢ None
   held_still c h k = some_id place.id (view_of c.core).claims.held (ap (λ (y : Claims). y.held) (k.walks.claims h.owner) ∙ h.held)
 
-  pub rested_then : (t : Seats) (last : Seat) → IsHolding x place.id s → Keeps x (place_number place) walk by policy s.cache t.cache → IsSameElse s t → core.IsOf x.core last → view_of last ≡ with_put (view_of t.cache.core)
+  pub rested_then : (t : Seats) (last : Seat) → AreHolding x place.id s → Keeps x (place_number place) walk by policy s.cache t.cache → IsSameElse s t → core.IsOf x.core last → view_of last ≡ with_put (view_of t.cache.core)
       → IsRested x (record { cache = record { core = last; charge = t.cache.charge; uses = t.cache.uses }; deferred = t.deferred; walks = t.walks; carries = t.carries })
   rested_then t last h k same of back = record {
     core = of;
@@ -197,5 +181,5 @@ module _ (x : Shared) (place : Place) (walk : ℕ) (by : Serial) (policy : Polic
     };
     owed = ap (λ (v : View). v.marks.owed) back ∙ still_none (view_of s.cache.core) (view_of t.cache.core) h.owed k.walks.owed;
     charge = k.charge h.charge;
-    deferred = subst (λ (d : deferred.DeferredSeat). deferred.IsOf x.deferred d) (sym same.deferred) h.deferred;
+    deferred = subst (λ (d : deferred.DeferredSeat). deferred.IsDeferredSeat x.deferred d) (sym same.deferred) h.deferred;
   }

@@ -10,7 +10,7 @@ use Rattle.shr_charge.specs.declared.answers.GroupState.TheVariants.{Online}
 use Rattle.shr_core.specs.Steps.{with_put}
 use Rattle.shr_walk.specs.State.{WorkerState}
 use Rattle.shr_walk.specs.declared.seats.Shared.{Shared}
-use Rattle.shr_opening.specs.Opening.{LoadsWord, Holds, RefusedAs}
+use Rattle.shr_opening.specs.Opening.{LoadsWord, HoldsCache, RefusedAs}
 use Rattle.shr_base.specs.declared.replies.Answered.{Answered}
 use Rattle.shr_base.specs.declared.walks.Isolation.{Isolation}
 use Rattle.shr_base.specs.declared.replies.IsolateEnd.{IsolateEnd}
@@ -18,8 +18,8 @@ use Rattle.shr_model.specs.Isolations.{isolation_walk}
 use Rattle.shr_drop.specs.Visiting.{Visitor, AreIsolated}
 
 -- the list of a group on a node, of the cache that was found
-abbrev pub place_of : Found → ℕ → ℕ → Place
-place_of f node group = record { id = f.id; node = node; group = group }
+abbrev pub found_place : Found → ℕ → ℕ → Place
+found_place f node group = record { id = f.id; node = node; group = group }
 
 -- the visits of the isolation with this number among the worker's, by the cache's declaration
 abbrev pub visitor_of : Serial → ℕ → Place → CacheDecl → Visitor
@@ -32,27 +32,27 @@ pub record Isolates (x : Shared) (by : Serial) (group node decl budget : ℕ) (f
   pub held : WorkerState
   pub visited : WorkerState
   pub online : LoadsWord x group Online s loaded
-  pub holds : Holds x decl f loaded held
+  pub holds : HoldsCache x decl f loaded held
   pub d : CacheDecl
   pub declared : slice_get x.script.caches.items decl ≡ Some d
-  pub visiting : AreIsolated x (visitor_of by (length before) (place_of f node group) d) budget visits freed e held visited
+  pub visiting : AreIsolated x (visitor_of by (length before) (found_place f node group) d) budget visits freed e held visited
   pub back : t ≡ record visited { core = with_put visited.core }
-  pub recorded : after ≡ before ++ record { by = by; place = place_of f node group; budget = budget; visits = visits; freed = freed; ending = e } ∷ []
+  pub recorded : after ≡ before ++ record { by = by; place = found_place f node group; budget = budget; visits = visits; freed = freed; ending = e } ∷ []
 
 -- nothing was done, for want of memory for the record
-pub record LacksMemory (s t : WorkerState) (before after : List Isolation) : Type 0 where
+pub record IsolateLacksMemory (s t : WorkerState) (before after : List Isolation) : Type 0 where
   pub rest : t ≡ s
   pub records : after ≡ before
 
 -- the command was refused before a visit, and nothing was recorded
-pub record IsRefused (x : Shared) (group decl : ℕ) (r : Reply) (s t : WorkerState) (before after : List Isolation) : Type 0 where
+pub record IsIsolateRefused (x : Shared) (group decl : ℕ) (r : Reply) (s t : WorkerState) (before after : List Isolation) : Type 0 where
   pub refused : RefusedAs x group decl r s t
   pub records : after ≡ before
 
 -- if no cache was found, by the reply
 abbrev pub RefusedBy : Shared → ℕ → ℕ → Reply → WorkerState → WorkerState → List Isolation → List Isolation → Type 0
-RefusedBy x group decl reply.Memory s t before after = LacksMemory s t before after
-RefusedBy x group decl r s t before after = IsRefused x group decl r s t before after
+RefusedBy x group decl reply.Memory s t before after = IsolateLacksMemory s t before after
+RefusedBy x group decl r s t before after = IsIsolateRefused x group decl r s t before after
 
 -- if the cache was found, by the reply
 abbrev pub IsolatedFrom : Shared → Serial → ℕ → ℕ → ℕ → ℕ → Found → Reply → WorkerState → WorkerState → List Isolation → List Isolation → Type 0

@@ -20,7 +20,7 @@ use Rattle.shr_base.specs.declared.replies.Answered.{Answered}
 use Rattle.shr_base.specs.declared.walks.Isolation.{Isolation}
 use Rattle.shr_base.specs.declared.replies.IsolateEnd.{IsolateEnd}
 use Rattle.shr_base.specs.declared.replies.IsolateEnd.TheVariants as ending
-use Rattle.shr_drop.specs.Isolating.{place_of, visitor_of}
+use Rattle.shr_drop.specs.Isolating.{found_place, visitor_of}
 use Rattle.shr_drop.specs.Visiting.{Visitor}
 
 -- an entry at its place
@@ -54,7 +54,7 @@ pub record IsolatesByLaw (x : Shared) (v : Visitor) (i : Isolation) (s t : Worke
 pub record IsAnsweredByLaw (x : Shared) (by : Serial) (group node decl budget number : ℕ) (f : Found) (visits freed : ℕ) (e : IsolateEnd) (s t : WorkerState) : Type 0 where
   pub d : CacheDecl
   pub declared : slice_get x.script.caches.items decl ≡ Some d
-  pub isolates : IsolatesByLaw x (visitor_of by number (place_of f node group) d) (record { by = by; place = place_of f node group; budget = budget; visits = visits; freed = freed; ending = e }) s t
+  pub isolates : IsolatesByLaw x (visitor_of by number (found_place f node group) d) (record { by = by; place = found_place f node group; budget = budget; visits = visits; freed = freed; ending = e }) s t
 
 -- if the cache was found, by the reply
 abbrev pub LawfulFrom : Shared → Serial → ℕ → ℕ → ℕ → ℕ → ℕ → Found → Reply → WorkerState → WorkerState → Type 0

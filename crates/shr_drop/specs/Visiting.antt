@@ -13,13 +13,13 @@ use Rattle.shr_base.specs.declared.journals.Entry.{Entry}
 use Rattle.shr_core.specs.Seats.{shape_of}
 use Rattle.shr_charge.specs.Charging.{AreDowns, AreRising, calls_with}
 use Rattle.shr_charge.specs.Views.{both_uses}
-use Rattle.shr_node.specs.Answers.{Scans, IsScanClosed, ScanIsWorn, ScanLacks}
-use Rattle.shr_walk.specs.Keeping.{parents_of, paths_of}
+use Rattle.shr_node.specs.Answers.{ScansPlace, IsScanClosed, ScanIsWorn, ScanLacks}
+use Rattle.shr_walk.specs.Keeping.{shared_parents, paths_of}
 use Rattle.shr_walk.specs.Listers.{Listing}
 use Rattle.shr_walk.specs.State.{WorkerState}
 use Rattle.shr_walk.specs.declared.seats.Seats.{Seats}
 use Rattle.shr_walk.specs.declared.seats.Shared.{Shared}
-use Rattle.shr_opening.specs.Opening.{MayCharge, IsSpent}
+use Rattle.shr_opening.specs.Opening.{MayCharge, IsWorkerSpent}
 use Rattle.shr_base.specs.declared.replies.IsolateEnd.{IsolateEnd}
 use Rattle.shr_base.specs.declared.replies.IsolateEnd.TheVariants as ending
 
@@ -40,9 +40,9 @@ pub record ScansOnce (x : Shared) (i : Visitor) (freed visits : ℕ) (stopped : 
   pub may : MayCharge s
   pub objects : List Object
   pub count : freed ≡ length objects
-  pub scan : Scans (shape_of x.core) s.core t.core i.place i.by.worker i.walk i.policy 1 objects visits stopped
+  pub scan : ScansPlace (shape_of x.core) s.core t.core i.place i.by.worker i.walk i.policy 1 objects visits stopped
   pub ops : List UseStep
-  pub downs : AreDowns i.by (paths_of (parents_of x) objects) ops
+  pub downs : AreDowns i.by (paths_of (shared_parents x) objects) ops
   pub rise : AreRising s.uses.ops → AreRising t.uses.ops
   pub rest : t ≡ record s { core = t.core; uses = both_uses s.uses (calls_with ops 0 (length objects)); noted = s.noted ++ ops }
 
@@ -69,13 +69,13 @@ pub record MeetsFull (x : Shared) (i : Visitor) (at : Place) (entries items : �
 
 -- what is used up: the charges, or the list of the place, and never a lookup
 abbrev pub MeetsWorn : Shared → Visitor → Spent → WorkerState → WorkerState → Type 0
-MeetsWorn x i (spent.Charges charges uncharges) s t = IsSpent (spent.Charges charges uncharges) s t
+MeetsWorn x i (spent.Charges charges uncharges) s t = IsWorkerSpent (spent.Charges charges uncharges) s t
 MeetsWorn x i (spent.List at entries items) s t = MeetsFull x i at entries items s t
 MeetsWorn x i (spent.Lookups id seen) s t = ⊥
 
 -- there was no memory: to note the uncharge, and then the list wasn't looked at, or for the scan's entry, for which the
 -- list has room
-pub record LacksRoom (x : Shared) (i : Visitor) (s t : WorkerState) : Type 0 where
+pub record VisitLacksRoom (x : Shared) (i : Visitor) (s t : WorkerState) : Type 0 where
   pub may : MayCharge s
   pub lacks : (t.core ≡ s.core) ⊎ ScanLacks (shape_of x.core) s.core t.core i.place (entry_of i)
   pub rest : t ≡ record s { core = t.core }
@@ -109,7 +109,7 @@ EndsAs x i budget visits freed each ending.Bare s t = IsCutAfter budget visits f
 EndsAs x i budget visits freed each ending.Stop s t = IsStoppedAfter x i budget visits freed each s t
 EndsAs x i budget visits freed each ending.Closed s t = IsCutAfter budget visits freed each (MeetsClosed i s t)
 EndsAs x i budget visits freed each (ending.Worn why) s t = IsCutAfter budget visits freed each (MeetsWorn x i why s t)
-EndsAs x i budget visits freed each ending.NoRoom s t = IsCutAfter budget visits freed each (LacksRoom x i s t)
+EndsAs x i budget visits freed each ending.NoRoom s t = IsCutAfter budget visits freed each (VisitLacksRoom x i s t)
 
 -- the visits of an isolation: those that weren't stopped, and what followed them
 pub record AreIsolated (x : Shared) (i : Visitor) (budget visits freed : ℕ) (e : IsolateEnd) (s t : WorkerState) : Type 0 where

@@ -2,7 +2,7 @@
 
 ghost use Rattle.std.specs.Prelude.{◌≡◌, ◌≤◌};
 ghost use Rattle.shr_model.specs.Places.{place_number};
-ghost use Rattle.shr_core.specs.Seats.{IsPlaceOf, shape_of};
+ghost use Rattle.shr_core.specs.Seats.{IsPlaceOfShape, shape_of};
 ghost use Rattle.shr_walk.specs.Keeping.{Keeps};
 ghost use Rattle.shr_walk.specs.Listers.{listing_of};
 ghost use Rattle.shr_walk.specs.Listing.{IsReady};
@@ -27,7 +27,7 @@ pub struct Visited {
 /// back after it.
 pub(crate) fn visit_all<R: Wait>(lister: &Lister<R>, seats: &mut Seats, budget: u32) -> Visited
     requires shared { IsShared (listing_of lister.now).shared }
-    requires place { let a = listing_of lister.now in IsPlaceOf (shape_of a.shared.core) a.place }
+    requires place { let a = listing_of lister.now in IsPlaceOfShape (shape_of a.shared.core) a.place }
     requires ready { let a = listing_of lister.now in IsReady a.shared a.place seats.old.cache }
     requires budget { budget ≤ 20000 }
     ensures kept { let a = listing_of lister.now in Keeps a.shared (place_number a.place) a.walk a.by

@@ -1,8 +1,5 @@
 -- What is so of each item, and of each two that stand next to one another, by index and by recursion.
-use Rattle.shr_formed.proofs.Common.{◌≡◌, ℕ, zero, suc, ◌+◌, ◌<◌, ◌≤◌, Bool, true, false, List, [], ◌∷◌, length, map, Option, Some, None, refl, sym, ap, subst, ◌∙◌, arith, ◌==◌, slice_get, Contains, Decides, AllByRecursion, MapSeen, Each, Adjacent, IsLoaded}
-use Rattle.std.proofs.Common.{get_or}
-use Rattle.std.specs.Prelude.{option_map}
-use Rattle.std.specs.List.{AllAdjacentBelow}
+use Rattle.shr_formed.proofs.Common.{◌≡◌, ℕ, zero, suc, ◌+◌, ◌<◌, ◌≤◌, Bool, true, false, List, [], ◌∷◌, length, map, Option, Some, None, refl, sym, ap, subst, ◌∙◌, arith, ◌==◌, slice_get, Contains, Decides, AllByRecursion, MapSeen, EachItem, Adjacent, IsUnitLoaded, get_or, option_map, AllAdjacentBelow}
 use Rattle.std.proofs.lemmas.Option.{get_or_from_slice_get, slice_get-get_or, slice_get_within, slice_get-map}
 use Rattle.std.proofs.lemmas.Bool.Decides.{nat_tests}
 
@@ -23,7 +20,7 @@ each_more {X} P xs i y lt is before here n x below e = by_order (n == i) refl
     by_order false f = before n x (let lower : n < i = grind (arith, nat_tests) in lower) e
 
 -- all items
-pub each_all : {X : Type 0} (P : X → Type 0) (xs : List X) (i : ℕ) → length xs ≤ i → ((n : ℕ) (x : X) → n < i → slice_get xs n ≡ Some x → P x) → Decides true (Each P xs)
+pub each_all : {X : Type 0} (P : X → Type 0) (xs : List X) (i : ℕ) → length xs ≤ i → ((n : ℕ) (x : X) → n < i → slice_get xs n ≡ Some x → P x) → Decides true (EachItem P xs)
 each_all P xs i over before = (λ t n x e. before n x (let lt = slice_get_within xs n x e in let lower : n < i = grind arith in lower) e, λ h. refl)
 
 -- the same of what depends on the number of the item
@@ -50,7 +47,7 @@ fails P Q b d f step = (λ t. absurd cc, λ h. absurd (clash b (d.1 (step h)) f)
 
 -- ---- by recursion
 
-pub all_of : {X : Type 0} (P : X → Type 0) (xs : List X) → Each P xs → AllByRecursion P xs
+pub all_of : {X : Type 0} (P : X → Type 0) (xs : List X) → EachItem P xs → AllByRecursion P xs
 all_of P [] h = tt
 all_of P (x ∷ xs) h = (h 0 x refl, all_of P xs (λ n y e. h (suc n) y e))
 
@@ -60,7 +57,7 @@ some_same a b e = cc
 none_some : {X : Type 0} (a : X) → ◌≡◌ {A = Option X} None (Some a) → ⊥
 none_some a e = cc
 
-pub each_in : {X : Type 0} (P : X → Type 0) (xs : List X) → AllByRecursion P xs → Each P xs
+pub each_in : {X : Type 0} (P : X → Type 0) (xs : List X) → AllByRecursion P xs → EachItem P xs
 each_in {X} P [] h n x e = absurd (no n x e)
   where
     no : (n : ℕ) (x : X) → slice_get [] n ≡ Some x → ⊥
@@ -68,7 +65,7 @@ each_in {X} P [] h n x e = absurd (no n x e)
 each_in {X} P (y ∷ ys) h zero x e = subst P (some_same y x e) h.0
 each_in P (y ∷ ys) h (suc n) x e = each_in P ys h.1 n x e
 
-pub each_weaker : {X : Type 0} (P Q : X → Type 0) (xs : List X) → ((x : X) → P x → Q x) → Each P xs → Each Q xs
+pub each_weaker : {X : Type 0} (P Q : X → Type 0) (xs : List X) → ((x : X) → P x → Q x) → EachItem P xs → EachItem Q xs
 each_weaker P Q xs step h n x e = step x (h n x e)
 
 -- ---- next to one another
@@ -96,12 +93,12 @@ unmapped f R xs h n x y e g = adjacent_in R (map f xs) h n (f x) (f y) (slice_ge
 
 -- ---- loaded units
 
-pub contained : (maps : List MapSeen) (unit : ℕ) → IsLoaded maps unit → Contains (map (λ (m : MapSeen). m.unit) maps) unit
+pub contained : (maps : List MapSeen) (unit : ℕ) → IsUnitLoaded maps unit → Contains (map (λ (m : MapSeen). m.unit) maps) unit
 contained maps unit h =
     let at : slice_get (map (λ (m : MapSeen). m.unit) maps) h.0 ≡ Some unit = slice_get-map (λ (m : MapSeen). m.unit) maps h.0 ∙ ap (option_map (λ (m : MapSeen). m.unit)) h.1.1.0 ∙ ap (λ (u : ℕ). Some u) h.1.1.1 in
     (h.0, slice_get_within (map (λ (m : MapSeen). m.unit) maps) h.0 unit at, get_or_from_slice_get (map (λ (m : MapSeen). m.unit) maps) h.0 unit unit at)
 
-pub loaded : (maps : List MapSeen) (unit : ℕ) → Contains (map (λ (m : MapSeen). m.unit) maps) unit → IsLoaded maps unit
+pub loaded : (maps : List MapSeen) (unit : ℕ) → Contains (map (λ (m : MapSeen). m.unit) maps) unit → IsUnitLoaded maps unit
 loaded maps unit h =
     let at : slice_get (map (λ (m : MapSeen). m.unit) maps) h.0 ≡ Some unit = slice_get-get_or (map (λ (m : MapSeen). m.unit) maps) h.0 unit h.1 ∙ ap (λ (u : ℕ). Some u) h.2 in
     let m = mapped_at (λ (m : MapSeen). m.unit) (slice_get maps h.0) unit (sym (slice_get-map (λ (m : MapSeen). m.unit) maps h.0) ∙ at) in

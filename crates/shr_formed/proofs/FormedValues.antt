@@ -1,17 +1,17 @@
 -- What the parts of well formed ask, at known values.
-use Rattle.shr_formed.proofs.Common.{◌≡◌, ℕ, ◌<◌, List, [], ◌∷◌, refl, arith, range_with_len, MapSeen, bit_places, Each, Adjacent, IsOf, IsLoaded, IsNotStripped, at_unit, group_places}
+use Rattle.shr_formed.proofs.Common.{◌≡◌, ℕ, ◌<◌, List, [], ◌∷◌, refl, arith, range_with_len, MapSeen, bit_places, EachItem, Adjacent, IsWorkerCommand, IsUnitLoaded, IsNotStripped, at_unit, group_places}
 use Rattle.shr_base.specs.declared.places.Serial.{Serial}
 
 abbrev by : Serial
 by = record { worker = 2; command = 4 }
 
-of_worker : IsOf 2 5 by
+of_worker : IsWorkerCommand 2 5 by
 of_worker = (refl, omega arith)
 
-no_answer : IsOf 2 4 by → ⊥
+no_answer : IsWorkerCommand 2 4 by → ⊥
 no_answer h = let few : 4 < 4 = h.1 in absurd (omega arith)
 
-above_two : Each (λ (n : ℕ). 2 < n) (3 ∷ 1 ∷ []) → ⊥
+above_two : EachItem (λ (n : ℕ). 2 < n) (3 ∷ 1 ∷ []) → ⊥
 above_two h = let n = h 1 1 refl in absurd (omega arith)
 
 falls : Adjacent (λ (n m : ℕ). n < m) (1 ∷ 3 ∷ 3 ∷ []) → ⊥
@@ -20,7 +20,7 @@ falls h = let n = h 1 3 3 refl refl in absurd (omega arith)
 abbrev loaded_two : List MapSeen
 loaded_two = record { unit = 0; bits = 1 } ∷ record { unit = 3; bits = 1 } ∷ []
 
-loaded : IsLoaded loaded_two 3
+loaded : IsUnitLoaded loaded_two 3
 loaded = (1, (record { unit = 3; bits = 1 }, (refl, refl)))
 
 -- two groups have one word of bits on each of two nodes, and the root has none

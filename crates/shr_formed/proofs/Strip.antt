@@ -1,6 +1,5 @@
 -- One more of some places in a row.
-use Rattle.shr_formed.proofs.Common.{◌≡◌, ℕ, zero, suc, ◌+◌, ◌<◌, Bool, true, false, List, [], ◌∷◌, ◌++◌, length, flat_map, map, refl, sym, ap, ◌∙◌, arith, Decides, range_with_len, ◌==◌, MapEnd, Where, wheres, IsNotStripped}
-use Rattle.std.proofs.Common.{append_assoc}
+use Rattle.shr_formed.proofs.Common.{◌≡◌, ℕ, zero, suc, ◌+◌, ◌<◌, Bool, true, false, List, [], ◌∷◌, ◌++◌, length, flat_map, map, refl, sym, ap, ◌∙◌, arith, Decides, range_with_len, ◌==◌, MapEnd, Where, wheres, IsNotStripped, append_assoc}
 use Rattle.std.proofs.lemmas.List.{append-nil, append_cancel_left}
 use Rattle.std.proofs.lemmas.List.Concat.{flat_map-append}
 use Rattle.shr_report.proofs.FirstLawful.{zero_not}

@@ -1,11 +1,7 @@
 -- A report is well formed where its parts are, and the other way round.
-use Rattle.shr_formed.proofs.Common.{◌≡◌, ℕ, suc, ◌+◌, ◌-◌, ◌<◌, ◌≤◌, ◌^◌, Bool, true, false, List, [], ◌∷◌, ◌++◌, length, map, Option, Some, None, refl, sym, ap, ◌∙◌, arith, ◌==◌, slice_get, Contains, range_with_len, is_path, is_name, unit_of, Answered, MapSeen, Attempt, WalkRecord, Carry, PlainWalk, Isolation, MapEnd, UnitsEnd, PlaceAmount, PlaceEnd, WorkerPart, HasWords, LendsWord, IsBitWord, IsCarryBefore, IsPoolNumbered, IsTreeNumbered, IsAmountWell, IsPoolAmountWell, IsUseBefore, units_place, IsPlaceBefore, IsPlaceUpTo, bit_places, IsWellFormed, IsOf, IsWalkFormed, IsListFormed, IsPartFormed, ArePartsFormed, IsLastFormed, AreHeadsFormed, AreListsFormed, AreMapsPrinted}
-use Rattle.std.proofs.Common.{◌/◌}
-use Rattle.std.specs.Prelude.{if◌then◌else◌}
+use Rattle.shr_formed.proofs.Common.{◌≡◌, ℕ, suc, ◌+◌, ◌-◌, ◌<◌, ◌≤◌, ◌^◌, Bool, true, false, List, [], ◌∷◌, ◌++◌, length, map, Option, Some, None, refl, sym, ap, ◌∙◌, arith, ◌==◌, slice_get, Contains, range_with_len, is_path, is_name, unit_of, Answered, MapSeen, Attempt, WalkRecord, Carry, PlainWalk, Isolation, MapEnd, UnitsEnd, PlaceAmount, PlaceEnd, WorkerPart, HasWords, LendsWord, IsBitWord, IsCarryBefore, IsPoolNumbered, IsTreeNumbered, IsAmountWell, IsPoolAmountWell, IsUseBefore, units_place, IsPlaceBefore, IsPlaceUpTo, bit_places, IsWellFormed, IsWorkerCommand, IsWalkFormed, IsListFormed, IsPartFormed, ArePartsFormed, IsLastFormed, AreHeadsFormed, AreListsFormed, AreMapsPrinted, ◌/◌, if◌then◌else◌, IsPlaceWell, IsWalkWell, IsPartWell, AreTablesFormed}
 use Rattle.std.proofs.lemmas.List.{length-append}
 use Rattle.shr_report.specs.declared.report.Report.{Report}
-use Rattle.shr_report.specs.WellFormed.{IsPlaceWell, IsWalkWell, IsPartWell}
-use Rattle.shr_formed.specs.Formed.{AreTablesFormed}
 use Rattle.shr_formed.proofs.Eachs.{all_of, each_in, each_weaker, below_of, adjacent_in, mapped, unmapped, contained, loaded, some_same}
 
 -- ---- a walk, and a list
@@ -45,13 +41,13 @@ part_well worker p f =
     record {
       answers = all_of (λ (a : Answered). LendsWord a.reply) p.answers.items f.0;
       walks = all_of IsWalkWell p.walks.items (each_weaker IsWalkFormed IsWalkWell p.walks.items walk_well walks.0);
-      walkers = all_of (λ (x : WalkRecord). IsOf worker n x.by) p.walks.items walks.1.0;
+      walkers = all_of (λ (x : WalkRecord). IsWorkerCommand worker n x.by) p.walks.items walks.1.0;
       walk_order = mapped (λ (x : WalkRecord). x.by.command) (λ n m. n ≤ m) p.walks.items walks.1.1;
-      carriers = all_of (λ (x : Carry). IsOf worker n x.by) p.carries.items carries.0;
+      carriers = all_of (λ (x : Carry). IsWorkerCommand worker n x.by) p.carries.items carries.0;
       carry_order = mapped (λ (x : Carry). x.by.command) (λ n m. n ≤ m) p.carries.items carries.1.0;
       carry_places = below_of IsCarryBefore p.carries.items carries.1.1;
-      plain = record { by = all_of (λ (x : PlainWalk). IsOf worker n x.by) p.plain.items others.0; order = mapped (λ (x : PlainWalk). x.by.command) (λ n m. n ≤ m) p.plain.items others.1.0 };
-      isolations = record { by = all_of (λ (x : Isolation). IsOf worker n x.by) p.isolations.items others.1.1.0; order = mapped (λ (x : Isolation). x.by.command) (λ n m. n ≤ m) p.isolations.items others.1.1.1 };
+      plain = record { by = all_of (λ (x : PlainWalk). IsWorkerCommand worker n x.by) p.plain.items others.0; order = mapped (λ (x : PlainWalk). x.by.command) (λ n m. n ≤ m) p.plain.items others.1.0 };
+      isolations = record { by = all_of (λ (x : Isolation). IsWorkerCommand worker n x.by) p.isolations.items others.1.1.0; order = mapped (λ (x : Isolation). x.by.command) (λ n m. n ≤ m) p.isolations.items others.1.1.1 };
     }
 
 part_formed : (worker : ℕ) (p : WorkerPart) → IsPartWell worker p → IsPartFormed worker p
@@ -59,14 +55,14 @@ part_formed worker p g =
     let n = length p.answers.items in (
       each_in (λ (a : Answered). LendsWord a.reply) p.answers.items g.answers,
       (
-        (each_weaker IsWalkWell IsWalkFormed p.walks.items walk_formed (each_in IsWalkWell p.walks.items g.walks), (each_in (λ (x : WalkRecord). IsOf worker n x.by) p.walks.items g.walkers, unmapped (λ (x : WalkRecord). x.by.command) (λ n m. n ≤ m) p.walks.items g.walk_order)),
+        (each_weaker IsWalkWell IsWalkFormed p.walks.items walk_formed (each_in IsWalkWell p.walks.items g.walks), (each_in (λ (x : WalkRecord). IsWorkerCommand worker n x.by) p.walks.items g.walkers, unmapped (λ (x : WalkRecord). x.by.command) (λ n m. n ≤ m) p.walks.items g.walk_order)),
         (
-          (each_in (λ (x : Carry). IsOf worker n x.by) p.carries.items g.carriers, (unmapped (λ (x : Carry). x.by.command) (λ n m. n ≤ m) p.carries.items g.carry_order, adjacent_in IsCarryBefore p.carries.items g.carry_places)),
+          (each_in (λ (x : Carry). IsWorkerCommand worker n x.by) p.carries.items g.carriers, (unmapped (λ (x : Carry). x.by.command) (λ n m. n ≤ m) p.carries.items g.carry_order, adjacent_in IsCarryBefore p.carries.items g.carry_places)),
           (
-            each_in (λ (x : PlainWalk). IsOf worker n x.by) p.plain.items g.plain.by,
+            each_in (λ (x : PlainWalk). IsWorkerCommand worker n x.by) p.plain.items g.plain.by,
             (
               unmapped (λ (x : PlainWalk). x.by.command) (λ n m. n ≤ m) p.plain.items g.plain.order,
-              (each_in (λ (x : Isolation). IsOf worker n x.by) p.isolations.items g.isolations.by, unmapped (λ (x : Isolation). x.by.command) (λ n m. n ≤ m) p.isolations.items g.isolations.order),
+              (each_in (λ (x : Isolation). IsWorkerCommand worker n x.by) p.isolations.items g.isolations.by, unmapped (λ (x : Isolation). x.by.command) (λ n m. n ≤ m) p.isolations.items g.isolations.order),
             ),
           ),
         ),

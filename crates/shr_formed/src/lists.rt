@@ -3,7 +3,7 @@
 ghost use Rattle.std.specs.Bool.{Decides};
 ghost use Rattle.std.specs.List.{AllByRecursion};
 ghost use Rattle.shr_report.specs.WellFormed.{HasWords, IsNumbered, IsPlaceUpTo, IsSpelled};
-ghost use Rattle.shr_formed.specs.Each.{Adjacent, Each, IsListFormed};
+ghost use Rattle.shr_formed.specs.Each.{Adjacent, EachItem, IsListFormed};
 
 use crate::tables::is_place_up_to;
 use crate::words::{is_key, is_value};
@@ -35,7 +35,7 @@ fn is_spelled(object: &Object) -> bool
 
 // Whether the keys and values of these entries are words.
 fn have_words(entries: &[Entry]) -> bool
-    ensures { Decides result (Each (HasWords) entries.now) }
+    ensures { Decides result (EachItem (HasWords) entries.now) }
 {
     for entry in entries {
         if !has_words(entry) {
@@ -83,7 +83,7 @@ fn is_list_well(end: &PlaceEnd) -> bool
 
 /// Whether each list is as one that is printed. Our own.
 pub fn lists_are_well(ends: &[PlaceEnd]) -> bool
-    ensures { Decides result (Each (IsListFormed) ends.now) }
+    ensures { Decides result (EachItem (IsListFormed) ends.now) }
 {
     for end in ends {
         if !is_list_well(end) {

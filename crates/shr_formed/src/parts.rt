@@ -4,7 +4,7 @@ ghost use Rattle.std.specs.Prelude.{◌≡◌, ◌≢◌, ◌<◌, ◌≤◌};
 ghost use Rattle.std.specs.Bool.{Decides};
 ghost use Rattle.shr_model.specs.Places.{unit_of};
 ghost use Rattle.shr_report.specs.WellFormed.{IsBitWord, IsCarryBefore, LendsWord};
-ghost use Rattle.shr_formed.specs.Each.{Adjacent, AreAttemptsFormed, AreMapsFormed, Each, IsLoaded, IsOf, IsWalkFormed};
+ghost use Rattle.shr_formed.specs.Each.{Adjacent, AreAttemptsFormed, AreMapsFormed, EachItem, IsUnitLoaded, IsWorkerCommand, IsWalkFormed};
 
 use crate::words::is_value;
 use shr_base::places::Serial;
@@ -23,7 +23,7 @@ fn lends_word(reply: &Reply) -> bool
 
 /// Whether the values that these answers lend are words. Our own.
 pub fn lend_words(answers: &[Answered]) -> bool
-    ensures { Decides result (Each (λ a. LendsWord a.reply) answers.now) }
+    ensures { Decides result (EachItem (λ a. LendsWord a.reply) answers.now) }
 {
     for answer in answers {
         if !lends_word(&answer.reply) {
@@ -35,14 +35,14 @@ pub fn lend_words(answers: &[Answered]) -> bool
 
 // Whether a command is one of this worker's that has an answer.
 fn is_of(by: Serial, worker: usize, answers: usize) -> bool
-    ensures { Decides result (IsOf worker answers by) }
+    ensures { Decides result (IsWorkerCommand worker answers by) }
 {
     by.worker as usize == worker && (by.command as usize) < answers
 }
 
 /// Whether these walks are of commands of this worker that have answers. Our own.
 pub fn walks_are_of(walks: &[WalkRecord], worker: usize, answers: usize) -> bool
-    ensures { Decides result (Each (λ x. IsOf worker answers x.by) walks.now) }
+    ensures { Decides result (EachItem (λ x. IsWorkerCommand worker answers x.by) walks.now) }
 {
     for walk in walks {
         if !is_of(walk.by, worker, answers) {
@@ -66,7 +66,7 @@ pub fn walks_stand(walks: &[WalkRecord]) -> bool
 
 /// Whether these carries are of commands of this worker that have answers. Our own.
 pub fn carries_are_of(carries: &[Carry], worker: usize, answers: usize) -> bool
-    ensures { Decides result (Each (λ x. IsOf worker answers x.by) carries.now) }
+    ensures { Decides result (EachItem (λ x. IsWorkerCommand worker answers x.by) carries.now) }
 {
     for carry in carries {
         if !is_of(carry.by, worker, answers) {
@@ -90,7 +90,7 @@ pub fn carries_stand(carries: &[Carry]) -> bool
 
 /// Whether these walks of the pools are of commands of this worker that have answers. Our own.
 pub fn plains_are_of(plains: &[PlainWalk], worker: usize, answers: usize) -> bool
-    ensures { Decides result (Each (λ x. IsOf worker answers x.by) plains.now) }
+    ensures { Decides result (EachItem (λ x. IsWorkerCommand worker answers x.by) plains.now) }
 {
     for plain in plains {
         if !is_of(plain.by, worker, answers) {
@@ -114,7 +114,7 @@ pub fn plains_stand(plains: &[PlainWalk]) -> bool
 
 /// Whether these isolations are of commands of this worker that have answers. Our own.
 pub fn isolations_are_of(isolations: &[Isolation], worker: usize, answers: usize) -> bool
-    ensures { Decides result (Each (λ x. IsOf worker answers x.by) isolations.now) }
+    ensures { Decides result (EachItem (λ x. IsWorkerCommand worker answers x.by) isolations.now) }
 {
     for isolation in isolations {
         if !is_of(isolation.by, worker, answers) {
@@ -162,7 +162,7 @@ fn seen_fits(map: MapSeen)
 {}
 
 fn seen_fit(maps: &[MapSeen])
-    ensures { Each (λ m. IsBitWord m.bits) maps.now }
+    ensures { EachItem (λ m. IsBitWord m.bits) maps.now }
 {
     for map in maps {
         seen_fits(*map);
@@ -171,7 +171,7 @@ fn seen_fit(maps: &[MapSeen])
 
 // Whether a unit is one of those that were loaded.
 fn is_loaded(maps: &[MapSeen], unit: u16) -> bool
-    ensures { Decides result (IsLoaded maps.now unit) }
+    ensures { Decides result (IsUnitLoaded maps.now unit) }
 {
     for map in maps {
         if map.unit as u16 == unit {
@@ -190,7 +190,7 @@ fn unit_of(attempt: &Attempt) -> u16
 
 // Whether each attempt is at an id of a loaded unit.
 fn are_loaded(maps: &[MapSeen], attempts: &[Attempt]) -> bool
-    ensures { Decides result (Each (λ a. IsLoaded maps.now (unit_of a.id)) attempts.now) }
+    ensures { Decides result (EachItem (λ a. IsUnitLoaded maps.now (unit_of a.id)) attempts.now) }
 {
     for attempt in attempts {
         if !is_loaded(maps, unit_of(attempt)) {
@@ -264,7 +264,7 @@ fn is_walk_well(walk: &WalkRecord) -> bool
 
 /// Whether each walk is as one that is printed. Our own.
 pub fn walks_are_well(walks: &[WalkRecord]) -> bool
-    ensures { Decides result (Each (IsWalkFormed) walks.now) }
+    ensures { Decides result (EachItem (IsWalkFormed) walks.now) }
 {
     for walk in walks {
         if !is_walk_well(walk) {

@@ -5,7 +5,7 @@ ghost use Rattle.std.specs.Bool.{Decides};
 ghost use Rattle.shr_model.specs.Paths.{is_path};
 ghost use Rattle.shr_model.specs.Words.{is_name};
 ghost use Rattle.shr_report.specs.WellFormed.{IsAmountWell, IsBitWord, IsPlaceBefore, IsPlaceUpTo, IsPoolAmountWell, IsPoolNumbered, IsTreeNumbered, IsUseBefore, units_place};
-ghost use Rattle.shr_formed.specs.Each.{Adjacent, Each};
+ghost use Rattle.shr_formed.specs.Each.{Adjacent, EachItem};
 
 use crate::words::is_name;
 use shr_base::ends::{MapEnd, PlaceAmount, UnitsEnd};
@@ -30,7 +30,7 @@ pub fn is_place_up_to(p: Place, q: Place) -> bool
 
 /// Whether each of these is a path. Our own.
 pub fn are_paths(paths: &[Text]) -> bool
-    ensures { Decides result (Each (λ p. is_path p ≡ true) paths.now) }
+    ensures { Decides result (EachItem (λ p. is_path p ≡ true) paths.now) }
 {
     for path in paths {
         if !is_path(path.bytes()) {
@@ -42,7 +42,7 @@ pub fn are_paths(paths: &[Text]) -> bool
 
 /// Whether each of these is a name. Our own.
 pub fn are_names(names: &[Text]) -> bool
-    ensures { Decides result (Each (λ w. is_name w ≡ true) names.now) }
+    ensures { Decides result (EachItem (λ w. is_name w ≡ true) names.now) }
 {
     for name in names {
         if !is_name(name.bytes()) {
@@ -85,7 +85,7 @@ fn bits_fit_one(map: MapEnd)
 
 /// Each number of these registrations has the range of its type, as it was read. Our own.
 pub fn pool_fits(entries: &[PoolEntry])
-    ensures { Each (IsPoolNumbered) entries.now }
+    ensures { EachItem (IsPoolNumbered) entries.now }
 {
     for entry in entries {
         pool_entry_fits(*entry);
@@ -94,7 +94,7 @@ pub fn pool_fits(entries: &[PoolEntry])
 
 /// The same of the journal of the tree. Our own.
 pub fn tree_fits(entries: &[TreeEntry])
-    ensures { Each (IsTreeNumbered) entries.now }
+    ensures { EachItem (IsTreeNumbered) entries.now }
 {
     for entry in entries {
         tree_entry_fits(*entry);
@@ -103,7 +103,7 @@ pub fn tree_fits(entries: &[TreeEntry])
 
 /// The same of the numbers of lookups. Our own.
 pub fn lookups_fit(lookups: &[u32])
-    ensures { Each (λ n. n < 2 ^ 32) lookups.now }
+    ensures { EachItem (λ n. n < 2 ^ 32) lookups.now }
 {
     for n in lookups {
         lookups_fit_one(*n);
@@ -112,7 +112,7 @@ pub fn lookups_fit(lookups: &[u32])
 
 /// The same of words of bits. Our own.
 pub fn bits_fit(maps: &[MapEnd])
-    ensures { Each (λ m. IsBitWord m.bits) maps.now }
+    ensures { EachItem (λ m. IsBitWord m.bits) maps.now }
 {
     for map in maps {
         bits_fit_one(*map);
@@ -135,7 +135,7 @@ fn is_pool_amount_well(d: PlaceAmount) -> bool
 
 /// Whether each deferred word is as one that is printed. Our own.
 pub fn amounts_are_well(amounts: &[PlaceAmount]) -> bool
-    ensures { Decides result (Each (IsAmountWell) amounts.now) }
+    ensures { Decides result (EachItem (IsAmountWell) amounts.now) }
 {
     for d in amounts {
         if !is_amount_well(*d) {
@@ -147,7 +147,7 @@ pub fn amounts_are_well(amounts: &[PlaceAmount]) -> bool
 
 /// The same of the deferred words of pools. Our own.
 pub fn pool_amounts_are_well(amounts: &[PlaceAmount]) -> bool
-    ensures { Decides result (Each (IsPoolAmountWell) amounts.now) }
+    ensures { Decides result (EachItem (IsPoolAmountWell) amounts.now) }
 {
     for d in amounts {
         if !is_pool_amount_well(*d) {
@@ -190,7 +190,7 @@ pub fn uses_stand(uses: &[UseStep]) -> bool
 
 /// Whether each pool on a node has an entry. Our own.
 pub fn units_are_entered(pools: &[UnitsEnd]) -> bool
-    ensures { Decides result (Each (λ u. 0 < length u.entries.items) pools.now) }
+    ensures { Decides result (EachItem (λ u. 0 < length u.entries.items) pools.now) }
 {
     for pool in pools {
         if pool.entries.len() == 0 {

@@ -1,11 +1,6 @@
 -- What the matches of `clap` give.
-use Rattle.shr_forms.proofs.Common.{◌≡◌, ◌∙◌, List, ℕ, [], ◌∷◌, length, Bool, true, false, ◌≤◌, ◌<◌, ◌^◌, Option, Some, None, sym, ap, subst, refl, zero, suc, codes, decimal, arith, option_map, get_or, AllByRecursion, same_Some, Row, Text, IsAmong, fault_of, first_of, rows_of, subcommand_of, has_hyphen, IsPlainWord, the_app, Form, Run, Audit, AreRunWords, AreAuditWords, AreGenWords, AreNoForm, ReadsAs}
-use Rattle.std.proofs.Common.{◌||◌, cond, ne_eqb}
+use Rattle.shr_forms.proofs.Common.{◌≡◌, ◌∙◌, List, ℕ, [], ◌∷◌, length, Bool, true, false, ◌≤◌, ◌<◌, ◌^◌, Option, Some, None, sym, ap, subst, refl, zero, suc, codes, decimal, arith, option_map, get_or, AllByRecursion, same_Some, Row, Text, IsAmong, fault_of, first_of, rows_of, subcommand_of, has_hyphen, IsPlainWord, the_app, Form, Run, Audit, AreRunWords, AreAuditWords, AreGenWords, AreNoForm, ReadsAs, ◌||◌, cond, ne_eqb, list_any, first_decimal, decimal_digit, none-some, first_value}
 use Rattle.std.specs.Borrow.{Bor}
-use Rattle.std.specs.List.{list_any}
-use Rattle.std.proofs.lemmas.Fmt.{first_decimal, decimal_digit}
-use Rattle.std.proofs.lemmas.Option.{none-some}
-use Rattle.clap.specs.Words.{first_value}
 use Rattle.clap.specs.declared.error.ErrorKind.{ErrorKind}
 use Rattle.clap.specs.declared.parser.matches.Found.{Found}
 use Rattle.clap.proofs.WalkLemmas.{first_value-rows}

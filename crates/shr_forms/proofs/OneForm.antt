@@ -1,6 +1,5 @@
 -- Words are of one form at most.
-use Rattle.shr_forms.proofs.Common.{◌≡◌, ◌∙◌, ℕ, ◌∷◌, [], List, codes, decimal, refl, sym, Option, Some, None, decimal_injective, Form, Run, Audit, AreRunWords, AreAuditWords, AreGenWords, ReadsAs}
-use Rattle.shr_forms.specs.declared.form.Form.TheVariants.{Gen}
+use Rattle.shr_forms.proofs.Common.{◌≡◌, ◌∙◌, ℕ, ◌∷◌, [], List, codes, decimal, refl, sym, Option, Some, None, decimal_injective, Form, Run, Audit, AreRunWords, AreAuditWords, AreGenWords, ReadsAs, Gen}
 use Rattle.shr_forms.proofs.Reading.{same_words, sizes_fit}
 
 pub run_not_gen : (words : List (List ℕ)) (seed workers commands : ℕ) → AreRunWords words → AreGenWords words seed workers commands → ⊥

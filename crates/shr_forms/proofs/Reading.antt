@@ -3,7 +3,7 @@ use Rattle.std.proofs.Common.{◌≡◌, ℕ, zero, suc, ◌*◌, ◌^◌, ◌<�
 use Rattle.std.specs.Prelude.{Result, Ok, Err}
 use Rattle.std.specs.Str.Parse.{ParsesUnsigned}
 use Rattle.std.proofs.lemmas.Fmt.{parse-decimal, decimal_injective}
-use Rattle.shr_gen.specs.Generated.{MayBeMade}
+use Rattle.shr_gen.specs.Generated.{MayBeGenerated}
 use Rattle.shr_forms.specs.Forms.{Spells, AreRunWords, AreAuditWords, AreNoForm}
 
 -- a word that isn't read as a number spells none
@@ -20,7 +20,7 @@ few_commands zero commands some most = absurd (omega (arith, some))
 few_commands (suc w) commands some most = omega (arith, most)
 
 -- the numbers of a script that may be made have 64 bits
-pub sizes_fit : (workers commands : ℕ) → MayBeMade workers commands → (workers < 2 ^ 64) × (commands < 2 ^ 64)
+pub sizes_fit : (workers commands : ℕ) → MayBeGenerated workers commands → (workers < 2 ^ 64) × (commands < 2 ^ 64)
 sizes_fit workers commands h = let most = h.most_workers in let few = few_commands workers commands h.some_workers h.most_commands in (omega (arith, most), omega (arith, few))
 
 gen_words : List ℕ → List ℕ → List ℕ → List (List ℕ)
@@ -50,7 +50,7 @@ no_workers a b c none = record { run = not_run a b c; audit = not_audit a b c; g
 pub no_commands : (a b c : List ℕ) → Spells c None → AreNoForm (codes "gen" ∷ a ∷ b ∷ c ∷ [])
 no_commands a b c none = record { run = not_run a b c; audit = not_audit a b c; gen = λ s w k h. none k (sizes_fit w k h.made).1 (same_words a b c (decimal s) (decimal w) (decimal k) h.spelled).third }
 
-pub no_sizes : (a b c : List ℕ) (w k : ℕ) → Spells b (Some w) → Spells c (Some k) → (MayBeMade w k → ⊥) → AreNoForm (codes "gen" ∷ a ∷ b ∷ c ∷ [])
+pub no_sizes : (a b c : List ℕ) (w k : ℕ) → Spells b (Some w) → Spells c (Some k) → (MayBeGenerated w k → ⊥) → AreNoForm (codes "gen" ∷ a ∷ b ∷ c ∷ [])
 no_sizes a b c w k workers commands none = record {
   run = not_run a b c;
   audit = not_audit a b c;
@@ -59,7 +59,7 @@ no_sizes a b c w k workers commands none = record {
       let fit = sizes_fit v j h.made in
       let w_is : v ≡ w = decimal_injective v w fit.0 workers.1 (sym same.second ∙ workers.0) in
       let k_is : j ≡ k = decimal_injective j k fit.1 commands.1 (sym same.third ∙ commands.0) in
-      none (subst (λ n. MayBeMade n k) w_is (subst (λ n. MayBeMade v n) k_is h.made));
+      none (subst (λ n. MayBeGenerated n k) w_is (subst (λ n. MayBeGenerated v n) k_is h.made));
 }
 
 -- one word, which is neither of those that are a form alone

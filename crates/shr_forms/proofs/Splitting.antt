@@ -1,18 +1,14 @@
 -- What `clap` makes of words that begin with no hyphen: the one word `run` or `audit`, or `gen` with three more, and of no others.
-use Rattle.shr_forms.proofs.Common.{◌≡◌, ℕ, Bool, true, false, List, [], ◌∷◌, refl, sym, ap, ap₂, ◌∙◌, subst, codes, Option, Some, None, AllByRecursion, bytes_eq-Decides, Row, Text, fault_of, is_simple, is_simple_and_free, first_of, subcommand_of, IsPlainWord, the_app}
-use Rattle.std.proofs.Common.{inl, inr, ◌++◌, append_assoc}
-use Rattle.std.specs.Prelude.{if◌then◌else◌, fold, bytes_eq, option_and_then, find, unwrap_or}
+use Rattle.shr_forms.proofs.Common.{◌≡◌, ℕ, Bool, true, false, List, [], ◌∷◌, refl, sym, ap, ap₂, ◌∙◌, subst, codes, Option, Some, None, AllByRecursion, bytes_eq-Decides, Row, Text, fault_of, is_simple, is_simple_and_free, first_of, subcommand_of, IsPlainWord, the_app, inl, inr, ◌++◌, append_assoc, if◌then◌else◌, fold, bytes_eq, option_and_then, find, unwrap_or, Rule, Shape, Kinds, built, run_app, gen_app, audit_app}
 use Rattle.std.specs.Option.{option_map_or}
 use Rattle.std.proofs.lemmas.Bool.{cases_Bool}
 use Rattle.std.proofs.lemmas.List.{append-nil}
 use Rattle.clap.specs.Lexer.{strip_byte, long_of, short_of, long_of_rest, short_of_rest}
-use Rattle.clap.specs.Words.{Rule, Shape, Kinds, built}
 use Rattle.clap.specs.Walk.{Held, Names, Walk, Step, idle, value, trailing, word_met, subcommand_or_other, long_or_other, short_or_plain, after_step, to_positional, arg_by_index, walked, walk_from, walk, nothing_held, finished, settled, answers_to, Waiting, subcommand_met}
 use Rattle.clap.specs.Simple.{names_of, label_of}
 use Rattle.clap.specs.Faults.{turn_fault, step_fault, walk_fault, level_fault, word_fault, flag_word_fault, bundle_fault, entered_fault, settle_fault, defaults_fault, check_fault}
 use Rattle.clap.specs.Kinds.{or_else}
 use Rattle.clap.proofs.OnLiterals.{clap_on_literals}
-use Rattle.shr_forms.specs.CommandLine.{run_app, gen_app, audit_app}
 
 -- ---- the command
 

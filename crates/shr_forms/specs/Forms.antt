@@ -1,6 +1,6 @@
 -- Which words are of a form of the program.
 use Rattle.std.specs.Prelude.{◌≡◌, ℕ, ◌^◌, ◌<◌, List, [], ◌∷◌, codes, decimal, Option, Some, None}
-use Rattle.shr_gen.specs.Generated.{MayBeMade}
+use Rattle.shr_gen.specs.Generated.{MayBeGenerated}
 use Rattle.shr_forms.specs.declared.form.Form.{Form}
 use Rattle.shr_forms.specs.declared.form.Form.TheVariants.{Run, Gen, Audit}
 
@@ -17,7 +17,7 @@ AreRunWords words = words ≡ codes "run" ∷ []
 pub record AreGenWords (words : List (List ℕ)) (seed workers commands : ℕ) : Type 0 where
   pub spelled : words ≡ codes "gen" ∷ decimal seed ∷ decimal workers ∷ decimal commands ∷ []
   pub seed_fits : seed < 2 ^ 64
-  pub made : MayBeMade workers commands
+  pub made : MayBeGenerated workers commands
 
 -- the one word `audit`
 abbrev pub AreAuditWords : List (List ℕ) → Type 0

@@ -3,7 +3,7 @@
 ghost use Rattle.std.specs.Prelude.{◌≡◌, ◌↔◌, ℕ, List, ◌∷◌, [], Some, codes, map, string_bytes, IsTrue};
 ghost use Rattle.std.specs.List.{list_any};
 ghost use Rattle.clap.specs.Words.{Row, first_of, found_of, rows_of, subcommand_rows_of};
-ghost use Rattle.shr_gen.specs.Generated.{MayBeMade};
+ghost use Rattle.shr_gen.specs.Generated.{MayBeGenerated};
 ghost use Rattle.shr_forms.specs.CommandLine.{has_hyphen};
 ghost use Rattle.shr_forms.specs.Forms.{Spells, ReadsAs};
 ghost use Rattle.shr_forms.specs.declared.form.Form.TheVariants.{Run, Audit};
@@ -46,7 +46,7 @@ fn number_in(word: &str) -> Option<u64>
 
 // Whether a script may be made of so many workers with so many commands each.
 fn may_be_made(workers: u64, commands: u64) -> bool
-    ensures { IsTrue result ↔ MayBeMade workers commands }
+    ensures { IsTrue result ↔ MayBeGenerated workers commands }
 {
     if workers < 1 || workers > 63 || commands < 1 || commands > 20_000 {
         return false;

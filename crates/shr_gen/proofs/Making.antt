@@ -1,6 +1,5 @@
 -- Lists that are made element by element.
-use Rattle.shr_gen.proofs.Common.{◌≡◌, ◌∙◌, ◌++◌, ◌∷◌, [], List, ℕ, zero, suc, ◌+◌, ◌*◌, ap, sym, arith, map, range_with_len, drawn_after, map-range_with_len_more}
-use Rattle.shr_gen.specs.Generated.{next_draw}
+use Rattle.shr_gen.proofs.Common.{◌≡◌, ◌∙◌, ◌++◌, ◌∷◌, [], List, ℕ, zero, suc, ◌+◌, ◌*◌, ap, sym, arith, map, range_with_len, drawn_after, map-range_with_len_more, next_draw}
 
 -- one more element, which is f's at the next number
 pub made_more : {A : Type 0} (f : ℕ → A) (n : ℕ) (before after : List A) (x : A) → before ≡ map f (range_with_len 0 n) → x ≡ f n → after ≡ before ++ x ∷ [] → after ≡ map f (range_with_len 0 (n + 1))

@@ -34,28 +34,28 @@ abbrev pub priority_by : ℕ → ℕ
 priority_by r = r / 8 % 13
 
 -- the key and the value that a worker's command puts
-abbrev pub key_of : ℕ → List ℕ
-key_of j = codes "k" ++ decimal j
+abbrev pub key_text : ℕ → List ℕ
+key_text j = codes "k" ++ decimal j
 
 -- the same for the value
-abbrev pub value_of : ℕ → List ℕ
-value_of j = codes "v" ++ decimal j
+abbrev pub value_text : ℕ → List ℕ
+value_text j = codes "v" ++ decimal j
 
 -- worker w's group
-abbrev pub group_of : ℕ → ℕ
-group_of w = w + 1
+abbrev pub worker_group : ℕ → ℕ
+worker_group w = w + 1
 
 -- the path of worker w's group
-abbrev pub path_of : ℕ → List ℕ
-path_of w = codes "/g" ++ decimal w
+abbrev pub worker_path : ℕ → List ℕ
+worker_path w = codes "/g" ++ decimal w
 
 -- Of each eight commands five put, one gets what the one before put, one shrinks the worker's
 -- group, and one balances.
 abbrev pub usual_command : ℕ → ℕ → ℕ → Command
 usual_command w j r =
-    if nat_lt (j % 8) 5 then Put (group_of w) (node_by r) (cache_by r) (key_of j) (value_of j) else
-    (if j % 8 == 5 then Get (group_of w) (node_by r) (cache_by r) (key_of (j - 1)) else
-    (if j % 8 == 6 then Shrink (group_of w) (node_by r) (priority_by r) false else
+    if nat_lt (j % 8) 5 then Put (worker_group w) (node_by r) (cache_by r) (key_text j) (value_text j) else
+    (if j % 8 == 5 then Get (worker_group w) (node_by r) (cache_by r) (key_text (j - 1)) else
+    (if j % 8 == 6 then Shrink (worker_group w) (node_by r) (priority_by r) false else
     Balance (node_by r) (priority_by r) false))
 
 -- a worker of an odd number takes its group offline by its last command
@@ -63,16 +63,16 @@ abbrev pub is_offline : ℕ → ℕ → ℕ → Bool
 is_offline w commands j = (w % 2 == 1) && (j + 1 == commands)
 
 -- worker w's command with number j, by the number drawn for it
-abbrev pub command_at : ℕ → ℕ → ℕ → ℕ → Command
-command_at w commands j r = if is_offline w commands j then Offline (group_of w) else usual_command w j r
+abbrev pub generated_command : ℕ → ℕ → ℕ → ℕ → Command
+generated_command w commands j r = if is_offline w commands j then Offline (worker_group w) else usual_command w j r
 
 -- the commands of worker w, before which x was drawn last; a number is drawn before each of them
 abbrev pub commands_from : ℕ → ℕ → ℕ → List Command
-commands_from x w commands = map (λ j. command_at w commands j (chosen_by (drawn_after x (j + 1)))) (range_with_len 0 commands)
+commands_from x w commands = map (λ j. generated_command w commands j (chosen_by (drawn_after x (j + 1)))) (range_with_len 0 commands)
 
 -- the group of worker w: below the root, without a limit
 abbrev pub group_at : ℕ → GroupDecl
-group_at w = record { path = path_of w; parent = 0; limit = None; later = false }
+group_at w = record { path = worker_path w; parent = 0; limit = None; later = false }
 
 -- a plain cache, a clock, and a plain one that a filesystem keeps and that is scanned by sixteens
 abbrev pub three_caches : List CacheDecl
@@ -96,7 +96,7 @@ generated seed workers commands = record {
 
 -- the numbers that a script may be made by: 1 to 63 workers with at least one command each, and
 -- 20,000 in all
-pub record MayBeMade (workers commands : ℕ) : Type 0 where
+pub record MayBeGenerated (workers commands : ℕ) : Type 0 where
   pub some_workers : 1 ≤ workers
   pub most_workers : workers ≤ 63
   pub some_commands : 1 ≤ commands

@@ -3,7 +3,7 @@
 ghost use Rattle.std.specs.Prelude.{◌≡◌, true, ◌*◌, ◌+◌, ◌<◌, ◌≤◌, ◌++◌, map, decimal, IfOk};
 ghost use Rattle.std.specs.List.{range_with_len};
 ghost use Rattle.shr_script.specs.Content.{content_of, IsValid};
-ghost use Rattle.shr_gen.specs.Generated.{MayBeMade, generated, drawn_after, usual_command, command_at, commands_from, group_at, three_caches};
+ghost use Rattle.shr_gen.specs.Generated.{MayBeGenerated, generated, drawn_after, usual_command, generated_command, commands_from, group_at, three_caches};
 
 use crate::drawing::Draws;
 use shr_base::log::Log;
@@ -128,7 +128,7 @@ fn command_at(
 ) -> Result<Command, Memory>
     requires worker { worker < 63 }
     requires number { number < commands }
-    ensures { IfOk result (λ c. c ≡ command_at worker commands number drawn) }
+    ensures { IfOk result (λ c. c ≡ generated_command worker commands number drawn) }
 {
     if worker % 2 == 1 && number + 1 == commands {
         Ok(Command::Offline { group: worker + 1 })
@@ -179,7 +179,7 @@ fn workers_of(
 /// who have so many commands each. It is the same for the same three numbers, and valid. `Memory`
 /// comes for want of memory. Our own.
 pub fn generate(alloc: Global, seed: u64, workers: u16, commands: u32) -> Result<Script, Memory>
-    requires { MayBeMade workers commands }
+    requires { MayBeGenerated workers commands }
     ensures script { IfOk result (λ s. content_of s ≡ generated seed workers commands) }
     ensures valid { IfOk result (λ s. IsValid (content_of s)) }
 {

@@ -1,10 +1,7 @@
 -- What a write to one node of a chain does.
-use Rattle.shr_list.proofs.Common.{◌≡◌, ◌≢◌, ℕ, Option, Some, None, is_some, refl, sym, ap, ◌∙◌, arith, inl, inr, option_map, cases_eq, Slab, get, slab_len, Object, Node, Chain, next_in, next_of, prev_of, KeepsLinks, KeepsOthers, KeepsObjects, SetsObject}
-use Rattle.std.proofs.Common.{cond}
+use Rattle.shr_list.proofs.Common.{◌≡◌, ◌≢◌, ℕ, Option, Some, None, is_some, refl, sym, ap, ◌∙◌, arith, inl, inr, option_map, cases_eq, Slab, get, slab_len, Object, Node, Chain, next_in, stop_after, prev_of, KeepsLinks, KeepsOtherObjects, KeepsObjects, SetsObject, cond, with_value, Updates, prev_in, SetsNext, SetsPrev}
 use Rattle.std.proofs.lemmas.List.Sums.{sum_by-set}
-use Rattle.slab.specs.Slab.{with_value, Updates}
 use Rattle.slab.proofs.SlabLemmas.{Updates-with_value, ContainsKey-within}
-use Rattle.shr_list.specs.Links.{prev_in, SetsNext, SetsPrev}
 
 -- a write to a node that is there leaves the number of nodes
 len_written : (s : Slab Node) (k : ℕ) (n m : Node) → get s k ≡ Some n → slab_len (with_value s k m) ≡ slab_len s
@@ -24,7 +21,7 @@ module _ (c : Chain) (k : ℕ) (n m : Node) (here : get c.nodes k ≡ Some n) wh
   elsewhere : (j : ℕ) → j ≢ k → get (with_value c.nodes k m) j ≡ get c.nodes j
   elsewhere j ne = updates.others j ne
 
-  next_else : (a : Option ℕ) → a ≢ Some k → next_of (written c k m) a ≡ next_of c a
+  next_else : (a : Option ℕ) → a ≢ Some k → stop_after (written c k m) a ≡ stop_after c a
   next_else None ne = refl
   next_else (Some j) ne = ap next_in (elsewhere j (λ e. ne (ap Some e)))
 
@@ -32,7 +29,7 @@ module _ (c : Chain) (k : ℕ) (n m : Node) (here : get c.nodes k ≡ Some n) wh
   prev_else None ne = refl
   prev_else (Some j) ne = ap prev_in (elsewhere j (λ e. ne (ap Some e)))
 
-  next_same : m.next ≡ n.next → (a : Option ℕ) → next_of (written c k m) a ≡ next_of c a
+  next_same : m.next ≡ n.next → (a : Option ℕ) → stop_after (written c k m) a ≡ stop_after c a
   next_same same None = refl
   next_same same (Some j) = elim (cases_eq j k) [
     | inl e ↦ rw e (ap next_in updates.changed ∙ same ∙ sym (ap next_in here))
@@ -84,7 +81,7 @@ pub keeps_links : (old new : Chain) (k : ℕ) (slot : Option Node) → new.head 
     → KeepsLinks old new (Some k) (Some k)
 keeps_links old new k slot head tail updates = record { next = next_kept; prev = prev_kept }
   where
-    next_kept : (a : Option ℕ) → a ≢ Some k → next_of new a ≡ next_of old a
+    next_kept : (a : Option ℕ) → a ≢ Some k → stop_after new a ≡ stop_after old a
     next_kept None ne = head
     next_kept (Some j) ne = ap next_in (updates.others j (λ e. ne (ap Some e)))
 
@@ -93,5 +90,5 @@ keeps_links old new k slot head tail updates = record { next = next_kept; prev =
     prev_kept (Some j) ne = ap prev_in (updates.others j (λ e. ne (ap Some e)))
 
 -- and the object of that key alone
-pub keeps_others : (old new : Chain) (k : ℕ) (slot : Option Node) → Updates old.nodes new.nodes k slot → KeepsOthers old new k
+pub keeps_others : (old new : Chain) (k : ℕ) (slot : Option Node) → Updates old.nodes new.nodes k slot → KeepsOtherObjects old new k
 keeps_others old new k slot updates = λ j ne. ap (option_map (λ (x : Node). x.object)) (updates.others j ne)

@@ -1,8 +1,5 @@
 -- A loop that counts what a scan would free: it goes over the objects as they stand.
-use Rattle.shr_list.proofs.Common.{◌≡◌, ℕ, zero, suc, ◌+◌, ◌-◌, ◌<◌, List, [], ◌∷◌, ◌++◌, length, drop, refl, sym, ap, ◌∙◌, arith, append_assoc, length-append, get_or, min, append-nil, drop_all, AllByRecursion, Object, Policy, unmarked_object, Removed, Rotate, Skip, Stop, Scanned, case_of, scan_from, scan_spent, scan_none, scan_removed, scan_skipped, scan_rotated, scan_rotated_last, scan_stopped}
-use Rattle.std.proofs.Common.{add-one, drop-cons}
-use Rattle.std.proofs.lemmas.List.{nil_from_length}
-use Rattle.shr_model.proofs.ScanLaws.{freed_alike, freed_each, rotated_then_removed}
+use Rattle.shr_list.proofs.Common.{◌≡◌, ℕ, zero, suc, ◌+◌, ◌-◌, ◌<◌, List, [], ◌∷◌, ◌++◌, length, drop, refl, sym, ap, ◌∙◌, arith, append_assoc, length-append, get_or, min, append-nil, drop_all, AllByRecursion, Object, Policy, unmarked_object, Removed, Rotate, Skip, Stop, Scanned, case_of, scan_from, scan_spent, scan_none, scan_removed, scan_skipped, scan_rotated, scan_rotated_last, scan_stopped, add-one, drop-cons, nil_from_length, freed_alike, freed_each, rotated_then_removed}
 
 -- how many a scan frees of these
 abbrev pub freed_count : Policy → ℕ → List Object → ℕ

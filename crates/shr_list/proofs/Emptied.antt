@@ -1,5 +1,5 @@
 -- A chain whose nodes are taken away from the head on, while their links stay.
-use Rattle.shr_list.proofs.Common.{◌≡◌, ◌≢◌, ℕ, List, [], ◌∷◌, ◌++◌, Option, Some, None, refl, ap, subst, ◌∙◌, option_map, AllByRecursion, Slab, get, slab_len, Object, Node, Chain, IsOff, Keyed, next_in, next_of, IsPath, stops_of, IsLinked}
+use Rattle.shr_list.proofs.Common.{◌≡◌, ◌≢◌, ℕ, List, [], ◌∷◌, ◌++◌, Option, Some, None, refl, ap, subst, ◌∙◌, option_map, AllByRecursion, Slab, get, slab_len, Object, Node, Chain, IsOff, Keyed, next_in, stop_after, IsPath, stops_of, IsLinked}
 use Rattle.shr_list.proofs.Linked.{Names}
 
 -- from this stop on these nodes follow each other
@@ -12,7 +12,7 @@ stored_node o None is = absurd (cc)
 stored_node o (Some node) is = (node, refl, cc)
 
 -- a path leads along its nodes
-pub leads_path : (c : Chain) (a : Option ℕ) (nodes : List Keyed) → IsPath c a (stops_of nodes ++ None ∷ []) → AllByRecursion (Names c) nodes → Leads c.nodes (next_of c a) nodes
+pub leads_path : (c : Chain) (a : Option ℕ) (nodes : List Keyed) → IsPath c a (stops_of nodes ++ None ∷ []) → AllByRecursion (Names c) nodes → Leads c.nodes (stop_after c a) nodes
 leads_path c a [] path stored = path.0.0
 leads_path c a (n ∷ ns) path stored =
     let here = stored_node n.1 (get c.nodes n.0) stored.0 in

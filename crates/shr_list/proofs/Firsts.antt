@@ -1,7 +1,5 @@
 -- What a search by index says.
-use Rattle.shr_list.proofs.Common.{◌≡◌, ℕ, Bool, true, List, [], ◌∷◌, Option, Some, None, sym, ap, ◌∙◌, is_some, get_or, list_any, find, Object, is_some_find}
-use Rattle.std.specs.List.{position}
-use Rattle.shr_model.proofs.ObjectLaws.{find_at, IsFirstAt_of_position, none_of_position}
+use Rattle.shr_list.proofs.Common.{◌≡◌, ℕ, Bool, true, List, [], ◌∷◌, Option, Some, None, sym, ap, ◌∙◌, is_some, get_or, list_any, find, Object, is_some_find, position, find_at, IsFirstAt_of_position, none_of_position}
 
 -- an item passes where an index was found
 pub held_at : (test : Object → Bool) (items : List Object) (i : ℕ) → Some i ≡ position test items → list_any test items ≡ true

@@ -1,9 +1,6 @@
 -- What an index finds, over changes of its prints and of its clashes.
-use Rattle.shr_list.proofs.Common.{◌≡◌, ◌≢◌, ℕ, Bool, true, false, ◌&&◌, ◌==◌, [], Option, Some, None, refl, sym, ap, subst, ◌∙◌, inl, inr, eqb-true, cases_Bool, cases_eq, IsSome, bytes_eq, option_map, if◌then◌else◌, Result, Ok, Err, OnErr, bytes_decides, nat_cmp, UpdatesBy, exact_unsigned, Names, found_clash, AddsClash, IsSameClashes, Name, is_same, print_of, entry_at, Puts, Keeps, GainsName, Turns, and_true}
-use Rattle.std.proofs.lemmas.Bool.{eq-eqb}
+use Rattle.shr_list.proofs.Common.{◌≡◌, ◌≢◌, ℕ, Bool, true, false, ◌&&◌, ◌==◌, [], Option, Some, None, refl, sym, ap, subst, ◌∙◌, inl, inr, eqb-true, cases_Bool, cases_eq, IsSome, bytes_eq, option_map, if◌then◌else◌, Result, Ok, Err, OnErr, bytes_decides, nat_cmp, UpdatesBy, exact_unsigned, Names, found_clash, AddsClash, IsSameClashes, Name, is_same, print_of, entry_at, PutsNode, KeepsFound, GainsName, TurnsName, and_true, eq-eqb, PutsClash, owned, Owns, NodesByName, FitsFound}
 use Rattle.shr_list.proofs.Indexes.{not_equal}
-use Rattle.shr_list.specs.Clashes.{PutsClash}
-use Rattle.shr_list.specs.Names.{owned, Owns, Found, Fits}
 
 pub same_is : (one other : Name) → is_same one other ≡ true → one ≡ other
 same_is one other same =
@@ -22,11 +19,11 @@ owned_else (Some n) name entry clash apart = elim (cases_Bool (is_same n name)) 
 ]
 
 -- an index finds what another function says too
-pub fits_alike : (names : Names) (found after : Found) → ((name : Name) → after name ≡ found name) → Fits names found → Fits names after
+pub fits_alike : (names : Names) (found after : NodesByName) → ((name : Name) → after name ≡ found name) → FitsFound names found → FitsFound names after
 fits_alike names found after same fits = record { owner = fits.owner; vacant = fits.vacant; taken = fits.taken; finds = λ name. same name ∙ fits.finds name }
 
 -- and so does one with the same entries and clashes
-pub fits_kept : (old new : Names) → ((print : ℕ) → entry_at new print ≡ entry_at old print) → IsSameClashes old.clashes new.clashes → Keeps old new
+pub fits_kept : (old new : Names) → ((print : ℕ) → entry_at new print ≡ entry_at old print) → IsSameClashes old.clashes new.clashes → KeepsFound old new
 fits_kept old new entries clashes found fits =
     record {
       owner = fits.owner;
@@ -37,7 +34,7 @@ fits_kept old new entries clashes found fits =
       finds = λ name. rw (entries (print_of name.0 name.1), clashes name) (fits.finds name);
     }
 
-module _ (names : Names) (found : Found) (fits : Fits names found) where
+module _ (names : Names) (found : NodesByName) (fits : FitsFound names found) where
   -- a print without an entry has no owner
   pub vacant_owner : (print : ℕ) → entry_at names print ≡ None → fits.owner print ≡ None
   vacant_owner print none = go (fits.owner print) refl
@@ -86,8 +83,8 @@ module _ (names : Names) (found : Found) (fits : Fits names found) where
   ]
 
 -- a change among the clashes, of a name that owns no print
-pub fits_clash : (old new : Names) (name : Name) (place : Option ℕ) (found after : Found) (fits : Fits old found) → ((print : ℕ) (n : Name) → fits.owner print ≡ Some n → n ≢ name)
-    → ((print : ℕ) → entry_at new print ≡ entry_at old print) → PutsClash old.clashes new.clashes name place → Puts found after name place → Fits new after
+pub fits_clash : (old new : Names) (name : Name) (place : Option ℕ) (found after : NodesByName) (fits : FitsFound old found) → ((print : ℕ) (n : Name) → fits.owner print ≡ Some n → n ≢ name)
+    → ((print : ℕ) → entry_at new print ≡ entry_at old print) → PutsClash old.clashes new.clashes name place → PutsNode found after name place → FitsFound new after
 fits_clash old new name place found after fits apart entries clashes puts =
     record {
       owner = fits.owner;
@@ -111,9 +108,9 @@ fits_clash old new name place found after fits apart entries clashes puts =
     ]
 
 -- a change of the entry of a print that has no other owner
-pub fits_entry : (old new : Names) (name : Name) (place : Option ℕ) (found after : Found) (fits : Fits old found) → found_clash old.clashes name ≡ None
+pub fits_entry : (old new : Names) (name : Name) (place : Option ℕ) (found after : NodesByName) (fits : FitsFound old found) → found_clash old.clashes name ≡ None
     → ((n : Name) → fits.owner (print_of name.0 name.1) ≡ Some n → n ≡ name) → entry_at new (print_of name.0 name.1) ≡ place
-    → ((print : ℕ) → print ≢ print_of name.0 name.1 → entry_at new print ≡ entry_at old print) → IsSameClashes old.clashes new.clashes → Puts found after name place → Fits new after
+    → ((print : ℕ) → print ≢ print_of name.0 name.1 → entry_at new print ≡ entry_at old print) → IsSameClashes old.clashes new.clashes → PutsNode found after name place → FitsFound new after
 fits_entry old new name place found after fits alone only entry entries clashes puts =
     record { owner = owner; vacant = vacant; taken = taken; finds = finds }
   where
@@ -219,19 +216,19 @@ gains_told old new name node false entries adds found after fits none puts =
 
 -- a name that clashes has another node, or none
 pub turns_clash : (old new : Names) (name : Name) (place : Option ℕ) → IsSome (found_clash old.clashes name) → ((print : ℕ) → entry_at new print ≡ entry_at old print)
-    → PutsClash old.clashes new.clashes name place → Turns old new name place
+    → PutsClash old.clashes new.clashes name place → TurnsName old new name place
 turns_clash old new name place some entries clashes found after fits there puts =
     fits_clash old new name place found after fits (clash_apart old found fits name some) entries clashes puts
 
 -- and so has one that doesn't
 pub turns_entry : (old new : Names) (name : Name) (place : Option ℕ) → found_clash old.clashes name ≡ None → SetsEntry old new (print_of name.0 name.1) place
-    → IsSameClashes old.clashes new.clashes → Turns old new name place
+    → IsSameClashes old.clashes new.clashes → TurnsName old new name place
 turns_entry old new name place alone sets clashes found after fits there puts =
     fits_entry old new name place found after fits alone (owner_is old found fits name there alone) sets.1
     (entries_apart old new (print_of name.0 name.1) place sets) clashes puts
 
 -- an index without entries finds nothing
-pub fits_none : (names : Names) → names.prints.entries ≡ [] → ((name : Name) → found_clash names.clashes name ≡ None) → Fits names (λ (name : Name). None)
+pub fits_none : (names : Names) → names.prints.entries ≡ [] → ((name : Name) → found_clash names.clashes name ≡ None) → FitsFound names (λ (name : Name). None)
 fits_none names none clashes =
     record {
       owner = λ (print : ℕ). None;

@@ -1,8 +1,5 @@
 -- Look-ups by birth group and key, and the index over the changes of a list.
-use Rattle.shr_list.proofs.Common.{◌≡◌, ◌≢◌, ℕ, Bool, true, false, ◌&&◌, ◌==◌, List, [], ◌∷◌, ◌++◌, Option, Some, None, refl, sym, ap, subst, ◌∙◌, inl, inr, map-append, eqb-true, cases_Bool, IsSome, is_some, bytes_eq, if◌then◌else◌, bytes_decides, find, list_any, Object, is_named, Names, Keyed, objects_of, key_named, IsOff, IsApart, Name, name_by, name_in, names_of, is_same, in_nodes, Puts, Keeps, GainsName, Turns, IsIndexed, AreNew, AreStrangers, and_true, each_weaker}
-use Rattle.std.proofs.lemmas.Bool.{or_parts}
-use Rattle.shr_model.specs.Objects.{change_first, without_first}
-use Rattle.shr_list.specs.Names.{KnowsNames}
+use Rattle.shr_list.proofs.Common.{◌≡◌, ◌≢◌, ℕ, Bool, true, false, ◌&&◌, ◌==◌, List, [], ◌∷◌, ◌++◌, Option, Some, None, refl, sym, ap, subst, ◌∙◌, inl, inr, map-append, eqb-true, cases_Bool, IsSome, is_some, bytes_eq, if◌then◌else◌, bytes_decides, find, list_any, Object, is_named, Names, Keyed, objects_of, key_named, IsOff, IsApart, Name, name_by, name_in, names_of, is_same, in_nodes, PutsNode, KeepsFound, GainsName, TurnsName, IsIndexed, AreNewNames, AreStrangers, and_true, each_weaker, or_parts, change_first, without_first, KnowsNames}
 use Rattle.shr_list.proofs.Paths.{all_append, AreOff, apart_left, apart_right, apart_across, apart_append, off_each}
 use Rattle.shr_list.proofs.Fitting.{fits_alike}
 use Rattle.shr_model.proofs.Booleans.{itself}
@@ -118,7 +115,7 @@ unnamed o other ne = elim (cases_Bool (is_named other.0 other.1 o)) [
 -- ---- what is found over changes of the nodes
 
 -- a node of a new name at the tail
-pub puts_last : (xs : List Keyed) (k : ℕ) (o : Object) → IsOff (name_by o) (names_of xs) → Puts (in_nodes xs) (in_nodes (xs ++ (k, o) ∷ [])) (name_by o) (Some k)
+pub puts_last : (xs : List Keyed) (k : ℕ) (o : Object) → IsOff (name_by o) (names_of xs) → PutsNode (in_nodes xs) (in_nodes (xs ++ (k, o) ∷ [])) (name_by o) (Some k)
 puts_last xs k o off = record { here = here xs off; others = others xs }
   where
     here : (ns : List Keyed) → IsOff (name_by o) (names_of ns) → in_nodes (ns ++ (k, o) ∷ []) (name_by o) ≡ Some k
@@ -130,7 +127,7 @@ puts_last xs k o off = record { here = here xs off; others = others xs }
     others (n ∷ ns) other ne = ap (λ (rest : Option ℕ). if is_named other.0 other.1 n.1 then Some n.0 else rest) (others ns other ne)
 
 -- a node that is gone
-pub puts_gone : (xs ys : List Keyed) (k : ℕ) (o : Object) → IsOff (name_by o) (names_of (xs ++ ys)) → Puts (in_nodes (xs ++ (k, o) ∷ ys)) (in_nodes (xs ++ ys)) (name_by o) None
+pub puts_gone : (xs ys : List Keyed) (k : ℕ) (o : Object) → IsOff (name_by o) (names_of (xs ++ ys)) → PutsNode (in_nodes (xs ++ (k, o) ∷ ys)) (in_nodes (xs ++ ys)) (name_by o) None
 puts_gone xs ys k o off = record { here = none_off (xs ++ ys) (name_by o) off; others = others xs }
   where
     others : (ns : List Keyed) (other : Name) → other ≢ name_by o → in_nodes (ns ++ ys) other ≡ in_nodes (ns ++ (k, o) ∷ ys) other
@@ -139,7 +136,7 @@ puts_gone xs ys k o off = record { here = none_off (xs ++ ys) (name_by o) off; o
 
 -- another key for an object of the same name
 pub puts_turned : (xs ys : List Keyed) (k m : ℕ) (o p : Object) → name_by p ≡ name_by o → IsOff (name_by o) (names_of xs)
-    → Puts (in_nodes (xs ++ (k, o) ∷ ys)) (in_nodes (xs ++ (m, p) ∷ ys)) (name_by o) (Some m)
+    → PutsNode (in_nodes (xs ++ (k, o) ∷ ys)) (in_nodes (xs ++ (m, p) ∷ ys)) (name_by o) (Some m)
 puts_turned xs ys k m o p same off = record { here = here xs off; others = others xs }
   where
     here : (ns : List Keyed) → IsOff (name_by o) (names_of ns) → in_nodes (ns ++ (m, p) ∷ ys) (name_by o) ≡ Some m
@@ -215,7 +212,7 @@ indexed_swapped names xs ys indexed =
     }
 
 -- an index that keeps what it found
-pub indexed_kept : (old new : Names) (nodes : List Keyed) → Keeps old new → IsIndexed old nodes → IsIndexed new nodes
+pub indexed_kept : (old new : Names) (nodes : List Keyed) → KeepsFound old new → IsIndexed old nodes → IsIndexed new nodes
 indexed_kept old new nodes keeps indexed = record { unique = indexed.unique; fits = keeps (in_nodes nodes) indexed.fits }
 
 -- the name is apart from those before it
@@ -275,7 +272,7 @@ module _ (names : Names) (xs ys : List Keyed) (k : ℕ) (o : Object) (indexed : 
   there = rw (puts_turned xs ys k k o o refl (off_before xs ys k o indexed.unique)).here refl
 
   -- the node and its name are gone
-  pub indexed_removed : (new : Names) → Turns names new (name_by o) None → IsIndexed new (xs ++ ys)
+  pub indexed_removed : (new : Names) → TurnsName names new (name_by o) None → IsIndexed new (xs ++ ys)
   indexed_removed new turns =
       record {
         unique = unique_both xs ys k o indexed.unique;
@@ -283,7 +280,7 @@ module _ (names : Names) (xs ys : List Keyed) (k : ℕ) (o : Object) (indexed : 
       }
 
   -- an object of the same name has another node
-  pub indexed_turned : (new : Names) (m : ℕ) (p : Object) → name_by p ≡ name_by o → Turns names new (name_by o) (Some m) → IsIndexed new (xs ++ (m, p) ∷ ys)
+  pub indexed_turned : (new : Names) (m : ℕ) (p : Object) → name_by p ≡ name_by o → TurnsName names new (name_by o) (Some m) → IsIndexed new (xs ++ (m, p) ∷ ys)
   indexed_turned new m p same turns =
       record {
         unique = unique_changed xs ys k o indexed.unique m p same;
@@ -347,7 +344,7 @@ module _ (names : Names) (nodes xs ys : List Keyed) (k : ℕ) (o : Object) (inde
       }
 
   -- the node and its name are gone
-  pub knows_removed : (after : Names) (new : List Keyed) → (indexed ≡ true → Turns names after (name_by o) None) → new ≡ xs ++ ys → KnowsNames after new indexed apart
+  pub knows_removed : (after : Names) (new : List Keyed) → (indexed ≡ true → TurnsName names after (name_by o) None) → new ≡ xs ++ ys → KnowsNames after new indexed apart
   knows_removed after new turns now =
       record {
         index = λ on. subst (IsIndexed after) (sym now) (indexed_removed names xs ys k o (index_here on) after (turns on));
@@ -355,7 +352,7 @@ module _ (names : Names) (nodes xs ys : List Keyed) (k : ℕ) (o : Object) (inde
       }
 
 -- an index that keeps what it found
-pub knows_kept : (old new : Names) (nodes : List Keyed) (indexed apart : Bool) → Keeps old new → KnowsNames old nodes indexed apart → KnowsNames new nodes indexed apart
+pub knows_kept : (old new : Names) (nodes : List Keyed) (indexed apart : Bool) → KeepsFound old new → KnowsNames old nodes indexed apart → KnowsNames new nodes indexed apart
 knows_kept old new nodes indexed apart keeps knows = record { index = λ on. indexed_kept old new nodes keeps (knows.index on); unique = knows.unique }
 
 -- a node of a new name stands at the tail
@@ -375,7 +372,7 @@ names_alike (x ∷ xs) (y ∷ ys) same =
 
 -- nodes of two lists, no two of which have one name
 module _ (nodes kids : List Keyed) (strangers : AreStrangers nodes kids) where
-  across : (ms : List Keyed) → AreNew nodes ms → AreOff (names_of ms) (names_of nodes)
+  across : (ms : List Keyed) → AreNewNames nodes ms → AreOff (names_of ms) (names_of nodes)
   across [] fresh = tt
   across (m ∷ ms) fresh = (off_none nodes (name_in m) fresh.0, across ms fresh.1)
 

@@ -6,10 +6,10 @@ use Rattle.shr_model.specs.Items.{step, IsOutcome, is_closing, is_closed}
 use Rattle.shr_model.proofs.ItemsLaws.{HasJournal_push}
 use Rattle.shr_model.proofs.ListLaws.{is_closed_push, is_moved_in, step_alike, IsOutcome_alike, HasJournal_moved}
 use Rattle.shr_list.specs.Listed.{Listed, IsKept}
-use Rattle.shr_list.specs.Answers.{Gains, HasRoom}
+use Rattle.shr_list.specs.Answers.{ListGains, HasRoom}
 
 -- an entry that neither closes the list nor moves objects in
-pub kept_taken : (closed now : Bool) (old new : Listed) (e : Entry) → IsKept closed old → now ≡ closed → is_closed old.entries ≡ false → HasRoom old [] e → Gains old new [] e
+pub kept_taken : (closed now : Bool) (old new : Listed) (e : Entry) → IsKept closed old → now ≡ closed → is_closed old.entries ≡ false → HasRoom old [] e → ListGains old new [] e
     → is_closing e ≡ false → is_moved_in e ≡ false → IsKept now new
 kept_taken closed now old new e kept same was_open room gains opens moves =
     let more : length new.entries ≡ length old.entries + 1 = ap length gains.entries ∙ length-append old.entries (e ∷ []) in
@@ -30,7 +30,7 @@ kept_taken closed now old new e kept same was_open room gains opens moves =
 
 -- the list of a parent into which these objects are moved
 pub kept_moved : (closed now : Bool) (old new : Listed) (given : List Object) (child : ℕ) → IsKept closed old → now ≡ closed → is_closed old.entries ≡ false
-    → HasRoom old given (MovedIn child (length given)) → Gains old new given (MovedIn child (length given)) → IsKept now new
+    → HasRoom old given (MovedIn child (length given)) → ListGains old new given (MovedIn child (length given)) → IsKept now new
 kept_moved closed now old new given child kept same was_open room gains =
     let more : length new.entries ≡ length old.entries + 1 = ap length gains.entries ∙ length-append old.entries (MovedIn child (length given) ∷ []) in
     let fits : length new.items ≤ old.most_items = rw gains.items room.items in
@@ -47,7 +47,7 @@ kept_moved closed now old new given child kept same was_open room gains =
     }
 
 -- the list that is closed
-pub kept_closed : (closed now : Bool) (old new : Listed) → IsKept closed old → now ≡ true → is_closed old.entries ≡ false → Gains old new [] Closed → IsKept now new
+pub kept_closed : (closed now : Bool) (old new : Listed) → IsKept closed old → now ≡ true → is_closed old.entries ≡ false → ListGains old new [] Closed → IsKept now new
 kept_closed closed now old new kept same was_open gains =
     let more : length new.entries ≡ length old.entries + 1 = ap length gains.entries ∙ length-append old.entries (Closed ∷ []) in
     let none : length new.items ≡ 0 = ap length gains.items in

@@ -1,6 +1,5 @@
 -- What the operations on a chain leave linked, and that its nodes in link order are those.
-use Rattle.shr_list.proofs.Common.{◌≡◌, ◌≢◌, ℕ, ◌+◌, List, [], ◌∷◌, ◌++◌, length, Option, Some, None, refl, sym, ap, subst, ◌∙◌, arith, append_assoc, length-append, map-append, option_map, AllByRecursion, Slab, get, slab_len, Object, Node, Chain, IsOff, IsApart, Keyed, first_key, last_key, next_in, next_of, prev_of, IsPath, stops_of, IsLinked, nodes_from, nodes_of, KeepsOthers, KeepsObjects, Joins, SetsObject, each_weaker}
-use Rattle.shr_list.specs.Links.{object_at, IsStored, IsStop, Inserts, Removes}
+use Rattle.shr_list.proofs.Common.{◌≡◌, ◌≢◌, ℕ, ◌+◌, List, [], ◌∷◌, ◌++◌, length, Option, Some, None, refl, sym, ap, subst, ◌∙◌, arith, append_assoc, length-append, map-append, option_map, AllByRecursion, Slab, get, slab_len, Object, Node, Chain, IsOff, IsApart, Keyed, first_key, last_key, next_in, stop_after, prev_of, IsPath, stops_of, IsLinked, nodes_from, nodes_of, KeepsOtherObjects, KeepsObjects, Joins, SetsObject, each_weaker, object_at, IsStored, IsStop, Inserts, Removes}
 use Rattle.shr_list.proofs.Paths.{all_append, all_left, all_right, AreOff, apart_left, apart_right, apart_across, apart_append, off_each, path_cut, before_last, IsRing, ring_kept, ring_back, ring_front, ring_without}
 
 -- the key names the object
@@ -20,7 +19,7 @@ walked_one s m k o (Some node) is = cc
 
 -- a walk along a path of nodes gives these nodes
 walked : (c : Chain) (a : Option ℕ) (nodes : List Keyed) → IsPath c a (stops_of nodes ++ None ∷ []) → AllByRecursion (Names c) nodes
-    → nodes_from c.nodes (length nodes) (next_of c a) ≡ nodes
+    → nodes_from c.nodes (length nodes) (stop_after c a) ≡ nodes
 walked c a [] path stored = refl
 walked c a (n ∷ ns) path stored =
     rw path.0.0 (walked_one c.nodes (length ns) n.0 n.1 (get c.nodes n.0) stored.0 ∙ ap (λ (ms : List Keyed). n ∷ ms) (walked c (Some n.0) ns path.1 stored.1))
@@ -40,7 +39,7 @@ off_free c k (n ∷ ns) free stored =
     (λ e. let same : n.0 ≡ k = cc in let there = rw same at stored.0 in absurd (cc), off_free c k ns free stored.1)
 
 -- nodes under other keys stay
-stored_kept : (old new : Chain) (k : ℕ) (nodes : List Keyed) → KeepsOthers old new k → IsOff (Some k) (stops_of nodes) → AllByRecursion (Names old) nodes
+stored_kept : (old new : Chain) (k : ℕ) (nodes : List Keyed) → KeepsOtherObjects old new k → IsOff (Some k) (stops_of nodes) → AllByRecursion (Names old) nodes
     → AllByRecursion (Names new) nodes
 stored_kept old new k [] kept off stored = tt
 stored_kept old new k (n ∷ ns) kept off stored =
@@ -65,7 +64,7 @@ pub head_stored : (c : Chain) (nodes : List Keyed) → IsLinked c nodes → IsSt
 head_stored c [] linked = rw linked.ring.0.0 tt
 head_stored c (n ∷ ns) linked = rw (linked.ring.0.0, linked.stored.0) refl
 
-path_same : (c d : Chain) → ((a : Option ℕ) → next_of d a ≡ next_of c a) → ((b : Option ℕ) → prev_of d b ≡ prev_of c b) → (a : Option ℕ) (ss : List (Option ℕ))
+path_same : (c d : Chain) → ((a : Option ℕ) → stop_after d a ≡ stop_after c a) → ((b : Option ℕ) → prev_of d b ≡ prev_of c b) → (a : Option ℕ) (ss : List (Option ℕ))
     → IsPath c a ss → IsPath d a ss
 path_same c d next prev a [] path = tt
 path_same c d next prev a (s ∷ ss) path = ((next a ∙ path.0.0, prev s ∙ path.0.1), path_same c d next prev s ss path.1)
@@ -80,7 +79,7 @@ linked_resized c capacity nodes linked =
       count = linked.count;
     }
   where
-    next : (a : Option ℕ) → next_of (record c { nodes = record c.nodes { capacity = capacity } }) a ≡ next_of c a
+    next : (a : Option ℕ) → stop_after (record c { nodes = record c.nodes { capacity = capacity } }) a ≡ stop_after c a
     next None = refl
     next (Some k) = refl
 
@@ -136,10 +135,10 @@ module _ (c : Chain) (nodes xs ys : List Keyed) (k : ℕ) (o : Object) (linked :
       (apart_append (None ∷ stops_of xs) (stops_of ys) before after.1 (each_weaker (λ (s : Option ℕ). IsOff s (Some k ∷ stops_of ys)) (λ (s : Option ℕ). IsOff s (stops_of ys)) (λ s off. off.1) (None ∷ stops_of xs) across))
 
   -- its neighbours
-  pub next_is : next_of c (Some k) ≡ first_key ys
+  pub next_is : stop_after c (Some k) ≡ first_key ys
   next_is = follows ys (path_cut c None (Some k) (stops_of xs) (stops_of ys ++ None ∷ []) (rw append_assoc at ring_at)).1
     where
-      follows : (zs : List Keyed) → IsPath c (Some k) (stops_of zs ++ None ∷ []) → next_of c (Some k) ≡ first_key zs
+      follows : (zs : List Keyed) → IsPath c (Some k) (stops_of zs ++ None ∷ []) → stop_after c (Some k) ≡ first_key zs
       follows [] path = path.0.0
       follows (z ∷ zs) path = path.0.0
 
@@ -160,7 +159,7 @@ module _ (c : Chain) (nodes xs ys : List Keyed) (k : ℕ) (o : Object) (linked :
       before_last c (IsStop c) None (Some k) (stops_of xs) (path_cut c None (Some k) (stops_of xs) (stops_of ys ++ None ∷ []) (rw append_assoc at ring_at)).0 tt
       (stops_stored c xs stored_before)
 
-  pub next_stop : IsStop c (next_of c (Some k))
+  pub next_stop : IsStop c (stop_after c (Some k))
   next_stop = rw next_is (first_stop ys stored_after)
     where
       first_stop : (zs : List Keyed) → AllByRecursion (Names c) zs → IsStop c (first_key zs)
@@ -171,7 +170,7 @@ module _ (c : Chain) (nodes xs ys : List Keyed) (k : ℕ) (o : Object) (linked :
   lengths = omega (arith, ap length split, length-append xs ((k, o) ∷ ys), length-append xs ys)
 
   -- after its neighbours were joined and it was taken away
-  pub linked_removed : (mid new : Chain) (taken : Object) → Joins c mid (prev_of c (Some k)) (next_of c (Some k)) → Removes mid new k taken → IsLinked new (xs ++ ys)
+  pub linked_removed : (mid new : Chain) (taken : Object) → Joins c mid (prev_of c (Some k)) (stop_after c (Some k)) → Removes mid new k taken → IsLinked new (xs ++ ys)
   linked_removed mid new taken joins removes =
       let ring = rw (← map-append (λ (n : Keyed). Some n.0) xs ys) at (ring_without c mid (Some k) (stops_of xs) (stops_of ys) joins apart_at ring_at) in
       record {
@@ -186,14 +185,14 @@ module _ (c : Chain) (nodes xs ys : List Keyed) (k : ℕ) (o : Object) (linked :
   taken_is mid new taken keeps removes = let both = sym removes.stored ∙ keeps.objects k ∙ names_at in cc
 
   -- the tail that is left
-  pub tail_left : (one : Chain) → Joins c one (prev_of c (Some k)) (next_of c (Some k)) → IsStop one one.tail
+  pub tail_left : (one : Chain) → Joins c one (prev_of c (Some k)) (stop_after c (Some k)) → IsStop one one.tail
   tail_left one joins =
       let ring = rw (← map-append (λ (n : Keyed). Some n.0) xs ys) at (ring_without c one (Some k) (stops_of xs) (stops_of ys) joins apart_at ring_at) in
       let stored = each_weaker (Names c) (Names one) (λ n is. joins.keeps.objects n.0 ∙ is) (xs ++ ys) (all_append (Names c) xs ys stored_before stored_after) in
       before_last one (IsStop one) None None (stops_of (xs ++ ys)) ring tt (stops_stored one (xs ++ ys) stored)
 
   -- after it was joined to the tail instead
-  pub linked_rotated : (one two new : Chain) → Joins c one (prev_of c (Some k)) (next_of c (Some k)) → Joins one two (prev_of one None) (Some k) → Joins two new (Some k) None
+  pub linked_rotated : (one two new : Chain) → Joins c one (prev_of c (Some k)) (stop_after c (Some k)) → Joins one two (prev_of one None) (Some k) → Joins two new (Some k) None
       → IsLinked new ((xs ++ ys) ++ (k, o) ∷ [])
   linked_rotated one two new first second third =
       let ring = rw (← map-append (λ (n : Keyed). Some n.0) xs ys) at (ring_without c one (Some k) (stops_of xs) (stops_of ys) first apart_at ring_at) in
@@ -238,7 +237,7 @@ module _ (old inserted : Chain) (nodes : List Keyed) (k : ℕ) (o : Object) (lin
       stays j is = let ne : j ≢ k = λ e. let here = rw (e, inserts.free) at is in absurd (cc) in rw (inserts.others j ne) is
 
   module _ (mid new : Chain) (first : KeepsObjects inserted mid) (second : KeepsObjects mid new) where
-    same_else : KeepsOthers old new k
+    same_else : KeepsOtherObjects old new k
     same_else j ne = second.objects j ∙ first.objects j ∙ inserts.others j ne
 
     named_new : object_at new k ≡ Some o

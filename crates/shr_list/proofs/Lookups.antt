@@ -1,6 +1,5 @@
 -- A look-up of a name by its print, whose node says whose it is.
-use Rattle.shr_list.proofs.Common.{◌≡◌, ℕ, Bool, true, false, List, ◌∷◌, ◌++◌, Some, sym, ap, subst, ◌∙◌, Result, Ok, Err, OnErr, Object, is_named, Names, Keyed, found_clash, AddsClash, IsSameClashes, Name, name_by, print_of, entry_at, in_nodes, IsIndexed, AddsName, Keeps}
-use Rattle.std.specs.Prelude.{IfOk}
+use Rattle.shr_list.proofs.Common.{◌≡◌, ℕ, Bool, true, false, List, ◌∷◌, ◌++◌, Some, sym, ap, subst, ◌∙◌, Result, Ok, Err, OnErr, Object, is_named, Names, Keyed, found_clash, AddsClash, IsSameClashes, Name, name_by, print_of, entry_at, in_nodes, IsIndexed, AddsName, KeepsFound, IfOk}
 use Rattle.shr_base.specs.declared.memory.Memory.{Memory}
 use Rattle.shr_list.proofs.Fitting.{entry_owner, owned_else, fits_kept, gains_clash}
 use Rattle.shr_list.proofs.Indexed.{found_at, named_is, named_itself}
@@ -44,6 +43,6 @@ module _ (old new : Names) (entries : (print : ℕ) → entry_at new print ≡ e
   told_clash nodes name node (Ok false) asked adds = (rw asked adds.0, fits_kept old new entries adds.1)
   told_clash nodes name node (Err e) asked adds = tt
 
-  pub kept_clash : (r : Result Bool Memory) → OnErr r (IsSameClashes old.clashes new.clashes) → OnErr r (Keeps old new)
+  pub kept_clash : (r : Result Bool Memory) → OnErr r (IsSameClashes old.clashes new.clashes) → OnErr r (KeepsFound old new)
   kept_clash (Ok added) same = tt
   kept_clash (Err e) same = fits_kept old new entries same

@@ -1,6 +1,5 @@
 -- Paths of stops that name each other, over changes of a chain.
-use Rattle.shr_list.proofs.Common.{◌≢◌, ℕ, List, [], ◌∷◌, ◌++◌, Option, None, sym, subst, ◌∙◌, append_assoc, append-nil, AllByRecursion, Chain, IsOff, IsApart, next_of, prev_of, IsPath, KeepsLinks, Joins, each_weaker}
-use Rattle.shr_list.specs.Links.{IsJoined}
+use Rattle.shr_list.proofs.Common.{◌≢◌, ℕ, List, [], ◌∷◌, ◌++◌, Option, None, sym, subst, ◌∙◌, append_assoc, append-nil, AllByRecursion, Chain, IsOff, IsApart, stop_after, prev_of, IsPath, KeepsLinks, Joins, each_weaker, IsJoined}
 
 module _ {X : Type 0} (P : X → Type 0) where
   pub all_append : (xs ys : List X) → AllByRecursion P xs → AllByRecursion P ys → AllByRecursion P (xs ++ ys)
@@ -96,7 +95,7 @@ ring_back old mid new s xs first second some off apart ring =
     rw append_assoc (path_glue new None s xs (None ∷ []) kept (second.joined, tt))
 
 -- two joins put a stop before the head
-pub ring_front : (old mid new : Chain) (s : Option ℕ) (xs : List (Option ℕ)) → Joins old mid s (next_of old None) → Joins mid new None s → s ≢ None
+pub ring_front : (old mid new : Chain) (s : Option ℕ) (xs : List (Option ℕ)) → Joins old mid s (stop_after old None) → Joins mid new None s → s ≢ None
     → IsOff s xs → IsApart (None ∷ xs) → IsRing old xs → IsRing new (s ∷ xs)
 ring_front old mid new s [] first second some off apart ring =
     let to = subst (λ (n : Option ℕ). IsJoined mid s n) ring.0.0 first.joined in
@@ -110,7 +109,7 @@ ring_front old mid new s (x ∷ xs) first second some off apart ring =
     )
 
 -- a join of its neighbours takes a stop out
-pub ring_without : (old new : Chain) (s : Option ℕ) (xs ys : List (Option ℕ)) → Joins old new (prev_of old s) (next_of old s)
+pub ring_without : (old new : Chain) (s : Option ℕ) (xs ys : List (Option ℕ)) → Joins old new (prev_of old s) (stop_after old s)
     → IsApart (None ∷ xs ++ s ∷ ys) → IsRing old (xs ++ s ∷ ys) → IsRing new (xs ++ ys)
 ring_without old new s xs [] joins apart ring =
     let cut = path_cut old None s xs (None ∷ []) (rw append_assoc at ring) in

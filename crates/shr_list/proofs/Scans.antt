@@ -1,9 +1,8 @@
 -- A scan over nodes: those behind it and those before it, and what each answer of the callback
 -- makes of them.
-use Rattle.shr_list.proofs.Common.{◌≡◌, ℕ, zero, suc, ◌+◌, ◌-◌, ◌<◌, ◌≤◌, Bool, true, false, List, [], ◌∷◌, ◌++◌, length, Option, Some, None, refl, sym, ap, subst, ◌∙◌, arith, append_assoc, length-append, Result, Ok, Err, map-append, append-nil, Object, Policy, unmarked_object, Removed, Rotate, Skip, Stop, Scanned, case_of, scan_of, scan_ends, resumed, scanned, Keyed, Queued, objects_of, first_key, IsAt}
+use Rattle.shr_list.proofs.Common.{◌≡◌, ℕ, zero, suc, ◌+◌, ◌-◌, ◌<◌, ◌≤◌, Bool, true, false, List, [], ◌∷◌, ◌++◌, length, Option, Some, None, refl, sym, ap, subst, ◌∙◌, arith, append_assoc, length-append, Result, Ok, Err, map-append, append-nil, Object, Policy, unmarked_object, Removed, Rotate, Skip, Stop, Scanned, case_of, scan_of, scan_ends, resumed, scanned, Keyed, Queued, objects_of, first_key, IsAt, AtNode}
 use Rattle.shr_base.specs.Kept.{Kept}
 use Rattle.shr_model.specs.Scan.{scan_from}
-use Rattle.shr_list.specs.Nodes.{AtNode}
 use Rattle.shr_list.proofs.Walks.{at_head, no_head}
 use Rattle.shr_list.proofs.ScanTurns.{turn_removed, turn_skipped, turn_rotated, turn_rotated_last, ends_stopped, ends_empty, ends_spent}
 

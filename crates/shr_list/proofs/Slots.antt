@@ -1,9 +1,6 @@
 -- The slots of a list, and the keys that its objects keep.
-use Rattle.shr_list.proofs.Common.{◌≡◌, ℕ, zero, suc, ◌≤◌, List, [], ◌∷◌, ◌++◌, length, take, Some, refl, sym, subst, ap, ◌∙◌, inl, inr, arith, slice_get, AllByRecursion, map-append, Object, IsOff, IsApart, Keyed, Queued, IsWhole, keys_of, objects_of, AreKept, last_key, key_at, name_by, names_of, stops_of, each_weaker}
-use Rattle.std.proofs.Common.{map, Contains}
-use Rattle.std.specs.List.{zip}
+use Rattle.shr_list.proofs.Common.{◌≡◌, ℕ, zero, suc, ◌≤◌, List, [], ◌∷◌, ◌++◌, length, take, Some, refl, sym, subst, ap, ◌∙◌, inl, inr, arith, slice_get, AllByRecursion, map-append, Object, IsOff, IsApart, Keyed, Queued, IsQueueWhole, keys_of, objects_of, AreNodesKept, last_key, key_at, name_by, names_of, stops_of, each_weaker, map, Contains, zip, bare, tags_of, KeepsKeys, key_before}
 use Rattle.slab.proofs.SlabLemmas.{Contains-cons, Contains-cons_cases}
-use Rattle.shr_list.specs.Nodes.{bare, tags_of, KeepsKeys, key_before}
 use Rattle.shr_list.proofs.Paths.{all_append, all_left, all_right}
 
 pub key_got : (nodes : List Keyed) (i : ℕ) → key_at i nodes ≡ slice_get (keys_of nodes) i
@@ -43,16 +40,16 @@ zip_nodes (n ∷ ns) = ap (λ (ms : List Keyed). n ∷ ms) (zip_nodes ns)
 abbrev IsKeptIn : List Keyed → Keyed → Type 0
 IsKeptIn old n = Contains (tags_of old) (n.0, bare n.1)
 
-pub kept_itself : (nodes : List Keyed) → AreKept nodes nodes
+pub kept_itself : (nodes : List Keyed) → AreNodesKept nodes nodes
 kept_itself [] = tt
 kept_itself (n ∷ ns) = (
   (0, omega arith, refl),
   each_weaker (IsKeptIn ns) (IsKeptIn (n ∷ ns)) (λ m there. Contains-cons (n.0, bare n.1) (m.0, bare m.1) (tags_of ns) there) ns (kept_itself ns),
 )
 
-module _ (old xs ys : List Keyed) (k : ℕ) (o : Object) (kept : AreKept old (xs ++ (k, o) ∷ ys)) where
+module _ (old xs ys : List Keyed) (k : ℕ) (o : Object) (kept : AreNodesKept old (xs ++ (k, o) ∷ ys)) where
   -- what stays once a node is gone keeps its key
-  pub kept_without : AreKept old (xs ++ ys)
+  pub kept_without : AreNodesKept old (xs ++ ys)
   kept_without =
       all_append (IsKeptIn old) xs ys (all_left (IsKeptIn old) xs ((k, o) ∷ ys) kept) (all_right (IsKeptIn old) xs ((k, o) ∷ ys) kept).1
 
@@ -61,13 +58,13 @@ module _ (old xs ys : List Keyed) (k : ℕ) (o : Object) (kept : AreKept old (xs
   kept_here p same = rw same (all_right (IsKeptIn old) xs ((k, o) ∷ ys) kept).0
 
   -- an object is changed where it stands
-  pub kept_changed : (p : Object) → bare p ≡ bare o → AreKept old (xs ++ (k, p) ∷ ys)
+  pub kept_changed : (p : Object) → bare p ≡ bare o → AreNodesKept old (xs ++ (k, p) ∷ ys)
   kept_changed p same =
       all_append (IsKeptIn old) xs ((k, p) ∷ ys) (all_left (IsKeptIn old) xs ((k, o) ∷ ys) kept)
       (kept_here p same, (all_right (IsKeptIn old) xs ((k, o) ∷ ys) kept).1)
 
   -- an object is put at the end
-  pub kept_rotated : (p : Object) → bare p ≡ bare o → AreKept old ((xs ++ ys) ++ (k, p) ∷ [])
+  pub kept_rotated : (p : Object) → bare p ≡ bare o → AreNodesKept old ((xs ++ ys) ++ (k, p) ∷ [])
   kept_rotated p same = all_append (IsKeptIn old) (xs ++ ys) ((k, p) ∷ []) kept_without (kept_here p same, tt)
 
 -- where an object was listed it has its key
@@ -83,7 +80,7 @@ keys_said old new all =
     (sym (zip_nodes old)) all)
 
 -- nodes that are kept keep their keys
-pub keys_kept : (old new : List Keyed) → AreKept old new → KeepsKeys (keys_of old) (objects_of old) (keys_of new) (objects_of new)
+pub keys_kept : (old new : List Keyed) → AreNodesKept old new → KeepsKeys (keys_of old) (objects_of old) (keys_of new) (objects_of new)
 keys_kept old new kept = keys_said old new (each_weaker (IsKeptIn old) (KeepsItsKey old) (λ n there was. there) new kept)
 
 -- what was not moved has its key
@@ -98,16 +95,16 @@ keys_none keys items [] = tt
 keys_none keys items (k ∷ ks) = tt
 
 module _ (old new xs ys : List Keyed) (k : ℕ) (o : Object) (at : old ≡ xs ++ (k, o) ∷ ys) where
-  all_here : AreKept old (xs ++ (k, o) ∷ ys)
-  all_here = subst (AreKept old) at (kept_itself old)
+  all_here : AreNodesKept old (xs ++ (k, o) ∷ ys)
+  all_here = subst (AreNodesKept old) at (kept_itself old)
 
   -- the object under a key was changed
   pub keys_changed : (p : Object) → bare p ≡ bare o → new ≡ xs ++ (k, p) ∷ ys → KeepsKeys (keys_of old) (objects_of old) (keys_of new) (objects_of new)
-  keys_changed p same now = keys_kept old new (subst (AreKept old) (sym now) (kept_changed old xs ys k o all_here p same))
+  keys_changed p same now = keys_kept old new (subst (AreNodesKept old) (sym now) (kept_changed old xs ys k o all_here p same))
 
   -- the object under a key was taken out
-  pub nodes_removed : new ≡ xs ++ ys → AreKept old new
-  nodes_removed now = subst (AreKept old) (sym now) (kept_without old xs ys k o all_here)
+  pub nodes_removed : new ≡ xs ++ ys → AreNodesKept old new
+  nodes_removed now = subst (AreNodesKept old) (sym now) (kept_without old xs ys k o all_here)
 
 -- no object of this name is among those that have none of it
 none_bare : (nodes : List Keyed) (o : Object) → IsOff (o.birth, o.key) (names_of nodes) → Contains (map bare (objects_of nodes)) (bare o) → ⊥
@@ -127,5 +124,5 @@ keys_pushed nodes k o off =
     (λ was. absurd (none_bare nodes o off was), tt))
 
 -- the same of queues
-pub keys_whole : (old new : Queued) → IsWhole old → IsWhole new → AreKept old.nodes new.nodes → KeepsKeys old.keys old.items new.keys new.items
+pub keys_whole : (old new : Queued) → IsQueueWhole old → IsQueueWhole new → AreNodesKept old.nodes new.nodes → KeepsKeys old.keys old.items new.keys new.items
 keys_whole old new was is kept = rw (was.keys, was.items, is.keys, is.items) (keys_kept old.nodes new.nodes kept)

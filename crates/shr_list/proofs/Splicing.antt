@@ -1,11 +1,10 @@
 -- The index over the objects of another list: admitted, withdrawn again, and found at their new nodes.
-use Rattle.shr_list.proofs.Common.{◌≡◌, ℕ, List, [], ◌∷◌, ◌++◌, length, take, Option, Some, None, refl, sym, ap, subst, ◌∙◌, arith, append_assoc, append-nil, length-map, AllByRecursion, Object, Names, Keyed, objects_of, IsApart, name_by, name_in, names_of, in_nodes, Keeps, GainsName, Turns, IsIndexed, AreNew, Withdraws, Enters}
-use Rattle.std.proofs.lemmas.List.{take-append-le, take_all}
+use Rattle.shr_list.proofs.Common.{◌≡◌, ℕ, List, [], ◌∷◌, ◌++◌, length, take, Option, Some, None, refl, sym, ap, subst, ◌∙◌, arith, append_assoc, append-nil, length-map, AllByRecursion, Object, Names, Keyed, objects_of, IsApart, name_by, name_in, names_of, in_nodes, KeepsFound, GainsName, TurnsName, IsIndexed, AreNewNames, Withdraws, EntersNodes, take-append-le, take_all}
 use Rattle.shr_list.proofs.Paths.{all_right}
 use Rattle.shr_list.proofs.Indexed.{first_of, in_append, none_off, off_first, indexed_kept, indexed_pushed, indexed_removed, indexed_turned, indexed_swapped}
 
 -- one node more, of those that come
-pub admits_one : (old new : Names) (nodes kids xs ys : List Keyed) (k : ℕ) (o : Object) → kids ≡ xs ++ (k, o) ∷ ys → AreNew nodes kids → IsApart (names_of kids)
+pub admits_one : (old new : Names) (nodes kids xs ys : List Keyed) (k : ℕ) (o : Object) → kids ≡ xs ++ (k, o) ∷ ys → AreNewNames nodes kids → IsApart (names_of kids)
     → IsIndexed old (nodes ++ xs) → GainsName old new (name_by o) k → IsIndexed new (nodes ++ (xs ++ (k, o) ∷ []))
 admits_one old new nodes kids xs ys k o split fresh unique indexed gains =
     let P : Keyed → Type 0 = λ n. in_nodes nodes (name_in n) ≡ None in
@@ -18,14 +17,14 @@ pub withdraws_none : (names : Names) → Withdraws names names []
 withdraws_none names nodes rest indexed = indexed
 
 -- one node less
-pub withdraws_one : (old now new : Names) (front : List Keyed) (k : ℕ) (o : Object) → Withdraws old now front → Turns now new (name_by o) None
+pub withdraws_one : (old now new : Names) (front : List Keyed) (k : ℕ) (o : Object) → Withdraws old now front → TurnsName now new (name_by o) None
     → Withdraws old new (front ++ (k, o) ∷ [])
 withdraws_one old now new front k o withdraws turns nodes rest indexed =
     let before = withdraws nodes ((k, o) ∷ rest) (subst (λ (ns : List Keyed). IsIndexed old (nodes ++ ns)) (append_assoc front ((k, o) ∷ []) rest) indexed) in
     indexed_removed now nodes rest k o before new turns
 
 -- nodes that were admitted and withdrawn again
-pub withdrawn : (old now new : Names) (nodes kids : List Keyed) → IsIndexed old (nodes ++ kids) → Keeps old now → Withdraws now new kids → IsIndexed new nodes
+pub withdrawn : (old now new : Names) (nodes kids : List Keyed) → IsIndexed old (nodes ++ kids) → KeepsFound old now → Withdraws now new kids → IsIndexed new nodes
 withdrawn old now new nodes kids indexed keeps withdraws =
     let kept = indexed_kept old now (nodes ++ kids) keeps indexed in
     rw append-nil at (withdraws nodes [] (rw append-nil kept))
@@ -47,12 +46,12 @@ none_moved : (kids : List Keyed) → objects_of kids ≡ [] → kids ≡ []
 none_moved [] none = refl
 none_moved (n ∷ ns) none = absurd (cc)
 
-pub enters_none : (names : Names) → Enters names names []
+pub enters_none : (names : Names) → EntersNodes names names []
 enters_none names kids nodes rest same indexed = rw (none_moved kids same) at indexed
 
 -- one node more is found by its name
-pub enters_one : (old now new : Names) (front : List Keyed) (k : ℕ) (o : Object) → Enters old now front → Turns now new (name_by o) (Some k)
-    → Enters old new (front ++ (k, o) ∷ [])
+pub enters_one : (old now new : Names) (front : List Keyed) (k : ℕ) (o : Object) → EntersNodes old now front → TurnsName now new (name_by o) (Some k)
+    → EntersNodes old new (front ++ (k, o) ∷ [])
 enters_one old now new front k o enters turns kids nodes rest same indexed =
     let last = last_moved front kids (k, o) same in
     let was = subst (λ (ns : List Keyed). IsIndexed old (nodes ++ ns)) (ap (λ (ks : List Keyed). ks ++ rest) last.2 ∙ append_assoc last.0 ((last.1, o) ∷ []) rest) indexed in
@@ -61,14 +60,14 @@ enters_one old now new front k o enters turns kids nodes rest same indexed =
     subst (IsIndexed new) (append_assoc nodes front ((k, o) ∷ rest) ∙ ap (λ (ns : List Keyed). nodes ++ ns) (sym (append_assoc front ((k, o) ∷ []) rest))) after
 
 -- the objects of another list stand before these, and are found by their names
-pub indexed_spliced : (old new : Names) (nodes kids front : List Keyed) → objects_of front ≡ objects_of kids → IsIndexed old (nodes ++ kids) → Enters old new front
+pub indexed_spliced : (old new : Names) (nodes kids front : List Keyed) → objects_of front ≡ objects_of kids → IsIndexed old (nodes ++ kids) → EntersNodes old new front
     → IsIndexed new (front ++ nodes)
 indexed_spliced old new nodes kids front same indexed enters =
     let entered = enters kids nodes [] (sym same) (rw append-nil indexed) in
     indexed_swapped new nodes front (rw append-nil at entered)
 
 -- or behind them
-pub indexed_followed : (old new : Names) (nodes kids back : List Keyed) → objects_of back ≡ objects_of kids → IsIndexed old (nodes ++ kids) → Enters old new back
+pub indexed_followed : (old new : Names) (nodes kids back : List Keyed) → objects_of back ≡ objects_of kids → IsIndexed old (nodes ++ kids) → EntersNodes old new back
     → IsIndexed new (nodes ++ back)
 indexed_followed old new nodes kids back same indexed enters = rw append-nil at (enters kids nodes [] (sym same) (rw append-nil indexed))
 

@@ -28,7 +28,7 @@ use Rattle.shr_list.specs.declared.answers.DrainAnswer.TheVariants as drain
 
 -- The journal gains this entry, whose outcome is so, the items are those after it, and the limits
 -- stay. The objects that a MovedIn moves are given.
-pub record Gains (old new : Listed) (moved : List Object) (e : Entry) : Type 0 where
+pub record ListGains (old new : Listed) (moved : List Object) (e : Entry) : Type 0 where
   pub entries : new.entries ≡ old.entries ++ e ∷ []
   pub items : new.items ≡ step moved old.items e
   pub outcome : IsOutcome moved old.items e
@@ -51,7 +51,7 @@ pub record Takes (old new : Listed) (e : Entry) (n : ℕ) : Type 0 where
   pub was_open : is_closed old.entries ≡ false
   pub room : HasRoom old [] e
   pub number : n ≡ length old.entries
-  pub gains : Gains old new [] e
+  pub gains : ListGains old new [] e
   pub keys : KeepsKeys old.keys old.items new.keys new.items
 
 -- the list is closed, and stays as it is
@@ -76,49 +76,49 @@ abbrev pub add_entry : Listed → Object → Entry
 add_entry l o = entry.Add o.serial o.birth (not (holds o.birth o.key l.items)) o.key o.value
 
 -- what `add` answers
-abbrev pub AddGives : Listed → Object → AddAnswer → Listed → Type 0
-AddGives old o (add.Added n) new = (holds o.birth o.key old.items ≡ false) × Takes old new (add_entry old o) n
-AddGives old o (add.Exists n) new = (holds o.birth o.key old.items ≡ true) × Takes old new (add_entry old o) n
-AddGives old o add.Closed new = RefusesClosed old new
-AddGives old o (add.Worn entries items) new = RefusesWorn old new (add_entry old o) entries items
-AddGives old o (add.Memory back) new = (back ≡ o) × LacksMemory old new (add_entry old o)
+abbrev pub ListAddGives : Listed → Object → AddAnswer → Listed → Type 0
+ListAddGives old o (add.Added n) new = (holds o.birth o.key old.items ≡ false) × Takes old new (add_entry old o) n
+ListAddGives old o (add.Exists n) new = (holds o.birth o.key old.items ≡ true) × Takes old new (add_entry old o) n
+ListAddGives old o add.Closed new = RefusesClosed old new
+ListAddGives old o (add.Worn entries items) new = RefusesWorn old new (add_entry old o) entries items
+ListAddGives old o (add.Memory back) new = (back ≡ o) × LacksMemory old new (add_entry old o)
 
 -- the entry of a look
 abbrev pub look_entry : Listed → Serial → ℕ → List ℕ → Entry
 look_entry l by birth key = entry.Look by birth key (holds birth key l.items)
 
 -- what `look` answers
-abbrev pub LookGives : Listed → Serial → ℕ → List ℕ → LookAnswer → Listed → Type 0
-LookGives old by birth key (look.Hit n value) new = (option_map (λ o. o.value) (named_in birth key old.items) ≡ Some value) × Takes old new (look_entry old by birth key) n
-LookGives old by birth key (look.Miss n) new = (holds birth key old.items ≡ false) × Takes old new (look_entry old by birth key) n
-LookGives old by birth key look.Closed new = RefusesClosed old new
-LookGives old by birth key (look.Worn entries items) new = RefusesWorn old new (look_entry old by birth key) entries items
-LookGives old by birth key look.Memory new = LacksMemory old new (look_entry old by birth key)
+abbrev pub ListLookGives : Listed → Serial → ℕ → List ℕ → LookAnswer → Listed → Type 0
+ListLookGives old by birth key (look.Hit n value) new = (option_map (λ o. o.value) (named_in birth key old.items) ≡ Some value) × Takes old new (look_entry old by birth key) n
+ListLookGives old by birth key (look.Miss n) new = (holds birth key old.items ≡ false) × Takes old new (look_entry old by birth key) n
+ListLookGives old by birth key look.Closed new = RefusesClosed old new
+ListLookGives old by birth key (look.Worn entries items) new = RefusesWorn old new (look_entry old by birth key) entries items
+ListLookGives old by birth key look.Memory new = LacksMemory old new (look_entry old by birth key)
 
 -- the entry of a drop
 abbrev pub drop_entry : Listed → Serial → ℕ → List ℕ → Entry
 drop_entry l by birth key = entry.Drop by birth key (drop_kind_of (named_in birth key l.items))
 
 -- what `drop_key` answers
-abbrev pub DropGives : Listed → Serial → ℕ → List ℕ → DropAnswer → Listed → Type 0
-DropGives old by birth key (drop.Dropped n object) new = (named_in birth key old.items ≡ Some object) × (object.pinned ≡ false) × Takes old new (drop_entry old by birth key) n
-DropGives old by birth key (drop.Pinned n) new = (drop_kind_of (named_in birth key old.items) ≡ kind.Pinned) × Takes old new (drop_entry old by birth key) n
-DropGives old by birth key (drop.Miss n) new = (drop_kind_of (named_in birth key old.items) ≡ kind.Miss) × Takes old new (drop_entry old by birth key) n
-DropGives old by birth key drop.Closed new = RefusesClosed old new
-DropGives old by birth key (drop.Worn entries items) new = RefusesWorn old new (drop_entry old by birth key) entries items
-DropGives old by birth key drop.Memory new = LacksMemory old new (drop_entry old by birth key)
+abbrev pub ListDropGives : Listed → Serial → ℕ → List ℕ → DropAnswer → Listed → Type 0
+ListDropGives old by birth key (drop.Dropped n object) new = (named_in birth key old.items ≡ Some object) × (object.pinned ≡ false) × Takes old new (drop_entry old by birth key) n
+ListDropGives old by birth key (drop.Pinned n) new = (drop_kind_of (named_in birth key old.items) ≡ kind.Pinned) × Takes old new (drop_entry old by birth key) n
+ListDropGives old by birth key (drop.Miss n) new = (drop_kind_of (named_in birth key old.items) ≡ kind.Miss) × Takes old new (drop_entry old by birth key) n
+ListDropGives old by birth key drop.Closed new = RefusesClosed old new
+ListDropGives old by birth key (drop.Worn entries items) new = RefusesWorn old new (drop_entry old by birth key) entries items
+ListDropGives old by birth key drop.Memory new = LacksMemory old new (drop_entry old by birth key)
 
 -- the entry of a pin
 abbrev pub pin_entry : Listed → Serial → ℕ → List ℕ → Bool → Entry
 pin_entry l by birth key pinned = entry.Pin by birth key pinned (holds birth key l.items)
 
 -- what `set_pin` answers
-abbrev pub PinGives : Listed → Serial → ℕ → List ℕ → Bool → PinAnswer → Listed → Type 0
-PinGives old by birth key pinned (pin.Done n) new = (holds birth key old.items ≡ true) × Takes old new (pin_entry old by birth key pinned) n
-PinGives old by birth key pinned (pin.Miss n) new = (holds birth key old.items ≡ false) × Takes old new (pin_entry old by birth key pinned) n
-PinGives old by birth key pinned pin.Closed new = RefusesClosed old new
-PinGives old by birth key pinned (pin.Worn entries items) new = RefusesWorn old new (pin_entry old by birth key pinned) entries items
-PinGives old by birth key pinned pin.Memory new = LacksMemory old new (pin_entry old by birth key pinned)
+abbrev pub ListPinGives : Listed → Serial → ℕ → List ℕ → Bool → PinAnswer → Listed → Type 0
+ListPinGives old by birth key pinned (pin.Done n) new = (holds birth key old.items ≡ true) × Takes old new (pin_entry old by birth key pinned) n
+ListPinGives old by birth key pinned (pin.Miss n) new = (holds birth key old.items ≡ false) × Takes old new (pin_entry old by birth key pinned) n
+ListPinGives old by birth key pinned pin.Closed new = RefusesClosed old new
+ListPinGives old by birth key pinned (pin.Worn entries items) new = RefusesWorn old new (pin_entry old by birth key pinned) entries items
+ListPinGives old by birth key pinned pin.Memory new = LacksMemory old new (pin_entry old by birth key pinned)
 
 -- the entry of a scan
 abbrev pub scan_entry : Listed → ℕ → ℕ → Policy → ℕ → Entry
@@ -132,12 +132,12 @@ pub record TellsScan (policy : Policy) (asked : ℕ) (items freed : List Object)
   pub halted : stopped ≡ (scan_of policy asked items).stopped
 
 -- what `scan` answers
-abbrev pub ScanGives : Listed → ℕ → ℕ → Policy → ℕ → ListScan → Listed → Type 0
-ScanGives old worker walk policy asked (scan.Scanned n freed visits stopped) new =
+abbrev pub ScanOfListGives : Listed → ℕ → ℕ → Policy → ℕ → ListScan → Listed → Type 0
+ScanOfListGives old worker walk policy asked (scan.Scanned n freed visits stopped) new =
     TellsScan policy asked old.items freed.items visits stopped × Takes old new (scan_entry old worker walk policy asked) n
-ScanGives old worker walk policy asked scan.Closed new = RefusesClosed old new
-ScanGives old worker walk policy asked (scan.Worn entries items) new = RefusesWorn old new (scan_entry old worker walk policy asked) entries items
-ScanGives old worker walk policy asked scan.Memory new = LacksMemory old new (scan_entry old worker walk policy asked)
+ScanOfListGives old worker walk policy asked scan.Closed new = RefusesClosed old new
+ScanOfListGives old worker walk policy asked (scan.Worn entries items) new = RefusesWorn old new (scan_entry old worker walk policy asked) entries items
+ScanOfListGives old worker walk policy asked scan.Memory new = LacksMemory old new (scan_entry old worker walk policy asked)
 
 -- where a scan was made this is so of what it freed and of its visits
 abbrev pub IfScanned : ListScan → (List Object → ℕ → Type 0) → Type 0
@@ -153,7 +153,7 @@ moved_entry l child = entry.MovedIn child (length l.items)
 -- what `close_into` answers
 abbrev pub CloseGives : Listed → Listed → ℕ → CloseAnswer → Listed → Listed → Type 0
 CloseGives old parent child (close.Moved objects) new parent_new =
-    (objects ≡ length old.items) × HasRoom parent old.items (moved_entry old child) × Gains parent parent_new old.items (moved_entry old child) × Gains old new [] entry.Closed
+    (objects ≡ length old.items) × HasRoom parent old.items (moved_entry old child) × ListGains parent parent_new old.items (moved_entry old child) × ListGains old new [] entry.Closed
 CloseGives old parent child (close.Worn entries items) new parent_new =
     IsWorn parent old.items (moved_entry old child) entries items × (new ≡ old) × (parent_new ≡ parent)
 CloseGives old parent child close.Memory new parent_new =
@@ -164,7 +164,7 @@ abbrev pub drain_entry : Listed → Serial → Entry
 drain_entry l by = entry.Drained by (length l.items)
 
 -- what `drain` answers
-abbrev pub DrainGives : Listed → Serial → DrainAnswer → Listed → Type 0
-DrainGives old by (drain.Drained objects) new = (objects.items ≡ old.items) × Takes old new (drain_entry old by) (length old.entries)
-DrainGives old by (drain.Worn entries items) new = RefusesWorn old new (drain_entry old by) entries items
-DrainGives old by drain.Memory new = LacksMemory old new (drain_entry old by)
+abbrev pub ListDrainGives : Listed → Serial → DrainAnswer → Listed → Type 0
+ListDrainGives old by (drain.Drained objects) new = (objects.items ≡ old.items) × Takes old new (drain_entry old by) (length old.entries)
+ListDrainGives old by (drain.Worn entries items) new = RefusesWorn old new (drain_entry old by) entries items
+ListDrainGives old by drain.Memory new = LacksMemory old new (drain_entry old by)

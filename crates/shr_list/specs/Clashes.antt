@@ -5,7 +5,7 @@ use Rattle.std.specs.Ordering.{nat_cmp}
 use Rattle.std.specs.BTreeMap.{get}
 use Rattle.shr_list.specs.declared.queue.clashes.Clashes.{Clashes}
 use Rattle.shr_list.specs.declared.queue.clashes.Named.{Named}
-pub use Rattle.shr_list.specs.Twins.{Name, Found, Puts, is_same}
+pub use Rattle.shr_list.specs.Twins.{Name, NodesByName, PutsNode, is_same}
 use Rattle.shr_list.specs.Twins.{IsSameFound, found_twin}
 
 -- the second print of a name
@@ -36,7 +36,7 @@ IsSameClashes old new = IsSameFound (found_clash old) (found_clash new)
 
 -- the name has this node now, or none, and the others have theirs
 abbrev pub PutsClash : Clashes → Clashes → Name → Option ℕ → Type 0
-PutsClash old new name node = Puts (found_clash old) (found_clash new) name node
+PutsClash old new name node = PutsNode (found_clash old) (found_clash new) name node
 
 -- the name was not there and has this node now, or it was there and nothing changed
 abbrev pub AddsClash : Clashes → Clashes → Name → ℕ → Bool → Type 0

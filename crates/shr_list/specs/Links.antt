@@ -22,9 +22,9 @@ prev_in None = None
 prev_in (Some n) = n.prev
 
 -- A stop is a key, or the place between the last and the first. What follows a stop:
-abbrev pub next_of : Chain → Option ℕ → Option ℕ
-next_of c None = c.head
-next_of c (Some k) = next_in (get c.nodes k)
+abbrev pub stop_after : Chain → Option ℕ → Option ℕ
+stop_after c None = c.head
+stop_after c (Some k) = next_in (get c.nodes k)
 
 -- and what stands before it
 abbrev pub prev_of : Chain → Option ℕ → Option ℕ
@@ -42,7 +42,7 @@ IsStop c (Some k) = IsStored c k
 
 -- the two name each other
 abbrev pub IsJoined : Chain → Option ℕ → Option ℕ → Type 0
-IsJoined c a b = (next_of c a ≡ b) × (prev_of c b ≡ a)
+IsJoined c a b = (stop_after c a ≡ b) × (prev_of c b ≡ a)
 
 -- from the first stop on, each and the one after it name each other
 abbrev pub IsPath : Chain → Option ℕ → List (Option ℕ) → Type 0
@@ -80,7 +80,7 @@ spare_in s = if nat_le s.capacity (2 ^ 32) then s.capacity - slab_len s else 0
 
 -- links other than what follows the one stop and stands before the other are as before
 pub record KeepsLinks (old new : Chain) (before after : Option ℕ) : Type 0 where
-  pub next : (a : Option ℕ) → a ≢ before → next_of new a ≡ next_of old a
+  pub next : (a : Option ℕ) → a ≢ before → stop_after new a ≡ stop_after old a
   pub prev : (b : Option ℕ) → b ≢ after → prev_of new b ≡ prev_of old b
 
 -- objects and room are as before
@@ -91,8 +91,8 @@ pub record KeepsObjects (old new : Chain) : Type 0 where
 
 -- this follows the stop now
 pub record SetsNext (old new : Chain) (at next : Option ℕ) : Type 0 where
-  pub set : next_of new at ≡ next
-  pub others : (a : Option ℕ) → a ≢ at → next_of new a ≡ next_of old a
+  pub set : stop_after new at ≡ next
+  pub others : (a : Option ℕ) → a ≢ at → stop_after new a ≡ stop_after old a
   pub prev : (b : Option ℕ) → prev_of new b ≡ prev_of old b
   pub keeps : KeepsObjects old new
 
@@ -100,7 +100,7 @@ pub record SetsNext (old new : Chain) (at next : Option ℕ) : Type 0 where
 pub record SetsPrev (old new : Chain) (at prev : Option ℕ) : Type 0 where
   pub set : prev_of new at ≡ prev
   pub others : (b : Option ℕ) → b ≢ at → prev_of new b ≡ prev_of old b
-  pub next : (a : Option ℕ) → next_of new a ≡ next_of old a
+  pub next : (a : Option ℕ) → stop_after new a ≡ stop_after old a
   pub keeps : KeepsObjects old new
 
 -- the two name each other now
@@ -110,15 +110,15 @@ pub record Joins (old new : Chain) (before after : Option ℕ) : Type 0 where
   pub keeps : KeepsObjects old new
 
 -- the other objects are as before
-abbrev pub KeepsOthers : Chain → Chain → ℕ → Type 0
-KeepsOthers old new key = (k : ℕ) → k ≢ key → object_at new k ≡ object_at old k
+abbrev pub KeepsOtherObjects : Chain → Chain → ℕ → Type 0
+KeepsOtherObjects old new key = (k : ℕ) → k ≢ key → object_at new k ≡ object_at old k
 
 -- a key that was free keeps the object now
 pub record Inserts (old new : Chain) (key : ℕ) (object : Object) : Type 0 where
   pub vacant : key ≡ old.nodes.vacant_key
   pub free : object_at old key ≡ None
   pub stored : object_at new key ≡ Some object
-  pub others : KeepsOthers old new key
+  pub others : KeepsOtherObjects old new key
   pub links : KeepsLinks old new (Some key) (Some key)
   pub len : slab_len new.nodes ≡ slab_len old.nodes + 1
   pub capacity : new.nodes.capacity ≡ old.nodes.capacity
@@ -126,7 +126,7 @@ pub record Inserts (old new : Chain) (key : ℕ) (object : Object) : Type 0 wher
 -- the key is free now
 pub record Removes (old new : Chain) (key : ℕ) (object : Object) : Type 0 where
   pub stored : object_at old key ≡ Some object
-  pub others : KeepsOthers old new key
+  pub others : KeepsOtherObjects old new key
   pub links : KeepsLinks old new (Some key) (Some key)
   pub len : slab_len new.nodes + 1 ≡ slab_len old.nodes
   pub capacity : new.nodes.capacity ≡ old.nodes.capacity
@@ -134,8 +134,8 @@ pub record Removes (old new : Chain) (key : ℕ) (object : Object) : Type 0 wher
 -- the object under the key is changed so
 pub record SetsObject (old new : Chain) (key : ℕ) (change : Object → Object) : Type 0 where
   pub changed : object_at new key ≡ option_map change (object_at old key)
-  pub others : KeepsOthers old new key
-  pub next : (a : Option ℕ) → next_of new a ≡ next_of old a
+  pub others : KeepsOtherObjects old new key
+  pub next : (a : Option ℕ) → stop_after new a ≡ stop_after old a
   pub prev : (b : Option ℕ) → prev_of new b ≡ prev_of old b
   pub len : slab_len new.nodes ≡ slab_len old.nodes
   pub capacity : new.nodes.capacity ≡ old.nodes.capacity

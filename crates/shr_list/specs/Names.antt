@@ -7,7 +7,7 @@ use Rattle.std.specs.BTreeMap.{get}
 use Rattle.shr_base.specs.declared.objects.Object.{Object}
 use Rattle.shr_list.specs.declared.queue.names.Names.{Names}
 use Rattle.shr_list.specs.Nodes.{Keyed, IsApart, key_named, objects_of}
-pub use Rattle.shr_list.specs.Clashes.{Name, Found, Puts, is_same}
+pub use Rattle.shr_list.specs.Clashes.{Name, NodesByName, PutsNode, is_same}
 use Rattle.shr_list.specs.Clashes.{found_clash}
 
 -- the name of an object
@@ -40,38 +40,38 @@ pub record Owns (names : Names) (print : ℕ) (name : Name) : Type 0 where
 
 -- The index finds these nodes: each print has an owner or no entry, and the names that own none are
 -- among the clashes. Who owns a print is not kept: that is asked at the node.
-pub record Fits (names : Names) (found : Found) : Type 0 where
+pub record FitsFound (names : Names) (found : NodesByName) : Type 0 where
   pub owner : ℕ → Option Name
   pub vacant : (print : ℕ) → owner print ≡ None → entry_at names print ≡ None
   pub taken : (print : ℕ) (name : Name) → owner print ≡ Some name → Owns names print name
   pub finds : (name : Name) → found name ≡ owned (owner (print_of name.0 name.1)) name (entry_at names (print_of name.0 name.1)) (found_clash names.clashes name)
 
 -- it finds what it found
-abbrev pub Keeps : Names → Names → Type 0
-Keeps old new = (found : Found) → Fits old found → Fits new found
+abbrev pub KeepsFound : Names → Names → Type 0
+KeepsFound old new = (found : NodesByName) → FitsFound old found → FitsFound new found
 
 -- a name that was not there has this node now
 abbrev pub GainsName : Names → Names → Name → ℕ → Type 0
 GainsName old new name node =
-    (found after : Found) → Fits old found → found name ≡ None → Puts found after name (Some node) → Fits new after
+    (found after : NodesByName) → FitsFound old found → found name ≡ None → PutsNode found after name (Some node) → FitsFound new after
 
 -- a name that was there has this node now, or none
-abbrev pub Turns : Names → Names → Name → Option ℕ → Type 0
-Turns old new name node =
-    (found after : Found) → Fits old found → IsSome (found name) → Puts found after name node → Fits new after
+abbrev pub TurnsName : Names → Names → Name → Option ℕ → Type 0
+TurnsName old new name node =
+    (found after : NodesByName) → FitsFound old found → IsSome (found name) → PutsNode found after name node → FitsFound new after
 
 -- the names of these nodes
 abbrev pub names_of : List Keyed → List Name
 names_of nodes = map name_in nodes
 
 -- the node of each name, in these nodes
-abbrev pub in_nodes : List Keyed → Found
+abbrev pub in_nodes : List Keyed → NodesByName
 in_nodes nodes name = key_named name.0 name.1 nodes
 
 -- no two nodes have one name, and the index finds each name's node
 pub record IsIndexed (names : Names) (nodes : List Keyed) : Type 0 where
   pub unique : IsApart (names_of nodes)
-  pub fits : Fits names (in_nodes nodes)
+  pub fits : FitsFound names (in_nodes nodes)
 
 -- What a list knows of its names: where it has an index that finds each name's node, and where it
 -- says so no two objects have one name.
@@ -82,23 +82,23 @@ pub record KnowsNames (names : Names) (nodes : List Keyed) (indexed apart : Bool
 -- none of the nodes has the name, which has this node now, or one has it and nothing changed
 abbrev pub AddsName : Names → Names → List Keyed → Name → ℕ → Bool → Type 0
 AddsName old new nodes name node true = (in_nodes nodes name ≡ None) × GainsName old new name node
-AddsName old new nodes name node false = IsSome (in_nodes nodes name) × Keeps old new
+AddsName old new nodes name node false = IsSome (in_nodes nodes name) × KeepsFound old new
 
 -- none of the second nodes has the name of one of the first
-abbrev pub AreNew : List Keyed → List Keyed → Type 0
-AreNew nodes kids = AllByRecursion (λ (n : Keyed). in_nodes nodes (name_in n) ≡ None) kids
+abbrev pub AreNewNames : List Keyed → List Keyed → Type 0
+AreNewNames nodes kids = AllByRecursion (λ (n : Keyed). in_nodes nodes (name_in n) ≡ None) kids
 
 -- no two nodes of both lists have one name
 pub record AreStrangers (nodes kids : List Keyed) : Type 0 where
   pub unique : IsApart (names_of nodes)
   pub others : IsApart (names_of kids)
-  pub fresh : AreNew nodes kids
+  pub fresh : AreNewNames nodes kids
 
 -- these nodes are not indexed any more, and the others are
 abbrev pub Withdraws : Names → Names → List Keyed → Type 0
 Withdraws old new kids = (nodes rest : List Keyed) → IsIndexed old (nodes ++ (kids ++ rest)) → IsIndexed new (nodes ++ rest)
 
 -- these nodes are indexed in place of others with the same objects
-abbrev pub Enters : Names → Names → List Keyed → Type 0
-Enters old new front =
+abbrev pub EntersNodes : Names → Names → List Keyed → Type 0
+EntersNodes old new front =
     (kids nodes rest : List Keyed) → objects_of kids ≡ objects_of front → IsIndexed old (nodes ++ (kids ++ rest)) → IsIndexed new (nodes ++ (front ++ rest))

@@ -44,7 +44,7 @@ abbrev pub keys_of : List Keyed → List ℕ
 keys_of nodes = map (λ (n : Keyed). n.0) nodes
 
 -- the keys and the objects are those of the nodes
-pub record IsWhole (q : Queued) : Type 0 where
+pub record IsQueueWhole (q : Queued) : Type 0 where
   pub keys : q.keys ≡ keys_of q.nodes
   pub items : q.items ≡ objects_of q.nodes
 
@@ -100,8 +100,8 @@ abbrev pub tags_of : List Keyed → List Keyed
 tags_of nodes = map (λ (n : Keyed). (n.0, bare n.1)) nodes
 
 -- each node was there under its key
-abbrev pub AreKept : List Keyed → List Keyed → Type 0
-AreKept old new = AllByRecursion (λ (n : Keyed). Contains (tags_of old) (n.0, bare n.1)) new
+abbrev pub AreNodesKept : List Keyed → List Keyed → Type 0
+AreNodesKept old new = AllByRecursion (λ (n : Keyed). Contains (tags_of old) (n.0, bare n.1)) new
 
 -- an object that was listed and is listed has the key that it had
 abbrev pub KeepsKeys : List ℕ → List Object → List ℕ → List Object → Type 0

@@ -13,8 +13,8 @@ IsScan policy asked old new scan =
     scan_of policy asked old ≡ record { items = new; freed = scan.freed.items; visits = scan.visits; stopped = scan.stopped }
 
 -- the callback left the object as it is
-abbrev pub IsLeft : LruStatus → Type 0
-IsLeft Removed = ⊥
-IsLeft Rotate = ⊥
-IsLeft Skip = Unit {0}
-IsLeft Stop = Unit {0}
+abbrev pub IsLeftAlone : LruStatus → Type 0
+IsLeftAlone Removed = ⊥
+IsLeftAlone Rotate = ⊥
+IsLeftAlone Skip = Unit {0}
+IsLeftAlone Stop = Unit {0}

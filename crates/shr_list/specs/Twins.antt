@@ -15,15 +15,15 @@ abbrev pub is_same : Name → Name → Bool
 is_same one other = (one.0 == other.0) && bytes_eq one.1 other.1
 
 -- the node of each name
-abbrev pub Found : Type 0
-Found = Name → Option ℕ
+abbrev pub NodesByName : Type 0
+NodesByName = Name → Option ℕ
 
 -- every name has the node that it had
-abbrev pub IsSameFound : Found → Found → Type 0
+abbrev pub IsSameFound : NodesByName → NodesByName → Type 0
 IsSameFound old new = (name : Name) → new name ≡ old name
 
 -- the name has this node now, or none, and the others have theirs
-pub record Puts (old new : Found) (name : Name) (node : Option ℕ) : Type 0 where
+pub record PutsNode (old new : NodesByName) (name : Name) (node : Option ℕ) : Type 0 where
   pub here : new name ≡ node
   pub others : (other : Name) → other ≢ name → new other ≡ old other
 
@@ -42,4 +42,4 @@ IsSameTwins old new = IsSameFound (found_twin old) (found_twin new)
 
 -- the name has this node now, or none, and the others have theirs
 abbrev pub PutsTwin : Twins → Twins → Name → Option ℕ → Type 0
-PutsTwin old new name node = Puts (found_twin old) (found_twin new) name node
+PutsTwin old new name node = PutsNode (found_twin old) (found_twin new) name node

@@ -4,7 +4,7 @@ ghost use Rattle.std.specs.Prelude.{◌≡◌, [], ◌∷◌, ◌++◌, length, 
 ghost use Rattle.shr_base.specs.declared.objects.Object.{Object};
 ghost use Rattle.shr_model.specs.Items.{drop_kind_of, after_drop};
 ghost use Rattle.shr_model.specs.Objects.{is_named, holds, named_in, marked_object, unmarked_object, pinned_object, change_first};
-ghost use Rattle.shr_list.specs.Nodes.{IsWhole, slot_at, IsApart, KeepsKeys, PushGives, first_key, key_named, IsAt, AtNode, loose_of};
+ghost use Rattle.shr_list.specs.Nodes.{IsQueueWhole, slot_at, IsApart, KeepsKeys, PushGives, first_key, key_named, IsAt, AtNode, loose_of};
 
 use crate::answers::Slot;
 use crate::queue::links::Links;
@@ -106,7 +106,7 @@ impl Queue {
     // The node of the first object of this birth group and key.
     fn locate(&self, birth: u16, key: &Text) -> Option<u32>
         ensures named { result ≡ key_named birth key.now self.now.nodes }
-        ensures whole { IsWhole self.now }
+        ensures whole { IsQueueWhole self.now }
     {
         if self.indexed {
             self.names.get(&self.links, birth, key)
@@ -251,7 +251,7 @@ impl Queue {
     /// Linux: `list_first_entry` in include/linux/list.h.
     pub fn head(&self) -> Option<u32>
         ensures first { result ≡ first_key self.now.nodes }
-        ensures whole { IsWhole self.now }
+        ensures whole { IsQueueWhole self.now }
     {
         self.links.head()
     }
@@ -283,7 +283,7 @@ impl Queue {
         requires { IsAt self.old.nodes node }
         ensures taken { AtNode self.old.nodes node (λ xs o ys. result ≡ o) }
         ensures nodes { AtNode self.old.nodes node (λ xs o ys. self.new.nodes ≡ xs ++ ys) }
-        ensures whole { IsWhole self.new }
+        ensures whole { IsQueueWhole self.new }
     {
         let object = self.links.remove(node);
         if self.indexed {
@@ -300,7 +300,7 @@ impl Queue {
         requires { IsAt self.old.nodes node }
         ensures nodes { AtNode self.old.nodes node (λ xs o ys. self.new.nodes ≡ (xs ++ ys)
             ++ (node, unmarked_object o) ∷ []) }
-        ensures whole { IsWhole self.new }
+        ensures whole { IsQueueWhole self.new }
     {
         self.links.set_mark(node, false);
         self.links.rotate(node);

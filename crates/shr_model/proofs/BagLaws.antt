@@ -1,8 +1,7 @@
 -- What was added is what was freed and what is listed.
-use Rattle.shr_model.proofs.Common.{◌≡◌, ◌≢◌, ℕ, suc, ◌+◌, ◌<◌, ◌≤◌, Bool, true, false, not, List, [], ◌∷◌, ◌++◌, map, slice_get, find, IsPermutation, refl, Option, Some, None, AllByRecursion, ap, sym, ◌∙◌, subst, append_assoc, inl, inr, arith, cases_Bool, cond_both, map-append, IsPermutation-refl, IsPermutation-trans, IsPermutation-cons, IsPermutation-middle, IsPermutation-append_right, Object, Place, Serial, Entry, Add, Look, Drop, Pin, Scan, MovedIn, Closed, Drained, place_number, is_named, holds, named_in, fresh, marked_object, pinned_object, change_first, without_first, dropped_of, after_drop, step, freed_by, Family, serials_of, added_by, added_by_all, added_in, freed_in, listed_in, AreTenant}
+use Rattle.shr_model.proofs.Common.{◌≡◌, ◌≢◌, ℕ, suc, ◌+◌, ◌<◌, ◌≤◌, Bool, true, false, not, List, [], ◌∷◌, ◌++◌, map, slice_get, find, IsPermutation, refl, Option, Some, None, AllByRecursion, ap, sym, ◌∙◌, subst, append_assoc, inl, inr, arith, cases_Bool, cond_both, map-append, IsPermutation-refl, IsPermutation-trans, IsPermutation-cons, IsPermutation-middle, IsPermutation-append_right, Object, Place, Serial, Entry, Add, Look, Drop, Pin, Scan, MovedIn, Closed, Drained, place_number, is_named, holds, named_in, fresh, marked_object, pinned_object, change_first, without_first, dropped_of, after_drop, step, freed_by, Family, serials_of, added_by, added_by_all, added_in, freed_in, listed_in, AreTenant, IsPermutation-map, IsPermutation-append, IsPermutation-append_left, IsPermutation-append_comm}
 use Rattle.std.specs.List.Sorted.{IsStrictlyIncreasing}
 use Rattle.std.proofs.Common.{append-nil, add-one, add-zero, zero-add}
-use Rattle.std.proofs.lemmas.List.Sorted.{IsPermutation-map, IsPermutation-append, IsPermutation-append_left, IsPermutation-append_comm}
 use Rattle.shr_base.specs.declared.places.At.{At}
 use Rattle.shr_model.specs.Items.{items_from, freed_from, AreOutcomes}
 use Rattle.shr_model.specs.Bag.{AreDistinct}

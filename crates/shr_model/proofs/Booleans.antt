@@ -1,7 +1,5 @@
 -- Lemmas on truth values and what depends on one that several crates cite.
-use Rattle.shr_model.proofs.Common.{◌≡◌, Bool, true, false, refl, ap, ◌&&◌, ◌≢◌, ℕ, arith, sym, ◌≤◌, cond, not, ◌||◌, ◌==◌, nat_tests}
-use Rattle.std.proofs.Common.{T, suc, ◌<◌}
-use Rattle.std.specs.Prelude.{nat_le, nat_lt}
+use Rattle.shr_model.proofs.Common.{◌≡◌, Bool, true, false, refl, ap, ◌&&◌, ◌≢◌, ℕ, arith, sym, ◌≤◌, cond, not, ◌||◌, ◌==◌, nat_tests, T, suc, ◌<◌, nat_le, nat_lt}
 
 pub or_true : (a b : Bool) → b ≡ false → (a || not b) ≡ true
 or_true true b e = refl

@@ -1,7 +1,6 @@
 -- At or above is a partial order, and the preorder of a group has each group of its subtree once,
 -- children behind parents.
-use Rattle.shr_model.proofs.Common.{◌≡◌, ◌≢◌, ℕ, zero, suc, ◌+◌, ◌≤◌, ◌<◌, List, [], ◌∷◌, ◌++◌, length, take, get_or, refl, sym, subst, ◌∙◌, ◌⊎◌, inl, inr, arith, append_assoc, flat_map, Contains, range_with_len, AllByRecursion, append-nil, parent_of, IsTree, path_of, IsAtOrAbove, is_child, children_of, preorder_of}
-use Rattle.std.specs.Prelude.{AllPairs}
+use Rattle.shr_model.proofs.Common.{◌≡◌, ◌≢◌, ℕ, zero, suc, ◌+◌, ◌≤◌, ◌<◌, List, [], ◌∷◌, ◌++◌, length, take, get_or, refl, sym, subst, ◌∙◌, ◌⊎◌, inl, inr, arith, append_assoc, flat_map, Contains, range_with_len, AllByRecursion, append-nil, parent_of, IsTree, path_of, IsAtOrAbove, is_child, children_of, preorder_of, AllPairs}
 use Rattle.std.proofs.lemmas.List.Elements.{Contains-get_or}
 use Rattle.std.proofs.lemmas.List.FromFn.{length-range_with_len, get_or-range_with_len}
 use Rattle.shr_model.specs.Groups.{preorder_within}

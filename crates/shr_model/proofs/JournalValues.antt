@@ -1,11 +1,9 @@
 -- The journals of registrations and of offlining, the histories of groups, and records of passes,
 -- at known values.
-use Rattle.shr_model.proofs.Common.{◌≡◌, ℕ, ℤ, pos, zero, suc, ◌+◌, ◌<◌, Bool, true, false, List, [], ◌∷◌, take, drop, slice_get, refl, Some, None, Option, lit<, subst, arith, Registered, Unregistered, Idle, TreeEntry, Begin, Done, Through, Stop, IsNextPool, IsPoolJournal, Hierarchy, IsHierarchy, IsTree, parent_of, is_later, FollowsArithmetic, UseStep, Serial, IsNextUse, IsDownNext}
-use Rattle.shr_base.specs.declared.journals.TreeEntry.TheVariants.{Made}
+use Rattle.shr_model.proofs.Common.{◌≡◌, ℕ, ℤ, pos, zero, suc, ◌+◌, ◌<◌, Bool, true, false, List, [], ◌∷◌, take, drop, slice_get, refl, Some, None, Option, lit<, subst, arith, Registered, Unregistered, Idle, TreeEntry, Begin, Done, Through, Stop, IsNextPool, IsPoolJournal, Hierarchy, IsHierarchy, IsTree, parent_of, is_later, FollowsArithmetic, UseStep, Serial, IsNextUse, IsDownNext, Made, IsChargeHistory, IsBelow, AreTakenBack}
 use Rattle.shr_model.specs.Pool.{phase_of, decl_from, number_from, is_live_below, lowest_free}
 use Rattle.shr_model.specs.TreeJournal.{MayFollow, IsTreeJournal}
 use Rattle.shr_model.specs.Pass.{due, ask_size}
-use Rattle.shr_model.specs.Charges.{IsChargeHistory, IsBelow, AreTakenBack}
 use Rattle.shr_model.proofs.PoolLaws.{IsPoolJournal_none, IsPoolJournal_push}
 
 pool_twice : IsPoolJournal 1 1 (Registered 0 0 0 ∷ Unregistered 0 0 3 ∷ Idle 0 ∷ Registered 0 0 3 ∷ [])

@@ -1,7 +1,6 @@
 -- The definitions on entries of tenants at known values.
-use Rattle.shr_model.proofs.Common.{◌≡◌, true, false, List, [], ◌∷◌, map, codes, refl, Some, None, Clock, Serial, Entry, Add, Look, Drop, Pin, Scan, MovedIn, Closed, Drained, is_tenant, AreTenant, birth_of}
+use Rattle.shr_model.proofs.Common.{◌≡◌, true, false, List, [], ◌∷◌, map, codes, refl, Some, None, Clock, Serial, Entry, Add, Look, Drop, Pin, Scan, MovedIn, Closed, Drained, is_tenant, AreTenant, birth_of, by_of}
 use Rattle.shr_base.specs.declared.journals.DropKind.TheVariants as kind
-use Rattle.shr_model.specs.Tenants.{by_of}
 
 abbrev by : Serial
 by = record { worker = 1; command = 7 }

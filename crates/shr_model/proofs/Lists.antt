@@ -1,9 +1,8 @@
 -- Lemmas on lists and options that several crates cite.
-use Rattle.shr_model.proofs.Common.{◌≡◌, ℕ, zero, suc, ◌-◌, List, [], ◌∷◌, get_or, sym, ◌+◌, ◌++◌, ap, ◌∙◌, ◌≤◌, length, take, refl, ◌<◌, map, arith, Some, some, some-injective, some-ne-none, get_elem?, take_all, append-nil, flat_map, slice_get, AllByRecursion}
+use Rattle.shr_model.proofs.Common.{◌≡◌, ℕ, zero, suc, ◌-◌, List, [], ◌∷◌, get_or, sym, ◌+◌, ◌++◌, ap, ◌∙◌, ◌≤◌, length, take, refl, ◌<◌, map, arith, Some, some, some-injective, some-ne-none, get_elem?, take_all, append-nil, flat_map, slice_get, AllByRecursion, Option}
 use Rattle.std.proofs.lemmas.List.{append_assoc, take_more}
 use Rattle.std.proofs.lemmas.List.Concat.{flat_map-append}
 use Rattle.std.proofs.lemmas.Option.{slice_get-get_or}
-use Rattle.std.proofs.Common.{Option}
 
 pub word_of : (ws : List ℕ) (i w : ℕ) → get_elem? ws i ≡ some w → get_or ws i 0 ≡ w
 word_of [] i w e = absurd (some-ne-none w (sym e))

@@ -1,6 +1,5 @@
 -- Lemmas on numbers that several crates cite.
-use Rattle.shr_model.proofs.Common.{◌≡◌, ℕ, ◌+◌, eqb, cond, arith, suc, zero, List, ◌∷◌, ◌++◌, ap, ◌∙◌, not, nat_tests, min, ◌==◌, ◌&&◌, range_with_len}
-use Rattle.std.proofs.Common.{ltb, ◌<◌}
+use Rattle.shr_model.proofs.Common.{◌≡◌, ℕ, ◌+◌, eqb, cond, arith, suc, zero, List, ◌∷◌, ◌++◌, ap, ◌∙◌, not, nat_tests, min, ◌==◌, ◌&&◌, range_with_len, ltb, ◌<◌}
 use Rattle.std.specs.Ordering.{nat_cmp, is_lt}
 
 pub below_more : (n k m : ℕ) → m ≡ k → ◌≡◌ {A = ℕ} (cond (ltb n (k + 1)) 1 0) (cond (ltb n k) 1 0 + cond (eqb m n) 1 0)

@@ -1,13 +1,10 @@
 -- The objects of a list under a look, a drop and a pin.
-use Rattle.shr_model.proofs.Common.{◌≡◌, ℕ, zero, suc, ◌+◌, ◌<◌, Bool, true, false, ◌||◌, cond, List, [], ◌∷◌, length, get_or, set, refl, sym, ap, ◌∙◌, arith, Some, None, Object, is_named, holds, named_in, change_first, without_first, after_drop}
-use Rattle.std.proofs.Common.{is_some}
-use Rattle.std.proofs.lemmas.Bool.{or_parts}
+use Rattle.shr_model.proofs.Common.{◌≡◌, ℕ, zero, suc, ◌+◌, ◌<◌, Bool, true, false, ◌||◌, cond, List, [], ◌∷◌, length, get_or, set, refl, sym, ap, ◌∙◌, arith, Some, None, Object, is_named, holds, named_in, change_first, without_first, after_drop, is_some, or_parts, drop_kind_of}
 use Rattle.std.proofs.lemmas.List.Quantifiers.{position-Some}
 use Rattle.std.proofs.lemmas.Iterator.Adapters.{position_from-zero}
 use Rattle.std.specs.List.{list_any, find, remove, position, position_from}
 use Rattle.shr_base.specs.declared.journals.DropKind.{DropKind}
 use Rattle.shr_base.specs.declared.journals.DropKind.TheVariants.{Dropped, Pinned, Miss}
-use Rattle.shr_model.specs.Items.{drop_kind_of}
 
 -- where no item passes none is found
 pub find_none : (test : Object → Bool) (items : List Object) → list_any test items ≡ false → find test items ≡ None

@@ -1,13 +1,10 @@
 -- What the loop of a pass knows at each turn, with n asks made and `left` to go.
-use Rattle.shr_model.proofs.Common.{◌≡◌, ℕ, zero, suc, ◌+◌, ◌*◌, ◌<◌, ◌≤◌, ◌⊎◌, true, false, cond, leb, min, take, replicate, ap, sym, ◌∙◌, subst, ⊎_elim, arith, nat_tests, Some, None, cases_Bool, Through, Stop, ask_of, due_asks, FollowsArithmetic, batch_of, delta_of, total_of, next_of}
-use Rattle.std.proofs.Common.{◌/◌, sum, le-leb}
-use Rattle.std.proofs.lemmas.List.{take-replicate}
+use Rattle.shr_model.proofs.Common.{◌≡◌, ℕ, zero, suc, ◌+◌, ◌*◌, ◌<◌, ◌≤◌, ◌⊎◌, true, false, cond, leb, min, take, replicate, ap, sym, ◌∙◌, subst, ⊎_elim, arith, nat_tests, Some, None, cases_Bool, Through, Stop, ask_of, due_asks, FollowsArithmetic, batch_of, delta_of, total_of, next_of, ◌/◌, sum, le-leb, take-replicate, NoRoom, Worn}
 use Rattle.std.proofs.lemmas.List.Folds.{sum_by-replicate}
 use Rattle.std.proofs.Math.Nat.{le-div_iff_mul-le, div-lt_iff_lt-mul}
 use mathlib.Core.Logic.{dite}
 use native.Mathlib.Decide.{dec_le}
 use Rattle.shr_base.specs.declared.walks.Ending.{Ending}
-use Rattle.shr_base.specs.declared.walks.Ending.TheVariants.{NoRoom, Worn}
 use Rattle.shr_base.specs.declared.walks.PassRecord.{PassRecord}
 use Rattle.shr_model.specs.Pass.{goes_on, due, ask_size, MadeOf}
 

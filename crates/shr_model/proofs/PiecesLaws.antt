@@ -1,7 +1,6 @@
 -- Parts that are joined are the bytes, and bytes that are cut are the parts.
-use Rattle.shr_model.proofs.Common.{◌≡◌, ℕ, suc, ◌+◌, ◌≤◌, ◌<◌, Bool, true, false, cond, ◌&&◌, List, [], ◌∷◌, ◌++◌, length, take, drop, Option, Some, None, refl, sym, ap, ◌∙◌, arith, eq-eqb, ◌==◌, ◌-◌, nat_tests, prefix_len, list_all}
-use Rattle.std.proofs.lemmas.List.{take_rest}
-use Rattle.shr_model.specs.Pieces.{Parts, cut, pieces, joined, differs, is_part_of, left, next_of}
+use Rattle.shr_model.proofs.Common.{◌≡◌, ℕ, suc, ◌+◌, ◌≤◌, ◌<◌, Bool, true, false, cond, ◌&&◌, List, [], ◌∷◌, ◌++◌, length, take, drop, Option, Some, None, refl, sym, ap, ◌∙◌, arith, eq-eqb, ◌==◌, ◌-◌, nat_tests, prefix_len, list_all, take_rest}
+use Rattle.shr_model.specs.Pieces.{Parts, cut, pieces, joined, differs, is_part_of, left, next_part}
 
 pub one-add : (n : ℕ) → 1 + n ≡ suc n
 one-add n = omega arith
@@ -91,7 +90,7 @@ whole sep (b ∷ bs) h = whole_at sep b bs (b == sep) refl h (whole sep bs)
 
 -- where a separator follows, the next part ends before it, and the bytes behind it are left
 pub next_more : (sep : ℕ) (bytes : List ℕ) (n : ℕ) → n ≡ prefix_len (differs sep) bytes → n < length bytes
-    → Some (take n bytes, left sep (Some (take (length bytes - (n + 1)) (drop (n + 1) bytes)))) ≡ next_of (left sep (Some bytes))
+    → Some (take n bytes, left sep (Some (take (length bytes - (n + 1)) (drop (n + 1) bytes)))) ≡ next_part (left sep (Some bytes))
 unfolding left pieces
 next_more sep bytes n e lt =
     let lt' : prefix_len (differs sep) bytes < length bytes = rw (← e) lt in
@@ -100,7 +99,7 @@ next_more sep bytes n e lt =
 
 -- where none follows, the next part is all that is left
 pub next_last : (sep : ℕ) (bytes : List ℕ) (n : ℕ) → n ≡ prefix_len (differs sep) bytes → (n < length bytes → ⊥)
-    → Some (bytes, left sep None) ≡ next_of (left sep (Some bytes))
+    → Some (bytes, left sep None) ≡ next_part (left sep (Some bytes))
 unfolding left pieces
 next_last sep bytes n e ge = rw (whole sep bytes (omega (arith, e, ge))) refl
 
@@ -150,10 +149,10 @@ ended x = Some x
 ended_is : (x y : List ℕ × List (List ℕ)) → ended x ≡ ended y → x ≡ y
 ended_is x y e = cc
 
-next_long_at : (parts : List (List ℕ)) (p : List ℕ) (ps : List (List ℕ)) → ended (p, ps) ≡ next_of parts → length parts ≡ length ps + 1
+next_long_at : (parts : List (List ℕ)) (p : List ℕ) (ps : List (List ℕ)) → ended (p, ps) ≡ next_part parts → length parts ≡ length ps + 1
 next_long_at [] p ps e = absurd cc
 next_long_at (q ∷ qs) p ps e = let f : ps ≡ qs = ap (λ (x : List ℕ × List (List ℕ)). x.1) (ended_is (p, ps) (q, qs) e) in rw f (omega arith)
 
 -- taking a part leaves one part less
-pub next_long : (parts : List (List ℕ)) (p : List ℕ) (ps : List (List ℕ)) → Some (p, ps) ≡ next_of parts → length parts ≡ length ps + 1
+pub next_long : (parts : List (List ℕ)) (p : List ℕ) (ps : List (List ℕ)) → Some (p, ps) ≡ next_part parts → length parts ≡ length ps + 1
 next_long parts p ps e = next_long_at parts p ps e

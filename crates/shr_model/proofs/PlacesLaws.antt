@@ -1,9 +1,7 @@
 -- Places, and the ends of lists by place.
-use Rattle.shr_model.proofs.Common.{◌≡◌, ◌≢◌, ◌⊎◌, ℕ, zero, suc, ◌<◌, true, ◌&&◌, ◌==◌, List, [], ◌∷◌, length, map, find, slice_get, Contains, refl, Some, None, ap, sym, ◌∙◌, inl, inr, cases_Bool, and_parts, and_from, eqb-true, Place, place_number}
-use Rattle.std.specs.List.{AllAdjacentBelow}
+use Rattle.shr_model.proofs.Common.{◌≡◌, ◌≢◌, ◌⊎◌, ℕ, zero, suc, ◌<◌, true, ◌&&◌, ◌==◌, List, [], ◌∷◌, length, map, find, slice_get, Contains, refl, Some, None, ap, sym, ◌∙◌, inl, inr, cases_Bool, and_parts, and_from, eqb-true, Place, place_number, AllAdjacentBelow, is_place}
 use Rattle.std.proofs.lemmas.Bool.{eq-eqb}
 use Rattle.shr_base.specs.declared.ends.PlaceEnd.{PlaceEnd}
-use Rattle.shr_model.specs.Places.{is_place}
 use Rattle.shr_model.proofs.BagLaws.{AreApart, AreApart_from_numbers}
 use Rattle.shr_model.proofs.Members.{Has, Contains_from_Has, each_has}
 

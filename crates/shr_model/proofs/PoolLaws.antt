@@ -1,7 +1,7 @@
 -- The journal of registrations, one entry longer.
 use Rattle.shr_model.proofs.Common.{◌≡◌, ◌≢◌, ◌⊎◌, ℕ, zero, suc, ◌+◌, ◌<◌, ◌≤◌, Bool, true, false, cond, eqb, leb, List, [], ◌∷◌, ◌++◌, length, take, sym, refl, ap, subst, ◌∙◌, inl, inr, ⊎_elim, arith, eq-eqb, ◌&&◌, Option, Some, None, take_all, take-append-le, some, some-injective, some-ne-none, get_elem?, PoolEntry, Registered, Unregistered, Idle, IsNextPool, IsPoolJournal}
 use Rattle.std.proofs.Common.{ne_eqb, lt-ltb, le-ltb}
-use Rattle.shr_model.specs.Pool.{id_of, phase_of, decl_after, decl_from, number_after, number_from, Registration, end_of, registrations, EndedBy, is_before, lies_in, decl_at, from_after, from_from, dying_in}
+use Rattle.shr_model.specs.Pool.{id_of, phase_of, decl_after, decl_from, number_after, number_from, Registration, end_of, registrations, HaveEndedBy, is_before, lies_in, decl_at, from_after, from_from, dying_in}
 
 -- 1 where the entry is of the id
 abbrev pub one_of : ℕ → PoolEntry → ℕ
@@ -105,19 +105,19 @@ registrations_open i d from (Unregistered e k to ∷ es) = registrations_open i 
 registrations_open i d from (Idle k ∷ es) = registrations_open i d from es
 
 -- an id without entries has no registration that ended
-pub ended_none : (l i : ℕ) → EndedBy l (registrations i [])
-unfolding EndedBy registrations
+pub ended_none : (l i : ℕ) → HaveEndedBy l (registrations i [])
+unfolding HaveEndedBy registrations
 ended_none l i = tt
 
 -- what ended by a number ended by each higher one
-pub ended_later : (l m : ℕ) (rs : List Registration) → l ≤ m → EndedBy l rs → EndedBy m rs
-unfolding EndedBy
+pub ended_later : (l m : ℕ) (rs : List Registration) → l ≤ m → HaveEndedBy l rs → HaveEndedBy m rs
+unfolding HaveEndedBy
 ended_later l m [] h o = tt
 ended_later l m (r ∷ rs) h o = ((λ t e. omega (arith, h, o.0 t e)), ended_later l m rs h o.1)
 
 -- no registration has ended yet by a number that none has passed
-ended_open_one : (l : ℕ) (rs : List Registration) (d from : ℕ) → EndedBy l rs → EndedBy l (rs ++ record { decl = d; from = from; to = None } ∷ [])
-unfolding EndedBy
+ended_open_one : (l : ℕ) (rs : List Registration) (d from : ℕ) → HaveEndedBy l rs → HaveEndedBy l (rs ++ record { decl = d; from = from; to = None } ∷ [])
+unfolding HaveEndedBy
 ended_open_one l [] d from o = ((λ t e. absurd (none_some t e)), tt) where
   none_some : (t : ℕ) → None ≡ Some t → ⊥
   none_some t e = subst (λ (x : Option ℕ). match_none x) e tt where
@@ -157,20 +157,20 @@ pub and_false : (b : Bool) → (b && false) ≡ false
 and_false true = refl
 and_false false = refl
 
-decl_at_closed : (n i d t : ℕ) (es : List PoolEntry) → t ≤ n → EndedBy t (registrations i es) → decl_at n (registrations i (es ++ Unregistered d i t ∷ [])) ≡ None
-unfolding decl_at registrations EndedBy
+decl_at_closed : (n i d t : ℕ) (es : List PoolEntry) → t ≤ n → HaveEndedBy t (registrations i es) → decl_at n (registrations i (es ++ Unregistered d i t ∷ [])) ≡ None
+unfolding decl_at registrations HaveEndedBy
 decl_at_closed n i d t [] l o = refl
-decl_at_closed n i d t (Registered e k f ∷ es) l o = (elim (eqb k i) as (λ b. EndedBy t (cond b (record { decl = e; from = f; to = end_of i es } ∷ registrations i es) (registrations i es)) → decl_at n (cond b (record { decl = e; from = f; to = end_of i (es ++ Unregistered d i t ∷ []) } ∷ registrations i (es ++ Unregistered d i t ∷ [])) (registrations i (es ++ Unregistered d i t ∷ []))) ≡ None) [
+decl_at_closed n i d t (Registered e k f ∷ es) l o = (elim (eqb k i) as (λ b. HaveEndedBy t (cond b (record { decl = e; from = f; to = end_of i es } ∷ registrations i es) (registrations i es)) → decl_at n (cond b (record { decl = e; from = f; to = end_of i (es ++ Unregistered d i t ∷ []) } ∷ registrations i (es ++ Unregistered d i t ∷ [])) (registrations i (es ++ Unregistered d i t ∷ []))) ≡ None) [
   | true ↦ (λ o. let q : (leb f n && is_before n (end_of i (es ++ Unregistered d i t ∷ []))) ≡ false = ap (λ x. leb f n && x) (ap (is_before n) (end_here i d t es) ∙ past_end n t (end_of i es) o.0 l) ∙ and_false (leb f n) in ap {B = Option ℕ} (λ b. cond b (Some e) (decl_at n (registrations i (es ++ Unregistered d i t ∷ [])))) q ∙ decl_at_closed n i d t es l o.1)
   | false ↦ (λ o. decl_at_closed n i d t es l o)
 ]) o
 decl_at_closed n i d t (Unregistered e k to ∷ es) l o = decl_at_closed n i d t es l o
 decl_at_closed n i d t (Idle k ∷ es) l o = decl_at_closed n i d t es l o
 
-ended_close : (i d t : ℕ) (es : List PoolEntry) → EndedBy t (registrations i es) → EndedBy t (registrations i (es ++ Unregistered d i t ∷ []))
-unfolding registrations EndedBy
+ended_close : (i d t : ℕ) (es : List PoolEntry) → HaveEndedBy t (registrations i es) → HaveEndedBy t (registrations i (es ++ Unregistered d i t ∷ []))
+unfolding registrations HaveEndedBy
 ended_close i d t [] o = tt
-ended_close i d t (Registered e k f ∷ es) o = (elim (eqb k i) as (λ b. EndedBy t (cond b (record { decl = e; from = f; to = end_of i es } ∷ registrations i es) (registrations i es)) → EndedBy t (cond b (record { decl = e; from = f; to = end_of i (es ++ Unregistered d i t ∷ []) } ∷ registrations i (es ++ Unregistered d i t ∷ [])) (registrations i (es ++ Unregistered d i t ∷ [])))) [
+ended_close i d t (Registered e k f ∷ es) o = (elim (eqb k i) as (λ b. HaveEndedBy t (cond b (record { decl = e; from = f; to = end_of i es } ∷ registrations i es) (registrations i es)) → HaveEndedBy t (cond b (record { decl = e; from = f; to = end_of i (es ++ Unregistered d i t ∷ []) } ∷ registrations i (es ++ Unregistered d i t ∷ [])) (registrations i (es ++ Unregistered d i t ∷ [])))) [
   | true ↦ (λ o. ((λ y same. closes (end_of i es) o.0 y (sym (end_here i d t es) ∙ same)), ended_close i d t es o.1))
   | false ↦ (λ o. ended_close i d t es o)
 ]) o where
@@ -213,20 +213,20 @@ decl_at_push_low n l i es (Unregistered d j to) is h = subst (λ (x : ℕ). decl
 decl_at_push_low n l i es (Idle j) is h = ap (decl_at n) (registrations_idle i j es)
 
 -- and later ones meet what the entry says
-pub decl_at_push_high : (n l i : ℕ) (es : List PoolEntry) (e : PoolEntry) → Numbered i l e → l ≤ n → EndedBy l (registrations i es) → decl_at n (registrations i (es ++ e ∷ [])) ≡ met_after e (decl_at n (registrations i es))
+pub decl_at_push_high : (n l i : ℕ) (es : List PoolEntry) (e : PoolEntry) → Numbered i l e → l ≤ n → HaveEndedBy l (registrations i es) → decl_at n (registrations i (es ++ e ∷ [])) ≡ met_after e (decl_at n (registrations i es))
 decl_at_push_high n l i es (Registered d j from) is h o = subst (λ (x : ℕ). decl_at n (registrations i (es ++ Registered d x from ∷ [])) ≡ or_else (decl_at n (registrations i es)) (Some d)) (sym is.0)
     (ap (decl_at n) (registrations_open i d from es) ∙ (decl_at_append n (registrations i es) (record { decl = d; from = from; to = None })
     ∙ (let high : (leb from n && true) ≡ true = ap (λ b. b && true) (le-leb from n (omega (arith, is.1, h))) in ap (λ b. or_else (decl_at n (registrations i es)) (cond b (Some d) None)) high))) where
       le-leb : (a b : ℕ) → a ≤ b → leb a b ≡ true
       le-leb a b h = grind (arith, Rattle.std.proofs.lemmas.Bool.Decides.nat_tests)
-decl_at_push_high n l i es (Unregistered d j to) is h o = subst (λ (x : ℕ). decl_at n (registrations i (es ++ Unregistered d x to ∷ [])) ≡ None) (sym is.0) (decl_at_closed n i d to es (omega (arith, is.1, h)) (subst (λ (x : ℕ). EndedBy x (registrations i es)) (sym is.1) o))
+decl_at_push_high n l i es (Unregistered d j to) is h o = subst (λ (x : ℕ). decl_at n (registrations i (es ++ Unregistered d x to ∷ [])) ≡ None) (sym is.0) (decl_at_closed n i d to es (omega (arith, is.1, h)) (subst (λ (x : ℕ). HaveEndedBy x (registrations i es)) (sym is.1) o))
 decl_at_push_high n l i es (Idle j) is h o = ap (decl_at n) (registrations_idle i j es)
 
 -- the registrations of an id have ended by l still, with an entry of the id that carries l
-pub ended_push : (l i : ℕ) (es : List PoolEntry) (e : PoolEntry) → Numbered i l e → EndedBy l (registrations i es) → EndedBy l (registrations i (es ++ e ∷ []))
-ended_push l i es (Registered d j from) is o = subst (λ (x : ℕ). EndedBy l (registrations i (es ++ Registered d x from ∷ []))) (sym is.0) (subst (EndedBy l) (sym (registrations_open i d from es)) (ended_open_one l (registrations i es) d from o))
-ended_push l i es (Unregistered d j to) is o = subst (λ (x : ℕ). EndedBy l (registrations i (es ++ Unregistered d x to ∷ []))) (sym is.0) (subst (λ (x : ℕ). EndedBy x (registrations i (es ++ Unregistered d i to ∷ []))) is.1 (ended_close i d to es (subst (λ (x : ℕ). EndedBy x (registrations i es)) (sym is.1) o)))
-ended_push l i es (Idle j) is o = subst (EndedBy l) (sym (registrations_idle i j es)) o
+pub ended_push : (l i : ℕ) (es : List PoolEntry) (e : PoolEntry) → Numbered i l e → HaveEndedBy l (registrations i es) → HaveEndedBy l (registrations i (es ++ e ∷ []))
+ended_push l i es (Registered d j from) is o = subst (λ (x : ℕ). HaveEndedBy l (registrations i (es ++ Registered d x from ∷ []))) (sym is.0) (subst (HaveEndedBy l) (sym (registrations_open i d from es)) (ended_open_one l (registrations i es) d from o))
+ended_push l i es (Unregistered d j to) is o = subst (λ (x : ℕ). HaveEndedBy l (registrations i (es ++ Unregistered d x to ∷ []))) (sym is.0) (subst (λ (x : ℕ). HaveEndedBy x (registrations i (es ++ Unregistered d i to ∷ []))) is.1 (ended_close i d to es (subst (λ (x : ℕ). HaveEndedBy x (registrations i es)) (sym is.1) o)))
+ended_push l i es (Idle j) is o = subst (HaveEndedBy l) (sym (registrations_idle i j es)) o
 
 -- one legal entry more
 at_end : (es : List PoolEntry) (e x : PoolEntry) (n : ℕ) → get_elem? (es ++ e ∷ []) n ≡ some x → ((n < length es) × (get_elem? es n ≡ some x)) ⊎ ((n ≡ length es) × (e ≡ x))

@@ -1,9 +1,8 @@
 -- The ids that the maps of several units show.
-use Rattle.shr_model.proofs.Common.{◌≡◌, ℕ, zero, suc, ◌+◌, ◌*◌, ◌<◌, ◌≤◌, Bool, true, false, cond, List, [], ◌∷◌, ◌++◌, length, map, take, sym, ap, subst, ◌∙◌, arith, length-append, filter, flat_map, AllByRecursion, range_with_len, set_bits_of, ids_in, unit_of}
+use Rattle.shr_model.proofs.Common.{◌≡◌, ℕ, zero, suc, ◌+◌, ◌*◌, ◌<◌, ◌≤◌, Bool, true, false, cond, List, [], ◌∷◌, ◌++◌, length, map, take, sym, ap, subst, ◌∙◌, arith, length-append, filter, flat_map, AllByRecursion, range_with_len, set_bits_of, ids_in, unit_of, is_set}
 use Rattle.std.proofs.Math.Seq.{take-append_seam}
 use Rattle.std.proofs.lemmas.Grind.{flat_map-append}
 use Rattle.shr_base.specs.declared.walks.MapSeen.{MapSeen}
-use Rattle.shr_model.specs.Bits.{is_set}
 use Rattle.shr_model.proofs.BagLaws.{each_append, each_weaker}
 
 -- each number is above all before it

@@ -1,6 +1,5 @@
 -- Journals of pools and their free units, at known values.
-use Rattle.shr_model.proofs.Common.{◌≡◌, true, false, List, [], ◌∷◌, refl, arith, Serial}
-use Rattle.std.proofs.Common.{lit≤}
+use Rattle.shr_model.proofs.Common.{◌≡◌, true, false, List, [], ◌∷◌, refl, arith, Serial, lit≤}
 use Rattle.shr_base.specs.declared.journals.PlainEntry.{PlainEntry}
 use Rattle.shr_base.specs.declared.journals.PlainEntry.TheVariants.{Release, Grab, Reclaim}
 use Rattle.shr_model.specs.Units.{free_after, free_of, IsPlainEntry, IsPlainJournal}

@@ -1,11 +1,9 @@
 -- The records of walks, and what commands make and move, at known values.
-use Rattle.shr_model.proofs.Common.{◌≡◌, ◌^◌, ◌+◌, pos, true, false, [], ◌∷◌, Some, None, refl, UseStep, set_bits_of, ids_in}
+use Rattle.shr_model.proofs.Common.{◌≡◌, ◌^◌, ◌+◌, pos, true, false, [], ◌∷◌, Some, None, refl, UseStep, set_bits_of, ids_in, units_of, is_refused}
 use Rattle.shr_base.specs.declared.scripts.Command.TheVariants.{Balance}
 use Rattle.shr_base.specs.declared.walks.GoneThen.TheVariants as gone
 use Rattle.shr_base.specs.declared.walks.Outcome.TheVariants as outcome
-use Rattle.shr_model.specs.Attempts.{number_of, counts_of, counted, is_clearing, is_held}
-use Rattle.shr_model.specs.Bits.{units_of}
-use Rattle.shr_model.specs.Charges.{is_refused}
+use Rattle.shr_model.specs.Attempts.{number_of, counts_of, as_count, is_clearing, is_held}
 use Rattle.shr_model.specs.Commands.{rounds_from, jobs_of}
 use Rattle.shr_model.specs.Freeings.{is_at_or_above}
 use Rattle.shr_model.specs.Groups.{preorder_within, path_within}
@@ -40,7 +38,7 @@ set_again = refl
 root_clears_none : is_clearing (outcome.Gone 7 gone.Root) ≡ false
 root_clears_none = refl
 
-counts_of_restored : counts_of (outcome.RestoredSkip 7 3 2 4) ≡ counted 0 3 ∷ counted 2 4 ∷ []
+counts_of_restored : counts_of (outcome.RestoredSkip 7 3 2 4) ≡ as_count 0 3 ∷ as_count 2 4 ∷ []
 counts_of_restored = refl
 
 -- two rounds over group 1 with its child 2, on two nodes

@@ -120,9 +120,9 @@ registrations id (Unregistered d i to ∷ es) = registrations id es
 registrations id (Idle i ∷ es) = registrations id es
 
 -- each of these registrations that has ended did so by this number
-unfoldable pub EndedBy : ℕ → List Registration → Type 0
-EndedBy l [] = Unit {0}
-EndedBy l (r ∷ rs) = ((t : ℕ) → r.to ≡ Some t → t ≤ l) × EndedBy l rs
+unfoldable pub HaveEndedBy : ℕ → List Registration → Type 0
+HaveEndedBy l [] = Unit {0}
+HaveEndedBy l (r ∷ rs) = ((t : ℕ) → r.to ≡ Some t → t ≤ l) × HaveEndedBy l rs
 
 -- the number is before the end, where there is one
 abbrev pub is_before : ℕ → Option ℕ → Bool

@@ -1,15 +1,9 @@
 -- Acting on the first open list, and giving its room back.
-use Rattle.shr_node.proofs.Common.{◌≡◌, ℕ, zero, suc, ◌<◌, ◌≤◌, Bool, true, false, cond, List, [], ◌∷◌, ◌++◌, length, sym, refl, ap, subst, ◌∙◌, inl, arith, length-append, ne_eqb, not_some, append-nil, Contains, Option, Some, ◌&&◌, ◌==◌, nat_lt, Object, Place, Serial, Entry, Add, Look, Drop, Pin, Scan, MovedIn, Closed, Drained, place_number, at_group, IsTree, is_child, named_in, step, IsOutcome, is_closed, drop_kind_of, moved_in, IsAllowed, child_takes, child_higher, IsAtOrAbove-le, IsAtOrAbove-refl, Listed, Policy, Takes, RefusesWorn, LacksMemory, TellsScan, scan_entry, drain_entry, Each, View, Shape, Room, Content, Holding, Made, Known, Claims, no_rooms, id_of, group_of, beside, AreBorn, list_content, groups_in, Core, IsPlaceOf, MayTake, shape_of, IsInHand, with_taken, with_given, in_hand, IsTaken, last_entry, half_after, moved_in_hand, IsBacked, has_taken, inside, Gains, Knows, bits_for, with_kept, IsFirstOpen, IsOpened, WasOpen, IsReady, IsUntouched, made_of, Acts, IsFull, HadRoom, Scans}
+use Rattle.shr_node.proofs.Common.{◌≡◌, ℕ, zero, suc, ◌<◌, ◌≤◌, Bool, true, false, cond, List, [], ◌∷◌, ◌++◌, length, sym, refl, ap, subst, ◌∙◌, inl, arith, length-append, ne_eqb, not_some, append-nil, Contains, Option, Some, ◌&&◌, ◌==◌, nat_lt, Object, Place, Serial, Entry, Add, Look, Drop, Pin, Scan, MovedIn, Closed, Drained, place_number, at_group, IsTree, is_child, named_in, step, IsOutcome, is_closed, drop_kind_of, moved_in, IsAllowed, child_takes, child_higher, IsAtOrAbove-le, IsAtOrAbove-refl, Listed, Policy, Takes, RefusesWorn, LacksMemory, TellsScan, scan_entry, drain_entry, Each, View, Shape, Room, RoomContent, Holding, Made, Known, Claims, no_rooms, place_id, group_of, beside, AreBorn, list_content, groups_in, Core, IsPlaceOfShape, MayTake, shape_of, IsInHand, with_taken, with_given, in_hand, IsTaken, last_entry, half_after, moved_in_hand, IsBacked, has_taken, inside, Gains, Knows, bits_for, with_kept, IsFirstOpen, IsOpened, WasOpen, IsRoomReady, IsUntouched, entry_made, Acts, LackedRoom, HadRoom, ScansPlace, IsBornAt, HasRoom, IsWorn, Counted, IsUnspliced, taken_in_hand, TenantIsWorn, TenantLacks}
 use Rattle.shr_base.specs.declared.journals.DropKind.TheVariants.{Dropped, Pinned}
 use Rattle.shr_model.specs.Tenants.{birth_of}
-use Rattle.shr_model.specs.Families.{IsBornAt}
 use Rattle.shr_model.specs.Scan.{scan_of}
 use Rattle.shr_core.proofs.Emptiness.{step_none}
-use Rattle.shr_list.specs.Answers.{HasRoom, IsWorn}
-use Rattle.shr_core.specs.Parts.{Counted}
-use Rattle.shr_core.specs.Steps.{IsUnspliced}
-use Rattle.shr_core.proofs.Hands.{taken_in_hand}
-use Rattle.shr_node.specs.Answers.{TenantIsWorn, TenantLacks}
 use Rattle.shr_node.proofs.Gaining.{same_seen, gains_none, gains_then, gains_given, known_given, gains_kept, known_kept, knows_still, each_before}
 use Rattle.shr_core.proofs.Storing.{last_pushed}
 use Rattle.shr_model.proofs.Lists.{some_same}
@@ -33,10 +27,10 @@ opened_here shape v u w id node birth place room same gains first taken told ope
 -- what was taken is in hand
 pub in_hand_whole : (v : View) (k : ℕ) (l : Listed) → IsInHand l (in_hand (with_taken v k (list_content l)) k)
 in_hand_whole v k l = let e = taken_in_hand v k (list_content l) in record {
-  entries = ap (λ (c : Content). c.entries) (sym e);
-  items = ap (λ (c : Content). c.items) (sym e);
-  most_items = ap (λ (c : Content). c.most_items) (sym e);
-  most_entries = ap (λ (c : Content). c.most_entries) (sym e);
+  entries = ap (λ (c : RoomContent). c.entries) (sym e);
+  items = ap (λ (c : RoomContent). c.items) (sym e);
+  most_items = ap (λ (c : RoomContent). c.most_items) (sym e);
+  most_entries = ap (λ (c : RoomContent). c.most_entries) (sym e);
 }
 
 -- an entry of no splice: nothing is moved, no splice begins or ends, and the seat may store it
@@ -46,7 +40,7 @@ pub record IsPlain (shape : Shape) (v : View) (k : ℕ) (e : Entry) : Type 0 whe
   pub backed : IsUnspliced shape v k → IsBacked shape v k e
 
 -- a tenant's entry is plain, and may stand where its birth group says
-pub tenant_plain : (shape : Shape) (v : View) (k : ℕ) (e : Entry) (birth : ℕ) → birth_of e ≡ Some birth → birth < groups_in shape → v.claims.held ≡ Some (id_of k) → IsPlain shape v k e
+pub tenant_plain : (shape : Shape) (v : View) (k : ℕ) (e : Entry) (birth : ℕ) → birth_of e ≡ Some birth → birth < groups_in shape → v.claims.held ≡ Some (place_id k) → IsPlain shape v k e
 tenant_plain shape v k (Add by b added key value) birth h far holds = record { moved = refl; half = λ x. refl; backed = λ free. (holds, subst (λ (x : ℕ). x < groups_in shape) (sym (some_same b birth h)) far, free) }
 tenant_plain shape v k (Look by b key hit) birth h far holds = record { moved = refl; half = λ x. refl; backed = λ free. free }
 tenant_plain shape v k (Drop by b key kind) birth h far holds = record { moved = refl; half = λ x. refl; backed = λ free. free }
@@ -74,7 +68,7 @@ each_of P (y ∷ ys) x all (zero, within, at) = subst P at (all 0 y refl)
 each_of P (y ∷ ys) x all (suc n, within, at) = each_of P ys x (λ j z e. all (suc j) z e) (n, omega (arith, within), at)
 
 -- a room in hand of an open list that took a plain entry
-module _ (shape : Shape) (u : View) (room : Room) (place : IsPlaceOf shape room.place) (nodes : shape.nodes ≤ 4) (groups : groups_in shape ≤ 256) (none : u.holding ≡ no_rooms)
+module _ (shape : Shape) (u : View) (room : Room) (place : IsPlaceOfShape shape room.place) (nodes : shape.nodes ≤ 4) (groups : groups_in shape ≤ 256) (none : u.holding ≡ no_rooms)
     (told : IsTaken shape u (place_number room.place) (list_content room.list)) where
   -- the number of the room's place
   abbrev pub here : ℕ
@@ -87,11 +81,11 @@ module _ (shape : Shape) (u : View) (room : Room) (place : IsPlaceOf shape room.
   module _ (new : Listed) (e : Entry) (n : ℕ) (took : Takes room.list new e n) (plain : IsPlain shape view here e) where
     module _ (allowed : IsAllowed shape.parents.items room.place.group room.list.entries e) where
       -- a list with one legal entry more is ready to be stored
-      pub ready : IsReady shape view (record room { list = new })
+      pub ready : IsRoomReady shape view (record room { list = new })
       ready = let g = took.gains in let last : last_entry new.entries ≡ e = ap last_entry g.entries ∙ last_pushed room.list.entries e in
           let hand : in_hand view here ≡ list_content room.list = taken_in_hand u here (list_content room.list) in
-          let old-entries : (in_hand view here).entries ≡ room.list.entries = ap (λ (c : Content). c.entries) hand in
-          let old-items : (in_hand view here).items ≡ room.list.items = ap (λ (c : Content). c.items) hand in
+          let old-entries : (in_hand view here).entries ≡ room.list.entries = ap (λ (c : RoomContent). c.entries) hand in
+          let old-items : (in_hand view here).items ≡ room.list.items = ap (λ (c : RoomContent). c.items) hand in
           let group : group_of here ≡ room.place.group = omega (arith, place.group, groups) in
           let free : IsUnspliced shape view here = λ child half. absurd (not_some child view.holding.half (ap (λ (h : Holding). h.half) none) half) in
           let moved : moved_in_hand view here (last_entry new.entries) ≡ [] = ap (moved_in_hand view here) last ∙ plain.moved in record {
@@ -114,13 +108,13 @@ module _ (shape : Shape) (u : View) (room : Room) (place : IsPlaceOf shape room.
               few_items = let fit = took.room.items in omega (arith, fit, ap (length {A = Object}) g.items, told.most_items);
               few_entries = let fit = took.room.entries in omega (arith, fit, ap (length {A = Entry}) g.entries, length-append room.list.entries (e ∷ []), told.most_entries);
             };
-            most_items = g.most_items ∙ ap (λ (c : Content). c.most_items) (sym hand);
-            most_entries = g.most_entries ∙ ap (λ (c : Content). c.most_entries) (sym hand);
+            most_items = g.most_items ∙ ap (λ (c : RoomContent). c.most_items) (sym hand);
+            most_entries = g.most_entries ∙ ap (λ (c : RoomContent). c.most_entries) (sym hand);
             whole = ap (half_after view.holding.half here) last ∙ (plain.half view.holding.half ∙ ap (λ (h : Holding). h.half) none);
           }
 
 -- a room that was taken and is as it was
-pub untouched : (shape : Shape) (u : View) (room : Room) (same : Listed) → IsPlaceOf shape room.place → u.holding ≡ no_rooms → same ≡ room.list
+pub untouched : (shape : Shape) (u : View) (room : Room) (same : Listed) → IsPlaceOfShape shape room.place → u.holding ≡ no_rooms → same ≡ room.list
     → IsUntouched shape (with_taken u (place_number room.place) (list_content room.list)) (record room { list = same })
 untouched shape u room same place none e = record {
   place = place;
@@ -158,7 +152,7 @@ module _ (shape : Shape) (v w : View) (id node birth : ℕ) (room : Room) (o : I
   }
 
   -- the place is of the shape
-  pub place_inside : IsTree shape.parents.items → id < shape.ids → node < shape.nodes → birth < groups_in shape → IsPlaceOf shape room.place
+  pub place_inside : IsTree shape.parents.items → id < shape.ids → node < shape.nodes → birth < groups_in shape → IsPlaceOfShape shape room.place
   place_inside tree near low far = let f = o.first in let e = f.same_id in let n = f.same_node in let le = IsAtOrAbove-le shape.parents.items tree room.place.group birth far f.above in record {
     id = omega (arith, near, e);
     node = omega (arith, low, n);
@@ -172,20 +166,20 @@ module _ (shape : Shape) (v w : View) (id node birth : ℕ) (room : Room) (o : I
     was : w' ≡ with_kept (with_taken o.before (place_number room.place) (list_content room.list)) (place_number room.place) e (step [] room.list.items e)
     was = kept ∙ λ i. with_kept (o.taken i) (place_number room.place) ((ap last_entry took.gains.entries ∙ last_pushed room.list.entries e) i) (took.gains.items i)
 
-    last_gains : Gains o.before w' (made_of (place_number room.place) room.list e ∷ []) (bits_for (place_number room.place) room.list.items (step [] room.list.items e))
-    last_gains = subst (λ (x : View). Gains o.before x (made_of (place_number room.place) room.list e ∷ []) (bits_for (place_number room.place) room.list.items (step [] room.list.items e))) (sym was)
+    last_gains : Gains o.before w' (entry_made (place_number room.place) room.list e ∷ []) (bits_for (place_number room.place) room.list.items (step [] room.list.items e))
+    last_gains = subst (λ (x : View). Gains o.before x (entry_made (place_number room.place) room.list e ∷ []) (bits_for (place_number room.place) room.list.items (step [] room.list.items e))) (sym was)
         (gains_kept o.before (place_number room.place) (list_content room.list) e (step [] room.list.items e) (half o.before.holding.half))
 
     -- an entry that is kept is what the call gains
-    pub gains_one : Gains v w' (made_of (place_number room.place) room.list e ∷ []) (bits_for (place_number room.place) room.list.items (step [] room.list.items e))
-    gains_one = gains_then v o.before w' [] (made_of (place_number room.place) room.list e ∷ []) [] (bits_for (place_number room.place) room.list.items (step [] room.list.items e)) o.gains last_gains
+    pub gains_one : Gains v w' (entry_made (place_number room.place) room.list e ∷ []) (bits_for (place_number room.place) room.list.items (step [] room.list.items e))
+    gains_one = gains_then v o.before w' [] (entry_made (place_number room.place) room.list e ∷ []) [] (bits_for (place_number room.place) room.list.items (step [] room.list.items e)) o.gains last_gains
 
     -- the seat acted on the first open list
     pub acts : (so : List Object → Type 0) → so room.list.items → Acts shape v w' id node birth (record { place = room.place; entry = n }) so f
     acts so before = record {
       old = room.list;
       before = before;
-      first = first_still w' (made_of (place_number room.place) room.list e ∷ []) (bits_for (place_number room.place) room.list.items (step [] room.list.items e)) last_gains;
+      first = first_still w' (entry_made (place_number room.place) room.list e ∷ []) (bits_for (place_number room.place) room.list.items (step [] room.list.items e)) last_gains;
       was = was_open;
       room = took.room;
       number = took.number;
@@ -215,7 +209,7 @@ module _ (shape : Shape) (v w : View) (id node birth : ℕ) (room : Room) (o : I
     left_known = subst (λ (x : View). Knows x (place_number room.place) room.list.entries) (sym was_given) (known_given o.before (place_number room.place) (list_content room.list))
 
     -- so a list without room was full
-    pub left_full : (e : Entry) (entries items : ℕ) → IsWorn room.list [] e entries items → IsFull shape v w' (place_number room.place) room.list e entries items
+    pub left_full : (e : Entry) (entries items : ℕ) → IsWorn room.list [] e entries items → LackedRoom shape v w' (place_number room.place) room.list e entries items
     left_full e entries items worn = record {
       was = was_open;
       worn = worn;
@@ -228,7 +222,7 @@ module _ (shape : Shape) (v w : View) (id node birth : ℕ) (room : Room) (o : I
     left_free e free = record { was = was_open; room = free; gains = left_gains; known = left_known }
 
   -- what the seat needs to store a tenant's entry, or to give the room back
-  module _ (tree : IsTree shape.parents.items) (far : birth < groups_in shape) (place : IsPlaceOf shape room.place) (nodes : shape.nodes ≤ 4) (groups : groups_in shape ≤ 256) (none : v.holding ≡ no_rooms) where
+  module _ (tree : IsTree shape.parents.items) (far : birth < groups_in shape) (place : IsPlaceOfShape shape room.place) (nodes : shape.nodes ≤ 4) (groups : groups_in shape ≤ 256) (none : v.holding ≡ no_rooms) where
     -- a list that is as it was may be given back
     pub untouched_here : (same : Listed) → same ≡ room.list → IsUntouched shape w (record { place = room.place; list = same })
     untouched_here same e = subst (λ (x : View). IsUntouched shape x (record { place = room.place; list = same })) (sym o.taken) (untouched shape o.before room same place (o.gains.holding ∙ none) e)
@@ -248,21 +242,21 @@ module _ (shape : Shape) (v w : View) (id node birth : ℕ) (room : Room) (o : I
 
     -- a list that took an entry which is no MovedIn and no Closed is ready
     pub ready_plain : (new : Listed) (e : Entry) (n : ℕ) → Takes room.list new e n → IsPlain shape (with_taken o.before (place_number room.place) (list_content room.list)) (place_number room.place) e
-        → IsAllowed shape.parents.items room.place.group room.list.entries e → IsReady shape w (record { place = room.place; list = new })
-    ready_plain new e n took plain allowed = subst (λ (x : View). IsReady shape x (record { place = room.place; list = new })) (sym o.taken)
+        → IsAllowed shape.parents.items room.place.group room.list.entries e → IsRoomReady shape w (record { place = room.place; list = new })
+    ready_plain new e n took plain allowed = subst (λ (x : View). IsRoomReady shape x (record { place = room.place; list = new })) (sym o.taken)
         (ready shape o.before room place nodes groups (o.gains.holding ∙ none) o.told new e n took plain allowed)
 
-    id_here : id_of (place_number room.place) ≡ id
+    id_here : place_id (place_number room.place) ≡ id
     id_here = let same = o.first.same_id in omega (arith, place.node, place.group, nodes, groups, same)
 
-    pub held_here : v.claims.held ≡ Some id → (with_taken o.before (place_number room.place) (list_content room.list)).claims.held ≡ Some (id_of (place_number room.place))
+    pub held_here : v.claims.held ≡ Some id → (with_taken o.before (place_number room.place) (list_content room.list)).claims.held ≡ Some (place_id (place_number room.place))
     held_here holds = ap (λ (c : Claims). c.held) o.gains.claims ∙ (holds ∙ ap (λ (x : ℕ). Some x) (sym id_here))
 
-    pub owned_here : v.claims.owner ≡ Some id → (with_taken o.before (place_number room.place) (list_content room.list)).claims.owner ≡ Some (id_of (place_number room.place))
+    pub owned_here : v.claims.owner ≡ Some id → (with_taken o.before (place_number room.place) (list_content room.list)).claims.owner ≡ Some (place_id (place_number room.place))
     owned_here owns = ap (λ (c : Claims). c.owner) o.gains.claims ∙ (owns ∙ ap (λ (x : ℕ). Some x) (sym id_here))
 
     -- a list that took a tenant's entry is ready
-    pub ready_tenant : (new : Listed) (e : Entry) (n : ℕ) → Takes room.list new e n → v.claims.held ≡ Some id → birth_of e ≡ Some birth → IsReady shape w (record { place = room.place; list = new })
+    pub ready_tenant : (new : Listed) (e : Entry) (n : ℕ) → Takes room.list new e n → v.claims.held ≡ Some id → birth_of e ≡ Some birth → IsRoomReady shape w (record { place = room.place; list = new })
     ready_tenant new e n took holds by = ready_plain new e n took (tenant_plain shape (with_taken o.before (place_number room.place) (list_content room.list)) (place_number room.place) e birth by far (held_here holds))
         (tenant_allowed shape.parents.items room.place.group room.list.entries e birth by born)
 
@@ -293,10 +287,10 @@ asked_of core v id node birth none holds place = record {
 
 -- what a tenant's call needs to give its room back, and what it answers then
 module _ (shape : Shape) (v w : View) (id node birth : ℕ) (room : Room) (o : IsOpened shape v w id node birth room) (a : IsAsked shape v id node birth) (new : Listed) where
-  there : IsPlaceOf shape room.place
+  there : IsPlaceOfShape shape room.place
   there = place_inside shape v w id node birth room o a.tree a.near a.low a.far
 
-  pub tenant_ready : (e : Entry) (n : ℕ) → birth_of e ≡ Some birth → Takes room.list new e n → IsReady shape w (record { place = room.place; list = new })
+  pub tenant_ready : (e : Entry) (n : ℕ) → birth_of e ≡ Some birth → Takes room.list new e n → IsRoomReady shape w (record { place = room.place; list = new })
   tenant_ready e n by took = ready_tenant shape v w id node birth room o a.tree a.far there a.nodes a.groups a.none new e n took a.holds by
 
   pub tenant_untouched : new ≡ room.list → IsUntouched shape w (record { place = room.place; list = new })
@@ -344,7 +338,7 @@ pub dropped : (birth : ℕ) (key : List ℕ) (items : List Object) (object : Obj
 dropped birth key items object is free = ap drop_kind_of is ∙ ap (λ b. cond b Pinned Dropped) free
 
 -- an entry of a scan is plain
-pub scan_plain : (shape : Shape) (v : View) (k : ℕ) (e : Entry) (l : Listed) (worker walk : ℕ) (policy : Policy) (asked : ℕ) → e ≡ scan_entry l worker walk policy asked → v.claims.held ≡ Some (id_of k) → IsPlain shape v k e
+pub scan_plain : (shape : Shape) (v : View) (k : ℕ) (e : Entry) (l : Listed) (worker walk : ℕ) (policy : Policy) (asked : ℕ) → e ≡ scan_entry l worker walk policy asked → v.claims.held ≡ Some (place_id k) → IsPlain shape v k e
 scan_plain shape v k e l worker walk policy asked is holds = subst (λ (x : Entry). IsPlain shape v k x) (sym is) (record { moved = refl; half = λ h. refl; backed = λ free. (holds, free) })
 
 -- a scan fills no list
@@ -369,7 +363,7 @@ own_place shape v place tree there = record {
 -- what a scan leaves to say
 pub scans : (shape : Shape) (v w : View) (place : Place) (n worker walk : ℕ) (policy : Policy) (asked : ℕ) (freed : List Object) (visits : ℕ) (stopped : Bool)
     → Acts shape v w place.id place.node place.group (record { place = place; entry = n }) (λ items. TellsScan policy asked items freed visits stopped × AreBorn (groups_in shape) freed) (λ old. scan_entry old worker walk policy asked)
-    → Scans shape v w place worker walk policy asked freed visits stopped
+    → ScansPlace shape v w place worker walk policy asked freed visits stopped
 scans shape v w place n worker walk policy asked freed visits stopped a = let e : Entry = scan_entry a.old worker walk policy asked in record {
   old = a.old;
   told = a.before.0;
@@ -377,7 +371,7 @@ scans shape v w place n worker walk policy asked freed visits stopped a = let e 
   was = a.was;
   room = a.room;
   outcome = a.outcome;
-  gains = subst (λ (s : List ℕ). Gains v w (made_of (place_number place) a.old e ∷ []) s) (scan_bits (place_number place) a.old worker walk policy asked) a.gains;
+  gains = subst (λ (s : List ℕ). Gains v w (entry_made (place_number place) a.old e ∷ []) s) (scan_bits (place_number place) a.old worker walk policy asked) a.gains;
   known = a.known;
 }
 
@@ -387,7 +381,7 @@ pub own_opened : (shape : Shape) (v w : View) (place : Place) (room : Room) → 
 own_opened shape v w place room tree there same taken told opens = opened_here shape v v w place.id place.node place.group place room same (gains_none v) (own_place shape v place tree there) taken told opens
 
 -- a drain is plain for the owner of the id that is quiet
-pub drain_plain : (shape : Shape) (v : View) (k : ℕ) (l : Listed) (by : Serial) → v.claims.owner ≡ Some (id_of k) → v.claims.quiet ≡ true → IsPlain shape v k (drain_entry l by)
+pub drain_plain : (shape : Shape) (v : View) (k : ℕ) (l : Listed) (by : Serial) → v.claims.owner ≡ Some (place_id k) → v.claims.quiet ≡ true → IsPlain shape v k (drain_entry l by)
 drain_plain shape v k l by owns quiet = record { moved = refl; half = λ h. refl; backed = λ free. (owns, quiet, free) }
 
 -- a drain fills no list

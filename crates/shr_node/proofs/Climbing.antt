@@ -1,10 +1,5 @@
 -- Going up from the birth group, over closed lists.
-use Rattle.shr_node.proofs.Common.{◌≡◌, ◌≢◌, ℕ, ◌<◌, inl, inr, true, List, [], ◌∷◌, length, take, sym, refl, subst, ⊎_elim, arith, Some, Place, Entry, Closed, place_number, IsTree, parent_of, path_of, IsAtOrAbove, is_closed, on_child, IsAtOrAbove-trans, IsAtOrAbove-le, IsAtOrAbove-refl, Has_from_Contains, Contains_from_Has, View, Shape, Content, groups_in, with_taken, with_given, Gains, KnowsClosed, IsFirstOpen, closed_at}
-use Rattle.std.proofs.Common.{◌⊎◌}
-use Rattle.std.specs.Prelude.{slice_get}
-use Rattle.shr_model.specs.Families.{MayStand}
-use Rattle.shr_model.proofs.GroupsLaws.{path_of-below}
-use Rattle.shr_model.proofs.Members.{Has}
+use Rattle.shr_node.proofs.Common.{◌≡◌, ◌≢◌, ℕ, ◌<◌, inl, inr, true, List, [], ◌∷◌, length, take, sym, refl, subst, ⊎_elim, arith, Some, Place, Entry, Closed, place_number, IsTree, parent_of, path_of, IsAtOrAbove, is_closed, on_child, IsAtOrAbove-trans, IsAtOrAbove-le, IsAtOrAbove-refl, Has_from_Contains, Contains_from_Has, View, Shape, RoomContent, groups_in, with_taken, with_given, Gains, KnowsClosed, IsFirstOpen, closed_at, ◌⊎◌, slice_get, MayStand, path_of-below, Has}
 use Rattle.shr_node.proofs.Gaining.{gains_none, gains_then, gains_given, known_given, knows_still}
 
 -- the place of a group at an id and node
@@ -42,7 +37,7 @@ above_parent parents tree g group low there h = elim (subst (λ (xs : List ℕ).
 pub parent_above : (parents : List ℕ) → IsTree parents → (group : ℕ) → 0 < group → group < length parents → IsAtOrAbove parents (parent_of parents group) group
 parent_above parents tree group low there = Contains_from_Has (path_of parents group) (parent_of parents group) (on_child parents tree (parent_of parents group) group (record { above = low; there = there; parent = refl }))
 
-module _ (shape : Shape) (v w : View) (id node birth group : ℕ) (tree : IsTree shape.parents.items) (far : birth < groups_in shape) (on : IsOnWay shape v w id node birth group) (c : Content) where
+module _ (shape : Shape) (v w : View) (id node birth group : ℕ) (tree : IsTree shape.parents.items) (far : birth < groups_in shape) (on : IsOnWay shape v w id node birth group) (c : RoomContent) where
   -- the closed list of the group is left
   pub way_goes : is_closed c.entries ≡ true → group ≢ 0 → IsOnWay shape v (with_given (with_taken w (place_number (place_of id node group)) c) (place_number (place_of id node group))) id node birth (parent_of shape.parents.items group)
   way_goes closed below = let low : 0 < group = omega (arith, below) in let k : ℕ = place_number (place_of id node group) in let w' : View = with_given (with_taken w k c) k in let there = on.there in let up = tree.lower group low there in record {

@@ -1,9 +1,7 @@
 -- What closing one list into its parent's needs and says.
-use Rattle.shr_node.proofs.Common.{◌≡◌, ℕ, ◌<◌, Bool, true, false, cond, eqb, lt-ltb, eq-eqb, inr, List, [], ◌∷◌, ◌++◌, length, sym, refl, ap, subst, ◌∙◌, arith, length-append, ◌&&◌, ◌||◌, nat_lt, Place, Closed, MovedIn, place_number, parent_of, is_child, is_closed, AreChildrenMovedIn, IsAtOrAbove-refl, Listed, IsSound, Core, View, Room, Content, Holding, no_rooms, group_of, list_content, groups_in, MayTake, shape_of, IsTaken, IsCounted, with_taken, with_given, Gains, Knows, KnowsClosed, place_of, AreTaken}
-use Rattle.std.proofs.Common.{ltb}
+use Rattle.shr_node.proofs.Common.{◌≡◌, ℕ, ◌<◌, Bool, true, false, cond, eqb, lt-ltb, eq-eqb, inr, List, [], ◌∷◌, ◌++◌, length, sym, refl, ap, subst, ◌∙◌, arith, length-append, ◌&&◌, ◌||◌, nat_lt, Place, Closed, MovedIn, place_number, parent_of, is_child, is_closed, AreChildrenMovedIn, IsAtOrAbove-refl, Listed, IsSound, Core, View, Room, RoomContent, Holding, no_rooms, group_of, list_content, groups_in, MayTake, shape_of, IsTaken, IsCounted, with_taken, with_given, Gains, Knows, KnowsClosed, group_place, AreBothTaken, ltb, Hand}
 use Rattle.shr_model.proofs.ListLaws.{is_closed_push}
 use Rattle.shr_list.specs.Answers as answer
-use Rattle.shr_core.specs.Parts.{Hand}
 use Rattle.shr_node.specs.Closes.{ClosesOne, WasClosed}
 use Rattle.shr_node.proofs.Storing.{BothReady, with_both_kept}
 use Rattle.shr_node.proofs.Gaining.{gains_given, known_given}
@@ -12,14 +10,14 @@ use Rattle.shr_node.proofs.Pairing.{gains_both, knows_both}
 use Rattle.shr_node.proofs.Closing.{are_taken, both_ready, children_moved, above_counted, closing_of, closing_gains, counted_taken}
 
 -- with the child's room in hand its parent's may be taken
-pub may_take_above : (core : Core) (v w : View) (id node group parent : ℕ) (content : Content) → v.holding ≡ no_rooms → w ≡ with_taken v (place_number (place_of id node group)) content → (0 < group) × (group < groups_in (shape_of core)) → parent ≡ parent_of (shape_of core).parents.items group
-    → MayTake (shape_of core) w (place_of id node parent)
-may_take_above core v w id node group parent content none taken low is = let parents : List ℕ = (shape_of core).parents.items in let k : ℕ = place_number (place_of id node group) in let hand : Hand = record { room = k; content = content } in
+pub may_take_above : (core : Core) (v w : View) (id node group parent : ℕ) (content : RoomContent) → v.holding ≡ no_rooms → w ≡ with_taken v (place_number (group_place id node group)) content → (0 < group) × (group < groups_in (shape_of core)) → parent ≡ parent_of (shape_of core).parents.items group
+    → MayTake (shape_of core) w (group_place id node parent)
+may_take_above core v w id node group parent content none taken low is = let parents : List ℕ = (shape_of core).parents.items in let k : ℕ = place_number (group_place id node group) in let hand : Hand = record { room = k; content = content } in
     let near : group < 256 = let there = low.1 in let few = core.limits.4 in omega (arith, there, few) in let lower = core.tree.lower group low.0 low.1 in
     let child : is_child parents parent group ≡ true = ap (λ (b : Bool). b && ltb group (length parents) && eqb (parent_of parents group) parent) (lt-ltb 0 group low.0)
     ∙ (ap (λ (b : Bool). b && eqb (parent_of parents group) parent) (lt-ltb group (length parents) low.1) ∙ eq-eqb (parent_of parents group) parent (sym is)) in
     let own : group_of k ≡ group = omega (arith, near) in
-    subst (λ (x : View). MayTake (shape_of core) x (place_of id node parent)) (sym taken) (inr (
+    subst (λ (x : View). MayTake (shape_of core) x (group_place id node parent)) (sym taken) (inr (
       hand,
       ap (λ (h : Holding). hand ∷ h.hands) none,
       omega (arith, near, lower, is),
@@ -28,37 +26,37 @@ may_take_above core v w id node group parent content none taken low is = let par
 
 -- both rooms were taken, the child's and then its parent's
 pub pair_taken : (core : Core) (v w x : View) (id node group parent : ℕ) (child above : Room) → v.holding ≡ no_rooms → (id < (shape_of core).ids) × (node < (shape_of core).nodes) → (0 < group) × (group < groups_in (shape_of core))
-    → parent ≡ parent_of (shape_of core).parents.items group → child.place ≡ place_of id node group → w ≡ with_taken v (place_number (place_of id node group)) (list_content child.list) → IsTaken (shape_of core) v (place_number (place_of id node group)) (list_content child.list)
-    → above.place ≡ place_of id node parent → x ≡ with_taken w (place_number (place_of id node parent)) (list_content above.list) → IsTaken (shape_of core) w (place_number (place_of id node parent)) (list_content above.list)
-    → AreTaken (shape_of core) v x child.place above.place child.list above.list
+    → parent ≡ parent_of (shape_of core).parents.items group → child.place ≡ group_place id node group → w ≡ with_taken v (place_number (group_place id node group)) (list_content child.list) → IsTaken (shape_of core) v (place_number (group_place id node group)) (list_content child.list)
+    → above.place ≡ group_place id node parent → x ≡ with_taken w (place_number (group_place id node parent)) (list_content above.list) → IsTaken (shape_of core) w (place_number (group_place id node parent)) (list_content above.list)
+    → AreBothTaken (shape_of core) v x child.place above.place child.list above.list
 pair_taken core v w x id node group parent child above none place low is child-place taken told above-place taken-above told-above = are_taken (shape_of core) v w x id node group parent child above none
     (record { id = place.0; node = place.1; group = low.1 })
     (record { id = place.0; node = place.1; group = let lower = core.tree.lower group low.0 low.1 in let there = low.1 in omega (arith, lower, is, there) })
     low.0 is child-place taken told above-place taken-above told-above
 
 -- the list was closed before
-pub was_closed : (v w x : View) (id node group : ℕ) (room : Room) → room.place ≡ place_of id node group → w ≡ with_taken v (place_number (place_of id node group)) (list_content room.list) → x ≡ with_given w (place_number room.place) → is_closed room.list.entries ≡ true → WasClosed v x id node group
-was_closed v w x id node group room same taken left closed = let k : ℕ = place_number (place_of id node group) in let is = was_left v w x (place_of id node group) room same taken left in record {
+pub was_closed : (v w x : View) (id node group : ℕ) (room : Room) → room.place ≡ group_place id node group → w ≡ with_taken v (place_number (group_place id node group)) (list_content room.list) → x ≡ with_given w (place_number room.place) → is_closed room.list.entries ≡ true → WasClosed v x id node group
+was_closed v w x id node group room same taken left closed = let k : ℕ = place_number (group_place id node group) in let is = was_left v w x (group_place id node group) room same taken left in record {
   gains = subst (λ (y : View). Gains v y [] []) (sym is) (gains_given v k (list_content room.list));
   known = (room.list.entries, subst (λ (y : View). Knows y k room.list.entries) (sym is) (known_given v k (list_content room.list)), closed);
 }
 
-module _ (core : Core) (v x : View) (id node group : ℕ) (child above : Room) (taken : AreTaken (shape_of core) v x child.place above.place child.list above.list) (low : (0 < group) × (group < groups_in (shape_of core)))
-    (child-place : child.place ≡ place_of id node group) (told : IsTaken (shape_of core) v (place_number (place_of id node group)) (list_content child.list)) (opens : is_closed child.list.entries ≡ false) (sound : IsSound child.list)
-    (children : (c : ℕ) → is_child (shape_of core).parents.items group c ≡ true → KnowsClosed v (place_number (place_of id node c)))
-    (new new_above : Listed) (objects : ℕ) (filled : Bool) (moved : (objects ≡ length child.list.items) × answer.HasRoom above.list child.list.items (answer.moved_entry child.list group) × answer.Gains above.list new_above child.list.items (answer.moved_entry child.list group) × answer.Gains child.list new [] Closed)
+module _ (core : Core) (v x : View) (id node group : ℕ) (child above : Room) (taken : AreBothTaken (shape_of core) v x child.place above.place child.list above.list) (low : (0 < group) × (group < groups_in (shape_of core)))
+    (child-place : child.place ≡ group_place id node group) (told : IsTaken (shape_of core) v (place_number (group_place id node group)) (list_content child.list)) (opens : is_closed child.list.entries ≡ false) (sound : IsSound child.list)
+    (children : (c : ℕ) → is_child (shape_of core).parents.items group c ≡ true → KnowsClosed v (place_number (group_place id node c)))
+    (new new_above : Listed) (objects : ℕ) (filled : Bool) (moved : (objects ≡ length child.list.items) × answer.HasRoom above.list child.list.items (answer.moved_entry child.list group) × answer.ListGains above.list new_above child.list.items (answer.moved_entry child.list group) × answer.ListGains child.list new [] Closed)
     (filling : filled ≡ (nat_lt 0 objects && nat_lt 0 above.place.group)) where
   -- what the seat needs to store both counts
   abbrev pub pair_ready : BothReady (shape_of core) v x (record { place = child.place; list = new }) (record { place = above.place; list = new_above }) filled
   pair_ready = both_ready (shape_of core) v x child above new new_above objects filled core.tree core.limits.2 core.limits.4 taken opens sound
       (subst (λ (p : Place). AreChildrenMovedIn (shape_of core).parents.items p.group child.list.entries) (sym child-place) (children_moved (shape_of core) v id node group (list_content child.list) low.1 core.limits.4 told children))
       (subst (λ (p : Place). answer.HasRoom above.list child.list.items (answer.moved_entry child.list p.group)) (sym child-place) moved.1)
-      (subst (λ (p : Place). answer.Gains above.list new_above child.list.items (answer.moved_entry child.list p.group)) (sym child-place) moved.2)
+      (subst (λ (p : Place). answer.ListGains above.list new_above child.list.items (answer.moved_entry child.list p.group)) (sym child-place) moved.2)
       moved.3
       (filling ∙ λ i. nat_lt 0 (moved.0 i) && nat_lt 0 above.place.group)
 
-  up : above.place ≡ place_of id node (parent_of (shape_of core).parents.items group)
-  up = taken.parent ∙ ap (λ (p : Place). place_of p.id p.node (parent_of (shape_of core).parents.items p.group)) child-place
+  up : above.place ≡ group_place id node (parent_of (shape_of core).parents.items group)
+  up = taken.parent ∙ ap (λ (p : Place). group_place p.id p.node (parent_of (shape_of core).parents.items p.group)) child-place
 
   -- what it says then
   pub closes_one : (w : View) → w ≡ with_both_kept x (record { place = child.place; list = new }) (record { place = above.place; list = new_above }) filled → ClosesOne (shape_of core) v w id node group objects
@@ -70,7 +68,7 @@ module _ (core : Core) (v x : View) (id node group : ℕ) (child above : Room) (
       below = IsAtOrAbove-refl (shape_of core).parents.items core.tree group low.1;
       low = low.0;
       there = low.1;
-      later = counted_taken (shape_of core) v (place_number (place_of id node group)) child.list told;
+      later = counted_taken (shape_of core) v (place_number (group_place id node group)) child.list told;
       above_later = subst (λ (p : Place). IsCounted (shape_of core) v (place_number p) (length above.list.items) (length above.list.entries)) up (above_counted (shape_of core) v x child.place above.place child.list above.list core.tree core.limits.2 core.limits.4 taken);
       room_entries = let fits = moved.1.entries in let most = taken.told_above.most_entries in omega (arith, fits, most);
       room_items = let fits = moved.1.items in let most = taken.told_above.most_items in omega (arith, fits, most, length-append child.list.items above.list.items);

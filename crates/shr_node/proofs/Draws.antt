@@ -1,11 +1,6 @@
 -- Emptying one list after another, groups in falling order.
-use Rattle.shr_node.proofs.Common.{◌≡◌, ◌≢◌, ℕ, zero, suc, ◌+◌, ◌<◌, ◌≤◌, Bool, true, false, cond, List, [], ◌∷◌, ◌++◌, length, get_or, sym, refl, ap, subst, ◌∙◌, ⊎_elim, arith, append_assoc, eq-eqb, ne_eqb, ◌==◌, ◌&&◌, slice_set, Some, append-nil, all_pairs_push, dite, ℕ_discrete, Object, Serial, Drained, Spent, place_number, Listed, Each, Each-none, Each-push, Each-weaker, View, Shape, Made, Claims, id_of, node_of, group_of, mark_of, groups_in, drained_after, Gains, WasMet, place_of, made_in, drawn, DrainWorn}
-use Rattle.std.proofs.Common.{get_or-set_same, get_or-set_other}
-use Rattle.shr_core.proofs.Options.{is_some_yes}
-use Rattle.std.specs.Prelude.{slice_index}
-use native.Mathlib.Decide.{dec_lt}
+use Rattle.shr_node.proofs.Common.{◌≡◌, ◌≢◌, ℕ, zero, suc, ◌+◌, ◌<◌, ◌≤◌, Bool, true, false, cond, List, [], ◌∷◌, ◌++◌, length, get_or, sym, refl, ap, subst, ◌∙◌, ⊎_elim, arith, append_assoc, eq-eqb, ne_eqb, ◌==◌, ◌&&◌, slice_set, Some, append-nil, all_pairs_push, dite, ℕ_discrete, Object, Serial, Drained, Spent, place_number, Listed, Each, Each-none, Each-push, Each-weaker, View, Shape, Made, Claims, place_id, node_of, group_of, mark_of, groups_in, drained_after, Gains, WasMet, group_place, made_by_draws, drawn, DrainWorn, get_or-set_same, get_or-set_other, is_some_yes, slice_index, dec_lt, Draw, IsDraw, AreDraws, IsListDrawn, DrawsNone, IsFilled, StopsAt}
 use Rattle.shr_base.specs.declared.replies.Spent.TheVariants as spent
-use Rattle.shr_node.specs.Draining.{Draw, IsDraw, AreDraws, IsDrawn, DrawsNone, IsFilled, StopsAt}
 use Rattle.shr_node.proofs.Gaining.{gains_none, gains_then, counted_before}
 use Rattle.shr_model.proofs.Lists.{none_past}
 
@@ -39,24 +34,24 @@ at_each P [] n d all h = absurd (omega (arith, h))
 at_each P (x ∷ xs) zero d all h = all 0 x refl
 at_each P (x ∷ xs) (suc n) d all h = at_each P xs n d (λ j y e. all (suc j) y e) (omega (arith, h))
 
-made_push : (id node : ℕ) (by : Serial) (ds : List Draw) (d : Draw) → made_in id node by (ds ++ d ∷ []) ≡ made_in id node by ds ++ made_in id node by (d ∷ [])
+made_push : (id node : ℕ) (by : Serial) (ds : List Draw) (d : Draw) → made_by_draws id node by (ds ++ d ∷ []) ≡ made_by_draws id node by ds ++ made_by_draws id node by (d ∷ [])
 made_push id node by [] d = refl
-made_push id node by (x ∷ ds) d = ap (λ (l : List Made). record { place = place_number (place_of id node x.group); number = x.number; entry = Drained by (length x.items); items = x.items } ∷ l) (made_push id node by ds d)
+made_push id node by (x ∷ ds) d = ap (λ (l : List Made). record { place = place_number (group_place id node x.group); number = x.number; entry = Drained by (length x.items); items = x.items } ∷ l) (made_push id node by ds d)
 
 drawn_push : (ds : List Draw) (d : Draw) → drawn (ds ++ d ∷ []) ≡ drawn ds ++ d.items
 drawn_push [] d = append-nil d.items
 drawn_push (x ∷ ds) d = ap (λ (l : List Object). x.items ++ l) (drawn_push ds d) ∙ sym (append_assoc x.items (drawn ds) d.items)
 
 -- how the marks of a quiet owner move over an empty list
-moves : (c : Claims) (k : ℕ) → c.quiet ≡ true → c.owner ≡ Some (id_of k) → drained_after c k [] ≡ cond (mark_of c (node_of k) == group_of k + 1) (slice_set c.drained (node_of k) (group_of k)) c.drained
-moves c k quiet owner = (λ i. cond (quiet i && is_some_yes (id_of k) c.owner owner i && (mark_of c (node_of k) == group_of k + 1) && true) (slice_set c.drained (node_of k) (group_of k)) c.drained)
+moves : (c : Claims) (k : ℕ) → c.quiet ≡ true → c.owner ≡ Some (place_id k) → drained_after c k [] ≡ cond (mark_of c (node_of k) == group_of k + 1) (slice_set c.drained (node_of k) (group_of k)) c.drained
+moves c k quiet owner = (λ i. cond (quiet i && is_some_yes (place_id k) c.owner owner i && (mark_of c (node_of k) == group_of k + 1) && true) (slice_set c.drained (node_of k) (group_of k)) c.drained)
     ∙ by (mark_of c (node_of k) == group_of k + 1)
   where
     by : (b : Bool) → cond (true && true && b && true) (slice_set c.drained (node_of k) (group_of k)) c.drained ≡ cond b (slice_set c.drained (node_of k) (group_of k)) c.drained
     by true = refl
     by false = refl
 
-module _ (c : Claims) (k : ℕ) (quiet : c.quiet ≡ true) (owner : c.owner ≡ Some (id_of k)) (after : List ℕ) (is : after ≡ drained_after c k []) where
+module _ (c : Claims) (k : ℕ) (quiet : c.quiet ≡ true) (owner : c.owner ≡ Some (place_id k)) (after : List ℕ) (is : after ≡ drained_after c k []) where
   mark_falls : mark_of c (node_of k) ≤ group_of k + 1 → get_or after (node_of k) 0 ≤ group_of k
   mark_falls low = subst (λ (l : List ℕ). get_or l (node_of k) 0 ≤ group_of k) (sym (is ∙ moves c k quiet owner)) (dite (ℕ_discrete (mark_of c (node_of k)) (group_of k + 1))
       (λ e. subst (λ (b : Bool). get_or (cond b (slice_set c.drained (node_of k) (group_of k)) c.drained) (node_of k) 0 ≤ group_of k) (sym (eq-eqb (mark_of c (node_of k)) (group_of k + 1) e))
@@ -81,7 +76,7 @@ module _ (c : Claims) (k : ℕ) (quiet : c.quiet ≡ true) (owner : c.owner ≡ 
 
 -- a draw that comes after all that a later view has seen
 draw_before : (shape : Shape) (v u : View) (m : List Made) (s : List ℕ) (id node : ℕ) (d : Draw) → Gains v u m s → IsDraw shape u id node d → IsDraw shape v id node d
-draw_before shape v u m s id node d g o = record { there = o.there; some = o.some; born = o.born; room = o.room; later = counted_before shape v u m s (place_number (place_of id node d.group)) (length d.items) d.number g o.later }
+draw_before shape v u m s id node d g o = record { there = o.there; some = o.some; born = o.born; room = o.room; later = counted_before shape v u m s (place_number (group_place id node d.group)) (length d.items) d.number g o.later }
 
 module _ (shape : Shape) (v u w : View) (id node : ℕ) (by : Serial) (before mid after : List Object) (top : ℕ) (o : IsDraining shape v u id node by before mid top) where
   -- the marks and the lists so far if nothing was drawn
@@ -89,7 +84,7 @@ module _ (shape : Shape) (v u w : View) (id node : ℕ) (by : Serial) (before mi
   still others g same = record {
     each = o.draws.each;
     falling = o.draws.falling;
-    gains = subst (λ (l : List Made). Gains v w l []) (append-nil (made_in id node by o.ds)) (gains_then v u w (made_in id node by o.ds) [] [] [] o.draws.gains g);
+    gains = subst (λ (l : List Made). Gains v w l []) (append-nil (made_by_draws id node by o.ds)) (gains_then v u w (made_by_draws id node by o.ds) [] [] [] o.draws.gains g);
     objects = same ∙ o.draws.objects;
     others = λ n ne. others n ne ∙ o.draws.others n ne;
   }
@@ -103,33 +98,33 @@ module _ (shape : Shape) (v u w : View) (id node : ℕ) (by : Serial) (before mi
     mark = λ h. ap (λ (l : List ℕ). slice_index l node) marks ∙ (o.exact h ∙ next);
   }
 
-  module _ (group : ℕ) (near : group < top) (node-is : node_of (place_number (place_of id node group)) ≡ node) (group-is : group_of (place_number (place_of id node group)) ≡ group) (id-is : id_of (place_number (place_of id node group)) ≡ id)
-      (quiet : u.claims.quiet ≡ true) (owns : u.claims.owner ≡ Some id) (marks : w.claims.drained ≡ drained_after u.claims (place_number (place_of id node group)) []) where
+  module _ (group : ℕ) (near : group < top) (node-is : node_of (place_number (group_place id node group)) ≡ node) (group-is : group_of (place_number (group_place id node group)) ≡ group) (id-is : place_id (place_number (group_place id node group)) ≡ id)
+      (quiet : u.claims.quiet ≡ true) (owns : u.claims.owner ≡ Some id) (marks : w.claims.drained ≡ drained_after u.claims (place_number (group_place id node group)) []) where
     k : ℕ
-    k = place_number (place_of id node group)
+    k = place_number (group_place id node group)
 
-    owner : u.claims.owner ≡ Some (id_of (place_number (place_of id node group)))
+    owner : u.claims.owner ≡ Some (place_id (place_number (group_place id node group)))
     owner = owns ∙ ap (λ (x : ℕ). Some x) (sym id-is)
 
     others : (n : ℕ) → n ≢ node → mark_of w.claims n ≡ mark_of u.claims n
-    others n ne = other_marks u.claims (place_number (place_of id node group)) quiet owner w.claims.drained marks n (λ e. ne (e ∙ node-is))
+    others n ne = other_marks u.claims (place_number (group_place id node group)) quiet owner w.claims.drained marks n (λ e. ne (e ∙ node-is))
 
     falls : top ≡ group + 1 → mark_of v.claims node ≤ groups_in shape → mark_of w.claims node ≤ group
-    falls next h = let low = o.mark h in subst (λ (x : ℕ). mark_of w.claims x ≤ group) node-is (let fall = mark_falls u.claims (place_number (place_of id node group)) quiet owner w.claims.drained marks (omega (arith, low, next, group-is, ap (λ (x : ℕ). mark_of u.claims x) node-is)) in omega (arith, fall, group-is))
+    falls next h = let low = o.mark h in subst (λ (x : ℕ). mark_of w.claims x ≤ group) node-is (let fall = mark_falls u.claims (place_number (group_place id node group)) quiet owner w.claims.drained marks (omega (arith, low, next, group-is, ap (λ (x : ℕ). mark_of u.claims x) node-is)) in omega (arith, fall, group-is))
 
     falls_to : top ≡ group + 1 → mark_of v.claims node ≡ groups_in shape → mark_of w.claims node ≡ group
-    falls_to next h = subst (λ (x : ℕ). mark_of w.claims x ≡ group) node-is (mark_exact u.claims (place_number (place_of id node group)) quiet owner w.claims.drained marks (ap (λ (x : ℕ). mark_of u.claims x) node-is ∙ (o.exact h ∙ (next ∙ ap (λ (x : ℕ). x + 1) (sym group-is)))) ∙ group-is)
+    falls_to next h = subst (λ (x : ℕ). mark_of w.claims x ≡ group) node-is (mark_exact u.claims (place_number (group_place id node group)) quiet owner w.claims.drained marks (ap (λ (x : ℕ). mark_of u.claims x) node-is ∙ (o.exact h ∙ (next ∙ ap (λ (x : ℕ). x + 1) (sym group-is)))) ∙ group-is)
 
     -- one turn of the loop over falling groups
-    pub drawing_next : top ≡ group + 1 → IsDrawn shape u w (place_of id node group) by mid after → IsDraining shape v w id node by before after group
+    pub drawing_next : top ≡ group + 1 → IsListDrawn shape u w (group_place id node group) by mid after → IsDraining shape v w id node by before after group
     drawing_next next drawn-one = ⊎_elim
         (λ none. record { ds = o.ds; draws = still others none.gains none.objects; low = Each-weaker (λ (d : Draw). top ≤ d.group) (λ (d : Draw). group ≤ d.group) (λ d h. omega (arith, h, near)) o.ds o.low; mark = falls next; exact = falls_to next })
         (λ one. let d : Draw = one.draw in let here = one.here in record {
           ds = o.ds ++ d ∷ [];
           draws = record {
-            each = Each-push (IsDraw shape v id node) o.ds d (draw_before shape v u (made_in id node by o.ds) [] id node d o.draws.gains one.is) o.draws.each;
+            each = Each-push (IsDraw shape v id node) o.ds d (draw_before shape v u (made_by_draws id node by o.ds) [] id node d o.draws.gains one.is) o.draws.each;
             falling = all_pairs_push (λ (a b : Draw). b.group < a.group) o.ds d o.draws.falling (λ j x lt. let h = at_each (λ (y : Draw). top ≤ y.group) o.ds j x o.low lt in omega (arith, h, here, near));
-            gains = subst (λ (l : List Made). Gains v w l []) (sym (made_push id node by o.ds d)) (gains_then v u w (made_in id node by o.ds) (made_in id node by (d ∷ [])) [] [] o.draws.gains one.gains);
+            gains = subst (λ (l : List Made). Gains v w l []) (sym (made_push id node by o.ds d)) (gains_then v u w (made_by_draws id node by o.ds) (made_by_draws id node by (d ∷ [])) [] [] o.draws.gains one.gains);
             objects = one.objects ∙ (ap (λ (l : List Object). l ++ d.items) o.draws.objects ∙ (append_assoc before (drawn o.ds) d.items ∙ ap (λ (l : List Object). before ++ l) (sym (drawn_push o.ds d))));
             others = λ n ne. others n ne ∙ o.draws.others n ne;
           };
@@ -148,7 +143,7 @@ met_before shape v u w m s k old g met = let o = met.was in record {
 
 -- a list that held an object after some calls is told of the view before them
 pub filled_before : (shape : Shape) (v u w : View) (m : List Made) (s : List ℕ) (id node group : ℕ) (old : Listed) → Gains v u m s → IsFilled shape u w id node group old → IsFilled shape v w id node group old
-filled_before shape v u w m s id node group old g h = record { there = h.there; some = h.some; met = met_before shape v u w m s (place_number (place_of id node group)) old g h.met }
+filled_before shape v u w m s id node group old g h = record { there = h.there; some = h.some; met = met_before shape v u w m s (place_number (group_place id node group)) old g h.met }
 
 -- the same for a list without room
 pub worn_before : (shape : Shape) (v u w : View) (m : List Made) (s : List ℕ) (id node group : ℕ) (by : Serial) (sp : Spent) → Gains v u m s → DrainWorn shape u w id node group by sp → DrainWorn shape v w id node group by sp

@@ -1,16 +1,11 @@
 -- What a seat gains while it takes a room, stores an entry there and gives the room back.
-use Rattle.shr_node.proofs.Common.{◌≡◌, ℕ, ◌+◌, ◌<◌, ◌≤◌, Bool, true, false, cond, List, [], ◌∷◌, ◌++◌, length, sym, refl, ap, subst, ◌∙◌, arith, eq-eqb, append_assoc, not_some, Contains, ◌==◌, ◌&&◌, slice_set, Option, None, append-nil, Contains-push, Contains-append_left, dite, ℕ_discrete, Object, Entry, Each, times, without, Begins, begins_push, times-without_same, times-without_other, View, Shape, id_of, node_of, group_of, mark_of, content_in, with_content, with_taken, with_stored, with_set, with_given, half_after, owed_after, drained_after, IsCounted, Gains, Knows, bits_for, with_kept}
-use Rattle.shr_core.proofs.Options.{is_some_no}
+use Rattle.shr_node.proofs.Common.{◌≡◌, ℕ, ◌+◌, ◌<◌, ◌≤◌, Bool, true, false, cond, List, [], ◌∷◌, ◌++◌, length, sym, refl, ap, subst, ◌∙◌, arith, eq-eqb, append_assoc, not_some, Contains, ◌==◌, ◌&&◌, slice_set, Option, None, append-nil, Contains-push, Contains-append_left, dite, ℕ_discrete, Object, Entry, Each, times, without, Begins, begins_push, times-without_same, times-without_other, View, Shape, place_id, node_of, group_of, mark_of, content_in, with_content, with_taken, with_stored, with_set, with_given, half_after, owed_after, drained_after, IsCounted, Gains, Knows, bits_for, with_kept, is_some_no, begins_all, times-push_other, at_begins, without_room, is_empty, is_raised, with_raised, taken_in_hand}
 use Rattle.shr_seats.specs.Lines.{by_seat, state_after}
-use Rattle.shr_seats.proofs.Weighing.{begins_all, times-push_other, at_begins}
 use Rattle.shr_core.specs.Gained.{nothing, AreKinds}
 use Rattle.shr_core.specs.Order.{Holders, users_next}
 use Rattle.shr_core.proofs.Gains.{adds_none, adds_then}
 use Rattle.shr_core.proofs.Uses.{using_still}
-use Rattle.shr_core.specs.Parts.{Content, Hand, Made, Known, Counted, Claims, Turns, Event, made as stored_event, raised as raised_event}
-use Rattle.shr_core.specs.Steps.{without_room, is_empty}
-use Rattle.shr_node.specs.Gains.{is_raised, with_raised}
-use Rattle.shr_core.proofs.Hands.{taken_in_hand}
+use Rattle.shr_core.specs.Parts.{RoomContent, Hand, Made, Known, Counted, Claims, Turns, Event, made as stored_event, raised as raised_event}
 
 -- what stays beside the entries made, the bits set and what is known, part by part
 pub record IsGained (v w : View) (more : List Made) (bits : List ℕ) : Type 0 where
@@ -90,7 +85,7 @@ knows_still v w m s k entries g h = subst (λ (l : List Known). Contains l (reco
 
 -- the marks of a seat that owns no id
 pub marks_stay : (c : Claims) (k : ℕ) (items : List Object) → c.owner ≡ None → drained_after c k items ≡ c.drained
-marks_stay c k items free = ap (λ b. cond (c.quiet && b && (mark_of c (node_of k) == group_of k + 1) && is_empty items) (slice_set c.drained (node_of k) (group_of k)) c.drained) (is_some_no (id_of k) c.owner (λ e. not_some (id_of k) c.owner free e))
+marks_stay c k items free = ap (λ b. cond (c.quiet && b && (mark_of c (node_of k) == group_of k + 1) && is_empty items) (slice_set c.drained (node_of k) (group_of k)) c.drained) (is_some_no (place_id k) c.owner (λ e. not_some (place_id k) c.owner free e))
     ∙ rest c.quiet
   where
     rest : (q : Bool) → cond (q && false && (mark_of c (node_of k) == group_of k + 1) && is_empty items) (slice_set c.drained (node_of k) (group_of k)) c.drained ≡ c.drained
@@ -98,7 +93,7 @@ marks_stay c k items free = ap (λ b. cond (c.quiet && b && (mark_of c (node_of 
     rest false = refl
 
 -- the first room in hand is given back
-pub given : (w : View) (k : ℕ) (c : Content) (hs : List Hand) → w.holding.hands ≡ record { room = k; content = c } ∷ hs
+pub given : (w : View) (k : ℕ) (c : RoomContent) (hs : List Hand) → w.holding.hands ≡ record { room = k; content = c } ∷ hs
     → with_given w k ≡ record w { holding = record w.holding { hands = hs }; traces = record w.traces { known = w.traces.known ++ record { place = k; entries = c.entries } ∷ [] }; claims = record w.claims { drained = drained_after w.claims k c.items } }
 given w k c hs e = ap (λ (l : List Hand). by l) e ∙ ap there (eq-eqb k k refl)
   where
@@ -109,7 +104,7 @@ given w k c hs e = ap (λ (l : List Hand). by l) e ∙ ap there (eq-eqb k k refl
     there b = record w { holding = record w.holding { hands = cond b hs (record { room = k; content = c } ∷ without_room k hs) }; traces = record w.traces { known = w.traces.known ++ record { place = k; entries = (cond b c (content_in k hs)).entries } ∷ [] }; claims = record w.claims { drained = drained_after w.claims k (cond b c (content_in k hs)).items } }
 
 -- a room that was taken is given back as it was
-pub gains_given : (u : View) (k : ℕ) (c : Content) → Gains u (with_given (with_taken u k c) k) [] []
+pub gains_given : (u : View) (k : ℕ) (c : RoomContent) → Gains u (with_given (with_taken u k c) k) [] []
 gains_given u k c = subst (λ (w : View). Gains u w [] []) (sym (given (with_taken u k c) k c u.holding.hands refl)) (gains_of _ _ _ _ (record {
   made = sym (append-nil u.traces.made);
   known = begins_push u.traces.known (record { place = k; entries = c.entries });
@@ -132,15 +127,15 @@ gains_given u k c = subst (λ (w : View). Gains u w [] []) (sym (given (with_tak
 }))
 
 -- and its journal is known then
-pub known_given : (u : View) (k : ℕ) (c : Content) → Knows (with_given (with_taken u k c) k) k c.entries
+pub known_given : (u : View) (k : ℕ) (c : RoomContent) → Knows (with_given (with_taken u k c) k) k c.entries
 known_given u k c = subst (λ (w : View). Knows w k c.entries) (sym (given (with_taken u k c) k c u.holding.hands refl)) (Contains-push u.traces.known (record { place = k; entries = c.entries }))
 
 -- a list in hand with one entry more
-abbrev more_in : Content → Entry → List Object → Content
+abbrev more_in : RoomContent → Entry → List Object → RoomContent
 more_in c e items = record c { entries = c.entries ++ e ∷ []; items = items }
 
 -- the view once the count of the room taken last was stored
-abbrev pub stored_view : View → ℕ → Content → Entry → List Object → View
+abbrev pub stored_view : View → ℕ → RoomContent → Entry → List Object → View
 stored_view u k c e items = record u {
   holding = record { hands = record { room = k; content = record c { entries = c.entries ++ e ∷ []; items = items } } ∷ u.holding.hands; half = half_after u.holding.half k e };
   traces = record u.traces { made = u.traces.made ++ record { place = k; number = length c.entries; entry = e; items = c.items } ∷ [] };
@@ -149,11 +144,11 @@ stored_view u k c e items = record u {
 }
 
 -- the store of a count into a room that was taken last, in one view
-pub stored : (u : View) (k : ℕ) (c : Content) (e : Entry) (items : List Object) → with_stored (with_taken u k c) k e items ≡ stored_view u k c e items
+pub stored : (u : View) (k : ℕ) (c : RoomContent) (e : Entry) (items : List Object) → with_stored (with_taken u k c) k e items ≡ stored_view u k c e items
 stored u k c e items = ap there (eq-eqb k k refl)
   where
     there : Bool → View
-    there b = let d : Content = cond b c (content_in k u.holding.hands) in record u {
+    there b = let d : RoomContent = cond b c (content_in k u.holding.hands) in record u {
       holding = record { hands = cond b (record { room = k; content = record d { entries = d.entries ++ e ∷ []; items = items } } ∷ u.holding.hands) (record { room = k; content = c } ∷ with_content k (record d { entries = d.entries ++ e ∷ []; items = items }) u.holding.hands); half = half_after u.holding.half k e };
       traces = record u.traces { made = u.traces.made ++ record { place = k; number = length d.entries; entry = e; items = d.items } ∷ [] };
       marks = record u.marks { owed = owed_after k (length d.items) (length items) u.marks.owed };
@@ -167,11 +162,11 @@ owed_raised k j owed h = dite (ℕ_discrete j k)
     (λ n. omega (arith, h, times-without_other j k (owed ++ k ∷ []) n, times-push_other j k owed (λ e. n (sym e))))
 
 -- the view once that room was given back
-abbrev last_view : View → ℕ → Content → Entry → List Object → View → View
+abbrev last_view : View → ℕ → RoomContent → Entry → List Object → View → View
 last_view u k c e items w = record w { holding = record w.holding { hands = u.holding.hands }; traces = record w.traces { known = w.traces.known ++ record { place = k; entries = c.entries ++ e ∷ [] } ∷ [] }; claims = record w.claims { drained = drained_after w.claims k items } }
 
-kept_view : (u : View) (k : ℕ) (c : Content) (e : Entry) (items : List Object) → with_kept (with_taken u k c) k e items ≡ last_view u k c e items (cond (is_raised k c.items items) (with_set (stored_view u k c e items) k) (stored_view u k c e items))
-kept_view u k c e items = ap (λ (d : Content). with_given (with_raised (with_stored (with_taken u k c) k e items) k d.items items) k) (taken_in_hand u k c)
+kept_view : (u : View) (k : ℕ) (c : RoomContent) (e : Entry) (items : List Object) → with_kept (with_taken u k c) k e items ≡ last_view u k c e items (cond (is_raised k c.items items) (with_set (stored_view u k c e items) k) (stored_view u k c e items))
+kept_view u k c e items = ap (λ (d : RoomContent). with_given (with_raised (with_stored (with_taken u k c) k e items) k d.items items) k) (taken_in_hand u k c)
     ∙ (ap (λ (w : View). with_given (with_raised w k c.items items) k) (stored u k c e items)
     ∙ given (cond (is_raised k c.items items) (with_set s k) s) k (more_in c e items) u.holding.hands (hands (is_raised k c.items items)))
   where
@@ -183,7 +178,7 @@ kept_view u k c e items = ap (λ (d : Content). with_given (with_raised (with_st
     hands false = refl
 
 -- one entry more was stored in the room taken last, and the room was given back
-pub gains_kept : (u : View) (k : ℕ) (c : Content) (e : Entry) (items : List Object) → half_after u.holding.half k e ≡ u.holding.half
+pub gains_kept : (u : View) (k : ℕ) (c : RoomContent) (e : Entry) (items : List Object) → half_after u.holding.half k e ≡ u.holding.half
     → Gains u (with_kept (with_taken u k c) k e items) (record { place = k; number = length c.entries; entry = e; items = c.items } ∷ []) (bits_for k c.items items)
 gains_kept u k c e items whole = subst (λ (w : View). Gains u w (record { place = k; number = length c.entries; entry = e; items = c.items } ∷ []) (bits_for k c.items items)) (sym (kept_view u k c e items)) (by (is_raised k c.items items) refl)
   where
@@ -239,7 +234,7 @@ gains_kept u k c e items whole = subst (λ (w : View). Gains u w (record { place
     })
 
 -- and its journal is known then
-pub known_kept : (u : View) (k : ℕ) (c : Content) (e : Entry) (items : List Object) → Knows (with_kept (with_taken u k c) k e items) k (c.entries ++ e ∷ [])
+pub known_kept : (u : View) (k : ℕ) (c : RoomContent) (e : Entry) (items : List Object) → Knows (with_kept (with_taken u k c) k e items) k (c.entries ++ e ∷ [])
 known_kept u k c e items = subst (λ (w : View). Knows w k (c.entries ++ e ∷ [])) (sym (kept_view u k c e items))
     (by (is_raised k c.items items))
   where
@@ -248,7 +243,7 @@ known_kept u k c e items = subst (λ (w : View). Knows w k (c.entries ++ e ∷ [
     by false = Contains-push u.traces.known (record { place = k; entries = c.entries ++ e ∷ [] })
 
 -- the marks then
-pub drained_kept : (u : View) (k : ℕ) (c : Content) (e : Entry) (items : List Object) → (with_kept (with_taken u k c) k e items).claims.drained ≡ drained_after u.claims k items
+pub drained_kept : (u : View) (k : ℕ) (c : RoomContent) (e : Entry) (items : List Object) → (with_kept (with_taken u k c) k e items).claims.drained ≡ drained_after u.claims k items
 drained_kept u k c e items = ap (λ (w : View). w.claims.drained) (kept_view u k c e items) ∙ by (is_raised k c.items items)
   where
     by : (b : Bool) → (last_view u k c e items (cond b (with_set (stored_view u k c e items) k) (stored_view u k c e items))).claims.drained ≡ drained_after u.claims k items
@@ -256,7 +251,7 @@ drained_kept u k c e items = ap (λ (w : View). w.claims.drained) (kept_view u k
     by false = refl
 
 -- what giving a room back makes of the drain marks
-pub drained_given : (u : View) (k : ℕ) (c : Content) → (with_given (with_taken u k c) k).claims.drained ≡ drained_after u.claims k c.items
+pub drained_given : (u : View) (k : ℕ) (c : RoomContent) → (with_given (with_taken u k c) k).claims.drained ≡ drained_after u.claims k c.items
 drained_given u k c = ap (λ (w : View). w.claims.drained) (given (with_taken u k c) k c u.holding.hands refl)
 
 -- what holds of all that is known later holds of what was known before

@@ -1,7 +1,6 @@
 -- Drain marks, and closed lists that are empty.
-use Rattle.shr_node.proofs.Common.{◌≡◌, ℕ, suc, ◌+◌, ◌<◌, Bool, true, false, cond, List, [], ◌∷◌, length, take, sym, refl, ap, ◌∙◌, arith, ◌==◌, ◌&&◌, ◌||◌, slice_set, Object, Entry, Add, Look, Drop, Pin, Scan, MovedIn, Closed, Drained, step, is_closed, Claims, id_of, node_of, group_of, mark_of, drained_after}
+use Rattle.shr_node.proofs.Common.{◌≡◌, ℕ, suc, ◌+◌, ◌<◌, Bool, true, false, cond, List, [], ◌∷◌, length, take, sym, refl, ap, ◌∙◌, arith, ◌==◌, ◌&&◌, ◌||◌, slice_set, Object, Entry, Add, Look, Drop, Pin, Scan, MovedIn, Closed, Drained, step, is_closed, Claims, place_id, node_of, group_of, mark_of, drained_after, is_some_of}
 use Rattle.shr_model.specs.Items.{items_from, later_moved, first_moved, is_closing, HasJournal}
-use Rattle.shr_core.specs.Rule.{is_some_of}
 
 pub second_false : (a b : Bool) → (a || b) ≡ false → b ≡ false
 second_false true b h = absurd (cc)
@@ -45,7 +44,7 @@ filled_open es items j some = by (is_closed es) refl where
 -- a mark does not move over a list that holds an object
 pub unmoved : (c : Claims) (k : ℕ) (items : List Object) → (length items == 0) ≡ false → drained_after c k items ≡ c.drained
 unmoved c k [] some = absurd (cc)
-unmoved c k (x ∷ xs) some = by (c.quiet && is_some_of (id_of k) c.owner && (mark_of c (node_of k) == group_of k + 1)) where
+unmoved c k (x ∷ xs) some = by (c.quiet && is_some_of (place_id k) c.owner && (mark_of c (node_of k) == group_of k + 1)) where
   by : (b : Bool) → cond (b && false) (slice_set c.drained (node_of k) (group_of k)) c.drained ≡ c.drained
   by true = refl
   by false = refl

@@ -1,5 +1,5 @@
 -- What is made, moved, drawn and set, at known values.
-use Rattle.shr_node.proofs.Common.{◌≡◌, ℕ, false, List, [], ◌∷◌, refl, Object, MovedIn, Closed, bits_for, Closing, made_by, bits_by, moved_from, drawn}
+use Rattle.shr_node.proofs.Common.{◌≡◌, ℕ, false, List, [], ◌∷◌, refl, Object, MovedIn, Closed, bits_for, Closing, made_by_closing, bits_by, moved_from_group, drawn}
 
 abbrev object : ℕ → Object
 object command = record { serial = record { worker = 0; command = command }; birth = 1; key = []; value = []; marked = false; pinned = false }
@@ -32,15 +32,15 @@ to_the_root : bits_by line 0 0 (closing 1 (object 0 ∷ [])) ≡ []
 to_the_root = refl
 
 -- the parent's entry comes first
-both_entries : made_by line 0 1 (closing 2 (object 0 ∷ []))
+both_entries : made_by_closing line 0 1 (closing 2 (object 0 ∷ []))
     ≡ record { place = 257; number = 7; entry = MovedIn 2 1; items = object 9 ∷ [] } ∷ record { place = 258; number = 5; entry = Closed; items = object 0 ∷ [] } ∷ []
 both_entries = refl
 
 -- what moved is of the group's own list alone
-the_group_s_own : moved_from 2 (closing 3 (object 0 ∷ []) ∷ closing 2 (object 0 ∷ object 1 ∷ []) ∷ []) ≡ 2
+the_group_s_own : moved_from_group 2 (closing 3 (object 0 ∷ []) ∷ closing 2 (object 0 ∷ object 1 ∷ []) ∷ []) ≡ 2
 the_group_s_own = refl
 
-another_group_s : moved_from 2 (closing 3 (object 0 ∷ []) ∷ []) ≡ 0
+another_group_s : moved_from_group 2 (closing 3 (object 0 ∷ []) ∷ []) ≡ 0
 another_group_s = refl
 
 -- the objects of one list after another

@@ -1,30 +1,26 @@
 -- A child's list is closed into its parent's, with both rooms in hand.
-use Rattle.shr_node.proofs.Common.{◌≡◌, ◌≢◌, ℕ, ◌+◌, ◌*◌, ◌<◌, ◌≤◌, Bool, true, false, cond, List, [], ◌∷◌, ◌++◌, length, sym, refl, ap, subst, ◌∙◌, arith, length-append, append_assoc, eq-eqb, ne_eqb, lt-ltb, append-nil, dite, ℕ_discrete, ◌&&◌, ◌==◌, nat_lt, Option, None, Some, Contains-push, Object, Place, Entry, MovedIn, Closed, place_number, IsTree, parent_of, step, IsOutcome, is_closed, IsAllowed, child_again, times, without, Begins, begins_push, begins_more, times-without_same, times-without_other, View, Shape, Room, group_of, beside, list_content, has_room, groups_in, IsInHand, content_in, in_hand, with_content, with_taken, with_stored, with_set, with_given, owed_after, drained_after, last_entry, moved_in_hand, IsBacked, MayStore, has_taken, inside, Gains, Knows}
+use Rattle.shr_node.proofs.Common.{◌≡◌, ◌≢◌, ℕ, ◌+◌, ◌*◌, ◌<◌, ◌≤◌, Bool, true, false, cond, List, [], ◌∷◌, ◌++◌, length, sym, refl, ap, subst, ◌∙◌, arith, length-append, append_assoc, eq-eqb, ne_eqb, lt-ltb, append-nil, dite, ℕ_discrete, ◌&&◌, ◌==◌, nat_lt, Option, None, Some, Contains-push, Object, Place, Entry, MovedIn, Closed, place_number, IsTree, parent_of, step, IsOutcome, is_closed, IsAllowed, child_again, times, without, Begins, begins_push, begins_more, times-without_same, times-without_other, View, Shape, Room, group_of, beside, list_content, has_room, groups_in, IsInHand, content_in, in_hand, with_content, with_taken, with_stored, with_set, with_given, owed_after, drained_after, last_entry, moved_in_hand, IsBacked, MayStore, has_taken, inside, Gains, Knows, total, only_yes, is_room, taken_in_hand}
 use Rattle.std.proofs.lemmas.Bool.{ltb-true, eqb-true}
 use Rattle.shr_model.proofs.PiecesLaws.{and_true}
-use Rattle.shr_seats.specs.Weights.{total}
-use Rattle.shr_seats.proofs.Weighing.{only_yes}
-use Rattle.shr_core.specs.Parts.{Content, Hand, Holding, Made, Known, made as stored_event, raised as raised_event}
-use Rattle.shr_core.specs.Rule.{is_room}
+use Rattle.shr_core.specs.Parts.{RoomContent, Hand, Holding, Made, Known, made as stored_event, raised as raised_event}
 use Rattle.shr_node.proofs.Storing.{BothReady, with_both_stored, with_both_kept}
 use Rattle.shr_node.proofs.Gaining.{gains_of, stored_view, stored, given, owed_raised, marks_stay}
 use Rattle.shr_core.proofs.Storing.{last_pushed}
-use Rattle.shr_core.proofs.Hands.{taken_in_hand}
 
 -- the content of the room below the one taken last
-pub under_here : (p k : ℕ) (x c : Content) (hs : List Hand) → p ≢ k → content_in k (record { room = p; content = x } ∷ record { room = k; content = c } ∷ hs) ≡ c
+pub under_here : (p k : ℕ) (x c : RoomContent) (hs : List Hand) → p ≢ k → content_in k (record { room = p; content = x } ∷ record { room = k; content = c } ∷ hs) ≡ c
 under_here p k x c hs ne = λ i. cond (ne_eqb p k ne i) x (cond (eq-eqb k k refl i) c (content_in k hs))
 
 -- the room under the one that was taken last is in hand
-pub has_under : (p k : ℕ) (x c : Content) (hs : List Hand) → 0 < total (is_room k) (record { room = p; content = x } ∷ record { room = k; content = c } ∷ hs)
+pub has_under : (p k : ℕ) (x c : RoomContent) (hs : List Hand) → 0 < total (is_room k) (record { room = p; content = x } ∷ record { room = k; content = c } ∷ hs)
 has_under p k x c hs = omega (arith, only_yes k k refl)
 
 -- a list with one entry more
-abbrev pub grown : Content → Entry → List Object → Content
+abbrev pub grown : RoomContent → Entry → List Object → RoomContent
 grown c e items = record c { entries = c.entries ++ e ∷ []; items = items }
 
 -- the view once both counts were stored
-abbrev pub pair_view : View → ℕ → Content → ℕ → Content → Entry → List Object → View
+abbrev pub pair_view : View → ℕ → RoomContent → ℕ → RoomContent → Entry → List Object → View
 pair_view u k c p d e items = record u {
   holding = record { hands = record { room = p; content = grown d e items } ∷ record { room = k; content = grown c Closed [] } ∷ u.holding.hands; half = None };
   traces = record u.traces { made = (u.traces.made ++ record { place = p; number = length d.entries; entry = e; items = d.items } ∷ []) ++ record { place = k; number = length c.entries; entry = Closed; items = c.items } ∷ [] };
@@ -33,7 +29,7 @@ pair_view u k c p d e items = record u {
 }
 
 -- both stores of a splice, in one view
-pub pair_stored : (u : View) (k : ℕ) (c : Content) (p : ℕ) (d : Content) (e : Entry) (items : List Object) → p ≢ k
+pub pair_stored : (u : View) (k : ℕ) (c : RoomContent) (p : ℕ) (d : RoomContent) (e : Entry) (items : List Object) → p ≢ k
     → with_stored (with_stored (with_taken (with_taken u k c) p d) p e items) k Closed [] ≡ pair_view u k c p d e items
 pair_stored u k c p d e items ne = ap (λ (w : View). with_stored w k Closed []) (stored (with_taken u k c) p d e items) ∙ λ i. there (ne_eqb p k ne i) (eq-eqb k k refl i)
   where
@@ -41,7 +37,7 @@ pair_stored u k c p d e items ne = ap (λ (w : View). with_stored w k Closed [])
     hs = u.holding.hands
 
     there : Bool → Bool → View
-    there b b' = let x : Content = cond b (grown d e items) (cond b' c (content_in k u.holding.hands)) in record u {
+    there b b' = let x : RoomContent = cond b (grown d e items) (cond b' c (content_in k u.holding.hands)) in record u {
       holding = record { hands = cond b (record { room = k; content = grown x Closed [] } ∷ record { room = k; content = c } ∷ u.holding.hands) (record { room = p; content = grown d e items } ∷ cond b' (record { room = k; content = grown x Closed [] } ∷ u.holding.hands) (record { room = k; content = c } ∷ with_content k (grown x Closed []) u.holding.hands)); half = None };
       traces = record u.traces { made = (u.traces.made ++ record { place = p; number = length d.entries; entry = e; items = d.items } ∷ []) ++ record { place = k; number = length x.entries; entry = Closed; items = x.items } ∷ [] };
       marks = record u.marks { owed = owed_after k (length x.items) 0 (owed_after p (length d.items) (length items) u.marks.owed) };
@@ -55,10 +51,10 @@ module _ (shape : Shape) (u v : View) (child above : Room) (filled : Bool) (tree
   abbrev p : ℕ
   p = place_number above.place
 
-  abbrev c : Content
+  abbrev c : RoomContent
   c = list_content b.old
 
-  abbrev d : Content
+  abbrev d : RoomContent
   d = list_content b.old_above
 
   abbrev e : Entry
@@ -104,8 +100,8 @@ module _ (shape : Shape) (u v : View) (child above : Room) (filled : Bool) (tree
 
   -- the parent's count may be stored
   above_store : MayStore shape (with_taken (with_taken u k c) p d) p above.list
-  above_store = let w : View = with_taken (with_taken u k c) p d in let old-entries : (in_hand w p).entries ≡ b.old_above.entries = ap (λ (x : Content). x.entries) above_hand in let old-items : (in_hand w p).items ≡ b.old_above.items = ap (λ (x : Content). x.items) above_hand in
-      let moved : moved_in_hand w p (last_entry above.list.entries) ≡ b.old.items = ap (moved_in_hand w p) last_above ∙ ap (λ (x : Content). x.items) child_hand in record {
+  above_store = let w : View = with_taken (with_taken u k c) p d in let old-entries : (in_hand w p).entries ≡ b.old_above.entries = ap (λ (x : RoomContent). x.entries) above_hand in let old-items : (in_hand w p).items ≡ b.old_above.items = ap (λ (x : RoomContent). x.items) above_hand in
+      let moved : moved_in_hand w p (last_entry above.list.entries) ≡ b.old.items = ap (moved_in_hand w p) last_above ∙ ap (λ (x : RoomContent). x.items) child_hand in record {
         inside = inside shape above.place b.rooms.above_place nodes groups;
         room = has_taken (with_taken u k c) p d;
         entries = b.moved.entries ∙ sym (λ i. old-entries i ++ last_above i ∷ []);
@@ -123,7 +119,7 @@ module _ (shape : Shape) (u v : View) (child above : Room) (filled : Bool) (tree
         backed = subst (λ (x : Entry). IsBacked shape w p x) (sym last_above) (
           ap (λ (h : Holding). h.half) b.rooms.none,
           subst (λ (x : ℕ). 0 < has_room x w.holding) (sym child_under) (has_under p k d c u.holding.hands),
-          ap (λ (x : Content). is_closed x.entries) child_hand ∙ b.was_open,
+          ap (λ (x : RoomContent). is_closed x.entries) child_hand ∙ b.was_open,
         );
         few_items = let fit = b.room.items in let most = b.rooms.told_above.most_items in omega (arith, fit, ap (length {A = Object}) b.moved.items, most);
         few_entries = let fit = b.room.entries in let most = b.rooms.told_above.most_entries in omega (arith, fit, ap (length {A = Entry}) b.moved.entries, length-append b.old_above.entries (e ∷ []), most);
@@ -139,7 +135,7 @@ module _ (shape : Shape) (u v : View) (child above : Room) (filled : Bool) (tree
 
   -- the child's count may be stored
   child_store : MayStore shape (stored_view (with_taken u k c) p d e above.list.items) k child.list
-  child_store = let w : View = stored_view (with_taken u k c) p d e above.list.items in let hand : in_hand w k ≡ c = under_here p k (grown d e above.list.items) c u.holding.hands apart_numbers in let old-entries : (in_hand w k).entries ≡ b.old.entries = ap (λ (x : Content). x.entries) hand in record {
+  child_store = let w : View = stored_view (with_taken u k c) p d e above.list.items in let hand : in_hand w k ≡ c = under_here p k (grown d e above.list.items) c u.holding.hands apart_numbers in let old-entries : (in_hand w k).entries ≡ b.old.entries = ap (λ (x : RoomContent). x.entries) hand in record {
     inside = inside shape child.place b.rooms.child_place nodes groups;
     room = has_under p k (grown d e above.list.items) c u.holding.hands;
     entries = b.closed.entries ∙ sym (λ i. old-entries i ++ last_child i ∷ []);
@@ -198,7 +194,7 @@ module _ (shape : Shape) (u v : View) (child above : Room) (filled : Bool) (tree
   -- and its list is what was stored
   pub back_same : (f : Bool) (w : View) → w ≡ with_both_stored v child above f → IsInHand above.list (in_hand w p)
   back_same f w is = subst (λ (x : View). IsInHand above.list (in_hand x p)) (sym (is ∙ raised_is f)) (subst (λ (h : Holding). IsInHand above.list (content_in p h.hands)) (sym (hands f))
-      (subst (λ (x : Content). IsInHand above.list x) (sym (ap (λ t. cond t (grown d e above.list.items) (content_in p (record { room = k; content = grown c Closed [] } ∷ u.holding.hands))) (eq-eqb p p refl)))
+      (subst (λ (x : RoomContent). IsInHand above.list x) (sym (ap (λ t. cond t (grown d e above.list.items) (content_in p (record { room = k; content = grown c Closed [] } ∷ u.holding.hands))) (eq-eqb p p refl)))
       (record { entries = b.moved.entries; items = refl; most_items = b.moved.most_items; most_entries = b.moved.most_entries })))
 
   -- and once the parent's room is given back
@@ -214,7 +210,7 @@ module _ (shape : Shape) (u v : View) (child above : Room) (filled : Bool) (tree
 
   pub last_same : (f : Bool) (w : View) → w ≡ with_given (with_both_stored v child above f) p → IsInHand child.list (in_hand w k)
   last_same f w is = subst (λ (h : Holding). IsInHand child.list (content_in k h.hands)) (sym (child_holding f w is))
-      (subst (λ (x : Content). IsInHand child.list x) (sym (ap (λ t. cond t (grown c Closed []) (content_in k u.holding.hands)) (eq-eqb k k refl)))
+      (subst (λ (x : RoomContent). IsInHand child.list x) (sym (ap (λ t. cond t (grown c Closed []) (content_in k u.holding.hands)) (eq-eqb k k refl)))
       (record { entries = b.closed.entries; items = b.closed.items; most_items = b.closed.most_items; most_entries = b.closed.most_entries }))
 
   -- what the seat gains by it

@@ -1,10 +1,6 @@
 -- Acting on the list of one place, and giving its room back.
-use Rattle.shr_node.proofs.Common.{◌≡◌, ℕ, ◌<◌, ◌≤◌, Bool, false, List, [], ◌∷◌, ◌++◌, length, inl, inr, sym, refl, ap, subst, ◌∙◌, arith, true, ◌==◌, Some, Object, Policy, Place, Serial, Entry, place_number, IsTree, is_closed, Listed, Takes, RefusesWorn, LacksMemory, TellsScan, scan_entry, drain_entry, View, Shape, Room, Claims, no_rooms, AreBorn, list_content, groups_in, Core, IsPlaceOf, shape_of, with_taken, with_given, IsTaken, IsCounted, drained_after, last_entry, Gains, Knows, with_kept, IsOpened, IsReady, IsUntouched, WasMet, made_of, Acts, IsFull, HadRoom, Scans}
-use Rattle.std.proofs.Common.{eqb-true}
-use Rattle.shr_list.specs.Answers.{RefusesClosed}
+use Rattle.shr_node.proofs.Common.{◌≡◌, ℕ, ◌<◌, ◌≤◌, Bool, false, List, [], ◌∷◌, ◌++◌, length, inl, inr, sym, refl, ap, subst, ◌∙◌, arith, true, ◌==◌, Some, Object, Policy, Place, Serial, Entry, place_number, IsTree, is_closed, Listed, Takes, RefusesWorn, LacksMemory, TellsScan, scan_entry, drain_entry, View, Shape, Room, Claims, no_rooms, AreBorn, list_content, groups_in, Core, IsPlaceOfShape, shape_of, with_taken, with_given, IsTaken, IsCounted, drained_after, last_entry, Gains, Knows, with_kept, IsOpened, IsRoomReady, IsUntouched, WasMet, entry_made, Acts, LackedRoom, HadRoom, ScansPlace, eqb-true, RefusesClosed, EmptiesOne, LeavesOne, IsScanClosed, ScanIsWorn, ScanLacks}
 use Rattle.shr_core.proofs.Births.{freed_born}
-use Rattle.shr_node.specs.Draining.{EmptiesOne, LeavesOne}
-use Rattle.shr_node.specs.Answers.{IsScanClosed, ScanIsWorn, ScanLacks}
 use Rattle.shr_node.proofs.Gaining.{gains_given, known_given, drained_kept, drained_given}
 use Rattle.shr_node.proofs.Marking.{unmoved}
 use Rattle.shr_node.proofs.Acting.{own_opened, ready_plain, held_here, scan_plain, untouched, owned_here, drain_plain, drain_bits, gains_one, acts, scans, was_open, left_gains, left_known, left_full, left_free, was_kept, was_left}
@@ -19,13 +15,13 @@ pub record IsOwnTaken (shape : Shape) (v w : View) (place : Place) (room : Room)
   pub nodes : shape.nodes ≤ 4
   pub groups : groups_in shape ≤ 256
   pub none : v.holding ≡ no_rooms
-  pub there : IsPlaceOf shape place
+  pub there : IsPlaceOfShape shape place
   pub same : room.place ≡ place
   pub taken : w ≡ with_taken v (place_number place) (list_content room.list)
   pub told : IsTaken shape v (place_number place) (list_content room.list)
 
 -- a room that was taken is its place's own, at a seat without rooms
-pub own_taken : (core : Core) (v w : View) (place : Place) (room : Room) → v.holding ≡ no_rooms → IsPlaceOf (shape_of core) place → room.place ≡ place → w ≡ with_taken v (place_number place) (list_content room.list)
+pub own_taken : (core : Core) (v w : View) (place : Place) (room : Room) → v.holding ≡ no_rooms → IsPlaceOfShape (shape_of core) place → room.place ≡ place → w ≡ with_taken v (place_number place) (list_content room.list)
     → IsTaken (shape_of core) v (place_number place) (list_content room.list) → IsOwnTaken (shape_of core) v w place room
 own_taken core v w place room none there same taken told = record { tree = core.tree; nodes = core.limits.2; groups = core.limits.4; none = none; there = there; same = same; taken = taken; told = told }
 
@@ -34,8 +30,8 @@ module _ (shape : Shape) (v w : View) (place : Place) (room : Room) (t : IsOwnTa
   pub own : is_closed room.list.entries ≡ false → IsOpened shape v w place.id place.node place.group room
   own opens = own_opened shape v w place room t.tree t.there.group t.same t.taken t.told opens
 
-  pub room_there : IsPlaceOf shape room.place
-  room_there = subst (IsPlaceOf shape) (sym t.same) t.there
+  pub room_there : IsPlaceOfShape shape room.place
+  room_there = subst (IsPlaceOfShape shape) (sym t.same) t.there
 
   -- the view as the room was taken, by the room's name of the place
   taken_room : w ≡ with_taken v (place_number room.place) (list_content room.list)
@@ -58,7 +54,7 @@ module _ (shape : Shape) (v w : View) (place : Place) (room : Room) (t : IsOwnTa
     own_left opens as-was w' left = left_gains shape v w place.id place.node place.group room (own opens) new as-was w' left
 
     -- the owner of an id that is quiet may drain
-    pub drain_ready : v.claims.owner ≡ Some place.id → v.claims.quiet ≡ true → (by : Serial) (n : ℕ) → 0 < length room.list.items → Takes room.list new (drain_entry room.list by) n → IsReady shape w (record { place = room.place; list = new })
+    pub drain_ready : v.claims.owner ≡ Some place.id → v.claims.quiet ≡ true → (by : Serial) (n : ℕ) → 0 < length room.list.items → Takes room.list new (drain_entry room.list by) n → IsRoomReady shape w (record { place = room.place; list = new })
     drain_ready owns quiet by n some took = let o = own took.was_open in ready_plain shape v w place.id place.node place.group room o t.tree t.there.group room_there t.nodes t.groups t.none new (drain_entry room.list by) n took
         (drain_plain _ _ _ room.list by (owned_here shape v w place.id place.node place.group room o t.tree t.there.group room_there t.nodes t.groups t.none owns) (ap (λ (x : Claims). x.quiet) o.gains.claims ∙ quiet)) some
 
@@ -86,7 +82,7 @@ module _ (shape : Shape) (v w : View) (place : Place) (room : Room) (t : IsOwnTa
           later = subst (λ (p : Place). IsCounted shape v (place_number p) (length room.list.items) (length room.list.entries)) t.same (was_open shape v w place.id place.node place.group room o).later;
           room = let fits = took.room.entries in let most = t.told.most_entries in omega (arith, fits, most);
         };
-        gains = subst (λ (p : Place). Gains v w' (made_of (place_number p) room.list e ∷ []) []) t.same (subst (λ (s : List ℕ). Gains v w' (made_of (place_number room.place) room.list e ∷ []) s) (drain_bits (place_number room.place) room.list.items)
+        gains = subst (λ (p : Place). Gains v w' (entry_made (place_number p) room.list e ∷ []) []) t.same (subst (λ (s : List ℕ). Gains v w' (entry_made (place_number room.place) room.list e ∷ []) s) (drain_bits (place_number room.place) room.list.items)
             (gains_one shape v w place.id place.node place.group room o new (λ old. drain_entry old by) n took w' kept (λ h. refl)));
         objects = objects;
       });
@@ -100,14 +96,14 @@ module _ (shape : Shape) (v w : View) (place : Place) (room : Room) (t : IsOwnTa
       f = λ old. scan_entry old worker walk policy asked
 
       -- a list that took a scan's entry is ready
-      pub scan_ready : v.claims.held ≡ Some place.id → (n : ℕ) → Takes room.list new (scan_entry room.list worker walk policy asked) n → IsReady shape w (record { place = room.place; list = new })
+      pub scan_ready : v.claims.held ≡ Some place.id → (n : ℕ) → Takes room.list new (scan_entry room.list worker walk policy asked) n → IsRoomReady shape w (record { place = room.place; list = new })
       scan_ready holds n took = let o = own took.was_open in ready_plain shape v w place.id place.node place.group room o t.tree t.there.group room_there t.nodes t.groups t.none new (scan_entry room.list worker walk policy asked) n took
           (scan_plain _ _ _ (scan_entry room.list worker walk policy asked) room.list worker walk policy asked refl (held_here shape v w place.id place.node place.group room o t.tree t.there.group room_there t.nodes t.groups t.none holds)) tt
 
       module _ (w' : View) where
         -- the scan made its entry
         pub scan_made : (n : ℕ) (freed : List Object) (visits : ℕ) (stopped : Bool) → TellsScan policy asked room.list.items freed visits stopped → Takes room.list new (scan_entry room.list worker walk policy asked) n
-            → w' ≡ with_kept w (place_number room.place) (last_entry new.entries) new.items → Scans shape v w' place worker walk policy asked freed visits stopped
+            → w' ≡ with_kept w (place_number room.place) (last_entry new.entries) new.items → ScansPlace shape v w' place worker walk policy asked freed visits stopped
         scan_made n freed visits stopped told took kept = scans shape v w' place n worker walk policy asked freed visits stopped
             (subst (λ (p : Place). Acts shape v w' place.id place.node place.group (record { place = p; entry = n }) (λ items. TellsScan policy asked items freed visits stopped × AreBorn (groups_in shape) freed) (λ old. scan_entry old worker walk policy asked)) t.same
             (acts shape v w place.id place.node place.group room (own took.was_open) new (λ old. scan_entry old worker walk policy asked) n took w' kept (λ h. refl) (λ items. TellsScan policy asked items freed visits stopped × AreBorn (groups_in shape) freed)
@@ -129,7 +125,7 @@ module _ (shape : Shape) (v w : View) (place : Place) (room : Room) (t : IsOwnTa
         scan_worn entries items worn left = record {
           old = room.list;
           here = refl;
-          full = subst (λ (p : Place). IsFull shape v w' (place_number p) room.list (scan_entry room.list worker walk policy asked) entries items) t.same
+          full = subst (λ (p : Place). LackedRoom shape v w' (place_number p) room.list (scan_entry room.list worker walk policy asked) entries items) t.same
               (left_full shape v w place.id place.node place.group room (own worn.was_open) new worn.same w' left (scan_entry room.list worker walk policy asked) entries items worn.worn);
         }
 

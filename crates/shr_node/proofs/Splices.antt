@@ -1,8 +1,7 @@
 -- Closing one list after another, groups in falling order.
-use Rattle.shr_node.proofs.Common.{◌≡◌, ℕ, suc, ◌+◌, ◌<◌, ◌≤◌, true, cond, List, [], ◌∷◌, ◌++◌, length, sym, refl, ap, subst, ◌∙◌, arith, append_assoc, eq-eqb, ne_eqb, ◌==◌, append-nil, all_pairs_push, dite, ℕ_discrete, Spent, place_number, Listed, IsTree, is_child, parent_of, IsAtOrAbove, child_takes, child_higher, on_child, IsAtOrAbove-trans, IsAtOrAbove-refl, Contains_from_Has, path_of, Each, Each-none, Each-push, Each-weaker, View, Shape, Made, groups_in, Gains, KnowsClosed, WasMet, Closing, place_of, made_by, bits_by, moved_from, IsPair, SpliceWorn}
+use Rattle.shr_node.proofs.Common.{◌≡◌, ℕ, suc, ◌+◌, ◌<◌, ◌≤◌, true, cond, List, [], ◌∷◌, ◌++◌, length, sym, refl, ap, subst, ◌∙◌, arith, append_assoc, eq-eqb, ne_eqb, ◌==◌, append-nil, all_pairs_push, dite, ℕ_discrete, Spent, place_number, Listed, IsTree, is_child, parent_of, IsAtOrAbove, child_takes, child_higher, on_child, IsAtOrAbove-trans, IsAtOrAbove-refl, Contains_from_Has, path_of, Each, Each-none, Each-push, Each-weaker, View, Shape, Made, groups_in, Gains, KnowsClosed, WasMet, Closing, group_place, made_by_closing, bits_by, moved_from_group, IsPair, SpliceWorn, IsChild}
 use Rattle.shr_base.specs.declared.replies.Spent.TheVariants as spent
-use Rattle.shr_model.proofs.GroupsLaws.{IsChild}
-use Rattle.shr_node.specs.Splicing.{made_in, bits_in, IsClosing, AreClosings, StopsAt, HadRoom, own_number, above_place}
+use Rattle.shr_node.specs.Splicing.{made_by_closings, bits_of_closings, IsClosing, AreClosings, SpliceStopsAt, ParentHadRoom, own_number, above_place}
 use Rattle.shr_node.proofs.Gaining.{gains_none, gains_then, knows_still, counted_before}
 use Rattle.shr_node.proofs.Draws.{at_each, met_before}
 
@@ -11,8 +10,8 @@ pub record IsSplicing (shape : Shape) (v w : View) (id node group at moved : ℕ
   pub cs : List Closing
   pub closings : AreClosings shape v w id node group cs
   pub low : Each (λ c. at ≤ c.child) cs
-  pub closed : (child : ℕ) → at ≤ child → child < groups_in shape → IsAtOrAbove shape.parents.items group child → KnowsClosed w (place_number (place_of id node child))
-  pub moved_is : at ≤ group → moved ≡ moved_from group cs
+  pub closed : (child : ℕ) → at ≤ child → child < groups_in shape → IsAtOrAbove shape.parents.items group child → KnowsClosed w (place_number (group_place id node child))
+  pub moved_is : at ≤ group → moved ≡ moved_from_group group cs
 
 -- nothing is closed yet
 pub splicing_none : (shape : Shape) (v : View) (id node group : ℕ) → group < groups_in shape → IsSplicing shape v v id node group (groups_in shape) 0
@@ -24,38 +23,38 @@ splicing_none shape v id node group there = record {
   moved_is = λ le. absurd (omega (arith, le, there));
 }
 
-made_push : (parents : List ℕ) (id node : ℕ) (cs : List Closing) (c : Closing) → made_in parents id node (cs ++ c ∷ []) ≡ made_in parents id node cs ++ made_by parents id node c
-made_push parents id node [] c = append-nil (made_by parents id node c)
-made_push parents id node (x ∷ cs) c = ap (λ (l : List Made). made_by parents id node x ++ l) (made_push parents id node cs c) ∙ sym (append_assoc (made_by parents id node x) (made_in parents id node cs) (made_by parents id node c))
+made_push : (parents : List ℕ) (id node : ℕ) (cs : List Closing) (c : Closing) → made_by_closings parents id node (cs ++ c ∷ []) ≡ made_by_closings parents id node cs ++ made_by_closing parents id node c
+made_push parents id node [] c = append-nil (made_by_closing parents id node c)
+made_push parents id node (x ∷ cs) c = ap (λ (l : List Made). made_by_closing parents id node x ++ l) (made_push parents id node cs c) ∙ sym (append_assoc (made_by_closing parents id node x) (made_by_closings parents id node cs) (made_by_closing parents id node c))
 
-bits_push : (parents : List ℕ) (id node : ℕ) (cs : List Closing) (c : Closing) → bits_in parents id node (cs ++ c ∷ []) ≡ bits_in parents id node cs ++ bits_by parents id node c
+bits_push : (parents : List ℕ) (id node : ℕ) (cs : List Closing) (c : Closing) → bits_of_closings parents id node (cs ++ c ∷ []) ≡ bits_of_closings parents id node cs ++ bits_by parents id node c
 bits_push parents id node [] c = append-nil (bits_by parents id node c)
-bits_push parents id node (x ∷ cs) c = ap (λ (l : List ℕ). bits_by parents id node x ++ l) (bits_push parents id node cs c) ∙ sym (append_assoc (bits_by parents id node x) (bits_in parents id node cs) (bits_by parents id node c))
+bits_push parents id node (x ∷ cs) c = ap (λ (l : List ℕ). bits_by parents id node x ++ l) (bits_push parents id node cs c) ∙ sym (append_assoc (bits_by parents id node x) (bits_of_closings parents id node cs) (bits_by parents id node c))
 
 -- the objects of the group's own list, which is the last
-moved_push : (group : ℕ) (cs : List Closing) (c : Closing) → Each (λ x. group < x.child) cs → moved_from group (cs ++ c ∷ []) ≡ cond (c.child == group) (length c.items) 0
+moved_push : (group : ℕ) (cs : List Closing) (c : Closing) → Each (λ x. group < x.child) cs → moved_from_group group (cs ++ c ∷ []) ≡ cond (c.child == group) (length c.items) 0
 moved_push group [] c high = refl
-moved_push group (x ∷ cs) c high = ap (λ b. cond b (length x.items) (moved_from group (cs ++ c ∷ []))) (ne_eqb x.child group (λ e. let h = high 0 x refl in absurd (omega (arith, h, e)))) ∙ moved_push group cs c (λ j y at. high (suc j) y at)
+moved_push group (x ∷ cs) c high = ap (λ b. cond b (length x.items) (moved_from_group group (cs ++ c ∷ []))) (ne_eqb x.child group (λ e. let h = high 0 x refl in absurd (omega (arith, h, e)))) ∙ moved_push group cs c (λ j y at. high (suc j) y at)
 
-moved_none : (group : ℕ) (cs : List Closing) → Each (λ x. group < x.child) cs → moved_from group cs ≡ 0
+moved_none : (group : ℕ) (cs : List Closing) → Each (λ x. group < x.child) cs → moved_from_group group cs ≡ 0
 moved_none group [] high = refl
-moved_none group (x ∷ cs) high = ap (λ b. cond b (length x.items) (moved_from group cs)) (ne_eqb x.child group (λ e. let h = high 0 x refl in absurd (omega (arith, h, e)))) ∙ moved_none group cs (λ j y at. high (suc j) y at)
+moved_none group (x ∷ cs) high = ap (λ b. cond b (length x.items) (moved_from_group group cs)) (ne_eqb x.child group (λ e. let h = high 0 x refl in absurd (omega (arith, h, e)))) ∙ moved_none group cs (λ j y at. high (suc j) y at)
 
 module _ (shape : Shape) (tree : IsTree shape.parents.items) (v u w : View) (id node group top moved : ℕ) (o : IsSplicing shape v u id node group top moved) where
   -- the children of a group in the subtree are closed
-  pub children_closed : (at : ℕ) → top ≡ at + 1 → at < groups_in shape → IsAtOrAbove shape.parents.items group at → (child : ℕ) → is_child shape.parents.items at child ≡ true → KnowsClosed u (place_number (place_of id node child))
+  pub children_closed : (at : ℕ) → top ≡ at + 1 → at < groups_in shape → IsAtOrAbove shape.parents.items group at → (child : ℕ) → is_child shape.parents.items at child ≡ true → KnowsClosed u (place_number (group_place id node child))
   children_closed at next there below child is = let c : IsChild shape.parents.items at child = child_takes shape.parents.items at child is in let higher = child_higher shape.parents.items at child tree c in
       o.closed child (omega (arith, higher, next)) c.there (IsAtOrAbove-trans shape.parents.items tree group at child c.there below (Contains_from_Has (path_of shape.parents.items child) at (on_child shape.parents.items tree at child c)))
 
   -- more is known later
-  closed_still : (m : List Made) (s : List ℕ) → Gains u w m s → (child : ℕ) → top ≤ child → child < groups_in shape → IsAtOrAbove shape.parents.items group child → KnowsClosed w (place_number (place_of id node child))
-  closed_still m s g child high there below = let k = o.closed child high there below in (k.0, knows_still u w m s (place_number (place_of id node child)) k.0 g k.1, k.2)
+  closed_still : (m : List Made) (s : List ℕ) → Gains u w m s → (child : ℕ) → top ≤ child → child < groups_in shape → IsAtOrAbove shape.parents.items group child → KnowsClosed w (place_number (group_place id node child))
+  closed_still m s g child high there below = let k = o.closed child high there below in (k.0, knows_still u w m s (place_number (group_place id node child)) k.0 g k.1, k.2)
 
   -- from one group down to the next
-  from_next : (at : ℕ) → top ≡ at + 1 → (m : List Made) (s : List ℕ) → Gains u w m s → (IsAtOrAbove shape.parents.items group at → KnowsClosed w (place_number (place_of id node at)))
-      → (child : ℕ) → at ≤ child → child < groups_in shape → IsAtOrAbove shape.parents.items group child → KnowsClosed w (place_number (place_of id node child))
+  from_next : (at : ℕ) → top ≡ at + 1 → (m : List Made) (s : List ℕ) → Gains u w m s → (IsAtOrAbove shape.parents.items group at → KnowsClosed w (place_number (group_place id node at)))
+      → (child : ℕ) → at ≤ child → child < groups_in shape → IsAtOrAbove shape.parents.items group child → KnowsClosed w (place_number (group_place id node child))
   from_next at next m s g own child high there below = dite (ℕ_discrete child at)
-      (λ e. subst (λ (x : ℕ). KnowsClosed w (place_number (place_of id node x))) (sym e) (own (subst (λ (x : ℕ). IsAtOrAbove shape.parents.items group x) e below)))
+      (λ e. subst (λ (x : ℕ). KnowsClosed w (place_number (group_place id node x))) (sym e) (own (subst (λ (x : ℕ). IsAtOrAbove shape.parents.items group x) e below)))
       (λ n. closed_still m s g child (omega (arith, high, n, next)) there below)
 
   -- the closings so far, seen from a later view that gained nothing
@@ -63,13 +62,13 @@ module _ (shape : Shape) (tree : IsTree shape.parents.items) (v u w : View) (id 
   still g = record {
     each = o.closings.each;
     falling = o.closings.falling;
-    gains = subst (λ (l : List Made). Gains v w l (bits_in shape.parents.items id node o.cs)) (append-nil (made_in shape.parents.items id node o.cs))
-        (subst (λ (l : List ℕ). Gains v w (made_in shape.parents.items id node o.cs ++ []) l) (append-nil (bits_in shape.parents.items id node o.cs))
-        (gains_then v u w (made_in shape.parents.items id node o.cs) [] (bits_in shape.parents.items id node o.cs) [] o.closings.gains g));
+    gains = subst (λ (l : List Made). Gains v w l (bits_of_closings shape.parents.items id node o.cs)) (append-nil (made_by_closings shape.parents.items id node o.cs))
+        (subst (λ (l : List ℕ). Gains v w (made_by_closings shape.parents.items id node o.cs ++ []) l) (append-nil (bits_of_closings shape.parents.items id node o.cs))
+        (gains_then v u w (made_by_closings shape.parents.items id node o.cs) [] (bits_of_closings shape.parents.items id node o.cs) [] o.closings.gains g));
   }
 
   -- the call stops at the next list, of which nothing changed
-  pub splicing_stops : (at : ℕ) → top ≡ at + 1 → at < groups_in shape → IsAtOrAbove shape.parents.items group at → Gains u w [] [] → StopsAt shape v w id node group at
+  pub splicing_stops : (at : ℕ) → top ≡ at + 1 → at < groups_in shape → IsAtOrAbove shape.parents.items group at → Gains u w [] [] → SpliceStopsAt shape v w id node group at
   splicing_stops at next there below g = record {
     cs = o.cs;
     closings = still g;
@@ -81,10 +80,10 @@ module _ (shape : Shape) (tree : IsTree shape.parents.items) (v u w : View) (id 
 
   -- what was met, as the first view sees it
   was_pair : (child : ℕ) (given old : Listed) → IsPair shape u w id node child given old → IsPair shape v w id node child given old
-  was_pair child given old p = record { met = was_met (place_number (place_of id node child)) given p.met; above_met = was_met (place_number (place_of id node (parent_of shape.parents.items child))) old p.above_met; apart = p.apart }
+  was_pair child given old p = record { met = was_met (place_number (group_place id node child)) given p.met; above_met = was_met (place_number (group_place id node (parent_of shape.parents.items child))) old p.above_met; apart = p.apart }
     where
       was_met : (k : ℕ) (old : Listed) → WasMet shape u w k old → WasMet shape v w k old
-      was_met k old = met_before shape v u w (made_in shape.parents.items id node o.cs) (bits_in shape.parents.items id node o.cs) k old o.closings.gains
+      was_met k old = met_before shape v u w (made_by_closings shape.parents.items id node o.cs) (bits_of_closings shape.parents.items id node o.cs) k old o.closings.gains
 
   -- a full list that was met after some closings is told of the view before them
   pub worn_before : (s : Spent) (child : ℕ) → SpliceWorn shape u w id node child s → SpliceWorn shape v w id node child s
@@ -93,7 +92,7 @@ module _ (shape : Shape) (tree : IsTree shape.parents.items) (v u w : View) (id 
   worn_before (spent.Charges charges uncharges) child h = h
 
   -- the same for a list with room
-  pub free_before : (child : ℕ) → HadRoom shape u w id node child → HadRoom shape v w id node child
+  pub free_before : (child : ℕ) → ParentHadRoom shape u w id node child → ParentHadRoom shape v w id node child
   free_before child h = record { given = h.given; old = h.old; pair = was_pair child h.given h.old h.pair; room = h.room }
 
   -- a group that is not at or below is passed over
@@ -111,7 +110,7 @@ module _ (shape : Shape) (tree : IsTree shape.parents.items) (v u w : View) (id 
     same low = omega (arith, low, le)
 
   -- a list was closed before
-  pub splicing_was : (at : ℕ) → top ≡ at + 1 → group ≤ at → Gains u w [] [] → (IsAtOrAbove shape.parents.items group at → KnowsClosed w (place_number (place_of id node at))) → IsSplicing shape v w id node group at 0
+  pub splicing_was : (at : ℕ) → top ≡ at + 1 → group ≤ at → Gains u w [] [] → (IsAtOrAbove shape.parents.items group at → KnowsClosed w (place_number (group_place id node at))) → IsSplicing shape v w id node group at 0
   splicing_was at next le g own = record {
     cs = o.cs;
     closings = still g;
@@ -122,7 +121,7 @@ module _ (shape : Shape) (tree : IsTree shape.parents.items) (v u w : View) (id 
 
   -- a list is closed now
   pub splicing_one : (at : ℕ) (c : Closing) (objects : ℕ) → top ≡ at + 1 → group ≤ at → IsAtOrAbove shape.parents.items group at → c.child ≡ at → objects ≡ length c.items → IsClosing shape u id node at c
-      → Gains u w (made_by shape.parents.items id node c) (bits_by shape.parents.items id node c) → KnowsClosed w (place_number (place_of id node at)) → IsSplicing shape v w id node group at objects
+      → Gains u w (made_by_closing shape.parents.items id node c) (bits_by shape.parents.items id node c) → KnowsClosed w (place_number (group_place id node at)) → IsSplicing shape v w id node group at objects
   splicing_one at c objects next le below is count one g own = record {
     cs = o.cs ++ c ∷ [];
     closings = record {
@@ -130,18 +129,18 @@ module _ (shape : Shape) (tree : IsTree shape.parents.items) (v u w : View) (id 
         below = subst (λ (x : ℕ). IsAtOrAbove shape.parents.items group x) (sym is) below;
         low = one.low;
         there = one.there;
-        later = counted_before shape v u (made_in shape.parents.items id node o.cs) (bits_in shape.parents.items id node o.cs) (own_number id node c) (length c.items) c.number o.closings.gains one.later;
+        later = counted_before shape v u (made_by_closings shape.parents.items id node o.cs) (bits_of_closings shape.parents.items id node o.cs) (own_number id node c) (length c.items) c.number o.closings.gains one.later;
         room_entries = one.room_entries;
         room_items = one.room_items;
-        above_later = counted_before shape v u (made_in shape.parents.items id node o.cs) (bits_in shape.parents.items id node o.cs) (above_place shape.parents.items id node c) (length c.above_items) c.above_number o.closings.gains one.above_later;
+        above_later = counted_before shape v u (made_by_closings shape.parents.items id node o.cs) (bits_of_closings shape.parents.items id node o.cs) (above_place shape.parents.items id node c) (length c.above_items) c.above_number o.closings.gains one.above_later;
       }) o.closings.each;
       falling = all_pairs_push (λ (a b : Closing). b.child < a.child) o.cs c o.closings.falling (λ j x lt. let h = at_each (λ (y : Closing). top ≤ y.child) o.cs j x o.low lt in omega (arith, h, is, next));
-      gains = subst (λ (l : List Made). Gains v w l (bits_in shape.parents.items id node (o.cs ++ c ∷ []))) (sym (made_push shape.parents.items id node o.cs c))
-          (subst (λ (l : List ℕ). Gains v w (made_in shape.parents.items id node o.cs ++ made_by shape.parents.items id node c) l) (sym (bits_push shape.parents.items id node o.cs c))
-          (gains_then v u w (made_in shape.parents.items id node o.cs) (made_by shape.parents.items id node c) (bits_in shape.parents.items id node o.cs) (bits_by shape.parents.items id node c) o.closings.gains g));
+      gains = subst (λ (l : List Made). Gains v w l (bits_of_closings shape.parents.items id node (o.cs ++ c ∷ []))) (sym (made_push shape.parents.items id node o.cs c))
+          (subst (λ (l : List ℕ). Gains v w (made_by_closings shape.parents.items id node o.cs ++ made_by_closing shape.parents.items id node c) l) (sym (bits_push shape.parents.items id node o.cs c))
+          (gains_then v u w (made_by_closings shape.parents.items id node o.cs) (made_by_closing shape.parents.items id node c) (bits_of_closings shape.parents.items id node o.cs) (bits_by shape.parents.items id node c) o.closings.gains g));
     };
     low = Each-push (λ (x : Closing). at ≤ x.child) o.cs c (omega (arith, is)) (Each-weaker (λ (x : Closing). top ≤ x.child) (λ (x : Closing). at ≤ x.child) (λ x h. omega (arith, h, next)) o.cs o.low);
-    closed = from_next at next (made_by shape.parents.items id node c) (bits_by shape.parents.items id node c) g (λ h. own);
+    closed = from_next at next (made_by_closing shape.parents.items id node c) (bits_by shape.parents.items id node c) g (λ h. own);
     moved_is = λ low. count ∙ sym (moved_push group o.cs c (Each-weaker (λ (x : Closing). top ≤ x.child) (λ (x : Closing). group < x.child) (λ x h. omega (arith, h, next, le)) o.cs o.low)
         ∙ ap (λ b. cond b (length c.items) 0) (eq-eqb c.child group (omega (arith, is, low, le))));
   }

@@ -1,21 +1,20 @@
 -- The child's list and its parent's once the objects moved, and the steps that store them.
-use Rattle.shr_node.proofs.Common.{◌≡◌, ◌≤◌, ◌&&◌, nat_lt, Bool, false, cond, [], length, Contains, Closed, place_number, is_closed, moved_in, AreChildrenMovedIn, Listed, View, Shape, Room, with_stored, with_set, last_entry, AreTaken}
+use Rattle.shr_node.proofs.Common.{◌≡◌, ◌≤◌, ◌&&◌, nat_lt, Bool, false, cond, [], length, Contains, Closed, place_number, is_closed, moved_in, AreChildrenMovedIn, Listed, View, Shape, Room, with_stored, with_set, last_entry, AreBothTaken, with_both_left}
 use Rattle.shr_list.specs.Answers as answer
-use Rattle.shr_node.specs.Pairs.{with_both_left}
 
 -- the parent's list took the child's objects, and the child's is closed
 pub record BothReady (shape : Shape) (before v : View) (child above : Room) (filled : Bool) : Type 0 where
   pub old : Listed
   pub old_above : Listed
-  pub rooms : AreTaken shape before v child.place above.place old old_above
+  pub rooms : AreBothTaken shape before v child.place above.place old old_above
   pub was_open : is_closed old.entries ≡ false
   pub few : length old.entries ≤ shape.most_entries
   pub children : AreChildrenMovedIn shape.parents.items child.place.group old.entries
   pub above_open : is_closed old_above.entries ≡ false
   pub apart : ¬ Contains (moved_in old_above.entries) child.place.group
   pub room : answer.HasRoom old_above old.items (answer.moved_entry old child.place.group)
-  pub closed : answer.Gains old child.list [] Closed
-  pub moved : answer.Gains old_above above.list old.items (answer.moved_entry old child.place.group)
+  pub closed : answer.ListGains old child.list [] Closed
+  pub moved : answer.ListGains old_above above.list old.items (answer.moved_entry old child.place.group)
   pub filling : filled ≡ (nat_lt 0 (length old.items) && nat_lt 0 above.place.group)
 
 -- the view once both counts were stored, and once the bit was set if the parent's list was given

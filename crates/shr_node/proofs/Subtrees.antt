@@ -1,6 +1,5 @@
 -- Marking the groups at or below a group, from the lowest number up.
-use Rattle.shr_node.proofs.Common.{◌≡◌, ℕ, ◌+◌, ◌<◌, Bool, true, false, List, length, get_or, set, replicate, sym, ap, subst, ◌∙◌, ⊎_elim, arith, length-replicate, dite, ℕ_discrete, IsTree, parent_of, IsAtOrAbove, IsAtOrAbove-trans, IsAtOrAbove-le, IsAtOrAbove-refl}
-use Rattle.std.specs.Prelude.{◌↔◌, slice_index_or}
+use Rattle.shr_node.proofs.Common.{◌≡◌, ℕ, ◌+◌, ◌<◌, Bool, true, false, List, length, get_or, set, replicate, sym, ap, subst, ◌∙◌, ⊎_elim, arith, length-replicate, dite, ℕ_discrete, IsTree, parent_of, IsAtOrAbove, IsAtOrAbove-trans, IsAtOrAbove-le, IsAtOrAbove-refl, ◌↔◌, slice_index_or}
 use Rattle.std.proofs.lemmas.List.{get_or-set_same, get_or-set_other, get_or-replicate}
 use Rattle.shr_node.proofs.Climbing.{above_parent, parent_above}
 

@@ -30,7 +30,7 @@ use Rattle.shr_node.specs.declared.answers.NodePin.TheVariants as pin
 use Rattle.shr_node.specs.declared.answers.NodeScan.{NodeScan}
 use Rattle.shr_node.specs.declared.answers.NodeScan.TheVariants as scan
 use Rattle.shr_node.specs.Gains.{Gains, Knows, KnowsClosed, bits_for}
-use Rattle.shr_node.specs.Opening.{IsFirstOpen, WasOpen, made_of}
+use Rattle.shr_node.specs.Opening.{IsFirstOpen, WasOpen, entry_made}
 
 -- A tenant's call made this entry at the end of the journal of the first open list, which had room
 -- for it. Its outcome is so, and so is this of the list's objects before.
@@ -42,12 +42,12 @@ pub record Acts (shape : Shape) (v w : View) (id node birth : ℕ) (at : At) (so
   pub room : HasRoom old [] (e old)
   pub number : at.entry ≡ length old.entries
   pub outcome : IsOutcome [] old.items (e old)
-  pub gains : Gains v w (made_of (place_number at.place) old (e old) ∷ []) (bits_for (place_number at.place) old.items (step [] old.items (e old)))
+  pub gains : Gains v w (entry_made (place_number at.place) old (e old) ∷ []) (bits_for (place_number at.place) old.items (step [] old.items (e old)))
   pub known : Knows w (place_number at.place) (old.entries ++ e old ∷ [])
 
 -- an open list has no room for this entry within its limits; it stays as it was, and its journal is
 -- known
-pub record IsFull (shape : Shape) (v w : View) (k : ℕ) (old : Listed) (e : Entry) (entries items : ℕ) : Type 0 where
+pub record LackedRoom (shape : Shape) (v w : View) (k : ℕ) (old : Listed) (e : Entry) (entries items : ℕ) : Type 0 where
   pub was : WasOpen shape v k old
   pub worn : IsWorn old [] e entries items
   pub gains : Gains v w [] []
@@ -64,7 +64,7 @@ pub record HadRoom (shape : Shape) (v w : View) (k : ℕ) (old : Listed) (e : En
 pub record TenantIsWorn (shape : Shape) (v w : View) (id node birth : ℕ) (place : Place) (e : Listed → Entry) (entries items : ℕ) : Type 0 where
   pub old : Listed
   pub first : IsFirstOpen shape w id node birth place
-  pub full : IsFull shape v w (place_number place) old (e old) entries items
+  pub full : LackedRoom shape v w (place_number place) old (e old) entries items
 
 -- a tenant's call tells of no counter but the full list
 abbrev pub TenantWorn : Shape → View → View → ℕ → ℕ → ℕ → (Listed → Entry) → Spent → Type 0
@@ -110,14 +110,14 @@ PinGives shape v id node by birth key pinned pin.Memory w = TenantLacks shape v 
 
 -- a scan made its entry at the end of its place's journal, which had room for it, and freed these
 -- objects
-pub record Scans (shape : Shape) (v w : View) (place : Place) (worker walk : ℕ) (policy : Policy) (asked : ℕ) (freed : List Object) (visits : ℕ) (stopped : Bool) : Type 0 where
+pub record ScansPlace (shape : Shape) (v w : View) (place : Place) (worker walk : ℕ) (policy : Policy) (asked : ℕ) (freed : List Object) (visits : ℕ) (stopped : Bool) : Type 0 where
   pub old : Listed
   pub told : TellsScan policy asked old.items freed visits stopped
   pub born : AreBorn (groups_in shape) freed
   pub was : WasOpen shape v (place_number place) old
   pub room : HasRoom old [] (scan_entry old worker walk policy asked)
   pub outcome : IsOutcome [] old.items (scan_entry old worker walk policy asked)
-  pub gains : Gains v w (made_of (place_number place) old (scan_entry old worker walk policy asked) ∷ []) []
+  pub gains : Gains v w (entry_made (place_number place) old (scan_entry old worker walk policy asked) ∷ []) []
   pub known : Knows w (place_number place) (old.entries ++ scan_entry old worker walk policy asked ∷ [])
 
 -- the list of the place is closed
@@ -129,7 +129,7 @@ pub record IsScanClosed (v w : View) (place : Place) : Type 0 where
 pub record ScanIsWorn (shape : Shape) (v w : View) (place at : Place) (e : Listed → Entry) (entries items : ℕ) : Type 0 where
   pub old : Listed
   pub here : at ≡ place
-  pub full : IsFull shape v w (place_number place) old (e old) entries items
+  pub full : LackedRoom shape v w (place_number place) old (e old) entries items
 
 -- a scan tells of no counter but the full list of its place
 abbrev pub ScanWorn : Shape → View → View → Place → (Listed → Entry) → Spent → Type 0
@@ -144,7 +144,7 @@ pub record ScanLacks (shape : Shape) (v w : View) (place : Place) (e : Listed �
 
 -- what `scan` answers
 abbrev pub ScanGives : Shape → View → Place → ℕ → ℕ → Policy → ℕ → NodeScan → View → Type 0
-ScanGives shape v place worker walk policy asked (scan.Scanned freed visits stopped) w = Scans shape v w place worker walk policy asked freed.items visits stopped
+ScanGives shape v place worker walk policy asked (scan.Scanned freed visits stopped) w = ScansPlace shape v w place worker walk policy asked freed.items visits stopped
 ScanGives shape v place worker walk policy asked scan.Closed w = IsScanClosed v w place
 ScanGives shape v place worker walk policy asked (scan.Worn s) w = ScanWorn shape v w place (λ old. scan_entry old worker walk policy asked) s
 ScanGives shape v place worker walk policy asked scan.Memory w = ScanLacks shape v w place (λ old. scan_entry old worker walk policy asked)

@@ -20,7 +20,7 @@ use Rattle.shr_node.specs.declared.answers.NodeDrain.{NodeDrain}
 use Rattle.shr_node.specs.declared.answers.NodeDrain.TheVariants as drain
 use Rattle.shr_node.specs.Gains.{Gains}
 use Rattle.shr_node.specs.Opening.{WasMet}
-use Rattle.shr_node.specs.Splicing.{place_of}
+use Rattle.shr_node.specs.Splicing.{group_place}
 
 -- one list was emptied: its group, the number of its Drained, and its items before
 pub record Draw : Type 0 where
@@ -29,9 +29,9 @@ pub record Draw : Type 0 where
   pub items : List Object
 
 -- the entries of one draw after another
-abbrev pub made_in : ℕ → ℕ → Serial → List Draw → List Made
-made_in id node by [] = []
-made_in id node by (d ∷ ds) = record { place = place_number (place_of id node d.group); number = d.number; entry = Drained by (length d.items); items = d.items } ∷ made_in id node by ds
+abbrev pub made_by_draws : ℕ → ℕ → Serial → List Draw → List Made
+made_by_draws id node by [] = []
+made_by_draws id node by (d ∷ ds) = record { place = place_number (group_place id node d.group); number = d.number; entry = Drained by (length d.items); items = d.items } ∷ made_by_draws id node by ds
 
 -- the objects of one draw after another
 abbrev pub drawn : List Draw → List Object
@@ -43,7 +43,7 @@ pub record IsDraw (shape : Shape) (v : View) (id node : ℕ) (d : Draw) : Type 0
   pub there : d.group < groups_in shape
   pub some : 0 < length d.items
   pub born : AreBorn (groups_in shape) d.items
-  pub later : IsCounted shape v (place_number (place_of id node d.group)) (length d.items) d.number
+  pub later : IsCounted shape v (place_number (group_place id node d.group)) (length d.items) d.number
   pub room : d.number + 1 ≤ shape.most_entries
 
 -- the lists were emptied from the highest group down, and their objects stand at the end of what
@@ -51,7 +51,7 @@ pub record IsDraw (shape : Shape) (v : View) (id node : ℕ) (d : Draw) : Type 0
 pub record AreDraws (shape : Shape) (v w : View) (id node : ℕ) (by : Serial) (before after : List Object) (ds : List Draw) : Type 0 where
   pub each : Each (IsDraw shape v id node) ds
   pub falling : AllPairs (λ (a b : Draw). b.group < a.group) ds
-  pub gains : Gains v w (made_in id node by ds) []
+  pub gains : Gains v w (made_by_draws id node by ds) []
   pub objects : after ≡ before ++ drawn ds
   -- the drain marks of the other nodes stay
   pub others : (n : ℕ) → n ≢ node → mark_of w.claims n ≡ mark_of v.claims n
@@ -60,12 +60,12 @@ pub record AreDraws (shape : Shape) (v w : View) (id node : ℕ) (by : Serial) (
 pub record IsFilled (shape : Shape) (v w : View) (id node group : ℕ) (old : Listed) : Type 0 where
   pub there : group < groups_in shape
   pub some : 0 < length old.items
-  pub met : WasMet shape v w (place_number (place_of id node group)) old
+  pub met : WasMet shape v w (place_number (group_place id node group)) old
 
 -- a list that held an object had no room for a Drained
 pub record IsFilledUp (shape : Shape) (v w : View) (id node group : ℕ) (by : Serial) (place : Place) (entries items : ℕ) : Type 0 where
   pub old : Listed
-  pub here : place ≡ place_of id node group
+  pub here : place ≡ group_place id node group
   pub filled : IsFilled shape v w id node group old
   pub worn : IsWorn old [] (drain_entry old by) entries items
 
@@ -121,16 +121,16 @@ pub record DrawsOne (shape : Shape) (v w : View) (place : Place) (by : Serial) (
   pub draw : Draw
   pub here : draw.group ≡ place.group
   pub is : IsDraw shape v place.id place.node draw
-  pub gains : Gains v w (made_in place.id place.node by (draw ∷ [])) []
+  pub gains : Gains v w (made_by_draws place.id place.node by (draw ∷ [])) []
   pub objects : after ≡ before ++ draw.items
 
 -- a list held no object, or was emptied
-abbrev pub IsDrawn : Shape → View → View → Place → Serial → List Object → List Object → Type 0
-IsDrawn shape v w place by before after = DrawsNone v w before after ⊎ DrawsOne shape v w place by before after
+abbrev pub IsListDrawn : Shape → View → View → Place → Serial → List Object → List Object → Type 0
+IsListDrawn shape v w place by before after = DrawsNone v w before after ⊎ DrawsOne shape v w place by before after
 
 -- once a list is empty the mark falls over it
 pub record EmptiesOne (shape : Shape) (v w : View) (place : Place) (by : Serial) (before after : List Object) : Type 0 where
-  pub drawn : IsDrawn shape v w place by before after
+  pub drawn : IsListDrawn shape v w place by before after
   pub marks : w.claims.drained ≡ drained_after v.claims (place_number place) []
 
 -- a list that held an object was left as it was

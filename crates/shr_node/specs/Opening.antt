@@ -12,7 +12,7 @@ use Rattle.shr_core.specs.declared.rooms.Room.{Room}
 use Rattle.shr_core.specs.Parts.{Made}
 use Rattle.shr_core.specs.Rule.{has_room, list_content}
 use Rattle.shr_core.specs.Steps.{IsCounted, IsTaken, with_taken, in_hand, last_entry, half_after, MayStore}
-use Rattle.shr_core.specs.Seats.{IsPlaceOf}
+use Rattle.shr_core.specs.Seats.{IsPlaceOfShape}
 use Rattle.shr_core.specs.Tells.{IsInHand}
 use Rattle.shr_node.specs.Gains.{Gains, Knows, KnowsClosed}
 
@@ -40,8 +40,8 @@ pub record WasMet (shape : Shape) (v w : View) (k : ℕ) (old : Listed) : Type 0
   pub known : Knows w k old.entries
 
 -- what is made of an entry that a list gains
-abbrev pub made_of : ℕ → Listed → Entry → Made
-made_of k old e = record { place = k; number = length old.entries; entry = e; items = old.items }
+abbrev pub entry_made : ℕ → Listed → Entry → Made
+entry_made k old e = record { place = k; number = length old.entries; entry = e; items = old.items }
 
 -- the rooms of the closed lists on the way were given back, and the seat has the first open one's
 -- in hand
@@ -55,8 +55,8 @@ pub record IsOpened (shape : Shape) (v w : View) (id node birth : ℕ) (room : R
 
 -- a room in hand, whose list has one entry more that may be stored, and which can be given back
 -- then
-pub record IsReady (shape : Shape) (v : View) (room : Room) : Type 0 where
-  pub place : IsPlaceOf shape room.place
+pub record IsRoomReady (shape : Shape) (v : View) (room : Room) : Type 0 where
+  pub place : IsPlaceOfShape shape room.place
   pub may : MayStore shape v (place_number room.place) room.list
   pub most_items : room.list.most_items ≡ (in_hand v (place_number room.place)).most_items
   pub most_entries : room.list.most_entries ≡ (in_hand v (place_number room.place)).most_entries
@@ -64,7 +64,7 @@ pub record IsReady (shape : Shape) (v : View) (room : Room) : Type 0 where
 
 -- a room in hand that is as it was taken, and can be given back
 pub record IsUntouched (shape : Shape) (v : View) (room : Room) : Type 0 where
-  pub place : IsPlaceOf shape room.place
+  pub place : IsPlaceOfShape shape room.place
   pub has : 0 < has_room (place_number room.place) v.holding
   pub same : IsInHand room.list (in_hand v (place_number room.place))
   pub whole : v.holding.half ≡ None

@@ -9,15 +9,15 @@ use Rattle.shr_seats.specs.declared.shape.Shape.{Shape}
 use Rattle.shr_core.specs.declared.rooms.Room.{Room}
 use Rattle.shr_core.specs.Parts.{no_rooms}
 use Rattle.shr_core.specs.Rule.{list_content}
-use Rattle.shr_core.specs.Seats.{IsPlaceOf}
+use Rattle.shr_core.specs.Seats.{IsPlaceOfShape}
 use Rattle.shr_core.specs.Steps.{IsTaken, with_taken, with_given}
 
 -- both rooms were taken, the child's first, with these lists
-pub record AreTaken (shape : Shape) (before v : View) (child above : Place) (old old_above : Listed) : Type 0 where
+pub record AreBothTaken (shape : Shape) (before v : View) (child above : Place) (old old_above : Listed) : Type 0 where
   pub none : before.holding ≡ no_rooms
   pub taken : v ≡ with_taken (with_taken before (place_number child) (list_content old)) (place_number above) (list_content old_above)
-  pub child_place : IsPlaceOf shape child
-  pub above_place : IsPlaceOf shape above
+  pub child_place : IsPlaceOfShape shape child
+  pub above_place : IsPlaceOfShape shape above
   pub low : 0 < child.group
   pub parent : above ≡ at_group child (parent_of shape.parents.items child.group)
   pub told : IsTaken shape before (place_number child) (list_content old)

@@ -3,7 +3,7 @@
 ghost use Rattle.std.specs.Prelude.{◌≡◌, ◌==◌, ◌<◌, ◌≤◌, false, length, true, Some};
 ghost use Rattle.shr_core.specs.Parts.{no_rooms};
 ghost use Rattle.shr_model.specs.Items.{is_closed};
-ghost use Rattle.shr_core.specs.Seats.{IsOf, IsPlaceOf, view_of, shape_of};
+ghost use Rattle.shr_core.specs.Seats.{IsOf, IsPlaceOfShape, view_of, shape_of};
 ghost use Rattle.shr_node.specs.Draining.{DrainGives, DrawGives};
 
 use crate::answers::NodeDrain;
@@ -54,7 +54,7 @@ fn drain_one<R: Wait>(
     requires rooms { (view_of seat.old).holding ≡ no_rooms }
     requires owns { (view_of seat.old).claims.owner ≡ Some place.id }
     requires quiet { (view_of seat.old).claims.quiet ≡ true }
-    requires place { IsPlaceOf (shape_of core.now) place }
+    requires place { IsPlaceOfShape (shape_of core.now) place }
     ensures seat { IsOf core.now seat.new }
     ensures answer { DrawGives (shape_of core.now) (view_of seat.old) place by into.old.items
         result into.new.items (view_of seat.new) }

@@ -6,10 +6,10 @@ ghost use Rattle.shr_model.specs.Places.{place_number};
 ghost use Rattle.shr_model.specs.Groups.{parent_of};
 ghost use Rattle.shr_core.specs.Parts.{no_rooms};
 ghost use Rattle.shr_seats.specs.Shapes.{groups_in};
-ghost use Rattle.shr_core.specs.Seats.{IsOf, IsPlaceOf, view_of, shape_of};
+ghost use Rattle.shr_core.specs.Seats.{IsOf, IsPlaceOfShape, view_of, shape_of};
 ghost use Rattle.shr_core.specs.Steps.{in_hand, with_set, with_given, last_entry};
 ghost use Rattle.shr_node.specs.Gains.{with_kept};
-ghost use Rattle.shr_node.specs.Opening.{IsOpened, IsReady, IsUntouched};
+ghost use Rattle.shr_node.specs.Opening.{IsOpened, IsRoomReady, IsUntouched};
 
 use shr_base::places::Place;
 use shr_base::replies::Spent;
@@ -77,7 +77,7 @@ pub(crate) fn open_room<R: Wait>(
 /// Linux: `set_shrinker_bit` in `list_lru_add` of mm/list_lru.c.
 pub(crate) fn raise(core: &Core, seat: &mut Seat, place: Place, raised: bool)
     requires seat { IsOf core.now seat.old }
-    requires place { IsPlaceOf (shape_of core.now) place }
+    requires place { IsPlaceOfShape (shape_of core.now) place }
     requires below_root { raised ≡ true → 0 < place.group }
     ensures seat { IsOf core.now seat.new }
     ensures set { view_of seat.new ≡ cond raised (with_set (view_of seat.old) (place_number place))
@@ -95,7 +95,7 @@ pub(crate) fn raise(core: &Core, seat: &mut Seat, place: Place, raised: bool)
 /// 0.
 pub(crate) fn keep(core: &Core, seat: &mut Seat, room: Room, was_empty: bool)
     requires seat { IsOf core.now seat.old }
-    requires ready { IsReady (shape_of core.now) (view_of seat.old) room }
+    requires ready { IsRoomReady (shape_of core.now) (view_of seat.old) room }
     requires empty { was_empty ≡ (length (in_hand (view_of seat.old)
         (place_number room.place)).items == 0) }
     ensures seat { IsOf core.now seat.new }
@@ -139,7 +139,7 @@ pub(crate) fn before_call(list: &List) -> Before
 /// Gives a room back whose list has one entry more than before, or is as it was. Our own.
 pub(crate) fn give_back(core: &Core, seat: &mut Seat, room: Room, before: Before)
     requires seat { IsOf core.now seat.old }
-    requires ready { before.entries < length room.list.entries → IsReady (shape_of core.now)
+    requires ready { before.entries < length room.list.entries → IsRoomReady (shape_of core.now)
         (view_of seat.old) room }
     requires empty { before.entries < length room.list.entries → before.was_empty
         ≡ (length (in_hand (view_of seat.old) (place_number room.place)).items == 0) }

@@ -2,7 +2,7 @@
 
 ghost use Rattle.std.specs.Prelude.{◌≡◌, Some};
 ghost use Rattle.shr_core.specs.Parts.{no_rooms};
-ghost use Rattle.shr_core.specs.Seats.{IsOf, IsPlaceOf, view_of, shape_of};
+ghost use Rattle.shr_core.specs.Seats.{IsOf, IsPlaceOfShape, view_of, shape_of};
 ghost use Rattle.shr_node.specs.Answers.{ScanGives};
 
 use crate::answers::NodeScan;
@@ -35,7 +35,7 @@ pub fn scan<R: Wait>(
     requires seat { IsOf core.now seat.old }
     requires rooms { (view_of seat.old).holding ≡ no_rooms }
     requires holds { (view_of seat.old).claims.held ≡ Some place.id }
-    requires place { IsPlaceOf (shape_of core.now) place }
+    requires place { IsPlaceOfShape (shape_of core.now) place }
     ensures seat { IsOf core.now seat.new }
     ensures answer { ScanGives (shape_of core.now) (view_of seat.old) place worker walk policy
         asked result (view_of seat.new) }

@@ -10,9 +10,9 @@ ghost use Rattle.shr_core.specs.Parts.{no_rooms};
 ghost use Rattle.shr_seats.specs.Shapes.{groups_in};
 ghost use Rattle.shr_core.specs.Seats.{IsOf, view_of, shape_of};
 ghost use Rattle.shr_node.specs.Gains.{KnowsClosed};
-ghost use Rattle.shr_node.specs.Splicing.{place_of, SpliceGives};
-ghost use Rattle.shr_node.specs.Closes.{OneGives};
-ghost use Rattle.shr_node.specs.Pairs.{AreTaken, with_both_left};
+ghost use Rattle.shr_node.specs.Splicing.{group_place, SpliceGives};
+ghost use Rattle.shr_node.specs.Closes.{CloseOneGives};
+ghost use Rattle.shr_node.specs.Pairs.{AreBothTaken, with_both_left};
 
 use crate::answers::{OneClose, SpliceAnswer};
 use crate::rooms::{leave, list_spent, parent, raise};
@@ -63,7 +63,7 @@ fn is_filled(objects: u32, place: Place) -> bool
 // Gives a child's room and its parent's back, whose lists are as they were.
 fn leave_both(core: &Core, seat: &mut Seat, child: Room, above: Room)
     requires seat { IsOf core.now seat.old }
-    requires untouched { (before : View) × AreTaken (shape_of core.now) before (view_of seat.old)
+    requires untouched { (before : View) × AreBothTaken (shape_of core.now) before (view_of seat.old)
         child.place above.place child.list above.list }
     ensures seat { IsOf core.now seat.new }
     ensures left { view_of seat.new ≡ with_both_left (view_of seat.old) child above }
@@ -95,9 +95,9 @@ pub fn close_one<R: Wait>(
     requires place { (id < (shape_of core.now).ids) × (node < (shape_of core.now).nodes) }
     requires group { (0 < group) × (group < groups_in (shape_of core.now)) }
     requires children { (child : ℕ) → is_child (shape_of core.now).parents.items group child ≡ true
-        → KnowsClosed (view_of seat.old) (place_number (place_of id node child)) }
+        → KnowsClosed (view_of seat.old) (place_number (group_place id node child)) }
     ensures seat { IsOf core.now seat.new }
-    ensures answer { OneGives (shape_of core.now) (view_of seat.old) id node group result
+    ensures answer { CloseOneGives (shape_of core.now) (view_of seat.old) id node group result
         (view_of seat.new) }
 {
     let mut child = core.take_room(rt, seat, Place { id, node, group });

@@ -1,20 +1,11 @@
 -- Carries one after another.
-use Rattle.std.proofs.Common.{◌≡◌, ℕ, ◌+◌, ◌%◌, ◌^◌, List, [], ◌∷◌, ◌++◌, map, refl, sym, ap, ◌∙◌, arith, append_assoc, subst}
-use Rattle.std.specs.Prelude.{sum}
+use Rattle.shr_offline.proofs.Common.{◌≡◌, ℕ, ◌+◌, ◌%◌, List, [], ◌∷◌, ◌++◌, refl, sym, ap, ◌∙◌, arith, subst, map-range_with_len_more, Place, Serial, Carry, Shape, DeferredSeat, GainsMoves, first_places, place_by_number, AreCarried, carry_move, carries_noted, ◌^◌, map, append_assoc, sum, above_of, carry_moves, carry_noted, amount_taken}
 use Rattle.std.proofs.lemmas.List.{append-nil, map_push}
 use Rattle.std.proofs.lemmas.List.Sums.{sum_by_push}
-use Rattle.std.proofs.lemmas.List.FromFn.{map-range_with_len_more}
 use Rattle.std.proofs.lemmas.Grind.{flat_map-append}
 use Rattle.shr_base.specs.declared.ends.PlaceAmount.{PlaceAmount}
-use Rattle.shr_base.specs.declared.places.Place.{Place}
-use Rattle.shr_base.specs.declared.places.Serial.{Serial}
-use Rattle.shr_base.specs.declared.walks.Carry.{Carry}
-use Rattle.shr_seats.specs.declared.shape.Shape.{Shape}
-use Rattle.shr_deferred.specs.Seat.{DeferredSeat, Gains}
 use Rattle.shr_deferred.proofs.SeatLaws.{Gains-none, Gains-trans}
 use Rattle.shr_deferred.specs.Moves.{Moves, both, no_moves}
-use Rattle.shr_offline.specs.Splices.{first_places, place_in}
-use Rattle.shr_offline.specs.Carries.{AreCarried, above_of, moved_of, moves_of, carry_of, carries_of, amount_in}
 use Rattle.shr_offline.specs.Carries as carries
 
 both_assoc : (m k l : Moves) → both (both m k) l ≡ both m (both k l)
@@ -23,9 +14,9 @@ both_assoc m k l = append_assoc m k l
 both_none : (m : Moves) → both m no_moves ≡ m
 both_none m = append-nil m
 
-moves_push : (shape : Shape) (amounts : List PlaceAmount) (a : PlaceAmount) → moves_of shape (amounts ++ a ∷ []) ≡ both (moves_of shape amounts) (moved_of (above_of shape a.place) a)
-moves_push shape [] a = both_none (moved_of (above_of shape a.place) a)
-moves_push shape (b ∷ bs) a = ap (both (moved_of (above_of shape b.place) b)) (moves_push shape bs a) ∙ sym (both_assoc (moved_of (above_of shape b.place) b) (moves_of shape bs) (moved_of (above_of shape a.place) a))
+moves_push : (shape : Shape) (amounts : List PlaceAmount) (a : PlaceAmount) → carry_moves shape (amounts ++ a ∷ []) ≡ both (carry_moves shape amounts) (carry_move (above_of shape a.place) a)
+moves_push shape [] a = both_none (carry_move (above_of shape a.place) a)
+moves_push shape (b ∷ bs) a = ap (both (carry_move (above_of shape b.place) b)) (moves_push shape bs a) ∙ sym (both_assoc (carry_move (above_of shape b.place) b) (carry_moves shape bs) (carry_move (above_of shape a.place) a))
 
 sum_push : (xs : List ℕ) (x : ℕ) → sum (xs ++ x ∷ []) ≡ sum xs + x
 sum_push xs x = sum_by_push (λ (n : ℕ). n) xs x
@@ -41,16 +32,16 @@ carried_none shape by group s noted = record {
 }
 
 -- one place more
-pub carried_more : (shape : Shape) (by : Serial) (group n total amount : ℕ) (old mid new : DeferredSeat) (before between after : List Carry) (a : PlaceAmount) → a.amount ≡ amount → a.place ≡ place_in shape group n
-    → AreCarried shape by group n total old mid before between → Gains mid new (moved_of (above_of shape a.place) a) → after ≡ between ++ carries_of by (a ∷ [])
+pub carried_more : (shape : Shape) (by : Serial) (group n total amount : ℕ) (old mid new : DeferredSeat) (before between after : List Carry) (a : PlaceAmount) → a.amount ≡ amount → a.place ≡ place_by_number shape group n
+    → AreCarried shape by group n total old mid before between → GainsMoves mid new (carry_move (above_of shape a.place) a) → after ≡ between ++ carries_noted by (a ∷ [])
     → AreCarried shape by group (n + 1) ((total + amount) % 2 ^ 64) old new before after
 carried_more shape by group n total amount old mid new before between after a is here c gains noted = record {
   amounts = c.amounts ++ a ∷ [];
-  places = map_push carries.place_in c.amounts a ∙ (ap (λ (l : List Place). l ++ a.place ∷ []) c.places ∙ (ap (λ (p : Place). first_places shape group n ++ p ∷ []) here ∙ sym (map-range_with_len_more (place_in shape group) 0 n n (omega arith))));
-  moved = subst (Gains old new) (sym (moves_push shape c.amounts a)) (Gains-trans old mid new (moves_of shape c.amounts) (moved_of (above_of shape a.place) a) c.moved gains);
-  noted = noted ∙ (ap (λ (l : List Carry). l ++ carries_of by (a ∷ [])) c.noted ∙ (append_assoc before (carries_of by c.amounts) (carries_of by (a ∷ [])) ∙ ap (λ (l : List Carry). before ++ l) (sym (flat_map-append (carry_of by) c.amounts (a ∷ [])))));
-  total_is = let t = c.total_is in let p = ap (λ (l : List ℕ). sum l) (map_push amount_in c.amounts a) in let q = sum_push (map amount_in c.amounts) a.amount in
-      ap (λ (m : ℕ). m % 2 ^ 64) (ap (λ (k : ℕ). k + amount) t) ∙ (wrap (sum (map amount_in c.amounts)) amount ∙ ap (λ (m : ℕ). m % 2 ^ 64) (ap (λ (m : ℕ). sum (map amount_in c.amounts) + m) (sym is) ∙ sym (p ∙ q)));
+  places = map_push carries.amount_place c.amounts a ∙ (ap (λ (l : List Place). l ++ a.place ∷ []) c.places ∙ (ap (λ (p : Place). first_places shape group n ++ p ∷ []) here ∙ sym (map-range_with_len_more (place_by_number shape group) 0 n n (omega arith))));
+  moved = subst (GainsMoves old new) (sym (moves_push shape c.amounts a)) (Gains-trans old mid new (carry_moves shape c.amounts) (carry_move (above_of shape a.place) a) c.moved gains);
+  noted = noted ∙ (ap (λ (l : List Carry). l ++ carries_noted by (a ∷ [])) c.noted ∙ (append_assoc before (carries_noted by c.amounts) (carries_noted by (a ∷ [])) ∙ ap (λ (l : List Carry). before ++ l) (sym (flat_map-append (carry_noted by) c.amounts (a ∷ [])))));
+  total_is = let t = c.total_is in let p = ap (λ (l : List ℕ). sum l) (map_push amount_taken c.amounts a) in let q = sum_push (map amount_taken c.amounts) a.amount in
+      ap (λ (m : ℕ). m % 2 ^ 64) (ap (λ (k : ℕ). k + amount) t) ∙ (wrap (sum (map amount_taken c.amounts)) amount ∙ ap (λ (m : ℕ). m % 2 ^ 64) (ap (λ (m : ℕ). sum (map amount_taken c.amounts) + m) (sym is) ∙ sym (p ∙ q)));
 }
   where
     wrap : (x y : ℕ) → (x % 2 ^ 64 + y) % 2 ^ 64 ≡ (x + y) % 2 ^ 64

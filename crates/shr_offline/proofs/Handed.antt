@@ -1,33 +1,21 @@
 -- The seats after each step of handing over, and their states.
-use Rattle.std.proofs.Common.{◌≡◌, ℕ, [], refl, ap, subst}
+use Rattle.shr_offline.proofs.Common.{◌≡◌, ℕ, [], refl, ap, subst, Serial, Carry, IsIdle, view_of, shape_of, DoneAnswer, DeferredSeat, Shared, state_of, SpliceAnswer, AreSpliced, AllGives, all_places, count_of_places, AreCarried, HandsOver}
 use Rattle.shr_base.specs.Kept.{Kept}
-use Rattle.shr_base.specs.declared.places.Serial.{Serial}
-use Rattle.shr_base.specs.declared.walks.Carry.{Carry}
 use Rattle.shr_model.specs.Groups.{Hierarchy}
 use Rattle.shr_seats.specs.Shapes.{hierarchy_of}
 use Rattle.shr_core.specs.declared.seat.Seat.{Seat}
-use Rattle.shr_core.specs.Gained.{IsIdle}
-use Rattle.shr_core.specs.Seats.{view_of, shape_of}
 use Rattle.shr_core.specs.Seats as core
 use Rattle.shr_core.proofs.Owing.{still_none}
 use Rattle.shr_charge.specs.declared.table.ChargeSeat.{ChargeSeat}
-use Rattle.shr_charge.specs.declared.answers.DoneAnswer.{DoneAnswer}
-use Rattle.shr_charge.specs.Answers.{DoneTells, DoneLeaves, Knows}
+use Rattle.shr_charge.specs.Answers.{DoneTells, DoneLeaves, KnowsTree}
 use Rattle.shr_charge.specs.Seat.{uses_of, tree_of}
 use Rattle.shr_charge.specs.Seat as charge
 use Rattle.shr_charge.specs.Views.{Uses}
-use Rattle.shr_deferred.specs.Seat.{DeferredSeat}
 use Rattle.shr_deferred.specs.Seat as deferred
 use Rattle.shr_walk.specs.declared.seats.Seats.{Seats}
-use Rattle.shr_walk.specs.declared.seats.Shared.{Shared}
 use Rattle.shr_walk.specs.Sharing.{IsShared}
 use Rattle.shr_walk.specs.Acting.{IsFit}
-use Rattle.shr_walk.specs.State.{state_of}
 use Rattle.shr_walk.proofs.Shares.{same_hierarchy}
-use Rattle.shr_node.specs.declared.answers.SpliceAnswer.{SpliceAnswer}
-use Rattle.shr_offline.specs.Splices.{AreSpliced, AllGives, all_places, places_of}
-use Rattle.shr_offline.specs.Carries.{AreCarried}
-use Rattle.shr_offline.specs.Offlined.{HandsOver}
 use Rattle.shr_offline.proofs.Handing.{splices_stay, idle_still, all_closed}
 
 -- the seats with another seat of one table
@@ -43,7 +31,7 @@ abbrev pub with_carries : Seats → DeferredSeat → Kept Carry → Seats
 with_carries s seat carries = record { cache = s.cache; deferred = seat; walks = s.walks; carries = carries }
 
 -- seats that rest still do when the core's seat only spliced, whatever came of it
-pub fit_after : (x : Shared) (s : Seats) (seat : Seat) (group : ℕ) (answer : SpliceAnswer) → IsShared x → charge.IsOf x.charge s.cache.charge → deferred.IsOf x.deferred s.deferred → core.IsOf x.core seat
+pub fit_after : (x : Shared) (s : Seats) (seat : Seat) (group : ℕ) (answer : SpliceAnswer) → IsShared x → charge.IsChargeSeat x.charge s.cache.charge → deferred.IsDeferredSeat x.deferred s.deferred → core.IsOf x.core seat
     → AllGives (shape_of x.core) group answer (view_of s.cache.core) (view_of seat) → IsIdle (view_of s.cache.core) → (view_of s.cache.core).marks.owed ≡ [] → IsFit x (with_core s seat)
 fit_after x s seat group answer shared charges deferreds of-core gives idle none = let stays = splices_stay (shape_of x.core) group answer (view_of s.cache.core) (view_of seat) gives in record {
   shared = shared;
@@ -53,8 +41,8 @@ fit_after x s seat group answer shared charges deferreds of-core gives idle none
 -- splices, carries and an end, one after the other, hand a group over as the answer says
 pub handed_over : (x : Shared) (shared : IsShared x) (by : Serial) (group moved total : ℕ) (answer : DoneAnswer) (s : Seats) (seat : Seat) (dseat : DeferredSeat) (carries : Kept Carry) (last : ChargeSeat)
     → AreSpliced (shape_of x.core) (all_places (shape_of x.core) group) moved (view_of s.cache.core) (view_of seat)
-    → AreCarried (shape_of x.core) by group (places_of (shape_of x.core)) total s.deferred dseat s.carries.items carries.items
-    → DoneTells (hierarchy_of x.charge.shape) group answer (tree_of s.cache.charge) (tree_of last).known → DoneLeaves group answer (tree_of s.cache.charge) (tree_of last) → Knows (hierarchy_of x.charge.shape) (tree_of s.cache.charge) (tree_of last) → uses_of last ≡ uses_of s.cache.charge
+    → AreCarried (shape_of x.core) by group (count_of_places (shape_of x.core)) total s.deferred dseat s.carries.items carries.items
+    → DoneTells (hierarchy_of x.charge.shape) group answer (tree_of s.cache.charge) (tree_of last).known → DoneLeaves group answer (tree_of s.cache.charge) (tree_of last) → KnowsTree (hierarchy_of x.charge.shape) (tree_of s.cache.charge) (tree_of last) → uses_of last ≡ uses_of s.cache.charge
     → HandsOver x by group moved total answer (state_of s) (state_of (with_charge (with_carries (with_core s seat) dseat carries) last))
 handed_over x shared by group moved total answer s seat dseat carries last spliced carried tells leaves knows uses = record {
   listed = state_of (with_core s seat);
@@ -65,7 +53,7 @@ handed_over x shared by group moved total answer s seat dseat carries last splic
   ends = record {
     tells = subst (λ (h : Hierarchy). DoneTells h group answer (tree_of s.cache.charge) (tree_of last).known) (same_hierarchy x shared) tells;
     leaves = leaves;
-    knows = subst (λ (h : Hierarchy). Knows h (tree_of s.cache.charge) (tree_of last)) (same_hierarchy x shared) knows;
+    knows = subst (λ (h : Hierarchy). KnowsTree h (tree_of s.cache.charge) (tree_of last)) (same_hierarchy x shared) knows;
     rest = ap (λ (u : Uses). record (state_of (with_charge (with_carries (with_core s seat) dseat carries) last)) { uses = u }) uses;
   };
 }

@@ -1,26 +1,15 @@
 -- What stays and what is known over splices, and the states between the steps of handing over.
-use Rattle.std.proofs.Common.{◌≡◌, ℕ, zero, suc, ◌+◌, ◌*◌, ◌/◌, ◌%◌, ◌<◌, List, [], ◌∷◌, length, get_or, refl, sym, ap, subst, ◌∙◌, arith}
-use Rattle.std.specs.Prelude.{Contains, None}
+use Rattle.shr_offline.proofs.Common.{◌≡◌, ℕ, suc, ◌+◌, ◌*◌, ◌/◌, ◌%◌, List, [], ◌∷◌, length, refl, sym, ap, subst, ◌∙◌, arith, None, Place, View, Shape, Claims, IsIdle, SpliceAnswer, IsSpliced, AreSpliced, AllGives, first_places, all_places, count_of_places, place_by_number, zero, ◌<◌, get_or, Contains, get_or-map-range_with_len, length-map-range_with_len, Known, OwesNoMore, group_place, AreClosed}
 use Rattle.std.proofs.Math.Nat.{div-lt_iff_lt-mul, div-add-mod}
 use Rattle.std.proofs.lemmas.Nat.{div-mul-add}
 use Rattle.std.proofs.lemmas.List.Elements.{Contains-append_left}
-use Rattle.std.proofs.lemmas.List.FromFn.{get_or-map-range_with_len, length-map-range_with_len}
-use Rattle.shr_base.specs.declared.places.Place.{Place}
 use Rattle.shr_model.specs.Groups.{IsAtOrAbove}
 use Rattle.shr_model.specs.Places.{place_number}
 use Rattle.shr_seats.specs.Weights.{Begins}
 use Rattle.shr_seats.proofs.Weighing.{begins_all, begins_more}
-use Rattle.shr_core.specs.declared.view.View.{View}
-use Rattle.shr_seats.specs.declared.shape.Shape.{Shape}
-use Rattle.shr_core.specs.Parts.{Claims, Known}
-use Rattle.shr_core.specs.Gained.{OwesNoMore, IsIdle}
 use Rattle.shr_seats.specs.Shapes.{groups_in}
 use Rattle.shr_node.specs.Gains.{KnowsClosed}
-use Rattle.shr_node.specs.declared.answers.SpliceAnswer.{SpliceAnswer}
 use Rattle.shr_node.specs.declared.answers.SpliceAnswer.TheVariants as splice
-use Rattle.shr_node.specs.Splicing.{place_of, IsSpliced}
-use Rattle.shr_offline.specs.Splices.{AreSpliced, AllGives, first_places, all_places, places_of, place_in}
-use Rattle.shr_offline.specs.Offlined.{AreClosed}
 
 -- what splices leave of a view
 pub record Stays (v w : View) : Type 0 where
@@ -58,9 +47,9 @@ module _ (shape : Shape) where
   closed_still v w k s h = (h.0, subst (λ (l : List Known). Contains l (record { place = k; entries = h.0 })) (sym s.known.1) (Contains-append_left v.traces.known s.known.0 (record { place = k; entries = h.0 }) h.1), h.2)
 
   closed_in : (ps : List Place) (moved : ℕ) (v w : View) → AreSpliced shape ps moved v w → (i : ℕ) (d : Place) → i < length ps → (child : ℕ) → child < groups_in shape → IsAtOrAbove shape.parents.items (get_or ps i d).group child
-      → KnowsClosed w (place_number (place_of (get_or ps i d).id (get_or ps i d).node child))
+      → KnowsClosed w (place_number (group_place (get_or ps i d).id (get_or ps i d).node child))
   closed_in [] moved v w h i d low child there above = absurd (omega (arith, low))
-  closed_in (p ∷ ps) moved v w (u, first, rest, sums, one, others) zero d low child there above = closed_still u w (place_number (place_of p.id p.node child)) (all_stays ps rest u w others) (one.closed child there above)
+  closed_in (p ∷ ps) moved v w (u, first, rest, sums, one, others) zero d low child there above = closed_still u w (place_number (group_place p.id p.node child)) (all_stays ps rest u w others) (one.closed child there above)
   closed_in (p ∷ ps) moved v w (u, first, rest, sums, one, others) (suc i) d low child there above = closed_in ps rest u w others i d (omega (arith, low)) child there above
 
   number_of : (id node : ℕ) → node < shape.nodes → ((id * shape.nodes + node) / shape.nodes ≡ id) × ((id * shape.nodes + node) % shape.nodes ≡ node)
@@ -72,12 +61,12 @@ module _ (shape : Shape) where
   all_closed group moved v w h id node child low lower there above =
       let n : ℕ = id * shape.nodes + node in let is = number_of id node lower in
       let some-nodes : 0 < shape.nodes = omega (arith, lower) in
-      let inside : n < places_of shape = (div-lt_iff_lt-mul {k = shape.nodes} {x = n} {y = shape.ids} some-nodes).0 (subst (λ (q : ℕ). q < shape.ids) (sym is.0) low) in
-      let d : Place = place_in shape group 0 in
-      let long = length-map-range_with_len (place_in shape group) 0 (places_of shape) in
-      let at : get_or (all_places shape group) n d ≡ place_in shape group n = get_or-map-range_with_len (place_in shape group) 0 (places_of shape) n n d inside (omega arith) in
-      let same : place_in shape group n ≡ place_of id node group = λ i. place_of (is.0 i) (is.1 i) group in
-      subst (λ (p : Place). KnowsClosed w (place_number (place_of p.id p.node child))) (at ∙ same)
+      let inside : n < count_of_places shape = (div-lt_iff_lt-mul {k = shape.nodes} {x = n} {y = shape.ids} some-nodes).0 (subst (λ (q : ℕ). q < shape.ids) (sym is.0) low) in
+      let d : Place = place_by_number shape group 0 in
+      let long = length-map-range_with_len (place_by_number shape group) 0 (count_of_places shape) in
+      let at : get_or (all_places shape group) n d ≡ place_by_number shape group n = get_or-map-range_with_len (place_by_number shape group) 0 (count_of_places shape) n n d inside (omega arith) in
+      let same : place_by_number shape group n ≡ group_place id node group = λ i. group_place (is.0 i) (is.1 i) group in
+      subst (λ (p : Place). KnowsClosed w (place_number (group_place p.id p.node child))) (at ∙ same)
       (closed_in (all_places shape group) moved v w h n d (omega (arith, long, inside)) child there (subst (λ (p : Place). IsAtOrAbove shape.parents.items p.group child) (sym (at ∙ same)) above))
 
 -- nothing is in hand, held or owned after splices

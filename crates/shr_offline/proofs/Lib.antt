@@ -1,3 +1,4 @@
+mod Common
 pub mod SplicesLaws
 pub mod CarriesLaws
 pub mod Handing

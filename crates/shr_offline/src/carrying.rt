@@ -6,8 +6,8 @@ ghost use Rattle.shr_core.specs.Seats.{shape_of};
 ghost use Rattle.shr_seats.specs.Rows.{IsPlaceOf};
 ghost use Rattle.shr_deferred.specs.Seat as deferreds;
 ghost use Rattle.shr_walk.specs.Sharing.{IsShared};
-ghost use Rattle.shr_offline.specs.Splices.{places_of};
-ghost use Rattle.shr_offline.specs.Carries.{moved_of, carries_of, AreCarried};
+ghost use Rattle.shr_offline.specs.Splices.{count_of_places};
+ghost use Rattle.shr_offline.specs.Carries.{carry_move, carries_noted, AreCarried};
 
 use shr_base::log::Log;
 use shr_base::places::{Place, Serial};
@@ -25,14 +25,14 @@ fn carry(
     place: Place,
     above: Place,
 ) -> u64
-    requires seat { deferreds.IsOf deferred.now seat.old }
+    requires seat { deferreds.IsDeferredSeat deferred.now seat.old }
     requires place { IsPlaceOf deferred.now.sizes place }
     requires above { IsPlaceOf deferred.now.sizes above }
     requires spare { 0 < carries.old.spare }
-    ensures seat { deferreds.IsOf deferred.now seat.new }
-    ensures gains { deferreds.Gains seat.old seat.new
-        (moved_of above (record { place = place; amount = result })) }
-    ensures noted { carries.new.items ≡ carries.old.items ++ carries_of by
+    ensures seat { deferreds.IsDeferredSeat deferred.now seat.new }
+    ensures gains { deferreds.GainsMoves seat.old seat.new
+        (carry_move above (record { place = place; amount = result })) }
+    ensures noted { carries.new.items ≡ carries.old.items ++ carries_noted by
         (record { place = place; amount = result } ∷ []) }
     ensures spare { carries.old.spare ≤ carries.new.spare + 1 }
 {
@@ -56,12 +56,12 @@ pub(crate) fn carry_all(
     group: u16,
 ) -> u64
     requires shared { IsShared shared.now }
-    requires seat { deferreds.IsOf shared.now.deferred seat.old }
+    requires seat { deferreds.IsDeferredSeat shared.now.deferred seat.old }
     requires group { group < groups_in (shape_of shared.now.core) }
-    requires spare { places_of (shape_of shared.now.core) ≤ carries.old.spare }
-    ensures seat { deferreds.IsOf shared.now.deferred seat.new }
+    requires spare { count_of_places (shape_of shared.now.core) ≤ carries.old.spare }
+    ensures seat { deferreds.IsDeferredSeat shared.now.deferred seat.new }
     ensures carried { AreCarried (shape_of shared.now.core) by group
-        (places_of (shape_of shared.now.core)) result seat.old seat.new carries.old.items
+        (count_of_places (shape_of shared.now.core)) result seat.old seat.new carries.old.items
         carries.new.items }
 {
     let nodes = shared.core.shape().nodes as u32;

@@ -5,7 +5,7 @@ ghost use Rattle.shr_model.specs.TreeJournal.{begin_of};
 ghost use Rattle.shr_seats.specs.Shapes.{groups_in};
 ghost use Rattle.shr_core.specs.Seats.{shape_of};
 ghost use Rattle.shr_walk.specs.Acting.{IsSame};
-ghost use Rattle.shr_offline.specs.Splices.{places_of};
+ghost use Rattle.shr_offline.specs.Splices.{count_of_places};
 ghost use Rattle.shr_offline.specs.Offlined.{HandsOverAs, OfflineGives};
 
 use crate::answers::OfflineAnswer;
@@ -20,7 +20,7 @@ use std::sync::Wait;
 fn hand_over<R: Wait>(worker: &mut Worker<'_, R>, group: u16) -> OfflineAnswer
     requires group { (0 < group) × (group < groups_in (shape_of worker.old.shared.core)) }
     requires begun { IsSome (begin_of worker.old.state.tree.known group) }
-    requires spare { places_of (shape_of worker.old.shared.core) ≤ worker.old.carry_room }
+    requires spare { count_of_places (shape_of worker.old.shared.core) ≤ worker.old.carry_room }
     ensures handed { HandsOverAs worker.old.shared worker.old.by group result worker.old.state
         worker.new.state }
     ensures same { IsSame worker.old worker.new }

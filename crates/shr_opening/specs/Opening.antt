@@ -29,7 +29,7 @@ use Rattle.shr_registry.specs.declared.answers.FindAnswer.TheVariants as find
 use Rattle.shr_registry.specs.Answers.{FindGives, IsDatedBy}
 use Rattle.shr_walk.specs.declared.seats.Seats.{Seats}
 use Rattle.shr_walk.specs.declared.seats.Shared.{Shared}
-use Rattle.shr_walk.specs.Keeping.{parents_of}
+use Rattle.shr_walk.specs.Keeping.{shared_parents}
 use Rattle.shr_walk.specs.State.{WorkerState, IsRested}
 use Rattle.shr_opening.specs.declared.opening.Opened.{Opened}
 use Rattle.shr_opening.specs.declared.opening.Opened.TheVariants.{Held, Refused}
@@ -49,14 +49,14 @@ pub record LoadsWord (x : Shared) (group : ℕ) (state : GroupState) (s t : Work
 
 -- the cache of a declaration was looked for, with this answer by the pool's journal, which the
 -- worker knows then, and an id that is held is dated; nothing else was done
-pub record Finds (x : Shared) (decl : ℕ) (answer : FindAnswer) (s t : WorkerState) : Type 0 where
+pub record LooksForCache (x : Shared) (decl : ℕ) (answer : FindAnswer) (s t : WorkerState) : Type 0 where
   pub answers : FindGives (shape_of x.core) s.core decl t.core.turns.known 1 answer t.core
   pub dated : IsDatedBy answer t.core
   pub rest : t ≡ record s { core = t.core }
 
 -- the cache was found: its id is held by the lookup with this number
-abbrev pub Holds : Shared → ℕ → Found → WorkerState → WorkerState → Type 0
-Holds x decl f s t = Finds x decl (find.Held f.id f.number f.entry) s t
+abbrev pub HoldsCache : Shared → ℕ → Found → WorkerState → WorkerState → Type 0
+HoldsCache x decl f s t = LooksForCache x decl (find.Held f.id f.number f.entry) s t
 
 -- a call was made on a list of the cache that is held, and then the reference was given back;
 -- nothing else was done
@@ -69,7 +69,7 @@ pub record Calls (call : View → View → Type 0) (s t : WorkerState) : Type 0 
 -- noted; nothing else was done
 pub record Uncharges (x : Shared) (by : Serial) (group : ℕ) (s t : WorkerState) : Type 0 where
   pub ops : List UseStep
-  pub downs : AreDowns by (path_of (parents_of x) group) ops
+  pub downs : AreDowns by (path_of (shared_parents x) group) ops
   pub rise : AreRising s.uses.ops → AreRising t.uses.ops
   pub rest : t ≡ record s { uses = both_uses s.uses (calls_with ops 0 1); noted = s.noted ++ ops }
 
@@ -78,7 +78,7 @@ abbrev pub MayCharge : WorkerState → Type 0
 MayCharge s = spent_by s.uses ≡ None
 
 -- its charges or its uncharges are used up, with these numbers, and nothing was done
-pub record IsSpent (spent : Spent) (s t : WorkerState) : Type 0 where
+pub record IsWorkerSpent (spent : Spent) (s t : WorkerState) : Type 0 where
   pub numbers : spent_by s.uses ≡ Some spent
   pub rest : t ≡ s
 
@@ -89,17 +89,17 @@ pub record OnCache (x : Shared) (group decl : ℕ) (f : Found) (call : View → 
   pub loaded : WorkerState
   pub held : WorkerState
   pub online : LoadsWord x group Online s loaded
-  pub holds : Holds x decl f loaded held
+  pub holds : HoldsCache x decl f loaded held
   pub calls : Calls call held t
 
 -- what is so where the cache was looked for, by the reply that came of it
 abbrev pub MissesAs : Shared → ℕ → Reply → WorkerState → WorkerState → Type 0
-MissesAs x decl (reply.NoCache entry) s t = Finds x decl (find.NoCache entry) s t
-MissesAs x decl (reply.Worn spent) s t = Finds x decl (find.Worn spent) s t
+MissesAs x decl (reply.NoCache entry) s t = LooksForCache x decl (find.NoCache entry) s t
+MissesAs x decl (reply.Worn spent) s t = LooksForCache x decl (find.Worn spent) s t
 MissesAs x decl r s t = ⊥
 
 -- the group was online, and the cache wasn't found
-pub record Misses (x : Shared) (group decl : ℕ) (r : Reply) (s t : WorkerState) : Type 0 where
+pub record MissesCache (x : Shared) (group decl : ℕ) (r : Reply) (s t : WorkerState) : Type 0 where
   pub loaded : WorkerState
   pub online : LoadsWord x group Online s loaded
   pub misses : MissesAs x decl r loaded t
@@ -108,20 +108,20 @@ pub record Misses (x : Shared) (group decl : ℕ) (r : Reply) (s t : WorkerState
 abbrev pub RefusedAs : Shared → ℕ → ℕ → Reply → WorkerState → WorkerState → Type 0
 RefusedAs x group decl (reply.Offline entry) s t = LoadsWord x group (Offline entry) s t
 RefusedAs x group decl (reply.NotMade g) s t = (g ≡ group) × LoadsWord x group NotMade s t
-RefusedAs x group decl (reply.NoCache entry) s t = Misses x group decl (reply.NoCache entry) s t
-RefusedAs x group decl (reply.Worn spent) s t = Misses x group decl (reply.Worn spent) s t
+RefusedAs x group decl (reply.NoCache entry) s t = MissesCache x group decl (reply.NoCache entry) s t
+RefusedAs x group decl (reply.Worn spent) s t = MissesCache x group decl (reply.Worn spent) s t
 RefusedAs x group decl r s t = ⊥
 
 -- the seats are of the tables, have no room in hand and owe nothing, and this id is held
-pub record IsHolding (x : Shared) (id : ℕ) (s : Seats) : Type 0 where
+pub record AreHolding (x : Shared) (id : ℕ) (s : Seats) : Type 0 where
   pub core : core.IsOf x.core s.cache.core
   pub near : id < (shape_of x.core).ids
   pub rooms : (view_of s.cache.core).holding ≡ no_rooms
   pub held : (view_of s.cache.core).claims.held ≡ Some id
   pub owner : (view_of s.cache.core).claims.owner ≡ None
   pub owed : (view_of s.cache.core).marks.owed ≡ []
-  pub charge : charge.IsOf x.charge s.cache.charge
-  pub deferred : deferred.IsOf x.deferred s.deferred
+  pub charge : charge.IsChargeSeat x.charge s.cache.charge
+  pub deferred : deferred.IsDeferredSeat x.deferred s.deferred
 
 -- nothing was charged or noted
 pub record IsSameCharge (s t : Seats) : Type 0 where
@@ -129,20 +129,20 @@ pub record IsSameCharge (s t : Seats) : Type 0 where
   pub noted : t.cache.uses ≡ s.cache.uses
 
 -- what is so of the seats once a cache was looked for
-abbrev pub IsAfter : Shared → Opened → Seats → Type 0
-IsAfter x (Held f) s = IsHolding x f.id s
-IsAfter x (Refused r) s = IsRested x s
+abbrev pub IsAfterFinding : Shared → Opened → Seats → Type 0
+IsAfterFinding x (Held f) s = AreHolding x f.id s
+IsAfterFinding x (Refused r) s = IsRested x s
 
 -- what looking for the cache did
 abbrev pub FindsAs : Shared → ℕ → Opened → WorkerState → WorkerState → Type 0
-FindsAs x decl (Held f) s t = Holds x decl f s t
+FindsAs x decl (Held f) s t = HoldsCache x decl f s t
 FindsAs x decl (Refused r) s t = MissesAs x decl r s t
 
 -- the group was online and the cache was found
 pub record Opens (x : Shared) (group decl : ℕ) (f : Found) (s t : WorkerState) : Type 0 where
   pub loaded : WorkerState
   pub online : LoadsWord x group Online s loaded
-  pub holds : Holds x decl f loaded t
+  pub holds : HoldsCache x decl f loaded t
 
 -- what loading the word of the group, and then looking for the cache, did
 abbrev pub OpensAs : Shared → ℕ → ℕ → Opened → WorkerState → WorkerState → Type 0

@@ -6,7 +6,7 @@ ghost use Rattle.shr_core.specs.Seats.{shape_of};
 ghost use Rattle.shr_charge.specs.Seat.{uses_of};
 ghost use Rattle.shr_walk.specs.Sharing.{IsShared};
 ghost use Rattle.shr_walk.specs.State.{IsRested, state_of};
-ghost use Rattle.shr_opening.specs.Opening.{FindsAs, OpensAs, IsAfter, IsSameCharge};
+ghost use Rattle.shr_opening.specs.Opening.{FindsAs, OpensAs, IsAfterFinding, IsSameCharge};
 
 use shr_base::replies::{Found, Reply};
 use shr_charge::answers::GroupState;
@@ -31,7 +31,7 @@ pub fn find_cache<R: Wait>(rt: &R, shared: &Shared, seats: &mut Seats, decl: u8)
     requires shared { IsShared shared.now }
     requires decl { decl < (shape_of shared.now.core).decls }
     requires rested { IsRested shared.now seats.old }
-    ensures after { IsAfter shared.now result seats.new }
+    ensures after { IsAfterFinding shared.now result seats.new }
     ensures found { FindsAs shared.now decl result (state_of seats.old) (state_of seats.new) }
     ensures same { IsSameCharge seats.old seats.new }
 {
@@ -55,7 +55,7 @@ pub fn open<R: Wait>(rt: &R, shared: &Shared, seats: &mut Seats, group: u16, dec
     requires cache { (group < groups_in (shape_of shared.now.core))
         × (decl < (shape_of shared.now.core).decls) }
     requires rested { IsRested shared.now seats.old }
-    ensures after { IsAfter shared.now result seats.new }
+    ensures after { IsAfterFinding shared.now result seats.new }
     ensures opened { OpensAs shared.now group decl result
         (state_of seats.old) (state_of seats.new) }
     ensures uses { uses_of seats.new.cache.charge ≡ uses_of seats.old.cache.charge }

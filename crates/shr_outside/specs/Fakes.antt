@@ -39,7 +39,7 @@ pub record Reading (T : Type 0) : Type 0 where
   pub faults : ℕ
 
 -- a writer, and how often it has failed
-pub record Counting (T : Type 0) : Type 0 where
+pub record CountingSink (T : Type 0) : Type 0 where
   pub inner : T
   pub faults : ℕ
 

@@ -23,7 +23,7 @@ Rose before now = now ≢ last_count → before < now
 -- What a take answers. It gives the next bytes in the front of the buffer, and counts this turn; or
 -- it is at the end, which a source that tells its bytes answers only where none is left; or it has
 -- failed, and its count of faults rose.
-pub record Takes (left left_after : Option (List ℕ)) (turns turns_after faults faults_after : ℕ) (into : List ℕ) (answer : Took) : Type 0 where
+pub record TakesBytes (left left_after : Option (List ℕ)) (turns turns_after faults faults_after : ℕ) (into : List ℕ) (answer : Took) : Type 0 where
   pub turned : turns_after ≡ turns_by_take turns answer
   pub count : (n : ℕ) → answer ≡ took.Got n → (0 < n) × (n ≤ length into)
   pub got : (n : ℕ) → answer ≡ took.Got n → Consumes left left_after (take n into)
@@ -34,7 +34,7 @@ pub record Takes (left left_after : Option (List ℕ)) (turns turns_after faults
 
 -- What a give answers. It takes bytes from the front of the piece, at least one where the piece
 -- isn't empty; or it has failed, and its count of faults rose.
-pub record Gives (written written_after : Option (List ℕ)) (faults faults_after : ℕ) (piece : List ℕ) (answer : Gave) : Type 0 where
+pub record GivesBytes (written written_after : Option (List ℕ)) (faults faults_after : ℕ) (piece : List ℕ) (answer : Gave) : Type 0 where
   pub count : (n : ℕ) → answer ≡ gave.Gave n → (0 < length piece → 0 < n) × (n ≤ length piece)
   pub taken : (n : ℕ) → answer ≡ gave.Gave n → Appends written written_after (take n piece)
   pub kept : answer ≡ gave.Failed → Keeps written written_after

@@ -1,7 +1,7 @@
 //! The outside: a source of bytes, a sink of bytes, and a gate before each command. Our own.
 
 ghost use Rattle.std.specs.Prelude.{◌<◌, ℕ, List, length, Option};
-ghost use Rattle.shr_outside.specs.Outside.{Takes, Gives};
+ghost use Rattle.shr_outside.specs.Outside.{TakesBytes, GivesBytes};
 
 /// What a source answers. Our own.
 #[derive(Clone, Copy, Debug, PartialEq, Eq)]
@@ -37,7 +37,7 @@ pub trait Source {
     /// The next bytes, in the front of the buffer.
     fn take(&mut self, into: &mut [u8]) -> Took
         requires { 0 < length into.old }
-        ensures { Takes (left self.old) (left self.new) (turns self.old) (turns self.new)
+        ensures { TakesBytes (left self.old) (left self.new) (turns self.old) (turns self.new)
             (faults self.old) (faults self.new) into.new result };
 }
 
@@ -51,7 +51,7 @@ pub trait Sink {
 
     /// Takes bytes from the front of the piece.
     fn give(&mut self, piece: &[u8]) -> Gave
-        ensures { Gives (written self.old) (written self.new) (faults self.old) (faults self.new)
+        ensures { GivesBytes (written self.old) (written self.new) (faults self.old) (faults self.new)
             piece.now result };
 }
 

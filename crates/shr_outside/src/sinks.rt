@@ -2,7 +2,7 @@
 
 ghost use Rattle.std.specs.Prelude.{◌≡◌, ◌+◌, ◌-◌, ◌^◌, ◌<◌, min, Contains, Some, None, vec_capacity};
 ghost use Rattle.shr_outside.specs.Fakes.{FailsAsTold, TakesAtMost, faults_by_give};
-ghost use Rattle.shr_outside.specs.Outside.{Gives};
+ghost use Rattle.shr_outside.specs.Outside.{GivesBytes};
 
 use crate::outside::{Gave, Sink};
 use std::io::Write;
@@ -64,7 +64,7 @@ impl Sink for MemorySink {
     ghost faults = { λ s. s.faults };
 
     fn give(&mut self, piece: &[u8]) -> Gave
-        ensures gives { Gives (Some self.old.written) (Some self.new.written) self.old.faults
+        ensures gives { GivesBytes (Some self.old.written) (Some self.new.written) self.old.faults
             self.new.faults piece.now result }
         ensures counted { self.new.calls ≡ min (self.old.calls + 1) (2 ^ 64 - 1) }
         ensures faults { self.new.faults ≡ faults_by_give self.old.faults result }
@@ -121,7 +121,7 @@ impl Sink for HonestSink {
     ghost faults = { λ _. 0 };
 
     fn give(&mut self, piece: &[u8]) -> Gave
-        ensures gives { Gives None None 0 0 piece.now result }
+        ensures gives { GivesBytes None None 0 0 piece.now result }
         ensures pieces { TakesAtMost self.old result }
         ensures set { self.new ≡ self.old }
     {
@@ -140,9 +140,9 @@ pub struct StdSink<W> {
 }
 
 impl<W> Model for StdSink<W> {
-    ghost use Rattle.shr_outside.specs.Fakes.{Counting};
+    ghost use Rattle.shr_outside.specs.Fakes.{CountingSink};
 
-    ghost Value = { Counting W };
+    ghost Value = { CountingSink W };
 
     ghost view = { λ s. record { inner = s.inner; faults = s.faults } };
 }
@@ -162,7 +162,7 @@ impl<W: Write> Sink for StdSink<W> {
     ghost faults = { λ s. s.faults };
 
     fn give(&mut self, piece: &[u8]) -> Gave
-        ensures gives { Gives (W.contents self.old.inner) (W.contents self.new.inner)
+        ensures gives { GivesBytes (W.contents self.old.inner) (W.contents self.new.inner)
             self.old.faults self.new.faults piece.now result }
         ensures faults { self.new.faults ≡ faults_by_give self.old.faults result }
     {

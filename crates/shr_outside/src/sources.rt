@@ -2,7 +2,7 @@
 
 ghost use Rattle.std.specs.Prelude.{◌≡◌, ◌↔◌, ◌+◌, ◌-◌, ◌^◌, ◌<◌, ◌≤◌, length, take, min, max, Contains, Some};
 ghost use Rattle.shr_outside.specs.Fakes.{GivesAtMost, faults_by_take};
-ghost use Rattle.shr_outside.specs.Outside.{Takes};
+ghost use Rattle.shr_outside.specs.Outside.{TakesBytes};
 
 use crate::outside::{Source, Took};
 use std::io::Read;
@@ -83,7 +83,7 @@ impl Source for MemorySource {
     #[tactic(auto, using(crate::proofs::Bytes::consumed))]
     fn take(&mut self, into: &mut [u8]) -> Took
         requires { 0 < length into.old }
-        ensures takes { Takes (Some self.old.left) (Some self.new.left) self.old.turns
+        ensures takes { TakesBytes (Some self.old.left) (Some self.new.left) self.old.turns
             self.new.turns self.old.faults self.new.faults into.new result }
         ensures counted { self.new.calls ≡ min (self.old.calls + 1) (2 ^ 64 - 1) }
         ensures faults { self.new.faults ≡ faults_by_take self.old.faults result }
@@ -152,7 +152,7 @@ impl Source for HonestSource {
     #[tactic(auto, using(crate::proofs::Bytes::consumed))]
     fn take(&mut self, into: &mut [u8]) -> Took
         requires { 0 < length into.old }
-        ensures takes { Takes (Some self.old.left) (Some self.new.left) self.old.turns
+        ensures takes { TakesBytes (Some self.old.left) (Some self.new.left) self.old.turns
             self.new.turns 0 0 into.new result }
         ensures pieces { GivesAtMost self.old.most result }
         ensures set { self.new.most ≡ self.old.most }
@@ -207,7 +207,7 @@ impl<R: Read> Source for StdSource<R> {
 
     fn take(&mut self, into: &mut [u8]) -> Took
         requires { 0 < length into.old }
-        ensures takes { Takes (R.remaining self.old.inner) (R.remaining self.new.inner)
+        ensures takes { TakesBytes (R.remaining self.old.inner) (R.remaining self.new.inner)
             self.old.turns self.new.turns self.old.faults self.new.faults into.new result }
         ensures faults { self.new.faults ≡ faults_by_take self.old.faults result }
     {

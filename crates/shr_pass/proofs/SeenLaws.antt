@@ -9,7 +9,7 @@ use Rattle.shr_pass.specs.declared.answers.ScanSeen.{ScanSeen}
 use Rattle.shr_pass.specs.declared.answers.ScanAnswer.{ScanAnswer}
 use Rattle.shr_pass.specs.declared.answers.ScanAnswer.TheVariants as answered
 use Rattle.shr_pass.specs.Meanings.{SameMeaning}
-use Rattle.shr_pass.specs.Passes.{Scans, asked_of, freed_of}
+use Rattle.shr_pass.specs.Passes.{Scans, asked_of, scan_freed}
 
 module _ {Seat : Type 0} where
   -- a shrinker means what it means
@@ -73,7 +73,7 @@ module _ (told told' : ScanAnswer → Type 0) (stays : (a : ScanAnswer) → told
     appended = e ∙ (ap (λ l. l ++ one ∷ []) x.appended ∙ append_assoc before x.made (one ∷ []));
     number = omega (arith, long, x.number);
     asked = map-append asked_of x.made (one ∷ []) ∙ (ap (λ l. l ++ asked ∷ []) (x.asked ∙ take-replicate k number size (omega arith)) ∙ (ap (λ a. replicate k size ++ a ∷ []) is ∙ (replicate_more k size ∙ (ap (λ m. replicate m size) (sym long) ∙ sym (take-replicate (length (x.made ++ one ∷ [])) number size (omega (arith, long, few)))))));
-    sum_freed = let s : sum (map freed_of x.made ++ n ∷ []) ≡ freed + n = omega (arith, sum_by-append (λ (y : ℕ). y) (map freed_of x.made) (n ∷ []), x.sum_freed) in ap sum (map-append freed_of x.made (one ∷ [])) ∙ s;
+    sum_freed = let s : sum (map scan_freed x.made ++ n ∷ []) ≡ freed + n = omega (arith, sum_by-append (λ (y : ℕ). y) (map scan_freed x.made) (n ∷ []), x.sum_freed) in ap sum (map-append scan_freed x.made (one ∷ [])) ∙ s;
     told_freed = λ h. (n, t);
     told_closed = λ h. stays answered.Closed (x.told_closed h);
   }

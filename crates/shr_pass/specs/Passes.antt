@@ -34,8 +34,8 @@ abbrev pub asked_of : ScanSeen → ℕ
 asked_of x = x.asked
 
 -- how many objects a scan freed
-abbrev pub freed_of : ScanSeen → ℕ
-freed_of x = x.freed
+abbrev pub scan_freed : ScanSeen → ℕ
+scan_freed x = x.freed
 
 -- What the asks of a pass appended to the scans. The due asks are all of one size, so those that
 -- freed are as many first ones.
@@ -45,7 +45,7 @@ pub record Scans (told : ScanAnswer → Type 0) (before after : List ScanSeen) (
   -- each ask freed or found the list closed
   pub number : length made + closed ≡ asks
   pub asked : map asked_of made ≡ take (length made) due
-  pub sum_freed : sum (map freed_of made) ≡ freed
+  pub sum_freed : sum (map scan_freed made) ≡ freed
   -- what these answers told is still so
   pub told_freed : 0 < length made → (n : ℕ) × told (answered.Freed n)
   pub told_closed : 0 < closed → told answered.Closed

@@ -3,7 +3,7 @@
 ghost use Rattle.std.specs.Prelude.{◌≡◌, ◌+◌, ◌≤◌, [], ◌∷◌, ◌++◌, Some};
 ghost use Rattle.shr_model.specs.Pass.{FollowsArithmetic};
 ghost use Rattle.shr_seats.specs.Rows.{IsPlaceOf};
-ghost use Rattle.shr_deferred.specs.Seat.{IsOf, Gains};
+ghost use Rattle.shr_deferred.specs.Seat.{IsDeferredSeat, GainsMoves};
 ghost use Rattle.shr_pass.specs.Answers.{CountFits};
 ghost use Rattle.shr_pass.specs.Meanings.{SameMeaning, CountsTo};
 ghost use Rattle.shr_pass.specs.Passes.{Scans, EndedBy, MatchPass, IfEmptyPass, CountedBetween, count_of, moves_by, asks_due, calls_of, closes_of};
@@ -38,7 +38,7 @@ pub fn shrink_once<S: Shrinker>(
     requires ready { S.ready shrinker.old seat.old }
     requires sizes { (priority ≤ 12) × (batch ≤ 20000) }
     requires place { IsPlaceOf deferred.now.sizes place }
-    requires dseat { IsOf deferred.now dseat.old }
+    requires dseat { IsDeferredSeat deferred.now dseat.old }
 
     // The count, and the record by the published arithmetic.
     ensures counts { S.counts shrinker.new seat.new ≡ S.counts shrinker.old seat.old ++ count_of
@@ -52,8 +52,8 @@ pub fn shrink_once<S: Shrinker>(
     ensures few { MatchPass result (Unit {0}) (λ p. p.freed ≤ 2097152) }
 
     // One take and one give of the record's amounts.
-    ensures dseat { IsOf deferred.now dseat.new }
-    ensures deferred { Gains dseat.old dseat.new (moves_by place result) }
+    ensures dseat { IsDeferredSeat deferred.now dseat.new }
+    ensures deferred { GainsMoves dseat.old dseat.new (moves_by place result) }
 
     // The scan calls, and the one that ended the pass.
     ensures scans { MatchPass result (S.scans shrinker.new seat.new ≡ S.scans shrinker.old

@@ -1,8 +1,6 @@
 -- Journals of units with one entry more.
-use Rattle.shr_plain.proofs.Common.{◌≡◌, ℕ, ◌≤◌, List, [], ◌∷◌, ◌++◌, sym, refl, subst, arith, append_assoc, append-nil, PlainEntry, Release, Grab, Reclaim, free_of, IsPlainEntry}
-use Rattle.std.specs.Prelude.{fold}
+use Rattle.shr_plain.proofs.Common.{◌≡◌, ℕ, ◌≤◌, List, [], ◌∷◌, ◌++◌, sym, refl, subst, arith, append_assoc, append-nil, PlainEntry, Release, Grab, Reclaim, free_of, IsPlainEntry, fold, free_after, IsPlainJournal}
 use Rattle.shr_model.specs.Follow.{Follow}
-use Rattle.shr_model.specs.Units.{free_after, IsPlainJournal}
 
 free_from_push : (n : ℕ) (es : List PlainEntry) (e : PlainEntry) → fold free_after n (es ++ e ∷ []) ≡ free_after (fold free_after n es) e
 free_from_push n [] e = refl

@@ -1,10 +1,7 @@
 -- Pools and the ends of their journals at known values.
-use Rattle.shr_plain.proofs.Common.{◌≡◌, ◌==◌, cond, true, false, List, [], ◌∷◌, refl, arith, PlainEntry, Release, Grab, Serial, Sizes, IsWorn, IsSetting, room_of, Setting}
-use Rattle.std.proofs.Common.{lit≤}
+use Rattle.shr_plain.proofs.Common.{◌≡◌, ◌==◌, cond, true, false, List, [], ◌∷◌, refl, arith, PlainEntry, Release, Grab, Serial, Sizes, IsJournalWorn, IsSetting, room_of, Setting, lit≤, sizes_for, home_node, IsPoolOf}
 use Rattle.shr_base.specs.declared.replies.Spent.TheVariants as spent
-use Rattle.shr_plain.specs.Ending.{ends_below}
-use Rattle.shr_plain.specs.Opening.{sizes_for}
-use Rattle.shr_plain.specs.Settings.{home_node, IsPoolOf}
+use Rattle.shr_plain.specs.Ending.{units_ends_below}
 
 -- a pool on each node, and a flat one
 abbrev wide : Setting
@@ -44,10 +41,10 @@ abbrev used : List PlainEntry
 used = Release first 5 ∷ Grab first true ∷ []
 
 -- rooms with an entry are told with their free units, and no others
-ends : ends_below two 3 (λ row. cond (row == 1) used []) ≡ record { pool = 0; node = 1; entries = used; free = 4 } ∷ []
-unfolding ends_below
+ends : units_ends_below two 3 (λ row. cond (row == 1) used []) ≡ record { pool = 0; node = 1; entries = used; free = 4 } ∷ []
+unfolding units_ends_below
 ends = refl
 
 -- a journal of two entries isn't used up
-not_worn : IsWorn (record { id = 0; node = 0; group = 0 }) used (spent.List (record { id = 0; node = 0; group = 0 }) 2 4) → ⊥
+not_worn : IsJournalWorn (record { id = 0; node = 0; group = 0 }) used (spent.List (record { id = 0; node = 0; group = 0 }) 2 4) → ⊥
 not_worn h = let e = h.full in omega (arith, e)

@@ -1,7 +1,6 @@
 -- Tries of pools, one more at a time.
-use Rattle.shr_plain.proofs.Common.{◌≡◌, ℕ, ◌+◌, ◌≤◌, List, [], ◌∷◌, ◌++◌, length, refl, subst, arith, Serial, PlainTry, PassAnswer, MatchPass, Sizes, Setting, PlainState, TryGives, AreTried, answer_of, freed_in}
+use Rattle.shr_plain.proofs.Common.{◌≡◌, ℕ, ◌+◌, ◌≤◌, List, [], ◌∷◌, ◌++◌, length, refl, subst, arith, Serial, PlainTry, PassAnswer, MatchPass, Sizes, Setting, PlainState, TryGives, AreTried, answer_of, units_freed, try_of}
 use Rattle.shr_pass.specs.declared.answers.PassAnswer.TheVariants as passed
-use Rattle.shr_plain.specs.Walks.{try_of}
 
 -- a try is the pass that it is
 pub answer_back : (a : PassAnswer) → answer_of (try_of a) ≡ a
@@ -9,7 +8,7 @@ answer_back (passed.Empty version) = refl
 answer_back (passed.Skip len version) = refl
 answer_back (passed.Ran p) = refl
 
-pub few_freed : (a : PassAnswer) → MatchPass a (Unit {0}) (λ p. p.freed ≤ 2097152) → freed_in (try_of a) ≤ 2097152
+pub few_freed : (a : PassAnswer) → MatchPass a (Unit {0}) (λ p. p.freed ≤ 2097152) → units_freed (try_of a) ≤ 2097152
 few_freed (passed.Empty version) h = omega arith
 few_freed (passed.Skip len version) h = omega arith
 few_freed (passed.Ran p) h = h

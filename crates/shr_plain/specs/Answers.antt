@@ -28,20 +28,20 @@ pub record Makes (i : ℕ) (s t : PlainState) (journal : List PlainEntry) (e : P
 
 -- a journal has no room for another entry: it is the list that is told to be used up, with its
 -- entries and its free units
-pub record IsWorn (place : Place) (journal : List PlainEntry) (x : Spent) : Type 0 where
+pub record IsJournalWorn (place : Place) (journal : List PlainEntry) (x : Spent) : Type 0 where
   pub full : length journal ≡ 2147483648
   pub spent : x ≡ spent.List place (length journal) (free_of journal)
 
 -- what a release did in the room of a place
 abbrev pub ReleaseGives : Place → ℕ → Serial → ℕ → ReleaseAnswer → PlainState → PlainState → Type 0
 ReleaseGives place i by n (release.Full entries free) s t = (journal : List PlainEntry) × Sees i s t journal × (entries ≡ length journal) × (free ≡ free_of journal) × (20000 < free + n)
-ReleaseGives place i by n (release.Worn x) s t = (journal : List PlainEntry) × Sees i s t journal × IsWorn place journal x × (free_of journal + n ≤ 20000)
+ReleaseGives place i by n (release.Worn x) s t = (journal : List PlainEntry) × Sees i s t journal × IsJournalWorn place journal x × (free_of journal + n ≤ 20000)
 ReleaseGives place i by n release.Memory s t = (journal : List PlainEntry) × Sees i s t journal × (length journal < 2147483648) × (free_of journal + n ≤ 20000)
 ReleaseGives place i by n (release.Released entry) s t = (journal : List PlainEntry) × Makes i s t journal (Release by n) × (entry ≡ length journal)
 
 -- what a grab did in the room of a place
 abbrev pub GrabGives : Place → ℕ → Serial → GrabAnswer → PlainState → PlainState → Type 0
-GrabGives place i by (grab.Worn x) s t = (journal : List PlainEntry) × Sees i s t journal × IsWorn place journal x
+GrabGives place i by (grab.Worn x) s t = (journal : List PlainEntry) × Sees i s t journal × IsJournalWorn place journal x
 GrabGives place i by grab.Memory s t = (journal : List PlainEntry) × Sees i s t journal × (length journal < 2147483648)
 GrabGives place i by (grab.Grabbed entry) s t = (journal : List PlainEntry) × Makes i s t journal (Grab by true) × (0 < free_of journal) × (entry ≡ length journal)
 GrabGives place i by (grab.Bare entry) s t = (journal : List PlainEntry) × Makes i s t journal (Grab by false) × (free_of journal ≡ 0) × (entry ≡ length journal)

@@ -7,7 +7,7 @@ use Rattle.shr_seats.specs.Rows.{row_count}
 use Rattle.shr_seats.specs.declared.rows.Sizes.{Sizes}
 use Rattle.shr_seats.specs.Standing.{Standing, at_first, at_split, at_end, with_split, with_join}
 use Rattle.shr_rooms.specs.Views.{RoomView, part_at, with_part_at, joined_parts}
-use Rattle.shr_rooms.specs.Rule.{Law, IsSound}
+use Rattle.shr_rooms.specs.Rule.{Law, AreRoomsSound}
 use Rattle.shr_plain.specs.declared.slot.Slot.{Slot}
 use Rattle.shr_plain.specs.declared.view.View.{View}
 
@@ -17,16 +17,16 @@ abbrev pub units : Law PlainEntry
 units = record { may = IsPlainEntry; len = free_of; most = 2147483648 }
 
 -- the journal that a room holds
-abbrev pub entries_in : Slot → List PlainEntry
-entries_in slot = slot.journal.items
+abbrev pub room_journal : Slot → List PlainEntry
+room_journal slot = slot.journal.items
 
 -- what a view did and saw in each room
 abbrev pub parts_in : View → List (RoomView PlainEntry)
 parts_in v = v.rooms
 
 -- where a view stands among the seats
-abbrev pub standing_in : View → Standing
-standing_in v = v.standing
+abbrev pub units_standing_in : View → Standing
+units_standing_in v = v.standing
 
 -- what a view did and saw in one room
 abbrev pub part_of : View → ℕ → RoomView PlainEntry
@@ -40,25 +40,25 @@ abbrev pub with_part : View → ℕ → RoomView PlainEntry → View
 with_part v i t = with_parts v (with_part_at v.rooms i t)
 
 -- the view of the first seat of a new table
-abbrev pub first_view : View
-first_view = record { rooms = []; standing = at_first }
+abbrev pub first_units_view : View
+first_units_view = record { rooms = []; standing = at_first }
 
 -- the view of a seat that was split off
-abbrev pub new_view : View
-new_view = record { rooms = []; standing = at_split }
+abbrev pub new_units_view : View
+new_units_view = record { rooms = []; standing = at_split }
 
 -- what is left of the view of a seat that was joined into the first
-abbrev pub spent_view : View
-spent_view = record { rooms = []; standing = at_end }
+abbrev pub spent_units_view : View
+spent_units_view = record { rooms = []; standing = at_end }
 
 -- the first view, split once more
-abbrev pub with_split_view : View → View
-with_split_view v = record v { standing = with_split v.standing }
+abbrev pub split_units_view : View → View
+split_units_view v = record v { standing = with_split v.standing }
 
 -- the first view, with what another did and saw that was joined into it
-abbrev pub joined_view : View → View → View
-joined_view v u = record { rooms = joined_parts v.rooms u.rooms; standing = with_join v.standing }
+abbrev pub joined_units_view : View → View → View
+joined_units_view v u = record { rooms = joined_parts v.rooms u.rooms; standing = with_join v.standing }
 
 -- the rule of the table, which holds between any two steps: that of each room
 abbrev pub IsPools : Sizes → State Slot View → Type 0
-IsPools z s = IsSound units entries_in parts_in standing_in spent_view (row_count z) s
+IsPools z s = AreRoomsSound units room_journal parts_in units_standing_in spent_units_view (row_count z) s

@@ -29,12 +29,12 @@ abbrev pub no_state : PlainState
 no_state = record { rooms = []; moves = no_moves; walks = [] }
 
 -- those of a seat
-abbrev pub state_of : PlainSeat → PlainState
-state_of s = record { rooms = s.units.me.0.rooms; moves = deferred.moves_of s.deferred; walks = s.walks.items }
+abbrev pub plain_state_of : PlainSeat → PlainState
+plain_state_of s = record { rooms = s.units.me.0.rooms; moves = deferred.moves_of s.deferred; walks = s.walks.items }
 
 -- where it stands among the seats of the rooms, and among those of the deferred words
-abbrev pub standing_of : PlainSeat → Standing × Standing
-standing_of s = (s.units.me.0.standing, deferred.standing_of s.deferred)
+abbrev pub plain_standing : PlainSeat → Standing × Standing
+plain_standing s = (s.units.me.0.standing, deferred.deferred_standing s.deferred)
 
 -- a seat of the table of rooms, which was not joined away and has no room in hand
 pub record IsUnitSeatOf (p : Pools) (s : UnitSeat) : Type 0 where
@@ -43,17 +43,17 @@ pub record IsUnitSeatOf (p : Pools) (s : UnitSeat) : Type 0 where
   pub out : (i : ℕ) → (part_of s.me.0 i).in_hand ≡ false
 
 -- a seat of these pools, which was not joined away and has no room in hand
-pub record IsOf (p : Pools) (s : PlainSeat) : Type 0 where
+pub record IsPlainSeat (p : Pools) (s : PlainSeat) : Type 0 where
   pub units : IsUnitSeatOf p s.units
-  pub deferred : deferred.IsOf p.deferred s.deferred
+  pub deferred : deferred.IsDeferredSeat p.deferred s.deferred
 
 -- it is the first seat at both tables
-pub record IsFirst (z : Standing × Standing) : Type 0 where
+pub record IsFirstSeat (z : Standing × Standing) : Type 0 where
   pub units : z.0.first ≡ true
   pub deferred : z.1.first ≡ true
 
 -- and all that were split off were joined
-pub record IsLast (z : Standing × Standing) : Type 0 where
+pub record IsLastSeat (z : Standing × Standing) : Type 0 where
   pub units : IsWhole z.0
   pub deferred : IsWhole z.1
 

@@ -24,12 +24,12 @@ abbrev pub home_node : Setting → ℕ → ℕ
 home_node s node = cond s.flat 0 node
 
 -- the place of a pool's units for a node
-abbrev pub place_of : List Setting → ℕ → ℕ → Place
-place_of settings pool node = record { id = pool; node = home_node (setting_of settings pool) node; group = 0 }
+abbrev pub home_place : List Setting → ℕ → ℕ → Place
+home_place settings pool node = record { id = pool; node = home_node (setting_of settings pool) node; group = 0 }
 
 -- the row of that place
 abbrev pub room_of : List Setting → Sizes → ℕ → ℕ → ℕ
-room_of settings z pool node = row_of z (place_of settings pool node)
+room_of settings z pool node = row_of z (home_place settings pool node)
 
 -- there is this pool, and this node
 pub record IsPoolOf (settings : List Setting) (z : Sizes) (k n : ℕ) : Type 0 where

@@ -16,17 +16,17 @@ use Rattle.shr_deferred.specs.Moves.{both}
 use Rattle.shr_pass.specs.declared.answers.PassAnswer.{PassAnswer}
 use Rattle.shr_pass.specs.declared.answers.PassAnswer.TheVariants as passed
 use Rattle.shr_pass.specs.declared.answers.ScanSeen.{ScanSeen}
-use Rattle.shr_pass.specs.Passes.{MatchPass, count_of, asks_due, moves_by, asked_of, freed_of}
+use Rattle.shr_pass.specs.Passes.{MatchPass, count_of, asks_due, moves_by, asked_of, scan_freed}
 use Rattle.shr_seats.specs.Rows.{row_of}
 use Rattle.shr_seats.specs.Views.{Each}
 use Rattle.shr_seats.specs.Weights.{Begins}
 use Rattle.shr_seats.specs.declared.rows.Sizes.{Sizes}
-use Rattle.shr_rooms.specs.Views.{Made, Counted, RoomView, part_at}
+use Rattle.shr_rooms.specs.Views.{RoomMade, RoomCount, RoomView, part_at}
 use Rattle.shr_rooms.specs.Told.{IsRecent}
 use Rattle.shr_plain.specs.declared.settings.Setting.{Setting}
-use Rattle.shr_plain.specs.Counting.{kind_of, scans_of, IsReclaimOf, IsWornIn}
+use Rattle.shr_plain.specs.Counting.{units_kind, scans_of, IsReclaimOf, IsWornIn}
 use Rattle.shr_plain.specs.Seat.{PlainState}
-use Rattle.shr_plain.specs.Settings.{setting_of, place_of}
+use Rattle.shr_plain.specs.Settings.{setting_of, home_place}
 
 -- a pass of a pool ends by its loop's test, for want of memory, or where the journal of the place
 -- has no room for another entry
@@ -40,20 +40,20 @@ EndsBy place t (Worn x) = IsWornIn place t x
 pub record AreScans (priority : ℕ) (setting : Setting) (p : PassRecord) (scans : List ScanSeen) : Type 0 where
   pub number : length scans ≡ p.asks
   pub asked : map asked_of scans ≡ take p.asks (asks_due priority setting.seeks setting.batch p)
-  pub freed : sum (map freed_of scans) ≡ p.freed
+  pub freed : sum (map scan_freed scans) ≡ p.freed
 
 -- one pass over a pool at a place, for a walk of this worker with this number
 pub record PassGives (setting : Setting) (place : Place) (i worker walk priority : ℕ) (answer : PassAnswer) (s t : PlainState) : Type 0 where
   -- the one count, which is not older than anything that the seat did and saw in the room
-  pub count : Counted
-  pub kind : kind_of setting.floor count ≡ count_of answer
+  pub count : RoomCount
+  pub kind : units_kind setting.floor count ≡ count_of answer
   pub seen : (part_at t.rooms i).seen ≡ (part_at s.rooms i).seen ++ count ∷ []
   pub fresh : IsRecent (part_at s.rooms i) count.version
   -- the entries that it made: reclaims of this walk, behind what was counted
-  pub more : List (Made PlainEntry)
+  pub more : List (RoomMade PlainEntry)
   pub made : (part_at t.rooms i).made ≡ (part_at s.rooms i).made ++ more
-  pub reclaims : Each (λ (m : Made PlainEntry). IsReclaimOf worker walk m.entry) more
-  pub late : Each (λ (m : Made PlainEntry). count.version ≤ m.number) more
+  pub reclaims : Each (λ (m : RoomMade PlainEntry). IsReclaimOf worker walk m.entry) more
+  pub late : Each (λ (m : RoomMade PlainEntry). count.version ≤ m.number) more
   pub scans : MatchPass answer (more ≡ []) (λ p. AreScans priority setting p (scans_of worker walk more))
   -- the record
   pub follows : MatchPass answer (Unit {0}) (FollowsArithmetic priority setting.seeks setting.batch)
@@ -79,10 +79,10 @@ answer_of (Skip len version) = passed.Skip len version
 answer_of (Ran p) = passed.Ran p
 
 -- how much a try freed
-abbrev pub freed_in : PlainTry → ℕ
-freed_in (Empty version) = 0
-freed_in (Skip len version) = 0
-freed_in (Ran p) = p.freed
+abbrev pub units_freed : PlainTry → ℕ
+units_freed (Empty version) = 0
+units_freed (Skip len version) = 0
+units_freed (Ran p) = p.freed
 
 -- a pass ended for want of memory
 abbrev pub is_no_room : Ending → Bool
@@ -92,19 +92,19 @@ is_no_room NoRoom = true
 is_no_room (Worn x) = false
 
 -- a try ended for want of memory
-abbrev pub lacked_memory : PlainTry → Bool
-lacked_memory (Empty version) = false
-lacked_memory (Skip len version) = false
-lacked_memory (Ran p) = is_no_room p.ending
+abbrev pub try_lacked_memory : PlainTry → Bool
+try_lacked_memory (Empty version) = false
+try_lacked_memory (Skip len version) = false
+try_lacked_memory (Ran p) = is_no_room p.ending
 
 -- a try didn't end for want of memory
-abbrev pub HadMemory : PlainTry → Type 0
-HadMemory x = lacked_memory x ≡ false
+abbrev pub TryHadMemory : PlainTry → Type 0
+TryHadMemory x = try_lacked_memory x ≡ false
 
 module _ (settings : List Setting) (z : Sizes) (by : Serial) (walk node priority : ℕ) where
   -- a try of one pool, in its room for the node
   abbrev pub TryGives : ℕ → PlainTry → PlainState → PlainState → Type 0
-  TryGives pool x s t = PassGives (setting_of settings pool) (place_of settings pool node) (row_of z (place_of settings pool node)) by.worker walk priority (answer_of x) s t
+  TryGives pool x s t = PassGives (setting_of settings pool) (home_place settings pool node) (row_of z (home_place settings pool node)) by.worker walk priority (answer_of x) s t
 
   -- tries of the pools from this one up, in rising order
   abbrev pub AreTried : ℕ → List PlainTry → PlainState → PlainState → Type 0
@@ -113,15 +113,15 @@ module _ (settings : List Setting) (z : Sizes) (by : Serial) (walk node priority
 
 -- tries that want of memory cut short: there is none, or the last one ended for it
 abbrev pub AreCut : List PlainTry → Type 0
-AreCut tries = (tries ≡ []) ⊎ ((front : List PlainTry) × (last : PlainTry) × (tries ≡ front ++ last ∷ []) × All HadMemory front × (lacked_memory last ≡ true))
+AreCut tries = (tries ≡ []) ⊎ ((front : List PlainTry) × (last : PlainTry) × (tries ≡ front ++ last ∷ []) × All TryHadMemory front × (try_lacked_memory last ≡ true))
 
 -- the answer by the tries of so many pools: one for each, or cut short; and what they freed together
 abbrev pub Answers : ℕ → List PlainTry → PlainAnswer → Type 0
-Answers pools tries (Walked freed) = (length tries ≡ pools) × All HadMemory tries × (freed ≡ sum_by freed_in tries)
-Answers pools tries (Memory freed) = (length tries ≤ pools) × AreCut tries × (freed ≡ sum_by freed_in tries)
+Answers pools tries (Walked freed) = (length tries ≡ pools) × All TryHadMemory tries × (freed ≡ sum_by units_freed tries)
+Answers pools tries (Memory freed) = (length tries ≤ pools) × AreCut tries × (freed ≡ sum_by units_freed tries)
 
 -- a walk of all pools for a node, whose number is that of the walks before
-pub record WalkGives (settings : List Setting) (z : Sizes) (by : Serial) (node priority : ℕ) (answer : PlainAnswer) (s t : PlainState) : Type 0 where
+pub record PlainWalkGives (settings : List Setting) (z : Sizes) (by : Serial) (node priority : ℕ) (answer : PlainAnswer) (s t : PlainState) : Type 0 where
   pub walk : PlainWalk
   pub tried : PlainState
   pub tries : AreTried settings z by (length s.walks) node priority 0 walk.tries.items s tried

@@ -4,8 +4,8 @@ ghost use Rattle.std.specs.Prelude.{◌≡◌, ℕ, ◌<◌, ◌≤◌, ◌++◌
 ghost use Rattle.std.specs.Mem.Slots.{slots_items, slots_filled, slots_len};
 ghost use Rattle.std.specs.Mem.Slots.Ownership.{Filled};
 ghost use Rattle.shr_seats.specs.Rows.{row_count};
-ghost use Rattle.shr_plain.specs.Ending.{IsPoolsEnd, end_value, end_of, ends_below, entries_at};
-ghost use Rattle.shr_plain.specs.Seat.{IsOf, IsFirst, IsLast, state_of, standing_of};
+ghost use Rattle.shr_plain.specs.Ending.{IsPoolsEnd, units_end_value, units_ends, units_ends_below, entries_at};
+ghost use Rattle.shr_plain.specs.Seat.{IsPlainSeat, IsFirstSeat, IsLastSeat, plain_state_of, plain_standing};
 
 use crate::slot::Slot;
 use crate::table::{PlainSeat, Pools};
@@ -28,7 +28,7 @@ pub struct PoolsEnd {
 // One pool and node more, if it has a journal.
 fn add_end(ends: &mut Log<UnitsEnd>, place: Place, slot: Slot) -> Result<(), Memory>
     requires { place.id < 256 }
-    ensures { OnOk result (map end_value ends.new.items ≡ map end_value ends.old.items ++ end_of
+    ensures { OnOk result (map units_end_value ends.new.items ≡ map units_end_value ends.old.items ++ units_ends
         place slot.journal.items) }
 {
     let Slot { journal, free } = slot;
@@ -47,8 +47,8 @@ fn add_end(ends: &mut Log<UnitsEnd>, place: Place, slot: Slot) -> Result<(), Mem
 fn add_where(ends: &mut Log<UnitsEnd>, place: Place, slot: Slot, whole: bool) -> bool
     requires { place.id < 256 }
     ensures whole { result ≡ true → whole ≡ true }
-    ensures added { result ≡ true → map end_value ends.new.items ≡ map end_value ends.old.items
-        ++ end_of place slot.journal.items }
+    ensures added { result ≡ true → map units_end_value ends.new.items ≡ map units_end_value ends.old.items
+        ++ units_ends place slot.journal.items }
 {
     whole && add_end(ends, place, slot).is_ok()
 }
@@ -67,7 +67,7 @@ fn take_ends(
     ensures len { slots_len closed.new.slots ≡ slots_len closed.old.slots }
     ensures taken { (k : ℕ) → k < row_count sizes
         → slice_index_or (slots_filled closed.new.slots) k false ≡ false }
-    ensures ends { IfOk result (λ ends. map end_value ends.items ≡ ends_below sizes (row_count
+    ensures ends { IfOk result (λ ends. map units_end_value ends.items ≡ units_ends_below sizes (row_count
         sizes) (entries_at (slots_items closed.old.slots))) }
 {
     let mut ends = Log::new(alloc);
@@ -84,10 +84,10 @@ impl Pools {
     /// then all other seats were joined into the first one, whose view has each entry. On `Memory`
     /// the tables are gone too. Our own.
     pub fn finish(self, seat: PlainSeat) -> Result<PoolsEnd, Memory>
-        requires seat { IsOf self seat }
-        requires first { IsFirst (standing_of seat) }
-        requires whole { IsLast (standing_of seat) }
-        ensures { IfOk result (IsPoolsEnd self.sizes (state_of seat)) }
+        requires seat { IsPlainSeat self seat }
+        requires first { IsFirstSeat (plain_standing seat) }
+        requires whole { IsLastSeat (plain_standing seat) }
+        ensures { IfOk result (IsPoolsEnd self.sizes (plain_state_of seat)) }
     {
         let Pools {
             table,

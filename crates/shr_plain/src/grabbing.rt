@@ -2,8 +2,8 @@
 
 ghost use Rattle.std.specs.Prelude.{◌≡◌};
 ghost use Rattle.shr_plain.specs.Answers.{GrabGives};
-ghost use Rattle.shr_plain.specs.Seat.{IsOf, state_of, standing_of};
-ghost use Rattle.shr_plain.specs.Settings.{IsPoolOf, place_of, room_of};
+ghost use Rattle.shr_plain.specs.Seat.{IsPlainSeat, plain_state_of, plain_standing};
+ghost use Rattle.shr_plain.specs.Settings.{IsPoolOf, home_place, room_of};
 
 use crate::answers::GrabAnswer;
 use crate::releasing::MOST_ENTRIES;
@@ -26,13 +26,13 @@ impl Pools {
         pool: u8,
         node: u8,
     ) -> GrabAnswer
-        requires seat { IsOf self.now seat.old }
+        requires seat { IsPlainSeat self.now seat.old }
         requires pool { IsPoolOf self.now.settings.items self.now.sizes pool node }
-        ensures seat { IsOf self.now seat.new }
-        ensures standing { standing_of seat.new ≡ standing_of seat.old }
-        ensures grabbed { GrabGives (place_of self.now.settings.items pool node)
+        ensures seat { IsPlainSeat self.now seat.new }
+        ensures standing { plain_standing seat.new ≡ plain_standing seat.old }
+        ensures grabbed { GrabGives (home_place self.now.settings.items pool node)
             (room_of self.now.settings.items self.now.sizes pool node) by result
-            (state_of seat.old) (state_of seat.new) }
+            (plain_state_of seat.old) (plain_state_of seat.new) }
     {
         let place = self.place(pool, node);
         let room = self.sizes.row(place);

@@ -1,6 +1,6 @@
 //! The rule of the table, which each of its steps keeps.
 
-ghost use Rattle.shr_plain.specs.Rule.{IsPools, first_view, new_view, spent_view, with_split_view, joined_view};
+ghost use Rattle.shr_plain.specs.Rule.{IsPools, first_units_view, new_units_view, spent_units_view, split_units_view, joined_units_view};
 
 use crate::slot::Slot;
 use crate::view::View;
@@ -13,20 +13,20 @@ pub struct Law;
 impl TableRule<Slot, View, Sizes> for Law {
     ghost holds = { IsPools };
 
-    ghost first = { λ _. first_view };
+    ghost first = { λ _. first_units_view };
 }
 
 /// How the first seat is split, and how another is joined into it. Our own.
 pub struct Seating;
 
 impl Split<View> for Seating {
-    ghost left = { with_split_view };
+    ghost left = { split_units_view };
 
-    ghost right = { λ _. new_view };
+    ghost right = { λ _. new_units_view };
 }
 
 impl Join<View> for Seating {
-    ghost both = { joined_view };
+    ghost both = { joined_units_view };
 
-    ghost spent = { spent_view };
+    ghost spent = { spent_units_view };
 }

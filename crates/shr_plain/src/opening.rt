@@ -3,8 +3,8 @@
 ghost use Rattle.std.specs.Prelude.{◌≡◌, ◌<◌, ◌≤◌, [], map, length, replicate, All, IfOk};
 ghost use Rattle.shr_seats.specs.Standing.{at_first};
 ghost use Rattle.shr_seats.specs.Views.{Each};
-ghost use Rattle.shr_plain.specs.Rule.{entries_in};
-ghost use Rattle.shr_plain.specs.Seat.{IsOf, state_of, standing_of, no_state};
+ghost use Rattle.shr_plain.specs.Rule.{room_journal};
+ghost use Rattle.shr_plain.specs.Seat.{IsPlainSeat, plain_state_of, plain_standing, no_state};
 ghost use Rattle.shr_plain.specs.Settings.{IsSetting};
 ghost use Rattle.shr_plain.specs.Opening.{setting_by, sizes_for as sizes_by};
 
@@ -28,7 +28,7 @@ fn zeros(alloc: Global, count: usize) -> Result<Vec<u64>, Memory>
 
 // So many rooms without an entry.
 fn bare_rooms(alloc: Global, count: usize) -> Result<Vec<Slot>, Memory>
-    ensures { IfOk result (λ v. (length v.items ≡ count) × Each (λ s. entries_in s ≡ []) v.items) }
+    ensures { IfOk result (λ v. (length v.items ≡ count) × Each (λ s. room_journal s ≡ []) v.items) }
 {
     let mut rooms = Vec::new(alloc);
     for _room in 0..count {
@@ -87,9 +87,9 @@ impl Pools {
         requires pools { All (λ d. IsSetting (setting_by d)) decls.now.items }
         ensures sizes { IfOk result (λ t. t.0.sizes ≡ sizes_by (length decls.now.items) nodes) }
         ensures settings { IfOk result (λ t. t.0.settings.items ≡ map setting_by decls.now.items) }
-        ensures seat { IfOk result (λ t. IsOf t.0 t.1) }
-        ensures state { IfOk result (λ t. state_of t.1 ≡ no_state) }
-        ensures standing { IfOk result (λ t. standing_of t.1 ≡ (at_first, at_first)) }
+        ensures seat { IfOk result (λ t. IsPlainSeat t.0 t.1) }
+        ensures state { IfOk result (λ t. plain_state_of t.1 ≡ no_state) }
+        ensures standing { IfOk result (λ t. plain_standing t.1 ≡ (at_first, at_first)) }
     {
         let settings = settings_of(alloc, decls)?;
         let sizes = sizes_for(decls.len(), nodes);

@@ -2,12 +2,12 @@
 
 ghost use Rattle.std.specs.Prelude.{◌≡◌, ◌+◌, ◌*◌, ◌<◌, ◌≤◌, ◌%◌, ◌/◌, ◌^◌, true, false, [], ◌∷◌, ◌++◌, length, MatchBool};
 ghost use Rattle.shr_model.specs.Units.{IsPlainEntry, free_of};
-ghost use Rattle.shr_rooms.specs.Views.{with_stored, with_given};
+ghost use Rattle.shr_rooms.specs.Views.{with_room_stored, with_room_given};
 ghost use Rattle.shr_seats.specs.Rows.{row_count};
 ghost use Rattle.shr_plain.specs.declared.slot.Slot.{Slot as Kept};
 ghost use Rattle.shr_plain.specs.Rule.{with_part, part_of};
 ghost use Rattle.shr_plain.specs.Seat.{IsUnitSeatOf};
-ghost use Rattle.shr_plain.specs.Taking.{Takes, HasRoom, Counts};
+ghost use Rattle.shr_plain.specs.Taking.{TakesUnitsRoom, HoldsUnitsRoom, Counts};
 
 use crate::slot::Slot;
 use crate::steps::WORDS_A_ROOM;
@@ -58,7 +58,7 @@ impl Pools {
         requires seat { IsUnitSeatOf self.now seat.old }
         requires room { room < row_count self.now.sizes }
         ensures table { seat.new.table_id ≡ seat.old.table_id }
-        ensures taken { MatchBool result (Takes room seat.old.me seat.new.me)
+        ensures taken { MatchBool result (TakesUnitsRoom room seat.old.me seat.new.me)
             (seat.new.me ≡ seat.old.me) }
     {
         self.lock_as::<Brand>(seat, WORDS_A_ROOM * room, room) == 0
@@ -69,7 +69,7 @@ impl Pools {
         requires seat { IsUnitSeatOf self.now seat.old }
         requires room { room < row_count self.now.sizes }
         ensures table { seat.new.table_id ≡ seat.old.table_id }
-        ensures taken { HasRoom room seat.old.me seat.new.me result.journal.items }
+        ensures taken { HoldsUnitsRoom room seat.old.me seat.new.me result.journal.items }
     {
         let backoff = Backoff::new();
         for _turn in rt.forever() {
@@ -99,7 +99,7 @@ impl Pools {
         requires room { room < row_count self.now.sizes }
         ensures table { seat.new.table_id ≡ seat.old.table_id }
         ensures stored { seat.new.me ≡ (
-          with_part seat.old.me.0 room (with_stored (part_of
+          with_part seat.old.me.0 room (with_room_stored (part_of
               seat.old.me.0 room) entry),
           seat.old.me.1,
         ) }
@@ -118,7 +118,7 @@ impl Pools {
         requires room { room < row_count self.now.sizes }
         ensures table { seat.new.table_id ≡ seat.old.table_id }
         ensures given { seat.new.me ≡ (
-          with_part seat.old.me.0 room (with_given (part_of
+          with_part seat.old.me.0 room (with_room_given (part_of
               seat.old.me.0 room)),
           [],
         ) }
@@ -141,7 +141,7 @@ impl Pools {
         requires room { room < row_count self.now.sizes }
         ensures table { seat.new.table_id ≡ seat.old.table_id }
         ensures put { seat.new.me ≡ (
-          with_part seat.old.me.0 room (with_given (with_stored (part_of
+          with_part seat.old.me.0 room (with_room_given (with_room_stored (part_of
               seat.old.me.0 room) entry)),
           [],
         ) }

@@ -2,7 +2,7 @@
 
 ghost use Rattle.std.specs.Prelude.{◌≡◌, ◌<◌, ◌≤◌, ◌*◌, length, All};
 ghost use Rattle.shr_seats.specs.Rows.{row_count, IsPlaceOf};
-ghost use Rattle.shr_plain.specs.Settings.{IsSetting, IsPoolOf, place_of};
+ghost use Rattle.shr_plain.specs.Settings.{IsSetting, IsPoolOf, home_place};
 
 use crate::law::Law;
 use crate::settings::Setting;
@@ -52,7 +52,7 @@ impl Pools {
     /// The place where the units of a pool are for a node: at node 0 for one that is flat. Our own.
     pub fn place(&self, pool: u8, node: u8) -> Place
         requires { IsPoolOf self.now.settings.items self.now.sizes pool node }
-        ensures place { result ≡ place_of self.now.settings.items pool node }
+        ensures place { result ≡ home_place self.now.settings.items pool node }
         ensures there { IsPlaceOf self.now.sizes result }
     {
         let setting = self.settings.as_slice()[pool as usize];

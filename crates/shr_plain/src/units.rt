@@ -2,10 +2,10 @@
 
 ghost use Rattle.std.specs.Prelude.{◌≡◌, ◌<◌, ◌≤◌, None};
 ghost use Rattle.shr_seats.specs.Rows.{row_count};
-ghost use Rattle.shr_plain.specs.Counting.{counts_in, scans_of, Keeps, Tells, ReclaimGives};
+ghost use Rattle.shr_plain.specs.Counting.{counts_seen, scans_of, KeepsUnits, TellsUnits, ReclaimGives};
 ghost use Rattle.shr_plain.specs.Rule.{part_of};
 ghost use Rattle.shr_plain.specs.Seat.{IsUnitSeatOf};
-ghost use Rattle.shr_plain.specs.Keeping.{keeps_refl, keeps_trans, seat_stays, tells_stay};
+ghost use Rattle.shr_plain.specs.Keeping.{keeps_refl, keeps_trans, seat_stays, units_tells_stay};
 
 use crate::releasing::MOST_ENTRIES;
 use crate::table::{Pools, UnitSeat};
@@ -46,13 +46,13 @@ impl<'a, R: Wait> Shrinker for Units<'a, R> {
 
     ghost owes = { λ x s. ⊥ };
 
-    ghost counts = { λ x s. counts_in x.floor (part_of s.me.0 x.room) };
+    ghost counts = { λ x s. counts_seen x.floor (part_of s.me.0 x.room) };
 
     ghost scans = { λ x s. scans_of x.worker x.walk (part_of s.me.0 x.room).made };
 
     ghost ready = { λ x s. IsUnitSeatOf x.pools.now s × (x.room < row_count x.pools.now.sizes) };
 
-    ghost kept = { λ x s t. Keeps x.room x.worker x.walk s t };
+    ghost kept = { λ x s t. KeepsUnits x.room x.worker x.walk s t };
 
     ghost calls = { λ x. x.calls };
 
@@ -60,7 +60,7 @@ impl<'a, R: Wait> Shrinker for Units<'a, R> {
 
     ghost last = { λ x. x.last };
 
-    ghost told = { λ x a s. Tells x.place a (part_of s.me.0 x.room) };
+    ghost told = { λ x a s. TellsUnits x.place a (part_of s.me.0 x.room) };
 
     fn count(&mut self, seat: &mut UnitSeat) -> Count {
         let (len, version) = self.pools.count(seat, self.room);
@@ -86,7 +86,7 @@ impl<'a, R: Wait> Shrinker for Units<'a, R> {
 
     ghost ready_stays = { λ x s t a b. (seat_stays x.pools.now x.room x.worker x.walk s t a.0 b, a.1) };
 
-    ghost told_stays = { λ x a s t b c. tells_stay x.place x.room x.worker x.walk a s t b c };
+    ghost told_stays = { λ x a s t b c. units_tells_stay x.place x.room x.worker x.walk a s t b c };
 }
 
 impl<'a, R: Wait> Units<'a, R> {

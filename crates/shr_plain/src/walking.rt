@@ -2,9 +2,9 @@
 
 ghost use Rattle.std.specs.Prelude.{◌≡◌, ℕ, ◌+◌, ◌<◌, ◌≤◌, ◌^◌, [], length};
 ghost use Rattle.shr_pass.specs.Passes.{MatchPass};
-ghost use Rattle.shr_plain.specs.Seat.{IsOf, state_of, standing_of};
-ghost use Rattle.shr_plain.specs.Settings.{IsPoolOf, setting_of, place_of, room_of};
-ghost use Rattle.shr_plain.specs.Walks.{PassGives, AreTried, Answers, WalkGives, try_of, freed_in, lacked_memory};
+ghost use Rattle.shr_plain.specs.Seat.{IsPlainSeat, plain_state_of, plain_standing};
+ghost use Rattle.shr_plain.specs.Settings.{IsPoolOf, setting_of, home_place, room_of};
+ghost use Rattle.shr_plain.specs.Walks.{PassGives, AreTried, Answers, PlainWalkGives, try_of, units_freed, try_lacked_memory};
 
 use crate::table::{PlainSeat, Pools};
 use crate::units::Units;
@@ -28,7 +28,7 @@ fn try_of(answer: PassAnswer) -> PlainTry
 
 // How much a try freed.
 fn freed_in(tried: PlainTry) -> u64
-    ensures { result ≡ freed_in tried }
+    ensures { result ≡ units_freed tried }
 {
     match tried {
         PlainTry::Empty { version: _ } => 0,
@@ -39,7 +39,7 @@ fn freed_in(tried: PlainTry) -> u64
 
 // Whether a try ended for want of memory.
 fn lacked_memory(tried: PlainTry) -> bool
-    ensures { result ≡ lacked_memory tried }
+    ensures { result ≡ try_lacked_memory tried }
 {
     match tried {
         PlainTry::Empty { version: _ } => false,
@@ -65,17 +65,17 @@ impl Pools {
         node: u8,
         priority: u8,
     ) -> PassAnswer
-        requires seat { IsOf self.now seat.old }
+        requires seat { IsPlainSeat self.now seat.old }
         requires pool { IsPoolOf self.now.settings.items self.now.sizes pool node }
         requires priority { priority ≤ 12 }
-        ensures seat { IsOf self.now seat.new }
-        ensures standing { standing_of seat.new ≡ standing_of seat.old }
+        ensures seat { IsPlainSeat self.now seat.new }
+        ensures standing { plain_standing seat.new ≡ plain_standing seat.old }
         ensures spare { seat.new.walks ≡ seat.old.walks }
         ensures few { MatchPass result (Unit {0}) (λ p. p.freed ≤ 2097152) }
         ensures passed { PassGives (setting_of self.now.settings.items pool)
-            (place_of self.now.settings.items pool node)
+            (home_place self.now.settings.items pool node)
             (room_of self.now.settings.items self.now.sizes pool node) worker walk priority result
-            (state_of seat.old) (state_of seat.new) }
+            (plain_state_of seat.old) (plain_state_of seat.new) }
     {
         let setting = self.settings.as_slice()[pool as usize];
         let place = self.place(pool, node);
@@ -113,15 +113,15 @@ impl Pools {
         node: u8,
         priority: u8,
     ) -> PlainAnswer
-        requires seat { IsOf self.now seat.old }
+        requires seat { IsPlainSeat self.now seat.old }
         requires node { node < self.now.sizes.nodes }
         requires priority { priority ≤ 12 }
         requires blank { tries.old.items ≡ [] }
-        ensures seat { IsOf self.now seat.new }
-        ensures standing { standing_of seat.new ≡ standing_of seat.old }
+        ensures seat { IsPlainSeat self.now seat.new }
+        ensures standing { plain_standing seat.new ≡ plain_standing seat.old }
         ensures walks { seat.new.walks ≡ seat.old.walks }
         ensures tried { AreTried self.now.settings.items self.now.sizes by walk node priority 0
-            tries.new.items (state_of seat.old) (state_of seat.new) }
+            tries.new.items (plain_state_of seat.old) (plain_state_of seat.new) }
         ensures answers { Answers (length self.now.settings.items) tries.new.items result }
     {
         if tries.reserve(self.settings.len()).is_err() {
@@ -158,16 +158,16 @@ impl Pools {
         node: u8,
         priority: u8,
     ) -> PlainAnswer
-        requires seat { IsOf self.now seat.old }
+        requires seat { IsPlainSeat self.now seat.old }
         requires node { node < self.now.sizes.nodes }
         requires priority { priority ≤ 12 }
         requires room { 0 < seat.old.walks.spare }
         requires few { length seat.old.walks.items < 2 ^ 32 }
-        ensures seat { IsOf self.now seat.new }
-        ensures standing { standing_of seat.new ≡ standing_of seat.old }
+        ensures seat { IsPlainSeat self.now seat.new }
+        ensures standing { plain_standing seat.new ≡ plain_standing seat.old }
         ensures spare { seat.new.walks.spare + 1 ≡ seat.old.walks.spare }
-        ensures walked { WalkGives self.now.settings.items self.now.sizes by node priority result
-            (state_of seat.old) (state_of seat.new) }
+        ensures walked { PlainWalkGives self.now.settings.items self.now.sizes by node priority result
+            (plain_state_of seat.old) (plain_state_of seat.new) }
     {
         let walk = seat.walks.len() as u32;
         let mut tries = Log::new(self.alloc);

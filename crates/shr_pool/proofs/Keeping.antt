@@ -1,16 +1,12 @@
 -- Each push, pop, split and join keeps the rule.
-use Rattle.shr_pool.proofs.Common.{◌≡◌, ℕ, zero, suc, ◌+◌, ◌<◌, ◌≤◌, false, cond, List, [], ◌∷◌, ◌++◌, map, sym, refl, ap, subst, ◌∙◌, ⊎_elim, arith, sum_by, ◌&&◌, some, some-injective, some-ne-none, get_elem?, Each, total, IsWhole, total-append, SweepItem, Walk, End, PassView, ends, is_end, most_helpers, IsPopped, IsFaced, IsShown, IsQueued, first_view, new_view, with_push, with_pop, with_split_view, joined_view, marks_for}
-use Rattle.std.proofs.Common.{◌≢◌, Bool, true, set, append_assoc}
-use Rattle.std.specs.Prelude.{not}
+use Rattle.shr_pool.proofs.Common.{◌≡◌, ℕ, zero, suc, ◌+◌, ◌<◌, ◌≤◌, false, cond, List, [], ◌∷◌, ◌++◌, map, sym, refl, ap, subst, ◌∙◌, ⊎_elim, arith, sum_by, ◌&&◌, some, some-injective, some-ne-none, get_elem?, Each, total, IsWhole, total-append, SweepItem, Walk, End, PassView, ends, is_end, most_helpers, IsPopped, IsFaced, IsQueueShown, IsQueued, first_pass_view, new_pass_view, with_push, with_pop, split_pass_view, joined_pass_view, marks_for, ◌≢◌, Bool, true, set, append_assoc, not, Standing, at_first, at_split, at_end, is_out, AreSeats, pass_standing_in, spent_pass_view}
 use Rattle.std.proofs.lemmas.Bool.{cases_Bool}
 use Rattle.std.proofs.lemmas.List.{map-set, append-nil}
 use Rattle.atomic_table.proofs.Lists.{at_map, at_set, set_again, set_else}
 use Rattle.crossbeam_queue.specs.Fifo.{Pushes, Pops, Forks, Merges, Learns}
-use Rattle.shr_seats.specs.Standing.{Standing, at_first, at_split, at_end, is_out, AreSeats}
 use Rattle.shr_seats.proofs.Changed.{grown, joined_list}
 use Rattle.shr_seats.proofs.Seating.{AreSeats-first, AreSeats-split, AreSeats-join, not_gone, others, sole, sum_by-sole}
 use Rattle.shr_seats.proofs.Sums.{term_le, sum_by-changed, sum_by-joined, sum_by-more, sum_by-none, sum_by-map, Each-set, Each-push}
-use Rattle.shr_pool.specs.Rule.{standing_in, spent_view}
 use Rattle.shr_pool.proofs.Weighing.{none_there, sum_by-lt, sum_by-both, some_term}
 
 -- what a view popped weighs
@@ -27,7 +23,7 @@ abbrev Few : PassView → Type 0
 Few v = v.standing.first ≡ true → v.standing.splits ≤ most_helpers
 
 abbrev Emptied : PassView → Type 0
-Emptied v = v.standing.gone ≡ true → v ≡ spent_view
+Emptied v = v.standing.gone ≡ true → v ≡ spent_pass_view
 
 true_false : (b : Bool) → b ≡ true → b ≡ false → ⊥
 true_false b t f = let e : true ≡ false = sym t ∙ f in cc
@@ -42,37 +38,37 @@ alone P v p zero x e = subst P (some-injective v x e) p
 alone P v p (suc j) x e = absurd (some-ne-none x (sym e))
 
 -- the rule holds of a new queue
-pub begins : IsQueued [] (first_view ∷ [])
+pub begins : IsQueued [] (first_pass_view ∷ [])
 begins = record {
   pushed = [];
   gone = [];
   line = refl;
-  told = alone (Tells []) first_view (λ _. refl);
+  told = alone (Tells []) first_pass_view (λ _. refl);
   popped = λ h. refl;
-  marks = alone Marks first_view (λ _. omega arith);
-  few = alone Few first_view (λ _. omega arith);
+  marks = alone Marks first_pass_view (λ _. omega arith);
+  few = alone Few first_pass_view (λ _. omega arith);
   seats = AreSeats-first;
-  emptied = alone Emptied first_view (λ t. absurd (not_gone at_first refl t));
+  emptied = alone Emptied first_pass_view (λ t. absurd (not_gone at_first refl t));
 }
 
 module _ (items : List SweepItem) (views : List PassView) (o : IsQueued items views) (id : ℕ) (v : PassView) (me : get_elem? views id ≡ some v) where
-  mine : get_elem? (map standing_in views) id ≡ some v.standing
-  mine = at_map standing_in views id v me
+  mine : get_elem? (map pass_standing_in views) id ≡ some v.standing
+  mine = at_map pass_standing_in views id v me
 
   -- where the first was never split, all others are spent
   whole : v.standing.first ≡ true → v.standing.splits ≡ 0 → IsWhole v.standing
   whole is none = omega (arith, o.seats.out id v.standing mine is, none)
 
-  other_spent : v.standing.first ≡ true → IsWhole v.standing → (j : ℕ) (x : PassView) → j ≢ id → get_elem? views j ≡ some x → x ≡ spent_view
-  other_spent is w = sole standing_in spent_view views id v me is w o.seats o.emptied
+  other_spent : v.standing.first ≡ true → IsWhole v.standing → (j : ℕ) (x : PassView) → j ≢ id → get_elem? views j ≡ some x → x ≡ spent_pass_view
+  other_spent is w = sole pass_standing_in spent_pass_view views id v me is w o.seats o.emptied
 
   -- the standings where one view changes and stands as it did
-  stand : (w : PassView) → w.standing ≡ v.standing → AreSeats (map standing_in (set views id w))
-  stand w e = subst AreSeats (sym (map-set standing_in views id w ∙ (ap (set (map standing_in views) id) e ∙ set_again (map standing_in views) id v.standing mine))) o.seats
+  stand : (w : PassView) → w.standing ≡ v.standing → AreSeats (map pass_standing_in (set views id w))
+  stand w e = subst AreSeats (sym (map-set pass_standing_in views id w ∙ (ap (set (map pass_standing_in views) id) e ∙ set_again (map pass_standing_in views) id v.standing mine))) o.seats
 
   -- all that is popped stands in the first view, once all are joined
   sole_popped : v.standing.first ≡ true → IsWhole v.standing → (h : SweepItem → ℕ) → total h o.gone ≡ total h v.popped
-  sole_popped is w h = o.popped h ∙ sum_by-sole standing_in spent_view views id v me is w o.seats o.emptied (popped_by h) refl
+  sole_popped is w h = o.popped h ∙ sum_by-sole pass_standing_in spent_pass_view views id v me is w o.seats o.emptied (popped_by h) refl
 
 pub pushes : (n id : ℕ) (v : PassView) (x : SweepItem) → v.standing.first ≡ true → v.standing.gone ≡ false → v.standing.splits ≡ 0 → Pushes IsQueued n id v x (λ w. w ≡ with_push v x)
 pushes n id v x is here none items views _ o me = let w : PassView = with_push v x in (
@@ -116,8 +112,8 @@ pops id v later here none x items views o me = let w : PassView = with_pop v x i
   record { view = refl; within = λ h. omega (arith, ap (total h) (o.told id v me here), ap (total h) o.line, total-append h o.gone (x ∷ items), total-append h v.popped (x ∷ []), o.popped h, term_le (popped_by h) views id v me) },
 )
 
-pub forks : (id : ℕ) (v : PassView) → v.standing.first ≡ true → v.standing.gone ≡ false → v.standing.splits < most_helpers → Forks IsQueued id v (with_split_view v) (new_view v)
-forks id v is here room items views o me = let w : PassView = with_split_view v in let new : PassView = new_view v in record {
+pub forks : (id : ℕ) (v : PassView) → v.standing.first ≡ true → v.standing.gone ≡ false → v.standing.splits < most_helpers → Forks IsQueued id v (split_pass_view v) (new_pass_view v)
+forks id v is here room items views o me = let w : PassView = split_pass_view v in let new : PassView = new_pass_view v in record {
   pushed = o.pushed;
   gone = o.gone;
   line = o.line;
@@ -125,26 +121,26 @@ forks id v is here room items views o me = let w : PassView = with_split_view v 
   popped = λ h. omega (arith, o.popped h, sum_by-changed (popped_by h) views id v w me, sum_by-more (popped_by h) (set views id w) new);
   marks = Each-push Marks (set views id w) new (λ _. omega arith) (Each-set Marks views id w (o.marks id v me) o.marks);
   few = Each-push Few (set views id w) new (λ t. absurd (true_false at_split.first t refl)) (Each-set Few views id w (λ _. omega (arith, room)) o.few);
-  seats = grown views id v me standing_in w new AreSeats (AreSeats-split (map standing_in views) id v.standing (mine items views o id v me) is o.seats);
+  seats = grown views id v me pass_standing_in w new AreSeats (AreSeats-split (map pass_standing_in views) id v.standing (mine items views o id v me) is o.seats);
   emptied = Each-push Emptied (set views id w) new (λ t. absurd (not_gone at_split refl t)) (Each-set Emptied views id w (λ t. absurd (not_gone v.standing here t)) o.emptied);
 }
 
-pub merges : (id : ℕ) (v : PassView) (other : ℕ) (u : PassView) → v.standing.first ≡ true → v.standing.gone ≡ false → u.standing.first ≡ false → u.standing.gone ≡ false → Merges IsQueued id v other u (joined_view v u) spent_view
-merges id v other u is here later there items views o me apart at = let w : PassView = joined_view v u in
+pub merges : (id : ℕ) (v : PassView) (other : ℕ) (u : PassView) → v.standing.first ≡ true → v.standing.gone ≡ false → u.standing.first ≡ false → u.standing.gone ≡ false → Merges IsQueued id v other u (joined_pass_view v u) spent_pass_view
+merges id v other u is here later there items views o me apart at = let w : PassView = joined_pass_view v u in
     let them : get_elem? views other ≡ some u = sym (set_else views id other w apart) ∙ at in record {
       pushed = o.pushed;
       gone = o.gone;
       line = o.line;
-      told = Each-set (Tells o.pushed) (set views id w) other spent_view (λ g. absurd (true_false true refl g)) (Each-set (Tells o.pushed) views id w (o.told id v me) o.told);
-      popped = λ h. omega (arith, o.popped h, sum_by-joined (popped_by h) views id other v u w spent_view me apart them, total-append h v.popped u.popped);
-      marks = Each-set Marks (set views id w) other spent_view (λ g. absurd (true_false true refl g))
+      told = Each-set (Tells o.pushed) (set views id w) other spent_pass_view (λ g. absurd (true_false true refl g)) (Each-set (Tells o.pushed) views id w (o.told id v me) o.told);
+      popped = λ h. omega (arith, o.popped h, sum_by-joined (popped_by h) views id other v u w spent_pass_view me apart them, total-append h v.popped u.popped);
+      marks = Each-set Marks (set views id w) other spent_pass_view (λ g. absurd (true_false true refl g))
           (Each-set Marks views id w (λ _. omega (arith, total-append is_end v.popped u.popped, o.marks id v me here, o.marks other u them there, ap (λ b. cond b v.standing.joins 1) is, ap (λ b. cond b (v.standing.joins + 1) 1) is, ap (λ b. cond b u.standing.joins 1) later)) o.marks);
-      few = Each-set Few (set views id w) other spent_view (λ t. absurd (true_false at_end.first t refl)) (Each-set Few views id w (o.few id v me) o.few);
-      seats = joined_list standing_in AreSeats views id other w spent_view (AreSeats-join (map standing_in views) id other v.standing u.standing (mine items views o id v me) apart (at_map standing_in views other u them) is there o.seats);
-      emptied = Each-set Emptied (set views id w) other spent_view (λ _. refl) (Each-set Emptied views id w (λ t. absurd (not_gone v.standing here t)) o.emptied);
+      few = Each-set Few (set views id w) other spent_pass_view (λ t. absurd (true_false at_end.first t refl)) (Each-set Few views id w (o.few id v me) o.few);
+      seats = joined_list pass_standing_in AreSeats views id other w spent_pass_view (AreSeats-join (map pass_standing_in views) id other v.standing u.standing (mine items views o id v me) apart (at_map pass_standing_in views other u them) is there o.seats);
+      emptied = Each-set Emptied (set views id w) other spent_pass_view (λ _. refl) (Each-set Emptied views id w (λ t. absurd (not_gone v.standing here t)) o.emptied);
     }
 
-pub shown : (id : ℕ) (v : PassView) → v.standing.first ≡ true → v.standing.gone ≡ false → Learns IsQueued id v (IsShown v)
+pub shown : (id : ℕ) (v : PassView) → v.standing.first ≡ true → v.standing.gone ≡ false → Learns IsQueued id v (IsQueueShown v)
 shown id v is here items views o me w = (o.gone, o.told id v me here ∙ o.line, sole_popped items views o id v me is w)
 
 -- 1 for the first pass, and 1 for one that is out; how many marks the joined ones had
@@ -191,7 +187,7 @@ faced id v later here none items views o me marked empty = absurd (omega (arith,
   outs_and_heads = sum_by-both (λ (u : PassView). outs u.standing) (λ (u : PassView). heads u.standing) views
 
   the_first : (j : ℕ) × (u : PassView) × (get_elem? views j ≡ some u) × (0 < firsts u.standing)
-  the_first = some_term (λ (u : PassView). firsts u.standing) views (omega (arith, o.seats.one_first, sum_by-map firsts standing_in views))
+  the_first = some_term (λ (u : PassView). firsts u.standing) views (omega (arith, o.seats.one_first, sum_by-map firsts pass_standing_in views))
 
   k : ℕ
   k = the_first.0
@@ -209,12 +205,12 @@ faced id v later here none items views o me marked empty = absurd (omega (arith,
   heads_of = omega (
     arith,
     ap (λ b. cond b x.standing.joins 0) is,
-    sum_by-changed (λ (u : PassView). heads u.standing) views k x spent_view atk,
-    sum_by-none (λ (u : PassView). heads u.standing) (set views k spent_view) (λ j u e. ⊎_elim
-        (λ (t : (j ≡ k) × (spent_view ≡ u)). ap (λ (y : PassView). heads y.standing) (sym t.1))
-        (λ (t : (j ≢ k) × (get_elem? views j ≡ some u)). ap (λ b. cond b u.standing.joins 0) (others (map standing_in views) k j x.standing u.standing o.seats (at_map standing_in views k x atk) is t.0 (at_map standing_in views j u t.1)))
-        (at_set views k j spent_view u e)),
+    sum_by-changed (λ (u : PassView). heads u.standing) views k x spent_pass_view atk,
+    sum_by-none (λ (u : PassView). heads u.standing) (set views k spent_pass_view) (λ j u e. ⊎_elim
+        (λ (t : (j ≡ k) × (spent_pass_view ≡ u)). ap (λ (y : PassView). heads y.standing) (sym t.1))
+        (λ (t : (j ≢ k) × (get_elem? views j ≡ some u)). ap (λ b. cond b u.standing.joins 0) (others (map pass_standing_in views) k j x.standing u.standing o.seats (at_map pass_standing_in views k x atk) is t.0 (at_map pass_standing_in views j u t.1)))
+        (at_set views k j spent_pass_view u e)),
   )
 
   outs_of : sum_by (λ (u : PassView). outs u.standing) views + x.standing.joins ≡ x.standing.splits
-  outs_of = omega (arith, sum_by-map outs standing_in views, o.seats.out k x.standing (at_map standing_in views k x atk) is)
+  outs_of = omega (arith, sum_by-map outs pass_standing_in views, o.seats.out k x.standing (at_map pass_standing_in views k x atk) is)

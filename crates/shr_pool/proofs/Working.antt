@@ -1,6 +1,5 @@
 -- What was popped of the jobs, once a mark was.
-use Rattle.shr_pool.proofs.Common.{◌≡◌, ℕ, zero, suc, ◌+◌, ◌<◌, ◌≤◌, List, [], ◌∷◌, ◌++◌, map, sym, refl, ap, ◌∙◌, arith, replicate, some-injective, get_elem?, total, total-append, SweepItem, Walk, End, SweepJob, PassView, ends, is_end, table_jobs, line_of, most_helpers, ArePopped, AreWorked}
-use Rattle.shr_pool.specs.Lines.{of_job}
+use Rattle.shr_pool.proofs.Common.{◌≡◌, ℕ, zero, suc, ◌+◌, ◌<◌, ◌≤◌, List, [], ◌∷◌, ◌++◌, map, sym, refl, ap, ◌∙◌, arith, replicate, some-injective, get_elem?, total, total-append, SweepItem, Walk, End, SweepJob, PassView, ends, is_end, table_jobs, queue_line, most_helpers, ArePopped, AreWorked, of_job}
 
 abbrev rest : List SweepItem → List SweepItem
 rest [] = []
@@ -18,7 +17,7 @@ module _ (h : SweepJob → ℕ) where
   jobs_weigh (j ∷ js) = ap (λ n. h j + n) (jobs_weigh js)
 
   -- a line of jobs and marks weighs what its jobs weigh
-  pub line_weighs : (nodes groups : ℕ) → total (of_job h) (line_of nodes groups) ≡ total h (table_jobs nodes groups)
+  pub line_weighs : (nodes groups : ℕ) → total (of_job h) (queue_line nodes groups) ≡ total h (table_jobs nodes groups)
   line_weighs nodes groups = omega (arith, total-append (of_job h) (map Walk (table_jobs nodes groups)) (replicate most_helpers End), marks_none most_helpers, jobs_weigh (table_jobs nodes groups))
 
   -- once a mark was popped, all jobs were
@@ -33,7 +32,7 @@ module _ (h : SweepJob → ℕ) where
   at_most : (js : List SweepJob) (n : ℕ) (gone left : List SweepItem) → map Walk js ++ replicate n End ≡ gone ++ left → total (of_job h) gone ≤ total h js
   at_most js n gone left e = omega (arith, total-append (of_job h) gone left, ap (total (of_job h)) e, total-append (of_job h) (map Walk js) (replicate n End), marks_none n, jobs_weigh js)
 
-pub worked : (nodes groups : ℕ) (v : PassView) → v.pushed ≡ line_of nodes groups → ArePopped v → AreWorked nodes groups v
+pub worked : (nodes groups : ℕ) (v : PassView) → v.pushed ≡ queue_line nodes groups → ArePopped v → AreWorked nodes groups v
 worked nodes groups v full o = let line = sym full ∙ o.line in record {
   at_most = λ h. omega (arith, at_most h (table_jobs nodes groups) most_helpers o.gone o.left line, o.same (of_job h));
   all = λ mark h. omega (arith, all_gone h (table_jobs nodes groups) most_helpers o.gone o.left line (omega (arith, mark, o.same is_end)), o.same (of_job h));

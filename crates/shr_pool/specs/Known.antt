@@ -23,5 +23,5 @@ IsFaced v items = most_helpers ≤ ends v.pushed → items ≡ [] → ⊥
 
 -- once all others are joined, what was pushed is what this pass popped, in some order, and then
 -- what the queue holds
-abbrev pub IsShown : PassView → List SweepItem → Type 0
-IsShown v items = IsWhole v.standing → (gone : List SweepItem) × (v.pushed ≡ gone ++ items) × ((h : SweepItem → ℕ) → total h gone ≡ total h v.popped)
+abbrev pub IsQueueShown : PassView → List SweepItem → Type 0
+IsQueueShown v items = IsWhole v.standing → (gone : List SweepItem) × (v.pushed ≡ gone ++ items) × ((h : SweepItem → ℕ) → total h gone ≡ total h v.popped)

@@ -7,12 +7,12 @@ use Rattle.shr_pool.specs.declared.items.SweepItem.TheVariants.{Walk, End}
 use Rattle.shr_seats.specs.Weights.{total}
 
 -- a group on a node
-abbrev pub job : ℕ → ℕ → SweepJob
-job group node = record { group = group; node = node }
+abbrev pub sweep_job : ℕ → ℕ → SweepJob
+sweep_job group node = record { group = group; node = node }
 
 -- the job with this number: by node, and then by group
 abbrev pub job_at : ℕ → ℕ → SweepJob
-job_at groups i = job (i % groups) (i / groups)
+job_at groups i = sweep_job (i % groups) (i / groups)
 
 -- a job for each group on each node
 abbrev pub table_jobs : ℕ → ℕ → List SweepJob
@@ -37,5 +37,5 @@ abbrev pub most_helpers : ℕ
 most_helpers = 64
 
 -- the jobs, and behind them the marks
-abbrev pub line_of : ℕ → ℕ → List SweepItem
-line_of nodes groups = map Walk (table_jobs nodes groups) ++ replicate most_helpers End
+abbrev pub queue_line : ℕ → ℕ → List SweepItem
+queue_line nodes groups = map Walk (table_jobs nodes groups) ++ replicate most_helpers End

@@ -8,13 +8,13 @@ use Rattle.shr_pool.specs.declared.jobs.JobPass.{JobPass}
 use Rattle.shr_pool.specs.declared.view.PassView.{PassView}
 
 -- what a pass knows
-abbrev pub view_of : JobPass → PassView
-view_of p = view p.pass
+abbrev pub pass_view : JobPass → PassView
+pass_view p = view p.pass
 
 -- a pass of this queue, which was not joined away
-pub record IsOf (jobs : JobQueue) (p : JobPass) : Type 0 where
+pub record IsJobPass (jobs : JobQueue) (p : JobPass) : Type 0 where
   pub pass : IsPassOf jobs.ring p.pass
-  pub here : (view_of p).standing.gone ≡ false
+  pub here : (pass_view p).standing.gone ≡ false
 
 -- the first pass of a queue of which nothing was handed out and nothing popped
 pub record IsFilling (v : PassView) : Type 0 where

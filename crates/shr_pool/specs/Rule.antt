@@ -8,20 +8,20 @@ use Rattle.shr_pool.specs.declared.view.PassView.{PassView}
 use Rattle.shr_pool.specs.Lines.{ends, most_helpers}
 
 -- where a view stands among the passes
-abbrev pub standing_in : PassView → Standing
-standing_in v = v.standing
+abbrev pub pass_standing_in : PassView → Standing
+pass_standing_in v = v.standing
 
 -- the first pass of a new queue
-abbrev pub first_view : PassView
-first_view = record { pushed = []; popped = []; standing = at_first }
+abbrev pub first_pass_view : PassView
+first_pass_view = record { pushed = []; popped = []; standing = at_first }
 
 -- what is left of a pass that was joined into the first
-abbrev pub spent_view : PassView
-spent_view = record { pushed = []; popped = []; standing = at_end }
+abbrev pub spent_pass_view : PassView
+spent_pass_view = record { pushed = []; popped = []; standing = at_end }
 
 -- a pass that was split off: it knows what was pushed
-abbrev pub new_view : PassView → PassView
-new_view v = record { pushed = v.pushed; popped = []; standing = at_split }
+abbrev pub new_pass_view : PassView → PassView
+new_pass_view v = record { pushed = v.pushed; popped = []; standing = at_split }
 
 -- x was pushed
 abbrev pub with_push : PassView → SweepItem → PassView
@@ -32,12 +32,12 @@ abbrev pub with_pop : PassView → SweepItem → PassView
 with_pop v x = record v { popped = v.popped ++ x ∷ [] }
 
 -- the first pass, split once more
-abbrev pub with_split_view : PassView → PassView
-with_split_view v = record v { standing = with_split v.standing }
+abbrev pub split_pass_view : PassView → PassView
+split_pass_view v = record v { standing = with_split v.standing }
 
 -- the first pass, with what another popped that was joined into it
-abbrev pub joined_view : PassView → PassView → PassView
-joined_view v u = record { pushed = v.pushed; popped = v.popped ++ u.popped; standing = with_join v.standing }
+abbrev pub joined_pass_view : PassView → PassView → PassView
+joined_pass_view v u = record { pushed = v.pushed; popped = v.popped ++ u.popped; standing = with_join v.standing }
 
 -- how many marks a pass may have popped: a helper one, and the first one for each that was joined
 abbrev pub marks_for : Standing → ℕ
@@ -55,5 +55,5 @@ pub record IsQueued (items : List SweepItem) (views : List PassView) : Type 0 wh
   pub popped : (h : SweepItem → ℕ) → total h gone ≡ sum_by (λ v. total h v.popped) views
   pub marks : Each (λ v. v.standing.gone ≡ false → ends v.popped ≤ marks_for v.standing) views
   pub few : Each (λ v. v.standing.first ≡ true → v.standing.splits ≤ most_helpers) views
-  pub seats : AreSeats (map standing_in views)
-  pub emptied : AreEmptied standing_in spent_view views
+  pub seats : AreSeats (map pass_standing_in views)
+  pub emptied : AreEmptied pass_standing_in spent_pass_view views

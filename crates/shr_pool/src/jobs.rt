@@ -5,10 +5,10 @@ ghost use Rattle.crossbeam_queue.specs.Passes.{view, IsPassOf, ruled_capacity};
 ghost use Rattle.shr_seats.specs.Standing.{at_first, at_split, with_split, with_join, IsWhole};
 ghost use Rattle.shr_pool.specs.declared.items.SweepItem.TheVariants.{Walk, End};
 ghost use Rattle.shr_pool.specs.Known.{HasPoppedWithin};
-ghost use Rattle.shr_pool.specs.Lines.{ends, job_at, line_of, most_helpers};
-ghost use Rattle.shr_pool.specs.Passes.{IsFilling, IsHelper, IsOf, view_of};
+ghost use Rattle.shr_pool.specs.Lines.{ends, job_at, queue_line, most_helpers};
+ghost use Rattle.shr_pool.specs.Passes.{IsFilling, IsHelper, IsJobPass, pass_view};
 ghost use Rattle.shr_pool.specs.Worked.{ArePopped, AreWorked, AreEachOnce};
-ghost use Rattle.shr_pool.specs.Rule.{with_push, with_pop, with_split_view, joined_view, new_view};
+ghost use Rattle.shr_pool.specs.Rule.{with_push, with_pop, split_pass_view, joined_pass_view, new_pass_view};
 
 use crate::items::{SweepItem, SweepJob};
 use crate::law::{Law, Popped, Pushed, Seating, Shown};
@@ -77,10 +77,10 @@ impl Jobs {
     pub fn fill<R: Wait>(rt: &R, alloc: Global, nodes: u8, groups: u16) -> Result<Jobs, Memory>
         requires nodes { (0 < nodes) × (nodes ≤ 4) }
         requires groups { (0 < groups) × (groups ≤ 256) }
-        ensures pass { IfOk result (λ j. IsOf j.queue j.first) }
-        ensures line { IfOk result (λ j. (view_of j.first).pushed ≡ line_of nodes groups) }
-        ensures none { IfOk result (λ j. (view_of j.first).popped ≡ []) }
-        ensures standing { IfOk result (λ j. (view_of j.first).standing ≡ at_first) }
+        ensures pass { IfOk result (λ j. IsJobPass j.queue j.first) }
+        ensures line { IfOk result (λ j. (pass_view j.first).pushed ≡ queue_line nodes groups) }
+        ensures none { IfOk result (λ j. (pass_view j.first).popped ≡ []) }
+        ensures standing { IfOk result (λ j. (pass_view j.first).standing ≡ at_first) }
     {
         let count = nodes as usize * groups as usize;
         let (queue, mut pass) = Queue::ruled(alloc, count + MOST_HELPERS)?;
@@ -106,14 +106,14 @@ impl Jobs {
     /// A pass for a helper, which has popped nothing and knows what was pushed. Once one was handed
     /// out nothing more is pushed.
     pub fn pass(&mut self) -> JobPass
-        requires first { IsOf self.old.queue self.old.first
-            × ((view_of self.old.first).standing.first ≡ true) }
-        requires few { (view_of self.old.first).standing.splits < most_helpers }
+        requires first { IsJobPass self.old.queue self.old.first
+            × ((pass_view self.old.first).standing.first ≡ true) }
+        requires few { (pass_view self.old.first).standing.splits < most_helpers }
         ensures queue { self.new.queue ≡ self.old.queue }
-        ensures first { IsOf self.new.queue self.new.first
-            × (view_of self.new.first ≡ with_split_view (view_of self.old.first)) }
-        ensures pass { IsOf self.new.queue result
-            × (view_of result ≡ new_view (view_of self.old.first)) }
+        ensures first { IsJobPass self.new.queue self.new.first
+            × (pass_view self.new.first ≡ split_pass_view (pass_view self.old.first)) }
+        ensures pass { IsJobPass self.new.queue result
+            × (pass_view result ≡ new_pass_view (pass_view self.old.first)) }
     {
         JobPass {
             pass: self.queue.ring.another::<Seating>(&mut self.first.pass),
@@ -123,20 +123,20 @@ impl Jobs {
     /// Joins a helper's pass into the first one, which then has what that one popped. Once all are
     /// joined, no job was popped twice, and where a mark was popped each job was popped once.
     pub fn join(&mut self, pass: JobPass)
-        requires first { IsOf self.old.queue self.old.first
-            × ((view_of self.old.first).standing.first ≡ true) }
-        requires pass { IsOf self.old.queue pass × IsHelper (view_of pass) }
+        requires first { IsJobPass self.old.queue self.old.first
+            × ((pass_view self.old.first).standing.first ≡ true) }
+        requires pass { IsJobPass self.old.queue pass × IsHelper (pass_view pass) }
         ensures queue { self.new.queue ≡ self.old.queue }
-        ensures first { IsOf self.new.queue self.new.first
-            × (view_of self.new.first ≡ joined_view (view_of self.old.first) (view_of pass)) }
-        ensures popped { IsWhole (view_of self.new.first).standing
-            → ArePopped (view_of self.new.first) }
-        ensures worked { (nodes groups : ℕ) → IsWhole (view_of self.new.first).standing
-            → (view_of self.new.first).pushed ≡ line_of nodes groups → AreWorked nodes groups
-            (view_of self.new.first) }
-        ensures once { (nodes groups : ℕ) → IsWhole (view_of self.new.first).standing
-            → (view_of self.new.first).pushed ≡ line_of nodes groups → AreEachOnce nodes groups
-            (view_of self.new.first) }
+        ensures first { IsJobPass self.new.queue self.new.first
+            × (pass_view self.new.first ≡ joined_pass_view (pass_view self.old.first) (pass_view pass)) }
+        ensures popped { IsWhole (pass_view self.new.first).standing
+            → ArePopped (pass_view self.new.first) }
+        ensures worked { (nodes groups : ℕ) → IsWhole (pass_view self.new.first).standing
+            → (pass_view self.new.first).pushed ≡ queue_line nodes groups → AreWorked nodes groups
+            (pass_view self.new.first) }
+        ensures once { (nodes groups : ℕ) → IsWhole (pass_view self.new.first).standing
+            → (pass_view self.new.first).pushed ≡ queue_line nodes groups → AreEachOnce nodes groups
+            (pass_view self.new.first) }
     {
         let JobPass { pass } = pass;
         self.queue
@@ -152,13 +152,13 @@ impl JobQueue {
     ///
     /// It waits only while another pass is in the middle of a pop.
     pub fn pop<R: Wait>(&self, rt: &R, pass: &mut JobPass) -> Option<SweepJob>
-        requires pass { IsOf self.now pass.old × IsHelper (view_of pass.old) }
-        requires open { ends (view_of pass.old).popped ≡ 0 }
-        requires marked { most_helpers ≤ ends (view_of pass.old).pushed }
-        ensures pass { IsOf self.now pass.new }
-        ensures popped { MatchOption result (view_of pass.new ≡ with_pop (view_of pass.old) End)
-            (λ job. view_of pass.new ≡ with_pop (view_of pass.old) (Walk job)) }
-        ensures within { HasPoppedWithin (view_of pass.new) }
+        requires pass { IsJobPass self.now pass.old × IsHelper (pass_view pass.old) }
+        requires open { ends (pass_view pass.old).popped ≡ 0 }
+        requires marked { most_helpers ≤ ends (pass_view pass.old).pushed }
+        ensures pass { IsJobPass self.now pass.new }
+        ensures popped { MatchOption result (pass_view pass.new ≡ with_pop (pass_view pass.old) End)
+            (λ job. pass_view pass.new ≡ with_pop (pass_view pass.old) (Walk job)) }
+        ensures within { HasPoppedWithin (pass_view pass.new) }
     {
         match self.ring.pop_as::<Popped, R>(rt, &mut pass.pass) {
             Some(SweepItem::Walk { job }) => Some(job),

@@ -1,8 +1,8 @@
 //! The rule of the queue, which each push, pop, split and join keeps.
 
 ghost use Rattle.std.specs.Prelude.{◌≡◌};
-ghost use Rattle.shr_pool.specs.Rule.{IsQueued, first_view, new_view, spent_view, with_push, with_split_view, joined_view};
-ghost use Rattle.shr_pool.specs.Known.{IsPopped, IsFaced, IsShown};
+ghost use Rattle.shr_pool.specs.Rule.{IsQueued, first_pass_view, new_pass_view, spent_pass_view, with_push, split_pass_view, joined_pass_view};
+ghost use Rattle.shr_pool.specs.Known.{IsPopped, IsFaced, IsQueueShown};
 
 use crate::items::SweepItem;
 use crate::view::PassView;
@@ -14,7 +14,7 @@ pub struct Law;
 impl Protocol<SweepItem, PassView> for Law {
     ghost holds = { IsQueued };
 
-    ghost first = { first_view };
+    ghost first = { first_pass_view };
 }
 
 /// A push, which says that there was room. Our own.
@@ -44,20 +44,20 @@ impl Lesson<SweepItem, PassView> for Popped {
 pub struct Shown;
 
 impl Lesson<SweepItem, PassView> for Shown {
-    ghost fact = { IsShown };
+    ghost fact = { IsQueueShown };
 }
 
 /// How the first pass is split, and how another is joined into it. Our own.
 pub struct Seating;
 
 impl Split<PassView> for Seating {
-    ghost left = { with_split_view };
+    ghost left = { split_pass_view };
 
-    ghost right = { new_view };
+    ghost right = { new_pass_view };
 }
 
 impl Join<PassView> for Seating {
-    ghost both = { joined_view };
+    ghost both = { joined_pass_view };
 
-    ghost spent = { spent_view };
+    ghost spent = { spent_pass_view };
 }

@@ -5,7 +5,7 @@ ghost use Rattle.std.specs.Prelude.{◌≡◌, ◌≢◌};
 ghost use Rattle.std.specs.Process.{exit_status};
 ghost use Rattle.std.specs.IoError.{error_kind};
 ghost use Rattle.shr_process.specs.Ending.{IsStatusNumber};
-ghost use Rattle.shr_tool.specs.Statuses.{number_of};
+ghost use Rattle.shr_tool.specs.Statuses.{status_number};
 
 use shr_outside::outside::Gate;
 use shr_outside::sinks::StdSink;
@@ -77,7 +77,7 @@ fn show_forms(rt: &HostRuntime) {
 
 // What the process ends with where `top` ended so.
 fn exit_of(status: Status) -> ExitCode
-    ensures { exit_status result ≡ number_of status }
+    ensures { exit_status result ≡ status_number status }
 {
     ExitCode::from(status.number())
 }

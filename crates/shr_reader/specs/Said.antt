@@ -4,7 +4,7 @@ use Rattle.shr_model.specs.Pieces.{left}
 use Rattle.shr_report.specs.ReadWords.{first_of, later, is_none, n0, n1, n2}
 use Rattle.shr_report.specs.ReadLines.{WalkHead, read_reply, read_found, read_group, read_cache, read_pool, read_tree, read_attempt, read_map, read_walk, read_amount, read_list, read_bit, read_use, read_lookups, read_entry, read_item, read_pass_line, read_plain, read_isolation, read_units_name, read_plain_entry, read_units, read_pool_amount}
 use Rattle.shr_report.specs.WellFormed.{IsNumbered, IsBitWord, IsPoolNumbered, IsTreeNumbered}
-use Rattle.shr_report.specs.Numbers.{IsShort, IsCount, IsReplyNumbered, IsFindNumbered, IsAttemptNumbered, IsSeenNumbered, IsWalkedNumbered, IsEntryNumbered, IsObjectNumbered, IsMapNumbered, IsAmountNumbered, IsUseNumbered, IsIsolateEndNumbered, IsTryNumbered, IsPlainAnswerNumbered, IsPlainEntryNumbered}
+use Rattle.shr_report.specs.Numbers.{IsShort, IsCountNumber, IsReplyNumbered, IsFindNumbered, IsAttemptNumbered, IsSeenNumbered, IsWalkedNumbered, IsEntryNumbered, IsObjectNumbered, IsMapNumbered, IsAmountNumbered, IsUseNumbered, IsIsolateEndNumbered, IsTryNumbered, IsPlainAnswerNumbered, IsPlainEntryNumbered}
 use Rattle.shr_reader.specs.declared.kinds.Kind.{Kind}
 use Rattle.shr_reader.specs.declared.kinds.Kind.TheVariants as kind
 use Rattle.shr_reader.specs.declared.kinds.PlainKind.{PlainKind}
@@ -66,8 +66,8 @@ either_kind (Some k) other = Some (kind.Plain k)
 either_kind None other = other
 
 -- the kind of a line that begins with this word, if one does
-abbrev pub kind_of : List ℕ → Option Kind
-kind_of w = either_kind (plain_kind_of w) (within_kind_of w)
+abbrev pub line_kind : List ℕ → Option Kind
+line_kind w = either_kind (plain_kind_of w) (within_kind_of w)
 
 -- the head of a walk in the code's words
 abbrev pub head_of : WalkHead → Head
@@ -123,7 +123,7 @@ said_of (kind.Plain k) version first ws = plain_said k version ws
 
 -- what a line says in a report of a version, if it is of a kind
 abbrev pub read_line : ℕ → List ℕ → Option Said
-read_line version line = option_map (λ k. said_of k version (first_of (left 32 (Some line))) (later (left 32 (Some line)))) (kind_of (first_of (left 32 (Some line))))
+read_line version line = option_map (λ k. said_of k version (first_of (left 32 (Some line))) (later (left 32 (Some line)))) (line_kind (first_of (left 32 (Some line))))
 
 -- the numbers of a walk's head have the ranges of their types
 pub record IsHeadNumbered (h : Head) : Type 0 where
@@ -141,16 +141,16 @@ pub record IsPlainHeadNumbered (w : PlainHead) : Type 0 where
 -- those of an isolation
 pub record IsIsolationHeadNumbered (i : IsolationHead) : Type 0 where
   pub place : IsNumbered i.place
-  pub budget : IsCount i.budget
-  pub visits : IsCount i.visits
-  pub freed : IsCount i.freed
+  pub budget : IsCountNumber i.budget
+  pub visits : IsCountNumber i.visits
+  pub freed : IsCountNumber i.freed
   pub ending : IsIsolateEndNumbered i.ending
 
 -- those of a pool on a node
 pub record AreUnitsHeadNumbered (u : UnitsHead) : Type 0 where
   pub pool : u.pool < 2 ^ 8
   pub node : u.node < 2 ^ 8
-  pub free : IsCount u.free
+  pub free : IsCountNumber u.free
 
 -- the numbers of what a line says have the ranges of their types
 abbrev pub IsSaidNumbered : Said → Type 0
@@ -179,7 +179,7 @@ IsSaidNumbered (said.Bit map) = IsMapNumbered map
 IsSaidNumbered (said.Deferred amount) = IsAmountNumbered amount
 IsSaidNumbered (said.PoolDeferred amount) = IsAmountNumbered amount
 IsSaidNumbered (said.Use step) = IsUseNumbered step
-IsSaidNumbered (said.Lookups lookups) = IsCount lookups
+IsSaidNumbered (said.Lookups lookups) = IsCountNumber lookups
 IsSaidNumbered (said.Totals added freed listed) = IsBitWord added × IsBitWord freed × IsBitWord listed
 IsSaidNumbered said.End = Unit {0}
 

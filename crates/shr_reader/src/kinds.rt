@@ -1,7 +1,7 @@
 //! The kinds of a report's lines, by their first words.
 
 ghost use Rattle.std.specs.Prelude.{◌≡◌};
-ghost use Rattle.shr_reader.specs.Said.{kind_of, plain_kind_of, within_kind_of, is_entry, is_unit};
+ghost use Rattle.shr_reader.specs.Said.{line_kind, plain_kind_of, within_kind_of, is_entry, is_unit};
 
 /// A kind of lines whose values take no memory. Our own.
 #[derive(Clone, Copy, Debug, PartialEq, Eq)]
@@ -143,7 +143,7 @@ fn plain_kind_of(word: &[u8]) -> Option<PlainKind>
 
 /// The kind of a line that begins with this word. None: no line does. Our own.
 pub fn kind_of(word: &[u8]) -> Option<Kind>
-    ensures { result ≡ kind_of word.now }
+    ensures { result ≡ line_kind word.now }
 {
     match plain_kind_of(word) {
         Some(kind) => Some(Kind::Plain(kind)),

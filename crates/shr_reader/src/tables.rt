@@ -3,7 +3,7 @@
 
 ghost use Rattle.std.specs.Prelude.{◌≡◌, ◌<◌, ◌^◌, [], IfSome, IfNone};
 ghost use Rattle.shr_report.specs.ReadLines.{read_amount, read_bit, read_use, read_lookups, read_found};
-ghost use Rattle.shr_report.specs.Numbers.{IsCount, IsMapNumbered, IsAmountNumbered, IsUseNumbered, IsFindNumbered};
+ghost use Rattle.shr_report.specs.Numbers.{IsCountNumber, IsMapNumbered, IsAmountNumbered, IsUseNumbered, IsFindNumbered};
 ghost use Rattle.shr_words.specs.Classes.{words_left};
 
 use crate::spent::{place, serial};
@@ -79,7 +79,7 @@ pub fn use_step(rest: Option<&[u8]>) -> Option<UseStep>
 /// bits. Our own.
 pub fn lookups(rest: Option<&[u8]>) -> Option<u32>
     ensures some { IfSome result (λ n. n ≡ read_lookups [] (words_left rest.entry)) }
-    ensures none { IfNone result (IsCount (read_lookups [] (words_left rest.entry)) → ⊥) }
+    ensures none { IfNone result (IsCountNumber (read_lookups [] (words_left rest.entry)) → ⊥) }
 {
     let (_, rest) = word(rest);
     let (lookups, _) = word(rest);

@@ -1,22 +1,9 @@
 -- How often walks and tries call to charge and to uncharge.
-use Rattle.std.proofs.Common.{◌≡◌, ℕ, zero, suc, ◌+◌, ◌^◌, ◌<◌, List, [], ◌∷◌, length, Bool, true, false, refl, ap, subst, ◌∙◌, ⊎_elim, arith}
-use Rattle.std.specs.Prelude.{◌||◌, cond, nat_le, Some, None}
+use Rattle.shr_reclaim.proofs.Common.{◌≡◌, ℕ, zero, suc, ◌+◌, ◌^◌, ◌<◌, List, [], ◌∷◌, length, Bool, true, false, refl, ap, subst, ◌∙◌, ⊎_elim, arith, cond, Some, None, Serial, WalkAnswer, ChargeAnswer, Uses, Shared, Walk, OneGives, WorkerState, Work, Does, WalkGives, RootGives, WalkMade, RootMade, IsWalked, IsRootWalked, Visit, AreVisited, walk_for, IsChargeTried, charge_work, ◌||◌, nat_le, counted, spent_by}
 use Rattle.std.proofs.lemmas.Bool.Decides.{nat_tests}
-use Rattle.shr_base.specs.declared.places.Serial.{Serial}
 use Rattle.shr_base.specs.declared.replies.Spent.{Spent}
 use Rattle.shr_base.specs.declared.replies.Spent.TheVariants as spent
-use Rattle.shr_charge.specs.Seat.{counted, spent_by}
-use Rattle.shr_base.specs.declared.walks.WalkAnswer.{WalkAnswer}
 use Rattle.shr_base.specs.declared.walks.WalkAnswer.TheVariants as answered
-use Rattle.shr_charge.specs.declared.answers.ChargeAnswer.{ChargeAnswer}
-use Rattle.shr_charge.specs.Views.{Uses}
-use Rattle.shr_walk.specs.declared.seats.Shared.{Shared}
-use Rattle.shr_walk.specs.declared.walking.Walk.{Walk}
-use Rattle.shr_walk.specs.Balances.{OneGives}
-use Rattle.shr_walk.specs.State.{WorkerState, Work, Does}
-use Rattle.shr_walk.specs.Walked.{WalkGives, RootGives, WalkMade, RootMade, IsWalked, IsRootWalked}
-use Rattle.shr_reclaim.specs.Rounds.{Visit, AreVisited, walk_for}
-use Rattle.shr_reclaim.specs.Trying.{IsTried, charge_work}
 
 -- so many calls to charge were made, and those to uncharge stay few
 pub record Calls (n : ℕ) (s t : WorkerState) : Type 0 where
@@ -69,7 +56,7 @@ visited_calls x by [] s t same = subst (λ (r : WorkerState). Calls 0 s r) same 
 visited_calls x by (v ∷ vs) s t walked = calls_then 0 0 s v.after t (one_calls x (walk_for by (length s.walks) v.job) v.job.group refl v.answer s v.after walked.0) (visited_calls x by vs v.after t walked.1)
 
 -- a try is one charge
-pub tried_calls : (x : Shared) (by : Serial) (group : ℕ) (a : ChargeAnswer) (s t : WorkerState) → IsTried x by group a s t → Calls 1 s t
+pub tried_calls : (x : Shared) (by : Serial) (group : ℕ) (a : ChargeAnswer) (s t : WorkerState) → IsChargeTried x by group a s t → Calls 1 s t
 tried_calls x by group a s t h = calls_of 1 s t (charge_work h.ops) h.does refl
 
 not_reached : (a b : Bool) (x : Spent) → cond (a || b) (Some x) None ≡ None → a ≡ false

@@ -1,3 +1,4 @@
+mod Common
 pub mod Visiting
 pub mod Rounding
 pub mod Calling

@@ -1,18 +1,8 @@
 -- What tries and walks charge and take back in each group, and how often a group refuses.
-use Rattle.std.proofs.Common.{◌≡◌, ℕ, ◌+◌, List, [], ◌∷◌, ◌++◌, map, cond, Bool, true, false, refl, sym, ap, subst, ◌∙◌, arith}
-use Rattle.std.specs.Prelude.{All, count_by, not, ◌&&◌, ◌==◌, int_lt, pos, Option, Some, None}
-use Rattle.std.proofs.Common.{T}
-use Rattle.std.proofs.lemmas.List.Elements.{All-head, All-tail}
+use Rattle.shr_reclaim.proofs.Common.{◌≡◌, ℕ, ◌+◌, List, [], ◌∷◌, ◌++◌, map, cond, Bool, true, false, refl, sym, ap, subst, ◌∙◌, arith, All, ◌==◌, Option, Some, None, All-head, All-tail, UseStep, Serial, path_of, Shape, AreDowns, ChargeOps, IsDown, IsUp, use_group, path_to, ups_at, count_by, not, ◌&&◌, int_lt, pos, T, IsOverLimit, shape_limit, downs_at}
 use Rattle.std.proofs.lemmas.List.Sums.{sum_by-append, sum_by-cons}
-use Rattle.shr_base.specs.declared.journals.UseStep.{UseStep}
-use Rattle.shr_base.specs.declared.places.Serial.{Serial}
 use Rattle.shr_model.specs.Charges.{IsBelow, is_refused}
-use Rattle.shr_model.specs.Groups.{path_of}
 use Rattle.shr_charge.specs.declared.answers.ChargeAnswer.TheVariants as charge
-use Rattle.shr_seats.specs.declared.shape.Shape.{Shape}
-use Rattle.shr_charge.specs.Charging.{AreDowns, ChargeOps, IsDown, IsOver, IsUp, group_of, limit_of}
-use Rattle.shr_charge.specs.Paths.{path_to}
-use Rattle.shr_charge.specs.Uses.{ups_at, downs_at}
 use Rattle.shr_model.proofs.Booleans.{is_true}
 use Rattle.shr_model.proofs.PoolLaws.{and_false}
 
@@ -36,9 +26,9 @@ count_none p [] h = refl
 count_none p (o ∷ ops) h = let first = count_first p o ops in let here = All-head (λ (y : UseStep). p y ≡ false) o ops h in let others = count_none p ops (All-tail (λ (y : UseStep). p y ≡ false) o ops h) in
     let one : ◌≡◌ {A = ℕ} (cond (p o) 1 0) 0 = ap (λ (b : Bool). cond b 1 0) here in omega (arith, first, one, others)
 
-count_same : (p : UseStep → Bool) (g : ℕ) (ops : List UseStep) → All (λ (o : UseStep). p o ≡ (o.group == g)) ops → count_by p ops ≡ times_of g (map group_of ops)
+count_same : (p : UseStep → Bool) (g : ℕ) (ops : List UseStep) → All (λ (o : UseStep). p o ≡ (o.group == g)) ops → count_by p ops ≡ times_of g (map use_group ops)
 count_same p g [] h = refl
-count_same p g (o ∷ ops) h = let first = count_first p o ops in let second = count_first (λ j. j == g) o.group (map group_of ops) in
+count_same p g (o ∷ ops) h = let first = count_first p o ops in let second = count_first (λ j. j == g) o.group (map use_group ops) in
     let here = All-head (λ (y : UseStep). p y ≡ (y.group == g)) o ops h in let others = count_same p g ops (All-tail (λ (y : UseStep). p y ≡ (y.group == g)) o ops h) in
     let one : ◌≡◌ {A = ℕ} (cond (p o) 1 0) (cond (o.group == g) 1 0) = ap (λ (b : Bool). cond b 1 0) here in omega (arith, first, second, one, others)
 
@@ -71,7 +61,7 @@ down_not (Some l) o down = ap (λ (b : Bool). b && not (int_lt o.found (pos l)))
 
 -- an operation of this group was refused there
 abbrev pub refused_at : Shape → ℕ → UseStep → Bool
-refused_at k g o = is_refused (limit_of k o.group) o && (o.group == g)
+refused_at k g o = is_refused (shape_limit k o.group) o && (o.group == g)
 
 -- so many ups, so many downs and so many refused ups in a group
 pub record Nets (k : Shape) (g : ℕ) (ops : List UseStep) (ups downs refusals : ℕ) : Type 0 where
@@ -94,21 +84,21 @@ module _ (k : Shape) (g : ℕ) where
   nets_downs by groups ops h = record {
     up = count_none (λ (o : UseStep). (o.group == g) && o.up) ops (all_so (IsDown by) (λ (o : UseStep). ((o.group == g) && o.up) ≡ false) ops (λ o d. ap (λ (b : Bool). (o.group == g) && b) d.down ∙ and_false (o.group == g)) h.each);
     down = count_same (λ (o : UseStep). (o.group == g) && not o.up) g ops (all_so (IsDown by) (λ (o : UseStep). ((o.group == g) && not o.up) ≡ (o.group == g)) ops (λ o d. ap (λ (b : Bool). (o.group == g) && not b) d.down ∙ and_true (o.group == g)) h.each) ∙ ap (times_of g) h.at;
-    refused = count_none (refused_at k g) ops (all_so (IsDown by) (λ (o : UseStep). refused_at k g o ≡ false) ops (λ o d. ap (λ (b : Bool). b && (o.group == g)) (down_not (limit_of k o.group) o d.down)) h.each);
+    refused = count_none (refused_at k g) ops (all_so (IsDown by) (λ (o : UseStep). refused_at k g o ≡ false) ops (λ o d. ap (λ (b : Bool). b && (o.group == g)) (down_not (shape_limit k o.group) o d.down)) h.each);
   }
 
-  nets_ups : (by : Serial) (ops : List UseStep) → All (IsUp k by) ops → Nets k g ops (times_of g (map group_of ops)) 0 0
+  nets_ups : (by : Serial) (ops : List UseStep) → All (IsUp k by) ops → Nets k g ops (times_of g (map use_group ops)) 0 0
   nets_ups by ops h = record {
     up = count_same (λ (o : UseStep). (o.group == g) && o.up) g ops (all_so (IsUp k by) (λ (o : UseStep). ((o.group == g) && o.up) ≡ (o.group == g)) ops (λ o u. ap (λ (b : Bool). (o.group == g) && b) u.up ∙ and_true (o.group == g)) h);
     down = count_none (λ (o : UseStep). (o.group == g) && not o.up) ops (all_so (IsUp k by) (λ (o : UseStep). ((o.group == g) && not o.up) ≡ false) ops (λ o u. ap (λ (b : Bool). (o.group == g) && not b) u.up ∙ and_false (o.group == g)) h);
-    refused = count_none (refused_at k g) ops (all_so (IsUp k by) (λ (o : UseStep). refused_at k g o ≡ false) ops (λ o u. ap (λ (b : Bool). b && (o.group == g)) (below_not (limit_of k o.group) o u.below)) h);
+    refused = count_none (refused_at k g) ops (all_so (IsUp k by) (λ (o : UseStep). refused_at k g o ≡ false) ops (λ o u. ap (λ (b : Bool). b && (o.group == g)) (below_not (shape_limit k o.group) o u.below)) h);
   }
 
-  nets_over : (by : Serial) (o : UseStep) → IsOver k by o → Nets k g (o ∷ []) (times_of g (o.group ∷ [])) 0 (times_of g (o.group ∷ []))
+  nets_over : (by : Serial) (o : UseStep) → IsOverLimit k by o → Nets k g (o ∷ []) (times_of g (o.group ∷ [])) 0 (times_of g (o.group ∷ []))
   nets_over by o h = record {
     up = ap (λ (b : Bool). 0 + cond b 1 0) (ap (λ (b : Bool). (o.group == g) && b) h.up ∙ and_true (o.group == g));
     down = ap (λ (b : Bool). 0 + cond b 1 0) (ap (λ (b : Bool). (o.group == g) && not b) h.up ∙ and_false (o.group == g));
-    refused = ap (λ (b : Bool). 0 + cond (b && (o.group == g)) 1 0) (over_is (limit_of k o.group) o h.up h.above);
+    refused = ap (λ (b : Bool). 0 + cond (b && (o.group == g)) 1 0) (over_is (shape_limit k o.group) o h.up h.above);
   }
 
   -- the ups and downs of a try that was refused are as many, and one up was refused, in the group that it names
@@ -117,7 +107,7 @@ module _ (k : Shape) (g : ℕ) where
   nets_refused by group level number usage ops h = let way = path_to k.parents.items group level in
       let front = nets_ups by h.ups h.below in let one = nets_over by h.over h.refused in let back = nets_downs by way h.downs h.taken_back in
       let all = nets_then h.ups (h.over ∷ h.downs) _ _ _ _ _ _ front (nets_then (h.over ∷ []) h.downs _ _ _ _ _ _ one back) in
-      let whole : times_of g (map group_of h.ups) + times_of g (h.over.group ∷ []) ≡ times_of g way = sym (count_both (λ j. j == g) (map group_of h.ups) (h.over.group ∷ [])) ∙ ap (times_of g) h.levels in
+      let whole : times_of g (map use_group h.ups) + times_of g (h.over.group ∷ []) ≡ times_of g way = sym (count_both (λ j. j == g) (map use_group h.ups) (h.over.group ∷ [])) ∙ ap (times_of g) h.levels in
       let here : times_of g (h.over.group ∷ []) ≡ times_of g (level ∷ []) = ap (λ (j : ℕ). times_of g (j ∷ [])) h.here in
       subst (λ (l : List UseStep). Nets k g l (times_of g way) (times_of g way) (times_of g (level ∷ []))) (sym h.whole)
       record { up = let u = all.up in omega (arith, u, whole); down = let d = all.down in omega (arith, d); refused = let r = all.refused in omega (arith, r, here) }

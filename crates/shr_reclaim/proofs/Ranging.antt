@@ -1,19 +1,9 @@
 -- The jobs of a round, node by node.
-use Rattle.std.proofs.Common.{◌≡◌, ℕ, ◌+◌, ◌<◌, List, [], ◌∷◌, ◌++◌, length, take, drop, get_or, false, sym, ap, ◌∙◌, arith}
-use Rattle.std.specs.Prelude.{flat_map, All}
+use Rattle.shr_reclaim.proofs.Common.{◌≡◌, ℕ, ◌+◌, ◌<◌, List, [], ◌∷◌, ◌++◌, length, take, drop, get_or, false, sym, ap, ◌∙◌, arith, flat_map, All, flat_map-append, map-append, append-nil, take-append-drop, IsTree, preorder_of, Job, job, shape_of, Shared, jobs_on, due_in, take_more, take_all, Contains-get_or}
 use Rattle.std.specs.List.{range_with_len}
-use Rattle.std.proofs.lemmas.Grind.{flat_map-append}
-use Rattle.std.proofs.lemmas.List.{map-append, append-nil, take_more, take_all, take-append-drop}
-use Rattle.std.proofs.lemmas.List.Elements.{Contains-get_or}
 use Rattle.std.proofs.lemmas.List.FromFn.{length-range_with_len, get_or-range_with_len}
-use Rattle.shr_model.specs.Groups.{IsTree, preorder_of}
 use Rattle.shr_model.proofs.GroupsOrder.{preorder_of-on}
 use Rattle.shr_model.proofs.Members.{Has_from_Contains}
-use Rattle.shr_model.specs.Walks.{Job, job}
-use Rattle.shr_core.specs.Seats.{shape_of}
-use Rattle.shr_walk.specs.declared.seats.Shared.{Shared}
-use Rattle.shr_reclaim.specs.Looping.{jobs_on}
-use Rattle.shr_reclaim.specs.Rounds.{due_in}
 
 abbrev nodes_of : Shared → List ℕ
 nodes_of x = range_with_len 0 (shape_of x.core).nodes

@@ -1,25 +1,10 @@
 -- Laws of a whole charge with its reclaim, for the layers above.
-use Rattle.std.proofs.Common.{◌≡◌, ℕ, ◌+◌, ◌-◌, ◌≤◌, List, [], ◌∷◌, ◌++◌, length, map, drop, refl, sym, ap, subst, ◌∙◌, ⊎_elim, arith, append_assoc}
-use Rattle.std.specs.Prelude.{All, ◌<◌, flat_map}
+use Rattle.shr_reclaim.proofs.Common.{◌≡◌, ℕ, ◌+◌, ◌-◌, ◌≤◌, List, [], ◌∷◌, ◌++◌, length, map, drop, refl, sym, ap, subst, ◌∙◌, ⊎_elim, arith, append_assoc, All, ◌<◌, flat_map, map-append, append-nil, length-map, Serial, IsAtOrAbove, path_of, IsPrefixOf, Job, shape_of, ChargeAnswer, path_to, ups_at, Shared, shared_parents, paths_of, objects_freed, WorkerState, Work, then_work, Does, does_then, Visit, Round, AreVisited, AreRounds, VisitHadMemory, TriesInRounds, WalksFirst, due_in, job_in, IsChargeTried, charge_work}
 use Rattle.std.specs.List.{AllByRecursion}
-use Rattle.std.proofs.lemmas.List.{map-append, append-nil, length-map, length-append}
-use Rattle.shr_base.specs.declared.places.Serial.{Serial}
+use Rattle.std.proofs.lemmas.List.{length-append}
 use Rattle.shr_model.specs.Commands.{rounds_from}
-use Rattle.shr_model.specs.Groups.{IsAtOrAbove, path_of}
-use Rattle.shr_model.specs.Prefixes.{IsPrefixOf}
-use Rattle.shr_model.specs.Walks.{Job}
-use Rattle.shr_core.specs.Seats.{shape_of}
-use Rattle.shr_charge.specs.declared.answers.ChargeAnswer.{ChargeAnswer}
 use Rattle.shr_charge.specs.declared.answers.ChargeAnswer.TheVariants as charge
-use Rattle.shr_charge.specs.Paths.{path_to}
-use Rattle.shr_charge.specs.Uses.{ups_at}
 use Rattle.shr_charge.proofs.Ways.{way_whole}
-use Rattle.shr_walk.specs.declared.seats.Shared.{Shared}
-use Rattle.shr_walk.specs.Keeping.{parents_of, paths_of, freed_in}
-use Rattle.shr_walk.specs.State.{WorkerState, Work, then_work, Does}
-use Rattle.shr_walk.proofs.Doing.{does_then}
-use Rattle.shr_reclaim.specs.Rounds.{Visit, Round, AreVisited, AreRounds, HadRoom, TriesInRounds, WalksFirst, due_in, job_in}
-use Rattle.shr_reclaim.specs.Trying.{IsTried, charge_work}
 use Rattle.shr_reclaim.proofs.Netting.{Nets, nets_then, nets_downs, nets_refused, nets_charged, times_of, times_both}
 use Rattle.shr_reclaim.proofs.Refusing.{refused_above, way_few, way_once}
 use Rattle.shr_reclaim.proofs.Recorded.{Told, Walked, told_of, told_in, freed_then, visit_once, visited_walked, walked_then}
@@ -51,7 +36,7 @@ pub record Reclaims (x : Shared) (by : Serial) (group : ℕ) (told : List Told) 
   pub does : Does s t w
   pub charges : w.charges ≡ tries
   pub records : map told_of w.walks ≡ told
-  pub nets : (g : ℕ) → Nets x.charge.shape g w.ops (taken_of x group over g + times_of g kept) (taken_of x group over g + times_of g (paths_of (parents_of x) (freed_in w.core.made))) (times_of g over)
+  pub nets : (g : ℕ) → Nets x.charge.shape g w.ops (taken_of x group over g + times_of g kept) (taken_of x group over g + times_of g (paths_of (shared_parents x) (objects_freed w.core.made))) (times_of g over)
   -- in each group an up is taken back before the next one, and the last one where no charge stands
   pub ways : (g : ℕ) → (kept ≡ [] → Closes (ways_at g w.ops)) × Settles (ways_at g w.ops)
 
@@ -62,14 +47,14 @@ module _ (x : Shared) (by : Serial) (group : ℕ) (there : group < length x.char
     does = h.does;
     charges = h.charges;
     records = h.records;
-    nets = λ g. let n = nets_downs x.charge.shape g by (paths_of (parents_of x) (freed_in h.w.core.made)) h.w.ops h.downs in record { up = n.up; down = let d = n.down in omega (arith, d); refused = n.refused };
-    ways = λ g. let closes = downs_close x.charge.shape by group g (paths_of (parents_of x) (freed_in h.w.core.made)) h.w.ops h.downs in ((λ none. closes), closed_settles (ways_at g h.w.ops) closes);
+    nets = λ g. let n = nets_downs x.charge.shape g by (paths_of (shared_parents x) (objects_freed h.w.core.made)) h.w.ops h.downs in record { up = n.up; down = let d = n.down in omega (arith, d); refused = n.refused };
+    ways = λ g. let closes = downs_close x.charge.shape by group g (paths_of (shared_parents x) (objects_freed h.w.core.made)) h.w.ops h.downs in ((λ none. closes), closed_settles (ways_at g h.w.ops) closes);
   }
 
   path_few : (g : ℕ) → times_of g (path_of x.charge.shape.parents.items group) ≤ 1
   path_few g = let one = way_few x.charge.shape.parents.items x.charge.tree 0 g group there in let whole = ap (times_of g) (way_whole x.charge.shape.parents.items group) in omega (arith, one, whole)
 
-  pub of_try : (a : ChargeAnswer) (s t : WorkerState) → IsTried x by group a s t → Reclaims x by group [] 1 (over_of a) (kept_of x group a) s t
+  pub of_try : (a : ChargeAnswer) (s t : WorkerState) → IsChargeTried x by group a s t → Reclaims x by group [] 1 (over_of a) (kept_of x group a) s t
   of_try charge.Charged s t h = record {
     w = charge_work h.ops;
     does = h.does;
@@ -88,7 +73,7 @@ module _ (x : Shared) (by : Serial) (group : ℕ) (there : group < length x.char
   }
 
   pub reclaims_then : (a b : List Told) (m n : ℕ) (over more kept : List ℕ) (s t u : WorkerState) → Reclaims x by group a m over [] s t → Reclaims x by group b n more kept t u → Reclaims x by group (a ++ b) (m + n) (over ++ more) kept s u
-  reclaims_then a b m n over more kept s t u p q = let freed = λ (w : Work). paths_of (parents_of x) (freed_in w.core.made) in record {
+  reclaims_then a b m n over more kept s t u p q = let freed = λ (w : Work). paths_of (shared_parents x) (objects_freed w.core.made) in record {
     w = then_work p.w q.w;
     does = does_then s t u p.w q.w p.does q.does;
     charges = let c = p.charges in let d = q.charges in omega (arith, c, d);
@@ -205,11 +190,11 @@ pub record CutWalked (x : Shared) (by : Serial) (jobs : List Job) (s t : WorkerS
   pub first : IsPrefixOf (map job_told told) jobs
 
 module _ (x : Shared) (by : Serial) (jobs : List Job) where
-  all_recorded : (walks : List Visit) (s t : WorkerState) → AreVisited x by walks s t → All HadRoom walks → IsPrefixOf (map job_in walks) jobs → CutWalked x by jobs s t
+  all_recorded : (walks : List Visit) (s t : WorkerState) → AreVisited x by walks s t → All VisitHadMemory walks → IsPrefixOf (map job_in walks) jobs → CutWalked x by jobs s t
   all_recorded walks s t visited had first = record { told = map (told_in by) walks; walked = visited_walked x by walks s t visited had; first = subst (λ l. IsPrefixOf l jobs) (sym (jobs_told by walks)) first }
 
   -- the last walk was recorded, or did nothing
-  last_recorded : (front : List Visit) (v : Visit) (s t : WorkerState) → AreVisited x by (front ++ v ∷ []) s t → All HadRoom front → IsPrefixOf (map job_in (front ++ v ∷ [])) jobs → CutWalked x by jobs s t
+  last_recorded : (front : List Visit) (v : Visit) (s t : WorkerState) → AreVisited x by (front ++ v ∷ []) s t → All VisitHadMemory front → IsPrefixOf (map job_in (front ++ v ∷ [])) jobs → CutWalked x by jobs s t
   last_recorded front v s t visited had first = let parts = visited_parts x by front (v ∷ []) s t visited in let u = parts.0 in let before = parts.1 in let one = parts.2.0 in let same = parts.2.1 in
       let walked = visited_walked x by front s u before had in
       let once = visit_once x by v u one in
@@ -240,7 +225,7 @@ IsAbove x group charge.Charged = Unit {0}
 IsAbove x group (charge.Over level operation usage) = IsAtOrAbove x.charge.shape.parents.items level group
 
 module _ (x : Shared) (by : Serial) (group : ℕ) (there : group < length x.charge.shape.parents.items) where
-  tried_above : (a : ChargeAnswer) (s t : WorkerState) → IsTried x by group a s t → IsAbove x group a
+  tried_above : (a : ChargeAnswer) (s t : WorkerState) → IsChargeTried x by group a s t → IsAbove x group a
   tried_above charge.Charged s t h = tt
   tried_above (charge.Over level operation usage) s t h = refused_above x.charge.shape by group level operation usage h.ops x.charge.tree there h.made
 

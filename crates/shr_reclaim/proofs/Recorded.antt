@@ -1,51 +1,33 @@
 -- What the whole of a charge with its reclaim adds to a worker's state.
-use Rattle.std.proofs.Common.{◌≡◌, ℕ, zero, suc, ◌<◌, List, [], ◌∷◌, ◌++◌, length, map, Bool, true, false, refl, sym, ap, subst, ◌∙◌, ◌⊎◌, inl, inr, ⊎_elim, arith}
-use Rattle.std.specs.Prelude.{All, Option}
-use Rattle.std.proofs.lemmas.Grind.{flat_map-append}
-use Rattle.std.proofs.lemmas.List.{map-append}
-use Rattle.std.proofs.lemmas.List.Elements.{All-nil, All-append, All-head, All-tail}
-use Rattle.shr_base.specs.declared.journals.UseStep.{UseStep}
+use Rattle.shr_reclaim.proofs.Common.{◌≡◌, ℕ, zero, suc, ◌<◌, List, [], ◌∷◌, ◌++◌, length, map, Bool, true, false, refl, sym, ap, subst, ◌∙◌, inl, inr, ⊎_elim, arith, All, Option, flat_map-append, map-append, All-nil, All-append, All-head, All-tail, UseStep, Serial, WalkAnswer, path_of, Job, AreDowns, IsDown, use_group, Shared, Walk, OneGives, lacked_memory, shared_parents, paths_of, objects_freed, WorkerState, Work, no_work, then_work, Does, WalkGives, RootGives, WalkMade, RootMade, IsWalked, IsRootWalked, does_none, does_then, Visit, IsVisited, AreVisited, VisitHadMemory, walk_for, ◌⊎◌, job_of, WalkParts, IsRecordOf, AreParts, parts_of}
 use Rattle.shr_base.specs.declared.objects.Object.{Object}
-use Rattle.shr_base.specs.declared.places.Serial.{Serial}
 use Rattle.shr_base.specs.declared.walks.Attempt.{Attempt}
 use Rattle.shr_base.specs.declared.walks.Outcome.{Outcome}
 use Rattle.shr_base.specs.declared.walks.Outcome.TheVariants as outcome
-use Rattle.shr_base.specs.declared.walks.WalkAnswer.{WalkAnswer}
 use Rattle.shr_base.specs.declared.walks.WalkAnswer.TheVariants as answered
 use Rattle.shr_base.specs.declared.walks.MapSeen.{MapSeen}
 use Rattle.shr_base.specs.declared.walks.WalkRecord.{WalkRecord}
 use Rattle.shr_base.specs.declared.ends.LookupWord.{LookupWord}
-use Rattle.shr_model.specs.Groups.{path_of}
-use Rattle.shr_model.specs.Walks.{Job, job_of}
 use Rattle.shr_core.specs.Parts.{Made, Loaded}
-use Rattle.shr_charge.specs.Charging.{AreDowns, IsDown, group_of}
-use Rattle.shr_walk.specs.declared.seats.Shared.{Shared}
-use Rattle.shr_walk.specs.declared.walking.Walk.{Walk}
 use Rattle.shr_walk.specs.Attempts.{Found, MadeNone}
-use Rattle.shr_walk.specs.Balances.{OneGives, lacked_memory}
-use Rattle.shr_walk.specs.Keeping.{parents_of, paths_of, freed_in}
-use Rattle.shr_walk.specs.State.{WorkerState, Work, no_work, then_work, Does}
-use Rattle.shr_walk.specs.Walked.{Parts, IsRecordOf, AreParts, parts_of, WalkGives, RootGives, WalkMade, RootMade, IsWalked, IsRootWalked}
-use Rattle.shr_walk.proofs.Doing.{does_none, does_then}
 use Rattle.shr_model.specs.Items.{freed_by}
-use Rattle.shr_reclaim.specs.Rounds.{Visit, IsVisited, AreVisited, HadRoom, walk_for}
 
 -- ---- the downs of walks: one for each object that was freed, on each level from its birth up
 
 -- these entries freed objects, and these operations uncharged them
 abbrev pub AreUncharged : Shared → Serial → List Made → List UseStep → Type 0
-AreUncharged x by made ops = AreDowns by (paths_of (parents_of x) (freed_in made)) ops
+AreUncharged x by made ops = AreDowns by (paths_of (shared_parents x) (objects_freed made)) ops
 
-pub freed_then : (x : Shared) (m n : List Made) → paths_of (parents_of x) (freed_in (m ++ n)) ≡ paths_of (parents_of x) (freed_in m) ++ paths_of (parents_of x) (freed_in n)
-freed_then x m n = ap (paths_of (parents_of x)) (flat_map-append (λ (y : Made). freed_by y.items y.entry) m n) ∙ flat_map-append (λ (o : Object). path_of (parents_of x) o.birth) (freed_in m) (freed_in n)
+pub freed_then : (x : Shared) (m n : List Made) → paths_of (shared_parents x) (objects_freed (m ++ n)) ≡ paths_of (shared_parents x) (objects_freed m) ++ paths_of (shared_parents x) (objects_freed n)
+freed_then x m n = ap (paths_of (shared_parents x)) (flat_map-append (λ (y : Made). freed_by y.items y.entry) m n) ∙ flat_map-append (λ (o : Object). path_of (shared_parents x) o.birth) (objects_freed m) (objects_freed n)
 
 module _ (x : Shared) (by : Serial) where
   uncharged_none : AreUncharged x by [] []
   uncharged_none = record { at = refl; each = All-nil (IsDown by) }
 
   pub uncharged_both : (m n : List Made) (a b : List UseStep) → AreUncharged x by m a → AreUncharged x by n b → AreUncharged x by (m ++ n) (a ++ b)
-  uncharged_both m n a b p q = let objects = paths_of (parents_of x) in record {
-    at = map-append group_of a b ∙ (ap (λ l. l ++ map group_of b) p.at ∙ (ap (λ l. objects (freed_in m) ++ l) q.at ∙ sym (freed_then x m n)));
+  uncharged_both m n a b p q = let objects = paths_of (shared_parents x) in record {
+    at = map-append use_group a b ∙ (ap (λ l. l ++ map use_group b) p.at ∙ (ap (λ l. objects (objects_freed m) ++ l) q.at ∙ sym (freed_then x m n)));
     each = All-append (IsDown by) a b p.each q.each;
   }
 
@@ -63,9 +45,9 @@ module _ (x : Shared) (walk : Walk) where
   found_uncharged id (outcome.RestoredSkip n one len version) first more held made ops h = h.by.downs
   found_uncharged id (outcome.RestoredRan n one p) first more held made ops h = h.by.downs
 
-  parts_uncharged : (attempts : List Attempt) (p : Parts) → AreParts x walk attempts p → AreUncharged x walk.by p.made p.ops
-  parts_uncharged [] p h = subst (λ (q : Parts). AreUncharged x walk.by q.made q.ops) (sym h) (uncharged_none x walk.by)
-  parts_uncharged (a ∷ attempts) p (q, r, both, one, others) = subst (λ (y : Parts). AreUncharged x walk.by y.made y.ops) (sym both)
+  parts_uncharged : (attempts : List Attempt) (p : WalkParts) → AreParts x walk attempts p → AreUncharged x walk.by p.made p.ops
+  parts_uncharged [] p h = subst (λ (q : WalkParts). AreUncharged x walk.by q.made q.ops) (sym h) (uncharged_none x walk.by)
+  parts_uncharged (a ∷ attempts) p (q, r, both, one, others) = subst (λ (y : WalkParts). AreUncharged x walk.by y.made y.ops) (sym both)
       (uncharged_both x walk.by q.made r.made q.ops r.ops (found_uncharged a.id a.outcome one.first one.more one.held q.made q.ops one.found) (parts_uncharged attempts r others))
 
 -- ---- a walk, and walks one after another
@@ -157,12 +139,12 @@ module _ (x : Shared) (by : Serial) where
   visit_once v s one = one_once x (walk_for by (length s.walks) v.job) v.job.group refl v.answer s v.after one
 
   -- a walk with memory was recorded
-  visit_walked : (v : Visit) (s : WorkerState) → IsVisited x by v s → HadRoom v → Walked x by (told_in by v ∷ []) s v.after
+  visit_walked : (v : Visit) (s : WorkerState) → IsVisited x by v s → VisitHadMemory v → Walked x by (told_in by v ∷ []) s v.after
   visit_walked v s one had = let h = visit_once v s one in
       ⊎_elim (λ e. subst (λ (l : List Told). Walked x by l s v.after) e h.walked) (λ none. absurd (let no : lacked_memory v.answer ≡ true = none.1 in cc)) h.once
 
   -- walks that had memory were all recorded, in order
-  pub visited_walked : (vs : List Visit) (s t : WorkerState) → AreVisited x by vs s t → All HadRoom vs → Walked x by (map (told_in by) vs) s t
+  pub visited_walked : (vs : List Visit) (s t : WorkerState) → AreVisited x by vs s t → All VisitHadMemory vs → Walked x by (map (told_in by) vs) s t
   visited_walked [] s t same had = walked_none x by s t (subst (λ (r : WorkerState). Does s r no_work) same (does_none s))
   visited_walked (v ∷ vs) s t walked had = walked_then x by (told_in by v ∷ []) (map (told_in by) vs) s v.after t
-      (visit_walked v s walked.0 (All-head HadRoom v vs had)) (visited_walked vs v.after t walked.1 (All-tail HadRoom v vs had))
+      (visit_walked v s walked.0 (All-head VisitHadMemory v vs had)) (visited_walked vs v.after t walked.1 (All-tail VisitHadMemory v vs had))

@@ -1,16 +1,9 @@
 -- The group that refuses a charge is one of the charged group's path.
-use Rattle.std.proofs.Common.{◌≡◌, ◌≢◌, ℕ, zero, suc, ◌+◌, ◌<◌, ◌≤◌, Bool, true, false, cond, List, [], ◌∷◌, ◌++◌, length, map, refl, sym, ap, subst, ◌∙◌, inl, inr, arith, eq-eqb, ne_eqb}
-use Rattle.std.specs.Prelude.{◌==◌}
+use Rattle.shr_reclaim.proofs.Common.{◌≡◌, ℕ, zero, suc, ◌+◌, ◌<◌, ◌≤◌, Bool, true, false, cond, List, [], ◌∷◌, ◌++◌, length, map, refl, sym, ap, subst, ◌∙◌, inl, inr, arith, ◌==◌, Serial, UseStep, IsTree, IsAtOrAbove, path_of, Shape, use_group, path_to, ◌≢◌, eq-eqb, ne_eqb, parent_of, IsChargeRefused}
 use Rattle.std.proofs.lemmas.Bool.Decides.{eqb_tells}
-use Rattle.shr_base.specs.declared.places.Serial.{Serial}
-use Rattle.shr_base.specs.declared.journals.UseStep.{UseStep}
-use Rattle.shr_model.specs.Groups.{IsTree, IsAtOrAbove, parent_of, path_of}
 use Rattle.shr_model.proofs.GroupsLaws.{path_of-below}
 use Rattle.shr_model.proofs.GroupsOrder.{IsOn, by_parents, on_self, on_le}
 use Rattle.shr_model.proofs.Members.{Has, Contains_from_Has}
-use Rattle.shr_seats.specs.declared.shape.Shape.{Shape}
-use Rattle.shr_charge.specs.Charging.{IsRefused, group_of}
-use Rattle.shr_charge.specs.Paths.{path_to}
 use Rattle.shr_charge.proofs.Ways.{way_here, way_root, way_up}
 use Rattle.shr_reclaim.proofs.Netting.{count_first, times_of}
 
@@ -31,11 +24,11 @@ module _ (parents : List ℕ) (tree : IsTree parents) where
       ]) g there
 
 -- the group that refused is on the path of the group that was to be charged
-pub refused_on : (k : Shape) (by : Serial) (group level number usage : ℕ) (ops : List UseStep) → IsTree k.parents.items → group < length k.parents.items → IsRefused k by group level number usage ops → IsOn k.parents.items level group
+pub refused_on : (k : Shape) (by : Serial) (group level number usage : ℕ) (ops : List UseStep) → IsTree k.parents.items → group < length k.parents.items → IsChargeRefused k by group level number usage ops → IsOn k.parents.items level group
 refused_on k by group level number usage ops tree there r = way_on k.parents.items tree level level group there
-    (subst (λ (l : List ℕ). Has l level) r.levels (subst (λ (g : ℕ). Has (map group_of r.ups ++ g ∷ []) level) (sym r.here) (has_last (map group_of r.ups) level)))
+    (subst (λ (l : List ℕ). Has l level) r.levels (subst (λ (g : ℕ). Has (map use_group r.ups ++ g ∷ []) level) (sym r.here) (has_last (map use_group r.ups) level)))
 
-pub refused_above : (k : Shape) (by : Serial) (group level number usage : ℕ) (ops : List UseStep) → IsTree k.parents.items → group < length k.parents.items → IsRefused k by group level number usage ops → IsAtOrAbove k.parents.items level group
+pub refused_above : (k : Shape) (by : Serial) (group level number usage : ℕ) (ops : List UseStep) → IsTree k.parents.items → group < length k.parents.items → IsChargeRefused k by group level number usage ops → IsAtOrAbove k.parents.items level group
 refused_above k by group level number usage ops tree there r = Contains_from_Has (path_of k.parents.items group) level (refused_on k by group level number usage ops tree there r)
 
 -- ---- a group stands once on its way

@@ -1,10 +1,5 @@
 -- Rounds one after another.
-use Rattle.std.proofs.Common.{◌≡◌, ℕ, suc, ◌-◌, List, [], ◌∷◌, ◌++◌, length, refl, sym, subst, arith}
-use Rattle.shr_base.specs.declared.places.Serial.{Serial}
-use Rattle.shr_charge.specs.declared.answers.ChargeAnswer.{ChargeAnswer}
-use Rattle.shr_walk.specs.declared.seats.Shared.{Shared}
-use Rattle.shr_walk.specs.State.{WorkerState}
-use Rattle.shr_reclaim.specs.Rounds.{Round, IsRound, AreRounds}
+use Rattle.shr_reclaim.proofs.Common.{◌≡◌, ℕ, suc, ◌-◌, List, [], ◌∷◌, ◌++◌, length, refl, sym, subst, arith, Serial, ChargeAnswer, Shared, WorkerState, Round, AreRounds, IsRound}
 
 module _ (x : Shared) (by : Serial) (group : ℕ) where
   -- one round more

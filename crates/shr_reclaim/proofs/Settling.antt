@@ -1,15 +1,6 @@
 -- In each group an up is taken back before the next one.
-use Rattle.std.proofs.Common.{◌≡◌, ℕ, zero, suc, ◌+◌, ◌≤◌, Bool, true, false, cond, List, [], ◌∷◌, ◌++◌, map, refl, sym, ap, subst, ◌∙◌, arith, append_assoc}
-use Rattle.std.specs.Prelude.{All, filter, replicate, ◌==◌}
-use Rattle.std.proofs.lemmas.List.{map-append}
-use Rattle.std.proofs.lemmas.List.Elements.{All-nil, All-append, All-cons, All-head, All-tail, filter-append}
-use Rattle.shr_base.specs.declared.journals.UseStep.{UseStep}
-use Rattle.shr_base.specs.declared.places.Serial.{Serial}
-use Rattle.shr_model.specs.Groups.{path_of}
+use Rattle.shr_reclaim.proofs.Common.{◌≡◌, ℕ, zero, suc, ◌+◌, ◌≤◌, Bool, true, false, cond, List, [], ◌∷◌, ◌++◌, map, refl, sym, ap, subst, ◌∙◌, arith, append_assoc, All, ◌==◌, map-append, All-nil, All-append, All-cons, All-head, All-tail, UseStep, Serial, path_of, Shape, AreDowns, ChargeOps, IsDown, IsUp, use_group, path_to, filter, replicate, filter-append}
 use Rattle.shr_charge.specs.declared.answers.ChargeAnswer.TheVariants as charge
-use Rattle.shr_seats.specs.declared.shape.Shape.{Shape}
-use Rattle.shr_charge.specs.Charging.{AreDowns, ChargeOps, IsDown, IsUp, group_of}
-use Rattle.shr_charge.specs.Paths.{path_to}
 use Rattle.shr_reclaim.proofs.Netting.{all_so, count_first, times_of}
 
 -- which ways the operations in a group went, in order
@@ -61,11 +52,11 @@ settles_up (suc zero) few = tt
 settles_up (suc (suc n)) few = absurd (omega (arith, few))
 
 -- operations that all went one way, in a group
-pub ways_same : (way : Bool) (g : ℕ) (ops : List UseStep) → All (λ (o : UseStep). o.up ≡ way) ops → ways_at g ops ≡ replicate (times_of g (map group_of ops)) way
+pub ways_same : (way : Bool) (g : ℕ) (ops : List UseStep) → All (λ (o : UseStep). o.up ≡ way) ops → ways_at g ops ≡ replicate (times_of g (map use_group ops)) way
 ways_same way g [] h = refl
 ways_same way g (o ∷ ops) h = let others = ways_same way g ops (All-tail (λ (y : UseStep). y.up ≡ way) o ops h) in let here = All-head (λ (y : UseStep). y.up ≡ way) o ops h in
-    let n = times_of g (map group_of ops) in
-    one (o.group == g) n others here ∙ ap (λ (m : ℕ). replicate m way) (sym (count_first (λ j. j == g) o.group (map group_of ops)))
+    let n = times_of g (map use_group ops) in
+    one (o.group == g) n others here ∙ ap (λ (m : ℕ). replicate m way) (sym (count_first (λ j. j == g) o.group (map use_group ops)))
   where
     one : (t : Bool) (n : ℕ) → ways_at g ops ≡ replicate n way → o.up ≡ way → map (λ (y : UseStep). y.up) (cond t (o ∷ filter (λ (y : UseStep). y.group == g) ops) (filter (λ (y : UseStep). y.group == g) ops)) ≡ replicate (cond {A = ℕ} t 1 0 + n) way
     one true n e up = let s : suc n ≡ 1 + n = omega arith in ap (λ (b : Bool). b ∷ ways_at g ops) up ∙ (ap (λ (l : List Bool). way ∷ l) e ∙ ap (λ (m : ℕ). replicate m way) s)
@@ -79,7 +70,7 @@ module _ (k : Shape) (by : Serial) (group g : ℕ) where
   pub refused_closes : (level number usage : ℕ) (ops : List UseStep) → ChargeOps k by group (charge.Over level number usage) ops → times_of g (path_to k.parents.items group level) ≤ 1 → Closes (ways_at g ops)
   refused_closes level number usage ops h few = let front = h.ups ++ h.over ∷ [] in let n = times_of g (path_to k.parents.items group level) in
       let whole : ops ≡ front ++ h.downs = h.whole ∙ sym (append_assoc h.ups (h.over ∷ []) h.downs) in
-      let at = map-append group_of h.ups (h.over ∷ []) ∙ h.levels in
+      let at = map-append use_group h.ups (h.over ∷ []) ∙ h.levels in
       let up = ways_same true g front (All-append (λ (o : UseStep). o.up ≡ true) h.ups (h.over ∷ []) (all_so (IsUp k by) (λ (o : UseStep). o.up ≡ true) h.ups (λ o u. u.up) h.below) (All-cons (λ (o : UseStep). o.up ≡ true) h.over [] h.refused.up (All-nil (λ (o : UseStep). o.up ≡ true)))) in
       let down = ways_same false g h.downs (all_so (IsDown by) (λ (o : UseStep). o.up ≡ false) h.downs (λ o d. d.down) h.taken_back.each) in
       let ups = up ∙ ap (λ (l : List ℕ). replicate (times_of g l) true) at in let downs = down ∙ ap (λ (l : List ℕ). replicate (times_of g l) false) h.taken_back.at in
@@ -96,7 +87,7 @@ module _ (k : Shape) (by : Serial) (group g : ℕ) where
   charged_closes ops h none = subst Closes (sym (charged_ways ops h ∙ ap (λ (l : List ℕ). replicate (times_of g l) true) none)) tt
 
   pub downs_close : (groups : List ℕ) (ops : List UseStep) → AreDowns by groups ops → Closes (ways_at g ops)
-  downs_close groups ops h = subst Closes (sym (ways_same false g ops (all_so (IsDown by) (λ (o : UseStep). o.up ≡ false) ops (λ o d. d.down) h.each))) (closes_downs (times_of g (map group_of ops)))
+  downs_close groups ops h = subst Closes (sym (ways_same false g ops (all_so (IsDown by) (λ (o : UseStep). o.up ≡ false) ops (λ o d. d.down) h.each))) (closes_downs (times_of g (map use_group ops)))
 
 -- what closes settles
 pub closed_settles : (a : List Bool) → Closes a → Settles a

@@ -1,16 +1,6 @@
 -- Tries and rounds as the loop goes on.
-use Rattle.std.proofs.Common.{◌≡◌, ℕ, ◌+◌, ◌-◌, ◌<◌, List, [], ◌∷◌, ◌++◌, length, refl, sym, subst, inl, inr, arith, length-append}
-use Rattle.shr_base.specs.declared.memory.Memory.{Memory}
-use Rattle.shr_base.specs.declared.places.Serial.{Serial}
-use Rattle.std.specs.Prelude.{Result, Ok, Err, IsErr}
-use Rattle.shr_charge.specs.declared.answers.ChargeAnswer.{ChargeAnswer}
-use Rattle.shr_walk.specs.declared.seats.Shared.{Shared}
-use Rattle.shr_walk.specs.State.{WorkerState, Does, no_work}
-use Rattle.shr_walk.proofs.Doing.{does_none}
-use Rattle.shr_reclaim.specs.Admitting.{AdmissionGives, IsCutShort}
-use Rattle.shr_reclaim.specs.Looping.{admission_of}
-use Rattle.shr_reclaim.specs.Rounds.{Visit, Round, TriesInRounds, WalksAll, WalksFirst, due_in}
-use Rattle.shr_reclaim.specs.Trying.{IsTried, Refusal, refused}
+use Rattle.shr_reclaim.proofs.Common.{◌≡◌, ℕ, ◌+◌, ◌-◌, ◌<◌, List, [], ◌∷◌, ◌++◌, length, refl, sym, subst, inl, inr, arith, length-append, Memory, Serial, Result, Ok, Err, ChargeAnswer, Shared, WorkerState, Does, no_work, does_none, Visit, Round, TriesInRounds, WalksAll, WalksFirst, due_in, IsChargeTried, Refusal, IsErr, admission_of, refused}
+use Rattle.shr_reclaim.specs.Admitting.{AdmissionGives, AreRoundsCut}
 use Rattle.shr_reclaim.proofs.Calling.{Calls, calls_then, visited_calls, tried_calls}
 use Rattle.shr_reclaim.proofs.Rounding.{rounds_more}
 
@@ -22,7 +12,7 @@ pub record HasTried (x : Shared) (by : Serial) (group left : ℕ) (answer : Char
   pub calls : Calls (length rounds + 1) s t
 
 module _ (x : Shared) (by : Serial) (group : ℕ) where
-  pub tried_first : (a : ChargeAnswer) (s t : WorkerState) → IsTried x by group a s t → HasTried x by group 13 a s t
+  pub tried_first : (a : ChargeAnswer) (s t : WorkerState) → IsChargeTried x by group a s t → HasTried x by group 13 a s t
   tried_first a s t h = record { rounds = []; tried = record { first = a; tried = t; try = h; follow = (refl, refl) }; many = refl; calls = tried_calls x by group a s t h }
 
   module _ (left : ℕ) (r : Refusal) (walks : List Visit) (s t u : WorkerState) (some : 0 < left) (h : HasTried x by group left (refused r) s t) where
@@ -30,7 +20,7 @@ module _ (x : Shared) (by : Serial) (group : ℕ) where
     priority_here = let m = h.many in omega (arith, m, some)
 
     -- a round more, and another try
-    pub tried_more : (a : ChargeAnswer) (w : WorkerState) → WalksAll x by (due_in x (left - 1) r.group) walks t u → IsTried x by group a u w → HasTried x by group (left - 1) a s w
+    pub tried_more : (a : ChargeAnswer) (w : WorkerState) → WalksAll x by (due_in x (left - 1) r.group) walks t u → IsChargeTried x by group a u w → HasTried x by group (left - 1) a s w
     tried_more a w walked try = let k : Round = record { priority = left - 1; over = r; walks = walks; walked = u; answer = a; tried = w } in
         let p : left - 1 ≡ 12 - length h.rounds = omega (arith, priority_here) in
         let long = length-append h.rounds (k ∷ []) in
@@ -42,11 +32,11 @@ module _ (x : Shared) (by : Serial) (group : ℕ) where
         }
 
     -- memory lacked in the walks of a round, or in the try after them
-    pub tried_cut : WalksFirst x by (due_in x (left - 1) r.group) walks t u → IsCutShort x by group s u
+    pub tried_cut : WalksFirst x by (due_in x (left - 1) r.group) walks t u → AreRoundsCut x by group s u
     tried_cut cut = record { rounds = h.rounds; over = r; begun = t; tried = h.tried; priority = left - 1; due = priority_here; walks = walks; cut = cut }
 
   -- for an error of the steps
-  pub short_gives : (r : Result ChargeAnswer Memory) (s t : WorkerState) → IsErr r → IsCutShort x by group s t → AdmissionGives x by group (admission_of r) s t
+  pub short_gives : (r : Result ChargeAnswer Memory) (s t : WorkerState) → IsErr r → AreRoundsCut x by group s t → AdmissionGives x by group (admission_of r) s t
   short_gives (Ok a) s t is_err h = absurd (cc)
   short_gives (Err e) s t is_err h = inr h
 

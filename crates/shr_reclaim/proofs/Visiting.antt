@@ -1,17 +1,6 @@
 -- Walks one after another.
-use Rattle.std.proofs.Common.{◌≡◌, List, [], ◌∷◌, ◌++◌, length, map, drop, true, false, refl, sym, ap, subst, ◌∙◌, inl, inr, ⊎_elim, append_assoc}
-use Rattle.std.proofs.lemmas.List.{map-append, append-nil, take-append-drop}
-use Rattle.std.proofs.lemmas.List.Elements.{All-nil, All-append, All-cons}
+use Rattle.shr_reclaim.proofs.Common.{◌≡◌, List, [], ◌∷◌, ◌++◌, length, map, drop, true, false, refl, sym, ap, subst, ◌∙◌, inl, inr, ⊎_elim, append_assoc, map-append, append-nil, take-append-drop, All-nil, All-append, All-cons, Serial, IsPrefixOf, Job, Shared, Acting, IsSame, OneGives, lacked_memory, same_for, WorkerState, Visit, walk_for, job_in, IsVisited, AreVisited, VisitHadMemory, WalksAll, WalksFirst}
 use Rattle.std.proofs.Math.Seq.{take-append_seam}
-use Rattle.shr_base.specs.declared.places.Serial.{Serial}
-use Rattle.shr_model.specs.Prefixes.{IsPrefixOf}
-use Rattle.shr_model.specs.Walks.{Job}
-use Rattle.shr_walk.specs.declared.seats.Shared.{Shared}
-use Rattle.shr_walk.specs.Acting.{Acting, IsSame}
-use Rattle.shr_walk.specs.Balances.{OneGives, lacked_memory}
-use Rattle.shr_walk.proofs.Acted.{same_for}
-use Rattle.shr_walk.specs.State.{WorkerState}
-use Rattle.shr_reclaim.specs.Rounds.{Visit, walk_for, job_in, IsVisited, AreVisited, HadRoom, WalksAll, WalksFirst}
 
 -- ---- beginnings of a list
 
@@ -34,21 +23,21 @@ module _ (x : Shared) (by : Serial) where
   visited_then (w ∷ vs) ws s t u walked others = (walked.0, visited_then vs ws w.after t u walked.1 others)
 
   pub none_walked : (s : WorkerState) → WalksAll x by [] [] s s
-  none_walked s = record { visited = refl; all = refl; had = All-nil HadRoom }
+  none_walked s = record { visited = refl; all = refl; had = All-nil VisitHadMemory }
 
   pub all_more : (jobs : List Job) (walks : List Visit) (v : Visit) (s t : WorkerState) → WalksAll x by jobs walks s t → IsVisited x by v t → lacked_memory v.answer ≡ false
       → WalksAll x by (jobs ++ v.job ∷ []) (walks ++ v ∷ []) s v.after
   all_more jobs walks v s t a one had = record {
     visited = visited_more walks v s t a.visited one;
     all = map-append job_in walks (v ∷ []) ∙ ap (λ l. l ++ v.job ∷ []) a.all;
-    had = All-append HadRoom walks (v ∷ []) a.had (All-cons HadRoom v [] had (All-nil HadRoom));
+    had = All-append VisitHadMemory walks (v ∷ []) a.had (All-cons VisitHadMemory v [] had (All-nil VisitHadMemory));
   }
 
   pub all_then : (js ks : List Job) (vs ws : List Visit) (s t u : WorkerState) → WalksAll x by js vs s t → WalksAll x by ks ws t u → WalksAll x by (js ++ ks) (vs ++ ws) s u
   all_then js ks vs ws s t u a b = record {
     visited = visited_then vs ws s t u a.visited b.visited;
     all = map-append job_in vs ws ∙ (ap (λ l. l ++ map job_in ws) a.all ∙ ap (λ l. js ++ l) b.all);
-    had = All-append HadRoom vs ws a.had b.had;
+    had = All-append VisitHadMemory vs ws a.had b.had;
   }
 
   -- ---- the first of more jobs
@@ -78,8 +67,8 @@ module _ (x : Shared) (by : Serial) where
         (subst (λ l. IsPrefixOf (js ++ made) l) (append_assoc js made (left ++ rest) ∙ ap (λ l. js ++ l) (sym (append_assoc made left rest) ∙ ap (λ l. l ++ rest) (sym (parted made ks b.first))))
         (prefix_of (js ++ made) (left ++ rest)));
     cut = ⊎_elim
-        (λ had. inl (All-append HadRoom vs ws a.had had))
-        (λ c. inr (record { front = vs ++ c.front; last = c.last; whole = ap (λ l. vs ++ l) c.whole ∙ sym (append_assoc vs c.front (c.last ∷ [])); had = All-append HadRoom vs c.front a.had c.had; lacked = c.lacked }))
+        (λ had. inl (All-append VisitHadMemory vs ws a.had had))
+        (λ c. inr (record { front = vs ++ c.front; last = c.last; whole = ap (λ l. vs ++ l) c.whole ∙ sym (append_assoc vs c.front (c.last ∷ [])); had = All-append VisitHadMemory vs c.front a.had c.had; lacked = c.lacked }))
         b.cut;
   }
 

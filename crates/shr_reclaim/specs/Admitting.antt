@@ -18,7 +18,7 @@ pub record IsCharged (x : Shared) (by : Serial) (group : ℕ) (s t : WorkerState
   pub few : length rounds ≤ 13
 
 -- the try after the round of priority 0 was refused so
-pub record IsOver (x : Shared) (by : Serial) (group : ℕ) (r : Refusal)
+pub record IsLastTryRefused (x : Shared) (by : Serial) (group : ℕ) (r : Refusal)
     (s t : WorkerState) : Type 0 where
   pub rounds : List Round
   pub tried : TriesInRounds x by group rounds (refused r) s t
@@ -26,7 +26,7 @@ pub record IsOver (x : Shared) (by : Serial) (group : ℕ) (r : Refusal)
 
 -- After a refusal memory lacked: of the round that was due then a beginning was made, perhaps the
 -- whole, and no try after it.
-pub record IsCutShort (x : Shared) (by : Serial) (group : ℕ) (s t : WorkerState) : Type 0 where
+pub record AreRoundsCut (x : Shared) (by : Serial) (group : ℕ) (s t : WorkerState) : Type 0 where
   pub rounds : List Round
   pub over : Refusal
   pub begun : WorkerState
@@ -42,8 +42,8 @@ pub record IsCutShort (x : Shared) (by : Serial) (group : ℕ) (s t : WorkerStat
 abbrev pub AdmissionGives : Shared → Serial → ℕ → Admission → WorkerState → WorkerState → Type 0
 AdmissionGives x by group Charged s t = IsCharged x by group s t
 AdmissionGives x by group (Over g operation usage) s t =
-    IsOver x by group (record { group = g; operation = operation; usage = usage }) s t
-AdmissionGives x by group Memory s t = Does s t no_work ⊎ IsCutShort x by group s t
+    IsLastTryRefused x by group (record { group = g; operation = operation; usage = usage }) s t
+AdmissionGives x by group Memory s t = Does s t no_work ⊎ AreRoundsCut x by group s t
 
 -- the charge of a group can be taken back without memory: there is room to note that on each
 -- level, and the calls are few enough

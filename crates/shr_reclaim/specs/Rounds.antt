@@ -11,7 +11,7 @@ use Rattle.shr_walk.specs.declared.seats.Shared.{Shared}
 use Rattle.shr_walk.specs.declared.walking.Walk.{Walk}
 use Rattle.shr_walk.specs.Balances.{OneGives, HadMemory, lacked_memory}
 use Rattle.shr_walk.specs.State.{WorkerState}
-use Rattle.shr_reclaim.specs.Trying.{IsTried, Refusal, refused}
+use Rattle.shr_reclaim.specs.Trying.{IsChargeTried, Refusal, refused}
 
 -- a walk that was made: what it was of, its answer, and the state after it
 pub record Visit : Type 0 where
@@ -44,15 +44,15 @@ AreVisited x by [] s t = s ≡ t
 AreVisited x by (v ∷ vs) s t = IsVisited x by v s × AreVisited x by vs v.after t
 
 -- a walk did not end for want of memory; one over a group that is offline did not either
-abbrev pub HadRoom : Visit → Type 0
-HadRoom v = HadMemory v.answer
+abbrev pub VisitHadMemory : Visit → Type 0
+VisitHadMemory v = HadMemory v.answer
 
 -- the last walk alone ended for want of memory
-pub record IsCutLast (vs : List Visit) : Type 0 where
+pub record IsLastVisitCut (vs : List Visit) : Type 0 where
   pub front : List Visit
   pub last : Visit
   pub whole : vs ≡ front ++ last ∷ []
-  pub had : All HadRoom front
+  pub had : All VisitHadMemory front
   pub lacked : lacked_memory last.answer ≡ true
 
 -- the walks over all these jobs were made, and each had memory
@@ -60,7 +60,7 @@ pub record WalksAll (x : Shared) (by : Serial) (jobs : List Job) (walks : List V
     (s t : WorkerState) : Type 0 where
   pub visited : AreVisited x by walks s t
   pub all : map job_in walks ≡ jobs
-  pub had : All HadRoom walks
+  pub had : All VisitHadMemory walks
 
 -- The walks over the first of these jobs were made, perhaps over none or all: memory lacked in
 -- the last walk, or behind it.
@@ -68,7 +68,7 @@ pub record WalksFirst (x : Shared) (by : Serial) (jobs : List Job) (walks : List
     (s t : WorkerState) : Type 0 where
   pub visited : AreVisited x by walks s t
   pub first : IsPrefixOf (map job_in walks) jobs
-  pub cut : All HadRoom walks ⊎ IsCutLast walks
+  pub cut : All VisitHadMemory walks ⊎ IsLastVisitCut walks
 
 -- what is walked in a round over a group: on each node in rising order the group's subtree in
 -- preorder, with `fs`
@@ -93,7 +93,7 @@ pub record IsRound (x : Shared) (by : Serial) (group priority : ℕ) (answer : C
   pub priority_is : k.priority ≡ priority
   pub refused_so : answer ≡ refused k.over
   pub walks : WalksAll x by (due_in x k.priority k.over.group) k.walks s k.walked
-  pub try : IsTried x by group k.answer k.walked k.tried
+  pub try : IsChargeTried x by group k.answer k.walked k.tried
 
 -- rounds of falling priority, the first of this one, after a try with this answer, to the last
 -- try and its answer
@@ -109,5 +109,5 @@ pub record TriesInRounds (x : Shared) (by : Serial) (group : ℕ) (rounds : List
     (last : ChargeAnswer) (s t : WorkerState) : Type 0 where
   pub first : ChargeAnswer
   pub tried : WorkerState
-  pub try : IsTried x by group first s tried
+  pub try : IsChargeTried x by group first s tried
   pub follow : AreRounds x by group 12 first rounds last tried t

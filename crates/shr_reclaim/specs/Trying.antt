@@ -14,7 +14,7 @@ charge_work ops = record no_work { ops = ops; charges = 1 }
 
 -- a charge of this group was tried: its operations were noted, it counts as one charge, and nothing
 -- else was done
-pub record IsTried (x : Shared) (by : Serial) (group : ℕ) (answer : ChargeAnswer)
+pub record IsChargeTried (x : Shared) (by : Serial) (group : ℕ) (answer : ChargeAnswer)
     (s t : WorkerState) : Type 0 where
   pub ops : List UseStep
   pub does : Does s t (charge_work ops)

@@ -8,7 +8,7 @@ ghost use Rattle.shr_core.specs.Seats.{shape_of};
 ghost use Rattle.shr_walk.specs.Acting.{IsSame};
 ghost use Rattle.shr_reclaim.specs.Admitting.{AdmissionGives, LeavesRoom};
 ghost use Rattle.shr_reclaim.specs.Looping.{admission_of, RefusedThere};
-ghost use Rattle.shr_reclaim.specs.Trying.{IsTried};
+ghost use Rattle.shr_reclaim.specs.Trying.{IsChargeTried};
 
 use crate::answers::Admission;
 use crate::rounds::walk_round;
@@ -26,7 +26,7 @@ pub const DEF_PRIORITY: u8 = 12;
 fn charge_once<R: Wait>(worker: &mut Worker<'_, R>, group: u16) -> Result<ChargeAnswer, Memory>
     requires group { group < groups_in (shape_of worker.old.shared.core) }
     requires calls { worker.old.state.uses.charges < 2 ^ 21 }
-    ensures tried { IfOk result (λ a. IsTried worker.old.shared worker.old.by group a
+    ensures tried { IfOk result (λ a. IsChargeTried worker.old.shared worker.old.by group a
         worker.old.state worker.new.state) }
     ensures there { IfOk result (λ a. RefusedThere worker.old.shared a) }
     ensures room { let parents = worker.old.shared.charge.shape.parents.items in

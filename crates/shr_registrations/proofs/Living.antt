@@ -1,7 +1,5 @@
 -- The registration that an id is in after so many entries, by the spans of all registrations.
-use Rattle.shr_registrations.proofs.Common.{◌≡◌, ◌≢◌, ℕ, zero, suc, ◌+◌, ◌<◌, ◌≤◌, Bool, true, false, cond, List, [], ◌∷◌, length, take, drop, Option, Some, None, refl, sym, ap, subst, ◌∙◌, arith, ◌&&◌, ◌==◌, nat_lt, nat_tests, PoolEntry, Registered, Unregistered, Idle, Registration, End, is_within, to_of, same_byte}
-use Rattle.std.proofs.Common.{◌%◌}
-use Rattle.std.specs.Prelude.{slice_get}
+use Rattle.shr_registrations.proofs.Common.{◌≡◌, ◌≢◌, ℕ, zero, suc, ◌+◌, ◌<◌, ◌≤◌, Bool, true, false, cond, List, [], ◌∷◌, length, take, drop, Option, Some, None, refl, sym, ap, subst, ◌∙◌, arith, ◌&&◌, ◌==◌, nat_lt, nat_tests, PoolEntry, Registered, Unregistered, Idle, Registration, End, is_within, to_of, same_byte, ◌%◌, slice_get}
 use lib.ListN.{get_elem?}
 use Rattle.shr_model.specs.Pool.{decl_after, decl_from, end_of, from_after, from_from, id_of, is_free, lowest_free, phase_of, IsNextPool, IsPoolJournal}
 use Rattle.shr_registrations.specs.Live.{live_in, live_now, next_end}

@@ -1,6 +1,5 @@
 -- The lookups of registrations, entry by entry.
-use Rattle.shr_registrations.proofs.Common.{◌≡◌, ◌≢◌, ℕ, ◌+◌, ◌-◌, ◌*◌, ◌<◌, ◌≤◌, ◌^◌, Bool, true, false, cond, List, [], ◌∷◌, ◌++◌, length, get_or, drop, Option, Some, None, refl, sym, ap, subst, ◌∙◌, arith, ◌&&◌, ◌==◌, nat_le, nat_lt, nat_cmp, lookup, BTreeMap, IsEmpty, get, is_at, nat_tests, drop_more, PoolEntry, Registered, Unregistered, Idle, Registration, Span, AreNoted, decl_found, lookup_key, stop_key, has_key, last_in, same_byte}
-use Rattle.std.specs.Ordering.{is_eq}
+use Rattle.shr_registrations.proofs.Common.{◌≡◌, ◌≢◌, ℕ, ◌+◌, ◌-◌, ◌*◌, ◌<◌, ◌≤◌, ◌^◌, Bool, true, false, cond, List, [], ◌∷◌, ◌++◌, length, get_or, drop, Option, Some, None, refl, sym, ap, subst, ◌∙◌, arith, ◌&&◌, ◌==◌, nat_le, nat_lt, nat_cmp, lookup, BTreeMap, IsEmpty, get, is_at, nat_tests, drop_more, PoolEntry, Registered, Unregistered, Idle, Registration, Span, AreNoted, decl_found, lookup_key, stop_key, has_key, last_in, same_byte, is_eq}
 use Rattle.std.specs.declared.cmp.Ordering.TheVariants.{Less, Equal, Greater}
 use Rattle.shr_model.specs.Pool.{decl_at, end_of, is_before, registrations}
 use Rattle.shr_registrations.proofs.Merging.{last_push, last_none}

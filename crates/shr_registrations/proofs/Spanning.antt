@@ -1,20 +1,20 @@
 -- The entries between which registrations are live, entry by entry.
 use Rattle.shr_registrations.proofs.Common.{◌≡◌, ◌≢◌, ℕ, ◌+◌, ◌-◌, ◌*◌, ◌<◌, ◌≤◌, ◌^◌, Bool, true, false, cond, List, [], ◌∷◌, ◌++◌, length, get_or, drop, Option, Some, None, refl, sym, ap, subst, ◌∙◌, arith, ◌&&◌, ◌==◌, nat_le, nat_lt, nat_cmp, lookup, BTreeMap, IsEmpty, get, is_at, nat_tests, drop_more, PoolEntry, Registered, Unregistered, Idle, Registration, Span, lookup_key, has_key, last_in, End, AreLivesNoted, entry_key, is_within, to_of, same_byte}
 use Rattle.shr_registrations.proofs.Merging.{last_none, last_push}
-use Rattle.shr_registrations.specs.Live.{cut, end_key, live_in, next_end}
+use Rattle.shr_registrations.specs.Live.{capped_key, end_key, live_in, next_end}
 use Rattle.shr_registrations.proofs.Noting.{apart_of, none_left, not_le}
 use Rattle.shr_registrations.proofs.Living.{is_lt, not_lt}
 use Rattle.shr_model.proofs.Booleans.{below_of, le_of, lt_of, more_of}
 
 -- ---- keys
 
-cut_low : (a : ℕ) → a < 4294967296 → cut a ≡ a
+cut_low : (a : ℕ) → a < 4294967296 → capped_key a ≡ a
 cut_low a h = ap (λ (b : Bool). cond b a 4294967296) (is_lt a 4294967296 h)
 
-cut_high : (a : ℕ) → 4294967296 ≤ a → cut a ≡ 4294967296
+cut_high : (a : ℕ) → 4294967296 ≤ a → capped_key a ≡ 4294967296
 cut_high a h = ap (λ (b : Bool). cond b a 4294967296) (not_lt a 4294967296 h)
 
-cut_most : (a : ℕ) → cut a ≤ 4294967296
+cut_most : (a : ℕ) → capped_key a ≤ 4294967296
 cut_most a = by (nat_lt a 4294967296) refl
   where
     by : (b : Bool) → nat_lt a 4294967296 ≡ b → cond b a 4294967296 ≤ 4294967296
@@ -22,21 +22,21 @@ cut_most a = by (nat_lt a 4294967296) refl
     by false e = omega arith
 
 -- a number of 32 bits is below another where it is below the cut one
-cut_below : (entry a : ℕ) → entry < 4294967296 → nat_lt entry (cut a) ≡ nat_lt entry a
+cut_below : (entry a : ℕ) → entry < 4294967296 → nat_lt entry (capped_key a) ≡ nat_lt entry a
 cut_below entry a few = by (nat_lt a 4294967296) refl
   where
-    by : (b : Bool) → nat_lt a 4294967296 ≡ b → nat_lt entry (cut a) ≡ nat_lt entry a
+    by : (b : Bool) → nat_lt a 4294967296 ≡ b → nat_lt entry (capped_key a) ≡ nat_lt entry a
     by true e = ap (nat_lt entry) (cut_low a (lt_of a 4294967296 e))
     by false e = let h = more_of a 4294967296 e in ap (nat_lt entry) (cut_high a h) ∙ is_lt entry 4294967296 few ∙ sym (is_lt entry a (omega (arith, h, few)))
 
-cut_behind : (at entry : ℕ) (c : Bool) → nat_lt (at + 1) 4294967296 ≡ c → entry < 4294967296 → entry ≤ at → nat_le (cut (at + 1)) entry ≡ false
+cut_behind : (at entry : ℕ) (c : Bool) → nat_lt (at + 1) 4294967296 ≡ c → entry < 4294967296 → entry ≤ at → nat_le (capped_key (at + 1)) entry ≡ false
 cut_behind at entry true f few le = ap (λ (n : ℕ). nat_le n entry) (cut_low (at + 1) (lt_of (at + 1) 4294967296 f)) ∙ not_le (at + 1) entry (omega (arith, le))
 cut_behind at entry false f few le = ap (λ (n : ℕ). nat_le n entry) (cut_high (at + 1) (more_of (at + 1) 4294967296 f)) ∙ not_le 4294967296 entry few
 
-cut_above : (at entry : ℕ) → entry < 4294967296 → nat_le (cut (at + 1)) entry ≡ nat_lt at entry
+cut_above : (at entry : ℕ) → entry < 4294967296 → nat_le (capped_key (at + 1)) entry ≡ nat_lt at entry
 cut_above at entry few = by (nat_lt at entry) refl
   where
-    by : (b : Bool) → nat_lt at entry ≡ b → nat_le (cut (at + 1)) entry ≡ b
+    by : (b : Bool) → nat_lt at entry ≡ b → nat_le (capped_key (at + 1)) entry ≡ b
     by true e = let h = lt_of at entry e in ap (λ (n : ℕ). nat_le n entry) (cut_low (at + 1) (omega (arith, h, few))) ∙ le_of (at + 1) entry (omega (arith, h))
     by false e = cut_behind at entry (nat_lt (at + 1) 4294967296) refl few (more_of at entry e)
 
@@ -56,7 +56,7 @@ sum_lt base a b = by (nat_lt a b) refl
 
 end_same : (id entry : ℕ) (end : Option End) → entry < 4294967296 → nat_lt (lookup_key id entry) (end_key id end) ≡ is_within entry end
 end_same id entry None few = is_lt (lookup_key id entry) (4294967296 * (id + 1)) (omega (arith, few))
-end_same id entry (Some x) few = sum_lt (4294967296 * id) entry (cut x.behind) ∙ cut_below entry x.behind few
+end_same id entry (Some x) few = sum_lt (4294967296 * id) entry (capped_key x.behind) ∙ cut_below entry x.behind few
 
 end_over : (id : ℕ) (end : Option End) → end_key id end ≤ 4294967296 * (id + 1)
 end_over id None = omega arith
@@ -79,7 +79,7 @@ entry_has id i at entry end few = by (id == i) refl
     by : (b : Bool) → (id == i) ≡ b → (nat_le (entry_key id (at + 1)) (lookup_key i entry) && nat_lt (lookup_key i entry) (end_key id end)) ≡ (b && (nat_lt at entry && is_within entry end))
     by true e =
         subst (λ (k : ℕ). (nat_le (entry_key id (at + 1)) (lookup_key k entry) && nat_lt (lookup_key k entry) (end_key id end)) ≡ (nat_lt at entry && is_within entry end)) (same_byte id i e)
-        (ap (λ (b : Bool). b && nat_lt (lookup_key id entry) (end_key id end)) (sum_le (4294967296 * id) (cut (at + 1)) entry ∙ cut_above at entry few) ∙ ap (λ (b : Bool). nat_lt at entry && b) (end_same id entry end few))
+        (ap (λ (b : Bool). b && nat_lt (lookup_key id entry) (end_key id end)) (sum_le (4294967296 * id) (capped_key (at + 1)) entry ∙ cut_above at entry few) ∙ ap (λ (b : Bool). nat_lt at entry && b) (end_same id entry end few))
     by false e = entry_apart id i entry (entry_key id (at + 1)) (end_key id end) (apart_of id i e) few (omega arith) (end_over id end)
 
 -- ---- entries

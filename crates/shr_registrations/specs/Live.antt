@@ -8,7 +8,7 @@ use Rattle.shr_model.specs.Pool.{decl_of, end_of, from_of, is_live}
 use Rattle.shr_registrations.specs.declared.steps.Registration.{Registration}
 use Rattle.shr_registrations.specs.declared.steps.Span.{Span}
 use Rattle.shr_registrations.specs.Met.{lookup_key}
-use Rattle.shr_registrations.specs.Steps.{AreRising, last_in, step_at}
+use Rattle.shr_registrations.specs.Steps.{AreStepsRising, last_in, step_at}
 use Rattle.shr_registrations.specs.declared.live.End.{End}
 use Rattle.shr_registrations.specs.declared.live.Lives.{Lives}
 
@@ -18,7 +18,7 @@ live_now id es entry = cond (is_live id (take entry es)) (Some (record { decl = 
 
 -- it is known of each id and each number of entries
 pub record AreLives (es : List PoolEntry) (l : Lives) : Type 0 where
-  pub rising : AreRising l.steps.items
+  pub rising : AreStepsRising l.steps.items
   pub each : (id entry : ℕ) → entry < 2 ^ 32 → entry ≤ length es → step_at l.steps.items (lookup_key id entry) ≡ live_now id es entry
 
 -- the next end of an id in these entries, the first of which has this number
@@ -51,12 +51,12 @@ pub record AreLivesNoted (at : ℕ) (es : List PoolEntry) (spans : List Span) (e
   pub lives : (id entry : ℕ) → entry < 2 ^ 32 → last_in spans (lookup_key id entry) ≡ live_in id at es entry
 
 -- a number of 33 bits at most
-abbrev pub cut : ℕ → ℕ
-cut at = cond (nat_lt at 4294967296) at 4294967296
+abbrev pub capped_key : ℕ → ℕ
+capped_key at = cond (nat_lt at 4294967296) at 4294967296
 
 -- so many entries, for an id, by one number
 abbrev pub entry_key : ℕ → ℕ → ℕ
-entry_key id at = 4294967296 * id + cut at
+entry_key id at = 4294967296 * id + capped_key at
 
 -- where the entries end in which an id is in a registration
 abbrev pub end_key : ℕ → Option End → ℕ

@@ -7,7 +7,7 @@ use Rattle.shr_model.specs.Pool.{decl_at, end_of, registrations}
 use Rattle.shr_registrations.specs.declared.steps.Registration.{Registration}
 use Rattle.shr_registrations.specs.declared.steps.Span.{Span}
 use Rattle.shr_registrations.specs.declared.met.Met.{Met}
-use Rattle.shr_registrations.specs.Steps.{AreRising, last_in, step_at}
+use Rattle.shr_registrations.specs.Steps.{AreStepsRising, last_in, step_at}
 
 -- a lookup of an id by one number; its own number has 32 bits
 abbrev pub lookup_key : ℕ → ℕ → ℕ
@@ -33,5 +33,5 @@ pub record AreNoted (es : List PoolEntry) (spans : List Span) (ends : BTreeMap �
 
 -- it is known of each lookup what it met by a journal: the first registration in which its number lies
 pub record IsMetIn (es : List PoolEntry) (m : Met) : Type 0 where
-  pub rising : AreRising m.steps.items
+  pub rising : AreStepsRising m.steps.items
   pub each : (id number : ℕ) → number < 2 ^ 32 → decl_found (step_at m.steps.items (lookup_key id number)) ≡ decl_at number (registrations id es)

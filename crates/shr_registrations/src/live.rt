@@ -7,7 +7,7 @@ ghost use Rattle.shr_registrations.specs.declared.steps.Span.{Span};
 ghost use Rattle.shr_model.specs.Pool.{IsPoolJournal};
 ghost use Rattle.shr_registrations.specs.Met.{lookup_key};
 ghost use Rattle.shr_registrations.specs.Steps.{has_key, last_in};
-ghost use Rattle.shr_registrations.specs.Live.{AreLives, AreLivesNoted, cut, end_key, entry_key, is_within, live_in, live_now, to_of};
+ghost use Rattle.shr_registrations.specs.Live.{AreLives, AreLivesNoted, capped_key, end_key, entry_key, is_within, live_in, live_now, to_of};
 
 use crate::steps::{Registration, Span, Step, step_at, steps_of};
 use shr_base::journals::PoolEntry;
@@ -31,7 +31,7 @@ pub struct Lives {
 
 // The number, or 2 to the power of 32 if it is larger.
 fn cut(at: usize) -> u64
-    ensures { result ≡ cut at }
+    ensures { result ≡ capped_key at }
 {
     if at < 0x1_0000_0000 {
         at as u64

@@ -1,25 +1,10 @@
 -- What a call gains, step by step.
-use Rattle.std.proofs.Common.{◌≡◌, ℕ, ◌+◌, ◌<◌, cond, List, [], ◌∷◌, ◌++◌, sym, refl, ap, subst, ◌∙◌, arith, eq-eqb, map}
-use Rattle.std.specs.Prelude.{None}
-use Rattle.std.proofs.lemmas.List.{append-nil}
-use Rattle.shr_base.specs.declared.journals.PoolEntry.{PoolEntry}
-use Rattle.shr_seats.specs.Lines.{by_seat, state_after}
-use Rattle.shr_seats.specs.Weights.{Begins}
-use Rattle.shr_seats.proofs.Weighing.{begins_all}
-use Rattle.shr_core.specs.declared.view.View.{View}
-use Rattle.shr_seats.specs.declared.shape.Shape.{Shape}
-use Rattle.shr_core.specs.Gained.{Gained, nothing, then_gained, AreKinds}
-use Rattle.shr_core.specs.Parts.{Content, Holding, Made, no_rooms, Loaded, loaded as loaded_event}
-use Rattle.shr_core.specs.Layout.{places_in}
+use Rattle.shr_registry.proofs.Common.{◌≡◌, ℕ, ◌+◌, ◌<◌, cond, List, [], ◌∷◌, ◌++◌, sym, refl, ap, subst, ◌∙◌, arith, eq-eqb, map, None, append-nil, PoolEntry, by_seat, Begins, View, Shape, Gained, nothing, then_gained, places_in, has_room, pool_content, in_hand, content_in, with_taken, with_pool_given, HasPool, pool_of, Gains, Brings, Loads, only_pool, state_after, begins_all, AreKinds, without_room}
+use Rattle.shr_core.specs.Parts.{RoomContent, Holding, Made, no_rooms, Loaded, loaded as loaded_event}
 use Rattle.shr_core.specs.Order.{Holders, users_next}
-use Rattle.shr_core.specs.Rule.{has_room, pool_content}
-use Rattle.shr_core.specs.Steps.{in_hand, content_in, without_room, with_taken, with_pool_given}
-use Rattle.shr_core.specs.Tells.{HasPool, pool_of}
 use Rattle.shr_core.proofs.Gains.{adds_then, of_taken, of_pool_given}
 use Rattle.shr_core.proofs.Hands.{has_taken}
 use Rattle.shr_core.proofs.Uses.{using_still}
-use Rattle.shr_node.specs.Gains.{Gains}
-use Rattle.shr_registry.specs.Adding.{Brings, Loads, only_pool}
 
 -- one after another
 pub brings_then : (u v w : View) (g h : Gained) → Brings u v g → Brings v w h → Brings u w (then_gained g h)
@@ -65,7 +50,7 @@ brings_loads v w a = record {
 }
 
 -- the pool's room was taken
-pub brings_taken : (v : View) (r : ℕ) (c : Content) → Brings v (with_taken v r c) nothing
+pub brings_taken : (v : View) (r : ℕ) (c : RoomContent) → Brings v (with_taken v r c) nothing
 brings_taken v r c = record { words = []; adds = of_taken v r c; owed = λ k h. h }
 
 -- and given back
@@ -103,7 +88,7 @@ module _ (shape : Shape) (v : View) (pool : List PoolEntry) (is : v.holding ≡ 
 
   -- and the pool's journal in hand is this one
   pub journal : pool_of shape v ≡ pool
-  journal = ap (λ (h : Holding). (content_in (places_in shape.ids) h.hands).pool) is ∙ ap (λ (c : Content). c.pool) (first_content shape pool)
+  journal = ap (λ (h : Holding). (content_in (places_in shape.ids) h.hands).pool) is ∙ ap (λ (c : RoomContent). c.pool) (first_content shape pool)
 
   -- once the pool was given back no room is in hand
   pub given_rooms : (with_pool_given v (places_in shape.ids)).holding ≡ no_rooms

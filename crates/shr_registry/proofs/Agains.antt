@@ -1,24 +1,10 @@
 -- What a lookup of an id that was met finds.
-use Rattle.std.proofs.Common.{◌≡◌, ℕ, ◌%◌, true, cond, eqb, List, [], ◌∷◌, ◌++◌, length, sym, ap, subst, ◌∙◌, eq-eqb, ⊎_elim, append_assoc, arith}
-use Rattle.std.proofs.lemmas.Bool.Decides.{nat_tests}
-use Rattle.std.specs.Prelude.{Some, None, Option, Contains}
-use Rattle.std.proofs.lemmas.List.Elements.{Contains-push, Contains-append_right}
-use Rattle.shr_base.specs.declared.journals.PoolEntry.{PoolEntry}
-use Rattle.shr_base.specs.declared.replies.Spent.{Spent}
+use Rattle.shr_registry.proofs.Common.{◌≡◌, ℕ, ◌%◌, true, cond, eqb, List, [], ◌∷◌, ◌++◌, length, sym, ap, subst, ◌∙◌, eq-eqb, ⊎_elim, append_assoc, arith, nat_tests, Some, None, Option, Contains, Contains-push, PoolEntry, Spent, phase_of, View, Shape, IsMet, with_word, Gained, nothing, Adds, FindAnswer, Brings, Loads, IsFree, IsHeldBy, FindGives, FindsCache, FindWorn, IsDatedBy, Contains-append_right}
 use Rattle.shr_base.specs.declared.replies.Spent.TheVariants as spent
-use Rattle.shr_model.specs.Pool.{phase_of}
-use Rattle.shr_core.specs.declared.view.View.{View}
-use Rattle.shr_seats.specs.declared.shape.Shape.{Shape}
 use Rattle.shr_core.specs.declared.again.Again.{Again}
-use Rattle.shr_core.specs.Seats.{IsMet}
-use Rattle.shr_core.specs.Steps.{with_word}
 use Rattle.shr_core.specs.Again.{with_again, FindsAgain, KnowsNone}
-use Rattle.shr_core.specs.Gained.{Gained, nothing, Adds}
 use Rattle.shr_core.proofs.Gains.{of_again}
-use Rattle.shr_registry.specs.declared.answers.FindAnswer.{FindAnswer}
 use Rattle.shr_registry.specs.declared.answers.FindAnswer.TheVariants as find
-use Rattle.shr_registry.specs.Adding.{Brings, Loads, IsFree, IsHeldBy}
-use Rattle.shr_registry.specs.Answers.{FindGives, FindsCache, FindWorn, IsDatedBy}
 use Rattle.shr_registry.proofs.Searches.{loads_none, loads_word}
 use Rattle.shr_registry.proofs.Adds.{brings_then, brings_loads}
 

@@ -1,35 +1,14 @@
 -- Emptying the lists of an owned id, node after node.
-use Rattle.std.proofs.Common.{◌≡◌, ℕ, zero, suc, ◌+◌, ◌<◌, ◌≤◌, List, [], ◌∷◌, ◌++◌, length, get_or, sym, refl, ap, subst, ◌∙◌, arith, append_assoc, length-append, true}
-use Rattle.std.specs.Prelude.{Some}
-use Rattle.std.proofs.lemmas.List.{append-nil}
-use mathlib.Core.Logic.{dite}
-use native.Mathlib.Decide.{ℕ_discrete}
-use mathlib.Core.Option.{some, some-injective, some-ne-none}
-use lib.ListN.{get_elem?}
-use Rattle.atomic_table.proofs.Lists.{at_last}
-use Rattle.shr_base.specs.declared.replies.HalfWhy.{HalfWhy}
-use Rattle.shr_model.specs.Places.{place_number}
-use Rattle.shr_node.specs.Gains.{Gains}
-use Rattle.shr_node.specs.Splicing.{place_of}
-use Rattle.shr_base.specs.declared.objects.Object.{Object}
-use Rattle.shr_base.specs.declared.places.Serial.{Serial}
-use Rattle.shr_seats.specs.Views.{Each}
-use Rattle.shr_core.specs.declared.view.View.{View}
-use Rattle.shr_seats.specs.declared.shape.Shape.{Shape}
-use Rattle.shr_core.specs.Parts.{Made, Claims, no_rooms}
-use Rattle.shr_core.specs.Rule.{mark_of}
+use Rattle.shr_registry.proofs.Common.{◌≡◌, ℕ, zero, suc, ◌+◌, ◌<◌, ◌≤◌, List, [], ◌∷◌, ◌++◌, length, get_or, sym, refl, ap, subst, ◌∙◌, arith, append_assoc, length-append, true, Some, append-nil, dite, ℕ_discrete, some, get_elem?, at_last, HalfWhy, place_number, Gains, group_place, Object, Serial, Each, View, Shape, Made, Claims, no_rooms, mark_of, undrained, Draw, made_from, drawn_from, AreNodeDraws, AreDrained, StoppedBy, some-injective, some-ne-none, made_by_draws, drawn, IsDraw, AreDraws, Emptied, EmptyStops}
 use Rattle.shr_seats.specs.Shapes.{groups_in}
-use Rattle.shr_core.specs.Steps.{undrained}
-use Rattle.shr_node.specs.Draining.{Draw, made_in, drawn, IsDraw, AreDraws}
 use Rattle.shr_node.proofs.Gaining.{gains_none, gains_then, counted_before}
-use Rattle.shr_registry.specs.Ending.{made_from, drawn_from, AreNodeDraws, AreDrained, StoppedBy, Emptied, EmptyStops}
 
 -- the draws of one node more, at the end
-made_push : (id node : ℕ) (by : Serial) (draws : List (List Draw)) (ds : List Draw) → made_from id node by (draws ++ ds ∷ []) ≡ made_from id node by draws ++ made_in id (node + length draws) by ds
-made_push id node by [] ds = let same : node ≡ node + 0 = omega arith in append-nil (made_in id node by ds) ∙ ap (λ (n : ℕ). made_in id n by ds) same
+made_push : (id node : ℕ) (by : Serial) (draws : List (List Draw)) (ds : List Draw) → made_from id node by (draws ++ ds ∷ []) ≡ made_from id node by draws ++ made_by_draws id (node + length draws) by ds
+made_push id node by [] ds = let same : node ≡ node + 0 = omega arith in append-nil (made_by_draws id node by ds) ∙ ap (λ (n : ℕ). made_by_draws id n by ds) same
 made_push id node by (d ∷ draws) ds = let same : node + 1 + length draws ≡ node + length (d ∷ draws) = omega arith in
-    ap (λ (l : List Made). made_in id node by d ++ l) (made_push id (node + 1) by draws ds) ∙ (sym (append_assoc (made_in id node by d) (made_from id (node + 1) by draws) (made_in id (node + 1 + length draws) by ds))
-    ∙ ap (λ (n : ℕ). (made_in id node by d ++ made_from id (node + 1) by draws) ++ made_in id n by ds) same)
+    ap (λ (l : List Made). made_by_draws id node by d ++ l) (made_push id (node + 1) by draws ds) ∙ (sym (append_assoc (made_by_draws id node by d) (made_from id (node + 1) by draws) (made_by_draws id (node + 1 + length draws) by ds))
+    ∙ ap (λ (n : ℕ). (made_by_draws id node by d ++ made_from id (node + 1) by draws) ++ made_by_draws id n by ds) same)
 
 drawn_push : (draws : List (List Draw)) (ds : List Draw) → drawn_from (draws ++ ds ∷ []) ≡ drawn_from draws ++ drawn ds
 drawn_push [] ds = append-nil (drawn ds)
@@ -44,7 +23,7 @@ each_push P (z ∷ l) x old new (suc n) y at = each_push (λ m. P (suc m)) l x (
 
 -- a node's draws, as an earlier view sees them
 pub draws_before : (shape : Shape) (v u : View) (m : List Made) (id node : ℕ) (ds : List Draw) → Gains v u m [] → Each (IsDraw shape u id node) ds → Each (IsDraw shape v id node) ds
-draws_before shape v u m id node ds g all j d at = let f = all j d at in record { there = f.there; some = f.some; born = f.born; later = counted_before shape v u m [] (place_number (place_of id node d.group)) (length d.items) d.number g f.later; room = f.room }
+draws_before shape v u m id node ds g all j d at = let f = all j d at in record { there = f.there; some = f.some; born = f.born; later = counted_before shape v u m [] (place_number (group_place id node d.group)) (length d.items) d.number g f.later; room = f.room }
 
 -- the lists of the nodes below this one were emptied, and the marks of the others are as they were
 pub record SoFar (shape : Shape) (v w : View) (id node : ℕ) (by : Serial) (before after : List Object) : Type 0 where
@@ -85,8 +64,8 @@ module _ (shape : Shape) (v u w : View) (id node : ℕ) (by : Serial) (before mi
     further = let e = s.emptied in let d = e.drained in let long : ◌≡◌ {A = ℕ} (0 + length e.draws) node = omega (arith, e.all) in record {
       each = each_push (λ n l. AreNodeDraws shape v id n l) e.draws ds d.each (subst (λ (n : ℕ). AreNodeDraws shape v id n ds) (sym e.all) (record { each = draws_before shape v u (made_from id 0 by e.draws) id node ds d.gains a.each; falling = a.falling }));
       objects = a.objects ∙ (ap (λ (l : List Object). l ++ drawn ds) d.objects ∙ (append_assoc before (drawn_from e.draws) (drawn ds) ∙ ap (λ (l : List Object). before ++ l) (sym (drawn_push e.draws ds))));
-      gains = subst (λ (l : List Made). Gains v w l []) (sym (made_push id 0 by e.draws ds ∙ ap (λ (n : ℕ). made_from id 0 by e.draws ++ made_in id n by ds) long))
-          (gains_then v u w (made_from id 0 by e.draws) (made_in id node by ds) [] [] d.gains a.gains);
+      gains = subst (λ (l : List Made). Gains v w l []) (sym (made_push id 0 by e.draws ds ∙ ap (λ (n : ℕ). made_from id 0 by e.draws ++ made_by_draws id n by ds) long))
+          (gains_then v u w (made_from id 0 by e.draws) (made_by_draws id node by ds) [] [] d.gains a.gains);
     }
 
     -- it stopped at a list of the node

@@ -1,40 +1,12 @@
 -- What unregistering leaves as a whole.
-use Rattle.std.proofs.Common.{◌≡◌, ℕ, ◌+◌, ◌<◌, ◌≤◌, List, [], ◌∷◌, ◌++◌, length, take, false, true, sym, refl, ap, subst, ◌∙◌, ⊎_elim, arith, eq-eqb, length-append}
-use Rattle.std.proofs.lemmas.List.{append-nil}
-use Rattle.shr_base.specs.declared.ends.LookupWord.{LookupWord}
-use Rattle.shr_base.specs.declared.objects.Object.{Object}
-use Rattle.shr_base.specs.declared.places.Serial.{Serial}
-use Rattle.shr_base.specs.declared.journals.PoolEntry.{PoolEntry}
-use Rattle.shr_base.specs.declared.journals.PoolEntry.TheVariants.{Unregistered, Idle}
-use Rattle.std.specs.Prelude.{Contains, Some, None}
-use Rattle.shr_base.specs.declared.replies.HalfWhy.{HalfWhy}
+use Rattle.shr_registry.proofs.Common.{◌≡◌, ℕ, ◌+◌, ◌<◌, ◌≤◌, List, [], ◌∷◌, ◌++◌, length, take, false, true, sym, refl, ap, subst, ◌∙◌, ⊎_elim, arith, eq-eqb, length-append, append-nil, LookupWord, Object, Serial, PoolEntry, Unregistered, Idle, Contains, Some, None, HalfWhy, place_number, Each, Begins, begins_more, View, Shape, Claims, Made, Turn, no_rooms, places_in, HasLastEnd, pool_content, with_taken, with_pool_given, undrained, Brings, Loads, only_pool, IsFree, made_from, AreNodeDraws, AreDrained, StoppedBy, Dies, Rests, UnregisterGives, ended_turn, Draw, group_place, Gained, nothing, then_gained, phase_of, at_last, some, get_elem?, begins_push, Counted, Known, Traces, IsCounted, with_given_up, StopsIn, IsFilled, at_longer, at_snoc, take-append-le}
 use Rattle.shr_base.specs.declared.replies.HalfWhy.TheVariants as why
 use Rattle.shr_base.specs.declared.replies.Spent.TheVariants as spent
-use Rattle.shr_model.specs.Places.{place_number}
 use Rattle.shr_list.specs.Listed.{Listed}
-use Rattle.shr_seats.specs.Views.{Each}
-use Rattle.shr_seats.specs.Weights.{Begins}
-use Rattle.shr_seats.proofs.Weighing.{begins_push, begins_more}
-use Rattle.shr_core.specs.declared.view.View.{View}
-use Rattle.shr_seats.specs.declared.shape.Shape.{Shape}
-use Rattle.shr_core.specs.Parts.{Claims, Counted, Known, Made, Traces, Turn, no_rooms}
-use Rattle.shr_core.specs.Layout.{places_in}
-use Rattle.shr_core.specs.Rule.{HasLastEnd, pool_content}
-use Rattle.shr_core.specs.Steps.{IsCounted, with_taken, with_pool_given, with_given_up, undrained}
 use Rattle.shr_node.proofs.Gaining.{each_before}
 use Rattle.shr_registry.specs.declared.answers.UnregisterAnswer.TheVariants as unregister
-use Rattle.shr_registry.specs.Adding.{Brings, Loads, only_pool, IsFree}
-use Rattle.shr_registry.specs.Ending.{made_from, AreNodeDraws, AreDrained, StoppedBy, StopsIn, Dies, Rests, UnregisterGives, ended_turn}
-use Rattle.shr_node.specs.Draining.{Draw, IsFilled}
-use Rattle.shr_node.specs.Splicing.{place_of}
-use Rattle.shr_core.specs.Gained.{Gained, nothing, then_gained}
 use Rattle.shr_core.proofs.Gains.{of_given_up}
-use Rattle.shr_model.specs.Pool.{phase_of}
-use Rattle.atomic_table.proofs.Lists.{at_longer, at_last, at_snoc}
-use Rattle.std.proofs.lemmas.List.{take-append-le}
 use Rattle.std.proofs.Math.Seq.{take-append_seam}
-use mathlib.Core.Option.{some}
-use lib.ListN.{get_elem?}
 use Rattle.shr_registry.proofs.Searches.{loads_word}
 use Rattle.shr_registry.proofs.Adds.{brings_then, brings_loads, brings_gains, brings_between, journal}
 
@@ -82,13 +54,13 @@ module _ (shape : Shape) (v u : View) (turns : List Turn) (gives : ℕ) (a : Bri
 
   draws_since : (id node : ℕ) (ds : List Draw) → AreNodeDraws shape u id node ds → AreNodeDraws shape v id node ds
   draws_since id node ds d = record {
-    each = λ j x at. let f = d.each j x at in record { there = f.there; some = f.some; born = f.born; later = counted_since (place_number (place_of id node x.group)) (length x.items) x.number f.later; room = f.room };
+    each = λ j x at. let f = d.each j x at in record { there = f.there; some = f.some; born = f.born; later = counted_since (place_number (group_place id node x.group)) (length x.items) x.number f.later; room = f.room };
     falling = d.falling;
   }
 
   -- what stopped a drain, as an earlier view and a later one see it
   filled_since : (w z : View) (id node group : ℕ) (old : Listed) → z.traces ≡ w.traces → IsFilled shape u w id node group old → IsFilled shape v z id node group old
-  filled_since w z id node group old same f = let was = f.met.was in let k : ℕ = place_number (place_of id node group) in record {
+  filled_since w z id node group old same f = let was = f.met.was in let k : ℕ = place_number (group_place id node group) in record {
     there = f.there;
     some = f.some;
     met = record {

@@ -1,31 +1,11 @@
 -- What a call answers once the pool is given back.
-use Rattle.std.proofs.Common.{◌≡◌, ℕ, ◌+◌, ◌<◌, List, [], ◌∷◌, ◌++◌, length, sym, refl, ap, subst, ◌∙◌}
-use Rattle.std.proofs.lemmas.List.Elements.{Contains-push}
-use Rattle.shr_base.specs.declared.journals.PoolEntry.{PoolEntry}
-use Rattle.shr_base.specs.declared.replies.Spent.{Spent}
+use Rattle.shr_registry.proofs.Common.{◌≡◌, ℕ, ◌+◌, ◌<◌, List, [], ◌∷◌, ◌++◌, length, sym, refl, ap, subst, ◌∙◌, Contains-push, PoolEntry, Spent, Begins, View, Shape, Claims, Holding, Turn, no_rooms, places_in, pool_content, in_hand, with_taken, with_pool_given, FindAnswer, RegisterAnswer, Brings, only_pool, IsFree, FindGives, IsDatedBy, RegisterGives, FindWorn, Misses, ended_turn, Gained, nothing, Setting, Registered, Each, Some, Contains, Option, Dated, dated_now, dating_of, RetireGives}
 use Rattle.shr_base.specs.declared.replies.Spent.TheVariants as spent
-use Rattle.shr_seats.specs.Weights.{Begins}
-use Rattle.shr_core.specs.declared.view.View.{View}
-use Rattle.shr_seats.specs.declared.shape.Shape.{Shape}
-use Rattle.shr_core.specs.Parts.{Claims, Dated, Holding, Turn, no_rooms}
-use Rattle.shr_core.specs.Layout.{places_in}
-use Rattle.shr_core.specs.Rule.{pool_content}
-use Rattle.shr_core.specs.Steps.{dated_now, in_hand, with_taken, with_pool_given, dating_of}
-use Rattle.shr_registry.specs.declared.answers.FindAnswer.{FindAnswer}
 use Rattle.shr_registry.specs.declared.answers.FindAnswer.TheVariants as find
-use Rattle.shr_registry.specs.declared.answers.RegisterAnswer.{RegisterAnswer}
 use Rattle.shr_registry.specs.declared.answers.RegisterAnswer.TheVariants as register
-use Rattle.shr_registry.specs.Adding.{Brings, only_pool, IsFree}
-use Rattle.shr_registry.specs.Answers.{FindGives, IsDatedBy, RegisterGives, FindWorn, Misses}
-use Rattle.shr_registry.specs.Ending.{RetireGives, ended_turn}
 use Rattle.shr_registry.specs.declared.retiring.Retired.{Retired}
 use Rattle.shr_registry.specs.declared.retiring.Retired.TheVariants as retired
-use Rattle.shr_core.specs.Gained.{Gained, nothing}
-use Rattle.shr_core.specs.declared.setting.Setting.{Setting}
-use Rattle.shr_base.specs.declared.journals.PoolEntry.TheVariants.{Registered}
-use Rattle.shr_seats.specs.Views.{Each}
 use Rattle.shr_seats.specs.Standing.{IsWhole}
-use Rattle.std.specs.Prelude.{Some, Contains, Option}
 use Rattle.shr_registry.proofs.Adds.{brings_between, journal}
 
 -- a held id is the last that was dated

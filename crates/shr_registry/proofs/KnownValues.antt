@@ -1,14 +1,7 @@
 -- What draining makes, at known values.
-use Rattle.std.proofs.Common.{◌≡◌, ℕ, [], ◌∷◌, refl, sym}
+use Rattle.shr_registry.proofs.Common.{◌≡◌, ℕ, [], ◌∷◌, refl, sym, Some, Serial, Draw, IsFree, IsHeldBy, made_from, drawn_from, no_claims, opener}
 use Rattle.std.proofs.lemmas.Option.{none-some}
-use Rattle.std.specs.Prelude.{Some}
 use Rattle.shr_base.specs.declared.journals.Entry.TheVariants.{Drained}
-use Rattle.shr_base.specs.declared.places.Serial.{Serial}
-use Rattle.shr_core.specs.Parts.{no_claims}
-use Rattle.shr_core.specs.Rule.{opener}
-use Rattle.shr_node.specs.Draining.{Draw}
-use Rattle.shr_registry.specs.Adding.{IsFree, IsHeldBy}
-use Rattle.shr_registry.specs.Ending.{made_from, drawn_from}
 
 by : Serial
 by = record { worker = 1; command = 4 }

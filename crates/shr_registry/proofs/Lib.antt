@@ -1,3 +1,4 @@
+mod Common
 pub mod Searches
 pub mod Adds
 pub mod Meetings

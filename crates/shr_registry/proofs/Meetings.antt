@@ -1,25 +1,10 @@
 -- What a lookup with the pool in hand finds.
-use Rattle.std.proofs.Common.{◌≡◌, ℕ, ◌%◌, ◌<◌, ◌≤◌, Bool, true, false, cond, List, [], ◌∷◌, ◌++◌, length, sym, ap, subst, ◌∙◌, eq-eqb, append_assoc}
-use Rattle.std.specs.Prelude.{Some, None, Option}
-use Rattle.std.proofs.lemmas.List.Elements.{Contains-push}
-use Rattle.shr_base.specs.declared.ends.LookupWord.{LookupWord}
-use Rattle.shr_base.specs.declared.journals.PoolEntry.{PoolEntry}
+use Rattle.shr_registry.proofs.Common.{◌≡◌, ℕ, ◌%◌, ◌<◌, ◌≤◌, Bool, true, false, cond, List, [], ◌∷◌, ◌++◌, length, sym, ap, subst, ◌∙◌, eq-eqb, append_assoc, Some, None, Option, Contains-push, LookupWord, PoolEntry, is_live, is_live_decl, from_of, View, Shape, Holding, Claims, places_in, has_room, content_in, HasPool, pool_of, Brings, Loads, IsLiveAs, IsFree, IsHeldBy, Misses, FindsCache, Gained, nothing, Adds, registrations, decl_at, Tried, Loaded, with_leave, with_lookup, ShowsWord, HasLoaded, FindsNoNumber}
 use Rattle.shr_base.specs.declared.replies.Spent.TheVariants as spent
-use Rattle.shr_model.specs.Pool.{is_live, is_live_decl, from_of, registrations, decl_at}
-use Rattle.shr_core.specs.declared.view.View.{View}
-use Rattle.shr_seats.specs.declared.shape.Shape.{Shape}
 use Rattle.shr_core.specs.declared.lookups.Lookup.TheVariants as lookup
-use Rattle.shr_core.specs.Parts.{Holding, Claims, Tried, Loaded}
-use Rattle.shr_core.specs.Layout.{places_in}
-use Rattle.shr_core.specs.Rule.{has_room}
 use Rattle.shr_core.specs.Answers.{Finds, MetBy}
-use Rattle.shr_core.specs.Steps.{content_in, with_leave, with_lookup}
-use Rattle.shr_core.specs.Tells.{HasPool, pool_of}
-use Rattle.shr_registry.specs.Adding.{Brings, Loads, IsLiveAs, IsFree, IsHeldBy}
-use Rattle.shr_registry.specs.Answers.{Shows, HasLoaded, Misses, FindsCache, FindsNoNumber}
 use Rattle.shr_registry.proofs.Searches.{loads_word}
 use Rattle.shr_registry.proofs.Adds.{brings_then, brings_loads}
-use Rattle.shr_core.specs.Gained.{Gained, nothing, Adds}
 use Rattle.shr_core.proofs.Gains.{of_leave, of_lookup}
 
 -- the load before a lookup
@@ -75,7 +60,7 @@ module _ (shape : Shape) (v u w : View) (decl id : ℕ) (a : Loads v u) (has : H
         began = subst (λ (l : List PoolEntry). from_of id l ≤ number) same m.began;
         first = f.first;
         left = f.left;
-        shows = subst (λ (x : View). Shows x id f.first) (sym f.step) (Contains-push u.claims.loaded (record { id = id; word = f.first }));
+        shows = subst (λ (x : View). ShowsWord x id f.first) (sym f.step) (Contains-push u.claims.loaded (record { id = id; word = f.first }));
         holds = subst (λ (x : View). IsHeldBy x id number decl) (sym f.step) held;
         gains = subst (λ (x : View). Brings v x (tried number decl)) (sym f.step) numbered;
       }

@@ -1,26 +1,9 @@
 -- The phase step that registers a declaration.
-use Rattle.std.proofs.Common.{◌≡◌, ℕ, zero, suc, ◌+◌, ◌%◌, ◌<◌, ◌≤◌, Bool, true, false, cond, eqb, List, [], ◌∷◌, ◌++◌, length, sym, refl, ap, subst, ◌∙◌, arith, eq-eqb}
-use Rattle.std.specs.Prelude.{Some, None, Option}
-use Rattle.std.proofs.lemmas.Bool.Decides.{nat_tests}
-use Rattle.shr_base.specs.declared.ends.LookupWord.{LookupWord}
-use Rattle.shr_base.specs.declared.journals.PoolEntry.{PoolEntry}
-use Rattle.shr_base.specs.declared.journals.PoolEntry.TheVariants.{Registered, Unregistered, Idle}
-use Rattle.shr_model.specs.Pool.{phase_of, is_live_decl, lowest_idle, is_dying, dying_in}
-use Rattle.shr_core.specs.declared.view.View.{View}
-use Rattle.shr_seats.specs.declared.shape.Shape.{Shape}
-use Rattle.shr_core.specs.Parts.{Content, Hand, Holding}
-use Rattle.shr_core.specs.Layout.{places_in}
-use Rattle.shr_core.specs.Rule.{pool_content}
-use Rattle.shr_core.specs.Steps.{content_in, with_content, with_word, with_phase, turn_at, MayPhase}
+use Rattle.shr_registry.proofs.Common.{◌≡◌, ℕ, zero, suc, ◌+◌, ◌%◌, ◌<◌, ◌≤◌, Bool, true, false, cond, eqb, List, [], ◌∷◌, ◌++◌, length, sym, refl, ap, subst, ◌∙◌, arith, eq-eqb, Some, None, Option, nat_tests, LookupWord, PoolEntry, Registered, Unregistered, Idle, phase_of, is_live_decl, lowest_idle, View, Shape, Holding, places_in, pool_content, content_in, with_word, with_phase, turn_at, MayPhase, HasPool, pool_of, Raises, Brings, Loads, only_pool, IsLiveAs, IsFree, RegisterLacksMemory, Gained, nothing, Begins, Setting, RoomContent, Hand, with_content, FindsLive, FindsNoId, Registers}
+use Rattle.shr_model.specs.Pool.{is_dying, dying_in}
 use Rattle.shr_core.proofs.LookupSteps.{lowest_free_is}
 use Rattle.shr_core.proofs.PoolLengths.{lowest_within}
-use Rattle.shr_core.specs.Tells.{HasPool, pool_of, Raises}
-use Rattle.shr_registry.specs.Adding.{Brings, Loads, only_pool, IsLiveAs, IsFree}
-use Rattle.shr_registry.specs.Answers.{FindsLive, FindsNoId, LacksMemory, Registers}
-use Rattle.shr_core.specs.Gained.{Gained, nothing}
-use Rattle.shr_seats.specs.Weights.{Begins}
 use Rattle.shr_core.proofs.Gains.{of_word, of_phase}
-use Rattle.shr_core.specs.declared.setting.Setting.{Setting}
 use Rattle.shr_registry.proofs.Searches.{loads_word, loads_then, live_below}
 use Rattle.shr_registry.proofs.Adds.{brings_then, brings_loads, has_pool, journal}
 use Rattle.shr_registry.proofs.Meetings.{free_loads, pool_still, journal_still, none_found}
@@ -53,7 +36,7 @@ may_register shape u id decl has declared none low = let idle = idle_phase shape
 pub stepped : (shape : Shape) (u : View) (pool : List PoolEntry) (id decl : ℕ) (word : LookupWord) (e : PoolEntry) → u.holding ≡ only_pool shape pool → turn_at id decl word ≡ e → (with_phase shape u id decl word).holding ≡ only_pool shape (pool ++ e ∷ [])
 stepped shape u pool id decl word e is turn = let r : ℕ = places_in shape.ids in
     let by : Holding → Holding = λ h. record h { hands = with_content r (record (content_in r h.hands) { pool = (content_in r h.hands).pool ++ turn_at id decl word ∷ [] }) h.hands } in
-    let at : Bool → Holding = λ b. let c : Content = cond b (pool_content pool) (content_in r []) in let h : Hand = record { room = r; content = pool_content pool } in
+    let at : Bool → Holding = λ b. let c : RoomContent = cond b (pool_content pool) (content_in r []) in let h : Hand = record { room = r; content = pool_content pool } in
     record { hands = cond b (record { room = r; content = record c { pool = c.pool ++ turn_at id decl word ∷ [] } } ∷ []) (h ∷ []); half = None } in
     ap by is ∙ (ap at (eq-eqb r r refl) ∙ ap (λ (x : PoolEntry). only_pool shape (pool ++ x ∷ [])) turn)
 
@@ -90,7 +73,7 @@ module _ (key : Setting) (v u : View) (pool : List PoolEntry) (a : Loads v u) (i
   none_left decl entry none low long = record { misses = none_found shape v u decl entry pool a free none long; none = low }
 
   -- there was no memory
-  pub no_memory : (decl id : ℕ) → is_live_decl shape.ids decl pool ≡ false → lowest_idle shape.ids pool ≡ Some id → LacksMemory shape v decl pool 0 u
+  pub no_memory : (decl id : ℕ) → is_live_decl shape.ids decl pool ≡ false → lowest_idle shape.ids pool ≡ Some id → RegisterLacksMemory shape v decl pool 0 u
   no_memory decl id none low = record { id = id; missing = none; lowest = low; free = free_loads v u a free; gains = brings_loads v u a }
 
   -- the step was made

@@ -1,26 +1,11 @@
 -- A seat is as free after a call as it was before.
-use Rattle.std.proofs.Common.{◌≡◌, ℕ, ◌<◌, List, [], ◌∷◌, sym, refl, ap, subst, ◌∙◌, arith}
-use Rattle.shr_base.specs.declared.places.Serial.{Serial}
-use Rattle.shr_base.specs.declared.journals.PoolEntry.{PoolEntry}
-use Rattle.shr_seats.specs.Weights.{times}
-use Rattle.shr_seats.proofs.Weighing.{only_yes}
-use Rattle.shr_core.specs.declared.view.View.{View}
-use Rattle.shr_seats.specs.declared.shape.Shape.{Shape}
+use Rattle.shr_registry.proofs.Common.{◌≡◌, ℕ, ◌<◌, List, [], ◌∷◌, sym, refl, ap, subst, ◌∙◌, arith, Serial, PoolEntry, times, View, Shape, Holding, no_rooms, Gained, Setting, IsOf, view_of, RegisterAnswer, Brings, IsFree, FindGives, RegisterGives, UnregisterGives, only_yes, IsAtRest, with_put, StaysFree}
 use Rattle.shr_core.specs.declared.table.Core.{Core}
 use Rattle.shr_core.specs.declared.seat.Seat.{Seat}
-use Rattle.shr_core.specs.Parts.{Holding, no_rooms}
-use Rattle.shr_core.specs.Gained.{Gained}
-use Rattle.shr_core.specs.declared.setting.Setting.{Setting}
-use Rattle.shr_core.specs.Seats.{IsOf, view_of}
-use Rattle.shr_core.specs.Steps.{IsAtRest, with_put}
 use Rattle.shr_registry.specs.declared.answers.FindAnswer.TheVariants as find
-use Rattle.shr_registry.specs.declared.answers.RegisterAnswer.{RegisterAnswer}
 use Rattle.shr_registry.specs.declared.answers.RegisterAnswer.TheVariants as register
 use Rattle.shr_registry.specs.declared.answers.UnregisterAnswer.{UnregisterAnswer}
 use Rattle.shr_registry.specs.declared.answers.UnregisterAnswer.TheVariants as unregister
-use Rattle.shr_registry.specs.Adding.{Brings, IsFree, StaysFree}
-use Rattle.shr_registry.specs.Answers.{FindGives, RegisterGives}
-use Rattle.shr_registry.specs.Ending.{UnregisterGives}
 
 stays : (g : Gained) (v w : View) → IsFree w → Brings v w g → StaysFree v w
 stays g v w f a = record { held = f.held; owner = f.owner; owed = a.owed; standing = a.adds.standing }

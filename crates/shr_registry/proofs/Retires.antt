@@ -1,29 +1,9 @@
 -- The phase steps that end a registration.
-use Rattle.std.proofs.Common.{◌-◌, ◌≡◌, ℕ, zero, suc, ◌+◌, ◌%◌, ◌<◌, ◌≤◌, Bool, true, false, cond, eqb, List, [], ◌∷◌, ◌++◌, length, take, get_or, sym, refl, ap, subst, ◌∙◌, arith, eq-eqb, ne_eqb}
+use Rattle.shr_registry.proofs.Common.{◌-◌, ◌≡◌, ℕ, zero, suc, ◌+◌, ◌%◌, ◌<◌, ◌≤◌, Bool, true, false, cond, eqb, List, [], ◌∷◌, ◌++◌, length, take, get_or, sym, refl, ap, subst, ◌∙◌, arith, eq-eqb, ◌==◌, ◌&&◌, Option, Some, None, nat_tests, dite, ℕ_discrete, LookupWord, PoolEntry, Unregistered, Idle, phase_of, from_of, is_live, is_live_decl, View, Shape, HasLastEnd, mark_of, with_word, with_phase, turn_at, undrained, MayPhase, IsOfPool, HasPool, pool_of, Raises, Brings, Loads, only_pool, IsLiveAs, IsFree, Misses, EndsLacking, Dies, Rests, ended_turn, Gained, nothing, Turn, Setting, Each, Begins, ne_eqb, is_some_of, OwnsAll}
 use Rattle.std.proofs.Math.Seq.{take-suc}
-use Rattle.std.specs.Prelude.{◌==◌, ◌&&◌, Option, Some, None}
-use Rattle.std.proofs.lemmas.Bool.Decides.{nat_tests}
-use mathlib.Core.Logic.{dite}
-use native.Mathlib.Decide.{ℕ_discrete}
-use Rattle.shr_base.specs.declared.ends.LookupWord.{LookupWord}
-use Rattle.shr_base.specs.declared.journals.PoolEntry.{PoolEntry}
-use Rattle.shr_base.specs.declared.journals.PoolEntry.TheVariants.{Unregistered, Idle}
-use Rattle.shr_model.specs.Pool.{phase_of, from_of, from_from, from_after, is_live, is_live_decl, dying_in}
+use Rattle.shr_model.specs.Pool.{from_from, from_after, dying_in}
 use Rattle.shr_model.proofs.PoolLaws.{phase_of_push, from_from_push}
-use Rattle.shr_core.specs.declared.view.View.{View}
-use Rattle.shr_seats.specs.declared.shape.Shape.{Shape}
-use Rattle.shr_core.specs.Rule.{HasLastEnd, mark_of, is_some_of}
-use Rattle.shr_core.specs.Steps.{with_word, with_phase, turn_at, undrained, MayPhase}
-use Rattle.shr_core.specs.Tells.{IsOfPool, HasPool, pool_of, Raises}
 use Rattle.shr_core.proofs.Claiming.{by_phase}
-use Rattle.shr_registry.specs.Adding.{Brings, Loads, only_pool, IsLiveAs, IsFree}
-use Rattle.shr_registry.specs.Answers.{Misses}
-use Rattle.shr_registry.specs.Ending.{OwnsAll, EndsLacking, Dies, Rests, ended_turn}
-use Rattle.shr_core.specs.Gained.{Gained, nothing}
-use Rattle.shr_core.specs.Parts.{Turn}
-use Rattle.shr_core.specs.declared.setting.Setting.{Setting}
-use Rattle.shr_seats.specs.Views.{Each}
-use Rattle.shr_seats.specs.Weights.{Begins}
 use Rattle.shr_registry.proofs.Searches.{loads_word}
 use Rattle.shr_registry.proofs.Adds.{brings_then, brings_loads, has_pool, journal}
 use Rattle.shr_registry.proofs.Meetings.{free_loads, pool_still, journal_still, none_found}

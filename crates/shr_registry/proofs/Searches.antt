@@ -1,28 +1,12 @@
 -- What searching the ids has found so far.
-use Rattle.shr_seats.specs.Lines.{Deed, by_seat}
-use Rattle.std.proofs.lemmas.List.{append-nil, map-append}
-use Rattle.std.proofs.Common.{◌≡◌, ℕ, zero, suc, ◌+◌, ◌-◌, ◌%◌, ◌<◌, ◌≤◌, Bool, true, false, cond, eqb, List, [], ◌∷◌, sym, refl, ap, subst, ◌∙◌, arith, eq-eqb, append_assoc, ◌++◌, map}
-use Rattle.std.specs.Prelude.{◌&&◌, ◌||◌, ◌==◌, nat_lt, Some, None}
-use mathlib.Core.Logic.{dite}
-use native.Mathlib.Decide.{ℕ_discrete}
-use Rattle.shr_base.specs.declared.ends.LookupWord.{LookupWord}
-use Rattle.shr_base.specs.declared.journals.PoolEntry.{PoolEntry}
-use Rattle.shr_model.specs.Pool.{phase_of, decl_of, is_live, is_live_below, is_free, lowest_free}
-use Rattle.shr_seats.specs.Weights.{times}
-use Rattle.shr_core.specs.declared.view.View.{View}
-use Rattle.shr_seats.specs.declared.shape.Shape.{Shape}
-use Rattle.shr_core.specs.declared.setting.Setting.{Setting}
+use Rattle.shr_registry.proofs.Common.{by_seat, append-nil, ◌≡◌, ℕ, zero, suc, ◌+◌, ◌-◌, ◌%◌, ◌<◌, ◌≤◌, Bool, true, false, cond, eqb, List, [], ◌∷◌, sym, refl, ap, subst, ◌∙◌, arith, eq-eqb, append_assoc, ◌++◌, map, ◌&&◌, ◌==◌, Some, None, dite, ℕ_discrete, LookupWord, PoolEntry, phase_of, decl_of, is_live, times, View, Shape, Setting, places_in, has_room, IsOfPool, HasPool, pool_of, with_word, content_in, Loads, Deed, map-append, ◌||◌, nat_lt, place_id, without_id}
+use Rattle.shr_model.specs.Pool.{is_live_below, is_free, lowest_free}
 use Rattle.shr_core.specs.Parts.{Holding, Marks, Claims, Loaded, Event, loaded as loaded_event}
-use Rattle.shr_core.specs.Layout.{id_of, places_in}
-use Rattle.shr_core.specs.Rule.{has_room}
-use Rattle.shr_core.specs.Tells.{IsOfPool, HasPool, pool_of}
-use Rattle.shr_core.specs.Steps.{with_word, without_id, content_in}
-use Rattle.shr_registry.specs.Adding.{Loads}
 
 -- what is owed of other ids
 fewer_owed : (k i : ℕ) (xs : List ℕ) → times k (without_id i xs) ≤ times k xs
 fewer_owed k i [] = omega arith
-fewer_owed k i (x ∷ xs) = elim (eqb (id_of x) i) as (λ b. times k (cond b (without_id i xs) (x ∷ without_id i xs)) ≤ times k (x ∷ xs)) [ true ↦ omega (arith, fewer_owed k i xs) | false ↦ omega (arith, fewer_owed k i xs) ]
+fewer_owed k i (x ∷ xs) = elim (eqb (place_id x) i) as (λ b. times k (cond b (without_id i xs) (x ∷ without_id i xs)) ≤ times k (x ∷ xs)) [ true ↦ omega (arith, fewer_owed k i xs) | false ↦ omega (arith, fewer_owed k i xs) ]
 
 owed_before : (k i : ℕ) (live : Bool) (xs : List ℕ) → 0 < times k (cond live xs (without_id i xs)) → 0 < times k xs
 owed_before k i true xs h = h

@@ -21,8 +21,8 @@ use Rattle.shr_registry.specs.declared.answers.RegisterAnswer.TheVariants as reg
 use Rattle.shr_registry.specs.Adding.{Brings, IsLiveAs, IsFree, IsHeldBy}
 
 -- a load showed this word of an id
-abbrev pub Shows : View → ℕ → LookupWord → Type 0
-Shows w id word = Contains w.claims.loaded (record { id = id; word = word })
+abbrev pub ShowsWord : View → ℕ → LookupWord → Type 0
+ShowsWord w id word = Contains w.claims.loaded (record { id = id; word = word })
 
 -- The declaration is not live, by the whole journal that was seen. That journal was met `gives`
 -- times.
@@ -41,7 +41,7 @@ pub record FindsCache (shape : Shape) (v : View) (decl : ℕ) (pool : List PoolE
   -- a load showed before that a number was left
   pub first : LookupWord
   pub left : first.lookups < last_lookups
-  pub shows : Shows w id first
+  pub shows : ShowsWord w id first
   pub holds : IsHeldBy w id number decl
   pub gains : Brings v w (record nothing { attempts = record { id = id; number = number; held = Some decl } ∷ []; gives = gives })
 
@@ -52,7 +52,7 @@ pub record HasLoaded (v w : View) (id : ℕ) (word : LookupWord) : Type 0 where
   pub shown : Contains words (record { id = id; word = word })
 
 -- the lookups of the live id are used up
-pub record IsUsedUp (shape : Shape) (v : View) (decl : ℕ) (pool : List PoolEntry) (id seen : ℕ) (w : View) : Type 0 where
+pub record AreLookupsUsedUp (shape : Shape) (v : View) (decl : ℕ) (pool : List PoolEntry) (id seen : ℕ) (w : View) : Type 0 where
   pub live : IsLiveAs shape pool id decl
   pub most : last_lookups ≤ seen
   pub first : LookupWord
@@ -61,7 +61,7 @@ pub record IsUsedUp (shape : Shape) (v : View) (decl : ℕ) (pool : List PoolEnt
 
 -- the counter that is used up is that of the live id's lookups
 abbrev pub FindWorn : Shape → View → ℕ → List PoolEntry → Spent → View → Type 0
-FindWorn shape v decl pool (spent.Lookups id seen) w = IsUsedUp shape v decl pool id seen w
+FindWorn shape v decl pool (spent.Lookups id seen) w = AreLookupsUsedUp shape v decl pool id seen w
 FindWorn shape v decl pool (spent.List place entries items) w = ⊥
 FindWorn shape v decl pool (spent.Charges charges uncharges) w = ⊥
 
@@ -96,7 +96,7 @@ pub record FindsNoId (shape : Shape) (v : View) (decl : ℕ) (pool : List PoolEn
   pub none : lowest_idle shape.ids pool ≡ None
 
 -- there is an id, and no memory for the entry
-pub record LacksMemory (shape : Shape) (v : View) (decl : ℕ) (pool : List PoolEntry) (gives : ℕ) (w : View) : Type 0 where
+pub record RegisterLacksMemory (shape : Shape) (v : View) (decl : ℕ) (pool : List PoolEntry) (gives : ℕ) (w : View) : Type 0 where
   pub id : ℕ
   pub missing : is_live_decl shape.ids decl pool ≡ false
   pub lowest : lowest_idle shape.ids pool ≡ Some id
@@ -122,5 +122,5 @@ pub record Registers (key : Setting) (v : View) (decl : ℕ) (pool : List PoolEn
 abbrev pub RegisterGives : Setting → View → ℕ → List PoolEntry → ℕ → RegisterAnswer → View → Type 0
 RegisterGives key v decl pool gives (register.AlreadyRegistered entry) w = FindsLive key.shape v decl pool gives entry w
 RegisterGives key v decl pool gives (register.NoId entry) w = FindsNoId key.shape v decl pool gives entry w
-RegisterGives key v decl pool gives register.Memory w = LacksMemory key.shape v decl pool gives w
+RegisterGives key v decl pool gives register.Memory w = RegisterLacksMemory key.shape v decl pool gives w
 RegisterGives key v decl pool gives (register.Registered id entry) w = Registers key v decl pool gives id entry w

@@ -20,7 +20,7 @@ use Rattle.shr_core.specs.Parts.{Made, Turn}
 use Rattle.shr_core.specs.Rule.{HasLastEnd, mark_of}
 use Rattle.shr_core.specs.Steps.{undrained}
 use Rattle.shr_node.specs.Gains.{Gains}
-use Rattle.shr_node.specs.Draining.{Draw, IsDraw, made_in, drawn, IsFilled, DrainWorn}
+use Rattle.shr_node.specs.Draining.{Draw, IsDraw, made_by_draws, drawn, IsFilled, DrainWorn}
 use Rattle.shr_registry.specs.declared.retiring.Retired.{Retired}
 use Rattle.shr_registry.specs.declared.retiring.Retired.TheVariants as retired
 use Rattle.shr_registry.specs.declared.answers.UnregisterAnswer.{UnregisterAnswer}
@@ -71,7 +71,7 @@ RetireGives shape v decl pool gives (retired.Dying id entry from to) w = Dies sh
 -- the entries that the draws of one node after another made, from this node on
 abbrev pub made_from : ℕ → ℕ → Serial → List (List Draw) → List Made
 made_from id node by [] = []
-made_from id node by (ds ∷ more) = made_in id node by ds ++ made_from id (node + 1) by more
+made_from id node by (ds ∷ more) = made_by_draws id node by ds ++ made_from id (node + 1) by more
 
 -- the objects of the draws of one node after another
 abbrev pub drawn_from : List (List Draw) → List Object

@@ -1,17 +1,13 @@
 -- The groups from the last to the root: the lists that are ready, and what was told.
-use Rattle.shr_replay.proofs.Common.{◌≡◌, ◌≢◌, ℕ, ◌+◌, ◌<◌, ◌≤◌, Bool, true, false, cond, List, [], ◌∷◌, ◌++◌, length, set, refl, sym, ap, ◌∙◌, subst, ◌⊎◌, inl, inr, arith, Option, Some, None, length-set, length-append, slice_set, slice_index_or, get_or-set_same, get_or-set_other, cases_Bool, Object, Entry, Place, Queued, is_child, at_group, Family, before_closed, Replayed, given_by, no_list, took_of, KeepsOthers, IsReplayed, given_from, AreJournals, AreReplayed, entries_in}
-use Rattle.std.proofs.Common.{zero, suc, ⊎_elim}
-use Rattle.std.specs.Prelude.{slice_get, slice_index}
+use Rattle.shr_replay.proofs.Common.{◌≡◌, ◌≢◌, ℕ, ◌+◌, ◌<◌, ◌≤◌, Bool, true, false, cond, List, [], ◌∷◌, ◌++◌, length, set, refl, sym, ap, ◌∙◌, subst, ◌⊎◌, inl, inr, arith, Option, Some, None, length-set, length-append, slice_set, slice_index_or, get_or-set_same, get_or-set_other, cases_Bool, Object, Entry, Place, Queued, is_child, at_group, Family, before_closed, Replayed, given_by, no_queue, took_of, KeepsOthers, IsReplayed, given_from, AreJournals, AreReplayed, printed_entries, zero, suc, ⊎_elim, slice_get, slice_index, IsTree, parent_of, IsReplayedAt}
 use Rattle.std.proofs.lemmas.Option.{slice_get_within, slice_get_past}
 use mathlib.Core.Logic.{dite}
 use native.Mathlib.Decide.{ℕ_discrete}
 use Rattle.shr_base.specs.declared.ends.PlaceEnd.{PlaceEnd}
-use Rattle.shr_model.specs.Groups.{IsTree, parent_of}
 use Rattle.shr_model.specs.Families.{items_within, items_given, lists_moved, lists_moved_at}
 use Rattle.shr_model.specs.Items.{items_from}
 use Rattle.shr_model.proofs.GroupsLaws.{child_takes, child_higher}
 use Rattle.shr_model.proofs.MovesLaws.{same_items_within}
-use Rattle.shr_replay.specs.Groups.{IsReplayedAt}
 
 -- what the list of a group gives to that of its parent
 abbrev pub ready_items : List ℕ → Family → Place → ℕ → List Object
@@ -59,8 +55,8 @@ module _ (parents : List ℕ) (tree : IsTree parents) (family : Family) (printed
       → AreClimbed parents family printed place group (slice_set after group q) (told ++ r ∷ [])
   climbed_more r q is given many kept done = record {
     ready = λ c low high below. dite (ℕ_discrete c group)
-        (λ same. ap (given_by (slice_set after group q)) same ∙ (ap (λ (y : Queued). y.items) (get_or-set_same after group q no_list (omega (arith, kept.count, many, within))) ∙ (given ∙ ap (ready_items parents family place) (sym same))))
-        (λ other. ap (λ (y : Queued). y.items) (get_or-set_other after group c q no_list other) ∙ (kept.others c (no_child c below) ∙ b.ready c (omega (arith, low, other)) high (omega (arith, below))));
+        (λ same. ap (given_by (slice_set after group q)) same ∙ (ap (λ (y : Queued). y.items) (get_or-set_same after group q no_queue (omega (arith, kept.count, many, within))) ∙ (given ∙ ap (ready_items parents family place) (sym same))))
+        (λ other. ap (λ (y : Queued). y.items) (get_or-set_other after group c q no_queue other) ∙ (kept.others c (no_child c below) ∙ b.ready c (omega (arith, low, other)) high (omega (arith, below))));
     each = λ k g s here e. ⊎_elim
         (λ before. b.each k g s before e)
         (λ (last : (k ≡ length told) × (r ≡ s)). let same : g ≡ group = omega (arith, e, done, last.0) in subst (λ (n : ℕ). IsReplayedAt parents family printed (at_group place n) s) (sym same) (subst (IsReplayedAt parents family printed (at_group place group)) last.1 is))

@@ -1,6 +1,5 @@
 -- A replay under way: what its entries so far told, and what those behind them will tell.
-use Rattle.shr_replay.proofs.Common.{◌≡◌, ℕ, ◌+◌, Bool, true, false, cond, List, [], ◌∷◌, ◌++◌, length, map, refl, sym, ap, ◌∙◌, subst, arith, append_assoc, append-nil, length-append, ◌↔◌, Decides, Object, Entry, Add, Look, Drop, Pin, Scan, MovedIn, Closed, Drained, moved_by, before_closed, without_child, FreedTag, Replayed, took_after, tag_of, freed_tag, given_from, IsReplayed}
-use Rattle.std.specs.Prelude.{◌||◌, not, if◌then◌else◌}
+use Rattle.shr_replay.proofs.Common.{◌≡◌, ℕ, ◌+◌, Bool, true, false, cond, List, [], ◌∷◌, ◌++◌, length, map, refl, sym, ap, ◌∙◌, subst, arith, append_assoc, append-nil, length-append, ◌↔◌, Decides, Object, Entry, Add, Look, Drop, Pin, Scan, MovedIn, Closed, Drained, moved_by, before_closed, without_child, FreedTag, Replayed, took_after, tag_of, freed_tag, given_from, IsReplayed, ◌||◌, not, if◌then◌else◌}
 use Rattle.std.proofs.lemmas.List.Sums.{take_while-cons}
 use Rattle.shr_model.specs.Items.{step, freed_by, first_moved, later_moved, items_from, AreOutcomes, IsOutcome, is_closing}
 use Rattle.shr_model.specs.Families.{lists_moved}

@@ -1,6 +1,5 @@
 -- The nodes of a queue, gone through from the head.
-use Rattle.shr_replay.proofs.Common.{◌≡◌, ℕ, ◌+◌, ◌≤◌, ◌⊎◌, inl, inr, List, [], ◌∷◌, ◌++◌, map, length, Option, Some, None, refl, sym, ap, ◌∙◌, arith, append_assoc, append-nil, length-append, Keyed, first_key, objects_of, IsAt, AtNode, Tag, tag_of}
-use Rattle.std.proofs.lemmas.List.{map-append}
+use Rattle.shr_replay.proofs.Common.{◌≡◌, ℕ, ◌+◌, ◌≤◌, ◌⊎◌, inl, inr, List, [], ◌∷◌, ◌++◌, map, length, Option, Some, None, refl, sym, ap, ◌∙◌, arith, append_assoc, append-nil, length-append, Keyed, first_key, objects_of, IsAt, AtNode, Tag, tag_of, map-append}
 
 -- so many nodes were met, these are their tags, and the next one is here
 pub record IsListed (nodes : List Keyed) (at : Option ℕ) (met : ℕ) (tags : List Tag) : Type 0 where

@@ -1,6 +1,5 @@
 -- Objects that are printed, gone through beside the nodes of a queue.
-use Rattle.shr_replay.proofs.Common.{◌≡◌, ◌≢◌, ℕ, Bool, true, false, List, [], ◌∷◌, ◌++◌, map, Option, Some, None, refl, sym, ap, ◌∙◌, subst, append_assoc, ◌↔◌, Decides, Object, Keyed, first_key, objects_of, IsAt, AtNode}
-use Rattle.std.specs.Prelude.{is_none}
+use Rattle.shr_replay.proofs.Common.{◌≡◌, ◌≢◌, ℕ, Bool, true, false, List, [], ◌∷◌, ◌++◌, map, Option, Some, None, refl, sym, ap, ◌∙◌, subst, append_assoc, ◌↔◌, Decides, Object, Keyed, first_key, objects_of, IsAt, AtNode, is_none}
 
 -- the nodes so far have the objects so far, the next one is here, and these are the objects that are left
 pub record IsMatched (nodes : List Keyed) (at : Option ℕ) (printed walk : List Object) : Type 0 where

@@ -10,22 +10,22 @@ use Rattle.shr_replay.specs.declared.journal.Replayed.{Replayed}
 use Rattle.shr_replay.specs.Journals.{IsReplayed}
 
 -- the journal of a place that is printed, or the empty one
-abbrev pub entries_in : Option PlaceEnd → List Entry
-entries_in None = []
-entries_in (Some end) = end.entries.items
+abbrev pub printed_entries : Option PlaceEnd → List Entry
+printed_entries None = []
+printed_entries (Some end) = end.entries.items
 
 -- the family has for each group, at this place's id and node, the journal with the group's index
 abbrev pub AreJournals : List PlaceEnd → List ℕ → ℕ → Family → Place → Type 0
-AreJournals ends firsts count family place = (group : ℕ) → group < count → family (at_group place group) ≡ entries_in (slice_get ends (slice_index firsts group))
+AreJournals ends firsts count family place = (group : ℕ) → group < count → family (at_group place group) ≡ printed_entries (slice_get ends (slice_index firsts group))
 
 -- the objects of a place that are printed, none where it isn't printed
-abbrev pub items_in : Option PlaceEnd → List Object
-items_in None = []
-items_in (Some end) = end.items.items
+abbrev pub printed_items : Option PlaceEnd → List Object
+printed_items None = []
+printed_items (Some end) = end.items.items
 
 -- these are the printed objects of each group's place at this place's id and node
 abbrev pub ArePrinted : List PlaceEnd → List ℕ → ℕ → (Place → List Object) → Place → Type 0
-ArePrinted ends firsts count printed place = (group : ℕ) → group < count → printed (at_group place group) ≡ items_in (slice_get ends (slice_index firsts group))
+ArePrinted ends firsts count printed place = (group : ℕ) → group < count → printed (at_group place group) ≡ printed_items (slice_get ends (slice_index firsts group))
 
 -- all that is told of the journal of a place is so
 abbrev pub IsReplayedAt : List ℕ → Family → (Place → List Object) → Place → Replayed → Type 0

@@ -8,12 +8,12 @@ use Rattle.shr_model.specs.Groups.{is_child}
 use Rattle.shr_model.specs.Families.{without_child}
 
 -- a list without objects
-abbrev pub no_list : Queued
-no_list = record { nodes = []; keys = []; items = [] }
+abbrev pub no_queue : Queued
+no_queue = record { nodes = []; keys = []; items = [] }
 
 -- the objects that the list of a group still has to give, none past the last list
 abbrev pub given_by : List Queued → ℕ → List Object
-given_by lists group = (slice_index_or lists group no_list).items
+given_by lists group = (slice_index_or lists group no_queue).items
 
 -- what is still to be taken from each group's list: nothing where it is no child
 abbrev pub took_of : List ℕ → ℕ → List Queued → ℕ → List Object

@@ -5,7 +5,7 @@ ghost use Rattle.shr_base.specs.declared.objects.Object.{Object};
 ghost use Rattle.shr_base.specs.declared.places.Place.{Place};
 ghost use Rattle.shr_model.specs.Families.{Family, lists_moved};
 ghost use Rattle.shr_model.specs.Groups.{IsTree};
-ghost use Rattle.shr_replay.specs.Groups.{AreJournals, ArePrinted, AreReplayed, entries_in, items_in};
+ghost use Rattle.shr_replay.specs.Groups.{AreJournals, ArePrinted, AreReplayed, printed_entries, printed_items};
 ghost use Rattle.shr_replay.specs.Journals.{IsReplayed, given_from};
 ghost use Rattle.shr_replay.specs.Lists.{took_of, given_by, KeepsOthers};
 
@@ -27,10 +27,10 @@ fn replay_end(
     lists: &mut Vec<Queue>,
 ) -> Result<(Replayed, Queue), Memory>
     ensures replayed { IfOk result (λ r. IsReplayed (lists_moved
-        (took_of parents.now group lists.old.items) (entries_in (option_copied end.entry)))
-        (entries_in (option_copied end.entry)) (items_in (option_copied end.entry)) r.0) }
+        (took_of parents.now group lists.old.items) (printed_entries (option_copied end.entry)))
+        (printed_entries (option_copied end.entry)) (printed_items (option_copied end.entry)) r.0) }
     ensures given { IfOk result (λ r. r.1.items
-        ≡ given_from (took_of parents.now group lists.old.items) [] (entries_in
+        ≡ given_from (took_of parents.now group lists.old.items) [] (printed_entries
         (option_copied end.entry))) }
     ensures others { OnOk result (KeepsOthers parents.now group lists.old.items lists.new.items) }
 {

@@ -1,8 +1,7 @@
 -- The lists on which the second whole report's worker acts go up only, and those of a report of a run, changed in one place,
 -- don't.
-use Rattle.shr_report.proofs.Common.{◌≡◌, ℕ, zero, suc, [], ◌∷◌, codes, refl, arith, ap, sym, subst, ⊎_elim, At, Place, IsAtOrAbove, Has_from_Contains, parents_of, at}
+use Rattle.shr_report.proofs.Common.{◌≡◌, ℕ, zero, suc, [], ◌∷◌, codes, refl, arith, ap, sym, subst, ⊎_elim, At, Place, IsAtOrAbove, Has_from_Contains, parents_of, at, Get}
 use Rattle.shr_base.specs.declared.replies.Reply.TheVariants as reply
-use Rattle.shr_base.specs.declared.scripts.Command.TheVariants.{Get}
 use Rattle.shr_model.specs.Groups.{path_within}
 use Rattle.shr_report.specs.Climbs.{ActsOn, AreClimbing}
 use Rattle.shr_report.proofs.OfflineReport as offline

@@ -1,9 +1,7 @@
 -- The second whole report's cuts are told, and reports of a run, changed in one place, whose aren't.
-use Rattle.shr_report.proofs.Common.{◌≡◌, ℕ, ◌≤◌, true, false, List, [], ◌∷◌, length, refl, arith, Answered, WalkAnswer, WalkRecord, Report}
-use Rattle.std.specs.Prelude.{AllPairs}
+use Rattle.shr_report.proofs.Common.{◌≡◌, ℕ, ◌≤◌, true, false, List, [], ◌∷◌, length, refl, arith, Answered, WalkAnswer, WalkRecord, Report, AllPairs, is_cut}
 use Rattle.shr_base.specs.declared.replies.Reply.TheVariants as reply
 use Rattle.shr_base.specs.declared.walks.WalkAnswer.TheVariants as walk
-use Rattle.shr_model.specs.Walks.{is_cut}
 use Rattle.shr_report.specs.Cuts.{AreCutsTold}
 use Rattle.shr_report.proofs.SecondCases.{each_answer}
 use Rattle.shr_report.proofs.SecondReport as second

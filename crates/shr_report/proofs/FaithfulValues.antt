@@ -1,10 +1,9 @@
 -- The second whole report is faithful, and for each sentence of that a report of a run, changed in one place, isn't.
-use Rattle.shr_report.proofs.Common.{◌≡◌, ℕ, zero, suc, ◌<◌, ◌≤◌, ◌≢◌, ◌==◌, true, false, cond, if◌then◌else◌, List, [], ◌∷◌, Some, refl, slice_get, arith, sym, ap, subst, ◌∙◌, ⊎_elim, Registered, Unregistered, Idle, Begin, Done, UseStep, Answered, last_number, Has_from_Contains, IsSomeAnd, Report, is_done_by, serial_of, reply_at, lookups_at, of_answer}
+use Rattle.shr_report.proofs.Common.{◌≡◌, ℕ, zero, suc, ◌<◌, ◌≤◌, ◌≢◌, ◌==◌, true, false, cond, if◌then◌else◌, List, [], ◌∷◌, Some, refl, slice_get, arith, sym, ap, subst, ◌∙◌, ⊎_elim, Registered, Unregistered, Idle, Begin, Done, UseStep, Answered, last_number, Has_from_Contains, IsSomeAnd, Report, is_done_by, serial_of, reply_at, lookups_at, of_answer, pool_made_by, shows_offline}
 use Rattle.shr_base.specs.declared.replies.Reply.TheVariants as reply
 use Rattle.shr_base.specs.declared.scripts.Command.TheVariants as command
 use Rattle.shr_model.specs.Groups.{path_within}
 use Rattle.shr_model.specs.Pool.{number_from, phase_of}
-use Rattle.shr_report.specs.Freshness.{made_by, shows_offline}
 use Rattle.shr_report.specs.Faithful.{pool_reached, tree_reached, tree_made, AreNotAbove, IsOverOnPath, IsFaithful}
 use Rattle.shr_report.proofs.BitsToldValues as bits
 use Rattle.shr_report.proofs.ClimbsValues.{are_climbing}
@@ -33,7 +32,7 @@ nothing_shown (suc zero) lt e = let f : false ≡ true = e in absurd (cc)
 nothing_shown (suc (suc zero)) lt e = let f : false ≡ true = e in absurd (cc)
 nothing_shown (suc (suc (suc k))) lt e = absurd (omega (arith, lt))
 
-none_made : (worker k : ℕ) → made_by report worker k ≡ []
+none_made : (worker k : ℕ) → pool_made_by report worker k ≡ []
 none_made zero zero = refl
 none_made zero (suc zero) = refl
 none_made zero (suc (suc zero)) = refl

@@ -1,8 +1,7 @@
 -- Changes that break the sentences that no other change here breaks: sizes and names, totals,
 -- rounds, walks that were cut, rows of the table of replies, and a list that two caches share.
-use Rattle.shr_report.proofs.Common.{◌≡◌, ◌≤◌, ℕ, true, List, [], ◌∷◌, codes, length, replicate, Some, None, refl, arith, ap, inl, inr, Entry, Add, Drop, Drained, Registered, Unregistered, Idle, WalkRecord, Has, Has_from_Contains, Report, serial_of, journals_of, IsReply, HasCause, AreRepliesLawful, AreJournalsLawful, IsBagLawful, AreWalksLawful, IsFoundRight, AreLookupsLawful, AreChargesLawful, IsDeferredLawful}
+use Rattle.shr_report.proofs.Common.{◌≡◌, ◌≤◌, ℕ, true, List, [], ◌∷◌, codes, length, replicate, Some, None, refl, arith, ap, inl, inr, Entry, Add, Drop, Drained, Registered, Unregistered, Idle, WalkRecord, Has, Has_from_Contains, Report, serial_of, journals_of, IsReply, HasCause, AreRepliesLawful, AreJournalsLawful, IsBagLawful, AreWalksLawful, IsFoundRight, AreLookupsLawful, AreChargesLawful, IsDeferredLawful, MovedIn, IsBegun, AreRoundsOfPut}
 use Rattle.shr_base.specs.declared.journals.DropKind.TheVariants as kind
-use Rattle.shr_base.specs.declared.journals.Entry.TheVariants.{MovedIn}
 use Rattle.std.proofs.lemmas.List.Sorted.{length_permutation}
 use Rattle.shr_base.specs.declared.walks.Outcome.TheVariants as outcome
 use Rattle.shr_base.specs.declared.replies.Reply.TheVariants as reply
@@ -13,8 +12,6 @@ use Rattle.shr_model.specs.Groups.{path_within, path_of}
 use Rattle.shr_model.specs.Items.{items_from, freed_from, AreOutcomes}
 use Rattle.shr_model.specs.Families.{lists_moved, items_within}
 use Rattle.shr_model.specs.Pool.{phase_of, decl_from, decl_at, registrations, end_of, number_from, is_live_below}
-use Rattle.shr_report.specs.LawfulWalk.{IsBegun}
-use Rattle.shr_report.specs.WalksLawful.{AreRounds}
 use Rattle.shr_report.proofs.SecondReport as second
 use Rattle.shr_report.proofs.NotLawful.{with_list, with_walks}
 use Rattle.shr_report.proofs.OfflineReport as moves
@@ -77,10 +74,10 @@ above_limit h = let e : 3 ≤ 2 = h.limits 1 in absurd (omega (arith, e))
 
 -- the rounds of a put: a fourteenth, one over a group that isn't above, fewer than refusals, and an
 -- Over after none
-fourteen_rounds : AreRounds over.script over.report (serial_of 0 4) 1 (reply.Over 1 28 2) (replicate 14 1) → ⊥
+fourteen_rounds : AreRoundsOfPut over.script over.report (serial_of 0 4) 1 (reply.Over 1 28 2) (replicate 14 1) → ⊥
 fourteen_rounds h = let e = h.few in absurd (omega (arith, e))
 
-round_elsewhere : AreRounds over.script over.report (serial_of 0 4) 1 (reply.Over 1 28 2) (5 ∷ []) → ⊥
+round_elsewhere : AreRoundsOfPut over.script over.report (serial_of 0 4) 1 (reply.Over 1 28 2) (5 ∷ []) → ⊥
 unfolding path_within
 round_elsewhere h = no (Has_from_Contains (path_of (0 ∷ 0 ∷ []) 1) 5 h.above.0) where
   no : Has {X = ℕ} (1 ∷ 0 ∷ []) 5 → ⊥
@@ -88,10 +85,10 @@ round_elsewhere h = no (Has_from_Contains (path_of (0 ∷ 0 ∷ []) 1) 5 h.above
   no (inr (inl e)) = omega (arith, e)
   no (inr (inr e)) = e
 
-fewer_rounds : AreRounds over.script over.report (serial_of 0 4) 1 (reply.Over 1 28 2) (replicate 12 1) → ⊥
+fewer_rounds : AreRoundsOfPut over.script over.report (serial_of 0 4) 1 (reply.Over 1 28 2) (replicate 12 1) → ⊥
 fewer_rounds h = let e : 13 ≡ 14 = h.refusals 1 in absurd (omega (arith, e))
 
-over_at_once : AreRounds over.script over.report (serial_of 0 4) 1 (reply.Over 1 28 2) [] → ⊥
+over_at_once : AreRoundsOfPut over.script over.report (serial_of 0 4) 1 (reply.Over 1 28 2) [] → ⊥
 over_at_once h = let e : 0 ≡ 13 = h.all 1 28 2 refl in absurd (omega (arith, e))
 
 -- a walk that was cut: it loaded a later unit before it tried the ids of the first, or began with

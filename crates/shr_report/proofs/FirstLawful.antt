@@ -1,5 +1,5 @@
 -- The first whole report is lawful for its script.
-use Rattle.shr_report.proofs.Common.{◌≡◌, ℕ, zero, suc, ◌+◌, ◌<◌, ◌≤◌, Bool, true, false, cond, ◌&&◌, nat_lt, fold, count_by, flat_map, List, [], ◌∷◌, ◌++◌, length, take, Some, None, slice_get, refl, Contains, arith, sym, ap, subst, ◌∙◌, and_parts, Place, Entry, at_group, parent_of, is_child, is_closed, moved_in, items_given, MayStand, IsBornAt, cons_option, map, ◌%◌, UseStep, ops_by, is_refused, versions_at, ◌==◌, if◌then◌else◌, Registered, Found, Carry, decl_named, is_live, last_number, IsNextPool, IsPoolJournal, lookups_at, carries_of, found_numbers, tried_numbers, IsFoundRight, AreLookupsLawful, IsDeferredLawful, AreBitsLawful, pos, ◌-ℤ◌, IfSome, IsSomeAnd, ups, usage_after, IsNextUse, IsChargeHistory, AreTakenBack, is_put, command_at, reply_at, IsDownBetween, charged, freed_below, listed_below, AreChargesLawful, ◌||◌, list_any, PoolEntry, Answered, WalkRecord, answers_of, isolations_of, pool_seen, pool_made, tree_seen, of_answer, shown_by, is_begin_at, is_done_at, AreBelow, AreCausesLawful, IsLawful, IsOfIsolation, isolations_told, AreIsolationsLawful, AreNotFalling, IsOfPass, uses_at, limit_of, walks_of, parents_of, serial_of, cited_at, journals_of, items_left, at, EachEntry, AreRepliesLawful, AreJournalsLawful, AreWalksLawful, IsBagLawful, Serial, Command, At, PlainWalk, IsThere, EachAnswer, is_set_at, ArePoolsLawful, plain_of, plain_at, units_cited_at}
+use Rattle.shr_report.proofs.Common.{◌≡◌, ℕ, zero, suc, ◌+◌, ◌<◌, ◌≤◌, Bool, true, false, cond, ◌&&◌, nat_lt, fold, count_by, flat_map, List, [], ◌∷◌, ◌++◌, length, take, Some, None, slice_get, refl, Contains, arith, sym, ap, subst, ◌∙◌, and_parts, Place, Entry, at_group, parent_of, is_child, is_closed, moved_in, items_given, MayStand, IsBornAt, cons_option, map, ◌%◌, UseStep, ops_by, is_refused, versions_at, ◌==◌, if◌then◌else◌, Registered, Found, Carry, decl_named, is_live, last_number, IsNextPool, IsPoolJournal, lookups_at, carries_of, found_numbers, tried_numbers, IsFoundRight, AreLookupsLawful, IsDeferredLawful, AreBitsLawful, pos, ◌-ℤ◌, IfSome, IsSomeAnd, ups, usage_after, IsNextUse, IsChargeHistory, AreTakenBack, is_put, command_at, reply_at, IsDownBetween, charged, freed_below, listed_below, AreChargesLawful, ◌||◌, list_any, PoolEntry, Answered, WalkRecord, answers_of, isolations_of, pool_seen, pool_made, tree_seen, of_answer, shown_by, is_begin_at, is_done_at, AreBelow, AreCausesLawful, IsLawful, IsOfIsolation, isolations_told, AreIsolationsLawful, AreNotFalling, IsOfPass, uses_at, limit_of, walks_of, parents_of, serial_of, cited_at, journals_of, items_left, at, EachEntry, AreRepliesLawful, AreJournalsLawful, AreWalksLawful, IsBagLawful, Serial, Command, At, PlainWalk, IsThere, EachAnswer, is_set_at, ArePoolsLawful, plain_of, plain_at, units_cited_at, walk_at}
 use Rattle.shr_model.specs.Groups.{path_within, preorder_within}
 use Rattle.shr_model.specs.Items.{items_from, freed_from, AreOutcomes}
 use Rattle.shr_model.specs.Families.{lists_moved, items_within}
@@ -8,7 +8,6 @@ use Rattle.shr_model.specs.Pool.{decl_at, registrations, end_of, phase_of, decl_
 use Rattle.shr_model.specs.Commands.{rounds_from}
 use Rattle.shr_base.specs.declared.replies.Reply.TheVariants as reply
 use Rattle.shr_report.proofs.QuietIsolations.{quiet_isolations}
-use Rattle.shr_report.specs.Parts.{walk_at}
 use Rattle.shr_report.proofs.SecondReport.{by, place, put, use_step}
 use Rattle.shr_report.proofs.FirstReport.{script, report, answer, entries, end}
 use Rattle.shr_report.proofs.SecondCases.{each_at, only_journal, AllAt}

@@ -1,11 +1,9 @@
 -- The law on isolations, by a report that meets it and changes that break a sentence.
-use Rattle.shr_report.proofs.Common.{◌≡◌, ℕ, zero, suc, Bool, true, false, List, [], ◌∷◌, codes, Some, None, slice_get, refl, arith, ap, PlaceEnd, Entry, Add, Scan, Plain, Clock, Place, Serial, Answered, IsolateEnd, Command, Put, Script, Isolation, Report, commands_of, answers_of, entry_by, EachEntry, IsReply, IsOfPass, IsOfIsolation, isolations_told, AreIsolationsLawful}
+use Rattle.shr_report.proofs.Common.{◌≡◌, ℕ, zero, suc, Bool, true, false, List, [], ◌∷◌, codes, Some, None, slice_get, refl, arith, ap, PlaceEnd, Entry, Add, Scan, Plain, Clock, Place, Serial, Answered, IsolateEnd, Command, Put, Script, Isolation, Report, commands_of, answers_of, entry_by, EachEntry, IsReply, IsOfPass, IsOfIsolation, isolations_told, AreIsolationsLawful, Isolate, EachIsolation, isolations_by}
 use Rattle.shr_base.specs.declared.replies.IsolateEnd.TheVariants as isolate
 use Rattle.shr_base.specs.declared.replies.Reply.TheVariants as reply
 use Rattle.shr_base.specs.declared.replies.Spent.TheVariants as spent
-use Rattle.shr_base.specs.declared.scripts.Command.TheVariants.{Isolate}
 use Rattle.shr_model.specs.Isolations.{ScanSeen, Met, met_one, met_none, IsLawfulIsolation}
-use Rattle.shr_report.specs.Isolated.{EachIsolation, isolations_by}
 use Rattle.shr_report.proofs.SecondReport.{kept, by, place, put, held}
 use Rattle.shr_report.proofs.SecondCases.{AllAt, each_at, AllTwo, each_two, only_journal}
 use Rattle.shr_report.proofs.FirstReport as first

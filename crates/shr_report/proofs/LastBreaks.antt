@@ -1,5 +1,5 @@
 -- Changes that break what the others leave: of the journals' tables, of charges and of freshness.
-use Rattle.shr_report.proofs.Common.{◌≡◌, ◌<◌, ◌≤◌, ◌≢◌, ℕ, zero, suc, true, [], ◌∷◌, codes, Some, refl, IsSomeAnd, arith, Add, Registered, Unregistered, Idle, Begin, Done, Report, serial_of, command_at, reply_at, AreRepliesLawful, IsLawfulWalk, AreLookupsLawful, AreChargesLawful, IsDeferredLawful, IsOffline, is_done_by, HasCause, AreCausesLawful, IsBagLawful}
+use Rattle.shr_report.proofs.Common.{◌≡◌, ◌<◌, ◌≤◌, ◌≢◌, ℕ, zero, suc, true, [], ◌∷◌, codes, Some, refl, IsSomeAnd, arith, Add, Registered, Unregistered, Idle, Begin, Done, Report, serial_of, command_at, reply_at, AreRepliesLawful, IsLawfulWalk, AreLookupsLawful, AreChargesLawful, IsDeferredLawful, IsOffline, is_done_by, HasCause, AreCausesLawful, IsBagLawful, MayHaveSpliced}
 use Rattle.shr_base.specs.declared.replies.Reply.TheVariants as reply
 use Rattle.shr_base.specs.declared.scripts.Command.TheVariants as command
 use Rattle.shr_base.specs.declared.walks.GoneThen.TheVariants as gone
@@ -10,7 +10,6 @@ use Rattle.shr_model.specs.Groups.{path_within}
 use Rattle.shr_model.specs.Items.{items_from}
 use Rattle.shr_model.specs.Families.{lists_moved, items_within}
 use Rattle.shr_model.specs.Pool.{phase_of, decl_from, decl_at, registrations, end_of, is_live_below}
-use Rattle.shr_report.specs.Causes.{MayHaveSpliced}
 use Rattle.shr_report.proofs.SecondReport as second
 use Rattle.shr_report.proofs.NotLawful.{with_answers, with_walks, with_list, no_offline}
 use Rattle.shr_report.proofs.OfflineReport as moves

@@ -1,6 +1,5 @@
 -- The lines of a report read back.
-use Rattle.shr_report.proofs.Common.{◌≡◌, ℕ, Bool, true, false, List, [], ◌∷◌, ◌⊎◌, inl, inr, refl, sym, ap, subst, codes, ℤ, list_all, is_key, is_value, is_name, is_path, Place, Serial, Object, Plain, Clock, Entry, PoolEntry, TreeEntry, UseStep, Found, Reply, Attempt, MapSeen, WalkAnswer, Carry, PlaceAmount, MapEnd, line, hex, numeral, signed_numeral, spent_words, why_words, isolate_end_words, reply_line, place_words, pass_words, attempt_line, map_line, carry_line, group_line, cache_line, pool_line, tree_line, entry_line, item_line, bit_line, deferred_line, use_line, lookups_line, HasWords, LendsWord, IsSpelled, IsBitWord, read_reply_line, read_found, read_group, read_cache, read_pool, read_tree, read_attempt, read_map, WalkHead, read_walk, read_amount, read_list, read_bit, read_use, read_lookups, Totals, totals, read_total, read_version, read_size, read_item}
-use Rattle.shr_base.specs.declared.objects.Policy.TheVariants.{Halt}
+use Rattle.shr_report.proofs.Common.{◌≡◌, ℕ, Bool, true, false, List, [], ◌∷◌, ◌⊎◌, inl, inr, refl, sym, ap, subst, codes, ℤ, list_all, is_key, is_value, is_name, is_path, Place, Serial, Object, Plain, Clock, Entry, PoolEntry, TreeEntry, UseStep, Found, Reply, Attempt, MapSeen, WalkAnswer, Carry, PlaceAmount, MapEnd, line, hex, numeral, signed_numeral, spent_words, why_words, isolate_end_words, reply_line, place_words, pass_words, attempt_line, map_line, carry_line, numbered_group_line, numbered_cache_line, pool_entry_line, tree_line, entry_line, item_line, bit_line, deferred_line, use_line, lookups_line, HasWords, LendsWord, IsSpelled, IsBitWord, read_reply_line, read_found, read_group, read_cache, read_pool, read_tree, read_attempt, read_map, WalkHead, read_walk, read_amount, read_list, read_bit, read_use, read_lookups, Totals, totals, read_total, read_version, read_size, read_item, Halt, choice, value_word, walked_words}
 use Rattle.shr_base.specs.declared.journals.DropKind.TheVariants as kind
 use Rattle.shr_base.specs.declared.journals.Entry.TheVariants as entry
 use Rattle.shr_base.specs.declared.journals.PoolEntry.TheVariants as pool
@@ -10,8 +9,6 @@ use Rattle.shr_base.specs.declared.walks.GoneThen.TheVariants as gone
 use Rattle.shr_base.specs.declared.walks.Outcome.{Outcome}
 use Rattle.shr_base.specs.declared.walks.Outcome.TheVariants as outcome
 use Rattle.shr_base.specs.declared.walks.WalkAnswer.TheVariants as answer
-use Rattle.shr_report.specs.AnswerText.{choice, value_word}
-use Rattle.shr_report.specs.WalkText.{walked_words}
 use Rattle.shr_report.proofs.Peel.{is_plain_word}
 use Rattle.shr_report.proofs.Reading.{value, hex_value, signed_value, plain_numeral, plain_key, plain_value, plain_name, plain_path, plain_hex, plain_signed}
 use Rattle.shr_report.proofs.Printed.{again_spent, plain_spent, again_why, plain_why, again_isolate_end, plain_isolate_end, again_pass, plain_ending, Printed, printed}
@@ -59,17 +56,17 @@ unfolding is_plain_word
 printed_found f = printed read_found f (codes "find") (numeral f.id ∷ numeral f.number ∷ numeral f.entry ∷ []) (simp plain_numeral) (simp value)
 
 -- the line of a group reads back as its path
-pub printed_group : (n : ℕ) (w : List ℕ) → is_path w ≡ true → Printed (List ℕ) read_group w (group_line n w)
+pub printed_group : (n : ℕ) (w : List ℕ) → is_path w ≡ true → Printed (List ℕ) read_group w (numbered_group_line n w)
 unfolding is_plain_word
 printed_group n w h = printed read_group w (codes "group") (numeral n ∷ w ∷ []) (simp (plain_numeral, plain_path w h)) refl
 
 -- the line of a cache reads back as its name
-pub printed_cache : (n : ℕ) (w : List ℕ) → is_name w ≡ true → Printed (List ℕ) read_cache w (cache_line n w)
+pub printed_cache : (n : ℕ) (w : List ℕ) → is_name w ≡ true → Printed (List ℕ) read_cache w (numbered_cache_line n w)
 unfolding is_plain_word
 printed_cache n w h = printed read_cache w (codes "cache") (numeral n ∷ w ∷ []) (simp (plain_numeral, plain_name w h)) refl
 
 -- the line of such an entry reads back as it
-pub printed_pool : (n : ℕ) (e : PoolEntry) → Printed PoolEntry read_pool e (pool_line n e)
+pub printed_pool : (n : ℕ) (e : PoolEntry) → Printed PoolEntry read_pool e (pool_entry_line n e)
 unfolding is_plain_word
 printed_pool n (pool.Registered decl id from) = printed read_pool (pool.Registered decl id from) (codes "pool") (numeral n ∷ codes "registered" ∷ numeral decl ∷ numeral id ∷ numeral from ∷ []) (simp plain_numeral) (simp value)
 printed_pool n (pool.Unregistered decl id to) = printed read_pool (pool.Unregistered decl id to) (codes "pool") (numeral n ∷ codes "unregistered" ∷ numeral decl ∷ numeral id ∷ numeral to ∷ []) (simp plain_numeral) (simp value)

@@ -1,12 +1,8 @@
 -- What the laws say of groups that are made during a run: by a report of one, and by changes that break them.
-use Rattle.shr_report.proofs.Common.{◌≡◌, ◌<◌, ℕ, zero, suc, true, false, List, [], ◌∷◌, codes, Some, None, Contains, refl, IsSomeAnd, arith, inl, inr, ap, subst, Closed, Begin, Done, Made, Serial, Answered, Shrink, Balance, Offline, MkGroup, IsAtOrAbove, Has, Has_from_Contains, Report, serial_of, parents_of, journals_of, reply_at, AreChargesLawful, AreCausesLawful, AreJournalsLawful, IsFreePut, IsReply, HasCause}
+use Rattle.shr_report.proofs.Common.{◌≡◌, ◌<◌, ℕ, zero, suc, true, false, List, [], ◌∷◌, codes, Some, None, Contains, refl, IsSomeAnd, arith, inl, inr, ap, subst, Closed, Begin, Done, Made, Serial, Answered, Shrink, Balance, Offline, MkGroup, IsAtOrAbove, Has, Has_from_Contains, Report, serial_of, parents_of, journals_of, reply_at, AreChargesLawful, AreCausesLawful, AreJournalsLawful, IsFreePut, IsReply, HasCause, script_hierarchy, is_made_by, IsMadeOnce, made_shown, shows_made, group_met}
 use Rattle.shr_base.specs.declared.replies.Reply.TheVariants as reply
 use Rattle.shr_model.specs.Groups.{path_within}
 use Rattle.shr_model.specs.TreeJournal.{MayBeMade, IsTreeJournal}
-use Rattle.shr_report.specs.Parts.{hierarchy_of}
-use Rattle.shr_report.specs.Causes.{is_made_by, IsMadeOnce}
-use Rattle.shr_report.specs.Freshness.{made_shown, shows_made}
-use Rattle.shr_report.specs.ReplyTable.{group_met}
 use Rattle.shr_report.proofs.SecondReport as second
 use Rattle.shr_report.proofs.NotLawful.{with_answers}
 use Rattle.shr_report.proofs.MadeReport.{script, report, place, put}
@@ -47,11 +43,11 @@ may_be_made : IsReply [] (journals_of report) (serial_of 0 1) (MkGroup 2) None (
 may_be_made = tt
 
 -- its journal of the tree is one, and its entry is cited once
-its_tree : IsTreeJournal (hierarchy_of script) (Made 2 ∷ [])
+its_tree : IsTreeJournal (script_hierarchy script) (Made 2 ∷ [])
 its_tree zero (Made g) at = let same : 2 ≡ g = cc in subst_made g same
   where
-    subst_made : (g : ℕ) → 2 ≡ g → MayBeMade (hierarchy_of script) [] g
-    subst_made g e = subst (MayBeMade (hierarchy_of script) []) e (record { there = omega arith; late = refl; once = refl; parent = refl; online = refl })
+    subst_made : (g : ℕ) → 2 ≡ g → MayBeMade (script_hierarchy script) [] g
+    subst_made g e = subst (MayBeMade (script_hierarchy script) []) e (record { there = omega arith; late = refl; once = refl; parent = refl; online = refl })
 its_tree zero (Begin g) at = absurd (cc)
 its_tree zero (Done g) at = absurd (cc)
 its_tree (suc n) e at = absurd (cc)

@@ -1,7 +1,5 @@
 -- Changes of further reports, each of which breaks a sentence.
-use Rattle.shr_report.proofs.Common.{◌≡◌, ◌<◌, ◌≤◌, ℕ, [], ◌∷◌, Option, Some, None, refl, arith, ap, UseStep, Clock, PassRecord, FollowsArithmetic, scans_by, serial_of, journals_of, zero, suc, IsSomeAnd, Closed, Drained, Registered, Unregistered, Begin, Done, Report, reply_at, IsMadeBy, AreJournalsLawful, AreRepliesLawful, AreScansOf, IsStopped, IsLawfulWalk, AreWalksLawful, IsDeferredLawful, IsReply, HasCause, AreCausesLawful}
-use Rattle.std.specs.Prelude.{nat_abs}
-use Rattle.std.specs.Option.{option_map_or}
+use Rattle.shr_report.proofs.Common.{◌≡◌, ◌<◌, ◌≤◌, ℕ, [], ◌∷◌, Option, Some, None, refl, arith, ap, UseStep, Clock, PassRecord, FollowsArithmetic, scans_by, serial_of, journals_of, zero, suc, IsSomeAnd, Closed, Drained, Registered, Unregistered, Begin, Done, Report, reply_at, IsMadeBy, AreJournalsLawful, AreRepliesLawful, AreScansOf, IsStopped, IsLawfulWalk, AreWalksLawful, IsDeferredLawful, IsReply, HasCause, AreCausesLawful, nat_abs, option_map_or, IsOver, IsSpent}
 use Rattle.shr_base.specs.declared.replies.HalfWhy.TheVariants as why
 use Rattle.shr_base.specs.declared.replies.Reply.TheVariants as reply
 use Rattle.shr_base.specs.declared.replies.Spent.TheVariants as spent
@@ -13,7 +11,6 @@ use Rattle.shr_model.specs.Items.{items_from}
 use Rattle.shr_model.specs.Families.{lists_moved, items_within}
 use Rattle.shr_model.specs.Pool.{phase_of, decl_from, is_live_below, lowest_free}
 use Rattle.shr_report.proofs.NotLawful.{with_list}
-use Rattle.shr_report.specs.Causes.{IsOver, IsSpent}
 use Rattle.shr_report.proofs.SecondReport as second
 use Rattle.shr_report.proofs.NotLawful.{with_answers, with_walks}
 use Rattle.shr_report.proofs.ScansReport as scans

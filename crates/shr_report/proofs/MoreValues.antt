@@ -1,5 +1,5 @@
 -- Sentences on walks, rounds, offlining and unregistering at the values of further reports.
-use Rattle.shr_report.proofs.Common.{◌≡◌, ℕ, zero, suc, ◌+◌, false, cond, [], ◌∷◌, map, replicate, Some, slice_get, refl, arith, ap, subst, IsAtOrAbove, Idle, Entry, Drained, Attempt, PassRecord, pass_of, scans_by, ◌==◌, fold, count_by, ops_by, is_refused, limit_of, uses_at, job_of, serial_of, parents_of, items_left, walks_by, IsLawfulWalk, AreScansOf, IsStopped, freed_below, listed_below, IsMadeBy, moved_from, drained_of, HasCause, IsFoundRight}
+use Rattle.shr_report.proofs.Common.{◌≡◌, ℕ, zero, suc, ◌+◌, false, cond, [], ◌∷◌, map, replicate, Some, slice_get, refl, arith, ap, subst, IsAtOrAbove, Idle, Entry, Drained, Attempt, PassRecord, pass_of, scans_by, ◌==◌, fold, count_by, ops_by, is_refused, limit_of, uses_at, job_of, serial_of, parents_of, items_left, walks_by, IsLawfulWalk, AreScansOf, IsStopped, freed_below, listed_below, IsMadeBy, objects_moved_from, drained_of, HasCause, IsFoundRight, over_at, IsLastOfCut, AreWalksOf, balance_reply}
 use Rattle.shr_model.specs.Scan.{scan_from}
 use Rattle.shr_model.specs.Items.{items_from, freed_from}
 use Rattle.shr_model.specs.Families.{lists_moved, items_within}
@@ -10,9 +10,6 @@ use Rattle.shr_model.specs.Commands.{rounds_from}
 use Rattle.shr_base.specs.declared.replies.Reply.TheVariants as reply
 use Rattle.shr_base.specs.declared.walks.Ending.TheVariants as ending
 use Rattle.shr_base.specs.declared.scripts.Command.TheVariants as command
-use Rattle.shr_report.specs.WalksLawful.{over_at}
-use Rattle.shr_report.specs.LawfulWalk.{IsLastOfCut}
-use Rattle.shr_report.specs.WalksLawful.{AreWalksOf, balance_reply}
 use Rattle.shr_report.proofs.SecondCases.{each_at, only_journal, held_same, all_replicate}
 use Rattle.shr_report.proofs.ScansReport as scans
 use Rattle.shr_report.proofs.OfflineReport as moves
@@ -42,7 +39,7 @@ unfolding items_from freed_from lists_moved items_within path_within scan_from
 skip_freed = refl
 
 -- what the offlining moved
-moved_two : moved_from moves.report 2 ≡ 2
+moved_two : objects_moved_from moves.report 2 ≡ 2
 moved_two = refl
 
 moved_left : map (λ o. o.birth) (items_left moves.script moves.report (moves.place 0 0 1)) ≡ 2 ∷ 2 ∷ 1 ∷ []

@@ -1,5 +1,5 @@
 -- The first whole report has its numbers; for each kind of data a value that has them, and one that doesn't.
-use Rattle.shr_report.proofs.Common.{ℕ, pos, negsuc, ◌-◌, ◌<◌, ◌^◌, true, false, List, [], ◌∷◌, length, codes, Some, arith, refl, none-some, Serial, Place, At, Clock, WorkerPart, Attempt, Carry, Ending, PassRecord, Isolation, PlainAnswer, PlainTry, PlainWalk, WalkRecord, fresh, IsAnsweredNumbered, IsAttemptNumbered, IsSeenNumbered, IsWalkNumbered, IsCarryNumbered, IsPartNumbered, IsEntryNumbered, IsObjectNumbered, IsListNumbered, IsMapNumbered, IsAmountNumbered, IsUseNumbered, HasNumbers, ArePartsWell, IsTryNumbered, IsPlainNumbered, IsIsolationNumbered, IsPlainEntryNumbered, AreUnitsNumbered}
+use Rattle.shr_report.proofs.Common.{ℕ, pos, negsuc, ◌-◌, ◌<◌, ◌^◌, true, false, List, [], ◌∷◌, length, codes, Some, arith, refl, none-some, Serial, Place, At, Clock, WorkerPart, Attempt, Carry, Ending, PassRecord, Isolation, PlainAnswer, PlainTry, PlainWalk, WalkRecord, fresh, IsAnsweredNumbered, IsAttemptNumbered, IsSeenNumbered, IsWalkNumbered, IsCarryNumbered, IsPartNumbered, IsEntryNumbered, IsObjectNumbered, IsListNumbered, IsMapNumbered, IsAmountNumbered, IsUseNumbered, HasNumbers, ArePartsWell, IsTryNumbered, IsPlainNumbered, IsIsolationNumbered, IsPlainEntryNumbered, AreUnitsNumbered, IsNumbered, IsSerialNumbered, IsAtNumbered, IsSpentNumbered, IsWhyNumbered, IsReplyNumbered, IsFindNumbered, IsEndingNumbered, IsPassNumbered, IsOutcomeNumbered, IsWalkedNumbered, IsPlainAnswerNumbered}
 use Rattle.std.proofs.lemmas.Int.{ints}
 use Rattle.shr_base.specs.declared.journals.Entry.TheVariants as entry
 use Rattle.shr_base.specs.declared.journals.PlainEntry.TheVariants as units
@@ -12,8 +12,6 @@ use Rattle.shr_base.specs.declared.walks.Outcome.TheVariants as outcome
 use Rattle.shr_base.specs.declared.walks.PlainAnswer.TheVariants as plain
 use Rattle.shr_base.specs.declared.walks.PlainTry.TheVariants as tried
 use Rattle.shr_base.specs.declared.walks.WalkAnswer.TheVariants as answer
-use Rattle.shr_report.specs.WellFormed.{IsNumbered}
-use Rattle.shr_report.specs.Numbers.{IsSerialNumbered, IsAtNumbered, IsSpentNumbered, IsWhyNumbered, IsReplyNumbered, IsFindNumbered, IsEndingNumbered, IsPassNumbered, IsOutcomeNumbered, IsWalkedNumbered, IsPlainAnswerNumbered}
 use Rattle.shr_report.proofs.SecondReport as second
 use Rattle.shr_report.proofs.FirstReport as first
 

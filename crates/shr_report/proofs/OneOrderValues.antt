@@ -1,8 +1,7 @@
 -- What the second whole report tells is in one order, and reports that are in none.
-use Rattle.shr_report.proofs.Common.{◌≡◌, ◌≢◌, ℕ, zero, suc, ◌+◌, ◌*◌, ◌<◌, ◌≤◌, List, [], ◌∷◌, length, slice_get, Some, Contains, refl, codes, true, false, IsSomeAnd, arith, sym, ap, subst, ◌∙◌, ⊎_elim, dite, ℕ_discrete, Entry, Add, Look, Drained, PoolEntry, Registered, Unregistered, Idle, At, Place, Serial, Answered, WalkRecord, Has_from_Contains, Report, IsMadeBy, serial_of, reply_at, journals_of, entry_by, Told, entry, lookup, turn, count, entries, lookups, turns, looked_by, IsBy, IsInOneOrder}
+use Rattle.shr_report.proofs.Common.{◌≡◌, ◌≢◌, ℕ, zero, suc, ◌+◌, ◌*◌, ◌<◌, ◌≤◌, List, [], ◌∷◌, length, slice_get, Some, Contains, refl, codes, true, false, IsSomeAnd, arith, sym, ap, subst, ◌∙◌, ⊎_elim, dite, ℕ_discrete, Entry, Add, Look, Drained, PoolEntry, Registered, Unregistered, Idle, At, Place, Serial, Answered, WalkRecord, Has_from_Contains, Report, IsMadeBy, serial_of, reply_at, journals_of, entry_by, Told, entry, lookup, turn, count, entries, lookups, turns, looked_by, IsBy, IsInOneOrder, Counting, ToldMeasure, countings_of, ReportTells, TurnTells, TellsOf}
 use Rattle.shr_base.specs.declared.replies.Reply.TheVariants as reply
 use Rattle.shr_base.specs.declared.walks.Outcome.TheVariants as outcome
-use Rattle.shr_report.specs.OneOrder.{Counting, Measure, countings_of, IsTold, EntryTells, TellsOf}
 use Rattle.shr_report.proofs.InUseValues.{used, drained, emptied}
 use Rattle.shr_report.proofs.SecondCases.{each_at, each_entry, held_same}
 use Rattle.shr_report.proofs.SecondReport.{kept, report, part, place, by, held, unheld, walk}
@@ -47,8 +46,8 @@ own_turn : (n : ℕ) (e : PoolEntry) → slice_get report.pool.items n ≡ Some 
 own_turn zero e at = (refl, sym (held_same (Registered 0 0 0) e at))
 own_turn (suc n) e at = absurd (cc)
 
-starts_at : (i low high : ℕ) (e : PoolEntry) → e ≡ Registered 0 0 0 → EntryTells i low high e → (low ≡ 0) × (high ≡ 0)
-starts_at i low high e is tells = let t = subst (EntryTells i low high) is tells in (t.1, t.2)
+starts_at : (i low high : ℕ) (e : PoolEntry) → e ≡ Registered 0 0 0 → TurnTells i low high e → (low ≡ 0) × (high ≡ 0)
+starts_at i low high e is tells = let t = subst (TurnTells i low high) is tells in (t.1, t.2)
 
 -- an entry of a command has the command's number
 own_entry : (p : Place) (n worker k : ℕ) (e : Entry) → slice_get (journals_of report p) n ≡ Some e → entry_by report e ≡ Some (serial_of worker k) → n ≡ k
@@ -58,7 +57,7 @@ own_entry p n worker k e stands is = each_entry (λ q m e. (v j : ℕ) → entry
 few_entries : (p : Place) (n : ℕ) (e : Entry) → slice_get (journals_of report p) n ≡ Some e → n < 2
 few_entries = each_entry (λ q m e. m < 2) (omega arith, (omega arith, tt))
 
-by_numbers : (m : Measure) (x y : Told) → IsTold report x → IsTold report y → x ≢ y → (low high low' high' : ℕ) → TellsOf report m x low high → TellsOf report m y low' high' → low < high' → rank x < rank y
+by_numbers : (m : ToldMeasure) (x y : Told) → ReportTells report x → ReportTells report y → x ≢ y → (low high low' high' : ℕ) → TellsOf report m x low high → TellsOf report m y low' high' → low < high' → rank x < rank y
 by_numbers (entries p) (entry a i) (entry b j) told told' apart low high low' high' t t' less = dite (ℕ_discrete i j)
     (λ same. let place_is : a ≡ b = t.0 ∙ sym t'.0 in absurd (apart (λ d. entry (place_is d) (same d))))
     (λ other. omega (arith, less, t.1, t'.2, other))

@@ -1,7 +1,5 @@
 -- The order of places by id, node and group.
-use Rattle.shr_report.proofs.Common.{◌≡◌, ◌<◌, ◌⊎◌, inl, inr, sym, subst, arith, Place, IsPlaceBefore, IsPlaceUpTo}
-use Rattle.std.proofs.lemmas.Bool.{cases_order}
-use Rattle.shr_model.specs.Places.{place_number}
+use Rattle.shr_report.proofs.Common.{◌≡◌, ◌<◌, ◌⊎◌, inl, inr, sym, subst, arith, Place, IsPlaceBefore, IsPlaceUpTo, cases_order, place_number}
 
 -- of two places one stands before the other at most
 before_one : (p q : Place) → IsPlaceBefore p q → IsPlaceBefore q p → ⊥

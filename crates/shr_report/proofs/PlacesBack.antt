@@ -1,8 +1,5 @@
 -- Lists, and the journals of pools, are parted in one way.
-use Rattle.shr_report.proofs.Common.{◌≡◌, ℕ, ◌<◌, List, ◌++◌, flat_map, sym, ap, ◌∙◌, append_assoc, arith, codes, AllByRecursion, AllZip, PlaceEnd, UnitsEnd, line, place_words, entry_line, item_line, place_lines, plain_entry_line, units_lines, HasWords, IsSpelled, IsSameUnits, read_list, read_item, UnitsHead, read_units}
-use Rattle.shr_report.specs.WellFormed.{IsPlaceWell}
-use Rattle.shr_report.specs.Same.{IsSameEnd}
-use Rattle.shr_report.specs.ReadLines.{read_entry, read_plain_entry}
+use Rattle.shr_report.proofs.Common.{◌≡◌, ℕ, ◌<◌, List, ◌++◌, flat_map, sym, ap, ◌∙◌, append_assoc, arith, codes, AllByRecursion, AllZip, PlaceEnd, UnitsEnd, line, place_words, entry_line, item_line, place_lines, plain_entry_line, units_lines, HasWords, IsSpelled, IsSameUnits, read_list, read_item, UnitsHead, read_units, IsPlaceWell, IsSameEnd, read_entry, read_plain_entry}
 use Rattle.shr_report.proofs.Printed.{one_line}
 use Rattle.shr_report.proofs.LinesBack.{printed_list, printed_entry, printed_item}
 use Rattle.shr_report.proofs.PlainLinesBack.{units_head_of, units_line, printed_units, printed_plain_entry}

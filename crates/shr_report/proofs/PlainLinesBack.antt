@@ -1,10 +1,9 @@
 -- The lines of pools of units and of isolations read back.
-use Rattle.shr_report.proofs.Common.{◌≡◌, ℕ, ◌+◌, true, false, List, [], ◌∷◌, refl, sym, ap, codes, list_all, is_name, PlainEntry, PoolEntry, Isolation, PlainTry, PlainAnswer, PlaceAmount, line, numeral, isolate_end_words, pass_line, isolation_line, units_name_line, pool_line, plain_entry_line, pool_deferred_line, read_pass_line, PlainHead, read_plain, IsolationHead, read_isolation, read_units_name, UnitsHead, read_units, read_pool_amount}
+use Rattle.shr_report.proofs.Common.{◌≡◌, ℕ, ◌+◌, true, false, List, [], ◌∷◌, refl, sym, ap, codes, list_all, is_name, PlainEntry, PoolEntry, Isolation, PlainTry, PlainAnswer, PlaceAmount, line, numeral, isolate_end_words, pass_line, isolation_line, units_name_line, pool_entry_line, plain_entry_line, pool_deferred_line, read_pass_line, PlainHead, read_plain, IsolationHead, read_isolation, read_units_name, UnitsHead, read_units, read_pool_amount, plain_walked_words, plain_try_words}
 use Rattle.shr_base.specs.declared.journals.PlainEntry.TheVariants as units
 use Rattle.shr_base.specs.declared.journals.PoolEntry.TheVariants as pool
 use Rattle.shr_base.specs.declared.walks.PlainTry.TheVariants as tried
 use Rattle.shr_base.specs.declared.walks.PlainAnswer.TheVariants as plain
-use Rattle.shr_report.specs.WalkText.{plain_walked_words, plain_try_words}
 use Rattle.shr_report.specs.ReadLines.{read_try, read_plain_answer, read_plain_entry}
 use Rattle.shr_report.proofs.Peel.{is_plain_word}
 use Rattle.shr_report.proofs.Reading.{value, plain_numeral, plain_name}
@@ -115,7 +114,7 @@ words_of (pool.Registered decl id from) = 5
 words_of (pool.Unregistered decl id to) = 5
 words_of (pool.Idle id) = 3
 
-pub counted_pool : (n : ℕ) (e : PoolEntry) → Printed ℕ count_words (words_of e) (pool_line n e)
+pub counted_pool : (n : ℕ) (e : PoolEntry) → Printed ℕ count_words (words_of e) (pool_entry_line n e)
 unfolding is_plain_word words_of
 counted_pool n (pool.Registered decl id from) = printed count_words 5 (codes "pool") (numeral n ∷ codes "registered" ∷ numeral decl ∷ numeral id ∷ numeral from ∷ []) (simp plain_numeral) refl
 counted_pool n (pool.Unregistered decl id to) = printed count_words 5 (codes "pool") (numeral n ∷ codes "unregistered" ∷ numeral decl ∷ numeral id ∷ numeral to ∷ []) (simp plain_numeral) refl

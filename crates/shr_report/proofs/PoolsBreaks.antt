@@ -1,13 +1,11 @@
 -- Changes of the report of two pools, each of which breaks a sentence of the law on pools.
-use Rattle.shr_report.proofs.Common.{◌≡◌, ℕ, ◌<◌, ◌≤◌, ◌^◌, true, false, List, [], ◌∷◌, Some, None, refl, arith, ap, PlaceAmount, UnitsEnd, Place, Answered, Balance, Release, PlainTry, Empty, Ran, PlainWalk, Report, ArePoolsLawful}
+use Rattle.shr_report.proofs.Common.{◌≡◌, ℕ, ◌<◌, ◌≤◌, ◌^◌, true, false, List, [], ◌∷◌, Some, None, refl, arith, ap, PlaceAmount, UnitsEnd, Place, Answered, Balance, Release, PlainTry, Empty, Ran, PlainWalk, Report, ArePoolsLawful, Skip, PlainJob}
 use Rattle.shr_base.specs.declared.journals.PlainEntry.TheVariants as units
 use Rattle.shr_base.specs.declared.replies.Reply.TheVariants as reply
 use Rattle.shr_base.specs.declared.replies.Spent.TheVariants as spent
 use Rattle.shr_base.specs.declared.walks.Ending.TheVariants as ending
 use Rattle.shr_base.specs.declared.walks.PlainAnswer.TheVariants.{Walked, Memory}
-use Rattle.shr_base.specs.declared.walks.PlainTry.TheVariants.{Skip}
 use Rattle.shr_model.specs.Pass.{due, ask_size}
-use Rattle.shr_report.specs.UnitParts.{PlainJob}
 use Rattle.shr_report.proofs.SecondReport.{kept, by, unheld}
 use Rattle.shr_report.proofs.PoolsReport.{buf, few, script, place, answers, pass, walk, end, part, report}
 

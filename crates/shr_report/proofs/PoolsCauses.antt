@@ -1,13 +1,10 @@
 -- The answers of commands on pools, and what a pool's worn journal asks: the report of two pools has what the
 -- law on replies asks, and changes of it break a sentence of that law or of the law on causes.
-use Rattle.shr_report.proofs.Common.{◌≡◌, ℕ, zero, suc, ◌^◌, false, replicate, List, [], ◌∷◌, length, codes, Some, slice_get, refl, arith, ap, PlainEntry, Place, Serial, Answered, Command, Balance, Release, PlainTry, Empty, Ran, Report, parents_of, journals_of, commands_of, answers_of, serial_of, cited_at, at, EachAnswer, AreCausesLawful, AreRepliesLawful, IsReply}
+use Rattle.shr_report.proofs.Common.{◌≡◌, ℕ, zero, suc, ◌^◌, false, replicate, List, [], ◌∷◌, length, codes, Some, slice_get, refl, arith, ap, PlainEntry, Place, Serial, Answered, Command, Balance, Release, PlainTry, Empty, Ran, Report, parents_of, journals_of, commands_of, answers_of, serial_of, cited_at, at, EachAnswer, AreCausesLawful, AreRepliesLawful, IsReply, id_found, IsPoolSpent, free_at}
 use Rattle.shr_base.specs.declared.journals.PlainEntry.TheVariants as units
 use Rattle.shr_base.specs.declared.replies.Reply.TheVariants as reply
 use Rattle.shr_base.specs.declared.replies.Spent.TheVariants as spent
 use Rattle.shr_base.specs.declared.walks.Ending.TheVariants as ending
-use Rattle.shr_report.specs.Parts.{id_found}
-use Rattle.shr_report.specs.Causes.{IsPoolSpent}
-use Rattle.shr_report.specs.UnitParts.{free_at}
 use Rattle.shr_report.proofs.SecondReport.{kept, by, held, unheld}
 use Rattle.shr_report.proofs.SecondCases.{AllTwo, each_two}
 use Rattle.shr_report.proofs.PoolsReport.{buf, commands, script, place, answers, pass, walk, end, part, report}

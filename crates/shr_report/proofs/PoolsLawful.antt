@@ -1,11 +1,8 @@
 -- The report of two pools has what the law on pools asks of it.
-use Rattle.shr_report.proofs.Common.{◌≡◌, ◌⊎◌, ℕ, zero, suc, ◌+◌, ◌<◌, Bool, true, false, cond, filter_map, sum_by, option_and_then, List, [], ◌∷◌, ◌++◌, Option, Some, None, slice_get, refl, AllByRecursion, arith, sym, ap, subst, ◌∙◌, inl, inr, cases_Bool, UnitsEnd, PlainEntry, Place, PoolDecl, PassRecord, PlainTry, Ran, PlainWalk, is_place, deferred_word, is_place_same, reply_at, serial_of, at, units_in, units_of, units_cited_at, plain_of, pass_at, AreNotFalling, plain_versions, ArePoolsLawful}
-use Rattle.std.specs.Prelude.{option_map, option_to_list}
+use Rattle.shr_report.proofs.Common.{◌≡◌, ◌⊎◌, ℕ, zero, suc, ◌+◌, ◌<◌, Bool, true, false, cond, filter_map, sum_by, option_and_then, List, [], ◌∷◌, ◌++◌, Option, Some, None, slice_get, refl, AllByRecursion, arith, sym, ap, subst, ◌∙◌, inl, inr, cases_Bool, UnitsEnd, PlainEntry, Place, PoolDecl, PassRecord, PlainTry, Ran, PlainWalk, is_place, deferred_word, is_place_same, reply_at, serial_of, at, units_entries, units_journal, units_cited_at, plain_of, pass_at, AreNotFalling, plain_versions, ArePoolsLawful, option_map, option_to_list, pool_place, EachUnits, EachPlain, EachTry, pass_in, try_at, IsPlainCount, IsKind, IsLastTry, IsPlainLawful, IsPlainPass, version_in, reclaims_by}
 use Rattle.shr_base.specs.declared.replies.Reply.TheVariants as reply
 use Rattle.shr_base.specs.declared.walks.Ending.TheVariants as ending
 use Rattle.shr_model.specs.Pass.{due, ask_size}
-use Rattle.shr_report.specs.UnitParts.{pool_place, EachUnits, EachPlain, EachTry, pass_in, try_at}
-use Rattle.shr_report.specs.Pools.{IsPlainCount, IsKind, IsLastTry, IsPlainLawful, IsPlainPass, version_in, reclaims_by}
 use Rattle.shr_report.proofs.SecondReport.{by}
 use Rattle.shr_report.proofs.SecondCases.{AllAt, each_at, AllTwo, each_two}
 use Rattle.shr_report.proofs.PoolsReport.{buf, few, commands, script, place, pass, tries, walk, entries, end, report}
@@ -16,10 +13,10 @@ each_plain P h zero n w e = each_at (P 0) (walk ∷ []) (h, tt) n w e
 each_plain P h (suc worker) n w e = absurd (cc)
 
 -- the journal of a place is this one, or is empty
-each_journal : (P : Place → List PlainEntry → Type 0) → ((p : Place) → P p []) → P place entries → (p : Place) → P p (units_of report p)
+each_journal : (P : Place → List PlainEntry → Type 0) → ((p : Place) → P p []) → P place entries → (p : Place) → P p (units_journal report p)
 each_journal P none here p = elim (cases_Bool (is_place place p)) [
-  | inl own ↦ subst (λ es. P p es) (sym (ap (λ b. units_in (cond b (Some end) None)) own)) (subst (λ q. P q entries) (is_place_same place p own) here)
-  | inr other ↦ subst (λ es. P p es) (sym (ap (λ b. units_in (cond b (Some end) None)) other)) (none p)
+  | inl own ↦ subst (λ es. P p es) (sym (ap (λ b. units_entries (cond b (Some end) None)) own)) (subst (λ q. P q entries) (is_place_same place p own) here)
+  | inr other ↦ subst (λ es. P p es) (sym (ap (λ b. units_entries (cond b (Some end) None)) other)) (none p)
 ]
 
 each_units : (P : Place → ℕ → PlainEntry → Type 0) → AllAt (P place) entries → EachUnits report P
@@ -82,7 +79,7 @@ lawful_walk = record {
   tries = refl;
   counts = each_try (λ pool q d x. IsPlainCount report q x) (record { there = omega arith; len = refl }, (record { there = omega arith; len = refl }, tt));
   kinds = each_try (λ pool q d x. IsKind d x) (omega arith, (tt, tt));
-  passes = each_try (λ pool q d x. (p : PassRecord) → x ≡ Ran p → IsPlainPass report q d 0 p (reclaims_by 0 0 (units_of report q))) ((λ p e. let same : pass ≡ p = cc in subst (λ q. IsPlainPass report place buf 0 q (reclaims_by 0 0 entries)) same ran_once), ((λ p e. absurd (cc)), tt));
+  passes = each_try (λ pool q d x. (p : PassRecord) → x ≡ Ran p → IsPlainPass report q d 0 p (reclaims_by 0 0 (units_journal report q))) ((λ p e. let same : pass ≡ p = cc in subst (λ q. IsPlainPass report place buf 0 q (reclaims_by 0 0 entries)) same ran_once), ((λ p e. absurd (cc)), tt));
   cut = each_try (λ pool q d x. (p : PassRecord) → x ≡ Ran p → p.ending ≡ ending.NoRoom → IsLastTry walk pool) ((λ p e f. let same : pass ≡ p = cc in absurd (cc)), ((λ p e. absurd (cc)), tt));
   freed = refl;
 }

@@ -1,8 +1,7 @@
 -- A report of two pools of units, one of them flat, as a value with its script.
-use Rattle.shr_report.proofs.Common.{true, false, List, [], ◌∷◌, codes, None, UnitsEnd, WorkerPart, PlainEntry, Place, Answered, Command, Balance, Release, PoolDecl, Script, Through, PassRecord, PlainTry, Empty, Ran, PlainWalk, Report}
+use Rattle.shr_report.proofs.Common.{true, false, List, [], ◌∷◌, codes, None, UnitsEnd, WorkerPart, PlainEntry, Place, Answered, Command, Balance, Release, PoolDecl, Script, Through, PassRecord, PlainTry, Empty, Ran, PlainWalk, Report, Grab}
 use Rattle.shr_base.specs.declared.journals.PlainEntry.TheVariants as units
 use Rattle.shr_base.specs.declared.replies.Reply.TheVariants as reply
-use Rattle.shr_base.specs.declared.scripts.Command.TheVariants.{Grab}
 use Rattle.shr_base.specs.declared.walks.PlainAnswer.TheVariants.{Walked}
 use Rattle.shr_report.proofs.SecondReport.{kept, by, unheld}
 

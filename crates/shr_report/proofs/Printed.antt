@@ -1,12 +1,11 @@
 -- Each line reads back as what it is of.
-use Rattle.shr_report.proofs.Common.{◌≡◌, ℕ, true, List, ◌∷◌, ◌++◌, refl, sym, ap, ◌∙◌, list_all, IsolateEnd, Ending, PassRecord, line, spent_words, why_words, isolate_end_words, pass_words}
+use Rattle.shr_report.proofs.Common.{◌≡◌, ℕ, true, List, ◌∷◌, ◌++◌, refl, sym, ap, ◌∙◌, list_all, IsolateEnd, Ending, PassRecord, line, spent_words, why_words, isolate_end_words, pass_words, ending_words}
 use Rattle.shr_base.specs.declared.replies.Spent.{Spent}
 use Rattle.shr_base.specs.declared.replies.Spent.TheVariants as spent
 use Rattle.shr_base.specs.declared.replies.HalfWhy.{HalfWhy}
 use Rattle.shr_base.specs.declared.replies.HalfWhy.TheVariants as why
 use Rattle.shr_base.specs.declared.replies.IsolateEnd.TheVariants as isolate
 use Rattle.shr_base.specs.declared.walks.Ending.TheVariants as ending
-use Rattle.shr_report.specs.WalkText.{ending_words}
 use Rattle.shr_report.proofs.Peel.{is_plain_word, peel}
 use Rattle.shr_report.proofs.Reading.{value, plain_numeral}
 use Rattle.shr_report.specs.ReadWords.{first_of, later, read_spent, read_why, read_isolate_end, read_ending, read_pass}

@@ -1,10 +1,8 @@
 -- Which puts must be added, by values that meet it and values that don't.
-use Rattle.shr_report.proofs.Common.{◌≡◌, ℕ, zero, suc, ◌<◌, [], ◌∷◌, List, codes, slice_get, Some, None, refl, arith, inl, inr, sym, ap, subst, Registered, Unregistered, Begin, Done, Answered, Put, Offline, Script, Report, IsOffline, commands_of, serial_of, IsFreePut}
+use Rattle.shr_report.proofs.Common.{◌≡◌, ℕ, zero, suc, ◌<◌, [], ◌∷◌, List, codes, slice_get, Some, None, refl, arith, inl, inr, sym, ap, subst, Registered, Unregistered, Begin, Done, Answered, Put, Offline, Script, Report, IsOffline, commands_of, serial_of, IsFreePut, MayHaveBegun, IsOnlyPut, IsUnlimited, StaysOn, StaysOnline, IsAddedOrSpent, AreFreePutsAdded, IsEachAdded, DoPutsAddUp}
 use Rattle.shr_base.specs.declared.replies.Reply.TheVariants as reply
 use Rattle.shr_base.specs.declared.replies.Spent.TheVariants as spent
 use Rattle.shr_model.specs.Groups.{path_within}
-use Rattle.shr_report.specs.Causes.{MayHaveBegun}
-use Rattle.shr_report.specs.Puts.{IsOnlyPut, IsUnlimited, StaysOn, StaysOnline, IsAddedOrSpent, AreFreePutsAdded, IsEachAdded, DoPutsAddUp}
 use Rattle.shr_report.proofs.SecondReport.{kept, place, put}
 use Rattle.shr_report.proofs.FirstReport.{script, report, answer}
 use Rattle.shr_report.proofs.OverReport as over

@@ -1,6 +1,5 @@
 -- A report that says nothing of isolations has what the law on isolations asks of it.
-use Rattle.shr_report.proofs.Common.{◌≡◌, ℕ, [], sym, ap, ◌∙◌, slice_get, Some, filter, none-some, Script, Isolation, is_serial, Report, isolations_of, EachAnswer, EachEntry, IsOfIsolation, isolations_told, AreIsolationsLawful}
-use Rattle.shr_report.specs.Parts.{isolation_at}
+use Rattle.shr_report.proofs.Common.{◌≡◌, ℕ, [], sym, ap, ◌∙◌, slice_get, Some, filter, none-some, Script, Isolation, is_serial, Report, isolations_of, EachAnswer, EachEntry, IsOfIsolation, isolations_told, AreIsolationsLawful, isolation_at}
 
 module _ (s : Script) (r : Report) (none : (worker : ℕ) → isolations_of r worker ≡ []) (scans : EachEntry r (λ place n e. IsOfIsolation r place e))
     (untold : EachAnswer s r (λ by c a. isolations_told by c a ≡ [])) where

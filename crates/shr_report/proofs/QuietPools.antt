@@ -1,19 +1,15 @@
 -- A report that says nothing of pools has what the law on pools asks of it, for a script without pools.
-use Rattle.shr_report.proofs.Common.{◌≡◌, ℕ, ◌<◌, List, [], map, flat_map, sym, refl, ap, subst, ◌∙◌, arith, slice_get, Some, find, filter, filter_map, sum_by, AllByRecursion, none-some, PlaceAmount, UnitsEnd, PlainEntry, At, Place, Reply, Command, PoolDecl, Script, PassRecord, PlainWalk, is_serial, deferred_word, is_place, Report, serial_of, EachAnswer, plain_versions, ArePoolsLawful, units_in, units_of, units_cited_at, plain_of, plain_at, pass_at, AreNotFalling}
-use Rattle.shr_report.specs.Deferred.{amount_in}
-use Rattle.shr_report.specs.Pools.{AreUnitsRight, IsPoolReply}
-use Rattle.shr_report.specs.UnitParts.{all_plain, plain_job_of, plain_due}
-use Rattle.shr_report.specs.WellFormed.{units_place}
+use Rattle.shr_report.proofs.Common.{◌≡◌, ℕ, ◌<◌, List, [], map, flat_map, sym, refl, ap, subst, ◌∙◌, arith, slice_get, Some, find, filter, filter_map, sum_by, AllByRecursion, none-some, PlaceAmount, UnitsEnd, PlainEntry, At, Place, Reply, Command, PoolDecl, Script, PassRecord, PlainWalk, is_serial, deferred_word, is_place, Report, serial_of, EachAnswer, plain_versions, ArePoolsLawful, units_entries, units_journal, units_cited_at, plain_of, plain_at, pass_at, AreNotFalling, amount_in, AreUnitsRight, IsPoolReply, all_plain, plain_job_of, plain_due, units_place}
 
 module _ (s : Script) (r : Report) (none : s.pools.items ≡ []) (units : r.units.items ≡ []) (deferred : r.pool_deferred.items ≡ []) (plain : (worker : ℕ) → plain_of r worker ≡ []) (all : all_plain r ≡ [])
     (replies : EachAnswer s r (λ by c a. IsPoolReply s r by c a.reply)) (uncited : (worker k : ℕ) (c : At) → units_cited_at r (serial_of worker k) ≡ Some c → ⊥) where
   none_due : (c : Command) (x : Reply) → plain_due s c x ≡ []
   none_due c x = subst (λ (ds : List PoolDecl). plain_due (record s { pools = record s.pools { items = ds } }) c x ≡ []) (sym none) refl
 
-  no_units : (p : Place) → units_of r p ≡ []
-  no_units p = ap (λ (us : List UnitsEnd). units_in (find (λ (u : UnitsEnd). is_place (units_place u) p) us)) units
+  no_units : (p : Place) → units_journal r p ≡ []
+  no_units p = ap (λ (us : List UnitsEnd). units_entries (find (λ (u : UnitsEnd). is_place (units_place u) p) us)) units
 
-  no_entry : (p : Place) (n : ℕ) (e : PlainEntry) → slice_get (units_of r p) n ≡ Some e → ⊥
+  no_entry : (p : Place) (n : ℕ) (e : PlainEntry) → slice_get (units_journal r p) n ≡ Some e → ⊥
   no_entry p n e at = none-some e (ap (λ l. slice_get l n) (sym (no_units p)) ∙ at)
 
   no_walk : (worker n : ℕ) (w : PlainWalk) → plain_at r worker n ≡ Some w → ⊥

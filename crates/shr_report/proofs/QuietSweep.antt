@@ -1,10 +1,7 @@
 -- A report of a script without a sweep has what the law on sweeps asks of it. What answers to a sweep are, and how many.
-use Rattle.shr_report.proofs.Common.{◌≡◌, ℕ, ◌+◌, ◌≤◌, length, refl, sym, ap, ◌∙◌, arith, slice_get, Option, Some, None, none-some, Answered, Reply, Script, Sweep, Report, commands_of, answers_of, answer_at, cited_by, sweep_serial, IsSweepLawful}
-use Rattle.std.proofs.lemmas.Option.{slice_get_within}
+use Rattle.shr_report.proofs.Common.{◌≡◌, ℕ, ◌+◌, ◌≤◌, length, refl, sym, ap, ◌∙◌, arith, slice_get, Option, Some, None, none-some, Answered, Reply, Script, Sweep, Report, commands_of, answers_of, answer_at, cited_by, sweep_serial, IsSweepLawful, slice_get_within, sweeps_in, sweeps_of, IsSweepReply}
 use Rattle.shr_base.specs.declared.replies.Reply.TheVariants as reply
 use Rattle.shr_base.specs.declared.scripts.WorkerScript.{WorkerScript}
-use Rattle.shr_report.specs.Parts.{sweeps_in, sweeps_of}
-use Rattle.shr_report.specs.Swept.{IsSweepReply}
 
 pub quiet_sweep : (s : Script) (r : Report) → s.sweep ≡ None → IsSweepLawful s r
 quiet_sweep s r none z e = absurd (none-some z (sym none ∙ e))

@@ -1,9 +1,6 @@
 -- What holds of each item of a list that is read from its front.
-use Rattle.shr_report.proofs.Common.{◌≡◌, ℕ, ◌+◌, ◌<◌, ◌≤◌, List, [], ◌∷◌, length, take, drop, get_or, sym, subst, ◌^◌, ◌⊎◌, inl, inr, arith, AllByRecursion, take_more, take-append-drop, each_append, each_weaker, WorkerPart, WalkRecord, Carry, PlainWalk, Isolation, Report, IsPartWell, IsPoolAmountWell, IsWellFormed, Logs, after_command, logs_of, logs_from, AreNumberedTo, IsAnsweredNumbered, IsWalkNumbered, IsCarryNumbered, IsPlainNumbered, IsIsolationNumbered, IsAmountNumbered, IsListNumbered, AreUnitsNumbered, IsMapNumbered, IsUseNumbered, IsPartNumbered, HasNumbers}
-use Rattle.std.specs.Prelude.{OnOk, Result, Ok, Err}
-use Rattle.std.proofs.lemmas.List.{take_all}
+use Rattle.shr_report.proofs.Common.{◌≡◌, ℕ, ◌+◌, ◌<◌, ◌≤◌, List, [], ◌∷◌, length, take, drop, get_or, sym, subst, ◌^◌, ◌⊎◌, inl, inr, arith, AllByRecursion, take_more, take-append-drop, each_append, each_weaker, WorkerPart, WalkRecord, Carry, PlainWalk, Isolation, Report, IsPartWell, IsPoolAmountWell, IsWellFormed, Logs, after_command, logs_of, logs_from, AreNumberedTo, IsAnsweredNumbered, IsWalkNumbered, IsCarryNumbered, IsPlainNumbered, IsIsolationNumbered, IsAmountNumbered, IsListNumbered, AreUnitsNumbered, IsMapNumbered, IsUseNumbered, IsPartNumbered, HasNumbers, OnOk, Result, Ok, Err, take_all, IsAmountWell}
 use Rattle.std.proofs.Math.Seq.{take-add}
-use Rattle.shr_report.specs.WellFormed.{IsAmountWell}
 use Rattle.shr_report.specs.declared.logs.Printed.{Printed}
 use Rattle.shr_report.proofs.Sections.{all_taken}
 use Rattle.shr_report.proofs.PartsBack.{Sorted, sorted_left, none_left, all_second}

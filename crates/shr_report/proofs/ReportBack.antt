@@ -1,7 +1,6 @@
 -- The text of a report determines it.
-use Rattle.shr_report.proofs.Common.{◌≡◌, ℕ, ◌+◌, ◌-◌, ◌<◌, true, List, [], ◌∷◌, ◌++◌, length, map, flat_map, refl, sym, ap, subst, ◌∙◌, append_assoc, arith, codes, AllByRecursion, AllZip, range_with_len, is_path, is_name, each_append, each_weaker, MapEnd, Report, line, numbered, numeral, group_line, cache_line, units_name_line, pool_line, tree_line, worker_lines, place_lines, units_lines, bit_line, deferred_line, pool_deferred_line, use_line, lookups_line, end_lines, IsPoolAmountWell, IsPartWell, IsBitWord, map_units, bit_places, IsWellFormed, IsSameUnits, read_group, read_cache, read_tree, read_amount, read_pool_amount, read_bit, read_use, read_lookups, Totals, totals, read_total, read_version, read_size}
+use Rattle.shr_report.proofs.Common.{◌≡◌, ℕ, ◌+◌, ◌-◌, ◌<◌, true, List, [], ◌∷◌, ◌++◌, length, map, flat_map, refl, sym, ap, subst, ◌∙◌, append_assoc, arith, codes, AllByRecursion, AllZip, range_with_len, is_path, is_name, each_append, each_weaker, MapEnd, Report, line, numbered, numeral, numbered_group_line, numbered_cache_line, units_name_line, pool_entry_line, tree_line, worker_lines, place_lines, units_lines, bit_line, deferred_line, pool_deferred_line, use_line, lookups_line, end_lines, IsPoolAmountWell, IsPartWell, IsBitWord, map_units, bit_places, IsWellFormed, IsSameUnits, read_group, read_cache, read_tree, read_amount, read_pool_amount, read_bit, read_use, read_lookups, Totals, totals, read_total, read_version, read_size, IsOneReport}
 use Rattle.shr_report.specs.Text.{reply_count, walk_count, text}
-use Rattle.shr_report.specs.Same.{IsSame}
 use Rattle.shr_report.proofs.Printed.{one_line}
 use Rattle.shr_report.proofs.LinesBack.{printed_group, printed_cache, printed_tree, IsPrintable, printed_bit, printed_deferred, printed_use, printed_lookups, printed_total, printed_version, printed_size}
 use Rattle.shr_report.proofs.Sections.{kind, kind_group, kind_cache, kind_pool, kind_units_name, kind_tree, kind_bit, kind_deferred, kind_pool_deferred, kind_use, kind_lookups, kind_total, after_items, lines_once, lines_each, flat_once, flat_each, after_flat, all_both}
@@ -40,16 +39,16 @@ from_tree : Report → List ℕ
 from_tree r = numbered tree_line 0 r.tree.items ++ from_workers r
 
 from_pool : Report → List ℕ
-from_pool r = numbered pool_line 0 r.pool.items ++ from_tree r
+from_pool r = numbered pool_entry_line 0 r.pool.items ++ from_tree r
 
 from_names : Report → List ℕ
 from_names r = numbered units_name_line 0 r.pools.items ++ from_pool r
 
 from_caches : Report → List ℕ
-from_caches r = numbered cache_line 0 r.caches.items ++ from_names r
+from_caches r = numbered numbered_cache_line 0 r.caches.items ++ from_names r
 
 from_groups : Report → List ℕ
-from_groups r = numbered group_line 0 r.groups.items ++ from_caches r
+from_groups r = numbered numbered_group_line 0 r.groups.items ++ from_caches r
 
 total_words : Report → List (List ℕ)
 total_words r = numeral r.freed ∷ numeral r.listed ∷ numeral (reply_count r) ∷ numeral (walk_count r) ∷ []
@@ -59,8 +58,8 @@ size_words r = numeral r.nodes ∷ numeral r.ids ∷ []
 
 text_parts : (r : Report) → text r ≡ line (codes "report") (numeral r.version ∷ []) ++ (line (codes "size") (size_words r) ++ from_groups r)
 unfolding text from_lookups from_uses from_pool_words from_deferred from_maps from_units from_places from_workers from_tree from_pool from_names from_caches from_groups size_words
-text_parts r = regrouped (line (codes "report") (numeral r.version ∷ [])) (line (codes "size") (numeral r.nodes ∷ numeral r.ids ∷ [])) (numbered group_line 0 r.groups.items) (numbered cache_line 0 r.caches.items)
-    (numbered units_name_line 0 r.pools.items) (numbered pool_line 0 r.pool.items) (numbered tree_line 0 r.tree.items) (numbered worker_lines 0 r.workers.items) (flat_map place_lines r.places.items) (flat_map units_lines r.units.items)
+text_parts r = regrouped (line (codes "report") (numeral r.version ∷ [])) (line (codes "size") (numeral r.nodes ∷ numeral r.ids ∷ [])) (numbered numbered_group_line 0 r.groups.items) (numbered numbered_cache_line 0 r.caches.items)
+    (numbered units_name_line 0 r.pools.items) (numbered pool_entry_line 0 r.pool.items) (numbered tree_line 0 r.tree.items) (numbered worker_lines 0 r.workers.items) (flat_map place_lines r.places.items) (flat_map units_lines r.units.items)
     (flat_map (bit_line r.version) r.maps.items) (flat_map deferred_line r.deferred.items) (flat_map pool_deferred_line r.pool_deferred.items) (flat_map use_line r.uses.items) (numbered lookups_line 0 r.lookups.items) (end_lines r)
   where
     regrouped : (a b c d n e f g h u i j w k l m : List ℕ) → (a ++ b ++ c ++ d ++ n) ++ (e ++ f) ++ g ++ h ++ u ++ (i ++ j ++ w ++ k ++ l) ++ m ≡ a ++ (b ++ (c ++ (d ++ (n ++ (e ++ (f ++ (g ++ (h ++ (u ++ (i ++ (j ++ (w ++ (k ++ (l ++ m))))))))))))))
@@ -169,7 +168,7 @@ late_tree r k = after_items tree_line (λ k. 4 < k) (λ n x more. is_late 4 (kin
 
 late_pool : (r : Report) → Known r → 3 < kind (from_pool r)
 unfolding from_pool
-late_pool r k = after_items pool_line (λ k. 3 < k) (λ n x more. is_late 3 (kind (pool_line n x ++ more)) 4 (kind_pool n x more) (omega arith)) 0 r.pool.items (from_tree r) (let h = late_tree r k in omega arith)
+late_pool r k = after_items pool_entry_line (λ k. 3 < k) (λ n x more. is_late 3 (kind (pool_entry_line n x ++ more)) 4 (kind_pool n x more) (omega arith)) 0 r.pool.items (from_tree r) (let h = late_tree r k in omega arith)
 
 late_names : (r : Report) → Known r → 3 < kind (from_names r)
 unfolding from_names
@@ -177,7 +176,7 @@ late_names r k = after_items units_name_line (λ k. 3 < k) (λ n x more. is_late
 
 late_caches : (r : Report) → Known r → 2 < kind (from_caches r)
 unfolding from_caches
-late_caches r k = after_items cache_line (λ k. 2 < k) (λ n x more. is_late 2 (kind (cache_line n x ++ more)) 3 (kind_cache n x more) (omega arith)) 0 r.caches.items (from_names r) (let h = late_names r k in omega arith)
+late_caches r k = after_items numbered_cache_line (λ k. 2 < k) (λ n x more. is_late 2 (kind (numbered_cache_line n x ++ more)) 3 (kind_cache n x more) (omega arith)) 0 r.caches.items (from_names r) (let h = late_names r k in omega arith)
 
 differs_from : (k n : ℕ) → n < k → k ≡ n → ⊥
 differs_from k n h e = absurd (omega arith)
@@ -234,9 +233,9 @@ unfolding size_words from_groups from_caches from_names from_pool from_tree
 heads_once r s j k e =
     let sizes = one_line read_size (totals r.nodes r.ids 0) (totals s.nodes s.ids 0) (line (codes "size") (numeral r.nodes ∷ numeral r.ids ∷ [])) (line (codes "size") (numeral s.nodes ∷ numeral s.ids ∷ [])) (from_groups r) (from_groups s)
     (printed_size r.nodes r.ids) (printed_size s.nodes s.ids) e in
-    let groups = lines_once read_group group_line (λ (w : List ℕ). is_path w ≡ true) (λ n. n ≡ 2) kind_group printed_group 0 0 r.groups.items s.groups.items (from_caches r) (from_caches s) j.well.paths k.well.paths
+    let groups = lines_once read_group numbered_group_line (λ (w : List ℕ). is_path w ≡ true) (λ n. n ≡ 2) kind_group printed_group 0 0 r.groups.items s.groups.items (from_caches r) (from_caches s) j.well.paths k.well.paths
     (differs_from (kind (from_caches r)) 2 (late_caches r j)) (differs_from (kind (from_caches s)) 2 (late_caches s k)) sizes.1 in
-    let caches = lines_once read_cache cache_line (λ (w : List ℕ). is_name w ≡ true) (λ n. n ≡ 3) kind_cache printed_cache 0 0 r.caches.items s.caches.items (from_names r) (from_names s) j.well.names k.well.names
+    let caches = lines_once read_cache numbered_cache_line (λ (w : List ℕ). is_name w ≡ true) (λ n. n ≡ 3) kind_cache printed_cache 0 0 r.caches.items s.caches.items (from_names r) (from_names s) j.well.names k.well.names
     (differs_from (kind (from_names r)) 3 (late_names r j)) (differs_from (kind (from_names s)) 3 (late_names s k)) groups.1 in
     let pools = names_once 0 r.pools.items s.pools.items r.pool.items s.pool.items (from_tree r) (from_tree s) j.well.pools k.well.pools
     (differs_from (kind (from_tree r)) 4 (late_tree r j)) (differs_from (kind (from_tree s)) 4 (late_tree s k)) caches.1 in
@@ -245,7 +244,7 @@ heads_once r s j k e =
     record { sizes = sizes.0; groups = groups.0; caches = caches.0; pools = pools.names; pool = pools.entries; tree = tree.0; later = tree.1 }
 
 -- what was written determines the report
-pub once : (r s : Report) → IsWellFormed r → IsWellFormed s → text r ≡ text s → IsSame r s
+pub once : (r s : Report) → IsWellFormed r → IsWellFormed s → text r ≡ text s → IsOneReport r s
 unfolding from_workers from_places
 once r s w v e =
     let j = known r w in

@@ -1,19 +1,12 @@
 -- The second whole report is lawful for its script.
-use Rattle.shr_report.proofs.Common.{◌≡◌, ◌⊎◌, ℕ, zero, suc, ◌+◌, ◌<◌, ◌≤◌, Bool, true, false, cond, ◌&&◌, nat_lt, count_by, flat_map, List, [], ◌∷◌, ◌++◌, length, take, Some, None, slice_get, refl, Contains, arith, sym, ap, subst, ◌∙◌, inl, inr, cases_Bool, and_parts, Place, Entry, Attempt, PassRecord, at_group, is_place, parent_of, is_child, is_closed, moved_in, items_given, MayStand, IsBornAt, pass_of, AllByRecursion, cons_option, map, option_and_then, is_place_same, UseStep, ops_by, is_refused, versions_at, ◌==◌, if◌then◌else◌, filter_map, sum_by, Registered, Found, Carry, decl_named, deferred_word, is_live, last_number, IsNextPool, IsPoolJournal, lookups_at, carries_of, found_numbers, tried_numbers, IsFoundRight, AreLookupsLawful, IsDeferredLawful, AreBitsLawful, pos, ◌-ℤ◌, IfSome, IsSomeAnd, ups, usage_after, IsNextUse, IsChargeHistory, AreTakenBack, is_put, command_at, reply_at, IsDownBetween, charged, freed_below, listed_below, AreChargesLawful, ◌||◌, list_any, PoolEntry, Answered, WalkRecord, At, PlainWalk, answers_of, isolations_of, pool_seen, pool_made, tree_seen, of_answer, shown_by, is_begin_at, is_done_at, AreBelow, AreCausesLawful, IsLawful, IsOfIsolation, isolations_told, AreIsolationsLawful, AreNotFalling, IsOfPass, FillsPlace, was_cleared, uses_at, limit_of, walks_of, cited_by, parents_of, serial_of, cited_at, journals_of, items_left, at, AreRepliesLawful, AreJournalsLawful, IsLawfulWalk, AreWalksLawful, IsBagLawful, ArePoolsLawful, plain_of, plain_at, units_cited_at}
+use Rattle.shr_report.proofs.Common.{◌≡◌, ◌⊎◌, ℕ, zero, suc, ◌+◌, ◌<◌, ◌≤◌, Bool, true, false, cond, ◌&&◌, nat_lt, count_by, flat_map, List, [], ◌∷◌, ◌++◌, length, take, Some, None, slice_get, refl, Contains, arith, sym, ap, subst, ◌∙◌, inl, inr, cases_Bool, and_parts, Place, Entry, Attempt, PassRecord, at_group, is_place, parent_of, is_child, is_closed, moved_in, items_given, MayStand, IsBornAt, pass_of, AllByRecursion, cons_option, map, option_and_then, is_place_same, UseStep, ops_by, is_refused, versions_at, ◌==◌, if◌then◌else◌, filter_map, sum_by, Registered, Found, Carry, decl_named, deferred_word, is_live, last_number, IsNextPool, IsPoolJournal, lookups_at, carries_of, found_numbers, tried_numbers, IsFoundRight, AreLookupsLawful, IsDeferredLawful, AreBitsLawful, pos, ◌-ℤ◌, IfSome, IsSomeAnd, ups, usage_after, IsNextUse, IsChargeHistory, AreTakenBack, is_put, command_at, reply_at, IsDownBetween, charged, freed_below, listed_below, AreChargesLawful, ◌||◌, list_any, PoolEntry, Answered, WalkRecord, At, PlainWalk, answers_of, isolations_of, pool_seen, pool_made, tree_seen, of_answer, shown_by, is_begin_at, is_done_at, AreBelow, AreCausesLawful, IsLawful, IsOfIsolation, isolations_told, AreIsolationsLawful, AreNotFalling, IsOfPass, FillsPlace, was_cleared, uses_at, limit_of, walks_of, cited_by, parents_of, serial_of, cited_at, journals_of, items_left, at, AreRepliesLawful, AreJournalsLawful, IsLawfulWalk, AreWalksLawful, IsBagLawful, ArePoolsLawful, plain_of, plain_at, units_cited_at, Count, counts_of, is_some, number_of, is_held, attempt_at, passes_at, EachAttempt, walk_cited}
 use Rattle.shr_model.specs.Groups.{path_within, preorder_within}
 use Rattle.shr_model.specs.Items.{items_from, freed_from, AreOutcomes}
 use Rattle.shr_model.specs.Families.{lists_moved, items_within}
 use Rattle.shr_model.specs.Bag.{AreDistinct}
 use Rattle.shr_model.specs.Pool.{decl_at, registrations, end_of, phase_of, decl_from, from_from, number_from, is_live_below, lowest_free}
-use Rattle.shr_model.specs.Attempts.{Count, counts_of}
 use Rattle.shr_model.specs.Commands.{rounds_from}
-use Rattle.std.specs.Prelude.{is_some}
-use Rattle.shr_model.specs.Attempts.{number_of, is_held}
-use Rattle.shr_model.specs.Pool.{attempt_at}
-use Rattle.shr_model.specs.Walks.{passes_at}
-use Rattle.shr_report.specs.Parts.{EachAttempt}
 use Rattle.shr_base.specs.declared.replies.Reply.TheVariants as reply
-use Rattle.shr_report.specs.Freshness.{walk_cited}
 use Rattle.shr_report.proofs.QuietIsolations.{quiet_isolations}
 use Rattle.shr_report.proofs.SecondReport.{use_step, script, report, by, place, cleared, first_walk, second_walk}
 use Rattle.shr_report.proofs.SecondCases.{each_at, each_answer, each_walk, each_entry, each_journal}

@@ -1,5 +1,5 @@
 -- The parts of a report, one behind another.
-use Rattle.shr_report.proofs.Common.{◌≡◌, ℕ, ◌+◌, ◌≤◌, Bool, true, false, List, [], ◌∷◌, ◌++◌, take, drop, flat_map, refl, sym, ap, subst, ◌∙◌, append_assoc, arith, ◌==◌, ◌||◌, if◌then◌else◌, bytes_eq, codes, AllByRecursion, AllZip, take-append-drop, Place, Object, Entry, PlainEntry, PoolEntry, TreeEntry, UseStep, Found, Reply, Attempt, MapSeen, WalkAnswer, Carry, PlainTry, PlainAnswer, Isolation, PlaceAmount, MapEnd, line, numeral, reply_line, place_words, attempt_line, map_line, carry_line, pass_line, isolation_line, group_line, cache_line, pool_line, tree_line, entry_line, item_line, bit_line, deferred_line, use_line, lookups_line, units_name_line, plain_entry_line, pool_deferred_line}
+use Rattle.shr_report.proofs.Common.{◌≡◌, ℕ, ◌+◌, ◌≤◌, Bool, true, false, List, [], ◌∷◌, ◌++◌, take, drop, flat_map, refl, sym, ap, subst, ◌∙◌, append_assoc, arith, ◌==◌, ◌||◌, if◌then◌else◌, bytes_eq, codes, AllByRecursion, AllZip, take-append-drop, Place, Object, Entry, PlainEntry, PoolEntry, TreeEntry, UseStep, Found, Reply, Attempt, MapSeen, WalkAnswer, Carry, PlainTry, PlainAnswer, Isolation, PlaceAmount, MapEnd, line, numeral, reply_line, place_words, attempt_line, map_line, carry_line, pass_line, isolation_line, numbered_group_line, numbered_cache_line, pool_entry_line, tree_line, entry_line, item_line, bit_line, deferred_line, use_line, lookups_line, units_name_line, plain_entry_line, pool_deferred_line}
 use Rattle.shr_base.specs.declared.journals.Entry.TheVariants as entry
 use Rattle.shr_base.specs.declared.journals.PlainEntry.TheVariants as units
 use Rattle.shr_base.specs.declared.journals.PoolEntry.TheVariants as pool
@@ -28,15 +28,15 @@ pub kind : List ℕ → ℕ
 kind bytes = place_in 0 (first_word bytes) firsts
 
 -- a text that begins with a group's line is of kind 2, and so on for the lines below
-pub kind_group : (n : ℕ) (w rest : List ℕ) → kind (group_line n w ++ rest) ≡ 2
+pub kind_group : (n : ℕ) (w rest : List ℕ) → kind (numbered_group_line n w ++ rest) ≡ 2
 unfolding kind first_word place_in firsts
 kind_group n w rest = refl
 
-pub kind_cache : (n : ℕ) (w rest : List ℕ) → kind (cache_line n w ++ rest) ≡ 3
+pub kind_cache : (n : ℕ) (w rest : List ℕ) → kind (numbered_cache_line n w ++ rest) ≡ 3
 unfolding kind first_word place_in firsts
 kind_cache n w rest = refl
 
-pub kind_pool : (n : ℕ) (e : PoolEntry) (rest : List ℕ) → kind (pool_line n e ++ rest) ≡ 4
+pub kind_pool : (n : ℕ) (e : PoolEntry) (rest : List ℕ) → kind (pool_entry_line n e ++ rest) ≡ 4
 unfolding kind first_word place_in firsts
 kind_pool n (pool.Registered decl id from) rest = refl
 kind_pool n (pool.Unregistered decl id to) rest = refl

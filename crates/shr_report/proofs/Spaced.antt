@@ -1,8 +1,6 @@
 -- Words behind spaces.
-use Rattle.shr_report.proofs.Common.{◌≡◌, ℕ, ◌+◌, ◌<◌, List, [], ◌∷◌, ◌++◌, length, take, get_or, refl, sym, ap, ◌∙◌, append_assoc, append-nil, word_texts, spaced}
-use Rattle.std.proofs.lemmas.List.{map_more}
+use Rattle.shr_report.proofs.Common.{◌≡◌, ℕ, ◌+◌, ◌<◌, List, [], ◌∷◌, ◌++◌, length, take, get_or, refl, sym, ap, ◌∙◌, append_assoc, append-nil, word_texts, spaced, map_more, word_text}
 use Rattle.shr_report.specs.declared.lines.Word.{Word}
-use Rattle.shr_report.specs.Words.{word_text}
 
 -- a word more stands behind a space
 pub spaced_push : (ws : List (List ℕ)) (w : List ℕ) → spaced (ws ++ w ∷ []) ≡ spaced ws ++ 32 ∷ w

@@ -1,7 +1,6 @@
 -- The law on a sweep, by a report that meets it and changes that break a sentence.
-use Rattle.shr_report.proofs.Common.{◌≡◌, ℕ, zero, suc, ◌<◌, ◌≤◌, true, false, List, [], ◌∷◌, Some, refl, IsSomeAnd, arith, subst, WorkerPart, Answered, Script, Sweep, Walked, WalkRecord, Report, answer_at, reply_at, AreRepliesLawful, sweep_serial, IsSweepLawful}
+use Rattle.shr_report.proofs.Common.{◌≡◌, ℕ, zero, suc, ◌<◌, ◌≤◌, true, false, List, [], ◌∷◌, Some, refl, IsSomeAnd, arith, subst, WorkerPart, Answered, Script, Sweep, Walked, WalkRecord, Report, answer_at, reply_at, AreRepliesLawful, sweep_serial, IsSweepLawful, sweep_walks, times_swept, IsSweptOut, IsSwept, IsSweepRight}
 use Rattle.shr_base.specs.declared.replies.Reply.TheVariants as reply
-use Rattle.shr_report.specs.Swept.{sweep_walks, times_swept, IsSweptOut, IsSwept, IsSweepRight}
 use Rattle.shr_report.proofs.SecondReport.{kept, held, unheld}
 use Rattle.shr_report.proofs.FirstReport as first
 

@@ -1,17 +1,13 @@
 -- What the laws compute of the third report: each number is that of its sentence.
-use Rattle.shr_report.proofs.Common.{◌≡◌, pos, ◌-ℤ◌, true, false, [], ◌∷◌, ◌++◌, map, codes, Some, None, refl, arith, usage_after, ops_by, jobs_of, deferred_word, given_at, FollowsArithmetic, scans_by, job_of, parents_of, limit_of, serial_of, command_at, reply_at, journals_of, items_before, items_left, walks_by, all_walks, uses_at, HasCause, AreScansOf, IsStopped, cache_of, shrink_reply, found_numbers, tried_numbers, IsFoundRight, charged, freed_below, listed_below, printed_at, moved_from, drained_of}
+use Rattle.shr_report.proofs.Common.{◌≡◌, pos, ◌-ℤ◌, true, false, [], ◌∷◌, ◌++◌, map, codes, Some, None, refl, arith, usage_after, ops_by, jobs_of, deferred_word, given_at, FollowsArithmetic, scans_by, job_of, parents_of, limit_of, serial_of, command_at, reply_at, journals_of, items_before, items_left, walks_by, all_walks, uses_at, HasCause, AreScansOf, IsStopped, cache_of, shrink_reply, found_numbers, tried_numbers, IsFoundRight, charged, freed_below, listed_below, printed_at, objects_moved_from, drained_of, taken_at, later_of, places_of, all_carries, IsCarryRight, became_idle}
 use Rattle.shr_base.specs.declared.replies.Reply.TheVariants as reply
 use Rattle.shr_base.specs.declared.scripts.Command.TheVariants as command
 use Rattle.shr_model.specs.Items.{items_from, freed_from, AreOutcomes}
 use Rattle.shr_model.specs.Families.{lists_moved, items_within, lists_moved_at, IsPairedAt}
 use Rattle.shr_model.specs.Groups.{path_within}
 use Rattle.shr_model.specs.Bag.{freed_in}
-use Rattle.shr_model.specs.Moves.{taken_at}
 use Rattle.shr_model.specs.Pass.{due, ask_size}
 use Rattle.shr_model.specs.Pool.{decl_at, registrations, end_of, phase_of, decl_from, from_from}
-use Rattle.shr_report.specs.Parts.{later_of, places_of, all_carries}
-use Rattle.shr_report.specs.Deferred.{IsCarryRight}
-use Rattle.shr_report.specs.Causes.{became_idle}
 use Rattle.shr_report.proofs.SecondReport.{dentry, kept}
 use Rattle.shr_report.proofs.ThirdReport.{script, report, place_of, pass, walk, carry, child_entries, parent_entries}
 
@@ -125,7 +121,7 @@ carried = record { there = record { id = omega arith; node = omega arith; group 
 offlined : HasCause script report (serial_of 0 4) (command.Offline 2) (reply.OfflineDone 1 3 2)
 offlined = record { made = refl; carried = refl; most = omega arith; whole = λ alone. refl }
 
-moved_three : moved_from report 2 ≡ 3
+moved_three : objects_moved_from report 2 ≡ 3
 moved_three = refl
 
 drained_four : drained_of report (serial_of 0 5) ≡ 4

@@ -1,10 +1,9 @@
 -- The first whole report is well formed, and changes of it in one place are not.
-use Rattle.shr_report.proofs.Common.{◌≡◌, ℕ, ◌<◌, ◌≤◌, ◌^◌, true, false, List, [], ◌∷◌, ◌++◌, length, map, codes, slice_get, Some, refl, AllAdjacentBelow, zero, suc, arith, ap, inl, inr, ⊎_elim, subst, length-append, none-some, same_Some, MapEnd, PlaceAmount, PlaceEnd, WorkerPart, Entry, Look, PoolEntry, Registered, Unregistered, Idle, Begin, Made, Place, Serial, Attempt, Carry, Isolation, MapSeen, PlainWalk, Walked, WalkRecord, fresh, Report, AreOfCommands, IsPlaceBefore, IsPlaceUpTo, IsPartWell, map_units, bit_places, IsWellFormed}
+use Rattle.shr_report.proofs.Common.{◌≡◌, ℕ, ◌<◌, ◌≤◌, ◌^◌, true, false, List, [], ◌∷◌, ◌++◌, length, map, codes, slice_get, Some, refl, AllAdjacentBelow, zero, suc, arith, ap, inl, inr, ⊎_elim, subst, length-append, none-some, same_Some, MapEnd, PlaceAmount, PlaceEnd, WorkerPart, Entry, Look, PoolEntry, Registered, Unregistered, Idle, Begin, Made, Place, Serial, Attempt, Carry, Isolation, MapSeen, PlainWalk, Walked, WalkRecord, fresh, Report, AreOfCommands, IsPlaceBefore, IsPlaceUpTo, IsPartWell, map_units, bit_places, IsWellFormed, IsUseBefore}
 use Rattle.shr_base.specs.declared.replies.Reply.TheVariants as reply
 use Rattle.shr_base.specs.declared.walks.Outcome.TheVariants as outcome
 use Rattle.shr_model.specs.Paths.{is_path}
 use Rattle.shr_model.specs.Pieces.{pieces, cut}
-use Rattle.shr_report.specs.WellFormed.{IsUseBefore}
 use Rattle.shr_report.proofs.QuietParts.{none_of_commands}
 use Rattle.shr_report.proofs.PlaceOrder.{not_before_itself, not_up_to}
 use Rattle.shr_report.proofs.SecondReport as second

@@ -43,14 +43,14 @@ abbrev pub HasReason : Script → Report → Place → Type 0
 HasReason s r place = WasFilled s r place ⊎ Contains (flat_map set_again_in (all_walks r)) place
 
 -- the place whose bit a printed word has
-abbrev pub place_of : MapEnd → ℕ → Place
-place_of m id = record { id = id; node = m.node; group = m.group }
+abbrev pub bit_place : MapEnd → ℕ → Place
+bit_place m id = record { id = id; node = m.node; group = m.group }
 
 -- the bits that are told are of ids that are there, have a reason, and aren't lost
 pub record AreBitsTold (s : Script) (r : Report) : Type 0 where
   -- each bit that is set at the end is of an id of the tables, and has a reason
   pub of_ids : AllByRecursion (λ (m : MapEnd). AllByRecursion (λ id. id < s.ids) (ids_in m.unit m.bits)) r.maps.items
-  pub raised : AllByRecursion (λ (m : MapEnd). AllByRecursion (λ id. HasReason s r (place_of m id)) (ids_in m.unit m.bits)) r.maps.items
+  pub raised : AllByRecursion (λ (m : MapEnd). AllByRecursion (λ id. HasReason s r (bit_place m id)) (ids_in m.unit m.bits)) r.maps.items
   -- and so has each that a walk saw
   pub shown : EachWalk r (λ worker n w. AllByRecursion (λ id. (id < s.ids) × HasReason s r (place_in w id)) (ids_seen w))
   -- a worker's map has the bit of each place that an earlier reply of the worker filled, unless a walk of another worker, or of

@@ -30,8 +30,8 @@ use Rattle.shr_model.specs.Items.{is_closed}
 use Rattle.shr_model.specs.Pool.{phase_of, from_of, is_live_decl, lowest_idle}
 use Rattle.shr_model.specs.TreeJournal.{undone_child}
 use Rattle.shr_report.specs.declared.report.Report.{Report}
-use Rattle.shr_report.specs.UnitParts.{units_of, free_at}
-use Rattle.shr_report.specs.Parts.{parents_of, later_of, hierarchy_of, limit_of, puts_of, command_at, reply_at, carries_by, places_of, journals_of, uses_at, lookups_at, EachEntry}
+use Rattle.shr_report.specs.UnitParts.{units_journal, free_at}
+use Rattle.shr_report.specs.Parts.{parents_of, later_of, script_hierarchy, limit_of, puts_of, command_at, reply_at, carries_by, places_of, journals_of, uses_at, lookups_at, EachEntry}
 
 -- the operations of a worker
 abbrev pub is_of_worker : ℕ → UseStep → Bool
@@ -54,7 +54,7 @@ IsSpent s r worker (spent.Charges charges uncharges) =
 
 -- the journal of a pool that was found used up has 2^31 entries, and these leave so many units free
 abbrev pub IsPoolSpent : Report → Place → Spent → Type 0
-IsPoolSpent r p (spent.List place entries items) = (place ≡ p) × (entries ≡ 2 ^ 31) × (length (units_of r p) ≡ entries) × (items ≡ free_at r p entries)
+IsPoolSpent r p (spent.List place entries items) = (place ≡ p) × (entries ≡ 2 ^ 31) × (length (units_journal r p) ≡ entries) × (items ≡ free_at r p entries)
 IsPoolSpent r p (spent.Lookups id seen) = ⊥
 IsPoolSpent r p (spent.Charges ups downs) = ⊥
 
@@ -72,22 +72,22 @@ pub record IsOver (s : Script) (r : Report) (by : Serial) (own group operation u
   pub tried : ups (ops_by by (uses_at r own)) ≡ 14
 
 -- the answer speaks of so many entries of the journal of registrations, which are there
-abbrev pub IsKnown : Report → ℕ → Type 0
-IsKnown r n = n ≤ length r.pool.items
+abbrev pub IsPoolKnown : Report → ℕ → Type 0
+IsPoolKnown r n = n ≤ length r.pool.items
 
 -- a declaration isn't live after so many entries of the journal of registrations; or it is
 pub record IsUncached (s : Script) (r : Report) (decl entry : ℕ) : Type 0 where
-  pub known : IsKnown r entry
+  pub known : IsPoolKnown r entry
   pub none : is_live_decl s.ids decl (take entry r.pool.items) ≡ false
 
 -- the same of a declaration that is live after them
 pub record IsCached (s : Script) (r : Report) (decl entry : ℕ) : Type 0 where
-  pub known : IsKnown r entry
+  pub known : IsPoolKnown r entry
   pub live : is_live_decl s.ids decl (take entry r.pool.items) ≡ true
 
 -- a declaration isn't live after so many entries, and no id can be registered
 pub record IsFull (s : Script) (r : Report) (decl entry : ℕ) : Type 0 where
-  pub known : IsKnown r entry
+  pub known : IsPoolKnown r entry
   pub none : is_live_decl s.ids decl (take entry r.pool.items) ≡ false
   pub ids : lowest_idle s.ids (take entry r.pool.items) ≡ None
 
@@ -138,7 +138,7 @@ pub record IsHalf (s : Script) (r : Report) (by : Serial) (decl id entry from to
 -- child is
 pub record IsInTheWay (s : Script) (r : Report) (group child entry : ℕ) : Type 0 where
   pub known : entry ≤ length r.tree.items
-  pub child_is : undone_child (hierarchy_of s) (take entry r.tree.items) group ≡ Some child
+  pub child_is : undone_child (script_hierarchy s) (take entry r.tree.items) group ≡ Some child
 
 -- an answer says that this group isn't made, and it isn't there at the start
 pub record IsUnmade (s : Script) (own group : ℕ) : Type 0 where
@@ -171,8 +171,8 @@ moved_of child (MovedIn c objects) = cond (c == child) objects 0
 moved_of child e = 0
 
 -- how many objects were moved in from a group
-abbrev pub moved_from : Report → ℕ → ℕ
-moved_from r group = sum_by (λ place. sum_by (moved_of group) (journals_of r place)) (places_of r)
+abbrev pub objects_moved_from : Report → ℕ → ℕ
+objects_moved_from r group = sum_by (λ place. sum_by (moved_of group) (journals_of r place)) (places_of r)
 
 -- nobody else can have spliced lists of the group
 pub record IsAloneAt (s : Script) (r : Report) (by : Serial) (group : ℕ) : Type 0 where
@@ -180,11 +180,11 @@ pub record IsAloneAt (s : Script) (r : Report) (by : Serial) (group : ℕ) : Typ
   pub above : (x : Serial) (g : ℕ) → x.worker ≢ by.worker → g ≢ group → IsAtOrAbove (parents_of s) g group → IsOffline s r x g MayHaveBegun → ⊥
 
 -- An `offline` made this Done, moved so many objects and carried so much.
-pub record IsOfflined (s : Script) (r : Report) (by : Serial) (group entry moved deferred : ℕ) : Type 0 where
+pub record IsOfflineDone (s : Script) (r : Report) (by : Serial) (group entry moved deferred : ℕ) : Type 0 where
   pub made : StandsInTree r entry (Done group)
   pub carried : deferred ≡ sum_by (λ (c : Carry). c.amount) (carries_by r by) % 2 ^ 64
-  pub most : moved ≤ moved_from r group
-  pub whole : IsAloneAt s r by group → moved ≡ moved_from r group
+  pub most : moved ≤ objects_moved_from r group
+  pub whole : IsAloneAt s r by group → moved ≡ objects_moved_from r group
 
 -- the counter by which a pass was worn is one that was used up
 abbrev pub IsEndingRight : Script → Report → ℕ → Ending → Type 0

@@ -20,7 +20,7 @@ use Rattle.shr_model.specs.Groups.{IsAtOrAbove}
 use Rattle.shr_model.specs.Pool.{last_number}
 use Rattle.shr_report.specs.declared.report.Report.{Report}
 use Rattle.shr_report.specs.Parts.{parents_of, decls_on, serial_of, reply_at, lookups_at, all_carries, EachAnswer, EachWalk}
-use Rattle.shr_report.specs.Freshness.{pool_seen, pool_made, of_answer, made_by, shows_offline}
+use Rattle.shr_report.specs.Freshness.{pool_seen, pool_made, of_answer, pool_made_by, shows_offline}
 use Rattle.shr_report.specs.BitsTold.{AreBitsTold}
 use Rattle.shr_report.specs.Causes.{IsMadeBy, is_done_by}
 use Rattle.shr_report.specs.Climbs.{AreClimbing}
@@ -56,9 +56,9 @@ IsOverOnPath s c (reply.Over group operation usage) = IsSomeAnd (group_named c) 
 IsOverOnPath s c x = ⊤
 
 -- a walk found its group offline
-abbrev pub IsRefused : WalkAnswer → Type 0
-IsRefused (walk.Offline entry) = ⊤
-IsRefused a = ⊥
+abbrev pub IsWalkRefused : WalkAnswer → Type 0
+IsWalkRefused (walk.Offline entry) = ⊤
+IsWalkRefused a = ⊥
 
 -- the Done with this number was made by an answer of another worker
 pub record IsDoneElsewhere (r : Report) (worker entry : ℕ) : Type 0 where
@@ -71,10 +71,10 @@ pub record IsFaithful (s : Script) (r : Report) : Type 0 where
   -- no number of the journal of registrations is above the lookups of its id
   pub reached : (id : ℕ) → last_number id r.pool.items ≤ lookups_at r id
   -- no two answers made one entry of that journal, and none made one of the caches that are `on`
-  pub made_once : (v i w j n : ℕ) → made_by r v i ≡ n ∷ [] → made_by r w j ≡ n ∷ [] → (v ≡ w) × (i ≡ j)
-  pub made_later : (worker k n : ℕ) → made_by r worker k ≡ n ∷ [] → length (decls_on s) ≤ n
+  pub made_once : (v i w j n : ℕ) → pool_made_by r v i ≡ n ∷ [] → pool_made_by r w j ≡ n ∷ [] → (v ≡ w) × (i ≡ j)
+  pub made_later : (worker k n : ℕ) → pool_made_by r worker k ≡ n ∷ [] → length (decls_on s) ≤ n
   -- what a worker made there, it made behind all that it had known there before
-  pub pool_later : (worker k later : ℕ) → k < later → AreNotAbove (of_answer r (serial_of worker k) pool_reached) (made_by r worker later)
+  pub pool_later : (worker k later : ℕ) → k < later → AreNotAbove (of_answer r (serial_of worker k) pool_reached) (pool_made_by r worker later)
   -- and what it made there, the Idle of a Freed too, lies below all that it knew later
   pub pool_past : (worker k later n : ℕ) (e : PoolEntry) → k < later → slice_get r.pool.items n ≡ Some e → IsSomeAnd (reply_at r (serial_of worker k)) (IsMadeBy r e n)
       → AllByRecursion (λ m. n < m) (of_answer r (serial_of worker later) pool_seen)
@@ -82,7 +82,7 @@ pub record IsFaithful (s : Script) (r : Report) : Type 0 where
   pub tree_later : (worker k later : ℕ) → k < later
       → AreNotAbove (of_answer r (serial_of worker k) (λ (a : Answered). tree_reached a.reply)) (of_answer r (serial_of worker later) (λ (a : Answered). tree_made a.reply))
   -- once a worker was shown Begin or Done of a group, the walks there of its later commands find it offline
-  pub walks_refused : EachWalk r (λ worker n w. (k : ℕ) → k < w.by.command → shows_offline r (serial_of worker k) w.group ≡ true → IsRefused w.answer)
+  pub walks_refused : EachWalk r (λ worker n w. (k : ℕ) → k < w.by.command → shows_offline r (serial_of worker k) w.group ≡ true → IsWalkRefused w.answer)
   -- the operations of a group rise along a worker's commands
   pub uses_rise : (m n : ℕ) (o p : UseStep) → slice_get r.uses.items m ≡ Some o → slice_get r.uses.items n ≡ Some p
       → o.group ≡ p.group → o.by.worker ≡ p.by.worker → o.by.command < p.by.command → o.operation < p.operation

@@ -49,24 +49,24 @@ abbrev pub IsShort : ℕ → Type 0
 IsShort n = n < 2 ^ 16
 
 -- a number of 32 bits
-abbrev pub IsCount : ℕ → Type 0
-IsCount n = n < 2 ^ 32
+abbrev pub IsCountNumber : ℕ → Type 0
+IsCountNumber n = n < 2 ^ 32
 
 -- the numbers of a command
 pub record IsSerialNumbered (by : Serial) : Type 0 where
   pub worker : IsShort by.worker
-  pub command : IsCount by.command
+  pub command : IsCountNumber by.command
 
 -- the numbers of an entry that is cited
 pub record IsAtNumbered (at : At) : Type 0 where
   pub place : IsNumbered at.place
-  pub entry : IsCount at.entry
+  pub entry : IsCountNumber at.entry
 
 -- the numbers of a counter that is used up
 abbrev pub IsSpentNumbered : Spent → Type 0
-IsSpentNumbered (spent.Lookups id seen) = IsShort id × IsCount seen
-IsSpentNumbered (spent.List place entries items) = IsNumbered place × IsCount entries × IsCount items
-IsSpentNumbered (spent.Charges charges uncharges) = IsCount charges × IsCount uncharges
+IsSpentNumbered (spent.Lookups id seen) = IsShort id × IsCountNumber seen
+IsSpentNumbered (spent.List place entries items) = IsNumbered place × IsCountNumber entries × IsCountNumber items
+IsSpentNumbered (spent.Charges charges uncharges) = IsCountNumber charges × IsCountNumber uncharges
 
 -- those of why an unregistering stopped half way
 abbrev pub IsWhyNumbered : HalfWhy → Type 0
@@ -87,36 +87,36 @@ IsReplyNumbered (reply.Miss at) = IsAtNumbered at
 IsReplyNumbered (reply.Dropped at) = IsAtNumbered at
 IsReplyNumbered (reply.Pinned at) = IsAtNumbered at
 IsReplyNumbered (reply.Done at) = IsAtNumbered at
-IsReplyNumbered (reply.Offline entry) = IsCount entry
-IsReplyNumbered (reply.Over group operation usage) = IsShort group × IsBitWord operation × IsCount usage
-IsReplyNumbered (reply.NoCache entry) = IsCount entry
+IsReplyNumbered (reply.Offline entry) = IsCountNumber entry
+IsReplyNumbered (reply.Over group operation usage) = IsShort group × IsBitWord operation × IsCountNumber usage
+IsReplyNumbered (reply.NoCache entry) = IsCountNumber entry
 IsReplyNumbered (reply.Worn spent) = IsSpentNumbered spent
 IsReplyNumbered reply.Memory = Unit {0}
 IsReplyNumbered (reply.Walked freed) = IsBitWord freed
 IsReplyNumbered (reply.WalkMemory freed) = IsBitWord freed
-IsReplyNumbered (reply.OfflineDone entry moved deferred) = IsCount entry × IsBitWord moved × IsBitWord deferred
-IsReplyNumbered (reply.AlreadyDone entry) = IsCount entry
+IsReplyNumbered (reply.OfflineDone entry moved deferred) = IsCountNumber entry × IsBitWord moved × IsBitWord deferred
+IsReplyNumbered (reply.AlreadyDone entry) = IsCountNumber entry
 IsReplyNumbered reply.Root = Unit {0}
-IsReplyNumbered (reply.HasChildren child entry) = IsShort child × IsCount entry
-IsReplyNumbered (reply.Made entry) = IsCount entry
-IsReplyNumbered (reply.AlreadyMade entry) = IsCount entry
+IsReplyNumbered (reply.HasChildren child entry) = IsShort child × IsCountNumber entry
+IsReplyNumbered (reply.Made entry) = IsCountNumber entry
+IsReplyNumbered (reply.AlreadyMade entry) = IsCountNumber entry
 IsReplyNumbered (reply.NotMade group) = IsShort group
-IsReplyNumbered (reply.Registered id entry) = IsShort id × IsCount entry
-IsReplyNumbered (reply.AlreadyRegistered entry) = IsCount entry
-IsReplyNumbered (reply.NoId entry) = IsCount entry
-IsReplyNumbered (reply.Freed id entry from to objects) = IsShort id × IsCount entry × IsCount from × IsCount to × IsCount objects
-IsReplyNumbered (reply.Half id entry from to objects why) = IsShort id × IsCount entry × IsCount from × IsCount to × IsCount objects × IsWhyNumbered why
-IsReplyNumbered (reply.Isolated visits freed ending) = IsCount visits × IsCount freed × IsIsolateEndNumbered ending
-IsReplyNumbered (reply.Released pool node entry) = (pool < 2 ^ 8) × (node < 2 ^ 8) × IsCount entry
-IsReplyNumbered (reply.Full pool node entries free) = (pool < 2 ^ 8) × (node < 2 ^ 8) × IsCount entries × IsCount free
-IsReplyNumbered (reply.Grabbed pool node entry) = (pool < 2 ^ 8) × (node < 2 ^ 8) × IsCount entry
-IsReplyNumbered (reply.Bare pool node entry) = (pool < 2 ^ 8) × (node < 2 ^ 8) × IsCount entry
-IsReplyNumbered (reply.Swept jobs freed) = IsCount jobs × IsBitWord freed
+IsReplyNumbered (reply.Registered id entry) = IsShort id × IsCountNumber entry
+IsReplyNumbered (reply.AlreadyRegistered entry) = IsCountNumber entry
+IsReplyNumbered (reply.NoId entry) = IsCountNumber entry
+IsReplyNumbered (reply.Freed id entry from to objects) = IsShort id × IsCountNumber entry × IsCountNumber from × IsCountNumber to × IsCountNumber objects
+IsReplyNumbered (reply.Half id entry from to objects why) = IsShort id × IsCountNumber entry × IsCountNumber from × IsCountNumber to × IsCountNumber objects × IsWhyNumbered why
+IsReplyNumbered (reply.Isolated visits freed ending) = IsCountNumber visits × IsCountNumber freed × IsIsolateEndNumbered ending
+IsReplyNumbered (reply.Released pool node entry) = (pool < 2 ^ 8) × (node < 2 ^ 8) × IsCountNumber entry
+IsReplyNumbered (reply.Full pool node entries free) = (pool < 2 ^ 8) × (node < 2 ^ 8) × IsCountNumber entries × IsCountNumber free
+IsReplyNumbered (reply.Grabbed pool node entry) = (pool < 2 ^ 8) × (node < 2 ^ 8) × IsCountNumber entry
+IsReplyNumbered (reply.Bare pool node entry) = (pool < 2 ^ 8) × (node < 2 ^ 8) × IsCountNumber entry
+IsReplyNumbered (reply.Swept jobs freed) = IsCountNumber jobs × IsBitWord freed
 
 -- those of what `find` gave, if the cache was held
 abbrev pub IsFindNumbered : Option Found → Type 0
 IsFindNumbered None = Unit {0}
-IsFindNumbered (Some f) = IsShort f.id × IsCount f.number × IsCount f.entry
+IsFindNumbered (Some f) = IsShort f.id × IsCountNumber f.number × IsCountNumber f.entry
 
 -- those of an answer with its find
 pub record IsAnsweredNumbered (a : Answered) : Type 0 where
@@ -130,11 +130,11 @@ IsEndingNumbered e = Unit {0}
 
 -- the numbers of a pass
 pub record IsPassNumbered (p : PassRecord) : Type 0 where
-  pub len : IsCount p.len
-  pub version : IsCount p.version
+  pub len : IsCountNumber p.len
+  pub version : IsCountNumber p.version
   pub nr : IsBitWord p.nr
-  pub asks : IsCount p.asks
-  pub closed : IsCount p.closed
+  pub asks : IsCountNumber p.asks
+  pub closed : IsCountNumber p.closed
   pub scanned : IsBitWord p.scanned
   pub freed : IsBitWord p.freed
   pub next : IsBitWord p.next
@@ -142,14 +142,14 @@ pub record IsPassNumbered (p : PassRecord) : Type 0 where
 
 -- the numbers of what an attempt came to
 abbrev pub IsOutcomeNumbered : Outcome → Type 0
-IsOutcomeNumbered (outcome.Worn seen) = IsCount seen
-IsOutcomeNumbered (outcome.Gone number what) = IsCount number
-IsOutcomeNumbered (outcome.Skip number len version) = IsCount number × IsCount len × IsCount version
-IsOutcomeNumbered (outcome.Ran number pass) = IsCount number × IsPassNumbered pass
-IsOutcomeNumbered (outcome.Empty number version) = IsCount number × IsCount version
-IsOutcomeNumbered (outcome.Cleared number first second) = IsCount number × IsCount first × IsCount second
-IsOutcomeNumbered (outcome.RestoredSkip number first len version) = IsCount number × IsCount first × IsCount len × IsCount version
-IsOutcomeNumbered (outcome.RestoredRan number first pass) = IsCount number × IsCount first × IsPassNumbered pass
+IsOutcomeNumbered (outcome.Worn seen) = IsCountNumber seen
+IsOutcomeNumbered (outcome.Gone number what) = IsCountNumber number
+IsOutcomeNumbered (outcome.Skip number len version) = IsCountNumber number × IsCountNumber len × IsCountNumber version
+IsOutcomeNumbered (outcome.Ran number pass) = IsCountNumber number × IsPassNumbered pass
+IsOutcomeNumbered (outcome.Empty number version) = IsCountNumber number × IsCountNumber version
+IsOutcomeNumbered (outcome.Cleared number first second) = IsCountNumber number × IsCountNumber first × IsCountNumber second
+IsOutcomeNumbered (outcome.RestoredSkip number first len version) = IsCountNumber number × IsCountNumber first × IsCountNumber len × IsCountNumber version
+IsOutcomeNumbered (outcome.RestoredRan number first pass) = IsCountNumber number × IsCountNumber first × IsPassNumbered pass
 
 -- the numbers of an attempt
 pub record IsAttemptNumbered (a : Attempt) : Type 0 where
@@ -164,7 +164,7 @@ pub record IsSeenNumbered (m : MapSeen) : Type 0 where
 -- the numbers of what a walk was answered
 abbrev pub IsWalkedNumbered : WalkAnswer → Type 0
 IsWalkedNumbered (answer.Walked freed) = IsBitWord freed
-IsWalkedNumbered (answer.Offline entry) = IsCount entry
+IsWalkedNumbered (answer.Offline entry) = IsCountNumber entry
 IsWalkedNumbered (answer.Memory freed) = IsBitWord freed
 
 -- the numbers of a walk
@@ -185,8 +185,8 @@ pub record IsCarryNumbered (c : Carry) : Type 0 where
 
 -- the numbers of what a walk of the pools came to at one pool
 abbrev pub IsTryNumbered : PlainTry → Type 0
-IsTryNumbered (tried.Empty version) = IsCount version
-IsTryNumbered (tried.Skip len version) = IsCount len × IsCount version
+IsTryNumbered (tried.Empty version) = IsCountNumber version
+IsTryNumbered (tried.Skip len version) = IsCountNumber len × IsCountNumber version
 IsTryNumbered (tried.Ran pass) = IsPassNumbered pass
 
 -- those of what a walk of the pools was answered
@@ -206,9 +206,9 @@ pub record IsPlainNumbered (w : PlainWalk) : Type 0 where
 pub record IsIsolationNumbered (i : Isolation) : Type 0 where
   pub by : IsSerialNumbered i.by
   pub place : IsNumbered i.place
-  pub budget : IsCount i.budget
-  pub visits : IsCount i.visits
-  pub freed : IsCount i.freed
+  pub budget : IsCountNumber i.budget
+  pub visits : IsCountNumber i.visits
+  pub freed : IsCountNumber i.freed
   pub ending : IsIsolateEndNumbered i.ending
 
 -- the numbers of what a worker did
@@ -225,10 +225,10 @@ IsEntryNumbered (entry.Add by birth added key value) = IsSerialNumbered by × Is
 IsEntryNumbered (entry.Look by birth key hit) = IsSerialNumbered by × IsShort birth
 IsEntryNumbered (entry.Drop by birth key kind) = IsSerialNumbered by × IsShort birth
 IsEntryNumbered (entry.Pin by birth key pinned hit) = IsSerialNumbered by × IsShort birth
-IsEntryNumbered (entry.Scan worker walk asked policy visits freed stopped) = IsShort worker × IsBitWord walk × IsCount asked × IsCount visits × IsCount freed
-IsEntryNumbered (entry.MovedIn child objects) = IsShort child × IsCount objects
+IsEntryNumbered (entry.Scan worker walk asked policy visits freed stopped) = IsShort worker × IsBitWord walk × IsCountNumber asked × IsCountNumber visits × IsCountNumber freed
+IsEntryNumbered (entry.MovedIn child objects) = IsShort child × IsCountNumber objects
 IsEntryNumbered entry.Closed = Unit {0}
-IsEntryNumbered (entry.Drained by objects) = IsSerialNumbered by × IsCount objects
+IsEntryNumbered (entry.Drained by objects) = IsSerialNumbered by × IsCountNumber objects
 
 -- the numbers of an object
 pub record IsObjectNumbered (o : Object) : Type 0 where
@@ -243,16 +243,16 @@ pub record IsListNumbered (end : PlaceEnd) : Type 0 where
 
 -- the numbers of an entry of a pool's journal
 abbrev pub IsPlainEntryNumbered : PlainEntry → Type 0
-IsPlainEntryNumbered (units.Release by n) = IsSerialNumbered by × IsCount n
+IsPlainEntryNumbered (units.Release by n) = IsSerialNumbered by × IsCountNumber n
 IsPlainEntryNumbered (units.Grab by got) = IsSerialNumbered by
-IsPlainEntryNumbered (units.Reclaim worker walk asked freed) = IsShort worker × IsCount walk × IsCount asked × IsCount freed
+IsPlainEntryNumbered (units.Reclaim worker walk asked freed) = IsShort worker × IsCountNumber walk × IsCountNumber asked × IsCountNumber freed
 
 -- the numbers of a pool on a node
 pub record AreUnitsNumbered (u : UnitsEnd) : Type 0 where
   pub pool : u.pool < 2 ^ 8
   pub node : u.node < 2 ^ 8
   pub entries : AllByRecursion IsPlainEntryNumbered u.entries.items
-  pub free : IsCount u.free
+  pub free : IsCountNumber u.free
 
 -- the numbers of a bit word at the end
 pub record IsMapNumbered (m : MapEnd) : Type 0 where
@@ -288,7 +288,7 @@ pub record HasNumbers (r : Report) : Type 0 where
   pub deferred : AllByRecursion IsAmountNumbered r.deferred.items
   pub pool_deferred : AllByRecursion IsAmountNumbered r.pool_deferred.items
   pub uses : AllByRecursion IsUseNumbered r.uses.items
-  pub lookups : AllByRecursion IsCount r.lookups.items
+  pub lookups : AllByRecursion IsCountNumber r.lookups.items
   pub totals : IsBitWord r.added × IsBitWord r.freed × IsBitWord r.listed
 
 -- the parts are well formed, each for the worker of its number

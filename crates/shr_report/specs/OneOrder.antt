@@ -29,13 +29,13 @@ pub data Told : Type 0 where
 
 -- ---- lookups
 -- an id with the number of a lookup
-abbrev pub numbered : ℕ → Option ℕ → List (ℕ × ℕ)
-numbered id None = []
-numbered id (Some number) = (id, number) ∷ []
+abbrev pub lookup_numbered : ℕ → Option ℕ → List (ℕ × ℕ)
+lookup_numbered id None = []
+lookup_numbered id (Some number) = (id, number) ∷ []
 
 -- those of the attempts of a walk
 abbrev pub numbers_tried : WalkRecord → List (ℕ × ℕ)
-numbers_tried w = flat_map (λ (a : Attempt). numbered a.id (number_of a.outcome)) w.attempts.items
+numbers_tried w = flat_map (λ (a : Attempt). lookup_numbered a.id (number_of a.outcome)) w.attempts.items
 
 -- and that of a found cache
 abbrev pub number_found : Option Found → List (ℕ × ℕ)
@@ -67,11 +67,11 @@ abbrev pub HasAt : {A : Type 0} → List A → ℕ → (A → Type 0) → Type 0
 HasAt {A} xs n P = (x : A) × (slice_get xs n ≡ Some x) × P x
 
 -- the report tells this
-abbrev pub IsTold : Report → Told → Type 0
-IsTold r (entry place n) = HasAt (journals_of r place) n (λ (e : Entry). Unit {0})
-IsTold r (lookup id n) = (by : Serial) × Contains (looked_by r by) (id, n)
-IsTold r (turn n) = HasAt r.pool.items n (λ (e : PoolEntry). Unit {0})
-IsTold r (count worker n) = HasAt (countings_of r worker) n (λ (c : Counting). Unit {0})
+abbrev pub ReportTells : Report → Told → Type 0
+ReportTells r (entry place n) = HasAt (journals_of r place) n (λ (e : Entry). Unit {0})
+ReportTells r (lookup id n) = (by : Serial) × Contains (looked_by r by) (id, n)
+ReportTells r (turn n) = HasAt r.pool.items n (λ (e : PoolEntry). Unit {0})
+ReportTells r (count worker n) = HasAt (countings_of r worker) n (λ (c : Counting). Unit {0})
 
 -- and tells it of this command
 abbrev pub IsBy : Report → Serial → Told → Type 0
@@ -83,23 +83,23 @@ IsBy r by (count worker n) = HasAt (countings_of r worker) n (λ (c : Counting).
 -- ---- what numbers say
 -- what only grows: the entries of the list at a place, the lookups of an id, the entries of the
 -- journal of registrations
-pub data Measure : Type 0 where
-  entries : Place → Measure
-  lookups : ℕ → Measure
-  turns : Measure
+pub data ToldMeasure : Type 0 where
+  entries : Place → ToldMeasure
+  lookups : ℕ → ToldMeasure
+  turns : ToldMeasure
 
 -- a registration tells the number of its id's next lookup
-abbrev pub EntryTells : ℕ → ℕ → ℕ → PoolEntry → Type 0
-EntryTells i low high (Registered decl id from) = (id ≡ i) × (low ≡ from) × (high ≡ from)
-EntryTells i low high (Unregistered decl id to) = (id ≡ i) × (low ≡ to) × (high ≡ to)
-EntryTells i low high (Idle id) = ⊥
+abbrev pub TurnTells : ℕ → ℕ → ℕ → PoolEntry → Type 0
+TurnTells i low high (Registered decl id from) = (id ≡ i) × (low ≡ from) × (high ≡ from)
+TurnTells i low high (Unregistered decl id to) = (id ≡ i) × (low ≡ to) × (high ≡ to)
+TurnTells i low high (Idle id) = ⊥
 
 -- what is told says that there were `low` before it, and that there are `high` after it
-abbrev pub TellsOf : Report → Measure → Told → ℕ → ℕ → Type 0
+abbrev pub TellsOf : Report → ToldMeasure → Told → ℕ → ℕ → Type 0
 TellsOf r (entries p) (entry place n) low high = (place ≡ p) × (low ≡ n) × (high ≡ n + 1)
 TellsOf r (entries p) (count worker n) low high = HasAt (countings_of r worker) n (λ (c : Counting). (c.place ≡ p) × (low ≡ c.seen.version) × (high ≡ c.seen.version))
 TellsOf r (lookups i) (lookup id n) low high = (id ≡ i) × (low ≡ n) × (high ≡ n + 1)
-TellsOf r (lookups i) (turn n) low high = HasAt r.pool.items n (EntryTells i low high)
+TellsOf r (lookups i) (turn n) low high = HasAt r.pool.items n (TurnTells i low high)
 TellsOf r turns (turn n) low high = (low ≡ n) × (high ≡ n + 1)
 TellsOf r m x low high = ⊥
 
@@ -110,19 +110,19 @@ IsOfUse (Add by birth added key value) = Unit {0}
 IsOfUse (Scan worker walk asked policy visits freed stopped) = Unit {0}
 IsOfUse e = ⊥
 
-abbrev pub IsDrained : Entry → Type 0
-IsDrained (Drained by objects) = Unit {0}
-IsDrained e = ⊥
+abbrev pub IsDrainedEntry : Entry → Type 0
+IsDrainedEntry (Drained by objects) = Unit {0}
+IsDrainedEntry e = ⊥
 
 -- a list of the id is drained, or the id comes to be idle
 abbrev pub EndsUse : Report → ℕ → Told → Type 0
-EndsUse r id (entry place n) = (place.id ≡ id) × HasAt (journals_of r place) n IsDrained
+EndsUse r id (entry place n) = (place.id ≡ id) × HasAt (journals_of r place) n IsDrainedEntry
 EndsUse r id (turn n) = HasAt r.pool.items n (λ (e : PoolEntry). e ≡ Idle id)
 EndsUse r id x = ⊥
 
 -- The entry comes behind a lookup that this command made of its list's id, with a number that lies in a registration. What
 -- ends the use of the id comes before that lookup or behind the entry.
-pub record IsInUse (r : Report) (rank : Told → ℕ) (by : Serial) (place : Place) (n : ℕ) : Type 0 where
+pub record IsEntryInUse (r : Report) (rank : Told → ℕ) (by : Serial) (place : Place) (n : ℕ) : Type 0 where
   pub number : ℕ
   pub looked : Contains (looked_by r by) (place.id, number)
   pub registered : decl_at number (registrations place.id r.pool.items) ≢ None
@@ -152,14 +152,14 @@ pub record IsInOneOrder (r : Report) : Type 0 where
   -- where each stands in it
   pub rank : Told → ℕ
   -- of two that tell of one measure, that comes first of which there were fewer before than there are after the other
-  pub by_numbers : (x y : Told) → IsTold r x → IsTold r y → x ≢ y → (m : Measure) (low high low' high' : ℕ) → TellsOf r m x low high → TellsOf r m y low' high' → low < high' → rank x < rank y
+  pub by_numbers : (x y : Told) → ReportTells r x → ReportTells r y → x ≢ y → (m : ToldMeasure) (low high low' high' : ℕ) → TellsOf r m x low high → TellsOf r m y low' high' → low < high' → rank x < rank y
   -- what a worker did stands in the order of its commands,
   pub by_worker : (x y : Told) (worker k later : ℕ) → k < later → IsBy r (serial_of worker k) x → IsBy r (serial_of worker later) y → rank x < rank y
   -- a command's lookups in the order in which it made them, and so a worker's counts
   pub looked : (by : Serial) → AllPairs (λ x y. rank (lookup x.0 x.1) < rank (lookup y.0 y.1)) (looked_by r by)
   pub counted : (worker m n : ℕ) → m < n → n < length (countings_of r worker) → rank (count worker m) < rank (count worker n)
   -- a command's adds to a list, and its scans, are made while it uses the list's id
-  pub used : (place : Place) (n : ℕ) (by : Serial) → HasAt (journals_of r place) n IsOfUse → IsBy r by (entry place n) → IsInUse r rank by place n
+  pub used : (place : Place) (n : ℕ) (by : Serial) → HasAt (journals_of r place) n IsOfUse → IsBy r by (entry place n) → IsEntryInUse r rank by place n
   -- a list is drained while its id is dying, and an id comes to be idle while its lists are empty
-  pub drained : (place : Place) (n : ℕ) → HasAt (journals_of r place) n IsDrained → IsWhileDying r rank place.id (entry place n)
+  pub drained : (place : Place) (n : ℕ) → HasAt (journals_of r place) n IsDrainedEntry → IsWhileDying r rank place.id (entry place n)
   pub emptied : (place : Place) (n : ℕ) → HasAt r.pool.items n (λ (e : PoolEntry). e ≡ Idle place.id) → IsWhileEmpty r rank place (turn n)

@@ -40,8 +40,8 @@ abbrev pub later_of : Script → List Bool
 later_of s = false ∷ map (λ g. g.later) s.groups.items
 
 -- the tree of the groups of a script, with which of them aren't there at the start
-abbrev pub hierarchy_of : Script → Hierarchy
-hierarchy_of s = record { parents = parents_of s; later = later_of s }
+abbrev pub script_hierarchy : Script → Hierarchy
+script_hierarchy s = record { parents = parents_of s; later = later_of s }
 
 -- the limits of the groups, of which the root has none
 abbrev pub limits_of : Script → List (Option ℕ)
@@ -221,8 +221,8 @@ abbrev pub at : Place → ℕ → At
 at place n = record { place = place; entry = n }
 
 -- the command of the walk or the isolation with this number in a Scan entry
-abbrev pub scan_by : Report → ℕ → ℕ → Option Serial
-scan_by r worker n = cond (nat_lt n first_isolation)
+abbrev pub scanning_command : Report → ℕ → ℕ → Option Serial
+scanning_command r worker n = cond (nat_lt n first_isolation)
     (option_map (λ (w : WalkRecord). w.by) (walk_at r worker n))
     (option_map (λ (i : Isolation). i.by) (isolation_at r worker (n - first_isolation)))
 
@@ -232,7 +232,7 @@ entry_by r (Add by birth added key value) = Some by
 entry_by r (Look by birth key hit) = Some by
 entry_by r (Drop by birth key kind) = Some by
 entry_by r (Pin by birth key pinned hit) = Some by
-entry_by r (Scan worker walk asked policy visits freed stopped) = scan_by r worker walk
+entry_by r (Scan worker walk asked policy visits freed stopped) = scanning_command r worker walk
 entry_by r (MovedIn child objects) = None
 entry_by r Closed = None
 entry_by r (Drained by objects) = Some by

@@ -28,7 +28,7 @@ use Rattle.shr_model.specs.Pass.{batch_of, total_of, due_asks, FollowsArithmetic
 use Rattle.shr_model.specs.Deferred.{deferred_word}
 use Rattle.shr_report.specs.declared.report.Report.{Report}
 use Rattle.shr_report.specs.Parts.{serial_of, command_at, reply_at, at, EachAnswer}
-use Rattle.shr_report.specs.UnitParts.{pool_place, units_of, free_at, EachUnits, plain_by_of, place_at, units_cited_at, plain_of, plain_at, plain_by, EachPlain, EachTry, try_at, pass_at, passes_in, plain_job_of, plain_due}
+use Rattle.shr_report.specs.UnitParts.{pool_place, units_journal, free_at, EachUnits, plain_by_of, units_place_at, units_cited_at, plain_of, plain_at, plain_by, EachPlain, EachTry, try_at, pass_at, pool_passes, plain_job_of, plain_due}
 use Rattle.shr_report.specs.Deferred.{amount_in}
 use Rattle.shr_report.specs.WellFormed.{units_place, AreNotFalling}
 
@@ -43,14 +43,14 @@ pub record AreUnitsRight (s : Script) (u : UnitsEnd) : Type 0 where
 
 -- a reply cites this entry of the pool that its command names, at the home of its node
 pub record CitesUnits (s : Script) (r : Report) (pool node p n entry : ℕ) (e : PlainEntry) : Type 0 where
-  pub place : place_at p n ≡ pool_place s pool node
-  pub stands : slice_get (units_of r (place_at p n)) entry ≡ Some e
+  pub place : units_place_at p n ≡ pool_place s pool node
+  pub stands : slice_get (units_journal r (units_place_at p n)) entry ≡ Some e
 
 -- after so many entries of the pool so many units were free, and so many more were too many
 pub record IsTooFull (s : Script) (r : Report) (pool node units p n entries free : ℕ) : Type 0 where
-  pub place : place_at p n ≡ pool_place s pool node
-  pub there : entries ≤ length (units_of r (place_at p n))
-  pub counted : free ≡ free_at r (place_at p n) entries
+  pub place : units_place_at p n ≡ pool_place s pool node
+  pub there : entries ≤ length (units_journal r (units_place_at p n))
+  pub counted : free ≡ free_at r (units_place_at p n) entries
   pub full : 20000 < free + units
 
 -- a reply about a pool cites its entry, or has its cause; which replies a command may have, and the
@@ -86,14 +86,14 @@ len_in (Skip len version) = len
 len_in (Ran p) = p.len
 
 -- how many units the pass of a try freed
-abbrev pub freed_in : PlainTry → ℕ
-freed_in (Empty version) = 0
-freed_in (Skip len version) = 0
-freed_in (Ran p) = p.freed
+abbrev pub freed_in_try : PlainTry → ℕ
+freed_in_try (Empty version) = 0
+freed_in_try (Skip len version) = 0
+freed_in_try (Ran p) = p.freed
 
 -- a try counted what was free at its place after that many entries
 pub record IsPlainCount (r : Report) (place : Place) (x : PlainTry) : Type 0 where
-  pub there : version_in x ≤ length (units_of r place)
+  pub there : version_in x ≤ length (units_journal r place)
   pub len : len_in x ≡ free_at r place (version_in x)
 
 -- a pool is skipped up to its floor, and passed above it
@@ -107,7 +107,7 @@ abbrev pub IsPlainEnding : Report → Place → Ending → Type 0
 IsPlainEnding r place ending.Through = ⊤
 IsPlainEnding r place ending.Stop = ⊥
 IsPlainEnding r place ending.NoRoom = ⊤
-IsPlainEnding r place (ending.Worn x) = length (units_of r place) ≡ 2 ^ 31
+IsPlainEnding r place (ending.Worn x) = length (units_journal r place) ≡ 2 ^ 31
 
 -- a Reclaim entry by its number: what it was asked, and how many units it freed
 pub record ReclaimMade : Type 0 where
@@ -148,11 +148,11 @@ pub record IsPlainLawful (s : Script) (r : Report) (worker n : ℕ) (w : PlainWa
   pub counts : EachTry s w (λ pool place d x. IsPlainCount r place x)
   pub kinds : EachTry s w (λ pool place d x. IsKind d x)
   -- each pass is one of its pool, with its Reclaim entries
-  pub passes : EachTry s w (λ pool place d x. (p : PassRecord) → x ≡ Ran p → IsPlainPass r place d w.priority p (reclaims_by worker n (units_of r place)))
+  pub passes : EachTry s w (λ pool place d x. (p : PassRecord) → x ≡ Ran p → IsPlainPass r place d w.priority p (reclaims_by worker n (units_journal r place)))
   -- after one that ended for want of room there is no other
   pub cut : EachTry s w (λ pool place d x. (p : PassRecord) → x ≡ Ran p → p.ending ≡ ending.NoRoom → IsLastTry w pool)
   -- what the answer says was freed is what the passes freed
-  pub freed : plain_told w.answer ≡ sum_by freed_in w.tries.items
+  pub freed : plain_told w.answer ≡ sum_by freed_in_try w.tries.items
 
 -- a Reclaim entry at a place is of a pass there, of the walk of the pools that it names
 abbrev pub IsOfPlain : Script → Report → Place → PlainEntry → Type 0
@@ -191,5 +191,5 @@ pub record ArePoolsLawful (s : Script) (r : Report) : Type 0 where
   -- there is no Reclaim entry but those of the passes
   pub no_others : EachUnits r (λ place n e. IsOfPlain s r place e)
   -- each deferred word is what the passes there deferred less what they took over, and none that is printed is 0
-  pub deferred : (place : Place) → pool_printed_at r place ≡ deferred_word (sum_by (λ (p : PassRecord). p.next) (passes_in s r place)) (sum_by (λ (p : PassRecord). p.nr) (passes_in s r place))
+  pub deferred : (place : Place) → pool_printed_at r place ≡ deferred_word (sum_by (λ (p : PassRecord). p.next) (pool_passes s r place)) (sum_by (λ (p : PassRecord). p.nr) (pool_passes s r place))
   pub shown : AllByRecursion (λ (x : PlaceAmount). 0 < x.amount) r.pool_deferred.items

@@ -19,7 +19,7 @@ logs_from part at = record {
 }
 
 -- no more is printed than there is
-pub record IsWithin (part : WorkerPart) (at : Printed) : Type 0 where
+pub record IsPrintedWithin (part : WorkerPart) (at : Printed) : Type 0 where
   pub isolations : at.isolations ≤ length part.isolations.items
   pub walks : at.walks ≤ length part.walks.items
   pub carries : at.carries ≤ length part.carries.items

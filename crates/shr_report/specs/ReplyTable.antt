@@ -23,7 +23,7 @@ use Rattle.shr_model.specs.Families.{Family, items_at}
 use Rattle.shr_report.specs.declared.report.Report.{Report}
 use Rattle.shr_report.specs.Parts.{parents_of}
 use Rattle.shr_report.specs.UnitParts.{pool_place}
-use Rattle.shr_report.specs.Causes.{IsSpent, IsPoolSpent, IsUnmade, StandsInTree, IsOver, IsUncached, IsCached, IsFull, IsFreed, IsHalf, IsInTheWay, IsOfflined}
+use Rattle.shr_report.specs.Causes.{IsSpent, IsPoolSpent, IsUnmade, StandsInTree, IsOver, IsUncached, IsCached, IsFull, IsFreed, IsHalf, IsInTheWay, IsOfflineDone}
 
 -- a reply cites this entry, at this id and node
 pub record Cites (family : Family) (c : At) (id node : ℕ) (e : Entry) : Type 0 where
@@ -170,25 +170,25 @@ grab_row reply.Memory = before
 grab_row x = never
 
 -- the row of a command and a reply
-abbrev pub row_of : Serial → Command → Reply → Row
-row_of by (Put group node decl key value) x = put_row by group node key value x
-row_of by (Get group node decl key) x = get_row by group node key x
-row_of by (Del group node decl key) x = del_row by group node key x
-row_of by (SetPin group node decl key pinned) x = pin_row by group node key pinned x
-row_of by (Shrink group node priority nofs) x = shrink_row x
-row_of by (Balance node priority nofs) x = balance_row x
-row_of by (Offline group) x = offline_row x
-row_of by (Register decl) x = register_row x
-row_of by (Unregister decl) x = unregister_row x
-row_of by (MkGroup group) x = mkgroup_row x
-row_of by (Isolate group node decl budget) x = isolate_row x
-row_of by (Release node pool units) x = release_row x
-row_of by (Grab node pool) x = grab_row x
+abbrev pub reply_row : Serial → Command → Reply → Row
+reply_row by (Put group node decl key value) x = put_row by group node key value x
+reply_row by (Get group node decl key) x = get_row by group node key x
+reply_row by (Del group node decl key) x = del_row by group node key x
+reply_row by (SetPin group node decl key pinned) x = pin_row by group node key pinned x
+reply_row by (Shrink group node priority nofs) x = shrink_row x
+reply_row by (Balance node priority nofs) x = balance_row x
+reply_row by (Offline group) x = offline_row x
+reply_row by (Register decl) x = register_row x
+reply_row by (Unregister decl) x = unregister_row x
+reply_row by (MkGroup group) x = mkgroup_row x
+reply_row by (Isolate group node decl budget) x = isolate_row x
+reply_row by (Release node pool units) x = release_row x
+reply_row by (Grab node pool) x = grab_row x
 
 -- a command may be answered so, where this is the id of the cache that was found
 abbrev pub IsReply : List ℕ → Family → Serial → Command → Option ℕ → Reply → Type 0
-IsReply parents family by c (Some id) x = (row_of by c x).held parents family id
-IsReply parents family by c None x = (row_of by c x).unheld
+IsReply parents family by c (Some id) x = (reply_row by c x).held parents family id
+IsReply parents family by c None x = (reply_row by c x).unheld
 
 -- the group that an answer calls offline or not made: that of the command, and of one that makes a
 -- group its parent
@@ -212,7 +212,7 @@ HasCause s r by c (reply.AlreadyMade entry) = IsSomeAnd (group_named c) (λ g. S
 HasCause s r by c (reply.Over h operation usage) = IsSomeAnd (group_named c) (λ g. IsOver s r by g h operation usage)
 HasCause s r by c (reply.NoCache entry) = IsSomeAnd (decl_named c) (λ d. IsUncached s r d entry)
 HasCause s r by c (reply.Worn x) = IsUsedUp s r by c x
-HasCause s r by c (reply.OfflineDone entry moved deferred) = IsSomeAnd (group_named c) (λ g. IsOfflined s r by g entry moved deferred)
+HasCause s r by c (reply.OfflineDone entry moved deferred) = IsSomeAnd (group_named c) (λ g. IsOfflineDone s r by g entry moved deferred)
 HasCause s r by c (reply.AlreadyDone entry) = IsSomeAnd (group_named c) (λ g. StandsInTree r entry (Done g))
 HasCause s r by c reply.Root = IsSomeAnd (group_named c) (λ g. g ≡ 0)
 HasCause s r by c (reply.HasChildren child entry) = IsSomeAnd (group_named c) (λ g. IsInTheWay s r g child entry)

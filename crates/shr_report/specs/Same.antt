@@ -51,7 +51,7 @@ pub record IsSameUnits (u v : UnitsEnd) : Type 0 where
   pub free : u.free ≡ v.free
 
 -- the two are one report
-pub record IsSame (r s : Report) : Type 0 where
+pub record IsOneReport (r s : Report) : Type 0 where
   pub version : r.version ≡ s.version
   pub nodes : r.nodes ≡ s.nodes
   pub ids : r.ids ≡ s.ids
@@ -74,8 +74,8 @@ pub record IsSame (r s : Report) : Type 0 where
 
 -- no two well formed reports have one text
 abbrev pub HasOneText : Type 0
-HasOneText = (r s : Report) → IsWellFormed r → IsWellFormed s → text r ≡ text s → IsSame r s
+HasOneText = (r s : Report) → IsWellFormed r → IsWellFormed s → text r ≡ text s → IsOneReport r s
 
 -- these bytes determine the report: no other well formed one has them as its text
 abbrev pub Determines : List ℕ → Report → Type 0
-Determines bytes r = IsWellFormed r → (s : Report) → IsWellFormed s → text s ≡ bytes → IsSame r s
+Determines bytes r = IsWellFormed r → (s : Report) → IsWellFormed s → text s ≡ bytes → IsOneReport r s

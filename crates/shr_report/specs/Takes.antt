@@ -39,12 +39,12 @@ abbrev pub steps_walked : WalkRecord → List WordStep
 steps_walked w = flat_map (λ (a : Attempt). steps_passed (place_in w a.id) (pass_of a.outcome)) w.attempts.items
 
 -- the place of the parent group
-abbrev pub above : Script → Place → Place
-above s place = record place { group = parent_of (parents_of s) place.group }
+abbrev pub place_of_parent : Script → Place → Place
+place_of_parent s place = record place { group = parent_of (parents_of s) place.group }
 
 -- what was taken at a place to hand it over was given to the place of the parent group, where there was any
 abbrev pub steps_handed : Script → PlaceAmount → List WordStep
-steps_handed s a = took a ∷ cond (a.amount == 0) [] (gave (amount_of (above s a.place) a.amount) ∷ [])
+steps_handed s a = took a ∷ cond (a.amount == 0) [] (gave (amount_of (place_of_parent s a.place) a.amount) ∷ [])
 
 -- the steps of a command which took these amounts to hand them over
 abbrev pub steps_by : Script → Report → Serial → List PlaceAmount → List WordStep
@@ -78,36 +78,36 @@ pub record Taking : Type 0 where
   pub step : WordStep
 
 -- the steps of one worker
-abbrev pub steps_in : ℕ → List Taking → List WordStep
-steps_in worker [] = []
-steps_in worker (t ∷ ts) = cond (t.worker == worker) (t.step ∷ steps_in worker ts) (steps_in worker ts)
+abbrev pub steps_by_worker : ℕ → List Taking → List WordStep
+steps_by_worker worker [] = []
+steps_by_worker worker (t ∷ ts) = cond (t.worker == worker) (t.step ∷ steps_by_worker worker ts) (steps_by_worker worker ts)
 
 -- what is deferred at each place
-abbrev pub Amounts : Type 0
-Amounts = Place → ℕ
+abbrev pub DeferredAmounts : Type 0
+DeferredAmounts = Place → ℕ
 
-abbrev pub nothing_deferred : Amounts
-nothing_deferred place = 0
+abbrev pub none_deferred : DeferredAmounts
+none_deferred place = 0
 
 -- after a step: a take leaves nothing, a give adds modulo 2^64
-abbrev pub after_step : Amounts → WordStep → Amounts
+abbrev pub after_step : DeferredAmounts → WordStep → DeferredAmounts
 after_step w (took x) place = cond (is_place place x.place) 0 (w place)
 after_step w (gave x) place = cond (is_place place x.place) ((w place + x.amount) % 2 ^ 64) (w place)
 
 -- after all of them
-abbrev pub after_all : Amounts → List Taking → Amounts
+abbrev pub after_all : DeferredAmounts → List Taking → DeferredAmounts
 after_all w [] = w
 after_all w (t ∷ ts) = after_all (after_step w t.step) ts
 
 -- a take took just what there was
-abbrev pub TakesAll : Amounts → WordStep → Type 0
-TakesAll w (took x) = x.amount ≡ w x.place
-TakesAll w (gave x) = Unit {0}
+abbrev pub TakesWhole : DeferredAmounts → WordStep → Type 0
+TakesWhole w (took x) = x.amount ≡ w x.place
+TakesWhole w (gave x) = Unit {0}
 
 -- so did each of them
-abbrev pub AreTaken : Amounts → List Taking → Type 0
-AreTaken w [] = Unit {0}
-AreTaken w (t ∷ ts) = TakesAll w t.step × AreTaken (after_step w t.step) ts
+abbrev pub AreWholeTakes : DeferredAmounts → List Taking → Type 0
+AreWholeTakes w [] = Unit {0}
+AreWholeTakes w (t ∷ ts) = TakesWhole w t.step × AreWholeTakes (after_step w t.step) ts
 
 -- There is one order of all takes and gives of which the report tells, each worker's in the order of its commands, in which
 -- each take took just what was given at its place since the take before. The printed words are what is left.
@@ -116,6 +116,6 @@ pub record AreTakesInOrder (s : Script) (r : Report) : Type 0 where
   pub handed : ℕ → ℕ → List PlaceAmount
   pub hands : (worker k : ℕ) (a : Answered) → slice_get (answers_of r worker) k ≡ Some a → IsHanded s r (serial_of worker k) a.reply (handed worker k)
   pub line : List Taking
-  pub parts : (worker : ℕ) → steps_in worker line ≡ flat_map (λ k. steps_by s r (serial_of worker k) (handed worker k)) (range_with_len 0 (length (answers_of r worker)))
-  pub taken : AreTaken nothing_deferred line
-  pub left : (place : Place) → IsThere s place → printed_at r place ≡ after_all nothing_deferred line place
+  pub parts : (worker : ℕ) → steps_by_worker worker line ≡ flat_map (λ k. steps_by s r (serial_of worker k) (handed worker k)) (range_with_len 0 (length (answers_of r worker)))
+  pub taken : AreWholeTakes none_deferred line
+  pub left : (place : Place) → IsThere s place → printed_at r place ≡ after_all none_deferred line place

@@ -31,22 +31,22 @@ use Rattle.shr_report.specs.AnswerText.{choice, place_words, value_word, reply_l
 use Rattle.shr_report.specs.WalkText.{walk_lines, carry_line, plain_lines, isolation_line}
 
 -- a group, by its number and path
-abbrev pub group_line : ℕ → List ℕ → List ℕ
-group_line n path = line (codes "group") (numeral n ∷ path ∷ [])
+abbrev pub numbered_group_line : ℕ → List ℕ → List ℕ
+numbered_group_line n path = line (codes "group") (numeral n ∷ path ∷ [])
 
 -- a cache, by its number and name
-abbrev pub cache_line : ℕ → List ℕ → List ℕ
-cache_line n name = line (codes "cache") (numeral n ∷ name ∷ [])
+abbrev pub numbered_cache_line : ℕ → List ℕ → List ℕ
+numbered_cache_line n name = line (codes "cache") (numeral n ∷ name ∷ [])
 
 -- a pool of units, by its number and name
 abbrev pub units_name_line : ℕ → List ℕ → List ℕ
 units_name_line n name = line (codes "pool") (numeral n ∷ name ∷ [])
 
 -- an entry of the journal of registrations
-abbrev pub pool_line : ℕ → PoolEntry → List ℕ
-pool_line n (pool.Registered decl id from) = line (codes "pool") (numeral n ∷ codes "registered" ∷ numeral decl ∷ numeral id ∷ numeral from ∷ [])
-pool_line n (pool.Unregistered decl id to) = line (codes "pool") (numeral n ∷ codes "unregistered" ∷ numeral decl ∷ numeral id ∷ numeral to ∷ [])
-pool_line n (pool.Idle id) = line (codes "pool") (numeral n ∷ codes "idle" ∷ numeral id ∷ [])
+abbrev pub pool_entry_line : ℕ → PoolEntry → List ℕ
+pool_entry_line n (pool.Registered decl id from) = line (codes "pool") (numeral n ∷ codes "registered" ∷ numeral decl ∷ numeral id ∷ numeral from ∷ [])
+pool_entry_line n (pool.Unregistered decl id to) = line (codes "pool") (numeral n ∷ codes "unregistered" ∷ numeral decl ∷ numeral id ∷ numeral to ∷ [])
+pool_entry_line n (pool.Idle id) = line (codes "pool") (numeral n ∷ codes "idle" ∷ numeral id ∷ [])
 
 -- an entry of the journal of the tree
 abbrev pub tree_line : ℕ → TreeEntry → List ℕ
@@ -196,11 +196,11 @@ walk_count r = sum_by (λ w. length w.walks.items) r.workers.items
 -- the head, the groups, the caches and the pools of units
 abbrev pub head_lines : Report → List ℕ
 head_lines r = line (codes "report") (numeral r.version ∷ []) ++ line (codes "size") (numeral r.nodes ∷ numeral r.ids ∷ [])
-    ++ numbered group_line 0 r.groups.items ++ numbered cache_line 0 r.caches.items ++ numbered units_name_line 0 r.pools.items
+    ++ numbered numbered_group_line 0 r.groups.items ++ numbered numbered_cache_line 0 r.caches.items ++ numbered units_name_line 0 r.pools.items
 
 -- the journal of registrations, and that of the tree
 abbrev pub journal_lines : Report → List ℕ
-journal_lines r = numbered pool_line 0 r.pool.items ++ numbered tree_line 0 r.tree.items
+journal_lines r = numbered pool_entry_line 0 r.pool.items ++ numbered tree_line 0 r.tree.items
 
 -- the bit words, the deferred words, the charges and the lookups
 abbrev pub table_lines : Report → List ℕ

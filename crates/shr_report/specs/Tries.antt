@@ -47,14 +47,14 @@ abbrev pub refused_in : Script → Report → Serial → ℕ → List Bool
 refused_in s r by group = map (is_refused (limit_of s group)) (filter (λ (o : UseStep). o.up) (ops_by by (uses_at r group)))
 
 -- the rounds of a put are those that its tries asked for, and its ups are those of its tries
-pub record AreTries (s : Script) (r : Report) (by : Serial) (own : ℕ) (c : Command) (a : Answered) : Type 0 where
+pub record AreTriesOfPut (s : Script) (r : Report) (by : Serial) (own : ℕ) (c : Command) (a : Answered) : Type 0 where
   pub rounds : List ℕ
   pub made : MayMake a.reply (jobs_of (parents_of s) s.nodes rounds c) (map job_of (walks_by r by))
   pub each : (group : ℕ) → refused_in s r by group ≡ outcomes_in (parents_of s) own (refusals_of rounds a.reply) (was_charged (is_some a.found) a.reply) group
 
 -- only a put tries
 abbrev pub AreTriesOf : Script → Report → Serial → Command → Answered → Type 0
-AreTriesOf s r by (Put group node decl key value) a = AreTries s r by group (Put group node decl key value) a
+AreTriesOf s r by (Put group node decl key value) a = AreTriesOfPut s r by group (Put group node decl key value) a
 AreTriesOf s r by c a = ⊤
 
 -- each put's charges are those of its tries

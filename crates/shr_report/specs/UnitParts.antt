@@ -35,21 +35,21 @@ abbrev pub pool_place : Script → ℕ → ℕ → Place
 pool_place s pool node = record { id = pool; node = home_in (slice_get s.pools.items pool) node; group = 0 }
 
 -- the journal that is printed, or the empty one
-abbrev pub units_in : Option UnitsEnd → List PlainEntry
-units_in None = []
-units_in (Some u) = u.entries.items
+abbrev pub units_entries : Option UnitsEnd → List PlainEntry
+units_entries None = []
+units_entries (Some u) = u.entries.items
 
 -- the journals of the pools of a report: a place that isn't printed has the empty one
-abbrev pub units_of : Report → Place → List PlainEntry
-units_of r place = units_in (find (λ (u : UnitsEnd). is_place (units_place u) place) r.units.items)
+abbrev pub units_journal : Report → Place → List PlainEntry
+units_journal r place = units_entries (find (λ (u : UnitsEnd). is_place (units_place u) place) r.units.items)
 
 -- how many units are free at a place after so many entries
 abbrev pub free_at : Report → Place → ℕ → ℕ
-free_at r place n = free_of (take n (units_of r place))
+free_at r place n = free_of (take n (units_journal r place))
 
 -- P of each entry of each journal of a pool, with its place and number
 abbrev pub EachUnits : Report → (Place → ℕ → PlainEntry → Type 0) → Type 0
-EachUnits r P = (place : Place) (n : ℕ) (e : PlainEntry) → slice_get (units_of r place) n ≡ Some e → P place n e
+EachUnits r P = (place : Place) (n : ℕ) (e : PlainEntry) → slice_get (units_journal r place) n ≡ Some e → P place n e
 
 -- the command of a Release and of a Grab
 abbrev pub plain_by_of : PlainEntry → Option Serial
@@ -58,14 +58,14 @@ plain_by_of (plain.Grab by got) = Some by
 plain_by_of (plain.Reclaim worker walk asked freed) = None
 
 -- a place of a pool, by its numbers alone
-abbrev pub place_at : ℕ → ℕ → Place
-place_at pool node = record { id = pool; node = node; group = 0 }
+abbrev pub units_place_at : ℕ → ℕ → Place
+units_place_at pool node = record { id = pool; node = node; group = 0 }
 
 -- the entry of a pool's journal that a reply cites
 abbrev pub units_cited : Reply → Option At
-units_cited (reply.Released pool node entry) = Some (at (place_at pool node) entry)
-units_cited (reply.Grabbed pool node entry) = Some (at (place_at pool node) entry)
-units_cited (reply.Bare pool node entry) = Some (at (place_at pool node) entry)
+units_cited (reply.Released pool node entry) = Some (at (units_place_at pool node) entry)
+units_cited (reply.Grabbed pool node entry) = Some (at (units_place_at pool node) entry)
+units_cited (reply.Bare pool node entry) = Some (at (units_place_at pool node) entry)
 units_cited x = None
 
 -- the entry of a pool's journal that the reply to a command cites
@@ -116,8 +116,8 @@ abbrev pub pass_at : Script → Place → PlainWalk → Option PassRecord
 pass_at s place w = option_and_then pass_in (try_at s place w)
 
 -- the passes at a place of all walks of the pools
-abbrev pub passes_in : Script → Report → Place → List PassRecord
-passes_in s r place = filter_map (pass_at s place) (all_plain r)
+abbrev pub pool_passes : Script → Report → Place → List PassRecord
+pool_passes s r place = filter_map (pass_at s place) (all_plain r)
 
 -- a walk of the pools by what it was to do
 pub record PlainJob : Type 0 where

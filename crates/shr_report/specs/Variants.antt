@@ -43,14 +43,14 @@ IsOfCache (reply.NoId entry) = Unit {0}
 IsOfCache r = ⊥
 
 -- an answer of an unregistering that was done
-abbrev pub IsFreed : Reply → Type 0
-IsFreed (reply.Freed id entry from to objects) = Unit {0}
-IsFreed r = ⊥
+abbrev pub IsFreedAnswer : Reply → Type 0
+IsFreedAnswer (reply.Freed id entry from to objects) = Unit {0}
+IsFreedAnswer r = ⊥
 
 -- an answer of an unregistering that stopped half way
-abbrev pub IsHalf : Reply → Type 0
-IsHalf (reply.Half id entry from to objects why) = Unit {0}
-IsHalf r = ⊥
+abbrev pub IsHalfAnswer : Reply → Type 0
+IsHalfAnswer (reply.Half id entry from to objects why) = Unit {0}
+IsHalfAnswer r = ⊥
 
 -- an answer to an isolation that visited
 abbrev pub IsIsolated : Reply → Type 0
@@ -58,12 +58,12 @@ IsIsolated (reply.Isolated visits freed ending) = Unit {0}
 IsIsolated r = ⊥
 
 -- an answer of a pool of units
-abbrev pub IsOfPool : Reply → Type 0
-IsOfPool (reply.Released pool node entry) = Unit {0}
-IsOfPool (reply.Full pool node entries free) = Unit {0}
-IsOfPool (reply.Grabbed pool node entry) = Unit {0}
-IsOfPool (reply.Bare pool node entry) = Unit {0}
-IsOfPool r = ⊥
+abbrev pub IsPoolAnswer : Reply → Type 0
+IsPoolAnswer (reply.Released pool node entry) = Unit {0}
+IsPoolAnswer (reply.Full pool node entries free) = Unit {0}
+IsPoolAnswer (reply.Grabbed pool node entry) = Unit {0}
+IsPoolAnswer (reply.Bare pool node entry) = Unit {0}
+IsPoolAnswer r = ⊥
 
 -- an attempt that ran a pass
 abbrev pub IsPassed : Outcome → Type 0
@@ -72,10 +72,10 @@ IsPassed (outcome.RestoredRan number first pass) = Unit {0}
 IsPassed o = ⊥
 
 -- an attempt that cleared a bit, and ran no pass
-abbrev pub IsCleared : Outcome → Type 0
-IsCleared (outcome.Cleared number first second) = Unit {0}
-IsCleared (outcome.RestoredSkip number first len version) = Unit {0}
-IsCleared o = ⊥
+abbrev pub IsClearing : Outcome → Type 0
+IsClearing (outcome.Cleared number first second) = Unit {0}
+IsClearing (outcome.RestoredSkip number first len version) = Unit {0}
+IsClearing o = ⊥
 
 -- an answer that isn't of a place's entry
 abbrev pub IsUnplaced : Reply → Type 0
@@ -89,9 +89,9 @@ IsUnplaced (reply.Done at) = ⊥
 IsUnplaced r = Unit {0}
 
 -- an entry that no tenant's call made
-abbrev pub IsOther : Entry → Type 0
-IsOther (entry.Add by birth added key value) = ⊥
-IsOther (entry.Look by birth key hit) = ⊥
-IsOther (entry.Drop by birth key kind) = ⊥
-IsOther (entry.Pin by birth key pinned hit) = ⊥
-IsOther e = Unit {0}
+abbrev pub IsOfNoTenant : Entry → Type 0
+IsOfNoTenant (entry.Add by birth added key value) = ⊥
+IsOfNoTenant (entry.Look by birth key hit) = ⊥
+IsOfNoTenant (entry.Drop by birth key kind) = ⊥
+IsOfNoTenant (entry.Pin by birth key pinned hit) = ⊥
+IsOfNoTenant e = Unit {0}

@@ -30,8 +30,8 @@ use Rattle.shr_base.specs.declared.ends.WorkerPart.{WorkerPart}
 use Rattle.shr_report.specs.declared.report.Report.{Report}
 
 -- each number is above the one before it
-abbrev pub AreRising : List ℕ → Type 0
-AreRising ns = AllAdjacentBelow (λ n m. n < m) ns (length ns)
+abbrev pub AreNumbersRising : List ℕ → Type 0
+AreNumbersRising ns = AllAdjacentBelow (λ n m. n < m) ns (length ns)
 
 -- each number is at least the one before it
 abbrev pub AreNotFalling : List ℕ → Type 0
@@ -90,7 +90,7 @@ IsBitWord bits = bits < 2 ^ 64
 pub record IsWalkWell (w : WalkRecord) : Type 0 where
   pub root : w.group ≡ 0 → w.maps.items ≡ []
   pub words : AllByRecursion (λ m. IsBitWord m.bits) w.maps.items
-  pub units : AreRising (map (λ m. m.unit) w.maps.items)
+  pub units : AreNumbersRising (map (λ m. m.unit) w.maps.items)
   pub attempts : w.group ≢ 0 → AreNotFalling (map (λ a. unit_of a.id) w.attempts.items)
   pub loaded : w.group ≢ 0 → AllByRecursion (λ a. Contains (map (λ m. m.unit) w.maps.items) (unit_of a.id)) w.attempts.items
 

@@ -6,7 +6,7 @@ ghost use Rattle.shr_report.specs.Lines.{line, numeral, spaced};
 ghost use Rattle.std.specs.List.{AllByRecursion};
 ghost use Rattle.shr_base.specs.declared.journals.Entry.TheVariants.{Add};
 ghost use Rattle.shr_report.specs.Numbers.{IsSerialNumbered, IsObjectNumbered, IsEntryNumbered, IsListNumbered};
-ghost use Rattle.shr_report.specs.Variants.{IsTenants, IsOther};
+ghost use Rattle.shr_report.specs.Variants.{IsTenants, IsOfNoTenant};
 ghost use Rattle.shr_report.specs.AnswerText.{choice};
 ghost use Rattle.shr_report.specs.Text.{policy_word, kind_word, item_line, entry_line, place_lines};
 
@@ -287,7 +287,7 @@ fn add_policy(piece: &mut Piece, end: usize, policy: Policy) -> usize
 
 // An entry that no tenant's call made.
 fn add_other(piece: &mut Piece, e: &Entry) -> usize
-    requires { IsOther e.now }
+    requires { IsOfNoTenant e.now }
     ensures text { drop result piece.new ≡ entry_line e.now }
     ensures start { result ≤ 512 }
     ensures numbers { IsEntryNumbered e.now }

@@ -6,7 +6,7 @@ ghost use Rattle.shr_outside.specs.Paper.{Prints};
 ghost use Rattle.std.specs.List.{AllByRecursion, prefix_len};
 ghost use Rattle.shr_report.specs.Numbers.{IsWalkNumbered, IsCarryNumbered, IsPlainNumbered, IsIsolationNumbered};
 ghost use Rattle.shr_report.specs.Lines.{numbered};
-ghost use Rattle.shr_report.specs.Printing.{logs_from, IsWithin, AreNumberedTo};
+ghost use Rattle.shr_report.specs.Printing.{logs_from, IsPrintedWithin, AreNumberedTo};
 ghost use Rattle.shr_report.specs.WalkText.{walk_lines, carry_line, plain_lines, isolation_line};
 ghost use Rattle.shr_report.specs.Text.{is_walk_of, is_carry_of, is_plain_of, is_isolation_of, log_lines, after_command};
 
@@ -126,11 +126,11 @@ pub fn logs<K: Sink>(
     command: usize,
     at: Printed,
 ) -> Printed
-    requires { IsWithin part.now at }
+    requires { IsPrintedWithin part.now at }
     ensures printed { Prints K.written K.faults out.old out.new
         (log_lines command (logs_from part.now at)) }
     ensures after { logs_from part.now result ≡ after_command command (logs_from part.now at) }
-    ensures within { IsWithin part.now result }
+    ensures within { IsPrintedWithin part.now result }
     ensures numbers { AreNumberedTo part.now at → AreNumberedTo part.now result }
 {
     let all_isolations = part.isolations.as_slice();

@@ -8,7 +8,7 @@ ghost use Rattle.std.specs.List.{AllByRecursion};
 ghost use Rattle.shr_report.specs.Numbers.{IsSerialNumbered, IsListNumbered, IsMapNumbered, IsUseNumbered, HasNumbers};
 ghost use Rattle.shr_report.specs.Same.{Determines};
 ghost use Rattle.shr_report.specs.WellFormed.{IsWellFormed};
-ghost use Rattle.shr_report.specs.Text.{pool_line, tree_line, place_lines, bits_words, bit_line, deferred_line, use_line, lookups_line, head_lines, journal_lines, table_lines, end_lines, reply_count, walk_count, text};
+ghost use Rattle.shr_report.specs.Text.{pool_entry_line, tree_line, place_lines, bits_words, bit_line, deferred_line, use_line, lookups_line, head_lines, journal_lines, table_lines, end_lines, reply_count, walk_count, text};
 
 use crate::entries::place;
 use crate::lines::Word::{Number, Text as Bytes};
@@ -36,7 +36,7 @@ fn names<K: Sink>(out: &mut Paper<K>, first: &[u8], names: &[Text])
 }
 
 fn pool_entry<K: Sink>(out: &mut Paper<K>, number: usize, entry: &PoolEntry)
-    ensures { Prints K.written K.faults out.old out.new (pool_line number entry.now) }
+    ensures { Prints K.written K.faults out.old out.new (pool_entry_line number entry.now) }
 {
     match *entry {
         PoolEntry::Registered { decl, id, from } => put_line(
@@ -70,7 +70,7 @@ fn pool_entry<K: Sink>(out: &mut Paper<K>, number: usize, entry: &PoolEntry)
 }
 
 fn pool<K: Sink>(out: &mut Paper<K>, entries: &[PoolEntry])
-    ensures { Prints K.written K.faults out.old out.new (numbered pool_line 0 entries.now) }
+    ensures { Prints K.written K.faults out.old out.new (numbered pool_entry_line 0 entries.now) }
 {
     for (i, entry) in entries.iter().enumerate() {
         pool_entry(out, i, entry);

@@ -3,7 +3,7 @@
 ghost use Rattle.std.specs.Prelude.{◌≡◌, ◌≤◌, ◌+◌, ◌++◌, ◌∷◌, [], drop, length};
 ghost use Rattle.shr_report.specs.Lines.{spaced, numeral};
 ghost use Rattle.shr_report.specs.Numbers.{IsWhyNumbered, IsIsolateEndNumbered, IsReplyNumbered};
-ghost use Rattle.shr_report.specs.Variants.{IsOfGroup, IsOfOffline, IsOfMaking, IsOfCache, IsFreed, IsHalf, IsIsolated, IsOfPool, IsUnplaced};
+ghost use Rattle.shr_report.specs.Variants.{IsOfGroup, IsOfOffline, IsOfMaking, IsOfCache, IsFreedAnswer, IsHalfAnswer, IsIsolated, IsPoolAnswer, IsUnplaced};
 ghost use Rattle.shr_report.specs.AnswerText.{why_words, isolate_end_words, answer_words};
 
 use crate::counters::add_spent;
@@ -142,7 +142,7 @@ fn add_of_cache(piece: &mut Piece, end: usize, reply: &Reply) -> usize
 
 // A reply to an unregistering that was done.
 fn add_freed(piece: &mut Piece, end: usize, reply: &Reply) -> usize
-    requires reply { IsFreed reply.now }
+    requires reply { IsFreedAnswer reply.now }
     requires room { (111 ≤ end) × (end ≤ 512) }
     ensures text { drop result piece.new ≡ spaced (answer_words reply.now) ++ drop end piece.old }
     ensures start { (end ≤ result + 111) × (result ≤ end) }
@@ -169,7 +169,7 @@ fn add_freed(piece: &mut Piece, end: usize, reply: &Reply) -> usize
 
 // A reply to an unregistering that stopped half way.
 fn add_half(piece: &mut Piece, end: usize, reply: &Reply) -> usize
-    requires reply { IsHalf reply.now }
+    requires reply { IsHalfAnswer reply.now }
     requires room { (225 ≤ end) × (end ≤ 512) }
     ensures text { drop result piece.new ≡ spaced (answer_words reply.now) ++ drop end piece.old }
     ensures start { (end ≤ result + 225) × (result ≤ end) }
@@ -256,7 +256,7 @@ fn add_pool(piece: &mut Piece, end: usize, word: &[u8], pool: u8, node: u8) -> u
 
 // A reply of a pool of units.
 fn add_of_pool(piece: &mut Piece, end: usize, reply: &Reply) -> usize
-    requires reply { IsOfPool reply.now }
+    requires reply { IsPoolAnswer reply.now }
     requires room { (93 ≤ end) × (end ≤ 512) }
     ensures text { drop result piece.new ≡ spaced (answer_words reply.now) ++ drop end piece.old }
     ensures start { (end ≤ result + 93) × (result ≤ end) }

@@ -5,7 +5,7 @@ ghost use Rattle.shr_outside.specs.Paper.{Prints};
 ghost use Rattle.shr_report.specs.Lines.{line, spaced, numeral};
 ghost use Rattle.std.specs.List.{AllByRecursion, prefix_len};
 ghost use Rattle.shr_report.specs.Numbers.{IsShort, IsEndingNumbered, IsPassNumbered, IsOutcomeNumbered, IsAttemptNumbered, IsSeenNumbered, IsWalkedNumbered, IsWalkNumbered};
-ghost use Rattle.shr_report.specs.Variants.{IsPassed, IsCleared};
+ghost use Rattle.shr_report.specs.Variants.{IsPassed, IsClearing};
 ghost use Rattle.shr_report.specs.AnswerText.{choice};
 ghost use Rattle.shr_report.specs.WalkText.{ending_words, pass_words, gone_word, outcome_words, attempt_line, is_in_unit, map_line, map_lines, walked_words, walk_lines};
 
@@ -102,7 +102,7 @@ fn add_passed(piece: &mut Piece, end: usize, outcome: &Outcome) -> usize
 
 // What an attempt that cleared a bit, and ran no pass, came to.
 fn add_cleared(piece: &mut Piece, end: usize, outcome: &Outcome) -> usize
-    requires outcome { IsCleared outcome.now }
+    requires outcome { IsClearing outcome.now }
     requires room { (343 ≤ end) × (end ≤ 512) }
     ensures text { drop result piece.new
         ≡ spaced (outcome_words outcome.now) ++ drop end piece.old }

@@ -1,13 +1,8 @@
 -- One room under each step of one seat, on plain data, for any kind of entry.
-use Rattle.shr_rooms.proofs.Common.{◌≡◌, ℕ, ◌+◌, ◌*◌, ◌≢◌, ◌^◌, true, false, eqb, cond, List, [], ◌∷◌, ◌++◌, length, set, sym, refl, ap, subst, ◌∙◌, arith, length-append, append-nil, Option, some, get_elem?, Each, Begins, Each-set, Each-push, Each-none, Made, Counted, RoomView, no_room, with_hand, with_given, with_stored, with_count, joined_room, Law, Fits, IsMade, IsCounted, times, holds_it, IsSeen, IsRoom}
-use Rattle.std.proofs.Common.{Bool, ltb, ⊎_elim, append_assoc}
+use Rattle.shr_rooms.proofs.Common.{◌≡◌, ℕ, ◌+◌, ◌*◌, ◌≢◌, ◌^◌, true, false, eqb, cond, List, [], ◌∷◌, ◌++◌, length, set, sym, refl, ap, subst, ◌∙◌, arith, length-append, append-nil, Option, some, get_elem?, Each, Begins, Each-set, Each-push, Each-none, RoomMade, RoomCount, RoomView, no_room, with_room_hand, with_room_given, with_room_stored, with_room_count, joined_room, Law, FitsCountWord, IsEntryMade, CountsPrefix, times_made, holds_it, IsRoomSeen, IsRoomSound, Bool, ltb, ⊎_elim, append_assoc, at_set, sum_by-changed, sum_by-joined, sum_by-more, term_le, terms_le, Each-weaker, Each-append, Each-cons, heard_of}
 use Rattle.std.proofs.lemmas.Bool.{cases_Bool}
 use Rattle.std.proofs.lemmas.List.Sums.{sum_by_push, sum_by-append}
-use Rattle.atomic_table.proofs.Lists.{at_set}
-use Rattle.shr_seats.proofs.Sums.{sum_by-changed, sum_by-joined, sum_by-more, term_le, terms_le, Each-weaker}
-use Rattle.shr_seats.proofs.Weighing.{Each-append, Each-cons}
 use Rattle.shr_model.specs.Follow.{Follow}
-use Rattle.shr_rooms.specs.Views.{heard_of}
 use Rattle.shr_model.proofs.Numbers.{below_more}
 
 true_false : (b : Bool) → b ≡ true → b ≡ false → ⊥
@@ -37,32 +32,32 @@ module _ {E S : Type 0} (law : Law E) (entries : S → List E) where
     begins_longer : (h : List E) → Begins h journal → Begins h (journal ++ e ∷ [])
     begins_longer h b = (b.0 ++ e ∷ [], ap (λ (l : List E). l ++ e ∷ []) b.1 ∙ append_assoc h b.0 (e ∷ []))
 
-    made_longer : (m : Made E) → IsMade journal m → IsMade (journal ++ e ∷ []) m
+    made_longer : (m : RoomMade E) → IsEntryMade journal m → IsEntryMade (journal ++ e ∷ []) m
     made_longer m is = (is.0, is.1 ++ e ∷ [], ap (λ (l : List E). l ++ e ∷ []) is.2 ∙ append_assoc is.0 (m.entry ∷ is.1) (e ∷ []), is.3)
 
-    counted_longer : (c : Counted) → IsCounted law journal c → IsCounted law (journal ++ e ∷ []) c
+    counted_longer : (c : RoomCount) → CountsPrefix law journal c → CountsPrefix law (journal ++ e ∷ []) c
     counted_longer c is = (is.0, is.1 ++ e ∷ [], ap (λ (l : List E). l ++ e ∷ []) is.2 ∙ append_assoc is.0 is.1 (e ∷ []), is.3, is.4)
 
-    seen_longer : (t : RoomView E) → t.in_hand ≡ false → IsSeen law journal t → IsSeen law (journal ++ e ∷ []) t
+    seen_longer : (t : RoomView E) → t.in_hand ≡ false → IsRoomSeen law journal t → IsRoomSeen law (journal ++ e ∷ []) t
     seen_longer t out s = record {
       known = begins_longer t.known s.known;
       heard = Each-weaker (λ h. Begins h journal) (λ h. Begins h (journal ++ e ∷ [])) begins_longer t.heard s.heard;
       hand = λ h. absurd (true_false t.in_hand h out);
-      made = Each-weaker (IsMade journal) (IsMade (journal ++ e ∷ [])) made_longer t.made s.made;
-      seen = Each-weaker (IsCounted law journal) (IsCounted law (journal ++ e ∷ [])) counted_longer t.seen s.seen;
+      made = Each-weaker (IsEntryMade journal) (IsEntryMade (journal ++ e ∷ [])) made_longer t.made s.made;
+      seen = Each-weaker (CountsPrefix law journal) (CountsPrefix law (journal ++ e ∷ [])) counted_longer t.seen s.seen;
     }
 
   -- what a new seat knows is so of any journal
-  pub seen_none : (journal : List E) → IsSeen law journal no_room
+  pub seen_none : (journal : List E) → IsRoomSeen law journal no_room
   seen_none journal = record {
     known = (journal, refl);
     heard = Each-none (λ h. Begins h journal);
     hand = λ h. absurd (true_false true refl (sym h));
-    made = Each-none (IsMade journal);
-    seen = Each-none (IsCounted law journal);
+    made = Each-none (IsEntryMade journal);
+    seen = Each-none (CountsPrefix law journal);
   }
 
-  module _ (journal : List E) (lock count : ℕ) (home : Option (Option S)) (views : List (RoomView E)) (id : ℕ) (t : RoomView E) (me : get_elem? views id ≡ some t) (o : IsRoom law entries journal lock count home views) where
+  module _ (journal : List E) (lock count : ℕ) (home : Option (Option S)) (views : List (RoomView E)) (id : ℕ) (t : RoomView E) (me : get_elem? views id ≡ some t) (o : IsRoomSound law entries journal lock count home views) where
     -- while a seat has the room in hand no other has
     alone : t.in_hand ≡ true → (j : ℕ) (x : RoomView E) → j ≢ id → get_elem? views j ≡ some x → x.in_hand ≡ false
     alone has j x apart there = none_in x (omega (arith, o.locks, o.one, terms_le holds_it views id j t x apart me there, in_one t has))
@@ -71,79 +66,79 @@ module _ {E S : Type 0} (law : Law E) (entries : S → List E) where
     taken has = omega (arith, o.locks, o.one, term_le holds_it views id t me, in_one t has)
 
     -- the count word is loaded
-    pub loads : IsRoom law entries journal lock count home (set views id (with_count t (law.len journal) (length journal)))
-    loads = let w : RoomView E = with_count t (law.len journal) (length journal) in let s = o.seen id t me in record {
+    pub loads : IsRoomSound law entries journal lock count home (set views id (with_room_count t (law.len journal) (length journal)))
+    loads = let w : RoomView E = with_room_count t (law.len journal) (length journal) in let s = o.seen id t me in record {
       legal = o.legal;
       fits = o.fits;
       counted = o.counted;
       locks = omega (arith, o.locks, sum_by-changed holds_it views id t w me);
       one = o.one;
       at_home = o.at_home;
-      seen = Each-set (IsSeen law journal) views id w (record {
+      seen = Each-set (IsRoomSeen law journal) views id w (record {
         known = s.known;
         heard = s.heard;
         hand = s.hand;
         made = s.made;
-        seen = Each-push (IsCounted law journal) t.seen (record { len = law.len journal; version = length journal }) (journal, [], sym (append-nil journal), refl, refl) s.seen;
+        seen = Each-push (CountsPrefix law journal) t.seen (record { len = law.len journal; version = length journal }) (journal, [], sym (append-nil journal), refl, refl) s.seen;
       }) o.seen;
-      once = λ n. omega (arith, o.once n, sum_by-changed (λ (y : RoomView E). times n y.made) views id t w me);
+      once = λ n. omega (arith, o.once n, sum_by-changed (λ (y : RoomView E). times_made n y.made) views id t w me);
     }
 
     -- the room is taken
-    pub takes : (home' : Option (Option S)) → lock ≡ 0 → t.in_hand ≡ false → IsRoom law entries journal 1 count home' (set views id (with_hand t journal))
-    takes home' free out = let w : RoomView E = with_hand t journal in let s = o.seen id t me in record {
+    pub takes : (home' : Option (Option S)) → lock ≡ 0 → t.in_hand ≡ false → IsRoomSound law entries journal 1 count home' (set views id (with_room_hand t journal))
+    takes home' free out = let w : RoomView E = with_room_hand t journal in let s = o.seen id t me in record {
       legal = o.legal;
       fits = o.fits;
       counted = o.counted;
       locks = omega (arith, o.locks, free, in_none t out, sum_by-changed holds_it views id t w me);
       one = omega arith;
       at_home = λ z. absurd (omega (arith, z));
-      seen = Each-set (IsSeen law journal) views id w (record { known = s.known; heard = s.heard; hand = λ _. refl; made = s.made; seen = s.seen }) o.seen;
-      once = λ n. omega (arith, o.once n, sum_by-changed (λ (y : RoomView E). times n y.made) views id t w me);
+      seen = Each-set (IsRoomSeen law journal) views id w (record { known = s.known; heard = s.heard; hand = λ _. refl; made = s.made; seen = s.seen }) o.seen;
+      once = λ n. omega (arith, o.once n, sum_by-changed (λ (y : RoomView E). times_made n y.made) views id t w me);
     }
 
     -- it is given back
-    pub gives : (room : S) → t.in_hand ≡ true → entries room ≡ t.hand → IsRoom law entries journal 0 count (some (some room)) (set views id (with_given t))
-    gives room has fits = let w : RoomView E = with_given t in let s = o.seen id t me in let is = s.hand has in record {
+    pub gives : (room : S) → t.in_hand ≡ true → entries room ≡ t.hand → IsRoomSound law entries journal 0 count (some (some room)) (set views id (with_room_given t))
+    gives room has fits = let w : RoomView E = with_room_given t in let s = o.seen id t me in let is = s.hand has in record {
       legal = o.legal;
       fits = o.fits;
       counted = o.counted;
       locks = omega (arith, o.locks, taken has, in_one t has, sum_by-changed holds_it views id t w me);
       one = omega arith;
       at_home = λ _. (room, refl, fits ∙ is);
-      seen = Each-set (IsSeen law journal) views id w (record { known = ([], sym is ∙ sym (append-nil t.hand)); heard = s.heard; hand = λ h. absurd (true_false true refl (sym h)); made = s.made; seen = s.seen }) o.seen;
-      once = λ n. omega (arith, o.once n, sum_by-changed (λ (y : RoomView E). times n y.made) views id t w me);
+      seen = Each-set (IsRoomSeen law journal) views id w (record { known = ([], sym is ∙ sym (append-nil t.hand)); heard = s.heard; hand = λ h. absurd (true_false true refl (sym h)); made = s.made; seen = s.seen }) o.seen;
+      once = λ n. omega (arith, o.once n, sum_by-changed (λ (y : RoomView E). times_made n y.made) views id t w me);
     }
 
     -- an entry is stored, with the new count
-    pub stores : (e : E) (count' : ℕ) → t.in_hand ≡ true → law.may t.hand e → Fits law (t.hand ++ e ∷ []) → count' ≡ length (t.hand ++ e ∷ []) * 2 ^ 32 + law.len (t.hand ++ e ∷ [])
-        → IsRoom law entries (journal ++ e ∷ []) lock count' home (set views id (with_stored t e))
-    stores e count' has may small now = let w : RoomView E = with_stored t e in let s = o.seen id t me in let is : t.hand ≡ journal = s.hand has in let more : t.hand ++ e ∷ [] ≡ journal ++ e ∷ [] = ap (λ (l : List E). l ++ e ∷ []) is in
-        let m : Made E = record { number = length t.hand; entry = e } in record {
+    pub stores : (e : E) (count' : ℕ) → t.in_hand ≡ true → law.may t.hand e → FitsCountWord law (t.hand ++ e ∷ []) → count' ≡ length (t.hand ++ e ∷ []) * 2 ^ 32 + law.len (t.hand ++ e ∷ [])
+        → IsRoomSound law entries (journal ++ e ∷ []) lock count' home (set views id (with_room_stored t e))
+    stores e count' has may small now = let w : RoomView E = with_room_stored t e in let s = o.seen id t me in let is : t.hand ≡ journal = s.hand has in let more : t.hand ++ e ∷ [] ≡ journal ++ e ∷ [] = ap (λ (l : List E). l ++ e ∷ []) is in
+        let m : RoomMade E = record { number = length t.hand; entry = e } in record {
           legal = follow_push law.may [] journal e o.legal (subst (λ (l : List E). law.may l e) is may);
-          fits = subst (Fits law) more small;
+          fits = subst (FitsCountWord law) more small;
           counted = subst (λ (l : List E). count' ≡ length l * 2 ^ 32 + law.len l) more now;
           locks = omega (arith, o.locks, sum_by-changed holds_it views id t w me);
           one = o.one;
           at_home = λ z. absurd (omega (arith, z, taken has));
           seen = λ j x there. ⊎_elim
-              (λ (g : (j ≡ id) × (w ≡ x)). subst (IsSeen law (journal ++ e ∷ [])) g.1 (record {
+              (λ (g : (j ≡ id) × (w ≡ x)). subst (IsRoomSeen law (journal ++ e ∷ [])) g.1 (record {
                 known = begins_longer journal e t.known s.known;
                 heard = Each-weaker (λ h. Begins h journal) (λ h. Begins h (journal ++ e ∷ [])) (begins_longer journal e) t.heard s.heard;
                 hand = λ _. more;
-                made = Each-push (IsMade (journal ++ e ∷ [])) t.made m (journal, [], refl, ap (length {A = E}) is) (Each-weaker (IsMade journal) (IsMade (journal ++ e ∷ [])) (made_longer journal e) t.made s.made);
-                seen = Each-weaker (IsCounted law journal) (IsCounted law (journal ++ e ∷ [])) (counted_longer journal e) t.seen s.seen;
+                made = Each-push (IsEntryMade (journal ++ e ∷ [])) t.made m (journal, [], refl, ap (length {A = E}) is) (Each-weaker (IsEntryMade journal) (IsEntryMade (journal ++ e ∷ [])) (made_longer journal e) t.made s.made);
+                seen = Each-weaker (CountsPrefix law journal) (CountsPrefix law (journal ++ e ∷ [])) (counted_longer journal e) t.seen s.seen;
               }))
               (λ (g : (j ≢ id) × (get_elem? views j ≡ some x)). seen_longer journal e x (alone has j x g.0 g.1) (o.seen j x g.1))
               (at_set views id j w x there);
-          once = λ n. let changed = sum_by-changed (λ (y : RoomView E). times n y.made) views id t w me in
-              let one-more = sum_by_push (λ (y : Made E). cond (eqb y.number n) 1 0) t.made m in
+          once = λ n. let changed = sum_by-changed (λ (y : RoomView E). times_made n y.made) views id t w me in
+              let one-more = sum_by_push (λ (y : RoomMade E). cond (eqb y.number n) 1 0) t.made m in
               let long = length-append journal (e ∷ []) in let flag = ap {B = ℕ} (λ (k : ℕ). cond (ltb n k) 1 0) (let l : length (journal ++ e ∷ []) ≡ length journal + 1 = omega (arith, long) in l) in
               omega (arith, o.once n, changed, one-more, flag, below_more n (length journal) (length t.hand) (ap (length {A = E}) is));
         }
 
   -- a view that knows nothing is added
-  pub split : (journal : List E) (lock count : ℕ) (home : Option (Option S)) (views : List (RoomView E)) → IsRoom law entries journal lock count home views → IsRoom law entries journal lock count home (views ++ no_room ∷ [])
+  pub split : (journal : List E) (lock count : ℕ) (home : Option (Option S)) (views : List (RoomView E)) → IsRoomSound law entries journal lock count home views → IsRoomSound law entries journal lock count home (views ++ no_room ∷ [])
   split journal lock count home views o = record {
     legal = o.legal;
     fits = o.fits;
@@ -151,13 +146,13 @@ module _ {E S : Type 0} (law : Law E) (entries : S → List E) where
     locks = omega (arith, o.locks, sum_by-more holds_it views no_room);
     one = o.one;
     at_home = o.at_home;
-    seen = Each-push (IsSeen law journal) views no_room (seen_none journal) o.seen;
-    once = λ n. omega (arith, o.once n, sum_by-more (λ (y : RoomView E). times n y.made) views no_room);
+    seen = Each-push (IsRoomSeen law journal) views no_room (seen_none journal) o.seen;
+    once = λ n. omega (arith, o.once n, sum_by-more (λ (y : RoomView E). times_made n y.made) views no_room);
   }
 
   -- what one view did and knows goes to another
   pub join : (journal : List E) (lock count : ℕ) (home : Option (Option S)) (views : List (RoomView E)) (id other : ℕ) (t u : RoomView E) → get_elem? views id ≡ some t → other ≢ id → get_elem? views other ≡ some u → u.in_hand ≡ false
-      → IsRoom law entries journal lock count home views → IsRoom law entries journal lock count home (set (set views id (joined_room t u)) other no_room)
+      → IsRoomSound law entries journal lock count home views → IsRoomSound law entries journal lock count home (set (set views id (joined_room t u)) other no_room)
   join journal lock count home views id other t u at apart them out o = let b : RoomView E = joined_room t u in let s = o.seen id t at in let r = o.seen other u them in record {
     legal = o.legal;
     fits = o.fits;
@@ -165,12 +160,12 @@ module _ {E S : Type 0} (law : Law E) (entries : S → List E) where
     locks = omega (arith, o.locks, in_none u out, sum_by-joined holds_it views id other t u b no_room at apart them);
     one = o.one;
     at_home = o.at_home;
-    seen = Each-set (IsSeen law journal) (set views id b) other no_room (seen_none journal) (Each-set (IsSeen law journal) views id b (record {
+    seen = Each-set (IsRoomSeen law journal) (set views id b) other no_room (seen_none journal) (Each-set (IsRoomSeen law journal) views id b (record {
       known = s.known;
       heard = Each-append (λ h. Begins h journal) t.heard (heard_of u.known ++ u.heard) s.heard (Each-append (λ h. Begins h journal) (heard_of u.known) u.heard (each_heard (λ h. Begins h journal) u.known r.known) r.heard);
       hand = s.hand;
-      made = Each-append (IsMade journal) t.made u.made s.made r.made;
-      seen = Each-append (IsCounted law journal) t.seen u.seen s.seen r.seen;
+      made = Each-append (IsEntryMade journal) t.made u.made s.made r.made;
+      seen = Each-append (CountsPrefix law journal) t.seen u.seen s.seen r.seen;
     }) o.seen);
-    once = λ n. omega (arith, o.once n, sum_by-joined (λ (y : RoomView E). times n y.made) views id other t u b no_room at apart them, sum_by-append (λ (m : Made E). cond (eqb m.number n) 1 0) t.made u.made);
+    once = λ n. omega (arith, o.once n, sum_by-joined (λ (y : RoomView E). times_made n y.made) views id other t u b no_room at apart them, sum_by-append (λ (m : RoomMade E). cond (eqb m.number n) 1 0) t.made u.made);
   }

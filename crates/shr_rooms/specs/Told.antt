@@ -2,13 +2,13 @@
 use Rattle.std.specs.Prelude.{◌≡◌, ℕ, ◌<◌, ◌≤◌, List, length}
 use Rattle.shr_seats.specs.Views.{Each}
 use Rattle.shr_rooms.specs.Views.{RoomView}
-use Rattle.shr_rooms.specs.Rule.{Law, IsJournal, Fits, IsSeen}
+use Rattle.shr_rooms.specs.Rule.{Law, IsJournal, FitsCountWord, IsRoomSeen}
 
 -- what a room shows that was taken or counted: its journal is right, and holds what the view knows
 pub record IsTold {E : Type 0} (law : Law E) (t : RoomView E) (journal : List E) : Type 0 where
   pub legal : IsJournal law journal
-  pub fits : Fits law journal
-  pub seen : IsSeen law journal t
+  pub fits : FitsCountWord law journal
+  pub seen : IsRoomSeen law journal t
 
 -- all that a view did and saw was done and seen by so many entries
 pub record IsRecent {E : Type 0} (t : RoomView E) (n : ℕ) : Type 0 where

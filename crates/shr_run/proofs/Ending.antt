@@ -1,47 +1,20 @@
 -- What is left of a run, from its steps.
-use Rattle.std.proofs.Common.{◌≡◌, ℕ, zero, suc, ◌^◌, ◌<◌, ◌≤◌, List, [], ◌∷◌, length, map, refl, sym, ap, subst, ◌∙◌, arith}
-use Rattle.std.specs.Prelude.{slice_get, Option, Some, None, option_map, All, IsTrue}
-use Rattle.std.proofs.lemmas.List.{append-nil, length-map}
-use Rattle.std.proofs.lemmas.Option.{slice_get_within, slice_get-map, same_Some}
-use Rattle.shr_core.specs.declared.view.View.{View}
+use Rattle.shr_run.proofs.Common.{◌≡◌, ℕ, zero, suc, ◌<◌, ◌≤◌, List, [], ◌∷◌, length, map, refl, sym, ap, subst, ◌∙◌, arith, slice_get, Option, Some, None, option_map, All, IsTrue, append-nil, length-map, slice_get_within, slice_get-map, same_Some, View, view_of, Pools, Shared, IsShared, Ends, AreReady, CrewSeats, AreParted, IsPlainParted, command_serial, Task, WorkerResult, Sweep, WorkerScript, SweepItem, there_at, all_slice, WorkerLog, Firsts, with_workers, HasHelped, all_popped, AreEnds, IsAtEnd, AreJoinedAll, firsts_of, last_of, log_of, IsWorkerDone, AreSplitOff, AreTasks, IsPlainSplitOff, ◌^◌, IsFromStart, CrewState, listed_commands, worker_commands, IsWorkOf, firsts_at_start, new_worker, HelpsWith, HasWorked, ArePoppedOnce, SweepsIf, HaveRun}
 use Rattle.shr_core.specs.Leaving.{IsLeft}
-use Rattle.shr_core.specs.Seats.{view_of}
 use Rattle.shr_charge.specs.Ends.{IsEndOf}
 use Rattle.shr_seats.specs.Shapes.{hierarchy_of}
 use Rattle.shr_charge.specs.Seat.{uses_of, tree_of}
 use Rattle.shr_deferred.specs.Left.{left_over}
 use Rattle.shr_deferred.specs.History.{HasHistory}
 use Rattle.shr_deferred.specs.Seat.{moves_of, strands_of}
-use Rattle.shr_plain.specs.declared.table.Pools.{Pools}
 use Rattle.shr_plain.specs.Ending.{IsPoolsEnd}
 use Rattle.shr_plain.specs.Opening.{ArePoolsOf}
 use Rattle.shr_plain.specs.Seat as plain
 use Rattle.shr_seats.specs.declared.rows.Sizes.{Sizes}
-use Rattle.shr_walk.specs.declared.seats.Shared.{Shared}
-use Rattle.shr_walk.specs.Sharing.{IsShared, IsFromStart}
-use Rattle.shr_tables.specs.declared.ending.Ends.{Ends}
-use Rattle.shr_tables.specs.Opened.{AreReady}
-use Rattle.shr_tables.specs.declared.tables.CrewSeats.{CrewSeats}
-use Rattle.shr_tables.specs.Parted.{AreParted, IsPlainParted}
-use Rattle.shr_worker.specs.Chain.{CrewState, commands_in, commands_of, serial_of, IsWorkOf}
 use Rattle.shr_worker.proofs.Within.{commands_few}
 use Rattle.shr_worker.specs.Tasks.{IsTask}
-use Rattle.shr_worker.specs.declared.tasks.Task.{Task}
-use Rattle.shr_worker.specs.declared.tasks.WorkerResult.{WorkerResult}
 use Rattle.shr_base.specs.declared.ends.MapEnd.{MapEnd}
 use Rattle.shr_base.specs.declared.places.Serial.{Serial}
-use Rattle.shr_base.specs.declared.scripts.Sweep.{Sweep}
-use Rattle.shr_base.specs.declared.scripts.WorkerScript.{WorkerScript}
-use Rattle.shr_pool.specs.declared.items.SweepItem.{SweepItem}
-use Rattle.shr_assemble.proofs.Crews.{there_at}
-use Rattle.shr_assemble.proofs.Listed.{all_slice}
-use Rattle.shr_assemble.specs.declared.logs.WorkerLog.{WorkerLog}
-use Rattle.shr_assemble.specs.Ends.{Firsts, at_start, with_workers, new_worker, HasHelped, HelpsWith, HasWorked}
-use Rattle.shr_assemble.specs.Sweeps.{ArePoppedOnce, all_popped}
-use Rattle.shr_assemble.specs.Putting.{AreEnds}
-use Rattle.shr_run.specs.Joins.{IsAtEnd, AreJoinedAll, firsts_of, last_of, log_of}
-use Rattle.shr_run.specs.Sweeps.{IsDone, SweepsIf}
-use Rattle.shr_run.specs.Tasks.{AreSplitOff, AreTasks, HaveRun, IsPlainSplitOff}
 
 -- the worker that left a log
 from_log : (o : Option WorkerResult) (log : WorkerLog) → option_map log_of o ≡ Some log → (w : WorkerResult) × (o ≡ Some w) × (log ≡ log_of w)
@@ -60,10 +33,10 @@ all_from_slices P (x ∷ xs) each zero d lt = each 0 x refl
 all_from_slices P (x ∷ xs) each (suc k) d lt = all_from_slices P xs (λ i y at. each (suc i) y at) k d (omega (arith, lt))
 
 -- a worker has at most 20,000 commands
-few_commands : (x : Shared) → IsShared x → (n : ℕ) → length (commands_of x.script n) ≤ 20000
+few_commands : (x : Shared) → IsShared x → (n : ℕ) → length (worker_commands x.script n) ≤ 20000
 few_commands x shared n = of_worker (slice_get x.script.workers.items n) refl
   where
-    of_worker : (o : Option WorkerScript) → o ≡ slice_get x.script.workers.items n → length (commands_in o) ≤ 20000
+    of_worker : (o : Option WorkerScript) → o ≡ slice_get x.script.workers.items n → length (listed_commands o) ≤ 20000
     of_worker None e = omega arith
     of_worker (Some w) e = commands_few x shared n w e
 
@@ -73,8 +46,8 @@ module _ (x : Shared) (p : Pools) (ready : CrewSeats) (tasks : List Task) (are :
   all_tasks = all_from_slices (λ (t : Task). IsTask x p t) tasks (λ i t at. (are i t at).task_is)
 
   -- each result's worker is done with its commands
-  pub all_done : IsShared x → (results : List WorkerResult) → length results ≡ length tasks → HaveRun x p tasks results → All (IsDone x) results
-  all_done shared results same have = all_from_slices (IsDone x) results (λ i w at.
+  pub all_done : IsShared x → (results : List WorkerResult) → length results ≡ length tasks → HaveRun x p tasks results → All (IsWorkerDone x) results
+  all_done shared results same have = all_from_slices (IsWorkerDone x) results (λ i w at.
       let t = there_at tasks i (let lt = slice_get_within results i w at in omega (arith, lt, same)) in let ran = have i t.0 w t.1 at in record {
         rested = ran.rested;
         few = λ whole. let all = ran.all whole in let most = few_commands x shared t.0.number in omega (arith, all, most);
@@ -118,7 +91,7 @@ module _ (x : Shared) (p : Pools) (ready split joined : CrewSeats) (tasks : List
             let v = there_at results i (let lt = slice_get_within swept i w at in let more = h.same in omega (arith, lt, more)) in
             let one = h.each i v.0 w v.1 at in let before = all_slice (λ (u : WorkerResult). IsAtEnd x p u) results i v.0 (all_at_end x p ready tasks are results same have) v.1 in record {
               rested = one.rested;
-              plain_seat = subst (plain.IsOf p) (sym one.plain) before.plain_seat;
+              plain_seat = subst (plain.IsPlainSeat p) (sym one.plain) before.plain_seat;
             })
 
     module _ (whole : All (λ (w : WorkerResult). IsTrue w.whole) swept) where
@@ -126,12 +99,12 @@ module _ (x : Shared) (p : Pools) (ready split joined : CrewSeats) (tasks : List
       popped = popped_if x x.script.sweep results swept sweeps
 
       -- a worker's commands
-      own_work : (i : ℕ) (v : WorkerResult) → slice_get results i ≡ Some v → IsTrue v.whole → (v.number ≡ i) × (length v.answers.items ≡ length (commands_of x.script i)) × IsWorkOf x i v.answers.items (new_worker opened i) (last_of v)
+      own_work : (i : ℕ) (v : WorkerResult) → slice_get results i ≡ Some v → IsTrue v.whole → (v.number ≡ i) × (length v.answers.items ≡ length (worker_commands x.script i)) × IsWorkOf x i v.answers.items (new_worker opened i) (last_of v)
       own_work i v at done =
           let t = there_at tasks i (let lt = slice_get_within results i v at in omega (arith, lt, same)) in
           let task = are i t.0 t.1 in let ran = have i t.0 v t.1 at in (
             ran.number ∙ task.numbered,
-            subst (λ n. length v.answers.items ≡ length (commands_of x.script n)) task.numbered (ran.all done),
+            subst (λ n. length v.answers.items ≡ length (worker_commands x.script n)) task.numbered (ran.all done),
             subst (λ n. IsWorkOf x n v.answers.items (new_worker opened i) (last_of v)) task.numbered (subst (λ (s : CrewState). IsWorkOf x t.0.number v.answers.items s (last_of v)) task.new (ran.work done)),
           )
 
@@ -151,7 +124,7 @@ module _ (x : Shared) (p : Pools) (ready split joined : CrewSeats) (tasks : List
                 all = own.1;
                 done = last_of w;
                 work = own.2;
-                helped = subst (λ (o : Option Sweep). HelpsWith x o (serial_of i (length (commands_of x.script i))) [] [] (last_of w) (last_of w)) (sym e) (refl, refl);
+                helped = subst (λ (o : Option Sweep). HelpsWith x o (command_serial i (length (worker_commands x.script i))) [] [] (last_of w) (last_of w)) (sym e) (refl, refl);
                 walks = refl;
                 carries = refl;
                 uses = refl;
@@ -162,14 +135,14 @@ module _ (x : Shared) (p : Pools) (ready split joined : CrewSeats) (tasks : List
               let v = there_at results i (let lt = slice_get_within swept i w at in let more = h.same in omega (arith, lt, more)) in
               let own = own_work i v.0 v.1 (all_slice (λ (u : WorkerResult). IsTrue u.whole) results i v.0 h.whole v.1) in
               let part = (h.each i v.0 w v.1 at).helped done in
-              let serial : serial_of v.0.number (length v.0.answers.items) ≡ serial_of i (length (commands_of x.script i)) = λ j. serial_of (own.0 j) (own.1 j) in record {
+              let serial : command_serial v.0.number (length v.0.answers.items) ≡ command_serial i (length (worker_commands x.script i)) = λ j. command_serial (own.0 j) (own.1 j) in record {
                 own = v.0.answers.items;
                 told = part.0;
                 answers = part.1;
                 all = own.1;
                 done = last_of v.0;
                 work = own.2;
-                helped = subst (λ (o : Option Sweep). HelpsWith x o (serial_of i (length (commands_of x.script i))) part.0 (h.popped i) (last_of v.0) (last_of w)) (sym e) (subst (λ (b : Serial). HasHelped x z b part.0 (h.popped i) (last_of v.0) (last_of w)) serial part.2);
+                helped = subst (λ (o : Option Sweep). HelpsWith x o (command_serial i (length (worker_commands x.script i))) part.0 (h.popped i) (last_of v.0) (last_of w)) (sym e) (subst (λ (b : Serial). HasHelped x z b part.0 (h.popped i) (last_of v.0) (last_of w)) serial part.2);
                 walks = refl;
                 carries = refl;
                 uses = refl;
@@ -186,10 +159,10 @@ module _ (x : Shared) (p : Pools) (ready split joined : CrewSeats) (tasks : List
           (subst (λ (s : CrewState). HasWorked x opened i (log_of w.0) (popped i) s) (ap last_of one ∙ sym v.2) (has_worked i w.0 w.1))
 
       module _ (shared : IsShared x) (from_start : IsFromStart x) (pools : ArePoolsOf x.script p) (is_ready : AreReady x ready.seats) (split_off : AreSplitOff x opened (length x.script.workers.items) split.seats) (split_plain : IsPlainSplitOff p (length x.script.workers.items) split.plain) (joins : AreJoinedAll split swept joined) where
-        begun : firsts_of split ≡ at_start opened (view_of split.seats.cache.core).standing
+        begun : firsts_of split ≡ firsts_at_start opened (view_of split.seats.cache.core).standing
         begun = let core = split_off.core in let uses = split_off.uses in let tree = split_off.tree in let moves = split_off.moves in let strands = split_off.strands in let plain = split_plain.state in λ i. record { core = core i; uses = uses i; tree = tree i; moves = moves i; strands = strands i; plain = plain i }
 
-        pub ended : firsts_of joined ≡ with_workers (at_start opened (view_of split.seats.cache.core).standing) lasts
+        pub ended : firsts_of joined ≡ with_workers (firsts_at_start opened (view_of split.seats.cache.core).standing) lasts
         ended = joins.firsts ∙ ap (λ (f : Firsts). with_workers f lasts) begun
 
         -- all that were split off were joined
@@ -204,7 +177,7 @@ module _ (x : Shared) (p : Pools) (ready split joined : CrewSeats) (tasks : List
 
         pub ends_of : (e : Ends) → e.script ≡ x.script → IsLeft x.core.setting (view_of joined.seats.cache.core) e.core → e.deferred.items ≡ left_over x.deferred.sizes (moves_of joined.seats.deferred) → HasHistory x.deferred.sizes (strands_of joined.seats.deferred) e.deferred.items
             → IsEndOf (hierarchy_of x.charge.shape) (uses_of joined.seats.cache.charge) (tree_of joined.seats.cache.charge) e.charge → All (λ (m : MapEnd). m.bits < 2 ^ 64) e.core.maps.items
-            → IsPoolsEnd p.sizes (plain.state_of joined.plain) e.pools → AreEnds (map log_of swept) e
+            → IsPoolsEnd p.sizes (plain.plain_state_of joined.plain) e.pools → AreEnds (map log_of swept) e
         ends_of e script core deferred history charge words units = record {
           shared = x;
           ends = record {
@@ -226,6 +199,6 @@ module _ (x : Shared) (p : Pools) (ready split joined : CrewSeats) (tasks : List
             deferred = deferred ∙ ap (λ (f : Firsts). left_over x.deferred.sizes f.moves) ended;
             history = subst (λ (f : Firsts). HasHistory x.deferred.sizes f.strands e.deferred.items) ended history;
             charge = subst (λ (f : Firsts). IsEndOf (hierarchy_of x.charge.shape) f.uses f.tree e.charge) ended charge;
-            pools = subst (λ (z : Sizes). IsPoolsEnd z (with_workers (at_start opened (view_of split.seats.cache.core).standing) lasts).plain e.pools) pools.sizes (subst (λ (f : Firsts). IsPoolsEnd p.sizes f.plain e.pools) ended units);
+            pools = subst (λ (z : Sizes). IsPoolsEnd z (with_workers (firsts_at_start opened (view_of split.seats.cache.core).standing) lasts).plain e.pools) pools.sizes (subst (λ (f : Firsts). IsPoolsEnd p.sizes f.plain e.pools) ended units);
           };
         }

@@ -1,17 +1,5 @@
 -- One worker's seats more joined into the first ones.
-use Rattle.std.proofs.Common.{◌≡◌, ℕ, suc, ◌+◌, List, [], ◌∷◌, ◌++◌, length, map, sym, ap, subst, ◌∙◌, arith, append_assoc}
-use Rattle.std.specs.Prelude.{All, IsTrue}
-use Rattle.std.proofs.lemmas.List.Elements.{All-cons}
-use Rattle.shr_seats.specs.Standing.{Standing}
-use Rattle.shr_core.specs.declared.view.View.{View}
-use Rattle.shr_plain.specs.declared.table.Pools.{Pools}
-use Rattle.shr_walk.specs.declared.seats.Shared.{Shared}
-use Rattle.shr_worker.specs.declared.tasks.WorkerResult.{WorkerResult}
-use Rattle.shr_tables.specs.declared.tables.CrewSeats.{CrewSeats}
-use Rattle.shr_tables.specs.Parted.{AreParted, AreJoined, IsPlainParted, IsPlainJoined}
-use Rattle.shr_assemble.specs.declared.logs.WorkerLog.{WorkerLog}
-use Rattle.shr_assemble.specs.Ends.{Firsts, with_worker, with_workers}
-use Rattle.shr_run.specs.Joins.{IsAtEnd, AreJoinedAll, firsts_of, last_of, log_of}
+use Rattle.shr_run.proofs.Common.{◌≡◌, ℕ, suc, ◌+◌, List, [], ◌∷◌, ◌++◌, length, map, sym, ap, subst, ◌∙◌, arith, append_assoc, All, IsTrue, All-cons, Standing, View, Pools, Shared, WorkerResult, CrewSeats, AreParted, IsPlainParted, WorkerLog, Firsts, with_workers, IsAtEnd, AreJoinedAll, firsts_of, last_of, log_of, AreJoined, IsPlainJoined, with_worker}
 
 module _ (old new : CrewSeats) (w : WorkerResult) (j : AreJoined old.seats w.seats new.seats) (l : IsPlainJoined old.plain w.plain new.plain) where
   pub firsts_joined : firsts_of new ≡ with_worker (firsts_of old) (last_of w)

@@ -1,20 +1,9 @@
 -- The passes of a sweep are handed out and joined, one helper after another.
-use Rattle.std.proofs.Common.{◌≡◌, ℕ, suc, ◌+◌, ◌<◌, List, [], ◌∷◌, ◌++◌, length, length-append, map, sym, refl, ap, subst, ◌∙◌, arith, append_assoc}
-use Rattle.std.specs.Prelude.{All, IsTrue, flat_map, slice_get, Option, Some, None, true}
+use Rattle.shr_run.proofs.Common.{◌≡◌, ℕ, suc, ◌+◌, ◌<◌, List, [], ◌∷◌, ◌++◌, length, length-append, map, sym, refl, ap, subst, ◌∙◌, arith, append_assoc, All, IsTrue, flat_map, slice_get, Option, Some, None, true, append-nil, All-cons, All-nil, Standing, at_first, SweepItem, JobQueue, PassView, queue_line, WorkerResult, Helper, popped_of, HasPass, AreOnce, handed_out, map-append, All-append, IsWhole}
 use Rattle.std.specs.List.{range_with_len}
-use Rattle.std.proofs.lemmas.List.{append-nil, map-append}
-use Rattle.std.proofs.lemmas.List.Elements.{All-cons, All-append, All-nil}
-use Rattle.shr_seats.specs.Standing.{Standing, at_first, IsWhole}
-use Rattle.shr_pool.specs.declared.items.SweepItem.{SweepItem}
-use Rattle.shr_pool.specs.declared.jobs.JobQueue.{JobQueue}
-use Rattle.shr_pool.specs.declared.view.PassView.{PassView}
-use Rattle.shr_pool.specs.Lines.{line_of}
 use Rattle.shr_pool.specs.Passes as passes
-use Rattle.shr_pool.specs.Rule.{joined_view, with_split_view, new_view}
+use Rattle.shr_pool.specs.Rule.{joined_pass_view, split_pass_view, new_pass_view}
 use Rattle.shr_pool.specs.Worked.{AreEachOnce}
-use Rattle.shr_worker.specs.declared.tasks.WorkerResult.{WorkerResult}
-use Rattle.shr_run.specs.declared.sweeping.Helper.{Helper}
-use Rattle.shr_run.specs.Sweeps.{popped_of, HasPass, AreOnce, handed_out}
 
 -- the workers after the first one
 pub all_later : {A : Type 0} (P : A → Type 0) (x : A) (xs : List A) → All P (x ∷ xs) → All P xs
@@ -40,7 +29,7 @@ pub record IsJoining (q : JobQueue) (start v : PassView) (left all : List Helper
   pub splits : v.standing.splits ≡ length all
   pub joins : v.standing.joins + length left ≡ length all
   pub popped : v.popped ++ flat_map popped_of left ≡ flat_map popped_of all
-  pub once : (nodes groups : ℕ) → 0 < v.standing.joins → IsWhole v.standing → v.pushed ≡ line_of nodes groups → AreEachOnce nodes groups v
+  pub once : (nodes groups : ℕ) → 0 < v.standing.joins → IsWhole v.standing → v.pushed ≡ queue_line nodes groups → AreEachOnce nodes groups v
 
 pub joining_none : (q : JobQueue) (v : PassView) (all : List Helper) → v ≡ handed_out v.pushed (length all) → IsJoining q v v all all
 joining_none q v all is = record {
@@ -52,8 +41,8 @@ joining_none q v all is = record {
   once = λ nodes groups some. let none = ap (λ (u : PassView). u.standing.joins) is in absurd (omega (arith, none, some));
 }
 
-pub joining_more : (q : JobQueue) (start v w : PassView) (h : Helper) (left rest all : List Helper) → left ≡ h ∷ rest → w ≡ joined_view v (passes.view_of h.pass)
-    → ((nodes groups : ℕ) → IsWhole w.standing → w.pushed ≡ line_of nodes groups → AreEachOnce nodes groups w) → IsJoining q start v left all → IsJoining q start w rest all
+pub joining_more : (q : JobQueue) (start v w : PassView) (h : Helper) (left rest all : List Helper) → left ≡ h ∷ rest → w ≡ joined_pass_view v (passes.pass_view h.pass)
+    → ((nodes groups : ℕ) → IsWhole w.standing → w.pushed ≡ queue_line nodes groups → AreEachOnce nodes groups w) → IsJoining q start v left all → IsJoining q start w rest all
 joining_more q start v w h left rest all next is once j = record {
   first = ap (λ (u : PassView). u.standing.first) is ∙ j.first;
   pushed = ap (λ (u : PassView). u.pushed) is ∙ j.pushed;
@@ -63,7 +52,7 @@ joining_more q start v w h left rest all next is once j = record {
   once = λ nodes groups some whole line. once nodes groups whole line;
 }
 
-pub joining_all : (q : JobQueue) (start v : PassView) (left all : List Helper) → length left ≡ 0 → IsJoining q start v left all → (nodes groups : ℕ) → 0 < length all → start.pushed ≡ line_of nodes groups → AreOnce nodes groups (flat_map popped_of all)
+pub joining_all : (q : JobQueue) (start v : PassView) (left all : List Helper) → length left ≡ 0 → IsJoining q start v left all → (nodes groups : ℕ) → 0 < length all → start.pushed ≡ queue_line nodes groups → AreOnce nodes groups (flat_map popped_of all)
 joining_all q start v [] all none j nodes groups some line = record {
   view = v;
   same = sym (append-nil v.popped) ∙ j.popped;
@@ -94,13 +83,13 @@ pub none_handed_out : (v : PassView) (hs : List Helper) → v.popped ≡ [] → 
 none_handed_out v hs none standing empty =
     ap (λ (l : List SweepItem). viewed v.pushed l v.standing) none ∙ (ap (λ (z : Standing). viewed v.pushed [] z) standing ∙ ap (handed_out v.pushed) (sym empty))
 
-pub more_handed_out : (v w : PassView) (pushed : List SweepItem) (hs more : List Helper) (h : Helper) → w ≡ with_split_view v → v ≡ handed_out pushed (length hs) → more ≡ hs ++ h ∷ [] → w ≡ handed_out pushed (length more)
-more_handed_out v w pushed hs more h new old is = new ∙ (ap with_split_view old ∙ ap (handed_out pushed) (let one = ap (λ (l : List Helper). length l) is ∙ length-append hs (h ∷ []) in let next : length hs + 1 ≡ length more = omega (arith, one) in next))
+pub more_handed_out : (v w : PassView) (pushed : List SweepItem) (hs more : List Helper) (h : Helper) → w ≡ split_pass_view v → v ≡ handed_out pushed (length hs) → more ≡ hs ++ h ∷ [] → w ≡ handed_out pushed (length more)
+more_handed_out v w pushed hs more h new old is = new ∙ (ap split_pass_view old ∙ ap (handed_out pushed) (let one = ap (λ (l : List Helper). length l) is ∙ length-append hs (h ∷ []) in let next : length hs + 1 ≡ length more = omega (arith, one) in next))
 
-pub passed_more : (q r : JobQueue) (v : PassView) (pushed : List SweepItem) (hs more : List Helper) (h : Helper) → r ≡ q → v ≡ handed_out pushed (length hs) → passes.IsOf r h.pass → passes.view_of h.pass ≡ new_view v → more ≡ hs ++ h ∷ [] → All (HasPass q pushed) hs → All (HasPass r pushed) more
+pub passed_more : (q r : JobQueue) (v : PassView) (pushed : List SweepItem) (hs more : List Helper) (h : Helper) → r ≡ q → v ≡ handed_out pushed (length hs) → passes.IsJobPass r h.pass → passes.pass_view h.pass ≡ new_pass_view v → more ≡ hs ++ h ∷ [] → All (HasPass q pushed) hs → All (HasPass r pushed) more
 passed_more q r v pushed hs more h same old pass view is all =
     subst (All (HasPass r pushed)) (sym is) (All-append (HasPass r pushed) hs (h ∷ []) (subst (λ (u : JobQueue). All (HasPass u pushed) hs) (sym same) all)
-    (All-cons (HasPass r pushed) h [] (record { pass = pass; view = view ∙ ap new_view old }) (All-nil (HasPass r pushed))))
+    (All-cons (HasPass r pushed) h [] (record { pass = pass; view = view ∙ ap new_pass_view old }) (All-nil (HasPass r pushed))))
 
 pub whole_more : (left rest all : List WorkerResult) (w : WorkerResult) → left ≡ w ∷ rest → IsTrue w.whole
     → (All (λ (u : WorkerResult). IsTrue u.whole) left → All (λ (u : WorkerResult). IsTrue u.whole) all) → All (λ (u : WorkerResult). IsTrue u.whole) rest → All (λ (u : WorkerResult). IsTrue u.whole) all

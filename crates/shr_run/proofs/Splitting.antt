@@ -1,27 +1,11 @@
 -- Seats for one worker more.
-use Rattle.std.proofs.Common.{◌≡◌, ℕ, zero, suc, ◌+◌, ◌<◌, ◌≤◌, Bool, true, false, List, [], ◌∷◌, ◌++◌, length, length-append, inl, inr, refl, sym, ap, subst, ◌∙◌, arith}
-use Rattle.std.specs.Prelude.{slice_get, Some}
-use Rattle.std.proofs.lemmas.List.{length-map}
-use Rattle.std.proofs.lemmas.Option.{slice_get_within}
+use Rattle.shr_run.proofs.Common.{◌≡◌, ℕ, zero, suc, ◌+◌, ◌<◌, ◌≤◌, Bool, true, false, List, [], ◌∷◌, ◌++◌, length, length-append, refl, sym, ap, subst, ◌∙◌, arith, slice_get, Some, length-map, slice_get_within, Standing, at_first, View, view_of, Pools, PlainSeat, content_of, within_of_valid, Shared, IsShared, Task, AreReady, AreFirst, IsPlainFirst, AreSplitOff, IsPlainSplitOff, IsTaskOf, AreTasks, inl, inr, EntersIf, AreEntered, IsPlainReady, is_on, AreSplit, AreNew, IsPlainSplit, IsPlainNew}
 use Rattle.std.proofs.Math.Nat.{eq-or-lt_of_le}
 use Rattle.shr_base.specs.declared.scripts.CacheDecl.{CacheDecl}
-use Rattle.shr_seats.specs.Standing.{Standing, at_first}
-use Rattle.shr_core.specs.declared.view.View.{View}
 use Rattle.shr_core.specs.Rule.{opener}
-use Rattle.shr_core.specs.Seats.{view_of}
 use Rattle.shr_core.specs.Steps.{with_one_split, split_off}
-use Rattle.shr_plain.specs.declared.table.Pools.{Pools}
-use Rattle.shr_plain.specs.declared.table.PlainSeat.{PlainSeat}
 use Rattle.shr_plain.specs.Seat.{PlainState}
-use Rattle.shr_script.specs.Content.{content_of}
-use Rattle.shr_script.proofs.BoundsLaws.{within_of_valid}
 use Rattle.shr_walk.specs.declared.seats.Seats.{Seats}
-use Rattle.shr_walk.specs.declared.seats.Shared.{Shared}
-use Rattle.shr_walk.specs.Sharing.{IsShared}
-use Rattle.shr_worker.specs.declared.tasks.Task.{Task}
-use Rattle.shr_tables.specs.Opened.{EntersIf, AreEntered, AreReady, IsPlainReady, is_on}
-use Rattle.shr_tables.specs.Parted.{AreFirst, AreSplit, AreNew, IsPlainFirst, IsPlainSplit, IsPlainNew}
-use Rattle.shr_run.specs.Tasks.{AreSplitOff, IsPlainSplitOff, IsTaskOf, AreTasks}
 
 -- a script has at most 64 workers
 pub workers_few : (x : Shared) → IsShared x → length x.script.workers.items ≤ 64

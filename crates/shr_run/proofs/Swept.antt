@@ -1,38 +1,13 @@
 -- What the helpers of a sweep did, by the results of the workers.
-use Rattle.std.proofs.Common.{◌≡◌, ℕ, ◌+◌, ◌<◌, ◌≤◌, List, [], ◌∷◌, ◌++◌, length, map, sym, refl, ap, subst, ◌∙◌, arith}
-use Rattle.std.specs.Prelude.{All, IsTrue, IfSome, flat_map, slice_get, Option, Some, None, option_map}
-use Rattle.std.proofs.lemmas.List.{length-map}
-use Rattle.std.proofs.lemmas.Option.{slice_get-map, slice_get_within, same_Some}
+use Rattle.shr_run.proofs.Common.{◌≡◌, ℕ, ◌+◌, ◌<◌, ◌≤◌, List, [], ◌∷◌, ◌++◌, length, map, sym, refl, ap, subst, ◌∙◌, arith, All, IsTrue, flat_map, slice_get, Option, Some, None, option_map, length-map, slice_get-map, slice_get_within, same_Some, Sweep, WorkerScript, content_of, within_of_valid, PlainSeat, SweepItem, JobQueue, PassView, queue_line, IsShared, Shared, WorkerResult, command_serial, parents_of, HasHelped, there_at, all_slice, all_popped, Helper, last_of, IsWorkerDone, worker_of, popped_of, HasPass, HasHelpedOut, IsPassBack, AreOnce, HaveSwept, IfSome, shape_of, sweep_reply, IsHelperReady, HaveHelpedOut, HasAnswered, HasSweptAt}
 use Rattle.shr_base.specs.declared.replies.Answered.{Answered}
 use Rattle.shr_base.specs.declared.scripts.GroupDecl.{GroupDecl}
-use Rattle.shr_base.specs.declared.scripts.Sweep.{Sweep}
-use Rattle.shr_base.specs.declared.scripts.WorkerScript.{WorkerScript}
 use Rattle.shr_script.specs.Bounds.{IsWithin, IsSweepWithin}
-use Rattle.shr_script.specs.Content.{content_of}
-use Rattle.shr_script.proofs.BoundsLaws.{within_of_valid}
-use Rattle.shr_plain.specs.declared.table.PlainSeat.{PlainSeat}
 use Rattle.shr_plain.specs.Seat as plain
-use Rattle.shr_pool.specs.declared.items.SweepItem.{SweepItem}
-use Rattle.shr_pool.specs.declared.jobs.JobQueue.{JobQueue}
-use Rattle.shr_pool.specs.declared.view.PassView.{PassView}
-use Rattle.shr_pool.specs.Lines.{line_of}
 use Rattle.shr_pool.specs.Passes as passes
 use Rattle.shr_seats.specs.Shapes.{groups_in}
-use Rattle.shr_core.specs.Seats.{shape_of}
-use Rattle.shr_walk.specs.Sharing.{IsShared}
-use Rattle.shr_walk.specs.declared.seats.Shared.{Shared}
-use Rattle.shr_worker.specs.declared.tasks.WorkerResult.{WorkerResult}
-use Rattle.shr_worker.specs.Chain.{serial_of}
 use Rattle.shr_worker.specs.Replies.{unfound}
-use Rattle.shr_report.specs.Parts.{parents_of}
-use Rattle.shr_assemble.specs.Ends.{HasHelped, sweep_reply}
-use Rattle.shr_assemble.proofs.Crews.{there_at}
-use Rattle.shr_assemble.proofs.Listed.{all_slice}
 use Rattle.shr_assemble.proofs.QuietSteps.{tree_is}
-use Rattle.shr_assemble.specs.Sweeps.{all_popped}
-use Rattle.shr_run.specs.declared.sweeping.Helper.{Helper}
-use Rattle.shr_run.specs.Joins.{last_of}
-use Rattle.shr_run.specs.Sweeps.{IsDone, worker_of, popped_of, HasPass, IsReady, HasHelpedOut, HaveHelpedOut, HasAnswered, IsPassBack, AreOnce, HasSweptAt, HaveSwept}
 use Rattle.shr_run.proofs.Ending.{all_from_slices}
 use Rattle.shr_run.proofs.Passing.{popped_at, popped_by_number}
 
@@ -45,12 +20,12 @@ pub under : {A B : Type 0} (f : A → B) (xs : List A) (ys : List B) (i : ℕ) (
 under f xs ys i y same at = from_some f (slice_get xs i) y (sym (slice_get-map f xs i) ∙ (ap (λ l. slice_get l i) same ∙ at))
 
 -- helpers whose workers are done, with new passes of a queue that has a job for each group on each node of the tables
-pub all_ready : (x : Shared) (q : JobQueue) (nodes groups : ℕ) (pushed : List SweepItem) (results : List WorkerResult) (helpers : List Helper) → pushed ≡ line_of nodes groups → nodes ≤ (shape_of x.core).nodes → groups ≤ groups_in (shape_of x.core)
-    → map worker_of helpers ≡ results → All (IsDone x) results → All (λ (w : WorkerResult). IsTrue w.whole) results → All (HasPass q pushed) helpers → All (IsReady x q) helpers
-all_ready x q nodes groups pushed results helpers line on low same done whole passed = all_from_slices (IsReady x q) helpers (λ i h at.
+pub all_ready : (x : Shared) (q : JobQueue) (nodes groups : ℕ) (pushed : List SweepItem) (results : List WorkerResult) (helpers : List Helper) → pushed ≡ queue_line nodes groups → nodes ≤ (shape_of x.core).nodes → groups ≤ groups_in (shape_of x.core)
+    → map worker_of helpers ≡ results → All (IsWorkerDone x) results → All (λ (w : WorkerResult). IsTrue w.whole) results → All (HasPass q pushed) helpers → All (IsHelperReady x q) helpers
+all_ready x q nodes groups pushed results helpers line on low same done whole passed = all_from_slices (IsHelperReady x q) helpers (λ i h at.
     let p = all_slice (HasPass q pushed) helpers i h passed at in
     let there : slice_get results i ≡ Some h.worker = ap (λ l. slice_get l i) (sym same) ∙ (slice_get-map worker_of helpers i ∙ ap (option_map worker_of) at) in record {
-      done = all_slice (IsDone x) results i h.worker done there;
+      done = all_slice (IsWorkerDone x) results i h.worker done there;
       whole = all_slice (λ (w : WorkerResult). IsTrue w.whole) results i h.worker whole there;
       pass = p.pass;
       helper = ap (λ (v : PassView). v.standing.first) p.view;
@@ -65,7 +40,7 @@ all_back x q z hs ks same helped = all_from_slices (IsPassBack q) ks (λ i k at.
     let out = helped i h.0 k h.1 at in record { pass = out.pass; helper = out.helper })
 
 -- the sweep was made
-pub have_swept : (x : Shared) (q : JobQueue) (z : Sweep) (results swept : List WorkerResult) (hs ks : List Helper) → map worker_of hs ≡ results → swept ≡ map worker_of ks → length ks ≡ length hs → All (IsReady x q) hs
+pub have_swept : (x : Shared) (q : JobQueue) (z : Sweep) (results swept : List WorkerResult) (hs ks : List Helper) → map worker_of hs ≡ results → swept ≡ map worker_of ks → length ks ≡ length hs → All (IsHelperReady x q) hs
     → All (λ (w : WorkerResult). IsTrue w.whole) results → HaveHelpedOut x q z hs ks → AreOnce x.script.nodes (length (parents_of x.script)) (flat_map popped_of ks) → HaveSwept x z results swept
 have_swept x q z results swept hs ks old new same ready whole helped once = record {
   same = ap (λ (l : List WorkerResult). length l) new ∙ (length-map ks worker_of ∙ (same ∙ (sym (length-map hs worker_of) ∙ ap (λ (l : List WorkerResult). length l) old)));
@@ -78,25 +53,25 @@ have_swept x q z results swept hs ks old new same ready whole helped once = reco
     many : length ks ≡ length results
     many = same ∙ (sym (length-map hs worker_of) ∙ ap (λ (l : List WorkerResult). length l) old)
 
-    answered : (h k : Helper) → IsReady x q h → HasHelpedOut x q z h k → HasAnswered x z h k
-        → (told : List Answered) × (k.worker.answers.items ≡ h.worker.answers.items ++ told) × HasHelped x z (serial_of h.worker.number (length h.worker.answers.items)) told (popped_of k) (last_of h.worker) (last_of k.worker)
+    answered : (h k : Helper) → IsHelperReady x q h → HasHelpedOut x q z h k → HasAnswered x z h k
+        → (told : List Answered) × (k.worker.answers.items ≡ h.worker.answers.items ++ told) × HasHelped x z (command_serial h.worker.number (length h.worker.answers.items)) told (popped_of k) (last_of h.worker) (last_of k.worker)
     answered h k is out a = (
       unfound (sweep_reply a.answer) ∷ [],
       a.answers,
       record {
         answer = a.answer;
         told_is = refl;
-        pass = passes.view_of h.pass;
+        pass = passes.pass_view h.pass;
         fresh = is.fresh;
-        ended = passes.view_of k.pass;
+        ended = passes.pass_view k.pass;
         popped_is = refl;
         gives = a.gives;
-        plain = ap (λ (s : PlainSeat). plain.state_of s) out.plain;
+        plain = ap (λ (s : PlainSeat). plain.plain_state_of s) out.plain;
         isolations = out.isolations;
       },
     )
 
-    one : (h k : Helper) → IsReady x q h → HasHelpedOut x q z h k → HasSweptAt x z (popped_of k) h.worker k.worker
+    one : (h k : Helper) → IsHelperReady x q h → HasHelpedOut x q z h k → HasSweptAt x z (popped_of k) h.worker k.worker
     one h k is out = record {
       number = out.number;
       plain = out.plain;
@@ -110,7 +85,7 @@ have_swept x q z results swept hs ks old new same ready whole helped once = reco
         let k = under worker_of ks swept i w (sym new) at_w in
         subst (λ (o : Option Helper). HasSweptAt x z (popped_at o) v w) (sym k.1)
         (subst (λ (u : WorkerResult). HasSweptAt x z (popped_of k.0) u w) h.2 (subst (λ (u : WorkerResult). HasSweptAt x z (popped_of k.0) h.0.worker u) k.2
-        (one h.0 k.0 (all_slice (IsReady x q) hs i h.0 ready h.1) (helped i h.0 k.0 h.1 k.1))))
+        (one h.0 k.0 (all_slice (IsHelperReady x q) hs i h.0 ready h.1) (helped i h.0 k.0 h.1 k.1))))
 
 -- ---- a script with a sweep fits the queue
 module _ (x : Shared) (shared : IsShared x) where

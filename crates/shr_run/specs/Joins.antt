@@ -4,7 +4,7 @@ use Rattle.shr_core.specs.Seats.{view_of}
 use Rattle.shr_charge.specs.Seat.{uses_of, tree_of}
 use Rattle.shr_deferred.specs.Seat.{moves_of, strands_of}
 use Rattle.shr_plain.specs.declared.table.Pools.{Pools}
-use Rattle.shr_plain.specs.Seat.{IsOf}
+use Rattle.shr_plain.specs.Seat.{IsPlainSeat}
 use Rattle.shr_plain.specs.Seat as plain
 use Rattle.shr_walk.specs.declared.seats.Shared.{Shared}
 use Rattle.shr_walk.specs.State.{IsRested}
@@ -18,7 +18,7 @@ use Rattle.shr_assemble.specs.declared.logs.WorkerLog.{WorkerLog}
 -- a worker's seats hold nothing and owe nothing
 pub record IsAtEnd (x : Shared) (p : Pools) (w : WorkerResult) : Type 0 where
   pub rested : IsRested x w.seats
-  pub plain_seat : IsOf p w.plain
+  pub plain_seat : IsPlainSeat p w.plain
 
 -- what a worker answered and noted
 abbrev pub log_of : WorkerResult → WorkerLog
@@ -30,7 +30,7 @@ last_of w = crew_of w.seats w.plain w.isolations.items
 
 -- what the first seats have done and seen
 abbrev pub firsts_of : CrewSeats → Firsts
-firsts_of s = record { core = view_of s.seats.cache.core; uses = uses_of s.seats.cache.charge; tree = tree_of s.seats.cache.charge; moves = moves_of s.seats.deferred; strands = strands_of s.seats.deferred; plain = plain.state_of s.plain }
+firsts_of s = record { core = view_of s.seats.cache.core; uses = uses_of s.seats.cache.charge; tree = tree_of s.seats.cache.charge; moves = moves_of s.seats.deferred; strands = strands_of s.seats.deferred; plain = plain.plain_state_of s.plain }
 
 -- the seats of these workers were joined into the first ones, in order
 pub record AreJoinedAll (old : CrewSeats) (results : List WorkerResult) (new : CrewSeats) : Type 0 where

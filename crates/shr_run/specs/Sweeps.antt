@@ -13,7 +13,7 @@ use Rattle.shr_sweep.specs.Helping.{HelpGives, IsLineWithin}
 use Rattle.shr_walk.specs.declared.seats.Shared.{Shared}
 use Rattle.shr_walk.specs.State.{IsRested, state_of}
 use Rattle.shr_worker.specs.declared.tasks.WorkerResult.{WorkerResult}
-use Rattle.shr_worker.specs.Chain.{serial_of}
+use Rattle.shr_worker.specs.Chain.{command_serial}
 use Rattle.shr_worker.specs.Replies.{unfound}
 use Rattle.shr_assemble.specs.Ends.{HasHelped, sweep_reply}
 use Rattle.shr_assemble.specs.Sweeps.{ArePoppedOnce, all_popped}
@@ -21,7 +21,7 @@ use Rattle.shr_run.specs.declared.sweeping.Helper.{Helper}
 use Rattle.shr_run.specs.Joins.{last_of}
 
 -- a worker's seats hold nothing, and where its result is whole it has no more answers than a script has commands
-pub record IsDone (x : Shared) (w : WorkerResult) : Type 0 where
+pub record IsWorkerDone (x : Shared) (w : WorkerResult) : Type 0 where
   pub rested : IsRested x w.seats
   pub few : IsTrue w.whole → length w.answers.items ≤ 20000
 
@@ -30,7 +30,7 @@ abbrev pub worker_of : Helper → WorkerResult
 worker_of h = h.worker
 
 abbrev pub popped_of : Helper → List SweepItem
-popped_of h = (passes.view_of h.pass).popped
+popped_of h = (passes.pass_view h.pass).popped
 
 -- a pass that was handed out, of a queue into which these items were pushed
 abbrev pub new_pass : List SweepItem → PassView
@@ -42,23 +42,23 @@ handed_out pushed splits = record { pushed = pushed; popped = []; standing = rec
 
 -- its pass is a new one of this queue
 pub record HasPass (q : JobQueue) (pushed : List SweepItem) (h : Helper) : Type 0 where
-  pub pass : passes.IsOf q h.pass
-  pub view : passes.view_of h.pass ≡ new_pass pushed
+  pub pass : passes.IsJobPass q h.pass
+  pub view : passes.pass_view h.pass ≡ new_pass pushed
 
 -- a helper that may begin
-pub record IsReady (x : Shared) (q : JobQueue) (h : Helper) : Type 0 where
-  pub done : IsDone x h.worker
+pub record IsHelperReady (x : Shared) (q : JobQueue) (h : Helper) : Type 0 where
+  pub done : IsWorkerDone x h.worker
   pub whole : IsTrue h.worker.whole
-  pub pass : passes.IsOf q h.pass
-  pub helper : passes.IsHelper (passes.view_of h.pass)
-  pub fresh : (passes.view_of h.pass).popped ≡ []
-  pub line : IsLineWithin x (passes.view_of h.pass)
+  pub pass : passes.IsJobPass q h.pass
+  pub helper : passes.IsHelper (passes.pass_view h.pass)
+  pub fresh : (passes.pass_view h.pass).popped ≡ []
+  pub line : IsLineWithin x (passes.pass_view h.pass)
 
 -- it has one answer more, and what it did was this
 pub record HasAnswered (x : Shared) (z : Sweep) (h k : Helper) : Type 0 where
   pub answer : SweepAnswer
   pub answers : k.worker.answers.items ≡ h.worker.answers.items ++ unfound (sweep_reply answer) ∷ []
-  pub gives : HelpGives x (serial_of h.worker.number (length h.worker.answers.items)) z.priority z.nofs answer (passes.view_of h.pass) (passes.view_of k.pass) (state_of h.worker.seats) (state_of k.worker.seats)
+  pub gives : HelpGives x (command_serial h.worker.number (length h.worker.answers.items)) z.priority z.nofs answer (passes.pass_view h.pass) (passes.pass_view k.pass) (state_of h.worker.seats) (state_of k.worker.seats)
 
 -- A helper is done: its seats hold nothing and owe nothing, and where its result is whole it has answered.
 pub record HasHelpedOut (x : Shared) (q : JobQueue) (z : Sweep) (h k : Helper) : Type 0 where
@@ -66,8 +66,8 @@ pub record HasHelpedOut (x : Shared) (q : JobQueue) (z : Sweep) (h k : Helper) :
   pub plain : k.worker.plain ≡ h.worker.plain
   pub isolations : k.worker.isolations.items ≡ h.worker.isolations.items
   pub rested : IsRested x k.worker.seats
-  pub pass : passes.IsOf q k.pass
-  pub helper : passes.IsHelper (passes.view_of k.pass)
+  pub pass : passes.IsJobPass q k.pass
+  pub helper : passes.IsHelper (passes.pass_view k.pass)
   pub whole : IsTrue k.worker.whole → HasAnswered x z h k
 
 -- each did
@@ -76,8 +76,8 @@ HaveHelpedOut x q z hs ks = (i : ℕ) (h k : Helper) → slice_get hs i ≡ Some
 
 -- a pass of this queue that may be joined
 pub record IsPassBack (q : JobQueue) (h : Helper) : Type 0 where
-  pub pass : passes.IsOf q h.pass
-  pub helper : passes.IsHelper (passes.view_of h.pass)
+  pub pass : passes.IsJobPass q h.pass
+  pub helper : passes.IsHelper (passes.pass_view h.pass)
 
 -- what these passes popped, no job twice, and all where one popped a mark
 pub record AreOnce (nodes groups : ℕ) (popped : List SweepItem) : Type 0 where
@@ -91,7 +91,7 @@ pub record HasSweptAt (x : Shared) (z : Sweep) (popped : List SweepItem) (v w : 
   pub plain : w.plain ≡ v.plain
   pub rested : IsRested x w.seats
   -- where its result is whole it has answered
-  pub helped : IsTrue w.whole → (told : List Answered) × (w.answers.items ≡ v.answers.items ++ told) × HasHelped x z (serial_of v.number (length v.answers.items)) told popped (last_of v) (last_of w)
+  pub helped : IsTrue w.whole → (told : List Answered) × (w.answers.items ≡ v.answers.items ++ told) × HasHelped x z (command_serial v.number (length v.answers.items)) told popped (last_of v) (last_of w)
 
 -- the sweep was made: all results were whole, and each worker did its part
 pub record HaveSwept (x : Shared) (z : Sweep) (old new : List WorkerResult) : Type 0 where

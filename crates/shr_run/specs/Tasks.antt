@@ -8,7 +8,7 @@ use Rattle.shr_deferred.specs.Seat.{moves_of, strands_of}
 use Rattle.shr_deferred.specs.Moves.{no_moves}
 use Rattle.shr_plain.specs.declared.table.Pools.{Pools}
 use Rattle.shr_plain.specs.declared.table.PlainSeat.{PlainSeat}
-use Rattle.shr_plain.specs.Seat.{IsOf, no_state}
+use Rattle.shr_plain.specs.Seat.{IsPlainSeat, no_state}
 use Rattle.shr_plain.specs.Seat as plain
 use Rattle.shr_walk.specs.declared.seats.Seats.{Seats}
 use Rattle.shr_walk.specs.declared.seats.Shared.{Shared}
@@ -16,7 +16,7 @@ use Rattle.shr_walk.specs.State.{IsRested}
 use Rattle.shr_tables.specs.Parted.{AreFirst, AreParted, IsPlainFirst, IsPlainParted}
 use Rattle.shr_worker.specs.declared.tasks.Task.{Task}
 use Rattle.shr_worker.specs.declared.tasks.WorkerResult.{WorkerResult}
-use Rattle.shr_worker.specs.Chain.{IsWorkOf, commands_of, crew_of}
+use Rattle.shr_worker.specs.Chain.{IsWorkOf, worker_commands, crew_of}
 use Rattle.shr_worker.specs.Tasks.{IsTask}
 use Rattle.shr_assemble.specs.Ends.{new_worker}
 
@@ -34,7 +34,7 @@ pub record AreSplitOff (x : Shared) (opened : View) (splits : ℕ) (first : Seat
 pub record IsPlainSplitOff (p : Pools) (splits : ℕ) (first : PlainSeat) : Type 0 where
   pub first_seat : IsPlainFirst p first
   pub parted : IsPlainParted first splits 0
-  pub state : plain.state_of first ≡ no_state
+  pub state : plain.plain_state_of first ≡ no_state
 
 -- a task of the worker with this number, with new seats
 pub record IsTaskOf (x : Shared) (p : Pools) (opened : View) (number : ℕ) (task : Task) : Type 0 where
@@ -50,8 +50,8 @@ AreTasks x p opened tasks = (i : ℕ) (t : Task) → slice_get tasks i ≡ Some 
 pub record HasRun (x : Shared) (p : Pools) (task : Task) (w : WorkerResult) : Type 0 where
   pub number : w.number ≡ task.number
   pub rested : IsRested x w.seats
-  pub plain_seat : IsOf p w.plain
-  pub all : IsTrue w.whole → length w.answers.items ≡ length (commands_of x.script task.number)
+  pub plain_seat : IsPlainSeat p w.plain
+  pub all : IsTrue w.whole → length w.answers.items ≡ length (worker_commands x.script task.number)
   pub work : IsTrue w.whole → IsWorkOf x task.number w.answers.items (crew_of task.seats task.plain []) (crew_of w.seats w.plain w.isolations.items)
 
 -- each of these results is that of the task at its place

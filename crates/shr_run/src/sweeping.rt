@@ -1,13 +1,13 @@
 //! The sweep of a script, by as many helpers as it has workers.
 
 ghost use Rattle.std.specs.Prelude.{◌≡◌, ◌<◌, ◌≤◌, ℕ, [], All, IfOk, OnOk, IsTrue, length, map, flat_map, vec_len};
-ghost use Rattle.shr_pool.specs.Lines.{line_of};
+ghost use Rattle.shr_pool.specs.Lines.{queue_line};
 ghost use Rattle.shr_pool.specs.Passes as passes;
 ghost use Rattle.shr_seats.specs.Standing.{at_first};
 ghost use Rattle.shr_walk.specs.Sharing.{IsShared};
 ghost use Rattle.shr_assemble.specs.Ends.{sweep_reply};
 ghost use Rattle.shr_worker.specs.Replies.{unfound};
-ghost use Rattle.shr_run.specs.Sweeps.{IsDone, worker_of, popped_of, HasPass, IsReady, HasHelpedOut, HaveHelpedOut, IsPassBack, AreOnce, handed_out, HaveSwept, SweepsIf};
+ghost use Rattle.shr_run.specs.Sweeps.{IsWorkerDone, worker_of, popped_of, HasPass, IsHelperReady, HasHelpedOut, HaveHelpedOut, IsPassBack, AreOnce, handed_out, HaveSwept, SweepsIf};
 
 use shr_base::memory::Memory;
 use shr_base::places::Serial;
@@ -40,17 +40,17 @@ fn hand_out(
     jobs: &mut Jobs,
     results: Vec<WorkerResult>,
 ) -> Result<Vec<Helper>, Memory>
-    requires first { passes.IsOf jobs.old.queue jobs.old.first }
-    requires none { (passes.view_of jobs.old.first).popped ≡ [] }
-    requires standing { (passes.view_of jobs.old.first).standing ≡ at_first }
+    requires first { passes.IsJobPass jobs.old.queue jobs.old.first }
+    requires none { (passes.pass_view jobs.old.first).popped ≡ [] }
+    requires standing { (passes.pass_view jobs.old.first).standing ≡ at_first }
     requires few { vec_len results ≤ 64 }
     ensures queue { OnOk result (jobs.new.queue ≡ jobs.old.queue) }
-    ensures first { OnOk result (passes.IsOf jobs.new.queue jobs.new.first) }
-    ensures view { OnOk result (passes.view_of jobs.new.first
-        ≡ handed_out (passes.view_of jobs.old.first).pushed (vec_len results)) }
+    ensures first { OnOk result (passes.IsJobPass jobs.new.queue jobs.new.first) }
+    ensures view { OnOk result (passes.pass_view jobs.new.first
+        ≡ handed_out (passes.pass_view jobs.old.first).pushed (vec_len results)) }
     ensures workers { IfOk result (λ helpers. map worker_of helpers.items ≡ results.items) }
     ensures passes { IfOk result (λ helpers. All (HasPass jobs.new.queue
-        (passes.view_of jobs.old.first).pushed) helpers.items) }
+        (passes.pass_view jobs.old.first).pushed) helpers.items) }
     ensures whole { OnOk result (All (λ (w : WorkerResult). IsTrue w.whole) results.items) }
 {
     let mut helpers = Vec::new(alloc);
@@ -87,7 +87,7 @@ fn help_out<R: Wait, G: Gate>(
 ) -> Helper
     requires shared { IsShared shared.now }
     requires priority { sweep.priority ≤ 12 }
-    requires ready { IsReady shared.now queue.now helper }
+    requires ready { IsHelperReady shared.now queue.now helper }
     ensures { HasHelpedOut shared.now queue.now sweep helper result }
 {
     let Helper { worker, pass } = helper;
@@ -132,7 +132,7 @@ fn help_all<R: Threads + Wait + Sync, G: Gate + Sync>(
 ) -> Result<Vec<Helper>, Memory>
     requires shared { IsShared tables.now.shared }
     requires priority { sweep.priority ≤ 12 }
-    requires ready { All (IsReady tables.now.shared queue.now) helpers.items }
+    requires ready { All (IsHelperReady tables.now.shared queue.now) helpers.items }
     ensures len { IfOk result (λ done. vec_len done ≡ vec_len helpers) }
     ensures helped { IfOk result (λ done. HaveHelpedOut tables.now.shared queue.now sweep
         helpers.items done.items) }
@@ -142,7 +142,7 @@ fn help_all<R: Threads + Wait + Sync, G: Gate + Sync>(
         helpers,
         &|helper: Helper| -> Helper
             requires { IsShared tables.now.shared × (sweep.priority ≤ 12)
-                × IsReady tables.now.shared queue.now helper }
+                × IsHelperReady tables.now.shared queue.now helper }
             ensures { HasHelpedOut tables.entry.now.shared queue.entry.now sweep helper result }
         { help_out(rt, &tables.shared, queue, sweep, helper, gate) },
     )?)
@@ -150,13 +150,13 @@ fn help_all<R: Threads + Wait + Sync, G: Gate + Sync>(
 
 // The workers of the helpers, whose passes are joined, in order.
 fn join_passes(alloc: Global, jobs: Jobs, helpers: Vec<Helper>) -> Result<Vec<WorkerResult>, Memory>
-    requires first { passes.IsOf jobs.queue jobs.first }
-    requires view { passes.view_of jobs.first
-        ≡ handed_out (passes.view_of jobs.first).pushed (vec_len helpers) }
+    requires first { passes.IsJobPass jobs.queue jobs.first }
+    requires view { passes.pass_view jobs.first
+        ≡ handed_out (passes.pass_view jobs.first).pushed (vec_len helpers) }
     requires back { All (IsPassBack jobs.queue) helpers.items }
     ensures workers { IfOk result (λ workers. workers.items ≡ map worker_of helpers.items) }
     ensures once { OnOk result ((nodes groups : ℕ) → 0 < vec_len helpers
-        → (passes.view_of jobs.first).pushed ≡ line_of nodes groups
+        → (passes.pass_view jobs.first).pushed ≡ queue_line nodes groups
         → AreOnce nodes groups (flat_map popped_of helpers.items)) }
 {
     let mut jobs = jobs;
@@ -181,7 +181,7 @@ fn sweep_all<R: Threads + Wait + Sync, G: Gate + Sync>(
     requires shared { IsShared tables.now.shared }
     requires sweep { tables.now.shared.script.sweep ≡ Some sweep }
     requires count { vec_len results ≡ length tables.now.shared.script.workers.items }
-    requires done { All (IsDone tables.now.shared) results.items }
+    requires done { All (IsWorkerDone tables.now.shared) results.items }
     ensures { IfOk result (λ swept. HaveSwept tables.now.shared sweep results.items swept.items) }
 {
     let script = &tables.shared.script;
@@ -204,7 +204,7 @@ pub(crate) fn sweep_if<R: Threads + Wait + Sync, G: Gate + Sync>(
 ) -> Result<Vec<WorkerResult>, Memory>
     requires shared { IsShared tables.now.shared }
     requires count { vec_len results ≡ length tables.now.shared.script.workers.items }
-    requires done { All (IsDone tables.now.shared) results.items }
+    requires done { All (IsWorkerDone tables.now.shared) results.items }
     ensures { IfOk result (λ swept. SweepsIf tables.now.shared tables.now.shared.script.sweep
         results.items swept.items) }
 {

@@ -1,14 +1,12 @@
 -- A valid script is within its bounds.
-use Rattle.shr_script.proofs.Common.{◌≡◌, ℕ, zero, suc, ◌+◌, ◌≤◌, ◌<◌, Bool, true, false, cond, List, [], ◌∷◌, ◌++◌, length, map, inl, inr, ◌⊎◌, Option, Some, None, Ok, refl, sym, ap, subst, ◌∙◌, arith, flat_map, nat_le, nat_lt, sum_by, IfSome, AllByRecursion, length_push, sum_by-cons, is_path, GroupDecl, CacheDecl, PoolDecl, Command, ◌>>=◌, Word, L, W, IsOf, flag_place, bind_ok, Group, Cache, Pool, Phase, Start, Sizes, Groups, Caches, Pools, Workers, Swept, Done, State, start, after, has, refused_if, most_ids, most_groups, is_served, misplaced, unless, IsLine, Content, group_line, cache_line, pool_line, worker_lines, sweep_lines, end_line, declarations, lines_of, IsValid, IsPoolWithin, IsSweepWithin}
-use Rattle.std.specs.List.{count_by}
+use Rattle.shr_script.proofs.Common.{◌≡◌, ℕ, zero, suc, ◌+◌, ◌≤◌, ◌<◌, Bool, true, false, cond, List, [], ◌∷◌, ◌++◌, length, map, inl, inr, ◌⊎◌, Option, Some, None, Ok, refl, sym, ap, subst, ◌∙◌, arith, flat_map, nat_le, nat_lt, sum_by, IfSome, AllByRecursion, length_push, sum_by-cons, is_path, GroupDecl, CacheDecl, PoolDecl, Command, ◌>>=◌, Word, L, W, IsOfClass, flag_place, bind_ok, Group, Cache, Pool, Phase, Start, Sizes, Groups, Caches, Pools, Workers, Swept, Done, State, start, after, has, refused_if, most_ids, most_groups, is_served, misplaced, unless, IsLine, Content, group_line, cache_line, pool_line, worker_command_lines, sweep_lines, end_line, declarations, lines_of, IsValid, IsPoolWithin, IsSweepWithin, count_by, IsWithin}
 use Rattle.shr_model.specs.Words.{is_name}
 use Rattle.shr_base.specs.declared.scripts.Code.TheVariants as codes_of
 use Rattle.shr_base.specs.declared.scripts.Sweep.{Sweep}
 use Rattle.shr_words.specs.Classes.{passes, Limit}
 use Rattle.shr_script.specs.declared.kind.Kind.TheVariants as kinds
 use Rattle.shr_script.specs.Lines.{cache_rule}
-use Rattle.shr_script.specs.Script.{state_after, AreLines}
-use Rattle.shr_script.specs.Bounds.{IsWithin}
+use Rattle.shr_script.specs.Script.{state_after_lines, AreLines}
 use Rattle.shr_script.proofs.LineLaws.{may_stand, is_taken}
 use Rattle.shr_script.proofs.ContentLaws.{is_workers, caches_phase, pools_phase}
 use Rattle.shr_script.proofs.HierarchyLaws.{hierarchy_is}
@@ -25,7 +23,7 @@ record IsGroupWithin (g : GroupDecl) : Type 0 where
   path : is_path g.path ≡ true
   limit : IfSome g.limit (λ n. n ≤ 1000000)
 
-limit_within : (o : Option ℕ) → IsOf Limit (L o) → IfSome o (λ n. n ≤ 1000000)
+limit_within : (o : Option ℕ) → IsOfClass Limit (L o) → IfSome o (λ n. n ≤ 1000000)
 limit_within None h = tt
 limit_within (Some n) h = omega (arith, h)
 
@@ -116,15 +114,15 @@ record IsCounted (t : Content) : Type 0 where
   commands : sum_by length t.workers ≤ 20000
 
 counted : (t : Content) → AreLines start (lines_of t) → IsCounted t
-unfolding state_after
+unfolding state_after_lines
 counted t h =
-    let f = flat_map worker_lines t.workers in
+    let f = flat_map worker_command_lines t.workers in
     let declared = declared_state t in
     let b = begun t in
     let all = declarations t.version t.nodes t.ids t.groups t.caches t.pools in
     let front = cut_lines all (f ++ (sweep_lines t.sweep ++ end_line ∷ [])) start h in
     let first : Few declared = (count_lines all start front.0 few_start).few in
-    let last : Few (state_after declared f) = (count_lines f declared (cut_lines f (sweep_lines t.sweep ++ end_line ∷ []) declared front.1).0 first).few in
+    let last : Few (state_after_lines declared f) = (count_lines f declared (cut_lines f (sweep_lines t.sweep ++ end_line ∷ []) declared front.1).0 first).few in
     let work = workers_said t.workers declared in
     let caches = b.declared.caches in
     let pools = b.declared.pools in
@@ -139,7 +137,7 @@ counted t h =
 
 -- where a sweep stands, and else the end
 abbrev worked : Content → State
-worked t = state_after (declared_state t) (flat_map worker_lines t.workers)
+worked t = state_after_lines (declared_state t) (flat_map worker_command_lines t.workers)
 
 worked_version : (t : Content) → (worked t).version ≡ t.version
 worked_version t = (workers_said t.workers (declared_state t)).version ∙ (begun t).declared.version
@@ -158,8 +156,8 @@ among Done e = absurd cc
 none_yet : (t : Content) → is_workers (declared_state t).phase ≡ false
 none_yet t = ap (λ (s : State). is_workers s.phase) (declared_in_turn t) ∙ pools_phase t.pools (cached t) (caches_phase t.caches (grouped t) refl)
 
-some_worker : (t : Content) (ws : List (List Command)) → is_workers (state_after (declared_state t) (flat_map worker_lines ws)).phase ≡ true → 0 < length ws
-unfolding state_after
+some_worker : (t : Content) (ws : List (List Command)) → is_workers (state_after_lines (declared_state t) (flat_map worker_command_lines ws)).phase ≡ true → 0 < length ws
+unfolding state_after_lines
 some_worker t [] e = absurd (true_or_false (is_workers (declared_state t).phase) e (none_yet t))
 some_worker t (w ∷ ws) e = omega arith
 

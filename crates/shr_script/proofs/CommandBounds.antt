@@ -1,56 +1,54 @@
 -- What the commands of a valid script name is there.
-use Rattle.shr_script.proofs.Common.{◌≡◌, ℕ, ◌+◌, ◌≤◌, ◌<◌, Bool, true, false, List, [], ◌∷◌, length, map, get_or, sym, subst, ◌∙◌, arith, flat_map, ◌&&◌, ◌==◌, AllByRecursion, is_later, Code, Command, Word, NameTest, Plain, Number, N, W, IsOf, place_takes, Worker, Isolate, Release, Grab, State, after, group_class, later_class, node_class, pool_class, state_after, IsLine, Content, command_line, worker_lines, IsIsolationWithin, IsPoolCommandWithin, IsCommandWithin, later_of, and_true}
+use Rattle.shr_script.proofs.Common.{◌≡◌, ℕ, ◌+◌, ◌≤◌, ◌<◌, Bool, true, false, List, [], ◌∷◌, length, map, get_or, sym, subst, ◌∙◌, arith, flat_map, ◌&&◌, ◌==◌, AllByRecursion, is_later, Code, Command, Word, NameTest, Plain, Number, N, W, IsOfClass, place_takes, Worker, Isolate, Release, Grab, State, after, group_class, later_class, node_class, pool_class, state_after_lines, IsLine, Content, command_line, worker_command_lines, IsIsolationWithin, IsPoolCommandWithin, IsCommandWithin, content_later, and_true, cache_class, serves_pools, serves_isolation, IsGroup, IsCache, IsPool, IsObjectWithin, IsWalkWithin, IfServed}
 use Rattle.std.proofs.lemmas.Bool.{eqb-true}
 use Rattle.shr_base.specs.declared.scripts.Code.TheVariants as codes_of
 use Rattle.shr_base.specs.declared.scripts.Command.TheVariants as commands
 use Rattle.shr_words.specs.Classes.{Test, PathTest, KeyTest, passes, Listed}
 use Rattle.shr_script.specs.declared.kind.Kind.TheVariants as kinds
-use Rattle.shr_script.specs.Lines.{cache_class, serves_pools, serves_isolation}
 use Rattle.shr_script.specs.Script.{AreLines}
-use Rattle.shr_script.specs.Bounds.{IsGroup, IsCache, IsPool, IsObjectWithin, IsWalkWithin, IfServed}
 use Rattle.shr_script.proofs.LineLaws.{is_taken}
 use Rattle.shr_script.proofs.SaidLaws.{cut_lines, Declared, command_said, commands_said}
 
 -- ---- what each command keeps
 
-listed_below : (test : Test) (code : Code) (ws : List Word) (i : ℕ) → IsOf (Listed test code ws) (N i) → i < length ws
+listed_below : (test : Test) (code : Code) (ws : List Word) (i : ℕ) → IsOfClass (Listed test code ws) (N i) → i < length ws
 listed_below test code ws i h = (place_takes (get_or ws i []) ws i h.1).1
 
-group_within : (t : Content) (st : State) (group : ℕ) → Declared t st → IsOf (group_class st) (N group) → IsGroup t group
+group_within : (t : Content) (st : State) (group : ℕ) → Declared t st → IsOfClass (group_class st) (N group) → IsGroup t group
 group_within t st group d h =
     let below = listed_below PathTest codes_of.UnknownGroup st.groups group h in
     let long = d.groups in
     omega (arith, below, long)
 
 -- a group that is made by a command is later
-later_within : (t : Content) (st : State) (group : ℕ) → Declared t st → IsOf (later_class st) (N group) → IsGroup t group × (is_later (later_of t) group ≡ true)
+later_within : (t : Content) (st : State) (group : ℕ) → Declared t st → IsOfClass (later_class st) (N group) → IsGroup t group × (is_later (content_later t) group ≡ true)
 later_within t st group d h =
     (group_within t st group d (h.0, h.1), subst (λ (later : List Bool). is_later later group ≡ true) d.later h.2)
 
-cache_there : (t : Content) (st : State) (decl : ℕ) → Declared t st → IsOf (cache_class st) (N decl) → IsCache t decl
+cache_there : (t : Content) (st : State) (decl : ℕ) → Declared t st → IsOfClass (cache_class st) (N decl) → IsCache t decl
 cache_there t st decl d h =
     let below = listed_below NameTest codes_of.UnknownCache st.caches decl h in
     let long = d.caches in
     omega (arith, below, long)
 
-pool_there : (t : Content) (st : State) (pool : ℕ) → Declared t st → IsOf (pool_class st) (N pool) → IsPool t pool
+pool_there : (t : Content) (st : State) (pool : ℕ) → Declared t st → IsOfClass (pool_class st) (N pool) → IsPool t pool
 pool_there t st pool d h =
     let below = listed_below NameTest codes_of.UnknownCache st.pools pool h in
     let long = d.pools in
     omega (arith, below, long)
 
-node_within : (t : Content) (st : State) (node : ℕ) → Declared t st → IsOf (node_class st) (N node) → node < t.nodes
+node_within : (t : Content) (st : State) (node : ℕ) → Declared t st → IsOfClass (node_class st) (N node) → node < t.nodes
 node_within t st node d h =
     let below = h.1 in
     let same = d.nodes in
     omega (arith, below, same)
 
-object_within : (t : Content) (st : State) (group node decl : ℕ) (key : Word) → Declared t st → IsOf (group_class st) (N group) → IsOf (node_class st) (N node) → IsOf (cache_class st) (N decl) → IsOf (Plain KeyTest) (W key) → IsObjectWithin t group node decl key
+object_within : (t : Content) (st : State) (group node decl : ℕ) (key : Word) → Declared t st → IsOfClass (group_class st) (N group) → IsOfClass (node_class st) (N node) → IsOfClass (cache_class st) (N decl) → IsOfClass (Plain KeyTest) (W key) → IsObjectWithin t group node decl key
 unfolding passes
 object_within t st group node decl key d g n c k =
     record { in_group = group_within t st group d g; on_node = node_within t st node d n; in_cache = cache_there t st decl d c; is_word = k }
 
-walk_within : (t : Content) (st : State) (node priority : ℕ) → Declared t st → IsOf (node_class st) (N node) → IsOf (Number 0 13) (N priority) → IsWalkWithin t node priority
+walk_within : (t : Content) (st : State) (node priority : ℕ) → Declared t st → IsOfClass (node_class st) (N node) → IsOfClass (Number 0 13) (N priority) → IsWalkWithin t node priority
 walk_within t st node priority d n p = let below = p.1 in record { on_node = node_within t st node d n; urgent = omega (arith, below) }
 
 if_served : (served : Bool) (P : Type 0) → served ≡ true → P → IfServed served P
@@ -122,12 +120,12 @@ commands_within t (c ∷ cs) st d h =
     let next = after st (command_line c).0 (command_line c).1 in
     (command_within t st c d h.0, commands_within t cs next (still_declared t st next (st.commands + 1) (command_said c st) d) h.1)
 
-pub workers_within : (t : Content) (ws : List (List Command)) (st : State) → Declared t st → AreLines st (flat_map worker_lines ws) → AllByRecursion (AllByRecursion (IsCommandWithin t)) ws
+pub workers_within : (t : Content) (ws : List (List Command)) (st : State) → Declared t st → AreLines st (flat_map worker_command_lines ws) → AllByRecursion (AllByRecursion (IsCommandWithin t)) ws
 unfolding AreLines
 workers_within t [] st d h = tt
 workers_within t (w ∷ ws) st d h =
     let s = after st Worker [] in
     let here : Declared t s = record { version = d.version; nodes = d.nodes; groups = d.groups; later = d.later; caches = d.caches; pools = d.pools } in
-    let cut = cut_lines (map command_line w) (flat_map worker_lines ws) s h.1 in
-    let behind = state_after s (map command_line w) in
+    let cut = cut_lines (map command_line w) (flat_map worker_command_lines ws) s h.1 in
+    let behind = state_after_lines s (map command_line w) in
     (commands_within t w s here cut.0, workers_within t ws behind (still_declared t s behind (s.commands + length w) (commands_said w s) here) cut.1)

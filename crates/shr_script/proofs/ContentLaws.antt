@@ -1,23 +1,22 @@
 -- The lines of a valid script make that script.
-use Rattle.shr_script.proofs.Common.{◌≡◌, ℕ, Bool, true, false, List, [], ◌∷◌, ◌++◌, map, Option, Some, None, refl, sym, ap, ◌∙◌, append_assoc, flat_map, ◌==◌, append-nil, parent_path, GroupDecl, CacheDecl, PoolDecl, Command, Item, N, L, W, policy_place, policy_at, flag_place, place_of, Header, Size, Group, Cache, Pool, Worker, Phase, Start, Sizes, Groups, Caches, Pools, Workers, Swept, Done, State, start, Line, after, Content, group_line, cache_line, pool_line, command_line, worker_lines, sweep_lines, end_line, lines_of, or_root, AreBelow, IsValid, spell, Drafted, empty, content_by, cache_decl, pool_decl, with_command, added}
+use Rattle.shr_script.proofs.Common.{◌≡◌, ℕ, Bool, true, false, List, [], ◌∷◌, ◌++◌, map, Option, Some, None, refl, sym, ap, ◌∙◌, append_assoc, flat_map, ◌==◌, append-nil, parent_path, GroupDecl, CacheDecl, PoolDecl, Command, Item, N, L, W, policy_place, policy_at, flag_place, place_of, Header, Size, Group, Cache, Pool, Worker, Phase, Start, Sizes, Groups, Caches, Pools, Workers, Swept, Done, State, start, Line, after, Content, group_line, cache_line, pool_line, command_line, worker_command_lines, sweep_lines, end_line, lines_of, or_root, HaveParentsBefore, IsValid, spell, Drafted, empty, content_by, cache_decl, pool_decl, with_command, added, flag_again, policy_again}
 use Rattle.shr_base.specs.declared.objects.Policy.{Policy}
 use Rattle.shr_base.specs.declared.scripts.Sweep.{Sweep}
 use Rattle.shr_base.specs.declared.scripts.Command.TheVariants as commands
-use Rattle.shr_words.proofs.ClassLaws.{flag_again, policy_again}
-use Rattle.shr_script.specs.Script.{state_after}
+use Rattle.shr_script.specs.Script.{state_after_lines}
 use Rattle.shr_script.specs.Drafted.{completed, made_by}
 use Rattle.shr_script.proofs.MadeLaws.{content_made}
 use Rattle.shr_script.proofs.ScriptLaws.{once_lines}
 
 -- ---- one part after another
 
-pub state_after-append : (ls ms : List Line) (st : State) → state_after st (ls ++ ms) ≡ state_after (state_after st ls) ms
-unfolding state_after
+pub state_after-append : (ls ms : List Line) (st : State) → state_after_lines st (ls ++ ms) ≡ state_after_lines (state_after_lines st ls) ms
+unfolding state_after_lines
 state_after-append [] ms st = refl
 state_after-append (l ∷ ls) ms st = state_after-append ls ms (after st l.0 l.1)
 
-made_by-append : (ls ms : List Line) (st : State) (d : Drafted) → made_by st d (ls ++ ms) ≡ made_by (state_after st ls) (made_by st d ls) ms
-unfolding state_after made_by
+made_by-append : (ls ms : List Line) (st : State) (d : Drafted) → made_by st d (ls ++ ms) ≡ made_by (state_after_lines st ls) (made_by st d ls) ms
+unfolding state_after_lines made_by
 made_by-append [] ms st d = refl
 made_by-append (l ∷ ls) ms st d = made_by-append ls ms (after st l.0 l.1) (added st d l.0 l.1)
 
@@ -29,7 +28,7 @@ with_groups d gs = record d { groups = d.groups ++ gs }
 same_group : (g : GroupDecl) (p : ℕ) → g.parent ≡ p → record g { parent = p } ≡ g
 same_group g p e = ap (λ (q : ℕ). record g { parent = q }) (sym e)
 
-groups_made : (gs : List GroupDecl) (st : State) (d : Drafted) → AreBelow st.groups gs → made_by st d (map group_line gs) ≡ record d { groups = d.groups ++ gs }
+groups_made : (gs : List GroupDecl) (st : State) (d : Drafted) → HaveParentsBefore st.groups gs → made_by st d (map group_line gs) ≡ record d { groups = d.groups ++ gs }
 unfolding made_by
 groups_made [] st d h = ap (λ (xs : List GroupDecl). record d { groups = xs }) (sym (append-nil d.groups))
 groups_made (g ∷ gs) st d h =
@@ -38,8 +37,8 @@ groups_made (g ∷ gs) st d h =
     ∙ ap (λ (x : GroupDecl). record d { groups = (d.groups ++ x ∷ []) ++ gs }) (same_group g p h.0)
     ∙ ap (λ (xs : List GroupDecl). record d { groups = xs }) (append_assoc d.groups (g ∷ []) gs)
 
-groups_phase : (gs : List GroupDecl) (st : State) → (state_after st (map group_line gs)).phase ≡ st.phase
-unfolding state_after
+groups_phase : (gs : List GroupDecl) (st : State) → (state_after_lines st (map group_line gs)).phase ≡ st.phase
+unfolding state_after_lines
 groups_phase [] st = refl
 groups_phase (g ∷ gs) st = groups_phase gs (after st (Group g.later) (W g.path ∷ L g.limit ∷ []))
 
@@ -64,8 +63,8 @@ abbrev pub is_workers : Phase → Bool
 is_workers Workers = true
 is_workers p = false
 
-pub caches_phase : (cs : List CacheDecl) (st : State) → is_workers st.phase ≡ false → is_workers (state_after st (map cache_line cs)).phase ≡ false
-unfolding state_after
+pub caches_phase : (cs : List CacheDecl) (st : State) → is_workers st.phase ≡ false → is_workers (state_after_lines st (map cache_line cs)).phase ≡ false
+unfolding state_after_lines
 caches_phase [] st h = h
 caches_phase (c ∷ cs) st h = caches_phase cs (after st Cache (cache_items c)) refl
 
@@ -85,8 +84,8 @@ pools_made (p ∷ ps) st d =
     ∙ ap (λ (x : PoolDecl). record d { pools = (d.pools ++ x ∷ []) ++ ps }) (same_pool p (flag_place p.flat == 1) (flag_again p.flat))
     ∙ ap (λ (xs : List PoolDecl). record d { pools = xs }) (append_assoc d.pools (p ∷ []) ps)
 
-pub pools_phase : (ps : List PoolDecl) (st : State) → is_workers st.phase ≡ false → is_workers (state_after st (map pool_line ps)).phase ≡ false
-unfolding state_after
+pub pools_phase : (ps : List PoolDecl) (st : State) → is_workers st.phase ≡ false → is_workers (state_after_lines st (map pool_line ps)).phase ≡ false
+unfolding state_after_lines
 pools_phase [] st h = h
 pools_phase (p ∷ ps) st h = pools_phase ps (after st Pool (pool_items p)) refl
 
@@ -132,8 +131,8 @@ commands_made (c ∷ cs) st d =
     ∙ ap (λ (e : Drafted). record e { commands = e.commands ++ cs }) (command_added c st d)
     ∙ ap (λ (xs : List Command). record d { commands = xs }) (append_assoc d.commands (c ∷ []) cs)
 
-commands_phase : (cs : List Command) (st : State) → (state_after st (map command_line cs)).phase ≡ st.phase
-unfolding state_after
+commands_phase : (cs : List Command) (st : State) → (state_after_lines st (map command_line cs)).phase ≡ st.phase
+unfolding state_after_lines
 commands_phase [] st = refl
 commands_phase (c ∷ cs) st =
     commands_phase cs (after st (command_line c).0 (command_line c).1) ∙ ap (λ (s : State). s.phase) (command_after c st)
@@ -168,8 +167,8 @@ one_worker e w ws none =
     rw none (ap (λ (xs : List (List Command)). record e { complete = xs; commands = [] }) (append_assoc e.complete (w ∷ []) ws))
 
 workers_made : (ws : List (List Command)) (st : State) (d : Drafted)
-    → completed (state_after st (flat_map worker_lines ws)).phase (made_by st d (flat_map worker_lines ws)) ≡ all_of (completed st.phase d) ws
-unfolding state_after made_by
+    → completed (state_after_lines st (flat_map worker_command_lines ws)).phase (made_by st d (flat_map worker_command_lines ws)) ≡ all_of (completed st.phase d) ws
+unfolding state_after_lines made_by
 workers_made [] st d =
     let e = completed st.phase d in
     ap (λ (xs : List (List Command)). record e { complete = xs }) (sym (append-nil e.complete)) ∙ ap (λ (cs : List Command). record e { complete = e.complete ++ []; commands = cs }) (none_left st.phase d)
@@ -177,11 +176,11 @@ workers_made (w ∷ ws) st d =
     let s = after st Worker [] in
     let e = completed st.phase d in
     let m = map command_line w in
-    let f = flat_map worker_lines ws in
-    let s' = state_after s m in
+    let f = flat_map worker_command_lines ws in
+    let s' = state_after_lines s m in
     let e' = made_by s e m in
     ap (λ (t : State). completed t.phase (made_by s e (m ++ f))) (state_after-append m f s)
-    ∙ ap (completed (state_after s' f).phase) (made_by-append m f s e)
+    ∙ ap (completed (state_after_lines s' f).phase) (made_by-append m f s e)
     ∙ workers_made ws s' e'
     ∙ ap (λ (p : Phase). all_of (completed p e') ws) (commands_phase w s)
     ∙ ap (λ (x : Drafted). all_of (completed Workers x) ws) (commands_made w s e)
@@ -192,32 +191,32 @@ workers_made (w ∷ ws) st d =
 abbrev sizes : State → ℕ × ℕ × ℕ
 sizes st = (st.version, st.nodes, st.ids)
 
-groups_sizes : (gs : List GroupDecl) (st : State) → sizes (state_after st (map group_line gs)) ≡ sizes st
-unfolding state_after
+groups_sizes : (gs : List GroupDecl) (st : State) → sizes (state_after_lines st (map group_line gs)) ≡ sizes st
+unfolding state_after_lines
 groups_sizes [] st = refl
 groups_sizes (g ∷ gs) st = groups_sizes gs (after st (Group g.later) (W g.path ∷ L g.limit ∷ []))
 
-caches_sizes : (cs : List CacheDecl) (st : State) → sizes (state_after st (map cache_line cs)) ≡ sizes st
-unfolding state_after
+caches_sizes : (cs : List CacheDecl) (st : State) → sizes (state_after_lines st (map cache_line cs)) ≡ sizes st
+unfolding state_after_lines
 caches_sizes [] st = refl
 caches_sizes (c ∷ cs) st = caches_sizes cs (after st Cache (cache_items c))
 
-pools_sizes : (ps : List PoolDecl) (st : State) → sizes (state_after st (map pool_line ps)) ≡ sizes st
-unfolding state_after
+pools_sizes : (ps : List PoolDecl) (st : State) → sizes (state_after_lines st (map pool_line ps)) ≡ sizes st
+unfolding state_after_lines
 pools_sizes [] st = refl
 pools_sizes (p ∷ ps) st = pools_sizes ps (after st Pool (pool_items p))
 
-commands_sizes : (cs : List Command) (st : State) → sizes (state_after st (map command_line cs)) ≡ sizes st
-unfolding state_after
+commands_sizes : (cs : List Command) (st : State) → sizes (state_after_lines st (map command_line cs)) ≡ sizes st
+unfolding state_after_lines
 commands_sizes [] st = refl
 commands_sizes (c ∷ cs) st = commands_sizes cs (after st (command_line c).0 (command_line c).1) ∙ ap sizes (command_after c st)
 
-workers_sizes : (ws : List (List Command)) (st : State) → sizes (state_after st (flat_map worker_lines ws)) ≡ sizes st
-unfolding state_after
+workers_sizes : (ws : List (List Command)) (st : State) → sizes (state_after_lines st (flat_map worker_command_lines ws)) ≡ sizes st
+unfolding state_after_lines
 workers_sizes [] st = refl
 workers_sizes (w ∷ ws) st =
     let s = after st Worker [] in
-    ap sizes (state_after-append (map command_line w) (flat_map worker_lines ws) s) ∙ workers_sizes ws (state_after s (map command_line w)) ∙ commands_sizes w s
+    ap sizes (state_after-append (map command_line w) (flat_map worker_command_lines ws) s) ∙ workers_sizes ws (state_after_lines s (map command_line w)) ∙ commands_sizes w s
 
 -- ---- the sweep and the end
 
@@ -245,21 +244,21 @@ ended (Some z) st d none =
     ap (λ (cs : List Command). record (completed st.phase d) { commands = cs; sweep = Some (record z { nofs = flag_place z.nofs == 1 }) }) (sym (none_left st.phase d))
     ∙ ap (λ (y : Sweep). record (completed st.phase d) { sweep = Some y }) (same_sweep z (flag_place z.nofs == 1) (flag_again z.nofs))
 
-last_sizes : (z : Option Sweep) (st : State) → sizes (state_after st (last_lines z)) ≡ sizes st
-unfolding state_after
+last_sizes : (z : Option Sweep) (st : State) → sizes (state_after_lines st (last_lines z)) ≡ sizes st
+unfolding state_after_lines
 last_sizes None st = refl
 last_sizes (Some z) st = refl
 
 -- no worker says a sweep
-no_sweep_yet : (ws : List (List Command)) (st : State) (d : Drafted) → (made_by st d (flat_map worker_lines ws)).sweep ≡ d.sweep
-unfolding state_after made_by
+no_sweep_yet : (ws : List (List Command)) (st : State) (d : Drafted) → (made_by st d (flat_map worker_command_lines ws)).sweep ≡ d.sweep
+unfolding state_after_lines made_by
 no_sweep_yet [] st d = refl
 no_sweep_yet (w ∷ ws) st d =
     let s = after st Worker [] in
     let e = completed st.phase d in
     let m = map command_line w in
-    ap (λ (x : Drafted). x.sweep) (made_by-append m (flat_map worker_lines ws) s e)
-    ∙ no_sweep_yet ws (state_after s m) (made_by s e m)
+    ap (λ (x : Drafted). x.sweep) (made_by-append m (flat_map worker_command_lines ws) s e)
+    ∙ no_sweep_yet ws (state_after_lines s m) (made_by s e m)
     ∙ ap (λ (x : Drafted). x.sweep) (commands_made w s e)
     ∙ kept_sweep st.phase d
   where
@@ -281,40 +280,40 @@ record Whole (t : Content) (st : State) (d : Drafted) : Type 0 where
 
 -- the lines from the first group on
 abbrev lines_behind : Content → List Line
-lines_behind t = (map group_line t.groups ++ (map cache_line t.caches ++ map pool_line t.pools)) ++ (flat_map worker_lines t.workers ++ last_lines t.sweep)
+lines_behind t = (map group_line t.groups ++ (map cache_line t.caches ++ map pool_line t.pools)) ++ (flat_map worker_command_lines t.workers ++ last_lines t.sweep)
 
 -- what the lines of these parts say and make, one part after the other
-parts_said : (g c p f l : List Line) (st : State) → state_after st ((g ++ (c ++ p)) ++ (f ++ l)) ≡ state_after (state_after (state_after (state_after (state_after st g) c) p) f) l
+parts_said : (g c p f l : List Line) (st : State) → state_after_lines st ((g ++ (c ++ p)) ++ (f ++ l)) ≡ state_after_lines (state_after_lines (state_after_lines (state_after_lines (state_after_lines st g) c) p) f) l
 parts_said g c p f l st =
     state_after-append (g ++ (c ++ p)) (f ++ l) st
-    ∙ ap (λ (s : State). state_after s (f ++ l)) (state_after-append g (c ++ p) st ∙ state_after-append c p (state_after st g))
-    ∙ state_after-append f l (state_after (state_after (state_after st g) c) p)
+    ∙ ap (λ (s : State). state_after_lines s (f ++ l)) (state_after-append g (c ++ p) st ∙ state_after-append c p (state_after_lines st g))
+    ∙ state_after-append f l (state_after_lines (state_after_lines (state_after_lines st g) c) p)
 
 parts_made : (g c p f l : List Line) (st : State) (d : Drafted)
     → made_by st d ((g ++ (c ++ p)) ++ (f ++ l))
-    ≡ made_by (state_after (state_after (state_after (state_after st g) c) p) f)
-    (made_by (state_after (state_after (state_after st g) c) p) (made_by (state_after (state_after st g) c) (made_by (state_after st g) (made_by st d g) c) p) f) l
+    ≡ made_by (state_after_lines (state_after_lines (state_after_lines (state_after_lines st g) c) p) f)
+    (made_by (state_after_lines (state_after_lines (state_after_lines st g) c) p) (made_by (state_after_lines (state_after_lines st g) c) (made_by (state_after_lines st g) (made_by st d g) c) p) f) l
 parts_made g c p f l st d =
-    let s1 = state_after st g in
-    let s3 = state_after (state_after s1 c) p in
+    let s1 = state_after_lines st g in
+    let s3 = state_after_lines (state_after_lines s1 c) p in
     let d1 = made_by st d g in
     made_by-append (g ++ (c ++ p)) (f ++ l) st d
     ∙ ap (λ (s : State). made_by s (made_by st d (g ++ (c ++ p))) (f ++ l)) (state_after-append g (c ++ p) st ∙ state_after-append c p s1)
     ∙ ap (λ (e : Drafted). made_by s3 e (f ++ l)) (made_by-append g (c ++ p) st d ∙ made_by-append c p s1 d1)
-    ∙ made_by-append f l s3 (made_by (state_after s1 c) (made_by s1 d1 c) p)
+    ∙ made_by-append f l s3 (made_by (state_after_lines s1 c) (made_by s1 d1 c) p)
 
-whole_made : (t : Content) (st : State) → st.phase ≡ Groups → sizes st ≡ (t.version, t.nodes, t.ids) → AreBelow st.groups t.groups
-    → Whole t (state_after st (lines_behind t)) (made_by st empty (lines_behind t))
+whole_made : (t : Content) (st : State) → st.phase ≡ Groups → sizes st ≡ (t.version, t.nodes, t.ids) → HaveParentsBefore st.groups t.groups
+    → Whole t (state_after_lines st (lines_behind t)) (made_by st empty (lines_behind t))
 whole_made t st in_groups same below =
     let g = map group_line t.groups in
     let c = map cache_line t.caches in
     let p = map pool_line t.pools in
-    let f = flat_map worker_lines t.workers in
+    let f = flat_map worker_command_lines t.workers in
     let l = last_lines t.sweep in
-    let s1 = state_after st g in
-    let s2 = state_after s1 c in
-    let s3 = state_after s2 p in
-    let s4 = state_after s3 f in
+    let s1 = state_after_lines st g in
+    let s2 = state_after_lines s1 c in
+    let s3 = state_after_lines s2 p in
+    let s4 = state_after_lines s3 f in
     let d1 = made_by st empty g in
     let d2 = made_by s1 d1 c in
     let d3 = made_by s2 d2 p in
@@ -338,7 +337,7 @@ whole_content t st d w =
 
 -- the lines of a script whose groups are below their parents make that script
 pub content_made-lines_of : (t : Content) → IsValid t → content_made (lines_of t) ≡ t
-unfolding state_after made_by
+unfolding state_after_lines made_by
 content_made-lines_of t h =
     let st = after (after start Header (N t.version ∷ [])) Size (N t.nodes ∷ N t.ids ∷ []) in
     whole_content t _ _ (whole_made t st refl refl h.parents)

@@ -1,6 +1,5 @@
 -- Nothing is against a group of a valid script where it was declared.
-use Rattle.shr_script.proofs.Common.{◌≡◌, ℕ, zero, suc, ◌<◌, Bool, true, false, List, [], ◌∷◌, ◌++◌, length, map, get_or, Ok, sym, subst, append_assoc, arith, bytes_eq, flat_map, not, nat_le, ◌&&◌, nat_tests, append-nil, root_path, is_path, parent_path, GroupDecl, ◌>>=◌, Word, N, L, W, place_of, bind_ok, Header, Size, Group, State, start, Line, after, has, may_hold, refused_if, most_groups, Content, group_line, cache_line, pool_line, worker_lines, sweep_lines, end_line, lines_of, IsValid}
-use Rattle.std.proofs.Common.{take}
+use Rattle.shr_script.proofs.Common.{◌≡◌, ℕ, zero, suc, ◌<◌, Bool, true, false, List, [], ◌∷◌, ◌++◌, length, map, get_or, Ok, sym, subst, append_assoc, arith, bytes_eq, flat_map, not, nat_le, ◌&&◌, nat_tests, append-nil, root_path, is_path, parent_path, GroupDecl, ◌>>=◌, Word, N, L, W, place_of, bind_ok, Header, Size, Group, State, start, Line, after, has, may_hold_group, refused_if, most_groups, Content, group_line, cache_line, pool_line, worker_command_lines, sweep_lines, end_line, lines_of, IsValid, take}
 use Rattle.shr_base.specs.declared.scripts.Code.TheVariants as codes_of
 use Rattle.shr_words.specs.Classes.{passes}
 use Rattle.shr_script.specs.Lines.{group_rule}
@@ -11,7 +10,7 @@ use Rattle.shr_script.proofs.GrowthLaws.{not_refused, group_room, most_within}
 -- not: it is one, its parent is there and may hold it, and it is not, and there is room
 pub record MayBeAdded (groups : List Word) (later : List Bool) (late : Bool) (path : Word) : Type 0 where
   pub is : is_path path ≡ true
-  pub parent : (not (bytes_eq path root_path) && not (may_hold later late (place_of (parent_path path) groups))) ≡ false
+  pub parent : (not (bytes_eq path root_path) && not (may_hold_group later late (place_of (parent_path path) groups))) ≡ false
   pub new : has groups path ≡ false
   pub few : nat_le 256 (length groups) ≡ false
 
@@ -22,14 +21,14 @@ not_full n lt = grind (arith, nat_tests)
 pub may_by_rule : (st : State) (late : Bool) (path : Word) → is_path path ≡ true → group_rule st late path ≡ Ok tt → MayBeAdded st.groups st.later late path
 unfolding group_rule
 may_by_rule st late path is e =
-    let a = bind_ok (refused_if (not (bytes_eq path root_path) && not (may_hold st.later late (place_of (parent_path path) st.groups))) codes_of.NoParent) (λ _. refused_if (has st.groups path) codes_of.Exists >>= λ _. refused_if (nat_le (most_groups st.version) (length st.groups)) codes_of.TooMany) tt e in
+    let a = bind_ok (refused_if (not (bytes_eq path root_path) && not (may_hold_group st.later late (place_of (parent_path path) st.groups))) codes_of.NoParent) (λ _. refused_if (has st.groups path) codes_of.Exists >>= λ _. refused_if (nat_le (most_groups st.version) (length st.groups)) codes_of.TooMany) tt e in
     let b = bind_ok (refused_if (has st.groups path) codes_of.Exists) (λ _. refused_if (nat_le (most_groups st.version) (length st.groups)) codes_of.TooMany) tt a.2 in
     let lt = group_room st late path e in
     let most = (most_within st.version).1 in
     let room : nat_le 256 (length st.groups) ≡ false = not_full (length st.groups) (omega (arith, lt, most)) in
     record {
       is = is;
-      parent = not_refused (not (bytes_eq path root_path) && not (may_hold st.later late (place_of (parent_path path) st.groups))) codes_of.NoParent a.1;
+      parent = not_refused (not (bytes_eq path root_path) && not (may_hold_group st.later late (place_of (parent_path path) st.groups))) codes_of.NoParent a.1;
       new = not_refused (has st.groups path) codes_of.Exists b.1;
       few = room;
     }
@@ -69,7 +68,7 @@ unfolding AreLines
 group_lines t h =
     let g = map group_line t.groups in
     let c = map cache_line t.caches ++ map pool_line t.pools in
-    front_lines g c (sized t) (front_lines (g ++ c) (flat_map worker_lines t.workers ++ (sweep_lines t.sweep ++ end_line ∷ [])) (sized t) h.1.1)
+    front_lines g c (sized t) (front_lines (g ++ c) (flat_map worker_command_lines t.workers ++ (sweep_lines t.sweep ++ end_line ∷ [])) (sized t) h.1.1)
 
 -- each group of a valid script may be declared behind the root and those before it
 pub may_be_added : (t : Content) (i : ℕ) (d : GroupDecl) → IsValid t → i < length t.groups → MayBeAdded (root_path ∷ map path_in (take i t.groups)) (false ∷ map late_in (take i t.groups)) (get_or t.groups i d).later (get_or t.groups i d).path

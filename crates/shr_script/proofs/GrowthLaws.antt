@@ -1,9 +1,8 @@
 -- A script has few lines, since each counts towards a limit.
-use Rattle.shr_script.proofs.Common.{◌≡◌, ℕ, ◌+◌, ◌≤◌, ◌<◌, Bool, true, false, cond, List, [], ◌∷◌, ◌++◌, length, Option, Some, None, Result, Ok, refl, sym, ap, subst, ◌∙◌, arith, nat_le, nat_lt, not, bytes_eq, ◌&&◌, ◌==◌, length_push, root_path, parent_path, Code, ◌>>=◌, Word, Item, word_in, number_in, first, seventh, place_of, bind_ok, Kind, Header, Size, Group, Cache, Pool, Worker, Work, Sweep, End, Phase, Start, Sizes, Groups, Caches, Pools, Workers, Swept, Done, State, start, Line, misplaced, unless, own, after, has, may_hold, refused_if, most_groups, IsLine, IsScript, is_done, Drafted, added, part_step}
-use Rattle.std.proofs.Common.{◌^◌}
+use Rattle.shr_script.proofs.Common.{◌≡◌, ℕ, ◌+◌, ◌≤◌, ◌<◌, Bool, true, false, cond, List, [], ◌∷◌, ◌++◌, length, Option, Some, None, Result, Ok, refl, sym, ap, subst, ◌∙◌, arith, nat_le, nat_lt, not, bytes_eq, ◌&&◌, ◌==◌, length_push, root_path, parent_path, Code, ◌>>=◌, Word, Item, word_said, number_said, first, seventh, place_of, bind_ok, Kind, Header, Size, Group, Cache, Pool, Worker, Work, Sweep, End, Phase, Start, Sizes, Groups, Caches, Pools, Workers, Swept, Done, State, start, Line, misplaced, unless, own, after, has, may_hold_group, refused_if, most_groups, IsLine, IsScript, is_end_read, Drafted, added, part_step, ◌^◌}
 use Rattle.shr_base.specs.declared.scripts.Code.TheVariants as codes_of
 use Rattle.shr_script.specs.Lines.{group_rule, cache_rule, pool_rule}
-use Rattle.shr_script.specs.Script.{state_after, AreLines, verdict}
+use Rattle.shr_script.specs.Script.{state_after_lines, AreLines, verdict}
 use Rattle.shr_script.proofs.LineLaws.{may_stand}
 use Rattle.shr_script.proofs.ScriptLaws.{not_last, next_at}
 use Rattle.shr_script.proofs.RunLaws.{part_is, told}
@@ -52,7 +51,7 @@ most_within version = within (version == 2)
 pub group_room : (st : State) (late : Bool) (path : Word) → group_rule st late path ≡ Ok tt → length st.groups < most_groups st.version
 unfolding group_rule
 group_room st late path e =
-    let a = bind_ok (refused_if (not (bytes_eq path root_path) && not (may_hold st.later late (place_of (parent_path path) st.groups))) codes_of.NoParent) (λ _. refused_if (has st.groups path) codes_of.Exists >>= λ _. refused_if (nat_le (most_groups st.version) (length st.groups)) codes_of.TooMany) tt e in
+    let a = bind_ok (refused_if (not (bytes_eq path root_path) && not (may_hold_group st.later late (place_of (parent_path path) st.groups))) codes_of.NoParent) (λ _. refused_if (has st.groups path) codes_of.Exists >>= λ _. refused_if (nat_le (most_groups st.version) (length st.groups)) codes_of.TooMany) tt e in
     let b = bind_ok (refused_if (has st.groups path) codes_of.Exists) (λ _. refused_if (nat_le (most_groups st.version) (length st.groups)) codes_of.TooMany) tt a.2 in
     above_of (most_groups st.version) (length st.groups) (not_refused (nat_le (most_groups st.version) (length st.groups)) codes_of.TooMany b.2)
 
@@ -106,21 +105,21 @@ grow Start k st xs e o f = absurd cc
 grow Sizes Size st xs e o f = record { few = record { groups = f.groups; caches = f.caches; pools = f.pools; workers = f.workers; commands = f.commands }; more = omega arith }
 grow Sizes k st xs e o f = absurd cc
 grow Groups (Group late) st xs e o f =
-    let lt = group_room (at Groups st) late (word_in (first xs)) o in
+    let lt = group_room (at Groups st) late (word_said (first xs)) o in
     let most = (most_within st.version).1 in
-    let long = length_push st.groups (word_in (first xs)) in
+    let long = length_push st.groups (word_said (first xs)) in
     record { few = record { groups = omega (arith, lt, long, most); caches = f.caches; pools = f.pools; workers = f.workers; commands = f.commands }; more = omega (arith, long) }
-grow Groups Cache st xs e o f = one_cache Groups st (word_in (first xs)) (number_in (seventh xs)) refl o f
-grow Groups Pool st xs e o f = one_pool Groups st (word_in (first xs)) refl o f
+grow Groups Cache st xs e o f = one_cache Groups st (word_said (first xs)) (number_said (seventh xs)) refl o f
+grow Groups Pool st xs e o f = one_pool Groups st (word_said (first xs)) refl o f
 grow Groups Worker st xs e o f = one_worker Groups st refl o f
 grow Groups End st xs e o f = one_phase Groups Done st (omega arith) f
 grow Groups k st xs e o f = absurd cc
-grow Caches Cache st xs e o f = one_cache Caches st (word_in (first xs)) (number_in (seventh xs)) refl o f
-grow Caches Pool st xs e o f = one_pool Caches st (word_in (first xs)) refl o f
+grow Caches Cache st xs e o f = one_cache Caches st (word_said (first xs)) (number_said (seventh xs)) refl o f
+grow Caches Pool st xs e o f = one_pool Caches st (word_said (first xs)) refl o f
 grow Caches Worker st xs e o f = one_worker Caches st refl o f
 grow Caches End st xs e o f = one_phase Caches Done st (omega arith) f
 grow Caches k st xs e o f = absurd cc
-grow Pools Pool st xs e o f = one_pool Pools st (word_in (first xs)) refl o f
+grow Pools Pool st xs e o f = one_pool Pools st (word_said (first xs)) refl o f
 grow Pools Worker st xs e o f = one_worker Pools st refl o f
 grow Pools End st xs e o f = one_phase Pools Done st (omega arith) f
 grow Pools k st xs e o f = absurd cc
@@ -146,8 +145,8 @@ pub record Counted (st after' : State) (n : ℕ) : Type 0 where
   pub count : n + said_lines st ≤ said_lines after'
 
 -- lines that may stand raise the count by their number
-pub count_lines : (ls : List Line) (st : State) → AreLines st ls → Few st → Counted st (state_after st ls) (length ls)
-unfolding state_after AreLines
+pub count_lines : (ls : List Line) (st : State) → AreLines st ls → Few st → Counted st (state_after_lines st ls) (length ls)
+unfolding state_after_lines AreLines
 count_lines [] st h f = record { few = f; count = omega arith }
 count_lines (l ∷ ls) st h f =
     let g = grows st l h.0 f in
@@ -182,7 +181,7 @@ pub short_script : (ls : List Line) → IsScript ls → length ls < 2 ^ 32
 short_script ls h =
     let c = count_lines ls start h.lines few_start in
     let count = c.count in
-    let few = few_lines (state_after start ls) c.few in
+    let few = few_lines (state_after_lines start ls) c.few in
     omega (arith, count, few)
 
 -- ---- a part that is read
@@ -202,10 +201,10 @@ line_told st d part last None x e t f = let z = gone_is true false (st, d) x t i
   where
     true_false : true ≡ false → ⊥
     true_false e = cc
-line_told st d part true (Some l) x e t f = absurd (not_last (is_done st.phase) st part l e)
+line_told st d part true (Some l) x e t f = absurd (not_last (is_end_read st.phase) st part l e)
 line_told st d part false (Some l) x e t f =
     let z = gone_is false false (after st l.0 l.1, added st d l.0 l.1) x t in
-    let n = next_at (is_done st.phase) st part l e in
+    let n = next_at (is_end_read st.phase) st part l e in
     subst (λ (y : State × Drafted). Grown st y.0) z.1 (grows st l n.line f)
 
 -- a part that didn't end the script raises the count of lines by one

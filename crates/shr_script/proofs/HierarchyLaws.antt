@@ -1,11 +1,8 @@
 -- The groups of a valid script are a tree, and the parent of one that isn't later isn't later.
-use Rattle.shr_script.proofs.Common.{◌≡◌, ℕ, zero, suc, ◌<◌, Bool, true, false, List, [], ◌∷◌, ◌++◌, length, map, Option, Some, None, refl, sym, ap, subst, ◌∙◌, append_assoc, arith, bytes_eq, not, ◌&&◌, append-nil, length_push, bytes_eq-Decides, root_path, parent_path, is_later, GroupDecl, Word, N, L, W, place_takes, Header, Size, Group, State, start, after, has, may_hold, Content, group_line, or_root, AreBelow}
-use Rattle.std.specs.Prelude.{◌||◌}
-use Rattle.shr_model.specs.Groups.{Hierarchy, IsHierarchy}
+use Rattle.shr_script.proofs.Common.{◌≡◌, ℕ, zero, suc, ◌<◌, Bool, true, false, List, [], ◌∷◌, ◌++◌, length, map, Option, Some, None, refl, sym, ap, subst, ◌∙◌, append_assoc, arith, bytes_eq, not, ◌&&◌, append-nil, length_push, bytes_eq-Decides, root_path, parent_path, is_later, GroupDecl, Word, N, L, W, place_takes, Header, Size, Group, State, start, after, has, may_hold_group, Content, group_line, or_root, HaveParentsBefore, ◌||◌, Hierarchy, IsHierarchy, content_hierarchy}
 use Rattle.shr_model.proofs.GroupsLaws.{IsHierarchy-push}
 use Rattle.shr_words.specs.Classes.{place_of, passes}
 use Rattle.shr_script.specs.Script.{AreLines}
-use Rattle.shr_script.specs.Bounds.{hierarchy_of}
 use Rattle.shr_script.proofs.GroupLaws.{MayBeAdded, may_by_rule}
 use Rattle.shr_model.proofs.Booleans.{or_true}
 
@@ -32,8 +29,8 @@ may_below : (paths : List Word) (later : List Bool) (late : Bool) (path : Word) 
     → MayBeAdded (root_path ∷ paths) later late path → (late || not (is_later later (or_root o))) ≡ true
 may_below paths later late path None is root may = or_true late (is_later later 0) root
 may_below paths later late path (Some g) is root may =
-    held (bytes_eq path root_path) (may_hold later late (Some g)) (not_root paths path (bytes_eq path root_path) refl may.new)
-    (subst (λ (o : Option ℕ). (not (bytes_eq path root_path) && not (may_hold later late o)) ≡ false) is may.parent)
+    held (bytes_eq path root_path) (may_hold_group later late (Some g)) (not_root paths path (bytes_eq path root_path) refl may.new)
+    (subst (λ (o : Option ℕ). (not (bytes_eq path root_path) && not (may_hold_group later late o)) ≡ false) is may.parent)
 
 below_all : (o : Option ℕ) (n : ℕ) → 0 < n → ((i : ℕ) → o ≡ Some i → i < n) → or_root o < n
 below_all None n some each = some
@@ -53,7 +50,7 @@ one_more h g gs =
 
 -- the groups of these lines, behind those that were said
 hierarchy_from : (gs : List GroupDecl) (st : State) (paths : List Word) (h : Hierarchy) → st.groups ≡ root_path ∷ paths → st.later ≡ h.later → length st.groups ≡ length h.parents → IsHierarchy h
-    → AreBelow st.groups gs → AreLines st (map group_line gs) → IsHierarchy (with_groups h gs)
+    → HaveParentsBefore st.groups gs → AreLines st (map group_line gs) → IsHierarchy (with_groups h gs)
 unfolding AreLines passes
 hierarchy_from [] st paths h root late long is below lines = subst IsHierarchy (sym (no_more h)) is
 hierarchy_from (g ∷ gs) st paths h root late long is below lines =
@@ -90,5 +87,5 @@ abbrev sized : Content → State
 sized t = after (after start Header (N t.version ∷ [])) Size (N t.nodes ∷ N t.ids ∷ [])
 
 -- the groups of lines that may stand behind the size, each below its parent path
-pub hierarchy_is : (t : Content) → AreBelow (root_path ∷ []) t.groups → AreLines (sized t) (map group_line t.groups) → IsHierarchy (hierarchy_of t)
+pub hierarchy_is : (t : Content) → HaveParentsBefore (root_path ∷ []) t.groups → AreLines (sized t) (map group_line t.groups) → IsHierarchy (content_hierarchy t)
 hierarchy_is t below lines = hierarchy_from t.groups (sized t) [] (record { parents = 0 ∷ []; later = false ∷ [] }) refl refl refl root_alone below lines

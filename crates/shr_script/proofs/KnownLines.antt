@@ -5,7 +5,7 @@ use Rattle.shr_model.specs.Pieces.{joined}
 use Rattle.shr_base.specs.declared.objects.Policy.TheVariants.{Plain as PlainPolicy}
 use Rattle.shr_base.specs.declared.scripts.Command.TheVariants as commands
 use Rattle.shr_base.specs.declared.scripts.Code.TheVariants.{UnknownWord, UnknownCache, BadNumber, Exists, TooMany, NoWorker}
-use Rattle.shr_words.specs.Classes.{number_of, is_numeral, chosen_of, listed_of, passes, place_of}
+use Rattle.shr_words.specs.Classes.{number_spelled, is_numeral, chosen_of, listed_of, passes, place_of}
 use Rattle.shr_script.specs.Lines.{kind_at, kind_of, verb_of, pool_rule}
 use Rattle.shr_script.specs.Script.{spell_lines}
 
@@ -148,13 +148,13 @@ undeclared_pool = refl
 
 -- 1 to 20,000 units
 most_units : item_of (Number 1 20001) (codes "20000") ≡ Ok (N 20000)
-unfolding number_of is_numeral
+unfolding number_spelled is_numeral
 most_units = refl
 
 no_units : item_of (Number 1 20001) (codes "0") ≡ Err BadNumber
-unfolding number_of is_numeral
+unfolding number_spelled is_numeral
 no_units = refl
 
 too_many_units : item_of (Number 1 20001) (codes "20001") ≡ Err BadNumber
-unfolding number_of is_numeral
+unfolding number_spelled is_numeral
 too_many_units = refl

@@ -1,7 +1,6 @@
 -- A line that was read is spelled so, and a line that is spelled is read as itself.
-use Rattle.shr_script.proofs.Common.{◌≡◌, ℕ, Bool, true, false, cond, List, [], ◌∷◌, Option, Some, None, Ok, Err, refl, ap, subst, ◌∙◌, bytes_eq, option_map, bytes_eq-Decides, Code, ◌>>=◌, Word, items_of, words_of, bind_ok, ok_is, Kind, Header, Size, Group, Cache, Pool, Worker, Work, Sweep, End, Verb, Put, Get, Del, Pin, Unpin, Shrink, Balance, Offline, MkGroup, Register, Unregister, Isolate, Release, Grab, Phase, State, Line, first_word, misplaced, unless, is_served, allowed, classes, own, IsLine}
+use Rattle.shr_script.proofs.Common.{◌≡◌, ℕ, Bool, true, false, cond, List, [], ◌∷◌, Option, Some, None, Ok, Err, refl, ap, subst, ◌∙◌, bytes_eq, option_map, bytes_eq-Decides, Code, ◌>>=◌, Word, items_said, words_of, bind_ok, ok_is, Kind, Header, Size, Group, Cache, Pool, Worker, Work, Sweep, End, Verb, Put, Get, Del, Pin, Unpin, Shrink, Balance, Offline, MkGroup, Register, Unregister, Isolate, Release, Grab, Phase, State, Line, first_word, misplaced, unless, is_served, allowed, classes, own, IsLine, items_take, items_again, IsClean}
 use Rattle.shr_words.specs.Classes.{taken}
-use Rattle.shr_words.proofs.ClassLaws.{items_take, items_again, IsClean}
 use Rattle.shr_script.specs.Lines.{verb_word, kind_of, verb_of, unknown, kind_at, plain_line}
 
 -- ---- first words
@@ -167,8 +166,8 @@ pub line_takes : (st : State) (ws : List Word) (l : Line) → plain_line st ws �
 unfolding plain_line taken kind_at
 line_takes st [] l e = absurd cc
 line_takes st (w ∷ ws) l e =
-    let a = bind_ok (allowed st.version st.phase (kind_of w)) (λ k. items_of (classes st k) ws >>= λ xs. own st k xs >>= λ _. Ok (k, xs)) l e in
-    let b = bind_ok (items_of (classes st a.0) ws) (λ xs. own st a.0 xs >>= λ _. Ok (a.0, xs)) l a.2 in
+    let a = bind_ok (allowed st.version st.phase (kind_of w)) (λ k. items_said (classes st k) ws >>= λ xs. own st k xs >>= λ _. Ok (k, xs)) l e in
+    let b = bind_ok (items_said (classes st a.0) ws) (λ xs. own st a.0 xs >>= λ _. Ok (a.0, xs)) l a.2 in
     let c = bind_ok (own st a.0 b.0) (λ _. Ok (a.0, b.0)) l b.2 in
     let named = allowed_is st.version st.phase (kind_of w) a.0 a.1 in
     let first = kind_takes w a.0 named in

@@ -1,12 +1,8 @@
 -- The lines of what lines make are these lines, and what a script's lines make is the script.
-use Rattle.shr_script.proofs.Common.{◌≡◌, ℕ, ◌+◌, Bool, true, List, [], ◌∷◌, ◌++◌, map, Option, None, Ok, refl, sym, ap, subst, ◌∙◌, append_assoc, flat_map, ◌==◌, append-nil, root_path, parent_path, GroupDecl, CacheDecl, PoolDecl, Command, Word, Number, Plain, Chosen, NameTest, PoolKinds, Item, N, W, IsOf, number_in, word_in, first, seventh, policy_place, policy_at, flag_place, place_of, Kind, Header, Size, Group, Cache, Pool, Worker, Work, Sweep, End, Verb, Put, Get, Del, Pin, Unpin, Shrink, Balance, Offline, MkGroup, Register, Unregister, Isolate, Release, Grab, Phase, Start, Sizes, Groups, Caches, Pools, Workers, Swept, Done, State, start, Line, misplaced, unless, classes, verb_classes, group_class, node_class, after, IsLine, is_done, IsScript, Content, group_line, cache_line, pool_line, command_line, worker_lines, sweep_lines, end_line, declarations, lines_of, or_root, AreBelow, Drafted, empty, content_by, cache_decl, pool_decl, with_command, command_by, added}
-use Rattle.std.proofs.lemmas.List.{map_push}
+use Rattle.shr_script.proofs.Common.{◌≡◌, ℕ, ◌+◌, Bool, true, List, [], ◌∷◌, ◌++◌, map, Option, None, Ok, refl, sym, ap, subst, ◌∙◌, append_assoc, flat_map, ◌==◌, append-nil, root_path, parent_path, GroupDecl, CacheDecl, PoolDecl, Command, Word, Number, Plain, Chosen, NameTest, PoolKinds, Item, N, W, IsOfClass, number_said, word_said, first, seventh, policy_place, policy_at, flag_place, place_of, Kind, Header, Size, Group, Cache, Pool, Worker, Work, Sweep, End, Verb, Put, Get, Del, Pin, Unpin, Shrink, Balance, Offline, MkGroup, Register, Unregister, Isolate, Release, Grab, Phase, Start, Sizes, Groups, Caches, Pools, Workers, Swept, Done, State, start, Line, misplaced, unless, classes, verb_classes, group_class, node_class, after, IsLine, is_end_read, IsScript, Content, group_line, cache_line, pool_line, command_line, worker_command_lines, sweep_lines, end_line, declarations, lines_of, or_root, HaveParentsBefore, Drafted, empty, content_by, cache_decl, pool_decl, with_command, command_by, added, map_push, Class, Policies, Kinds, Starts, Walks, AreOf, second, third, fourth, fifth, sixth, behind_first, shape_is, chosen_below, flag_is, policy_is, header_line, size_line, worker_line, sweep_line}
 use Rattle.std.proofs.lemmas.List.Concat.{flat_map-append}
 use Rattle.shr_base.specs.declared.scripts.Sweep.{Sweep as SweepSaid}
-use Rattle.shr_words.specs.Classes.{Class, Policies, Kinds, Starts, Walks, AreOf, second, third, fourth, fifth, sixth, behind_first}
-use Rattle.shr_words.proofs.ClassLaws.{shape_is, chosen_below, flag_is, policy_is}
-use Rattle.shr_script.specs.Script.{state_after, AreLines}
-use Rattle.shr_script.specs.Content.{header_line, size_line, worker_line, sweep_line}
+use Rattle.shr_script.specs.Script.{state_after_lines, AreLines}
 use Rattle.shr_script.proofs.LineLaws.{may_stand}
 use Rattle.shr_script.specs.Drafted.{group_decl, sweep_by, made_by}
 
@@ -15,14 +11,14 @@ use Rattle.shr_script.specs.Drafted.{group_decl, sweep_by, made_by}
 abbrev of_kind : Kind → List Item → Line
 of_kind k xs = (k, xs)
 
-parts : (c : Class) (cs : List Class) (xs : List Item) → AreOf (c ∷ cs) xs → IsOf c (first xs) × AreOf cs (behind_first xs)
+parts : (c : Class) (cs : List Class) (xs : List Item) → AreOf (c ∷ cs) xs → IsOfClass c (first xs) × AreOf cs (behind_first xs)
 parts c cs [] h = absurd h
 parts c cs (x ∷ xs) h = h
 
-header_is : (st : State) (xs : List Item) → AreOf (classes st Header) xs → header_line (number_in (first xs)) ≡ (Header, xs)
+header_is : (st : State) (xs : List Item) → AreOf (classes st Header) xs → header_line (number_said (first xs)) ≡ (Header, xs)
 header_is st xs h = ap (of_kind Header) (shape_is (classes st Header) xs h)
 
-size_is : (st : State) (xs : List Item) → AreOf (classes st Size) xs → size_line (number_in (first xs)) (number_in (second xs)) ≡ (Size, xs)
+size_is : (st : State) (xs : List Item) → AreOf (classes st Size) xs → size_line (number_said (first xs)) (number_said (second xs)) ≡ (Size, xs)
 size_is st xs h = ap (of_kind Size) (shape_is (classes st Size) xs h)
 
 group_is : (st : State) (late : Bool) (xs : List Item) → AreOf (classes st (Group late)) xs → group_line (group_decl st late xs) ≡ (Group late, xs)
@@ -41,11 +37,11 @@ cache_is st xs h =
     let e = parts (Number 0 20001) (Chosen Kinds ∷ Chosen Starts ∷ []) (behind_first (behind_first (behind_first (behind_first xs)))) d.1 in
     let f = parts (Chosen Kinds) (Chosen Starts ∷ []) (behind_first (behind_first (behind_first (behind_first (behind_first xs))))) e.1 in
     let g = parts (Chosen Starts) [] (behind_first (behind_first (behind_first (behind_first (behind_first (behind_first xs)))))) f.1 in
-    let p = number_in (second xs) in
-    let k = number_in (sixth xs) in
-    let o = number_in (seventh xs) in
+    let p = number_said (second xs) in
+    let k = number_said (sixth xs) in
+    let o = number_said (seventh xs) in
     ap (of_kind Cache)
-    (cache_items (word_in (first xs)) (policy_place (policy_at p)) p (number_in (third xs)) (number_in (fourth xs)) (number_in (fifth xs)) (flag_place (k == 1)) k (flag_place (o == 1)) o
+    (cache_items (word_said (first xs)) (policy_place (policy_at p)) p (number_said (third xs)) (number_said (fourth xs)) (number_said (fifth xs)) (flag_place (k == 1)) k (flag_place (o == 1)) o
     (policy_is p (chosen_below Policies (second xs) b.0)) (flag_is k (chosen_below Kinds (sixth xs) f.0)) (flag_is o (chosen_below Starts (seventh xs) g.0))
     ∙ shape_is (classes st Cache) xs h)
 
@@ -57,7 +53,7 @@ pool_is st xs h =
     let d = parts (Number 0 20001) (Chosen PoolKinds ∷ []) (behind_first (behind_first (behind_first xs))) c.1 in
     let e = parts (Chosen PoolKinds) [] (behind_first (behind_first (behind_first (behind_first xs)))) d.1 in
     ap (of_kind Pool)
-    (ap (λ (i : ℕ). W (word_in (first xs)) ∷ N (number_in (second xs)) ∷ N (number_in (third xs)) ∷ N (number_in (fourth xs)) ∷ N i ∷ []) (flag_is (number_in (fifth xs)) (chosen_below PoolKinds (fifth xs) e.0))
+    (ap (λ (i : ℕ). W (word_said (first xs)) ∷ N (number_said (second xs)) ∷ N (number_said (third xs)) ∷ N (number_said (fourth xs)) ∷ N i ∷ []) (flag_is (number_said (fifth xs)) (chosen_below PoolKinds (fifth xs) e.0))
     ∙ shape_is (classes st Pool) xs h)
 
 sweep_is : (st : State) (xs : List Item) → AreOf (classes st Sweep) xs → sweep_line (sweep_by xs) ≡ (Sweep, xs)
@@ -65,7 +61,7 @@ sweep_is st xs h =
     let a = parts (Number 0 13) (Chosen Walks ∷ []) xs h in
     let b = parts (Chosen Walks) [] (behind_first xs) a.1 in
     ap (of_kind Sweep)
-    (ap (λ (i : ℕ). N (number_in (first xs)) ∷ N i ∷ []) (flag_is (number_in (second xs)) (chosen_below Walks (second xs) b.0)) ∙ shape_is (classes st Sweep) xs h)
+    (ap (λ (i : ℕ). N (number_said (first xs)) ∷ N i ∷ []) (flag_is (number_said (second xs)) (chosen_below Walks (second xs) b.0)) ∙ shape_is (classes st Sweep) xs h)
 
 worker_is : (st : State) (xs : List Item) → AreOf (classes st Worker) xs → worker_line ≡ (Worker, xs)
 worker_is st xs h = ap (of_kind Worker) (shape_is (classes st Worker) xs h)
@@ -79,18 +75,18 @@ shrink_is st xs h =
     let b = parts (node_class st) (Number 0 13 ∷ Chosen Walks ∷ []) (behind_first xs) a.1 in
     let c = parts (Number 0 13) (Chosen Walks ∷ []) (behind_first (behind_first xs)) b.1 in
     let d = parts (Chosen Walks) [] (behind_first (behind_first (behind_first xs))) c.1 in
-    let k = number_in (fourth xs) in
+    let k = number_said (fourth xs) in
     ap (of_kind (Work Shrink))
-    (ap (λ (i : ℕ). N (number_in (first xs)) ∷ N (number_in (second xs)) ∷ N (number_in (third xs)) ∷ N i ∷ []) (flag_is k (chosen_below Walks (fourth xs) d.0)) ∙ shape_is (verb_classes st Shrink) xs h)
+    (ap (λ (i : ℕ). N (number_said (first xs)) ∷ N (number_said (second xs)) ∷ N (number_said (third xs)) ∷ N i ∷ []) (flag_is k (chosen_below Walks (fourth xs) d.0)) ∙ shape_is (verb_classes st Shrink) xs h)
 
 balance_is : (st : State) (xs : List Item) → AreOf (verb_classes st Balance) xs → command_line (command_by Balance xs) ≡ (Work Balance, xs)
 balance_is st xs h =
     let a = parts (node_class st) (Number 0 13 ∷ Chosen Walks ∷ []) xs h in
     let b = parts (Number 0 13) (Chosen Walks ∷ []) (behind_first xs) a.1 in
     let c = parts (Chosen Walks) [] (behind_first (behind_first xs)) b.1 in
-    let k = number_in (third xs) in
+    let k = number_said (third xs) in
     ap (of_kind (Work Balance))
-    (ap (λ (i : ℕ). N (number_in (first xs)) ∷ N (number_in (second xs)) ∷ N i ∷ []) (flag_is k (chosen_below Walks (third xs) c.0)) ∙ shape_is (verb_classes st Balance) xs h)
+    (ap (λ (i : ℕ). N (number_said (first xs)) ∷ N (number_said (second xs)) ∷ N i ∷ []) (flag_is k (chosen_below Walks (third xs) c.0)) ∙ shape_is (verb_classes st Balance) xs h)
 
 command_is : (st : State) (verb : Verb) (xs : List Item) → AreOf (verb_classes st verb) xs → command_line (command_by verb xs) ≡ (Work verb, xs)
 command_is st Put xs h = ap (of_kind (Work Put)) (shape_is (verb_classes st Put) xs h)
@@ -121,9 +117,9 @@ lines_up Sizes st d = header_line st.version ∷ []
 lines_up Groups st d = declared_lines st d
 lines_up Caches st d = declared_lines st d
 lines_up Pools st d = declared_lines st d
-lines_up Workers st d = declared_lines st d ++ (flat_map worker_lines d.complete ++ worker_lines d.commands)
-lines_up Swept st d = declared_lines st d ++ (flat_map worker_lines d.complete ++ sweep_lines d.sweep)
-lines_up Done st d = declared_lines st d ++ (flat_map worker_lines d.complete ++ (sweep_lines d.sweep ++ end_line ∷ []))
+lines_up Workers st d = declared_lines st d ++ (flat_map worker_command_lines d.complete ++ worker_command_lines d.commands)
+lines_up Swept st d = declared_lines st d ++ (flat_map worker_command_lines d.complete ++ sweep_lines d.sweep)
+lines_up Done st d = declared_lines st d ++ (flat_map worker_command_lines d.complete ++ (sweep_lines d.sweep ++ end_line ∷ []))
 
 -- no worker is complete yet, and there is no sweep
 pub record HasNoWork (d : Drafted) : Type 0 where
@@ -145,14 +141,14 @@ Blank Done d = Unit {0}
 pub record Fits (st : State) (d : Drafted) : Type 0 where
   pub blank : Blank st.phase d
   pub paths : st.groups ≡ root_path ∷ map (λ g. g.path) d.groups
-  pub below : AreBelow (root_path ∷ []) d.groups
+  pub below : HaveParentsBefore (root_path ∷ []) d.groups
 
 -- a line more
 pub record Grows (st : State) (d : Drafted) (k : Kind) (xs : List Item) : Type 0 where
   pub fits : Fits (after st k xs) (added st d k xs)
   pub lines : lines_up (after st k xs).phase (after st k xs) (added st d k xs) ≡ lines_up st.phase st d ++ (k, xs) ∷ []
 
-AreBelow-push : (paths : List Word) (gs : List GroupDecl) (g : GroupDecl) → AreBelow paths gs → g.parent ≡ or_root (place_of (parent_path g.path) (paths ++ map (λ h. h.path) gs)) → AreBelow paths (gs ++ g ∷ [])
+AreBelow-push : (paths : List Word) (gs : List GroupDecl) (g : GroupDecl) → HaveParentsBefore paths gs → g.parent ≡ or_root (place_of (parent_path g.path) (paths ++ map (λ h. h.path) gs)) → HaveParentsBefore paths (gs ++ g ∷ [])
 AreBelow-push paths [] g h e = (e ∙ ap (λ (ps : List Word). or_root (place_of (parent_path g.path) ps)) (append-nil paths), tt)
 AreBelow-push paths (x ∷ gs) g h e =
     (h.0, AreBelow-push (paths ++ x.path ∷ []) gs g h.1 (e ∙ ap (λ (ps : List Word). or_root (place_of (parent_path g.path) ps)) (sym (append_assoc paths (x.path ∷ []) (map (λ y. y.path) gs)))))
@@ -161,14 +157,14 @@ ends_with : (D F M : List Line) (w l : Line) → D ++ ((F ++ ((w ∷ M) ++ [])) 
 ends_with D F M w l = simp (append-nil, append_assoc)
 
 workers_end : (D : List Line) (complete : List (List Command)) (cs : List Command) (l m : Line) → l ≡ m
-    → D ++ (flat_map worker_lines (complete ++ cs ∷ []) ++ l ∷ []) ≡ (D ++ (flat_map worker_lines complete ++ worker_lines cs)) ++ m ∷ []
-workers_end D complete cs l m e = rw (flat_map-append worker_lines complete (cs ∷ []), e) (ends_with D (flat_map worker_lines complete) (map command_line cs) worker_line m)
+    → D ++ (flat_map worker_command_lines (complete ++ cs ∷ []) ++ l ∷ []) ≡ (D ++ (flat_map worker_command_lines complete ++ worker_command_lines cs)) ++ m ∷ []
+workers_end D complete cs l m e = rw (flat_map-append worker_command_lines complete (cs ∷ []), e) (ends_with D (flat_map worker_command_lines complete) (map command_line cs) worker_line m)
 
 more_commands : (D : List Line) (complete : List (List Command)) (cs : List Command) (c : Command) (m : Line) → command_line c ≡ m
-    → D ++ (flat_map worker_lines complete ++ worker_lines (cs ++ c ∷ [])) ≡ (D ++ (flat_map worker_lines complete ++ worker_lines cs)) ++ m ∷ []
+    → D ++ (flat_map worker_command_lines complete ++ worker_command_lines (cs ++ c ∷ [])) ≡ (D ++ (flat_map worker_command_lines complete ++ worker_command_lines cs)) ++ m ∷ []
 more_commands D complete cs c m e = rw (map_push command_line cs c, e) (simp append_assoc)
 
-first_end : (D : List Line) (complete : List (List Command)) (l m : Line) → complete ≡ [] → l ≡ m → D ++ (flat_map worker_lines complete ++ l ∷ []) ≡ D ++ m ∷ []
+first_end : (D : List Line) (complete : List (List Command)) (l m : Line) → complete ≡ [] → l ≡ m → D ++ (flat_map worker_command_lines complete ++ l ∷ []) ≡ D ++ m ∷ []
 first_end D complete l m none e = rw (none, e) refl
 
 -- the end line where there is no sweep
@@ -220,7 +216,7 @@ IsBare d = (d.pools ≡ []) × HasNoWork d
 -- the groups that were drafted are those that were said
 record HasGroups (groups : List Word) (d : Drafted) : Type 0 where
   paths : groups ≡ root_path ∷ map (λ g. g.path) d.groups
-  below : AreBelow (root_path ∷ []) d.groups
+  below : HaveParentsBefore (root_path ∷ []) d.groups
 
 one_cache : (p : Phase) (st : State) (d : Drafted) (xs : List Item) → AreOf (classes (at p st) Cache) xs → IsBare d → HasGroups st.groups d
     → Fits (after (at p st) Cache xs) (added (at p st) d Cache xs) × (declared_lines st (added (at p st) d Cache xs) ≡ declared_lines st d ++ (Cache, xs) ∷ [])
@@ -243,7 +239,7 @@ no_worker : (p : Phase) (st : State) (d : Drafted) (xs : List Item) → AreOf (c
     → Fits (after (at p st) End xs) (record d { commands = [] }) × (lines_up Done st (record d { commands = [] }) ≡ declared_lines st d ++ (End, xs) ∷ [])
 no_worker p st d xs a none g = (
   record { blank = tt; paths = g.paths; below = g.below },
-  ap (λ (ls : List Line). declared_lines st d ++ (flat_map worker_lines d.complete ++ ls)) (end_alone d.sweep (End, xs) none.sweep (end_is (at p st) xs a))
+  ap (λ (ls : List Line). declared_lines st d ++ (flat_map worker_command_lines d.complete ++ ls)) (end_alone d.sweep (End, xs) none.sweep (end_is (at p st) xs a))
       ∙ first_end (declared_lines st d) d.complete (End, xs) (End, xs) none.complete refl,
 )
 
@@ -257,7 +253,7 @@ grow Start k st d xs e a f = absurd cc
 grow Sizes Size st d xs e a f =
     record {
       fits = record { blank = (f.blank.1, f.blank.2, f.blank.3); paths = f.paths; below = f.below };
-      lines = no_declarations st.version (number_in (first xs)) (number_in (second xs)) d.groups d.caches d.pools (Size, xs) f.blank.0 f.blank.1 f.blank.2 (size_is (at Sizes st) xs a);
+      lines = no_declarations st.version (number_said (first xs)) (number_said (second xs)) d.groups d.caches d.pools (Size, xs) f.blank.0 f.blank.1 f.blank.2 (size_is (at Sizes st) xs a);
     }
 grow Sizes k st d xs e a f = absurd cc
 grow Groups (Group late) st d xs e a f =
@@ -298,7 +294,7 @@ grow Workers Sweep st d xs e a f =
 grow Workers End st d xs e a f =
     record {
       fits = record { blank = tt; paths = f.paths; below = f.below };
-      lines = ap (λ (ls : List Line). declared_lines st d ++ (flat_map worker_lines (d.complete ++ d.commands ∷ []) ++ ls)) (end_alone d.sweep (End, xs) f.blank (end_is (at Workers st) xs a))
+      lines = ap (λ (ls : List Line). declared_lines st d ++ (flat_map worker_command_lines (d.complete ++ d.commands ∷ []) ++ ls)) (end_alone d.sweep (End, xs) f.blank (end_is (at Workers st) xs a))
           ∙ workers_end (declared_lines st d) d.complete d.commands (End, xs) (End, xs) refl;
     }
 grow Workers (Work verb) st d xs e a f =
@@ -307,7 +303,7 @@ grow Workers k st d xs e a f = absurd cc
 grow Swept End st d xs e a f =
     record {
       fits = record { blank = tt; paths = f.paths; below = f.below };
-      lines = swept_end (declared_lines st d) (flat_map worker_lines d.complete) (sweep_lines d.sweep) end_line (End, xs) (end_is (at Swept st) xs a);
+      lines = swept_end (declared_lines st d) (flat_map worker_command_lines d.complete) (sweep_lines d.sweep) end_line (End, xs) (end_is (at Swept st) xs a);
     }
 grow Swept k st d xs e a f = absurd cc
 grow Done k st d xs e a f = absurd cc
@@ -320,12 +316,12 @@ grows st d l h f = grow st.phase l.0 st d l.1 (may_stand st.version st.phase l.0
 
 -- what lines made of a draft is spelled by the lines before and these
 pub record Made (st : State) (d : Drafted) (ls : List Line) : Type 0 where
-  pub fits : Fits (state_after st ls) (made_by st d ls)
-  pub lines : lines_up (state_after st ls).phase (state_after st ls) (made_by st d ls) ≡ lines_up st.phase st d ++ ls
+  pub fits : Fits (state_after_lines st ls) (made_by st d ls)
+  pub lines : lines_up (state_after_lines st ls).phase (state_after_lines st ls) (made_by st d ls) ≡ lines_up st.phase st d ++ ls
 
 -- lines that may stand make a draft that they spell
 pub made_lines : (ls : List Line) (st : State) (d : Drafted) → AreLines st ls → Fits st d → Made st d ls
-unfolding state_after made_by AreLines
+unfolding state_after_lines made_by AreLines
 made_lines [] st d h f = record { fits = f; lines = sym (append-nil (lines_up st.phase st d)) }
 made_lines (l ∷ ls) st d h f =
     let g = grows st d l h.0 f in
@@ -335,7 +331,7 @@ made_lines (l ∷ ls) st d h f =
 empty_fits : Fits start empty
 empty_fits = record { blank = (refl, refl, refl, record { complete = refl; sweep = refl }); paths = refl; below = tt }
 
-is_done_only : (p : Phase) → is_done p ≡ true → p ≡ Done
+is_done_only : (p : Phase) → is_end_read p ≡ true → p ≡ Done
 is_done_only Start e = absurd cc
 is_done_only Sizes e = absurd cc
 is_done_only Groups e = absurd cc
@@ -347,15 +343,15 @@ is_done_only Done e = refl
 
 -- the script that lines make
 abbrev pub content_made : List Line → Content
-content_made ls = content_by (state_after start ls) (made_by start empty ls)
+content_made ls = content_by (state_after_lines start ls) (made_by start empty ls)
 
 -- and its lines are these lines
 pub lines_of-made : (ls : List Line) → IsScript ls → lines_of (content_made ls) ≡ ls
 lines_of-made ls h =
     let m = made_lines ls start empty h.lines empty_fits in
-    let st = state_after start ls in
+    let st = state_after_lines start ls in
     ap (λ (p : Phase). lines_up p st (made_by start empty ls)) (sym (is_done_only st.phase h.ended)) ∙ m.lines
 
 -- in the script that lines make each group is below that of its parent path
-pub parents-made : (ls : List Line) → IsScript ls → AreBelow (root_path ∷ []) (content_made ls).groups
+pub parents-made : (ls : List Line) → IsScript ls → HaveParentsBefore (root_path ∷ []) (content_made ls).groups
 parents-made ls h = (made_lines ls start empty h.lines empty_fits).fits.below

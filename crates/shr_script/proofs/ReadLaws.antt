@@ -1,15 +1,11 @@
 -- What a run says of the bytes.
-use Rattle.shr_script.proofs.Common.{◌≡◌, Bool, ℕ, List, Some, Result, Ok, Err, sym, ap, subst, ◌∙◌, ◌⊎◌, inl, inr, refl, Code, pieces, next_of, Word, state_of, State, Line, start, IsScript, IsFault, Fault, lines_read, ◌>>>◌, state_after, is_last, Content, lines_of, Drafted, drafted, empty, content_by, part_step, run_from, run_of}
+use Rattle.shr_script.proofs.Common.{◌≡◌, Bool, ℕ, List, Some, Result, Ok, Err, sym, ap, subst, ◌∙◌, ◌⊎◌, inl, inr, refl, Code, pieces, next_part, Word, said_state, State, Line, start, IsScript, IsFault, Fault, lines_read, ◌>>>◌, state_after_lines, is_last, Content, lines_of, Drafted, drafted, empty, content_by, part_step, run_from, run_of, spell_lines, IsSpelling, made_by, Ends, error_at, Runs, ReadsScript, IsCause, TellsFault}
 use Rattle.shr_script.specs.declared.stopped.Stopped.{Stopped}
 use Rattle.shr_script.specs.declared.stopped.Stopped.TheVariants as stops
 use Rattle.shr_script.specs.declared.draft.Draft.{Draft}
 use Rattle.shr_script.specs.declared.said.Said.{Said}
 use Rattle.shr_script.specs.declared.read.ReadError.{ReadError}
 use Rattle.shr_script.specs.declared.read.ReadError.TheVariants as errors
-use Rattle.shr_script.specs.Script.{spell_lines}
-use Rattle.shr_script.specs.Content.{IsSpelling}
-use Rattle.shr_script.specs.Drafted.{made_by, Ends}
-use Rattle.shr_script.specs.Read.{error_at, Runs, Reads, IsCause, TellsFault}
 use Rattle.shr_script.proofs.RunLaws.{run_is, made, run_fails}
 use Rattle.shr_script.proofs.ScriptLaws.{bind_line, script_takes, script_again, fault_takes, fault_again}
 use Rattle.shr_script.proofs.MadeLaws.{content_made, lines_of-made, parents-made}
@@ -40,26 +36,26 @@ made_spells bytes ls h e =
     }
 
 -- bytes whose run ended well spell the script that it drafted
-pub is_read : (bytes : List ℕ) (said : Said) (draft : Draft) → run_of bytes ≡ Ok (state_of said, drafted draft) → IsSpelling bytes (content_by (state_of said) (drafted draft))
+pub is_read : (bytes : List ℕ) (said : Said) (draft : Draft) → run_of bytes ≡ Ok (said_state said, drafted draft) → IsSpelling bytes (content_by (said_state said) (drafted draft))
 is_read bytes said draft e =
-    let a = bind_line (lines_read bytes) (made start empty) (state_of said, drafted draft) (sym (run_lines bytes) ∙ e) in
+    let a = bind_line (lines_read bytes) (made start empty) (said_state said, drafted draft) (sym (run_lines bytes) ∙ e) in
     let t = script_takes bytes a.0 a.1 in
-    let m = good_is (state_after start a.0, made_by start empty a.0) (state_of said, drafted draft) a.2 in
+    let m = good_is (state_after_lines start a.0, made_by start empty a.0) (said_state said, drafted draft) a.2 in
     subst (IsSpelling bytes) (ap (λ (x : State × Drafted). content_by x.0 x.1) m) (made_spells bytes a.0 t.1 t.0)
 
 -- what a spelling gives
-spelled_runs : (bytes : List ℕ) (t : Content) → IsSpelling bytes t → run_of bytes ≡ Ok (state_after start (lines_of t), made_by start empty (lines_of t))
+spelled_runs : (bytes : List ℕ) (t : Content) → IsSpelling bytes t → run_of bytes ≡ Ok (state_after_lines start (lines_of t), made_by start empty (lines_of t))
 spelled_runs bytes t h = run_lines bytes ∙ ap (λ (r : Result (List Line) Fault). r >>> made start empty) (ap lines_read h.spelled ∙ script_again (lines_of t) h.valid.lines)
 
 -- such bytes spell no other script
-pub only_read : (bytes : List ℕ) (said : Said) (draft : Draft) → run_of bytes ≡ Ok (state_of said, drafted draft) → (t : Content) → IsSpelling bytes t → content_by (state_of said) (drafted draft) ≡ t
+pub only_read : (bytes : List ℕ) (said : Said) (draft : Draft) → run_of bytes ≡ Ok (said_state said, drafted draft) → (t : Content) → IsSpelling bytes t → content_by (said_state said) (drafted draft) ≡ t
 only_read bytes said draft e t h =
-    let m = good_is (state_of said, drafted draft) (state_after start (lines_of t), made_by start empty (lines_of t)) (sym e ∙ spelled_runs bytes t h) in
+    let m = good_is (said_state said, drafted draft) (state_after_lines start (lines_of t), made_by start empty (lines_of t)) (sym e ∙ spelled_runs bytes t h) in
     ap (λ (x : State × Drafted). content_by x.0 x.1) m ∙ content_made-lines_of t h.valid
 
 -- bytes whose run failed for a fault spell no script
-pub only_failed : (bytes : List ℕ) (e : ReadError) → Runs (Err e) (run_of bytes) → (t : Content) → IsSpelling bytes t → Reads (Err e) t
-only_failed bytes (errors.Fault line code) r t h = let both : good (state_after start (lines_of t), made_by start empty (lines_of t)) ≡ bad (line, code) = sym (spelled_runs bytes t h) ∙ r in cc
+pub only_failed : (bytes : List ℕ) (e : ReadError) → Runs (Err e) (run_of bytes) → (t : Content) → IsSpelling bytes t → ReadsScript (Err e) t
+only_failed bytes (errors.Fault line code) r t h = let both : good (state_after_lines start (lines_of t), made_by start empty (lines_of t)) ≡ bad (line, code) = sym (spelled_runs bytes t h) ∙ r in cc
 only_failed bytes errors.Memory r t h = tt
 
 failed_lines : (r : Result (List Line) Fault) (f : Fault) → (r >>> made start empty) ≡ bad f → r ≡ Err f
@@ -75,8 +71,8 @@ fault_runs : (bytes : List ℕ) (line : ℕ) (code : Code) → IsFault bytes lin
 fault_runs bytes line code h = run_lines bytes ∙ ap (λ (r : Result (List Line) Fault). r >>> made start empty) (fault_again bytes line code h)
 
 -- bytes whose run ended well have no fault
-pub told_read : (bytes : List ℕ) (said : Said) (draft : Draft) → run_of bytes ≡ Ok (state_of said, drafted draft) → (line : ℕ) (code : Code) → IsFault bytes line code → ⊥
-told_read bytes said draft e line code h = let both : good (state_of said, drafted draft) ≡ bad (line, code) = sym e ∙ fault_runs bytes line code h in cc
+pub told_read : (bytes : List ℕ) (said : Said) (draft : Draft) → run_of bytes ≡ Ok (said_state said, drafted draft) → (line : ℕ) (code : Code) → IsFault bytes line code → ⊥
+told_read bytes said draft e line code h = let both : good (said_state said, drafted draft) ≡ bad (line, code) = sym e ∙ fault_runs bytes line code h in cc
 
 -- a run that failed for a fault tells the one that the bytes have
 pub told_failed : (bytes : List ℕ) (e : ReadError) → Runs (Err e) (run_of bytes) → (line : ℕ) (code : Code) → IsFault bytes line code → TellsFault (Err e) (line, code)
@@ -84,7 +80,7 @@ told_failed bytes (errors.Fault l c) r line code h = bad_is (l, c) (line, code) 
 told_failed bytes errors.Memory r line code h = tt
 
 -- a part that stops the reading stops the run at its line
-pub run_stops : (st : State) (d : Drafted) (n : ℕ) (parts : List Word) (p : Word) (ps : List Word) (last : Bool) (x : State × Drafted) (e : Stopped) (total : Result (State × Drafted) Fault) → Some (p, ps) ≡ next_of parts → last ≡ is_last ps
+pub run_stops : (st : State) (d : Drafted) (n : ℕ) (parts : List Word) (p : Word) (ps : List Word) (last : Bool) (x : State × Drafted) (e : Stopped) (total : Result (State × Drafted) Fault) → Some (p, ps) ≡ next_part parts → last ≡ is_last ps
     → Ends x (Err e) (part_step st d p last) → run_from st d n parts ≡ total → Runs (Err (error_at n e)) total
 run_stops st d n parts p ps last x (stops.Bad code) total e is h so_far = run_fails st d n parts p ps last code total e is h so_far
 run_stops st d n parts p ps last x stops.Memory total e is h so_far = tt

@@ -1,14 +1,13 @@
 -- What each part of a valid script's lines has said.
-use Rattle.shr_script.proofs.Common.{◌≡◌, ℕ, suc, ◌+◌, Bool, true, false, List, [], ◌∷◌, ◌++◌, length, map, refl, sym, ap, subst, ◌∙◌, append_assoc, arith, flat_map, sum_by, append-nil, sum_by-cons, GroupDecl, CacheDecl, PoolDecl, Command, Word, Item, N, L, W, policy_place, flag_place, Header, Size, Group, Cache, Pool, Worker, State, start, Line, after, IsLine, Content, group_line, cache_line, pool_line, command_line, worker_lines, sweep_lines, end_line, lines_of, later_of}
-use Rattle.std.proofs.lemmas.List.{length-map}
+use Rattle.shr_script.proofs.Common.{◌≡◌, ℕ, suc, ◌+◌, Bool, true, false, List, [], ◌∷◌, ◌++◌, length, map, refl, sym, ap, subst, ◌∙◌, append_assoc, arith, flat_map, sum_by, append-nil, sum_by-cons, GroupDecl, CacheDecl, PoolDecl, Command, Word, Item, N, L, W, policy_place, flag_place, Header, Size, Group, Cache, Pool, Worker, State, start, Line, after, IsLine, Content, group_line, cache_line, pool_line, command_line, worker_command_lines, sweep_lines, end_line, lines_of, content_later, length-map}
 use Rattle.shr_base.specs.declared.scripts.Command.TheVariants as commands
-use Rattle.shr_script.specs.Script.{state_after, AreLines}
+use Rattle.shr_script.specs.Script.{state_after_lines, AreLines}
 use Rattle.shr_script.proofs.ContentLaws.{state_after-append}
 
 -- ---- lines in two parts
 
-pub cut_lines : (ls ms : List Line) (st : State) → AreLines st (ls ++ ms) → AreLines st ls × AreLines (state_after st ls) ms
-unfolding state_after AreLines
+pub cut_lines : (ls ms : List Line) (st : State) → AreLines st (ls ++ ms) → AreLines st ls × AreLines (state_after_lines st ls) ms
+unfolding state_after_lines AreLines
 cut_lines [] ms st h = (tt, h)
 cut_lines (l ∷ ls) ms st h = let rest = cut_lines ls ms (after st l.0 l.1) h.1 in ((h.0, rest.0), rest.1)
 
@@ -26,8 +25,8 @@ on_in c = c.on
 abbrev pub late_in : GroupDecl → Bool
 late_in g = g.later
 
-pub groups_said : (gs : List GroupDecl) (st : State) → state_after st (map group_line gs) ≡ record st { groups = st.groups ++ map path_in gs; later = st.later ++ map late_in gs }
-unfolding state_after
+pub groups_said : (gs : List GroupDecl) (st : State) → state_after_lines st (map group_line gs) ≡ record st { groups = st.groups ++ map path_in gs; later = st.later ++ map late_in gs }
+unfolding state_after_lines
 groups_said [] st = ap (λ (ws : List Word). record st { groups = ws; later = st.later }) (sym (append-nil st.groups)) ∙ ap (λ (bs : List Bool). record st { groups = st.groups ++ []; later = bs }) (sym (append-nil st.later))
 groups_said (g ∷ gs) st =
     let later = (st.later ++ g.later ∷ []) ++ map late_in gs in
@@ -38,12 +37,12 @@ groups_said (g ∷ gs) st =
 abbrev pub cache_items : CacheDecl → List Item
 cache_items c = W c.name ∷ N (policy_place c.policy) ∷ N c.seeks ∷ N c.batch ∷ N c.floor ∷ N (flag_place c.fs) ∷ N (flag_place c.on) ∷ []
 
-pub caches_said : (cs : List CacheDecl) (st : State) → state_after st (map cache_line cs) ≡ record st { phase = (state_after st (map cache_line cs)).phase; caches = st.caches ++ map name_in cs; on = (state_after st (map cache_line cs)).on }
-unfolding state_after
+pub caches_said : (cs : List CacheDecl) (st : State) → state_after_lines st (map cache_line cs) ≡ record st { phase = (state_after_lines st (map cache_line cs)).phase; caches = st.caches ++ map name_in cs; on = (state_after_lines st (map cache_line cs)).on }
+unfolding state_after_lines
 caches_said [] st = ap (λ (ws : List Word). record st { caches = ws }) (sym (append-nil st.caches))
 caches_said (c ∷ cs) st =
     let next = after st Cache (cache_items c) in
-    let end = state_after next (map cache_line cs) in
+    let end = state_after_lines next (map cache_line cs) in
     caches_said cs next
     ∙ ap (λ (ws : List Word). record st { phase = end.phase; caches = ws; on = end.on }) (append_assoc st.caches (c.name ∷ []) (map name_in cs))
 
@@ -53,12 +52,12 @@ pool_name_in p = p.name
 abbrev pub pool_items : PoolDecl → List Item
 pool_items p = W p.name ∷ N p.seeks ∷ N p.batch ∷ N p.floor ∷ N (flag_place p.flat) ∷ []
 
-pools_said : (ps : List PoolDecl) (st : State) → state_after st (map pool_line ps) ≡ record st { phase = (state_after st (map pool_line ps)).phase; pools = st.pools ++ map pool_name_in ps }
-unfolding state_after
+pools_said : (ps : List PoolDecl) (st : State) → state_after_lines st (map pool_line ps) ≡ record st { phase = (state_after_lines st (map pool_line ps)).phase; pools = st.pools ++ map pool_name_in ps }
+unfolding state_after_lines
 pools_said [] st = ap (λ (ws : List Word). record st { pools = ws }) (sym (append-nil st.pools))
 pools_said (p ∷ ps) st =
     let next = after st Pool (pool_items p) in
-    let end = state_after next (map pool_line ps) in
+    let end = state_after_lines next (map pool_line ps) in
     pools_said ps next
     ∙ ap (λ (ws : List Word). record st { phase = end.phase; pools = ws }) (append_assoc st.pools (p.name ∷ []) (map pool_name_in ps))
 
@@ -78,8 +77,8 @@ command_said (commands.Isolate group node decl budget) st = refl
 command_said (commands.Release node pool units) st = refl
 command_said (commands.Grab node pool) st = refl
 
-pub commands_said : (cs : List Command) (st : State) → state_after st (map command_line cs) ≡ record st { commands = st.commands + length cs }
-unfolding state_after
+pub commands_said : (cs : List Command) (st : State) → state_after_lines st (map command_line cs) ≡ record st { commands = st.commands + length cs }
+unfolding state_after_lines
 commands_said [] st = let z : st.commands ≡ st.commands + 0 = omega arith in ap (λ (n : ℕ). record st { commands = n }) z
 commands_said (c ∷ cs) st =
     let n : (st.commands + 1) + length cs ≡ st.commands + suc (length cs) = omega arith in
@@ -92,14 +91,14 @@ pub record Worked (st end : State) (ws : List (List Command)) : Type 0 where
   pub workers : end.workers ≡ st.workers + length ws
   pub commands : end.commands ≡ st.commands + sum_by length ws
 
-pub workers_said : (ws : List (List Command)) (st : State) → Worked st (state_after st (flat_map worker_lines ws)) ws
-unfolding state_after
+pub workers_said : (ws : List (List Command)) (st : State) → Worked st (state_after_lines st (flat_map worker_command_lines ws)) ws
+unfolding state_after_lines
 workers_said [] st = record { version = refl; workers = omega arith; commands = omega arith }
 workers_said (w ∷ ws) st =
     let s = after st Worker [] in
     let m = map command_line w in
-    let f = flat_map worker_lines ws in
-    let behind = workers_said ws (state_after s m) in
+    let f = flat_map worker_command_lines ws in
+    let behind = workers_said ws (state_after_lines s m) in
     let said = commands_said w s in
     let cut = state_after-append m f s in
     let workers = ap (λ (x : State). x.workers) cut ∙ behind.workers in
@@ -116,7 +115,7 @@ pub record Declared (t : Content) (st : State) : Type 0 where
   pub version : st.version ≡ t.version
   pub nodes : st.nodes ≡ t.nodes
   pub groups : length st.groups ≡ 1 + length t.groups
-  pub later : st.later ≡ later_of t
+  pub later : st.later ≡ content_later t
   pub caches : length st.caches ≡ length t.caches
   pub pools : length st.pools ≡ length t.pools
 
@@ -134,22 +133,22 @@ grouped t = record (sized t) { groups = (sized t).groups ++ map path_in t.groups
 
 -- behind the caches
 abbrev pub cached : Content → State
-cached t = state_after (grouped t) (map cache_line t.caches)
+cached t = state_after_lines (grouped t) (map cache_line t.caches)
 
 -- behind all declarations
 abbrev pub declared_state : Content → State
-declared_state t = state_after (sized t) (map group_line t.groups ++ (map cache_line t.caches ++ map pool_line t.pools))
+declared_state t = state_after_lines (sized t) (map group_line t.groups ++ (map cache_line t.caches ++ map pool_line t.pools))
 
-pub declared_in_turn : (t : Content) → declared_state t ≡ state_after (cached t) (map pool_line t.pools)
+pub declared_in_turn : (t : Content) → declared_state t ≡ state_after_lines (cached t) (map pool_line t.pools)
 declared_in_turn t =
     let g = map group_line t.groups in
     let c = map cache_line t.caches in
     let p = map pool_line t.pools in
-    state_after-append g (c ++ p) (sized t) ∙ ap (λ (s : State). state_after s (c ++ p)) (groups_said t.groups (sized t)) ∙ state_after-append c p (grouped t)
+    state_after-append g (c ++ p) (sized t) ∙ ap (λ (s : State). state_after_lines s (c ++ p)) (groups_said t.groups (sized t)) ∙ state_after-append c p (grouped t)
 
 pub begun : (t : Content) → IsBegun t (declared_state t)
 begun t =
-    let last = state_after (cached t) (map pool_line t.pools) in
+    let last = state_after_lines (cached t) (map pool_line t.pools) in
     let same : declared_state t ≡ record (grouped t) { phase = last.phase; caches = [] ++ map name_in t.caches; on = (cached t).on; pools = [] ++ map pool_name_in t.pools } =
     declared_in_turn t ∙ pools_said t.pools (cached t) ∙ ap (λ (s : State). record s { phase = last.phase; pools = s.pools ++ map pool_name_in t.pools }) (caches_said t.caches (grouped t)) in
     record {
@@ -172,8 +171,8 @@ pub record Parts (t : Content) : Type 0 where
   pub groups : AreLines (sized t) (map group_line t.groups)
   pub caches : AreLines (grouped t) (map cache_line t.caches)
   pub pools : AreLines (cached t) (map pool_line t.pools)
-  pub workers : AreLines (declared_state t) (flat_map worker_lines t.workers)
-  pub sweep : AreLines (state_after (declared_state t) (flat_map worker_lines t.workers)) (sweep_lines t.sweep)
+  pub workers : AreLines (declared_state t) (flat_map worker_command_lines t.workers)
+  pub sweep : AreLines (state_after_lines (declared_state t) (flat_map worker_command_lines t.workers)) (sweep_lines t.sweep)
 
 pub parts_of : (t : Content) → AreLines start (lines_of t) → Parts t
 unfolding AreLines
@@ -181,13 +180,13 @@ parts_of t h =
     let g = map group_line t.groups in
     let c = map cache_line t.caches in
     let p = map pool_line t.pools in
-    let f = flat_map worker_lines t.workers in
+    let f = flat_map worker_command_lines t.workers in
     let z = sweep_lines t.sweep in
     let whole = cut_lines (g ++ (c ++ p)) (f ++ (z ++ end_line ∷ [])) (sized t) h.1.1 in
     let declared = cut_lines g (c ++ p) (sized t) whole.0 in
     let behind_groups = cut_lines c p (grouped t) (subst (λ (s : State). AreLines s (c ++ p)) (groups_said t.groups (sized t)) declared.1) in
     let worked = cut_lines f (z ++ end_line ∷ []) (declared_state t) whole.1 in
-    let swept = cut_lines z (end_line ∷ []) (state_after (declared_state t) f) worked.1 in
+    let swept = cut_lines z (end_line ∷ []) (state_after_lines (declared_state t) f) worked.1 in
     record {
       header = h.0;
       size = h.1.0;

@@ -1,14 +1,10 @@
 -- Scripts that are read are spelled so, scripts that are spelled are read, and a fault is that of
 -- the first bad line.
-use Rattle.shr_script.proofs.Common.{◌≡◌, ℕ, suc, ◌+◌, Bool, true, false, cond, List, [], ◌∷◌, ◌++◌, length, Option, Some, None, Result, Ok, Err, refl, sym, ap, subst, ◌∙◌, append_assoc, arith, inl, inr, ◌⊎◌, bytes_eq, append-nil, bytes_eq-Decides, Code, Word, words_of, and_true, bind_ok, ok_is, Kind, Phase, Start, Sizes, Groups, Caches, Pools, Workers, Swept, Done, State, start, Line, first_word, misplaced, unless, allowed, classes, after, as_header, IsLine, is_done, IsScript, part_verdict, is_last, IsFault, Fault, ◌>>>◌, at_line, behind, lines_read}
-use Rattle.std.proofs.Common.{zero-add}
-use Rattle.std.specs.List.{list_all}
+use Rattle.shr_script.proofs.Common.{◌≡◌, ℕ, suc, ◌+◌, Bool, true, false, cond, List, [], ◌∷◌, ◌++◌, length, Option, Some, None, Result, Ok, Err, refl, sym, ap, subst, ◌∙◌, append_assoc, arith, inl, inr, ◌⊎◌, bytes_eq, append-nil, bytes_eq-Decides, Code, Word, words_of, and_true, bind_ok, ok_is, Kind, Phase, Start, Sizes, Groups, Caches, Pools, Workers, Swept, Done, State, start, Line, first_word, misplaced, unless, allowed, classes, after, as_header, IsLine, is_end_read, IsScript, part_verdict, is_last, IsFault, Fault, ◌>>>◌, at_line, behind, lines_read, zero-add, list_all, cut_first, joined_cut, pieces_parts, pieces_joined, words_clean, line_parts, no_feed}
 use Rattle.shr_base.specs.declared.scripts.Code.TheVariants as codes_of
 use Rattle.shr_model.specs.Pieces.{cut, pieces, joined, is_part_of}
-use Rattle.shr_model.proofs.PiecesLaws.{cut_first, joined_cut, pieces_parts, pieces_joined}
-use Rattle.shr_words.proofs.ClassLaws.{words_clean, line_parts, no_feed}
 use Rattle.shr_script.specs.Lines.{plain_line, line_of}
-use Rattle.shr_script.specs.Script.{line_text, spell_lines, state_after, AreLines, verdict, IsFaultFrom, lines_from}
+use Rattle.shr_script.specs.Script.{line_text, spell_lines, state_after_lines, AreLines, verdict, IsFaultFrom, lines_from}
 use Rattle.shr_script.proofs.LineLaws.{first_clean, may_stand, line_takes, line_again}
 
 -- ---- one line
@@ -44,10 +40,10 @@ part_takes st part l e =
     let o : (cut 32 part).others ≡ words_of (classes st l.0) l.1 = cc in
     (sym (joined_cut 32 part) ∙ rw (f, o) refl, t.1)
 
-not_done : (version : ℕ) (p : Phase) (k : Kind) → allowed version p (Some k) ≡ Ok k → is_done p ≡ false
+not_done : (version : ℕ) (p : Phase) (k : Kind) → allowed version p (Some k) ≡ Ok k → is_end_read p ≡ false
 not_done version p k e = by p (may_stand version p k k e)
   where
-    by : (q : Phase) → unless (misplaced q k) k ≡ Ok k → is_done q ≡ false
+    by : (q : Phase) → unless (misplaced q k) k ≡ Ok k → is_end_read q ≡ false
     by Start e = refl
     by Sizes e = refl
     by Groups e = refl
@@ -91,8 +87,8 @@ front_none (Err e) = refl
 
 -- the spelling of good lines is read as these, whatever follows
 pub lines_again : (st : State) (n : ℕ) (ls : List Line) (rest : List ℕ) → AreLines st ls
-    → lines_from st n (pieces 10 (spell_lines st ls ++ rest)) ≡ with_front ls (lines_from (state_after st ls) (length ls + n) (pieces 10 rest))
-unfolding lines_from spell_lines state_after AreLines
+    → lines_from st n (pieces 10 (spell_lines st ls ++ rest)) ≡ with_front ls (lines_from (state_after_lines st ls) (length ls + n) (pieces 10 rest))
+unfolding lines_from spell_lines state_after_lines AreLines
 lines_again st n [] rest h = let z : 0 + n ≡ n = omega arith in rw z (sym (front_none (lines_from st n (pieces 10 rest))))
 lines_again st n (l ∷ ls) rest h =
     let next = after st l.0 l.1 in
@@ -100,11 +96,11 @@ lines_again st n (l ∷ ls) rest h =
     let grouped : spell_lines st (l ∷ ls) ++ rest ≡ line_text st l ++ (10 ∷ more) = append_assoc (line_text st l) (10 ∷ spell_lines next ls) rest in
     let k : suc (length ls) + n ≡ length ls + (n + 1) = omega arith in
     ap (λ (bytes : List ℕ). lines_from st n (pieces 10 bytes)) grouped
-    ∙ rw (text_parts st l more h.0, last_of more, verdict_again st l h.0, lines_again next (n + 1) ls rest h.1, k) (regroup l ls (lines_from (state_after next ls) (length ls + (n + 1)) (pieces 10 rest)))
+    ∙ rw (text_parts st l more h.0, last_of more, verdict_again st l h.0, lines_again next (n + 1) ls rest h.1, k) (regroup l ls (lines_from (state_after_lines next ls) (length ls + (n + 1)) (pieces 10 rest)))
 
 -- ---- the two laws of scripts
 
-done_at : (st : State) (n : ℕ) → is_done st.phase ≡ true → lines_from st n (pieces 10 []) ≡ Ok []
+done_at : (st : State) (n : ℕ) → is_end_read st.phase ≡ true → lines_from st n (pieces 10 []) ≡ Ok []
 unfolding lines_from verdict pieces cut
 done_at st n h = rw h refl
 
@@ -116,7 +112,7 @@ pub script_again : (ls : List Line) → IsScript ls → lines_read (spell_lines 
 script_again ls h =
     ap (λ (bytes : List ℕ). lines_read bytes) (sym (append-nil (spell_lines start ls)))
     ∙ lines_again start 1 ls [] h.lines
-    ∙ ap (with_front ls) (done_at (state_after start ls) (length ls + 1) h.ended)
+    ∙ ap (with_front ls) (done_at (state_after_lines start ls) (length ls + 1) h.ended)
     ∙ front_all ls
 
 -- a fault of bytes is what reading them gives
@@ -188,22 +184,22 @@ next_at false st part l e =
 pub record TakesLines (st : State) (bytes : List ℕ) (ls : List Line) : Type 0 where
   pub spelled : bytes ≡ spell_lines st ls
   pub lines : AreLines st ls
-  pub ended : is_done (state_after st ls).phase ≡ true
+  pub ended : is_end_read (state_after_lines st ls).phase ≡ true
 
 takes_end : (st : State) (n : ℕ) (part : Word) (ls : List Line) (v : Option Line) → verdict st part true ≡ Ok v → behind v (λ l. lines_from (after st l.0 l.1) (n + 1) []) ≡ Ok ls → TakesLines st part ls
-unfolding verdict spell_lines state_after AreLines
+unfolding verdict spell_lines state_after_lines AreLines
 takes_end st n part ls None e f =
-    let a = ended_at (is_done st.phase) st part e in
+    let a = ended_at (is_end_read st.phase) st part e in
     subst (λ (ms : List Line). TakesLines st part ms) (good_is [] ls f) (record { spelled = a.1; lines = tt; ended = a.0 })
-takes_end st n part ls (Some l) e f = absurd (not_last (is_done st.phase) st part l e)
+takes_end st n part ls (Some l) e f = absurd (not_last (is_end_read st.phase) st part l e)
 
 takes_line : (st : State) (n : ℕ) (part q : Word) (qs : List Word) (ls : List Line) (v : Option Line) → verdict st part false ≡ Ok v → behind v (λ l. lines_from (after st l.0 l.1) (n + 1) (q ∷ qs)) ≡ Ok ls
     → ((l : Line) (ms : List Line) → lines_from (after st l.0 l.1) (n + 1) (q ∷ qs) ≡ Ok ms → TakesLines (after st l.0 l.1) (joined 10 q qs) ms) → TakesLines st (part ++ (10 ∷ joined 10 q qs)) ls
-unfolding verdict spell_lines state_after AreLines
-takes_line st n part q qs ls None e f more = absurd (not_ended (is_done st.phase) st part e)
+unfolding verdict spell_lines state_after_lines AreLines
+takes_line st n part q qs ls None e f more = absurd (not_ended (is_end_read st.phase) st part e)
 takes_line st n part q qs ls (Some l) e f more =
     let a = bind_line (lines_from (after st l.0 l.1) (n + 1) (q ∷ qs)) (λ ms. Ok (l ∷ ms)) ls f in
-    let first = next_at (is_done st.phase) st part l e in
+    let first = next_at (is_end_read st.phase) st part l e in
     let others = more l a.0 a.1 in
     subst (λ (ms : List Line). TakesLines st (part ++ (10 ∷ joined 10 q qs)) ms) (good_is (l ∷ a.0) ls a.2)
     (record { spelled = rw (← first.text, ← others.spelled) refl; lines = (first.line, others.lines); ended = others.ended })
@@ -249,7 +245,7 @@ fault_by st n part ps line code (Err c) is e =
     inl (is ∙ ap (λ (f : ℕ × Code). err f.1) p, sym (ap (λ (f : ℕ × Code). f.0) p))
 
 here : (st : State) (n : ℕ) (part : Word) (parts : List Word) (line : ℕ) (code : Code) → list_all (is_part_of 10) (part ∷ parts) ≡ true → verdict st part (is_last parts) ≡ Err code → line ≡ n → IsFaultFrom st n (joined 10 part parts) line code
-unfolding spell_lines state_after AreLines
+unfolding spell_lines state_after_lines AreLines
 here st n part parts line code clean bad is =
     record { good = []; part = part; others = parts; are_good = tt; bytes_are = refl; parted = pieces_joined 10 part parts clean; line_is = is ∙ sym (zero-add n); bad = bad }
 
@@ -257,7 +253,7 @@ counted : (m n : ℕ) → m + (n + 1) ≡ suc m + n
 counted m n = omega arith
 
 later : (st : State) (n : ℕ) (part q : Word) (qs : List Word) (line : ℕ) (code : Code) (l : Line) → IsNext st part l → IsFaultFrom (after st l.0 l.1) (n + 1) (joined 10 q qs) line code → IsFaultFrom st n (part ++ (10 ∷ joined 10 q qs)) line code
-unfolding spell_lines state_after AreLines
+unfolding spell_lines state_after_lines AreLines
 later st n part q qs line code l next f =
     let rest = joined 10 f.part f.others in
     let spelled = spell_lines (after st l.0 l.1) f.good in
@@ -271,14 +267,14 @@ unfolding lines_from verdict joined
 faults_take st n part [] line code clean e =
     elim (fault_by st n part [] line code (verdict st part true) refl e) [
       | inl h ↦ here st n part [] line code clean h.0 h.1
-      | inr h ↦ absurd (not_last (is_done st.phase) st part h.0 h.1)
+      | inr h ↦ absurd (not_last (is_end_read st.phase) st part h.0 h.1)
     ]
 faults_take st n part (q ∷ qs) line code clean e =
     elim (fault_by st n part (q ∷ qs) line code (verdict st part false) refl e) [
       | inl h ↦ here st n part (q ∷ qs) line code clean h.0 h.1
       | inr h ↦
           let a = and_true (is_part_of 10 part) (list_all (is_part_of 10) (q ∷ qs)) clean in
-          later st n part q qs line code h.0 (next_at (is_done st.phase) st part h.0 h.1) (faults_take (after st h.0.0 h.0.1) (n + 1) q qs line code a.1 h.2)
+          later st n part q qs line code h.0 (next_at (is_end_read st.phase) st part h.0 h.1) (faults_take (after st h.0.0 h.0.1) (n + 1) q qs line code a.1 h.2)
     ]
 
 -- bytes whose reading failed have the fault that it tells

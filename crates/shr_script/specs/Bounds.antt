@@ -17,16 +17,16 @@ use Rattle.shr_script.specs.Content.{Content, IsValid}
 -- ---- the groups of a script
 
 -- the parent of each group, the root first, which is its own
-abbrev pub parents_of : Content → List ℕ
-parents_of t = 0 ∷ map (λ g. g.parent) t.groups
+abbrev pub content_parents : Content → List ℕ
+content_parents t = 0 ∷ map (λ g. g.parent) t.groups
 
 -- which groups are later, the root first, which isn't
-abbrev pub later_of : Content → List Bool
-later_of t = false ∷ map (λ g. g.later) t.groups
+abbrev pub content_later : Content → List Bool
+content_later t = false ∷ map (λ g. g.later) t.groups
 
 -- the parents of the groups, and which of them are later
-abbrev pub hierarchy_of : Content → Hierarchy
-hierarchy_of t = record { parents = parents_of t; later = later_of t }
+abbrev pub content_hierarchy : Content → Hierarchy
+content_hierarchy t = record { parents = content_parents t; later = content_later t }
 
 -- ---- the commands of a valid script
 
@@ -84,7 +84,7 @@ IsCommandWithin t (commands.SetPin group node decl key pinned) = IsObjectWithin 
 IsCommandWithin t (commands.Shrink group node priority nofs) = IsGroup t group × IsWalkWithin t node priority
 IsCommandWithin t (commands.Balance node priority nofs) = IsWalkWithin t node priority
 IsCommandWithin t (commands.Offline group) = IsGroup t group
-IsCommandWithin t (commands.MkGroup group) = IsGroup t group × (is_later (later_of t) group ≡ true)
+IsCommandWithin t (commands.MkGroup group) = IsGroup t group × (is_later (content_later t) group ≡ true)
 IsCommandWithin t (commands.Register decl) = IsCache t decl
 IsCommandWithin t (commands.Unregister decl) = IsCache t decl
 IsCommandWithin t (commands.Isolate group node decl budget) = IfServed serves_isolation (IsIsolationWithin t group node decl budget)
@@ -137,8 +137,8 @@ pub record IsWithin (t : Content) : Type 0 where
   -- if their lines aren't taken, as in version 1, there are none
   pub no_pools : is_served t.version kinds.Pool ≡ false → t.pools ≡ []
   pub no_sweep : is_served t.version kinds.Sweep ≡ false → t.sweep ≡ None
-  pub tree : IsTree (parents_of t)
-  pub hierarchy : IsHierarchy (hierarchy_of t)
+  pub tree : IsTree (content_parents t)
+  pub hierarchy : IsHierarchy (content_hierarchy t)
   pub each : AllByRecursion (AllByRecursion (IsCommandWithin t)) t.workers
 
 -- each valid script is within its bounds

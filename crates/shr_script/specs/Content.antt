@@ -84,8 +84,8 @@ command_line (commands.Release node pool units) = (kinds.Work Release, N node �
 command_line (commands.Grab node pool) = (kinds.Work Grab, N node ∷ N pool ∷ [])
 
 -- a worker's line, and those of its commands
-abbrev pub worker_lines : List Command → List Line
-worker_lines cs = worker_line ∷ map command_line cs
+abbrev pub worker_command_lines : List Command → List Line
+worker_command_lines cs = worker_line ∷ map command_line cs
 
 -- the line of a sweep
 abbrev pub sweep_line : Sweep → Line
@@ -107,7 +107,7 @@ declarations version nodes ids groups caches pools = header_line version ∷ siz
 -- the header, the size, the groups, the caches, the pools, the workers with their commands, the
 -- sweep, and the end
 abbrev pub lines_of : Content → List Line
-lines_of t = declarations t.version t.nodes t.ids t.groups t.caches t.pools ++ (flat_map worker_lines t.workers ++ (sweep_lines t.sweep ++ end_line ∷ []))
+lines_of t = declarations t.version t.nodes t.ids t.groups t.caches t.pools ++ (flat_map worker_command_lines t.workers ++ (sweep_lines t.sweep ++ end_line ∷ []))
 
 -- ---- the spelling
 
@@ -121,14 +121,14 @@ or_root None = 0
 or_root (Some g) = g
 
 -- Each group's parent is the group of its parent path, which stands among the groups before.
-abbrev pub AreBelow : List Word → List GroupDecl → Type 0
-AreBelow paths [] = Unit {0}
-AreBelow paths (g ∷ gs) = (g.parent ≡ or_root (place_of (parent_path g.path) paths)) × AreBelow (paths ++ g.path ∷ []) gs
+abbrev pub HaveParentsBefore : List Word → List GroupDecl → Type 0
+HaveParentsBefore paths [] = Unit {0}
+HaveParentsBefore paths (g ∷ gs) = (g.parent ≡ or_root (place_of (parent_path g.path) paths)) × HaveParentsBefore (paths ++ g.path ∷ []) gs
 
 -- each line may stand where it stands, and the parents are those that the paths name
 pub record IsValid (t : Content) : Type 0 where
   pub lines : IsScript (lines_of t)
-  pub parents : AreBelow (root_path ∷ []) t.groups
+  pub parents : HaveParentsBefore (root_path ∷ []) t.groups
 
 -- these bytes spell the script, which is valid
 pub record IsSpelling (bytes : List ℕ) (t : Content) : Type 0 where

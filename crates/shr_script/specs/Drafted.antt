@@ -10,7 +10,7 @@ use Rattle.shr_base.specs.declared.scripts.PoolDecl.{PoolDecl}
 use Rattle.shr_base.specs.declared.scripts.Sweep.{Sweep}
 use Rattle.shr_base.specs.declared.scripts.Command.{Command}
 use Rattle.shr_base.specs.declared.scripts.Command.TheVariants as commands
-use Rattle.shr_words.specs.Classes.{◌>>=◌, Word, Item, number_in, word_in, limit_in, first, second, third, fourth, fifth, sixth, seventh, policy_at, taken, items_of, place_of}
+use Rattle.shr_words.specs.Classes.{◌>>=◌, Word, Item, number_said, word_said, limit_said, first, second, third, fourth, fifth, sixth, seventh, policy_at, taken, items_said, place_of}
 use Rattle.shr_script.specs.declared.kind.Kind.{Kind}
 use Rattle.shr_script.specs.declared.kind.Kind.TheVariants.{Header, Size, Group, Cache, Pool, Worker, Work, End}
 use Rattle.shr_script.specs.declared.kind.Kind.TheVariants as kinds
@@ -22,7 +22,7 @@ use Rattle.shr_script.specs.declared.draft.Draft.{Draft}
 use Rattle.shr_script.specs.declared.stopped.Stopped.{Stopped}
 use Rattle.shr_script.specs.declared.stopped.Stopped.TheVariants as stops
 use Rattle.shr_script.specs.Lines.{State, Line, classes, verb_classes, refused_if, own, after, kind_at}
-use Rattle.shr_script.specs.Script.{is_done, is_last, Fault, at_line, ◌>>>◌}
+use Rattle.shr_script.specs.Script.{is_end_read, is_last, Fault, at_line, ◌>>>◌}
 use Rattle.shr_script.specs.Content.{Content, or_root}
 
 -- the declarations, the commands of the workers that are complete, those of the last worker, and the
@@ -56,27 +56,27 @@ content_by st d = record { version = st.version; nodes = st.nodes; ids = st.ids;
 
 -- the group that a line's items declare, below the group of its parent path
 abbrev pub group_decl : State → Bool → List Item → GroupDecl
-group_decl st late xs = record { path = word_in (first xs); parent = or_root (place_of (parent_path (word_in (first xs))) st.groups); limit = limit_in (second xs); later = late }
+group_decl st late xs = record { path = word_said (first xs); parent = or_root (place_of (parent_path (word_said (first xs))) st.groups); limit = limit_said (second xs); later = late }
 
 -- the cache that a line's items declare
 abbrev pub cache_decl : List Item → CacheDecl
 cache_decl xs = record {
-  name = word_in (first xs);
-  policy = policy_at (number_in (second xs));
-  seeks = number_in (third xs);
-  batch = number_in (fourth xs);
-  floor = number_in (fifth xs);
-  fs = number_in (sixth xs) == 1;
-  on = number_in (seventh xs) == 1;
+  name = word_said (first xs);
+  policy = policy_at (number_said (second xs));
+  seeks = number_said (third xs);
+  batch = number_said (fourth xs);
+  floor = number_said (fifth xs);
+  fs = number_said (sixth xs) == 1;
+  on = number_said (seventh xs) == 1;
 }
 
 -- the pool that a line's items declare
 abbrev pub pool_decl : List Item → PoolDecl
-pool_decl xs = record { name = word_in (first xs); seeks = number_in (second xs); batch = number_in (third xs); floor = number_in (fourth xs); flat = number_in (fifth xs) == 1 }
+pool_decl xs = record { name = word_said (first xs); seeks = number_said (second xs); batch = number_said (third xs); floor = number_said (fourth xs); flat = number_said (fifth xs) == 1 }
 
 -- the sweep that a line's items say
 abbrev pub sweep_by : List Item → Sweep
-sweep_by xs = record { priority = number_in (first xs); nofs = number_in (second xs) == 1 }
+sweep_by xs = record { priority = number_said (first xs); nofs = number_said (second xs) == 1 }
 
 -- behind a worker line the last worker's commands begin anew, and they are complete where there was
 -- a worker
@@ -90,20 +90,20 @@ with_command d c = record d { commands = d.commands ++ c ∷ [] }
 
 -- the command that a line's items say
 abbrev pub command_by : Verb → List Item → Command
-command_by Put xs = commands.Put (number_in (first xs)) (number_in (second xs)) (number_in (third xs)) (word_in (fourth xs)) (word_in (fifth xs))
-command_by Get xs = commands.Get (number_in (first xs)) (number_in (second xs)) (number_in (third xs)) (word_in (fourth xs))
-command_by Del xs = commands.Del (number_in (first xs)) (number_in (second xs)) (number_in (third xs)) (word_in (fourth xs))
-command_by Pin xs = commands.SetPin (number_in (first xs)) (number_in (second xs)) (number_in (third xs)) (word_in (fourth xs)) true
-command_by Unpin xs = commands.SetPin (number_in (first xs)) (number_in (second xs)) (number_in (third xs)) (word_in (fourth xs)) false
-command_by Shrink xs = commands.Shrink (number_in (first xs)) (number_in (second xs)) (number_in (third xs)) (number_in (fourth xs) == 1)
-command_by Balance xs = commands.Balance (number_in (first xs)) (number_in (second xs)) (number_in (third xs) == 1)
-command_by Offline xs = commands.Offline (number_in (first xs))
-command_by MkGroup xs = commands.MkGroup (number_in (first xs))
-command_by Register xs = commands.Register (number_in (first xs))
-command_by Unregister xs = commands.Unregister (number_in (first xs))
-command_by Isolate xs = commands.Isolate (number_in (first xs)) (number_in (second xs)) (number_in (third xs)) (number_in (fourth xs))
-command_by Release xs = commands.Release (number_in (first xs)) (number_in (second xs)) (number_in (third xs))
-command_by Grab xs = commands.Grab (number_in (first xs)) (number_in (second xs))
+command_by Put xs = commands.Put (number_said (first xs)) (number_said (second xs)) (number_said (third xs)) (word_said (fourth xs)) (word_said (fifth xs))
+command_by Get xs = commands.Get (number_said (first xs)) (number_said (second xs)) (number_said (third xs)) (word_said (fourth xs))
+command_by Del xs = commands.Del (number_said (first xs)) (number_said (second xs)) (number_said (third xs)) (word_said (fourth xs))
+command_by Pin xs = commands.SetPin (number_said (first xs)) (number_said (second xs)) (number_said (third xs)) (word_said (fourth xs)) true
+command_by Unpin xs = commands.SetPin (number_said (first xs)) (number_said (second xs)) (number_said (third xs)) (word_said (fourth xs)) false
+command_by Shrink xs = commands.Shrink (number_said (first xs)) (number_said (second xs)) (number_said (third xs)) (number_said (fourth xs) == 1)
+command_by Balance xs = commands.Balance (number_said (first xs)) (number_said (second xs)) (number_said (third xs) == 1)
+command_by Offline xs = commands.Offline (number_said (first xs))
+command_by MkGroup xs = commands.MkGroup (number_said (first xs))
+command_by Register xs = commands.Register (number_said (first xs))
+command_by Unregister xs = commands.Unregister (number_said (first xs))
+command_by Isolate xs = commands.Isolate (number_said (first xs)) (number_said (second xs)) (number_said (third xs)) (number_said (fourth xs))
+command_by Release xs = commands.Release (number_said (first xs)) (number_said (second xs)) (number_said (third xs))
+command_by Grab xs = commands.Grab (number_said (first xs)) (number_said (second xs))
 
 -- what a line adds
 abbrev pub added : State → Drafted → Kind → List Item → Drafted
@@ -139,7 +139,7 @@ is_of_pool verb = false
 
 -- the command that a line's words say
 unfoldable pub command_said : State → Verb → List Word → Result Command Code
-command_said st verb ws = items_of (verb_classes st verb) ws >>= λ xs. Ok (command_by verb xs)
+command_said st verb ws = items_said (verb_classes st verb) ws >>= λ xs. Ok (command_by verb xs)
 
 -- what was said and drafted, once this command was taken
 abbrev pub one_more : State → Drafted → Command → State × Drafted
@@ -156,7 +156,7 @@ command_step st d verb ws = command_said st verb ws >>= λ c. command_kept st d 
 -- a line behind its first word: what was said and drafted, with it
 unfoldable pub kind_step : State → Drafted → Kind → List Word → Result (State × Drafted) Code
 kind_step st d (Work verb) ws = command_step st d verb ws
-kind_step st d k ws = items_of (classes st k) ws >>= λ xs. own st k xs >>= λ _. Ok (after st k xs, added st d k xs)
+kind_step st d k ws = items_said (classes st k) ws >>= λ xs. own st k xs >>= λ _. Ok (after st k xs, added st d k xs)
 
 -- a line, and the first is BadHeader whatever it lacks
 unfoldable pub plain_step : State → Drafted → List Word → Result (State × Drafted) Code
@@ -168,18 +168,18 @@ headed Start (Err e) = Err codes_of.BadHeader
 headed p r = r
 
 -- a whole line: what was said and drafted with it, or its code
-unfoldable pub step : State → Drafted → List Word → Result (State × Drafted) Code
-step st d ws = headed st.phase (plain_step st d ws)
+unfoldable pub line_step : State → Drafted → List Word → Result (State × Drafted) Code
+line_step st d ws = headed st.phase (plain_step st d ws)
 
 -- A part between line feeds: whether the script is complete, and what was said and drafted. The
 -- last part has no line feed.
 abbrev pub part_by : Bool → State → Drafted → Word → Bool → Result (Bool × (State × Drafted)) Code
 part_by true st d part last = if last && bytes_eq part [] then Ok (true, (st, d)) else Err codes_of.Trailing
-part_by false st d part last = if last then Err codes_of.NoEnd else (step st d (pieces 32 part) >>= λ x. Ok (false, x))
+part_by false st d part last = if last then Err codes_of.NoEnd else (line_step st d (pieces 32 part) >>= λ x. Ok (false, x))
 
 -- the same, by whether the lines before it have ended the script
 unfoldable pub part_step : State → Drafted → Word → Bool → Result (Bool × (State × Drafted)) Code
-part_step st d part last = part_by (is_done st.phase) st d part last
+part_step st d part last = part_by (is_end_read st.phase) st d part last
 
 -- what was said and drafted by all parts, the first of which has this line number, or the first
 -- fault
@@ -193,16 +193,16 @@ made_by st d [] = d
 made_by st d (l ∷ ls) = made_by (after st l.0 l.1) (added st d l.0 l.1) ls
 
 -- What a function did is what reading gives, unless memory ran out.
-abbrev pub Does : {Y : Type 0} → Y → Result (Unit {0}) Stopped → Result Y Code → Type 0
-Does made (Ok x) read = read ≡ Ok made
-Does made (Err (stops.Bad code)) read = read ≡ Err code
-Does made (Err stops.Memory) read = Unit {0}
+abbrev pub DoesAsRead : {Y : Type 0} → Y → Result (Unit {0}) Stopped → Result Y Code → Type 0
+DoesAsRead made (Ok x) read = read ≡ Ok made
+DoesAsRead made (Err (stops.Bad code)) read = read ≡ Err code
+DoesAsRead made (Err stops.Memory) read = Unit {0}
 
 -- the same of a function that reads, and does nothing
-abbrev pub Reads : {Y : Type 0} → Result Y Stopped → Result Y Code → Type 0
-Reads (Ok y) read = read ≡ Ok y
-Reads (Err (stops.Bad code)) read = read ≡ Err code
-Reads (Err stops.Memory) read = Unit {0}
+abbrev pub AnswersAsRead : {Y : Type 0} → Result Y Stopped → Result Y Code → Type 0
+AnswersAsRead (Ok y) read = read ≡ Ok y
+AnswersAsRead (Err (stops.Bad code)) read = read ≡ Err code
+AnswersAsRead (Err stops.Memory) read = Unit {0}
 
 -- the same for a part, with whether the script is complete
 abbrev pub Ends : {Y : Type 0} → Y → Result Bool Stopped → Result (Bool × Y) Code → Type 0

@@ -5,7 +5,7 @@ use Rattle.shr_base.specs.declared.scripts.Code.{Code}
 use Rattle.shr_base.specs.declared.scripts.Code.TheVariants as codes_of
 use Rattle.shr_model.specs.Paths.{root_path, parent_path}
 use Rattle.shr_model.specs.Groups.{is_later}
-use Rattle.shr_words.specs.Classes.{◌>>=◌, Word, Class, Number, Limit, Plain, Valued, Listed, Marked, Chosen, PathTest, NameTest, KeyTest, Policies, Kinds, Starts, Walks, PoolKinds, Item, number_in, word_in, first, second, seventh, taken, items_of, place_of}
+use Rattle.shr_words.specs.Classes.{◌>>=◌, Word, Class, Number, Limit, Plain, Valued, Listed, Marked, Chosen, PathTest, NameTest, KeyTest, Policies, Kinds, Starts, Walks, PoolKinds, Item, number_said, word_said, first, second, seventh, taken, items_said, place_of}
 use Rattle.shr_script.specs.declared.kind.Kind.{Kind}
 use Rattle.shr_script.specs.declared.kind.Kind.TheVariants.{Header, Size, Group, Cache, Pool, Worker, Work, Sweep, End}
 use Rattle.shr_script.specs.declared.kind.Verb.{Verb}
@@ -262,15 +262,15 @@ refused_if b code = if b then Err code else Ok tt
 
 -- a group that may be there is the parent of one that is later or not: only a later one stands below
 -- a later one
-abbrev pub may_hold : List Bool → Bool → Option ℕ → Bool
-may_hold later late None = false
-may_hold later late (Some g) = late || not (is_later later g)
+abbrev pub may_hold_group : List Bool → Bool → Option ℕ → Bool
+may_hold_group later late None = false
+may_hold_group later late (Some g) = late || not (is_later later g)
 
 -- a group's parent is there and may hold it, the group isn't there, and there are fewer groups than
 -- the version allows
 unfoldable pub group_rule : State → Bool → Word → Result (Unit {0}) Code
 group_rule st late path =
-    refused_if (not (bytes_eq path root_path) && not (may_hold st.later late (place_of (parent_path path) st.groups))) codes_of.NoParent >>= λ _.
+    refused_if (not (bytes_eq path root_path) && not (may_hold_group st.later late (place_of (parent_path path) st.groups))) codes_of.NoParent >>= λ _.
     refused_if (has st.groups path) codes_of.Exists >>= λ _.
     refused_if (nat_le (most_groups st.version) (length st.groups)) codes_of.TooMany
 
@@ -291,9 +291,9 @@ pool_rule st name =
 abbrev pub own : State → Kind → List Item → Result (Unit {0}) Code
 own st Header xs = Ok tt
 own st Size xs = Ok tt
-own st (Group late) xs = group_rule st late (word_in (first xs))
-own st Cache xs = cache_rule st (word_in (first xs)) (number_in (seventh xs))
-own st Pool xs = pool_rule st (word_in (first xs))
+own st (Group late) xs = group_rule st late (word_said (first xs))
+own st Cache xs = cache_rule st (word_said (first xs)) (number_said (seventh xs))
+own st Pool xs = pool_rule st (word_said (first xs))
 own st Worker xs = refused_if (nat_le 64 st.workers) codes_of.TooMany
 own st Sweep xs = Ok tt
 own st End xs = Ok tt
@@ -303,11 +303,11 @@ own st (Work verb) xs = refused_if (nat_le 20000 st.commands) codes_of.TooMany
 
 -- what has been said once a line of this kind with these items was taken
 abbrev pub after : State → Kind → List Item → State
-after st Header xs = record st { phase = Sizes; version = number_in (first xs) }
-after st Size xs = record st { phase = Groups; nodes = number_in (first xs); ids = number_in (second xs) }
-after st (Group late) xs = record st { groups = st.groups ++ word_in (first xs) ∷ []; later = st.later ++ late ∷ [] }
-after st Cache xs = record st { phase = Caches; caches = st.caches ++ word_in (first xs) ∷ []; on = st.on + number_in (seventh xs) }
-after st Pool xs = record st { phase = Pools; pools = st.pools ++ word_in (first xs) ∷ [] }
+after st Header xs = record st { phase = Sizes; version = number_said (first xs) }
+after st Size xs = record st { phase = Groups; nodes = number_said (first xs); ids = number_said (second xs) }
+after st (Group late) xs = record st { groups = st.groups ++ word_said (first xs) ∷ []; later = st.later ++ late ∷ [] }
+after st Cache xs = record st { phase = Caches; caches = st.caches ++ word_said (first xs) ∷ []; on = st.on + number_said (seventh xs) }
+after st Pool xs = record st { phase = Pools; pools = st.pools ++ word_said (first xs) ∷ [] }
 after st Worker xs = record st { phase = Workers; workers = st.workers + 1 }
 after st Sweep xs = record st { phase = Swept }
 after st End xs = record st { phase = Done }
@@ -321,7 +321,7 @@ Line = Kind × List Item
 
 -- the kind and the items of a line, or the code of what is first wrong with it
 unfoldable pub plain_line : State → List Word → Result Line Code
-plain_line st ws = taken ws >>= λ w. kind_at st.version st.phase w.0 >>= λ k. items_of (classes st k) w.1 >>= λ xs. own st k xs >>= λ _. Ok (k, xs)
+plain_line st ws = taken ws >>= λ w. kind_at st.version st.phase w.0 >>= λ k. items_said (classes st k) w.1 >>= λ xs. own st k xs >>= λ _. Ok (k, xs)
 
 -- the first line is BadHeader whatever it lacks
 abbrev pub as_header : Phase → Result Line Code → Result Line Code

@@ -8,7 +8,7 @@ use Rattle.shr_script.specs.declared.stopped.Stopped.{Stopped}
 use Rattle.shr_script.specs.declared.stopped.Stopped.TheVariants as stops
 use Rattle.shr_script.specs.declared.draft.Draft.{Draft}
 use Rattle.shr_script.specs.declared.said.Said.{Said}
-use Rattle.shr_script.specs.Said.{state_of}
+use Rattle.shr_script.specs.Said.{said_state}
 use Rattle.shr_script.specs.Lines.{State, start}
 use Rattle.shr_script.specs.Script.{IsFault, Fault}
 use Rattle.shr_script.specs.Content.{Content, content_of}
@@ -21,7 +21,7 @@ error_at line stops.Memory = errors.Memory
 
 -- What was returned is what the run gives, unless memory ran out.
 abbrev pub Runs : Result (Said × Draft) ReadError → Result (State × Drafted) Fault → Type 0
-Runs (Ok x) run = run ≡ Ok (state_of x.0, drafted x.1)
+Runs (Ok x) run = run ≡ Ok (said_state x.0, drafted x.1)
 Runs (Err (errors.Fault line code)) run = run ≡ Err (line, code)
 Runs (Err errors.Memory) run = Unit {0}
 
@@ -30,10 +30,10 @@ abbrev pub run_of : List ℕ → Result (State × Drafted) Fault
 run_of bytes = run_from start empty 1 (pieces 10 bytes)
 
 -- the script is read, unless memory ran out
-abbrev pub Reads : Result Script ReadError → Content → Type 0
-Reads (Ok s) t = content_of s ≡ t
-Reads (Err (errors.Fault line code)) t = ⊥
-Reads (Err errors.Memory) t = Unit {0}
+abbrev pub ReadsScript : Result Script ReadError → Content → Type 0
+ReadsScript (Ok s) t = content_of s ≡ t
+ReadsScript (Err (errors.Fault line code)) t = ⊥
+ReadsScript (Err errors.Memory) t = Unit {0}
 
 -- a fault is that of the first bad line
 abbrev pub IsCause : ReadError → List ℕ → Type 0

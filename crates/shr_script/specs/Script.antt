@@ -20,9 +20,9 @@ spell_lines st [] = []
 spell_lines st (l ∷ ls) = line_text st l ++ (10 ∷ spell_lines (after st l.0 l.1) ls)
 
 -- what these lines have said
-unfoldable pub state_after : State → List Line → State
-state_after st [] = st
-state_after st (l ∷ ls) = state_after (after st l.0 l.1) ls
+unfoldable pub state_after_lines : State → List Line → State
+state_after_lines st [] = st
+state_after_lines st (l ∷ ls) = state_after_lines (after st l.0 l.1) ls
 
 -- the line may stand here, its words are of their classes, and it keeps its own rule
 pub record IsLine (st : State) (l : Line) : Type 0 where
@@ -36,14 +36,14 @@ AreLines st [] = Unit {0}
 AreLines st (l ∷ ls) = IsLine st l × AreLines (after st l.0 l.1) ls
 
 -- the end line was read
-abbrev pub is_done : Phase → Bool
-is_done Done = true
-is_done p = false
+abbrev pub is_end_read : Phase → Bool
+is_end_read Done = true
+is_end_read p = false
 
 -- from the header to the end
 pub record IsScript (ls : List Line) : Type 0 where
   pub lines : AreLines start ls
-  pub ended : is_done (state_after start ls).phase ≡ true
+  pub ended : is_end_read (state_after_lines start ls).phase ≡ true
 
 -- ---- faults
 
@@ -55,7 +55,7 @@ part_verdict false st part last = if last then Err codes_of.NoEnd else (line_of 
 
 -- what is said of a part after these lines: a line, the end of a complete script, or a code
 unfoldable pub verdict : State → Word → Bool → Result (Option Line) Code
-verdict st part last = part_verdict (is_done st.phase) st part last
+verdict st part last = part_verdict (is_end_read st.phase) st part last
 
 -- no part follows
 abbrev pub is_last : List Word → Bool
@@ -72,7 +72,7 @@ pub record IsFaultFrom (st : State) (first : ℕ) (bytes : List ℕ) (line : ℕ
   pub bytes_are : bytes ≡ spell_lines st good ++ joined 10 part others
   pub parted : pieces 10 (joined 10 part others) ≡ part ∷ others
   pub line_is : line ≡ length good + first
-  pub bad : verdict (state_after st good) part (is_last others) ≡ Err code
+  pub bad : verdict (state_after_lines st good) part (is_last others) ≡ Err code
 
 -- the first bad line of the bytes has this number and this code
 abbrev pub IsFault : List ℕ → ℕ → Code → Type 0

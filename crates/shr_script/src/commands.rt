@@ -2,8 +2,8 @@
 
 ghost use Rattle.std.specs.Prelude.{◌≡◌, true};
 ghost use Rattle.shr_words.specs.Classes.{words_left};
-ghost use Rattle.shr_script.specs.Said.{state_of};
-ghost use Rattle.shr_script.specs.Drafted.{Reads, names_key, is_of_walk, is_of_pool, command_said};
+ghost use Rattle.shr_script.specs.Said.{said_state};
+ghost use Rattle.shr_script.specs.Drafted.{AnswersAsRead, names_key, is_of_walk, is_of_pool, command_said};
 ghost use Rattle.shr_script.specs.declared.kind.Verb.TheVariants.{Put, Isolate};
 
 use crate::kind::Verb;
@@ -20,7 +20,7 @@ use std::alloc::Global;
 #[tactic(auto, unfolding(crate::specs::Drafted::command_said))]
 #[inline(always)]
 pub fn put_command(alloc: Global, said: &Said, rest: Option<&[u8]>) -> Result<Command, Stopped>
-    ensures { Reads result (command_said (state_of said.now) Put (words_left rest.entry)) }
+    ensures { AnswersAsRead result (command_said (said_state said.now) Put (words_left rest.entry)) }
 {
     let (group, node, decl, key, value) = put_words(said, rest)?;
     let key = Text::of(alloc, key)?;
@@ -43,7 +43,7 @@ fn key_command(
     rest: Option<&[u8]>,
 ) -> Result<Command, Stopped>
     requires { names_key verb ≡ true }
-    ensures { Reads result (command_said (state_of said.now) verb (words_left rest.entry)) }
+    ensures { AnswersAsRead result (command_said (said_state said.now) verb (words_left rest.entry)) }
 {
     let (group, node, decl, key) = key_words(said, rest)?;
     let key = Text::of(alloc, key)?;
@@ -74,7 +74,7 @@ fn key_command(
 #[tactic(auto, unfolding(crate::specs::Drafted::command_said), using(shr_words::proofs::ClassLaws::flag_again))]
 fn walk_command(said: &Said, verb: Verb, rest: Option<&[u8]>) -> Result<Command, Stopped>
     requires { is_of_walk verb ≡ true }
-    ensures { Reads result (command_said (state_of said.now) verb (words_left rest.entry)) }
+    ensures { AnswersAsRead result (command_said (said_state said.now) verb (words_left rest.entry)) }
 {
     if let Verb::Shrink = verb {
         let (group, node, priority, nofs) = shrink_words(said, rest)?;
@@ -98,7 +98,7 @@ fn walk_command(said: &Said, verb: Verb, rest: Option<&[u8]>) -> Result<Command,
 #[tactic(auto, unfolding(crate::specs::Drafted::command_said))]
 fn pool_command(said: &Said, verb: Verb, rest: Option<&[u8]>) -> Result<Command, Stopped>
     requires { is_of_pool verb ≡ true }
-    ensures { Reads result (command_said (state_of said.now) verb (words_left rest.entry)) }
+    ensures { AnswersAsRead result (command_said (said_state said.now) verb (words_left rest.entry)) }
 {
     if let Verb::Release = verb {
         let (node, pool, units) = release_words(said, rest)?;
@@ -112,7 +112,7 @@ fn pool_command(said: &Said, verb: Verb, rest: Option<&[u8]>) -> Result<Command,
 // Of `isolate`.
 #[tactic(auto, unfolding(crate::specs::Drafted::command_said))]
 fn isolate_command(said: &Said, rest: Option<&[u8]>) -> Result<Command, Stopped>
-    ensures { Reads result (command_said (state_of said.now) Isolate (words_left rest.entry)) }
+    ensures { AnswersAsRead result (command_said (said_state said.now) Isolate (words_left rest.entry)) }
 {
     let (group, node, decl, budget) = isolate_words(said, rest)?;
     Ok(Command::Isolate {
@@ -131,7 +131,7 @@ pub fn command_in(
     verb: Verb,
     rest: Option<&[u8]>,
 ) -> Result<Command, Stopped>
-    ensures { Reads result (command_said (state_of said.now) verb (words_left rest.entry)) }
+    ensures { AnswersAsRead result (command_said (said_state said.now) verb (words_left rest.entry)) }
 {
     match verb {
         Verb::Put => put_command(alloc, said, rest),

@@ -3,11 +3,11 @@
 ghost use Rattle.std.specs.Prelude.{◌≡◌, ◌++◌, OnOk, IfSome, codes, true};
 ghost use Rattle.shr_model.specs.Pieces.{pieces};
 ghost use Rattle.shr_words.specs.Classes.{words_left};
-ghost use Rattle.shr_script.specs.Said.{state_of};
-ghost use Rattle.shr_script.specs.Drafted.{Does, Ends, drafted, completed, command_kept, kind_step, plain_step, step, part_step};
+ghost use Rattle.shr_script.specs.Said.{said_state};
+ghost use Rattle.shr_script.specs.Drafted.{DoesAsRead, Ends, drafted, completed, command_kept, kind_step, plain_step, line_step, part_step};
 ghost use Rattle.shr_script.specs.declared.kind.Kind.TheVariants.{Header, Size, Group, Cache, Pool, Worker, Work, Sweep as Sweeping, End};
 ghost use Rattle.shr_script.specs.declared.kind.Verb.TheVariants.{Put};
-ghost use Rattle.shr_script.specs.Script.{is_done};
+ghost use Rattle.shr_script.specs.Script.{is_end_read};
 
 use crate::commands::{command_in, put_command};
 use crate::draft::Draft;
@@ -26,7 +26,7 @@ use std::alloc::Global;
 
 #[tactic(auto, unfolding(crate::specs::Drafted::kind_step))]
 fn header_line(said: &mut Said, draft: &mut Draft, rest: Option<&[u8]>) -> Result<(), Stopped>
-    ensures { Does (state_of said.new, drafted draft.new) result (kind_step (state_of said.old)
+    ensures { DoesAsRead (said_state said.new, drafted draft.new) result (kind_step (said_state said.old)
         (drafted draft.old) Header (words_left rest.entry)) }
 {
     said.version = version_word(said, rest)?;
@@ -36,7 +36,7 @@ fn header_line(said: &mut Said, draft: &mut Draft, rest: Option<&[u8]>) -> Resul
 
 #[tactic(auto, unfolding(crate::specs::Drafted::kind_step))]
 fn size_line(said: &mut Said, draft: &mut Draft, rest: Option<&[u8]>) -> Result<(), Stopped>
-    ensures { Does (state_of said.new, drafted draft.new) result (kind_step (state_of said.old)
+    ensures { DoesAsRead (said_state said.new, drafted draft.new) result (kind_step (said_state said.old)
         (drafted draft.old) Size (words_left rest.entry)) }
 {
     let (nodes, ids) = size_words(said, rest)?;
@@ -54,7 +54,7 @@ fn group_line<'a>(
     later: bool,
     rest: Option<&'a [u8]>,
 ) -> Result<(), Stopped>
-    ensures { Does (state_of said.new, drafted draft.new) result (kind_step (state_of said.old)
+    ensures { DoesAsRead (said_state said.new, drafted draft.new) result (kind_step (said_state said.old)
         (drafted draft.old) (Group later) (words_left rest.entry)) }
 {
     let (path, limit) = group_words(said, later, rest)?;
@@ -78,7 +78,7 @@ fn cache_line<'a>(
     draft: &mut Draft,
     rest: Option<&'a [u8]>,
 ) -> Result<(), Stopped>
-    ensures { Does (state_of said.new, drafted draft.new) result (kind_step (state_of said.old)
+    ensures { DoesAsRead (said_state said.new, drafted draft.new) result (kind_step (said_state said.old)
         (drafted draft.old) Cache (words_left rest.entry)) }
 {
     let (name, policy, seeks, batch, floor, fs, on) = cache_words(said, rest)?;
@@ -105,7 +105,7 @@ fn pool_line<'a>(
     draft: &mut Draft,
     rest: Option<&'a [u8]>,
 ) -> Result<(), Stopped>
-    ensures { Does (state_of said.new, drafted draft.new) result (kind_step (state_of said.old)
+    ensures { DoesAsRead (said_state said.new, drafted draft.new) result (kind_step (said_state said.old)
         (drafted draft.old) Pool (words_left rest.entry)) }
 {
     let (name, seeks, batch, floor, flat) = pool_words(said, rest)?;
@@ -152,7 +152,7 @@ fn worker_line(
     draft: &mut Draft,
     rest: Option<&[u8]>,
 ) -> Result<(), Stopped>
-    ensures { Does (state_of said.new, drafted draft.new) result (kind_step (state_of said.old)
+    ensures { DoesAsRead (said_state said.new, drafted draft.new) result (kind_step (said_state said.old)
         (drafted draft.old) Worker (words_left rest.entry)) }
 {
     end(rest)?;
@@ -171,7 +171,7 @@ fn worker_line(
 // A command more of the last worker, where there is room for it.
 #[inline(always)]
 fn keep(said: &mut Said, draft: &mut Draft, command: Command) -> Result<(), Stopped>
-    ensures { Does (state_of said.new, drafted draft.new) result (command_kept (state_of said.old)
+    ensures { DoesAsRead (said_state said.new, drafted draft.new) result (command_kept (said_state said.old)
         (drafted draft.old) command) }
 {
     command_rule(said)?;
@@ -189,7 +189,7 @@ fn put_line(
     draft: &mut Draft,
     rest: Option<&[u8]>,
 ) -> Result<(), Stopped>
-    ensures { Does (state_of said.new, drafted draft.new) result (kind_step (state_of said.old)
+    ensures { DoesAsRead (said_state said.new, drafted draft.new) result (kind_step (said_state said.old)
         (drafted draft.old) (Work Put) (words_left rest.entry)) }
 {
     let command = put_command(alloc, said, rest)?;
@@ -205,7 +205,7 @@ fn command_line(
     verb: Verb,
     rest: Option<&[u8]>,
 ) -> Result<(), Stopped>
-    ensures { Does (state_of said.new, drafted draft.new) result (kind_step (state_of said.old)
+    ensures { DoesAsRead (said_state said.new, drafted draft.new) result (kind_step (said_state said.old)
         (drafted draft.old) (Work verb) (words_left rest.entry)) }
 {
     let command = command_in(alloc, said, verb, rest)?;
@@ -219,7 +219,7 @@ fn sweep_line(
     draft: &mut Draft,
     rest: Option<&[u8]>,
 ) -> Result<(), Stopped>
-    ensures { Does (state_of said.new, drafted draft.new) result (kind_step (state_of said.old)
+    ensures { DoesAsRead (said_state said.new, drafted draft.new) result (kind_step (said_state said.old)
         (drafted draft.old) Sweeping (words_left rest.entry)) }
 {
     let (priority, nofs) = sweep_words(said, rest)?;
@@ -236,7 +236,7 @@ fn end_line(
     draft: &mut Draft,
     rest: Option<&[u8]>,
 ) -> Result<(), Stopped>
-    ensures { Does (state_of said.new, drafted draft.new) result (kind_step (state_of said.old)
+    ensures { DoesAsRead (said_state said.new, drafted draft.new) result (kind_step (said_state said.old)
         (drafted draft.old) End (words_left rest.entry)) }
 {
     end(rest)?;
@@ -263,7 +263,7 @@ fn plain_line<'a>(
     draft: &mut Draft,
     rest: Option<&'a [u8]>,
 ) -> Result<(), Stopped>
-    ensures { Does (state_of said.new, drafted draft.new) result (plain_step (state_of said.old)
+    ensures { DoesAsRead (said_state said.new, drafted draft.new) result (plain_step (said_state said.old)
         (drafted draft.old) (words_left rest.entry)) }
 {
     // Most lines are puts of a worker.
@@ -288,14 +288,14 @@ fn plain_line<'a>(
 }
 
 /// A line, without its line feed.
-#[tactic(auto, unfolding(crate::specs::Drafted::step, shr_model::specs::Pieces::left))]
+#[tactic(auto, unfolding(crate::specs::Drafted::line_step, shr_model::specs::Pieces::left))]
 fn line<'a>(
     alloc: Global,
     said: &mut Said<'a>,
     draft: &mut Draft,
     bytes: &'a [u8],
 ) -> Result<(), Stopped>
-    ensures { Does (state_of said.new, drafted draft.new) result (step (state_of said.old)
+    ensures { DoesAsRead (said_state said.new, drafted draft.new) result (line_step (said_state said.old)
         (drafted draft.old) (pieces 32 bytes.now)) }
 {
     let phase = said.phase;
@@ -310,7 +310,7 @@ fn line<'a>(
 }
 
 fn is_done(phase: Phase) -> bool
-    ensures { result ≡ is_done phase }
+    ensures { result ≡ is_end_read phase }
 {
     matches!(phase, Phase::Done)
 }
@@ -325,7 +325,7 @@ pub fn part<'a>(
     bytes: &'a [u8],
     last: bool,
 ) -> Result<bool, Stopped>
-    ensures { Ends (state_of said.new, drafted draft.new) result (part_step (state_of said.old)
+    ensures { Ends (said_state said.new, drafted draft.new) result (part_step (said_state said.old)
         (drafted draft.old) bytes.now last) }
 {
     if is_done(said.phase) {

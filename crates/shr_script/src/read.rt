@@ -6,7 +6,7 @@ ghost use Rattle.shr_script.specs.declared.read.ReadError.TheVariants.{Memory as
 ghost use Rattle.shr_model.specs.Pieces.{left};
 ghost use Rattle.shr_script.specs.Content.{Content, content_of, lines_of, IsSpelling};
 ghost use Rattle.shr_script.specs.Script.{IsFault, is_last};
-ghost use Rattle.shr_script.specs.Read.{error_at, Runs, run_of, Reads, IsCause, TellsFault};
+ghost use Rattle.shr_script.specs.Read.{error_at, Runs, run_of, ReadsScript, IsCause, TellsFault};
 
 use crate::draft::Draft;
 use crate::line::part;
@@ -101,7 +101,7 @@ pub fn read_script(alloc: Global, bytes: &[u8]) -> Result<Script, ReadError>
     // What is read is spelled so.
     ensures found { IfOk result (λ s. IsSpelling bytes.now (content_of s)) }
     // What is spelled so is read, unless memory runs out.
-    ensures only { (t : Content) → IsSpelling bytes.now t → Reads result t }
+    ensures only { (t : Content) → IsSpelling bytes.now t → ReadsScript result t }
     // A fault is that of the first bad line.
     ensures fault { IfErr result (λ e. IsCause e bytes.now) }
     // And each such fault is returned, unless memory runs out.

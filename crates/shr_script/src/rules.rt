@@ -3,8 +3,8 @@
 ghost use Rattle.std.specs.Prelude.{◌≡◌, ◌+◌, ◌≤◌, ◌<◌, nat_le, OnOk, None, length};
 ghost use Rattle.shr_base.specs.declared.scripts.Code.TheVariants.{TooMany};
 ghost use Rattle.shr_words.specs.Classes.{Gives, place_of, flag_place};
-ghost use Rattle.shr_script.specs.Lines.{refused_if, may_hold, most_groups, group_rule, cache_rule, pool_rule};
-ghost use Rattle.shr_script.specs.Said.{state_of};
+ghost use Rattle.shr_script.specs.Lines.{refused_if, may_hold_group, most_groups, group_rule, cache_rule, pool_rule};
+ghost use Rattle.shr_script.specs.Said.{said_state};
 
 use crate::said::Said;
 use shr_base::scripts::Code;
@@ -13,7 +13,7 @@ use shr_words::word::is_marked;
 
 // Whether a group, where it is there, may be the parent of one that is later or not.
 fn may_hold(marks: &[bool], later: bool, parent: Option<u16>) -> bool
-    ensures { result ≡ may_hold marks.now later parent }
+    ensures { result ≡ may_hold_group marks.now later parent }
 {
     match parent {
         Some(group) => later || !is_marked(marks, group),
@@ -32,7 +32,7 @@ fn most_groups(version: u8) -> usize
 /// NoParent, Exists and TooMany of a group that is later or not, in this order.
 #[tactic(auto, unfolding(crate::specs::Lines::group_rule))]
 pub fn group_rule(said: &Said, later: bool, path: &[u8]) -> Result<(), Code>
-    ensures reads { Gives (λ x. x) result (group_rule (state_of said.now) later path.now) }
+    ensures reads { Gives (λ x. x) result (group_rule (said_state said.now) later path.now) }
     ensures absent { OnOk result (place_of path.now said.now.groups ≡ None) }
     ensures few { OnOk result (length said.now.groups < 256) }
 {
@@ -55,7 +55,7 @@ pub fn cache_rule(said: &Said, name: &[u8], on: bool) -> Result<(), Code>
     ensures absent { OnOk result (place_of name.now said.now.caches ≡ None) }
     ensures few { OnOk result (length said.now.caches < 250) }
     ensures room { OnOk result (said.now.on + flag_place on ≤ said.now.ids) }
-    ensures reads { Gives (λ x. x) result (cache_rule (state_of said.now) name.now
+    ensures reads { Gives (λ x. x) result (cache_rule (said_state said.now) name.now
         (flag_place on)) }
 {
     if said.caches.place(name).is_some() {
@@ -70,7 +70,7 @@ pub fn cache_rule(said: &Said, name: &[u8], on: bool) -> Result<(), Code>
 /// Exists and TooMany of a pool, in this order.
 #[tactic(auto, unfolding(crate::specs::Lines::pool_rule))]
 pub fn pool_rule(said: &Said, name: &[u8]) -> Result<(), Code>
-    ensures reads { Gives (λ x. x) result (pool_rule (state_of said.now) name.now) }
+    ensures reads { Gives (λ x. x) result (pool_rule (said_state said.now) name.now) }
     ensures absent { OnOk result (place_of name.now said.now.pools ≡ None) }
     ensures few { OnOk result (length said.now.pools < 64) }
 {

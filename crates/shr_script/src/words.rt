@@ -1,9 +1,9 @@
 //! The words of a line behind the first, for each kind of line.
 
 ghost use Rattle.std.specs.Prelude.{◌≡◌, ◌≤◌, [], ◌∷◌, Ok};
-ghost use Rattle.shr_words.specs.Classes.{Gives, words_left, items_of, N, L, W, policy_place, flag_place};
+ghost use Rattle.shr_words.specs.Classes.{Gives, words_left, items_said, N, L, W, policy_place, flag_place};
 ghost use Rattle.shr_script.specs.Lines.{classes, verb_classes, key_classes, most_ids};
-ghost use Rattle.shr_script.specs.Said.{state_of};
+ghost use Rattle.shr_script.specs.Said.{said_state};
 ghost use Rattle.shr_script.specs.declared.kind.Kind.TheVariants.{Header, Size, Group, Cache, Pool, Sweep};
 ghost use Rattle.shr_script.specs.declared.kind.Verb.TheVariants.{Put, Shrink, Balance, Offline, MkGroup, Register, Isolate, Release, Grab};
 
@@ -17,7 +17,7 @@ use shr_words::word::{
 
 /// Of `shrinkers`.
 pub fn version_word(said: &Said, rest: Option<&[u8]>) -> Result<u8, Code>
-    ensures { Gives (λ x. N x ∷ []) result (items_of (classes (state_of said.now) Header)
+    ensures { Gives (λ x. N x ∷ []) result (items_said (classes (said_state said.now) Header)
         (words_left rest.entry)) }
 {
     let (version, rest) = number(rest, 1, 3)?;
@@ -35,7 +35,7 @@ fn most_ids(version: u8) -> u32
 
 /// Of `size`.
 pub fn size_words(said: &Said, rest: Option<&[u8]>) -> Result<(u8, u16), Code>
-    ensures { Gives (λ x. N x.0 ∷ N x.1 ∷ []) result (items_of (classes (state_of said.now) Size)
+    ensures { Gives (λ x. N x.0 ∷ N x.1 ∷ []) result (items_said (classes (said_state said.now) Size)
         (words_left rest.entry)) }
 {
     let (nodes, rest) = number(rest, 1, 5)?;
@@ -51,7 +51,7 @@ pub fn group_words<'a>(
     rest: Option<&'a [u8]>,
 ) -> Result<(&'a [u8], Option<u32>), Code>
     ensures { Gives (λ x. W x.0.now ∷ L x.1 ∷ []) result
-        (items_of (classes (state_of said.now) (Group later)) (words_left rest.entry)) }
+        (items_said (classes (said_state said.now) (Group later)) (words_left rest.entry)) }
 {
     let (path, rest) = path(rest)?;
     let (limit, rest) = limit(rest)?;
@@ -66,7 +66,7 @@ pub fn cache_words<'a>(
 ) -> Result<(&'a [u8], Policy, u32, u32, u32, bool, bool), Code>
     ensures { Gives (λ x. W x.0.now ∷ N (policy_place x.1) ∷ N x.2 ∷ N x.3 ∷ N x.4
         ∷ N (flag_place x.5) ∷ N (flag_place x.6) ∷ []) result
-        (items_of (classes (state_of said.now) Cache) (words_left rest.entry)) }
+        (items_said (classes (said_state said.now) Cache) (words_left rest.entry)) }
 {
     let (name, rest) = name(rest)?;
     let (policy, rest) = policy(rest)?;
@@ -85,7 +85,7 @@ pub fn pool_words<'a>(
     rest: Option<&'a [u8]>,
 ) -> Result<(&'a [u8], u32, u32, u32, bool), Code>
     ensures { Gives (λ x. W x.0.now ∷ N x.1 ∷ N x.2 ∷ N x.3 ∷ N (flag_place x.4) ∷ []) result
-        (items_of (classes (state_of said.now) Pool) (words_left rest.entry)) }
+        (items_said (classes (said_state said.now) Pool) (words_left rest.entry)) }
 {
     let (name, rest) = name(rest)?;
     let (seeks, rest) = number(rest, 0, 1_001)?;
@@ -99,7 +99,7 @@ pub fn pool_words<'a>(
 /// Of `sweep`.
 pub fn sweep_words(said: &Said, rest: Option<&[u8]>) -> Result<(u8, bool), Code>
     ensures { Gives (λ x. N x.0 ∷ N (flag_place x.1) ∷ []) result
-        (items_of (classes (state_of said.now) Sweep) (words_left rest.entry)) }
+        (items_said (classes (said_state said.now) Sweep) (words_left rest.entry)) }
 {
     let (priority, rest) = number(rest, 0, 13)?;
     let (nofs, rest) = walk_kind(rest)?;
@@ -114,7 +114,7 @@ pub fn put_words<'a>(
     rest: Option<&'a [u8]>,
 ) -> Result<(u16, u8, u8, &'a [u8], &'a [u8]), Code>
     ensures { Gives (λ x. N x.0 ∷ N x.1 ∷ N x.2 ∷ W x.3.now ∷ W x.4.now ∷ []) result
-        (items_of (verb_classes (state_of said.now) Put) (words_left rest.entry)) }
+        (items_said (verb_classes (said_state said.now) Put) (words_left rest.entry)) }
 {
     let (group, rest) = group(rest, &said.groups)?;
     let (node, rest) = number(rest, 0, said.nodes as u32)?;
@@ -128,7 +128,7 @@ pub fn put_words<'a>(
 /// Of `get`, `del`, `pin` and `unpin`.
 pub fn key_words<'a>(said: &Said, rest: Option<&'a [u8]>) -> Result<(u16, u8, u8, &'a [u8]), Code>
     ensures { Gives (λ x. N x.0 ∷ N x.1 ∷ N x.2 ∷ W x.3.now ∷ []) result
-        (items_of (key_classes (state_of said.now)) (words_left rest.entry)) }
+        (items_said (key_classes (said_state said.now)) (words_left rest.entry)) }
 {
     let (group, rest) = group(rest, &said.groups)?;
     let (node, rest) = number(rest, 0, said.nodes as u32)?;
@@ -141,7 +141,7 @@ pub fn key_words<'a>(said: &Said, rest: Option<&'a [u8]>) -> Result<(u16, u8, u8
 /// Of `shrink`.
 pub fn shrink_words(said: &Said, rest: Option<&[u8]>) -> Result<(u16, u8, u8, bool), Code>
     ensures { Gives (λ x. N x.0 ∷ N x.1 ∷ N x.2 ∷ N (flag_place x.3) ∷ []) result
-        (items_of (verb_classes (state_of said.now) Shrink) (words_left rest.entry)) }
+        (items_said (verb_classes (said_state said.now) Shrink) (words_left rest.entry)) }
 {
     let (group, rest) = group(rest, &said.groups)?;
     let (node, rest) = number(rest, 0, said.nodes as u32)?;
@@ -154,7 +154,7 @@ pub fn shrink_words(said: &Said, rest: Option<&[u8]>) -> Result<(u16, u8, u8, bo
 /// Of `balance`.
 pub fn balance_words(said: &Said, rest: Option<&[u8]>) -> Result<(u8, u8, bool), Code>
     ensures { Gives (λ x. N x.0 ∷ N x.1 ∷ N (flag_place x.2) ∷ []) result
-        (items_of (verb_classes (state_of said.now) Balance) (words_left rest.entry)) }
+        (items_said (verb_classes (said_state said.now) Balance) (words_left rest.entry)) }
 {
     let (node, rest) = number(rest, 0, said.nodes as u32)?;
     let (priority, rest) = number(rest, 0, 13)?;
@@ -165,7 +165,7 @@ pub fn balance_words(said: &Said, rest: Option<&[u8]>) -> Result<(u8, u8, bool),
 
 /// Of `offline`.
 pub fn group_word(said: &Said, rest: Option<&[u8]>) -> Result<u16, Code>
-    ensures { Gives (λ x. N x ∷ []) result (items_of (verb_classes (state_of said.now) Offline)
+    ensures { Gives (λ x. N x ∷ []) result (items_said (verb_classes (said_state said.now) Offline)
         (words_left rest.entry)) }
 {
     let (group, rest) = group(rest, &said.groups)?;
@@ -175,7 +175,7 @@ pub fn group_word(said: &Said, rest: Option<&[u8]>) -> Result<u16, Code>
 
 /// Of `mkgroup`.
 pub fn later_group_word(said: &Said, rest: Option<&[u8]>) -> Result<u16, Code>
-    ensures { Gives (λ x. N x ∷ []) result (items_of (verb_classes (state_of said.now) MkGroup)
+    ensures { Gives (λ x. N x ∷ []) result (items_said (verb_classes (said_state said.now) MkGroup)
         (words_left rest.entry)) }
 {
     let (group, rest) = marked_group(rest, &said.groups, said.later.as_slice())?;
@@ -186,7 +186,7 @@ pub fn later_group_word(said: &Said, rest: Option<&[u8]>) -> Result<u16, Code>
 /// Of `isolate`.
 pub fn isolate_words(said: &Said, rest: Option<&[u8]>) -> Result<(u16, u8, u8, u32), Code>
     ensures { Gives (λ x. N x.0 ∷ N x.1 ∷ N x.2 ∷ N x.3 ∷ []) result
-        (items_of (verb_classes (state_of said.now) Isolate) (words_left rest.entry)) }
+        (items_said (verb_classes (said_state said.now) Isolate) (words_left rest.entry)) }
 {
     let (group, rest) = group(rest, &said.groups)?;
     let (node, rest) = number(rest, 0, said.nodes as u32)?;
@@ -199,7 +199,7 @@ pub fn isolate_words(said: &Said, rest: Option<&[u8]>) -> Result<(u16, u8, u8, u
 /// Of `release`.
 pub fn release_words(said: &Said, rest: Option<&[u8]>) -> Result<(u8, u8, u32), Code>
     ensures { Gives (λ x. N x.0 ∷ N x.1 ∷ N x.2 ∷ []) result
-        (items_of (verb_classes (state_of said.now) Release) (words_left rest.entry)) }
+        (items_said (verb_classes (said_state said.now) Release) (words_left rest.entry)) }
 {
     let (node, rest) = number(rest, 0, said.nodes as u32)?;
     let (pool, rest) = cache(rest, &said.pools)?;
@@ -210,7 +210,7 @@ pub fn release_words(said: &Said, rest: Option<&[u8]>) -> Result<(u8, u8, u32), 
 
 /// Of `grab`.
 pub fn grab_words(said: &Said, rest: Option<&[u8]>) -> Result<(u8, u8), Code>
-    ensures { Gives (λ x. N x.0 ∷ N x.1 ∷ []) result (items_of (verb_classes (state_of said.now)
+    ensures { Gives (λ x. N x.0 ∷ N x.1 ∷ []) result (items_said (verb_classes (said_state said.now)
         Grab) (words_left rest.entry)) }
 {
     let (node, rest) = number(rest, 0, said.nodes as u32)?;
@@ -221,7 +221,7 @@ pub fn grab_words(said: &Said, rest: Option<&[u8]>) -> Result<(u8, u8), Code>
 
 /// Of `register` and `unregister`.
 pub fn cache_word(said: &Said, rest: Option<&[u8]>) -> Result<u8, Code>
-    ensures { Gives (λ x. N x ∷ []) result (items_of (verb_classes (state_of said.now) Register)
+    ensures { Gives (λ x. N x ∷ []) result (items_said (verb_classes (said_state said.now) Register)
         (words_left rest.entry)) }
 {
     let (cache, rest) = cache(rest, &said.caches)?;

@@ -1,7 +1,5 @@
 -- A part of the views, when one view changes.
-use Rattle.shr_seats.proofs.Common.{◌≡◌, ℕ, List, [], ◌∷◌, ◌++◌, map, set, sym, ap, subst, ◌∙◌, some, get_elem?, at_map}
-use Rattle.std.proofs.lemmas.List.{map-set, map-append}
-use Rattle.atomic_table.proofs.Lists.{set_again}
+use Rattle.shr_seats.proofs.Common.{◌≡◌, ℕ, List, [], ◌∷◌, ◌++◌, map, set, sym, ap, subst, ◌∙◌, some, get_elem?, at_map, map-set, map-append, set_again}
 
 module _ {V B : Type 0} (views : List V) (id : ℕ) (v : V) (me : get_elem? views id ≡ some v) (f : V → B) where
   -- the seat's part

@@ -1,6 +1,5 @@
 -- Shapes that tables may be made in and shapes that they may not, and seats of a table, at known values.
-use Rattle.shr_seats.proofs.Common.{◌≡◌, ℕ, zero, suc, ◌<◌, ◌≤◌, true, false, List, [], ◌∷◌, refl, arith, ◌+◌, count_by, Standing, AreSeats, IsWhole, is_out, at_first, at_split, with_split, with_join}
-use Rattle.std.specs.Prelude.{Some, None}
+use Rattle.shr_seats.proofs.Common.{◌≡◌, ℕ, zero, suc, ◌<◌, ◌≤◌, true, false, List, [], ◌∷◌, refl, arith, ◌+◌, count_by, Standing, AreSeats, IsWhole, is_out, at_first, at_split, with_split, with_join, Some, None}
 use Rattle.shr_base.specs.Kept.{Kept}
 use Rattle.shr_model.specs.Groups.{IsTree, IsHierarchy, is_later, parent_of}
 use Rattle.shr_seats.specs.declared.shape.Shape.{Shape}

@@ -1,8 +1,5 @@
 -- The line of all deeds while seats do more, are split and are joined.
-use Rattle.shr_seats.proofs.Common.{◌≡◌, ℕ, zero, suc, ◌+◌, ◌<◌, ◌≤◌, ◌≢◌, Bool, true, false, cond, List, [], ◌∷◌, ◌++◌, map, length, set, sym, refl, ap, subst, ◌∙◌, arith, eq-eqb, ne_eqb, append-nil, dite, ℕ_discrete, some, some-injective, some-ne-none, get_elem?, set_else, Standing, IsWhole, AreSeats, AreEmptied, total}
-use Rattle.std.proofs.Common.{eqb}
-use native.Mathlib.Decide.{dec_lt}
-use Rattle.atomic_table.proofs.Lists.{at_longer}
+use Rattle.shr_seats.proofs.Common.{◌≡◌, ℕ, zero, suc, ◌+◌, ◌<◌, ◌≤◌, ◌≢◌, Bool, true, false, cond, List, [], ◌∷◌, ◌++◌, map, length, set, sym, refl, ap, subst, ◌∙◌, arith, eq-eqb, ne_eqb, append-nil, dite, ℕ_discrete, some, some-injective, some-ne-none, get_elem?, set_else, Standing, IsWhole, AreSeats, AreEmptied, total, eqb, dec_lt, at_longer}
 use Rattle.shr_seats.specs.Lines.{Deed, by_seat, acts_of, part, state_after, AreSo, did_at, IsHere, AreInLine}
 use Rattle.shr_seats.proofs.Seating.{sole}
 

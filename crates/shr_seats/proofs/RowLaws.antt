@@ -4,7 +4,7 @@ use Rattle.std.proofs.lemmas.Nat.{same_from_place}
 use Rattle.std.proofs.Math.Nat.{div-lt_iff_lt-mul, mod-lt, div-add-mod, mul-le-mul_right, le-mul_of_pos_right, mul-div_cancel, mul-mod_left, zero-div}
 use Rattle.shr_base.specs.declared.places.Place.{Place}
 use Rattle.shr_seats.specs.declared.rows.Sizes.{Sizes}
-use Rattle.shr_seats.specs.Rows.{IsPlaceOf, row_count, row_of, place_in}
+use Rattle.shr_seats.specs.Rows.{IsPlaceOf, row_count, row_of, place_of_row}
 
 -- the parts of two places are the same
 pub record SamePlace (p q : Place) : Type 0 where
@@ -35,7 +35,7 @@ pub ids_low : (z : Sizes) → 0 < z.nodes → 0 < z.groups → z.ids ≤ row_cou
 ids_low z nodes groups = let t : z.ids ≤ z.ids * z.nodes = le-mul_of_pos_right z.ids nodes in let u : z.ids * z.nodes ≤ z.ids * z.nodes * z.groups = le-mul_of_pos_right (z.ids * z.nodes) groups in omega (arith, t, u)
 
 -- each row is that of a place of the table
-pub place_inside : (z : Sizes) (row : ℕ) → 0 < z.nodes → 0 < z.groups → row < row_count z → IsPlaceOf z (place_in z row)
+pub place_inside : (z : Sizes) (row : ℕ) → 0 < z.nodes → 0 < z.groups → row < row_count z → IsPlaceOf z (place_of_row z row)
 place_inside z row some-nodes some-groups low = record {
   id = (div-lt_iff_lt-mul {k = z.nodes} {x = row / z.groups} {y = z.ids} some-nodes).1 ((div-lt_iff_lt-mul {k = z.groups} {x = row} {y = z.ids * z.nodes} some-groups).1 low);
   node = mod-lt (row / z.groups) some-nodes;
@@ -43,7 +43,7 @@ place_inside z row some-nodes some-groups low = record {
 }
 
 -- the place of a row has that row
-pub row_back : (z : Sizes) (row : ℕ) → row_of z (place_in z row) ≡ row
+pub row_back : (z : Sizes) (row : ℕ) → row_of z (place_of_row z row) ≡ row
 row_back z row = let a = div-add-mod (row / z.groups) z.nodes in let b = div-add-mod row z.groups in
     let c : (row / z.groups / z.nodes * z.nodes + row / z.groups % z.nodes) ≡ row / z.groups = omega (arith, a) in
     ap (λ (k : ℕ). k * z.groups + row % z.groups) c ∙ omega (arith, b)
@@ -67,11 +67,11 @@ pub row_above : (z : Sizes) (p : Place) → z.ids ≤ p.id → row_count z ≤ r
 row_above z p h = let t : z.ids * z.nodes ≤ p.id * z.nodes = mul-le-mul_right z.nodes h in let u : z.ids * z.nodes * z.groups ≤ (p.id * z.nodes + p.node) * z.groups = mul-le-mul_right z.groups (omega (arith, t)) in omega (arith, u)
 
 -- the first row is that of the first place
-pub place_first : (z : Sizes) → 0 < z.nodes → 0 < z.groups → ((place_in z 0).id ≡ 0) × ((place_in z 0).node ≡ 0) × ((place_in z 0).group ≡ 0)
+pub place_first : (z : Sizes) → 0 < z.nodes → 0 < z.groups → ((place_of_row z 0).id ≡ 0) × ((place_of_row z 0).node ≡ 0) × ((place_of_row z 0).group ≡ 0)
 place_first z nodes groups = let a : 0 / z.groups ≡ 0 = zero-div z.groups in let b = div-add-mod 0 z.groups in let c = div-add-mod (0 / z.groups) z.nodes in
     (ap (λ (x : ℕ). x / z.nodes) a ∙ zero-div z.nodes, omega (arith, a, c), omega (arith, b))
 
 -- after the last row would come the first place of one id more
-pub place_last : (z : Sizes) → 0 < z.nodes → 0 < z.groups → ((place_in z (row_count z)).id ≡ z.ids) × ((place_in z (row_count z)).node ≡ 0) × ((place_in z (row_count z)).group ≡ 0)
+pub place_last : (z : Sizes) → 0 < z.nodes → 0 < z.groups → ((place_of_row z (row_count z)).id ≡ z.ids) × ((place_of_row z (row_count z)).node ≡ 0) × ((place_of_row z (row_count z)).group ≡ 0)
 place_last z nodes groups = let a : z.ids * z.nodes * z.groups / z.groups ≡ z.ids * z.nodes = mul-div_cancel (z.ids * z.nodes) groups in
     (ap (λ (x : ℕ). x / z.nodes) a ∙ mul-div_cancel z.ids nodes, ap (λ (x : ℕ). x % z.nodes) a ∙ mul-mod_left z.ids z.nodes, mul-mod_left (z.ids * z.nodes) z.groups)

@@ -1,9 +1,7 @@
 -- Splitting the first seat and joining another into it keep the rule of seats, which tells what is
 -- left once all are joined.
-use Rattle.shr_seats.proofs.Common.{◌≡◌, ℕ, ◌+◌, ◌≢◌, Bool, true, false, cond, List, [], ◌∷◌, ◌++◌, map, length, set, sym, refl, ap, subst, ◌∙◌, ⊎_elim, arith, sum_by, count_by, some, some-ne-none, get_elem?, at_map, at_set, Each, Standing, at_first, at_split, with_split, with_join, is_out, IsWhole, AreSeats, AreEmptied}
-use Rattle.std.proofs.Common.{not, ◌&&◌, length-append, length-set}
+use Rattle.shr_seats.proofs.Common.{◌≡◌, ℕ, ◌+◌, ◌≢◌, Bool, true, false, cond, List, [], ◌∷◌, ◌++◌, map, length, set, sym, refl, ap, subst, ◌∙◌, ⊎_elim, arith, sum_by, count_by, some, some-ne-none, get_elem?, at_map, at_set, Each, Standing, at_first, at_split, with_split, with_join, is_out, IsWhole, AreSeats, AreEmptied, not, ◌&&◌, length-append, length-set, at_end}
 use Rattle.std.proofs.lemmas.Bool.{cases_Bool}
-use Rattle.shr_seats.specs.Standing.{at_end}
 use Rattle.shr_seats.proofs.Sums.{sum_by-changed, sum_by-joined, sum_by-more, sum_by-none, term_le, terms_le, Each-set, Each-push}
 
 -- 1 for the first seat

@@ -1,7 +1,5 @@
 -- Sums over lists that change at one place, and what holds of each element.
-use Rattle.shr_seats.proofs.Common.{◌≡◌, ℕ, zero, suc, ◌+◌, ◌*◌, ◌<◌, ◌≤◌, ◌≢◌, Bool, List, [], ◌∷◌, ◌++◌, length, set, sym, refl, ap, subst, ◌∙◌, ⊎_elim, arith, cond, eq-eqb, ne_eqb, append-nil, dite, ℕ_discrete, some, some-injective, some-ne-none, get_elem?, at_set, at_snoc, set_else, Each, total}
-use Rattle.std.proofs.Common.{append_assoc}
-use Rattle.shr_seats.specs.Weights.{Begins, only, times, without}
+use Rattle.shr_seats.proofs.Common.{◌≡◌, ℕ, zero, suc, ◌+◌, ◌*◌, ◌<◌, ◌≤◌, ◌≢◌, Bool, List, [], ◌∷◌, ◌++◌, length, set, sym, refl, ap, subst, ◌∙◌, ⊎_elim, arith, cond, eq-eqb, ne_eqb, append-nil, dite, ℕ_discrete, some, some-injective, some-ne-none, get_elem?, at_set, at_snoc, set_else, Each, total, append_assoc, Begins, only, times, without}
 
 module _ {A : Type 0} (g : A → ℕ) where
   pub total-append : (l m : List A) → total g (l ++ m) ≡ total g l + total g m

@@ -18,5 +18,5 @@ abbrev pub row_of : Sizes → Place → ℕ
 row_of z p = (p.id * z.nodes + p.node) * z.groups + p.group
 
 -- the place of a row
-abbrev pub place_in : Sizes → ℕ → Place
-place_in z row = record { id = row / z.groups / z.nodes; node = row / z.groups % z.nodes; group = row % z.groups }
+abbrev pub place_of_row : Sizes → ℕ → Place
+place_of_row z row = record { id = row / z.groups / z.nodes; node = row / z.groups % z.nodes; group = row % z.groups }

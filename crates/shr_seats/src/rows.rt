@@ -1,7 +1,7 @@
 //! The places of a table, and the row of each.
 
 ghost use Rattle.std.specs.Prelude.{◌≡◌, ◌<◌, ◌^◌};
-ghost use Rattle.shr_seats.specs.Rows.{IsPlaceOf, row_count, row_of, place_in};
+ghost use Rattle.shr_seats.specs.Rows.{IsPlaceOf, row_count, row_of, place_of_row};
 
 use shr_base::places::Place;
 
@@ -36,7 +36,7 @@ impl Sizes {
     /// The place of a row. Our own.
     pub fn place(self, row: usize) -> Place
         requires { (0 < self.nodes) × (0 < self.groups) × (row < row_count self) }
-        ensures { result ≡ place_in self row }
+        ensures { result ≡ place_of_row self row }
     {
         let line = row / self.groups as usize;
         Place {

@@ -1,8 +1,6 @@
 -- Serials of which none comes twice.
-use Rattle.shr_serials.proofs.Common.{◌≡◌, ◌≢◌, ℕ, zero, suc, ◌+◌, ◌<◌, ◌≤◌, Bool, true, false, cond, List, [], ◌∷◌, length, get_or, refl, sym, ap, subst, ◌∙◌, inl, inr, arith, sum_by, IsPermutation, IsNonDecreasingBy, cases_Bool, sum_by-cons, sum_by-IsPermutation, IsPermutation-sym, Serial, serial_key}
-use Rattle.std.specs.Prelude.{◌&&◌, ◌==◌}
+use Rattle.shr_serials.proofs.Common.{◌≡◌, ◌≢◌, ℕ, zero, suc, ◌+◌, ◌<◌, ◌≤◌, Bool, true, false, cond, List, [], ◌∷◌, length, get_or, refl, sym, ap, subst, ◌∙◌, inl, inr, arith, sum_by, IsPermutation, IsNonDecreasingBy, cases_Bool, sum_by-cons, sum_by-IsPermutation, IsPermutation-sym, Serial, serial_key, ◌&&◌, ◌==◌, and_parts, and_from, eq-eqb, eqb-true}
 use Rattle.std.specs.List.{AllByRecursion}
-use Rattle.std.proofs.lemmas.Bool.{and_parts, and_from, eq-eqb, eqb-true}
 use Rattle.shr_model.specs.Bag.{AreDistinct}
 
 -- ---- by how often each serial comes

@@ -1,9 +1,5 @@
 -- Sorted numbers with the same sums are the same, and so are sorted serials with the same keys.
-use Rattle.shr_serials.proofs.Common.{◌≡◌, ◌≢◌, ℕ, zero, suc, ◌+◌, ◌<◌, ◌≤◌, Bool, true, false, cond, List, [], ◌∷◌, length, get_or, map, refl, sym, ap, subst, ◌∙◌, inl, inr, arith, sum_by, IsPermutation, Decides, IsNonDecreasingBy, cases_Bool, sum_by-cons, sum_by-IsPermutation, IsPermutation-sym, Serial, AreDistinct, serial_key}
-use Rattle.std.proofs.Common.{◌⊎◌}
-use Rattle.std.specs.Prelude.{nat_lt}
-use Rattle.std.proofs.lemmas.Bool.{ltb-true, ltb-false, lt-ltb}
-use Rattle.std.proofs.lemmas.List.Sorted.{IsPermutation-map, IsPermutation-trans}
+use Rattle.shr_serials.proofs.Common.{◌≡◌, ◌≢◌, ℕ, zero, suc, ◌+◌, ◌<◌, ◌≤◌, Bool, true, false, cond, List, [], ◌∷◌, length, get_or, map, refl, sym, ap, subst, ◌∙◌, inl, inr, arith, sum_by, IsPermutation, Decides, IsNonDecreasingBy, cases_Bool, sum_by-cons, sum_by-IsPermutation, IsPermutation-sym, Serial, AreDistinct, serial_key, ◌⊎◌, nat_lt, ltb-true, ltb-false, lt-ltb, IsPermutation-map, IsPermutation-trans}
 use Rattle.shr_serials.proofs.Distinct.{distinct_again, distinct_before}
 
 -- no number is below this one

@@ -3,9 +3,9 @@ use Rattle.std.specs.Prelude.{ℕ, ◌+◌, ◌*◌}
 use Rattle.shr_base.specs.declared.places.Serial.{Serial}
 
 -- the numbers of a worker and of its command as one
-abbrev pub key_of : ℕ → ℕ → ℕ
-key_of worker command = 4294967296 * worker + command
+abbrev pub command_key : ℕ → ℕ → ℕ
+command_key worker command = 4294967296 * worker + command
 
 -- that of a serial
 abbrev pub serial_key : Serial → ℕ
-serial_key s = key_of s.worker s.command
+serial_key s = command_key s.worker s.command

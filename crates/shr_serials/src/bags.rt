@@ -4,14 +4,14 @@ ghost use Rattle.std.specs.Prelude.{◌≡◌, ◌≢◌, true, false, map, IsPe
 ghost use Rattle.std.specs.Bool.{Decides};
 ghost use Rattle.std.specs.List.Sorted.{IsNonDecreasingBy};
 ghost use Rattle.shr_model.specs.Bag.{AreDistinct};
-ghost use Rattle.shr_serials.specs.Keys.{key_of, serial_key};
+ghost use Rattle.shr_serials.specs.Keys.{command_key, serial_key};
 
 use shr_base::memory::Memory;
 use shr_base::places::Serial;
 
 // The numbers of a worker and of its command as one.
 fn key_of(worker: u16, command: u32) -> u64
-    ensures { result ≡ key_of worker command }
+    ensures { result ≡ command_key worker command }
 {
     0x1_0000_0000 * worker as u64 + command as u64
 }

@@ -1,5 +1,5 @@
 -- Sums by key at known values.
-use Rattle.shr_sums.proofs.Common.{arith, ap, ◌≡◌, ℕ, ◌^◌, ◌-◌, true, false, List, [], ◌∷◌, refl, Place, Carry, Move, ups_at, downs_at, IsSettled, place_key, IsNarrow, Gains, carried_to, carried_from}
+use Rattle.shr_sums.proofs.Common.{arith, ap, ◌≡◌, ℕ, ◌^◌, ◌-◌, true, false, List, [], ◌∷◌, refl, Place, Carry, Move, sum_up_at, sum_down_at, IsSettled, deferred_key, IsNarrow, GainsAtEach, carried_to, carried_from}
 use Rattle.shr_sums.specs.Moves.{settles}
 
 abbrev move : ℕ → ℕ → ℕ → Move
@@ -8,10 +8,10 @@ move key up down = record { key = key; up = up; down = down }
 abbrev even : List Move
 even = move 3 5 0 ∷ move 7 0 1 ∷ move 3 0 5 ∷ move 7 1 0 ∷ []
 
-up_at_three : ups_at 3 even ≡ 5
+up_at_three : sum_up_at 3 even ≡ 5
 up_at_three = refl
 
-down_at_seven : downs_at 7 even ≡ 1
+down_at_seven : sum_down_at 7 even ≡ 1
 down_at_seven = refl
 
 -- one unit of key 7 isn't given back
@@ -31,10 +31,10 @@ abbrev place : ℕ → ℕ → ℕ → Place
 place id node group = record { id = id; node = node; group = group }
 
 -- places that differ have keys that differ
-next_id : place_key (place 1 0 0) ≡ 2 ^ 24
+next_id : deferred_key (place 1 0 0) ≡ 2 ^ 24
 next_id = refl
 
-next_node : place_key (place 0 1 0) ≡ 2 ^ 16
+next_node : deferred_key (place 0 1 0) ≡ 2 ^ 16
 next_node = refl
 
 inside : IsNarrow (place 255 3 255)

@@ -11,13 +11,13 @@ use Rattle.shr_seats.proofs.Weighing.{total-append}
 use Rattle.shr_seats.specs.Shapes.{groups_in}
 use Rattle.shr_core.specs.Seats.{shape_of}
 use Rattle.shr_base.specs.declared.walks.WalkAnswer.{WalkAnswer}
-use Rattle.shr_walk.specs.Balances.{freed_told, lacked_memory}
+use Rattle.shr_walk.specs.Balances.{walk_freed, lacked_memory}
 use Rattle.shr_walk.specs.State.{WorkerState}
 use Rattle.shr_walk.specs.declared.seats.Shared.{Shared}
 use Rattle.shr_reclaim.specs.Rounds.{Visit, WalksAll, IsVisited, job_in}
 use Rattle.shr_reclaim.proofs.Visiting.{all_more, none_walked, visited_more}
 use Rattle.shr_pool.specs.Known.{HasPoppedWithin}
-use Rattle.shr_pool.specs.Lines.{ends, is_end, of_job, line_of, table_jobs, most_helpers}
+use Rattle.shr_pool.specs.Lines.{ends, is_end, of_job, queue_line, table_jobs, most_helpers}
 use Rattle.shr_pool.specs.Rule.{with_pop}
 use Rattle.shr_pool.specs.Worked.{IsTableJob, only_job}
 use Rattle.shr_pool.specs.declared.items.SweepItem.{SweepItem}
@@ -28,7 +28,7 @@ use Rattle.shr_pool.proofs.Filling.{length_line}
 use Rattle.shr_pool.proofs.Once.{agrees, is_table_job, not_in_table}
 use Rattle.shr_pool.proofs.Weighing.{total_one}
 use Rattle.shr_pool.proofs.Working.{line_weighs}
-use Rattle.shr_sweep.specs.Helping.{IsLineWithin, HasSwept, HasStopped, walk_of, with_pops, freed_in}
+use Rattle.shr_sweep.specs.Helping.{IsLineWithin, HasSwept, HasStopped, walk_of_job, with_pops, visit_freed}
 
 -- ---- what was pushed
 
@@ -41,7 +41,7 @@ all_marks : ends (replicate most_helpers End) ≡ most_helpers
 all_marks = refl
 
 -- all marks were pushed
-pub marked : (nodes groups : ℕ) → most_helpers ≤ ends (line_of nodes groups)
+pub marked : (nodes groups : ℕ) → most_helpers ≤ ends (queue_line nodes groups)
 marked nodes groups = omega (arith, total-append is_end (map Walk (table_jobs nodes groups)) (replicate most_helpers End), all_marks)
 
 -- ---- the jobs so far
@@ -51,12 +51,12 @@ pub record HasHelped (x : Shared) (by : Serial) (priority : ℕ) (nofs : Bool) (
   pub jobs : List SweepJob
   pub walks : List Visit
   pub popped : w ≡ with_pops v (map Walk jobs)
-  pub walked : WalksAll x by (map (walk_of priority nofs) jobs) walks s t
+  pub walked : WalksAll x by (map (walk_of_job priority nofs) jobs) walks s t
   pub counted : count ≡ length jobs
-  pub sum_freed : freed ≡ sum (map freed_in walks)
+  pub sum_freed : freed ≡ sum (map visit_freed walks)
 
-freed_more : (vs : List Visit) (v : Visit) → sum (map freed_in (vs ++ v ∷ [])) ≡ sum (map freed_in vs) + freed_in v
-freed_more vs v = let all = sum-map freed_in (vs ++ v ∷ []) in let both = sum_by-append freed_in vs (v ∷ []) in let front = sum-map freed_in vs in let one = sum_by-cons freed_in v [] in omega (arith, all, both, front, one)
+freed_more : (vs : List Visit) (v : Visit) → sum (map visit_freed (vs ++ v ∷ [])) ≡ sum (map visit_freed vs) + visit_freed v
+freed_more vs v = let all = sum-map visit_freed (vs ++ v ∷ []) in let both = sum_by-append visit_freed vs (v ∷ []) in let front = sum-map visit_freed vs in let one = sum_by-cons visit_freed v [] in omega (arith, all, both, front, one)
 
 module _ (x : Shared) (by : Serial) (priority : ℕ) (nofs : Bool) where
   pub helped_none : (v : PassView) (s : WorkerState) → HasHelped x by priority nofs 0 0 v v s s
@@ -82,36 +82,36 @@ module _ (x : Shared) (by : Serial) (priority : ℕ) (nofs : Bool) where
       popped_more : after ≡ with_pops v (map Walk (h.jobs ++ j ∷ []))
       popped_more = e ∙ (ap (λ (y : PassView). with_pop y (Walk j)) h.popped ∙ ap (λ (l : List SweepItem). record v { popped = l }) (append_assoc v.popped (map Walk h.jobs) (Walk j ∷ []) ∙ ap (λ (l : List SweepItem). v.popped ++ l) (sym (map-append Walk h.jobs (j ∷ [])))))
 
-      module _ (a : WalkAnswer) (u : WorkerState) (one : IsVisited x by (record { job = walk_of priority nofs j; answer = a; after = u }) t) where
+      module _ (a : WalkAnswer) (u : WorkerState) (one : IsVisited x by (record { job = walk_of_job priority nofs j; answer = a; after = u }) t) where
         abbrev visit : Visit
-        visit = record { job = walk_of priority nofs j; answer = a; after = u }
+        visit = record { job = walk_of_job priority nofs j; answer = a; after = u }
 
         -- one job more was popped and walked
-        pub helped_more : lacked_memory a ≡ false → HasHelped x by priority nofs (count + 1) (freed + freed_told a) v after s u
+        pub helped_more : lacked_memory a ≡ false → HasHelped x by priority nofs (count + 1) (freed + walk_freed a) v after s u
         helped_more had = record {
           jobs = h.jobs ++ j ∷ [];
           walks = h.walks ++ visit ∷ [];
           popped = popped_more;
-          walked = subst (λ (l : List Job). WalksAll x by l (h.walks ++ visit ∷ []) s u) (sym (map-append (walk_of priority nofs) h.jobs (j ∷ []))) (all_more x by (map (walk_of priority nofs) h.jobs) h.walks visit s t h.walked one had);
+          walked = subst (λ (l : List Job). WalksAll x by l (h.walks ++ visit ∷ []) s u) (sym (map-append (walk_of_job priority nofs) h.jobs (j ∷ []))) (all_more x by (map (walk_of_job priority nofs) h.jobs) h.walks visit s t h.walked one had);
           counted = omega (arith, h.counted, length-append h.jobs (j ∷ []));
-          sum_freed = ap (λ (m : ℕ). m + freed_told a) h.sum_freed ∙ sym (freed_more h.walks visit);
+          sum_freed = ap (λ (m : ℕ). m + walk_freed a) h.sum_freed ∙ sym (freed_more h.walks visit);
         }
 
         -- the walk of one job more lacked memory
-        pub helped_stopped : lacked_memory a ≡ true → HasStopped x by priority nofs (freed + freed_told a) v after s u
+        pub helped_stopped : lacked_memory a ≡ true → HasStopped x by priority nofs (freed + walk_freed a) v after s u
         helped_stopped lacked = record {
           jobs = h.jobs ++ j ∷ [];
           walks = h.walks ++ visit ∷ [];
           popped = popped_more;
           visited = visited_more x by h.walks visit s t h.walked.visited one;
-          each = map-append job_in h.walks (visit ∷ []) ∙ (ap (λ (l : List Job). l ++ walk_of priority nofs j ∷ []) h.walked.all ∙ sym (map-append (walk_of priority nofs) h.jobs (j ∷ [])));
+          each = map-append job_in h.walks (visit ∷ []) ∙ (ap (λ (l : List Job). l ++ walk_of_job priority nofs j ∷ []) h.walked.all ∙ sym (map-append (walk_of_job priority nofs) h.jobs (j ∷ [])));
           cut = record { front = h.walks; last = visit; whole = refl; had = h.walked.had; lacked = lacked };
-          sum_freed = ap (λ (m : ℕ). m + freed_told a) h.sum_freed ∙ sym (freed_more h.walks visit);
+          sum_freed = ap (λ (m : ℕ). m + walk_freed a) h.sum_freed ∙ sym (freed_more h.walks visit);
         }
 
     module _ (line : IsLineWithin x v) (j : SweepJob) (after : PassView) (e : after ≡ with_pop w (Walk j)) (within : HasPoppedWithin after) where
       -- what was pushed is known as before
-      same_line : after.pushed ≡ line_of line.nodes line.groups
+      same_line : after.pushed ≡ queue_line line.nodes line.groups
       same_line = ap (λ (y : PassView). y.pushed) e ∙ (ap (λ (y : PassView). y.pushed) h.popped ∙ line.line)
 
       weighs : total (of_job (only_job j)) after.popped ≤ total (only_job j) (table_jobs line.nodes line.groups)

@@ -1,8 +1,7 @@
 -- Declarations registered one after another.
-use Rattle.shr_tables.proofs.Common.{◌≡◌, ℕ, zero, suc, ◌+◌, List, [], ◌++◌, Bool, true, false, sym, refl, ap, subst, ◌∙◌, arith, slice_get, Some, CacheDecl, View, opener, AreEntered}
+use Rattle.shr_tables.proofs.Common.{◌≡◌, ℕ, zero, suc, ◌+◌, List, [], ◌++◌, Bool, true, false, sym, refl, ap, subst, ◌∙◌, arith, slice_get, Some, CacheDecl, View, opener, AreEntered, Enters, EntersIf, is_on}
 use Rattle.shr_core.specs.Parts.{Tried}
 use Rattle.shr_core.proofs.Owing.{still_none}
-use Rattle.shr_tables.specs.Opened.{Enters, EntersIf, is_on}
 
 -- one cache more that is on
 pub entered_more : (cs : List CacheDecl) (n : ℕ) (c : CacheDecl) (v u w : View) → slice_get cs n ≡ Some c → c.on ≡ true → AreEntered cs n v u → Enters n u w → AreEntered cs (n + 1) v w

@@ -1,7 +1,5 @@
 -- Nothing stands in the way of the first registrations: none is live, and an id is free.
-use Rattle.shr_tables.proofs.Common.{◌≡◌, ℕ, zero, suc, ◌+◌, ◌<◌, Bool, true, false, List, [], ◌∷◌, ◌++◌, length, get_or, take, sym, refl, ap, subst, ◌∙◌, arith, Some, nat_tests, CacheDecl, View, HasEntered}
-use Rattle.std.proofs.Common.{◌≤◌, ◌%◌, cond, nat_lt, drop, length-append}
-use Rattle.std.specs.Prelude.{◌==◌, ◌&&◌, if◌then◌else◌, Option, None}
+use Rattle.shr_tables.proofs.Common.{◌≡◌, ℕ, zero, suc, ◌+◌, ◌<◌, Bool, true, false, List, [], ◌∷◌, ◌++◌, length, get_or, take, sym, refl, ap, subst, ◌∙◌, arith, Some, nat_tests, CacheDecl, View, HasEntered, ◌≤◌, ◌%◌, cond, nat_lt, drop, length-append, ◌==◌, ◌&&◌, if◌then◌else◌, Option, None, AreBefore}
 use Rattle.std.specs.List.{count_by}
 use Rattle.std.proofs.lemmas.List.{append-nil, nil_from_length, take-append-drop}
 use Rattle.std.proofs.lemmas.Grind.{take_at_read}
@@ -12,7 +10,6 @@ use Rattle.shr_model.specs.Pool.{id_of, phase_of, decl_after, decl_from, decl_of
 use Rattle.shr_core.specs.declared.setting.Setting.{Setting}
 use Rattle.shr_core.specs.Parts.{Turn}
 use Rattle.shr_registry.specs.Answers.{FindsLive, FindsNoId, Registers}
-use Rattle.shr_tables.specs.First.{AreBefore}
 
 -- and so below the next
 pub before_next : (decl : ℕ) (es : List PoolEntry) → AreBefore decl es → AreBefore (decl + 1) es

@@ -57,13 +57,13 @@ pub record AreReady (x : Shared) (s : Seats) : Type 0 where
   pub charged : charges.standing_of s.cache.charge ≡ at_first
   pub moves : moves_of s.deferred ≡ no_moves
   pub strands : strands_of s.deferred ≡ no_moves ∷ []
-  pub deferred : deferreds.standing_of s.deferred ≡ at_first
+  pub deferred : deferreds.deferred_standing s.deferred ≡ at_first
   pub noted : s.cache.uses.items ≡ []
   pub walks : s.walks.items ≡ []
   pub carries : s.carries.items ≡ []
 
 -- the first seat of new pools, which has done and seen nothing
 pub record IsPlainReady (p : Pools) (s : PlainSeat) : Type 0 where
-  pub seat : plain.IsOf p s
-  pub state : plain.state_of s ≡ no_state
-  pub standing : plain.standing_of s ≡ (at_first, at_first)
+  pub seat : plain.IsPlainSeat p s
+  pub state : plain.plain_state_of s ≡ no_state
+  pub standing : plain.plain_standing s ≡ (at_first, at_first)

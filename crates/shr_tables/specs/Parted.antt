@@ -1,7 +1,7 @@
 -- Seats for the workers, and their joining.
 use Rattle.std.specs.Prelude.{◌≡◌, ℕ, [], ◌∷◌, ◌++◌, true}
 use Rattle.shr_seats.specs.Standing.{with_split, with_join}
-use Rattle.shr_core.specs.Steps.{with_one_split, split_off, joined}
+use Rattle.shr_core.specs.Steps.{with_one_split, split_off, with_joined}
 use Rattle.shr_core.specs.Seats.{view_of}
 use Rattle.shr_charge.specs.Seat.{uses_of, tree_of}
 use Rattle.shr_charge.specs.Seat as charges
@@ -12,7 +12,7 @@ use Rattle.shr_deferred.specs.Seat as deferreds
 use Rattle.shr_deferred.specs.Moves.{no_moves, both}
 use Rattle.shr_plain.specs.declared.table.Pools.{Pools}
 use Rattle.shr_plain.specs.declared.table.PlainSeat.{PlainSeat}
-use Rattle.shr_plain.specs.Seat.{IsFirst, joined_state, no_state}
+use Rattle.shr_plain.specs.Seat.{IsFirstSeat, joined_state, no_state}
 use Rattle.shr_plain.specs.Seat as plain
 use Rattle.shr_walk.specs.declared.seats.Seats.{Seats}
 use Rattle.shr_walk.specs.declared.seats.Shared.{Shared}
@@ -23,7 +23,7 @@ pub record AreFirst (x : Shared) (s : Seats) : Type 0 where
   pub rested : IsRested x s
   pub core : (view_of s.cache.core).standing.first ≡ true
   pub charge : (charges.standing_of s.cache.charge).first ≡ true
-  pub deferred : (deferreds.standing_of s.deferred).first ≡ true
+  pub deferred : (deferreds.deferred_standing s.deferred).first ≡ true
 
 -- they were split and joined alike, so often
 pub record AreParted (s : Seats) (splits joins : ℕ) : Type 0 where
@@ -31,8 +31,8 @@ pub record AreParted (s : Seats) (splits joins : ℕ) : Type 0 where
   pub core_joins : (view_of s.cache.core).standing.joins ≡ joins
   pub charge_splits : (charges.standing_of s.cache.charge).splits ≡ splits
   pub charge_joins : (charges.standing_of s.cache.charge).joins ≡ joins
-  pub deferred_splits : (deferreds.standing_of s.deferred).splits ≡ splits
-  pub deferred_joins : (deferreds.standing_of s.deferred).joins ≡ joins
+  pub deferred_splits : (deferreds.deferred_standing s.deferred).splits ≡ splits
+  pub deferred_joins : (deferreds.deferred_standing s.deferred).joins ≡ joins
 
 -- the first seats were split once more, and have done and seen what they had
 pub record AreSplit (old new : Seats) : Type 0 where
@@ -42,7 +42,7 @@ pub record AreSplit (old new : Seats) : Type 0 where
   pub charged : charges.standing_of new.cache.charge ≡ with_split (charges.standing_of old.cache.charge)
   pub moves : moves_of new.deferred ≡ moves_of old.deferred
   pub strands : strands_of new.deferred ≡ strands_of old.deferred
-  pub deferred : deferreds.standing_of new.deferred ≡ with_split (deferreds.standing_of old.deferred)
+  pub deferred : deferreds.deferred_standing new.deferred ≡ with_split (deferreds.deferred_standing old.deferred)
 
 -- seats that were split off the first ones: they know the pool's entries that those know, and have done nothing
 pub record AreNew (x : Shared) (first s : Seats) : Type 0 where
@@ -57,43 +57,43 @@ pub record AreNew (x : Shared) (first s : Seats) : Type 0 where
 
 -- what other seats did and saw went into the first ones
 pub record AreJoined (old other new : Seats) : Type 0 where
-  pub core : view_of new.cache.core ≡ joined (view_of old.cache.core) (view_of other.cache.core)
+  pub core : view_of new.cache.core ≡ with_joined (view_of old.cache.core) (view_of other.cache.core)
   pub uses : uses_of new.cache.charge ≡ both_uses (uses_of old.cache.charge) (uses_of other.cache.charge)
   pub tree : tree_of new.cache.charge ≡ joined_tree (tree_of old.cache.charge) (tree_of other.cache.charge)
   pub charged : charges.standing_of new.cache.charge ≡ with_join (charges.standing_of old.cache.charge)
   pub moves : moves_of new.deferred ≡ both (moves_of old.deferred) (moves_of other.deferred)
   pub strands : strands_of new.deferred ≡ strands_of old.deferred ++ moves_of other.deferred ∷ []
-  pub deferred : deferreds.standing_of new.deferred ≡ with_join (deferreds.standing_of old.deferred)
+  pub deferred : deferreds.deferred_standing new.deferred ≡ with_join (deferreds.deferred_standing old.deferred)
 
 -- the first seat of the pools, which holds no room
 pub record IsPlainFirst (p : Pools) (s : PlainSeat) : Type 0 where
-  pub seat : plain.IsOf p s
-  pub first : IsFirst (plain.standing_of s)
+  pub seat : plain.IsPlainSeat p s
+  pub first : IsFirstSeat (plain.plain_standing s)
 
 -- it was split and joined so often, alike at both tables of the pools
 pub record IsPlainParted (s : PlainSeat) (splits joins : ℕ) : Type 0 where
-  pub unit_splits : (plain.standing_of s).0.splits ≡ splits
-  pub unit_joins : (plain.standing_of s).0.joins ≡ joins
-  pub deferred_splits : (plain.standing_of s).1.splits ≡ splits
-  pub deferred_joins : (plain.standing_of s).1.joins ≡ joins
+  pub unit_splits : (plain.plain_standing s).0.splits ≡ splits
+  pub unit_joins : (plain.plain_standing s).0.joins ≡ joins
+  pub deferred_splits : (plain.plain_standing s).1.splits ≡ splits
+  pub deferred_joins : (plain.plain_standing s).1.joins ≡ joins
 
 -- it was split once more, and has done and seen what it had
 pub record IsPlainSplit (old new : PlainSeat) : Type 0 where
-  pub state : plain.state_of new ≡ plain.state_of old
-  pub standing : plain.standing_of new ≡ (
-    with_split (plain.standing_of old).0,
-    with_split (plain.standing_of old).1,
+  pub state : plain.plain_state_of new ≡ plain.plain_state_of old
+  pub standing : plain.plain_standing new ≡ (
+    with_split (plain.plain_standing old).0,
+    with_split (plain.plain_standing old).1,
   )
 
 -- a seat that was split off it has done and seen nothing
 pub record IsPlainNew (p : Pools) (s : PlainSeat) : Type 0 where
-  pub seat : plain.IsOf p s
-  pub state : plain.state_of s ≡ no_state
+  pub seat : plain.IsPlainSeat p s
+  pub state : plain.plain_state_of s ≡ no_state
 
 -- what another seat did and saw went into it
 pub record IsPlainJoined (old other new : PlainSeat) : Type 0 where
-  pub state : plain.state_of new ≡ joined_state (plain.state_of old) (plain.state_of other)
-  pub standing : plain.standing_of new ≡ (
-    with_join (plain.standing_of old).0,
-    with_join (plain.standing_of old).1,
+  pub state : plain.plain_state_of new ≡ joined_state (plain.plain_state_of old) (plain.plain_state_of other)
+  pub standing : plain.plain_standing new ≡ (
+    with_join (plain.plain_standing old).0,
+    with_join (plain.plain_standing old).1,
   )

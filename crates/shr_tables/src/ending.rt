@@ -13,7 +13,7 @@ ghost use Rattle.shr_deferred.specs.Seat.{moves_of, strands_of};
 ghost use Rattle.shr_deferred.specs.Seat as deferreds;
 ghost use Rattle.shr_seats.specs.Standing.{IsWhole};
 ghost use Rattle.shr_plain.specs.Ending.{IsPoolsEnd};
-ghost use Rattle.shr_plain.specs.Seat.{IsLast};
+ghost use Rattle.shr_plain.specs.Seat.{IsLastSeat};
 ghost use Rattle.shr_plain.specs.Seat as plain;
 ghost use Rattle.shr_tables.specs.Parted.{AreFirst, IsPlainFirst};
 
@@ -42,8 +42,8 @@ pub fn finish(alloc: Global, tables: Tables, first: CrewSeats) -> Result<Ends, M
     requires plain { IsPlainFirst tables.pools first.plain }
     requires core { IsWhole (view_of first.seats.cache.core).standing }
     requires charge { IsWhole (charges.standing_of first.seats.cache.charge) }
-    requires deferred { IsWhole (deferreds.standing_of first.seats.deferred) }
-    requires pools { IsLast (plain.standing_of first.plain) }
+    requires deferred { IsWhole (deferreds.deferred_standing first.seats.deferred) }
+    requires pools { IsLastSeat (plain.plain_standing first.plain) }
     ensures script { IfOk result (λ e. e.script ≡ tables.shared.script) }
     ensures core { IfOk result (λ e. IsLeft tables.shared.core.setting (view_of
         first.seats.cache.core) e.core) }
@@ -54,7 +54,7 @@ pub fn finish(alloc: Global, tables: Tables, first: CrewSeats) -> Result<Ends, M
         (strands_of first.seats.deferred) e.deferred.items) }
     ensures charge { IfOk result (λ e. IsEndOf (hierarchy_of tables.shared.charge.shape)
         (uses_of first.seats.cache.charge) (tree_of first.seats.cache.charge) e.charge) }
-    ensures pools { IfOk result (λ e. IsPoolsEnd tables.pools.sizes (plain.state_of first.plain)
+    ensures pools { IfOk result (λ e. IsPoolsEnd tables.pools.sizes (plain.plain_state_of first.plain)
         e.pools) }
 {
     let Tables { shared, pools } = tables;

@@ -2,7 +2,7 @@
 
 ghost use Rattle.std.specs.Prelude.{◌≡◌, ◌<◌, IfOk};
 ghost use Rattle.shr_core.specs.Seats.{view_of};
-ghost use Rattle.shr_plain.specs.Seat.{IsOf};
+ghost use Rattle.shr_plain.specs.Seat.{IsPlainSeat};
 ghost use Rattle.shr_walk.specs.State.{IsRested};
 ghost use Rattle.shr_tables.specs.Parted.{AreFirst, AreSplit, AreNew, AreJoined, IsPlainFirst, IsPlainSplit, IsPlainNew, IsPlainJoined};
 ghost use Rattle.shr_charge.specs.Seat.{standing_of};
@@ -73,7 +73,7 @@ pub fn join(tables: &Tables, first: &mut CrewSeats, other: CrewSeats) -> Notes
     requires first { AreFirst tables.now.shared first.old.seats }
     requires plain { IsPlainFirst tables.now.pools first.old.plain }
     requires other { IsRested tables.now.shared other.seats }
-    requires other_plain { IsOf tables.now.pools other.plain }
+    requires other_plain { IsPlainSeat tables.now.pools other.plain }
     ensures first { AreFirst tables.now.shared first.new.seats }
     ensures joined { AreJoined first.old.seats other.seats first.new.seats }
     ensures plain { IsPlainFirst tables.now.pools first.new.plain }

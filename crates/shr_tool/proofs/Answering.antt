@@ -1,7 +1,6 @@
 -- What an input is answered, by the script or the fault that was read.
-use Rattle.shr_tool.proofs.Common.{◌≡◌, ℕ, List, sym, subst, Option, Code, IsFault, SinkSeen, RunGives, Status, Done, Usage, ReadFault, WriteFault, Refused, Memory, TooLong, Unlawful}
+use Rattle.shr_tool.proofs.Common.{◌≡◌, ℕ, List, sym, subst, Option, Code, IsFault, SinkSeen, RunGives, Status, Done, Usage, ReadFault, WriteFault, Refused, Memory, TooLong, Unlawful, source_seen, refusal_text, refusal, AnswerGives, RefusalGives}
 use Rattle.shr_tool.specs.Reading.{ReadAll, script_limit}
-use Rattle.shr_tool.specs.Top.{source_seen, refusal_text, refusal, AnswerGives, RefusalGives}
 
 -- bytes that are spelled so are answered as their spelling
 pub answers_spelling : (bytes other : List ℕ) (sink : SinkSeen) (status : Status) → bytes ≡ other → AnswerGives other sink status → AnswerGives bytes sink status

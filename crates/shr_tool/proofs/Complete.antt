@@ -1,9 +1,6 @@
 -- Where nothing fails, a valid script is run and any other is refused.
-use Rattle.shr_tool.proofs.Common.{◌≡◌, ℕ, ◌≤◌, inl, inr, List, ◌++◌, length, Option, Some, None, refl, sym, ap, ◌∙◌, length-append, arith, append-nil, Consumes, Code, content_of, spell, IsFault, SourceSeen, SinkSeen, RunGives, Status, Done, Usage, ReadFault, WriteFault, Refused, Memory, TooLong, Unlawful}
-use Rattle.std.specs.Io.KnownBytes.{IsAtEnd}
-use Rattle.shr_script.specs.Content.{Content, IsValid}
+use Rattle.shr_tool.proofs.Common.{◌≡◌, ℕ, ◌≤◌, inl, inr, List, ◌++◌, length, Option, Some, None, refl, sym, ap, ◌∙◌, length-append, arith, append-nil, Consumes, Code, content_of, spell, IsFault, SourceSeen, SinkSeen, RunGives, Status, Done, Usage, ReadFault, WriteFault, Refused, Memory, TooLong, Unlawful, IsAtEnd, Content, IsValid, IsComplete, IsRefusing}
 use Rattle.shr_script.proofs.ReadLaws.{faultless}
-use Rattle.shr_tool.specs.Top.{IsComplete, IsRefusing}
 
 -- the bytes that were taken up to the end are all that the source gives
 pub all_taken : (left after : Option (List ℕ)) (bytes xs : List ℕ) → left ≡ Some xs → Consumes left after bytes → IsAtEnd after → xs ≡ bytes

@@ -1,20 +1,13 @@
 -- The commands of a generated script, and how many they are.
-use Rattle.shr_tool.proofs.Common.{◌≡◌, ℕ, zero, suc, ◌+◌, ◌*◌, ◌<◌, ◌^◌, ◌-◌, Bool, true, false, List, [], ◌∷◌, ◌++◌, length, map, refl, sym, ap, ◌∙◌, arith, slice_get, sum_by, Option, Some, None, codes, same_Some, Command, Put, Unregister, Script, content_of, generated, is_offline, commands_of}
-use Rattle.std.proofs.Common.{◌%◌, ◌==◌, eqb, eq-eqb}
-use Rattle.std.specs.Prelude.{nat_lt, if◌then◌else◌, slice_index_or, decimal, option_and_then}
-use Rattle.std.specs.List.{range_with_len}
+use Rattle.shr_tool.proofs.Common.{◌≡◌, ℕ, zero, suc, ◌+◌, ◌*◌, ◌<◌, ◌^◌, ◌-◌, Bool, true, false, List, [], ◌∷◌, ◌++◌, length, map, refl, sym, ap, ◌∙◌, arith, slice_get, sum_by, Option, Some, None, codes, same_Some, Command, Put, Unregister, Script, content_of, generated, is_offline, commands_of, ◌%◌, ◌==◌, eqb, eq-eqb, nat_lt, if◌then◌else◌, slice_index_or, decimal, option_and_then, range_with_len, none-some, Get, Shrink, Balance, Offline, commands_from, generated_command, node_by, cache_by, priority_by, key_text, value_text, worker_group, group_at, drawn_after, chosen_by, answers_in, commands_in, later_of, limit_of}
 use Rattle.std.proofs.lemmas.Bool.{and_parts, and_from, eqb-true}
 use Rattle.std.proofs.lemmas.Fmt.{decimal_injective}
 use Rattle.std.proofs.lemmas.List.FromFn.{length-map-range_with_len}
 use Rattle.std.proofs.lemmas.List.Sums.{sum_by-cons}
-use Rattle.std.proofs.lemmas.Option.{none-some}
 use Rattle.shr_base.specs.declared.ends.WorkerPart.{WorkerPart}
-use Rattle.shr_base.specs.declared.scripts.Command.TheVariants.{Get, Shrink, Balance, Offline}
 use Rattle.shr_base.specs.declared.scripts.GroupDecl.{GroupDecl}
 use Rattle.shr_base.specs.declared.scripts.WorkerScript.{WorkerScript}
 use Rattle.shr_model.specs.Groups.{is_later}
-use Rattle.shr_gen.specs.Generated.{commands_from, command_at, node_by, cache_by, priority_by, key_of, value_of, group_of, group_at, drawn_after, chosen_by}
-use Rattle.shr_report.specs.Parts.{answers_in, commands_in, later_of, limit_of}
 
 -- ---- lists over numbers
 
@@ -45,7 +38,7 @@ sum_of_lists (w ∷ ws) = let rest = sum_of_lists ws in
 sum_of_range : (x : ℕ → ℕ) (commands a n : ℕ) → sum_by length (map (λ w. commands_from (x w) w commands) (range_with_len a n)) ≡ n * commands
 sum_of_range x commands a zero = omega arith
 sum_of_range x commands a (suc n) =
-    let first = length-map-range_with_len (λ j. command_at a commands j (chosen_by (drawn_after (x a) (j + 1)))) 0 commands in
+    let first = length-map-range_with_len (λ j. generated_command a commands j (chosen_by (drawn_after (x a) (j + 1)))) 0 commands in
     let rest = sum_of_range x commands (a + 1) n in
     omega (arith, first, rest, sum_by-cons length (commands_from (x a) a commands) (map (λ w. commands_from (x w) w commands) (range_with_len (a + 1) n)))
 
@@ -65,25 +58,25 @@ drawn_for seed commands w k = chosen_by (drawn_after (drawn_after seed (w * comm
 pub record IsMade (seed workers commands w k : ℕ) (c : Command) : Type 0 where
   pub worker : w < workers
   pub number : k < commands
-  pub is : c ≡ command_at w commands k (drawn_for seed commands w k)
+  pub is : c ≡ generated_command w commands k (drawn_for seed commands w k)
 
 -- a put of a generated script
 pub record IsPut (w commands k group decl : ℕ) (key : List ℕ) : Type 0 where
-  pub group_is : group ≡ group_of w
+  pub group_is : group ≡ worker_group w
   pub decl_fits : decl < 3
-  pub key_is : key ≡ key_of k
+  pub key_is : key ≡ key_text k
   pub not_last : is_offline w commands k ≡ false
 
 -- an `offline` of one
 pub record IsLast (w commands k group : ℕ) : Type 0 where
-  pub group_is : group ≡ group_of w
+  pub group_is : group ≡ worker_group w
   pub last : is_offline w commands k ≡ true
 
 module _ (w commands k r : ℕ) where
   -- what is chosen by four tests
   abbrev chosen : Bool → Bool → Bool → Bool → Command
-  chosen off put get shrink = if off then Offline (group_of w) else (if put then Put (group_of w) (node_by r) (cache_by r) (key_of k) (value_of k) else (if get then Get (group_of w) (node_by r) (cache_by r) (key_of (k - 1)) else
-      (if shrink then Shrink (group_of w) (node_by r) (priority_by r) false else Balance (node_by r) (priority_by r) false)))
+  chosen off put get shrink = if off then Offline (worker_group w) else (if put then Put (worker_group w) (node_by r) (cache_by r) (key_text k) (value_text k) else (if get then Get (worker_group w) (node_by r) (cache_by r) (key_text (k - 1)) else
+      (if shrink then Shrink (worker_group w) (node_by r) (priority_by r) false else Balance (node_by r) (priority_by r) false)))
 
   put_of : (off put get shrink : Bool) → is_offline w commands k ≡ off → (group node decl : ℕ) (key value : List ℕ) → Put group node decl key value ≡ chosen off put get shrink → IsPut w commands k group decl key
   put_of true put get shrink off group node decl key value e = absurd cc
@@ -118,7 +111,7 @@ module _ (s : Script) (seed workers commands : ℕ) (content : content_of s ≡ 
   made w k c at =
       let t = in_lists s.workers.items w k c at in
       let one = at_number (λ v. commands_from (drawn_after seed (v * commands)) v commands) workers w t.0 (ap (λ l. slice_get l w) (sym lists) ∙ t.1) in
-      let two = at_number (λ j. command_at w commands j (chosen_by (drawn_after (drawn_after seed (w * commands)) (j + 1)))) commands k c (ap (λ l. slice_get l k) (sym one.1) ∙ t.2) in
+      let two = at_number (λ j. generated_command w commands j (chosen_by (drawn_after (drawn_after seed (w * commands)) (j + 1)))) commands k c (ap (λ l. slice_get l k) (sym one.1) ∙ t.2) in
       record { worker = one.0; number = two.0; is = two.1 }
 
   pub put_made : (w k group node decl : ℕ) (key value : List ℕ) → slice_get (commands_of s w) k ≡ Some (Put group node decl key value) → IsPut w commands k group decl key
@@ -166,7 +159,7 @@ module _ (s : Script) (seed workers commands : ℕ) (content : content_of s ≡ 
           grind (arith, apart, at_end, few)
 
 -- each key is another
-pub same_key : (j k : ℕ) → j < 2 ^ 64 → k < 2 ^ 64 → key_of j ≡ key_of k → j ≡ k
+pub same_key : (j k : ℕ) → j < 2 ^ 64 → k < 2 ^ 64 → key_text j ≡ key_text k → j ≡ k
 same_key j k low high e = decimal_injective j k low high (tails (decimal j) (decimal k) e)
   where
     tails : (a b : List ℕ) → codes "k" ++ a ≡ codes "k" ++ b → a ≡ b

@@ -1,11 +1,7 @@
 -- Each put of a generated script is added, where there is memory and no counter is used up.
-use Rattle.shr_tool.proofs.Common.{◌≡◌, ℕ, zero, suc, ◌+◌, ◌*◌, ◌<◌, ◌≤◌, ◌^◌, inl, inr, cond, List, [], ◌∷◌, length, refl, sym, ap, ◌∙◌, subst, arith, slice_get, Option, Some, None, same_Some, Command, Put, Unregister, Script, content_of, generated, is_offline, commands_of}
-use Rattle.std.proofs.Common.{⊎_elim}
-use Rattle.std.specs.Prelude.{option_map, filter_map, Contains}
-use Rattle.std.specs.List.{enumerate_from}
+use Rattle.shr_tool.proofs.Common.{◌≡◌, ℕ, zero, suc, ◌+◌, ◌*◌, ◌<◌, ◌≤◌, ◌^◌, inl, inr, cond, List, [], ◌∷◌, length, refl, sym, ap, ◌∙◌, subst, arith, slice_get, Option, Some, None, same_Some, Command, Put, Unregister, Script, content_of, generated, is_offline, commands_of, ⊎_elim, option_map, filter_map, Contains, enumerate_from, slice_get_within, MayBeGenerated, parents_of, decls_on, answers_of, answer_at, journals_of, id_found}
 use Rattle.std.specs.Option.{IsSomeAnd}
 use Rattle.std.proofs.lemmas.Bool.{cases_lt}
-use Rattle.std.proofs.lemmas.Option.{slice_get_within}
 use Rattle.shr_base.specs.declared.journals.PoolEntry.TheVariants.{Registered, Unregistered}
 use Rattle.shr_base.specs.declared.places.At.{At}
 use Rattle.shr_base.specs.declared.places.Serial.{Serial}
@@ -14,12 +10,10 @@ use Rattle.shr_base.specs.declared.replies.Reply.{Reply}
 use Rattle.shr_base.specs.declared.replies.Reply.TheVariants as reply
 use Rattle.shr_base.specs.declared.scripts.CacheDecl.{CacheDecl}
 use Rattle.shr_model.proofs.Members.{Has, Contains_from_Has}
-use Rattle.shr_gen.specs.Generated.{MayBeMade}
 use Rattle.shr_report.specs.declared.report.Report.{Report}
 use Rattle.shr_report.specs.Causes.{IsMadeBy}
 use Rattle.shr_report.specs.Faithful.{IsFaithful}
 use Rattle.shr_report.specs.Lawful.{IsLawful}
-use Rattle.shr_report.specs.Parts.{parents_of, decls_on, answers_of, answer_at, journals_of, id_found}
 use Rattle.shr_report.specs.Puts.{IsOnlyPut, StaysOn, StaysOnline, IsFreePut, IsAddedOrSpent, AreFreePutsAdded, IsEachAdded, DoPutsAddUp}
 use Rattle.shr_report.specs.WellFormed.{IsWellFormed}
 use Rattle.shr_report.specs.ReplyTable.{IsReply}
@@ -60,7 +54,7 @@ three_on (suc zero) lt = inr (inl refl)
 three_on (suc (suc zero)) lt = inr (inr (inl refl))
 three_on (suc (suc (suc d))) lt = absurd (omega (arith, lt))
 
-module _ (s : Script) (r : Report) (seed workers commands : ℕ) (may : MayBeMade workers commands) (content : content_of s ≡ generated seed workers commands) (lawful : IsLawful s r) where
+module _ (s : Script) (r : Report) (seed workers commands : ℕ) (may : MayBeGenerated workers commands) (content : content_of s ≡ generated seed workers commands) (lawful : IsLawful s r) where
   -- no worker answers a sweep
   counts : (worker : ℕ) → length (answers_of r worker) ≡ length (commands_of s worker)
   counts = own_counts s r (ap (λ t. t.sweep) content) lawful.replies.counts
@@ -131,7 +125,7 @@ module _ (s : Script) (r : Report) (seed workers commands : ℕ) (may : MayBeMad
       added_of a.reply (puts worker k group node decl key value a at answer (free worker k group node decl key value at)) (enough worker k a answer)
 
 -- the five lines of a generated script's report
-pub is_summary : (s : Script) (r : Report) (seed workers commands : ℕ) (answer : List ℕ) → MayBeMade workers commands → content_of s ≡ generated seed workers commands → IsLawful s r → IsFaithful s r → IsWellFormed r → IsReportOfRun s r → r.freed + r.listed ≡ r.added
+pub is_summary : (s : Script) (r : Report) (seed workers commands : ℕ) (answer : List ℕ) → MayBeGenerated workers commands → content_of s ≡ generated seed workers commands → IsLawful s r → IsFaithful s r → IsWellFormed r → IsReportOfRun s r → r.freed + r.listed ≡ r.added
     → AreFreePutsAdded s r → DoPutsAddUp s r → answer ≡ five_lines seed workers commands (replies_of r) r.added (r.freed + r.listed) → IsSummary seed workers commands answer
 is_summary s r seed workers commands answer may content lawful faithful well of_run sums puts add_up lines = record {
   script = s;

@@ -1,11 +1,10 @@
 -- What is told of an input is its verdict, where nothing fails.
-use Rattle.shr_tool.proofs.Common.{◌≡◌, ◌∙◌, ℕ, ◌⊎◌, inl, inr, List, refl, sym, ap, subst, arith, SourceSeen, SinkSeen, Status}
+use Rattle.shr_tool.proofs.Common.{◌≡◌, ◌∙◌, ℕ, ◌⊎◌, inl, inr, List, refl, sym, ap, subst, arith, SourceSeen, SinkSeen, Status, IsVerdictOf, status_of, IsBad, JudgeGives, IsJudged, AuditGives, HasVerdict, IsInputWhole, IsJudging}
 use Rattle.shr_outside.specs.Outside.{Rose}
 use Rattle.shr_audit.specs.declared.verdict.Verdict.{Verdict}
 use Rattle.shr_audit.specs.declared.verdict.Verdict.TheVariants.{Lawful, BadScript, BadReport, Unlawful}
 use Rattle.shr_audit.specs.Verdict.{HoldsOf}
 use Rattle.shr_audit.proofs.OneVerdict.{one_verdict}
-use Rattle.shr_tool.specs.Audit.{IsVerdictOf, status_of, IsBad, JudgeGives, IsJudged, AuditGives, HasVerdict, IsWhole, IsJudging}
 use Rattle.shr_tool.specs.declared.status.Status.TheVariants as status
 use Rattle.shr_tool.proofs.Complete.{all_taken, not_too_many}
 use Rattle.shr_tool.proofs.OneSplit.{one_split}
@@ -35,12 +34,12 @@ has_verdict bytes sink status.ReadFault h whole = absurd h
 has_verdict bytes sink status.TooLong h whole = absurd h
 
 -- of the bytes that were read, which are those that the source gives
-of_read : (source : SourceSeen) (sink : SinkSeen) (s : Status) (bytes : List ℕ) → IsWhole source sink bytes → IsJudged source sink s → HasVerdict bytes s ⊎ (s ≡ status.Memory)
+of_read : (source : SourceSeen) (sink : SinkSeen) (s : Status) (bytes : List ℕ) → IsInputWhole source sink bytes → IsJudged source sink s → HasVerdict bytes s ⊎ (s ≡ status.Memory)
 of_read source sink s bytes whole h =
     let same : bytes ≡ h.bytes = all_taken source.left source.left_after h.bytes bytes whole.left h.read.taken h.read.end in
     subst (λ (b : List ℕ). HasVerdict b s ⊎ (s ≡ status.Memory)) (sym same) (has_verdict h.bytes sink s h.judged whole.failed.sink_whole)
 
-some_verdict : (source : SourceSeen) (sink : SinkSeen) (s : Status) (bytes : List ℕ) → AuditGives source sink s → IsWhole source sink bytes → HasVerdict bytes s ⊎ (s ≡ status.Memory)
+some_verdict : (source : SourceSeen) (sink : SinkSeen) (s : Status) (bytes : List ℕ) → AuditGives source sink s → IsInputWhole source sink bytes → HasVerdict bytes s ⊎ (s ≡ status.Memory)
 some_verdict source sink status.Done bytes h whole = of_read source sink status.Done bytes whole h
 some_verdict source sink status.Unlawful bytes h whole = of_read source sink status.Unlawful bytes whole h
 some_verdict source sink status.Refused bytes h whole = of_read source sink status.Refused bytes whole h
@@ -53,10 +52,10 @@ some_verdict source sink status.Usage bytes h whole = absurd h
 pub is_judging : (source : SourceSeen) (sink : SinkSeen) (s : Status) → AuditGives source sink s → IsJudging source sink s
 is_judging source sink s h = record { some = some; only = only }
   where
-    some : (bytes : List ℕ) → IsWhole source sink bytes → HasVerdict bytes s ⊎ (s ≡ status.Memory)
+    some : (bytes : List ℕ) → IsInputWhole source sink bytes → HasVerdict bytes s ⊎ (s ≡ status.Memory)
     some bytes whole = some_verdict source sink s bytes h whole
 
-    only : (bytes : List ℕ) (v : Verdict) → IsWhole source sink bytes → IsVerdictOf bytes v → (s ≡ status_of v) ⊎ (s ≡ status.Memory)
+    only : (bytes : List ℕ) (v : Verdict) → IsInputWhole source sink bytes → IsVerdictOf bytes v → (s ≡ status_of v) ⊎ (s ≡ status.Memory)
     only bytes v whole holds = by_verdict (some bytes whole)
       where
         by_verdict : HasVerdict bytes s ⊎ (s ≡ status.Memory) → (s ≡ status_of v) ⊎ (s ≡ status.Memory)

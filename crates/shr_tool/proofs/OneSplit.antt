@@ -1,8 +1,6 @@
 -- Bytes are split in one way.
-use Rattle.shr_tool.proofs.Common.{◌≡◌, ◌∙◌, ℕ, ◌⊎◌, inl, inr, true, false, List, [], ◌∷◌, ◌++◌, refl, sym, ap, ap₂, append_assoc, codes, AllByRecursion, append-nil, list_all-append, differs, is_part_of, IsOtherLine, IsSplit, with_feeds}
-use Rattle.shr_model.specs.Pieces.{Parts, cut}
+use Rattle.shr_tool.proofs.Common.{◌≡◌, ◌∙◌, ℕ, ◌⊎◌, inl, inr, true, false, List, [], ◌∷◌, ◌++◌, refl, sym, ap, ap₂, append_assoc, codes, AllByRecursion, append-nil, list_all-append, differs, is_part_of, IsOtherLine, IsSplit, with_feeds, Parts, cut, HasEndLine, HasNoEnd}
 use Rattle.shr_model.proofs.PiecesLaws.{and_true, cut_first}
-use Rattle.shr_tool.specs.Audit.{HasEnd, HasNoEnd}
 
 append_same : (a x y : List ℕ) → a ++ x ≡ a ++ y → x ≡ y
 append_same [] x y e = e
@@ -53,7 +51,7 @@ has_line (l ∷ ls) (m ∷ ms) x last h k one e =
     has_line ls ms x last h.1 k.1 one (same_rest l m _ _ same f)
 
 -- the bytes up to the end of a script with an `end`, and behind it
-laid_out : (script report : List ℕ) (h : HasEnd script) → script ++ report ≡ with_feeds h.others.lines ++ (codes "end\n" ++ report)
+laid_out : (script report : List ℕ) (h : HasEndLine script) → script ++ report ≡ with_feeds h.others.lines ++ (codes "end\n" ++ report)
 laid_out script report h = ap (λ s. s ++ report) (h.is ∙ ap (λ b. b ++ codes "end\n") h.others.are) ∙ append_assoc (with_feeds h.others.lines) (codes "end\n") report
 
 laid_open : (script report : List ℕ) (h : HasNoEnd script) → report ≡ [] → script ++ report ≡ with_feeds h.others.lines ++ h.last
@@ -66,7 +64,7 @@ one_split bytes script report other another h k = by_cases h.ending k.ending
     same : script ++ report ≡ other ++ another
     same = h.whole ∙ sym k.whole
 
-    by_cases : HasEnd script ⊎ (HasNoEnd script × (report ≡ [])) → HasEnd other ⊎ (HasNoEnd other × (another ≡ [])) → (script ≡ other) × (report ≡ another)
+    by_cases : HasEndLine script ⊎ (HasNoEnd script × (report ≡ [])) → HasEndLine other ⊎ (HasNoEnd other × (another ≡ [])) → (script ≡ other) × (report ≡ another)
     by_cases (inl f) (inl g) =
         let both = ends_there f.others.lines g.others.lines report another f.others.others g.others.others (sym (laid_out script report f) ∙ same ∙ laid_out other another g) in
         (f.is ∙ ap (λ b. b ++ codes "end\n") (f.others.are ∙ both.0 ∙ sym g.others.are) ∙ sym g.is, both.1)

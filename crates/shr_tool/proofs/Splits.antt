@@ -1,9 +1,7 @@
 -- A script and what stands behind it, found line by line.
-use Rattle.shr_tool.proofs.Common.{◌≡◌, ◌∙◌, ℕ, ◌+◌, ◌-◌, ◌≤◌, ◌<◌, inl, inr, true, false, cond, List, [], ◌∷◌, ◌++◌, length, take, get_or, refl, sym, ap, ap₂, subst, append_assoc, codes, arith, AllByRecursion, append-nil, list_all-append, differs, is_part_of, IsOtherLine, AreOtherLines, IsSplit, with_feeds}
-use Rattle.std.proofs.Common.{◌≢◌, ◌&&◌, drop, ne_eqb, length-drop}
+use Rattle.shr_tool.proofs.Common.{◌≡◌, ◌∙◌, ℕ, ◌+◌, ◌-◌, ◌≤◌, ◌<◌, inl, inr, true, false, cond, List, [], ◌∷◌, ◌++◌, length, take, get_or, refl, sym, ap, ap₂, subst, append_assoc, codes, arith, AllByRecursion, append-nil, list_all-append, differs, is_part_of, IsOtherLine, AreOtherLines, IsSplit, with_feeds, ◌≢◌, ◌&&◌, drop, ne_eqb, length-drop, take_more, get_or-drop, take-append-drop, drop_all}
 use Rattle.std.proofs.Math.Seq.{take-add}
 use Rattle.std.proofs.lemmas.Grind.{flat_map-append}
-use Rattle.std.proofs.lemmas.List.{take_more, get_or-drop, take-append-drop, drop_all}
 
 -- the bytes from the one place to the other
 abbrev pub between : List ℕ → ℕ → ℕ → List ℕ

@@ -8,7 +8,7 @@ use Rattle.shr_outside.specs.Writing.{WrotePart}
 use Rattle.shr_audit.specs.declared.verdict.Law.{Law}
 use Rattle.shr_audit.specs.declared.verdict.Verdict.{Verdict}
 use Rattle.shr_audit.specs.declared.verdict.Verdict.TheVariants.{Lawful, BadScript, BadReport, Unlawful}
-use Rattle.shr_audit.specs.Verdict.{number_of, HoldsOf}
+use Rattle.shr_audit.specs.Verdict.{law_number, HoldsOf}
 use Rattle.shr_tool.specs.Reading.{ReadAll, TookFew, TookTooMany, IsReadFault, audit_limit}
 use Rattle.shr_tool.specs.Top.{SourceSeen, SinkSeen, NoneFailed, WritesNothing, refusal}
 use Rattle.shr_tool.specs.declared.status.Status.{Status}
@@ -32,7 +32,7 @@ pub record AreOtherLines (bytes : List ℕ) : Type 0 where
   pub are : bytes ≡ with_feeds lines
 
 -- other lines, and then the line `end`
-pub record HasEnd (script : List ℕ) : Type 0 where
+pub record HasEndLine (script : List ℕ) : Type 0 where
   pub before : List ℕ
   pub others : AreOtherLines before
   pub is : script ≡ before ++ codes "end\n"
@@ -48,7 +48,7 @@ pub record HasNoEnd (script : List ℕ) : Type 0 where
 -- The script ends with the first line that is `end`, and the report is what stands behind it. Where no line is, all is script.
 pub record IsSplit (bytes script report : List ℕ) : Type 0 where
   pub whole : script ++ report ≡ bytes
-  pub ending : HasEnd script ⊎ (HasNoEnd script × (report ≡ codes ""))
+  pub ending : HasEndLine script ⊎ (HasNoEnd script × (report ≡ codes ""))
 
 -- ---- what is told of it
 
@@ -64,7 +64,7 @@ abbrev pub verdict_text : Verdict → List ℕ
 verdict_text Lawful = codes "lawful\n"
 verdict_text (BadScript line code) = refusal line code
 verdict_text BadReport = codes "refused report\n"
-verdict_text (Unlawful law) = codes "unlawful L" ++ decimal (number_of law) ++ codes "\n"
+verdict_text (Unlawful law) = codes "unlawful L" ++ decimal (law_number law) ++ codes "\n"
 
 -- how a call ends that told a verdict
 abbrev pub status_of : Verdict → Status
@@ -80,7 +80,7 @@ IsBad BadReport = Unit {0}
 IsBad verdict = ⊥
 
 -- this verdict holds of the bytes, and its line was written
-pub record IsTold (bytes : List ℕ) (sink : SinkSeen) (verdict : Verdict) : Type 0 where
+pub record IsVerdictTold (bytes : List ℕ) (sink : SinkSeen) (verdict : Verdict) : Type 0 where
   pub holds : IsVerdictOf bytes verdict
   pub written : Appends sink.written sink.written_after (verdict_text verdict)
 
@@ -93,9 +93,9 @@ pub record IsToldInPart (bytes : List ℕ) (sink : SinkSeen) : Type 0 where
 
 -- an input that was read to its end is judged so
 abbrev pub JudgeGives : List ℕ → SinkSeen → Status → Type 0
-JudgeGives bytes sink status.Done = IsTold bytes sink Lawful
-JudgeGives bytes sink status.Unlawful = (law : Law) × IsTold bytes sink (Unlawful law)
-JudgeGives bytes sink status.Refused = (verdict : Verdict) × (IsBad verdict × IsTold bytes sink verdict)
+JudgeGives bytes sink status.Done = IsVerdictTold bytes sink Lawful
+JudgeGives bytes sink status.Unlawful = (law : Law) × IsVerdictTold bytes sink (Unlawful law)
+JudgeGives bytes sink status.Refused = (verdict : Verdict) × (IsBad verdict × IsVerdictTold bytes sink verdict)
 JudgeGives bytes sink status.WriteFault = IsToldInPart bytes sink
 JudgeGives bytes sink status.Memory = WritesNothing sink
 JudgeGives bytes sink s = ⊥
@@ -124,7 +124,7 @@ pub record HasVerdict (bytes : List ℕ) (s : Status) : Type 0 where
   pub ends : s ≡ status_of verdict
 
 -- the source gives these bytes, they are within the limit, and neither end fails
-pub record IsWhole (source : SourceSeen) (sink : SinkSeen) (bytes : List ℕ) : Type 0 where
+pub record IsInputWhole (source : SourceSeen) (sink : SinkSeen) (bytes : List ℕ) : Type 0 where
   pub left : source.left ≡ Some bytes
   pub within : length bytes ≤ audit_limit
   pub failed : NoneFailed source sink
@@ -132,8 +132,8 @@ pub record IsWhole (source : SourceSeen) (sink : SinkSeen) (bytes : List ℕ) : 
 -- Where the source's bytes are within the limit and neither end fails, the status is that of a verdict that holds of them, and
 -- of no other, or there was no memory.
 pub record IsJudging (source : SourceSeen) (sink : SinkSeen) (s : Status) : Type 0 where
-  pub some : (bytes : List ℕ) → IsWhole source sink bytes → HasVerdict bytes s ⊎ (s ≡ status.Memory)
-  pub only : (bytes : List ℕ) (verdict : Verdict) → IsWhole source sink bytes → IsVerdictOf bytes verdict → (s ≡ status_of verdict) ⊎ (s ≡ status.Memory)
+  pub some : (bytes : List ℕ) → IsInputWhole source sink bytes → HasVerdict bytes s ⊎ (s ≡ status.Memory)
+  pub only : (bytes : List ℕ) (verdict : Verdict) → IsInputWhole source sink bytes → IsVerdictOf bytes verdict → (s ≡ status_of verdict) ⊎ (s ≡ status.Memory)
 
 -- bytes are one script and one report
 abbrev pub IsOneSplit : Type 0

@@ -37,8 +37,8 @@ pub record IsReadFault (limit : ℕ) (left left_after : Option (List ℕ)) (faul
   pub few : TookFew limit left left_after
 
 -- what reading gave, and what the source was asked for
-abbrev pub Reads : ℕ → Option (List ℕ) → Option (List ℕ) → ℕ → ℕ → Input → Type 0
-Reads limit left left_after faults faults_after (All bytes) = ReadAll limit left left_after bytes.items
-Reads limit left left_after faults faults_after Failed = IsReadFault limit left left_after faults faults_after
-Reads limit left left_after faults faults_after TooLong = TookTooMany limit left left_after
-Reads limit left left_after faults faults_after Memory = TookFew limit left left_after
+abbrev pub ReadsInput : ℕ → Option (List ℕ) → Option (List ℕ) → ℕ → ℕ → Input → Type 0
+ReadsInput limit left left_after faults faults_after (All bytes) = ReadAll limit left left_after bytes.items
+ReadsInput limit left left_after faults faults_after Failed = IsReadFault limit left left_after faults faults_after
+ReadsInput limit left left_after faults faults_after TooLong = TookTooMany limit left left_after
+ReadsInput limit left left_after faults faults_after Memory = TookFew limit left left_after

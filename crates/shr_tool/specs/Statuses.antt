@@ -4,12 +4,12 @@ use Rattle.shr_tool.specs.declared.status.Status.{Status}
 use Rattle.shr_tool.specs.declared.status.Status.TheVariants.{Done, Usage, ReadFault, WriteFault, Refused, Memory, TooLong, Unlawful}
 
 -- the number that the program ends with
-abbrev pub number_of : Status → ℕ
-number_of Done = 0
-number_of Usage = 2
-number_of ReadFault = 3
-number_of WriteFault = 4
-number_of Refused = 5
-number_of Memory = 6
-number_of TooLong = 7
-number_of Unlawful = 8
+abbrev pub status_number : Status → ℕ
+status_number Done = 0
+status_number Usage = 2
+status_number ReadFault = 3
+status_number WriteFault = 4
+status_number Refused = 5
+status_number Memory = 6
+status_number TooLong = 7
+status_number Unlawful = 8

@@ -1,7 +1,7 @@
 //! Reading a source to its end.
 
 ghost use Rattle.std.specs.Prelude.{◌≤◌, ◌+◌};
-ghost use Rattle.shr_tool.specs.Reading.{Reads};
+ghost use Rattle.shr_tool.specs.Reading.{ReadsInput};
 
 use shr_outside::outside::{Source, Took};
 use std::alloc::Global;
@@ -27,7 +27,7 @@ pub enum Input {
 
 /// All the bytes that are left, where there are no more than the limit. Our own.
 pub fn read_all<S: Source>(alloc: Global, source: &mut S, limit: usize) -> Input
-    ensures input { Reads limit (S.left source.old) (S.left source.new) (S.faults source.old)
+    ensures input { ReadsInput limit (S.left source.old) (S.left source.new) (S.faults source.old)
         (S.faults source.new) result }
     ensures later { S.faults source.old ≤ S.faults source.new }
     ensures turns { S.turns source.new ≤ S.turns source.old + (limit + 1) }

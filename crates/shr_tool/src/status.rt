@@ -1,7 +1,7 @@
 //! How a call of the whole program ends. Our own.
 
 ghost use Rattle.std.specs.Prelude.{◌≡◌};
-ghost use Rattle.shr_tool.specs.Statuses.{number_of};
+ghost use Rattle.shr_tool.specs.Statuses.{status_number};
 
 /// How a call of `top` ended. The number beside each is the program's exit status. Our own.
 #[derive(Clone, Copy, Debug, PartialEq, Eq)]
@@ -28,7 +28,7 @@ pub enum Status {
 impl Status {
     /// The number that the program ends with. 1 is left to the shell and the kit. Our own.
     pub fn number(self) -> u8
-        ensures { result ≡ number_of self }
+        ensures { result ≡ status_number self }
     {
         match self {
             Status::Done => 0,

@@ -2,7 +2,7 @@
 
 ghost use Rattle.shr_tool.specs.Top.{sink_seen};
 ghost use Rattle.std.specs.Prelude.{◌≡◌, ◌≤◌, ◌+◌, ◌++◌, IfOk, OnOk, decimal, length, sum_by};
-ghost use Rattle.shr_gen.specs.Generated.{MayBeMade};
+ghost use Rattle.shr_gen.specs.Generated.{MayBeGenerated};
 ghost use Rattle.shr_tool.specs.Summary.{replies_of, five_lines, SummaryGives};
 
 use crate::afterwards::{Afterwards, let_go};
@@ -78,7 +78,7 @@ pub fn run_generated<R: Threads + Wait + Sync, K: Sink, G: Gate + Sync>(
     gate: &G,
     afterwards: Afterwards,
 ) -> Status
-    requires { MayBeMade numbers.workers numbers.commands }
+    requires { MayBeGenerated numbers.workers numbers.commands }
     ensures written { SummaryGives numbers.seed numbers.workers numbers.commands
         (sink_seen (K.written sink.old) (K.written sink.new)
         (K.faults sink.old) (K.faults sink.new)) result }

@@ -1,15 +1,11 @@
 -- What the parts of a tree tell of what is seen of it.
-use Rattle.shr_tree.proofs.Common.{◌≡◌, ◌++◌, ◌∷◌, [], ◌<◌, ℕ, Bool, true, false, List, length, map, get_or, set, sym, ap, subst, ◌∙◌, arith, length-map, get_or-map, map_push, is_later, parent_of, children_of, preorder_of, Word, Group, may_hold, IsWhole}
-use Rattle.std.proofs.Common.{◌≤◌}
-use Rattle.std.proofs.lemmas.List.{length_push}
+use Rattle.shr_tree.proofs.Common.{◌≡◌, ◌++◌, ◌∷◌, [], ◌<◌, ℕ, Bool, true, false, List, length, map, get_or, set, sym, ap, subst, ◌∙◌, arith, length-map, get_or-map, map_push, is_later, parent_of, children_of, preorder_of, Word, Group, may_hold, IsTreeWhole, ◌≤◌, length_push, IsTree, IsHierarchy, Groups, hierarchy_in, groups_seen, IsSubtree}
 use Rattle.std.proofs.lemmas.List.FromFn.{length-map-range_with_len, get_or-map-range_with_len}
-use Rattle.shr_model.specs.Groups.{IsTree, IsHierarchy}
 use Rattle.shr_model.proofs.GroupsOrder.{preorder_of-IsAtOrAbove, preorder_of-Contains, preorder_of-pairs, preorder_of-parents}
 use Rattle.shr_model.proofs.GroupsLaws.{IsTree-push, IsHierarchy-push, children_lists-push}
-use Rattle.shr_tree.specs.Tree.{Groups, hierarchy_in, seen_of, IsSubtree}
 
 -- each group has its list of children
-pub within : (paths : List Word) (groups : List Group) (lists : List (List ℕ)) (seen : Groups) (g : ℕ) → IsWhole paths groups lists → seen_of paths groups ≡ seen → g < length seen.parents → g < length lists
+pub within : (paths : List Word) (groups : List Group) (lists : List (List ℕ)) (seen : Groups) (g : ℕ) → IsTreeWhole paths groups lists → groups_seen paths groups ≡ seen → g < length seen.parents → g < length lists
 within paths groups lists seen g whole is lt =
     let parents = map (λ (x : Group). x.parent) groups in
     let same = ap (λ (v : Groups). length v.parents) is in
@@ -18,7 +14,7 @@ within paths groups lists seen g whole is lt =
     omega (arith, same, long, all, lt)
 
 -- and it is that of its children
-pub children_at : (paths : List Word) (groups : List Group) (lists : List (List ℕ)) (seen : Groups) (g : ℕ) (d : List ℕ) → IsWhole paths groups lists → seen_of paths groups ≡ seen → g < length seen.parents → get_or lists g d ≡ children_of seen.parents g
+pub children_at : (paths : List Word) (groups : List Group) (lists : List (List ℕ)) (seen : Groups) (g : ℕ) (d : List ℕ) → IsTreeWhole paths groups lists → groups_seen paths groups ≡ seen → g < length seen.parents → get_or lists g d ≡ children_of seen.parents g
 children_at paths groups lists seen g d whole is lt =
     let parents = map (λ (x : Group). x.parent) groups in
     let same = ap (λ (v : Groups). length v.parents) is in
@@ -27,32 +23,32 @@ children_at paths groups lists seen g d whole is lt =
     ∙ ap (λ (v : Groups). children_of v.parents g) is
 
 -- the parents that are seen of a whole tree are those of a tree
-pub is_tree : (paths : List Word) (groups : List Group) (lists : List (List ℕ)) (seen : Groups) → IsWhole paths groups lists → seen_of paths groups ≡ seen → IsTree seen.parents
+pub is_tree : (paths : List Word) (groups : List Group) (lists : List (List ℕ)) (seen : Groups) → IsTreeWhole paths groups lists → groups_seen paths groups ≡ seen → IsTree seen.parents
 is_tree paths groups lists seen whole is = subst (λ (v : Groups). IsTree v.parents) is whole.tree
 
 -- and with what is said of which are later they are a hierarchy
-pub is_hierarchy : (paths : List Word) (groups : List Group) (lists : List (List ℕ)) (seen : Groups) → IsWhole paths groups lists → seen_of paths groups ≡ seen → IsHierarchy (hierarchy_in seen)
+pub is_hierarchy : (paths : List Word) (groups : List Group) (lists : List (List ℕ)) (seen : Groups) → IsTreeWhole paths groups lists → groups_seen paths groups ≡ seen → IsHierarchy (hierarchy_in seen)
 is_hierarchy paths groups lists seen whole is = subst (λ (v : Groups). IsHierarchy (hierarchy_in v)) is whole.hierarchy
 
 -- the mark of a group as it is kept
-pub later_at : (paths : List Word) (groups : List Group) (seen : Groups) (g : ℕ) (d : Group) → seen_of paths groups ≡ seen → g < length seen.parents → (get_or groups g d).later ≡ is_later seen.later g
+pub later_at : (paths : List Word) (groups : List Group) (seen : Groups) (g : ℕ) (d : Group) → groups_seen paths groups ≡ seen → g < length seen.parents → (get_or groups g d).later ≡ is_later seen.later g
 later_at paths groups seen g d is lt =
     let same = ap (λ (v : Groups). length v.parents) is in
     let all = length-map groups (λ (x : Group). x.parent) in
     sym (get_or-map (λ (x : Group). x.later) groups g d false (omega (arith, same, all, lt))) ∙ ap (λ (v : Groups). is_later v.later g) is
 
 -- what may hold a child by what is seen may by what is kept
-pub holds_kept : (paths : List Word) (groups : List Group) (seen : Groups) (late : Bool) (p : ℕ) → seen_of paths groups ≡ seen → may_hold seen.later late p ≡ true → may_hold (map (λ (x : Group). x.later) groups) late p ≡ true
+pub holds_kept : (paths : List Word) (groups : List Group) (seen : Groups) (late : Bool) (p : ℕ) → groups_seen paths groups ≡ seen → may_hold seen.later late p ≡ true → may_hold (map (λ (x : Group). x.later) groups) late p ≡ true
 holds_kept paths groups seen late p is h = subst (λ (v : Groups). may_hold v.later late p ≡ true) (sym is) h
 
 -- the parent as it is kept
-pub parent_at : (paths : List Word) (groups : List Group) (seen : Groups) (g : ℕ) (d : Group) → seen_of paths groups ≡ seen → g < length seen.parents → (get_or groups g d).parent ≡ parent_of seen.parents g
+pub parent_at : (paths : List Word) (groups : List Group) (seen : Groups) (g : ℕ) (d : Group) → groups_seen paths groups ≡ seen → g < length seen.parents → (get_or groups g d).parent ≡ parent_of seen.parents g
 parent_at paths groups seen g d is lt =
     let same = ap (λ (v : Groups). length v.parents) is in
     let all = length-map groups (λ (x : Group). x.parent) in
     sym (get_or-map (λ (x : Group). x.parent) groups g d 0 (omega (arith, same, all, lt))) ∙ ap (λ (v : Groups). parent_of v.parents g) is
 
-pub few_groups : (paths : List Word) (groups : List Group) (lists : List (List ℕ)) (seen : Groups) → IsWhole paths groups lists → seen_of paths groups ≡ seen → length seen.parents ≤ 256
+pub few_groups : (paths : List Word) (groups : List Group) (lists : List (List ℕ)) (seen : Groups) → IsTreeWhole paths groups lists → groups_seen paths groups ≡ seen → length seen.parents ≤ 256
 few_groups paths groups lists seen whole is =
     let same = ap (λ (v : Groups). length v.parents) is in
     let all = length-map groups (λ (x : Group). x.parent) in
@@ -60,8 +56,8 @@ few_groups paths groups lists seen whole is =
     omega (arith, same, all, few)
 
 -- with one group more they still belong together
-pub whole_more : (paths : List Word) (groups : List Group) (lists : List (List ℕ)) (path : Word) (group : Group) → IsWhole paths groups lists → group.parent < length groups → may_hold (map (λ (x : Group). x.later) groups) group.later group.parent ≡ true → length paths < 256
-    → IsWhole (paths ++ path ∷ []) (groups ++ group ∷ []) (set lists group.parent (get_or lists group.parent [] ++ length groups ∷ []) ++ [] ∷ [])
+pub whole_more : (paths : List Word) (groups : List Group) (lists : List (List ℕ)) (path : Word) (group : Group) → IsTreeWhole paths groups lists → group.parent < length groups → may_hold (map (λ (x : Group). x.later) groups) group.later group.parent ≡ true → length paths < 256
+    → IsTreeWhole (paths ++ path ∷ []) (groups ++ group ∷ []) (set lists group.parent (get_or lists group.parent [] ++ length groups ∷ []) ++ [] ∷ [])
 whole_more paths groups lists path group whole there holds few =
     let parents = map (λ (x : Group). x.parent) groups in
     let p = group.parent in
@@ -83,20 +79,20 @@ whole_more paths groups lists path group whole there holds few =
 
 -- a tree stays whole with one group more below one that is there
 pub whole_grown : (paths : List Word) (groups : List Group) (lists kept : List (List ℕ)) (path : Word) (group : Group) (number : ℕ) (paths' : List Word) (groups' : List Group) (lists' : List (List ℕ))
-    → IsWhole paths groups lists → group.parent < length groups → may_hold (map (λ (x : Group). x.later) groups) group.later group.parent ≡ true → length paths < 256
+    → IsTreeWhole paths groups lists → group.parent < length groups → may_hold (map (λ (x : Group). x.later) groups) group.later group.parent ≡ true → length paths < 256
     → paths' ≡ paths ++ path ∷ [] → groups' ≡ groups ++ group ∷ [] → number ≡ length groups → kept ≡ lists → lists' ≡ set kept group.parent (get_or kept group.parent [] ++ number ∷ []) ++ [] ∷ []
-    → IsWhole paths' groups' lists'
+    → IsTreeWhole paths' groups' lists'
 whole_grown paths groups lists kept path group number paths' groups' lists' whole there holds few p g n k l =
     rw (p, g, l, k, n) (whole_more paths groups lists path group whole there holds few)
 
 -- there is a group for each parent
-pub groups_long : (paths : List Word) (groups : List Group) (seen : Groups) (g : ℕ) → seen_of paths groups ≡ seen → g < length seen.parents → g < length groups
+pub groups_long : (paths : List Word) (groups : List Group) (seen : Groups) (g : ℕ) → groups_seen paths groups ≡ seen → g < length seen.parents → g < length groups
 groups_long paths groups seen g is lt =
     let same = ap (λ (v : Groups). length v.parents) is in
     let all = length-map groups (λ (x : Group). x.parent) in
     omega (arith, same, all, lt)
 
-pub paths_long : (paths : List Word) (groups : List Group) (seen : Groups) → seen_of paths groups ≡ seen → length seen.paths < 256 → length paths < 256
+pub paths_long : (paths : List Word) (groups : List Group) (seen : Groups) → groups_seen paths groups ≡ seen → length seen.paths < 256 → length paths < 256
 paths_long paths groups seen is lt = let same = ap (λ (v : Groups). length v.paths) is in omega (arith, same, lt)
 
 -- the preorder has the groups of the subtree, each once, and each but the first behind its parent

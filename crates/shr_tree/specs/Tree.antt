@@ -26,8 +26,8 @@ abbrev pub root_alone : Groups
 root_alone = record { paths = root_path ∷ []; parents = 0 ∷ []; later = false ∷ []; limits = None ∷ [] }
 
 -- the group of a path is there
-abbrev pub is_there : List Word → Word → Bool
-is_there paths path = is_some (place_of path paths)
+abbrev pub is_path_there : List Word → Word → Bool
+is_path_there paths path = is_some (place_of path paths)
 
 -- one more group, below that of its parent path
 abbrev pub with_group : Groups → Word → Option ℕ → Bool → Groups
@@ -52,7 +52,7 @@ unfoldable pub refusal_of : Groups → Bool → Word → Option TreeError
 refusal_of groups late path =
     if not (is_path path) then Some errors.BadPath else
     (if not (bytes_eq path root_path) && not (is_parent groups.later late (place_of (parent_path path) groups.paths)) then Some errors.NoParent else
-    (if is_there groups.paths path then Some errors.Exists else
+    (if is_path_there groups.paths path then Some errors.Exists else
     (if nat_le 256 (length groups.paths) then Some errors.TooMany else None)))
 
 -- A path with a reason against it is refused for that reason, and any other only for want of
@@ -70,15 +70,15 @@ pub record IsSubtree (parents : List ℕ) (group : ℕ) (order : List ℕ) : Typ
   pub behind : (i : ℕ) → 0 < i → i < length order → Contains (take i order) (parent_of parents (slice_index order i))
 
 -- what is seen of the groups as they are kept
-abbrev pub seen_of : List Word → List Group → Groups
-seen_of paths groups = record { paths = paths; parents = map (λ g. g.parent) groups; later = map (λ g. g.later) groups; limits = map (λ g. g.limit) groups }
+abbrev pub groups_seen : List Word → List Group → Groups
+groups_seen paths groups = record { paths = paths; parents = map (λ g. g.parent) groups; later = map (λ g. g.later) groups; limits = map (λ g. g.limit) groups }
 
 -- the children of each group
 abbrev pub children_lists : List ℕ → List (List ℕ)
 children_lists parents = map (children_of parents) (range_with_len 0 (length parents))
 
 -- the parts of a tree belong together
-pub record IsWhole (paths : List Word) (groups : List Group) (lists : List (List ℕ)) : Type 0 where
+pub record IsTreeWhole (paths : List Word) (groups : List Group) (lists : List (List ℕ)) : Type 0 where
   pub tree : IsTree (map (λ g. g.parent) groups)
   pub hierarchy : IsHierarchy (record { parents = map (λ g. g.parent) groups; later = map (λ g. g.later) groups })
   pub named : length paths ≡ length groups

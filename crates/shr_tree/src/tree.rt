@@ -40,13 +40,13 @@ pub struct Tree {
 }
 
 impl Model for Tree {
-    ghost use Rattle.shr_tree.specs.Tree.{Groups, seen_of, IsWhole};
+    ghost use Rattle.shr_tree.specs.Tree.{Groups, groups_seen, IsTreeWhole};
 
     ghost Value = { Groups };
 
-    ghost view = { λ t. seen_of t.paths t.groups.items };
+    ghost view = { λ t. groups_seen t.paths t.groups.items };
 
-    ghost invariant = { λ t. IsWhole t.paths t.groups.items t.children.lists };
+    ghost invariant = { λ t. IsTreeWhole t.paths t.groups.items t.children.lists };
 }
 
 impl Tree {

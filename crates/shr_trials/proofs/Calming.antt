@@ -1,6 +1,5 @@
 -- Each call leaves its seat calm, and where it stands among the seats.
-use Rattle.shr_trials.proofs.Common.{◌≡◌, ℕ, List, Bool, ap, ◌∙◌, IsCalm}
-use Rattle.std.specs.Prelude.{None}
+use Rattle.shr_trials.proofs.Common.{◌≡◌, ℕ, List, Bool, ap, ◌∙◌, IsCalm, None}
 use Rattle.shr_base.specs.declared.objects.Object.{Object}
 use Rattle.shr_base.specs.declared.objects.Policy.{Policy}
 use Rattle.shr_base.specs.declared.places.Place.{Place}

@@ -1,7 +1,7 @@
 -- The names that the proofs of this crate cite most, passed on from one place. Declares nothing.
-pub use Rattle.std.proofs.Common.{Bool, List, ap, ℕ, ◌∙◌, ◌≡◌}
+pub use Rattle.std.proofs.Common.{Bool, List, ap, subst, ℕ, ◌∙◌, ◌≡◌, ◌≤◌}
 pub use Rattle.std.specs.Option.{IsSome, is_some}
-pub use Rattle.std.specs.Prelude.{Option}
+pub use Rattle.std.specs.Prelude.{None, Option}
 pub use Rattle.shr_base.specs.declared.journals.TreeEntry.{TreeEntry}
 pub use Rattle.shr_core.specs.Seats.{IsOf, view_of}
 pub use Rattle.shr_model.specs.TreeJournal.{begin_of}

@@ -3,7 +3,7 @@
 ghost use Rattle.std.specs.Prelude.{◌<◌, IfOk, IsSome, length};
 ghost use Rattle.shr_model.specs.TreeJournal.{begin_of};
 ghost use Rattle.shr_seats.specs.Shapes.{HasLimits};
-ghost use Rattle.shr_charge.specs.Seat.{IsOf, tree_of};
+ghost use Rattle.shr_charge.specs.Seat.{IsChargeSeat, tree_of};
 
 use shr_base::journals::UseStep;
 use shr_base::log::Log;
@@ -29,8 +29,8 @@ fn up(
     uses: &mut Log<UseStep>,
     group: u16,
 ) -> Option<ChargeAnswer>
-    requires { IsOf charge.now seat.old }
-    ensures seat { IsOf charge.now seat.new }
+    requires { IsChargeSeat charge.now seat.old }
+    ensures seat { IsChargeSeat charge.now seat.new }
 {
     if group as usize >= charge.shape.parents.len() || charge.spent(seat).is_some() {
         return None;
@@ -45,8 +45,8 @@ fn up(
 fn done<R: Wait>(rt: &R, charge: &Charge, seat: &mut ChargeSeat, group: u16) -> DoneAnswer
     requires group { group < length charge.now.shape.parents.items }
     requires begun { IsSome (begin_of (tree_of seat.old).known group) }
-    requires seat { IsOf charge.now seat.old }
-    ensures seat { IsOf charge.now seat.new }
+    requires seat { IsChargeSeat charge.now seat.old }
+    ensures seat { IsChargeSeat charge.now seat.new }
     ensures begun { IsSome (begin_of (tree_of seat.new).known group) }
 {
     charge.done_offline(rt, seat, group)
@@ -98,7 +98,7 @@ struct Desk {
     charge: Charge,
     seat: ChargeSeat,
     uses: Log<UseStep>,
-    ghost seated: { IsOf charge seat },
+    ghost seated: { IsChargeSeat charge seat },
 }
 
 impl Desk {

@@ -1,7 +1,5 @@
 -- Lists of the state that a worker's steps make longer.
-use Rattle.shr_units.proofs.Common.{◌≡◌, ℕ, zero, suc, ◌+◌, ◌<◌, ◌≤◌, ◌≢◌, ◌⊎◌, inl, inr, ⊎_elim, List, [], ◌∷◌, ◌++◌, length, flat_map, sym, refl, ap, subst, ◌∙◌, arith, append_assoc, slice_get, Some, same_Some, none-some, append-nil, Begins, begins_all, begins_more, PlainState, UnitsStep, AreChained, state_after}
-use Rattle.std.proofs.Common.{drop}
-use Rattle.std.proofs.Math.Seq.{drop-append_seam}
+use Rattle.shr_units.proofs.Common.{◌≡◌, ℕ, zero, suc, ◌+◌, ◌<◌, ◌≤◌, ◌≢◌, ◌⊎◌, inl, inr, ⊎_elim, List, [], ◌∷◌, ◌++◌, length, flat_map, sym, refl, ap, subst, ◌∙◌, arith, append_assoc, slice_get, Some, same_Some, none-some, append-nil, Begins, begins_all, begins_more, PlainState, UnitsStep, AreChained, units_state_after, drop, drop-append_seam}
 
 pub slice_cases : {A : Type 0} (xs ys : List A) (n : ℕ) (x : A) → slice_get (xs ++ ys) n ≡ Some x → (slice_get xs n ≡ Some x) ⊎ ((m : ℕ) × (n ≡ length xs + m) × (slice_get ys m ≡ Some x))
 slice_cases [] ys n x e = inr (n, omega arith, e)
@@ -26,13 +24,13 @@ module _ {A : Type 0} (g : PlainState → List A) where
   first : (t : PlainState) (x : UnitsStep) (xs : List UnitsStep) → AreChained t (x ∷ xs) → Longer (x ∷ xs) → Begins (g t) (g x.after)
   first t x xs c l = subst (λ (u : PlainState). Begins (g u) (g x.after)) c.0 (l 0 x refl)
 
-  pub along : (t : PlainState) (mine : List UnitsStep) → AreChained t mine → Longer mine → Begins (g t) (g (state_after t mine))
+  pub along : (t : PlainState) (mine : List UnitsStep) → AreChained t mine → Longer mine → Begins (g t) (g (units_state_after t mine))
   along t [] c l = begins_all (g t)
-  along t (x ∷ xs) c l = begins_more (g t) (g x.after) (g (state_after x.after xs)) (first t x xs c l) (along x.after xs c.1 (λ k y e. l (suc k) y e))
+  along t (x ∷ xs) c l = begins_more (g t) (g x.after) (g (units_state_after x.after xs)) (first t x xs c l) (along x.after xs c.1 (λ k y e. l (suc k) y e))
 
-  pub after_begins : (t : PlainState) (mine : List UnitsStep) → AreChained t mine → Longer mine → (k : ℕ) (x : UnitsStep) → slice_get mine k ≡ Some x → Begins (g x.after) (g (state_after t mine))
+  pub after_begins : (t : PlainState) (mine : List UnitsStep) → AreChained t mine → Longer mine → (k : ℕ) (x : UnitsStep) → slice_get mine k ≡ Some x → Begins (g x.after) (g (units_state_after t mine))
   after_begins t [] c l k x e = absurd (none-some x e)
-  after_begins t (y ∷ xs) c l zero x e = subst (λ (z : UnitsStep). Begins (g z.after) (g (state_after y.after xs))) (same_Some y x e) (along y.after xs c.1 (λ k z d. l (suc k) z d))
+  after_begins t (y ∷ xs) c l zero x e = subst (λ (z : UnitsStep). Begins (g z.after) (g (units_state_after y.after xs))) (same_Some y x e) (along y.after xs c.1 (λ k z d. l (suc k) z d))
   after_begins t (y ∷ xs) c l (suc k) x e = after_begins y.after xs c.1 (λ k z d. l (suc k) z d) k x e
 
   start_begins : (t : PlainState) (mine : List UnitsStep) → AreChained t mine → Longer mine → (k : ℕ) (x : UnitsStep) → slice_get mine k ≡ Some x → Begins (g t) (g x.before)
@@ -56,7 +54,7 @@ module _ {A : Type 0} (g : PlainState → List A) where
     pub number : n ≡ length (g step.before) + index
     pub added : slice_get (gained step) index ≡ Some a
 
-  pub source : (t : PlainState) (mine : List UnitsStep) → AreChained t mine → Longer mine → (n : ℕ) (a : A) → slice_get (g (state_after t mine)) n ≡ Some a → (slice_get (g t) n ≡ Some a) ⊎ Source mine n a
+  pub source : (t : PlainState) (mine : List UnitsStep) → AreChained t mine → Longer mine → (n : ℕ) (a : A) → slice_get (g (units_state_after t mine)) n ≡ Some a → (slice_get (g t) n ≡ Some a) ⊎ Source mine n a
   source t [] c l n a e = inl e
   source t (x ∷ xs) c l n a e = ⊎_elim here (λ (o : Source xs n a). inr (record { k = suc o.k; step = o.step; at = o.at; index = o.index; number = o.number; added = o.added })) (source x.after xs c.1 (λ k y d. l (suc k) y d) n a e)
     where
@@ -65,6 +63,6 @@ module _ {A : Type 0} (g : PlainState → List A) where
           (slice_cases (g x.before) (gained x) n a (subst (λ l. slice_get l n ≡ Some a) (gained_all x (l 0 x refl)) h))
 
   -- the whole list is what the steps added
-  pub all_gained : (t : PlainState) (mine : List UnitsStep) → AreChained t mine → Longer mine → g (state_after t mine) ≡ g t ++ flat_map gained mine
+  pub all_gained : (t : PlainState) (mine : List UnitsStep) → AreChained t mine → Longer mine → g (units_state_after t mine) ≡ g t ++ flat_map gained mine
   all_gained t [] c l = sym (append-nil (g t))
   all_gained t (x ∷ xs) c l = all_gained x.after xs c.1 (λ k y d. l (suc k) y d) ∙ (ap (λ h. h ++ flat_map gained xs) (gained_all x (l 0 x refl) ∙ ap (λ (u : PlainState). g u ++ gained x) c.0) ∙ append_assoc (g t) (gained x) (flat_map gained xs))

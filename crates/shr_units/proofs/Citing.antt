@@ -1,12 +1,11 @@
 -- Replies about pools: the entries that they cite, and what they tell.
-use Rattle.shr_units.proofs.Common.{◌≡◌, ℕ, ◌+◌, ◌<◌, ◌≤◌, ◌⊎◌, ⊎_elim, true, false, List, [], ◌∷◌, ◌++◌, length, get_or, sym, refl, ap, subst, ◌∙◌, arith, slice_get, Option, Some, None, option_map, option_and_then, cases_lt, same_Some, none-some, slice_get_within, slice_get-get_or, PlainEntry, At, Place, Answered, Reply, Release, Grab, Script, IsPlaceOf, row_of, IsRecent, Made, RoomView, part_at, with_known, with_entry, GrabAnswer, ReleaseAnswer, Sees, Makes, ReleaseGives, GrabGives, units, PlainState, no_state, IsPoolOf, Report, serial_of, commands_of, answers_of, reply_at, at, units_of, units_cited, units_cited_at, settings_of, pool_sizes, home_of, home_room, release_reply, grab_reply, IsOther, UnitsStep, steps_of, AreUnits}
+use Rattle.shr_units.proofs.Common.{◌≡◌, ℕ, ◌+◌, ◌<◌, ◌≤◌, ◌⊎◌, ⊎_elim, true, false, List, [], ◌∷◌, ◌++◌, length, get_or, sym, refl, ap, subst, ◌∙◌, arith, slice_get, Option, Some, None, option_map, option_and_then, cases_lt, same_Some, none-some, slice_get_within, slice_get-get_or, PlainEntry, At, Place, Answered, Reply, Release, Grab, Script, IsPlaceOf, row_of, IsRecent, RoomMade, RoomView, part_at, with_known, with_entry, GrabAnswer, ReleaseAnswer, Sees, Makes, ReleaseGives, GrabGives, units, PlainState, no_state, IsPoolOf, Report, serial_of, commands_of, answers_of, reply_at, at, units_journal, units_cited, units_cited_at, settings_of, pool_sizes, home_of, home_room, units_release_reply, units_grab_reply, IsOther, UnitsStep, units_steps_of, AreUnits, answer_at}
 use Rattle.shr_base.specs.declared.journals.PlainEntry.TheVariants as entry
 use Rattle.shr_base.specs.declared.replies.Reply.TheVariants as reply
 use Rattle.shr_rooms.proofs.Parts as parts
 use Rattle.shr_rooms.proofs.Telling.{told_recent}
 use Rattle.shr_plain.specs.declared.answers.GrabAnswer.TheVariants as grab
 use Rattle.shr_plain.specs.declared.answers.ReleaseAnswer.TheVariants as release
-use Rattle.shr_report.specs.Parts.{answer_at}
 use Rattle.shr_report.specs.Swept.{IsSweepReply}
 use Rattle.shr_report.proofs.QuietSweep.{few_sweeps}
 use Rattle.shr_units.proofs.StepKinds.{Kind, released, grabbed, walked, idle}
@@ -38,13 +37,13 @@ other_cites (reply.Full p n e f) c is h = is
 other_cites x c is h = none-some c h
 
 module _ (s : Script) (r : Report) (workers : List (List UnitsStep)) (run : AreUnits s r workers) where
-  pub journal_at : (p : Place) → IsPlaceOf (pool_sizes s) p → units_of r p ≡ run.journal (row_of (pool_sizes s) p)
+  pub journal_at : (p : Place) → IsPlaceOf (pool_sizes s) p → units_journal r p ≡ run.journal (row_of (pool_sizes s) p)
   journal_at p there = units_there (pool_sizes s) refl run.journal r run.units p there
 
   -- an entry that a reply cites was made by its command, after all that the worker had done and seen there
   pub record CitesAt (x : UnitsStep) (p : Place) (n : ℕ) : Type 0 where
     pub home : IsHome s p
-    pub made : Made PlainEntry
+    pub made : RoomMade PlainEntry
     pub among : IsIn made (made_at (row_of (pool_sizes s) p) x.after)
     pub number : made.number ≡ n
     pub recent : IsRecent (part_at x.before.rooms (row_of (pool_sizes s) p)) n
@@ -66,14 +65,14 @@ module _ (s : Script) (r : Report) (workers : List (List UnitsStep)) (run : AreU
   pub cites_at : (x : UnitsStep) → Kind s x.by x.command x.reply x.before x.after → (p : Place) (n : ℕ) → units_cited x.reply ≡ Some (at p n) → CitesAt x p n
   cites_at x (released node pool m is due did) p n h = by_answer did.answer (sym (ap units_cited did.told) ∙ h) did.gives
     where
-      by_answer : (a : ReleaseAnswer) → units_cited (release_reply (home_of s pool node) a) ≡ Some (at p n) → ReleaseGives (home_of s pool node) (home_room s pool node) x.by m a x.before x.after → CitesAt x p n
+      by_answer : (a : ReleaseAnswer) → units_cited (units_release_reply (home_of s pool node) a) ≡ Some (at p n) → ReleaseGives (home_of s pool node) (home_room s pool node) x.by m a x.before x.after → CitesAt x p n
       by_answer (release.Full entries free) e g = absurd (none-some _ e)
       by_answer (release.Worn spent) e g = absurd (none-some _ e)
       by_answer release.Memory e g = absurd (none-some _ e)
       by_answer (release.Released k) e g = cites_made x node pool did.there g.0 (entry.Release x.by m) g.1 k g.2 p n (same_Some (at (home_of s pool node) k) (at p n) e)
   cites_at x (grabbed node pool is due did) p n h = by_answer did.answer (sym (ap units_cited did.told) ∙ h) did.gives
     where
-      by_answer : (a : GrabAnswer) → units_cited (grab_reply (home_of s pool node) a) ≡ Some (at p n) → GrabGives (home_of s pool node) (home_room s pool node) x.by a x.before x.after → CitesAt x p n
+      by_answer : (a : GrabAnswer) → units_cited (units_grab_reply (home_of s pool node) a) ≡ Some (at p n) → GrabGives (home_of s pool node) (home_room s pool node) x.by a x.before x.after → CitesAt x p n
       by_answer (grab.Worn spent) e g = absurd (none-some _ e)
       by_answer grab.Memory e g = absurd (none-some _ e)
       by_answer (grab.Grabbed k) e g = cites_made x node pool did.there g.0 (entry.Grab x.by true) g.1 k g.3 p n (same_Some (at (home_of s pool node) k) (at p n) e)
@@ -84,25 +83,25 @@ module _ (s : Script) (r : Report) (workers : List (List UnitsStep)) (run : AreU
   -- the step of an answer
   pub record Replied (worker k : ℕ) (x : Reply) : Type 0 where
     pub step : UnitsStep
-    pub at : slice_get (steps_of workers worker) k ≡ Some step
+    pub at : slice_get (units_steps_of workers worker) k ≡ Some step
     pub reply : step.reply ≡ x
 
   -- of one that is not to a sweep
   pub replied : (worker k : ℕ) (x : Reply) → reply_at r (serial_of worker k) ≡ Some x → (IsSweepReply x → ⊥) → Replied worker k x
   replied worker k x h own = by_answer (answer_at r (serial_of worker k)) refl
     where
-      here : k < length (steps_of workers worker) → Replied worker k x
+      here : k < length (units_steps_of workers worker) → Replied worker k x
       here within =
-          let d : UnitsStep = some_step (steps_of workers worker) (omega (arith, within)) in
-          let at = slice_get-get_or (steps_of workers worker) k d within in
-          record { step = get_or (steps_of workers worker) k d; at = at; reply = same_Some _ x (sym (run.each worker k (get_or (steps_of workers worker) k d) at).reply ∙ h) }
+          let d : UnitsStep = some_step (units_steps_of workers worker) (omega (arith, within)) in
+          let at = slice_get-get_or (units_steps_of workers worker) k d within in
+          record { step = get_or (units_steps_of workers worker) k d; at = at; reply = same_Some _ x (sym (run.each worker k (get_or (units_steps_of workers worker) k d) at).reply ∙ h) }
         where
           some_step : (xs : List UnitsStep) → 0 < length xs → UnitsStep
           some_step [] lt = absurd (omega (arith, lt))
           some_step (y ∷ xs) lt = y
 
       -- the answer behind those to the commands
-      behind : (a : Answered) → answer_at r (serial_of worker k) ≡ Some a → length (steps_of workers worker) ≤ k → Replied worker k x
+      behind : (a : Answered) → answer_at r (serial_of worker k) ≡ Some a → length (units_steps_of workers worker) ≤ k → Replied worker k x
       behind a e le =
           let few = few_sweeps s.sweep (slice_get s.workers.items worker) in
           let many = run.answers worker in let same = run.commands worker in
@@ -112,11 +111,11 @@ module _ (s : Script) (r : Report) (workers : List (List UnitsStep)) (run : AreU
 
       by_answer : (o : Option Answered) → answer_at r (serial_of worker k) ≡ o → Replied worker k x
       by_answer None e = absurd (none-some x (sym (ap (option_map (λ (a : Answered). a.reply)) e) ∙ h))
-      by_answer (Some a) e = ⊎_elim (λ within. here within) (λ le. behind a e le) (cases_lt k (length (steps_of workers worker)))
+      by_answer (Some a) e = ⊎_elim (λ within. here within) (λ le. behind a e le) (cases_lt k (length (units_steps_of workers worker)))
 
   pub record Cited (worker k : ℕ) (p : Place) (n : ℕ) : Type 0 where
     pub step : UnitsStep
-    pub at : slice_get (steps_of workers worker) k ≡ Some step
+    pub at : slice_get (units_steps_of workers worker) k ≡ Some step
     pub cites : CitesAt step p n
 
   pub cited_step : (worker k : ℕ) (p : Place) (n : ℕ) → units_cited_at r (serial_of worker k) ≡ Some (at p n) → Cited worker k p n
@@ -131,11 +130,11 @@ module _ (s : Script) (r : Report) (workers : List (List UnitsStep)) (run : AreU
       }
 
   -- what a worker's reply cited it had made before each later step
-  pub made_before : (worker k later : ℕ) (p : Place) (n : ℕ) → k < later → (c : Cited worker k p n) → (y : UnitsStep) → slice_get (steps_of workers worker) later ≡ Some y → (m : ℕ) → IsRecent (part_at y.before.rooms (row_of (pool_sizes s) p)) m → n < m
+  pub made_before : (worker k later : ℕ) (p : Place) (n : ℕ) → k < later → (c : Cited worker k p n) → (y : UnitsStep) → slice_get (units_steps_of workers worker) later ≡ Some y → (m : ℕ) → IsRecent (part_at y.before.rooms (row_of (pool_sizes s) p)) m → n < m
   made_before worker k later p n lt c y at_y m recent =
       let i = row_of (pool_sizes s) p in
-      let among = begins_in (made_at i c.step.after) (made_at i y.before) c.cites.made (later_begins (made_at i) no_state (steps_of workers worker) (run.chained worker) (longer_made s r workers run worker i) k later c.step y lt c.at at_y) c.cites.among in
-      let below = each_in (λ (z : Made PlainEntry). z.number < m) (made_at i y.before) c.cites.made recent.made among in
+      let among = begins_in (made_at i c.step.after) (made_at i y.before) c.cites.made (later_begins (made_at i) no_state (units_steps_of workers worker) (run.chained worker) (longer_made s r workers run worker i) k later c.step y lt c.at at_y) c.cites.among in
+      let below = each_in (λ (z : RoomMade PlainEntry). z.number < m) (made_at i y.before) c.cites.made recent.made among in
       let number = c.cites.number in omega (arith, below, number)
 
   -- ---- replies
@@ -170,7 +169,7 @@ module _ (s : Script) (r : Report) (workers : List (List UnitsStep)) (run : AreU
   full_at : (x : UnitsStep) → Kind s x.by x.command x.reply x.before x.after → (p n entries free : ℕ) → x.reply ≡ reply.Full p n entries free → FullAt x p n entries
   full_at x (released node pool m is due did) p n entries free h = by_answer did.answer (sym did.told ∙ h) did.gives
     where
-      by_answer : (a : ReleaseAnswer) → release_reply (home_of s pool node) a ≡ reply.Full p n entries free → ReleaseGives (home_of s pool node) (home_room s pool node) x.by m a x.before x.after → FullAt x p n entries
+      by_answer : (a : ReleaseAnswer) → units_release_reply (home_of s pool node) a ≡ reply.Full p n entries free → ReleaseGives (home_of s pool node) (home_room s pool node) x.by m a x.before x.after → FullAt x p n entries
       by_answer (release.Full es f) e g = record {
         node = node;
         pool = pool;
@@ -184,7 +183,7 @@ module _ (s : Script) (r : Report) (workers : List (List UnitsStep)) (run : AreU
       by_answer (release.Released k) e g = absurd (subst IsFull (sym e) tt)
   full_at x (grabbed node pool is due did) p n entries free h = by_answer did.answer (sym did.told ∙ h)
     where
-      by_answer : (a : GrabAnswer) → grab_reply (home_of s pool node) a ≡ reply.Full p n entries free → FullAt x p n entries
+      by_answer : (a : GrabAnswer) → units_grab_reply (home_of s pool node) a ≡ reply.Full p n entries free → FullAt x p n entries
       by_answer (grab.Worn spent) e = absurd (subst IsFull (sym e) tt)
       by_answer grab.Memory e = absurd (subst IsFull (sym e) tt)
       by_answer (grab.Grabbed k) e = absurd (subst IsFull (sym e) tt)

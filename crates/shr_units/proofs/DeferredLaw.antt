@@ -1,10 +1,7 @@
 -- The deferred words of pools, of a run.
-use Rattle.shr_units.proofs.Common.{◌≡◌, ℕ, zero, suc, ◌+◌, ◌<◌, ◌≤◌, ◌≢◌, ◌⊎◌, ⊎_elim, List, [], ◌∷◌, ◌++◌, length, flat_map, sym, refl, ap, subst, ◌∙◌, arith, slice_get, Option, Some, None, filter_map, sum_by, option_and_then, append-nil, sum_by-append, none-some, Place, Script, PassRecord, PlainTry, PlainWalk, sum_at, amount_at, IsPlaceOf, total, Begins, total-append, Moves, no_moves, both, takes_of, gives_of, takes_both, gives_both, PlainState, no_state, Report, cons_option, PlainJob, pass_in, pass_at, try_at, settings_of, pool_sizes, home_of, DidWalk, UnitsStep, steps_in, steps_of, last_of, AreUnits}
+use Rattle.shr_units.proofs.Common.{◌≡◌, ℕ, zero, suc, ◌+◌, ◌<◌, ◌≤◌, ◌≢◌, ◌⊎◌, ⊎_elim, List, [], ◌∷◌, ◌++◌, length, flat_map, sym, refl, ap, subst, ◌∙◌, arith, slice_get, Option, Some, None, filter_map, sum_by, option_and_then, append-nil, sum_by-append, none-some, Place, Script, PassRecord, PlainTry, PlainWalk, sum_at, amount_at, IsPlaceOf, total, Begins, total-append, Moves, no_moves, both, takes_of, gives_of, takes_both, gives_both, PlainState, no_state, Report, cons_option, PlainJob, pass_in, pass_at, try_at, settings_of, pool_sizes, home_of, DidPoolWalk, UnitsStep, units_steps_in, units_steps_of, last_units_state, AreUnits, deferred_word, plain_in, all_plain, pool_passes, pool_printed_at}
 use Rattle.shr_base.specs.declared.ends.PlaceAmount.{PlaceAmount}
 use Rattle.shr_base.specs.declared.ends.WorkerPart.{WorkerPart}
-use Rattle.shr_model.specs.Deferred.{deferred_word}
-use Rattle.shr_report.specs.UnitParts.{plain_in, all_plain, passes_in}
-use Rattle.shr_report.specs.Pools.{pool_printed_at}
 use Rattle.shr_units.proofs.StepKinds.{Kind, released, grabbed, walked, idle}
 use Rattle.shr_units.proofs.Lists.{IsIn, flat_in, sum_total, total_flat}
 use Rattle.shr_units.proofs.Pooling.{home_there, there_or_not}
@@ -22,8 +19,8 @@ abbrev moves_at : PlainState → Moves
 moves_at t = t.moves
 
 -- the walks of all parts weigh what those of all workers' last states do
-same_walks : (f : PlainWalk → ℕ) (parts : List WorkerPart) (workers : List (List UnitsStep)) → ((i : ℕ) → plain_in (slice_get parts i) ≡ (last_of (steps_in (slice_get workers i))).walks)
-    → total f (flat_map (λ (part : WorkerPart). part.plain.items) parts) ≡ total (λ (mine : List UnitsStep). total f (last_of mine).walks) workers
+same_walks : (f : PlainWalk → ℕ) (parts : List WorkerPart) (workers : List (List UnitsStep)) → ((i : ℕ) → plain_in (slice_get parts i) ≡ (last_units_state (units_steps_in (slice_get workers i))).walks)
+    → total f (flat_map (λ (part : WorkerPart). part.plain.items) parts) ≡ total (λ (mine : List UnitsStep). total f (last_units_state mine).walks) workers
 same_walks f [] [] h = refl
 same_walks f (p ∷ ps) [] h = omega (arith, total-append f p.plain.items (flat_map (λ (part : WorkerPart). part.plain.items) ps), ap (total f) (h 0), same_walks f ps [] (λ i. h (suc i)))
 same_walks f [] (m ∷ ms) h = omega (arith, ap (total f) (h 0), same_walks f [] ms (λ i. h (suc i)))
@@ -54,7 +51,7 @@ record IsOfTries (s : Script) (p : Place) (sum : Moves → ℕ) (f : PassRecord 
   pub none : ((j : ℕ) → j < length xs → p ≡ home_of s (0 + j) node → ⊥) → sum moved ≡ 0
   pub one : (k : ℕ) (y : PlainTry) → slice_get xs k ≡ Some y → p ≡ home_of s (0 + k) node → sum moved ≡ weight f (pass_in y)
 
-module _ (s : Script) (p : Place) (sum : Moves → ℕ) (f : PassRecord → ℕ) (x : UnitsStep) (job : PlainJob) (did : DidWalk s x.by job x.before x.after) where
+module _ (s : Script) (p : Place) (sum : Moves → ℕ) (f : PassRecord → ℕ) (x : UnitsStep) (job : PlainJob) (did : DidPoolWalk s x.by job x.before x.after) where
   abbrev moved : Moves
   moved = tries.moved (settings_of s) (pool_sizes s) x.by (length x.before.walks) job.node job.priority (across s x.by job x.before x.after did) 0 did.gives.walk.tries.items
 
@@ -127,7 +124,7 @@ taken_tells s p x (idle due is same) = still s p (taken p) (taken_sum p) nr_in x
 
 module _ (s : Script) (r : Report) (workers : List (List UnitsStep)) (run : AreUnits s r workers) where
   -- the moves grow
-  longer_moves : (worker : ℕ) → Longer moves_at (steps_of workers worker)
+  longer_moves : (worker : ℕ) → Longer moves_at (units_steps_of workers worker)
   longer_moves worker k x at = by_kind (kind_at s r workers run worker k x at) where
     same : x.after.moves ≡ x.before.moves → Begins x.before.moves x.after.moves
     same e = ([], e ∙ sym (append-nil x.before.moves))
@@ -142,19 +139,19 @@ module _ (s : Script) (r : Report) (workers : List (List UnitsStep)) (run : AreU
     by_kind (idle due is e) = same (ap moves_at e)
 
   module _ (p : Place) (sum : Moves → ℕ) (is : IsSum sum) (f : PassRecord → ℕ) (tells : (x : UnitsStep) → Kind s x.by x.command x.reply x.before x.after → Tells s p sum f x) where
-    mine : (worker : ℕ) → sum (last_of (steps_of workers worker)).moves ≡ total (λ (w : PlainWalk). weight f (pass_at s p w)) (last_of (steps_of workers worker)).walks
-    mine worker = ap sum (all_gained moves_at no_state (steps_of workers worker) (run.chained worker) (longer_moves worker))
-        ∙ (sum_flat sum is (gained moves_at) (steps_of workers worker)
-        ∙ (same_totals (λ (x : UnitsStep). sum (gained moves_at x)) (λ (x : UnitsStep). total (λ (w : PlainWalk). weight f (pass_at s p w)) (gained walks_at x)) (steps_of workers worker) (λ k x e. tells x (kind_at s r workers run worker k x e))
-        ∙ (sym (total_flat (λ (w : PlainWalk). weight f (pass_at s p w)) (gained walks_at) (steps_of workers worker))
-        ∙ sym (ap (total (λ (w : PlainWalk). weight f (pass_at s p w))) (all_gained walks_at no_state (steps_of workers worker) (run.chained worker) (longer_walks s r workers run worker))))))
+    mine : (worker : ℕ) → sum (last_units_state (units_steps_of workers worker)).moves ≡ total (λ (w : PlainWalk). weight f (pass_at s p w)) (last_units_state (units_steps_of workers worker)).walks
+    mine worker = ap sum (all_gained moves_at no_state (units_steps_of workers worker) (run.chained worker) (longer_moves worker))
+        ∙ (sum_flat sum is (gained moves_at) (units_steps_of workers worker)
+        ∙ (same_totals (λ (x : UnitsStep). sum (gained moves_at x)) (λ (x : UnitsStep). total (λ (w : PlainWalk). weight f (pass_at s p w)) (gained walks_at x)) (units_steps_of workers worker) (λ k x e. tells x (kind_at s r workers run worker k x e))
+        ∙ (sym (total_flat (λ (w : PlainWalk). weight f (pass_at s p w)) (gained walks_at) (units_steps_of workers worker))
+        ∙ sym (ap (total (λ (w : PlainWalk). weight f (pass_at s p w))) (all_gained walks_at no_state (units_steps_of workers worker) (run.chained worker) (longer_walks s r workers run worker))))))
 
     -- a sum over the passes that are printed
-    passes : total (λ (mine : List UnitsStep). sum (last_of mine).moves) workers ≡ sum_by f (passes_in s r p)
-    passes = same_totals (λ (mine : List UnitsStep). sum (last_of mine).moves) (λ (mine : List UnitsStep). total (λ (w : PlainWalk). weight f (pass_at s p w)) (last_of mine).walks) workers
-        (λ j m e. let own : steps_of workers j ≡ m = ap steps_in e in subst (λ (l : List UnitsStep). sum (last_of l).moves ≡ total (λ (w : PlainWalk). weight f (pass_at s p w)) (last_of l).walks) own (mine j))
+    passes : total (λ (mine : List UnitsStep). sum (last_units_state mine).moves) workers ≡ sum_by f (pool_passes s r p)
+    passes = same_totals (λ (mine : List UnitsStep). sum (last_units_state mine).moves) (λ (mine : List UnitsStep). total (λ (w : PlainWalk). weight f (pass_at s p w)) (last_units_state mine).walks) workers
+        (λ j m e. let own : units_steps_of workers j ≡ m = ap units_steps_in e in subst (λ (l : List UnitsStep). sum (last_units_state l).moves ≡ total (λ (w : PlainWalk). weight f (pass_at s p w)) (last_units_state l).walks) own (mine j))
         ∙ (sym (same_walks (λ (w : PlainWalk). weight f (pass_at s p w)) r.workers.items workers run.walks)
-        ∙ (same_weights (all_plain r) ∙ (sym (total_kept f (pass_at s p) (all_plain r)) ∙ sym (sum_total f (passes_in s r p)))))
+        ∙ (same_weights (all_plain r) ∙ (sym (total_kept f (pass_at s p) (all_plain r)) ∙ sym (sum_total f (pool_passes s r p)))))
       where
         same_weights : (ws : List PlainWalk) → total (λ (w : PlainWalk). weight f (pass_at s p w)) ws ≡ total (λ (w : PlainWalk). weight_of f (pass_at s p w)) ws
         same_weights [] = refl
@@ -167,16 +164,16 @@ module _ (s : Script) (r : Report) (workers : List (List UnitsStep)) (run : AreU
   sum_workers g p [] = refl
   sum_workers g p (m ∷ ws) = omega (arith, sum_by-append (amount_at p) (g m) (flat_map g ws), sum_workers g p ws)
 
-  given_is : (p : Place) → sum_at p (flat_map (λ (mine : List UnitsStep). gives_of (last_of mine).moves) workers) ≡ sum_by (λ (q : PassRecord). q.next) (passes_in s r p)
+  given_is : (p : Place) → sum_at p (flat_map (λ (mine : List UnitsStep). gives_of (last_units_state mine).moves) workers) ≡ sum_by (λ (q : PassRecord). q.next) (pool_passes s r p)
   unfolding given next_in
-  given_is p = sum_workers (λ (mine : List UnitsStep). gives_of (last_of mine).moves) p workers ∙ passes p (given p) (given_sum p) next_in (given_tells s p)
+  given_is p = sum_workers (λ (mine : List UnitsStep). gives_of (last_units_state mine).moves) p workers ∙ passes p (given p) (given_sum p) next_in (given_tells s p)
 
-  taken_is : (p : Place) → sum_at p (flat_map (λ (mine : List UnitsStep). takes_of (last_of mine).moves) workers) ≡ sum_by (λ (q : PassRecord). q.nr) (passes_in s r p)
+  taken_is : (p : Place) → sum_at p (flat_map (λ (mine : List UnitsStep). takes_of (last_units_state mine).moves) workers) ≡ sum_by (λ (q : PassRecord). q.nr) (pool_passes s r p)
   unfolding taken nr_in
-  taken_is p = sum_workers (λ (mine : List UnitsStep). takes_of (last_of mine).moves) p workers ∙ passes p (taken p) (taken_sum p) nr_in (taken_tells s p)
+  taken_is p = sum_workers (λ (mine : List UnitsStep). takes_of (last_units_state mine).moves) p workers ∙ passes p (taken p) (taken_sum p) nr_in (taken_tells s p)
 
   -- no pass is at a place that the tables haven't
-  no_passes : (p : Place) → (IsPlaceOf (pool_sizes s) p → ⊥) → passes_in s r p ≡ []
+  no_passes : (p : Place) → (IsPlaceOf (pool_sizes s) p → ⊥) → pool_passes s r p ≡ []
   no_passes p out = none_kept (all_plain r) (λ w e. no_pass w e)
     where
       none_kept : (ws : List PlainWalk) → ((w : PlainWalk) → IsIn w ws → pass_at s p w ≡ None) → filter_map (pass_at s p) ws ≡ []
@@ -195,8 +192,8 @@ module _ (s : Script) (r : Report) (workers : List (List UnitsStep)) (run : AreU
           by_try of (Some y) e = let h = try_there s of.step.by of.job of.step.before of.step.after of.did p y e in
               absurd (out (subst (IsPlaceOf (pool_sizes s)) (sym h.0) (home_there s p.id of.job.node (inside s of.step.by of.job of.step.before of.step.after of.did p.id y h.1))))
 
-  pub words : (place : Place) → pool_printed_at r place ≡ deferred_word (sum_by (λ (q : PassRecord). q.next) (passes_in s r place)) (sum_by (λ (q : PassRecord). q.nr) (passes_in s r place))
+  pub words : (place : Place) → pool_printed_at r place ≡ deferred_word (sum_by (λ (q : PassRecord). q.next) (pool_passes s r place)) (sum_by (λ (q : PassRecord). q.nr) (pool_passes s r place))
   words p = ⊎_elim
-      (λ there. run.words p there ∙ (ap (λ (n : ℕ). deferred_word n (sum_at p (flat_map (λ (mine : List UnitsStep). takes_of (last_of mine).moves) workers))) (given_is p) ∙ ap (deferred_word (sum_by (λ (q : PassRecord). q.next) (passes_in s r p))) (taken_is p)))
+      (λ there. run.words p there ∙ (ap (λ (n : ℕ). deferred_word n (sum_at p (flat_map (λ (mine : List UnitsStep). takes_of (last_units_state mine).moves) workers))) (given_is p) ∙ ap (deferred_word (sum_by (λ (q : PassRecord). q.next) (pool_passes s r p))) (taken_is p)))
       (λ out. run.elsewhere p out ∙ sym (ap (λ (l : List PassRecord). deferred_word (sum_by (λ (q : PassRecord). q.next) l) (sum_by (λ (q : PassRecord). q.nr) l)) (no_passes p out)))
       (there_or_not (pool_sizes s) p)

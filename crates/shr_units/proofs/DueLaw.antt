@@ -1,8 +1,6 @@
 -- Each command has the walks of the pools that are due, and there is no other, of a run.
-use Rattle.shr_units.proofs.Common.{◌≡◌, ℕ, zero, suc, ◌+◌, ◌<◌, ◌≤◌, ◌≢◌, ◌⊎◌, Bool, true, false, ◌&&◌, cond, List, [], ◌∷◌, ◌++◌, length, map, flat_map, sym, refl, ap, subst, ◌∙◌, arith, eq-eqb, slice_get, Option, Some, option_map, IsSomeAnd, ◌==◌, and_parts, eqb-true, append-nil, same_Some, none-some, ℕ_discrete, Serial, Answered, Reply, Command, Script, PlainWalk, no_state, Report, serial_of, command_at, reply_at, EachAnswer, PlainJob, plain_due, EachPlain, UnitsStep, steps_of, AreUnits}
-use Rattle.std.specs.Prelude.{filter}
+use Rattle.shr_units.proofs.Common.{◌≡◌, ℕ, zero, suc, ◌+◌, ◌<◌, ◌≤◌, ◌≢◌, ◌⊎◌, Bool, true, false, ◌&&◌, cond, List, [], ◌∷◌, ◌++◌, length, map, flat_map, sym, refl, ap, subst, ◌∙◌, arith, eq-eqb, slice_get, Option, Some, option_map, IsSomeAnd, ◌==◌, and_parts, eqb-true, append-nil, same_Some, none-some, ℕ_discrete, Serial, Answered, Reply, Command, Script, PlainWalk, no_state, Report, serial_of, command_at, reply_at, EachAnswer, PlainJob, plain_due, EachPlain, UnitsStep, units_steps_of, AreUnits, filter, plain_by, plain_job_of}
 use Rattle.shr_model.specs.Commands.{is_serial}
-use Rattle.shr_report.specs.UnitParts.{plain_by, plain_job_of}
 use Rattle.shr_units.proofs.StepKinds.{Kind, released, grabbed, walked, idle}
 use Rattle.shr_units.proofs.Lists.{no_test}
 use Rattle.shr_units.proofs.Along.{gained, gained_is, all_gained}
@@ -75,16 +73,16 @@ none_kept p (w ∷ ws) h = ap (λ b. cond b (w ∷ filter p ws) (filter p ws)) (
 
 module _ (s : Script) (r : Report) (workers : List (List UnitsStep)) (run : AreUnits s r workers) where
   -- the walks of a command are those that its step added
-  walks_by : (by : Serial) (x : UnitsStep) → slice_get (steps_of workers by.worker) by.command ≡ Some x → plain_by r by ≡ gained walks_at x
-  walks_by by x at = ap (filter (λ (w : PlainWalk). is_serial by w.by)) (run.walks by.worker ∙ all_gained walks_at no_state (steps_of workers by.worker) (run.chained by.worker) (longer_walks s r workers run by.worker))
-      ∙ (filter_flat (λ (w : PlainWalk). is_serial by w.by) (gained walks_at) (steps_of workers by.worker)
-      ∙ (flat_only (λ (y : UnitsStep). filter (λ (w : PlainWalk). is_serial by w.by) (gained walks_at y)) (steps_of workers by.worker) by.command x at others
+  walks_by : (by : Serial) (x : UnitsStep) → slice_get (units_steps_of workers by.worker) by.command ≡ Some x → plain_by r by ≡ gained walks_at x
+  walks_by by x at = ap (filter (λ (w : PlainWalk). is_serial by w.by)) (run.walks by.worker ∙ all_gained walks_at no_state (units_steps_of workers by.worker) (run.chained by.worker) (longer_walks s r workers run by.worker))
+      ∙ (filter_flat (λ (w : PlainWalk). is_serial by w.by) (gained walks_at) (units_steps_of workers by.worker)
+      ∙ (flat_only (λ (y : UnitsStep). filter (λ (w : PlainWalk). is_serial by w.by) (gained walks_at y)) (units_steps_of workers by.worker) by.command x at others
       ∙ all_kept (λ (w : PlainWalk). is_serial by w.by) (gained walks_at x) (λ w j e. ap (is_serial by) (own by.command x at w j e) ∙ serial_itself by)))
     where
-      own : (k : ℕ) (y : UnitsStep) → slice_get (steps_of workers by.worker) k ≡ Some y → (w : PlainWalk) (j : ℕ) → slice_get (gained walks_at y) j ≡ Some w → w.by ≡ serial_of by.worker k
+      own : (k : ℕ) (y : UnitsStep) → slice_get (units_steps_of workers by.worker) k ≡ Some y → (w : PlainWalk) (j : ℕ) → slice_get (gained walks_at y) j ≡ Some w → w.by ≡ serial_of by.worker k
       own k y e w j d = (added s y (kind_at s r workers run by.worker k y e)).own w j d ∙ (run.each by.worker k y e).by
 
-      others : (k : ℕ) (y : UnitsStep) → slice_get (steps_of workers by.worker) k ≡ Some y → k ≢ by.command → filter (λ (w : PlainWalk). is_serial by w.by) (gained walks_at y) ≡ []
+      others : (k : ℕ) (y : UnitsStep) → slice_get (units_steps_of workers by.worker) k ≡ Some y → k ≢ by.command → filter (λ (w : PlainWalk). is_serial by w.by) (gained walks_at y) ≡ []
       others k y e ne = none_kept (λ (w : PlainWalk). is_serial by w.by) (gained walks_at y) (λ w j d. no_test (is_serial by w.by) (λ h. ne (sym (serial_same by w.by h ∙ ap (λ (b : Serial). b.command) (own k y e w j d)))))
 
   pub due : EachAnswer s r (λ by c a. map plain_job_of (plain_by r by) ≡ plain_due s c a.reply)

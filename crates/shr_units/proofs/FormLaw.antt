@@ -1,9 +1,6 @@
 -- What a well formed report says of pools, of a run.
-use Rattle.shr_units.proofs.Common.{◌≡◌, ℕ, zero, suc, ◌+◌, ◌<◌, ◌≤◌, ◌≢◌, ◌⊎◌, inl, inr, ⊎_elim, List, [], ◌∷◌, ◌++◌, length, map, get_or, sym, refl, ap, subst, ◌∙◌, arith, slice_get, Some, AllByRecursion, cases_lt, append-nil, map-append, slice_get_within, dite, ℕ_discrete, UnitsEnd, PlainEntry, Place, Serial, Script, PlainWalk, Sizes, IsPlaceOf, row_of, row_count, EndValue, end_value, PlainState, no_state, Report, answers_of, serial_of, plain_of, AreNotFalling, units_place, pool_sizes, UnitsStep, steps_of, AreChained, state_after, last_of, AreUnits}
-use Rattle.std.specs.List.{AllAdjacentBelow}
+use Rattle.shr_units.proofs.Common.{◌≡◌, ℕ, zero, suc, ◌+◌, ◌<◌, ◌≤◌, ◌≢◌, ◌⊎◌, inl, inr, ⊎_elim, List, [], ◌∷◌, ◌++◌, length, map, get_or, sym, refl, ap, subst, ◌∙◌, arith, slice_get, Some, AllByRecursion, cases_lt, append-nil, map-append, slice_get_within, dite, ℕ_discrete, UnitsEnd, PlainEntry, Place, Serial, Script, PlainWalk, Sizes, IsPlaceOf, row_of, row_count, UnitsEndValue, units_end_value, PlainState, no_state, Report, answers_of, serial_of, plain_of, AreNotFalling, units_place, pool_sizes, UnitsStep, units_steps_of, AreChained, units_state_after, last_units_state, AreUnits, AllAdjacentBelow, units_ends_below, AreOfCommands, IsPlaceBefore, IsPlaceUpTo}
 use Rattle.shr_seats.proofs.RowLaws as rows
-use Rattle.shr_plain.specs.Ending.{ends_below}
-use Rattle.shr_report.specs.WellFormed.{AreOfCommands, IsPlaceBefore, IsPlaceUpTo}
 use Rattle.shr_units.proofs.Lists.{IsIn, by_slices}
 use Rattle.shr_units.proofs.Pooling.{row_there}
 use Rattle.shr_units.proofs.Printing.{IsBelow, value_place, value_row, Rises, rises_below, among_below, printed, slice_map}
@@ -30,12 +27,12 @@ place_later z one p q a b lt =
         (λ ne. let later = (rows.later z q p (record { node = b.node; group = b.group })).1 same (omega (arith, on, ne)) in omega (arith, lt, later))
 
 module _ (z : Sizes) (one : z.groups ≡ 1) (journal : ℕ → List PlainEntry) where
-  value_there : (v : EndValue) → IsIn v (ends_below z (row_count z) journal) → IsPlaceOf z (value_place v)
+  value_there : (v : UnitsEndValue) → IsIn v (units_ends_below z (row_count z) journal) → IsPlaceOf z (value_place v)
   value_there v is = let b : IsBelow z one journal (row_count z) v = among_below z one journal (row_count z) v is in
       let there = row_there z b.row one b.near in let id = there.id in let node = there.node in let pool = b.pool in let on = b.node in
       record { id = omega (arith, id, pool); node = omega (arith, node, on); group = omega (arith, one) }
 
-  in_order : (us : List UnitsEnd) → ((j : ℕ) (u : UnitsEnd) → slice_get us j ≡ Some u → IsPlaceOf z (units_place u)) → Rises z one journal (map (value_row z one journal) (map end_value us)) → AllAdjacentBelow (λ (u v : UnitsEnd). IsPlaceUpTo (units_place u) (units_place v)) us (length us)
+  in_order : (us : List UnitsEnd) → ((j : ℕ) (u : UnitsEnd) → slice_get us j ≡ Some u → IsPlaceOf z (units_place u)) → Rises z one journal (map (value_row z one journal) (map units_end_value us)) → AllAdjacentBelow (λ (u v : UnitsEnd). IsPlaceUpTo (units_place u) (units_place v)) us (length us)
   in_order [] there h k d lt = absurd (omega (arith, lt))
   in_order (u ∷ []) there h k d lt = absurd (omega (arith, lt))
   in_order (u ∷ v ∷ us) there h zero d lt = inl (place_later z one (units_place u) (units_place v) (there 0 u refl) (there 1 v refl) h.0.0)
@@ -68,7 +65,7 @@ rise_on n ns (w ∷ ws) own h = subst (RiseTo n) (assoc ns w.by.command (command
     assoc (x ∷ xs) y zs = ap (λ l. x ∷ l) (assoc xs y zs)
 
 rise_along : (n : ℕ) (t : PlainState) (mine : List UnitsStep) → AreChained t mine → ((k : ℕ) (x : UnitsStep) → slice_get mine k ≡ Some x → (x.after.walks ≡ x.before.walks ++ gained walks_at x) × ((w : PlainWalk) → IsIn w (gained walks_at x) → w.by.command ≡ n + k))
-    → RiseTo n (commands_in t.walks) → NotFalling (commands_in (state_after t mine).walks)
+    → RiseTo n (commands_in t.walks) → NotFalling (commands_in (units_state_after t mine).walks)
 rise_along n t [] c each h = h.0
 rise_along n t (x ∷ xs) c each h = let e = each 0 x refl in
     let here : RiseTo n (commands_in x.after.walks) = subst (λ l. RiseTo n (commands_in l)) (sym e.0) (subst (RiseTo n) (sym (map-append (λ (w : PlainWalk). w.by.command) x.before.walks (gained walks_at x)))
@@ -81,28 +78,28 @@ module _ (s : Script) (r : Report) (workers : List (List UnitsStep)) (run : AreU
   entered = by_slices (λ (u : UnitsEnd). 0 < length u.entries.items) r.units.items (λ j u at. let b = printed (pool_sizes s) refl run.journal r run.units j u at in subst (λ (l : List PlainEntry). 0 < length l) (sym b.entries) b.some_entry)
 
   pub unit_order : AllAdjacentBelow (λ (u v : UnitsEnd). IsPlaceUpTo (units_place u) (units_place v)) r.units.items (length r.units.items)
-  unit_order = in_order (pool_sizes s) refl run.journal r.units.items there (subst (λ (vs : List EndValue). Rises (pool_sizes s) refl run.journal (map (value_row (pool_sizes s) refl run.journal) vs)) (sym run.units)
+  unit_order = in_order (pool_sizes s) refl run.journal r.units.items there (subst (λ (vs : List UnitsEndValue). Rises (pool_sizes s) refl run.journal (map (value_row (pool_sizes s) refl run.journal) vs)) (sym run.units)
       (rises_below (pool_sizes s) refl run.journal (row_count (pool_sizes s)) (omega arith)).0)
     where
       there : (j : ℕ) (u : UnitsEnd) → slice_get r.units.items j ≡ Some u → IsPlaceOf (pool_sizes s) (units_place u)
-      there j u at = value_there (pool_sizes s) refl run.journal (end_value u) (j, subst (λ l. slice_get l j ≡ Some (end_value u)) run.units (slice_map end_value r.units.items j u at))
+      there j u at = value_there (pool_sizes s) refl run.journal (units_end_value u) (j, subst (λ l. slice_get l j ≡ Some (units_end_value u)) run.units (slice_map units_end_value r.units.items j u at))
 
   -- a worker's walks of the pools are of its commands, in order
   pub plain_order : (worker : ℕ) → AreOfCommands PlainWalk (λ w. w.by) worker (length (answers_of r worker)) (plain_of r worker)
   plain_order worker = record {
     by = by_slices (λ (w : PlainWalk). (w.by.worker ≡ worker) × (w.by.command < length (answers_of r worker))) (plain_of r worker) own;
-    order = subst (λ l. AreNotFalling (map (λ (w : PlainWalk). w.by.command) l)) (sym (run.walks worker)) (adjacent (commands_in (last_of (steps_of workers worker)).walks)
-        (rise_along 0 no_state (steps_of workers worker) (run.chained worker) each (tt, tt)));
+    order = subst (λ l. AreNotFalling (map (λ (w : PlainWalk). w.by.command) l)) (sym (run.walks worker)) (adjacent (commands_in (last_units_state (units_steps_of workers worker)).walks)
+        (rise_along 0 no_state (units_steps_of workers worker) (run.chained worker) each (tt, tt)));
   }
     where
       own : (n : ℕ) (w : PlainWalk) → slice_get (plain_of r worker) n ≡ Some w → (w.by.worker ≡ worker) × (w.by.command < length (answers_of r worker))
       own n w at =
           let of : WalkOf s r workers run worker n w = walk_of s r workers run worker n w at in
           let by : w.by ≡ serial_of worker of.k = ap (λ (v : PlainWalk). v.by) (sym of.own) ∙ (of.did.gives.by_is ∙ (run.each worker of.k of.step of.at).by) in
-          let lt = slice_get_within (steps_of workers worker) of.k of.step of.at in let many = run.answers worker in let k = ap (λ (b : Serial). b.command) by in
+          let lt = slice_get_within (units_steps_of workers worker) of.k of.step of.at in let many = run.answers worker in let k = ap (λ (b : Serial). b.command) by in
           (ap (λ (b : Serial). b.worker) by, omega (arith, lt, many, k))
 
-      each : (k : ℕ) (x : UnitsStep) → slice_get (steps_of workers worker) k ≡ Some x → (x.after.walks ≡ x.before.walks ++ gained walks_at x) × ((w : PlainWalk) → IsIn w (gained walks_at x) → w.by.command ≡ 0 + k)
+      each : (k : ℕ) (x : UnitsStep) → slice_get (units_steps_of workers worker) k ≡ Some x → (x.after.walks ≡ x.before.walks ++ gained walks_at x) × ((w : PlainWalk) → IsIn w (gained walks_at x) → w.by.command ≡ 0 + k)
       each k x at = (
         gained_all walks_at x (longer_walks s r workers run worker k x at),
         λ w is.

@@ -1,12 +1,9 @@
 -- Places of pools, and their rooms.
-use Rattle.shr_units.proofs.Common.{◌≡◌, ℕ, zero, suc, ◌+◌, ◌*◌, ◌<◌, ◌≤◌, ◌⊎◌, inl, inr, ⊎_elim, Bool, true, false, cond, List, [], ◌∷◌, length, map, sym, refl, ap, subst, ◌∙◌, arith, ne_eqb, slice_get, ◌==◌, cases_lt, Place, PoolDecl, Script, Sizes, IsPlaceOf, row_of, row_count, place_in, setting_by, settings_of, pool_sizes, IsPoolOf, setting_of, place_of, pool_place, home_of}
-use Rattle.std.proofs.Common.{◌/◌, ◌%◌}
+use Rattle.shr_units.proofs.Common.{◌≡◌, ℕ, zero, suc, ◌+◌, ◌*◌, ◌<◌, ◌≤◌, ◌⊎◌, inl, inr, ⊎_elim, Bool, true, false, cond, List, [], ◌∷◌, length, map, sym, refl, ap, subst, ◌∙◌, arith, ne_eqb, slice_get, ◌==◌, cases_lt, Place, PoolDecl, Script, Sizes, IsPlaceOf, row_of, row_count, place_of_row, setting_by, settings_of, pool_sizes, IsPoolOf, setting_of, home_place, pool_place, home_of, ◌/◌, ◌%◌, place_inside, home_in}
 use Rattle.std.proofs.lemmas.Nat.{div-mul-add, mod-mul-add}
-use Rattle.shr_seats.proofs.RowLaws.{place_inside}
-use Rattle.shr_report.specs.UnitParts.{home_in}
 
 -- the home of a pool on a node, by its declaration and by its setting
-home_same : (ds : List PoolDecl) (pool node : ℕ) → (place_of (map setting_by ds) pool node).node ≡ home_in (slice_get ds pool) node
+home_same : (ds : List PoolDecl) (pool node : ℕ) → (home_place (map setting_by ds) pool node).node ≡ home_in (slice_get ds pool) node
 home_same [] pool node = refl
 home_same (d ∷ ds) zero node = refl
 home_same (d ∷ ds) (suc pool) node = home_same ds pool node
@@ -58,7 +55,7 @@ pub is_home : (s : Script) (pool node : ℕ) → IsPoolOf (settings_of s) (pool_
 is_home s pool node is = record { there = home_there s pool node is; pool = pool_low s pool is.pool; home = home_again s pool node }
 
 -- a place of the tables by its row
-pub place_back : (z : Sizes) (p : Place) → IsPlaceOf z p → place_in z (row_of z p) ≡ p
+pub place_back : (z : Sizes) (p : Place) → IsPlaceOf z p → place_of_row z (row_of z p) ≡ p
 place_back z p is =
     let high : row_of z p / z.groups ≡ p.id * z.nodes + p.node = div-mul-add (p.id * z.nodes + p.node) z.groups p.group is.group in
     let id : row_of z p / z.groups / z.nodes ≡ p.id = ap (λ (n : ℕ). n / z.nodes) high ∙ div-mul-add p.id z.nodes p.node is.node in
@@ -68,7 +65,7 @@ place_back z p is =
 
 -- places with one row are one
 pub same_place : (z : Sizes) (p q : Place) → IsPlaceOf z p → IsPlaceOf z q → row_of z p ≡ row_of z q → p ≡ q
-same_place z p q a b e = sym (place_back z p a) ∙ (ap (place_in z) e ∙ place_back z q b)
+same_place z p q a b e = sym (place_back z p a) ∙ (ap (place_of_row z) e ∙ place_back z q b)
 
 -- a place is one of the tables, or not
 pub there_or_not : (z : Sizes) (p : Place) → IsPlaceOf z p ⊎ (IsPlaceOf z p → ⊥)
@@ -80,7 +77,7 @@ some_right a zero h = absurd (omega (arith, h))
 some_right a (suc b) h = omega arith
 
 -- each row is that of a place
-pub row_there : (z : Sizes) (i : ℕ) → z.groups ≡ 1 → i < row_count z → IsPlaceOf z (place_in z i)
+pub row_there : (z : Sizes) (i : ℕ) → z.groups ≡ 1 → i < row_count z → IsPlaceOf z (place_of_row z i)
 row_there z i one lt =
     let both : 0 < z.ids * z.nodes = let e : z.ids * z.nodes * z.groups ≡ z.ids * z.nodes = ap (λ (n : ℕ). z.ids * z.nodes * n) one ∙ omega arith in omega (arith, lt, e) in
     place_inside z i (some_right z.ids z.nodes both) (omega (arith, one)) lt

@@ -1,6 +1,5 @@
 -- The report of a run is lawful at the pools of units.
-use Rattle.shr_units.proofs.Common.{List, Script, Report, UnitsStep, AreUnits, pool_sizes, refl}
-use Rattle.shr_report.specs.Pools.{ArePoolsLawful}
+use Rattle.shr_units.proofs.Common.{List, Script, Report, UnitsStep, AreUnits, pool_sizes, refl, ArePoolsLawful}
 use Rattle.shr_units.proofs.Printing as printing
 use Rattle.shr_units.proofs.RepliesLaw as replies
 use Rattle.shr_units.proofs.Citing as citing

@@ -1,28 +1,25 @@
 -- The journals of pools that are printed, by their rooms.
-use Rattle.shr_units.proofs.Common.{◌≡◌, ℕ, zero, suc, ◌+◌, ◌<◌, ◌≤◌, ◌≢◌, ◌⊎◌, ⊎_elim, Bool, true, false, cond, List, [], ◌∷◌, ◌++◌, length, map, sym, refl, ap, subst, ◌∙◌, arith, slice_get, Option, Some, None, AllByRecursion, append-nil, map-append, same_Some, none-some, dite, ℕ_discrete, UnitsEnd, PlainEntry, Place, is_place, free_of, is_place_same, is_place_itself, Sizes, IsPlaceOf, row_of, row_count, place_in, row_low, EndValue, end_value, Report, units_of, units_place}
-use Rattle.std.specs.Prelude.{find}
-use Rattle.shr_seats.proofs.RowLaws.{row_back}
-use Rattle.shr_plain.specs.Ending.{end_of, ends_below}
-use Rattle.shr_report.specs.UnitParts.{units_in}
+use Rattle.shr_units.proofs.Common.{◌≡◌, ℕ, zero, suc, ◌+◌, ◌<◌, ◌≤◌, ◌≢◌, ◌⊎◌, ⊎_elim, Bool, true, false, cond, List, [], ◌∷◌, ◌++◌, length, map, sym, refl, ap, subst, ◌∙◌, arith, slice_get, Option, Some, None, AllByRecursion, append-nil, map-append, same_Some, none-some, dite, ℕ_discrete, UnitsEnd, PlainEntry, Place, is_place, free_of, is_place_same, is_place_itself, Sizes, IsPlaceOf, row_of, row_count, place_of_row, row_low, UnitsEndValue, units_end_value, Report, units_journal, units_place, find, row_back, units_entries}
+use Rattle.shr_plain.specs.Ending.{units_ends, units_ends_below}
 use Rattle.shr_units.proofs.Lists.{IsIn, in_none, in_cases, no_test}
 use Rattle.shr_units.proofs.Pooling.{place_back, row_there}
 
-abbrev pub value_place : EndValue → Place
+abbrev pub value_place : UnitsEndValue → Place
 value_place v = record { id = v.pool; node = v.node; group = 0 }
 
-abbrev is_valued : Place → EndValue → Bool
+abbrev is_valued : Place → UnitsEndValue → Bool
 is_valued p v = is_place (value_place v) p
 
-abbrev entries_in : Option EndValue → List PlainEntry
+abbrev entries_in : Option UnitsEndValue → List PlainEntry
 entries_in None = []
 entries_in (Some v) = v.entries
 
 -- the journal that is printed for a place, by values
-seen_units : (us : List UnitsEnd) (p : Place) → units_in (find (λ (u : UnitsEnd). is_place (units_place u) p) us) ≡ entries_in (find (is_valued p) (map end_value us))
+seen_units : (us : List UnitsEnd) (p : Place) → units_entries (find (λ (u : UnitsEnd). is_place (units_place u) p) us) ≡ entries_in (find (is_valued p) (map units_end_value us))
 seen_units [] p = refl
 seen_units (u ∷ us) p = choose (is_place (units_place u) p) (seen_units us p) where
-  choose : (b : Bool) → units_in (find (λ (v : UnitsEnd). is_place (units_place v) p) us) ≡ entries_in (find (is_valued p) (map end_value us))
-      → units_in (cond b (Some u) (find (λ (v : UnitsEnd). is_place (units_place v) p) us)) ≡ entries_in (cond b (Some (end_value u)) (find (is_valued p) (map end_value us)))
+  choose : (b : Bool) → units_entries (find (λ (v : UnitsEnd). is_place (units_place v) p) us) ≡ entries_in (find (is_valued p) (map units_end_value us))
+      → units_entries (cond b (Some u) (find (λ (v : UnitsEnd). is_place (units_place v) p) us)) ≡ entries_in (cond b (Some (units_end_value u)) (find (is_valued p) (map units_end_value us)))
   choose true others = refl
   choose false others = others
 
@@ -47,65 +44,65 @@ slice_map f (y ∷ xs) (suc j) x e = slice_map f xs j x e
 
 module _ (z : Sizes) (one : z.groups ≡ 1) (journal : ℕ → List PlainEntry) where
   -- the place of a row has group 0
-  place_group : (row : ℕ) → row < row_count z → record { id = (place_in z row).id; node = (place_in z row).node; group = 0 } ≡ place_in z row
-  place_group row lt = let g = (row_there z row one lt).group in ap (λ (n : ℕ). record { id = (place_in z row).id; node = (place_in z row).node; group = n }) (let e : 0 ≡ (place_in z row).group = omega (arith, g, one) in e)
+  place_group : (row : ℕ) → row < row_count z → record { id = (place_of_row z row).id; node = (place_of_row z row).node; group = 0 } ≡ place_of_row z row
+  place_group row lt = let g = (row_there z row one lt).group in ap (λ (n : ℕ). record { id = (place_of_row z row).id; node = (place_of_row z row).node; group = n }) (let e : 0 ≡ (place_of_row z row).group = omega (arith, g, one) in e)
 
-  apart : (row : ℕ) (p : Place) → row < row_count z → IsPlaceOf z p → row ≢ row_of z p → is_place (record { id = (place_in z row).id; node = (place_in z row).node; group = 0 }) p ≡ false
+  apart : (row : ℕ) (p : Place) → row < row_count z → IsPlaceOf z p → row ≢ row_of z p → is_place (record { id = (place_of_row z row).id; node = (place_of_row z row).node; group = 0 }) p ≡ false
   apart row p lt there ne = no_test _ (λ e. ne (sym (row_back z row) ∙ ap (row_of z) (sym (place_group row lt) ∙ is_place_same _ p e)))
 
-  away : (row : ℕ) (p : Place) → row < row_count z → (IsPlaceOf z p → ⊥) → is_place (record { id = (place_in z row).id; node = (place_in z row).node; group = 0 }) p ≡ false
+  away : (row : ℕ) (p : Place) → row < row_count z → (IsPlaceOf z p → ⊥) → is_place (record { id = (place_of_row z row).id; node = (place_of_row z row).node; group = 0 }) p ≡ false
   away row p lt out = no_test _ (λ e. out (subst (IsPlaceOf z) (sym (place_group row lt) ∙ is_place_same _ p e) (row_there z row one lt)))
 
-  none_one : (row : ℕ) (p : Place) (es : List PlainEntry) → is_place (record { id = (place_in z row).id; node = (place_in z row).node; group = 0 }) p ≡ false → find (is_valued p) (end_of (place_in z row) es) ≡ None
+  none_one : (row : ℕ) (p : Place) (es : List PlainEntry) → is_place (record { id = (place_of_row z row).id; node = (place_of_row z row).node; group = 0 }) p ≡ false → find (is_valued p) (units_ends (place_of_row z row) es) ≡ None
   none_one row p [] never = refl
-  none_one row p (e ∷ es) never = ap (λ b. cond b (Some (record { pool = (place_in z row).id; node = (place_in z row).node; entries = e ∷ es; free = free_of (e ∷ es) })) None) never
+  none_one row p (e ∷ es) never = ap (λ b. cond b (Some (record { pool = (place_of_row z row).id; node = (place_of_row z row).node; entries = e ∷ es; free = free_of (e ∷ es) })) None) never
 
-  none_below : (n : ℕ) (p : Place) → ((row : ℕ) → row < n → is_place (record { id = (place_in z row).id; node = (place_in z row).node; group = 0 }) p ≡ false) → find (is_valued p) (ends_below z n journal) ≡ None
-  unfolding ends_below
+  none_below : (n : ℕ) (p : Place) → ((row : ℕ) → row < n → is_place (record { id = (place_of_row z row).id; node = (place_of_row z row).node; group = 0 }) p ≡ false) → find (is_valued p) (units_ends_below z n journal) ≡ None
+  unfolding units_ends_below
   none_below zero p never = refl
-  none_below (suc n) p never = find_back (is_valued p) (ends_below z n journal) (end_of (place_in z n) (journal n)) (none_below n p (λ row lt. never row (omega (arith, lt)))) ∙ none_one n p (journal n) (never n (omega arith))
+  none_below (suc n) p never = find_back (is_valued p) (units_ends_below z n journal) (units_ends (place_of_row z n) (journal n)) (none_below n p (λ row lt. never row (omega (arith, lt)))) ∙ none_one n p (journal n) (never n (omega arith))
 
-  own_one : (row : ℕ) (es : List PlainEntry) → row < row_count z → entries_in (find (is_valued (place_in z row)) (end_of (place_in z row) es)) ≡ es
+  own_one : (row : ℕ) (es : List PlainEntry) → row < row_count z → entries_in (find (is_valued (place_of_row z row)) (units_ends (place_of_row z row) es)) ≡ es
   own_one row [] lt = refl
-  own_one row (e ∷ es) lt = ap (λ b. entries_in (cond b (Some (record { pool = (place_in z row).id; node = (place_in z row).node; entries = e ∷ es; free = free_of (e ∷ es) })) None))
-      (ap (λ (q : Place). is_place q (place_in z row)) (place_group row lt) ∙ is_place_itself (place_in z row))
+  own_one row (e ∷ es) lt = ap (λ b. entries_in (cond b (Some (record { pool = (place_of_row z row).id; node = (place_of_row z row).node; entries = e ∷ es; free = free_of (e ∷ es) })) None))
+      (ap (λ (q : Place). is_place q (place_of_row z row)) (place_group row lt) ∙ is_place_itself (place_of_row z row))
 
-  at_below : (n row : ℕ) → n ≤ row_count z → row < n → entries_in (find (is_valued (place_in z row)) (ends_below z n journal)) ≡ journal row
-  unfolding ends_below
+  at_below : (n row : ℕ) → n ≤ row_count z → row < n → entries_in (find (is_valued (place_of_row z row)) (units_ends_below z n journal)) ≡ journal row
+  unfolding units_ends_below
   at_below zero row le lt = absurd (omega (arith, lt))
   at_below (suc n) row le lt = dite (ℕ_discrete row n)
-      (λ e. subst (λ (m : ℕ). entries_in (find (is_valued (place_in z m)) (ends_below z n journal ++ end_of (place_in z n) (journal n))) ≡ journal m) (sym e)
-      (ap entries_in (find_back (is_valued (place_in z n)) (ends_below z n journal) (end_of (place_in z n) (journal n)) (none_below n (place_in z n) (λ j low. differs j n (omega (arith, low, le)) (omega (arith, le)) (λ q. omega (arith, low, q))))) ∙ own_one n (journal n) (omega (arith, le))))
-      (λ ne. ap entries_in (find_front (is_valued (place_in z row)) (ends_below z n journal) (end_of (place_in z n) (journal n)) (none_one n (place_in z row) (journal n) (differs n row (omega (arith, le)) (omega (arith, lt, le)) (λ q. ne (sym q))))) ∙ at_below n row (omega (arith, le)) (omega (arith, lt, ne)))
+      (λ e. subst (λ (m : ℕ). entries_in (find (is_valued (place_of_row z m)) (units_ends_below z n journal ++ units_ends (place_of_row z n) (journal n))) ≡ journal m) (sym e)
+      (ap entries_in (find_back (is_valued (place_of_row z n)) (units_ends_below z n journal) (units_ends (place_of_row z n) (journal n)) (none_below n (place_of_row z n) (λ j low. differs j n (omega (arith, low, le)) (omega (arith, le)) (λ q. omega (arith, low, q))))) ∙ own_one n (journal n) (omega (arith, le))))
+      (λ ne. ap entries_in (find_front (is_valued (place_of_row z row)) (units_ends_below z n journal) (units_ends (place_of_row z n) (journal n)) (none_one n (place_of_row z row) (journal n) (differs n row (omega (arith, le)) (omega (arith, lt, le)) (λ q. ne (sym q))))) ∙ at_below n row (omega (arith, le)) (omega (arith, lt, ne)))
     where
-      differs : (j k : ℕ) → j < row_count z → k < row_count z → j ≢ k → is_place (record { id = (place_in z j).id; node = (place_in z j).node; group = 0 }) (place_in z k) ≡ false
-      differs j k a b ne = apart j (place_in z k) a (row_there z k one b) (λ e. ne (e ∙ row_back z k))
+      differs : (j k : ℕ) → j < row_count z → k < row_count z → j ≢ k → is_place (record { id = (place_of_row z j).id; node = (place_of_row z j).node; group = 0 }) (place_of_row z k) ≡ false
+      differs j k a b ne = apart j (place_of_row z k) a (row_there z k one b) (λ e. ne (e ∙ row_back z k))
 
   -- each value is of a row with a journal
-  pub record IsBelow (n : ℕ) (v : EndValue) : Type 0 where
+  pub record IsBelow (n : ℕ) (v : UnitsEndValue) : Type 0 where
     pub row : ℕ
     pub near : row < n
     pub some_entry : 0 < length (journal row)
-    pub pool : v.pool ≡ (place_in z row).id
-    pub node : v.node ≡ (place_in z row).node
+    pub pool : v.pool ≡ (place_of_row z row).id
+    pub node : v.node ≡ (place_of_row z row).node
     pub entries : v.entries ≡ journal row
     pub free : v.free ≡ free_of (journal row)
 
-  one_of : (row : ℕ) (es : List PlainEntry) (v : EndValue) → IsIn v (end_of (place_in z row) es) → (0 < length es) × (v ≡ record { pool = (place_in z row).id; node = (place_in z row).node; entries = es; free = free_of es })
+  one_of : (row : ℕ) (es : List PlainEntry) (v : UnitsEndValue) → IsIn v (units_ends (place_of_row z row) es) → (0 < length es) × (v ≡ record { pool = (place_of_row z row).id; node = (place_of_row z row).node; entries = es; free = free_of es })
   one_of row [] v h = absurd (in_none v h)
   one_of row (x ∷ es) v (zero, e) = (omega arith, sym (same_Some _ v e))
   one_of row (x ∷ es) v (suc j, e) = absurd (none-some v e)
 
-  pub among_below : (n : ℕ) (v : EndValue) → IsIn v (ends_below z n journal) → IsBelow n v
-  unfolding ends_below
+  pub among_below : (n : ℕ) (v : UnitsEndValue) → IsIn v (units_ends_below z n journal) → IsBelow n v
+  unfolding units_ends_below
   among_below zero v h = absurd (in_none v h)
   among_below (suc n) v h = ⊎_elim
       (λ a. let b = among_below n v a in record { row = b.row; near = omega (arith, b.near); some_entry = b.some_entry; pool = b.pool; node = b.node; entries = b.entries; free = b.free })
-      (λ a. let t = one_of n (journal n) v a in record { row = n; near = omega arith; some_entry = t.0; pool = ap (λ (w : EndValue). w.pool) t.1; node = ap (λ (w : EndValue). w.node) t.1; entries = ap (λ (w : EndValue). w.entries) t.1; free = ap (λ (w : EndValue). w.free) t.1 })
-      (in_cases (ends_below z n journal) (end_of (place_in z n) (journal n)) v h)
+      (λ a. let t = one_of n (journal n) v a in record { row = n; near = omega arith; some_entry = t.0; pool = ap (λ (w : UnitsEndValue). w.pool) t.1; node = ap (λ (w : UnitsEndValue). w.node) t.1; entries = ap (λ (w : UnitsEndValue). w.entries) t.1; free = ap (λ (w : UnitsEndValue). w.free) t.1 })
+      (in_cases (units_ends_below z n journal) (units_ends (place_of_row z n) (journal n)) v h)
 
   -- the rows of the values rise
-  abbrev pub value_row : EndValue → ℕ
+  abbrev pub value_row : UnitsEndValue → ℕ
   value_row v = row_of z (value_place v)
 
   abbrev pub Rises : List ℕ → Type 0
@@ -128,18 +125,18 @@ module _ (z : Sizes) (one : z.groups ≡ 1) (journal : ℕ → List PlainEntry) 
   below_later n [] h = tt
   below_later n (x ∷ xs) h = (let q = h.0 in omega (arith, q), below_later n xs h.1)
 
-  row_is : (n : ℕ) → n < row_count z → row_of z (record { id = (place_in z n).id; node = (place_in z n).node; group = 0 }) ≡ n
+  row_is : (n : ℕ) → n < row_count z → row_of z (record { id = (place_of_row z n).id; node = (place_of_row z n).node; group = 0 }) ≡ n
   row_is n lt = ap (row_of z) (place_group n lt) ∙ row_back z n
 
-  rises_one : (n : ℕ) → n < row_count z → (es : List PlainEntry) (ns : List ℕ) → Rises ns × AllByRecursion (λ y. y < n) ns → Rises (ns ++ map value_row (end_of (place_in z n) es)) × AllByRecursion (λ y. y < suc n) (ns ++ map value_row (end_of (place_in z n) es))
+  rises_one : (n : ℕ) → n < row_count z → (es : List PlainEntry) (ns : List ℕ) → Rises ns × AllByRecursion (λ y. y < n) ns → Rises (ns ++ map value_row (units_ends (place_of_row z n) es)) × AllByRecursion (λ y. y < suc n) (ns ++ map value_row (units_ends (place_of_row z n) es))
   rises_one n lt [] ns h = subst (λ (l : List ℕ). Rises l × AllByRecursion (λ y. y < suc n) l) (sym (append-nil ns)) (h.0, below_later n ns h.1)
   rises_one n lt (e ∷ es) ns h = subst (λ (m : ℕ). Rises (ns ++ m ∷ []) × AllByRecursion (λ y. y < suc n) (ns ++ m ∷ [])) (sym (row_is n lt)) (rises_snoc n ns h.0 h.1, below_snoc n ns h.1)
 
-  pub rises_below : (n : ℕ) → n ≤ row_count z → Rises (map value_row (ends_below z n journal)) × AllByRecursion (λ y. y < n) (map value_row (ends_below z n journal))
-  unfolding ends_below
+  pub rises_below : (n : ℕ) → n ≤ row_count z → Rises (map value_row (units_ends_below z n journal)) × AllByRecursion (λ y. y < n) (map value_row (units_ends_below z n journal))
+  unfolding units_ends_below
   rises_below zero le = (tt, tt)
-  rises_below (suc n) le = subst (λ (l : List ℕ). Rises l × AllByRecursion (λ y. y < suc n) l) (sym (map-append value_row (ends_below z n journal) (end_of (place_in z n) (journal n))))
-      (rises_one n (omega (arith, le)) (journal n) (map value_row (ends_below z n journal)) (rises_below n (omega (arith, le))))
+  rises_below (suc n) le = subst (λ (l : List ℕ). Rises l × AllByRecursion (λ y. y < suc n) l) (sym (map-append value_row (units_ends_below z n journal) (units_ends (place_of_row z n) (journal n))))
+      (rises_one n (omega (arith, le)) (journal n) (map value_row (units_ends_below z n journal)) (rises_below n (omega (arith, le))))
 
   -- in a list that rises one number stands once
   all_at : (P : ℕ → Type 0) (xs : List ℕ) (j : ℕ) (x : ℕ) → AllByRecursion P xs → slice_get xs j ≡ Some x → P x
@@ -154,22 +151,22 @@ module _ (z : Sizes) (one : z.groups ≡ 1) (journal : ℕ → List PlainEntry) 
   stands_once (x ∷ xs) r (suc i) zero n a b = absurd (let lt = all_at (λ y. x < y) xs i n r.0 a in let e = same_Some x n b in omega (arith, lt, e))
   stands_once (x ∷ xs) r (suc i) (suc j) n a b = ap suc (stands_once xs r.1 i j n a b)
 
-  module _ (r : Report) (are : map end_value r.units.items ≡ ends_below z (row_count z) journal) where
+  module _ (r : Report) (are : map units_end_value r.units.items ≡ units_ends_below z (row_count z) journal) where
     -- the journal of a place of the tables, and of any other
-    pub units_there : (p : Place) → IsPlaceOf z p → units_of r p ≡ journal (row_of z p)
+    pub units_there : (p : Place) → IsPlaceOf z p → units_journal r p ≡ journal (row_of z p)
     units_there p there = seen_units r.units.items p ∙ (ap (λ vs. entries_in (find (is_valued p) vs)) are
-        ∙ (ap (λ (q : Place). entries_in (find (is_valued q) (ends_below z (row_count z) journal))) (sym (place_back z p there)) ∙ at_below (row_count z) (row_of z p) (omega arith) (row_low z p there)))
+        ∙ (ap (λ (q : Place). entries_in (find (is_valued q) (units_ends_below z (row_count z) journal))) (sym (place_back z p there)) ∙ at_below (row_count z) (row_of z p) (omega arith) (row_low z p there)))
 
-    pub units_nowhere : (p : Place) → (IsPlaceOf z p → ⊥) → units_of r p ≡ []
+    pub units_nowhere : (p : Place) → (IsPlaceOf z p → ⊥) → units_journal r p ≡ []
     units_nowhere p out = seen_units r.units.items p ∙ (ap (λ vs. entries_in (find (is_valued p) vs)) are ∙ ap entries_in (none_below (row_count z) p (λ row lt. away row p lt out)))
 
     -- each journal that is printed is that of a row
-    pub printed : (j : ℕ) (u : UnitsEnd) → slice_get r.units.items j ≡ Some u → IsBelow (row_count z) (end_value u)
-    printed j u at = among_below (row_count z) (end_value u) (j, subst (λ l. slice_get l j ≡ Some (end_value u)) are (slice_map end_value r.units.items j u at))
+    pub printed : (j : ℕ) (u : UnitsEnd) → slice_get r.units.items j ≡ Some u → IsBelow (row_count z) (units_end_value u)
+    printed j u at = among_below (row_count z) (units_end_value u) (j, subst (λ l. slice_get l j ≡ Some (units_end_value u)) are (slice_map units_end_value r.units.items j u at))
 
     pub printed_once : (i j : ℕ) (u v : UnitsEnd) → slice_get r.units.items i ≡ Some u → slice_get r.units.items j ≡ Some v → units_place u ≡ units_place v → i ≡ j
-    printed_once i j u v a b same = stands_once (map value_row (ends_below z (row_count z) journal)) (rises_below (row_count z) (omega arith)).0 i j (row_of z (units_place u))
+    printed_once i j u v a b same = stands_once (map value_row (units_ends_below z (row_count z) journal)) (rises_below (row_count z) (omega arith)).0 i j (row_of z (units_place u))
         (at i u a) (at j v b ∙ ap (λ (q : Place). Some (row_of z q)) (sym same))
       where
-        at : (k : ℕ) (w : UnitsEnd) → slice_get r.units.items k ≡ Some w → slice_get (map value_row (ends_below z (row_count z) journal)) k ≡ Some (row_of z (units_place w))
-        at k w e = slice_map value_row (ends_below z (row_count z) journal) k (end_value w) (subst (λ l. slice_get l k ≡ Some (end_value w)) are (slice_map end_value r.units.items k w e))
+        at : (k : ℕ) (w : UnitsEnd) → slice_get r.units.items k ≡ Some w → slice_get (map value_row (units_ends_below z (row_count z) journal)) k ≡ Some (row_of z (units_place w))
+        at k w e = slice_map value_row (units_ends_below z (row_count z) journal) k (units_end_value w) (subst (λ l. slice_get l k ≡ Some (units_end_value w)) are (slice_map units_end_value r.units.items k w e))

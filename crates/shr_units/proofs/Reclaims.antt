@@ -1,11 +1,10 @@
 -- The Reclaim entries of a walk of the pools in a journal are those that the walk made there.
-use Rattle.shr_units.proofs.Common.{◌≡◌, ℕ, zero, suc, ◌+◌, ◌*◌, ◌<◌, ◌≤◌, ◌≢◌, ◌⊎◌, inl, inr, ⊎_elim, Bool, true, false, ◌&&◌, cond, List, [], ◌∷◌, ◌++◌, length, sym, refl, ap, ◌∙◌, arith, eq-eqb, ne_eqb, le-leb, slice_get, Option, Some, None, filter_map, sum, ◌==◌, nat_lt, nat_le, enumerate_from, cons_option, and_parts, eqb-true, cases_lt, leb-true, lt-ltb, same_Some, none-some, slice_get_within, dite, ℕ_discrete, PlainEntry, total, Made, ScanSeen, scan_by, ReclaimMade, reclaim_by}
+use Rattle.shr_units.proofs.Common.{◌≡◌, ℕ, zero, suc, ◌+◌, ◌*◌, ◌<◌, ◌≤◌, ◌≢◌, ◌⊎◌, inl, inr, ⊎_elim, Bool, true, false, ◌&&◌, cond, List, [], ◌∷◌, ◌++◌, length, sym, refl, ap, ◌∙◌, arith, eq-eqb, ne_eqb, le-leb, slice_get, Option, Some, None, filter_map, sum, ◌==◌, nat_lt, nat_le, enumerate_from, cons_option, and_parts, eqb-true, cases_lt, leb-true, lt-ltb, same_Some, none-some, slice_get_within, dite, ℕ_discrete, PlainEntry, total, RoomMade, ScanSeen, units_scan_by, ReclaimMade, reclaim_by, times_made}
 use Rattle.shr_base.specs.declared.journals.PlainEntry.TheVariants as entry
-use Rattle.shr_rooms.specs.Rule.{times}
 use Rattle.shr_units.proofs.Lists.{IsIn, all_zero, total_on, count_total, no_test}
 
 abbrev Makes : Type 0
-Makes = Made PlainEntry
+Makes = RoomMade PlainEntry
 
 pub cond_yes : (b : Bool) (x y : ℕ) → b ≡ true → cond b x y ≡ x
 cond_yes b x y e = ap (λ c. cond c x y) e
@@ -53,7 +52,7 @@ module _ (f : ℕ → PlainEntry → ℕ) where
           (λ e. cond_yes (m.number == i) (f m.number m.entry) 0 (eq-eqb m.number i e) ∙ (h m (0, refl) e ∙ sym (times_one (cond (m.number == i) 1 0) (cond_yes (m.number == i) 1 0 (eq-eqb m.number i e)))))
           (λ ne. cond_no (m.number == i) (f m.number m.entry) 0 (ne_eqb m.number i ne) ∙ sym (times_none (cond (m.number == i) 1 0) (cond_no (m.number == i) 1 0 (ne_eqb m.number i ne))))
 
-  module _ (journal : List PlainEntry) (l : List Makes) (stand : (m : Makes) → IsIn m l → slice_get journal m.number ≡ Some m.entry) (once : (n : ℕ) → times n l ≡ cond (nat_lt n (length journal)) 1 0) where
+  module _ (journal : List PlainEntry) (l : List Makes) (stand : (m : Makes) → IsIn m l → slice_get journal m.number ≡ Some m.entry) (once : (n : ℕ) → times_made n l ≡ cond (nat_lt n (length journal)) 1 0) where
     journal_from : (i : ℕ) (es : List PlainEntry) → length journal ≡ i + length es → ((j : ℕ) (e : PlainEntry) → slice_get es j ≡ Some e → slice_get journal (i + j) ≡ Some e)
         → total (λ (e : ℕ × PlainEntry). f e.0 e.1) (enumerate_from i es) ≡ total (at_from i) l
     journal_from i [] long at = sym (all_zero (at_from i) l (λ j m e. cond_no (nat_le i m.number) (f m.number m.entry) 0 (not_le i m.number (let low = slice_get_within journal m.number m.entry (stand m (j, e)) in omega (arith, low, long)))))
@@ -116,8 +115,8 @@ kept_has h (y ∷ xs) x a (zero, e) k = in_option (h y) (filter_map h xs) a (inl
 kept_has h (y ∷ xs) x a (suc j, e) k = in_option (h y) (filter_map h xs) a (inr (kept_has h xs x a (j, e) k))
 
 -- a reclaim of this walk is a scan of it
-pub scan_is : (worker walk : ℕ) (m : Made PlainEntry) (asked freed : ℕ) → m.entry ≡ entry.Reclaim worker walk asked freed → scan_by worker walk m ≡ Some (record { asked = asked; freed = freed })
-scan_is worker walk m asked freed e = ap (λ (v : PlainEntry). scan_by worker walk (record { number = m.number; entry = v })) e
+pub scan_is : (worker walk : ℕ) (m : RoomMade PlainEntry) (asked freed : ℕ) → m.entry ≡ entry.Reclaim worker walk asked freed → units_scan_by worker walk m ≡ Some (record { asked = asked; freed = freed })
+scan_is worker walk m asked freed e = ap (λ (v : PlainEntry). units_scan_by worker walk (record { number = m.number; entry = v })) e
     ∙ (ap (λ b. cond (b && (walk == walk)) (Some (record { asked = asked; freed = freed })) None) (eq-eqb worker worker refl) ∙ ap (λ b. cond b (Some (record { asked = asked; freed = freed })) None) (eq-eqb walk walk refl))
 
 pub enumerated : {A : Type 0} (i : ℕ) (xs : List A) (j : ℕ) (p : ℕ × A) → slice_get (enumerate_from i xs) j ≡ Some p → (slice_get xs j ≡ Some p.1) × (p.0 ≡ i + j)
@@ -129,7 +128,7 @@ enumerated i (x ∷ xs) (suc j) p e = let t = enumerated (i + 1) xs j p e in (t.
 abbrev pub scan_made : ℕ → ScanSeen → ReclaimMade
 scan_made number x = record { number = number; asked = x.asked; freed = x.freed }
 
-pub same_weight : (f : ℕ → ℕ → ℕ) (worker walk number : ℕ) (e : PlainEntry) → weight_of (λ (x : ReclaimMade). f x.asked x.freed) (reclaim_by worker walk number e) ≡ weight_of (λ (x : ScanSeen). f x.asked x.freed) (scan_by worker walk (record { number = number; entry = e }))
+pub same_weight : (f : ℕ → ℕ → ℕ) (worker walk number : ℕ) (e : PlainEntry) → weight_of (λ (x : ReclaimMade). f x.asked x.freed) (reclaim_by worker walk number e) ≡ weight_of (λ (x : ScanSeen). f x.asked x.freed) (units_scan_by worker walk (record { number = number; entry = e }))
 same_weight f worker walk number (entry.Release by n) = refl
 same_weight f worker walk number (entry.Grab by got) = refl
 same_weight f worker walk number (entry.Reclaim w n asked freed) = by_test ((w == worker) && (n == walk)) where

@@ -1,13 +1,9 @@
 -- The journals of pools that are printed, and the replies that cite them, of a run.
-use Rattle.shr_units.proofs.Common.{◌≡◌, ℕ, ◌+◌, ◌<◌, ◌≤◌, ◌⊎◌, ⊎_elim, true, false, List, [], ◌∷◌, ◌++◌, length, take, sym, refl, ap, subst, ◌∙◌, arith, length-append, slice_get, Option, Some, option_map, option_and_then, IsSomeAnd, AllByRecursion, take-append_seam, same_Some, none-some, UnitsEnd, PlainEntry, At, Place, Serial, Answered, Reply, Command, Release, Grab, Script, PassRecord, PlainWalk, free_of, IsPlaceOf, row_of, row_count, place_in, Begins, row_low, Made, RoomView, part_at, GrabAnswer, ReleaseAnswer, Sees, Makes, ReleaseGives, GrabGives, end_value, PlainState, no_state, IsPoolOf, Report, at, EachAnswer, pool_place, units_of, units_cited, units_cited_at, plain_at, pass_at, units_place, settings_of, pool_sizes, home_of, home_room, release_reply, grab_reply, IsOther, UnitsStep, steps_of, AreUnits}
-use Rattle.std.specs.Prelude.{⊤}
+use Rattle.shr_units.proofs.Common.{◌≡◌, ℕ, ◌+◌, ◌<◌, ◌≤◌, ◌⊎◌, ⊎_elim, true, false, List, [], ◌∷◌, ◌++◌, length, take, sym, refl, ap, subst, ◌∙◌, arith, length-append, slice_get, Option, Some, option_map, option_and_then, IsSomeAnd, AllByRecursion, take-append_seam, same_Some, none-some, UnitsEnd, PlainEntry, At, Place, Serial, Answered, Reply, Command, Release, Grab, Script, PassRecord, PlainWalk, free_of, IsPlaceOf, row_of, row_count, place_of_row, Begins, row_low, RoomMade, RoomView, part_at, GrabAnswer, ReleaseAnswer, Sees, Makes, ReleaseGives, GrabGives, units_end_value, PlainState, no_state, IsPoolOf, Report, at, EachAnswer, pool_place, units_journal, units_cited, units_cited_at, plain_at, pass_at, units_place, settings_of, pool_sizes, home_of, home_room, units_release_reply, units_grab_reply, IsOther, UnitsStep, units_steps_of, AreUnits, ⊤, IsPlainJournal, plain_by_of, EachUnits, AreUnitsRight, CitesUnits, IsTooFull, IsPoolReply, IsOfPlain}
 use Rattle.shr_base.specs.declared.journals.PlainEntry.TheVariants as entry
 use Rattle.shr_base.specs.declared.replies.Reply.TheVariants as reply
-use Rattle.shr_model.specs.Units.{IsPlainJournal}
 use Rattle.shr_plain.specs.declared.answers.GrabAnswer.TheVariants as grab
 use Rattle.shr_plain.specs.declared.answers.ReleaseAnswer.TheVariants as release
-use Rattle.shr_report.specs.UnitParts.{plain_by_of, EachUnits}
-use Rattle.shr_report.specs.Pools.{AreUnitsRight, CitesUnits, IsTooFull, IsPoolReply, IsOfPlain}
 use Rattle.shr_units.proofs.StepKinds.{Kind, released, grabbed, walked, idle}
 use Rattle.shr_units.proofs.Lists.{IsIn, in_right, by_slices, slice_begins, slice_seam}
 use Rattle.shr_units.proofs.Pooling.{IsHome, home_there, pool_place_is, same_place, place_back, there_or_not}
@@ -33,7 +29,7 @@ some_entry [] lt = absurd (omega (arith, lt))
 some_entry (e ∷ es) lt = (e, refl)
 
 -- the place where an entry was made
-home_made : (s : Script) (i : ℕ) (by : Serial) (x : Reply) (t u : PlainState) (m : Made PlainEntry) (e : PlainEntry) → MayMake s i by x t u m e → (p : Place) × IsHome s p × (i ≡ row_of (pool_sizes s) p)
+home_made : (s : Script) (i : ℕ) (by : Serial) (x : Reply) (t u : PlainState) (m : RoomMade PlainEntry) (e : PlainEntry) → MayMake s i by x t u m e → (p : Place) × IsHome s p × (i ≡ row_of (pool_sizes s) p)
 home_made s i by x t u m (entry.Release own n) h = (h.place, h.home, h.room)
 home_made s i by x t u m (entry.Grab own got) h = (h.place, h.home, h.room)
 home_made s i by x t u m (entry.Reclaim worker walk asked freed) h = (h.place, h.home, h.room)
@@ -42,15 +38,15 @@ module _ (s : Script) (r : Report) (workers : List (List UnitsStep)) (run : AreU
   -- ---- what is printed
   right : (j : ℕ) (u : UnitsEnd) → slice_get r.units.items j ≡ Some u → AreUnitsRight s u
   right j u at =
-      let b : IsBelow (pool_sizes s) refl run.journal (row_count (pool_sizes s)) (end_value u) = printed (pool_sizes s) refl run.journal r run.units j u at in
+      let b : IsBelow (pool_sizes s) refl run.journal (row_count (pool_sizes s)) (units_end_value u) = printed (pool_sizes s) refl run.journal r run.units j u at in
       let first = some_entry (run.journal b.row) b.some_entry in
       let m = maker s r workers run b.row b.near 0 first.0 first.1 in
       let h = home_made s b.row m.step.by m.step.reply m.step.before m.step.after m.made first.0 (may_make s r workers run b.row 0 first.0 m) in
       of_home b h.0 h.1 h.2
     where
-      of_home : (b : IsBelow (pool_sizes s) refl run.journal (row_count (pool_sizes s)) (end_value u)) → (p : Place) → IsHome s p → b.row ≡ row_of (pool_sizes s) p → AreUnitsRight s u
+      of_home : (b : IsBelow (pool_sizes s) refl run.journal (row_count (pool_sizes s)) (units_end_value u)) → (p : Place) → IsHome s p → b.row ≡ row_of (pool_sizes s) p → AreUnitsRight s u
       of_home b p home row =
-          let back : place_in (pool_sizes s) b.row ≡ p = ap (place_in (pool_sizes s)) row ∙ place_back (pool_sizes s) p home.there in
+          let back : place_of_row (pool_sizes s) b.row ≡ p = ap (place_of_row (pool_sizes s)) row ∙ place_back (pool_sizes s) p home.there in
           let pool : u.pool ≡ p.id = b.pool ∙ ap (λ (q : Place). q.id) back in
           let node : u.node ≡ p.node = b.node ∙ ap (λ (q : Place). q.node) back in
           let here : units_place u ≡ p = λ i. record { id = pool i; node = node i; group = (let g = home.there.group in let z : 0 ≡ p.group = omega (arith, g) in z) i } in
@@ -66,11 +62,11 @@ module _ (s : Script) (r : Report) (workers : List (List UnitsStep)) (run : AreU
   units = by_slices (AreUnitsRight s) r.units.items right
 
   -- ---- replies
-  cites : (worker k : ℕ) (x : UnitsStep) → slice_get (steps_of workers worker) k ≡ Some x → (node pool : ℕ) → IsPoolOf (settings_of s) (pool_sizes s) pool node → (journal : List PlainEntry) (e : PlainEntry) → Makes (home_room s pool node) x.before x.after journal e
+  cites : (worker k : ℕ) (x : UnitsStep) → slice_get (units_steps_of workers worker) k ≡ Some x → (node pool : ℕ) → IsPoolOf (settings_of s) (pool_sizes s) pool node → (journal : List PlainEntry) (e : PlainEntry) → Makes (home_room s pool node) x.before x.after journal e
       → (n : ℕ) → n ≡ length journal → CitesUnits s r pool node (home_of s pool node).id (home_of s pool node).node n e
   cites worker k x at_x node pool there journal e makes n is =
       let i = home_room s pool node in
-      let m : Made PlainEntry = record { number = length journal; entry = e } in
+      let m : RoomMade PlainEntry = record { number = length journal; entry = e } in
       let among : IsIn (record { number = length journal; entry = e }) (made_at i x.after) = subst (λ (v : RoomView PlainEntry). IsIn (record { number = length journal; entry = e }) v.made) (sym (makes_part i x.before x.after journal e makes))
       (in_right (part_at x.before.rooms i).made (record { number = length journal; entry = e } ∷ []) (record { number = length journal; entry = e }) (0, refl)) in
       record {
@@ -79,14 +75,14 @@ module _ (s : Script) (r : Report) (workers : List (List UnitsStep)) (run : AreU
             ∙ stands (run.journal i) m (made_is s r workers run worker i (row_low (pool_sizes s) (home_of s pool node) (home_there s pool node there)) k x at_x m among));
       }
 
-  too_full : (worker k : ℕ) (x : UnitsStep) → slice_get (steps_of workers worker) k ≡ Some x → (node pool m : ℕ) → IsPoolOf (settings_of s) (pool_sizes s) pool node → (journal : List PlainEntry) → Sees (home_room s pool node) x.before x.after journal
+  too_full : (worker k : ℕ) (x : UnitsStep) → slice_get (units_steps_of workers worker) k ≡ Some x → (node pool m : ℕ) → IsPoolOf (settings_of s) (pool_sizes s) pool node → (journal : List PlainEntry) → Sees (home_room s pool node) x.before x.after journal
       → (entries free : ℕ) → entries ≡ length journal → free ≡ free_of journal → 20000 < free + m → IsTooFull s r pool node m (home_of s pool node).id (home_of s pool node).node entries free
   too_full worker k x at_x node pool m there journal sees entries free is counted over =
       let i = home_room s pool node in
       let b : Begins journal (run.journal i) = subst (λ (v : RoomView PlainEntry). Begins v.known (run.journal i)) (sees_part i x.before x.after journal sees) (known_is s r workers run worker i (row_low (pool_sizes s) (home_of s pool node) (home_there s pool node there)) k x at_x) in
       let here = journal_at s r workers run (home_of s pool node) (home_there s pool node there) in
       let long = length-append journal b.0 in
-      let whole : length (units_of r (home_of s pool node)) ≡ length (journal ++ b.0) = ap (λ (l : List PlainEntry). length l) (here ∙ b.1) in
+      let whole : length (units_journal r (home_of s pool node)) ≡ length (journal ++ b.0) = ap (λ (l : List PlainEntry). length l) (here ∙ b.1) in
       record {
         place = pool_place_is s pool node;
         there = omega (arith, is, long, whole);
@@ -94,17 +90,17 @@ module _ (s : Script) (r : Report) (workers : List (List UnitsStep)) (run : AreU
         full = over;
       }
 
-  pool_reply : (worker k : ℕ) (x : UnitsStep) → slice_get (steps_of workers worker) k ≡ Some x → Kind s x.by x.command x.reply x.before x.after → IsPoolReply s r x.by x.command x.reply
+  pool_reply : (worker k : ℕ) (x : UnitsStep) → slice_get (units_steps_of workers worker) k ≡ Some x → Kind s x.by x.command x.reply x.before x.after → IsPoolReply s r x.by x.command x.reply
   pool_reply worker k x at_x (released node pool m is due did) = subst (λ (c : Command). IsPoolReply s r x.by c x.reply) (sym is) (subst (IsPoolReply s r x.by (Release node pool m)) (sym did.told) (by_answer did.answer did.gives))
     where
-      by_answer : (a : ReleaseAnswer) → ReleaseGives (home_of s pool node) (home_room s pool node) x.by m a x.before x.after → IsPoolReply s r x.by (Release node pool m) (release_reply (home_of s pool node) a)
+      by_answer : (a : ReleaseAnswer) → ReleaseGives (home_of s pool node) (home_room s pool node) x.by m a x.before x.after → IsPoolReply s r x.by (Release node pool m) (units_release_reply (home_of s pool node) a)
       by_answer (release.Full es f) g = too_full worker k x at_x node pool m did.there g.0 g.1 es f g.2 g.3 g.4
       by_answer (release.Worn spent) g = tt
       by_answer release.Memory g = tt
       by_answer (release.Released n) g = cites worker k x at_x node pool did.there g.0 (entry.Release x.by m) g.1 n g.2
   pool_reply worker k x at_x (grabbed node pool is due did) = subst (λ (c : Command). IsPoolReply s r x.by c x.reply) (sym is) (subst (IsPoolReply s r x.by (Grab node pool)) (sym did.told) (by_answer did.answer did.gives))
     where
-      by_answer : (a : GrabAnswer) → GrabGives (home_of s pool node) (home_room s pool node) x.by a x.before x.after → IsPoolReply s r x.by (Grab node pool) (grab_reply (home_of s pool node) a)
+      by_answer : (a : GrabAnswer) → GrabGives (home_of s pool node) (home_room s pool node) x.by a x.before x.after → IsPoolReply s r x.by (Grab node pool) (units_grab_reply (home_of s pool node) a)
       by_answer (grab.Worn spent) g = tt
       by_answer grab.Memory g = tt
       by_answer (grab.Grabbed n) g = cites worker k x at_x node pool did.there g.0 (entry.Grab x.by true) g.1 n g.3
@@ -119,7 +115,7 @@ module _ (s : Script) (r : Report) (workers : List (List UnitsStep)) (run : AreU
       (pool_reply by.worker by.command t.step t.at (kind_at s r workers run by.worker by.command t.step t.at))))
 
   -- ---- entries
-  of_entry : (p : Place) (n : ℕ) (e : PlainEntry) → slice_get (units_of r p) n ≡ Some e → IsPlaceOf (pool_sizes s) p × (slice_get (run.journal (row_of (pool_sizes s) p)) n ≡ Some e)
+  of_entry : (p : Place) (n : ℕ) (e : PlainEntry) → slice_get (units_journal r p) n ≡ Some e → IsPlaceOf (pool_sizes s) p × (slice_get (run.journal (row_of (pool_sizes s) p)) n ≡ Some e)
   of_entry p n e h = ⊎_elim (λ there. (there, ap (λ l. slice_get l n) (sym (journal_at s r workers run p there)) ∙ h))
       (λ out. absurd (none-some e (ap (λ l. slice_get l n) (sym (units_nowhere (pool_sizes s) refl run.journal r run.units p out)) ∙ h))) (there_or_not (pool_sizes s) p)
 
@@ -138,9 +134,9 @@ module _ (s : Script) (r : Report) (workers : List (List UnitsStep)) (run : AreU
       by_entry there (entry.Reclaim worker walk asked freed) m own = absurd (none-some by own)
 
   -- the walk that a reclaim is of
-  walk_there : (worker k : ℕ) (x : UnitsStep) → slice_get (steps_of workers worker) k ≡ Some x → (w : PlainWalk) → x.after.walks ≡ x.before.walks ++ w ∷ [] → plain_at r worker (length x.before.walks) ≡ Some w
+  walk_there : (worker k : ℕ) (x : UnitsStep) → slice_get (units_steps_of workers worker) k ≡ Some x → (w : PlainWalk) → x.after.walks ≡ x.before.walks ++ w ∷ [] → plain_at r worker (length x.before.walks) ≡ Some w
   walk_there worker k x at_x w are = ap (λ l. slice_get l (length x.before.walks)) (run.walks worker)
-      ∙ slice_begins (walks_at x.after) _ (length x.before.walks) w (after_begins walks_at no_state (steps_of workers worker) (run.chained worker) (longer_walks s r workers run worker) k x at_x)
+      ∙ slice_begins (walks_at x.after) _ (length x.before.walks) w (after_begins walks_at no_state (units_steps_of workers worker) (run.chained worker) (longer_walks s r workers run worker) k x at_x)
       (ap (λ l. slice_get l (length x.before.walks)) are ∙ slice_seam x.before.walks [] w)
 
   pub no_others : EachUnits r (λ place n e. IsOfPlain s r place e)

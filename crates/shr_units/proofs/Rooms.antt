@@ -1,7 +1,6 @@
 -- What a step did and saw in one room.
-use Rattle.shr_units.proofs.Common.{◌≡◌, ℕ, ◌+◌, ◌<◌, ◌≤◌, ◌≢◌, ◌⊎◌, true, false, List, [], ◌∷◌, ◌++◌, length, map, sym, refl, ap, subst, ◌∙◌, arith, append_assoc, Some, flat_map, append-nil, dite, ℕ_discrete, PlainEntry, Place, Serial, Reply, Script, PassRecord, PlainWalk, IsPlaceOf, row_of, Begins, begins_all, Made, Counted, RoomView, part_at, with_known, with_entry, IsRecent, GrabAnswer, ReleaseAnswer, Sees, Makes, ReleaseGives, GrabGives, units, PlainState, IsPoolOf, at, units_cited, pass_at, plain_versions, settings_of, pool_sizes, home_of, home_room, release_reply, grab_reply, DidRelease, DidGrab}
+use Rattle.shr_units.proofs.Common.{◌≡◌, ℕ, ◌+◌, ◌<◌, ◌≤◌, ◌≢◌, ◌⊎◌, true, false, List, [], ◌∷◌, ◌++◌, length, map, sym, refl, ap, subst, ◌∙◌, arith, append_assoc, Some, flat_map, append-nil, dite, ℕ_discrete, PlainEntry, Place, Serial, Reply, Script, PassRecord, PlainWalk, IsPlaceOf, row_of, Begins, begins_all, RoomMade, RoomCount, RoomView, part_at, with_known, with_entry, IsRecent, GrabAnswer, ReleaseAnswer, Sees, Makes, ReleaseGives, GrabGives, units, PlainState, IsPoolOf, at, units_cited, pass_at, plain_versions, settings_of, pool_sizes, home_of, home_room, units_release_reply, units_grab_reply, DidRelease, DidGrab, IsTold}
 use Rattle.shr_base.specs.declared.journals.PlainEntry.TheVariants as entry
-use Rattle.shr_rooms.specs.Told.{IsTold}
 use Rattle.shr_rooms.proofs.Parts as parts
 use Rattle.shr_plain.specs.declared.answers.GrabAnswer.TheVariants as grab
 use Rattle.shr_plain.specs.declared.answers.ReleaseAnswer.TheVariants as release
@@ -14,7 +13,7 @@ pub record Walks (t u : PlainState) : Type 0 where
   pub are : u.walks ≡ t.walks ++ list
 
 -- the entry is told by the reply of its command, at this room's place
-pub record IsCited (s : Script) (i : ℕ) (by own : Serial) (x : Reply) (m : Made PlainEntry) : Type 0 where
+pub record IsCited (s : Script) (i : ℕ) (by own : Serial) (x : Reply) (m : RoomMade PlainEntry) : Type 0 where
   pub place : Place
   pub home : IsHome s place
   pub room : i ≡ row_of (pool_sizes s) place
@@ -33,25 +32,25 @@ pub record IsReclaimed (s : Script) (i : ℕ) (by : Serial) (t u : PlainState) (
   pub pass : PassRecord
   pub passed : pass_at s place made ≡ Some pass
 
-abbrev pub MayMake : Script → ℕ → Serial → Reply → PlainState → PlainState → Made PlainEntry → PlainEntry → Type 0
+abbrev pub MayMake : Script → ℕ → Serial → Reply → PlainState → PlainState → RoomMade PlainEntry → PlainEntry → Type 0
 MayMake s i by x t u m (entry.Release own n) = IsCited s i own by x m
 MayMake s i by x t u m (entry.Grab own got) = IsCited s i own by x m
 MayMake s i by x t u m (entry.Reclaim worker walk asked freed) = IsReclaimed s i by t u worker walk
 
 -- what a step gained in a room
 pub record Gains (s : Script) (i : ℕ) (by : Serial) (x : Reply) (t u : PlainState) : Type 0 where
-  pub more : List (Made PlainEntry)
+  pub more : List (RoomMade PlainEntry)
   pub made : (part_at u.rooms i).made ≡ (part_at t.rooms i).made ++ more
-  pub may : (m : Made PlainEntry) → IsIn m more → MayMake s i by x t u m m.entry
-  pub counts : List Counted
+  pub may : (m : RoomMade PlainEntry) → IsIn m more → MayMake s i by x t u m m.entry
+  pub counts : List RoomCount
   pub few : length counts ≤ 1
   pub seen : (part_at u.rooms i).seen ≡ (part_at t.rooms i).seen ++ counts
-  pub fresh : (c : Counted) → IsIn c counts → IsRecent (part_at t.rooms i) c.version
+  pub fresh : (c : RoomCount) → IsIn c counts → IsRecent (part_at t.rooms i) c.version
   pub known : Begins (part_at t.rooms i).known (part_at u.rooms i).known
   -- the counts are those of its walks at the room's place
   pub walks : Walks t u
   pub one : length walks.list ≤ 1
-  pub versions : (p : Place) → IsPlaceOf (pool_sizes s) p → i ≡ row_of (pool_sizes s) p → flat_map (plain_versions s p) walks.list ≡ map (λ (c : Counted). c.version) counts
+  pub versions : (p : Place) → IsPlaceOf (pool_sizes s) p → i ≡ row_of (pool_sizes s) p → flat_map (plain_versions s p) walks.list ≡ map (λ (c : RoomCount). c.version) counts
 
 module _ (s : Script) (i : ℕ) (by : Serial) (x : Reply) (t u : PlainState) where
   -- nothing was done in the room
@@ -92,7 +91,7 @@ module _ (s : Script) (i : ℕ) (by : Serial) (x : Reply) (t u : PlainState) whe
   entry_gains journal e told same walks may = record {
     more = record { number = length journal; entry = e } ∷ [];
     made = ap (λ (v : RoomView PlainEntry). v.made) same;
-    may = λ m h. subst (λ (n : Made PlainEntry). MayMake s i by x t u n n.entry) (in_one m (record { number = length journal; entry = e }) h) may;
+    may = λ m h. subst (λ (n : RoomMade PlainEntry). MayMake s i by x t u n n.entry) (in_one m (record { number = length journal; entry = e }) h) may;
     counts = [];
     few = omega arith;
     seen = ap (λ (v : RoomView PlainEntry). v.seen) same ∙ sym (append-nil (part_at t.rooms i).seen);
@@ -119,13 +118,13 @@ module _ (s : Script) (by : Serial) (x : Reply) (here : ℕ) (t u : PlainState) 
       (λ ne. same_gains s i by x t u (ap (λ (v : PlainState). part_at v.rooms i) makes.state ∙ parts.there t.rooms here i (with_entry (part_at t.rooms here) journal e) ne) (ap (λ (v : PlainState). v.walks) makes.state))
 
 module _ (s : Script) (by : Serial) (x : Reply) (t u : PlainState) where
-  cited : (node pool : ℕ) → IsPoolOf (settings_of s) (pool_sizes s) pool node → (m : Made PlainEntry) → units_cited x ≡ Some (at (home_of s pool node) m.number) → IsCited s (home_room s pool node) by by x m
+  cited : (node pool : ℕ) → IsPoolOf (settings_of s) (pool_sizes s) pool node → (m : RoomMade PlainEntry) → units_cited x ≡ Some (at (home_of s pool node) m.number) → IsCited s (home_room s pool node) by by x m
   cited node pool there m e = record { place = home_of s pool node; home = is_home s pool node there; room = refl; mine = refl; cited = e }
 
   pub release_gains : (node pool n : ℕ) → DidRelease s by node pool n x t u → (i : ℕ) → Gains s i by x t u
   release_gains node pool n did i = by_answer did.answer did.told did.gives
     where
-      by_answer : (a : ReleaseAnswer) → x ≡ release_reply (home_of s pool node) a → ReleaseGives (home_of s pool node) (home_room s pool node) by n a t u → Gains s i by x t u
+      by_answer : (a : ReleaseAnswer) → x ≡ units_release_reply (home_of s pool node) a → ReleaseGives (home_of s pool node) (home_room s pool node) by n a t u → Gains s i by x t u
       by_answer (release.Full entries free) told g = sees_gains s by x (home_room s pool node) t u g.0 g.1 i
       by_answer (release.Worn spent) told g = sees_gains s by x (home_room s pool node) t u g.0 g.1 i
       by_answer release.Memory told g = sees_gains s by x (home_room s pool node) t u g.0 g.1 i
@@ -135,7 +134,7 @@ module _ (s : Script) (by : Serial) (x : Reply) (t u : PlainState) where
   pub grab_gains : (node pool : ℕ) → DidGrab s by node pool x t u → (i : ℕ) → Gains s i by x t u
   grab_gains node pool did i = by_answer did.answer did.told did.gives
     where
-      by_answer : (a : GrabAnswer) → x ≡ grab_reply (home_of s pool node) a → GrabGives (home_of s pool node) (home_room s pool node) by a t u → Gains s i by x t u
+      by_answer : (a : GrabAnswer) → x ≡ units_grab_reply (home_of s pool node) a → GrabGives (home_of s pool node) (home_room s pool node) by a t u → Gains s i by x t u
       by_answer (grab.Worn spent) told g = sees_gains s by x (home_room s pool node) t u g.0 g.1 i
       by_answer grab.Memory told g = sees_gains s by x (home_room s pool node) t u g.0 g.1 i
       by_answer (grab.Grabbed number) told g = makes_gains s by x (home_room s pool node) t u g.0 (entry.Grab by true) g.1

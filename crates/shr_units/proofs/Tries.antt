@@ -1,9 +1,5 @@
 -- What the tries of a walk of the pools did in each room.
-use Rattle.shr_units.proofs.Common.{◌≡◌, ℕ, zero, suc, ◌+◌, ◌<◌, ◌≤◌, ◌≢◌, ◌⊎◌, inl, inr, ⊎_elim, Bool, true, false, cond, List, [], ◌∷◌, ◌++◌, length, sym, refl, ap, subst, ◌∙◌, arith, append_assoc, slice_get, Option, Some, None, sum_by, append-nil, sum_by-append, sum_by-cons, same_Some, none-some, dite, ℕ_discrete, Place, Serial, PassRecord, PlainTry, Empty, Skip, Ran, sum_at, amount_at, is_place, is_place_same, is_place_itself, Moves, both, takes_of, gives_of, no_moves, takes_both, gives_both, Sizes, row_of, IsAcross, part_at, Setting, PlainState, place_of, answer_of, pass_in}
-use Rattle.shr_model.specs.Deferred.{amount_of}
-use Rattle.shr_pass.specs.Passes.{moves_by}
-use Rattle.shr_seats.proofs.RowLaws.{one_place}
-use Rattle.shr_plain.specs.Walks.{TryGives, AreTried}
+use Rattle.shr_units.proofs.Common.{◌≡◌, ℕ, zero, suc, ◌+◌, ◌<◌, ◌≤◌, ◌≢◌, ◌⊎◌, inl, inr, ⊎_elim, Bool, true, false, cond, List, [], ◌∷◌, ◌++◌, length, sym, refl, ap, subst, ◌∙◌, arith, append_assoc, slice_get, Option, Some, None, sum_by, append-nil, sum_by-append, sum_by-cons, same_Some, none-some, dite, ℕ_discrete, Place, Serial, PassRecord, PlainTry, Empty, Skip, Ran, sum_at, amount_at, is_place, is_place_same, is_place_itself, Moves, both, takes_of, gives_of, no_moves, takes_both, gives_both, Sizes, row_of, IsAcross, part_at, Setting, PlainState, home_place, answer_of, pass_in, amount_of, moves_by, one_place, TryGives, AreTried}
 use Rattle.shr_units.proofs.Lists.{no_test}
 
 -- what a pass weighs, if there is one
@@ -11,12 +7,12 @@ abbrev pub weight : (PassRecord → ℕ) → Option PassRecord → ℕ
 weight f None = 0
 weight f (Some p) = f p
 
-module _ (settings : List Setting) (z : Sizes) (by : Serial) (walk node priority : ℕ) (across : (pool : ℕ) → IsAcross z (place_of settings pool node)) where
+module _ (settings : List Setting) (z : Sizes) (by : Serial) (walk node priority : ℕ) (across : (pool : ℕ) → IsAcross z (home_place settings pool node)) where
   abbrev place : ℕ → Place
-  place pool = place_of settings pool node
+  place pool = home_place settings pool node
 
   abbrev room : ℕ → ℕ
-  room pool = row_of z (place_of settings pool node)
+  room pool = row_of z (home_place settings pool node)
 
   abbrev Tried : ℕ → List PlainTry → PlainState → PlainState → Type 0
   Tried pool xs s t = AreTried settings z by walk node priority pool xs s t

@@ -1,5 +1,5 @@
 -- The versions that a worker's walks of the pools counted at one place, of a run.
-use Rattle.shr_units.proofs.Common.{◌≡◌, ℕ, zero, suc, ◌+◌, ◌<◌, ◌≤◌, ◌≢◌, ◌⊎◌, ⊎_elim, List, [], ◌∷◌, ◌++◌, length, map, flat_map, get_or, sym, refl, ap, subst, ◌∙◌, arith, slice_get, Option, Some, None, option_map, option_to_list, AllByRecursion, append-nil, map-append, PlainEntry, Place, Serial, Script, PlainTry, PlainWalk, IsPlaceOf, row_of, IsRecent, Counted, RoomView, part_at, PlainState, no_state, Report, serial_of, at, AreNotFalling, plain_of, units_cited_at, try_at, EachPlain, version_in, plain_versions, pool_sizes, home_of, UnitsStep, steps_of, AreChained, state_after, last_of, AreUnits}
+use Rattle.shr_units.proofs.Common.{◌≡◌, ℕ, zero, suc, ◌+◌, ◌<◌, ◌≤◌, ◌≢◌, ◌⊎◌, ⊎_elim, List, [], ◌∷◌, ◌++◌, length, map, flat_map, get_or, sym, refl, ap, subst, ◌∙◌, arith, slice_get, Option, Some, None, option_map, option_to_list, AllByRecursion, append-nil, map-append, PlainEntry, Place, Serial, Script, PlainTry, PlainWalk, IsPlaceOf, row_of, IsRecent, RoomCount, RoomView, part_at, PlainState, no_state, Report, serial_of, at, AreNotFalling, plain_of, units_cited_at, try_at, EachPlain, version_in, plain_versions, pool_sizes, home_of, UnitsStep, units_steps_of, AreChained, units_state_after, last_units_state, AreUnits}
 use Rattle.std.proofs.lemmas.Grind.{flat_map-append}
 use Rattle.shr_units.proofs.Lists.{IsIn, each_in}
 use Rattle.shr_units.proofs.Pooling.{home_there, there_or_not}
@@ -30,23 +30,23 @@ adjacent (n ∷ []) h k d lt = absurd (omega (arith, lt))
 adjacent (n ∷ m ∷ ns) h zero d lt = h.0.0
 adjacent (n ∷ m ∷ ns) h (suc k) d lt = subst (λ i. get_or (m ∷ ns) k d ≤ get_or (n ∷ m ∷ ns) i d) (let z : suc (k + 1) ≡ suc k + 1 = omega arith in z) (adjacent (m ∷ ns) h.1 k d (omega (arith, lt)))
 
-abbrev versions : List Counted → List ℕ
-versions l = map (λ (c : Counted). c.version) l
+abbrev versions : List RoomCount → List ℕ
+versions l = map (λ (c : RoomCount). c.version) l
 
-all_below : (n : ℕ) (cs : List Counted) → ((c : Counted) → IsIn c cs → c.version ≤ n) → AllByRecursion (λ k. k ≤ n) (versions cs)
+all_below : (n : ℕ) (cs : List RoomCount) → ((c : RoomCount) → IsIn c cs → c.version ≤ n) → AllByRecursion (λ k. k ≤ n) (versions cs)
 all_below n [] h = tt
 all_below n (c ∷ cs) h = (h c (0, refl), all_below n cs (λ d is. h d (suc is.0, is.1)))
 
 -- one count more, if there is one, after all others
-one_more : (cs ds : List Counted) → length ds ≤ 1 → NotFalling (versions cs) → ((d : Counted) → IsIn d ds → (c : Counted) → IsIn c cs → c.version ≤ d.version) → NotFalling (versions (cs ++ ds))
+one_more : (cs ds : List RoomCount) → length ds ≤ 1 → NotFalling (versions cs) → ((d : RoomCount) → IsIn d ds → (c : RoomCount) → IsIn c cs → c.version ≤ d.version) → NotFalling (versions (cs ++ ds))
 one_more cs [] few h late = subst (λ l. NotFalling (versions l)) (sym (append-nil cs)) h
-one_more cs (d ∷ []) few h late = subst NotFalling (sym (map-append (λ (c : Counted). c.version) cs (d ∷ []))) (not_falling_snoc d.version (versions cs) h (all_below d.version cs (late d (0, refl))))
+one_more cs (d ∷ []) few h late = subst NotFalling (sym (map-append (λ (c : RoomCount). c.version) cs (d ∷ []))) (not_falling_snoc d.version (versions cs) h (all_below d.version cs (late d (0, refl))))
 one_more cs (d ∷ e ∷ ds) few h late = absurd (omega (arith, few))
 
 -- the counts along a chain
 along_counts : (i : ℕ) (t : PlainState) (mine : List UnitsStep) → AreChained t mine
-    → ((k : ℕ) (x : UnitsStep) → slice_get mine k ≡ Some x → (ds : List Counted) × (length ds ≤ 1) × (seen_at i x.after ≡ seen_at i x.before ++ ds) × ((d : Counted) → IsIn d ds → (c : Counted) → IsIn c (seen_at i x.before) → c.version ≤ d.version))
-    → NotFalling (versions (seen_at i t)) → NotFalling (versions (seen_at i (state_after t mine)))
+    → ((k : ℕ) (x : UnitsStep) → slice_get mine k ≡ Some x → (ds : List RoomCount) × (length ds ≤ 1) × (seen_at i x.after ≡ seen_at i x.before ++ ds) × ((d : RoomCount) → IsIn d ds → (c : RoomCount) → IsIn c (seen_at i x.before) → c.version ≤ d.version))
+    → NotFalling (versions (seen_at i t)) → NotFalling (versions (seen_at i (units_state_after t mine)))
 along_counts i t [] c each h = h
 along_counts i t (x ∷ xs) c each h = let e = each 0 x refl in
     along_counts i x.after xs c.1 (λ k y d. each (suc k) y d) (subst (λ l. NotFalling (versions l)) (sym e.2) (one_more (seen_at i x.before) e.0 e.1 (subst (λ (u : PlainState). NotFalling (versions (seen_at i u))) (sym c.0) h) e.3))
@@ -62,21 +62,21 @@ module _ (s : Script) (r : Report) (workers : List (List UnitsStep)) (run : AreU
       ∙ (ap (λ l. l ++ flat_map (plain_versions s p) (flat_map (gained walks_at) xs)) (g.versions p there room)
       ∙ (ap (λ l. versions g.counts ++ l) (same_versions p there i room xs (λ k y e. each (suc k) y e))
       ∙ (ap (λ l. versions l ++ versions (flat_map (gained (seen_at i)) xs)) (sym (gained_is (seen_at i) x g.counts g.seen))
-      ∙ sym (map-append (λ (c : Counted). c.version) (gained (seen_at i) x) (flat_map (gained (seen_at i)) xs))))))
+      ∙ sym (map-append (λ (c : RoomCount). c.version) (gained (seen_at i) x) (flat_map (gained (seen_at i)) xs))))))
 
   pub versions_fall_not : (worker : ℕ) (place : Place) → AreNotFalling (flat_map (plain_versions s place) (plain_of r worker))
   versions_fall_not worker p = ⊎_elim within outside (there_or_not (pool_sizes s) p)
     where
       within : IsPlaceOf (pool_sizes s) p → AreNotFalling (flat_map (plain_versions s p) (plain_of r worker))
       within there = let i = row_of (pool_sizes s) p in
-          subst AreNotFalling (sym (ap (flat_map (plain_versions s p)) (run.walks worker ∙ all_gained walks_at no_state (steps_of workers worker) (run.chained worker) (longer_walks s r workers run worker))
-          ∙ (same_versions p there i refl (steps_of workers worker) (λ k x e. gains_at s r workers run worker i k x e)
-          ∙ ap versions (sym (all_gained (seen_at i) no_state (steps_of workers worker) (run.chained worker) (longer_seen s r workers run worker i))))))
-          (adjacent (versions (seen_at i (last_of (steps_of workers worker)))) (along_counts i no_state (steps_of workers worker) (run.chained worker) counts tt))
+          subst AreNotFalling (sym (ap (flat_map (plain_versions s p)) (run.walks worker ∙ all_gained walks_at no_state (units_steps_of workers worker) (run.chained worker) (longer_walks s r workers run worker))
+          ∙ (same_versions p there i refl (units_steps_of workers worker) (λ k x e. gains_at s r workers run worker i k x e)
+          ∙ ap versions (sym (all_gained (seen_at i) no_state (units_steps_of workers worker) (run.chained worker) (longer_seen s r workers run worker i))))))
+          (adjacent (versions (seen_at i (last_units_state (units_steps_of workers worker)))) (along_counts i no_state (units_steps_of workers worker) (run.chained worker) counts tt))
         where
-          counts : (k : ℕ) (x : UnitsStep) → slice_get (steps_of workers worker) k ≡ Some x → (ds : List Counted) × (length ds ≤ 1) × (seen_at (row_of (pool_sizes s) p) x.after ≡ seen_at (row_of (pool_sizes s) p) x.before ++ ds)
-              × ((d : Counted) → IsIn d ds → (c : Counted) → IsIn c (seen_at (row_of (pool_sizes s) p) x.before) → c.version ≤ d.version)
-          counts k x e = let g = gains_at s r workers run worker (row_of (pool_sizes s) p) k x e in (g.counts, g.few, g.seen, λ d is c of. each_in (λ (z : Counted). z.version ≤ d.version) (seen_at (row_of (pool_sizes s) p) x.before) c (g.fresh d is).seen of)
+          counts : (k : ℕ) (x : UnitsStep) → slice_get (units_steps_of workers worker) k ≡ Some x → (ds : List RoomCount) × (length ds ≤ 1) × (seen_at (row_of (pool_sizes s) p) x.after ≡ seen_at (row_of (pool_sizes s) p) x.before ++ ds)
+              × ((d : RoomCount) → IsIn d ds → (c : RoomCount) → IsIn c (seen_at (row_of (pool_sizes s) p) x.before) → c.version ≤ d.version)
+          counts k x e = let g = gains_at s r workers run worker (row_of (pool_sizes s) p) k x e in (g.counts, g.few, g.seen, λ d is c of. each_in (λ (z : RoomCount). z.version ≤ d.version) (seen_at (row_of (pool_sizes s) p) x.before) c (g.fresh d is).seen of)
 
       outside : (IsPlaceOf (pool_sizes s) p → ⊥) → AreNotFalling (flat_map (plain_versions s p) (plain_of r worker))
       outside out = subst AreNotFalling (sym (flat_zero (plain_versions s p) (plain_of r worker) none)) (λ k d lt. absurd (omega (arith, lt)))

@@ -1,9 +1,8 @@
 -- What a walk of the pools did in each room.
-use Rattle.shr_units.proofs.Common.{◌≡◌, ℕ, ◌+◌, ◌<◌, ◌≤◌, ◌≢◌, ◌⊎◌, ⊎_elim, Bool, true, false, cond, List, [], ◌∷◌, ◌++◌, length, sym, refl, ap, subst, ◌∙◌, arith, slice_get, Option, Some, None, option_map, option_to_list, option_and_then, nat_le, ◌==◌, append-nil, none-some, slice_get_within, PlainEntry, Place, Serial, Reply, Script, PassRecord, PlainAnswer, PlainTry, Empty, Skip, Ran, PlainWalk, is_place, is_place_same, is_place_itself, row_of, Begins, IsAcross, Count, MatchPass, count_of, Made, Counted, RoomView, part_at, IsRecent, kind_of, PlainState, IsPoolOf, setting_of, place_of, Answers, answer_of, PlainJob, pass_in, pool_place, try_at, version_in, settings_of, pool_sizes, home_of, home_room, DidWalk}
+use Rattle.shr_units.proofs.Common.{◌≡◌, ℕ, ◌+◌, ◌<◌, ◌≤◌, ◌≢◌, ◌⊎◌, ⊎_elim, Bool, true, false, cond, List, [], ◌∷◌, ◌++◌, length, sym, refl, ap, subst, ◌∙◌, arith, slice_get, Option, Some, None, option_map, option_to_list, option_and_then, nat_le, ◌==◌, append-nil, none-some, slice_get_within, PlainEntry, Place, Serial, Reply, Script, PassRecord, PlainAnswer, PlainTry, Empty, Skip, Ran, PlainWalk, is_place, is_place_same, is_place_itself, row_of, Begins, IsAcross, Count, MatchPass, count_of, RoomMade, RoomCount, RoomView, part_at, IsRecent, units_kind, PlainState, IsPoolOf, setting_of, home_place, Answers, answer_of, PlainJob, pass_in, pool_place, try_at, version_in, settings_of, pool_sizes, home_of, home_room, DidPoolWalk, IsReclaimOf}
 use Rattle.shr_base.specs.declared.journals.PlainEntry.TheVariants as entry
 use Rattle.shr_base.specs.declared.walks.PlainAnswer.TheVariants as answer
 use Rattle.shr_pass.specs.declared.answers.Count.TheVariants as counted
-use Rattle.shr_plain.specs.Counting.{IsReclaimOf}
 use Rattle.shr_units.proofs.Lists.{IsIn, in_none, in_one, each_in}
 use Rattle.shr_units.proofs.Pooling.{pool_place_is, home_there, same_place, home_low, is_home}
 use Rattle.shr_units.proofs.Rooms.{Gains, MayMake}
@@ -15,7 +14,7 @@ version_of (counted.Empty version) = version
 version_of (counted.Skip len version) = version
 version_of (counted.Many len version) = version
 
-kind_version : (floor : ℕ) (c : Counted) → version_of (kind_of floor c) ≡ c.version
+kind_version : (floor : ℕ) (c : RoomCount) → version_of (units_kind floor c) ≡ c.version
 kind_version floor c = by_tests (c.len == 0) (nat_le c.len floor) where
   by_tests : (a b : Bool) → version_of (cond a (counted.Empty c.version) (cond b (counted.Skip c.len c.version) (counted.Many c.len c.version))) ≡ c.version
   by_tests true b = refl
@@ -32,11 +31,11 @@ pub few_tries : (pools : ℕ) (tries : List PlainTry) (a : PlainAnswer) → Answ
 few_tries pools tries (answer.Walked freed) h = let e = h.0 in omega (arith, e)
 few_tries pools tries (answer.Memory freed) h = h.0
 
-module _ (s : Script) (by : Serial) (job : PlainJob) (t u : PlainState) (did : DidWalk s by job t u) where
+module _ (s : Script) (by : Serial) (job : PlainJob) (t u : PlainState) (did : DidPoolWalk s by job t u) where
   abbrev pub walk : PlainWalk
   walk = did.gives.walk
 
-  pub across : (pool : ℕ) → IsAcross (pool_sizes s) (place_of (settings_of s) pool job.node)
+  pub across : (pool : ℕ) → IsAcross (pool_sizes s) (home_place (settings_of s) pool job.node)
   across pool = record { node = home_low (setting_of (settings_of s) pool).flat job.node s.nodes did.node; group = omega arith }
 
   pub few : length walk.tries.items ≤ length (settings_of s)
@@ -72,7 +71,7 @@ module _ (s : Script) (by : Serial) (job : PlainJob) (t u : PlainState) (did : D
     by_test false e at = absurd (none-some x at)
 
   -- a room that no try was in
-  none_gains : (x : Reply) (i : ℕ) → ((j : ℕ) → j < length walk.tries.items → i ≢ row_of (pool_sizes s) (place_of (settings_of s) (0 + j) job.node)) → Gains s i by x t u
+  none_gains : (x : Reply) (i : ℕ) → ((j : ℕ) → j < length walk.tries.items → i ≢ row_of (pool_sizes s) (home_place (settings_of s) (0 + j) job.node)) → Gains s i by x t u
   none_gains x i none = record {
     more = [];
     made = ap (λ (v : RoomView PlainEntry). v.made) same ∙ sym (append-nil (part_at t.rooms i).made);
@@ -92,7 +91,7 @@ module _ (s : Script) (by : Serial) (job : PlainJob) (t u : PlainState) (did : D
 
       no_try : (p : Place) → i ≡ row_of (pool_sizes s) p → (o : Option PlainTry) → try_at s p walk ≡ o → try_at s p walk ≡ None
       no_try p room None e = e
-      no_try p room (Some y) e = let h = try_there p y e in absurd (none p.id (slice_get_within walk.tries.items p.id y h.1) (room ∙ (ap (row_of (pool_sizes s)) h.0 ∙ ap (λ (k : ℕ). row_of (pool_sizes s) (place_of (settings_of s) k job.node)) (let m : p.id ≡ 0 + p.id = omega arith in m))))
+      no_try p room (Some y) e = let h = try_there p y e in absurd (none p.id (slice_get_within walk.tries.items p.id y h.1) (room ∙ (ap (row_of (pool_sizes s)) h.0 ∙ ap (λ (k : ℕ). row_of (pool_sizes s) (home_place (settings_of s) k job.node)) (let m : p.id ≡ 0 + p.id = omega arith in m))))
 
   -- the room of a try
   module _ (x : Reply) (k : ℕ) (y : PlainTry) (at : slice_get walk.tries.items k ≡ Some y) where
@@ -106,12 +105,12 @@ module _ (s : Script) (by : Serial) (job : PlainJob) (t u : PlainState) (did : D
     after_is = rooms_are i ∙ sym r.after
 
     -- the pass of a try that made an entry
-    passed : (z : PlainTry) (more : List (Made PlainEntry)) (Q : PassRecord → Type 0) → MatchPass (answer_of z) (more ≡ []) Q → (m : Made PlainEntry) → IsIn m more → (p : PassRecord) × (pass_in z ≡ Some p)
+    passed : (z : PlainTry) (more : List (RoomMade PlainEntry)) (Q : PassRecord → Type 0) → MatchPass (answer_of z) (more ≡ []) Q → (m : RoomMade PlainEntry) → IsIn m more → (p : PassRecord) × (pass_in z ≡ Some p)
     passed (Empty version) more Q h m is = absurd (in_none m (subst (IsIn m) h is))
     passed (Skip len version) more Q h m is = absurd (in_none m (subst (IsIn m) h is))
     passed (Ran p) more Q h m is = (p, refl)
 
-    may_make : (m : Made PlainEntry) → IsIn m r.gives.more → (e : PlainEntry) → IsReclaimOf by.worker (length t.walks) e → MayMake s i by x t u m e
+    may_make : (m : RoomMade PlainEntry) → IsIn m r.gives.more → (e : PlainEntry) → IsReclaimOf by.worker (length t.walks) e → MayMake s i by x t u m e
     may_make m is (entry.Release own n) of = absurd of
     may_make m is (entry.Grab own got) of = absurd of
     may_make m is (entry.Reclaim worker n asked freed) of = let p = passed y r.gives.more _ r.gives.scans m is in record {
@@ -133,11 +132,11 @@ module _ (s : Script) (by : Serial) (job : PlainJob) (t u : PlainState) (did : D
     try_gains = record {
       more = r.gives.more;
       made = ap (λ (v : RoomView PlainEntry). v.made) after_is ∙ (r.gives.made ∙ ap (λ (v : RoomView PlainEntry). v.made ++ r.gives.more) r.before);
-      may = λ m h. may_make m h m.entry (each_in (λ (n : Made PlainEntry). IsReclaimOf by.worker (length t.walks) n.entry) r.gives.more m r.gives.reclaims h);
+      may = λ m h. may_make m h m.entry (each_in (λ (n : RoomMade PlainEntry). IsReclaimOf by.worker (length t.walks) n.entry) r.gives.more m r.gives.reclaims h);
       counts = r.gives.count ∷ [];
       few = omega arith;
       seen = ap (λ (v : RoomView PlainEntry). v.seen) after_is ∙ (r.gives.seen ∙ ap (λ (v : RoomView PlainEntry). v.seen ++ r.gives.count ∷ []) r.before);
-      fresh = λ c h. subst (λ (d : Counted). IsRecent (part_at t.rooms i) d.version) (in_one c r.gives.count h) (subst (λ (v : RoomView PlainEntry). IsRecent v r.gives.count.version) r.before r.gives.fresh);
+      fresh = λ c h. subst (λ (d : RoomCount). IsRecent (part_at t.rooms i) d.version) (in_one c r.gives.count h) (subst (λ (v : RoomView PlainEntry). IsRecent v r.gives.count.version) r.before r.gives.fresh);
       known = subst (λ (v : RoomView PlainEntry). Begins (part_at t.rooms i).known v.known) (sym after_is) (subst (λ (v : RoomView PlainEntry). Begins v.known (part_at r.last.rooms i).known) r.before r.gives.known);
       walks = record { list = walk ∷ []; are = walks_are };
       one = omega arith;

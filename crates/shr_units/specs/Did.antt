@@ -15,57 +15,57 @@ use Rattle.shr_plain.specs.declared.answers.GrabAnswer.TheVariants as grab
 use Rattle.shr_plain.specs.Answers.{ReleaseGives, GrabGives}
 use Rattle.shr_plain.specs.Opening.{settings_of, pool_sizes}
 use Rattle.shr_plain.specs.Seat.{PlainState}
-use Rattle.shr_plain.specs.Settings.{IsPoolOf, place_of, room_of}
-use Rattle.shr_plain.specs.Walks.{WalkGives}
+use Rattle.shr_plain.specs.Settings.{IsPoolOf, home_place, room_of}
+use Rattle.shr_plain.specs.Walks.{PlainWalkGives}
 use Rattle.shr_report.specs.UnitParts.{PlainJob, plain_due}
 use Rattle.shr_units.specs.Steps.{UnitsStep}
 
 -- the place of a pool for a node, and its room
 abbrev pub home_of : Script → ℕ → ℕ → Place
-home_of s pool node = place_of (settings_of s) pool node
+home_of s pool node = home_place (settings_of s) pool node
 
 -- its room
 abbrev pub home_room : Script → ℕ → ℕ → ℕ
 home_room s pool node = room_of (settings_of s) (pool_sizes s) pool node
 
 -- the reply to a `release` by what the call at this place answered
-abbrev pub release_reply : Place → ReleaseAnswer → Reply
-release_reply p (release.Full entries free) = reply.Full p.id p.node entries free
-release_reply p (release.Worn x) = reply.Worn x
-release_reply p release.Memory = reply.Memory
-release_reply p (release.Released entry) = reply.Released p.id p.node entry
+abbrev pub units_release_reply : Place → ReleaseAnswer → Reply
+units_release_reply p (release.Full entries free) = reply.Full p.id p.node entries free
+units_release_reply p (release.Worn x) = reply.Worn x
+units_release_reply p release.Memory = reply.Memory
+units_release_reply p (release.Released entry) = reply.Released p.id p.node entry
 
 -- the reply to a `grab`
-abbrev pub grab_reply : Place → GrabAnswer → Reply
-grab_reply p (grab.Worn x) = reply.Worn x
-grab_reply p grab.Memory = reply.Memory
-grab_reply p (grab.Grabbed entry) = reply.Grabbed p.id p.node entry
-grab_reply p (grab.Bare entry) = reply.Bare p.id p.node entry
+abbrev pub units_grab_reply : Place → GrabAnswer → Reply
+units_grab_reply p (grab.Worn x) = reply.Worn x
+units_grab_reply p grab.Memory = reply.Memory
+units_grab_reply p (grab.Grabbed entry) = reply.Grabbed p.id p.node entry
+units_grab_reply p (grab.Bare entry) = reply.Bare p.id p.node entry
 
 -- a `release` was one call at its pool's place, and told what that answered
 pub record DidRelease (s : Script) (by : Serial) (node pool n : ℕ) (x : Reply) (t u : PlainState) : Type 0 where
   pub there : IsPoolOf (settings_of s) (pool_sizes s) pool node
   pub answer : ReleaseAnswer
-  pub told : x ≡ release_reply (home_of s pool node) answer
+  pub told : x ≡ units_release_reply (home_of s pool node) answer
   pub gives : ReleaseGives (home_of s pool node) (home_room s pool node) by n answer t u
 
 -- a `grab`, likewise
 pub record DidGrab (s : Script) (by : Serial) (node pool : ℕ) (x : Reply) (t u : PlainState) : Type 0 where
   pub there : IsPoolOf (settings_of s) (pool_sizes s) pool node
   pub answer : GrabAnswer
-  pub told : x ≡ grab_reply (home_of s pool node) answer
+  pub told : x ≡ units_grab_reply (home_of s pool node) answer
   pub gives : GrabGives (home_of s pool node) (home_room s pool node) by answer t u
 
 -- one walk of all pools
-pub record DidWalk (s : Script) (by : Serial) (job : PlainJob) (t u : PlainState) : Type 0 where
+pub record DidPoolWalk (s : Script) (by : Serial) (job : PlainJob) (t u : PlainState) : Type 0 where
   pub node : job.node < s.nodes
   pub answer : PlainAnswer
-  pub gives : WalkGives (settings_of s) (pool_sizes s) by job.node job.priority answer t u
+  pub gives : PlainWalkGives (settings_of s) (pool_sizes s) by job.node job.priority answer t u
 
 -- the walk of the pools that is due, of which a command has one at most
-abbrev pub DidWalks : Script → Serial → List PlainJob → PlainState → PlainState → Type 0
-DidWalks s by [] t u = u ≡ t
-DidWalks s by (job ∷ jobs) t u = (jobs ≡ []) × DidWalk s by job t u
+abbrev pub DidPoolWalks : Script → Serial → List PlainJob → PlainState → PlainState → Type 0
+DidPoolWalks s by [] t u = u ≡ t
+DidPoolWalks s by (job ∷ jobs) t u = (jobs ≡ []) × DidPoolWalk s by job t u
 
 -- a reply that says nothing of a pool
 abbrev pub IsOther : Reply → Type 0
@@ -79,7 +79,7 @@ IsOther x = ⊤
 abbrev pub DidUnitsOf : Script → Serial → Command → Reply → PlainState → PlainState → Type 0
 DidUnitsOf s by (Release node pool n) x t u = DidRelease s by node pool n x t u
 DidUnitsOf s by (Grab node pool) x t u = DidGrab s by node pool x t u
-DidUnitsOf s by c x t u = IsOther x × DidWalks s by (plain_due s c x) t u
+DidUnitsOf s by c x t u = IsOther x × DidPoolWalks s by (plain_due s c x) t u
 
 -- what the command of a step did
 abbrev pub DidUnits : Script → UnitsStep → Type 0

@@ -1,19 +1,7 @@
 -- What a worker keeps, call after call.
-use Rattle.std.proofs.Common.{◌≡◌, ℕ, Bool, List, [], ◌∷◌, ◌++◌, length, refl, sym, subst, ◌∙◌}
+use Rattle.shr_walk.proofs.Common.{◌≡◌, ℕ, Bool, List, [], ◌∷◌, ◌++◌, length, refl, sym, subst, ◌∙◌, GroupState, WalkRecord, Attempt, Shared, Walk, IsAttempted, Serial, WalkAnswer, WorkerState, Does, walk_work, word_work, OneGives, walk_over, Acting, IsSame, IsStill, walk_of}
 use Rattle.shr_charge.specs.Steps.{with_load}
-use Rattle.shr_charge.specs.declared.answers.GroupState.{GroupState}
-use Rattle.shr_base.specs.declared.walks.WalkRecord.{WalkRecord}
-use Rattle.shr_base.specs.declared.walks.Attempt.{Attempt}
-use Rattle.shr_walk.specs.declared.seats.Shared.{Shared}
-use Rattle.shr_walk.specs.declared.walking.Walk.{Walk}
-use Rattle.shr_walk.specs.Attempts.{IsAttempted}
-use Rattle.shr_base.specs.declared.places.Serial.{Serial}
-use Rattle.shr_base.specs.declared.walks.WalkAnswer.{WalkAnswer}
-use Rattle.shr_walk.specs.State.{WorkerState, Does}
-use Rattle.shr_walk.specs.Walked.{walk_work, word_work}
 use Rattle.shr_walk.proofs.Doing.{does_none}
-use Rattle.shr_walk.specs.Balances.{OneGives, walk_over}
-use Rattle.shr_walk.specs.Acting.{Acting, IsSame, IsStill, walk_of}
 
 pub still_none : (a : Acting) → IsStill a a
 still_none a = record { shared = refl; by = refl; room = refl }

@@ -1,23 +1,11 @@
 -- One group's walk after another.
-use Rattle.std.proofs.Common.{◌≡◌, ◌≢◌, ℕ, ◌+◌, ◌<◌, ◌≤◌, List, [], ◌∷◌, ◌++◌, length, take, get_or, map, true, false, refl, sym, ap, subst, ◌∙◌, inl, inr, ⊎_elim, arith}
-use Rattle.std.specs.Prelude.{sum, Contains, All}
+use Rattle.shr_walk.proofs.Common.{◌≡◌, ◌≢◌, ℕ, ◌+◌, ◌<◌, ◌≤◌, List, [], ◌∷◌, ◌++◌, length, take, get_or, map, true, false, refl, sym, ap, subst, ◌∙◌, inl, inr, ⊎_elim, arith, sum, Contains, All, nat_tests, All-nil, All-append, All-cons, WalkAnswer, IsTree, Shared, Walk, WorkerState, OneGives, walk_over, all_groups, IsBalanceCut, eqb, cases_Bool, take_more, take_all, preorder_of, AreWalked, walk_freed, lacked_memory, HadMemory, IsBalanced}
 use Rattle.std.specs.List.{AllByRecursion, IsDistinct, list_any}
-use Rattle.std.specs.Prelude.{eqb}
-use Rattle.std.proofs.lemmas.Bool.{cases_Bool}
-use Rattle.std.proofs.lemmas.Bool.Decides.{nat_tests}
-use Rattle.std.proofs.lemmas.List.{take_more, take_all}
-use Rattle.std.proofs.lemmas.List.Elements.{All-nil, All-append, All-cons}
 use Rattle.std.proofs.lemmas.List.Sums.{sum-map, sum_by-append, sum_by-cons}
 use Rattle.std.proofs.lemmas.Map.Steps.{length-le_from_distinct_below}
-use Rattle.shr_base.specs.declared.walks.WalkAnswer.{WalkAnswer}
-use Rattle.shr_model.specs.Groups.{IsTree, preorder_of}
 use Rattle.shr_model.proofs.BagLaws.{AreApart}
 use Rattle.shr_model.proofs.GroupsOrder.{preorder_of-on, preorder_of-once}
 use Rattle.shr_model.proofs.Members.{Has, Has_from_Contains}
-use Rattle.shr_walk.specs.declared.seats.Shared.{Shared}
-use Rattle.shr_walk.specs.declared.walking.Walk.{Walk}
-use Rattle.shr_walk.specs.State.{WorkerState}
-use Rattle.shr_walk.specs.Balances.{AreWalked, OneGives, walk_over, all_groups, freed_told, lacked_memory, HadMemory, IsBalanced, IsBalanceCut}
 
 -- one group more
 pub walked_more : (x : Shared) (walk : Walk) (gs : List ℕ) (answers : List WalkAnswer) (s t u : WorkerState) (g : ℕ) (a : WalkAnswer) → AreWalked x walk gs answers s t → OneGives x (walk_over walk g (length t.walks)) a t u
@@ -64,8 +52,8 @@ module _ (parents : List ℕ) (tree : IsTree parents) where
 -- ---- what the answers tell
 
 -- one answer more adds what it says was freed
-pub told_more : (answers : List WalkAnswer) (a : WalkAnswer) → sum (map freed_told (answers ++ a ∷ [])) ≡ sum (map freed_told answers) + freed_told a
-told_more answers a = let all = sum-map freed_told (answers ++ a ∷ []) in let both = sum_by-append freed_told answers (a ∷ []) in let front = sum-map freed_told answers in let one = sum_by-cons freed_told a [] in omega (arith, all, both, front, one)
+pub told_more : (answers : List WalkAnswer) (a : WalkAnswer) → sum (map walk_freed (answers ++ a ∷ [])) ≡ sum (map walk_freed answers) + walk_freed a
+told_more answers a = let all = sum-map walk_freed (answers ++ a ∷ []) in let both = sum_by-append walk_freed answers (a ∷ []) in let front = sum-map walk_freed answers in let one = sum_by-cons walk_freed a [] in omega (arith, all, both, front, one)
 
 -- ---- a balance as its loop goes on
 
@@ -74,23 +62,23 @@ pub record IsBalancedTo (x : Shared) (walk : Walk) (n freed : ℕ) (s t : Worker
   pub answers : List WalkAnswer
   pub walked : AreWalked x walk (take n (all_groups x)) answers s t
   pub had : All HadMemory answers
-  pub sum_freed : freed ≡ sum (map freed_told answers)
+  pub sum_freed : freed ≡ sum (map walk_freed answers)
 
 pub balanced_none : (x : Shared) (walk : Walk) (s : WorkerState) → IsBalancedTo x walk 0 0 s s
 balanced_none x walk s = record { answers = []; walked = (refl, refl); had = All-nil HadMemory; sum_freed = refl }
 
 module _ (x : Shared) (walk : Walk) (n freed : ℕ) (s t u : WorkerState) (a : WalkAnswer) (near : n < length (all_groups x)) (h : IsBalancedTo x walk n freed s t) (one : OneGives x (walk_over walk (get_or (all_groups x) n 0) (length t.walks)) a t u) where
   -- one walk more that had memory, and so far nothing was cut
-  pub balanced_more : lacked_memory a ≡ false → IsBalancedTo x walk (n + 1) (freed + freed_told a) s u
+  pub balanced_more : lacked_memory a ≡ false → IsBalancedTo x walk (n + 1) (freed + walk_freed a) s u
   balanced_more had = record {
     answers = h.answers ++ a ∷ [];
     walked = walked_next x walk (all_groups x) n h.answers s t u (get_or (all_groups x) n 0) a near refl h.walked one;
     had = All-append HadMemory h.answers (a ∷ []) h.had (All-cons HadMemory a [] had (All-nil HadMemory));
-    sum_freed = ap (λ (m : ℕ). m + freed_told a) h.sum_freed ∙ sym (told_more h.answers a);
+    sum_freed = ap (λ (m : ℕ). m + walk_freed a) h.sum_freed ∙ sym (told_more h.answers a);
   }
 
   -- the first walk that lacked memory cuts the balance
-  pub balanced_cut : lacked_memory a ≡ true → IsBalanceCut x walk (freed + freed_told a) s u
+  pub balanced_cut : lacked_memory a ≡ true → IsBalanceCut x walk (freed + walk_freed a) s u
   balanced_cut lacked = record {
     n = n;
     within = near;
@@ -99,7 +87,7 @@ module _ (x : Shared) (walk : Walk) (n freed : ℕ) (s t u : WorkerState) (a : W
     walked = walked_next x walk (all_groups x) n h.answers s t u (get_or (all_groups x) n 0) a near refl h.walked one;
     had = h.had;
     lacked = lacked;
-    sum_freed = ap (λ (m : ℕ). m + freed_told a) h.sum_freed ∙ sym (told_more h.answers a);
+    sum_freed = ap (λ (m : ℕ). m + walk_freed a) h.sum_freed ∙ sym (told_more h.answers a);
   }
 
 -- once all groups were walked the balance is done

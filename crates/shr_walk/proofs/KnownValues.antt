@@ -1,9 +1,5 @@
 -- Known values of what the tree of a script is, and of which groups are walked.
-use Rattle.std.proofs.Common.{◌≡◌, true, false, [], ◌∷◌, None, refl, arith}
-use Rattle.shr_base.specs.declared.scripts.GroupDecl.{GroupDecl}
-use Rattle.shr_charge.specs.declared.answers.GroupState.TheVariants.{Online, Offline, NotMade}
-use Rattle.shr_walk.specs.Sharing.{groups_of}
-use Rattle.shr_walk.specs.Walked.{GoesOn, IsWalkNumber}
+use Rattle.shr_walk.proofs.Common.{◌≡◌, true, false, [], ◌∷◌, None, refl, arith, GroupDecl, Online, Offline, NotMade, groups_of, GoesOn, IsWalkNumber}
 
 -- /p, and /p/c below it, which is later
 abbrev there : GroupDecl

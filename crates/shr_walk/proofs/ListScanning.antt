@@ -1,28 +1,9 @@
 -- What follows of one scan of a list.
-use Rattle.std.proofs.Common.{◌≡◌, ℕ, suc, ◌+◌, ◌-◌, ◌*◌, ◌<◌, ◌≤◌, inl, inr, cond, Bool, true, false, List, [], ◌∷◌, ◌++◌, length, sym, refl, ap, subst, ◌∙◌, arith}
-use Rattle.std.specs.Prelude.{nat_le, ◌||◌, ◌⊎◌, Some, None}
-use Rattle.std.proofs.lemmas.Bool.Decides.{nat_tests}
-use Rattle.std.proofs.lemmas.List.{append-nil}
-use Rattle.shr_base.specs.declared.places.Place.{Place}
-use Rattle.shr_base.specs.declared.places.Serial.{Serial}
-use Rattle.shr_base.specs.declared.objects.Policy.{Policy}
-use Rattle.shr_base.specs.declared.replies.Spent.{Spent}
+use Rattle.shr_walk.proofs.Common.{◌≡◌, ℕ, suc, ◌+◌, ◌-◌, ◌*◌, ◌<◌, ◌≤◌, inl, inr, cond, Bool, true, false, List, [], ◌∷◌, ◌++◌, length, sym, refl, ap, subst, ◌∙◌, arith, nat_le, ◌||◌, ◌⊎◌, Some, None, nat_tests, append-nil, Place, Serial, Policy, Spent, depth_of, place_number, View, view_of, shape_of, uses_of, spent_by, counted, Uses, Gains, FreesAtMost, scans_with, CacheSeat, Shared, Tells, scans_at, HaveRoom, AreChargesTold, ListScanGives, FindsUsedUp, without_visits}
 use Rattle.shr_base.specs.declared.replies.Spent.TheVariants as spent
 use native.Mathlib.Nat.{mul-suc, mul-le-mul_left}
-use Rattle.shr_model.specs.Groups.{depth_of}
-use Rattle.shr_model.specs.Places.{place_number}
-use Rattle.shr_core.specs.declared.view.View.{View}
-use Rattle.shr_core.specs.Seats.{view_of, shape_of}
-use Rattle.shr_charge.specs.Seat.{uses_of, spent_by, counted}
-use Rattle.shr_charge.specs.Views.{Uses}
-use Rattle.shr_node.specs.Gains.{Gains}
-use Rattle.shr_pass.specs.Answers.{FreesAtMost, scans_with}
-use Rattle.shr_walk.specs.declared.seats.CacheSeat.{CacheSeat}
-use Rattle.shr_walk.specs.declared.seats.Shared.{Shared}
 use Rattle.shr_walk.specs.declared.lister.ListerScan.{ListerScan}
 use Rattle.shr_walk.specs.declared.lister.ListerScan.TheVariants as scan
-use Rattle.shr_walk.specs.Listing.{AreChargesTold, Tells, scans_at}
-use Rattle.shr_walk.specs.ListScans.{HaveRoom, ListScanGives, FindsWorn, without_visits}
 use Rattle.shr_walk.proofs.Freeing.{few}
 use Rattle.shr_walk.proofs.Scanned.{scans_more, scans_same, worn_told}
 
@@ -58,7 +39,7 @@ charges_told s c u e = let h = charges_spent (uses_of s.charge) c u e in let cs 
 
 module _ (x : Shared) (place : Place) (walk : ℕ) (by : Serial) (policy : Policy) (asked : ℕ) where
   -- a seat whose charges are used up is told so, and never of a list or of lookups
-  pub spent_found : (why : Spent) (s : CacheSeat) → spent_by (uses_of s.charge) ≡ Some why → FindsWorn x place walk by policy asked why s s
+  pub spent_found : (why : Spent) (s : CacheSeat) → spent_by (uses_of s.charge) ≡ Some why → FindsUsedUp x place walk by policy asked why s s
   spent_found (spent.Charges charges uncharges) s e = record { numbers = e; rest = refl }
   spent_found (spent.List at entries items) s e = let uses = uses_of s.charge in let h = (some_of (nat_le 1048576 uses.charges || nat_le 4194304 uses.uncharges) (spent.Charges (counted uses.charges) (counted uses.uncharges)) (spent.List at entries items) e).1 in cc
   spent_found (spent.Lookups id seen) s e = let uses = uses_of s.charge in let h = (some_of (nat_le 1048576 uses.charges || nat_le 4194304 uses.uncharges) (spent.Charges (counted uses.charges) (counted uses.uncharges)) (spent.Lookups id seen) e).1 in cc

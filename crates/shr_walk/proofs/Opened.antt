@@ -1,24 +1,13 @@
 -- A tree that is built group by group is that of a script.
-use Rattle.std.proofs.Common.{◌≡◌, ℕ, zero, suc, ◌+◌, ◌<◌, ◌≤◌, ⊎_elim, List, [], ◌∷◌, ◌++◌, map, take, get_or, length, refl, sym, ap, subst, ◌∙◌, arith, append_assoc}
-use Rattle.std.specs.Prelude.{Bool, false, Option, Some, None, Err, unwrap_or}
-use Rattle.std.proofs.lemmas.Bool.{cases_lt, lt-leb}
-use Rattle.std.proofs.lemmas.List.{map_push, append-nil, length-map, length-take-le}
-use Rattle.shr_base.specs.declared.scripts.GroupDecl.{GroupDecl}
+use Rattle.shr_walk.proofs.Common.{◌≡◌, ℕ, zero, suc, ◌+◌, ◌<◌, ◌≤◌, ⊎_elim, List, [], ◌∷◌, ◌++◌, map, take, get_or, length, refl, sym, ap, subst, ◌∙◌, arith, append_assoc, Bool, false, Option, Some, None, cases_lt, append-nil, length-map, GroupDecl, IsTree, depth_of, root_path, content_of, HaveParentsBefore, within_of_valid, Shape, groups_of, Err, unwrap_or, lt-leb, map_push, length-take-le, IsHierarchy, parent_path, Content, IsValid, or_root, IsShape, HasLimits, IsDeepest, IsShapeOf}
 use Rattle.shr_base.specs.declared.scripts.Script.{Script}
-use Rattle.shr_model.specs.Groups.{IsTree, IsHierarchy, depth_of}
-use Rattle.shr_model.specs.Paths.{root_path, parent_path}
 use Rattle.shr_model.proofs.GroupsLaws.{depth_of-root}
 use Rattle.shr_words.specs.Classes.{Word, place_of}
-use Rattle.shr_script.specs.Content.{Content, content_of, IsValid, AreBelow, or_root}
-use Rattle.shr_script.proofs.BoundsLaws.{within_of_valid}
-use Rattle.shr_script.specs.Lines.{may_hold}
+use Rattle.shr_script.specs.Lines.{may_hold_group}
 use Rattle.shr_script.proofs.GroupLaws.{MayBeAdded, may_be_added}
-use Rattle.shr_seats.specs.declared.shape.Shape.{Shape}
-use Rattle.shr_seats.specs.Shapes.{IsShape, HasLimits}
 use Rattle.shr_tree.specs.declared.errors.TreeError.{TreeError}
 use Rattle.shr_tree.specs.declared.errors.TreeError.TheVariants as errors
 use Rattle.shr_tree.specs.Tree.{Groups, with_group, is_parent, refusal_of, Refuses}
-use Rattle.shr_walk.specs.Sharing.{groups_of, IsDeepest, IsShapeOf}
 
 abbrev paths_of : List GroupDecl → List Word
 paths_of gs = map (λ (g : GroupDecl). g.path) gs
@@ -32,13 +21,13 @@ same_root None = refl
 same_root (Some g) = refl
 
 -- the parent of a group is that of its path among the groups before
-below_at : (paths : List Word) (gs : List GroupDecl) (i : ℕ) (d : GroupDecl) → AreBelow paths gs → i < length gs → (get_or gs i d).parent ≡ or_root (place_of (parent_path (get_or gs i d).path) (paths ++ paths_of (take i gs)))
+below_at : (paths : List Word) (gs : List GroupDecl) (i : ℕ) (d : GroupDecl) → HaveParentsBefore paths gs → i < length gs → (get_or gs i d).parent ≡ or_root (place_of (parent_path (get_or gs i d).path) (paths ++ paths_of (take i gs)))
 below_at paths [] i d below low = absurd (omega (arith, low))
 below_at paths (g ∷ gs) zero d below low = below.0 ∙ ap (λ (ps : List Word). or_root (place_of (parent_path g.path) ps)) (sym (append-nil paths))
 below_at paths (g ∷ gs) (suc i) d below low = below_at (paths ++ g.path ∷ []) gs i d below.1 (omega (arith, low)) ∙ ap (λ (ps : List Word). or_root (place_of (parent_path (get_or gs i d).path) ps)) (append_assoc paths (g.path ∷ []) (paths_of (take i gs)))
 
 -- one group more
-pub group_more : (gs : List GroupDecl) (i : ℕ) (g : GroupDecl) (old new : Groups) → AreBelow (root_path ∷ []) gs → i < length gs → g ≡ get_or gs i g → old ≡ groups_of (take i gs) → new ≡ with_group old g.path g.limit g.later → take (i + 1) gs ≡ take i gs ++ g ∷ [] → new ≡ groups_of (take (i + 1) gs)
+pub group_more : (gs : List GroupDecl) (i : ℕ) (g : GroupDecl) (old new : Groups) → HaveParentsBefore (root_path ∷ []) gs → i < length gs → g ≡ get_or gs i g → old ≡ groups_of (take i gs) → new ≡ with_group old g.path g.limit g.later → take (i + 1) gs ≡ take i gs ++ g ∷ [] → new ≡ groups_of (take (i + 1) gs)
 group_more gs i g old new below low is so-far added more =
     let parent : g.parent ≡ unwrap_or (place_of (parent_path g.path) (root_path ∷ paths_of (take i gs))) 0 =
     ap (λ (x : GroupDecl). x.parent) is ∙ (below_at (root_path ∷ []) gs i g below low ∙ (ap (λ (x : GroupDecl). or_root (place_of (parent_path x.path) (root_path ∷ paths_of (take i gs)))) (sym is) ∙ same_root (place_of (parent_path g.path) (root_path ∷ paths_of (take i gs))))) in
@@ -60,7 +49,7 @@ few_ids : (t : Content) → IsValid t → t.ids ≤ 256
 few_ids t valid = let ids = (within_of_valid t valid).ids in omega (arith, ids)
 
 -- the tree asks of a parent what the script asks
-same_parent : (later : List Bool) (late : Bool) (o : Option ℕ) → is_parent later late o ≡ may_hold later late o
+same_parent : (later : List Bool) (late : Bool) (o : Option ℕ) → is_parent later late o ≡ may_hold_group later late o
 same_parent later late None = refl
 same_parent later late (Some g) = refl
 

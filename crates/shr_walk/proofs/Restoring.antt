@@ -1,32 +1,15 @@
 -- What a visit comes to whose bit was cleared, by its second pass.
-use Rattle.std.proofs.Common.{◌≡◌, ℕ, ◌<◌, sym, ap, subst, refl, ◌∙◌}
-use Rattle.shr_base.specs.declared.places.Place.{Place}
-use Rattle.shr_base.specs.declared.walks.Outcome.{Outcome}
-use Rattle.shr_model.specs.Places.{place_number}
+use Rattle.shr_walk.proofs.Common.{◌≡◌, ℕ, ◌<◌, sym, ap, subst, refl, ◌∙◌, Place, Outcome, place_number, ChargeSeat, View, view_of, with_clear, Count, ScanSeen, ScanAnswer, PassAnswer, List, CacheSeat, Shared, IsReady, IsCleared, IsSet, PassMade, VisitGives, IfEmptyPass, RestoreGives}
 use Rattle.shr_charge.specs.Seat as charge
-use Rattle.shr_charge.specs.declared.table.ChargeSeat.{ChargeSeat}
-use Rattle.shr_core.specs.declared.view.View.{View}
 use Rattle.shr_core.specs.Seats as core
-use Rattle.shr_core.specs.Seats.{view_of}
-use Rattle.shr_core.specs.Steps.{with_clear}
-use Rattle.shr_pass.specs.declared.answers.Count.{Count}
-use Rattle.shr_pass.specs.declared.answers.ScanSeen.{ScanSeen}
-use Rattle.shr_pass.specs.declared.answers.ScanAnswer.{ScanAnswer}
-use Rattle.shr_pass.specs.declared.answers.PassAnswer.{PassAnswer}
 use Rattle.shr_pass.specs.declared.answers.PassAnswer.TheVariants as pass
-use Rattle.shr_pass.specs.Passes.{IfEmptyPass}
-use Rattle.std.specs.Prelude.{List}
-use Rattle.shr_walk.specs.declared.seats.CacheSeat.{CacheSeat}
-use Rattle.shr_walk.specs.declared.seats.Shared.{Shared}
-use Rattle.shr_walk.specs.Listing.{IsReady}
-use Rattle.shr_walk.specs.Visits.{IsCleared, IsSet, PassMade, RestoreGives, VisitGives}
 use Rattle.shr_walk.proofs.Window.{Owes, recounted, restored}
 
 -- a seat whose bit was set is ready still
 set_ready : (x : Shared) (place : Place) (u w : CacheSeat) → IsReady x place u → core.IsOf x.core w.core → IsSet place u w → IsReady x place w
 set_ready x place u w r is set = record {
   core = is;
-  charge = subst (λ (c : ChargeSeat). charge.IsOf x.charge c) (sym set.charge) r.charge;
+  charge = subst (λ (c : ChargeSeat). charge.IsChargeSeat x.charge c) (sym set.charge) r.charge;
   rooms = ap (λ (v : View). v.holding) set.core ∙ r.rooms;
   held = ap (λ (v : View). v.claims.held) set.core ∙ r.held;
   owner = ap (λ (v : View). v.claims.owner) set.core ∙ r.owner;

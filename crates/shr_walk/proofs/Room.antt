@@ -1,10 +1,5 @@
 -- The room of a map's attempts: as many as it has set bits.
-use Rattle.std.proofs.Common.{◌≡◌, ℕ, zero, suc, ◌+◌, ◌-◌, ◌*◌, ◌/◌, ◌%◌, ◌^◌, ◌<◌, ◌≤◌, ◌==◌, cond, List, [], ◌∷◌, ◌++◌, length, sym, refl, ap, subst, ◌∙◌, arith, length-append}
-use Rattle.std.specs.Prelude.{count_ones}
-use Rattle.std.specs.Int.{bit_at}
-use Rattle.std.proofs.Math.Nat.{mod-lt}
-use Rattle.std.proofs.lemmas.Nat.{pow_pos, ones_cat, ones_le_self, zero_from_ones, mod-pow-add}
-use Rattle.shr_walk.specs.Walked.{IsNextBit, set_bits}
+use Rattle.shr_walk.proofs.Common.{◌≡◌, ℕ, zero, suc, ◌+◌, ◌-◌, ◌*◌, ◌/◌, ◌%◌, ◌^◌, ◌<◌, ◌≤◌, ◌==◌, cond, List, [], ◌∷◌, ◌++◌, length, sym, refl, ap, subst, ◌∙◌, arith, length-append, count_ones, bit_at, mod-lt, pow_pos, IsNextBit, set_bits, ones_cat, ones_le_self, zero_from_ones, mod-pow-add}
 use Rattle.shr_walk.proofs.Mapping.{more_set, same_set}
 use Rattle.shr_walk.proofs.Units.{bits_begin}
 

@@ -1,17 +1,6 @@
 -- What follows for tables that belong together.
-use Rattle.std.proofs.Common.{◌≡◌, ℕ, ◌≤◌, List, length, sym, ap, subst, ◌∙◌, arith}
-use Rattle.std.specs.Prelude.{All}
-use Rattle.std.proofs.lemmas.List.Elements.{All-from_recursion}
-use Rattle.shr_base.specs.declared.places.Place.{Place}
-use Rattle.shr_base.specs.declared.scripts.CacheDecl.{CacheDecl}
-use Rattle.shr_script.specs.Content.{content_of}
-use Rattle.shr_script.proofs.BoundsLaws.{within_of_valid}
-use Rattle.shr_core.specs.Seats.{shape_of, IsPlaceOf}
+use Rattle.shr_walk.proofs.Common.{◌≡◌, ℕ, ◌≤◌, List, length, sym, ap, subst, ◌∙◌, arith, All, Place, CacheDecl, content_of, within_of_valid, shape_of, IsPlaceOfShape, hierarchy_of, Sizes, IsShared, Shared, All-from_recursion}
 use Rattle.shr_seats.specs.Rows.{IsPlaceOf as IsInside}
-use Rattle.shr_seats.specs.Shapes.{hierarchy_of}
-use Rattle.shr_seats.specs.declared.rows.Sizes.{Sizes}
-use Rattle.shr_walk.specs.Sharing.{IsShared}
-use Rattle.shr_walk.specs.declared.seats.Shared.{Shared}
 
 -- the parents of the charge table are those of the core
 pub same_parents : (s : Shared) → IsShared s → s.charge.shape.parents.items ≡ (shape_of s.core).parents.items
@@ -22,7 +11,7 @@ pub same_hierarchy : (s : Shared) → IsShared s → hierarchy_of s.charge.shape
 same_hierarchy s h = let parents = same_parents s h in let later = h.charged_later ∙ sym h.later in λ i. record { parents = parents i; later = later i }
 
 -- a place of the core has its deferred word
-pub place_inside : (s : Shared) (p : Place) → IsShared s → IsPlaceOf (shape_of s.core) p → IsInside s.deferred.sizes p
+pub place_inside : (s : Shared) (p : Place) → IsShared s → IsPlaceOfShape (shape_of s.core) p → IsInside s.deferred.sizes p
 place_inside s p h place = let groups = ap (λ (l : List ℕ). length l) h.parents in let ids = h.ids in let nodes = h.nodes in let a = place.id in let b = place.node in let c = place.group in
     subst (λ (z : Sizes). IsInside z p) (sym h.sizes) record { id = omega (arith, a, ids); node = omega (arith, b, nodes); group = omega (arith, c, groups) }
 

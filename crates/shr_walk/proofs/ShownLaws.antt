@@ -1,33 +1,6 @@
 -- What was shown after what was shown.
-use Rattle.std.proofs.Common.{◌≡◌, ℕ, ◌<◌, ◌^◌, List, [], ◌∷◌, ◌++◌, sym, ap, subst, arith}
-use Rattle.std.specs.Prelude.{Contains}
-use Rattle.std.proofs.lemmas.List.Elements.{Contains-append_left}
-use Rattle.shr_base.specs.declared.journals.Entry.{Entry}
-use Rattle.shr_base.specs.declared.places.Place.{Place}
-use Rattle.shr_base.specs.declared.replies.Spent.{Spent}
+use Rattle.shr_walk.proofs.Common.{◌≡◌, ℕ, ◌<◌, ◌^◌, List, [], ◌∷◌, ◌++◌, sym, ap, subst, arith, Contains, Entry, Place, Spent, Attempt, MapSeen, Outcome, PassRecord, place_number, Each, Begins, Each-append, Each-none, Each-one, Each-weaker, begins_all, begins_more, Uses, nothing, Known, Mapped, groups_in, shape_of, Shape, Knows, IsAttempted, tries_in, work_in, born_none, born_then, place_of_walk, passes_in, WornSeen, PassSeen, WorkerState, Work, no_work, then_work, Does, Shared, Walk, Contains-append_left, HasShown, IsWalkSeen}
 use Rattle.shr_base.specs.declared.replies.Spent.TheVariants as spent
-use Rattle.shr_base.specs.declared.walks.Attempt.{Attempt}
-use Rattle.shr_base.specs.declared.walks.MapSeen.{MapSeen}
-use Rattle.shr_base.specs.declared.walks.Outcome.{Outcome}
-use Rattle.shr_base.specs.declared.walks.PassRecord.{PassRecord}
-use Rattle.shr_model.specs.Places.{place_number}
-use Rattle.shr_seats.specs.Views.{Each}
-use Rattle.shr_seats.specs.Weights.{Begins}
-use Rattle.shr_seats.proofs.Weighing.{Each-append, Each-none, Each-one, Each-weaker, begins_all, begins_more}
-use Rattle.shr_charge.specs.Views.{Uses}
-use Rattle.shr_core.specs.Gained.{nothing}
-use Rattle.shr_core.specs.Parts.{Known, Mapped}
-use Rattle.shr_seats.specs.Shapes.{groups_in}
-use Rattle.shr_core.specs.Seats.{shape_of}
-use Rattle.shr_seats.specs.declared.shape.Shape.{Shape}
-use Rattle.shr_node.specs.Gains.{Knows}
-use Rattle.shr_walk.specs.Attempts.{IsAttempted, tries_in, work_in}
-use Rattle.shr_walk.specs.Keeping.{born_none, born_then}
-use Rattle.shr_walk.specs.Records.{place_in, passes_in}
-use Rattle.shr_walk.specs.Shown.{WornSeen, PassSeen, HasShown, IsSeen}
-use Rattle.shr_walk.specs.State.{WorkerState, Work, no_work, then_work, Does}
-use Rattle.shr_walk.specs.declared.seats.Shared.{Shared}
-use Rattle.shr_walk.specs.declared.walking.Walk.{Walk}
 
 -- an attempt without a pass freed nothing
 pub shown_none : (x : Shared) (place : Place) (o : Outcome) (t : WorkerState) → place.id < (shape_of x.core).ids → passes_in o ≡ [] → HasShown x place o [] t
@@ -54,17 +27,17 @@ module _ (t u : WorkerState) (w : Work) (does : Does t u w) where
   }
 
 -- what was shown stays so as the worker goes on
-pub seen_later : (x : Shared) (walk : Walk) (maps : List MapSeen) (attempts : List Attempt) (s t u : WorkerState) (v w : Work) → Does t u v → IsSeen x walk maps attempts s t w → IsSeen x walk maps attempts s u w
+pub seen_later : (x : Shared) (walk : Walk) (maps : List MapSeen) (attempts : List Attempt) (s t u : WorkerState) (v w : Work) → Does t u v → IsWalkSeen x walk maps attempts s t w → IsWalkSeen x walk maps attempts s u w
 seen_later x walk maps attempts s t u v w does h = record {
   ids = h.ids;
   bits = h.bits;
   set = h.set;
-  passes = λ j a at. Each-weaker (PassSeen x (place_in walk a.id) t) (PassSeen x (place_in walk a.id) u) (pass_later t u v does x (place_in walk a.id)) (passes_in a.outcome) (h.passes j a at);
+  passes = λ j a at. Each-weaker (PassSeen x (place_of_walk walk a.id) t) (PassSeen x (place_of_walk walk a.id) u) (pass_later t u v does x (place_of_walk walk a.id)) (passes_in a.outcome) (h.passes j a at);
   born = h.born;
 }
 
 -- the bits set before an earlier state begin those of a later one
-pub seen_earlier : (x : Shared) (walk : Walk) (maps : List MapSeen) (attempts : List Attempt) (s t u : WorkerState) (v w : Work) → Does s t v → IsSeen x walk maps attempts t u w → IsSeen x walk maps attempts s u w
+pub seen_earlier : (x : Shared) (walk : Walk) (maps : List MapSeen) (attempts : List Attempt) (s t u : WorkerState) (v w : Work) → Does s t v → IsWalkSeen x walk maps attempts t u w → IsWalkSeen x walk maps attempts s u w
 seen_earlier x walk maps attempts s t u v w does h = record {
   ids = h.ids;
   bits = h.bits;
@@ -74,44 +47,44 @@ seen_earlier x walk maps attempts s t u v w does h = record {
 }
 
 -- nothing was shown
-pub seen_none : (x : Shared) (walk : Walk) (s : WorkerState) → IsSeen x walk [] [] s s no_work
+pub seen_none : (x : Shared) (walk : Walk) (s : WorkerState) → IsWalkSeen x walk [] [] s s no_work
 seen_none x walk s = record {
   ids = Each-none (λ (a : Attempt). a.id < (shape_of x.core).ids);
   bits = Each-none (λ (m : MapSeen). m.bits < 2 ^ 64);
   set = Each-none (λ (m : Mapped). Begins s.core.marks.sets m.set);
-  passes = Each-none (λ (a : Attempt). Each (PassSeen x (place_in walk a.id) s) (passes_in a.outcome));
+  passes = Each-none (λ (a : Attempt). Each (PassSeen x (place_of_walk walk a.id) s) (passes_in a.outcome));
   born = born_none (groups_in (shape_of x.core));
 }
 
 -- what one run of attempts showed and then another was shown by both
-pub seen_then : (x : Shared) (walk : Walk) (maps more : List MapSeen) (xs ys : List Attempt) (s t u : WorkerState) (v w : Work) → Does s t v → Does t u w → IsSeen x walk maps xs s t v → IsSeen x walk more ys t u w
-    → IsSeen x walk (maps ++ more) (xs ++ ys) s u (then_work v w)
+pub seen_then : (x : Shared) (walk : Walk) (maps more : List MapSeen) (xs ys : List Attempt) (s t u : WorkerState) (v w : Work) → Does s t v → Does t u w → IsWalkSeen x walk maps xs s t v → IsWalkSeen x walk more ys t u w
+    → IsWalkSeen x walk (maps ++ more) (xs ++ ys) s u (then_work v w)
 seen_then x walk maps more xs ys s t u v w first second a b = let c = seen_later x walk maps xs s t u w v second a in let d = seen_earlier x walk more ys s t u v w first b in record {
   ids = Each-append (λ (y : Attempt). y.id < (shape_of x.core).ids) xs ys c.ids d.ids;
   bits = Each-append (λ (m : MapSeen). m.bits < 2 ^ 64) maps more c.bits d.bits;
   set = Each-append (λ (m : Mapped). Begins s.core.marks.sets m.set) v.core.maps w.core.maps c.set d.set;
-  passes = Each-append (λ (y : Attempt). Each (PassSeen x (place_in walk y.id) u) (passes_in y.outcome)) xs ys c.passes d.passes;
+  passes = Each-append (λ (y : Attempt). Each (PassSeen x (place_of_walk walk y.id) u) (passes_in y.outcome)) xs ys c.passes d.passes;
   born = born_then (groups_in (shape_of x.core)) v.core.made w.core.made c.born d.born;
 }
 
 -- the load of a map shows its word
 pub seen_map : (x : Shared) (walk : Walk) (m : MapSeen) (map : ℕ) (s t : WorkerState) → m.bits < 2 ^ 64
-    → IsSeen x walk (m ∷ []) [] s t (record no_work { core = record nothing { maps = record { map = map; bits = m.bits; set = s.core.marks.sets } ∷ [] } })
+    → IsWalkSeen x walk (m ∷ []) [] s t (record no_work { core = record nothing { maps = record { map = map; bits = m.bits; set = s.core.marks.sets } ∷ [] } })
 seen_map x walk m map s t fits = record {
   ids = Each-none (λ (a : Attempt). a.id < (shape_of x.core).ids);
   bits = Each-one (λ (y : MapSeen). y.bits < 2 ^ 64) m fits;
   set = Each-one (λ (y : Mapped). Begins s.core.marks.sets y.set) (record { map = map; bits = m.bits; set = s.core.marks.sets }) (begins_all s.core.marks.sets);
-  passes = Each-none (λ (a : Attempt). Each (PassSeen x (place_in walk a.id) t) (passes_in a.outcome));
+  passes = Each-none (λ (a : Attempt). Each (PassSeen x (place_of_walk walk a.id) t) (passes_in a.outcome));
   born = born_none (groups_in (shape_of x.core));
 }
 
 -- what one attempt showed
 pub seen_attempt : (x : Shared) (walk : Walk) (a : Attempt) (s t : WorkerState) (h : IsAttempted x walk a.id a.outcome s t)
-    → IsSeen x walk [] (a ∷ []) s t (work_in (place_in walk a.id) a.outcome h.made (tries_in a.id a.outcome h.held) (record { id = a.id; word = h.first } ∷ h.more) h.ops)
+    → IsWalkSeen x walk [] (a ∷ []) s t (work_in (place_of_walk walk a.id) a.outcome h.made (tries_in a.id a.outcome h.held) (record { id = a.id; word = h.first } ∷ h.more) h.ops)
 seen_attempt x walk a s t h = record {
   ids = Each-one (λ (y : Attempt). y.id < (shape_of x.core).ids) a h.shown.id;
   bits = Each-none (λ (m : MapSeen). m.bits < 2 ^ 64);
   set = Each-none (λ (m : Mapped). Begins s.core.marks.sets m.set);
-  passes = Each-one (λ (y : Attempt). Each (PassSeen x (place_in walk y.id) t) (passes_in y.outcome)) a h.shown.pass;
+  passes = Each-one (λ (y : Attempt). Each (PassSeen x (place_of_walk walk y.id) t) (passes_in y.outcome)) a h.shown.pass;
   born = h.shown.born;
 }

@@ -9,10 +9,10 @@ use Rattle.shr_walk.specs.State.{WorkerState, no_work, Does}
 use Rattle.shr_walk.specs.Walked.{WalkGives, RootGives}
 
 -- what a walk says that it freed
-abbrev pub freed_told : WalkAnswer → ℕ
-freed_told (answered.Walked freed) = freed
-freed_told (answered.Offline entry) = 0
-freed_told (answered.Memory freed) = freed
+abbrev pub walk_freed : WalkAnswer → ℕ
+walk_freed (answered.Walked freed) = freed
+walk_freed (answered.Offline entry) = 0
+walk_freed (answered.Memory freed) = freed
 
 -- the walk ended for want of memory
 abbrev pub lacked_memory : WalkAnswer → Bool
@@ -48,7 +48,7 @@ pub record IsBalanced (x : Shared) (walk : Walk) (freed : ℕ) (s t : WorkerStat
   pub answers : List WalkAnswer
   pub walked : AreWalked x walk (all_groups x) answers s t
   pub had : All HadMemory answers
-  pub sum_freed : freed ≡ sum (map freed_told answers)
+  pub sum_freed : freed ≡ sum (map walk_freed answers)
 
 -- the groups up to one were walked, and that one's walk was the first that ended for want of memory
 pub record IsBalanceCut (x : Shared) (walk : Walk) (freed : ℕ) (s t : WorkerState) : Type 0 where
@@ -59,7 +59,7 @@ pub record IsBalanceCut (x : Shared) (walk : Walk) (freed : ℕ) (s t : WorkerSt
   pub walked : AreWalked x walk (take (n + 1) (all_groups x)) (answers ++ last ∷ []) s t
   pub had : All HadMemory answers
   pub lacked : lacked_memory last ≡ true
-  pub sum_freed : freed ≡ sum (map freed_told (answers ++ last ∷ []))
+  pub sum_freed : freed ≡ sum (map walk_freed (answers ++ last ∷ []))
 
 -- what a balance did, by its answer: it is never offline, and without room for the order of the
 -- groups it did nothing

@@ -10,13 +10,13 @@ use Rattle.shr_list.specs.Answers.{scan_entry}
 use Rattle.shr_model.specs.Groups.{depth_of}
 use Rattle.shr_model.specs.Places.{place_number}
 use Rattle.shr_seats.specs.Weights.{times}
-use Rattle.shr_core.specs.Seats.{view_of, shape_of, IsPlaceOf}
+use Rattle.shr_core.specs.Seats.{view_of, shape_of, IsPlaceOfShape}
 use Rattle.shr_charge.specs.Seat.{uses_of, spent_by}
-use Rattle.shr_node.specs.Answers.{Scans, IsScanClosed, ScanIsWorn, ScanLacks}
+use Rattle.shr_node.specs.Answers.{ScansPlace, IsScanClosed, ScanIsWorn, ScanLacks}
 use Rattle.shr_pass.specs.declared.answers.ScanAnswer.{ScanAnswer}
 use Rattle.shr_pass.specs.declared.answers.ScanAnswer.TheVariants as answer
 use Rattle.shr_pass.specs.Meanings.{SameMeaning}
-use Rattle.shr_walk.specs.Keeping.{Keeps, AllUncharged, parents_of}
+use Rattle.shr_walk.specs.Keeping.{Keeps, AllUncharged, shared_parents}
 use Rattle.shr_walk.specs.Listing.{IsReady, Tells, counts_at, scans_at}
 use Rattle.shr_walk.specs.Sharing.{IsShared}
 use Rattle.shr_walk.specs.declared.seats.CacheSeat.{CacheSeat}
@@ -45,8 +45,8 @@ pub record ScansList (x : Shared) (place : Place) (walk : ℕ) (by : Serial) (po
   pub may : MayUncharge s
   pub freed : List Object
   pub count : objects ≡ length freed
-  pub made : Scans (shape_of x.core) (view_of s.core) (view_of t.core) place by.worker walk policy asked freed visits stopped
-  pub uncharged : AllUncharged (parents_of x) by freed s.charge t.charge s.uses.items t.uses.items
+  pub made : ScansPlace (shape_of x.core) (view_of s.core) (view_of t.core) place by.worker walk policy asked freed visits stopped
+  pub uncharged : AllUncharged (shared_parents x) by freed s.charge t.charge s.uses.items t.uses.items
 
 -- the list is closed
 pub record FindsClosed (place : Place) (s t : CacheSeat) : Type 0 where
@@ -66,10 +66,10 @@ pub record FindsFull (x : Shared) (place : Place) (walk : ℕ) (by : Serial) (po
   pub same : NoneUncharged s t
 
 -- what is used up: the charges, or the list of the place, and never a lookup
-abbrev pub FindsWorn : Shared → Place → ℕ → Serial → Policy → ℕ → Spent → CacheSeat → CacheSeat → Type 0
-FindsWorn x place walk by policy asked (spent.Charges charges uncharges) s t = FindsSpent (spent.Charges charges uncharges) s t
-FindsWorn x place walk by policy asked (spent.List at entries items) s t = FindsFull x place walk by policy asked at entries items s t
-FindsWorn x place walk by policy asked (spent.Lookups id seen) s t = ⊥
+abbrev pub FindsUsedUp : Shared → Place → ℕ → Serial → Policy → ℕ → Spent → CacheSeat → CacheSeat → Type 0
+FindsUsedUp x place walk by policy asked (spent.Charges charges uncharges) s t = FindsSpent (spent.Charges charges uncharges) s t
+FindsUsedUp x place walk by policy asked (spent.List at entries items) s t = FindsFull x place walk by policy asked at entries items s t
+FindsUsedUp x place walk by policy asked (spent.Lookups id seen) s t = ⊥
 
 -- there was no memory: to note the uncharges, and then the list wasn't looked at, or for the scan's entry, for which the
 -- list has room
@@ -82,7 +82,7 @@ pub record LacksRoom (x : Shared) (place : Place) (walk : ℕ) (by : Serial) (po
 abbrev pub ListScanGives : Shared → Place → ℕ → Serial → Policy → ℕ → ListerScan → CacheSeat → CacheSeat → Type 0
 ListScanGives x place walk by policy asked (scan.Scanned objects visits stopped) s t = ScansList x place walk by policy asked objects visits stopped s t
 ListScanGives x place walk by policy asked scan.Closed s t = FindsClosed place s t
-ListScanGives x place walk by policy asked (scan.Worn numbers) s t = FindsWorn x place walk by policy asked numbers s t
+ListScanGives x place walk by policy asked (scan.Worn numbers) s t = FindsUsedUp x place walk by policy asked numbers s t
 ListScanGives x place walk by policy asked scan.NoRoom s t = LacksRoom x place walk by policy asked s t
 
 -- a scan of the list as a walk is told of it: without its visits
@@ -107,7 +107,7 @@ ListerAnswers false x place walk by policy asked a s t = TellsOfScan x place wal
 abbrev pub SameLister : Shared → Shared → Place → Place → ℕ → ℕ → Bool → Bool → ℕ → ℕ → Serial → Serial → Policy → Policy → Type 0
 SameLister x y place at floor least stops halts walk number by to policy rule = SameMeaning (Some place) (Some at)
     (λ s. 0 < times (place_number place) (view_of s.core).marks.owed) (λ s. 0 < times (place_number at) (view_of s.core).marks.owed)
-    (λ s. IsShared x × IsPlaceOf (shape_of x.core) place × IsReady x place s) (λ s. IsShared y × IsPlaceOf (shape_of y.core) at × IsReady y at s)
+    (λ s. IsShared x × IsPlaceOfShape (shape_of x.core) place × IsReady x place s) (λ s. IsShared y × IsPlaceOfShape (shape_of y.core) at × IsReady y at s)
     (Keeps x (place_number place) walk by policy) (Keeps y (place_number at) number to rule)
     (Tells (shape_of x.core) place stops) (Tells (shape_of y.core) at halts)
     (counts_at (place_number place) floor) (counts_at (place_number at) least)

@@ -73,7 +73,7 @@ pub record IsFromStart (x : Shared) : Type 0 where
   pub most_entries : (shape_of x.core).most_entries ≡ 2 ^ 31
 
 -- the first seats of new tables: they have done and seen nothing, and nothing is noted
-pub record IsOpened (x : Shared) (s : Seats) : Type 0 where
+pub record AreOpened (x : Shared) (s : Seats) : Type 0 where
   pub rested : IsRested x s
   pub core : view_of s.cache.core ≡ opener
   pub uses : uses_of s.cache.charge ≡ own_uses
@@ -81,7 +81,7 @@ pub record IsOpened (x : Shared) (s : Seats) : Type 0 where
   pub charged : charges.standing_of s.cache.charge ≡ at_first
   pub moves : moves_of s.deferred ≡ no_moves
   pub strands : strands_of s.deferred ≡ no_moves ∷ []
-  pub deferred : deferreds.standing_of s.deferred ≡ at_first
+  pub deferred : deferreds.deferred_standing s.deferred ≡ at_first
   pub noted : s.cache.uses.items ≡ []
   pub walks : s.walks.items ≡ []
   pub carries : s.carries.items ≡ []

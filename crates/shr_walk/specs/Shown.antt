@@ -20,8 +20,8 @@ use Rattle.shr_seats.specs.Shapes.{groups_in}
 use Rattle.shr_core.specs.Seats.{shape_of}
 use Rattle.shr_seats.specs.declared.shape.Shape.{Shape}
 use Rattle.shr_node.specs.Gains.{Knows, KnowsClosed}
-use Rattle.shr_walk.specs.Keeping.{freed_in}
-use Rattle.shr_walk.specs.Records.{place_in, passes_in}
+use Rattle.shr_walk.specs.Keeping.{objects_freed}
+use Rattle.shr_walk.specs.Records.{place_of_walk, passes_in}
 use Rattle.shr_walk.specs.State.{WorkerState, Work}
 use Rattle.shr_walk.specs.declared.seats.Shared.{Shared}
 use Rattle.shr_walk.specs.declared.walking.Walk.{Walk}
@@ -61,16 +61,16 @@ pub record PassSeen (x : Shared) (place : Place) (t : WorkerState) (p : PassReco
 pub record HasShown (x : Shared) (place : Place) (o : Outcome) (made : List Made) (t : WorkerState) : Type 0 where
   pub id : place.id < (shape_of x.core).ids
   pub pass : Each (PassSeen x place t) (passes_in o)
-  pub born : AreBorn (groups_in (shape_of x.core)) (freed_in made)
+  pub born : AreBorn (groups_in (shape_of x.core)) (objects_freed made)
 
 -- what these maps and attempts showed, by the states before and after them and the work between
-pub record IsSeen (x : Shared) (walk : Walk) (maps : List MapSeen) (attempts : List Attempt) (s t : WorkerState) (w : Work) : Type 0 where
+pub record IsWalkSeen (x : Shared) (walk : Walk) (maps : List MapSeen) (attempts : List Attempt) (s t : WorkerState) (w : Work) : Type 0 where
   -- each id that was tried is one of the table, and each map is a word of 64 bits
   pub ids : Each (λ (a : Attempt). a.id < (shape_of x.core).ids) attempts
   pub bits : Each (λ (m : MapSeen). m.bits < 2 ^ 64) maps
   -- each map stands with all bits that the worker had set before
   pub set : Each (λ (m : Mapped). Begins s.core.marks.sets m.set) w.core.maps
   -- what a pass told is known after the walk
-  pub passes : Each (λ (a : Attempt). Each (PassSeen x (place_in walk a.id) t) (passes_in a.outcome)) attempts
+  pub passes : Each (λ (a : Attempt). Each (PassSeen x (place_of_walk walk a.id) t) (passes_in a.outcome)) attempts
   -- each object that was freed was born in a group of the tree
-  pub born : AreBorn (groups_in (shape_of x.core)) (freed_in w.core.made)
+  pub born : AreBorn (groups_in (shape_of x.core)) (objects_freed w.core.made)

@@ -4,7 +4,7 @@ ghost use Rattle.std.specs.Prelude.{◌≡◌, ◌<◌, ◌≤◌, ◌^◌, leng
 ghost use Rattle.shr_seats.specs.Shapes.{groups_in};
 ghost use Rattle.shr_core.specs.Seats.{shape_of};
 ghost use Rattle.shr_walk.specs.Acting.{IsSame, walk_of};
-ghost use Rattle.shr_walk.specs.Balances.{BalanceGives, OneGives, freed_told, lacked_memory};
+ghost use Rattle.shr_walk.specs.Balances.{BalanceGives, OneGives, walk_freed, lacked_memory};
 
 use crate::groups::{walk_group, walk_root};
 use crate::worker::Worker;
@@ -13,7 +13,7 @@ use std::sync::Wait;
 
 /// What a walk says that it freed. Our own.
 pub fn told(answer: &WalkAnswer) -> u64
-    ensures { result ≡ freed_told answer.now }
+    ensures { result ≡ walk_freed answer.now }
 {
     match answer {
         WalkAnswer::Walked { freed } => *freed,
@@ -42,7 +42,7 @@ pub fn walk_one<R: Wait>(
     requires place { (node < (shape_of worker.old.shared.core).nodes)
         × (group < groups_in (shape_of worker.old.shared.core)) }
     requires priority { priority ≤ 12 }
-    ensures few { freed_told result ≤ 2 ^ 53 }
+    ensures few { walk_freed result ≤ 2 ^ 53 }
     ensures walked { OneGives worker.old.shared (walk_of worker.old group node priority nofs) result
         worker.old.state worker.new.state }
     ensures same { IsSame worker.old worker.new }

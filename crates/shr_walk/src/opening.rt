@@ -3,7 +3,7 @@
 ghost use Rattle.std.specs.Prelude.{◌≡◌, IfOk, OnOk};
 ghost use Rattle.shr_tree.specs.Tree.{with_group, refusal_of, Refuses};
 ghost use Rattle.shr_script.specs.Content.{Content, content_of, IsValid};
-ghost use Rattle.shr_walk.specs.Sharing.{groups_of, IsDeepest, IsShapeOf, IsShared, IsFromStart, IsOpened};
+ghost use Rattle.shr_walk.specs.Sharing.{groups_of, IsDeepest, IsShapeOf, IsShared, IsFromStart, AreOpened};
 
 use crate::seats::{CacheSeat, Seats, Shared};
 use shr_base::log::Log;
@@ -93,7 +93,7 @@ impl Shared {
         ensures shared { IfOk result (λ t. IsShared t.0) }
         ensures script { IfOk result (λ t. t.0.script ≡ script) }
         ensures from_start { IfOk result (λ t. IsFromStart t.0) }
-        ensures opened { IfOk result (λ t. IsOpened t.0 t.1) }
+        ensures opened { IfOk result (λ t. AreOpened t.0 t.1) }
     {
         let tree = tree_of(alloc, script.groups.as_slice())?;
         let shape = shape_of(&script, &tree)?;

@@ -15,7 +15,7 @@ use Rattle.shr_pass.specs.declared.answers.Count.{Count}
 use Rattle.shr_pass.specs.declared.answers.Count.TheVariants.{Empty, Skip, Many}
 use Rattle.shr_pass.specs.Answers.{IfEmpty}
 use Rattle.shr_walk.specs.Fresh.{IsFreshAt}
-use Rattle.shr_walk.specs.Listing.{count_of, count_at, counts_at, IsReady}
+use Rattle.shr_walk.specs.Listing.{count_kind, count_at, counts_at, IsReady}
 use Rattle.shr_deferred.specs.Seat as deferred
 use Rattle.shr_walk.specs.Visits.{owes_at}
 use Rattle.shr_walk.specs.declared.seats.CacheSeat.{CacheSeat}
@@ -50,7 +50,7 @@ module _ (x : Shared) (place : Place) (s : CacheSeat) (seat : Seat) (len version
   }
 
   module _ (t : CacheSeat) (stays : Stays x place counted t) where
-    pub counted_more : (floor : ℕ) (c : Count) → (view_of t.core).traces.seen ≡ (view_of seat).traces.seen → c ≡ count_of floor len version → counts_at (place_number place) floor t ≡ counts_at (place_number place) floor s ++ c ∷ []
+    pub counted_more : (floor : ℕ) (c : Count) → (view_of t.core).traces.seen ≡ (view_of seat).traces.seen → c ≡ count_kind floor len version → counts_at (place_number place) floor t ≡ counts_at (place_number place) floor s ++ c ∷ []
     counted_more floor c same kind = ap (filter_map (count_at (place_number place) floor)) same
         ∙ (counts_more x (place_number place) 0 by_none Plain s seat len version did is floor ∙ ap (λ (y : Count). counts_at (place_number place) floor s ++ y ∷ []) (sym kind))
 
@@ -64,7 +64,7 @@ module _ (x : Shared) (place : Place) (s : CacheSeat) (seat : Seat) (len version
     }
 
 -- a visit left its seat as it needs to be to give the reference back
-pub holder_visited : (x : Shared) (place : Place) (s t : Seats) → IsHolder x place s → IsReady x place t.cache → deferred.IsOf x.deferred t.deferred → OwesNoMore (view_of s.cache.core) (view_of t.cache.core) → IsHolder x place t
+pub holder_visited : (x : Shared) (place : Place) (s t : Seats) → IsHolder x place s → IsReady x place t.cache → deferred.IsDeferredSeat x.deferred t.deferred → OwesNoMore (view_of s.cache.core) (view_of t.cache.core) → IsHolder x place t
 holder_visited x place s t h r d owed = record {
   shared = h.shared;
   inside = h.inside;

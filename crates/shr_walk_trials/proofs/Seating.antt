@@ -20,7 +20,7 @@ use Rattle.shr_core.specs.declared.lookups.Lookup.TheVariants as lookup
 use Rattle.shr_core.specs.Answers.{Finds}
 use Rattle.shr_core.specs.Parts.{Made, Claims, no_rooms}
 use Rattle.shr_core.specs.Gained.{Gained, IsIdle, OwesNoMore}
-use Rattle.shr_core.specs.Seats.{IsPlaceOf, view_of, shape_of}
+use Rattle.shr_core.specs.Seats.{IsPlaceOfShape, view_of, shape_of}
 use Rattle.shr_core.specs.Seats as core
 use Rattle.shr_core.specs.Steps.{with_put, with_word, without_id}
 use Rattle.shr_core.proofs.Owing.{still_none}
@@ -93,7 +93,7 @@ leaves_gone v w id number idle f = let a = looked_gone v w id number idle.held f
 pub leaves_worn : (v w : View) (id seen : ℕ) → IsIdle v → Finds v id w (lookup.Worn seen) → Leaves v w
 leaves_worn v w id seen idle f = let a = looked_worn v w id seen idle.held f in record { idle = record { rooms = a.holding ∙ idle.rooms; held = a.held; owner = a.owner ∙ idle.owner }; owed = λ none. ap (λ (y : View). y.marks.owed) f.step ∙ owes_none v id f.first none }
 
-pub holder_of : (x : Shared) (place : Place) (s : Seats) (seat : Seat) (number decl : ℕ) → IsFit x s → IsPlaceOf (shape_of x.core) place → core.IsOf x.core seat → Finds (view_of s.cache.core) place.id (view_of seat) (lookup.Held number decl) → IsHolder x place (with_core s seat)
+pub holder_of : (x : Shared) (place : Place) (s : Seats) (seat : Seat) (number decl : ℕ) → IsFit x s → IsPlaceOfShape (shape_of x.core) place → core.IsOf x.core seat → Finds (view_of s.cache.core) place.id (view_of seat) (lookup.Held number decl) → IsHolder x place (with_core s seat)
 holder_of x place s seat number decl h inside is f = let v = view_of s.cache.core in let w = view_of seat in let a = looked_held v w place.id number decl h.rested.idle.held f in record {
   shared = h.shared;
   inside = inside;

@@ -4,12 +4,12 @@ use Rattle.shr_base.specs.declared.places.Place.{Place}
 use Rattle.shr_seats.specs.Standing.{Standing}
 use Rattle.shr_core.specs.Parts.{no_rooms}
 use Rattle.shr_core.specs.Rule.{opener}
-use Rattle.shr_core.specs.Seats.{IsPlaceOf, view_of, shape_of}
+use Rattle.shr_core.specs.Seats.{IsPlaceOfShape, view_of, shape_of}
 use Rattle.shr_core.specs.Seats as core
 use Rattle.shr_charge.specs.Seat as charge
 use Rattle.shr_charge.specs.Seat.{standing_of as charges_standing}
 use Rattle.shr_deferred.specs.Seat as deferred
-use Rattle.shr_deferred.specs.Seat.{standing_of as deferred_standing}
+use Rattle.shr_deferred.specs.Seat.{deferred_standing}
 use Rattle.shr_walk.specs.Sharing.{IsShared}
 use Rattle.shr_walk.specs.declared.seats.Seats.{Seats}
 use Rattle.shr_walk.specs.declared.seats.Shared.{Shared}
@@ -17,24 +17,24 @@ use Rattle.shr_walk.specs.declared.seats.Shared.{Shared}
 -- what the workers share belongs together, and a worker's seats are of it and at rest, but that the id of a place is held
 pub record IsHolder (x : Shared) (place : Place) (s : Seats) : Type 0 where
   pub shared : IsShared x
-  pub inside : IsPlaceOf (shape_of x.core) place
+  pub inside : IsPlaceOfShape (shape_of x.core) place
   pub core : core.IsOf x.core s.cache.core
   pub rooms : (view_of s.cache.core).holding ≡ no_rooms
   pub held : (view_of s.cache.core).claims.held ≡ Some place.id
   pub owner : (view_of s.cache.core).claims.owner ≡ None
   pub owed : (view_of s.cache.core).marks.owed ≡ []
-  pub charge : charge.IsOf x.charge s.cache.charge
-  pub deferred : deferred.IsOf x.deferred s.deferred
+  pub charge : charge.IsChargeSeat x.charge s.cache.charge
+  pub deferred : deferred.IsDeferredSeat x.deferred s.deferred
 
 -- the first seat of a table, which was split so often and joined with none
 abbrev pub split_so_often : ℕ → Standing
 split_so_often n = record { first = true; gone = false; splits = n; joins = 0 }
 
 -- the first seats, which did nothing but be split
-pub record IsFirst (x : Shared) (s : Seats) (splits : ℕ) : Type 0 where
+pub record AreFirstSeats (x : Shared) (s : Seats) (splits : ℕ) : Type 0 where
   pub core : core.IsOf x.core s.cache.core
   pub view : view_of s.cache.core ≡ record opener { standing = split_so_often splits }
-  pub charge : charge.IsOf x.charge s.cache.charge
+  pub charge : charge.IsChargeSeat x.charge s.cache.charge
   pub charged : charges_standing s.cache.charge ≡ split_so_often splits
-  pub deferred : deferred.IsOf x.deferred s.deferred
+  pub deferred : deferred.IsDeferredSeat x.deferred s.deferred
   pub standing : deferred_standing s.deferred ≡ split_so_often splits

@@ -2,7 +2,7 @@
 
 ghost use Rattle.std.specs.Prelude.{◌≡◌};
 ghost use Rattle.shr_seats.specs.Rows.{IsPlaceOf};
-ghost use Rattle.shr_deferred.specs.Seat.{IsOf, standing_of};
+ghost use Rattle.shr_deferred.specs.Seat.{IsDeferredSeat, deferred_standing};
 
 use shr_base::places::Place;
 use shr_deferred::table::{Deferred, DeferredSeat};
@@ -26,8 +26,8 @@ const HERE: Place = Place {
 // Gives three, a thousand times.
 fn giving(deferred: &Deferred, mut seat: DeferredSeat) -> DeferredSeat
     requires place { IsPlaceOf deferred.now.sizes (record { id = 0; node = 0; group = 0 }) }
-    requires seat { IsOf deferred.now seat }
-    ensures seat { IsOf deferred.now result }
+    requires seat { IsDeferredSeat deferred.now seat }
+    ensures seat { IsDeferredSeat deferred.now result }
 {
     for _turn in 0..1000 {
         deferred.give(&mut seat, HERE, 3);
@@ -38,9 +38,9 @@ fn giving(deferred: &Deferred, mut seat: DeferredSeat) -> DeferredSeat
 // Takes all and gives one more back, a thousand times.
 fn carrying(deferred: &Deferred, mut seat: DeferredSeat) -> DeferredSeat
     requires place { IsPlaceOf deferred.now.sizes (record { id = 0; node = 0; group = 0 }) }
-    requires seat { IsOf deferred.now seat }
-    ensures seat { IsOf deferred.now result }
-    ensures standing { standing_of result ≡ standing_of seat }
+    requires seat { IsDeferredSeat deferred.now seat }
+    ensures seat { IsDeferredSeat deferred.now result }
+    ensures standing { deferred_standing result ≡ deferred_standing seat }
 {
     for _turn in 0..1000 {
         let found = deferred.take(&mut seat, HERE);
@@ -57,14 +57,14 @@ fn two_threads_lose_nothing_at_one_place(rt: HostRuntime) -> Result<(), Fail> {
     let (mut first, second) = thread::join(
         &rt,
         move ||
-            requires { IsOf deferred.now first × IsPlaceOf deferred.now.sizes
+            requires { IsDeferredSeat deferred.now first × IsPlaceOf deferred.now.sizes
                 (record { id = 0; node = 0; group = 0 }) }
-            ensures { IsOf deferred.entry.now result × (standing_of result ≡ standing_of first) }
+            ensures { IsDeferredSeat deferred.entry.now result × (deferred_standing result ≡ deferred_standing first) }
         { carrying(deferred, first) },
         move ||
-            requires { IsOf deferred.now second × IsPlaceOf deferred.now.sizes
+            requires { IsDeferredSeat deferred.now second × IsPlaceOf deferred.now.sizes
                 (record { id = 0; node = 0; group = 0 }) }
-            ensures { IsOf deferred.entry.now result }
+            ensures { IsDeferredSeat deferred.entry.now result }
         { giving(deferred, second) },
     );
     table.join(&mut first, second);

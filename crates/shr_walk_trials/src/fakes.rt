@@ -3,9 +3,9 @@
 ghost use Rattle.std.specs.Prelude.{◌≡◌, ◌<◌, ◌≤◌, [], Some};
 ghost use Rattle.shr_model.specs.Places.{place_number};
 ghost use Rattle.shr_seats.specs.Weights.{times};
-ghost use Rattle.shr_core.specs.Seats.{IsPlaceOf, view_of, shape_of};
+ghost use Rattle.shr_core.specs.Seats.{IsPlaceOfShape, view_of, shape_of};
 ghost use Rattle.shr_pass.specs.Answers.{CountFits, IfEmpty};
-ghost use Rattle.shr_walk.specs.Listing.{count_of, counts_at, IsReady};
+ghost use Rattle.shr_walk.specs.Listing.{count_kind, counts_at, IsReady};
 ghost use Rattle.shr_walk.specs.Sharing.{IsShared};
 ghost use Rattle.shr_walk_trials.specs.Fakes.{Stays, stays_refl, stays_trans};
 
@@ -35,7 +35,7 @@ pub(crate) struct Fake<'a, R: Wait> {
 
 // The kind of a count.
 fn kind_of(seen: Seen, floor: u32) -> Count
-    ensures kind { result ≡ count_of floor seen.len seen.version }
+    ensures kind { result ≡ count_kind floor seen.len seen.version }
     ensures fits { seen.len ≤ 1048576 → CountFits result }
     ensures empty { IfEmpty result (seen.len ≡ 0) }
 {
@@ -60,7 +60,7 @@ impl<'a, R: Wait> Fake<'a, R> {
     // Adds the late object, where there is one.
     fn add_late(&self, seat: &mut CacheSeat) -> Option<NodeAdd>
         requires shared { IsShared self.now.shared.now }
-        requires place { IsPlaceOf (shape_of self.now.shared.now.core) self.now.place }
+        requires place { IsPlaceOfShape (shape_of self.now.shared.now.core) self.now.place }
         requires ready { IsReady self.now.shared.now self.now.place seat.old }
         ensures stays { Stays self.now.shared.now self.now.place seat.old seat.new }
         ensures seen { (view_of seat.new.core).traces.seen ≡ (view_of seat.old.core).traces.seen }
@@ -93,7 +93,7 @@ impl<'a, R: Wait> Shrinker for Fake<'a, R> {
 
     ghost scans = { λ x s. [] };
 
-    ghost ready = { λ x s. IsShared x.shared.now × IsPlaceOf (shape_of x.shared.now.core) x.place × IsReady x.shared.now x.place s };
+    ghost ready = { λ x s. IsShared x.shared.now × IsPlaceOfShape (shape_of x.shared.now.core) x.place × IsReady x.shared.now x.place s };
 
     ghost kept = { λ x s t. Stays x.shared.now x.place s t };
 

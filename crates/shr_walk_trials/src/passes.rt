@@ -2,7 +2,7 @@
 
 ghost use Rattle.std.specs.Prelude.{None};
 ghost use Rattle.shr_seats.specs.Rows.{IsPlaceOf};
-ghost use Rattle.shr_deferred.specs.Seat.{IsOf};
+ghost use Rattle.shr_deferred.specs.Seat.{IsDeferredSeat};
 ghost use Rattle.shr_pass.specs.Answers.{IsCountable, FreesAtMost};
 
 use shr_base::places::Place;
@@ -199,8 +199,8 @@ fn pass_of<R: Abort>(
     row: &Row,
 ) -> PassRecord
     requires place { IsPlaceOf deferred.now.sizes (record { id = 0; node = 0; group = 0 }) }
-    requires table { IsOf deferred.now seat.old }
-    ensures table { IsOf deferred.now seat.new }
+    requires table { IsDeferredSeat deferred.now seat.old }
+    ensures table { IsDeferredSeat deferred.now seat.new }
 {
     let (len, _nr, priority, seeks, batch) = row.of;
     assert!(rt; 1 <= len && len <= 1_048_576 && priority <= 12 && batch <= 20_000);

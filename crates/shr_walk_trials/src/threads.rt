@@ -3,7 +3,7 @@
 ghost use Rattle.std.specs.Prelude.{IfOk};
 ghost use Rattle.shr_walk.specs.Acting.{IsFit};
 ghost use Rattle.shr_walk.specs.Sharing.{IsShared};
-ghost use Rattle.shr_walk_trials.specs.Desk.{IsFirst, IsHolder};
+ghost use Rattle.shr_walk_trials.specs.Desk.{AreFirstSeats, IsHolder};
 
 use crate::desk::holding::{hold, rest};
 use crate::desk::left::{outcome, place_of};
@@ -78,7 +78,7 @@ fn outcomes(walker: &Seats) -> (Option<u32>, Option<Outcome>, Option<Outcome>) {
 // The seats of two workers more.
 fn two_more(shared: &Shared, first: &mut Seats) -> Result<(Seats, Seats), Fail>
     requires shared { IsShared shared.now }
-    requires first { IsFirst shared.now first.old 1 }
+    requires first { AreFirstSeats shared.now first.old 1 }
     ensures seats { IfOk result (λ t. IsFit shared.now t.0 × IsFit shared.now t.1) }
 {
     let holder = another(shared, first, 1)?;

@@ -1,18 +1,14 @@
 -- A word that was read is the one spelling of its item, and what is spelled so is read again.
-use Rattle.shr_words.proofs.Common.{◌≡◌, ℕ, zero, suc, ◌+◌, ◌≤◌, ◌<◌, Bool, true, false, cond, ◌&&◌, ◌||◌, List, [], ◌∷◌, ◌++◌, length, get_or, Option, Some, None, Result, Ok, Err, refl, sym, ap, subst, ◌∙◌, arith, slice_index_or, ◌==◌, nat_le, nat_lt, option_map, bytes_eq, list_all, digits_value, nat_tests, is_visible, is_name_byte, Code, differs, is_part_of, all_parts, Word, Test, PathTest, NameTest, KeyTest, Number, Plain, Valued, Listed, Marked, Item, N, W, ◌>>=◌, is_digit, found_or, number_in, and_true, cut_part, same_byte}
-use Rattle.std.proofs.Common.{rules, eq-eqb, lit<}
-use Rattle.std.specs.Prelude.{codes, decimal}
+use Rattle.shr_words.proofs.Common.{◌≡◌, ℕ, zero, suc, ◌+◌, ◌≤◌, ◌<◌, Bool, true, false, cond, ◌&&◌, ◌||◌, List, [], ◌∷◌, ◌++◌, length, get_or, Option, Some, None, Result, Ok, Err, refl, sym, ap, subst, ◌∙◌, arith, slice_index_or, ◌==◌, nat_le, nat_lt, option_map, bytes_eq, list_all, digits_value, nat_tests, is_visible, is_name_byte, Code, differs, is_part_of, all_parts, Word, Test, PathTest, NameTest, KeyTest, Number, Plain, Valued, Listed, Marked, Item, N, W, ◌>>=◌, is_digit, found_or, number_said, and_true, cut_part, same_byte, rules, eq-eqb, lit<, codes, decimal, is_value, is_part, joined_cut, cut_first}
 use Rattle.std.proofs.lemmas.Slice.Eq.{bytes_eq-Decides}
 use Rattle.std.proofs.lemmas.Str.Parse.{IsNumeralModel, numerals_by_value}
 use Rattle.std.proofs.lemmas.Fmt.{decimal-digits_value, digits_decimal, digits_value-decimal, decimal_nonempty, first_decimal, decimal_digit}
-use Rattle.shr_model.specs.Words.{is_value, is_part}
 use Rattle.shr_base.specs.declared.scripts.Code.TheVariants as codes_of
 use Rattle.shr_model.specs.Pieces.{cut, pieces, joined}
 use Rattle.shr_model.specs.Paths.{is_path}
-use Rattle.shr_words.specs.Classes.{passes, test_code, Choice, Policies, Kinds, Starts, Walks, PoolKinds, choice_words, Class, Limit, Chosen, L, is_numeral, number_of, limit_of, place_of, text_of, value_of, listed_of, marked_of, chosen_of, item_of, item_at, taken, ended, items_of, limit_word, word_of, IsOf, words_of, AreOf, as_of, shape, policy_place, policy_at, flag_place}
+use Rattle.shr_words.specs.Classes.{passes, test_code, Choice, Policies, Kinds, Starts, Walks, PoolKinds, choice_words, Class, Limit, Chosen, L, is_numeral, number_spelled, limit_spelled, place_of, text_of, value_of, listed_of, marked_of, chosen_of, item_of, item_at, taken, ended, items_said, limit_word, word_of, IsOfClass, words_of, AreOf, as_of, shape, policy_place, policy_at, flag_place}
 use Rattle.shr_base.specs.declared.objects.Policy.{Policy}
 use Rattle.shr_base.specs.declared.objects.Policy.TheVariants as policies
-use Rattle.shr_model.proofs.PiecesLaws.{joined_cut, cut_first}
 use Rattle.shr_model.proofs.Booleans.{and_right, below_of, le_of, lt_of}
 
 -- ---- tools
@@ -67,8 +63,8 @@ numeral_is w e small =
     sym (decimal-digits_value own w a.0 (omega (arith, one)) first (omega (arith, small)))
 
 -- a word that was read as a number is its decimal spelling, and the number is within its bounds
-pub number_takes : (low high : ℕ) (w : Word) (n : ℕ) → number_of low high w ≡ Ok n → (w ≡ decimal n) × ((low ≤ n) × (n < high) × (n < 1000001))
-unfolding number_of
+pub number_takes : (low high : ℕ) (w : Word) (n : ℕ) → number_spelled low high w ≡ Ok n → (w ≡ decimal n) × ((low ≤ n) × (n < high) × (n < 1000001))
+unfolding number_spelled
 number_takes low high w n e =
     let v = digits_value 10 w in
     let g = guard_ok (is_numeral w && nat_le low v && nat_lt v high && nat_lt v 1000001) codes_of.BadNumber v n e in
@@ -95,8 +91,8 @@ is_numeral-decimal n lt =
     rw (d, l, z) refl
 
 -- the decimal spelling of a number within its bounds is read as that number
-pub number_again : (low high n : ℕ) → low ≤ n → n < high → n < 1000001 → number_of low high (decimal n) ≡ Ok n
-unfolding number_of
+pub number_again : (low high n : ℕ) → low ≤ n → n < high → n < 1000001 → number_spelled low high (decimal n) ≡ Ok n
+unfolding number_spelled
 number_again low high n le lt small =
     rw (is_numeral-decimal n small, digits_value-decimal own n (omega (arith, small)), le_of low n le, lt_is n high lt, lt_is n 1000001 small) refl
 
@@ -130,12 +126,12 @@ place_takes w (v ∷ vs) i e = place_at w v vs i (bytes_eq w v) refl e (place_ta
 
 -- ---- items
 
-limit_takes : (w : Word) (t : Bool) (l : Option ℕ) → bytes_eq w (codes "max") ≡ t → cond t (Ok None) (number_of 0 1000001 w >>= λ n. Ok (Some n)) ≡ Ok l → (w ≡ limit_word l) × IsOf Limit (L l)
-limit_takes w true l is e = subst (λ (k : Option ℕ). (w ≡ limit_word k) × IsOf Limit (L k)) (ok_is None l e) ((bytes_eq-Decides w (codes "max")).0 is, tt)
+limit_takes : (w : Word) (t : Bool) (l : Option ℕ) → bytes_eq w (codes "max") ≡ t → cond t (Ok None) (number_spelled 0 1000001 w >>= λ n. Ok (Some n)) ≡ Ok l → (w ≡ limit_word l) × IsOfClass Limit (L l)
+limit_takes w true l is e = subst (λ (k : Option ℕ). (w ≡ limit_word k) × IsOfClass Limit (L k)) (ok_is None l e) ((bytes_eq-Decides w (codes "max")).0 is, tt)
 limit_takes w false l is e =
-    let a = bind_ok (number_of 0 1000001 w) (λ n. Ok (Some n)) l e in
+    let a = bind_ok (number_spelled 0 1000001 w) (λ n. Ok (Some n)) l e in
     let n = number_takes 0 1000001 w a.0 a.1 in
-    subst (λ (k : Option ℕ). (w ≡ limit_word k) × IsOf Limit (L k)) (ok_is (Some a.0) l a.2) (n.0, n.1.2)
+    subst (λ (k : Option ℕ). (w ≡ limit_word k) × IsOfClass Limit (L k)) (ok_is (Some a.0) l a.2) (n.0, n.1.2)
 
 value_takes : (w v : Word) → value_of w ≡ Ok v → (w ≡ 61 ∷ v) × (is_value v ≡ true)
 unfolding value_of
@@ -159,27 +155,27 @@ unfolding listed_of
 listed_takes t code ws w i e = listed_at t code ws w i (passes t w) refl e
 
 -- a word that was read is the one spelling of its item, which is of the class
-pub item_takes : (c : Class) (w : Word) (x : Item) → item_of c w ≡ Ok x → (w ≡ word_of c x) × IsOf c x
-unfolding limit_of text_of chosen_of
+pub item_takes : (c : Class) (w : Word) (x : Item) → item_of c w ≡ Ok x → (w ≡ word_of c x) × IsOfClass c x
+unfolding limit_spelled text_of chosen_of
 item_takes (Number low high) w x e =
-    let a = bind_ok (number_of low high w) (λ n. Ok (N n)) x e in
+    let a = bind_ok (number_spelled low high w) (λ n. Ok (N n)) x e in
     let t = number_takes low high w a.0 a.1 in
-    subst (λ (y : Item). (w ≡ word_of (Number low high) y) × IsOf (Number low high) y) (ok_is (N a.0) x a.2) t
+    subst (λ (y : Item). (w ≡ word_of (Number low high) y) × IsOfClass (Number low high) y) (ok_is (N a.0) x a.2) t
 item_takes Limit w x e =
-    let a = bind_ok (limit_of w) (λ l. Ok (L l)) x e in
+    let a = bind_ok (limit_spelled w) (λ l. Ok (L l)) x e in
     let t = limit_takes w (bytes_eq w (codes "max")) a.0 refl a.1 in
-    subst (λ (y : Item). (w ≡ word_of Limit y) × IsOf Limit y) (ok_is (L a.0) x a.2) t
+    subst (λ (y : Item). (w ≡ word_of Limit y) × IsOfClass Limit y) (ok_is (L a.0) x a.2) t
 item_takes (Plain t) w x e =
     let a = bind_ok (text_of t w) (λ v. Ok (W v)) x e in
     let g = guard_ok (passes t w) (test_code t) w a.0 a.1 in
-    subst (λ (y : Item). (w ≡ word_of (Plain t) y) × IsOf (Plain t) y) (ap (λ (v : Word). W v) g.1 ∙ ok_is (W a.0) x a.2) (refl, g.0)
+    subst (λ (y : Item). (w ≡ word_of (Plain t) y) × IsOfClass (Plain t) y) (ap (λ (v : Word). W v) g.1 ∙ ok_is (W a.0) x a.2) (refl, g.0)
 item_takes Valued w x e =
     let a = bind_ok (value_of w) (λ v. Ok (W v)) x e in
-    subst (λ (y : Item). (w ≡ word_of Valued y) × IsOf Valued y) (ok_is (W a.0) x a.2) (value_takes w a.0 a.1)
+    subst (λ (y : Item). (w ≡ word_of Valued y) × IsOfClass Valued y) (ok_is (W a.0) x a.2) (value_takes w a.0 a.1)
 item_takes (Listed t code ws) w x e =
     let a = bind_ok (listed_of t code ws w) (λ i. Ok (N i)) x e in
     let l = listed_takes t code ws w a.0 a.1 in
-    subst (λ (y : Item). (w ≡ word_of (Listed t code ws) y) × IsOf (Listed t code ws) y) (ok_is (N a.0) x a.2)
+    subst (λ (y : Item). (w ≡ word_of (Listed t code ws) y) × IsOfClass (Listed t code ws) y) (ok_is (N a.0) x a.2)
     (l.0, subst (λ (v : Word). (passes t v ≡ true) × (place_of v ws ≡ Some a.0)) l.0 l.1)
 item_takes (Marked t code ws marks) w x e =
     let a = bind_ok (marked_of t code ws marks w) (λ i. Ok (N i)) x e in
@@ -187,13 +183,13 @@ item_takes (Marked t code ws marks) w x e =
     let g = guard_ok (slice_index_or marks b.0 false) code b.0 a.0 b.2 in
     let l = listed_takes t code ws w b.0 b.1 in
     let m = subst (λ (v : Word). (passes t v ≡ true) × (place_of v ws ≡ Some b.0)) l.0 l.1 in
-    subst (λ (y : Item). (w ≡ word_of (Marked t code ws marks) y) × IsOf (Marked t code ws marks) y) (ap (λ (i : ℕ). N i) g.1 ∙ ok_is (N a.0) x a.2)
+    subst (λ (y : Item). (w ≡ word_of (Marked t code ws marks) y) × IsOfClass (Marked t code ws marks) y) (ap (λ (i : ℕ). N i) g.1 ∙ ok_is (N a.0) x a.2)
     (l.0, (m.0, m.1, g.0))
 item_takes (Chosen c) w x e =
     let a = bind_ok (chosen_of c w) (λ i. Ok (N i)) x e in
     let p = found_takes codes_of.UnknownWord (place_of w (choice_words c)) a.0 a.1 in
     let q = place_takes w (choice_words c) a.0 p in
-    subst (λ (y : Item). (w ≡ word_of (Chosen c) y) × IsOf (Chosen c) y) (ok_is (N a.0) x a.2)
+    subst (λ (y : Item). (w ≡ word_of (Chosen c) y) × IsOfClass (Chosen c) y) (ok_is (N a.0) x a.2)
     (sym q.0, subst (λ (v : Word). place_of v (choice_words c) ≡ Some a.0) (sym q.0) p)
 
 starts_with_digit : (n : ℕ) (d : ℕ) (ds : List ℕ) → n < 1000001 → decimal n ≡ d ∷ ds → d ≤ 57
@@ -211,8 +207,8 @@ not_max : (n : ℕ) → n < 1000001 → bytes_eq (decimal n) (codes "max") ≡ f
 not_max n lt = not_max_at n lt (bytes_eq (decimal n) (codes "max")) refl
 
 -- the spelling of an item of a class is read as that item
-pub item_again : (c : Class) (x : Item) → IsOf c x → item_of c (word_of c x) ≡ Ok x
-unfolding limit_of text_of chosen_of value_of listed_of
+pub item_again : (c : Class) (x : Item) → IsOfClass c x → item_of c (word_of c x) ≡ Ok x
+unfolding limit_spelled text_of chosen_of value_of listed_of
 item_again (Number low high) (N n) h = rw (number_again low high n h.0 h.1 h.2) refl
 item_again (Number low high) (L l) h = absurd h
 item_again (Number low high) (W w) h = absurd h
@@ -239,24 +235,24 @@ item_again (Chosen c) (W w) h = absurd h
 -- ---- lists of words
 
 -- words that were read are the spellings of their items
-pub items_take : (cs : List Class) (ws : List Word) (xs : List Item) → items_of cs ws ≡ Ok xs → (ws ≡ words_of cs xs) × AreOf cs xs
+pub items_take : (cs : List Class) (ws : List Word) (xs : List Item) → items_said cs ws ≡ Ok xs → (ws ≡ words_of cs xs) × AreOf cs xs
 unfolding item_at taken ended
 items_take [] [] xs e = subst (λ (ys : List Item). ([] ≡ words_of [] ys) × AreOf [] ys) (ok_is [] xs e) (refl, tt)
 items_take [] (w ∷ ws) xs e = absurd cc
 items_take (c ∷ cs) [] xs e = absurd cc
 items_take (c ∷ cs) (w ∷ ws) xs e =
-    let z = bind_ok (item_of c w >>= λ x. Ok (x, ws)) (λ x. items_of cs x.1 >>= λ ys. Ok (x.0 ∷ ys)) xs e in
+    let z = bind_ok (item_of c w >>= λ x. Ok (x, ws)) (λ x. items_said cs x.1 >>= λ ys. Ok (x.0 ∷ ys)) xs e in
     let a = bind_ok (item_of c w) (λ x. Ok (x, ws)) z.0 z.1 in
     let p = ok_is (a.0, ws) z.0 a.2 in
-    let y = subst (λ (q : Item × List Word). (items_of cs q.1 >>= λ ys. Ok (q.0 ∷ ys)) ≡ Ok xs) (sym p) z.2 in
-    let b = bind_ok (items_of cs ws) (λ ys. Ok (a.0 ∷ ys)) xs y in
+    let y = subst (λ (q : Item × List Word). (items_said cs q.1 >>= λ ys. Ok (q.0 ∷ ys)) ≡ Ok xs) (sym p) z.2 in
+    let b = bind_ok (items_said cs ws) (λ ys. Ok (a.0 ∷ ys)) xs y in
     let first = item_takes c w a.0 a.1 in
     let others = items_take cs ws b.0 b.1 in
     subst (λ (ys : List Item). (w ∷ ws ≡ words_of (c ∷ cs) ys) × AreOf (c ∷ cs) ys) (ok_is (a.0 ∷ b.0) xs b.2)
     (rw (← first.0, ← others.0) refl, (first.1, others.1))
 
 -- the spellings of items are read as these items
-pub items_again : (cs : List Class) (xs : List Item) → AreOf cs xs → items_of cs (words_of cs xs) ≡ Ok xs
+pub items_again : (cs : List Class) (xs : List Item) → AreOf cs xs → items_said cs (words_of cs xs) ≡ Ok xs
 unfolding item_at taken ended
 items_again [] [] h = refl
 items_again [] (x ∷ xs) h = absurd h
@@ -265,7 +261,7 @@ items_again (c ∷ cs) (x ∷ xs) h = rw (item_again c x h.0, items_again cs xs 
 
 -- ---- the items of a line by their places
 
-as_of_is : (c : Class) (x : Item) → IsOf c x → as_of c x ≡ x
+as_of_is : (c : Class) (x : Item) → IsOfClass c x → as_of c x ≡ x
 as_of_is (Number low high) (N n) h = refl
 as_of_is (Number low high) (L l) h = absurd h
 as_of_is (Number low high) (W w) h = absurd h
@@ -296,7 +292,7 @@ shape_is (c ∷ cs) [] h = absurd h
 shape_is (c ∷ cs) (x ∷ xs) h = rw (as_of_is c x h.0, shape_is cs xs h.1) refl
 
 -- a choice is one of its words
-pub chosen_below : (c : Choice) (x : Item) → IsOf (Chosen c) x → number_in x < length (choice_words c)
+pub chosen_below : (c : Choice) (x : Item) → IsOfClass (Chosen c) x → number_said x < length (choice_words c)
 chosen_below c (N i) h = (place_takes (get_or (choice_words c) i []) (choice_words c) i h).1
 chosen_below c (L l) h = absurd h
 chosen_below c (W w) h = absurd h
@@ -389,7 +385,7 @@ decimal_clean : (n : ℕ) → n < 1000001 → IsClean (decimal n)
 decimal_clean n lt = weaker is_digit (nat_lt 32) clean_digit (decimal n) (digits_decimal own n (omega (arith, lt)))
 
 -- the spelling of an item has no space and no line feed
-pub word_clean : (c : Class) (x : Item) → IsOf c x → IsClean (word_of c x)
+pub word_clean : (c : Class) (x : Item) → IsOfClass c x → IsClean (word_of c x)
 word_clean (Number low high) (N n) h = decimal_clean n h.2
 word_clean (Number low high) (L l) h = absurd h
 word_clean (Number low high) (W w) h = absurd h

@@ -1,11 +1,9 @@
 -- The digits of a number.
-use Rattle.shr_words.proofs.Common.{◌≡◌, ℕ, zero, suc, ◌+◌, ◌-◌, ◌<◌, ◌≤◌, Bool, true, false, ◌&&◌, cond, List, [], ◌∷◌, length, take, drop, get_or, Ok, refl, arith, nat_lt, take_rest, min, nat_le, ◌==◌, list_all, digits_value, nat_tests, Word, N, Number, is_digit, and_true}
-use Rattle.std.proofs.Common.{◌*◌}
+use Rattle.shr_words.proofs.Common.{◌≡◌, ℕ, zero, suc, ◌+◌, ◌-◌, ◌<◌, ◌≤◌, Bool, true, false, ◌&&◌, cond, List, [], ◌∷◌, length, take, drop, get_or, Ok, refl, arith, nat_lt, take_rest, min, nat_le, ◌==◌, list_all, digits_value, nat_tests, Word, N, Number, is_digit, and_true, ◌*◌, IsDigit}
 use Rattle.std.specs.Char.{digit_value}
 use Rattle.std.proofs.lemmas.Int.Digits.{digits_value_more}
 use Rattle.shr_model.specs.Pieces.{cut, pieces}
-use Rattle.shr_words.specs.Classes.{is_numeral, number_of, taken, item_at}
-use Rattle.shr_words.specs.Runs.{IsDigit}
+use Rattle.shr_words.specs.Classes.{is_numeral, number_spelled, taken, item_at}
 
 within : (b : ℕ) → is_digit b ≡ true → (48 ≤ b) × (b ≤ 57)
 within b e = grind (arith, nat_tests)
@@ -57,8 +55,8 @@ is_digit_of n lt = grind (arith, nat_tests)
 within_of : (low high n : ℕ) → n < 10 → low ≤ n → n < high → (nat_le low n && nat_lt n high && nat_lt n 1000001) ≡ true
 within_of low high n lt from to = grind (arith, nat_tests)
 
-number_at : (low high n : ℕ) → n < 10 → low ≤ n → n < high → number_of low high ((48 + n) ∷ []) ≡ Ok n
-unfolding number_of
+number_at : (low high n : ℕ) → n < 10 → low ≤ n → n < high → number_spelled low high ((48 + n) ∷ []) ≡ Ok n
+unfolding number_spelled
 number_at low high n lt from to =
     rw (digit_value_of n lt, numeral_at (48 + n) _ refl (is_digit_of n lt), within_of low high n lt from to) refl
 

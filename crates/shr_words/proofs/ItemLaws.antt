@@ -1,6 +1,5 @@
 -- An item that a word of a class says, where the class is tested as the word is found.
-use Rattle.shr_words.proofs.Common.{◌≡◌, ℕ, ◌-◌, ◌≤◌, Bool, true, false, cond, ◌&&◌, List, [], ◌∷◌, length, take, drop, get_or, Ok, Err, refl, arith, take_rest, slice_index_or, ◌==◌, Result, list_all, Code, BadText, is_visible, is_name_byte, is_between, same_byte, ◌>>=◌, Word, Item, N, W, Plain, NameTest, KeyTest, Valued, Listed, Marked, Test, found_or, place_of, number_in, taken_of}
-use Rattle.shr_base.specs.declared.scripts.Code.TheVariants.{UnknownCache}
+use Rattle.shr_words.proofs.Common.{◌≡◌, ℕ, ◌-◌, ◌≤◌, Bool, true, false, cond, ◌&&◌, List, [], ◌∷◌, length, take, drop, get_or, Ok, Err, refl, arith, take_rest, slice_index_or, ◌==◌, Result, list_all, Code, BadText, is_visible, is_name_byte, is_between, same_byte, ◌>>=◌, Word, Item, N, W, Plain, NameTest, KeyTest, Valued, Listed, Marked, Test, found_or, place_of, number_said, taken_of, UnknownCache}
 use Rattle.shr_words.specs.Classes.{taken, item_at, passes, text_of, value_of, listed_of}
 
 -- a word of low to high bytes, as an item
@@ -103,7 +102,7 @@ text_value (b ∷ v) ws some e h =
 
 -- an item that is marked, with what is behind it, or the code
 abbrev pub marked_item : Code → List Bool → Item × List Word → Result (Item × List Word) Code
-marked_item code marks x = cond (slice_index_or marks (number_in x.0) false) (Ok x) (Err code)
+marked_item code marks x = cond (slice_index_or marks (number_said x.0) false) (Ok x) (Err code)
 
 mark_at : (code : Code) (i : ℕ) (ws : List Word) (b : Bool)
     → ((cond b (Ok i) (Err code) >>= λ j. Ok (N j)) >>= behind ws) ≡ cond b (Ok (N i, ws)) (Err code)

@@ -1,7 +1,5 @@
 -- A set of words in order is their list.
-use Rattle.shr_words.proofs.Common.{◌≡◌, ℕ, suc, ◌+◌, Bool, true, false, cond, List, [], ◌∷◌, ◌++◌, length, map, Option, Some, None, refl, ap, arith, Bor, bytes_eq, option_map, nat_lt, nat_tests, Word}
-use Rattle.std.specs.List.{position, position_or_len, list_any}
-use Rattle.std.proofs.lemmas.List.{map_push}
+use Rattle.shr_words.proofs.Common.{◌≡◌, ℕ, suc, ◌+◌, Bool, true, false, cond, List, [], ◌∷◌, ◌++◌, length, map, Option, Some, None, refl, ap, arith, Bor, bytes_eq, option_map, nat_lt, nat_tests, Word, position, position_or_len, list_any, map_push}
 use Rattle.shr_words.specs.Classes.{place_of}
 
 one_on : (m n : ℕ) → nat_lt (1 + m) (suc n) ≡ nat_lt m n

@@ -1,10 +1,8 @@
 -- A path of one part is found behind its slash, and items that are paths.
-use Rattle.shr_words.proofs.Common.{◌≡◌, ℕ, suc, ◌+◌, ◌-◌, ◌≤◌, Bool, true, false, ◌||◌, List, [], ◌∷◌, length, take, drop, get_or, Result, Ok, refl, sym, ap, ◌∙◌, subst, arith, bytes_eq, prefix_len, list_all, nat_tests, take_rest, Code, is_name_byte, is_between, differs, is_part_of, and_true, cut_part, ◌>>=◌, Word, Item, W, Plain, PathTest, Listed, found_or, place_of, cut_at}
-use Rattle.shr_base.specs.declared.scripts.Code.TheVariants.{UnknownGroup}
+use Rattle.shr_words.proofs.Common.{◌≡◌, ℕ, suc, ◌+◌, ◌-◌, ◌≤◌, Bool, true, false, ◌||◌, List, [], ◌∷◌, length, take, drop, get_or, Result, Ok, refl, sym, ap, ◌∙◌, subst, arith, bytes_eq, prefix_len, list_all, nat_tests, take_rest, Code, is_name_byte, is_between, differs, is_part_of, and_true, cut_part, ◌>>=◌, Word, Item, W, Plain, PathTest, Listed, found_or, place_of, cut_at, UnknownGroup, path_taken, IsPathTaken}
 use Rattle.shr_model.specs.Paths.{is_path}
 use Rattle.shr_model.specs.Pieces.{cut, pieces}
 use Rattle.shr_words.specs.Classes.{taken, item_at, passes, text_of, listed_of}
-use Rattle.shr_words.specs.Runs.{path_taken, IsPathTaken}
 use Rattle.shr_words.proofs.ItemLaws.{numbered, joined_on}
 use Rattle.shr_words.proofs.TakenLaws.{Found, longer, longer_at, first_of, cut_first}
 

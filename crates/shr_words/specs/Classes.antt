@@ -87,19 +87,19 @@ pub data Item : Type 0 where
   W : Word → Item
 
 -- what an item is, where it is a number, a word or a limit
-abbrev pub number_in : Item → ℕ
-number_in (N n) = n
-number_in x = 0
+abbrev pub number_said : Item → ℕ
+number_said (N n) = n
+number_said x = 0
 
 -- the same for a word, and empty where it is none
-abbrev pub word_in : Item → Word
-word_in (W w) = w
-word_in x = []
+abbrev pub word_said : Item → Word
+word_said (W w) = w
+word_said x = []
 
 -- the same for a limit, and None where it is none
-abbrev pub limit_in : Item → Option ℕ
-limit_in (L l) = l
-limit_in x = None
+abbrev pub limit_said : Item → Option ℕ
+limit_said (L l) = l
+limit_said x = None
 
 -- the items of a line by their places
 abbrev pub first : List Item → Item
@@ -152,13 +152,13 @@ unfoldable pub is_numeral : Word → Bool
 is_numeral w = list_all is_digit w && nat_le 1 (length w) && (if get_or w 0 0 == 48 then length w == 1 else true)
 
 -- the number that a word spells, at least low and below high, or BadNumber
-unfoldable pub number_of : ℕ → ℕ → Word → Result ℕ Code
-number_of low high w =
+unfoldable pub number_spelled : ℕ → ℕ → Word → Result ℕ Code
+number_spelled low high w =
     if is_numeral w && nat_le low (digits_value 10 w) && nat_lt (digits_value 10 w) high && nat_lt (digits_value 10 w) 1000001 then Ok (digits_value 10 w) else Err codes_of.BadNumber
 
 -- the limit that a word spells: None for max, or a number up to a million
-unfoldable pub limit_of : Word → Result (Option ℕ) Code
-limit_of w = if bytes_eq w (codes "max") then Ok None else (number_of 0 1000001 w >>= λ n. Ok (Some n))
+unfoldable pub limit_spelled : Word → Result (Option ℕ) Code
+limit_spelled w = if bytes_eq w (codes "max") then Ok None else (number_spelled 0 1000001 w >>= λ n. Ok (Some n))
 
 -- the place of a word in a list
 unfoldable pub place_of : Word → List Word → Option ℕ
@@ -194,8 +194,8 @@ chosen_of c w = found_or codes_of.UnknownWord (place_of w (choice_words c))
 
 -- the item that a word says by its class, or the code of its first fault
 abbrev pub item_of : Class → Word → Result Item Code
-item_of (Number low high) w = number_of low high w >>= λ n. Ok (N n)
-item_of Limit w = limit_of w >>= λ l. Ok (L l)
+item_of (Number low high) w = number_spelled low high w >>= λ n. Ok (N n)
+item_of Limit w = limit_spelled w >>= λ l. Ok (L l)
 item_of (Plain t) w = text_of t w >>= λ v. Ok (W v)
 item_of Valued w = value_of w >>= λ v. Ok (W v)
 item_of (Listed t code ws) w = listed_of t code ws w >>= λ i. Ok (N i)
@@ -218,9 +218,9 @@ unfoldable pub item_at : Class → List Word → Result (Item × List Word) Code
 item_at c ws = taken ws >>= λ w. item_of c w.0 >>= λ x. Ok (x, w.1)
 
 -- the items that the words of a line say by these classes, or the code of the first fault
-abbrev pub items_of : List Class → List Word → Result (List Item) Code
-items_of [] ws = ended ws >>= λ _. Ok []
-items_of (c ∷ cs) ws = item_at c ws >>= λ x. items_of cs x.1 >>= λ xs. Ok (x.0 ∷ xs)
+abbrev pub items_said : List Class → List Word → Result (List Item) Code
+items_said [] ws = ended ws >>= λ _. Ok []
+items_said (c ∷ cs) ws = item_at c ws >>= λ x. items_said cs x.1 >>= λ xs. Ok (x.0 ∷ xs)
 
 -- ---- the other way: what is written
 
@@ -240,16 +240,16 @@ word_of c (L l) = limit_word l
 word_of c (W w) = w
 
 -- the item is of the class
-abbrev pub IsOf : Class → Item → Type 0
-IsOf (Number low high) (N n) = (low ≤ n) × (n < high) × (n < 1000001)
-IsOf Limit (L None) = Unit {0}
-IsOf Limit (L (Some n)) = n < 1000001
-IsOf (Plain t) (W w) = passes t w ≡ true
-IsOf Valued (W v) = is_value v ≡ true
-IsOf (Listed t code ws) (N i) = (passes t (get_or ws i []) ≡ true) × (place_of (get_or ws i []) ws ≡ Some i)
-IsOf (Marked t code ws marks) (N i) = (passes t (get_or ws i []) ≡ true) × (place_of (get_or ws i []) ws ≡ Some i) × (slice_index_or marks i false ≡ true)
-IsOf (Chosen c) (N i) = place_of (get_or (choice_words c) i []) (choice_words c) ≡ Some i
-IsOf c x = ⊥
+abbrev pub IsOfClass : Class → Item → Type 0
+IsOfClass (Number low high) (N n) = (low ≤ n) × (n < high) × (n < 1000001)
+IsOfClass Limit (L None) = Unit {0}
+IsOfClass Limit (L (Some n)) = n < 1000001
+IsOfClass (Plain t) (W w) = passes t w ≡ true
+IsOfClass Valued (W v) = is_value v ≡ true
+IsOfClass (Listed t code ws) (N i) = (passes t (get_or ws i []) ≡ true) × (place_of (get_or ws i []) ws ≡ Some i)
+IsOfClass (Marked t code ws marks) (N i) = (passes t (get_or ws i []) ≡ true) × (place_of (get_or ws i []) ws ≡ Some i) × (slice_index_or marks i false ≡ true)
+IsOfClass (Chosen c) (N i) = place_of (get_or (choice_words c) i []) (choice_words c) ≡ Some i
+IsOfClass c x = ⊥
 
 -- the words of a line that spell these items by these classes
 abbrev pub words_of : List Class → List Item → List Word
@@ -259,18 +259,18 @@ words_of cs xs = []
 -- the items are of these classes, one for each class
 abbrev pub AreOf : List Class → List Item → Type 0
 AreOf [] [] = Unit {0}
-AreOf (c ∷ cs) (x ∷ xs) = IsOf c x × AreOf cs xs
+AreOf (c ∷ cs) (x ∷ xs) = IsOfClass c x × AreOf cs xs
 AreOf cs xs = ⊥
 
 -- an item as it must be to be of a class
 abbrev pub as_of : Class → Item → Item
-as_of (Number low high) x = N (number_in x)
-as_of Limit x = L (limit_in x)
-as_of (Plain t) x = W (word_in x)
-as_of Valued x = W (word_in x)
-as_of (Listed t code ws) x = N (number_in x)
-as_of (Marked t code ws marks) x = N (number_in x)
-as_of (Chosen c) x = N (number_in x)
+as_of (Number low high) x = N (number_said x)
+as_of Limit x = L (limit_said x)
+as_of (Plain t) x = W (word_said x)
+as_of Valued x = W (word_said x)
+as_of (Listed t code ws) x = N (number_said x)
+as_of (Marked t code ws marks) x = N (number_said x)
+as_of (Chosen c) x = N (number_said x)
 
 -- a line's items as they must be to be of these classes; one that is absent is taken as 0
 abbrev pub shape : List Class → List Item → List Item

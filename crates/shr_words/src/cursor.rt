@@ -2,7 +2,7 @@
 
 ghost use Rattle.std.specs.Prelude.{◌≡◌, ◌≤◌, length, option_map};
 ghost use Rattle.std.specs.List.{prefix_len};
-ghost use Rattle.shr_model.specs.Pieces.{differs, left, next_of};
+ghost use Rattle.shr_model.specs.Pieces.{differs, left, next_part};
 
 fn part_len(bytes: &[u8], separator: u8) -> usize
     ensures front { result ≡ prefix_len (differs separator) bytes.now }
@@ -16,7 +16,7 @@ fn part_len(bytes: &[u8], separator: u8) -> usize
 #[inline]
 pub fn next(rest: Option<&[u8]>, separator: u8) -> Option<(&[u8], Option<&[u8]>)>
     ensures { option_map (λ x. (x.0.now, left separator (option_map (λ r. r.now) x.1))) result
-        ≡ next_of (left separator (option_map (λ r. r.now) rest.entry)) }
+        ≡ next_part (left separator (option_map (λ r. r.now) rest.entry)) }
 {
     let Some(bytes) = rest else {
         return None;

@@ -3,7 +3,7 @@
 ghost use Rattle.std.specs.Prelude.{◌≡◌, true, false, ◌+◌, ◌≤◌, ◌<◌, length, slice_index_or, min, IfOk, IfSome};
 ghost use Rattle.std.specs.List.{list_all};
 ghost use Rattle.std.specs.Str.Parse.{digits_value};
-ghost use Rattle.shr_words.specs.Classes.{Gives, taken, ended, words_left, item_at, N, L, W, Number, Limit, is_digit, is_numeral, number_of, Plain, PathTest, NameTest, KeyTest, Valued, Chosen, Policies, Kinds, Starts, Walks, PoolKinds, policy_place, flag_place, Listed, Marked};
+ghost use Rattle.shr_words.specs.Classes.{Gives, taken, ended, words_left, item_at, N, L, W, Number, Limit, is_digit, is_numeral, number_spelled, Plain, PathTest, NameTest, KeyTest, Valued, Chosen, Policies, Kinds, Starts, Walks, PoolKinds, policy_place, flag_place, Listed, Marked};
 ghost use Rattle.shr_words.specs.Runs.{taken_of, path_taken, cut_at, IsDigit, IsPathTaken};
 ghost use Rattle.shr_model.specs.Pieces.{pieces};
 ghost use Rattle.shr_model.specs.Words.{is_visible, is_name_byte};
@@ -138,9 +138,9 @@ fn value(word: &[u8]) -> u32
     n
 }
 
-#[tactic(auto, unfolding(crate::specs::Classes::number_of), using(crate::proofs::DigitLaws::numeral_digits))]
+#[tactic(auto, unfolding(crate::specs::Classes::number_spelled), using(crate::proofs::DigitLaws::numeral_digits))]
 fn number_in(word: &[u8], low: u32, high: u32) -> Result<u32, Code>
-    ensures reads { Gives (λ n. n) result (number_of low high word.now) }
+    ensures reads { Gives (λ n. n) result (number_spelled low high word.now) }
     ensures within { IfOk result (λ n. n < high) }
 {
     if is_numeral(word) {
@@ -185,7 +185,7 @@ pub fn number(rest: Option<&[u8]>, low: u32, high: u32) -> Result<(u32, Option<&
 }
 
 /// `max`, or a number to a million.
-#[tactic(auto, unfolding(crate::specs::Classes::item_at, crate::specs::Classes::limit_of))]
+#[tactic(auto, unfolding(crate::specs::Classes::item_at, crate::specs::Classes::limit_spelled))]
 pub fn limit(rest: Option<&[u8]>) -> Result<(Option<u32>, Option<&[u8]>), Code>
     ensures { Gives (λ x. (L x.0, words_left x.1)) result (item_at Limit (words_left rest.entry)) }
 {

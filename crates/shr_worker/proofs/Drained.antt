@@ -1,15 +1,10 @@
 -- The objects that an unregistering drained: their births, and how many they are at most.
-use Rattle.std.proofs.Common.{◌≡◌, ℕ, zero, suc, ◌*◌, ◌<◌, ◌≤◌, List, [], ◌∷◌, length, length-append, get_or, refl, sym, subst, arith}
-use Rattle.std.specs.Prelude.{AllPairs}
+use Rattle.shr_worker.proofs.Common.{◌≡◌, ℕ, zero, suc, ◌<◌, ◌≤◌, List, [], ◌∷◌, length, length-append, refl, sym, subst, arith, Object, View, Shape, groups_in, ◌*◌, get_or, AllPairs}
 use mathlib.Core.Option.{some, some-injective, some-ne-none}
 use lib.ListN.{get_elem?}
-use Rattle.shr_base.specs.declared.objects.Object.{Object}
 use Rattle.shr_seats.specs.Views.{Each}
 use Rattle.shr_seats.proofs.Weighing.{Each-append, Each-none}
-use Rattle.shr_core.specs.declared.view.View.{View}
-use Rattle.shr_seats.specs.declared.shape.Shape.{Shape}
 use Rattle.shr_core.specs.Rule.{AreBorn}
-use Rattle.shr_seats.specs.Shapes.{groups_in}
 use Rattle.shr_node.specs.Draining.{Draw, drawn}
 use Rattle.shr_registry.specs.Ending.{drawn_from, AreNodeDraws}
 

@@ -1,17 +1,10 @@
 -- What an unregistering drained, and what was uncharged where it drained nothing.
-use Rattle.std.proofs.Common.{◌≡◌, ℕ, ◌≤◌, List, [], refl, sym, subst, arith}
-use Rattle.std.specs.Prelude.{None}
+use Rattle.shr_worker.proofs.Common.{◌≡◌, ℕ, ◌≤◌, List, [], refl, sym, subst, arith, None, Object, Serial, View, Shape, groups_in, WorkerState}
 use Rattle.std.proofs.lemmas.List.{append-nil}
 use Rattle.std.proofs.lemmas.List.Elements.{All-nil}
-use Rattle.shr_base.specs.declared.objects.Object.{Object}
-use Rattle.shr_base.specs.declared.places.Serial.{Serial}
 use Rattle.shr_base.specs.declared.replies.HalfWhy.{HalfWhy}
-use Rattle.shr_core.specs.declared.view.View.{View}
-use Rattle.shr_seats.specs.declared.shape.Shape.{Shape}
-use Rattle.shr_seats.specs.Shapes.{groups_in}
 use Rattle.shr_charge.specs.Charging.{IsDown}
 use Rattle.shr_charge.specs.Seat.{spent_by}
-use Rattle.shr_walk.specs.State.{WorkerState}
 use Rattle.shr_walk.proofs.Doing.{called_none}
 use Rattle.shr_walk.proofs.Scanned.{not_spent}
 use Rattle.shr_registry.specs.Ending.{Frees, Halves}

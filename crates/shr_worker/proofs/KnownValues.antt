@@ -1,13 +1,6 @@
 -- Known values of how answers are told, and of when the pools are walked.
-use Rattle.std.specs.Prelude.{not, ◌&&◌, ◌==◌}
-use Rattle.std.proofs.Common.{◌≡◌, [], ◌∷◌, List, None, true, false, length, length-append, refl, sym, ap, subst, arith}
-use Rattle.shr_base.specs.declared.objects.Object.{Object}
-use Rattle.shr_base.specs.declared.places.Place.{Place}
-use Rattle.shr_base.specs.declared.places.Serial.{Serial}
-use Rattle.shr_base.specs.declared.replies.Answered.{Answered}
-use Rattle.shr_base.specs.declared.scripts.Command.TheVariants.{Shrink, Balance, Isolate, Release}
+use Rattle.shr_worker.proofs.Common.{◌≡◌, [], ◌∷◌, List, None, true, false, length, length-append, refl, sym, ap, subst, arith, Object, Place, Serial, Answered, Isolate, Release, Script, PlainState, listed_commands, Isolation, Shared, WorkerState, WalksIf, unfound, release_reply, grab_reply, not, ◌&&◌, ◌==◌, Shrink, Balance, PlainGives, WalksPools, is_due, is_walked, walk_reply, offline_reply, make_reply, register_reply, unregister_reply, objects_drained}
 use Rattle.shr_base.specs.declared.scripts.PoolDecl.{PoolDecl}
-use Rattle.shr_base.specs.declared.scripts.Script.{Script}
 use Rattle.shr_base.specs.declared.replies.HalfWhy.TheVariants as why
 use Rattle.shr_base.specs.declared.replies.Reply.TheVariants as reply
 use Rattle.shr_base.specs.declared.walks.WalkAnswer.TheVariants as walk
@@ -15,16 +8,9 @@ use Rattle.shr_charge.specs.declared.answers.MakeAnswer.TheVariants as make
 use Rattle.shr_offline.specs.declared.answers.OfflineAnswer.TheVariants as offline
 use Rattle.shr_plain.specs.declared.answers.GrabAnswer.TheVariants as grab
 use Rattle.shr_plain.specs.declared.answers.ReleaseAnswer.TheVariants as release
-use Rattle.shr_plain.specs.Seat.{PlainState}
 use Rattle.shr_registry.specs.declared.answers.RegisterAnswer.TheVariants as register
 use Rattle.shr_registry.specs.declared.answers.UnregisterAnswer.TheVariants as unregister
-use Rattle.shr_worker.specs.Chain.{commands_in}
-use Rattle.shr_base.specs.declared.walks.Isolation.{Isolation}
-use Rattle.shr_walk.specs.declared.seats.Shared.{Shared}
-use Rattle.shr_walk.specs.State.{WorkerState}
 use Rattle.shr_worker.specs.Isolating.{RecordGives}
-use Rattle.shr_worker.specs.Plain.{PlainGives, WalksIf, WalksPools, is_due, is_walked}
-use Rattle.shr_worker.specs.Replies.{unfound, walk_reply, offline_reply, make_reply, register_reply, unregister_reply, objects_of, release_reply, grab_reply}
 
 walk_without_memory : walk_reply (walk.Memory 3) ≡ reply.WalkMemory 3
 walk_without_memory = refl
@@ -55,11 +41,11 @@ registered = refl
 two_drained : (a b : Object) → unregister_reply (unregister.Half 1 2 3 4 (record { items = a ∷ b ∷ []; spare = 0 }) why.Memory) ≡ reply.Half 1 2 3 4 2 why.Memory
 two_drained a b = refl
 
-none_drained : objects_of (unregister.NoCache 6) ≡ []
+none_drained : objects_drained (unregister.NoCache 6) ≡ []
 none_drained = refl
 
 -- a worker past the last one has no commands
-no_worker : commands_in None ≡ []
+no_worker : listed_commands None ≡ []
 no_worker = refl
 
 -- a pool's units at node 0

@@ -1,3 +1,4 @@
+mod Common
 pub mod Within
 pub mod Pooled
 pub mod Drained

@@ -1,16 +1,8 @@
 -- The tables of pools that were made for a script.
-use Rattle.std.proofs.Common.{ℕ, ◌<◌, ◌≤◌, Bool, true, false, List, length, ap, subst, ◌∙◌, arith}
+use Rattle.shr_worker.proofs.Common.{ℕ, ◌<◌, ◌≤◌, Bool, true, false, List, length, ap, subst, ◌∙◌, arith, Isolate, Release, Script, Setting, settings_of, pool_sizes, IsCommandWithin, Sizes, Grab, ArePoolsOf, setting_by, IsPoolOf, IfServed, IsIsolationWithin, IsPoolCommandWithin, Content}
 use Rattle.std.proofs.lemmas.List.{length-map}
-use Rattle.shr_base.specs.declared.scripts.Command.TheVariants.{Isolate, Release, Grab}
-use Rattle.shr_base.specs.declared.scripts.Script.{Script}
-use Rattle.shr_plain.specs.declared.settings.Setting.{Setting}
 use Rattle.shr_plain.specs.declared.table.Pools.{Pools}
-use Rattle.shr_plain.specs.Opening.{ArePoolsOf, setting_by, settings_of, pool_sizes}
-use Rattle.shr_plain.specs.Settings.{IsPoolOf}
-use Rattle.shr_script.specs.Bounds.{IfServed, IsCommandWithin, IsIsolationWithin, IsPoolCommandWithin}
-use Rattle.shr_script.specs.Content.{Content}
 use Rattle.shr_script.specs.Lines.{serves_pools, serves_isolation}
-use Rattle.shr_seats.specs.declared.rows.Sizes.{Sizes}
 
 module _ (s : Script) (p : Pools) (are : ArePoolsOf s p) where
   -- what is so of the tables' settings and sizes is so of the script's

@@ -1,12 +1,10 @@
 -- A worker is at rest after a call on registrations: its seat holds nothing, and owes nothing that it didn't owe before.
-use Rattle.std.proofs.Common.{◌≡◌, ℕ, List}
+use Rattle.shr_worker.proofs.Common.{◌≡◌, ℕ, List, View, view_of, Shared, IsFit}
 use Rattle.shr_base.specs.declared.journals.PoolEntry.{PoolEntry}
 use Rattle.shr_core.specs.declared.seat.Seat.{Seat}
 use Rattle.shr_core.specs.declared.setting.Setting.{Setting}
-use Rattle.shr_core.specs.declared.view.View.{View}
 use Rattle.shr_core.specs.Gained.{OwesNoMore}
 use Rattle.shr_core.specs.Parts.{no_rooms}
-use Rattle.shr_core.specs.Seats.{view_of}
 use Rattle.shr_core.specs.Seats as core
 use Rattle.shr_core.proofs.Owing.{still_none}
 use Rattle.shr_registry.specs.Adding.{IsFree}
@@ -14,8 +12,6 @@ use Rattle.shr_registry.specs.Answers.{RegisterGives}
 use Rattle.shr_registry.specs.declared.answers.RegisterAnswer.{RegisterAnswer}
 use Rattle.shr_registry.specs.declared.answers.RegisterAnswer.TheVariants as register
 use Rattle.shr_walk.specs.declared.seats.Seats.{Seats}
-use Rattle.shr_walk.specs.declared.seats.Shared.{Shared}
-use Rattle.shr_walk.specs.Acting.{IsFit}
 
 -- the seats with another seat of the core
 abbrev pub with_core : Seats → Seat → Seats

@@ -1,16 +1,10 @@
 -- What a command of a valid script names is there.
-use Rattle.std.proofs.Common.{◌≡◌, ℕ, zero, suc, ◌≤◌, List, [], ◌∷◌, length, map, sym, ap, subst, ◌∙◌, arith, Option, Some}
-use Rattle.std.specs.Prelude.{slice_get, sum_by}
+use Rattle.shr_worker.proofs.Common.{◌≡◌, ℕ, zero, suc, ◌≤◌, List, [], ◌∷◌, length, sym, ap, subst, ◌∙◌, arith, Some, slice_get, Command, IsCommandWithin, content_of, listed_commands, worker_commands, Shared, map, Option, sum_by}
 use Rattle.std.specs.List.{AllByRecursion}
 use Rattle.std.proofs.lemmas.List.Sums.{sum_by-cons}
-use Rattle.shr_base.specs.declared.scripts.Command.{Command}
 use Rattle.shr_base.specs.declared.scripts.WorkerScript.{WorkerScript}
-use Rattle.shr_script.specs.Bounds.{IsCommandWithin}
-use Rattle.shr_script.specs.Content.{content_of}
 use Rattle.shr_script.proofs.BoundsLaws.{within_of_valid}
-use Rattle.shr_worker.specs.Chain.{commands_in, commands_of}
 use Rattle.shr_walk.specs.Sharing.{IsShared}
-use Rattle.shr_walk.specs.declared.seats.Shared.{Shared}
 
 -- one of many
 one_of : {A : Type 0} (P : A → Type 0) (xs : List A) (n : ℕ) (y : A) → AllByRecursion P xs → slice_get xs n ≡ Some y → P y
@@ -32,8 +26,8 @@ part_le (x ∷ xs) (suc n) l at = let rest = part_le xs n l at in let all = sum_
 
 module _ (x : Shared) (h : IsShared x) (n : ℕ) (w : WorkerScript) (there : Some w ≡ slice_get x.script.workers.items n) where
   -- the commands are those of the worker of this number
-  pub command_of : (k : ℕ) (c : Command) → slice_get w.commands.items k ≡ Some c → slice_get (commands_of x.script n) k ≡ Some c
-  command_of k c at = ap (λ (o : Option WorkerScript). slice_get (commands_in o) k) (sym there) ∙ at
+  pub command_of : (k : ℕ) (c : Command) → slice_get w.commands.items k ≡ Some c → slice_get (worker_commands x.script n) k ≡ Some c
+  command_of k c at = ap (λ (o : Option WorkerScript). slice_get (listed_commands o) k) (sym there) ∙ at
 
   -- each command of a worker names what is there
   pub command_within : (k : ℕ) (c : Command) → slice_get w.commands.items k ≡ Some c → IsCommandWithin (content_of x.script) c

@@ -18,17 +18,17 @@ use Rattle.shr_worker.specs.Plain.{PlainGives}
 use Rattle.shr_worker.specs.Isolating.{RecordGives}
 
 -- the commands of a worker, none past the last worker
-abbrev pub commands_in : Option WorkerScript → List Command
-commands_in None = []
-commands_in (Some w) = w.commands.items
+abbrev pub listed_commands : Option WorkerScript → List Command
+listed_commands None = []
+listed_commands (Some w) = w.commands.items
 
 -- those of the worker with this number
-abbrev pub commands_of : Script → ℕ → List Command
-commands_of s worker = commands_in (slice_get s.workers.items worker)
+abbrev pub worker_commands : Script → ℕ → List Command
+worker_commands s worker = listed_commands (slice_get s.workers.items worker)
 
 -- a command by the numbers of its worker and its own
-abbrev pub serial_of : ℕ → ℕ → Serial
-serial_of worker command = record { worker = worker; command = command }
+abbrev pub command_serial : ℕ → ℕ → Serial
+command_serial worker command = record { worker = worker; command = command }
 
 -- all that a worker's seats did and saw, those at the tables of the caches and its seat at the pools,
 -- and the isolations that it recorded
@@ -39,11 +39,11 @@ pub record CrewState : Type 0 where
 
 -- the state of a worker by its seats and its isolations
 abbrev pub crew_of : Seats → PlainSeat → List Isolation → CrewState
-crew_of s p is = record { seats = state_of s; plain = plain.state_of p; isolations = is }
+crew_of s p is = record { seats = state_of s; plain = plain.plain_state_of p; isolations = is }
 
 -- the same of a worker that is one value
 abbrev pub crew_at : Acting → PlainSeat → List Isolation → CrewState
-crew_at w p is = record { seats = w.state; plain = plain.state_of p; isolations = is }
+crew_at w p is = record { seats = w.state; plain = plain.plain_state_of p; isolations = is }
 
 -- what a command did between two states of its worker, by its answer: at the tables of the caches,
 -- at the pools, and what it recorded of an isolation; behind it the worker holds no id
@@ -63,6 +63,6 @@ pub record IsWorkOf (x : Shared) (number : ℕ) (answers : List Answered) (first
   pub ends : slice_get states (length answers) ≡ Some last
   pub one_more : length states ≡ suc (length answers)
   pub each : (k : ℕ) (c : Command) (a : Answered) (t u : CrewState)
-      → slice_get (commands_of x.script number) k ≡ Some c → slice_get answers k ≡ Some a
+      → slice_get (worker_commands x.script number) k ≡ Some c → slice_get answers k ≡ Some a
       → slice_get states k ≡ Some t → slice_get states (suc k) ≡ Some u
-      → DeedGives x (serial_of number k) c a t u
+      → DeedGives x (command_serial number k) c a t u

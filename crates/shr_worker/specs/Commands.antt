@@ -8,11 +8,11 @@ use Rattle.shr_base.specs.declared.scripts.Command.{Command}
 use Rattle.shr_base.specs.declared.scripts.Command.TheVariants.{Put, Get, Del, SetPin, Shrink, Balance, Offline, MkGroup, Register, Unregister, Isolate, Release, Grab}
 use Rattle.shr_base.specs.declared.walks.WalkAnswer.{WalkAnswer}
 use Rattle.shr_charge.specs.declared.answers.MakeAnswer.{MakeAnswer}
-use Rattle.shr_charge.specs.Answers.{MakeTells, MakeLeaves, Knows}
+use Rattle.shr_charge.specs.Answers.{MakeTells, MakeLeaves, KnowsTree}
 use Rattle.shr_cache.specs.Dels.{DelGives}
 use Rattle.shr_cache.specs.Gets.{GetGives}
-use Rattle.shr_opening.specs.Opening.{IsSpent, MayCharge}
-use Rattle.shr_cache.specs.Pins.{PinGives}
+use Rattle.shr_opening.specs.Opening.{IsWorkerSpent, MayCharge}
+use Rattle.shr_cache.specs.Pins.{SetPinGives}
 use Rattle.shr_cache.specs.Puts.{PutGives}
 use Rattle.shr_core.specs.Seats.{shape_of}
 use Rattle.shr_seats.specs.Shapes.{hierarchy_of}
@@ -25,9 +25,9 @@ use Rattle.shr_registry.specs.Ending.{UnregisterGives}
 use Rattle.shr_walk.specs.declared.seats.Shared.{Shared}
 use Rattle.shr_walk.specs.declared.walking.Walk.{Walk}
 use Rattle.shr_walk.specs.Balances.{OneGives, BalanceGives}
-use Rattle.shr_walk.specs.Keeping.{parents_of}
+use Rattle.shr_walk.specs.Keeping.{shared_parents}
 use Rattle.shr_walk.specs.State.{WorkerState}
-use Rattle.shr_worker.specs.Replies.{unfound, walk_reply, offline_reply, make_reply, register_reply, unregister_reply, objects_of}
+use Rattle.shr_worker.specs.Replies.{unfound, walk_reply, offline_reply, make_reply, register_reply, unregister_reply, objects_drained}
 use Rattle.shr_worker.specs.Uncharging.{UnchargesEach}
 
 -- the walk of a command, which gets the next number among the worker's walks
@@ -63,16 +63,16 @@ pub record Offlines (x : Shared) (by : Serial) (group : ℕ) (a : Answered) (s t
   pub offlined : OfflineGives x by group answer s t
 
 -- the later group was made, or it was told why not, and nothing but what is known of the tree changed
-pub record Makes (x : Shared) (group : ℕ) (a : Answered) (s t : WorkerState) : Type 0 where
+pub record MakesGroup (x : Shared) (group : ℕ) (a : Answered) (s t : WorkerState) : Type 0 where
   pub answer : MakeAnswer
   pub told : a ≡ unfound (make_reply answer)
   pub tells : MakeTells (hierarchy_of (shape_of x.core)) group answer s.tree t.tree.known
   pub leaves : MakeLeaves group answer s.tree t.tree
-  pub knows : Knows (hierarchy_of (shape_of x.core)) s.tree t.tree
+  pub knows : KnowsTree (hierarchy_of (shape_of x.core)) s.tree t.tree
   pub rest : t ≡ record s { tree = t.tree }
 
 -- the cache was registered, or it was told why not, and nothing but the core's part changed
-pub record Registers (x : Shared) (decl : ℕ) (a : Answered) (s t : WorkerState) : Type 0 where
+pub record RegistersCache (x : Shared) (decl : ℕ) (a : Answered) (s t : WorkerState) : Type 0 where
   pub answer : RegisterAnswer
   pub told : a ≡ unfound (register_reply answer)
   pub registered : RegisterGives x.core.setting s.core decl t.core.turns.known 1 answer t.core
@@ -82,7 +82,7 @@ pub record Registers (x : Shared) (decl : ℕ) (a : Answered) (s t : WorkerState
 pub record UnregistersNone (a : Answered) (s t : WorkerState) : Type 0 where
   pub spent : Spent
   pub told : a ≡ unfound (reply.Worn spent)
-  pub used_up : IsSpent spent s t
+  pub used_up : IsWorkerSpent spent s t
 
 -- the cache was unregistered, or it was told why not; each object that was drained was uncharged
 pub record Unregisters (x : Shared) (by : Serial) (decl : ℕ) (a : Answered) (s t : WorkerState)
@@ -91,7 +91,7 @@ pub record Unregisters (x : Shared) (by : Serial) (decl : ℕ) (a : Answered) (s
   pub answer : UnregisterAnswer
   pub told : a ≡ unfound (unregister_reply answer)
   pub ended : UnregisterGives (shape_of x.core) s.core decl by answer t.core
-  pub uncharged : UnchargesEach (parents_of x) by (objects_of answer) s t
+  pub uncharged : UnchargesEach (shared_parents x) by (objects_drained answer) s t
 
 -- there was no memory for a copy of the key and the value, and nothing was done
 pub record PutsNone (a : Answered) (s t : WorkerState) : Type 0 where
@@ -106,13 +106,13 @@ CommandGives x by (Put group node decl key value) a s t =
 CommandGives x by (Get group node decl key) a s t = GetGives x by group node decl key a s t
 CommandGives x by (Del group node decl key) a s t = DelGives x by group node decl key a s t
 CommandGives x by (SetPin group node decl key pinned) a s t =
-    PinGives x by group node decl key pinned a s t
+    SetPinGives x by group node decl key pinned a s t
 CommandGives x by (Shrink group node priority nofs) a s t =
     Shrinks x by group node priority nofs a s t
 CommandGives x by (Balance node priority nofs) a s t = Balances x by node priority nofs a s t
 CommandGives x by (Offline group) a s t = Offlines x by group a s t
-CommandGives x by (MkGroup group) a s t = Makes x group a s t
-CommandGives x by (Register decl) a s t = Registers x decl a s t
+CommandGives x by (MkGroup group) a s t = MakesGroup x group a s t
+CommandGives x by (Register decl) a s t = RegistersCache x decl a s t
 CommandGives x by (Unregister decl) a s t = UnregistersNone a s t ⊎ Unregisters x by decl a s t
 -- what an isolation did is told with the isolations that its worker recorded
 CommandGives x by (Isolate group node decl budget) a s t = Unit {0}

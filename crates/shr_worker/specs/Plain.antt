@@ -14,8 +14,8 @@ use Rattle.shr_plain.specs.declared.answers.ReleaseAnswer.{ReleaseAnswer}
 use Rattle.shr_plain.specs.Answers.{ReleaseGives, GrabGives}
 use Rattle.shr_plain.specs.Opening.{settings_of, pool_sizes}
 use Rattle.shr_plain.specs.Seat.{PlainState}
-use Rattle.shr_plain.specs.Settings.{place_of, room_of}
-use Rattle.shr_plain.specs.Walks.{WalkGives}
+use Rattle.shr_plain.specs.Settings.{home_place, room_of}
+use Rattle.shr_plain.specs.Walks.{PlainWalkGives}
 use Rattle.shr_worker.specs.Replies.{unfound, release_reply, grab_reply}
 
 -- the script has a pool
@@ -23,8 +23,8 @@ abbrev pub has_pools : Script → Bool
 has_pools s = not (length s.pools.items == 0)
 
 -- the place of a pool's units for a node, and its room
-abbrev pub units_place : Script → ℕ → ℕ → Place
-units_place s pool node = place_of (settings_of s) pool node
+abbrev pub worker_units_place : Script → ℕ → ℕ → Place
+worker_units_place s pool node = home_place (settings_of s) pool node
 
 abbrev pub units_room : Script → ℕ → ℕ → ℕ
 units_room s pool node = room_of (settings_of s) (pool_sizes s) pool node
@@ -33,21 +33,21 @@ units_room s pool node = room_of (settings_of s) (pool_sizes s) pool node
 pub record Releases (s : Script) (by : Serial) (node pool units : ℕ) (a : Answered)
     (t u : PlainState) : Type 0 where
   pub answer : ReleaseAnswer
-  pub told : a ≡ unfound (release_reply (units_place s pool node) answer)
-  pub released : ReleaseGives (units_place s pool node) (units_room s pool node) by units answer t u
+  pub told : a ≡ unfound (release_reply (worker_units_place s pool node) answer)
+  pub released : ReleaseGives (worker_units_place s pool node) (units_room s pool node) by units answer t u
 
 -- a unit was grabbed there, or it was told why not
 pub record Grabs (s : Script) (by : Serial) (node pool : ℕ) (a : Answered) (t u : PlainState)
     : Type 0 where
   pub answer : GrabAnswer
-  pub told : a ≡ unfound (grab_reply (units_place s pool node) answer)
-  pub grabbed : GrabGives (units_place s pool node) (units_room s pool node) by answer t u
+  pub told : a ≡ unfound (grab_reply (worker_units_place s pool node) answer)
+  pub grabbed : GrabGives (worker_units_place s pool node) (units_room s pool node) by answer t u
 
 -- all pools were walked once for the node, however that ended
 pub record WalksPools (s : Script) (by : Serial) (node priority : ℕ) (t u : PlainState)
     : Type 0 where
   pub answer : PlainAnswer
-  pub walked : WalkGives (settings_of s) (pool_sizes s) by node priority answer t u
+  pub walked : PlainWalkGives (settings_of s) (pool_sizes s) by node priority answer t u
 
 -- they were walked if that is due, and otherwise nothing was done
 abbrev pub WalksIf : Bool → Script → Serial → ℕ → ℕ → PlainState → PlainState → Type 0

@@ -65,11 +65,11 @@ unregister_reply (unregister.Half id entry from to objects why) =
     reply.Half id entry from to (length objects.items) why
 
 -- the objects that were drained
-abbrev pub objects_of : UnregisterAnswer → List Object
-objects_of (unregister.Freed id entry from to objects) = objects.items
-objects_of (unregister.NoCache entry) = []
-objects_of unregister.Memory = []
-objects_of (unregister.Half id entry from to objects why) = objects.items
+abbrev pub objects_drained : UnregisterAnswer → List Object
+objects_drained (unregister.Freed id entry from to objects) = objects.items
+objects_drained (unregister.NoCache entry) = []
+objects_drained unregister.Memory = []
+objects_drained (unregister.Half id entry from to objects why) = objects.items
 
 -- the reply to a `release` of units at a place, which names the place's pool and node
 abbrev pub release_reply : Place → ReleaseAnswer → Reply

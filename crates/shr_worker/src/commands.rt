@@ -2,7 +2,7 @@
 
 ghost use Rattle.std.specs.Prelude.{◌≡◌, ◌+◌, ◌<◌, ◌≤◌, ◌^◌, IfOk, length};
 ghost use Rattle.shr_plain.specs.Opening.{ArePoolsOf};
-ghost use Rattle.shr_plain.specs.Seat.{IsOf, state_of as plain_state_of};
+ghost use Rattle.shr_plain.specs.Seat.{IsPlainSeat, plain_state_of};
 ghost use Rattle.shr_script.specs.Bounds.{IsCommandWithin};
 ghost use Rattle.shr_script.specs.Content.{content_of};
 ghost use Rattle.shr_walk.specs.Acting.{IsSame};
@@ -87,9 +87,9 @@ fn run_walk<R: Wait>(
     requires pools { ArePoolsOf worker.old.shared.script pools.now }
     requires walk { IsWalk command.now }
     requires within { IsCommandWithin (content_of worker.old.shared.script) command.now }
-    requires plain_seat { IsOf pools.now plain.old }
+    requires plain_seat { IsPlainSeat pools.now plain.old }
     requires few { length plain.old.walks.items < 2 ^ 32 }
-    ensures plain_seat { IsOf pools.now plain.new }
+    ensures plain_seat { IsPlainSeat pools.now plain.new }
     ensures few { length plain.new.walks.items ≤ length plain.old.walks.items + 1 }
     ensures gives { IfOk result (λ a. CommandGives worker.old.shared worker.old.by command.now a
         worker.old.state worker.new.state) }
@@ -137,9 +137,9 @@ pub fn run_command<R: Wait>(
 ) -> Result<Answered, Memory>
     requires pools { ArePoolsOf worker.old.shared.script pools.now }
     requires within { IsCommandWithin (content_of worker.old.shared.script) command.now }
-    requires plain_seat { IsOf pools.now plain.old }
+    requires plain_seat { IsPlainSeat pools.now plain.old }
     requires few { length plain.old.walks.items < 2 ^ 32 }
-    ensures plain_seat { IsOf pools.now plain.new }
+    ensures plain_seat { IsPlainSeat pools.now plain.new }
     ensures few { length plain.new.walks.items ≤ length plain.old.walks.items + 1 }
     ensures gives { IfOk result (λ a. CommandGives worker.old.shared worker.old.by command.now a
         worker.old.state worker.new.state) }

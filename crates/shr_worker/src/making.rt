@@ -2,10 +2,10 @@
 
 ghost use Rattle.std.specs.Prelude.{◌≡◌, true};
 ghost use Rattle.shr_model.specs.Groups.{is_later};
-ghost use Rattle.shr_script.specs.Bounds.{IsGroup, later_of};
+ghost use Rattle.shr_script.specs.Bounds.{IsGroup, content_later};
 ghost use Rattle.shr_script.specs.Content.{content_of};
 ghost use Rattle.shr_walk.specs.Acting.{IsSame};
-ghost use Rattle.shr_worker.specs.Commands.{Makes};
+ghost use Rattle.shr_worker.specs.Commands.{MakesGroup};
 
 use crate::replies::make_reply;
 use shr_base::replies::Answered;
@@ -19,8 +19,8 @@ use std::sync::Wait;
 /// It waits for the journal's room. Linux: `cgroup_mkdir` in kernel/cgroup/cgroup.c.
 pub fn mkgroup<R: Wait>(worker: &mut Worker<'_, R>, group: u16) -> Answered
     requires group { IsGroup (content_of worker.old.shared.script) group }
-    requires late { is_later (later_of (content_of worker.old.shared.script)) group ≡ true }
-    ensures makes { Makes worker.old.shared group result worker.old.state worker.new.state }
+    requires late { is_later (content_later (content_of worker.old.shared.script)) group ≡ true }
+    ensures makes { MakesGroup worker.old.shared group result worker.old.state worker.new.state }
     ensures same { IsSame worker.old worker.new }
 {
     let answer = worker

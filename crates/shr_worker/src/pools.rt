@@ -2,7 +2,7 @@
 
 ghost use Rattle.std.specs.Prelude.{◌≡◌, ◌+◌, ◌<◌, ◌≤◌, ◌^◌, ◌==◌, ◌&&◌, OnErr, OnOk, length};
 ghost use Rattle.shr_plain.specs.Opening.{ArePoolsOf};
-ghost use Rattle.shr_plain.specs.Seat.{IsOf, state_of};
+ghost use Rattle.shr_plain.specs.Seat.{IsPlainSeat, plain_state_of};
 ghost use Rattle.shr_script.specs.Bounds.{IsCommandWithin};
 ghost use Rattle.shr_script.specs.Content.{content_of};
 ghost use Rattle.shr_base.specs.declared.scripts.Command.TheVariants as commands;
@@ -31,10 +31,10 @@ pub fn release<R: Wait>(
     requires pools { ArePoolsOf worker.now.shared.script pools.now }
     requires within { IsCommandWithin (content_of worker.now.shared.script)
         (commands.Release node pool units) }
-    requires seat { IsOf pools.now plain.old }
-    ensures seat { IsOf pools.now plain.new }
+    requires seat { IsPlainSeat pools.now plain.old }
+    ensures seat { IsPlainSeat pools.now plain.new }
     ensures releases { Releases worker.now.shared.script worker.now.by node pool units result
-        (state_of plain.old) (state_of plain.new) }
+        (plain_state_of plain.old) (plain_state_of plain.new) }
 {
     let place = pools.place(pool, node);
     let answer = pools.release(worker.rt, plain, worker.by, pool, node, units);
@@ -54,10 +54,10 @@ pub fn grab<R: Wait>(
     requires pools { ArePoolsOf worker.now.shared.script pools.now }
     requires within { IsCommandWithin (content_of worker.now.shared.script)
         (commands.Grab node pool) }
-    requires seat { IsOf pools.now plain.old }
-    ensures seat { IsOf pools.now plain.new }
+    requires seat { IsPlainSeat pools.now plain.old }
+    ensures seat { IsPlainSeat pools.now plain.new }
     ensures grabs { Grabs worker.now.shared.script worker.now.by node pool result
-        (state_of plain.old) (state_of plain.new) }
+        (plain_state_of plain.old) (plain_state_of plain.new) }
 {
     let place = pools.place(pool, node);
     let answer = pools.grab(worker.rt, plain, worker.by, pool, node);
@@ -104,12 +104,12 @@ pub(crate) fn walk_if<R: Wait>(
     requires node { node < worker.now.shared.script.nodes }
     requires priority { priority ≤ 12 }
     requires few { length plain.old.walks.items < 2 ^ 32 }
-    requires seat { IsOf pools.now plain.old }
-    ensures seat { IsOf pools.now plain.new }
+    requires seat { IsPlainSeat pools.now plain.old }
+    ensures seat { IsPlainSeat pools.now plain.new }
     ensures few { length plain.new.walks.items ≤ length plain.old.walks.items + 1 }
-    ensures kept { OnErr result (state_of plain.new ≡ state_of plain.old) }
+    ensures kept { OnErr result (plain_state_of plain.new ≡ plain_state_of plain.old) }
     ensures walks { OnOk result (WalksIf due worker.now.shared.script worker.now.by node priority
-        (state_of plain.old) (state_of plain.new)) }
+        (plain_state_of plain.old) (plain_state_of plain.new)) }
 {
     if !due {
         return Ok(());

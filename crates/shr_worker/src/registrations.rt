@@ -8,8 +8,8 @@ ghost use Rattle.shr_core.specs.Seats.{shape_of};
 ghost use Rattle.shr_script.specs.Bounds.{IsCache};
 ghost use Rattle.shr_script.specs.Content.{content_of};
 ghost use Rattle.shr_walk.specs.Acting.{IsSame};
-ghost use Rattle.shr_walk.specs.Keeping.{parents_of};
-ghost use Rattle.shr_worker.specs.Commands.{Registers, Unregisters, UnregistersNone};
+ghost use Rattle.shr_walk.specs.Keeping.{shared_parents};
+ghost use Rattle.shr_worker.specs.Commands.{RegistersCache, Unregisters, UnregistersNone};
 ghost use Rattle.shr_worker.specs.Uncharging.{UnchargesEach};
 
 use crate::replies::register_reply;
@@ -29,7 +29,7 @@ use std::sync::Wait;
 /// Linux: `shrinker_register` in mm/shrinker.c.
 pub fn register<R: Wait>(worker: &mut Worker<'_, R>, decl: u8) -> Answered
     requires cache { IsCache (content_of worker.old.shared.script) decl }
-    ensures registers { Registers worker.old.shared decl result worker.old.state worker.new.state }
+    ensures registers { RegistersCache worker.old.shared decl result worker.old.state worker.new.state }
     ensures same { IsSame worker.old worker.new }
 {
     let core = &worker.shared.core;
@@ -47,7 +47,7 @@ fn uncharge_drained<R: Wait>(
     requires few { length objects.now.items ≤ 20480000 }
     ensures core { worker.new.state.core ≡ worker.old.state.core }
     ensures count { IfOk result (λ n. n ≡ length objects.now.items) }
-    ensures uncharged { OnOk result (UnchargesEach (parents_of worker.old.shared) worker.old.by
+    ensures uncharged { OnOk result (UnchargesEach (shared_parents worker.old.shared) worker.old.by
         objects.now.items worker.old.state worker.new.state) }
     ensures same { IsSame worker.old worker.new }
 {

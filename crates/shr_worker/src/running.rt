@@ -2,12 +2,12 @@
 
 ghost use Rattle.std.specs.Prelude.{◌≡◌, ◌+◌, ◌<◌, ◌≤◌, ◌^◌, [], IfOk, IsTrue, OnOk, length, slice_get, Some};
 ghost use Rattle.shr_plain.specs.Opening.{ArePoolsOf};
-ghost use Rattle.shr_plain.specs.Seat.{IsOf};
+ghost use Rattle.shr_plain.specs.Seat.{IsPlainSeat};
 ghost use Rattle.shr_script.specs.Bounds.{IsCommandWithin};
 ghost use Rattle.shr_script.specs.Content.{content_of};
 ghost use Rattle.shr_walk.specs.Sharing.{IsShared};
 ghost use Rattle.shr_walk.specs.State.{IsRested};
-ghost use Rattle.shr_worker.specs.Chain.{DeedGives, IsWorkOf, commands_of, crew_at, crew_of, serial_of};
+ghost use Rattle.shr_worker.specs.Chain.{DeedGives, IsWorkOf, worker_commands, crew_at, crew_of, command_serial};
 ghost use Rattle.shr_worker.specs.Tasks.{IsTask};
 
 use crate::commands::run_command;
@@ -44,14 +44,14 @@ fn run_next<R: Wait>(
 ) -> Result<Answered, Memory>
     requires pools { ArePoolsOf worker.old.shared.script pools.now }
     requires within { IsCommandWithin (content_of worker.old.shared.script) command.now }
-    requires plain_seat { IsOf pools.now plain.old }
+    requires plain_seat { IsPlainSeat pools.now plain.old }
     requires few { length plain.old.walks.items < 2 ^ 32 }
     ensures shared { worker.new.shared ≡ worker.old.shared }
     ensures worker { worker.new.by.worker ≡ worker.old.by.worker }
-    ensures plain_seat { IsOf pools.now plain.new }
+    ensures plain_seat { IsPlainSeat pools.now plain.new }
     ensures few { length plain.new.walks.items ≤ length plain.old.walks.items + 1 }
     ensures deed { IfOk result (λ a. DeedGives worker.old.shared
-        (serial_of worker.old.by.worker number) command.now a
+        (command_serial worker.old.by.worker number) command.now a
         (crew_at worker.old plain.old isolations.old.items)
         (crew_at worker.new plain.new isolations.new.items)) }
 {
@@ -76,13 +76,13 @@ fn run_commands<R: Wait, G: Gate>(
 ) -> Result<(), Memory>
     requires number { worker.old.by.worker < length worker.old.shared.script.workers.items }
     requires pools { ArePoolsOf worker.old.shared.script pools.now }
-    requires plain_seat { IsOf pools.now plain.old }
+    requires plain_seat { IsPlainSeat pools.now plain.old }
     requires none { (plain.old.walks.items ≡ []) × (answers.old.items ≡ [])
         × (isolations.old.items ≡ []) }
     ensures shared { worker.new.shared ≡ worker.old.shared }
-    ensures plain { IsOf pools.now plain.new }
+    ensures plain { IsPlainSeat pools.now plain.new }
     ensures all { OnOk result (length answers.new.items
-        ≡ length (commands_of worker.old.shared.script worker.old.by.worker)) }
+        ≡ length (worker_commands worker.old.shared.script worker.old.by.worker)) }
     ensures work { OnOk result (IsWorkOf worker.old.shared worker.old.by.worker answers.new.items
         (crew_at worker.old plain.old [])
         (crew_at worker.new plain.new isolations.new.items)) }
@@ -119,9 +119,9 @@ pub fn run_worker<R: Wait, G: Gate>(
     requires task { IsTask shared.now pools.now task }
     ensures number { result.number ≡ task.number }
     ensures rested { IsRested shared.now result.seats }
-    ensures plain { IsOf pools.now result.plain }
+    ensures plain { IsPlainSeat pools.now result.plain }
     ensures all { IsTrue result.whole → length result.answers.items
-        ≡ length (commands_of shared.now.script task.number) }
+        ≡ length (worker_commands shared.now.script task.number) }
     ensures work { IsTrue result.whole → IsWorkOf shared.now task.number result.answers.items
         (crew_of task.seats task.plain [])
         (crew_of result.seats result.plain result.isolations.items) }

@@ -1,7 +1,7 @@
 //! Uncharging the objects that were drained.
 
 ghost use Rattle.std.specs.Prelude.{◌+◌, ◌^◌, ◌<◌, length, OnOk};
-ghost use Rattle.shr_charge.specs.Seat.{IsOf, uses_of};
+ghost use Rattle.shr_charge.specs.Seat.{IsChargeSeat, uses_of};
 ghost use Rattle.shr_core.specs.Rule.{AreBorn};
 ghost use Rattle.shr_walk.specs.Keeping.{AllUncharged};
 
@@ -21,10 +21,10 @@ pub(crate) fn uncharge_each(
     by: Serial,
     objects: &[Object],
 ) -> Result<(), Memory>
-    requires seat { IsOf charge.now seat.old }
+    requires seat { IsChargeSeat charge.now seat.old }
     requires born { AreBorn (length charge.now.shape.parents.items) objects.now }
     requires calls { (uses_of seat.old).uncharges + length objects.now < 2 ^ 25 }
-    ensures seat { IsOf charge.now seat.new }
+    ensures seat { IsChargeSeat charge.now seat.new }
     ensures uncharged { OnOk result (AllUncharged charge.now.shape.parents.items by objects.now
         seat.old seat.new uses.old.items uses.new.items) }
 {

@@ -1,7 +1,7 @@
 //! Adding an object.
 
 ghost use Rattle.std.specs.Prelude.{IfErr, OnOk, []};
-ghost use Rattle.shr_list.specs.Answers.{AddGives, HasRoom, IsWorn, add_entry};
+ghost use Rattle.shr_list.specs.Answers.{ListAddGives, HasRoom, IsWorn, add_entry};
 
 use crate::answers::AddAnswer;
 use crate::list::List;
@@ -35,7 +35,7 @@ impl List {
     /// Linux: `list_lru_add` in mm/list_lru.c, which tests `list_empty` of the object's own link
     /// instead.
     pub fn add(&mut self, object: Object) -> AddAnswer
-        ensures { AddGives self.old object result self.new }
+        ensures { ListAddGives self.old object result self.new }
     {
         if self.contents.closed() {
             return AddAnswer::Closed;

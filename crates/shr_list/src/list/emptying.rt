@@ -2,7 +2,7 @@
 
 ghost use Rattle.std.specs.Prelude.{◌≡◌, ◌<◌, false, length};
 ghost use Rattle.shr_model.specs.Items.{is_closed};
-ghost use Rattle.shr_list.specs.Answers.{CloseGives, DrainGives};
+ghost use Rattle.shr_list.specs.Answers.{CloseGives, ListDrainGives};
 
 use crate::answers::{CloseAnswer, DrainAnswer};
 use crate::list::List;
@@ -44,7 +44,7 @@ impl List {
     pub fn drain(&mut self, by: Serial) -> DrainAnswer
         requires was_open { is_closed self.old.entries ≡ false }
         requires holds_one { 0 < length self.old.items }
-        ensures { DrainGives self.old by result self.new }
+        ensures { ListDrainGives self.old by result self.new }
     {
         let entry = self.contents.entries().len() as u32;
         if entry + 1 > self.most_entries {

@@ -2,7 +2,7 @@
 
 ghost use Rattle.std.specs.Prelude.{◌++◌, ◌≤◌, IsPermutation};
 ghost use Rattle.shr_model.specs.Bag.{serials_of};
-ghost use Rattle.shr_list.specs.Answers.{ScanGives, IfScanned};
+ghost use Rattle.shr_list.specs.Answers.{ScanOfListGives, IfScanned};
 
 use crate::answers::ListScan;
 use crate::list::List;
@@ -20,7 +20,7 @@ impl List {
     /// Linux: `list_lru_walk_one` in mm/list_lru.c, whose count of isolated objects is `freed`'s
     /// length.
     pub fn scan(&mut self, worker: u16, walk: u64, policy: Policy, asked: u32) -> ListScan
-        ensures answer { ScanGives self.old worker walk policy asked result self.new }
+        ensures answer { ScanOfListGives self.old worker walk policy asked result self.new }
         ensures budget { IfScanned result (λ freed visits. visits ≤ asked) }
         ensures parted { IfScanned result (λ freed visits. IsPermutation
             (serials_of self.old.items) (serials_of freed ++ serials_of self.new.items)) }

@@ -2,7 +2,7 @@
 
 ghost use Rattle.std.specs.Prelude.{◌≡◌, option_copied};
 ghost use Rattle.shr_model.specs.Items.{drop_kind_of};
-ghost use Rattle.shr_list.specs.Answers.{LookGives, DropGives, PinGives};
+ghost use Rattle.shr_list.specs.Answers.{ListLookGives, ListDropGives, ListPinGives};
 
 use crate::answers::{DropAnswer, LookAnswer, PinAnswer};
 use crate::list::List;
@@ -25,7 +25,7 @@ fn kind_of_drop(object: Option<&Object>) -> DropKind
 impl List {
     /// Looks an object up, marks it and gives its value. Our own: Linux's lists have no keys.
     pub fn look(&mut self, by: Serial, birth: u16, key: &Text) -> LookAnswer
-        ensures { LookGives self.old by birth key.now result self.new }
+        ensures { ListLookGives self.old by birth key.now result self.new }
     {
         if self.contents.closed() {
             return LookAnswer::Closed;
@@ -62,7 +62,7 @@ impl List {
     ///
     /// Linux: `list_lru_del` in mm/list_lru.c, which is handed the object and knows no pin.
     pub fn drop_key(&mut self, by: Serial, birth: u16, key: &Text) -> DropAnswer
-        ensures { DropGives self.old by birth key.now result self.new }
+        ensures { ListDropGives self.old by birth key.now result self.new }
     {
         if self.contents.closed() {
             return DropAnswer::Closed;
@@ -98,7 +98,7 @@ impl List {
 
     /// Pins an object, or takes its pin away. Our own: a pin stands for a raised reference count.
     pub fn set_pin(&mut self, by: Serial, birth: u16, key: &Text, pinned: bool) -> PinAnswer
-        ensures { PinGives self.old by birth key.now pinned result self.new }
+        ensures { ListPinGives self.old by birth key.now pinned result self.new }
     {
         if self.contents.closed() {
             return PinAnswer::Closed;

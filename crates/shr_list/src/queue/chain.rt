@@ -1,7 +1,7 @@
 //! Nodes in a slab, each with the node before and the node after. A node is named by its key in the slab.
 
 ghost use Rattle.std.specs.Prelude.{◌≡◌, ◌+◌, ◌++◌, ◌<◌, ◌≤◌, length, None, Some, []};
-ghost use Rattle.shr_list.specs.Links.{IsLinked, nodes_of, IsStop, IsStored, SetsNext, SetsPrev, Joins, Inserts, Removes, SetsObject, object_at, next_of, prev_of, spare_in};
+ghost use Rattle.shr_list.specs.Links.{IsLinked, nodes_of, IsStop, IsStored, SetsNext, SetsPrev, Joins, Inserts, Removes, SetsObject, object_at, stop_after, prev_of, spare_in};
 ghost use Rattle.shr_model.specs.Objects.{pinned_object};
 ghost use Rattle.shr_list.specs.Nodes.{objects_of, with_mark};
 
@@ -86,7 +86,7 @@ impl Chain {
     /// Linux: `next` of `struct list_head`, in include/linux/types.h.
     pub fn next(&self, node: u32) -> Option<u32>
         requires { IsStored self.now node }
-        ensures { result ≡ next_of self.now (Some node) }
+        ensures { result ≡ stop_after self.now (Some node) }
     {
         self.nodes[node as usize].next
     }

@@ -2,7 +2,7 @@
 
 ghost use Rattle.std.specs.Prelude.{◌≡◌, [], None, OnOk, IfOk, OnErr, Some};
 ghost use Rattle.shr_list.specs.Nodes.{key_named};
-ghost use Rattle.shr_list.specs.Names.{print_of, IsIndexed, AddsName, Keeps, GainsName, Turns};
+ghost use Rattle.shr_list.specs.Names.{print_of, IsIndexed, AddsName, KeepsFound, GainsName, TurnsName};
 
 use crate::queue::clashes::Clashes;
 use crate::queue::links::Links;
@@ -62,7 +62,7 @@ impl Names {
         requires { IsIndexed self.old links.now.nodes }
         ensures told { IfOk result (λ added. AddsName self.old self.new links.now.nodes
             (birth, key.now) node added) }
-        ensures kept { OnErr result (Keeps self.old self.new) }
+        ensures kept { OnErr result (KeepsFound self.old self.new) }
     {
         match self.prints.entry(print_of(birth, key))? {
             Entry::Vacant(place) => {
@@ -85,7 +85,7 @@ impl Names {
     /// Our own.
     pub fn put(&mut self, birth: u16, key: &Text, node: u32) -> Result<(), Memory>
         ensures put { OnOk result (GainsName self.old self.new (birth, key.now) node) }
-        ensures kept { OnErr result (Keeps self.old self.new) }
+        ensures kept { OnErr result (KeepsFound self.old self.new) }
     {
         match self.prints.entry(print_of(birth, key))? {
             Entry::Vacant(place) => {
@@ -100,7 +100,7 @@ impl Names {
 
     /// Makes this the node of a name that is there. It takes no memory. Our own.
     pub fn turn(&mut self, birth: u16, key: &Text, node: u32)
-        ensures { Turns self.old self.new (birth, key.now) (Some node) }
+        ensures { TurnsName self.old self.new (birth, key.now) (Some node) }
     {
         if self.clashes.get(birth, key).is_some() {
             self.clashes.turn(birth, key, node);
@@ -111,7 +111,7 @@ impl Names {
 
     /// Takes a name out that is there. Our own.
     pub fn remove(&mut self, birth: u16, key: &Text)
-        ensures { Turns self.old self.new (birth, key.now) None }
+        ensures { TurnsName self.old self.new (birth, key.now) None }
     {
         if self.clashes.get(birth, key).is_some() {
             self.clashes.remove(birth, key);

@@ -3,7 +3,7 @@
 ghost use Rattle.std.specs.Prelude.{◌≡◌, ◌≤◌, [], true, false, length, Ok, IfOk, OnErr};
 ghost use Rattle.shr_model.specs.Scan.{case_of, scan_of};
 ghost use Rattle.shr_list.specs.Nodes.{KeepsKeys};
-ghost use Rattle.shr_list.specs.Scanning.{IsLeft, IsScan};
+ghost use Rattle.shr_list.specs.Scanning.{IsLeftAlone, IsScan};
 
 use crate::queue::Queue;
 use shr_base::log::Log;
@@ -68,7 +68,7 @@ fn make_room(
     ensures items { freed.new.items ≡ freed.old.items }
     ensures room { made ≡ false → IfOk result (λ now. now ≡ true → length (scan_of policy asked
         queue.now.items).freed ≤ freed.new.spare) }
-    ensures left { IfOk result (λ now. now ≡ false → IsLeft status) }
+    ensures left { IfOk result (λ now. now ≡ false → IsLeftAlone status) }
 {
     if made {
         return Ok(true);

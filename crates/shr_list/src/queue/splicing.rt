@@ -2,7 +2,7 @@
 
 ghost use Rattle.std.specs.Prelude.{◌≡◌, ◌↔◌, ◌≤◌, ◌++◌, [], List, true, false, length, take, OnOk, OnErr};
 ghost use Rattle.shr_list.specs.Nodes.{Keyed, objects_of};
-ghost use Rattle.shr_list.specs.Names.{AreNew, AreStrangers, Withdraws, Enters, IsIndexed};
+ghost use Rattle.shr_list.specs.Names.{AreNewNames, AreStrangers, Withdraws, EntersNodes, IsIndexed};
 
 use crate::queue::Queue;
 use crate::queue::links::Links;
@@ -56,7 +56,7 @@ pub fn admit(names: &mut Names, links: &Links, other: &Links, wanted: bool) -> R
 // Makes the first `count` objects the nodes of their names, which are there.
 fn enter(names: &mut Names, links: &Links, count: usize)
     requires { count ≤ length links.now.nodes }
-    ensures { Enters names.old names.new (take count links.now.nodes) }
+    ensures { EntersNodes names.old names.new (take count links.now.nodes) }
 {
     let mut at = links.head();
     for met in 0..count {
@@ -76,7 +76,7 @@ fn enter(names: &mut Names, links: &Links, count: usize)
 fn move_behind(names: &mut Names, links: &mut Links, other: &mut Links)
     requires { length other.old.nodes ≤ links.old.spare }
     ensures moved { (back : List Keyed) × (links.new.nodes ≡ links.old.nodes ++ back)
-        × (objects_of back ≡ objects_of other.old.nodes) × Enters names.old names.new back }
+        × (objects_of back ≡ objects_of other.old.nodes) × EntersNodes names.old names.new back }
     ensures emptied { other.new.nodes ≡ [] }
 {
     while let Some(node) = other.head() {
@@ -151,7 +151,7 @@ impl Queue {
 
     // Whether an object of another queue has the name of one of this.
     fn holds_any(&self, other: &Queue) -> bool
-        ensures { result ≡ false ↔ AreNew self.now.nodes other.now.nodes }
+        ensures { result ≡ false ↔ AreNewNames self.now.nodes other.now.nodes }
     {
         let mut at = other.head();
         for met in 0..other.len() {

@@ -1,7 +1,7 @@
 //! Holding an id for one call.
 
 ghost use Rattle.std.specs.Prelude.{◌≡◌, true, None, IfSome};
-ghost use Rattle.shr_core.specs.Seats.{IsPlaceOf, shape_of};
+ghost use Rattle.shr_core.specs.Seats.{IsPlaceOfShape, shape_of};
 ghost use Rattle.shr_walk.specs.Acting.{IsFit};
 ghost use Rattle.shr_walk_trials.specs.Desk.{IsHolder};
 
@@ -11,7 +11,7 @@ use shr_walk::seats::{Seats, Shared};
 
 /// Whether there is such a place.
 pub fn is_place(shared: &Shared, place: Place) -> bool
-    ensures { result ≡ true → IsPlaceOf (shape_of shared.now.core) place }
+    ensures { result ≡ true → IsPlaceOfShape (shape_of shared.now.core) place }
 {
     let shape = shared.core.shape();
     place.id < shape.ids && place.node < shape.nodes && (place.group as usize) < shape.parents.len()

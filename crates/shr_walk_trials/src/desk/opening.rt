@@ -3,7 +3,7 @@
 ghost use Rattle.std.specs.Prelude.{◌≡◌, ◌+◌, ◌<◌, ◌≤◌, ◌^◌, IfOk};
 ghost use Rattle.shr_walk.specs.Acting.{IsFit};
 ghost use Rattle.shr_walk.specs.Sharing.{IsShared};
-ghost use Rattle.shr_walk_trials.specs.Desk.{IsFirst};
+ghost use Rattle.shr_walk_trials.specs.Desk.{AreFirstSeats};
 
 use crate::desk::lists::BY;
 use crate::desk::registrations::register;
@@ -30,7 +30,7 @@ pub struct Desk {
 // The tables of a script, and the first seats.
 fn tables_of(alloc: Global, text: &[u8]) -> Result<(Shared, Seats), Fail>
     ensures shared { IfOk result (λ t. IsShared t.0) }
-    ensures first { IfOk result (λ t. IsFirst t.0 t.1 0) }
+    ensures first { IfOk result (λ t. AreFirstSeats t.0 t.1 0) }
 {
     let Ok(script) = read_script(alloc, text) else {
         return Err(Fail::from("no script"));
@@ -45,10 +45,10 @@ fn shorten(
     most_entries: u32,
 ) -> Result<(Shared, Seats), Memory>
     requires shared { IsShared shared }
-    requires first { IsFirst shared first 0 }
+    requires first { AreFirstSeats shared first 0 }
     requires few { most_entries ≤ 2 ^ 31 }
     ensures shared { IfOk result (λ t. IsShared t.0) }
-    ensures first { IfOk result (λ t. IsFirst t.0 t.1 0) }
+    ensures first { IfOk result (λ t. AreFirstSeats t.0 t.1 0) }
 {
     let old = shared.core.shape();
     let shape = Shape {
@@ -70,9 +70,9 @@ fn shorten(
 /// The seats of one worker more, where the first seats were split `splits` times.
 pub fn another(shared: &Shared, first: &mut Seats, splits: u8) -> Result<Seats, Memory>
     requires shared { IsShared shared.now }
-    requires first { IsFirst shared.now first.old splits }
+    requires first { AreFirstSeats shared.now first.old splits }
     requires few { splits < 64 }
-    ensures first { IfOk result (λ s. IsFirst shared.now first.new (splits + 1)) }
+    ensures first { IfOk result (λ s. AreFirstSeats shared.now first.new (splits + 1)) }
     ensures seats { IfOk result (λ s. IsFit shared.now s) }
 {
     let core = shared.core.split(&mut first.cache.core)?;
@@ -138,8 +138,8 @@ fn is_registered(answer: &Option<RegisterAnswer>) -> bool {
 // The seats of the first worker, which registered each cache that is on.
 fn first_worker<R: Wait>(rt: &R, shared: &Shared, first: &mut Seats) -> Result<Seats, Fail>
     requires shared { IsShared shared.now }
-    requires first { IsFirst shared.now first.old 0 }
-    ensures first { IfOk result (λ s. IsFirst shared.now first.new 1) }
+    requires first { AreFirstSeats shared.now first.old 0 }
+    ensures first { IfOk result (λ s. AreFirstSeats shared.now first.new 1) }
     ensures seats { IfOk result (λ s. IsFit shared.now s) }
 {
     let mut worker = worker_of(rt, shared, another(shared, first, 0)?);
@@ -150,8 +150,8 @@ fn first_worker<R: Wait>(rt: &R, shared: &Shared, first: &mut Seats) -> Result<S
 // A desk of these tables, whose caches that are on are registered.
 fn desk_of<R: Wait>(rt: &R, shared: Shared, mut first: Seats) -> Result<Desk, Fail>
     requires shared { IsShared shared }
-    requires first { IsFirst shared first 0 }
-    ensures first { IfOk result (λ d. IsFirst d.shared d.first 1) }
+    requires first { AreFirstSeats shared first 0 }
+    ensures first { IfOk result (λ d. AreFirstSeats d.shared d.first 1) }
     ensures seats { IfOk result (λ d. IsFit d.shared d.seats) }
 {
     let seats = first_worker(rt, &shared, &mut first)?;
@@ -164,7 +164,7 @@ fn desk_of<R: Wait>(rt: &R, shared: Shared, mut first: Seats) -> Result<Desk, Fa
 
 /// A desk for a script, whose caches that are on are registered. It has one worker's seats.
 pub fn open<R: Wait>(rt: &R, alloc: Global, text: &[u8]) -> Result<Desk, Fail>
-    ensures first { IfOk result (λ d. IsFirst d.shared d.first 1) }
+    ensures first { IfOk result (λ d. AreFirstSeats d.shared d.first 1) }
     ensures seats { IfOk result (λ d. IsFit d.shared d.seats) }
 {
     let (shared, first) = tables_of(alloc, text)?;
@@ -179,7 +179,7 @@ pub fn open_short<R: Wait>(
     most_entries: u32,
 ) -> Result<Desk, Fail>
     requires { most_entries ≤ 2 ^ 31 }
-    ensures first { IfOk result (λ d. IsFirst d.shared d.first 1) }
+    ensures first { IfOk result (λ d. AreFirstSeats d.shared d.first 1) }
     ensures seats { IfOk result (λ d. IsFit d.shared d.seats) }
 {
     let (shared, first) = tables_of(alloc, text)?;

@@ -1,7 +1,4 @@
-use Rattle.shr_audit_causes.proofs.Common.{◌≡◌, ℕ, List, Some, slice_get, subst, Decides, WorkerPart, each_walk_of, Each, EachAttempt, IsAttemptCaused}
-use Rattle.shr_case.proofs.Eachs.{decides_iff}
-use Rattle.shr_report.specs.Parts.{EachWalk}
-use Rattle.shr_audit_causes.specs.Walks.{IsWornRightly}
+use Rattle.shr_audit_causes.proofs.Common.{◌≡◌, ℕ, List, Some, slice_get, subst, Decides, WorkerPart, each_walk_of, EachItem, EachAttempt, IsAttemptCaused, decides_iff, EachWalk, IsWornRightly}
 use Rattle.shr_audit_causes.proofs.Wearing.{caused_rightly, rightly_caused}
 use Rattle.shr_audit_causes.proofs.attempts.are_attempts_caused.Goals as goal
 
@@ -14,4 +11,4 @@ returns c =
     (λ all worker n w at k a there. caused_rightly s r worker a.id a.outcome (all worker n w at k a there))
     (λ all worker n w at k a there. rightly_caused s r worker a.id a.outcome (all worker n w at k a there))
     (each_walk_of r (λ worker n w. EachAttempt w (λ a. IsAttemptCaused s r worker a)) b
-    (subst (λ (parts : List WorkerPart). Decides b ((worker : ℕ) (part : WorkerPart) → slice_get parts worker ≡ Some part → Each (λ w. EachAttempt w (λ a. IsAttemptCaused s r worker a)) part.walks.items)) c.as_slice.ensures c.parts_are_worn-all.ensures))
+    (subst (λ (parts : List WorkerPart). Decides b ((worker : ℕ) (part : WorkerPart) → slice_get parts worker ≡ Some part → EachItem (λ w. EachAttempt w (λ a. IsAttemptCaused s r worker a)) part.walks.items)) c.as_slice.ensures c.parts_are_worn-all.ensures))

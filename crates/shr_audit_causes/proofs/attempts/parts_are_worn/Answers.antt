@@ -1,8 +1,8 @@
-use Rattle.shr_audit_causes.proofs.Common.{ℕ, List, subst, sym, WorkerPart, Script, WalkRecord, Each, all_at, more_at, Report, EachAttempt, IsAttemptCaused}
+use Rattle.shr_audit_causes.proofs.Common.{ℕ, List, subst, sym, WorkerPart, Script, WalkRecord, EachItem, all_at, more_at, Report, EachAttempt, IsAttemptCaused}
 use Rattle.shr_audit_causes.proofs.attempts.parts_are_worn.Goals as goal
 
 abbrev walks : Script → Report → ℕ → List WalkRecord → Type 0
-walks s r worker xs = Each (λ w. EachAttempt w (λ a. IsAttemptCaused s r worker a)) xs
+walks s r worker xs = EachItem (λ w. EachAttempt w (λ a. IsAttemptCaused s r worker a)) xs
 
 abbrev part : Script → Report → ℕ → WorkerPart → Type 0
 part s r worker p = walks s r worker p.walks.items

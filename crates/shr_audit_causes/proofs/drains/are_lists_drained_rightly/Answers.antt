@@ -1,11 +1,9 @@
-use Rattle.shr_audit_causes.proofs.Common.{◌≡◌, ℕ, List, Some, slice_get, length, refl, Decides, PlaceEnd, EachFirst, IsFirst, Each, all_at, more_at, Report, IsDrainedRightly}
-use Rattle.std.proofs.lemmas.Option.{slice_get_read}
-use Rattle.shr_formed.proofs.Eachs.{fails}
+use Rattle.shr_audit_causes.proofs.Common.{◌≡◌, ℕ, List, Some, slice_get, length, refl, Decides, PlaceEnd, EachFirst, IsFirst, EachItem, all_at, more_at, Report, IsDrainedRightly, slice_get_read, fails}
 use Rattle.shr_audit_replies.proofs.Deciding.{first_part}
 use Rattle.shr_audit_causes.proofs.drains.are_lists_drained_rightly.Goals as goal
 
 abbrev whole : Report → PlaceEnd → Type 0
-whole r end = Each (λ e. IsDrainedRightly r e) end.entries.items
+whole r end = EachItem (λ e. IsDrainedRightly r e) end.entries.items
 
 abbrev part : Report → List PlaceEnd → ℕ → PlaceEnd → Type 0
 part r ends k end = IsFirst ends k end.place → whole r end

@@ -1,4 +1,4 @@
-use Rattle.shr_audit_causes.proofs.Common.{◌≡◌, ℕ, List, Some, length, slice_get, subst, Decides, TreeEntry, Cited, AreCited, IsDoneOnce}
+use Rattle.shr_audit_causes.proofs.Common.{◌≡◌, ℕ, List, Some, length, slice_get, subst, Decides, TreeEntry, Cited, AreCited, IsDoneNotedOnce}
 use Rattle.shr_audit_causes.specs.declared.cites.What.TheVariants as what
 use Rattle.shr_audit_causes.proofs.Treeing.{dones_of}
 use Rattle.shr_audit_causes.proofs.trees.are_dones_caused.Goals as goal
@@ -10,5 +10,5 @@ returns c =
     let table = c.in_ok-table.table.items in
     let b = c.are_dones_once-all.result in
     let cited : AreCited s r what.Done (length r.tree.items) table = subst (λ (size : ℕ). AreCited s r what.Done size table) c.len.ensures c.in_ok-table.ensures in
-    let noted : Decides b ((n : ℕ) (e : TreeEntry) → slice_get c.as_slice-2.result.now n ≡ Some e → IsDoneOnce table n e) = subst (λ (t : List Cited). Decides b ((n : ℕ) (e : TreeEntry) → slice_get c.as_slice-2.result.now n ≡ Some e → IsDoneOnce t n e)) c.as_slice.ensures.value c.are_dones_once-all.ensures in
-    dones_of s r table b cited (subst (λ (tree : List TreeEntry). Decides b ((n : ℕ) (e : TreeEntry) → slice_get tree n ≡ Some e → IsDoneOnce table n e)) c.as_slice-2.ensures noted)
+    let noted : Decides b ((n : ℕ) (e : TreeEntry) → slice_get c.as_slice-2.result.now n ≡ Some e → IsDoneNotedOnce table n e) = subst (λ (t : List Cited). Decides b ((n : ℕ) (e : TreeEntry) → slice_get c.as_slice-2.result.now n ≡ Some e → IsDoneNotedOnce t n e)) c.as_slice.ensures.value c.are_dones_once-all.ensures in
+    dones_of s r table b cited (subst (λ (tree : List TreeEntry). Decides b ((n : ℕ) (e : TreeEntry) → slice_get tree n ≡ Some e → IsDoneNotedOnce table n e)) c.as_slice-2.ensures noted)

@@ -1,5 +1,5 @@
-use Rattle.shr_audit_charges.proofs.Common.{take, IsTreeJournal, AreStatesOf, hierarchy}
+use Rattle.shr_audit_charges.proofs.Common.{take, IsTreeJournal, AreGroupStatesOf, hierarchy}
 use Rattle.shr_audit_charges.proofs.tree.is_tree_journal.Given as goal
 
 abbrev pub invariant-loop-i : goal.invariant-loop-i
-invariant-loop-i l = IsTreeJournal (hierarchy l.parents l.later) (take l.i l.entries) × AreStatesOf (hierarchy l.parents l.later) (take l.i l.entries) l.states.items
+invariant-loop-i l = IsTreeJournal (hierarchy l.parents l.later) (take l.i l.entries) × AreGroupStatesOf (hierarchy l.parents l.later) (take l.i l.entries) l.states.items

@@ -1,5 +1,4 @@
-use Rattle.shr_audit_fresh.proofs.Common.{List, subst, flat_map, Decides, Answered, fails, pool_seen, tree_seen, answers_of, AreNotFalling, AreNumbersFresh}
-use Rattle.shr_audit_fresh.specs.Worker.{IsOnSeen, IsOwnBelow}
+use Rattle.shr_audit_fresh.proofs.Common.{List, subst, flat_map, Decides, Answered, fails, pool_seen, tree_seen, answers_of, AreNotFalling, AreNumbersFresh, IsOnSeen, IsOwnBelow}
 use Rattle.shr_audit_fresh.proofs.law.are_numbers_fresh.Goals as goal
 
 pub returns-then-not-is_pool_rising : goal.returns-then-not-is_pool_rising

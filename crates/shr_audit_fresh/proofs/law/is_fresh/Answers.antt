@@ -1,4 +1,4 @@
-use Rattle.shr_audit_fresh.proofs.Common.{ℕ, ◌≤◌, List, true, false, sym, subst, arith, TreeEntry, Cited, AreCited, Each, IsTreeNumbered, IsWorkerFresh}
+use Rattle.shr_audit_fresh.proofs.Common.{ℕ, ◌≤◌, List, true, false, sym, subst, arith, TreeEntry, Cited, AreCited, EachItem, IsTreeNumbered, IsWorkerFresh}
 use Rattle.shr_audit_causes.specs.declared.cites.What.TheVariants as say
 use Rattle.shr_audit_fresh.proofs.Upto.{upto_all, upto_fails, upto_more}
 use Rattle.shr_audit_fresh.proofs.Workers.{fresh_of, fresh_past}
@@ -8,7 +8,7 @@ pub is_worker_fresh-requires-clause-begun : goal.is_worker_fresh-requires-clause
 is_worker_fresh-requires-clause-begun c = subst (λ (t : List Cited). AreCited c.args.script.now c.args.report.now say.Begun 65536 t) (sym c.as_slice-table.ensures.value) c.in_ok-begun.ensures
 
 pub is_worker_fresh-requires-clause-numbered : goal.is_worker_fresh-requires-clause-numbered
-is_worker_fresh-requires-clause-numbered c = subst (λ (tree : List TreeEntry). Each IsTreeNumbered tree) c.as_slice.ensures c.tree_fits.ensures
+is_worker_fresh-requires-clause-numbered c = subst (λ (tree : List TreeEntry). EachItem IsTreeNumbered tree) c.as_slice.ensures c.tree_fits.ensures
 
 pub loop-worker-preserved : goal.loop-worker-preserved
 loop-worker-preserved c = upto_more (IsWorkerFresh c.args.script.now c.args.report.now) c.loop-worker.worker c.loop-worker.invariant (c.in_ok-is_worker_fresh.ensures.0 c.if-not-branch.false)

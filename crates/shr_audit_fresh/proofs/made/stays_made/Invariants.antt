@@ -1,9 +1,9 @@
-use Rattle.shr_audit_fresh.proofs.Common.{ℕ, ◌<◌, AreFirsts, StaysMadeAt}
+use Rattle.shr_audit_fresh.proofs.Common.{ℕ, ◌<◌, AreLeastOfGroups, StaysMadeAt}
 use Rattle.shr_audit_fresh.proofs.MadeLaws.{MadeBefore}
 use Rattle.shr_audit_fresh.proofs.made.stays_made.Given as goal
 
 abbrev pub invariant-loop-number : goal.invariant-loop-number
 invariant-loop-number l = record {
-  firsts : AreFirsts (MadeBefore l.script l.report l.worker l.number) l.firsts;
+  firsts : AreLeastOfGroups (MadeBefore l.script l.report l.worker l.number) l.firsts;
   stays : (k : ℕ) → k < l.number → StaysMadeAt l.script l.report l.worker k;
 }

@@ -1,4 +1,4 @@
-use Rattle.shr_audit_isolations.proofs.Common.{ℕ, WorkerPart, more_at, IsPartTold}
+use Rattle.shr_audit_isolations.proofs.Common.{ℕ, WorkerPart, more_at, PartTellsIsolations}
 use Rattle.shr_audit_isolations.proofs.Commanded.{owns_here, stands_here, told_all, told_fails}
 use Rattle.shr_audit_isolations.proofs.commands.are_told.Goals as goal
 
@@ -15,7 +15,7 @@ returns-then-not-is_part_told c =
 
 pub loop-worker-preserved : goal.loop-worker-preserved
 loop-worker-preserved c =
-    more_at (λ (k : ℕ) (x : WorkerPart). IsPartTold c.args.script.now k x) c.as_slice-parts.result.now c.loop-worker.worker c.index-parts-worker.result c.loop-worker-test.true c.index-parts-worker.is c.loop-worker.invariant
+    more_at (λ (k : ℕ) (x : WorkerPart). PartTellsIsolations c.args.script.now k x) c.as_slice-parts.result.now c.loop-worker.worker c.index-parts-worker.result c.loop-worker-test.true c.index-parts-worker.is c.loop-worker.invariant
     (c.is_part_told.ensures.0 c.if-not-is_part_told.false)
 
 pub returns : goal.returns

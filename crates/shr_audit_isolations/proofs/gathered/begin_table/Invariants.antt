@@ -1,5 +1,5 @@
-use Rattle.shr_audit_isolations.proofs.Common.{take, IsBegun}
+use Rattle.shr_audit_isolations.proofs.Common.{take, IsGatheringBegun}
 use Rattle.shr_audit_isolations.proofs.gathered.begin_table.Given as goal
 
 abbrev pub invariant-loop-part : goal.invariant-loop-part
-invariant-loop-part l = IsBegun (take l.part-index l.parts) l.table.items
+invariant-loop-part l = IsGatheringBegun (take l.part-index l.parts) l.table.items

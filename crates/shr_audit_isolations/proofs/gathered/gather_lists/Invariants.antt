@@ -1,8 +1,8 @@
-use Rattle.shr_audit_isolations.proofs.Common.{◌<◌, ℕ, Gains, IsOfTheirs, journals_to}
+use Rattle.shr_audit_isolations.proofs.Common.{◌<◌, ℕ, GainsScans, IsOfTheirs, journals_to}
 use Rattle.shr_audit_isolations.proofs.gathered.gather_lists.Given as goal
 
 abbrev pub invariant-loop-k : goal.invariant-loop-k
 invariant-loop-k l = record {
   right : (n : ℕ) → n < l.k → IsOfTheirs l.fn.table.items l.ends n;
-  gains : Gains (journals_to l.ends l.k) l.fn.table.items l.table.items;
+  gains : GainsScans (journals_to l.ends l.k) l.fn.table.items l.table.items;
 }

@@ -1,5 +1,4 @@
-use Rattle.shr_audit_isolations.proofs.Common.{Option, subst, Vec, Global, IsOfIsolation, EachEntry, Gathered, AreGathered}
-use Rattle.std.specs.Prelude.{IfSome}
+use Rattle.shr_audit_isolations.proofs.Common.{Option, subst, Vec, Global, IsOfIsolation, EachEntry, Gathered, AreGathered, IfSome}
 use Rattle.shr_audit_isolations.proofs.Lists.{rows_decided}
 use Rattle.shr_audit_isolations.proofs.isolations.are_gathered_right.Goals as goal
 

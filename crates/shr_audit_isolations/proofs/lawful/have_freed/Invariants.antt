@@ -1,5 +1,5 @@
-use Rattle.shr_audit_isolations.proofs.Common.{◌≡◌, ◌+◌, sum_by, take, freed_of}
+use Rattle.shr_audit_isolations.proofs.Common.{◌≡◌, ◌+◌, sum_by, take, isolation_freed}
 use Rattle.shr_audit_isolations.proofs.lawful.have_freed.Given as goal
 
 abbrev pub invariant-loop-scan : goal.invariant-loop-scan
-invariant-loop-scan l = l.left + sum_by freed_of (take l.scan-index l.scans) ≡ l.freed
+invariant-loop-scan l = l.left + sum_by isolation_freed (take l.scan-index l.scans) ≡ l.freed

@@ -1,4 +1,4 @@
-use Rattle.shr_audit_isolations.proofs.Common.{IsLawfulIsolation, ◌≡◌, map, mets_of, Each, fails, seen_of, IsAskedAlike, IsBounded, met_by}
+use Rattle.shr_audit_isolations.proofs.Common.{IsLawfulIsolation, ◌≡◌, map, mets_of, EachItem, fails, seen_of, IsAskedAlike, IsBounded, met_by}
 use Rattle.shr_audit_isolations.proofs.Meeting.{all_tested, tested_lawful}
 use Rattle.shr_audit_isolations.proofs.lawful.is_lawful.Goals as goal
 
@@ -9,7 +9,7 @@ returns-then-not-is_bounded c =
 
 pub returns-then-not-are_asked_alike : goal.returns-then-not-are_asked_alike
 returns-then-not-are_asked_alike c =
-    fails (Each (IsAskedAlike c.args.policy) c.args.scans.now) (IsLawfulIsolation c.args.policy (map seen_of c.args.scans.now) c.args.isolation.now) c.are_asked_alike.result c.are_asked_alike.ensures c.if-not-are_asked_alike.true
+    fails (EachItem (IsAskedAlike c.args.policy) c.args.scans.now) (IsLawfulIsolation c.args.policy (map seen_of c.args.scans.now) c.args.isolation.now) c.are_asked_alike.result c.are_asked_alike.ensures c.if-not-are_asked_alike.true
     (λ h. (tested_lawful c.args.policy c.args.scans.now c.args.isolation.now h).alike)
 
 pub returns-then-not-have_met : goal.returns-then-not-have_met

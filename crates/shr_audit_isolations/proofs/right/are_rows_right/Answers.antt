@@ -1,9 +1,8 @@
-use Rattle.shr_audit_isolations.proofs.Common.{ℕ, List, length, refl, subst, Vec, Decides, Global, Script, Each, all_at, fails, more_at, Report, Gathered, told_of, AreRowsRight, IsToldRight}
-use Rattle.std.proofs.lemmas.Option.{slice_get_read}
+use Rattle.shr_audit_isolations.proofs.Common.{ℕ, List, length, refl, subst, Vec, Decides, Global, Script, EachItem, all_at, fails, more_at, Report, Gathered, told_of, AreRowsRight, IsToldRight, slice_get_read}
 use Rattle.shr_audit_isolations.proofs.right.are_rows_right.Goals as goal
 
 abbrev all : Script → Report → ℕ → List Gathered → Type 0
-all s r worker xs = Each (λ g. IsToldRight s r worker (told_of g)) xs
+all s r worker xs = EachItem (λ g. IsToldRight s r worker (told_of g)) xs
 
 abbrev row : Script → Report → ℕ → Vec Gathered Global → Type 0
 row s r worker v = all s r worker v.items

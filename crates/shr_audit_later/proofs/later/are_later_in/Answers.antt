@@ -1,4 +1,4 @@
-use Rattle.shr_audit_later.proofs.Common.{arith, each_more, IsLater, length, refl, found_at}
+use Rattle.shr_audit_later.proofs.Common.{arith, each_more, IsWalkLater, length, refl, found_at}
 use Rattle.shr_audit_later.proofs.Citing.{later_decided, none_yet}
 use Rattle.shr_audit_later.proofs.LaterLaw.{walk_fails, walks_all}
 use Rattle.shr_audit_later.proofs.Standing.{in_range, next_low, slices_stand}
@@ -22,7 +22,7 @@ loop-n-preserved c = record {
   cited = c.in_ok-note_answers.ensures;
   low = next_low (length c.as_slice-answers.result.now) c.as_slice-walks.result.now (slices_stand c.args.part.now c.as_slice-answers.result.now c.as_slice-walks.result.now c.as_slice-answers.ensures c.as_slice-walks.ensures c.requires)
       c.loop-n.n c.index-walks-n.result c.loop-n-test.true c.index-walks-n.is;
-  before = each_more (IsLater c.as_slice-answers.result.now) c.as_slice-walks.result.now c.loop-n.n c.index-walks-n.result c.loop-n-test.true c.index-walks-n.is c.loop-n.invariant.before
+  before = each_more (IsWalkLater c.as_slice-answers.result.now) c.as_slice-walks.result.now c.loop-n.n c.index-walks-n.result c.loop-n-test.true c.index-walks-n.is c.loop-n.invariant.before
       ((later_decided c.as_slice-answers.result.now c.note_answers.new.cited c.index-walks-n.result c.index-walks-n.result.by.command c.is_walk_above.result refl c.in_ok-note_answers.ensures c.is_walk_above.ensures).0 c.if-not-is_walk_above.false);
 }
 

@@ -1,5 +1,4 @@
-use Rattle.shr_audit_lists.proofs.Common.{◌≡◌, ℕ, ◌<◌, Bool, true, false, length, refl, sym, subst, arith, Contains, Decides, Begin, parent_of, IsBegun}
-use Rattle.std.specs.Prelude.{slice_index_or}
+use Rattle.shr_audit_lists.proofs.Common.{◌≡◌, ℕ, ◌<◌, Bool, true, false, length, refl, sym, subst, arith, Contains, Decides, Begin, parent_of, HasBegunAbove, slice_index_or}
 use Rattle.shr_audit_lists.proofs.Beginning.{root_decided, own_begun, below_decided}
 use Rattle.shr_audit_lists.proofs.begun.is_begun.Goals as goal
 
@@ -7,7 +6,7 @@ pub returns-then-is_begin : goal.returns-then-is_begin
 returns-then-is_begin c = (λ t. own_begun c.args.parents.now c.args.tree.now c.requires.tree (length c.args.begun.now) c.requires.there (c.is_begin.ensures.0 c.if-is_begin.true), λ h. refl)
 
 pub returns-then-group-eq0 : goal.returns-then-group-eq0
-returns-then-group-eq0 c = subst (λ (n : ℕ). Decides false (IsBegun c.args.parents.now c.args.tree.now n)) (sym c.if-group-eq0.true)
+returns-then-group-eq0 c = subst (λ (n : ℕ). Decides false (HasBegunAbove c.args.parents.now c.args.tree.now n)) (sym c.if-group-eq0.true)
     (root_decided c.args.parents.now c.args.tree.now (subst (λ (n : ℕ). Decides false (Contains c.args.tree.now (Begin n))) c.if-group-eq0.true
     (subst (λ (b : Bool). Decides b (Contains c.args.tree.now (Begin (length c.args.begun.now)))) c.if-is_begin.false c.is_begin.ensures)))
 

@@ -1,5 +1,4 @@
-use Rattle.shr_audit_lists.proofs.Common.{◌≡◌, ℕ, true, is_child, at_group, IsPairedAt, journals_of}
-use Rattle.std.proofs.Common.{below_more}
+use Rattle.shr_audit_lists.proofs.Common.{◌≡◌, ℕ, true, is_child, at_group, IsPairedAt, journals_of, below_more}
 use Rattle.shr_audit_lists.proofs.paired.are_children_paired.Goals as goal
 
 pub loop-child-preserved : goal.loop-child-preserved

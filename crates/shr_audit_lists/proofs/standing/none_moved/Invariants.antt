@@ -1,5 +1,5 @@
-use Rattle.shr_audit_lists.proofs.Common.{◌≡◌, [], length, AreMoved}
+use Rattle.shr_audit_lists.proofs.Common.{◌≡◌, [], length, AreMovesTold}
 use Rattle.shr_audit_lists.proofs.standing.none_moved.Given as goal
 
 abbrev pub invariant-loop-group : goal.invariant-loop-group
-invariant-loop-group l = (length l.moved.items ≡ l._group) × AreMoved [] l.moved.items
+invariant-loop-group l = (length l.moved.items ≡ l._group) × AreMovesTold [] l.moved.items

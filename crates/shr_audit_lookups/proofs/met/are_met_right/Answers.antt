@@ -1,4 +1,4 @@
-use Rattle.shr_audit_lookups.proofs.Common.{◌≡◌, ℕ, List, Some, slice_get, subst, Decides, WorkerPart, Each, EachAttempt, IsMetRight}
+use Rattle.shr_audit_lookups.proofs.Common.{◌≡◌, ℕ, List, Some, slice_get, subst, Decides, WorkerPart, EachItem, EachAttempt, IsMetRight}
 use Rattle.shr_case.proofs.Eachs.{each_walk_of}
 use Rattle.shr_audit_lookups.proofs.met.are_met_right.Goals as goal
 
@@ -7,4 +7,4 @@ returns c =
     let r = c.args.report.now in
     let b = c.are_parts_right-right.result in
     each_walk_of r (λ worker n w. EachAttempt w (IsMetRight r)) b
-    (subst (λ (parts : List WorkerPart). Decides b ((worker : ℕ) (part : WorkerPart) → slice_get parts worker ≡ Some part → Each (λ w. EachAttempt w (IsMetRight r)) part.walks.items)) c.as_slice-2.ensures c.are_parts_right-right.ensures)
+    (subst (λ (parts : List WorkerPart). Decides b ((worker : ℕ) (part : WorkerPart) → slice_get parts worker ≡ Some part → EachItem (λ w. EachAttempt w (IsMetRight r)) part.walks.items)) c.as_slice-2.ensures c.are_parts_right-right.ensures)

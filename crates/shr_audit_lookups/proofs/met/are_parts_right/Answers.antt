@@ -1,8 +1,8 @@
-use Rattle.shr_audit_lookups.proofs.Common.{◌≡◌, ℕ, List, Some, slice_get, length, refl, subst, sym, Decides, slice_get_read, WorkerPart, WalkRecord, Each, all_at, fails, more_at, Report, EachAttempt, IsMetRight}
+use Rattle.shr_audit_lookups.proofs.Common.{◌≡◌, ℕ, List, Some, slice_get, length, refl, subst, sym, Decides, slice_get_read, WorkerPart, WalkRecord, EachItem, all_at, fails, more_at, Report, EachAttempt, IsMetRight}
 use Rattle.shr_audit_lookups.proofs.met.are_parts_right.Goals as goal
 
 abbrev walks : Report → List WalkRecord → Type 0
-walks r xs = Each (λ w. EachAttempt w (IsMetRight r)) xs
+walks r xs = EachItem (λ w. EachAttempt w (IsMetRight r)) xs
 
 abbrev part : Report → ℕ → WorkerPart → Type 0
 part r worker p = walks r p.walks.items

@@ -1,4 +1,4 @@
-use Rattle.shr_audit_offlines.proofs.Common.{◌+◌, ◌-◌, ◌*◌, ◌<◌, ◌∙◌, List, subst, take, arith, sum_by, Entry, moved_of, AreSums}
+use Rattle.shr_audit_offlines.proofs.Common.{◌+◌, ◌-◌, ◌*◌, ◌<◌, ◌∙◌, List, subst, take, arith, sum_by, Entry, moved_of, AreCappedSums}
 use Rattle.shr_audit_offlines.proofs.MovedLaws.{all_moved, moved_by, places_more, sums_none}
 use Rattle.shr_audit_offlines.proofs.moved.moved_of.Goals as goal
 use Rattle.shr_audit_offlines.proofs.CarriedLaws.{many_none}
@@ -22,7 +22,7 @@ loop-k-preserved c =
     record {
       count = c.note_all.ensures.count ∙ c.loop-k.invariant.count;
       sums = places_more r ends k next d low c.run_end-next.ensures.within c.run_end-next.ensures.same new
-          (subst (λ (es : List Entry). AreSums (λ g. sum_by (moved_by r g) (take k ends) + (next - k) * sum_by (moved_of g) es) new) c.journal_at-entries.ensures
+          (subst (λ (es : List Entry). AreCappedSums (λ g. sum_by (moved_by r g) (take k ends) + (next - k) * sum_by (moved_of g) es) new) c.journal_at-entries.ensures
           (c.note_all.ensures.noted (λ g. sum_by (moved_by r g) (take k ends)) c.loop-k.invariant.sums));
     }
 

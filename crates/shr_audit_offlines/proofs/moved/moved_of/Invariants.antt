@@ -1,11 +1,11 @@
-use Rattle.shr_audit_offlines.proofs.Common.{◌≡◌, ◌-◌, length, take, sum_by, AreSums}
+use Rattle.shr_audit_offlines.proofs.Common.{◌≡◌, ◌-◌, length, take, sum_by, AreCappedSums}
 use Rattle.shr_audit_offlines.proofs.MovedLaws.{moved_by}
 use Rattle.shr_audit_offlines.proofs.moved.moved_of.Given as goal
 
 abbrev pub invariant-loop-k : goal.invariant-loop-k
 invariant-loop-k l = record {
   count : length l.moved.items ≡ 65536;
-  sums : AreSums (λ g. sum_by (moved_by l.report g) (take l.k l.ends)) l.moved.items;
+  sums : AreCappedSums (λ g. sum_by (moved_by l.report g) (take l.k l.ends)) l.moved.items;
 }
 
 abbrev pub decreases-loop-k : goal.decreases-loop-k

@@ -1,4 +1,4 @@
-use Rattle.shr_audit_offlines.proofs.Common.{◌+◌, ◌*◌, ◌∙◌, List, ap, subst, take, sum_by, take_all, Entry, moved_of, AreSums}
+use Rattle.shr_audit_offlines.proofs.Common.{◌+◌, ◌*◌, ◌∙◌, List, ap, subst, take, sum_by, take_all, Entry, moved_of, AreCappedSums}
 use Rattle.shr_audit_offlines.proofs.MovedLaws.{entries_more, sums_same}
 use Rattle.shr_audit_offlines.proofs.moved.note_all.Goals as goal
 
@@ -12,7 +12,7 @@ loop-entry-preserved c =
     record {
       count = c.note.ensures.count ∙ c.loop-entry.invariant.count;
       noted = λ sums are. entries_more es n e times sums new c.loop-entry-test.true
-          (subst (λ (x : Entry). AreSums (λ g. (sums g + times * sum_by (moved_of g) (take n es)) + times * moved_of g x) new) c.entry-item.is
+          (subst (λ (x : Entry). AreCappedSums (λ g. (sums g + times * sum_by (moved_of g) (take n es)) + times * moved_of g x) new) c.entry-item.is
           (c.note.ensures.noted (λ g. sums g + times * sum_by (moved_of g) (take n es)) (c.loop-entry.invariant.noted sums are)));
     }
 

@@ -1,5 +1,4 @@
-use Rattle.shr_audit_pools.proofs.Common.{units_place, IsEntryRight, items_whole}
-use Rattle.shr_audit_due.proofs.Loops.{value_fails, value_more}
+use Rattle.shr_audit_pools.proofs.Common.{units_place, IsEntryRight, items_whole, value_fails, value_more}
 use Rattle.shr_audit_pools.proofs.entries.are_entries_right.Goals as goal
 
 pub returns-then-not-is_entry_right : goal.returns-then-not-is_entry_right

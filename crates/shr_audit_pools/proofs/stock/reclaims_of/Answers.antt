@@ -1,5 +1,4 @@
-use Rattle.shr_audit_pools.proofs.Common.{rules, Reclaimed}
-use Rattle.std.proofs.lemmas.List.Sorted.{IsNonDecreasingBy-from_sort_by_key, answers_always}
+use Rattle.shr_audit_pools.proofs.Common.{rules, Reclaimed, IsNonDecreasingBy-from_sort_by_key, answers_always}
 use Rattle.shr_audit_pools.proofs.Stocked.{reclaims_sorted}
 use Rattle.shr_audit_pools.proofs.stock.reclaims_of.Goals as goal
 

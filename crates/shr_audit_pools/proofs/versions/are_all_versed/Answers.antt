@@ -1,5 +1,4 @@
-use Rattle.shr_audit_pools.proofs.Common.{ℕ, WorkerPart, more_at, IsPartVersed, item_fails, items_whole, here_at}
-use Rattle.shr_formed.proofs.WellParts.{parts_of}
+use Rattle.shr_audit_pools.proofs.Common.{ℕ, WorkerPart, more_at, IsPartVersed, item_fails, items_whole, here_at, parts_of}
 use Rattle.shr_audit_due.proofs.Dues.{stands_here}
 use Rattle.shr_audit_pools.proofs.versions.are_all_versed.Goals as goal
 

@@ -1,5 +1,4 @@
-use Rattle.shr_audit_pools.proofs.Common.{◌≡◌, ◌<◌, ℕ, Some, slice_get, PlainTry}
-use Rattle.shr_audit_pools.specs.Lows.{IsTryHigh}
+use Rattle.shr_audit_pools.proofs.Common.{◌≡◌, ◌<◌, ℕ, Some, slice_get, PlainTry, IsTryHigh}
 use Rattle.shr_audit_pools.proofs.versions.is_walk_high.Given as goal
 
 abbrev pub invariant-loop-pool : goal.invariant-loop-pool

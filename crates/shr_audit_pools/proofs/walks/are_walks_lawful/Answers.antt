@@ -1,5 +1,4 @@
-use Rattle.shr_audit_pools.proofs.Common.{◌≡◌, ℕ, List, Some, slice_get, true, false, subst, Decides, WorkerPart, PlainWalk, more_at, IsPlainLawful, item_fails, items_whole}
-use Rattle.shr_audit_due.proofs.Loops.{each_plain_of}
+use Rattle.shr_audit_pools.proofs.Common.{◌≡◌, ℕ, List, Some, slice_get, true, false, subst, Decides, WorkerPart, PlainWalk, more_at, IsPlainLawful, item_fails, items_whole, each_plain_of}
 use Rattle.shr_audit_pools.proofs.walks.are_walks_lawful.Goals as goal
 
 pub returns-then-not-are_plain_lawful : goal.returns-then-not-are_plain_lawful

@@ -1,5 +1,5 @@
-use Rattle.shr_audit_pools.proofs.Common.{◌≡◌, ◌+◌, sum_by, take, freed_in}
+use Rattle.shr_audit_pools.proofs.Common.{◌≡◌, ◌+◌, sum_by, take, freed_in_try}
 use Rattle.shr_audit_pools.proofs.walks.have_freed.Given as goal
 
 abbrev pub invariant-loop-tried : goal.invariant-loop-tried
-invariant-loop-tried l = l.left + sum_by freed_in (take l.tried-index l.tries) ≡ l.told
+invariant-loop-tried l = l.left + sum_by freed_in_try (take l.tried-index l.tries) ≡ l.told

@@ -1,4 +1,4 @@
-use Rattle.shr_audit_replies.proofs.Common.{fails, AreAnswered, AreEntriesCited, IsCounted, AreLastSwept, AreRepliesLawfulButValues, HasHeads}
+use Rattle.shr_audit_replies.proofs.Common.{fails, AreAnswered, AreEntriesCited, AllHaveAnswers, AreLastSwept, AreRepliesLawfulButValues, HasHeads}
 use Rattle.shr_audit_replies.proofs.Answering.{journals_rise, replies_rise}
 use Rattle.shr_audit_replies.proofs.law.are_replies_lawful_but_values.Goals as goal
 
@@ -6,7 +6,7 @@ pub returns-then-not-has_heads : goal.returns-then-not-has_heads
 returns-then-not-has_heads c = fails (HasHeads c.args.script.now c.args.report.now) (AreRepliesLawfulButValues c.args.script.now c.args.report.now) c.has_heads.result c.has_heads.ensures c.if-not-has_heads.true (λ h. h.heads)
 
 pub returns-then-not-is_counted : goal.returns-then-not-is_counted
-returns-then-not-is_counted c = fails (IsCounted c.args.script.now c.args.report.now) (AreRepliesLawfulButValues c.args.script.now c.args.report.now) c.is_counted.result c.is_counted.ensures c.if-not-is_counted.true (λ h. h.counts)
+returns-then-not-is_counted c = fails (AllHaveAnswers c.args.script.now c.args.report.now) (AreRepliesLawfulButValues c.args.script.now c.args.report.now) c.is_counted.result c.is_counted.ensures c.if-not-is_counted.true (λ h. h.counts)
 
 pub returns-then-not-are_last_swept : goal.returns-then-not-are_last_swept
 returns-then-not-are_last_swept c = fails (AreLastSwept c.args.script.now c.args.report.now) (AreRepliesLawfulButValues c.args.script.now c.args.report.now) c.are_last_swept.result c.are_last_swept.ensures c.if-not-are_last_swept.true (λ h. h.last)

@@ -1,9 +1,9 @@
-use Rattle.shr_audit_replies.proofs.Common.{◌≡◌, ℕ, List, Some, slice_get, length, refl, arith, Decides, slice_get_read, PlaceEnd, EachFirst, IsFirst, all_at, fails, more_at, AreRising}
+use Rattle.shr_audit_replies.proofs.Common.{◌≡◌, ℕ, List, Some, slice_get, length, refl, arith, Decides, slice_get_read, PlaceEnd, EachFirst, IsFirst, all_at, fails, more_at, AreCommandsRising}
 use Rattle.shr_audit_replies.proofs.Deciding.{first_part}
 use Rattle.shr_audit_replies.proofs.rising.are_lists_rising.Goals as goal
 
 abbrev whole : PlaceEnd → Type 0
-whole end = AreRising end.entries.items
+whole end = AreCommandsRising end.entries.items
 
 abbrev part : List PlaceEnd → ℕ → PlaceEnd → Type 0
 part ends k end = IsFirst ends k end.place → whole end

@@ -1,4 +1,4 @@
-use Rattle.shr_audit_replies.proofs.Common.{List, subst, Decides, Entry, AreRising}
+use Rattle.shr_audit_replies.proofs.Common.{List, subst, Decides, Entry, AreCommandsRising}
 use Rattle.shr_audit_replies.proofs.Risings.{below_more}
 use Rattle.shr_audit_replies.proofs.rising.is_list_rising.Goals as goal
 
@@ -8,5 +8,5 @@ returns-then-not-first-clause-seen c = λ t. below_more c.args.journal c.args.se
 pub returns-clause-rising : goal.returns-clause-rising
 returns-clause-rising c =
     let b = c.is_rising-rising.result in
-    let all : Decides b (AreRising c.args.end.now.entries.items) = subst (λ (es : List Entry). Decides b (AreRising es)) c.as_slice.ensures c.is_rising-rising.ensures.rising in
+    let all : Decides b (AreCommandsRising c.args.end.now.entries.items) = subst (λ (es : List Entry). Decides b (AreCommandsRising es)) c.as_slice.ensures c.is_rising-rising.ensures.rising in
     (λ t first. all.0 t, λ h. all.1 (h c.if-not-first.false))

@@ -1,5 +1,4 @@
-use Rattle.shr_audit_replies.proofs.Common.{ap, arith, length, ◌∙◌, ◌∷◌, [], subst, List, ℕ, ◌<◌, sym, ◌+◌, Last, last_of, no_last}
-use Rattle.std.proofs.Common.{length-append}
+use Rattle.shr_audit_replies.proofs.Common.{ap, arith, length, ◌∙◌, ◌∷◌, [], subst, List, ℕ, ◌<◌, sym, ◌+◌, Last, last_of_worker, no_last, length-append}
 use Rattle.shr_audit_replies.proofs.Risings.{below_none, below_push}
 use Rattle.shr_audit_replies.proofs.rising.no_lasts.Goals as goal
 
@@ -15,7 +14,7 @@ loop-worker-preserved c =
     let pushed = c.in_ok-push.ensures.items in
     record {
       count = ap length pushed ∙ (length-append old (no_last ∷ []) ∙ ap (λ (n : ℕ). n + 1) c.loop-worker.invariant.count);
-      below = subst (λ (xs : List Last). (worker : ℕ) → (last_of xs worker).journal < 1) (sym pushed) (below_push old c.loop-worker.invariant.below);
+      below = subst (λ (xs : List Last). (worker : ℕ) → (last_of_worker xs worker).journal < 1) (sym pushed) (below_push old c.loop-worker.invariant.below);
     }
 
 pub returns : goal.returns

@@ -1,6 +1,5 @@
-use Rattle.shr_audit_replies.proofs.Common.{List, subst, PlaceEnd}
+use Rattle.shr_audit_replies.proofs.Common.{List, subst, PlaceEnd, below_of}
 use Rattle.shr_formed.specs.Each.{Adjacent}
-use Rattle.shr_formed.proofs.Eachs.{below_of}
 use Rattle.shr_report.specs.WellFormed.{IsPlaceUpTo}
 use Rattle.shr_audit_replies.proofs.tests.do_lists_stand.Goals as goal
 

@@ -1,17 +1,17 @@
-use Rattle.shr_audit_rounds.proofs.Common.{◌<◌, ℕ, Bool, List, length, refl, subst, Decides, AllByRecursion, IsAtOrAbove, is_whole, over_of, groups_of, FitsRounds, jobs_made}
+use Rattle.shr_audit_rounds.proofs.Common.{◌<◌, ℕ, Bool, List, length, refl, subst, Decides, AllByRecursion, IsAtOrAbove, is_whole, over_of, refused_groups, FitsRounds, jobs_made}
 use Rattle.shr_audit_rounds.proofs.Due.{above_put, due_found, due_so, groups_there, none_put, put_decided}
 use Rattle.shr_audit_rounds.proofs.puts.is_put_made.Goals as goal
 
 pub returns-then-not-leave_rounds : goal.returns-then-not-leave_rounds
 returns-then-not-leave_rounds c =
-    none_put c.args.dues.now.subtrees.parents.items c.args.dues.now.nodes c.args.group (over_of c.args.reply.now) (is_whole c.args.reply.now) (groups_of c.args.refusals.now) (jobs_made c.args.walks.now) c.over_of.result c.in_ok-groups.groups.items c.over_of.ensures c.in_ok-groups.ensures (c.if-not-leave_rounds.ensures.none refl)
+    none_put c.args.dues.now.subtrees.parents.items c.args.dues.now.nodes c.args.group (over_of c.args.reply.now) (is_whole c.args.reply.now) (refused_groups c.args.refusals.now) (jobs_made c.args.walks.now) c.over_of.result c.in_ok-groups.groups.items c.over_of.ensures c.in_ok-groups.ensures (c.if-not-leave_rounds.ensures.none refl)
 
 pub returns-then-not-are_above : goal.returns-then-not-are_above
 returns-then-not-are_above c =
     let parents = c.args.dues.now.subtrees.parents.items in
     let group = c.args.group in
     let new = c.leave_rounds.new.groups.items in
-    let refused = groups_of c.args.refusals.now in
+    let refused = refused_groups c.args.refusals.now in
     let over = over_of c.args.reply.now in
     let due = due_found over c.over_of.result refused c.in_ok-groups.groups.items new c.over_of.ensures c.in_ok-groups.ensures (c.if-not-leave_rounds.ensures.due refl) in
     let b = c.are_above.result in
@@ -24,7 +24,7 @@ pub are_rounds-made-requires-clause-there : goal.are_rounds-made-requires-clause
 are_rounds-made-requires-clause-there c =
     let n = length c.args.dues.now.subtrees.parents.items in
     let new = c.leave_rounds.new.groups.items in
-    let refused = groups_of c.args.refusals.now in
+    let refused = refused_groups c.args.refusals.now in
     let over = over_of c.args.reply.now in
     let due = due_found over c.over_of.result refused c.in_ok-groups.groups.items new c.over_of.ensures c.in_ok-groups.ensures (c.if-not-leave_rounds.ensures.due refl) in
     due_so (λ (g : ℕ). g < n) over refused new due (groups_there n c.args.refusals.now c.requires.there)
@@ -34,7 +34,7 @@ returns c =
     let parents = c.args.dues.now.subtrees.parents.items in
     let group = c.args.group in
     let new = c.leave_rounds.new.groups.items in
-    let refused = groups_of c.args.refusals.now in
+    let refused = refused_groups c.args.refusals.now in
     let over = over_of c.args.reply.now in
     let whole = is_whole c.args.reply.now in
     let walks = jobs_made c.args.walks.now in

@@ -1,5 +1,4 @@
-use Rattle.shr_audit_rounds.proofs.Common.{◌≡◌, true, false, subst, arith, rules, nat_le, nat_tests, IsPartitionPoint-from_clause, get_or_from_slice_get, slice_get_within, Refusal}
-use Rattle.std.proofs.lemmas.List.Sorted.{IsPartitionedBy-leb}
+use Rattle.shr_audit_rounds.proofs.Common.{◌≡◌, true, false, subst, arith, rules, nat_le, nat_tests, IsPartitionPoint-from_clause, get_or_from_slice_get, slice_get_within, Refusal, IsPartitionedBy-leb}
 use Rattle.shr_audit_rounds.proofs.refusals.behind_of.Goals as goal
 
 pub returns-clause-before : goal.returns-clause-before

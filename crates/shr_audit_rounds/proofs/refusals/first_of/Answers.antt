@@ -1,5 +1,4 @@
-use Rattle.shr_audit_rounds.proofs.Common.{◌≡◌, true, false, subst, arith, rules, nat_lt, nat_tests, IsPartitionPoint-from_clause, get_or_from_slice_get, slice_get_within, Refusal}
-use Rattle.std.proofs.lemmas.List.Sorted.{IsPartitionedBy-ltb}
+use Rattle.shr_audit_rounds.proofs.Common.{◌≡◌, true, false, subst, arith, rules, nat_lt, nat_tests, IsPartitionPoint-from_clause, get_or_from_slice_get, slice_get_within, Refusal, IsPartitionedBy-ltb}
 use Rattle.shr_audit_rounds.proofs.refusals.first_of.Goals as goal
 
 pub returns-clause-before : goal.returns-clause-before

@@ -1,5 +1,4 @@
-use Rattle.shr_audit_rounds.proofs.Common.{rules, Refusal}
-use Rattle.std.proofs.lemmas.List.Sorted.{answers_always, IsNonDecreasingBy-from_sort}
+use Rattle.shr_audit_rounds.proofs.Common.{rules, Refusal, answers_always, IsNonDecreasingBy-from_sort}
 use Rattle.shr_audit_rounds.proofs.refusals.refusals_of.Goals as goal
 
 pub returns-clause-order : goal.returns-clause-order

@@ -1,5 +1,4 @@
-use Rattle.shr_audit_rounds.proofs.Common.{◌≡◌, ℕ, Bool, true, false, refl, Vec, length, ap, subst, ◌∙◌, arith, Global, ◌==◌, ◌||◌, not, Decides, FitsRounds, jobs_made}
-use Rattle.std.proofs.Common.{vec_len}
+use Rattle.shr_audit_rounds.proofs.Common.{◌≡◌, ℕ, Bool, true, false, refl, Vec, length, ap, subst, ◌∙◌, arith, Global, ◌==◌, ◌||◌, not, Decides, FitsRounds, jobs_made, vec_len}
 use Rattle.shr_audit_rounds.proofs.Fitting.{all_rounds, group_fails, group_there, nothing_left, round_fails, round_more, some_left, still_there}
 use Rattle.shr_audit_rounds.proofs.rounds.are_rounds.Goals as goal
 

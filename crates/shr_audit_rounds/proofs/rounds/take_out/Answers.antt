@@ -1,4 +1,4 @@
-use Rattle.shr_audit_rounds.proofs.Common.{◌≡◌, ℕ, List, ap, length, subst, arith, times}
+use Rattle.shr_audit_rounds.proofs.Common.{◌≡◌, ℕ, List, ap, length, subst, arith, times_over}
 use Rattle.shr_audit_rounds.proofs.Alike.{none_there}
 use Rattle.shr_audit_rounds.proofs.rounds.take_out.Goals as goal
 
@@ -7,4 +7,4 @@ returns c =
     let kept = c.loop-k.invariant.kept in
     let long = ap length kept in
     let end = c.len-k-end.ensures in
-    subst (λ (xs : List ℕ). times c.args.group xs ≡ 0) kept (none_there c.args.group c.loop-k.groups.items (λ k lt e. c.loop-k.invariant.none k (omega (arith, lt, long, end, c.args.groups.now.ok.0)) e))
+    subst (λ (xs : List ℕ). times_over c.args.group xs ≡ 0) kept (none_there c.args.group c.loop-k.groups.items (λ k lt e. c.loop-k.invariant.none k (omega (arith, lt, long, end, c.args.groups.now.ok.0)) e))

@@ -1,5 +1,4 @@
-use Rattle.shr_audit_rows.proofs.Common.{arith, IsSo}
-use Rattle.shr_formed.proofs.Eachs.{each_all}
+use Rattle.shr_audit_rows.proofs.Common.{arith, IsAskedRight, each_all}
 use Rattle.shr_audit_rows.proofs.KnownLaws.{at_entry, from_start, low_next, so_fails, so_next}
 use Rattle.shr_audit_rows.proofs.known.are_so.Goals as goal
 
@@ -16,11 +15,11 @@ loop-n-preserved c =
     record {
       stands = at_entry c.args.report.now.pool.items c.is_so.new.pooled.next _ c.is_so.new.pooled.phases.items c.is_so.new.pooled.decls.items (c.is_so.ensures.next yes_so) (c.is_so.ensures.stands yes_so);
       low = low_next c.args.asked.now c.loop-n.n c.is_so.new.pooled.next _ c.requires (c.is_so.ensures.next yes_so);
-      before = so_next (IsSo c.args.script.now c.args.report.now) c.args.asked.now c.loop-n.n _ c.loop-n-test.true c.loop-n.invariant.before (c.is_so.ensures.so.0 yes_so);
+      before = so_next (IsAskedRight c.args.script.now c.args.report.now) c.args.asked.now c.loop-n.n _ c.loop-n-test.true c.loop-n.invariant.before (c.is_so.ensures.so.0 yes_so);
     }
 
 pub returns-then-not-is_so : goal.returns-then-not-is_so
-returns-then-not-is_so c = so_fails (IsSo c.args.script.now c.args.report.now) c.args.asked.now c.loop-n.n _ c.is_so.result c.loop-n-test.true c.is_so.ensures.so c.if-not-is_so.true
+returns-then-not-is_so c = so_fails (IsAskedRight c.args.script.now c.args.report.now) c.args.asked.now c.loop-n.n _ c.is_so.result c.loop-n-test.true c.is_so.ensures.so c.if-not-is_so.true
 
 pub returns : goal.returns
-returns c = each_all (IsSo c.args.script.now c.args.report.now) c.args.asked.now c.loop-n.n c.loop-n-test.false c.loop-n.invariant.before
+returns c = each_all (IsAskedRight c.args.script.now c.args.report.now) c.args.asked.now c.loop-n.n c.loop-n-test.false c.loop-n.invariant.before

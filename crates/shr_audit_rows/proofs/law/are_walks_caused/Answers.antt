@@ -1,5 +1,4 @@
-use Rattle.shr_audit_rows.proofs.Common.{fails, AreWalksCaused}
-use Rattle.shr_report.specs.Parts.{EachAttempt, EachWalk}
+use Rattle.shr_audit_rows.proofs.Common.{fails, AreWalksCaused, EachAttempt, EachWalk}
 use Rattle.shr_audit_causes.specs.Walks.{CitesBegin, IsWornRightly}
 use Rattle.shr_audit_spent.specs.Passes.{ArePassesCaused}
 use Rattle.shr_audit_rows.proofs.law.are_walks_caused.Goals as goal

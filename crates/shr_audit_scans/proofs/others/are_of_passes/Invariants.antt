@@ -1,5 +1,4 @@
-use Rattle.shr_audit_scans.proofs.Common.{◌≡◌, ◌<◌, ℕ, Some, slice_get, Entry, Report, IsEntryOfPass}
-use Rattle.shr_audit_scans.specs.Passes.{ArePassesOf}
+use Rattle.shr_audit_scans.proofs.Common.{◌≡◌, ◌<◌, ℕ, Some, slice_get, Entry, Report, IsEntryOfPass, ArePassesOf}
 use Rattle.shr_audit_scans.proofs.others.are_of_passes.Given as goal
 
 abbrev pub invariant-loop-entry : goal.invariant-loop-entry

@@ -1,6 +1,4 @@
-use Rattle.shr_audit_scans.proofs.Common.{◌≡◌, true, false, subst, arith, rules, nat_tests, IsPartitionPoint-from_clause, get_or_from_slice_get, slice_get_within, ScanSeen, row_key}
-use Rattle.std.specs.Prelude.{nat_le}
-use Rattle.std.proofs.lemmas.List.Sorted.{IsPartitionedBy-leb}
+use Rattle.shr_audit_scans.proofs.Common.{◌≡◌, true, false, subst, arith, rules, nat_tests, IsPartitionPoint-from_clause, get_or_from_slice_get, slice_get_within, ScanSeen, row_key, nat_le, IsPartitionedBy-leb}
 use Rattle.shr_audit_scans.proofs.table.behind_of.Goals as goal
 
 pub returns-clause-before : goal.returns-clause-before

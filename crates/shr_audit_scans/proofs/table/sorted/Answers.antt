@@ -1,5 +1,4 @@
-use Rattle.shr_audit_scans.proofs.Common.{rules, IsNonDecreasingBy-from_sort, row_key}
-use Rattle.std.proofs.lemmas.List.Sorted.{answers_always}
+use Rattle.shr_audit_scans.proofs.Common.{rules, IsNonDecreasingBy-from_sort, row_key, answers_always}
 use Rattle.shr_audit_scans.proofs.Ordered.{same_order}
 use Rattle.shr_audit_scans.proofs.table.sorted.Goals as goal
 

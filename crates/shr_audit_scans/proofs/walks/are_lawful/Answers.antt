@@ -1,5 +1,4 @@
-use Rattle.shr_audit_scans.proofs.Common.{Decides, all_at, IsLawfulWalk}
-use Rattle.shr_formed.proofs.Eachs.{more_at}
+use Rattle.shr_audit_scans.proofs.Common.{Decides, all_at, IsLawfulWalk, more_at}
 use Rattle.shr_audit_scans.proofs.LawfulLaw.{one_fails}
 use Rattle.shr_audit_scans.proofs.walks.are_lawful.Goals as goal
 

@@ -1,5 +1,4 @@
-use Rattle.shr_audit_spent.proofs.Common.{ℕ, sym, ◌∙◌, subst, arith, IsCapped}
-use Rattle.std.proofs.lemmas.List.{get_or_default}
+use Rattle.shr_audit_spent.proofs.Common.{ℕ, sym, ◌∙◌, subst, arith, IsCapped, get_or_default}
 use Rattle.shr_audit_spent.proofs.Counting.{no_part, one_noted, other_kind}
 use Rattle.shr_audit_spent.proofs.counted.note_step.Goals as goal
 

@@ -1,9 +1,8 @@
-use Rattle.shr_audit_spent.proofs.Common.{◌≡◌, ℕ, List, Some, slice_get, length, refl, subst, sym, Decides, slice_get_read, WorkerPart, Script, WalkRecord, Each, fails, Report, EachAttempt, IsRunCaused}
-use Rattle.shr_formed.proofs.Eachs.{all_at, more_at}
+use Rattle.shr_audit_spent.proofs.Common.{◌≡◌, ℕ, List, Some, slice_get, length, refl, subst, sym, Decides, slice_get_read, WorkerPart, Script, WalkRecord, EachItem, fails, Report, EachAttempt, IsRunCaused, all_at, more_at}
 use Rattle.shr_audit_spent.proofs.passes.are_parts_caused.Goals as goal
 
 abbrev walks : Script → Report → ℕ → List WalkRecord → Type 0
-walks s r worker xs = Each (λ w. EachAttempt w (λ a. IsRunCaused s r worker w a)) xs
+walks s r worker xs = EachItem (λ w. EachAttempt w (λ a. IsRunCaused s r worker w a)) xs
 
 abbrev part : Script → Report → ℕ → WorkerPart → Type 0
 part s r worker p = walks s r worker p.walks.items

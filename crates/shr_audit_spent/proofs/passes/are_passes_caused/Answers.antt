@@ -1,4 +1,4 @@
-use Rattle.shr_audit_spent.proofs.Common.{◌≡◌, ℕ, List, Some, slice_get, subst, Decides, WorkerPart, Each, EachAttempt, IsRunCaused}
+use Rattle.shr_audit_spent.proofs.Common.{◌≡◌, ℕ, List, Some, slice_get, subst, Decides, WorkerPart, EachItem, EachAttempt, IsRunCaused}
 use Rattle.shr_case.proofs.Eachs.{each_walk_of}
 use Rattle.shr_audit_spent.proofs.passes.are_passes_caused.Goals as goal
 
@@ -8,4 +8,4 @@ returns c =
     let r = c.args.report.now in
     let b = c.are_parts_caused-all.result in
     each_walk_of r (λ worker n w. EachAttempt w (λ a. IsRunCaused s r worker w a)) b
-    (subst (λ (parts : List WorkerPart). Decides b ((worker : ℕ) (part : WorkerPart) → slice_get parts worker ≡ Some part → Each (λ w. EachAttempt w (λ a. IsRunCaused s r worker w a)) part.walks.items)) c.as_slice.ensures c.are_parts_caused-all.ensures)
+    (subst (λ (parts : List WorkerPart). Decides b ((worker : ℕ) (part : WorkerPart) → slice_get parts worker ≡ Some part → EachItem (λ w. EachAttempt w (λ a. IsRunCaused s r worker w a)) part.walks.items)) c.as_slice.ensures c.are_parts_caused-all.ensures)

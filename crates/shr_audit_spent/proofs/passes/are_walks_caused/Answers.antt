@@ -1,4 +1,4 @@
-use Rattle.shr_audit_spent.proofs.Common.{ℕ, length, refl, slice_get_read, Script, WalkRecord, Each, each_all, each_more, fails, Report, EachAttempt, IsRunCaused}
+use Rattle.shr_audit_spent.proofs.Common.{ℕ, length, refl, slice_get_read, Script, WalkRecord, EachItem, each_all, each_more, fails, Report, EachAttempt, IsRunCaused}
 use Rattle.shr_audit_spent.proofs.passes.are_walks_caused.Goals as goal
 
 abbrev caused : Script → Report → ℕ → WalkRecord → Type 0
@@ -9,7 +9,7 @@ returns-then-not-are_runs_caused c =
     let p = caused c.args.script.now c.args.report.now c.args.worker in
     let ws = c.args.walks.now in
     let w = c.walk-item.result in
-    fails (p w) (Each p ws) c.are_runs_caused.result c.are_runs_caused.ensures c.if-not-are_runs_caused.true (λ all. all c.loop-walk.walk-index w (slice_get_read ws (length ws) c.loop-walk.walk-index w refl c.loop-walk-test.true c.walk-item.is))
+    fails (p w) (EachItem p ws) c.are_runs_caused.result c.are_runs_caused.ensures c.if-not-are_runs_caused.true (λ all. all c.loop-walk.walk-index w (slice_get_read ws (length ws) c.loop-walk.walk-index w refl c.loop-walk-test.true c.walk-item.is))
 
 pub loop-walk-preserved : goal.loop-walk-preserved
 loop-walk-preserved c = each_more (caused c.args.script.now c.args.report.now c.args.worker) c.args.walks.now c.loop-walk.walk-index c.walk-item.result c.loop-walk-test.true c.walk-item.is c.loop-walk.invariant

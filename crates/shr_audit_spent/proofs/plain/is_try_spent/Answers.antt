@@ -1,6 +1,5 @@
-use Rattle.shr_audit_spent.proofs.Common.{ap, sym, pool_place, IsEndSpent}
+use Rattle.shr_audit_spent.proofs.Common.{ap, sym, pool_place, IsEndSpent, pass_in}
 use Rattle.shr_base.specs.declared.walks.PassRecord.{PassRecord}
-use Rattle.shr_report.specs.UnitParts.{pass_in}
 use Rattle.shr_audit_spent.proofs.Finding.{at_some}
 use Rattle.shr_audit_spent.proofs.plain.is_try_spent.Goals as goal
 

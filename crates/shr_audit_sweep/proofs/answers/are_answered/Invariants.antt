@@ -1,5 +1,4 @@
-use Rattle.shr_audit_sweep.proofs.Common.{◌<◌, ℕ, IsSomeAnd, IsSwept, sweep_serial, sweep_walks}
-use Rattle.shr_report.specs.Parts.{answer_at}
+use Rattle.shr_audit_sweep.proofs.Common.{◌<◌, ℕ, IsSomeAnd, IsSwept, sweep_serial, sweep_walks, answer_at}
 use Rattle.shr_audit_sweep.proofs.answers.are_answered.Given as goal
 
 abbrev pub invariant-loop-worker : goal.invariant-loop-worker

@@ -1,6 +1,4 @@
-use Rattle.shr_audit_sweep.proofs.Common.{◌<◌, ℕ, IsSomeAnd, sweep_serial}
-use Rattle.shr_report.specs.Parts.{reply_at}
-use Rattle.shr_report.specs.Swept.{IsSweptOut}
+use Rattle.shr_audit_sweep.proofs.Common.{◌<◌, ℕ, IsSomeAnd, sweep_serial, reply_at, IsSweptOut}
 use Rattle.shr_audit_sweep.proofs.answers.are_swept_out.Given as goal
 
 abbrev pub invariant-loop-worker : goal.invariant-loop-worker

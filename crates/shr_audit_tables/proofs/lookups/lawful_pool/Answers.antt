@@ -1,5 +1,4 @@
-use Rattle.shr_audit_tables.proofs.Common.{ap, subst, ◌∙◌, arith, IsPoolJournal, AreStatesOf, on_from}
-use Rattle.std.proofs.lemmas.Option.{MatchOption-at_some}
+use Rattle.shr_audit_tables.proofs.Common.{ap, subst, ◌∙◌, arith, IsPoolJournal, AreStatesOf, on_from, MatchOption-at_some}
 use Rattle.shr_audit_tables.proofs.Steps.{failed}
 use Rattle.shr_audit_tables.proofs.Replay.{opens_of, pool_of}
 use Rattle.shr_audit_tables.proofs.lookups.lawful_pool.Goals as goal

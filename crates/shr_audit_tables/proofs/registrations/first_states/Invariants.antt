@@ -1,5 +1,5 @@
-use Rattle.shr_audit_tables.specs.Registrations.{AreFirst}
+use Rattle.shr_audit_tables.specs.Registrations.{AreBlankStates}
 use Rattle.shr_audit_tables.proofs.registrations.first_states.Given as goal
 
 abbrev pub invariant-loop : goal.invariant-loop
-invariant-loop l = AreFirst l.counter l.states.items
+invariant-loop l = AreBlankStates l.counter l.states.items

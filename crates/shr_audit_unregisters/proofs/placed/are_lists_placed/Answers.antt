@@ -1,11 +1,11 @@
-use Rattle.shr_audit_unregisters.proofs.Common.{◌≡◌, ℕ, List, Some, slice_get, length, refl, Decides, PlaceEnd, EachFirst, IsFirst, Script, Each, Report, IsPlaced}
+use Rattle.shr_audit_unregisters.proofs.Common.{◌≡◌, ℕ, List, Some, slice_get, length, refl, Decides, PlaceEnd, EachFirst, IsFirst, Script, EachItem, Report, IsDrainPlaced}
 use Rattle.std.proofs.lemmas.Option.{slice_get_read}
 use Rattle.shr_formed.proofs.Eachs.{all_at, fails, more_at}
 use Rattle.shr_audit_replies.proofs.Deciding.{first_part}
 use Rattle.shr_audit_unregisters.proofs.placed.are_lists_placed.Goals as goal
 
 abbrev whole : Script → Report → PlaceEnd → Type 0
-whole s r end = Each (λ e. IsPlaced s r end.place e) end.entries.items
+whole s r end = EachItem (λ e. IsDrainPlaced s r end.place e) end.entries.items
 
 abbrev part : Script → Report → List PlaceEnd → ℕ → PlaceEnd → Type 0
 part s r ends k end = IsFirst ends k end.place → whole s r end

@@ -1,5 +1,4 @@
-use Rattle.shr_audit_unregisters.proofs.Common.{List, subst, PlaceEnd}
-use Rattle.shr_formed.specs.Each.{Adjacent}
+use Rattle.shr_audit_unregisters.proofs.Common.{List, subst, PlaceEnd, Adjacent}
 use Rattle.shr_formed.proofs.Eachs.{below_of}
 use Rattle.shr_report.specs.WellFormed.{IsPlaceUpTo}
 use Rattle.shr_audit_unregisters.proofs.tests.do_lists_stand.Goals as goal

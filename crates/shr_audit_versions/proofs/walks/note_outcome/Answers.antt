@@ -1,5 +1,4 @@
-use Rattle.shr_audit_versions.proofs.Common.{map, sym, subst, counts_of, Notes, if_here}
-use Rattle.std.proofs.Common.{IfOk}
+use Rattle.shr_audit_versions.proofs.Common.{map, sym, subst, counts_of, Notes, if_here, IfOk}
 use Rattle.shr_base.specs.declared.walks.Outcome.{Outcome}
 use Rattle.shr_audit_versions.proofs.walks.note_outcome.Goals as goal
 

@@ -1,5 +1,4 @@
-use Rattle.shr_audit_walks.proofs.Common.{◌≡◌, ◌<◌, ℕ, Some, slice_get, Attempt}
-use Rattle.shr_report.specs.LawfulWalk.{IsPlaced}
+use Rattle.shr_audit_walks.proofs.Common.{◌≡◌, ◌<◌, ℕ, Some, slice_get, Attempt, IsPlaced}
 use Rattle.shr_audit_walks.proofs.alone.are_placed.Given as goal
 
 abbrev pub invariant-loop-attempt : goal.invariant-loop-attempt

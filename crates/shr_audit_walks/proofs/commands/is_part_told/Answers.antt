@@ -1,5 +1,4 @@
-use Rattle.shr_audit_walks.proofs.Common.{ℕ, sym, ap, Decides, Answered, more_at, IsAnswerTold}
-use Rattle.std.specs.Prelude.{option_copied}
+use Rattle.shr_audit_walks.proofs.Common.{ℕ, sym, ap, Decides, Answered, more_at, IsAnswerTold, option_copied}
 use Rattle.shr_audit_walks.proofs.Answered.{answer_decided, part_fails, part_whole}
 use Rattle.shr_audit_walks.proofs.commands.is_part_told.Goals as goal
 

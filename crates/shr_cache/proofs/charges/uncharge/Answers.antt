@@ -1,7 +1,4 @@
-use Rattle.std.proofs.Common.{subst}
-use Rattle.shr_walk.specs.Acting.{Acting}
-use Rattle.shr_walk.specs.State.{state_of}
-use Rattle.shr_opening.specs.Opening.{Uncharges}
+use Rattle.shr_cache.proofs.Common.{subst, Acting, state_of, Uncharges}
 use Rattle.shr_cache.proofs.Links.{with_charge, uncharged}
 use Rattle.shr_cache.proofs.charges.uncharge.Goals as goal
 

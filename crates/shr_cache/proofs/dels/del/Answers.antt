@@ -1,10 +1,5 @@
-use Rattle.std.proofs.Common.{sym, ap, subst, ◌∙◌}
+use Rattle.shr_cache.proofs.Common.{sym, ap, subst, ◌∙◌, Reply, same_for, Acting, IsSame, Uncharges, DroppedFrom, AskedAs}
 use Rattle.std.specs.Prelude.{Ok}
-use Rattle.shr_base.specs.declared.replies.Reply.{Reply}
-use Rattle.shr_walk.proofs.Acted.{same_for}
-use Rattle.shr_walk.specs.Acting.{Acting, IsSame}
-use Rattle.shr_opening.specs.Opening.{Uncharges}
-use Rattle.shr_cache.specs.Dels.{AskedAs, DroppedFrom}
 use Rattle.shr_cache.proofs.Told.{stayed, dropped}
 use Rattle.shr_cache.proofs.dels.del.Goals as goal
 

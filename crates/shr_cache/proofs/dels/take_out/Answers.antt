@@ -1,10 +1,4 @@
-use Rattle.std.proofs.Common.{subst}
-use Rattle.shr_core.specs.declared.view.View.{View}
-use Rattle.shr_core.specs.Seats.{view_of, shape_of}
-use Rattle.shr_node.specs.Answers.{DropGives}
-use Rattle.shr_walk.specs.Acting.{Acting}
-use Rattle.shr_walk.specs.State.{state_of}
-use Rattle.shr_opening.specs.Opening.{OnCache}
+use Rattle.shr_cache.proofs.Common.{subst, View, view_of, shape_of, DropGives, Acting, state_of, OnCache}
 use Rattle.shr_cache.proofs.Links.{with_core, asked, fit_called}
 use Rattle.shr_cache.proofs.Stays.{drop_stays}
 use Rattle.shr_cache.proofs.dels.take_out.Goals as goal

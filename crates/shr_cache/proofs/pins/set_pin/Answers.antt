@@ -1,11 +1,4 @@
-use Rattle.std.proofs.Common.{sym, subst}
-use Rattle.shr_base.specs.declared.replies.Reply.{Reply}
-use Rattle.shr_core.specs.declared.view.View.{View}
-use Rattle.shr_core.specs.Seats.{view_of, shape_of}
-use Rattle.shr_node.specs.Answers.{PinGives}
-use Rattle.shr_walk.specs.Acting.{Acting}
-use Rattle.shr_walk.specs.State.{state_of}
-use Rattle.shr_cache.specs.Pins.{PinnedFrom}
+use Rattle.shr_cache.proofs.Common.{sym, subst, Reply, View, view_of, shape_of, PinGives, Acting, state_of, PinnedFrom}
 use Rattle.shr_cache.proofs.Links.{with_core, asked, fit_called}
 use Rattle.shr_cache.proofs.Stays.{pin_stays}
 use Rattle.shr_cache.proofs.Told.{pinned}

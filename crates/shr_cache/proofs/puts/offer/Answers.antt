@@ -1,13 +1,4 @@
-use Rattle.std.proofs.Common.{sym, subst}
-use Rattle.shr_base.specs.declared.objects.Object.{Object}
-use Rattle.shr_base.specs.declared.replies.Reply.{Reply}
-use Rattle.shr_core.specs.declared.view.View.{View}
-use Rattle.shr_core.specs.Seats.{view_of, shape_of}
-use Rattle.shr_model.specs.Objects.{fresh}
-use Rattle.shr_node.specs.Answers.{AddGives}
-use Rattle.shr_walk.specs.Acting.{Acting}
-use Rattle.shr_walk.specs.State.{state_of}
-use Rattle.shr_cache.specs.Puts.{OfferedFrom}
+use Rattle.shr_cache.proofs.Common.{sym, subst, Object, Reply, View, view_of, shape_of, fresh, AddGives, Acting, state_of, OfferedFrom}
 use Rattle.shr_cache.proofs.Links.{with_core, called, fit_called}
 use Rattle.shr_cache.proofs.Stays.{add_stays}
 use Rattle.shr_cache.proofs.Charged.{offered}

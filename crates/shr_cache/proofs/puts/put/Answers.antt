@@ -1,7 +1,4 @@
-use Rattle.std.proofs.Common.{sym, ◌∙◌}
-use Rattle.shr_model.specs.Objects.{fresh}
-use Rattle.shr_walk.proofs.Acted.{same_for, same_then}
-use Rattle.shr_opening.specs.Opening.{Uncharges}
+use Rattle.shr_cache.proofs.Common.{sym, ◌∙◌, fresh, same_for, same_then, Uncharges}
 use Rattle.shr_cache.proofs.Charged.{puts, taken_back, stays_charged}
 use Rattle.shr_cache.proofs.puts.put.Goals as goal
 

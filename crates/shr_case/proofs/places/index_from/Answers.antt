@@ -1,5 +1,4 @@
-use Rattle.shr_case.proofs.Common.{◌≡◌, true, false, subst, arith, get_or_from_slice_get, slice_get_within, PlaceEnd, comes_before}
-use Rattle.std.proofs.Common.{rules}
+use Rattle.shr_case.proofs.Common.{◌≡◌, true, false, subst, arith, get_or_from_slice_get, slice_get_within, PlaceEnd, comes_before, rules}
 use Rattle.std.proofs.lemmas.List.Sorted.{IsPartitionPoint-from_clause}
 use Rattle.shr_case.proofs.Order.{parted}
 use Rattle.shr_case.proofs.places.index_from.Goals as goal

@@ -1,5 +1,5 @@
-use Rattle.shr_charge.proofs.Common.{◌≡◌, take, None, number_of}
+use Rattle.shr_charge.proofs.Common.{◌≡◌, take, None, entry_number}
 use Rattle.shr_charge.proofs.searching.first_like.Given as goal
 
 abbrev pub invariant-loop-i : goal.invariant-loop-i
-invariant-loop-i l = number_of l.wanted (take l.i l.entries) ≡ None
+invariant-loop-i l = entry_number l.wanted (take l.i l.entries) ≡ None

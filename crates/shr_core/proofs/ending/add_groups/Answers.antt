@@ -1,5 +1,4 @@
-use Rattle.std.specs.Mem.Slots.{slots_items}
-use Rattle.shr_core.specs.Layout.{bits_in}
+use Rattle.shr_core.proofs.Common.{slots_items, bits_in}
 use Rattle.shr_core.proofs.Endings.{groups_none, groups_next}
 use Rattle.shr_core.proofs.ending.add_groups.Goals as goal
 

@@ -1,9 +1,5 @@
-use Rattle.std.proofs.Common.{ℕ, ◌<◌, ◌^◌, subst, sym}
-use Rattle.std.specs.Prelude.{All}
-use Rattle.std.specs.Mem.Slots.{slots_items}
+use Rattle.shr_core.proofs.Common.{ℕ, ◌<◌, ◌^◌, subst, sym, All, slots_items, MapEnd, bits_in}
 use Rattle.std.proofs.lemmas.List.Elements.{All-push}
-use Rattle.shr_base.specs.declared.ends.MapEnd.{MapEnd}
-use Rattle.shr_core.specs.Layout.{bits_in}
 use Rattle.shr_core.proofs.Endings.{bits_word, units_none, units_next}
 use Rattle.shr_core.proofs.ending.add_units.Goals as goal
 

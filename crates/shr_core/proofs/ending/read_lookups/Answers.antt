@@ -1,8 +1,4 @@
-use Rattle.std.proofs.Common.{ℕ, ◌+◌, ◌*◌, ap, ◌∙◌}
-use Rattle.std.specs.Mem.Slots.{slots_items}
-use Rattle.shr_base.specs.declared.ends.LookupWord.{LookupWord}
-use Rattle.shr_core.specs.Layout.{looks_in}
-use Rattle.shr_core.specs.Lookup.{lookups_of}
+use Rattle.shr_core.proofs.Common.{ℕ, ◌+◌, ◌*◌, ap, ◌∙◌, slots_items, LookupWord, looks_in, lookups_of}
 use Rattle.shr_core.proofs.Endings.{word_is, lookups_none, lookups_next}
 use Rattle.shr_core.proofs.ending.read_lookups.Goals as goal
 

@@ -1,9 +1,5 @@
-use Rattle.std.proofs.Common.{◌<◌, ◌^◌, ◌∙◌, subst, sym}
-use Rattle.std.specs.Prelude.{All}
-use Rattle.std.specs.Mem.Slots.{slots_items}
+use Rattle.shr_core.proofs.Common.{◌<◌, ◌^◌, ◌∙◌, subst, sym, All, slots_items, MapEnd, bits_in}
 use Rattle.std.proofs.lemmas.List.Elements.{All-nil}
-use Rattle.shr_base.specs.declared.ends.MapEnd.{MapEnd}
-use Rattle.shr_core.specs.Layout.{bits_in}
 use Rattle.shr_core.proofs.Endings.{nodes_none, nodes_next}
 use Rattle.shr_core.proofs.ending.read_maps.Goals as goal
 

@@ -1,9 +1,4 @@
-use Rattle.std.proofs.Common.{◌≡◌, ◌<◌, ◌^◌}
-use Rattle.std.specs.Prelude.{All}
-use Rattle.std.specs.Mem.Slots.{slots_items}
-use Rattle.shr_base.specs.declared.ends.MapEnd.{MapEnd}
-use Rattle.shr_core.specs.Layout.{bits_in}
-use Rattle.shr_core.specs.Ending.{nodes_below}
+use Rattle.shr_core.proofs.Common.{◌≡◌, ◌<◌, ◌^◌, All, slots_items, MapEnd, bits_in, nodes_below}
 use Rattle.shr_core.proofs.ending.read_maps.Given as goal
 
 abbrev pub invariant-loop-node : goal.invariant-loop-node

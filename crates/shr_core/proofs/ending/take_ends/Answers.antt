@@ -1,11 +1,4 @@
-use Rattle.std.proofs.Common.{◌≡◌, ◌≢◌, ℕ, Bool, false, List, ◌++◌, map, get_or, sym, refl, ap, ◌∙◌, arith, get_or-set_same, get_or-set_other}
-use mathlib.Core.Logic.{dite}
-use native.Mathlib.Decide.{ℕ_discrete}
-use Rattle.std.specs.Mem.Slots.{slots_items, slots_filled, slots_counts}
-use Rattle.shr_core.specs.Slots.{Slot}
-use Rattle.shr_core.specs.Ending.{end_value, end_of, entries_in, items_in}
-use Rattle.shr_model.specs.Places.{place_number}
-use Rattle.shr_seats.specs.declared.rows.Sizes.{Sizes}
+use Rattle.shr_core.proofs.Common.{◌≡◌, ◌≢◌, ℕ, Bool, false, List, ◌++◌, map, get_or, sym, refl, ap, ◌∙◌, arith, get_or-set_same, get_or-set_other, dite, ℕ_discrete, slots_items, slots_filled, Slot, end_value, place_ends, entries_in, items_in, place_number, Sizes, slots_counts}
 use Rattle.shr_core.proofs.Endings.{rows_none, rows_more, rows_all}
 use Rattle.shr_core.proofs.ending.take_ends.Goals as goal
 
@@ -25,7 +18,7 @@ loop-row-preserved c =
       o.3 ∙ inv.2,
       (λ k low high. other k (λ e. omega (arith, e, low)) ∙ inv.3 k (omega (arith, low)) (omega (arith, high, o.2))),
       (λ k low. dite (ℕ_discrete k n) (λ e. ap (λ (x : ℕ). get_or (slots_filled c.take-slot.new.self.slots) x false) e ∙ here) (λ ne. other k ne ∙ inv.4 k (omega (arith, low, ne)))),
-      (λ yes-all. let w = c.add_where-whole.ensures in let z : Sizes = c.args.sizes in w.added yes-all ∙ (ap (λ (x : ℕ). map end_value c.loop-row.ends.items ++ end_of x c.take-slot.result.list.entries c.take-slot.result.list.items) (ap place_number c.place.ensures)
+      (λ yes-all. let w = c.add_where-whole.ensures in let z : Sizes = c.args.sizes in w.added yes-all ∙ (ap (λ (x : ℕ). map end_value c.loop-row.ends.items ++ place_ends x c.take-slot.result.list.entries c.take-slot.result.list.items) (ap place_number c.place.ensures)
           ∙ rows_more z n first (map end_value c.loop-row.ends.items) c.take-slot.result c.requires.some.0 c.requires.few.0 c.requires.some.1 c.requires.few.1 value (inv.5 (w.whole yes-all)))),
     )
 

@@ -1,8 +1,6 @@
-use Rattle.std.proofs.Common.{◌≡◌, ℕ, ◌<◌, true, false, map, get_or}
-use Rattle.std.specs.Mem.Slots.{slots_items, slots_filled, slots_len}
+use Rattle.shr_core.proofs.Common.{◌≡◌, ℕ, ◌<◌, true, false, map, get_or, slots_items, slots_filled, end_value, ends_below, entries_in, items_in, slots_len}
 use Rattle.std.specs.Mem.Slots.Ownership.{Filled}
 use Rattle.shr_core.proofs.Laying.{number_at}
-use Rattle.shr_core.specs.Ending.{end_value, ends_below, entries_in, items_in}
 use Rattle.shr_core.proofs.ending.take_ends.Given as goal
 
 abbrev pub invariant-loop-row : goal.invariant-loop-row

@@ -1,5 +1,4 @@
-use Rattle.std.proofs.Common.{◌≡◌, length}
-use Rattle.shr_core.specs.Opening.{AreFirstWords}
+use Rattle.shr_core.proofs.Common.{◌≡◌, length, AreFirstWords}
 use Rattle.shr_core.proofs.opening.first_words.Given as goal
 
 abbrev pub invariant-loop-i : goal.invariant-loop-i

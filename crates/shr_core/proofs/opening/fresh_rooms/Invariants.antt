@@ -1,6 +1,5 @@
-use Rattle.std.proofs.Common.{◌≡◌, length}
-use Rattle.shr_core.specs.Opening.{AreFresh}
+use Rattle.shr_core.proofs.Common.{◌≡◌, length, AreFreshRooms}
 use Rattle.shr_core.proofs.opening.fresh_rooms.Given as goal
 
 abbrev pub invariant-loop : goal.invariant-loop
-invariant-loop l = (length l.rooms.items ≡ l.counter) × AreFresh l.most_items l.most_entries l.rooms.items
+invariant-loop l = (length l.rooms.items ≡ l.counter) × AreFreshRooms l.most_items l.most_entries l.rooms.items

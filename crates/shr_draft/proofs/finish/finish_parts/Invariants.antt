@@ -1,5 +1,5 @@
-use Rattle.shr_draft.proofs.Common.{◌≡◌, map, part_of}
+use Rattle.shr_draft.proofs.Common.{◌≡◌, map, drafted_part}
 use Rattle.shr_draft.proofs.finish.finish_parts.Given as goal
 
 abbrev pub invariant-loop-draft : goal.invariant-loop-draft
-invariant-loop-draft l = l.parts.items ≡ map part_of l.yielded
+invariant-loop-draft l = l.parts.items ≡ map drafted_part l.yielded

@@ -1,5 +1,5 @@
-use Rattle.shr_draft.proofs.Common.{◌≡◌, map, walk_of}
+use Rattle.shr_draft.proofs.Common.{◌≡◌, map, drafted_walk}
 use Rattle.shr_draft.proofs.finish.finish_walks.Given as goal
 
 abbrev pub invariant-loop-draft : goal.invariant-loop-draft
-invariant-loop-draft l = l.walks.items ≡ map walk_of l.yielded
+invariant-loop-draft l = l.walks.items ≡ map drafted_walk l.yielded

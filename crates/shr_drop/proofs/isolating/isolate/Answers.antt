@@ -1,20 +1,10 @@
-use Rattle.std.proofs.Common.{◌≡◌, ℕ, List, [], ◌∷◌, ◌++◌, get_or, ap, sym, subst, ◌∙◌}
+use Rattle.shr_drop.proofs.Common.{◌≡◌, ℕ, List, [], ◌∷◌, ◌++◌, ap, sym, subst, ◌∙◌, Place, Isolation, place_number, View, shape_of, Keeps, state_of, Isolates, found_place, visitor_of, AreIsolated, visitor_in, get_or, IsPlaceOfShape, Listing}
 use Rattle.std.proofs.lemmas.Option.{slice_get_read}
-use Rattle.shr_base.specs.declared.places.Place.{Place}
 use Rattle.shr_base.specs.declared.scripts.CacheDecl.{CacheDecl}
-use Rattle.shr_base.specs.declared.walks.Isolation.{Isolation}
-use Rattle.shr_model.specs.Places.{place_number}
-use Rattle.shr_core.specs.declared.view.View.{View}
-use Rattle.shr_core.specs.Seats.{IsPlaceOf, shape_of}
 use Rattle.shr_walk.specs.Acting.{Acting}
-use Rattle.shr_walk.specs.Keeping.{Keeps}
-use Rattle.shr_walk.specs.Listers.{Listing}
 use Rattle.shr_walk.specs.Listing.{IsReady}
 use Rattle.shr_walk.specs.Sharing.{IsShared}
-use Rattle.shr_walk.specs.State.{state_of}
 use Rattle.shr_opening.specs.Opening.{IsTargetOf}
-use Rattle.shr_drop.specs.Isolating.{Isolates, place_of, visitor_of}
-use Rattle.shr_drop.specs.Visiting.{AreIsolated, visitor_in}
 use Rattle.shr_drop.proofs.ByLaw.{found_lawful}
 use Rattle.shr_drop.proofs.Turning.{held_still, rested_then, with_cache}
 use Rattle.shr_drop.proofs.isolating.isolate.Goals as goal
@@ -24,7 +14,7 @@ visit_all-made-requires-clause-shared g c = subst (λ (l : Listing). IsShared l.
 
 pub visit_all-made-requires-clause-place : goal.visit_all-made-requires-clause-place
 visit_all-made-requires-clause-place g c = let t = subst (λ (w : Acting). IsTargetOf (shape_of w.shared.core) c.args.target) (sym c.worker.view_is) c.requires.target in
-    subst (λ (l : Listing). IsPlaceOf (shape_of l.shared.core) l.place) (sym c.new-lister.ensures) (record { id = c.in-Held.ensures.after.near; node = t.node; group = t.group })
+    subst (λ (l : Listing). IsPlaceOfShape (shape_of l.shared.core) l.place) (sym c.new-lister.ensures) (record { id = c.in-Held.ensures.after.near; node = t.node; group = t.group })
 
 pub visit_all-made-requires-clause-ready : goal.visit_all-made-requires-clause-ready
 visit_all-made-requires-clause-ready g c = let h = c.in-Held.ensures.after in
@@ -36,13 +26,13 @@ put-requires-clause-seat g c = let h = c.in-Held.ensures.after in
 
 pub put-requires-clause-holds : goal.put-requires-clause-holds
 put-requires-clause-holds g c = let h = c.in-Held.ensures.after in let t = c.args.target in let at = c.worker.inside in let d = c.index-as_slice-decl.result in
-    held_still at.shared.now (place_of c.in-Held.found t.node t.group) _ at.by d.policy c.open.new.seats c.visit_all-made.new.seats.cache h
+    held_still at.shared.now (found_place c.in-Held.found t.node t.group) _ at.by d.policy c.open.new.seats c.visit_all-made.new.seats.cache h
     (subst (λ (l : Listing). Keeps l.shared (place_number l.place) l.walk l.by l.policy c.open.new.seats.cache c.visit_all-made.new.seats.cache) c.new-lister.ensures c.visit_all-made.ensures.kept)
 
 pub invariant_of-worker-2 : goal.invariant_of-worker-2
 invariant_of-worker-2 g c = let h = c.in-Held.ensures.after in let t = c.args.target in let at = c.worker.inside in let d = c.index-as_slice-decl.result in record {
   shared = c.worker.invariant.shared;
-  rested = rested_then at.shared.now (place_of c.in-Held.found t.node t.group) _ at.by d.policy c.open.new.seats c.visit_all-made.new.seats c.put.new.seat h
+  rested = rested_then at.shared.now (found_place c.in-Held.found t.node t.group) _ at.by d.policy c.open.new.seats c.visit_all-made.new.seats c.put.new.seat h
       (subst (λ (l : Listing). Keeps l.shared (place_number l.place) l.walk l.by l.policy c.open.new.seats.cache c.visit_all-made.new.seats.cache) c.new-lister.ensures c.visit_all-made.ensures.kept)
       c.visit_all-made.ensures.same c.put.ensures.seat c.put.ensures.back;
 }
@@ -50,7 +40,7 @@ invariant_of-worker-2 g c = let h = c.in-Held.ensures.after in let t = c.args.ta
 pub returns-clause-isolated : goal.returns-clause-isolated
 returns-clause-isolated g c = let a = c.args in let t = a.target in let at = c.worker.inside in let x = at.shared.now in let f = c.in-Held.found in let d = c.index-as_slice-decl.result in let made = c.visit_all-made.result in let seats = c.visit_all-made.new.seats in
     let target = subst (λ (w : Acting). IsTargetOf (shape_of w.shared.core) t) (sym c.worker.view_is) c.requires.target in
-    let place : Place = place_of f t.node t.group in let last = state_of (with_cache seats (record { core = c.put.new.seat; charge = seats.cache.charge; uses = seats.cache.uses })) in
+    let place : Place = found_place f t.node t.group in let last = state_of (with_cache seats (record { core = c.put.new.seat; charge = seats.cache.charge; uses = seats.cache.uses })) in
     let one : Isolation = record { by = at.by; place = place; budget = a.budget; visits = made.visits; freed = made.freed; ending = made.ending } in
     subst (λ (w : Acting). Isolates w.shared w.by t.group t.node t.decl a.budget f made.visits made.freed made.ending w.state last a.log.now.items c.push.new.self.items) c.worker.view_is (record {
       loaded = c.in-Held.ensures.opened.loaded;

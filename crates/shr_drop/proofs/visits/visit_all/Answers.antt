@@ -1,11 +1,6 @@
-use Rattle.std.proofs.Common.{◌≡◌, ℕ, refl, subst, Bool, [], arith}
-use Rattle.shr_model.specs.Places.{place_number}
-use Rattle.shr_walk.specs.Keeping.{keeps_refl, keeps_trans}
-use Rattle.shr_walk.specs.Listers.{listing_of}
+use Rattle.shr_drop.proofs.Common.{◌≡◌, ℕ, refl, subst, Bool, [], arith, place_number, listing_of, state_of, Visitor, visitor_in, ScansOnce, AreIsolated, keeps_refl, keeps_trans}
 use Rattle.shr_walk.specs.Listing.{ready_stays}
-use Rattle.shr_walk.specs.State.{state_of}
 use Rattle.shr_base.specs.declared.replies.IsolateEnd.TheVariants.{Spent}
-use Rattle.shr_drop.specs.Visiting.{Visitor, visitor_in, ScansOnce, AreIsolated}
 use Rattle.shr_drop.proofs.Turning.{with_cache, scans_once, meets_closed, meets_worn, lacks_room, met_none, met_some, frees_few, so_far_more, ends_spent, ends_stopped, ends_bare, ends_closed, ends_worn, ends_lacking}
 use Rattle.shr_drop.proofs.visits.visit_all.Goals as goal
 

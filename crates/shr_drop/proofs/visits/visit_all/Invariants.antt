@@ -1,9 +1,4 @@
-use Rattle.std.proofs.Common.{◌≡◌, ◌≤◌}
-use Rattle.shr_model.specs.Places.{place_number}
-use Rattle.shr_walk.specs.Keeping.{Keeps}
-use Rattle.shr_walk.specs.Listers.{listing_of}
-use Rattle.shr_walk.specs.State.{state_of}
-use Rattle.shr_drop.specs.Visiting.{IsSameElse, visitor_in}
+use Rattle.shr_drop.proofs.Common.{◌≡◌, ◌≤◌, place_number, Keeps, listing_of, state_of, IsSameElse, visitor_in}
 use Rattle.shr_drop.proofs.Turning.{AreSoFar}
 use Rattle.shr_drop.proofs.visits.visit_all.Given as goal
 

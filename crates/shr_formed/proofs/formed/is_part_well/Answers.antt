@@ -1,5 +1,4 @@
-use Rattle.shr_formed.proofs.Common.{List, length, subst, Decides, Answered, WalkRecord, IsPartFormed}
-use Rattle.shr_formed.specs.Formed.{AreWalksFormed}
+use Rattle.shr_formed.proofs.Common.{List, length, subst, Decides, Answered, WalkRecord, IsPartFormed, AreWalksFormed}
 use Rattle.shr_formed.proofs.Eachs.{fails}
 use Rattle.shr_formed.proofs.formed.is_part_well.Goals as goal
 

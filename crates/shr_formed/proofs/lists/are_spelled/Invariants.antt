@@ -1,5 +1,4 @@
-use Rattle.shr_formed.proofs.Common.{◌≡◌, ◌+◌, length, AllByRecursion}
-use Rattle.shr_report.specs.WellFormed.{IsSpelled}
+use Rattle.shr_formed.proofs.Common.{◌≡◌, ◌+◌, length, AllByRecursion, IsSpelled}
 use Rattle.shr_formed.proofs.lists.are_spelled.Given as goal
 
 abbrev pub invariant-loop : goal.invariant-loop

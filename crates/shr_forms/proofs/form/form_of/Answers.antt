@@ -1,6 +1,4 @@
-use Rattle.shr_forms.proofs.Common.{◌∙◌, ap, sym, subst, map, string_bytes, IsAmong, fault_of, is_simple, is_simple_and_free, subcommand_of, has_hyphen}
-use Rattle.std.proofs.Common.{⊎_elim}
-use Rattle.clap.specs.Words.{kind_of, subcommand_rows_of}
+use Rattle.shr_forms.proofs.Common.{◌∙◌, ap, sym, subst, map, string_bytes, IsAmong, fault_of, is_simple, is_simple_and_free, subcommand_of, has_hyphen, ⊎_elim, kind_of, subcommand_rows_of}
 use Rattle.clap.proofs.WalkLemmas.{list_any-map}
 use Rattle.shr_forms.proofs.Splitting.{simple, simple_and_free}
 use Rattle.shr_forms.proofs.Matching.{hyphened, all_plain, faulted, faultless}

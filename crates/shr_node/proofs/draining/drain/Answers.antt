@@ -1,4 +1,4 @@
-use Rattle.shr_node.proofs.Common.{◌≡◌, ℕ, ◌-◌, [], length, sym, ap, subst, ◌∙◌, arith, View, Shape, Claims, groups_in, view_of, shape_of, made_in}
+use Rattle.shr_node.proofs.Common.{◌≡◌, ℕ, ◌-◌, [], length, sym, ap, subst, ◌∙◌, arith, View, Shape, Claims, groups_in, view_of, shape_of, made_by_draws}
 use Rattle.shr_node.proofs.Draws.{IsDraining, draining_none, drawing_next, drawing_stops, filled_before, worn_before}
 use Rattle.shr_node.proofs.draining.drain.Goals as goal
 
@@ -23,7 +23,7 @@ returns-in-Worn-clause-answer g c = let shape : Shape = shape_of c.args.core.now
     let o = c.draining.invariant.draws in let test = c.draining-test.true in let a = c.in-Worn.ensures.answer in record {
       group = group;
       stops = drawing_stops shape v u w c.args.id c.args.node c.args.by c.args.into.now.items c.draining.into.items c.drain_one.new.into.items c.draining.group o group (omega (arith, test)) a.0.none a.0.marks;
-      worn = worn_before shape v u w (made_in c.args.id c.args.node c.args.by o.ds) [] c.args.id c.args.node group c.args.by c.in-Worn.spent o.draws.gains a.1;
+      worn = worn_before shape v u w (made_by_draws c.args.id c.args.node c.args.by o.ds) [] c.args.id c.args.node group c.args.by c.in-Worn.spent o.draws.gains a.1;
     }
 
 pub returns-in-Memory-clause-answer : goal.returns-in-Memory-clause-answer
@@ -33,7 +33,7 @@ returns-in-Memory-clause-answer g c = let shape : Shape = shape_of c.args.core.n
       old = a.old;
       room = a.room;
       stops = drawing_stops shape v u w c.args.id c.args.node c.args.by c.args.into.now.items c.draining.into.items c.drain_one.new.into.items c.draining.group o group (omega (arith, test)) a.none a.marks;
-      filled = filled_before shape v u w (made_in c.args.id c.args.node c.args.by o.ds) [] c.args.id c.args.node group a.old o.draws.gains a.filled;
+      filled = filled_before shape v u w (made_by_draws c.args.id c.args.node c.args.by o.ds) [] c.args.id c.args.node group a.old o.draws.gains a.filled;
     }
 
 pub returns-clause-answer : goal.returns-clause-answer

@@ -1,4 +1,4 @@
-use Rattle.shr_node.proofs.Common.{◌≢◌, ℕ, sym, subst, ◌∙◌, arith, parent_of, place_number, Place, View, Room, list_content, with_given, view_of, shape_of, Shape, Content, group_of}
+use Rattle.shr_node.proofs.Common.{◌≢◌, ℕ, sym, subst, ◌∙◌, arith, parent_of, place_number, Place, View, Room, list_content, with_given, view_of, shape_of, Shape, RoomContent, group_of}
 use Rattle.shr_node.proofs.Climbing.{IsOnWay, way_begins, way_goes, way_ends, below_root, place_of}
 use Rattle.shr_node.proofs.Acting.{opened_here, bare_hands}
 use Rattle.shr_node.proofs.rooms.open_room.Given.{Over}
@@ -27,7 +27,7 @@ pub climbing-smaller : goal.climbing-smaller
 climbing-smaller g c = let there = c.climbing.invariant.way.there in let not-root = low g c in let up = c.args.core.now.tree.lower c.climbing.group (omega (arith, not-root)) there in let e = c.parent-group.ensures in omega (arith, up, e)
 
 pub climbing-preserved : goal.climbing-preserved
-climbing-preserved g c = let shape : Shape = shape_of c.args.core.now in let v : View = view_of c.args.seat.now in let u : View = view_of c.climbing.seat in let p : Place = place_of c.args.id c.args.node c.climbing.group in let room : Room = c.take_room-room.result in let content : Content = list_content room.list in record {
+climbing-preserved g c = let shape : Shape = shape_of c.args.core.now in let v : View = view_of c.args.seat.now in let u : View = view_of c.climbing.seat in let p : Place = place_of c.args.id c.args.node c.climbing.group in let room : Room = c.take_room-room.result in let content : RoomContent = list_content room.list in record {
   seat = c.give_room.ensures.seat;
   way = subst (λ (x : ℕ). IsOnWay shape v (view_of c.give_room.new.seat) c.args.id c.args.node c.args.birth x) (sym c.parent-group.ensures)
       (subst (λ (x : View). IsOnWay shape v x c.args.id c.args.node c.args.birth (parent_of shape.parents.items c.climbing.group))

@@ -1,5 +1,4 @@
-use Rattle.shr_node.proofs.Common.{sym, ap, subst, ◌∙◌, Spent, Room, view_of, shape_of, IsReady, IsUntouched}
-use Rattle.shr_node.specs.Answers.{ScanGives}
+use Rattle.shr_node.proofs.Common.{sym, ap, subst, ◌∙◌, Spent, Room, view_of, shape_of, IsRoomReady, IsUntouched, ScanGives}
 use Rattle.shr_node.specs.declared.answers.NodeScan.{NodeScan}
 use Rattle.shr_node.specs.declared.answers.NodeScan.TheVariants as node
 use Rattle.shr_node.proofs.Acting.{bare_hands, grown, stayed, not_grown, not_left}
@@ -12,7 +11,7 @@ take_room-room-requires-clause-rooms g c = bare_hands (shape_of c.args.core.now)
 
 pub give_back-requires-clause-ready : goal.give_back-requires-clause-ready
 give_back-requires-clause-ready g c more = let room : Room = c.take_room-room.result in let e = c.take_room-room.ensures in let t : IsOwnTaken (shape_of c.args.core.now) (view_of c.args.seat.now) (view_of c.take_room-room.new.seat) c.args.place room = own_taken c.args.core.now (view_of c.args.seat.now) (view_of c.take_room-room.new.seat) c.args.place room c.requires.rooms c.requires.place e.place e.taken e.told in
-    elim c.match-scan.branch as (λ _. IsReady (shape_of c.args.core.now) (view_of c.take_room-room.new.seat) (record { place = room.place; list = c.scan.new.self })) [
+    elim c.match-scan.branch as (λ _. IsRoomReady (shape_of c.args.core.now) (view_of c.take_room-room.new.seat) (record { place = room.place; list = c.scan.new.self })) [
       | in-Scanned w ↦ scan_ready _ _ _ _ room t c.scan.new.self c.args.worker c.args.walk c.args.policy c.args.asked c.requires.holds w.in-Scanned.entry w.in-Scanned.ensures.answer.1
       | in-Closed w ↦ not_grown _ _ _ c.before_call-before.ensures.entries w.in-Closed.ensures.answer.same more
       | in-Worn w ↦ not_grown _ _ _ c.before_call-before.ensures.entries w.in-Worn.ensures.answer.same more

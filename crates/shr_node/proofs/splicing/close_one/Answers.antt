@@ -1,4 +1,4 @@
-use Rattle.shr_node.proofs.Common.{sym, subst, ap, ◌∙◌, ◌&&◌, nat_lt, Spent, Listed, View, Room, view_of, shape_of, place_number, with_given, MayStore, place_of, SpliceWorn, AreTaken}
+use Rattle.shr_node.proofs.Common.{sym, subst, ap, ◌∙◌, ◌&&◌, nat_lt, Spent, Listed, View, Room, view_of, shape_of, place_number, with_given, MayStore, group_place, SpliceWorn, AreBothTaken}
 use Rattle.shr_node.proofs.Pairing.{may_above, may_child, stored_raised, back_has, back_same, back_whole, last_has, last_same, last_whole}
 use Rattle.shr_node.proofs.Closing.{above_opens, both_met, both_gain}
 use Rattle.shr_node.proofs.ClosingOne.{may_take_above, pair_taken, was_closed, pair_ready, closes_one}
@@ -93,13 +93,13 @@ pub leave_both-requires-clause-untouched : goal.leave_both-requires-clause-untou
 leave_both-requires-clause-untouched g c = let v : View = view_of c.args.seat.now in let child : Room = c.take_room-child.result in let above : Room = c.take_room-above.result in let e = c.take_room-child.ensures in let f = c.take_room-above.ensures in
     let taken = pair_taken c.args.core.now v (view_of c.take_room-child.new.seat) (view_of c.take_room-above.new.seat) c.args.id c.args.node c.args.group c.parent.result child above c.requires.rooms c.requires.place c.requires.group c.parent.ensures e.place e.taken e.told f.place f.taken f.told in
     let opens = sym c.is_closed_list.ensures.closed ∙ c.if-is_closed_list.false in let same = c.in-Worn.ensures in
-    (v, subst (λ (l : Listed). AreTaken (shape_of c.args.core.now) v (view_of c.take_room-above.new.seat) child.place above.place c.close_into.new.self l) (sym same.2) (subst (λ (l : Listed). AreTaken (shape_of c.args.core.now) v (view_of c.take_room-above.new.seat) child.place above.place l above.list) (sym same.1) taken))
+    (v, subst (λ (l : Listed). AreBothTaken (shape_of c.args.core.now) v (view_of c.take_room-above.new.seat) child.place above.place c.close_into.new.self l) (sym same.2) (subst (λ (l : Listed). AreBothTaken (shape_of c.args.core.now) v (view_of c.take_room-above.new.seat) child.place above.place l above.list) (sym same.1) taken))
 
 pub leave_both-requires-in-Memory-clause-untouched : goal.leave_both-requires-in-Memory-clause-untouched
 leave_both-requires-in-Memory-clause-untouched g c = let v : View = view_of c.args.seat.now in let child : Room = c.take_room-child.result in let above : Room = c.take_room-above.result in let e = c.take_room-child.ensures in let f = c.take_room-above.ensures in
     let taken = pair_taken c.args.core.now v (view_of c.take_room-child.new.seat) (view_of c.take_room-above.new.seat) c.args.id c.args.node c.args.group c.parent.result child above c.requires.rooms c.requires.place c.requires.group c.parent.ensures e.place e.taken e.told f.place f.taken f.told in
     let opens = sym c.is_closed_list.ensures.closed ∙ c.if-is_closed_list.false in let same = c.in-Memory.ensures in
-    (v, subst (λ (l : Listed). AreTaken (shape_of c.args.core.now) v (view_of c.take_room-above.new.seat) child.place above.place c.close_into.new.self l) (sym same.2) (subst (λ (l : Listed). AreTaken (shape_of c.args.core.now) v (view_of c.take_room-above.new.seat) child.place above.place l above.list) (sym same.1) taken))
+    (v, subst (λ (l : Listed). AreBothTaken (shape_of c.args.core.now) v (view_of c.take_room-above.new.seat) child.place above.place c.close_into.new.self l) (sym same.2) (subst (λ (l : Listed). AreBothTaken (shape_of c.args.core.now) v (view_of c.take_room-above.new.seat) child.place above.place l above.list) (sym same.1) taken))
 
 pub returns-then-is_closed_list-clause-answer : goal.returns-then-is_closed_list-clause-answer
 returns-then-is_closed_list-clause-answer g c = let e = c.take_room-child.ensures in
@@ -123,7 +123,7 @@ returns-in-Worn-clause-answer g c = let v : View = view_of c.args.seat.now in le
       worn = subst (λ (s : Spent). SpliceWorn (shape_of c.args.core.now) v (view_of c.leave_both.new.seat) c.args.id c.args.node c.args.group s) (sym c.list_spent.ensures) (record {
         given = child.list;
         old = above.list;
-        here = ap (place_of c.args.id c.args.node) c.parent.ensures;
+        here = ap (group_place c.args.id c.args.node) c.parent.ensures;
         pair = both_met (shape_of c.args.core.now) v (view_of c.take_room-above.new.seat) child.place above.place child.list above.list c.args.core.now.tree c.args.core.now.limits.2 c.args.core.now.limits.4 taken _ c.leave_both.ensures.left opens c.args.id c.args.node c.args.group e.place;
         worn = c.in-Worn.ensures.0;
       });

@@ -1,5 +1,4 @@
-use Rattle.shr_node.proofs.Common.{◌≡◌, ℕ, ◌+◌, true, false, List, length, get_or, set, replicate, sym, ap, subst, ◌∙◌, arith, length-replicate, Shape, shape_of}
-use Rattle.std.proofs.lemmas.List.{length-set}
+use Rattle.shr_node.proofs.Common.{◌≡◌, ℕ, ◌+◌, true, false, List, length, get_or, set, replicate, sym, ap, subst, ◌∙◌, arith, length-replicate, Shape, shape_of, length-set}
 use Rattle.shr_node.proofs.Subtrees.{AreMarked, marked_first, marked_next}
 use Rattle.shr_node.proofs.splicing.subtree.Goals as goal
 

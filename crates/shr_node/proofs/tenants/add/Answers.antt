@@ -1,6 +1,4 @@
-use Rattle.shr_node.proofs.Common.{◌≡◌, true, false, sym, refl, ap, subst, ◌∙◌, holds, Spent, Room, view_of, shape_of, IsReady, IsUntouched}
-use Rattle.shr_list.specs.Answers.{add_entry}
-use Rattle.shr_node.specs.Answers.{AddGives}
+use Rattle.shr_node.proofs.Common.{◌≡◌, true, false, sym, refl, ap, subst, ◌∙◌, holds, Spent, Room, view_of, shape_of, IsRoomReady, IsUntouched, add_entry, AddGives}
 use Rattle.shr_node.specs.declared.answers.NodeAdd.{NodeAdd}
 use Rattle.shr_node.specs.declared.answers.NodeAdd.TheVariants as node
 use Rattle.shr_node.proofs.Acting.{asked_of, tenant_ready, tenant_untouched, tenant_acts, tenant_worn, tenant_lacks, grown, stayed, not_grown, not_left}
@@ -9,7 +7,7 @@ use Rattle.shr_node.proofs.tenants.add.Goals as goal
 
 pub give_back-requires-clause-ready : goal.give_back-requires-clause-ready
 give_back-requires-clause-ready g c more = let room : Room = c.open_room-room.result in let o = c.open_room-room.ensures.opened in let a = asked_of c.args.core.now (view_of c.args.seat.now) c.args.id c.args.node c.args.object.birth c.requires.rooms c.requires.holds c.requires.place in
-    elim c.match-add.branch as (λ _. IsReady (shape_of c.args.core.now) (view_of c.open_room-room.new.seat) (record { place = room.place; list = c.add.new.self })) [
+    elim c.match-add.branch as (λ _. IsRoomReady (shape_of c.args.core.now) (view_of c.open_room-room.new.seat) (record { place = room.place; list = c.add.new.self })) [
       | in-Added w ↦ tenant_ready _ _ _ _ _ _ room o a c.add.new.self (add_entry room.list c.args.object) w.in-Added.entry refl w.in-Added.ensures.1
       | in-Exists w ↦ tenant_ready _ _ _ _ _ _ room o a c.add.new.self (add_entry room.list c.args.object) w.in-Exists.entry refl w.in-Exists.ensures.1
       | in-Worn w ↦ not_grown _ _ _ c.before_call-before.ensures.entries w.in-Worn.ensures.same more

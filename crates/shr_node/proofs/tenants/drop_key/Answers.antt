@@ -1,7 +1,5 @@
-use Rattle.shr_node.proofs.Common.{◌≡◌, sym, refl, ap, subst, ◌∙◌, named_in, drop_kind_of, Spent, Room, view_of, shape_of, IsReady, IsUntouched}
+use Rattle.shr_node.proofs.Common.{◌≡◌, sym, refl, ap, subst, ◌∙◌, named_in, drop_kind_of, Spent, Room, view_of, shape_of, IsRoomReady, IsUntouched, drop_entry, DropGives}
 use Rattle.shr_base.specs.declared.journals.DropKind.TheVariants as kind
-use Rattle.shr_list.specs.Answers.{drop_entry}
-use Rattle.shr_node.specs.Answers.{DropGives}
 use Rattle.shr_node.specs.declared.answers.NodeDrop.{NodeDrop}
 use Rattle.shr_node.specs.declared.answers.NodeDrop.TheVariants as node
 use Rattle.shr_node.proofs.Acting.{asked_of, dropped, tenant_ready, tenant_untouched, tenant_acts, tenant_worn, tenant_lacks, grown, stayed, not_grown, not_left}
@@ -10,7 +8,7 @@ use Rattle.shr_node.proofs.tenants.drop_key.Goals as goal
 
 pub give_back-requires-clause-ready : goal.give_back-requires-clause-ready
 give_back-requires-clause-ready g c more = let room : Room = c.open_room-room.result in let o = c.open_room-room.ensures.opened in let a = asked_of c.args.core.now (view_of c.args.seat.now) c.args.id c.args.node c.args.birth c.requires.rooms c.requires.holds c.requires.place in
-    elim c.match-drop_key.branch as (λ _. IsReady (shape_of c.args.core.now) (view_of c.open_room-room.new.seat) (record { place = room.place; list = c.drop_key.new.self })) [
+    elim c.match-drop_key.branch as (λ _. IsRoomReady (shape_of c.args.core.now) (view_of c.open_room-room.new.seat) (record { place = room.place; list = c.drop_key.new.self })) [
       | in-Dropped w ↦ tenant_ready _ _ _ _ _ _ room o a c.drop_key.new.self (drop_entry room.list c.args.by c.args.birth c.args.key.now) w.in-Dropped.entry refl w.in-Dropped.ensures.2
       | in-Pinned w ↦ tenant_ready _ _ _ _ _ _ room o a c.drop_key.new.self (drop_entry room.list c.args.by c.args.birth c.args.key.now) w.in-Pinned.entry refl w.in-Pinned.ensures.1
       | in-Miss w ↦ tenant_ready _ _ _ _ _ _ room o a c.drop_key.new.self (drop_entry room.list c.args.by c.args.birth c.args.key.now) w.in-Miss.entry refl w.in-Miss.ensures.1

@@ -1,7 +1,4 @@
-use Rattle.shr_node.proofs.Common.{◌≡◌, false, sym, refl, ap, subst, ◌∙◌, Some, holds, named_in, Spent, Room, view_of, shape_of, IsReady, IsUntouched}
-use Rattle.std.specs.Prelude.{option_map}
-use Rattle.shr_list.specs.Answers.{look_entry}
-use Rattle.shr_node.specs.Answers.{LookGives}
+use Rattle.shr_node.proofs.Common.{◌≡◌, false, sym, refl, ap, subst, ◌∙◌, Some, holds, named_in, Spent, Room, view_of, shape_of, IsRoomReady, IsUntouched, option_map, look_entry, LookGives}
 use Rattle.shr_node.specs.declared.answers.NodeLook.{NodeLook}
 use Rattle.shr_node.specs.declared.answers.NodeLook.TheVariants as node
 use Rattle.shr_node.proofs.Acting.{asked_of, tenant_ready, tenant_untouched, tenant_acts, tenant_worn, tenant_lacks, grown, stayed, not_grown, not_left}
@@ -10,7 +7,7 @@ use Rattle.shr_node.proofs.tenants.look.Goals as goal
 
 pub give_back-requires-clause-ready : goal.give_back-requires-clause-ready
 give_back-requires-clause-ready g c more = let room : Room = c.open_room-room.result in let o = c.open_room-room.ensures.opened in let a = asked_of c.args.core.now (view_of c.args.seat.now) c.args.id c.args.node c.args.birth c.requires.rooms c.requires.holds c.requires.place in
-    elim c.match-look.branch as (λ _. IsReady (shape_of c.args.core.now) (view_of c.open_room-room.new.seat) (record { place = room.place; list = c.look.new.self })) [
+    elim c.match-look.branch as (λ _. IsRoomReady (shape_of c.args.core.now) (view_of c.open_room-room.new.seat) (record { place = room.place; list = c.look.new.self })) [
       | in-Hit w ↦ tenant_ready _ _ _ _ _ _ room o a c.look.new.self (look_entry room.list c.args.by c.args.birth c.args.key.now) w.in-Hit.entry refl w.in-Hit.ensures.1
       | in-Miss w ↦ tenant_ready _ _ _ _ _ _ room o a c.look.new.self (look_entry room.list c.args.by c.args.birth c.args.key.now) w.in-Miss.entry refl w.in-Miss.ensures.1
       | in-Worn w ↦ not_grown _ _ _ c.before_call-before.ensures.entries w.in-Worn.ensures.same more

@@ -1,14 +1,9 @@
-use Rattle.std.proofs.Common.{◌≡◌, ℕ, ap, subst, sym, ◌∙◌}
-use Rattle.shr_base.specs.declared.places.Serial.{Serial}
-use Rattle.shr_charge.specs.declared.answers.DoneAnswer.{DoneAnswer}
+use Rattle.shr_offline.proofs.Common.{◌≡◌, ℕ, ap, subst, sym, ◌∙◌, Serial, DoneAnswer, Shared, state_of, HandsOver, WorkerState, HandsOverAs}
 use Rattle.shr_charge.specs.declared.answers.DoneAnswer.TheVariants as ended
 use Rattle.shr_node.specs.declared.answers.SpliceAnswer.TheVariants as splice
 use Rattle.shr_walk.specs.Acting.{Acting}
-use Rattle.shr_walk.specs.declared.seats.Shared.{Shared}
-use Rattle.shr_walk.specs.State.{WorkerState, state_of}
 use Rattle.shr_offline.specs.declared.answers.OfflineAnswer.{OfflineAnswer}
 use Rattle.shr_offline.specs.declared.answers.OfflineAnswer.TheVariants as answered
-use Rattle.shr_offline.specs.Offlined.{HandsOver, HandsOverAs}
 use Rattle.shr_offline.proofs.Handed.{fit_after, with_core, with_charge, with_carries, handed_over}
 use Rattle.shr_offline.proofs.offlining.hand_over.Goals.{in-Done, in-AlreadyDone}
 use Rattle.shr_offline.proofs.offlining.hand_over.Goals as goal

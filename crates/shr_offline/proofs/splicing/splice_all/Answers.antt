@@ -1,8 +1,4 @@
-use Rattle.std.proofs.Common.{◌/◌, ◌%◌, ap, subst, ◌∙◌, arith}
-use Rattle.shr_seats.specs.declared.shape.Shape.{Shape}
-use Rattle.shr_core.specs.Parts.{Claims}
-use Rattle.shr_core.specs.Seats.{view_of, shape_of}
-use Rattle.shr_node.specs.Splicing.{IsSpliced}
+use Rattle.shr_offline.proofs.Common.{◌/◌, ◌%◌, ap, subst, ◌∙◌, arith, Shape, Claims, view_of, shape_of, IsSpliced}
 use Rattle.shr_offline.proofs.SplicesLaws.{next_place, few_moved}
 use Rattle.shr_offline.proofs.splicing.splice_all.Goals as goal
 

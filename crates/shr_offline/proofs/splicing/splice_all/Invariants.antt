@@ -1,8 +1,5 @@
-use Rattle.std.proofs.Common.{◌≡◌, ◌*◌, ◌≤◌}
-use Rattle.std.specs.Prelude.{None}
-use Rattle.shr_core.specs.Parts.{no_rooms}
-use Rattle.shr_core.specs.Seats.{IsOf, view_of, shape_of}
-use Rattle.shr_offline.specs.Splices.{AreSpliced, first_places}
+use Rattle.shr_offline.proofs.Common.{◌≡◌, ◌*◌, ◌≤◌, None, view_of, shape_of, AreSpliced, first_places, no_rooms}
+use Rattle.shr_core.specs.Seats.{IsOf}
 use Rattle.shr_offline.proofs.splicing.splice_all.Given as goal
 
 abbrev pub invariant-loop-place : goal.invariant-loop-place

@@ -1,12 +1,10 @@
-use Rattle.shr_plain.proofs.Common.{◌≡◌, ◌≢◌, ℕ, Bool, false, List, ◌++◌, map, get_or, sym, refl, ap, ◌∙◌, arith, dite, ℕ_discrete, slots_items, slots_filled, Sizes, Place, Slot, end_value, end_of, ends_below, entries_at}
-use Rattle.std.proofs.Common.{get_or-set_same, get_or-set_other}
-use Rattle.std.specs.Mem.Slots.{slots_counts}
+use Rattle.shr_plain.proofs.Common.{◌≡◌, ◌≢◌, ℕ, Bool, false, List, ◌++◌, map, get_or, sym, refl, ap, ◌∙◌, arith, dite, ℕ_discrete, slots_items, slots_filled, Sizes, Place, Slot, units_end_value, units_ends, units_ends_below, entries_at, get_or-set_same, get_or-set_other, slots_counts}
 use Rattle.shr_seats.proofs.RowLaws.{place_inside}
 use Rattle.shr_plain.proofs.Endings.{ends_none, ends_more}
 use Rattle.shr_plain.proofs.ending.take_ends.Goals as goal
 
 pub loop-row-init : goal.loop-row-init
-loop-row-init c = (refl, refl, c.requires.full, (λ k h. absurd (omega (arith, h))), λ _. ap (map end_value) c.new-ends.ensures.items ∙ ends_none c.args.sizes (entries_at (slots_items c.args.closed.now.slots)))
+loop-row-init c = (refl, refl, c.requires.full, (λ k h. absurd (omega (arith, h))), λ _. ap (map units_end_value) c.new-ends.ensures.items ∙ ends_none c.args.sizes (entries_at (slots_items c.args.closed.now.slots)))
 
 pub add_where-whole-requires : goal.add_where-whole-requires
 add_where-whole-requires c = let row = c.loop-row-test.true in let rows = c.rows-row-end.ensures.rows in let few = c.requires.few in let at = ap (λ (p : Place). p.id) c.place.ensures in
@@ -23,10 +21,10 @@ loop-row-preserved c =
       o.2 ∙ inv.1,
       (λ k low high. other k (λ e. omega (arith, e, low)) ∙ inv.2 k (omega (arith, low)) (omega (arith, high, o.2))),
       (λ k low. dite (ℕ_discrete k n) (λ e. ap (λ (x : ℕ). get_or (slots_filled c.take-slot.new.self.slots) x false) e ∙ here) (λ ne. other k ne ∙ inv.3 k (omega (arith, low, ne)))),
-      (λ yes-all. let w = c.add_where-whole.ensures in let z : Sizes = c.args.sizes in w.added yes-all ∙ (ap (λ (p : Place). map end_value c.loop-row.ends.items ++ end_of p c.take-slot.result.journal.items) c.place.ensures
-          ∙ ends_more z n first (map end_value c.loop-row.ends.items) c.take-slot.result value (inv.4 (w.whole yes-all)))),
+      (λ yes-all. let w = c.add_where-whole.ensures in let z : Sizes = c.args.sizes in w.added yes-all ∙ (ap (λ (p : Place). map units_end_value c.loop-row.ends.items ++ units_ends p c.take-slot.result.journal.items) c.place.ensures
+          ∙ ends_more z n first (map units_end_value c.loop-row.ends.items) c.take-slot.result value (inv.4 (w.whole yes-all)))),
     )
 
 pub returns-then-whole-clause-ends : goal.returns-then-whole-clause-ends
 returns-then-whole-clause-ends c = let first : List Slot = slots_items c.args.closed.now.slots in
-    c.loop-row.invariant.4 c.if-whole.true ∙ ap (λ (n : ℕ). ends_below c.args.sizes n (entries_at first)) (omega (arith, c.rows-row-end.ensures.rows, c.loop-row.auto.row-end, c.loop-row-test.false))
+    c.loop-row.invariant.4 c.if-whole.true ∙ ap (λ (n : ℕ). units_ends_below c.args.sizes n (entries_at first)) (omega (arith, c.rows-row-end.ensures.rows, c.loop-row.auto.row-end, c.loop-row-test.false))

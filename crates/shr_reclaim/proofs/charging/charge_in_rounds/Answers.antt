@@ -1,12 +1,4 @@
-use Rattle.std.proofs.Common.{◌-◌, ◌≤◌, sym, subst, arith}
-use Rattle.shr_charge.specs.declared.answers.ChargeAnswer.{ChargeAnswer}
-use Rattle.shr_model.specs.Groups.{depth_of}
-use Rattle.shr_walk.specs.State.{WorkerState}
-use Rattle.shr_walk.specs.declared.seats.Shared.{Shared}
-use Rattle.shr_walk.proofs.Acted.{same_for, same_then}
-use Rattle.shr_reclaim.specs.Looping.{AllMade, FirstMade, RefusedThere}
-use Rattle.shr_reclaim.specs.Rounds.{WalksFirst, due_in}
-use Rattle.shr_reclaim.specs.Trying.{IsTried, Refusal}
+use Rattle.shr_reclaim.proofs.Common.{◌-◌, ◌≤◌, sym, subst, arith, ChargeAnswer, depth_of, WorkerState, Shared, same_for, same_then, AllMade, FirstMade, RefusedThere, WalksFirst, due_in, IsChargeTried, Refusal}
 use Rattle.shr_reclaim.proofs.Calling.{charges_few, visited_calls}
 use Rattle.shr_reclaim.proofs.Tried.{HasTried, tried_first, tried_more, tried_cut, short_gives, none_gives}
 use Rattle.shr_reclaim.proofs.Visiting.{first_whole}
@@ -60,7 +52,7 @@ loop-priority-preserved g c = let inv = c.loop-priority.invariant in let w = c.a
     let tried = subst (λ (a : ChargeAnswer). HasTried x w.by c.args.group n a s t) c.in-Over.is inv.tried in
     let mid = c.walk_round.new.worker in let last = c.charge_once-in-loop-priority.new.worker in let kept = same_then w b mid inv.same c.walk_round.ensures.same in
     record {
-      tried = tried_more x w.by c.args.group n r did.0 s t u c.loop-priority-test.true tried c.in_ok-answer-2.answer last.state did.1 (same_for (λ y f. IsTried y f c.args.group c.in_ok-answer-2.answer u last.state) w mid kept e.tried);
+      tried = tried_more x w.by c.args.group n r did.0 s t u c.loop-priority-test.true tried c.in_ok-answer-2.answer last.state did.1 (same_for (λ y f. IsChargeTried y f c.args.group c.in_ok-answer-2.answer u last.state) w mid kept e.tried);
       there = subst (λ (y : Shared). RefusedThere y c.in_ok-answer-2.answer) kept.shared e.there;
       room = subst (λ (y : Shared). depth_of y.charge.shape.parents.items c.args.group ≤ last.use_room) kept.shared e.room;
       same = same_then w mid last kept e.same;

@@ -1,7 +1,4 @@
-use Rattle.std.proofs.Common.{◌≤◌}
-use Rattle.shr_model.specs.Groups.{depth_of}
-use Rattle.shr_walk.specs.Acting.{IsSame}
-use Rattle.shr_reclaim.specs.Looping.{RefusedThere}
+use Rattle.shr_reclaim.proofs.Common.{◌≤◌, depth_of, IsSame, RefusedThere}
 use Rattle.shr_reclaim.proofs.Tried.{HasTried}
 use Rattle.shr_reclaim.proofs.charging.charge_in_rounds.Given as goal
 

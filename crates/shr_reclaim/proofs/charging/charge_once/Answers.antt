@@ -1,9 +1,4 @@
-use Rattle.std.proofs.Common.{ℕ, List, ap, sym, subst, ◌∙◌, arith}
-use Rattle.shr_model.specs.Groups.{depth_of}
-use Rattle.shr_charge.specs.Seat.{uses_of, tree_of}
-use Rattle.shr_walk.specs.Acting.{Acting}
-use Rattle.shr_walk.specs.State.{state_of}
-use Rattle.shr_reclaim.specs.Trying.{IsTried}
+use Rattle.shr_reclaim.proofs.Common.{ℕ, List, ap, sym, subst, ◌∙◌, arith, depth_of, uses_of, tree_of, Acting, state_of, IsChargeTried}
 use Rattle.shr_reclaim.proofs.Noting.{few_ops, tried_once}
 use Rattle.shr_reclaim.proofs.charging.charge_once.Goals as goal
 
@@ -15,5 +10,5 @@ returns-clause-room g c = let shape = c.worker.inside.shared.now.charge.shape in
 
 pub returns-clause-tried : goal.returns-clause-tried
 returns-clause-tried g c = let s = c.worker.inside.seats in let seat = c.charge.new.seat in let uses = c.charge.new.uses in
-    subst (λ (w : Acting). IsTried w.shared w.by c.args.group c.charge.result w.state (record (state_of s) { uses = uses_of seat; tree = tree_of seat; noted = uses.items })) c.worker.view_is
+    subst (λ (w : Acting). IsChargeTried w.shared w.by c.args.group c.charge.result w.state (record (state_of s) { uses = uses_of seat; tree = tree_of seat; noted = uses.items })) c.worker.view_is
     (tried_once c.worker.inside.shared.now c.worker.inside.by c.args.group c.charge.result s seat c.reserve.new.self uses c.reserve.ensures.items c.charge.ensures.charges)

@@ -1,12 +1,4 @@
-use Rattle.std.proofs.Common.{ℕ, ◌+◌, ◌<◌, List, ◌++◌, ◌∷◌, [], false, take, drop, get_or, refl, sym, subst, ◌∙◌, arith}
-use Rattle.std.proofs.lemmas.List.Elements.{All-get_or}
-use Rattle.shr_model.specs.Walks.{Job, job}
-use Rattle.shr_seats.specs.Shapes.{groups_in}
-use Rattle.shr_core.specs.Seats.{shape_of}
-use Rattle.shr_walk.specs.declared.seats.Shared.{Shared}
-use Rattle.shr_walk.proofs.Acted.{same_none, same_then}
-use Rattle.shr_reclaim.specs.Looping.{jobs_on}
-use Rattle.shr_reclaim.specs.Rounds.{Visit, WalksAll, WalksFirst}
+use Rattle.shr_reclaim.proofs.Common.{ℕ, ◌+◌, ◌<◌, List, ◌++◌, ◌∷◌, [], false, take, drop, get_or, refl, sym, subst, ◌∙◌, arith, Job, job, groups_in, shape_of, Shared, same_then, jobs_on, Visit, WalksAll, WalksFirst, All-get_or, same_none}
 use Rattle.shr_reclaim.proofs.Ranging.{on_more, on_parted}
 use Rattle.shr_reclaim.proofs.Visiting.{none_walked, all_more, first_cut, visited_same}
 use Rattle.shr_reclaim.proofs.rounds.walk_node.Goals as goal

@@ -1,7 +1,4 @@
-use Rattle.std.proofs.Common.{◌≡◌, List, take}
-use Rattle.shr_walk.specs.Acting.{IsSame}
-use Rattle.shr_reclaim.specs.Looping.{jobs_on}
-use Rattle.shr_reclaim.specs.Rounds.{Visit, WalksAll}
+use Rattle.shr_reclaim.proofs.Common.{◌≡◌, List, take, IsSame, jobs_on, Visit, WalksAll}
 use Rattle.shr_reclaim.proofs.rounds.walk_node.Given as goal
 
 abbrev pub invariant-loop-group : goal.invariant-loop-group

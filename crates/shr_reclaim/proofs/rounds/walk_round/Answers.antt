@@ -1,14 +1,4 @@
-use Rattle.std.proofs.Common.{◌≡◌, ℕ, ◌+◌, ◌<◌, List, ◌++◌, length, sym, ap, subst, ◌∙◌, arith, append_assoc}
-use Rattle.std.specs.Prelude.{All, Result, Ok, Err, OnErr}
-use Rattle.shr_base.specs.declared.memory.Memory.{Memory}
-use Rattle.shr_model.specs.Groups.{IsTree, preorder_of}
-use Rattle.shr_model.specs.Walks.{Job}
-use Rattle.shr_seats.specs.Shapes.{groups_in}
-use Rattle.shr_core.specs.Seats.{shape_of}
-use Rattle.shr_walk.specs.declared.seats.Shared.{Shared}
-use Rattle.shr_walk.proofs.Acted.{same_for, same_then}
-use Rattle.shr_reclaim.specs.Looping.{AllMade, FirstMade, jobs_on}
-use Rattle.shr_reclaim.specs.Rounds.{Visit, WalksAll, WalksFirst, due_in}
+use Rattle.shr_reclaim.proofs.Common.{◌≡◌, ℕ, ◌+◌, ◌<◌, List, ◌++◌, length, sym, ap, subst, ◌∙◌, arith, append_assoc, All, Result, Ok, Err, Memory, IsTree, preorder_of, Job, groups_in, shape_of, Shared, same_for, same_then, AllMade, FirstMade, jobs_on, Visit, WalksAll, WalksFirst, due_in, OnErr}
 use Rattle.shr_reclaim.proofs.Ranging.{jobs_to, jobs_from, jobs_more, jobs_parted, jobs_all, order_within}
 use Rattle.shr_reclaim.proofs.Visiting.{all_then, first_then}
 use Rattle.shr_reclaim.proofs.rounds.walk_round.Goals as goal

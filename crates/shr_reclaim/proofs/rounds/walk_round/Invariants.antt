@@ -1,6 +1,4 @@
-use Rattle.std.proofs.Common.{List}
-use Rattle.shr_walk.specs.Acting.{IsSame}
-use Rattle.shr_reclaim.specs.Rounds.{Visit, WalksAll}
+use Rattle.shr_reclaim.proofs.Common.{List, IsSame, Visit, WalksAll}
 use Rattle.shr_reclaim.proofs.Ranging.{jobs_to}
 use Rattle.shr_reclaim.proofs.rounds.walk_round.Given as goal
 

@@ -1,9 +1,6 @@
-use Rattle.std.proofs.Common.{[], ap, arith}
+use Rattle.shr_registry.proofs.Common.{[], ap, arith, Shape, view_of, shape_of, made_from}
 use Rattle.shr_base.specs.declared.replies.HalfWhy.TheVariants as why
-use Rattle.shr_seats.specs.declared.shape.Shape.{Shape}
-use Rattle.shr_core.specs.Seats.{view_of, shape_of}
 use Rattle.shr_node.proofs.Draws.{worn_before, filled_before}
-use Rattle.shr_registry.specs.Ending.{made_from}
 use Rattle.shr_registry.proofs.Empties.{none_yet, stopped, node_down}
 use Rattle.shr_registry.proofs.draining.empty.Goals as goal
 

@@ -1,5 +1,4 @@
-use Rattle.shr_core.specs.Seats.{IsOf, view_of}
-use Rattle.shr_registry.specs.Adding.{Loads}
+use Rattle.shr_registry.proofs.Common.{IsOf, view_of, Loads}
 use Rattle.shr_registry.proofs.draining.settle.Given as goal
 
 abbrev pub invariant-loop : goal.invariant-loop

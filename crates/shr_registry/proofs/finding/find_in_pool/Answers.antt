@@ -1,10 +1,4 @@
-use Rattle.std.proofs.Common.{List, ap, subst, sym, ◌∙◌}
-use Rattle.shr_base.specs.declared.journals.PoolEntry.{PoolEntry}
-use Rattle.shr_core.specs.declared.view.View.{View}
-use Rattle.shr_core.specs.Seats.{IsMet, view_of, shape_of}
-use Rattle.shr_core.specs.Tells.{pool_of}
-use Rattle.shr_registry.specs.declared.answers.FindAnswer.{FindAnswer}
-use Rattle.shr_registry.specs.Answers.{FindGives, IsDatedBy}
+use Rattle.shr_registry.proofs.Common.{List, ap, subst, sym, ◌∙◌, PoolEntry, View, IsMet, view_of, shape_of, pool_of, FindAnswer, FindGives, IsDatedBy}
 use Rattle.shr_registry.proofs.Adds.{journal}
 use Rattle.shr_registry.proofs.Agains.{met_by}
 use Rattle.shr_registry.proofs.Givings.{find_given, find_dated, taken_pool}

@@ -1,5 +1,4 @@
-use Rattle.shr_core.specs.Tells.{pool_of}
-use Rattle.shr_core.specs.Seats.{view_of, shape_of}
+use Rattle.shr_registry.proofs.Common.{pool_of, view_of, shape_of}
 use Rattle.shr_registry.proofs.Meetings.{id_found, used_up, none_found}
 use Rattle.shr_registry.proofs.Searches.{more_loaded}
 use Rattle.shr_registry.proofs.finding.meet.Goals as goal

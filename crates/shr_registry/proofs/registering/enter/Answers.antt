@@ -1,10 +1,4 @@
-use Rattle.shr_registry.specs.Answers.{LacksMemory}
-use Rattle.std.proofs.Common.{◌≡◌, List, ◌++◌, ◌∷◌, [], sym, ap, ◌∙◌, arith, subst}
-use Rattle.shr_base.specs.declared.journals.PoolEntry.{PoolEntry}
-use Rattle.shr_base.specs.declared.journals.PoolEntry.TheVariants.{Registered}
-use Rattle.shr_core.specs.Seats.{view_of, shape_of}
-use Rattle.shr_seats.specs.declared.shape.Shape.{Shape}
-use Rattle.shr_registry.specs.Adding.{only_pool}
+use Rattle.shr_registry.proofs.Common.{RegisterLacksMemory, ◌≡◌, List, ◌++◌, ◌∷◌, [], sym, ap, ◌∙◌, arith, subst, PoolEntry, Registered, view_of, shape_of, Shape, only_pool}
 use Rattle.shr_registry.proofs.Registers.{dying_most, registered_before, registered_hand, registered_now, both, has_still, not_live, lowest, may_step, none_left, no_memory, lowest_none}
 use Rattle.shr_registry.proofs.registering.enter.Goals as goal
 
@@ -37,5 +31,5 @@ returns-in_default-free_id-clause-answer c = let shape : Shape = shape_of c.args
 
 pub returns-in_default-reserve-clause-answer : goal.returns-in_default-reserve-clause-answer
 returns-in_default-reserve-clause-answer c = let shape : Shape = shape_of c.args.core.now in let v = view_of c.args.seat.now in let t = view_of c.live_id.new.seat in let u = view_of c.free_id.new.seat in let pool : List PoolEntry = c.args.entries.now.items in let a = c.live_id.ensures.loads in let b = c.free_id.ensures.loads in let is = c.requires.pool in
-    subst (λ (l : List PoolEntry). LacksMemory shape v c.args.decl l 0 u) (sym c.reserve.ensures.items)
+    subst (λ (l : List PoolEntry). RegisterLacksMemory shape v c.args.decl l 0 u) (sym c.reserve.ensures.items)
     (no_memory c.args.core.now.setting v u pool (both shape v t u pool a b is) is c.requires.free c.args.decl c.in-Some-free_id.id (not_live shape v t u pool a b is c.args.decl (c.live_id.ensures.missing c.in_default.is)) (lowest shape v t u pool a b is c.in-Some-free_id.id c.in-Some-free_id.ensures.lowest))

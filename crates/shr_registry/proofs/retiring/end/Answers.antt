@@ -1,10 +1,4 @@
-use Rattle.shr_registry.specs.Ending.{EndsLacking}
-use Rattle.std.proofs.Common.{◌++◌, ◌∷◌, [], List, ap, ◌∙◌, arith, subst, sym}
-use Rattle.shr_base.specs.declared.journals.PoolEntry.{PoolEntry}
-use Rattle.shr_base.specs.declared.journals.PoolEntry.TheVariants.{Unregistered}
-use Rattle.shr_model.specs.Pool.{from_of}
-use Rattle.shr_seats.specs.declared.shape.Shape.{Shape}
-use Rattle.shr_core.specs.Seats.{view_of, shape_of}
+use Rattle.shr_registry.proofs.Common.{EndsLacking, ◌++◌, ◌∷◌, [], List, ap, ◌∙◌, arith, subst, sym, PoolEntry, Unregistered, from_of, Shape, view_of, shape_of}
 use Rattle.shr_registry.proofs.Registers.{dying_most}
 use Rattle.shr_registry.proofs.Retires.{ended_now, not_live_now, no_memory}
 use Rattle.shr_registry.proofs.retiring.end.Goals as goal

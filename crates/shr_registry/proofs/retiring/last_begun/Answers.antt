@@ -1,5 +1,4 @@
-use Rattle.std.proofs.Common.{◌∙◌, ap, arith, refl}
-use Rattle.shr_model.specs.Pool.{from_of}
+use Rattle.shr_registry.proofs.Common.{◌∙◌, ap, arith, refl, from_of}
 use Rattle.shr_registry.proofs.Retires.{begun_before, begun_here, begun_whole, begun_none}
 use Rattle.shr_registry.proofs.retiring.last_begun.Goals as goal
 

@@ -1,5 +1,4 @@
-use Rattle.std.proofs.Common.{◌≡◌, ◌≤◌, length, take}
-use Rattle.shr_model.specs.Pool.{from_of}
+use Rattle.shr_registry.proofs.Common.{◌≡◌, ◌≤◌, length, take, from_of}
 use Rattle.shr_registry.proofs.retiring.last_begun.Given as goal
 
 abbrev pub invariant-loop-left : goal.invariant-loop-left

@@ -1,5 +1,4 @@
-use Rattle.shr_seats.proofs.Weighing.{begins_more}
-use Rattle.shr_core.specs.Seats.{view_of}
+use Rattle.shr_registry.proofs.Common.{begins_more, view_of}
 use Rattle.shr_registry.proofs.Givings.{retire_given}
 use Rattle.shr_registry.proofs.retiring.retire.Goals as goal
 

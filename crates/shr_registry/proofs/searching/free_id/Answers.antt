@@ -1,7 +1,4 @@
-use Rattle.std.proofs.Common.{sym, ap, ◌∙◌, arith}
-use Rattle.shr_seats.specs.declared.shape.Shape.{Shape}
-use Rattle.shr_core.specs.Seats.{view_of, shape_of}
-use Rattle.shr_core.specs.Tells.{pool_of}
+use Rattle.shr_registry.proofs.Common.{sym, ap, ◌∙◌, arith, Shape, view_of, shape_of, pool_of}
 use Rattle.shr_registry.proofs.Searches.{loads_more, shown_phase, free_here, free_next, free_none}
 use Rattle.shr_registry.proofs.searching.free_id.Goals as goal
 

@@ -1,8 +1,4 @@
-use Rattle.std.proofs.Common.{◌≡◌, ◌-◌}
-use Rattle.shr_model.specs.Pool.{lowest_free, lowest_idle}
-use Rattle.shr_core.specs.Seats.{IsOf, view_of, shape_of}
-use Rattle.shr_core.specs.Tells.{pool_of}
-use Rattle.shr_registry.specs.Adding.{Loads}
+use Rattle.shr_registry.proofs.Common.{◌≡◌, ◌-◌, lowest_idle, IsOf, view_of, shape_of, pool_of, Loads, lowest_free}
 use Rattle.shr_registry.proofs.searching.free_id.Given as goal
 
 abbrev pub invariant-loop-id : goal.invariant-loop-id

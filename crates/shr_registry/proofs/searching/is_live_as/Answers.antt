@@ -1,6 +1,4 @@
-use Rattle.std.proofs.Common.{◌∙◌}
-use Rattle.shr_core.specs.Seats.{view_of, shape_of}
-use Rattle.shr_core.specs.Tells.{pool_of}
+use Rattle.shr_registry.proofs.Common.{◌∙◌, view_of, shape_of, pool_of}
 use Rattle.shr_registry.proofs.Searches.{loads_none, loads_more, live_is, shown_phase, shown_decl}
 use Rattle.shr_registry.proofs.searching.is_live_as.Goals as goal
 

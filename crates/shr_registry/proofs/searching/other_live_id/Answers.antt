@@ -1,10 +1,4 @@
-use Rattle.std.proofs.Common.{◌≡◌, ℕ, List, false, sym, ap, subst, ◌∙◌, arith}
-use Rattle.std.specs.Prelude.{◌&&◌, ◌==◌}
-use Rattle.shr_base.specs.declared.journals.PoolEntry.{PoolEntry}
-use Rattle.shr_model.specs.Pool.{is_live, decl_of}
-use Rattle.shr_seats.specs.declared.shape.Shape.{Shape}
-use Rattle.shr_core.specs.Seats.{view_of, shape_of}
-use Rattle.shr_core.specs.Tells.{pool_of}
+use Rattle.shr_registry.proofs.Common.{◌≡◌, ℕ, List, false, sym, ap, subst, ◌∙◌, arith, ◌&&◌, ◌==◌, PoolEntry, is_live, decl_of, Shape, view_of, shape_of, pool_of}
 use Rattle.shr_registry.proofs.Searches.{loads_none, loads_then, none_below, none_next}
 use Rattle.shr_registry.proofs.Meetings.{journal_still}
 use Rattle.shr_registry.proofs.searching.other_live_id.Goals.{else-id-known-via-then-id-known+else-is_live_as, else-id-known-via-else-id-known}

@@ -1,8 +1,4 @@
-use Rattle.std.proofs.Common.{◌≡◌, false}
-use Rattle.shr_model.specs.Pool.{is_live_below}
-use Rattle.shr_core.specs.Seats.{IsOf, view_of, shape_of}
-use Rattle.shr_core.specs.Tells.{pool_of}
-use Rattle.shr_registry.specs.Adding.{Loads}
+use Rattle.shr_registry.proofs.Common.{◌≡◌, false, IsOf, view_of, shape_of, pool_of, Loads, is_live_below}
 use Rattle.shr_registry.proofs.searching.other_live_id.Given as goal
 
 abbrev pub invariant-loop-id : goal.invariant-loop-id

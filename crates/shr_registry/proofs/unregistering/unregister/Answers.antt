@@ -1,8 +1,4 @@
-use Rattle.std.proofs.Common.{List, refl, subst}
-use Rattle.shr_base.specs.declared.objects.Object.{Object}
-use Rattle.shr_seats.specs.declared.shape.Shape.{Shape}
-use Rattle.shr_core.specs.Seats.{view_of, shape_of}
-use Rattle.shr_registry.specs.Ending.{AreDrained}
+use Rattle.shr_registry.proofs.Common.{List, refl, subst, Object, Shape, view_of, shape_of, AreDrained}
 use Rattle.shr_registry.proofs.Endings.{freed, half}
 use Rattle.shr_registry.proofs.unregistering.unregister.Goals as goal
 

@@ -1,6 +1,4 @@
-use Rattle.shr_replay.proofs.Common.{slice_set, at_group, Replayed, length-set, length-append, List, [], ◌∷◌, ◌≡◌, ◌∙◌, ℕ, ◌+◌, ◌-◌, ◌<◌, ◌≤◌, length, sym, ap, subst, arith, Place, Family, AreJournals, AreReplayed, entries_in}
-use Rattle.std.specs.Prelude.{option_copied}
-use Rattle.shr_replay.specs.Groups.{items_in}
+use Rattle.shr_replay.proofs.Common.{slice_set, at_group, Replayed, length-set, length-append, List, [], ◌∷◌, ◌≡◌, ◌∙◌, ℕ, ◌+◌, ◌-◌, ◌<◌, ◌≤◌, length, sym, ap, subst, arith, Place, Family, AreJournals, AreReplayed, printed_entries, option_copied, printed_items}
 use Rattle.shr_replay.proofs.Climbing.{AreClimbed, climbed_none, climbed_more, one_told, one_given}
 use Rattle.shr_replay.proofs.groups.replay_groups.Goals as goal
 
@@ -27,8 +25,8 @@ loop-k-preserved c =
       length-set c.replay_end.new.lists.items group c.in_ok-replayed.given ∙ (c.in_ok-replayed.ensures.others.count ∙ c.loop-k.invariant.0),
       ap length pushed ∙ (length-append c.loop-k.told.items (c.in_ok-replayed.replayed ∷ []) ∙ ap (λ (n : ℕ). n + 1) c.loop-k.invariant.1),
       λ family printed place js ps.
-          let here : family (at_group place group) ≡ entries_in (option_copied c.end_at.result) = js group within ∙ ap entries_in (sym c.end_at.ensures) in
-          let there : printed (at_group place group) ≡ items_in (option_copied c.end_at.result) = ps group within ∙ ap items_in (sym c.end_at.ensures) in
+          let here : family (at_group place group) ≡ printed_entries (option_copied c.end_at.result) = js group within ∙ ap printed_entries (sym c.end_at.ensures) in
+          let there : printed (at_group place group) ≡ printed_items (option_copied c.end_at.result) = ps group within ∙ ap printed_items (sym c.end_at.ensures) in
           let low : length c.args.parents.now - c.loop-k.k ≡ group + 1 = omega (arith, c.loop-k-test.true) in
           let next : group ≡ length c.args.parents.now - (c.loop-k.k + 1) = omega (arith, c.loop-k-test.true) in
           let before : AreClimbed c.args.parents.now family printed place (group + 1) c.loop-k.lists.items c.loop-k.told.items = subst (λ (n : ℕ). AreClimbed c.args.parents.now family printed place n c.loop-k.lists.items c.loop-k.told.items) low (c.loop-k.invariant.2 family printed place js ps) in

@@ -1,5 +1,4 @@
-use Rattle.shr_replay.proofs.Common.{◌≡◌, ℕ, ◌-◌, List, length, Object, Place, Family, AreJournals}
-use Rattle.shr_replay.specs.Groups.{ArePrinted}
+use Rattle.shr_replay.proofs.Common.{◌≡◌, ℕ, ◌-◌, List, length, Object, Place, Family, AreJournals, ArePrinted}
 use Rattle.shr_replay.proofs.Climbing.{AreClimbed}
 use Rattle.shr_replay.proofs.groups.replay_groups.Given as goal
 

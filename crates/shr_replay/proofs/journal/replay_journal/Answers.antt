@@ -1,5 +1,4 @@
-use Rattle.shr_replay.proofs.Common.{◌≡◌, ◌≤◌, ◌+◌, ◌∙◌, sym, ap, subst, List, [], ◌∷◌, length, drop, refl, ℕ, Entry, Object, took_of, KeepsOthers}
-use Rattle.std.proofs.lemmas.List.{drop_more, drop_all}
+use Rattle.shr_replay.proofs.Common.{◌≡◌, ◌≤◌, ◌+◌, ◌∙◌, sym, ap, subst, List, [], ◌∷◌, length, drop, refl, ℕ, Entry, Object, took_of, KeepsOthers, drop_more, drop_all}
 use Rattle.shr_replay.proofs.Taking.{keeps_more}
 use Rattle.shr_replay.proofs.Following.{IsBehind, behind_none, behind_more, replayed_all, given_all}
 use Rattle.shr_replay.proofs.journal.replay_journal.Goals as goal

@@ -1,5 +1,4 @@
-use Rattle.shr_replay.proofs.Common.{◌≡◌, ◌≤◌, ◌+◌, ◌++◌, ◌∷◌, [], Option, Some, ℕ, List, length, map, ◌∙◌, sym, ap, subst, inl, inr, arith, Keyed, objects_of, Object, Tag, tag_of}
-use Rattle.std.proofs.lemmas.List.{length-map}
+use Rattle.shr_replay.proofs.Common.{◌≡◌, ◌≤◌, ◌+◌, ◌++◌, ◌∷◌, [], Option, Some, ℕ, List, length, map, ◌∙◌, sym, ap, subst, inl, inr, arith, Keyed, objects_of, Object, Tag, tag_of, length-map}
 use Rattle.shr_replay.proofs.Listing.{IsListed, listed_none, node_here, listed_more, listed_all}
 use Rattle.shr_replay.proofs.tags.tags_in.Goals as goal
 

@@ -1,9 +1,9 @@
-use Rattle.shr_report.proofs.Common.{refl, prints_part, prints_all, Registered, pool_line}
+use Rattle.shr_report.proofs.Common.{refl, prints_part, prints_all, Registered, pool_entry_line}
 use Rattle.shr_report.proofs.Numbered.{numbered_next_at, numbered_end}
 use Rattle.shr_report.proofs.text.pool.Goals as goal
 
 pub loop-i-preserved : goal.loop-i-preserved
-loop-i-preserved g c = prints_part _ _ _ _ _ _ _ _ _ c.loop-i.invariant c.pool_entry.ensures (numbered_next_at pool_line c.args.entries.now c.loop-i.i c.loop-i.i _ (Registered 0 0 0) c.loop-i-test.true refl)
+loop-i-preserved g c = prints_part _ _ _ _ _ _ _ _ _ c.loop-i.invariant c.pool_entry.ensures (numbered_next_at pool_entry_line c.args.entries.now c.loop-i.i c.loop-i.i _ (Registered 0 0 0) c.loop-i-test.true refl)
 
 pub returns : goal.returns
-returns g c = prints_all _ _ _ _ _ _ c.loop-i.invariant (numbered_end pool_line c.args.entries.now c.loop-i.i c.loop-i.i c.loop-i-test.false)
+returns g c = prints_all _ _ _ _ _ _ c.loop-i.invariant (numbered_end pool_entry_line c.args.entries.now c.loop-i.i c.loop-i.i c.loop-i-test.false)

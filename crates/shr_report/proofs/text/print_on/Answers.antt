@@ -1,5 +1,4 @@
-use Rattle.shr_report.proofs.Common.{[], sym, append-nil}
-use Rattle.shr_report.specs.Text.{text}
+use Rattle.shr_report.proofs.Common.{[], sym, append-nil, text}
 use Rattle.shr_report.proofs.text.print_on.Goals as goal
 
 pub returns-clause-written : goal.returns-clause-written

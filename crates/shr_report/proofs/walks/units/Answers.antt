@@ -1,5 +1,4 @@
-use Rattle.shr_report.proofs.Common.{◌≡◌, ◌+◌, ◌-◌, arith, get_or, refl, take_rest, prints_part, prints_all, map_line, IsSeenNumbered, IsAttemptNumbered}
-use Rattle.std.proofs.Common.{length-drop}
+use Rattle.shr_report.proofs.Common.{◌≡◌, ◌+◌, ◌-◌, arith, get_or, refl, take_rest, prints_part, prints_all, map_line, IsSeenNumbered, IsAttemptNumbered, length-drop}
 use Rattle.shr_report.proofs.Ranges.{each_joined, each_rest, each_more_at}
 use Rattle.shr_report.proofs.Joined.{units_next, units_end}
 use Rattle.shr_report.proofs.walks.units.Goals as goal

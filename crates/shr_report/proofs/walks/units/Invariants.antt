@@ -1,5 +1,4 @@
-use Rattle.shr_report.proofs.Common.{◌≤◌, drop, take, length, AllByRecursion, PrintsTo, IsSeenNumbered, IsAttemptNumbered}
-use Rattle.shr_report.specs.WalkText.{map_lines}
+use Rattle.shr_report.proofs.Common.{◌≤◌, drop, take, length, AllByRecursion, PrintsTo, IsSeenNumbered, IsAttemptNumbered, map_lines}
 use Rattle.shr_report.proofs.walks.units.Given as goal
 
 abbrev pub invariant-loop-map : goal.invariant-loop-map

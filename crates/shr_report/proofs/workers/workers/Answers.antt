@@ -1,5 +1,4 @@
-use Rattle.shr_report.proofs.Common.{refl, prints_part, prints_all, IsPartNumbered, worker_lines}
-use Rattle.std.proofs.lemmas.Option.{slice_get_read}
+use Rattle.shr_report.proofs.Common.{refl, prints_part, prints_all, IsPartNumbered, worker_lines, slice_get_read}
 use Rattle.shr_report.proofs.Ranges.{each_more, each_done}
 use Rattle.shr_report.proofs.Numbered.{numbered_next, numbered_end}
 use Rattle.shr_report.proofs.workers.workers.Goals as goal

@@ -1,7 +1,4 @@
-use Rattle.std.proofs.Common.{◌≡◌, List, [], ◌∷◌, length, refl, arith}
-use Rattle.shr_worker.specs.declared.tasks.WorkerResult.{WorkerResult}
-use Rattle.shr_assemble.specs.declared.logs.WorkerLog.{WorkerLog}
-use Rattle.shr_run.specs.Joins.{log_of}
+use Rattle.shr_run.proofs.Common.{◌≡◌, List, [], ◌∷◌, length, refl, arith, WorkerResult, WorkerLog, log_of}
 use Rattle.shr_run.proofs.Parting.{own_at_end, joined_all, still_joined, still_parted, still_plain, still_whole, still_at_end, still_logged}
 use Rattle.shr_run.proofs.joining.join_all.Goals as goal
 

@@ -1,9 +1,4 @@
-use Rattle.std.proofs.Common.{◌≡◌, ◌++◌, map}
-use Rattle.std.specs.Prelude.{All, IsTrue}
-use Rattle.shr_tables.specs.Parted.{AreFirst, IsPlainFirst}
-use Rattle.shr_worker.specs.declared.tasks.WorkerResult.{WorkerResult}
-use Rattle.shr_assemble.specs.Ends.{with_workers}
-use Rattle.shr_run.specs.Joins.{IsAtEnd, log_of, last_of, firsts_of}
+use Rattle.shr_run.proofs.Common.{◌≡◌, ◌++◌, map, All, IsTrue, AreFirst, IsPlainFirst, WorkerResult, with_workers, IsAtEnd, log_of, last_of, firsts_of}
 use Rattle.shr_run.proofs.Parting.{AreCounted, at_seats, at_plain}
 use Rattle.shr_run.proofs.joining.join_all.Given as goal
 

@@ -1,11 +1,7 @@
-use Rattle.std.proofs.Common.{◌≡◌, List, subst}
-use Rattle.std.specs.Prelude.{IfOk, Ok, Err, Result}
+use Rattle.shr_run.proofs.Common.{◌≡◌, List, subst, IfOk, Ok, Err, Result, Ends, WorkerLog, AreEnds}
 use Rattle.shr_base.specs.declared.memory.Memory.{Memory}
 use Rattle.shr_base.specs.declared.scripts.Script.{Script}
-use Rattle.shr_tables.specs.declared.ending.Ends.{Ends}
 use Rattle.shr_report.specs.declared.report.Report.{Report}
-use Rattle.shr_assemble.specs.declared.logs.WorkerLog.{WorkerLog}
-use Rattle.shr_assemble.specs.Putting.{AreEnds}
 use Rattle.shr_assemble.specs.Makes.{IsMadeOf}
 use Rattle.shr_run.specs.Made.{IsReportOfRun}
 use Rattle.shr_run.proofs.reporting.run_and_report.Goals as goal

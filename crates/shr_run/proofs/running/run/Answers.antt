@@ -1,8 +1,4 @@
-use Rattle.std.proofs.Common.{sym, subst, ◌∙◌}
-use Rattle.shr_assemble.specs.declared.logs.WorkerLog.{WorkerLog}
-use Rattle.shr_assemble.specs.Putting.{AreEnds}
-use Rattle.shr_tables.specs.Parted.{AreParted, IsPlainParted}
-use Rattle.std.specs.Prelude.{List, length}
+use Rattle.shr_run.proofs.Common.{sym, subst, ◌∙◌, WorkerLog, AreEnds, AreParted, IsPlainParted, List, length}
 use Rattle.shr_run.proofs.Ending.{all_tasks, all_done, swept_at_end, parted, plain_parted, ends_of}
 use Rattle.shr_run.proofs.running.run.Given as given
 use Rattle.shr_run.proofs.running.run.Goals as goal

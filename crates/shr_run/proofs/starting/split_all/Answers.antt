@@ -1,8 +1,4 @@
-use Rattle.std.proofs.Common.{ℕ, ◌∷◌, [], List, length, length-append, sym, ap, subst, arith}
-use Rattle.std.proofs.lemmas.Option.{none-some}
-use Rattle.shr_core.specs.Seats.{view_of}
-use Rattle.shr_worker.specs.declared.tasks.Task.{Task}
-use Rattle.shr_run.specs.Tasks.{IsTaskOf, AreTasks}
+use Rattle.shr_run.proofs.Common.{ℕ, ◌∷◌, [], List, length, length-append, sym, ap, subst, arith, view_of, Task, IsTaskOf, AreTasks, none-some}
 use Rattle.shr_run.proofs.Splitting.{workers_few, split_none, split_more, plain_none, plain_more, new_task, tasks_more}
 use Rattle.shr_run.proofs.starting.split_all.Goals as goal
 

@@ -1,6 +1,4 @@
-use Rattle.std.proofs.Common.{◌≡◌, length}
-use Rattle.shr_core.specs.Seats.{view_of}
-use Rattle.shr_run.specs.Tasks.{AreSplitOff, AreTasks, IsPlainSplitOff}
+use Rattle.shr_run.proofs.Common.{◌≡◌, length, view_of, AreSplitOff, AreTasks, IsPlainSplitOff}
 use Rattle.shr_run.proofs.starting.split_all.Given as goal
 
 abbrev pub invariant-loop-number : goal.invariant-loop-number

@@ -1,10 +1,5 @@
-use Rattle.std.proofs.Common.{◌≡◌, ◌∙◌, ◌++◌, List, sym, ap, subst, length, map, refl, Bool, true, false, not}
-use Rattle.std.specs.Prelude.{All, IsTrue}
-use Rattle.std.proofs.lemmas.List.Elements.{All-nil}
+use Rattle.shr_run.proofs.Common.{◌≡◌, ◌∙◌, ◌++◌, List, sym, ap, subst, length, map, refl, Bool, true, false, All, IsTrue, All-nil, WorkerResult, Helper, worker_of, HasPass, not}
 use Rattle.shr_pool.specs.Passes as passes
-use Rattle.shr_worker.specs.declared.tasks.WorkerResult.{WorkerResult}
-use Rattle.shr_run.specs.declared.sweeping.Helper.{Helper}
-use Rattle.shr_run.specs.Sweeps.{worker_of, HasPass}
 use Rattle.shr_run.proofs.Passing.{moved_one, none_handed_out, more_handed_out, passed_more, whole_more}
 use Rattle.shr_run.proofs.sweeping.hand_out.Goals as goal
 
@@ -13,7 +8,7 @@ is_whole true e = refl
 is_whole false e = absurd (cc)
 
 pub loop-worker-init : goal.loop-worker-init
-loop-worker-init c = let none = c.new-helpers.ensures.items in let all = c.into_iter-worker-iterator.ensures.into_iter_gives.0 in let v = passes.view_of c.args.jobs.now.first in record {
+loop-worker-init c = let none = c.new-helpers.ensures.items in let all = c.into_iter-worker-iterator.ensures.into_iter_gives.0 in let v = passes.pass_view c.args.jobs.now.first in record {
   next = tt;
   finite = tt;
   queue = refl;
@@ -27,7 +22,7 @@ loop-worker-init c = let none = c.new-helpers.ensures.items in let all = c.into_
 pub loop-worker-preserved : goal.loop-worker-preserved
 loop-worker-preserved c = let i = c.loop-worker.invariant in let next = c.in-Some.ensures.steps.0 in let left = c.loop-worker.worker-iterator.rest.items in let rest = c.next.new.self.rest.items in
     let h : Helper = record { worker = c.in-Some.worker; pass = c.pass-pass.result } in let all = c.args.results.items in let hs = c.loop-worker.helpers.items in let more = c.push.new.self.items in
-    let v = passes.view_of c.loop-worker.jobs.first in let w = passes.view_of c.pass-pass.new.self.first in let pushed = (passes.view_of c.args.jobs.now.first).pushed in let is = c.in_ok-push.ensures.items in record {
+    let v = passes.pass_view c.loop-worker.jobs.first in let w = passes.pass_view c.pass-pass.new.self.first in let pushed = (passes.pass_view c.args.jobs.now.first).pushed in let is = c.in_ok-push.ensures.items in record {
       next = tt;
       finite = tt;
       queue = c.pass-pass.ensures.queue ∙ i.queue;

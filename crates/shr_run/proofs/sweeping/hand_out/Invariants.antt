@@ -1,8 +1,5 @@
-use Rattle.std.proofs.Common.{◌≡◌, ◌++◌, length, map}
-use Rattle.std.specs.Prelude.{All, IsTrue}
+use Rattle.shr_run.proofs.Common.{◌≡◌, ◌++◌, length, map, All, IsTrue, WorkerResult, worker_of, HasPass, handed_out}
 use Rattle.shr_pool.specs.Passes as passes
-use Rattle.shr_worker.specs.declared.tasks.WorkerResult.{WorkerResult}
-use Rattle.shr_run.specs.Sweeps.{worker_of, HasPass, handed_out}
 use Rattle.shr_run.proofs.sweeping.hand_out.Given as goal
 
 abbrev pub invariant-loop-worker : goal.invariant-loop-worker
@@ -10,9 +7,9 @@ invariant-loop-worker l = record {
   next : (goal.iterator-loop-worker).can_next l.worker-iterator;
   finite : (goal.iterator-loop-worker).is_finite l.worker-iterator;
   queue : l.jobs.queue ≡ l.fn.jobs.queue;
-  first : passes.IsOf l.jobs.queue l.jobs.first;
-  view : passes.view_of l.jobs.first ≡ handed_out (passes.view_of l.fn.jobs.first).pushed (length l.helpers.items);
+  first : passes.IsJobPass l.jobs.queue l.jobs.first;
+  view : passes.pass_view l.jobs.first ≡ handed_out (passes.pass_view l.fn.jobs.first).pushed (length l.helpers.items);
   workers : map worker_of l.helpers.items ++ l.worker-iterator.rest.items ≡ l.fn.results.items;
-  passes : All (HasPass l.jobs.queue (passes.view_of l.fn.jobs.first).pushed) l.helpers.items;
+  passes : All (HasPass l.jobs.queue (passes.pass_view l.fn.jobs.first).pushed) l.helpers.items;
   whole : All (λ (w : WorkerResult). IsTrue w.whole) l.worker-iterator.rest.items → All (λ (w : WorkerResult). IsTrue w.whole) l.fn.results.items;
 }

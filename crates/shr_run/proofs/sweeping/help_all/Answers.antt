@@ -1,7 +1,4 @@
-use Rattle.std.proofs.Common.{rules, ◌≡◌, sym, subst, ◌∙◌}
-use Rattle.std.proofs.lemmas.Option.{slice_get_within, get_or_from_slice_get}
-use Rattle.shr_run.specs.declared.sweeping.Helper.{Helper}
-use Rattle.shr_run.specs.Sweeps.{HasHelpedOut}
+use Rattle.shr_run.proofs.Common.{◌≡◌, sym, subst, ◌∙◌, slice_get_within, Helper, HasHelpedOut, rules, get_or_from_slice_get}
 use Rattle.shr_run.proofs.sweeping.help_all.Goals as goal
 
 -- each helper helped out, by the call that was made with it

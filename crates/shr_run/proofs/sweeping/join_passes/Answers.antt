@@ -1,13 +1,11 @@
-use Rattle.std.proofs.Common.{◌∙◌, map, subst}
-use Rattle.std.specs.Prelude.{All}
+use Rattle.shr_run.proofs.Common.{◌∙◌, map, subst, All, IsPassBack, worker_of}
 use Rattle.shr_pool.specs.Passes as passes
 use Rattle.shr_run.proofs.Passing.{joining_more, carried_one, all_later}
-use Rattle.shr_run.specs.Sweeps.{IsPassBack, worker_of}
 use Rattle.shr_run.proofs.sweeping.join_passes.Goals as goal
 
 pub loop-helper-preserved : goal.loop-helper-preserved
 loop-helper-preserved c = let i = c.loop-helper.invariant in let next = c.in-Some.ensures.steps.0 in let left = c.loop-helper.helper-iterator.rest.items in let rest = c.next.new.self.rest.items in
-    let start = passes.view_of c.args.jobs.first in let v = passes.view_of c.loop-helper.jobs.first in let w = passes.view_of c.join.new.self.first in let h = c.in-Some.helper in let all = c.args.helpers.items in record {
+    let start = passes.pass_view c.args.jobs.first in let v = passes.pass_view c.loop-helper.jobs.first in let w = passes.pass_view c.join.new.self.first in let h = c.in-Some.helper in let all = c.args.helpers.items in record {
       next = tt;
       finite = tt;
       queue = c.join.ensures.queue ∙ i.queue;

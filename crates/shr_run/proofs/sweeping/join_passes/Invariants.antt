@@ -1,7 +1,5 @@
-use Rattle.std.proofs.Common.{◌≡◌, ◌++◌, map}
-use Rattle.std.specs.Prelude.{All}
+use Rattle.shr_run.proofs.Common.{◌≡◌, ◌++◌, map, All, worker_of, IsPassBack}
 use Rattle.shr_pool.specs.Passes as passes
-use Rattle.shr_run.specs.Sweeps.{worker_of, IsPassBack}
 use Rattle.shr_run.proofs.Passing.{IsJoining}
 use Rattle.shr_run.proofs.sweeping.join_passes.Given as goal
 
@@ -10,8 +8,8 @@ invariant-loop-helper l = record {
   next : (goal.iterator-loop-helper).can_next l.helper-iterator;
   finite : (goal.iterator-loop-helper).is_finite l.helper-iterator;
   queue : l.jobs.queue ≡ l.fn.jobs.queue;
-  first : passes.IsOf l.jobs.queue l.jobs.first;
-  joining : IsJoining l.fn.jobs.queue (passes.view_of l.fn.jobs.first) (passes.view_of l.jobs.first) l.helper-iterator.rest.items l.fn.helpers.items;
+  first : passes.IsJobPass l.jobs.queue l.jobs.first;
+  joining : IsJoining l.fn.jobs.queue (passes.pass_view l.fn.jobs.first) (passes.pass_view l.jobs.first) l.helper-iterator.rest.items l.fn.helpers.items;
   back : All (IsPassBack l.fn.jobs.queue) l.helper-iterator.rest.items;
   workers : l.workers.items ++ map worker_of l.helper-iterator.rest.items ≡ map worker_of l.fn.helpers.items;
 }

@@ -1,6 +1,5 @@
-use Rattle.shr_script.proofs.Common.{state_of, drafted}
+use Rattle.shr_script.proofs.Common.{said_state, drafted, words_left}
 use Rattle.shr_model.specs.Pieces.{left}
-use Rattle.shr_words.specs.Classes.{words_left}
 use Rattle.shr_script.proofs.PutLaws.{put_is}
 use Rattle.shr_script.proofs.line.plain_line.Goals as goal
 
@@ -8,4 +7,4 @@ pub returns-in-Some : goal.returns-in-Some
 unfolding left
 returns-in-Some c =
     let words = c.in-Some.words.now in
-    rw (put_is (state_of c.args.said.now) (drafted c.args.draft.now) (words_left c.args.rest) words c.in-Workers.is c.in-Some.ensures) c.put_line.ensures
+    rw (put_is (said_state c.args.said.now) (drafted c.args.draft.now) (words_left c.args.rest) words c.in-Workers.is c.in-Some.ensures) c.put_line.ensures

@@ -6,8 +6,8 @@ use Rattle.shr_sweep.proofs.helping.help.Given as goal
 
 abbrev pub invariant-loop-turn : goal.invariant-loop-turn
 invariant-loop-turn g l = record {
-  pass : passes.IsOf l.queue l.pass;
-  helped : HasHelped l.fn.worker.shared l.fn.worker.by l.priority l.nofs l.jobs l.freed (passes.view_of l.fn.pass) (passes.view_of l.pass) l.fn.worker.state l.worker.state;
+  pass : passes.IsJobPass l.queue l.pass;
+  helped : HasHelped l.fn.worker.shared l.fn.worker.by l.priority l.nofs l.jobs l.freed (passes.pass_view l.fn.pass) (passes.pass_view l.pass) l.fn.worker.state l.worker.state;
   few : l.freed ≤ 2 ^ 53 * l.jobs;
   same : IsSame l.fn.worker l.worker;
   queue : l.queue ≡ l.fn.queue;

@@ -1,6 +1,5 @@
-use Rattle.shr_tables.proofs.Common.{◌≡◌, ◌<◌, ◌+◌, ℕ, ap, sym, refl, length, get_or, List, true, false, ◌∙◌, arith, Some, slice_get, nat_tests, CacheDecl, opener, view_of, content_of, within_of_valid}
+use Rattle.shr_tables.proofs.Common.{◌≡◌, ◌<◌, ◌+◌, ℕ, ap, sym, refl, length, get_or, List, true, false, ◌∙◌, arith, Some, slice_get, nat_tests, CacheDecl, opener, view_of, content_of, within_of_valid, shape_of}
 use Rattle.shr_charge.proofs.Listing.{get_here}
-use Rattle.shr_core.specs.Seats.{shape_of}
 use Rattle.shr_tables.proofs.Entering.{entered_more, entered_less, still_untried}
 use Rattle.shr_tables.proofs.First.{entered_off, next_at, on_next, off_next, on_few}
 use Rattle.shr_tables.proofs.opening.enter_all.Goals as goal

@@ -1,6 +1,5 @@
-use Rattle.shr_tables.proofs.Common.{◌≡◌, [], length, take, opener, view_of, AreEntered, HasEntered}
+use Rattle.shr_tables.proofs.Common.{◌≡◌, [], length, take, opener, view_of, AreEntered, HasEntered, IsOf}
 use Rattle.shr_core.specs.Gained.{IsIdle}
-use Rattle.shr_core.specs.Seats.{IsOf}
 use Rattle.shr_seats.specs.Standing.{at_first}
 use Rattle.shr_tables.proofs.First.{on_count}
 use Rattle.shr_tables.proofs.opening.enter_all.Given as goal

@@ -1,5 +1,4 @@
-use Rattle.shr_trials.proofs.Common.{◌≡◌, IsOf, view_of, IsCalm}
-use Rattle.std.proofs.Common.{◌≤◌}
+use Rattle.shr_trials.proofs.Common.{◌≡◌, IsOf, view_of, IsCalm, ◌≤◌}
 use Rattle.shr_trials.proofs.threads.fill.Given as goal
 
 abbrev pub invariant-loop-number : goal.invariant-loop-number

@@ -1,12 +1,4 @@
-use Rattle.std.proofs.Common.{ℕ, ◌+◌, ◌<◌, List, length, get_or, refl, sym, ap, subst, ◌∙◌, inl, inr, arith}
-use Rattle.std.specs.Prelude.{Contains}
-use Rattle.std.proofs.lemmas.List.Elements.{Contains-get_or}
-use Rattle.shr_model.specs.Groups.{IsTree}
-use Rattle.shr_seats.specs.Shapes.{groups_in}
-use Rattle.shr_core.specs.Seats.{shape_of}
-use Rattle.shr_walk.specs.Acting.{walk_of}
-use Rattle.shr_walk.specs.Balances.{IsBalanceCut, OneGives, all_groups, walk_over}
-use Rattle.shr_walk.specs.declared.seats.Shared.{Shared}
+use Rattle.shr_walk.proofs.Common.{ℕ, ◌+◌, ◌<◌, List, length, get_or, refl, sym, ap, subst, ◌∙◌, inl, inr, arith, Contains, IsTree, groups_in, shape_of, walk_of, IsBalanceCut, OneGives, all_groups, walk_over, Shared, Contains-get_or}
 use Rattle.shr_walk.proofs.Acted.{one_by, same_then}
 use Rattle.shr_walk.proofs.Doing.{does_none}
 use Rattle.shr_walk.proofs.Balancing.{IsBalancedTo, all_few, all_within, balanced_more, balanced_cut}

@@ -1,6 +1,4 @@
-use Rattle.std.proofs.Common.{◌≡◌, ◌*◌, ◌^◌, ◌≤◌, length}
-use Rattle.shr_walk.specs.Acting.{IsSame, walk_of}
-use Rattle.shr_walk.specs.Balances.{all_groups}
+use Rattle.shr_walk.proofs.Common.{◌≡◌, ◌*◌, ◌^◌, ◌≤◌, length, IsSame, walk_of, all_groups}
 use Rattle.shr_walk.proofs.Balancing.{IsBalancedTo}
 use Rattle.shr_walk.proofs.balance.balance.Given as goal
 

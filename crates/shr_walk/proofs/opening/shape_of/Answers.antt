@@ -1,6 +1,4 @@
-use Rattle.std.proofs.Common.{arith}
-use Rattle.shr_script.specs.Content.{content_of}
-use Rattle.shr_script.proofs.BoundsLaws.{within_of_valid}
+use Rattle.shr_walk.proofs.Common.{arith, content_of, within_of_valid}
 use Rattle.shr_walk.proofs.opening.shape_of.Goals as goal
 
 pub overflow_cast-result : goal.overflow_cast-result

@@ -1,14 +1,10 @@
-use Rattle.std.proofs.Common.{ℕ, ◌++◌, ◌∷◌, [], ap, sym, subst, refl, take, ◌∙◌}
-use Rattle.std.proofs.lemmas.Grind.{take_at_read}
-use Rattle.shr_base.specs.declared.scripts.GroupDecl.{GroupDecl}
-use Rattle.shr_model.specs.Paths.{root_path}
-use Rattle.shr_script.specs.Content.{AreBelow}
+use Rattle.shr_walk.proofs.Common.{ℕ, ◌++◌, ◌∷◌, [], ap, sym, subst, refl, take, ◌∙◌, take_at_read, GroupDecl, root_path, HaveParentsBefore}
 use Rattle.shr_walk.proofs.Opened.{group_more, no_refusal, only_memory}
 use Rattle.shr_walk.proofs.opening.tree_of.Goals as goal
 
 pub loop-group-preserved : goal.loop-group-preserved
 loop-group-preserved c = let i = c.loop-group.group-index in let t = c.loop-group-test.true in record {
-  so_far = group_more c.args.groups.now i c.group-item.result c.loop-group.tree c.add.new.tree (subst (AreBelow (root_path ∷ [])) (sym c.requires.2) c.requires.1.parents) t c.group-item.is c.loop-group.invariant.so_far c.in-Ok.ensures.added
+  so_far = group_more c.args.groups.now i c.group-item.result c.loop-group.tree c.add.new.tree (subst (HaveParentsBefore (root_path ∷ [])) (sym c.requires.2) c.requires.1.parents) t c.group-item.is c.loop-group.invariant.so_far c.in-Ok.ensures.added
       ((take_at_read c.args.groups.now i c.group-item.result t).1 ∙ ap (λ (g : GroupDecl). take i c.args.groups.now ++ g ∷ []) (sym c.group-item.is));
   same = refl;
 }

@@ -1,5 +1,4 @@
-use Rattle.std.proofs.Common.{◌≡◌, take}
-use Rattle.shr_walk.specs.Sharing.{groups_of}
+use Rattle.shr_walk.proofs.Common.{◌≡◌, take, groups_of}
 use Rattle.shr_walk.proofs.opening.tree_of.Given as goal
 
 abbrev pub invariant-loop-group : goal.invariant-loop-group

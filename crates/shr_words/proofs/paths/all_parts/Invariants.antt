@@ -1,5 +1,4 @@
-use Rattle.shr_words.proofs.Common.{◌≡◌, length, option_map, pieces, all_parts}
-use Rattle.shr_model.specs.Pieces.{left}
+use Rattle.shr_words.proofs.Common.{◌≡◌, length, option_map, pieces, all_parts, left}
 use Rattle.shr_words.proofs.paths.all_parts.Given as goal
 
 abbrev pub invariant-loop-part : goal.invariant-loop-part

@@ -1,13 +1,5 @@
-use Rattle.std.proofs.Common.{List, ap, subst, ◌∙◌, arith}
-use Rattle.shr_base.specs.declared.places.Place.{Place}
-use Rattle.shr_plain.specs.declared.settings.Setting.{Setting}
+use Rattle.shr_worker.proofs.Common.{List, ap, subst, ◌∙◌, arith, Place, Setting, plain_state_of, home_place, room_of, content_of, Sizes, Acting, unfound, release_reply}
 use Rattle.shr_plain.specs.Answers.{ReleaseGives}
-use Rattle.shr_plain.specs.Seat.{state_of}
-use Rattle.shr_plain.specs.Settings.{place_of, room_of}
-use Rattle.shr_script.specs.Content.{content_of}
-use Rattle.shr_seats.specs.declared.rows.Sizes.{Sizes}
-use Rattle.shr_walk.specs.Acting.{Acting}
-use Rattle.shr_worker.specs.Replies.{unfound, release_reply}
 use Rattle.shr_worker.proofs.Pooled.{of_script, pool_there, release_there}
 use Rattle.shr_worker.proofs.pools.release.Goals as goal
 
@@ -26,7 +18,7 @@ release_reply-requires g c = let low = c.place-place.ensures.there.id in let few
 pub returns-clause-releases : goal.returns-clause-releases
 returns-clause-releases g c = let s = c.args.worker.now.shared.script in let p = c.args.pools.now in let pool = c.args.pool in let node = c.args.node in record {
   answer = c.release-answer.result;
-  told = c.unfound.ensures ∙ ap unfound (c.release_reply.ensures ∙ ap (λ (x : Place). release_reply x c.release-answer.result) (c.place-place.ensures.place ∙ ap (λ (l : List Setting). place_of l pool node) c.requires.pools.settings));
-  released = of_script s p c.requires.pools (λ (l : List Setting) (z : Sizes). ReleaseGives (place_of l pool node) (room_of l z pool node) c.args.worker.now.by c.args.units c.release-answer.result (state_of c.args.plain.now) (state_of c.release-answer.new.seat))
-      (subst (λ (w : Acting). ReleaseGives (place_of p.settings.items pool node) (room_of p.settings.items p.sizes pool node) w.by c.args.units c.release-answer.result (state_of c.args.plain.now) (state_of c.release-answer.new.seat)) c.worker.view_is c.release-answer.ensures.released);
+  told = c.unfound.ensures ∙ ap unfound (c.release_reply.ensures ∙ ap (λ (x : Place). release_reply x c.release-answer.result) (c.place-place.ensures.place ∙ ap (λ (l : List Setting). home_place l pool node) c.requires.pools.settings));
+  released = of_script s p c.requires.pools (λ (l : List Setting) (z : Sizes). ReleaseGives (home_place l pool node) (room_of l z pool node) c.args.worker.now.by c.args.units c.release-answer.result (plain_state_of c.args.plain.now) (plain_state_of c.release-answer.new.seat))
+      (subst (λ (w : Acting). ReleaseGives (home_place p.settings.items pool node) (room_of p.settings.items p.sizes pool node) w.by c.args.units c.release-answer.result (plain_state_of c.args.plain.now) (plain_state_of c.release-answer.new.seat)) c.worker.view_is c.release-answer.ensures.released);
 }

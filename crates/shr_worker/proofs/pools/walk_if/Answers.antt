@@ -1,12 +1,5 @@
-use Rattle.std.proofs.Common.{◌∷◌, [], Bool, List, ap, length, length-append, refl, sym, subst, arith}
-use Rattle.shr_base.specs.declared.walks.PlainWalk.{PlainWalk}
-use Rattle.shr_plain.specs.declared.settings.Setting.{Setting}
-use Rattle.shr_plain.specs.Opening.{settings_of, pool_sizes}
-use Rattle.shr_plain.specs.Seat.{PlainState, state_of}
-use Rattle.shr_plain.specs.Walks.{WalkGives}
-use Rattle.shr_seats.specs.declared.rows.Sizes.{Sizes}
-use Rattle.shr_walk.specs.Acting.{Acting}
-use Rattle.shr_worker.specs.Plain.{WalksIf}
+use Rattle.shr_worker.proofs.Common.{◌∷◌, [], Bool, List, ap, length, length-append, refl, sym, subst, arith, PlainWalk, Setting, settings_of, pool_sizes, PlainState, plain_state_of, Sizes, Acting, WalksIf}
+use Rattle.shr_plain.specs.Walks.{PlainWalkGives}
 use Rattle.shr_worker.proofs.Pooled.{of_script, node_there}
 use Rattle.shr_worker.proofs.pools.walk_if.Goals as goal
 
@@ -18,13 +11,13 @@ returns-clause-few g c = let w = c.walk_plain.ensures.walked in let more = ap (�
     let same = ap (λ (l : List PlainWalk). length l) old in let one = length-append c.reserve.new.self.items (w.walk ∷ []) in omega (arith, more, same, one)
 
 pub returns-then-not-due-clause-walks : goal.returns-then-not-due-clause-walks
-returns-then-not-due-clause-walks g c = let s = state_of c.args.plain.now in subst (λ (b : Bool). WalksIf b c.args.worker.now.shared.script c.args.worker.now.by c.args.node c.args.priority s s) (sym c.if-not-due.true) refl
+returns-then-not-due-clause-walks g c = let s = plain_state_of c.args.plain.now in subst (λ (b : Bool). WalksIf b c.args.worker.now.shared.script c.args.worker.now.by c.args.node c.args.priority s s) (sym c.if-not-due.true) refl
 
 pub returns-clause-walks : goal.returns-clause-walks
-returns-clause-walks g c = let s = c.args.worker.now.shared.script in let p = c.args.pools.now in let node = c.args.node in let before = state_of c.args.plain.now in let after = state_of c.walk_plain.new.seat in
-    let walked = of_script s p c.requires.pools (λ (l : List Setting) (z : Sizes). WalkGives l z c.args.worker.now.by node c.args.priority c.walk_plain.result (record before { walks = c.reserve.new.self.items }) after) (subst (λ (w : Acting). WalkGives p.settings.items p.sizes w.by node c.args.priority c.walk_plain.result (record before { walks = c.reserve.new.self.items }) after) c.worker.view_is c.walk_plain.ensures.walked) in
+returns-clause-walks g c = let s = c.args.worker.now.shared.script in let p = c.args.pools.now in let node = c.args.node in let before = plain_state_of c.args.plain.now in let after = plain_state_of c.walk_plain.new.seat in
+    let walked = of_script s p c.requires.pools (λ (l : List Setting) (z : Sizes). PlainWalkGives l z c.args.worker.now.by node c.args.priority c.walk_plain.result (record before { walks = c.reserve.new.self.items }) after) (subst (λ (w : Acting). PlainWalkGives p.settings.items p.sizes w.by node c.args.priority c.walk_plain.result (record before { walks = c.reserve.new.self.items }) after) c.worker.view_is c.walk_plain.ensures.walked) in
     subst (λ (b : Bool). WalksIf b s c.args.worker.now.by node c.args.priority before after) (sym c.if-not-due.false)
     (record {
       answer = c.walk_plain.result;
-      walked = subst (λ (l : List PlainWalk). WalkGives (settings_of s) (pool_sizes s) c.args.worker.now.by node c.args.priority c.walk_plain.result (record before { walks = l }) after) c.reserve.ensures.items walked;
+      walked = subst (λ (l : List PlainWalk). PlainWalkGives (settings_of s) (pool_sizes s) c.args.worker.now.by node c.args.priority c.walk_plain.result (record before { walks = l }) after) c.reserve.ensures.items walked;
     })

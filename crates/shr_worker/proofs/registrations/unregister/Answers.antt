@@ -1,14 +1,9 @@
-use Rattle.std.proofs.Common.{ℕ, ◌⊎◌, inr, sym, ap, subst, ◌∙◌}
+use Rattle.shr_worker.proofs.Common.{ℕ, inr, sym, ap, subst, ◌∙◌, View, view_of, Acting, unfound, ◌⊎◌, shape_of, shared_parents}
 use Rattle.shr_base.specs.declared.replies.Reply.TheVariants as reply
 use Rattle.shr_registry.specs.declared.answers.UnregisterAnswer.TheVariants.{NoCache, Memory, Freed, Half}
 use Rattle.shr_registry.specs.Ending.{UnregisterGives}
-use Rattle.shr_core.specs.declared.view.View.{View}
-use Rattle.shr_core.specs.Seats.{view_of, shape_of}
-use Rattle.shr_walk.specs.Acting.{Acting}
-use Rattle.shr_walk.specs.Keeping.{parents_of}
 use Rattle.shr_walk.specs.State.{state_of}
 use Rattle.shr_worker.specs.Commands.{Unregisters, UnregistersNone}
-use Rattle.shr_worker.specs.Replies.{unfound}
 use Rattle.shr_worker.proofs.Resting.{fit_with, with_core}
 use Rattle.shr_worker.proofs.Ended.{none_uncharged, uncharged_after, freed_drained, half_drained}
 use Rattle.shr_worker.proofs.registrations.unregister.Goals as goal
@@ -49,7 +44,7 @@ returns-in-NoCache-clause-unregisters g c = let at = c.worker.inside in let may 
       answer = NoCache c.in-NoCache.entry;
       told = c.unfound-in-NoCache.ensures;
       ended = c.in-NoCache.ensures.answer;
-      uncharged = none_uncharged (parents_of at.shared.now) at.by (state_of at.seats) (view_of c.unregister.new.seat) may;
+      uncharged = none_uncharged (shared_parents at.shared.now) at.by (state_of at.seats) (view_of c.unregister.new.seat) may;
     }))
 
 pub returns-in-Memory-clause-unregisters : goal.returns-in-Memory-clause-unregisters
@@ -60,7 +55,7 @@ returns-in-Memory-clause-unregisters g c = let at = c.worker.inside in let may =
       answer = Memory;
       told = c.unfound-in-Memory.ensures;
       ended = c.in-Memory.ensures.answer;
-      uncharged = none_uncharged (parents_of at.shared.now) at.by (state_of at.seats) (view_of c.unregister.new.seat) may;
+      uncharged = none_uncharged (shared_parents at.shared.now) at.by (state_of at.seats) (view_of c.unregister.new.seat) may;
     }))
 
 pub returns-in_ok-uncharge_drained-in-Freed-clause-unregisters : goal.returns-in_ok-uncharge_drained-in-Freed-clause-unregisters
@@ -71,7 +66,7 @@ returns-in_ok-uncharge_drained-in-Freed-clause-unregisters g c = let at = c.work
       answer = Freed d.id d.entry d.from d.to d.objects;
       told = c.unfound-in-Freed.ensures ∙ ap (λ (n : ℕ). unfound (reply.Freed d.id d.entry d.from d.to n)) c.in_ok-uncharge_drained-in-Freed.ensures.count;
       ended = subst (λ (v : View). UnregisterGives (shape_of x.core) (view_of at.seats.cache.core) c.args.decl at.by (Freed d.id d.entry d.from d.to d.objects) v) (sym u.ensures.core) d.ensures.answer;
-      uncharged = uncharged_after (parents_of x) at.by d.objects.items (state_of at.seats) (view_of c.unregister.new.seat) t c.in_ok-uncharge_drained-in-Freed.ensures.uncharged;
+      uncharged = uncharged_after (shared_parents x) at.by d.objects.items (state_of at.seats) (view_of c.unregister.new.seat) t c.in_ok-uncharge_drained-in-Freed.ensures.uncharged;
     }))
 
 pub returns-in_ok-uncharge_drained-in-Half-clause-unregisters : goal.returns-in_ok-uncharge_drained-in-Half-clause-unregisters
@@ -82,5 +77,5 @@ returns-in_ok-uncharge_drained-in-Half-clause-unregisters g c = let at = c.worke
       answer = Half d.id d.entry d.from d.to d.objects d.why;
       told = c.unfound-in-Half.ensures ∙ ap (λ (n : ℕ). unfound (reply.Half d.id d.entry d.from d.to n d.why)) c.in_ok-uncharge_drained-in-Half.ensures.count;
       ended = subst (λ (v : View). UnregisterGives (shape_of x.core) (view_of at.seats.cache.core) c.args.decl at.by (Half d.id d.entry d.from d.to d.objects d.why) v) (sym u.ensures.core) d.ensures.answer;
-      uncharged = uncharged_after (parents_of x) at.by d.objects.items (state_of at.seats) (view_of c.unregister.new.seat) t c.in_ok-uncharge_drained-in-Half.ensures.uncharged;
+      uncharged = uncharged_after (shared_parents x) at.by d.objects.items (state_of at.seats) (view_of c.unregister.new.seat) t c.in_ok-uncharge_drained-in-Half.ensures.uncharged;
     }))

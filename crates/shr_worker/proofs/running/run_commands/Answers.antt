@@ -1,25 +1,15 @@
-use Rattle.std.proofs.Common.{◌≡◌, ℕ, ◌∷◌, [], ◌++◌, List, length, length-append, arith, refl, sym, ap, subst, ◌∙◌, Some}
-use Rattle.std.specs.Prelude.{slice_get}
+use Rattle.shr_worker.proofs.Common.{◌≡◌, ℕ, ◌∷◌, [], ◌++◌, List, length, length-append, arith, refl, sym, ap, subst, ◌∙◌, Some, slice_get, Answered, UseStep, Isolation, PlainWalk, IsCommandWithin, content_of, Acting, Shared, CrewState, DeedGives, worker_commands, crew_at, command_serial, IsWorkOf}
 use Rattle.std.proofs.lemmas.Option.{slice_get_read}
-use Rattle.shr_base.specs.declared.replies.Answered.{Answered}
-use Rattle.shr_base.specs.declared.journals.UseStep.{UseStep}
-use Rattle.shr_base.specs.declared.walks.Isolation.{Isolation}
-use Rattle.shr_base.specs.declared.walks.PlainWalk.{PlainWalk}
 use Rattle.shr_plain.specs.Seat as plain
-use Rattle.shr_script.specs.Bounds.{IsCommandWithin}
-use Rattle.shr_script.specs.Content.{content_of}
-use Rattle.shr_walk.specs.Acting.{Acting}
-use Rattle.shr_walk.specs.declared.seats.Shared.{Shared}
 use Rattle.shr_walk.specs.State.{state_of}
-use Rattle.shr_worker.specs.Chain.{CrewState, DeedGives, commands_of, crew_at, serial_of, IsWorkOf}
 use Rattle.shr_worker.proofs.Within.{command_of, command_within, commands_few}
 use Rattle.shr_worker.proofs.Worked.{work_none, work_more}
 use Rattle.shr_worker.proofs.running.run_commands.Goals as goal
 
 pub loop-k-init : goal.loop-k-init
 loop-k-init g c = let w = c.args.worker.now in let at = c.worker.inside in let p = c.args.plain.now in let first = crew_at w p [] in let none = c.reserve.ensures.items ∙ c.requires.none.1 in
-    let same : record { seats = record (state_of at.seats) { noted = c.expect_notes.new.uses.items }; plain = plain.state_of p; isolations = c.args.isolations.now.items } ≡ first =
-    ap (λ (l : List UseStep). record { seats = record (state_of at.seats) { noted = l }; plain = plain.state_of p; isolations = c.args.isolations.now.items }) c.expect_notes.ensures
+    let same : record { seats = record (state_of at.seats) { noted = c.expect_notes.new.uses.items }; plain = plain.plain_state_of p; isolations = c.args.isolations.now.items } ≡ first =
+    ap (λ (l : List UseStep). record { seats = record (state_of at.seats) { noted = l }; plain = plain.plain_state_of p; isolations = c.args.isolations.now.items }) c.expect_notes.ensures
     ∙ (ap (λ (v : Acting). crew_at v p c.args.isolations.now.items) c.worker.view_is ∙ ap (λ (l : List Isolation). crew_at w p l) c.requires.none.2) in record {
       shared = ap (λ (v : Acting). v.shared) c.worker.view_is;
       number = ap (λ (v : Acting). v.by.worker) c.worker.view_is;
@@ -53,11 +43,11 @@ loop-k-preserved g c = let inv = c.loop-k.invariant in let w = c.args.worker.now
     let answered = c.in_ok-answered.answered in let command = c.command-item.result in let first = crew_at w c.args.plain.now [] in
     let s = crew_at c.loop-k.worker c.loop-k.plain c.loop-k.isolations.items in let t = crew_at c.run_next.new.worker c.run_next.new.plain c.run_next.new.isolations.items in
     let short = rw c.as_slice-command-items.ensures at c.loop-k-test.true in let is = rw c.as_slice-command-items.ensures at c.command-item.is in
-    let here : slice_get (commands_of x.script n) k ≡ Some command = subst (λ (v : Acting). slice_get (commands_of v.shared.script v.by.worker) k ≡ Some command) c.worker.view_is
+    let here : slice_get (worker_commands x.script n) k ≡ Some command = subst (λ (v : Acting). slice_get (worker_commands v.shared.script v.by.worker) k ≡ Some command) c.worker.view_is
     (command_of at.shared.now c.worker.invariant.shared at.by.worker mine c.in-Some.ensures k command (slice_get_read mine.commands.items _ k command refl short is)) in
     let pushed : c.push.new.self.items ≡ before ++ answered ∷ [] = c.push.ensures.items ∙ ap (λ (l : List Answered). l ++ answered ∷ []) c.reserve-in-loop-k.ensures.items in
     let count = inv.count in let walks = inv.few in let one = c.run_next.ensures.few in
-    let gives = subst (λ (y : Shared). DeedGives y (serial_of n k) command answered s t) inv.shared (subst (λ (m : ℕ). DeedGives c.loop-k.worker.shared (serial_of m k) command answered s t) inv.number c.in_ok-answered.ensures.deed) in record {
+    let gives = subst (λ (y : Shared). DeedGives y (command_serial n k) command answered s t) inv.shared (subst (λ (m : ℕ). DeedGives c.loop-k.worker.shared (command_serial m k) command answered s t) inv.number c.in_ok-answered.ensures.deed) in record {
       shared = c.run_next.ensures.shared ∙ inv.shared;
       number = c.run_next.ensures.worker ∙ inv.number;
       plain = c.run_next.ensures.plain_seat;
@@ -65,6 +55,6 @@ loop-k-preserved g c = let inv = c.loop-k.invariant in let w = c.args.worker.now
       count = ap (λ (l : List Answered). length l) pushed ∙ omega (arith, length-append before (answered ∷ []), count);
       work = subst (λ (l : List Answered). IsWorkOf x n l first t) (sym pushed)
           (work_more x n before first s t command answered inv.work
-          (ap (slice_get (commands_of x.script n)) count ∙ here)
-          (subst (λ (m : ℕ). DeedGives x (serial_of n m) command answered s t) (sym count) gives));
+          (ap (slice_get (worker_commands x.script n)) count ∙ here)
+          (subst (λ (m : ℕ). DeedGives x (command_serial n m) command answered s t) (sym count) gives));
     }

@@ -1,10 +1,7 @@
-use Rattle.std.proofs.Common.{take, refl, ap, sym, subst, ◌∙◌, ◌++◌, ◌∷◌, [], List, arith}
+use Rattle.shr_worker.proofs.Common.{take, refl, ap, sym, subst, ◌∙◌, ◌++◌, ◌∷◌, [], List, arith, Object, UseStep, AllUncharged}
 use Rattle.std.proofs.lemmas.Grind.{take_at_read}
-use Rattle.shr_base.specs.declared.objects.Object.{Object}
-use Rattle.shr_base.specs.declared.journals.UseStep.{UseStep}
 use Rattle.shr_model.proofs.GroupsLaws.{depth_of-le}
 use Rattle.atomic_table.proofs.Lists.{at_index}
-use Rattle.shr_walk.specs.Keeping.{AllUncharged}
 use Rattle.shr_walk.proofs.Scanned.{uncharged_push}
 use Rattle.shr_worker.proofs.uncharging.uncharge_each.Goals as goal
 

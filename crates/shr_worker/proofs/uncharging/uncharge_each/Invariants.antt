@@ -1,11 +1,10 @@
-use Rattle.std.proofs.Common.{◌≡◌, ◌≤◌, length, take}
-use Rattle.shr_charge.specs.Seat.{IsOf}
-use Rattle.shr_walk.specs.Keeping.{AllUncharged}
+use Rattle.shr_worker.proofs.Common.{◌≡◌, ◌≤◌, length, take, AllUncharged}
+use Rattle.shr_charge.specs.Seat.{IsChargeSeat}
 use Rattle.shr_worker.proofs.uncharging.uncharge_each.Given as goal
 
 abbrev pub invariant-loop-object : goal.invariant-loop-object
 invariant-loop-object l = record {
-  seat : IsOf l.charge l.seat;
+  seat : IsChargeSeat l.charge l.seat;
   within : l.object-index ≤ length l.objects;
   uncharged : AllUncharged l.charge.shape.parents.items l.by (take l.object-index l.objects) l.initial.seat l.seat l.initial.uses.items l.uses.items;
   objects : l.objects ≡ l.fn.objects;

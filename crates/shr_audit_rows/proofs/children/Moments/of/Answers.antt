@@ -1,4 +1,4 @@
-use Rattle.shr_audit_rows.proofs.Common.{◌≡◌, ◌∙◌, length, ap, arith, refl, length-replicate, is_done, is_making, done_in, made_in}
+use Rattle.shr_audit_rows.proofs.Common.{◌≡◌, ◌∙◌, length, ap, arith, refl, length-replicate, is_done, is_making, done_in, group_made_in}
 use Rattle.shr_audit_rows.proofs.MomentsLaws.{all_moments, doing, making, next_noted, noted_long, upto_none}
 use Rattle.shr_audit_rows.proofs.children.Moments.of.Goals as goal
 
@@ -13,7 +13,7 @@ loop-n-init c =
     let l = c.len.ensures in
     let k = c.len-2.ensures in
     record {
-      made = upto_none is_making made_in making tree c.len.result c.in_ok-made.made.items c.in_ok-made.ensures;
+      made = upto_none is_making group_made_in making tree c.len.result c.in_ok-made.made.items c.in_ok-made.ensures;
       done = upto_none is_done done_in doing tree c.len-2.result c.in_ok-done.done.items c.in_ok-done.ensures;
       made_count = omega (arith, a, m, l, ok);
       done_count = omega (arith, b, d, k, ok);
@@ -24,7 +24,7 @@ loop-n-preserved c =
     let tree = c.as_slice-tree.result.now in
     let n = c.loop-n.n in
     record {
-      made = next_noted is_making made_in making tree n (length tree) _ c.loop-n.made.items c.note.new.moments.items c.made_in-newly.result c.loop-n-test.true refl c.made_in-newly.ensures c.note.ensures c.loop-n.invariant.made;
+      made = next_noted is_making group_made_in making tree n (length tree) _ c.loop-n.made.items c.note.new.moments.items c.made_in-newly.result c.loop-n-test.true refl c.made_in-newly.ensures c.note.ensures c.loop-n.invariant.made;
       done = next_noted is_done done_in doing tree n (length tree) _ c.loop-n.done.items c.note-in-loop-n.new.moments.items c.done_in-ended.result c.loop-n-test.true refl c.done_in-ended.ensures c.note-in-loop-n.ensures c.loop-n.invariant.done;
       made_count = noted_long n (length tree) c.loop-n.made.items c.note.new.moments.items c.made_in-newly.result c.note.ensures ∙ c.loop-n.invariant.made_count;
       done_count = noted_long n (length tree) c.loop-n.done.items c.note-in-loop-n.new.moments.items c.done_in-ended.result c.note-in-loop-n.ensures ∙ c.loop-n.invariant.done_count;

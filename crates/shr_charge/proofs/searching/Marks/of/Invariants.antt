@@ -1,5 +1,5 @@
-use Rattle.shr_charge.proofs.Common.{take, AreMarks}
+use Rattle.shr_charge.proofs.Common.{take, AreMarkedGroups}
 use Rattle.shr_charge.proofs.searching.Marks.of.Given as goal
 
 abbrev pub invariant-loop-i : goal.invariant-loop-i
-invariant-loop-i l = AreMarks (take l.i l.entries) l.marks
+invariant-loop-i l = AreMarkedGroups (take l.i l.entries) l.marks

@@ -1,19 +1,19 @@
-use Rattle.shr_charge.proofs.Common.{◌≡◌, ℕ, ◌+◌, ◌%◌, ◌*◌, ◌≤◌, ◌^◌, Bool, true, refl, subst, sym, arith, All, bool_byte, Allows, Serial, UseStep, Shape, count_of, IsLaterThan, IsSound, usage_index, with_uses, op_of, ups_at, IsPaced, Uses, both_uses, one_use, uses_of}
+use Rattle.shr_charge.proofs.Common.{◌≡◌, ℕ, ◌+◌, ◌%◌, ◌*◌, ◌≤◌, ◌^◌, Bool, true, refl, subst, sym, arith, All, bool_byte, Allows, Serial, UseStep, Shape, call_count, IsLaterThan, IsChargeSound, usage_index, with_uses, op_of, ups_at, IsPaced, Uses, both_uses, one_use, uses_of}
 use Rattle.shr_charge.proofs.Moves.{charges}
 use Rattle.shr_charge.proofs.Pacing.{paced_up}
 use Rattle.shr_charge.proofs.SeatLaws.{IsOf-use, counted_byte}
 use Rattle.shr_charge.proofs.table.Charge.add_up.Goals as goal
 
-paced : (u : Uses) (g : ℕ) (by : Serial) (first : Bool) → IsPaced u → ups_at g u.ops + 1 ≤ u.charges + count_of first → u.charges + count_of first ≤ 2 ^ 21 * u.seats → (w : ℕ) → IsPaced (both_uses u (one_use (op_of g by true w) (count_of first) 0))
+paced : (u : Uses) (g : ℕ) (by : Serial) (first : Bool) → IsPaced u → ups_at g u.ops + 1 ≤ u.charges + call_count first → u.charges + call_count first ≤ 2 ^ 21 * u.seats → (w : ℕ) → IsPaced (both_uses u (one_use (op_of g by true w) (call_count first) 0))
 paced u g by first p room calls w = let a = p.charges in let b = p.uncharges in
-    paced_up u (op_of g by true w) (count_of first) 0 p refl (omega (arith, room)) (omega (arith, a, calls)) (omega (arith, b, calls))
+    paced_up u (op_of g by true w) (call_count first) 0 p refl (omega (arith, room)) (omega (arith, a, calls)) (omega (arith, b, calls))
 
 pub add_as-word-requires : goal.add_as-word-requires
 add_as-word-requires c = let d = c.args.self.now in let t = d.table.shared in let m = c.args.seat.now.seat.me in let id = c.args.seat.now.seat.id in let g = c.args.group in let wide = d.wide in let low = c.requires.group in record {
   seat = c.requires.seat.seat.same;
   word = omega (arith, wide, low);
-  step = subst (λ (k : Shape). Allows (IsSound k) t.table_id.slots id m (usage_index g) (λ y. (y + 2 ^ 32) % 2 ^ 64) (λ w r. (r ≡ with_uses m (both_uses m.0.uses (one_use (op_of g c.args.by true w) (count_of c.args.first) 0))) × All (IsLaterThan (op_of g c.args.by true w)) m.0.uses.ops)) (sym d.keyed)
-      (charges d.shape t.table_id.slots id m g low c.requires.seat.seat.here c.args.by (count_of c.args.first) 0 (paced (uses_of c.args.seat.now) g c.args.by c.args.first c.requires.seat.paced c.requires.room c.requires.calls));
+  step = subst (λ (k : Shape). Allows (IsChargeSound k) t.table_id.slots id m (usage_index g) (λ y. (y + 2 ^ 32) % 2 ^ 64) (λ w r. (r ≡ with_uses m (both_uses m.0.uses (one_use (op_of g c.args.by true w) (call_count c.args.first) 0))) × All (IsLaterThan (op_of g c.args.by true w)) m.0.uses.ops)) (sym d.keyed)
+      (charges d.shape t.table_id.slots id m g low c.requires.seat.seat.here c.args.by (call_count c.args.first) 0 (paced (uses_of c.args.seat.now) g c.args.by c.args.first c.requires.seat.paced c.requires.room c.requires.calls));
 }
 
 pub returns-clause-seat : goal.returns-clause-seat

@@ -1,9 +1,9 @@
-use Rattle.shr_charge.proofs.Common.{ℕ, List, ◌∷◌, ap, sym, ◌∙◌, rest, Kept, TreeEntry, Sat}
+use Rattle.shr_charge.proofs.Common.{ℕ, List, ◌∷◌, ap, sym, ◌∙◌, rest, Kept, TreeEntry, ChargeSat}
 use Rattle.shr_charge.proofs.Holding.{has_room, shown}
 use Rattle.shr_charge.proofs.table.Charge.take_tree.Goals as goal
 
 pub exchange-requires : goal.exchange-requires
-exchange-requires g c = let took = c.if-try_take.ensures.taken in let inv = c.loop-turn.invariant in let slots = ap (λ (x : Sat). x.1) took.seat in
+exchange-requires g c = let took = c.if-try_take.ensures.taken in let inv = c.loop-turn.invariant in let slots = ap (λ (x : ChargeSat). x.1) took.seat in
     (c.try_take.ensures.table ∙ (inv.table ∙ c.requires.seat.seat.same), (took.room, slots ∙ ap (λ (l : List (ℕ × Kept TreeEntry)). (0, took.room) ∷ l) (sym (ap (rest {S = Kept TreeEntry}) slots))))
 
 pub returns-then-try_take-clause-room : goal.returns-then-try_take-clause-room

@@ -1,4 +1,4 @@
-use Rattle.shr_charge.proofs.Common.{◌≡◌, ◌≢◌, eqb, subst, sym, arith, Allows, Shape, IsSound, hierarchy_of, Takes}
+use Rattle.shr_charge.proofs.Common.{◌≡◌, ◌≢◌, eqb, subst, sym, arith, Allows, Shape, IsChargeSound, hierarchy_of, TakesTreeRoom}
 use prog.Atomic.{either}
 use Rattle.shr_charge.proofs.Moves.{locks}
 use Rattle.shr_charge.proofs.table.Charge.try_take.Goals as goal
@@ -7,6 +7,6 @@ pub lock_as-requires : goal.lock_as-requires
 lock_as-requires c = let d = c.args.self.now in let t = d.table.shared in let m = c.args.seat.now.me in let id = c.args.seat.now.id in let wide = d.wide in record {
   seat = c.requires.table;
   word = omega (arith, wide);
-  step = subst (λ (k : Shape). Allows (IsSound k) t.table_id.slots id m 0 (λ y. either (eqb y 0) 1 y) (λ n r. (n ≡ 0 → Takes (hierarchy_of d.shape) m r) × (n ≢ 0 → r ≡ m))) (sym d.keyed)
+  step = subst (λ (k : Shape). Allows (IsChargeSound k) t.table_id.slots id m 0 (λ y. either (eqb y 0) 1 y) (λ n r. (n ≡ 0 → TakesTreeRoom (hierarchy_of d.shape) m r) × (n ≢ 0 → r ≡ m))) (sym d.keyed)
       (locks d.shape t.table_id.slots id m c.requires.here c.requires.bare c.requires.out);
 }

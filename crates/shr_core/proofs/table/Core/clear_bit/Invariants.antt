@@ -1,5 +1,4 @@
-use Rattle.std.proofs.Common.{◌≡◌}
-use Rattle.shr_core.specs.Steps.{with_clear}
+use Rattle.shr_core.proofs.Common.{◌≡◌, with_clear}
 use Rattle.shr_core.proofs.table.Core.clear_bit.Given as goal
 
 abbrev pub ghosts-and_as : goal.ghosts-and_as

@@ -1,6 +1,5 @@
-use Rattle.std.proofs.Common.{ℕ, ◌+◌, ◌*◌, ◌%◌, ◌^◌, eqb}
+use Rattle.shr_core.proofs.Common.{ℕ, ◌+◌, ◌*◌, ◌%◌, ◌^◌, eqb, looked_again}
 use prog.Atomic.{either}
-use Rattle.shr_core.specs.Again.{looked_again}
 use Rattle.shr_core.proofs.AgainSteps.{looks_again}
 use Rattle.shr_core.proofs.Laying.{look_low}
 use Rattle.shr_core.proofs.Calls.{may}

@@ -1,12 +1,4 @@
-use Rattle.std.proofs.Common.{◌≡◌, ◌⊎◌, ℕ, ◌<◌, ap, sym, subst, ◌∙◌, inr, ⊎_elim, arith}
-use Rattle.shr_base.specs.declared.ends.LookupWord.{LookupWord}
-use Rattle.shr_core.specs.Lookup.{lookups_of, word_in, last_lookups}
-use Rattle.shr_core.specs.Steps.{Sat}
-use Rattle.shr_core.specs.Answers.{MetLive}
-use Rattle.shr_core.specs.Again.{with_again, looked_again, DrawsAgain}
-use Rattle.shr_core.specs.declared.seat.Met.{Met}
-use Rattle.shr_seats.specs.declared.shape.Shape.{Shape}
-use Rattle.shr_core.specs.Seats.{IsMet}
+use Rattle.shr_core.proofs.Common.{◌≡◌, ◌⊎◌, ℕ, ◌<◌, ap, sym, subst, ◌∙◌, inr, ⊎_elim, arith, LookupWord, lookups_of, word_in, last_lookups, Sat, MetLive, with_again, looked_again, Met, Shape, DrawsAgain, IsMet}
 use Rattle.shr_core.proofs.table.Core.draw_some.Goals as goal
 
 -- the first word has a number left where this one does

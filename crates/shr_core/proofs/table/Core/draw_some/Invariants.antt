@@ -1,5 +1,4 @@
-use Rattle.std.proofs.Common.{◌≡◌, ◌⊎◌, ◌<◌}
-use Rattle.shr_core.specs.Lookup.{lookups_of, last_lookups}
+use Rattle.shr_core.proofs.Common.{◌≡◌, ◌⊎◌, ◌<◌, lookups_of, last_lookups}
 use Rattle.shr_core.proofs.table.Core.draw_some.Given as goal
 
 abbrev pub invariant-loop : goal.invariant-loop

@@ -1,19 +1,7 @@
-use Rattle.std.proofs.Common.{◌≡◌, ℕ, zero, suc, ◌<◌, Bool, false, List, [], ◌∷◌, get_or, set, refl, ap, subst, sym, ◌∙◌, arith, get_or-set_other}
-use mathlib.Core.Logic.{dite}
-use native.Mathlib.Decide.{ℕ_discrete}
-use Rattle.std.specs.Mem.Slots.{slots_items}
+use Rattle.shr_core.proofs.Common.{◌≡◌, ℕ, zero, suc, ◌<◌, Bool, false, List, [], ◌∷◌, get_or, set, refl, ap, subst, sym, ◌∙◌, arith, get_or-set_other, dite, ℕ_discrete, slots_items, Final, Seen, Setting, PoolEntry, Slot, Sizes, row_count, places_in, bits_in, Sound, IsClosedOf, nodes_below, units_in, ends_below, entries_in, items_in}
 use Rattle.std.specs.Slots.{slots_filled, slots_len}
-use Rattle.atomic_table.specs.Table.{Final, Seen}
-use Rattle.shr_core.specs.declared.setting.Setting.{Setting}
 use Rattle.shr_base.specs.Kept.{Kept}
-use Rattle.shr_base.specs.declared.journals.PoolEntry.{PoolEntry}
-use Rattle.shr_core.specs.Slots.{Slot}
-use Rattle.shr_seats.specs.declared.rows.Sizes.{Sizes}
-use Rattle.shr_seats.specs.Rows.{row_count}
-use Rattle.shr_core.specs.Layout.{places_in, bits_in}
 use Rattle.shr_core.proofs.Laying.{pool_row}
-use Rattle.shr_core.specs.Rule.{Sound}
-use Rattle.shr_core.specs.Ending.{IsClosedOf, nodes_below, units_in, ends_below, entries_in, items_in}
 use Rattle.shr_core.proofs.Closing.{closed_of}
 use Rattle.shr_core.proofs.Left.{left}
 use Rattle.shr_core.proofs.table.Core.finish.Goals as goal

@@ -1,7 +1,4 @@
-use Rattle.std.proofs.Common.{ℕ, ◌≡◌, ◌+◌, ◌*◌, ◌∷◌, subst, sym, ◌∙◌, arith}
-use Rattle.atomic_table.specs.Table.{Allows, rest}
-use Rattle.shr_core.specs.Rule.{Sound}
-use Rattle.shr_core.specs.Steps.{Sat, with_given}
+use Rattle.shr_core.proofs.Common.{ℕ, ◌≡◌, ◌+◌, ◌*◌, ◌∷◌, subst, sym, ◌∙◌, arith, Allows, rest, Sound, Sat, with_given}
 use Rattle.shr_core.proofs.RoomSteps.{given}
 use Rattle.shr_core.proofs.Laying.{inside_low}
 use Rattle.shr_core.proofs.Calls.{may}

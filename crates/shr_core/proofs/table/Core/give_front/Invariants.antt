@@ -1,6 +1,4 @@
-use Rattle.std.proofs.Common.{◌≡◌}
-use Rattle.atomic_table.specs.Table.{rest}
-use Rattle.shr_core.specs.Steps.{with_given}
+use Rattle.shr_core.proofs.Common.{◌≡◌, rest, with_given}
 use Rattle.shr_core.proofs.table.Core.give_front.Given as goal
 
 abbrev pub ghosts-free_as : goal.ghosts-free_as

@@ -1,8 +1,4 @@
-use Rattle.std.proofs.Common.{ℕ, ◌≡◌, ◌+◌, ◌*◌, ◌∷◌, subst, sym, ◌∙◌, arith}
-use Rattle.atomic_table.specs.Table.{Allows, rest}
-use Rattle.shr_core.specs.Layout.{places_in}
-use Rattle.shr_core.specs.Rule.{Sound}
-use Rattle.shr_core.specs.Steps.{Sat, with_pool_given}
+use Rattle.shr_core.proofs.Common.{ℕ, ◌≡◌, ◌+◌, ◌*◌, ◌∷◌, subst, sym, ◌∙◌, arith, Allows, rest, places_in, Sound, Sat, with_pool_given}
 use Rattle.shr_core.proofs.RoomSteps.{pool_given}
 use Rattle.shr_core.proofs.Laying.{pool_row}
 use Rattle.shr_core.proofs.Calls.{may}

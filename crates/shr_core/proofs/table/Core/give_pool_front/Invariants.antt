@@ -1,7 +1,4 @@
-use Rattle.std.proofs.Common.{◌≡◌}
-use Rattle.atomic_table.specs.Table.{rest}
-use Rattle.shr_core.specs.Layout.{places_in}
-use Rattle.shr_core.specs.Steps.{with_pool_given}
+use Rattle.shr_core.proofs.Common.{◌≡◌, rest, places_in, with_pool_given}
 use Rattle.shr_core.proofs.table.Core.give_pool_front.Given as goal
 
 abbrev pub ghosts-free_as : goal.ghosts-free_as

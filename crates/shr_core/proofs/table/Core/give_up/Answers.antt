@@ -1,6 +1,4 @@
-use Rattle.std.proofs.Common.{ℕ, ◌≡◌, ◌+◌, ◌*◌}
-use Rattle.shr_core.specs.Lookup.{word_in}
-use Rattle.shr_core.specs.Steps.{with_given_up}
+use Rattle.shr_core.proofs.Common.{ℕ, ◌≡◌, ◌+◌, ◌*◌, word_in, with_given_up}
 use Rattle.shr_core.proofs.LookupSteps.{gives_up}
 use Rattle.shr_core.proofs.Laying.{look_low}
 use Rattle.shr_core.proofs.Calls.{may}

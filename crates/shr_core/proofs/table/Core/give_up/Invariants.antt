@@ -1,6 +1,4 @@
-use Rattle.std.proofs.Common.{◌≡◌}
-use Rattle.shr_core.specs.Lookup.{word_in}
-use Rattle.shr_core.specs.Steps.{with_given_up}
+use Rattle.shr_core.proofs.Common.{◌≡◌, word_in, with_given_up}
 use Rattle.shr_core.proofs.table.Core.give_up.Given as goal
 
 abbrev pub ghosts-load_as : goal.ghosts-load_as

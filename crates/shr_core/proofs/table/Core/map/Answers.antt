@@ -1,6 +1,4 @@
-use Rattle.std.proofs.Common.{ℕ, ◌+◌, ◌*◌, ◌/◌, refl, ap, arith}
-use Rattle.shr_core.specs.Layout.{row_in}
-use Rattle.shr_seats.specs.Shapes.{sizes_of}
+use Rattle.shr_core.proofs.Common.{ℕ, ◌+◌, ◌*◌, ◌/◌, refl, ap, arith, row_in, sizes_of}
 use Rattle.shr_core.proofs.Laying.{row_yes}
 use Rattle.shr_core.specs.Tells.{mapped}
 use Rattle.shr_core.proofs.Loads.{maps}

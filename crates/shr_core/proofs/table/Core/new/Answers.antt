@@ -1,8 +1,4 @@
-use Rattle.std.proofs.Common.{ℕ, List, ap, ◌∙◌, subst, sym, arith}
-use Rattle.shr_seats.specs.Rows.{row_count}
-use Rattle.atomic_table.specs.Table.{opening}
-use Rattle.shr_core.specs.declared.setting.Setting.{Setting}
-use Rattle.shr_core.specs.Rule.{Sound, opener}
+use Rattle.shr_core.proofs.Common.{ℕ, List, ap, ◌∙◌, subst, sym, arith, row_count, opening, Setting, Sound, opener}
 use Rattle.shr_core.proofs.Openings.{opens}
 use Rattle.shr_core.proofs.table.Core.new.Goals as goal
 

@@ -1,5 +1,4 @@
-use Rattle.std.proofs.Common.{ℕ, ◌≡◌, ◌+◌, ◌-◌, ◌*◌, ◌%◌, ◌^◌}
-use Rattle.shr_core.specs.Steps.{with_put}
+use Rattle.shr_core.proofs.Common.{ℕ, ◌≡◌, ◌+◌, ◌-◌, ◌*◌, ◌%◌, ◌^◌, with_put}
 use Rattle.shr_core.proofs.LookupSteps.{puts}
 use Rattle.shr_core.proofs.Laying.{look_low}
 use Rattle.shr_core.proofs.Calls.{may}

@@ -1,5 +1,4 @@
-use Rattle.std.proofs.Common.{◌≡◌}
-use Rattle.shr_core.specs.Steps.{with_put}
+use Rattle.shr_core.proofs.Common.{◌≡◌, with_put}
 use Rattle.shr_core.proofs.table.Core.put_back.Given as goal
 
 abbrev pub ghosts-sub_as : goal.ghosts-sub_as

@@ -1,10 +1,4 @@
-use Rattle.std.proofs.Common.{ℕ, ◌≡◌, ◌+◌, ◌*◌, ◌%◌, ◌^◌, ap, subst, sym, arith}
-use Rattle.std.specs.Prelude.{bit_or}
-use Rattle.shr_model.specs.Places.{place_number}
-use Rattle.shr_core.specs.Layout.{row_in, map_of}
-use Rattle.shr_seats.specs.Shapes.{sizes_of}
-use Rattle.shr_core.specs.Rule.{IsInside}
-use Rattle.shr_core.specs.Steps.{with_set}
+use Rattle.shr_core.proofs.Common.{ℕ, ◌≡◌, ◌+◌, ◌*◌, ◌%◌, ◌^◌, ap, subst, sym, arith, bit_or, place_number, row_in, map_of, sizes_of, IsInside, with_set}
 use Rattle.shr_core.proofs.Bits.{sets, map_low}
 use Rattle.shr_core.proofs.Calls.{may, inside, map_there}
 use Rattle.shr_core.proofs.table.Core.set_bit.Goals as goal

@@ -1,5 +1,4 @@
-use Rattle.std.proofs.Common.{◌≡◌}
-use Rattle.shr_core.specs.Steps.{with_set}
+use Rattle.shr_core.proofs.Common.{◌≡◌, with_set}
 use Rattle.shr_core.proofs.table.Core.set_bit.Given as goal
 
 abbrev pub ghosts-or_as : goal.ghosts-or_as

@@ -1,8 +1,4 @@
-use Rattle.std.proofs.Common.{subst, sym, arith}
-use Rattle.atomic_table.specs.Table.{Splits}
-use Rattle.shr_core.specs.declared.setting.Setting.{Setting}
-use Rattle.shr_core.specs.Rule.{Sound}
-use Rattle.shr_core.specs.Steps.{with_one_split, split_off}
+use Rattle.shr_core.proofs.Common.{subst, sym, arith, Splits, Setting, Sound, with_one_split, split_off}
 use Rattle.shr_core.proofs.Seats.{splits}
 use Rattle.shr_core.proofs.table.Core.split.Goals as goal
 

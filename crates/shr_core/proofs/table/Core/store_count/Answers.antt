@@ -1,9 +1,5 @@
-use Rattle.std.proofs.Common.{ℕ, ◌≡◌, ◌+◌, ◌*◌, List, length, refl, ap, subst, sym, arith}
-use Rattle.shr_base.specs.declared.journals.Entry.{Entry}
-use Rattle.shr_core.specs.Layout.{row_in}
-use Rattle.shr_seats.specs.Shapes.{sizes_of}
+use Rattle.shr_core.proofs.Common.{ℕ, ◌≡◌, ◌+◌, ◌*◌, List, length, refl, ap, subst, sym, arith, Entry, row_in, sizes_of, with_stored, IsLater, last_entry, MayStore}
 use Rattle.shr_core.proofs.Laying.{inside_low}
-use Rattle.shr_core.specs.Steps.{with_stored, IsLater, last_entry, MayStore}
 use Rattle.shr_core.proofs.Stores.{stored}
 use Rattle.shr_core.proofs.Calls.{may, content_changed}
 use Rattle.shr_core.proofs.table.Core.store_count.Goals as goal

@@ -1,5 +1,4 @@
-use Rattle.std.proofs.Common.{◌≡◌}
-use Rattle.shr_core.specs.Steps.{with_stored, IsLater, last_entry}
+use Rattle.shr_core.proofs.Common.{◌≡◌, with_stored, IsLater, last_entry}
 use Rattle.shr_core.proofs.table.Core.store_count.Given as goal
 
 abbrev pub ghosts-store_as : goal.ghosts-store_as

@@ -1,6 +1,5 @@
-use Rattle.std.proofs.Common.{ℕ, ◌+◌, ◌*◌, eqb, arith}
+use Rattle.shr_core.proofs.Common.{ℕ, ◌+◌, ◌*◌, eqb, arith, took, place_content, PlaceTold}
 use prog.Atomic.{either}
-use Rattle.shr_core.specs.Tells.{took, place_content, PlaceTold}
 use Rattle.shr_core.proofs.RoomSteps.{taken}
 use Rattle.shr_core.proofs.Laying.{inside_low}
 use Rattle.shr_core.proofs.Calls.{may}

@@ -1,7 +1,5 @@
-use Rattle.std.proofs.Common.{ℕ, ◌+◌, ◌*◌, eqb, arith}
+use Rattle.shr_core.proofs.Common.{ℕ, ◌+◌, ◌*◌, eqb, arith, places_in, took, turns_content, PoolTold}
 use prog.Atomic.{either}
-use Rattle.shr_core.specs.Layout.{places_in}
-use Rattle.shr_core.specs.Tells.{took, turns_content, PoolTold}
 use Rattle.shr_core.proofs.RoomSteps.{pool_taken}
 use Rattle.shr_core.proofs.Laying.{pool_row}
 use Rattle.shr_core.proofs.Calls.{may}

@@ -1,5 +1,4 @@
-use Rattle.shr_core.specs.Layout.{places_in}
-use Rattle.shr_core.specs.Tells.{took, turns_content, PoolTold}
+use Rattle.shr_core.proofs.Common.{places_in, took, turns_content, PoolTold}
 use Rattle.shr_core.proofs.table.Core.take_pool_once.Given as goal
 
 abbrev pub ghosts-exchange_as : goal.ghosts-exchange_as

@@ -1,9 +1,4 @@
-use Rattle.std.proofs.Common.{◌≡◌, ℕ, [], ◌∷◌, map, ap, sym, subst, ◌∙◌}
-use Rattle.shr_core.specs.Layout.{row_in}
-use Rattle.shr_seats.specs.Shapes.{sizes_of}
-use Rattle.shr_core.specs.Steps.{Sat}
-use Rattle.shr_core.specs.Seats.{HasFirst, numbers_of, slot_numbers}
-use Rattle.atomic_table.specs.Table.{rest}
+use Rattle.shr_core.proofs.Common.{◌≡◌, ℕ, [], ◌∷◌, map, ap, sym, subst, ◌∙◌, row_in, sizes_of, Sat, HasFirst, numbers_of, slot_numbers, rest}
 use Rattle.shr_core.proofs.Fronts.{no_hand, one_hand, last_hand, first_hand, front, turned_front}
 use Rattle.shr_core.proofs.table.Core.to_front.Goals as goal
 

@@ -1,5 +1,4 @@
-use Rattle.shr_core.specs.Steps.{with_try}
-use Rattle.shr_core.specs.Tells.{took, place_content, PlaceTold}
+use Rattle.shr_core.proofs.Common.{with_try, took, place_content, PlaceTold}
 use Rattle.shr_core.proofs.table.Core.try_once.Given as goal
 
 abbrev pub ghosts-exchange_as : goal.ghosts-exchange_as

@@ -1,5 +1,4 @@
-use Rattle.std.proofs.Common.{ℕ, ◌+◌, ◌*◌}
-use Rattle.shr_core.specs.Tells.{worded}
+use Rattle.shr_core.proofs.Common.{ℕ, ◌+◌, ◌*◌, worded}
 use Rattle.shr_core.proofs.LookupSteps.{words}
 use Rattle.shr_core.proofs.Laying.{look_low}
 use Rattle.shr_core.proofs.Calls.{may}

@@ -1,12 +1,12 @@
-use Rattle.shr_deferred.proofs.Common.{ℕ, ◌≡◌, ◌+◌, ◌^◌, ◌%◌, subst, sym, ap, ◌∙◌, arith, Me, Allows, View, Sizes, give_of, IsSound}
+use Rattle.shr_deferred.proofs.Common.{ℕ, ◌≡◌, ◌+◌, ◌^◌, ◌%◌, subst, sym, ap, ◌∙◌, arith, Me, Allows, View, Sizes, give_of, IsDeferredSound}
 use Rattle.shr_deferred.proofs.SeatLaws.{moves_more}
 use Rattle.shr_deferred.proofs.Steps.{with_moves, gives}
 use Rattle.shr_deferred.proofs.table.Deferred.give.Goals as goal
 
 pub add_as-requires-clause-step : goal.add_as-requires-clause-step
 add_as-requires-clause-step c = let d = c.args.self.now in let t = d.table.shared in let at = c.row-word.ensures in let m = c.args.seat.now.me in let id = c.args.seat.now.id in
-    subst (λ (z : Sizes). Allows (IsSound z) t.table_id.slots id m c.row-word.result (λ y. (y + c.args.n) % 2 ^ 64) (λ _ r. r ≡ with_moves id m (give_of c.args.place c.args.n))) (sym d.keyed)
-    (subst (λ (k : ℕ). Allows (IsSound d.sizes) t.table_id.slots id m k (λ y. (y + c.args.n) % 2 ^ 64) (λ _ r. r ≡ with_moves id m (give_of c.args.place c.args.n))) (sym at.row)
+    subst (λ (z : Sizes). Allows (IsDeferredSound z) t.table_id.slots id m c.row-word.result (λ y. (y + c.args.n) % 2 ^ 64) (λ _ r. r ≡ with_moves id m (give_of c.args.place c.args.n))) (sym d.keyed)
+    (subst (λ (k : ℕ). Allows (IsDeferredSound d.sizes) t.table_id.slots id m k (λ y. (y + c.args.n) % 2 ^ 64) (λ _ r. r ≡ with_moves id m (give_of c.args.place c.args.n))) (sym at.row)
     (gives d.sizes t.table_id.slots id m c.args.place c.requires.place (omega arith) c.requires.seat.seat.here c.args.n))
 
 pub returns-clause-seat : goal.returns-clause-seat

@@ -1,9 +1,7 @@
-use Rattle.shr_list.proofs.Common.{◌≡◌, ◌≢◌, Bool, true, false, Option, Some, None, refl, rules, if◌then◌else◌, Object, named_in}
+use Rattle.shr_list.proofs.Common.{◌≡◌, ◌≢◌, Bool, true, false, Option, Some, None, refl, rules, if◌then◌else◌, Object, named_in, length_after_drop, loose_of}
 use Rattle.shr_base.specs.declared.journals.DropKind.TheVariants.{Dropped, Pinned, Miss}
 use Rattle.shr_model.specs.Items.{drop_kind_of}
-use Rattle.shr_model.proofs.ObjectLaws.{length_after_drop}
 use Rattle.shr_list.specs.Answers.{drop_entry}
-use Rattle.shr_list.specs.Nodes.{loose_of}
 use Rattle.shr_list.proofs.Keeping.{kept_taken}
 use Rattle.shr_list.proofs.list.List.drop_key.Goals as goal
 use Rattle.shr_list.proofs.list.List.drop_key.Goals.{in-Some, in-None, in-None-2}

@@ -1,5 +1,4 @@
-use Rattle.shr_list.proofs.Common.{◌≡◌, List, [], length, refl, ap, arith, rules, Object, Scanned}
-use Rattle.shr_model.proofs.ScanLaws.{length_scan, visits_within, scan_parts}
+use Rattle.shr_list.proofs.Common.{◌≡◌, List, [], length, refl, ap, arith, rules, Object, Scanned, length_scan, visits_within, scan_parts}
 use Rattle.shr_list.specs.Answers.{scan_entry}
 use Rattle.shr_list.proofs.Keeping.{kept_taken}
 use Rattle.shr_list.proofs.list.List.scan.Goals as goal

@@ -1,5 +1,4 @@
-use Rattle.shr_list.proofs.Common.{◌≡◌, ◌∷◌, ◌++◌, [], ◌∙◌, sym, ap, refl, true, false, rules, List, map-append, is_some, Held, Keyed, keys_of, objects_of, name_by, Keeps, AddsName}
-use Rattle.shr_model.specs.Objects.{holds, fresh}
+use Rattle.shr_list.proofs.Common.{◌≡◌, ◌∷◌, ◌++◌, [], ◌∙◌, sym, ap, refl, true, false, rules, List, map-append, is_some, Held, Keyed, keys_of, objects_of, name_by, KeepsFound, AddsName, holds, fresh}
 use Rattle.shr_list.proofs.Indexed.{indexed_pushed, knows_kept, unique_pushed, off_unheld, held_at, none_at, held_found}
 use Rattle.shr_list.proofs.Slots.{keys_kept, keys_pushed, keys_same, kept_itself}
 use Rattle.shr_list.proofs.queue.Queue.append.Goals as goal
@@ -39,7 +38,7 @@ returns-in-Ok-false-clause-keys c =
 
 pub invariant_of-self-in-Err : goal.invariant_of-self-in-Err
 invariant_of-self-in-Err c =
-    let keeps : Keeps c.self.inside.names c.add.new.self = search rules in
+    let keeps : KeepsFound c.self.inside.names c.add.new.self = search rules in
     rw c.reserve.ensures.nodes (knows_kept c.self.inside.names c.add.new.self c.self.inside.links.nodes c.self.inside.indexed c.self.inside.apart keeps c.self.invariant)
 
 pub returns-in_default-clause-keys : goal.returns-in_default-clause-keys

@@ -1,5 +1,4 @@
-use Rattle.shr_list.proofs.Common.{◌≡◌, ◌+◌, ◌-◌, ◌<◌, ◌≤◌, min, length, arith, rules, drop_all, length-map, Keyed, objects_of}
-use Rattle.std.proofs.Common.{length-drop}
+use Rattle.shr_list.proofs.Common.{◌≡◌, ◌+◌, ◌-◌, ◌<◌, ◌≤◌, min, length, arith, rules, drop_all, length-map, Keyed, objects_of, length-drop}
 use Rattle.shr_list.proofs.Walks.{here, is_at, past}
 use Rattle.shr_list.proofs.Counting.{counting_removed, counting_skipped, counting_rotated, counting_rotated_last, counting_stopped, counting_ends}
 use Rattle.shr_list.proofs.queue.Queue.count_freed.Goals as goal

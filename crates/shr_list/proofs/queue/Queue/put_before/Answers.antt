@@ -1,4 +1,4 @@
-use Rattle.shr_list.proofs.Common.{◌++◌, rules, IsIndexed, Enters, AreStrangers}
+use Rattle.shr_list.proofs.Common.{◌++◌, rules, IsIndexed, EntersNodes, AreStrangers}
 use Rattle.shr_list.proofs.Indexed.{unique_before}
 use Rattle.shr_list.proofs.Splicing.{indexed_spliced, take_front}
 use Rattle.shr_list.proofs.queue.Queue.put_before.Goals as goal
@@ -14,7 +14,7 @@ invariant_of-self-2 c =
           let admitted : IsIndexed c.admit.new.names (nodes ++ kids) = c.in_ok-admit.ensures.admitted all in
           elim c.if-indexed.branch [
             | then-indexed w ↦
-                let entered : Enters c.admit.new.names w.enter.new.names moved.0 = rw (c.len-count.ensures, moved.1, take_front moved.0 nodes kids moved.2) at w.enter.ensures in
+                let entered : EntersNodes c.admit.new.names w.enter.new.names moved.0 = rw (c.len-count.ensures, moved.1, take_front moved.0 nodes kids moved.2) at w.enter.ensures in
                 rw (w.self-inside-is, moved.1) (indexed_spliced c.admit.new.names w.enter.new.names nodes kids moved.0 moved.2 admitted entered)
             | else-indexed w ↦ let off = w.if-indexed.false in absurd (cc)
           ];

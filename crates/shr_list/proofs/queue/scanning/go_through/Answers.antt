@@ -1,6 +1,6 @@
-use Rattle.shr_list.proofs.Common.{◌≡◌, ◌∙◌, sym, subst, ap, arith, rules, true, false, length, length-append, None, Some, Option, ℕ, List, [], ◌∷◌, ◌++◌, ◌+◌, ◌≤◌, refl, Object, scan_of, unmarked_object, AreKept}
+use Rattle.shr_list.proofs.Common.{◌≡◌, ◌∙◌, sym, subst, ap, arith, rules, true, false, length, length-append, None, Some, Option, ℕ, List, [], ◌∷◌, ◌++◌, ◌+◌, ◌≤◌, refl, Object, scan_of, unmarked_object, AreNodesKept}
 use Rattle.shr_base.specs.declared.objects.LruStatus.{LruStatus}
-use Rattle.shr_list.specs.Scanning.{IsLeft}
+use Rattle.shr_list.specs.Scanning.{IsLeftAlone}
 use Rattle.shr_list.proofs.Slots.{kept_itself, kept_without, kept_rotated, keys_whole}
 use Rattle.shr_list.proofs.Fitting.{on_err}
 use Rattle.shr_list.proofs.Scans.{IsScanning, node_here, scan_past, scan_spent, scan_stopped, scan_skipped, scan_removed, scan_rotated, freed_here, is_made, not_made, ok_true, err_ok, was_not, room_made}
@@ -41,7 +41,7 @@ push-requires c =
     subst (λ (a : Option ℕ). IsScanning c.args.policy c.args.asked c.loop-met.met c.loop-met.queue.nodes a c.loop-met.freed.items whole) is state in
     let room_after : c.in_ok-roomy.roomy ≡ true → length whole.freed ≤ length c.make_room.new.freed.items + c.make_room.new.freed.spare =
     room_made c.args.policy c.args.asked c.args.queue.now c.loop-met.queue c.loop-met.roomy c.in_ok-roomy.roomy c.loop-met.freed c.make_room.new.freed (λ m. (c.make_room.ensures.same m).0) c.loop-met.invariant.untouched c.in_ok-roomy.ensures.room c.loop-met.invariant.room in
-    let made = is_made c.in_ok-roomy.roomy (λ e. subst (λ (s : LruStatus). IsLeft s) c.in-Removed.is (c.in_ok-roomy.ensures.left e)) in
+    let made = is_made c.in_ok-roomy.roomy (λ e. subst (λ (s : LruStatus). IsLeftAlone s) c.in-Removed.is (c.in_ok-roomy.ensures.left e)) in
     let more = freed_here c.args.policy c.args.asked c.loop-met.met c.loop-met.queue.nodes c.loop-met.freed.items whole c.in-Some.node now c.object.result.now c.loop-met-test.true c.object.ensures c.in-Removed.ensures in
     let room = room_after made in
     let same = ap (λ (l : List Object). length l) c.make_room.ensures.items in
@@ -65,12 +65,12 @@ loop-met-preserved c =
     room_made c.args.policy c.args.asked c.args.queue.now c.loop-met.queue c.loop-met.roomy c.in_ok-roomy.roomy c.loop-met.freed c.make_room.new.freed (λ m. (c.make_room.ensures.same m).0) c.loop-met.invariant.untouched c.in_ok-roomy.ensures.room c.loop-met.invariant.room in
     let start = c.args.queue.now.nodes in
     let here = node_here c.args.policy c.args.asked c.loop-met.met c.loop-met.queue.nodes c.loop-met.freed.items whole c.in-Some.node now in
-    let kept = subst (AreKept start) here.3 c.loop-met.invariant.kept in
+    let kept = subst (AreNodesKept start) here.3 c.loop-met.invariant.kept in
     let keeps : c.loop-met.roomy ≡ true → c.in_ok-roomy.roomy ≡ true = λ m. ok_true _ (sym c.in_ok-roomy.was ∙ (c.make_room.ensures.same m).1) in
     elim c.match-status.branch [
       | in-Removed w ↦
           let same : c.object.result.now ≡ w.free.result = c.object.ensures here.0 here.1 here.2 here.3 ∙ sym (w.free.ensures.taken here.0 here.1 here.2 here.3) in
-          let made = is_made c.in_ok-roomy.roomy (λ e. subst (λ (s : LruStatus). IsLeft s) w.in-Removed.is (c.in_ok-roomy.ensures.left e)) in
+          let made = is_made c.in_ok-roomy.roomy (λ e. subst (λ (s : LruStatus). IsLeftAlone s) w.in-Removed.is (c.in_ok-roomy.ensures.left e)) in
           let room = room_after made in
           let spare = w.push.ensures.spare in
           let longer = length-append c.make_room.new.freed.items (w.free.result ∷ []) in
@@ -98,7 +98,7 @@ loop-met-preserved c =
         kept = rw w.queue-is c.loop-met.invariant.kept;
       }
       | in-Rotate w ↦
-          let made = is_made c.in_ok-roomy.roomy (λ e. subst (λ (s : LruStatus). IsLeft s) w.in-Rotate.is (c.in_ok-roomy.ensures.left e)) in
+          let made = is_made c.in_ok-roomy.roomy (λ e. subst (λ (s : LruStatus). IsLeftAlone s) w.in-Rotate.is (c.in_ok-roomy.ensures.left e)) in
           record {
             whole = rw w.queue-is w.rotate.ensures.whole;
             scanning =

@@ -1,4 +1,4 @@
-use Rattle.shr_list.proofs.Common.{◌+◌, ◌<◌, length, take, drop, arith, rules, subst, Object, GainsName, Keeps, AreStrangers, name_by}
+use Rattle.shr_list.proofs.Common.{◌+◌, ◌<◌, length, take, drop, arith, rules, subst, Object, GainsName, KeepsFound, AreStrangers, name_by}
 use Rattle.shr_list.proofs.Walks.{here, is_at, past}
 use Rattle.shr_list.proofs.Splicing.{admits_one, withdrawn}
 use Rattle.shr_list.proofs.queue.splicing.admit.Goals as goal
@@ -17,7 +17,7 @@ next-at-requires c =
 
 pub returns-then-is_err-clause-kept : goal.returns-then-is_err-clause-kept
 returns-then-is_err-clause-kept c =
-    let keeps : Keeps c.loop-met.names c.put.new.self = search rules in
+    let keeps : KeepsFound c.loop-met.names c.put.new.self = search rules in
     withdrawn c.loop-met.names c.put.new.self c.withdraw.new.names c.args.links.now.nodes (take c.loop-met.met c.args.other.now.nodes) c.loop-met.invariant.so_far keeps c.withdraw.ensures
 
 pub loop-met-preserved : goal.loop-met-preserved

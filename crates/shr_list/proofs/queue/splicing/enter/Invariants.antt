@@ -1,8 +1,8 @@
-use Rattle.shr_list.proofs.Common.{◌≡◌, take, key_at, Enters}
+use Rattle.shr_list.proofs.Common.{◌≡◌, take, key_at, EntersNodes}
 use Rattle.shr_list.proofs.queue.splicing.enter.Given as goal
 
 abbrev pub invariant-loop-met : goal.invariant-loop-met
 invariant-loop-met l = record {
   at : l.at ≡ key_at l.met l.links.nodes;
-  so_far : Enters l.fn.names l.names (take l.met l.links.nodes);
+  so_far : EntersNodes l.fn.names l.names (take l.met l.links.nodes);
 }

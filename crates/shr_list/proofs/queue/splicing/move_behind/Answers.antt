@@ -1,4 +1,4 @@
-use Rattle.shr_list.proofs.Common.{◌≡◌, ◌+◌, List, ◌∷◌, ◌++◌, [], length, refl, ap, sym, subst, ◌∙◌, Some, arith, rules, append_assoc, append-nil, Object, Keyed, objects_of, Turns, name_by}
+use Rattle.shr_list.proofs.Common.{◌≡◌, ◌+◌, List, ◌∷◌, ◌++◌, [], length, refl, ap, sym, subst, ◌∙◌, Some, arith, rules, append_assoc, append-nil, Object, Keyed, objects_of, TurnsName, name_by}
 use Rattle.shr_list.proofs.Walks.{at_head, no_head}
 use Rattle.shr_list.proofs.Scans.{objects_append}
 use Rattle.shr_list.proofs.Splicing.{enters_none, enters_one}
@@ -28,7 +28,7 @@ loop-node-preserved c =
     let k = c.push_back-moved.result in
     let pushed : c.push_back-moved.new.self.nodes ≡ c.loop-node.links.nodes ++ (k, o) ∷ [] = rw c.push_back-moved.ensures.key c.push_back-moved.ensures.nodes in
     let object = c.object-object.ensures c.loop-node.links.nodes o [] pushed in
-    let turns : Turns c.loop-node.names c.turn.new.self (name_by o) (Some k) = subst (λ (p : Object). Turns c.loop-node.names c.turn.new.self (name_by p) (Some k)) object c.turn.ensures in
+    let turns : TurnsName c.loop-node.names c.turn.new.self (name_by o) (Some k) = subst (λ (p : Object). TurnsName c.loop-node.names c.turn.new.self (name_by p) (Some k)) object c.turn.ensures in
     let whole = c.loop-node.invariant.whole in
     let shorter : length c.loop-node.other.nodes ≡ length first.1 + 1 = ap length first.2 ∙ omega arith in
     record {

@@ -1,4 +1,4 @@
-use Rattle.shr_list.proofs.Common.{◌<◌, length, take, None, arith, rules, subst, Object, Turns, name_by}
+use Rattle.shr_list.proofs.Common.{◌<◌, length, take, None, arith, rules, subst, Object, TurnsName, name_by}
 use Rattle.shr_list.proofs.Walks.{here, is_at, past}
 use Rattle.shr_list.proofs.Splicing.{withdraws_none, withdraws_one}
 use Rattle.shr_list.proofs.queue.splicing.withdraw.Goals as goal
@@ -29,7 +29,7 @@ loop-met-preserved c =
     let met = c.loop-met.met in
     let now = here nodes met c.in-Some.node (search rules) in
     let object = c.object-object.ensures _ now.object _ now.split in
-    let turns : Turns c.loop-met.names c.remove.new.self (name_by now.object) None = subst (λ (o : Object). Turns c.loop-met.names c.remove.new.self (name_by o) None) object c.remove.ensures in
+    let turns : TurnsName c.loop-met.names c.remove.new.self (name_by now.object) None = subst (λ (o : Object). TurnsName c.loop-met.names c.remove.new.self (name_by o) None) object c.remove.ensures in
     record {
       at = c.next-at.ensures _ now.object _ now.split;
       so_far = rw now.more (withdraws_one c.args.names.now c.loop-met.names c.remove.new.self (take met nodes) c.in-Some.node now.object c.loop-met.invariant.so_far turns);

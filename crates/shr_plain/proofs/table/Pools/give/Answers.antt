@@ -1,4 +1,4 @@
-use Rattle.shr_plain.proofs.Common.{◌≡◌, ℕ, ◌*◌, List, [], ◌∷◌, ap, subst, sym, ◌∙◌, Allows, rest, Sizes, with_given, Slot, IsPools, with_part, part_of, Sat}
+use Rattle.shr_plain.proofs.Common.{◌≡◌, ℕ, ◌*◌, List, [], ◌∷◌, ap, subst, sym, ◌∙◌, Allows, rest, Sizes, with_room_given, Slot, IsPools, with_part, part_of, UnitsSat}
 use Rattle.shr_plain.proofs.Holding.{pools_unlocks}
 use Rattle.shr_plain.proofs.table.Pools.give.Goals as goal
 
@@ -8,6 +8,6 @@ exchange-requires c = let slot = c.requires.taken in (c.requires.table, (slot.0,
 pub free_as-requires-clause-step : goal.free_as-requires-clause-step
 free_as-requires-clause-step c = let d = c.args.self.now in let t = d.table.shared in let v = c.args.seat.now.me.0 in let id = c.exchange.new.seat.id in let i = c.args.room in
     let is : c.exchange.new.seat.me ≡ (v, (i, c.args.slot) ∷ []) = c.exchange.ensures.3 ∙ ap (λ (l : List (ℕ × Slot)). (v, (i, c.args.slot) ∷ l)) (ap (rest {S = Slot}) c.requires.taken.1) in
-    subst (λ (m : Sat). Allows (IsPools t.key) t.table_id.slots id m (8 * i) (λ _. 0) (λ _ r. r ≡ (with_part m.0 i (with_given (part_of m.0 i)), []))) (sym is)
-    (subst (λ (k : Sizes). Allows (IsPools k) t.table_id.slots id (v, (i, c.args.slot) ∷ []) (8 * i) (λ _. 0) (λ _ r. r ≡ (with_part v i (with_given (part_of v i)), []))) (sym d.keyed)
+    subst (λ (m : UnitsSat). Allows (IsPools t.key) t.table_id.slots id m (8 * i) (λ _. 0) (λ _ r. r ≡ (with_part m.0 i (with_room_given (part_of m.0 i)), []))) (sym is)
+    (subst (λ (k : Sizes). Allows (IsPools k) t.table_id.slots id (v, (i, c.args.slot) ∷ []) (8 * i) (λ _. 0) (λ _ r. r ≡ (with_part v i (with_room_given (part_of v i)), []))) (sym d.keyed)
     (pools_unlocks d.sizes t.table_id.slots id v c.requires.here i c.requires.room c.args.slot d.slots c.requires.hand c.requires.same))

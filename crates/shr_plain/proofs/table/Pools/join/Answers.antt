@@ -1,4 +1,4 @@
-use Rattle.shr_plain.proofs.Common.{refl, row_count, part_joined, units, entries_in, parts_in, standing_in, spent_view, with_parts, joined_view}
+use Rattle.shr_plain.proofs.Common.{refl, row_count, part_joined, units, room_journal, parts_in, units_standing_in, spent_units_view, with_parts, joined_units_view}
 use Rattle.shr_rooms.proofs.Steps.{joins}
 use Rattle.shr_plain.proofs.SeatLaws.{has_words, unit_join}
 use Rattle.shr_plain.proofs.table.Pools.join.Goals as goal
@@ -9,7 +9,7 @@ join_seat-requires c = let d = c.args.self.now in let v = c.args.seat.now.units.
   other.seat.same,
   other.bare,
   has_words d,
-  joins units entries_in parts_in standing_in spent_view with_parts (λ v l. refl) (λ v l. refl) (row_count d.table.shared.key) c.args.seat.now.units.id v c.args.other.units.id u (joined_view v u) c.requires.first.units is.seat.here other.seat.here
+  joins units room_journal parts_in units_standing_in spent_units_view with_parts (λ v l. refl) (λ v l. refl) (row_count d.table.shared.key) c.args.seat.now.units.id v c.args.other.units.id u (joined_units_view v u) c.requires.first.units is.seat.here other.seat.here
       (λ k low. other.out k) (λ k. part_joined v.rooms u.rooms k) refl refl refl,
 )
 

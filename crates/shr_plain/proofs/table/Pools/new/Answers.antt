@@ -1,15 +1,11 @@
-use Rattle.shr_plain.proofs.Common.{ℕ, ◌*◌, ap, sym, subst, refl, ◌∙◌, length, arith, All, row_count, Sizes, setting_by, IsSetting, units, entries_in, parts_in, standing_in, spent_view}
-use Rattle.std.specs.Prelude.{replicate}
-use Rattle.std.proofs.lemmas.List.{length-map, length-replicate}
-use Rattle.std.proofs.lemmas.List.Elements.{All-map}
+use Rattle.shr_plain.proofs.Common.{ℕ, ◌*◌, ap, sym, subst, refl, ◌∙◌, length, arith, All, row_count, Sizes, setting_by, IsSetting, units, room_journal, parts_in, units_standing_in, spent_units_view, replicate, length-map, length-replicate, All-map, first_units_view}
 use Rattle.shr_rooms.proofs.Openings.{opened}
-use Rattle.shr_plain.specs.Rule.{first_view}
 use Rattle.shr_plain.proofs.Beginnings.{ids_some, ids_all, ids_few}
 use Rattle.shr_plain.proofs.table.Pools.new.Goals as goal
 
 pub new-requires-2 : goal.new-requires-2
 new-requires-2 c = let z : Sizes = c.sizes_for-sizes.result in
-    opened units entries_in parts_in standing_in spent_view (row_count z) c.deref.result.now c.in_ok-rooms.rooms.items first_view
+    opened units room_journal parts_in units_standing_in spent_units_view (row_count z) c.deref.result.now c.in_ok-rooms.rooms.items first_units_view
     (c.deref.ensures.value ∙ (c.in_ok-words.ensures ∙ ap (λ (n : ℕ). replicate {A = ℕ} (8 * n) 0) c.rows.ensures.rows)) (c.in_ok-rooms.ensures.0 ∙ c.rows-2.ensures.rows) c.in_ok-rooms.ensures.1 refl refl refl
 
 pub invariant_of-result : goal.invariant_of-result

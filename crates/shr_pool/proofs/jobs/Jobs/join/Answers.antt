@@ -1,4 +1,4 @@
-use Rattle.shr_pool.proofs.Common.{ap, sym, subst, ◌∙◌, IsWhole, total, PassView, ArePopped, IsShown, SweepItem, ◌≡◌, List}
+use Rattle.shr_pool.proofs.Common.{ap, sym, subst, ◌∙◌, IsWhole, total, PassView, ArePopped, IsQueueShown, SweepItem, ◌≡◌, List}
 use Rattle.shr_pool.proofs.Working.{worked}
 use Rattle.shr_pool.proofs.Once.{each_once}
 use Rattle.shr_pool.proofs.Keeping.{merges, shown}
@@ -11,7 +11,7 @@ pub learn_as-requires-clause-rule : goal.learn_as-requires-clause-rule
 learn_as-requires-clause-rule c = let e = c.absorb.ensures.rule in shown _ _ (ap (λ (v : PassView). v.standing.first) e ∙ c.requires.first.1) (ap (λ (v : PassView). v.standing.gone) e ∙ c.requires.first.0.here)
 
 -- what the first pass popped, once all are joined
-popped_all : (old new : PassView) → new ≡ old → (items : List SweepItem) → IsShown old items → IsWhole new.standing → ArePopped new
+popped_all : (old new : PassView) → new ≡ old → (items : List SweepItem) → IsQueueShown old items → IsWhole new.standing → ArePopped new
 popped_all old new same items shown whole = let gone = shown (subst (λ (v : PassView). IsWhole v.standing) same whole) in record {
   gone = gone.0;
   left = items;

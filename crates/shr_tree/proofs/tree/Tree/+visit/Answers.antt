@@ -1,6 +1,4 @@
-use Rattle.shr_tree.proofs.Common.{◌≡◌, ◌++◌, ◌∷◌, [], length, get_or, ℕ, List, arith, ap, sym, ◌∙◌, flat_map, children_of, preorder_of}
-use Rattle.std.proofs.Common.{append_assoc}
-use Rattle.std.proofs.lemmas.List.{take_all}
+use Rattle.shr_tree.proofs.Common.{◌≡◌, ◌++◌, ◌∷◌, [], length, get_or, ℕ, List, arith, ap, sym, ◌∙◌, flat_map, children_of, preorder_of, append_assoc, take_all}
 use Rattle.shr_model.proofs.GroupsLaws.{child_listed, child_higher, preorder_of-group}
 use Rattle.shr_tree.proofs.TreeLaws.{within, children_at, is_tree}
 use Rattle.shr_tree.proofs.tree.Tree.+visit.Goals as goal

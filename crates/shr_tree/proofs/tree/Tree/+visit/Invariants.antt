@@ -1,5 +1,4 @@
-use Rattle.shr_tree.proofs.Common.{◌≡◌, ◌++◌, ◌∷◌, [], length, take, flat_map, preorder_of}
-use Rattle.std.proofs.Common.{◌-◌}
+use Rattle.shr_tree.proofs.Common.{◌≡◌, ◌++◌, ◌∷◌, [], length, take, flat_map, preorder_of, ◌-◌}
 use Rattle.shr_tree.proofs.tree.Tree.+visit.Given as goal
 
 abbrev pub decreases-visit : goal.decreases-visit

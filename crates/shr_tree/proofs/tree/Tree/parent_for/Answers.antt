@@ -1,10 +1,7 @@
-use Rattle.shr_tree.proofs.Common.{◌≡◌, ℕ, Bool, true, false, List, sym, ap, subst, ◌∙◌, refl, None, is_later, Word, place_of, may_hold}
-use Rattle.std.proofs.Common.{not, ◌||◌}
-use Rattle.std.specs.Prelude.{Option, Some, unwrap_or}
+use Rattle.shr_tree.proofs.Common.{◌≡◌, ℕ, Bool, true, false, List, sym, ap, subst, ◌∙◌, refl, None, is_later, Word, place_of, may_hold, not, ◌||◌, Option, Some, unwrap_or, is_parent}
 use Rattle.std.specs.Option.{is_some}
 use Rattle.std.specs.Cmp.Lexicographic.{same_text}
 use Rattle.shr_model.specs.Paths.{root_path, parent_path}
-use Rattle.shr_tree.specs.Tree.{is_parent}
 use Rattle.shr_tree.proofs.TreeLaws.{is_hierarchy}
 use Rattle.shr_tree.proofs.tree.Tree.parent_for.Goals as goal
 use Rattle.shr_tree.proofs.tree.Tree.parent_for.Goals.{else-ne-via-then-ne+else-not-is_parent, else-ne-via-else-ne}

@@ -1,4 +1,4 @@
-use Rattle.shr_tree.proofs.Common.{◌++◌, ◌∷◌, [], List, ap, ◌∙◌, Group, IsWhole}
+use Rattle.shr_tree.proofs.Common.{◌++◌, ◌∷◌, [], List, ap, ◌∙◌, Group, IsTreeWhole}
 use Rattle.shr_tree.proofs.TreeLaws.{within, whole_grown, groups_long, paths_long, holds_kept}
 use Rattle.shr_tree.proofs.tree.Tree.put.Goals as goal
 
@@ -10,7 +10,7 @@ add-requires-clause-there c =
     let h = within c.self.inside.paths c.self.inside.groups.items c.self.inside.children.lists c.args.self.now c.in_ok-parent.parent c.self.invariant c.self.view_is c.in_ok-parent.ensures.there in
     rw c.reserve-2.ensures.lists h
 
-whole : (c : goal.After-add) → IsWhole c.declare.new.self c.push.new.self.items c.add.new.self.lists
+whole : (c : goal.After-add) → IsTreeWhole c.declare.new.self c.push.new.self.items c.add.new.self.lists
 whole c =
     let group : Group = record { parent = c.in_ok-parent.parent; limit = c.args.limit; later = c.args.late } in
     whole_grown c.self.inside.paths c.self.inside.groups.items c.self.inside.children.lists c.reserve-2.new.self.lists c.bytes-2.result.now group c.len-group.result c.declare.new.self c.push.new.self.items c.add.new.self.lists

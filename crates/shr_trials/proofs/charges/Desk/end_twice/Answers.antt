@@ -1,5 +1,4 @@
-use Rattle.shr_trials.proofs.Common.{◌≡◌, ℕ, Bool, List, ap, Option, is_some, IsSome, TreeEntry, begin_of}
-use Rattle.std.proofs.Common.{subst}
+use Rattle.shr_trials.proofs.Common.{◌≡◌, ℕ, Bool, List, ap, Option, is_some, IsSome, TreeEntry, begin_of, subst}
 use Rattle.shr_model.specs.Groups.{Hierarchy}
 use Rattle.shr_seats.specs.Shapes.{hierarchy_of}
 use Rattle.shr_charge.specs.declared.answers.BeginAnswer.{BeginAnswer}

@@ -1,13 +1,4 @@
-use Rattle.std.proofs.Common.{rules, ℕ, ◌*◌, ◌≤◌, length, sym, ap, subst, ◌∙◌, arith, [], ◌+◌, ◌<◌, ◌^◌}
-use Rattle.shr_model.specs.Places.{place_number}
-use Rattle.shr_model.specs.Groups.{depth_of}
-use Rattle.shr_list.specs.Answers.{scan_entry}
-use Rattle.shr_core.specs.Seats.{view_of, shape_of}
-use Rattle.shr_charge.specs.Seat.{uses_of}
-use Rattle.std.specs.Prelude.{List}
-use Rattle.shr_base.specs.declared.objects.Object.{Object}
-use Rattle.shr_base.specs.declared.journals.UseStep.{UseStep}
-use Rattle.shr_walk.specs.Keeping.{keeps_refl, AllUncharged}
+use Rattle.shr_walk.proofs.Common.{rules, ℕ, ◌*◌, ◌≤◌, length, sym, ap, subst, ◌∙◌, arith, [], ◌+◌, ◌<◌, ◌^◌, place_number, depth_of, scan_entry, view_of, shape_of, uses_of, List, Object, UseStep, keeps_refl, AllUncharged}
 use Rattle.shr_walk.proofs.Freeing.{few}
 use Rattle.shr_walk.proofs.Shares.{same_parents}
 use Rattle.shr_walk.proofs.Scanned.{left_keeps, scan_keeps, worn_gains, not_spent}

@@ -1,10 +1,5 @@
-use Rattle.std.proofs.Common.{◌<◌, sym, ap, subst, ◌∙◌, ◌≡◌, [], refl}
-use Rattle.shr_seats.specs.declared.rows.Sizes.{Sizes}
-use Rattle.shr_walk.specs.Sharing.{groups_of}
+use Rattle.shr_walk.proofs.Common.{◌<◌, sym, ap, subst, ◌∙◌, ◌≡◌, [], refl, Sizes, groups_of, view_of, View, IsIdle}
 use Rattle.shr_walk.proofs.Opened.{is_shape, has_limits, has_root}
-use Rattle.shr_core.specs.Gained.{IsIdle}
-use Rattle.shr_core.specs.Seats.{view_of}
-use Rattle.shr_core.specs.declared.view.View.{View}
 use Rattle.shr_walk.proofs.seats.Shared.open.Goals as goal
 
 pub new-requires : goal.new-requires

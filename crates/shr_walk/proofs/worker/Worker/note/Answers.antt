@@ -1,7 +1,4 @@
-use Rattle.std.proofs.Common.{subst}
-use Rattle.shr_walk.specs.Acting.{Acting}
-use Rattle.shr_walk.specs.State.{Does, state_of}
-use Rattle.shr_walk.specs.Walked.{record_of, walk_work}
+use Rattle.shr_walk.proofs.Common.{subst, Acting, Does, state_of, record_of, walk_work}
 use Rattle.shr_walk.proofs.Acted.{does_note}
 use Rattle.shr_walk.proofs.worker.Worker.note.Goals as goal
 

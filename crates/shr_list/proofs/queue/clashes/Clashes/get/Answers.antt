@@ -1,5 +1,4 @@
-use Rattle.shr_list.proofs.Common.{◌≡◌, None, length, refl, rules, found_twin}
-use Rattle.shr_list.specs.Clashes.{second_of, second_at}
+use Rattle.shr_list.proofs.Common.{◌≡◌, None, length, refl, rules, found_twin, second_of, second_at}
 use Rattle.shr_list.proofs.Indexes.{lookup_none}
 use Rattle.shr_list.proofs.queue.clashes.Clashes.get.Goals as goal
 

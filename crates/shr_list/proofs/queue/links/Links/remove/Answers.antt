@@ -1,4 +1,4 @@
-use Rattle.shr_list.proofs.Common.{IsLinked, Joins, next_of, prev_of, Some}
+use Rattle.shr_list.proofs.Common.{IsLinked, Joins, stop_after, prev_of, Some}
 use Rattle.shr_list.proofs.Linked.{nodes_are, settled, stored_here, prev_stop, next_stop, linked_removed, taken_is}
 use Rattle.shr_list.proofs.queue.links.Links.remove.Goals as goal
 
@@ -36,7 +36,7 @@ pub invariant_of-self : goal.invariant_of-self
 invariant_of-self c =
     let linked : IsLinked c.self.inside.chain c.args.self.now.nodes = rw (← c.self.view_is) c.self.invariant in
     let at = c.requires in
-    let joins : Joins c.self.inside.chain c.join.new.self (prev_of c.self.inside.chain (Some c.args.node)) (next_of c.self.inside.chain (Some c.args.node)) = rw (← c.prev-prev.ensures, ← c.next-next.ensures) c.join.ensures in
+    let joins : Joins c.self.inside.chain c.join.new.self (prev_of c.self.inside.chain (Some c.args.node)) (stop_after c.self.inside.chain (Some c.args.node)) = rw (← c.prev-prev.ensures, ← c.next-next.ensures) c.join.ensures in
     settled c.remove.new.self _ (linked_removed c.self.inside.chain c.args.self.now.nodes at.0 at.2 c.args.node at.1 linked at.3 c.join.new.self c.remove.new.self c.remove.result joins c.remove.ensures)
 
 pub returns-clause-taken : goal.returns-clause-taken
@@ -47,5 +47,5 @@ returns-clause-taken c xs o ys split =
 pub returns-clause-nodes : goal.returns-clause-nodes
 returns-clause-nodes c xs o ys split =
     let linked : IsLinked c.self.inside.chain c.args.self.now.nodes = rw (← c.self.view_is) c.self.invariant in
-    let joins : Joins c.self.inside.chain c.join.new.self (prev_of c.self.inside.chain (Some c.args.node)) (next_of c.self.inside.chain (Some c.args.node)) = rw (← c.prev-prev.ensures, ← c.next-next.ensures) c.join.ensures in
+    let joins : Joins c.self.inside.chain c.join.new.self (prev_of c.self.inside.chain (Some c.args.node)) (stop_after c.self.inside.chain (Some c.args.node)) = rw (← c.prev-prev.ensures, ← c.next-next.ensures) c.join.ensures in
     nodes_are c.remove.new.self _ (linked_removed c.self.inside.chain c.args.self.now.nodes xs ys c.args.node o linked split c.join.new.self c.remove.new.self c.remove.result joins c.remove.ensures)

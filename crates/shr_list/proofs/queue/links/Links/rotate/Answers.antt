@@ -1,4 +1,4 @@
-use Rattle.shr_list.proofs.Common.{Some, IsLinked, Joins, next_of, prev_of}
+use Rattle.shr_list.proofs.Common.{Some, IsLinked, Joins, stop_after, prev_of}
 use Rattle.shr_list.proofs.Linked.{nodes_are, settled, stored_here, prev_stop, next_stop, tail_left, linked_rotated}
 use Rattle.shr_list.proofs.queue.links.Links.rotate.Goals as goal
 
@@ -30,7 +30,7 @@ pub join-requires-2-clause-before : goal.join-requires-2-clause-before
 join-requires-2-clause-before c =
     let linked : IsLinked c.self.inside.chain c.args.self.now.nodes = rw (← c.self.view_is) c.self.invariant in
     let at = c.requires in
-    let joins : Joins c.self.inside.chain c.join.new.self (prev_of c.self.inside.chain (Some c.args.node)) (next_of c.self.inside.chain (Some c.args.node)) = rw (← c.prev-prev.ensures, ← c.next-next.ensures) c.join.ensures in
+    let joins : Joins c.self.inside.chain c.join.new.self (prev_of c.self.inside.chain (Some c.args.node)) (stop_after c.self.inside.chain (Some c.args.node)) = rw (← c.prev-prev.ensures, ← c.next-next.ensures) c.join.ensures in
     tail_left c.self.inside.chain c.args.self.now.nodes at.0 at.2 c.args.node at.1 linked at.3 c.join.new.self joins
 
 pub join-requires-2-clause-after : goal.join-requires-2-clause-after
@@ -49,11 +49,11 @@ pub invariant_of-self : goal.invariant_of-self
 invariant_of-self c =
     let linked : IsLinked c.self.inside.chain c.args.self.now.nodes = rw (← c.self.view_is) c.self.invariant in
     let at = c.requires in
-    let joins : Joins c.self.inside.chain c.join.new.self (prev_of c.self.inside.chain (Some c.args.node)) (next_of c.self.inside.chain (Some c.args.node)) = rw (← c.prev-prev.ensures, ← c.next-next.ensures) c.join.ensures in
+    let joins : Joins c.self.inside.chain c.join.new.self (prev_of c.self.inside.chain (Some c.args.node)) (stop_after c.self.inside.chain (Some c.args.node)) = rw (← c.prev-prev.ensures, ← c.next-next.ensures) c.join.ensures in
     settled c.join-3.new.self _ (linked_rotated c.self.inside.chain c.args.self.now.nodes at.0 at.2 c.args.node at.1 linked at.3 c.join.new.self c.join-2.new.self c.join-3.new.self joins c.join-2.ensures c.join-3.ensures)
 
 pub returns : goal.returns
 returns c xs o ys split =
     let linked : IsLinked c.self.inside.chain c.args.self.now.nodes = rw (← c.self.view_is) c.self.invariant in
-    let joins : Joins c.self.inside.chain c.join.new.self (prev_of c.self.inside.chain (Some c.args.node)) (next_of c.self.inside.chain (Some c.args.node)) = rw (← c.prev-prev.ensures, ← c.next-next.ensures) c.join.ensures in
+    let joins : Joins c.self.inside.chain c.join.new.self (prev_of c.self.inside.chain (Some c.args.node)) (stop_after c.self.inside.chain (Some c.args.node)) = rw (← c.prev-prev.ensures, ← c.next-next.ensures) c.join.ensures in
     nodes_are c.join-3.new.self _ (linked_rotated c.self.inside.chain c.args.self.now.nodes xs ys c.args.node o linked split c.join.new.self c.join-2.new.self c.join-3.new.self joins c.join-2.ensures c.join-3.ensures)
