@@ -214,10 +214,9 @@ class Plan {
     const {run, command} = this;
     if (command.find) {
       const {id, number, entry} = command.find;
-      this.seen(run.pool, entry, 'poolseen', 'seen', {});
-      const step = this.then(this.lookup(id, number, {}));
-      // It is looked up while the journal of registrations is in hand.
-      run.before(step, run.pool[entry], 'seen');
+      // The journal may have had more entries, since what was found before is found again without it.
+      run.before(run.pool[entry - 1], this.then(this.step({on: 'poolknown', entries: entry})), 'seen');
+      this.then(this.lookup(id, number, {}));
     } else if (SHOWN.includes(this.answer))
       this.seen(run.pool, this.number(1), 'poolseen', 'seen', {});
   }

@@ -74,6 +74,7 @@ const TELLS = {
   load: s => `looks at the id ${s.id} again, which is ${s.live ? 'live now' : 'still not live'}`,
   shut: (s, w) => `finds ${w.place(s.list)} closed`,
   poolseen: s => `sees ${plural(s.entries, 'entry', 'entries')} in the journal of registrations`,
+  poolknown: s => `knows ${plural(s.entries, 'entry', 'entries')} of the journal of registrations`,
   treeseen: (s, w) =>
       (s.shown === undefined ?
            `sees ${plural(s.entries, 'entry', 'entries')} in the journal of offlining` :

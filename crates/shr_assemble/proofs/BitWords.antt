@@ -13,10 +13,6 @@ found_front {A} p (y ∷ xs) ys x some = choose (p y) (found_front p xs ys x) so
   choose true later h = h
   choose false later h = later h
 
-  choose : (b : Bool) → (find p xs ≡ None → find p (xs ++ ys) ≡ find p ys) → cond b (Some y) (find p xs) ≡ None → cond b (Some y) (find p (xs ++ ys)) ≡ find p ys
-  choose true later h = absurd (some_none h)
-  choose false later h = later h
-
 both_none : {A : Type 0} (p : A → Bool) (xs ys : List A) → find p xs ≡ None → find p ys ≡ None → find p (xs ++ ys) ≡ None
 both_none p xs ys a b = find_back p xs ys a ∙ b
 

@@ -20,10 +20,6 @@ seen_journal (end ∷ ends) place = choose (is_place end.place place) (seen_jour
   choose true others = refl
   choose false others = others
 
-  choose : (b : Bool) → (find p xs ≡ None → find p (xs ++ ys) ≡ find p ys) → cond b (Some x) (find p xs) ≡ None → cond b (Some x) (find p (xs ++ ys)) ≡ find p ys
-  choose true later h = absurd (some_none h)
-  choose false later h = later h
-
 pub below_or : (k n : ℕ) → (k < n) ⊎ (n ≤ k)
 below_or k zero = inr (omega arith)
 below_or zero (suc n) = inl (omega arith)

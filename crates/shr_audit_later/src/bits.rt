@@ -58,7 +58,7 @@ fn are_bits_seen_in(
     for n in 0..walks.len() {
         let walk = &walks[n];
         let command = walk.by.command as usize;
-        note_fillings(&mut filled, report, case, cleared, answers, noted, command)?;
+        note_fillings(&mut filled, report, case, cleared, answers, noted..command)?;
         noted = command;
         if !is_walk_full(&filled, walk) {
             return Ok(false);

@@ -17,6 +17,7 @@ use shr_case::case::Case;
 use shr_report::report::Report;
 use std::alloc::Global;
 use std::collections::{HashMap, HashSet};
+use std::ops::Range;
 
 // A table of words without a bit.
 pub(crate) fn none_filled(alloc: Global) -> HashMap<u64, u64>
@@ -86,25 +87,26 @@ fn filled_by(report: &Report, case: &Case, cleared: &HashSet<u64>, reply: &Reply
     }
 }
 
-// Notes the places that the answers from one to another filled.
+// Notes the places that the answers to these commands filled.
 pub(crate) fn note_fillings(
     filled: &mut HashMap<u64, u64>,
     report: &Report,
     case: &Case,
     cleared: &HashSet<u64>,
     answers: &[Answered],
-    from: usize,
-    until: usize,
+    commands: Range<usize>,
 ) -> Result<(), Memory>
     requires replayed { IsReplayOf report.now case.now }
     requires cleared { HasCleared report.now cleared.now }
-    requires before { AreFilled case.now.parents.items report.now answers.now from filled.old }
-    requires rising { from ≤ until }
-    requires there { until ≤ length answers.now }
+    requires before { AreFilled case.now.parents.items report.now answers.now commands.start
+        filled.old }
+    requires rising { commands.start ≤ commands.end }
+    requires there { commands.end ≤ length answers.now }
     ensures { OnOk result
-        (AreFilled case.now.parents.items report.now answers.now until filled.new) }
+        (AreFilled case.now.parents.items report.now answers.now commands.end
+        filled.new) }
 {
-    for k in from..until {
+    for k in commands.start..commands.end {
         let place = filled_by(report, case, cleared, &answers[k].reply);
         note_filled(filled, place)?;
     }

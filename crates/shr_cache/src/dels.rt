@@ -12,7 +12,7 @@ use crate::charges::uncharge;
 use shr_base::replies::{Answered, Found, Reply};
 use shr_base::text::Text;
 use shr_node::answers::NodeDrop;
-use shr_node::tenants::drop_key;
+use shr_node::tenants::{TenantCall, drop_key};
 use shr_opening::opening::{Opened, open};
 use shr_opening::replies::unfound;
 use shr_opening::target::Target;
@@ -57,7 +57,13 @@ fn take_out<R: Wait>(
     };
     let core = &worker.shared.core;
     let seat = &mut worker.seats.cache.core;
-    let answer = drop_key(worker.rt, core, seat, found.id, node, worker.by, group, key);
+    let call = TenantCall {
+        id: found.id,
+        node,
+        by: worker.by,
+        birth: group,
+    };
+    let answer = drop_key(worker.rt, core, seat, call, key);
     core.put(seat);
     Ok((answer, found))
 }

@@ -10,7 +10,7 @@ ghost use Rattle.shr_cache.specs.Replies.{look_reply};
 use shr_base::replies::{Answered, Reply};
 use shr_base::text::Text;
 use shr_node::answers::NodeLook;
-use shr_node::tenants::look;
+use shr_node::tenants::{TenantCall, look};
 use shr_opening::opening::{Opened, open};
 use shr_opening::replies::unfound;
 use shr_opening::target::Target;
@@ -51,7 +51,13 @@ pub fn get<R: Wait>(worker: &mut Worker<'_, R>, target: Target, key: &Text) -> A
     };
     let core = &worker.shared.core;
     let seat = &mut worker.seats.cache.core;
-    let answer = look(worker.rt, core, seat, found.id, node, worker.by, group, key);
+    let call = TenantCall {
+        id: found.id,
+        node,
+        by: worker.by,
+        birth: group,
+    };
+    let answer = look(worker.rt, core, seat, call, key);
     core.put(seat);
     Answered {
         reply: reply_of(answer),

@@ -10,7 +10,7 @@ ghost use Rattle.shr_cache.specs.Replies.{pin_reply};
 use shr_base::replies::{Answered, Reply};
 use shr_base::text::Text;
 use shr_node::answers::NodePin;
-use shr_node::tenants::set_pin as pin_in_list;
+use shr_node::tenants::{TenantCall, set_pin as pin_in_list};
 use shr_opening::opening::{Opened, open};
 use shr_opening::replies::unfound;
 use shr_opening::target::Target;
@@ -54,9 +54,13 @@ pub fn set_pin<R: Wait>(
     };
     let core = &worker.shared.core;
     let seat = &mut worker.seats.cache.core;
-    let answer = pin_in_list(
-        worker.rt, core, seat, found.id, node, worker.by, group, key, pinned,
-    );
+    let call = TenantCall {
+        id: found.id,
+        node,
+        by: worker.by,
+        birth: group,
+    };
+    let answer = pin_in_list(worker.rt, core, seat, call, key, pinned);
     core.put(seat);
     Answered {
         reply: reply_of(answer),

@@ -88,6 +88,16 @@ fn drain_one<R: Wait>(
     }
 }
 
+/// The lists of an id on a node, those of each group.
+///
+/// Linux: `struct list_lru_node` in include/linux/list_lru.h, with the `struct list_lru_one` of each
+/// group on that node.
+#[derive(Clone, Copy, Debug, PartialEq, Eq)]
+pub struct NodeLists {
+    pub id: u16,
+    pub node: u8,
+}
+
 /// Empties each list of an id on a node, groups in falling order. The seat owns the id, a load has
 /// shown that no seat holds it, and the seat has no room in hand.
 ///
@@ -99,24 +109,29 @@ pub fn drain<R: Wait>(
     rt: &R,
     core: &Core,
     seat: &mut Seat,
-    id: u16,
-    node: u8,
+    lists: NodeLists,
     by: Serial,
     into: &mut Log<Object>,
 ) -> NodeDrain
     requires seat { IsOf core.now seat.old }
     requires rooms { (view_of seat.old).holding ≡ no_rooms }
-    requires owns { (view_of seat.old).claims.owner ≡ Some id }
+    requires owns { (view_of seat.old).claims.owner ≡ Some lists.id }
     requires quiet { (view_of seat.old).claims.quiet ≡ true }
-    requires place { (id < (shape_of core.now).ids) × (node < (shape_of core.now).nodes) }
+    requires place { (lists.id < (shape_of core.now).ids)
+        × (lists.node < (shape_of core.now).nodes) }
     ensures seat { IsOf core.now seat.new }
-    ensures answer { DrainGives (shape_of core.now) (view_of seat.old) id node by into.old.items
-        result into.new.items (view_of seat.new) }
+    ensures answer { DrainGives (shape_of core.now) (view_of seat.old) lists.id lists.node by
+        into.old.items result into.new.items (view_of seat.new) }
 {
     let mut group = core.shape().parents.len() as u16;
     'draining: while group > 0 {
         group -= 1;
-        match drain_one(rt, core, seat, Place { id, node, group }, by, into) {
+        let place = Place {
+            id: lists.id,
+            node: lists.node,
+            group,
+        };
+        match drain_one(rt, core, seat, place, by, into) {
             NodeDrain::Drained => {}
             NodeDrain::Worn { spent } => return NodeDrain::Worn { spent },
             NodeDrain::Memory => return NodeDrain::Memory,

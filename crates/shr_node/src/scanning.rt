@@ -14,9 +14,20 @@ use shr_core::table::Core;
 use shr_list::answers::ListScan;
 use std::sync::Wait;
 
-/// Goes once from the head of a place's list with a budget of `asked` visits, and does with each
-/// object what the policy says. `worker` and `walk` name the walk that asks. The seat holds the id,
-/// and has no room in hand.
+/// What a walk asks of one list: a budget of `asked` visits, in which each object gets what the
+/// policy says. `worker` and `walk` name the walk.
+///
+/// Linux: `struct shrink_control` in include/linux/shrinker.h, with its `nr_to_scan`.
+#[derive(Clone, Copy, Debug, PartialEq, Eq)]
+pub struct ScanRequest {
+    pub worker: u16,
+    pub walk: u64,
+    pub policy: Policy,
+    pub asked: u32,
+}
+
+/// Goes once from the head of a place's list with the request's budget of visits, and does with
+/// each object what its policy says. The seat holds the id, and has no room in hand.
 ///
 /// The list is that of the place only: if it was emptied into its parent's the answer is `Closed`.
 /// On every answer but `Scanned` lists, counts and bits are as this seat found them.
@@ -27,22 +38,19 @@ pub fn scan<R: Wait>(
     core: &Core,
     seat: &mut Seat,
     place: Place,
-    worker: u16,
-    walk: u64,
-    policy: Policy,
-    asked: u32,
+    request: ScanRequest,
 ) -> NodeScan
     requires seat { IsOf core.now seat.old }
     requires rooms { (view_of seat.old).holding ≡ no_rooms }
     requires holds { (view_of seat.old).claims.held ≡ Some place.id }
     requires place { IsPlaceOfShape (shape_of core.now) place }
     ensures seat { IsOf core.now seat.new }
-    ensures answer { ScanGives (shape_of core.now) (view_of seat.old) place worker walk policy
-        asked result (view_of seat.new) }
+    ensures answer { ScanGives (shape_of core.now) (view_of seat.old) place request.worker
+        request.walk request.policy request.asked result (view_of seat.new) }
 {
     let mut room = core.take_room(rt, seat, place);
     let before = before_call(&room.list);
-    let answer = match room.list.scan(worker, walk, policy, asked) {
+    let answer = match room.list.scan(request.worker, request.walk, request.policy, request.asked) {
         ListScan::Scanned {
             entry: _,
             freed,

@@ -19,6 +19,16 @@ use shr_core::table::Core;
 use shr_list::answers::{AddAnswer, DropAnswer, LookAnswer, PinAnswer};
 use std::sync::Wait;
 
+/// What a tenant's call is about, but for the key: the id and node of the lists that it may act on,
+/// the command that makes it, and the group that its object was born in. Our own.
+#[derive(Clone, Copy, Debug, PartialEq, Eq)]
+pub struct TenantCall {
+    pub id: u16,
+    pub node: u8,
+    pub by: Serial,
+    pub birth: u16,
+}
+
 /// Adds an object at the tail, unmarked and unpinned, if the list has none of its birth group and
 /// key. The seat holds the id, and has no room in hand.
 ///
@@ -68,29 +78,20 @@ pub fn add<R: Wait>(
 /// hand. On `Worn` and `Memory` lists, counts and bits are as this seat found them.
 ///
 /// Our own: Linux's lists have no keys.
-pub fn look<R: Wait>(
-    rt: &R,
-    core: &Core,
-    seat: &mut Seat,
-    id: u16,
-    node: u8,
-    by: Serial,
-    birth: u16,
-    key: &Text,
-) -> NodeLook
+pub fn look<R: Wait>(rt: &R, core: &Core, seat: &mut Seat, call: TenantCall, key: &Text) -> NodeLook
     requires seat { IsOf core.now seat.old }
     requires rooms { (view_of seat.old).holding ≡ no_rooms }
-    requires holds { (view_of seat.old).claims.held ≡ Some id }
-    requires place { (id < (shape_of core.now).ids) × (node < (shape_of core.now).nodes)
-        × (birth < groups_in (shape_of core.now)) }
+    requires holds { (view_of seat.old).claims.held ≡ Some call.id }
+    requires place { (call.id < (shape_of core.now).ids) × (call.node < (shape_of core.now).nodes)
+        × (call.birth < groups_in (shape_of core.now)) }
     ensures seat { IsOf core.now seat.new }
-    ensures answer { LookGives (shape_of core.now) (view_of seat.old) id node by birth key.now
-        result (view_of seat.new) }
+    ensures answer { LookGives (shape_of core.now) (view_of seat.old) call.id call.node
+        call.by call.birth key.now result (view_of seat.new) }
 {
-    let mut room = open_room(rt, core, seat, id, node, birth);
+    let mut room = open_room(rt, core, seat, call.id, call.node, call.birth);
     let place = room.place;
     let before = before_call(&room.list);
-    let answer = match room.list.look(by, birth, key) {
+    let answer = match room.list.look(call.by, call.birth, key) {
         LookAnswer::Hit { entry, value } => NodeLook::Hit {
             at: At { place, entry },
             value,
@@ -116,25 +117,22 @@ pub fn drop_key<R: Wait>(
     rt: &R,
     core: &Core,
     seat: &mut Seat,
-    id: u16,
-    node: u8,
-    by: Serial,
-    birth: u16,
+    call: TenantCall,
     key: &Text,
 ) -> NodeDrop
     requires seat { IsOf core.now seat.old }
     requires rooms { (view_of seat.old).holding ≡ no_rooms }
-    requires holds { (view_of seat.old).claims.held ≡ Some id }
-    requires place { (id < (shape_of core.now).ids) × (node < (shape_of core.now).nodes)
-        × (birth < groups_in (shape_of core.now)) }
+    requires holds { (view_of seat.old).claims.held ≡ Some call.id }
+    requires place { (call.id < (shape_of core.now).ids) × (call.node < (shape_of core.now).nodes)
+        × (call.birth < groups_in (shape_of core.now)) }
     ensures seat { IsOf core.now seat.new }
-    ensures answer { DropGives (shape_of core.now) (view_of seat.old) id node by birth key.now
-        result (view_of seat.new) }
+    ensures answer { DropGives (shape_of core.now) (view_of seat.old) call.id call.node
+        call.by call.birth key.now result (view_of seat.new) }
 {
-    let mut room = open_room(rt, core, seat, id, node, birth);
+    let mut room = open_room(rt, core, seat, call.id, call.node, call.birth);
     let place = room.place;
     let before = before_call(&room.list);
-    let answer = match room.list.drop_key(by, birth, key) {
+    let answer = match room.list.drop_key(call.by, call.birth, key) {
         DropAnswer::Dropped { entry, object: _ } => NodeDrop::Dropped {
             at: At { place, entry },
         },
@@ -162,26 +160,23 @@ pub fn set_pin<R: Wait>(
     rt: &R,
     core: &Core,
     seat: &mut Seat,
-    id: u16,
-    node: u8,
-    by: Serial,
-    birth: u16,
+    call: TenantCall,
     key: &Text,
     pinned: bool,
 ) -> NodePin
     requires seat { IsOf core.now seat.old }
     requires rooms { (view_of seat.old).holding ≡ no_rooms }
-    requires holds { (view_of seat.old).claims.held ≡ Some id }
-    requires place { (id < (shape_of core.now).ids) × (node < (shape_of core.now).nodes)
-        × (birth < groups_in (shape_of core.now)) }
+    requires holds { (view_of seat.old).claims.held ≡ Some call.id }
+    requires place { (call.id < (shape_of core.now).ids) × (call.node < (shape_of core.now).nodes)
+        × (call.birth < groups_in (shape_of core.now)) }
     ensures seat { IsOf core.now seat.new }
-    ensures answer { PinGives (shape_of core.now) (view_of seat.old) id node by birth key.now
-        pinned result (view_of seat.new) }
+    ensures answer { PinGives (shape_of core.now) (view_of seat.old) call.id call.node
+        call.by call.birth key.now pinned result (view_of seat.new) }
 {
-    let mut room = open_room(rt, core, seat, id, node, birth);
+    let mut room = open_room(rt, core, seat, call.id, call.node, call.birth);
     let place = room.place;
     let before = before_call(&room.list);
-    let answer = match room.list.set_pin(by, birth, key, pinned) {
+    let answer = match room.list.set_pin(call.by, call.birth, key, pinned) {
         PinAnswer::Done { entry } => NodePin::Done {
             at: At { place, entry },
         },

@@ -16,13 +16,25 @@ use shr_base::places::Place;
 use shr_base::walks::PassRecord;
 use shr_deferred::{Deferred, DeferredSeat};
 
+/// How hard a pass presses on its objects.
+///
+/// Linux: the `priority` that `do_shrink_slab` of mm/shrinker.c is called with, and `seeks` and
+/// `batch` of `struct shrinker`.
+#[derive(Clone, Copy, Debug, PartialEq, Eq)]
+pub struct Pressure {
+    /// 12 for the mildest pass and 0 for the hardest.
+    pub priority: u8,
+    /// The cost of making an object again, 0 for none.
+    pub seeks: u32,
+    /// Objects per scan call, at most 20,000, and 0 for the default.
+    pub batch: u32,
+}
+
 /// One pass over a place. It counts, and where the count is to be scanned takes over all that is
 /// deferred there, scans what is due, and defers what is left.
 ///
-/// `priority` is 12 for the mildest pass and 0 for the hardest, `seeks` the cost of an object,
-/// `batch` the objects per scan call, 0 for the default. It takes no memory of its own. After
-/// `Empty` and `Skip` the deferred word wasn't touched. Want of memory and a counter that is used
-/// up end the scans as a stop does, and stand in the record.
+/// It takes no memory of its own. After `Empty` and `Skip` the deferred word wasn't touched. Want of
+/// memory and a counter that is used up end the scans as a stop does, and stand in the record.
 ///
 /// Linux: `do_shrink_slab` in mm/shrinker.c, with `xchg_nr_deferred` and `add_nr_deferred`.
 pub fn shrink_once<S: Shrinker>(
@@ -31,12 +43,10 @@ pub fn shrink_once<S: Shrinker>(
     shrinker: &mut S,
     seat: &mut S::Seat,
     place: Place,
-    priority: u8,
-    seeks: u32,
-    batch: u32,
+    pressure: Pressure,
 ) -> PassAnswer
     requires ready { S.ready shrinker.old seat.old }
-    requires sizes { (priority ≤ 12) × (batch ≤ 20000) }
+    requires sizes { (pressure.priority ≤ 12) × (pressure.batch ≤ 20000) }
     requires place { IsPlaceOf deferred.now.sizes place }
     requires dseat { IsDeferredSeat deferred.now dseat.old }
 
@@ -45,7 +55,8 @@ pub fn shrink_once<S: Shrinker>(
         result ∷ [] }
     ensures fits { CountFits (count_of result) }
     ensures empty { IfEmptyPass result (S.owes shrinker.new seat.new → ⊥) }
-    ensures record { MatchPass result (Unit {0}) (FollowsArithmetic priority seeks batch) }
+    ensures record { MatchPass result (Unit {0}) (FollowsArithmetic pressure.priority
+        pressure.seeks pressure.batch) }
 
     // It frees no more than it scanned, and so no more than twice a count.
     ensures bounded { MatchPass result (Unit {0}) (λ p. p.freed ≤ p.scanned) }
@@ -58,7 +69,8 @@ pub fn shrink_once<S: Shrinker>(
     // The scan calls, and the one that ended the pass.
     ensures scans { MatchPass result (S.scans shrinker.new seat.new ≡ S.scans shrinker.old
         seat.old) (λ p. Scans (λ a. S.told shrinker.old a seat.new) (S.scans shrinker.old seat.old)
-        (S.scans shrinker.new seat.new) (asks_due priority seeks batch p) p.asks p.closed p.freed) }
+        (S.scans shrinker.new seat.new) (asks_due pressure.priority pressure.seeks
+        pressure.batch p) p.asks p.closed p.freed) }
     ensures calls { CountsTo (S.calls shrinker.new) (S.calls shrinker.old + calls_of result) }
     ensures closes { CountsTo (S.closes shrinker.new) (S.closes shrinker.old + closes_of result) }
     ensures ending { MatchPass result (S.last shrinker.new ≡ S.last shrinker.old)
@@ -81,7 +93,7 @@ pub fn shrink_once<S: Shrinker>(
         Count::Skip { len, version } => PassAnswer::Skip { len, version },
         Count::Many { len, version } => {
             let nr = deferred.take(dseat, place);
-            let plan = plan(len, nr, priority, seeks, batch);
+            let plan = plan(len, nr, pressure.priority, pressure.seeks, pressure.batch);
             let tally = scan_due(shrinker, seat, &plan, len);
             let next = next_deferred(nr, plan.delta, tally.scanned, len);
             deferred.give(dseat, place, next);

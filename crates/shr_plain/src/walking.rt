@@ -12,8 +12,18 @@ use shr_base::log::Log;
 use shr_base::places::Serial;
 use shr_base::walks::{Ending, PlainAnswer, PlainTry, PlainWalk};
 use shr_pass::answers::PassAnswer;
-use shr_pass::pass::shrink_once;
+use shr_pass::pass::{Pressure, shrink_once};
 use std::sync::Wait;
+
+// A walk of all pools: by this command, with this number among the walks of its worker, for this
+// node, and of this priority, which is 12 for the mildest and 0 for the hardest.
+#[derive(Clone, Copy)]
+struct Walk {
+    by: Serial,
+    number: u32,
+    node: u8,
+    priority: u8,
+}
 
 // The try that a pass is.
 fn try_of(answer: PassAnswer) -> PlainTry
@@ -54,39 +64,31 @@ fn lacked_memory(tried: PlainTry) -> bool
 }
 
 impl Pools {
-    // One pass over a pool, for a walk with this number.
-    fn pass<R: Wait>(
-        &self,
-        rt: &R,
-        seat: &mut PlainSeat,
-        worker: u16,
-        walk: u32,
-        pool: u8,
-        node: u8,
-        priority: u8,
-    ) -> PassAnswer
+    // One pass over a pool, for a walk.
+    fn pass<R: Wait>(&self, rt: &R, seat: &mut PlainSeat, walk: Walk, pool: u8) -> PassAnswer
         requires seat { IsPlainSeat self.now seat.old }
-        requires pool { IsPoolOf self.now.settings.items self.now.sizes pool node }
-        requires priority { priority ≤ 12 }
+        requires pool { IsPoolOf self.now.settings.items self.now.sizes pool walk.node }
+        requires priority { walk.priority ≤ 12 }
         ensures seat { IsPlainSeat self.now seat.new }
         ensures standing { plain_standing seat.new ≡ plain_standing seat.old }
         ensures spare { seat.new.walks ≡ seat.old.walks }
         ensures few { MatchPass result (Unit {0}) (λ p. p.freed ≤ 2097152) }
         ensures passed { PassGives (setting_of self.now.settings.items pool)
-            (home_place self.now.settings.items pool node)
-            (room_of self.now.settings.items self.now.sizes pool node) worker walk priority result
+            (home_place self.now.settings.items pool walk.node)
+            (room_of self.now.settings.items self.now.sizes pool walk.node)
+            walk.by.worker walk.number walk.priority result
             (plain_state_of seat.old) (plain_state_of seat.new) }
     {
         let setting = self.settings.as_slice()[pool as usize];
-        let place = self.place(pool, node);
+        let place = self.place(pool, walk.node);
         let mut units = Units {
             rt,
             pools: self,
             place,
             room: self.sizes.row(place),
             floor: setting.floor,
-            worker,
-            walk,
+            worker: walk.by.worker,
+            walk: walk.number,
             calls: 0,
             last: None,
         };
@@ -96,9 +98,11 @@ impl Pools {
             &mut units,
             &mut seat.units,
             place,
-            priority,
-            setting.seeks,
-            setting.batch,
+            Pressure {
+                priority: walk.priority,
+                seeks: setting.seeks,
+                batch: setting.batch,
+            },
         )
     }
 
@@ -108,20 +112,17 @@ impl Pools {
         rt: &R,
         seat: &mut PlainSeat,
         tries: &mut Log<PlainTry>,
-        by: Serial,
-        walk: u32,
-        node: u8,
-        priority: u8,
+        walk: Walk,
     ) -> PlainAnswer
         requires seat { IsPlainSeat self.now seat.old }
-        requires node { node < self.now.sizes.nodes }
-        requires priority { priority ≤ 12 }
+        requires node { walk.node < self.now.sizes.nodes }
+        requires priority { walk.priority ≤ 12 }
         requires blank { tries.old.items ≡ [] }
         ensures seat { IsPlainSeat self.now seat.new }
         ensures standing { plain_standing seat.new ≡ plain_standing seat.old }
         ensures walks { seat.new.walks ≡ seat.old.walks }
-        ensures tried { AreTried self.now.settings.items self.now.sizes by walk node priority 0
-            tries.new.items (plain_state_of seat.old) (plain_state_of seat.new) }
+        ensures tried { AreTried self.now.settings.items self.now.sizes walk.by walk.number
+            walk.node walk.priority 0 tries.new.items (plain_state_of seat.old) (plain_state_of seat.new) }
         ensures answers { Answers (length self.now.settings.items) tries.new.items result }
     {
         if tries.reserve(self.settings.len()).is_err() {
@@ -129,7 +130,7 @@ impl Pools {
         }
         let mut freed = 0;
         for pool in 0..self.settings.len() {
-            let answer = self.pass(rt, seat, by.worker, walk, pool as u8, node, priority);
+            let answer = self.pass(rt, seat, walk, pool as u8);
             let tried = try_of(answer);
             tries.push(tried);
             freed += freed_in(tried);
@@ -169,9 +170,14 @@ impl Pools {
         ensures walked { PlainWalkGives self.now.settings.items self.now.sizes by node priority result
             (plain_state_of seat.old) (plain_state_of seat.new) }
     {
-        let walk = seat.walks.len() as u32;
+        let walk = Walk {
+            by,
+            number: seat.walks.len() as u32,
+            node,
+            priority,
+        };
         let mut tries = Log::new(self.alloc);
-        let answer = self.walk_pools(rt, seat, &mut tries, by, walk, node, priority);
+        let answer = self.walk_pools(rt, seat, &mut tries, walk);
         seat.walks.push(PlainWalk {
             by,
             node,

@@ -14,7 +14,7 @@ use shr_base::replies::HalfWhy;
 use shr_core::seat::Seat;
 use shr_core::table::Core;
 use shr_node::answers::NodeDrain;
-use shr_node::draining::drain;
+use shr_node::draining::{NodeLists, drain};
 use std::sync::Wait;
 use std::thread;
 
@@ -60,7 +60,7 @@ pub(crate) fn empty<R: Wait>(
         result objects.new.items (view_of seat.new) }
 {
     for node in 0..core.shape().nodes {
-        match drain(rt, core, seat, id, node, by, objects) {
+        match drain(rt, core, seat, NodeLists { id, node }, by, objects) {
             NodeDrain::Drained => {}
             NodeDrain::Worn { spent } => return Some(HalfWhy::Worn { spent }),
             NodeDrain::Memory => return Some(HalfWhy::Memory),

@@ -16,23 +16,24 @@ use shr_base::replies::{Answered, Found, Reply};
 use shr_outside::outside::Sink;
 use shr_outside::paper::Paper;
 
+// Whose an answer is: this worker's, to its command with this number.
+#[derive(Clone, Copy)]
+struct Whose {
+    worker: usize,
+    command: usize,
+}
+
 // Puts the words that a reply begins with before its piece, and the piece on the paper. It is one
 // function for all replies, as `add_at` is.
 #[inline(never)]
-fn put_front<K: Sink>(
-    out: &mut Paper<K>,
-    piece: &mut Piece,
-    end: usize,
-    worker: usize,
-    command: usize,
-)
+fn put_front<K: Sink>(out: &mut Paper<K>, piece: &mut Piece, end: usize, whose: Whose)
     requires { (47 ≤ end) × (end ≤ 512) }
     ensures { Prints K.written K.faults out.old out.new
-        (codes "reply" ++ (spaced (numeral worker ∷ numeral command ∷ [])
+        (codes "reply" ++ (spaced (numeral whose.worker ∷ numeral whose.command ∷ [])
         ++ drop end piece.old)) }
 {
-    let start = piece.number(end, command as u64);
-    let start = piece.number(start, worker as u64);
+    let start = piece.number(end, whose.command as u64);
+    let start = piece.number(start, whose.worker as u64);
     let start = piece.exactly(start, b"reply");
     piece.put(start, out)
 }
@@ -55,29 +56,28 @@ fn put_placed<K: Sink>(
     out: &mut Paper<K>,
     piece: &mut Piece,
     rest: usize,
-    worker: usize,
-    command: usize,
+    whose: Whose,
     answer: &[u8],
     at: &At,
 )
     requires word { length answer.now ≤ 8 }
     requires room { (141 ≤ rest) × (rest ≤ 512) }
     ensures printed { Prints K.written K.faults out.old out.new
-        (line (codes "reply") (numeral worker ∷ numeral command ∷ answer.now ∷ at_words at.now)
+        (line (codes "reply") (numeral whose.worker ∷ numeral whose.command ∷ answer.now ∷ at_words at.now)
         ++ drop rest piece.old) }
     ensures numbers { IsAtNumbered at.now }
 {
     let start = piece.byte(rest, b'\n');
     let start = add_at(piece, start, at);
     let start = piece.word(start, answer);
-    put_front(out, piece, start, worker, command)
+    put_front(out, piece, start, whose)
 }
 
 // A reply that lends a value of any length.
 #[inline(never)]
-fn put_long_hit<K: Sink>(out: &mut Paper<K>, worker: usize, command: usize, at: &At, value: &[u8])
+fn put_long_hit<K: Sink>(out: &mut Paper<K>, whose: Whose, at: &At, value: &[u8])
     ensures printed { let at = at.now in Prints K.written K.faults out.old out.new
-        (line (codes "reply") (numeral worker ∷ numeral command ∷ codes "hit"
+        (line (codes "reply") (numeral whose.worker ∷ numeral whose.command ∷ codes "hit"
         ∷ numeral at.place.id ∷ numeral at.place.node ∷ numeral at.place.group
         ∷ numeral at.entry ∷ (61 ∷ value.now) ∷ [])) }
     ensures numbers { IsAtNumbered at.now }
@@ -86,8 +86,8 @@ fn put_long_hit<K: Sink>(out: &mut Paper<K>, worker: usize, command: usize, at: 
         out,
         b"reply",
         &[
-            Number(worker as u64),
-            Number(command as u64),
+            Number(whose.worker as u64),
+            Number(whose.command as u64),
             Text(b"hit"),
             Number(at.place.id as u64),
             Number(at.place.node as u64),
@@ -107,14 +107,13 @@ fn put_hit<K: Sink>(
     out: &mut Paper<K>,
     piece: &mut Piece,
     rest: usize,
-    worker: usize,
-    command: usize,
+    whose: Whose,
     at: &At,
     value: &[u8],
 )
     requires { (440 ≤ rest) × (rest ≤ 512) }
     ensures printed { let at = at.now in Prints K.written K.faults out.old out.new
-        (line (codes "reply") (numeral worker ∷ numeral command ∷ codes "hit"
+        (line (codes "reply") (numeral whose.worker ∷ numeral whose.command ∷ codes "hit"
         ∷ numeral at.place.id ∷ numeral at.place.node ∷ numeral at.place.group
         ∷ numeral at.entry ∷ (61 ∷ value.now) ∷ []) ++ drop rest piece.old) }
     ensures numbers { IsAtNumbered at.now }
@@ -124,39 +123,32 @@ fn put_hit<K: Sink>(
         let start = piece.value(start, value);
         let start = add_at(piece, start, at);
         let start = piece.word(start, b"hit");
-        put_front(out, piece, start, worker, command)
+        put_front(out, piece, start, whose)
     } else {
-        put_long_hit(out, worker, command, at, value);
+        put_long_hit(out, whose, at, value);
         piece.put(rest, out)
     }
 }
 
 // The line of an answer, and what stands behind it.
-fn reply<K: Sink>(
-    out: &mut Paper<K>,
-    piece: &mut Piece,
-    rest: usize,
-    worker: usize,
-    command: usize,
-    answer: &Reply,
-)
+fn reply<K: Sink>(out: &mut Paper<K>, piece: &mut Piece, rest: usize, whose: Whose, answer: &Reply)
     requires { (440 ≤ rest) × (rest ≤ 512) }
     ensures printed { Prints K.written K.faults out.old out.new
-        (reply_line worker command answer.now ++ drop rest piece.old) }
+        (reply_line whose.worker whose.command answer.now ++ drop rest piece.old) }
     ensures numbers { IsReplyNumbered answer.now }
 {
     match answer {
-        Reply::Added { at } => put_placed(out, piece, rest, worker, command, b"added", at),
-        Reply::Exists { at } => put_placed(out, piece, rest, worker, command, b"exists", at),
-        Reply::Miss { at } => put_placed(out, piece, rest, worker, command, b"miss", at),
-        Reply::Dropped { at } => put_placed(out, piece, rest, worker, command, b"dropped", at),
-        Reply::Pinned { at } => put_placed(out, piece, rest, worker, command, b"pinned", at),
-        Reply::Done { at } => put_placed(out, piece, rest, worker, command, b"done", at),
-        Reply::Hit { at, value } => put_hit(out, piece, rest, worker, command, at, value.bytes()),
+        Reply::Added { at } => put_placed(out, piece, rest, whose, b"added", at),
+        Reply::Exists { at } => put_placed(out, piece, rest, whose, b"exists", at),
+        Reply::Miss { at } => put_placed(out, piece, rest, whose, b"miss", at),
+        Reply::Dropped { at } => put_placed(out, piece, rest, whose, b"dropped", at),
+        Reply::Pinned { at } => put_placed(out, piece, rest, whose, b"pinned", at),
+        Reply::Done { at } => put_placed(out, piece, rest, whose, b"done", at),
+        Reply::Hit { at, value } => put_hit(out, piece, rest, whose, at, value.bytes()),
         _ => {
             let start = piece.byte(rest, b'\n');
             let start = add_answer(piece, start, answer);
-            put_front(out, piece, start, worker, command)
+            put_front(out, piece, start, whose)
         }
     }
 }
@@ -193,5 +185,5 @@ pub fn put_answered<K: Sink>(
     ensures numbers { IsAnsweredNumbered answered.now }
 {
     let rest = found(piece, &answered.found);
-    reply(out, piece, rest, worker, command, &answered.reply)
+    reply(out, piece, rest, Whose { worker, command }, &answered.reply)
 }

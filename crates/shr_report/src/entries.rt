@@ -18,6 +18,7 @@ use shr_base::items::Items;
 use shr_base::journals::{DropKind, Entry};
 use shr_base::objects::{Object, Policy};
 use shr_base::places::Serial;
+use shr_base::text::Text;
 use shr_outside::outside::Sink;
 use shr_outside::paper::Paper;
 
@@ -41,6 +42,26 @@ fn kind_of(kind: DropKind) -> &'static [u8]
 // The most bytes of the texts of a line that is printed as one piece.
 const SHORT: usize = 400;
 
+// Whose an object is, the group that it was born in, and its key.
+#[derive(Clone, Copy)]
+struct Named<'a> {
+    by: Serial,
+    birth: u16,
+    key: &'a [u8],
+}
+
+fn named_by(by: Serial, birth: u16, key: &Text) -> Named
+    ensures by { result.by ≡ by }
+    ensures birth { result.birth ≡ birth }
+    ensures key { result.key.now ≡ key.now }
+{
+    Named {
+        by,
+        birth,
+        key: key.bytes(),
+    }
+}
+
 // A command and a birth group.
 #[inline(always)]
 fn add_name(piece: &mut Piece, end: usize, by: Serial, birth: u16) -> usize
@@ -56,36 +77,31 @@ fn add_name(piece: &mut Piece, end: usize, by: Serial, birth: u16) -> usize
 }
 
 // A command, a birth group and a key.
-fn put_name<K: Sink>(out: &mut Paper<K>, by: Serial, birth: u16, key: &[u8])
+fn put_name<K: Sink>(out: &mut Paper<K>, named: Named)
     ensures printed { Prints K.written K.faults out.old out.new
-        (spaced (numeral by.worker ∷ numeral by.command ∷ numeral birth ∷ key.now ∷ [])) }
-    ensures numbers { IsSerialNumbered by }
+        (spaced (numeral named.entry.by.worker ∷ numeral named.entry.by.command
+        ∷ numeral named.entry.birth ∷ named.entry.key.now ∷ [])) }
+    ensures numbers { IsSerialNumbered named.entry.by }
 {
     let mut piece = Piece::new();
     let end = piece.nothing();
-    let start = add_name(&mut piece, end, by, birth);
+    let start = add_name(&mut piece, end, named.by, named.birth);
     piece.put(start, out);
-    add_text(out, key)
+    add_text(out, named.key)
 }
 
 // The line of a key and a value of any length, before the rest of it. It is apart, so that no piece is made for it
 // where it isn't called.
 #[inline(never)]
-fn put_long<K: Sink>(
-    out: &mut Paper<K>,
-    first: &[u8],
-    by: Serial,
-    birth: u16,
-    key: &[u8],
-    value: &[u8],
-)
+fn put_long<K: Sink>(out: &mut Paper<K>, first: &[u8], named: Named, value: &[u8])
     ensures printed { Prints K.written K.faults out.old out.new
-        (first.now ++ spaced (numeral by.worker ∷ numeral by.command ∷ numeral birth ∷ key.now
+        (first.now ++ spaced (numeral named.entry.by.worker ∷ numeral named.entry.by.command
+        ∷ numeral named.entry.birth ∷ named.entry.key.now
         ∷ (61 ∷ value.now) ∷ [])) }
-    ensures numbers { IsSerialNumbered by }
+    ensures numbers { IsSerialNumbered named.entry.by }
 {
     out.put(first);
-    put_name(out, by, birth, key);
+    put_name(out, named);
     add_value(out, value)
 }
 
@@ -96,26 +112,25 @@ fn put_object<K: Sink>(
     piece: &mut Piece,
     rest: usize,
     first: &[u8],
-    by: Serial,
-    birth: u16,
-    key: &[u8],
+    named: Named,
     value: &[u8],
 )
     requires short { length first.now ≤ 8 }
     requires room { (480 ≤ rest) × (rest ≤ 512) }
     ensures printed { Prints K.written K.faults out.old out.new
-        (first.now ++ (spaced (numeral by.worker ∷ numeral by.command ∷ numeral birth ∷ key.now
+        (first.now ++ (spaced (numeral named.entry.by.worker ∷ numeral named.entry.by.command
+        ∷ numeral named.entry.birth ∷ named.entry.key.now
         ∷ (61 ∷ value.now) ∷ []) ++ drop rest piece.old)) }
-    ensures numbers { IsSerialNumbered by }
+    ensures numbers { IsSerialNumbered named.entry.by }
 {
-    if key.len() + value.len() <= SHORT {
+    if named.key.len() + value.len() <= SHORT {
         let start = piece.value(rest, value);
-        let start = piece.text(start, key);
-        let start = add_name(piece, start, by, birth);
+        let start = piece.text(start, named.key);
+        let start = add_name(piece, start, named.by, named.birth);
         let start = piece.exactly(start, first);
         piece.put(start, out)
     } else {
-        put_long(out, first, by, birth, key, value);
+        put_long(out, first, named, value);
         piece.put(rest, out)
     }
 }
@@ -142,35 +157,21 @@ fn item<K: Sink>(out: &mut Paper<K>, piece: &mut Piece, o: &Object)
     ensures numbers { IsObjectNumbered o.now }
 {
     let rest = flags(piece, o);
-    put_object(
-        out,
-        piece,
-        rest,
-        b"item",
-        o.serial,
-        o.birth,
-        o.key.bytes(),
-        o.value.bytes(),
-    )
+    let named = named_by(o.serial, o.birth, &o.key);
+    put_object(out, piece, rest, b"item", named, o.value.bytes())
 }
 
 // The line of what a tenant did with a key of any length, and what came of it, likewise apart.
 #[inline(never)]
-fn put_long_act<K: Sink>(
-    out: &mut Paper<K>,
-    first: &[u8],
-    by: Serial,
-    birth: u16,
-    key: &[u8],
-    outcome: &[u8],
-)
+fn put_long_act<K: Sink>(out: &mut Paper<K>, first: &[u8], named: Named, outcome: &[u8])
     ensures printed { Prints K.written K.faults out.old out.new
-        (line first.now (numeral by.worker ∷ numeral by.command ∷ numeral birth ∷ key.now
+        (line first.now (numeral named.entry.by.worker ∷ numeral named.entry.by.command
+        ∷ numeral named.entry.birth ∷ named.entry.key.now
         ∷ outcome.now ∷ [])) }
-    ensures numbers { IsSerialNumbered by }
+    ensures numbers { IsSerialNumbered named.entry.by }
 {
     out.put(first);
-    put_name(out, by, birth, key);
+    put_name(out, named);
     end_with(out, outcome)
 }
 
@@ -179,25 +180,24 @@ fn put_act<K: Sink>(
     out: &mut Paper<K>,
     piece: &mut Piece,
     first: &[u8],
-    by: Serial,
-    birth: u16,
-    key: &[u8],
+    named: Named,
     outcome: &[u8],
 )
     ensures printed { Prints K.written K.faults out.old out.new
-        (line first.now (numeral by.worker ∷ numeral by.command ∷ numeral birth ∷ key.now
+        (line first.now (numeral named.entry.by.worker ∷ numeral named.entry.by.command
+        ∷ numeral named.entry.birth ∷ named.entry.key.now
         ∷ outcome.now ∷ [])) }
-    ensures numbers { IsSerialNumbered by }
+    ensures numbers { IsSerialNumbered named.entry.by }
 {
-    if first.len() <= 8 && outcome.len() <= 8 && key.len() <= SHORT {
+    if first.len() <= 8 && outcome.len() <= 8 && named.key.len() <= SHORT {
         let start = piece.line_end();
         let start = piece.text(start, outcome);
-        let start = piece.text(start, key);
-        let start = add_name(piece, start, by, birth);
+        let start = piece.text(start, named.key);
+        let start = add_name(piece, start, named.by, named.birth);
         let start = piece.copied(start, first);
         piece.put(start, out)
     } else {
-        put_long_act(out, first, by, birth, key, outcome)
+        put_long_act(out, first, named, outcome)
     }
 }
 
@@ -205,15 +205,14 @@ fn put_act<K: Sink>(
 fn put_offer<K: Sink>(
     out: &mut Paper<K>,
     piece: &mut Piece,
-    by: Serial,
-    birth: u16,
-    key: &[u8],
+    named: Named,
     value: &[u8],
     added: bool,
 )
     ensures printed { Prints K.written K.faults out.old out.new
-        (entry_line (Add by birth added key.now value.now)) }
-    ensures numbers { IsSerialNumbered by }
+        (entry_line (Add named.entry.by named.entry.birth added named.entry.key.now
+        value.now)) }
+    ensures numbers { IsSerialNumbered named.entry.by }
 {
     let end = piece.nothing();
     let rest = if added {
@@ -221,7 +220,7 @@ fn put_offer<K: Sink>(
     } else {
         piece.exactly(end, b" exists\n")
     };
-    put_object(out, piece, rest, b"add", by, birth, key, value)
+    put_object(out, piece, rest, b"add", named, value)
 }
 
 // An entry that a tenant's call made.
@@ -237,7 +236,10 @@ fn put_tenants<K: Sink>(out: &mut Paper<K>, piece: &mut Piece, e: &Entry)
             key,
             value,
             added,
-        } => { put_offer(out, piece, *by, *birth, key.bytes(), value.bytes(), *added) }
+        } => {
+            let named = named_by(*by, *birth, key);
+            put_offer(out, piece, named, value.bytes(), *added)
+        }
         Entry::Look {
             by,
             birth,
@@ -245,7 +247,7 @@ fn put_tenants<K: Sink>(out: &mut Paper<K>, piece: &mut Piece, e: &Entry)
             hit,
         } => {
             let outcome = chosen(*hit, b"hit", b"miss");
-            put_act(out, piece, b"look", *by, *birth, key.bytes(), outcome)
+            put_act(out, piece, b"look", named_by(*by, *birth, key), outcome)
         }
         Entry::Drop {
             by,
@@ -254,7 +256,7 @@ fn put_tenants<K: Sink>(out: &mut Paper<K>, piece: &mut Piece, e: &Entry)
             kind,
         } => {
             let outcome = kind_of(*kind);
-            put_act(out, piece, b"drop", *by, *birth, key.bytes(), outcome)
+            put_act(out, piece, b"drop", named_by(*by, *birth, key), outcome)
         }
         Entry::Pin {
             by,
@@ -265,7 +267,7 @@ fn put_tenants<K: Sink>(out: &mut Paper<K>, piece: &mut Piece, e: &Entry)
         } => {
             let first = chosen(*pinned, b"pin", b"unpin");
             let outcome = chosen(*hit, b"done", b"miss");
-            put_act(out, piece, first, *by, *birth, key.bytes(), outcome)
+            put_act(out, piece, first, named_by(*by, *birth, key), outcome)
         }
         _ => unreachable!(),
     }

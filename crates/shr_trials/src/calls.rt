@@ -14,9 +14,9 @@ use shr_core::counts::Seen;
 use shr_core::seat::Seat;
 use shr_core::table::Core;
 use shr_node::answers::{NodeAdd, NodeDrop, NodeLook, NodePin, NodeScan, SpliceAnswer};
-use shr_node::scanning::scan;
+use shr_node::scanning::{ScanRequest, scan};
 use shr_node::splicing::splice;
-use shr_node::tenants;
+use shr_node::tenants::{self, TenantCall};
 use shr_registry::answers::{FindAnswer, RegisterAnswer, UnregisterAnswer};
 use shr_registry::finding::find;
 use shr_registry::{registering, unregistering};
@@ -165,7 +165,13 @@ pub(crate) fn get<R: Wait>(
         return None;
     }
     let key = Text::of(core.alloc, key).ok()?;
-    Some(tenants::look(rt, core, seat, place.id, place.node, BY, place.group, &key))
+    let call = TenantCall {
+        id: place.id,
+        node: place.node,
+        by: BY,
+        birth: place.group,
+    };
+    Some(tenants::look(rt, core, seat, call, &key))
 }
 
 /// Takes an object out. Our own.
@@ -186,7 +192,13 @@ pub(crate) fn del<R: Wait>(
         return None;
     }
     let key = Text::of(core.alloc, key).ok()?;
-    Some(tenants::drop_key(rt, core, seat, place.id, place.node, BY, place.group, &key))
+    let call = TenantCall {
+        id: place.id,
+        node: place.node,
+        by: BY,
+        birth: place.group,
+    };
+    Some(tenants::drop_key(rt, core, seat, call, &key))
 }
 
 /// Pins an object. Our own.
@@ -207,17 +219,13 @@ pub(crate) fn pin<R: Wait>(
         return None;
     }
     let key = Text::of(core.alloc, key).ok()?;
-    Some(tenants::set_pin(
-        rt,
-        core,
-        seat,
-        place.id,
-        place.node,
-        BY,
-        place.group,
-        &key,
-        true,
-    ))
+    let call = TenantCall {
+        id: place.id,
+        node: place.node,
+        by: BY,
+        birth: place.group,
+    };
+    Some(tenants::set_pin(rt, core, seat, call, &key, true))
 }
 
 /// Scans the list of a group, with a budget of this many visits. Our own.
@@ -237,7 +245,13 @@ pub(crate) fn walk<R: Wait>(
     if !may_call(core, seat, place) {
         return None;
     }
-    Some(scan(rt, core, seat, place, 0, 0, Policy::Clock, asked))
+    let request = ScanRequest {
+        worker: 0,
+        walk: 0,
+        policy: Policy::Clock,
+        asked,
+    };
+    Some(scan(rt, core, seat, place, request))
 }
 
 /// Closes the lists of a group and of those below it. Our own.

@@ -7,7 +7,7 @@ ghost use Rattle.shr_core.specs.Steps.{IsAtRest};
 ghost use Rattle.shr_seats.specs.Standing.{at_first, with_split};
 ghost use Rattle.std.proofs.Props.{props};
 ghost use Rattle.shr_trials.specs.Calm.{IsCalm};
-ghost use Rattle.shr_trials.specs.Seated.{is_holding_prop};
+ghost use Rattle.shr_trials.specs.Seated.{is_holding_prop, is_meeting_prop};
 
 use crate::acts::{Act, Heard, make};
 use crate::calls::{count, hold, place_of, register, rest, unregister, word_of};
@@ -106,7 +106,7 @@ pub(crate) struct Desk {
     pub(crate) core: Core,
     pub(crate) seat: Seat,
     pub(crate) number: u32,
-    ghost seated: { IsOf core seat } by { Prim.hlevel (is_holding_prop core.setting.shape.ids seat.held, props) },
+    ghost seated: { IsOf core seat } by { Prim.hlevel (is_holding_prop core.setting.shape.ids seat.held, is_meeting_prop core.setting.shape (view_of seat).turns.known seat.met, props) },
     ghost calm: { IsCalm (view_of seat) },
     ghost first: { (view_of seat).standing ≡ at_first },
 }

@@ -12,7 +12,7 @@ use shr_base::walks::{Ending, PassRecord};
 use shr_deferred::{Deferred, DeferredSeat};
 use shr_pass::answers::ScanAnswer::{Closed, Freed, NoRoom, Stop, Worn};
 use shr_pass::answers::{Count, PassAnswer, ScanAnswer, ScanSeen};
-use shr_pass::pass::shrink_once;
+use shr_pass::pass::{Pressure, shrink_once};
 use shr_pass::shrinker::Shrinker;
 use shr_seats::rows::Sizes;
 use std::alloc::Global;
@@ -217,9 +217,12 @@ fn pass_of<R: Abort>(
         counts: Vec::new(alloc),
         scans: Vec::new(alloc),
     };
-    match shrink_once(
-        deferred, seat, &mut fake, &mut notes, HERE, priority, seeks, batch,
-    ) {
+    let pressure = Pressure {
+        priority,
+        seeks,
+        batch,
+    };
+    match shrink_once(deferred, seat, &mut fake, &mut notes, HERE, pressure) {
         PassAnswer::Ran { pass } => pass,
         _ => panic!(rt; "no pass"),
     }

@@ -5,7 +5,7 @@ use shr_base::objects::Object;
 use shr_base::places::{Place, Serial};
 use shr_base::text::Text;
 use shr_node::answers::{NodeAdd, NodeDrop};
-use shr_node::tenants;
+use shr_node::tenants::{self, TenantCall};
 use shr_walk::worker::Worker;
 use std::sync::Wait;
 
@@ -56,7 +56,13 @@ pub fn drop_key<R: Wait>(worker: &mut Worker<'_, R>, place: Place, key: &[u8]) -
     hold(shared, &mut worker.seats, place)?;
     let Place { id, node, group } = place;
     let seat = &mut worker.seats.cache.core;
-    let answer = tenants::drop_key(worker.rt, &shared.core, seat, id, node, BY, group, &key);
+    let call = TenantCall {
+        id,
+        node,
+        by: BY,
+        birth: group,
+    };
+    let answer = tenants::drop_key(worker.rt, &shared.core, seat, call, &key);
     rest(shared, &mut worker.seats, place);
     Some(answer)
 }

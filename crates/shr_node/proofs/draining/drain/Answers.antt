@@ -6,7 +6,7 @@ pub draining-init : goal.draining-init
 draining-init g c = let shape : Shape = shape_of c.args.core.now in let v : View = view_of c.args.seat.now in let e : c.len-group.result ≡ groups_in shape = c.len-group.ensures ∙ ap (λ (s : Shape). length s.parents.items) c.shape.ensures in record {
   seat = c.requires.seat;
   there = omega (arith, e);
-  draws = subst (λ (n : ℕ). IsDraining shape v v c.args.id c.args.node c.args.by c.args.into.now.items c.args.into.now.items n) (sym e) (draining_none shape v c.args.id c.args.node c.args.by c.args.into.now.items);
+  draws = subst (λ (n : ℕ). IsDraining shape v v c.args.lists.id c.args.lists.node c.args.by c.args.into.now.items c.args.into.now.items n) (sym e) (draining_none shape v c.args.lists.id c.args.lists.node c.args.by c.args.into.now.items);
 }
 
 pub draining-preserved : goal.draining-preserved
@@ -14,7 +14,7 @@ draining-preserved g c = let core = c.args.core.now in let shape : Shape = shape
     let inv = c.draining.invariant in let o = inv.draws in let there = inv.there in let test = c.draining-test.true in let nodes = core.limits.2 in let groups = core.limits.4 in let node = c.requires.place.1 in let answer = c.in-Drained.ensures.answer in record {
       seat = c.drain_one.ensures.seat;
       there = omega (arith, there);
-      draws = drawing_next shape v u w c.args.id c.args.node c.args.by c.args.into.now.items c.draining.into.items c.drain_one.new.into.items c.draining.group o group (omega (arith, test)) (omega (arith, node, nodes, there, groups)) (omega (arith, node, nodes, there, groups)) (omega (arith, node, nodes, there, groups))
+      draws = drawing_next shape v u w c.args.lists.id c.args.lists.node c.args.by c.args.into.now.items c.draining.into.items c.drain_one.new.into.items c.draining.group o group (omega (arith, test)) (omega (arith, node, nodes, there, groups)) (omega (arith, node, nodes, there, groups)) (omega (arith, node, nodes, there, groups))
           (ap (λ (x : Claims). x.quiet) o.draws.gains.claims ∙ c.requires.quiet) (ap (λ (x : Claims). x.owner) o.draws.gains.claims ∙ c.requires.owns) answer.marks (omega (arith, test)) answer.drawn;
     }
 
@@ -22,8 +22,8 @@ pub returns-in-Worn-clause-answer : goal.returns-in-Worn-clause-answer
 returns-in-Worn-clause-answer g c = let shape : Shape = shape_of c.args.core.now in let v : View = view_of c.args.seat.now in let u : View = view_of c.draining.seat in let w : View = view_of c.drain_one.new.seat in let group : ℕ = c.draining.group - 1 in
     let o = c.draining.invariant.draws in let test = c.draining-test.true in let a = c.in-Worn.ensures.answer in record {
       group = group;
-      stops = drawing_stops shape v u w c.args.id c.args.node c.args.by c.args.into.now.items c.draining.into.items c.drain_one.new.into.items c.draining.group o group (omega (arith, test)) a.0.none a.0.marks;
-      worn = worn_before shape v u w (made_by_draws c.args.id c.args.node c.args.by o.ds) [] c.args.id c.args.node group c.args.by c.in-Worn.spent o.draws.gains a.1;
+      stops = drawing_stops shape v u w c.args.lists.id c.args.lists.node c.args.by c.args.into.now.items c.draining.into.items c.drain_one.new.into.items c.draining.group o group (omega (arith, test)) a.0.none a.0.marks;
+      worn = worn_before shape v u w (made_by_draws c.args.lists.id c.args.lists.node c.args.by o.ds) [] c.args.lists.id c.args.lists.node group c.args.by c.in-Worn.spent o.draws.gains a.1;
     }
 
 pub returns-in-Memory-clause-answer : goal.returns-in-Memory-clause-answer
@@ -32,8 +32,8 @@ returns-in-Memory-clause-answer g c = let shape : Shape = shape_of c.args.core.n
       group = group;
       old = a.old;
       room = a.room;
-      stops = drawing_stops shape v u w c.args.id c.args.node c.args.by c.args.into.now.items c.draining.into.items c.drain_one.new.into.items c.draining.group o group (omega (arith, test)) a.none a.marks;
-      filled = filled_before shape v u w (made_by_draws c.args.id c.args.node c.args.by o.ds) [] c.args.id c.args.node group a.old o.draws.gains a.filled;
+      stops = drawing_stops shape v u w c.args.lists.id c.args.lists.node c.args.by c.args.into.now.items c.draining.into.items c.drain_one.new.into.items c.draining.group o group (omega (arith, test)) a.none a.marks;
+      filled = filled_before shape v u w (made_by_draws c.args.lists.id c.args.lists.node c.args.by o.ds) [] c.args.lists.id c.args.lists.node group a.old o.draws.gains a.filled;
     }
 
 pub returns-clause-answer : goal.returns-clause-answer

@@ -12,7 +12,7 @@ take_room-room-requires-clause-rooms g c = bare_hands (shape_of c.args.core.now)
 pub give_back-requires-clause-ready : goal.give_back-requires-clause-ready
 give_back-requires-clause-ready g c more = let room : Room = c.take_room-room.result in let e = c.take_room-room.ensures in let t : IsOwnTaken (shape_of c.args.core.now) (view_of c.args.seat.now) (view_of c.take_room-room.new.seat) c.args.place room = own_taken c.args.core.now (view_of c.args.seat.now) (view_of c.take_room-room.new.seat) c.args.place room c.requires.rooms c.requires.place e.place e.taken e.told in
     elim c.match-scan.branch as (λ _. IsRoomReady (shape_of c.args.core.now) (view_of c.take_room-room.new.seat) (record { place = room.place; list = c.scan.new.self })) [
-      | in-Scanned w ↦ scan_ready _ _ _ _ room t c.scan.new.self c.args.worker c.args.walk c.args.policy c.args.asked c.requires.holds w.in-Scanned.entry w.in-Scanned.ensures.answer.1
+      | in-Scanned w ↦ scan_ready _ _ _ _ room t c.scan.new.self c.args.request.worker c.args.request.walk c.args.request.policy c.args.request.asked c.requires.holds w.in-Scanned.entry w.in-Scanned.ensures.answer.1
       | in-Closed w ↦ not_grown _ _ _ c.before_call-before.ensures.entries w.in-Closed.ensures.answer.same more
       | in-Worn w ↦ not_grown _ _ _ c.before_call-before.ensures.entries w.in-Worn.ensures.answer.same more
       | in-Memory w ↦ not_grown _ _ _ c.before_call-before.ensures.entries w.in-Memory.ensures.answer.same more
@@ -29,12 +29,12 @@ give_back-requires-clause-untouched g c left = let room : Room = c.take_room-roo
 
 pub returns-clause-answer : goal.returns-clause-answer
 returns-clause-answer g c = let room : Room = c.take_room-room.result in let e = c.take_room-room.ensures in let t : IsOwnTaken (shape_of c.args.core.now) (view_of c.args.seat.now) (view_of c.take_room-room.new.seat) c.args.place room = own_taken c.args.core.now (view_of c.args.seat.now) (view_of c.take_room-room.new.seat) c.args.place room c.requires.rooms c.requires.place e.place e.taken e.told in
-    let gives : NodeScan → Type 0 = λ n. ScanGives (shape_of c.args.core.now) (view_of c.args.seat.now) c.args.place c.args.worker c.args.walk c.args.policy c.args.asked n (view_of c.give_back.new.seat) in
+    let gives : NodeScan → Type 0 = λ n. ScanGives (shape_of c.args.core.now) (view_of c.args.seat.now) c.args.place c.args.request.worker c.args.request.walk c.args.request.policy c.args.request.asked n (view_of c.give_back.new.seat) in
     elim c.match-scan.branch as (λ _. gives c.match-scan.answer) [
       | in-Scanned w ↦ subst gives (sym w.answer-is)
-          (scan_made _ _ _ _ room t c.scan.new.self c.args.worker c.args.walk c.args.policy c.args.asked _ w.in-Scanned.entry w.in-Scanned.freed.items w.in-Scanned.visits w.in-Scanned.stopped w.in-Scanned.ensures.answer.0 w.in-Scanned.ensures.answer.1 (c.give_back.ensures.kept (grown _ _ _ _ _ c.before_call-before.ensures.entries w.in-Scanned.ensures.answer.1)))
-      | in-Closed w ↦ subst gives (sym w.answer-is) (scan_closed _ _ _ _ room t c.scan.new.self c.args.worker c.args.walk c.args.policy c.args.asked _ w.in-Closed.ensures.answer (c.give_back.ensures.left (stayed _ _ _ c.before_call-before.ensures.entries w.in-Closed.ensures.answer.same)))
+          (scan_made _ _ _ _ room t c.scan.new.self c.args.request.worker c.args.request.walk c.args.request.policy c.args.request.asked _ w.in-Scanned.entry w.in-Scanned.freed.items w.in-Scanned.visits w.in-Scanned.stopped w.in-Scanned.ensures.answer.0 w.in-Scanned.ensures.answer.1 (c.give_back.ensures.kept (grown _ _ _ _ _ c.before_call-before.ensures.entries w.in-Scanned.ensures.answer.1)))
+      | in-Closed w ↦ subst gives (sym w.answer-is) (scan_closed _ _ _ _ room t c.scan.new.self c.args.request.worker c.args.request.walk c.args.request.policy c.args.request.asked _ w.in-Closed.ensures.answer (c.give_back.ensures.left (stayed _ _ _ c.before_call-before.ensures.entries w.in-Closed.ensures.answer.same)))
       | in-Worn w ↦ subst gives (sym (w.answer-is ∙ ap (λ (s : Spent). node.Worn s) w.list_spent.ensures))
-          (scan_worn _ _ _ _ room t c.scan.new.self c.args.worker c.args.walk c.args.policy c.args.asked _ w.in-Worn.entries w.in-Worn.items w.in-Worn.ensures.answer (c.give_back.ensures.left (stayed _ _ _ c.before_call-before.ensures.entries w.in-Worn.ensures.answer.same)))
-      | in-Memory w ↦ subst gives (sym w.answer-is) (scan_lacks _ _ _ _ room t c.scan.new.self c.args.worker c.args.walk c.args.policy c.args.asked _ w.in-Memory.ensures.answer (c.give_back.ensures.left (stayed _ _ _ c.before_call-before.ensures.entries w.in-Memory.ensures.answer.same)))
+          (scan_worn _ _ _ _ room t c.scan.new.self c.args.request.worker c.args.request.walk c.args.request.policy c.args.request.asked _ w.in-Worn.entries w.in-Worn.items w.in-Worn.ensures.answer (c.give_back.ensures.left (stayed _ _ _ c.before_call-before.ensures.entries w.in-Worn.ensures.answer.same)))
+      | in-Memory w ↦ subst gives (sym w.answer-is) (scan_lacks _ _ _ _ room t c.scan.new.self c.args.request.worker c.args.request.walk c.args.request.policy c.args.request.asked _ w.in-Memory.ensures.answer (c.give_back.ensures.left (stayed _ _ _ c.before_call-before.ensures.entries w.in-Memory.ensures.answer.same)))
     ]

@@ -6,7 +6,7 @@ invariant-loop-pool g l = record {
   seat : IsPlainSeat l.fn.self l.seat;
   standing : plain_standing l.seat ≡ plain_standing l.fn.seat;
   walks : l.seat.walks ≡ l.fn.seat.walks;
-  tried : AreTried l.fn.self.settings.items l.fn.self.sizes l.fn.by l.fn.walk l.fn.node l.fn.priority 0 l.tries.items (plain_state_of l.fn.seat) (plain_state_of l.seat);
+  tried : AreTried l.fn.self.settings.items l.fn.self.sizes l.fn.walk.by l.fn.walk.number l.fn.walk.node l.fn.walk.priority 0 l.tries.items (plain_state_of l.fn.seat) (plain_state_of l.seat);
   number : length l.tries.items ≡ l.pool;
   spare : length l.fn.self.settings.items ≤ l.pool + l.tries.spare;
   had : All TryHadMemory l.tries.items;
