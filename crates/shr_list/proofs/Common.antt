@@ -1,5 +1,5 @@
 -- The names that the proofs of this crate cite most, passed on from one place. Declares nothing.
-pub use Rattle.std.proofs.Common.{Bool, Contains, List, None, Option, Some, [], add-one, ap, append_assoc, arith, cond, drop, drop-cons, false, get_or, inl, inr, is_some, length, length-append, length-drop, map, min, refl, rules, subst, suc, sym, take, true, zero, ℕ, ◌&&◌, ◌++◌, ◌+◌, ◌-◌, ◌<◌, ◌==◌, ◌∙◌, ◌∷◌, ◌≡◌, ◌≢◌, ◌≤◌}
+pub use Rattle.std.proofs.Common.{Bool, Contains, List, None, Option, Some, [], add-one, ap, append_assoc, arith, cond, drop, drop-cons, false, get_or, inl, inr, is_some, length, length-append, length-drop, map, min, refl, rules, subst, suc, sym, take, true, zero, ℕ, ◌&&◌, ◌++◌, ◌+◌, ◌-◌, ◌<◌, ◌==◌, ◌∙◌, ◌∷◌, ◌≡◌, ◌≢◌, ◌≤◌, ◌⊎◌}
 pub use Rattle.std.proofs.lemmas.Bool.{cases_Bool, cases_eq, eq-eqb, eqb-true, or_parts}
 pub use Rattle.std.proofs.lemmas.List.{append-nil, drop_all, length-map, map-append, nil_from_length, take-append-le, take_all}
 pub use Rattle.std.proofs.lemmas.Map.Lookups.{exact_bytes, exact_unsigned}
@@ -19,11 +19,14 @@ pub use Rattle.shr_model.proofs.ScanLaws.{freed_alike, freed_each, length_scan, 
 pub use Rattle.shr_model.specs.Objects.{change_first, fresh, holds, is_named, marked_object, named_in, pinned_object, unmarked_object, without_first}
 pub use Rattle.shr_model.specs.Scan.{Scanned, case_of, scan_ends, scan_from, scan_of}
 pub use Rattle.slab.specs.Slab.{Slab, Updates, get, slab_len, with_value}
-pub use Rattle.shr_list.specs.Clashes.{AddsClash, IsSameClashes, PutsClash, found_clash, second_at, second_of}
+pub use Rattle.shr_list.specs.Clashes.{AddsClash, IsSameClashes, Name, NodesByName, PutsClash, PutsNode, found_clash, is_same, second_at, second_of}
+pub use Rattle.shr_list.specs.Known.{AdmitsName, EntersNodes, KnowsNames, LosesName, MovesName}
 pub use Rattle.shr_list.specs.Links.{Inserts, IsJoined, IsLinked, IsPath, IsStop, IsStored, Joins, KeepsLinks, KeepsObjects, KeepsOtherObjects, Removes, SetsNext, SetsObject, SetsPrev, next_in, stop_after, nodes_from, nodes_of, object_at, prev_in, prev_of, stops_of}
-pub use Rattle.shr_list.specs.Names.{AddsName, AreNewNames, AreStrangers, EntersNodes, FitsFound, NodesByName, GainsName, IsIndexed, KeepsFound, KnowsNames, Name, Owns, PutsNode, TurnsName, Withdraws, entry_at, in_nodes, is_same, name_by, name_in, names_of, owned, print_of}
+pub use Rattle.shr_list.specs.Names.{AddsName, AreNewNames, AreStrangers, FitsFound, GainsName, IsCrowded, IsIndexed, KeepsFound, Owns, PutsName, TurnsName, Withdraws, entry_at, in_nodes, name_by, name_in, names_of, owned, print_of}
 pub use Rattle.shr_list.specs.Nodes.{AreNodesKept, AtNode, Held, IsApart, IsAt, IsOff, IsQueueWhole, KeepsKeys, Keyed, Queued, bare, first_key, key_at, key_before, key_named, keys_of, last_key, loose_of, objects_of, tags_of, with_mark}
-pub use Rattle.shr_list.specs.Twins.{PutsTwin, found_among, found_twin}
 pub use Rattle.shr_list.specs.declared.queue.chain.Chain.{Chain}
+pub use Rattle.shr_list.specs.declared.queue.clashes.Added.{Added}
+pub use Rattle.shr_list.specs.declared.queue.clashes.Added.TheVariants.{Crowded, Known, New}
+pub use Rattle.shr_list.specs.declared.queue.index.Index.{Index}
+pub use Rattle.shr_list.specs.declared.queue.index.Index.TheVariants.{Few, GivenUp, Made}
 pub use Rattle.shr_list.specs.declared.queue.names.Names.{Names}
-pub use Rattle.shr_list.specs.declared.queue.twins.Twins.{Twins}

@@ -1,5 +1,5 @@
 -- What an index finds, over changes of its prints and of its clashes.
-use Rattle.shr_list.proofs.Common.{◌≡◌, ◌≢◌, ℕ, Bool, true, false, ◌&&◌, ◌==◌, [], Option, Some, None, refl, sym, ap, subst, ◌∙◌, inl, inr, eqb-true, cases_Bool, cases_eq, IsSome, bytes_eq, option_map, if◌then◌else◌, Result, Ok, Err, OnErr, bytes_decides, nat_cmp, UpdatesBy, exact_unsigned, Names, found_clash, AddsClash, IsSameClashes, Name, is_same, print_of, entry_at, PutsNode, KeepsFound, GainsName, TurnsName, and_true, eq-eqb, PutsClash, owned, Owns, NodesByName, FitsFound}
+use Rattle.shr_list.proofs.Common.{◌≡◌, ◌≢◌, ◌⊎◌, Added, New, Known, Crowded, ℕ, true, ◌==◌, [], Option, Some, None, refl, sym, ap, subst, ◌∙◌, inl, inr, eqb-true, cases_Bool, cases_eq, IsSome, bytes_eq, option_map, if◌then◌else◌, Result, Ok, Err, OnErr, bytes_decides, nat_cmp, UpdatesBy, exact_unsigned, Names, found_clash, AddsClash, IsSameClashes, Name, is_same, print_of, entry_at, PutsNode, KeepsFound, GainsName, TurnsName, and_true, eq-eqb, PutsClash, owned, Owns, NodesByName, FitsFound}
 use Rattle.shr_list.proofs.Indexes.{not_equal}
 
 pub same_is : (one other : Name) → is_same one other ≡ true → one ≡ other
@@ -205,14 +205,20 @@ pub gains_clash : (old new : Names) (name : Name) (node : ℕ) → ((print : ℕ
 gains_clash old new name node entries clashes found after fits none puts =
     fits_clash old new name (Some node) found after fits (absent_apart old found fits name none) entries clashes puts
 
--- where the clashes are told a new name, they have it now
-pub gains_told : (old new : Names) (name : Name) (node : ℕ) (added : Bool) → ((print : ℕ) → entry_at new print ≡ entry_at old print) → AddsClash old.clashes new.clashes name node added
-    → GainsName old new name node
-gains_told old new name node true entries adds found after fits none puts = gains_clash old new name node entries adds.1 found after fits none puts
-gains_told old new name node false entries adds found after fits none puts =
+-- a name that the clashes have is not new
+pub gains_known : (old new : Names) (name : Name) (node : ℕ) → IsSome (found_clash old.clashes name) → GainsName old new name node
+gains_known old new name node there found after fits none puts =
     let apart = absent_apart old found fits name none in
     let asked = owned_else (fits.owner (print_of name.0 name.1)) name (entry_at old (print_of name.0 name.1)) (found_clash old.clashes name) (apart (print_of name.0 name.1)) in
-    let some = rw (sym asked ∙ sym (fits.finds name) ∙ none) at adds.0 in absurd (cc)
+    let some = rw (sym asked ∙ sym (fits.finds name) ∙ none) at there in absurd (cc)
+
+-- where the clashes take a name that is told to be new, they have it now
+pub gains_told : (old new : Names) (name : Name) (node : ℕ) (added : Added) → ((print : ℕ) → entry_at new print ≡ entry_at old print) → (added ≡ New) ⊎ (added ≡ Known)
+    → AddsClash old.clashes new.clashes name node added → GainsName old new name node
+gains_told old new name node New entries placed adds = gains_clash old new name node entries adds.1
+gains_told old new name node Known entries placed adds = gains_known old new name node adds.0
+gains_told old new name node Crowded entries (inl is) adds = absurd (cc)
+gains_told old new name node Crowded entries (inr is) adds = absurd (cc)
 
 -- a name that clashes has another node, or none
 pub turns_clash : (old new : Names) (name : Name) (place : Option ℕ) → IsSome (found_clash old.clashes name) → ((print : ℕ) → entry_at new print ≡ entry_at old print)

@@ -1,5 +1,5 @@
 -- Look-ups by birth group and key, and the index over the changes of a list.
-use Rattle.shr_list.proofs.Common.{◌≡◌, ◌≢◌, ℕ, Bool, true, false, ◌&&◌, ◌==◌, List, [], ◌∷◌, ◌++◌, Option, Some, None, refl, sym, ap, subst, ◌∙◌, inl, inr, map-append, eqb-true, cases_Bool, IsSome, is_some, bytes_eq, if◌then◌else◌, bytes_decides, find, list_any, Object, is_named, Names, Keyed, objects_of, key_named, IsOff, IsApart, Name, name_by, name_in, names_of, is_same, in_nodes, PutsNode, KeepsFound, GainsName, TurnsName, IsIndexed, AreNewNames, AreStrangers, and_true, each_weaker, or_parts, change_first, without_first, KnowsNames}
+use Rattle.shr_list.proofs.Common.{◌≡◌, ◌≢◌, ℕ, true, false, ◌==◌, List, [], ◌∷◌, ◌++◌, Option, Some, None, refl, sym, ap, subst, ◌∙◌, inl, inr, map-append, eqb-true, cases_Bool, IsSome, is_some, bytes_eq, if◌then◌else◌, bytes_decides, find, list_any, Object, is_named, Names, Keyed, objects_of, key_named, IsOff, IsApart, Name, name_by, name_in, names_of, is_same, in_nodes, PutsNode, KeepsFound, GainsName, TurnsName, IsIndexed, AreNewNames, AreStrangers, and_true, each_weaker, or_parts, change_first, without_first}
 use Rattle.shr_list.proofs.Paths.{all_append, AreOff, apart_left, apart_right, apart_across, apart_append, off_each}
 use Rattle.shr_list.proofs.Fitting.{fits_alike}
 use Rattle.shr_model.proofs.Booleans.{itself}
@@ -186,7 +186,7 @@ same_swapped xs ys unique name = rw (in_append xs ys name, in_append ys xs name)
     go None is = first_none (in_nodes ys name)
     go (Some k) is = rw (none_off ys name (found_off xs (names_of ys) name k across is)) refl
 
-unique_swapped : (xs ys : List Name) → IsApart (xs ++ ys) → IsApart (ys ++ xs)
+pub unique_swapped : (xs ys : List Name) → IsApart (xs ++ ys) → IsApart (ys ++ xs)
 unique_swapped xs ys unique = apart_append ys xs (apart_right xs ys unique) (apart_left xs ys unique) (turned xs ys (apart_across xs ys unique))
   where
     none_left : (ns : List Name) → AreOff ns []
@@ -216,7 +216,7 @@ pub indexed_kept : (old new : Names) (nodes : List Keyed) → KeepsFound old new
 indexed_kept old new nodes keeps indexed = record { unique = indexed.unique; fits = keeps (in_nodes nodes) indexed.fits }
 
 -- the name is apart from those before it
-unique_last : (nodes : List Keyed) (k : ℕ) (o : Object) → IsApart (names_of nodes) → IsOff (name_by o) (names_of nodes) → IsApart (names_of (nodes ++ (k, o) ∷ []))
+pub unique_last : (nodes : List Keyed) (k : ℕ) (o : Object) → IsApart (names_of nodes) → IsOff (name_by o) (names_of nodes) → IsApart (names_of (nodes ++ (k, o) ∷ []))
 unique_last nodes k o unique off =
     rw (map-append name_in nodes ((k, o) ∷ [])) (apart_append (names_of nodes) (name_by o ∷ []) unique (tt, tt) (off_each (name_by o) (names_of nodes) off))
 
@@ -252,7 +252,7 @@ module _ (xs ys : List Keyed) (k : ℕ) (o : Object) (unique : IsApart (names_of
       rw (map-append name_in xs ys)
       (all_append (λ (t : Name). t ≢ name_by o) (names_of xs) (names_of ys) off_before (apart_right (names_of xs) (name_by o ∷ names_of ys) unique_at).0)
 
-  unique_both : IsApart (names_of (xs ++ ys))
+  pub unique_both : IsApart (names_of (xs ++ ys))
   unique_both =
       rw (map-append name_in xs ys)
       (apart_append (names_of xs) (names_of ys) (apart_left (names_of xs) (name_by o ∷ names_of ys) unique_at)
@@ -260,11 +260,11 @@ module _ (xs ys : List Keyed) (k : ℕ) (o : Object) (unique : IsApart (names_of
       (each_weaker (λ (t : Name). IsOff t (name_by o ∷ names_of ys)) (λ (t : Name). IsOff t (names_of ys)) (λ t off. off.1) (names_of xs)
       (apart_across (names_of xs) (name_by o ∷ names_of ys) unique_at)))
 
-  unique_changed : (m : ℕ) (p : Object) → name_by p ≡ name_by o → IsApart (names_of (xs ++ (m, p) ∷ ys))
+  pub unique_changed : (m : ℕ) (p : Object) → name_by p ≡ name_by o → IsApart (names_of (xs ++ (m, p) ∷ ys))
   unique_changed m p same =
       rw (map-append name_in xs ((m, p) ∷ ys) ∙ ap (λ (n : Name). names_of xs ++ n ∷ names_of ys) same ∙ sym (map-append name_in xs ((k, o) ∷ ys))) unique
 
-  unique_rotated : (p : Object) → name_by p ≡ name_by o → IsApart (names_of ((xs ++ ys) ++ (k, p) ∷ []))
+  pub unique_rotated : (p : Object) → name_by p ≡ name_by o → IsApart (names_of ((xs ++ ys) ++ (k, p) ∷ []))
   unique_rotated p same = unique_last (xs ++ ys) k p unique_both (rw same off_both)
 
 module _ (names : Names) (xs ys : List Keyed) (k : ℕ) (o : Object) (indexed : IsIndexed names (xs ++ (k, o) ∷ ys)) where
@@ -288,7 +288,7 @@ module _ (names : Names) (xs ys : List Keyed) (k : ℕ) (o : Object) (indexed : 
       }
 
   -- the node has an object of the same name
-  indexed_changed : (p : Object) → name_by p ≡ name_by o → IsIndexed names (xs ++ (k, p) ∷ ys)
+  pub indexed_changed : (p : Object) → name_by p ≡ name_by o → IsIndexed names (xs ++ (k, p) ∷ ys)
   indexed_changed p same =
       record {
         unique = unique_changed xs ys k o indexed.unique k p same;
@@ -296,7 +296,7 @@ module _ (names : Names) (xs ys : List Keyed) (k : ℕ) (o : Object) (indexed : 
       }
 
   -- the node stands at the tail, with an object of the same name
-  indexed_rotated : (p : Object) → name_by p ≡ name_by o → IsIndexed names ((xs ++ ys) ++ (k, p) ∷ [])
+  pub indexed_rotated : (p : Object) → name_by p ≡ name_by o → IsIndexed names ((xs ++ ys) ++ (k, p) ∷ [])
   indexed_rotated p same =
       record {
         unique = unique_rotated xs ys k o indexed.unique p same;
@@ -317,48 +317,6 @@ module _ (names : Names) (xs ys : List Keyed) (k : ℕ) (o : Object) (indexed : 
                 let ne = unnamed_is other.0 other.1 o miss in
                 last.others other (λ e. ne (sym (e ∙ same))) ∙ (puts_gone xs ys k o both).others other (λ e. ne (sym e))
           ]
-
--- ---- what a list knows, over changes of the nodes
-
-module _ (names : Names) (nodes xs ys : List Keyed) (k : ℕ) (o : Object) (indexed apart : Bool) (split : nodes ≡ xs ++ (k, o) ∷ ys) (knows : KnowsNames names nodes indexed apart) where
-  index_here : indexed ≡ true → IsIndexed names (xs ++ (k, o) ∷ ys)
-  index_here on = subst (IsIndexed names) split (knows.index on)
-
-  unique_here : apart ≡ true → IsApart (names_of (xs ++ (k, o) ∷ ys))
-  unique_here on = subst (λ (ns : List Keyed). IsApart (names_of ns)) split (knows.unique on)
-
-  -- the node has an object of the same name
-  pub knows_changed : (new : List Keyed) (p : Object) → name_by p ≡ name_by o → new ≡ xs ++ (k, p) ∷ ys → KnowsNames names new indexed apart
-  knows_changed new p same now =
-      record {
-        index = λ on. subst (IsIndexed names) (sym now) (indexed_changed names xs ys k o (index_here on) p same);
-        unique = λ on. subst (λ (ns : List Keyed). IsApart (names_of ns)) (sym now) (unique_changed xs ys k o (unique_here on) k p same);
-      }
-
-  -- the node stands at the tail, with an object of the same name
-  pub knows_rotated : (new : List Keyed) (p : Object) → name_by p ≡ name_by o → new ≡ (xs ++ ys) ++ (k, p) ∷ [] → KnowsNames names new indexed apart
-  knows_rotated new p same now =
-      record {
-        index = λ on. subst (IsIndexed names) (sym now) (indexed_rotated names xs ys k o (index_here on) p same);
-        unique = λ on. subst (λ (ns : List Keyed). IsApart (names_of ns)) (sym now) (unique_rotated xs ys k o (unique_here on) p same);
-      }
-
-  -- the node and its name are gone
-  pub knows_removed : (after : Names) (new : List Keyed) → (indexed ≡ true → TurnsName names after (name_by o) None) → new ≡ xs ++ ys → KnowsNames after new indexed apart
-  knows_removed after new turns now =
-      record {
-        index = λ on. subst (IsIndexed after) (sym now) (indexed_removed names xs ys k o (index_here on) after (turns on));
-        unique = λ on. subst (λ (ns : List Keyed). IsApart (names_of ns)) (sym now) (unique_both xs ys k o (unique_here on));
-      }
-
--- an index that keeps what it found
-pub knows_kept : (old new : Names) (nodes : List Keyed) (indexed apart : Bool) → KeepsFound old new → KnowsNames old nodes indexed apart → KnowsNames new nodes indexed apart
-knows_kept old new nodes indexed apart keeps knows = record { index = λ on. indexed_kept old new nodes keeps (knows.index on); unique = knows.unique }
-
--- a node of a new name stands at the tail
-pub unique_pushed : (nodes : List Keyed) (k : ℕ) (o : Object) → IsApart (names_of nodes) → list_any (is_named o.birth o.key) (objects_of nodes) ≡ false
-    → IsApart (names_of (nodes ++ (k, o) ∷ []))
-unique_pushed nodes k o unique absent = unique_last nodes k o unique (off_unheld o.birth o.key nodes absent)
 
 -- nodes with the same objects have the same names
 pub names_alike : (xs ys : List Keyed) → objects_of xs ≡ objects_of ys → names_of xs ≡ names_of ys

@@ -10,6 +10,7 @@ pub mod Rested
 pub mod Indexes
 pub mod Fitting
 pub mod Indexed
+pub mod Known
 pub mod Lookups
 pub mod Splicing
 pub mod Walks

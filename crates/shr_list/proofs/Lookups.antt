@@ -1,5 +1,5 @@
 -- A look-up of a name by its print, whose node says whose it is.
-use Rattle.shr_list.proofs.Common.{◌≡◌, ℕ, Bool, true, false, List, ◌∷◌, ◌++◌, Some, sym, ap, subst, ◌∙◌, Result, Ok, Err, OnErr, Object, is_named, Names, Keyed, found_clash, AddsClash, IsSameClashes, Name, name_by, print_of, entry_at, in_nodes, IsIndexed, AddsName, KeepsFound, IfOk}
+use Rattle.shr_list.proofs.Common.{◌≡◌, ℕ, IsSome, Added, New, Known, Crowded, true, false, List, ◌∷◌, ◌++◌, Some, sym, ap, subst, ◌∙◌, Result, Ok, Err, OnErr, Object, is_named, Names, Keyed, found_clash, AddsClash, IsSameClashes, Name, name_by, print_of, entry_at, in_nodes, IsIndexed, AddsName, KeepsFound, IfOk}
 use Rattle.shr_base.specs.declared.memory.Memory.{Memory}
 use Rattle.shr_list.proofs.Fitting.{entry_owner, owned_else, fits_kept, gains_clash}
 use Rattle.shr_list.proofs.Indexed.{found_at, named_is, named_itself}
@@ -37,12 +37,13 @@ looked names nodes name k indexed is =
 
 module _ (old new : Names) (entries : (print : ℕ) → entry_at new print ≡ entry_at old print) where
   -- what the clashes are told of a name that they alone may have
-  pub told_clash : (nodes : List Keyed) (name : Name) (node : ℕ) (r : Result Bool Memory) → in_nodes nodes name ≡ found_clash old.clashes name
+  pub told_clash : (nodes : List Keyed) (name : Name) (node : ℕ) (r : Result Added Memory) → IsSome (entry_at old (print_of name.0 name.1)) → in_nodes nodes name ≡ found_clash old.clashes name
       → IfOk r (λ added. AddsClash old.clashes new.clashes name node added) → IfOk r (λ added. AddsName old new nodes name node added)
-  told_clash nodes name node (Ok true) asked adds = (asked ∙ adds.0, gains_clash old new name node entries adds.1)
-  told_clash nodes name node (Ok false) asked adds = (rw asked adds.0, fits_kept old new entries adds.1)
-  told_clash nodes name node (Err e) asked adds = tt
+  told_clash nodes name node (Ok New) taken asked adds = (asked ∙ adds.0, gains_clash old new name node entries adds.1)
+  told_clash nodes name node (Ok Known) taken asked adds = (rw asked adds.0, fits_kept old new entries adds.1)
+  told_clash nodes name node (Ok Crowded) taken asked adds = (asked ∙ adds.0, record { first = taken; second = adds.1 }, fits_kept old new entries adds.2)
+  told_clash nodes name node (Err e) taken asked adds = tt
 
-  pub kept_clash : (r : Result Bool Memory) → OnErr r (IsSameClashes old.clashes new.clashes) → OnErr r (KeepsFound old new)
+  pub kept_clash : (r : Result Added Memory) → OnErr r (IsSameClashes old.clashes new.clashes) → OnErr r (KeepsFound old new)
   kept_clash (Ok added) same = tt
   kept_clash (Err e) same = fits_kept old new entries same

@@ -1,7 +1,8 @@
 -- The index over the objects of another list: admitted, withdrawn again, and found at their new nodes.
-use Rattle.shr_list.proofs.Common.{◌≡◌, ℕ, List, [], ◌∷◌, ◌++◌, length, take, Option, Some, None, refl, sym, ap, subst, ◌∙◌, arith, append_assoc, append-nil, length-map, AllByRecursion, Object, Names, Keyed, objects_of, IsApart, name_by, name_in, names_of, in_nodes, KeepsFound, GainsName, TurnsName, IsIndexed, AreNewNames, Withdraws, EntersNodes, take-append-le, take_all}
+use Rattle.shr_list.proofs.Common.{◌≡◌, ℕ, List, [], ◌∷◌, ◌++◌, length, take, Option, None, refl, sym, ap, subst, ◌∙◌, arith, append_assoc, append-nil, length-map, AllByRecursion, Object, Names, Keyed, objects_of, IsApart, name_by, name_in, names_of, in_nodes, KeepsFound, GainsName, TurnsName, IsIndexed, AreNewNames, Withdraws, Index, KnowsNames, MovesName, EntersNodes, take-append-le, take_all}
 use Rattle.shr_list.proofs.Paths.{all_right}
-use Rattle.shr_list.proofs.Indexed.{first_of, in_append, none_off, off_first, indexed_kept, indexed_pushed, indexed_removed, indexed_turned, indexed_swapped}
+use Rattle.shr_list.proofs.Indexed.{first_of, in_append, none_off, off_first, indexed_kept, indexed_pushed, indexed_removed}
+use Rattle.shr_list.proofs.Known.{knows_swapped}
 
 -- one node more, of those that come
 pub admits_one : (old new : Names) (nodes kids xs ys : List Keyed) (k : ℕ) (o : Object) → kids ≡ xs ++ (k, o) ∷ ys → AreNewNames nodes kids → IsApart (names_of kids)
@@ -46,30 +47,29 @@ none_moved : (kids : List Keyed) → objects_of kids ≡ [] → kids ≡ []
 none_moved [] none = refl
 none_moved (n ∷ ns) none = absurd (cc)
 
-pub enters_none : (names : Names) → EntersNodes names names []
-enters_none names kids nodes rest same indexed = rw (none_moved kids same) at indexed
+pub enters_none : (index : Index) → EntersNodes index index []
+enters_none index kids nodes rest same knows = rw (none_moved kids same) at knows
 
 -- one node more is found by its name
-pub enters_one : (old now new : Names) (front : List Keyed) (k : ℕ) (o : Object) → EntersNodes old now front → TurnsName now new (name_by o) (Some k)
-    → EntersNodes old new (front ++ (k, o) ∷ [])
-enters_one old now new front k o enters turns kids nodes rest same indexed =
+pub enters_one : (old now new : Index) (front : List Keyed) (k : ℕ) (o : Object) → EntersNodes old now front → MovesName now new (name_by o) k → EntersNodes old new (front ++ (k, o) ∷ [])
+enters_one old now new front k o enters moves kids nodes rest same knows =
     let last = last_moved front kids (k, o) same in
-    let was = subst (λ (ns : List Keyed). IsIndexed old (nodes ++ ns)) (ap (λ (ks : List Keyed). ks ++ rest) last.2 ∙ append_assoc last.0 ((last.1, o) ∷ []) rest) indexed in
-    let before = subst (IsIndexed now) (sym (append_assoc nodes front ((last.1, o) ∷ rest))) (enters last.0 nodes ((last.1, o) ∷ rest) last.3 was) in
-    let after = indexed_turned now (nodes ++ front) rest last.1 o before new k o refl turns in
-    subst (IsIndexed new) (append_assoc nodes front ((k, o) ∷ rest) ∙ ap (λ (ns : List Keyed). nodes ++ ns) (sym (append_assoc front ((k, o) ∷ []) rest))) after
+    let was = subst (λ (ns : List Keyed). KnowsNames old (nodes ++ ns)) (ap (λ (ks : List Keyed). ks ++ rest) last.2 ∙ append_assoc last.0 ((last.1, o) ∷ []) rest) knows in
+    let before = subst (KnowsNames now) (sym (append_assoc nodes front ((last.1, o) ∷ rest))) (enters last.0 nodes ((last.1, o) ∷ rest) last.3 was) in
+    let after = moves (nodes ++ front) rest last.1 o refl before in
+    subst (KnowsNames new) (append_assoc nodes front ((k, o) ∷ rest) ∙ ap (λ (ns : List Keyed). nodes ++ ns) (sym (append_assoc front ((k, o) ∷ []) rest))) after
 
--- the objects of another list stand before these, and are found by their names
-pub indexed_spliced : (old new : Names) (nodes kids front : List Keyed) → objects_of front ≡ objects_of kids → IsIndexed old (nodes ++ kids) → EntersNodes old new front
-    → IsIndexed new (front ++ nodes)
-indexed_spliced old new nodes kids front same indexed enters =
-    let entered = enters kids nodes [] (sym same) (rw append-nil indexed) in
-    indexed_swapped new nodes front (rw append-nil at entered)
+-- the objects of another list stand behind these, and are found by their names
+pub knows_behind : (old new : Index) (nodes kids back : List Keyed) → objects_of back ≡ objects_of kids → KnowsNames old (nodes ++ kids) → EntersNodes old new back
+    → KnowsNames new (nodes ++ back)
+knows_behind old new nodes kids back same knows enters =
+    let was = subst (λ (ns : List Keyed). KnowsNames old (nodes ++ ns)) (sym (append-nil kids)) knows in
+    subst (λ (ns : List Keyed). KnowsNames new (nodes ++ ns)) (append-nil back) (enters kids nodes [] (sym same) was)
 
--- or behind them
-pub indexed_followed : (old new : Names) (nodes kids back : List Keyed) → objects_of back ≡ objects_of kids → IsIndexed old (nodes ++ kids) → EntersNodes old new back
-    → IsIndexed new (nodes ++ back)
-indexed_followed old new nodes kids back same indexed enters = rw append-nil at (enters kids nodes [] (sym same) (rw append-nil indexed))
+-- or before them
+pub knows_before : (old new : Index) (nodes kids front : List Keyed) → objects_of front ≡ objects_of kids → KnowsNames old (nodes ++ kids) → EntersNodes old new front
+    → KnowsNames new (front ++ nodes)
+knows_before old new nodes kids front same knows enters = knows_swapped new nodes front (knows_behind old new nodes kids front same knows enters)
 
 -- the moved nodes are the first
 pub take_front : (front nodes kids : List Keyed) → objects_of front ≡ objects_of kids → take (length kids) (front ++ nodes) ≡ front

@@ -1,9 +1,9 @@
 pub mod Listed
 pub mod Nodes
 pub mod Links
-pub mod Twins
 pub mod Clashes
 pub mod Names
+pub mod Known
 pub mod Boxes
 pub mod Scanning
 pub mod Answers

@@ -5,10 +5,12 @@ use Rattle.std.specs.Ordering.{nat_cmp}
 use Rattle.std.specs.Hash.FoldHasher.{initial, write, finish}
 use Rattle.std.specs.BTreeMap.{get}
 use Rattle.shr_base.specs.declared.objects.Object.{Object}
+use Rattle.shr_list.specs.declared.queue.clashes.Added.{Added}
+use Rattle.shr_list.specs.declared.queue.clashes.Added.TheVariants.{New, Known, Crowded}
 use Rattle.shr_list.specs.declared.queue.names.Names.{Names}
-use Rattle.shr_list.specs.Nodes.{Keyed, IsApart, key_named, objects_of}
+use Rattle.shr_list.specs.Nodes.{Keyed, IsApart, key_named}
 pub use Rattle.shr_list.specs.Clashes.{Name, NodesByName, PutsNode, is_same}
-use Rattle.shr_list.specs.Clashes.{found_clash}
+use Rattle.shr_list.specs.Clashes.{found_clash, second_at, second_of}
 
 -- the name of an object
 abbrev pub name_by : Object → Name
@@ -73,16 +75,22 @@ pub record IsIndexed (names : Names) (nodes : List Keyed) : Type 0 where
   pub unique : IsApart (names_of nodes)
   pub fits : FitsFound names (in_nodes nodes)
 
--- What a list knows of its names: where it has an index that finds each name's node, and where it
--- says so no two objects have one name.
-pub record KnowsNames (names : Names) (nodes : List Keyed) (indexed apart : Bool) : Type 0 where
-  pub index : indexed ≡ true → IsIndexed names nodes
-  pub unique : apart ≡ true → IsApart (names_of nodes)
+-- others have both prints of the name
+pub record IsCrowded (names : Names) (name : Name) : Type 0 where
+  pub first : IsSome (entry_at names (print_of name.0 name.1))
+  pub second : IsSome (second_at names.clashes (second_of name.0 name.1))
 
--- none of the nodes has the name, which has this node now, or one has it and nothing changed
-abbrev pub AddsName : Names → Names → List Keyed → Name → ℕ → Bool → Type 0
-AddsName old new nodes name node true = (in_nodes nodes name ≡ None) × GainsName old new name node
-AddsName old new nodes name node false = IsSome (in_nodes nodes name) × KeepsFound old new
+-- none of the nodes has the name, which has this node now; or one has it; or none has it, and it
+-- has no place
+abbrev pub AddsName : Names → Names → List Keyed → Name → ℕ → Added → Type 0
+AddsName old new nodes name node New = (in_nodes nodes name ≡ None) × GainsName old new name node
+AddsName old new nodes name node Known = IsSome (in_nodes nodes name) × KeepsFound old new
+AddsName old new nodes name node Crowded = (in_nodes nodes name ≡ None) × IsCrowded old name × KeepsFound old new
+
+-- a name that is new has this node now, or it has no place
+abbrev pub PutsName : Names → Names → Name → ℕ → Bool → Type 0
+PutsName old new name node true = GainsName old new name node
+PutsName old new name node false = IsCrowded old name × KeepsFound old new
 
 -- none of the second nodes has the name of one of the first
 abbrev pub AreNewNames : List Keyed → List Keyed → Type 0
@@ -97,8 +105,3 @@ pub record AreStrangers (nodes kids : List Keyed) : Type 0 where
 -- these nodes are not indexed any more, and the others are
 abbrev pub Withdraws : Names → Names → List Keyed → Type 0
 Withdraws old new kids = (nodes rest : List Keyed) → IsIndexed old (nodes ++ (kids ++ rest)) → IsIndexed new (nodes ++ rest)
-
--- these nodes are indexed in place of others with the same objects
-abbrev pub EntersNodes : Names → Names → List Keyed → Type 0
-EntersNodes old new front =
-    (kids nodes rest : List Keyed) → objects_of kids ≡ objects_of front → IsIndexed old (nodes ++ (kids ++ rest)) → IsIndexed new (nodes ++ (front ++ rest))

@@ -7,9 +7,8 @@ ghost use Rattle.shr_model.specs.Objects.{is_named, holds, named_in, marked_obje
 ghost use Rattle.shr_list.specs.Nodes.{IsQueueWhole, slot_at, IsApart, KeepsKeys, PushGives, first_key, key_named, IsAt, AtNode, loose_of};
 
 use crate::answers::Slot;
+use crate::queue::index::Index;
 use crate::queue::links::Links;
-use crate::queue::names::Names;
-use crate::queue::splicing::admit;
 use shr_base::items::Items;
 use shr_base::journals::DropKind;
 use shr_base::log::Log;
@@ -21,11 +20,11 @@ use std::marker::Model;
 
 mod chain;
 mod clashes;
+mod index;
 mod links;
 mod names;
 pub mod scanning;
 mod splicing;
-mod twins;
 
 /// Objects from the head to the tail. Contracts see them, and the keys under which they are kept.
 ///
@@ -33,20 +32,13 @@ mod twins;
 #[derive(Drop)]
 pub struct Queue {
     links: Links,
-    names: Names,
-    // `names` has all objects. A list of a few is searched from the head.
-    indexed: bool,
-    // No two objects have one birth group and key. A list that took in an object of a name that it
-    // has is searched from the head until it is emptied.
-    apart: bool,
+    index: Index,
+    alloc: Global,
 }
-
-// So many objects are found as soon from the head as by an index.
-const FEW: usize = 8;
 
 impl Model for Queue {
     ghost use Rattle.shr_list.specs.Nodes.{Queued, keys_of, objects_of};
-    ghost use Rattle.shr_list.specs.Names.{KnowsNames};
+    ghost use Rattle.shr_list.specs.Known.{KnowsNames};
 
     ghost Value = { Queued };
 
@@ -56,7 +48,7 @@ impl Model for Queue {
       items = objects_of q.links.nodes;
     } };
 
-    ghost invariant = { λ q. KnowsNames q.names q.links.nodes q.indexed q.apart };
+    ghost invariant = { λ q. KnowsNames q.index q.links.nodes };
 }
 
 impl Queue {
@@ -68,9 +60,8 @@ impl Queue {
     {
         Queue {
             links: Links::new(alloc),
-            names: Names::new(alloc),
-            indexed: false,
-            apart: true,
+            index: Index::Few,
+            alloc,
         }
     }
 
@@ -108,11 +99,7 @@ impl Queue {
         ensures named { result ≡ key_named birth key.now self.now.nodes }
         ensures whole { IsQueueWhole self.now }
     {
-        if self.indexed {
-            self.names.get(&self.links, birth, key)
-        } else {
-            self.links.find(birth, key)
-        }
+        self.index.find(&self.links, birth, key)
     }
 
     /// Whether an object has this birth group and key. Our own.
@@ -137,15 +124,7 @@ impl Queue {
     fn prepare(&mut self, more: usize) -> Result<(), Memory>
         ensures { self.new ≡ self.old }
     {
-        let few = self.links.len().saturating_add(more) <= FEW;
-        if few || self.indexed || !self.apart {
-            return Ok(());
-        }
-        self.names.clear();
-        let none = Links::new(self.names.alloc);
-        admit(&mut self.names, &none, &self.links, true)?;
-        self.indexed = true;
-        Ok(())
+        self.index.prepare(self.alloc, &self.links, more)
     }
 
     // Appends an object as `push` does.
@@ -155,21 +134,10 @@ impl Queue {
         ensures kept { OnErr result (self.new ≡ self.old) }
         ensures back { IfErr result (λ given. given ≡ object) }
     {
-        if !self.indexed && self.links.find(object.birth, &object.key).is_some() {
-            return Ok(false);
-        }
-        if self.links.reserve(1).is_err() {
-            return Err(object);
-        }
-        if self.indexed {
-            let Some(node) = self.links.vacant() else {
-                return Err(object);
-            };
-            match self.names.add(&self.links, object.birth, &object.key, node) {
-                Ok(true) => {}
-                Ok(false) => return Ok(false),
-                Err(Memory) => return Err(object),
-            }
+        match self.index.admit(&mut self.links, object.birth, &object.key) {
+            Ok(true) => {}
+            Ok(false) => return Ok(false),
+            Err(Memory) => return Err(object),
         }
         object.marked = false;
         object.pinned = false;
@@ -286,9 +254,7 @@ impl Queue {
         ensures whole { IsQueueWhole self.new }
     {
         let object = self.links.remove(node);
-        if self.indexed {
-            self.names.remove(object.birth, &object.key);
-        }
+        self.index.remove(object.birth, &object.key);
         object
     }
 
@@ -311,12 +277,10 @@ impl Queue {
         ensures taken { IfOk result (λ all. (all.items ≡ self.old.items) × (self.new.items ≡ [])) }
         ensures kept { OnErr result (self.new ≡ self.old) }
     {
-        let mut all = Log::new(self.names.alloc);
+        let mut all = Log::new(self.alloc);
         all.reserve(self.links.len())?;
         self.links.empty_into(&mut all);
-        self.names.clear();
-        self.indexed = false;
-        self.apart = true;
+        self.index = Index::Few;
         Ok(all)
     }
 

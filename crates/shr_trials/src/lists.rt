@@ -5,7 +5,7 @@ use shr_base::memory::Memory;
 use shr_base::objects::{Object, Policy};
 use shr_base::places::Serial;
 use shr_base::text::Text;
-use shr_list::answers::{AddAnswer, CloseAnswer, ListScan, Slot};
+use shr_list::answers::{AddAnswer, CloseAnswer, DropAnswer, ListScan, Slot};
 use shr_list::list::List;
 use std::alloc::Global;
 use std::hash::{FoldHasher, Hasher};
@@ -246,6 +246,53 @@ fn two_objects_are_too_many_for_a_parent_with_room_for_one(rt: HostRuntime) -> R
     let (first, second) = close_twice(rt.alloc())?;
     assert_eq!(rt; first, (Some(worn), (2, 1), (2, 1)));
     assert_eq!(rt; second, (Some(moved), (0, 2), (3, 3)));
+    Ok(())
+}
+
+const TEN: &[u8; 10] = b"abcdefghij";
+
+// How many objects of ten keys of a letter a list takes. A list of ten has an index.
+fn add_ten(alloc: Global, list: &mut List) -> Result<u32, Fail> {
+    let mut added = 0;
+    for letter in TEN {
+        if told(list.add(object(alloc, &[*letter])?)).0 == "added" {
+            added += 1;
+        }
+    }
+    Ok(added)
+}
+
+// How often an object of this key is dropped, in three tries.
+fn drops(list: &mut List, key: &Text) -> u32 {
+    let mut dropped = 0;
+    for _ in 0..3 {
+        if let DropAnswer::Dropped { .. } = list.drop_key(BY, 1, key) {
+            dropped += 1;
+        }
+    }
+    dropped
+}
+
+// Closes a list of ten into one of the same names, and drops a name there as often as it comes.
+// Then it is emptied, and takes ten once more, and no two of a name.
+fn take_each_twice(alloc: Global) -> Result<[u32; 5], Fail> {
+    let key = Text::of(alloc, b"d")?;
+    let mut child = List::new(alloc, 10, 100);
+    let mut parent = List::new(alloc, 30, 100);
+    add_ten(alloc, &mut child)?;
+    add_ten(alloc, &mut parent)?;
+    close(&mut child, &mut parent);
+    let twice = drops(&mut parent, &key);
+    let many = parent.len();
+    parent.scan(0, 0, Policy::Plain, 30);
+    let added = add_ten(alloc, &mut parent)?;
+    let again = add_ten(alloc, &mut parent)?;
+    Ok([twice, many, added, again, drops(&mut parent, &key)])
+}
+
+#[test]
+fn a_list_with_each_name_twice_finds_both(rt: HostRuntime) -> Result<(), Fail> {
+    assert_eq!(rt; take_each_twice(rt.alloc())?, [2, 18, 10, 0, 1]);
     Ok(())
 }
 

@@ -1,16 +1,25 @@
 //! The names whose print another name has: from a birth group and a key to the node.
 
 ghost use Rattle.std.specs.Prelude.{◌≡◌, Some, None, IfOk, OnErr, IsSome};
-ghost use Rattle.shr_list.specs.Twins.{is_same};
-ghost use Rattle.shr_list.specs.Clashes.{second_of, named_by, found_clash, AddsClash, PutsClash, IsSameClashes};
+ghost use Rattle.shr_list.specs.Clashes.{is_same, second_of, named_by, found_clash, AddsClash, PutsClash, IsSameClashes};
 
-use crate::queue::twins::Twins;
 use shr_base::memory::Memory;
 use shr_base::text::Text;
 use std::alloc::Global;
 use std::collections::BTreeMap;
 use std::collections::btree_map::Entry;
 use std::hash::{DefaultHasher, Hasher};
+
+/// What became of a name that was to be added. Our own.
+#[derive(Clone, Copy)]
+pub enum Added {
+    /// It was not there, and has its node now.
+    New,
+    /// It is there.
+    Known,
+    /// It is not there, and has no place: other names have both its prints.
+    Crowded,
+}
 
 /// A name and the key of its node. Our own.
 #[derive(Drop)]
@@ -20,23 +29,23 @@ struct Named {
     node: u32,
 }
 
-/// A tree of second prints. Names that share these too are hard to find, and have trees of their
-/// own: no choice of keys makes a look-up slow. Our own.
+/// A tree of second prints, each with the name that has it. Our own.
 #[derive(Drop)]
 pub struct Clashes {
-    seconds: BTreeMap<u64, Named>,
-    twins: Twins,
+    seconds: BTreeMap<u128, Named>,
 }
 
-// Another number that is the same for the same name. Its hash is slower than that of the first, and
-// keys on which it is alike are harder to choose.
+// Another number that is the same for the same name: the hashes of its key and of its key twice.
 #[tactic(auto, unfolding(crate::specs::Clashes::second_of))]
-fn second_of(birth: u16, key: &Text) -> u64
+fn second_of(birth: u16, key: &Text) -> u128
     ensures { result ≡ second_of birth key.now }
 {
     let mut hasher = DefaultHasher::default();
     hasher.write(key.bytes());
-    hasher.finish().wrapping_add(birth as u64)
+    let low = hasher.finish() as u128;
+    hasher.write(key.bytes());
+    let high = (hasher.finish() as u128).wrapping_mul(1 << 64);
+    high.wrapping_add(low).wrapping_add(birth as u128)
 }
 
 impl Named {
@@ -55,7 +64,6 @@ impl Clashes {
     {
         Clashes {
             seconds: BTreeMap::new(alloc),
-            twins: Twins::new(alloc),
         }
     }
 
@@ -63,7 +71,7 @@ impl Clashes {
     pub fn get(&self, birth: u16, key: &Text) -> Option<u32>
         ensures { result ≡ found_clash self.now (birth, key.now) }
     {
-        if self.seconds.is_empty() && self.twins.is_empty() {
+        if self.seconds.is_empty() {
             return None;
         }
         self.search(birth, key)
@@ -76,33 +84,31 @@ impl Clashes {
     {
         match self.seconds.get(&second_of(birth, key)) {
             Some(named) if named.is(birth, key) => Some(named.node),
-            _ => self.twins.get(birth, key),
+            _ => None,
         }
     }
 
-    /// Makes this the node of the name, if it is not there, and answers whether it was not. If
-    /// there is no memory for it the names stay. Our own.
-    pub fn add(&mut self, birth: u16, key: &Text, node: u32) -> Result<bool, Memory>
+    /// Makes this the node of the name, if it is not there and its second print is no other's, and
+    /// answers which of these is so. If it is not made so, also for want of memory, the names stay.
+    /// Our own.
+    pub fn add(&mut self, birth: u16, key: &Text, node: u32) -> Result<Added, Memory>
         ensures told { IfOk result (λ added. AddsClash self.old self.new (birth, key.now) node
             added) }
         ensures kept { OnErr result (IsSameClashes self.old self.new) }
     {
         match self.seconds.entry(second_of(birth, key))? {
             Entry::Vacant(place) => {
-                if self.twins.get(birth, key).is_some() {
-                    return Ok(false);
-                }
                 let key = key.copy()?;
                 place.insert(Named { birth, key, node });
+                Ok(Added::New)
             }
             Entry::Occupied(place) => {
-                if place.get().is(birth, key) || self.twins.get(birth, key).is_some() {
-                    return Ok(false);
+                if place.get().is(birth, key) {
+                    return Ok(Added::Known);
                 }
-                self.twins.add(birth, key, node)?;
+                Ok(Added::Crowded)
             }
         }
-        Ok(true)
     }
 
     /// Makes this the node of a name that is there. It takes no memory. Our own.
@@ -110,9 +116,8 @@ impl Clashes {
         requires { IsSome (found_clash self.old (birth, key.now)) }
         ensures { PutsClash self.old self.new (birth, key.now) (Some node) }
     {
-        match self.seconds.get_mut(&second_of(birth, key)) {
-            Some(named) if named.is(birth, key) => named.node = node,
-            _ => self.twins.turn(birth, key, node),
+        if let Some(named) = self.seconds.get_mut(&second_of(birth, key)) {
+            named.node = node;
         }
     }
 
@@ -126,14 +131,5 @@ impl Clashes {
                 self.seconds.remove(&second);
             }
         }
-        self.twins.remove(birth, key);
-    }
-
-    /// Takes every name out. Our own.
-    pub fn clear(&mut self)
-        ensures { (name : _) → found_clash self.new name ≡ None }
-    {
-        self.seconds.clear();
-        self.twins.clear();
     }
 }

@@ -1,10 +1,10 @@
-//! The index of a list's objects: from a birth group and a key to a node.
+//! An index of objects: from a birth group and a key to a node.
 
-ghost use Rattle.std.specs.Prelude.{◌≡◌, [], None, OnOk, IfOk, OnErr, Some};
+ghost use Rattle.std.specs.Prelude.{◌≡◌, [], None, IfOk, OnErr, Some};
 ghost use Rattle.shr_list.specs.Nodes.{key_named};
-ghost use Rattle.shr_list.specs.Names.{print_of, IsIndexed, AddsName, KeepsFound, GainsName, TurnsName};
+ghost use Rattle.shr_list.specs.Names.{print_of, IsIndexed, AddsName, PutsName, KeepsFound, TurnsName};
 
-use crate::queue::clashes::Clashes;
+use crate::queue::clashes::{Added, Clashes};
 use crate::queue::links::Links;
 use shr_base::memory::Memory;
 use shr_base::text::Text;
@@ -14,11 +14,15 @@ use std::collections::btree_map::Entry;
 use std::hash::{FoldHasher, Hasher};
 
 /// A tree of prints, and the names whose print another has by a second one, since strangers choose
-/// the keys: no choice of keys makes a look-up slower than some hundred comparisons. A print has a
-/// node alone: whose it is stands at the object. Our own.
+/// the keys: a look-up takes some hundred comparisons at most. A print has a node alone: whose it
+/// is stands at the object.
+///
+/// A name both of whose prints other names have gets no place here, and its list gives the index
+/// up. Both have to be hit at once, the first of 64 bits and the second of 128: keys of one first
+/// print are soon made, but as far as is known some 2^64 of them have to be tried before two have
+/// one second print too. Our own.
 #[derive(Drop)]
 pub struct Names {
-    pub alloc: Global,
     prints: BTreeMap<u64, u32>,
     clashes: Clashes,
 }
@@ -39,7 +43,6 @@ impl Names {
         ensures { IsIndexed result [] }
     {
         Names {
-            alloc,
             prints: BTreeMap::new(alloc),
             clashes: Clashes::new(alloc),
         }
@@ -56,9 +59,9 @@ impl Names {
         }
     }
 
-    /// Makes this the node of a name, if none of these has it, and answers whether none has. If
-    /// there is no memory for it the names stay. Our own.
-    pub fn add(&mut self, links: &Links, birth: u16, key: &Text, node: u32) -> Result<bool, Memory>
+    /// Makes this the node of a name, if none of these has it and it has a place, and answers which
+    /// of these is so. If it is not made so, also for want of memory, the names stay. Our own.
+    pub fn add(&mut self, links: &Links, birth: u16, key: &Text, node: u32) -> Result<Added, Memory>
         requires { IsIndexed self.old links.now.nodes }
         ensures told { IfOk result (λ added. AddsName self.old self.new links.now.nodes
             (birth, key.now) node added) }
@@ -67,35 +70,37 @@ impl Names {
         match self.prints.entry(print_of(birth, key))? {
             Entry::Vacant(place) => {
                 if self.clashes.get(birth, key).is_some() {
-                    return Ok(false);
+                    return Ok(Added::Known);
                 }
                 place.insert(node);
-                Ok(true)
+                Ok(Added::New)
             }
             Entry::Occupied(place) => {
                 if links.has_name(*place.get(), birth, key) {
-                    return Ok(false);
+                    return Ok(Added::Known);
                 }
                 self.clashes.add(birth, key, node)
             }
         }
     }
 
-    /// Makes this the node of a name that is new. If there is no memory for it the names stay.
-    /// Our own.
-    pub fn put(&mut self, birth: u16, key: &Text, node: u32) -> Result<(), Memory>
-        ensures put { OnOk result (GainsName self.old self.new (birth, key.now) node) }
+    /// Makes this the node of a name that is new, if it has a place, and answers whether it has. If
+    /// it has none, or for want of memory, the names stay. Our own.
+    pub fn put(&mut self, birth: u16, key: &Text, node: u32) -> Result<bool, Memory>
+        ensures put { IfOk result (λ placed. PutsName self.old self.new (birth, key.now) node
+            placed) }
         ensures kept { OnErr result (KeepsFound self.old self.new) }
     {
         match self.prints.entry(print_of(birth, key))? {
             Entry::Vacant(place) => {
                 place.insert(node);
+                Ok(true)
             }
-            Entry::Occupied(_) => {
-                self.clashes.add(birth, key, node)?;
-            }
+            Entry::Occupied(_) => match self.clashes.add(birth, key, node)? {
+                Added::New | Added::Known => Ok(true),
+                Added::Crowded => Ok(false),
+            },
         }
-        Ok(())
     }
 
     /// Makes this the node of a name that is there. It takes no memory. Our own.
@@ -118,13 +123,5 @@ impl Names {
         } else {
             self.prints.remove(&print_of(birth, key));
         }
-    }
-
-    /// Takes every name out. Our own.
-    pub fn clear(&mut self)
-        ensures { IsIndexed self.new [] }
-    {
-        self.prints.clear();
-        self.clashes.clear();
     }
 }

@@ -145,7 +145,7 @@ impl Queue {
         ensures kept { OnErr result (self.new ≡ self.old) }
         ensures keys { KeepsKeys self.old.keys self.old.items self.new.keys self.new.items }
     {
-        let mut freed = Log::new(self.names.alloc);
+        let mut freed = Log::new(self.alloc);
         let met = go_through(self, &mut freed, policy, asked)?;
         Ok(Scan {
             freed,

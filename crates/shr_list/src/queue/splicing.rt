@@ -1,10 +1,12 @@
 //! How a queue takes in another's objects, and its index their names.
 
-ghost use Rattle.std.specs.Prelude.{◌≡◌, ◌↔◌, ◌≤◌, ◌++◌, [], List, true, false, length, take, OnOk, OnErr};
+ghost use Rattle.std.specs.Prelude.{◌≡◌, ◌↔◌, ◌≤◌, ◌++◌, [], List, true, false, length, take, OnOk, OnErr, IfOk};
 ghost use Rattle.shr_list.specs.Nodes.{Keyed, objects_of};
-ghost use Rattle.shr_list.specs.Names.{AreNewNames, AreStrangers, Withdraws, EntersNodes, IsIndexed};
+ghost use Rattle.shr_list.specs.Names.{AreNewNames, AreStrangers, Withdraws, IsIndexed};
+ghost use Rattle.shr_list.specs.Known.{EntersNodes};
 
 use crate::queue::Queue;
+use crate::queue::index::Index;
 use crate::queue::links::Links;
 use crate::queue::names::Names;
 use shr_base::memory::Memory;
@@ -26,37 +28,38 @@ fn withdraw(names: &mut Names, links: &Links, count: usize)
     }
 }
 
-/// Makes room for the names of another list's objects, by putting them there, if that is wanted. If
-/// there is no memory the names stay. Our own.
-pub fn admit(names: &mut Names, links: &Links, other: &Links, wanted: bool) -> Result<(), Memory>
-    requires indexed { wanted ≡ true → IsIndexed names.old links.now.nodes }
-    requires strangers { wanted ≡ true → AreStrangers links.now.nodes other.now.nodes }
-    ensures admitted { OnOk result (wanted ≡ true → IsIndexed names.new (links.now.nodes
+/// Puts the names of another list's objects into an index, by the nodes that they have there, and
+/// answers whether each has a place. If there is no memory the names stay. Our own.
+pub fn enlist(names: &mut Names, links: &Links, other: &Links) -> Result<bool, Memory>
+    requires indexed { IsIndexed names.old links.now.nodes }
+    requires strangers { AreStrangers links.now.nodes other.now.nodes }
+    ensures placed { IfOk result (λ placed. placed ≡ true → IsIndexed names.new (links.now.nodes
         ++ other.now.nodes)) }
     ensures kept { OnErr result (IsIndexed names.new links.now.nodes) }
 {
-    if !wanted {
-        return Ok(());
-    }
     let mut at = other.head();
     for met in 0..other.len() {
         let Some(node) = at else {
-            return Ok(());
+            return Ok(false);
         };
         let object = other.object(node);
-        if names.put(object.birth, &object.key, node).is_err() {
-            withdraw(names, other, met);
-            return Err(Memory);
+        match names.put(object.birth, &object.key, node) {
+            Ok(true) => {}
+            Ok(false) => return Ok(false),
+            Err(Memory) => {
+                withdraw(names, other, met);
+                return Err(Memory);
+            }
         }
         at = other.next(node);
     }
-    Ok(())
+    Ok(true)
 }
 
 // Makes the first `count` objects the nodes of their names, which are there.
-fn enter(names: &mut Names, links: &Links, count: usize)
+fn enter(index: &mut Index, links: &Links, count: usize)
     requires { count ≤ length links.now.nodes }
-    ensures { EntersNodes names.old names.new (take count links.now.nodes) }
+    ensures { EntersNodes index.old index.new (take count links.now.nodes) }
 {
     let mut at = links.head();
     for met in 0..count {
@@ -64,7 +67,7 @@ fn enter(names: &mut Names, links: &Links, count: usize)
             return;
         };
         let object = links.object(node);
-        names.turn(object.birth, &object.key, node);
+        index.turn(object.birth, &object.key, node);
         at = links.next(node);
     }
 }
@@ -73,16 +76,16 @@ fn enter(names: &mut Names, links: &Links, count: usize)
 // their names. It costs their number.
 //
 // Linux: `list_splice_tail_init` in include/linux/list.h, which links the two ends only.
-fn move_behind(names: &mut Names, links: &mut Links, other: &mut Links)
+fn move_behind(index: &mut Index, links: &mut Links, other: &mut Links)
     requires { length other.old.nodes ≤ links.old.spare }
     ensures moved { (back : List Keyed) × (links.new.nodes ≡ links.old.nodes ++ back)
-        × (objects_of back ≡ objects_of other.old.nodes) × EntersNodes names.old names.new back }
+        × (objects_of back ≡ objects_of other.old.nodes) × EntersNodes index.old index.new back }
     ensures emptied { other.new.nodes ≡ [] }
 {
     while let Some(node) = other.head() {
         let moved = links.push_back(other.remove(node));
         let object = links.object(moved);
-        names.turn(object.birth, &object.key, moved);
+        index.turn(object.birth, &object.key, moved);
     }
 }
 
@@ -106,20 +109,11 @@ impl Queue {
         let count = other.links.len();
         self.prepare(count)?;
         let apart = self.is_apart_from(other);
-        let indexed = self.indexed & apart;
         self.links.reserve(count)?;
-        admit(&mut self.names, &self.links, &other.links, indexed)?;
+        self.index.take_in(&self.links, &other.links, apart)?;
         self.links.put_before(&mut other.links);
-        if indexed {
-            enter(&mut self.names, &self.links, count);
-        } else {
-            self.names.clear();
-        }
-        self.indexed = indexed;
-        self.apart = apart;
-        other.names.clear();
-        other.indexed = false;
-        other.apart = true;
+        enter(&mut self.index, &self.links, count);
+        other.index = Index::Few;
         Ok(())
     }
 
@@ -134,18 +128,10 @@ impl Queue {
         let count = other.links.len();
         self.prepare(count)?;
         let apart = self.is_apart_from(other);
-        let indexed = self.indexed & apart;
         self.links.reserve(count)?;
-        admit(&mut self.names, &self.links, &other.links, indexed)?;
-        move_behind(&mut self.names, &mut self.links, &mut other.links);
-        if !indexed {
-            self.names.clear();
-        }
-        self.indexed = indexed;
-        self.apart = apart;
-        other.names.clear();
-        other.indexed = false;
-        other.apart = true;
+        self.index.take_in(&self.links, &other.links, apart)?;
+        move_behind(&mut self.index, &mut self.links, &mut other.links);
+        other.index = Index::Few;
         Ok(())
     }
 
@@ -171,6 +157,6 @@ impl Queue {
     fn is_apart_from(&self, other: &Queue) -> bool
         ensures { result ≡ true → AreStrangers self.now.nodes other.now.nodes }
     {
-        self.apart && other.apart && !self.holds_any(other)
+        !self.index.is_given_up() && !other.index.is_given_up() && !self.holds_any(other)
     }
 }

@@ -1,6 +1,7 @@
 use Rattle.shr_list.proofs.Common.{◌≡◌, ◌∙◌, sym, ap, Some, None, rules, refl, is_named, pinned_object, change_first_none, key_named, objects_of}
 use Rattle.shr_list.proofs.Slots.{keys_changed, keys_kept, kept_itself}
-use Rattle.shr_list.proofs.Indexed.{found_at, none_at, knows_changed}
+use Rattle.shr_list.proofs.Indexed.{found_at, none_at}
+use Rattle.shr_list.proofs.Known.{knows_changed}
 use Rattle.shr_list.proofs.queue.Queue.set_pin.Goals as goal
 
 pub set_pin-requires : goal.set_pin-requires
@@ -14,7 +15,7 @@ invariant_of-self c =
     let nodes = c.self.inside.links.nodes in
     let is : key_named c.args.birth c.args.key.now nodes ≡ Some c.in-Some.node = search rules in
     let at = found_at c.args.birth c.args.key.now nodes c.in-Some.node is in
-    knows_changed c.self.inside.names nodes at.before at.after c.in-Some.node at.object c.self.inside.indexed c.self.inside.apart at.split c.self.invariant c.set_pin.new.self.nodes
+    knows_changed c.self.inside.index nodes at.before at.after c.in-Some.node at.object at.split c.self.invariant c.set_pin.new.self.nodes
     (pinned_object c.args.pinned at.object) refl (c.set_pin.ensures at.before at.object at.after at.split)
 
 pub returns-in_default : goal.returns-in_default

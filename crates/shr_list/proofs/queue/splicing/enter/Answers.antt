@@ -1,4 +1,4 @@
-use Rattle.shr_list.proofs.Common.{◌<◌, length, take, Some, arith, rules, subst, Object, TurnsName, name_by}
+use Rattle.shr_list.proofs.Common.{◌<◌, length, take, arith, rules, subst, Object, MovesName, name_by}
 use Rattle.shr_list.proofs.Walks.{here, is_at, past}
 use Rattle.shr_list.proofs.Splicing.{enters_none, enters_one}
 use Rattle.shr_list.proofs.queue.splicing.enter.Goals as goal
@@ -29,12 +29,12 @@ loop-met-preserved c =
     let met = c.loop-met.met in
     let now = here nodes met c.in-Some.node (search rules) in
     let object = c.object-object.ensures _ now.object _ now.split in
-    let turns : TurnsName c.loop-met.names c.turn.new.self (name_by now.object) (Some c.in-Some.node) =
-    subst (λ (o : Object). TurnsName c.loop-met.names c.turn.new.self (name_by o) (Some c.in-Some.node)) object c.turn.ensures in
+    let turns : MovesName c.loop-met.index c.turn.new.self (name_by now.object) c.in-Some.node =
+    subst (λ (o : Object). MovesName c.loop-met.index c.turn.new.self (name_by o) c.in-Some.node) object c.turn.ensures in
     record {
       at = c.next-at.ensures _ now.object _ now.split;
-      so_far = rw now.more (enters_one c.args.names.now c.loop-met.names c.turn.new.self (take met nodes) c.in-Some.node now.object c.loop-met.invariant.so_far turns);
+      so_far = rw now.more (enters_one c.args.index.now c.loop-met.index c.turn.new.self (take met nodes) c.in-Some.node now.object c.loop-met.invariant.so_far turns);
     }
 
 pub loop-met-init : goal.loop-met-init
-loop-met-init c = record { at = search rules; so_far = enters_none c.args.names.now }
+loop-met-init c = record { at = search rules; so_far = enters_none c.args.index.now }

@@ -4,5 +4,5 @@ use Rattle.shr_list.proofs.queue.splicing.enter.Given as goal
 abbrev pub invariant-loop-met : goal.invariant-loop-met
 invariant-loop-met l = record {
   at : l.at ≡ key_at l.met l.links.nodes;
-  so_far : EntersNodes l.fn.names l.names (take l.met l.links.nodes);
+  so_far : EntersNodes l.fn.index l.index (take l.met l.links.nodes);
 }

@@ -1,11 +1,11 @@
-use Rattle.shr_list.proofs.Common.{◌≡◌, ◌+◌, List, ◌∷◌, ◌++◌, [], length, refl, ap, sym, subst, ◌∙◌, Some, arith, rules, append_assoc, append-nil, Object, Keyed, objects_of, TurnsName, name_by}
+use Rattle.shr_list.proofs.Common.{◌≡◌, ◌+◌, List, ◌∷◌, ◌++◌, [], length, refl, ap, sym, subst, ◌∙◌, arith, rules, append_assoc, append-nil, Object, Keyed, objects_of, MovesName, name_by}
 use Rattle.shr_list.proofs.Walks.{at_head, no_head}
 use Rattle.shr_list.proofs.Scans.{objects_append}
 use Rattle.shr_list.proofs.Splicing.{enters_none, enters_one}
 use Rattle.shr_list.proofs.queue.splicing.move_behind.Goals as goal
 
 pub loop-node-init : goal.loop-node-init
-loop-node-init c = record { whole = ([], sym (append-nil c.args.links.now.nodes), refl, enters_none c.args.names.now); room = search rules }
+loop-node-init c = record { whole = ([], sym (append-nil c.args.links.now.nodes), refl, enters_none c.args.index.now); room = search rules }
 
 pub remove-requires : goal.remove-requires
 remove-requires c = let first = at_head c.loop-node.other.nodes c.in-Some.node (search rules) in ([], first.0, first.1, first.2)
@@ -28,7 +28,7 @@ loop-node-preserved c =
     let k = c.push_back-moved.result in
     let pushed : c.push_back-moved.new.self.nodes ≡ c.loop-node.links.nodes ++ (k, o) ∷ [] = rw c.push_back-moved.ensures.key c.push_back-moved.ensures.nodes in
     let object = c.object-object.ensures c.loop-node.links.nodes o [] pushed in
-    let turns : TurnsName c.loop-node.names c.turn.new.self (name_by o) (Some k) = subst (λ (p : Object). TurnsName c.loop-node.names c.turn.new.self (name_by p) (Some k)) object c.turn.ensures in
+    let turns : MovesName c.loop-node.index c.turn.new.self (name_by o) k = subst (λ (p : Object). MovesName c.loop-node.index c.turn.new.self (name_by p) k) object c.turn.ensures in
     let whole = c.loop-node.invariant.whole in
     let shorter : length c.loop-node.other.nodes ≡ length first.1 + 1 = ap length first.2 ∙ omega arith in
     record {
@@ -37,7 +37,7 @@ loop-node-preserved c =
         pushed ∙ ap (λ (ns : List Keyed). ns ++ (k, o) ∷ []) whole.1 ∙ append_assoc c.args.links.now.nodes whole.0 ((k, o) ∷ []),
         rw (objects_append whole.0 ((k, o) ∷ []), append_assoc (objects_of whole.0) (o ∷ []) (objects_of c.remove.new.self.nodes), left, taken)
             (ap (λ (os : List Object). objects_of whole.0 ++ os) (sym (ap objects_of first.2)) ∙ whole.2),
-        enters_one c.args.names.now c.loop-node.names c.turn.new.self whole.0 k o whole.3 turns,
+        enters_one c.args.index.now c.loop-node.index c.turn.new.self whole.0 k o whole.3 turns,
       );
       room = omega (arith, ap length left, shorter, c.push_back-moved.ensures.spare, c.loop-node.invariant.room);
     }

@@ -6,7 +6,7 @@ use Rattle.shr_list.proofs.queue.names.Names.add.Goals as goal
 pub returns-in_err-place-clause-kept : goal.returns-in_err-place-clause-kept
 returns-in_err-place-clause-kept c =
     let old = c.args.self.now in
-    on_err c.from_residual.result _ (fits_kept old (record { alloc = old.alloc; prints = _; clashes = old.clashes }) (λ print. search rules) (λ name. refl))
+    on_err c.from_residual.result _ (fits_kept old (record { prints = _; clashes = old.clashes }) (λ print. search rules) (λ name. refl))
 
 pub returns-then-is_some-clause-told : goal.returns-then-is_some-clause-told
 returns-then-is_some-clause-told c =
@@ -16,7 +16,7 @@ returns-then-is_some-clause-told c =
     let free : entry_at old (print_of c.args.birth c.args.key.now) ≡ None = search rules in
     let there : IsSome (found_clash old.clashes (c.args.birth, c.args.key.now)) = search rules in (
       rw (vacant_finds old (in_nodes nodes) c.requires.fits name free) there,
-      fits_kept old (record { alloc = old.alloc; prints = _; clashes = old.clashes }) (λ print. search rules) (λ name. refl),
+      fits_kept old (record { prints = _; clashes = old.clashes }) (λ print. search rules) (λ name. refl),
     )
 
 pub has_name-requires : goal.has_name-requires
@@ -34,7 +34,7 @@ returns-then-has_name-clause-told c =
     let at = looked old nodes (c.args.birth, c.args.key.now) c.get-in-Occupied.result.now c.requires is in
     let named = c.has_name.ensures at.before at.object at.after at.split in
     let there : IsSome (in_nodes nodes (c.args.birth, c.args.key.now)) = rw (at.hit (sym named ∙ c.if-has_name.true)) refl in
-    (there, fits_kept old (record { alloc = old.alloc; prints = _; clashes = old.clashes }) (λ print. search rules) (λ name. refl))
+    (there, fits_kept old (record { prints = _; clashes = old.clashes }) (λ print. search rules) (λ name. refl))
 
 pub returns-else-is_some-clause-told : goal.returns-else-is_some-clause-told
 returns-else-is_some-clause-told c =
@@ -44,7 +44,7 @@ returns-else-is_some-clause-told c =
     let free : entry_at old (print_of c.args.birth c.args.key.now) ≡ None = search rules in
     let alone : found_clash old.clashes (c.args.birth, c.args.key.now) ≡ None = search rules in (
       vacant_finds old (in_nodes nodes) c.requires.fits name free ∙ alone,
-      gains_entry old (record { alloc = old.alloc; prints = _; clashes = old.clashes }) name c.args.node free (search rules) (λ name. refl),
+      gains_entry old (record { prints = _; clashes = old.clashes }) name c.args.node free (search rules) (λ name. refl),
     )
 
 pub returns-else-has_name-clause-told : goal.returns-else-has_name-clause-told
@@ -55,9 +55,10 @@ returns-else-has_name-clause-told c =
     let is : entry_at old (print_of c.args.birth c.args.key.now) ≡ Some c.get-in-Occupied.result.now = search rules in
     let at = looked old nodes name c.get-in-Occupied.result.now c.requires is in
     let miss = at.miss (sym (c.has_name.ensures at.before at.object at.after at.split) ∙ c.if-has_name.false) in
-    told_clash old (record { alloc = old.alloc; prints = _; clashes = c.add.new.self }) (λ print. search rules) nodes name c.args.node c.add.result miss c.add.ensures.told
+    let taken : IsSome (entry_at old (print_of c.args.birth c.args.key.now)) = rw is refl in
+    told_clash old (record { prints = _; clashes = c.add.new.self }) (λ print. search rules) nodes name c.args.node c.add.result taken miss c.add.ensures.told
 
 pub returns-else-has_name-clause-kept : goal.returns-else-has_name-clause-kept
 returns-else-has_name-clause-kept c =
     let old = c.args.self.now in
-    kept_clash old (record { alloc = old.alloc; prints = _; clashes = c.add.new.self }) (λ print. search rules) c.add.result c.add.ensures.kept
+    kept_clash old (record { prints = _; clashes = c.add.new.self }) (λ print. search rules) c.add.result c.add.ensures.kept

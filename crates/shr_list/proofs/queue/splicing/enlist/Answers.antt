@@ -1,7 +1,7 @@
 use Rattle.shr_list.proofs.Common.{◌+◌, ◌<◌, length, take, drop, arith, rules, subst, Object, GainsName, KeepsFound, AreStrangers, name_by}
 use Rattle.shr_list.proofs.Walks.{here, is_at, past}
 use Rattle.shr_list.proofs.Splicing.{admits_one, withdrawn}
-use Rattle.shr_list.proofs.queue.splicing.admit.Goals as goal
+use Rattle.shr_list.proofs.queue.splicing.enlist.Goals as goal
 
 pub object-object-requires : goal.object-object-requires
 object-object-requires c =
@@ -15,8 +15,8 @@ next-at-requires c =
     let met = c.loop-met.met in
     is_at nodes met c.in-Some.node (here nodes met c.in-Some.node (search rules))
 
-pub returns-then-is_err-clause-kept : goal.returns-then-is_err-clause-kept
-returns-then-is_err-clause-kept c =
+pub returns-in-Err-clause-kept : goal.returns-in-Err-clause-kept
+returns-in-Err-clause-kept c =
     let keeps : KeepsFound c.loop-met.names c.put.new.self = search rules in
     withdrawn c.loop-met.names c.put.new.self c.withdraw.new.names c.args.links.now.nodes (take c.loop-met.met c.args.other.now.nodes) c.loop-met.invariant.so_far keeps c.withdraw.ensures
 
@@ -26,7 +26,7 @@ loop-met-preserved c =
     let met = c.loop-met.met in
     let now = here kids met c.in-Some.node (search rules) in
     let object = c.object-object.ensures _ now.object _ now.split in
-    let strangers : AreStrangers c.args.links.now.nodes kids = c.requires.strangers (search rules) in
+    let strangers : AreStrangers c.args.links.now.nodes kids = c.requires.strangers in
     let put : GainsName c.loop-met.names c.put.new.self (name_by c.object-object.result.now) c.in-Some.node = search rules in
     let gains = subst (λ (o : Object). GainsName c.loop-met.names c.put.new.self (name_by o) c.in-Some.node) object put in
     record {

@@ -1,5 +1,5 @@
 use Rattle.shr_list.proofs.Common.{◌≡◌, ◌++◌, take, key_at, IsIndexed}
-use Rattle.shr_list.proofs.queue.splicing.admit.Given as goal
+use Rattle.shr_list.proofs.queue.splicing.enlist.Given as goal
 
 abbrev pub invariant-loop-met : goal.invariant-loop-met
 invariant-loop-met l = record {

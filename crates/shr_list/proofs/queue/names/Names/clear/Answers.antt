@@ -1,5 +1,0 @@
-use Rattle.shr_list.proofs.Fitting.{fits_none}
-use Rattle.shr_list.proofs.queue.names.Names.clear.Goals as goal
-
-pub returns : goal.returns
-returns c = record { unique = tt; fits = fits_none _ c.clear.ensures.empty c.clear-2.ensures }
