@@ -58,7 +58,7 @@ pub use Rattle.shr_base.specs.declared.walks.MapSeen.{MapSeen}
 pub use Rattle.shr_base.specs.declared.walks.Outcome.{Outcome}
 pub use Rattle.shr_base.specs.declared.walks.PassRecord.{PassRecord}
 pub use Rattle.shr_base.specs.declared.walks.WalkAnswer.{WalkAnswer}
-pub use Rattle.shr_base.specs.declared.walks.WalkRecord.{WalkRecord}
+pub use Rattle.shr_base.specs.Walks.{WalkRecord}
 pub use Rattle.shr_cache.specs.Puts.{Asks, PutAs, PutFrom, PutNone, Puts, PutsInVain}
 pub use Rattle.shr_charge.proofs.Beginnings.{each_one}
 pub use Rattle.shr_charge.proofs.Entries.{begin_grows, begun_made, is_made_grows, made_new}

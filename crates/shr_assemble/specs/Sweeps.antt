@@ -4,7 +4,7 @@ use Rattle.std.specs.List.{range_with_len}
 use Rattle.shr_base.specs.declared.replies.Reply.{Reply}
 use Rattle.shr_base.specs.declared.scripts.Script.{Script}
 use Rattle.shr_base.specs.declared.scripts.Sweep.{Sweep}
-use Rattle.shr_base.specs.declared.walks.WalkRecord.{WalkRecord}
+use Rattle.shr_base.specs.Walks.{WalkRecord}
 use Rattle.shr_pool.specs.declared.items.SweepItem.{SweepItem}
 use Rattle.shr_pool.specs.declared.items.SweepItem.TheVariants.{Walk, End}
 use Rattle.shr_pool.specs.declared.items.SweepJob.{SweepJob}

@@ -17,7 +17,7 @@ pub use Rattle.shr_base.specs.declared.journals.TreeEntry.TheVariants.{Begin, Do
 pub use Rattle.shr_base.specs.declared.places.Serial.{Serial}
 pub use Rattle.shr_base.specs.declared.replies.Reply.{Reply}
 pub use Rattle.shr_base.specs.declared.scripts.Script.{Script}
-pub use Rattle.shr_base.specs.declared.walks.WalkRecord.{WalkRecord}
+pub use Rattle.shr_base.specs.Walks.{WalkRecord}
 pub use Rattle.shr_case.proofs.Eachs.{decides_iff, each_entry_of, each_walk_of}
 pub use Rattle.shr_case.specs.Each.{EachFirst}
 pub use Rattle.shr_case.specs.Places.{IsFirst}

@@ -4,7 +4,7 @@ ghost use Rattle.std.specs.Prelude.{◌≡◌, ℕ, Some, slice_get};
 ghost use Rattle.std.specs.Bool.{Decides};
 ghost use Rattle.shr_base.specs.declared.ends.WorkerPart.{WorkerPart};
 ghost use Rattle.shr_base.specs.declared.replies.Spent.TheVariants.{Lookups};
-ghost use Rattle.shr_base.specs.declared.walks.WalkRecord.{WalkRecord};
+ghost use Rattle.shr_base.specs.Walks.{WalkRecord};
 ghost use Rattle.shr_formed.specs.Each.{EachItem};
 ghost use Rattle.shr_report.specs.Causes.{IsSpent};
 ghost use Rattle.shr_report.specs.Parts.{EachAttempt, EachWalk, lookups_at};
@@ -67,7 +67,7 @@ fn walks_are_worn(script: &Script, report: &Report, worker: usize, walks: &[Walk
         (λ a. IsAttemptCaused script.now report.now worker a)) walks.now) }
 {
     for walk in walks {
-        if !attempts_are_worn(script, report, worker, walk.attempts.as_slice()) {
+        if !attempts_are_worn(script, report, worker, walk.attempts()) {
             return false;
         }
     }

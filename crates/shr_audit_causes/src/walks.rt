@@ -14,7 +14,7 @@ use shr_report::report::Report;
 fn walk_begins(report: &Report, walk: &WalkRecord) -> bool
     ensures { Decides result (CitesBegin report.now walk.now) }
 {
-    match walk.answer {
+    match walk.answer() {
         WalkAnswer::Offline { entry } => is_begin_of(report, entry, walk.group),
         _ => true,
     }

@@ -19,7 +19,7 @@ pub use Rattle.shr_base.specs.declared.places.Serial.{Serial}
 pub use Rattle.shr_base.specs.declared.replies.Answered.{Answered}
 pub use Rattle.shr_base.specs.declared.replies.Reply.{Reply}
 pub use Rattle.shr_base.specs.declared.scripts.Script.{Script}
-pub use Rattle.shr_base.specs.declared.walks.WalkRecord.{WalkRecord}
+pub use Rattle.shr_base.specs.Walks.{WalkRecord}
 pub use Rattle.shr_case.proofs.Firsts.{some_is}
 pub use Rattle.shr_case.proofs.Order.{or_left, or_right}
 pub use Rattle.shr_formed.proofs.Eachs.{fails}

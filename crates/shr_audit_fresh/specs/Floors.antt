@@ -1,7 +1,7 @@
 -- What was known, by the least number that is above all of it.
 use Rattle.std.specs.Prelude.{ℕ, ◌<◌, ◌≤◌, ◌↔◌, List, length, filter, flat_map, get_or}
 use Rattle.std.specs.List.{AllByRecursion}
-use Rattle.shr_base.specs.declared.walks.WalkRecord.{WalkRecord}
+use Rattle.shr_base.specs.Walks.{WalkRecord}
 use Rattle.shr_model.specs.Commands.{is_serial}
 use Rattle.shr_report.specs.Freshness.{AreBelow, walk_cited}
 use Rattle.shr_report.specs.Parts.{serial_of}

@@ -2,7 +2,7 @@
 use Rattle.std.specs.Prelude.{◌≡◌, ℕ, Bool, true, false, not, ◌||◌, ◌==◌, nat_le, List}
 use Rattle.std.specs.List.{list_any}
 use Rattle.shr_base.specs.declared.replies.Answered.{Answered}
-use Rattle.shr_base.specs.declared.walks.WalkRecord.{WalkRecord}
+use Rattle.shr_base.specs.Walks.{WalkRecord}
 use Rattle.shr_audit_causes.specs.declared.cites.Cited.{Cited}
 use Rattle.shr_audit_causes.specs.declared.cites.Cited.TheVariants.{Never, Once, Often}
 use Rattle.shr_audit_causes.specs.Cites.{cited_in}

@@ -2,7 +2,7 @@
 
 ghost use Rattle.std.specs.Prelude.{◌≡◌, ℕ, ◌∷◌, [], ◌++◌, List, length, get_or, option_to_list, IfOk};
 ghost use Rattle.std.specs.Bool.{Decides};
-ghost use Rattle.shr_base.specs.declared.walks.WalkRecord.{WalkRecord};
+ghost use Rattle.shr_base.specs.Walks.{WalkRecord};
 ghost use Rattle.shr_report.specs.Parts.{walks_of};
 ghost use Rattle.shr_audit_fresh.specs.Floors.{AreFloors, FloorWith, IsHigher, Reaches};
 
@@ -69,7 +69,7 @@ fn note_walk(floors: &mut Vec<u64>, worker: usize, walk: &WalkRecord)
     }
     let command = walk.by.command as usize;
     if command < floors.len() {
-        let floor = floor_with(floors[command], walk_cited(&walk.answer));
+        let floor = floor_with(floors[command], walk_cited(&walk.answer()));
         floors[command] = floor;
     }
 }

@@ -3,7 +3,7 @@
 ghost use Rattle.std.specs.Prelude.{◌≡◌, ◌∷◌, [], ◌++◌, List, option_and_then, option_copied, IfOk, OnOk};
 ghost use Rattle.std.specs.Bool.{Decides};
 ghost use Rattle.std.specs.Option.{IsSomeAnd};
-ghost use Rattle.shr_base.specs.declared.walks.WalkRecord.{WalkRecord};
+ghost use Rattle.shr_base.specs.Walks.{WalkRecord};
 ghost use Rattle.shr_model.specs.Commands.{asks_online};
 ghost use Rattle.shr_report.specs.Freshness.{MayBeOffline};
 ghost use Rattle.shr_report.specs.Parts.{reply_at, serial_of, walks_of};
@@ -101,7 +101,7 @@ fn note_walk(
     if by != worker {
         return Ok(());
     }
-    let group = offline_at(report, walk_cited(&walk.answer));
+    let group = offline_at(report, walk_cited(&walk.answer()));
     note(firsts, group, walk.by.command as usize)?;
     Ok(())
 }

@@ -76,7 +76,7 @@ fn is_walk_started(report: &Report, begun: &[Cited], worker: usize, walk: &WalkR
     if by != worker {
         return true;
     }
-    let cited = walk_cited(&walk.answer);
+    let cited = walk_cited(&walk.answer());
     is_entry_started(report, begun, worker, walk.by.command as usize, cited)
 }
 

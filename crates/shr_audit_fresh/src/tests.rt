@@ -2,6 +2,7 @@
 
 use crate::law::is_fresh;
 use shr_base::ends::WorkerPart;
+use shr_base::found::Found;
 use shr_base::journals::TreeEntry;
 use shr_base::log::Log;
 use shr_base::objects::Policy;
@@ -9,7 +10,7 @@ use shr_base::places::Serial;
 use shr_base::replies::{Answered, Reply};
 use shr_base::scripts::{CacheDecl, Command, GroupDecl, PoolDecl, Script, WorkerScript};
 use shr_base::text::Text;
-use shr_base::walks::{WalkAnswer, WalkRecord};
+use shr_base::walks::{WalkAnswer, WalkAsked, WalkRecord};
 use shr_report::report::Report;
 use std::alloc::Global;
 use std::test::Fail;
@@ -143,8 +144,8 @@ fn late(wrong: Wrong, command: usize) -> Reply {
 }
 
 // A walk of the first command that finds a group offline.
-fn walk(alloc: Global) -> WalkRecord {
-    WalkRecord {
+fn walk() -> WalkRecord {
+    let asked = WalkAsked {
         by: Serial {
             worker: 0,
             command: 0,
@@ -153,10 +154,8 @@ fn walk(alloc: Global) -> WalkRecord {
         node: 0,
         priority: 12,
         nofs: false,
-        maps: Log::new(alloc),
-        attempts: Log::new(alloc),
-        answer: WalkAnswer::Offline { entry: 1 },
-    }
+    };
+    WalkRecord::new(asked, Found::new(), WalkAnswer::Offline { entry: 1 })
 }
 
 fn part(alloc: Global, wrong: Wrong) -> Result<WorkerPart, Fail> {
@@ -171,7 +170,7 @@ fn part(alloc: Global, wrong: Wrong) -> Result<WorkerPart, Fail> {
     }
     let mut walks = Log::new(alloc);
     if wrong == Wrong::WalkUnseen {
-        walks.add(walk(alloc))?;
+        walks.add(walk())?;
     }
     Ok(WorkerPart {
         answers,

@@ -1,6 +1,6 @@
 -- The walks of a worker, as a well formed report has them. No public clause cites this.
 use Rattle.std.specs.Prelude.{ℕ, ◌<◌, ◌≤◌, List}
-use Rattle.shr_base.specs.declared.walks.WalkRecord.{WalkRecord}
+use Rattle.shr_base.specs.Walks.{WalkRecord}
 use Rattle.shr_formed.specs.Each.{Adjacent, EachItem}
 
 -- walks stand in the order of their commands, each of which is among so many that are answered

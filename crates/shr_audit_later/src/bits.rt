@@ -29,7 +29,7 @@ use std::collections::{HashMap, HashSet};
 fn is_walk_full(filled: &HashMap<u64, u64>, walk: &WalkRecord) -> bool
     ensures { Decides result (IsWalkFull filled.now walk.now) }
 {
-    for map in walk.maps.as_slice() {
+    for map in walk.maps() {
         if !is_map_full(filled, walk, map) {
             return false;
         }

@@ -53,7 +53,7 @@ fn note_attempt(
 pub(crate) fn note_walk(cleared: &mut HashSet<u64>, walk: &WalkRecord) -> Result<(), Memory>
     ensures { OnOk result (Clears cleared.old cleared.new (clearings_of walk.now)) }
 {
-    for attempt in walk.attempts.as_slice() {
+    for attempt in walk.attempts() {
         note_attempt(cleared, walk, attempt)?;
     }
     Ok(())

@@ -53,7 +53,7 @@ fn are_both_above(cited: &HashMap<u64, u32>, place: Place, first: u32, second: u
 fn is_walk_above(cited: &HashMap<u64, u32>, walk: &WalkRecord) -> bool
     ensures { Decides result (IsWalkAbove cited.now walk.now) }
 {
-    for attempt in walk.attempts.as_slice() {
+    for attempt in walk.attempts() {
         let place = place_in(walk, attempt.id);
         if !is_outcome_above(cited, place, &attempt.outcome) {
             return false;

@@ -4,11 +4,12 @@ use crate::cleared::note_walk;
 use crate::filled::{is_map_full, none_filled, set_bit};
 use crate::later::are_versions_later;
 use shr_base::ends::WorkerPart;
+use shr_base::found::Found;
 use shr_base::log::Log;
 use shr_base::memory::Memory;
 use shr_base::places::{At, Place, Serial};
 use shr_base::replies::{Answered, Reply};
-use shr_base::walks::{Attempt, GoneThen, MapSeen, Outcome, WalkAnswer, WalkRecord};
+use shr_base::walks::{Attempt, GoneThen, MapSeen, Outcome, WalkAnswer, WalkAsked, WalkRecord};
 use shr_formed::formed::is_well_formed;
 use shr_report::report::Report;
 use std::alloc::Global;
@@ -28,16 +29,15 @@ fn walk(alloc: Global, command: u32, outcome: Outcome) -> Result<WalkRecord, Mem
         id: PLACE.id,
         outcome,
     })?;
-    Ok(WalkRecord {
+    let asked = WalkAsked {
         by: Serial { worker: 0, command },
         group: PLACE.group,
         node: PLACE.node,
         priority: 12,
         nofs: false,
-        maps: Log::new(alloc),
-        attempts: Log::from_vec(attempts),
-        answer: WalkAnswer::Walked { freed: 0 },
-    })
+    };
+    let found = Found::of(alloc, Log::new(alloc), Log::from_vec(attempts))?;
+    Ok(WalkRecord::new(asked, found, WalkAnswer::Walked { freed: 0 }))
 }
 
 // An answer that cites this entry of the place.

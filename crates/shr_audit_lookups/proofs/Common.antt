@@ -6,7 +6,7 @@ pub use Rattle.shr_audit_tables.specs.Draws.{IsDrawn}
 pub use Rattle.shr_base.specs.declared.ends.WorkerPart.{WorkerPart}
 pub use Rattle.shr_base.specs.declared.replies.Answered.{Answered}
 pub use Rattle.shr_base.specs.declared.scripts.Script.{Script}
-pub use Rattle.shr_base.specs.declared.walks.WalkRecord.{WalkRecord}
+pub use Rattle.shr_base.specs.Walks.{WalkRecord}
 pub use Rattle.shr_formed.proofs.Eachs.{all_at, each_all, each_more, fails, more_at}
 pub use Rattle.shr_formed.specs.Each.{EachItem}
 pub use Rattle.shr_report.specs.Parts.{EachAttempt, parents_of}

@@ -96,7 +96,7 @@ fn are_attempts_right(report: &Report, met: &Met, walk: &WalkRecord) -> bool
     requires { IsMetIn report.now.pool.items met.now }
     ensures { Decides result (EachAttempt walk.now (IsMetRight report.now)) }
 {
-    for attempt in walk.attempts.as_slice() {
+    for attempt in walk.attempts() {
         if !is_met_right(report, met, attempt) {
             return false;
         }

@@ -2,11 +2,12 @@
 
 use crate::met::are_met_right;
 use shr_base::ends::WorkerPart;
+use shr_base::found::Found;
 use shr_base::journals::PoolEntry;
 use shr_base::log::Log;
 use shr_base::memory::Memory;
 use shr_base::places::Serial;
-use shr_base::walks::{Attempt, GoneThen, Outcome, WalkAnswer, WalkRecord};
+use shr_base::walks::{Attempt, GoneThen, Outcome, WalkAnswer, WalkAsked, WalkRecord};
 use shr_report::report::Report;
 use std::alloc::Global;
 use std::test::Fail;
@@ -30,7 +31,7 @@ const fn gone(number: u32) -> Outcome {
 fn walk(alloc: Global, outcome: Outcome) -> Result<WalkRecord, Memory> {
     let mut attempts = Log::new(alloc);
     attempts.add(Attempt { id: 0, outcome })?;
-    Ok(WalkRecord {
+    let asked = WalkAsked {
         by: Serial {
             worker: 0,
             command: 0,
@@ -39,10 +40,9 @@ fn walk(alloc: Global, outcome: Outcome) -> Result<WalkRecord, Memory> {
         node: 0,
         priority: 12,
         nofs: false,
-        maps: Log::new(alloc),
-        attempts,
-        answer: WalkAnswer::Walked { freed: 0 },
-    })
+    };
+    let found = Found::of(alloc, Log::new(alloc), attempts)?;
+    Ok(WalkRecord::new(asked, found, WalkAnswer::Walked { freed: 0 }))
 }
 
 // The part of a worker with such a walk.

@@ -20,7 +20,7 @@ pub use Rattle.shr_base.specs.declared.replies.Answered.{Answered}
 pub use Rattle.shr_base.specs.declared.replies.Reply.{Reply}
 pub use Rattle.shr_base.specs.declared.scripts.Command.{Command}
 pub use Rattle.shr_base.specs.declared.scripts.Script.{Script}
-pub use Rattle.shr_base.specs.declared.walks.WalkRecord.{WalkRecord}
+pub use Rattle.shr_base.specs.Walks.{WalkRecord}
 pub use Rattle.shr_case.proofs.Firsts.{some_is}
 pub use Rattle.shr_formed.proofs.Eachs.{all_at, all_of, clash, more_at}
 pub use Rattle.shr_model.proofs.GroupsLaws.{child_again, child_higher, child_takes, path_of-below, path_of-root, preorder_of-group, subtrees_of}

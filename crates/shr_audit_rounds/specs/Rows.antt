@@ -1,7 +1,7 @@
 -- Walks that were made, against those that were due. No public clause cites this.
 use Rattle.std.specs.Prelude.{◌≡◌, ℕ, ◌≤◌, Bool, false, List, [], ◌∷◌, length, map, flat_map, drop, ⊤}
 use Rattle.std.specs.List.{range_with_len}
-use Rattle.shr_base.specs.declared.walks.WalkRecord.{WalkRecord}
+use Rattle.shr_base.specs.Walks.{WalkRecord}
 use Rattle.shr_model.specs.Walks.{Job, job, job_of}
 use Rattle.shr_audit_rounds.specs.declared.rows.Control.{Control}
 

@@ -10,11 +10,12 @@ use crate::orders::Subtrees;
 use crate::puts::is_put_made;
 use crate::refusals::Refusal;
 use crate::rows::{Control, is_row_made};
+use shr_base::found::Found;
 use shr_base::log::Log;
 use shr_base::memory::Memory;
 use shr_base::places::{At, Place, Serial};
 use shr_base::replies::Reply;
-use shr_base::walks::{WalkAnswer, WalkRecord};
+use shr_base::walks::{WalkAnswer, WalkAsked, WalkRecord};
 use std::alloc::Global;
 use std::test::Fail;
 
@@ -28,7 +29,7 @@ const ABOVE: Refusal = Refusal { key: 0, group: 1 };
 fn walks_of(alloc: Global, jobs: &[Job]) -> Result<Vec<WalkRecord>, Memory> {
     let mut walks = Vec::new(alloc);
     for (group, node, priority) in jobs {
-        walks.push(WalkRecord {
+        let asked = WalkAsked {
             by: Serial {
                 worker: 0,
                 command: 0,
@@ -37,10 +38,9 @@ fn walks_of(alloc: Global, jobs: &[Job]) -> Result<Vec<WalkRecord>, Memory> {
             node: *node,
             priority: *priority,
             nofs: false,
-            maps: Log::new(alloc),
-            attempts: Log::new(alloc),
-            answer: WalkAnswer::Walked { freed: 0 },
-        })?;
+        };
+        let answer = WalkAnswer::Walked { freed: 0 };
+        walks.push(WalkRecord::new(asked, Found::new(), answer))?;
     }
     Ok(walks)
 }

@@ -47,7 +47,7 @@ fn note_attempt(
 fn note_walk(keys: &mut Vec<u128>, worker: u16, n: usize, walk: &WalkRecord) -> Result<(), Memory>
     ensures { OnOk result (keys.new.items ≡ keys.old.items ++ keys_in worker n walk.now) }
 {
-    for attempt in walk.attempts.as_slice() {
+    for attempt in walk.attempts() {
         note_attempt(keys, worker, n, walk, attempt)?;
     }
     Ok(())

@@ -71,7 +71,7 @@ fn are_scanned(known: &Known, worker: u16, n: usize, walk: &WalkRecord) -> bool
     ensures { Decides result (EachItem (IsScannedAt known.now.script.now known.now.report.now
         worker n walk.now) walk.now.attempts.items) }
 {
-    let attempts = walk.attempts.as_slice();
+    let attempts = walk.attempts();
     for k in 0..attempts.len() {
         if !is_scanned_at(known, worker, n, walk, &attempts[k]) {
             return false;

@@ -11,7 +11,7 @@ pub use Rattle.shr_base.specs.declared.scripts.Script.{Script}
 pub use Rattle.shr_base.specs.declared.scripts.WorkerScript.{WorkerScript}
 pub use Rattle.shr_base.specs.declared.walks.PlainTry.{PlainTry}
 pub use Rattle.shr_base.specs.declared.walks.PlainWalk.{PlainWalk}
-pub use Rattle.shr_base.specs.declared.walks.WalkRecord.{WalkRecord}
+pub use Rattle.shr_base.specs.Walks.{WalkRecord}
 pub use Rattle.shr_formed.proofs.Eachs.{all_at, each_all, each_more, fails, more_at}
 pub use Rattle.shr_formed.specs.Each.{EachItem}
 pub use Rattle.shr_model.proofs.Lists.{zero_more}

@@ -3,7 +3,7 @@
 ghost use Rattle.std.specs.Prelude.{◌≡◌, ℕ, ◌<◌, Some, length, slice_get};
 ghost use Rattle.std.specs.Bool.{Decides};
 ghost use Rattle.shr_base.specs.declared.ends.WorkerPart.{WorkerPart};
-ghost use Rattle.shr_base.specs.declared.walks.WalkRecord.{WalkRecord};
+ghost use Rattle.shr_base.specs.Walks.{WalkRecord};
 ghost use Rattle.shr_formed.specs.Each.{EachItem};
 ghost use Rattle.shr_model.specs.Attempts.{pass_of};
 ghost use Rattle.shr_report.specs.Causes.{IsPassCaused};
@@ -90,7 +90,7 @@ fn are_runs_caused(
     ensures { Decides result (EachAttempt walk.now
         (λ a. IsRunCaused script.now report.now worker walk.now a)) }
 {
-    for attempt in walk.attempts.as_slice() {
+    for attempt in walk.attempts() {
         if !is_run_caused(script, report, counted, worker, walk, attempt) {
             return false;
         }

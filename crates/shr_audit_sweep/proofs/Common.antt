@@ -7,7 +7,7 @@ pub use Rattle.std.specs.Prelude.{filter, flat_map, is_some, nat_lt, not, â—Œ&&â
 pub use Rattle.shr_base.specs.declared.ends.WorkerPart.{WorkerPart}
 pub use Rattle.shr_base.specs.declared.scripts.Script.{Script}
 pub use Rattle.shr_base.specs.declared.scripts.Sweep.{Sweep}
-pub use Rattle.shr_base.specs.declared.walks.WalkRecord.{WalkRecord}
+pub use Rattle.shr_base.specs.Walks.{WalkRecord}
 pub use Rattle.shr_formed.proofs.Eachs.{all_of, clash, each_in}
 pub use Rattle.shr_formed.specs.Each.{Adjacent, EachItem, IsWorkerCommand}
 pub use Rattle.shr_report.specs.Parts.{answer_at, commands_of, parents_of, reply_at, serial_of, walks_in}

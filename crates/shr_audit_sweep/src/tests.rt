@@ -4,13 +4,14 @@ ghost use Rattle.std.specs.Prelude.{◌<◌};
 
 use crate::sweep::is_sweep_lawful;
 use shr_base::ends::WorkerPart;
+use shr_base::found::Found;
 use shr_base::log::Log;
 use shr_base::memory::Memory;
 use shr_base::places::Serial;
 use shr_base::replies::{Answered, Reply};
 use shr_base::scripts::{GroupDecl, Script, Sweep, WorkerScript};
 use shr_base::text::Text;
-use shr_base::walks::{WalkAnswer, WalkRecord};
+use shr_base::walks::{WalkAnswer, WalkAsked, WalkRecord};
 use shr_formed::formed::is_well_formed;
 use shr_report::report::Report;
 use std::alloc::Global;
@@ -74,16 +75,15 @@ fn walks(
     let mut walks = Vec::new(alloc);
     for group in groups {
         let Some(group) = group else { continue };
-        walks.push(WalkRecord {
+        let asked = WalkAsked {
             by: Serial { worker, command: 0 },
             group,
             node: 0,
             priority,
             nofs: false,
-            maps: Log::new(alloc),
-            attempts: Log::new(alloc),
-            answer: WalkAnswer::Walked { freed: 1 },
-        })?;
+        };
+        let answer = WalkAnswer::Walked { freed: 1 };
+        walks.push(WalkRecord::new(asked, Found::new(), answer))?;
     }
     Ok(walks)
 }

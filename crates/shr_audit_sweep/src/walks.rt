@@ -2,7 +2,7 @@
 
 ghost use Rattle.std.specs.Prelude.{◌≡◌, ◌≤◌, length, sum_by};
 ghost use Rattle.std.specs.Bool.{Decides};
-ghost use Rattle.shr_base.specs.declared.walks.WalkRecord.{WalkRecord};
+ghost use Rattle.shr_base.specs.Walks.{WalkRecord};
 ghost use Rattle.shr_formed.specs.Each.{EachItem};
 ghost use Rattle.shr_model.specs.Walks.{freed_told};
 ghost use Rattle.shr_report.specs.Parts.{commands_of};
@@ -81,7 +81,7 @@ pub(crate) fn have_freed(walks: &[WalkRecord], freed: u64) -> bool
 {
     let mut left = freed;
     for walk in walks {
-        let told = freed_told(walk.answer);
+        let told = freed_told(walk.answer());
         if told > left {
             return false;
         }

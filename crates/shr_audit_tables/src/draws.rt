@@ -85,7 +85,7 @@ fn note_walks(keys: &mut Vec<u64>, walks: &[WalkRecord]) -> Result<(), Memory>
     ensures { OnOk result (keys.new.items ≡ keys.old.items ++ flat_map walk_draws walks.now) }
 {
     for walk in walks {
-        note_attempts(keys, walk.attempts.as_slice())?;
+        note_attempts(keys, walk.attempts())?;
     }
     Ok(())
 }

@@ -3,7 +3,7 @@ pub use Rattle.std.proofs.Common.{Bool, IfOk, List, None, Option, Some, [], ap, 
 pub use Rattle.std.specs.Bool.{Decides}
 pub use Rattle.shr_base.specs.declared.ends.WorkerPart.{WorkerPart}
 pub use Rattle.shr_base.specs.declared.places.Place.{Place}
-pub use Rattle.shr_base.specs.declared.walks.WalkRecord.{WalkRecord}
+pub use Rattle.shr_base.specs.Walks.{WalkRecord}
 pub use Rattle.shr_model.specs.Attempts.{counts_of}
 pub use Rattle.shr_model.specs.Walks.{place_in, versions_at}
 pub use Rattle.shr_report.specs.WellFormed.{AreNotFalling}

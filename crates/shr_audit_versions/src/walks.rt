@@ -52,7 +52,7 @@ fn note_walk(versions: &mut HashMap<u64, u32>, walk: &WalkRecord) -> Result<bool
     ensures { IfOk result (λ b. Notes versions.old versions.new b
         (λ place. versions_at place walk.now)) }
 {
-    for attempt in walk.attempts.as_slice() {
+    for attempt in walk.attempts() {
         let place = place_in(walk, attempt.id);
         if !note_outcome(versions, place, &attempt.outcome)? {
             return Ok(false);

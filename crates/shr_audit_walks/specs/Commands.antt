@@ -4,7 +4,7 @@ use Rattle.shr_base.specs.declared.ends.WorkerPart.{WorkerPart}
 use Rattle.shr_base.specs.declared.replies.Answered.{Answered}
 use Rattle.shr_base.specs.declared.scripts.Command.{Command}
 use Rattle.shr_base.specs.declared.scripts.Script.{Script}
-use Rattle.shr_base.specs.declared.walks.WalkRecord.{WalkRecord}
+use Rattle.shr_base.specs.Walks.{WalkRecord}
 use Rattle.shr_report.specs.Parts.{command_at, serial_of}
 use Rattle.shr_report.specs.WalksLawful.{IsToldBy}
 use Rattle.shr_formed.specs.Each.{Adjacent}

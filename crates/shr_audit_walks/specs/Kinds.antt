@@ -5,7 +5,7 @@ use Rattle.shr_base.specs.declared.scripts.CacheDecl.{CacheDecl}
 use Rattle.shr_base.specs.declared.scripts.Script.{Script}
 use Rattle.shr_base.specs.declared.walks.Attempt.{Attempt}
 use Rattle.shr_base.specs.declared.walks.PassRecord.{PassRecord}
-use Rattle.shr_base.specs.declared.walks.WalkRecord.{WalkRecord}
+use Rattle.shr_base.specs.Walks.{WalkRecord}
 use Rattle.shr_model.specs.Attempts.{is_held, pass_of}
 use Rattle.shr_report.specs.declared.report.Report.{Report}
 use Rattle.shr_report.specs.LawfulWalk.{cache_of, IsOutcomeOf, IsStopped}

@@ -53,8 +53,8 @@ pub fn freed_told(answer: WalkAnswer) -> u64
 pub fn is_bare_offline(walk: &WalkRecord) -> bool
     ensures { Decides result (IsBareOffline walk.now) }
 {
-    match walk.answer {
-        WalkAnswer::Offline { .. } => walk.maps.len() == 0 && walk.attempts.len() == 0,
+    match walk.answer() {
+        WalkAnswer::Offline { .. } => walk.maps().len() == 0 && walk.attempts().len() == 0,
         _ => true,
     }
 }
@@ -96,12 +96,12 @@ fn are_all_tried(attempts: &[Attempt], ids: u16) -> bool
 fn is_whole(alloc: Global, ids: u16, walk: &WalkRecord) -> Result<bool, Memory>
     ensures { IfOk result (λ b. Decides b (IsWalkWhole ids walk.now)) }
 {
-    let maps = walk.maps.as_slice();
+    let maps = walk.maps();
     if !are_units(maps, ids) {
         return Ok(false);
     }
     let seen = ids_seen(alloc, maps)?;
-    let tried = are_tried(walk.attempts.as_slice(), seen.as_slice());
+    let tried = are_tried(walk.attempts(), seen.as_slice());
     Ok(tried)
 }
 
@@ -113,7 +113,7 @@ pub fn is_mapped(alloc: Global, ids: u16, walk: &WalkRecord) -> Result<bool, Mem
     if walk.group == 0 {
         return Ok(true);
     }
-    match walk.answer {
+    match walk.answer() {
         WalkAnswer::Walked { .. } => {
             let whole = is_whole(alloc, ids, walk)?;
             Ok(whole)
@@ -129,13 +129,13 @@ pub fn is_of_root(ids: u16, walk: &WalkRecord) -> bool
     if walk.group != 0 {
         return true;
     }
-    if walk.maps.len() != 0 {
+    if walk.maps().len() != 0 {
         return false;
     }
-    if is_cut(walk.answer) {
+    if is_cut(walk.answer()) {
         return true;
     }
-    let all = are_all_tried(walk.attempts.as_slice(), ids);
+    let all = are_all_tried(walk.attempts(), ids);
     all
 }
 
@@ -154,12 +154,12 @@ fn are_before_tried(alloc: Global, maps: &[MapSeen], attempts: usize) -> Result<
 fn tries_well(alloc: Global, ids: u16, walk: &WalkRecord) -> Result<bool, Memory>
     ensures { IfOk result (λ b. Decides b (AreFirstTries ids walk.now)) }
 {
-    let attempts = walk.attempts.as_slice();
+    let attempts = walk.attempts();
     if walk.group == 0 {
         let rise = tries_rise(attempts, ids);
         return Ok(rise);
     }
-    let seen = ids_seen(alloc, walk.maps.as_slice())?;
+    let seen = ids_seen(alloc, walk.maps())?;
     let begin = tries_begin(attempts, seen.as_slice());
     Ok(begin)
 }
@@ -168,10 +168,10 @@ fn tries_well(alloc: Global, ids: u16, walk: &WalkRecord) -> Result<bool, Memory
 fn is_begun(alloc: Global, script: &Script, walk: &WalkRecord) -> Result<bool, Memory>
     ensures { IfOk result (λ b. Decides b (IsBegun script.now walk.now)) }
 {
-    if !units_rise(walk.maps.as_slice(), script.ids) {
+    if !units_rise(walk.maps(), script.ids) {
         return Ok(false);
     }
-    if !are_before_tried(alloc, walk.maps.as_slice(), walk.attempts.len())? {
+    if !are_before_tried(alloc, walk.maps(), walk.attempts().len())? {
         return Ok(false);
     }
     let well = tries_well(alloc, script.ids, walk)?;
@@ -182,7 +182,7 @@ fn is_begun(alloc: Global, script: &Script, walk: &WalkRecord) -> Result<bool, M
 pub fn is_cut_begun(alloc: Global, script: &Script, walk: &WalkRecord) -> Result<bool, Memory>
     ensures { IfOk result (λ b. Decides b (IsCutBegun script.now walk.now)) }
 {
-    if !is_cut(walk.answer) {
+    if !is_cut(walk.answer()) {
         return Ok(true);
     }
     let begun = is_begun(alloc, script, walk)?;
@@ -199,15 +199,15 @@ fn is_room_at(walk: &WalkRecord, k: usize, attempt: &Attempt) -> bool
     if pass.ending != Ending::NoRoom {
         return true;
     }
-    let attempts = walk.attempts.len();
-    is_cut(walk.answer) && k < attempts && attempts - k == 1
+    let attempts = walk.attempts().len();
+    is_cut(walk.answer()) && k < attempts && attempts - k == 1
 }
 
 /// Whether each pass that ended for want of room is the last of a walk that was cut. Our own.
 pub fn is_room_last(walk: &WalkRecord) -> bool
     ensures { Decides result (IsRoomLast walk.now) }
 {
-    let attempts = walk.attempts.as_slice();
+    let attempts = walk.attempts();
     for k in 0..attempts.len() {
         if !is_room_at(walk, k, &attempts[k]) {
             return false;
@@ -273,6 +273,6 @@ fn frees(attempts: &[Attempt], told: u64) -> bool
 pub fn is_freed_told(walk: &WalkRecord) -> bool
     ensures { Decides result (freed_told walk.now.answer ≡ freed_of walk.now) }
 {
-    let told = frees(walk.attempts.as_slice(), freed_told(walk.answer));
+    let told = frees(walk.attempts(), freed_told(walk.answer()));
     told
 }

@@ -3,7 +3,7 @@
 ghost use Rattle.std.specs.Prelude.{◌≡◌, ◌==◌, ◌<◌, ◌≤◌, ℕ, filter, length, slice_get, Some, option_copied};
 ghost use Rattle.std.specs.Bool.{Decides};
 ghost use Rattle.shr_base.specs.declared.scripts.Script.{Script};
-ghost use Rattle.shr_base.specs.declared.walks.WalkRecord.{WalkRecord};
+ghost use Rattle.shr_base.specs.Walks.{WalkRecord};
 ghost use Rattle.shr_model.specs.Groups.{preorder_of};
 ghost use Rattle.shr_base.specs.declared.scripts.Command.{Command};
 ghost use Rattle.shr_report.specs.Parts.{command_at, parents_of, serial_of, walks_by, EachAnswer};

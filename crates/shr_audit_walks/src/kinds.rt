@@ -55,7 +55,7 @@ pub fn are_kinds(script: &Script, report: &Report, met: &Met, walk: &WalkRecord)
     ensures { Decides result (EachItem (IsKindAt script.now report.now walk.now.priority)
         walk.now.attempts.items) }
 {
-    let attempts = walk.attempts.as_slice();
+    let attempts = walk.attempts();
     for k in 0..attempts.len() {
         if !is_kind_at(script, report, met, walk.priority, &attempts[k]) {
             return false;
@@ -71,7 +71,7 @@ pub fn are_stops(script: &Script, report: &Report, met: &Met, walk: &WalkRecord)
     ensures { Decides result (EachItem (IsStopAt script.now report.now walk.now)
         walk.now.attempts.items) }
 {
-    let attempts = walk.attempts.as_slice();
+    let attempts = walk.attempts();
     for k in 0..attempts.len() {
         if !is_stop_at(script, report, met, walk, &attempts[k]) {
             return false;

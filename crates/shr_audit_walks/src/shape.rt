@@ -28,7 +28,7 @@ pub fn is_shaped(alloc: Global, script: &Script, walk: &WalkRecord) -> Result<bo
     if !is_room_last(walk) {
         return Ok(false);
     }
-    if !are_placed(walk.group, walk.attempts.as_slice()) {
+    if !are_placed(walk.group, walk.attempts()) {
         return Ok(false);
     }
     if !is_freed_told(walk) {

@@ -1,12 +1,13 @@
 //! Walks that show what a lawful one does, and walks that each break one field.
 
 use crate::shape::is_shaped;
+use shr_base::found::Found;
 use shr_base::log::Log;
 use shr_base::memory::Memory;
 use shr_base::places::Serial;
 use shr_base::scripts::Script;
 use shr_base::walks::{
-    Attempt, Ending, GoneThen, MapSeen, Outcome, PassRecord, WalkAnswer, WalkRecord,
+    Attempt, Ending, GoneThen, MapSeen, Outcome, PassRecord, WalkAnswer, WalkAsked, WalkRecord,
 };
 use std::alloc::Global;
 use std::test::Fail;
@@ -90,7 +91,7 @@ fn walk(alloc: Global, case: &Case) -> Result<WalkRecord, Memory> {
             })?;
         }
     }
-    Ok(WalkRecord {
+    let asked = WalkAsked {
         by: Serial {
             worker: 0,
             command: 0,
@@ -99,10 +100,9 @@ fn walk(alloc: Global, case: &Case) -> Result<WalkRecord, Memory> {
         node: 0,
         priority: 12,
         nofs: false,
-        maps: Log::from_vec(maps),
-        attempts: Log::from_vec(attempts),
-        answer: case.answer,
-    })
+    };
+    let found = Found::of(alloc, Log::from_vec(maps), Log::from_vec(attempts))?;
+    Ok(WalkRecord::new(asked, found, case.answer))
 }
 
 // Whether the test of a walk answers as its case says.

@@ -3,7 +3,7 @@
 ghost use Rattle.std.specs.Prelude.{◌≡◌, sum_by};
 ghost use Rattle.std.specs.Bool.{Decides};
 ghost use Rattle.std.specs.List.{list_any};
-ghost use Rattle.shr_base.specs.declared.walks.WalkRecord.{WalkRecord};
+ghost use Rattle.shr_base.specs.Walks.{WalkRecord};
 ghost use Rattle.shr_model.specs.Walks.{freed_told, is_cut};
 ghost use Rattle.shr_report.specs.WalksLawful.{balance_reply, reply_of, shrink_reply};
 
@@ -30,7 +30,7 @@ pub fn is_shrink_told(walks: &[WalkRecord], reply: &Reply) -> bool
     if walks.is_empty() {
         return matches!(reply, Reply::WalkMemory { freed: 0 });
     }
-    let told = is_reply_of(walks[0].answer, reply);
+    let told = is_reply_of(walks[0].answer(), reply);
     told
 }
 
@@ -38,7 +38,7 @@ pub fn is_shrink_told(walks: &[WalkRecord], reply: &Reply) -> bool
 fn any_cut(walks: &[WalkRecord]) -> bool
     ensures { result ≡ list_any (λ (w : WalkRecord). is_cut w.answer) walks.now }
 {
-    walks.iter().any(|walk| is_cut(walk.answer))
+    walks.iter().any(|walk| is_cut(walk.answer()))
 }
 
 // Whether these walks say that they freed so much together.
@@ -47,7 +47,7 @@ fn walks_tell(walks: &[WalkRecord], told: u64) -> bool
 {
     let mut left = told;
     for walk in walks {
-        let freed = freed_told(walk.answer);
+        let freed = freed_told(walk.answer());
         if freed > left {
             return false;
         }

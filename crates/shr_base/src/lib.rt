@@ -5,6 +5,7 @@
 #![tactic(auto)]
 
 pub mod ends;
+pub mod found;
 pub mod items;
 pub mod journals;
 pub mod log;

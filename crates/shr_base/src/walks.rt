@@ -1,8 +1,13 @@
 //! The records of walks and of the passes that they make.
 
+ghost use Rattle.std.specs.Prelude.{◌≡◌};
+ghost use Rattle.shr_base.specs.Walks.{walk_record};
+
+use crate::found::Found;
 use crate::log::Log;
 use crate::places::{Place, Serial};
 use crate::replies::{IsolateEnd, Spent};
+use std::marker::Model;
 
 /// How a pass ended: by its loop's test, or by what the next scan call answered.
 ///
@@ -118,7 +123,31 @@ pub enum WalkAnswer {
     Memory { freed: u64 },
 }
 
-/// One walk over a group on a node.
+/// What a walk is asked. Our own name for what Linux hands down in pieces.
+///
+/// Linux: `memcg`, `nid` and `gfp_mask` of `struct shrink_control` in include/linux/shrinker.h, and
+/// the priority of `shrink_slab`. The command is our own.
+#[derive(Clone, Copy, Debug, PartialEq, Eq)]
+pub struct WalkAsked {
+    pub by: Serial,
+    pub group: u16,
+    pub node: u8,
+    /// 12 for the mildest walk, 0 for the hardest.
+    pub priority: u8,
+    /// Whether no file system may be entered.
+    pub nofs: bool,
+}
+
+// Which of its answers a walk was given.
+#[derive(Clone, Copy)]
+enum End {
+    Walked,
+    Offline,
+    Memory,
+}
+
+/// One walk over a group on a node. A run keeps each of its walks, and most find nothing: such a
+/// record has 48 bytes. Contracts see what was asked, the maps and attempts, and the answer.
 ///
 /// Linux: `shrink_slab_memcg` and `shrink_slab` in mm/shrinker.c.
 #[derive(Drop)]
@@ -128,9 +157,73 @@ pub struct WalkRecord {
     pub node: u8,
     pub priority: u8,
     pub nofs: bool,
-    pub maps: Log<MapSeen>,
-    pub attempts: Log<Attempt>,
-    pub answer: WalkAnswer,
+    // The answer in two parts: as one value it would take 8 bytes more.
+    end: End,
+    told: u64,
+    found: Found,
+}
+
+impl Model for WalkRecord {
+    ghost use Rattle.shr_base.specs.Walks.{WalkRecord as Walked, walk_record, answer_in, IsToldWithin};
+
+    ghost Value = { Walked };
+
+    ghost view = { λ w. walk_record
+        (record { by = w.by; group = w.group; node = w.node; priority = w.priority; nofs = w.nofs })
+        w.found.maps.items w.found.attempts.items (answer_in w.end w.told) };
+
+    ghost invariant = { λ w. IsToldWithin w.end w.told };
+}
+
+impl WalkRecord {
+    /// The record of a walk that was asked this, found this and was given this answer. It takes no
+    /// memory. Our own.
+    pub fn new(asked: WalkAsked, found: Found, answer: WalkAnswer) -> WalkRecord
+        ensures { result ≡ walk_record asked found.maps.items found.attempts.items answer }
+    {
+        let (end, told) = match answer {
+            WalkAnswer::Walked { freed } => (End::Walked, freed),
+            WalkAnswer::Offline { entry } => (End::Offline, entry as u64),
+            WalkAnswer::Memory { freed } => (End::Memory, freed),
+        };
+        WalkRecord {
+            by: asked.by,
+            group: asked.group,
+            node: asked.node,
+            priority: asked.priority,
+            nofs: asked.nofs,
+            end,
+            told,
+            found,
+        }
+    }
+
+    /// The bit words that it loaded, in the order of their units. Our own.
+    pub fn maps(&self) -> &[MapSeen]
+        ensures { result.now ≡ self.now.maps.items }
+    {
+        self.found.maps()
+    }
+
+    /// Its attempts, in their order. Our own.
+    pub fn attempts(&self) -> &[Attempt]
+        ensures { result.now ≡ self.now.attempts.items }
+    {
+        self.found.attempts()
+    }
+
+    /// What it was answered. Our own.
+    pub fn answer(&self) -> WalkAnswer
+        ensures { result ≡ self.now.answer }
+    {
+        match self.end {
+            End::Walked => WalkAnswer::Walked { freed: self.told },
+            End::Offline => WalkAnswer::Offline {
+                entry: self.told as u32,
+            },
+            End::Memory => WalkAnswer::Memory { freed: self.told },
+        }
+    }
 }
 
 /// A deferred amount that an offlining moved from a place to that of its parent group.

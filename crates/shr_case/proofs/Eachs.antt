@@ -2,7 +2,7 @@
 use Rattle.shr_case.proofs.Common.{◌≡◌, ℕ, Bool, List, [], Option, Some, None, refl, sym, ap, subst, ◌∙◌, inl, inr, arith, slice_get, Decides, slice_get_within, Place, Entry, WorkerPart, journal_of, IsFirst, AnswersInParts, EachFirst, InParts, answers_in, serial_of, walks_in, journals_of, EachAnswer, EachEntry, EachWalk}
 use Rattle.shr_base.specs.declared.places.Serial.{Serial}
 use Rattle.shr_base.specs.declared.replies.Answered.{Answered}
-use Rattle.shr_base.specs.declared.walks.WalkRecord.{WalkRecord}
+use Rattle.shr_base.specs.Walks.{WalkRecord}
 use Rattle.shr_base.specs.declared.scripts.Command.{Command}
 use Rattle.shr_base.specs.declared.scripts.Script.{Script}
 use Rattle.shr_report.specs.declared.report.Report.{Report}

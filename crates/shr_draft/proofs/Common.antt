@@ -20,7 +20,7 @@ pub use Rattle.shr_base.specs.declared.walks.Isolation.{Isolation}
 pub use Rattle.shr_base.specs.declared.walks.MapSeen.{MapSeen}
 pub use Rattle.shr_base.specs.declared.walks.PlainTry.{PlainTry}
 pub use Rattle.shr_base.specs.declared.walks.PlainWalk.{PlainWalk}
-pub use Rattle.shr_base.specs.declared.walks.WalkRecord.{WalkRecord}
+pub use Rattle.shr_base.specs.Walks.{WalkRecord}
 pub use Rattle.shr_model.specs.Pieces.{cut, pieces}
 pub use Rattle.shr_reader.specs.Said.{IsReadOf, IsSaidNumbered, isolation_head_of, line_kind, plain_head_of, read_line, said_of}
 pub use Rattle.shr_reader.specs.declared.said.Said.{Said}

@@ -1,6 +1,7 @@
 -- What a draft says: the report that its lines say, as far as they were read.
 use Rattle.std.specs.Prelude.{ℕ, ◌+◌, ◌-◌, ◌%◌, ◌^◌, List, [], ◌∷◌, ◌++◌, length, map, replicate, Some, None}
 use Rattle.shr_base.specs.Kept.{Kept}
+pub use Rattle.shr_base.specs.Kept.{kept}
 use Rattle.shr_base.specs.declared.places.Place.{Place}
 use Rattle.shr_base.specs.declared.places.Serial.{Serial}
 use Rattle.shr_base.specs.declared.objects.Object.{Object}
@@ -11,7 +12,7 @@ use Rattle.shr_base.specs.declared.replies.Reply.{Reply}
 use Rattle.shr_base.specs.declared.replies.Answered.{Answered}
 use Rattle.shr_base.specs.declared.walks.Attempt.{Attempt}
 use Rattle.shr_base.specs.declared.walks.MapSeen.{MapSeen}
-use Rattle.shr_base.specs.declared.walks.WalkRecord.{WalkRecord}
+use Rattle.shr_base.specs.Walks.{WalkRecord}
 use Rattle.shr_base.specs.declared.ends.PlaceAmount.{PlaceAmount}
 use Rattle.shr_base.specs.declared.ends.PlaceEnd.{PlaceEnd}
 use Rattle.shr_base.specs.declared.ends.UnitsEnd.{UnitsEnd}
@@ -32,10 +33,6 @@ use Rattle.shr_draft.specs.declared.draft.Draft.{Draft}
 use Rattle.shr_base.specs.declared.walks.Isolation.{Isolation}
 use Rattle.shr_base.specs.declared.walks.PlainTry.{PlainTry}
 use Rattle.shr_base.specs.declared.walks.PlainWalk.{PlainWalk}
-
--- a list without room to spare
-abbrev pub kept : {X : Type 0} → List X → Kept X
-kept xs = record { items = xs; spare = 0 }
 
 -- another item at the end
 abbrev pub with_more : {X : Type 0} → X → Kept X → Kept X

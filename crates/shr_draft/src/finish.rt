@@ -8,26 +8,27 @@ use crate::items::items_of;
 use crate::lists::{ListDraft, UnitsDraft};
 use crate::parts::{PartDraft, PlainDraft, WalkDraft};
 use shr_base::ends::{PlaceEnd, UnitsEnd, WorkerPart};
+use shr_base::found::Found;
 use shr_base::log::Log;
 use shr_base::memory::Memory;
-use shr_base::walks::{PlainWalk, WalkRecord};
+use shr_base::walks::{PlainWalk, WalkAsked, WalkRecord};
 use shr_report::report::Report;
 use std::alloc::Global;
 
 // A walk.
-fn finish_walk(walk: WalkDraft) -> WalkRecord
-    ensures { result ≡ drafted_walk walk }
+fn finish_walk(alloc: Global, walk: WalkDraft) -> Result<WalkRecord, Memory>
+    ensures { IfOk result (λ made. made ≡ drafted_walk walk) }
 {
-    WalkRecord {
+    let asked = WalkAsked {
         by: walk.by,
         group: walk.head.group,
         node: walk.head.node,
         priority: walk.head.priority,
         nofs: walk.head.nofs,
-        maps: Log::from_vec(walk.maps),
-        attempts: Log::from_vec(walk.attempts),
-        answer: walk.head.answer,
-    }
+    };
+    let maps = Log::from_vec(walk.maps);
+    let found = Found::of(alloc, maps, Log::from_vec(walk.attempts))?;
+    Ok(WalkRecord::new(asked, found, walk.head.answer))
 }
 
 // The walks of a worker.
@@ -36,7 +37,7 @@ fn finish_walks(alloc: Global, drafts: Vec<WalkDraft>) -> Result<Vec<WalkRecord>
 {
     let mut walks = Vec::new(alloc);
     for draft in drafts {
-        walks.push(finish_walk(draft))?;
+        walks.push(finish_walk(alloc, draft)?)?;
     }
     Ok(walks)
 }

@@ -14,7 +14,7 @@ pub use Rattle.shr_base.specs.declared.walks.Carry.{Carry}
 pub use Rattle.shr_base.specs.declared.walks.Isolation.{Isolation}
 pub use Rattle.shr_base.specs.declared.walks.MapSeen.{MapSeen}
 pub use Rattle.shr_base.specs.declared.walks.PlainWalk.{PlainWalk}
-pub use Rattle.shr_base.specs.declared.walks.WalkRecord.{WalkRecord}
+pub use Rattle.shr_base.specs.Walks.{WalkRecord}
 pub use Rattle.shr_model.specs.Paths.{is_path}
 pub use Rattle.shr_model.specs.Places.{unit_of}
 pub use Rattle.shr_model.specs.Words.{is_name}

@@ -1,7 +1,9 @@
 -- What is so of each item, and of each two that stand next to one another, by index and by recursion.
 use Rattle.shr_formed.proofs.Common.{◌≡◌, ℕ, zero, suc, ◌+◌, ◌<◌, ◌≤◌, Bool, true, false, List, [], ◌∷◌, length, map, Option, Some, None, refl, sym, ap, subst, ◌∙◌, arith, ◌==◌, slice_get, Contains, Decides, AllByRecursion, MapSeen, EachItem, Adjacent, IsUnitLoaded, get_or, option_map, AllAdjacentBelow}
+use Rattle.std.proofs.lemmas.List.{get_or_default}
 use Rattle.std.proofs.lemmas.Option.{get_or_from_slice_get, slice_get-get_or, slice_get_within, slice_get-map}
 use Rattle.std.proofs.lemmas.Bool.Decides.{nat_tests}
+use Rattle.shr_model.proofs.Lists.{found_at, some_injective}
 
 -- ---- while a list is gone through
 
@@ -19,6 +21,9 @@ each_more {X} P xs i y lt is before here n x below e = by_order (n == i) refl
         subst P (is ∙ x_is) here
     by_order false f = before n x (let lower : n < i = grind (arith, nat_tests) in lower) e
 
+pub each_copied : {X : Type 0} (P : X → Type 0) (xs : List X) (i : ℕ) (d : X) → i < length xs → ((n : ℕ) (x : X) → n < i → slice_get xs n ≡ Some x → P x) → P (get_or xs i d) → (n : ℕ) (x : X) → n < i + 1 → slice_get xs n ≡ Some x → P x
+each_copied P xs i d lt before here = each_more P xs i (get_or xs i d) lt (get_or_default xs i d (get_or xs i d) lt) before here
+
 -- all items
 pub each_all : {X : Type 0} (P : X → Type 0) (xs : List X) (i : ℕ) → length xs ≤ i → ((n : ℕ) (x : X) → n < i → slice_get xs n ≡ Some x → P x) → Decides true (EachItem P xs)
 each_all P xs i over before = (λ t n x e. before n x (let lt = slice_get_within xs n x e in let lower : n < i = grind arith in lower) e, λ h. refl)
@@ -34,6 +39,9 @@ more_at {X} P xs i y lt is before here n x below e = by_order (n == i) refl
         subst (λ (k : ℕ). P k x) (sym same) (subst (P i) (is ∙ x_is) here)
     by_order false f = before n x (let lower : n < i = grind (arith, nat_tests) in lower) e
 
+pub at_copied : {X : Type 0} (P : ℕ → X → Type 0) (xs : List X) (i : ℕ) (d : X) → i < length xs → ((n : ℕ) (x : X) → n < i → slice_get xs n ≡ Some x → P n x) → P i (get_or xs i d) → (n : ℕ) (x : X) → n < i + 1 → slice_get xs n ≡ Some x → P n x
+at_copied P xs i d lt before here = more_at P xs i (get_or xs i d) lt (get_or_default xs i d (get_or xs i d) lt) before here
+
 pub all_at : {X : Type 0} (P : ℕ → X → Type 0) (xs : List X) (i : ℕ) → length xs ≤ i → ((n : ℕ) (x : X) → n < i → slice_get xs n ≡ Some x → P n x) → Decides true ((n : ℕ) (x : X) → slice_get xs n ≡ Some x → P n x)
 all_at P xs i over before = (λ t n x e. before n x (let lt = slice_get_within xs n x e in let lower : n < i = grind arith in lower) e, λ h. refl)
 
@@ -45,14 +53,26 @@ clash b e f = cc
 pub fails : (P Q : Type 0) (b : Bool) → Decides b P → b ≡ false → (Q → P) → Decides false Q
 fails P Q b d f step = (λ t. absurd cc, λ h. absurd (clash b (d.1 (step h)) f))
 
+-- where an item fails, not all are so
+pub one_fails : {X : Type 0} (P : ℕ → X → Type 0) (xs : List X) (i : ℕ) (x : X) (b : Bool) → i < length xs → x ≡ get_or xs i x → Decides b (P i x) → b ≡ false → Decides false ((n : ℕ) (y : X) → slice_get xs n ≡ Some y → P n y)
+one_fails {X} P xs i x b lt is d f = fails (P i x) ((n : ℕ) (y : X) → slice_get xs n ≡ Some y → P n y) b d f (λ all. all i x (found_at xs i x lt is))
+
+pub each_fail : {X : Type 0} (P : X → Type 0) (xs ys : List X) (i : ℕ) (d : X) (b : Bool) → xs ≡ ys → i < length xs → Decides b (P (get_or xs i d)) → b ≡ false → Decides false (EachItem P ys)
+each_fail {X} P xs ys i d b e lt dec f = fails (P (get_or xs i d)) (EachItem P ys) b dec f (λ all. all i (get_or xs i d) (ap (λ (zs : List X). slice_get zs i) (sym e) ∙ slice_get-get_or xs i d lt))
+
+-- all items of what is the same list
+pub each_whole : {X : Type 0} (P : X → Type 0) (xs ys : List X) (i : ℕ) → xs ≡ ys → length xs ≤ i → ((n : ℕ) (x : X) → n < i → slice_get xs n ≡ Some x → P x) → Decides true (EachItem P ys)
+each_whole {X} P xs ys i e over before = subst (λ (zs : List X). Decides true (EachItem P zs)) e (each_all P xs i over before)
+
+-- what is asked of an item, if there is one
+pub at_some : {X : Type 0} (o : Option X) (x : X) (P : X → Type 0) (b : Bool) → Some x ≡ o → Decides b (P x) → Decides b ((y : X) → o ≡ Some y → P y)
+at_some o x P b is d = (λ t y e. subst P (some_injective x y (is ∙ e)) (d.0 t), λ all. d.1 (all x (sym is)))
+
 -- ---- by recursion
 
 pub all_of : {X : Type 0} (P : X → Type 0) (xs : List X) → EachItem P xs → AllByRecursion P xs
 all_of P [] h = tt
 all_of P (x ∷ xs) h = (h 0 x refl, all_of P xs (λ n y e. h (suc n) y e))
-
-pub some_same : {X : Type 0} (a b : X) → ◌≡◌ {A = Option X} (Some a) (Some b) → a ≡ b
-some_same a b e = cc
 
 none_some : {X : Type 0} (a : X) → ◌≡◌ {A = Option X} None (Some a) → ⊥
 none_some a e = cc
@@ -62,7 +82,7 @@ each_in {X} P [] h n x e = absurd (no n x e)
   where
     no : (n : ℕ) (x : X) → slice_get [] n ≡ Some x → ⊥
     no n x e = let lt = slice_get_within [] n x e in absurd (omega arith)
-each_in {X} P (y ∷ ys) h zero x e = subst P (some_same y x e) h.0
+each_in {X} P (y ∷ ys) h zero x e = subst P (some_injective y x e) h.0
 each_in P (y ∷ ys) h (suc n) x e = each_in P ys h.1 n x e
 
 pub each_weaker : {X : Type 0} (P Q : X → Type 0) (xs : List X) → ((x : X) → P x → Q x) → EachItem P xs → EachItem Q xs
@@ -80,7 +100,7 @@ adjacent_in {X} R xs h n x y e f =
 
 mapped_at : {X Y : Type 0} (f : X → Y) (o : Option X) (y : Y) → option_map f o ≡ Some y → (x : X) × ((o ≡ Some x) × (f x ≡ y))
 mapped_at f None y e = absurd (none_some y e)
-mapped_at f (Some x) y e = (x, (refl, some_same (f x) y e))
+mapped_at f (Some x) y e = (x, (refl, some_injective (f x) y e))
 
 pub mapped : {X Y : Type 0} (f : X → Y) (R : Y → Y → Type 0) (xs : List X) → Adjacent (λ x y. R (f x) (f y)) xs → AllAdjacentBelow R (map f xs) (length (map f xs))
 mapped {X} {Y} f R xs h = below_of R (map f xs) (λ n a b e g.

@@ -254,11 +254,11 @@ fn are_attempts_well(group: u16, maps: &[MapSeen], attempts: &[Attempt]) -> bool
 fn is_walk_well(walk: &WalkRecord) -> bool
     ensures { Decides result (IsWalkFormed walk.now) }
 {
-    let maps = walk.maps.as_slice();
+    let maps = walk.maps();
     if !are_maps_well(walk.group, maps) {
         return false;
     }
-    let attempts = are_attempts_well(walk.group, maps, walk.attempts.as_slice());
+    let attempts = are_attempts_well(walk.group, maps, walk.attempts());
     attempts
 }
 

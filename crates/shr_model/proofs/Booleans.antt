@@ -67,3 +67,7 @@ or_false false = refl
 pub not_true : (b : Bool) → not b ≡ true → b ≡ false
 not_true true e = absurd cc
 not_true false e = refl
+
+pub no_test : (b : Bool) → (b ≡ true → ⊥) → b ≡ false
+no_test true h = absurd (h refl)
+no_test false h = refl

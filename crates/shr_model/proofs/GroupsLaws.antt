@@ -3,6 +3,7 @@ use Rattle.shr_model.proofs.Common.{◌≡◌, ◌≢◌, ℕ, zero, suc, ◌+�
 use Rattle.std.proofs.lemmas.List.FromFn.{map-range_with_len_more, length-map-range_with_len, get_or-map-range_with_len}
 use Rattle.std.proofs.lemmas.List.Elements.{filter-append, filter_passes}
 use Rattle.shr_model.specs.Groups.{path_within, preorder_within}
+use Rattle.shr_model.proofs.Lists.{none_past}
 
 -- ---- tests
 
@@ -79,6 +80,12 @@ path_of-below parents tree (suc h) above lt =
     let p = parent_of parents (suc h) in
     let l = tree.lower (suc h) above lt in
     rw (not_zero (suc h) above, same_path parents tree h p p (omega (arith, l)) (omega arith) (omega (arith, l, lt))) refl
+
+-- so is that of a group that isn't there, whose parent is the root
+pub path_of-past : (parents : List ℕ) (g : ℕ) → 0 < g → length parents ≤ g → path_of parents g ≡ g ∷ path_of parents (parent_of parents g)
+unfolding path_within
+path_of-past parents zero above past = absurd (omega arith)
+path_of-past parents (suc h) above past = rw (not_zero (suc h) above, none_past parents (suc h) past, path_zero parents h 0 refl, path_zero parents 0 0 refl) refl
 
 -- how far from the root a group is, and its parent
 pub depth_of-root : (parents : List ℕ) → depth_of parents 0 ≡ 1

@@ -1,9 +1,10 @@
 -- The journals of registrations and of offlining, the histories of groups, and records of passes,
 -- at known values.
-use Rattle.shr_model.proofs.Common.{◌≡◌, ℕ, ℤ, pos, zero, suc, ◌+◌, ◌<◌, Bool, true, false, List, [], ◌∷◌, take, drop, slice_get, refl, Some, None, Option, lit<, subst, arith, Registered, Unregistered, Idle, TreeEntry, Begin, Done, Through, Stop, IsNextPool, IsPoolJournal, Hierarchy, IsHierarchy, IsTree, parent_of, is_later, FollowsArithmetic, UseStep, Serial, IsNextUse, IsDownNext, Made, IsChargeHistory, IsBelow, AreTakenBack}
+use Rattle.shr_model.proofs.Common.{◌≡◌, ℕ, ℤ, pos, zero, suc, ◌+◌, ◌<◌, Bool, true, false, List, [], ◌∷◌, take, drop, refl, Some, None, Option, lit<, subst, arith, Registered, Unregistered, Idle, TreeEntry, Begin, Done, Through, Stop, IsNextPool, IsPoolJournal, Hierarchy, IsHierarchy, IsTree, parent_of, is_later, FollowsArithmetic, UseStep, Serial, IsNextUse, IsDownNext, Made, IsChargeHistory, IsBelow, AreTakenBack}
 use Rattle.shr_model.specs.Pool.{phase_of, decl_from, number_from, is_live_below, lowest_free}
 use Rattle.shr_model.specs.TreeJournal.{MayFollow, IsTreeJournal}
 use Rattle.shr_model.specs.Pass.{due, ask_size}
+use Rattle.shr_model.proofs.Lists.{each_at}
 use Rattle.shr_model.proofs.PoolLaws.{IsPoolJournal_none, IsPoolJournal_push}
 
 pool_twice : IsPoolJournal 1 1 (Registered 0 0 0 ∷ Unregistered 0 0 3 ∷ Idle 0 ∷ Registered 0 0 3 ∷ [])
@@ -114,16 +115,6 @@ not_idle h = omega (arith, h)
 -- a child and then its parent go offline
 abbrev offlined : List TreeEntry
 offlined = Begin 2 ∷ Done 2 ∷ Begin 1 ∷ Done 1 ∷ []
-
--- a fact of each element and its number
-abbrev AllAt : {X : Type 0} → (ℕ → X → Type 0) → List X → Type 0
-AllAt P [] = Unit {0}
-AllAt P (x ∷ xs) = P 0 x × AllAt (λ n. P (suc n)) xs
-
-each_at : {X : Type 0} (P : ℕ → X → Type 0) (xs : List X) → AllAt P xs → (n : ℕ) (x : X) → slice_get xs n ≡ Some x → P n x
-each_at P [] h n x e = absurd (cc)
-each_at P (y ∷ ys) h zero x e = let same : y ≡ x = cc in subst (P 0) same h.0
-each_at P (y ∷ ys) h (suc n) x e = each_at (λ n. P (suc n)) ys h.1 n x e
 
 tree_journal : IsTreeJournal none_later offlined
 tree_journal = each_at (λ n e. MayFollow none_later (take n offlined) e) offlined (

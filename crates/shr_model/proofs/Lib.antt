@@ -20,6 +20,7 @@ pub mod PoolLaws
 pub mod PoolValues
 pub mod PassLaws
 pub mod PassValues
+pub mod ChargeLaws
 pub mod ChargeValues
 pub mod FamilyLaws
 mod KnownPaths

@@ -26,16 +26,20 @@ each_has P (y ∷ ys) x all (inl e) = subst P e all.0
 each_has P (y ∷ ys) x all (inr h) = each_has P ys x all.1 h
 
 -- the elements of lists that are made of others
-Has_left : {X : Type 0} (xs ys : List X) (x : X) → Has xs x → Has (xs ++ ys) x
+pub Has_left : {X : Type 0} (xs ys : List X) (x : X) → Has xs x → Has (xs ++ ys) x
 Has_left [] ys x h = absurd h
 Has_left (y ∷ xs) ys x (inl e) = inl e
 Has_left (y ∷ xs) ys x (inr h) = inr (Has_left xs ys x h)
 
-Has_right : {X : Type 0} (xs ys : List X) (x : X) → Has ys x → Has (xs ++ ys) x
+pub Has_right : {X : Type 0} (xs ys : List X) (x : X) → Has ys x → Has (xs ++ ys) x
 Has_right [] ys x h = h
 Has_right (y ∷ xs) ys x h = inr (Has_right xs ys x h)
 
-Has_cases : {X : Type 0} (xs ys : List X) (x : X) → Has (xs ++ ys) x → Has xs x ⊎ Has ys x
+pub Has_last : {X : Type 0} (xs : List X) (x : X) → Has (xs ++ x ∷ []) x
+Has_last [] x = inl refl
+Has_last (y ∷ xs) x = inr (Has_last xs x)
+
+pub Has_cases : {X : Type 0} (xs ys : List X) (x : X) → Has (xs ++ ys) x → Has xs x ⊎ Has ys x
 Has_cases [] ys x h = inr h
 Has_cases (y ∷ xs) ys x (inl e) = inl (inl e)
 Has_cases (y ∷ xs) ys x (inr h) = elim (Has_cases xs ys x h) [ inl here ↦ inl (inr here) | inr later ↦ inr later ]

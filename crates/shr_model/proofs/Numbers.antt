@@ -1,6 +1,6 @@
 -- Lemmas on numbers that several crates cite.
-use Rattle.shr_model.proofs.Common.{◌≡◌, ℕ, ◌+◌, eqb, cond, arith, suc, zero, List, ◌∷◌, ◌++◌, ap, ◌∙◌, not, nat_tests, min, ◌==◌, ◌&&◌, range_with_len, ltb, ◌<◌}
-use Rattle.std.specs.Ordering.{nat_cmp, is_lt}
+use Rattle.shr_model.proofs.Common.{◌≡◌, ℕ, ◌+◌, eqb, cond, arith, suc, zero, List, ◌∷◌, ◌++◌, ap, ◌∙◌, not, nat_tests, min, ◌==◌, ◌&&◌, range_with_len, ltb, ◌<◌, ◌≢◌, false}
+use Rattle.std.specs.Ordering.{nat_cmp, is_eq, is_lt}
 
 pub below_more : (n k m : ℕ) → m ≡ k → ◌≡◌ {A = ℕ} (cond (ltb n (k + 1)) 1 0) (cond (ltb n k) 1 0 + cond (eqb m n) 1 0)
 below_more n k m e = grind (arith, nat_tests)
@@ -28,3 +28,6 @@ zero_plus n = omega arith
 
 pub later : (level group : ℕ) → level < group → ◌≡◌ {A = ℕ} (cond (ltb level group) 1 0) 1
 later level group lt = grind (arith, nat_tests)
+
+pub apart : (a b : ℕ) → a ≢ b → is_eq (nat_cmp a b) ≡ false
+apart a b ne = grind (arith, nat_tests)

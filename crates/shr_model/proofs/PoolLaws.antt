@@ -1,7 +1,9 @@
 -- The journal of registrations, one entry longer.
-use Rattle.shr_model.proofs.Common.{◌≡◌, ◌≢◌, ◌⊎◌, ℕ, zero, suc, ◌+◌, ◌<◌, ◌≤◌, Bool, true, false, cond, eqb, leb, List, [], ◌∷◌, ◌++◌, length, take, sym, refl, ap, subst, ◌∙◌, inl, inr, ⊎_elim, arith, eq-eqb, ◌&&◌, Option, Some, None, take_all, take-append-le, some, some-injective, some-ne-none, get_elem?, PoolEntry, Registered, Unregistered, Idle, IsNextPool, IsPoolJournal}
+use Rattle.shr_model.proofs.Common.{◌≡◌, ◌≢◌, ◌⊎◌, ℕ, zero, suc, ◌+◌, ◌==◌, ◌<◌, ◌≤◌, Bool, true, false, cond, eqb, leb, List, [], ◌∷◌, ◌++◌, length, take, sym, refl, ap, subst, ◌∙◌, inl, inr, ⊎_elim, arith, eq-eqb, ◌&&◌, Option, Some, None, take_all, take-append-le, some, some-injective, some-ne-none, get_elem?, PoolEntry, Registered, Unregistered, Idle, IsNextPool, IsPoolJournal}
+use mathlib.Core.Logic.{dite}
+use native.Mathlib.Decide.{dec_lt}
 use Rattle.std.proofs.Common.{ne_eqb, lt-ltb, le-ltb}
-use Rattle.shr_model.specs.Pool.{id_of, phase_of, decl_after, decl_from, number_after, number_from, Registration, end_of, registrations, HaveEndedBy, is_before, lies_in, decl_at, from_after, from_from, dying_in}
+use Rattle.shr_model.specs.Pool.{id_of, phase_of, decl_after, decl_from, number_after, number_from, Registration, end_of, registrations, HaveEndedBy, is_before, lies_in, decl_at, from_after, from_from, dying_in, is_free, is_live_below, lowest_free}
 
 -- 1 where the entry is of the id
 abbrev pub one_of : ℕ → PoolEntry → ℕ
@@ -12,6 +14,25 @@ pub phase_of_push : (i : ℕ) (es : List PoolEntry) (e : PoolEntry) → phase_of
 unfolding phase_of
 phase_of_push i [] e = omega arith
 phase_of_push i (x ∷ es) e = omega (arith, phase_of_push i es e)
+
+-- and that of no other
+pub else_none : (i : ℕ) (e : PoolEntry) → id_of e ≢ i → one_of i e ≡ 0
+else_none i e ne = ap (λ b. cond b 1 0) (ne_eqb (id_of e) i ne)
+
+-- an id has at most as many entries as the journal
+pub phase_few : (id : ℕ) (es : List PoolEntry) → phase_of id es ≤ length es
+unfolding phase_of
+phase_few id [] = omega arith
+phase_few id (e ∷ es) = by_bool (id_of e == id) (phase_few id es)
+  where
+    by_bool : (b : Bool) → phase_of id es ≤ length es → cond b 1 0 + phase_of id es ≤ suc (length es)
+    by_bool true h = omega (arith, h)
+    by_bool false h = omega (arith, h)
+
+-- no id below 0 is live
+pub live_none : (decl : ℕ) (es : List PoolEntry) → is_live_below decl 0 es ≡ false
+unfolding is_live_below
+live_none decl es = refl
 
 -- the declaration of an id after one entry more
 pub decl_from_push : (i d : ℕ) (es : List PoolEntry) (e : PoolEntry) → decl_from i d (es ++ e ∷ []) ≡ decl_after i (decl_from i d es) e
@@ -250,3 +271,38 @@ pub dying_none : (ids : ℕ) → dying_in ids [] ≡ 0
 unfolding dying_in phase_of
 dying_none zero = refl
 dying_none (suc id) = omega (arith, dying_none id)
+
+-- ---- ids past the last one
+
+-- an id that can be registered is one of those that were looked at
+pub lowest_within : (more id i : ℕ) (es : List PoolEntry) → lowest_free more id es ≡ Some i → i < id + more
+unfolding lowest_free
+lowest_within zero id i es e = let d : ◌≡◌ {A = Option ℕ} None (Some i) = e in absurd (cc)
+lowest_within (suc more) id i es e =
+    let P : Bool → Type 0 = λ b. cond b (Some id) (lowest_free more (suc id) es) ≡ Some i → i < id + suc more in
+    let all : (b : Bool) → P b = λ b. elim b as P [ true ↦ (λ f. let d : ◌≡◌ {A = Option ℕ} (Some id) (Some i) = f in let same : id ≡ i = cc in omega (arith, same)) | false ↦ (λ f. omega (arith, lowest_within more (suc id) i es f)) ] in
+    all (is_free id es) e
+
+-- an entry that may follow is of one of the ids, where those past the last have none
+pub next_within : (ids decls : ℕ) (es : List PoolEntry) (e : PoolEntry) → ((i : ℕ) → ids ≤ i → phase_of i es ≡ 0) → IsNextPool ids decls es e → id_of e < ids
+next_within ids decls es (Registered d i from) past n = omega (arith, lowest_within ids 0 i es n.2)
+next_within ids decls es (Unregistered d i to) past n = let one = n.0 in dite (dec_lt i ids) (λ h. h) (λ far. absurd (omega (arith, one, past i (omega (arith, far)))))
+next_within ids decls es (Idle i) past n = dite (dec_lt i ids) (λ h. h) (λ far. absurd (omega (arith, n, past i (omega (arith, far)))))
+
+pub take_next : (es : List PoolEntry) (k : ℕ) → k < length es → (x : PoolEntry) × (get_elem? es k ≡ some x) × (take (suc k) es ≡ take k es ++ x ∷ [])
+take_next [] k h = absurd (omega (arith, h))
+take_next (x ∷ es) zero h = (x, refl, refl)
+take_next (x ∷ es) (suc k) h = let t = take_next es k (omega (arith, h)) in (t.0, t.1, ap (λ (l : List PoolEntry). x ∷ l) t.2)
+
+past_take : (ids decls : ℕ) (es : List PoolEntry) → IsPoolJournal ids decls es → (k : ℕ) → k ≤ length es → (i : ℕ) → ids ≤ i → phase_of i (take k es) ≡ 0
+unfolding phase_of
+past_take ids decls es all zero le i far = refl
+past_take ids decls es all (suc k) le i far =
+    let t = take_next es k (omega (arith, le)) in
+    let before = past_take ids decls es all k (omega (arith, le)) in
+    let here = next_within ids decls (take k es) t.0 before (all k t.0 t.1) in
+    ap (phase_of i) t.2 ∙ omega (arith, phase_of_push i (take k es) t.0, before i far, else_none i t.0 (λ q. omega (arith, q, far, here)))
+
+-- a journal speaks of no id past the last
+pub past_none : (ids decls i : ℕ) (es : List PoolEntry) → IsPoolJournal ids decls es → ids ≤ i → phase_of i es ≡ 0
+past_none ids decls i es all far = ap (phase_of i) (sym (take_all (length es) es (omega arith))) ∙ past_take ids decls es all (length es) (omega arith) i far

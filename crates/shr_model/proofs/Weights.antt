@@ -1,9 +1,10 @@
 -- What a journal adds and takes in weighs what it frees, gives away and leaves, whatever a serial
 -- weighs.
-use Rattle.shr_model.proofs.Common.{◌≡◌, ℕ, zero, suc, ◌+◌, ◌<◌, Bool, true, ◌&&◌, ◌==◌, cond, List, [], ◌∷◌, ◌++◌, find, IsPermutation, refl, Option, Some, None, ap, sym, arith, inl, inr, cases_Bool, and_parts, and_from, eqb-true, IsPermutation-refl, IsPermutation-sym, IsPermutation-trans, IsPermutation-cons, IsPermutation-middle, Object, Policy, Serial, Entry, Add, Look, Drop, Pin, Scan, MovedIn, Closed, Drained, is_named, named_in, marked_object, unmarked_object, pinned_object, without_first, LruStatus, Removed, Rotate, Skip, case_of, Scanned, scan_ends, after_visit, after_freeing, dropped_of, after_drop, first_moved, later_moved, step, IsOutcome, freed_by, serials_of, added_by, added_by_all}
+use Rattle.shr_model.proofs.Common.{◌≡◌, ℕ, zero, suc, ◌+◌, ◌<◌, Bool, true, ◌==◌, cond, List, [], ◌∷◌, ◌++◌, find, IsPermutation, refl, Option, Some, None, ap, sym, arith, inl, inr, cases_Bool, and_parts, and_from, eqb-true, IsPermutation-refl, IsPermutation-sym, IsPermutation-trans, IsPermutation-cons, IsPermutation-middle, Object, Policy, Serial, Entry, Add, Look, Drop, Pin, Scan, MovedIn, Closed, Drained, is_named, named_in, marked_object, unmarked_object, pinned_object, without_first, LruStatus, Removed, Rotate, Skip, case_of, Scanned, scan_ends, after_visit, after_freeing, dropped_of, after_drop, first_moved, later_moved, step, IsOutcome, freed_by, serials_of, added_by, added_by_all}
 use Rattle.std.proofs.Common.{append-nil}
 use Rattle.std.proofs.lemmas.Bool.{eq-eqb}
 use Rattle.shr_base.specs.declared.objects.LruStatus.TheVariants.{Stop}
+use Rattle.shr_model.specs.Commands.{is_serial}
 use Rattle.shr_model.specs.Scan.{scan_from}
 use Rattle.shr_model.specs.Items.{items_from, freed_from, AreOutcomes}
 use Rattle.shr_model.proofs.BagLaws.{serials_of_changed, serials_of_added}
@@ -26,13 +27,10 @@ mass_append w [] ys = omega arith
 mass_append w (x ∷ xs) ys = omega (arith, mass_append w xs ys)
 
 -- two serials are one
-abbrev is_serial : Serial → Serial → Bool
-is_serial x y = (x.worker == y.worker) && (x.command == y.command)
-
-is_serial_itself : (x : Serial) → is_serial x x ≡ true
+pub is_serial_itself : (x : Serial) → is_serial x x ≡ true
 is_serial_itself x = and_from (x.worker == x.worker) (x.command == x.command) (eq-eqb x.worker x.worker refl) (eq-eqb x.command x.command refl)
 
-is_serial_same : (x y : Serial) → is_serial x y ≡ true → x ≡ y
+pub is_serial_same : (x y : Serial) → is_serial x y ≡ true → x ≡ y
 is_serial_same x y h =
     let parts = and_parts (x.worker == y.worker) (x.command == y.command) h in
     let workers = eqb-true x.worker y.worker parts.0 in

@@ -5,7 +5,7 @@ use Rattle.shr_base.specs.declared.walks.PassRecord.{PassRecord}
 use Rattle.shr_base.specs.declared.walks.Attempt.{Attempt}
 use Rattle.shr_base.specs.declared.walks.WalkAnswer.{WalkAnswer}
 use Rattle.shr_base.specs.declared.walks.WalkAnswer.TheVariants.{Walked, Offline, Memory}
-use Rattle.shr_base.specs.declared.walks.WalkRecord.{WalkRecord}
+use Rattle.shr_base.specs.Walks.{WalkRecord}
 use Rattle.shr_model.specs.Places.{is_place}
 use Rattle.shr_model.specs.Bits.{ids_in}
 use Rattle.shr_model.specs.Attempts.{pass_of, counts_of, is_clearing}

@@ -276,7 +276,7 @@ fn put_walk<K: Sink>(out: &mut Paper<K>, piece: &mut Piece, number: usize, walk:
     ensures answer { IsWalkedNumbered walk.now.answer }
 {
     let start = piece.line_end();
-    let start = add_walked(piece, start, &walk.answer);
+    let start = add_walked(piece, start, &walk.answer());
     let start = piece.either(start, walk.nofs, b"nofs", b"fs");
     let start = piece.number(start, walk.priority as u64);
     let start = piece.number(start, walk.node as u64);
@@ -295,5 +295,5 @@ pub fn walk<K: Sink>(out: &mut Paper<K>, piece: &mut Piece, number: usize, walk:
     let _worker = walk.by.worker;
     let _command = walk.by.command;
     put_walk(out, piece, number, walk);
-    units(out, piece, walk.maps.as_slice(), walk.attempts.as_slice())
+    units(out, piece, walk.maps(), walk.attempts())
 }

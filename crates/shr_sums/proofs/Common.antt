@@ -6,7 +6,7 @@ pub use Rattle.std.specs.Prelude.{IsPermutation, filter, filter_map, flat_map, n
 pub use Rattle.shr_base.specs.declared.places.Place.{Place}
 pub use Rattle.shr_base.specs.declared.walks.Carry.{Carry}
 pub use Rattle.shr_base.specs.declared.walks.PassRecord.{PassRecord}
-pub use Rattle.shr_base.specs.declared.walks.WalkRecord.{WalkRecord}
+pub use Rattle.shr_base.specs.Walks.{WalkRecord}
 pub use Rattle.shr_model.specs.Deferred.{amount_at, deferred_word, sum_at}
 pub use Rattle.shr_model.specs.Moves.{given_at, is_below, taken_at}
 pub use Rattle.shr_model.specs.Places.{at_group, is_place}

@@ -28,7 +28,7 @@ pub use Rattle.shr_base.specs.declared.walks.Outcome.{Outcome}
 pub use Rattle.shr_base.specs.declared.walks.PassRecord.{PassRecord}
 pub use Rattle.shr_base.specs.declared.walks.WalkAnswer.{WalkAnswer}
 pub use Rattle.shr_base.specs.declared.walks.WalkAnswer.TheVariants.{Memory, Walked}
-pub use Rattle.shr_base.specs.declared.walks.WalkRecord.{WalkRecord}
+pub use Rattle.shr_base.specs.Walks.{WalkRecord}
 pub use Rattle.shr_charge.specs.Charging.{AreDowns, AreRising, IsDown, calls_with, use_group}
 pub use Rattle.shr_charge.specs.Seat.{IsChargeSeat, counted, spent_by, standing_of, tree_of, uses_of}
 pub use Rattle.shr_charge.specs.Views.{TreeView, Uses, both_uses}

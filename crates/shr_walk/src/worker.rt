@@ -1,6 +1,7 @@
 //! A worker as one value.
 
 ghost use Rattle.std.specs.Prelude.{◌≡◌, ◌<◌, ◌≤◌, ◌*◌, ◌^◌, IfOk, OnOk, length};
+ghost use Rattle.shr_base.specs.Kept.{kept};
 ghost use Rattle.shr_charge.specs.Steps.{with_load};
 ghost use Rattle.shr_charge.specs.Told.{Shows};
 ghost use Rattle.shr_charge.specs.Seat.{spent_by};
@@ -16,11 +17,12 @@ ghost use Rattle.shr_walk.specs.Walked.{record_of, walk_work};
 
 use crate::seats::{Seats, Shared};
 use crate::walking::Walk;
+use shr_base::found::Found;
 use shr_base::log::Log;
 use shr_base::memory::Memory;
 use shr_base::places::Serial;
 use shr_base::replies::Spent;
-use shr_base::walks::{Attempt, MapSeen, WalkAnswer, WalkRecord};
+use shr_base::walks::{WalkAnswer, WalkAsked, WalkRecord};
 use shr_charge::answers::GroupState;
 use std::alloc::Global;
 use std::marker::Model;
@@ -165,27 +167,19 @@ impl<'a, R: Wait> Worker<'a, R> {
     }
 
     // Notes a walk, in the room that was made for it.
-    pub(crate) fn note(
-        &mut self,
-        walk: &Walk,
-        maps: Log<MapSeen>,
-        attempts: Log<Attempt>,
-        answer: WalkAnswer,
-    )
+    pub(crate) fn note(&mut self, walk: &Walk, found: Found, answer: WalkAnswer)
         requires room { 0 < self.old.room }
-        ensures noted { Does self.old.state self.new.state
-            (walk_work (record_of walk.now maps attempts answer)) }
+        ensures noted { Does self.old.state self.new.state (walk_work
+            (record_of walk.now (kept found.maps.items) (kept found.attempts.items) answer)) }
         ensures same { IsSame self.old self.new }
     {
-        self.seats.walks.push(WalkRecord {
+        let asked = WalkAsked {
             by: walk.by,
             group: walk.group,
             node: walk.node,
             priority: walk.priority,
             nofs: walk.nofs,
-            maps,
-            attempts,
-            answer,
-        });
+        };
+        self.seats.walks.push(WalkRecord::new(asked, found, answer));
     }
 }

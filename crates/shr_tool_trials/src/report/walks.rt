@@ -2,11 +2,13 @@
 
 use crate::report::parts::{PLACE, by, unheld};
 use shr_base::ends::WorkerPart;
+use shr_base::found::Found;
 use shr_base::log::Log;
 use shr_base::places::Place;
 use shr_base::replies::{Reply, Spent};
 use shr_base::walks::{
-    Attempt, Carry, Ending, GoneThen, MapSeen, Outcome, PassRecord, WalkAnswer, WalkRecord,
+    Attempt, Carry, Ending, GoneThen, MapSeen, Outcome, PassRecord, WalkAnswer, WalkAsked,
+    WalkRecord,
 };
 use std::alloc::Global;
 use std::test::Fail;
@@ -81,26 +83,24 @@ const EMPTY: Outcome = Outcome::Empty {
     version: 59,
 };
 
-// A walk on node 1 with no maps and no attempts.
-fn walk(alloc: Global, command: u32, group: u16, answer: WalkAnswer) -> WalkRecord {
-    WalkRecord {
+// What a walk was asked, whose group alone may enter no file system.
+fn asked(command: u32, group: u16, node: u8, priority: u8) -> WalkAsked {
+    WalkAsked {
         by: by(1, command),
         group,
-        node: 1,
-        priority: 12,
+        node,
+        priority,
         nofs: group == 1,
-        maps: Log::new(alloc),
-        attempts: Log::new(alloc),
-        answer,
     }
 }
 
 // Over a group, with every outcome that an attempt may have there.
 fn over_group(alloc: Global) -> Result<WalkRecord, Fail> {
-    let mut over = walk(alloc, 0, 1, WalkAnswer::Walked { freed: 55 });
+    let mut maps = Log::new(alloc);
     for map in MAPS {
-        over.maps.add(map)?;
+        maps.add(map)?;
     }
+    let mut attempts = Log::new(alloc);
     for one in [
         attempt(0, Outcome::Worn { seen: 4294967295 }),
         attempt(1, gone(40, GoneThen::Set)),
@@ -111,15 +111,16 @@ fn over_group(alloc: Global) -> Result<WalkRecord, Fail> {
         attempt(64, RESTORED_SKIP),
         attempt(65, restored(53, 54, Ending::Stop)),
     ] {
-        over.attempts.add(one)?;
+        attempts.add(one)?;
     }
-    Ok(over)
+    let found = Found::of(alloc, maps, attempts)?;
+    let answer = WalkAnswer::Walked { freed: 55 };
+    Ok(WalkRecord::new(asked(0, 1, 1, 12), found, answer))
 }
 
 // Over the root, which has no maps, for which there was no memory at last.
 fn over_root(alloc: Global) -> Result<WalkRecord, Fail> {
-    let mut over = walk(alloc, 2, 0, WalkAnswer::Memory { freed: 62 });
-    over.priority = 0;
+    let mut attempts = Log::new(alloc);
     let spent = Spent::Lookups { id: 3, seen: 56 };
     for one in [
         attempt(0, gone(57, GoneThen::Root)),
@@ -127,9 +128,11 @@ fn over_root(alloc: Global) -> Result<WalkRecord, Fail> {
         attempt(2, ran(60, Ending::NoRoom)),
         attempt(3, ran(61, Ending::Worn { spent })),
     ] {
-        over.attempts.add(one)?;
+        attempts.add(one)?;
     }
-    Ok(over)
+    let found = Found::of(alloc, Log::new(alloc), attempts)?;
+    let answer = WalkAnswer::Memory { freed: 62 };
+    Ok(WalkRecord::new(asked(2, 0, 1, 0), found, answer))
 }
 
 fn carry(command: u32, place: Place, amount: u64) -> Carry {
@@ -149,10 +152,9 @@ const OTHER: Place = Place {
 // The walks: two of one command, none of the second, and one of the third.
 fn add_walks(alloc: Global, part: &mut WorkerPart) -> Result<(), Fail> {
     part.walks.add(over_group(alloc)?)?;
-    let mut offline = walk(alloc, 0, 2, WalkAnswer::Offline { entry: 1 });
-    offline.node = 0;
-    offline.priority = 1;
-    part.walks.add(offline)?;
+    let offline = WalkAnswer::Offline { entry: 1 };
+    let bare = WalkRecord::new(asked(0, 2, 0, 1), Found::new(), offline);
+    part.walks.add(bare)?;
     part.walks.add(over_root(alloc)?)?;
     Ok(())
 }

@@ -15,6 +15,6 @@ pub const fn place_of(group: u16) -> Place {
 
 /// What a walk of a worker came to, by the number of the walk and that of its attempt.
 pub fn outcome(seats: &Seats, walk: usize, attempt: usize) -> Option<Outcome> {
-    let attempts = &seats.walks.get(walk)?.attempts;
+    let attempts = seats.walks.get(walk)?.attempts();
     Some(attempts.get(attempt)?.outcome)
 }

@@ -4,10 +4,10 @@ use Rattle.shr_audit_scans.proofs.passes.note_walk.Goals as goal
 
 pub loop-attempt-preserved : goal.loop-attempt-preserved
 loop-attempt-preserved c =
-    flat_step (keys_at c.args.worker c.args.n c.args.walk.now) c.as_slice-attempt-items.result.now c.loop-attempt.attempt-index _ c.args.keys.now.items c.loop-attempt.keys.items c.note_attempt.new.keys.items
+    flat_step (keys_at c.args.worker c.args.n c.args.walk.now) c.attempts-attempt-items.result.now c.loop-attempt.attempt-index _ c.args.keys.now.items c.loop-attempt.keys.items c.note_attempt.new.keys.items
     c.loop-attempt-test.true c.loop-attempt.invariant c.in_ok-note_attempt.ensures
 
 pub returns : goal.returns
 returns c =
-    flat_all (keys_at c.args.worker c.args.n c.args.walk.now) c.as_slice-attempt-items.result.now c.loop-attempt.attempt-index c.args.keys.now.items c.loop-attempt.keys.items c.loop-attempt-test.false c.loop-attempt.invariant
-    ∙ ap (λ (xs : List Attempt). c.args.keys.now.items ++ flat_map (keys_at c.args.worker c.args.n c.args.walk.now) xs) c.as_slice-attempt-items.ensures
+    flat_all (keys_at c.args.worker c.args.n c.args.walk.now) c.attempts-attempt-items.result.now c.loop-attempt.attempt-index c.args.keys.now.items c.loop-attempt.keys.items c.loop-attempt-test.false c.loop-attempt.invariant
+    ∙ ap (λ (xs : List Attempt). c.args.keys.now.items ++ flat_map (keys_at c.args.worker c.args.n c.args.walk.now) xs) c.attempts-attempt-items.ensures

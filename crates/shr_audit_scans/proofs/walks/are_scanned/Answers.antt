@@ -4,13 +4,13 @@ use Rattle.shr_audit_scans.proofs.walks.are_scanned.Goals as goal
 
 pub returns-then-not-is_scanned_at : goal.returns-then-not-is_scanned_at
 returns-then-not-is_scanned_at c =
-    each_fail (IsScannedAt c.args.known.now.script.now c.args.known.now.report.now c.args.worker c.args.n c.args.walk.now) c.as_slice-attempts.result.now c.args.walk.now.attempts.items c.loop-k.k _ c.is_scanned_at.result c.as_slice-attempts.ensures c.loop-k-test.true c.is_scanned_at.ensures
+    each_fail (IsScannedAt c.args.known.now.script.now c.args.known.now.report.now c.args.worker c.args.n c.args.walk.now) c.attempts-attempts.result.now c.args.walk.now.attempts.items c.loop-k.k _ c.is_scanned_at.result c.attempts-attempts.ensures c.loop-k-test.true c.is_scanned_at.ensures
     c.if-not-is_scanned_at.true
 
 pub loop-k-preserved : goal.loop-k-preserved
 loop-k-preserved c =
-    each_step (IsScannedAt c.args.known.now.script.now c.args.known.now.report.now c.args.worker c.args.n c.args.walk.now) c.as_slice-attempts.result.now c.loop-k.k _ c.loop-k-test.true c.loop-k.invariant (c.is_scanned_at.ensures.0 c.if-not-is_scanned_at.false)
+    each_step (IsScannedAt c.args.known.now.script.now c.args.known.now.report.now c.args.worker c.args.n c.args.walk.now) c.attempts-attempts.result.now c.loop-k.k _ c.loop-k-test.true c.loop-k.invariant (c.is_scanned_at.ensures.0 c.if-not-is_scanned_at.false)
 
 pub returns : goal.returns
 returns c =
-    each_whole (IsScannedAt c.args.known.now.script.now c.args.known.now.report.now c.args.worker c.args.n c.args.walk.now) c.as_slice-attempts.result.now c.args.walk.now.attempts.items c.loop-k.k c.as_slice-attempts.ensures c.loop-k-test.false c.loop-k.invariant
+    each_whole (IsScannedAt c.args.known.now.script.now c.args.known.now.report.now c.args.worker c.args.n c.args.walk.now) c.attempts-attempts.result.now c.args.walk.now.attempts.items c.loop-k.k c.attempts-attempts.ensures c.loop-k-test.false c.loop-k.invariant

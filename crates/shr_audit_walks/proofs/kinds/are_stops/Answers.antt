@@ -4,11 +4,11 @@ use Rattle.shr_audit_walks.proofs.kinds.are_stops.Goals as goal
 
 pub returns-then-not-is_stop_at : goal.returns-then-not-is_stop_at
 returns-then-not-is_stop_at c =
-    each_fail (IsStopAt c.args.script.now c.args.report.now c.args.walk.now) c.as_slice-attempts.result.now c.args.walk.now.attempts.items c.loop-k.k _ c.is_stop_at.result c.as_slice-attempts.ensures c.loop-k-test.true c.is_stop_at.ensures c.if-not-is_stop_at.true
+    each_fail (IsStopAt c.args.script.now c.args.report.now c.args.walk.now) c.attempts-attempts.result.now c.args.walk.now.attempts.items c.loop-k.k _ c.is_stop_at.result c.attempts-attempts.ensures c.loop-k-test.true c.is_stop_at.ensures c.if-not-is_stop_at.true
 
 pub loop-k-preserved : goal.loop-k-preserved
 loop-k-preserved c =
-    each_step (IsStopAt c.args.script.now c.args.report.now c.args.walk.now) c.as_slice-attempts.result.now c.loop-k.k _ c.loop-k-test.true c.loop-k.invariant (c.is_stop_at.ensures.0 c.if-not-is_stop_at.false)
+    each_step (IsStopAt c.args.script.now c.args.report.now c.args.walk.now) c.attempts-attempts.result.now c.loop-k.k _ c.loop-k-test.true c.loop-k.invariant (c.is_stop_at.ensures.0 c.if-not-is_stop_at.false)
 
 pub returns : goal.returns
-returns c = each_whole (IsStopAt c.args.script.now c.args.report.now c.args.walk.now) c.as_slice-attempts.result.now c.args.walk.now.attempts.items c.loop-k.k c.as_slice-attempts.ensures c.loop-k-test.false c.loop-k.invariant
+returns c = each_whole (IsStopAt c.args.script.now c.args.report.now c.args.walk.now) c.attempts-attempts.result.now c.args.walk.now.attempts.items c.loop-k.k c.attempts-attempts.ensures c.loop-k-test.false c.loop-k.invariant

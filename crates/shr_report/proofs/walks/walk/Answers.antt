@@ -7,7 +7,7 @@ returns-clause-numbers g c = record {
   group = c.put_walk.ensures.group;
   node = c.put_walk.ensures.node;
   priority = c.put_walk.ensures.priority;
-  maps = rw c.as_slice.ensures at c.units.ensures.maps;
-  attempts = rw c.as_slice-2.ensures at c.units.ensures.attempts;
+  maps = rw c.maps.ensures at c.units.ensures.maps;
+  attempts = rw c.attempts.ensures at c.units.ensures.attempts;
   answer = c.put_walk.ensures.answer;
 }
