@@ -1,6 +1,5 @@
 -- The law of the bag, of a run.
-use Rattle.shr_assemble.proofs.Common.{◌≡◌, ℕ, suc, ◌<◌, inl, inr, ⊎_elim, true, List, [], ◌∷◌, length, map, refl, ap, slice_get, Some, AllByRecursion, Add, PlaceEnd, Script, added_in, listed_in, IsWhole, bag_of_legal, AreApart_of_ends, find_end, Report, parents_of, journal_of, journals_of, places_of, cited_at, Step, IsRun, added_distinct, IsBagLawful}
-use Rattle.shr_model.specs.Bag.{freed_in, IsBag}
+use Rattle.shr_assemble.proofs.Common.{◌≡◌, ℕ, suc, ◌<◌, inl, inr, ⊎_elim, true, List, [], ◌∷◌, length, map, refl, ap, slice_get, Some, AllByRecursion, Add, PlaceEnd, Script, added_in, listed_in, IsWhole, bag_of_legal, AreApart_of_ends, find_end, Report, parents_of, journal_of, journals_of, places_of, cited_at, Step, IsRun, added_distinct, IsBagLawful, freed_in, IsBag}
 use Rattle.shr_assemble.proofs.RepliesLaw.{cited}
 
 pub all_mapped : {X Y : Type 0} (P : Y → Type 0) (f : X → Y) (xs : List X) → ((n : ℕ) (x : X) → slice_get xs n ≡ Some x → P (f x)) → AllByRecursion P (map f xs)

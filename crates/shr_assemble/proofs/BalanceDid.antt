@@ -4,14 +4,14 @@ use Rattle.shr_base.specs.declared.replies.Reply.TheVariants as reply
 use Rattle.shr_base.specs.declared.walks.WalkAnswer.TheVariants as answered
 use Rattle.shr_model.specs.Groups.{preorder_within}
 use Rattle.shr_walk.proofs.Balancing.{all_within}
-use Rattle.shr_assemble.proofs.Bringing.{brings_of}
+use Rattle.shr_assemble.proofs.QuietTenant.{brings_of}
 use Rattle.shr_assemble.proofs.Listed.{slice_contains}
-use Rattle.shr_assemble.proofs.WalkingTold.{IsTableOf}
-use Rattle.shr_assemble.proofs.WalkingGives.{idle_walked, freed_none}
+use Rattle.shr_assemble.proofs.WalkingWell.{IsTableOf, begins_prefix}
+use Rattle.shr_assemble.proofs.WalkingGives.{freed_none}
 use Rattle.shr_assemble.proofs.WalkingCharges.{rec_of, tree_is}
-use Rattle.shr_assemble.proofs.WalkingWell.{begins_prefix}
-use Rattle.shr_assemble.proofs.WalkingChain.{all_seen, IsThereJob, gave_all, walked_one, all_had, all_cut, told_by, any_cut, front_had, front_pairs}
+use Rattle.shr_assemble.proofs.WalkingChain.{IsThereJob, gave_all, walked_one, all_had, all_cut, told_by, any_cut, front_had, front_pairs}
 use Rattle.shr_assemble.proofs.WalkingDid.{Stepping, walks_did}
+use Rattle.shr_assemble.proofs.WalkingSteps.{walked_still}
 
 some_group : (n : ℕ) (parents : List ℕ) (g : ℕ) → 0 < n → 0 < length (preorder_within n parents g)
 unfolding preorder_within
@@ -55,7 +55,7 @@ module _ (x : Shared) (table : IsTableOf x) (by : Serial) (node priority : ℕ) 
   whole : (freed : ℕ) (g : IsBalanced x walk_of freed s t) → node < x.script.nodes → Stepping x by Command_of (unfound (reply.Walked freed)) s t
   whole freed g there =
       let one = walked_one x walk_of (all_groups x) g.answers s t g.walked in
-      let all = gave_all x table by Command_of (unfound (reply.Walked freed)) (jobs_for (all_groups x)) g.answers s t one (all_seen x by (jobs_for (all_groups x)) g.answers s t one) (jobs_there (all_groups x) there (λ i k e. inside k i e)) in
+      let all = gave_all x table by Command_of (unfound (reply.Walked freed)) (jobs_for (all_groups x)) g.answers s t one (jobs_there (all_groups x) there (λ i k e. inside k i e)) in
       let had = all_had (jobs_for (all_groups x)) g.answers all.work.walks all.noted (rec_of HadMemory g.answers g.had) in
       let jobs : map job_of all.work.walks ≡ jobs_for (preorder_of (parents_of x.script) 0) = had.jobs_are ∙ ap jobs_for same_groups in
       let long : length all.work.walks ≡ length (preorder_of (parents_of x.script) 0) = sym (length-map all.work.walks job_of) ∙ (ap (λ (l : List Job). length l) jobs ∙ length-map (preorder_of (parents_of x.script) 0) (λ (k : ℕ). job k node priority nofs)) in record {
@@ -79,7 +79,7 @@ module _ (x : Shared) (table : IsTableOf x) (by : Serial) (node priority : ℕ) 
   cut freed g there =
       let gs = take (g.n + 1) (all_groups x) in
       let one = walked_one x walk_of (take (g.n + 1) (all_groups x)) (g.answers ++ g.last ∷ []) s t g.walked in
-      let all = gave_all x table by Command_of (unfound (reply.WalkMemory freed)) (jobs_for (take (g.n + 1) (all_groups x))) (g.answers ++ g.last ∷ []) s t one (all_seen x by (jobs_for (take (g.n + 1) (all_groups x))) (g.answers ++ g.last ∷ []) s t one)
+      let all = gave_all x table by Command_of (unfound (reply.WalkMemory freed)) (jobs_for (take (g.n + 1) (all_groups x))) (g.answers ++ g.last ∷ []) s t one
       (jobs_there (take (g.n + 1) (all_groups x)) there (λ i k e. inside k i (in_take (all_groups x) (g.n + 1) i k e))) in
       let c = all_cut (jobs_for (take (g.n + 1) (all_groups x))) g.answers g.last all.work.walks all.noted (rec_of HadMemory g.answers g.had) g.lacked in
       let due : jobs_for (preorder_of (parents_of x.script) 0) ≡ map job_of all.work.walks ++ (c.begins.0 ++ jobs_for (drop (g.n + 1) (all_groups x))) = ap jobs_for (sym same_groups ∙ sym (take-append-drop (g.n + 1) (all_groups x)))
@@ -107,7 +107,7 @@ module _ (x : Shared) (table : IsTableOf x) (by : Serial) (node priority : ℕ) 
   nothing_done d = record {
     work = no_work;
     does = brings_of d;
-    did = walks_did x table by Command_of (reply.WalkMemory 0) s t no_work (idle_walked x.script by Command_of (unfound (reply.WalkMemory 0)) s t d) (freed_none x by) tt refl refl record {
+    did = walks_did x table by Command_of (reply.WalkMemory 0) s t no_work (walked_still x.script by Command_of (unfound (reply.WalkMemory 0)) [] 0 0 [] s t d) (freed_none x by) tt refl refl record {
       free = λ k. refl;
       no_decl = refl;
       reply = λ family. tt;

@@ -8,10 +8,7 @@ found_front : {A : Type 0} (p : A → Bool) (xs ys : List A) (x : A) → find p 
 found_front {A} p [] ys x some = absurd (none_some some) where
   none_some : None ≡ Some x → ⊥
   none_some h = cc
-found_front {A} p (y ∷ xs) ys x some = choose (p y) (found_front p xs ys x) some where
-  choose : (b : Bool) → (find p xs ≡ Some x → find p (xs ++ ys) ≡ Some x) → cond b (Some y) (find p xs) ≡ Some x → cond b (Some y) (find p (xs ++ ys)) ≡ Some x
-  choose true later h = h
-  choose false later h = later h
+found_front {A} p (y ∷ xs) ys x some = (elim (p y) as (λ (b : Bool). (find p xs ≡ Some x → find p (xs ++ ys) ≡ Some x) → cond b (Some y) (find p xs) ≡ Some x → cond b (Some y) (find p (xs ++ ys)) ≡ Some x) [ true ↦ λ later h. h | false ↦ λ later h. later h ]) (found_front p xs ys x) some
 
 both_none : {A : Type 0} (p : A → Bool) (xs ys : List A) → find p xs ≡ None → find p ys ≡ None → find p (xs ++ ys) ≡ None
 both_none p xs ys a b = find_back p xs ys a ∙ b
@@ -23,10 +20,8 @@ one_found : {A : Type 0} (p : A → Bool) (x : A) → p x ≡ true → find p (x
 one_found {A} p x e = ap (λ (b : Bool). cond {A = Option A} b (Some x) None) e
 
 not_all : (b c d : Bool) → (b ≡ true → c ≡ true → d ≡ true → ⊥) → (b && c && d) ≡ false
-not_all false c d h = refl
-not_all true false d h = refl
-not_all true true false h = refl
 not_all true true true h = absurd (h refl refl refl)
+not_all b c d h = refl
 
 module _ (bits : ℕ → ℕ) (place : Place) where
   -- the bit word of a node, a group and a unit

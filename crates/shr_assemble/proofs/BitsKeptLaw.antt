@@ -1,12 +1,9 @@
 -- A worker's map has each bit that an earlier command of it set where it filled a list, unless it was cleared since, of a run.
-use Rattle.shr_assemble.proofs.Common.{◌≡◌, ◌≢◌, ◌⊎◌, inl, inr, ⊎_elim, ℕ, zero, suc, ◌+◌, ◌<◌, Bool, true, false, cond, List, [], ◌∷◌, ◌++◌, sym, refl, ap, subst, ◌∙◌, arith, append_assoc, eq-eqb, ne_eqb, slice_get, Some, ◌==◌, append-nil, map-append, same_Some, none-some, dite, ℕ_discrete, Script, Has, map_has, Deed, by_seat, part, AreSo, among, Moment, moment_next, IsSo, Event, Mapped, counted, made, looked, loaded, turned, put_back, raised, cleared, mapped, WorkerState, Report, IsSetLast, IsRun, Step, IsAmong, steps_of, AreStepsChained, BringsWork}
+use Rattle.shr_assemble.proofs.Common.{◌≡◌, ◌≢◌, ◌⊎◌, inl, inr, ⊎_elim, ℕ, zero, suc, ◌+◌, ◌<◌, Bool, true, false, cond, List, [], ◌∷◌, ◌++◌, sym, refl, ap, subst, ◌∙◌, arith, append_assoc, eq-eqb, ne_eqb, slice_get, Some, ◌==◌, append-nil, map-append, same_Some, none-some, dite, ℕ_discrete, Script, Has, map_has, Deed, by_seat, part, AreSo, among, Moment, moment_next, IsSo, Event, Mapped, counted, made, looked, loaded, turned, put_back, raised, cleared, mapped, WorkerState, Report, IsSetLast, IsRun, Step, IsAmong, steps_of, AreStepsChained, BringsWork, cleared_in, maps_in, at_start}
 use Rattle.shr_seats.specs.Lines as lines
-use Rattle.shr_core.specs.Gained.{cleared_in, maps_in}
-use Rattle.shr_core.specs.Order.{at_start}
 use Rattle.shr_assemble.proofs.LineOrder.{of_kind}
-use Rattle.shr_assemble.proofs.Making.{work_of}
-use Rattle.shr_assemble.proofs.Operations.{among_has, has_among}
-use Rattle.shr_assemble.proofs.Pairs.{either}
+use Rattle.shr_assemble.proofs.Gathering.{work_of}
+use Rattle.shr_assemble.proofs.Listed.{among_has, has_among, either}
 use Rattle.shr_assemble.proofs.LineParts.{has_right}
 
 -- ---- lists
@@ -41,39 +38,34 @@ first_same x y xs ys e = (cc, cc)
 cut_at : (j : ℕ) (line before after : List (Deed Event)) (d : Deed Event) → part j line ≡ before ++ d ∷ after → IsCut j line before after d
 cut_at j [] [] after d e = absurd (cc)
 cut_at j [] (p ∷ before) after d e = absurd (cc)
-cut_at j (y ∷ line) before after d e = by_cases (λ first. cut_at j line first after d) (y.seat == j) refl
-  where
-    behind : (b : Bool) → (y.seat == j) ≡ b → (l : List (Deed Event)) → part j (y ∷ l) ≡ cond b (y ∷ part j l) (part j l)
-    behind b is l = ap (λ (c : Bool). cond c (y ∷ part j l) (part j l)) is
+cut_at j (y ∷ line) before after d e = by_cases (λ first. cut_at j line first after d) (y.seat == j) refl where
+  behind : (b : Bool) → (y.seat == j) ≡ b → (l : List (Deed Event)) → part j (y ∷ l) ≡ cond b (y ∷ part j l) (part j l)
+  behind b is l = ap (λ (c : Bool). cond c (y ∷ part j l) (part j l)) is
 
-    own : ((first : List (Deed Event)) → part j line ≡ first ++ d ∷ after → IsCut j line first after d) → (before : List (Deed Event)) → (y.seat == j) ≡ true → y ∷ part j line ≡ before ++ d ∷ after → IsCut j (y ∷ line) before after d
-    own rest [] is e = let t = first_same y d (part j line) after e in record { front = []; back = line; is = ap (λ (z : Deed Event). z ∷ line) t.0; before_is = refl; after_is = t.1 }
-    own rest (p ∷ before) is e = let t = first_same y p (part j line) (before ++ d ∷ after) e in let r = rest before t.1 in record {
-      front = y ∷ r.front;
-      back = r.back;
-      is = ap (λ (l : List (Deed Event)). y ∷ l) r.is;
-      before_is = behind true is r.front ∙ (ap (λ (z : Deed Event). z ∷ part j r.front) t.0 ∙ ap (λ (l : List (Deed Event)). p ∷ l) r.before_is);
-      after_is = r.after_is;
-    }
+  own : ((first : List (Deed Event)) → part j line ≡ first ++ d ∷ after → IsCut j line first after d) → (before : List (Deed Event)) → (y.seat == j) ≡ true → y ∷ part j line ≡ before ++ d ∷ after → IsCut j (y ∷ line) before after d
+  own rest [] is e = let t = first_same y d (part j line) after e in record { front = []; back = line; is = ap (λ (z : Deed Event). z ∷ line) t.0; before_is = refl; after_is = t.1 }
+  own rest (p ∷ before) is e = let t = first_same y p (part j line) (before ++ d ∷ after) e in let r = rest before t.1 in record {
+    front = y ∷ r.front;
+    back = r.back;
+    is = ap (λ (l : List (Deed Event)). y ∷ l) r.is;
+    before_is = behind true is r.front ∙ (ap (λ (z : Deed Event). z ∷ part j r.front) t.0 ∙ ap (λ (l : List (Deed Event)). p ∷ l) r.before_is);
+    after_is = r.after_is;
+  }
 
-    by_cases : ((first : List (Deed Event)) → part j line ≡ first ++ d ∷ after → IsCut j line first after d) → (b : Bool) → (y.seat == j) ≡ b → IsCut j (y ∷ line) before after d
-    by_cases rest true is = own rest before is (sym (behind true is line) ∙ e)
-    by_cases rest false is = let r = rest before (sym (behind false is line) ∙ e) in record {
-      front = y ∷ r.front;
-      back = r.back;
-      is = ap (λ (l : List (Deed Event)). y ∷ l) r.is;
-      before_is = behind false is r.front ∙ r.before_is;
-      after_is = r.after_is;
-    }
+  by_cases : ((first : List (Deed Event)) → part j line ≡ first ++ d ∷ after → IsCut j line first after d) → (b : Bool) → (y.seat == j) ≡ b → IsCut j (y ∷ line) before after d
+  by_cases rest true is = own rest before is (sym (behind true is line) ∙ e)
+  by_cases rest false is = let r = rest before (sym (behind false is line) ∙ e) in record {
+    front = y ∷ r.front;
+    back = r.back;
+    is = ap (λ (l : List (Deed Event)). y ∷ l) r.is;
+    before_is = behind false is r.front ∙ r.before_is;
+    after_is = r.after_is;
+  }
 
 part_has : (d : Deed Event) (j : ℕ) (line : List (Deed Event)) → d.seat ≡ j → Has line d → Has (part j line) d
 part_has d j [] own h = absurd h
 part_has d j (y ∷ line) own (inl e) = subst (λ (b : Bool). Has (cond b (y ∷ part j line) (part j line)) d) (sym (eq-eqb y.seat j (ap (λ (z : Deed Event). z.seat) e ∙ own))) (inl e)
-part_has d j (y ∷ line) own (inr h) = kept (y.seat == j) (part_has d j line own h)
-  where
-    kept : (b : Bool) → Has (part j line) d → Has (cond b (y ∷ part j line) (part j line)) d
-    kept true has = inr has
-    kept false has = has
+part_has d j (y ∷ line) own (inr h) = (elim (y.seat == j) as (λ (b : Bool). Has (part j line) d → Has (cond b (y ∷ part j line) (part j line)) d) [ true ↦ λ has. inr has | false ↦ λ has. has ]) (part_has d j line own h)
 
 -- ---- moments
 so_at : (ids : ℕ) (t : Moment) (front back : List (Deed Event)) (d : Deed Event) → AreSo moment_next (λ u y. IsSo ids u y.act) t (front ++ d ∷ back) → IsSo ids (lines.state_after moment_next t front) d.act
@@ -86,19 +78,9 @@ after_both t (x ∷ xs) ys = after_both (moment_next t x) xs ys
 
 -- an event leaves a bit that is 1 so, or clears it
 stays : (k : ℕ) (t : Moment) (e : Event) → t.bits k ≡ 1 → (e ≡ cleared k) ⊎ ((moment_next t (record { seat = 0; act = e })).bits k ≡ 1)
-stays k t (counted x) one = inr one
-stays k t (made x) one = inr one
-stays k t (looked x) one = inr one
-stays k t (loaded x) one = inr one
-stays k t (turned x) one = inr one
-stays k t (put_back i) one = inr one
-stays k t (raised j) one = inr (by_cases (k == j))
-  where
-    by_cases : (b : Bool) → cond b 1 (t.bits k) ≡ 1
-    by_cases true = refl
-    by_cases false = one
+stays k t (raised j) one = inr ((elim (k == j) as (λ (b : Bool). cond b 1 (t.bits k) ≡ 1) [ true ↦ refl | false ↦ one ]))
 stays k t (cleared j) one = dite (ℕ_discrete k j) (λ e. inl (ap cleared (sym e))) (λ n. inr (ap (λ (b : Bool). cond b 0 (t.bits k)) (ne_eqb k j n) ∙ one))
-stays k t (mapped x) one = inr one
+stays k t e one = inr one
 
 -- a bit that was 1 and isn't later was cleared in between
 cleared_between : (k : ℕ) (t : Moment) (line : List (Deed Event)) → t.bits k ≡ 1 → (lines.state_after moment_next t line).bits k ≢ 1 → (d : Deed Event) × Has line d × (d.act ≡ cleared k)
@@ -182,19 +164,11 @@ cleared_step mine d k is by =
     has_among by.step.work.core.cleared k (subst (λ (l : List ℕ). Has l k) by.brings.core.kinds.cleared (cleared_of acts k has))
 
 has_mapped : (acts : List Event) (m : Mapped) → Has (among maps_in acts) m → Has acts (mapped m)
-has_mapped acts m h = let f = of_kind maps_in acts m h in subst (Has acts) (mapped_of f.0 m f.2) f.1
-  where
-    mapped_of : (e : Event) (n : Mapped) → Has (maps_in e) n → e ≡ mapped n
-    mapped_of (counted x) n has = absurd has
-    mapped_of (made x) n has = absurd has
-    mapped_of (looked x) n has = absurd has
-    mapped_of (loaded x) n has = absurd has
-    mapped_of (turned x) n has = absurd has
-    mapped_of (put_back i) n has = absurd has
-    mapped_of (raised x) n has = absurd has
-    mapped_of (cleared x) n has = absurd has
-    mapped_of (mapped x) n (inl e) = ap mapped e
-    mapped_of (mapped x) n (inr none) = absurd none
+has_mapped acts m h = let f = of_kind maps_in acts m h in subst (Has acts) (mapped_of f.0 m f.2) f.1 where
+  mapped_of : (e : Event) (n : Mapped) → Has (maps_in e) n → e ≡ mapped n
+  mapped_of (mapped x) n (inl e) = ap mapped e
+  mapped_of (mapped x) n (inr none) = absurd none
+  mapped_of e n has = absurd has
 
 -- the deeds of a worker from the setting of a bit to the loading of a map
 regroup : {A : Type 0} (whole after before first xb f bk more v w rest : List A) (d e : A) → whole ≡ after ++ rest → after ≡ before ++ (v ++ e ∷ w) → before ≡ first ++ more → first ≡ xb ++ (f ++ d ∷ bk)

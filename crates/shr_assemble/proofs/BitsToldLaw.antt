@@ -1,20 +1,15 @@
 -- The bits that are told are of ids that are there, have a reason, and aren't lost, of a run.
-use Rattle.shr_assemble.proofs.Common.{◌≡◌, ◌≢◌, ◌⊎◌, inl, inr, ⊎_elim, ℕ, zero, suc, ◌+◌, ◌*◌, ◌<◌, Bool, true, false, not, ◌||◌, List, [], ◌∷◌, ◌++◌, length, take, map, sym, refl, ap, subst, ◌∙◌, arith, eq-eqb, ne_eqb, slice_get, Option, Some, None, filter, flat_map, ◌==◌, nat_lt, bit_at, AllByRecursion, range_with_len, IsSomeAnd, cases_Bool, same_Some, none-some, dite, ℕ_discrete, MapEnd, Entry, Add, Look, Drop, Pin, Scan, MovedIn, Closed, Drained, Object, Place, Serial, Script, Attempt, MapSeen, Outcome, WalkRecord, is_held, counts_of, is_set, lists_moved_at, IsOutcome, first_moved, later_moved, step, place_number, is_place, unit_of, bit_of, place_in, clearings_of, each_weaker, Has, Has_map, map_has, Has_flat_map, flat_map_has, Has_filter, filter_has, each_has, Contains_from_Has, is_place_itself, times, only, some_term, only_no, place_at, map_number, map_of, Made, Report, IsLawfulWalk, IsCountRight, IsOutcomeOf, cache_of, parents_of, serial_of, journals_of, items_before, all_walks, walk_at, IsThere, FillsPlace, Covers, Fills, IsListFilled, IsMarked, all_sets, IsRun, Step, IsAmong, gathered, steps_of, is_setting, set_by_walk, at_some, some_at, ids_seen}
+use Rattle.shr_assemble.proofs.Common.{◌≡◌, ◌≢◌, ◌⊎◌, inl, inr, ⊎_elim, ℕ, zero, suc, ◌+◌, ◌*◌, ◌<◌, Bool, true, false, not, ◌||◌, List, [], ◌∷◌, ◌++◌, length, take, map, sym, refl, ap, subst, ◌∙◌, arith, eq-eqb, ne_eqb, slice_get, Option, Some, None, filter, flat_map, ◌==◌, nat_lt, bit_at, AllByRecursion, range_with_len, IsSomeAnd, cases_Bool, same_Some, none-some, dite, ℕ_discrete, MapEnd, Entry, Add, Look, Drop, Pin, Scan, MovedIn, Closed, Drained, Object, Place, Serial, Script, Attempt, MapSeen, Outcome, WalkRecord, is_held, counts_of, is_set, lists_moved_at, IsOutcome, first_moved, later_moved, step, place_number, is_place, unit_of, bit_of, place_in, clearings_of, each_weaker, Has, Has_map, map_has, Has_flat_map, flat_map_has, Has_filter, filter_has, each_has, Contains_from_Has, is_place_itself, times, only, some_term, only_no, place_at, map_number, map_of, Made, Report, IsLawfulWalk, IsCountRight, IsOutcomeOf, cache_of, parents_of, serial_of, journals_of, items_before, all_walks, walk_at, IsThere, FillsPlace, Covers, Fills, IsListFilled, IsMarked, all_sets, IsRun, Step, IsAmong, gathered, steps_of, is_setting, set_by_walk, at_some, some_at, ids_seen, set_bits_of, ids_in, is_since, was_cleared_since, is_set_again, set_again_in, WasFilled, HasReason, bit_place, AreBitsTold}
 use Rattle.std.proofs.Common.{lt-ltb}
 use Rattle.shr_base.specs.declared.walks.GoneThen.TheVariants as gone
 use Rattle.shr_base.specs.declared.walks.Outcome.TheVariants as outcome
-use Rattle.shr_model.specs.Bits.{set_bits_of, ids_in}
 use Rattle.shr_model.specs.Items.{items_from, moved_from}
 use Rattle.shr_core.specs.Layout as layout
-use Rattle.shr_report.specs.BitsTold.{is_since, was_cleared_since, is_set_again, set_again_in, WasFilled, HasReason, bit_place, AreBitsTold}
 use Rattle.shr_assemble.proofs.BitsKeptLaw.{was_cleared_by}
-use Rattle.shr_assemble.proofs.Flattening.{all_walks_are, WalkOf, walk_of, walk_there}
+use Rattle.shr_assemble.proofs.Listed.{all_walks_are, WalkOf, walk_of, walk_there, among_has, has_among, all_has}
 use Rattle.shr_assemble.proofs.FreeExists.{outcome_at}
-use Rattle.shr_assemble.proofs.Gathering.{has_step, gathered_has, each_among, flat_among}
-use Rattle.shr_assemble.proofs.LawfulWalks.{lawful_walk}
-use Rattle.shr_assemble.proofs.Making.{made_stands, back_there}
-use Rattle.shr_assemble.proofs.Operations.{among_has, has_among}
-use Rattle.shr_assemble.proofs.Pairs.{all_has}
+use Rattle.shr_assemble.proofs.Gathering.{has_step, gathered_has, each_among, flat_among, made_stands, back_there}
+use Rattle.shr_assemble.proofs.VersionsLaw.{lawful_walk}
 use Rattle.shr_assemble.proofs.WalksLaw.{any_yes, clearing_of, IsMapSeen, map_seen, map_shown, covered, below_root, IsFillOf, fill_of}
 use Rattle.shr_assemble.proofs.WordPlaces.{range_has}
 
@@ -40,12 +35,7 @@ some_behind (x ∷ xs) ys lt = omega arith
 filled_step : (moved items : List Object) (e : Entry) → Fills items e → IsOutcome moved items e → 0 < length (step moved items e)
 filled_step moved items (Add by birth added key value) none is = subst (λ (l : List Object). 0 < length (step moved l (Add by birth added key value))) (sym none) (omega arith)
 filled_step moved items (MovedIn child objects) some is = some_behind moved items (omega (arith, some, is))
-filled_step moved items (Look by birth key hit) fills is = absurd fills
-filled_step moved items (Drop by birth key kind) fills is = absurd fills
-filled_step moved items (Pin by birth key pinned hit) fills is = absurd fills
-filled_step moved items (Scan worker walk asked policy visits freed stopped) fills is = absurd fills
-filled_step moved items Closed fills is = absurd fills
-filled_step moved items (Drained by objects) fills is = absurd fills
+filled_step moved items e fills is = absurd fills
 
 some_and : {A : Type 0} {Q : Type 0} (o : Option A) (P : A → Type 0) → ((a : A) → P a → Q) → IsSomeAnd o P → Q
 some_and None P f h = absurd h
@@ -53,11 +43,7 @@ some_and (Some a) P f h = f a h
 
 since : (worker k : ℕ) (w : WalkRecord) → (w.by.worker ≢ worker) ⊎ (k < w.by.command) → is_since worker k w ≡ true
 since worker k w (inl other) = ap (λ (b : Bool). not b || nat_lt k w.by.command) (ne_eqb w.by.worker worker other)
-since worker k w (inr later) = ap (λ (b : Bool). not (w.by.worker == worker) || b) (lt-ltb k w.by.command later) ∙ always (not (w.by.worker == worker))
-  where
-    always : (b : Bool) → (b || true) ≡ true
-    always true = refl
-    always false = refl
+since worker k w (inr later) = ap (λ (b : Bool). not (w.by.worker == worker) || b) (lt-ltb k w.by.command later) ∙ (elim (not (w.by.worker == worker)) as (λ (b : Bool). (b || true) ≡ true) [ true ↦ refl | false ↦ refl ])
 
 module _ (s : Script) (r : Report) (workers : List (List Step)) (run : IsRun s r workers) where
   -- a step filled the list
@@ -98,12 +84,7 @@ module _ (s : Script) (r : Report) (workers : List (List Step)) (run : IsRun s r
         let kinds = lawful.kinds k a at (ap is_held is) in
         some_and (cache_of s r a) (λ d. IsOutcomeOf w.priority d a.outcome) (λ d kind. let ran = subst (IsOutcomeOf w.priority d) is kind in let above = ran.0 in inl (counted_some (place_in w a.id) pass.len pass.version (omega (arith, above)) counts.1.0.len)) kinds
     set_again k a (outcome.Gone number gone.Clear) at is sets = absurd (cc)
-    set_again k a (outcome.Gone number gone.Root) at is sets = absurd (cc)
-    set_again k a (outcome.Worn seen) at is sets = absurd (cc)
-    set_again k a (outcome.Skip number len version) at is sets = absurd (cc)
-    set_again k a (outcome.Ran number pass) at is sets = absurd (cc)
-    set_again k a (outcome.Empty number version) at is sets = absurd (cc)
-    set_again k a (outcome.Cleared number first second) at is sets = absurd (cc)
+    set_again k a o at is sets = absurd (cc)
 
   walked_again : (place : Place) → IsThere s place → (worker k : ℕ) (x : Step) → slice_get (steps_of workers worker) k ≡ Some x → IsAmong (place_number place) (flat_map set_by_walk x.work.walks) → HasReason s r place
   walked_again place there worker k x at has =
@@ -139,22 +120,21 @@ module _ (s : Script) (r : Report) (workers : List (List Step)) (run : IsRun s r
   shown : (worker n : ℕ) (w : WalkRecord) → walk_at r worker n ≡ Some w → AllByRecursion (λ id. (id < s.ids) × HasReason s r (place_in w id)) (ids_seen w)
   shown worker n w at_w = all_has (λ id. (id < s.ids) × HasReason s r (place_in w id)) (ids_seen w) (λ id has.
       let m = flat_map_has (λ (m : MapSeen). ids_in m.unit m.bits) w.maps.items id has in
-      each_has (λ id. (id < s.ids) × HasReason s r (place_in w id)) (ids_in m.0.unit m.0.bits) id (each_id (λ id. (id < s.ids) × HasReason s r (place_in w id)) m.0.unit m.0.bits (seen m.0 (has_among w.maps.items m.0 m.1))) m.2)
-    where
-      of : WalkOf s r workers run worker n w
-      of = walk_of s r workers run worker n w at_w
+      each_has (λ id. (id < s.ids) × HasReason s r (place_in w id)) (ids_in m.0.unit m.0.bits) id (each_id (λ id. (id < s.ids) × HasReason s r (place_in w id)) m.0.unit m.0.bits (seen m.0 (has_among w.maps.items m.0 m.1))) m.2) where
+        of : WalkOf s r workers run worker n w
+        of = walk_of s r workers run worker n w at_w
 
-      seen : (m : MapSeen) → IsAmong m w.maps.items → (bit : ℕ) → bit < 64 → is_set m.bits bit ≡ true → (64 * m.unit + bit < s.ids) × HasReason s r (place_in w (64 * m.unit + bit))
-      seen m among bit few set =
-          let x = map_seen s r workers run worker n w of among.0 m (at_some w.maps.items among.0 m among.1) in
-          let place : Place = place_in w (64 * m.unit + bit) in
-          let of_map = map_shown s r workers run worker of.k of.step x.map_is of.at x.among in
-          let mine : is_set x.map_is.bits bit ≡ true = ap (λ (b : ℕ). is_set b bit) x.bits ∙ set in
-          let near : 64 * m.unit + bit < s.ids = (let id = of_map.of_ids bit few mine in let map = x.number in let node = of.did.node in let group = of.did.group in let nodes = run.sized.nodes in let groups = run.sized.groups in let lt : 64 * m.unit + bit < s.ids = omega (arith, id, map, node, group, nodes, groups) in lt) in
-          let there : IsThere s place = record { id = near; node = of.did.node; group = of.did.group } in
-          let unit_is : unit_of place.id ≡ m.unit = omega (arith, few) in
-          let bit_is : bit_of place.id ≡ bit = omega (arith, few) in
-          (near, reason place there (of_map.shown place there (ap (map_number w.node w.group) unit_is ∙ sym x.number) (ap (is_set x.map_is.bits) bit_is ∙ mine)))
+        seen : (m : MapSeen) → IsAmong m w.maps.items → (bit : ℕ) → bit < 64 → is_set m.bits bit ≡ true → (64 * m.unit + bit < s.ids) × HasReason s r (place_in w (64 * m.unit + bit))
+        seen m among bit few set =
+            let x = map_seen s r workers run worker n w of among.0 m (at_some w.maps.items among.0 m among.1) in
+            let place : Place = place_in w (64 * m.unit + bit) in
+            let of_map = map_shown s r workers run worker of.k of.step x.map_is of.at x.among in
+            let mine : is_set x.map_is.bits bit ≡ true = ap (λ (b : ℕ). is_set b bit) x.bits ∙ set in
+            let near : 64 * m.unit + bit < s.ids = (let id = of_map.of_ids bit few mine in let map = x.number in let node = of.did.node in let group = of.did.group in let nodes = run.sized.nodes in let groups = run.sized.groups in let lt : 64 * m.unit + bit < s.ids = omega (arith, id, map, node, group, nodes, groups) in lt) in
+            let there : IsThere s place = record { id = near; node = of.did.node; group = of.did.group } in
+            let unit_is : unit_of place.id ≡ m.unit = omega (arith, few) in
+            let bit_is : bit_of place.id ≡ bit = omega (arith, few) in
+            (near, reason place there (of_map.shown place there (ap (map_number w.node w.group) unit_is ∙ sym x.number) (ap (is_set x.map_is.bits) bit_is ∙ mine)))
 
   -- ---- the bits that a worker set
   kept : (worker n : ℕ) (w : WalkRecord) → walk_at r worker n ≡ Some w → (i k : ℕ) (m : MapSeen) (place : Place) → slice_get w.maps.items i ≡ Some m → Covers w m place
@@ -162,30 +142,29 @@ module _ (s : Script) (r : Report) (workers : List (List Step)) (run : IsRun s r
   kept worker n w at_w i k m place at_m covers lt fills none = elim (cases_Bool (is_set m.bits (bit_of place.id))) [
     | inl has ↦ has
     | inr lacking ↦ absurd (lacks lacking)
-  ]
-    where
-      of : WalkOf s r workers run worker n w
-      of = walk_of s r workers run worker n w at_w
+  ] where
+    of : WalkOf s r workers run worker n w
+    of = walk_of s r workers run worker n w at_w
 
-      f : (x : Step) × (slice_get (steps_of workers worker) k ≡ Some x) × IsFillOf s r workers run x place
-      f = fill_of s r workers run worker k place (subst (λ (g : ℕ). 0 < g) covers.group (below_root s r workers run worker n w of i m at_m)) fills
+    f : (x : Step) × (slice_get (steps_of workers worker) k ≡ Some x) × IsFillOf s r workers run x place
+    f = fill_of s r workers run worker k place (subst (λ (g : ℕ). 0 < g) covers.group (below_root s r workers run worker n w of i m at_m)) fills
 
-      seen : IsMapSeen s r workers run of.step w m
-      seen = map_seen s r workers run worker n w of i m at_m
+    seen : IsMapSeen s r workers run of.step w m
+    seen = map_seen s r workers run worker n w of i m at_m
 
-      lacks : is_set m.bits (bit_of place.id) ≡ false → ⊥
-      lacks lacking =
-          let there = f.2.there in let node = there.node in let group = there.group in let id = there.id in let nodes = run.sized.nodes in let groups = run.sized.groups in
-          let map_is : map_of (place_number place) ≡ seen.map_is.map = (let e : map_of (place_number place) ≡ map_number place.node place.group (unit_of place.id) = omega (arith, node, group, nodes, groups) in e) ∙ (covered s r workers run w m place covers ∙ sym seen.number) in
-          let bit : layout.place_bit (place_number place) ≡ bit_of place.id = omega (arith, node, group, nodes, groups) in
-          let command : w.by.command ≡ of.k = ap (λ (b : Serial). b.command) (of.did.by ∙ of.is.by) in
-          let c = was_cleared_by s r workers run worker k of.k (place_number place) f.0 of.step seen.map_is (omega (arith, lt, command)) f.1 of.at f.2.last seen.among
-          (λ t so one. absurd (let set : is_set m.bits (bit_of place.id) ≡ true = eq-eqb (bit_at m.bits (bit_of place.id)) 1 (sym (ap (λ (b : ℕ). bit_at b (bit_of place.id)) seen.bits) ∙ (sym (ap (bit_at seen.map_is.bits) bit) ∙ (so (place_number place) (omega (arith, id, node, group, nodes, groups)) map_is ∙ one))) in let bad : true ≡ false = sym set ∙ lacking in cc)) in
-          let v = clearing_of s r workers run place there c.by c.number c.step c.at c.has in
-          let later : is_since worker k v.walk ≡ true = since worker k v.walk (⊎_elim (λ other. inl (λ same. other (ap (λ (z : Serial). z.worker) (sym v.by) ∙ same))) (λ less. inr (subst (λ (z : Serial). k < z.command) (sym v.by) less)) c.since) in
-          let told : was_cleared_since r place worker k ≡ true = any_yes s r workers run (is_place place) (flat_map clearings_of (filter (is_since worker k) (all_walks r))) place
-          (Has_flat_map clearings_of (filter (is_since worker k) (all_walks r)) v.walk place (Has_filter (is_since worker k) (all_walks r) v.walk v.there later) v.clears) (is_place_itself place) in
-          let bad : true ≡ false = sym told ∙ none in cc
+    lacks : is_set m.bits (bit_of place.id) ≡ false → ⊥
+    lacks lacking =
+        let there = f.2.there in let node = there.node in let group = there.group in let id = there.id in let nodes = run.sized.nodes in let groups = run.sized.groups in
+        let map_is : map_of (place_number place) ≡ seen.map_is.map = (let e : map_of (place_number place) ≡ map_number place.node place.group (unit_of place.id) = omega (arith, node, group, nodes, groups) in e) ∙ (covered s r workers run w m place covers ∙ sym seen.number) in
+        let bit : layout.place_bit (place_number place) ≡ bit_of place.id = omega (arith, node, group, nodes, groups) in
+        let command : w.by.command ≡ of.k = ap (λ (b : Serial). b.command) (of.did.by ∙ of.is.by) in
+        let c = was_cleared_by s r workers run worker k of.k (place_number place) f.0 of.step seen.map_is (omega (arith, lt, command)) f.1 of.at f.2.last seen.among
+        (λ t so one. absurd (let set : is_set m.bits (bit_of place.id) ≡ true = eq-eqb (bit_at m.bits (bit_of place.id)) 1 (sym (ap (λ (b : ℕ). bit_at b (bit_of place.id)) seen.bits) ∙ (sym (ap (bit_at seen.map_is.bits) bit) ∙ (so (place_number place) (omega (arith, id, node, group, nodes, groups)) map_is ∙ one))) in let bad : true ≡ false = sym set ∙ lacking in cc)) in
+        let v = clearing_of s r workers run place there c.by c.number c.step c.at c.has in
+        let later : is_since worker k v.walk ≡ true = since worker k v.walk (⊎_elim (λ other. inl (λ same. other (ap (λ (z : Serial). z.worker) (sym v.by) ∙ same))) (λ less. inr (subst (λ (z : Serial). k < z.command) (sym v.by) less)) c.since) in
+        let told : was_cleared_since r place worker k ≡ true = any_yes s r workers run (is_place place) (flat_map clearings_of (filter (is_since worker k) (all_walks r))) place
+        (Has_flat_map clearings_of (filter (is_since worker k) (all_walks r)) v.walk place (Has_filter (is_since worker k) (all_walks r) v.walk v.there later) v.clears) (is_place_itself place) in
+        let bad : true ≡ false = sym told ∙ none in cc
 
   pub bits_told : AreBitsTold s r
   bits_told = record {

@@ -1,22 +1,18 @@
 -- The law of causes, of a run.
-use Rattle.shr_assemble.proofs.Common.{◌≡◌, ℕ, ⊎_elim, List, sym, refl, subst, ap, ◌∙◌, slice_get, Some, option_and_then, Option, IsSomeAnd, Serial, Registered, Begin, Done, Answered, HalfWhy, Reply, Spent, Command, Release, Grab, Script, group_named, decl_named, Report, serial_of, command_at, answer_at, IsSpent, IsUnmade, IsOver, IsUncached, IsCached, IsFull, IsFreed, IsInTheWay, IsOfflineDone, StandsInTree, group_met, HasCause, Step, steps_of, IsWhyBy, IsUsedUpBy, IsCausedBy, Drains, IsRun, begin_at, made_at, IsHalf, IsWhy, IsUsedUp}
+use Rattle.shr_assemble.proofs.Common.{◌≡◌, ℕ, ⊎_elim, List, sym, refl, subst, ap, ◌∙◌, slice_get, Some, option_and_then, Option, IsSomeAnd, Serial, Registered, Begin, Done, Answered, HalfWhy, Reply, Spent, Command, Release, Grab, Script, group_named, decl_named, Report, serial_of, command_at, answer_at, IsSpent, IsUnmade, IsOver, IsUncached, IsCached, IsFull, IsFreed, IsInTheWay, IsOfflineDone, StandsInTree, group_met, HasCause, Step, steps_of, IsWhyBy, IsUsedUpBy, IsCausedBy, Drains, IsRun, begin_at, made_at, IsHalf, IsWhy, IsUsedUp, IsPoolWorn, plain_worn}
 use Rattle.shr_base.specs.declared.journals.TreeEntry.TheVariants.{Made}
 use Rattle.shr_base.specs.declared.replies.HalfWhy.TheVariants as why
 use Rattle.shr_base.specs.declared.replies.Reply.TheVariants as reply
 use Rattle.shr_report.specs.CausesLawful.{AreCausesLawful}
-use Rattle.shr_units.specs.Runs.{IsPoolWorn}
-use Rattle.shr_units.proofs.WalksLaw.{plain_worn}
 use Rattle.shr_units.proofs.WornLaw.{pool_worn}
 use Rattle.shr_assemble.proofs.AnswerCauses.{over_caused, uncached, cached, full, registered, was_done, in_the_way}
 use Rattle.shr_assemble.proofs.EntryCauses.{begins_caused, dones_caused, mades_caused, pool_caused, drained_caused}
 use Rattle.shr_assemble.proofs.FreshLaw.{fresh_law}
-use Rattle.shr_assemble.proofs.Making.{stepped, reply_is}
+use Rattle.shr_assemble.proofs.Gathering.{stepped, reply_is}
 use Rattle.shr_assemble.proofs.OfflinedCause.{offlined}
 use Rattle.shr_assemble.proofs.PoolCauses.{unregistered, freed, half}
-use Rattle.shr_assemble.proofs.Makers.{entry_stands}
-use Rattle.shr_assemble.proofs.Shown.{word_stands, tree_stands}
-use Rattle.shr_assemble.proofs.SpentLaw.{spent_law}
-use Rattle.shr_assemble.proofs.WalkCauses.{walk_caused, attempt_caused, pass_caused}
+use Rattle.shr_assemble.proofs.JournalsLaw.{entry_stands, word_stands, tree_stands}
+use Rattle.shr_assemble.proofs.WalkCauses.{spent_law, walk_caused, attempt_caused, pass_caused}
 
 module _ (s : Script) (r : Report) (workers : List (List Step)) (run : IsRun s r workers) where
   why_is : (worker k : ℕ) (x : Step) → slice_get (steps_of workers worker) k ≡ Some x → (w : HalfWhy) → IsWhyBy s x w → IsWhy s r worker w

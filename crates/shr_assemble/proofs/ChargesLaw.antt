@@ -1,12 +1,9 @@
 -- The law of charges, of a run.
-use Rattle.shr_assemble.proofs.Common.{◌≡◌, ℕ, zero, suc, ◌+◌, ◌<◌, ◌≤◌, ◌⊎◌, inl, inr, ⊎_elim, Bool, true, false, cond, List, [], ◌∷◌, length, drop, map, sym, refl, ap, subst, ◌∙◌, arith, eqb, eq-eqb, slice_get, Some, None, Option, find, filter, sum_by, pos, ◌-ℤ◌, MatchOption, AllByRecursion, enumerate_from, IsSomeAnd, and_parts, and_from, eqb-true, cases_Bool, same_Some, none-some, slice_get_past, UseStep, Entry, Add, Look, Drop, Pin, Scan, MovedIn, Closed, Drained, Object, Place, Serial, Command, Put, Get, Del, SetPin, Script, ups, usage_after, is_by, ops_by, IsDownNext, AreTakenBack, is_serial, is_put, items_at, is_at_or_above, born_below, freed_by, by_of, Has, filter_has, total, place_at, Made, Report, parents_of, limit_of, journals_of, places_of, serial_of, command_at, commands_of, reply_at, uses_at, entry_by, at, id_found, IsDownBetween, charged, Step, IsAmong, steps_of, IsPut, ops_at, IsTenantEntry, IsDrainedByCommand, MayMakeEntry, all_made, IsRun, all_zero, at_some, by_slices, count_total, some_at, sum_total, freeings_at}
-use Rattle.shr_report.specs.Charges.{ways_of, is_of, freed_in_command, freed_below}
+use Rattle.shr_assemble.proofs.Common.{◌≡◌, ℕ, zero, suc, ◌+◌, ◌<◌, ◌≤◌, ◌⊎◌, inl, inr, ⊎_elim, Bool, true, false, cond, List, [], ◌∷◌, length, drop, map, sym, refl, ap, subst, ◌∙◌, arith, eqb, eq-eqb, slice_get, Some, None, Option, find, filter, sum_by, pos, ◌-ℤ◌, MatchOption, AllByRecursion, enumerate_from, IsSomeAnd, and_parts, and_from, eqb-true, cases_Bool, same_Some, none-some, slice_get_past, UseStep, Entry, Add, Look, Drop, Pin, Scan, MovedIn, Closed, Drained, Object, Place, Serial, Command, Put, Get, Del, SetPin, Script, ups, usage_after, is_by, ops_by, IsDownNext, AreTakenBack, is_serial, is_put, items_at, is_at_or_above, born_below, freed_by, by_of, Has, filter_has, total, place_at, Made, Report, parents_of, limit_of, journals_of, places_of, serial_of, command_at, commands_of, reply_at, uses_at, entry_by, at, id_found, IsDownBetween, charged, Step, IsAmong, steps_of, IsPut, ops_at, IsTenantEntry, IsDrainedByCommand, MayMakeEntry, all_made, IsRun, all_zero, at_some, by_slices, count_total, some_at, sum_total, freeings_at, ways_of, is_of, freed_in_command, freed_below, no_test}
 use Rattle.shr_assemble.specs.Charges as did
-use Rattle.shr_assemble.proofs.Gathering.{each_among, has_step, total_same_on}
-use Rattle.shr_assemble.proofs.Listed.{all_among, no_test}
-use Rattle.shr_assemble.proofs.Making.{made_stands, maker, reply_is}
+use Rattle.shr_assemble.proofs.Gathering.{each_among, has_step, total_same_on, made_stands, maker, reply_is}
+use Rattle.shr_assemble.proofs.Listed.{all_among, op_of, op_by, ops_are, ops_none, among_has}
 use Rattle.shr_assemble.proofs.Recounting.{journals_are}
-use Rattle.shr_assemble.proofs.Operations.{op_of, op_by, ops_are, ops_none, among_has}
 use Rattle.shr_assemble.proofs.IsolationSteps.{scanned_by, visited_by}
 use Rattle.shr_assemble.proofs.ScansLaw.{only_step}
 use Rattle.shr_assemble.proofs.RepliesLaw.{told_of}
@@ -17,11 +14,7 @@ use Rattle.shr_units.proofs.DeferredLaw.{same_totals}
 -- ---- totals
 pub total_filter : {A : Type 0} (h : A → ℕ) (p : A → Bool) (xs : List A) → total h (filter p xs) ≡ total (λ x. cond (p x) (h x) 0) xs
 total_filter h p [] = refl
-total_filter h p (x ∷ xs) = one (p x) (total_filter h p xs)
-  where
-    one : (b : Bool) → total h (filter p xs) ≡ total (λ y. cond (p y) (h y) 0) xs → total h (cond b (x ∷ filter p xs) (filter p xs)) ≡ cond b (h x) 0 + total (λ y. cond (p y) (h y) 0) xs
-    one true e = omega (arith, e)
-    one false e = omega (arith, e)
+total_filter h p (x ∷ xs) = (elim (p x) as (λ (b : Bool). total h (filter p xs) ≡ total (λ y. cond (p y) (h y) 0) xs → total h (cond b (x ∷ filter p xs) (filter p xs)) ≡ cond b (h x) 0 + total (λ y. cond (p y) (h y) 0) xs) [ true ↦ λ e. omega (arith, e) | false ↦ λ e. omega (arith, e) ]) (total_filter h p xs)
 
 pub total_map : {A B : Type 0} (h : B → ℕ) (f : A → B) (xs : List A) → total h (map f xs) ≡ total (λ x. h (f x)) xs
 total_map h f [] = refl
@@ -34,11 +27,7 @@ head (x ∷ l) = Some x
 
 first_kept : {A : Type 0} (p : A → Bool) (l : List A) → find p l ≡ head (filter p l)
 first_kept p [] = refl
-first_kept p (x ∷ l) = one (p x) (first_kept p l)
-  where
-    one : (b : Bool) → find p l ≡ head (filter p l) → cond b (Some x) (find p l) ≡ head (cond b (x ∷ filter p l) (filter p l))
-    one true e = refl
-    one false e = e
+first_kept p (x ∷ l) = (elim (p x) as (λ (b : Bool). find p l ≡ head (filter p l) → cond b (Some x) (find p l) ≡ head (cond b (x ∷ filter p l) (filter p l))) [ true ↦ λ e. refl | false ↦ λ e. e ]) (first_kept p l)
 
 find_first : {A : Type 0} (p : A → Bool) (xs ys : List A) → filter p xs ≡ filter p ys → find p xs ≡ find p ys
 find_first p xs ys e = first_kept p xs ∙ (ap head e ∙ sym (first_kept p ys))
@@ -76,27 +65,24 @@ module _ (s : Script) (r : Report) (workers : List (List Step)) (run : IsRun s r
     own : step.by ≡ by
 
   step_or_not : (by : Serial) → OfStep by ⊎ ((worker k : ℕ) (x : Step) → slice_get (steps_of workers worker) k ≡ Some x → x.by ≡ by → ⊥)
-  step_or_not by = by_cases (slice_get (steps_of workers by.worker) by.command) refl
-    where
-      by_cases : (o : Option Step) → slice_get (steps_of workers by.worker) by.command ≡ o → OfStep by ⊎ ((worker k : ℕ) (x : Step) → slice_get (steps_of workers worker) k ≡ Some x → x.by ≡ by → ⊥)
-      by_cases (Some x) e = inl (record { step = x; there = e; own = (run.steps.each by.worker by.command x e).by })
-      by_cases None e = inr (λ worker k x at same. let b : serial_of worker k ≡ by = sym (run.steps.each worker k x at).by ∙ same in
-          none-some x (sym e ∙ (ap (λ (z : Serial). slice_get (steps_of workers z.worker) z.command) (sym b) ∙ at)))
+  step_or_not by = by_cases (slice_get (steps_of workers by.worker) by.command) refl where
+    by_cases : (o : Option Step) → slice_get (steps_of workers by.worker) by.command ≡ o → OfStep by ⊎ ((worker k : ℕ) (x : Step) → slice_get (steps_of workers worker) k ≡ Some x → x.by ≡ by → ⊥)
+    by_cases (Some x) e = inl (record { step = x; there = e; own = (run.steps.each by.worker by.command x e).by })
+    by_cases None e = inr (λ worker k x at same. let b : serial_of worker k ≡ by = sym (run.steps.each worker k x at).by ∙ same in
+        none-some x (sym e ∙ (ap (λ (z : Serial). slice_get (steps_of workers z.worker) z.command) (sym b) ∙ at)))
 
   command_of : (by : Serial) (o : OfStep by) → command_at s by ≡ o.step.command
   command_of by o = (run.steps.each by.worker by.command o.step o.there).command
 
   no_command : (by : Serial) → ((worker k : ℕ) (x : Step) → slice_get (steps_of workers worker) k ≡ Some x → x.by ≡ by → ⊥) → command_at s by ≡ None
-  no_command by never = by_cases (slice_get (steps_of workers by.worker) by.command) refl
-    where
-      by_cases : (o : Option Step) → slice_get (steps_of workers by.worker) by.command ≡ o → command_at s by ≡ None
-      by_cases (Some x) e = absurd (never by.worker by.command x e (run.steps.each by.worker by.command x e).by)
-      by_cases None e = slice_get_past (commands_of s by.worker) by.command (omega (arith, run.steps.commands by.worker, past (steps_of workers by.worker) by.command e))
-        where
-          past : (xs : List Step) (n : ℕ) → slice_get xs n ≡ None → length xs ≤ n
-          past [] n h = omega arith
-          past (x ∷ xs) zero h = absurd (none-some x (sym h))
-          past (x ∷ xs) (suc n) h = omega (arith, past xs n h)
+  no_command by never = by_cases (slice_get (steps_of workers by.worker) by.command) refl where
+    by_cases : (o : Option Step) → slice_get (steps_of workers by.worker) by.command ≡ o → command_at s by ≡ None
+    by_cases (Some x) e = absurd (never by.worker by.command x e (run.steps.each by.worker by.command x e).by)
+    by_cases None e = slice_get_past (commands_of s by.worker) by.command (omega (arith, run.steps.commands by.worker, past (steps_of workers by.worker) by.command e)) where
+      past : (xs : List Step) (n : ℕ) → slice_get xs n ≡ None → length xs ≤ n
+      past [] n h = omega arith
+      past (x ∷ xs) zero h = absurd (none-some x (sym h))
+      past (x ∷ xs) (suc n) h = omega (arith, past xs n h)
 
   -- ---- operations
   pub there : AllByRecursion (λ (o : UseStep). o.group < length (parents_of s)) r.uses.items
@@ -134,10 +120,9 @@ module _ (s : Script) (r : Report) (workers : List (List Step)) (run : IsRun s r
       let same : filter (is_by of.step.by) (drop (n + 1) (uses_at r g)) ≡ filter (is_by of.step.by) (drop (kept.0 + 1) (ops_at g of.step.work.ops)) =
       kept.2 ∙ (ap (drop (kept.0 + 1)) ours ∙ sym (filter_same (is_by of.step.by) (drop (kept.0 + 1) (ops_at g of.step.work.ops)) all_own)) in
       let finds : find (is_by of.step.by) (drop (n + 1) (uses_at r g)) ≡ find (is_by of.step.by) (drop (kept.0 + 1) (ops_at g of.step.work.ops)) = find_first (is_by of.step.by) (drop (n + 1) (uses_at r g)) (drop (kept.0 + 1) (ops_at g of.step.work.ops)) same in
-      subst (λ (b : Serial). IsDownNext b (drop (n + 1) (uses_at r g))) (sym by) (subst (λ f. MatchOption f ⊥ (λ (z : UseStep). z.up ≡ false)) (sym finds) (subst (λ (b : Serial). IsDownNext b (drop (kept.0 + 1) (ops_at g of.step.work.ops))) by down))
-    where
-      own_by : (o : UseStep) (b : Serial) → o.by ≡ b → is_by b o ≡ true
-      own_by o b e = and_from (eqb o.by.worker b.worker) (eqb o.by.command b.command) (eq-eqb o.by.worker b.worker (ap (λ (z : Serial). z.worker) e)) (eq-eqb o.by.command b.command (ap (λ (z : Serial). z.command) e))
+      subst (λ (b : Serial). IsDownNext b (drop (n + 1) (uses_at r g))) (sym by) (subst (λ f. MatchOption f ⊥ (λ (z : UseStep). z.up ≡ false)) (sym finds) (subst (λ (b : Serial). IsDownNext b (drop (kept.0 + 1) (ops_at g of.step.work.ops))) by down)) where
+        own_by : (o : UseStep) (b : Serial) → o.by ≡ b → is_by b o ≡ true
+        own_by o b e = and_from (eqb o.by.worker b.worker) (eqb o.by.command b.command) (eq-eqb o.by.worker b.worker (ap (λ (z : Serial). z.worker) e)) (eq-eqb o.by.command b.command (ap (λ (z : Serial). z.command) e))
 
   -- ---- what a command's entries freed
   pub born_total : (g : ℕ) (objects : List Object) → born_below (parents_of s) g objects ≡ total (λ (o : Object). cond (is_at_or_above (parents_of s) g o.birth) 1 0) objects
@@ -145,15 +130,11 @@ module _ (s : Script) (r : Report) (workers : List (List Step)) (run : IsRun s r
 
   -- an entry that a step made is of its command, or freed nothing
   entry_own : (worker k : ℕ) (x : Step) (m : Made) (e : Entry) → slice_get (steps_of workers worker) k ≡ Some x → IsAmong m x.work.core.made → m.entry ≡ e → MayMakeEntry s x m e → (entry_by r e ≡ Some x.by) ⊎ (freed_by m.items e ≡ [])
-  entry_own worker k x m (Add by birth added key value) at among entry may = inr refl
-  entry_own worker k x m (Look by birth key hit) at among entry may = inr refl
   entry_own worker k x m (Drop by birth key kind) at among entry may = let t : IsTenantEntry x m by = may in inl (ap Some t.own)
-  entry_own worker k x m (Pin by birth key pinned hit) at among entry may = inr refl
   entry_own worker k x m (Scan w n asked policy visits freed stopped) at among entry may =
       inl (⊎_elim (λ t. scanned_by s r workers run worker k x m w n at t) (λ t. visited_by s r workers run worker k x m w n asked visits freed policy stopped at t among entry) may)
-  entry_own worker k x m (MovedIn child objects) at among entry may = inr refl
-  entry_own worker k x m Closed at among entry may = inr refl
   entry_own worker k x m (Drained by objects) at among entry may = let t : IsDrainedByCommand x m by = may in inl (ap Some t.own)
+  entry_own worker k x m e at among entry may = inr refl
 
   may_make : (worker k : ℕ) (x : Step) (j : ℕ) (m : Made) → slice_get (steps_of workers worker) k ≡ Some x → slice_get x.work.core.made j ≡ Some m → MayMakeEntry s x m m.entry
   may_make worker k x j m at e = each_among (λ (z : Made). MayMakeEntry s x z z.entry) x.work.core.made m (run.steps.each worker k x at).did.entries.each (j, some_at x.work.core.made j m e)
@@ -212,14 +193,13 @@ module _ (s : Script) (r : Report) (workers : List (List Step)) (run : IsRun s r
       ∙ ap (λ n. pos (charged (parents_of s) g (command_at s by) (reply_at r by)) -ℤ pos n) (sym freed)))))
       (λ never. let freed : freed_below s r by g ≡ 0 = freed_made by g ∙ none_weigh by g never in
       ap usage_after (ops_none s r workers run by g never) ∙ (ap (λ c. pos (charged (parents_of s) g c (reply_at r by)) -ℤ pos 0) (sym (no_command by never)) ∙ ap (λ n. pos (charged (parents_of s) g (command_at s by) (reply_at r by)) -ℤ pos n) (sym freed)))
-      (step_or_not by)
-    where
-      none_weigh : (by : Serial) (g : ℕ) → ((worker k : ℕ) (x : Step) → slice_get (steps_of workers worker) k ≡ Some x → x.by ≡ by → ⊥) → total (weight_by by g) (all_made workers) ≡ 0
-      none_weigh by g never = all_zero (weight_by by g) (all_made workers) (λ j m e. let of = has_step (λ (x : Step). x.work.core.made) workers m (j, some_at (all_made workers) j m e) in
-          ⊎_elim
-          (λ own. ap (λ o. cond (is_of by o) (born_below (parents_of s) g (freed_by m.items m.entry)) 0) own ∙ ap (λ b. cond b (born_below (parents_of s) g (freed_by m.items m.entry)) 0) (serial_other by of.step.by (λ same. never of.worker of.k of.step of.at (sym same))))
-          (λ none. cond_zero (is_of by (entry_by r m.entry)) (born_below (parents_of s) g (freed_by m.items m.entry)) (born_none g (freed_by m.items m.entry) none))
-          (entry_own of.worker of.k of.step m m.entry of.at of.has refl (may_make of.worker of.k of.step of.has.0 m of.at (at_some of.step.work.core.made of.has.0 m of.has.1))))
+      (step_or_not by) where
+        none_weigh : (by : Serial) (g : ℕ) → ((worker k : ℕ) (x : Step) → slice_get (steps_of workers worker) k ≡ Some x → x.by ≡ by → ⊥) → total (weight_by by g) (all_made workers) ≡ 0
+        none_weigh by g never = all_zero (weight_by by g) (all_made workers) (λ j m e. let of = has_step (λ (x : Step). x.work.core.made) workers m (j, some_at (all_made workers) j m e) in
+            ⊎_elim
+            (λ own. ap (λ o. cond (is_of by o) (born_below (parents_of s) g (freed_by m.items m.entry)) 0) own ∙ ap (λ b. cond b (born_below (parents_of s) g (freed_by m.items m.entry)) 0) (serial_other by of.step.by (λ same. never of.worker of.k of.step of.at (sym same))))
+            (λ none. cond_zero (is_of by (entry_by r m.entry)) (born_below (parents_of s) g (freed_by m.items m.entry)) (born_none g (freed_by m.items m.entry) none))
+            (entry_own of.worker of.k of.step m m.entry of.at of.has refl (may_make of.worker of.k of.step of.has.0 m of.at (at_some of.step.work.core.made of.has.0 m of.has.1))))
 
   -- ---- what is left
   -- the weight of a serial: that of the group of its `put`
@@ -257,14 +237,7 @@ module _ (s : Script) (r : Report) (workers : List (List Step)) (run : IsRun s r
   Weighs g o = weight_serial g o.serial ≡ weight_object g o
 
   pub added_weigh : (g : ℕ) (p : Place) → AllByRecursion (AddIs (Weighs g) (λ o h. h) (λ o h. h) (λ pinned o h. h)) (journals_of r p)
-  added_weigh g p = by_slices (AddIs (Weighs g) (λ o h. h) (λ o h. h) (λ pinned o h. h)) (journals_of r p) (λ n e stands. by_entry n e stands)
-    where
-      by_entry : (n : ℕ) (e : Entry) → slice_get (journals_of r p) n ≡ Some e → AddIs (Weighs g) (λ o h. h) (λ o h. h) (λ pinned o h. h) e
-      by_entry n (Add by birth added key value) stands = add_weighs g p n by birth key value added stands
-      by_entry n (Look by birth key hit) stands = tt
-      by_entry n (Drop by birth key kind) stands = tt
-      by_entry n (Pin by birth key pinned hit) stands = tt
-      by_entry n (Scan worker walk asked policy visits freed stopped) stands = tt
-      by_entry n (MovedIn child objects) stands = tt
-      by_entry n Closed stands = tt
-      by_entry n (Drained by objects) stands = tt
+  added_weigh g p = by_slices (AddIs (Weighs g) (λ o h. h) (λ o h. h) (λ pinned o h. h)) (journals_of r p) (λ n e stands. by_entry n e stands) where
+    by_entry : (n : ℕ) (e : Entry) → slice_get (journals_of r p) n ≡ Some e → AddIs (Weighs g) (λ o h. h) (λ o h. h) (λ pinned o h. h) e
+    by_entry n (Add by birth added key value) stands = add_weighs g p n by birth key value added stands
+    by_entry n e stands = tt

@@ -1,9 +1,8 @@
 -- The lists on which a worker acts for one group go up only, of a run.
 use Rattle.shr_assemble.proofs.Common.{◌≡◌, ℕ, ◌<◌, ◌≤◌, ⊎_elim, List, length, sym, ap, subst, ◌∙◌, arith, slice_get, Some, option_and_then, cases_lt, same_Some, Place, Script, group_named, path_of, IsAtOrAbove, place_number, at_group, on_le, IsAtOrAbove-le, IsAtOrAbove-refl, Has_from_Contains, Contains_from_Has, Begins, Known, place_at, back, Report, parents_of, cited_by, journals_of, at, IsMadeAsCited, Step, IsAmong, steps_of, IsRun, on_chain}
 use Rattle.shr_report.specs.Climbs.{ActsOn, AreClimbing}
-use Rattle.shr_assemble.proofs.Gathering.{among_begins}
+use Rattle.shr_assemble.proofs.Gathering.{among_begins, grows, made_stands, replies}
 use Rattle.shr_assemble.proofs.Listed.{contains_among}
-use Rattle.shr_assemble.proofs.Making.{grows, made_stands, replies}
 use Rattle.shr_assemble.proofs.OfflinedCause.{closed_last}
 
 module _ (s : Script) (r : Report) (workers : List (List Step)) (run : IsRun s r workers) where
@@ -49,7 +48,6 @@ module _ (s : Script) (r : Report) (workers : List (List Step)) (run : IsRun s r
       (λ on. let up = on_le (parents_of s) run.journals.parents p.group q.group (let far = there a in omega (arith, lower, far)) on in
       subst (IsAtOrAbove (parents_of s) q.group) (let same : q.group ≡ p.group = omega (arith, le, up) in same) (IsAtOrAbove-refl (parents_of s) run.journals.parents q.group (let far = there a in omega (arith, lower, far))))
       (on_chain (parents_of s) run.journals.parents q.group p.group birth (there a) (Has_from_Contains (path_of (parents_of s) birth) q.group next) (Has_from_Contains (path_of (parents_of s) birth) p.group high)))
-      (cases_lt p.group q.group)
-    where
-      there : Acted worker k birth p → birth < length (parents_of s)
-      there c = subst (λ g. g < length (parents_of s)) c.same c.cited.first.there
+      (cases_lt p.group q.group) where
+        there : Acted worker k birth p → birth < length (parents_of s)
+        there c = subst (λ g. g < length (parents_of s)) c.same c.cited.first.there

@@ -1,9 +1,8 @@
 -- The counts that a report tells of a worker are those of its steps, in the order in which it made them.
 use Rattle.shr_assemble.proofs.Common.{◌≡◌, ℕ, zero, suc, ◌+◌, ◌<◌, ◌≤◌, List, [], ◌∷◌, ◌++◌, length, length-append, map, take, sym, refl, ap, subst, ◌∙◌, arith, append_assoc, slice_get, Some, flat_map, flat_map-append, map-append, same_Some, none-some, some, some-ne-none, get_elem?, Serial, Script, Attempt, WalkRecord, Count, counts_of, place_number, place_in, Deed, by_seat, acts_of, part, Begins, among, seen_in, Event, Counted, counted, made, looked, loaded, turned, put_back, raised, cleared, mapped, WorkerState, Report, serial_of, Counting, countings_of, IsRun, Step, steps_of, AreStepsChained, BringsWork, counted_in, some_at, countings_in, among-append}
-use Rattle.shr_assemble.proofs.Flattening.{slice_map}
-use Rattle.shr_assemble.proofs.Gathering.{FlatAt, flat_at}
+use Rattle.shr_assemble.proofs.Listed.{slice_map}
+use Rattle.shr_assemble.proofs.Gathering.{FlatAt, flat_at, work_of}
 use Rattle.shr_assemble.proofs.LineOrder.{counted_of}
-use Rattle.shr_assemble.proofs.Making.{work_of}
 use Rattle.shr_assemble.proofs.Spots.{kind_spot, kind_there, kind_from, kind_within}
 use Rattle.shr_seats.proofs.Sums.{from_map}
 
@@ -26,14 +25,7 @@ at_less (x ∷ xs) (suc i) y e = let less = at_less xs i y e in omega (arith, le
 -- ---- events by kind
 pub one_seen : (e : Event) → length (seen_in e) ≤ 1
 one_seen (counted x) = omega arith
-one_seen (made x) = omega arith
-one_seen (looked x) = omega arith
-one_seen (loaded x) = omega arith
-one_seen (turned x) = omega arith
-one_seen (put_back i) = omega arith
-one_seen (raised x) = omega arith
-one_seen (cleared x) = omega arith
-one_seen (mapped x) = omega arith
+one_seen e = omega arith
 
 pub acts_both : (xs ys : List (Deed Event)) → acts_of (xs ++ ys) ≡ acts_of xs ++ acts_of ys
 acts_both xs ys = map-append (λ (d : Deed Event). d.act) xs ys
@@ -90,11 +82,10 @@ counts_done y b =
       length-append (among seen_in (acts_of y.before.core.did)) (among seen_in b.core.did),
       ap (length {A = Counted}) b.core.kinds.seen,
       length_timed y.by y.work.core.seen,
-    )
-  where
-    length_timed : (by : Serial) (cs : List Counted) → length {A = Serial × Counted} (map (λ (c : Counted). (by, c)) cs) ≡ length cs
-    length_timed by [] = refl
-    length_timed by (c ∷ cs) = let rest = length_timed by cs in omega (arith, rest)
+    ) where
+      length_timed : (by : Serial) (cs : List Counted) → length {A = Serial × Counted} (map (λ (c : Counted). (by, c)) cs) ≡ length cs
+      length_timed by [] = refl
+      length_timed by (c ∷ cs) = let rest = length_timed by cs in omega (arith, rest)
 
 counts_before : (t : WorkerState) (mine : List Step) (k : ℕ) (x : Step) → AreStepsChained t mine → slice_get mine k ≡ Some x
     → length (among seen_in (acts_of x.before.core.did)) ≡ length (among seen_in (acts_of t.core.did)) + length (flat_map timed (take k mine))
@@ -181,13 +172,12 @@ module _ (s : Script) (r : Report) (workers : List (List Step)) (run : IsRun s r
         deed = deed.0;
         there = deed.1;
         is = deed.2 ∙ (counted_of event.0 own.0 event.2 ∙ ap (λ (q : Serial × Counted). counted q.1) own.2);
-      }
-    where
-      told_pair : (cs : List Counting) (i : ℕ) → slice_get cs i ≡ Some c → slice_get (map pair cs) i ≡ Some (pair c)
-      told_pair [] i e = absurd (none-some c e)
-      told_pair (d ∷ ds) zero e = ap (λ (z : Counting). Some (pair z)) (same_Some d c e)
-      told_pair (d ∷ ds) (suc i) e = told_pair ds i e
+      } where
+        told_pair : (cs : List Counting) (i : ℕ) → slice_get cs i ≡ Some c → slice_get (map pair cs) i ≡ Some (pair c)
+        told_pair [] i e = absurd (none-some c e)
+        told_pair (d ∷ ds) zero e = ap (λ (z : Counting). Some (pair z)) (same_Some d c e)
+        told_pair (d ∷ ds) (suc i) e = told_pair ds i e
 
-      length_acts : (ds : List (Deed Event)) → length (acts_of ds) ≡ length ds
-      length_acts [] = refl
-      length_acts (d ∷ ds) = let rest = length_acts ds in omega (arith, rest)
+        length_acts : (ds : List (Deed Event)) → length (acts_of ds) ≡ length ds
+        length_acts [] = refl
+        length_acts (d ∷ ds) = let rest = length_acts ds in omega (arith, rest)

@@ -1,6 +1,5 @@
 -- The steps of all workers from what is known of them at the end, and what they have in all.
-use Rattle.shr_assemble.proofs.Common.{◌≡◌, ℕ, zero, suc, ◌<◌, List, [], ◌∷◌, ◌++◌, length, sym, refl, ap, subst, ◌∙◌, arith, slice_get, Some, flat_map, same_Some, none-some, slice_get_within, AllByRecursion, Sweep, View, SweepItem, sweeps_of, Shared, IsShared, WorkerState, CrewState, WorkerLog, Step, gathered, BringsWork, new_worker, HasWorked}
-use Rattle.shr_worker.specs.Chain.{worker_commands, command_serial}
+use Rattle.shr_assemble.proofs.Common.{◌≡◌, ℕ, zero, suc, ◌<◌, List, [], ◌∷◌, ◌++◌, length, sym, refl, ap, subst, ◌∙◌, arith, slice_get, Some, flat_map, same_Some, none-some, slice_get_within, AllByRecursion, Sweep, View, SweepItem, sweeps_of, Shared, IsShared, WorkerState, CrewState, WorkerLog, Step, gathered, BringsWork, new_worker, HasWorked, worker_commands, command_serial}
 use Rattle.shr_assemble.proofs.Rows.{DidEach, IsThereItem, along}
 use Rattle.shr_assemble.proofs.SweptRows.{IsWorkerRow, worker_row}
 

@@ -1,6 +1,6 @@
 -- A walk that memory cut short ended its command, of a run.
 use Rattle.shr_assemble.proofs.Common.{◌≡◌, false, List, ap, sym, subst, ◌∙◌, AllPairs, list_any, Serial, Answered, Command, Script, WalkRecord, is_cut, Report, IsWant, Step, IsRun, DidJobs, AreWalksFor, AreCutsTold}
-use Rattle.shr_assemble.proofs.Making.{Stepped, stepped}
+use Rattle.shr_assemble.proofs.Gathering.{Stepped, stepped}
 use Rattle.shr_assemble.proofs.WalksLaw.{walks_are}
 
 module _ (s : Script) (r : Report) (workers : List (List Step)) (run : IsRun s r workers) where

@@ -1,10 +1,7 @@
 -- The law of deferred words, of a run.
-use Rattle.shr_assemble.proofs.Common.{◌≡◌, ℕ, suc, ◌+◌, ◌<◌, ◌⊎◌, inl, inr, ⊎_elim, Bool, true, false, ◌&&◌, cond, List, [], ◌∷◌, ◌++◌, length, take, get_or, sym, refl, ap, subst, ◌∙◌, arith, slice_get, Option, Some, sum_by, flat_map, filter, filter_map, AllPairs, ◌==◌, AllByRecursion, dite, ℕ_discrete, IsSomeAnd, cases_lt, and_parts, eqb-true, same_Some, slice_get_within, get_or_from_slice_get, sum_by-append, sum_by-cons, flat_map-append, Place, PlaceAmount, Script, Attempt, Carry, PassRecord, WalkRecord, pass_of, sum_at, amount_at, deferred_word, is_below, given_at, taken_at, is_place, place_in, passes_at, is_place_same, IsTree, is_child, child_takes, child_higher, takes_of, gives_of, Serial, Reply, Report, parents_of, all_walks, all_carries, IsThere, serial_of, command_at, reply_at, HasCarried, IsBefore, Step, IsAmong, gathered, steps_of, Did, DidCarry, all_takes, all_gives, IsRun, by_slices, some_at, flat_zero, printed_at, IsCarryRight, IsDeferredLawful}
-use Rattle.shr_report.specs.Parts.{carries_of}
-use Rattle.shr_assemble.proofs.Gathering.{each_step, has_step, flat_at}
-use Rattle.shr_assemble.proofs.Listed.{all_among, all_slice, no_test}
-use Rattle.shr_assemble.proofs.Making.{reply_is}
-use Rattle.shr_assemble.proofs.Flattening.{all_walks_are, all_carries_are}
+use Rattle.shr_assemble.proofs.Common.{◌≡◌, ℕ, suc, ◌+◌, ◌<◌, ◌⊎◌, inl, inr, ⊎_elim, Bool, true, false, ◌&&◌, cond, List, [], ◌∷◌, ◌++◌, length, take, get_or, sym, refl, ap, subst, ◌∙◌, arith, slice_get, Option, Some, sum_by, flat_map, filter, filter_map, AllPairs, ◌==◌, AllByRecursion, dite, ℕ_discrete, IsSomeAnd, cases_lt, and_parts, eqb-true, same_Some, slice_get_within, get_or_from_slice_get, sum_by-append, sum_by-cons, flat_map-append, Place, PlaceAmount, Script, Attempt, Carry, PassRecord, WalkRecord, pass_of, sum_at, amount_at, deferred_word, is_below, given_at, taken_at, is_place, place_in, passes_at, is_place_same, IsTree, is_child, child_takes, child_higher, takes_of, gives_of, Serial, Reply, Report, parents_of, all_walks, all_carries, IsThere, serial_of, command_at, reply_at, HasCarried, IsBefore, Step, IsAmong, gathered, steps_of, Did, DidCarry, all_takes, all_gives, IsRun, by_slices, some_at, flat_zero, printed_at, IsCarryRight, IsDeferredLawful, carries_of, no_test}
+use Rattle.shr_assemble.proofs.Gathering.{each_step, has_step, flat_at, reply_is}
+use Rattle.shr_assemble.proofs.Listed.{all_among, all_slice, all_walks_are, all_carries_are}
 
 -- ---- sums over all steps
 module _ (parents : List ℕ) (p : Place) where
@@ -122,11 +119,10 @@ module _ (s : Script) (tree : IsTree (parents_of s)) (p : Place) (out : IsThere 
 -- sums of nothing are nothing
 sums_none : (p : Place) (f : Step → List PlaceAmount) (workers : List (List Step)) → AllByRecursion (λ (mine : List Step). AllByRecursion (λ (x : Step). sum_at p (f x) ≡ 0) mine) workers → sum_at p (gathered f workers) ≡ 0
 sums_none p f [] h = refl
-sums_none p f (mine ∷ ws) h = omega (arith, sum_both [] p (flat_map f mine) (gathered f ws), sums_none p f ws h.1, mine_none mine h.0)
-  where
-    mine_none : (xs : List Step) → AllByRecursion (λ (x : Step). sum_at p (f x) ≡ 0) xs → sum_at p (flat_map f xs) ≡ 0
-    mine_none [] h = refl
-    mine_none (x ∷ xs) h = omega (arith, h.0, mine_none xs h.1, sum_both [] p (f x) (flat_map f xs))
+sums_none p f (mine ∷ ws) h = omega (arith, sum_both [] p (flat_map f mine) (gathered f ws), sums_none p f ws h.1, mine_none mine h.0) where
+  mine_none : (xs : List Step) → AllByRecursion (λ (x : Step). sum_at p (f x) ≡ 0) xs → sum_at p (flat_map f xs) ≡ 0
+  mine_none [] h = refl
+  mine_none (x ∷ xs) h = omega (arith, h.0, mine_none xs h.1, sum_both [] p (f x) (flat_map f xs))
 
 module _ (s : Script) (r : Report) (workers : List (List Step)) (run : IsRun s r workers) where
   given_is : (p : Place) → given_at (parents_of s) (all_walks r) (all_carries r) p ≡ sum_at p (all_gives workers)
@@ -174,15 +170,14 @@ module _ (s : Script) (r : Report) (workers : List (List Step)) (run : IsRun s r
       let own : slice_get u.x.work.carries v.i ≡ Some d = ap (λ (z : Step). slice_get z.work.carries v.i) (sym same_x) ∙ v.own in
       let offset : length (flat_map f (take u.k (steps_of workers worker))) ≡ length (flat_map f (take v.k (steps_of workers worker))) = ap (λ k. length (flat_map f (take k (steps_of workers worker)))) same_k in
       let equal : u.i ≡ v.i = dite (ℕ_discrete u.i v.i) (λ e. e) (λ ne. ⊎_elim (λ lt. absurd (apart u.x.work.carries is_u.did.moves.rise u.i v.i c d lt u.own own place)) (λ le. absurd (apart u.x.work.carries is_u.did.moves.rise v.i u.i d c (omega (arith, ne, le)) own u.own (sym place))) (cases_lt u.i v.i)) in
-      omega (arith, u.number, v.number, offset, equal)
-    where
-      apart : (xs : List Carry) → AllPairs (λ (a b : Carry). IsBefore a.place.id a.place.node b.place.id b.place.node) xs → (i j : ℕ) (a b : Carry) → i < j → slice_get xs i ≡ Some a → slice_get xs j ≡ Some b → a.place ≡ b.place → ⊥
-      apart xs rise i j a b lt at_a at_b place =
-          let before : IsBefore a.place.id a.place.node b.place.id b.place.node = subst (λ (z : Carry). IsBefore z.place.id z.place.node b.place.id b.place.node) (get_or_from_slice_get xs i a b at_a)
-          (subst (λ (z : Carry). IsBefore (get_or xs i b).place.id (get_or xs i b).place.node z.place.id z.place.node) (get_or_from_slice_get xs j b b at_b) (rise i j b lt (slice_get_within xs j b at_b))) in
-          let ids = ap (λ (q : Place). q.id) place in
-          let nodes = ap (λ (q : Place). q.node) place in
-          ⊎_elim (λ h. omega (arith, h, ids)) (λ h. omega (arith, h.1, nodes)) before
+      omega (arith, u.number, v.number, offset, equal) where
+        apart : (xs : List Carry) → AllPairs (λ (a b : Carry). IsBefore a.place.id a.place.node b.place.id b.place.node) xs → (i j : ℕ) (a b : Carry) → i < j → slice_get xs i ≡ Some a → slice_get xs j ≡ Some b → a.place ≡ b.place → ⊥
+        apart xs rise i j a b lt at_a at_b place =
+            let before : IsBefore a.place.id a.place.node b.place.id b.place.node = subst (λ (z : Carry). IsBefore z.place.id z.place.node b.place.id b.place.node) (get_or_from_slice_get xs i a b at_a)
+            (subst (λ (z : Carry). IsBefore (get_or xs i b).place.id (get_or xs i b).place.node z.place.id z.place.node) (get_or_from_slice_get xs j b b at_b) (rise i j b lt (slice_get_within xs j b at_b))) in
+            let ids = ap (λ (q : Place). q.id) place in
+            let nodes = ap (λ (q : Place). q.node) place in
+            ⊎_elim (λ h. omega (arith, h, ids)) (λ h. omega (arith, h.1, nodes)) before
 
   pub deferred_lawful : IsDeferredLawful s r
   deferred_lawful = record {

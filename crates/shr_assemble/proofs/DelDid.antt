@@ -1,5 +1,5 @@
 -- What a del did.
-use Rattle.shr_assemble.proofs.Common.{◌≡◌, ℕ, ◌+◌, ◌<◌, inl, inr, Bool, true, false, cond, ◌==◌, List, [], ◌∷◌, length, refl, sym, ap, ◌∙◌, arith, Option, Some, None, bytes_eq, same_Some, none-some, and_parts, eqb-true, append-nil, sum_by-cons, DropKind, born_below, path_of, drop_kind_of, dropped_of, Made, Turns, spent_by, Uses, within_of_valid, does_then, is_past_group, added_below, made_freed_below, Step, Object, Serial, At, Entry, Drop, Answered, Found, Reply, Spent, Command, Del, is_named, named_in, View, shape_of, Listed, IsObjectWithin, content_of, Shared, WorkerState, Work, no_work, then_work, Does, parents_of, length_after_drop, drop_entry, DropGives}
+use Rattle.shr_assemble.proofs.Common.{◌≡◌, ℕ, ◌+◌, ◌<◌, inl, inr, Bool, true, false, cond, ◌==◌, List, [], ◌∷◌, length, refl, sym, ap, ◌∙◌, arith, Option, Some, None, bytes_eq, same_Some, none-some, and_parts, eqb-true, append-nil, sum_by-cons, DropKind, born_below, path_of, drop_kind_of, dropped_of, Made, Turns, spent_by, Uses, within_of_valid, does_then, is_past_group, added_below, made_freed_below, Step, Object, Serial, At, Entry, Drop, Answered, Found, Reply, Spent, Command, Del, is_named, named_in, View, shape_of, Listed, IsObjectWithin, content_of, Shared, WorkerState, Work, no_work, then_work, Does, parents_of, length_after_drop, drop_entry, DropGives, not_spent}
 use Rattle.shr_base.specs.declared.journals.DropKind.TheVariants as kind
 use Rattle.shr_charge.specs.declared.answers.GroupState.TheVariants as state
 use Rattle.shr_base.specs.declared.replies.Reply.TheVariants as reply
@@ -7,12 +7,9 @@ use Rattle.shr_base.specs.declared.replies.Spent.TheVariants as spent
 use Rattle.shr_node.specs.declared.answers.NodeDrop.{NodeDrop}
 use Rattle.shr_node.specs.declared.answers.NodeDrop.TheVariants as drop
 use Rattle.shr_cache.specs.Dels.{Drops, DropsAndUncharges, DroppedFrom, DroppedNone, DroppedAs, DelGives}
-use Rattle.shr_assemble.proofs.Bringing.{brings_of}
-use Rattle.shr_assemble.proofs.Quiet.{step_of, HasDid, calm_walks, still_moves, still_pool, still_tree, some_met, meets_none}
-use Rattle.shr_assemble.proofs.QuietSteps.{AreTables, tree_is, on_list, on_list_does, on_list_online, found_entry, found_by}
-use Rattle.shr_assemble.proofs.QuietTenant.{IsTenant, group_in, refused_did, acted_did, stood_did, stood_step, cites_is, cited_is, place_same, entry, bits, list_worn, without, one_entry, is_told, found_lookups, own_online, own_met}
-use Rattle.shr_assemble.proofs.QuietNothing.{nothing_did, charges_worn}
-use Rattle.shr_assemble.proofs.QuietCharges.{uncharging, uncharges_few, does_uncharge, uncharged_charges}
+use Rattle.shr_assemble.proofs.QuietTenant.{brings_of, IsTenant, group_in, refused_did, acted_did, stood_did, stood_step, cites_is, cited_is, place_same, entry, bits, list_worn, without, one_entry, is_told, found_lookups, own_online, own_met}
+use Rattle.shr_assemble.proofs.QuietSteps.{step_of, HasDid, calm_walks, still_moves, still_pool, still_tree, some_met, meets_none, quiet_did, AreTables, tree_is, on_list, on_list_does, on_list_online, found_entry, found_by}
+use Rattle.shr_assemble.proofs.QuietCharges.{nothing_did, charges_worn, uncharging, does_uncharge, uncharged_charges}
 
 -- the object that a drop names, where it takes it out
 pub record IsTakenOut (birth : ℕ) (o : Option Object) : Type 0 where
@@ -22,28 +19,19 @@ pub record IsTakenOut (birth : ℕ) (o : Option Object) : Type 0 where
 
 named_birth : (birth : ℕ) (key : List ℕ) (items : List Object) (y : Object) → named_in birth key items ≡ Some y → y.birth ≡ birth
 named_birth birth key [] y e = absurd (none-some y e)
-named_birth birth key (z ∷ items) y e = by_test (is_named birth key z) refl e (named_birth birth key items y)
-  where
-    by_test : (b : Bool) → is_named birth key z ≡ b → cond b (Some z) (named_in birth key items) ≡ Some y → (named_in birth key items ≡ Some y → y.birth ≡ birth) → y.birth ≡ birth
-    by_test true t h more = ap (λ (o : Object). o.birth) (sym (same_Some z y h)) ∙ eqb-true z.birth birth (and_parts (z.birth == birth) (bytes_eq z.key key) t).0
-    by_test false t h more = more h
+named_birth birth key (z ∷ items) y e = by_test (is_named birth key z) refl e (named_birth birth key items y) where
+  by_test : (b : Bool) → is_named birth key z ≡ b → cond b (Some z) (named_in birth key items) ≡ Some y → (named_in birth key items ≡ Some y → y.birth ≡ birth) → y.birth ≡ birth
+  by_test true t h more = ap (λ (o : Object). o.birth) (sym (same_Some z y h)) ∙ eqb-true z.birth birth (and_parts (z.birth == birth) (bytes_eq z.key key) t).0
+  by_test false t h more = more h
 
 taken_out : (birth : ℕ) (o : Option Object) → ((y : Object) → o ≡ Some y → y.birth ≡ birth) → drop_kind_of o ≡ kind.Dropped → IsTakenOut birth o
 taken_out birth None born e = absurd (cc)
-taken_out birth (Some y) born e = let t = by_pin y.pinned e in record { object = t.0; alone = t.1; born = t.2 }
-  where
-    by_pin : (b : Bool) → cond b kind.Pinned kind.Dropped ≡ kind.Dropped → (object : Object) × (cond b [] (y ∷ []) ≡ object ∷ []) × (object.birth ≡ birth)
-    by_pin true h = absurd (cc)
-    by_pin false h = (y, refl, born y refl)
+taken_out birth (Some y) born e = let t = (elim y.pinned as (λ (b : Bool). cond b kind.Pinned kind.Dropped ≡ kind.Dropped → (object : Object) × (cond b [] (y ∷ []) ≡ object ∷ []) × (object.birth ≡ birth)) [ true ↦ λ h. absurd (cc) | false ↦ λ h. (y, refl, born y refl) ]) e in record { object = t.0; alone = t.1; born = t.2 }
 
 -- an object that stays is not taken out
 stays : (o : Option Object) (k : DropKind) → drop_kind_of o ≡ k → (k ≡ kind.Dropped → ⊥) → dropped_of o ≡ []
 stays None k e apart = refl
-stays (Some y) k e apart = by_pin y.pinned e
-  where
-    by_pin : (b : Bool) → cond b kind.Pinned kind.Dropped ≡ k → cond b [] (y ∷ []) ≡ []
-    by_pin true h = refl
-    by_pin false h = absurd (apart (sym h))
+stays (Some y) k e apart = (elim y.pinned as (λ (b : Bool). cond b kind.Pinned kind.Dropped ≡ k → cond b [] (y ∷ []) ≡ []) [ true ↦ λ h. refl | false ↦ λ h. absurd (apart (sym h)) ]) e
 
 module _ (x : Shared) (tables : AreTables x) (by : Serial) (group node decl : ℕ) (key : List ℕ) (within : IsObjectWithin (content_of x.script) group node decl key) where
   abbrev command : Command
@@ -127,36 +115,30 @@ module _ (x : Shared) (tables : AreTables x) (by : Serial) (group node decl : �
         let z : Step = step_of by command (record { reply = r; found = Some f }) s t work in
         let does_first : Does s h.dropped first = on_list_does x group decl f call s h.dropped o (m ∷ []) set a.gains in
         let same : h.dropped.uses.uncharges ≡ s.uses.uncharges + 0 = ap (λ (u : Uses). u.uncharges) does_first.uses in
-        let few = uncharges_few s.uses h.drops.charges in
+        let few = not_spent s.uses h.drops.charges in
         let does : Does s t work = does_then s h.dropped t first (uncharging h.uncharges.ops) does_first (does_uncharge x by group h.dropped t h.uncharges (omega (arith, few, same))) in
         let out : IsTakenOut group (named_in group key a.old.items) = taken_out group (named_in group key a.old.items) (λ y e. named_birth group key a.old.items y e) a.before in
         let pool_same : t.core.turns ≡ h.dropped.core.turns = ap (λ (u : WorkerState). u.core.turns) h.uncharges.rest in
         let tree = (within_of_valid (content_of x.script) tables.shared.script).tree in
         let born = out.born in
-        record {
-          work = work;
-          does = brings_of does;
-          did = record {
-            entries = one_entry x.script z m c refl (append-nil set) (is_told z m c (place_same x tables by command group node decl tenant f call r s h.dropped o group c so dropping a within.on_node there) (sym a.number) refl)
-                (λ family stands. cites_is x tables by command group node decl tenant f call r s h.dropped o group c so dropping a within.on_node there family (Drop by group key kind.Dropped) stands (ap (Drop by group key) a.before))
-                refl (cited_is x tables by command group node decl tenant f call r s h.dropped o group c so dropping a within.on_node there z refl (ap (λ (u : WorkerState). u.core.traces.known) h.uncharges.rest) refl (0, refl) (λ added below empty. absurd (cc)));
-            lookups = found_lookups x.script z decl f refl refl refl (found_by x group decl f call s h.dropped o (m ∷ []) set a.gains z pool_same (0, refl));
-            walks = calm_walks x.script z tt (record { walks = refl; seen = refl; maps = refl; cleared = refl });
-            charges = uncharged_charges x.script z (out.object ∷ []) tree (record {
-              born = (omega (arith, born, there), tt);
-              downs = record { at = h.uncharges.downs.at ∙ (ap (λ (l : List ℕ). path_of l group) (tree_is x tables.shared) ∙ (ap (path_of ps) (sym out.born) ∙ sym (append-nil (path_of ps out.object.birth)))); each = h.uncharges.downs.each };
-              charges = refl;
-              uncharges = refl;
-              freed = λ g. omega (arith, sum_by-cons (made_freed_below ps g) m [], ap (born_below ps g) out.alone);
-              added = λ g. omega (arith, sum_by-cons (λ (y : Made). added_below ps g y.entry) m []);
-              charged = λ g. refl;
-            });
-            moves = still_moves x.script z (record { walks = refl; takes = refl; gives = refl; carries = refl });
-            pool = still_pool x.script z does.core.pool (record { turns = refl; made = refl }) (found_entry x group decl f call s h.dropped o (m ∷ []) set a.gains ∙ ap (λ (y : Turns). length y.known) (sym pool_same));
-            tree = still_tree x.script z refl (λ g asked above. inr (own_online x tables by command group decl tenant s.tree (on_list_online x group decl f call s h.dropped o (m ∷ []) set a.gains) g asked)) (own_met x tables by command group decl tenant z state.Online refl refl (0, refl) (λ g e. absurd (cc)));
-            cause = tt;
-          };
-        }
+        quiet_did work tt (record { walks = refl; seen = refl; maps = refl; cleared = refl; takes = refl; gives = refl; carries = refl })
+        (brings_of does)
+        (one_entry x.script z m c refl (append-nil set) (is_told z m c (place_same x tables by command group node decl tenant f call r s h.dropped o group c so dropping a within.on_node there) (sym a.number) refl)
+        (λ family stands. cites_is x tables by command group node decl tenant f call r s h.dropped o group c so dropping a within.on_node there family (Drop by group key kind.Dropped) stands (ap (Drop by group key) a.before))
+        refl (cited_is x tables by command group node decl tenant f call r s h.dropped o group c so dropping a within.on_node there z refl (ap (λ (u : WorkerState). u.core.traces.known) h.uncharges.rest) refl (0, refl) (λ added below empty. absurd (cc))))
+        (found_lookups x.script z decl f refl refl refl (found_by x group decl f call s h.dropped o (m ∷ []) set a.gains z pool_same (0, refl)))
+        (uncharged_charges x.script z (out.object ∷ []) tree (record {
+          born = (omega (arith, born, there), tt);
+          downs = record { at = h.uncharges.downs.at ∙ (ap (λ (l : List ℕ). path_of l group) (tree_is x tables.shared) ∙ (ap (path_of ps) (sym out.born) ∙ sym (append-nil (path_of ps out.object.birth)))); each = h.uncharges.downs.each };
+          charges = refl;
+          uncharges = refl;
+          freed = λ g. omega (arith, sum_by-cons (made_freed_below ps g) m [], ap (born_below ps g) out.alone);
+          added = λ g. omega (arith, sum_by-cons (λ (y : Made). added_below ps g y.entry) m []);
+          charged = λ g. refl;
+        }))
+        (still_pool x.script z does.core.pool (record { turns = refl; made = refl }) (found_entry x group decl f call s h.dropped o (m ∷ []) set a.gains ∙ ap (λ (y : Turns). length y.known) (sym pool_same)))
+        (still_tree x.script z refl (λ g asked above. inr (own_online x tables by command group decl tenant s.tree (on_list_online x group decl f call s h.dropped o (m ∷ []) set a.gains) g asked)) (own_met x tables by command group decl tenant z state.Online refl refl (0, refl) (λ g e. absurd (cc))))
+        tt
 
     from : (r : Reply) → DroppedFrom x by group node decl key f r s t → HasDid x.script by command (record { reply = r; found = Some f }) s t
     from (reply.Dropped c) h = dropped c h

@@ -1,26 +1,186 @@
--- Each command's clause gives what it did, and that of a helper what it did for the sweep.
-use Rattle.shr_assemble.proofs.Common.{◌≡◌, ℕ, List, [], ◌++◌, sym, refl, ap, ◌∙◌, None, Some, slice_get, append-nil, none-some, Serial, Answered, Command, Put, Get, Del, SetPin, Shrink, Balance, Offline, MkGroup, Register, Unregister, Isolate, Release, Grab, Script, Isolation, Shared, IsCommandWithin, IsIsolationWithin, content_of, isolations_told, CrewState, DeedGives}
-use Rattle.shr_worker.proofs.Pooled.{isolate_there}
-use Rattle.shr_assemble.proofs.Fit.{IsFit}
+-- What a worker's part of the sweep did, and what each command did, put together.
+use Rattle.shr_assemble.proofs.Common.{◌≡◌, ℕ, ◌<◌, Bool, List, [], ◌∷◌, ◌++◌, length, map, sym, refl, ap, subst, ◌∙◌, sum, Some, None, AllByRecursion, append-nil, map-append, length-map, none-some, Serial, Answered, Reply, Sweep, WalkAnswer, WalkRecord, Job, job_of, SweepItem, End, SweepJob, Visit, job_in, VisitHadMemory, AreVisited, parents_of, IsSwept, HadMemory, WorkerState, Shared, CrewState, unfound, Did, HasHelped, job_walked, IsSweepWalk, sweep_reply, slice_get, Command, Put, Get, Del, SetPin, Shrink, Balance, Offline, MkGroup, Register, Unregister, Isolate, Release, Grab, Script, Isolation, IsCommandWithin, IsIsolationWithin, content_of, isolations_told, DeedGives, isolate_there}
+use Rattle.shr_base.specs.declared.replies.Reply.TheVariants as reply
+use Rattle.shr_pool.specs.declared.items.SweepItem.TheVariants.{Walk}
+use Rattle.shr_pool.specs.declared.view.PassView.{PassView}
+use Rattle.shr_sweep.specs.declared.answers.SweepAnswer.{SweepAnswer}
+use Rattle.shr_sweep.specs.declared.answers.SweepAnswer.TheVariants as sweep
+use Rattle.shr_sweep.specs.Helping.{HelpGives, HasSwept, HasStopped, walk_of_job, visit_freed}
+use Rattle.shr_walk.specs.Balances as balances
+use Rattle.shr_assemble.proofs.QuietTenant.{brings_of, group_in}
+use Rattle.shr_assemble.proofs.Rows.{SweptPart, IsThereItem, Worked, DidEach, IsFit}
+use Rattle.shr_assemble.proofs.WalkingChain.{GaveAll, IsThereJob, AllNoted, gave_all, visited_one, all_had, all_cut}
+use Rattle.shr_assemble.proofs.WalkingCharges.{rec_of}
+use Rattle.shr_assemble.proofs.WalkingDid.{walks_did, Stepping}
+use Rattle.shr_assemble.proofs.WalkingSteps.{step_of}
+use Rattle.shr_assemble.proofs.WalkingWell.{IsTableOf}
 use Rattle.shr_assemble.proofs.BalanceDid.{balance_did}
 use Rattle.shr_assemble.proofs.DelDid.{del_did}
 use Rattle.shr_assemble.proofs.GetDid.{get_did}
 use Rattle.shr_assemble.proofs.IsolateDid.{isolate_done}
 use Rattle.shr_assemble.proofs.MkGroupDid.{mkgroup_did}
-use Rattle.shr_assemble.proofs.OfflineAll.{offline_did}
+use Rattle.shr_assemble.proofs.HandedOver.{offline_did}
 use Rattle.shr_assemble.proofs.PinDid.{pin_did}
 use Rattle.shr_assemble.proofs.PutDid.{put_did}
 use Rattle.shr_assemble.proofs.PoolDid.{release_did, grab_did}
-use Rattle.shr_assemble.proofs.Quiet.{HasDid}
-use Rattle.shr_assemble.proofs.QuietSteps.{AreTables}
-use Rattle.shr_assemble.proofs.QuietTenant.{group_in}
+use Rattle.shr_assemble.proofs.QuietSteps.{HasDid, AreTables}
 use Rattle.shr_assemble.proofs.RegisterDid.{register_did}
-use Rattle.shr_assemble.proofs.Rows.{Worked, DidEach}
 use Rattle.shr_assemble.proofs.ShrinkDid.{shrink_did}
-use Rattle.shr_assemble.proofs.SweepDid.{sweep_did}
 use Rattle.shr_assemble.proofs.UnregisterDid.{unregister_did}
-use Rattle.shr_assemble.proofs.WalkingDid.{Stepping}
-use Rattle.shr_assemble.proofs.WalkingTold.{IsTableOf}
+
+abbrev answer_in : Visit → WalkAnswer
+answer_in v = v.answer
+
+had_all : (vs : List Visit) → AllByRecursion VisitHadMemory vs → AllByRecursion HadMemory (map answer_in vs)
+had_all [] h = tt
+had_all (v ∷ vs) h = (h.0, had_all vs h.1)
+
+same_freed : (vs : List Visit) → map visit_freed vs ≡ map balances.walk_freed (map answer_in vs)
+same_freed [] = refl
+same_freed (v ∷ vs) = ap (λ l. balances.walk_freed v.answer ∷ l) (same_freed vs)
+
+module _ (x : Shared) (priority : ℕ) (nofs : Bool) where
+  abbrev walk_as : SweepJob → Job
+  walk_as j = walk_of_job priority nofs j
+
+  -- the jobs that were popped are there
+  jobs_there : (jobs : List SweepJob) (rest : List SweepItem) → AllByRecursion (IsThereItem x.script) (map Walk jobs ++ rest) → AllByRecursion (IsThereJob x) (map walk_as jobs)
+  jobs_there [] rest h = tt
+  jobs_there (j ∷ jobs) rest h = (record { node = h.0.0; group = h.0.1 }, jobs_there jobs rest h.1)
+
+  -- the records of walks are of the first of these jobs
+  first_jobs : (ws : List WalkRecord) (jobs : List SweepJob) (rest : List Job) → map job_of ws ++ rest ≡ map walk_as jobs → (left : List SweepJob) × (jobs ≡ map job_walked ws ++ left)
+  first_jobs [] jobs rest e = (jobs, refl)
+  first_jobs (w ∷ ws) [] rest e = absurd (cc)
+  first_jobs (w ∷ ws) (j ∷ jobs) rest e =
+      let here : job_of w ≡ walk_as j = cc in
+      let later : map job_of ws ++ rest ≡ map walk_as jobs = cc in
+      let more = first_jobs ws jobs rest later in
+      (more.0, λ i. record { group = ap (λ (k : Job). k.group) (sym here) i; node = ap (λ (k : Job). k.node) (sym here) i } ∷ more.1 i)
+
+  all_jobs : (ws : List WalkRecord) (jobs : List SweepJob) → map job_of ws ≡ map walk_as jobs → jobs ≡ map job_walked ws
+  all_jobs [] [] e = refl
+  all_jobs [] (j ∷ jobs) e = absurd (cc)
+  all_jobs (w ∷ ws) [] e = absurd (cc)
+  all_jobs (w ∷ ws) (j ∷ jobs) e =
+      let here : job_of w ≡ walk_as j = cc in
+      let later : map job_of ws ≡ map walk_as jobs = cc in
+      λ i. record { group = ap (λ (k : Job). k.group) (sym here) i; node = ap (λ (k : Job). k.node) (sym here) i } ∷ all_jobs ws jobs later i
+
+  -- they are walks of the sweep
+  walks_right : (z : Sweep) → z.priority ≡ priority → z.nofs ≡ nofs → (ws : List WalkRecord) (jobs : List SweepJob) (rest : List Job) → map job_of ws ++ rest ≡ map walk_as jobs → AllByRecursion (IsThereJob x) (map walk_as jobs)
+      → AllByRecursion (IsSweepWalk x.script z) ws
+  walks_right z p n [] jobs rest e there = tt
+  walks_right z p n (w ∷ ws) [] rest e there = absurd (cc)
+  walks_right z p n (w ∷ ws) (j ∷ jobs) rest e there =
+      let here : job_of w ≡ walk_as j = cc in
+      let later : map job_of ws ++ rest ≡ map walk_as jobs = cc in (
+        record {
+          group = subst (λ (g : ℕ). g < length (parents_of x.script)) (ap (λ (k : Job). k.group) (sym here)) there.0.group;
+          node = subst (λ (g : ℕ). g < x.script.nodes) (ap (λ (k : Job). k.node) (sym here)) there.0.node;
+          priority = ap (λ (k : Job). k.priority) here ∙ sym p;
+          nofs = ap (λ (k : Job). k.nofs) here ∙ sym n;
+        },
+        walks_right z p n ws jobs rest later there.1,
+      )
+
+module _ (x : Shared) (table : IsTableOf x) (z : Sweep) (asked : x.script.sweep ≡ Some z) (by : Serial) (s t : WorkerState) where
+  abbrev walk_for : SweepJob → Job
+  walk_for j = walk_of_job z.priority z.nofs j
+
+  -- what the walks gave
+  gave : (r : Reply) (walks : List Visit) → AreVisited x by walks s t → AllByRecursion (IsThereJob x) (map job_in walks) → GaveAll x by None (unfound r) (map job_in walks) (map answer_in walks) s t
+  gave r walks visited there =
+      let one = visited_one x by walks s t visited in
+      gave_all x table by None (unfound r) (map job_in walks) (map answer_in walks) s t one there
+
+  -- a step that made the walks of a sweep and nothing else
+  did_swept : (count freed : ℕ) (jobs : List Job) (answers : List WalkAnswer) (all : GaveAll x by None (unfound (reply.Swept count freed)) jobs answers s t) → IsSwept x.script z all.work.walks (unfound (reply.Swept count freed))
+      → Did x.script (step_of x.script by None (unfound (reply.Swept count freed)) s t all.work)
+  did_swept count freed jobs answers all swept = walks_did x table by None (reply.Swept count freed) s t all.work all.walked all.freed all.born all.charges all.uncharges record {
+    free = λ g. refl;
+    no_decl = refl;
+    reply = λ family. (refl, tt);
+    no_cite = refl;
+    no_told = refl;
+    no_made = refl;
+    asked = record { sweep = z; asked = asked; swept = swept };
+    online = λ g e above. absurd (none-some g e);
+    meets = record { unmade = λ g e. absurd (cc); met = λ g e. absurd (none-some g e) };
+    cause = tt;
+  }
+
+  did_stopped : (freed : ℕ) (jobs : List Job) (answers : List WalkAnswer) (all : GaveAll x by None (unfound (reply.WalkMemory freed)) jobs answers s t) → IsSwept x.script z all.work.walks (unfound (reply.WalkMemory freed))
+      → Did x.script (step_of x.script by None (unfound (reply.WalkMemory freed)) s t all.work)
+  did_stopped freed jobs answers all swept = walks_did x table by None (reply.WalkMemory freed) s t all.work all.walked all.freed all.born all.charges all.uncharges record {
+    free = λ g. refl;
+    no_decl = refl;
+    reply = λ family. (refl, tt);
+    no_cite = refl;
+    no_told = refl;
+    no_made = refl;
+    asked = record { sweep = z; asked = asked; swept = swept };
+    online = λ g e above. absurd (none-some g e);
+    meets = record { unmade = λ g e. absurd (cc); met = λ g e. absurd (none-some g e) };
+    cause = tt;
+  }
+
+  -- no job was left
+  swept_part : (count freed : ℕ) (v w : PassView) (popped : List SweepItem) → v.popped ≡ [] → w.popped ≡ popped → HasSwept x by z.priority z.nofs count freed v w s t → AllByRecursion (IsThereItem x.script) popped
+      → SweptPart x.script by (unfound (reply.Swept count freed)) popped s t
+  swept_part count freed v w popped fresh ended h there =
+      let pops : popped ≡ map Walk h.jobs ++ End ∷ [] = sym ended ∙ (ap (λ (y : PassView). y.popped) h.popped ∙ ap (λ (l : List SweepItem). l ++ (map Walk h.jobs ++ End ∷ [])) fresh) in
+      let here : AllByRecursion (IsThereJob x) (map walk_for h.jobs) = jobs_there x z.priority z.nofs h.jobs (End ∷ []) (subst (AllByRecursion (IsThereItem x.script)) pops there) in
+      let all = gave (reply.Swept count freed) h.walks h.walked.visited (subst (AllByRecursion (IsThereJob x)) (sym h.walked.all) here) in
+      let had = all_had (map job_in h.walks) (map answer_in h.walks) all.work.walks all.noted (had_all h.walks (rec_of VisitHadMemory h.walks h.walked.had)) in
+      let jobs : map job_of all.work.walks ≡ map walk_for h.jobs = had.jobs_are ∙ h.walked.all in
+      let same : h.jobs ≡ map job_walked all.work.walks = all_jobs x z.priority z.nofs all.work.walks h.jobs jobs in
+      let long : count ≡ length all.work.walks = h.counted ∙ (ap (λ (l : List SweepJob). length l) same ∙ length-map all.work.walks job_walked) in
+      record {
+        work = all.work;
+        does = brings_of all.walked.does;
+        did = did_swept count freed (map job_in h.walks) (map answer_in h.walks) all (record {
+          alone = refl;
+          kind = tt;
+          walks_are = walks_right x z.priority z.nofs z refl refl all.work.walks h.jobs [] (append-nil (map job_of all.work.walks) ∙ jobs) here;
+          jobs = λ n f e. let is : count ≡ n = cc in sym is ∙ long;
+          freed = h.sum_freed ∙ (ap sum (same_freed h.walks) ∙ sym had.sum_told);
+        });
+        pops = record { rest = End ∷ []; first = pops ∙ ap (λ (l : List SweepJob). map Walk l ++ End ∷ []) same; all = λ out. refl };
+      }
+
+  -- the last walk lacked memory
+  stopped_part : (freed : ℕ) (v w : PassView) (popped : List SweepItem) → v.popped ≡ [] → w.popped ≡ popped → HasStopped x by z.priority z.nofs freed v w s t → AllByRecursion (IsThereItem x.script) popped
+      → SweptPart x.script by (unfound (reply.WalkMemory freed)) popped s t
+  stopped_part freed v w popped fresh ended h there =
+      let pops : popped ≡ map Walk h.jobs = sym ended ∙ (ap (λ (y : PassView). y.popped) h.popped ∙ ap (λ (l : List SweepItem). l ++ map Walk h.jobs) fresh) in
+      let here : AllByRecursion (IsThereJob x) (map walk_for h.jobs) = jobs_there x z.priority z.nofs h.jobs [] (subst (AllByRecursion (IsThereItem x.script)) (pops ∙ sym (append-nil (map Walk h.jobs))) there) in
+      let all = gave (reply.WalkMemory freed) h.walks h.visited (subst (AllByRecursion (IsThereJob x)) (sym h.each) here) in
+      let answers : map answer_in h.walks ≡ map answer_in h.cut.front ++ h.cut.last.answer ∷ [] = ap (map answer_in) h.cut.whole ∙ map-append answer_in h.cut.front (h.cut.last ∷ []) in
+      let cut = all_cut (map job_in h.walks) (map answer_in h.cut.front) h.cut.last.answer all.work.walks (subst (λ (l : List WalkAnswer). AllNoted (map job_in h.walks) l all.work.walks) answers all.noted)
+      (had_all h.cut.front (rec_of VisitHadMemory h.cut.front h.cut.had)) h.cut.lacked in
+      let jobs : map job_of all.work.walks ++ cut.begins.0 ≡ map walk_for h.jobs = sym cut.begins.1 ∙ h.each in
+      let left = first_jobs x z.priority z.nofs all.work.walks h.jobs cut.begins.0 jobs in
+      record {
+        work = all.work;
+        does = brings_of all.walked.does;
+        did = did_stopped freed (map job_in h.walks) (map answer_in h.walks) all (record {
+          alone = refl;
+          kind = tt;
+          walks_are = walks_right x z.priority z.nofs z refl refl all.work.walks h.jobs cut.begins.0 jobs here;
+          jobs = λ n f e. absurd (cc);
+          freed = h.sum_freed ∙ (ap sum (same_freed h.walks) ∙ (ap (λ (l : List WalkAnswer). sum (map balances.walk_freed l)) answers ∙ sym cut.sum_told));
+        });
+        pops = record { rest = map Walk left.0; first = pops ∙ (ap (map Walk) left.1 ∙ map-append Walk (map job_walked all.work.walks) left.0); all = λ out. absurd out };
+      }
+
+-- what a helper gave tells what it did
+pub sweep_did : (x : Shared) → IsTableOf x → (z : Sweep) (by : Serial) (told : List Answered) (popped : List SweepItem) (s t : CrewState) → x.script.sweep ≡ Some z → AllByRecursion (IsThereItem x.script) popped → HasHelped x z by told popped s t
+    → (a : Answered) × (told ≡ a ∷ []) × SweptPart x.script by a popped s.seats t.seats
+sweep_did x table z by told popped s t asked there h = (unfound (sweep_reply h.answer), h.told_is, by_answer h.answer h.gives) where
+  by_answer : (a : SweepAnswer) → HelpGives x by z.priority z.nofs a h.pass h.ended s.seats t.seats → SweptPart x.script by (unfound (sweep_reply a)) popped s.seats t.seats
+  by_answer (sweep.Swept count freed) g = swept_part x table z asked by s.seats t.seats count freed h.pass h.ended popped h.fresh h.popped_is g there
+  by_answer (sweep.Memory freed) g = stopped_part x table z asked by s.seats t.seats freed h.pass h.ended popped h.fresh h.popped_is g there
 
 -- a command whose answer tells of no isolation, and that recorded none
 worked : (s : Script) (by : Serial) (c : Command) (a : Answered) (t u : CrewState) → isolations_told by c a ≡ [] → u.isolations ≡ t.isolations → u.seats.core.claims.held ≡ None → HasDid s by c a t.seats u.seats → Worked s by c a t u

@@ -1,24 +1,15 @@
 -- In a run a list is drained while its id is dying, and an id comes to be idle with empty lists.
-use Rattle.shr_assemble.proofs.Common.{◌≡◌, ◌≢◌, ◌⊎◌, ℕ, zero, suc, ◌+◌, ◌%◌, ◌<◌, ◌≤◌, ⊎_elim, Bool, cond, take, List, [], ◌∷◌, ◌++◌, length, length-append, get_or, sym, refl, ap, subst, ◌∙◌, arith, eqb, eq-eqb, ne_eqb, slice_get, Option, Some, None, same_Some, none-some, slice_get-get_or, dite, ℕ_discrete, dec_lt, some, some-injective, get_elem?, Entry, Add, Look, Drop, Pin, Scan, MovedIn, Closed, Drained, PoolEntry, Registered, Idle, Place, Serial, Script, HasJournal, place_number, HasJournal_none, Deed, Begins, begins_all, begins_more, place_id, Event, Made, Turn, counted, made, looked, loaded, turned, put_back, raised, cleared, mapped, Moment, moment_next, last_moment, IsTimely, IsSo, so_before, Report, journals_of, decls_on, IsThere, Told, entry, lookup, turn, count, HasAt, looked_by, IsInOneOrder, IsRun, Step, begins_push, before, before_next, moment_before, grown}
+use Rattle.shr_assemble.proofs.Common.{◌≡◌, ◌≢◌, ◌⊎◌, ℕ, zero, suc, ◌+◌, ◌%◌, ◌<◌, ◌≤◌, ⊎_elim, Bool, cond, take, List, [], ◌∷◌, ◌++◌, length, length-append, get_or, sym, refl, ap, subst, ◌∙◌, arith, eqb, eq-eqb, ne_eqb, slice_get, Option, Some, None, same_Some, none-some, slice_get-get_or, dite, ℕ_discrete, dec_lt, some, some-injective, get_elem?, Entry, Add, Look, Drop, Pin, Scan, MovedIn, Closed, Drained, PoolEntry, Registered, Idle, Place, Serial, Script, HasJournal, place_number, HasJournal_none, Deed, Begins, begins_all, begins_more, place_id, Event, Made, Turn, counted, made, looked, loaded, turned, put_back, raised, cleared, mapped, Moment, moment_next, last_moment, IsTimely, IsSo, so_before, Report, journals_of, decls_on, IsThere, Told, entry, lookup, turn, count, HasAt, looked_by, IsInOneOrder, IsRun, Step, begins_push, before, before_next, moment_before, grown, state_after, at_start, moment_after, LeavesNothing, IsDrainedEntry, ComesBehind, IsWhileDying, IsWhileEmpty}
 use Rattle.shr_model.specs.Pool.{phase_of}
 use Rattle.shr_model.specs.Pool as pool
-use Rattle.shr_seats.specs.Lines.{state_after}
-use Rattle.shr_core.specs.Order.{at_start, moment_after, LeavesNothing}
 use Rattle.shr_core.specs.Ranks.{entries, turns}
-use Rattle.shr_report.specs.OneOrder.{IsDrainedEntry, ComesBehind, IsWhileDying, IsWhileEmpty}
 use Rattle.shr_assemble.proofs.InUseLaw.{id_there, there_at, not_idle, take_all, used}
 use Rattle.shr_assemble.proofs.OneOrderLaw.{InLine, opened, rank, stands, start_rank, by_numbers, by_worker, looked_rise, counted_rise}
 
 -- ---- what the line says
 dying_at : (t : Moment) (id : ℕ) (e : Entry) → IsDrainedEntry e → IsTimely t id e → phase_of id t.pool % 3 ≡ 2
 dying_at t id (Drained by objects) h m = m
-dying_at t id (Add by birth added key value) h m = absurd h
-dying_at t id (Look by birth key hit) h m = absurd h
-dying_at t id (Drop by birth key kind) h m = absurd h
-dying_at t id (Pin by birth key pinned hit) h m = absurd h
-dying_at t id (Scan worker walk asked policy visits freed stopped) h m = absurd h
-dying_at t id (MovedIn child objects) h m = absurd h
-dying_at t id Closed h m = absurd h
+dying_at t id e h m = absurd h
 
 -- ---- what only grows begins what is left
 module _ {A : Type 0} (f : Moment → List A) (more : (t : Moment) (e : Event) → Begins (f t) (f (moment_after t e))) where
@@ -32,28 +23,14 @@ module _ {A : Type 0} (f : Moment → List A) (more : (t : Moment) (e : Event) �
   begins_last t (d ∷ l) (suc n) = begins_last (moment_next t d) l n
 
 more_pool : (t : Moment) (e : Event) → Begins t.pool (moment_after t e).pool
-more_pool t (counted x) = begins_all t.pool
-more_pool t (made x) = begins_all t.pool
-more_pool t (looked x) = begins_all t.pool
-more_pool t (loaded x) = begins_all t.pool
 more_pool t (turned x) = begins_push t.pool x.entry
-more_pool t (put_back i) = begins_all t.pool
-more_pool t (raised k) = begins_all t.pool
-more_pool t (cleared k) = begins_all t.pool
-more_pool t (mapped x) = begins_all t.pool
+more_pool t e = begins_all t.pool
 
 more_now : (k : ℕ) (t : Moment) (e : Event) → Begins (t.now k) ((moment_after t e).now k)
-more_now k t (counted x) = begins_all (t.now k)
 more_now k t (made x) = dite (ℕ_discrete k x.place)
     (λ e. subst (λ (b : Bool). Begins (t.now k) (cond b (t.now k ++ x.entry ∷ []) (t.now k))) (sym (eq-eqb k x.place e)) (begins_push (t.now k) x.entry))
     (λ n. subst (λ (b : Bool). Begins (t.now k) (cond b (t.now k ++ x.entry ∷ []) (t.now k))) (sym (ne_eqb k x.place n)) (begins_all (t.now k)))
-more_now k t (looked x) = begins_all (t.now k)
-more_now k t (loaded x) = begins_all (t.now k)
-more_now k t (turned x) = begins_all (t.now k)
-more_now k t (put_back i) = begins_all (t.now k)
-more_now k t (raised j) = begins_all (t.now k)
-more_now k t (cleared j) = begins_all (t.now k)
-more_now k t (mapped x) = begins_all (t.now k)
+more_now k t e = begins_all (t.now k)
 
 -- ---- of entries of one id each, no id has two
 few_phases : (es : List PoolEntry) (base id m : ℕ) → ((k : ℕ) (e : PoolEntry) → k < m → slice_get es k ≡ Some e → pool.id_of e ≡ base + k) → (phase_of id (take m es) ≤ 1) × (id < base → phase_of id (take m es) ≡ 0)
@@ -124,10 +101,9 @@ module _ (s : Script) (r : Report) (workers : List (List Step)) (run : IsRun s r
         act = m.1;
         entry_is = m.3;
       })
-      (stands s r workers run (turn i) (e, at, tt))
-    where
-      number_is : (n : ℕ) → turn i ≡ turn n → i ≡ n
-      number_is n e = cc
+      (stands s r workers run (turn i) (e, at, tt)) where
+        number_is : (n : ℕ) → turn i ≡ turn n → i ≡ n
+        number_is n e = cc
 
   -- the entries of the start are registrations of one id each
   start_id : (k : ℕ) (e : PoolEntry) → k < first → slice_get r.pool.items k ≡ Some e → pool.id_of e ≡ k
@@ -182,10 +158,9 @@ module _ (s : Script) (r : Report) (workers : List (List Step)) (run : IsRun s r
         behind = turns_behind (entry place n) t.index t.deed m.0 t.is t.there m.1 (past_start place.id t.index dying);
         dying = eq-eqb (phase_of place.id (take (length (moment t.index).pool) r.pool.items) % 3) 2 (ap (λ (es : List PoolEntry). phase_of place.id es % 3) (pool_taken t.index) ∙ dying);
       })
-      (stands s r workers run (entry place n) (told.0, told.1, tt))
-    where
-      not_turn : (i : ℕ) → entry place n ≡ turn i → ⊥
-      not_turn i e = cc
+      (stands s r workers run (entry place n) (told.0, told.1, tt)) where
+        not_turn : (i : ℕ) → entry place n ≡ turn i → ⊥
+        not_turn i e = cc
 
   -- ---- the journal of a list
   module _ (place : Place) (there : IsThere s place) where
@@ -227,10 +202,9 @@ module _ (s : Script) (r : Report) (workers : List (List Step)) (run : IsRun s r
           there_is = t.there;
           act = m.1;
         })
-        (stands s r workers run (entry place i) (e, at, tt))
-      where
-        not_turn : (n : ℕ) → entry place i ≡ turn n → ⊥
-        not_turn n e = cc
+        (stands s r workers run (entry place i) (e, at, tt)) where
+          not_turn : (n : ℕ) → entry place i ≡ turn n → ⊥
+          not_turn n e = cc
 
     one_of : (n : ℕ) → n < length (journals_of r place) → (e : Entry) × (slice_get (journals_of r place) n ≡ Some e)
     one_of n lt = at_number (journals_of r place) n lt where
@@ -272,13 +246,12 @@ module _ (s : Script) (r : Report) (workers : List (List Step)) (run : IsRun s r
         entries = 0;
         behind = record { few = omega arith; before = λ i lt. absurd (omega (arith, lt)); others = λ i le lt. absurd (omega (arith, lt, none)) };
         empty = HasJournal_none;
-      })
-    where
-      late : first ≤ n
-      late = dite (dec_lt n first)
-          (λ lt. let decl : ℕ = get_or (decls_on s) n 0 in
-          absurd (not_idle decl n 0 place.id (same_Some (Registered decl n 0) (Idle place.id) (sym (run.pool.opened n decl (slice_get-get_or (decls_on s) n 0 lt)) ∙ (told.1 ∙ ap (λ (e : PoolEntry). Some e) told.2)))))
-          (λ no. omega (arith, no))
+      }) where
+        late : first ≤ n
+        late = dite (dec_lt n first)
+            (λ lt. let decl : ℕ = get_or (decls_on s) n 0 in
+            absurd (not_idle decl n 0 place.id (same_Some (Registered decl n 0) (Idle place.id) (sym (run.pool.opened n decl (slice_get-get_or (decls_on s) n 0 lt)) ∙ (told.1 ∙ ap (λ (e : PoolEntry). Some e) told.2)))))
+            (λ no. omega (arith, no))
 
   pub in_one_order : IsInOneOrder r
   in_one_order = record {

@@ -1,15 +1,13 @@
 -- The operations of each group, and the journal of the tree, of a run whose workers are done.
-use Rattle.shr_assemble.proofs.Common.{◌≡◌, ℕ, ◌+◌, ◌≤◌, ⊎_elim, Bool, true, false, ◌&&◌, cond, List, [], ◌∷◌, length, sym, refl, ap, subst, ◌∙◌, arith, eqb, slice_get, Some, filter, IsPermutation, nat_lt, eqb-true, sum_by-IsPermutation, Contains-permutation, TreeEntry, UseStep, IsChargeHistory, Hierarchy, IsTreeJournal, hierarchy_of, Has, Contains_from_Has, filter_has, total, Shared, Ends, Report, uses_at, WorkerLog, AreEndsOf, IsMadeOf, StandsBefore, count_total, some_at, sum_total, le-ltb, AreUsesAndTree}
+use Rattle.shr_assemble.proofs.Common.{◌≡◌, ℕ, ◌+◌, ◌≤◌, ⊎_elim, Bool, true, false, ◌&&◌, cond, List, [], ◌∷◌, length, sym, refl, ap, subst, ◌∙◌, arith, eqb, slice_get, Some, filter, IsPermutation, nat_lt, eqb-true, sum_by-IsPermutation, Contains-permutation, TreeEntry, UseStep, IsChargeHistory, Hierarchy, IsTreeJournal, hierarchy_of, Has, Contains_from_Has, filter_has, total, Shared, Ends, Report, uses_at, WorkerLog, AreEndsOf, IsMadeOf, StandsBefore, count_total, some_at, sum_total, le-ltb, AreUsesAndTree, times_at, StandsInHistory}
 use Rattle.shr_charge.specs.Offlining as offlining
-use Rattle.shr_charge.specs.Uses.{times_at, StandsInHistory}
 use Rattle.shr_charge.specs.Views as charge
 use Rattle.shr_report.specs.Parts as report
 use Rattle.shr_assemble.proofs.EndsGathered.{last, ops_are, entries_are, same}
 use Rattle.shr_assemble.proofs.EndsSteps.{workers}
-use Rattle.shr_assemble.proofs.EndsUses.{AreNumbered, numbers, sorted_history}
-use Rattle.shr_assemble.proofs.Listed.{all_among, contains_among}
-use Rattle.shr_assemble.proofs.Making.{below_one}
-use Rattle.shr_assemble.proofs.Operations.{PairsRec, pairs_by_slices, pairs_filter, pairs_weaker, among_has}
+use Rattle.shr_assemble.proofs.EndsPlaces.{AreNumbered, numbers, sorted_history}
+use Rattle.shr_assemble.proofs.Listed.{all_among, contains_among, PairsRec, pairs_by_slices, pairs_filter, pairs_weaker, among_has}
+use Rattle.shr_assemble.proofs.Gathering.{below_one}
 use Rattle.shr_assemble.proofs.ScriptGroups.{is_hierarchy}
 use Rattle.shr_assemble.proofs.Rows.{DidEach}
 

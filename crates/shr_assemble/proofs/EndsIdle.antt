@@ -1,11 +1,10 @@
 -- The lists of an id that is idle at the end are empty, of a run whose workers are done.
 use Rattle.shr_assemble.proofs.Common.{◌≡◌, ℕ, ◌≤◌, ⊎_elim, List, [], ◌∷◌, length, sym, ap, ◌∙◌, arith, ◌%◌, Entry, PoolEntry, Place, lists_moved_at, items_from, place_number, phase_of, items_none, place_id, place_back, Shared, Ends, Report, parents_of, journals_of, items_left, IsThere, WorkerLog, AreEndsOf, IsMadeOf}
-use Rattle.shr_assemble.proofs.EndsGathered.{last}
+use Rattle.shr_assemble.proofs.ScriptGroups.{sized_of}
+use Rattle.shr_assemble.proofs.EndsGathered.{last, none_of}
 use Rattle.shr_assemble.proofs.EndsJournals.{there, items_same}
-use Rattle.shr_assemble.proofs.ScriptSizes.{sized_of}
 use Rattle.shr_assemble.proofs.EndsPlaces.{below_or}
 use Rattle.shr_assemble.proofs.Rows.{DidEach}
-use Rattle.shr_assemble.proofs.EndsBits.{none_of}
 
 module _ (x : Shared) (did : DidEach x) (logs : List WorkerLog) (e : Ends) (ends : AreEndsOf x logs e) (r : Report) (made : IsMadeOf x.script logs e r) where
   of_there : (place : Place) → IsThere x.script place → phase_of place.id r.pool.items % 3 ≡ 0 → items_left x.script r place ≡ []

@@ -1,7 +1,7 @@
 -- The report of a run whose workers are done is lawful for its script, and well formed.
 use Rattle.shr_assemble.proofs.Common.{◌≡◌, ◌+◌, List, Script, Shared, Ends, Report, IsFaithful, IsLawful, AreFreePutsAdded, DoPutsAddUp, IsWellFormed, within_of_valid, content_of, WorkerLog, Noted, IsMadeOf, printed_part, ArePrintedParts, AreEnds, IsPutTogether, IsRun, sym, subst, map}
+use Rattle.shr_assemble.proofs.ScriptGroups.{sized_of}
 use Rattle.shr_assemble.proofs.DidEach.{did_each}
-use Rattle.shr_assemble.proofs.ScriptSizes.{sized_of}
 use Rattle.shr_assemble.proofs.EndsReport.{laid_out}
 use Rattle.shr_assemble.proofs.EndsRun.{run_of_ends}
 use Rattle.shr_assemble.proofs.EndsSteps.{workers}
@@ -10,7 +10,7 @@ use Rattle.shr_assemble.proofs.FaithfulLaw.{faithful_of_run}
 use Rattle.shr_assemble.proofs.FreePuts.{free_puts_added}
 use Rattle.shr_assemble.proofs.LawfulOfRun.{lawful_of_run}
 use Rattle.shr_assemble.proofs.Rows.{DidEach}
-use Rattle.shr_assemble.proofs.WalkingTold.{IsTableOf}
+use Rattle.shr_assemble.proofs.WalkingWell.{IsTableOf}
 use Rattle.shr_assemble.proofs.WellFormed.{well_formed}
 use Rattle.shr_assemble.proofs.WornPuts.{puts_add_up}
 

@@ -1,16 +1,13 @@
 -- The one order of all that the workers did, of a run whose workers are done.
-use Rattle.shr_assemble.proofs.Common.{◌≡◌, ◌≢◌, ℕ, zero, suc, ◌+◌, ◌<◌, ◌⊎◌, inl, inr, ⊎_elim, Bool, true, false, cond, List, [], ◌∷◌, ◌++◌, length, sym, refl, ap, subst, ◌∙◌, arith, eq-eqb, ne_eqb, slice_get, Option, Some, flat_map, ◌==◌, append-nil, same_Some, none-some, slice_get_within, CacheDecl, Has, map_has, flat_map_has, Deed, by_seat, part, times, Begins, begins_all, begins_more, View, last_users, last_moment, among, Event, cleared, opener, Shared, WorkerState, CrewState, Ends, EntersIf, AreEntered, is_on, place_number, Report, journals_of, WorkerLog, AreEndsOf, firsts_at_start, new_worker, with_workers, IsMadeOf, Step, IsAmong, steps_of, AreStepsChained, worker_state_after, at_some, AreEvents, ids_of}
-use Rattle.shr_seats.proofs.Lining.{part-append}
-use Rattle.shr_core.specs.Gained.{cleared_in}
+use Rattle.shr_assemble.proofs.Common.{◌≡◌, ◌≢◌, ℕ, zero, suc, ◌+◌, ◌<◌, ◌⊎◌, inl, inr, ⊎_elim, Bool, true, false, cond, List, [], ◌∷◌, ◌++◌, length, sym, refl, ap, subst, ◌∙◌, arith, eq-eqb, ne_eqb, slice_get, Option, Some, flat_map, ◌==◌, append-nil, same_Some, none-some, slice_get_within, CacheDecl, Has, map_has, flat_map_has, Deed, by_seat, part, times, Begins, begins_all, begins_more, View, last_users, last_moment, among, Event, cleared, opener, Shared, WorkerState, CrewState, Ends, EntersIf, AreEntered, is_on, place_number, Report, journals_of, WorkerLog, AreEndsOf, firsts_at_start, new_worker, with_workers, IsMadeOf, Step, IsAmong, steps_of, AreStepsChained, worker_state_after, at_some, AreEvents, ids_of, part-append, cleared_in}
+use Rattle.shr_assemble.proofs.ScriptGroups.{sized_of}
 use Rattle.shr_assemble.specs.Order.{IsInLine, IsOfWorker}
 use Rattle.shr_assemble.proofs.Crews.{there_at}
 use Rattle.shr_assemble.proofs.EndsJournals.{proper}
 use Rattle.shr_assemble.proofs.EndsSteps.{workers, is_crew, fit, is_of}
-use Rattle.shr_assemble.proofs.ScriptSizes.{sized_of}
 use Rattle.shr_assemble.proofs.Gathering.{mine_at, mine_is}
 use Rattle.shr_assemble.proofs.Joined.{joined_list}
-use Rattle.shr_assemble.proofs.Operations.{among_has, has_among}
-use Rattle.shr_assemble.proofs.Pairs.{either}
+use Rattle.shr_assemble.proofs.Listed.{among_has, has_among, either}
 use Rattle.shr_assemble.proofs.Rows.{DidEach}
 
 -- ---- the deeds of seats
@@ -111,21 +108,16 @@ done_by t (x ∷ mine) d h = ⊎_elim (λ early. inr (0, x, refl, early)) (λ la
 
 part_has : (d : Deed Event) (line : List (Deed Event)) → Has line d → Has (part d.seat line) d
 part_has d (y ∷ line) (inl e) = subst (λ (b : Bool). Has (cond b (y ∷ part d.seat line) (part d.seat line)) d) (sym (eq-eqb y.seat d.seat (ap (λ (z : Deed Event). z.seat) e))) (inl e)
-part_has d (y ∷ line) (inr h) = kept (y.seat == d.seat) (part_has d line h)
-  where
-    kept : (b : Bool) → Has (part d.seat line) d → Has (cond b (y ∷ part d.seat line) (part d.seat line)) d
-    kept true has = inr has
-    kept false has = has
+part_has d (y ∷ line) (inr h) = (elim (y.seat == d.seat) as (λ (b : Bool). Has (part d.seat line) d → Has (cond b (y ∷ part d.seat line) (part d.seat line)) d) [ true ↦ λ has. inr has | false ↦ λ has. has ]) (part_has d line h)
 part_has d [] h = absurd h
 
 has_part : (d : Deed Event) (j : ℕ) (line : List (Deed Event)) → Has (part j line) d → Has line d
 has_part d j [] h = absurd h
-has_part d j (y ∷ line) h = kept (has_part d j line) (y.seat == j) h
-  where
-    kept : (Has (part j line) d → Has line d) → (b : Bool) → Has (cond b (y ∷ part j line) (part j line)) d → Has (y ∷ line) d
-    kept rest true (inl e) = inl e
-    kept rest true (inr has) = inr (rest has)
-    kept rest false has = inr (rest has)
+has_part d j (y ∷ line) h = kept (has_part d j line) (y.seat == j) h where
+  kept : (Has (part j line) d → Has line d) → (b : Bool) → Has (cond b (y ∷ part j line) (part j line)) d → Has (y ∷ line) d
+  kept rest true (inl e) = inl e
+  kept rest true (inr has) = inr (rest has)
+  kept rest false has = inr (rest has)
 
 record IsFirst (v : View) : Type 0 where
   seat : v.seat ≡ 0
@@ -184,30 +176,29 @@ module _ (x : Shared) (did : DidEach x) (logs : List WorkerLog) (e : Ends) (ends
       let in_view : Has (ends.opened.did ++ flat_map deeds_of ends.lasts) d = subst (λ l. Has l d) (joined_list {A = Deed Event} (λ g. g.core.did) deeds_of (λ g w. refl) (firsts_at_start ends.opened ends.standing) ends.lasts) (has_part d d.seat _ in_part) in
       either ends.opened.did (flat_map deeds_of ends.lasts) d in_view
       (λ first. absurd (let none : place ∷ [] ≡ [] = ap cleared_in (sym is) ∙ opened.clears d first in cc))
-      (λ later. let w = flat_map_has deeds_of ends.lasts d later in of_last (has_among ends.lasts w.0 w.1).0 w.0 (at_some ends.lasts _ w.0 (has_among ends.lasts w.0 w.1).1) w.2)
-    where
-      seat_of : (j : ℕ) (deeds : List (Deed Event)) → IsBy j deeds → Has deeds d → d.seat ≡ j
-      seat_of j deeds by has = let a = map_has (λ (act : Event). record { seat = j; act = act }) by.0 d (subst (λ l. Has l d) by.1 has) in ap (λ (z : Deed Event). z.seat) (sym a.2)
+      (λ later. let w = flat_map_has deeds_of ends.lasts d later in of_last (has_among ends.lasts w.0 w.1).0 w.0 (at_some ends.lasts _ w.0 (has_among ends.lasts w.0 w.1).1) w.2) where
+        seat_of : (j : ℕ) (deeds : List (Deed Event)) → IsBy j deeds → Has deeds d → d.seat ≡ j
+        seat_of j deeds by has = let a = map_has (λ (act : Event). record { seat = j; act = act }) by.0 d (subst (λ l. Has l d) by.1 has) in ap (λ (z : Deed Event). z.seat) (sym a.2)
 
-      of_last : (i : ℕ) (w : CrewState) → slice_get ends.lasts i ≡ Some w → Has (deeds_of w) d → IsOfWorker (workers x did logs e ends r made) d
-      of_last i w at has =
-          let team = workers x did logs e ends r made in
-          let crew = is_crew x did logs e ends r made in let workers_are = crew.workers_are in let lasts_are = crew.lasts_are in
-          let within = slice_get_within ends.lasts i w at in
-          let log = there_at logs i (omega (arith, within, lasts_are)) in
-          let mine = there_at team i (omega (arith, within, workers_are, lasts_are)) in
-          let row = crew.each i log.0 w mine.0 log.1 at mine.1 in
-          let acts = lasts_by i w at in
-          ⊎_elim (λ none. absurd none)
-          (λ t. record {
-            worker = i;
-            k = t.0;
-            step = t.1;
-            at = ap (λ l. slice_get l t.0) (mine_is team i mine.0 mine.1) ∙ t.2;
-            seat = seat_of (1 + i) (deeds_of w) acts has;
-            among = has_among t.1.after.core.did d t.3;
-          })
-          (done_by (new_worker ends.opened i).seats mine.0 d (subst (λ (u : WorkerState). Has u.core.did d) (sym row.ends) has))
+        of_last : (i : ℕ) (w : CrewState) → slice_get ends.lasts i ≡ Some w → Has (deeds_of w) d → IsOfWorker (workers x did logs e ends r made) d
+        of_last i w at has =
+            let team = workers x did logs e ends r made in
+            let crew = is_crew x did logs e ends r made in let workers_are = crew.workers_are in let lasts_are = crew.lasts_are in
+            let within = slice_get_within ends.lasts i w at in
+            let log = there_at logs i (omega (arith, within, lasts_are)) in
+            let mine = there_at team i (omega (arith, within, workers_are, lasts_are)) in
+            let row = crew.each i log.0 w mine.0 log.1 at mine.1 in
+            let acts = lasts_by i w at in
+            ⊎_elim (λ none. absurd none)
+            (λ t. record {
+              worker = i;
+              k = t.0;
+              step = t.1;
+              at = ap (λ l. slice_get l t.0) (mine_is team i mine.0 mine.1) ∙ t.2;
+              seat = seat_of (1 + i) (deeds_of w) acts has;
+              among = has_among t.1.after.core.did d t.3;
+            })
+            (done_by (new_worker ends.opened i).seats mine.0 d (subst (λ (u : WorkerState). Has u.core.did d) (sym row.ends) has))
 
   -- a worker uses no id where one of its steps begins
   free : (worker k : ℕ) (y : Step) → slice_get (steps_of (workers x did logs e ends r made) worker) k ≡ Some y → (i : ℕ) → times (1 + worker) (last_users y.before.core.did i) ≡ 0

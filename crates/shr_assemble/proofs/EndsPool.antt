@@ -1,8 +1,7 @@
 -- The journal of registrations and the lookups, of a run whose workers are done.
 use Rattle.shr_assemble.proofs.Common.{◌≡◌, ℕ, ◌<◌, Bool, cond, List, length, get_or, sym, ap, subst, ◌∙◌, arith, ◌&&◌, nat_lt, nat_le, le-leb, PoolEntry, IsPoolJournal, total, lookups_of, Tried, hit_attempt, Shared, Ends, Report, lookups_at, WorkerLog, AreEndsOf, IsMadeOf, all_attempts}
 use Rattle.shr_assemble.proofs.EndsGathered.{attempts_are}
-use Rattle.shr_assemble.proofs.EndsLookups.{lookups_long, lookups_at_below}
-use Rattle.shr_assemble.proofs.EndsSteps.{workers}
+use Rattle.shr_assemble.proofs.EndsSteps.{lookups_long, lookups_at_below, workers}
 use Rattle.shr_assemble.proofs.Rows.{DidEach}
 
 module _ (x : Shared) (did : DidEach x) (logs : List WorkerLog) (e : Ends) (ends : AreEndsOf x logs e) (r : Report) (made : IsMadeOf x.script logs e r) where

@@ -1,11 +1,10 @@
 -- The report of a run whose workers are done is laid out as its words ask.
-use Rattle.shr_assemble.proofs.Common.{◌≡◌, ℕ, zero, suc, ◌<◌, ◌≤◌, ◌^◌, inl, inr, ⊎_elim, Bool, true, false, List, [], ◌∷◌, ◌/◌, ◌%◌, length, map, cond, sym, refl, ap, subst, ◌∙◌, arith, ne_eqb, All, if◌then◌else◌, ◌==◌, filter, AllByRecursion, AllAdjacentBelow, range_with_len, eqb-true, length-map, mod-lt, MapEnd, PlaceAmount, GroupDecl, Script, PoolEntry, last_number, each_append, units_in, nodes_below, lookups_of, groups_in, is_some_amount, amount_of, deferred_word, pool_sizes, IsWithin, content_of, within_of_valid, Shared, Ends, Report, parents_of, IsPlaceBefore, IsAmountWell, IsPoolAmountWell, map_units, WorkerLog, Noted, AreEndsOf, firsts_at_start, with_workers, StandsBefore, IsMadeOf, printed_part, ArePrintedParts, IsPutTogether, IsSized, units_of}
+use Rattle.shr_assemble.proofs.Common.{◌≡◌, ℕ, zero, suc, ◌<◌, ◌≤◌, ◌^◌, inl, inr, ⊎_elim, Bool, true, false, List, [], ◌∷◌, ◌/◌, ◌%◌, length, map, cond, sym, refl, ap, subst, ◌∙◌, arith, ne_eqb, All, if◌then◌else◌, ◌==◌, filter, AllByRecursion, AllAdjacentBelow, range_with_len, eqb-true, length-map, mod-lt, MapEnd, PlaceAmount, GroupDecl, Script, PoolEntry, last_number, each_append, units_in, nodes_below, lookups_of, groups_in, is_some_amount, amount_of, deferred_word, pool_sizes, IsWithin, content_of, within_of_valid, Shared, Ends, Report, parents_of, IsPlaceBefore, IsAmountWell, IsPoolAmountWell, map_units, WorkerLog, Noted, AreEndsOf, firsts_at_start, with_workers, StandsBefore, IsMadeOf, printed_part, ArePrintedParts, IsPutTogether, IsSized, units_of, took_at, gave_at}
+use Rattle.shr_assemble.proofs.ScriptGroups.{sized_of, version_of, few_of_first}
 use Rattle.shr_core.specs.Ending.{lookups_below}
 use Rattle.shr_seats.specs.Rows as rows
 use Rattle.shr_deferred.specs.Left.{amounts, left_over}
-use Rattle.shr_deferred.specs.Rule.{took_at, gave_at}
-use Rattle.shr_assemble.proofs.Operations.{pairs_by_slices}
-use Rattle.shr_assemble.proofs.ScriptSizes.{sized_of, version_of, few_of_first}
+use Rattle.shr_assemble.proofs.Listed.{pairs_by_slices}
 use Rattle.shr_assemble.proofs.WellAmounts.{amounts_rise, amounts_numbered}
 use Rattle.shr_assemble.proofs.WellFormed.{IsLaidOut}
 
@@ -15,10 +14,7 @@ one_unit ids some few = omega (arith, some, few)
 
 -- the units that a report prints are those of its ids, of which one of version 1 has at most 64
 units_printed : (r : Report) → 0 < r.ids → (r.version ≡ 1 → r.ids ≤ 64) → range_with_len 0 (units_in r.ids) ≡ map_units r
-units_printed r some few = by_version (r.version == 1) refl where
-  by_version : (b : Bool) → (r.version == 1) ≡ b → range_with_len 0 (units_in r.ids) ≡ (if b then 0 ∷ [] else units_of r.ids)
-  by_version true e = ap (range_with_len 0) (one_unit r.ids some (few (eqb-true r.version 1 e)))
-  by_version false e = refl
+units_printed r some few = (elim (r.version == 1) as (λ (b : Bool). (r.version == 1) ≡ b → range_with_len 0 (units_in r.ids) ≡ (if b then 0 ∷ [] else units_of r.ids)) [ true ↦ λ e. ap (range_with_len 0) (one_unit r.ids some (few (eqb-true r.version 1 e))) | false ↦ λ e. refl ]) refl
 
 -- ---- the places of pools
 few_pools : (n : ℕ) → n ≤ 64 → cond {A = ℕ} (n == 0) 1 n ≤ 256

@@ -1,13 +1,11 @@
 -- A run from the ends of its tables.
 use Rattle.shr_assemble.proofs.Common.{List, Shared, Ends, Report, WorkerLog, AreEndsOf, IsMadeOf, IsRun}
-use Rattle.shr_assemble.proofs.EndsAfter.{are_steps}
-use Rattle.shr_assemble.proofs.EndsBits.{bits}
-use Rattle.shr_assemble.proofs.EndsFounds as founds
-use Rattle.shr_assemble.proofs.EndsGathered.{journals}
+use Rattle.shr_assemble.proofs.ScriptGroups.{sized_of}
+use Rattle.shr_assemble.proofs.EndsAfter.{are_steps, marks}
+use Rattle.shr_assemble.proofs.EndsGathered.{bits, journals}
+use Rattle.shr_assemble.proofs.EndsAfter as founds
 use Rattle.shr_assemble.proofs.EndsHistories.{uses_and_tree}
 use Rattle.shr_assemble.proofs.EndsIdle.{idle}
-use Rattle.shr_assemble.proofs.ScriptSizes.{sized_of}
-use Rattle.shr_assemble.proofs.EndsMarks.{marks}
 use Rattle.shr_assemble.proofs.EndsOpened.{opened, once}
 use Rattle.shr_assemble.proofs.EndsOrder.{in_line}
 use Rattle.shr_assemble.proofs.EndsPool as pool

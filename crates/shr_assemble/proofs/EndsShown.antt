@@ -1,9 +1,9 @@
 -- What a worker has made, seen and knows after a step is so in the report, of a run whose workers are done.
 use Rattle.shr_assemble.proofs.Common.{◌≡◌, ℕ, ◌+◌, ◌*◌, ◌/◌, ◌<◌, ◌≤◌, List, length, sym, ap, subst, ◌∙◌, arith, eq-eqb, slice_get, bit_at, eqb-true, slice_get_within, PoolEntry, place_number, unit_of, bit_of, decl_at, registrations, Each, times, Begins, View, place_at, map_number, map_of, IsLeft, Made, Known, Counted, Tried, IsTurn, Shared, IsShared, Report, parents_of, journals_of, items_before, IsThere, Step, StandsIn, IsMapOf, all_cleared, all_sets, at_some}
+use Rattle.shr_assemble.proofs.ScriptGroups.{sized_of}
 use Rattle.shr_base.specs.declared.ends.Closed.{Closed}
 use Rattle.shr_core.specs.Layout as layout
 use Rattle.shr_assemble.proofs.EndsJournals.{by_number, there_of, items_stand}
-use Rattle.shr_assemble.proofs.ScriptSizes.{sized_of}
 
 module _ (x : Shared) (shared : IsShared x) (r : Report) (v : View) (closed : Closed) (left : IsLeft x.core.setting v closed) (same : r.places.items ≡ closed.places.items) (pool : r.pool.items ≡ closed.pool.items) where
   now_at : (k : ℕ) → journals_of r (place_at k) ≡ left.now k

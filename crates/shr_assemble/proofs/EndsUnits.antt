@@ -1,27 +1,20 @@
 -- What the workers did at the pools of units, of a run whose workers are done.
-use Rattle.shr_assemble.proofs.Common.{◌≡◌, ℕ, ◌<◌, ◌≤◌, ⊎_elim, List, [], ◌∷◌, ◌++◌, map, length, sym, refl, ap, subst, ◌∙◌, arith, find, filter, flat_map, slice_get, Option, Some, None, option_map, AllByRecursion, range_with_len, same_Some, none-some, slice_get_past, slice_get_within, PlaceAmount, Place, Answered, Command, amount_of, sum_at, deferred_word, is_place, Sizes, IsPlaceOf, row_of, row_count, Each, Begins, row_low, begins_all, Each-none, is_some_amount, takes_of, gives_of, takes_both, gives_both, pool_sizes, PlainState, Shared, CrewState, Ends, Report, amount_in, parents_of, journals_of, commands_in, commands_of, answers_of, serial_of, command_at, answer_at, id_found, IsOther, DidUnitsOf, UnitsStep, WorkerLog, Firsts, AreEndsOf, with_workers, firsts_at_start, IsMadeOf, log_answers, log_plain, AreRunSteps, Step, IsReplyTo, no_state}
+use Rattle.shr_assemble.proofs.Common.{◌≡◌, ℕ, ◌<◌, ◌≤◌, ⊎_elim, List, [], ◌∷◌, ◌++◌, map, length, sym, refl, ap, subst, ◌∙◌, arith, find, filter, flat_map, slice_get, Option, Some, None, option_map, AllByRecursion, range_with_len, same_Some, none-some, slice_get_past, slice_get_within, PlaceAmount, Place, Answered, Command, amount_of, sum_at, deferred_word, is_place, Sizes, IsPlaceOf, row_of, row_count, Each, Begins, row_low, begins_all, Each-none, is_some_amount, takes_of, gives_of, takes_both, gives_both, pool_sizes, PlainState, Shared, CrewState, Ends, Report, amount_in, parents_of, journals_of, commands_in, commands_of, answers_of, serial_of, command_at, answer_at, id_found, IsOther, DidUnitsOf, UnitsStep, WorkerLog, Firsts, AreEndsOf, with_workers, firsts_at_start, IsMadeOf, log_answers, log_plain, AreRunSteps, Step, IsReplyTo, no_state, place_of_row, took_at, gave_at, plain_of, units_steps_in, units_steps_of, AreChained, last_units_state, units_made_in, IsUnitsStep, IsSeenIn, IsRoomOf, AreUnits}
 use Rattle.shr_base.specs.declared.journals.PlainEntry.{PlainEntry}
-use Rattle.shr_seats.specs.Rows.{place_of_row}
 use Rattle.shr_deferred.specs.Left.{amounts}
-use Rattle.shr_deferred.specs.Rule.{took_at, gave_at}
 use Rattle.shr_rooms.specs.Rule.{IsEntryMade, CountsPrefix, times_made}
 use Rattle.shr_rooms.specs.Views.{RoomMade, RoomCount, RoomView, part_at, heard_of}
 use Rattle.shr_rooms.proofs.Parts.{part_joined}
 use Rattle.shr_plain.specs.Ending.{units_end_value}
 use Rattle.shr_plain.specs.Rule.{units}
 use Rattle.shr_worker.specs.Chain as chain
-use Rattle.shr_report.specs.UnitParts.{plain_of}
-use Rattle.shr_units.specs.Steps.{units_steps_in, units_steps_of, AreChained, last_units_state, units_made_in}
-use Rattle.shr_units.specs.Runs.{IsUnitsStep, IsSeenIn, IsRoomOf, AreUnits}
 use Rattle.shr_assemble.specs.Steps as seats
-use Rattle.shr_assemble.proofs.Chains.{does_at}
+use Rattle.shr_assemble.proofs.Gathering.{does_at, among_right}
 use Rattle.shr_assemble.proofs.Crews.{there_at, flat_pairs}
 use Rattle.shr_assemble.proofs.EndsAfter.{are_steps}
-use Rattle.shr_assemble.proofs.EndsDeferred.{found_zero, found_word, shown_some}
+use Rattle.shr_assemble.proofs.EndsSteps.{found_zero, found_word, shown_some, same_in}
 use Rattle.shr_assemble.proofs.EndsPlaces.{below_or}
 use Rattle.shr_assemble.proofs.EndsSteps as ends_steps
-use Rattle.shr_assemble.proofs.EndsSteps.{same_in}
-use Rattle.shr_assemble.proofs.Gathering.{among_right}
 use Rattle.shr_assemble.proofs.Joined.{joined_list}
 use Rattle.shr_assemble.proofs.Lasts.{each_last}
 use Rattle.shr_assemble.proofs.Rows.{DidEach, within_at}
@@ -166,14 +159,12 @@ module _ (x : Shared) (did : DidEach x) (logs : List WorkerLog) (e : Ends) (ends
 
   -- what the first seat has of a room holds of each worker's
   seen_in : (i : ℕ) → i < row_count z → (worker : ℕ) → IsSeenIn (ends.pools.journal i) (part_at (last_units_state (units_steps_of team worker)).rooms i)
-  seen_in i low worker = by_worker (slice_get team worker) refl
-    where
-      by_worker : (o : Option (List UnitsStep)) → slice_get team worker ≡ o → IsSeenIn (ends.pools.journal i) (part_at (last_units_state (units_steps_in o)).rooms i)
-      by_worker None at = record { known = (ends.pools.journal i, refl); made = Each-none (IsEntryMade (ends.pools.journal i)); seen = Each-none (CountsPrefix units (ends.pools.journal i)) }
-      by_worker (Some mine) at =
-          let last = there_at ends.lasts worker (let lt = slice_get_within team worker mine at in let a = crew.1.workers_are in let b = ends.last_states in omega (arith, lt, a, b)) in
-          subst (λ (t : PlainState). IsSeenIn (ends.pools.journal i) (part_at t.rooms i)) (sym (last_is worker last.0 mine last.1 at)) (of_last last.0 last.1)
-        where
+  seen_in i low worker = by_worker (slice_get team worker) refl where
+    by_worker : (o : Option (List UnitsStep)) → slice_get team worker ≡ o → IsSeenIn (ends.pools.journal i) (part_at (last_units_state (units_steps_in o)).rooms i)
+    by_worker None at = record { known = (ends.pools.journal i, refl); made = Each-none (IsEntryMade (ends.pools.journal i)); seen = Each-none (CountsPrefix units (ends.pools.journal i)) }
+    by_worker (Some mine) at =
+        let last = there_at ends.lasts worker (let lt = slice_get_within team worker mine at in let a = crew.1.workers_are in let b = ends.last_states in omega (arith, lt, a, b)) in
+        subst (λ (t : PlainState). IsSeenIn (ends.pools.journal i) (part_at t.rooms i)) (sym (last_is worker last.0 mine last.1 at)) (of_last last.0 last.1) where
           of_last : (w : CrewState) → slice_get ends.lasts worker ≡ Some w → IsSeenIn (ends.pools.journal i) (part_at w.plain.rooms i)
           of_last w at_w = record {
             known = known_begins (part_at w.plain.rooms i).known (part_at w.plain.rooms i).heard (ends.pools.journal i)

@@ -1,11 +1,8 @@
 -- The deferred words that are printed are those that the steps left, of a run whose workers are done.
-use Rattle.shr_assemble.proofs.Common.{◌≡◌, ℕ, ◌<◌, List, map, length, sym, ap, subst, ◌∙◌, find, filter, AllByRecursion, range_with_len, PlaceAmount, Place, amount_of, sum_at, deferred_word, is_place, Sizes, IsPlaceOf, row_of, row_count, is_some_amount, amounts_after, Shared, Ends, Report, amount_in, parents_of, IsThere, WorkerLog, AreEndsOf, IsMadeOf, all_gives, row_low, AreDeferred}
-use Rattle.shr_seats.specs.Rows.{place_of_row}
+use Rattle.shr_assemble.proofs.Common.{◌≡◌, ℕ, ◌<◌, List, map, length, sym, ap, subst, ◌∙◌, find, filter, AllByRecursion, range_with_len, PlaceAmount, Place, amount_of, sum_at, deferred_word, is_place, Sizes, IsPlaceOf, row_of, row_count, is_some_amount, amounts_after, Shared, Ends, Report, amount_in, parents_of, IsThere, WorkerLog, AreEndsOf, IsMadeOf, all_gives, row_low, AreDeferred, place_of_row, took_at, gave_at}
 use Rattle.shr_deferred.specs.Left.{amounts}
-use Rattle.shr_deferred.specs.Rule.{took_at, gave_at}
-use Rattle.shr_assemble.proofs.EndsDeferred.{found_zero, found_word, shown_some}
+use Rattle.shr_assemble.proofs.EndsSteps.{found_zero, found_word, shown_some, workers}
 use Rattle.shr_assemble.proofs.EndsGathered.{last, takes_are, gives_are}
-use Rattle.shr_assemble.proofs.EndsSteps.{workers}
 use Rattle.shr_assemble.proofs.EndsTakes.{parts, others}
 use Rattle.shr_assemble.proofs.Rows.{DidEach}
 use Rattle.shr_assemble.proofs.WordPlaces.{inside_word, has_range, range_has}

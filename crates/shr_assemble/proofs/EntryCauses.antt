@@ -4,11 +4,9 @@ use Rattle.shr_base.specs.declared.journals.PoolEntry.TheVariants as pool
 use Rattle.shr_base.specs.declared.journals.TreeEntry.TheVariants.{Begin, Done, Made as MadeEntry}
 use Rattle.shr_base.specs.declared.replies.Reply.TheVariants as reply
 use Rattle.shr_charge.specs.Views as charge
-use Rattle.shr_assemble.proofs.Gathering.{each_among}
+use Rattle.shr_assemble.proofs.Gathering.{each_among, answers, maker, reply_is}
 use Rattle.shr_assemble.proofs.Listed.{all_among}
-use Rattle.shr_assemble.proofs.Making.{answers, maker, reply_is}
-use Rattle.shr_assemble.proofs.Makers.{entry_maker, one_entry_maker, turn_maker}
-use Rattle.shr_assemble.proofs.Shown.{pool_known}
+use Rattle.shr_assemble.proofs.JournalsLaw.{entry_maker, one_entry_maker, turn_maker, pool_known}
 
 -- an answer that cites a Done as its own made it
 done_made : (s : Script) (y : Step) (n : ℕ) (x : Reply) → is_done_by n x ≡ true → IsCausedBy s y x → (group : ℕ) × IsAmong (record { number = n; entry = Done group }) y.work.tree
@@ -34,15 +32,14 @@ module _ (s : Script) (r : Report) (workers : List (List Step)) (run : IsRun s r
     pub holds : P step.answered.reply
 
   pub reply_step : (by : Serial) (P : Reply → Type 0) → IsSomeAnd (reply_at r by) P → ReplyStep by P
-  reply_step by P h = by_cases (answer_at r by) refl
-    where
-      by_cases : (o : Option Answered) → answer_at r by ≡ o → ReplyStep by P
-      by_cases None e = absurd (subst (λ (z : Option Answered). IsSomeAnd (option_map (λ (a : Answered). a.reply) z) P) e h)
-      by_cases (Some a) e = let t = answers s r workers run by.worker by.command a e in record {
-        step = t.step;
-        at = t.at;
-        holds = subst (λ (y : Answered). P y.reply) (sym t.answered) (subst (λ (z : Option Answered). IsSomeAnd (option_map (λ (y : Answered). y.reply) z) P) e h);
-      }
+  reply_step by P h = by_cases (answer_at r by) refl where
+    by_cases : (o : Option Answered) → answer_at r by ≡ o → ReplyStep by P
+    by_cases None e = absurd (subst (λ (z : Option Answered). IsSomeAnd (option_map (λ (a : Answered). a.reply) z) P) e h)
+    by_cases (Some a) e = let t = answers s r workers run by.worker by.command a e in record {
+      step = t.step;
+      at = t.at;
+      holds = subst (λ (y : Answered). P y.reply) (sym t.answered) (subst (λ (z : Option Answered). IsSomeAnd (option_map (λ (y : Answered). y.reply) z) P) e h);
+    }
 
   same_serial : (x : Serial) (worker k : ℕ) → (x.worker ≡ worker) × (x.command ≡ k) → x ≡ serial_of worker k
   same_serial x worker k h = λ i. record { worker = h.0 i; command = h.1 i }
@@ -89,28 +86,26 @@ module _ (s : Script) (r : Report) (workers : List (List Step)) (run : IsRun s r
         serial_of m.worker m.k,
         subst (λ o. IsSomeAnd o (IsMadeBy r e n)) (sym (reply_is s r workers run m.worker m.k m.step m.at))
             (made_by m.step m.worker m.k m.at e n m.step.answered.reply (subst (λ d. IsTurnOf m.step.after.core.turns.known d n m.step.answered.reply) m.entry (subst (λ i. IsTurnOf m.step.after.core.turns.known m.made.entry i m.step.answered.reply) m.number of))),
-      )
-    where
-      made_by : (x : Step) (worker k : ℕ) → slice_get (steps_of workers worker) k ≡ Some x → (e : PoolEntry) (n : ℕ) (y : Reply) → IsTurnOf x.after.core.turns.known e n y → IsMadeBy r e n y
-      made_by x worker k at (pool.Registered decl id since) n (reply.Registered i entry) h = h
-      made_by x worker k at (pool.Registered decl id since) n y h = absurd h
-      made_by x worker k at (pool.Unregistered decl id until) n (reply.Freed i entry from to objects) h = h
-      made_by x worker k at (pool.Unregistered decl id until) n (reply.Half i entry from to objects half) h = h
-      made_by x worker k at (pool.Unregistered decl id until) n y h = absurd h
-      made_by x worker k at (pool.Idle id) n (reply.Freed i entry from to objects) h = (
-        h.0,
-        h.1,
-        ap (phase_of id) (sym (pool_known s r workers run worker k x at n (omega (arith, h.2))))
-            ∙ (h.3 ∙ ap (λ l. phase_of id l + 1) (pool_known s r workers run worker k x at entry (omega (arith, h.1, h.2)))),
-      )
-      made_by x worker k at (pool.Idle id) n y h = absurd h
+      ) where
+        made_by : (x : Step) (worker k : ℕ) → slice_get (steps_of workers worker) k ≡ Some x → (e : PoolEntry) (n : ℕ) (y : Reply) → IsTurnOf x.after.core.turns.known e n y → IsMadeBy r e n y
+        made_by x worker k at (pool.Registered decl id since) n (reply.Registered i entry) h = h
+        made_by x worker k at (pool.Registered decl id since) n y h = absurd h
+        made_by x worker k at (pool.Unregistered decl id until) n (reply.Freed i entry from to objects) h = h
+        made_by x worker k at (pool.Unregistered decl id until) n (reply.Half i entry from to objects half) h = h
+        made_by x worker k at (pool.Unregistered decl id until) n y h = absurd h
+        made_by x worker k at (pool.Idle id) n (reply.Freed i entry from to objects) h = (
+          h.0,
+          h.1,
+          ap (phase_of id) (sym (pool_known s r workers run worker k x at n (omega (arith, h.2))))
+              ∙ (h.3 ∙ ap (λ l. phase_of id l + 1) (pool_known s r workers run worker k x at entry (omega (arith, h.1, h.2)))),
+        )
+        made_by x worker k at (pool.Idle id) n y h = absurd h
 
   pub drained_caused : (place : Place) (n : ℕ) (e : Entry) → slice_get (journals_of r place) n ≡ Some e → (by : Serial) (objects : ℕ) → e ≡ Drained by objects → IsSomeAnd (reply_at r by) HasDrained
   drained_caused place n e stands by objects is_it =
       let m = maker s r workers run place n e stands in
       let is = run.steps.each m.worker m.k m.step m.at in
       let may : IsDrainedByCommand m.step m.made by = subst (MayMakeEntry s m.step m.made) (m.entry ∙ is_it) (each_among (λ (z : Made). MayMakeEntry s m.step z z.entry) m.step.work.core.made m.made is.did.entries.each m.among) in
-      subst (λ (b : Serial). IsSomeAnd (reply_at r b) HasDrained) (sym (may.own ∙ is.by)) (subst (λ o. IsSomeAnd o HasDrained) (sym (reply_is s r workers run m.worker m.k m.step m.at)) (has_drained (shr_id m.made) m.step.answered.reply may.drains))
-    where
-      shr_id : Made → ℕ
-      shr_id m = place_id m.place
+      subst (λ (b : Serial). IsSomeAnd (reply_at r b) HasDrained) (sym (may.own ∙ is.by)) (subst (λ o. IsSomeAnd o HasDrained) (sym (reply_is s r workers run m.worker m.k m.step m.at)) (has_drained (shr_id m.made) m.step.answered.reply may.drains)) where
+        shr_id : Made → ℕ
+        shr_id m = place_id m.place

@@ -19,36 +19,15 @@ is_turn n e = false
 -- those that pass tell the number
 pub entry_tells : (k n : ℕ) (e : Event) → is_entry k n e ≡ true → EventTells (core.entries k) e n (n + 1)
 entry_tells k n (made m) h = let t = and_parts (eqb m.place k) (eqb m.number n) h in let p = eqb-true m.place k t.0 in let q = eqb-true m.number n t.1 in (p, sym q, ap (λ i. i + 1) (sym q))
-entry_tells k n (counted x) h = absurd (cc)
-entry_tells k n (looked x) h = absurd (cc)
-entry_tells k n (loaded x) h = absurd (cc)
-entry_tells k n (turned x) h = absurd (cc)
-entry_tells k n (put_back i) h = absurd (cc)
-entry_tells k n (raised x) h = absurd (cc)
-entry_tells k n (cleared x) h = absurd (cc)
-entry_tells k n (mapped x) h = absurd (cc)
+entry_tells k n e h = absurd (cc)
 
 pub lookup_tells : (id n : ℕ) (e : Event) → is_lookup id n e ≡ true → EventTells (core.lookups id) e n (n + 1)
 lookup_tells id n (looked t) h = let b = and_parts (eqb t.id id) (eqb t.number n) h in let p = eqb-true t.id id b.0 in let q = eqb-true t.number n b.1 in (p, sym q, ap (λ i. i + 1) (sym q))
-lookup_tells id n (counted x) h = absurd (cc)
-lookup_tells id n (made x) h = absurd (cc)
-lookup_tells id n (loaded x) h = absurd (cc)
-lookup_tells id n (turned x) h = absurd (cc)
-lookup_tells id n (put_back i) h = absurd (cc)
-lookup_tells id n (raised x) h = absurd (cc)
-lookup_tells id n (cleared x) h = absurd (cc)
-lookup_tells id n (mapped x) h = absurd (cc)
+lookup_tells id n e h = absurd (cc)
 
 pub turn_tells : (n : ℕ) (e : Event) → is_turn n e ≡ true → EventTells core.turns e n (n + 1)
 turn_tells n (turned t) h = let q = eqb-true t.number n h in (sym q, ap (λ i. i + 1) (sym q))
-turn_tells n (counted x) h = absurd (cc)
-turn_tells n (made x) h = absurd (cc)
-turn_tells n (looked x) h = absurd (cc)
-turn_tells n (loaded x) h = absurd (cc)
-turn_tells n (put_back i) h = absurd (cc)
-turn_tells n (raised x) h = absurd (cc)
-turn_tells n (cleared x) h = absurd (cc)
-turn_tells n (mapped x) h = absurd (cc)
+turn_tells n e h = absurd (cc)
 
 -- ---- what an event tells of a measure is fixed
 entry_alone : (i low high low' high' : ℕ) (e : PoolEntry) → core.EntryTells i e low high → core.EntryTells i e low' high' → (low ≡ low') × (high ≡ high')
@@ -59,13 +38,11 @@ entry_alone i low high low' high' (Idle id) t u = absurd t
 pub alone : (m : core.Measure) (e : Event) (low high low' high' : ℕ) → EventTells m e low high → EventTells m e low' high' → (low ≡ low') × (high ≡ high')
 alone (core.entries k) (counted x) low high low' high' t u = (t.1 ∙ sym u.1, t.2 ∙ sym u.2)
 alone (core.entries k) (made x) low high low' high' t u = (t.1 ∙ sym u.1, t.2 ∙ sym u.2)
-alone (core.entries k) e low high low' high' t u = absurd t
 alone (core.lookups i) (looked x) low high low' high' t u = (t.1 ∙ sym u.1, t.2 ∙ sym u.2)
 alone (core.lookups i) (loaded x) low high low' high' t u = (t.1 ∙ sym u.1, t.2 ∙ sym u.2)
 alone (core.lookups i) (turned x) low high low' high' t u = entry_alone i low high low' high' x.entry t u
-alone (core.lookups i) e low high low' high' t u = absurd t
 alone core.turns (turned x) low high low' high' t u = (t.0 ∙ sym u.0, t.1 ∙ sym u.1)
-alone core.turns e low high low' high' t u = absurd t
+alone m e low high low' high' t u = absurd t
 
 abbrev pub core_of : ToldMeasure → core.Measure
 core_of (entries place) = core.entries (place_number place)
@@ -74,22 +51,14 @@ core_of turns = core.turns
 
 pub one_try : (e : Event) → length (attempts_in e) ≤ 1
 one_try (counted x) = omega arith
-one_try (made x) = omega arith
-one_try (looked x) = omega arith
-one_try (loaded x) = omega arith
-one_try (turned x) = omega arith
-one_try (put_back i) = omega arith
-one_try (raised x) = omega arith
-one_try (cleared x) = omega arith
-one_try (mapped x) = omega arith
+one_try e = omega arith
 
 pub not_below : (n l : ℕ) → l ≤ n → nat_lt n l ≡ false
 not_below n l le = grind (arith, le)
 
 pub registered : (i low high : ℕ) (e : PoolEntry) → TurnTells i low high e → core.EntryTells i e low high
 registered i low high (Registered decl id from) t = t
-registered i low high (Unregistered decl id to) t = t
-registered i low high (Idle id) t = t
+registered i low high e t = t
 
 -- a registration tells one number
 pub registered_flat : (i low high : ℕ) (e : PoolEntry) → TurnTells i low high e → low ≡ high

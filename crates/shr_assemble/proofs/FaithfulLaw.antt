@@ -1,18 +1,13 @@
 -- The report of a run is faithful: what its workers told stands in the order of their commands.
-use Rattle.shr_assemble.proofs.Common.{◌≡◌, ℕ, zero, suc, ◌+◌, ◌<◌, ◌≤◌, inr, ⊎_elim, List, [], ◌∷◌, ◌++◌, length, map, sym, ap, subst, ◌∙◌, arith, slice_get, Some, option_and_then, AllByRecursion, IsSomeAnd, none-some, same_Some, Registered, Unregistered, Done, UseStep, Serial, Answered, Reply, Command, Offline, Script, Carry, group_named, IsAtOrAbove, each_append, each_weaker, Has, slice_get_within, Begins, begins_all, begins_more, Turn, AreRising, IsLaterThan, WorkerState, Report, parents_of, decls_on, serial_of, all_carries, pool_seen, pool_made, of_answer, pool_made_by, IsFaithful, DidCarry, IsEntryOf, Step, IsAmong, steps_of, AreStepsChained, IsRun, done_at, by_slices, some_at, EachAnswer, pool_reached, tree_reached, tree_made, AreNotAbove, IsOverOnPath}
+use Rattle.shr_assemble.proofs.Common.{◌≡◌, ℕ, ⊎_elim, List, [], ◌∷◌, sym, ◌∙◌, slice_get, Some, Registered, Unregistered, Answered, Reply, Script, Turn, Report, pool_made, pool_made_by, Step, IsAmong, steps_of, IsRun, zero, suc, ◌+◌, ◌<◌, ◌≤◌, inr, ◌++◌, length, map, ap, subst, arith, option_and_then, AllByRecursion, IsSomeAnd, none-some, same_Some, Done, UseStep, Serial, Command, Offline, Carry, group_named, IsAtOrAbove, each_append, each_weaker, Has, slice_get_within, Begins, begins_all, begins_more, AreRising, IsLaterThan, WorkerState, parents_of, decls_on, serial_of, all_carries, pool_seen, of_answer, IsFaithful, DidCarry, IsEntryOf, AreStepsChained, done_at, by_slices, some_at, EachAnswer, pool_reached, tree_reached, tree_made, AreNotAbove, IsOverOnPath}
 use Rattle.shr_base.specs.declared.replies.Reply.TheVariants as reply
-use Rattle.shr_charge.specs.Views as charge
 use Rattle.shr_assemble.specs.Causes as by
-use Rattle.shr_assemble.proofs.BitsToldLaw.{bits_told}
-use Rattle.shr_assemble.proofs.Chains.{first_grows}
-use Rattle.shr_assemble.proofs.Flattening.{all_carries_are}
 use Rattle.shr_assemble.proofs.FreshLaw.{of_is, step_cases, none_given, begins_length}
-use Rattle.shr_assemble.proofs.Gathering.{has_step, each_among}
-use Rattle.shr_assemble.proofs.Listed.{all_among}
-use Rattle.shr_assemble.proofs.MadeTurns.{made_turn}
-use Rattle.shr_assemble.proofs.Makers.{one_turn_maker}
-use Rattle.shr_assemble.proofs.Making.{work_of, grows, stepped}
-use Rattle.shr_assemble.proofs.Operations.{PairsRec, pairs_rec, op_of, op_by, rise_along, among_has}
+use Rattle.shr_charge.specs.Views as charge
+use Rattle.shr_assemble.proofs.BitsToldLaw.{bits_told}
+use Rattle.shr_assemble.proofs.Gathering.{first_grows, work_of, grows, stepped, has_step, each_among}
+use Rattle.shr_assemble.proofs.Listed.{all_carries_are, all_among, PairsRec, pairs_rec, op_of, op_by, rise_along, among_has, across, Has_begins}
+use Rattle.shr_assemble.proofs.JournalsLaw.{one_turn_maker}
 use Rattle.shr_assemble.proofs.ClimbsLaw.{climbs}
 use Rattle.shr_assemble.proofs.CutsLaw.{cuts_told}
 use Rattle.shr_assemble.proofs.HandedLaw.{handed}
@@ -21,8 +16,19 @@ use Rattle.shr_assemble.proofs.TakesLaw.{takes_in_order}
 use Rattle.shr_assemble.proofs.PoolPast.{pool_past}
 use Rattle.shr_assemble.proofs.TriesLaw.{tries}
 use Rattle.shr_assemble.proofs.WalksRefused.{walks_refused}
-use Rattle.shr_assemble.proofs.Pairs.{across, Has_begins}
 use Rattle.shr_report.proofs.FaithfulValues.{above_none}
+
+module _ (s : Script) (r : Report) (workers : List (List Step)) (run : IsRun s r workers) where
+  turn_made : (x : Step) (z : Reply) → by.IsCausedBy s x z → (n : ℕ) → pool_made z ≡ n ∷ [] → (t : Turn) × IsAmong t x.work.core.turns × (t.number ≡ n)
+  turn_made x (reply.Registered id entry) h n e = (record { number = entry; entry = Registered h.decl id h.from }, h.made, (let same : entry ≡ n = cc in same))
+  turn_made x (reply.Freed id entry from to objects) h n e = (record { number = entry; entry = Unregistered h.unregistered.decl id to }, h.unregistered.made, (let same : entry ≡ n = cc in same))
+  turn_made x (reply.Half id entry from to objects half) h n e = (record { number = entry; entry = Unregistered h.unregistered.decl id to }, h.unregistered.made, (let same : entry ≡ n = cc in same))
+  turn_made x y h n e = absurd (cc)
+
+  pub made_turn : (worker k n : ℕ) → pool_made_by r worker k ≡ n ∷ [] → (x : Step) × (slice_get (steps_of workers worker) k ≡ Some x) × ((t : Turn) × IsAmong t x.work.core.turns × (t.number ≡ n))
+  made_turn worker k n e = ⊎_elim
+      (λ x. (x.0, x.1, turn_made x.0 x.0.answered.reply (run.steps.each worker k x.0 x.1).did.cause n (sym (of_is s r workers run worker k x.0 (λ (a : Answered). pool_made a.reply) x.1) ∙ e)))
+      (λ none. absurd (let some = sym (none_given s r workers run worker k (λ (a : Answered). pool_made a.reply) none) ∙ e in cc)) (step_cases s r workers run worker k)
 
 -- ---- lists of numbers
 
@@ -127,11 +133,10 @@ module _ (s : Script) (r : Report) (workers : List (List Step)) (run : IsRun s r
       let whole : PairsRec (λ a b. IsLaterThan b a) (y.step.before.uses.ops ++ y.step.work.ops) = subst (PairsRec (λ a b. IsLaterThan b a)) (ap (λ u. u.ops) (work_of s r workers run y.worker y.k y.step y.at).uses) (pairs_rec (λ a b. IsLaterThan b a) y.step.after.uses.ops all) in
       let own : Has x.step.after.uses.ops o = subst (λ l. Has l o) (sym (ap (λ u. u.ops) (work_of s r workers run y.worker x.k x.step at_x).uses)) (behind x.step.before.uses.ops x.step.work.ops (among_has x.step.work.ops o x.has)) in
       let had : Has y.step.before.uses.ops o = Has_begins x.step.after.uses.ops y.step.before.uses.ops o (later_ops (run.steps.first y.worker) (steps_of workers y.worker) x.k y.k x.step y.step (run.steps.chained y.worker) lt at_x y.at) own in
-      across (λ a b. IsLaterThan b a) y.step.before.uses.ops y.step.work.ops o p whole had (among_has y.step.work.ops p y.has) group
-    where
-      behind : (us vs : List UseStep) → Has vs o → Has (us ++ vs) o
-      behind [] vs h = h
-      behind (u ∷ us) vs h = inr (behind us vs h)
+      across (λ a b. IsLaterThan b a) y.step.before.uses.ops y.step.work.ops o p whole had (among_has y.step.work.ops p y.has) group where
+        behind : (us vs : List UseStep) → Has vs o → Has (us ++ vs) o
+        behind [] vs h = h
+        behind (u ∷ us) vs h = inr (behind us vs h)
 
   -- ---- single answers
   over_on_path : (x : Step) (c : Command) (z : Reply) → x.command ≡ Some c → by.IsCausedBy s x z → IsOverOnPath s c z

@@ -48,19 +48,11 @@ module _ (P : Object → Type 0) (marks : (o : Object) → P o → P (marked_obj
   -- what a step leaves, and what it frees
   changed : (test : Object → Bool) (change : Object → Object) → ((o : Object) → P o → P (change o)) → (items : List Object) → All items → All (change_first test change items)
   changed test change f [] h = tt
-  changed test change f (x ∷ xs) h = kept (test x) (changed test change f xs h.1)
-    where
-      kept : (b : Bool) → All (change_first test change xs) → All (cond b (change x ∷ xs) (x ∷ change_first test change xs))
-      kept true rest = (f x h.0, h.1)
-      kept false rest = (h.0, rest)
+  changed test change f (x ∷ xs) h = (elim (test x) as (λ (b : Bool). All (change_first test change xs) → All (cond b (change x ∷ xs) (x ∷ change_first test change xs))) [ true ↦ λ rest. (f x h.0, h.1) | false ↦ λ rest. (h.0, rest) ]) (changed test change f xs h.1)
 
   out_of : (test : Object → Bool) (items : List Object) → All items → All (without_first test items)
   out_of test [] h = tt
-  out_of test (x ∷ xs) h = kept (test x) (out_of test xs h.1)
-    where
-      kept : (b : Bool) → All (without_first test xs) → All (cond b xs (x ∷ without_first test xs))
-      kept true rest = h.1
-      kept false rest = (h.0, rest)
+  out_of test (x ∷ xs) h = (elim (test x) as (λ (b : Bool). All (without_first test xs) → All (cond b xs (x ∷ without_first test xs))) [ true ↦ λ rest. h.1 | false ↦ λ rest. (h.0, rest) ]) (out_of test xs h.1)
 
   all_cond : (b : Bool) (xs ys : List Object) → All xs → All ys → All (cond b xs ys)
   all_cond true xs ys a c = a
@@ -72,11 +64,7 @@ module _ (P : Object → Type 0) (marks : (o : Object) → P o → P (marked_obj
 
   found_is : (test : Object → Bool) (items : List Object) → All items → All (dropped_of (find test items))
   found_is test [] h = tt
-  found_is test (x ∷ xs) h = kept (test x) (found_is test xs h.1)
-    where
-      kept : (b : Bool) → All (dropped_of (find test xs)) → All (dropped_of (cond b (Some x) (find test xs)))
-      kept true rest = all_cond x.pinned [] (x ∷ []) tt (h.0, tt)
-      kept false rest = rest
+  found_is test (x ∷ xs) h = (elim (test x) as (λ (b : Bool). All (dropped_of (find test xs)) → All (dropped_of (cond b (Some x) (find test xs)))) [ true ↦ λ rest. all_cond x.pinned [] (x ∷ []) tt (h.0, tt) | false ↦ λ rest. rest ]) (found_is test xs h.1)
 
   -- an Add's object is so
   abbrev pub AddIs : Entry → Type 0
@@ -94,14 +82,10 @@ module _ (P : Object → Type 0) (marks : (o : Object) → P o → P (marked_obj
   step_keeps moved items (Drained by objects) own a b = tt
 
   pub frees_kept : (items : List Object) (e : Entry) → All items → All (freed_by items e)
-  frees_kept items (Add by birth added key value) b = tt
-  frees_kept items (Look by birth key hit) b = tt
   frees_kept items (Drop by birth key kind) b = found_is (is_named birth key) items b
-  frees_kept items (Pin by birth key pinned hit) b = tt
   frees_kept items (Scan worker walk asked policy visits freed stopped) b = (scan_keeps policy asked [] items tt b).freed
-  frees_kept items (MovedIn child objects) b = tt
-  frees_kept items Closed b = tt
   frees_kept items (Drained by objects) b = b
+  frees_kept items e b = tt
 
   abbrev AllLists : List (List Object) → Type 0
   AllLists lists = AllByRecursion All lists
@@ -111,15 +95,8 @@ module _ (P : Object → Type 0) (marks : (o : Object) → P o → P (marked_obj
   first_all (m ∷ ms) h = h.0
 
   later_all : (e : Entry) (moved : List (List Object)) → AllLists moved → AllLists (later_moved e moved)
-  later_all (Add by birth added key value) ms h = h
-  later_all (Look by birth key hit) ms h = h
-  later_all (Drop by birth key kind) ms h = h
-  later_all (Pin by birth key pinned hit) ms h = h
-  later_all (Scan worker walk asked policy visits freed stopped) ms h = h
-  later_all (MovedIn child objects) [] h = h
   later_all (MovedIn child objects) (m ∷ ms) h = h.1
-  later_all Closed ms h = h
-  later_all (Drained by objects) ms h = h
+  later_all e ms h = h
 
   items_kept : (moved : List (List Object)) (items : List Object) (es : List Entry) → AllLists moved → All items → AllByRecursion AddIs es → All (items_from moved items es)
   unfolding items_from
@@ -129,14 +106,8 @@ module _ (P : Object → Type 0) (marks : (o : Object) → P o → P (marked_obj
   lists_kept : (took : ℕ → List Object) (es : List Entry) → ((c : ℕ) → All (took c)) → AllLists (lists_moved took es)
   unfolding lists_moved
   lists_kept took [] h = tt
-  lists_kept took (Add by birth added key value ∷ es) h = lists_kept took es h
-  lists_kept took (Look by birth key hit ∷ es) h = lists_kept took es h
-  lists_kept took (Drop by birth key kind ∷ es) h = lists_kept took es h
-  lists_kept took (Pin by birth key pinned hit ∷ es) h = lists_kept took es h
-  lists_kept took (Scan worker walk asked policy visits freed stopped ∷ es) h = lists_kept took es h
   lists_kept took (MovedIn child objects ∷ es) h = (h child, lists_kept (without_child child took) es (λ c. all_cond (eqb c child) [] (took c) tt (h c)))
-  lists_kept took (Closed ∷ es) h = lists_kept took es h
-  lists_kept took (Drained by objects ∷ es) h = lists_kept took es h
+  lists_kept took (e ∷ es) h = lists_kept took es h
 
   take_kept : (n : ℕ) (es : List Entry) → AllByRecursion AddIs es → AllByRecursion AddIs (take n es)
   take_kept zero es h = tt

@@ -1,9 +1,7 @@
 -- Which bits a command set: those of the lists that it filled, and those that its walks set again.
-use Rattle.shr_assemble.proofs.Common.{◌≡◌, ◌⊎◌, inl, inr, ℕ, zero, suc, ◌<◌, Bool, true, false, cond, List, [], ◌∷◌, ◌++◌, length, sym, refl, ap, subst, ◌∙◌, arith, append_assoc, ◌&&◌, ◌==◌, nat_lt, flat_map, map-append, dite, ℕ_discrete, and_parts, ltb-true, some-injective, some-ne-none, Entry, Add, Look, Drop, Pin, Scan, MovedIn, Closed, Drained, Object, WalkRecord, Has, step, Deed, by_seat, Each, times, only, Each-none, Each-weaker, some_term, only_no, View, Gained, Adds, among, group_of, Made, Event, counted, made, looked, loaded, turned, put_back, raised, cleared, mapped, is_raised, bits_for, Fills, IsListFilled, IsAmong, set_by_walk}
+use Rattle.shr_assemble.proofs.Common.{◌≡◌, ◌⊎◌, inl, inr, ℕ, zero, suc, ◌<◌, Bool, true, false, cond, List, [], ◌∷◌, ◌++◌, length, sym, refl, ap, subst, ◌∙◌, arith, append_assoc, ◌&&◌, ◌==◌, nat_lt, flat_map, map-append, dite, ℕ_discrete, and_parts, ltb-true, some-injective, some-ne-none, Entry, Add, Look, Drop, Pin, Scan, MovedIn, Closed, Drained, Object, WalkRecord, Has, step, Deed, by_seat, Each, times, only, Each-none, Each-weaker, some_term, only_no, View, Gained, Adds, among, group_of, Made, Event, counted, made, looked, loaded, turned, put_back, raised, cleared, mapped, is_raised, bits_for, Fills, IsListFilled, IsAmong, set_by_walk, sets_in, cleared_in}
 use Rattle.shr_model.specs.Scan.{scan_from}
-use Rattle.shr_core.specs.Gained.{sets_in, cleared_in}
-use Rattle.shr_assemble.proofs.Operations.{among_has}
-use Rattle.shr_assemble.proofs.Pairs.{either}
+use Rattle.shr_assemble.proofs.Listed.{among_has, either}
 use Rattle.shr_node.proofs.Places.{none_in}
 
 -- the bit of a place was set by an entry, or in a walk
@@ -14,14 +12,8 @@ IsSet ms walks place = IsListFilled ms place ⊎ IsAmong place (flat_map set_by_
 fills_none : (e : Entry) → 0 < length (step [] [] e) → Fills [] e
 unfolding scan_from
 fills_none (Add by birth added key value) lt = refl
-fills_none (Look by birth key hit) lt = absurd (omega (arith, lt))
-fills_none (Drop by birth key kind) lt = absurd (omega (arith, lt))
-fills_none (Pin by birth key pinned hit) lt = absurd (omega (arith, lt))
 fills_none (Scan worker walk zero policy visits freed stopped) lt = absurd (omega (arith, lt))
-fills_none (Scan worker walk (suc n) policy visits freed stopped) lt = absurd (omega (arith, lt))
-fills_none (MovedIn child objects) lt = absurd (omega (arith, lt))
-fills_none Closed lt = absurd (omega (arith, lt))
-fills_none (Drained by objects) lt = absurd (omega (arith, lt))
+fills_none e lt = absurd (omega (arith, lt))
 
 pub filled_one : (ms : List Made) (k : ℕ) → IsListFilled ms k → Each (IsListFilled ms) (k ∷ [])
 filled_one ms k h zero y e = subst (IsListFilled ms) (some-injective k y e) h
@@ -29,20 +21,19 @@ filled_one ms k h (suc j) y e = absurd (some-ne-none y (sym e))
 
 -- the one bit that an entry of a tenant or a scan sets is of the list that it filled
 pub filled_by : (m : Made) → Each (IsListFilled (m ∷ [])) (bits_for m.place m.items (step [] m.items m.entry))
-filled_by m = by_cases (is_raised m.place m.items (step [] m.items m.entry)) refl
-  where
-    by_cases : (b : Bool) → is_raised m.place m.items (step [] m.items m.entry) ≡ b → Each (IsListFilled (m ∷ [])) (cond b (m.place ∷ []) [])
-    by_cases false e = Each-none (IsListFilled (m ∷ []))
-    by_cases true e =
-        let first = and_parts (length m.items == 0) (nat_lt 0 (length (step [] m.items m.entry))) (and_parts ((length m.items == 0) && nat_lt 0 (length (step [] m.items m.entry))) (nat_lt 0 (group_of m.place)) e).0 in
-        let none = none_in m.items first.0 in
-        let some : 0 < length (step [] m.items m.entry) = ltb-true 0 (length (step [] m.items m.entry)) first.1 in
-        filled_one (m ∷ []) m.place (record {
-          entry = m;
-          among = (0, refl);
-          here = refl;
-          fills = subst (λ (l : List Object). Fills l m.entry) (sym none) (fills_none m.entry (subst (λ (l : List Object). 0 < length (step [] l m.entry)) none some));
-        })
+filled_by m = by_cases (is_raised m.place m.items (step [] m.items m.entry)) refl where
+  by_cases : (b : Bool) → is_raised m.place m.items (step [] m.items m.entry) ≡ b → Each (IsListFilled (m ∷ [])) (cond b (m.place ∷ []) [])
+  by_cases false e = Each-none (IsListFilled (m ∷ []))
+  by_cases true e =
+      let first = and_parts (length m.items == 0) (nat_lt 0 (length (step [] m.items m.entry))) (and_parts ((length m.items == 0) && nat_lt 0 (length (step [] m.items m.entry))) (nat_lt 0 (group_of m.place)) e).0 in
+      let none = none_in m.items first.0 in
+      let some : 0 < length (step [] m.items m.entry) = ltb-true 0 (length (step [] m.items m.entry)) first.1 in
+      filled_one (m ∷ []) m.place (record {
+        entry = m;
+        among = (0, refl);
+        here = refl;
+        fills = subst (λ (l : List Object). Fills l m.entry) (sym none) (fills_none m.entry (subst (λ (l : List Object). 0 < length (step [] l m.entry)) none some));
+      })
 
 -- among more entries
 pub filled_among : (ms more : List Made) → ((m : Made) → IsAmong m ms → IsAmong m more) → (places : List ℕ) → Each (IsListFilled ms) places → Each (IsListFilled more) places
@@ -64,16 +55,9 @@ none_left [] ys e = e
 none_left (x ∷ xs) ys e = absurd (cc)
 
 raised_of : (e : Event) (k : ℕ) → Has (sets_in e) k → e ≡ raised k
-raised_of (counted x) k h = absurd h
-raised_of (made x) k h = absurd h
-raised_of (looked x) k h = absurd h
-raised_of (loaded x) k h = absurd h
-raised_of (turned x) k h = absurd h
-raised_of (put_back i) k h = absurd h
 raised_of (raised x) k (inl e) = ap raised e
 raised_of (raised x) k (inr none) = absurd none
-raised_of (cleared x) k h = absurd h
-raised_of (mapped x) k h = absurd h
+raised_of e k h = absurd h
 
 -- a bit that is set among events
 raised_at : (es : List Event) (k : ℕ) → Has (among sets_in es) k → (front : List Event) × (back : List Event) × (es ≡ front ++ raised k ∷ back)

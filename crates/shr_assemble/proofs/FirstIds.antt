@@ -11,19 +11,18 @@ record IsLowest (from id : ℕ) (es : List PoolEntry) : Type 0 where
 lowest_is : (more from id : ℕ) (es : List PoolEntry) → lowest_free more from es ≡ Some id → IsLowest from id es
 unfolding lowest_free
 lowest_is zero from id es e = absurd (none-some id e)
-lowest_is (suc more) from id es e = choose (is_free from es) refl e (lowest_is more (suc from) id es)
-  where
-    choose : (b : Bool) → is_free from es ≡ b → cond b (Some from) (lowest_free more (suc from) es) ≡ Some id → (lowest_free more (suc from) es ≡ Some id → IsLowest (suc from) id es) → IsLowest from id es
-    choose true is at later = let same = same_Some from id at in record {
-      free = subst (λ (i : ℕ). is_free i es ≡ true) same is;
-      above = omega (arith, same);
-      lower = λ i le lt. absurd (omega (arith, le, lt, same));
-    }
-    choose false is at later = let t = later at in let up = t.above in record {
-      free = t.free;
-      above = omega (arith, up);
-      lower = λ i le lt. dite (ℕ_discrete i from) (λ d. subst (λ (j : ℕ). is_free j es ≡ false) (sym d) is) (λ ne. t.lower i (omega (arith, le, ne)) lt);
-    }
+lowest_is (suc more) from id es e = choose (is_free from es) refl e (lowest_is more (suc from) id es) where
+  choose : (b : Bool) → is_free from es ≡ b → cond b (Some from) (lowest_free more (suc from) es) ≡ Some id → (lowest_free more (suc from) es ≡ Some id → IsLowest (suc from) id es) → IsLowest from id es
+  choose true is at later = let same = same_Some from id at in record {
+    free = subst (λ (i : ℕ). is_free i es ≡ true) same is;
+    above = omega (arith, same);
+    lower = λ i le lt. absurd (omega (arith, le, lt, same));
+  }
+  choose false is at later = let t = later at in let up = t.above in record {
+    free = t.free;
+    above = omega (arith, up);
+    lower = λ i le lt. dite (ℕ_discrete i from) (λ d. subst (λ (j : ℕ). is_free j es ≡ false) (sym d) is) (λ ne. t.lower i (omega (arith, le, ne)) lt);
+  }
 
 -- an id that has one entry is not free, and one that has none is
 free_none : (id : ℕ) (es : List PoolEntry) → phase_of id es ≡ 0 → is_free id es ≡ true

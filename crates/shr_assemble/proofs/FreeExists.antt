@@ -1,13 +1,11 @@
 -- A put whose group and key no other put names isn't answered that its object exists: each object so named is its own.
-use Rattle.shr_assemble.proofs.Common.{◌≡◌, ℕ, zero, suc, ◌<◌, ◌≤◌, inl, inr, Bool, true, false, not, ◌||◌, ◌==◌, cond, List, [], ◌∷◌, ◌++◌, length, take, sym, refl, ap, subst, ◌∙◌, arith, slice_get, Some, bytes_eq, AllByRecursion, list_any, cases_Bool, and_parts, eqb-true, Contains-permutation, IsPermutation-sym, same_Some, none-some, slice_get_within, Object, At, Place, Serial, Entry, Add, Look, Drop, Pin, Scan, MovedIn, Closed, Drained, Command, Put, Get, Del, SetPin, Script, added_by, added_by_all, added_in, listed_in, is_serial, items_at, lists_moved_at, step, IsOutcome, first_moved, later_moved, by_of, is_named, holds, marked_object, unmarked_object, pinned_object, Has, Has_from_Contains, Contains_from_Has, each_has, flat_map_has, weight, mass, weight_append, place_at, Made, Report, parents_of, commands_of, serial_of, journals_of, places_of, cited_at, id_found, at, IsOnlyPut, MayMakeEntry, IsRun, Step, by_slices, serial_itself}
+use Rattle.shr_assemble.proofs.Common.{◌≡◌, ℕ, zero, suc, ◌<◌, ◌≤◌, inl, inr, Bool, true, false, not, ◌||◌, ◌==◌, cond, List, [], ◌∷◌, ◌++◌, length, take, sym, refl, ap, subst, ◌∙◌, arith, slice_get, Some, bytes_eq, AllByRecursion, list_any, cases_Bool, and_parts, eqb-true, Contains-permutation, IsPermutation-sym, same_Some, none-some, slice_get_within, Object, At, Place, Serial, Entry, Add, Look, Drop, Pin, Scan, MovedIn, Closed, Drained, Command, Put, Get, Del, SetPin, Script, added_by, added_by_all, added_in, listed_in, is_serial, items_at, lists_moved_at, step, IsOutcome, first_moved, later_moved, by_of, is_named, holds, marked_object, unmarked_object, pinned_object, Has, Has_from_Contains, Contains_from_Has, each_has, flat_map_has, weight, mass, weight_append, place_at, Made, Report, parents_of, commands_of, serial_of, journals_of, places_of, cited_at, id_found, at, IsOnlyPut, MayMakeEntry, IsRun, Step, by_slices, serial_itself, freed_in}
 use Rattle.std.specs.Cmp.Lexicographic.{bytes_decides}
-use Rattle.shr_model.specs.Bag.{freed_in}
 use Rattle.shr_model.specs.Items.{items_from, moved_from, AreOutcomes}
 use Rattle.shr_assemble.proofs.BagLaw.{whole, bag}
 use Rattle.shr_assemble.proofs.FamilyObjects.{AddIs, items_at_kept}
-use Rattle.shr_assemble.proofs.Gathering.{each_among}
+use Rattle.shr_assemble.proofs.Gathering.{each_among, maker, made_stands}
 use Rattle.shr_assemble.proofs.Listed.{contains_slice}
-use Rattle.shr_assemble.proofs.Making.{maker, made_stands}
 use Rattle.shr_assemble.proofs.RepliesLaw.{told_of, cited}
 use Rattle.shr_assemble.proofs.ReplyEntries.{IsEntryFor, entry_asked}
 use Rattle.shr_assemble.proofs.WornWeights.{one_list, freed_total}
@@ -42,11 +40,10 @@ mass_has w (x ∷ items) o (inr has) = omega (arith, mass_has w items o has)
 -- serials that weigh something have one that does
 weight_has : (w : Serial → ℕ) (xs : List Serial) → 0 < weight w xs → (x : Serial) × Has xs x × (0 < w x)
 weight_has w [] h = absurd (omega (arith, h))
-weight_has w (x ∷ xs) h = by (w x) refl (weight_has w xs)
-  where
-    by : (n : ℕ) → w x ≡ n → (0 < weight w xs → (y : Serial) × Has xs y × (0 < w y)) → (y : Serial) × Has (x ∷ xs) y × (0 < w y)
-    by zero e more = let t = more (omega (arith, e, h)) in (t.0, inr t.1, t.2)
-    by (suc n) e more = (x, inl refl, omega (arith, e))
+weight_has w (x ∷ xs) h = by (w x) refl (weight_has w xs) where
+  by : (n : ℕ) → w x ≡ n → (0 < weight w xs → (y : Serial) × Has xs y × (0 < w y)) → (y : Serial) × Has (x ∷ xs) y × (0 < w y)
+  by zero e more = let t = more (omega (arith, e, h)) in (t.0, inr t.1, t.2)
+  by (suc n) e more = (x, inl refl, omega (arith, e))
 
 abbrev one_by : Serial → Serial → ℕ
 one_by by x = cond (is_serial by x) 1 0
@@ -55,14 +52,7 @@ one_by by x = cond (is_serial by x) 1 0
 add_of : (e : Entry) (by : Serial) → Has (added_by e) by → (birth : ℕ) × (key : List ℕ) × (value : List ℕ) × (e ≡ Add by birth true key value)
 add_of (Add x birth true key value) by (inl same) = (birth, key, value, ap (λ y. Add y birth true key value) same)
 add_of (Add x birth true key value) by (inr has) = absurd has
-add_of (Add x birth false key value) by has = absurd has
-add_of (Look x birth key hit) by has = absurd has
-add_of (Drop x birth key kind) by has = absurd has
-add_of (Pin x birth key pinned hit) by has = absurd has
-add_of (Scan worker walk asked policy visits freed stopped) by has = absurd has
-add_of (MovedIn child objects) by has = absurd has
-add_of Closed by has = absurd has
-add_of (Drained x objects) by has = absurd has
+add_of e by has = absurd has
 
 -- ---- the put of an Add
 
@@ -123,11 +113,10 @@ module _ (s : Script) (r : Report) (workers : List (List Step)) (run : IsRun s r
       let at_entry = flat_map_has added_by (journals_of r at_place.0) one.0 at_place.2 in
       let there = contains_slice (journals_of r at_place.0) at_entry.0 (Contains_from_Has (journals_of r at_place.0) at_entry.0 at_entry.1) in
       let adds = add_of at_entry.0 one.0 at_entry.2 in
-      (at_place.0, there.0, adds.0, adds.1, adds.2, there.1 ∙ ap Some (adds.3 ∙ ap (λ y. Add y adds.0 true adds.1 adds.2) (sym same)))
-    where
-      weighs : (b : Bool) → 0 < cond {A = ℕ} b 1 0 → b ≡ true
-      weighs true h = refl
-      weighs false h = absurd (omega (arith, h))
+      (at_place.0, there.0, adds.0, adds.1, adds.2, there.1 ∙ ap Some (adds.3 ∙ ap (λ y. Add y adds.0 true adds.1 adds.2) (sym same))) where
+        weighs : (b : Bool) → 0 < cond {A = ℕ} b 1 0 → b ≡ true
+        weighs true h = refl
+        weighs false h = absurd (omega (arith, h))
 
   module _ (worker k group : ℕ) (key : List ℕ) (only : IsOnlyPut s worker k group key) where
     -- an object that is named so is of this put
@@ -151,13 +140,7 @@ module _ (s : Script) (r : Report) (workers : List (List Step)) (run : IsRun s r
         let put : slice_get (commands_of s by.worker) by.command ≡ Some (Put group t.0 t.1 key t.2) = t.3 ∙ (λ i. Some (Put (born i) t.0 t.1 (word i) t.2)) in
         let first = only.worker_is by.worker by.command t.0 t.1 t.2 put in let second = only.command_is by.worker by.command t.0 t.1 t.2 put in
         λ i. record { worker = first i; command = second i }
-    own_add place n (Look by birth name hit) stands = tt
-    own_add place n (Drop by birth name kind) stands = tt
-    own_add place n (Pin by birth name pinned hit) stands = tt
-    own_add place n (Scan w walk asked policy visits freed stopped) stands = tt
-    own_add place n (MovedIn child objects) stands = tt
-    own_add place n Closed stands = tt
-    own_add place n (Drained by objects) stands = tt
+    own_add place n e stands = tt
 
     all_own : (place : Place) (n : ℕ) → AllByRecursion IsOwn (items_at (parents_of s) (journals_of r) place n)
     all_own place n = items_at_kept IsOwn marks unmarks pins (parents_of s) (journals_of r) (λ p. by_slices (AddIs IsOwn marks unmarks pins) (journals_of r p) (own_add p)) place n

@@ -1,37 +1,29 @@
 -- What an answer knew isn't older than what its worker had known before.
-use Rattle.shr_assemble.proofs.Common.{◌≡◌, ℕ, zero, suc, ◌+◌, ◌<◌, ◌≤◌, ◌⊎◌, inl, inr, ⊎_elim, Bool, true, false, ◌||◌, List, [], ◌∷◌, ◌++◌, length, length-append, take, map, get_or, sym, refl, ap, subst, ◌∙◌, arith, slice_get, Option, Some, None, flat_map, option_map, option_and_then, option_to_list, AllByRecursion, list_any, IsSomeAnd, same_Some, none-some, slice_get_within, cases_Bool, append-nil, Serial, Answered, Reply, TreeEntry, Begin, Done, Command, Script, WalkAnswer, WalkRecord, asks_online, is_begin, is_made, is_serial, MayBegin, each_append, each_weaker, Has, Contains_from_Has, each_has, flat_map_has, filter_has, Begins, WorkerState, IsNamed, Report, decls_on, serial_of, command_at, answers_of, walks_of, answer_at, reply_at, walks_by, MayHaveBegun, IsOffline, pool_seen, pool_made, tree_cited, walk_cited, made_shown, of_answer, is_begin_at, shows_begin, shows_offline, MayBeOffline, AreNotFalling, Step, IsAmong, steps_of, AreStepsChained, Grows, KnowsOnline, IsBeginOf, IsEntryOf, IsRun, is_made_grows, is_there, begin_at, done_at, made_at, begin_found, begun_before, is_done, tree_told, tree_seen, shows_made, shown_by, is_done_at, AreBelow, IsFresh, is_begin_of, is_done_of}
+use Rattle.shr_assemble.proofs.Common.{◌≡◌, ℕ, zero, suc, ◌+◌, ◌<◌, ◌≤◌, ◌⊎◌, inl, inr, ⊎_elim, Bool, true, false, ◌||◌, List, [], ◌∷◌, ◌++◌, length, length-append, take, map, get_or, sym, refl, ap, subst, ◌∙◌, arith, slice_get, Option, Some, None, flat_map, option_map, option_and_then, option_to_list, AllByRecursion, list_any, IsSomeAnd, same_Some, none-some, slice_get_within, cases_Bool, append-nil, Serial, Answered, Reply, TreeEntry, Begin, Done, Command, Script, WalkAnswer, WalkRecord, asks_online, is_begin, is_made, is_serial, MayBegin, each_append, each_weaker, Has, Contains_from_Has, each_has, flat_map_has, filter_has, Begins, WorkerState, IsNamed, Report, decls_on, serial_of, command_at, answers_of, walks_of, answer_at, reply_at, walks_by, MayHaveBegun, IsOffline, pool_seen, pool_made, tree_cited, walk_cited, made_shown, of_answer, is_begin_at, shows_begin, shows_offline, MayBeOffline, AreNotFalling, Step, IsAmong, steps_of, AreStepsChained, Grows, KnowsOnline, IsBeginOf, IsEntryOf, IsRun, is_made_grows, is_there, begin_at, done_at, made_at, begin_found, begun_before, is_done, tree_told, tree_seen, shows_made, shown_by, is_done_at, AreBelow, IsFresh, is_begin_of, is_done_of, LoadedState, script_hierarchy, no_test, adjacent}
 use Rattle.shr_base.specs.declared.replies.Reply.TheVariants as reply
 use Rattle.shr_base.specs.declared.journals.TreeEntry.TheVariants.{Made}
 use Rattle.shr_base.specs.declared.walks.WalkAnswer.TheVariants as walk
 use Rattle.shr_charge.specs.Views as charge
-use Rattle.shr_charge.specs.Views.{LoadedState}
 use Rattle.shr_charge.specs.declared.answers.GroupState.TheVariants as state
-use Rattle.shr_report.specs.Parts.{script_hierarchy}
 use Rattle.shr_assemble.specs.Causes as by
-use Rattle.shr_assemble.proofs.Gathering.{among_right, among_begins}
-use Rattle.shr_assemble.proofs.Listed.{all_among, begins_slice, slice_begins, contains_slice, no_test}
-use Rattle.shr_assemble.proofs.Making.{work_of, grows, answers, answer_is, reply_is, Stepped, stepped, command_step}
-use Rattle.shr_assemble.proofs.Makers.{entry_maker, entry_stands}
-use Rattle.shr_assemble.proofs.Chains.{first_grows, grows_then, step_grows}
-use Rattle.shr_assemble.proofs.VersionsLaw.{adjacent, NotFalling}
-use Rattle.shr_assemble.proofs.Shown.{tree_stands}
-use Rattle.shr_assemble.proofs.Flattening.{answers_are, walk_of}
+use Rattle.shr_assemble.proofs.Gathering.{among_right, among_begins, work_of, grows, answers, answer_is, reply_is, Stepped, stepped, command_step, first_grows, grows_then, step_grows}
+use Rattle.shr_assemble.proofs.Listed.{all_among, begins_slice, slice_begins, contains_slice, answers_are, walk_of}
+use Rattle.shr_assemble.proofs.JournalsLaw.{entry_maker, entry_stands, tree_stands}
+use Rattle.shr_assemble.proofs.VersionsLaw.{NotFalling}
 use Rattle.shr_assemble.proofs.LimitsLaw.{serial_same}
 
 -- ---- numbers along a chain
 falls_not : (ns : List ℕ) → AreNotFalling ns → NotFalling ns
 falls_not [] h = tt
-falls_not (n ∷ ns) h = (above n ns h, falls_not ns (λ k d lt. subst (λ i. get_or ns k d ≤ get_or (n ∷ ns) i d) (let z : suc k + 1 ≡ suc (k + 1) = omega arith in z) (h (suc k) d (omega (arith, lt)))))
-  where
-    above : (n : ℕ) (ns : List ℕ) → AreNotFalling (n ∷ ns) → AllByRecursion (λ m. n ≤ m) ns
-    above n [] h = tt
-    above n (m ∷ ns) h = let first = h 0 0 (omega arith) in (first, above n ns (skip n m ns first h))
-      where
-        skip : (n m : ℕ) (ns : List ℕ) → n ≤ m → AreNotFalling (n ∷ m ∷ ns) → AreNotFalling (n ∷ ns)
-        skip n m [] le h k d lt = absurd (omega (arith, lt))
-        skip n m (l ∷ ns) le h zero d lt = let t = h 1 d (omega arith) in omega (arith, le, t)
-        skip n m (l ∷ ns) le h (suc k) d lt = subst (λ i. get_or (l ∷ ns) k d ≤ get_or (n ∷ l ∷ ns) i d) (let z : suc (suc k) ≡ suc k + 1 = omega arith in z)
-            (subst (λ i. get_or (l ∷ ns) k d ≤ get_or (n ∷ m ∷ l ∷ ns) i d) (let z : suc (suc k) + 1 ≡ suc (suc (suc k)) = omega arith in z) (h (suc (suc k)) d (omega (arith, lt))))
+falls_not (n ∷ ns) h = (above n ns h, falls_not ns (λ k d lt. subst (λ i. get_or ns k d ≤ get_or (n ∷ ns) i d) (let z : suc k + 1 ≡ suc (k + 1) = omega arith in z) (h (suc k) d (omega (arith, lt))))) where
+  above : (n : ℕ) (ns : List ℕ) → AreNotFalling (n ∷ ns) → AllByRecursion (λ m. n ≤ m) ns
+  above n [] h = tt
+  above n (m ∷ ns) h = let first = h 0 0 (omega arith) in (first, above n ns (skip n m ns first h)) where
+    skip : (n m : ℕ) (ns : List ℕ) → n ≤ m → AreNotFalling (n ∷ m ∷ ns) → AreNotFalling (n ∷ ns)
+    skip n m [] le h k d lt = absurd (omega (arith, lt))
+    skip n m (l ∷ ns) le h zero d lt = let t = h 1 d (omega arith) in omega (arith, le, t)
+    skip n m (l ∷ ns) le h (suc k) d lt = subst (λ i. get_or (l ∷ ns) k d ≤ get_or (n ∷ l ∷ ns) i d) (let z : suc (suc k) ≡ suc k + 1 = omega arith in z)
+        (subst (λ i. get_or (l ∷ ns) k d ≤ get_or (n ∷ m ∷ l ∷ ns) i d) (let z : suc (suc k) + 1 ≡ suc (suc (suc k)) = omega arith in z) (h (suc (suc k)) d (omega (arith, lt))))
 
 both_fall_not : (xs ys : List ℕ) (b : ℕ) → NotFalling xs → NotFalling ys → AllByRecursion (λ n. n ≤ b) xs → AllByRecursion (λ m. b ≤ m) ys → NotFalling (xs ++ ys)
 both_fall_not [] ys b f g lo hi = g
@@ -60,11 +52,10 @@ begins_length {A} xs ys b = omega (arith, ap (λ (l : List A). length l) b.1, le
 
 module _ (s : Script) (r : Report) (workers : List (List Step)) (run : IsRun s r workers) where
   flat_answers : (f : Answered → List ℕ) (worker : ℕ) → flat_map f (answers_of r worker) ≡ flat_map (λ (x : Step). f x.answered) (steps_of workers worker)
-  flat_answers f worker = ap (flat_map f) (answers_are s r workers run worker) ∙ mapped (steps_of workers worker)
-    where
-      mapped : (mine : List Step) → flat_map f (map (λ (x : Step). x.answered) mine) ≡ flat_map (λ (x : Step). f x.answered) mine
-      mapped [] = refl
-      mapped (x ∷ mine) = ap (λ l. f x.answered ++ l) (mapped mine)
+  flat_answers f worker = ap (flat_map f) (answers_are s r workers run worker) ∙ mapped (steps_of workers worker) where
+    mapped : (mine : List Step) → flat_map f (map (λ (x : Step). x.answered) mine) ≡ flat_map (λ (x : Step). f x.answered) mine
+    mapped [] = refl
+    mapped (x ∷ mine) = ap (λ l. f x.answered ++ l) (mapped mine)
 
   pool : (worker : ℕ) → AreNotFalling (flat_map pool_seen (answers_of r worker))
   pool worker = subst AreNotFalling (sym (flat_answers pool_seen worker)) (adjacent (flat_map (λ (x : Step). pool_seen x.answered) (steps_of workers worker))
@@ -77,11 +68,10 @@ module _ (s : Script) (r : Report) (workers : List (List Step)) (run : IsRun s r
 
   -- the steps of two commands, or nothing is said
   pub step_cases : (worker k : ℕ) → ((x : Step) × (slice_get (steps_of workers worker) k ≡ Some x)) ⊎ (answer_at r (serial_of worker k) ≡ None)
-  step_cases worker k = by_cases (answer_at r (serial_of worker k)) refl
-    where
-      by_cases : (o : Option Answered) → answer_at r (serial_of worker k) ≡ o → ((x : Step) × (slice_get (steps_of workers worker) k ≡ Some x)) ⊎ (answer_at r (serial_of worker k) ≡ None)
-      by_cases None e = inr e
-      by_cases (Some a) e = let t = answers s r workers run worker k a e in inl (t.step, t.at)
+  step_cases worker k = by_cases (answer_at r (serial_of worker k)) refl where
+    by_cases : (o : Option Answered) → answer_at r (serial_of worker k) ≡ o → ((x : Step) × (slice_get (steps_of workers worker) k ≡ Some x)) ⊎ (answer_at r (serial_of worker k) ≡ None)
+    by_cases None e = inr e
+    by_cases (Some a) e = let t = answers s r workers run worker k a e in inl (t.step, t.at)
 
   pub none_given : (worker k : ℕ) (f : Answered → List ℕ) → answer_at r (serial_of worker k) ≡ None → of_answer r (serial_of worker k) f ≡ []
   none_given worker k f e = ap (λ o. flat_map f (option_to_list o)) e
@@ -148,36 +138,33 @@ module _ (s : Script) (r : Report) (workers : List (List Step)) (run : IsRun s r
 
   -- each number that is shown by a command is one that its step was shown
   shown_has : (worker k n : ℕ) → Has (shown_by r (serial_of worker k)) n → (x : Step) × (slice_get (steps_of workers worker) k ≡ Some x) × WasShown x.after n
-  shown_has worker k n has = ⊎_elim of_reply of_walk (Has_cases (of_answer r (serial_of worker k) (λ (a : Answered). tree_cited a.reply)) (flat_map (λ (w : WalkRecord). walk_cited w.answer) (walks_by r (serial_of worker k))) n has)
-    where
-      of_reply : Has (of_answer r (serial_of worker k) (λ (a : Answered). tree_cited a.reply)) n → (x : Step) × (slice_get (steps_of workers worker) k ≡ Some x) × WasShown x.after n
-      of_reply h = ⊎_elim
-          (λ x. (x.0, x.1, each_has (WasShown x.0.after) (tree_cited x.0.answered.reply) n (cited_shown worker k x.0 x.1 x.0.answered.reply (run.steps.each worker k x.0 x.1).did.cause) (subst (λ l. Has l n) (of_is worker k x.0 (λ (a : Answered). tree_cited a.reply) x.1) h)))
-          (λ none. absurd (subst (λ l. Has l n) (none_given worker k (λ (a : Answered). tree_cited a.reply) none) h)) (step_cases worker k)
+  shown_has worker k n has = ⊎_elim of_reply of_walk (Has_cases (of_answer r (serial_of worker k) (λ (a : Answered). tree_cited a.reply)) (flat_map (λ (w : WalkRecord). walk_cited w.answer) (walks_by r (serial_of worker k))) n has) where
+    of_reply : Has (of_answer r (serial_of worker k) (λ (a : Answered). tree_cited a.reply)) n → (x : Step) × (slice_get (steps_of workers worker) k ≡ Some x) × WasShown x.after n
+    of_reply h = ⊎_elim
+        (λ x. (x.0, x.1, each_has (WasShown x.0.after) (tree_cited x.0.answered.reply) n (cited_shown worker k x.0 x.1 x.0.answered.reply (run.steps.each worker k x.0 x.1).did.cause) (subst (λ l. Has l n) (of_is worker k x.0 (λ (a : Answered). tree_cited a.reply) x.1) h)))
+        (λ none. absurd (subst (λ l. Has l n) (none_given worker k (λ (a : Answered). tree_cited a.reply) none) h)) (step_cases worker k)
 
-      cited_by_walk : (a : WalkAnswer) → Has (walk_cited a) n → a ≡ walk.Offline n
-      cited_by_walk (walk.Walked freed) h = absurd h
-      cited_by_walk (walk.Memory freed) h = absurd h
-      cited_by_walk (walk.Offline entry) (inl e) = ap walk.Offline e
-      cited_by_walk (walk.Offline entry) (inr h) = absurd h
+    cited_by_walk : (a : WalkAnswer) → Has (walk_cited a) n → a ≡ walk.Offline n
+    cited_by_walk (walk.Offline entry) (inl e) = ap walk.Offline e
+    cited_by_walk (walk.Offline entry) (inr h) = absurd h
+    cited_by_walk a h = absurd h
 
-      of_walk : Has (flat_map (λ (w : WalkRecord). walk_cited w.answer) (walks_by r (serial_of worker k))) n → (x : Step) × (slice_get (steps_of workers worker) k ≡ Some x) × WasShown x.after n
-      of_walk h =
-          let w = flat_map_has (λ (v : WalkRecord). walk_cited v.answer) (walks_by r (serial_of worker k)) n h in
-          let f = filter_has (λ (v : WalkRecord). is_serial (serial_of worker k) v.by) (walks_of r worker) w.0 w.1 in
-          let j = contains_slice (walks_of r worker) w.0 (Contains_from_Has (walks_of r worker) w.0 f.0) in
-          let of = walk_of s r workers run worker j.0 w.0 j.1 in
-          let same : of.k ≡ k = ap (λ (b : Serial). b.command) (sym (serial_same (serial_of worker k) w.0.by f.1 ∙ (of.did.by ∙ of.is.by))) in
-          let at : slice_get (steps_of workers worker) k ≡ Some of.step = subst (λ i. slice_get (steps_of workers worker) i ≡ Some of.step) same of.at in
-          (of.step, at, word_shown worker k of.step w.0.group n at (of.did.word n (cited_by_walk w.0.answer w.2)))
+    of_walk : Has (flat_map (λ (w : WalkRecord). walk_cited w.answer) (walks_by r (serial_of worker k))) n → (x : Step) × (slice_get (steps_of workers worker) k ≡ Some x) × WasShown x.after n
+    of_walk h =
+        let w = flat_map_has (λ (v : WalkRecord). walk_cited v.answer) (walks_by r (serial_of worker k)) n h in
+        let f = filter_has (λ (v : WalkRecord). is_serial (serial_of worker k) v.by) (walks_of r worker) w.0 w.1 in
+        let j = contains_slice (walks_of r worker) w.0 (Contains_from_Has (walks_of r worker) w.0 f.0) in
+        let of = walk_of s r workers run worker j.0 w.0 j.1 in
+        let same : of.k ≡ k = ap (λ (b : Serial). b.command) (sym (serial_same (serial_of worker k) w.0.by f.1 ∙ (of.did.by ∙ of.is.by))) in
+        let at : slice_get (steps_of workers worker) k ≡ Some of.step = subst (λ i. slice_get (steps_of workers worker) i ≡ Some of.step) same of.at in
+        (of.step, at, word_shown worker k of.step w.0.group n at (of.did.word n (cited_by_walk w.0.answer w.2)))
 
   -- what is shown is among what is known once a HasChildren was told
   below_told : (y : Step) (z : Reply) → by.IsCausedBy s y z → (n : ℕ) → WasShown y.after n → AllByRecursion (λ m. n < m) (tree_told z)
-  below_told y (reply.HasChildren child entry) h n shown = (omega (arith, h.all, within), tt)
-    where
-      within : n < length y.after.tree.known
-      within = ⊎_elim (λ a. slice_get_within y.after.tree.known n (Begin a.0) (begin_at y.after.tree.known a.0 n (all_among (IsNamed (script_hierarchy s) y.after.tree.known) y.after.tree.loaded (record { group = a.0; state = state.Offline n }) h.shown a.1).1))
-          (λ d. slice_get_within y.after.tree.known n d.0 d.1) shown
+  below_told y (reply.HasChildren child entry) h n shown = (omega (arith, h.all, within), tt) where
+    within : n < length y.after.tree.known
+    within = ⊎_elim (λ a. slice_get_within y.after.tree.known n (Begin a.0) (begin_at y.after.tree.known a.0 n (all_among (IsNamed (script_hierarchy s) y.after.tree.known) y.after.tree.loaded (record { group = a.0; state = state.Offline n }) h.shown a.1).1))
+        (λ d. slice_get_within y.after.tree.known n d.0 d.1) shown
   below_told y z h n shown = tt
 
   tree_shown : (worker k later : ℕ) → k < later → AreBelow (shown_by r (serial_of worker k)) (of_answer r (serial_of worker later) tree_seen)
@@ -187,11 +174,10 @@ module _ (s : Script) (r : Report) (workers : List (List Step)) (run : IsRun s r
       (λ n has. let x = shown_has worker k n has in
       below_told y.0 y.0.answered.reply (run.steps.each worker later y.0 y.1).did.cause n
       (shown_grows x.0.after y.0.after n (grows_then x.0.after y.0.before y.0.after (grows s r workers run worker k later x.0 y.0 lt x.1 y.1) (step_grows y.0 (work_of s r workers run worker later y.0 y.1))) x.2))))
-      (λ none. subst (AreBelow (shown_by r (serial_of worker k))) (sym (none_given worker later tree_seen none)) (below_none (shown_by r (serial_of worker k)))) (step_cases worker later)
-    where
-      all_has : (P : ℕ → Type 0) (ns : List ℕ) → ((n : ℕ) → Has ns n → P n) → AllByRecursion P ns
-      all_has P [] h = tt
-      all_has P (n ∷ ns) h = (h n (inl refl), all_has P ns (λ m has. h m (inr has)))
+      (λ none. subst (AreBelow (shown_by r (serial_of worker k))) (sym (none_given worker later tree_seen none)) (below_none (shown_by r (serial_of worker k)))) (step_cases worker later) where
+        all_has : (P : ℕ → Type 0) (ns : List ℕ) → ((n : ℕ) → Has ns n → P n) → AllByRecursion P ns
+        all_has P [] h = tt
+        all_has P (n ∷ ns) h = (h n (inl refl), all_has P ns (λ m has. h m (inr has)))
 
   -- ---- a group that is known to be offline
   any_has : {A : Type 0} (test : A → Bool) (xs : List A) → list_any test xs ≡ true → (x : A) × Has xs x × (test x ≡ true)
@@ -202,20 +188,18 @@ module _ (s : Script) (r : Report) (workers : List (List Step)) (run : IsRun s r
   ]
 
   begin_there : (group n : ℕ) → is_begin_at r group n ≡ true → slice_get r.tree.items n ≡ Some (Begin group)
-  begin_there group n h = by_cases (slice_get r.tree.items n) refl
-    where
-      by_cases : (o : Option TreeEntry) → slice_get r.tree.items n ≡ o → slice_get r.tree.items n ≡ Some (Begin group)
-      by_cases None e = absurd (let f : false ≡ true = sym (ap (λ o. list_any (is_begin group) (option_to_list o)) e) ∙ h in cc)
-      by_cases (Some x) e = let t = any_has (is_begin group) (x ∷ []) (sym (ap (λ o. list_any (is_begin group) (option_to_list o)) e) ∙ h) in
-          e ∙ ap Some (⊎_elim (λ same. same ∙ is_begin_of group t.0 t.2) (λ none. absurd none) t.1)
+  begin_there group n h = by_cases (slice_get r.tree.items n) refl where
+    by_cases : (o : Option TreeEntry) → slice_get r.tree.items n ≡ o → slice_get r.tree.items n ≡ Some (Begin group)
+    by_cases None e = absurd (let f : false ≡ true = sym (ap (λ o. list_any (is_begin group) (option_to_list o)) e) ∙ h in cc)
+    by_cases (Some x) e = let t = any_has (is_begin group) (x ∷ []) (sym (ap (λ o. list_any (is_begin group) (option_to_list o)) e) ∙ h) in
+        e ∙ ap Some (⊎_elim (λ same. same ∙ is_begin_of group t.0 t.2) (λ none. absurd none) t.1)
 
   done_there : (group n : ℕ) → is_done_at r group n ≡ true → slice_get r.tree.items n ≡ Some (Done group)
-  done_there group n h = by_cases (slice_get r.tree.items n) refl
-    where
-      by_cases : (o : Option TreeEntry) → slice_get r.tree.items n ≡ o → slice_get r.tree.items n ≡ Some (Done group)
-      by_cases None e = absurd (let f : false ≡ true = sym (ap (λ o. list_any (is_done group) (option_to_list o)) e) ∙ h in cc)
-      by_cases (Some x) e = let t = any_has (is_done group) (x ∷ []) (sym (ap (λ o. list_any (is_done group) (option_to_list o)) e) ∙ h) in
-          e ∙ ap Some (⊎_elim (λ same. same ∙ is_done_of group t.0 t.2) (λ none. absurd none) t.1)
+  done_there group n h = by_cases (slice_get r.tree.items n) refl where
+    by_cases : (o : Option TreeEntry) → slice_get r.tree.items n ≡ o → slice_get r.tree.items n ≡ Some (Done group)
+    by_cases None e = absurd (let f : false ≡ true = sym (ap (λ o. list_any (is_done group) (option_to_list o)) e) ∙ h in cc)
+    by_cases (Some x) e = let t = any_has (is_done group) (x ∷ []) (sym (ap (λ o. list_any (is_done group) (option_to_list o)) e) ∙ h) in
+        e ∙ ap Some (⊎_elim (λ same. same ∙ is_done_of group t.0 t.2) (λ none. absurd none) t.1)
 
   -- an entry that a word tells of is the Begin of its group
   told_stands : (worker k : ℕ) (x : Step) (group n : ℕ) → slice_get (steps_of workers worker) k ≡ Some x → IsAmong (record { group = group; state = state.Offline n }) x.after.tree.loaded → slice_get r.tree.items n ≡ Some (Begin group)
@@ -245,22 +229,21 @@ module _ (s : Script) (r : Report) (workers : List (List Step)) (run : IsRun s r
   knows_offline worker k x group u e g shows online = elim (cases_Bool (shows_begin r (serial_of worker k) group)) [
     | inl begins ↦ from_begin (any_has (is_begin_at r group) (shown_by r (serial_of worker k)) begins)
     | inr not_it ↦ from_done (any_has (is_done_at r group) (shown_by r (serial_of worker k)) (sym (ap (λ b. b || list_any (is_done_at r group) (shown_by r (serial_of worker k))) not_it) ∙ shows))
-  ]
-    where
-      own : (n : ℕ) → Has (shown_by r (serial_of worker k)) n → WasShown x.after n
-      own n has = let t = shown_has worker k n has in subst (λ (z : Step). WasShown z.after n) (same_Some t.0 x (sym t.1 ∙ e)) t.2
+  ] where
+    own : (n : ℕ) → Has (shown_by r (serial_of worker k)) n → WasShown x.after n
+    own n has = let t = shown_has worker k n has in subst (λ (z : Step). WasShown z.after n) (same_Some t.0 x (sym t.1 ∙ e)) t.2
 
-      from_begin : (n : ℕ) × Has (shown_by r (serial_of worker k)) n × (is_begin_at r group n ≡ true) → ⊥
-      from_begin (n, has, is) = not_online worker k x group n u e g (begin_there group n is) (own n has) online
+    from_begin : (n : ℕ) × Has (shown_by r (serial_of worker k)) n × (is_begin_at r group n ≡ true) → ⊥
+    from_begin (n, has, is) = not_online worker k x group n u e g (begin_there group n is) (own n has) online
 
-      from_done : (n : ℕ) × Has (shown_by r (serial_of worker k)) n × (is_done_at r group n ≡ true) → ⊥
-      from_done (n, has, is) =
-          let stands = done_there group n is in
-          let below = done_was worker k x group n e stands (own n has) in
-          let b = begun_before (script_hierarchy s) run.uses.hierarchy r.tree.items run.uses.tree group n stands in
-          let known = slice_begins x.after.tree.known r.tree.items b.0 (Begin group) (run.steps.shown worker k x e).tree (omega (arith, b.2, below)) b.1 in
-          let there = begins_slice x.after.tree.known u.tree.known b.0 (Begin group) g.tree known in
-          let f = begin_found u.tree.known group b.0 there in online.known f.0 f.1
+    from_done : (n : ℕ) × Has (shown_by r (serial_of worker k)) n × (is_done_at r group n ≡ true) → ⊥
+    from_done (n, has, is) =
+        let stands = done_there group n is in
+        let below = done_was worker k x group n e stands (own n has) in
+        let b = begun_before (script_hierarchy s) run.uses.hierarchy r.tree.items run.uses.tree group n stands in
+        let known = slice_begins x.after.tree.known r.tree.items b.0 (Begin group) (run.steps.shown worker k x e).tree (omega (arith, b.2, below)) b.1 in
+        let there = begins_slice x.after.tree.known u.tree.known b.0 (Begin group) g.tree known in
+        let f = begin_found u.tree.known group b.0 there in online.known f.0 f.1
 
   -- a group of which something is shown is below the root
   pub below_root : (worker k group : ℕ) → shows_offline r (serial_of worker k) group ≡ true → 0 < group
@@ -268,29 +251,27 @@ module _ (s : Script) (r : Report) (workers : List (List Step)) (run : IsRun s r
     | inl begins ↦ let t = any_has (is_begin_at r group) (shown_by r (serial_of worker k)) begins in (begin_may group t.0 (begin_there group t.0 t.2)).below
     | inr not_it ↦ let t = any_has (is_done_at r group) (shown_by r (serial_of worker k)) (sym (ap (λ b. b || list_any (is_done_at r group) (shown_by r (serial_of worker k))) not_it) ∙ shows) in
         let b = begun_before (script_hierarchy s) run.uses.hierarchy r.tree.items run.uses.tree group t.0 (done_there group t.0 t.2) in (begin_may group b.0 b.1).below
-  ]
-    where
-      begin_may : (g n : ℕ) → slice_get r.tree.items n ≡ Some (Begin g) → MayBegin (script_hierarchy s) (take n r.tree.items) g
-      begin_may g n stands = run.uses.tree n (Begin g) stands
+  ] where
+    begin_may : (g n : ℕ) → slice_get r.tree.items n ≡ Some (Begin g) → MayBegin (script_hierarchy s) (take n r.tree.items) g
+    begin_may g n stands = run.uses.tree n (Begin g) stands
 
   refused : (worker k later group : ℕ) → k < later → shows_offline r (serial_of worker k) group ≡ true → option_and_then asks_online (command_at s (serial_of worker later)) ≡ Some group → IsSomeAnd (reply_at r (serial_of worker later)) MayBeOffline
-  refused worker k later group lt shows asks = by_cases (command_at s (serial_of worker later)) refl
-    where
-      shown_step : (x : Step) × (slice_get (steps_of workers worker) k ≡ Some x)
-      shown_step = elim (cases_Bool (shows_begin r (serial_of worker k) group)) [
-        | inl begins ↦ let t = any_has (is_begin_at r group) (shown_by r (serial_of worker k)) begins in let u = shown_has worker k t.0 t.1 in (u.0, u.1)
-        | inr not_it ↦ let t = any_has (is_done_at r group) (shown_by r (serial_of worker k)) (sym (ap (λ b. b || list_any (is_done_at r group) (shown_by r (serial_of worker k))) not_it) ∙ shows) in let u = shown_has worker k t.0 t.1 in (u.0, u.1)
-      ]
+  refused worker k later group lt shows asks = by_cases (command_at s (serial_of worker later)) refl where
+    shown_step : (x : Step) × (slice_get (steps_of workers worker) k ≡ Some x)
+    shown_step = elim (cases_Bool (shows_begin r (serial_of worker k) group)) [
+      | inl begins ↦ let t = any_has (is_begin_at r group) (shown_by r (serial_of worker k)) begins in let u = shown_has worker k t.0 t.1 in (u.0, u.1)
+      | inr not_it ↦ let t = any_has (is_done_at r group) (shown_by r (serial_of worker k)) (sym (ap (λ b. b || list_any (is_done_at r group) (shown_by r (serial_of worker k))) not_it) ∙ shows) in let u = shown_has worker k t.0 t.1 in (u.0, u.1)
+    ]
 
-      by_cases : (o : Option Command) → command_at s (serial_of worker later) ≡ o → IsSomeAnd (reply_at r (serial_of worker later)) MayBeOffline
-      by_cases None e = absurd (none-some group (sym (ap (option_and_then asks_online) e) ∙ asks))
-      by_cases (Some c) e =
-          let y = command_step s r workers run worker later c e in
-          let x = shown_step in
-          let asked : option_and_then asks_online y.0.command ≡ Some group = ap (option_and_then asks_online) (sym (run.steps.each worker later y.0 y.1).command) ∙ asks in
-          subst (λ o. IsSomeAnd o MayBeOffline) (sym (reply_is s r workers run worker later y.0 y.1))
-          (⊎_elim (λ may. may) (λ online. absurd (knows_offline worker k x.0 group y.0.before x.1 (grows s r workers run worker k later x.0 y.0 lt x.1 y.1) shows online))
-          ((run.steps.each worker later y.0 y.1).did.tree.online group asked (below_root worker k group shows)))
+    by_cases : (o : Option Command) → command_at s (serial_of worker later) ≡ o → IsSomeAnd (reply_at r (serial_of worker later)) MayBeOffline
+    by_cases None e = absurd (none-some group (sym (ap (option_and_then asks_online) e) ∙ asks))
+    by_cases (Some c) e =
+        let y = command_step s r workers run worker later c e in
+        let x = shown_step in
+        let asked : option_and_then asks_online y.0.command ≡ Some group = ap (option_and_then asks_online) (sym (run.steps.each worker later y.0 y.1).command) ∙ asks in
+        subst (λ o. IsSomeAnd o MayBeOffline) (sym (reply_is s r workers run worker later y.0 y.1))
+        (⊎_elim (λ may. may) (λ online. absurd (knows_offline worker k x.0 group y.0.before x.1 (grows s r workers run worker k later x.0 y.0 lt x.1 y.1) shows online))
+        ((run.steps.each worker later y.0 y.1).did.tree.online group asked (below_root worker k group shows)))
 
   first : (worker k group : ℕ) → ((by : Serial) → IsOffline s r by group MayHaveBegun → (by.worker ≡ worker) × (k < by.command)) → shows_begin r (serial_of worker k) group ≡ false
   first worker k group all_later = no_test (shows_begin r (serial_of worker k) group) (λ shows.
@@ -315,22 +296,21 @@ module _ (s : Script) (r : Report) (workers : List (List Step)) (run : IsRun s r
   made worker k later group lt shows told = ⊎_elim
       (λ x. ⊎_elim (λ y. met_then x.0 x.1 y.0 y.1) (λ none. none-some (reply.NotMade group) (sym (ap (option_map (λ (a : Answered). a.reply)) none) ∙ told)) (step_cases worker later))
       (λ none. nothing_shown (command_at s (serial_of worker k)) group (sym (ap (λ (o : Option Answered). option_and_then (λ c. option_and_then (made_shown c) (option_map (λ (a : Answered). a.reply) o)) (command_at s (serial_of worker k))) none) ∙ shows))
-      (step_cases worker k)
-    where
-      met_then : (x : Step) → slice_get (steps_of workers worker) k ≡ Some x → (y : Step) → slice_get (steps_of workers worker) later ≡ Some y → ⊥
-      met_then x at_x y at_y =
-          let is = run.steps.each worker k x at_x in
-          let shown : option_and_then (λ c. made_shown c x.answered.reply) x.command ≡ Some group =
-          sym (ap (option_and_then (λ c. option_and_then (made_shown c) (reply_at r (serial_of worker k)))) is.command
-          ∙ ap (λ (o : Option Reply). option_and_then (λ c. option_and_then (made_shown c) o) x.command) (reply_is s r workers run worker k x at_x)) ∙ shows in
-          let unmade = (run.steps.each worker later y at_y).did.tree.meets.unmade group (same_Some y.answered.reply (reply.NotMade group) (sym (reply_is s r workers run worker later y at_y) ∙ told)) in
-          let g = grows s r workers run worker k later x y lt at_x at_y in
-          ⊎_elim
-          (λ made. let no : false ≡ true = sym unmade.known ∙ subst (λ (l : List TreeEntry). is_made (script_hierarchy s) l group ≡ true) (sym g.tree.1) (is_made_grows (script_hierarchy s) x.after.tree.known g.tree.0 group made) in absurd (cc))
-          (λ m. let l : LoadedState = record { group = group; state = m.0 } in
-          let among = among_begins x.after.tree.loaded y.before.tree.loaded l g.words (subst (IsAmong l) (sym (work_of s r workers run worker k x at_x).words) (among_right x.before.tree.loaded x.work.words l m.2)) in
-          let no : false ≡ true = sym (all_among (λ (z : LoadedState). z.group ≡ group → is_there z.state ≡ false) y.before.tree.loaded l unmade.loaded among refl) ∙ m.1 in absurd (cc))
-          (is.did.tree.meets.met group shown)
+      (step_cases worker k) where
+        met_then : (x : Step) → slice_get (steps_of workers worker) k ≡ Some x → (y : Step) → slice_get (steps_of workers worker) later ≡ Some y → ⊥
+        met_then x at_x y at_y =
+            let is = run.steps.each worker k x at_x in
+            let shown : option_and_then (λ c. made_shown c x.answered.reply) x.command ≡ Some group =
+            sym (ap (option_and_then (λ c. option_and_then (made_shown c) (reply_at r (serial_of worker k)))) is.command
+            ∙ ap (λ (o : Option Reply). option_and_then (λ c. option_and_then (made_shown c) o) x.command) (reply_is s r workers run worker k x at_x)) ∙ shows in
+            let unmade = (run.steps.each worker later y at_y).did.tree.meets.unmade group (same_Some y.answered.reply (reply.NotMade group) (sym (reply_is s r workers run worker later y at_y) ∙ told)) in
+            let g = grows s r workers run worker k later x y lt at_x at_y in
+            ⊎_elim
+            (λ made. let no : false ≡ true = sym unmade.known ∙ subst (λ (l : List TreeEntry). is_made (script_hierarchy s) l group ≡ true) (sym g.tree.1) (is_made_grows (script_hierarchy s) x.after.tree.known g.tree.0 group made) in absurd (cc))
+            (λ m. let l : LoadedState = record { group = group; state = m.0 } in
+            let among = among_begins x.after.tree.loaded y.before.tree.loaded l g.words (subst (IsAmong l) (sym (work_of s r workers run worker k x at_x).words) (among_right x.before.tree.loaded x.work.words l m.2)) in
+            let no : false ≡ true = sym (all_among (λ (z : LoadedState). z.group ≡ group → is_there z.state ≡ false) y.before.tree.loaded l unmade.loaded among refl) ∙ m.1 in absurd (cc))
+            (is.did.tree.meets.met group shown)
 
   pub fresh_law : IsFresh s r
   fresh_law = record {

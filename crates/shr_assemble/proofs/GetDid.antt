@@ -5,8 +5,7 @@ use Rattle.shr_base.specs.declared.replies.Spent.TheVariants as spent
 use Rattle.shr_node.specs.declared.answers.NodeLook.{NodeLook}
 use Rattle.shr_node.specs.declared.answers.NodeLook.TheVariants as look
 use Rattle.shr_cache.specs.Gets.{LooksUp, GotFrom, GotAs, GetGives}
-use Rattle.shr_assemble.proofs.Quiet.{HasDid, some_met}
-use Rattle.shr_assemble.proofs.QuietSteps.{AreTables}
+use Rattle.shr_assemble.proofs.QuietSteps.{HasDid, some_met, AreTables}
 use Rattle.shr_assemble.proofs.QuietTenant.{IsTenant, group_in, refused_did, acted_did, stood_did, stood_step, cites_is, items_is, list_worn}
 
 -- what was found holds its key

@@ -1,18 +1,15 @@
 -- The carries of a group's places: in order, each at a place that is there, and together what was taken.
-use Rattle.shr_assemble.proofs.Common.{◌≡◌, ℕ, zero, suc, ◌+◌, ◌<◌, ◌≤◌, inl, inr, ⊎_elim, Bool, true, false, cond, List, [], ◌∷◌, ◌++◌, length, map, refl, sym, ap, subst, ◌∙◌, arith, ◌==◌, ◌*◌, ◌/◌, ◌%◌, AllPairs, sum, sum_by, AllByRecursion, range_with_len, eqb-true, cases_lt, All-from_recursion, AllPairs-cons, sum_by-cons, PlaceAmount, Place, Serial, Carry, total, total-append, Shape, carry_noted, carries_noted, IsBefore, sum_total, above_zero}
-use Rattle.shr_offline.specs.Carries.{amount_taken}
+use Rattle.shr_assemble.proofs.Common.{◌≡◌, ℕ, zero, suc, ◌+◌, ◌<◌, ◌≤◌, inl, inr, ⊎_elim, Bool, true, false, cond, List, [], ◌∷◌, ◌++◌, length, map, refl, sym, ap, subst, ◌∙◌, arith, ◌==◌, ◌*◌, ◌/◌, ◌%◌, AllPairs, sum, sum_by, AllByRecursion, range_with_len, eqb-true, cases_lt, All-from_recursion, AllPairs-cons, sum_by-cons, PlaceAmount, Place, Serial, Carry, total, total-append, Shape, carry_noted, carries_noted, IsBefore, sum_total, above_zero, amount_taken, place_by_number}
 use Rattle.shr_offline.specs.Carries as carry
-use Rattle.shr_offline.specs.Splices.{place_by_number}
 
 -- ---- what was noted is what was taken
 
 noted_sum : (by : Serial) (amounts : List PlaceAmount) → total (λ (c : Carry). c.amount) (carries_noted by amounts) ≡ sum (map amount_taken amounts)
 noted_sum by [] = refl
-noted_sum by (a ∷ more) = omega (arith, total-append (λ (c : Carry). c.amount) (carry_noted by a) (carries_noted by more), noted_sum by more, one (a.amount == 0) refl, sum_by-cons (λ (n : ℕ). n) a.amount (map amount_taken more))
-  where
-    one : (b : Bool) → (a.amount == 0) ≡ b → total (λ (c : Carry). c.amount) (cond b [] (record { by = by; place = a.place; amount = a.amount } ∷ [])) ≡ a.amount
-    one true e = sym (eqb-true a.amount 0 e)
-    one false e = omega arith
+noted_sum by (a ∷ more) = omega (arith, total-append (λ (c : Carry). c.amount) (carry_noted by a) (carries_noted by more), noted_sum by more, one (a.amount == 0) refl, sum_by-cons (λ (n : ℕ). n) a.amount (map amount_taken more)) where
+  one : (b : Bool) → (a.amount == 0) ≡ b → total (λ (c : Carry). c.amount) (cond b [] (record { by = by; place = a.place; amount = a.amount } ∷ [])) ≡ a.amount
+  one true e = sym (eqb-true a.amount 0 e)
+  one false e = omega arith
 
 pub carried_sum : (by : Serial) (amounts : List PlaceAmount) → sum (map amount_taken amounts) ≡ sum_by (λ (c : Carry). c.amount) (carries_noted by amounts)
 carried_sum by amounts = sym (sum_total (λ (c : Carry). c.amount) (carries_noted by amounts) ∙ noted_sum by amounts)
@@ -36,11 +33,8 @@ AreInRow shape by group low high (c ∷ cs) = (h : IsCarryAt shape by group low 
 -- the id and the node of a number are there
 pub row_of : (nodes ids n : ℕ) → nodes ≤ 4 → n < ids * nodes → (n / nodes < ids) × (n % nodes < nodes)
 row_of zero ids n most lt = absurd (omega (arith, lt))
-row_of (suc zero) ids n most lt = (omega (arith, lt), omega arith)
-row_of (suc (suc zero)) ids n most lt = (omega (arith, lt), omega arith)
-row_of (suc (suc (suc zero))) ids n most lt = (omega (arith, lt), omega arith)
-row_of (suc (suc (suc (suc zero)))) ids n most lt = (omega (arith, lt), omega arith)
 row_of (suc (suc (suc (suc (suc k))))) ids n most lt = absurd (omega (arith, most))
+row_of nodes ids n most lt = (omega (arith, lt), omega arith)
 
 module _ (shape : Shape) (by : Serial) (group high : ℕ) where
   lower : (low least : ℕ) (cs : List Carry) → least ≤ low → AreInRow shape by group low high cs → AreInRow shape by group least high cs
@@ -58,11 +52,10 @@ module _ (shape : Shape) (by : Serial) (group high : ℕ) where
   pub in_row : (n k : ℕ) (amounts : List PlaceAmount) → n + k ≡ high → map carry.amount_place amounts ≡ map (place_by_number shape group) (range_with_len n k) → AreInRow shape by group n high (carries_noted by amounts)
   in_row n k [] end same = tt
   in_row n zero (a ∷ more) end same = absurd (let f = ap (λ (l : List Place). length l) same in omega (arith, f))
-  in_row n (suc k) (a ∷ more) end same = by_test (a.amount == 0) refl (in_row (n + 1) k more (omega (arith, end)) (ap others same))
-    where
-      by_test : (b : Bool) → (a.amount == 0) ≡ b → AreInRow shape by group (n + 1) high (carries_noted by more) → AreInRow shape by group n high (cond b [] (record { by = by; place = a.place; amount = a.amount } ∷ []) ++ carries_noted by more)
-      by_test true none rest = lower (n + 1) n (carries_noted by more) (omega arith) rest
-      by_test false some rest = (record { number = n; reached = omega arith; within = omega (arith, end); own = refl; place = ap (first a.place) same; some = above_zero a.amount some }, rest)
+  in_row n (suc k) (a ∷ more) end same = by_test (a.amount == 0) refl (in_row (n + 1) k more (omega (arith, end)) (ap others same)) where
+    by_test : (b : Bool) → (a.amount == 0) ≡ b → AreInRow shape by group (n + 1) high (carries_noted by more) → AreInRow shape by group n high (cond b [] (record { by = by; place = a.place; amount = a.amount } ∷ []) ++ carries_noted by more)
+    by_test true none rest = lower (n + 1) n (carries_noted by more) (omega arith) rest
+    by_test false some rest = (record { number = n; reached = omega arith; within = omega (arith, end); own = refl; place = ap (first a.place) same; some = above_zero a.amount some }, rest)
 
   pub each_in_row : (low : ℕ) (cs : List Carry) → AreInRow shape by group low high cs → AllByRecursion (IsCarryAt shape by group low high) cs
   each_in_row low [] h = tt

@@ -2,12 +2,9 @@
 use Rattle.shr_assemble.proofs.Common.{◌≡◌, ℕ, ◌<◌, ◌≤◌, ⊎_elim, true, false, List, length, sym, ap, subst, ◌∙◌, arith, length-append, slice_get, Some, option_and_then, AllByRecursion, IsSomeAnd, cases_lt, eqb-true, same_Some, slice_get_within, dite, ℕ_discrete, Done, Serial, Reply, Script, Carry, group_named, done_at, Report, serial_of, reply_at, all_carries, is_done_by, StandsInTree, IsCausedBy, IsDoneKnown, DidCarry, IsEnded, IsEntryOf, Step, IsAmong, steps_of, IsRun, by_slices, some_at, IsDoneElsewhere}
 use Rattle.shr_base.specs.declared.replies.Reply.TheVariants as reply
 use Rattle.shr_charge.specs.Views as charge
-use Rattle.shr_assemble.proofs.Flattening.{all_carries_are}
-use Rattle.shr_assemble.proofs.Gathering.{has_step, same_step}
-use Rattle.shr_assemble.proofs.Listed.{all_among, begins_slice, slice_begins}
-use Rattle.shr_assemble.proofs.Makers.{EntryMaker, entry_maker}
-use Rattle.shr_assemble.proofs.Making.{grows, reply_is}
-use Rattle.shr_assemble.proofs.Shown.{tree_stands}
+use Rattle.shr_assemble.proofs.Listed.{all_carries_are, all_among, begins_slice, slice_begins}
+use Rattle.shr_assemble.proofs.Gathering.{has_step, same_step, grows, reply_is}
+use Rattle.shr_assemble.proofs.JournalsLaw.{EntryMaker, entry_maker, tree_stands}
 
 -- a worker knows at a command's end the Done that its answer tells as its own
 knows_done : (s : Script) (y : Step) (n : ℕ) (x : Reply) → is_done_by n x ≡ true → IsCausedBy s y x → n < length y.after.tree.known

@@ -1,6 +1,5 @@
 -- What splicing all lists of a group moved is the sum over the entries that were made.
-use Rattle.shr_assemble.proofs.Common.{◌≡◌, ℕ, suc, ◌+◌, ◌<◌, Bool, true, false, cond, List, [], ◌∷◌, length, map, refl, ap, arith, ne_eqb, ◌==◌, All, AllPairs, sum_by, slice_index_or, eqb-true, total, total-append, View, Shape, Made, Closing, made_by_closings, AreSpliced, moved_of, sum_total, IsSpliced, moved_from_group}
-use Rattle.shr_offline.specs.Splices.{place_by_number}
+use Rattle.shr_assemble.proofs.Common.{◌≡◌, ℕ, suc, ◌+◌, ◌<◌, Bool, true, false, cond, List, [], ◌∷◌, length, map, refl, ap, arith, ne_eqb, ◌==◌, All, AllPairs, sum_by, slice_index_or, eqb-true, total, total-append, View, Shape, Made, Closing, made_by_closings, AreSpliced, moved_of, sum_total, IsSpliced, moved_from_group, place_by_number}
 use Rattle.shr_assemble.proofs.QuietSplices.{IsSplicedTo}
 
 -- how much an entry moved in from a group
@@ -25,12 +24,11 @@ module _ (parents : List ℕ) (id node group : ℕ) where
   -- each child was closed once
   once : (cs : List Closing) → AllPairs (λ (a b : Closing). b.child < a.child) cs → total one_of cs ≡ moved_from_group group cs
   once [] h = refl
-  once (c ∷ cs) h = by_test (once cs (λ i j d lt within. h (suc i) (suc j) d (omega (arith, lt)) (omega (arith, within)))) (c.child == group) refl
-    where
-      by_test : total one_of cs ≡ moved_from_group group cs → (b : Bool) → (c.child == group) ≡ b → cond b (length c.items) 0 + total one_of cs ≡ cond b (length c.items) (moved_from_group group cs)
-      by_test more true e = let same : c.child ≡ group = eqb-true c.child group e in
-          let r = none_below cs (λ j d lt. let f : (slice_index_or cs j d).child < c.child = h 0 (suc j) d (omega arith) (omega (arith, lt)) in omega (arith, f, same)) in omega (arith, r)
-      by_test more false e = omega (arith, more)
+  once (c ∷ cs) h = by_test (once cs (λ i j d lt within. h (suc i) (suc j) d (omega (arith, lt)) (omega (arith, within)))) (c.child == group) refl where
+    by_test : total one_of cs ≡ moved_from_group group cs → (b : Bool) → (c.child == group) ≡ b → cond b (length c.items) 0 + total one_of cs ≡ cond b (length c.items) (moved_from_group group cs)
+    by_test more true e = let same : c.child ≡ group = eqb-true c.child group e in
+        let r = none_below cs (λ j d lt. let f : (slice_index_or cs j d).child < c.child = h 0 (suc j) d (omega arith) (omega (arith, lt)) in omega (arith, f, same)) in omega (arith, r)
+    by_test more false e = omega (arith, more)
 
 -- what splices moved is what their entries weigh
 module _ (shape : Shape) (group : ℕ) where

@@ -1,25 +1,27 @@
 -- What an offline did whose call handed all over, whatever the end of it answered.
-use Rattle.shr_assemble.proofs.Common.{◌≡◌, ℕ, ◌<◌, ◌≤◌, List, [], ◌∷◌, ◌++◌, length, map, refl, sym, ap, subst, ◌∙◌, arith, true, inr, ◌*◌, ◌/◌, None, slice_get, Contains, All, sum, sum_by, ◌%◌, ◌^◌, Some, AllByRecursion, range_with_len, All-append, All-from_recursion, Contains-append_left, none-some, PlaceAmount, TreeEntry, Begin, Done, Place, Serial, Reply, Carry, Family, IsTree, given_at, Begins, Shape, View, nothing, groups_in, hierarchy_of, shape_of, gave, TreeView, Moves, both, carry_moves, carries_noted, AreSpliced, IsWithin, content_of, within_of_valid, is_made, is_made_grows, Shared, WorkerState, Work, no_work, then_work, Does, does_none, does_then, parents_of, cited_by, IsThere, MayHaveBegun, HasCarried, pool_told, pool_made, is_past_group, IsReply, Step, IsCausedBy, DidCarry, MayMakeEntry, IsEntryOf, places_offlined}
+use Rattle.shr_assemble.proofs.Common.{◌≡◌, ℕ, ◌<◌, ◌≤◌, List, [], ◌∷◌, ◌++◌, length, map, refl, sym, ap, subst, ◌∙◌, arith, true, inr, ◌*◌, ◌/◌, None, slice_get, Contains, All, sum, sum_by, ◌%◌, ◌^◌, Some, AllByRecursion, range_with_len, All-append, All-from_recursion, Contains-append_left, none-some, PlaceAmount, TreeEntry, Begin, Done, Place, Serial, Reply, Carry, Family, IsTree, given_at, Begins, Shape, View, nothing, groups_in, hierarchy_of, shape_of, gave, TreeView, Moves, both, carry_moves, carries_noted, AreSpliced, IsWithin, content_of, within_of_valid, is_made, is_made_grows, Shared, WorkerState, Work, no_work, then_work, Does, does_none, does_then, parents_of, cited_by, IsThere, MayHaveBegun, HasCarried, pool_told, pool_made, is_past_group, IsReply, Step, IsCausedBy, DidCarry, MayMakeEntry, IsEntryOf, places_offlined, TreeMade, amount_taken, place_by_number, count_of_places, all_places, length-append, take, eq-eqb, All-nil, Hierarchy, IsAtOrAbove, MayBegin, IsTreeJournal, IsAtOrAbove-refl, Answered}
+use Rattle.shr_assemble.proofs.ScriptGroups.{sized_of}
 use Rattle.shr_base.specs.declared.scripts.Command.TheVariants as command
 use Rattle.shr_core.specs.Parts as core
-use Rattle.shr_charge.specs.Views.{TreeMade}
 use Rattle.shr_charge.specs.declared.answers.DoneAnswer.{DoneAnswer}
-use Rattle.shr_offline.specs.Carries.{amount_taken}
 use Rattle.shr_offline.specs.Carries as carry
-use Rattle.shr_offline.specs.Splices.{place_by_number, count_of_places, all_places}
 use Rattle.shr_offline.specs.Offlined.{AreClosed, HandsOver}
-use Rattle.shr_assemble.proofs.ScriptSizes.{sized_of}
-use Rattle.shr_assemble.proofs.Bringing.{brings_of}
-use Rattle.shr_assemble.proofs.Quiet.{step_of, HasDid, calm_walks, still_charges, still_pool, IsToldOnce, some_met}
-use Rattle.shr_assemble.proofs.QuietSteps.{AreTables, tree_is, known_meets}
-use Rattle.shr_assemble.proofs.QuietTenant.{without, unfound_lookups}
-use Rattle.shr_assemble.proofs.QuietDrains.{each_rec}
+use Rattle.shr_assemble.proofs.QuietTenant.{brings_of, without, unfound_lookups}
+use Rattle.shr_assemble.proofs.QuietSteps.{step_of, HasDid, calm_walks, still_charges, still_pool, IsToldOnce, some_met, AreTables, tree_is, known_meets}
+use Rattle.shr_assemble.proofs.QuietSplices.{each_rec, IsSpliceEntry, IsSplicedTo, spliced_all}
 use Rattle.shr_assemble.proofs.Filling.{set_filled}
-use Rattle.shr_assemble.proofs.QuietSplices.{IsSpliceEntry, IsSplicedTo, spliced_all}
-use Rattle.shr_assemble.proofs.QuietCarries.{carried_taken, carried_given, told_handed}
-use Rattle.shr_assemble.proofs.OfflineDid.{giving, HasBegunTo, splices_freed, splices_may}
+use Rattle.shr_assemble.proofs.QuietCarries.{carried_taken, carried_given, told_handed, takes_are}
+use Rattle.shr_assemble.proofs.OfflineDid.{giving, HasBegunTo, spliced_freed, spliced_may, IsHandless}
 use Rattle.shr_assemble.proofs.HandedMoved.{moved_by, moved_sum}
-use Rattle.shr_assemble.proofs.HandedCarries.{IsCarryAt, AreInRow, in_row, each_in_row, rising, row_of}
+use Rattle.shr_assemble.proofs.HandedCarries.{IsCarryAt, AreInRow, in_row, each_in_row, rising, row_of, carried_sum}
+use Rattle.shr_base.specs.declared.replies.Reply.TheVariants as reply
+use Rattle.shr_charge.specs.declared.answers.DoneAnswer.TheVariants as ended
+use Rattle.shr_offline.specs.Offlined as offlined
+use Rattle.shr_assemble.proofs.Gathering.{among_right}
+use Rattle.shr_assemble.proofs.Listed.{contains_slice}
+use Rattle.shr_assemble.proofs.FreshLaw.{begins_length}
+use Rattle.shr_worker.specs.Commands as worker
+use Rattle.shr_assemble.proofs.OfflineDid as by_end
 
 -- lists were spliced, deferred work was carried, and entries of the journal of the tree were made
 abbrev pub handing : List core.Made → List ℕ → Moves → List Carry → List TreeMade → Work
@@ -172,7 +174,7 @@ module _ (x : Shared) (tables : AreTables x) where
             does = brings_of handed_does;
             did = record {
               entries = record {
-                each = each_rec (λ (m : core.Made). MayMakeEntry x.script z m m.entry) h.spliced.made (splices_may x z group h.spliced.made h.spliced.made refl refl may known_begin each);
+                each = each_rec (λ (m : core.Made). MayMakeEntry x.script z m m.entry) h.spliced.made (spliced_may x z group h.spliced.made h.spliced.made refl refl may known_begin each);
                 reply = λ family stands. replied family;
                 sets = set_filled h.spliced.made [] h.spliced.sets h.spliced.filled;
                 cited = λ c e. absurd (none-some c (sym uncited ∙ e));
@@ -183,8 +185,8 @@ module _ (x : Shared) (tables : AreTables x) where
                 ops = refl;
                 charges = refl;
                 uncharges = refl;
-                freed = λ g. (splices_freed (parents_of x.script) (parents_of x.script) group g s.core h.spliced.made h.spliced.made each).0;
-                added = λ g. (splices_freed (parents_of x.script) (parents_of x.script) group g s.core h.spliced.made h.spliced.made each).1;
+                freed = λ g. (spliced_freed (parents_of x.script) (parents_of x.script) group g s.core h.spliced.made h.spliced.made each).0;
+                added = λ g. (spliced_freed (parents_of x.script) (parents_of x.script) group g s.core h.spliced.made h.spliced.made each).1;
                 charged = λ g. refl;
               });
               moves = record {
@@ -207,3 +209,68 @@ module _ (x : Shared) (tables : AreTables x) where
               cause = cause;
             };
           }
+
+module _ (x : Shared) (tables : AreTables x) (by : Serial) (group : ℕ) (s t : WorkerState) where
+  abbrev parents : List ℕ
+  parents = (shape_of x.core).parents.items
+
+  abbrev hierarchy : Hierarchy
+  hierarchy = hierarchy_of (shape_of x.core)
+
+  -- a group that began is there
+  in_tree : (moved deferred : ℕ) (made : List TreeMade) (u : WorkerState) (b : HasBegunTo x group s u) (h : IsHandedTo x by group moved deferred made u t) → IsTreeJournal hierarchy t.tree.known → group < length (parents_of x.script)
+  in_tree moved deferred made u b h legal =
+      let at = contains_slice t.tree.known (Begin group) (known_begin x tables by group s u t b moved deferred made h) in
+      let may : MayBegin hierarchy (take at.0 t.tree.known) group = legal at.0 (Begin group) at.1 in
+      let there = may.there in
+      let same = same_groups x tables in omega (arith, there, same)
+
+  pub done : (entry moved deferred : ℕ) (u : WorkerState) → HasBegunTo x group s u → offlined.HandsOver x by group moved deferred (ended.Done entry) u t → HasDid x.script by (command.Offline group) (without (reply.OfflineDone entry moved deferred)) s t
+  done entry moved deferred u b over =
+      let mark : TreeMade = record { number = entry; entry = Done group } in
+      let h = handed_to x tables by group moved deferred (ended.Done entry) (mark ∷ []) u t over over.ends.leaves in
+      let there = in_tree moved deferred (mark ∷ []) u b h over.ends.knows.legal in
+      let r = reply.OfflineDone entry moved deferred in
+      let tells = over.ends.tells in
+      let number = tells.gains.number_is in
+      let seen = begins_length over.carried.tree.known tells.before tells.seen.known in
+      let was : over.carried.tree.known ≡ u.tree.known = ap (λ (v : WorkerState). v.tree.known) over.carries.rest ∙ ap (λ (v : WorkerState). v.tree.known) over.splices.rest in
+      let begun = begins_length s.tree.known u.tree.known b.does.known in
+      let same = same_groups x tables in
+      handed_did x tables by group s u t b moved deferred (mark ∷ []) h there r tt tt (λ family. tt) refl refl refl
+      (All-from_recursion (λ (m : TreeMade). (length s.tree.known ≤ m.number) × IsEntryOf x.script (handed_step x tables by group s u t b moved deferred (mark ∷ []) h r) m.number m.entry) (mark ∷ []) (
+        (
+          omega (arith, number, seen, begun, ap (λ (l : List TreeEntry). length l) was),
+          record {
+            command = refl;
+            answer = eq-eqb entry entry refl;
+            closed = λ place at here. let id = at.id in let node = at.node in let ids = tables.shared.ids in let nodes = tables.shared.nodes in
+                h.closed place.id place.node place.group (omega (arith, id, ids)) (omega (arith, node, nodes)) (omega (arith, here, there, same))
+                (subst (IsAtOrAbove parents group) (sym here) (IsAtOrAbove-refl parents (is_tree x tables) group (omega (arith, there, same))));
+          },
+        ),
+        tt,
+      ))
+      (record {
+        group = group;
+        named = refl;
+        made = among_right b.made (mark ∷ []) mark (0, refl);
+        known = omega (arith, number, ap (λ (l : List TreeEntry). length l) tells.gains.whole, length-append tells.before (Done group ∷ []));
+        moved_is = h.moved_is;
+        deferred_is = h.deferred_is ∙ ap (λ (n : ℕ). n % 2 ^ 64) (carried_sum by h.amounts);
+        took = ap (map (λ (a : PlaceAmount). a.place)) (takes_are (shape_of x.core) h.amounts) ∙ (h.places ∙ places_same x tables group);
+        unwalked = refl;
+      })
+
+  pub done_before : (entry : ℕ) (u : WorkerState) → HasBegunTo x group s u → offlined.WasDoneBefore x by group entry u t → HasDid x.script by (command.Offline group) (without (reply.AlreadyDone entry)) s t
+  done_before entry u b was =
+      let over = was.handed in
+      let h = handed_to x tables by group was.moved was.deferred (ended.AlreadyDone entry) [] u t over over.ends.leaves in
+      let there = in_tree was.moved was.deferred [] u b h over.ends.knows.legal in
+      let r = reply.AlreadyDone entry in
+      handed_did x tables by group s u t b was.moved was.deferred [] h there r tt tt (λ family. tt) refl refl refl
+      (All-nil (λ (m : TreeMade). (length s.tree.known ≤ m.number) × IsEntryOf x.script (handed_step x tables by group s u t b was.moved was.deferred [] h r) m.number m.entry))
+      (record { group = group; named = refl; done = over.ends.tells })
+
+pub offline_did : (x : Shared) (tables : AreTables x) (by : Serial) (group : ℕ) (s t : WorkerState) → IsHandless s.tree → (a : Answered) → worker.Offlines x by group a s t → HasDid x.script by (command.Offline group) a s t
+offline_did x tables by group s t home a h = by_end.offline_did x tables by group s t home (done x tables by group s t) (done_before x tables by group s t) a h

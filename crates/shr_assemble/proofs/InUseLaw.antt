@@ -1,36 +1,23 @@
 -- In a run what is done on an id's lists stands in its use, a list is drained while its id is dying, and an id comes to be idle
 -- with empty lists: what the line says of it, by the ranks of what is told.
-use Rattle.shr_assemble.proofs.Common.{◌≡◌, ◌≢◌, ◌⊎◌, ℕ, zero, suc, ◌+◌, ◌%◌, ◌<◌, ◌≤◌, inl, inr, ⊎_elim, take, List, [], ◌∷◌, ◌++◌, length, map, get_or, sym, refl, ap, subst, ◌∙◌, arith, eqb, eq-eqb, slice_get, Option, Some, None, Contains, same_Some, none-some, slice_get_within, slice_get-get_or, dite, ℕ_discrete, dec_lt, some, some-injective, get_elem?, Entry, Add, Look, Drop, Pin, Scan, MovedIn, Closed, Drained, PoolEntry, Registered, Idle, Place, Serial, Script, HasJournal, place_number, phase_of, decl_at, registrations, HasJournal_none, Has, Has_map, Contains_from_Has, Deed, by_seat, part, times, Begins, among, attempts_in, place_id, Event, Made, Tried, Turn, made, looked, turned, Moment, last_users, IsTimely, IsSo, so_before, Report, serial_of, journals_of, decls_on, IsThere, Told, entry, lookup, turn, count, looked_by, HasAt, IsBy, number_made, IsRun, Step, IsAmong, steps_of, Holders, no_holders, users_next, IsMadeInUse, IsOutOfUse}
+use Rattle.shr_assemble.proofs.Common.{◌≡◌, ◌≢◌, ◌⊎◌, ℕ, zero, suc, ◌+◌, ◌%◌, ◌<◌, ◌≤◌, inl, inr, ⊎_elim, take, List, [], ◌∷◌, ◌++◌, length, map, get_or, sym, refl, ap, subst, ◌∙◌, arith, eqb, eq-eqb, slice_get, Option, Some, None, Contains, same_Some, none-some, slice_get_within, slice_get-get_or, dite, ℕ_discrete, dec_lt, some, some-injective, get_elem?, Entry, Add, Look, Drop, Pin, Scan, MovedIn, Closed, Drained, PoolEntry, Registered, Idle, Place, Serial, Script, HasJournal, place_number, phase_of, decl_at, registrations, HasJournal_none, Has, Has_map, Contains_from_Has, Deed, by_seat, part, times, Begins, among, attempts_in, place_id, Event, Made, Tried, Turn, made, looked, turned, Moment, last_users, IsTimely, IsSo, so_before, Report, serial_of, journals_of, decls_on, IsThere, Told, entry, lookup, turn, count, looked_by, HasAt, IsBy, number_made, IsRun, Step, IsAmong, steps_of, Holders, no_holders, users_next, IsMadeInUse, IsOutOfUse, IsOfUse, IsDrainedEntry, EndsUse, IsEntryInUse}
 use Rattle.shr_core.specs.Order as order
 use Rattle.shr_core.proofs.InUse.{users_before, IsUsing, since_lookup, by_part}
-use Rattle.shr_report.specs.OneOrder.{IsOfUse, IsDrainedEntry, EndsUse, IsEntryInUse}
-use Rattle.shr_assemble.proofs.Gathering.{each_among, among_right}
+use Rattle.shr_assemble.proofs.Gathering.{each_among, among_right, work_of}
 use Rattle.shr_assemble.proofs.LineParts.{front_of, back_of, at_below, by_seat_at, attempts_has, part_seat, own_spot, part_before}
-use Rattle.shr_assemble.proofs.Making.{work_of}
 use Rattle.shr_assemble.proofs.OneOrderLaw.{InLine, IsOfStart, opened, rank, looked_are, lookup_ranked, by_step, stands}
-use Rattle.shr_assemble.proofs.Operations.{has_among, among_has}
+use Rattle.shr_assemble.proofs.Listed.{has_among, among_has}
 use Rattle.shr_assemble.proofs.Spots.{spot_of, spot_there, spots_rise}
 
 -- ---- what the line says of an entry
 used_by : (u : Holders) (seat id : ℕ) (e : Entry) → IsOfUse e → IsMadeInUse u seat id e → 0 < times seat (u id)
 used_by u seat id (Add by birth added key value) h m = m
-used_by u seat id (Look by birth key hit) h m = absurd h
-used_by u seat id (Drop by birth key kind) h m = absurd h
-used_by u seat id (Pin by birth key pinned hit) h m = absurd h
 used_by u seat id (Scan worker walk asked policy visits freed stopped) h m = m
-used_by u seat id (MovedIn child objects) h m = absurd h
-used_by u seat id Closed h m = absurd h
-used_by u seat id (Drained by objects) h m = absurd h
+used_by u seat id e h m = absurd h
 
 unused_at : (u : Holders) (seat id : ℕ) (e : Entry) → IsDrainedEntry e → IsMadeInUse u seat id e → u id ≡ []
 unused_at u seat id (Drained by objects) h m = m
-unused_at u seat id (Add by birth added key value) h m = absurd h
-unused_at u seat id (Look by birth key hit) h m = absurd h
-unused_at u seat id (Drop by birth key kind) h m = absurd h
-unused_at u seat id (Pin by birth key pinned hit) h m = absurd h
-unused_at u seat id (Scan worker walk asked policy visits freed stopped) h m = absurd h
-unused_at u seat id (MovedIn child objects) h m = absurd h
-unused_at u seat id Closed h m = absurd h
+unused_at u seat id e h m = absurd h
 
 -- a registration isn't an end
 pub not_idle : (decl id from i : ℕ) → ◌≡◌ {A = PoolEntry} (Registered decl id from) (Idle i) → ⊥
@@ -74,11 +61,10 @@ module _ (s : Script) (r : Report) (workers : List (List Step)) (run : IsRun s r
       let all : part j line ≡ before ++ (by_seat x.before.core.seat work.did ++ parts.0) = parts.1 ∙ (ap (λ (l : List (Deed Event)). l ++ parts.0) work.noted ∙ append_three before (by_seat x.before.core.seat work.did) parts.0) in
       by_part j i (take c line)
       ∙ (ap (λ (l : List (Deed Event)). times j (last_users l i)) (part_before j line (length before) d there ∙ (ap (take (length before)) all ∙ take_all before (by_seat x.before.core.seat work.did ++ parts.0)))
-      ∙ run.order.free worker k x at i)
-    where
-      append_three : (xs ys zs : List (Deed Event)) → (xs ++ ys) ++ zs ≡ xs ++ (ys ++ zs)
-      append_three [] ys zs = refl
-      append_three (x ∷ xs) ys zs = ap (λ (l : List (Deed Event)). x ∷ l) (append_three xs ys zs)
+      ∙ run.order.free worker k x at i) where
+        append_three : (xs ys zs : List (Deed Event)) → (xs ++ ys) ++ zs ≡ xs ++ (ys ++ zs)
+        append_three [] ys zs = refl
+        append_three (x ∷ xs) ys zs = ap (λ (l : List (Deed Event)). x ∷ l) (append_three xs ys zs)
 
   tried_in : (worker k : ℕ) (x : Step) → slice_get (steps_of workers worker) k ≡ Some x → (q : ℕ) → length x.before.core.did ≤ q → q < length x.after.core.did → (d : Deed Event) → get_elem? (part (1 + worker) line) q ≡ some d
       → (i : ℕ) (w : IsUsing line (1 + worker) i (spot_of (1 + worker) line q)) → IsAmong w.try x.work.core.attempts
@@ -94,27 +80,26 @@ module _ (s : Script) (r : Report) (workers : List (List Step)) (run : IsRun s r
       let in_step : get_elem? x.after.core.did p ≡ some look = front_of x.after.core.did parts.0 p look (omega (arith, soon, to)) (ap (λ (l : List (Deed Event)). get_elem? l p) (sym parts.1) ∙ own.1) in
       let mine = back_of x.before.core.did (by_seat x.before.core.seat work.did) p look late (ap (λ (l : List (Deed Event)). get_elem? l p) (sym work.noted) ∙ in_step) in
       let event = by_seat_at x.before.core.seat work.did mine.0 look mine.1 in
-      has_among x.work.core.attempts w.try (subst (λ (l : List Tried). Has l w.try) work.kinds.attempts (attempts_has work.did mine.0 w.try (event.1 ∙ ap some event.2)))
-    where
-      early : (p : ℕ) → spot_of (1 + worker) line p ≡ w.at → p < length x.before.core.did → ⊥
-      early p is lt =
-          let j : ℕ = 1 + worker in
-          let l = at_below (part j line) (length x.before.core.did) q d there from in
-          let after = spots_rise j line p (length x.before.core.did) l.0 l.1 lt in
-          let upto : spot_of j line (length x.before.core.did) ≤ spot_of j line q = dite (ℕ_discrete (length x.before.core.did) q)
-          (λ e. let same = ap (spot_of j line) e in omega (arith, same))
-          (λ n. let up = spots_rise j line (length x.before.core.did) q d there (omega (arith, from, n)) in omega (arith, up)) in
-          let uses = w.since (spot_of j line (length x.before.core.did)) (omega (arith, after, is)) upto in
-          let none = none_before worker k x at l.0 l.1 i in
-          absurd (omega (arith, uses, none))
+      has_among x.work.core.attempts w.try (subst (λ (l : List Tried). Has l w.try) work.kinds.attempts (attempts_has work.did mine.0 w.try (event.1 ∙ ap some event.2))) where
+        early : (p : ℕ) → spot_of (1 + worker) line p ≡ w.at → p < length x.before.core.did → ⊥
+        early p is lt =
+            let j : ℕ = 1 + worker in
+            let l = at_below (part j line) (length x.before.core.did) q d there from in
+            let after = spots_rise j line p (length x.before.core.did) l.0 l.1 lt in
+            let upto : spot_of j line (length x.before.core.did) ≤ spot_of j line q = dite (ℕ_discrete (length x.before.core.did) q)
+            (λ e. let same = ap (spot_of j line) e in omega (arith, same))
+            (λ n. let up = spots_rise j line (length x.before.core.did) q d there (omega (arith, from, n)) in omega (arith, up)) in
+            let uses = w.since (spot_of j line (length x.before.core.did)) (omega (arith, after, is)) upto in
+            let none = none_before worker k x at l.0 l.1 i in
+            absurd (omega (arith, uses, none))
 
-      behind_it : (p : ℕ) → get_elem? (part (1 + worker) line) p ≡ some (record { seat = 1 + worker; act = looked w.try }) → spot_of (1 + worker) line p ≡ w.at → q ≤ p → ⊥
-      behind_it p own is le =
-          let j : ℕ = 1 + worker in
-          let before = w.behind in
-          dite (ℕ_discrete q p)
-          (λ e. let same = ap (spot_of j line) e in absurd (omega (arith, before, is, same)))
-          (λ n. let up = spots_rise j line q p (record { seat = j; act = looked w.try }) own (omega (arith, le, n)) in absurd (omega (arith, before, is, up)))
+        behind_it : (p : ℕ) → get_elem? (part (1 + worker) line) p ≡ some (record { seat = 1 + worker; act = looked w.try }) → spot_of (1 + worker) line p ≡ w.at → q ≤ p → ⊥
+        behind_it p own is le =
+            let j : ℕ = 1 + worker in
+            let before = w.behind in
+            dite (ℕ_discrete q p)
+            (λ e. let same = ap (spot_of j line) e in absurd (omega (arith, before, is, same)))
+            (λ n. let up = spots_rise j line q p (record { seat = j; act = looked w.try }) own (omega (arith, le, n)) in absurd (omega (arith, before, is, up)))
 
   -- ---- what ends the use of an id stands before the lookup or behind what is done in it
   unused_turn : (u : Holders) (seat id : ℕ) (t : Turn) → t.entry ≡ Idle id → order.IsInUse u seat (turned t) → u id ≡ []
@@ -129,24 +114,22 @@ module _ (s : Script) (r : Report) (workers : List (List Step)) (run : IsRun s r
       let own : place_id m.0.place ≡ id = ap place_id m.2 ∙ (id_there q (there_at q k h.1.0 h.1.1) ∙ h.0) in
       let used = subst (order.IsInUse (users_before line t.index) t.deed.seat) m.1 (used_at t.index t.deed t.there) in
       (t.index, ap (users_before line t.index) (sym own) ∙ unused_at (users_before line t.index) t.deed.seat (place_id m.0.place) m.0.entry (subst IsDrainedEntry (sym same) h.1.2) used, t.is))
-      (stands s r workers run (entry q k) (h.1.0, h.1.1, tt))
-    where
-      not_turn : (n : ℕ) → entry q k ≡ turn n → ⊥
-      not_turn n e = cc
+      (stands s r workers run (entry q k) (h.1.0, h.1.1, tt)) where
+        not_turn : (n : ℕ) → entry q k ≡ turn n → ⊥
+        not_turn n e = cc
   ends_at id (turn k) h = ⊎_elim
       (λ start. absurd (let lt = start.2 in let number = number_is start.0 start.1 in first_idle (omega (arith, lt, number))))
       (λ t. let m = t.says in
       let is : m.0.entry ≡ Idle id = same_Some m.0.entry h.0 (sym m.3 ∙ h.1) ∙ h.2 in
       (t.index, unused_turn (users_before line t.index) t.deed.seat id m.0 is (subst (order.IsInUse (users_before line t.index) t.deed.seat) m.1 (used_at t.index t.deed t.there)), t.is))
-      (stands s r workers run (turn k) (h.0, h.1, tt))
-    where
-      number_is : (n : ℕ) → turn k ≡ turn n → k ≡ n
-      number_is n e = cc
+      (stands s r workers run (turn k) (h.0, h.1, tt)) where
+        number_is : (n : ℕ) → turn k ≡ turn n → k ≡ n
+        number_is n e = cc
 
-      first_idle : k < first → ⊥
-      first_idle lt =
-          let decl : ℕ = get_or (decls_on s) k 0 in
-          not_idle decl k 0 id (same_Some (Registered decl k 0) (Idle id) (sym (run.pool.opened k decl (slice_get-get_or (decls_on s) k 0 lt)) ∙ (h.1 ∙ ap (λ (e : PoolEntry). Some e) h.2)))
+        first_idle : k < first → ⊥
+        first_idle lt =
+            let decl : ℕ = get_or (decls_on s) k 0 in
+            not_idle decl k 0 id (same_Some (Registered decl k 0) (Idle id) (sym (run.pool.opened k decl (slice_get-get_or (decls_on s) k 0 lt)) ∙ (h.1 ∙ ap (λ (e : PoolEntry). Some e) h.2)))
   ends_at id (lookup i n) h = absurd h
   ends_at id (count w n) h = absurd h
 

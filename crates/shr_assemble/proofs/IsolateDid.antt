@@ -1,17 +1,13 @@
 -- What an isolation did.
-use Rattle.shr_assemble.proofs.Common.{◌≡◌, ◌⊎◌, inr, ℕ, ◌+◌, ◌<◌, false, List, [], ◌∷◌, ◌++◌, length, map, sym, refl, ap, subst, ◌∙◌, arith, slice_get, Option, Some, None, AllPairs, sum_by, option_and_then, AllByRecursion, append-nil, append_cancel_left, All-from_recursion, AllPairs-cons, sum_by-cons, same_Some, none-some, Entry, Add, Look, Drop, Pin, Scan, MovedIn, Closed, Drained, Object, Place, Serial, Answered, Found, IsolateEnd, Reply, Command, Isolate, Isolation, decl_named, place_number, first_isolation, Each, Each-none, Begins, View, nothing, Adds, place_at, Made, Turns, shape_of, with_put, AreDowns, AreRising, calls_with, both_uses, KnowsClosed, IsScanOf, objects_freed, paths_of, WornSeen, WorkerState, Work, no_work, then_work, Shared, does_none, adds_put, OnCache, visitor_of, placed, placed_scan, Visitor, IsIsolationWithin, content_of, within_of_valid, parents_of, IsThere, is_past_group, isolations_told, Step, BringsWork, added_below, Did, MayMakeEntry, DidIsolation, DidIsolations, by_slices, some_at}
+use Rattle.shr_assemble.proofs.Common.{◌≡◌, ◌⊎◌, inr, ℕ, ◌+◌, ◌<◌, false, List, [], ◌∷◌, ◌++◌, length, map, sym, refl, ap, subst, ◌∙◌, arith, slice_get, Option, Some, None, AllPairs, sum_by, option_and_then, AllByRecursion, append-nil, append_cancel_left, All-from_recursion, AllPairs-cons, sum_by-cons, same_Some, none-some, Entry, Add, Look, Drop, Pin, Scan, MovedIn, Closed, Drained, Object, Place, Serial, Answered, Found, IsolateEnd, Reply, Command, Isolate, Isolation, decl_named, place_number, first_isolation, Each, Each-none, Begins, View, nothing, Adds, place_at, Made, Turns, shape_of, with_put, AreDowns, AreRising, calls_with, both_uses, KnowsClosed, IsScanOf, objects_freed, paths_of, WornSeen, WorkerState, Work, no_work, then_work, Shared, does_none, adds_put, OnCache, visitor_of, placed, placed_scan, Visitor, IsIsolationWithin, content_of, within_of_valid, parents_of, IsThere, is_past_group, isolations_told, Step, BringsWork, added_below, Did, MayMakeEntry, DidIsolation, DidIsolations, by_slices, some_at, Isolates, IsolateGives, IsolatedAs, IsolatedFrom, RefusedBy, found_place}
 use Rattle.shr_base.specs.declared.replies.Reply.TheVariants as reply
 use Rattle.shr_charge.specs.declared.answers.GroupState.TheVariants.{Online}
-use Rattle.shr_drop.specs.Isolating.{Isolates, IsolateGives, IsolatedAs, IsolatedFrom, RefusedBy, found_place}
 use Rattle.shr_drop.proofs.ByLaw.{found_lawful}
-use Rattle.shr_assemble.proofs.Bringing.{brings_of, brings_then}
+use Rattle.shr_assemble.proofs.QuietTenant.{brings_of, brings_then, IsTenant, group_in, refused_did, without, found_lookups, back_is}
 use Rattle.shr_assemble.proofs.Filling.{IsSet}
-use Rattle.shr_assemble.proofs.Operations.{PairsRec}
-use Rattle.shr_assemble.proofs.Quiet.{step_of, HasDid, calm_walks, still_moves, still_pool, still_tree, meets_none, never_met}
-use Rattle.shr_assemble.proofs.QuietCharges.{uncharged_charges}
-use Rattle.shr_assemble.proofs.QuietNothing.{nothing_did}
-use Rattle.shr_assemble.proofs.QuietSteps.{AreTables, tree_is, loading, gaining, does_load, does_gain, finding, calling, found_entry, found_by}
-use Rattle.shr_assemble.proofs.QuietTenant.{IsTenant, group_in, refused_did, without, found_lookups, back_is}
+use Rattle.shr_assemble.proofs.Listed.{PairsRec}
+use Rattle.shr_assemble.proofs.QuietSteps.{step_of, HasDid, calm_walks, still_moves, still_pool, still_tree, meets_none, never_met, AreTables, tree_is, loading, gaining, does_load, does_gain, finding, calling, found_entry, found_by}
+use Rattle.shr_assemble.proofs.QuietCharges.{uncharged_charges, nothing_did}
 use Rattle.shr_assemble.proofs.VisitsDid.{Visits, IsVisit, isolated_visits}
 use Rattle.shr_assemble.proofs.WalkingCharges.{made_below}
 use Rattle.shr_assemble.proofs.WornSeen.{seen_worn}
@@ -24,17 +20,10 @@ all_pairs R (x ∷ xs) h = AllPairs-cons R x xs (All-from_recursion (R x) xs h.0
 -- a scan adds no object
 none_added : (parents : List ℕ) (g : ℕ) (v : Visitor) (made : List Made) → AllByRecursion (IsVisit v) made → sum_by (λ (m : Made). added_below parents g m.entry) made ≡ 0
 none_added parents g v [] h = refl
-none_added parents g v (m ∷ made) h = omega (arith, sum_by-cons (λ (n : Made). added_below parents g n.entry) m made, one m.entry h.0.1, none_added parents g v made h.1)
-  where
-    one : (e : Entry) → IsScanOf v.by.worker v.walk v.policy e → added_below parents g e ≡ 0
-    one (Scan worker n asked policy visits freed stopped) k = refl
-    one (Add by birth added key value) k = absurd k
-    one (Look by birth key hit) k = absurd k
-    one (Drop by birth key kind) k = absurd k
-    one (Pin by birth key pinned hit) k = absurd k
-    one (MovedIn child objects) k = absurd k
-    one Closed k = absurd k
-    one (Drained by objects) k = absurd k
+none_added parents g v (m ∷ made) h = omega (arith, sum_by-cons (λ (n : Made). added_below parents g n.entry) m made, one m.entry h.0.1, none_added parents g v made h.1) where
+  one : (e : Entry) → IsScanOf v.by.worker v.walk v.policy e → added_below parents g e ≡ 0
+  one (Scan worker n asked policy visits freed stopped) k = refl
+  one e k = absurd k
 
 module _ (x : Shared) (tables : AreTables x) (by : Serial) (group node decl budget : ℕ) (within : IsIsolationWithin (content_of x.script) group node decl budget) where
   abbrev command : Command
@@ -136,12 +125,7 @@ module _ (x : Shared) (tables : AreTables x) (by : Serial) (group node decl budg
       place = ap place_at here ∙ back_is x tables place place_there;
     })
     may_make m (Add b birth added key value) here k = absurd k
-    may_make m (Look b birth key hit) here k = absurd k
-    may_make m (Drop b birth key kind) here k = absurd k
-    may_make m (Pin b birth key pinned hit) here k = absurd k
-    may_make m (MovedIn child objects) here k = absurd k
-    may_make m Closed here k = absurd k
-    may_make m (Drained b objects) here k = absurd k
+    may_make m o here k = absurd k
 
     each_visit : AllByRecursion (IsVisit visitor) visited.made
     each_visit = by_slices (IsVisit visitor) visited.made (λ j m at. visited.scans j m (some_at visited.made j m at))

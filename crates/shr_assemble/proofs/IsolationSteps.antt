@@ -1,10 +1,9 @@
 -- The isolations of a report are those of the steps, and their scans are what their steps made.
-use Rattle.shr_assemble.proofs.Common.{◌≡◌, ℕ, zero, suc, ◌+◌, ◌-◌, ◌<◌, ◌≤◌, Bool, true, false, cond, List, [], ◌∷◌, map, sym, refl, ap, subst, ◌∙◌, arith, slice_get, Option, Some, option_map, nat_lt, ltb-true, same_Some, none-some, Entry, Scan, Policy, Serial, Answered, Found, Reply, Command, Isolate, Script, Isolation, WalkRecord, place_number, first_isolation, isolation_walk, ScanSeen, Made, Report, walk_at, isolation_at, Placed, placed, placed_scan, visitor_of, Step, IsAmong, steps_of, isolations_asked, IsScanned, IsIsolationVisit, isolated_in, isolated_before, DidIsolation, IsRun, IsStep, at_some, ltb-false, isolation_told}
+use Rattle.shr_assemble.proofs.Common.{◌≡◌, ℕ, zero, suc, ◌+◌, ◌-◌, ◌<◌, ◌≤◌, Bool, true, false, cond, List, [], ◌∷◌, map, sym, refl, ap, subst, ◌∙◌, arith, slice_get, Option, Some, option_map, nat_lt, ltb-true, same_Some, none-some, Entry, Scan, Policy, Serial, Answered, Found, Reply, Command, Isolate, Script, Isolation, WalkRecord, place_number, first_isolation, isolation_walk, ScanSeen, Made, Report, walk_at, isolation_at, Placed, placed, placed_scan, visitor_of, Step, IsAmong, steps_of, isolations_asked, IsScanned, IsIsolationVisit, isolated_in, isolated_before, DidIsolation, IsRun, IsStep, at_some, ltb-false, isolation_told, scanning_command}
 use Rattle.shr_base.specs.declared.replies.Reply.TheVariants as reply
-use Rattle.shr_report.specs.Parts.{scanning_command}
-use Rattle.shr_assemble.proofs.Flattening.{slice_map, walk_there}
+use Rattle.shr_assemble.proofs.Listed.{slice_map, walk_there}
 use Rattle.shr_assemble.proofs.Gathering.{flat_at, flat_there}
-use Rattle.shr_assemble.proofs.LawfulWalks.{among_map}
+use Rattle.shr_assemble.proofs.VersionsLaw.{among_map}
 
 -- ---- an answer tells of one isolation at most
 told_found : (by : Serial) (group node budget : ℕ) (found : Option Found) (x : Reply) (j : ℕ) (i : Isolation) → slice_get (isolation_told by group node budget found x) j ≡ Some i → (isolation_told by group node budget found x ≡ i ∷ []) × (j ≡ 0)
@@ -100,19 +99,17 @@ module _ (s : Script) (r : Report) (workers : List (List Step)) (run : IsRun s r
       let own : w ≡ worker = t.own ∙ ap (λ (z : Serial). z.worker) is.by in
       let did = is.did.walks.each t.index t.walk t.there in
       let walk : walk_at r w n ≡ Some t.walk = ap (λ v. walk_at r v n) own ∙ (ap (walk_at r worker) t.number ∙ walk_there s r workers run worker k t.index x t.walk at t.there) in
-      low_by (nat_lt n first_isolation) refl (let few = did.low in let same = t.number in omega (arith, few, same)) (ap (option_map (λ (v : WalkRecord). v.by)) walk ∙ ap Some did.by)
-    where
-      low_by : (b : Bool) → nat_lt n first_isolation ≡ b → n < first_isolation → option_map (λ (v : WalkRecord). v.by) (walk_at r w n) ≡ Some x.by
-          → cond b (option_map (λ (v : WalkRecord). v.by) (walk_at r w n)) (option_map (λ (i : Isolation). i.by) (isolation_at r w (n - first_isolation))) ≡ Some x.by
-      low_by true e low h = h
-      low_by false e low h = absurd (let f = ltb-false n first_isolation e in omega (arith, f, low))
+      low_by (nat_lt n first_isolation) refl (let few = did.low in let same = t.number in omega (arith, few, same)) (ap (option_map (λ (v : WalkRecord). v.by)) walk ∙ ap Some did.by) where
+        low_by : (b : Bool) → nat_lt n first_isolation ≡ b → n < first_isolation → option_map (λ (v : WalkRecord). v.by) (walk_at r w n) ≡ Some x.by
+            → cond b (option_map (λ (v : WalkRecord). v.by) (walk_at r w n)) (option_map (λ (i : Isolation). i.by) (isolation_at r w (n - first_isolation))) ≡ Some x.by
+        low_by true e low h = h
+        low_by false e low h = absurd (let f = ltb-false n first_isolation e in omega (arith, f, low))
 
   pub visited_by : (worker k : ℕ) (x : Step) (m : Made) (w n asked visits freed : ℕ) (policy : Policy) (stopped : Bool) → slice_get (steps_of workers worker) k ≡ Some x → (t : IsIsolationVisit x m w n) → IsAmong m x.work.core.made → m.entry ≡ Scan w n asked policy visits freed stopped
       → scanning_command r w n ≡ Some x.by
   visited_by worker k x m w n asked visits freed policy stopped at t among entry =
-      high_by (nat_lt n first_isolation) refl t.high (ap (option_map (λ (i : Isolation). i.by)) (visit_there worker k x m w n asked visits freed policy stopped at t among entry) ∙ ap Some (told_by x.by x.command x.answered t.isolation (first_told x t.isolation t.told)))
-    where
-      high_by : (b : Bool) → nat_lt n first_isolation ≡ b → first_isolation ≤ n → option_map (λ (i : Isolation). i.by) (isolation_at r w (n - first_isolation)) ≡ Some x.by
-          → cond b (option_map (λ (v : WalkRecord). v.by) (walk_at r w n)) (option_map (λ (i : Isolation). i.by) (isolation_at r w (n - first_isolation))) ≡ Some x.by
-      high_by true e high h = absurd (let lt = ltb-true n first_isolation e in omega (arith, lt, high))
-      high_by false e high h = h
+      high_by (nat_lt n first_isolation) refl t.high (ap (option_map (λ (i : Isolation). i.by)) (visit_there worker k x m w n asked visits freed policy stopped at t among entry) ∙ ap Some (told_by x.by x.command x.answered t.isolation (first_told x t.isolation t.told))) where
+        high_by : (b : Bool) → nat_lt n first_isolation ≡ b → first_isolation ≤ n → option_map (λ (i : Isolation). i.by) (isolation_at r w (n - first_isolation)) ≡ Some x.by
+            → cond b (option_map (λ (v : WalkRecord). v.by) (walk_at r w n)) (option_map (λ (i : Isolation). i.by) (isolation_at r w (n - first_isolation))) ≡ Some x.by
+        high_by true e high h = absurd (let lt = ltb-true n first_isolation e in omega (arith, lt, high))
+        high_by false e high h = h

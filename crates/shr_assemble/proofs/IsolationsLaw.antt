@@ -1,12 +1,10 @@
 -- The law of isolations, of a run.
-use Rattle.shr_assemble.proofs.Common.{◌≡◌, ℕ, zero, suc, ◌+◌, ◌-◌, ◌<◌, ◌≤◌, ◌≢◌, ◌⊎◌, ⊎_elim, Bool, true, false, ◌&&◌, cond, List, [], ◌∷◌, length, drop, map, sym, refl, ap, subst, ◌∙◌, arith, eqb, eq-eqb, slice_get, Option, Some, None, filter, filter_map, option_and_then, ◌==◌, AllByRecursion, cons_option, IsSomeAnd, and_parts, and_from, eqb-true, same_Some, none-some, Entry, Add, Look, Drop, Pin, Scan, MovedIn, Closed, Drained, Place, Serial, Answered, IsolateEnd, Spent, CacheDecl, Command, Script, Isolation, is_serial, decl_named, is_closed, place_number, Has, each_has, isolation_walk, ScanSeen, place_at, Made, Report, command_at, serial_of, journals_of, isolation_at, isolations_told, visitor_of, Placed, placed, placed_scan, Visitor, Step, IsAmong, steps_of, isolations_asked, IsScanned, IsIsolationVisit, MayMakeEntry, isolated_in, isolated_before, IsRun, IsWornBy, by_slices, some_at, serial_itself, IsLawfulIsolation, scan_seen, scans_seen, isolations_by, cache_named, IsEndCaused, IsOfIsolation, AreIsolationsLawful}
+use Rattle.shr_assemble.proofs.Common.{◌≡◌, ℕ, zero, suc, ◌+◌, ◌-◌, ◌<◌, ◌≤◌, ◌≢◌, ◌⊎◌, ⊎_elim, Bool, true, false, ◌&&◌, cond, List, [], ◌∷◌, length, drop, map, sym, refl, ap, subst, ◌∙◌, arith, eqb, eq-eqb, slice_get, Option, Some, None, filter, filter_map, option_and_then, ◌==◌, AllByRecursion, cons_option, IsSomeAnd, and_parts, and_from, eqb-true, same_Some, none-some, Entry, Add, Look, Drop, Pin, Scan, MovedIn, Closed, Drained, Place, Serial, Answered, IsolateEnd, Spent, CacheDecl, Command, Script, Isolation, is_serial, decl_named, is_closed, place_number, Has, each_has, isolation_walk, ScanSeen, place_at, Made, Report, command_at, serial_of, journals_of, isolation_at, isolations_told, visitor_of, Placed, placed, placed_scan, Visitor, Step, IsAmong, steps_of, isolations_asked, IsScanned, IsIsolationVisit, MayMakeEntry, isolated_in, isolated_before, IsRun, IsWornBy, by_slices, some_at, serial_itself, IsLawfulIsolation, scan_seen, scans_seen, isolations_by, cache_named, IsEndCaused, IsOfIsolation, AreIsolationsLawful, no_test}
 use Rattle.shr_base.specs.declared.replies.IsolateEnd.TheVariants as isolate
-use Rattle.shr_assemble.proofs.Gathering.{each_among}
+use Rattle.shr_assemble.proofs.Gathering.{each_among, maker, made_stands, back_there, Stepped, stepped}
 use Rattle.shr_assemble.proofs.IsolationSteps.{first_told, told_once, told_by, scan_of, isolation_of, IsolationOf, isolation_there, visit_number, visit_there}
-use Rattle.shr_assemble.proofs.Listed.{closed_begins, contains_among, no_test}
-use Rattle.shr_assemble.proofs.Making.{maker, made_stands, back_there, Stepped, stepped}
-use Rattle.shr_assemble.proofs.Operations.{PairsRec, pairs_rec, among_has, one_by}
-use Rattle.shr_assemble.proofs.SpentLaw.{spent_law}
+use Rattle.shr_assemble.proofs.Listed.{closed_begins, contains_among, PairsRec, pairs_rec, among_has, one_by}
+use Rattle.shr_assemble.proofs.WalkCauses.{spent_law}
 use Rattle.shr_assemble.proofs.WalksLaw.{filter_part}
 use Rattle.shr_assemble.proofs.WornLists.{known_begins}
 use Rattle.shr_assemble.proofs.LimitsLaw.{serial_same}
@@ -39,11 +37,10 @@ module _ {B : Type 0} (f : Entry → Option B) where
   -- where the first entry isn't kept, all that were made come after it
   past_first : (i : ℕ) (e : Entry) (es : List Entry) (ms : List Made) → f e ≡ None → AllByRecursion (IsKept i (e ∷ es)) ms → AllByRecursion (λ (m : Made). i < m.number) ms
   past_first i e es [] none h = tt
-  past_first i e es (m ∷ ms) none h = (by_number (m.number - i) refl h.0.stands, past_first i e es ms none h.1)
-    where
-      by_number : (n : ℕ) → m.number - i ≡ n → slice_get (e ∷ es) n ≡ Some m.entry → i < m.number
-      by_number zero same at = absurd (none-some h.0.kept (sym (ap f (sym (same_Some e m.entry at)) ∙ none) ∙ h.0.is_kept))
-      by_number (suc n) same at = omega (arith, same)
+  past_first i e es (m ∷ ms) none h = (by_number (m.number - i) refl h.0.stands, past_first i e es ms none h.1) where
+    by_number : (n : ℕ) → m.number - i ≡ n → slice_get (e ∷ es) n ≡ Some m.entry → i < m.number
+    by_number zero same at = absurd (none-some h.0.kept (sym (ap f (sym (same_Some e m.entry at)) ∙ none) ∙ h.0.is_kept))
+    by_number (suc n) same at = omega (arith, same)
 
   above_first : (i : ℕ) (m : Made) (ms : List Made) → m.number ≡ i → AllByRecursion (λ (n : Made). m.number < n.number) ms → AllByRecursion (λ (n : Made). i < n.number) ms
   above_first i m ms same h = subst (λ (k : ℕ). AllByRecursion (λ (n : Made). k < n.number) ms) same h
@@ -52,26 +49,25 @@ module _ {B : Type 0} (f : Entry → Option B) where
   kept_step : (i : ℕ) (e : Entry) (es : List Entry)
       → ((ns : List Made) → PairsRec (λ (m n : Made). m.number < n.number) ns → AllByRecursion (IsKept (i + 1) es) ns → AreAll (i + 1) es ns → filter_map f es ≡ filter_map f (map (λ (m : Made). m.entry) ns))
       → (ms : List Made) → PairsRec (λ (m n : Made). m.number < n.number) ms → AllByRecursion (IsKept i (e ∷ es)) ms → AreAll i (e ∷ es) ms → cons_option (f e) (filter_map f es) ≡ filter_map f (map (λ (m : Made). m.entry) ms)
-  kept_step i e es more ms rise each all = by_first (f e) refl
-    where
-      rest_all : (ns : List Made) → ((m : Made) → Has ms m → i < m.number → Has ns m) → AreAll (i + 1) es ns
-      rest_all ns keeps j d b at is = let t = all (suc j) d b at is in let n = t.2 in (t.0, keeps t.0 t.1 (omega (arith, n)), omega (arith, n))
+  kept_step i e es more ms rise each all = by_first (f e) refl where
+    rest_all : (ns : List Made) → ((m : Made) → Has ms m → i < m.number → Has ns m) → AreAll (i + 1) es ns
+    rest_all ns keeps j d b at is = let t = all (suc j) d b at is in let n = t.2 in (t.0, keeps t.0 t.1 (omega (arith, n)), omega (arith, n))
 
-      at_first : (b : B) (xs : List Made) → PairsRec (λ (m n : Made). m.number < n.number) xs → AllByRecursion (IsKept i (e ∷ es)) xs → (m : Made) → Has xs m → m.number ≡ i → ((n : Made) → Has ms n → Has xs n)
-          → cons_option (f e) (filter_map f es) ≡ filter_map f (map (λ (z : Made). z.entry) xs)
-      at_first b [] r h m has same to = absurd has
-      at_first b (x ∷ xs) r h m has same to =
-          let first : x.number ≡ i = ⊎_elim (λ here. ap (λ (z : Made). z.number) here ∙ same)
-          (λ later. absurd (let lt = each_has (λ (n : Made). x.number < n.number) xs m r.0 later in let le = h.0.late in omega (arith, lt, le, same))) has in
-          let entry : e ≡ x.entry = same_Some e x.entry (ap (slice_get (e ∷ es)) (let z : 0 ≡ x.number - i = omega (arith, first) in z) ∙ h.0.stands) in
-          let above = above_first i x xs first r.0 in
-          let rest = more xs r.1 (all_later i e es xs above h.1) (rest_all xs (λ n has_n lt. ⊎_elim (λ here. absurd (let same_n = ap (λ (z : Made). z.number) here in omega (arith, same_n, first, lt))) (λ later. later) (to n has_n))) in
-          ap (cons_option (f e)) rest ∙ ap (λ (d : Entry). cons_option (f d) (filter_map f (map (λ (z : Made). z.entry) xs))) entry
+    at_first : (b : B) (xs : List Made) → PairsRec (λ (m n : Made). m.number < n.number) xs → AllByRecursion (IsKept i (e ∷ es)) xs → (m : Made) → Has xs m → m.number ≡ i → ((n : Made) → Has ms n → Has xs n)
+        → cons_option (f e) (filter_map f es) ≡ filter_map f (map (λ (z : Made). z.entry) xs)
+    at_first b [] r h m has same to = absurd has
+    at_first b (x ∷ xs) r h m has same to =
+        let first : x.number ≡ i = ⊎_elim (λ here. ap (λ (z : Made). z.number) here ∙ same)
+        (λ later. absurd (let lt = each_has (λ (n : Made). x.number < n.number) xs m r.0 later in let le = h.0.late in omega (arith, lt, le, same))) has in
+        let entry : e ≡ x.entry = same_Some e x.entry (ap (slice_get (e ∷ es)) (let z : 0 ≡ x.number - i = omega (arith, first) in z) ∙ h.0.stands) in
+        let above = above_first i x xs first r.0 in
+        let rest = more xs r.1 (all_later i e es xs above h.1) (rest_all xs (λ n has_n lt. ⊎_elim (λ here. absurd (let same_n = ap (λ (z : Made). z.number) here in omega (arith, same_n, first, lt))) (λ later. later) (to n has_n))) in
+        ap (cons_option (f e)) rest ∙ ap (λ (d : Entry). cons_option (f d) (filter_map f (map (λ (z : Made). z.entry) xs))) entry
 
-      by_first : (o : Option B) → f e ≡ o → cons_option (f e) (filter_map f es) ≡ filter_map f (map (λ (m : Made). m.entry) ms)
-      by_first None none = let lt = past_first i e es ms none each in
-          ap (λ (o : Option B). cons_option o (filter_map f es)) none ∙ more ms rise (all_later i e es ms lt each) (rest_all ms (λ m has m_lt. has))
-      by_first (Some b) is = let t = all 0 e b refl is in let n = t.2 in at_first b ms rise each t.0 t.1 (omega (arith, n)) (λ m has. has)
+    by_first : (o : Option B) → f e ≡ o → cons_option (f e) (filter_map f es) ≡ filter_map f (map (λ (m : Made). m.entry) ms)
+    by_first None none = let lt = past_first i e es ms none each in
+        ap (λ (o : Option B). cons_option o (filter_map f es)) none ∙ more ms rise (all_later i e es ms lt each) (rest_all ms (λ m has m_lt. has))
+    by_first (Some b) is = let t = all 0 e b refl is in let n = t.2 in at_first b ms rise each t.0 t.1 (omega (arith, n)) (λ m has. has)
 
   kept_are : (i : ℕ) (es : List Entry) (ms : List Made) → PairsRec (λ (m n : Made). m.number < n.number) ms → AllByRecursion (IsKept i es) ms → AreAll i es ms
       → filter_map f es ≡ filter_map f (map (λ (m : Made). m.entry) ms)
@@ -96,19 +92,12 @@ seen_all v (m ∷ ms) (z ∷ zs) e =
 
 -- a Scan entry that is told apart is of the worker and of the walk
 scan_is : (worker walk : ℕ) (e : Entry) (z : ScanSeen) → scan_seen worker walk e ≡ Some z → e ≡ Scan worker walk z.asked z.policy z.visits z.freed z.stopped
-scan_is worker walk (Scan w n asked policy visits freed stopped) z h = by_test ((w == worker) && (n == walk)) refl h
-  where
-    by_test : (b : Bool) → ((w == worker) && (n == walk)) ≡ b → cond b (Some (record { asked = asked; policy = policy; visits = visits; freed = freed; stopped = stopped })) None ≡ Some z → Scan w n asked policy visits freed stopped ≡ Scan worker walk z.asked z.policy z.visits z.freed z.stopped
-    by_test true e k = let t = and_parts (w == worker) (n == walk) e in let own = eqb-true w worker t.0 in let same = eqb-true n walk t.1 in let is = same_Some _ z k in
-        λ i. Scan (own i) (same i) (is i).asked (is i).policy (is i).visits (is i).freed (is i).stopped
-    by_test false e k = absurd (none-some z k)
-scan_is worker walk (Add by birth added key value) z h = absurd (none-some z h)
-scan_is worker walk (Look by birth key hit) z h = absurd (none-some z h)
-scan_is worker walk (Drop by birth key kind) z h = absurd (none-some z h)
-scan_is worker walk (Pin by birth key pinned hit) z h = absurd (none-some z h)
-scan_is worker walk (MovedIn child objects) z h = absurd (none-some z h)
-scan_is worker walk Closed z h = absurd (none-some z h)
-scan_is worker walk (Drained by objects) z h = absurd (none-some z h)
+scan_is worker walk (Scan w n asked policy visits freed stopped) z h = by_test ((w == worker) && (n == walk)) refl h where
+  by_test : (b : Bool) → ((w == worker) && (n == walk)) ≡ b → cond b (Some (record { asked = asked; policy = policy; visits = visits; freed = freed; stopped = stopped })) None ≡ Some z → Scan w n asked policy visits freed stopped ≡ Scan worker walk z.asked z.policy z.visits z.freed z.stopped
+  by_test true e k = let t = and_parts (w == worker) (n == walk) e in let own = eqb-true w worker t.0 in let same = eqb-true n walk t.1 in let is = same_Some _ z k in
+      λ i. Scan (own i) (same i) (is i).asked (is i).policy (is i).visits (is i).freed (is i).stopped
+  by_test false e k = absurd (none-some z k)
+scan_is worker walk e z h = absurd (none-some z h)
 
 module _ (s : Script) (r : Report) (workers : List (List Step)) (run : IsRun s r workers) where
   may_make : (worker k : ℕ) (x : Step) (m : Made) → slice_get (steps_of workers worker) k ≡ Some x → IsAmong m x.work.core.made → MayMakeEntry s x m m.entry
@@ -157,10 +146,9 @@ module _ (s : Script) (r : Report) (workers : List (List Step)) (run : IsRun s r
         let by : m.step.by ≡ of.step.by = sym (told_by m.step.by m.step.command m.step.answered t.isolation (first_told m.step t.isolation t.told))
         ∙ (ap (λ (y : Isolation). y.by) same ∙ told_by of.step.by of.step.command of.step.answered i (first_told of.step i of.told)) in
         let step : m.step ≡ of.step = one_by s r workers run m.worker m.k worker of.k m.step of.step m.at of.at by in
-        (m.made, among_has made m.made (subst (λ (y : Step). IsAmong m.made y.work.core.made) step m.among), m.number ∙ omega arith)) may
-      where
-        at_own : isolation_at r worker n ≡ Some i
-        at_own = ap (isolation_at r worker) of.number ∙ isolation_there s r workers run worker of.k of.step i of.at of.told
+        (m.made, among_has made m.made (subst (λ (y : Step). IsAmong m.made y.work.core.made) step m.among), m.number ∙ omega arith)) may where
+          at_own : isolation_at r worker n ≡ Some i
+          at_own = ap (isolation_at r worker) of.number ∙ isolation_there s r workers run worker of.k of.step i of.at of.told
 
     scans_are : scans_seen worker (isolation_walk n) (journals_of r i.place) ≡ of.did.scans
     scans_are = kept_are seen 0 (journals_of r i.place) made (pairs_rec (λ (a b : Made). a.number < b.number) made of.did.rise) (by_slices (IsKept seen 0 (journals_of r i.place)) made stands) from_step
@@ -171,11 +159,10 @@ module _ (s : Script) (r : Report) (workers : List (List Step)) (run : IsRun s r
   cache_is worker n i of =
       let by : i.by ≡ serial_of worker of.k = told_by of.step.by of.step.command of.step.answered i (first_told of.step i of.told) ∙ of.is.by in
       let command : command_at s i.by ≡ of.step.command = ap (command_at s) by ∙ of.is.command in
-      ap (option_and_then (λ (c : Command). option_and_then (slice_get s.caches.items) (decl_named c))) command ∙ (named of.step.command ∙ of.did.cache)
-    where
-      named : (c : Option Command) → option_and_then (λ (c : Command). option_and_then (slice_get s.caches.items) (decl_named c)) c ≡ option_and_then (slice_get s.caches.items) (option_and_then decl_named c)
-      named (Some c) = refl
-      named None = refl
+      ap (option_and_then (λ (c : Command). option_and_then (slice_get s.caches.items) (decl_named c))) command ∙ (named of.step.command ∙ of.did.cache) where
+        named : (c : Option Command) → option_and_then (λ (c : Command). option_and_then (slice_get s.caches.items) (decl_named c)) c ≡ option_and_then (slice_get s.caches.items) (option_and_then decl_named c)
+        named (Some c) = refl
+        named None = refl
 
   each : (worker n : ℕ) (i : Isolation) → isolation_at r worker n ≡ Some i → IsSomeAnd (cache_named s i.by) (λ d. IsLawfulIsolation d.policy (scans_seen worker (isolation_walk n) (journals_of r i.place)) i)
   each worker n i at = let of = isolation_of s r workers run worker n i at in
@@ -187,25 +174,15 @@ module _ (s : Script) (r : Report) (workers : List (List Step)) (run : IsRun s r
       closed_begins c.0 (journals_of r i.place) (known_begins s r workers run worker of.k of.step i.place c.0 of.at of.did.there (contains_among of.step.after.core.traces.known (record { place = place_number i.place; entries = c.0 }) c.1)) c.2
 
   end_caused : (worker k : ℕ) (x : Step) → slice_get (steps_of workers worker) k ≡ Some x → (e : IsolateEnd) → ((why : Spent) → e ≡ isolate.Worn why → IsWornBy s x why) → IsEndCaused s r worker e
-  end_caused worker k x at isolate.Spent h = tt
-  end_caused worker k x at isolate.Bare h = tt
-  end_caused worker k x at isolate.Stop h = tt
-  end_caused worker k x at isolate.Closed h = tt
-  end_caused worker k x at isolate.NoRoom h = tt
   end_caused worker k x at (isolate.Worn why) h = spent_law s r workers run worker k x why at (h why refl)
+  end_caused worker k x at e h = tt
 
   -- ---- a Scan entry of an isolation
   scan_of_isolation : (place : Place) (e : Entry) (x : Step) (m : Made) (worker k : ℕ) → slice_get (steps_of workers worker) k ≡ Some x → IsAmong m x.work.core.made → place_at m.place ≡ place → m.entry ≡ e → MayMakeEntry s x m e → IsOfIsolation r place e
-  scan_of_isolation place (Add by birth added key value) x m worker k at among here entry may = tt
-  scan_of_isolation place (Look by birth key hit) x m worker k at among here entry may = tt
-  scan_of_isolation place (Drop by birth key kind) x m worker k at among here entry may = tt
-  scan_of_isolation place (Pin by birth key pinned hit) x m worker k at among here entry may = tt
   scan_of_isolation place (Scan w n asked policy visits freed stopped) x m worker k at among here entry may = λ high. ⊎_elim
       (λ t. absurd (let low = ((run.steps.each worker k x at).did.walks.each t.index t.walk t.there).low in let number = t.number in omega (arith, low, number, high)))
       (λ t. subst (λ (o : Option Isolation). IsSomeAnd o (λ i. i.place ≡ place)) (sym (visit_there s r workers run worker k x m w n asked visits freed policy stopped at t among entry)) (sym t.place ∙ here)) may
-  scan_of_isolation place (MovedIn child objects) x m worker k at among here entry may = tt
-  scan_of_isolation place Closed x m worker k at among here entry may = tt
-  scan_of_isolation place (Drained by objects) x m worker k at among here entry may = tt
+  scan_of_isolation place e x m worker k at among here entry may = tt
 
   scans : (place : Place) (n : ℕ) (e : Entry) → slice_get (journals_of r place) n ≡ Some e → IsOfIsolation r place e
   scans place n e stands = let m = maker s r workers run place n e stands in
@@ -214,17 +191,16 @@ module _ (s : Script) (r : Report) (workers : List (List Step)) (run : IsRun s r
   -- ---- the isolations of a command
   isolations_are : (worker k : ℕ) (x : Step) → slice_get (steps_of workers worker) k ≡ Some x → isolations_by r (serial_of worker k) ≡ isolated_in x
   isolations_are worker k x at = ap (filter (λ (i : Isolation). is_serial (serial_of worker k) i.by)) (run.isolations.told worker)
-      ∙ filter_part (λ (i : Isolation). is_serial (serial_of worker k) i.by) isolated_in (steps_of workers worker) k x at own others
-    where
-      by_of : (j n : ℕ) (y : Step) (i : Isolation) → slice_get (steps_of workers worker) j ≡ Some y → slice_get (isolated_in y) n ≡ Some i → i.by ≡ serial_of worker j
-      by_of j n y i at_y at_i = let t = told_once y.by y.command y.answered n i at_i in
-          told_by y.by y.command y.answered i (first_told y i t.0) ∙ (run.steps.each worker j y at_y).by
+      ∙ filter_part (λ (i : Isolation). is_serial (serial_of worker k) i.by) isolated_in (steps_of workers worker) k x at own others where
+        by_of : (j n : ℕ) (y : Step) (i : Isolation) → slice_get (steps_of workers worker) j ≡ Some y → slice_get (isolated_in y) n ≡ Some i → i.by ≡ serial_of worker j
+        by_of j n y i at_y at_i = let t = told_once y.by y.command y.answered n i at_i in
+            told_by y.by y.command y.answered i (first_told y i t.0) ∙ (run.steps.each worker j y at_y).by
 
-      own : (n : ℕ) (i : Isolation) → slice_get (isolated_in x) n ≡ Some i → is_serial (serial_of worker k) i.by ≡ true
-      own n i e = ap (is_serial (serial_of worker k)) (by_of k n x i at e) ∙ serial_itself (serial_of worker k)
+        own : (n : ℕ) (i : Isolation) → slice_get (isolated_in x) n ≡ Some i → is_serial (serial_of worker k) i.by ≡ true
+        own n i e = ap (is_serial (serial_of worker k)) (by_of k n x i at e) ∙ serial_itself (serial_of worker k)
 
-      others : (j n : ℕ) (y : Step) (i : Isolation) → slice_get (steps_of workers worker) j ≡ Some y → j ≢ k → slice_get (isolated_in y) n ≡ Some i → is_serial (serial_of worker k) i.by ≡ false
-      others j n y i at_y ne e = no_test (is_serial (serial_of worker k) i.by) (λ same. ne (ap (λ (z : Serial). z.command) (sym (serial_same (serial_of worker k) i.by same ∙ by_of j n y i at_y e))))
+        others : (j n : ℕ) (y : Step) (i : Isolation) → slice_get (steps_of workers worker) j ≡ Some y → j ≢ k → slice_get (isolated_in y) n ≡ Some i → is_serial (serial_of worker k) i.by ≡ false
+        others j n y i at_y ne e = no_test (is_serial (serial_of worker k) i.by) (λ same. ne (ap (λ (z : Serial). z.command) (sym (serial_same (serial_of worker k) i.by same ∙ by_of j n y i at_y e))))
 
   commands : (by : Serial) (c : Command) (a : Answered) → Stepped s r workers run by c a → isolations_by r by ≡ isolations_told by c a
   commands by c a t = isolations_are by.worker by.command t.step t.at ∙ (λ j. isolations_asked (t.own j) (t.command j) (t.answered j))

@@ -38,13 +38,12 @@ one_out b (c ∷ p) apart (inr later) = elim (cases_Bool (is_serial b c)) [
 
 -- who waits after an operation
 still_waits : (c : Serial) (o : UseStep) (rest : List UseStep) → is_serial o.by c ≡ false → IsDownNext c (o ∷ rest) → IsDownNext c rest
-still_waits c o rest other h = subst (λ b. MatchOption (cond b (Some o) (find (is_by c) rest)) ⊥ (λ q. q.up ≡ false)) (not_by) h
-  where
-    not_by : is_by c o ≡ false
-    not_by = elim (cases_Bool (is_by c o)) [
-      | inl same ↦ let t = and_parts (eqb o.by.worker c.worker) (eqb o.by.command c.command) same in let f : true ≡ false = sym (and_from (eqb o.by.worker c.worker) (eqb o.by.command c.command) t.0 t.1) ∙ other in cc
-      | inr no_it ↦ no_it
-    ]
+still_waits c o rest other h = subst (λ b. MatchOption (cond b (Some o) (find (is_by c) rest)) ⊥ (λ q. q.up ≡ false)) (not_by) h where
+  not_by : is_by c o ≡ false
+  not_by = elim (cases_Bool (is_by c o)) [
+    | inl same ↦ let t = and_parts (eqb o.by.worker c.worker) (eqb o.by.command c.command) same in let f : true ≡ false = sym (and_from (eqb o.by.worker c.worker) (eqb o.by.command c.command) t.0 t.1) ∙ other in cc
+    | inr no_it ↦ no_it
+  ]
 
 waits_no_more : (o : UseStep) (rest : List UseStep) → IsDownNext o.by (o ∷ rest) → o.up ≡ false
 waits_no_more o rest h = subst (λ b. MatchOption (cond b (Some o) (find (is_by o.by) rest)) ⊥ (λ q. q.up ≡ false)) (serial_itself o.by) h
@@ -75,36 +74,34 @@ module _ (g limit : ℕ) (ops : List UseStep) (history : IsChargeHistory g ops) 
             (cases_lt (ups before) (downs before + limit))
         | inr down ↦ within_from (before ++ o ∷ []) rest p longer apart kept (omega (arith, most, ups_push before o, downs_push before o, ap (λ b. cond {A = ℕ} b 1 0) down, ap (λ b. cond {A = ℕ} (not b) 1 0) down))
       ])
-      (waiting o.by p)
-    where
-      longer : ops ≡ (before ++ o ∷ []) ++ rest
-      longer = e ∙ sym (append_assoc before (o ∷ []) rest)
+      (waiting o.by p) where
+        longer : ops ≡ (before ++ o ∷ []) ++ rest
+        longer = e ∙ sym (append_assoc before (o ∷ []) rest)
 
-      here : slice_get ops (length before) ≡ Some o
-      here = ap (λ l. slice_get l (length before)) e ∙ at_end before
-        where
+        here : slice_get ops (length before) ≡ Some o
+        here = ap (λ l. slice_get l (length before)) e ∙ at_end before where
           at_end : (xs : List UseStep) → slice_get (xs ++ o ∷ rest) (length xs) ≡ Some o
           at_end [] = refl
           at_end (x ∷ xs) = at_end xs
 
-      found : o.found ≡ pos (ups before) -ℤ pos (downs before)
-      found = (history (length before) o here).found ∙ ap usage_after (ap (take (length before)) e ∙ take_at before (o ∷ rest) (length before) refl)
+        found : o.found ≡ pos (ups before) -ℤ pos (downs before)
+        found = (history (length before) o here).found ∙ ap usage_after (ap (take (length before)) e ∙ take_at before (o ∷ rest) (length before) refl)
 
-      after : drop (length before + 1) ops ≡ rest
-      after = ap (drop (length before + 1)) longer ∙ drop_at (before ++ o ∷ []) rest (length before + 1) (length-append before (o ∷ []))
+        after : drop (length before + 1) ops ≡ rest
+        after = ap (drop (length before + 1)) longer ∙ drop_at (before ++ o ∷ []) rest (length before + 1) (length-append before (o ∷ []))
 
-      next : o.up ≡ true → downs before + limit ≤ ups before → IsDownNext o.by rest
-      next up full = subst (IsDownNext o.by) after (taken (length before) o here up (λ below. omega (arith, ints, below, found, full)))
+        next : o.up ≡ true → downs before + limit ≤ ups before → IsDownNext o.by rest
+        next up full = subst (IsDownNext o.by) after (taken (length before) o here up (λ below. omega (arith, ints, below, found, full)))
 
-      not_serial : (b c : Serial) → waits_not b c ≡ true → is_serial b c ≡ false
-      not_serial b c h = elim (cases_Bool (is_serial b c)) [
-        | inl same ↦ let f : false ≡ true = sym (ap not same) ∙ h in cc
-        | inr other ↦ other
-      ]
+        not_serial : (b c : Serial) → waits_not b c ≡ true → is_serial b c ≡ false
+        not_serial b c h = elim (cases_Bool (is_serial b c)) [
+          | inl same ↦ let f : false ≡ true = sym (ap not same) ∙ h in cc
+          | inr other ↦ other
+        ]
 
-      waits_of : (q : List Serial) → ((c : Serial) → Has q c → IsDownNext c rest) → AllByRecursion (λ c. IsDownNext c rest) q
-      waits_of [] h = tt
-      waits_of (c ∷ q) h = (h c (inl refl), waits_of q (λ d has. h d (inr has)))
+        waits_of : (q : List Serial) → ((c : Serial) → Has q c → IsDownNext c rest) → AllByRecursion (λ c. IsDownNext c rest) q
+        waits_of [] h = tt
+        waits_of (c ∷ q) h = (h c (inl refl), waits_of q (λ d has. h d (inr has)))
 
   pub within_limit : ups ops ≤ downs ops + limit
   within_limit = within_from [] ops [] refl tt tt (omega arith)

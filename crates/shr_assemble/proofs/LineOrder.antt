@@ -1,7 +1,6 @@
 -- The events that a worker noted, by their kinds, and along its steps.
-use Rattle.shr_assemble.proofs.Common.{◌≡◌, ℕ, zero, suc, ◌<◌, inl, inr, List, [], ◌∷◌, sym, ap, subst, ◌∙◌, arith, slice_get, Some, same_Some, none-some, Has, by_seat, Begins, begins_all, begins_more, among, seen_in, attempts_in, Event, Made, Counted, Tried, Turn, counted, made, looked, loaded, turned, put_back, raised, cleared, mapped, WorkerState, Step, AreStepsChained}
-use Rattle.shr_core.specs.Gained.{made_in, turns_in}
-use Rattle.shr_assemble.proofs.Pairs.{either}
+use Rattle.shr_assemble.proofs.Common.{◌≡◌, ℕ, zero, suc, ◌<◌, inl, inr, List, [], ◌∷◌, sym, ap, subst, ◌∙◌, arith, slice_get, Some, same_Some, none-some, Has, by_seat, Begins, begins_all, begins_more, among, seen_in, attempts_in, Event, Made, Counted, Tried, Turn, counted, made, looked, loaded, turned, put_back, raised, cleared, mapped, WorkerState, Step, AreStepsChained, made_in, turns_in}
+use Rattle.shr_assemble.proofs.Listed.{either}
 
 -- the event that has what a kind of event gives
 pub of_kind : {A : Type 0} (f : Event → List A) (es : List Event) (y : A) → Has (among f es) y → (e : Event) × Has es e × Has (f e) y
@@ -10,55 +9,27 @@ of_kind f (e ∷ es) y h = either (f e) (among f es) y h (λ here. (e, inl (λ i
 
 -- ---- events by their kinds
 made_of : (e : Event) (m : Made) → Has (made_in e) m → e ≡ made m
-made_of (counted x) m h = absurd h
 made_of (made x) m (inl e) = ap made e
 made_of (made x) m (inr none) = absurd none
-made_of (looked x) m h = absurd h
-made_of (loaded x) m h = absurd h
-made_of (turned x) m h = absurd h
-made_of (put_back i) m h = absurd h
-made_of (raised x) m h = absurd h
-made_of (cleared x) m h = absurd h
-made_of (mapped x) m h = absurd h
+made_of e m h = absurd h
 
 pub counted_of : (e : Event) (c : Counted) → Has (seen_in e) c → e ≡ counted c
 counted_of (counted x) c (inl e) = ap counted e
 counted_of (counted x) c (inr none) = absurd none
-counted_of (made x) c h = absurd h
-counted_of (looked x) c h = absurd h
-counted_of (loaded x) c h = absurd h
-counted_of (turned x) c h = absurd h
-counted_of (put_back i) c h = absurd h
-counted_of (raised x) c h = absurd h
-counted_of (cleared x) c h = absurd h
-counted_of (mapped x) c h = absurd h
+counted_of e c h = absurd h
 
 pub has_made : (es : List Event) (m : Made) → Has (among made_in es) m → Has es (made m)
 has_made es m h = let f = of_kind made_in es m h in subst (Has es) (made_of f.0 m f.2) f.1
 
 pub looked_in : (e : Event) (t : Tried) → Has (attempts_in e) t → e ≡ looked t
-looked_in (counted x) t h = absurd h
-looked_in (made x) t h = absurd h
 looked_in (looked x) t (inl e) = ap looked e
 looked_in (looked x) t (inr none) = absurd none
-looked_in (loaded x) t h = absurd h
-looked_in (turned x) t h = absurd h
-looked_in (put_back i) t h = absurd h
-looked_in (raised x) t h = absurd h
-looked_in (cleared x) t h = absurd h
-looked_in (mapped x) t h = absurd h
+looked_in e t h = absurd h
 
 turned_in : (e : Event) (t : Turn) → Has (turns_in e) t → e ≡ turned t
-turned_in (counted x) t h = absurd h
-turned_in (made x) t h = absurd h
-turned_in (looked x) t h = absurd h
-turned_in (loaded x) t h = absurd h
 turned_in (turned x) t (inl e) = ap turned e
 turned_in (turned x) t (inr none) = absurd none
-turned_in (put_back i) t h = absurd h
-turned_in (raised x) t h = absurd h
-turned_in (cleared x) t h = absurd h
-turned_in (mapped x) t h = absurd h
+turned_in e t h = absurd h
 
 pub has_looked : (es : List Event) (t : Tried) → Has (among attempts_in es) t → Has es (looked t)
 has_looked es t h = let f = of_kind attempts_in es t h in subst (Has es) (looked_in f.0 t f.2) f.1

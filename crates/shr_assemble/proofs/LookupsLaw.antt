@@ -1,11 +1,8 @@
 -- The law of lookups, of a run.
-use Rattle.shr_assemble.proofs.Common.{◌≡◌, ℕ, ◌+◌, ◌<◌, ◌≤◌, ⊎_elim, Bool, true, false, cond, List, [], ◌∷◌, ◌++◌, length, length-append, take, sym, refl, ap, subst, ◌∙◌, arith, eqb, eq-eqb, ne_eqb, slice_get, Option, Some, None, flat_map, map, filter, filter_map, count_by, nat_lt, is_some, option_and_then, ◌==◌, if◌then◌else◌, cases_lt, ltb-true, lt-ltb, AllByRecursion, cons_option, flat_map-append, take-append-le, Found, Answered, Serial, Command, Script, Attempt, WalkRecord, WorkerPart, PoolEntry, number_of, is_held, decl_named, registrations, decl_at, is_live, decl_of, from_of, total, total-append, total_zero, Tried, hit_attempt, Report, lookups_at, walk_at, Step, IsAmong, gathered, steps_in, steps_of, lookup_numbered, numbers_tried, number_found, number_made, IsFoundBy, all_attempts, IsRun, count_total, get_or_past, attempt_at}
-use Rattle.shr_report.specs.Parts.{answers_in}
+use Rattle.shr_assemble.proofs.Common.{◌≡◌, ℕ, ◌+◌, ◌<◌, ◌≤◌, ⊎_elim, Bool, true, false, cond, List, [], ◌∷◌, ◌++◌, length, length-append, take, sym, refl, ap, subst, ◌∙◌, arith, eqb, eq-eqb, ne_eqb, slice_get, Option, Some, None, flat_map, map, filter, filter_map, count_by, nat_lt, is_some, option_and_then, ◌==◌, if◌then◌else◌, cases_lt, ltb-true, lt-ltb, AllByRecursion, cons_option, flat_map-append, take-append-le, Found, Answered, Serial, Command, Script, Attempt, WalkRecord, WorkerPart, PoolEntry, number_of, is_held, decl_named, registrations, decl_at, is_live, decl_of, from_of, total, total-append, total_zero, Tried, hit_attempt, Report, lookups_at, walk_at, Step, IsAmong, gathered, steps_in, steps_of, lookup_numbered, numbers_tried, number_found, number_made, IsFoundBy, all_attempts, IsRun, count_total, get_or_past, attempt_at, answers_in, no_test}
 use Rattle.shr_report.specs.Lookups.{found_number, found_numbers, tried_numbers, IsFoundRight, AreLookupsLawful}
-use Rattle.shr_assemble.proofs.Gathering.{each_step, has_step, gathered_has, among_right, weighs}
-use Rattle.shr_assemble.proofs.Listed.{no_test}
-use Rattle.shr_assemble.proofs.Making.{work_of, Stepped, stepped}
-use Rattle.shr_assemble.proofs.Flattening.{same_flat, answers_are, all_walks_are, walk_of}
+use Rattle.shr_assemble.proofs.Gathering.{each_step, has_step, gathered_has, among_right, weighs, work_of, Stepped, stepped}
+use Rattle.shr_assemble.proofs.Listed.{same_flat, answers_are, all_walks_are, walk_of}
 
 -- ---- counting pairs of an id and a number
 abbrev pair_hit : ℕ → ℕ → ℕ × ℕ → ℕ
@@ -107,17 +104,16 @@ module _ (s : Script) (r : Report) (workers : List (List Step)) (run : IsRun s r
       (run.steps.shown worker k x at).tried h.0 t (subst (λ l. IsAmong t l) (sym (work_of s r workers run worker k x at).core.attempts) h).1
 
   attempt_below : (worker k : ℕ) (x : Step) (t : Tried) → slice_get (steps_of workers worker) k ≡ Some x → IsAmong t x.work.core.attempts → t.number < lookups_at r t.id
-  attempt_below worker k x t at among = by_test (nat_lt t.number (lookups_at r t.id)) refl
-    where
-      hit_itself : hit_attempt t.id t.number t ≡ 1
-      hit_itself = ap (λ b. cond b (cond (eqb t.number t.number) 1 0) 0) (eq-eqb t.id t.id refl) ∙ ap (λ b. cond b 1 0) (eq-eqb t.number t.number refl)
+  attempt_below worker k x t at among = by_test (nat_lt t.number (lookups_at r t.id)) refl where
+    hit_itself : hit_attempt t.id t.number t ≡ 1
+    hit_itself = ap (λ b. cond b (cond (eqb t.number t.number) 1 0) 0) (eq-eqb t.id t.id refl) ∙ ap (λ b. cond b 1 0) (eq-eqb t.number t.number refl)
 
-      drawn : 1 ≤ cond {A = ℕ} (nat_lt t.number (lookups_at r t.id)) 1 0
-      drawn = omega (arith, hit_itself, run.pool.drawn t.id t.number (attempt_shown worker k x t at among).0, weighs (hit_attempt t.id t.number) (all_attempts workers) t (gathered_has (λ (y : Step). y.work.core.attempts) workers worker k x t at among))
+    drawn : 1 ≤ cond {A = ℕ} (nat_lt t.number (lookups_at r t.id)) 1 0
+    drawn = omega (arith, hit_itself, run.pool.drawn t.id t.number (attempt_shown worker k x t at among).0, weighs (hit_attempt t.id t.number) (all_attempts workers) t (gathered_has (λ (y : Step). y.work.core.attempts) workers worker k x t at among))
 
-      by_test : (b : Bool) → nat_lt t.number (lookups_at r t.id) ≡ b → t.number < lookups_at r t.id
-      by_test true e = ltb-true t.number (lookups_at r t.id) e
-      by_test false e = absurd (omega (arith, drawn, ap (λ b. cond {A = ℕ} b 1 0) e))
+    by_test : (b : Bool) → nat_lt t.number (lookups_at r t.id) ≡ b → t.number < lookups_at r t.id
+    by_test true e = ltb-true t.number (lookups_at r t.id) e
+    by_test false e = absurd (omega (arith, drawn, ap (λ b. cond {A = ℕ} b 1 0) e))
 
   -- what it met is what the pool's journal says
   pub attempt_met : (worker k : ℕ) (x : Step) (t : Tried) → slice_get (steps_of workers worker) k ≡ Some x → IsAmong t x.work.core.attempts → t.held ≡ attempt_at t.id t.number (lookups_at r t.id) r.pool.items
@@ -141,18 +137,17 @@ module _ (s : Script) (r : Report) (workers : List (List Step)) (run : IsRun s r
       )
 
   numbers : (id number : ℕ) → count_by (λ n. n == number) (found_numbers r id ++ tried_numbers r id) ≡ (if nat_lt number (lookups_at r id) then 1 else 0)
-  numbers id number = ⊎_elim (λ near. counted id number ∙ run.pool.drawn id number near) (λ far. counted id number ∙ (none far ∙ sym (ap (λ b. if b then 1 else 0) (not_below far)))) (cases_lt id s.ids)
-    where
-      past : s.ids ≤ id → lookups_at r id ≡ 0
-      past far = get_or_past r.lookups.items id 0 (omega (arith, far, run.pool.printed))
+  numbers id number = ⊎_elim (λ near. counted id number ∙ run.pool.drawn id number near) (λ far. counted id number ∙ (none far ∙ sym (ap (λ b. if b then 1 else 0) (not_below far)))) (cases_lt id s.ids) where
+    past : s.ids ≤ id → lookups_at r id ≡ 0
+    past far = get_or_past r.lookups.items id 0 (omega (arith, far, run.pool.printed))
 
-      not_below : s.ids ≤ id → nat_lt number (lookups_at r id) ≡ false
-      not_below far = no_test (nat_lt number (lookups_at r id)) (λ e. omega (arith, ltb-true number (lookups_at r id) e, past far))
+    not_below : s.ids ≤ id → nat_lt number (lookups_at r id) ≡ false
+    not_below far = no_test (nat_lt number (lookups_at r id)) (λ e. omega (arith, ltb-true number (lookups_at r id) e, past far))
 
-      none : s.ids ≤ id → total (hit_attempt id number) (all_attempts workers) ≡ 0
-      none far = total_zero (hit_attempt id number) (all_attempts workers) (λ j t e. let of = has_step (λ (x : Step). x.work.core.attempts) workers t (j, e) in
-          let near = (attempt_shown of.worker of.k of.step t of.at of.has).0 in
-          ap (λ b. cond {A = ℕ} b (cond {A = ℕ} (eqb t.number number) 1 0) 0) (ne_eqb t.id id (λ same. omega (arith, near, far, same))))
+    none : s.ids ≤ id → total (hit_attempt id number) (all_attempts workers) ≡ 0
+    none far = total_zero (hit_attempt id number) (all_attempts workers) (λ j t e. let of = has_step (λ (x : Step). x.work.core.attempts) workers t (j, e) in
+        let near = (attempt_shown of.worker of.k of.step t of.at of.has).0 in
+        ap (λ b. cond {A = ℕ} b (cond {A = ℕ} (eqb t.number number) 1 0) 0) (ne_eqb t.id id (λ same. omega (arith, near, far, same))))
 
   -- an attempt was held exactly where its number lies in a registration
   pub met : (worker n : ℕ) (w : WalkRecord) → walk_at r worker n ≡ Some w → (k : ℕ) (a : Attempt) → slice_get w.attempts.items k ≡ Some a → (number : ℕ) → number_of a.outcome ≡ Some number

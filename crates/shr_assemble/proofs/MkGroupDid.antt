@@ -1,26 +1,19 @@
 -- What a mkgroup did.
-use Rattle.shr_assemble.proofs.Common.{◌≡◌, ℕ, ◌≤◌, Bool, not, ◌||◌, inr, false, true, List, [], ◌∷◌, length, length-append, Option, refl, sym, ap, subst, ◌∙◌, arith, Some, None, All, All-nil, All-from_recursion, none-some, same_Some, TreeEntry, Serial, Answered, Reply, Command, Family, Hierarchy, parent_of, is_later, begin_of, is_made, hierarchy_of, shape_of, gave, IsNamed, TreeView, Shared, WorkerState, unfound, parents_of, cited_by, pool_told, pool_made, made_shown, IsReply, Step, IsCausedBy, IsEntryOf, KnowsUnmade, MeetsGroups, MakeTells, MakeLeaves, KnowsTree, made_new, make_reply}
+use Rattle.shr_assemble.proofs.Common.{◌≡◌, ℕ, ◌≤◌, Bool, not, ◌||◌, inr, false, true, List, [], ◌∷◌, length, length-append, Option, refl, sym, ap, subst, ◌∙◌, arith, Some, None, All, All-nil, All-from_recursion, none-some, same_Some, TreeEntry, Serial, Answered, Reply, Command, Family, Hierarchy, parent_of, is_later, begin_of, is_made, hierarchy_of, shape_of, gave, IsNamed, TreeView, Shared, WorkerState, unfound, parents_of, cited_by, pool_told, pool_made, made_shown, IsReply, Step, IsCausedBy, IsEntryOf, KnowsUnmade, MeetsGroups, MakeTells, MakeLeaves, KnowsTree, made_new, make_reply, made_of, TreeMade, LoadedState}
 use Rattle.std.specs.Option.{is_some}
 use Rattle.shr_base.specs.declared.journals.TreeEntry.TheVariants.{Made as MadeEntry}
 use Rattle.shr_base.specs.declared.replies.Reply.TheVariants as reply
 use Rattle.shr_base.specs.declared.scripts.Command.TheVariants as command
-use Rattle.shr_model.specs.TreeJournal.{made_of}
-use Rattle.shr_charge.specs.Views.{TreeMade, LoadedState}
 use Rattle.shr_charge.specs.declared.answers.MakeAnswer.{MakeAnswer}
 use Rattle.shr_charge.specs.declared.answers.MakeAnswer.TheVariants as make
 use Rattle.shr_worker.specs.Commands as worker
-use Rattle.shr_assemble.proofs.Bringing.{brings_of}
-use Rattle.shr_assemble.proofs.Quiet.{step_of, HasDid, calm_walks, still_moves, still_charges, still_pool, IsToldOnce, meets_none}
-use Rattle.shr_assemble.proofs.QuietSteps.{AreTables, tree_is, hierarchy_is, known_meets}
-use Rattle.shr_assemble.proofs.QuietTenant.{without, no_entries, unfound_lookups}
+use Rattle.shr_assemble.proofs.QuietTenant.{brings_of, without, no_entries, unfound_lookups}
+use Rattle.shr_assemble.proofs.QuietSteps.{step_of, HasDid, calm_walks, still_moves, still_charges, still_pool, IsToldOnce, meets_none, quiet_did, AreTables, tree_is, hierarchy_is, known_meets}
 use Rattle.shr_assemble.proofs.OfflineDid.{IsHandless, giving, does_give, unmade_before, unmade_late}
 
 -- a group that has a Made is made
 made_among : (h : Hierarchy) (es : List TreeEntry) (group n : ℕ) → made_of es group ≡ Some n → is_made h es group ≡ true
-made_among h es group n at = ap {B = Bool} (λ (m : Option ℕ). not (is_later h.later group) || is_some m) at ∙ with_true (not (is_later h.later group)) where
-  with_true : (b : Bool) → (b || true) ≡ true
-  with_true true = refl
-  with_true false = refl
+made_among h es group n at = ap {B = Bool} (λ (m : Option ℕ). not (is_later h.later group) || is_some m) at ∙ (elim (not (is_later h.later group)) as (λ (b : Bool). (b || true) ≡ true) [ true ↦ refl | false ↦ refl ])
 
 module _ (x : Shared) (tables : AreTables x) (by : Serial) (group : ℕ) (s t : WorkerState) (home : IsHandless s.tree) (knows : KnowsTree (hierarchy_of (shape_of x.core)) s.tree t.tree) (rest : t ≡ record s { tree = t.tree }) where
   abbrev asked : Command
@@ -38,20 +31,11 @@ module _ (x : Shared) (tables : AreTables x) (by : Serial) (group : ℕ) (s t : 
   gave_did r made gives row uncited untold unmade each meets cause =
       let z : Step = making r made in
       let does = does_give s t made home gives knows.grows rest in
-      record {
-        work = giving made;
-        does = brings_of does;
-        did = record {
-          entries = no_entries x.script z refl refl row uncited;
-          lookups = unfound_lookups x.script z refl refl;
-          walks = calm_walks x.script z tt (record { walks = refl; seen = refl; maps = refl; cleared = refl });
-          charges = still_charges x.script z (record { ops = refl; charges = refl; uncharges = refl; freed = λ g. refl; added = λ g. refl; charged = λ g. refl });
-          moves = still_moves x.script z (record { walks = refl; takes = refl; gives = refl; carries = refl });
-          pool = still_pool x.script z does.core.pool (record { turns = refl; made = unmade }) (subst (IsToldOnce z) (sym untold) tt);
-          tree = record { each = each; online = λ g asks above. absurd (none-some g asks); meets = meets };
-          cause = cause;
-        };
-      }
+      quiet_did (giving made) tt (record { walks = refl; seen = refl; maps = refl; cleared = refl; takes = refl; gives = refl; carries = refl })
+      (brings_of does) (no_entries x.script z refl refl row uncited) (unfound_lookups x.script z refl refl)
+      (still_charges x.script z (record { ops = refl; charges = refl; uncharges = refl; freed = λ g. refl; added = λ g. refl; charged = λ g. refl }))
+      (still_pool x.script z does.core.pool (record { turns = refl; made = unmade }) (subst (IsToldOnce z) (sym untold) tt))
+      (record { each = each; online = λ g asks above. absurd (none-some g asks); meets = meets }) cause
 
   -- no entry was made
   looked_did : (r : Reply) → t.tree ≡ gave s.tree [] t.tree.known → ((family : Family) → IsReply (parents_of x.script) family by asked None r) → cited_by r ≡ None → pool_told r ≡ [] → pool_made r ≡ []

@@ -1,33 +1,26 @@
 -- What an offline did.
-use Rattle.shr_assemble.proofs.Common.{◌≡◌, ◌⊎◌, inl, inr, ⊎_elim, ℕ, zero, suc, ◌<◌, ◌≤◌, Bool, true, false, not, ◌||◌, List, [], ◌∷◌, length, length-append, refl, sym, ap, subst, ◌∙◌, arith, Some, None, slice_index_or, Contains, All, slice_get, sum_by, AllByRecursion, sum_by-cons, All-nil, All-append, All-from_recursion, none-some, same_Some, TreeEntry, Begin, Done, Serial, Answered, Reply, Command, Family, begin_of, is_made, undone_child, IsTreeJournal, Begins, shape_of, Entry, born_below, freed_by, View, ◌*◌, ◌/◌, ◌%◌, range_with_len, Place, Spent, Hierarchy, is_later, IsTree, is_child, parent_of, place_number, IsAtOrAbove-le, Shape, groups_in, hierarchy_of, Closing, AreClosings, group_place, AreSpliced, IsWithin, content_of, within_of_valid, GroupState, is_there, IsListWorn, nothing, MayHaveBegun, added_below, made_freed_below, MayMakeEntry, IsClosedByOffline, begin_at, begun_before, done_at, done_found, begin_found, gave, IsNamed, TreeView, begin_grows, begun_made, is_made_grows, unfound, Shared, WorkerState, Work, no_work, then_work, Does, does_none, does_then, parents_of, cited_by, pool_told, pool_made, is_past_group, IsReply, Step, IsAmong, IsCausedBy, KnowsOnline, IsEntryOf, MeetsGroups, KnowsUnmade, Contains-push, child_again, WasState, offline_reply}
+use Rattle.shr_assemble.proofs.Common.{◌≡◌, ◌⊎◌, inl, inr, ⊎_elim, ℕ, zero, suc, ◌<◌, ◌≤◌, Bool, true, false, not, ◌||◌, List, [], ◌∷◌, length, length-append, refl, sym, ap, subst, ◌∙◌, arith, Some, None, slice_index_or, Contains, All, slice_get, sum_by, AllByRecursion, sum_by-cons, All-nil, All-append, All-from_recursion, none-some, same_Some, TreeEntry, Begin, Done, Serial, Answered, Reply, Command, Family, begin_of, is_made, undone_child, IsTreeJournal, Begins, shape_of, Entry, born_below, freed_by, View, ◌*◌, ◌/◌, ◌%◌, range_with_len, Place, Spent, Hierarchy, is_later, IsTree, is_child, parent_of, place_number, IsAtOrAbove-le, Shape, groups_in, hierarchy_of, Closing, AreClosings, group_place, AreSpliced, IsWithin, content_of, within_of_valid, GroupState, is_there, IsListWorn, nothing, MayHaveBegun, added_below, made_freed_below, MayMakeEntry, IsClosedByOffline, begin_at, begun_before, done_at, done_found, begin_found, gave, IsNamed, TreeView, begin_grows, begun_made, is_made_grows, unfound, Shared, WorkerState, Work, no_work, then_work, Does, does_none, does_then, parents_of, cited_by, pool_told, pool_made, is_past_group, IsReply, Step, IsAmong, IsCausedBy, KnowsOnline, IsEntryOf, MeetsGroups, KnowsUnmade, Contains-push, child_again, WasState, offline_reply, done_of, made_of, place_by_number, first_places, AllGives, TreeMade, LoadedState, no_test}
 use Rattle.std.specs.Option.{is_some}
 use Rattle.shr_base.specs.declared.replies.Reply.TheVariants as reply
 use Rattle.shr_base.specs.declared.scripts.Command.TheVariants as command
-use Rattle.shr_model.specs.TreeJournal.{done_of, made_of}
 use Rattle.shr_base.specs.declared.replies.Spent.TheVariants as spent
 use Rattle.shr_node.specs.declared.answers.SpliceAnswer.TheVariants as splice
-use Rattle.shr_offline.specs.Splices.{place_by_number, first_places, AllGives}
-use Rattle.shr_assemble.proofs.ScriptSizes.{sized_of}
 use Rattle.shr_core.specs.Parts as core
 use Rattle.shr_charge.specs.declared.answers.BeginAnswer.{BeginAnswer}
 use Rattle.shr_charge.specs.declared.answers.BeginAnswer.TheVariants as began
-use Rattle.shr_assemble.proofs.Bringing.{brings_of}
-use Rattle.shr_assemble.proofs.Listed.{begins_slice, slice_contains, contains_among, contains_slice, no_test}
-use Rattle.shr_assemble.proofs.QuietDrains.{each_rec}
+use Rattle.shr_assemble.proofs.QuietTenant.{brings_of, without, no_entries, unfound_lookups}
+use Rattle.shr_assemble.proofs.Listed.{begins_slice, slice_contains, contains_among, contains_slice}
+use Rattle.shr_assemble.proofs.QuietSplices.{each_rec, IsMovedIn, IsShut, IsSpliceEntry, IsSplicedTo, spliced_one, spliced_all, spliced_then}
 use Rattle.shr_assemble.proofs.Filling.{set_filled}
-use Rattle.shr_assemble.proofs.QuietSplices.{IsMovedIn, IsShut, IsSpliceEntry, IsSplicedTo, spliced_one, spliced_all, spliced_then}
 use Rattle.shr_charge.specs.declared.answers.GroupState.TheVariants as state
-use Rattle.shr_charge.specs.Views.{TreeMade, LoadedState}
 use Rattle.shr_charge.specs.declared.answers.DoneAnswer.TheVariants as ended
 use Rattle.shr_offline.specs.declared.answers.OfflineAnswer.{OfflineAnswer}
 use Rattle.shr_offline.specs.declared.answers.OfflineAnswer.TheVariants as answered
 use Rattle.shr_offline.specs.Offlined as offlined
 use Rattle.shr_worker.specs.Commands as worker
-use Rattle.shr_assemble.proofs.Quiet.{step_of, HasDid, calm_walks, still_moves, still_charges, still_pool, still_tree, IsToldOnce, some_met, meets_none}
-use Rattle.shr_assemble.proofs.ScriptGroups.{core_hierarchy}
-use Rattle.shr_assemble.proofs.QuietSteps.{AreTables, tree_is, hierarchy_is, gaining, does_gain, known_meets}
-use Rattle.shr_assemble.proofs.QuietTenant.{without, no_entries, unfound_lookups}
-use Rattle.shr_assemble.proofs.QuietNothing.{nothing_did}
+use Rattle.shr_assemble.proofs.QuietSteps.{step_of, HasDid, calm_walks, still_moves, still_charges, still_pool, still_tree, IsToldOnce, some_met, meets_none, quiet_did, AreTables, tree_is, hierarchy_is, gaining, does_gain, known_meets}
+use Rattle.shr_assemble.proofs.ScriptGroups.{core_hierarchy, sized_of}
+use Rattle.shr_assemble.proofs.QuietCharges.{nothing_did}
 
 -- the worker has not the room of the journal of the tree in hand
 pub record IsHandless (t : TreeView) : Type 0 where
@@ -65,10 +58,9 @@ pub knew_online : (h : Hierarchy) (group : ℕ) (t : TreeView) (before : List Tr
 knew_online h group t before none grows named = record {
   loaded = λ k d lt here entry is. none-some entry (sym none ∙ told (slice_index_or t.loaded k d) entry (named k d lt) here is);
   known = λ entry e. none-some entry (sym none ∙ subst (λ (l : List TreeEntry). begin_of l group ≡ Some entry) (sym grows.1) (begin_grows t.known group grows.0 entry e));
-}
-  where
-    told : (l : LoadedState) (entry : ℕ) → IsNamed h before l → l.group ≡ group → l.state ≡ state.Offline entry → begin_of before group ≡ Some entry
-    told l entry named here is = let was : WasState h before group (state.Offline entry) = subst (WasState h before group) is (subst (λ (g : ℕ). WasState h before g l.state) here named) in was.1
+} where
+  told : (l : LoadedState) (entry : ℕ) → IsNamed h before l → l.group ≡ group → l.state ≡ state.Offline entry → begin_of before group ≡ Some entry
+  told l entry named here is = let was : WasState h before group (state.Offline entry) = subst (WasState h before group) is (subst (λ (g : ℕ). WasState h before g l.state) here named) in was.1
 
 -- a group whose Begin is known is made
 pub begun_there : (h : Hierarchy) (es : List TreeEntry) (group n : ℕ) → IsTreeJournal h es → slice_get es n ≡ Some (Begin group) → is_made h es group ≡ true
@@ -79,23 +71,18 @@ pub unmade_before : (h : Hierarchy) (group : ℕ) (t : TreeView) (es : List Tree
 unmade_before h group t es unmade grows named = record {
   loaded = λ k d lt here. absent (slice_index_or t.loaded k d).state (subst (λ (g : ℕ). WasState h es g (slice_index_or t.loaded k d).state) here (named k d lt));
   known = no_test (is_made h t.known group) (λ made. apart (subst (λ (l : List TreeEntry). is_made h l group ≡ true) (sym grows.1) (is_made_grows h t.known grows.0 group made)));
-}
-  where
-    apart : is_made h es group ≡ true → ⊥
-    apart made = let no : false ≡ true = sym unmade ∙ made in absurd (cc)
+} where
+  apart : is_made h es group ≡ true → ⊥
+  apart made = let no : false ≡ true = sym unmade ∙ made in absurd (cc)
 
-    absent : (found : GroupState) → WasState h es group found → is_there found ≡ false
-    absent state.Online was = absurd (apart was)
-    absent (state.Offline entry) was = absurd (apart was.0)
-    absent state.NotMade was = refl
+  absent : (found : GroupState) → WasState h es group found → is_there found ≡ false
+  absent state.Online was = absurd (apart was)
+  absent (state.Offline entry) was = absurd (apart was.0)
+  absent state.NotMade was = refl
 
 -- and it is a later one
 pub unmade_late : (h : Hierarchy) (es : List TreeEntry) (group : ℕ) → is_made h es group ≡ false → is_later h.later group ≡ true
-unmade_late h es group unmade = by_late (is_later h.later group) unmade
-  where
-    by_late : (b : Bool) → (not b || is_some (made_of es group)) ≡ false → b ≡ true
-    by_late true e = refl
-    by_late false e = sym e
+unmade_late h es group unmade = (elim (is_later h.later group) as (λ (b : Bool). (not b || is_some (made_of es group)) ≡ false → b ≡ true) [ true ↦ λ e. refl | false ↦ λ e. sym e ]) unmade
 
 module _ (x : Shared) (tables : AreTables x) (by : Serial) (group : ℕ) (s t : WorkerState) (home : IsHandless s.tree) where
   abbrev asked : Command
@@ -107,20 +94,11 @@ module _ (x : Shared) (tables : AreTables x) (by : Serial) (group : ℕ) (s t : 
   looked_did r gives grows rest row uncited untold unmade meets cause =
       let z : Step = step_of by asked (without r) s t (giving []) in
       let does = does_give s t [] home gives grows rest in
-      record {
-        work = giving [];
-        does = brings_of does;
-        did = record {
-          entries = no_entries x.script z refl refl row uncited;
-          lookups = unfound_lookups x.script z refl refl;
-          walks = calm_walks x.script z tt (record { walks = refl; seen = refl; maps = refl; cleared = refl });
-          charges = still_charges x.script z (record { ops = refl; charges = refl; uncharges = refl; freed = λ g. refl; added = λ g. refl; charged = λ g. refl });
-          moves = still_moves x.script z (record { walks = refl; takes = refl; gives = refl; carries = refl });
-          pool = still_pool x.script z does.core.pool (record { turns = refl; made = unmade }) (subst (IsToldOnce z) (sym untold) tt);
-          tree = still_tree x.script z refl (λ g asks above. absurd (none-some g asks)) meets;
-          cause = cause;
-        };
-      }
+      quiet_did (giving []) tt (record { walks = refl; seen = refl; maps = refl; cleared = refl; takes = refl; gives = refl; carries = refl })
+      (brings_of does) (no_entries x.script z refl refl row uncited) (unfound_lookups x.script z refl refl)
+      (still_charges x.script z (record { ops = refl; charges = refl; uncharges = refl; freed = λ g. refl; added = λ g. refl; charged = λ g. refl }))
+      (still_pool x.script z does.core.pool (record { turns = refl; made = unmade }) (subst (IsToldOnce z) (sym untold) tt))
+      (still_tree x.script z refl (λ g asks above. absurd (none-some g asks)) meets) cause
 
   -- an offline that met its group
   looked_meets : (r : Reply) → is_made (hierarchy_of (shape_of x.core)) t.tree.known group ≡ true → ((g : ℕ) → r ≡ reply.NotMade g → ⊥) → MeetsGroups x.script (step_of by asked (without r) s t (giving []))
@@ -226,24 +204,22 @@ begun_to x group s u home answer on h = absurd on
 pub spliced_freed : (parents ps : List ℕ) (group g : ℕ) (v : View) (all ms : List core.Made) → AllByRecursion (IsSpliceEntry ps group v all) ms → (sum_by (made_freed_below parents g) ms ≡ 0) × (sum_by (λ (m : core.Made). added_below parents g m.entry) ms ≡ 0)
 spliced_freed parents ps group g v all [] h = (refl, refl)
 spliced_freed parents ps group g v all (m ∷ ms) h = let r = spliced_freed parents ps group g v all ms h.1 in let one = by_kind m h.0.kind in
-    (omega (arith, r.0, one.0, sum_by-cons (made_freed_below parents g) m ms), omega (arith, r.1, one.1, sum_by-cons (λ (y : core.Made). added_below parents g y.entry) m ms))
-  where
-    by_kind : (y : core.Made) {child : ℕ} → IsMovedIn child all y ⊎ IsShut child y → (made_freed_below parents g y ≡ 0) × (added_below parents g y.entry ≡ 0)
-    by_kind y (inl a) = (ap (λ (e : Entry). born_below parents g (freed_by y.items e)) a.entry, ap (added_below parents g) a.entry)
-    by_kind y (inr b) = (ap (λ (e : Entry). born_below parents g (freed_by y.items e)) b.entry, ap (added_below parents g) b.entry)
+    (omega (arith, r.0, one.0, sum_by-cons (made_freed_below parents g) m ms), omega (arith, r.1, one.1, sum_by-cons (λ (y : core.Made). added_below parents g y.entry) m ms)) where
+      by_kind : (y : core.Made) {child : ℕ} → IsMovedIn child all y ⊎ IsShut child y → (made_freed_below parents g y ≡ 0) × (added_below parents g y.entry ≡ 0)
+      by_kind y (inl a) = (ap (λ (e : Entry). born_below parents g (freed_by y.items e)) a.entry, ap (added_below parents g) a.entry)
+      by_kind y (inr b) = (ap (λ (e : Entry). born_below parents g (freed_by y.items e)) b.entry, ap (added_below parents g) b.entry)
 
 -- each entry of a splice may be made by an offline of its group that was answered so
 pub spliced_may : (x : Shared) (z : Step) (group : ℕ) (all ms : List core.Made) → z.work.core.made ≡ all → z.command ≡ Some (command.Offline group) → MayHaveBegun z.answered.reply → Contains z.after.tree.known (Begin group)
     → AllByRecursion (IsSpliceEntry (parents_of x.script) group z.before.core all) ms → AllByRecursion (λ (m : core.Made). MayMakeEntry x.script z m m.entry) ms
 spliced_may x z group all [] made named may known h = tt
-spliced_may x z group all (m ∷ ms) made named may known h = (by_kind h.0.kind, spliced_may x z group all ms made named may known h.1)
-  where
-    closing : IsClosedByOffline x.script z m h.0.child
-    closing = record { group = group; command = named; answer = may; below = h.0.below; begun = known; later = h.0.later }
+spliced_may x z group all (m ∷ ms) made named may known h = (by_kind h.0.kind, spliced_may x z group all ms made named may known h.1) where
+  closing : IsClosedByOffline x.script z m h.0.child
+  closing = record { group = group; command = named; answer = may; below = h.0.below; begun = known; later = h.0.later }
 
-    by_kind : IsMovedIn h.0.child all m ⊎ IsShut h.0.child m → MayMakeEntry x.script z m m.entry
-    by_kind (inl a) = subst (λ (e : Entry). MayMakeEntry x.script z m e) (sym a.entry) (record { closing = closing; closed = a.closed; among = subst (λ (l : List core.Made). IsAmong a.closed l) (sym made) a.among; place = a.place; entry = a.shut })
-    by_kind (inr b) = subst (λ (e : Entry). MayMakeEntry x.script z m e) (sym b.entry) (subst (λ (c : ℕ). IsClosedByOffline x.script z m c) (sym b.group) closing)
+  by_kind : IsMovedIn h.0.child all m ⊎ IsShut h.0.child m → MayMakeEntry x.script z m m.entry
+  by_kind (inl a) = subst (λ (e : Entry). MayMakeEntry x.script z m e) (sym a.entry) (record { closing = closing; closed = a.closed; among = subst (λ (l : List core.Made). IsAmong a.closed l) (sym made) a.among; place = a.place; entry = a.shut })
+  by_kind (inr b) = subst (λ (e : Entry). MayMakeEntry x.script z m e) (sym b.entry) (subst (λ (c : ℕ). IsClosedByOffline x.script z m c) (sym b.group) closing)
 
 module _ (x : Shared) (tables : AreTables x) (by : Serial) (group : ℕ) (s u t : WorkerState) (b : HasBegunTo x group s u) (sp : IsSplicedTo (parents_of x.script) group u.core t.core) (rest : t ≡ record u { core = t.core }) where
   abbrev spliced_work : Work
@@ -259,36 +235,28 @@ module _ (x : Shared) (tables : AreTables x) (by : Serial) (group : ℕ) (s u t 
       let does = does_then s u t (giving b.made) (gaining (record nothing { made = sp.made; sets = sp.sets })) b.does (does_gain u t (record nothing { made = sp.made; sets = sp.sets }) sp.adds rest) in
       let known : Contains t.tree.known (Begin group) = subst (λ (v : WorkerState). Contains v.tree.known (Begin group)) (sym rest) b.known in
       let each = subst (λ (v : View). AllByRecursion (IsSpliceEntry (parents_of x.script) group v sp.made) sp.made) (ap (λ (v : WorkerState). v.core) b.same) sp.each in
-      record {
-        work = spliced_work;
-        does = brings_of does;
-        did = record {
-          entries = record {
-            each = each_rec (λ (m : core.Made). MayMakeEntry x.script z m m.entry) sp.made (spliced_may x z group sp.made sp.made refl refl may known each);
-            reply = λ family stands. row family;
-            sets = set_filled sp.made [] sp.sets sp.filled;
-            cited = λ c e. absurd (none-some c (sym uncited ∙ e));
-          };
-          lookups = unfound_lookups x.script z refl refl;
-          walks = calm_walks x.script z tt (record { walks = refl; seen = refl; maps = refl; cleared = refl });
-          charges = still_charges x.script z (record {
-            ops = refl;
-            charges = refl;
-            uncharges = refl;
-            freed = λ g. (spliced_freed (parents_of x.script) (parents_of x.script) group g s.core sp.made sp.made each).0;
-            added = λ g. (spliced_freed (parents_of x.script) (parents_of x.script) group g s.core sp.made sp.made each).1;
-            charged = λ g. refl;
-          });
-          moves = still_moves x.script z (record { walks = refl; takes = refl; gives = refl; carries = refl });
-          pool = still_pool x.script z does.core.pool (record { turns = refl; made = unmade }) (subst (IsToldOnce z) (sym untold) tt);
-          tree = record {
-            each = All-append (λ (m : TreeMade). (length s.tree.known ≤ m.number) × IsEntryOf x.script z m.number m.entry) b.made [] (b.each z refl refl may) (All-nil (λ (m : TreeMade). (length s.tree.known ≤ m.number) × IsEntryOf x.script z m.number m.entry));
-            online = λ g asks above. absurd (none-some g asks);
-            meets = known_meets x tables.shared z group (subst (λ (v : WorkerState). is_made (hierarchy_of (shape_of x.core)) v.tree.known group ≡ true) (sym rest) b.met) (λ g e. some_met (is_past_group r) group g e) (λ g e. subst MayHaveBegun e may);
-          };
-          cause = cause;
-        };
-      }
+      quiet_did spliced_work tt (record { walks = refl; seen = refl; maps = refl; cleared = refl; takes = refl; gives = refl; carries = refl })
+      (brings_of does)
+      (record {
+        each = each_rec (λ (m : core.Made). MayMakeEntry x.script z m m.entry) sp.made (spliced_may x z group sp.made sp.made refl refl may known each);
+        reply = λ family stands. row family;
+        sets = set_filled sp.made [] sp.sets sp.filled;
+        cited = λ c e. absurd (none-some c (sym uncited ∙ e));
+      }) (unfound_lookups x.script z refl refl)
+      (still_charges x.script z (record {
+        ops = refl;
+        charges = refl;
+        uncharges = refl;
+        freed = λ g. (spliced_freed (parents_of x.script) (parents_of x.script) group g s.core sp.made sp.made each).0;
+        added = λ g. (spliced_freed (parents_of x.script) (parents_of x.script) group g s.core sp.made sp.made each).1;
+        charged = λ g. refl;
+      }))
+      (still_pool x.script z does.core.pool (record { turns = refl; made = unmade }) (subst (IsToldOnce z) (sym untold) tt))
+      (record {
+        each = All-append (λ (m : TreeMade). (length s.tree.known ≤ m.number) × IsEntryOf x.script z m.number m.entry) b.made [] (b.each z refl refl may) (All-nil (λ (m : TreeMade). (length s.tree.known ≤ m.number) × IsEntryOf x.script z m.number m.entry));
+        online = λ g asks above. absurd (none-some g asks);
+        meets = known_meets x tables.shared z group (subst (λ (v : WorkerState). is_made (hierarchy_of (shape_of x.core)) v.tree.known group ≡ true) (sym rest) b.met) (λ g e. some_met (is_past_group r) group g e) (λ g e. subst MayHaveBegun e may);
+      }) cause
 
 -- ---- a call whose splices stopped
 
@@ -322,11 +290,8 @@ module _ (x : Shared) (tables : AreTables x) (by : Serial) (group : ℕ) (s u t 
   -- the place of the number of a place
   in_row : (n ids nodes : ℕ) → nodes ≤ 4 → n < ids * nodes → (n / nodes < ids) × (n % nodes < nodes)
   in_row n ids zero most lt = absurd (omega (arith, lt))
-  in_row n ids (suc zero) most lt = (omega (arith, lt), omega arith)
-  in_row n ids (suc (suc zero)) most lt = (omega (arith, lt), omega arith)
-  in_row n ids (suc (suc (suc zero))) most lt = (omega (arith, lt), omega arith)
-  in_row n ids (suc (suc (suc (suc zero)))) most lt = (omega (arith, lt), omega arith)
   in_row n ids (suc (suc (suc (suc (suc k))))) most lt = absurd (omega (arith, most))
+  in_row n ids nodes most lt = (omega (arith, lt), omega arith)
 
   few_nodes : shape.nodes ≤ 4
   few_nodes = let same = tables.shared.nodes in let most = within.nodes in omega (arith, same, most)
@@ -337,47 +302,46 @@ module _ (x : Shared) (tables : AreTables x) (by : Serial) (group : ℕ) (s u t 
   worn_did (spent.List place entries items) h =
       let r : Reply = reply.Worn (spent.List place entries items) in
       let sp = spliced_up h.reached h.moved h.between h.stopped.stops.cs h.spliced h.stopped.stops.closings in
-      spliced_did x tables by group s u t b sp rest r tt (λ family. tt) refl refl refl (cause (spliced_step x tables by group s u t b sp rest r) refl)
-    where
-      cause : (z : Step) → z.after ≡ t → IsListWorn x.script z place entries items
-      cause z end =
-          let k = h.stopped.worn in
-          let child = h.stopped.child in
-          let p : Place = place_by_number shape group h.reached in
-          let up : Place = group_place p.id p.node (parent_of parents child) in
-          let row = in_row h.reached shape.ids shape.nodes few_nodes h.within in
-          let ids = tables.shared.ids in
-          let nodes = tables.shared.nodes in
-          let there = h.stopped.stops.there in
-          let above : group ≤ child = IsAtOrAbove-le parents is_tree group child there h.stopped.stops.below in
-          let low = b.below in
-          let lower : parent_of parents child < child = is_tree.lower child (omega (arith, above, low)) there in
-          let groups = same_groups in
-          let a = row.0 in
-          let c = row.1 in
-          subst (λ (q : Place). IsListWorn x.script z q entries items) (sym k.here) (record {
-            there = record { id = omega (arith, a, ids); node = omega (arith, c, nodes); group = omega (arith, lower, there, groups) };
-            over = ⊎_elim (λ (lt : k.old.most_entries < entries). let m = k.pair.above_met.was.most_entries ∙ tables.most_entries in inl (omega (arith, lt, m))) (λ (lt : k.old.most_items < items). let m = k.pair.above_met.was.most_items ∙ tables.most_items in inr (omega (arith, lt, m))) k.worn.over;
-            known = k.old.entries;
-            held = k.old.items;
-            list = record {
-              knows = subst (λ (v : WorkerState). IsAmong (record { place = place_number up; entries = k.old.entries }) v.core.traces.known) (sym end) (contains_among t.core.traces.known (record { place = place_number up; entries = k.old.entries }) k.pair.above_met.known);
-              journal = k.pair.above_met.was.journal;
-            };
-            one_more = k.worn.entries_then;
-            most = inr (inr (record {
-              child = child;
-              below = subst (λ (l : List ℕ). is_child l (parent_of parents child) child ≡ true) (tree_is x tables.shared) (child_again parents (parent_of parents child) child (record { above = omega (arith, above, low); there = there; parent = refl }));
-              apart = k.pair.apart;
-              child_entries = k.given.entries;
-              child_items = k.given.items;
+      spliced_did x tables by group s u t b sp rest r tt (λ family. tt) refl refl refl (cause (spliced_step x tables by group s u t b sp rest r) refl) where
+        cause : (z : Step) → z.after ≡ t → IsListWorn x.script z place entries items
+        cause z end =
+            let k = h.stopped.worn in
+            let child = h.stopped.child in
+            let p : Place = place_by_number shape group h.reached in
+            let up : Place = group_place p.id p.node (parent_of parents child) in
+            let row = in_row h.reached shape.ids shape.nodes few_nodes h.within in
+            let ids = tables.shared.ids in
+            let nodes = tables.shared.nodes in
+            let there = h.stopped.stops.there in
+            let above : group ≤ child = IsAtOrAbove-le parents is_tree group child there h.stopped.stops.below in
+            let low = b.below in
+            let lower : parent_of parents child < child = is_tree.lower child (omega (arith, above, low)) there in
+            let groups = same_groups in
+            let a = row.0 in
+            let c = row.1 in
+            subst (λ (q : Place). IsListWorn x.script z q entries items) (sym k.here) (record {
+              there = record { id = omega (arith, a, ids); node = omega (arith, c, nodes); group = omega (arith, lower, there, groups) };
+              over = ⊎_elim (λ (lt : k.old.most_entries < entries). let m = k.pair.above_met.was.most_entries ∙ tables.most_entries in inl (omega (arith, lt, m))) (λ (lt : k.old.most_items < items). let m = k.pair.above_met.was.most_items ∙ tables.most_items in inr (omega (arith, lt, m))) k.worn.over;
+              known = k.old.entries;
+              held = k.old.items;
               list = record {
-                knows = subst (λ (v : WorkerState). IsAmong (record { place = place_number (group_place p.id p.node child); entries = k.given.entries }) v.core.traces.known) (sym end) (contains_among t.core.traces.known (record { place = place_number (group_place p.id p.node child); entries = k.given.entries }) k.pair.met.known);
-                journal = k.pair.met.was.journal;
+                knows = subst (λ (v : WorkerState). IsAmong (record { place = place_number up; entries = k.old.entries }) v.core.traces.known) (sym end) (contains_among t.core.traces.known (record { place = place_number up; entries = k.old.entries }) k.pair.above_met.known);
+                journal = k.pair.above_met.was.journal;
               };
-              most = (let n = k.worn.items_then in omega (arith, n, length-append k.given.items k.old.items));
-            }));
-          })
+              one_more = k.worn.entries_then;
+              most = inr (inr (record {
+                child = child;
+                below = subst (λ (l : List ℕ). is_child l (parent_of parents child) child ≡ true) (tree_is x tables.shared) (child_again parents (parent_of parents child) child (record { above = omega (arith, above, low); there = there; parent = refl }));
+                apart = k.pair.apart;
+                child_entries = k.given.entries;
+                child_items = k.given.items;
+                list = record {
+                  knows = subst (λ (v : WorkerState). IsAmong (record { place = place_number (group_place p.id p.node child); entries = k.given.entries }) v.core.traces.known) (sym end) (contains_among t.core.traces.known (record { place = place_number (group_place p.id p.node child); entries = k.given.entries }) k.pair.met.known);
+                  journal = k.pair.met.was.journal;
+                };
+                most = (let n = k.worn.items_then in omega (arith, n, length-append k.given.items k.old.items));
+              }));
+            })
 
 -- ---- an offline, but for what came of a call that handed all over
 
@@ -401,12 +365,3 @@ module _ (x : Shared) (tables : AreTables x) (by : Serial) (group : ℕ) (s t : 
 
   pub offline_did : (a : Answered) → worker.Offlines x by group a s t → HasDid x.script by (command.Offline group) a s t
   offline_did a h = subst (λ (b : Answered). HasDid x.script by (command.Offline group) b s t) (sym h.told) (by_answer h.answer h.offlined)
-
--- ---- the same of splices that are a part of more
-
-pub splices_freed : (parents ps : List ℕ) (group g : ℕ) (v : View) (all ms : List core.Made) → AllByRecursion (IsSpliceEntry ps group v all) ms → (sum_by (made_freed_below parents g) ms ≡ 0) × (sum_by (λ (m : core.Made). added_below parents g m.entry) ms ≡ 0)
-splices_freed parents ps group g v all ms h = spliced_freed parents ps group g v all ms h
-
-pub splices_may : (x : Shared) (z : Step) (group : ℕ) (all ms : List core.Made) → z.work.core.made ≡ all → z.command ≡ Some (command.Offline group) → MayHaveBegun z.answered.reply → Contains z.after.tree.known (Begin group)
-    → AllByRecursion (IsSpliceEntry (parents_of x.script) group z.before.core all) ms → AllByRecursion (λ (m : core.Made). MayMakeEntry x.script z m m.entry) ms
-splices_may x z group all ms made named may known h = spliced_may x z group all ms made named may known h

@@ -1,15 +1,11 @@
 -- The cause of an `offline` that was done.
-use Rattle.shr_assemble.proofs.Common.{◌≡◌, ℕ, ◌%◌, ◌^◌, ◌<◌, ◌≤◌, ◌≢◌, ⊎_elim, true, false, cond, eqb, List, length, take, refl, sym, ap, subst, ◌∙◌, arith, slice_get, Some, sum_by, filter, option_and_then, IsSomeAnd, cases_lt, eqb-true, same_Some, slice_get_within, dite, ℕ_discrete, Entry, Add, Look, Drop, Pin, Scan, MovedIn, Closed, Drained, Begin, Done, Place, Serial, Reply, Offline, Script, Carry, is_serial, group_named, IsAtOrAbove, is_closed, place_number, MayBegin, is_made, total, Begins, term_le, group_of, place_at, Made, Known, back, KnowsClosed, Report, parents_of, serial_of, journals_of, IsOffline, IsOfflineDone, MayHaveBegun, StandsInTree, moved_of, Step, IsAmong, steps_of, IsOfflinedBy, IsCausedBy, DidCarry, IsClosedByOffline, MayMakeEntry, IsEnded, IsEntryOf, IsRun, begun_made, begin_found, begun_before, take_in, all_zero, some_at, sum_total, closed_at, serial_itself, IsMoving, done_below}
+use Rattle.shr_assemble.proofs.Common.{◌≡◌, ℕ, ◌%◌, ◌^◌, ◌<◌, ◌≤◌, ◌≢◌, ⊎_elim, true, false, cond, eqb, List, length, take, refl, sym, ap, subst, ◌∙◌, arith, slice_get, Some, sum_by, filter, option_and_then, IsSomeAnd, cases_lt, eqb-true, same_Some, slice_get_within, dite, ℕ_discrete, Entry, Add, Look, Drop, Pin, Scan, MovedIn, Closed, Drained, Begin, Done, Place, Serial, Reply, Offline, Script, Carry, is_serial, group_named, IsAtOrAbove, is_closed, place_number, MayBegin, is_made, total, Begins, term_le, group_of, place_at, Made, Known, back, KnowsClosed, Report, parents_of, serial_of, journals_of, IsOffline, IsOfflineDone, MayHaveBegun, StandsInTree, moved_of, Step, IsAmong, steps_of, IsOfflinedBy, IsCausedBy, DidCarry, IsClosedByOffline, MayMakeEntry, IsEnded, IsEntryOf, IsRun, begun_made, begin_found, begun_before, take_in, all_zero, some_at, sum_total, closed_at, serial_itself, IsMoving, done_below, script_hierarchy, carries_by, IsAloneAt, MayHaveSpliced, objects_moved_from, no_test}
 use Rattle.shr_base.specs.declared.replies.Reply.TheVariants as reply
 use Rattle.shr_charge.specs.Views as charge
-use Rattle.shr_report.specs.Parts.{script_hierarchy, carries_by}
-use Rattle.shr_report.specs.Causes.{IsAloneAt, MayHaveSpliced, objects_moved_from}
-use Rattle.shr_assemble.proofs.Gathering.{each_among, mine_at, among_begins, total_gathered}
-use Rattle.shr_assemble.proofs.Listed.{all_among, all_slice, no_test, contains_slice, contains_among, at_closed, begins_slice}
-use Rattle.shr_assemble.proofs.Making.{made_stands, grows, reply_is}
-use Rattle.shr_assemble.proofs.Makers.{entry_stands, one_entry_maker}
+use Rattle.shr_assemble.proofs.Gathering.{each_among, mine_at, among_begins, total_gathered, made_stands, grows, reply_is}
+use Rattle.shr_assemble.proofs.Listed.{all_among, all_slice, contains_slice, contains_among, at_closed, begins_slice}
+use Rattle.shr_assemble.proofs.JournalsLaw.{entry_stands, one_entry_maker, tree_stands}
 use Rattle.shr_assemble.proofs.EntrySums.{entries_made, entries_of_step}
-use Rattle.shr_assemble.proofs.Shown.{tree_stands}
 use Rattle.shr_assemble.proofs.StandsOnce.{done_once}
 use Rattle.shr_assemble.proofs.WalksLaw.{filter_part}
 use Rattle.shr_assemble.proofs.LimitsLaw.{serial_same}
@@ -17,16 +13,15 @@ use Rattle.shr_assemble.proofs.LimitsLaw.{serial_same}
 module _ (s : Script) (r : Report) (workers : List (List Step)) (run : IsRun s r workers) where
   pub carries_are : (worker k : ℕ) (x : Step) → slice_get (steps_of workers worker) k ≡ Some x → carries_by r (serial_of worker k) ≡ x.work.carries
   carries_are worker k x at = ap (filter (λ (c : Carry). is_serial (serial_of worker k) c.by)) (run.steps.carries worker)
-      ∙ filter_part (λ (c : Carry). is_serial (serial_of worker k) c.by) (λ (y : Step). y.work.carries) (steps_of workers worker) k x at own others
-    where
-      by_of : (j i : ℕ) (y : Step) (c : Carry) → slice_get (steps_of workers worker) j ≡ Some y → slice_get y.work.carries i ≡ Some c → c.by ≡ serial_of worker j
-      by_of j i y c at_y at_c = let is = run.steps.each worker j y at_y in (all_slice (DidCarry s y) y.work.carries i c is.did.moves.carries at_c).by ∙ is.by
+      ∙ filter_part (λ (c : Carry). is_serial (serial_of worker k) c.by) (λ (y : Step). y.work.carries) (steps_of workers worker) k x at own others where
+        by_of : (j i : ℕ) (y : Step) (c : Carry) → slice_get (steps_of workers worker) j ≡ Some y → slice_get y.work.carries i ≡ Some c → c.by ≡ serial_of worker j
+        by_of j i y c at_y at_c = let is = run.steps.each worker j y at_y in (all_slice (DidCarry s y) y.work.carries i c is.did.moves.carries at_c).by ∙ is.by
 
-      own : (j : ℕ) (c : Carry) → slice_get x.work.carries j ≡ Some c → is_serial (serial_of worker k) c.by ≡ true
-      own j c e = ap (is_serial (serial_of worker k)) (by_of k j x c at e) ∙ serial_itself (serial_of worker k)
+        own : (j : ℕ) (c : Carry) → slice_get x.work.carries j ≡ Some c → is_serial (serial_of worker k) c.by ≡ true
+        own j c e = ap (is_serial (serial_of worker k)) (by_of k j x c at e) ∙ serial_itself (serial_of worker k)
 
-      others : (i j : ℕ) (y : Step) (c : Carry) → slice_get (steps_of workers worker) i ≡ Some y → i ≢ k → slice_get y.work.carries j ≡ Some c → is_serial (serial_of worker k) c.by ≡ false
-      others i j y c at_y ne e = no_test (is_serial (serial_of worker k) c.by) (λ same. ne (ap (λ (z : Serial). z.command) (sym (serial_same (serial_of worker k) c.by same ∙ by_of i j y c at_y e))))
+        others : (i j : ℕ) (y : Step) (c : Carry) → slice_get (steps_of workers worker) i ≡ Some y → i ≢ k → slice_get y.work.carries j ≡ Some c → is_serial (serial_of worker k) c.by ≡ false
+        others i j y c at_y ne e = no_test (is_serial (serial_of worker k) c.by) (λ same. ne (ap (λ (z : Serial). z.command) (sym (serial_same (serial_of worker k) c.by same ∙ by_of i j y c at_y e))))
 
   -- nothing stands after a Closed
   pub closed_last : (place : Place) (es : List Entry) (n : ℕ) → Begins es (journals_of r place) → is_closed es ≡ true → length es ≤ n → (e : Entry) → slice_get (journals_of r place) n ≡ Some e → ⊥
@@ -111,26 +106,19 @@ module _ (s : Script) (r : Report) (workers : List (List Step)) (run : IsRun s r
           (λ lt. let b = contains_slice y.after.tree.known (Begin closing.group) closing.begun in earlier same lt closing.group other above b.0 b.1)
           (λ le. later same (strictly same le) t.closed t.among t.entry (group_is m child t from) (may_close t.closed t.among t.entry))
           (cases_lt j k))
-          (λ elsewhere. alone.above (serial_of v j) closing.group (λ w. elsewhere (w ∙ ap (λ (z : Serial). z.worker) own_serial)) other above (is_offline closing.group MayHaveBegun closing.command closing.answer)))
-        where
-          strictly : v ≡ worker → k ≤ j → k < j
-          strictly same le = dite (ℕ_discrete j k) (λ e. absurd (apart (same, e))) (λ ne. omega (arith, ne, le))
+          (λ elsewhere. alone.above (serial_of v j) closing.group (λ w. elsewhere (w ∙ ap (λ (z : Serial). z.worker) own_serial)) other above (is_offline closing.group MayHaveBegun closing.command closing.answer))) where
+            strictly : v ≡ worker → k ≤ j → k < j
+            strictly same le = dite (ℕ_discrete j k) (λ e. absurd (apart (same, e))) (λ ne. omega (arith, ne, le))
 
-          group_is : (m : Made) (child : ℕ) (t : IsMoving s y m child) → child ≡ h.group → group_of t.closed.place ≡ h.group
-          group_is m child t from = let small = run.sized.groups in omega (arith, t.place, from, in_tree, small)
+            group_is : (m : Made) (child : ℕ) (t : IsMoving s y m child) → child ≡ h.group → group_of t.closed.place ≡ h.group
+            group_is m child t from = let small = run.sized.groups in omega (arith, t.place, from, in_tree, small)
 
-          may_close : (c : Made) → IsAmong c y.work.core.made → c.entry ≡ Closed → IsClosedByOffline s y c (group_of c.place)
-          may_close c among closed = subst (MayMakeEntry s y c) closed (each_among (λ (z : Made). MayMakeEntry s y z z.entry) y.work.core.made c (run.steps.each v j y at_y).did.entries.each among)
+            may_close : (c : Made) → IsAmong c y.work.core.made → c.entry ≡ Closed → IsClosedByOffline s y c (group_of c.place)
+            may_close c among closed = subst (MayMakeEntry s y c) closed (each_among (λ (z : Made). MayMakeEntry s y z z.entry) y.work.core.made c (run.steps.each v j y at_y).did.entries.each among)
 
       weighs_none : (m : Made) (e : Entry) → MayMakeEntry s y m e → moved_of h.group e ≡ 0
-      weighs_none m (Add b birth added key value) may = refl
-      weighs_none m (Look b birth key hit) may = refl
-      weighs_none m (Drop b birth key kind) may = refl
-      weighs_none m (Pin b birth key pinned hit) may = refl
-      weighs_none m (Scan w walk asked policy visits freed stopped) may = refl
       weighs_none m (MovedIn child objects) may = ap (λ b. cond b objects 0) (no_test (eqb child h.group) (λ same. moving m child may (eqb-true child h.group same)))
-      weighs_none m Closed may = refl
-      weighs_none m (Drained b objects) may = refl
+      weighs_none m e may = refl
 
       step_none : total (λ (m : Made). moved_of h.group m.entry) y.work.core.made ≡ 0
       step_none = all_zero (λ (m : Made). moved_of h.group m.entry) y.work.core.made (λ i m e. weighs_none m m.entry (each_among (λ (z : Made). MayMakeEntry s y z z.entry) y.work.core.made m (run.steps.each v j y at_y).did.entries.each (i, some_at y.work.core.made i m e)))

@@ -1,19 +1,16 @@
 -- What the report of a run tells is in one order: that of the events in the line of all that the workers did.
-use Rattle.shr_assemble.proofs.Common.{◌≡◌, ◌≢◌, ◌⊎◌, ℕ, zero, suc, ◌+◌, ◌<◌, ◌≤◌, inl, inr, ⊎_elim, Bool, true, cond, List, [], ◌∷◌, ◌++◌, length, map, get_or, sym, refl, ap, subst, ◌∙◌, arith, eqb, eq-eqb, slice_get, Option, Some, None, nat_lt, flat_map, option_map, option_to_list, Contains, IsSomeAnd, and_from, lt-ltb, append-nil, same_Some, none-some, slice_get-get_or, dite, ℕ_discrete, dec_lt, some, some-injective, some-ne-none, get_elem?, Entry, Add, Look, Drop, Pin, Scan, MovedIn, Closed, Drained, PoolEntry, Registered, Place, Serial, Answered, Reply, Script, WalkRecord, place_number, Has, Has_from_Contains, map_has, Deed, by_seat, acts_of, at_begins, among, seen_in, attempts_in, Event, Made, Tried, Turn, counted, made, looked, turned, EventTells, back, Report, IsMadeBy, serial_of, decls_on, answer_at, reply_at, walks_by, journals_of, entry_by, Told, entry, lookup, turn, count, Counting, ToldMeasure, entries, lookups, turns, looked_by, countings_of, HasAt, IsBy, TurnTells, IsInOneOrder, MayMakeEntry, number_made, IsRun, Step, IsAmong, steps_of, some_at}
+use Rattle.shr_assemble.proofs.Common.{◌≡◌, ◌≢◌, ◌⊎◌, ℕ, zero, suc, ◌+◌, ◌<◌, ◌≤◌, inl, inr, ⊎_elim, Bool, true, cond, List, [], ◌∷◌, ◌++◌, length, map, get_or, sym, refl, ap, subst, ◌∙◌, arith, eqb, eq-eqb, slice_get, Option, Some, None, nat_lt, flat_map, option_map, option_to_list, Contains, IsSomeAnd, and_from, lt-ltb, append-nil, same_Some, none-some, slice_get-get_or, dite, ℕ_discrete, dec_lt, some, some-injective, some-ne-none, get_elem?, Entry, Add, Look, Drop, Pin, Scan, MovedIn, Closed, Drained, PoolEntry, Registered, Place, Serial, Answered, Reply, Script, WalkRecord, place_number, Has, Has_from_Contains, map_has, Deed, by_seat, acts_of, at_begins, among, seen_in, attempts_in, Event, Made, Tried, Turn, counted, made, looked, turned, EventTells, back, Report, IsMadeBy, serial_of, decls_on, answer_at, reply_at, walks_by, journals_of, entry_by, Told, entry, lookup, turn, count, Counting, ToldMeasure, entries, lookups, turns, looked_by, countings_of, HasAt, IsBy, TurnTells, IsInOneOrder, MayMakeEntry, number_made, IsRun, Step, IsAmong, steps_of, some_at, ReportTells, TellsOf}
 use Rattle.shr_core.specs.Ranks as core
 use Rattle.shr_core.proofs.Ranking as ranking
-use Rattle.shr_report.specs.OneOrder.{numbers_tried, number_found, ReportTells, TellsOf}
+use Rattle.shr_report.specs.OneOrder.{numbers_tried, number_found}
 use Rattle.shr_assemble.proofs.CountsTold.{at_behind, at_less, mine, count_spot, CountAt, count_at, one_seen}
 use Rattle.shr_assemble.proofs.EventsTold.{is_entry, is_lookup, is_turn, entry_tells, lookup_tells, turn_tells, alone, core_of, one_try, not_below, registered, registered_flat}
 use Rattle.shr_assemble.proofs.FreshLaw.{step_cases, begins_length}
-use Rattle.shr_assemble.proofs.Chains.{first_grows}
-use Rattle.shr_assemble.proofs.Flattening.{slice_map}
-use Rattle.shr_assemble.proofs.Gathering.{each_among}
+use Rattle.shr_assemble.proofs.Gathering.{first_grows, work_of, answer_is, reply_is, maker, each_among}
+use Rattle.shr_assemble.proofs.Listed.{slice_map, has_among, among_has}
 use Rattle.shr_assemble.proofs.IsolationSteps.{scanned_by, visited_by}
 use Rattle.shr_assemble.proofs.LineOrder.{has_made, looked_in, has_looked, has_turned, later_did}
-use Rattle.shr_assemble.proofs.Makers.{turn_stands, turn_maker}
-use Rattle.shr_assemble.proofs.Making.{work_of, answer_is, reply_is, maker}
-use Rattle.shr_assemble.proofs.Operations.{has_among, among_has}
+use Rattle.shr_assemble.proofs.JournalsLaw.{turn_stands, turn_maker}
 use Rattle.shr_assemble.proofs.PoolPast.{turn_by}
 use Rattle.shr_assemble.proofs.Spots.{spot_of, spot_there, spots_rise, first_of, Passes, first_there, kind_spot, kind_there, kinds_rise}
 use Rattle.shr_assemble.proofs.WalksLaw.{walks_are}
@@ -34,14 +31,12 @@ module _ (s : Script) (r : Report) (workers : List (List Step)) (run : IsRun s r
       let same : is.0 ≡ t.0 = same_Some is.0 t.0 (sym is.1 ∙ t.1) in
       subst (λ (z : Event). EventTells (core.entries (place_number p)) z low high) (sym is.2)
       (ap (λ (c : Counting). place_number c.place) same ∙ ap place_number t.2.0, t.2.1 ∙ ap (λ (c : Counting). c.seen.version) (sym same), t.2.2 ∙ ap (λ (c : Counting). c.seen.version) (sym same))
-  tells (entries p) x e low high is t = absurd t
   tells (lookups i) (lookup id n) e low high is t = subst (λ (z : Event). EventTells (core.lookups i) z low high) (sym is.1) (is.2 ∙ t.0, t.1 ∙ sym is.3, t.2 ∙ ap (λ j. j + 1) (sym is.3))
   tells (lookups i) (turn n) e low high is t =
       let same : t.0 ≡ is.0.entry = same_Some t.0 is.0.entry (sym t.1 ∙ is.3) in
       subst (λ (z : Event). EventTells (core.lookups i) z low high) (sym is.1) (registered i low high is.0.entry (subst (TurnTells i low high) same t.2))
-  tells (lookups i) x e low high is t = absurd t
   tells turns (turn n) e low high is t = subst (λ (z : Event). EventTells core.turns z low high) (sym is.1) (t.0 ∙ sym is.2, t.1 ∙ ap (λ j. j + 1) (sym is.2))
-  tells turns x e low high is t = absurd t
+  tells m x e low high is t = absurd t
 
   -- two that tell the same numbers of one measure, with something between them, are one
   not_same : (m : ToldMeasure) (x y : Told) (low high low' high' : ℕ) → TellsOf r m x low high → TellsOf r m y low' high' → low ≡ low' → high ≡ high' → low < high' → x ≢ y → ⊥
@@ -50,16 +45,14 @@ module _ (s : Script) (r : Report) (workers : List (List Step)) (run : IsRun s r
   not_same (entries p) (entry a i) (count w j) low high low' high' t u l h less apart = let flat : low' ≡ high' = u.2.1 ∙ sym u.2.2 in absurd (omega (arith, less, l, flat))
   not_same (entries p) (entry a i) y low high low' high' t u l h less apart = absurd u
   not_same (entries p) (count w i) y low high low' high' t u l h less apart = let flat : low ≡ high = t.2.1 ∙ sym t.2.2 in absurd (omega (arith, less, h, flat))
-  not_same (entries p) x y low high low' high' t u l h less apart = absurd t
   not_same (lookups id) (lookup a i) (lookup b j) low high low' high' t u l h less apart =
       let id_is : a ≡ b = t.0 ∙ sym u.0 in let same : i ≡ j = sym t.1 ∙ (l ∙ u.1) in apart (λ d. lookup (id_is d) (same d))
   not_same (lookups id) (lookup a i) (turn j) low high low' high' t u l h less apart = let flat = registered_flat id low' high' u.0 u.2 in absurd (omega (arith, less, l, flat))
   not_same (lookups id) (lookup a i) y low high low' high' t u l h less apart = absurd u
   not_same (lookups id) (turn i) y low high low' high' t u l h less apart = let flat = registered_flat id low high t.0 t.2 in absurd (omega (arith, less, h, flat))
-  not_same (lookups id) x y low high low' high' t u l h less apart = absurd t
   not_same turns (turn i) (turn j) low high low' high' t u l h less apart = apart (ap turn (sym t.0 ∙ (l ∙ u.0)))
   not_same turns (turn i) y low high low' high' t u l h less apart = absurd u
-  not_same turns x y low high low' high' t u l h less apart = absurd t
+  not_same m x y low high low' high' t u l h less apart = absurd t
 
   -- ---- ranks
   -- the entries of the caches that are `on` stand before all that the workers did
@@ -115,12 +108,11 @@ module _ (s : Script) (r : Report) (workers : List (List Step)) (run : IsRun s r
         there = there;
         says = says;
         is = ranked (spot_of (1 + worker) run.order.line (length y.before.core.did + p)) deed (spot_there (1 + worker) run.order.line (length y.before.core.did + p) deed there) refl;
-      }
-    where
-      seated : (es : List Event) (i : ℕ) → get_elem? es i ≡ some e → get_elem? (by_seat y.before.core.seat es) i ≡ some (record { seat = y.before.core.seat; act = e })
-      seated [] i q = absurd (some-ne-none e (sym q))
-      seated (f ∷ fs) zero q = ap (λ (a : Event). some (record { seat = y.before.core.seat; act = a })) (some-injective f e q)
-      seated (f ∷ fs) (suc i) q = seated fs i q
+      } where
+        seated : (es : List Event) (i : ℕ) → get_elem? es i ≡ some e → get_elem? (by_seat y.before.core.seat es) i ≡ some (record { seat = y.before.core.seat; act = e })
+        seated [] i q = absurd (some-ne-none e (sym q))
+        seated (f ∷ fs) zero q = ap (λ (a : Event). some (record { seat = y.before.core.seat; act = a })) (some-injective f e q)
+        seated (f ∷ fs) (suc i) q = seated fs i q
 
   of_step : (x : Told) (worker k : ℕ) (y : Step) (at : slice_get (steps_of workers worker) k ≡ Some y) (e : Event) → Has (work_of s r workers run worker k y at).core.did e → Says x e → IsRanked x e → OfStep x worker k
   of_step x worker k y at e has says ranked = let a = has_among (work_of s r workers run worker k y at).core.did e has in at_step x worker k y at e a.0 a.1 says ranked
@@ -128,16 +120,12 @@ module _ (s : Script) (r : Report) (workers : List (List Step)) (run : IsRun s r
   -- ---- entries of lists
   -- an entry of a command is of the step that made it
   step_by : (worker k : ℕ) (x : Step) (m : Made) (e : Entry) (b : Serial) → slice_get (steps_of workers worker) k ≡ Some x → IsAmong m x.work.core.made → m.entry ≡ e → MayMakeEntry s x m e → entry_by r e ≡ Some b → x.by ≡ b
-  step_by worker k x m (Add by birth added key value) b at has here may is = sym may.own ∙ same_Some by b is
-  step_by worker k x m (Look by birth key hit) b at has here may is = sym may.own ∙ same_Some by b is
-  step_by worker k x m (Drop by birth key kind) b at has here may is = sym may.own ∙ same_Some by b is
-  step_by worker k x m (Pin by birth key pinned hit) b at has here may is = sym may.own ∙ same_Some by b is
   step_by worker k x m (Scan w n asked policy visits freed stopped) b at has here may is = ⊎_elim
       (λ t. same_Some x.by b (sym (scanned_by s r workers run worker k x m w n at t) ∙ is))
       (λ t. same_Some x.by b (sym (visited_by s r workers run worker k x m w n asked visits freed policy stopped at t has here) ∙ is)) may
   step_by worker k x m (MovedIn child objects) b at has here may is = absurd (none-some b is)
   step_by worker k x m Closed b at has here may is = absurd (none-some b is)
-  step_by worker k x m (Drained by objects) b at has here may is = sym may.own ∙ same_Some by b is
+  step_by worker k x m e b at has here may is = sym may.own ∙ same_Some _ b is
 
   pub entry_ranked : (place : Place) (n : ℕ) (m : Made) → m.place ≡ place_number place → m.number ≡ n → IsRanked (entry place n) (made m)
   entry_ranked place n m here number i d at act = ap (λ j. opened + j) (first_is (core.entries (place_number place)) n (is_entry (place_number place) n) (entry_tells (place_number place) n) i
@@ -291,19 +279,18 @@ module _ (s : Script) (r : Report) (workers : List (List Step)) (run : IsRun s r
       (λ a. let one = ap rank a.1 ∙ start_rank a.0 a.2 in let lt = a.2 in let is = b.is in omega (arith, one, lt, is))
       (λ a. both a b)
       (stands x told))
-      (stands y told')
-    where
-      both : InLine x → InLine y → rank x < rank y
-      both a b =
-          let first = tells m x a.deed.act low high a.says t in
-          let second = tells m y b.deed.act low' high' b.says u in
-          let le = ranking.by_numbers s.ids 0 run.order.line run.order.events a.index b.index a.deed b.deed a.there b.there (core_of m) low high low' high' first second less in
-          let is_a = a.is in let is_b = b.is in
-          dite (ℕ_discrete a.index b.index)
-          (λ same. let deed : a.deed ≡ b.deed = some-injective a.deed b.deed (sym a.there ∙ (ap (get_elem? run.order.line) same ∙ b.there)) in
-          let equal = alone (core_of m) b.deed.act low high low' high' (subst (λ (d : Deed Event). EventTells (core_of m) d.act low high) deed first) second in
-          absurd (not_same m x y low high low' high' t u equal.0 equal.1 less apart))
-          (λ other. omega (arith, le, other, is_a, is_b))
+      (stands y told') where
+        both : InLine x → InLine y → rank x < rank y
+        both a b =
+            let first = tells m x a.deed.act low high a.says t in
+            let second = tells m y b.deed.act low' high' b.says u in
+            let le = ranking.by_numbers s.ids 0 run.order.line run.order.events a.index b.index a.deed b.deed a.there b.there (core_of m) low high low' high' first second less in
+            let is_a = a.is in let is_b = b.is in
+            dite (ℕ_discrete a.index b.index)
+            (λ same. let deed : a.deed ≡ b.deed = some-injective a.deed b.deed (sym a.there ∙ (ap (get_elem? run.order.line) same ∙ b.there)) in
+            let equal = alone (core_of m) b.deed.act low high low' high' (subst (λ (d : Deed Event). EventTells (core_of m) d.act low high) deed first) second in
+            absurd (not_same m x y low high low' high' t u equal.0 equal.1 less apart))
+            (λ other. omega (arith, le, other, is_a, is_b))
 
   -- ---- within a command
   -- a lookup of a command, by its number among the command's

@@ -18,38 +18,31 @@ answers_in parents own over stood g = cond (is_at_or_above parents g own) (met_a
 
 pub outcomes_then : (limit : Option ℕ) (a b : List UseStep) → outcomes limit (a ++ b) ≡ outcomes limit a ++ outcomes limit b
 outcomes_then limit [] b = refl
-outcomes_then limit (o ∷ a) b = kept o.up (outcomes_then limit a b)
-  where
-    kept : (t : Bool) → outcomes limit (a ++ b) ≡ outcomes limit a ++ outcomes limit b
-        → map (is_refused limit) (cond t (o ∷ filter (λ (y : UseStep). y.up) (a ++ b)) (filter (λ (y : UseStep). y.up) (a ++ b)))
-        ≡ map (is_refused limit) (cond t (o ∷ filter (λ (y : UseStep). y.up) a) (filter (λ (y : UseStep). y.up) a)) ++ outcomes limit b
-    kept true e = ap (λ (l : List Bool). is_refused limit o ∷ l) e
-    kept false e = e
+outcomes_then limit (o ∷ a) b = kept o.up (outcomes_then limit a b) where
+  kept : (t : Bool) → outcomes limit (a ++ b) ≡ outcomes limit a ++ outcomes limit b
+      → map (is_refused limit) (cond t (o ∷ filter (λ (y : UseStep). y.up) (a ++ b)) (filter (λ (y : UseStep). y.up) (a ++ b)))
+      ≡ map (is_refused limit) (cond t (o ∷ filter (λ (y : UseStep). y.up) a) (filter (λ (y : UseStep). y.up) a)) ++ outcomes limit b
+  kept true e = ap (λ (l : List Bool). is_refused limit o ∷ l) e
+  kept false e = e
 
 met_then : (parents : List ℕ) (g : ℕ) (over more : List ℕ) → met_at parents g (over ++ more) ≡ met_at parents g over ++ met_at parents g more
 met_then parents g [] more = refl
-met_then parents g (h ∷ over) more = kept (is_at_or_above parents h g) (met_then parents g over more)
-  where
-    kept : (t : Bool) → met_at parents g (over ++ more) ≡ met_at parents g over ++ met_at parents g more
-        → map (λ (j : ℕ). j == g) (cond t (h ∷ filter (λ (j : ℕ). is_at_or_above parents j g) (over ++ more)) (filter (λ (j : ℕ). is_at_or_above parents j g) (over ++ more)))
-        ≡ map (λ (j : ℕ). j == g) (cond t (h ∷ filter (λ (j : ℕ). is_at_or_above parents j g) over) (filter (λ (j : ℕ). is_at_or_above parents j g) over)) ++ met_at parents g more
-    kept true e = ap (λ (l : List Bool). (h == g) ∷ l) e
-    kept false e = e
+met_then parents g (h ∷ over) more = kept (is_at_or_above parents h g) (met_then parents g over more) where
+  kept : (t : Bool) → met_at parents g (over ++ more) ≡ met_at parents g over ++ met_at parents g more
+      → map (λ (j : ℕ). j == g) (cond t (h ∷ filter (λ (j : ℕ). is_at_or_above parents j g) (over ++ more)) (filter (λ (j : ℕ). is_at_or_above parents j g) (over ++ more)))
+      ≡ map (λ (j : ℕ). j == g) (cond t (h ∷ filter (λ (j : ℕ). is_at_or_above parents j g) over) (filter (λ (j : ℕ). is_at_or_above parents j g) over)) ++ met_at parents g more
+  kept true e = ap (λ (l : List Bool). (h == g) ∷ l) e
+  kept false e = e
 
 pub answers_then : (parents : List ℕ) (own : ℕ) (over more : List ℕ) (n g : ℕ) → answers_in parents own over 0 g ++ answers_in parents own more n g ≡ answers_in parents own (over ++ more) n g
-answers_then parents own over more n g = kept (is_at_or_above parents g own)
-  where
-    kept : (t : Bool) → cond t (met_at parents g over ++ replicate 0 false) [] ++ cond t (met_at parents g more ++ replicate n false) [] ≡ cond t (met_at parents g (over ++ more) ++ replicate n false) []
-    kept true = ap (λ (l : List Bool). l ++ (met_at parents g more ++ replicate n false)) (append-nil (met_at parents g over))
-        ∙ (sym (append_assoc (met_at parents g over) (met_at parents g more) (replicate n false)) ∙ ap (λ (l : List Bool). l ++ replicate n false) (sym (met_then parents g over more)))
-    kept false = refl
+answers_then parents own over more n g = kept (is_at_or_above parents g own) where
+  kept : (t : Bool) → cond t (met_at parents g over ++ replicate 0 false) [] ++ cond t (met_at parents g more ++ replicate n false) [] ≡ cond t (met_at parents g (over ++ more) ++ replicate n false) []
+  kept true = ap (λ (l : List Bool). l ++ (met_at parents g more ++ replicate n false)) (append-nil (met_at parents g over))
+      ∙ (sym (append_assoc (met_at parents g over) (met_at parents g more) (replicate n false)) ∙ ap (λ (l : List Bool). l ++ replicate n false) (sym (met_then parents g over more)))
+  kept false = refl
 
 pub no_answers : (parents : List ℕ) (own g : ℕ) → answers_in parents own [] 0 g ≡ []
-no_answers parents own g = kept (is_at_or_above parents g own)
-  where
-    kept : (t : Bool) → ◌≡◌ {A = List Bool} (cond t ([] ++ replicate 0 false) []) []
-    kept true = refl
-    kept false = refl
+no_answers parents own g = elim (is_at_or_above parents g own) as (λ (t : Bool). ◌≡◌ {A = List Bool} (cond t ([] ++ replicate 0 false) []) []) [ true ↦ refl | false ↦ refl ]
 
 -- ---- ups and downs
 
@@ -80,11 +73,7 @@ over_outcomes limit o ops up above down = ap {A = Bool} (λ (t : Bool). map (is_
 any_has : (xs : List ℕ) (g : ℕ) → Has xs g → list_any (λ (h : ℕ). h == g) xs ≡ true
 any_has [] g h = absurd h
 any_has (x ∷ xs) g (inl e) = ap (λ (b : Bool). b || list_any (λ (h : ℕ). h == g) xs) (eq-eqb x g e)
-any_has (x ∷ xs) g (inr h) = ap (λ (b : Bool). (x == g) || b) (any_has xs g h) ∙ or_true (x == g)
-  where
-    or_true : (b : Bool) → (b || true) ≡ true
-    or_true true = refl
-    or_true false = refl
+any_has (x ∷ xs) g (inr h) = ap (λ (b : Bool). (x == g) || b) (any_has xs g h) ∙ (elim (x == g) as (λ (b : Bool). (b || true) ≡ true) [ true ↦ refl | false ↦ refl ])
 
 has_any : (xs : List ℕ) (g : ℕ) → list_any (λ (h : ℕ). h == g) xs ≡ true → Has xs g
 has_any [] g e = absurd (let f : false ≡ true = e in cc)
@@ -120,7 +109,6 @@ module _ (parents : List ℕ) (tree : IsTree parents) (level g : ℕ) (apart : g
       let none : ◌≡◌ {A = ℕ} (cond (b == g) 1 0) 0 = ap (λ (t : Bool). cond {A = ℕ} t 1 0) (ne_eqb b g ne) in
       let step : is_at_or_above parents g b ≡ is_at_or_above parents g (parent_of parents b) = ap (list_any (λ (h : ℕ). h == g)) (path_of-below parents tree b above low) ∙ ap (λ (t : Bool). t || is_at_or_above parents g (parent_of parents b)) (ne_eqb b g ne) in
       let same : On (parent_of parents b) ≡ On b = ap (λ (t : Bool). cond {A = ℕ} (t && is_at_or_above parents level g) 1 0) (sym step) in
-      omega (arith, way, first, none, rest, same)))) own lt
-    where
-      root_only : IsOn parents level 0 → 0 ≡ level
-      root_only on = ⊎_elim (λ e. e) (λ none. absurd none) (subst (λ (xs : List ℕ). Has xs level) (path_of-root parents) on)
+      omega (arith, way, first, none, rest, same)))) own lt where
+        root_only : IsOn parents level 0 → 0 ≡ level
+        root_only on = ⊎_elim (λ e. e) (λ none. absurd none) (subst (λ (xs : List ℕ). Has xs level) (path_of-root parents) on)

@@ -6,8 +6,7 @@ use Rattle.shr_node.specs.declared.answers.NodePin.{NodePin}
 use Rattle.shr_node.specs.declared.answers.NodePin.TheVariants as pin
 use Rattle.shr_node.specs.Answers as lists
 use Rattle.shr_cache.specs.Pins.{Pins, PinnedFrom, PinnedAs, SetPinGives}
-use Rattle.shr_assemble.proofs.Quiet.{HasDid, some_met}
-use Rattle.shr_assemble.proofs.QuietSteps.{AreTables}
+use Rattle.shr_assemble.proofs.QuietSteps.{HasDid, some_met, AreTables}
 use Rattle.shr_assemble.proofs.QuietTenant.{IsTenant, group_in, refused_did, acted_did, stood_did, stood_step, cites_is, list_worn}
 
 module _ (x : Shared) (tables : AreTables x) (by : Serial) (group node decl : ℕ) (key : List ℕ) (pinned : Bool) (within : IsObjectWithin (content_of x.script) group node decl key) where

@@ -5,8 +5,8 @@ use Rattle.shr_base.specs.declared.replies.Spent.TheVariants as spent
 use Rattle.shr_plain.specs.declared.answers.GrabAnswer.TheVariants as grab
 use Rattle.shr_plain.specs.declared.answers.ReleaseAnswer.TheVariants as release
 use Rattle.shr_plain.specs.Answers.{ReleaseGives, GrabGives}
-use Rattle.shr_assemble.proofs.Quiet.{step_of, HasDid, meets_none}
-use Rattle.shr_assemble.proofs.QuietNothing.{nothing_did}
+use Rattle.shr_assemble.proofs.QuietSteps.{step_of, HasDid, meets_none}
+use Rattle.shr_assemble.proofs.QuietCharges.{nothing_did}
 use Rattle.shr_assemble.proofs.QuietTenant.{without}
 
 -- a reply of no object, no registration and no group

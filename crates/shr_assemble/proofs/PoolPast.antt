@@ -3,11 +3,9 @@ use Rattle.shr_assemble.proofs.Common.{◌≡◌, ℕ, ◌+◌, ◌<◌, ◌≤�
 use Rattle.shr_base.specs.declared.replies.Reply.TheVariants as reply
 use Rattle.shr_assemble.specs.Causes as by
 use Rattle.shr_assemble.proofs.FreshLaw.{of_is, step_cases, none_given, begins_length}
-use Rattle.shr_assemble.proofs.Gathering.{each_among}
-use Rattle.shr_assemble.proofs.Makers.{turn_stands}
-use Rattle.shr_assemble.proofs.Making.{grows, reply_is}
+use Rattle.shr_assemble.proofs.Gathering.{each_among, grows, reply_is}
+use Rattle.shr_assemble.proofs.JournalsLaw.{turn_stands, pool_known}
 use Rattle.shr_assemble.proofs.PoolCauses.{same_phase}
-use Rattle.shr_assemble.proofs.Shown.{pool_known}
 
 module _ (s : Script) (r : Report) (workers : List (List Step)) (run : IsRun s r workers) where
   -- the Idle of a Freed is the one that the step made
@@ -31,14 +29,12 @@ module _ (s : Script) (r : Report) (workers : List (List Step)) (run : IsRun s r
       → (t : Turn) × IsAmong t x.work.core.turns × (t.number ≡ n)
   turn_by worker k x at n (Registered decl id since) (reply.Registered i entry) is stands made =
       let h : by.IsRegisteredBy x i entry = subst (by.IsCausedBy s x) is (run.steps.each worker k x at).did.cause in (record { number = entry; entry = Registered h.decl i h.from }, h.made, sym made)
-  turn_by worker k x at n (Registered decl id since) z is stands made = absurd made
   turn_by worker k x at n (Unregistered decl id until) (reply.Freed i entry from to objects) is stands made =
       let h : by.IsFreedBy x i entry from to objects = subst (by.IsCausedBy s x) is (run.steps.each worker k x at).did.cause in (record { number = entry; entry = Unregistered h.unregistered.decl i to }, h.unregistered.made, sym made)
   turn_by worker k x at n (Unregistered decl id until) (reply.Half i entry from to objects half) is stands made =
       let h : by.IsHalfBy s x i entry from to objects half = subst (by.IsCausedBy s x) is (run.steps.each worker k x at).did.cause in (record { number = entry; entry = Unregistered h.unregistered.decl i to }, h.unregistered.made, sym made)
-  turn_by worker k x at n (Unregistered decl id until) z is stands made = absurd made
   turn_by worker k x at n (Idle id) (reply.Freed i entry from to objects) is stands made = let t = idle_by worker k x at n id i entry from to objects is stands made in (t.0, t.1, t.2)
-  turn_by worker k x at n (Idle id) z is stands made = absurd made
+  turn_by worker k x at n e z is stands made = absurd made
 
   -- by an answer that is the step's
   known_past : (worker k : ℕ) (x : Step) → slice_get (steps_of workers worker) k ≡ Some x → (n : ℕ) (e : PoolEntry) (z : Reply) → x.answered.reply ≡ z → slice_get r.pool.items n ≡ Some e → IsMadeBy r e n z → n < length x.after.core.turns.known

@@ -1,13 +1,9 @@
 -- Which part is the last that has an answer.
-use Rattle.shr_assemble.proofs.Common.{◌≡◌, ℕ, zero, suc, ◌+◌, ◌<◌, ◌≤◌, ⊎_elim, List, [], ◌∷◌, length, take, refl, sym, ap, subst, ◌∙◌, arith, slice_get, Some, cases_order, length-take-le, slice_get_within, WorkerPart, IsLastAnswered, take_below}
-use Rattle.shr_model.proofs.Lists.{some_injective}
+use Rattle.shr_assemble.proofs.Common.{◌≡◌, ℕ, zero, suc, ◌+◌, ◌<◌, ◌≤◌, ⊎_elim, List, [], ◌∷◌, length, take, refl, sym, ap, subst, ◌∙◌, arith, slice_get, Some, cases_order, length-take-le, slice_get_within, WorkerPart, IsLastAnswered, take_below, some_injective}
 
 pub is_empty : {A : Type 0} (xs : List A) → length xs ≡ 0 → xs ≡ []
 is_empty [] e = refl
 is_empty (x ∷ xs) e = absurd (omega (arith, e))
-
-none_within : {A : Type 0} (xs : List A) (i : ℕ) (x : A) → slice_get xs i ≡ Some x → length xs ≤ i → ⊥
-none_within xs i x at le = let lt = slice_get_within xs i x at in absurd (omega (arith, lt, le))
 
 -- what stands in a beginning stands in the whole
 pub get_taken : {A : Type 0} (xs : List A) (n i : ℕ) → i < n → slice_get (take n xs) i ≡ slice_get xs i
@@ -51,10 +47,3 @@ module _ (parts : List WorkerPart) (n : ℕ) (p : WorkerPart) (at : slice_get pa
     short [] (suc m) = omega arith
     short (x ∷ xs) zero = omega arith
     short (x ∷ xs) (suc m) = let h = short xs m in omega (arith, h)
-
-pub none_yet : (parts : List WorkerPart) → IsLastAnswered (take 0 parts) 0
-none_yet parts = record {
-  within = omega arith;
-  after = λ i p le e. absurd (let lt = take_below parts 0 i p e in omega (arith, lt));
-  answered = λ i p is e. absurd (omega (arith, is));
-}

@@ -1,29 +1,24 @@
 -- A put that asked for its charge, or didn't: what is left to say of its answer.
-use Rattle.shr_assemble.proofs.Common.{◌≡◌, ◌⊎◌, ⊎_elim, inl, inr, ℕ, ◌<◌, ◌≤◌, List, [], ◌∷◌, ◌++◌, length, map, refl, sym, ap, subst, ◌∙◌, arith, true, false, cond, Bool, ◌-◌, Some, None, sum_by, replicate, is_some, AllByRecursion, append-nil, sum_by-append, same_Some, none-some, UseStep, At, Serial, Answered, Found, Reply, Command, Put, Family, IsAtOrAbove, Job, job_of, Each, Begins, Each-none, LoadsWord, Asks, AreRising, Made, Mapped, hierarchy_of, GroupState, shape_of, Admission, times_of, times_both, charged, MayBeOffline, pool_seen, pool_made, pool_told, is_past_group, parents_of, cited_by, id_found, IsReply, over_at, WorkerState, Work, no_work, then_work, Does, Shared, does_none, does_then, fresh_none, IsCausedBy, added_below, made_freed_below, StandsIn, MayMakeEntry, IsListFilled, IsMadeAsCited, IsFoundBy, number_made, number_found, KnowsOnline, MeetsGroups, Step, BringsWork, IsAmong, IsWant, refusals_of, was_charged, is_at_or_above, DidRounds}
+use Rattle.shr_assemble.proofs.Common.{◌≡◌, ◌⊎◌, ⊎_elim, inl, inr, ℕ, ◌<◌, ◌≤◌, List, [], ◌∷◌, ◌++◌, length, map, refl, sym, ap, subst, ◌∙◌, arith, true, false, cond, Bool, ◌-◌, Some, None, sum_by, replicate, is_some, AllByRecursion, append-nil, sum_by-append, same_Some, none-some, UseStep, At, Serial, Answered, Found, Reply, Command, Put, Family, IsAtOrAbove, Job, job_of, Each, Begins, Each-none, LoadsWord, Asks, AreRising, Made, Mapped, hierarchy_of, GroupState, shape_of, Admission, times_of, times_both, charged, MayBeOffline, pool_seen, pool_made, pool_told, is_past_group, parents_of, cited_by, id_found, IsReply, over_at, WorkerState, Work, no_work, then_work, Does, Shared, does_none, does_then, fresh_none, IsCausedBy, added_below, made_freed_below, StandsIn, MayMakeEntry, IsListFilled, IsMadeAsCited, IsFoundBy, number_made, number_found, KnowsOnline, MeetsGroups, Step, BringsWork, IsAmong, IsWant, refusals_of, was_charged, is_at_or_above, DidRounds, LoadedState, append_assoc, cons_option, Object, fresh, ScanMade, Moves, takes_of, gives_of, Uncharges, nothing, Adds, Loaded, scans_made}
 use Rattle.shr_base.specs.declared.replies.Reply.TheVariants as reply
 use Rattle.shr_model.specs.Commands.{rounds_from}
-use Rattle.shr_charge.specs.Views.{LoadedState}
 use Rattle.shr_charge.specs.declared.answers.GroupState.TheVariants as state
 use Rattle.shr_reclaim.specs.declared.answers.Admission.TheVariants as admission
 use Rattle.shr_report.specs.WalksLawful as walks
-use Rattle.shr_assemble.proofs.Bringing.{brings_of}
-use Rattle.shr_assemble.proofs.PutAdmits.{Admits, admits, stands_in, named_by, admitted_front, admitted_told, stood_by}
-use Rattle.shr_assemble.proofs.PutCharges.{ops_same, put_charges}
+use Rattle.shr_assemble.proofs.QuietTenant.{brings_of, brings_then, without}
+use Rattle.shr_assemble.proofs.PutAdmits.{Admits, admits, stands_in, named_by, admitted_front, admitted_told, stood_by, ops_same, put_charges, ops_back}
 use Rattle.shr_assemble.proofs.PutOver.{over_caused}
-use Rattle.shr_assemble.proofs.PutParts.{IsTail, whole, whole_did}
+use Rattle.shr_assemble.proofs.PutParts.{IsTail, whole, whole_did, offering}
 use Rattle.shr_assemble.proofs.PutRounds.{EndsOver}
 use Rattle.shr_assemble.proofs.PutTries.{AreOps}
 use Rattle.shr_assemble.proofs.PutWays.{Closed}
-use Rattle.shr_assemble.proofs.Quiet.{HasDid, none_made, IsToldOnce, some_met}
-use Rattle.shr_assemble.proofs.QuietSteps.{loading, does_load, knows_online, online_apart}
-use Rattle.shr_assemble.proofs.QuietTenant.{without}
-use Rattle.shr_assemble.proofs.RoundingAdmits.{AdmissionSeen}
+use Rattle.shr_assemble.proofs.QuietSteps.{HasDid, none_made, IsToldOnce, some_met, loading, does_load, knows_online, online_apart, AreTables}
 use Rattle.shr_assemble.proofs.WalkingCharges.{none_added}
-use Rattle.shr_assemble.proofs.WalkingSteps.{IsScanOne, Walked, walked_then}
-use Rattle.shr_assemble.proofs.WalkingTold.{IsTableOf}
-use Rattle.shr_assemble.proofs.WalkingWell.{begins_prefix}
+use Rattle.shr_assemble.proofs.WalkingSteps.{Walked, walked_still, walked_then}
+use Rattle.shr_assemble.proofs.WalkingWell.{IsTableOf, begins_prefix}
 use Rattle.shr_assemble.proofs.WalkingChain.{front_had}
 use Rattle.shr_assemble.proofs.Outcomes.{met_at, no_answers}
+use Rattle.shr_assemble.proofs.QuietCharges.{uncharging}
 
 pub tail_none : IsTail no_work
 tail_none = record { walks = refl; seen = refl; maps = refl; cleared = refl; turns = refl; tree = refl; takes = refl; gives = refl; carries = refl; scans = λ place worker n. refl }
@@ -54,24 +49,7 @@ module _ (x : Shared) (table : IsTableOf x) (by : Serial) (group node decl : ℕ
   }
 
   pub load_walked : (a : Answered) (found : GroupState) (s t : WorkerState) → LoadsWord x group found s t → Walked x.script by (Some command) a s t (loading group found)
-  load_walked a found s t h = record {
-    does = does_load x group found s t h;
-    each = λ i r e. absurd (none-some r e);
-    seen = refl;
-    maps = refl;
-    cleared = refl;
-    sets = refl;
-    numbers = refl;
-    fresh = fresh_none s.core;
-    set = Each-none (λ (m : Mapped). Begins s.core.marks.sets m.set);
-    scans = Each-none (IsScanOne by (length s.walks) []);
-    taken = λ p. refl;
-    given = λ p. refl;
-    steps = refl;
-    turns = refl;
-    tree = refl;
-    carries = refl;
-  }
+  load_walked a found s t h = walked_still x.script by (Some command) a [] 0 0 (record { group = group; state = found } ∷ []) s t (does_load x group found s t h)
 
   -- its own group is that which it asks for
   online_at : (s t : WorkerState) → LoadsWord x group state.Online s t → (g : ℕ) → Some group ≡ Some g → KnowsOnline s.tree g
@@ -92,11 +70,10 @@ module _ (x : Shared) (table : IsTableOf x) (by : Serial) (group node decl : ℕ
     settled = λ g b long down. closed_of b long;
     ends = λ g. tt;
     tried = λ g. sym (no_answers (parents_of x.script) group g);
-  }
-    where
-      closed_of : (b : List UseStep) → length b ≡ 0 → Closed b
-      closed_of [] e = tt
-      closed_of (o ∷ b) e = absurd (omega (arith, e))
+  } where
+    closed_of : (b : List UseStep) → length b ≡ 0 → Closed b
+    closed_of [] e = tt
+    closed_of (o ∷ b) e = absurd (omega (arith, e))
 
   pub unasked_did : (r : Reply) (words : List LoadedState) (s t : WorkerState) → Walked x.script by (Some command) (without r) s t (record no_work { words = words })
       → ((family : Family) → IsReply (parents_of x.script) family by command None r) → cited_by r ≡ None → ((h : ℕ) → over_at h r ≡ 0) → ((g operation usage : ℕ) → r ≡ reply.Over g operation usage → ⊥)
@@ -129,9 +106,9 @@ module _ (x : Shared) (table : IsTableOf x) (by : Serial) (group node decl : ℕ
 
   -- ---- the charge was asked for
 
-  module _ (a : Answered) (answer : Admission) (s charged_at t : WorkerState) (asks : Asks x by group answer s charged_at) (seen : AdmissionSeen x table by command a group inside answer asks.loaded charged_at asks.admission) where
+  module _ (a : Answered) (answer : Admission) (s charged_at t : WorkerState) (asks : Asks x by group answer s charged_at) where
     pub adm : Admits x table by command a group inside answer asks.loaded charged_at
-    adm = admits x table by command a group inside answer asks.loaded charged_at asks.admission seen
+    adm = admits x table by command a group inside answer asks.loaded charged_at asks.admission
 
     abbrev pub first : Work
     first = then_work (loading group state.Online) adm.work
@@ -200,20 +177,19 @@ module _ (x : Shared) (table : IsTableOf x) (by : Serial) (group node decl : ℕ
     none_added_alone g = ap (sum_by (λ (m : Made). added_below (parents_of x.script) g m.entry)) (append-nil first.core.made) ∙ none_added_first g
 
   -- it was refused at last
-  pub over_did : (g operation usage : ℕ) (s t : WorkerState) (asks : Asks x by group (admission.Over g operation usage) s t) → AdmissionSeen x table by command (without (reply.Over g operation usage)) group inside (admission.Over g operation usage) asks.loaded t asks.admission
-      → AreRising s.uses.ops → HasDid x.script by command (without (reply.Over g operation usage)) s t
-  over_did g operation usage s t asks seen rise =
+  pub over_did : (g operation usage : ℕ) (s t : WorkerState) → Asks x by group (admission.Over g operation usage) s t → AreRising s.uses.ops → HasDid x.script by command (without (reply.Over g operation usage)) s t
+  over_did g operation usage s t asks rise =
       let a : Answered = without (reply.Over g operation usage) in
       let answer : Admission = admission.Over g operation usage in
-      let d = adm a answer s t t asks seen in
-      let v : Work = first a answer s t t asks seen in
+      let d = adm a answer s t t asks in
+      let v : Work = first a answer s t t asks in
       let z : Step = whole x.script by command a s t t v no_work in
       let last = d.over g operation usage refl in
-      let does : Does s t (then_work v no_work) = does_then s t t v no_work (walked_first a answer s t t asks seen).does (does_none t) in
-      asked_did a answer s t t asks seen no_work [] record {
+      let does : Does s t (then_work v no_work) = does_then s t t v no_work (walked_first a answer s t t asks).does (does_none t) in
+      asked_did a answer s t t asks no_work [] record {
         does = brings_of (does_none t);
         tail = tail_none;
-        ops = ops_alone a answer s t t asks seen;
+        ops = ops_alone a answer s t t asks;
         may = Each-none (λ (y : Made). MayMakeEntry x.script z y y.entry);
         row = λ family stands. tt;
         sets = Each-none (IsListFilled []);
@@ -226,26 +202,26 @@ module _ (x : Shared) (table : IsTableOf x) (by : Serial) (group node decl : ℕ
         charged_are = refl;
         made = d.made;
         stands = λ h lt. refl;
-        added = λ h. none_added_alone a answer s t t asks seen h;
+        added = λ h. none_added_alone a answer s t t asks h;
         known = tt;
         unmade = refl;
         want = λ e. absurd (cc);
         unnoted = λ h e. absurd (cc);
-        cause = over_caused x table by group d.tries (d.rounds ++ g ∷ []) [] (record { group = g; operation = operation; usage = usage }) z refl refl (ops_alone a answer s t t asks seen) last.1 last.2
+        cause = over_caused x table by group d.tries (d.rounds ++ g ∷ []) [] (record { group = g; operation = operation; usage = usage }) z refl refl (ops_alone a answer s t t asks) last.1 last.2
             (subst (EndsOver x by (record { group = g; operation = operation; usage = usage })) (sym (append-nil v.ops)) last.0) does rise;
       }
 
   -- memory lacked in its rounds, or for them
-  pub memory_did : (s t : WorkerState) (asks : Asks x by group admission.Memory s t) → AdmissionSeen x table by command (without reply.Memory) group inside admission.Memory asks.loaded t asks.admission → HasDid x.script by command (without reply.Memory) s t
-  memory_did s t asks seen =
+  pub memory_did : (s t : WorkerState) → Asks x by group admission.Memory s t → HasDid x.script by command (without reply.Memory) s t
+  memory_did s t asks =
       let a : Answered = without reply.Memory in
-      let d = adm a admission.Memory s t t asks seen in
-      let v : Work = first a admission.Memory s t t asks seen in
+      let d = adm a admission.Memory s t t asks in
+      let v : Work = first a admission.Memory s t t asks in
       let z : Step = whole x.script by command a s t t v no_work in
-      asked_did a admission.Memory s t t asks seen no_work [] record {
+      asked_did a admission.Memory s t t asks no_work [] record {
         does = brings_of (does_none t);
         tail = tail_none;
-        ops = ops_alone a admission.Memory s t t asks seen;
+        ops = ops_alone a admission.Memory s t t asks;
         may = Each-none (λ (y : Made). MayMakeEntry x.script z y y.entry);
         row = λ family stands. tt;
         sets = Each-none (IsListFilled []);
@@ -258,10 +234,74 @@ module _ (x : Shared) (table : IsTableOf x) (by : Serial) (group node decl : ℕ
         charged_are = refl;
         made = begins_prefix (map job_of d.work.walks) d.made.0 (rounds_from (parents_of x.script) x.script.nodes 12 d.rounds) d.made.1;
         stands = λ h lt. refl;
-        added = λ h. none_added_alone a admission.Memory s t t asks seen h;
+        added = λ h. none_added_alone a admission.Memory s t t asks h;
         known = tt;
         unmade = refl;
         want = λ e. tt;
         unnoted = λ h e. absurd (cc);
         cause = tt;
       }
+
+-- an uncharge
+back_brings : (x : Shared) (by : Serial) (group : ℕ) (s t : WorkerState) (h : Uncharges x by group s t) → BringsWork s t (uncharging h.ops)
+back_brings x by group s t h = let n = does_none s in record {
+  core = subst (λ (u : WorkerState). Adds s.core u.core nothing) (sym h.rest) n.core;
+  uses = ap (λ (u : WorkerState). u.uses) h.rest;
+  noted = ap (λ (u : WorkerState). u.noted) h.rest;
+  words = ap (λ (u : WorkerState). u.tree.loaded) h.rest ∙ n.words;
+  tree = ap (λ (u : WorkerState). u.tree.made) h.rest ∙ n.tree;
+  gives = ap (λ (u : WorkerState). u.tree.gives) h.rest ∙ n.gives;
+  known = subst (λ (u : WorkerState). Begins s.tree.known u.tree.known) (sym h.rest) n.known;
+  heard = ap (λ (u : WorkerState). u.tree.heard) h.rest;
+  hand = (ap (λ (u : WorkerState). u.tree.in_hand) h.rest, ap (λ (u : WorkerState). u.tree.hand) h.rest);
+  rise = h.rise;
+  moves = ap (λ (u : WorkerState). u.moves) h.rest ∙ n.moves;
+  walks = ap (λ (u : WorkerState). u.walks) h.rest ∙ n.walks;
+  carries = ap (λ (u : WorkerState). u.carries) h.rest ∙ n.carries;
+}
+
+behind : {A : Type 0} (xs : List A) → xs ≡ [] → xs ++ [] ≡ []
+behind xs e = append-nil xs ∙ e
+
+pub tail_back : (q : Work) (ops : List UseStep) → IsTail q → IsTail (then_work q (uncharging ops))
+tail_back q ops h = record {
+  walks = behind q.walks h.walks;
+  seen = behind q.core.seen h.seen;
+  maps = behind q.core.maps h.maps;
+  cleared = behind q.core.cleared h.cleared;
+  turns = behind q.core.turns h.turns;
+  tree = behind q.tree h.tree;
+  takes = ap (λ (m : Moves). takes_of m) (append-nil q.moves) ∙ h.takes;
+  gives = ap (λ (m : Moves). gives_of m) (append-nil q.moves) ∙ h.gives;
+  carries = behind q.carries h.carries;
+  scans = λ place worker n. ap (scans_made place worker n) (append-nil q.core.made) ∙ h.scans place worker n;
+}
+
+-- an entry that is no Scan
+pub not_scanned : (b : Bool) → cons_option {X = ScanMade} (cond b None None) [] ≡ []
+not_scanned true = refl
+not_scanned false = refl
+
+pub offering_tail : (decl : ℕ) (f : Found) (words : List Loaded) (made : List Made) (set : List ℕ) → ((place worker n : ℕ) → scans_made place worker n made ≡ []) → IsTail (offering decl f words made set)
+offering_tail decl f words made set h = record { walks = refl; seen = refl; maps = refl; cleared = refl; turns = refl; tree = refl; takes = refl; gives = refl; carries = refl; scans = h }
+
+module _ (x : Shared) (table : IsTableOf x) (tables : AreTables x) (by : Serial) (group node decl : ℕ) (key value : List ℕ) (on : node < x.script.nodes) (inside : group < length (parents_of x.script)) where
+  -- the charge is taken back after steps that make no operation
+  module _ (a : Answered) (s charged_at refused t : WorkerState) (asks : Asks x by group admission.Charged s charged_at)
+      (q : Work) (does : Does charged_at refused q) (ops : q.ops ≡ []) (charges : q.charges ≡ 0) (uncharges : q.uncharges ≡ 0) (freed : (g : ℕ) → sum_by (made_freed_below (parents_of x.script) g) q.core.made ≡ 0)
+      (back : Uncharges x by group refused t) where
+    pub vain_does : BringsWork charged_at t (then_work q (uncharging back.ops))
+    vain_does = brings_then charged_at refused t q (uncharging back.ops) (brings_of does) (back_brings x by group refused t back)
+
+    abbrev pub before : Work
+    before = first x table by group node decl key value inside a admission.Charged s charged_at t asks
+
+    pub vain_ops : AreOps x by group (adm x table by group node decl key value inside a admission.Charged s charged_at t asks).tries ((adm x table by group node decl key value inside a admission.Charged s charged_at t asks).rounds ++ []) []
+        (then_work before (then_work q (uncharging back.ops)))
+    vain_ops =
+        let d = adm x table by group node decl key value inside a admission.Charged s charged_at t asks in
+        let one = ops_quiet x by group d.tries (d.rounds ++ []) _ before q (first_ops x table by group node decl key value inside a admission.Charged s charged_at t asks) ops charges uncharges freed in
+        let two = ops_back x table by group inside d.tries (d.rounds ++ []) (then_work before q) back.ops one back.downs in
+        ops_same x by group d.tries (d.rounds ++ []) [] (then_work (then_work before q) (uncharging back.ops)) (then_work before (then_work q (uncharging back.ops))) two
+        (sym (append_assoc before.ops q.ops back.ops)) (omega arith) (omega arith)
+        (λ g. ap (sum_by (made_freed_below (parents_of x.script) g)) (sym (append_assoc before.core.made q.core.made [])))

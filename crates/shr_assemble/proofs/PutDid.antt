@@ -7,34 +7,28 @@ use Rattle.shr_node.specs.declared.answers.NodeAdd.TheVariants as add
 use Rattle.shr_reclaim.specs.declared.answers.Admission.TheVariants as admission
 use Rattle.shr_report.specs.Parts as report
 use Rattle.shr_charge.specs.Views as charge
-use Rattle.shr_assemble.proofs.Bringing.{brings_of}
+use Rattle.shr_assemble.proofs.QuietTenant.{brings_of, without, group_in}
 use Rattle.shr_charge.specs.declared.answers.GroupState.TheVariants as state
-use Rattle.shr_assemble.proofs.PutParts.{whole}
+use Rattle.shr_assemble.proofs.PutParts.{whole, offering, offering_does, entry, bits, place_same}
 use Rattle.shr_assemble.proofs.Filling.{filled_by, set_last}
-use Rattle.shr_assemble.proofs.PutAsked.{adm, first, walked_first, first_ops, load_walked, unasked_did, over_did, memory_did, ops_quiet}
-use Rattle.shr_assemble.proofs.PutBack.{not_scanned, offering_tail}
-use Rattle.shr_assemble.proofs.PutFound.{Seen, noted_did}
-use Rattle.shr_assemble.proofs.PutOffers.{offering, offering_does, entry, bits, place_same}
+use Rattle.shr_assemble.proofs.PutAsked.{adm, first, walked_first, first_ops, load_walked, unasked_did, over_did, memory_did, ops_quiet, not_scanned, offering_tail}
+use Rattle.shr_assemble.proofs.PutFound.{noted_did}
 use Rattle.shr_assemble.proofs.PutTries.{charge_parents}
 use Rattle.shr_assemble.proofs.PutVain.{vain_found, vain_unfound}
-use Rattle.shr_assemble.proofs.Quiet.{HasDid, meets_none}
-use Rattle.shr_assemble.proofs.QuietNothing.{charges_worn}
-use Rattle.shr_assemble.proofs.QuietSteps.{AreTables, hierarchy_is, knows_online, knows_unmade}
-use Rattle.shr_assemble.proofs.QuietTenant.{without, group_in}
-use Rattle.shr_assemble.proofs.RoundingAdmits.{AdmissionSeen, admission_seen}
+use Rattle.shr_assemble.proofs.QuietSteps.{HasDid, meets_none, AreTables, hierarchy_is, knows_online, knows_unmade}
+use Rattle.shr_assemble.proofs.QuietCharges.{charges_worn}
 use Rattle.shr_assemble.proofs.WalkingCharges.{tree_is, path_once}
-use Rattle.shr_assemble.proofs.WalkingGives.{idle_walked}
-use Rattle.shr_assemble.proofs.WalkingTold.{IsTableOf}
+use Rattle.shr_assemble.proofs.WalkingSteps.{walked_still}
+use Rattle.shr_assemble.proofs.WalkingWell.{IsTableOf}
 
 -- the bit of a list that was empty and isn't the root's is set
 filled_bit : (k : ℕ) (items new : List Object) → items ≡ [] → 0 < length new → 0 < group_of k → 0 < times k (bits_for k items new)
-filled_bit k items new none some low = subst (λ (l : List Object). 0 < times k (bits_for k l new)) (sym none) (subst (λ (b : Bool). 0 < times k (cond b (k ∷ []) [])) (sym both) one)
-  where
-    both : is_raised k [] new ≡ true
-    both = ap (λ (b : Bool). true && b && nat_lt 0 (group_of k)) (lt-ltb 0 (length new) some) ∙ lt-ltb 0 (group_of k) low
+filled_bit k items new none some low = subst (λ (l : List Object). 0 < times k (bits_for k l new)) (sym none) (subst (λ (b : Bool). 0 < times k (cond b (k ∷ []) [])) (sym both) one) where
+  both : is_raised k [] new ≡ true
+  both = ap (λ (b : Bool). true && b && nat_lt 0 (group_of k)) (lt-ltb 0 (length new) some) ∙ lt-ltb 0 (group_of k) low
 
-    one : 0 < total (only k) (k ∷ [])
-    one = omega (arith, only_yes k k refl)
+  one : 0 < total (only k) (k ∷ [])
+  one = omega (arith, only_yes k k refl)
 
 module _ (x : Shared) (table : IsTableOf x) (by : Serial) (group node decl : ℕ) (key value : List ℕ) (within : IsObjectWithin (content_of x.script) group node decl key) where
   tables : AreTables x
@@ -49,15 +43,10 @@ module _ (x : Shared) (table : IsTableOf x) (by : Serial) (group node decl : ℕ
   abbrev object : Object
   object = fresh by group key value
 
-  -- what the walks of its rounds showed, its charge tells
-  asks_seen : (a : Answered) (answer : Admission) (s t : WorkerState) (h : Asks x by group answer s t) → AdmissionSeen x table by Command_of a group inside answer h.loaded t h.admission
-  asks_seen a answer s t h = admission_seen x table by Command_of a group inside answer h.loaded t h.admission
-
   -- ---- the object was added
 
-  added : (f : Found) (c : At) (s t : WorkerState) (h : Puts x by group node decl object (Some f) (reply.Added c) s t) → Seen x table tables by group node decl key value within.on_node inside (record { reply = reply.Added c; found = Some f }) s h.charged h.asks
-      → HasDid x.script by Command_of (record { reply = reply.Added c; found = Some f }) s t
-  added f c s t h seen =
+  added : (f : Found) (c : At) (s t : WorkerState) → Puts x by group node decl object (Some f) (reply.Added c) s t → HasDid x.script by Command_of (record { reply = reply.Added c; found = Some f }) s t
+  added f c s t h =
       let r : Reply = reply.Added c in
       let a : Answered = record { reply = r; found = Some f } in
       let o = h.offered in
@@ -69,14 +58,14 @@ module _ (x : Shared) (table : IsTableOf x) (by : Serial) (group node decl : ℕ
       let set : List ℕ = bits x decl f call h.charged o.held t o.holds o.calls tables node within.on_node group inside c so e acts in
       let q : Work = offering decl f o.holds.answers.gains.words (m ∷ []) set in
       let is : e acts.old ≡ Add by group true key value = ap (λ b. Add by group (not b) key value) acts.before in
-      let d = adm x table by group node decl key value inside a admission.Charged s h.charged t h.asks seen in
-      let v : Work = first x table by group node decl key value inside a admission.Charged s h.charged t h.asks seen in
+      let d = adm x table by group node decl key value inside a admission.Charged s h.charged t h.asks in
+      let v : Work = first x table by group node decl key value inside a admission.Charged s h.charged t h.asks in
       let same = place_same x decl f call h.charged o.held t o.holds o.calls tables node within.on_node group inside c so e acts in
       let grew : step [] acts.old.items (e acts.old) ≡ acts.old.items ++ object ∷ [] = ap (λ b. if b then acts.old.items else acts.old.items ++ object ∷ []) acts.before in
-      noted_did x table tables by group node decl key value within.on_node inside f r s h.charged t t h.asks seen call o.held o.holds o.calls q (path_of x.charge.shape.parents.items group) c so e acts (record {
+      noted_did x table tables by group node decl key value within.on_node inside f r s h.charged t t h.asks call o.held o.holds o.calls q (path_of x.charge.shape.parents.items group) c so e acts (record {
         does = brings_of (offering_does x decl f call h.charged o.held t o.holds o.calls (m ∷ []) set acts.gains);
         tail = offering_tail decl f o.holds.answers.gains.words (m ∷ []) set (λ place worker n. not_scanned (m.place == place));
-        ops = ops_quiet x by group d.tries (d.rounds ++ []) (path_of x.charge.shape.parents.items group) v q (first_ops x table by group node decl key value inside a admission.Charged s h.charged t h.asks seen) refl refl refl (λ n. refl);
+        ops = ops_quiet x by group d.tries (d.rounds ++ []) (path_of x.charge.shape.parents.items group) v q (first_ops x table by group node decl key value inside a admission.Charged s h.charged t h.asks) refl refl refl (λ n. refl);
         attempts = refl;
         made_are = refl;
         filled = filled_by m;
@@ -96,24 +85,23 @@ module _ (x : Shared) (table : IsTableOf x) (by : Serial) (group node decl : ℕ
       let long = ap (λ (l : List Object). length l) (grew ∙ ap (λ l. l ++ object ∷ []) empty) in
       let bit = filled_bit (place_number c.place) acts.old.items (step [] acts.old.items (e acts.old)) empty (omega (arith, long)) (omega (arith, low, above)) in
       let all = total-append (only (place_number c.place)) v.core.sets set in
-      let last = set_last s.core h.charged.core t.core v.core q.core (brings_of (walked_first x table by group node decl key value inside a admission.Charged s h.charged t h.asks seen).does).core (brings_of (offering_does x decl f call h.charged o.held t o.holds o.calls (m ∷ []) set acts.gains)).core (place_number c.place) bit refl in
-      (omega (arith, all, bit), record { front = last.0; back = last.1; did = last.2; clears_none = last.3 }))
-    where
-      none_before : (n : ℕ) → 0 + n ≡ n
-      none_before n = omega arith
+      let last = set_last s.core h.charged.core t.core v.core q.core (brings_of (walked_first x table by group node decl key value inside a admission.Charged s h.charged t h.asks).does).core (brings_of (offering_does x decl f call h.charged o.held t o.holds o.calls (m ∷ []) set acts.gains)).core (place_number c.place) bit refl in
+      (omega (arith, all, bit), record { front = last.0; back = last.1; did = last.2; clears_none = last.3 })) where
+        none_before : (n : ℕ) → 0 + n ≡ n
+        none_before n = omega arith
 
   -- ---- by the reply
 
   from : (f : Found) (r : Reply) (s t : WorkerState) → (h : PutFrom x by group node decl object f r s t) → HasDid x.script by Command_of (record { reply = r; found = Some f }) s t
-  from f (reply.Added c) s t h = added f c s t h (asks_seen (record { reply = reply.Added c; found = Some f }) admission.Charged s h.charged h.asks)
-  from f r s t h = vain_found x table tables by group node decl key value within.on_node inside f s t r tt h (asks_seen (record { reply = r; found = Some f }) admission.Charged s h.puts.charged h.puts.asks)
+  from f (reply.Added c) s t h = added f c s t h
+  from f r s t h = vain_found x table tables by group node decl key value within.on_node inside f s t r tt h
 
   abbrev vain_step : Reply → List charge.LoadedState → WorkerState → WorkerState → Step
   vain_step r words s t = whole x.script by Command_of (without r) s t t (record no_work { words = words }) no_work
 
   none : (r : Reply) (s t : WorkerState) → AreRising s.uses.ops → (h : PutNone x by group node decl object r s t) → HasDid x.script by Command_of (without r) s t
   none (reply.Worn (spent.Charges charges uncharges)) s t rise h = let r : Reply = reply.Worn (spent.Charges charges uncharges) in
-      unasked_did x table by group node decl key value inside r [] s t (idle_walked x.script by (Some Command_of) (without r) s t (subst (λ (u : WorkerState). Does s u no_work) (sym h.rest) (does_none s)))
+      unasked_did x table by group node decl key value inside r [] s t (walked_still x.script by (Some Command_of) (without r) [] 0 0 [] s t (subst (λ (u : WorkerState). Does s u no_work) (sym h.rest) (does_none s)))
       (λ family. tt) refl (λ n. refl) (λ n operation usage e. cc) (λ n. refl) refl refl refl refl (inl tt) (meets_none x.script (vain_step r [] s t) (λ g e. absurd (cc)) (λ g e. none-some g e)) (charges_worn _ charges uncharges (ap (λ (u : WorkerState). spent_by u.uses) h.rest ∙ h.numbers))
   none (reply.Offline number) s t rise h = let r : Reply = reply.Offline number in
       unasked_did x table by group node decl key value inside r (record { group = group; state = state.Offline number } ∷ []) s t (load_walked x table by group node decl key value inside (without r) (state.Offline number) s t h.offline)
@@ -129,9 +117,9 @@ module _ (x : Shared) (table : IsTableOf x) (by : Serial) (group node decl : ℕ
         met = λ n e. absurd (none-some n e);
       })
       (record { met = ap Some (sym h.same); late = subst (λ (q : Hierarchy). is_later q.later g ≡ true) (hierarchy_is x table.shared) (subst (λ n. is_later (hierarchy_of (shape_of x.core)).later n ≡ true) (sym h.same) (h.not_made.shows.late refl)) })
-  none (reply.Over over operation usage) s t rise h = over_did x table by group node decl key value inside over operation usage s t h (asks_seen (without (reply.Over over operation usage)) (admission.Over over operation usage) s t h) rise
-  none reply.Memory s t rise h = memory_did x table by group node decl key value inside s t h (asks_seen (without reply.Memory) admission.Memory s t h)
-  none r s t rise h = vain_unfound x table tables by group node decl key value within.on_node inside r s t h (asks_seen (without r) admission.Charged s h.puts.charged h.puts.asks)
+  none (reply.Over over operation usage) s t rise h = over_did x table by group node decl key value inside over operation usage s t h rise
+  none reply.Memory s t rise h = memory_did x table by group node decl key value inside s t h
+  none r s t rise h = vain_unfound x table tables by group node decl key value within.on_node inside r s t h
 
   as_found : (found : Option Found) (r : Reply) (s t : WorkerState) → AreRising s.uses.ops → (h : PutAs x by group node decl object found r s t) → HasDid x.script by Command_of (record { reply = r; found = found }) s t
   as_found None r s t rise h = none r s t rise h
@@ -139,7 +127,7 @@ module _ (x : Shared) (table : IsTableOf x) (by : Serial) (group node decl : ℕ
 
   -- no memory for a copy of the key and the value
   no_copy : (s t : WorkerState) → t ≡ s → HasDid x.script by Command_of (unfound reply.Memory) s t
-  no_copy s t rest = unasked_did x table by group node decl key value inside reply.Memory [] s t (idle_walked x.script by (Some Command_of) (without reply.Memory) s t (subst (λ (u : WorkerState). Does s u no_work) (sym rest) (does_none s)))
+  no_copy s t rest = unasked_did x table by group node decl key value inside reply.Memory [] s t (walked_still x.script by (Some Command_of) (without reply.Memory) [] 0 0 [] s t (subst (λ (u : WorkerState). Does s u no_work) (sym rest) (does_none s)))
       (λ family. tt) refl (λ n. refl) (λ n operation usage e. cc) (λ n. refl) refl refl refl refl (inl tt) (meets_none x.script (vain_step reply.Memory [] s t) (λ g e. absurd (cc)) (λ g e. none-some g e)) tt
 
   -- It takes that the numbers of each group's operations rose before.

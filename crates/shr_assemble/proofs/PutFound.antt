@@ -6,32 +6,26 @@ use Rattle.shr_report.specs.WalksLawful as walks
 use Rattle.shr_assemble.proofs.FirstLists.{first_for}
 use Rattle.shr_assemble.proofs.Gathering.{among_right}
 use Rattle.shr_assemble.proofs.PutAsked.{command, adm, first, walked_first, asked_did, none_added_first}
-use Rattle.shr_assemble.proofs.PutOffers as offers
-use Rattle.shr_assemble.proofs.PutOffers.{entry, place_same, later_is, knew_is, cites_is, offered_entry, offered_by}
-use Rattle.shr_assemble.proofs.PutParts.{IsTail, whole}
+use Rattle.shr_assemble.proofs.PutParts as offers
+use Rattle.shr_assemble.proofs.PutParts.{entry, place_same, later_is, knew_is, cites_is, offered_entry, offered_by, IsTail, whole}
 use Rattle.shr_assemble.proofs.PutTries.{AreOps}
-use Rattle.shr_assemble.proofs.Quiet.{HasDid, IsToldOnce}
-use Rattle.shr_assemble.proofs.QuietSteps.{AreTables, tried_by}
+use Rattle.shr_assemble.proofs.QuietSteps.{HasDid, IsToldOnce, AreTables, tried_by}
 use Rattle.shr_assemble.proofs.QuietTenant.{is_told}
-use Rattle.shr_assemble.proofs.RoundingAdmits.{AdmissionSeen}
-use Rattle.shr_assemble.proofs.WalkingTold.{IsTableOf}
+use Rattle.shr_assemble.proofs.WalkingWell.{IsTableOf}
 use Rattle.shr_assemble.proofs.WalkingRecord.{each_left}
 
 module _ (x : Shared) (table : IsTableOf x) (tables : AreTables x) (by : Serial) (group node decl : ℕ) (key value : List ℕ) (on : node < x.script.nodes) (inside : group < length (parents_of x.script)) where
   abbrev Command_of : Command
   Command_of = command x table by group node decl key value inside
 
-  abbrev pub Seen : (a : Answered) (s charged_at : WorkerState) → Asks x by group admission.Charged s charged_at → Type 0
-  Seen a s charged_at asks = AdmissionSeen x table by Command_of a group inside admission.Charged asks.loaded charged_at asks.admission
-
   -- the cache was found from the charged state, its list was called, and all steps after the charge are these
-  module _ (f : Found) (r : Reply) (s charged_at offered t : WorkerState) (asks : Asks x by group admission.Charged s charged_at) (seen : Seen (record { reply = r; found = Some f }) s charged_at asks)
+  module _ (f : Found) (r : Reply) (s charged_at offered t : WorkerState) (asks : Asks x by group admission.Charged s charged_at)
       (call : View → View → Type 0) (held : WorkerState) (holds : HoldsCache x decl f charged_at held) (calls : Calls call held offered) (q : Work) (kept : List ℕ) where
     abbrev a : Answered
     a = record { reply = r; found = Some f }
 
     abbrev pub first_work : Work
-    first_work = first x table by group node decl key value inside a admission.Charged s charged_at t asks seen
+    first_work = first x table by group node decl key value inside a admission.Charged s charged_at t asks
 
     abbrev pub step_is : Step
     step_is = whole x.script by Command_of a s charged_at t first_work q
@@ -40,7 +34,7 @@ module _ (x : Shared) (table : IsTableOf x) (tables : AreTables x) (by : Serial)
     pub record IsOffered (made : List Made) : Type 0 where
       pub does : BringsWork charged_at t q
       pub tail : IsTail q
-      pub ops : AreOps x by group (adm x table by group node decl key value inside a admission.Charged s charged_at t asks seen).tries ((adm x table by group node decl key value inside a admission.Charged s charged_at t asks seen).rounds ++ []) kept (then_work first_work q)
+      pub ops : AreOps x by group (adm x table by group node decl key value inside a admission.Charged s charged_at t asks).tries ((adm x table by group node decl key value inside a admission.Charged s charged_at t asks).rounds ++ []) kept (then_work first_work q)
       pub attempts : q.core.attempts ≡ tried_by decl f ∷ []
       pub made_are : q.core.made ≡ made
       pub filled : Each (IsListFilled made) q.core.sets
@@ -49,8 +43,8 @@ module _ (x : Shared) (table : IsTableOf x) (tables : AreTables x) (by : Serial)
       pub other : (g operation usage : ℕ) → r ≡ reply.Over g operation usage → ⊥
       pub plain : (rounds : List ℕ) → refusals_of rounds r ≡ rounds
       pub charged_at_last : was_charged true r ≡ true
-      pub due : walks.MayMake r (rounds_from (parents_of x.script) x.script.nodes 12 (adm x table by group node decl key value inside a admission.Charged s charged_at t asks seen).rounds)
-          (map job_of (adm x table by group node decl key value inside a admission.Charged s charged_at t asks seen).work.walks)
+      pub due : walks.MayMake r (rounds_from (parents_of x.script) x.script.nodes 12 (adm x table by group node decl key value inside a admission.Charged s charged_at t asks).rounds)
+          (map job_of (adm x table by group node decl key value inside a admission.Charged s charged_at t asks).work.walks)
       pub stands : (g : ℕ) → g < length (parents_of x.script) → times_of g kept ≡ charged (parents_of x.script) g (Some Command_of) (Some r)
       pub added : (g : ℕ) → sum_by (λ (m : Made). added_below (parents_of x.script) g m.entry) made ≡ charged (parents_of x.script) g (Some Command_of) (Some r)
       pub untold : pool_told r ≡ []
@@ -69,13 +63,13 @@ module _ (x : Shared) (table : IsTableOf x) (tables : AreTables x) (by : Serial)
       known_is = subst (λ (ns : List ℕ). IsToldOnce step_is (f.entry ∷ ns)) (sym h.untold) (offered_entry x decl f call charged_at held offered holds calls made bits g ∙ ap (λ y. length y.known) (sym same_turns))
 
       added_is : (n : ℕ) → sum_by (λ (m : Made). added_below (parents_of x.script) n m.entry) (first_work.core.made ++ q.core.made) ≡ charged (parents_of x.script) n (Some Command_of) (Some r)
-      added_is n = let e = sum_by-append (λ (m : Made). added_below (parents_of x.script) n m.entry) first_work.core.made q.core.made in let z = none_added_first x table by group node decl key value inside a admission.Charged s charged_at t asks seen n in
+      added_is n = let e = sum_by-append (λ (m : Made). added_below (parents_of x.script) n m.entry) first_work.core.made q.core.made in let z = none_added_first x table by group node decl key value inside a admission.Charged s charged_at t asks n in
           let d = ap (sum_by (λ (m : Made). added_below (parents_of x.script) n m.entry)) h.made_are in let k = h.added n in omega (arith, e, z, d, k)
 
       -- no entry was made, and none is cited
       module _ (none : made ≡ []) (row : (family : Family) → IsReply (parents_of x.script) family by Command_of (Some f.id) r) (uncited : cited_by r ≡ None) where
         pub silent_did : HasDid x.script by Command_of (record { reply = r; found = Some f }) s t
-        silent_did = asked_did x table by group node decl key value inside a admission.Charged s charged_at t asks seen q kept record {
+        silent_did = asked_did x table by group node decl key value inside a admission.Charged s charged_at t asks q kept record {
           does = h.does;
           tail = h.tail;
           ops = h.ops;
@@ -119,16 +113,16 @@ module _ (x : Shared) (table : IsTableOf x) (tables : AreTables x) (by : Serial)
           place = same_place;
           number = sym acts.number;
           later = each_left (λ (m : Made). m.place ≡ place_number c.place → m.number < length acts.old.entries) s.core.traces.made first_work.core.made
-              (subst (λ (l : List Made). Each (λ (m : Made). m.place ≡ place_number c.place → m.number < length acts.old.entries) l) (walked_first x table by group node decl key value inside a admission.Charged s charged_at t asks seen).does.core.made
+              (subst (λ (l : List Made). Each (λ (m : Made). m.place ≡ place_number c.place → m.number < length acts.old.entries) l) (walked_first x table by group node decl key value inside a admission.Charged s charged_at t asks).does.core.made
               (later_is x decl f call charged_at held offered holds calls tables node on group inside c so e acts));
           known = each_before (λ (k : Known). k.place ≡ place_number c.place → length k.entries ≤ length acts.old.entries) s.core.traces.known charged_at.core.traces.known
-              (walked_first x table by group node decl key value inside a admission.Charged s charged_at t asks seen).does.core.known (knew_is x decl f call charged_at held offered holds calls tables node on group inside c so e acts);
+              (walked_first x table by group node decl key value inside a admission.Charged s charged_at t asks).does.core.known (knew_is x decl f call charged_at held offered holds calls tables node on group inside c so e acts);
           first = first_for x tables calls.called f.id node group c.place acts.first step_is (ap (λ (v : View). v.traces.known) h.core ∙ offers.known_is x decl f call charged_at held offered holds calls (noted ∷ []) _ acts.gains) refl inside;
           filled = filled;
         }
 
         pub noted_did : HasDid x.script by Command_of (record { reply = r; found = Some f }) s t
-        noted_did = asked_did x table by group node decl key value inside a admission.Charged s charged_at t asks seen q kept record {
+        noted_did = asked_did x table by group node decl key value inside a admission.Charged s charged_at t asks q kept record {
           does = h.does;
           tail = h.tail;
           ops = h.ops;

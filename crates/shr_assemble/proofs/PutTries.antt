@@ -1,12 +1,10 @@
 -- The operations of a put's tries and walks, group by group.
-use Rattle.shr_assemble.proofs.Common.{◌≡◌, ℕ, zero, suc, ◌+◌, ◌-◌, ◌<◌, ◌≤◌, ◌&&◌, Bool, true, false, not, cond, ◌==◌, List, [], ◌∷◌, ◌++◌, length, length-append, map, refl, sym, ap, subst, ◌∙◌, arith, append_assoc, eq-eqb, ne_eqb, Option, None, option_and_then, slice_get, slice_index_or, count_by, sum_by, pos, ◌-ℤ◌, Some, replicate, AllByRecursion, ints, append-nil, sum_by-append, dite, ℕ_discrete, UseStep, Object, Serial, Answered, Register, WalkRecord, ups, downs, is_refused, IsBelow, is_at_or_above, IsTree, path_of, IsOn, by_parents, on_self, on_le, Each, ChargeAnswer, ChargeOps, IsDown, path_to, way_here, way_root, way_up, parents_of, limits_of, limit_of, Groups, objects_freed, WorkerState, Work, then_work, Shared, charge_work, times_of, times_both, nets_downs, over_of, kept_of, way_once, refused_on, DidCharges, ops_at, made_freed_below, each_append, each_weaker, way_whole, nets_refused, nets_charged, way_few}
+use Rattle.shr_assemble.proofs.Common.{◌≡◌, ℕ, zero, suc, ◌+◌, ◌-◌, ◌<◌, ◌≤◌, ◌&&◌, Bool, true, false, not, cond, ◌==◌, List, [], ◌∷◌, ◌++◌, length, length-append, map, refl, sym, ap, subst, ◌∙◌, arith, append_assoc, eq-eqb, ne_eqb, Option, None, option_and_then, slice_get, slice_index_or, count_by, sum_by, pos, ◌-ℤ◌, Some, replicate, AllByRecursion, ints, append-nil, sum_by-append, dite, ℕ_discrete, UseStep, Object, Serial, Answered, Register, WalkRecord, ups, downs, is_refused, IsBelow, is_at_or_above, IsTree, path_of, IsOn, by_parents, on_self, on_le, Each, ChargeAnswer, ChargeOps, IsDown, path_to, way_here, way_root, way_up, parents_of, limits_of, limit_of, Groups, objects_freed, WorkerState, Work, then_work, Shared, charge_work, times_of, times_both, nets_downs, over_of, kept_of, way_once, refused_on, DidCharges, ops_at, made_freed_below, each_append, each_weaker, way_whole, nets_refused, nets_charged, way_few, IsUp, use_group, refused_closes}
 use Rattle.shr_charge.specs.declared.answers.ChargeAnswer.TheVariants as charge
 use Rattle.shr_charge.specs.Charging as charging
-use Rattle.shr_charge.specs.Charging.{IsUp, use_group}
-use Rattle.shr_reclaim.proofs.Settling.{refused_closes}
 use Rattle.shr_assemble.proofs.Outcomes.{outcomes, answers_in, outcomes_then, answers_then, no_answers, down_outcomes, FoundRoom, up_outcomes, over_outcomes, above_is, way_times}
 use Rattle.shr_assemble.proofs.PutWays.{Closed, Ends, closed_then, closed_ends_then, closed_ends, closed_downs, closed_by, ends_short, closed_pair, at_then, at_all, at_long, ups_is, downs_is, refused_is}
-use Rattle.shr_assemble.proofs.WalkingTold.{IsTableOf}
+use Rattle.shr_assemble.proofs.WalkingWell.{IsTableOf}
 use Rattle.shr_assemble.proofs.WalkingGives.{Freed}
 use Rattle.shr_assemble.proofs.WalkingCharges as walking
 use Rattle.shr_assemble.proofs.WalkingCharges.{GoesDown, rec_of, all_down, walks_charge, no_ups}
@@ -79,10 +77,9 @@ module _ (x : Shared) (by : Serial) (group : ℕ) where
         ∙ (ap (λ (k : ℕ). answers_in (parents_of x.script) group over k g ++ answers_in (parents_of x.script) group more (n - length more) g) (let z : m - length over ≡ 0 = omega (arith, short) in z)
         ∙ (answers_then (parents_of x.script) group over more (n - length more) g
         ∙ ap (λ (k : ℕ). answers_in (parents_of x.script) group (over ++ more) k g) (let l = length-append over more in let z : n - length more ≡ (m + n) - length (over ++ more) = omega (arith, short, l) in z)))));
-  }
-    where
-      first : (g : ℕ) → Closed (ops_at g v.ops)
-      first g = subst Closed (append-nil (ops_at g v.ops)) (p.settled g [] refl tt)
+  } where
+    first : (g : ℕ) → Closed (ops_at g v.ops)
+    first g = subst Closed (append-nil (ops_at g v.ops)) (p.settled g [] refl tt)
 
 -- ---- a try
 
@@ -116,57 +113,54 @@ module _ (x : Shared) (table : IsTableOf x) (by : Serial) (group : ℕ) (inside 
 
   charged_answers : (g : ℕ) (ops : List UseStep) → ChargeOps x.charge.shape by group charge.Charged ops → outcomes (limit_of x.script g) (ops_at g ops) ≡ answers_in (parents_of x.script) group [] 1 g
   charged_answers g ops h = found_room g ops (rec_of (IsUp x.charge.shape by) ops h.each)
-      ∙ (ap (λ (n : ℕ). replicate n false) (ap (times_of g) h.at ∙ (ap (λ (p : List ℕ). times_of g (path_of p group)) (charge_parents x table) ∙ walking.path_once (parents_of x.script) tree group g inside)) ∙ kept (is_at_or_above (parents_of x.script) g group))
-    where
-      kept : (t : Bool) → replicate (cond {A = ℕ} t 1 0) false ≡ cond t ([] ++ replicate 1 false) []
-      kept true = refl
-      kept false = refl
+      ∙ (ap (λ (n : ℕ). replicate n false) (ap (times_of g) h.at ∙ (ap (λ (p : List ℕ). times_of g (path_of p group)) (charge_parents x table) ∙ walking.path_once (parents_of x.script) tree group g inside)) ∙ kept (is_at_or_above (parents_of x.script) g group)) where
+        kept : (t : Bool) → replicate (cond {A = ℕ} t 1 0) false ≡ cond t ([] ++ replicate 1 false) []
+        kept true = refl
+        kept false = refl
 
   over_answers : (g level operation usage : ℕ) (ops : List UseStep) → ChargeOps x.charge.shape by group (charge.Over level operation usage) ops → outcomes (limit_of x.script g) (ops_at g ops) ≡ answers_in (parents_of x.script) group (level ∷ []) 0 g
-  over_answers g level operation usage ops h = split ∙ dite (ℕ_discrete level g) same other
-    where
-      limit : Option ℕ
-      limit = limit_of x.script g
+  over_answers g level operation usage ops h = split ∙ dite (ℕ_discrete level g) same other where
+    limit : Option ℕ
+    limit = limit_of x.script g
 
-      parents : List ℕ
-      parents = x.charge.shape.parents.items
+    parents : List ℕ
+    parents = x.charge.shape.parents.items
 
-      downs_each : AllByRecursion GoesDown (ops_at g h.downs)
-      downs_each = all_down g h.downs (each_weaker (IsDown by) GoesDown (λ o d. d.down) h.downs (rec_of (IsDown by) h.downs h.taken_back.each))
+    downs_each : AllByRecursion GoesDown (ops_at g h.downs)
+    downs_each = all_down g h.downs (each_weaker (IsDown by) GoesDown (λ o d. d.down) h.downs (rec_of (IsDown by) h.downs h.taken_back.each))
 
-      on : IsOn (parents_of x.script) level group
-      on = subst (λ (p : List ℕ). IsOn p level group) (charge_parents x table) (refused_on x.charge.shape by group level operation usage ops x.charge.tree there h)
+    on : IsOn (parents_of x.script) level group
+    on = subst (λ (p : List ℕ). IsOn p level group) (charge_parents x table) (refused_on x.charge.shape by group level operation usage ops x.charge.tree there h)
 
-      split : outcomes (limit_of x.script g) (ops_at g ops) ≡ replicate (times_of g (map use_group h.ups)) false ++ outcomes (limit_of x.script g) (ops_at g (h.over ∷ h.downs))
-      split = ap (λ (os : List UseStep). outcomes (limit_of x.script g) (ops_at g os)) h.whole ∙ (ap (outcomes (limit_of x.script g)) (at_then g h.ups (h.over ∷ h.downs)) ∙ (outcomes_then (limit_of x.script g) (ops_at g h.ups) (ops_at g (h.over ∷ h.downs))
-          ∙ ap (λ (l : List Bool). l ++ outcomes (limit_of x.script g) (ops_at g (h.over ∷ h.downs))) (found_room g h.ups (rec_of (IsUp x.charge.shape by) h.ups h.below))))
+    split : outcomes (limit_of x.script g) (ops_at g ops) ≡ replicate (times_of g (map use_group h.ups)) false ++ outcomes (limit_of x.script g) (ops_at g (h.over ∷ h.downs))
+    split = ap (λ (os : List UseStep). outcomes (limit_of x.script g) (ops_at g os)) h.whole ∙ (ap (outcomes (limit_of x.script g)) (at_then g h.ups (h.over ∷ h.downs)) ∙ (outcomes_then (limit_of x.script g) (ops_at g h.ups) (ops_at g (h.over ∷ h.downs))
+        ∙ ap (λ (l : List Bool). l ++ outcomes (limit_of x.script g) (ops_at g (h.over ∷ h.downs))) (found_room g h.ups (rec_of (IsUp x.charge.shape by) h.ups h.below))))
 
-      levels : times_of g (map use_group h.ups) + times_of g (level ∷ []) ≡ times_of g (path_to x.charge.shape.parents.items group level)
-      levels = sym (times_both g (map use_group h.ups) (level ∷ [])) ∙ ap (times_of g) (ap (λ (j : ℕ). map use_group h.ups ++ j ∷ []) (sym h.here) ∙ h.levels)
+    levels : times_of g (map use_group h.ups) + times_of g (level ∷ []) ≡ times_of g (path_to x.charge.shape.parents.items group level)
+    levels = sym (times_both g (map use_group h.ups) (level ∷ [])) ∙ ap (times_of g) (ap (λ (j : ℕ). map use_group h.ups ++ j ∷ []) (sym h.here) ∙ h.levels)
 
-      -- it is the group that refused
-      same : level ≡ g → replicate (times_of g (map use_group h.ups)) false ++ outcomes (limit_of x.script g) (ops_at g (h.over ∷ h.downs)) ≡ answers_in (parents_of x.script) group (level ∷ []) 0 g
-      same e =
-          let few = way_few x.charge.shape.parents.items x.charge.tree level g group there in
-          let one : times_of g (level ∷ []) ≡ 1 = ap (λ (t : Bool). 0 + cond {A = ℕ} t 1 0) (eq-eqb level g e) in
-          let none : times_of g (map use_group h.ups) ≡ 0 = omega (arith, few, one, levels) in
-          let back : outcomes (limit_of x.script g) (ops_at g (h.over ∷ h.downs)) ≡ true ∷ [] = ap (λ (t : Bool). outcomes (limit_of x.script g) (cond t (h.over ∷ ops_at g h.downs) (ops_at g h.downs))) (eq-eqb h.over.group g (h.here ∙ e))
-          ∙ over_outcomes (limit_of x.script g) h.over (ops_at g h.downs) h.refused.up (λ b. h.refused.above (subst (λ l. IsBelow l h.over) (same_limit x table g ∙ ap (charging.shape_limit x.charge.shape) (sym (h.here ∙ e))) b)) downs_each in
-          let own : is_at_or_above (parents_of x.script) g group ≡ true = above_is (parents_of x.script) g group (subst (λ j. IsOn (parents_of x.script) j group) e on) in
-          let self : is_at_or_above (parents_of x.script) level g ≡ true = above_is (parents_of x.script) level g (subst (λ j. IsOn (parents_of x.script) j g) (sym e) (on_self (parents_of x.script) tree g (let le = on_le (parents_of x.script) tree level group inside on in omega (arith, e, le, inside)))) in
-          (λ i. replicate (none i) false ++ back i) ∙ (ap (λ (t : Bool). t ∷ []) (sym (eq-eqb level g e)) ∙ (λ i. cond (sym own i) (map (λ (j : ℕ). j == g) (cond (sym self i) (level ∷ []) []) ++ replicate 0 false) []))
+    -- it is the group that refused
+    same : level ≡ g → replicate (times_of g (map use_group h.ups)) false ++ outcomes (limit_of x.script g) (ops_at g (h.over ∷ h.downs)) ≡ answers_in (parents_of x.script) group (level ∷ []) 0 g
+    same e =
+        let few = way_few x.charge.shape.parents.items x.charge.tree level g group there in
+        let one : times_of g (level ∷ []) ≡ 1 = ap (λ (t : Bool). 0 + cond {A = ℕ} t 1 0) (eq-eqb level g e) in
+        let none : times_of g (map use_group h.ups) ≡ 0 = omega (arith, few, one, levels) in
+        let back : outcomes (limit_of x.script g) (ops_at g (h.over ∷ h.downs)) ≡ true ∷ [] = ap (λ (t : Bool). outcomes (limit_of x.script g) (cond t (h.over ∷ ops_at g h.downs) (ops_at g h.downs))) (eq-eqb h.over.group g (h.here ∙ e))
+        ∙ over_outcomes (limit_of x.script g) h.over (ops_at g h.downs) h.refused.up (λ b. h.refused.above (subst (λ l. IsBelow l h.over) (same_limit x table g ∙ ap (charging.shape_limit x.charge.shape) (sym (h.here ∙ e))) b)) downs_each in
+        let own : is_at_or_above (parents_of x.script) g group ≡ true = above_is (parents_of x.script) g group (subst (λ j. IsOn (parents_of x.script) j group) e on) in
+        let self : is_at_or_above (parents_of x.script) level g ≡ true = above_is (parents_of x.script) level g (subst (λ j. IsOn (parents_of x.script) j g) (sym e) (on_self (parents_of x.script) tree g (let le = on_le (parents_of x.script) tree level group inside on in omega (arith, e, le, inside)))) in
+        (λ i. replicate (none i) false ++ back i) ∙ (ap (λ (t : Bool). t ∷ []) (sym (eq-eqb level g e)) ∙ (λ i. cond (sym own i) (map (λ (j : ℕ). j == g) (cond (sym self i) (level ∷ []) []) ++ replicate 0 false) []))
 
-      -- it is another
-      other : (level ≡ g → ⊥) → replicate (times_of g (map use_group h.ups)) false ++ outcomes (limit_of x.script g) (ops_at g (h.over ∷ h.downs)) ≡ answers_in (parents_of x.script) group (level ∷ []) 0 g
-      other ne =
-          let one : times_of g (level ∷ []) ≡ 0 = ap (λ (t : Bool). 0 + cond {A = ℕ} t 1 0) (ne_eqb level g ne) in
-          let way : times_of g (path_to x.charge.shape.parents.items group level) ≡ cond {A = ℕ} (is_at_or_above (parents_of x.script) g group && is_at_or_above (parents_of x.script) level g) 1 0
-          = ap (λ (p : List ℕ). times_of g (path_to p group level)) (charge_parents x table) ∙ way_times (parents_of x.script) tree level g (λ z. ne (sym z)) group inside on in
-          let ups : times_of g (map use_group h.ups) ≡ cond {A = ℕ} (is_at_or_above (parents_of x.script) g group && is_at_or_above (parents_of x.script) level g) 1 0 = omega (arith, one, levels, way) in
-          let back : outcomes (limit_of x.script g) (ops_at g (h.over ∷ h.downs)) ≡ [] = ap (λ (t : Bool). outcomes (limit_of x.script g) (cond t (h.over ∷ ops_at g h.downs) (ops_at g h.downs))) (ne_eqb h.over.group g (λ z. ne (sym h.here ∙ z)))
-          ∙ down_outcomes (limit_of x.script g) (ops_at g h.downs) downs_each in
-          (λ i. replicate (ups i) false ++ back i) ∙ cases (is_at_or_above (parents_of x.script) g group) (is_at_or_above (parents_of x.script) level g)
-        where
+    -- it is another
+    other : (level ≡ g → ⊥) → replicate (times_of g (map use_group h.ups)) false ++ outcomes (limit_of x.script g) (ops_at g (h.over ∷ h.downs)) ≡ answers_in (parents_of x.script) group (level ∷ []) 0 g
+    other ne =
+        let one : times_of g (level ∷ []) ≡ 0 = ap (λ (t : Bool). 0 + cond {A = ℕ} t 1 0) (ne_eqb level g ne) in
+        let way : times_of g (path_to x.charge.shape.parents.items group level) ≡ cond {A = ℕ} (is_at_or_above (parents_of x.script) g group && is_at_or_above (parents_of x.script) level g) 1 0
+        = ap (λ (p : List ℕ). times_of g (path_to p group level)) (charge_parents x table) ∙ way_times (parents_of x.script) tree level g (λ z. ne (sym z)) group inside on in
+        let ups : times_of g (map use_group h.ups) ≡ cond {A = ℕ} (is_at_or_above (parents_of x.script) g group && is_at_or_above (parents_of x.script) level g) 1 0 = omega (arith, one, levels, way) in
+        let back : outcomes (limit_of x.script g) (ops_at g (h.over ∷ h.downs)) ≡ [] = ap (λ (t : Bool). outcomes (limit_of x.script g) (cond t (h.over ∷ ops_at g h.downs) (ops_at g h.downs))) (ne_eqb h.over.group g (λ z. ne (sym h.here ∙ z)))
+        ∙ down_outcomes (limit_of x.script g) (ops_at g h.downs) downs_each in
+        (λ i. replicate (ups i) false ++ back i) ∙ cases (is_at_or_above (parents_of x.script) g group) (is_at_or_above (parents_of x.script) level g) where
           cases : (s t : Bool) → replicate (cond {A = ℕ} (s && t) 1 0) false ++ [] ≡ cond s (map (λ (j : ℕ). j == g) (cond t (level ∷ []) []) ++ replicate 0 false) []
           cases true true = ap (λ (b : Bool). b ∷ []) (sym (ne_eqb level g ne))
           cases true false = refl
@@ -205,12 +199,11 @@ module _ (x : Shared) (table : IsTableOf x) (by : Serial) (group : ℕ) (inside 
         settled = λ g b long down. closed_then (ops_at g ops) b (closed g) (closed_downs b down);
         ends = λ g. closed_ends (limit_of x.script g) (ops_at g ops) (closed g);
         tried = λ g. over_answers g level operation usage ops h;
-      }
-    where
-      there_split : (a : List UseStep) (o : UseStep) (b : List UseStep) → AllByRecursion (λ n. n < length (parents_of x.script)) (map use_group a ++ o.group ∷ []) → AllByRecursion (λ n. n < length (parents_of x.script)) (map use_group b)
-          → AllByRecursion (λ (y : UseStep). y.group < length (parents_of x.script)) (a ++ o ∷ b)
-      there_split [] o b first later = (first.0, of_groups (λ n. n < length (parents_of x.script)) b later)
-      there_split (y ∷ a) o b first later = (first.0, there_split a o b first.1 later)
+      } where
+        there_split : (a : List UseStep) (o : UseStep) (b : List UseStep) → AllByRecursion (λ n. n < length (parents_of x.script)) (map use_group a ++ o.group ∷ []) → AllByRecursion (λ n. n < length (parents_of x.script)) (map use_group b)
+            → AllByRecursion (λ (y : UseStep). y.group < length (parents_of x.script)) (a ++ o ∷ b)
+        there_split [] o b first later = (first.0, of_groups (λ n. n < length (parents_of x.script)) b later)
+        there_split (y ∷ a) o b first later = (first.0, there_split a o b first.1 later)
 
   -- ---- walks
 
@@ -230,7 +223,6 @@ module _ (x : Shared) (table : IsTableOf x) (by : Serial) (group : ℕ) (inside 
         settled = λ g b long d. closed_then (ops_at g w.ops) b (closed_downs (ops_at g w.ops) (all_down g w.ops down)) (closed_downs b d);
         ends = λ g. closed_ends (limit_of x.script g) (ops_at g w.ops) (closed_downs (ops_at g w.ops) (all_down g w.ops down));
         tried = λ g. down_outcomes (limit_of x.script g) (ops_at g w.ops) (all_down g w.ops down) ∙ sym (no_answers (parents_of x.script) group g);
-      }
-    where
-      same_net : (u d f : ℕ) → u ≡ 0 → pos u -ℤ pos d ≡ pos 0 -ℤ pos f → u + f ≡ d + 0
-      same_net u d f none e = omega (arith, ints, none, e)
+      } where
+        same_net : (u d f : ℕ) → u ≡ 0 → pos u -ℤ pos d ≡ pos 0 -ℤ pos f → u + f ≡ d + 0
+        same_net u d f none e = omega (arith, ints, none, e)

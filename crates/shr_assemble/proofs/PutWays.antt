@@ -1,10 +1,7 @@
 -- The operations of a command in one group: each up is followed by a down, or is the last one and found room.
-use Rattle.shr_assemble.proofs.Common.{◌≡◌, ℕ, zero, suc, ◌+◌, ◌<◌, ◌≤◌, ◌&&◌, Bool, true, false, not, cond, ◌==◌, List, [], ◌∷◌, ◌++◌, length, drop, map, refl, sym, ap, subst, ◌∙◌, arith, eqb-true, slice_get, Option, Some, count_by, MatchOption, find, AllByRecursion, same_Some, none-some, slice_get_within, slice_get-get_or, dite, ℕ_discrete, UseStep, Serial, ups, downs, is_by, is_refused, IsBelow, IsDownNext, AreTakenBack, times_of, count_first, IsDownBetween, ops_at}
-use Rattle.shr_charge.specs.Charging.{use_group}
-use Rattle.shr_charge.specs.Uses.{ups_at, downs_at}
-use Rattle.shr_reclaim.proofs.Settling.{Closes}
+use Rattle.shr_assemble.proofs.Common.{◌≡◌, ℕ, zero, suc, ◌+◌, ◌<◌, ◌≤◌, ◌&&◌, Bool, true, false, not, cond, ◌==◌, List, [], ◌∷◌, ◌++◌, length, drop, map, refl, sym, ap, subst, ◌∙◌, arith, eqb-true, slice_get, Option, Some, count_by, MatchOption, find, AllByRecursion, same_Some, none-some, slice_get_within, slice_get-get_or, dite, ℕ_discrete, UseStep, Serial, ups, downs, is_by, is_refused, IsBelow, IsDownNext, AreTakenBack, times_of, count_first, IsDownBetween, ops_at, use_group, ups_at, downs_at, Closes}
 use Rattle.shr_assemble.proofs.WalkingCharges.{GoesDown}
-use Rattle.shr_assemble.proofs.Operations.{is_by_own}
+use Rattle.shr_assemble.proofs.Listed.{is_by_own}
 
 abbrev pub ways : List UseStep → List Bool
 ways ops = map (λ (o : UseStep). o.up) ops
@@ -53,17 +50,12 @@ closed_downs (o ∷ p ∷ a) h = ((λ up. h.1.0), closed_downs (p ∷ a) h.1)
 
 pub closed_by : (a : List UseStep) → Closes (ways a) → Closed a
 closed_by [] h = tt
-closed_by (o ∷ []) h = one o.up refl h
-  where
-    one : (b : Bool) → o.up ≡ b → Closes (b ∷ []) → o.up ≡ false
-    one true e h = absurd h
-    one false e h = e
-closed_by (o ∷ p ∷ os) h = two o.up p.up refl refl h (closed_by (p ∷ os))
-  where
-    two : (b c : Bool) → o.up ≡ b → p.up ≡ c → Closes (b ∷ c ∷ ways os) → (Closes (p.up ∷ ways os) → Closed (p ∷ os)) → (o.up ≡ true → p.up ≡ false) × Closed (p ∷ os)
-    two false c e d h more = ((λ up. not_both o.up up e), more (subst (λ (b : Bool). Closes (b ∷ ways os)) (sym d) h))
-    two true false e d h more = ((λ up. d), more (subst (λ (b : Bool). Closes (b ∷ ways os)) (sym d) h))
-    two true true e d h more = absurd h
+closed_by (o ∷ []) h = (elim o.up as (λ (b : Bool). o.up ≡ b → Closes (b ∷ []) → o.up ≡ false) [ true ↦ λ e h. absurd h | false ↦ λ e h. e ]) refl h
+closed_by (o ∷ p ∷ os) h = two o.up p.up refl refl h (closed_by (p ∷ os)) where
+  two : (b c : Bool) → o.up ≡ b → p.up ≡ c → Closes (b ∷ c ∷ ways os) → (Closes (p.up ∷ ways os) → Closed (p ∷ os)) → (o.up ≡ true → p.up ≡ false) × Closed (p ∷ os)
+  two false c e d h more = ((λ up. not_both o.up up e), more (subst (λ (b : Bool). Closes (b ∷ ways os)) (sym d) h))
+  two true false e d h more = ((λ up. d), more (subst (λ (b : Bool). Closes (b ∷ ways os)) (sym d) h))
+  two true true e d h more = absurd h
 
 -- one up at most, which found room
 pub ends_short : (limit : Option ℕ) (a : List UseStep) → length a ≤ 1 → AllByRecursion (IsBelow limit) a → Ends limit a
@@ -111,36 +103,29 @@ ends_between limit a h n m lt e f = dite (ℕ_discrete m (suc n))
 
 pub at_then : (g : ℕ) (a b : List UseStep) → ops_at g (a ++ b) ≡ ops_at g a ++ ops_at g b
 at_then g [] b = refl
-at_then g (o ∷ a) b = kept (o.group == g) (at_then g a b)
-  where
-    kept : (t : Bool) → ops_at g (a ++ b) ≡ ops_at g a ++ ops_at g b → cond t (o ∷ ops_at g (a ++ b)) (ops_at g (a ++ b)) ≡ cond t (o ∷ ops_at g a) (ops_at g a) ++ ops_at g b
-    kept true e = ap (λ (l : List UseStep). o ∷ l) e
-    kept false e = e
+at_then g (o ∷ a) b = (elim (o.group == g) as (λ (t : Bool). ops_at g (a ++ b) ≡ ops_at g a ++ ops_at g b → cond t (o ∷ ops_at g (a ++ b)) (ops_at g (a ++ b)) ≡ cond t (o ∷ ops_at g a) (ops_at g a) ++ ops_at g b) [ true ↦ λ e. ap (λ (l : List UseStep). o ∷ l) e | false ↦ λ e. e ]) (at_then g a b)
 
 pub at_all : (P : UseStep → Type 0) (g : ℕ) (ops : List UseStep) → AllByRecursion P ops → AllByRecursion (λ (o : UseStep). P o × (o.group ≡ g)) (ops_at g ops)
 at_all P g [] h = tt
-at_all P g (o ∷ ops) h = kept (o.group == g) refl (at_all P g ops h.1)
-  where
-    kept : (t : Bool) → (o.group == g) ≡ t → AllByRecursion (λ (y : UseStep). P y × (y.group ≡ g)) (ops_at g ops) → AllByRecursion (λ (y : UseStep). P y × (y.group ≡ g)) (cond t (o ∷ ops_at g ops) (ops_at g ops))
-    kept true e more = ((h.0, eqb-true o.group g e), more)
-    kept false e more = more
+at_all P g (o ∷ ops) h = kept (o.group == g) refl (at_all P g ops h.1) where
+  kept : (t : Bool) → (o.group == g) ≡ t → AllByRecursion (λ (y : UseStep). P y × (y.group ≡ g)) (ops_at g ops) → AllByRecursion (λ (y : UseStep). P y × (y.group ≡ g)) (cond t (o ∷ ops_at g ops) (ops_at g ops))
+  kept true e more = ((h.0, eqb-true o.group g e), more)
+  kept false e more = more
 
 pub at_long : (g : ℕ) (ops : List UseStep) → length (ops_at g ops) ≡ times_of g (map use_group ops)
 at_long g [] = refl
-at_long g (o ∷ ops) = kept (o.group == g) (at_long g ops) ∙ sym (count_first (λ (j : ℕ). j == g) o.group (map use_group ops))
-  where
-    kept : (t : Bool) → length (ops_at g ops) ≡ times_of g (map use_group ops) → length (cond t (o ∷ ops_at g ops) (ops_at g ops)) ≡ cond {A = ℕ} t 1 0 + times_of g (map use_group ops)
-    kept true e = omega (arith, e)
-    kept false e = omega (arith, e)
+at_long g (o ∷ ops) = kept (o.group == g) (at_long g ops) ∙ sym (count_first (λ (j : ℕ). j == g) o.group (map use_group ops)) where
+  kept : (t : Bool) → length (ops_at g ops) ≡ times_of g (map use_group ops) → length (cond t (o ∷ ops_at g ops) (ops_at g ops)) ≡ cond {A = ℕ} t 1 0 + times_of g (map use_group ops)
+  kept true e = omega (arith, e)
+  kept false e = omega (arith, e)
 
 -- a count of them is one of all
 pub count_at : (p : UseStep → Bool) (g : ℕ) (ops : List UseStep) → count_by p (ops_at g ops) ≡ count_by (λ (o : UseStep). (o.group == g) && p o) ops
 count_at p g [] = refl
-count_at p g (o ∷ ops) = kept (o.group == g) (count_at p g ops) ∙ sym (count_first (λ (y : UseStep). (y.group == g) && p y) o ops)
-  where
-    kept : (t : Bool) → count_by p (ops_at g ops) ≡ count_by (λ (y : UseStep). (y.group == g) && p y) ops → count_by p (cond t (o ∷ ops_at g ops) (ops_at g ops)) ≡ cond {A = ℕ} (t && p o) 1 0 + count_by (λ (y : UseStep). (y.group == g) && p y) ops
-    kept true e = count_first p o (ops_at g ops) ∙ ap (λ (n : ℕ). cond {A = ℕ} (p o) 1 0 + n) e
-    kept false e = omega (arith, e)
+count_at p g (o ∷ ops) = kept (o.group == g) (count_at p g ops) ∙ sym (count_first (λ (y : UseStep). (y.group == g) && p y) o ops) where
+  kept : (t : Bool) → count_by p (ops_at g ops) ≡ count_by (λ (y : UseStep). (y.group == g) && p y) ops → count_by p (cond t (o ∷ ops_at g ops) (ops_at g ops)) ≡ cond {A = ℕ} (t && p o) 1 0 + count_by (λ (y : UseStep). (y.group == g) && p y) ops
+  kept true e = count_first p o (ops_at g ops) ∙ ap (λ (n : ℕ). cond {A = ℕ} (p o) 1 0 + n) e
+  kept false e = omega (arith, e)
 
 pub ups_is : (g : ℕ) (ops : List UseStep) → ups (ops_at g ops) ≡ ups_at g ops
 ups_is g ops = count_at (λ (o : UseStep). o.up) g ops
@@ -151,28 +136,26 @@ downs_is g ops = count_at (λ (o : UseStep). not o.up) g ops
 -- the refused ones, by the limit of each group
 pub refused_is : (limit : ℕ → Option ℕ) (g : ℕ) (ops : List UseStep) → count_by (is_refused (limit g)) (ops_at g ops) ≡ count_by (λ (o : UseStep). is_refused (limit o.group) o && (o.group == g)) ops
 refused_is limit g [] = refl
-refused_is limit g (o ∷ ops) = kept (o.group == g) refl (refused_is limit g ops) ∙ sym (count_first (λ (y : UseStep). is_refused (limit y.group) y && (y.group == g)) o ops)
-  where
-    with_true : (b : Bool) → b ≡ (b && true)
-    with_true true = refl
-    with_true false = refl
+refused_is limit g (o ∷ ops) = kept (o.group == g) refl (refused_is limit g ops) ∙ sym (count_first (λ (y : UseStep). is_refused (limit y.group) y && (y.group == g)) o ops) where
+  with_true : (b : Bool) → b ≡ (b && true)
+  with_true true = refl
+  with_true false = refl
 
-    with_false : (b : Bool) → (b && false) ≡ false
-    with_false true = refl
-    with_false false = refl
+  with_false : (b : Bool) → (b && false) ≡ false
+  with_false true = refl
+  with_false false = refl
 
-    kept : (t : Bool) → (o.group == g) ≡ t → count_by (is_refused (limit g)) (ops_at g ops) ≡ count_by (λ (y : UseStep). is_refused (limit y.group) y && (y.group == g)) ops
-        → count_by (is_refused (limit g)) (cond t (o ∷ ops_at g ops) (ops_at g ops)) ≡ cond {A = ℕ} (is_refused (limit o.group) o && t) 1 0 + count_by (λ (y : UseStep). is_refused (limit y.group) y && (y.group == g)) ops
-    kept true e more = count_first (is_refused (limit g)) o (ops_at g ops)
-        ∙ (ap (λ (n : ℕ). cond {A = ℕ} (is_refused (limit g) o) 1 0 + n) more
-        ∙ ap (λ (b : Bool). cond {A = ℕ} b 1 0 + count_by (λ (y : UseStep). is_refused (limit y.group) y && (y.group == g)) ops) (ap (λ (n : ℕ). is_refused (limit n) o) (sym (eqb-true o.group g e)) ∙ with_true (is_refused (limit o.group) o)))
-    kept false e more = let none = ap (λ (b : Bool). cond {A = ℕ} b 1 0) (with_false (is_refused (limit o.group) o)) in omega (arith, more, none)
+  kept : (t : Bool) → (o.group == g) ≡ t → count_by (is_refused (limit g)) (ops_at g ops) ≡ count_by (λ (y : UseStep). is_refused (limit y.group) y && (y.group == g)) ops
+      → count_by (is_refused (limit g)) (cond t (o ∷ ops_at g ops) (ops_at g ops)) ≡ cond {A = ℕ} (is_refused (limit o.group) o && t) 1 0 + count_by (λ (y : UseStep). is_refused (limit y.group) y && (y.group == g)) ops
+  kept true e more = count_first (is_refused (limit g)) o (ops_at g ops)
+      ∙ (ap (λ (n : ℕ). cond {A = ℕ} (is_refused (limit g) o) 1 0 + n) more
+      ∙ ap (λ (b : Bool). cond {A = ℕ} b 1 0 + count_by (λ (y : UseStep). is_refused (limit y.group) y && (y.group == g)) ops) (ap (λ (n : ℕ). is_refused (limit n) o) (sym (eqb-true o.group g e)) ∙ with_true (is_refused (limit o.group) o)))
+  kept false e more = let none = ap (λ (b : Bool). cond {A = ℕ} b 1 0) (with_false (is_refused (limit o.group) o)) in omega (arith, more, none)
 
 -- those of one group are no more than all
 pub ups_all : (g : ℕ) (ops : List UseStep) → ups (ops_at g ops) ≤ ups ops
 ups_all g [] = omega arith
-ups_all g (o ∷ ops) = let e = count_first (λ (y : UseStep). y.up) o ops in let k = kept (o.group == g) (ups_all g ops) in omega (arith, e, k)
-  where
-    kept : (t : Bool) → ups (ops_at g ops) ≤ ups ops → ups (cond t (o ∷ ops_at g ops) (ops_at g ops)) ≤ cond {A = ℕ} o.up 1 0 + ups ops
-    kept true le = let e = count_first (λ (y : UseStep). y.up) o (ops_at g ops) in omega (arith, e, le)
-    kept false le = omega (arith, le)
+ups_all g (o ∷ ops) = let e = count_first (λ (y : UseStep). y.up) o ops in let k = kept (o.group == g) (ups_all g ops) in omega (arith, e, k) where
+  kept : (t : Bool) → ups (ops_at g ops) ≤ ups ops → ups (cond t (o ∷ ops_at g ops) (ops_at g ops)) ≤ cond {A = ℕ} o.up 1 0 + ups ops
+  kept true le = let e = count_first (λ (y : UseStep). y.up) o (ops_at g ops) in omega (arith, e, le)
+  kept false le = omega (arith, le)

@@ -1,7 +1,6 @@
 -- What carrying a group's deferred work took and gave, by what was noted of it.
-use Rattle.shr_assemble.proofs.Common.{◌≡◌, ℕ, ◌+◌, ◌<◌, Bool, true, false, cond, ◌==◌, ◌&&◌, List, [], ◌∷◌, ◌++◌, map, length, refl, sym, ap, ◌∙◌, arith, eqb, eq-eqb, ne_eqb, sum_by, flat_map, map-append, AllByRecursion, eqb-true, lt-ltb, dite, ℕ_discrete, parent_of, is_child, PlaceAmount, Place, Serial, Carry, sum_at, amount_at, given_at, taken_at, is_below, is_place, total, total-append, Shape, amount_of, takes_of, gives_of, takes_both, gives_both, Script, parents_of, WordStep, steps_handed, told_step, carry_moves, carry_noted, carries_noted, sum_total, above_of}
+use Rattle.shr_assemble.proofs.Common.{◌≡◌, ℕ, ◌+◌, ◌<◌, Bool, true, false, cond, ◌==◌, ◌&&◌, List, [], ◌∷◌, ◌++◌, map, length, refl, sym, ap, ◌∙◌, arith, eqb, eq-eqb, ne_eqb, sum_by, flat_map, map-append, AllByRecursion, eqb-true, lt-ltb, dite, ℕ_discrete, parent_of, is_child, PlaceAmount, Place, Serial, Carry, sum_at, amount_at, given_at, taken_at, is_below, is_place, total, total-append, Shape, amount_of, takes_of, gives_of, takes_both, gives_both, Script, parents_of, WordStep, steps_handed, told_step, carry_moves, carry_noted, carries_noted, sum_total, above_of, took, place_of_parent}
 use Rattle.shr_deferred.specs.Moves.{gave}
-use Rattle.shr_report.specs.Takes.{took, place_of_parent}
 use Rattle.shr_report.specs.Takes.{gave as told_gave}
 use Rattle.shr_model.proofs.Numbers.{zero_plus}
 
@@ -31,15 +30,14 @@ gives_more shape a more = let above = amount_of (above_of shape a.place) a.amoun
 -- what was taken at a place is what was noted of it
 pub carried_taken : (shape : Shape) (by : Serial) (amounts : List PlaceAmount) (p : Place) → sum_at p (takes_of (carry_moves shape amounts)) ≡ taken_at [] (carries_noted by amounts) p
 carried_taken shape by amounts p = ap (sum_at p) (takes_are shape amounts) ∙ (sum_total (amount_at p) amounts ∙ (sym (noted_total (λ (c : Carry). cond (is_place p c.place) c.amount 0) (amount_at p) by one amounts)
-    ∙ (sym (sum_total (λ (c : Carry). cond (is_place p c.place) c.amount 0) (carries_noted by amounts)) ∙ zero_plus (sum_by (λ (c : Carry). cond (is_place p c.place) c.amount 0) (carries_noted by amounts)))))
-  where
-    same_zero : (b : Bool) (n : ℕ) → n ≡ 0 → 0 ≡ cond b n 0
-    same_zero true n e = sym e
-    same_zero false n e = refl
+    ∙ (sym (sum_total (λ (c : Carry). cond (is_place p c.place) c.amount 0) (carries_noted by amounts)) ∙ zero_plus (sum_by (λ (c : Carry). cond (is_place p c.place) c.amount 0) (carries_noted by amounts))))) where
+      same_zero : (b : Bool) (n : ℕ) → n ≡ 0 → 0 ≡ cond b n 0
+      same_zero true n e = sym e
+      same_zero false n e = refl
 
-    one : (a : PlaceAmount) (b : Bool) → (a.amount == 0) ≡ b → total (λ (c : Carry). cond (is_place p c.place) c.amount 0) (cond b [] (record { by = by; place = a.place; amount = a.amount } ∷ [])) ≡ amount_at p a
-    one a true e = same_zero (is_place p a.place) a.amount (eqb-true a.amount 0 e)
-    one a false e = omega arith
+      one : (a : PlaceAmount) (b : Bool) → (a.amount == 0) ≡ b → total (λ (c : Carry). cond (is_place p c.place) c.amount 0) (cond b [] (record { by = by; place = a.place; amount = a.amount } ∷ [])) ≡ amount_at p a
+      one a true e = same_zero (is_place p a.place) a.amount (eqb-true a.amount 0 e)
+      one a false e = omega arith
 
 eqb_flip : (a b : ℕ) → eqb a b ≡ eqb b a
 eqb_flip a b = dite (ℕ_discrete a b) (λ e. eq-eqb a b e ∙ sym (eq-eqb b a (sym e))) (λ n. ne_eqb a b n ∙ sym (ne_eqb b a (λ e. n (sym e))))
@@ -61,23 +59,21 @@ below_weight parents p c = cond (is_below parents p c.place) c.amount 0
 
 -- what was given to a place is what was noted of its children's
 pub carried_given : (shape : Shape) (by : Serial) (group : ℕ) (amounts : List PlaceAmount) (p : Place) → 0 < group → group < length shape.parents.items → AreOf group amounts → sum_at p (gives_of (carry_moves shape amounts)) ≡ given_at shape.parents.items [] (carries_noted by amounts) p
-carried_given shape by group amounts p low there of = sum_total (amount_at p) (gives_of (carry_moves shape amounts)) ∙ (each amounts of ∙ (sym (sum_total (below_weight shape.parents.items p) (carries_noted by amounts)) ∙ zero_plus (sum_by (below_weight shape.parents.items p) (carries_noted by amounts))))
-  where
-    one : (a : PlaceAmount) → a.place.group ≡ group → (b : Bool) → total (amount_at p) (cond b [] (record { place = above_of shape a.place; amount = a.amount } ∷ [])) ≡ total (below_weight shape.parents.items p) (cond b [] (record { by = by; place = a.place; amount = a.amount } ∷ []))
-    one a here true = refl
-    one a here false = ap (λ (t : Bool). cond t a.amount 0 + 0) (above_below shape p a.place (omega (arith, here, low)) (omega (arith, here, there)))
+carried_given shape by group amounts p low there of = sum_total (amount_at p) (gives_of (carry_moves shape amounts)) ∙ (each amounts of ∙ (sym (sum_total (below_weight shape.parents.items p) (carries_noted by amounts)) ∙ zero_plus (sum_by (below_weight shape.parents.items p) (carries_noted by amounts)))) where
+  one : (a : PlaceAmount) → a.place.group ≡ group → (b : Bool) → total (amount_at p) (cond b [] (record { place = above_of shape a.place; amount = a.amount } ∷ [])) ≡ total (below_weight shape.parents.items p) (cond b [] (record { by = by; place = a.place; amount = a.amount } ∷ []))
+  one a here true = refl
+  one a here false = ap (λ (t : Bool). cond t a.amount 0 + 0) (above_below shape p a.place (omega (arith, here, low)) (omega (arith, here, there)))
 
-    each : (more : List PlaceAmount) → AreOf group more → total (amount_at p) (gives_of (carry_moves shape more)) ≡ total (below_weight shape.parents.items p) (carries_noted by more)
-    each [] h = refl
-    each (a ∷ more) h = omega (arith, ap (λ l. total (amount_at p) l) (gives_more shape a more), each more h.1, one a h.0 (a.amount == 0), total-append (amount_at p) (cond (a.amount == 0) [] (record { place = above_of shape a.place; amount = a.amount } ∷ [])) (gives_of (carry_moves shape more)), total-append (below_weight shape.parents.items p) (carry_noted by a) (carries_noted by more))
+  each : (more : List PlaceAmount) → AreOf group more → total (amount_at p) (gives_of (carry_moves shape more)) ≡ total (below_weight shape.parents.items p) (carries_noted by more)
+  each [] h = refl
+  each (a ∷ more) h = omega (arith, ap (λ l. total (amount_at p) l) (gives_more shape a more), each more h.1, one a h.0 (a.amount == 0), total-append (amount_at p) (cond (a.amount == 0) [] (record { place = above_of shape a.place; amount = a.amount } ∷ [])) (gives_of (carry_moves shape more)), total-append (below_weight shape.parents.items p) (carry_noted by a) (carries_noted by more))
 
 -- what was moved is what a report tells of it
 pub told_handed : (shape : Shape) (s : Script) → shape.parents.items ≡ parents_of s → (amounts : List PlaceAmount) → map told_step (carry_moves shape amounts) ≡ flat_map (steps_handed s) amounts
 told_handed shape s e [] = refl
 told_handed shape s e (a ∷ more) = ap (λ (l : List WordStep). took a ∷ l) (map-append told_step (cond (a.amount == 0) [] (gave (amount_of (above_of shape a.place) a.amount) ∷ [])) (carry_moves shape more)
     ∙ (ap (λ (l : List WordStep). l ++ map told_step (carry_moves shape more)) (one (a.amount == 0))
-    ∙ ap (λ (l : List WordStep). cond (a.amount == 0) [] (told_gave (amount_of (place_of_parent s a.place) a.amount) ∷ []) ++ l) (told_handed shape s e more)))
-  where
-    one : (b : Bool) → map told_step (cond b [] (gave (amount_of (above_of shape a.place) a.amount) ∷ [])) ≡ cond b [] (told_gave (amount_of (place_of_parent s a.place) a.amount) ∷ [])
-    one true = refl
-    one false = ap (λ (ps : List ℕ). told_gave (amount_of (record a.place { group = parent_of ps a.place.group }) a.amount) ∷ []) e
+    ∙ ap (λ (l : List WordStep). cond (a.amount == 0) [] (told_gave (amount_of (place_of_parent s a.place) a.amount) ∷ []) ++ l) (told_handed shape s e more))) where
+      one : (b : Bool) → map told_step (cond b [] (gave (amount_of (above_of shape a.place) a.amount) ∷ [])) ≡ cond b [] (told_gave (amount_of (place_of_parent s a.place) a.amount) ∷ [])
+      one true = refl
+      one false = ap (λ (ps : List ℕ). told_gave (amount_of (record a.place { group = parent_of ps a.place.group }) a.amount) ∷ []) e

@@ -1,12 +1,13 @@
 -- What a command charged that made uncharges alone, one of each of some objects.
-use Rattle.shr_assemble.proofs.Common.{◌≡◌, ℕ, zero, suc, ◌+◌, ◌<◌, ◌≤◌, pos, ◌-ℤ◌, Bool, true, false, not, cond, ◌==◌, ◌||◌, List, [], ◌∷◌, ◌++◌, length, length-append, refl, sym, ap, subst, ◌∙◌, arith, ne_eqb, Some, None, slice_index_or, map, sum_by, nat_le, AllByRecursion, list_any, length-map, All-from_recursion, dite, ℕ_discrete, UseStep, Object, Serial, Script, ups, downs, is_at_or_above, born_below, IsTree, path_of, parent_of, path_of-root, path_of-below, by_parents, total, Made, AreDowns, IsDown, Spent, nat_tests, Begins, nothing, Adds, spent_by, Uses, Shared, WorkerState, Work, no_work, Does, does_none, Uncharges, paths_of, parents_of, charged, Step, DidCharges, ops_at, added_below, made_freed_below, each_append, by_slices, count_total}
-use Rattle.shr_charge.specs.Charging.{use_group}
+use Rattle.shr_assemble.proofs.Common.{◌≡◌, ℕ, zero, suc, ◌+◌, ◌<◌, ◌≤◌, pos, ◌-ℤ◌, Bool, true, false, not, cond, ◌==◌, ◌||◌, List, [], ◌∷◌, ◌++◌, length, length-append, refl, sym, ap, subst, ◌∙◌, arith, ne_eqb, Some, None, slice_index_or, map, sum_by, nat_le, AllByRecursion, list_any, length-map, All-from_recursion, dite, ℕ_discrete, UseStep, Object, Serial, Script, ups, downs, is_at_or_above, born_below, IsTree, path_of, parent_of, path_of-root, path_of-below, by_parents, total, Made, AreDowns, IsDown, Spent, nat_tests, Begins, nothing, Adds, spent_by, Uses, Shared, WorkerState, Work, no_work, Does, does_none, Uncharges, paths_of, parents_of, charged, Step, DidCharges, ops_at, added_below, made_freed_below, each_append, by_slices, count_total, use_group, ◌⊎◌, inl, inr, none-some, Reply, Command, asks_online, Family, cited_by, MayBeOffline, pool_told, pool_made, IsReply, IsCausedBy, KnowsOnline, MeetsGroups, leb-true, AreChargesWorn, total_flat}
 use Rattle.shr_base.specs.declared.replies.Spent.TheVariants as spent
 use Rattle.shr_charge.specs.Seat.{counted}
-use Rattle.shr_assemble.proofs.Gathering.{total_flat}
 use Rattle.shr_assemble.proofs.Listed.{all_slice, all_slice_by}
 use Rattle.shr_assemble.proofs.PutTries.{of_groups}
 use Rattle.shr_walk.proofs.Scanned.{not_spent_by}
+use Rattle.shr_assemble.proofs.QuietTenant.{brings_of, without, no_entries, unfound_lookups}
+use Rattle.shr_assemble.proofs.Spending.{spent_is}
+use Rattle.shr_assemble.proofs.QuietSteps.{step_of, HasDid, IsCalm, calm_walks, still_moves, still_charges, still_pool, still_tree, IsToldOnce, quiet_did}
 
 abbrev one_at : ℕ → ℕ → ℕ
 one_at g h = cond (h == g) 1 0
@@ -50,21 +51,16 @@ module _ (parents : List ℕ) (tree : IsTree parents) where
       let none = none_above g (path_of parents (parent_of parents c)) (all_weaker (λ h. h ≤ parent_of parents c) (λ h. h < g) (path_of parents (parent_of parents c)) (λ h le. omega (arith, le, l, e)) low) in
       one c (path_of parents (parent_of parents c)) none.0 none.1)
       (λ ne. let no : (c == g) ≡ false = ne_eqb c g ne in
-      omega (arith, more, ap (λ x. cond {A = ℕ} x 1 0) no, ap (λ x. cond {A = ℕ} (x || list_any (λ h. h == g) (path_of parents (parent_of parents c))) 1 0) no)))) b lt
-    where
-      one : (c : ℕ) (xs : List ℕ) → total (one_at g) xs ≡ 0 → list_any (λ h. h == g) xs ≡ false → Once g (c ∷ xs)
-      one c xs none apart = by_test (c == g) where
-        by_test : (t : Bool) → cond t 1 0 + total (one_at g) xs ≡ cond (t || list_any (λ h. h == g) xs) 1 0
-        by_test true = omega (arith, none)
-        by_test false = omega (arith, none, ap (λ x. cond {A = ℕ} x 1 0) apart)
+      omega (arith, more, ap (λ x. cond {A = ℕ} x 1 0) no, ap (λ x. cond {A = ℕ} (x || list_any (λ h. h == g) (path_of parents (parent_of parents c))) 1 0) no)))) b lt where
+        one : (c : ℕ) (xs : List ℕ) → total (one_at g) xs ≡ 0 → list_any (λ h. h == g) xs ≡ false → Once g (c ∷ xs)
+        one c xs none apart = elim (c == g) as (λ (t : Bool). cond t 1 0 + total (one_at g) xs ≡ cond (t || list_any (λ h. h == g) xs) 1 0) [ true ↦ omega (arith, none) | false ↦ omega (arith, none, ap (λ x. cond {A = ℕ} x 1 0) apart) ]
 
   -- the paths of objects have a group as often as they were born at or below it
   paths_have : (g : ℕ) (objects : List Object) → AllByRecursion (λ (o : Object). o.birth < length parents) objects → total (one_at g) (paths_of parents objects) ≡ born_below parents g objects
-  paths_have g objects born = total_flat (one_at g) (λ (o : Object). path_of parents o.birth) objects ∙ (each objects born ∙ sym (count_total (λ (o : Object). is_at_or_above parents g o.birth) objects))
-    where
-      each : (os : List Object) → AllByRecursion (λ (o : Object). o.birth < length parents) os → total (λ (o : Object). total (one_at g) (path_of parents o.birth)) os ≡ total (λ (o : Object). cond (is_at_or_above parents g o.birth) 1 0) os
-      each [] h = refl
-      each (o ∷ os) h = omega (arith, on_path_once g o.birth h.0, each os h.1)
+  paths_have g objects born = total_flat (one_at g) (λ (o : Object). path_of parents o.birth) objects ∙ (each objects born ∙ sym (count_total (λ (o : Object). is_at_or_above parents g o.birth) objects)) where
+    each : (os : List Object) → AllByRecursion (λ (o : Object). o.birth < length parents) os → total (λ (o : Object). total (one_at g) (path_of parents o.birth)) os ≡ total (λ (o : Object). cond (is_at_or_above parents g o.birth) 1 0) os
+    each [] h = refl
+    each (o ∷ os) h = omega (arith, on_path_once g o.birth h.0, each os h.1)
 
   paths_low : (objects : List Object) → AllByRecursion (λ (o : Object). o.birth < length parents) objects → AllByRecursion (λ h. h < length parents) (paths_of parents objects)
   paths_low [] h = tt
@@ -80,36 +76,28 @@ module _ (by : Serial) where
   -- those of a group go down too
   at_down : (g : ℕ) (ops : List UseStep) → AllByRecursion (IsDown by) ops → AllByRecursion (IsDown by) (ops_at g ops)
   at_down g [] h = tt
-  at_down g (o ∷ os) h = kept (o.group == g) (at_down g os h.1)
-    where
-      kept : (b : Bool) → AllByRecursion (IsDown by) (ops_at g os) → AllByRecursion (IsDown by) (cond b (o ∷ ops_at g os) (ops_at g os))
-      kept true rest = (h.0, rest)
-      kept false rest = rest
+  at_down g (o ∷ os) h = (elim (o.group == g) as (λ (b : Bool). AllByRecursion (IsDown by) (ops_at g os) → AllByRecursion (IsDown by) (cond b (o ∷ ops_at g os) (ops_at g os))) [ true ↦ λ rest. (h.0, rest) | false ↦ λ rest. rest ]) (at_down g os h.1)
 
   no_ups : (ops : List UseStep) → AllByRecursion (IsDown by) ops → ups ops ≡ 0
-  no_ups ops h = count_total (λ (o : UseStep). o.up) ops ∙ none ops h
-    where
-      none : (os : List UseStep) → AllByRecursion (IsDown by) os → total is_up os ≡ 0
-      none [] h = refl
-      none (o ∷ os) h = omega (arith, none os h.1, ap (λ b. cond {A = ℕ} b 1 0) h.0.down)
+  no_ups ops h = count_total (λ (o : UseStep). o.up) ops ∙ none ops h where
+    none : (os : List UseStep) → AllByRecursion (IsDown by) os → total is_up os ≡ 0
+    none [] h = refl
+    none (o ∷ os) h = omega (arith, none os h.1, ap (λ b. cond {A = ℕ} b 1 0) h.0.down)
 
   all_downs : (ops : List UseStep) → AllByRecursion (IsDown by) ops → downs ops ≡ length ops
-  all_downs ops h = count_total (λ (o : UseStep). not o.up) ops ∙ all ops h
-    where
-      all : (os : List UseStep) → AllByRecursion (IsDown by) os → total is_down os ≡ length os
-      all [] h = refl
-      all (o ∷ os) h = omega (arith, all os h.1, ap (λ b. cond {A = ℕ} (not b) 1 0) h.0.down)
+  all_downs ops h = count_total (λ (o : UseStep). not o.up) ops ∙ all ops h where
+    all : (os : List UseStep) → AllByRecursion (IsDown by) os → total is_down os ≡ length os
+    all [] h = refl
+    all (o ∷ os) h = omega (arith, all os h.1, ap (λ b. cond {A = ℕ} (not b) 1 0) h.0.down)
 
   downs_are : (g : ℕ) (ops : List UseStep) → AllByRecursion (IsDown by) ops → downs (ops_at g ops) ≡ total (one_at g) (map use_group ops)
-  downs_are g ops h = count_total (λ (o : UseStep). not o.up) (ops_at g ops) ∙ each ops h
-    where
-      each : (os : List UseStep) → AllByRecursion (IsDown by) os → total is_down (ops_at g os) ≡ total (one_at g) (map use_group os)
-      each [] h = refl
-      each (o ∷ os) h = kept (o.group == g) (each os h.1)
-        where
-          kept : (b : Bool) → total is_down (ops_at g os) ≡ total (one_at g) (map use_group os) → total is_down (cond b (o ∷ ops_at g os) (ops_at g os)) ≡ cond b 1 0 + total (one_at g) (map use_group os)
-          kept true e = omega (arith, e, ap (λ b. cond {A = ℕ} (not b) 1 0) h.0.down)
-          kept false e = omega (arith, e)
+  downs_are g ops h = count_total (λ (o : UseStep). not o.up) (ops_at g ops) ∙ each ops h where
+    each : (os : List UseStep) → AllByRecursion (IsDown by) os → total is_down (ops_at g os) ≡ total (one_at g) (map use_group os)
+    each [] h = refl
+    each (o ∷ os) h = kept (o.group == g) (each os h.1) where
+      kept : (b : Bool) → total is_down (ops_at g os) ≡ total (one_at g) (map use_group os) → total is_down (cond b (o ∷ ops_at g os) (ops_at g os)) ≡ cond b 1 0 + total (one_at g) (map use_group os)
+      kept true e = omega (arith, e, ap (λ b. cond {A = ℕ} (not b) 1 0) h.0.down)
+      kept false e = omega (arith, e)
 
   ways_down : (ops : List UseStep) → AllByRecursion (IsDown by) ops → AllByRecursion (λ b. b ≡ false) (map (λ (o : UseStep). o.up) ops)
   ways_down [] h = tt
@@ -144,20 +132,15 @@ uncharged_charges s z objects tree h = record {
   added = λ group. h.added group ∙ sym (h.charged group);
   charges = let none = h.charges in omega (arith, none);
   uncharges = let n = h.uncharges in let all = all_downs z.by z.work.ops each in let long = paths_long (parents_of s) tree objects h.born in let same = ap (λ (l : List ℕ). length l) h.downs.at in omega (arith, n, all, long, same, length-map z.work.ops use_group);
-}
-  where
-    each : AllByRecursion (IsDown z.by) z.work.ops
-    each = by_slices (IsDown z.by) z.work.ops (λ j o e. all_slice (IsDown z.by) z.work.ops j o h.downs.each e)
+} where
+  each : AllByRecursion (IsDown z.by) z.work.ops
+  each = by_slices (IsDown z.by) z.work.ops (λ j o e. all_slice (IsDown z.by) z.work.ops j o h.downs.each e)
 
 -- ---- one object that was uncharged
 
 -- operations that one call to uncharge made
 abbrev pub uncharging : List UseStep → Work
 uncharging ops = record no_work { ops = ops; uncharges = 1 }
-
--- a worker that may charge has uncharged less often
-pub uncharges_few : (u : Uses) → spent_by u ≡ None → u.uncharges < 4194304
-uncharges_few u e = let low = not_spent_by (nat_le 1048576 u.charges) (nat_le 4194304 u.uncharges) (spent.Charges (counted u.charges) (counted u.uncharges)) e in grind (arith, nat_tests, low)
 
 pub does_uncharge : (x : Shared) (by : Serial) (group : ℕ) (s t : WorkerState) (h : Uncharges x by group s t) → s.uses.uncharges < 4194304 → Does s t (uncharging h.ops)
 does_uncharge x by group s t h low = let n = does_none s in record {
@@ -176,3 +159,50 @@ does_uncharge x by group s t h low = let n = does_none s in record {
   walks = ap (λ (u : WorkerState). u.walks) h.rest ∙ n.walks;
   carries = ap (λ (u : WorkerState). u.carries) h.rest ∙ n.carries;
 }
+
+-- nothing was done, and the answer tells of nothing
+pub nothing_did : (s : Script) (by : Serial) (c : Command) (r : Reply) (before after : WorkerState) → after ≡ before → IsCalm c → ((family : Family) → IsReply (parents_of s) family by c None r) → cited_by r ≡ None
+    → ((g : ℕ) → charged (parents_of s) g (Some c) (Some r) ≡ 0) → pool_told r ≡ [] → pool_made r ≡ []
+    → ((group : ℕ) → asks_online c ≡ Some group → 0 < group → MayBeOffline r ⊎ KnowsOnline before.tree group) → MeetsGroups s (step_of by c (without r) before after no_work)
+    → IsCausedBy s (step_of by c (without r) before after no_work) r → HasDid s by c (without r) before after
+nothing_did s by c r before after same calm row uncited uncharged untold unmade online meets cause =
+    let z : Step = step_of by c (without r) before after no_work in
+    let does : Does before after no_work = subst (λ (u : WorkerState). Does before u no_work) (sym same) (does_none before) in
+    quiet_did no_work calm (record { walks = refl; seen = refl; maps = refl; cleared = refl; takes = refl; gives = refl; carries = refl })
+    (brings_of does) (no_entries s z refl refl row uncited) (unfound_lookups s z refl refl)
+    (still_charges s z (record { ops = refl; charges = refl; uncharges = refl; freed = λ g. refl; added = λ g. refl; charged = uncharged }))
+    (still_pool s z does.core.pool (record { turns = refl; made = unmade }) (subst (IsToldOnce z) (sym untold) tt))
+    (still_tree s z refl online meets) cause
+
+-- ---- charges that are used up
+
+abbrev charges_in : Spent → ℕ
+charges_in (spent.Charges charges uncharges) = charges
+charges_in x = 0
+
+abbrev uncharges_in : Spent → ℕ
+uncharges_in (spent.Charges charges uncharges) = uncharges
+uncharges_in x = 0
+
+either : (a b : Bool) (x y : Spent) → cond (a || b) (Some x) None ≡ Some y → (a ≡ true) ⊎ (b ≡ true)
+either true b x y e = inl refl
+either false true x y e = inr refl
+either false false x y e = absurd (none-some y e)
+
+reached : (n l c : ℕ) → c ≡ counted n → l ≤ n → l ≤ 4194304 → l ≤ c
+reached n l c e le small = omega (arith, e, le, small)
+
+pub charges_worn : (z : Step) (charges uncharges : ℕ) → spent_by z.after.uses ≡ Some (spent.Charges charges uncharges) → AreChargesWorn z charges uncharges
+charges_worn z charges uncharges e =
+    let u : Uses = z.after.uses in
+    let is = spent_is u (spent.Charges charges uncharges) e in
+    let c : charges ≡ counted u.charges = ap charges_in is in
+    let d : uncharges ≡ counted u.uncharges = ap uncharges_in is in
+    record {
+      over = by_either u.charges u.uncharges c d (either (nat_le 1048576 u.charges) (nat_le 4194304 u.uncharges) (spent.Charges (counted u.charges) (counted u.uncharges)) (spent.Charges charges uncharges) e);
+      charged = omega (arith, c);
+      uncharged = omega (arith, d);
+    } where
+      by_either : (n m : ℕ) → charges ≡ counted n → uncharges ≡ counted m → (nat_le 1048576 n ≡ true) ⊎ (nat_le 4194304 m ≡ true) → (1048576 ≤ charges) ⊎ (4194304 ≤ uncharges)
+      by_either n m c d (inl t) = inl (reached n 1048576 charges c (leb-true 1048576 n t) (omega arith))
+      by_either n m c d (inr t) = inr (reached m 4194304 uncharges d (leb-true 4194304 m t) (omega arith))

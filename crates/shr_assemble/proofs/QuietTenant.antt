@@ -1,17 +1,61 @@
 -- What the commands on objects share: those that were refused before their list call, and those that called a list.
-use Rattle.shr_assemble.proofs.Common.{◌≡◌, ℕ, ◌<◌, ◌≤◌, ◌⊎◌, inl, inr, ⊎_elim, List, [], ◌∷◌, ◌++◌, length, refl, sym, ap, subst, ◌∙◌, arith, true, Some, None, option_and_then, slice_get, map, flat_map, same_Some, none-some, get_elem?, length-map, append_cancel_left, sum_by-cons, At, Place, Serial, Entry, Answered, Found, Reply, Spent, Command, Release, Grab, Script, group_named, decl_named, asks_online, Family, items_at, Object, IsAtOrAbove, is_later, Hierarchy, step, place_number, is_live_decl, IsAtOrAbove-le, Each, times, Begins, Each-none, View, Gained, nothing, Adds, place_at, Made, Known, Loaded, hierarchy_of, shape_of, place_back, Listed, Acts, TenantIsWorn, Gains, bits_for, IsFirstOpen, entry_made, IsWithin, content_of, within_of_valid, GroupState, is_there, Shared, WorkerState, Work, then_work, Does, does_then, LoadsWord, OnCache, parents_of, cited_by, id_found, at, IsThere, charged, pool_told, pool_made, made_shown, IsReply, Cites, group_met, Step, IsAmong, IsReplyTo, StandsIn, IsTenantEntry, MayMakeEntry, IsSetLast, IsListFilled, IsMadeAsCited, DidEntries, IsFoundBy, number_made, numbers_tried, number_found, IsCausedBy, IsUsedUpBy, made_freed_below, added_below, KnowsOnline, MeetsGroups, KnowsUnmade, IsWornBy, IsListWorn, IsOneMore, AreBoth, each_before, each_one, IsGroup, MissesCache, RefusedAs, DidLookups}
+use Rattle.shr_assemble.proofs.Common.{◌≡◌, ℕ, ◌+◌, List, ◌++◌, ap, ◌∙◌, arith, append_assoc, UseStep, begins_more, Uses, both_uses, adds_then, both, WorkerState, Work, then_work, Does, BringsWork, moves_assoc, ◌<◌, ◌≤◌, ◌⊎◌, inl, inr, ⊎_elim, [], ◌∷◌, length, refl, sym, subst, true, Some, None, option_and_then, slice_get, map, flat_map, same_Some, none-some, get_elem?, length-map, append_cancel_left, sum_by-cons, At, Place, Serial, Entry, Answered, Found, Reply, Spent, Command, Release, Grab, Script, group_named, decl_named, asks_online, Family, items_at, Object, IsAtOrAbove, is_later, Hierarchy, step, place_number, is_live_decl, IsAtOrAbove-le, Each, times, Begins, Each-none, View, Gained, nothing, Adds, place_at, Made, Known, Loaded, hierarchy_of, shape_of, place_back, Listed, Acts, TenantIsWorn, Gains, bits_for, IsFirstOpen, entry_made, IsWithin, content_of, within_of_valid, GroupState, is_there, Shared, does_then, LoadsWord, OnCache, parents_of, cited_by, id_found, at, IsThere, charged, pool_told, pool_made, made_shown, IsReply, Cites, group_met, Step, IsAmong, IsReplyTo, StandsIn, IsTenantEntry, MayMakeEntry, IsSetLast, IsListFilled, IsMadeAsCited, DidEntries, IsFoundBy, number_made, numbers_tried, number_found, IsCausedBy, IsUsedUpBy, made_freed_below, added_below, KnowsOnline, MeetsGroups, KnowsUnmade, IsWornBy, IsListWorn, IsOneMore, AreBoth, each_before, each_one, IsGroup, MissesCache, RefusedAs, DidLookups, take_all}
+use Rattle.shr_assemble.proofs.ScriptGroups.{sized_of}
 use Rattle.shr_base.specs.declared.replies.Reply.TheVariants as reply
 use Rattle.shr_base.specs.declared.replies.Spent.TheVariants as spent
 use Rattle.shr_charge.specs.declared.answers.GroupState.TheVariants as state
 use Rattle.shr_report.specs.Parts as report
 use Rattle.shr_charge.specs.Views as charge
-use Rattle.shr_assemble.proofs.ScriptSizes.{sized_of}
-use Rattle.shr_assemble.proofs.Bringing.{brings_of}
 use Rattle.shr_assemble.proofs.Filling.{IsSet, filled_by, set_filled, set_none}
 use Rattle.shr_assemble.proofs.FirstLists.{first_for}
 use Rattle.shr_assemble.proofs.Listed.{contains_among}
-use Rattle.shr_assemble.proofs.Quiet.{step_of, HasDid, IsCalm, calm_walks, still_moves, still_charges, still_pool, still_tree, IsToldOnce}
-use Rattle.shr_assemble.proofs.QuietSteps.{AreTables, tree_is, loading, gaining, does_load, does_gain, knows_online, online_apart, take_whole, on_list, on_list_does, on_list_online, found_entry, found_by, known_is, made_is, known_before, hierarchy_is, knows_unmade}
+use Rattle.shr_assemble.proofs.QuietSteps.{step_of, HasDid, IsCalm, calm_walks, still_moves, still_charges, still_pool, still_tree, IsToldOnce, quiet_did, AreTables, tree_is, loading, gaining, does_load, does_gain, knows_online, online_apart, on_list, on_list_does, on_list_online, found_entry, found_by, known_is, made_is, known_before, hierarchy_is, knows_unmade}
+
+-- what a call does it brings
+pub brings_of : {s t : WorkerState} {w : Work} → Does s t w → BringsWork s t w
+brings_of d = record {
+  core = d.core;
+  uses = d.uses;
+  noted = d.noted;
+  words = d.words;
+  tree = d.tree;
+  gives = d.gives;
+  known = d.known;
+  heard = d.heard;
+  hand = d.hand;
+  rise = d.rise;
+  moves = d.moves;
+  walks = d.walks;
+  carries = d.carries;
+}
+
+abbrev pub called : List UseStep → ℕ → ℕ → Uses
+called ops charges uncharges = record { ops = ops; charges = charges; uncharges = uncharges; seats = 0 }
+
+pub called_then : (x : Uses) (a b : List UseStep) (c d m n : ℕ) → both_uses (both_uses x (called a c m)) (called b d n) ≡ both_uses x (called (a ++ b) (c + d) (m + n))
+called_then x a b c d m n = let ops : (x.ops ++ a) ++ b ≡ x.ops ++ (a ++ b) = append_assoc x.ops a b in
+    let charges : x.charges + c + d ≡ x.charges + (c + d) = omega arith in
+    let uncharges : x.uncharges + m + n ≡ x.uncharges + (m + n) = omega arith in
+    let seats : x.seats + 0 + 0 ≡ x.seats + 0 = omega arith in
+    λ i. record { ops = ops i; charges = charges i; uncharges = uncharges i; seats = seats i }
+
+-- what one call brings and then another is the work of both
+pub brings_then : (s t u : WorkerState) (w x : Work) → BringsWork s t w → BringsWork t u x → BringsWork s u (then_work w x)
+brings_then s t u w x a b = record {
+  core = adds_then s.core t.core u.core w.core x.core a.core b.core;
+  uses = b.uses ∙ (ap (λ y. both_uses y (called x.ops x.charges x.uncharges)) a.uses ∙ called_then s.uses w.ops x.ops w.charges x.charges w.uncharges x.uncharges);
+  noted = b.noted ∙ (ap (λ l. l ++ x.ops) a.noted ∙ append_assoc s.noted w.ops x.ops);
+  words = b.words ∙ (ap (λ l. l ++ x.words) a.words ∙ append_assoc s.tree.loaded w.words x.words);
+  tree = b.tree ∙ (ap (λ l. l ++ x.tree) a.tree ∙ append_assoc s.tree.made w.tree x.tree);
+  gives = omega (arith, a.gives, b.gives);
+  known = begins_more s.tree.known t.tree.known u.tree.known a.known b.known;
+  heard = b.heard ∙ a.heard;
+  hand = (b.hand.0 ∙ a.hand.0, b.hand.1 ∙ a.hand.1);
+  rise = λ r. b.rise (a.rise r);
+  moves = b.moves ∙ (ap (λ m. both m x.moves) a.moves ∙ moves_assoc s.moves w.moves x.moves);
+  walks = b.walks ∙ (ap (λ l. l ++ x.walks) a.walks ∙ append_assoc s.walks w.walks x.walks);
+  carries = b.carries ∙ (ap (λ l. l ++ x.carries) a.carries ∙ append_assoc s.carries w.carries x.carries);
+}
 
 -- an answer with no cache
 abbrev pub without : Reply → Answered
@@ -67,10 +111,9 @@ module _ (x : Shared) (tables : AreTables x) where
     id = subst (λ (n : ℕ). n < x.script.ids) (sym first.same_id) near;
     node = subst (λ (n : ℕ). n < x.script.nodes) (sym first.same_node) on;
     group = omega (arith, there, below);
-  }
-    where
-      below : place.group ≤ birth
-      below = IsAtOrAbove-le (parents_of x.script) within.tree place.group birth there (subst (λ (ps : List ℕ). IsAtOrAbove ps place.group birth) (tree_is x tables.shared) first.above)
+  } where
+    below : place.group ≤ birth
+    below = IsAtOrAbove-le (parents_of x.script) within.tree place.group birth there (subst (λ (ps : List ℕ). IsAtOrAbove ps place.group birth) (tree_is x tables.shared) first.above)
 
   pub back_is : (place : Place) → IsThere x.script place → place_at (place_number place) ≡ place
   back_is place there = let sized = sized_of x tables.shared in let nodes = sized.nodes in let groups = sized.groups in
@@ -120,39 +163,25 @@ module _ (x : Shared) (tables : AreTables x) (by : Serial) (c : Command) (group 
 
   -- its group isn't made
   not_made_did : (g : ℕ) (s t : WorkerState) → g ≡ group → LoadsWord x group state.NotMade s t → HasDid x.script by c (without (reply.NotMade g)) s t
-  not_made_did g s t own h = let z : Step = step_of by c (without (reply.NotMade g)) s t (loading group state.NotMade) in let does = does_load x group state.NotMade s t h in record {
-    work = loading group state.NotMade;
-    does = brings_of does;
-    did = record {
-      entries = no_entries x.script z refl refl (λ family. is.not_made family g) refl;
-      lookups = unfound_lookups x.script z refl refl;
-      walks = calm_walks x.script z is.calm (record { walks = refl; seen = refl; maps = refl; cleared = refl });
-      charges = still_charges x.script z (record { ops = refl; charges = refl; uncharges = refl; freed = λ n. refl; added = λ n. refl; charged = λ n. is.charged (parents_of x.script) n (reply.NotMade g) });
-      moves = still_moves x.script z (record { walks = refl; takes = refl; gives = refl; carries = refl });
-      pool = still_pool x.script z does.core.pool (record { turns = refl; made = refl }) tt;
-      tree = still_tree x.script z refl (λ n e above. inr (own_online s.tree (knows_online (hierarchy_of (shape_of x.core)) s.tree group state.NotMade (λ entry e. absurd (cc)) h.shows) n e)) (record {
+  not_made_did g s t own h = let z : Step = step_of by c (without (reply.NotMade g)) s t (loading group state.NotMade) in let does = does_load x group state.NotMade s t h in quiet_did (loading group state.NotMade) is.calm (record { walks = refl; seen = refl; maps = refl; cleared = refl; takes = refl; gives = refl; carries = refl })
+      (brings_of does)
+      (no_entries x.script z refl refl (λ family. is.not_made family g) refl) (unfound_lookups x.script z refl refl)
+      (still_charges x.script z (record { ops = refl; charges = refl; uncharges = refl; freed = λ n. refl; added = λ n. refl; charged = λ n. is.charged (parents_of x.script) n (reply.NotMade g) }))
+      (still_pool x.script z does.core.pool (record { turns = refl; made = refl }) tt)
+      (still_tree x.script z refl (λ n e above. inr (own_online s.tree (knows_online (hierarchy_of (shape_of x.core)) s.tree group state.NotMade (λ entry e. absurd (cc)) h.shows) n e)) (record {
         unmade = λ n e. let named : g ≡ n = cc in subst (KnowsUnmade (report.script_hierarchy x.script) s.tree) (sym own ∙ named) (subst (λ (q : Hierarchy). KnowsUnmade q s.tree group) (hierarchy_is x tables.shared) (knows_unmade (hierarchy_of (shape_of x.core)) s.tree group h.shows));
         met = λ n e. absurd (is.unshown g n e);
-      });
-      cause = record { met = is.met ∙ ap Some (sym own); late = subst (λ (q : Hierarchy). is_later q.later g ≡ true) (hierarchy_is x tables.shared) (subst (λ n. is_later (hierarchy_of (shape_of x.core)).later n ≡ true) (sym own) (h.shows.late refl)) };
-    };
-  }
+      }))
+      (record { met = is.met ∙ ap Some (sym own); late = subst (λ (q : Hierarchy). is_later q.later g ≡ true) (hierarchy_is x tables.shared) (subst (λ n. is_later (hierarchy_of (shape_of x.core)).later n ≡ true) (sym own) (h.shows.late refl)) })
 
   offline_did : (entry : ℕ) (s t : WorkerState) → LoadsWord x group (state.Offline entry) s t → HasDid x.script by c (without (reply.Offline entry)) s t
-  offline_did entry s t h = let z : Step = step_of by c (without (reply.Offline entry)) s t (loading group (state.Offline entry)) in let does = does_load x group (state.Offline entry) s t h in record {
-    work = loading group (state.Offline entry);
-    does = brings_of does;
-    did = record {
-      entries = no_entries x.script z refl refl (λ family. is.offline family entry) refl;
-      lookups = unfound_lookups x.script z refl refl;
-      walks = calm_walks x.script z is.calm (record { walks = refl; seen = refl; maps = refl; cleared = refl });
-      charges = still_charges x.script z (record { ops = refl; charges = refl; uncharges = refl; freed = λ g. refl; added = λ g. refl; charged = λ g. is.charged (parents_of x.script) g (reply.Offline entry) });
-      moves = still_moves x.script z (record { walks = refl; takes = refl; gives = refl; carries = refl });
-      pool = still_pool x.script z does.core.pool (record { turns = refl; made = refl }) tt;
-      tree = still_tree x.script z refl (λ g e above. inl tt) (own_met z (state.Offline entry) refl refl (0, refl) (λ g e. absurd (cc)));
-      cause = record { group = group; met = is.met; told = inl (0, refl) };
-    };
-  }
+  offline_did entry s t h = let z : Step = step_of by c (without (reply.Offline entry)) s t (loading group (state.Offline entry)) in let does = does_load x group (state.Offline entry) s t h in quiet_did (loading group (state.Offline entry)) is.calm (record { walks = refl; seen = refl; maps = refl; cleared = refl; takes = refl; gives = refl; carries = refl })
+      (brings_of does)
+      (no_entries x.script z refl refl (λ family. is.offline family entry) refl) (unfound_lookups x.script z refl refl)
+      (still_charges x.script z (record { ops = refl; charges = refl; uncharges = refl; freed = λ g. refl; added = λ g. refl; charged = λ g. is.charged (parents_of x.script) g (reply.Offline entry) }))
+      (still_pool x.script z does.core.pool (record { turns = refl; made = refl }) tt)
+      (still_tree x.script z refl (λ g e above. inl tt) (own_met z (state.Offline entry) refl refl (0, refl) (λ g e. absurd (cc))))
+      (record { group = group; met = is.met; told = inl (0, refl) })
 
   no_cache_did : (entry : ℕ) (s t : WorkerState) → MissesCache x group decl (reply.NoCache entry) s t → HasDid x.script by c (without (reply.NoCache entry)) s t
   no_cache_did entry s t h =
@@ -162,25 +191,18 @@ module _ (x : Shared) (tables : AreTables x) (by : Serial) (c : Command) (group 
       let z : Step = step_of by c (without (reply.NoCache entry)) s t work in
       let does : Does s t work = does_then s h.loaded t (loading group state.Online) (gaining g) (does_load x group state.Online s h.loaded h.online) (does_gain h.loaded t g h.misses.answers.gains.adds h.misses.rest) in
       let whole : entry ≡ length t.core.turns.known = h.misses.answers.after in
-      record {
-        work = work;
-        does = brings_of does;
-        did = record {
-          entries = no_entries x.script z refl refl (λ family. is.no_cache family entry) refl;
-          lookups = unfound_lookups x.script z refl refl;
-          walks = calm_walks x.script z is.calm (record { walks = refl; seen = refl; maps = refl; cleared = refl });
-          charges = still_charges x.script z (record { ops = refl; charges = refl; uncharges = refl; freed = λ g. refl; added = λ g. refl; charged = λ g. is.charged (parents_of x.script) g (reply.NoCache entry) });
-          moves = still_moves x.script z (record { walks = refl; takes = refl; gives = refl; carries = refl });
-          pool = still_pool x.script z does.core.pool (record { turns = refl; made = refl }) whole;
-          tree = still_tree x.script z refl (λ g e above. inr (own_online s.tree (knows_online (hierarchy_of (shape_of x.core)) s.tree group state.Online online_apart h.online.shows) g e)) (own_met z state.Online refl refl (0, refl) (λ g e. absurd (cc)));
-          cause = record {
-            decl = decl;
-            named = is.decl_is;
-            known = omega (arith, whole);
-            none = ap (is_live_decl x.script.ids decl) (take_whole entry t.core.turns.known whole) ∙ (ap (λ (n : ℕ). is_live_decl n decl t.core.turns.known) (sym tables.shared.ids) ∙ h.misses.answers.missing);
-          };
-        };
-      }
+      quiet_did work is.calm (record { walks = refl; seen = refl; maps = refl; cleared = refl; takes = refl; gives = refl; carries = refl })
+      (brings_of does)
+      (no_entries x.script z refl refl (λ family. is.no_cache family entry) refl) (unfound_lookups x.script z refl refl)
+      (still_charges x.script z (record { ops = refl; charges = refl; uncharges = refl; freed = λ g. refl; added = λ g. refl; charged = λ g. is.charged (parents_of x.script) g (reply.NoCache entry) }))
+      (still_pool x.script z does.core.pool (record { turns = refl; made = refl }) whole)
+      (still_tree x.script z refl (λ g e above. inr (own_online s.tree (knows_online (hierarchy_of (shape_of x.core)) s.tree group state.Online online_apart h.online.shows) g e)) (own_met z state.Online refl refl (0, refl) (λ g e. absurd (cc))))
+      (record {
+        decl = decl;
+        named = is.decl_is;
+        known = omega (arith, whole);
+        none = ap (is_live_decl x.script.ids decl) (take_all entry t.core.turns.known (omega (arith, whole))) ∙ (ap (λ (n : ℕ). is_live_decl n decl t.core.turns.known) (sym tables.shared.ids) ∙ h.misses.answers.missing);
+      })
 
   worn_did : (worn : Spent) (s t : WorkerState) → MissesCache x group decl (reply.Worn worn) s t → HasDid x.script by c (without (reply.Worn worn)) s t
   worn_did (spent.List place entries items) s t h = absurd h.misses.answers.worn
@@ -195,20 +217,13 @@ module _ (x : Shared) (tables : AreTables x) (by : Serial) (c : Command) (group 
       let same : h.misses.answers.gains.words ≡ words = append_cancel_left h.loaded.core.claims.loaded h.misses.answers.gains.words words (sym a.loaded ∙ used.loads.since) in
       let adds : Adds h.loaded.core t.core g = subst (λ (l : List Loaded). Adds h.loaded.core t.core (record nothing { loaded = l; gives = 1 })) same a in
       let does : Does s t work = does_then s h.loaded t (loading group state.Online) (gaining g) (does_load x group state.Online s h.loaded h.online) (does_gain h.loaded t g adds h.misses.rest) in
-      record {
-        work = work;
-        does = brings_of does;
-        did = record {
-          entries = no_entries x.script z refl refl (λ family. is.worn family id seen) refl;
-          lookups = unfound_lookups x.script z refl refl;
-          walks = calm_walks x.script z is.calm (record { walks = refl; seen = refl; maps = refl; cleared = refl });
-          charges = still_charges x.script z (record { ops = refl; charges = refl; uncharges = refl; freed = λ g. refl; added = λ g. refl; charged = λ g. is.charged (parents_of x.script) g (reply.Worn (spent.Lookups id seen)) });
-          moves = still_moves x.script z (record { walks = refl; takes = refl; gives = refl; carries = refl });
-          pool = still_pool x.script z does.core.pool (record { turns = refl; made = refl }) tt;
-          tree = still_tree x.script z refl (λ g e above. inl tt) (own_met z state.Online refl refl (0, refl) (λ g e. absurd (cc)));
-          cause = used_up x.script z c (spent.Lookups id seen) decl is.decl_is (record { over = used.most; word = used.first; loaded = contains_among words (record { id = id; word = used.first }) used.loads.shown; shown = used.shown });
-        };
-      }
+      quiet_did work is.calm (record { walks = refl; seen = refl; maps = refl; cleared = refl; takes = refl; gives = refl; carries = refl })
+      (brings_of does)
+      (no_entries x.script z refl refl (λ family. is.worn family id seen) refl) (unfound_lookups x.script z refl refl)
+      (still_charges x.script z (record { ops = refl; charges = refl; uncharges = refl; freed = λ g. refl; added = λ g. refl; charged = λ g. is.charged (parents_of x.script) g (reply.Worn (spent.Lookups id seen)) }))
+      (still_pool x.script z does.core.pool (record { turns = refl; made = refl }) tt)
+      (still_tree x.script z refl (λ g e above. inl tt) (own_met z state.Online refl refl (0, refl) (λ g e. absurd (cc))))
+      (used_up x.script z c (spent.Lookups id seen) decl is.decl_is (record { over = used.most; word = used.first; loaded = contains_among words (record { id = id; word = used.first }) used.loads.shown; shown = used.shown }))
 
   -- a command that was refused before its list call
   pub refused_did : (r : Reply) (s t : WorkerState) → RefusedAs x group decl r s t → HasDid x.script by c (without r) s t
@@ -276,27 +291,21 @@ module _ (x : Shared) (tables : AreTables x) (by : Serial) (c : Command) (group 
     acted_did named may row cites unadded unfreed none_added untold unmade cause =
         let does = on_list_does x group decl f call s t o (entry ∷ []) bits a.gains in
         let z : Step = acted_step in
-        record {
-          work = z.work;
-          does = brings_of does;
-          did = record {
-            entries = one_entry x.script z entry c_at refl refl (may (is_told z entry c_at place_same (sym a.number) cites)) row cites (cited_is z refl refl named (0, refl) (λ added below empty. absurd (unadded added)));
-            lookups = found_lookups x.script z decl f refl is.decl_is refl (found_by x group decl f call s t o (entry ∷ []) bits a.gains z refl (0, refl));
-            walks = calm_walks x.script z is.calm (record { walks = refl; seen = refl; maps = refl; cleared = refl });
-            charges = still_charges x.script z (record {
-              ops = refl;
-              charges = refl;
-              uncharges = refl;
-              freed = λ g. let w = unfreed g in omega (arith, sum_by-cons (made_freed_below (parents_of x.script) g) entry [], w);
-              added = λ g. let w = none_added g in omega (arith, sum_by-cons (λ (m : Made). added_below (parents_of x.script) g m.entry) entry [], w);
-              charged = λ g. is.charged (parents_of x.script) g r;
-            });
-            moves = still_moves x.script z (record { walks = refl; takes = refl; gives = refl; carries = refl });
-            pool = still_pool x.script z does.core.pool (record { turns = refl; made = unmade }) (subst (λ (ns : List ℕ). IsToldOnce z (f.entry ∷ ns)) (sym untold) (found_entry x group decl f call s t o (entry ∷ []) bits a.gains));
-            tree = still_tree x.script z refl (λ g asked above. inr (own_online x tables by c group decl is s.tree (on_list_online x group decl f call s t o (entry ∷ []) bits a.gains) g asked)) (own_met x tables by c group decl is z state.Online refl refl (0, refl) (λ g e. absurd (none-some c_at (ap cited_by (sym e) ∙ cites))));
-            cause = cause;
-          };
-        }
+        quiet_did z.work is.calm (record { walks = refl; seen = refl; maps = refl; cleared = refl; takes = refl; gives = refl; carries = refl })
+        (brings_of does)
+        (one_entry x.script z entry c_at refl refl (may (is_told z entry c_at place_same (sym a.number) cites)) row cites (cited_is z refl refl named (0, refl) (λ added below empty. absurd (unadded added))))
+        (found_lookups x.script z decl f refl is.decl_is refl (found_by x group decl f call s t o (entry ∷ []) bits a.gains z refl (0, refl)))
+        (still_charges x.script z (record {
+          ops = refl;
+          charges = refl;
+          uncharges = refl;
+          freed = λ g. let w = unfreed g in omega (arith, sum_by-cons (made_freed_below (parents_of x.script) g) entry [], w);
+          added = λ g. let w = none_added g in omega (arith, sum_by-cons (λ (m : Made). added_below (parents_of x.script) g m.entry) entry [], w);
+          charged = λ g. is.charged (parents_of x.script) g r;
+        }))
+        (still_pool x.script z does.core.pool (record { turns = refl; made = unmade }) (subst (λ (ns : List ℕ). IsToldOnce z (f.entry ∷ ns)) (sym untold) (found_entry x group decl f call s t o (entry ∷ []) bits a.gains)))
+        (still_tree x.script z refl (λ g asked above. inr (own_online x tables by c group decl is s.tree (on_list_online x group decl f call s t o (entry ∷ []) bits a.gains) g asked)) (own_met x tables by c group decl is z state.Online refl refl (0, refl) (λ g e. absurd (none-some c_at (ap cited_by (sym e) ∙ cites)))))
+        cause
 
   -- the first open list had no room
   module _ (birth entries items : ℕ) (place : Place) (e : Listed → Entry) (a : TenantIsWorn (shape_of x.core) o.held.core o.calls.called f.id node birth place e entries items)
@@ -324,17 +333,10 @@ module _ (x : Shared) (tables : AreTables x) (by : Serial) (c : Command) (group 
   stood_did gains row uncited untold unmade cause =
       let does = on_list_does x group decl f call s t o [] [] gains in
       let z : Step = stood_step in
-      record {
-        work = z.work;
-        does = brings_of does;
-        did = record {
-          entries = no_entries x.script z refl refl row uncited;
-          lookups = found_lookups x.script z decl f refl is.decl_is refl (found_by x group decl f call s t o [] [] gains z refl (0, refl));
-          walks = calm_walks x.script z is.calm (record { walks = refl; seen = refl; maps = refl; cleared = refl });
-          charges = still_charges x.script z (record { ops = refl; charges = refl; uncharges = refl; freed = λ g. refl; added = λ g. refl; charged = λ g. is.charged (parents_of x.script) g r });
-          moves = still_moves x.script z (record { walks = refl; takes = refl; gives = refl; carries = refl });
-          pool = still_pool x.script z does.core.pool (record { turns = refl; made = unmade }) (subst (λ (ns : List ℕ). IsToldOnce z (f.entry ∷ ns)) (sym untold) (found_entry x group decl f call s t o [] [] gains));
-          tree = still_tree x.script z refl (λ g asked above. inr (own_online x tables by c group decl is s.tree (on_list_online x group decl f call s t o [] [] gains) g asked)) (own_met x tables by c group decl is z state.Online refl refl (0, refl) (λ g e. is.was_made (λ p. []) f.id g (subst (λ y. IsReply (parents_of x.script) (λ p. []) by c (Some f.id) y) e (row (λ p. [])))));
-          cause = cause;
-        };
-      }
+      quiet_did z.work is.calm (record { walks = refl; seen = refl; maps = refl; cleared = refl; takes = refl; gives = refl; carries = refl })
+      (brings_of does) (no_entries x.script z refl refl row uncited)
+      (found_lookups x.script z decl f refl is.decl_is refl (found_by x group decl f call s t o [] [] gains z refl (0, refl)))
+      (still_charges x.script z (record { ops = refl; charges = refl; uncharges = refl; freed = λ g. refl; added = λ g. refl; charged = λ g. is.charged (parents_of x.script) g r }))
+      (still_pool x.script z does.core.pool (record { turns = refl; made = unmade }) (subst (λ (ns : List ℕ). IsToldOnce z (f.entry ∷ ns)) (sym untold) (found_entry x group decl f call s t o [] [] gains)))
+      (still_tree x.script z refl (λ g asked above. inr (own_online x tables by c group decl is s.tree (on_list_online x group decl f call s t o [] [] gains) g asked)) (own_met x tables by c group decl is z state.Online refl refl (0, refl) (λ g e. is.was_made (λ p. []) f.id g (subst (λ y. IsReply (parents_of x.script) (λ p. []) by c (Some f.id) y) e (row (λ p. []))))))
+      cause

@@ -1,15 +1,13 @@
 -- What a register did.
-use Rattle.shr_assemble.proofs.Common.{◌≡◌, ℕ, ◌+◌, ◌≤◌, true, false, List, [], ◌∷◌, length, length-append, take, refl, sym, ap, subst, ◌∙◌, arith, None, none-some, PoolEntry, Registered, Serial, Answered, Reply, Command, Family, is_live_decl, lowest_idle, nothing, Adds, Loaded, Turn, shape_of, Shared, WorkerState, Work, unfound, parents_of, cited_by, IsReply, is_past_group, Step, IsCausedBy, DidPool, IsTurnOf, each_one, register_reply}
+use Rattle.shr_assemble.proofs.Common.{◌≡◌, ℕ, ◌+◌, ◌≤◌, true, false, List, [], ◌∷◌, length, length-append, take, refl, sym, ap, subst, ◌∙◌, arith, None, none-some, PoolEntry, Registered, Serial, Answered, Reply, Command, Family, is_live_decl, lowest_idle, nothing, Adds, Loaded, Turn, shape_of, Shared, WorkerState, Work, unfound, parents_of, cited_by, IsReply, is_past_group, Step, IsCausedBy, DidPool, IsTurnOf, each_one, register_reply, take_all}
 use Rattle.shr_base.specs.declared.replies.Reply.TheVariants as reply
 use Rattle.shr_base.specs.declared.scripts.Command.TheVariants as command
 use Rattle.shr_registry.specs.declared.answers.RegisterAnswer.{RegisterAnswer}
 use Rattle.shr_registry.specs.declared.answers.RegisterAnswer.TheVariants as register
 use Rattle.shr_registry.specs.Answers.{RegisterGives}
 use Rattle.shr_worker.specs.Commands as worker
-use Rattle.shr_assemble.proofs.Bringing.{brings_of}
-use Rattle.shr_assemble.proofs.Quiet.{step_of, HasDid, calm_walks, still_moves, still_charges, still_pool, still_tree, meets_none, never_met}
-use Rattle.shr_assemble.proofs.QuietSteps.{AreTables, gaining, does_gain, take_whole}
-use Rattle.shr_assemble.proofs.QuietTenant.{without, no_entries, unfound_lookups}
+use Rattle.shr_assemble.proofs.QuietTenant.{brings_of, without, no_entries, unfound_lookups}
+use Rattle.shr_assemble.proofs.QuietSteps.{step_of, HasDid, calm_walks, still_moves, still_charges, still_pool, still_tree, meets_none, never_met, quiet_did, AreTables, gaining, does_gain}
 use Rattle.shr_assemble.proofs.FreshLaw.{begins_length}
 
 module _ (x : Shared) (tables : AreTables x) (by : Serial) (decl : ℕ) (s t : WorkerState) (rest : t ≡ record s { core = t.core }) where
@@ -27,23 +25,16 @@ module _ (x : Shared) (tables : AreTables x) (by : Serial) (decl : ℕ) (s t : W
       → DidPool x.script (registers r words turns) → IsCausedBy x.script (registers r words turns) r → HasDid x.script by asked (without r) s t
   brought r words turns adds row uncited pool cause =
       let z : Step = registers r words turns in
-      record {
-        work = z.work;
-        does = brings_of (does_gain s t (record nothing { turns = turns; loaded = words; gives = 1 }) adds rest);
-        did = record {
-          entries = no_entries x.script z refl refl row uncited;
-          lookups = unfound_lookups x.script z refl refl;
-          walks = calm_walks x.script z tt (record { walks = refl; seen = refl; maps = refl; cleared = refl });
-          charges = still_charges x.script z (record { ops = refl; charges = refl; uncharges = refl; freed = λ g. refl; added = λ g. refl; charged = λ g. refl });
-          moves = still_moves x.script z (record { walks = refl; takes = refl; gives = refl; carries = refl });
-          pool = pool;
-          tree = still_tree x.script z refl (λ g asks above. absurd (none-some g asks)) (meets_none x.script z (λ g e. subst (λ y. IsReply (parents_of x.script) (λ p. []) by asked None y) e (row (λ p. []))) (λ g e. never_met (is_past_group r) g e));
-          cause = cause;
-        };
-      }
+      quiet_did z.work tt (record { walks = refl; seen = refl; maps = refl; cleared = refl; takes = refl; gives = refl; carries = refl })
+      (brings_of (does_gain s t (record nothing { turns = turns; loaded = words; gives = 1 }) adds rest))
+      (no_entries x.script z refl refl row uncited) (unfound_lookups x.script z refl refl)
+      (still_charges x.script z (record { ops = refl; charges = refl; uncharges = refl; freed = λ g. refl; added = λ g. refl; charged = λ g. refl }))
+      pool
+      (still_tree x.script z refl (λ g asks above. absurd (none-some g asks)) (meets_none x.script z (λ g e. subst (λ y. IsReply (parents_of x.script) (λ p. []) by asked None y) e (row (λ p. []))) (λ g e. never_met (is_past_group r) g e)))
+      cause
 
   known_at : (entry : ℕ) → entry ≡ length t.core.turns.known → take entry t.core.turns.known ≡ t.core.turns.known
-  known_at entry e = take_whole entry t.core.turns.known e
+  known_at entry e = take_all entry t.core.turns.known (omega (arith, e))
 
   live_is : (entry : ℕ) (b : _) → entry ≡ length t.core.turns.known → is_live_decl (shape_of x.core).ids decl t.core.turns.known ≡ b → is_live_decl x.script.ids decl (take entry t.core.turns.known) ≡ b
   live_is entry b e h = ap (is_live_decl x.script.ids decl) (known_at entry e) ∙ (ap (λ (n : ℕ). is_live_decl n decl t.core.turns.known) (sym tables.shared.ids) ∙ h)

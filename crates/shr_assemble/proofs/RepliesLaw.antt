@@ -1,8 +1,7 @@
 -- The law of replies, of a run.
 use Rattle.shr_assemble.proofs.Common.{◌≡◌, ℕ, ◌<◌, List, sym, ap, subst, ◌∙◌, arith, slice_get, Some, Option, same_Some, none-some, Place, Serial, Answered, Command, Entry, Add, Look, Drop, Pin, Scan, MovedIn, Closed, Drained, Script, place_number, by_of, Made, back, Report, parents_of, journals_of, serial_of, cited_at, cited_by, id_found, at, IsReply, Step, IsAmong, IsTenantEntry, MayMakeEntry, IsMadeAsCited, IsReplyTo, IsRun}
 use Rattle.shr_report.specs.Replies.{AreRepliesLawful}
-use Rattle.shr_assemble.proofs.Gathering.{each_among, among_right, among_begins}
-use Rattle.shr_assemble.proofs.Making.{work_of, grows, made_stands, maker, Stepped, stepped, cited_is, replies}
+use Rattle.shr_assemble.proofs.Gathering.{each_among, among_right, among_begins, work_of, grows, made_stands, maker, Stepped, stepped, cited_is, replies}
 use Rattle.shr_assemble.proofs.SweepSteps.{last_answer}
 
 -- a tenant's entry is told
@@ -11,10 +10,7 @@ told_of s x m (Add b birth added key value) by h may = subst (λ (y : Serial). I
 told_of s x m (Look b birth key hit) by h may = subst (λ (y : Serial). IsTenantEntry x m y) (same_Some b by h) may
 told_of s x m (Drop b birth key kind) by h may = subst (λ (y : Serial). IsTenantEntry x m y) (same_Some b by h) may
 told_of s x m (Pin b birth key pinned hit) by h may = subst (λ (y : Serial). IsTenantEntry x m y) (same_Some b by h) may
-told_of s x m (Scan worker n asked policy visits freed stopped) by h may = absurd (none-some by h)
-told_of s x m (MovedIn child objects) by h may = absurd (none-some by h)
-told_of s x m Closed by h may = absurd (none-some by h)
-told_of s x m (Drained b objects) by h may = absurd (none-some by h)
+told_of s x m e by h may = absurd (none-some by h)
 
 module _ (s : Script) (r : Report) (workers : List (List Step)) (run : IsRun s r workers) where
   answered : (by : Serial) (c : Command) (a : Answered) → Stepped s r workers run by c a → IsReply (parents_of s) (journals_of r) by c (id_found a) a.reply

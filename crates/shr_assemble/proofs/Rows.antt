@@ -1,9 +1,28 @@
 -- The steps of a worker from the states between its commands, and what they have in all.
-use Rattle.shr_assemble.proofs.Common.{◌≡◌, ℕ, zero, suc, ◌+◌, ◌<◌, List, [], ◌∷◌, ◌++◌, length, length-append, take, sym, refl, ap, subst, ◌∙◌, arith, append_assoc, slice_get, Option, Some, None, flat_map, AllByRecursion, append-nil, same_Some, none-some, Serial, Answered, Command, Script, Sweep, WorkerScript, Isolation, IsCommandWithin, isolations_told, content_of, IsShared, Shared, WorkerState, Work, CrewState, DeedGives, IsWorkOf, SweepItem, End, parents_of, Step, AreStepsChained, worker_state_after, BringsWork, Did, HasHelped, isolated_in, isolated_before, DidIsolations, IsOfPops}
-use Rattle.shr_worker.specs.Chain.{listed_commands, worker_commands, command_serial}
+use Rattle.shr_assemble.proofs.Common.{◌≡◌, ℕ, ◌∙◌, refl, arith, None, AreRising, View, WorkerState, Work, new_worker, BringsWork, IsUsing, zero, suc, ◌+◌, ◌<◌, List, [], ◌∷◌, ◌++◌, length, length-append, take, sym, ap, subst, append_assoc, slice_get, Option, Some, flat_map, AllByRecursion, append-nil, same_Some, none-some, Serial, Answered, Command, Script, Sweep, WorkerScript, Isolation, IsCommandWithin, isolations_told, content_of, IsShared, Shared, CrewState, DeedGives, IsWorkOf, SweepItem, End, parents_of, Step, AreStepsChained, worker_state_after, Did, HasHelped, isolated_in, isolated_before, DidIsolations, IsOfPops, listed_commands, worker_commands, command_serial}
+use Rattle.shr_assemble.proofs.OfflineDid.{IsHandless}
 use Rattle.shr_worker.proofs.Within.{command_within}
 use Rattle.shr_pool.specs.declared.items.SweepItem.TheVariants.{Walk}
-use Rattle.shr_assemble.proofs.Fit.{IsFit, fit_kept}
+
+-- the numbers of each group's operations rise, the room of the journal of the tree isn't in hand, and no id is held or used
+pub record IsFit (t : WorkerState) : Type 0 where
+  pub rising : AreRising t.uses.ops
+  pub home : IsHandless t.tree
+  pub free : t.core.claims.held ≡ None
+  pub using : IsUsing t.core
+
+-- a new worker is fit
+pub fit_new : (opened : View) (number : ℕ) → IsFit (new_worker opened number).seats
+fit_new opened number = record { rising = λ i j d lt within. absurd (omega (arith, within)); home = record { out = refl; none = refl }; free = refl; using = λ i. refl }
+
+-- each command leaves its worker fit
+pub fit_kept : (s t : WorkerState) (w : Work) → BringsWork s t w → t.core.claims.held ≡ None → IsFit s → IsFit t
+fit_kept s t w b free fit = record {
+  rising = b.rise fit.rising;
+  home = record { out = b.hand.0 ∙ fit.home.out; none = b.hand.1 ∙ fit.home.none };
+  free = free;
+  using = b.core.using fit.using;
+}
 
 -- A command did its work, between these states. Its isolation stands behind those of its worker, and is as the law asks.
 pub record Worked (s : Script) (by : Serial) (c : Command) (a : Answered) (t u : CrewState) : Type 0 where

@@ -1,10 +1,8 @@
 -- The Scan entries of a walk in the journal of a place are those that its step made there.
-use Rattle.shr_assemble.proofs.Common.{◌≡◌, ℕ, zero, suc, ◌+◌, ◌-◌, ◌<◌, ◌≤◌, ◌≢◌, ◌⊎◌, inl, inr, ⊎_elim, Bool, true, false, ◌&&◌, cond, List, [], ◌∷◌, length, length-append, map, sym, refl, ap, subst, ◌∙◌, arith, eq-eqb, slice_get, Option, Some, None, filter_map, ◌==◌, AllByRecursion, enumerate_from, cons_option, and_parts, eqb-true, cases_lt, same_Some, none-some, slice_get_within, dite, ℕ_discrete, Place, Serial, Entry, Add, Look, Drop, Pin, Scan, MovedIn, Closed, Drained, CacheDecl, Script, PassRecord, WalkRecord, place_number, due, ask_size, batch_of, total_of, ScanMade, scan_by, Has, each_has, first_isolation, total, Made, back, Report, journals_of, IsThere, AreScansOf, Step, IsAmong, gathered, steps_of, MayMakeEntry, IsScanned, scan_made, scans_made, IsRun, all_zero, at_some, some_at, sum_total, scans_by, length_total, only_at, enumerated}
-use Rattle.shr_assemble.proofs.Gathering.{each_among, total_gathered, mine_at, mine_is, same_step}
-use Rattle.shr_assemble.proofs.Making.{grows, maker, work_of}
+use Rattle.shr_assemble.proofs.Common.{◌≡◌, ℕ, zero, suc, ◌+◌, ◌-◌, ◌<◌, ◌≤◌, ◌≢◌, ◌⊎◌, inl, inr, ⊎_elim, Bool, true, false, ◌&&◌, cond, List, [], ◌∷◌, length, length-append, map, sym, refl, ap, subst, ◌∙◌, arith, eq-eqb, slice_get, Option, Some, None, filter_map, ◌==◌, AllByRecursion, enumerate_from, cons_option, and_parts, eqb-true, cases_lt, same_Some, none-some, slice_get_within, dite, ℕ_discrete, Place, Serial, Entry, Add, Look, Drop, Pin, Scan, MovedIn, Closed, Drained, CacheDecl, Script, PassRecord, WalkRecord, place_number, due, ask_size, batch_of, total_of, ScanMade, scan_by, Has, each_has, first_isolation, total, Made, back, Report, journals_of, IsThere, AreScansOf, Step, IsAmong, gathered, steps_of, MayMakeEntry, IsScanned, scan_made, scans_made, IsRun, all_zero, at_some, some_at, sum_total, scans_by, length_total, only_at, enumerated, take_alike}
+use Rattle.shr_assemble.proofs.Gathering.{each_among, total_gathered, mine_at, mine_is, same_step, grows, maker, work_of}
 use Rattle.shr_assemble.proofs.Recounting.{at_place, journal_is}
-use Rattle.shr_assemble.proofs.Flattening.{WalkOf}
-use Rattle.shr_units.proofs.WalksLaw.{take_alike}
+use Rattle.shr_assemble.proofs.Listed.{WalkOf}
 
 -- ---- a share that only one step has
 
@@ -50,18 +48,11 @@ has_kept h (y ∷ xs) (suc j) x a e k = option_has (h y) (filter_map h xs) a (in
 
 -- a Scan that is told apart is of the worker and of the walk
 scan_is : (worker walk number : ℕ) (e : Entry) (s : Script) (x : Step) (m : Made) (a : ScanMade) → scan_by worker walk number e ≡ Some a → walk < first_isolation → MayMakeEntry s x m e → IsScanned x m worker walk
-scan_is worker walk number (Add by birth added key value) s x m a h low may = absurd (none-some a h)
-scan_is worker walk number (Look by birth key hit) s x m a h low may = absurd (none-some a h)
-scan_is worker walk number (Drop by birth key kind) s x m a h low may = absurd (none-some a h)
-scan_is worker walk number (Pin by birth key pinned hit) s x m a h low may = absurd (none-some a h)
-scan_is worker walk number (Scan w n asked policy visits freed stopped) s x m a h low may = by_test ((w == worker) && (n == walk)) refl h
-  where
-    by_test : (b : Bool) → ((w == worker) && (n == walk)) ≡ b → cond b (Some (record { number = number; asked = asked; policy = policy; freed = freed })) None ≡ Some a → IsScanned x m worker walk
-    by_test false e k = absurd (none-some a k)
-    by_test true e k = let t = and_parts (w == worker) (n == walk) e in subst (λ v. IsScanned x m v walk) (eqb-true w worker t.0) (subst (λ v. IsScanned x m w v) (eqb-true n walk t.1) (⊎_elim (λ scanned. scanned) (λ visited. absurd (let high = visited.high in omega (arith, high, low, eqb-true n walk t.1))) may))
-scan_is worker walk number (MovedIn child objects) s x m a h low may = absurd (none-some a h)
-scan_is worker walk number Closed s x m a h low may = absurd (none-some a h)
-scan_is worker walk number (Drained by objects) s x m a h low may = absurd (none-some a h)
+scan_is worker walk number (Scan w n asked policy visits freed stopped) s x m a h low may = by_test ((w == worker) && (n == walk)) refl h where
+  by_test : (b : Bool) → ((w == worker) && (n == walk)) ≡ b → cond b (Some (record { number = number; asked = asked; policy = policy; freed = freed })) None ≡ Some a → IsScanned x m worker walk
+  by_test false e k = absurd (none-some a k)
+  by_test true e k = let t = and_parts (w == worker) (n == walk) e in subst (λ v. IsScanned x m v walk) (eqb-true w worker t.0) (subst (λ v. IsScanned x m w v) (eqb-true n walk t.1) (⊎_elim (λ scanned. scanned) (λ visited. absurd (let high = visited.high in omega (arith, high, low, eqb-true n walk t.1))) may))
+scan_is worker walk number e s x m a h low may = absurd (none-some a h)
 
 -- ---- asks of one size
 abbrev IsAsked : ℕ → ScanMade → Type 0
@@ -85,15 +76,14 @@ module _ (s : Script) (r : Report) (workers : List (List Step)) (run : IsRun s r
       let by = (run.steps.each v j y at).by in
       let same : v ≡ worker = sym (t.own ∙ ap (λ (z : Serial). z.worker) by) in
       let here : slice_get (steps_of workers worker) j ≡ Some y = subst (λ u. slice_get (steps_of workers u) j ≡ Some y) same at in
-      (same, dite (ℕ_discrete j of.k) (λ e. e) (λ ne. ⊎_elim (λ lt. absurd (early j y here t lt)) (λ le. absurd (late j y here t (omega (arith, ne, le)))) (cases_lt j of.k)))
-    where
-      early : (j : ℕ) (y : Step) → slice_get (steps_of workers worker) j ≡ Some y → IsScanned y m worker n → j < of.k → ⊥
-      early j y here t lt = let g = (grows s r workers run worker j of.k y of.step lt here of.at).walks in
-          omega (arith, of.number, t.number, slice_get_within y.work.walks t.index t.walk t.there, ap (λ (l : List WalkRecord). length l) (work_of s r workers run worker j y here).walks, length-append y.before.walks y.work.walks, ap (λ (l : List WalkRecord). length l) g.1, length-append y.after.walks g.0)
+      (same, dite (ℕ_discrete j of.k) (λ e. e) (λ ne. ⊎_elim (λ lt. absurd (early j y here t lt)) (λ le. absurd (late j y here t (omega (arith, ne, le)))) (cases_lt j of.k))) where
+        early : (j : ℕ) (y : Step) → slice_get (steps_of workers worker) j ≡ Some y → IsScanned y m worker n → j < of.k → ⊥
+        early j y here t lt = let g = (grows s r workers run worker j of.k y of.step lt here of.at).walks in
+            omega (arith, of.number, t.number, slice_get_within y.work.walks t.index t.walk t.there, ap (λ (l : List WalkRecord). length l) (work_of s r workers run worker j y here).walks, length-append y.before.walks y.work.walks, ap (λ (l : List WalkRecord). length l) g.1, length-append y.after.walks g.0)
 
-      late : (j : ℕ) (y : Step) → slice_get (steps_of workers worker) j ≡ Some y → IsScanned y m worker n → of.k < j → ⊥
-      late j y here t lt = let g = (grows s r workers run worker of.k j of.step y lt of.at here).walks in
-          omega (arith, of.number, t.number, slice_get_within of.step.work.walks of.i w of.own, ap (λ (l : List WalkRecord). length l) (work_of s r workers run worker of.k of.step of.at).walks, length-append of.step.before.walks of.step.work.walks, ap (λ (l : List WalkRecord). length l) g.1, length-append of.step.after.walks g.0)
+        late : (j : ℕ) (y : Step) → slice_get (steps_of workers worker) j ≡ Some y → IsScanned y m worker n → of.k < j → ⊥
+        late j y here t lt = let g = (grows s r workers run worker of.k j of.step y lt of.at here).walks in
+            omega (arith, of.number, t.number, slice_get_within of.step.work.walks of.i w of.own, ap (λ (l : List WalkRecord). length l) (work_of s r workers run worker of.k of.step of.at).walks, length-append of.step.before.walks of.step.work.walks, ap (λ (l : List WalkRecord). length l) g.1, length-append of.step.after.walks g.0)
 
   module _ (p : Place) (there : IsThere s p) where
     -- the Scan entries in the journal, and those that the step made
@@ -110,25 +100,22 @@ module _ (s : Script) (r : Report) (workers : List (List Step)) (run : IsRun s r
     scans_weigh f = total_kept f (λ (e : ℕ × Entry). scan_by worker n e.0 e.1) (enumerate_from 0 (journals_of r p))
         ∙ (journal_is s r workers run p there (λ (m : Made). weight_of f (scan_by worker n m.number m.entry)) (λ i e. weight_of f (scan_by worker n i e)) (λ m place stands items. refl)
         ∙ (only_step (at_place (place_number p) (λ (m : Made). weight_of f (scan_by worker n m.number m.entry))) (λ (y : Step). y.work.core.made) workers worker of.k of.step of.at others
-        ∙ (same_weights of.step.work.core.made ∙ sym (total_kept f (scan_made (place_number p) of.step.by.worker n) of.step.work.core.made))))
-      where
-        same_weights : (ms : List Made) → total (at_place (place_number p) (λ (m : Made). weight_of f (scan_by worker n m.number m.entry))) ms ≡ total (λ m. weight_of f (scan_made (place_number p) of.step.by.worker n m)) ms
-        same_weights [] = refl
-        same_weights (m ∷ ms) = omega (arith, same_weights ms, one (m.place == place_number p) ∙ ap (λ v. weight_of f (cond (m.place == place_number p) (scan_by v n m.number m.entry) None)) (sym own_worker))
-          where
+        ∙ (same_weights of.step.work.core.made ∙ sym (total_kept f (scan_made (place_number p) of.step.by.worker n) of.step.work.core.made)))) where
+          same_weights : (ms : List Made) → total (at_place (place_number p) (λ (m : Made). weight_of f (scan_by worker n m.number m.entry))) ms ≡ total (λ m. weight_of f (scan_made (place_number p) of.step.by.worker n m)) ms
+          same_weights [] = refl
+          same_weights (m ∷ ms) = omega (arith, same_weights ms, one (m.place == place_number p) ∙ ap (λ v. weight_of f (cond (m.place == place_number p) (scan_by v n m.number m.entry) None)) (sym own_worker)) where
             one : (b : Bool) → cond b (weight_of f (scan_by worker n m.number m.entry)) 0 ≡ weight_of f (cond b (scan_by worker n m.number m.entry) None)
             one true = refl
             one false = refl
 
-        others : (v j : ℕ) (y : Step) → slice_get (steps_of workers v) j ≡ Some y → ((v ≡ worker) × (j ≡ of.k) → ⊥) → total (at_place (place_number p) (λ (m : Made). weight_of f (scan_by worker n m.number m.entry))) y.work.core.made ≡ 0
-        others v j y at apart = all_zero (at_place (place_number p) (λ (m : Made). weight_of f (scan_by worker n m.number m.entry))) y.work.core.made
-            (λ i m e. none m (m.place == place_number p) (scan_by worker n m.number m.entry) refl (each_among (λ (z : Made). MayMakeEntry s y z z.entry) y.work.core.made m (run.steps.each v j y at).did.entries.each (i, some_at y.work.core.made i m e)))
-          where
-            none : (m : Made) (b : Bool) (o : Option ScanMade) → scan_by worker n m.number m.entry ≡ o → MayMakeEntry s y m m.entry → cond b (weight_of f o) 0 ≡ 0
-            none m true None e may = refl
-            none m false None e may = refl
-            none m false (Some a) e may = refl
-            none m true (Some a) e may = absurd (apart (walk_step v j y m at (scan_is worker n m.number m.entry s y m a e of.did.low may)))
+          others : (v j : ℕ) (y : Step) → slice_get (steps_of workers v) j ≡ Some y → ((v ≡ worker) × (j ≡ of.k) → ⊥) → total (at_place (place_number p) (λ (m : Made). weight_of f (scan_by worker n m.number m.entry))) y.work.core.made ≡ 0
+          others v j y at apart = all_zero (at_place (place_number p) (λ (m : Made). weight_of f (scan_by worker n m.number m.entry))) y.work.core.made
+              (λ i m e. none m (m.place == place_number p) (scan_by worker n m.number m.entry) refl (each_among (λ (z : Made). MayMakeEntry s y z z.entry) y.work.core.made m (run.steps.each v j y at).did.entries.each (i, some_at y.work.core.made i m e))) where
+                none : (m : Made) (b : Bool) (o : Option ScanMade) → scan_by worker n m.number m.entry ≡ o → MayMakeEntry s y m m.entry → cond b (weight_of f o) 0 ≡ 0
+                none m true None e may = refl
+                none m false None e may = refl
+                none m false (Some a) e may = refl
+                none m true (Some a) e may = absurd (apart (walk_step v j y m at (scan_is worker n m.number m.entry s y m a e of.did.low may)))
 
     -- each in the journal is one of the step
     scans_has : (a : ScanMade) → Has in_journal a → Has of_step a
@@ -147,11 +134,10 @@ module _ (s : Script) (r : Report) (workers : List (List Step)) (run : IsRun s r
         ∙ (ap (λ v. scan_by v n m.made.number m.made.entry) own_worker ∙ (ap (λ i. scan_by worker n i m.made.entry) m.number ∙ (ap (scan_by worker n t.1.0) m.entry ∙ t.3))))
 
     all_from : (P : ScanMade → Type 0) → AllByRecursion P of_step → AllByRecursion P in_journal
-    all_from P all = go in_journal (λ a has. each_has P of_step a all (scans_has a has))
-      where
-        go : (xs : List ScanMade) → ((a : ScanMade) → Has xs a → P a) → AllByRecursion P xs
-        go [] h = tt
-        go (a ∷ xs) h = (h a (inl refl), go xs (λ b has. h b (inr has)))
+    all_from P all = go in_journal (λ a has. each_has P of_step a all (scans_has a has)) where
+      go : (xs : List ScanMade) → ((a : ScanMade) → Has xs a → P a) → AllByRecursion P xs
+      go [] h = tt
+      go (a ∷ xs) h = (h a (inl refl), go xs (λ b has. h b (inr has)))
 
     -- so they are those of the pass
     pub scans_are : (priority : ℕ) (d : CacheDecl) (q : PassRecord) → AreScansOf priority d q of_step → AreScansOf priority d q in_journal
@@ -166,7 +152,6 @@ module _ (s : Script) (r : Report) (workers : List (List Step)) (run : IsRun s r
       policy = all_from (λ (z : ScanMade). z.policy ≡ d.policy) h.policy;
       freed = sum_total (λ (z : ScanMade). z.freed) in_journal ∙ (scans_weigh (λ z. z.freed) ∙ (sym (sum_total (λ (z : ScanMade). z.freed) of_step) ∙ h.freed));
       later = all_from (λ (z : ScanMade). q.version ≤ z.number) h.later;
-    }
-      where
-        same_length : length in_journal ≡ length of_step
-        same_length = length_total in_journal ∙ (scans_weigh (λ z. 1) ∙ sym (length_total of_step))
+    } where
+      same_length : length in_journal ≡ length of_step
+      same_length = length_total in_journal ∙ (scans_weigh (λ z. 1) ∙ sym (length_total of_step))

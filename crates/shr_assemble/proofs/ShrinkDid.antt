@@ -4,17 +4,14 @@ use Rattle.shr_base.specs.declared.replies.Reply.TheVariants as reply
 use Rattle.shr_base.specs.declared.walks.WalkAnswer.TheVariants as answered
 use Rattle.shr_charge.specs.Views as charge
 use Rattle.shr_charge.specs.declared.answers.GroupState.TheVariants as state
-use Rattle.shr_assemble.proofs.Bringing.{brings_of}
-use Rattle.shr_assemble.proofs.WalkingTold.{IsTableOf}
-use Rattle.shr_assemble.proofs.WalkingGives.{one_seen, one_online, IsNoted, Gave, gave}
+use Rattle.shr_assemble.proofs.QuietTenant.{brings_of}
+use Rattle.shr_assemble.proofs.WalkingWell.{IsTableOf}
+use Rattle.shr_assemble.proofs.WalkingGives.{one_online, IsNoted, Gave, gave}
 use Rattle.shr_assemble.proofs.WalkingSteps.{Walked}
 use Rattle.shr_assemble.proofs.WalkingDid.{Stepping, walks_did}
 use Rattle.shr_assemble.proofs.WalkingChain.{FrontHad, front_had, front_pairs, one_front, any_cut}
 
 module _ (x : Shared) (table : IsTableOf x) (by : Serial) (group node priority : ℕ) (nofs : Bool) (s t : WorkerState) where
-  walk_of : Walk
-  walk_of = next_walk by s group node priority nofs
-
   same_jobs : (answer : WalkAnswer) (ws : List WalkRecord) → IsNoted (next_walk by s group node priority nofs) answer ws → map job_of ws ≡ job group node priority nofs ∷ []
   same_jobs answer ws n = ap (map job_of) n.walks_are ∙ ap (λ (j : Job). j ∷ []) n.job_is
 
@@ -84,4 +81,4 @@ module _ (x : Shared) (table : IsTableOf x) (by : Serial) (group node priority :
 
   pub shrink_did : (a : Answered) → node < x.script.nodes → group < length (parents_of x.script) → Shrinks x by group node priority nofs a s t → Stepping x by Command_of a s t
   shrink_did a there inside g = let walk = next_walk by s group node priority nofs in subst (λ (z : Answered). Stepping x by Command_of z s t) (sym g.told)
-      (did_answer g.answer (gave x table walk Command_of (unfound (walk_reply g.answer)) s t refl there inside g.answer g.walked (one_seen x walk g.answer s t g.walked)) (one_online x walk g.answer s t g.walked))
+      (did_answer g.answer (gave x table walk Command_of (unfound (walk_reply g.answer)) s t refl there inside g.answer g.walked) (one_online x walk g.answer s t g.walked))

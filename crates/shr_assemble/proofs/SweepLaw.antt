@@ -1,11 +1,10 @@
 -- The sweep of a run is lawful.
-use Rattle.shr_assemble.proofs.Common.{◌≡◌, ℕ, zero, suc, ◌+◌, ◌<◌, ◌≤◌, Bool, cond, List, [], ◌∷◌, ◌++◌, length, map, sym, refl, ap, subst, ◌∙◌, arith, slice_get, Option, Some, flat_map, count_by, ◌&&◌, ◌==◌, range_with_len, IsSomeAnd, sum_by-cons, sum_by-append, none-some, same_Some, Answered, Reply, Script, Sweep, WorkerScript, WalkRecord, SweepItem, End, of_job, only_job, Report, parents_of, commands_of, sweeps_in, sweeps_of, reply_at, sweep_serial, IsSwept, total, total-append, IsRun, Step, IsOfPops, job_walked, all_popped, sweep_walks, times_swept, IsSweptOut, IsSweepRight, IsSweepLawful}
+use Rattle.shr_assemble.proofs.Common.{◌≡◌, ℕ, zero, suc, ◌+◌, ◌<◌, ◌≤◌, Bool, cond, List, [], ◌∷◌, ◌++◌, length, map, sym, refl, ap, subst, ◌∙◌, arith, slice_get, Option, Some, flat_map, count_by, ◌&&◌, ◌==◌, range_with_len, IsSomeAnd, sum_by-cons, sum_by-append, none-some, same_Some, Answered, Reply, Script, Sweep, WorkerScript, WalkRecord, SweepItem, End, of_job, only_job, Report, parents_of, commands_of, sweeps_in, sweeps_of, reply_at, sweep_serial, IsSwept, total, total-append, IsRun, Step, IsOfPops, job_walked, all_popped, sweep_walks, times_swept, IsSweptOut, IsSweepRight, IsSweepLawful, sweep_job, is_end, ends}
 use Rattle.shr_pool.specs.declared.items.SweepItem.TheVariants.{Walk}
-use Rattle.shr_pool.specs.Lines.{sweep_job, is_end, ends}
 use Rattle.shr_assemble.proofs.Crews.{there_at}
-use Rattle.shr_assemble.proofs.Making.{reply_is}
+use Rattle.shr_assemble.proofs.Gathering.{reply_is}
 use Rattle.shr_assemble.proofs.SweepSteps.{SweepStep, sweep_step}
-use Rattle.shr_assemble.proofs.SweptItems.{weight_in, number_in}
+use Rattle.shr_assemble.proofs.SweptRows.{weight_in, number_in}
 use Rattle.shr_assemble.proofs.WalksLaw.{walks_are}
 
 -- a job of a group on a node
@@ -31,12 +30,11 @@ module _ {A : Type 0} (p : A → Bool) (walks : ℕ → List A) (h : SweepItem �
 
 -- a number among those below another is below it
 below_in : (n m i : ℕ) → slice_get (range_with_len 0 n) m ≡ Some i → i < n
-below_in n m i e = let lt = number 0 n m i e in omega (arith, lt)
-  where
-    number : (a k m i : ℕ) → slice_get (range_with_len a k) m ≡ Some i → i < a + k
-    number a zero m i e = absurd (none-some i e)
-    number a (suc k) zero i e = let same = same_Some a i e in omega (arith, same)
-    number a (suc k) (suc m) i e = let lt = number (a + 1) k m i e in omega (arith, lt)
+below_in n m i e = let lt = number 0 n m i e in omega (arith, lt) where
+  number : (a k m i : ℕ) → slice_get (range_with_len a k) m ≡ Some i → i < a + k
+  number a zero m i e = absurd (none-some i e)
+  number a (suc k) zero i e = let same = same_Some a i e in omega (arith, same)
+  number a (suc k) (suc m) i e = let lt = number (a + 1) k m i e in omega (arith, lt)
 
 module _ (s : Script) (r : Report) (workers : List (List Step)) (run : IsRun s r workers) (z : Sweep) (asked : s.sweep ≡ Some z) where
   abbrev popped : ℕ → List SweepItem
@@ -44,10 +42,9 @@ module _ (s : Script) (r : Report) (workers : List (List Step)) (run : IsRun s r
 
   -- a worker of the script has its part
   one_sweep : (worker : ℕ) → worker < length s.workers.items → sweeps_of s worker ≡ 1
-  one_sweep worker lt = ap (λ (o : Option Sweep). sweeps_in o (slice_get s.workers.items worker)) asked ∙ of_worker (there_at s.workers.items worker lt)
-    where
-      of_worker : (w : WorkerScript) × (slice_get s.workers.items worker ≡ Some w) → sweeps_in (Some z) (slice_get s.workers.items worker) ≡ 1
-      of_worker w = ap (sweeps_in (Some z)) w.1
+  one_sweep worker lt = ap (λ (o : Option Sweep). sweeps_in o (slice_get s.workers.items worker)) asked ∙ of_worker (there_at s.workers.items worker lt) where
+    of_worker : (w : WorkerScript) × (slice_get s.workers.items worker ≡ Some w) → sweeps_in (Some z) (slice_get s.workers.items worker) ≡ 1
+    of_worker w = ap (sweeps_in (Some z)) w.1
 
   part : (worker : ℕ) → worker < length s.workers.items → SweepStep s r workers worker
   part worker lt = sweep_step s r workers run.steps worker (let many = run.steps.commands worker in let one = one_sweep worker lt in omega (arith, many, one))

@@ -1,9 +1,8 @@
 -- Values that meet the definitions of a sweep's walks, and values that don't.
-use Rattle.shr_assemble.proofs.Common.{◌≡◌, ℕ, false, [], ◌∷◌, refl, ap, arith, WalkRecord, End, SweepJob, IsOfPops}
+use Rattle.shr_assemble.proofs.Common.{◌≡◌, ℕ, false, [], ◌∷◌, refl, ap, arith, WalkRecord, End, SweepJob, IsOfPops, sweep_job}
 use Rattle.shr_base.specs.declared.replies.Reply.TheVariants as reply
 use Rattle.shr_base.specs.declared.walks.WalkAnswer.TheVariants.{Walked}
 use Rattle.shr_pool.specs.declared.items.SweepItem.TheVariants.{Walk}
-use Rattle.shr_pool.specs.Lines.{sweep_job}
 use Rattle.shr_report.proofs.SecondReport.{kept}
 
 abbrev walk : ℕ → WalkRecord

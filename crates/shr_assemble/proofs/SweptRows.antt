@@ -1,8 +1,8 @@
 -- The steps of a worker: those of its commands, and behind them that of the sweep of a script that has one.
-use Rattle.shr_assemble.proofs.Common.{◌≡◌, ℕ, zero, suc, ◌+◌, ◌<◌, ◌≤◌, ◌⊎◌, inl, inr, ⊎_elim, List, [], ◌∷◌, ◌++◌, length, length-append, take, sym, refl, ap, subst, ◌∙◌, arith, slice_get, Option, Some, None, flat_map, AllByRecursion, append-nil, same_Some, none-some, slice_get_within, slice_get_past, Serial, Answered, Command, Script, Sweep, WorkerScript, Isolation, SweepItem, sweeps_in, sweeps_of, IsShared, WorkerState, Shared, CrewState, View, WorkerLog, Did, HelpsWith, HasWorked, new_worker, isolated_in, isolated_before, DidIsolations, Step, AreStepsChained, worker_state_after, BringsWork, IsOfPops, slice_cases, slice_left}
-use Rattle.shr_worker.specs.Chain.{worker_commands, command_serial}
-use Rattle.shr_assemble.proofs.Fit.{IsFit, fit_new}
-use Rattle.shr_assemble.proofs.Rows.{IsRow, DidEach, SweptPart, IsThereItem, swept_step, row_of}
+use Rattle.shr_assemble.proofs.Common.{◌≡◌, ℕ, zero, suc, ◌+◌, ◌<◌, ◌≤◌, ◌⊎◌, inl, inr, ⊎_elim, List, [], ◌∷◌, ◌++◌, length, length-append, take, sym, refl, ap, subst, ◌∙◌, arith, slice_get, Option, Some, None, flat_map, AllByRecursion, append-nil, same_Some, none-some, slice_get_within, slice_get_past, Serial, Answered, Command, Script, Sweep, WorkerScript, Isolation, SweepItem, sweeps_in, sweeps_of, IsShared, WorkerState, Shared, CrewState, View, WorkerLog, Did, HelpsWith, HasWorked, new_worker, isolated_in, isolated_before, DidIsolations, Step, AreStepsChained, worker_state_after, BringsWork, IsOfPops, slice_cases, slice_left, worker_commands, command_serial, get_or, range_with_len, get_or-range_with_len, length-range_with_len, slice_get-get_or, total, total-append, End, SweepJob, of_job, only_job, ArePoppedOnce, all_popped}
+use Rattle.shr_assemble.proofs.Rows.{IsFit, fit_new, IsRow, DidEach, SweptPart, IsThereItem, swept_step, row_of}
+use Rattle.shr_pool.specs.declared.items.SweepItem.TheVariants.{Walk}
+use Rattle.shr_pool.proofs.Once.{agrees}
 
 -- a worker's steps: one for each of these commands, as many behind them as it answered sweeps, by these answers and serials
 pub record IsWorkerRow (s : Script) (by : ℕ → Serial) (cs : List Command) (sweeps : ℕ) (popped : List SweepItem) (said : List Answered) (first last : CrewState) (mine : List Step) : Type 0 where
@@ -111,34 +111,57 @@ IsWanted x opened number popped last sweeps said = (mine : List Step) × IsWorke
 pub worker_row : (x : Shared) → IsShared x → DidEach x → (opened : View) (number : ℕ) (log : WorkerLog) (popped : List SweepItem) (last : CrewState) → number < length x.script.workers.items
     → ((z : Sweep) → x.script.sweep ≡ Some z → AllByRecursion (IsThereItem x.script) popped) → HasWorked x opened number log popped last
     → (mine : List Step) × IsWorkerRow x.script (command_serial number) (worker_commands x.script number) (sweeps_of x.script number) popped log.answers.items (new_worker opened number) last mine
-worker_row x shared did opened number log popped last within there w = by_sweep x.script.sweep refl w.helped
-  where
-    row : (mine : List Step) × IsRow x.script (command_serial number) (worker_commands x.script number) w.own (new_worker opened number) w.done mine
-    row = row_of x shared did number w.own (new_worker opened number) w.done (fit_new opened number) w.all w.work
+worker_row x shared did opened number log popped last within there w = by_sweep x.script.sweep refl w.helped where
+  row : (mine : List Step) × IsRow x.script (command_serial number) (worker_commands x.script number) w.own (new_worker opened number) w.done mine
+  row = row_of x shared did number w.own (new_worker opened number) w.done (fit_new opened number) w.all w.work
 
-    one_sweep : (z : Sweep) (o : Option WorkerScript) → slice_get x.script.workers.items number ≡ o → sweeps_in (Some z) o ≡ 1
-    one_sweep z None e = absurd (omega (arith, within, past x.script.workers.items number e))
-      where
-        past : (ws : List WorkerScript) (n : ℕ) → slice_get ws n ≡ None → length ws ≤ n
-        past [] n h = omega arith
-        past (v ∷ ws) zero h = absurd (none-some v (sym h))
-        past (v ∷ ws) (suc n) h = omega (arith, past ws n h)
-    one_sweep z (Some v) e = refl
+  one_sweep : (z : Sweep) (o : Option WorkerScript) → slice_get x.script.workers.items number ≡ o → sweeps_in (Some z) o ≡ 1
+  one_sweep z None e = absurd (omega (arith, within, past x.script.workers.items number e)) where
+    past : (ws : List WorkerScript) (n : ℕ) → slice_get ws n ≡ None → length ws ≤ n
+    past [] n h = omega arith
+    past (v ∷ ws) zero h = absurd (none-some v (sym h))
+    past (v ∷ ws) (suc n) h = omega (arith, past ws n h)
+  one_sweep z (Some v) e = refl
 
-    by_sweep : (o : Option Sweep) → x.script.sweep ≡ o → HelpsWith x o (command_serial number (length (worker_commands x.script number))) w.told popped w.done last → IsWanted x opened number popped last (sweeps_of x.script number) log.answers.items
-    by_sweep None e h =
-        let said : log.answers.items ≡ w.own = w.answers ∙ (ap (λ l. w.own ++ l) h.0 ∙ append-nil w.own) in
-        let none : sweeps_of x.script number ≡ 0 = ap (λ (z : Option Sweep). sweeps_in z (slice_get x.script.workers.items number)) e in
-        subst (λ n. IsWanted x opened number popped last n log.answers.items) (sym none) (subst (IsWanted x opened number popped last 0) (sym said) (
-          row.0,
-          subst (λ (t : CrewState). IsWorkerRow x.script (command_serial number) (worker_commands x.script number) 0 popped w.own (new_worker opened number) t row.0) (sym h.1)
-              (alone x.script (command_serial number) (worker_commands x.script number) popped w.own (new_worker opened number) w.done row.0 row.1),
-        ))
-    by_sweep (Some z) e h =
-        let part = did.sweep z (command_serial number (length (worker_commands x.script number))) w.told popped w.done last e (there z e) h in
-        let said : log.answers.items ≡ w.own ++ part.0 ∷ [] = w.answers ∙ ap (λ l. w.own ++ l) part.1 in
-        let one : sweeps_of x.script number ≡ 1 = ap (λ (o : Option Sweep). sweeps_in o (slice_get x.script.workers.items number)) e ∙ one_sweep z (slice_get x.script.workers.items number) refl in
-        subst (λ n. IsWanted x opened number popped last n log.answers.items) (sym one) (subst (IsWanted x opened number popped last 1) (sym said) (
-          row.0 ++ swept_step (command_serial number (length (worker_commands x.script number))) part.0 w.done.seats last.seats part.2.work ∷ [],
-          with_sweep x.script (command_serial number) (worker_commands x.script number) popped w.own part.0 (new_worker opened number) w.done last row.0 row.1 part.2 h.isolations,
-        ))
+  by_sweep : (o : Option Sweep) → x.script.sweep ≡ o → HelpsWith x o (command_serial number (length (worker_commands x.script number))) w.told popped w.done last → IsWanted x opened number popped last (sweeps_of x.script number) log.answers.items
+  by_sweep None e h =
+      let said : log.answers.items ≡ w.own = w.answers ∙ (ap (λ l. w.own ++ l) h.0 ∙ append-nil w.own) in
+      let none : sweeps_of x.script number ≡ 0 = ap (λ (z : Option Sweep). sweeps_in z (slice_get x.script.workers.items number)) e in
+      subst (λ n. IsWanted x opened number popped last n log.answers.items) (sym none) (subst (IsWanted x opened number popped last 0) (sym said) (
+        row.0,
+        subst (λ (t : CrewState). IsWorkerRow x.script (command_serial number) (worker_commands x.script number) 0 popped w.own (new_worker opened number) t row.0) (sym h.1)
+            (alone x.script (command_serial number) (worker_commands x.script number) popped w.own (new_worker opened number) w.done row.0 row.1),
+      ))
+  by_sweep (Some z) e h =
+      let part = did.sweep z (command_serial number (length (worker_commands x.script number))) w.told popped w.done last e (there z e) h in
+      let said : log.answers.items ≡ w.own ++ part.0 ∷ [] = w.answers ∙ ap (λ l. w.own ++ l) part.1 in
+      let one : sweeps_of x.script number ≡ 1 = ap (λ (o : Option Sweep). sweeps_in o (slice_get x.script.workers.items number)) e ∙ one_sweep z (slice_get x.script.workers.items number) refl in
+      subst (λ n. IsWanted x opened number popped last n log.answers.items) (sym one) (subst (IsWanted x opened number popped last 1) (sym said) (
+        row.0 ++ swept_step (command_serial number (length (worker_commands x.script number))) part.0 w.done.seats last.seats part.2.work ∷ [],
+        with_sweep x.script (command_serial number) (worker_commands x.script number) popped w.own part.0 (new_worker opened number) w.done last row.0 row.1 part.2 h.isolations,
+      ))
+
+-- what one of these numbers has weighs no more than what all have
+pub weight_in : {A : Type 0} (h : A → ℕ) (g : ℕ → List A) (ns : List ℕ) (m i : ℕ) → slice_get ns m ≡ Some i → total h (g i) ≤ total h (flat_map g ns)
+weight_in h g [] m i e = absurd (none-some i e)
+weight_in h g (n ∷ ns) zero i e = let same : n ≡ i = cc in let is = ap (λ k. total h (g k)) same in omega (arith, is, total-append h (g n) (flat_map g ns))
+weight_in h g (n ∷ ns) (suc m) i e = omega (arith, weight_in h g ns m i e, total-append h (g n) (flat_map g ns))
+
+-- a number stands among those below another
+pub number_in : (n i : ℕ) → i < n → slice_get (range_with_len 0 n) i ≡ Some i
+number_in n i lt = slice_get-get_or (range_with_len 0 n) i 0 (let long = length-range_with_len 0 n in omega (arith, long, lt)) ∙ ap Some (get_or-range_with_len 0 n i 0 lt ∙ (let is : 0 + i ≡ i = omega arith in is))
+
+-- what was popped once, job by job, is there
+module _ (s : Script) (all : List SweepItem) (once : ArePoppedOnce s all) where
+  there_items : (items : List SweepItem) → ((j : SweepJob) → total (of_job (only_job j)) items ≤ total (of_job (only_job j)) all) → AllByRecursion (IsThereItem s) items
+  there_items [] less = tt
+  there_items (Walk j ∷ items) less =
+      let own : only_job j j ≡ 1 = agrees j j refl refl in
+      let some = less j in
+      let same = ap (total (of_job (only_job j))) once.same in
+      let known = once.once.known j (omega (arith, own, some, same)) in
+      ((known.node, known.group), there_items items (λ k. let le = less k in omega (arith, le)))
+  there_items (End ∷ items) less = (tt, there_items items (λ k. let le = less k in omega (arith, le)))
+
+pub items_there : (s : Script) (popped : ℕ → List SweepItem) (workers i : ℕ) → i < workers → ArePoppedOnce s (all_popped popped workers) → AllByRecursion (IsThereItem s) (popped i)
+items_there s popped workers i lt once = there_items s (all_popped popped workers) once (popped i) (λ j. weight_in (of_job (only_job j)) popped (range_with_len 0 workers) i i (number_in workers i lt))

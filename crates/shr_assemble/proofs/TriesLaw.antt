@@ -1,8 +1,7 @@
 -- A put's charges are those of its tries, of a run.
-use Rattle.shr_assemble.proofs.Common.{◌≡◌, ℕ, List, map, sym, ap, subst, ◌∙◌, filter, UseStep, Serial, Answered, Command, Put, Script, WalkRecord, ops_by, is_refused, jobs_of, job_of, Report, parents_of, limit_of, uses_at, ops_at, Step, IsRun, DidJobs, AreWalksFor, AreTriesOf, AreAllTries}
-use Rattle.shr_report.specs.WalksLawful.{MayMake}
-use Rattle.shr_assemble.proofs.Making.{Stepped, stepped}
-use Rattle.shr_assemble.proofs.Operations.{ops_are}
+use Rattle.shr_assemble.proofs.Common.{◌≡◌, ℕ, List, map, sym, ap, subst, ◌∙◌, filter, UseStep, Serial, Answered, Command, Put, Script, WalkRecord, ops_by, is_refused, jobs_of, job_of, Report, parents_of, limit_of, uses_at, ops_at, Step, IsRun, DidJobs, AreWalksFor, AreTriesOf, AreAllTries, MayMake}
+use Rattle.shr_assemble.proofs.Gathering.{Stepped, stepped}
+use Rattle.shr_assemble.proofs.Listed.{ops_are}
 use Rattle.shr_assemble.proofs.WalksLaw.{walks_are}
 
 module _ (s : Script) (r : Report) (workers : List (List Step)) (run : IsRun s r workers) where

@@ -1,13 +1,10 @@
 -- What a command did at the pools of units, in the words of the law on pools.
-use Rattle.shr_assemble.proofs.Common.{◌≡◌, ℕ, ◌<◌, ◌≤◌, Bool, true, false, not, ◌&&◌, cond, List, [], ◌∷◌, length, sym, refl, ap, subst, ◌∙◌, arith, ne_eqb, Option, Some, None, ◌==◌, Place, Serial, Answered, Reply, Command, Put, Get, Del, SetPin, Shrink, Balance, Offline, MkGroup, Register, Unregister, Isolate, Release, Grab, PoolDecl, Script, Family, IsCommandWithin, content_of, GrabAnswer, ReleaseAnswer, PlainState, worker_units_place, PlainGives, IsReply, IsOther, DidUnitsOf, ⊤, IsPoolCommandWithin, has_pools, is_walked, is_due, WalksIf}
+use Rattle.shr_assemble.proofs.Common.{◌≡◌, ℕ, ◌<◌, ◌≤◌, Bool, true, false, not, ◌&&◌, cond, List, [], ◌∷◌, length, sym, refl, ap, subst, ◌∙◌, arith, ne_eqb, Option, Some, None, ◌==◌, Place, Serial, Answered, Reply, Command, Put, Get, Del, SetPin, Shrink, Balance, Offline, MkGroup, Register, Unregister, Isolate, Release, Grab, PoolDecl, Script, Family, IsCommandWithin, content_of, GrabAnswer, ReleaseAnswer, PlainState, worker_units_place, PlainGives, IsReply, IsOther, DidUnitsOf, ⊤, IsPoolCommandWithin, has_pools, is_walked, is_due, WalksIf, served, PlainJob, one_plain, plain_jobs, plain_due, units_release_reply, units_grab_reply, DidPoolWalks}
 use Rattle.shr_base.specs.declared.replies.Reply.TheVariants as reply
 use Rattle.shr_script.specs.Lines.{serves_pools}
 use Rattle.shr_plain.specs.declared.answers.GrabAnswer.TheVariants as grab
 use Rattle.shr_plain.specs.declared.answers.ReleaseAnswer.TheVariants as release
-use Rattle.shr_worker.proofs.Pooled.{served}
 use Rattle.shr_worker.specs.Replies as worker
-use Rattle.shr_report.specs.UnitParts.{PlainJob, one_plain, plain_jobs, plain_due}
-use Rattle.shr_units.specs.Did.{units_release_reply, units_grab_reply, DidPoolWalks}
 use Rattle.shr_units.proofs.Pooling.{settings_length}
 use Rattle.shr_units.proofs.StepKinds.{none_due}
 
@@ -18,64 +15,36 @@ IsElsewhere (Grab node pool) = ⊥
 IsElsewhere c = ⊤
 
 module _ (parents : List ℕ) (family : Family) (by : Serial) where
-  no_released : (c : Command) (found : Option ℕ) (p n e : ℕ) → IsElsewhere c → IsReply parents family by c found (reply.Released p n e) → ⊥
-  no_released (Release node pool m) found p n e is row = is
-  no_released (Grab node pool) found p n e is row = is
-  no_released c (Some id) p n e is row = row
-  no_released c None p n e is row = row
-
-  no_full : (c : Command) (found : Option ℕ) (p n e f : ℕ) → IsElsewhere c → IsReply parents family by c found (reply.Full p n e f) → ⊥
-  no_full (Release node pool m) found p n e f is row = is
-  no_full (Grab node pool) found p n e f is row = is
-  no_full c (Some id) p n e f is row = row
-  no_full c None p n e f is row = row
-
-  no_grabbed : (c : Command) (found : Option ℕ) (p n e : ℕ) → IsElsewhere c → IsReply parents family by c found (reply.Grabbed p n e) → ⊥
-  no_grabbed (Release node pool m) found p n e is row = is
-  no_grabbed (Grab node pool) found p n e is row = is
-  no_grabbed c (Some id) p n e is row = row
-  no_grabbed c None p n e is row = row
-
-  no_bare : (c : Command) (found : Option ℕ) (p n e : ℕ) → IsElsewhere c → IsReply parents family by c found (reply.Bare p n e) → ⊥
-  no_bare (Release node pool m) found p n e is row = is
-  no_bare (Grab node pool) found p n e is row = is
-  no_bare c (Some id) p n e is row = row
-  no_bare c None p n e is row = row
-
   -- no other command has one
   pub other_reply : (c : Command) (found : Option ℕ) (x : Reply) → IsElsewhere c → IsReply parents family by c found x → IsOther x
-  other_reply c found (reply.Released p n e) is row = no_released c found p n e is row
-  other_reply c found (reply.Full p n e f) is row = no_full c found p n e f is row
-  other_reply c found (reply.Grabbed p n e) is row = no_grabbed c found p n e is row
-  other_reply c found (reply.Bare p n e) is row = no_bare c found p n e is row
+  other_reply (Release node pool units) found x is row = absurd is
+  other_reply (Grab node pool) found x is row = absurd is
+  other_reply c None (reply.Released p n e) is row = row
+  other_reply c None (reply.Full p n e f) is row = row
+  other_reply c None (reply.Grabbed p n e) is row = row
+  other_reply c None (reply.Bare p n e) is row = row
+  other_reply c (Some id) (reply.Released p n e) is row = row
+  other_reply c (Some id) (reply.Full p n e f) is row = row
+  other_reply c (Some id) (reply.Grabbed p n e) is row = row
+  other_reply c (Some id) (reply.Bare p n e) is row = row
   other_reply c found x is row = tt
 
 -- ---- the walk that is due
 same_release : (p : Place) (a : ReleaseAnswer) → worker.release_reply p a ≡ units_release_reply p a
 same_release p (release.Full entries free) = refl
-same_release p (release.Worn x) = refl
-same_release p release.Memory = refl
-same_release p (release.Released entry) = refl
+same_release p a = refl
 
 same_grab : (p : Place) (a : GrabAnswer) → worker.grab_reply p a ≡ units_grab_reply p a
 same_grab p (grab.Worn x) = refl
-same_grab p grab.Memory = refl
-same_grab p (grab.Grabbed entry) = refl
-same_grab p (grab.Bare entry) = refl
+same_grab p a = refl
 
 balance_jobs : (node priority : ℕ) (nofs : Bool) (x : Reply) → plain_jobs (Balance node priority nofs) x ≡ cond (is_walked x) (one_plain node priority) []
 balance_jobs node priority nofs (reply.Walked freed) = refl
 balance_jobs node priority nofs x = refl
 
 shrink_jobs : (group node priority : ℕ) (nofs : Bool) (x : Reply) → plain_jobs (Shrink group node priority nofs) x ≡ cond ((group == 0) && is_walked x) (one_plain node priority) []
-shrink_jobs group node priority nofs (reply.Walked freed) = by_test (group == 0) where
-  by_test : (b : Bool) → cond b (one_plain node priority) [] ≡ cond (b && true) (one_plain node priority) []
-  by_test true = refl
-  by_test false = refl
-shrink_jobs group node priority nofs x = by_test (group == 0) where
-  by_test : (b : Bool) → ◌≡◌ {A = List PlainJob} [] (cond (b && false) (one_plain node priority) [])
-  by_test true = refl
-  by_test false = refl
+shrink_jobs group node priority nofs (reply.Walked freed) = elim (group == 0) as (λ (b : Bool). cond b (one_plain node priority) [] ≡ cond (b && true) (one_plain node priority) []) [ true ↦ refl | false ↦ refl ]
+shrink_jobs group node priority nofs x = elim (group == 0) as (λ (b : Bool). ◌≡◌ {A = List PlainJob} [] (cond (b && false) (one_plain node priority) [])) [ true ↦ refl | false ↦ refl ]
 
 -- what is due in a script with these pools
 abbrev with_pools : Script → List PoolDecl → Script
@@ -91,9 +60,8 @@ cond_both false b jobs = refl
 
 cond_swap : (a b c : Bool) (jobs : List PlainJob) → cond a (cond (b && c) jobs []) [] ≡ cond (b && (a && c)) jobs []
 cond_swap true true c jobs = refl
-cond_swap true false c jobs = refl
 cond_swap false true c jobs = refl
-cond_swap false false c jobs = refl
+cond_swap a b c jobs = refl
 
 balance_due : (s : Script) (node priority : ℕ) (nofs : Bool) (x : Reply) → plain_due s (Balance node priority nofs) x ≡ cond (is_due s x) (one_plain node priority) []
 balance_due s node priority nofs x = due_if s s.pools.items (Balance node priority nofs) x ∙ (ap (λ l. cond (has_pools s) l []) (balance_jobs node priority nofs x) ∙ cond_both (has_pools s) (is_walked x) (one_plain node priority))

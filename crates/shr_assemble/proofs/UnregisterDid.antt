@@ -1,5 +1,6 @@
 -- What an unregister did.
-use Rattle.shr_assemble.proofs.Common.{◌≡◌, ◌⊎◌, inl, inr, ⊎_elim, ℕ, zero, suc, ◌+◌, ◌<◌, ◌≤◌, List, [], ◌∷◌, ◌++◌, length, length-append, append_assoc, take, refl, sym, ap, subst, ◌∙◌, arith, Some, None, sum_by, AllByRecursion, none-some, some, some-injective, get_elem?, Entry, PoolEntry, Unregistered, Idle, UseStep, Object, is_past_group, added_below, made_freed_below, Place, Serial, Answered, HalfWhy, Reply, Spent, Command, Family, born_below, place_number, is_live_decl, phase_of, from_of, Each, Begins, nothing, Adds, place_id, Made, Loaded, Turn, groups_in, Shape, shape_of, AreDowns, spent_by, Draw, group_place, made_from, drawn_from, within_of_valid, content_of, IsWithin, Each-none, Each-weaker, Shared, paths_of, WorkerState, Work, no_work, does_none, unfound, parents_of, cited_by, Step, IsAmong, IsReplyTo, MayMakeEntry, Drains, DidEntries, IsCausedBy, IsWhyBy, DidPool, IsTurnOf, IsListWorn, each_one, AreNodeDraws, ended_turn, Frees, Halves, StoppedBy, UnregisterGives, unregister_reply, objects_drained}
+use Rattle.shr_assemble.proofs.Common.{◌≡◌, ◌⊎◌, inl, inr, ⊎_elim, ℕ, zero, suc, ◌+◌, ◌<◌, ◌≤◌, List, [], ◌∷◌, ◌++◌, length, length-append, append_assoc, take, refl, sym, ap, subst, ◌∙◌, arith, Some, None, sum_by, AllByRecursion, none-some, some, some-injective, get_elem?, Entry, PoolEntry, Unregistered, Idle, UseStep, Object, is_past_group, added_below, made_freed_below, Place, Serial, Answered, HalfWhy, Reply, Spent, Command, Family, born_below, place_number, is_live_decl, phase_of, from_of, Each, Begins, nothing, Adds, place_id, Made, Loaded, Turn, groups_in, Shape, shape_of, AreDowns, spent_by, Draw, group_place, made_from, drawn_from, within_of_valid, content_of, IsWithin, Each-none, Each-weaker, Shared, paths_of, WorkerState, Work, no_work, does_none, unfound, parents_of, cited_by, Step, IsAmong, IsReplyTo, MayMakeEntry, Drains, DidEntries, IsCausedBy, IsWhyBy, DidPool, IsTurnOf, IsListWorn, each_one, AreNodeDraws, ended_turn, Frees, Halves, StoppedBy, UnregisterGives, unregister_reply, objects_drained, IsWorkerSpent, take_all, take-append_seam}
+use Rattle.shr_assemble.proofs.ScriptGroups.{sized_of}
 use Rattle.shr_base.specs.declared.replies.HalfWhy.TheVariants as why
 use Rattle.shr_base.specs.declared.replies.Reply.TheVariants as reply
 use Rattle.shr_base.specs.declared.replies.Spent.TheVariants as spent
@@ -7,28 +8,21 @@ use Rattle.shr_base.specs.declared.scripts.Command.TheVariants as command
 use Rattle.shr_charge.specs.Seat.{counted}
 use Rattle.shr_registry.specs.declared.answers.UnregisterAnswer.{UnregisterAnswer}
 use Rattle.shr_registry.specs.declared.answers.UnregisterAnswer.TheVariants as unregister
-use Rattle.shr_assemble.proofs.ScriptSizes.{sized_of}
-use Rattle.shr_opening.specs.Opening.{IsWorkerSpent}
 use Rattle.shr_assemble.proofs.Spending.{spent_is}
 use Rattle.shr_walk.specs.Keeping as keeping
 use Rattle.shr_worker.specs.Commands as worker
 use Rattle.shr_worker.specs.Uncharging.{UnchargesEach}
 use Rattle.shr_worker.proofs.Drained.{drained_from}
 use Rattle.shr_assemble.proofs.Listed.{contains_among}
-use Rattle.shr_assemble.proofs.Quiet.{step_of, HasDid, calm_walks, still_moves, still_pool, still_tree, meets_none, never_met, unmade_apart}
-use Rattle.shr_assemble.proofs.QuietSteps.{AreTables, tree_is, take_whole}
+use Rattle.shr_assemble.proofs.QuietSteps.{step_of, HasDid, calm_walks, still_moves, still_pool, still_tree, meets_none, never_met, unmade_apart, quiet_did, AreTables, tree_is}
 use Rattle.shr_assemble.proofs.Filling.{IsSet}
 use Rattle.shr_assemble.proofs.QuietTenant.{without, no_entries, unfound_lookups}
-use Rattle.shr_assemble.proofs.QuietCharges.{uncharged_charges}
-use Rattle.shr_assemble.proofs.QuietNothing.{nothing_did, charges_worn}
-use Rattle.shr_assemble.proofs.QuietDrains.{IsDrainOf, each_rec, rec_each, in_all, drains_freed, drains_added, drains_counted}
+use Rattle.shr_assemble.proofs.QuietCharges.{uncharged_charges, nothing_did, charges_worn}
+use Rattle.shr_assemble.proofs.QuietSplices.{IsDrainOf, each_rec, rec_each, in_all, drains_freed, drains_added, drains_counted}
 use Rattle.shr_assemble.proofs.FreshLaw.{begins_length}
 
 take_start : {A : Type 0} (n : ℕ) (xs ys : List A) → n ≡ length xs → take n (xs ++ ys) ≡ xs
-take_start zero [] ys e = refl
-take_start zero (x ∷ xs) ys e = absurd (omega (arith, e))
-take_start (suc n) [] ys e = absurd (omega (arith, e))
-take_start (suc n) (x ∷ xs) ys e = let r = take_start n xs ys (omega (arith, e)) in λ i. x ∷ r i
+take_start n xs ys e = ap (λ (m : ℕ). take m (xs ++ ys)) e ∙ take-append_seam xs ys
 
 each_two : {A : Type 0} (P : A → Type 0) (a b : A) → P a → P b → Each P (a ∷ b ∷ [])
 each_two P a b p q zero y e = subst P (some-injective a y e) p
@@ -54,42 +48,33 @@ module _ (x : Shared) (tables : AreTables x) (by : Serial) (decl : ℕ) (s t : W
         → DidPool x.script ends → IsCausedBy x.script ends r → HasDid x.script by asked (without r) s t
     ended adds entries born freed added pool cause =
         let n = does_none s in
-        record {
-          work = ends.work;
-          does = record {
-            core = adds;
-            uses = u.uses;
-            noted = u.noted;
-            words = ap (λ (y : WorkerState). y.tree.loaded) u.rest ∙ n.words;
-            tree = ap (λ (y : WorkerState). y.tree.made) u.rest ∙ n.tree;
-            gives = ap (λ (y : WorkerState). y.tree.gives) u.rest ∙ n.gives;
-            known = subst (λ (y : WorkerState). Begins s.tree.known y.tree.known) (sym u.rest) n.known;
-            heard = ap (λ (y : WorkerState). y.tree.heard) u.rest;
-            hand = (ap (λ (y : WorkerState). y.tree.in_hand) u.rest, ap (λ (y : WorkerState). y.tree.hand) u.rest);
-            rise = u.rise;
-            moves = ap (λ (y : WorkerState). y.moves) u.rest ∙ n.moves;
-            walks = ap (λ (y : WorkerState). y.walks) u.rest ∙ n.walks;
-            carries = ap (λ (y : WorkerState). y.carries) u.rest ∙ n.carries;
-          };
-          did = record {
-            entries = entries;
-            lookups = unfound_lookups x.script ends refl refl;
-            walks = calm_walks x.script ends tt (record { walks = refl; seen = refl; maps = refl; cleared = refl });
-            charges = uncharged_charges x.script ends objects (within_of_valid (content_of x.script) tables.shared.script).tree (record {
-              born = born;
-              downs = subst (λ (l : List ℕ). AreDowns by (paths_of l objects) u.ops) (tree_is x tables.shared) u.downs;
-              charges = refl;
-              uncharges = refl;
-              freed = freed;
-              added = added;
-              charged = λ g. refl;
-            });
-            moves = still_moves x.script ends (record { walks = refl; takes = refl; gives = refl; carries = refl });
-            pool = pool;
-            tree = still_tree x.script ends refl (λ g asks above. absurd (none-some g asks)) (meets_none x.script ends (λ g e. unmade_apart x.script ends g refl (subst (IsCausedBy x.script ends) e cause)) (λ g e. never_met (is_past_group r) g e));
-            cause = cause;
-          };
-        }
+        quiet_did ends.work tt (record { walks = refl; seen = refl; maps = refl; cleared = refl; takes = refl; gives = refl; carries = refl })
+        (record {
+          core = adds;
+          uses = u.uses;
+          noted = u.noted;
+          words = ap (λ (y : WorkerState). y.tree.loaded) u.rest ∙ n.words;
+          tree = ap (λ (y : WorkerState). y.tree.made) u.rest ∙ n.tree;
+          gives = ap (λ (y : WorkerState). y.tree.gives) u.rest ∙ n.gives;
+          known = subst (λ (y : WorkerState). Begins s.tree.known y.tree.known) (sym u.rest) n.known;
+          heard = ap (λ (y : WorkerState). y.tree.heard) u.rest;
+          hand = (ap (λ (y : WorkerState). y.tree.in_hand) u.rest, ap (λ (y : WorkerState). y.tree.hand) u.rest);
+          rise = u.rise;
+          moves = ap (λ (y : WorkerState). y.moves) u.rest ∙ n.moves;
+          walks = ap (λ (y : WorkerState). y.walks) u.rest ∙ n.walks;
+          carries = ap (λ (y : WorkerState). y.carries) u.rest ∙ n.carries;
+        }) entries (unfound_lookups x.script ends refl refl)
+        (uncharged_charges x.script ends objects (within_of_valid (content_of x.script) tables.shared.script).tree (record {
+          born = born;
+          downs = subst (λ (l : List ℕ). AreDowns by (paths_of l objects) u.ops) (tree_is x tables.shared) u.downs;
+          charges = refl;
+          uncharges = refl;
+          freed = freed;
+          added = added;
+          charged = λ g. refl;
+        })) pool
+        (still_tree x.script ends refl (λ g asks above. absurd (none-some g asks)) (meets_none x.script ends (λ g e. unmade_apart x.script ends g refl (subst (IsCausedBy x.script ends) e cause)) (λ g e. never_met (is_past_group r) g e)))
+        cause
 
   abbrev shape : Shape
   shape = shape_of x.core
@@ -209,27 +194,26 @@ module _ (x : Shared) (tables : AreTables x) (by : Serial) (decl : ℕ) (s t : W
           drained = ap (λ (l : List Object). length l) h.drained ∙ drains_counted id by h.draws;
         };
         reason = why_is half h.stops.stopped z refl;
-      })
-    where
-      why_is : (w : HalfWhy) → StoppedBy shape s.core t.core id h.stops.node h.stops.group by w → (z : Step) → z.after ≡ t → IsWhyBy x.script z w
-      why_is why.Memory k z end = tt
-      why_is (why.Worn (spent.Lookups i seen)) k z end = absurd k
-      why_is (why.Worn (spent.Charges charges uncharges)) k z end = absurd k
-      why_is (why.Worn (spent.List place entries items)) k z end =
-          let here : Place = group_place id h.stops.node h.stops.group in
-          let near = h.ended.live.near in let ids = tables.shared.ids in let on = h.stops.near in let nodes = tables.shared.nodes in let there = k.filled.there in let groups = same_groups in
-          subst (λ (p : Place). IsListWorn x.script z p entries items) (sym k.here) (record {
-            there = record { id = omega (arith, near, ids); node = omega (arith, on, nodes); group = omega (arith, there, groups) };
-            over = ⊎_elim (λ (lt : k.old.most_entries < entries). let m = k.filled.met.was.most_entries ∙ tables.most_entries in inl (omega (arith, lt, m))) (λ (lt : k.old.most_items < items). let m = k.filled.met.was.most_items ∙ tables.most_items in inr (omega (arith, lt, m))) k.worn.over;
-            known = k.old.entries;
-            held = k.old.items;
-            list = record {
-              knows = subst (λ (v : WorkerState). IsAmong (record { place = place_number here; entries = k.old.entries }) v.core.traces.known) (sym end) (contains_among t.core.traces.known (record { place = place_number here; entries = k.old.entries }) k.filled.met.known);
-              journal = k.filled.met.was.journal;
-            };
-            one_more = k.worn.entries_then;
-            most = inl (let n = k.worn.items_then in omega (arith, n));
-          })
+      }) where
+        why_is : (w : HalfWhy) → StoppedBy shape s.core t.core id h.stops.node h.stops.group by w → (z : Step) → z.after ≡ t → IsWhyBy x.script z w
+        why_is why.Memory k z end = tt
+        why_is (why.Worn (spent.Lookups i seen)) k z end = absurd k
+        why_is (why.Worn (spent.Charges charges uncharges)) k z end = absurd k
+        why_is (why.Worn (spent.List place entries items)) k z end =
+            let here : Place = group_place id h.stops.node h.stops.group in
+            let near = h.ended.live.near in let ids = tables.shared.ids in let on = h.stops.near in let nodes = tables.shared.nodes in let there = k.filled.there in let groups = same_groups in
+            subst (λ (p : Place). IsListWorn x.script z p entries items) (sym k.here) (record {
+              there = record { id = omega (arith, near, ids); node = omega (arith, on, nodes); group = omega (arith, there, groups) };
+              over = ⊎_elim (λ (lt : k.old.most_entries < entries). let m = k.filled.met.was.most_entries ∙ tables.most_entries in inl (omega (arith, lt, m))) (λ (lt : k.old.most_items < items). let m = k.filled.met.was.most_items ∙ tables.most_items in inr (omega (arith, lt, m))) k.worn.over;
+              known = k.old.entries;
+              held = k.old.items;
+              list = record {
+                knows = subst (λ (v : WorkerState). IsAmong (record { place = place_number here; entries = k.old.entries }) v.core.traces.known) (sym end) (contains_among t.core.traces.known (record { place = place_number here; entries = k.old.entries }) k.filled.met.known);
+                journal = k.filled.met.was.journal;
+              };
+              one_more = k.worn.entries_then;
+              most = inl (let n = k.worn.items_then in omega (arith, n));
+            })
 
   by_answer : (answer : UnregisterAnswer) → UnregisterGives shape s.core decl by answer t.core → UnchargesEach (keeping.shared_parents x) by (objects_drained answer) s t → HasDid x.script by asked (unfound (unregister_reply answer)) s t
   by_answer (unregister.NoCache entry) h u =
@@ -239,7 +223,7 @@ module _ (x : Shared) (tables : AreTables x) (by : Serial) (decl : ℕ) (s t : W
         decl = decl;
         named = refl;
         known = omega (arith, after);
-        none = ap (is_live_decl x.script.ids decl) (take_whole entry t.core.turns.known h.after) ∙ (ap (λ (n : ℕ). is_live_decl n decl t.core.turns.known) (sym tables.shared.ids) ∙ h.missing);
+        none = ap (is_live_decl x.script.ids decl) (take_all entry t.core.turns.known (omega (arith, h.after))) ∙ (ap (λ (n : ℕ). is_live_decl n decl t.core.turns.known) (sym tables.shared.ids) ∙ h.missing);
       })
   by_answer unregister.Memory h u =
       let z : Step = ends reply.Memory [] u [] h.gains.words [] 1 in
@@ -248,14 +232,13 @@ module _ (x : Shared) (tables : AreTables x) (by : Serial) (decl : ℕ) (s t : W
   by_answer (unregister.Half id entry from to objects half) h u = half_did id entry from to objects.items half h u
 
   none_did : (a : Answered) → worker.UnregistersNone a s t → HasDid x.script by asked a s t
-  none_did a h = subst (λ (b : Answered). HasDid x.script by asked b s t) (sym h.told) (by_spent h.spent h.used_up)
-    where
-      by_spent : (w : Spent) → IsWorkerSpent w s t → HasDid x.script by asked (unfound (reply.Worn w)) s t
-      by_spent w k = subst (λ (y : Spent). HasDid x.script by asked (unfound (reply.Worn y)) s t) (sym (spent_is s.uses w k.numbers))
-          (nothing_did x.script by asked (reply.Worn (spent.Charges (counted s.uses.charges) (counted s.uses.uncharges))) s t k.rest tt (λ family. tt) refl (λ g. refl) refl refl (λ g asks above. inl tt)
-          (meets_none x.script (step_of by asked (without (reply.Worn (spent.Charges (counted s.uses.charges) (counted s.uses.uncharges)))) s t no_work) (λ g e. absurd (cc)) (λ g e. none-some g e))
-          (charges_worn (step_of by asked (without (reply.Worn (spent.Charges (counted s.uses.charges) (counted s.uses.uncharges)))) s t no_work) (counted s.uses.charges) (counted s.uses.uncharges)
-          (ap (λ (v : WorkerState). spent_by v.uses) k.rest ∙ (k.numbers ∙ ap Some (spent_is s.uses w k.numbers)))))
+  none_did a h = subst (λ (b : Answered). HasDid x.script by asked b s t) (sym h.told) (by_spent h.spent h.used_up) where
+    by_spent : (w : Spent) → IsWorkerSpent w s t → HasDid x.script by asked (unfound (reply.Worn w)) s t
+    by_spent w k = subst (λ (y : Spent). HasDid x.script by asked (unfound (reply.Worn y)) s t) (sym (spent_is s.uses w k.numbers))
+        (nothing_did x.script by asked (reply.Worn (spent.Charges (counted s.uses.charges) (counted s.uses.uncharges))) s t k.rest tt (λ family. tt) refl (λ g. refl) refl refl (λ g asks above. inl tt)
+        (meets_none x.script (step_of by asked (without (reply.Worn (spent.Charges (counted s.uses.charges) (counted s.uses.uncharges)))) s t no_work) (λ g e. absurd (cc)) (λ g e. none-some g e))
+        (charges_worn (step_of by asked (without (reply.Worn (spent.Charges (counted s.uses.charges) (counted s.uses.uncharges)))) s t no_work) (counted s.uses.charges) (counted s.uses.uncharges)
+        (ap (λ (v : WorkerState). spent_by v.uses) k.rest ∙ (k.numbers ∙ ap Some (spent_is s.uses w k.numbers)))))
 
 -- an unregister
 pub unregister_did : (x : Shared) (tables : AreTables x) (by : Serial) (decl : ℕ) (a : Answered) (s t : WorkerState) → worker.UnregistersNone a s t ⊎ worker.Unregisters x by decl a s t → HasDid x.script by (command.Unregister decl) a s t

@@ -1,7 +1,7 @@
 -- The final usage of a group is the number of the listed objects born at or below it.
-use Rattle.shr_assemble.proofs.Common.{◌≡◌, ℕ, suc, ◌+◌, ◌<◌, ◌≤◌, ⊎_elim, true, false, not, cond, List, [], ◌∷◌, ◌++◌, length, sym, refl, ap, subst, ◌∙◌, arith, eqb, slice_get, Some, None, Option, sum_by, option_and_then, pos, IfSome, AllByRecursion, enumerate_from, ints, take_all, length-map, sum_by-IsPermutation, none-some, slice_get_past, cases_lt, UseStep, Entry, Add, Look, Drop, Pin, Scan, MovedIn, Closed, Drained, Object, Place, Serial, GroupDecl, Script, serials_of, added_by, added_by_all, added_in, freed_at, listed_in, ups, downs, usage_after, AreTakenBack, lists_moved_at, items_at, items_of, is_at_or_above, born_below, freed_by, items_from, total, total-append, Made, Report, parents_of, limits_of, limit_of, journals_of, places_of, uses_at, items_left, Step, gathered, ops_at, added_below, made_freed_below, all_made, all_ops, IsRun, count_total, sum_total, listed_below, AreChargesLawful}
+use Rattle.shr_assemble.proofs.Common.{◌≡◌, ℕ, suc, ◌+◌, ◌<◌, ◌≤◌, ⊎_elim, true, false, not, cond, List, [], ◌∷◌, ◌++◌, length, sym, refl, ap, subst, ◌∙◌, arith, eqb, slice_get, Some, None, Option, sum_by, option_and_then, pos, IfSome, AllByRecursion, enumerate_from, ints, take_all, length-map, sum_by-IsPermutation, none-some, slice_get_past, cases_lt, UseStep, Entry, Add, Look, Drop, Pin, Scan, MovedIn, Closed, Drained, Object, Place, Serial, GroupDecl, Script, serials_of, added_by, added_by_all, added_in, freed_at, listed_in, ups, downs, usage_after, AreTakenBack, lists_moved_at, items_at, items_of, is_at_or_above, born_below, freed_by, items_from, total, total-append, Made, Report, parents_of, limits_of, limit_of, journals_of, places_of, uses_at, items_left, Step, gathered, ops_at, added_below, made_freed_below, all_made, all_ops, IsRun, count_total, sum_total, listed_below, AreChargesLawful, total_flat}
 use Rattle.shr_model.specs.Bag as bags
-use Rattle.shr_assemble.proofs.Gathering.{each_step, total_gathered, total_flat, total_same_on}
+use Rattle.shr_assemble.proofs.Gathering.{each_step, total_gathered, total_same_on}
 use Rattle.shr_assemble.proofs.Recounting.{journals_are}
 use Rattle.shr_assemble.proofs.BagLaw.{bag}
 use Rattle.shr_assemble.proofs.FamilyObjects.{items_at_kept, frees_kept, freed_sum}
@@ -12,11 +12,10 @@ use Rattle.shr_assemble.proofs.ChargesLaw.{total_filter, total_map, born_total, 
 four_sums : (a b c d : Step → ℕ) (workers : List (List Step)) → AllByRecursion (λ (mine : List Step). AllByRecursion (λ (x : Step). a x + b x ≡ c x + d x) mine) workers
     → total (λ mine. total a mine) workers + total (λ mine. total b mine) workers ≡ total (λ mine. total c mine) workers + total (λ mine. total d mine) workers
 four_sums a b c d [] h = refl
-four_sums a b c d (mine ∷ ws) h = omega (arith, four_sums a b c d ws h.1, one mine h.0)
-  where
-    one : (xs : List Step) → AllByRecursion (λ (x : Step). a x + b x ≡ c x + d x) xs → total a xs + total b xs ≡ total c xs + total d xs
-    one [] h = refl
-    one (x ∷ xs) h = omega (arith, h.0, one xs h.1)
+four_sums a b c d (mine ∷ ws) h = omega (arith, four_sums a b c d ws h.1, one mine h.0) where
+  one : (xs : List Step) → AllByRecursion (λ (x : Step). a x + b x ≡ c x + d x) xs → total a xs + total b xs ≡ total c xs + total d xs
+  one [] h = refl
+  one (x ∷ xs) h = omega (arith, h.0, one xs h.1)
 
 -- a sum of what each step has is that of all
 all_steps : {A : Type 0} (h : A → ℕ) (f : Step → List A) (g : Step → ℕ) (workers : List (List Step)) → ((x : Step) → g x ≡ total h (f x)) → total (λ mine. total g mine) workers ≡ total h (gathered f workers)
@@ -54,14 +53,7 @@ module _ (s : Script) (r : Report) (workers : List (List Step)) (run : IsRun s r
   -- ---- objects
   added_entry : (p : Place) (n : ℕ) (e : Entry) → slice_get (journals_of r p) n ≡ Some e → added_below (parents_of s) g e ≡ total w (added_by e)
   added_entry p n (Add by birth true key value) stands = let t = add_weighs s r workers run g p n by birth key value true stands in omega (arith, t)
-  added_entry p n (Add by birth false key value) stands = refl
-  added_entry p n (Look by birth key hit) stands = refl
-  added_entry p n (Drop by birth key kind) stands = refl
-  added_entry p n (Pin by birth key pinned hit) stands = refl
-  added_entry p n (Scan worker walk asked policy visits freed stopped) stands = refl
-  added_entry p n (MovedIn child objects) stands = refl
-  added_entry p n Closed stands = refl
-  added_entry p n (Drained by objects) stands = refl
+  added_entry p n e stands = refl
 
   added_journal : (p : Place) (i : ℕ) (es : List Entry) → ((j : ℕ) (e : Entry) → slice_get es j ≡ Some e → slice_get (journals_of r p) (i + j) ≡ Some e) → total (λ (e : ℕ × Entry). added_below (parents_of s) g e.1) (enumerate_from i es) ≡ total w (added_by_all es)
   added_journal p i [] at = refl
@@ -140,15 +132,14 @@ module _ (s : Script) (r : Report) (workers : List (List Step)) (run : IsRun s r
   final lt = omega (arith, ints, counts lt)
 
   pub limits : IfSome (limit_of s g) (λ limit. listed_below s r g ≤ limit)
-  limits = by_limit (limit_of s g) refl
-    where
-      near : (limit : ℕ) → limit_of s g ≡ Some limit → g < length (parents_of s)
-      near limit e = ⊎_elim (λ lt. omega (arith, lt, length-map s.groups.items (λ (d : GroupDecl). d.limit), length-map s.groups.items (λ (d : GroupDecl). d.parent)))
-          (λ past. absurd (none-some limit (sym (ap (option_and_then (λ (l : Option ℕ). l)) (slice_get_past (limits_of s) g past)) ∙ e))) (cases_lt g (length (limits_of s)))
+  limits = by_limit (limit_of s g) refl where
+    near : (limit : ℕ) → limit_of s g ≡ Some limit → g < length (parents_of s)
+    near limit e = ⊎_elim (λ lt. omega (arith, lt, length-map s.groups.items (λ (d : GroupDecl). d.limit), length-map s.groups.items (λ (d : GroupDecl). d.parent)))
+        (λ past. absurd (none-some limit (sym (ap (option_and_then (λ (l : Option ℕ). l)) (slice_get_past (limits_of s) g past)) ∙ e))) (cases_lt g (length (limits_of s)))
 
-      by_limit : (o : Option ℕ) → limit_of s g ≡ o → IfSome o (λ limit. listed_below s r g ≤ limit)
-      by_limit None e = tt
-      by_limit (Some limit) e = let t = within_limit g limit (uses_at r g) (run.uses.histories g) (subst (λ o. AreTakenBack o (uses_at r g)) e (taken_back s r workers run g)) in omega (arith, t, counts (near limit e))
+    by_limit : (o : Option ℕ) → limit_of s g ≡ o → IfSome o (λ limit. listed_below s r g ≤ limit)
+    by_limit None e = tt
+    by_limit (Some limit) e = let t = within_limit g limit (uses_at r g) (run.uses.histories g) (subst (λ o. AreTakenBack o (uses_at r g)) e (taken_back s r workers run g)) in omega (arith, t, counts (near limit e))
 
 module _ (s : Script) (r : Report) (workers : List (List Step)) (run : IsRun s r workers) where
   pub charges_lawful : AreChargesLawful s r

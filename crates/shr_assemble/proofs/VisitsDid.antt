@@ -1,11 +1,10 @@
 -- What the visits of an isolation came to in all: entries of the list, each object that they freed uncharged, and nothing else.
-use Rattle.shr_assemble.proofs.Common.{◌≡◌, inl, inr, ⊎_elim, ℕ, ◌+◌, ◌<◌, Bool, true, false, List, [], ◌∷◌, ◌++◌, length, length-append, append_assoc, sym, refl, ap, subst, ◌∙◌, AllByRecursion, flat_map-append, append-nil, All-nil, UseStep, Object, IsolateEnd, Spent, freed_by, place_number, Has, groups_in, Each, Each-append, Each-none, View, Made, shape_of, AreDowns, AreRising, IsDown, calls_with, both_uses, Gains, entry_made, IsScanOf, objects_freed, paths_of, WorkerState, Shared, Visitor, IsAmong, Each-one, AreBorn, scan_entry, gains_none, gains_then, called_none, ScansOnce, AreVisits, AreIsolated, MeetsWorn, EndsAs}
+use Rattle.shr_assemble.proofs.Common.{◌≡◌, inl, inr, ⊎_elim, ℕ, ◌+◌, ◌<◌, Bool, true, false, List, [], ◌∷◌, ◌++◌, length, length-append, append_assoc, sym, refl, ap, subst, ◌∙◌, AllByRecursion, flat_map-append, append-nil, All-nil, UseStep, Object, IsolateEnd, Spent, freed_by, place_number, Has, groups_in, Each, Each-append, Each-none, View, Made, shape_of, AreDowns, AreRising, IsDown, calls_with, both_uses, Gains, entry_made, IsScanOf, objects_freed, paths_of, WorkerState, Shared, Visitor, IsAmong, Each-one, AreBorn, scan_entry, gains_none, gains_then, called_none, ScansOnce, AreVisits, AreIsolated, MeetsWorn, EndsAs, shared_parents}
 use Rattle.shr_base.specs.declared.replies.IsolateEnd.TheVariants as ending
 use Rattle.shr_base.specs.declared.replies.Spent.TheVariants as spent
-use Rattle.shr_walk.specs.Keeping.{shared_parents}
-use Rattle.shr_assemble.proofs.Bringing.{called_then}
+use Rattle.shr_assemble.proofs.QuietTenant.{called_then}
 use Rattle.shr_assemble.proofs.Gathering.{among_left, among_right}
-use Rattle.shr_assemble.proofs.Operations.{PairsRec, has_among}
+use Rattle.shr_assemble.proofs.Listed.{PairsRec, has_among}
 use Rattle.shr_assemble.proofs.WalkingGives.{Freed, freed_then}
 
 -- an entry is a scan of these visits, at their list
@@ -77,34 +76,33 @@ module _ (x : Shared) (i : Visitor) where
     rest = b.rest ∙ (ap (λ (v : WorkerState). record v { core = t.core; uses = both_uses v.uses (calls_with b.ops 0 (length (objects_freed b.made))); noted = v.noted ++ b.ops }) a.rest
         ∙ ((λ j. record s { core = t.core; uses = called_then s.uses a.ops b.ops 0 0 (length (objects_freed a.made)) (length (objects_freed b.made)) j; noted = append_assoc s.noted a.ops b.ops j })
         ∙ ap (λ (n : ℕ). record s { core = t.core; uses = both_uses s.uses (calls_with (a.ops ++ b.ops) 0 n); noted = s.noted ++ (a.ops ++ b.ops) }) long));
-  }
-    where
-      both : objects_freed (a.made ++ b.made) ≡ objects_freed a.made ++ objects_freed b.made
-      both = flat_map-append (λ (m : Made). freed_by m.items m.entry) a.made b.made
+  } where
+    both : objects_freed (a.made ++ b.made) ≡ objects_freed a.made ++ objects_freed b.made
+    both = flat_map-append (λ (m : Made). freed_by m.items m.entry) a.made b.made
 
-      long : length (objects_freed a.made) + length (objects_freed b.made) ≡ length (objects_freed (a.made ++ b.made))
-      long = sym (ap (λ (l : List Object). length l) both ∙ length-append (objects_freed a.made) (objects_freed b.made))
+    long : length (objects_freed a.made) + length (objects_freed b.made) ≡ length (objects_freed (a.made ++ b.made))
+    long = sym (ap (λ (l : List Object). length l) both ∙ length-append (objects_freed a.made) (objects_freed b.made))
 
-      grown : u.core.traces.made ≡ s.core.traces.made ++ a.made
-      grown = a.gains.adds.made
+    grown : u.core.traces.made ≡ s.core.traces.made ++ a.made
+    grown = a.gains.adds.made
 
-      -- an entry of the second visits comes after all that stood before the first
-      earlier : (m : Made) → IsLast i u.core.traces.made m → (d : Made) → IsAmong d s.core.traces.made → d.place ≡ place_number i.place → d.number < m.number
-      earlier m last d among same = let t = subst (λ (l : List Made). IsAmong d l) (sym grown) (among_left s.core.traces.made a.made d among) in last t.0 d t.1 same
+    -- an entry of the second visits comes after all that stood before the first
+    earlier : (m : Made) → IsLast i u.core.traces.made m → (d : Made) → IsAmong d s.core.traces.made → d.place ≡ place_number i.place → d.number < m.number
+    earlier m last d among same = let t = subst (λ (l : List Made). IsAmong d l) (sym grown) (among_left s.core.traces.made a.made d among) in last t.0 d t.1 same
 
-      -- and after those of the first
-      own : (n : Made) → IsAmong n b.made → (m : Made) → IsAmong m a.made → m.number < n.number
-      own n in_b m in_a = let t = subst (λ (l : List Made). IsAmong m l) (sym grown) (among_right s.core.traces.made a.made m in_a) in (b.after in_b.0 n in_b.1) t.0 m t.1 (a.scans in_a.0 m in_a.1).0
+    -- and after those of the first
+    own : (n : Made) → IsAmong n b.made → (m : Made) → IsAmong m a.made → m.number < n.number
+    own n in_b m in_a = let t = subst (λ (l : List Made). IsAmong m l) (sym grown) (among_right s.core.traces.made a.made m in_a) in (b.after in_b.0 n in_b.1) t.0 m t.1 (a.scans in_a.0 m in_a.1).0
 
-      heads : (P : Made → Type 0) (xs ys : List Made) → AllByRecursion P xs → ((n : Made) → Has ys n → P n) → AllByRecursion P (xs ++ ys)
-      heads P [] [] p h = tt
-      heads P [] (y ∷ ys) p h = (h y (inl refl), heads P [] ys tt (λ n has. h n (inr has)))
-      heads P (z ∷ xs) ys p h = (p.0, heads P xs ys p.1 h)
+    heads : (P : Made → Type 0) (xs ys : List Made) → AllByRecursion P xs → ((n : Made) → Has ys n → P n) → AllByRecursion P (xs ++ ys)
+    heads P [] [] p h = tt
+    heads P [] (y ∷ ys) p h = (h y (inl refl), heads P [] ys tt (λ n has. h n (inr has)))
+    heads P (z ∷ xs) ys p h = (p.0, heads P xs ys p.1 h)
 
-      numbers_then : (xs ys : List Made) → PairsRec (λ (m n : Made). m.number < n.number) xs → PairsRec (λ (m n : Made). m.number < n.number) ys → ((m n : Made) → Has xs m → Has ys n → m.number < n.number)
-          → PairsRec (λ (m n : Made). m.number < n.number) (xs ++ ys)
-      numbers_then [] ys p q h = q
-      numbers_then (z ∷ xs) ys p q h = (heads (λ (n : Made). z.number < n.number) xs ys p.0 (λ n has. h z n (inl refl) has), numbers_then xs ys p.1 q (λ m n has more. h m n (inr has) more))
+    numbers_then : (xs ys : List Made) → PairsRec (λ (m n : Made). m.number < n.number) xs → PairsRec (λ (m n : Made). m.number < n.number) ys → ((m n : Made) → Has xs m → Has ys n → m.number < n.number)
+        → PairsRec (λ (m n : Made). m.number < n.number) (xs ++ ys)
+    numbers_then [] ys p q h = q
+    numbers_then (z ∷ xs) ys p q h = (heads (λ (n : Made). z.number < n.number) xs ys p.0 (λ n has. h z n (inl refl) has), numbers_then xs ys p.1 q (λ m n has more. h m n (inr has) more))
 
   -- the visits of each, and what followed them
   visits_each : (ns : List ℕ) (s t : WorkerState) → AreVisits x i ns s t → Visits x i s t

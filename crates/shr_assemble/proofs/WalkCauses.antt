@@ -1,15 +1,20 @@
 -- The causes of what walks met.
-use Rattle.shr_assemble.proofs.Common.{◌≡◌, ℕ, List, refl, arith, slice_get, Some, Begin, Spent, Script, Attempt, Ending, PassRecord, WalkRecord, pass_of, place_number, place_in, Report, journals_of, walk_at, IsSpent, StandsInTree, Step, steps_of, IsWornBy, IsRun, IsEndingRight, IsPassCaused}
+use Rattle.shr_assemble.proofs.Common.{◌≡◌, ℕ, List, length, length-append, ap, arith, slice_get, Some, Entry, Spent, Script, Report, IsSpent, Step, steps_of, IsWornBy, IsRun, refl, Begin, Attempt, Ending, PassRecord, WalkRecord, pass_of, place_number, place_in, journals_of, walk_at, StandsInTree, IsEndingRight, IsPassCaused}
 use Rattle.shr_base.specs.declared.replies.Spent.TheVariants as spent
+use Rattle.shr_assemble.proofs.JournalsLaw.{word_lookups, calls, word_stands}
+use Rattle.shr_assemble.proofs.WornLists.{known_begins, lists_worn}
 use Rattle.shr_base.specs.declared.walks.Ending.TheVariants as ending
 use Rattle.shr_base.specs.declared.walks.Outcome.TheVariants as outcome
 use Rattle.shr_base.specs.declared.walks.WalkAnswer.TheVariants as walk
-use Rattle.shr_assemble.proofs.Listed.{closed_begins, contains_among}
-use Rattle.shr_assemble.proofs.Flattening.{walk_of}
-use Rattle.shr_assemble.proofs.LawfulWalks.{held_number, pass_held, attempt_there, was_held}
-use Rattle.shr_assemble.proofs.Shown.{word_stands, word_lookups}
-use Rattle.shr_assemble.proofs.SpentLaw.{spent_law}
-use Rattle.shr_assemble.proofs.WornLists.{known_begins}
+use Rattle.shr_assemble.proofs.Listed.{closed_begins, contains_among, walk_of}
+use Rattle.shr_assemble.proofs.VersionsLaw.{held_number, pass_held, attempt_there, was_held}
+
+module _ (s : Script) (r : Report) (workers : List (List Step)) (run : IsRun s r workers) where
+  pub spent_law : (worker k : ℕ) (x : Step) (z : Spent) → slice_get (steps_of workers worker) k ≡ Some x → IsWornBy s x z → IsSpent s r worker z
+  spent_law worker k x (spent.Lookups id seen) at h = (h.over, let t = word_lookups s r workers run worker k x at (record { id = id; word = h.word }) h.loaded in omega (arith, t, h.shown))
+  spent_law worker k x (spent.List place entries items) at h = let b = known_begins s r workers run worker k x place h.known at h.there h.list.knows in
+      (h.over, omega (arith, h.one_more, ap (λ (l : List Entry). length l) b.1, length-append h.known b.0), lists_worn s r workers run worker k x place entries items at h)
+  spent_law worker k x (spent.Charges charges uncharges) at h = let c = calls s r workers run worker k x at in (h.over, omega (arith, c.0, h.charged), omega (arith, c.1, h.uncharged))
 
 module _ (s : Script) (r : Report) (workers : List (List Step)) (run : IsRun s r workers) where
   pub walk_caused : (worker n : ℕ) (w : WalkRecord) → walk_at r worker n ≡ Some w → (entry : ℕ) → w.answer ≡ walk.Offline entry → StandsInTree r entry (Begin w.group)
@@ -22,10 +27,8 @@ module _ (s : Script) (r : Report) (workers : List (List Step)) (run : IsRun s r
       (t.3, let l = word_lookups s r workers run worker of.k of.step of.at (record { id = a.id; word = t.0 }) t.1 in omega (arith, l, t.2))
 
   ending_right : (worker k : ℕ) (x : Step) → slice_get (steps_of workers worker) k ≡ Some x → (e : Ending) → ((z : Spent) → e ≡ ending.Worn z → IsWornBy s x z) → IsEndingRight s r worker e
-  ending_right worker k x at ending.Through h = tt
-  ending_right worker k x at ending.Stop h = tt
-  ending_right worker k x at ending.NoRoom h = tt
   ending_right worker k x at (ending.Worn z) h = spent_law s r workers run worker k x z at (h z refl)
+  ending_right worker k x at e h = tt
 
   pub pass_caused : (worker n : ℕ) (w : WalkRecord) → walk_at r worker n ≡ Some w → (k : ℕ) (a : Attempt) → slice_get w.attempts.items k ≡ Some a → (p : PassRecord) → pass_of a.outcome ≡ Some p → IsPassCaused s r worker (place_in w a.id) p
   pass_caused worker n w at k a at_a p passed =

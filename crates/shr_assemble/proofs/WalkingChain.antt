@@ -1,26 +1,16 @@
 -- Walks over jobs, one after another, each from where the one before it ended.
-use Rattle.shr_assemble.proofs.Common.{◌≡◌, ℕ, suc, ◌+◌, ◌<◌, ◌⊎◌, inl, inr, ⊎_elim, Bool, true, false, ◌||◌, List, [], ◌∷◌, ◌++◌, length, length-append, map, sym, refl, ap, subst, ◌∙◌, arith, sum, zero, get_or, append_assoc, ◌≤◌, sum_by, Option, AllPairs, AllByRecursion, list_any, append-nil, get_or_append_left, sum_by-cons, sum-map, flat_map-append, Object, Serial, Answered, Command, WalkAnswer, WalkRecord, freed_by, Job, job, job_of, is_cut, Begins, Made, parents_of, OneGives, HadMemory, objects_freed, WorkerState, Work, no_work, then_work, Shared, Walk, Visit, job_in, AreVisited, each_append, freed_told, AreWalked, lacked_memory, walk_for}
+use Rattle.shr_assemble.proofs.Common.{◌≡◌, ℕ, suc, ◌+◌, ◌<◌, ◌⊎◌, inl, inr, ⊎_elim, Bool, true, false, ◌||◌, List, [], ◌∷◌, ◌++◌, length, length-append, map, sym, refl, ap, subst, ◌∙◌, arith, sum, zero, get_or, append_assoc, ◌≤◌, sum_by, Option, AllPairs, AllByRecursion, list_any, append-nil, get_or_append_left, sum_by-cons, sum-map, flat_map-append, Object, Serial, Answered, Command, WalkAnswer, WalkRecord, freed_by, Job, job, job_of, is_cut, Begins, Made, parents_of, OneGives, HadMemory, objects_freed, WorkerState, Work, no_work, then_work, does_none, Shared, Walk, Visit, job_in, AreVisited, each_append, freed_told, AreWalked, lacked_memory, walk_for}
 use Rattle.shr_base.specs.declared.walks.WalkAnswer.TheVariants as answered
 use Rattle.shr_walk.specs.Balances as balances
-use Rattle.shr_assemble.proofs.WalkingTold.{IsTableOf}
-use Rattle.shr_assemble.proofs.WalkingGives.{OneSeen, one_seen, gave, Freed, freed_none, freed_then}
-use Rattle.shr_assemble.proofs.WalkingSteps.{Walked, walked_none, walked_then}
+use Rattle.shr_assemble.proofs.WalkingWell.{IsTableOf}
+use Rattle.shr_assemble.proofs.WalkingGives.{gave, Freed, freed_none, freed_then}
+use Rattle.shr_assemble.proofs.WalkingSteps.{Walked, walked_still, walked_then}
 use Rattle.shr_node.proofs.Marking.{second_false}
 
 -- the jobs were walked with these answers
 abbrev pub AreOne : Shared → Serial → List Job → List WalkAnswer → WorkerState → WorkerState → Type 0
 AreOne x by [] answers s t = (answers ≡ []) × (s ≡ t)
 AreOne x by (j ∷ js) answers s t = (a : WalkAnswer) × (rest : List WalkAnswer) × (u : WorkerState) × (answers ≡ a ∷ rest) × OneGives x (walk_for by (length s.walks) j) a s u × AreOne x by js rest u t
-
--- what each of them showed
-abbrev pub AllSeen : (x : Shared) (by : Serial) (jobs : List Job) (answers : List WalkAnswer) (s t : WorkerState) → AreOne x by jobs answers s t → Type 0
-AllSeen x by [] answers s t h = Unit {0}
-AllSeen x by (j ∷ js) answers s t (a, rest, u, e, one, more) = OneSeen x (walk_for by (length s.walks) j) a s u one × AllSeen x by js rest u t more
-
--- what they gave tells it
-pub all_seen : (x : Shared) (by : Serial) (jobs : List Job) (answers : List WalkAnswer) (s t : WorkerState) (h : AreOne x by jobs answers s t) → AllSeen x by jobs answers s t h
-all_seen x by [] answers s t h = tt
-all_seen x by (j ∷ js) answers s t (a, rest, u, e, one, more) = (one_seen x (walk_for by (length s.walks) j) a s u one, all_seen x by js rest u t more)
 
 -- each left its record, but where memory lacked
 abbrev pub AllNoted : List Job → List WalkAnswer → List WalkRecord → Type 0
@@ -50,20 +40,19 @@ born_then x m n a b = subst (AllByRecursion (λ (o : Object). o.birth < length (
 pub uncharges_then : (m n : List Made) (i j : ℕ) → i ≡ length (objects_freed m) → j ≡ length (objects_freed n) → i + j ≡ length (objects_freed (m ++ n))
 uncharges_then m n i j a b = let e = ap (λ (l : List Object). length l) (freed_both m n) in let d = length-append (objects_freed m) (objects_freed n) in omega (arith, a, b, e, d)
 
-pub gave_all : (x : Shared) → IsTableOf x → (by : Serial) (c : Option Command) (a : Answered) (jobs : List Job) (answers : List WalkAnswer) (s t : WorkerState) (h : AreOne x by jobs answers s t) → AllSeen x by jobs answers s t h → AllByRecursion (IsThereJob x) jobs
-    → GaveAll x by c a jobs answers s t
-gave_all x table by c a [] answers s t (none, same) seen there = subst (λ (u : WorkerState). GaveAll x by c a [] answers s u) same record {
+pub gave_all : (x : Shared) → IsTableOf x → (by : Serial) (c : Option Command) (a : Answered) (jobs : List Job) (answers : List WalkAnswer) (s t : WorkerState) → AreOne x by jobs answers s t → AllByRecursion (IsThereJob x) jobs → GaveAll x by c a jobs answers s t
+gave_all x table by c a [] answers s t (none, same) there = subst (λ (u : WorkerState). GaveAll x by c a [] answers s u) same record {
   work = no_work;
-  walked = walked_none x.script by c a s;
+  walked = walked_still x.script by c a [] 0 0 [] s s (does_none s);
   noted = (none, refl);
   freed = freed_none x by;
   born = tt;
   charges = refl;
   uncharges = refl;
 }
-gave_all x table by c a (j ∷ js) answers s t (b, rest, u, e, one, more) seen there =
-    let first = gave x table (walk_for by (length s.walks) j) c a s u refl there.0.node there.0.group b one seen.0 in
-    let later = gave_all x table by c a js rest u t more seen.1 there.1 in
+gave_all x table by c a (j ∷ js) answers s t (b, rest, u, e, one, more) there =
+    let first = gave x table (walk_for by (length s.walks) j) c a s u refl there.0.node there.0.group b one in
+    let later = gave_all x table by c a js rest u t more there.1 in
     let p = first.charges in let q = later.charges in record {
       work = then_work first.work later.work;
       walked = walked_then x.script by c a s u t first.work later.work first.walked later.walked;
@@ -89,13 +78,11 @@ not_lacked a e h = let d : true ≡ false = sym (ap lacked_memory e) ∙ h in cc
 
 same_told : (a : WalkAnswer) → freed_told a ≡ balances.walk_freed a
 same_told (answered.Walked freed) = refl
-same_told (answered.Offline entry) = refl
-same_told (answered.Memory freed) = refl
+same_told a = refl
 
 same_cut : (a : WalkAnswer) → is_cut a ≡ lacked_memory a
 same_cut (answered.Walked freed) = refl
-same_cut (answered.Offline entry) = refl
-same_cut (answered.Memory freed) = refl
+same_cut a = refl
 
 abbrev pub told_by : List WalkRecord → ℕ
 told_by ws = sum_by (λ (w : WalkRecord). freed_told w.answer) ws
@@ -117,11 +104,10 @@ pub record FrontHad (ws : List WalkRecord) : Type 0 where
 
 pub cut_both : (xs ys : List WalkRecord) → any_cut xs ≡ false → any_cut ys ≡ false → any_cut (xs ++ ys) ≡ false
 cut_both [] ys a b = b
-cut_both (x ∷ xs) ys a b = one (is_cut x.answer) (any_cut xs) a (λ rest. cut_both xs ys rest b)
-  where
-    one : (p q : Bool) → (p || q) ≡ false → (q ≡ false → any_cut (xs ++ ys) ≡ false) → (p || any_cut (xs ++ ys)) ≡ false
-    one true q e f = absurd (let z : true ≡ false = e in cc)
-    one false q e f = f e
+cut_both (x ∷ xs) ys a b = one (is_cut x.answer) (any_cut xs) a (λ rest. cut_both xs ys rest b) where
+  one : (p q : Bool) → (p || q) ≡ false → (q ≡ false → any_cut (xs ++ ys) ≡ false) → (p || any_cut (xs ++ ys)) ≡ false
+  one true q e f = absurd (let z : true ≡ false = e in cc)
+  one false q e f = f e
 
 pub front_had : (ws : List WalkRecord) → any_cut ws ≡ false → FrontHad ws
 front_had ws e = record { front = ws; rest = []; whole = sym (append-nil ws); uncut = e; few = omega arith }
@@ -147,12 +133,11 @@ pub front_pairs : (ws : List WalkRecord) → FrontHad ws → AllPairs (λ (v w :
 front_pairs ws h i j d lt lj =
     let long = ap (λ (l : List WalkRecord). length l) h.whole in let parts = length-append h.front h.rest in let few = h.few in
     subst (λ (l : List WalkRecord). is_cut (get_or l i d).answer ≡ false) (sym h.whole)
-    (subst (λ (w : WalkRecord). is_cut w.answer ≡ false) (sym (get_or_append_left h.front h.rest d i (omega (arith, lt, lj, long, parts, few)))) (uncut_at h.front h.uncut i d (omega (arith, lt, lj, long, parts, few))))
-  where
-    uncut_at : (l : List WalkRecord) → any_cut l ≡ false → (n : ℕ) (d : WalkRecord) → n < length l → is_cut (get_or l n d).answer ≡ false
-    uncut_at [] e n d less = absurd (omega (arith, less))
-    uncut_at (x ∷ l) e zero d less = none_first (is_cut x.answer) (any_cut l) e
-    uncut_at (x ∷ l) e (suc n) d less = uncut_at l (second_false (is_cut x.answer) (any_cut l) e) n d (omega (arith, less))
+    (subst (λ (w : WalkRecord). is_cut w.answer ≡ false) (sym (get_or_append_left h.front h.rest d i (omega (arith, lt, lj, long, parts, few)))) (uncut_at h.front h.uncut i d (omega (arith, lt, lj, long, parts, few)))) where
+      uncut_at : (l : List WalkRecord) → any_cut l ≡ false → (n : ℕ) (d : WalkRecord) → n < length l → is_cut (get_or l n d).answer ≡ false
+      uncut_at [] e n d less = absurd (omega (arith, less))
+      uncut_at (x ∷ l) e zero d less = none_first (is_cut x.answer) (any_cut l) e
+      uncut_at (x ∷ l) e (suc n) d less = uncut_at l (second_false (is_cut x.answer) (any_cut l) e) n d (omega (arith, less))
 
 -- where each walk had memory, each left its record
 pub record AllHad (jobs : List Job) (answers : List WalkAnswer) (ws : List WalkRecord) : Type 0 where

@@ -1,9 +1,8 @@
 -- The operations of walks: one down for each object freed, on each level of its birth.
-use Rattle.shr_assemble.proofs.Common.{◌≡◌, ℕ, zero, suc, ◌+◌, ◌<◌, ◌≤◌, Bool, true, false, ◌||◌, cond, List, [], ◌∷◌, ◌++◌, length, length-append, map, sym, refl, ap, subst, ◌∙◌, arith, eq-eqb, ne_eqb, slice_get, Option, Some, pos, ◌-ℤ◌, not, ◌==◌, sum_by, count_by, All, AllByRecursion, list_any, length-map, sum_by-cons, sum_by-append, same_Some, none-some, dite, ℕ_discrete, Entry, Add, Look, Drop, Pin, Scan, MovedIn, Closed, Drained, UseStep, Object, Serial, Answered, Command, WalkRecord, ups, downs, is_at_or_above, born_below, IsTree, path_of, parent_of, freed_by, path_of-root, path_of-below, Each, Made, charged, parents_of, objects_freed, paths_of, Groups, WorkerState, Work, Shared, ops_at, added_below, made_freed_below, DidCharges, each_append, each_weaker, by_slices}
-use Rattle.shr_charge.specs.Charging.{use_group}
+use Rattle.shr_assemble.proofs.Common.{◌≡◌, ℕ, zero, suc, ◌+◌, ◌<◌, ◌≤◌, Bool, true, false, ◌||◌, cond, List, [], ◌∷◌, ◌++◌, length, length-append, map, sym, refl, ap, subst, ◌∙◌, arith, eq-eqb, ne_eqb, slice_get, Option, Some, pos, ◌-ℤ◌, not, ◌==◌, sum_by, count_by, All, AllByRecursion, list_any, length-map, sum_by-cons, sum_by-append, same_Some, none-some, dite, ℕ_discrete, Entry, Add, Look, Drop, Pin, Scan, MovedIn, Closed, Drained, UseStep, Object, Serial, Answered, Command, WalkRecord, ups, downs, is_at_or_above, born_below, IsTree, path_of, parent_of, freed_by, path_of-root, path_of-below, Each, Made, charged, parents_of, objects_freed, paths_of, Groups, WorkerState, Work, Shared, ops_at, added_below, made_freed_below, DidCharges, each_append, each_weaker, by_slices, use_group}
 use Rattle.shr_walk.specs.Keeping as keeping
 use Rattle.shr_assemble.proofs.Listed.{all_slice, all_slice_by}
-use Rattle.shr_assemble.proofs.WalkingTold.{IsTableOf}
+use Rattle.shr_assemble.proofs.WalkingWell.{IsTableOf}
 use Rattle.shr_assemble.proofs.WalkingGives.{Freed}
 use Rattle.shr_assemble.proofs.WalkingSteps.{IsScanOne, OnlyScan, step_of}
 
@@ -125,14 +124,8 @@ groups_back n (o ∷ ops) h = (h.0, groups_back n ops h.1)
 
 -- a Scan adds nothing
 no_added : (parents : List ℕ) (g : ℕ) (by : Serial) (start : ℕ) (walks : List WalkRecord) (m : Made) (e : Entry) → OnlyScan by start walks m e → added_below parents g e ≡ 0
-no_added parents g by start walks m (Scan worker n asked policy visits freed stopped) h = refl
 no_added parents g by start walks m (Add by' birth added key value) h = absurd h
-no_added parents g by start walks m (Look by' birth key hit) h = refl
-no_added parents g by start walks m (Drop by' birth key kind) h = refl
-no_added parents g by start walks m (Pin by' birth key pinned hit) h = refl
-no_added parents g by start walks m (MovedIn child objects) h = refl
-no_added parents g by start walks m Closed h = refl
-no_added parents g by start walks m (Drained by' objects) h = refl
+no_added parents g by start walks m e h = refl
 
 pub none_added : (parents : List ℕ) (g : ℕ) (by : Serial) (start : ℕ) (walks : List WalkRecord) (made : List Made) → Each (IsScanOne by start walks) made → sum_by (λ (m : Made). added_below parents g m.entry) made ≡ 0
 none_added parents g by start walks [] h = refl
@@ -162,16 +155,15 @@ walks_charge x table by c a s t w walks free freed born charges uncharges scans 
   added = λ g. none_added parents g by (length s.walks) walks w.core.made scans ∙ sym (free g);
   charges = omega (arith, charges);
   uncharges = let e = every_down w.ops down in let l = ap (λ (z : List ℕ). length z) at in let m = length-map w.ops use_group in let n = paths_many parents tree (objects_freed w.core.made) born in omega (arith, uncharges, e, l, m, n);
-}
-  where
-    parents : List ℕ
-    parents = parents_of x.script
+} where
+  parents : List ℕ
+  parents = parents_of x.script
 
-    tree : IsTree (parents_of x.script)
-    tree = tree_is x table
+  tree : IsTree (parents_of x.script)
+  tree = tree_is x table
 
-    at : map use_group w.ops ≡ paths_of (parents_of x.script) (objects_freed w.core.made)
-    at = freed.at ∙ ap (λ p. paths_of p (objects_freed w.core.made)) (same_parents x table)
+  at : map use_group w.ops ≡ paths_of (parents_of x.script) (objects_freed w.core.made)
+  at = freed.at ∙ ap (λ p. paths_of p (objects_freed w.core.made)) (same_parents x table)
 
-    down : AllByRecursion GoesDown w.ops
-    down = rec_of GoesDown w.ops (λ k d lt. (freed.each k d lt).down)
+  down : AllByRecursion GoesDown w.ops
+  down = rec_of GoesDown w.ops (λ k d lt. (freed.each k d lt).down)

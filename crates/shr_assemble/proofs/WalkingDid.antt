@@ -1,7 +1,7 @@
 -- A command that made walks alone did what the report asks.
 use Rattle.shr_assemble.proofs.Common.{◌≡◌, ℕ, ◌<◌, ◌≤◌, ◌⊎◌, inl, [], length, refl, sym, ap, subst, ◌∙◌, arith, cond, Option, Some, None, option_and_then, sum_by, All, AllPairs, AllByRecursion, append-nil, All-nil, none-some, Entry, Add, Look, Drop, Pin, Scan, MovedIn, Closed, Drained, Object, Place, Serial, Answered, Reply, Command, Carry, decl_named, asks_online, Family, is_below, is_place, Each, Each-none, Made, Turn, charged, MayBeOffline, pool_told, pool_made, parents_of, cited_by, AreNotFalling, IsBefore, objects_freed, WorkerState, Work, Shared, unfound, IsCausedBy, DidCarry, Did, IsReplyTo, MayMakeEntry, KnowsOnline, IsEntryOf, MeetsGroups, IsTurnOf, Step, BringsWork, AreWalksFor}
 use Rattle.shr_charge.specs.Views as charge
-use Rattle.shr_assemble.proofs.WalkingTold.{IsTableOf}
+use Rattle.shr_assemble.proofs.WalkingWell.{IsTableOf}
 use Rattle.shr_assemble.proofs.WalkingGives.{Freed}
 use Rattle.shr_assemble.proofs.WalkingCharges.{walks_charge}
 use Rattle.shr_assemble.proofs.Filling.{set_walked}
@@ -9,13 +9,7 @@ use Rattle.shr_assemble.proofs.WalkingSteps.{OnlyScan, step_of, Walked}
 
 pub may_make : (x : Shared) (by : Serial) (c : Option Command) (a : Answered) (s t : WorkerState) (w : Work) (m : Made) (e : Entry) → OnlyScan by (length s.walks) w.walks m e → MayMakeEntry x.script (step_of x.script by c a s t w) m e
 may_make x by c a s t w m (Scan worker n asked policy visits freed stopped) h = inl (record { own = h.own; index = h.index; number = h.number; walk = h.walk; there = h.there; passes = h.passes })
-may_make x by c a s t w m (Add by' birth added key value) h = absurd h
-may_make x by c a s t w m (Look by' birth key hit) h = absurd h
-may_make x by c a s t w m (Drop by' birth key kind) h = absurd h
-may_make x by c a s t w m (Pin by' birth key pinned hit) h = absurd h
-may_make x by c a s t w m (MovedIn child objects) h = absurd h
-may_make x by c a s t w m Closed h = absurd h
-may_make x by c a s t w m (Drained by' objects) h = absurd h
+may_make x by c a s t w m e h = absurd h
 
 -- a step with its work
 pub record Stepping (x : Shared) (by : Serial) (c : Option Command) (a : Answered) (s t : WorkerState) : Type 0 where
@@ -82,16 +76,15 @@ walks_did x table by c r s t w walked freed born charges uncharges is = record {
     meets = is.meets;
   };
   cause = is.cause;
-}
-  where
-    step : Step
-    step = step_of x.script by c (unfound r) s t w
+} where
+  step : Step
+  step = step_of x.script by c (unfound r) s t w
 
-    taken_by : Place → Carry → ℕ
-    taken_by p k = cond (is_place p k.place) k.amount 0
+  taken_by : Place → Carry → ℕ
+  taken_by p k = cond (is_place p k.place) k.amount 0
 
-    given_by : Place → Carry → ℕ
-    given_by p k = cond (is_below (parents_of x.script) p k.place) k.amount 0
+  given_by : Place → Carry → ℕ
+  given_by p k = cond (is_below (parents_of x.script) p k.place) k.amount 0
 
-    no_pairs : (R : Carry → Carry → Type 0) → AllPairs R []
-    no_pairs R = λ i j d a b. absurd (omega (arith, b))
+  no_pairs : (R : Carry → Carry → Type 0) → AllPairs R []
+  no_pairs R = λ i j d a b. absurd (omega (arith, b))

@@ -1,12 +1,9 @@
 -- The lists of a walk's work are those that its record tells of.
-use Rattle.shr_assemble.proofs.Common.{◌≡◌, ℕ, zero, suc, ◌+◌, ◌<◌, ◌≤◌, ⊎_elim, Bool, true, false, ◌&&◌, cond, List, [], ◌∷◌, ◌++◌, length, map, sym, refl, ap, subst, ◌∙◌, arith, eq-eqb, slice_get, Option, Some, None, flat_map, filter, filter_map, sum_by, ◌==◌, cons_option, sum_by-cons, sum_by-append, same_Some, none-some, Scan, Policy, Place, Attempt, Outcome, PassRecord, pass_of, is_clearing, amount_of, amount_at, sum_at, place_number, is_place, is_place_itself, takes_of, gives_of, takes_both, gives_both, Each, Each-append, Each-none, Made, IsScanOf, scan_at, IsScanMade, AreScannedBy, WalkParts, AreParts, Shared, Walk, map-append, WordStep, told_step, is_setting, steps_passed}
+use Rattle.shr_assemble.proofs.Common.{◌≡◌, ℕ, zero, suc, ◌+◌, ◌<◌, ◌≤◌, ⊎_elim, Bool, true, false, ◌&&◌, cond, List, [], ◌∷◌, ◌++◌, length, map, sym, refl, ap, subst, ◌∙◌, arith, eq-eqb, slice_get, Option, Some, None, flat_map, filter, filter_map, sum_by, ◌==◌, cons_option, sum_by-cons, sum_by-append, same_Some, none-some, Scan, Policy, Place, Attempt, Outcome, PassRecord, pass_of, is_clearing, amount_of, amount_at, sum_at, place_number, is_place, is_place_itself, takes_of, gives_of, takes_both, gives_both, Each, Each-append, Each-none, Made, IsScanOf, scan_at, IsScanMade, AreScannedBy, WalkParts, AreParts, Shared, Walk, map-append, WordStep, told_step, is_setting, steps_passed, list_scan_by, place_of_walk, place_of, cleared_of, set_of, moves_of}
 use Rattle.shr_base.specs.declared.walks.Outcome.TheVariants as outcome
 use Rattle.shr_pass.specs.declared.answers.ScanSeen.{ScanSeen}
 use Rattle.shr_walk.specs.Attempts.{WasHeld}
-use Rattle.shr_walk.specs.Listing.{list_scan_by}
-use Rattle.shr_walk.specs.Records.{place_of_walk}
 use Rattle.shr_walk.specs.Visits.{visit_moves}
-use Rattle.shr_walk.specs.Walked.{place_of, cleared_of, set_of, moves_of}
 use Rattle.shr_assemble.proofs.WalkingParts.{found_cases}
 use Rattle.shr_assemble.proofs.WalkingRecord.{listed, same_cleared, same_set, same_passes}
 use Rattle.shr_walk.proofs.Passing.{scan_is}
@@ -34,23 +31,11 @@ module _ (walk : Walk) where
 -- ---- what passes took and gave
 visit_takes : (place : Place) (o : Outcome) → takes_of (visit_moves place o) ≡ map (λ (q : PassRecord). amount_of place q.nr) (listed (pass_of o))
 visit_takes place (outcome.Worn seen) = refl
-visit_takes place (outcome.Gone n then) = refl
-visit_takes place (outcome.Skip n len version) = refl
-visit_takes place (outcome.Ran n p) = refl
-visit_takes place (outcome.Empty n version) = refl
-visit_takes place (outcome.Cleared n first second) = refl
-visit_takes place (outcome.RestoredSkip n first len version) = refl
-visit_takes place (outcome.RestoredRan n first p) = refl
+visit_takes place o = refl
 
 visit_gives : (place : Place) (o : Outcome) → gives_of (visit_moves place o) ≡ map (λ (q : PassRecord). amount_of place q.next) (listed (pass_of o))
 visit_gives place (outcome.Worn seen) = refl
-visit_gives place (outcome.Gone n then) = refl
-visit_gives place (outcome.Skip n len version) = refl
-visit_gives place (outcome.Ran n p) = refl
-visit_gives place (outcome.Empty n version) = refl
-visit_gives place (outcome.Cleared n first second) = refl
-visit_gives place (outcome.RestoredSkip n first len version) = refl
-visit_gives place (outcome.RestoredRan n first p) = refl
+visit_gives place o = refl
 
 module _ (p : Place) (f : PassRecord → ℕ) where
   one_pass : (t : Bool) (place : Place) → is_place p place ≡ t → (o : Option PassRecord) (rest : List PassRecord) → sum_at p (map (λ (q : PassRecord). amount_of place (f q)) (listed o)) + sum_by f rest ≡ sum_by f (cond t (cons_option o rest) rest)
@@ -83,13 +68,7 @@ all_given p walk (a ∷ l) = let e = ap (sum_at p) (gives_both (visit_moves (pla
 -- the moves of a walk, in their order
 visit_steps : (place : Place) (o : Outcome) → map told_step (visit_moves place o) ≡ steps_passed place (pass_of o)
 visit_steps place (outcome.Worn seen) = refl
-visit_steps place (outcome.Gone n then) = refl
-visit_steps place (outcome.Skip n len version) = refl
-visit_steps place (outcome.Ran n p) = refl
-visit_steps place (outcome.Empty n version) = refl
-visit_steps place (outcome.Cleared n first second) = refl
-visit_steps place (outcome.RestoredSkip n first len version) = refl
-visit_steps place (outcome.RestoredRan n first p) = refl
+visit_steps place o = refl
 
 pub all_steps : (walk : Walk) (l : List Attempt) → map told_step (moves_of walk l) ≡ flat_map (λ (a : Attempt). steps_passed (place_of walk a) (pass_of a.outcome)) l
 all_steps walk [] = refl
@@ -124,13 +103,12 @@ module _ (x : Shared) (walk : Walk) where
       (λ none. subst (Each (IsOfAttempt walk (a ∷ l))) (sym none.0.no_entry) (Each-none (IsOfAttempt walk (a ∷ l))))
       (λ some. λ j m at. by_pass (pass_of a.outcome) refl some.0 j m at)
       (found_cases x walk a.id a.outcome i.first i.more i.held q.made q.ops i.found))
-      (λ j m at. let z = of_attempts l s rest j m at in record { k = suc z.k; attempt = z.attempt; at = z.at; pass = z.pass; passed = z.passed; place = z.place; policy = z.policy; scan = z.scan }))
-    where
-      by_pass : (o : Option PassRecord) → pass_of a.outcome ≡ o → WasHeld x walk (place_of_walk walk a.id) a.outcome i.more i.held q.made q.ops → Each (IsOfAttempt walk (a ∷ l)) q.made
-      by_pass (Some p') e' h = λ j m at. let here = h.by.scans j m at in record { k = 0; attempt = a; at = refl; pass = p'; passed = e'; place = here.0; policy = h.d.policy; scan = here.1 }
-      by_pass None e' h = let none : q.made ≡ [] = none_there (place_number (place_of_walk walk a.id)) walk.by.worker walk.number h.d.policy q.made h.by.scans
-          (subst (λ ps. AreScannedBy walk.priority h.d.seeks h.d.batch ps (filter_map (scan_at (place_number (place_of_walk walk a.id)) walk.by.worker walk.number) q.made)) (same_passes a.outcome ∙ ap listed e') h.by.scanned) in
-          subst (Each (IsOfAttempt walk (a ∷ l))) (sym none) (Each-none (IsOfAttempt walk (a ∷ l)))
+      (λ j m at. let z = of_attempts l s rest j m at in record { k = suc z.k; attempt = z.attempt; at = z.at; pass = z.pass; passed = z.passed; place = z.place; policy = z.policy; scan = z.scan })) where
+        by_pass : (o : Option PassRecord) → pass_of a.outcome ≡ o → WasHeld x walk (place_of_walk walk a.id) a.outcome i.more i.held q.made q.ops → Each (IsOfAttempt walk (a ∷ l)) q.made
+        by_pass (Some p') e' h = λ j m at. let here = h.by.scans j m at in record { k = 0; attempt = a; at = refl; pass = p'; passed = e'; place = here.0; policy = h.d.policy; scan = here.1 }
+        by_pass None e' h = let none : q.made ≡ [] = none_there (place_number (place_of_walk walk a.id)) walk.by.worker walk.number h.d.policy q.made h.by.scans
+            (subst (λ ps. AreScannedBy walk.priority h.d.seeks h.d.batch ps (filter_map (scan_at (place_number (place_of_walk walk a.id)) walk.by.worker walk.number) q.made)) (same_passes a.outcome ∙ ap listed e') h.by.scanned) in
+            subst (Each (IsOfAttempt walk (a ∷ l))) (sym none) (Each-none (IsOfAttempt walk (a ∷ l)))
 
 -- the pass of an attempt at a place is among those there
 pub pass_there : (p : Place) (f : PassRecord → ℕ) (walk : Walk) (l : List Attempt) (k : ℕ) (a : Attempt) (q : PassRecord) → slice_get l k ≡ Some a → pass_of a.outcome ≡ Some q → p ≡ place_of walk a → 0 < length (passes_near p f walk l)
@@ -141,9 +119,8 @@ pass_there p f walk (b ∷ l) zero a q at passed here =
     let e : length (passes_near p f walk (b ∷ l)) ≡ suc (length (passes_near p f walk l)) = ap (λ t. length (filter_map (λ (c : Attempt). pass_of c.outcome) (cond t (b ∷ filter (λ (c : Attempt). is_place p (place_of walk c)) l) (filter (λ (c : Attempt). is_place p (place_of walk c)) l)))) yes
     ∙ ap (λ o. length (cons_option o (passes_near p f walk l))) (ap (λ (z : Attempt). pass_of z.outcome) same ∙ passed) in omega (arith, e)
 pass_there p f walk (b ∷ l) (suc k) a q at passed here = let lt = pass_there p f walk l k a q at passed here in
-    let n = more_near (is_place p (place_of walk b)) b (filter (λ (c : Attempt). is_place p (place_of walk c)) l) (pass_of b.outcome) refl in omega (arith, lt, n)
-  where
-    more_near : (t : Bool) (b : Attempt) (l : List Attempt) (o : Option PassRecord) → pass_of b.outcome ≡ o → length (filter_map (λ (c : Attempt). pass_of c.outcome) l) ≤ length (filter_map (λ (c : Attempt). pass_of c.outcome) (cond t (b ∷ l) l))
-    more_near false b l o e = omega arith
-    more_near true b l None e = let d = ap (λ z. length (cons_option z (filter_map (λ (c : Attempt). pass_of c.outcome) l))) e in omega (arith, d)
-    more_near true b l (Some r) e = let d = ap (λ z. length (cons_option z (filter_map (λ (c : Attempt). pass_of c.outcome) l))) e in omega (arith, d)
+    let n = more_near (is_place p (place_of walk b)) b (filter (λ (c : Attempt). is_place p (place_of walk c)) l) (pass_of b.outcome) refl in omega (arith, lt, n) where
+      more_near : (t : Bool) (b : Attempt) (l : List Attempt) (o : Option PassRecord) → pass_of b.outcome ≡ o → length (filter_map (λ (c : Attempt). pass_of c.outcome) l) ≤ length (filter_map (λ (c : Attempt). pass_of c.outcome) (cond t (b ∷ l) l))
+      more_near false b l o e = omega arith
+      more_near true b l None e = let d = ap (λ z. length (cons_option z (filter_map (λ (c : Attempt). pass_of c.outcome) l))) e in omega (arith, d)
+      more_near true b l (Some r) e = let d = ap (λ z. length (cons_option z (filter_map (λ (c : Attempt). pass_of c.outcome) l))) e in omega (arith, d)

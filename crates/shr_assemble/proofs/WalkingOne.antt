@@ -1,15 +1,14 @@
 -- One walk: from its record and its work to what the report asks of it.
-use Rattle.shr_assemble.proofs.Common.{◌≡◌, ℕ, zero, suc, ◌+◌, ◌<◌, ◌≤◌, ◌⊎◌, ⊎_elim, true, false, List, [], ◌∷◌, length, map, sym, refl, ap, subst, ◌∙◌, arith, slice_get, Option, Some, filter_map, sum_by, ◌&&◌, append-nil, same_Some, none-some, Kept, Entry, Add, Look, Drop, Pin, Scan, MovedIn, Closed, Drained, Policy, Answered, Spent, CacheDecl, Command, Attempt, MapSeen, PassRecord, WalkAnswer, WalkRecord, number_of, is_held, pass_of, sum_at, place_number, passes_at, Moves, takes_of, gives_of, Each, place_at, Made, shape_of, place_back, parents_of, IsThere, AreScansOf, AreFresh, IsScanOf, scan_at, AreScannedBy, WornSeen, PassSeen, IsWalkSeen, IsRecordOf, record_of, parts_of, number_in, WorkerState, Work, Does, Shared, Walk, IsAmong, DidPass, DidAttempt, HasMetCache, lookup_numbered, KnowsOnline, IsRecord, DidWalk, IsWornBy, told_step, Rise}
+use Rattle.shr_assemble.proofs.Common.{◌≡◌, ℕ, zero, suc, ◌+◌, ◌<◌, ◌≤◌, ◌⊎◌, ⊎_elim, true, false, List, [], ◌∷◌, length, map, sym, refl, ap, subst, ◌∙◌, arith, slice_get, Option, Some, filter_map, sum_by, ◌&&◌, append-nil, same_Some, none-some, Kept, Entry, Add, Look, Drop, Pin, Scan, MovedIn, Closed, Drained, Policy, Answered, Spent, CacheDecl, Command, Attempt, MapSeen, PassRecord, WalkAnswer, WalkRecord, number_of, is_held, pass_of, sum_at, place_number, passes_at, Moves, takes_of, gives_of, Each, place_at, Made, shape_of, place_back, parents_of, IsThere, AreScansOf, AreFresh, IsScanOf, scan_at, AreScannedBy, WornSeen, PassSeen, IsWalkSeen, IsRecordOf, record_of, parts_of, number_in, WorkerState, Work, Does, Shared, Walk, IsAmong, DidPass, DidAttempt, HasMetCache, lookup_numbered, KnowsOnline, IsRecord, DidWalk, IsWornBy, told_step, Rise, place_of_walk, AreLater, AreStopped, IsWalkNumber, id_of_attempt}
 use Rattle.std.specs.Option.{is_some}
 use Rattle.shr_base.specs.declared.walks.WalkAnswer.TheVariants as answered
 use Rattle.shr_charge.specs.Views as charge
 use Rattle.shr_charge.specs.declared.answers.GroupState.TheVariants as state
 use Rattle.shr_walk.specs.Attempts.{Found}
 use Rattle.shr_walk.specs.Attempts as attempts
-use Rattle.shr_walk.specs.Records.{place_of_walk, AreLater, AreStopped}
-use Rattle.shr_walk.specs.Walked.{IsWalkNumber, id_of_attempt, counts_of}
+use Rattle.shr_walk.specs.Walked.{counts_of}
 use Rattle.shr_assemble.proofs.WornSeen.{seen_worn}
-use Rattle.shr_assemble.proofs.WalkingTold.{IsTableOf, seen_id, seen_pass}
+use Rattle.shr_assemble.proofs.WalkingWell.{IsTableOf, seen_id, seen_pass}
 use Rattle.shr_assemble.proofs.WalkingParts.{PartAt, part_at, part_scans, tries_one, pass_is, found_cases, found_held}
 use Rattle.shr_assemble.proofs.WalkingRecord.{same_counts, same_numbers, outcome_kind, stopped}
 use Rattle.shr_assemble.proofs.WalkingLists.{passes_near, flat_same, all_cleared, all_set, all_taken, all_given, all_steps, IsOfAttempt, of_attempts, pass_there}
@@ -36,13 +35,7 @@ pub record OneWalk (x : Shared) (walk : Walk) (maps : Kept MapSeen) (tries : Kep
 
 only_scan : (walk : Walk) (start : ℕ) (r : WalkRecord) (m : Made) (policy : Policy) (e : Entry) → walk.number ≡ start → 0 < length (passes_at (place_at m.place) r) → IsScanOf walk.by.worker walk.number policy e → OnlyScan walk.by start (r ∷ []) m e
 only_scan walk start r m policy (Scan w n asked p visits freed stopped) number passes h = let k = h.1 in record { own = h.0; index = 0; number = omega (arith, k, number); walk = r; there = refl; passes = passes }
-only_scan walk start r m policy (Add by birth added key value) number passes h = absurd h
-only_scan walk start r m policy (Look by birth key hit) number passes h = absurd h
-only_scan walk start r m policy (Drop by birth key kind) number passes h = absurd h
-only_scan walk start r m policy (Pin by birth key pinned hit) number passes h = absurd h
-only_scan walk start r m policy (MovedIn child objects) number passes h = absurd h
-only_scan walk start r m policy Closed number passes h = absurd h
-only_scan walk start r m policy (Drained by objects) number passes h = absurd h
+only_scan walk start r m policy e number passes h = absurd h
 
 module _ (x : Shared) (table : IsTableOf x) (walk : Walk) (c : Option Command) (a : Answered) (maps : Kept MapSeen) (tries : Kept Attempt) (answer : WalkAnswer) (words : List charge.LoadedState) (w : Work) (s t : WorkerState) (one : OneWalk x walk maps tries answer words w s t) where
   abbrev r_of : WalkRecord
@@ -61,39 +54,38 @@ module _ (x : Shared) (table : IsTableOf x) (walk : Walk) (c : Option Command) (
     held = λ number e held. was_held number e (found_held x walk y.id y.outcome part.is.first part.is.more part.is.held part.part.made part.part.ops part.is.found held);
     worn = λ seen e. let f = subst (λ o. Found x walk y.id o part.is.first part.is.more part.is.held part.part.made part.part.ops) e part.is.found in
         let at_least = f.1 in (part.is.first, part.loaded _ (subst (λ l. IsAmong (record { id = y.id; word = part.is.first }) l) (sym part.is.loaded) (0, refl)), f.0, omega (arith, at_least));
-  }
-    where
-      part : PartAt x walk y (parts_of w)
-      part = part_at x walk tries.items (parts_of w) one.is.parts one.rise k y at
+  } where
+    part : PartAt x walk y (parts_of w)
+    part = part_at x walk tries.items (parts_of w) one.is.parts one.rise k y at
 
-      found : (attempts.MadeNone part.is.more part.is.held part.part.made part.part.ops × (is_held y.outcome ≡ false)) ⊎ (attempts.WasHeld x walk (place_of_walk walk y.id) y.outcome part.is.more part.is.held part.part.made part.part.ops × (is_held y.outcome ≡ true))
-      found = found_cases x walk y.id y.outcome part.is.first part.is.more part.is.held part.part.made part.part.ops part.is.found
+    found : (attempts.MadeNone part.is.more part.is.held part.part.made part.part.ops × (is_held y.outcome ≡ false)) ⊎ (attempts.WasHeld x walk (place_of_walk walk y.id) y.outcome part.is.more part.is.held part.part.made part.part.ops × (is_held y.outcome ≡ true))
+    found = found_cases x walk y.id y.outcome part.is.first part.is.more part.is.held part.part.made part.part.ops part.is.found
 
-      tried_one : (number : ℕ) → number_of y.outcome ≡ Some number → IsAmong (record { id = y.id; number = number; held = part.is.held }) w.core.attempts
-      tried_one number e = part.tried _ (subst (λ l. IsAmong (record { id = y.id; number = number; held = part.is.held }) l) (sym (part.is.tried ∙ tries_one y.id y.outcome part.is.held number e)) (0, refl))
+    tried_one : (number : ℕ) → number_of y.outcome ≡ Some number → IsAmong (record { id = y.id; number = number; held = part.is.held }) w.core.attempts
+    tried_one number e = part.tried _ (subst (λ l. IsAmong (record { id = y.id; number = number; held = part.is.held }) l) (sym (part.is.tried ∙ tries_one y.id y.outcome part.is.held number e)) (0, refl))
 
-      did_pass : (d : CacheDecl) (p : PassRecord) → pass_of y.outcome ≡ Some p → attempts.IsVisitMade x walk (place_of_walk walk y.id) d y.outcome part.part.made part.part.ops → DidPass x.script (step_of x.script walk.by c a s t (whole w words r_of)) walk.number r_of (place_of_walk walk y.id) d p
-      did_pass d p e by =
-          let is = pass_is y.outcome p e in
-          let scanned : AreScannedBy walk.priority d.seeks d.batch (p ∷ []) (filter_map (scan_at (place_number (place_of_walk walk y.id)) walk.by.worker walk.number) part.part.made) = subst (λ ps. AreScannedBy walk.priority d.seeks d.batch ps (filter_map (scan_at (place_number (place_of_walk walk y.id)) walk.by.worker walk.number) part.part.made)) is by.scanned in
-          let later : Each (λ (m : Made). p.version ≤ m.number) part.part.made = subst (λ ps. AreLater ps part.part.made) is by.later in
-          let stops = subst (λ ps. AreStopped (d.fs && walk.nofs) walk.priority d.seeks d.batch ps) is by.stopped in
-          let told : PassSeen x (place_of_walk walk y.id) t p = seen_pass x table walk maps.items tries.items s t w one.seen k y p at e in record {
-            scans = subst (AreScansOf walk.priority d p) (sym (part.scans walk.by.worker walk.number)) (part_scans (place_number (place_of_walk walk y.id)) walk.by.worker walk.number walk.priority d p part.part.made by.scans scanned.0 later);
-            stops = stopped r_of d p scanned.1 stops;
-            closed = told.closed;
-            worn = λ z ended. worn_by k y at z (told.worn z ended);
-          }
+    did_pass : (d : CacheDecl) (p : PassRecord) → pass_of y.outcome ≡ Some p → attempts.IsVisitMade x walk (place_of_walk walk y.id) d y.outcome part.part.made part.part.ops → DidPass x.script (step_of x.script walk.by c a s t (whole w words r_of)) walk.number r_of (place_of_walk walk y.id) d p
+    did_pass d p e by =
+        let is = pass_is y.outcome p e in
+        let scanned : AreScannedBy walk.priority d.seeks d.batch (p ∷ []) (filter_map (scan_at (place_number (place_of_walk walk y.id)) walk.by.worker walk.number) part.part.made) = subst (λ ps. AreScannedBy walk.priority d.seeks d.batch ps (filter_map (scan_at (place_number (place_of_walk walk y.id)) walk.by.worker walk.number) part.part.made)) is by.scanned in
+        let later : Each (λ (m : Made). p.version ≤ m.number) part.part.made = subst (λ ps. AreLater ps part.part.made) is by.later in
+        let stops = subst (λ ps. AreStopped (d.fs && walk.nofs) walk.priority d.seeks d.batch ps) is by.stopped in
+        let told : PassSeen x (place_of_walk walk y.id) t p = seen_pass x table walk maps.items tries.items s t w one.seen k y p at e in record {
+          scans = subst (AreScansOf walk.priority d p) (sym (part.scans walk.by.worker walk.number)) (part_scans (place_number (place_of_walk walk y.id)) walk.by.worker walk.number walk.priority d p part.part.made by.scans scanned.0 later);
+          stops = stopped r_of d p scanned.1 stops;
+          closed = told.closed;
+          worn = λ z ended. worn_by k y at z (told.worn z ended);
+        }
 
-      was_held : (number : ℕ) → number_of y.outcome ≡ Some number → attempts.WasHeld x walk (place_of_walk walk y.id) y.outcome part.is.more part.is.held part.part.made part.part.ops → HasMetCache x.script (step_of x.script walk.by c a s t (whole w words r_of)) walk.number r_of y number
-      was_held number e h = record {
-        decl = h.decl;
-        tried = subst (λ o. IsAmong (record { id = y.id; number = number; held = o }) w.core.attempts) h.is_held (tried_one number e);
-        cache = h.d;
-        declared = h.declared;
-        kind = outcome_kind x walk (place_of_walk walk y.id) h.d y.outcome part.part.made part.part.ops h.by;
-        pass = λ p passed. did_pass h.d p passed h.by;
-      }
+    was_held : (number : ℕ) → number_of y.outcome ≡ Some number → attempts.WasHeld x walk (place_of_walk walk y.id) y.outcome part.is.more part.is.held part.part.made part.part.ops → HasMetCache x.script (step_of x.script walk.by c a s t (whole w words r_of)) walk.number r_of y number
+    was_held number e h = record {
+      decl = h.decl;
+      tried = subst (λ o. IsAmong (record { id = y.id; number = number; held = o }) w.core.attempts) h.is_held (tried_one number e);
+      cache = h.d;
+      declared = h.declared;
+      kind = outcome_kind x walk (place_of_walk walk y.id) h.d y.outcome part.part.made part.part.ops h.by;
+      pass = λ p passed. did_pass h.d p passed h.by;
+    }
 
   did_walk : DidWalk x.script (step_of x.script walk.by c a s t (whole w words r_of)) walk.number r_of
   did_walk = record {
@@ -131,9 +123,8 @@ module _ (x : Shared) (table : IsTableOf x) (walk : Walk) (c : Option Command) (
     turns = one.is.turns;
     tree = one.is.tree;
     carries = one.is.carries;
-  }
-    where
-      only : (i : ℕ) (r : WalkRecord) → slice_get (r_of ∷ []) i ≡ Some r → DidWalk x.script (step_of x.script walk.by c a s t (whole w words r_of)) (length s.walks + i) r
-      only zero r e = subst (λ (q : WalkRecord). DidWalk x.script (step_of x.script walk.by c a s t (whole w words r_of)) (length s.walks + 0) q) (same_Some r_of r e)
-          (subst (λ n. DidWalk x.script (step_of x.script walk.by c a s t (whole w words r_of)) n r_of) (let n = one.number in let e' : walk.number ≡ length s.walks + 0 = omega (arith, n) in e') did_walk)
-      only (suc i) r e = absurd (none-some r e)
+  } where
+    only : (i : ℕ) (r : WalkRecord) → slice_get (r_of ∷ []) i ≡ Some r → DidWalk x.script (step_of x.script walk.by c a s t (whole w words r_of)) (length s.walks + i) r
+    only zero r e = subst (λ (q : WalkRecord). DidWalk x.script (step_of x.script walk.by c a s t (whole w words r_of)) (length s.walks + 0) q) (same_Some r_of r e)
+        (subst (λ n. DidWalk x.script (step_of x.script walk.by c a s t (whole w words r_of)) n r_of) (let n = one.number in let e' : walk.number ≡ length s.walks + 0 = omega (arith, n) in e') did_walk)
+    only (suc i) r e = absurd (none-some r e)

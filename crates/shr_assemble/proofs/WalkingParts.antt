@@ -1,12 +1,10 @@
 -- The part that each attempt of a walk has in the walk's work.
-use Rattle.shr_assemble.proofs.Common.{◌≡◌, ℕ, zero, suc, ◌-◌, ◌<◌, ◌≤◌, ◌≢◌, ◌⊎◌, inl, inr, ⊎_elim, Bool, true, false, ◌&&◌, cond, List, [], ◌∷◌, ◌++◌, length, map, take, sym, refl, ap, subst, ◌∙◌, arith, ne_eqb, sum, slice_get, Option, Some, None, filter_map, ◌==◌, AllByRecursion, cons_option, append-nil, filter_map-append, sum-map, same_Some, none-some, LookupWord, Entry, Add, Look, Drop, Pin, Scan, MovedIn, Closed, Drained, UseStep, Policy, CacheDecl, Attempt, Outcome, PassRecord, number_of, is_held, pass_of, place_number, ScanMade, scan_by, Each, Each-append, Each-none, Made, Loaded, Tried, AreScansOf, IsScanOf, passes_in, IsScanMade, WalkParts, AreParts, Shared, Walk, IsAmong, scan_made, scans_made, Rise, cache_asks_due}
+use Rattle.shr_assemble.proofs.Common.{◌≡◌, ℕ, zero, suc, ◌-◌, ◌<◌, ◌≤◌, ◌≢◌, ◌⊎◌, inl, inr, ⊎_elim, Bool, true, false, ◌&&◌, cond, List, [], ◌∷◌, ◌++◌, length, map, take, sym, refl, ap, subst, ◌∙◌, arith, ne_eqb, sum, slice_get, Option, Some, None, filter_map, ◌==◌, AllByRecursion, cons_option, append-nil, filter_map-append, sum-map, same_Some, none-some, LookupWord, Entry, Add, Look, Drop, Pin, Scan, MovedIn, Closed, Drained, UseStep, Policy, CacheDecl, Attempt, Outcome, PassRecord, number_of, is_held, pass_of, place_number, ScanMade, scan_by, Each, Each-append, Each-none, Made, Loaded, Tried, AreScansOf, IsScanOf, passes_in, IsScanMade, WalkParts, AreParts, Shared, Walk, IsAmong, scan_made, scans_made, Rise, cache_asks_due, place_of_walk, IsScannedBy, IsPart, id_of_attempt}
 use Rattle.shr_base.specs.declared.walks.Outcome.TheVariants as outcome
 use Rattle.shr_pass.specs.declared.answers.ScanSeen.{ScanSeen}
 use Rattle.shr_pass.specs.Passes.{asked_of, scan_freed}
 use Rattle.shr_walk.specs.Attempts.{MadeNone, WasHeld, Found, tries_in}
 use Rattle.shr_walk.specs.Listing as listing
-use Rattle.shr_walk.specs.Records.{place_of_walk, IsScannedBy}
-use Rattle.shr_walk.specs.Walked.{IsPart, id_of_attempt}
 use Rattle.shr_assemble.proofs.Gathering.{among_left, among_right}
 
 -- an attempt found a held cache, or made nothing
@@ -14,12 +12,7 @@ pub found_cases : (x : Shared) (walk : Walk) (id : ℕ) (o : Outcome) (first : L
     → Found x walk id o first more held made ops → (MadeNone more held made ops × (is_held o ≡ false)) ⊎ (WasHeld x walk (place_of_walk walk id) o more held made ops × (is_held o ≡ true))
 found_cases x walk id (outcome.Worn seen) first more held made ops f = inl (f.3, refl)
 found_cases x walk id (outcome.Gone n then) first more held made ops f = inl (f.1, refl)
-found_cases x walk id (outcome.Skip n len version) first more held made ops f = inr (f, refl)
-found_cases x walk id (outcome.Ran n p) first more held made ops f = inr (f, refl)
-found_cases x walk id (outcome.Empty n version) first more held made ops f = inr (f, refl)
-found_cases x walk id (outcome.Cleared n one second) first more held made ops f = inr (f, refl)
-found_cases x walk id (outcome.RestoredSkip n one len version) first more held made ops f = inr (f, refl)
-found_cases x walk id (outcome.RestoredRan n one p) first more held made ops f = inr (f, refl)
+found_cases x walk id o first more held made ops f = inr (f, refl)
 
 pub found_held : (x : Shared) (walk : Walk) (id : ℕ) (o : Outcome) (first : LookupWord) (more : List Loaded) (held : Option ℕ) (made : List Made) (ops : List UseStep)
     → Found x walk id o first more held made ops → is_held o ≡ true → WasHeld x walk (place_of_walk walk id) o more held made ops
@@ -28,28 +21,15 @@ found_held x walk id o first more held made ops f h = ⊎_elim (λ none. absurd 
 -- the lookup of an attempt that has a number
 pub tries_one : (id : ℕ) (o : Outcome) (held : Option ℕ) (number : ℕ) → number_of o ≡ Some number → tries_in id o held ≡ record { id = id; number = number; held = held } ∷ []
 tries_one id (outcome.Worn seen) held number e = absurd (none-some number e)
-tries_one id (outcome.Gone n then) held number e = ap (λ k. record { id = id; number = k; held = held } ∷ []) (same_Some n number e)
-tries_one id (outcome.Skip n len version) held number e = ap (λ k. record { id = id; number = k; held = held } ∷ []) (same_Some n number e)
-tries_one id (outcome.Ran n p) held number e = ap (λ k. record { id = id; number = k; held = held } ∷ []) (same_Some n number e)
-tries_one id (outcome.Empty n version) held number e = ap (λ k. record { id = id; number = k; held = held } ∷ []) (same_Some n number e)
-tries_one id (outcome.Cleared n one second) held number e = ap (λ k. record { id = id; number = k; held = held } ∷ []) (same_Some n number e)
-tries_one id (outcome.RestoredSkip n one len version) held number e = ap (λ k. record { id = id; number = k; held = held } ∷ []) (same_Some n number e)
-tries_one id (outcome.RestoredRan n one p) held number e = ap (λ k. record { id = id; number = k; held = held } ∷ []) (same_Some n number e)
+tries_one id o held number e = ap (λ k. record { id = id; number = k; held = held } ∷ []) (same_Some _ number e)
 
 -- the pass of an outcome is its one pass
 pub pass_is : (o : Outcome) (p : PassRecord) → pass_of o ≡ Some p → passes_in o ≡ p ∷ []
-pass_is (outcome.Worn seen) p e = absurd (none-some p e)
-pass_is (outcome.Gone n then) p e = absurd (none-some p e)
-pass_is (outcome.Skip n len version) p e = absurd (none-some p e)
 pass_is (outcome.Ran n q) p e = ap (λ z. z ∷ []) (same_Some q p e)
-pass_is (outcome.Empty n version) p e = absurd (none-some p e)
-pass_is (outcome.Cleared n one second) p e = absurd (none-some p e)
-pass_is (outcome.RestoredSkip n one len version) p e = absurd (none-some p e)
 pass_is (outcome.RestoredRan n one q) p e = ap (λ z. z ∷ []) (same_Some q p e)
+pass_is o p e = absurd (none-some p e)
 
 -- ---- the Scan entries of a part, as the report counts them
-forget : ScanMade → ScanSeen
-forget z = record { asked = z.asked; freed = z.freed }
 
 abbrev forget_some : Option ScanMade → Option ScanSeen
 forget_some None = None
@@ -57,23 +37,11 @@ forget_some (Some z) = Some (record { asked = z.asked; freed = z.freed })
 
 module _ (k worker walk : ℕ) where
   forget_entry : (number : ℕ) (e : Entry) → forget_some (scan_by worker walk number e) ≡ listing.list_scan_by worker walk e
-  forget_entry number (Scan w s asked policy visits freed stopped) = by_test ((w == worker) && (s == walk)) where
-    by_test : (b : Bool) → forget_some (cond b (Some (record { number = number; asked = asked; policy = policy; freed = freed })) None) ≡ cond b (Some (record { asked = asked; freed = freed })) None
-    by_test true = refl
-    by_test false = refl
-  forget_entry number (Add by birth added key value) = refl
-  forget_entry number (Look by birth key hit) = refl
-  forget_entry number (Drop by birth key kind) = refl
-  forget_entry number (Pin by birth key pinned hit) = refl
-  forget_entry number (MovedIn child objects) = refl
-  forget_entry number Closed = refl
-  forget_entry number (Drained by objects) = refl
+  forget_entry number (Scan w s asked policy visits freed stopped) = elim ((w == worker) && (s == walk)) as (λ (b : Bool). forget_some (cond b (Some (record { number = number; asked = asked; policy = policy; freed = freed })) None) ≡ cond b (Some (record { asked = asked; freed = freed })) None) [ true ↦ refl | false ↦ refl ]
+  forget_entry number e = refl
 
   forget_made : (m : Made) → forget_some (scan_made k worker walk m) ≡ listing.scan_at k worker walk m
-  forget_made m = by_test (m.place == k) where
-    by_test : (b : Bool) → forget_some (cond b (scan_by worker walk m.number m.entry) None) ≡ cond b (listing.list_scan_by worker walk m.entry) None
-    by_test true = forget_entry m.number m.entry
-    by_test false = refl
+  forget_made m = elim (m.place == k) as (λ (b : Bool). forget_some (cond b (scan_by worker walk m.number m.entry) None) ≡ cond b (listing.list_scan_by worker walk m.entry) None) [ true ↦ forget_entry m.number m.entry | false ↦ refl ]
 
   pub same_asked : (made : List Made) → map (λ (z : ScanMade). z.asked) (scans_made k worker walk made) ≡ map asked_of (filter_map (listing.scan_at k worker walk) made)
   same_asked [] = refl
@@ -102,23 +70,11 @@ module _ (k worker walk : ℕ) where
   IsScanWith policy number (Some z) = (z.policy ≡ policy) × (z.number ≡ number)
 
   scan_with : (policy : Policy) (number : ℕ) (e : Entry) → IsScanOf worker walk policy e → IsScanWith policy number (scan_by worker walk number e)
-  scan_with policy number (Scan w s asked p visits freed stopped) h = by_test ((w == worker) && (s == walk)) where
-    by_test : (b : Bool) → IsScanWith policy number (cond b (Some (record { number = number; asked = asked; policy = p; freed = freed })) None)
-    by_test true = (h.2, refl)
-    by_test false = tt
-  scan_with policy number (Add by birth added key value) h = absurd h
-  scan_with policy number (Look by birth key hit) h = absurd h
-  scan_with policy number (Drop by birth key kind) h = absurd h
-  scan_with policy number (Pin by birth key pinned hit) h = absurd h
-  scan_with policy number (MovedIn child objects) h = absurd h
-  scan_with policy number Closed h = absurd h
-  scan_with policy number (Drained by objects) h = absurd h
+  scan_with policy number (Scan w s asked p visits freed stopped) h = elim ((w == worker) && (s == walk)) as (λ (b : Bool). IsScanWith policy number (cond b (Some (record { number = number; asked = asked; policy = p; freed = freed })) None)) [ true ↦ (h.2, refl) | false ↦ tt ]
+  scan_with policy number e h = absurd h
 
   made_with : (policy : Policy) (m : Made) → IsScanMade k worker walk policy m → IsScanWith policy m.number (scan_made k worker walk m)
-  made_with policy m h = by_test (m.place == k) where
-    by_test : (b : Bool) → IsScanWith policy m.number (cond b (scan_by worker walk m.number m.entry) None)
-    by_test true = scan_with policy m.number m.entry h.1
-    by_test false = tt
+  made_with policy m h = elim (m.place == k) as (λ (b : Bool). IsScanWith policy m.number (cond b (scan_by worker walk m.number m.entry) None)) [ true ↦ scan_with policy m.number m.entry h.1 | false ↦ tt ]
 
   policies : (policy : Policy) (made : List Made) → Each (IsScanMade k worker walk policy) made → AllByRecursion (λ (z : ScanMade). z.policy ≡ policy) (scans_made k worker walk made)
   policies policy [] h = tt
@@ -194,9 +150,8 @@ module _ (x : Shared) (walk : Walk) where
     loaded = λ y h. subst (λ (v : WalkParts). IsAmong y v.loaded) (sym e) (among_right q.loaded s.loaded y (z.loaded y h));
     scans = λ worker n. ap (λ (v : WalkParts). scans_made (number_at a.id) worker n v.made) e ∙ (filter_map-append (scan_made (number_at a.id) worker n) q.made s.made
         ∙ (ap (λ v. v ++ scans_made (number_at a.id) worker n s.made) (other_scans (number_at a.id) worker n q.made (λ j m there same. let here = part_places b q i j m there in let lt = later_id l k a r.0 at in omega (arith, here, lt, same))) ∙ z.scans worker n));
-  }
-    where
-      later_id : (l : List Attempt) (k : ℕ) (a : Attempt) → AllByRecursion (λ y. b.id < y) (map id_of_attempt l) → slice_get l k ≡ Some a → b.id < a.id
-      later_id [] k a h at = absurd (none-some a at)
-      later_id (c ∷ l) zero a h at = subst (λ (y : Attempt). b.id < y.id) (same_Some c a at) h.0
-      later_id (c ∷ l) (suc k) a h at = later_id l k a h.1 at
+  } where
+    later_id : (l : List Attempt) (k : ℕ) (a : Attempt) → AllByRecursion (λ y. b.id < y) (map id_of_attempt l) → slice_get l k ≡ Some a → b.id < a.id
+    later_id [] k a h at = absurd (none-some a at)
+    later_id (c ∷ l) zero a h at = subst (λ (y : Attempt). b.id < y.id) (same_Some c a at) h.0
+    later_id (c ∷ l) (suc k) a h at = later_id l k a h.1 at

@@ -1,14 +1,13 @@
 -- What the record of a walk says by itself, outcome by outcome.
-use Rattle.shr_assemble.proofs.Common.{◌≡◌, ℕ, zero, suc, ◌+◌, ◌<◌, ◌≤◌, ◌≢◌, ⊎_elim, Bool, true, false, ◌&&◌, cond, List, [], ◌∷◌, ◌++◌, length, length-append, map, sym, refl, ap, subst, ◌∙◌, arith, sum, slice_get, Option, Some, None, flat_map, filter_map, sum_by, All, cons_option, and_parts, and_from, sum_by-cons, sum-map, same_Some, none-some, LookupWord, UseStep, Place, CacheDecl, Attempt, Ending, Outcome, PassRecord, WalkRecord, Count, number_of, pass_of, is_clearing, due, ask_size, batch_of, total_of, place_number, Each, Each-none, Made, Loaded, Counted, IsPlaced, IsOutcomeOf, IsStopped, Rising, passes_in, number_in, IsUncut, IsCutLast, Shared, Walk, lookup_numbered, is_setting, slice_cases, length-replicate, FollowsArithmetic, MadeOf, due_asks}
+use Rattle.shr_assemble.proofs.Common.{◌≡◌, ℕ, zero, suc, ◌+◌, ◌<◌, ◌≤◌, ◌≢◌, ⊎_elim, Bool, true, false, ◌&&◌, cond, List, [], ◌∷◌, ◌++◌, length, length-append, map, sym, refl, ap, subst, ◌∙◌, arith, sum, slice_get, Option, Some, None, flat_map, filter_map, sum_by, All, cons_option, and_parts, and_from, sum_by-cons, sum-map, same_Some, none-some, LookupWord, UseStep, Place, CacheDecl, Attempt, Ending, Outcome, PassRecord, WalkRecord, Count, number_of, pass_of, is_clearing, due, ask_size, batch_of, total_of, place_number, Each, Each-none, Made, Loaded, Counted, IsPlaced, IsOutcomeOf, IsStopped, Rising, passes_in, number_in, IsUncut, IsCutLast, Shared, Walk, lookup_numbered, is_setting, slice_cases, length-replicate, FollowsArithmetic, MadeOf, due_asks, place_of_walk, counts_of_outcome, cleared_by_outcome, set_by_outcome, is_outcome_cut, is_cut_by}
 use Rattle.shr_base.specs.declared.walks.Ending.TheVariants as ending
 use Rattle.shr_base.specs.declared.walks.GoneThen.{GoneThen}
 use Rattle.shr_base.specs.declared.walks.GoneThen.TheVariants as gone
 use Rattle.shr_base.specs.declared.walks.Outcome.TheVariants as outcome
 use Rattle.shr_model.specs.Attempts as model
 use Rattle.shr_walk.specs.Attempts.{Found, IsVisitMade, IsLoadShown}
-use Rattle.shr_walk.specs.Records.{place_of_walk, counts_of_outcome, cleared_by_outcome, set_by_outcome}
 use Rattle.shr_walk.specs.Records as records
-use Rattle.shr_walk.specs.Walked.{counts_of, is_outcome_cut, is_cut_by}
+use Rattle.shr_walk.specs.Walked.{counts_of}
 use Rattle.shr_walk.specs.Walked as walked
 use Rattle.shr_assemble.proofs.Gathering.{among_left}
 use Rattle.shr_assemble.proofs.Listed.{all_slice}
@@ -33,49 +32,21 @@ rising_at walk (b ∷ l) r (suc k) a at = rising_at walk l (rising_right (counts
 
 pub same_counts : (k : ℕ) (o : Outcome) → map (λ (c : Count). record { place = k; len = c.len; version = c.version }) (model.counts_of o) ≡ counts_of_outcome k o
 same_counts k (outcome.Worn seen) = refl
-same_counts k (outcome.Gone n then) = refl
-same_counts k (outcome.Skip n len version) = refl
-same_counts k (outcome.Ran n p) = refl
-same_counts k (outcome.Empty n version) = refl
-same_counts k (outcome.Cleared n first second) = refl
-same_counts k (outcome.RestoredSkip n first len version) = refl
-same_counts k (outcome.RestoredRan n first p) = refl
+same_counts k o = refl
 
 pub same_numbers : (id : ℕ) (o : Outcome) → lookup_numbered id (number_of o) ≡ number_in id o
 same_numbers id (outcome.Worn seen) = refl
-same_numbers id (outcome.Gone n then) = refl
-same_numbers id (outcome.Skip n len version) = refl
-same_numbers id (outcome.Ran n p) = refl
-same_numbers id (outcome.Empty n version) = refl
-same_numbers id (outcome.Cleared n first second) = refl
-same_numbers id (outcome.RestoredSkip n first len version) = refl
-same_numbers id (outcome.RestoredRan n first p) = refl
+same_numbers id o = refl
 
 -- one place, where the attempt cleared its bit
 pub same_cleared : (k : ℕ) (o : Outcome) → cleared_by_outcome k o ≡ cond (is_clearing o) (k ∷ []) []
-same_cleared k (outcome.Worn seen) = refl
 same_cleared k (outcome.Gone n gone.Set) = refl
-same_cleared k (outcome.Gone n gone.Clear) = refl
-same_cleared k (outcome.Gone n gone.Root) = refl
-same_cleared k (outcome.Skip n len version) = refl
-same_cleared k (outcome.Ran n p) = refl
-same_cleared k (outcome.Empty n version) = refl
-same_cleared k (outcome.Cleared n first second) = refl
-same_cleared k (outcome.RestoredSkip n first len version) = refl
-same_cleared k (outcome.RestoredRan n first p) = refl
+same_cleared k o = refl
 
 -- one place, where the attempt set its bit again
 pub same_set : (k : ℕ) (o : Outcome) → set_by_outcome k o ≡ cond (is_setting o) (k ∷ []) []
-same_set k (outcome.Worn seen) = refl
 same_set k (outcome.Gone n gone.Set) = refl
-same_set k (outcome.Gone n gone.Clear) = refl
-same_set k (outcome.Gone n gone.Root) = refl
-same_set k (outcome.Skip n len version) = refl
-same_set k (outcome.Ran n p) = refl
-same_set k (outcome.Empty n version) = refl
-same_set k (outcome.Cleared n first second) = refl
-same_set k (outcome.RestoredSkip n first len version) = refl
-same_set k (outcome.RestoredRan n first p) = refl
+same_set k o = refl
 
 -- the pass of an outcome, as a list
 abbrev pub listed : Option PassRecord → List PassRecord
@@ -84,13 +55,7 @@ listed (Some p) = p ∷ []
 
 pub same_passes : (o : Outcome) → passes_in o ≡ listed (pass_of o)
 same_passes (outcome.Worn seen) = refl
-same_passes (outcome.Gone n then) = refl
-same_passes (outcome.Skip n len version) = refl
-same_passes (outcome.Ran n p) = refl
-same_passes (outcome.Empty n version) = refl
-same_passes (outcome.Cleared n first second) = refl
-same_passes (outcome.RestoredSkip n first len version) = refl
-same_passes (outcome.RestoredRan n first p) = refl
+same_passes o = refl
 
 -- what the passes freed
 freed_more : (o : Option PassRecord) (ps : List PassRecord) → sum_by (λ (p : PassRecord). p.freed) (cons_option o ps) ≡ sum (map (λ (p : PassRecord). p.freed) (listed o)) + sum_by (λ (p : PassRecord). p.freed) ps
@@ -116,24 +81,19 @@ placed_gone id group n gone.Clear more h = not_zero group h.0
 
 pub placed : (x : Shared) (walk : Walk) (id : ℕ) (o : Outcome) (first : LookupWord) (more : List Loaded) (held : Option ℕ) (made : List Made) (ops : List UseStep)
     → Found x walk id o first more held made ops → Rising (counts_of_outcome (place_number (place_of_walk walk id)) o) → IsPlaced walk.group o
-placed x walk id (outcome.Worn seen) first more held made ops f r = tt
 placed x walk id (outcome.Gone n then) first more held made ops f r = placed_gone id walk.group n then more f.0
-placed x walk id (outcome.Skip n len version) first more held made ops f r = tt
-placed x walk id (outcome.Ran n p) first more held made ops f r = tt
 placed x walk id (outcome.Empty n version) first more held made ops f r = f.by.level
 placed x walk id (outcome.Cleared n one second) first more held made ops f r = (not_zero walk.group f.by.level, second_later _ one second 0 0 r)
 placed x walk id (outcome.RestoredSkip n one len version) first more held made ops f r = (not_zero walk.group f.by.level, second_later _ one version 0 len r)
 placed x walk id (outcome.RestoredRan n one p) first more held made ops f r = (not_zero walk.group f.by.level, second_later _ one p.version 0 p.len r)
+placed x walk id o first more held made ops f r = tt
 
 pub outcome_kind : (x : Shared) (walk : Walk) (place : Place) (d : CacheDecl) (o : Outcome) (made : List Made) (ops : List UseStep) → IsVisitMade x walk place d o made ops → IsOutcomeOf walk.priority d o
-outcome_kind x walk place d (outcome.Worn seen) made ops h = tt
-outcome_kind x walk place d (outcome.Gone n then) made ops h = tt
 outcome_kind x walk place d (outcome.Skip n len version) made ops h = h.kind
 outcome_kind x walk place d (outcome.Ran n p) made ops h = (h.kind, h.scanned.1)
-outcome_kind x walk place d (outcome.Empty n version) made ops h = tt
-outcome_kind x walk place d (outcome.Cleared n first second) made ops h = tt
 outcome_kind x walk place d (outcome.RestoredSkip n first len version) made ops h = h.kind
 outcome_kind x walk place d (outcome.RestoredRan n first p) made ops h = (h.kind, h.scanned.1)
+outcome_kind x walk place d o made ops h = tt
 
 -- a pass stops exactly where its cache's scans can't make progress
 pub stopped : (r : WalkRecord) (d : CacheDecl) (p : PassRecord) → FollowsArithmetic r.priority d.seeks d.batch p → records.IsPassStopped (d.fs && r.nofs) r.priority d.seeks d.batch p → IsStopped r d p
@@ -143,24 +103,18 @@ stopped r d p follows h = record {
     λ all. ⊎_elim (λ e. e) (λ none. let lt = all.2 in absurd (omega (arith, none, lt, many))) (h.where_due (and_from d.fs r.nofs all.0 all.1)),
   );
   none = λ e. h.asks (h.only e);
-}
-  where
-    count : ℕ
-    count = due (batch_of d.batch) p.len (total_of p.len p.nr r.priority d.seeks)
+} where
+  count : ℕ
+  count = due (batch_of d.batch) p.len (total_of p.len p.nr r.priority d.seeks)
 
-    many : length (due_asks (batch_of d.batch) p.len (total_of p.len p.nr r.priority d.seeks)) ≡ due (batch_of d.batch) p.len (total_of p.len p.nr r.priority d.seeks)
-    many = length-replicate (due (batch_of d.batch) p.len (total_of p.len p.nr r.priority d.seeks)) (ask_size (batch_of d.batch) p.len (total_of p.len p.nr r.priority d.seeks))
+  many : length (due_asks (batch_of d.batch) p.len (total_of p.len p.nr r.priority d.seeks)) ≡ due (batch_of d.batch) p.len (total_of p.len p.nr r.priority d.seeks)
+  many = length-replicate (due (batch_of d.batch) p.len (total_of p.len p.nr r.priority d.seeks)) (ask_size (batch_of d.batch) p.len (total_of p.len p.nr r.priority d.seeks))
 
 -- a pass that ended by want of room cuts its attempt
 pub cut_by : (o : Outcome) (p : PassRecord) → pass_of o ≡ Some p → p.ending ≡ ending.NoRoom → is_outcome_cut o ≡ true
-cut_by (outcome.Worn seen) p e n = absurd (none-some p e)
-cut_by (outcome.Gone k then) p e n = absurd (none-some p e)
-cut_by (outcome.Skip k len version) p e n = absurd (none-some p e)
 cut_by (outcome.Ran k q) p e n = ap is_cut_by (ap (λ (z : PassRecord). z.ending) (same_Some q p e) ∙ n)
-cut_by (outcome.Empty k version) p e n = absurd (none-some p e)
-cut_by (outcome.Cleared k first second) p e n = absurd (none-some p e)
-cut_by (outcome.RestoredSkip k first len version) p e n = absurd (none-some p e)
 cut_by (outcome.RestoredRan k first q) p e n = ap is_cut_by (ap (λ (z : PassRecord). z.ending) (same_Some q p e) ∙ n)
+cut_by o p e n = absurd (none-some p e)
 
 not_both : (b : Bool) → b ≡ true → b ≡ false → ⊥
 not_both b t f = let e : true ≡ false = sym t ∙ f in cc
@@ -172,8 +126,7 @@ pub last_cut : (l : List Attempt) → IsCutLast l → (k : ℕ) (a : Attempt) �
 last_cut l (front, last, e, uncut, cut) k a at is = ⊎_elim
     (λ early. absurd (never_cut front uncut k a early is))
     (λ late. here late.0 late.1 late.2)
-    (slice_cases front (last ∷ []) k a (subst (λ (z : List Attempt). slice_get z k ≡ Some a) e at))
-  where
-    here : (j : ℕ) → k ≡ length front + j → slice_get (last ∷ []) j ≡ Some a → length l ≡ k + 1
-    here zero is_k at_j = let n = ap (λ (z : List Attempt). length z) e in let m = length-append front (last ∷ []) in omega (arith, is_k, n, m)
-    here (suc j) is_k at_j = absurd (none-some a at_j)
+    (slice_cases front (last ∷ []) k a (subst (λ (z : List Attempt). slice_get z k ≡ Some a) e at)) where
+      here : (j : ℕ) → k ≡ length front + j → slice_get (last ∷ []) j ≡ Some a → length l ≡ k + 1
+      here zero is_k at_j = let n = ap (λ (z : List Attempt). length z) e in let m = length-append front (last ∷ []) in omega (arith, is_k, n, m)
+      here (suc j) is_k at_j = absurd (none-some a at_j)

@@ -1,5 +1,5 @@
 -- Walks after walks in one step: what holds of a part of a step's work holds of the whole.
-use Rattle.shr_assemble.proofs.Common.{◌≡◌, ℕ, suc, ◌+◌, ◌<◌, ◌≤◌, ◌≢◌, ◌⊎◌, inl, inr, ⊎_elim, Bool, true, false, ◌&&◌, cond, List, [], ◌∷◌, ◌++◌, length, length-append, map, sym, refl, ap, subst, ◌∙◌, arith, ne_eqb, slice_get, Option, Some, None, flat_map, ◌==◌, Contains, sum_by, cons_option, append-nil, map-append, filter_map-append, Contains-append_left, sum_by-append, flat_map-append, none-some, slice_get_within, Entry, Add, Look, Drop, Pin, Scan, MovedIn, Closed, Drained, Place, Serial, Answered, Spent, CacheDecl, Command, Script, Object, Attempt, PassRecord, WalkRecord, PlaceAmount, sum_at, amount_at, ScanMade, scan_by, passes_at, place_in, takes_of, gives_of, takes_both, gives_both, Each, Begins, Each-append, Each-none, begins_more, place_at, Made, Known, Mapped, Tried, Loaded, KnowsClosed, AreFresh, WorkerState, Work, no_work, then_work, Does, does_none, does_then, fresh_none, fresh_then, AreScansOf, WordStep, steps_walked, told_step, Step, IsAmong, scan_made, scans_made, DidPass, DidAttempt, numbers_tried, number_made, DidWalk, counted_in, mapped_in, cleared_by_walk, set_by_walk, map_word, KnowsOnline, KnowsList, IsOneMore, AreBoth, IsWornBy, slice_cases, slice_left}
+use Rattle.shr_assemble.proofs.Common.{◌≡◌, ℕ, suc, ◌+◌, ◌<◌, ◌≤◌, ◌≢◌, ◌⊎◌, inl, inr, ⊎_elim, Bool, true, false, ◌&&◌, cond, List, [], ◌∷◌, ◌++◌, length, length-append, map, sym, refl, ap, subst, ◌∙◌, arith, ne_eqb, slice_get, Option, Some, None, flat_map, ◌==◌, Contains, sum_by, cons_option, append-nil, map-append, filter_map-append, Contains-append_left, sum_by-append, flat_map-append, none-some, slice_get_within, Entry, Add, Look, Drop, Pin, Scan, MovedIn, Closed, Drained, Place, Serial, Answered, Spent, CacheDecl, Command, Script, UseStep, Object, Attempt, PassRecord, WalkRecord, PlaceAmount, sum_at, amount_at, ScanMade, scan_by, passes_at, place_in, takes_of, gives_of, takes_both, gives_both, Each, Begins, Each-append, Each-none, begins_more, place_at, Made, Known, Mapped, Tried, Loaded, KnowsClosed, AreFresh, WorkerState, Work, no_work, then_work, Does, does_none, does_then, fresh_none, fresh_then, AreScansOf, WordStep, steps_walked, told_step, Step, IsAmong, scan_made, scans_made, DidPass, DidAttempt, numbers_tried, number_made, DidWalk, counted_in, mapped_in, cleared_by_walk, set_by_walk, map_word, KnowsOnline, KnowsList, IsOneMore, AreBoth, IsWornBy, slice_cases, slice_left}
 use Rattle.shr_base.specs.declared.replies.Spent.TheVariants as spent
 use Rattle.shr_charge.specs.Views as charge
 use Rattle.shr_assemble.proofs.Gathering.{among_left, among_right, among_begins}
@@ -17,13 +17,7 @@ pub record IsScanIn (by : Serial) (start : ℕ) (walks : List WalkRecord) (m : M
 
 abbrev pub OnlyScan : Serial → ℕ → List WalkRecord → Made → Entry → Type 0
 OnlyScan by start walks m (Scan worker n asked policy visits freed stopped) = IsScanIn by start walks m worker n
-OnlyScan by start walks m (Add by' birth added key value) = ⊥
-OnlyScan by start walks m (Look by' birth key hit) = ⊥
-OnlyScan by start walks m (Drop by' birth key kind) = ⊥
-OnlyScan by start walks m (Pin by' birth key pinned hit) = ⊥
-OnlyScan by start walks m (MovedIn child objects) = ⊥
-OnlyScan by start walks m Closed = ⊥
-OnlyScan by start walks m (Drained by' objects) = ⊥
+OnlyScan by start walks m o = ⊥
 
 abbrev pub IsScanOne : Serial → ℕ → List WalkRecord → Made → Type 0
 IsScanOne by start walks m = OnlyScan by start walks m m.entry
@@ -34,23 +28,11 @@ slice_right (y ∷ l) m n x e = subst (λ k. slice_get (y ∷ (l ++ m)) k ≡ So
 
 only_left : (by : Serial) (start : ℕ) (v w : List WalkRecord) (m : Made) (e : Entry) → OnlyScan by start v m e → OnlyScan by start (v ++ w) m e
 only_left by start v w m (Scan worker n asked policy visits freed stopped) h = record { own = h.own; index = h.index; number = h.number; walk = h.walk; there = slice_left v w h.index h.walk h.there; passes = h.passes }
-only_left by start v w m (Add by' birth added key value) h = absurd h
-only_left by start v w m (Look by' birth key hit) h = absurd h
-only_left by start v w m (Drop by' birth key kind) h = absurd h
-only_left by start v w m (Pin by' birth key pinned hit) h = absurd h
-only_left by start v w m (MovedIn child objects) h = absurd h
-only_left by start v w m Closed h = absurd h
-only_left by start v w m (Drained by' objects) h = absurd h
+only_left by start v w m e h = absurd h
 
 only_right : (by : Serial) (start later : ℕ) (v w : List WalkRecord) (m : Made) (e : Entry) → later ≡ start + length v → OnlyScan by later w m e → OnlyScan by start (v ++ w) m e
 only_right by start later v w m (Scan worker n asked policy visits freed stopped) l h = let k = h.number in record { own = h.own; index = length v + h.index; number = omega (arith, k, l); walk = h.walk; there = slice_right v w h.index h.walk h.there; passes = h.passes }
-only_right by start later v w m (Add by' birth added key value) l h = absurd h
-only_right by start later v w m (Look by' birth key hit) l h = absurd h
-only_right by start later v w m (Drop by' birth key kind) l h = absurd h
-only_right by start later v w m (Pin by' birth key pinned hit) l h = absurd h
-only_right by start later v w m (MovedIn child objects) l h = absurd h
-only_right by start later v w m Closed l h = absurd h
-only_right by start later v w m (Drained by' objects) l h = absurd h
+only_right by start later v w m e l h = absurd h
 
 other_number : (k n start len i : ℕ) → k ≡ start + i → i < len → (n < start) ⊎ (start + len ≤ n) → k ≢ n
 other_number k n start len i is lt (inl a) same = omega (arith, a, same, is)
@@ -62,12 +44,7 @@ not_scan by start walks m worker n number (Scan w k asked policy visits freed st
     let other : k ≢ n = other_number k n start (length walks) h.index is lt out in
     ap (λ (b : Bool). cond b (Some (record { number = number; asked = asked; policy = policy; freed = freed })) None) (and_false (w == worker) (k == n) (ne_eqb k n other))
 not_scan by start walks m worker n number (Add by' birth added key value) out h = absurd h
-not_scan by start walks m worker n number (Look by' birth key hit) out h = absurd h
-not_scan by start walks m worker n number (Drop by' birth key kind) out h = absurd h
-not_scan by start walks m worker n number (Pin by' birth key pinned hit) out h = absurd h
-not_scan by start walks m worker n number (MovedIn child objects) out h = absurd h
-not_scan by start walks m worker n number Closed out h = absurd h
-not_scan by start walks m worker n number (Drained by' objects) out h = absurd h
+not_scan by start walks m worker n number e out h = absurd h
 
 cond_none : {A : Type 0} (b : Bool) (o : Option A) → o ≡ None → cond b o None ≡ None
 cond_none true o e = e
@@ -179,9 +156,11 @@ module _ (script : Script) (by : Serial) (c : Option Command) (a : Answered) whe
     pub tree : w.tree ≡ []
     pub carries : w.carries ≡ []
 
-  pub walked_none : (s : WorkerState) → Walked s s no_work
-  walked_none s = record {
-    does = does_none s;
+  -- no walk was made, but words may have been loaded, and operations made
+  pub walked_still : (ops : List UseStep) (charges uncharges : ℕ) (words : List charge.LoadedState) (s t : WorkerState) → Does s t (record no_work { ops = ops; charges = charges; uncharges = uncharges; words = words })
+      → Walked s t (record no_work { ops = ops; charges = charges; uncharges = uncharges; words = words })
+  walked_still ops charges uncharges words s t does = record {
+    does = does;
     each = λ i r e. absurd (none-some r e);
     seen = refl;
     maps = refl;

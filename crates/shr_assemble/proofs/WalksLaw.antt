@@ -1,15 +1,10 @@
 -- The law of walks, of a run.
-use Rattle.shr_assemble.proofs.Common.{◌≡◌, ℕ, zero, suc, ◌<◌, ◌≤◌, ◌≢◌, inl, inr, ⊎_elim, Bool, true, false, ◌||◌, cond, List, [], ◌∷◌, ◌++◌, length, map, sym, refl, ap, subst, ◌∙◌, arith, slice_get, Option, Some, flat_map, filter, count_by, option_and_then, AllByRecursion, list_any, IsSomeAnd, append-nil, dite, ℕ_discrete, same_Some, none-some, Place, Serial, Entry, Add, Look, Drop, Pin, Scan, MovedIn, Closed, Drained, Answered, Reply, Command, Put, Script, Attempt, MapSeen, WalkRecord, Count, counts_of, is_clearing, is_set, ops_by, is_refused, is_serial, jobs_of, place_number, is_place, unit_of, bit_of, job_of, place_in, passes_at, versions_at, clearings_of, is_place_same, is_place_itself, times, only, Begins, total-append, some_term, only_no, place_at, map_number, Made, Mapped, back, Report, parents_of, limit_of, journals_of, serial_of, walks_by, walk_at, all_walks, cited_at, cited_by, uses_at, items_before, at, IsThere, IsToldBy, FillsPlace, Covers, Step, IsAmong, gathered, steps_of, IsSetLast, IsMadeAsCited, mapped_in, cleared_by_walk, map_word, DidRoundsOf, DidJobs, AreWalksFor, ops_at, all_cleared, IsMapOf, IsRun, Has, filter_has, map_has, Has_flat_map, at_some, by_slices, some_at, serial_itself, filter_both}
+use Rattle.shr_assemble.proofs.Common.{◌≡◌, ℕ, zero, suc, ◌<◌, ◌≤◌, ◌≢◌, inl, inr, ⊎_elim, Bool, true, false, ◌||◌, cond, List, [], ◌∷◌, ◌++◌, length, map, sym, refl, ap, subst, ◌∙◌, arith, slice_get, Option, Some, flat_map, filter, count_by, option_and_then, AllByRecursion, list_any, IsSomeAnd, append-nil, dite, ℕ_discrete, same_Some, none-some, Place, Serial, Entry, Add, Look, Drop, Pin, Scan, MovedIn, Closed, Drained, Answered, Reply, Command, Put, Script, Attempt, MapSeen, WalkRecord, Count, counts_of, is_clearing, is_set, ops_by, is_refused, is_serial, jobs_of, place_number, is_place, unit_of, bit_of, job_of, place_in, passes_at, versions_at, clearings_of, is_place_same, is_place_itself, times, only, Begins, total-append, some_term, only_no, place_at, map_number, Made, Mapped, back, Report, parents_of, limit_of, journals_of, serial_of, walks_by, walk_at, all_walks, cited_at, cited_by, uses_at, items_before, at, IsThere, IsToldBy, FillsPlace, Covers, Step, IsAmong, gathered, steps_of, IsSetLast, IsMadeAsCited, mapped_in, cleared_by_walk, map_word, DidRoundsOf, DidJobs, AreWalksFor, ops_at, all_cleared, IsMapOf, IsRun, Has, filter_has, map_has, Has_flat_map, at_some, by_slices, some_at, serial_itself, filter_both, IsOfPass, AreRoundsOf, AreWalksOf, MayMake, was_cleared, AreWalksLawful, no_test}
 use Rattle.shr_base.specs.declared.replies.Reply.TheVariants as reply
-use Rattle.shr_report.specs.WalksLawful.{IsOfPass, AreRoundsOf, AreWalksOf, MayMake, was_cleared, AreWalksLawful}
 use Rattle.shr_assemble.specs.Entries as entries
-use Rattle.shr_assemble.proofs.Gathering.{each_among, gathered_has, among_right, among_begins, among_flat, flat_among, has_step}
-use Rattle.shr_assemble.proofs.Listed.{no_test}
-use Rattle.shr_assemble.proofs.Making.{work_of, grows, made_stands, maker, Stepped, stepped, replies, back_there}
-use Rattle.shr_assemble.proofs.Operations.{ops_are, has_among, among_has}
-use Rattle.shr_assemble.proofs.Flattening.{all_walks_are, WalkOf, walk_of, walk_there}
-use Rattle.shr_assemble.proofs.LawfulWalks.{lawful_walk, count_made, among_map}
-use Rattle.shr_assemble.proofs.VersionsLaw.{versions_fall_not}
+use Rattle.shr_assemble.proofs.Gathering.{each_among, gathered_has, among_right, among_begins, among_flat, flat_among, has_step, work_of, grows, made_stands, maker, Stepped, stepped, replies, back_there}
+use Rattle.shr_assemble.proofs.Listed.{ops_are, has_among, among_has, all_walks_are, WalkOf, walk_of, walk_there}
+use Rattle.shr_assemble.proofs.VersionsLaw.{lawful_walk, count_made, among_map, versions_fall_not}
 use Rattle.shr_assemble.proofs.DeferredLaw.{filter_none}
 use Rattle.shr_assemble.proofs.LimitsLaw.{serial_same}
 
@@ -25,42 +20,34 @@ pub filter_part : {A B : Type 0} (p : B → Bool) (f : A → List B) (xs : List 
 filter_part p f [] i x at own others = absurd (none-some x at)
 filter_part {A} {B} p f (z ∷ xs) zero x at own others = let same : z ≡ x = same_Some z x at in
     filter_both p (f z) (flat_map f xs) ∙ (ap (λ l. l ++ filter p (flat_map f xs)) (ap (λ v. filter p (f v)) same ∙ filter_all p (f x) own)
-    ∙ (ap (λ l. f x ++ l) (nothing xs (λ k j v y e d. others (suc k) j v y e (λ s. omega (arith, s)) d)) ∙ append-nil (f x)))
-  where
-    nothing : (vs : List A) → ((k j : ℕ) (v : A) (y : B) → slice_get vs k ≡ Some v → slice_get (f v) j ≡ Some y → p y ≡ false) → filter p (flat_map f vs) ≡ []
-    nothing [] h = refl
-    nothing (v ∷ vs) h = filter_both p (f v) (flat_map f vs) ∙ (ap (λ l. l ++ filter p (flat_map f vs)) (filter_none p (f v) (λ j y d. h 0 j v y refl d)) ∙ nothing vs (λ k j u y e d. h (suc k) j u y e d))
+    ∙ (ap (λ l. f x ++ l) (nothing xs (λ k j v y e d. others (suc k) j v y e (λ s. omega (arith, s)) d)) ∙ append-nil (f x))) where
+      nothing : (vs : List A) → ((k j : ℕ) (v : A) (y : B) → slice_get vs k ≡ Some v → slice_get (f v) j ≡ Some y → p y ≡ false) → filter p (flat_map f vs) ≡ []
+      nothing [] h = refl
+      nothing (v ∷ vs) h = filter_both p (f v) (flat_map f vs) ∙ (ap (λ l. l ++ filter p (flat_map f vs)) (filter_none p (f v) (λ j y d. h 0 j v y refl d)) ∙ nothing vs (λ k j u y e d. h (suc k) j u y e d))
 filter_part p f (z ∷ xs) (suc i) x at own others = filter_both p (f z) (flat_map f xs)
     ∙ (ap (λ l. l ++ filter p (flat_map f xs)) (filter_none p (f z) (λ j y d. others 0 j z y refl (λ s. omega (arith, s)) d)) ∙ filter_part p f xs i x at own (λ k j v y e ne d. others (suc k) j v y e (λ s. ne (omega (arith, s))) d))
 
 module _ (s : Script) (r : Report) (workers : List (List Step)) (run : IsRun s r workers) where
   pub walks_are : (worker k : ℕ) (x : Step) → slice_get (steps_of workers worker) k ≡ Some x → walks_by r (serial_of worker k) ≡ x.work.walks
   walks_are worker k x at = ap (filter (λ (w : WalkRecord). is_serial (serial_of worker k) w.by)) (run.steps.walks worker)
-      ∙ filter_part (λ (w : WalkRecord). is_serial (serial_of worker k) w.by) (λ (y : Step). y.work.walks) (steps_of workers worker) k x at own others
-    where
-      by_of : (j i : ℕ) (y : Step) (w : WalkRecord) → slice_get (steps_of workers worker) j ≡ Some y → slice_get y.work.walks i ≡ Some w → w.by ≡ serial_of worker j
-      by_of j i y w at_y at_w = let is = run.steps.each worker j y at_y in (is.did.walks.each i w at_w).by ∙ is.by
+      ∙ filter_part (λ (w : WalkRecord). is_serial (serial_of worker k) w.by) (λ (y : Step). y.work.walks) (steps_of workers worker) k x at own others where
+        by_of : (j i : ℕ) (y : Step) (w : WalkRecord) → slice_get (steps_of workers worker) j ≡ Some y → slice_get y.work.walks i ≡ Some w → w.by ≡ serial_of worker j
+        by_of j i y w at_y at_w = let is = run.steps.each worker j y at_y in (is.did.walks.each i w at_w).by ∙ is.by
 
-      own : (j : ℕ) (w : WalkRecord) → slice_get x.work.walks j ≡ Some w → is_serial (serial_of worker k) w.by ≡ true
-      own j w e = ap (is_serial (serial_of worker k)) (by_of k j x w at e) ∙ serial_itself (serial_of worker k)
+        own : (j : ℕ) (w : WalkRecord) → slice_get x.work.walks j ≡ Some w → is_serial (serial_of worker k) w.by ≡ true
+        own j w e = ap (is_serial (serial_of worker k)) (by_of k j x w at e) ∙ serial_itself (serial_of worker k)
 
-      others : (i j : ℕ) (y : Step) (w : WalkRecord) → slice_get (steps_of workers worker) i ≡ Some y → i ≢ k → slice_get y.work.walks j ≡ Some w → is_serial (serial_of worker k) w.by ≡ false
-      others i j y w at_y ne e = no_test (is_serial (serial_of worker k) w.by) (λ same. ne (ap (λ (z : Serial). z.command) (sym (serial_same (serial_of worker k) w.by same ∙ by_of i j y w at_y e))))
+        others : (i j : ℕ) (y : Step) (w : WalkRecord) → slice_get (steps_of workers worker) i ≡ Some y → i ≢ k → slice_get y.work.walks j ≡ Some w → is_serial (serial_of worker k) w.by ≡ false
+        others i j y w at_y ne e = no_test (is_serial (serial_of worker k) w.by) (λ same. ne (ap (λ (z : Serial). z.command) (sym (serial_same (serial_of worker k) w.by same ∙ by_of i j y w at_y e))))
 
   -- ---- the Scan entries are those of passes
   scan_of_pass : (place : Place) (e : Entry) (x : Step) (m : Made) (worker k : ℕ) → slice_get (steps_of workers worker) k ≡ Some x → place_at m.place ≡ place → entries.MayMakeEntry s x m e → IsOfPass r place e
-  scan_of_pass place (Add by birth added key value) x m worker k at here may = tt
-  scan_of_pass place (Look by birth key hit) x m worker k at here may = tt
-  scan_of_pass place (Drop by birth key kind) x m worker k at here may = tt
-  scan_of_pass place (Pin by birth key pinned hit) x m worker k at here may = tt
   scan_of_pass place (Scan w n asked policy visits freed stopped) x m worker k at here may = λ low. ⊎_elim
       (λ t. let own : w ≡ worker = t.own ∙ ap (λ (z : Serial). z.worker) (run.steps.each worker k x at).by in
       let there : walk_at r w n ≡ Some t.walk = ap (λ v. walk_at r v n) own ∙ (ap (walk_at r worker) t.number ∙ walk_there s r workers run worker k t.index x t.walk at t.there) in
       subst (λ (o : Option WalkRecord). IsSomeAnd o (λ v. 0 < length (passes_at place v))) (sym there) (subst (λ p. 0 < length (passes_at p t.walk)) here t.passes))
       (λ t. absurd (let high = t.high in omega (arith, high, low))) may
-  scan_of_pass place (MovedIn child objects) x m worker k at here may = tt
-  scan_of_pass place Closed x m worker k at here may = tt
-  scan_of_pass place (Drained by objects) x m worker k at here may = tt
+  scan_of_pass place e x m worker k at here may = tt
 
   no_others : (place : Place) (n : ℕ) (e : Entry) → slice_get (journals_of r place) n ≡ Some e → IsOfPass r place e
   no_others place n e stands =
@@ -87,10 +74,9 @@ module _ (s : Script) (r : Report) (workers : List (List Step)) (run : IsRun s r
     refused = subst (λ (y : Answered). AreRoundsOf s r by c y.reply d.rounds) t.answered (rounds_are by c t.step d.rounds ops d.refused);
     made = subst (λ (l : List WalkRecord). MayMake a.reply (jobs_of (parents_of s) s.nodes d.rounds c) (map job_of l)) (sym (walks_are by.worker by.command t.step t.at))
         (subst (λ (y : Answered). MayMake y.reply (jobs_of (parents_of s) s.nodes d.rounds c) (map job_of t.step.work.walks)) t.answered d.made);
-  }
-    where
-      ops : (g : ℕ) → ops_by by (uses_at r g) ≡ ops_at g t.step.work.ops
-      ops g = ap (λ (b : Serial). ops_by b (uses_at r g)) (sym t.own) ∙ ops_are s r workers run by.worker by.command t.step g t.at
+  } where
+    ops : (g : ℕ) → ops_by by (uses_at r g) ≡ ops_at g t.step.work.ops
+    ops g = ap (λ (b : Serial). ops_by b (uses_at r g)) (sym t.own) ∙ ops_are s r workers run by.worker by.command t.step g t.at
 
   told_by : (by : Serial) (c : Command) (a : Answered) → Stepped s r workers run by c a → IsToldBy s (walks_by r by) c a.reply
   told_by by c a t = subst (λ (l : List WalkRecord). IsToldBy s l c a.reply) (sym (walks_are by.worker by.command t.step t.at))
@@ -105,23 +91,22 @@ module _ (s : Script) (r : Report) (workers : List (List Step)) (run : IsRun s r
       let number : w.by.command ≡ of.k = ap (λ (b : Serial). b.command) (of.did.by ∙ of.is.by) in
       let done : IsAmong c.made a.step.after.core.traces.made = subst (λ l. IsAmong c.made l) (sym (work_of s r workers run worker k a.step a.at).core.made) (among_right a.step.before.core.traces.made a.step.work.core.made c.made c.among) in
       let before : IsAmong c.made of.step.before.core.traces.made = among_begins a.step.after.core.traces.made of.step.before.core.traces.made c.made (grows s r workers run worker k of.k a.step of.step (omega (arith, lt, number)) a.at of.at).made done in
-      all_versions w.attempts.items (λ j b at_b same d e. count_after of j b d at_b same e a.step c before)
-    where
-      count_after : (of : WalkOf s r workers run worker n w) (j : ℕ) (b : Attempt) (d : Count) → slice_get w.attempts.items j ≡ Some b → is_place place (place_in w b.id) ≡ true → IsAmong d (counts_of b.outcome) → (x : Step) (c : IsMadeAsCited s x (at place entry)) → IsAmong c.made of.step.before.core.traces.made → entry < d.version
-      count_after of j b d at_b same e x c before =
-          let f = count_made s r workers run worker n w of j b d at_b e in
-          let fresh = (of.is.did.walks.fresh.each f.0 (record { place = place_number (place_in w b.id); len = d.len; version = d.version }) f.1).made before.0 c.made before.1 in
-          let here : c.made.place ≡ place_number (place_in w b.id) = sym (back c.made.place) ∙ ap place_number (c.place ∙ is_place_same place (place_in w b.id) same) in
-          omega (arith, fresh here, c.number)
+      all_versions w.attempts.items (λ j b at_b same d e. count_after of j b d at_b same e a.step c before) where
+        count_after : (of : WalkOf s r workers run worker n w) (j : ℕ) (b : Attempt) (d : Count) → slice_get w.attempts.items j ≡ Some b → is_place place (place_in w b.id) ≡ true → IsAmong d (counts_of b.outcome) → (x : Step) (c : IsMadeAsCited s x (at place entry)) → IsAmong c.made of.step.before.core.traces.made → entry < d.version
+        count_after of j b d at_b same e x c before =
+            let f = count_made s r workers run worker n w of j b d at_b e in
+            let fresh = (of.is.did.walks.fresh.each f.0 (record { place = place_number (place_in w b.id); len = d.len; version = d.version }) f.1).made before.0 c.made before.1 in
+            let here : c.made.place ≡ place_number (place_in w b.id) = sym (back c.made.place) ∙ ap place_number (c.place ∙ is_place_same place (place_in w b.id) same) in
+            omega (arith, fresh here, c.number)
 
-      all_versions : (xs : List Attempt) → ((j : ℕ) (b : Attempt) → slice_get xs j ≡ Some b → is_place place (place_in w b.id) ≡ true → (d : Count) → IsAmong d (counts_of b.outcome) → entry < d.version)
-          → AllByRecursion (λ version. entry < version) (flat_map (λ (b : Attempt). map (λ (d : Count). d.version) (counts_of b.outcome)) (filter (λ (b : Attempt). is_place place (place_in w b.id)) xs))
-      all_versions xs h = by_slices (λ version. entry < version) (flat_map (λ (b : Attempt). map (λ (d : Count). d.version) (counts_of b.outcome)) (filter (λ (b : Attempt). is_place place (place_in w b.id)) xs))
-          (λ i v e. let t = flat_among (λ (b : Attempt). map (λ (d : Count). d.version) (counts_of b.outcome)) (filter (λ (b : Attempt). is_place place (place_in w b.id)) xs) v (i, some_at (flat_map (λ (b : Attempt). map (λ (d : Count). d.version) (counts_of b.outcome)) (filter (λ (b : Attempt). is_place place (place_in w b.id)) xs)) i v e) in
-          let f = filter_has (λ (b : Attempt). is_place place (place_in w b.id)) xs t.0 (among_has (filter (λ (b : Attempt). is_place place (place_in w b.id)) xs) t.0 t.1) in
-          let g = has_among xs t.0 f.0 in
-          let u = map_has (λ (d : Count). d.version) (counts_of t.0.outcome) v (among_has (map (λ (d : Count). d.version) (counts_of t.0.outcome)) v t.2) in
-          subst (λ m. entry < m) u.2 (h g.0 t.0 (at_some xs g.0 t.0 g.1) f.1 u.0 (has_among (counts_of t.0.outcome) u.0 u.1)))
+        all_versions : (xs : List Attempt) → ((j : ℕ) (b : Attempt) → slice_get xs j ≡ Some b → is_place place (place_in w b.id) ≡ true → (d : Count) → IsAmong d (counts_of b.outcome) → entry < d.version)
+            → AllByRecursion (λ version. entry < version) (flat_map (λ (b : Attempt). map (λ (d : Count). d.version) (counts_of b.outcome)) (filter (λ (b : Attempt). is_place place (place_in w b.id)) xs))
+        all_versions xs h = by_slices (λ version. entry < version) (flat_map (λ (b : Attempt). map (λ (d : Count). d.version) (counts_of b.outcome)) (filter (λ (b : Attempt). is_place place (place_in w b.id)) xs))
+            (λ i v e. let t = flat_among (λ (b : Attempt). map (λ (d : Count). d.version) (counts_of b.outcome)) (filter (λ (b : Attempt). is_place place (place_in w b.id)) xs) v (i, some_at (flat_map (λ (b : Attempt). map (λ (d : Count). d.version) (counts_of b.outcome)) (filter (λ (b : Attempt). is_place place (place_in w b.id)) xs)) i v e) in
+            let f = filter_has (λ (b : Attempt). is_place place (place_in w b.id)) xs t.0 (among_has (filter (λ (b : Attempt). is_place place (place_in w b.id)) xs) t.0 t.1) in
+            let g = has_among xs t.0 f.0 in
+            let u = map_has (λ (d : Count). d.version) (counts_of t.0.outcome) v (among_has (map (λ (d : Count). d.version) (counts_of t.0.outcome)) v t.2) in
+            subst (λ m. entry < m) u.2 (h g.0 t.0 (at_some xs g.0 t.0 g.1) f.1 u.0 (has_among (counts_of t.0.outcome) u.0 u.1)))
 
   -- ---- a map has the bits that its worker had set
   weighs_times : (k : ℕ) (xs ys : List ℕ) → Begins xs ys → times k xs ≤ times k ys
@@ -130,11 +115,7 @@ module _ (s : Script) (r : Report) (workers : List (List Step)) (run : IsRun s r
   pub any_yes : {A : Type 0} (test : A → Bool) (xs : List A) (x : A) → Has xs x → test x ≡ true → list_any test xs ≡ true
   any_yes test [] x has passes = absurd has
   any_yes test (y ∷ xs) x (inl e) passes = ap (λ b. b || list_any test xs) (ap test e ∙ passes)
-  any_yes test (y ∷ xs) x (inr has) passes = later_yes (test y) (any_yes test xs x has passes)
-    where
-      later_yes : (b : Bool) → list_any test xs ≡ true → (b || list_any test xs) ≡ true
-      later_yes true e = refl
-      later_yes false e = e
+  any_yes test (y ∷ xs) x (inr has) passes = (elim (test y) as (λ (b : Bool). list_any test xs ≡ true → (b || list_any test xs) ≡ true) [ true ↦ λ e. refl | false ↦ λ e. e ]) (any_yes test xs x has passes)
 
   -- the walk of the report that tells a clearing of a step
   pub record HasClearing (worker k : ℕ) (place : Place) : Type 0 where
@@ -162,20 +143,19 @@ module _ (s : Script) (r : Report) (workers : List (List Step)) (run : IsRun s r
 
   -- a place whose bit no walk cleared
   not_cleared : (place : Place) → IsThere s place → was_cleared r place ≡ false → times (place_number place) (all_cleared workers) ≡ 0
-  not_cleared place there none = by_cases (times (place_number place) (all_cleared workers)) refl
-    where
-      found : 0 < times (place_number place) (all_cleared workers) → ⊥
-      found lt =
-          let t = some_term (only (place_number place)) (all_cleared workers) lt in
-          let number : t.1 ≡ place_number place = dite (ℕ_discrete t.1 (place_number place)) (λ e. e) (λ ne. absurd (omega (arith, t.3, only_no (place_number place) t.1 ne))) in
-          let of = has_step (λ (x : Step). x.work.core.cleared) workers t.1 (t.0, t.2) in
-          let c = clearing_of place there of.worker of.k of.step of.at (subst (λ n. IsAmong n of.step.work.core.cleared) number of.has) in
-          let cleared : was_cleared r place ≡ true = any_yes (is_place place) (flat_map clearings_of (all_walks r)) place (Has_flat_map clearings_of (all_walks r) c.walk place c.there c.clears) (is_place_itself place) in
-          let t : true ≡ false = sym cleared ∙ none in cc
+  not_cleared place there none = by_cases (times (place_number place) (all_cleared workers)) refl where
+    found : 0 < times (place_number place) (all_cleared workers) → ⊥
+    found lt =
+        let t = some_term (only (place_number place)) (all_cleared workers) lt in
+        let number : t.1 ≡ place_number place = dite (ℕ_discrete t.1 (place_number place)) (λ e. e) (λ ne. absurd (omega (arith, t.3, only_no (place_number place) t.1 ne))) in
+        let of = has_step (λ (x : Step). x.work.core.cleared) workers t.1 (t.0, t.2) in
+        let c = clearing_of place there of.worker of.k of.step of.at (subst (λ n. IsAmong n of.step.work.core.cleared) number of.has) in
+        let cleared : was_cleared r place ≡ true = any_yes (is_place place) (flat_map clearings_of (all_walks r)) place (Has_flat_map clearings_of (all_walks r) c.walk place c.there c.clears) (is_place_itself place) in
+        let t : true ≡ false = sym cleared ∙ none in cc
 
-      by_cases : (n : ℕ) → times (place_number place) (all_cleared workers) ≡ n → times (place_number place) (all_cleared workers) ≡ 0
-      by_cases zero e = e
-      by_cases (suc n) e = absurd (found (omega (arith, e)))
+    by_cases : (n : ℕ) → times (place_number place) (all_cleared workers) ≡ n → times (place_number place) (all_cleared workers) ≡ 0
+    by_cases zero e = e
+    by_cases (suc n) e = absurd (found (omega (arith, e)))
 
   -- the map of a walk of the report among its step's
   pub record IsMapSeen (x : Step) (w : WalkRecord) (m : MapSeen) : Type 0 where
@@ -202,11 +182,10 @@ module _ (s : Script) (r : Report) (workers : List (List Step)) (run : IsRun s r
 
   -- a walk that has a map is below the root
   pub below_root : (worker n : ℕ) (w : WalkRecord) → WalkOf s r workers run worker n w → (i : ℕ) (m : MapSeen) → slice_get w.maps.items i ≡ Some m → 0 < w.group
-  below_root worker n w of i m at_m = by_cases w.group refl
-    where
-      by_cases : (g : ℕ) → w.group ≡ g → 0 < w.group
-      by_cases zero e = absurd (none-some m (sym (ap (λ l. slice_get l i) (of.did.record_is.root e).0) ∙ at_m))
-      by_cases (suc g) e = omega (arith, e)
+  below_root worker n w of i m at_m = by_cases w.group refl where
+    by_cases : (g : ℕ) → w.group ≡ g → 0 < w.group
+    by_cases zero e = absurd (none-some m (sym (ap (λ l. slice_get l i) (of.did.record_is.root e).0) ∙ at_m))
+    by_cases (suc g) e = omega (arith, e)
 
   -- the entry by which a command filled a list below the root, with the bit that it set there
   pub record IsFillOf (x : Step) (place : Place) : Type 0 where

@@ -1,12 +1,8 @@
 -- The report of a run is well formed.
-use Rattle.shr_assemble.proofs.Common.{◌≡◌, ℕ, suc, ◌+◌, ◌<◌, ◌≤◌, ◌^◌, ◌⊎◌, inl, inr, ⊎_elim, Bool, true, false, List, [], ◌∷◌, ◌++◌, length, length-append, map, take, get_or, sym, refl, ap, subst, ◌∙◌, arith, eq-eqb, slice_get, Some, filter, codes, All, if◌then◌else◌, ◌==◌, AllByRecursion, AllAdjacentBelow, range_with_len, length-map, length-take-le, slice_get-get_or, MapEnd, PlaceAmount, PlaceEnd, WorkerPart, UseStep, CacheDecl, GroupDecl, PoolDecl, Script, place_number, last_number, nodes_below, IsWithin, content_of, Report, uses_at, IsPlaceBefore, map_units, bit_places, IsAmountWell, IsBitWord, HasWords, IsSpelled, IsWellFormed, IsPoolAmountWell, StandsBefore, IsLastAnswered, Step, IsRun, by_slices, get_or-map, length-take, IsPoolWithin, IsUseBefore, IsPlaceWell}
+use Rattle.shr_assemble.proofs.Common.{◌≡◌, ℕ, suc, ◌+◌, ◌<◌, ◌≤◌, ◌^◌, ◌⊎◌, inl, inr, ⊎_elim, Bool, true, false, List, [], ◌∷◌, ◌++◌, length, length-append, map, take, get_or, sym, refl, ap, subst, ◌∙◌, arith, eq-eqb, slice_get, Some, filter, codes, All, if◌then◌else◌, ◌==◌, AllByRecursion, AllAdjacentBelow, range_with_len, length-map, length-take-le, slice_get-get_or, MapEnd, PlaceAmount, PlaceEnd, WorkerPart, UseStep, CacheDecl, GroupDecl, PoolDecl, Script, place_number, last_number, nodes_below, IsWithin, content_of, Report, uses_at, IsPlaceBefore, map_units, bit_places, IsAmountWell, IsBitWord, HasWords, IsSpelled, IsWellFormed, IsPoolAmountWell, StandsBefore, IsLastAnswered, Step, IsRun, by_slices, get_or-map, length-take, IsPoolWithin, IsUseBefore, IsPlaceWell, is_name, script_hierarchy, entered, unit_order}
 use Rattle.shr_model.specs.Paths.{is_path}
-use Rattle.shr_model.specs.Words.{is_name}
-use Rattle.shr_report.specs.Parts.{script_hierarchy}
 use Rattle.shr_report.proofs.PlaceOrder.{IsLow, before_by_number}
-use Rattle.shr_units.proofs.FormLaw.{entered, unit_order}
-use Rattle.shr_assemble.proofs.Listed.{all_slice}
-use Rattle.shr_assemble.proofs.Operations.{PairsRec, history_rises}
+use Rattle.shr_assemble.proofs.Listed.{all_slice, PairsRec, history_rises}
 use Rattle.shr_assemble.proofs.Printing.{get_taken}
 use Rattle.shr_assemble.proofs.WellJournals.{pool_numbered, tree_numbered}
 use Rattle.shr_assemble.proofs.WellMaps.{where_is, table_is}
@@ -54,11 +50,10 @@ root_is_path = refl
 last_answered : (all printed before : List WorkerPart) (many : ℕ) (part : WorkerPart) → IsLastAnswered all many → printed ≡ take many all → printed ≡ before ++ part ∷ [] → 0 < length part.answers.items
 last_answered all printed before many part last front is =
     let long : many ≡ suc (length before) = (let a = length-take-le many all last.within in let b = ap (λ (l : List WorkerPart). length l) (sym front ∙ is) in let c = length-append before (part ∷ []) in omega (arith, a, b, c)) in
-    last.answered (length before) part long (sym (get_taken all many (length before) (omega (arith, long))) ∙ (ap (λ (l : List WorkerPart). slice_get l (length before)) (sym front ∙ is) ∙ at_end before part))
-  where
-    at_end : (xs : List WorkerPart) (y : WorkerPart) → slice_get (xs ++ y ∷ []) (length xs) ≡ Some y
-    at_end [] y = refl
-    at_end (x ∷ xs) y = at_end xs y
+    last.answered (length before) part long (sym (get_taken all many (length before) (omega (arith, long))) ∙ (ap (λ (l : List WorkerPart). slice_get l (length before)) (sym front ∙ is) ∙ at_end before part)) where
+      at_end : (xs : List WorkerPart) (y : WorkerPart) → slice_get (xs ++ y ∷ []) (length xs) ≡ Some y
+      at_end [] y = refl
+      at_end (x ∷ xs) y = at_end xs y
 
 -- what the ends of the tables and the workers' logs say of a report, beside that it is of a run
 pub record IsLaidOut (s : Script) (r : Report) : Type 0 where
@@ -102,11 +97,10 @@ module _ (s : Script) (r : Report) (workers : List (List Step)) (run : IsRun s r
   place_order k d lt =
       let low = run.journals.order k (place_number d.place) (let same = length-map r.places.items (λ (end : PlaceEnd). place_number end.place) in omega (arith, same, lt)) in
       let e = get_or-map (λ (end : PlaceEnd). place_number end.place) r.places.items k d (place_number d.place) (omega (arith, lt)) in let f = get_or-map (λ (end : PlaceEnd). place_number end.place) r.places.items (k + 1) d (place_number d.place) lt in
-      before_by_number (get_or r.places.items k d).place (get_or r.places.items (k + 1) d).place (bounds k d (omega (arith, lt))) (bounds (k + 1) d lt) (omega (arith, low, e, f))
-    where
-      bounds : (n : ℕ) (d : PlaceEnd) → n < length r.places.items → IsLow (get_or r.places.items n d).place
-      bounds n d low = let is = run.journals.printed n (get_or r.places.items n d) (slice_get-get_or r.places.items n d low) in let node = is.there.node in let group = is.there.group in let nodes = run.sized.nodes in let groups = run.sized.groups in
-          record { node = omega (arith, node, nodes); group = omega (arith, group, groups) }
+      before_by_number (get_or r.places.items k d).place (get_or r.places.items (k + 1) d).place (bounds k d (omega (arith, lt))) (bounds (k + 1) d lt) (omega (arith, low, e, f)) where
+        bounds : (n : ℕ) (d : PlaceEnd) → n < length r.places.items → IsLow (get_or r.places.items n d).place
+        bounds n d low = let is = run.journals.printed n (get_or r.places.items n d) (slice_get-get_or r.places.items n d low) in let node = is.there.node in let group = is.there.group in let nodes = run.sized.nodes in let groups = run.sized.groups in
+            record { node = omega (arith, node, nodes); group = omega (arith, group, groups) }
 
   pub well_formed : IsWellFormed r
   well_formed = record {

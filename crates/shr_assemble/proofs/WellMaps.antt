@@ -1,7 +1,7 @@
 -- The bit words that are printed stand by node, group and unit.
 use Rattle.shr_assemble.proofs.Common.{◌≡◌, ℕ, zero, suc, ◌+◌, ◌-◌, Bool, List, [], ◌∷◌, ◌++◌, map, sym, refl, ap, ◌∙◌, arith, ne_eqb, flat_map, if◌then◌else◌, ◌==◌, range_with_len, flat_map-append, append-nil, map-append, MapEnd, map_number, bit_places}
 use Rattle.shr_core.specs.Ending.{units_below, groups_below, nodes_below}
-use Rattle.shr_assemble.proofs.WalkingIds.{range_suc}
+use Rattle.shr_assemble.proofs.WalkingWell.{range_suc}
 
 -- where a bit word stands
 abbrev pub where_is : MapEnd → ℕ × ℕ × ℕ

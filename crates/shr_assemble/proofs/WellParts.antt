@@ -1,14 +1,9 @@
 -- The part of a worker in the report of a run is well formed: its walks and its carries stand in the order of its commands.
-use Rattle.shr_assemble.proofs.Common.{◌≡◌, ℕ, ◌<◌, ◌≤◌, List, [], ◌∷◌, length, map, sym, ap, subst, ◌∙◌, arith, slice_get, Option, Some, flat_map, AllByRecursion, AllAdjacentBelow, slice_get_within, WorkerPart, Serial, Answered, Script, Carry, Isolation, WalkRecord, IsWithin, content_of, Report, serial_of, LendsWord, IsBefore, AreNotFalling, IsWalkWell, DidCarry, isolated_in, Step, steps_of, IsRun, by_slices, IsCarryBefore, AreOfCommands, IsPartWell}
+use Rattle.shr_assemble.proofs.Common.{◌≡◌, ℕ, ◌<◌, ◌≤◌, List, [], ◌∷◌, length, map, sym, ap, subst, ◌∙◌, arith, slice_get, Option, Some, flat_map, AllByRecursion, AllAdjacentBelow, slice_get_within, WorkerPart, Serial, Answered, Script, Carry, Isolation, WalkRecord, IsWithin, content_of, Report, serial_of, LendsWord, IsBefore, AreNotFalling, IsWalkWell, DidCarry, isolated_in, Step, steps_of, IsRun, by_slices, IsCarryBefore, AreOfCommands, IsPartWell, answers_in, walks_in, carries_in, isolations_in, plain_in, plain_order}
 use Rattle.shr_base.specs.declared.walks.PlainWalk.{PlainWalk}
-use Rattle.shr_report.specs.Parts.{answers_in, walks_in, carries_in, isolations_in}
-use Rattle.shr_report.specs.UnitParts.{plain_in}
-use Rattle.shr_units.proofs.FormLaw.{plain_order}
-use Rattle.shr_assemble.proofs.Flattening.{answers_are, slice_map}
+use Rattle.shr_assemble.proofs.Listed.{answers_are, slice_map, all_slice, PairsRec, pairs_rec, pairs_by_slices, pairs_weaker}
 use Rattle.shr_assemble.proofs.Gathering.{flat_at}
 use Rattle.shr_assemble.proofs.IsolationSteps.{first_told, told_once, told_by}
-use Rattle.shr_assemble.proofs.Listed.{all_slice}
-use Rattle.shr_assemble.proofs.Operations.{PairsRec, pairs_rec, pairs_by_slices, pairs_weaker}
 use Rattle.shr_assemble.proofs.WellPairs.{AllCross, pairs_flat, pairs_map, adjacent}
 use Rattle.shr_assemble.proofs.WellWords.{answers_lend}
 
@@ -68,17 +63,16 @@ module _ (s : Script) (r : Report) (workers : List (List Step)) (run : IsRun s r
   carries_ordered : PairsRec IsCarryOrdered (flat_map (λ (x : Step). x.work.carries) mine)
   carries_ordered = pairs_of IsCarryOrdered (λ (x : Step). x.work.carries) mine
       (λ k x at. let rise = pairs_rec _ x.work.carries (run.steps.each worker k x at).did.moves.rise in in_step k x at rise)
-      (λ i j n m x y c d lt at_x at_y a b. let one = carry_command i n x c at_x a in let two = carry_command j m y d at_y b in record { command = omega (arith, one, two, lt); place = λ same. absurd (omega (arith, one, two, lt, same)) })
-    where
-      in_step : (k : ℕ) (x : Step) → slice_get mine k ≡ Some x → PairsRec (λ (c d : Carry). IsBefore c.place.id c.place.node d.place.id d.place.node) x.work.carries → PairsRec IsCarryOrdered x.work.carries
-      in_step k x at rise = ordered x.work.carries rise (by_slices (λ (c : Carry). c.by.command ≡ k) x.work.carries (λ i c own. carry_command k i x c at own)) where
-        heads : (c : Carry) (ds : List Carry) → c.by.command ≡ k → AllByRecursion (λ (d : Carry). d.by.command ≡ k) ds → AllByRecursion (λ (d : Carry). IsBefore c.place.id c.place.node d.place.id d.place.node) ds → AllByRecursion (IsCarryOrdered c) ds
-        heads c [] e es h = tt
-        heads c (d ∷ ds) e es h = (record { command = (let f = es.0 in omega (arith, e, f)); place = λ same. h.0 }, heads c ds e es.1 h.1)
+      (λ i j n m x y c d lt at_x at_y a b. let one = carry_command i n x c at_x a in let two = carry_command j m y d at_y b in record { command = omega (arith, one, two, lt); place = λ same. absurd (omega (arith, one, two, lt, same)) }) where
+        in_step : (k : ℕ) (x : Step) → slice_get mine k ≡ Some x → PairsRec (λ (c d : Carry). IsBefore c.place.id c.place.node d.place.id d.place.node) x.work.carries → PairsRec IsCarryOrdered x.work.carries
+        in_step k x at rise = ordered x.work.carries rise (by_slices (λ (c : Carry). c.by.command ≡ k) x.work.carries (λ i c own. carry_command k i x c at own)) where
+          heads : (c : Carry) (ds : List Carry) → c.by.command ≡ k → AllByRecursion (λ (d : Carry). d.by.command ≡ k) ds → AllByRecursion (λ (d : Carry). IsBefore c.place.id c.place.node d.place.id d.place.node) ds → AllByRecursion (IsCarryOrdered c) ds
+          heads c [] e es h = tt
+          heads c (d ∷ ds) e es h = (record { command = (let f = es.0 in omega (arith, e, f)); place = λ same. h.0 }, heads c ds e es.1 h.1)
 
-        ordered : (cs : List Carry) → PairsRec (λ (c d : Carry). IsBefore c.place.id c.place.node d.place.id d.place.node) cs → AllByRecursion (λ (c : Carry). c.by.command ≡ k) cs → PairsRec IsCarryOrdered cs
-        ordered [] h es = tt
-        ordered (c ∷ cs) h es = (heads c cs es.0 es.1 h.0, ordered cs h.1 es.1)
+          ordered : (cs : List Carry) → PairsRec (λ (c d : Carry). IsBefore c.place.id c.place.node d.place.id d.place.node) cs → AllByRecursion (λ (c : Carry). c.by.command ≡ k) cs → PairsRec IsCarryOrdered cs
+          ordered [] h es = tt
+          ordered (c ∷ cs) h es = (heads c cs es.0 es.1 h.0, ordered cs h.1 es.1)
 
   isolations_are : part.isolations.items ≡ flat_map isolated_in mine
   isolations_are = ap isolations_in (sym here) ∙ run.isolations.told worker

@@ -1,25 +1,22 @@
 -- The words of the entries, the objects and the replies of a run are those of its script's commands.
-use Rattle.shr_assemble.proofs.Common.{◌≡◌, ℕ, Bool, true, false, cond, List, [], ◌∷◌, length, take, map, sym, refl, ap, subst, ◌∙◌, slice_get, Option, Some, None, find, option_map, AllByRecursion, same_Some, none-some, Entry, Add, Look, Drop, Pin, Scan, MovedIn, Closed, Drained, Object, At, Place, Serial, Reply, Command, Put, Get, Del, SetPin, Script, WorkerScript, named_in, is_named, marked_object, unmarked_object, pinned_object, by_of, items_at, lists_moved_at, items_from, place_at, Made, IsWithin, IsCommandWithin, content_of, Report, parents_of, commands_in, commands_of, journals_of, id_found, items_left, at, IsReply, HasWords, LendsWord, IsSpelled, Step, steps_of, MayMakeEntry, IsReplyTo, IsRun, by_slices}
+use Rattle.shr_assemble.proofs.Common.{◌≡◌, ℕ, Bool, true, false, cond, List, [], ◌∷◌, length, take, map, sym, refl, ap, subst, ◌∙◌, slice_get, Option, Some, None, find, option_map, AllByRecursion, same_Some, none-some, Entry, Add, Look, Drop, Pin, Scan, MovedIn, Closed, Drained, Object, At, Place, Serial, Reply, Command, Put, Get, Del, SetPin, Script, WorkerScript, named_in, is_named, marked_object, unmarked_object, pinned_object, by_of, items_at, lists_moved_at, items_from, place_at, Made, IsWithin, IsCommandWithin, content_of, Report, parents_of, commands_in, commands_of, journals_of, id_found, items_left, at, IsReply, HasWords, LendsWord, IsSpelled, Step, steps_of, MayMakeEntry, IsReplyTo, IsRun, by_slices, is_value}
 use Rattle.shr_base.specs.declared.replies.Reply.TheVariants as reply
-use Rattle.shr_model.specs.Words.{is_value}
 use Rattle.shr_assemble.proofs.FamilyObjects.{AddIs, items_at_kept}
-use Rattle.shr_assemble.proofs.Gathering.{each_among}
+use Rattle.shr_assemble.proofs.Gathering.{each_among, maker, made_stands}
 use Rattle.shr_assemble.proofs.Listed.{all_slice_by}
-use Rattle.shr_assemble.proofs.Making.{maker, made_stands}
 use Rattle.shr_assemble.proofs.ReplyEntries.{IsEntryFor, entry_asked}
 use Rattle.shr_assemble.proofs.RepliesLaw.{told_of}
 
 -- a fact of each command of each worker, at one
 command_fact : (P : Command → Type 0) (ws : List WorkerScript) (worker k : ℕ) (c : Command) → AllByRecursion (AllByRecursion P) (map (λ (w : WorkerScript). w.commands.items) ws) → slice_get (commands_in (slice_get ws worker)) k ≡ Some c → P c
-command_fact P ws worker k c h e = by (slice_get ws worker) refl e
-  where
-    unmapped : (us : List WorkerScript) → AllByRecursion (AllByRecursion P) (map (λ (w : WorkerScript). w.commands.items) us) → AllByRecursion (λ (w : WorkerScript). AllByRecursion P w.commands.items) us
-    unmapped [] h = tt
-    unmapped (u ∷ us) h = (h.0, unmapped us h.1)
+command_fact P ws worker k c h e = by (slice_get ws worker) refl e where
+  unmapped : (us : List WorkerScript) → AllByRecursion (AllByRecursion P) (map (λ (w : WorkerScript). w.commands.items) us) → AllByRecursion (λ (w : WorkerScript). AllByRecursion P w.commands.items) us
+  unmapped [] h = tt
+  unmapped (u ∷ us) h = (h.0, unmapped us h.1)
 
-    by : (o : Option WorkerScript) → slice_get ws worker ≡ o → slice_get (commands_in o) k ≡ Some c → P c
-    by None there e = absurd (none-some c e)
-    by (Some w) there e = all_slice_by P w.commands.items k c (all_slice_by (λ (u : WorkerScript). AllByRecursion P u.commands.items) ws worker w (unmapped ws h) there) e
+  by : (o : Option WorkerScript) → slice_get ws worker ≡ o → slice_get (commands_in o) k ≡ Some c → P c
+  by None there e = absurd (none-some c e)
+  by (Some w) there e = all_slice_by P w.commands.items k c (all_slice_by (λ (u : WorkerScript). AllByRecursion P u.commands.items) ws worker w (unmapped ws h) there) e
 
 -- an object stays spelled where it is marked or pinned
 marks : (o : Object) → IsSpelled o → IsSpelled (marked_object o)
@@ -49,10 +46,7 @@ words_for s by c e within is = absurd is
 -- the object that is found is one of these
 found_in : (P : Object → Type 0) (birth : ℕ) (key : List ℕ) (items : List Object) (o : Object) → AllByRecursion P items → named_in birth key items ≡ Some o → P o
 found_in P birth key [] o h e = absurd (none-some o e)
-found_in P birth key (x ∷ xs) o h e = kept (is_named birth key x) e (λ f. found_in P birth key xs o h.1 f) where
-  kept : (b : Bool) → cond b (Some x) (find (is_named birth key) xs) ≡ Some o → (find (is_named birth key) xs ≡ Some o → P o) → P o
-  kept true e later = subst P (same_Some x o e) h.0
-  kept false e later = later e
+found_in P birth key (x ∷ xs) o h e = (elim (is_named birth key x) as (λ (b : Bool). cond b (Some x) (find (is_named birth key) xs) ≡ Some o → (find (is_named birth key) xs ≡ Some o → P o) → P o) [ true ↦ λ e later. subst P (same_Some x o e) h.0 | false ↦ λ e later. later e ]) e (λ f. found_in P birth key xs o h.1 f)
 
 -- and so is its value
 lent : (birth : ℕ) (key value : List ℕ) (items : List Object) → AllByRecursion IsSpelled items → option_map (λ (o : Object). o.value) (named_in birth key items) ≡ Some value → is_value value ≡ true
@@ -84,10 +78,7 @@ module _ (s : Script) (r : Report) (workers : List (List Step)) (run : IsRun s r
   words_at place n (Look by birth key hit) stands = tenant place n (Look by birth key hit) by stands refl
   words_at place n (Drop by birth key kind) stands = tenant place n (Drop by birth key kind) by stands refl
   words_at place n (Pin by birth key pinned hit) stands = tenant place n (Pin by birth key pinned hit) by stands refl
-  words_at place n (Scan worker walk asked policy visits freed stopped) stands = record { words = tt; adds = tt }
-  words_at place n (MovedIn child objects) stands = record { words = tt; adds = tt }
-  words_at place n Closed stands = record { words = tt; adds = tt }
-  words_at place n (Drained by objects) stands = record { words = tt; adds = tt }
+  words_at place n e stands = record { words = tt; adds = tt }
 
   pub entries_spelled : (place : Place) → AllByRecursion HasWords (journals_of r place)
   entries_spelled place = by_slices HasWords (journals_of r place) (λ n e stands. (words_at place n e stands).words)

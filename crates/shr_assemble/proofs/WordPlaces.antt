@@ -1,6 +1,5 @@
 -- The word of each place of a table of deferred words, by its number.
-use Rattle.shr_assemble.proofs.Common.{◌≡◌, ℕ, ◌+◌, ◌*◌, ◌/◌, ◌%◌, ◌<◌, sym, ◌∙◌, arith, range_with_len, length-range_with_len, get_or-range_with_len, Has, Has_from_Contains, Contains_from_Has, Sizes, IsPlaceOf, row_count, mul_comm, place_inside}
-use Rattle.shr_seats.specs.Rows.{place_of_row}
+use Rattle.shr_assemble.proofs.Common.{◌≡◌, ℕ, ◌+◌, ◌*◌, ◌/◌, ◌%◌, ◌<◌, sym, ◌∙◌, arith, range_with_len, length-range_with_len, get_or-range_with_len, Has, Has_from_Contains, Contains_from_Has, Sizes, IsPlaceOf, row_count, mul_comm, place_inside, place_of_row}
 use Rattle.shr_units.proofs.Pooling.{place_back, some_right}
 
 -- each number below the number of words is that of a place

@@ -15,10 +15,8 @@ abbrev IsChargeOf : List ℕ → Option Command → Reply → Type 0
 IsChargeOf ps c x = (charged ps 0 c (Some x) ≡ 0) ⊎ (IsPut c × ((a : At) × (x ≡ reply.Added a)) × (charged ps 0 c (Some x) ≤ 1))
 
 charge_of : (ps : List ℕ) (c : Option Command) (x : Reply) → IsChargeOf ps c x
-charge_of ps None x = inl refl
 charge_of ps (Some (Put group node decl key value)) (reply.Added a) = inr (refl, (a, refl), most_one (is_at_or_above ps 0 group))
-charge_of ps (Some (Put group node decl key value)) x = inl refl
-charge_of ps (Some c) x = inl refl
+charge_of ps c x = inl refl
 
 -- ---- sums
 each_most : {A : Type 0} (f g : A → ℕ) (xs : List A) → Each (λ x. f x ≤ g x) xs → total f xs ≤ total g xs
@@ -37,10 +35,7 @@ slices_less f g (y ∷ ys) h (suc k) x at less = omega (arith, h 0 y refl, slice
 
 filter_total : {A : Type 0} (p : A → Bool) (xs : List A) → length (filter p xs) ≡ total (λ x. cond {A = ℕ} (p x) 1 0) xs
 filter_total p [] = refl
-filter_total p (x ∷ xs) = choose (p x) (filter_total p xs) where
-  choose : (b : Bool) → length (filter p xs) ≡ total (λ y. cond {A = ℕ} (p y) 1 0) xs → length (cond b (x ∷ filter p xs) (filter p xs)) ≡ cond {A = ℕ} b 1 0 + total (λ y. cond {A = ℕ} (p y) 1 0) xs
-  choose true h = omega (arith, h)
-  choose false h = omega (arith, h)
+filter_total p (x ∷ xs) = (elim (p x) as (λ (b : Bool). length (filter p xs) ≡ total (λ y. cond {A = ℕ} (p y) 1 0) xs → length (cond b (x ∷ filter p xs) (filter p xs)) ≡ cond {A = ℕ} b 1 0 + total (λ y. cond {A = ℕ} (p y) 1 0) xs) [ true ↦ λ h. omega (arith, h) | false ↦ λ h. omega (arith, h) ]) (filter_total p xs)
 
 flat_long : {A B : Type 0} (f : A → List B) (xs : List A) → length (flat_map f xs) ≡ total (λ x. length (f x)) xs
 flat_long f [] = refl
@@ -82,10 +77,7 @@ puts_are (w ∷ ws) = omega (arith, sum_by-cons (λ (v : WorkerScript). length (
 any_has : (xs : List ℕ) (g : ℕ) → Has xs g → list_any (λ h. h == g) xs ≡ true
 any_has [] g has = absurd has
 any_has (x ∷ xs) g (inl e) = ap (λ b. b || list_any (λ h. h == g) xs) (eq-eqb x g e)
-any_has (x ∷ xs) g (inr has) = later (eqb x g) (any_has xs g has) where
-  later : (b : Bool) → list_any (λ h. h == g) xs ≡ true → (b || list_any (λ h. h == g) xs) ≡ true
-  later true h = refl
-  later false h = h
+any_has (x ∷ xs) g (inr has) = (elim (eqb x g) as (λ (b : Bool). list_any (λ h. h == g) xs ≡ true → (b || list_any (λ h. h == g) xs) ≡ true) [ true ↦ λ h. refl | false ↦ λ h. h ]) (any_has xs g has)
 
 module _ (s : Script) (r : Report) (workers : List (List Step)) (run : IsRun s r workers) where
   -- the objects that an entry added
@@ -106,13 +98,7 @@ module _ (s : Script) (r : Report) (workers : List (List Step)) (run : IsRun s r
       let is : cond {A = ℕ} (is_at_or_above (parents_of s) 0 birth) 1 0 ≡ 1 = ap (λ (b : Bool). cond {A = ℕ} b 1 0) (any_has (path_of (parents_of s) birth) 0 (Has_from_Contains (path_of (parents_of s) birth) 0 above)) in
       omega (arith, is)
   below_root (Add by birth false key value) p n stands = omega arith
-  below_root (Look by birth key hit) p n stands = omega arith
-  below_root (Drop by birth key kind) p n stands = omega arith
-  below_root (Pin by birth key pinned hit) p n stands = omega arith
-  below_root (Scan worker walk asked policy visits freed stopped) p n stands = omega arith
-  below_root (MovedIn child objects) p n stands = omega arith
-  below_root Closed p n stands = omega arith
-  below_root (Drained by objects) p n stands = omega arith
+  below_root o p n stands = omega arith
 
   journal_long : (i : ℕ) (es : List Entry) → total (λ (e : ℕ × Entry). length (added_by e.1)) (enumerate_from i es) ≡ length (added_by_all es)
   journal_long i [] = refl
@@ -172,41 +158,33 @@ module _ (s : Script) (r : Report) (workers : List (List Step)) (run : IsRun s r
   -- an entry adds one object at most, below the root or not
   root_most : (e : Entry) → added_below (parents_of s) 0 e ≤ length (added_by e)
   root_most (Add by birth true key value) = most_one (is_at_or_above (parents_of s) 0 birth)
-  root_most (Add by birth false key value) = omega arith
-  root_most (Look by birth key hit) = omega arith
-  root_most (Drop by birth key kind) = omega arith
-  root_most (Pin by birth key pinned hit) = omega arith
-  root_most (Scan worker walk asked policy visits freed stopped) = omega arith
-  root_most (MovedIn child objects) = omega arith
-  root_most Closed = omega arith
-  root_most (Drained by objects) = omega arith
+  root_most e = omega arith
 
   module _ (all : IsEachAdded s r) where
     asked_most : (worker k : ℕ) (y : Step) → slice_get (steps_of workers worker) k ≡ Some y → asked y ≤ charged_by y
-    asked_most worker k y at = let is = charged_is worker k y at in let most = by_command y.command refl in omega (arith, is, most)
-      where
-        command_is : slice_get (commands_of s worker) k ≡ y.command
-        command_is = (run.steps.each worker k y at).command
+    asked_most worker k y at = let is = charged_is worker k y at in let most = by_command y.command refl in omega (arith, is, most) where
+      command_is : slice_get (commands_of s worker) k ≡ y.command
+      command_is = (run.steps.each worker k y at).command
 
-        answer_is : slice_get (answers_of r worker) k ≡ Some y.answered
-        answer_is = (run.steps.each worker k y at).answered
+      answer_is : slice_get (answers_of r worker) k ≡ Some y.answered
+      answer_is = (run.steps.each worker k y at).answered
 
-        -- the put's object stands in the list of a group of the tree
-        put_charged : (group node decl : ℕ) (key value : List ℕ) (c : At) → slice_get (commands_of s worker) k ≡ Some (Put group node decl key value)
-            → (found : Option ℕ) → IsReply (parents_of s) (journals_of r) (serial_of worker k) (Put group node decl key value) found (reply.Added c)
-            → 1 ≤ charged (parents_of s) 0 (Some (Put group node decl key value)) (Some (reply.Added c))
-        put_charged group node decl key value c command None h = absurd h
-        put_charged group node decl key value c command (Some id) h = below_root (Add (serial_of worker k) group true key value) c.place c.entry h.stands
+      -- the put's object stands in the list of a group of the tree
+      put_charged : (group node decl : ℕ) (key value : List ℕ) (c : At) → slice_get (commands_of s worker) k ≡ Some (Put group node decl key value)
+          → (found : Option ℕ) → IsReply (parents_of s) (journals_of r) (serial_of worker k) (Put group node decl key value) found (reply.Added c)
+          → 1 ≤ charged (parents_of s) 0 (Some (Put group node decl key value)) (Some (reply.Added c))
+      put_charged group node decl key value c command None h = absurd h
+      put_charged group node decl key value c command (Some id) h = below_root (Add (serial_of worker k) group true key value) c.place c.entry h.stands
 
-        by_command : (o : Option Command) → y.command ≡ o → asks o ≤ charged (parents_of s) 0 o (Some y.answered.reply)
-        by_command None is = omega arith
-        by_command (Some (Put group node decl key value)) is =
-            let command = command_is ∙ is in
-            let t = all worker k group node decl key value y.answered command answer_is in
-            let told = (replies_lawful s r workers run).answered (serial_of worker k) (Put group node decl key value) y.answered command answer_is in
-            subst (λ x. 1 ≤ charged (parents_of s) 0 (Some (Put group node decl key value)) (Some x)) (sym t.1)
-            (put_charged group node decl key value t.0 command (id_found y.answered) (subst (IsReply (parents_of s) (journals_of r) (serial_of worker k) (Put group node decl key value) (id_found y.answered)) t.1 told))
-        by_command (Some c) is = omega arith
+      by_command : (o : Option Command) → y.command ≡ o → asks o ≤ charged (parents_of s) 0 o (Some y.answered.reply)
+      by_command None is = omega arith
+      by_command (Some (Put group node decl key value)) is =
+          let command = command_is ∙ is in
+          let t = all worker k group node decl key value y.answered command answer_is in
+          let told = (replies_lawful s r workers run).answered (serial_of worker k) (Put group node decl key value) y.answered command answer_is in
+          subst (λ x. 1 ≤ charged (parents_of s) 0 (Some (Put group node decl key value)) (Some x)) (sym t.1)
+          (put_charged group node decl key value t.0 command (id_found y.answered) (subst (IsReply (parents_of s) (journals_of r) (serial_of worker k) (Put group node decl key value) (id_found y.answered)) t.1 told))
+      by_command (Some c) is = omega arith
 
     row_least : (worker : ℕ) (mine : List Step) → slice_get workers worker ≡ Some mine → total asked mine ≤ total charged_by mine
     row_least worker mine at = slices_most asked charged_by mine (λ k y e. asked_most worker k y (row_at worker mine at k y e))

@@ -1,6 +1,5 @@
 -- What a list held after some of its entries was freed later, or is listed at the end, in it or above it.
-use Rattle.shr_assemble.proofs.Common.{◌≡◌, ℕ, zero, suc, ◌+◌, ◌<◌, ◌≤◌, inl, inr, ⊎_elim, Bool, true, false, ◌&&◌, ◌==◌, cond, List, [], ◌∷◌, ◌++◌, length, take, drop, sym, refl, ap, subst, ◌∙◌, arith, eq-eqb, ne_eqb, Contains, nat_lt, and_parts, and_from, eqb-true, ltb-true, lt-ltb, length_permutation, dite, ℕ_discrete, Object, Place, Serial, Entry, Add, Look, Drop, Pin, Scan, MovedIn, Closed, Drained, serials_of, added_in, freed_at, listed_in, Family, moved_in, before_closed, without_child, items_given, lists_moved_at, items_at, items_of, IsLegal, IsTree, parent_of, is_child, step, first_moved, later_moved, freed_by, is_closed, at_group, is_place, child_takes, child_higher, IsWhole, bag_of_legal, Has, Has_from_Contains, is_place_same, is_place_itself, weight, mass, weight_append, mass_append, given_by, mass_of_journal, total, total_both, gives_before, open_legal, closed_below_root, parent_place, given_to_parent}
-use Rattle.shr_model.specs.Bag.{freed_in}
+use Rattle.shr_assemble.proofs.Common.{◌≡◌, ℕ, zero, suc, ◌+◌, ◌<◌, ◌≤◌, inl, inr, ⊎_elim, Bool, true, false, ◌&&◌, ◌==◌, cond, List, [], ◌∷◌, ◌++◌, length, take, drop, sym, refl, ap, subst, ◌∙◌, arith, eq-eqb, ne_eqb, Contains, nat_lt, and_parts, and_from, eqb-true, ltb-true, lt-ltb, length_permutation, dite, ℕ_discrete, Object, Place, Serial, Entry, Add, Look, Drop, Pin, Scan, MovedIn, Closed, Drained, serials_of, added_in, freed_at, listed_in, Family, moved_in, before_closed, without_child, items_given, lists_moved_at, items_at, items_of, IsLegal, IsTree, parent_of, is_child, step, first_moved, later_moved, freed_by, is_closed, at_group, is_place, child_takes, child_higher, IsWhole, bag_of_legal, Has, Has_from_Contains, is_place_same, is_place_itself, weight, mass, weight_append, mass_append, given_by, mass_of_journal, total, total_both, gives_before, open_legal, closed_below_root, parent_place, given_to_parent, freed_in}
 use Rattle.shr_model.specs.Families.{lists_moved, IsPaired}
 use Rattle.shr_model.specs.Items.{items_from, freed_from, moved_from, AreOutcomes}
 use Rattle.shr_model.proofs.Weights.{taken_from, given_from}
@@ -22,29 +21,17 @@ pub taken_later : (w : Serial → ℕ) (took : ℕ → List Object) (es : List E
     → mass w (took child) ≤ mass w (taken_from (moved_from (lists_moved took es) (take n es)) (drop n es))
 unfolding taken_from lists_moved moved_from
 taken_later w took [] n child has not = absurd has
-taken_later w took (Add by birth added key value ∷ es) zero child has not = taken_later w took es zero child has not
-taken_later w took (Look by birth key hit ∷ es) zero child has not = taken_later w took es zero child has not
-taken_later w took (Drop by birth key kind ∷ es) zero child has not = taken_later w took es zero child has not
-taken_later w took (Pin by birth key pinned hit ∷ es) zero child has not = taken_later w took es zero child has not
-taken_later w took (Scan worker walk asked policy visits freed stopped ∷ es) zero child has not = taken_later w took es zero child has not
-taken_later w took (Closed ∷ es) zero child has not = taken_later w took es zero child has not
-taken_later w took (Drained by objects ∷ es) zero child has not = taken_later w took es zero child has not
 taken_later w took (MovedIn c objects ∷ es) zero child has not =
     let first = mass_append w (took c) (taken_from (lists_moved (without_child c took) es) es) in
     dite (ℕ_discrete c child) (λ e. let same : mass w (took c) ≡ mass w (took child) = ap (λ (d : ℕ). mass w (took d)) e in omega (arith, first, same))
     (λ ne. ⊎_elim (λ e. absurd (ne e))
     (λ rest. let same : mass w (without_child c took child) ≡ mass w (took child) = ap (λ (b : Bool). mass w (cond b [] (took child))) (ne_eqb child c (λ e. ne (sym e))) in
     omega (arith, first, same, taken_later w (without_child c took) es zero child rest (λ h. h))) has)
-taken_later w took (Add by birth added key value ∷ es) (suc n) child has not = taken_later w took es n child has not
-taken_later w took (Look by birth key hit ∷ es) (suc n) child has not = taken_later w took es n child has not
-taken_later w took (Drop by birth key kind ∷ es) (suc n) child has not = taken_later w took es n child has not
-taken_later w took (Pin by birth key pinned hit ∷ es) (suc n) child has not = taken_later w took es n child has not
-taken_later w took (Scan worker walk asked policy visits freed stopped ∷ es) (suc n) child has not = taken_later w took es n child has not
-taken_later w took (Closed ∷ es) (suc n) child has not = taken_later w took es n child has not
-taken_later w took (Drained by objects ∷ es) (suc n) child has not = taken_later w took es n child has not
 taken_later w took (MovedIn c objects ∷ es) (suc n) child has not =
     let same : mass w (without_child c took child) ≡ mass w (took child) = ap (λ (b : Bool). mass w (cond b [] (took child))) (ne_eqb child c (λ e. not (inl (sym e)))) in
     ⊎_elim (λ e. absurd (not (inl e))) (λ rest. omega (arith, same, taken_later w (without_child c took) es n child rest (λ h. not (inr h)))) has
+taken_later w took (e ∷ es) zero child has not = taken_later w took es zero child has not
+taken_later w took (e ∷ es) (suc n) child has not = taken_later w took es n child has not
 
 -- sums term by term
 terms_most : {A : Type 0} (f g : A → ℕ) → ((x : A) → f x ≤ g x) → (xs : List A) → total f xs ≤ total g xs
@@ -131,23 +118,22 @@ module _ (w : Serial → ℕ) (parents : List ℕ) (tree : IsTree parents) (fami
   -- what a list frees, gives away and leaves is freed and left by it and the lists above it
   climb : (p : Place) (fuel g : ℕ) → g < fuel → g < length parents → kept (at_group p g) + mass w (gave (at_group p g)) ≤ below p (suc g)
   climb p zero g lt within = absurd (omega (arith, lt))
-  climb p (suc fuel) g lt within = choose (is_closed (family (at_group p g))) refl (climb p fuel)
-    where
-      choose : (b : Bool) → is_closed (family (at_group p g)) ≡ b → ((h : ℕ) → h < fuel → h < length parents → kept (at_group p h) + mass w (gave (at_group p h)) ≤ below p (suc h)) → kept (at_group p g) + mass w (gave (at_group p g)) ≤ below p (suc g)
-      choose false is_open lower_ones = let none = ap (mass w) (gave_none (at_group p g) is_open) in let more = with_own p g 0 (omega arith) in omega (arith, none, more)
-      choose true closes lower_ones =
-          let root = closed_below_root parents family (at_group p g) (legal (at_group p g)) closes in
-          let above : 0 < g = omega (arith, root) in
-          let lower = tree.lower g above within in
-          let up : ℕ = parent_of parents g in
-          let higher : Place = at_group p up in
-          let gave_is = ap (mass w) (gave_up (at_group p g) closes within) in
-          let has = Has_from_Contains (moved_in (family higher)) g ((paired (at_group p g) above within).0 closes) in
-          let taken = taken_later w (items_given parents family higher) (family higher) 0 g has (λ h. h) in
-          let all = mid_weighs w (lists_moved_at parents family higher) [] (family higher) 0 (legal higher).outcomes in
-          let rest = lower_ones up (omega (arith, lower, lt)) (omega (arith, lower, within)) in
-          let more = with_own p g (suc up) (omega (arith, lower)) in
-          omega (arith, gave_is, taken, all, rest, more)
+  climb p (suc fuel) g lt within = choose (is_closed (family (at_group p g))) refl (climb p fuel) where
+    choose : (b : Bool) → is_closed (family (at_group p g)) ≡ b → ((h : ℕ) → h < fuel → h < length parents → kept (at_group p h) + mass w (gave (at_group p h)) ≤ below p (suc h)) → kept (at_group p g) + mass w (gave (at_group p g)) ≤ below p (suc g)
+    choose false is_open lower_ones = let none = ap (mass w) (gave_none (at_group p g) is_open) in let more = with_own p g 0 (omega arith) in omega (arith, none, more)
+    choose true closes lower_ones =
+        let root = closed_below_root parents family (at_group p g) (legal (at_group p g)) closes in
+        let above : 0 < g = omega (arith, root) in
+        let lower = tree.lower g above within in
+        let up : ℕ = parent_of parents g in
+        let higher : Place = at_group p up in
+        let gave_is = ap (mass w) (gave_up (at_group p g) closes within) in
+        let has = Has_from_Contains (moved_in (family higher)) g ((paired (at_group p g) above within).0 closes) in
+        let taken = taken_later w (items_given parents family higher) (family higher) 0 g has (λ h. h) in
+        let all = mid_weighs w (lists_moved_at parents family higher) [] (family higher) 0 (legal higher).outcomes in
+        let rest = lower_ones up (omega (arith, lower, lt)) (omega (arith, lower, within)) in
+        let more = with_own p g (suc up) (omega (arith, lower)) in
+        omega (arith, gave_is, taken, all, rest, more)
 
   -- one list after some entries
   pub one_list : (p : Place) → p.group < length parents → (n : ℕ) → mass w (items_at parents family p n) ≤ total kept places
@@ -161,25 +147,24 @@ module _ (w : Serial → ℕ) (parents : List ℕ) (tree : IsTree parents) (fami
   -- a list after some entries, and that of a child which was not moved in before them
   pub two_lists : (p : Place) → p.group < length parents → (child : ℕ) → is_child parents p.group child ≡ true → (n m : ℕ) → (Has (moved_in (take n (family p))) child → ⊥)
       → mass w (items_at parents family p n) + mass w (items_at parents family (at_group p child) m) ≤ total kept places
-  two_lists p within child is n m not = choose (is_closed (family (at_group p child))) refl
-    where
-      own : mass w (items_at parents family p n) + mass w (taken_from (moved_from (lists_moved_at parents family p) (take n (family p))) (drop n (family p))) ≤ below p (suc p.group)
-      own = omega (arith, mid_weighs w (lists_moved_at parents family p) [] (family p) n (legal p).outcomes, climb p (suc p.group) p.group (omega arith) within)
+  two_lists p within child is n m not = choose (is_closed (family (at_group p child))) refl where
+    own : mass w (items_at parents family p n) + mass w (taken_from (moved_from (lists_moved_at parents family p) (take n (family p))) (drop n (family p))) ≤ below p (suc p.group)
+    own = omega (arith, mid_weighs w (lists_moved_at parents family p) [] (family p) n (legal p).outcomes, climb p (suc p.group) p.group (omega arith) within)
 
-      lower : mass w (items_at parents family (at_group p child) m) ≤ kept (at_group p child) + mass w (gave (at_group p child))
-      lower = omega (arith, mid_weighs w (lists_moved_at parents family (at_group p child)) [] (family (at_group p child)) m (legal (at_group p child)).outcomes)
+    lower : mass w (items_at parents family (at_group p child) m) ≤ kept (at_group p child) + mass w (gave (at_group p child))
+    lower = omega (arith, mid_weighs w (lists_moved_at parents family (at_group p child)) [] (family (at_group p child)) m (legal (at_group p child)).outcomes)
 
-      both : kept (at_group p child) + below p (suc p.group) ≤ total kept places
-      both = let takes = child_takes parents p.group child is in let high = child_higher parents p.group child tree takes in omega (arith, with_own p child (suc p.group) (omega (arith, high)), below_all p (suc child))
+    both : kept (at_group p child) + below p (suc p.group) ≤ total kept places
+    both = let takes = child_takes parents p.group child is in let high = child_higher parents p.group child tree takes in omega (arith, with_own p child (suc p.group) (omega (arith, high)), below_all p (suc child))
 
-      choose : (b : Bool) → is_closed (family (at_group p child)) ≡ b → mass w (items_at parents family p n) + mass w (items_at parents family (at_group p child) m) ≤ total kept places
-      choose false is_open = let none = ap (mass w) (gave_none (at_group p child) is_open) in omega (arith, none, own, lower, both)
-      choose true closes =
-          let takes = child_takes parents p.group child is in
-          let gave_is = ap (mass w) (gave_up (at_group p child) closes takes.there ∙ ap (λ (g : ℕ). items_given parents family (at_group p g) child) takes.parent) in
-          let has = Has_from_Contains (moved_in (family p)) child (subst (λ (g : ℕ). Contains (moved_in (family (at_group p g))) child) takes.parent ((paired (at_group p child) takes.above takes.there).0 closes)) in
-          let taken = taken_later w (items_given parents family p) (family p) n child has not in
-          omega (arith, gave_is, taken, own, lower, both)
+    choose : (b : Bool) → is_closed (family (at_group p child)) ≡ b → mass w (items_at parents family p n) + mass w (items_at parents family (at_group p child) m) ≤ total kept places
+    choose false is_open = let none = ap (mass w) (gave_none (at_group p child) is_open) in omega (arith, none, own, lower, both)
+    choose true closes =
+        let takes = child_takes parents p.group child is in
+        let gave_is = ap (mass w) (gave_up (at_group p child) closes takes.there ∙ ap (λ (g : ℕ). items_given parents family (at_group p g) child) takes.parent) in
+        let has = Has_from_Contains (moved_in (family p)) child (subst (λ (g : ℕ). Contains (moved_in (family (at_group p g))) child) takes.parent ((paired (at_group p child) takes.above takes.there).0 closes)) in
+        let taken = taken_later w (items_given parents family p) (family p) n child has not in
+        omega (arith, gave_is, taken, own, lower, both)
 
   -- what all places free and leave is what they add
   pub freed_total : (ps : List Place) → total kept ps ≡ weight w (freed_in ps parents family) + weight w (listed_in ps parents family)

@@ -4,10 +4,10 @@ use Rattle.shr_model.specs.Pieces.{pieces}
 use Rattle.shr_reader.specs.declared.said.Said.{Said}
 use Rattle.shr_draft.specs.Reading.{Says, Reads, IsReportOf}
 use Rattle.shr_draft.proofs.Whole.{reads_of}
-use Rattle.shr_case.proofs.Firsts.{some_is}
+use Rattle.shr_model.proofs.Lists.{some_injective}
 
 one_said : (version : ℕ) (line : List ℕ) (x y : Said) → Says version line x → Says version line y → x ≡ y
-one_said version line x y h k = some_is x y (sym h.is ∙ k.is)
+one_said version line x y h k = some_injective x y (sym h.is ∙ k.is)
 
 -- lines make one report of what was read before them
 one_reads : (ls : List (List ℕ)) (before r s : Report) → Reads ls before r → Reads ls before s → r ≡ s

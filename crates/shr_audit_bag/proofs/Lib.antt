@@ -1,3 +1,2 @@
 mod Common
-mod Adding
 mod Law

@@ -1,10 +1,11 @@
 -- Answers noted one after another.
-use Rattle.shr_audit_causes.proofs.Common.{◌≡◌, ℕ, zero, suc, ◌++◌, [], ◌∷◌, ◌+◌, ◌<◌, ◌≤◌, Bool, true, false, List, length, Option, Some, None, refl, sym, ap, subst, ◌∙◌, inl, inr, arith, ◌↔◌, slice_get, option_map, IsSomeAnd, nat_tests, slice_get_within, Serial, Reply, Script, WorkerPart, Report, command_at, reply_at, serial_of, Cited, Never, Once, Often, AreCited, AreCitedBefore, AnswerCites, CitesNow, IsEarlier, NotesAnswer, TellsCited, cited_in, noted_at, ◌⊎◌, ◌==◌, not, ◌||◌, answer_at, answers_in, answers_of, IsNever, after_cited}
+use Rattle.shr_audit_causes.proofs.Common.{◌≡◌, ℕ, zero, suc, ◌++◌, [], ◌∷◌, ◌+◌, ◌<◌, ◌≤◌, Bool, true, false, List, length, Option, Some, None, refl, sym, ap, subst, ◌∙◌, inl, inr, arith, ◌↔◌, slice_get, option_map, IsSomeAnd, nat_tests, slice_get_within, Serial, Reply, Script, WorkerPart, Report, command_at, reply_at, serial_of, Cited, Never, Once, Often, AreCited, AreCitedBefore, AnswerCites, CitesNow, IsEarlier, NotesAnswer, TellsCited, cited_in, noted_at, ◌⊎◌, ◌==◌, not, answer_at, answers_in, answers_of, IsNever, after_cited}
 use Rattle.std.proofs.lemmas.List.{get_or-set_same, get_or-set_other, length-set}
 use Rattle.shr_base.specs.declared.replies.Answered.{Answered}
 use Rattle.shr_audit_causes.specs.declared.cites.What.{What}
 use Rattle.shr_report.proofs.Reading.{either}
-use Rattle.shr_case.proofs.Firsts.{some_is}
+use Rattle.std.proofs.lemmas.Bool.{or_parts}
+use Rattle.shr_model.proofs.Lists.{some_injective}
 
 -- ---- the order of commands
 
@@ -60,10 +61,6 @@ apart_of v w e same = by (v == w) refl e
     by true f g = absurd cc
     by false f g = let other : v ≡ w → ⊥ = grind (arith, nat_tests) in other (sym same)
 
-pub or_false : (a b : Bool) → (a || b) ≡ false → (a ≡ false) × (b ≡ false)
-or_false true b e = absurd cc
-or_false false b e = (refl, e)
-
 -- one more is so, which comes behind all of which it was
 module _ (P Q : Serial → Type 0) (w k : ℕ) (to : (x : Serial) → P x → Q x) (from : (x : Serial) → Q x → P x ⊎ (x ≡ serial_of w k)) (earlier : (x : Serial) → P x → IsEarlier w k x) (own : Q (serial_of w k)) where
   not_itself : (x : Serial) → P x → serial_of w k ≡ x → ⊥
@@ -98,8 +95,8 @@ module _ (P Q : Serial → Type 0) (w k : ℕ) (to : (x : Serial) → P x → Q 
     two = (t.two.0, t.two.1, to t.two.0 t.two.2);
     first = firsts v j t.so t.first;
     alone = λ e x q. elim (from x q) [
-      | inl p ↦ t.alone (or_false others (not (v == w)) e).0 x p
-      | inr is ↦ ap (λ (y : Serial). y.worker) is ∙ same_of v w (or_false others (not (v == w)) e).1
+      | inl p ↦ t.alone (or_parts others (not (v == w)) e).0 x p
+      | inr is ↦ ap (λ (y : Serial). y.worker) is ∙ same_of v w (or_parts others (not (v == w)) e).1
     ];
     apart = λ e. elim (either others (not (v == w)) e) [
       | inl holds ↦ (let y = t.apart holds in (y.0, y.1, to y.0 y.2))
@@ -151,7 +148,7 @@ answer_noted s r what w k (Some m) table tells = record {
         by_order false f =
             let other : n ≡ m → ⊥ = grind (arith, nat_tests) in
             subst (TellsCited (λ x. IsEarlier w (k + 1) x × AnswerCites s r what n x)) (sym (get_or-set_other table m n (after_cited (cited_in table m) w k) Never other))
-            (nothing_told s r what w k n (cited_in table n) (λ c. other (sym (some_is m n ((tells n).0 c)))) (before n lt))
+            (nothing_told s r what w k n (cited_in table n) (λ c. other (sym (some_injective m n ((tells n).0 c)))) (before n lt))
 
 -- what the answer to a command tells, by its reply
 cites_reply : (s : Script) (r : Report) (what : What) (w k n : ℕ) (a : Answered) → answer_at r (serial_of w k) ≡ Some a → AnswerCites s r what n (serial_of w k) ↔ CitesNow r what (command_at s (serial_of w k)) a.reply n
@@ -159,11 +156,11 @@ cites_reply s r what w k n a there = (to (answer_at r (serial_of w k)) there, fr
   where
     to : (o : Option Answered) → o ≡ Some a → IsSomeAnd (option_map (λ (b : Answered). b.reply) o) (λ x. CitesNow r what (command_at s (serial_of w k)) x n) → CitesNow r what (command_at s (serial_of w k)) a.reply n
     to None e c = absurd c
-    to (Some b) e c = subst (λ (x : Answered). CitesNow r what (command_at s (serial_of w k)) x.reply n) (some_is b a e) c
+    to (Some b) e c = subst (λ (x : Answered). CitesNow r what (command_at s (serial_of w k)) x.reply n) (some_injective b a e) c
 
     from : (o : Option Answered) → o ≡ Some a → CitesNow r what (command_at s (serial_of w k)) a.reply n → IsSomeAnd (option_map (λ (b : Answered). b.reply) o) (λ x. CitesNow r what (command_at s (serial_of w k)) x n)
     from None e c = absurd (cc)
-    from (Some b) e c = subst (λ (x : Answered). CitesNow r what (command_at s (serial_of w k)) x.reply n) (sym (some_is b a e)) c
+    from (Some b) e c = subst (λ (x : Answered). CitesNow r what (command_at s (serial_of w k)) x.reply n) (sym (some_injective b a e)) c
 
 pub told_noted : (s : Script) (r : Report) (what : What) (w k : ℕ) (a : Answered) (told : Option ℕ) (table : List Cited) → Some a ≡ answer_at r (serial_of w k)
     → ((n : ℕ) → CitesNow r what (command_at s (serial_of w k)) a.reply n ↔ (told ≡ Some n)) → NotesAnswer s r what w k table (noted_at told w k table)

@@ -22,8 +22,7 @@ pub use Rattle.shr_base.specs.declared.scripts.Command.{Command}
 pub use Rattle.shr_base.specs.declared.scripts.GroupDecl.{GroupDecl}
 pub use Rattle.shr_base.specs.declared.scripts.Script.{Script}
 pub use Rattle.shr_base.specs.declared.scripts.WorkerScript.{WorkerScript}
-pub use Rattle.shr_case.proofs.Firsts.{some_is}
-pub use Rattle.shr_model.proofs.Lists.{added_to, all_both, all_push, flat_all, flat_one, map_end}
+pub use Rattle.shr_model.proofs.Lists.{added_to, all_both, all_push, flat_all, flat_one, map_end, some_injective}
 pub use Rattle.shr_model.specs.Charges.{AreTakenBack, IsBelow, IsChargeHistory, IsDownNext, IsNextUse, downs, is_by, is_refused, ops_by, ups, usage_after}
 pub use Rattle.shr_model.specs.Commands.{is_serial}
 pub use Rattle.shr_model.specs.Families.{items_at, items_of, lists_moved_at}

@@ -1,7 +1,8 @@
 -- What the operations of each group come to after one more, and when it may follow.
-use Rattle.shr_audit_charges.proofs.Common.{◌≡◌, ◌≢◌, ℕ, ◌+◌, ◌<◌, ◌≤◌, ◌⊎◌, inl, inr, Bool, true, false, not, cond, List, [], ◌∷◌, ◌++◌, length, get_or, set, take, drop, Option, Some, None, refl, sym, ap, subst, ◌∙◌, arith, ne_eqb, eq-eqb, ◌==◌, slice_get, cases_eq, length_push, take_more, take_all, length-set, length-take-le, count_by-le-length, sum_by-append, slice_get-get_or, slice_get_within, UseStep, ups, downs, Usage, group_uses, AreCharged, usage_of, AreUsagesOf, AreNone, with_use, some_is, length-filter, IsNextUse, IsChargeHistory, IsNextOfGroup, usage_with, put_usage, all_push}
-use Rattle.std.proofs.lemmas.List.Filters.{length-filter_both}
-use Rattle.shr_audit_charges.proofs.Pushed.{push_each, here_each, all_here, split_at, filter_in, filter_out, filter_here, set_own, set_other}
+use Rattle.shr_audit_charges.proofs.Common.{◌≡◌, ◌≢◌, ℕ, ◌+◌, ◌<◌, ◌≤◌, ◌⊎◌, inl, inr, Bool, true, false, not, cond, List, [], ◌∷◌, ◌++◌, length, get_or, set, take, drop, Option, Some, None, refl, sym, ap, subst, ◌∙◌, arith, ne_eqb, eq-eqb, ◌==◌, slice_get, cases_eq, length_push, take_more, take_all, length-set, length-take-le, count_by-le-length, sum_by-append, slice_get-get_or, slice_get_within, UseStep, ups, downs, Usage, group_uses, AreCharged, usage_of, AreUsagesOf, AreNone, with_use, length-filter, IsNextUse, IsChargeHistory, IsNextOfGroup, usage_with, put_usage, all_push, some_injective}
+use Rattle.shr_audit_charges.proofs.Pushed.{push_each, here_each, all_here, split_at, filter_in, filter_here, set_own, set_other}
+use Rattle.shr_model.proofs.ChargeLaws.{ups_downs, ups_push}
+use Rattle.shr_model.proofs.Lists.{filter_out}
 
 -- ---- the operations of a group
 
@@ -11,17 +12,8 @@ uses_own xs o g e = filter_in (λ (x : UseStep). x.group == g) xs o (eq-eqb o.gr
 pub uses_other : (xs : List UseStep) (o : UseStep) (g : ℕ) → o.group ≢ g → group_uses (xs ++ o ∷ []) g ≡ group_uses xs g
 uses_other xs o g ne = filter_out (λ (x : UseStep). x.group == g) xs o (ne_eqb o.group g ne)
 
-both_ways : (ops : List UseStep) → ups ops + downs ops ≡ length ops
-both_ways ops =
-    let u = length-filter (λ (o : UseStep). o.up) ops in
-    let d = length-filter (λ (o : UseStep). not o.up) ops in
-    let b = length-filter_both (λ (o : UseStep). o.up) (λ (o : UseStep). not o.up) (λ o. refl) ops in omega (arith, u, d, b)
-
 few_uses : (xs : List UseStep) (g : ℕ) → length (group_uses xs g) ≤ length xs
 few_uses xs g = let a = length-filter (λ (x : UseStep). x.group == g) xs in let b = count_by-le-length (λ (x : UseStep). x.group == g) xs in omega (arith, a, b)
-
-ups_push : (ops : List UseStep) (o : UseStep) → ups (ops ++ o ∷ []) ≡ ups ops + cond o.up 1 0
-ups_push ops o = let a = sum_by-append (λ (x : UseStep). cond x.up 1 0) ops (o ∷ []) in omega (arith, a)
 
 downs_push : (ops : List UseStep) (o : UseStep) → downs (ops ++ o ∷ []) ≡ downs ops + cond o.up 0 1
 downs_push ops o = let a = sum_by-append (λ (x : UseStep). cond (not x.up) 1 0) ops (o ∷ []) in let b = turned o.up in omega (arith, a, b)
@@ -51,7 +43,7 @@ noted_each xs us o h g x at = by_usage (slice_get us o.group) refl at
     by_group : (y : Usage) → slice_get us o.group ≡ Some y → (g ≡ o.group) ⊎ (g ≢ o.group) → slice_get (set us o.group (usage_with y o.up)) g ≡ Some x → x ≡ usage_of (group_uses (xs ++ o ∷ []) g)
     by_group y there (inl own) at =
         let here : slice_get (set us o.group (usage_with y o.up)) o.group ≡ Some x = subst (λ (j : ℕ). slice_get (set us o.group (usage_with y o.up)) j ≡ Some x) own at in
-        let x_is : usage_with y o.up ≡ x = some_is (usage_with y o.up) x (sym (set_own us o.group (usage_with y o.up) (slice_get_within us o.group y there)) ∙ here) in
+        let x_is : usage_with y o.up ≡ x = some_injective (usage_with y o.up) x (sym (set_own us o.group (usage_with y o.up) (slice_get_within us o.group y there)) ∙ here) in
         sym x_is ∙ ap (λ (v : Usage). usage_with v o.up) (h o.group y there) ∙ sym (usage_push (group_uses xs o.group) o) ∙ ap usage_of (sym (uses_own xs o o.group refl)) ∙ ap (λ (j : ℕ). usage_of (group_uses (xs ++ o ∷ []) j)) (sym own)
     by_group y there (inr other) at = h g x (sym (set_other us o.group g (usage_with y o.up) other) ∙ at) ∙ ap usage_of (sym (uses_other xs o g (λ same. other (sym same))))
 
@@ -65,7 +57,7 @@ next_of : (groups : ℕ) (xs : List UseStep) (us : List Usage) (o : UseStep) →
 next_of groups xs us o are (x, (at, (number, found))) =
     let is = are.each o.group x at in
     let u = ap (λ (v : Usage). v.ups) is in let d = ap (λ (v : Usage). v.downs) is in
-    let b = both_ways (group_uses xs o.group) in let c = are.count in let lt = slice_get_within us o.group x at in (
+    let b = ups_downs (group_uses xs o.group) in let c = are.count in let lt = slice_get_within us o.group x at in (
       omega (arith, c, lt),
       record { group = refl; number = omega (arith, u, d, b, number); found = found ∙ rw (u, d) refl },
     )
@@ -77,7 +69,7 @@ may_of groups xs us o are lt next =
     let at = slice_get-get_or us o.group d (omega (arith, c, lt)) in
     let is = are.each o.group (get_or us o.group d) at in
     let u = ap (λ (v : Usage). v.ups) is in let w = ap (λ (v : Usage). v.downs) is in
-    let b = both_ways (group_uses xs o.group) in let n = next.number in
+    let b = ups_downs (group_uses xs o.group) in let n = next.number in
     (get_or us o.group d, (at, (omega (arith, u, w, b, n), next.found ∙ rw (sym u, sym w) refl)))
 
 charged_push : (groups : ℕ) (xs : List UseStep) (o : UseStep) → AreCharged groups xs → o.group < groups → IsNextUse o.group (group_uses xs o.group) o → AreCharged groups (xs ++ o ∷ [])
@@ -121,7 +113,7 @@ pub small_usages : (groups : ℕ) (uses : List UseStep) (i : ℕ) (us : List Usa
 small_usages groups uses i us lt are g x at =
     let is = are.each g x at in
     let u = ap (λ (v : Usage). v.ups) is in let d = ap (λ (v : Usage). v.downs) is in
-    let b = both_ways (group_uses (take i uses) g) in
+    let b = ups_downs (group_uses (take i uses) g) in
     let few = few_uses (take i uses) g in let l = length-take-le i uses (omega (arith, lt)) in omega (arith, u, d, b, few, l, lt)
 
 pub all_charged : (groups : ℕ) (uses : List UseStep) (i : ℕ) (us : List Usage) → length uses ≤ i → AreCharged groups (take i uses) × AreUsagesOf groups (take i uses) us → AreCharged groups uses × AreUsagesOf groups uses us

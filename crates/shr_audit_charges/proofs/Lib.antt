@@ -1,6 +1,5 @@
 mod Common
 mod Pushed
-mod Rows
 mod HistoryLaw
 mod OwnLaw
 mod TreeLaw

@@ -8,7 +8,7 @@ use Rattle.shr_replay.specs.Journals.{freed_tags}
 use Rattle.shr_replay.specs.Tags.{freed_tag}
 use Rattle.shr_audit_charges.specs.Nets as nets
 use Rattle.shr_audit_charges.proofs.LeftLaw.{keys_of, ways, ways_cons}
-use Rattle.shr_audit_charges.proofs.OwnLaw.{own, IsOwn, own_or_not}
+use Rattle.shr_audit_charges.proofs.OwnLaw.{own, IsOwn, own_or_not, same_serial}
 use Rattle.shr_audit_charges.proofs.PathsLaw.{times, times_cons, times_both, path_times, none_if, one_if}
 
 -- the numbers of a command have the ranges of their types
@@ -63,9 +63,6 @@ head_other true true key k ne = let t = times_cons k key [] in let x = none_if k
 head_other true false key k ne = refl
 head_other false true key k ne = refl
 head_other false false key k ne = let t = times_cons k key [] in let x = none_if key k ne in omega (arith, t, x)
-
-same_serial : (w n w' n' : ℕ) → w ≡ w' → n ≡ n' → ◌≡◌ {A = Serial} (record { worker = w; command = n }) (record { worker = w'; command = n' })
-same_serial w n w' n' e f = rw (e, f) refl
 
 one_of : (g : ℕ) (o : UseStep) (by : Serial) → IsUseNumbered o → InRange by → key_in o.group o.by ≡ key_in g by → (o.group ≡ g) × (o.by ≡ by)
 one_of g o by n r e =

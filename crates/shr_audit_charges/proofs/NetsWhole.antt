@@ -1,5 +1,5 @@
 -- The law on what each command's operations come to, against the keys that go up and down.
-use Rattle.shr_audit_charges.proofs.Common.{◌≡◌, ℕ, suc, ◌+◌, ◌-◌, ◌/◌, ◌%◌, ◌<◌, ◌≤◌, ◌^◌, ◌⊎◌, inl, inr, Bool, true, false, cond, List, [], ◌∷◌, ◌++◌, length, map, Option, Some, None, refl, sym, ap, subst, ◌∙◌, arith, pos, find, flat_map, sum_by, slice_get, nat_lt, option_map, option_and_then, Decides, AllByRecursion, enumerate_from, cases_lt, nat_tests, Decides-like, ints, sum_by-cons, slice_get_past, slice_get_within, PlaceEnd, Entry, UseStep, Place, Serial, Answered, Reply, Command, Script, WorkerScript, ups, downs, is_serial, Freeing, freeings_at, born_below, items_at, IsTree, freed_by, FreedTag, Report, charged, freed_in_command, is_of, IsUseNumbered, answer_at, commands_in, entry_by, journals_of, parents_of, reply_at, serial_of, AreBalanced, AreWorkersFew, AreNets, by_keys, freed_keys, place_keys, answer_keys, commands_keys, workers_keys, up_keys, down_keys, some_is, ◌-ℤ◌, usage_after, HasNumbers, IsEntryNumbered, IsIsolationNumbered, IsListNumbered, IsPartNumbered, IsWalkNumbered, command_at, isolations_in, journal_of, walks_in, all_both}
+use Rattle.shr_audit_charges.proofs.Common.{◌≡◌, ℕ, suc, ◌+◌, ◌-◌, ◌/◌, ◌%◌, ◌<◌, ◌≤◌, ◌^◌, ◌⊎◌, inl, inr, Bool, true, false, cond, List, [], ◌∷◌, ◌++◌, length, map, Option, Some, None, refl, sym, ap, subst, ◌∙◌, arith, pos, find, flat_map, sum_by, slice_get, nat_lt, option_map, option_and_then, Decides, AllByRecursion, enumerate_from, cases_lt, nat_tests, Decides-like, ints, sum_by-cons, slice_get_past, slice_get_within, PlaceEnd, Entry, UseStep, Place, Serial, Answered, Reply, Command, Script, WorkerScript, ups, downs, is_serial, Freeing, freeings_at, born_below, items_at, IsTree, freed_by, FreedTag, Report, charged, freed_in_command, is_of, IsUseNumbered, answer_at, commands_in, entry_by, journals_of, parents_of, reply_at, serial_of, AreBalanced, AreWorkersFew, AreNets, by_keys, freed_keys, place_keys, answer_keys, commands_keys, workers_keys, up_keys, down_keys, ◌-ℤ◌, usage_after, HasNumbers, IsEntryNumbered, IsIsolationNumbered, IsListNumbered, IsPartNumbered, IsWalkNumbered, command_at, isolations_in, journal_of, walks_in, all_both, some_injective}
 use Rattle.shr_base.specs.declared.ends.WorkerPart.{WorkerPart}
 use Rattle.shr_base.specs.declared.journals.Entry.TheVariants as entry
 use Rattle.shr_base.specs.declared.walks.Isolation.{Isolation}
@@ -28,7 +28,7 @@ walk_range parts worker n by h e = by_part (slice_get parts worker) refl e
   where
     by_walk : (walks : List WalkRecord) → AllByRecursion IsWalkNumbered walks → (x : Option WalkRecord) → slice_get walks n ≡ x → option_map (λ (w : WalkRecord). w.by) x ≡ Some by → InRange by
     by_walk walks all None at e = absurd (none_some by e)
-    by_walk walks all (Some w) at e = let k = (each_in IsWalkNumbered walks all n w at).by in subst InRange (some_is w.by by e) (record { worker = k.worker; command = k.command })
+    by_walk walks all (Some w) at e = let k = (each_in IsWalkNumbered walks all n w at).by in subst InRange (some_injective w.by by e) (record { worker = k.worker; command = k.command })
 
     by_part : (x : Option WorkerPart) → slice_get parts worker ≡ x → option_map (λ (w : WalkRecord). w.by) (slice_get (walks_in x) n) ≡ Some by → InRange by
     by_part None at e = absurd (none_some by e)
@@ -39,17 +39,17 @@ isolation_range parts worker n by h e = by_part (slice_get parts worker) refl e
   where
     by_walk : (walks : List Isolation) → AllByRecursion IsIsolationNumbered walks → (x : Option Isolation) → slice_get walks n ≡ x → option_map (λ (i : Isolation). i.by) x ≡ Some by → InRange by
     by_walk walks all None at e = absurd (none_some by e)
-    by_walk walks all (Some w) at e = let k = (each_in IsIsolationNumbered walks all n w at).by in subst InRange (some_is w.by by e) (record { worker = k.worker; command = k.command })
+    by_walk walks all (Some w) at e = let k = (each_in IsIsolationNumbered walks all n w at).by in subst InRange (some_injective w.by by e) (record { worker = k.worker; command = k.command })
 
     by_part : (x : Option WorkerPart) → slice_get parts worker ≡ x → option_map (λ (i : Isolation). i.by) (slice_get (isolations_in x) n) ≡ Some by → InRange by
     by_part None at e = absurd (none_some by e)
     by_part (Some part) at e = by_walk part.isolations.items (each_in IsPartNumbered parts h worker part at).isolations (slice_get part.isolations.items n) refl e
 
 entry_range : (r : Report) (e : Entry) → HasNumbers r → IsEntryNumbered e → InRangeIf (entry_by r e)
-entry_range r (entry.Add by birth added key value) numbers h = λ x e. subst InRange (some_is by x e) (record { worker = h.0.worker; command = h.0.command })
-entry_range r (entry.Look by birth key hit) numbers h = λ x e. subst InRange (some_is by x e) (record { worker = h.0.worker; command = h.0.command })
-entry_range r (entry.Drop by birth key kind) numbers h = λ x e. subst InRange (some_is by x e) (record { worker = h.0.worker; command = h.0.command })
-entry_range r (entry.Pin by birth key pinned hit) numbers h = λ x e. subst InRange (some_is by x e) (record { worker = h.0.worker; command = h.0.command })
+entry_range r (entry.Add by birth added key value) numbers h = λ x e. subst InRange (some_injective by x e) (record { worker = h.0.worker; command = h.0.command })
+entry_range r (entry.Look by birth key hit) numbers h = λ x e. subst InRange (some_injective by x e) (record { worker = h.0.worker; command = h.0.command })
+entry_range r (entry.Drop by birth key kind) numbers h = λ x e. subst InRange (some_injective by x e) (record { worker = h.0.worker; command = h.0.command })
+entry_range r (entry.Pin by birth key pinned hit) numbers h = λ x e. subst InRange (some_injective by x e) (record { worker = h.0.worker; command = h.0.command })
 entry_range r (entry.Scan worker walk asked policy visits freed stopped) numbers h = λ x e. by_bool x (nat_lt walk (2 ^ 63)) e
   where
     by_bool : (x : Serial) (b : Bool) → cond b (option_map (λ (w : WalkRecord). w.by) (slice_get (walks_in (slice_get r.workers.items worker)) walk)) (option_map (λ (i : Isolation). i.by) (slice_get (isolations_in (slice_get r.workers.items worker)) (walk - 2 ^ 63))) ≡ Some x → InRange x
@@ -57,7 +57,7 @@ entry_range r (entry.Scan worker walk asked policy visits freed stopped) numbers
     by_bool x false e = isolation_range r.workers.items worker (walk - 2 ^ 63) x numbers.workers e
 entry_range r (entry.MovedIn child objects) numbers h = λ x e. absurd (none_some x e)
 entry_range r entry.Closed numbers h = λ x e. absurd (none_some x e)
-entry_range r (entry.Drained by objects) numbers h = λ x e. subst InRange (some_is by x e) (record { worker = h.0.worker; command = h.0.command })
+entry_range r (entry.Drained by objects) numbers h = λ x e. subst InRange (some_injective by x e) (record { worker = h.0.worker; command = h.0.command })
 
 numbered : (r : Report) → HasNumbers r → (place : Place) (k : ℕ) (e : Entry) → slice_get (journals_of r place) k ≡ Some e → InRangeIf (entry_by r e)
 numbered r numbers place k e at = entry_range r e numbers (each_in IsEntryNumbered (journals_of r place) (found_numbered r.places.items place numbers.places) k e at)

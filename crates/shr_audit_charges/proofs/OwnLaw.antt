@@ -1,14 +1,13 @@
 -- What each command did in each group, operation by operation from the last.
-use Rattle.shr_audit_charges.proofs.Common.{◌≡◌, ◌≢◌, ℕ, zero, suc, ◌+◌, ◌-◌, ◌<◌, ◌≤◌, ◌⊎◌, inl, inr, Bool, true, false, not, ◌&&◌, cond, List, [], ◌∷◌, length, get_or, map, drop, Option, Some, None, refl, sym, ap, subst, ◌∙◌, arith, ne_eqb, eq-eqb, pos, filter, find, slice_get, cases_eq, nat_tests, sum_by-cons, Serial, UseStep, ups, group_uses, limit_in, AreOwnRight, own_key, MayStandBefore, own_in_group, some_is, T, int_lt, MatchOption, at_drop_all, drop_more, ops_by, is_by, is_refused, IsBelow, IsDownNext, AreTakenBack, IsDownBetween, IsKeyed, few_ups, own_with}
+use Rattle.shr_audit_charges.proofs.Common.{◌≡◌, ◌≢◌, ℕ, zero, suc, ◌+◌, ◌-◌, ◌<◌, ◌≤◌, ◌⊎◌, inl, inr, Bool, true, false, not, ◌&&◌, cond, List, [], ◌∷◌, length, get_or, map, drop, Option, Some, None, refl, sym, ap, subst, ◌∙◌, arith, ne_eqb, eq-eqb, pos, filter, find, slice_get, cases_eq, nat_tests, Serial, UseStep, ups, group_uses, limit_in, AreOwnRight, own_key, MayStandBefore, own_in_group, T, int_lt, MatchOption, at_drop_all, drop_more, ops_by, is_by, is_refused, IsBelow, IsDownNext, AreTakenBack, IsDownBetween, IsKeyed, few_ups, own_with, some_injective}
 use Rattle.std.specs.BTreeMap.{BTreeMap, get, is_at, Updates}
-use Rattle.std.specs.Ordering.{is_eq, nat_cmp}
-use Rattle.std.specs.declared.cmp.Ordering.{Ordering}
-use Rattle.std.specs.declared.cmp.Ordering.TheVariants.{Less, Equal, Greater}
+use Rattle.std.specs.Ordering.{nat_cmp}
 use Rattle.std.specs.Map.{lookup}
-use Rattle.std.proofs.lemmas.Map.Lookups.{exact_unsigned}
 use Rattle.shr_audit_charges.specs.declared.own.Own.{Own}
 use Rattle.shr_audit_charges.proofs.Pushed.{none_some}
 use Rattle.shr_model.proofs.Booleans.{is_true}
+use Rattle.shr_model.proofs.ChargeLaws.{is_by_same, ups_cons}
+use Rattle.shr_model.proofs.Numbers.{apart}
 
 -- the operations of a command in a group
 abbrev pub own : ℕ → Serial → List UseStep → List UseStep
@@ -30,14 +29,11 @@ own_apart g by o os ne = ap (λ (b : Bool). ops_by by (cond b (o ∷ group_uses 
 own_not : (g : ℕ) (by : Serial) (o : UseStep) (os : List UseStep) → o.group ≡ g → is_by by o ≡ false → own g by (o ∷ os) ≡ own g by os
 own_not g by o os e f = ap (λ (b : Bool). ops_by by (cond b (o ∷ group_uses os g) (group_uses os g))) (eq-eqb o.group g e) ∙ ap (λ (b : Bool). cond b (o ∷ own g by os) (own g by os)) f
 
-same_serial : (w n w' n' : ℕ) → w ≡ w' → n ≡ n' → ◌≡◌ {A = Serial} (record { worker = w; command = n }) (record { worker = w'; command = n' })
+pub same_serial : (w n w' n' : ℕ) → w ≡ w' → n ≡ n' → ◌≡◌ {A = Serial} (record { worker = w; command = n }) (record { worker = w'; command = n' })
 same_serial w n w' n' e f = rw (e, f) refl
 
 serial_is : (a b : Serial) → a.worker ≡ b.worker → a.command ≡ b.command → a ≡ b
 serial_is a b w n = same_serial a.worker a.command b.worker b.command w n
-
-by_of : (by : Serial) (o : UseStep) → is_by by o ≡ true → o.by ≡ by
-by_of by o t = serial_is o.by by (grind (arith, nat_tests)) (grind (arith, nat_tests))
 
 own_by : (o : UseStep) → is_by o.by o ≡ true
 own_by o = grind (arith, nat_tests)
@@ -50,7 +46,7 @@ pub own_or_not : (g : ℕ) (by : Serial) (o : UseStep) (os : List UseStep) → I
 own_or_not g by o os = by_group (cases_eq o.group g)
   where
     by_command : o.group ≡ g → (b : Bool) → is_by by o ≡ b → IsOwn g by o os
-    by_command e true t = inl (e, (by_of by o t, own_yes g by o os e t))
+    by_command e true t = inl (e, (is_by_same by o t, own_yes g by o os e t))
     by_command e false f = inr (own_not g by o os e f, λ _ same. let t : is_by by o ≡ true = subst (λ (s : Serial). is_by s o ≡ true) same (own_by o) in let no : true ≡ false = sym t ∙ f in cc)
 
     by_group : (o.group ≡ g) ⊎ (o.group ≢ g) → IsOwn g by o os
@@ -61,9 +57,6 @@ own_at : (limits : List (Option ℕ)) (g : ℕ) (by : Serial) (o : UseStep) (os 
 own_at limits g by o os e f h = subst (λ (k : ℕ). MayStandBefore (limit_in limits k) o (own_in_group (own k by os))) e (subst (λ (s : Serial). MayStandBefore (limit_in limits o.group) o (own_in_group (own o.group s os))) f h)
 
 -- ---- how many go up
-
-ups_cons : (o : UseStep) (os : List UseStep) → ups (o ∷ os) ≡ cond o.up 1 0 + ups os
-ups_cons o os = sum_by-cons (λ (x : UseStep). cond x.up 1 0) o os
 
 up_or_down : (o : UseStep) → ((o.up ≡ true) × (◌≡◌ {A = ℕ} (cond o.up 1 0) 1)) ⊎ ((o.up ≡ false) × (◌≡◌ {A = ℕ} (cond o.up 1 0) 0))
 up_or_down o = by_bool o.up refl
@@ -118,8 +111,8 @@ unfolding NoTwo IsDownFirst
 between [] h n m lt a b = absurd (none_some true a)
 between (o ∷ os) h n zero lt a b = absurd (omega arith)
 between (o ∷ []) h zero (suc m) lt a b = absurd (none_some true b)
-between (o ∷ x ∷ xs) h zero (suc zero) lt a b = absurd (let down : x.up ≡ false = h.0 (some_is o.up true a) in let up : x.up ≡ true = some_is x.up true b in cc)
-between (o ∷ x ∷ xs) h zero (suc (suc m)) lt a b = (1, omega arith, omega arith, ap (λ (v : Bool). Some v) (h.0 (some_is o.up true a)))
+between (o ∷ x ∷ xs) h zero (suc zero) lt a b = absurd (let down : x.up ≡ false = h.0 (some_injective o.up true a) in let up : x.up ≡ true = some_injective x.up true b in cc)
+between (o ∷ x ∷ xs) h zero (suc (suc m)) lt a b = (1, omega arith, omega arith, ap (λ (v : Bool). Some v) (h.0 (some_injective o.up true a)))
 between (o ∷ os) h (suc n) (suc m) lt a b = let t = between os h.1 n m (omega (arith, lt)) a b in (suc t.0, (let low = t.1 in omega (arith, low)), (let high = t.2 in omega (arith, high)), t.3)
 
 no_two : (ops : List UseStep) → IsDownBetween (ways ops) → NoTwo ops
@@ -206,7 +199,7 @@ taken_back limits (x ∷ xs) g h = by_group (taken_back limits xs g h.1) (cases_
   where
     by_index : AreTakenBack (limit_in limits g) (group_uses xs g) → x.group ≡ g → AreTakenBack (limit_in limits g) (x ∷ group_uses xs g)
     by_index more e zero o at up over =
-        let same : x ≡ o = some_is x o at in
+        let same : x ≡ o = some_injective x o at in
         subst (λ (y : UseStep). y.up ≡ true → (IsBelow (limit_in limits g) y → ⊥) → IsDownNext y.by (group_uses xs g)) same
         (down_next (limit_in limits g) x (group_uses xs g) (subst (λ (k : ℕ). MayStandBefore (limit_in limits k) x (own_in_group (own k x.by xs))) e h.0)) up over
     by_index more e (suc n) o at up over = subst (λ (k : ℕ). IsDownNext o.by (drop k (x ∷ group_uses xs g))) (let z : suc (n + 1) ≡ suc n + 1 = omega arith in z) (more n o at up over)
@@ -264,14 +257,6 @@ behind_right limits (o ∷ os) (suc n) h = behind_right limits os n (later_right
 -- a map has what each command did in each group among these
 pub record AreLater (us : List UseStep) (m : BTreeMap ℕ Own) : Type 0 where
   pub each : (g worker command : ℕ) → IsKeyed g worker command → get nat_cmp m (own_key g worker command) ≡ own_in_group (own g (record { worker = worker; command = command }) us)
-
-apart : (k q : ℕ) → k ≢ q → is_at (nat_cmp k) q ≡ false
-apart k q ne = by_order (nat_cmp k q) refl
-  where
-    by_order : (o : Ordering) → nat_cmp k q ≡ o → is_eq o ≡ false
-    by_order Less e = refl
-    by_order Equal e = absurd (ne (exact_unsigned k q e))
-    by_order Greater e = refl
 
 one_key : (g w n g' w' n' : ℕ) → IsKeyed g w n → IsKeyed g' w' n' → own_key g w n ≡ own_key g' w' n' → (g ≡ g') × ((w ≡ w') × (n ≡ n'))
 one_key g w n g' w' n' h k e =

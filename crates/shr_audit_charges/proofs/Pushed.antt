@@ -1,13 +1,12 @@
 -- Lists with one item more at the end, and what is so of each item and those before it.
-use Rattle.shr_audit_charges.proofs.Common.{◌≡◌, ◌≢◌, ℕ, zero, suc, ◌+◌, ◌<◌, ◌≤◌, Bool, true, false, cond, List, [], ◌∷◌, ◌++◌, length, get_or, set, take, drop, Option, Some, None, refl, sym, ap, subst, ◌∙◌, arith, ◌⊎◌, inl, inr, filter, slice_get, AllByRecursion, cases_lt, get_or_default, length-set, slice_get-get_or, slice_get_past, some_is, take-append-drop, at_drop_more, get_or-set_same, get_or-set_other, all_push}
+use Rattle.shr_audit_charges.proofs.Common.{◌≡◌, ◌≢◌, ℕ, zero, suc, ◌+◌, ◌<◌, ◌≤◌, Bool, true, cond, List, [], ◌∷◌, ◌++◌, length, get_or, set, take, drop, Option, Some, None, refl, sym, ap, subst, ◌∙◌, arith, ◌⊎◌, inl, inr, filter, slice_get, AllByRecursion, cases_lt, length-set, slice_get-get_or, slice_get_past, take-append-drop, at_drop_more, get_or-set_same, get_or-set_other, all_push, some_injective}
 use Rattle.std.proofs.lemmas.List.Elements.{filter-append}
-use Rattle.shr_formed.proofs.Eachs.{each_more}
 
 pub none_some : {X : Type 0} (a : X) → ◌≡◌ {A = Option X} None (Some a) → ⊥
 none_some a e = cc
 
 pub push_each : {X : Type 0} (P : List X → X → Type 0) (xs : List X) (x : X) → ((n : ℕ) (e : X) → slice_get xs n ≡ Some e → P (take n xs) e) → P xs x → (n : ℕ) (e : X) → slice_get (xs ++ x ∷ []) n ≡ Some e → P (take n (xs ++ x ∷ [])) e
-push_each P [] x h here zero e at = subst (P []) (some_is x e at) here
+push_each P [] x h here zero e at = subst (P []) (some_injective x e at) here
 push_each P [] x h here (suc n) e at = absurd (none_some e at)
 push_each P (y ∷ ys) x h here zero e at = h zero e at
 push_each P (y ∷ ys) x h here (suc n) e at = push_each (λ l z. P (y ∷ l) z) ys x (λ m z there. h (suc m) z there) here n e at
@@ -34,13 +33,6 @@ split_at {X} xs i d lt = sym (take-append-drop i xs) ∙ at_drop_more (λ (l : L
 pub filter_in : {X : Type 0} (p : X → Bool) (xs : List X) (x : X) → p x ≡ true → filter p (xs ++ x ∷ []) ≡ filter p xs ++ x ∷ []
 filter_in p xs x e = filter-append p xs (x ∷ []) ∙ ap (λ (b : Bool). filter p xs ++ cond b (x ∷ []) []) e
 
-pub filter_out : {X : Type 0} (p : X → Bool) (xs : List X) (x : X) → p x ≡ false → filter p (xs ++ x ∷ []) ≡ filter p xs
-filter_out {X} p xs x e = filter-append p xs (x ∷ []) ∙ ap (λ (b : Bool). filter p xs ++ cond b (x ∷ []) []) e ∙ append_none (filter p xs)
-  where
-    append_none : (l : List X) → l ++ [] ≡ l
-    append_none [] = refl
-    append_none (y ∷ l) = ap (λ (t : List X). y ∷ t) (append_none l)
-
 pub filter_here : {X : Type 0} (p : X → Bool) (xs : List X) (x : X) (ys : List X) → p x ≡ true → filter p (xs ++ x ∷ ys) ≡ filter p xs ++ (x ∷ filter p ys)
 filter_here {X} p xs x ys e = filter-append p xs (x ∷ ys) ∙ ap (λ (b : Bool). filter p xs ++ cond b (x ∷ filter p ys) (filter p ys)) e
 
@@ -54,7 +46,3 @@ set_other {X} xs i j y ne = by_length (cases_lt j (length xs))
     by_length : (j < length xs) ⊎ (length xs ≤ j) → slice_get (set xs i y) j ≡ slice_get xs j
     by_length (inl lt) = slice_get-get_or (set xs i y) j y (let l = length-set xs i y in omega (arith, l)) ∙ ap (λ (v : X). Some v) (get_or-set_other xs i j y y ne) ∙ sym (slice_get-get_or xs j y lt)
     by_length (inr ge) = slice_get_past (set xs i y) j (let l = length-set xs i y in omega (arith, l)) ∙ sym (slice_get_past xs j ge)
-
--- one item more, where it was copied out of its list
-pub each_copied : {X : Type 0} (P : X → Type 0) (xs : List X) (i : ℕ) (d : X) → i < length xs → ((n : ℕ) (x : X) → n < i → slice_get xs n ≡ Some x → P x) → P (get_or xs i d) → (n : ℕ) (x : X) → n < i + 1 → slice_get xs n ≡ Some x → P x
-each_copied P xs i d lt before here = each_more P xs i (get_or xs i d) lt (get_or_default xs i d (get_or xs i d) lt) before here

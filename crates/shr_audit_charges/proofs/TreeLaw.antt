@@ -1,30 +1,16 @@
 -- What the journal of the tree says of each group after one entry more, and when it may follow.
-use Rattle.shr_audit_charges.proofs.Common.{◌≡◌, ◌≢◌, ℕ, zero, suc, ◌+◌, ◌<◌, ◌≤◌, ◌⊎◌, inl, inr, Bool, true, false, not, ◌&&◌, ◌||◌, cond, List, [], ◌∷◌, ◌++◌, length, get_or, set, take, drop, Option, Some, None, refl, sym, ap, subst, ◌∙◌, arith, ne_eqb, eq-eqb, find, slice_get, cases_eq, take_more, take_all, length-set, length_push, get_or_default, slice_get-get_or, slice_get_within, Begin, Made, IsTree, parent_of, IsTreeJournal, hierarchy, state_of_group, AreGroupStatesOf, IsUndone, some_is, ⊎_elim, is_some, is_none, position_from, range_with_len, eqb-true, Done, Hierarchy, is_child, is_later}
+use Rattle.shr_audit_charges.proofs.Common.{◌≡◌, ◌≢◌, ℕ, zero, suc, ◌+◌, ◌<◌, ◌≤◌, ◌⊎◌, inl, inr, Bool, true, false, not, ◌&&◌, ◌||◌, cond, List, [], ◌∷◌, ◌++◌, length, get_or, set, take, drop, Option, Some, None, refl, sym, ap, subst, ◌∙◌, arith, ne_eqb, eq-eqb, find, slice_get, cases_eq, take_more, take_all, length-set, length_push, get_or_default, slice_get-get_or, slice_get_within, Begin, Made, IsTree, parent_of, IsTreeJournal, hierarchy, state_of_group, AreGroupStatesOf, IsUndone, ⊎_elim, is_some, is_none, position_from, range_with_len, eqb-true, Done, Hierarchy, is_child, is_later, some_injective}
 use Rattle.shr_base.specs.declared.journals.TreeEntry.{TreeEntry}
 use Rattle.shr_model.specs.TreeJournal.{is_begin, is_done, is_making, begin_of, done_of, made_of, is_made, is_undone_child, undone_child, MayBegin, MayBeDone, MayBeMade, MayFollow}
 use Rattle.shr_model.proofs.GroupsLaws.{child_again, child_takes}
 use Rattle.shr_audit_charges.specs.declared.tree.GroupState.{GroupState}
 use Rattle.shr_audit_charges.specs.Tree.{entry_group, AreFirstStates, group_state_with, put_group_state, with_tree_entry, HasUndone, MayBeginNow, MayBeDoneNow, MayBeMadeNow, MayStandNow}
 use Rattle.shr_audit_charges.proofs.Pushed.{push_each, here_each, split_at, set_own, set_other, none_some}
-use Rattle.shr_model.proofs.Booleans.{both_and, or_false}
+use Rattle.shr_model.proofs.Booleans.{both_and}
+use Rattle.std.proofs.Math.Bool.{or-true, or-false}
+use Rattle.shr_model.proofs.Lists.{position_push}
 
 -- ---- the first entry of a kind
-
-or_true : (b : Bool) → (b || true) ≡ true
-or_true true = refl
-or_true false = refl
-
-position_push : (p : TreeEntry → Bool) (i : ℕ) (es : List TreeEntry) (e : TreeEntry) → is_some (position_from p i (es ++ e ∷ [])) ≡ (is_some (position_from p i es) || p e)
-position_push p i [] e = by_bool (p e)
-  where
-    by_bool : (b : Bool) → is_some (cond b (Some i) None) ≡ (false || b)
-    by_bool true = refl
-    by_bool false = refl
-position_push p i (x ∷ xs) e = by_bool (p x) (position_push p (i + 1) xs e)
-  where
-    by_bool : (b : Bool) → is_some (position_from p (i + 1) (xs ++ e ∷ [])) ≡ (is_some (position_from p (i + 1) xs) || p e) → is_some (cond b (Some i) (position_from p (i + 1) (xs ++ e ∷ []))) ≡ (is_some (cond b (Some i) (position_from p (i + 1) xs)) || p e)
-    by_bool true h = refl
-    by_bool false h = h
 
 found_at : (p : TreeEntry → Bool) (i : ℕ) (es : List TreeEntry) → is_some (position_from p i es) ≡ true → (n : ℕ) × ((e : TreeEntry) × ((slice_get es n ≡ Some e) × (p e ≡ true)))
 found_at p i [] t = absurd (let no : false ≡ true = t in cc)
@@ -65,19 +51,19 @@ module _ (h : Hierarchy) (es : List TreeEntry) where
   made_push e g = ap (λ (b : Bool). not (is_later h.later g) || b) (position_push (is_making g) 0 es e)
 
   begun_not : (e : TreeEntry) (g : ℕ) → is_begin g e ≡ false → is_some (begin_of (es ++ e ∷ []) g) ≡ is_some (begin_of es g)
-  begun_not e g f = begun_push e g ∙ ap (λ (b : Bool). is_some (begin_of es g) || b) f ∙ or_false (is_some (begin_of es g))
+  begun_not e g f = begun_push e g ∙ ap (λ (b : Bool). is_some (begin_of es g) || b) f ∙ or-false (is_some (begin_of es g))
 
   done_not : (e : TreeEntry) (g : ℕ) → is_done g e ≡ false → is_some (done_of (es ++ e ∷ []) g) ≡ is_some (done_of es g)
-  done_not e g f = done_push e g ∙ ap (λ (b : Bool). is_some (done_of es g) || b) f ∙ or_false (is_some (done_of es g))
+  done_not e g f = done_push e g ∙ ap (λ (b : Bool). is_some (done_of es g) || b) f ∙ or-false (is_some (done_of es g))
 
   made_not : (e : TreeEntry) (g : ℕ) → is_making g e ≡ false → is_made h (es ++ e ∷ []) g ≡ is_made h es g
-  made_not e g f = made_push e g ∙ ap (λ (b : Bool). not (is_later h.later g) || (is_some (made_of es g) || b)) f ∙ ap (λ (b : Bool). not (is_later h.later g) || b) (or_false (is_some (made_of es g)))
+  made_not e g f = made_push e g ∙ ap (λ (b : Bool). not (is_later h.later g) || (is_some (made_of es g) || b)) f ∙ ap (λ (b : Bool). not (is_later h.later g) || b) (or-false (is_some (made_of es g)))
 
   own_state : (e : TreeEntry) → state_of_group h (es ++ e ∷ []) (entry_group e) ≡ group_state_with (state_of_group h es (entry_group e)) e
-  own_state (Begin g) = state_is _ _ _ _ _ _ (made_not (Begin g) g refl) (begun_push (Begin g) g ∙ ap (λ (b : Bool). is_some (begin_of es g) || b) (eq-eqb g g refl) ∙ or_true (is_some (begin_of es g))) (done_not (Begin g) g refl)
-  own_state (Done g) = state_is _ _ _ _ _ _ (made_not (Done g) g refl) (begun_not (Done g) g refl) (done_push (Done g) g ∙ ap (λ (b : Bool). is_some (done_of es g) || b) (eq-eqb g g refl) ∙ or_true (is_some (done_of es g)))
+  own_state (Begin g) = state_is _ _ _ _ _ _ (made_not (Begin g) g refl) (begun_push (Begin g) g ∙ ap (λ (b : Bool). is_some (begin_of es g) || b) (eq-eqb g g refl) ∙ or-true (is_some (begin_of es g))) (done_not (Begin g) g refl)
+  own_state (Done g) = state_is _ _ _ _ _ _ (made_not (Done g) g refl) (begun_not (Done g) g refl) (done_push (Done g) g ∙ ap (λ (b : Bool). is_some (done_of es g) || b) (eq-eqb g g refl) ∙ or-true (is_some (done_of es g)))
   own_state (Made g) = state_is _ _ _ _ _ _
-      (made_push (Made g) g ∙ ap (λ (b : Bool). not (is_later h.later g) || (is_some (made_of es g) || b)) (eq-eqb g g refl) ∙ ap (λ (b : Bool). not (is_later h.later g) || b) (or_true (is_some (made_of es g))) ∙ or_true (not (is_later h.later g)))
+      (made_push (Made g) g ∙ ap (λ (b : Bool). not (is_later h.later g) || (is_some (made_of es g) || b)) (eq-eqb g g refl) ∙ ap (λ (b : Bool). not (is_later h.later g) || b) (or-true (is_some (made_of es g))) ∙ or-true (not (is_later h.later g)))
       (begun_not (Made g) g refl) (done_not (Made g) g refl)
 
   other_state : (e : TreeEntry) (g : ℕ) → entry_group e ≢ g → state_of_group h (es ++ e ∷ []) g ≡ state_of_group h es g
@@ -98,7 +84,7 @@ noted_states h es xs e are = record { count = noted_length xs e ∙ are.count; e
     by_group : (g : ℕ) (x y : GroupState) → slice_get xs (entry_group e) ≡ Some y → (g ≡ entry_group e) ⊎ (g ≢ entry_group e) → slice_get (set xs (entry_group e) (group_state_with y e)) g ≡ Some x → x ≡ state_of_group h (es ++ e ∷ []) g
     by_group g x y there (inl own) at =
         let here : slice_get (set xs (entry_group e) (group_state_with y e)) (entry_group e) ≡ Some x = subst (λ (j : ℕ). slice_get (set xs (entry_group e) (group_state_with y e)) j ≡ Some x) own at in
-        let x_is : group_state_with y e ≡ x = some_is (group_state_with y e) x (sym (set_own xs (entry_group e) (group_state_with y e) (slice_get_within xs (entry_group e) y there)) ∙ here) in
+        let x_is : group_state_with y e ≡ x = some_injective (group_state_with y e) x (sym (set_own xs (entry_group e) (group_state_with y e) (slice_get_within xs (entry_group e) y there)) ∙ here) in
         sym x_is ∙ ap (λ (v : GroupState). group_state_with v e) (are.each (entry_group e) y there) ∙ sym (own_state h es e) ∙ ap (state_of_group h (es ++ e ∷ [])) (sym own)
     by_group g x y there (inr other) at = are.each g x (sym (set_other xs (entry_group e) g (group_state_with y e) other) ∙ at) ∙ sym (other_state h es e g (λ same. other (sym same)))
 
@@ -107,7 +93,7 @@ noted_states h es xs e are = record { count = noted_length xs e ∙ are.count; e
     by_state g x (Some y) there at = by_group g x y there (cases_eq g (entry_group e)) at
 
 at_push : (xs : List GroupState) (y : GroupState) (g : ℕ) (x : GroupState) → slice_get (xs ++ y ∷ []) g ≡ Some x → (slice_get xs g ≡ Some x) ⊎ ((g ≡ length xs) × (y ≡ x))
-at_push [] y zero x at = inr (refl, some_is y x at)
+at_push [] y zero x at = inr (refl, some_injective y x at)
 at_push [] y (suc g) x at = absurd (none_some x at)
 at_push (z ∷ zs) y zero x at = inl at
 at_push (z ∷ zs) y (suc g) x at = elim (at_push zs y g x at) as (λ _. (slice_get zs g ≡ Some x) ⊎ ((suc g ≡ suc (length zs)) × (y ≡ x))) [ inl before ↦ inl before | inr last ↦ inr (ap suc last.0, last.1) ]
@@ -133,7 +119,7 @@ pub first_all : (later : List Bool) (i : ℕ) (xs : List GroupState) → length 
 first_all later i xs over within f = record { count = (let c = f.count in omega (arith, c, over, within)); each = f.each }
 
 pub first_of : (parents : List ℕ) (later : List Bool) (xs : List GroupState) → length later ≡ length parents → AreFirstStates later xs → IsTreeJournal (hierarchy parents later) [] × AreGroupStatesOf (hierarchy parents later) [] xs
-first_of parents later xs same f = (λ n e at. absurd (none_some e at), record { count = f.count ∙ same; each = λ g x at. f.each g x at ∙ state_is _ _ _ _ _ _ (sym (or_false (not (is_later later g)))) refl refl })
+first_of parents later xs same f = (λ n e at. absurd (none_some e at), record { count = f.count ∙ same; each = λ g x at. f.each g x at ∙ state_is _ _ _ _ _ _ (sym (or-false (not (is_later later g)))) refl refl })
 
 -- ---- children that are there and aren't done
 

@@ -1,6 +1,5 @@
 -- Loops over what a report prints: what is so of each item, and of each walk of the pools.
-use Rattle.shr_audit_due.proofs.Common.{◌≡◌, ℕ, ◌<◌, ◌≤◌, Bool, true, false, List, length, get_or, Option, Some, refl, sym, ap, subst, ◌∙◌, arith, slice_get, Decides, slice_get-get_or, WorkerPart, PlainWalk, Report, plain_in, all_at, clash, here_at, ◌⊎◌, inl, inr, ◌+◌, None, same_Some, EachPlain}
-use Rattle.std.proofs.lemmas.Bool.{cases_lt}
+use Rattle.shr_audit_due.proofs.Common.{◌≡◌, ℕ, ◌<◌, ◌≤◌, Bool, true, false, List, length, get_or, Option, Some, refl, sym, ap, subst, ◌∙◌, slice_get, Decides, slice_get-get_or, WorkerPart, PlainWalk, Report, plain_in, all_at, clash, here_at, None, EachPlain}
 
 -- ---- any items
 
@@ -13,15 +12,6 @@ items_whole {X} P xs ys i e over before = subst (λ (zs : List X). Decides true 
 -- the same of items that are plain values
 pub value_fails : {X : Type 0} (P : ℕ → X → Type 0) (xs ys : List X) (i : ℕ) (d : X) (b : Bool) → xs ≡ ys → i < length xs → Decides b (P i (get_or xs i d)) → b ≡ false → Decides false ((n : ℕ) (y : X) → slice_get ys n ≡ Some y → P n y)
 value_fails {X} P xs ys i d b e lt dec f = (λ t. absurd cc, λ h. absurd (clash b (dec.1 (h i (get_or xs i d) (ap (λ (zs : List X). slice_get zs i) (sym e) ∙ slice_get-get_or xs i d lt))) f))
-
-pub value_more : {X : Type 0} (P : ℕ → X → Type 0) (xs : List X) (i : ℕ) (d : X) → i < length xs → ((n : ℕ) (x : X) → n < i → slice_get xs n ≡ Some x → P n x) → P i (get_or xs i d) → (n : ℕ) (x : X) → n < i + 1 → slice_get xs n ≡ Some x → P n x
-value_more P xs i d lt before here n x less at_n = by (cases_lt n i)
-  where
-    by : (n < i) ⊎ (i ≤ n) → P n x
-    by (inl lower) = before n x lower at_n
-    by (inr ge) =
-        let same : i ≡ n = omega (arith, less, ge) in
-        subst (λ (k : ℕ). P k x) same (subst (P i) (same_Some (get_or xs i d) x (sym (slice_get-get_or xs i d lt) ∙ (ap (slice_get xs) same ∙ at_n))) here)
 
 -- ---- walks
 

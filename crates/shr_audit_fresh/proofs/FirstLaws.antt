@@ -1,11 +1,8 @@
 -- The least command of each group, one command after another.
 use Rattle.shr_audit_fresh.proofs.Common.{◌≡◌, ◌⊎◌, ℕ, ◌<◌, ◌≤◌, Bool, true, false, cond, List, [], ◌∷◌, Option, Some, None, refl, sym, ap, subst, ◌∙◌, inl, inr, arith, ◌||◌, nat_eq, slice_get, option_to_list, get, list_any, nat_tests, TreeEntry, is_begin, is_done, Report, is_begin_at, is_done_at, AreLeastOfGroups, FirstCommands, HasNoFirsts, IsLeast, NotesFirst, first_with, is_group, shows_in, either, or_left, or_right, nat_lt}
+use Rattle.std.proofs.Math.Bool.{or-false}
 
 -- ---- tests
-
-pub or_none : (b : Bool) → (b || false) ≡ b
-or_none true = refl
-or_none false = refl
 
 or_swap : (a b c d : Bool) → ((a || b) || (c || d)) ≡ ((a || c) || (b || d))
 or_swap true b c d = refl
@@ -22,22 +19,22 @@ any_both p q (n ∷ ns) = or_swap (p n) (list_any p ns) (q n) (list_any q ns) �
 -- ---- entries
 
 pub begin_shown : (r : Report) (g n : ℕ) (e : TreeEntry) → Some e ≡ slice_get r.tree.items n → list_any (is_begin_at r g) (n ∷ []) ≡ is_begin g e
-begin_shown r g n e at = or_none (is_begin_at r g n) ∙ ap (λ (o : Option TreeEntry). list_any (is_begin g) (option_to_list o)) (sym at) ∙ or_none (is_begin g e)
+begin_shown r g n e at = or-false (is_begin_at r g n) ∙ ap (λ (o : Option TreeEntry). list_any (is_begin g) (option_to_list o)) (sym at) ∙ or-false (is_begin g e)
 
 pub begin_none : (r : Report) (g n : ℕ) → None ≡ slice_get r.tree.items n → list_any (is_begin_at r g) (n ∷ []) ≡ false
-begin_none r g n at = or_none (is_begin_at r g n) ∙ ap (λ (o : Option TreeEntry). list_any (is_begin g) (option_to_list o)) (sym at)
+begin_none r g n at = or-false (is_begin_at r g n) ∙ ap (λ (o : Option TreeEntry). list_any (is_begin g) (option_to_list o)) (sym at)
 
 done_shown : (r : Report) (g n : ℕ) (e : TreeEntry) → Some e ≡ slice_get r.tree.items n → is_done_at r g n ≡ is_done g e
-done_shown r g n e at = ap (λ (o : Option TreeEntry). list_any (is_done g) (option_to_list o)) (sym at) ∙ or_none (is_done g e)
+done_shown r g n e at = ap (λ (o : Option TreeEntry). list_any (is_done g) (option_to_list o)) (sym at) ∙ or-false (is_done g e)
 
 begun_shown : (r : Report) (g n : ℕ) (e : TreeEntry) → Some e ≡ slice_get r.tree.items n → is_begin_at r g n ≡ is_begin g e
-begun_shown r g n e at = ap (λ (o : Option TreeEntry). list_any (is_begin g) (option_to_list o)) (sym at) ∙ or_none (is_begin g e)
+begun_shown r g n e at = ap (λ (o : Option TreeEntry). list_any (is_begin g) (option_to_list o)) (sym at) ∙ or-false (is_begin g e)
 
 pub offline_shown : (r : Report) (g n : ℕ) (e : TreeEntry) → Some e ≡ slice_get r.tree.items n → shows_in r g (n ∷ []) ≡ (is_begin g e || is_done g e)
-offline_shown r g n e at = or_none (is_begin_at r g n || is_done_at r g n) ∙ ap (λ (b : Bool). b || is_done_at r g n) (begun_shown r g n e at) ∙ ap (λ (b : Bool). is_begin g e || b) (done_shown r g n e at)
+offline_shown r g n e at = or-false (is_begin_at r g n || is_done_at r g n) ∙ ap (λ (b : Bool). b || is_done_at r g n) (begun_shown r g n e at) ∙ ap (λ (b : Bool). is_begin g e || b) (done_shown r g n e at)
 
 pub offline_none : (r : Report) (g n : ℕ) → None ≡ slice_get r.tree.items n → shows_in r g (n ∷ []) ≡ false
-offline_none r g n at = or_none (is_begin_at r g n || is_done_at r g n)
+offline_none r g n at = or-false (is_begin_at r g n || is_done_at r g n)
     ∙ ap (λ (b : Bool). b || is_done_at r g n) (ap (λ (o : Option TreeEntry). list_any (is_begin g) (option_to_list o)) (sym at))
     ∙ ap (λ (o : Option TreeEntry). list_any (is_done g) (option_to_list o)) (sym at)
 

@@ -1,5 +1,5 @@
 -- Groups that a worker's answers showed to be made, one answer after another.
-use Rattle.shr_audit_fresh.proofs.Common.{◌≡◌, ℕ, ◌+◌, ◌<◌, ◌≤◌, Bool, true, false, cond, length, Option, Some, None, refl, sym, ap, subst, ◌∙◌, inl, inr, arith, ◌↔◌, nat_eq, option_and_then, Decides, get, cases_lt, eq-eqb, nat_tests, Serial, Answered, Reply, Script, Report, answer_at, answers_of, command_at, reply_at, serial_of, AreLeastOfGroups, FirstCommands, HasNoFirsts, IsLeast, NotesFirst, is_group, StaysMadeAt, some_is, asks_made, is_past_group, made_shown, shows_made, makes, unmade}
+use Rattle.shr_audit_fresh.proofs.Common.{◌≡◌, ℕ, ◌+◌, ◌<◌, ◌≤◌, Bool, true, false, cond, length, Option, Some, None, refl, sym, ap, subst, ◌∙◌, inl, inr, arith, ◌↔◌, nat_eq, option_and_then, Decides, get, cases_lt, eq-eqb, nat_tests, Serial, Answered, Reply, Script, Report, answer_at, answers_of, command_at, reply_at, serial_of, AreLeastOfGroups, FirstCommands, HasNoFirsts, IsLeast, NotesFirst, is_group, StaysMadeAt, asks_made, is_past_group, made_shown, shows_made, makes, unmade, some_injective}
 use Rattle.shr_base.specs.declared.replies.Reply.TheVariants as reply
 use Rattle.shr_base.specs.declared.scripts.Command.{Command}
 use Rattle.shr_base.specs.declared.scripts.Command.TheVariants.{MkGroup}
@@ -19,7 +19,7 @@ group_is g (Some h) e = let same : h ≡ g = grind (arith, nat_tests) in ap (λ 
 
 pub is_the_group : (g : ℕ) (o : Option ℕ) → o ≡ Some g → is_group g o ≡ true
 is_the_group g None e = absurd cc
-is_the_group g (Some h) e = eq-eqb h g (some_is h g e)
+is_the_group g (Some h) e = eq-eqb h g (some_injective h g e)
 
 module _ (s : Script) (r : Report) (worker : ℕ) where
   pub made_start : (firsts : FirstCommands) → HasNoFirsts firsts → AreLeastOfGroups (MadeBefore s r worker 0) firsts
@@ -71,7 +71,7 @@ no_answer_shown s r by c here none =
     ∙ ap (λ (x : Option Command). option_and_then (λ d. option_and_then (made_shown d) (reply_at r by)) x) here
 
 not_made_of : (x : Reply) (g : ℕ) → unmade x ≡ Some g → x ≡ reply.NotMade g
-not_made_of (reply.NotMade h) g e = ap (λ (n : ℕ). reply.NotMade n) (some_is h g e)
+not_made_of (reply.NotMade h) g e = ap (λ (n : ℕ). reply.NotMade n) (some_injective h g e)
 not_made_of x g e = absurd cc
 
 of_not_made : (x : Reply) (g : ℕ) → x ≡ reply.NotMade g → unmade x ≡ Some g
@@ -80,12 +80,12 @@ of_not_made x g e = ap unmade e
 pub says_so : (r : Report) (by : Serial) (a : Answered) (o : Option ℕ) → Some a ≡ answer_at r by → o ≡ unmade a.reply → (g : ℕ) → (o ≡ Some g) ↔ (reply_at r by ≡ Some (reply.NotMade g))
 says_so r by a o there is g = (
   λ e. reply_answered r by a there ∙ ap (λ (x : Reply). Some x) (not_made_of a.reply g (sym is ∙ e)),
-  λ e. is ∙ of_not_made a.reply g (some_is a.reply (reply.NotMade g) (sym (reply_answered r by a there) ∙ e)),
+  λ e. is ∙ of_not_made a.reply g (some_injective a.reply (reply.NotMade g) (sym (reply_answered r by a there) ∙ e)),
 )
 
 -- what an answer to a command that makes a group shows, and to another
 pub made_group : (c : Command) (x : Reply) (g : ℕ) → Some g ≡ makes c → made_shown (MkGroup g) x ≡ made_shown c x
-made_group (MkGroup h) x g e = ap (λ (n : ℕ). made_shown (MkGroup n) x) (some_is g h e)
+made_group (MkGroup h) x g e = ap (λ (n : ℕ). made_shown (MkGroup n) x) (some_injective g h e)
 made_group c x g e = absurd cc
 
 pub found_shown : (c : Command) (x : Reply) → None ≡ makes c → cond (is_past_group x) (asks_made c) None ≡ made_shown c x

@@ -1,5 +1,5 @@
 -- Answers against the number of the caches that are `on`, and past the last one.
-use Rattle.shr_audit_fresh.proofs.Common.{◌≡◌, ℕ, ◌<◌, ◌≤◌, Bool, true, length, Option, Some, None, refl, sym, subst, ◌∙◌, inl, inr, arith, Decides, slice_get_within, Answered, Script, Report, pool_seen, answer_at, answers_of, commands_of, serial_of, Reaches, IsOnSeenAt, some_is, slice_get_cases, decls_on}
+use Rattle.shr_audit_fresh.proofs.Common.{◌≡◌, ℕ, ◌<◌, ◌≤◌, Bool, true, length, Option, Some, None, refl, sym, subst, ◌∙◌, inl, inr, arith, Decides, slice_get_within, Answered, Script, Report, pool_seen, answer_at, answers_of, commands_of, serial_of, Reaches, IsOnSeenAt, slice_get_cases, decls_on, some_injective}
 use Rattle.shr_audit_fresh.proofs.Answering.{answer_past}
 
 none_some : {X : Type 0} (a : X) → ◌≡◌ {A = Option X} None (Some a) → ⊥
@@ -17,7 +17,7 @@ module _ (s : Script) (r : Report) (worker k : ℕ) where
 
   pub on_seen : (b : Bool) (on : ℕ) (a : Answered) → k < length (commands_of s worker) → on ≡ length (decls_on s) → Some a ≡ answer_at r (serial_of worker k) → Decides b (Reaches on (pool_seen a)) → Decides b (IsOnSeenAt s r worker k)
   on_seen b on a there is at d = (
-    λ t c x e f. subst (λ (y : Answered). Reaches (length (decls_on s)) (pool_seen y)) (some_is a x (at ∙ f)) (subst (λ (n : ℕ). Reaches n (pool_seen a)) is (d.0 t)),
+    λ t c x e f. subst (λ (y : Answered). Reaches (length (decls_on s)) (pool_seen y)) (some_injective a x (at ∙ f)) (subst (λ (n : ℕ). Reaches n (pool_seen a)) is (d.0 t)),
     λ h. d.1 (elim (slice_get_cases (commands_of s worker) k).1 [
       | inl c ↦ subst (λ (n : ℕ). Reaches n (pool_seen a)) (sym is) (h c.0 a c.2 (sym at))
       | inr past ↦ absurd (let over = past.0 in omega (arith, over, there))

@@ -5,11 +5,11 @@ use Rattle.shr_audit_causes.specs.declared.cites.What.TheVariants as say
 use Rattle.shr_audit_causes.proofs.Treeing.{begun_of, of_begun}
 use Rattle.shr_report.specs.Causes.{IsOffline, MayHaveBegun}
 use Rattle.shr_audit_fresh.proofs.Answering.{of_past}
-use Rattle.shr_audit_fresh.proofs.FirstLaws.{or_none}
 use Rattle.shr_audit_fresh.proofs.MadeLaws.{group_is, is_the_group}
 use Rattle.shr_audit_fresh.proofs.WalkFloors.{kept, on_command}
-use Rattle.shr_audit_causes.proofs.Noting.{or_false}
 use Rattle.shr_model.proofs.Booleans.{and_right}
+use Rattle.std.proofs.lemmas.Bool.{or_parts}
+use Rattle.std.proofs.Math.Bool.{or-false}
 
 -- ---- those who may have begun
 
@@ -59,7 +59,7 @@ all_of P (Once w j) worker k t e by p =
     let own = own_and_later w j worker k e in
     (ap (λ (x : Serial). x.worker) same ∙ own.0, (let command = ap (λ (x : Serial). x.command) same in let lt = own.1 in omega (arith, command, lt)))
 all_of P (Often w j others) worker k t e by p =
-    let parts = or_false others (not (w == worker) || nat_le j k) e in
+    let parts = or_parts others (not (w == worker) || nat_le j k) e in
     let own = own_and_later w j worker k parts.1 in
     let mine = t.alone parts.0 by p in
     (mine ∙ own.0, (let le = t.first by p mine in let lt = own.1 in omega (arith, le, lt)))
@@ -85,7 +85,7 @@ begin_few r fits group n e = by (slice_get r.tree.items n) refl e
     by : (o : Option TreeEntry) → slice_get r.tree.items n ≡ o → list_any (is_begin group) (option_to_list o) ≡ true → group < 65536
     by None at e = absurd cc
     by (Some (Begin g)) at e =
-        let here : (g == group) ≡ true = sym (or_none (g == group)) ∙ e in
+        let here : (g == group) ≡ true = sym (or-false (g == group)) ∙ e in
         let same : g ≡ group = grind (arith, nat_tests) in
         subst (λ (k : ℕ). k < 65536) same (fits n (Begin g) at)
     by (Some (Done g)) at e = absurd cc

@@ -5,10 +5,10 @@ use Rattle.shr_base.specs.declared.ends.PlaceEnd.{PlaceEnd}
 use Rattle.shr_model.proofs.PlacesLaws.{is_place_same, is_place_itself}
 use Rattle.shr_case.specs.Places.{IsFirst, end_printed}
 use Rattle.shr_case.proofs.Eachs.{each_entry_of}
-use Rattle.shr_case.proofs.Firsts.{none_found, some_is}
+use Rattle.shr_case.proofs.Firsts.{none_found}
 use Rattle.shr_audit_isolations.proofs.Gathering.{gains_same, gains_then, no_gain, told_after, told_before}
 use Rattle.shr_audit_isolations.proofs.Options.{map_then, some_mapped, some_unmapped}
-use Rattle.shr_model.proofs.Lists.{there_at}
+use Rattle.shr_model.proofs.Lists.{there_at, taken_at, some_injective}
 
 -- ---- one list more
 
@@ -37,13 +37,6 @@ one_end ends k end p at = ap (λ (o : Option PlaceEnd). journal_of (end_printed 
     by true e false f = let t : is_place p end.place ≡ true = ap (λ (q : Place). is_place p q) (is_place_same end.place p e) ∙ is_place_itself p in cc
     by false e true f = let t : is_place end.place p ≡ true = ap (λ (q : Place). is_place end.place q) (is_place_same p end.place f) ∙ is_place_itself end.place in cc
 
-taken : (ends : List PlaceEnd) (k m : ℕ) (x : PlaceEnd) → slice_get (take k ends) m ≡ Some x → (m < k) × (slice_get ends m ≡ Some x)
-taken [] zero m x at = absurd (let lt = slice_get_within [] m x at in omega (arith, lt))
-taken [] (suc k) m x at = absurd (let lt = slice_get_within [] m x at in omega (arith, lt))
-taken (e ∷ es) zero m x at = absurd (let lt = slice_get_within [] m x at in omega (arith, lt))
-taken (e ∷ es) (suc k) zero x at = (omega arith, at)
-taken (e ∷ es) (suc k) (suc m) x at = let t = taken es k m x at in (omega (arith, t.0), t.1)
-
 takes : (ends : List PlaceEnd) (k m : ℕ) (x : PlaceEnd) → m < k → slice_get ends m ≡ Some x → slice_get (take k ends) m ≡ Some x
 takes [] k m x lt at = absurd (let w = slice_get_within [] m x at in omega (arith, w))
 takes (e ∷ es) zero m x lt at = absurd (omega (arith, lt))
@@ -58,7 +51,7 @@ first_adds ends k end at first p = by (end_printed (take k ends) p) refl (is_pla
     by None e c f = one_end ends k end p at
     by (Some x) e false f = sym (rw f refl)
     by (Some x) e true f =
-        let none : end_printed (take k ends) p ≡ None = none_found (take k ends) p (λ n y here same. first n y (taken ends k n y here).0 (taken ends k n y here).1 (same ∙ is_place_same p end.place f)) in
+        let none : end_printed (take k ends) p ≡ None = none_found (take k ends) p (λ n y here same. first n y (taken_at ends k n y here).0 (taken_at ends k n y here).1 (same ∙ is_place_same p end.place f)) in
         cc
 
 some_none : {X : Type 0} (a : X) → ◌≡◌ {A = Option X} (Some a) None → ⊥
@@ -68,7 +61,7 @@ some_none a e = cc
 found_not : (es : List PlaceEnd) (q : Place) (n : ℕ) (y : PlaceEnd) → slice_get es n ≡ Some y → y.place ≡ q → end_printed es q ≡ None → ⊥
 found_not [] q n y at same none = let w = slice_get_within [] n y at in omega (arith, w)
 found_not (z ∷ zs) q zero y at same none =
-    let own : is_place z.place q ≡ true = ap (λ (v : PlaceEnd). is_place v.place q) (some_is z y at) ∙ (ap (λ (v : Place). is_place v q) same ∙ is_place_itself q) in
+    let own : is_place z.place q ≡ true = ap (λ (v : PlaceEnd). is_place v.place q) (some_injective z y at) ∙ (ap (λ (v : Place). is_place v q) same ∙ is_place_itself q) in
     some_none z (sym (ap (λ (b : Bool). cond b (Some z) (end_printed zs q)) own) ∙ none)
 found_not (z ∷ zs) q (suc n) y at same none = elim (cases_Bool (is_place z.place q)) [
   | inl own ↦ some_none z (sym (ap (λ (b : Bool). cond b (Some z) (end_printed zs q)) own) ∙ none)
@@ -100,7 +93,7 @@ pub first_right : (ends : List PlaceEnd) (k : ℕ) (table : List (Vec Gathered G
     → ((x : PlaceEnd) → slice_get ends k ≡ Some x → Decides a (IsFirst ends k x.place)) → a ≡ true → Decides b (EachItem (IsOfTold table end.place) entries) → Decides b (IsOfTheirs table ends k)
 first_right ends k table end entries a b lt is own first t d =
     let at : slice_get ends k ≡ Some end = slice_get-get_or ends k end lt ∙ ap (λ (x : PlaceEnd). Some x) (sym is) in (
-      λ u x here at_first. subst (λ (y : PlaceEnd). EachItem (IsOfTold table y.place) y.entries.items) (some_is end x (sym at ∙ here)) (subst (EachItem (IsOfTold table end.place)) own (d.0 u)),
+      λ u x here at_first. subst (λ (y : PlaceEnd). EachItem (IsOfTold table y.place) y.entries.items) (some_injective end x (sym at ∙ here)) (subst (EachItem (IsOfTold table end.place)) own (d.0 u)),
       λ h. d.1 (subst (EachItem (IsOfTold table end.place)) (sym own) (h end at ((first end at).0 t))),
     )
 

@@ -1,7 +1,8 @@
 -- Entries noted one after another, and the versions that are above them.
-use Rattle.shr_audit_later.proofs.Common.{◌≡◌, ◌≢◌, ◌⊎◌, ℕ, ◌+◌, ◌*◌, ◌<◌, ◌≤◌, Bool, true, false, cond, List, [], ◌∷◌, ◌++◌, length, get_or, map, filter, flat_map, Option, Some, None, refl, sym, ap, subst, ◌∙◌, inl, inr, arith, nat_eq, nat_lt, slice_get, Decides, get, AllByRecursion, cases_Bool, and_parts, and_from, eq-eqb, ne_eqb, nat_tests, slice_get-get_or, get_or_from_slice_get, slice_get_within, EachItem, each_all, each_more, decides_iff, At, Place, Answered, Attempt, WalkRecord, is_place, place_in, is_place_itself, is_place_same, at, cited_by, fits, place_key, AreHighestCited, IsAboveHighest, IsWalkLater, IsOutcomeAbove, NotesReply, zero, suc, ◌↔◌, all_of, each_in, Versions, IsAboveEntry, IsAboveAt, IsBlank, IsWalkAbove, NotesEntry, highest_at, all_front, all_right}
+use Rattle.shr_audit_later.proofs.Common.{◌≡◌, ◌≢◌, ◌⊎◌, ℕ, ◌+◌, ◌*◌, ◌<◌, ◌≤◌, Bool, true, false, cond, List, [], ◌∷◌, ◌++◌, length, get_or, map, filter, flat_map, Option, Some, None, refl, sym, ap, subst, ◌∙◌, inl, inr, arith, nat_eq, nat_lt, slice_get, Decides, get, AllByRecursion, cases_Bool, and_parts, and_from, eq-eqb, ne_eqb, nat_tests, slice_get-get_or, slice_get_within, each_more, decides_iff, At, Place, Answered, Attempt, WalkRecord, is_place, place_in, is_place_itself, is_place_same, at, cited_by, fits, place_key, AreHighestCited, IsAboveHighest, IsWalkLater, IsOutcomeAbove, NotesReply, zero, suc, ◌↔◌, all_of, each_in, Versions, IsAboveEntry, IsAboveAt, IsBlank, IsWalkAbove, NotesEntry, highest_at, all_front, all_right}
 use Rattle.shr_model.specs.Attempts.{Count, counts_of}
 use Rattle.shr_model.proofs.BagLaws.{each_append}
+use Rattle.shr_formed.proofs.Eachs.{each_copied, each_fail, each_whole}
 
 clash : (b : Bool) → b ≡ true → b ≡ false → ⊥
 clash b e f = cc
@@ -190,15 +191,6 @@ later_decided answers t w n b e cited d =
 
 -- ---- items by an index
 
-pub each_step : {X : Type 0} (P : X → Type 0) (xs : List X) (i : ℕ) (d : X) → i < length xs → ((n : ℕ) (x : X) → n < i → slice_get xs n ≡ Some x → P x) → P (get_or xs i d) → (n : ℕ) (x : X) → n < i + 1 → slice_get xs n ≡ Some x → P x
-each_step P xs i d lt before here = each_more P xs i (get_or xs i d) lt (sym (get_or_from_slice_get xs i (get_or xs i d) (get_or xs i d) (slice_get-get_or xs i d lt))) before here
-
-pub each_fail : {X : Type 0} (P : X → Type 0) (xs ys : List X) (i : ℕ) (d : X) (b : Bool) → xs ≡ ys → i < length xs → Decides b (P (get_or xs i d)) → b ≡ false → Decides false (EachItem P ys)
-each_fail {X} P xs ys i d b e lt dec f = (λ t. absurd cc, λ h. absurd (clash b (dec.1 (h i (get_or xs i d) (ap (λ (zs : List X). slice_get zs i) (sym e) ∙ slice_get-get_or xs i d lt))) f))
-
-pub each_whole : {X : Type 0} (P : X → Type 0) (xs ys : List X) (i : ℕ) → xs ≡ ys → length xs ≤ i → ((n : ℕ) (x : X) → n < i → slice_get xs n ≡ Some x → P x) → Decides true (EachItem P ys)
-each_whole {X} P xs ys i e over before = subst (λ (zs : List X). Decides true (EachItem P zs)) e (each_all P xs i over before)
-
 -- ---- an attempt
 
 pub one_above : (b : Bool) (P : Type 0) → Decides b P → Decides b (P × Unit {0})
@@ -217,7 +209,7 @@ module _ (t : Versions) (w : WalkRecord) (tries : List Attempt) (i : ℕ) where
 
     pub attempt_more : ((k : ℕ) (a : Attempt) → k < i → slice_get tries k ≡ Some a → IsOutcomeAbove t (place_in w a.id) a.outcome) → b ≡ true
         → (k : ℕ) (a : Attempt) → k < i + 1 → slice_get tries k ≡ Some a → IsOutcomeAbove t (place_in w a.id) a.outcome
-    attempt_more before so = each_step AttemptAbove tries i d lt before (own_dec.0 so)
+    attempt_more before so = each_copied AttemptAbove tries i d lt before (own_dec.0 so)
 
     pub attempt_fails : tries ≡ w.attempts.items → b ≡ false → Decides false (IsWalkAbove t w)
     attempt_fails all isnt = each_fail AttemptAbove tries w.attempts.items i d b all lt own_dec isnt

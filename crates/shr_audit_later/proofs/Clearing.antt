@@ -5,11 +5,7 @@ use Rattle.std.proofs.lemmas.List.Concat.{flat_map-append}
 use Rattle.std.proofs.lemmas.List.Folds.{list_any-append}
 use Rattle.shr_model.specs.Attempts.{is_clearing}
 use Rattle.shr_audit_later.proofs.Citing.{same_key}
-use Rattle.shr_model.proofs.Booleans.{or_false}
-
-or_true : (b : Bool) → (b || true) ≡ true
-or_true true = refl
-or_true false = refl
+use Rattle.std.proofs.Math.Bool.{or-true, or-false}
 
 pub clears_none : (t : PlaceSet) → Clears t t []
 clears_none t places has = subst (λ (ps : List Place). HasPlaces ps t) (sym (append-nil places)) has
@@ -18,17 +14,17 @@ pub clears_one : (old new : PlaceSet) (p : Place) → fits p ≡ true → ((q : 
 clears_one old new p fit puts places has q fits_q = by (cases_Bool (is_place q p))
   where
     more : (b : Bool) → is_place q p ≡ b → list_any (is_place q) (places ++ p ∷ []) ≡ (list_any (is_place q) places || b)
-    more b e = list_any-append (is_place q) places (p ∷ []) ∙ ap (λ (a : Bool). list_any (is_place q) places || a) (or_false (is_place q p) ∙ e)
+    more b e = list_any-append (is_place q) places (p ∷ []) ∙ ap (λ (a : Bool). list_any (is_place q) places || a) (or-false (is_place q p) ∙ e)
 
     by : ((is_place q p ≡ true) ⊎ (is_place q p ≡ false)) → contains nat_eq new (place_key q) ≡ list_any (is_place q) (places ++ p ∷ [])
     by (inl t) =
         puts (place_key q)
         ∙ ap (λ (b : Bool). cond b true (contains nat_eq old (place_key q))) (eq-eqb (place_key p) (place_key q) (ap place_key (sym (is_place_same q p t))))
-        ∙ sym (more true t ∙ or_true (list_any (is_place q) places))
+        ∙ sym (more true t ∙ or-true (list_any (is_place q) places))
     by (inr f) =
         puts (place_key q)
         ∙ ap (λ (b : Bool). cond b true (contains nat_eq old (place_key q))) (ne_eqb (place_key p) (place_key q) (λ e. clash (is_place q p) (subst (λ (r : Place). is_place q r ≡ true) (sym (same_key p q fit fits_q e)) (is_place_itself q)) f))
-        ∙ has q fits_q ∙ sym (more false f ∙ or_false (list_any (is_place q) places))
+        ∙ has q fits_q ∙ sym (more false f ∙ or-false (list_any (is_place q) places))
 
 pub clears_then : (old now new : PlaceSet) (f g : List Place) → Clears old now f → Clears now new g → Clears old new (f ++ g)
 clears_then old now new f g first second places has = subst (λ (ps : List Place). HasPlaces ps new) (append_assoc places f g) (second (places ++ f) (first places has))

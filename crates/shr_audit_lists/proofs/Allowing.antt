@@ -6,6 +6,7 @@ use native.Mathlib.Decide.{ℕ_discrete}
 use mathlib.Core.Logic.{dite}
 use Rattle.shr_audit_lists.proofs.Journals.{each_printed_of}
 use Rattle.shr_audit_lists.proofs.Loops.{one_fails, one_more, all_so}
+use Rattle.shr_model.proofs.Members.{Has_last}
 
 clash : (b : Bool) → b ≡ true → b ≡ false → ⊥
 clash b e f = cc
@@ -168,10 +169,6 @@ has_left [] ys x h = absurd h
 has_left (y ∷ xs) ys x (inl same) = inl same
 has_left (y ∷ xs) ys x (inr more) = inr (has_left xs ys x more)
 
-has_last : (xs : List ℕ) (x : ℕ) → Has (xs ++ x ∷ []) x
-has_last [] x = inl refl
-has_last (y ∷ xs) x = inr (has_last xs x)
-
 has_cases : (xs : List ℕ) (y x : ℕ) → Has (xs ++ y ∷ []) x → Has xs x ⊎ (y ≡ x)
 has_cases [] y x (inl same) = inr same
 has_cases [] y x (inr none) = absurd none
@@ -206,7 +203,7 @@ module _ (before : List Entry) (e : Entry) (child : ℕ) (some : child_of e ≡ 
     by (inr same) = absurd (ne (sym same))
 
   after_own : Contains (moved_in (before ++ e ∷ [])) child
-  after_own = subst (λ (xs : List ℕ). Contains xs child) (sym (more_some before e child some)) (Contains_from_Has (moved_in before ++ child ∷ []) child (has_last (moved_in before) child))
+  after_own = subst (λ (xs : List ℕ). Contains xs child) (sym (more_some before e child some)) (Contains_from_Has (moved_in before ++ child ∷ []) child (Has_last (moved_in before) child))
 
   pub moved_set : (moved : List Bool) → child < length moved → AreMovesTold before moved → AreMovesTold (before ++ e ∷ []) (set moved child true)
   moved_set moved lt all g below = dite (ℕ_discrete g child) own other

@@ -1,21 +1,10 @@
 -- What is tested of a found cache, against what the law says of it.
-use Rattle.shr_audit_lookups.proofs.Common.{◌≡◌, ℕ, ◌<◌, ◌≤◌, Bool, List, length, Some, refl, sym, ap, subst, ◌∙◌, slice_get, Decides, fails, Report, true, false, cond, get_or, take, drop, Option, None, slice_get-get_or, IsLiveRight}
+use Rattle.shr_audit_lookups.proofs.Common.{◌≡◌, ℕ, ◌≤◌, Bool, length, Some, refl, sym, ap, subst, ◌∙◌, Decides, Report, true, false, cond, take, drop, Option, None, IsLiveRight}
 use Rattle.shr_base.specs.declared.replies.Found.{Found}
 use Rattle.shr_model.specs.Pool.{decl_of, end_of, from_of, is_live}
 use Rattle.shr_report.specs.Lookups.{IsFoundRight}
 use Rattle.shr_registrations.specs.declared.steps.Registration.{Registration}
 use Rattle.shr_registrations.specs.Live.{live_now}
-
--- what is so of the command that is there
-pub at_some : {X : Type 0} (o : Option X) (x : X) (P : X → Type 0) (b : Bool) → Some x ≡ o → Decides b (P x) → Decides b ((y : X) → o ≡ Some y → P y)
-at_some {X} o x P b e d = (λ t y is. subst P (same y (e ∙ is)) (d.0 t), λ h. d.1 (h x (sym e)))
-  where
-    same : (y : X) → ◌≡◌ {A = Option X} (Some x) (Some y) → x ≡ y
-    same y f = cc
-
--- where one item by its number isn't so, not all are
-pub one_fails : {X : Type 0} (P : ℕ → X → Type 0) (xs : List X) (i : ℕ) (x : X) (b : Bool) → i < length xs → x ≡ get_or xs i x → Decides b (P i x) → b ≡ false → Decides false ((n : ℕ) (y : X) → slice_get xs n ≡ Some y → P n y)
-one_fails {X} P xs i x b lt is d f = fails (P i x) ((n : ℕ) (y : X) → slice_get xs n ≡ Some y → P n y) b d f (λ all. all i x (slice_get-get_or xs i x lt ∙ ap (λ (y : X). Some y) (sym is)))
 
 -- the registration that the id of a found cache was in
 abbrev now : Report → Found → Registration

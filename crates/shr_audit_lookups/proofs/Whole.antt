@@ -5,7 +5,7 @@ use Rattle.shr_audit_tables.specs.Idle.{AreIdleEmpty, NonePast}
 use Rattle.shr_audit_tables.specs.Lookups.{IsPoolLawful}
 use Rattle.shr_audit_tables.specs.Registrations.{AreStatesOf}
 use Rattle.shr_audit_tables.specs.declared.registrations.IdState.{IdState}
-use Rattle.shr_audit_tables.proofs.States.{past_none}
+use Rattle.shr_model.proofs.PoolLaws.{past_none}
 
 -- the journal speaks of no id past the last
 pub none_past : (s : Script) (r : Report) (states : List IdState) (n : ℕ) → n ≡ length states → IsPoolLawful s r → AreStatesOf s.ids r.pool.items states → NonePast n r.pool.items

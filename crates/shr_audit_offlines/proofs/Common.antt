@@ -21,7 +21,6 @@ pub use Rattle.shr_base.specs.declared.scripts.Command.{Command}
 pub use Rattle.shr_base.specs.declared.scripts.GroupDecl.{GroupDecl}
 pub use Rattle.shr_base.specs.declared.scripts.Script.{Script}
 pub use Rattle.shr_base.specs.declared.walks.Carry.{Carry}
-pub use Rattle.shr_case.proofs.Firsts.{some_is}
 pub use Rattle.shr_model.proofs.GroupsOrder.{IsAtOrAbove-le, IsAtOrAbove-refl}
 pub use Rattle.shr_model.specs.Groups.{IsTree, parent_of}
 pub use Rattle.shr_report.specs.Causes.{IsAloneAt, IsOffline, IsOfflineDone, MayHaveBegun, MayHaveSpliced, StandsInTree, objects_moved_from, moved_of}
@@ -36,3 +35,4 @@ pub use Rattle.shr_audit_offlines.specs.declared.above.Whose.{Whose}
 pub use Rattle.shr_audit_offlines.specs.declared.above.Whose.TheVariants.{Nobody, One, Several}
 pub use mathlib.Core.Logic.{dite}
 pub use native.Mathlib.Decide.{ℕ_discrete}
+pub use Rattle.shr_model.proofs.Lists.{some_injective}

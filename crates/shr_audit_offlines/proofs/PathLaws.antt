@@ -1,24 +1,14 @@
 -- Groups above others, also above one that isn't there, whose parent is the root.
-use Rattle.shr_audit_offlines.proofs.Common.{◌≡◌, ◌≢◌, ℕ, zero, suc, ◌<◌, ◌≤◌, List, [], ◌∷◌, length, refl, sym, subst, inl, inr, arith, ◌==◌, cases_lt, get_or_past, IsTree, parent_of, IsAtOrAbove-le, IsAtOrAbove-refl}
-use Rattle.shr_model.specs.Groups.{IsAtOrAbove, path_of, path_within}
-use Rattle.shr_model.proofs.GroupsLaws.{path_of-below, not_zero}
+use Rattle.shr_audit_offlines.proofs.Common.{◌≡◌, ◌≢◌, ℕ, ◌<◌, List, ◌∷◌, length, sym, subst, inl, inr, arith, ◌==◌, cases_lt, get_or_past, IsTree, parent_of, IsAtOrAbove-le, IsAtOrAbove-refl}
+use Rattle.shr_model.specs.Groups.{IsAtOrAbove, path_of}
+use Rattle.shr_model.proofs.GroupsLaws.{path_of-below, path_of-past}
 use Rattle.shr_model.proofs.Members.{Contains_from_Has, Has, Has_from_Contains}
-
-root_path : (parents : List ℕ) (k : ℕ) → path_within k parents 0 ≡ 0 ∷ []
-unfolding path_within
-root_path parents zero = refl
-root_path parents (suc k) = refl
-
-path_past : (parents : List ℕ) (g : ℕ) → 0 < g → length parents ≤ g → path_of parents g ≡ g ∷ path_of parents (parent_of parents g)
-unfolding path_within
-path_past parents zero above past = absurd (omega arith)
-path_past parents (suc h) above past = rw (not_zero (suc h) above, get_or_past parents (suc h) 0 past, root_path parents h, root_path parents 0) refl
 
 module _ (parents : List ℕ) (tree : IsTree parents) (g : ℕ) (below : 0 < g) where
   path_up : path_of parents g ≡ g ∷ path_of parents (parent_of parents g)
   path_up = elim (cases_lt g (length parents)) [
     | inl there ↦ path_of-below parents tree g below there
-    | inr past ↦ path_past parents g below past
+    | inr past ↦ path_of-past parents g below past
   ]
 
   pub parent_lower : parent_of parents g < g

@@ -1,5 +1,5 @@
 -- Causes of answers to an `offline` that was done, from the parts in which they are tested.
-use Rattle.shr_audit_offlines.proofs.Common.{◌≡◌, ◌≢◌, ℕ, ◌-◌, ◌^◌, ◌<◌, ◌≤◌, Bool, true, false, length, get_or, Option, Some, None, refl, sym, ap, subst, ◌∙◌, arith, min, option_map, Decides, IsSomeAnd, get_or_default, slice_get_past, WorkerPart, Serial, Answered, Reply, Command, Script, Report, IsOffline, MayHaveSpliced, objects_moved_from, answer_at, answers_in, answers_of, command_at, reply_at, serial_of, Whose, Nobody, BeganAbove, is_only, HasOfflineCause, IsCarriedSo, IsOfflineCausedAt, IsMoveRight, IsMovedSo, some_is, not, slice_get_within, IsAloneAt, IsOfflineDone, StandsInTree, EachAnswer, AreOfflineNotes, IsSoleSplicer}
+use Rattle.shr_audit_offlines.proofs.Common.{◌≡◌, ◌≢◌, ℕ, ◌-◌, ◌^◌, ◌<◌, ◌≤◌, Bool, true, false, length, get_or, Option, Some, None, refl, sym, ap, subst, ◌∙◌, arith, min, option_map, Decides, IsSomeAnd, get_or_default, slice_get_past, WorkerPart, Serial, Answered, Reply, Command, Script, Report, IsOffline, MayHaveSpliced, objects_moved_from, answer_at, answers_in, answers_of, command_at, reply_at, serial_of, Whose, Nobody, BeganAbove, is_only, HasOfflineCause, IsCarriedSo, IsOfflineCausedAt, IsMoveRight, IsMovedSo, not, slice_get_within, IsAloneAt, IsOfflineDone, StandsInTree, EachAnswer, AreOfflineNotes, IsSoleSplicer, some_injective}
 use Rattle.shr_base.specs.declared.journals.TreeEntry.TheVariants.{Done}
 use Rattle.shr_base.specs.declared.replies.Reply.TheVariants as reply
 use Rattle.shr_case.proofs.Eachs.{decides_iff}
@@ -110,8 +110,8 @@ module _ (s : Script) (r : Report) (worker k : ℕ) where
     reply_is = ap (option_map (λ (x : Answered). x.reply)) (sym there)
 
     one_cause : HasOfflineCause s r (serial_of worker k) c a.reply → IsOfflineCausedAt s r worker k
-    one_cause h d b e f = subst (λ (v : Command). HasOfflineCause s r (serial_of worker k) v b.reply) (some_is c d (here ∙ e))
-        (subst (λ (v : Answered). HasOfflineCause s r (serial_of worker k) c v.reply) (some_is a b (there ∙ f)) h)
+    one_cause h d b e f = subst (λ (v : Command). HasOfflineCause s r (serial_of worker k) v b.reply) (some_injective c d (here ∙ e))
+        (subst (λ (v : Answered). HasOfflineCause s r (serial_of worker k) c v.reply) (some_injective a b (there ∙ f)) h)
 
     parts_here : IsOfflineCausedAt s r worker k → IsMovedSo s r worker (group_named c) a.reply × IsCarriedSo r worker k a.reply
     parts_here h = parts_of s r worker k c a.reply reply_is (h c a (sym here) (sym there))

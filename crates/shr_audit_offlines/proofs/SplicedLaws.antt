@@ -1,5 +1,5 @@
 -- Groups that may have been spliced, one command after another.
-use Rattle.shr_audit_offlines.proofs.Common.{◌≡◌, ◌⊎◌, ℕ, ◌<◌, ◌≤◌, Bool, true, false, List, length, get_or, set, replicate, Option, Some, None, refl, sym, ap, subst, ◌∙◌, inl, inr, arith, length-set, get_or-set_same, get_or-set_other, option_map, Decides, IsSomeAnd, cases_lt, get_or-replicate, get_or_past, length-replicate, slice_get_past, dite, ℕ_discrete, WorkerPart, Answered, Reply, Command, Script, Report, IsOffline, MayHaveSpliced, answer_at, answers_in, answers_of, command_at, reply_at, serial_of, AddsSpliced, AreOnlySpliced, HasSpliced, IsIn, with_spliced_group, some_is, ◌↔◌, HasSplicedGroups}
+use Rattle.shr_audit_offlines.proofs.Common.{◌≡◌, ◌⊎◌, ℕ, ◌<◌, ◌≤◌, Bool, true, false, List, length, get_or, set, replicate, Option, Some, None, refl, sym, ap, subst, ◌∙◌, inl, inr, arith, length-set, get_or-set_same, get_or-set_other, option_map, Decides, IsSomeAnd, cases_lt, get_or-replicate, get_or_past, length-replicate, slice_get_past, dite, ℕ_discrete, WorkerPart, Answered, Reply, Command, Script, Report, IsOffline, MayHaveSpliced, answer_at, answers_in, answers_of, command_at, reply_at, serial_of, AddsSpliced, AreOnlySpliced, HasSpliced, IsIn, with_spliced_group, ◌↔◌, HasSplicedGroups, some_injective}
 use Rattle.shr_base.specs.declared.scripts.Command.TheVariants.{Offline}
 
 none_some : {X : Type 0} (a : X) → ◌≡◌ {A = Option X} None (Some a) → ⊥
@@ -30,7 +30,7 @@ module _ (s : Script) (r : Report) (worker k : ℕ) where
 
     pub splices : (b : Bool) (o : Option ℕ) → Decides b (MayHaveSpliced a.reply) → b ≡ true → ((group : ℕ) → (c ≡ Offline group) ↔ (o ≡ Some group)) → Splices o
     splices b o d is of group = (
-      λ h. (of group).0 (some_is c (Offline group) (here ∙ h.command_is)),
+      λ h. (of group).0 (some_injective c (Offline group) (here ∙ h.command_is)),
       λ e. record {
         command_is = sym here ∙ ap (λ (x : Command). Some x) ((of group).1 e);
         answer = subst (λ (x : Option Reply). IsSomeAnd x MayHaveSpliced) (sym reply_is) (d.0 is);
@@ -68,7 +68,7 @@ module _ (s : Script) (r : Report) (worker k : ℕ) (table : List Bool) where
   pub has_next : (o : Option ℕ) → Splices s r worker k o → HasSpliced s r (with_spliced_group o table) worker k
   has_next None of group lt h = absurd (none_some group ((of group).0 h))
   has_next (Some h) of group lt own =
-      let same = some_is h group ((of group).0 own) in
+      let same = some_injective h group ((of group).0 own) in
       let long = length-set table h true in
       subst (λ (g : ℕ). IsIn (set table h true) g) same (get_or-set_same table h true false (omega (arith, lt, same, long)))
 

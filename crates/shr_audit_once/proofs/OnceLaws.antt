@@ -7,10 +7,11 @@ use Rattle.shr_base.specs.declared.places.At.{At}
 use Rattle.shr_base.specs.declared.replies.Answered.{Answered}
 use Rattle.shr_model.specs.Places.{is_place}
 use Rattle.shr_model.proofs.PlacesLaws.{is_place_same}
-use Rattle.shr_case.proofs.Firsts.{first_found, found_or_none, none_first, some_is}
+use Rattle.shr_case.proofs.Firsts.{first_found, found_or_none, none_first}
 use Rattle.shr_report.specs.declared.report.Report.{Report}
 use Rattle.shr_report.specs.Parts.{answer_at, answers_in, answers_of, cited_at, cited_by, serial_of}
 use Rattle.shr_audit_once.proofs.Order.{not_again}
+use Rattle.shr_model.proofs.Lists.{some_injective}
 
 none_some : {X : Type 0} (x : X) → ◌≡◌ {A = Option X} None (Some x) → ⊥
 none_some x e = cc
@@ -19,7 +20,7 @@ none_some x e = cc
 none_all : (ends : List PlaceEnd) (place : Place) (k : ℕ) (end : PlaceEnd) → end_printed ends place ≡ None → slice_get ends k ≡ Some end → end.place ≡ place → ⊥
 none_all [] place k end none at same = let lt = slice_get_within [] k end at in absurd (omega (arith, lt))
 none_all (e ∷ es) place zero end none at same =
-    let here : e.place ≡ place = ap (λ (x : PlaceEnd). x.place) (some_is e end at) ∙ same in
+    let here : e.place ≡ place = ap (λ (x : PlaceEnd). x.place) (some_injective e end at) ∙ same in
     none_some e (sym none ∙ first_found (e ∷ es) place 0 e refl here (none_first (e ∷ es) place))
 none_all (e ∷ es) place (suc k) end none at same = elim (cases_Bool (is_place e.place place)) [
   | inl own ↦ none_some e (sym none ∙ first_found (e ∷ es) place 0 e refl (is_place_same e.place place own) (none_first (e ∷ es) place))
@@ -80,7 +81,7 @@ module _ (r : Report) (worker k : ℕ) where
 
     pub cites_one : (c : At) (b : Bool) → Some c ≡ cited_by a.reply → Decides b (IsPrintedOnce r.places.items c.place) → Decides b (IsCitedOnceAt r worker k)
     cites_one c b one d = (
-      λ t x e. subst (λ (y : At). IsPrintedOnce r.places.items y.place) (some_is c x (one ∙ cited ∙ e)) (d.0 t),
+      λ t x e. subst (λ (y : At). IsPrintedOnce r.places.items y.place) (some_injective c x (one ∙ cited ∙ e)) (d.0 t),
       λ h. d.1 (h c (sym cited ∙ sym one)),
     )
 

@@ -13,7 +13,7 @@ pub use Rattle.std.specs.Bool.{Decides}
 pub use Rattle.std.specs.List.{AllByRecursion, cons_option, enumerate_from}
 pub use Rattle.std.specs.List.Sorted.{IsNonDecreasingBy, IsPartitionedBy, IsStableByKey, ties}
 pub use Rattle.std.specs.Prelude.{filter, filter_map, flat_map, nat_le, nat_lt, not, option_and_then, option_map, option_to_list, replicate, ◌&&◌, ◌==◌, ◌↔◌}
-pub use Rattle.shr_audit_due.proofs.Loops.{each_plain_of, item_fails, items_whole, none_some, value_fails, value_more}
+pub use Rattle.shr_audit_due.proofs.Loops.{each_plain_of, item_fails, items_whole, none_some, value_fails}
 pub use Rattle.shr_audit_tables.proofs.Steps.{sum_item}
 pub use Rattle.shr_audit_walks.proofs.Answered.{here_at}
 pub use Rattle.shr_base.specs.declared.ends.PlaceAmount.{PlaceAmount}
@@ -30,8 +30,8 @@ pub use Rattle.shr_base.specs.declared.walks.PassRecord.{PassRecord}
 pub use Rattle.shr_base.specs.declared.walks.PlainAnswer.{PlainAnswer}
 pub use Rattle.shr_base.specs.declared.walks.PlainTry.{PlainTry}
 pub use Rattle.shr_base.specs.declared.walks.PlainWalk.{PlainWalk}
-pub use Rattle.shr_formed.proofs.Eachs.{adjacent_in, all_at, all_of, below_of, clash, each_in, fails, more_at}
-pub use Rattle.shr_formed.proofs.WellParts.{last_get, lists_of, parts_of}
+pub use Rattle.shr_formed.proofs.Eachs.{adjacent_in, all_at, all_of, at_copied, below_of, clash, each_in, fails, more_at}
+pub use Rattle.shr_formed.proofs.WellParts.{lists_of, parts_of}
 pub use Rattle.shr_formed.specs.Each.{Adjacent, EachItem}
 pub use Rattle.shr_model.proofs.PlacesLaws.{is_place_itself, is_place_same}
 pub use Rattle.shr_model.specs.Places.{is_place}
@@ -53,3 +53,4 @@ pub use Rattle.shr_audit_pools.specs.Places.{AreKept, AreShelved, pool_key, name
 pub use Rattle.shr_audit_pools.specs.Stock.{AreFree, AreReclaims, AreStocksOf, IsStockOf, StandByWalk, all_reclaims, made_of_reclaim, reclaimed_of, walk_key, reclaims_with_key}
 pub use Rattle.shr_audit_pools.specs.declared.places.PoolPlace.{PoolPlace}
 pub use Rattle.shr_audit_pools.specs.declared.stock.Reclaimed.{Reclaimed}
+pub use Rattle.shr_model.proofs.Lists.{get_last}

@@ -1,9 +1,9 @@
 -- What is read of the journal of a pool.
-use Rattle.shr_audit_pools.proofs.Common.{◌≡◌, ◌⊎◌, inl, inr, ℕ, zero, suc, ◌+◌, ◌<◌, ◌≤◌, Bool, true, false, cond, List, [], ◌∷◌, ◌++◌, length, map, get_or, take, Option, Some, None, refl, sym, ap, subst, ◌∙◌, arith, ◌==◌, ◌&&◌, filter_map, nat_lt, nat_le, option_to_list, slice_get, cons_option, enumerate_from, IsPartitionedBy, cases_lt, nat_tests, get_or_append_left, length-append, take_all, take_more, filter_map-append, IsNonDecreasingBy-from_all_adjacent, IsPartitionedBy-ltb, all_adjacent_from_non_decreasing, same_Some, slice_get-get_or, slice_get_within, get_or-append_seam, UnitsEnd, PlainEntry, Place, free_of, Report, ReclaimMade, units_entries, units_journal, EachItem, below_of, Reclaimed, journal_printed_at, AreStocksOf, all_reclaims, made_of_reclaim, ◌^◌, filter, not, IsNonDecreasingBy, IsStableByKey, ties, length-take, IsPartitionedBy-leb, slice_get_cases, IsPlainEntryNumbered, reclaim_by, adjacent_in, AreFree, AreReclaims, IsStockOf, StandByWalk, reclaimed_of, walk_key, reclaims_with_key, last_get}
+use Rattle.shr_audit_pools.proofs.Common.{◌≡◌, ◌⊎◌, inl, inr, ℕ, zero, suc, ◌+◌, ◌<◌, ◌≤◌, Bool, true, false, cond, List, [], ◌∷◌, ◌++◌, length, map, get_or, take, Option, Some, None, refl, sym, ap, subst, ◌∙◌, arith, ◌==◌, ◌&&◌, filter_map, nat_lt, nat_le, option_to_list, slice_get, cons_option, enumerate_from, IsPartitionedBy, cases_lt, nat_tests, get_or_append_left, length-append, take_all, take_more, filter_map-append, IsNonDecreasingBy-from_all_adjacent, IsPartitionedBy-ltb, all_adjacent_from_non_decreasing, same_Some, slice_get-get_or, slice_get_within, get_or-append_seam, UnitsEnd, PlainEntry, Place, free_of, Report, ReclaimMade, units_entries, units_journal, EachItem, below_of, Reclaimed, journal_printed_at, AreStocksOf, all_reclaims, made_of_reclaim, ◌^◌, filter, IsNonDecreasingBy, IsStableByKey, ties, length-take, IsPartitionedBy-leb, slice_get_cases, IsPlainEntryNumbered, reclaim_by, adjacent_in, AreFree, AreReclaims, IsStockOf, StandByWalk, reclaimed_of, walk_key, reclaims_with_key, get_last}
 use Rattle.std.specs.Ordering.{nat_cmp, is_lt}
-use Rattle.std.specs.declared.cmp.Ordering.TheVariants.{Less, Equal, Greater}
 use Rattle.shr_base.specs.declared.journals.PlainEntry.TheVariants.{Release, Grab, Reclaim}
 use Rattle.shr_audit_pools.specs.declared.stock.Stock.{Stock}
+use Rattle.shr_model.proofs.Numbers.{tie}
 
 -- ---- how many units are free
 
@@ -102,24 +102,10 @@ blank key = record { key = key; number = 0; asked = 0; freed = 0 }
 abbrev filter_ties : ℕ → List Reclaimed → List Reclaimed
 filter_ties key xs = filter (ties (λ (x y : Reclaimed). is_lt (nat_cmp x.key y.key)) (blank key)) xs
 
-lower : (a b : ℕ) → is_lt (nat_cmp a b) ≡ nat_lt a b
-lower a b = by (nat_lt a b) (a == b)
-  where
-    by : (x y : Bool) → is_lt (cond x Less (cond y Equal Greater)) ≡ x
-    by true y = refl
-    by false true = refl
-    by false false = refl
-
-tied_test : (a b : ℕ) → (not (is_lt (nat_cmp a b)) && not (is_lt (nat_cmp b a))) ≡ (b == a)
-tied_test a b = ap (λ (t : Bool). not t && not (is_lt (nat_cmp b a))) (lower a b) ∙ (ap (λ (t : Bool). not (nat_lt a b) && not t) (lower b a) ∙ by_order)
-  where
-    by_order : (not (nat_lt a b) && not (nat_lt b a)) ≡ (b == a)
-    by_order = grind (arith, nat_tests)
-
 tied : (key : ℕ) (xs : List Reclaimed) → filter_ties key xs ≡ reclaims_with_key key xs
 tied key [] = refl
 tied key (x ∷ xs) =
-    ap (λ (b : Bool). cond b (x ∷ filter_ties key xs) (filter_ties key xs)) (tied_test key x.key)
+    ap (λ (b : Bool). cond b (x ∷ filter_ties key xs) (filter_ties key xs)) (tie key x.key)
     ∙ ap (λ (ys : List Reclaimed). cond (x.key == key) (x ∷ ys) ys) (tied key xs)
 
 -- a stable sort by the walk keeps those of each walk in order
@@ -169,8 +155,8 @@ stocks_more ends i u es stocks after x lt is own pushed here before = record {
         let count = length-append stocks (x ∷ []) in
         let last : k ≡ length stocks = within_one k (length stocks) (length (stocks ++ x ∷ [])) ge bound count in
         let last_u : k ≡ length (take i ends) = last ∙ before.count in
-        let same_u : u ≡ v = same_Some u v (sym (last_get (take i ends) u) ∙ (ap (slice_get (take i ends ++ u ∷ [])) (sym last_u) ∙ at_k)) in
-        let same_x : x ≡ y = same_Some x y (sym (last_get stocks x) ∙ (ap (slice_get (stocks ++ x ∷ [])) (sym last) ∙ stock_k)) in
+        let same_u : u ≡ v = same_Some u v (sym (get_last (take i ends) u) ∙ (ap (slice_get (take i ends ++ u ∷ [])) (sym last_u) ∙ at_k)) in
+        let same_x : x ≡ y = same_Some x y (sym (get_last stocks x) ∙ (ap (slice_get (stocks ++ x ∷ [])) (sym last) ∙ stock_k)) in
         subst (λ (z : Stock). IsStockOf v.entries.items z) same_x (subst (λ (zs : List PlainEntry). IsStockOf zs x) (own ∙ ap (λ (z : UnitsEnd). z.entries.items) same_u) here)
 
 -- what was read of the journal of a place is that of its journal

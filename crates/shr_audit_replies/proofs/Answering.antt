@@ -1,5 +1,5 @@
 -- The fields of the law on replies that speak of all answers and entries, from those that are tested.
-use Rattle.shr_audit_replies.proofs.Common.{◌≡◌, ℕ, ◌<◌, ◌≤◌, length, true, Option, Some, None, refl, sym, ap, subst, ◌∙◌, inl, inr, arith, slice_get, none-some, slice_get_cases, slice_get_within, Serial, At, Entry, Look, Answered, Reply, Command, Script, by_of, Report, parents_of, journals_of, answer_at, commands_of, command_at, cited_by, cited_at, at, serial_of, IsReply, AllHaveAnswers, AreLastSwept, AreAnswered, AreValuesLent, AreEntriesCited, some_is, option_map, option_and_then, answers_of, reply_at, id_found, EachAnswer, AreJournalsRising}
+use Rattle.shr_audit_replies.proofs.Common.{◌≡◌, ℕ, ◌<◌, ◌≤◌, length, true, Option, Some, None, refl, sym, ap, subst, ◌∙◌, inl, inr, arith, slice_get, none-some, slice_get_cases, slice_get_within, Serial, At, Entry, Look, Answered, Reply, Command, Script, by_of, Report, parents_of, journals_of, answer_at, commands_of, command_at, cited_by, cited_at, at, serial_of, IsReply, AllHaveAnswers, AreLastSwept, AreAnswered, AreValuesLent, AreEntriesCited, option_map, option_and_then, answers_of, reply_at, id_found, EachAnswer, AreJournalsRising, some_injective}
 use Rattle.shr_base.specs.declared.places.Place.{Place}
 use Rattle.shr_base.specs.declared.replies.Reply.TheVariants as reply
 use Rattle.shr_report.specs.Swept.{IsSweepReply}
@@ -57,7 +57,7 @@ answers_without s r all by c a known there = without_value (parents_of s) (journ
 pub values_of : (s : Script) (r : Report) → AllHaveAnswers s r → AreLastSwept s r → EachAnswer s r (λ by c a. IsReply (parents_of s) (journals_of r) by c (id_found a) a.reply) → AreValuesLent s r
 values_of s r counted last all place n e stands by birth key value is replies =
     let g = given (λ x. Some x) (answer_at r by) (reply.Hit (at place n) value) replies_so in
-    let same : g.answer.reply ≡ reply.Hit (at place n) value = some_is g.answer.reply (reply.Hit (at place n) value) g.gives in
+    let same : g.answer.reply ≡ reply.Hit (at place n) value = some_injective g.answer.reply (reply.Hit (at place n) value) g.gives in
     let c = command_of s r counted last by g.answer g.there (λ is. subst IsSweepReply same is) in
     lent (parents_of s) (journals_of r) by c.0 (id_found g.answer) (at place n) value key birth
     (subst (λ (x : Reply). IsReply (parents_of s) (journals_of r) by c.0 (id_found g.answer) x) same (all by c.0 g.answer c.1 g.there))
@@ -93,7 +93,7 @@ journals_rise s r cited rise place n m d e by later lt here there by_is later_is
     equal : later.command ≡ by.command → ⊥
     equal is =
         let both : ◌≡◌ {A = Option At} (Some (at place m)) (Some (at place n)) = sym second ∙ (ap (λ (k : ℕ). cited_at r (serial_of by.worker k)) is ∙ first) in
-        let number : m ≡ n = ap (λ (x : At). x.entry) (some_is (at place m) (at place n) both) in
+        let number : m ≡ n = ap (λ (x : At). x.entry) (some_injective (at place m) (at place n) both) in
         omega (arith, number, lt)
 
 -- and the other way round
@@ -113,6 +113,6 @@ replies_rise s r counted last answered rising worker k later place n m lt first 
     equal : m ≡ n → ⊥
     equal is =
         let entries : ◌≡◌ {A = Option Entry} (Some two.entry) (Some one.entry) = sym two.stands ∙ (ap (λ (i : ℕ). slice_get (journals_of r place) i) is ∙ one.stands) in
-        let serials : ◌≡◌ {A = Option Serial} (Some (serial_of worker later)) (Some (serial_of worker k)) = sym two.by_is ∙ (ap by_of (some_is two.entry one.entry entries) ∙ one.by_is) in
-        let number : later ≡ k = ap (λ (x : Serial). x.command) (some_is (serial_of worker later) (serial_of worker k) serials) in
+        let serials : ◌≡◌ {A = Option Serial} (Some (serial_of worker later)) (Some (serial_of worker k)) = sym two.by_is ∙ (ap by_of (some_injective two.entry one.entry entries) ∙ one.by_is) in
+        let number : later ≡ k = ap (λ (x : Serial). x.command) (some_injective (serial_of worker later) (serial_of worker k) serials) in
         omega (arith, number, lt)

@@ -18,7 +18,6 @@ pub use Rattle.shr_base.specs.declared.scripts.Command.TheVariants.{Del, Get, Pu
 pub use Rattle.shr_base.specs.declared.scripts.GroupDecl.{GroupDecl}
 pub use Rattle.shr_base.specs.declared.scripts.PoolDecl.{PoolDecl}
 pub use Rattle.shr_base.specs.declared.scripts.Script.{Script}
-pub use Rattle.shr_case.proofs.Firsts.{some_is}
 pub use Rattle.shr_case.specs.Each.{EachFirst}
 pub use Rattle.shr_case.specs.Places.{IsFirst}
 pub use Rattle.shr_formed.proofs.Eachs.{all_at, below_of, clash, fails, more_at}
@@ -33,3 +32,4 @@ pub use Rattle.shr_audit_replies.specs.Heads.{AreLastSwept, HasAnswers, HasNames
 pub use Rattle.shr_audit_replies.specs.Law.{AreRepliesLawfulButValues, HasHeads}
 pub use Rattle.shr_audit_replies.specs.Rising.{AreOfEarlierJournals, GoesOnBy, IsAfter, last_of_worker, no_last, noted_by}
 pub use Rattle.shr_audit_replies.specs.declared.rising.Last.{Last}
+pub use Rattle.shr_model.proofs.Lists.{some_injective}

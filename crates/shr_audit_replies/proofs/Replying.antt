@@ -1,5 +1,5 @@
 -- What the table of replies says of entries that replies cite.
-use Rattle.shr_audit_replies.proofs.Common.{◌≡◌, ℕ, true, false, List, Option, Some, None, refl, sym, subst, ◌∙◌, slice_get, Serial, At, Entry, Add, Look, Drop, Pin, Reply, Command, Get, Family, by_of, cited_by, Cites, IsReply, MayReply, some_is, Put, Del, SetPin, LendsValue}
+use Rattle.shr_audit_replies.proofs.Common.{◌≡◌, ℕ, true, false, List, Option, Some, None, refl, sym, subst, ◌∙◌, slice_get, Serial, At, Entry, Add, Look, Drop, Pin, Reply, Command, Get, Family, by_of, cited_by, Cites, IsReply, MayReply, Put, Del, SetPin, LendsValue, some_injective}
 use Rattle.shr_base.specs.declared.journals.DropKind.TheVariants as kind
 use Rattle.shr_base.specs.declared.replies.Reply.TheVariants as reply
 
@@ -59,7 +59,7 @@ of_done parents family by (Put g n d k v) None a h = absurd h
 of_done parents family by c None a h = absurd h
 
 here : (family : Family) (c a : At) (by : Serial) → ◌≡◌ {A = Option At} (Some c) (Some a) → Own family c by → Own family a by
-here family c a by e h = subst (λ (x : At). Own family x by) (some_is c a e) h
+here family c a by e h = subst (λ (x : At). Own family x by) (some_injective c a e) h
 
 -- what a reply cites is the command's own entry
 pub own_cited : (parents : List ℕ) (family : Family) (by : Serial) (c : Command) (found : Option ℕ) (x : Reply) (a : At) → MayReply parents family by c found x → cited_by x ≡ Some a → Own family a by
@@ -94,7 +94,7 @@ without_value parents family by c found x h = h
 pub lent : (parents : List ℕ) (family : Family) (by : Serial) (c : Command) (found : Option ℕ) (a : At) (value key : List ℕ) (birth : ℕ) → IsReply parents family by c found (reply.Hit a value)
     → slice_get (family a.place) a.entry ≡ Some (Look by birth key true) → LendsValue parents family a birth key value
 lent parents family by (Get g n d k) (Some id) a value key birth h stands =
-    let same : ◌≡◌ {A = Entry} (Look by g k true) (Look by birth key true) = some_is (Look by g k true) (Look by birth key true) (sym h.0.stands ∙ stands) in
+    let same : ◌≡◌ {A = Entry} (Look by g k true) (Look by birth key true) = some_injective (Look by g k true) (Look by birth key true) (sym h.0.stands ∙ stands) in
     let group : g ≡ birth = cc in
     let name : k ≡ key = cc in
     subst (λ (b : ℕ). LendsValue parents family a b key value) group (subst (λ (y : List ℕ). LendsValue parents family a g y value) name h.1)

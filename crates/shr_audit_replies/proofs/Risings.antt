@@ -1,5 +1,5 @@
 -- One journal gone through with the last entry of each worker's at hand.
-use Rattle.shr_audit_replies.proofs.Common.{◌≡◌, ℕ, suc, ◌+◌, [], ◌∷◌, ◌<◌, ◌≤◌, Bool, true, false, List, length, Option, Some, None, refl, sym, ap, subst, ◌∙◌, arith, slice_get, ◌==◌, nat_tests, slice_get_within, Serial, Entry, by_of, Last, AreCommandsRising, AreOfEarlierJournals, IsAfter, last_of_worker, no_last, noted_by, some_is, zero, lit<, ◌++◌, GoesOnBy}
+use Rattle.shr_audit_replies.proofs.Common.{◌≡◌, ℕ, suc, ◌+◌, [], ◌∷◌, ◌<◌, ◌≤◌, Bool, true, false, List, length, Option, Some, None, refl, sym, ap, subst, ◌∙◌, arith, slice_get, ◌==◌, nat_tests, slice_get_within, Serial, Entry, by_of, Last, AreCommandsRising, AreOfEarlierJournals, IsAfter, last_of_worker, no_last, noted_by, zero, lit<, ◌++◌, GoesOnBy, some_injective}
 use Rattle.std.proofs.lemmas.List.{get_or-set_same, get_or-set_other, length-set}
 
 -- a command is before the worker's last one in this journal, or is it
@@ -65,7 +65,7 @@ here_or_before {Q} entries i n e x at below stands before here = by_order (n == 
     by_order : (t : Bool) → (n == i) ≡ t → Q
     by_order true t =
         let same : n ≡ i = grind (arith, nat_tests) in
-        here same (some_is x e (sym stands ∙ (ap (λ (k : ℕ). slice_get entries k) same ∙ at)))
+        here same (some_injective x e (sym stands ∙ (ap (λ (k : ℕ). slice_get entries k) same ∙ at)))
     by_order false t = before (let lower : n < i = grind (arith, nat_tests) in lower)
 
 further : {entries : List Entry} {i worker next : ℕ} → HasLast entries i worker next → HasLast entries (i + 1) worker next
@@ -114,7 +114,7 @@ more_one journal entries i seen e own at own_is numbered after h = record {
     new = noted_by journal own seen
 
     own_by : (x : Entry) (by : Serial) → x ≡ e → by_of x ≡ Some by → by ≡ own
-    own_by x by is by_is = some_is by own (sym by_is ∙ (ap by_of is ∙ own_is))
+    own_by x by is by_is = some_injective by own (sym by_is ∙ (ap by_of is ∙ own_is))
 
     at_worker : (worker : ℕ) (P : Last → Type 0) → (worker ≡ own.worker → P last) → P (last_of_worker seen worker) → P (last_of_worker new worker)
     at_worker worker P here other = by_order (worker == own.worker) refl

@@ -12,7 +12,7 @@ ghost use Rattle.shr_report.specs.Parts.{journals_of, serial_of};
 ghost use Rattle.shr_report.specs.ReplyTable.{Cites, IsReply};
 ghost use Rattle.shr_audit_replies.specs.Answers.{MayReply};
 
-use crate::entries::{Tenant, is_add, is_drop, is_look, is_pin};
+use crate::entries::{Tenant, is_add, is_drop, is_look, is_pin, tenant_of};
 use shr_base::journals::{DropKind, Entry};
 use shr_base::places::At;
 use shr_base::replies::{Reply, Spent};
@@ -187,72 +187,38 @@ pub fn may_held(
             key,
             value,
             ..
-        } => put_held(
-            report,
-            Tenant {
-                worker,
-                command: number,
-                group: *group,
-                node: *node,
-                id,
-            },
-            key,
-            value,
-            reply,
-        ),
+        } => {
+            let tenant = tenant_of(worker, number, *group, *node, id);
+            put_held(report, tenant, key, value, reply)
+        }
         Command::Get {
             group,
             node,
             key,
             ..
-        } => get_held(
-            report,
-            Tenant {
-                worker,
-                command: number,
-                group: *group,
-                node: *node,
-                id,
-            },
-            key,
-            reply,
-        ),
+        } => {
+            let tenant = tenant_of(worker, number, *group, *node, id);
+            get_held(report, tenant, key, reply)
+        }
         Command::Del {
             group,
             node,
             key,
             ..
-        } => del_held(
-            report,
-            Tenant {
-                worker,
-                command: number,
-                group: *group,
-                node: *node,
-                id,
-            },
-            key,
-            reply,
-        ),
+        } => {
+            let tenant = tenant_of(worker, number, *group, *node, id);
+            del_held(report, tenant, key, reply)
+        }
         Command::SetPin {
             group,
             node,
             key,
             pinned,
             ..
-        } => pin_held(
-            report,
-            Tenant {
-                worker,
-                command: number,
-                group: *group,
-                node: *node,
-                id,
-            },
-            key,
-            *pinned,
-            reply,
-        ),
+        } => {
+            let tenant = tenant_of(worker, number, *group, *node, id);
+            pin_held(report, tenant, key, *pinned, reply)
+        }
         Command::Isolate { .. } => isolate_held(reply),
         _ => false,
     }

@@ -20,6 +20,25 @@ pub struct Tenant {
     pub id: u16,
 }
 
+/// The tenant's command with this number, about this group and node. Our own.
+pub fn tenant_of(worker: usize, command: usize, group: u16, node: u8, id: u16) -> Tenant
+    ensures { result ≡ record {
+      worker = worker;
+      command = command;
+      group = group;
+      node = node;
+      id = id;
+    } }
+{
+    Tenant {
+        worker,
+        command,
+        group,
+        node,
+        id,
+    }
+}
+
 // Whether this is that command.
 fn is_own(by: Serial, tenant: Tenant) -> bool
     ensures { Decides result (by ≡ serial_of tenant.worker tenant.command) }

@@ -1,27 +1,15 @@
 -- The groups at or above another, one after the other.
-use Rattle.shr_audit_rounds.proofs.Common.{◌≡◌, ℕ, zero, suc, ◌+◌, ◌<◌, ◌≤◌, Bool, true, false, cond, List, [], ◌∷◌, ◌++◌, length, get_or, take, refl, sym, ap, subst, ◌∙◌, inl, inr, arith, ◌↔◌, ◌==◌, nat_lt, Decides, AllByRecursion, cases_Bool, eqb-true, eq-eqb, ne_eqb, nat_tests, take_more, IsAtOrAbove, IsTree, parent_of, path_of-below, path_of-root}
-use Rattle.shr_model.specs.Groups.{path_of, path_within}
+use Rattle.shr_audit_rounds.proofs.Common.{◌≡◌, ℕ, zero, suc, ◌+◌, ◌<◌, ◌≤◌, Bool, true, false, List, [], ◌∷◌, ◌++◌, length, get_or, take, refl, sym, subst, ◌∙◌, inl, inr, arith, ◌↔◌, ◌==◌, nat_lt, Decides, AllByRecursion, cases_Bool, eqb-true, eq-eqb, nat_tests, take_more, IsAtOrAbove, IsTree, parent_of, path_of-below, path_of-root}
+use Rattle.shr_model.specs.Groups.{path_of}
 use Rattle.shr_model.proofs.Members.{Has, Contains_from_Has, Has_from_Contains}
 use Rattle.shr_model.proofs.Lists.{none_past}
-
-root_path : (steps : ℕ) (parents : List ℕ) → path_within steps parents 0 ≡ 0 ∷ []
-unfolding path_within
-root_path zero parents = refl
-root_path (suc steps) parents = refl
-
-past_path : (parents : List ℕ) (b : ℕ) → 0 < b → length parents ≤ b → path_of parents b ≡ b ∷ path_of parents (parent_of parents b)
-unfolding path_within
-past_path parents zero some le = absurd (omega arith)
-past_path parents (suc b) some le =
-    let up : parent_of parents (suc b) ≡ 0 = none_past parents (suc b) le in
-    ap (λ (t : Bool). cond t (0 ∷ []) (suc b ∷ path_within b parents (parent_of parents (suc b)))) (ne_eqb (suc b) 0 (λ e. omega (arith, e)))
-    ∙ ap (λ (xs : List ℕ). suc b ∷ xs) (ap (path_within b parents) up ∙ root_path b parents ∙ sym (ap (path_of parents) up ∙ root_path 0 parents))
+use Rattle.shr_model.proofs.GroupsLaws.{path_of-past}
 
 -- the path of a group below the root is the group, and then the path of its parent
 path_next : (parents : List ℕ) → IsTree parents → (b : ℕ) → 0 < b → path_of parents b ≡ b ∷ path_of parents (parent_of parents b)
 path_next parents tree b some = elim (cases_Bool (nat_lt b (length parents))) [
   | inl t ↦ path_of-below parents tree b some (below t)
-  | inr f ↦ past_path parents b some (past f)
+  | inr f ↦ path_of-past parents b some (past f)
 ]
   where
     below : nat_lt b (length parents) ≡ true → b < length parents

@@ -21,7 +21,6 @@ pub use Rattle.shr_base.specs.declared.replies.Reply.{Reply}
 pub use Rattle.shr_base.specs.declared.scripts.Command.{Command}
 pub use Rattle.shr_base.specs.declared.scripts.Script.{Script}
 pub use Rattle.shr_base.specs.Walks.{WalkRecord}
-pub use Rattle.shr_case.proofs.Firsts.{some_is}
 pub use Rattle.shr_formed.proofs.Eachs.{all_at, all_of, clash, more_at}
 pub use Rattle.shr_model.proofs.GroupsLaws.{child_again, child_higher, child_takes, path_of-below, path_of-root, preorder_of-group, subtrees_of}
 pub use Rattle.shr_model.specs.Charges.{is_by, is_refused, ops_by}
@@ -37,3 +36,4 @@ pub use Rattle.shr_audit_rounds.specs.Rounds.{AreAlike, AreDue, FitsRounds, IsPu
 pub use Rattle.shr_audit_rounds.specs.Rows.{BeginsAsDue, IsBehind, IsMadeAsDue, IsNotBegun, job_with, jobs_made, jobs_over, round_control, round_over}
 pub use Rattle.shr_audit_rounds.specs.declared.commands.Dues.{Dues}
 pub use Rattle.shr_audit_rounds.specs.declared.refusals.Refusal.{Refusal}
+pub use Rattle.shr_model.proofs.Lists.{some_injective}

@@ -1,5 +1,5 @@
 -- The rounds that were due, by how often each group refused.
-use Rattle.shr_audit_rounds.proofs.Common.{◌≡◌, ℕ, ◌+◌, ◌<◌, ◌≤◌, Bool, true, false, cond, List, [], ◌∷◌, length, Option, Some, None, refl, sym, ap, subst, ◌∙◌, arith, ◌==◌, Decides, AllByRecursion, eq-eqb, IsAtOrAbove, Job, AreAlike, AreDue, FitsRounds, IsWithout, TakesOut, named, times_over, Refusal, refused_groups, some_is, IsPutMade}
+use Rattle.shr_audit_rounds.proofs.Common.{◌≡◌, ℕ, ◌+◌, ◌<◌, ◌≤◌, Bool, true, false, cond, List, [], ◌∷◌, length, Option, Some, None, refl, sym, ap, subst, ◌∙◌, arith, ◌==◌, Decides, AllByRecursion, eq-eqb, IsAtOrAbove, Job, AreAlike, AreDue, FitsRounds, IsWithout, TakesOut, named, times_over, Refusal, refused_groups, IsPutMade}
 use Rattle.shr_audit_rounds.proofs.Alike.{all_alike, same_length, so_of, so_of_each}
 
 -- ---- what is left of the groups that refused

@@ -1,5 +1,5 @@
 -- The preorders of groups, from the last group up.
-use Rattle.shr_audit_rounds.proofs.Common.{◌≡◌, ◌⊎◌, ℕ, zero, suc, ◌+◌, ◌-◌, ◌<◌, ◌≤◌, Bool, true, false, cond, List, [], ◌∷◌, ◌++◌, length, get_or, filter, flat_map, Some, refl, sym, ap, subst, ◌∙◌, inl, inr, arith, Global, slice_get, Vec, range_with_len, cases_Bool, append-nil, length-append, flat_map-append, filter-append, slice_get_within, IsTree, parent_of, preorder_of, preorder_of-group, AreOrdersFrom, some_is, slice_get-get_or, is_child, child_again, child_higher, child_takes}
+use Rattle.shr_audit_rounds.proofs.Common.{◌≡◌, ◌⊎◌, ℕ, zero, suc, ◌+◌, ◌-◌, ◌<◌, ◌≤◌, Bool, true, false, cond, List, [], ◌∷◌, ◌++◌, length, get_or, filter, flat_map, Some, refl, sym, ap, subst, ◌∙◌, inl, inr, arith, Global, slice_get, Vec, range_with_len, cases_Bool, append-nil, length-append, flat_map-append, filter-append, slice_get_within, IsTree, parent_of, preorder_of, preorder_of-group, AreOrdersFrom, slice_get-get_or, is_child, child_again, child_higher, child_takes, some_injective}
 use Rattle.shr_audit_rounds.specs.Orders.{subtrees_of}
 use Rattle.shr_formed.proofs.Strip.{range_more}
 
@@ -47,7 +47,7 @@ module _ (parents : List ℕ) (group : ℕ) where
 -- ---- the orders from a group on
 
 at_end : {X : Type 0} (xs : List X) (x : X) (n : ℕ) (y : X) → slice_get (xs ++ x ∷ []) n ≡ Some y → (n < length xs × (slice_get xs n ≡ Some y)) ⊎ ((n ≡ length xs) × (x ≡ y))
-at_end [] x zero y e = inr (refl, some_is x y e)
+at_end [] x zero y e = inr (refl, some_injective x y e)
 at_end [] x (suc n) y e = absurd (let lt = slice_get_within (x ∷ []) (suc n) y e in omega (arith, lt))
 at_end (z ∷ zs) x zero y e = inl (omega arith, e)
 at_end (z ∷ zs) x (suc n) y e = elim (at_end zs x n y e) [

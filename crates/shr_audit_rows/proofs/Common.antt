@@ -21,7 +21,6 @@ pub use Rattle.shr_base.specs.declared.scripts.Command.{Command}
 pub use Rattle.shr_base.specs.declared.scripts.GroupDecl.{GroupDecl}
 pub use Rattle.shr_base.specs.declared.scripts.Script.{Script}
 pub use Rattle.shr_case.proofs.Eachs.{decides_iff}
-pub use Rattle.shr_case.proofs.Firsts.{some_is}
 pub use Rattle.shr_formed.proofs.Eachs.{all_of, clash, each_all, each_in, each_more, fails}
 pub use Rattle.shr_formed.specs.Each.{EachItem}
 pub use Rattle.shr_model.specs.Charges.{is_by, ops_by, ups}
@@ -40,3 +39,4 @@ pub use Rattle.shr_audit_rows.specs.declared.asked.Asked.{Asked}
 pub use Rattle.shr_audit_rows.specs.declared.tried.Tried.{Tried}
 pub use mathlib.Core.Logic.{dite}
 pub use native.Mathlib.Decide.{ℕ_discrete}
+pub use Rattle.shr_model.proofs.Lists.{some_injective}

@@ -1,5 +1,5 @@
 -- What is said of declarations, in the order of the entries.
-use Rattle.shr_audit_rows.proofs.Common.{◌≡◌, ℕ, ◌+◌, ◌<◌, ◌≤◌, Bool, true, false, List, [], ◌∷◌, length, get_or, take, Option, Some, None, refl, sym, ap, subst, ◌∙◌, arith, ◌&&◌, not, is_some, slice_get, Decides, IsSomeAnd, and_parts, and_from, get_or_from_slice_get, slice_get_within, PoolEntry, Script, EachItem, decides_iff, Report, Asked, AreAllSo, IsAskedSo, IsSaid, IsAskedRight, Stands, IsPermutation, slice_get-get_or, clash, each_more, is_live_decl, lowest_idle}
+use Rattle.shr_audit_rows.proofs.Common.{◌≡◌, ℕ, ◌+◌, ◌<◌, ◌≤◌, Bool, true, false, List, [], ◌∷◌, length, get_or, take, Option, Some, None, refl, sym, ap, subst, ◌∙◌, arith, ◌&&◌, not, is_some, slice_get, Decides, IsSomeAnd, and_parts, and_from, get_or_from_slice_get, slice_get_within, PoolEntry, Script, EachItem, decides_iff, Report, Asked, AreAllSo, IsAskedSo, IsSaid, IsAskedRight, Stands, IsPermutation, slice_get-get_or, clash, is_live_decl, lowest_idle}
 use Rattle.std.specs.List.{All}
 use Rattle.std.specs.List.Sorted.{IsNonDecreasingBy}
 use Rattle.std.proofs.lemmas.List.Sorted.{All-permutation, IsPermutation-sym}
@@ -82,10 +82,6 @@ low_next asked n next d order is m e le lt = by (order n m d (omega (arith, le))
 
     by : (get_or asked n d).entry ≤ (get_or asked m d).entry → get_or asked m d ≡ get_or asked m e → next ≤ (get_or asked m e).entry
     by h f = subst (λ (a : Asked). next ≤ a.entry) f (omega (arith, h, is))
-
--- one more
-pub so_next : {X : Type 0} (P : X → Type 0) (xs : List X) (i : ℕ) (d : X) → i < length xs → ((n : ℕ) (x : X) → n < i → slice_get xs n ≡ Some x → P x) → P (get_or xs i d) → (n : ℕ) (x : X) → n < i + 1 → slice_get xs n ≡ Some x → P x
-so_next P xs i d lt before here = each_more P xs i (get_or xs i d) lt (sym (get_or_from_slice_get xs i (get_or xs i d) (get_or xs i d) (slice_get-get_or xs i d lt))) before here
 
 pub so_fails : {X : Type 0} (P : X → Type 0) (xs : List X) (i : ℕ) (d : X) (b : Bool) → i < length xs → Decides b (P (get_or xs i d)) → b ≡ false → Decides false (EachItem P xs)
 so_fails P xs i d b lt dec f = (λ t. absurd cc, λ h. absurd (clash b (dec.1 (h i (get_or xs i d) (slice_get-get_or xs i d lt))) f))

@@ -1,36 +1,16 @@
 -- When groups were made, and done, one entry of the journal of the tree after another.
-use Rattle.shr_audit_rows.proofs.Common.{◌≡◌, ◌⊎◌, ℕ, zero, suc, ◌+◌, ◌<◌, ◌≤◌, Bool, true, false, cond, List, [], ◌∷◌, ◌++◌, length, get_or, set, take, replicate, Option, Some, None, refl, sym, ap, subst, ◌∙◌, inl, inr, arith, eq-eqb, ne_eqb, length-set, get_or-set_same, get_or-set_other, ◌&&◌, ◌||◌, ◌==◌, nat_lt, is_some, not, Decides, and_from, nat_tests, get_or-replicate, length-replicate, take_more, eq-or-lt_of_le, dite, ℕ_discrete, Script, is_done, is_making, Report, done_in, group_made_in, find, is_none, done_of, is_made, is_undone_child, made_of, undone_child, script_hierarchy, later_of, parents_of, AreMoments, moment_noted}
+use Rattle.shr_audit_rows.proofs.Common.{◌≡◌, ◌⊎◌, ℕ, zero, suc, ◌+◌, ◌<◌, ◌≤◌, Bool, true, false, cond, List, [], ◌∷◌, length, get_or, set, take, replicate, Option, Some, None, refl, sym, ap, subst, ◌∙◌, inl, inr, arith, eq-eqb, ne_eqb, length-set, get_or-set_same, get_or-set_other, ◌&&◌, ◌||◌, ◌==◌, nat_lt, is_some, not, Decides, and_from, get_or-replicate, length-replicate, take_more, eq-or-lt_of_le, dite, ℕ_discrete, Script, is_done, is_making, Report, done_in, group_made_in, find, is_none, done_of, is_made, is_undone_child, made_of, undone_child, script_hierarchy, later_of, parents_of, AreMoments, moment_noted}
 use Rattle.std.specs.List.{position_from, range_with_len}
 use Rattle.shr_base.specs.declared.journals.TreeEntry.{TreeEntry}
 use Rattle.shr_base.specs.declared.journals.TreeEntry.TheVariants.{Begin, Done, Made}
 use Rattle.shr_model.specs.Groups.{is_child, is_later}
 use Rattle.shr_report.specs.Causes.{IsInTheWay}
 use Rattle.shr_audit_rows.specs.declared.children.Moments.{Moments}
-use Rattle.shr_audit_fresh.proofs.FirstLaws.{or_none}
+use Rattle.std.proofs.lemmas.Bool.{le-ltb, lt-ltb}
+use Rattle.std.proofs.Math.Bool.{or-true, or-false}
+use Rattle.shr_model.proofs.Lists.{position_push}
 
 -- ---- tests
-
-pub lt_true : (a b : ℕ) → a < b → nat_lt a b ≡ true
-lt_true a b lt = grind (arith, nat_tests)
-
-pub lt_false : (a b : ℕ) → b ≤ a → nat_lt a b ≡ false
-lt_false a b le = grind (arith, nat_tests)
-
-pub or_true : (b : Bool) → (b || true) ≡ true
-or_true true = refl
-or_true false = refl
-
-position_push : (p : TreeEntry → Bool) (i : ℕ) (es : List TreeEntry) (e : TreeEntry) → is_some (position_from p i (es ++ e ∷ [])) ≡ (is_some (position_from p i es) || p e)
-position_push p i [] e = by_bool (p e)
-  where
-    by_bool : (b : Bool) → is_some (cond b (Some i) None) ≡ (false || b)
-    by_bool true = refl
-    by_bool false = refl
-position_push p i (x ∷ xs) e = by_bool (p x) (position_push p (i + 1) xs e)
-  where
-    by_bool : (b : Bool) → is_some (position_from p (i + 1) (xs ++ e ∷ [])) ≡ (is_some (position_from p (i + 1) xs) || p e) → is_some (cond b (Some i) (position_from p (i + 1) (xs ++ e ∷ []))) ≡ (is_some (cond b (Some i) (position_from p (i + 1) xs)) || p e)
-    by_bool true h = refl
-    by_bool false h = h
 
 -- the group is this one, if there is one
 abbrev pub is_it : ℕ → Option ℕ → Bool
@@ -56,7 +36,7 @@ module _ (total n : ℕ) (ms : List ℕ) where
       by false = refl
 
   noted_free : (g : ℕ) → g < length ms → get_or ms g 0 ≡ total → get_or (moment_noted total n (Some g) ms) g 0 ≡ n
-  noted_free g lt free = ap (λ (b : Bool). get_or (cond b (set ms g n) ms) g 0) (and_from (nat_lt g (length ms)) (get_or ms g 0 == total) (lt_true g (length ms) lt) (eq-eqb (get_or ms g 0) total free)) ∙ get_or-set_same ms g n 0 lt
+  noted_free g lt free = ap (λ (b : Bool). get_or (cond b (set ms g n) ms) g 0) (and_from (nat_lt g (length ms)) (get_or ms g 0 == total) (lt-ltb g (length ms) lt) (eq-eqb (get_or ms g 0) total free)) ∙ get_or-set_same ms g n 0 lt
 
   noted_kept : (g : ℕ) → (get_or ms g 0 ≡ total → ⊥) → get_or (moment_noted total n (Some g) ms) g 0 ≡ get_or ms g 0
   noted_kept g ne = ap (λ (b : Bool). get_or (cond b (set ms g n) ms) g 0) (and_false (nat_lt g (length ms)) (get_or ms g 0 == total) (ne_eqb (get_or ms g 0) total ne))
@@ -75,7 +55,7 @@ module _ (p : ℕ → TreeEntry → Bool) (of : TreeEntry → Option ℕ) (same 
 
   pub upto_none : (count : ℕ) (ms : List ℕ) → ms ≡ replicate count (length tree) → Upto 0 ms
   upto_none count ms is = record {
-    each = λ g entry lt le. (let zero_is : entry ≡ 0 = omega (arith, le) in subst (λ (k : ℕ). is_some (position_from (p g) 0 (take k tree)) ≡ nat_lt (get_or ms g 0) k) (sym zero_is) (none g tree ∙ sym (lt_false (get_or ms g 0) 0 (omega arith))));
+    each = λ g entry lt le. (let zero_is : entry ≡ 0 = omega (arith, le) in subst (λ (k : ℕ). is_some (position_from (p g) 0 (take k tree)) ≡ nat_lt (get_or ms g 0) k) (sym zero_is) (none g tree ∙ sym (le-ltb (get_or ms g 0) 0 (omega arith))));
     either = λ g lt. inr (ap (λ (xs : List ℕ). get_or xs g 0) is ∙ get_or-replicate count g (length tree) 0 (subst (λ (k : ℕ). g < k) (ap length is ∙ length-replicate count (length tree)) lt));
   }
     where
@@ -103,7 +83,7 @@ module _ (p : ℕ → TreeEntry → Bool) (of : TreeEntry → Option ℕ) (same 
         -- it stays as it was
         unlike : is_it g (of (get_or tree n d)) ≡ false → (new : ℕ) → new ≡ get_or ms g 0 → ((entry : ℕ) → entry ≤ n + 1 → is_some (position_from (p g) 0 (take entry tree)) ≡ nat_lt new entry) × ((new < n + 1) ⊎ (new ≡ length tree))
         unlike isnt new e = (
-          at_most g new there (λ entry le. ap (λ (k : ℕ). nat_lt k entry) (sym e)) (ap (λ (b : Bool). nat_lt (get_or ms g 0) n || b) isnt ∙ or_none (nat_lt (get_or ms g 0) n) ∙ stays),
+          at_most g new there (λ entry le. ap (λ (k : ℕ). nat_lt k entry) (sym e)) (ap (λ (b : Bool). nat_lt (get_or ms g 0) n || b) isnt ∙ or-false (nat_lt (get_or ms g 0) n) ∙ stays),
           elim (before.either g there) [
             | inl early ↦ inl (omega (arith, early, e))
             | inr none ↦ inr (e ∙ none)
@@ -112,16 +92,16 @@ module _ (p : ℕ → TreeEntry → Bool) (of : TreeEntry → Option ℕ) (same 
           where
             stays : nat_lt (get_or ms g 0) n ≡ nat_lt new (n + 1)
             stays = elim (before.either g there) [
-              | inl early ↦ lt_true (get_or ms g 0) n early ∙ sym (lt_true new (n + 1) (omega (arith, early, e)))
-              | inr none ↦ lt_false (get_or ms g 0) n (omega (arith, none, lt)) ∙ sym (lt_false new (n + 1) (omega (arith, none, lt, e)))
+              | inl early ↦ lt-ltb (get_or ms g 0) n early ∙ sym (lt-ltb new (n + 1) (omega (arith, early, e)))
+              | inr none ↦ le-ltb (get_or ms g 0) n (omega (arith, none, lt)) ∙ sym (le-ltb new (n + 1) (omega (arith, none, lt, e)))
             ]
 
         -- it had none
         free : is_it g (of (get_or tree n d)) ≡ true → get_or ms g 0 ≡ length tree → (new : ℕ) → new ≡ n → ((entry : ℕ) → entry ≤ n + 1 → is_some (position_from (p g) 0 (take entry tree)) ≡ nat_lt new entry) × ((new < n + 1) ⊎ (new ≡ length tree))
         free here none new e = (
           at_most g new there
-              (λ entry le. lt_false (get_or ms g 0) entry (omega (arith, le, none, lt)) ∙ sym (lt_false new entry (omega (arith, le, e))))
-              (ap (λ (b : Bool). nat_lt (get_or ms g 0) n || b) here ∙ or_true (nat_lt (get_or ms g 0) n) ∙ sym (lt_true new (n + 1) (omega (arith, e)))),
+              (λ entry le. le-ltb (get_or ms g 0) entry (omega (arith, le, none, lt)) ∙ sym (le-ltb new entry (omega (arith, le, e))))
+              (ap (λ (b : Bool). nat_lt (get_or ms g 0) n || b) here ∙ or-true (nat_lt (get_or ms g 0) n) ∙ sym (lt-ltb new (n + 1) (omega (arith, e)))),
           inl (omega (arith, e)),
         )
 
@@ -129,7 +109,7 @@ module _ (p : ℕ → TreeEntry → Bool) (of : TreeEntry → Option ℕ) (same 
         had : is_it g (of (get_or tree n d)) ≡ true → get_or ms g 0 < n → (new : ℕ) → new ≡ get_or ms g 0 → ((entry : ℕ) → entry ≤ n + 1 → is_some (position_from (p g) 0 (take entry tree)) ≡ nat_lt new entry) × ((new < n + 1) ⊎ (new ≡ length tree))
         had here early new e = (
           at_most g new there (λ entry le. ap (λ (k : ℕ). nat_lt k entry) (sym e))
-              (ap (λ (b : Bool). nat_lt (get_or ms g 0) n || b) here ∙ or_true (nat_lt (get_or ms g 0) n) ∙ sym (lt_true new (n + 1) (omega (arith, early, e)))),
+              (ap (λ (b : Bool). nat_lt (get_or ms g 0) n || b) here ∙ or-true (nat_lt (get_or ms g 0) n) ∙ sym (lt-ltb new (n + 1) (omega (arith, early, e)))),
           inl (omega (arith, early, e)),
         )
 

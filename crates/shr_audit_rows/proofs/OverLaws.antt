@@ -1,9 +1,10 @@
 -- An Over against the charges of its command.
-use Rattle.shr_audit_rows.proofs.Common.{◌≡◌, ℕ, zero, suc, ◌+◌, ◌-◌, ◌<◌, ◌≤◌, Bool, true, false, cond, List, [], ◌∷◌, drop, map, Option, Some, None, refl, sym, ap, subst, ◌∙◌, inl, inr, arith, ◌==◌, nat_eq, slice_get, option_and_then, option_map, Decides, get, IsSomeAnd, and_from, cases_lt, nat_tests, sum_by-cons, slice_get-map, slice_get_within, UseStep, Serial, GroupDecl, Script, is_by, ops_by, ups, Report, Tried, AreTries, IsTriedKeyed, TriedMap, TriesIn, tried_key, some_is, pos, nat_le, limit_of, uses_at, IsTriedBy}
+use Rattle.shr_audit_rows.proofs.Common.{◌≡◌, ℕ, zero, suc, ◌+◌, ◌-◌, ◌<◌, ◌≤◌, Bool, true, false, cond, List, [], ◌∷◌, drop, map, Option, Some, None, refl, sym, ap, subst, ◌∙◌, inl, inr, arith, ◌==◌, nat_eq, slice_get, option_and_then, option_map, Decides, get, IsSomeAnd, and_from, cases_lt, nat_tests, slice_get-map, slice_get_within, UseStep, Serial, GroupDecl, Script, is_by, ops_by, ups, Report, Tried, AreTries, IsTriedKeyed, TriedMap, TriesIn, tried_key, pos, nat_le, limit_of, uses_at, IsTriedBy, some_injective}
 use Rattle.std.proofs.lemmas.Bool.{eq-eqb}
 use Rattle.shr_report.specs.Causes.{IsOver}
 use Rattle.shr_audit_rows.specs.declared.tried.Refused.{Refused}
 use Rattle.shr_audit_rows.specs.Over.{AreFourteen, IsFullAt, IsSaidOf}
+use Rattle.shr_model.proofs.ChargeLaws.{ups_cons}
 
 -- ---- a charge among others
 
@@ -19,9 +20,6 @@ same_step by refused t up h =
     let a = h.group in let b = h.operation in let c = h.found in let d = h.worker in let e = h.command in
     λ i. record { group = a i; operation = b i; up = up i; found = c i; by = record { worker = d i; command = e i } }
 
-ups_cons : (o : UseStep) (os : List UseStep) → ups (o ∷ os) ≡ cond o.up 1 0 + ups os
-ups_cons o os = sum_by-cons (λ (p : UseStep). cond p.up 1 0) o os
-
 ups_one : (o : UseStep) (os : List UseStep) → o.up ≡ true → 0 < ups (o ∷ os)
 ups_one o os up = (let e = ups_cons o os in let one : cond {A = ℕ} o.up 1 0 ≡ 1 = ap (λ (b : Bool). cond {A = ℕ} b 1 0) up in omega (arith, e, one))
 
@@ -32,7 +30,7 @@ ups_more o os lt = (let e = ups_cons o os in omega (arith, e, lt))
 ups_some : (by : Serial) (ops : List UseStep) (i : ℕ) (o : UseStep) → slice_get ops i ≡ Some o → o.up ≡ true → is_by by o ≡ true → 0 < ups (ops_by by ops)
 ups_some by [] i o at up own = absurd (let lt = slice_get_within [] i o at in omega (arith, lt))
 ups_some by (p ∷ ops) zero o at up own =
-    let same : p ≡ o = some_is p o at in
+    let same : p ≡ o = some_injective p o at in
     subst (λ (b : Bool). 0 < ups (cond b (p ∷ ops_by by ops) (ops_by by ops))) (sym (subst (λ (x : UseStep). is_by by x ≡ true) (sym same) own)) (ups_one p (ops_by by ops) (subst (λ (x : UseStep). x.up ≡ true) (sym same) up))
 ups_some by (p ∷ ops) (suc i) o at up own = more (is_by by p) refl (ups_some by ops i o at up own)
   where
@@ -70,7 +68,7 @@ module _ (s : Script) (r : Report) (by : Serial) (own : ℕ) (refused : Refused)
   ]
 
   last_is_said : (t : Tried) → IsTriedBy (uses_at r refused.group) by t → Over → t.last ≡ said_step by refused
-  last_is_said t last h = some_is t.last (said_step by refused) (sym last.at ∙ (ap (slice_get (uses_at r refused.group)) (index_of t last h) ∙ h.up))
+  last_is_said t last h = some_injective t.last (said_step by refused) (sym last.at ∙ (ap (slice_get (uses_at r refused.group)) (index_of t last h) ∙ h.up))
 
   last_of : (o : Option Tried) → TriesIn (uses_at r refused.group) by o → Over → IsSomeAnd o (IsSaidOf by refused)
   last_of None none h = absurd (let some = ups_some by (uses_at r refused.group) refused.operation (said_step by refused) h.up refl (is_by_itself by refused) in omega (arith, none, some))

@@ -2,7 +2,7 @@
 use Rattle.shr_audit_rows.proofs.Common.{◌≡◌, ℕ, zero, suc, ◌+◌, ◌<◌, ◌≤◌, Bool, true, false, cond, List, [], ◌∷◌, ◌++◌, length, get_or, set, take, replicate, Option, Some, None, refl, sym, ap, subst, ◌∙◌, inl, inr, arith, eq-eqb, ne_eqb, length-set, get_or-set_same, get_or-set_other, ◌&&◌, ◌||◌, ◌==◌, nat_lt, is_some, cases_lt, get_or-replicate, length-replicate, take_more, eq-or-lt_of_le, dite, ℕ_discrete, PoolEntry, decl_after, id_of, Stands, is_free_in, ◌%◌, add-one, if◌then◌else◌, IsBlankFor, is_live_in}
 use Rattle.shr_base.specs.declared.journals.PoolEntry.TheVariants.{Registered, Unregistered, Idle}
 use Rattle.shr_model.specs.Pool.{decl_from, decl_of, is_free, is_live, is_live_below, lowest_free, phase_of}
-use Rattle.shr_model.proofs.PoolLaws.{decl_from_push, one_of, phase_of_push}
+use Rattle.shr_model.proofs.PoolLaws.{decl_from_push, one_of, phase_of_push, phase_few}
 use Rattle.shr_case.proofs.Order.{or_right}
 
 -- ---- at the start
@@ -24,16 +24,6 @@ start_stands count phases decls is b = record {
 }
 
 -- ---- one entry more
-
--- there are no more entries of an id than entries
-pub phase_few : (id : ℕ) (es : List PoolEntry) → phase_of id es ≤ length es
-unfolding phase_of
-phase_few id [] = omega arith
-phase_few id (e ∷ es) = head (id_of e == id) (phase_few id es)
-  where
-    head : (b : Bool) → phase_of id es ≤ length es → (if b then 1 else 0) + phase_of id es ≤ suc (length es)
-    head true h = omega (arith, h)
-    head false h = omega (arith, h)
 
 one_own : (e : PoolEntry) → one_of (id_of e) e ≡ 1
 one_own e = ap (λ (b : Bool). cond b 1 0) (eq-eqb (id_of e) (id_of e) refl)
@@ -83,10 +73,6 @@ room_for pool n id phases decls lt few st = let e = st.phase id lt in let le = p
 
 live_is : (es : List PoolEntry) (phases decls : List ℕ) (decl id : ℕ) → id < 65536 → Stands es phases decls → is_live_in phases decls decl id ≡ (is_live id es && (decl_of id es == decl))
 live_is es phases decls decl id lt st = ap (λ (n : ℕ). (n % 3 == 1) && (get_or decls id 0 == decl)) (st.phase id lt) ∙ ap (λ (d : ℕ). is_live id es && (d == decl)) (st.decl id lt)
-
-pub live_none : (decl : ℕ) (es : List PoolEntry) → is_live_below decl 0 es ≡ false
-unfolding is_live_below
-live_none decl es = refl
 
 live_step : (decl id : ℕ) (es : List PoolEntry) → is_live_below decl (suc id) es ≡ ((is_live id es && (decl_of id es == decl)) || is_live_below decl id es)
 unfolding is_live_below

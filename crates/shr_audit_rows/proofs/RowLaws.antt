@@ -1,5 +1,5 @@
 -- Causes of replies, from the parts in which they are tested.
-use Rattle.shr_audit_rows.proofs.Common.{◌≡◌, ℕ, ◌<◌, ◌≤◌, Bool, true, false, [], length, Option, Some, None, refl, sym, ap, subst, ◌∙◌, arith, slice_get, option_and_then, option_map, Decides, slice_get_past, slice_get_within, WorkerPart, Serial, Answered, Reply, Command, Script, decides_iff, decl_named, Report, answer_at, answers_in, answers_of, command_at, reply_at, serial_of, IsAskedSo, IsSoIfAsked, asked_at, asked_in, HasCountCause, IsCausedAt, some_is, EachAnswer, commands_in, AreFew, HasCauseButEnds, HasStateCause}
+use Rattle.shr_audit_rows.proofs.Common.{◌≡◌, ℕ, ◌<◌, ◌≤◌, Bool, true, false, [], length, Option, Some, None, refl, sym, ap, subst, ◌∙◌, arith, slice_get, option_and_then, option_map, Decides, slice_get_past, slice_get_within, WorkerPart, Serial, Answered, Reply, Command, Script, decides_iff, decl_named, Report, answer_at, answers_in, answers_of, command_at, reply_at, serial_of, IsAskedSo, IsSoIfAsked, asked_at, asked_in, HasCountCause, IsCausedAt, EachAnswer, commands_in, AreFew, HasCauseButEnds, HasStateCause, some_injective}
 use Rattle.shr_base.specs.declared.replies.Reply.TheVariants as reply
 use Rattle.shr_base.specs.declared.scripts.WorkerScript.{WorkerScript}
 
@@ -88,8 +88,8 @@ module _ (s : Script) (r : Report) (worker k : ℕ) where
 
     pub counted_too : (b : Bool) → HasStateCause s r c a.reply → Decides b (HasCountCause s r (serial_of worker k) c a.reply) → Decides b (IsCausedAt s r worker k)
     counted_too b state d = (
-      λ t x y e f. subst (λ (v : Command). HasStateCause s r v y.reply × HasCountCause s r (serial_of worker k) v y.reply) (some_is c x (here ∙ e))
-          (subst (λ (v : Answered). HasStateCause s r c v.reply × HasCountCause s r (serial_of worker k) c v.reply) (some_is a y (there ∙ f)) (state, d.0 t)),
+      λ t x y e f. subst (λ (v : Command). HasStateCause s r v y.reply × HasCountCause s r (serial_of worker k) v y.reply) (some_injective c x (here ∙ e))
+          (subst (λ (v : Answered). HasStateCause s r c v.reply × HasCountCause s r (serial_of worker k) c v.reply) (some_injective a y (there ∙ f)) (state, d.0 t)),
       λ h. d.1 (h c a (sym here) (sym there)).1,
     )
 

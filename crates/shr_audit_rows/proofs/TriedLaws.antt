@@ -2,16 +2,13 @@
 use Rattle.shr_audit_rows.proofs.Common.{◌≡◌, ◌⊎◌, ℕ, zero, suc, ◌+◌, ◌<◌, ◌≤◌, Bool, true, false, cond, List, [], ◌∷◌, ◌++◌, length, get_or, set, take, drop, replicate, Option, Some, None, refl, sym, ap, subst, ◌∙◌, inl, inr, arith, eq-eqb, ne_eqb, length-set, get_or-set_same, get_or-set_other, ◌==◌, nat_eq, nat_lt, not, slice_get, get, and_parts, and_from, nat_tests, append-nil, get_or-replicate, length-replicate, take_more, sum_by-cons, slice_get_within, dite, ℕ_discrete, UseStep, Serial, is_by, ops_by, ups, serial_of, Tried, AreTries, IsTriedKeyed, TriedMap, TriesIn, tried_key, min, length-append, filter, cases_Bool, eqb-true, drop-append-le, take_all, count_by-le-length, length-filter, sum_by-append, IsLastNoted, step_key, last_with, ups_with, tried_uses}
 use Rattle.std.proofs.lemmas.List.Elements.{filter-append}
 use Rattle.std.proofs.Math.Seq.{drop-append_seam}
-use Rattle.shr_formed.proofs.WellParts.{last_get}
 use Rattle.shr_model.proofs.Booleans.{not_true}
+use Rattle.shr_model.proofs.Lists.{filter_out, get_last}
 
 -- ---- lists with one more
 
 passed : {X : Type 0} (p : X → Bool) (xs : List X) (x : X) (b : Bool) → p x ≡ b → filter p (xs ++ x ∷ []) ≡ filter p xs ++ cond b (x ∷ []) []
 passed p xs x b e = filter-append p xs (x ∷ []) ∙ ap (λ (c : Bool). filter p xs ++ cond c (x ∷ []) []) e
-
-passed_not : {X : Type 0} (p : X → Bool) (xs : List X) (x : X) → p x ≡ false → filter p (xs ++ x ∷ []) ≡ filter p xs
-passed_not p xs x e = passed p xs x false e ∙ append-nil (filter p xs)
 
 at_front : {X : Type 0} (xs : List X) (x : X) (i : ℕ) (y : X) → slice_get xs i ≡ Some y → slice_get (xs ++ x ∷ []) i ≡ Some y
 at_front [] x i y e = absurd (let lt = slice_get_within [] i y e in omega (arith, lt))
@@ -72,7 +69,7 @@ capped (Some x) by ops t = by_test (nat_lt x.ups 15) refl
 adds : (by : Serial) (ops : List UseStep) (step : UseStep) (index : ℕ) → is_by by step ≡ true → step.up ≡ true → index ≡ length ops → (o : Option Tried) → TriesIn ops by o → TriesIn (ops ++ step ∷ []) by (Some (last_with o step index))
 adds by ops step index own up is o t = record {
   count = capped o by ops t ∙ ap (min 15) (sym (ups_more by ops step true true own up));
-  at = ap (slice_get (ops ++ step ∷ [])) is ∙ last_get ops step;
+  at = ap (slice_get (ops ++ step ∷ [])) is ∙ get_last ops step;
   up = up;
   own = own;
   last = ap (λ (os : List UseStep). ups (ops_by by os)) (behind ∙ drop-append_seam (ops ++ step ∷ []) []);
@@ -105,7 +102,7 @@ module _ (before : List UseStep) (step : UseStep) (g : ℕ) where
   own_group e = passed (λ (o : UseStep). o.group == g) before step true (eq-eqb step.group g e)
 
   other_group : (step.group ≡ g → ⊥) → tried_uses (before ++ step ∷ []) g ≡ tried_uses before g
-  other_group ne = passed_not (λ (o : UseStep). o.group == g) before step (ne_eqb step.group g ne)
+  other_group ne = filter_out (λ (o : UseStep). o.group == g) before step (ne_eqb step.group g ne)
 
 -- the operations of each group are counted
 counts_next : (before : List UseStep) (step : UseStep) (counts : List ℕ) (index : ℕ) → length counts ≡ 65536 → step.group < 65536 → index ≡ get_or counts step.group 0

@@ -1,18 +1,6 @@
 -- Keys that loops add, item by item.
-use Rattle.shr_audit_scans.proofs.Common.{◌≡◌, ℕ, ◌+◌, ◌<◌, ◌≤◌, List, [], ◌∷◌, ◌++◌, length, get_or, take, sym, ap, ◌∙◌, arith, flat_map, enumerate_from, append_assoc, append-nil, take_more, get_or_from_slice_get, slice_get-get_or, get_or-enumerate_from, length-enumerate_from, flat_all}
-use Rattle.std.proofs.lemmas.List.Concat.{flat_map-append}
-
--- one item more
-pub flat_more : {X Y : Type 0} (f : X → List Y) (xs : List X) (i : ℕ) (y : X) (a old next : List Y) → i < length xs → y ≡ get_or xs i y → old ≡ a ++ flat_map f (take i xs) → next ≡ old ++ f y → next ≡ a ++ flat_map f (take (i + 1) xs)
-flat_more {X} {Y} f xs i y a old next lt is before added =
-    added ∙ ap (λ (l : List Y). l ++ f y) before ∙ append_assoc a (flat_map f (take i xs)) (f y) ∙ ap (λ (l : List Y). a ++ l) (sym one)
-  where
-    one : flat_map f (take (i + 1) xs) ≡ flat_map f (take i xs) ++ f y
-    one = ap (flat_map f) (take_more xs i y lt) ∙ (flat_map-append f (take i xs) (get_or xs i y ∷ []) ∙ ap (λ (l : List Y). flat_map f (take i xs) ++ l) (append-nil (f (get_or xs i y)) ∙ ap f (sym is)))
-
--- an item that was read by its index
-pub flat_step : {X Y : Type 0} (f : X → List Y) (xs : List X) (i : ℕ) (d : X) (a old next : List Y) → i < length xs → old ≡ a ++ flat_map f (take i xs) → next ≡ old ++ f (get_or xs i d) → next ≡ a ++ flat_map f (take (i + 1) xs)
-flat_step f xs i d a old next lt before added = flat_more f xs i (get_or xs i d) a old next lt (sym (get_or_from_slice_get xs i (get_or xs i d) (get_or xs i d) (slice_get-get_or xs i d lt))) before added
+use Rattle.shr_audit_scans.proofs.Common.{◌≡◌, ℕ, ◌+◌, ◌<◌, ◌≤◌, List, ◌++◌, length, get_or, take, sym, ap, ◌∙◌, arith, flat_map, enumerate_from, get_or-enumerate_from, length-enumerate_from, flat_all}
+use Rattle.shr_model.proofs.Lists.{flat_more}
 
 -- the same of items with their numbers
 pub numbered_more : {X Y : Type 0} (f : ℕ × X → List Y) (xs : List X) (i : ℕ) (y : X) (a old next : List Y) → i < length xs → y ≡ get_or xs i y → old ≡ a ++ flat_map f (take i (enumerate_from 0 xs)) → next ≡ old ++ f (i, y)

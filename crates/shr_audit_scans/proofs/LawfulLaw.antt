@@ -1,5 +1,5 @@
 -- A walk is lawful if and only if each of its fields was tested so.
-use Rattle.shr_audit_scans.proofs.Common.{◌≡◌, ℕ, ◌<◌, Bool, false, List, length, get_or, Some, sym, ap, ◌∙◌, slice_get, Decides, slice_get-get_or, WalkRecord, Report, IsLawfulWalk, clash, IsShaped, IsScannedAt, fails}
+use Rattle.shr_audit_scans.proofs.Common.{◌≡◌, ℕ, Bool, false, Decides, WalkRecord, Report, IsLawfulWalk, IsShaped, IsScannedAt, fails}
 use Rattle.shr_base.specs.declared.scripts.Script.{Script}
 use Rattle.shr_formed.specs.Each.{EachItem}
 use Rattle.shr_audit_walks.specs.Counts.{AreCountsAt}
@@ -38,7 +38,3 @@ not_stops s r worker n w b d f = fails (EachItem (IsStopAt s r w) w.attempts.ite
 
 pub not_counts : (s : Script) (r : Report) (worker n : ℕ) (w : WalkRecord) (b : Bool) → Decides b (EachItem (AreCountsAt s r w) w.attempts.items) → b ≡ false → Decides false (IsLawfulWalk s r worker n w)
 not_counts s r worker n w b d f = fails (EachItem (AreCountsAt s r w) w.attempts.items) (IsLawfulWalk s r worker n w) b d f (λ h. h.counts)
-
--- one item by its number that isn't so
-pub one_fails : {X : Type 0} (P : ℕ → X → Type 0) (xs : List X) (i : ℕ) (x : X) (b : Bool) → i < length xs → x ≡ get_or xs i x → Decides b (P i x) → b ≡ false → Decides false ((n : ℕ) (y : X) → slice_get xs n ≡ Some y → P n y)
-one_fails {X} P xs i x b lt is d f = (λ t. absurd cc, λ h. absurd (clash b (d.1 (h i x (slice_get-get_or xs i x lt ∙ ap (λ (y : X). Some y) (sym is)))) f))

@@ -8,6 +8,7 @@ use Rattle.shr_report.specs.Parts.{journal_of}
 use Rattle.shr_case.proofs.Firsts.{found_or_none}
 use Rattle.shr_audit_walks.specs.Scans.{made_of_scan}
 use Rattle.shr_audit_scans.proofs.Keyed.{key_here, key_elsewhere}
+use Rattle.shr_model.proofs.Lists.{taken_at}
 
 -- ---- one entry more
 
@@ -120,14 +121,6 @@ first_if_none : (ends : List PlaceEnd) (k : ℕ) (place : Place) → end_printed
 first_if_none [] k place none = λ m x lt at. absurd (let within = slice_get_within [] m x at in omega arith)
 first_if_none (e ∷ es) zero place none = λ m x lt at. absurd (omega arith)
 first_if_none (e ∷ es) (suc k) place none = first_of_more e es k place none (λ rest. first_if_none es k place rest)
-
--- one that is printed before isn't
-taken_at : (ends : List PlaceEnd) (k m : ℕ) (x : PlaceEnd) → slice_get (take k ends) m ≡ Some x → (m < k) × (slice_get ends m ≡ Some x)
-taken_at [] zero m x at = absurd (let lt = slice_get_within [] m x at in omega arith)
-taken_at [] (suc k) m x at = absurd (let lt = slice_get_within [] m x at in omega arith)
-taken_at (e ∷ es) zero m x at = absurd (let lt = slice_get_within [] m x at in omega arith)
-taken_at (e ∷ es) (suc k) zero x at = (omega arith, at)
-taken_at (e ∷ es) (suc k) (suc m) x at = let rest = taken_at es k m x at in (omega (arith, rest.0), rest.1)
 
 not_again : (ends : List PlaceEnd) (k m : ℕ) (x : PlaceEnd) (place : Place) → slice_get (take k ends) m ≡ Some x → x.place ≡ place → IsFirst ends k place → ⊥
 not_again ends k m x place at same first = let before = taken_at ends k m x at in first m x before.0 before.1 same

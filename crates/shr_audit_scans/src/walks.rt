@@ -1,12 +1,13 @@
 //! Whether each walk of a report is lawful.
 
-ghost use Rattle.std.specs.Prelude.{◌≡◌, IfOk};
+ghost use Rattle.std.specs.Prelude.{◌≡◌, IfOk, map};
 ghost use Rattle.std.specs.Bool.{Decides};
 ghost use Rattle.shr_model.specs.Walks.{place_in};
 ghost use Rattle.shr_formed.specs.Each.{EachItem};
-ghost use Rattle.shr_report.specs.LawfulWalk.{IsLawfulWalk};
+ghost use Rattle.shr_report.specs.LawfulWalk.{AreScansOf, IsLawfulWalk};
 ghost use Rattle.shr_report.specs.Numbers.{HasNumbers};
 ghost use Rattle.shr_report.specs.Parts.{EachWalk};
+ghost use Rattle.shr_audit_walks.specs.Scans.{made_of_scan};
 ghost use Rattle.shr_audit_scans.specs.Walks.{AreLawful, IsCaseKnown, IsScannedAt};
 
 use crate::table::Scans;
@@ -14,12 +15,12 @@ use shr_audit_walks::alone::pass_of;
 use shr_audit_walks::counts::are_counts;
 use shr_audit_walks::kinds::{are_kinds, are_stops};
 use shr_audit_walks::met::cache_of;
-use shr_audit_walks::scans::are_scans_of;
+use shr_audit_walks::scans::{ScanSeen, are_scans_of};
 use shr_audit_walks::shape::is_shaped;
 use shr_base::memory::Memory;
 use shr_base::places::Place;
-use shr_base::scripts::Script;
-use shr_base::walks::{Attempt, WalkRecord};
+use shr_base::scripts::{CacheDecl, Script};
+use shr_base::walks::{Attempt, PassRecord, WalkRecord};
 use shr_case::case::Case;
 use shr_registrations::met::Met;
 use shr_report::report::Report;
@@ -47,6 +48,15 @@ fn place_in(walk: &WalkRecord, id: u16) -> Place
     }
 }
 
+// Whether these Scan entries are those of a pass of a walk.
+fn are_scans_in(walk: &WalkRecord, decl: &CacheDecl, pass: &PassRecord, scans: &[ScanSeen]) -> bool
+    ensures { Decides result (AreScansOf walk.now.priority decl.now pass.now
+        (map made_of_scan scans.now)) }
+{
+    let told = are_scans_of(walk.priority, decl, pass, scans);
+    told
+}
+
 // Whether the Scan entries of the walk with this number of a worker at the place of an attempt are
 // those of its pass, if one ran.
 fn is_scanned_at(known: &Known, worker: u16, n: usize, walk: &WalkRecord, attempt: &Attempt) -> bool
@@ -62,7 +72,7 @@ fn is_scanned_at(known: &Known, worker: u16, n: usize, walk: &WalkRecord, attemp
     };
     let place = place_in(walk, attempt.id);
     let scans = known.scans.of_pass(worker, n as u64, place);
-    are_scans_of(walk.priority, decl, &pass, scans)
+    are_scans_in(walk, decl, &pass, scans)
 }
 
 // Whether so it is with each pass of a walk.

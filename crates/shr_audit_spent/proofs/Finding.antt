@@ -1,13 +1,6 @@
 -- What is so of whatever was found, and of each walk of the pools.
-use Rattle.shr_audit_spent.proofs.Common.{◌≡◌, ℕ, Bool, [], Option, Some, refl, sym, ap, subst, ◌∙◌, arith, slice_get, Decides, WorkerPart, PlainWalk, Report, None, slice_get_within, EachPlain, plain_in}
+use Rattle.shr_audit_spent.proofs.Common.{◌≡◌, ℕ, Bool, [], Option, Some, refl, ap, ◌∙◌, arith, slice_get, Decides, WorkerPart, PlainWalk, Report, None, slice_get_within, EachPlain, plain_in}
 use Rattle.shr_case.specs.Each.{InParts}
-
--- what is so of whatever stands there is so of the one that was found
-pub at_some : {X : Type 0} (o : Option X) (x : X) (P : X → Type 0) (b : Bool) → Some x ≡ o → Decides b (P x) → Decides b ((y : X) → o ≡ Some y → P y)
-at_some {X} o x P b is d = (λ t y e. subst P (some_same x y (is ∙ e)) (d.0 t), λ all. d.1 (all x (sym is)))
-  where
-    some_same : (a c : X) → ◌≡◌ {A = Option X} (Some a) (Some c) → a ≡ c
-    some_same a c e = cc
 
 -- ---- walks of the pools
 

@@ -1,8 +1,8 @@
 -- The states of ids after one entry more of the journal of registrations, and when it may follow.
-use Rattle.shr_audit_tables.proofs.Common.{◌≡◌, ◌≢◌, ℕ, zero, suc, ◌+◌, ◌%◌, ◌<◌, ◌≤◌, ◌⊎◌, inl, inr, ⊎_elim, Bool, true, false, cond, List, [], ◌∷◌, ◌++◌, length, get_or, take, Option, Some, None, refl, sym, ap, subst, ◌∙◌, arith, ne_eqb, ◌==◌, ◌&&◌, slice_get, Decides, cases_lt, nat_tests, take_more, take_all, slice_get-get_or, slice_get_within, PoolEntry, Registered, Unregistered, Idle, last_number, is_live, IsNextPool, IsPoolJournal, IdState, state_of_id, AreStates, state_with, with_pool_entry, HasLive, IsFreeNow, IsLowestFree, MayRegister, set, cases_eq, Decides-below_or, Decides-eqb, Decides-and, length-set, get_or-set_same, get_or-set_other, slice_get_past, put_state, some_at}
+use Rattle.shr_audit_tables.proofs.Common.{◌≡◌, ◌≢◌, ℕ, zero, suc, ◌+◌, ◌%◌, ◌<◌, ◌≤◌, ◌⊎◌, inl, inr, ⊎_elim, Bool, true, false, cond, List, [], ◌∷◌, ◌++◌, length, get_or, take, Option, Some, None, refl, sym, ap, subst, ◌∙◌, arith, ne_eqb, ◌==◌, ◌&&◌, slice_get, Decides, cases_lt, nat_tests, slice_get-get_or, slice_get_within, PoolEntry, Registered, Unregistered, Idle, last_number, is_live, IsNextPool, IsPoolJournal, IdState, state_of_id, AreStates, state_with, with_pool_entry, HasLive, IsFreeNow, IsLowestFree, MayRegister, set, cases_eq, Decides-below_or, Decides-eqb, Decides-and, length-set, get_or-set_same, get_or-set_other, slice_get_past, put_state, some_at}
 use lib.ListN.{get_elem?}
 use Rattle.shr_model.specs.Pool.{id_of, phase_of, decl_from, decl_of, number_from, from_from, is_live_below, is_live_decl, is_free, lowest_free, lowest_idle}
-use Rattle.shr_model.proofs.PoolLaws.{phase_of_push, decl_from_push, number_from_push, from_from_push}
+use Rattle.shr_model.proofs.PoolLaws.{phase_of_push, decl_from_push, number_from_push, from_from_push, phase_few, past_none}
 
 -- ---- the states of the empty journal, and of one entry more
 
@@ -71,17 +71,8 @@ noted_states es xs e h id x at = by_state (slice_get xs (id_of e)) refl at
     by_state None none at = h id x at ∙ sym (other_state id es e (λ same. absurd (let here = ap (slice_get xs) same in cc)))
     by_state (Some y) there at = by_id y there (cases_eq id (id_of e)) at
 
-phase_small : (id : ℕ) (es : List PoolEntry) → phase_of id es ≤ length es
-unfolding phase_of
-phase_small id [] = omega arith
-phase_small id (e ∷ es) = by_bool (id_of e == id) (phase_small id es)
-  where
-    by_bool : (b : Bool) → phase_of id es ≤ length es → cond b 1 0 + phase_of id es ≤ suc (length es)
-    by_bool true h = omega arith
-    by_bool false h = omega arith
-
 pub phases_small : (es : List PoolEntry) (xs : List IdState) → AreStates es xs → (id : ℕ) (x : IdState) → slice_get xs id ≡ Some x → x.phase ≤ length es
-phases_small es xs h id x at = let e = ap (λ (v : IdState). v.phase) (h id x at) in let s = phase_small id es in omega (arith, e, s)
+phases_small es xs h id x at = let e = ap (λ (v : IdState). v.phase) (h id x at) in let s = phase_few id es in omega (arith, e, s)
 
 -- ---- what the states say
 
@@ -164,31 +155,8 @@ lowest_no es xs id h e =
     let x = state_at xs id (omega (arith, within)) in
     (λ j y less at free. let t = (free_now es xs j y h at).1 free in let f = w.1.1.1 j (omega arith) less in absurd cc, (x.0, (x.1, (free_now es xs id x.0 h x.1).0 w.1.1.0)))
 
--- ---- ids past the last one
-
 pub next_of : (ids decls : ℕ) (es : List PoolEntry) (n : ℕ) (e : PoolEntry) → IsPoolJournal ids decls es → slice_get es n ≡ Some e → IsNextPool ids decls (take n es) e
 next_of ids decls es n e h at = h n e (some_at es n e at)
-
-phase_next : (id : ℕ) (es : List PoolEntry) (e : PoolEntry) → (id_of e ≡ id → ⊥) → phase_of id es ≡ 0 → phase_of id (es ++ e ∷ []) ≡ 0
-phase_next id es e ne none = let p = phase_of_push id es e in let t = ne_eqb (id_of e) id ne in p ∙ rw t (omega (arith, none))
-
-not_next : (ids decls id : ℕ) (es : List PoolEntry) (e : PoolEntry) → ids ≤ id → phase_of id es ≡ 0 → IsNextPool ids decls es e → id_of e ≡ id → ⊥
-not_next ids decls id es (Registered decl i from) past none next same = let w = (lowest_is es i ids 0 next.2).1.0 in absurd (omega (arith, w, past, same))
-not_next ids decls id es (Unregistered decl i to) past none next same = let p = ap (λ (n : ℕ). phase_of n es) same ∙ none in let q = next.0 in absurd (let z : phase_of i es % 3 ≡ 0 = rw p refl in omega (arith, z, q))
-not_next ids decls id es (Idle i) past none next same = let p = ap (λ (n : ℕ). phase_of n es) same ∙ none in absurd (let z : phase_of i es % 3 ≡ 0 = rw p refl in omega (arith, z, next))
-
-past_upto : (ids decls id : ℕ) (es : List PoolEntry) → IsPoolJournal ids decls es → ids ≤ id → (n : ℕ) → n ≤ length es → phase_of id (take n es) ≡ 0
-past_upto ids decls id es h past zero le = ap (λ (v : IdState). v.phase) (state_none id)
-past_upto ids decls id es h past (suc n) le =
-    let d = Idle 0 in
-    let before = past_upto ids decls id es h past n (omega (arith, le)) in
-    let one : take (suc n) es ≡ take n es ++ get_or es n d ∷ [] = let m = take_more es n d (omega (arith, le)) in let s : n + 1 ≡ suc n = omega arith in rw s at m in
-    let next = next_of ids decls es n (get_or es n d) h (slice_get-get_or es n d (omega (arith, le))) in
-    ap (phase_of id) one ∙ phase_next id (take n es) (get_or es n d) (not_next ids decls id (take n es) (get_or es n d) past before next) before
-
--- a journal speaks of no id past the last
-pub past_none : (ids decls id : ℕ) (es : List PoolEntry) → IsPoolJournal ids decls es → ids ≤ id → phase_of id es ≡ 0
-past_none ids decls id es h past = ap (phase_of id) (sym (take_all (length es) es (omega arith))) ∙ past_upto ids decls id es h past (length es) (omega arith)
 
 -- ---- an entry more
 

@@ -1,14 +1,6 @@
 -- Steps of loops, and lists of lists gone through one by one.
-use Rattle.shr_audit_tables.proofs.Common.{◌≡◌, ℕ, suc, ◌+◌, ◌<◌, Bool, false, List, [], ◌∷◌, ◌++◌, length, get_or, take, Some, refl, sym, ap, subst, ◌∙◌, flat_map, sum_by, slice_get, Decides, AllByRecursion, get_or_default, sum_by_more, EachItem, each_more, each_in, more_at, all_of, all_front, all_right}
+use Rattle.shr_audit_tables.proofs.Common.{◌≡◌, ℕ, suc, ◌+◌, ◌<◌, Bool, false, List, [], ◌∷◌, ◌++◌, length, get_or, take, refl, sym, ap, subst, ◌∙◌, flat_map, sum_by, Decides, AllByRecursion, sum_by_more, EachItem, each_in, all_of, all_front, all_right}
 use Rattle.shr_model.proofs.BagLaws.{each_append}
-
--- one item more, where it was copied out of its list
-pub each_copied : {X : Type 0} (P : X → Type 0) (xs : List X) (i : ℕ) (d : X) → i < length xs → ((n : ℕ) (x : X) → n < i → slice_get xs n ≡ Some x → P x) → P (get_or xs i d) → (n : ℕ) (x : X) → n < i + 1 → slice_get xs n ≡ Some x → P x
-each_copied P xs i d lt before here = each_more P xs i (get_or xs i d) lt (get_or_default xs i d (get_or xs i d) lt) before here
-
--- the same of what depends on the number of the item
-pub at_copied : {X : Type 0} (P : ℕ → X → Type 0) (xs : List X) (i : ℕ) (d : X) → i < length xs → ((n : ℕ) (x : X) → n < i → slice_get xs n ≡ Some x → P n x) → P i (get_or xs i d) → (n : ℕ) (x : X) → n < i + 1 → slice_get xs n ≡ Some x → P n x
-at_copied P xs i d lt before here = more_at P xs i (get_or xs i d) lt (get_or_default xs i d (get_or xs i d) lt) before here
 
 -- the sum of one item more
 pub sum_item : {X : Type 0} (f : X → ℕ) (xs : List X) (i : ℕ) (y : X) → i < length xs → y ≡ get_or xs i y → sum_by f (take (i + 1) xs) ≡ sum_by f (take i xs) + f y

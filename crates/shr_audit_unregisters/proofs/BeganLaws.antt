@@ -1,7 +1,7 @@
 -- Where registrations began, and where ids became idle, one entry after another.
 use Rattle.shr_audit_unregisters.proofs.Common.{◌≡◌, ℕ, zero, suc, ◌+◌, ◌<◌, ◌≤◌, Bool, true, false, cond, List, [], ◌∷◌, length, get_or, take, refl, sym, ap, subst, ◌∙◌, inl, inr, arith, eq-eqb, Registered, Idle, IsUpto, is_idle, Began, ◌++◌, length-append, set, drop, replicate, ne_eqb, length-set, get_or-set_same, get_or-set_other, ◌||◌, nat_lt, Unregistered, is_idle_entry}
 use Rattle.std.specs.List.{list_any}
-use Rattle.std.proofs.lemmas.Bool.{cases_lt}
+use Rattle.std.proofs.lemmas.Bool.{cases_lt, le-ltb, lt-ltb}
 use Rattle.std.proofs.lemmas.List.{drop-append-le, get_or_default, get_or-replicate, length-replicate, take_more, length-take, get_or_append_left}
 use Rattle.std.proofs.lemmas.List.Folds.{list_any-append}
 use Rattle.std.proofs.Math.Seq.{get_or-append_seam}
@@ -10,8 +10,7 @@ use native.Mathlib.Decide.{ℕ_discrete}
 use Rattle.shr_base.specs.declared.journals.PoolEntry.{PoolEntry}
 use Rattle.shr_model.specs.Pool.{from_after, from_from, from_of, id_of}
 use Rattle.shr_model.proofs.PoolLaws.{from_from_push}
-use Rattle.shr_audit_fresh.proofs.FirstLaws.{or_none}
-use Rattle.shr_audit_rows.proofs.MomentsLaws.{or_true, lt_true, lt_false}
+use Rattle.std.proofs.Math.Bool.{or-true, or-false}
 
 -- ---- single entries
 
@@ -40,7 +39,7 @@ upto_start pool count b is froms idles lasts = record {
   from_count = ap length froms;
   last = λ id lt. ap (λ (xs : List ℕ). get_or xs id 0) lasts ∙ get_or-replicate count id 0 0 (subst (λ (n : ℕ). id < n) (sym is) lt) ∙ ap (from_of id) (sym (none pool));
   from = λ k d lt. absurd (omega (arith, lt));
-  idle = λ id j lt. ap (λ (es : List PoolEntry). list_any (is_idle_entry id) (drop j es)) (none pool) ∙ none_of id j ∙ sym (ap (nat_lt j) (zero_at id lt) ∙ lt_false j 0 (omega arith));
+  idle = λ id j lt. ap (λ (es : List PoolEntry). list_any (is_idle_entry id) (drop j es)) (none pool) ∙ none_of id j ∙ sym (ap (nat_lt j) (zero_at id lt) ∙ le-ltb j 0 (omega arith));
   low = λ id lt. (let e = zero_at id lt in omega (arith, e));
 }
   where
@@ -68,9 +67,9 @@ any_more : (id j : ℕ) (es : List PoolEntry) (e : PoolEntry) → list_any (is_i
 any_more id j es e = elim (cases_lt (length es) j) [
   | inl past ↦ ap (list_any (is_idle_entry id)) (drop_past (es ++ e ∷ []) j (let l = length-append es (e ∷ []) in omega (arith, past, l)))
       ∙ sym (ap (λ (xs : List PoolEntry). list_any (is_idle_entry id) xs || cond (nat_lt (length es) j) false (is_idle_entry id e)) (drop_past es j (omega (arith, past)))
-      ∙ ap (λ (b : Bool). cond b false (is_idle_entry id e)) (lt_true (length es) j past))
+      ∙ ap (λ (b : Bool). cond b false (is_idle_entry id e)) (lt-ltb (length es) j past))
   | inr within ↦ ap (list_any (is_idle_entry id)) (drop-append-le j es (e ∷ []) within) ∙ list_any-append (is_idle_entry id) (drop j es) (e ∷ [])
-      ∙ ap (λ (b : Bool). list_any (is_idle_entry id) (drop j es) || b) (or_none (is_idle_entry id e) ∙ sym (ap (λ (b : Bool). cond b false (is_idle_entry id e)) (lt_false (length es) j within)))
+      ∙ ap (λ (b : Bool). list_any (is_idle_entry id) (drop j es) || b) (or-false (is_idle_entry id e) ∙ sym (ap (λ (b : Bool). cond b false (is_idle_entry id e)) (le-ltb (length es) j within)))
 ]
 
 module _ (pool : List PoolEntry) (n : ℕ) (d : PoolEntry) (b new : Began) (few : id_of (get_or pool n d) < 65536) (there : n < length pool) (before : IsUpto pool n b)
@@ -125,15 +124,15 @@ module _ (pool : List PoolEntry) (n : ℕ) (d : PoolEntry) (b new : Began) (few 
   kept_at id j new_at lt isnt e = next_any id j ∙ ap (λ (t : Bool). list_any (is_idle_entry id) (drop j (take n pool)) || cond (nat_lt n j) false t) isnt ∙ both (nat_lt n j) ∙ before.idle id j lt ∙ ap (nat_lt j) (sym e)
     where
       both : (t : Bool) → (list_any (is_idle_entry id) (drop j (take n pool)) || cond t false false) ≡ list_any (is_idle_entry id) (drop j (take n pool))
-      both true = or_none (list_any (is_idle_entry id) (drop j (take n pool)))
-      both false = or_none (list_any (is_idle_entry id) (drop j (take n pool)))
+      both true = or-false (list_any (is_idle_entry id) (drop j (take n pool)))
+      both false = or-false (list_any (is_idle_entry id) (drop j (take n pool)))
 
   came_at : (id j new_at : ℕ) → id < 65536 → is_idle_entry id entry ≡ true → new_at ≡ n + 1 → list_any (is_idle_entry id) (drop j (take (n + 1) pool)) ≡ nat_lt j new_at
   came_at id j new_at lt is e = next_any id j ∙ ap (λ (t : Bool). list_any (is_idle_entry id) (drop j (take n pool)) || cond (nat_lt n j) false t) is ∙ elim (cases_lt n j) [
-    | inl past ↦ ap (λ (t : Bool). list_any (is_idle_entry id) (drop j (take n pool)) || cond t false true) (lt_true n j past) ∙ or_none (list_any (is_idle_entry id) (drop j (take n pool)))
-        ∙ before.idle id j lt ∙ lt_false j (get_or b.idles.items id 0) (let low = before.low id lt in omega (arith, low, past)) ∙ sym (lt_false j new_at (omega (arith, past, e)))
-    | inr within ↦ ap (λ (t : Bool). list_any (is_idle_entry id) (drop j (take n pool)) || cond t false true) (lt_false n j within) ∙ or_true (list_any (is_idle_entry id) (drop j (take n pool)))
-        ∙ sym (lt_true j new_at (omega (arith, within, e)))
+    | inl past ↦ ap (λ (t : Bool). list_any (is_idle_entry id) (drop j (take n pool)) || cond t false true) (lt-ltb n j past) ∙ or-false (list_any (is_idle_entry id) (drop j (take n pool)))
+        ∙ before.idle id j lt ∙ le-ltb j (get_or b.idles.items id 0) (let low = before.low id lt in omega (arith, low, past)) ∙ sym (le-ltb j new_at (omega (arith, past, e)))
+    | inr within ↦ ap (λ (t : Bool). list_any (is_idle_entry id) (drop j (take n pool)) || cond t false true) (le-ltb n j within) ∙ or-true (list_any (is_idle_entry id) (drop j (take n pool)))
+        ∙ sym (lt-ltb j new_at (omega (arith, within, e)))
   ]
 
   idle_at : (id : ℕ) → id < 65536 → ((j : ℕ) → list_any (is_idle_entry id) (drop j (take (n + 1) pool)) ≡ nat_lt j (get_or new.idles.items id 0)) × (get_or new.idles.items id 0 ≤ n + 1)

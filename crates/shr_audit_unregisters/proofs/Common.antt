@@ -11,7 +11,6 @@ pub use Rattle.shr_base.specs.declared.journals.PoolEntry.TheVariants.{Idle, Reg
 pub use Rattle.shr_base.specs.declared.places.Place.{Place}
 pub use Rattle.shr_base.specs.declared.places.Serial.{Serial}
 pub use Rattle.shr_base.specs.declared.scripts.Script.{Script}
-pub use Rattle.shr_case.proofs.Firsts.{some_is}
 pub use Rattle.shr_case.specs.Each.{EachFirst}
 pub use Rattle.shr_case.specs.Places.{IsFirst}
 pub use Rattle.shr_formed.specs.Each.{Adjacent, EachItem}
@@ -24,3 +23,4 @@ pub use Rattle.shr_audit_unregisters.specs.Placed.{IsOfId, IsDrainPlaced, id_dra
 pub use Rattle.shr_audit_unregisters.specs.Rows.{HasEnd, HasHalfReason, HasUnregisterCause, IsUnregisterCausedAt, as_ended}
 pub use Rattle.shr_audit_unregisters.specs.Sums.{AreSums, IsSerialKeyed, IsNothing, AreOfOnePlace, capped, drained_key}
 pub use Rattle.shr_audit_unregisters.specs.declared.began.Began.{Began}
+pub use Rattle.shr_model.proofs.Lists.{some_injective}

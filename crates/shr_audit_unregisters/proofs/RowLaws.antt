@@ -1,5 +1,5 @@
 -- Causes of the answers to an `unregister` that drained, from the parts in which they are tested.
-use Rattle.shr_audit_unregisters.proofs.Common.{◌≡◌, ℕ, ◌<◌, ◌≤◌, Bool, true, false, [], length, Option, Some, None, refl, sym, ap, subst, ◌∙◌, arith, slice_get, Decides, Drained, Place, Serial, Script, Report, journals_of, serial_of, IsEndedSo, IsOfId, IsDrainPlaced, id_drained, id_drained_by, HasEnd, HasHalfReason, HasUnregisterCause, IsUnregisterCausedAt, as_ended, some_is, option_and_then, option_map, IsFreed, IsHalf, IsWhy, EachAnswer, EachEntry, answer_at, answers_in, answers_of, command_at, reply_at}
+use Rattle.shr_audit_unregisters.proofs.Common.{◌≡◌, ℕ, ◌<◌, ◌≤◌, Bool, true, false, [], length, Option, Some, None, refl, sym, ap, subst, ◌∙◌, arith, slice_get, Decides, Drained, Place, Serial, Script, Report, journals_of, serial_of, IsEndedSo, IsOfId, IsDrainPlaced, id_drained, id_drained_by, HasEnd, HasHalfReason, HasUnregisterCause, IsUnregisterCausedAt, as_ended, option_and_then, option_map, IsFreed, IsHalf, IsWhy, EachAnswer, EachEntry, answer_at, answers_in, answers_of, command_at, reply_at, some_injective}
 use Rattle.std.specs.Option.{IsSomeAnd}
 use Rattle.std.proofs.lemmas.Option.{slice_get_past, slice_get_within}
 use Rattle.shr_base.specs.declared.ends.WorkerPart.{WorkerPart}
@@ -61,8 +61,8 @@ module _ (s : Script) (r : Report) (by : Serial) (c : Command) where
   reason_of x h = tt
 
   places_of : (x : Reply) (id : ℕ) → id_drained x ≡ Some id → HasUnregisterCause s r by c x → AreOf r by id
-  places_of (reply.Freed i entry from to objects) id e h = subst (AreOf r by) (some_is i id e) (freed_of s r by i entry from to objects (decl_named c) h)
-  places_of (reply.Half i entry from to objects why) id e h = subst (AreOf r by) (some_is i id e) (half_of s r by i entry from to objects why (decl_named c) h)
+  places_of (reply.Freed i entry from to objects) id e h = subst (AreOf r by) (some_injective i id e) (freed_of s r by i entry from to objects (decl_named c) h)
+  places_of (reply.Half i entry from to objects why) id e h = subst (AreOf r by) (some_injective i id e) (half_of s r by i entry from to objects why (decl_named c) h)
   places_of x id e h = absurd (none_some id e)
 
   whole_of : (x : Reply) → HasEnd r by c x → HasHalfReason s r by.worker x → ((id : ℕ) → id_drained x ≡ Some id → AreOf r by id) → HasUnregisterCause s r by c x
@@ -133,8 +133,8 @@ module _ (s : Script) (r : Report) (worker k : ℕ) where
 
     pub reason_too : (b : Bool) → HasEnd r (serial_of worker k) c a.reply → Decides b (HasHalfReason s r worker a.reply) → Decides b (IsUnregisterCausedAt s r worker k)
     reason_too b end d = (
-      λ t x y e f. subst (λ (v : Command). HasEnd r (serial_of worker k) v y.reply × HasHalfReason s r worker y.reply) (some_is c x (here ∙ e))
-          (subst (λ (v : Answered). HasEnd r (serial_of worker k) c v.reply × HasHalfReason s r worker v.reply) (some_is a y (there ∙ f)) (end, d.0 t)),
+      λ t x y e f. subst (λ (v : Command). HasEnd r (serial_of worker k) v y.reply × HasHalfReason s r worker y.reply) (some_injective c x (here ∙ e))
+          (subst (λ (v : Answered). HasEnd r (serial_of worker k) c v.reply × HasHalfReason s r worker v.reply) (some_injective a y (there ∙ f)) (end, d.0 t)),
       λ h. d.1 (h c a (sym here) (sym there)).1,
     )
 

@@ -1,14 +1,11 @@
 -- Objects that were drained, one entry and one run of lists after another.
-use Rattle.shr_audit_unregisters.proofs.Common.{◌≡◌, ℕ, zero, suc, ◌+◌, ◌-◌, ◌*◌, ◌^◌, ◌<◌, ◌≤◌, Bool, true, false, cond, List, length, get_or, take, Option, Some, refl, sym, ap, ◌∙◌, inl, inr, arith, eq-eqb, slice_get, sum_by, unwrap_or, BTreeMap, PlaceEnd, Entry, Drained, Place, Serial, Report, drained_by, journals_of, serial_of, AreSums, IsSerialKeyed, IsNothing, AreOfOnePlace, capped, drained_key, some_is, ◌≢◌, min, ◌==◌, get, is_at, Updates}
-use Rattle.std.specs.Ordering.{is_eq, nat_cmp}
-use Rattle.std.specs.declared.cmp.Ordering.{Ordering}
-use Rattle.std.specs.declared.cmp.Ordering.TheVariants.{Less, Equal, Greater}
+use Rattle.shr_audit_unregisters.proofs.Common.{◌≡◌, ℕ, zero, suc, ◌+◌, ◌-◌, ◌*◌, ◌^◌, ◌<◌, ◌≤◌, Bool, true, false, cond, List, length, get_or, take, Option, Some, refl, sym, ap, ◌∙◌, inl, inr, arith, eq-eqb, slice_get, sum_by, unwrap_or, BTreeMap, PlaceEnd, Entry, Drained, Place, Serial, Report, drained_by, journals_of, serial_of, AreSums, IsSerialKeyed, IsNothing, AreOfOnePlace, capped, drained_key, ◌≢◌, min, ◌==◌, get, Updates}
+use Rattle.std.specs.Ordering.{nat_cmp}
 use Rattle.std.proofs.lemmas.Bool.{cases_Bool, and_parts, and_from, eqb-true}
 use Rattle.std.proofs.lemmas.List.Sums.{sum_by_more}
-use Rattle.std.proofs.lemmas.Map.Lookups.{exact_unsigned}
 use Rattle.std.proofs.lemmas.Option.{slice_get-get_or}
 use Rattle.shr_model.specs.Commands.{is_serial}
-use Rattle.shr_model.proofs.Numbers.{kept_sum}
+use Rattle.shr_model.proofs.Numbers.{kept_sum, apart}
 
 -- ---- capped sums
 
@@ -20,14 +17,6 @@ pub none_summed : (sums : BTreeMap ℕ ℕ) → IsNothing sums → AreSums sums 
 none_summed sums none = record { each = λ w n k. ap (λ (o : Option ℕ). unwrap_or o 0) (none (drained_key w n)) }
 
 -- ---- keys
-
-apart : (k q : ℕ) → k ≢ q → is_at (nat_cmp k) q ≡ false
-apart k q ne = by_order (nat_cmp k q) refl
-  where
-    by_order : (o : Ordering) → nat_cmp k q ≡ o → is_eq o ≡ false
-    by_order Less e = refl
-    by_order Equal e = absurd (ne (exact_unsigned k q e))
-    by_order Greater e = refl
 
 one_key : (w n v m : ℕ) → IsSerialKeyed w n → IsSerialKeyed v m → drained_key w n ≡ drained_key v m → (w ≡ v) × (n ≡ m)
 one_key w n v m a b e = let an = a.command_few in let bm = b.command_few in (omega (arith, an, bm, e), omega (arith, an, bm, e))

@@ -1,5 +1,5 @@
 -- What is tested of answers to an `unregister` that drained, at known values.
-use Rattle.shr_audit_unregisters.proofs.Common.{◌≡◌, ℕ, zero, suc, ◌+◌, ◌-◌, ◌^◌, ◌<◌, ◌≤◌, true, false, [], ◌∷◌, length, Option, Some, None, refl, sym, ap, ◌∙◌, arith, slice_get, unwrap_or, BTreeMap, PlaceEnd, Drained, Registered, Idle, serial_of, Began, IsUpto, is_idle, IsEndedSo, IsOfId, IsDrainPlaced, id_drained, id_drained_by, HasEnd, HasHalfReason, HasUnregisterCause, as_ended, AreSums, IsSerialKeyed, IsNothing, AreOfOnePlace, capped, drained_key, some_is, Closed, AreBegan, AreNotes, IsEnd}
+use Rattle.shr_audit_unregisters.proofs.Common.{◌≡◌, ℕ, zero, suc, ◌+◌, ◌-◌, ◌^◌, ◌<◌, ◌≤◌, true, false, [], ◌∷◌, length, Option, Some, None, refl, sym, ap, ◌∙◌, arith, slice_get, unwrap_or, BTreeMap, PlaceEnd, Drained, Registered, Idle, serial_of, Began, IsUpto, is_idle, IsEndedSo, IsOfId, IsDrainPlaced, id_drained, id_drained_by, HasEnd, HasHalfReason, HasUnregisterCause, as_ended, AreSums, IsSerialKeyed, IsNothing, AreOfOnePlace, capped, drained_key, Closed, AreBegan, AreNotes, IsEnd, some_injective}
 use Rattle.shr_base.specs.declared.replies.HalfWhy.TheVariants as why
 use Rattle.shr_base.specs.declared.replies.Reply.TheVariants as reply
 use Rattle.shr_base.specs.declared.replies.Spent.TheVariants as spent
@@ -107,7 +107,7 @@ run : AreOfOnePlace (list_0 ∷ []) 0 1
 run = record { some = omega arith; within = omega arith; same = same }
   where
     same : (n : ℕ) (x y : PlaceEnd) → 0 ≤ n → n < 1 → slice_get (list_0 ∷ []) 0 ≡ Some x → slice_get (list_0 ∷ []) n ≡ Some y → y.place ≡ x.place
-    same zero x y le lt a b = ap (λ (z : PlaceEnd). z.place) (some_is y x (sym b ∙ a))
+    same zero x y le lt a b = ap (λ (z : PlaceEnd). z.place) (some_injective y x (sym b ∙ a))
     same (suc n) x y le lt a b = absurd (omega (arith, lt))
 
 past_the_last : AreOfOnePlace (list_0 ∷ []) 0 2 → ⊥

@@ -3,7 +3,7 @@ use Rattle.shr_audit_values.proofs.Common.{◌≡◌, ℕ, ◌<◌, List, [], �
 use Rattle.std.proofs.lemmas.Bool.Decides.{nat_tests}
 use Rattle.std.proofs.lemmas.List.{take_more, drop_more}
 use Rattle.shr_model.specs.Items.{items_from, moved_from, step, first_moved, later_moved}
-use Rattle.shr_model.proofs.ItemsLaws.{items_from_push}
+use Rattle.shr_model.proofs.ItemsLaws.{items_from_push, moved_from_push}
 use Rattle.shr_replay.specs.Journals.{values_from}
 use Rattle.shr_model.proofs.Booleans.{itself}
 
@@ -44,11 +44,6 @@ none_behind n k lt moved items (e ∷ es) =
     behind_later n k (value_met items e) (values_from (k + 1) (later_moved e moved) (step (first_moved moved) items e) es) lt (none_behind n (k + 1) (omega (arith, lt)) (later_moved e moved) (step (first_moved moved) items e) es)
 
 -- ---- one entry on
-
-moved_from_push : (moved : List (List Object)) (es : List Entry) (e : Entry) → moved_from moved (es ++ e ∷ []) ≡ later_moved e (moved_from moved es)
-unfolding moved_from
-moved_from_push moved [] e = refl
-moved_from_push moved (x ∷ es) e = moved_from_push (later_moved x moved) es e
 
 -- before the first entry all are left
 pub ahead_first : (moved : List (List Object)) (es : List Entry) (found : List FoundValue) → found ≡ values_from 0 moved [] es → AreAhead moved es 0 found

@@ -5,7 +5,7 @@ use Rattle.shr_base.specs.declared.places.Serial.{Serial}
 use Rattle.shr_base.specs.declared.replies.Answered.{Answered}
 use Rattle.shr_base.specs.declared.replies.Reply.{Reply}
 use Rattle.shr_base.specs.declared.replies.Reply.TheVariants.{Hit}
-use Rattle.shr_case.proofs.Firsts.{some_is}
+use Rattle.shr_model.proofs.Lists.{some_injective}
 
 hit_value : (c d : At) (v w : List ℕ) → Hit c v ≡ Hit d w → v ≡ w
 hit_value c d v w e = cc
@@ -20,6 +20,6 @@ hit_lends x c a v found b is same d = (
 -- the reply of an answer
 pub answer_lends : (r : Report) (place : Place) (n : ℕ) (by : Serial) (a : Answered) (found : Option (List ℕ)) (b : Bool) → Some a ≡ answer_at r by → Decides b ((value : List ℕ) → a.reply ≡ Hit (at place n) value → found ≡ Some value) → Decides b (IsLentTo r place n by found)
 answer_lends r place n by a found b is d = (
-  λ t value e. d.0 t value (some_is a.reply (Hit (at place n) value) (ap (option_map (λ (x : Answered). x.reply)) is ∙ e)),
+  λ t value e. d.0 t value (some_injective a.reply (Hit (at place n) value) (ap (option_map (λ (x : Answered). x.reply)) is ∙ e)),
   λ all. d.1 (λ value e. all value (sym (ap (option_map (λ (x : Answered). x.reply)) is) ∙ ap (λ (y : Reply). Some y) e)),
 )

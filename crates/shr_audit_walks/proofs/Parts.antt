@@ -1,5 +1,5 @@
 -- What is so of each walk, gone through worker by worker.
-use Rattle.shr_audit_walks.proofs.Common.{◌≡◌, ℕ, ◌+◌, ◌<◌, ◌≤◌, Bool, true, false, List, length, get_or, Option, Some, sym, ap, subst, ◌∙◌, slice_get, Decides, slice_get-get_or, get_or_from_slice_get, WalkRecord, WorkerPart, Report, walks_in, EachItem, all_at, more_at, clash, each_more, each_all, EachWalk}
+use Rattle.shr_audit_walks.proofs.Common.{◌≡◌, ℕ, ◌+◌, ◌<◌, ◌≤◌, Bool, true, false, List, length, get_or, Option, Some, sym, ap, subst, ◌∙◌, slice_get, Decides, slice_get-get_or, WalkRecord, WorkerPart, Report, walks_in, all_at, more_at, clash, EachWalk}
 use Rattle.shr_case.proofs.Eachs.{each_walk_of}
 
 -- so it is of the walks of a worker
@@ -34,15 +34,3 @@ parts_more parts P worker part walks b lt is there d f before =
     more_at (λ (k : ℕ) (x : WorkerPart). EachOf P k x.walks.items) parts worker part lt is before (subst (λ (ws : List WalkRecord). EachOf P worker ws) same (d.0 f))
 
 -- ---- items by an index
-
--- one more item
-pub each_step : {X : Type 0} (P : X → Type 0) (xs : List X) (i : ℕ) (d : X) → i < length xs → ((n : ℕ) (x : X) → n < i → slice_get xs n ≡ Some x → P x) → P (get_or xs i d) → (n : ℕ) (x : X) → n < i + 1 → slice_get xs n ≡ Some x → P x
-each_step P xs i d lt before here = each_more P xs i (get_or xs i d) lt (sym (get_or_from_slice_get xs i (get_or xs i d) (get_or xs i d) (slice_get-get_or xs i d lt))) before here
-
--- one of which it isn't so
-pub each_fail : {X : Type 0} (P : X → Type 0) (xs ys : List X) (i : ℕ) (d : X) (b : Bool) → xs ≡ ys → i < length xs → Decides b (P (get_or xs i d)) → b ≡ false → Decides false (EachItem P ys)
-each_fail {X} P xs ys i d b e lt dec f = (λ t. absurd cc, λ h. absurd (clash b (dec.1 (h i (get_or xs i d) (ap (λ (zs : List X). slice_get zs i) (sym e) ∙ slice_get-get_or xs i d lt))) f))
-
--- all of them
-pub each_whole : {X : Type 0} (P : X → Type 0) (xs ys : List X) (i : ℕ) → xs ≡ ys → length xs ≤ i → ((n : ℕ) (x : X) → n < i → slice_get xs n ≡ Some x → P x) → Decides true (EachItem P ys)
-each_whole {X} P xs ys i e over before = subst (λ (zs : List X). Decides true (EachItem P zs)) e (each_all P xs i over before)

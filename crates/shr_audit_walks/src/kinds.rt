@@ -48,6 +48,25 @@ fn is_stop_at(
     }
 }
 
+// Whether each held attempt of these has an outcome of its cache, in a walk of this priority.
+fn are_kinds_at(
+    script: &Script,
+    report: &Report,
+    met: &Met,
+    priority: u8,
+    attempts: &[Attempt],
+) -> bool
+    requires { IsMetIn report.now.pool.items met.now }
+    ensures { Decides result (EachItem (IsKindAt script.now report.now priority) attempts.now) }
+{
+    for k in 0..attempts.len() {
+        if !is_kind_at(script, report, met, priority, &attempts[k]) {
+            return false;
+        }
+    }
+    true
+}
+
 /// Whether each held attempt of a walk has an outcome of its cache. What each lookup met is known
 /// (`Met`). Our own.
 pub fn are_kinds(script: &Script, report: &Report, met: &Met, walk: &WalkRecord) -> bool
@@ -55,13 +74,8 @@ pub fn are_kinds(script: &Script, report: &Report, met: &Met, walk: &WalkRecord)
     ensures { Decides result (EachItem (IsKindAt script.now report.now walk.now.priority)
         walk.now.attempts.items) }
 {
-    let attempts = walk.attempts();
-    for k in 0..attempts.len() {
-        if !is_kind_at(script, report, met, walk.priority, &attempts[k]) {
-            return false;
-        }
-    }
-    true
+    let kinds = are_kinds_at(script, report, met, walk.priority, walk.attempts());
+    kinds
 }
 
 /// Whether each pass of a walk stopped if and only if an ask was due and the walk can't scan its

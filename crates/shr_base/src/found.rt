@@ -31,11 +31,11 @@ pub struct Found {
 }
 
 impl Model for Found {
-    ghost use Rattle.shr_base.specs.Found.{Finds, finds_in};
+    ghost use Rattle.shr_base.specs.Found.{WalkFinds, walk_finds};
 
-    ghost Value = { Finds };
+    ghost Value = { WalkFinds };
 
-    ghost view = { λ f. finds_in f.few };
+    ghost view = { λ f. walk_finds f.few };
 }
 
 // A box with these maps, and with room for just so many maps and attempts more.

@@ -1,7 +1,8 @@
 -- The list that is printed for a place, and the first one.
-use Rattle.shr_case.proofs.Common.{◌≡◌, ◌≢◌, ℕ, zero, suc, ◌<◌, true, false, List, [], ◌∷◌, length, get_or, Option, Some, None, refl, sym, ap, ◌∙◌, ◌⊎◌, inl, inr, arith, slice_get, cases_Bool, get_or_from_slice_get, slice_get-get_or, slice_get_within, Place, PlaceEnd, IsFirst, IsIndexOf, end_printed}
+use Rattle.shr_case.proofs.Common.{◌≡◌, ◌≢◌, ℕ, zero, suc, ◌<◌, true, false, List, [], ◌∷◌, length, get_or, Some, None, refl, sym, ap, ◌∙◌, ◌⊎◌, inl, inr, arith, slice_get, cases_Bool, get_or_from_slice_get, slice_get-get_or, slice_get_within, Place, PlaceEnd, IsFirst, IsIndexOf, end_printed}
 use Rattle.shr_model.specs.Places.{is_place}
 use Rattle.shr_model.proofs.PlacesLaws.{is_place_same, is_place_itself}
+use Rattle.shr_model.proofs.Lists.{some_injective}
 
 -- a list is printed for a place, and this is the first one
 pub record IsFound (ends : List PlaceEnd) (place : Place) (k : ℕ) (end : PlaceEnd) : Type 0 where
@@ -10,9 +11,6 @@ pub record IsFound (ends : List PlaceEnd) (place : Place) (k : ℕ) (end : Place
   pub first : IsFirst ends k place
   pub found : end_printed ends place ≡ Some end
 
-pub some_is : {X : Type 0} (a b : X) → ◌≡◌ {A = Option X} (Some a) (Some b) → a ≡ b
-some_is a b e = cc
-
 pub none_first : (ends : List PlaceEnd) (place : Place) → IsFirst ends 0 place
 none_first ends place m x lt = absurd (omega (arith, lt))
 
@@ -20,7 +18,7 @@ none_first ends place m x lt = absurd (omega (arith, lt))
 pub first_found : (ends : List PlaceEnd) (place : Place) (k : ℕ) (end : PlaceEnd) → slice_get ends k ≡ Some end → end.place ≡ place → IsFirst ends k place → end_printed ends place ≡ Some end
 first_found [] place k end at same first = let lt = slice_get_within [] k end at in absurd (omega (arith, lt))
 first_found (e ∷ es) place zero end at same first =
-    let here : e.place ≡ place = ap (λ (x : PlaceEnd). x.place) (some_is e end at) ∙ same in
+    let here : e.place ≡ place = ap (λ (x : PlaceEnd). x.place) (some_injective e end at) ∙ same in
     let own : is_place e.place place ≡ true = ap (λ (q : Place). is_place e.place q) (sym here) ∙ is_place_itself e.place in
     rw own at
 first_found (e ∷ es) place (suc k) end at same first = elim (cases_Bool (is_place e.place place)) [
@@ -51,7 +49,7 @@ found_or_none (e ∷ es) place = elim (cases_Bool (is_place e.place place)) [
 ] where
   not_before : is_place e.place place ≡ false → (k : ℕ) → IsFirst es k place → IsFirst (e ∷ es) (suc k) place
   not_before other k first zero x lt at = λ same.
-      let own : is_place e.place place ≡ true = ap (λ (q : Place). is_place e.place q) (sym (ap (λ (y : PlaceEnd). y.place) (some_is e x at) ∙ same)) ∙ is_place_itself e.place in cc
+      let own : is_place e.place place ≡ true = ap (λ (q : Place). is_place e.place q) (sym (ap (λ (y : PlaceEnd). y.place) (some_injective e x at) ∙ same)) ∙ is_place_itself e.place in cc
   not_before other k first (suc m) x lt at = first m x (omega (arith, lt)) at
 
 -- a place that no list is printed for

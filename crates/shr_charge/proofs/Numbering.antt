@@ -1,21 +1,7 @@
 -- One operation more: the histories, the sums over views, and the words, on plain data.
-use Rattle.shr_charge.proofs.Common.{◌≡◌, ℕ, ◌+◌, ◌%◌, ◌^◌, ◌<◌, ◌≢◌, Bool, true, false, not, ◌&&◌, eqb, ltb, cond, List, [], ◌∷◌, ◌++◌, length, set, sym, refl, ap, subst, ◌∙◌, ⊎_elim, arith, length-append, eq-eqb, pos, slice_get, sum_by, All, cases_Bool, eqb-true, nat_tests, sum_by_push, sum_by-append, sum_by-cons, All-push, All-append, All-weaker, All-nil, some, get_elem?, UseStep, Serial, ups, downs, sum_by-changed, sum_by-joined, sum_by-more, Each-set, Each-push, Uses, no_uses, own_uses, both_uses, one_use, usage_word, op_of, ups_at, downs_at, times_at, UseHistories, grown, StandsInHistory, AreUsed, ◌/◌, ◌-ℤ◌, IsNextUse, IsChargeHistory, Each-weaker}
+use Rattle.shr_charge.proofs.Common.{◌≡◌, ℕ, ◌+◌, ◌%◌, ◌^◌, ◌<◌, ◌≢◌, Bool, true, false, not, ◌&&◌, eqb, ltb, cond, List, [], ◌∷◌, ◌++◌, length, set, sym, refl, ap, subst, ◌∙◌, ⊎_elim, arith, length-append, eq-eqb, pos, slice_get, sum_by, All, cases_Bool, eqb-true, nat_tests, sum_by_push, sum_by-append, All-push, All-append, All-weaker, All-nil, some, get_elem?, UseStep, Serial, ups, downs, sum_by-changed, sum_by-joined, sum_by-more, Each-set, Each-push, Uses, no_uses, own_uses, both_uses, one_use, usage_word, op_of, ups_at, downs_at, times_at, UseHistories, grown, StandsInHistory, AreUsed, ◌/◌, ◌-ℤ◌, IsNextUse, IsChargeHistory, Each-weaker}
 use Rattle.shr_charge.proofs.Listing.{get_longer, get_last, get_below, stands_push}
-
-abbrev up_flag : UseStep → ℕ
-up_flag o = cond o.up 1 0
-
-abbrev down_flag : UseStep → ℕ
-down_flag o = cond (not o.up) 1 0
-
-one_flag : (b : Bool) → cond b 1 0 + cond (not b) 1 0 ≡ 1
-one_flag true = refl
-one_flag false = refl
-
--- the operations of a history are its ups and its downs
-pub ups_downs : (ops : List UseStep) → ups ops + downs ops ≡ length ops
-ups_downs [] = refl
-ups_downs (o ∷ ops) = omega (arith, ups_downs ops, sum_by-cons up_flag o ops, sum_by-cons down_flag o ops, one_flag o.up)
+use Rattle.shr_model.proofs.ChargeLaws.{ups_downs}
 
 -- the operation that finds the word of a history is its next one
 pub op_next : (g : ℕ) (by : Serial) (up : Bool) (word : ℕ) (history : List UseStep) → word ≡ usage_word history → downs history < 2 ^ 32 → IsNextUse g history (op_of g by up word)

@@ -1,11 +1,8 @@
 -- The path of a group up to another, step by step.
-use Rattle.shr_charge.proofs.Common.{◌≡◌, ◌≢◌, ℕ, zero, suc, ◌<◌, ◌≤◌, Bool, true, false, ◌||◌, eqb, cond, List, [], ◌∷◌, length, sym, refl, ap, ◌∙◌, ⊎_elim, arith, eq-eqb, ne_eqb, cases_Bool, eqb-true, IsTree, parent_of, path_of, depth_of, path_to}
+use Rattle.shr_charge.proofs.Common.{◌≡◌, ◌≢◌, ℕ, zero, suc, ◌<◌, ◌≤◌, true, false, ◌||◌, eqb, cond, List, [], ◌∷◌, length, sym, refl, ap, ◌∙◌, ⊎_elim, arith, eq-eqb, ne_eqb, cases_Bool, eqb-true, IsTree, parent_of, path_of, depth_of, path_to}
 use Rattle.shr_model.specs.Groups.{path_within}
 use Rattle.shr_charge.specs.Paths.{path_to_within}
-
-or_true : (b : Bool) → (b || true) ≡ true
-or_true true = refl
-or_true false = refl
+use Rattle.std.proofs.Math.Bool.{or-true}
 
 module _ (parents : List ℕ) where
   stop_here : (n g last : ℕ) → (eqb g last || eqb g 0) ≡ true → path_to_within n parents g last ≡ g ∷ []
@@ -18,7 +15,7 @@ module _ (parents : List ℕ) where
   goes_on n g last e = ap (λ b. cond b (g ∷ []) (g ∷ path_to_within n parents (parent_of parents g) last)) e
 
   at_root : (g last : ℕ) → g ≡ 0 → (eqb g last || eqb g 0) ≡ true
-  at_root g last e = ap (λ b. eqb g last || b) (eq-eqb g 0 e) ∙ or_true (eqb g last)
+  at_root g last e = ap (λ b. eqb g last || b) (eq-eqb g 0 e) ∙ or-true (eqb g last)
 
   not_root : (g last : ℕ) → (eqb g last || eqb g 0) ≡ false → 0 < g
   not_root g last e = ⊎_elim (λ (t : eqb g 0 ≡ true). absurd (let c : true ≡ false = sym (at_root g last (eqb-true g 0 t)) ∙ e in cc)) (λ (f : eqb g 0 ≡ false). let apart : g ≢ 0 = λ z. let c : true ≡ false = sym (eq-eqb g 0 z) ∙ f in cc in omega arith) (cases_Bool (eqb g 0))

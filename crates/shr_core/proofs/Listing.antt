@@ -3,6 +3,7 @@ use Rattle.shr_core.proofs.Common.{◌≡◌, ◌⊎◌, ℕ, ◌+◌, ◌<◌, 
 use Rattle.shr_core.proofs.Options.{some_or_not, not_some, one_some, only_some_yes, only_some_no, only_none, only_some_is}
 use Rattle.shr_model.proofs.FamilyLaws.{items_stay, legal_stays, items_after, legal_after, given_open, before_open, closed_push, push_has, has_push, has_pushed, legal_none, items_none}
 use Rattle.shr_core.proofs.Births.{IsBornIn, step_born}
+use Rattle.shr_model.proofs.ItemsLaws.{closing_is}
 
 -- the rooms in hand change, and those that a half needs stay
 pub rooms_change : (parents : List ℕ) (now : Journals) (after : Histories) (hs : List Holding) (id : ℕ) (v w : Holding) → get_elem? hs id ≡ some v → w.half ≡ v.half → ((k : ℕ) → v.half ≡ Some k → IsHalfSpliced parents now v k → (0 < has_room k w) × (0 < has_room (above parents k) w)) → AreLists parents now after hs → AreLists parents now after (set hs id w)
@@ -135,31 +136,6 @@ by_none (Scan worker walk asked policy visits freed stopped) = refl
 by_none (MovedIn child objects) = refl
 by_none Closed = refl
 by_none (Drained by objects) = refl
-
--- only a Closed closes
-closes_alone : (e : Entry) → is_closing e ≡ true → e ≡ Closed
-closes_alone (Add by birth added key value) h = absurd (false_true h) where
-  false_true : false ≡ true → ⊥
-  false_true e = cc
-closes_alone (Look by birth key hit) h = absurd (false_true h) where
-  false_true : false ≡ true → ⊥
-  false_true e = cc
-closes_alone (Drop by birth key kind) h = absurd (false_true h) where
-  false_true : false ≡ true → ⊥
-  false_true e = cc
-closes_alone (Pin by birth key pinned hit) h = absurd (false_true h) where
-  false_true : false ≡ true → ⊥
-  false_true e = cc
-closes_alone (Scan worker walk asked policy visits freed stopped) h = absurd (false_true h) where
-  false_true : false ≡ true → ⊥
-  false_true e = cc
-closes_alone (MovedIn child objects) h = absurd (false_true h) where
-  false_true : false ≡ true → ⊥
-  false_true e = cc
-closes_alone Closed h = refl
-closes_alone (Drained by objects) h = absurd (false_true h) where
-  false_true : false ≡ true → ⊥
-  false_true e = cc
 
 not_both : (b : Bool) → b ≡ false → b ≡ true → ⊥
 not_both b f t = let e : false ≡ true = sym f ∙ t in cc
@@ -305,7 +281,7 @@ module _ (shape : Shape) (now now' : Journals) (after after' : Histories) (hs : 
   -- a list that is closed then was moved into its parent's
   pub closed_next : (j : ℕ) → 0 < group_of j → group_of j < length shape.parents.items → is_closed (now' j) ≡ true → Contains (moved_in (now' (above shape.parents.items j))) (group_of j)
   closed_next j below near closed = Contains_from_Has (moved_in (now' (above shape.parents.items j))) (group_of j) (has_still (above shape.parents.items j) (group_of j) (dite (ℕ_discrete j k)
-      (λ d. let closes : e ≡ Closed = closes_alone e (sym (closed_push (now k) e s.stands.«open») ∙ (ap is_closed (sym s.grows) ∙ (ap (λ (x : ℕ). is_closed (now' x)) (sym d) ∙ closed))) in
+      (λ d. let closes : e ≡ Closed = closing_is e (sym (closed_push (now k) e s.stands.«open») ∙ (ap is_closed (sym s.grows) ∙ (ap (λ (x : ℕ). is_closed (now' x)) (sym d) ∙ closed))) in
       let h = s.splice.ended closes in let q = o.halves id v.holding s.at k h.0 in
       subst (λ (x : ℕ). Has (moved_in (now (above shape.parents.items x))) (group_of x)) (sym d) (Has_from_Contains (moved_in (now (above shape.parents.items k))) (group_of k) q.taken))
       (λ m. Has_from_Contains (moved_in (now (above shape.parents.items j))) (group_of j) (o.closed j below near (sym (closed_stays j m) ∙ closed)))))

@@ -1,7 +1,9 @@
 -- How long a pool's journal is, and which declarations its ids have.
-use Rattle.shr_core.proofs.Common.{◌≡◌, ◌≢◌, ℕ, zero, suc, ◌+◌, ◌*◌, ◌<◌, ◌≤◌, List, [], ◌∷◌, ◌++◌, length, take, sym, refl, ap, subst, arith, length-append, eq-eqb, ne_eqb, Bool, true, false, cond, Option, Some, None, take_all, dite, ℕ_discrete, dec_lt, some, get_elem?, PoolEntry, Registered, Unregistered, Idle, decl_of, decl_after, is_free, IsNextPool, IsPoolJournal, one_of, phase_of_push, decl_from_push}
-use Rattle.shr_model.specs.Pool.{id_of, phase_of, lowest_free}
+use Rattle.shr_core.proofs.Common.{◌≡◌, ◌≢◌, ℕ, zero, suc, ◌+◌, ◌*◌, ◌<◌, ◌≤◌, List, [], ◌∷◌, ◌++◌, length, take, sym, refl, ap, subst, arith, length-append, eq-eqb, ne_eqb, Bool, cond, take_all, dite, ℕ_discrete, PoolEntry, Registered, Unregistered, Idle, decl_of, decl_after, IsNextPool, IsPoolJournal, one_of, phase_of_push, decl_from_push}
+use Rattle.shr_model.specs.Pool.{id_of, phase_of}
 use Rattle.shr_core.proofs.Hands.{no_phase}
+use Rattle.shr_model.proofs.PoolLaws.{else_none, next_within, take_next}
+pub use Rattle.shr_model.proofs.PoolLaws.{past_none}
 
 -- the phases of the ids below a bound, together
 unfoldable phases_below : ℕ → List PoolEntry → ℕ
@@ -10,9 +12,6 @@ phases_below (suc n) es = phase_of n es + phases_below n es
 
 here_one : (i : ℕ) (e : PoolEntry) → id_of e ≡ i → one_of i e ≡ 1
 here_one i e same = ap (λ b. cond b 1 0) (eq-eqb (id_of e) i same)
-
-else_none : (i : ℕ) (e : PoolEntry) → id_of e ≢ i → one_of i e ≡ 0
-else_none i e ne = ap (λ b. cond b 1 0) (ne_eqb (id_of e) i ne)
 
 below_past : (n : ℕ) (es : List PoolEntry) (e : PoolEntry) → n ≤ id_of e → phases_below n (es ++ e ∷ []) ≡ phases_below n es
 unfolding phases_below
@@ -37,25 +36,11 @@ unfolding phases_below
 below_most zero most es h = omega arith
 below_most (suc n) most es h = omega (arith, h n (omega arith), below_most n most es (λ i l. h i (omega (arith, l))))
 
--- an id that can be registered is one of those that were looked at
-pub lowest_within : (more id i : ℕ) (es : List PoolEntry) → lowest_free more id es ≡ Some i → i < id + more
-unfolding lowest_free
-lowest_within zero id i es e = let d : ◌≡◌ {A = Option ℕ} None (Some i) = e in absurd (cc)
-lowest_within (suc more) id i es e =
-    let P : Bool → Type 0 = λ b. cond b (Some id) (lowest_free more (suc id) es) ≡ Some i → i < id + suc more in
-    let all : (b : Bool) → P b = λ b. elim b as P [ true ↦ (λ f. let d : ◌≡◌ {A = Option ℕ} (Some id) (Some i) = f in let same : id ≡ i = cc in omega (arith, same)) | false ↦ (λ f. omega (arith, lowest_within more (suc id) i es f)) ] in
-    all (is_free id es) e
-
 -- each entry is of an id of the shape, and each id that has one has a declaration of the shape
 record Tells (ids decls : ℕ) (es : List PoolEntry) : Type 0 where
   all : phases_below ids es ≡ length es
   past : (i : ℕ) → ids ≤ i → phase_of i es ≡ 0
   declared : (i : ℕ) → phase_of i es ≢ 0 → decl_of i es < decls
-
-near : (ids decls : ℕ) (es : List PoolEntry) (e : PoolEntry) → Tells ids decls es → IsNextPool ids decls es e → id_of e < ids
-near ids decls es (Registered d i from) t n = omega (arith, lowest_within ids 0 i es n.2)
-near ids decls es (Unregistered d i to) t n = let past = t.past i in let one = n.0 in dite (dec_lt i ids) (λ h. h) (λ far. absurd (omega (arith, one, past (omega (arith, far)))))
-near ids decls es (Idle i) t n = let past = t.past i in dite (dec_lt i ids) (λ h. h) (λ far. absurd (omega (arith, n, past (omega (arith, far)))))
 
 -- the declaration after one entry more
 declared_push : (ids decls i : ℕ) (es : List PoolEntry) (e : PoolEntry) → Tells ids decls es → IsNextPool ids decls es e → phase_of i (es ++ e ∷ []) ≢ 0 → decl_after i (decl_of i es) e < decls
@@ -66,16 +51,11 @@ declared_push ids decls i es (Unregistered d j to) t n had = t.declared i (λ z.
 declared_push ids decls i es (Idle j) t n had = t.declared i (λ z. had (omega (arith, phase_of_push i es (Idle j), z, else_none i (Idle j) (λ q. omega (arith, z, n, ap (λ x. phase_of x es) q)))))
 
 tells_push : (ids decls : ℕ) (es : List PoolEntry) (e : PoolEntry) → Tells ids decls es → IsNextPool ids decls es e → Tells ids decls (es ++ e ∷ [])
-tells_push ids decls es e t n = let here = near ids decls es e t n in record {
+tells_push ids decls es e t n = let here = next_within ids decls es e t.past n in record {
   all = omega (arith, t.all, below_push ids es e here, length-append es (e ∷ []));
   past = λ i far. omega (arith, t.past i far, phase_of_push i es e, else_none i e (λ q. omega (arith, q, far, here)));
   declared = λ i had. subst (λ (x : ℕ). x < decls) (sym (decl_from_push i 0 es e)) (declared_push ids decls i es e t n had);
 }
-
-take_next : (es : List PoolEntry) (k : ℕ) → k < length es → (x : PoolEntry) × (get_elem? es k ≡ some x) × (take (suc k) es ≡ take k es ++ x ∷ [])
-take_next [] k h = absurd (omega (arith, h))
-take_next (x ∷ es) zero h = (x, refl, refl)
-take_next (x ∷ es) (suc k) h = let t = take_next es k (omega (arith, h)) in (t.0, t.1, ap (λ (l : List PoolEntry). x ∷ l) t.2)
 
 tells_take : (ids decls : ℕ) (es : List PoolEntry) (k : ℕ) → k ≤ length es → IsPoolJournal ids decls es → Tells ids decls (take k es)
 tells_take ids decls es zero h all = record { all = below_none ids; past = λ i far. no_phase i; declared = λ i had. absurd (had (no_phase i)) }
@@ -92,7 +72,3 @@ most_entries ids decls most es all fit = let t = tells ids decls es all in omega
 -- the declaration of an id that was registered is one of so many
 pub declared_in : (ids decls i : ℕ) (es : List PoolEntry) → IsPoolJournal ids decls es → phase_of i es ≢ 0 → decl_of i es < decls
 declared_in ids decls i es all had = (tells ids decls es all).declared i had
-
--- an id past the bound has no entry
-pub past_none : (ids decls i : ℕ) (es : List PoolEntry) → IsPoolJournal ids decls es → ids ≤ i → phase_of i es ≡ 0
-past_none ids decls i es all far = (tells ids decls es all).past i far

@@ -3,6 +3,7 @@ use Rattle.shr_draft.proofs.Common.{◌≡◌, ℕ, suc, ◌+◌, ◌-◌, ◌<�
 use Rattle.shr_model.specs.Pieces.{pieces, differs, left}
 use Rattle.shr_model.proofs.PiecesLaws.{next_more, next_last}
 use Rattle.shr_draft.specs.Reading.{Reads}
+use Rattle.shr_model.proofs.Lists.{some_injective}
 
 -- a line that others follow says something, and they go on from there
 pub goes_on : (line rest behind : List ℕ) (before r : Report) → pieces 10 rest ≡ line ∷ pieces 10 behind → Reads (pieces 10 rest) before r → (said : Said) × (Says before.version line said × Reads (pieces 10 behind) (with_said said before) r)
@@ -20,19 +21,13 @@ ends line rest before r e h = one line before r (subst (λ ls. Reads ls before r
     one : (line : List ℕ) (before r : Report) → Reads (line ∷ []) before r → (line ≡ []) × (before ≡ r)
     one line before r h = h
 
-none_some : {X : Type 0} (x : X) → ◌≡◌ {A = Option X} None (Some x) → ⊥
-none_some x e = cc
-
-same_some : {X : Type 0} (x y : X) → ◌≡◌ {A = Option X} (Some x) (Some y) → x ≡ y
-same_some x y e = cc
-
 -- nothing is found only where the line doesn't say anything that fits
 pub not_none : (version : ℕ) (line : List ℕ) (said : Said) → Says version line said → IsReadOf None (read_line version line) → ⊥
 not_none version line said says h = (subst (λ (o : Option Said). IsReadOf None o) says.is h) says.numbered
 
 -- what is found is what the line says
 pub found_is : (version : ℕ) (line : List ℕ) (said x : Said) → Says version line said → IsReadOf (Some x) (read_line version line) → x ≡ said
-found_is version line said x says h = same_some x said (subst (λ (o : Option Said). IsReadOf (Some x) o) says.is h)
+found_is version line said x says h = some_injective x said (subst (λ (o : Option Said). IsReadOf (Some x) o) says.is h)
 
 -- fewer lines are left behind one
 pub shorter : (line rest behind : List ℕ) → pieces 10 rest ≡ line ∷ pieces 10 behind → length (pieces 10 behind) < length (pieces 10 rest)

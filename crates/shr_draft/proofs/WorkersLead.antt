@@ -254,9 +254,6 @@ empty_part w p well fit e =
 no_answer : (p : WorkerPart) → p.answers.items ≡ [] → 0 < length p.answers.items → ⊥
 no_answer p e h = let k = rw e at h in absurd (omega arith)
 
-last_later : (p : WorkerPart) (ps : List WorkerPart) → LastAnswers (p ∷ ps) → LastAnswers ps
-last_later p ps h before q e = h (p ∷ before) q (ap (λ (x : List WorkerPart). p ∷ x) e)
-
 one_more : (m : ℕ) (front done : List WorkerPart) → done ≡ front ++ replicate m no_part → done ++ no_part ∷ [] ≡ front ++ replicate (m + 1) no_part
 one_more m front done e =
     ap (λ (xs : List WorkerPart). xs ++ no_part ∷ []) e ∙ append_assoc front (replicate m no_part) (no_part ∷ []) ∙ ap (λ (xs : List WorkerPart). front ++ xs) (replicate-append-replicate m 1 no_part)
@@ -279,6 +276,9 @@ few_of w n h = omega arith
 
 few_later : (w n : ℕ) → w + suc n ≤ 2 ^ 16 → (w + 1) + n ≤ 2 ^ 16
 few_later w n h = omega arith
+
+last_later : (p : WorkerPart) (ps : List WorkerPart) → LastAnswers (p ∷ ps) → LastAnswers ps
+last_later p ps h before q e = h (p ∷ before) q (ap (λ (x : List WorkerPart). p ∷ x) e)
 
 -- the lines of parts lead to them, where those before that are left out had no answer
 parts_lead : (h : Head) (w m : ℕ) (front done : List WorkerPart) (p : WorkerPart) (ps : List WorkerPart) (us : List Answered) → p.answers.items ≡ us → done ≡ front ++ replicate m no_part → length done ≡ w → w + length (p ∷ ps) ≤ 2 ^ 16

@@ -20,7 +20,7 @@ use Rattle.shr_opening.specs.Opening.{LoadsWord, LooksForCache, RefusedAs}
 use Rattle.shr_base.specs.declared.replies.IsolateEnd.{IsolateEnd}
 use Rattle.shr_base.specs.declared.replies.IsolateEnd.TheVariants as ending
 use Rattle.shr_drop.specs.Lawful.{AreScanned, IsolatesByLaw, IsAnsweredByLaw, Placed, placed, placed_scan}
-use Rattle.shr_drop.proofs.Turning.{sum_push}
+use Rattle.shr_model.proofs.Lists.{sum_push}
 
 -- a scan with a budget of 1
 abbrev pub seen_of : Policy → ℕ → ℕ → Bool → ScanSeen

@@ -1,5 +1,5 @@
 -- What a lister's scan is to the state of the worker's seats.
-use Rattle.shr_drop.proofs.Common.{◌≡◌, ℕ, ◌+◌, ◌<◌, ◌≤◌, Bool, true, false, List, [], ◌∷◌, ◌++◌, length, sym, refl, ap, subst, ◌∙◌, ⊎_elim, arith, ◌⊎◌, sum, common_steps, Object, Policy, Place, Serial, Spent, scan_of, place_number, with_put, View, Keeps, Shared, WorkerState, state_of, Visitor, ScansOnce, AreVisits, AreIsolated, MeetsWorn, IsSameElse, zero, suc, inl, inr, length-append, ◌≢◌, Option, Some, None, Scanned, case_of, scan_from, view_of, IsRested, MeetsClosed}
+use Rattle.shr_drop.proofs.Common.{◌≡◌, ℕ, ◌+◌, ◌<◌, ◌≤◌, Bool, true, false, List, [], ◌∷◌, ◌++◌, length, sym, refl, ap, subst, ◌∙◌, ⊎_elim, arith, ◌⊎◌, sum, Object, Policy, Place, Serial, Spent, scan_of, place_number, with_put, View, Keeps, Shared, WorkerState, state_of, Visitor, ScansOnce, AreVisits, AreIsolated, MeetsWorn, IsSameElse, zero, suc, inl, inr, length-append, ◌≢◌, Option, Some, None, Scanned, case_of, scan_from, view_of, IsRested, MeetsClosed}
 use Rattle.shr_base.specs.declared.objects.LruStatus.{LruStatus}
 use Rattle.shr_base.specs.declared.objects.LruStatus.TheVariants as status
 use Rattle.shr_base.specs.declared.replies.Spent.TheVariants as spent
@@ -18,6 +18,7 @@ use Rattle.shr_walk.specs.declared.seats.Seats.{Seats}
 use Rattle.shr_walk.specs.ListScans.{ScansList, FindsClosed, FindsUsedUp, LacksRoom, NoneUncharged}
 use Rattle.shr_base.specs.declared.replies.IsolateEnd.TheVariants as ending
 use Rattle.shr_drop.specs.Visiting as visiting
+use Rattle.shr_model.proofs.Lists.{sum_push}
 
 -- a scan with a budget of 1 meets nothing, and then it frees nothing and isn't stopped, or it meets one object
 abbrev pub MeetsOne : Scanned → Type 0
@@ -33,10 +34,6 @@ meets_at policy x (y ∷ ys) status.Rotate says = inr (rw (scan_rotated policy z
 pub meets_one : (policy : Policy) (items : List Object) → MeetsOne (scan_of policy 1 items)
 meets_one policy [] = inl (rw (scan_none policy 1 []) (refl, refl, refl))
 meets_one policy (x ∷ xs) = meets_at policy x xs (case_of policy x) refl
-
--- one number more adds up
-pub sum_push : (ns : List ℕ) (n : ℕ) → sum (ns ++ n ∷ []) ≡ sum ns + n
-sum_push ns n = grind (arith, common_steps)
 
 -- the seats with another seat of the caches
 abbrev pub with_cache : Seats → CacheSeat → Seats

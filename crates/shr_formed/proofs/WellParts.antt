@@ -2,7 +2,8 @@
 use Rattle.shr_formed.proofs.Common.{◌≡◌, ℕ, suc, ◌+◌, ◌-◌, ◌<◌, ◌≤◌, ◌^◌, Bool, true, false, List, [], ◌∷◌, ◌++◌, length, map, Option, Some, None, refl, sym, ap, ◌∙◌, arith, ◌==◌, slice_get, Contains, range_with_len, is_path, is_name, unit_of, Answered, MapSeen, Attempt, WalkRecord, Carry, PlainWalk, Isolation, MapEnd, UnitsEnd, PlaceAmount, PlaceEnd, WorkerPart, HasWords, LendsWord, IsBitWord, IsCarryBefore, IsPoolNumbered, IsTreeNumbered, IsAmountWell, IsPoolAmountWell, IsUseBefore, units_place, IsPlaceBefore, IsPlaceUpTo, bit_places, IsWellFormed, IsWorkerCommand, IsWalkFormed, IsListFormed, IsPartFormed, ArePartsFormed, IsLastFormed, AreHeadsFormed, AreListsFormed, AreMapsPrinted, ◌/◌, if◌then◌else◌, IsPlaceWell, IsWalkWell, IsPartWell, AreTablesFormed}
 use Rattle.std.proofs.lemmas.List.{length-append}
 use Rattle.shr_report.specs.declared.report.Report.{Report}
-use Rattle.shr_formed.proofs.Eachs.{all_of, each_in, each_weaker, below_of, adjacent_in, mapped, unmapped, contained, loaded, some_same}
+use Rattle.shr_formed.proofs.Eachs.{all_of, each_in, each_weaker, below_of, adjacent_in, mapped, unmapped, contained, loaded}
+use Rattle.shr_model.proofs.Lists.{get_last, some_injective}
 
 -- ---- a walk, and a list
 
@@ -71,10 +72,6 @@ part_formed worker p g =
 
 -- ---- the last part
 
-pub last_get : {X : Type 0} (before : List X) (x : X) → slice_get (before ++ x ∷ []) (length before) ≡ Some x
-last_get [] x = refl
-last_get (y ∷ ys) x = last_get ys x
-
 none_some : {X : Type 0} (a : X) → ◌≡◌ {A = Option X} None (Some a) → ⊥
 none_some a e = cc
 
@@ -83,7 +80,7 @@ longer n = omega arith
 
 last_split : {X : Type 0} (xs : List X) (x : X) → slice_get xs (length xs - 1) ≡ Some x → (before : List X) × (xs ≡ before ++ x ∷ [])
 last_split [] x e = absurd (none_some x e)
-last_split {X} (y ∷ []) x e = ([], ap (λ (z : X). z ∷ []) (some_same y x e))
+last_split {X} (y ∷ []) x e = ([], ap (λ (z : X). z ∷ []) (some_injective y x e))
 last_split {X} (y ∷ z ∷ zs) x e =
     let more = last_split (z ∷ zs) x (ap (slice_get (y ∷ z ∷ zs)) (sym (longer (length zs))) ∙ e) in
     (y ∷ more.0, ap (λ (ys : List X). y ∷ ys) more.1)
@@ -94,7 +91,7 @@ less_one n m e = omega arith
 last_at : {X : Type 0} (xs before : List X) (x : X) → xs ≡ before ++ x ∷ [] → slice_get xs (length xs - 1) ≡ Some x
 last_at {X} xs before x e =
     let count : length xs ≡ length before + 1 = ap length e ∙ length-append before (x ∷ []) in
-    ap (slice_get xs) (less_one (length xs) (length before) count) ∙ ap (λ (ys : List X). slice_get ys (length before)) e ∙ last_get before x
+    ap (slice_get xs) (less_one (length xs) (length before) count) ∙ ap (λ (ys : List X). slice_get ys (length before)) e ∙ get_last before x
 
 -- ---- the units of words of bits
 

@@ -57,7 +57,9 @@ pub fn walks_stand(walks: &[WalkRecord]) -> bool
     ensures { Decides result (Adjacent (λ x y. x.by.command ≤ y.by.command) walks.now) }
 {
     for i in 1..walks.len() {
-        if walks[i - 1].by.command > walks[i].by.command {
+        let before = &walks[i - 1];
+        let walk = &walks[i];
+        if before.by.command > walk.by.command {
             return false;
         }
     }
@@ -250,16 +252,24 @@ fn are_attempts_well(group: u16, maps: &[MapSeen], attempts: &[Attempt]) -> bool
     loaded
 }
 
+// Whether what a walk of this group found is as what is printed.
+fn is_found_well(group: u16, maps: &[MapSeen], attempts: &[Attempt]) -> bool
+    ensures { Decides result (AreMapsFormed group maps.now
+        × (group ≢ 0 → AreAttemptsFormed maps.now attempts.now)) }
+{
+    if !are_maps_well(group, maps) {
+        return false;
+    }
+    let tried = are_attempts_well(group, maps, attempts);
+    tried
+}
+
 // Whether a walk is as one that is printed.
 fn is_walk_well(walk: &WalkRecord) -> bool
     ensures { Decides result (IsWalkFormed walk.now) }
 {
-    let maps = walk.maps();
-    if !are_maps_well(walk.group, maps) {
-        return false;
-    }
-    let attempts = are_attempts_well(walk.group, maps, walk.attempts());
-    attempts
+    let well = is_found_well(walk.group, walk.maps(), walk.attempts());
+    well
 }
 
 /// Whether each walk is as one that is printed. Our own.

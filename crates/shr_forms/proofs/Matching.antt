@@ -6,6 +6,7 @@ use Rattle.clap.specs.declared.parser.matches.Found.{Found}
 use Rattle.clap.proofs.WalkLemmas.{first_value-rows}
 use Rattle.shr_forms.proofs.Reading.{sizes_fit}
 use Rattle.shr_forms.proofs.Splitting.{AreSplit, as_run, as_audit, as_gen, split, run_right, run_met, audit_right, audit_met, gen_right, gen_met, rows, first_is, second_is, third_is}
+use Rattle.std.proofs.lemmas.Bool.{or_parts}
 
 module _ (f : Found) (id : Text) (result : Option (Bor (List ℕ))) (t : List ℕ) (told : option_map (λ (s : Bor (List ℕ)). s.now) result ≡ first_value f id) (first : first_of id (rows_of f) ≡ Some t) where
   -- the word that was given is the row's first
@@ -53,10 +54,6 @@ hyphened words some = record {
 plain_one : (w : List ℕ) → has_hyphen w ≡ false → IsPlainWord w
 plain_one [] none = refl
 plain_one (x ∷ xs) none = ap (λ b. cond b (Some xs) None) none
-
-or_parts : (a b : Bool) → (a || b) ≡ false → (a ≡ false) × (b ≡ false)
-or_parts true b h = absurd (let no : true ≡ false = h in cc)
-or_parts false b h = (refl, h)
 
 -- and where none does, each is plain
 pub all_plain : (words : List (List ℕ)) → list_any has_hyphen words ≡ false → AllByRecursion IsPlainWord words

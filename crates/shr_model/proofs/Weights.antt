@@ -27,8 +27,8 @@ mass_append w [] ys = omega arith
 mass_append w (x ∷ xs) ys = omega (arith, mass_append w xs ys)
 
 -- two serials are one
-pub is_serial_itself : (x : Serial) → is_serial x x ≡ true
-is_serial_itself x = and_from (x.worker == x.worker) (x.command == x.command) (eq-eqb x.worker x.worker refl) (eq-eqb x.command x.command refl)
+pub serial_itself : (x : Serial) → is_serial x x ≡ true
+serial_itself x = and_from (x.worker == x.worker) (x.command == x.command) (eq-eqb x.worker x.worker refl) (eq-eqb x.command x.command refl)
 
 pub is_serial_same : (x y : Serial) → is_serial x y ≡ true → x ≡ y
 is_serial_same x y h =
@@ -57,7 +57,7 @@ pub IsPermutation_from_weights : (xs ys : List Serial) → ((w : Serial → ℕ)
 IsPermutation_from_weights [] [] h = IsPermutation-refl []
 IsPermutation_from_weights [] (y ∷ ys) h = absurd (omega (arith, h (λ s. 1)))
 IsPermutation_from_weights (x ∷ xs) ys h =
-    let one : weight_of_one x x ≡ 1 = ap (λ (b : Bool). cond b 1 0) (is_serial_itself x) in
+    let one : weight_of_one x x ≡ 1 = ap (λ (b : Bool). cond b 1 0) (serial_itself x) in
     let split = split_at_serial x ys (omega (arith, h (weight_of_one x), one)) in
     let before = split.0 in
     let after = split.1 in

@@ -1,25 +1,20 @@
 -- Carries one after another.
 use Rattle.shr_offline.proofs.Common.{◌≡◌, ℕ, ◌+◌, ◌%◌, List, [], ◌∷◌, ◌++◌, refl, sym, ap, ◌∙◌, arith, subst, map-range_with_len_more, Place, Serial, Carry, Shape, DeferredSeat, GainsMoves, first_places, place_by_number, AreCarried, carry_move, carries_noted, ◌^◌, map, append_assoc, sum, above_of, carry_moves, carry_noted, amount_taken}
 use Rattle.std.proofs.lemmas.List.{append-nil, map_push}
-use Rattle.std.proofs.lemmas.List.Sums.{sum_by_push}
 use Rattle.std.proofs.lemmas.Grind.{flat_map-append}
 use Rattle.shr_base.specs.declared.ends.PlaceAmount.{PlaceAmount}
 use Rattle.shr_deferred.proofs.SeatLaws.{Gains-none, Gains-trans}
 use Rattle.shr_deferred.specs.Moves.{Moves, both, no_moves}
 use Rattle.shr_offline.specs.Carries as carries
-
-both_assoc : (m k l : Moves) → both (both m k) l ≡ both m (both k l)
-both_assoc m k l = append_assoc m k l
+use Rattle.shr_model.proofs.Lists.{sum_push}
+use Rattle.shr_walk.proofs.Doing.{moves_assoc}
 
 both_none : (m : Moves) → both m no_moves ≡ m
 both_none m = append-nil m
 
 moves_push : (shape : Shape) (amounts : List PlaceAmount) (a : PlaceAmount) → carry_moves shape (amounts ++ a ∷ []) ≡ both (carry_moves shape amounts) (carry_move (above_of shape a.place) a)
 moves_push shape [] a = both_none (carry_move (above_of shape a.place) a)
-moves_push shape (b ∷ bs) a = ap (both (carry_move (above_of shape b.place) b)) (moves_push shape bs a) ∙ sym (both_assoc (carry_move (above_of shape b.place) b) (carry_moves shape bs) (carry_move (above_of shape a.place) a))
-
-sum_push : (xs : List ℕ) (x : ℕ) → sum (xs ++ x ∷ []) ≡ sum xs + x
-sum_push xs x = sum_by_push (λ (n : ℕ). n) xs x
+moves_push shape (b ∷ bs) a = ap (both (carry_move (above_of shape b.place) b)) (moves_push shape bs a) ∙ sym (moves_assoc (carry_move (above_of shape b.place) b) (carry_moves shape bs) (carry_move (above_of shape a.place) a))
 
 -- nothing was carried yet
 pub carried_none : (shape : Shape) (by : Serial) (group : ℕ) (s : DeferredSeat) (noted : List Carry) → AreCarried shape by group 0 0 s s noted noted

@@ -3,13 +3,9 @@ use Rattle.shr_reclaim.proofs.Common.{◌≡◌, ℕ, zero, suc, ◌+◌, ◌<�
 use Rattle.std.proofs.lemmas.Bool.Decides.{eqb_tells}
 use Rattle.shr_model.proofs.GroupsLaws.{path_of-below}
 use Rattle.shr_model.proofs.GroupsOrder.{IsOn, by_parents, on_self, on_le}
-use Rattle.shr_model.proofs.Members.{Has, Contains_from_Has}
+use Rattle.shr_model.proofs.Members.{Has, Contains_from_Has, Has_last}
 use Rattle.shr_charge.proofs.Ways.{way_here, way_root, way_up}
 use Rattle.shr_reclaim.proofs.Netting.{count_first, times_of}
-
-has_last : (xs : List ℕ) (g : ℕ) → Has (xs ++ g ∷ []) g
-has_last [] g = inl refl
-has_last (x ∷ xs) g = inr (has_last xs g)
 
 module _ (parents : List ℕ) (tree : IsTree parents) where
   -- each group of the part of a path is of the path
@@ -26,7 +22,7 @@ module _ (parents : List ℕ) (tree : IsTree parents) where
 -- the group that refused is on the path of the group that was to be charged
 pub refused_on : (k : Shape) (by : Serial) (group level number usage : ℕ) (ops : List UseStep) → IsTree k.parents.items → group < length k.parents.items → IsChargeRefused k by group level number usage ops → IsOn k.parents.items level group
 refused_on k by group level number usage ops tree there r = way_on k.parents.items tree level level group there
-    (subst (λ (l : List ℕ). Has l level) r.levels (subst (λ (g : ℕ). Has (map use_group r.ups ++ g ∷ []) level) (sym r.here) (has_last (map use_group r.ups) level)))
+    (subst (λ (l : List ℕ). Has l level) r.levels (subst (λ (g : ℕ). Has (map use_group r.ups ++ g ∷ []) level) (sym r.here) (Has_last (map use_group r.ups) level)))
 
 pub refused_above : (k : Shape) (by : Serial) (group level number usage : ℕ) (ops : List UseStep) → IsTree k.parents.items → group < length k.parents.items → IsChargeRefused k by group level number usage ops → IsAtOrAbove k.parents.items level group
 refused_above k by group level number usage ops tree there r = Contains_from_Has (path_of k.parents.items group) level (refused_on k by group level number usage ops tree there r)

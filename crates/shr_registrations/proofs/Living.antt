@@ -1,11 +1,12 @@
 -- The registration that an id is in after so many entries, by the spans of all registrations.
-use Rattle.shr_registrations.proofs.Common.{◌≡◌, ◌≢◌, ℕ, zero, suc, ◌+◌, ◌<◌, ◌≤◌, Bool, true, false, cond, List, [], ◌∷◌, length, take, drop, Option, Some, None, refl, sym, ap, subst, ◌∙◌, arith, ◌&&◌, ◌==◌, nat_lt, nat_tests, PoolEntry, Registered, Unregistered, Idle, Registration, End, is_within, to_of, same_byte, ◌%◌, slice_get}
+use Rattle.shr_registrations.proofs.Common.{◌≡◌, ◌≢◌, ℕ, zero, suc, ◌+◌, ◌<◌, ◌≤◌, Bool, true, false, cond, List, [], ◌∷◌, length, take, drop, Option, Some, None, refl, sym, ap, subst, ◌∙◌, arith, ◌&&◌, ◌==◌, nat_lt, PoolEntry, Registered, Unregistered, Idle, Registration, End, is_within, to_of, same_byte, ◌%◌, slice_get}
 use lib.ListN.{get_elem?}
 use Rattle.shr_model.specs.Pool.{decl_after, decl_from, end_of, from_after, from_from, id_of, is_free, lowest_free, phase_of, IsNextPool, IsPoolJournal}
 use Rattle.shr_registrations.specs.Live.{live_in, live_now, next_end}
 use Rattle.shr_model.proofs.Booleans.{is_other, is_same}
 use Rattle.shr_model.proofs.PoolLaws.{and_false}
 use Rattle.shr_model.proofs.Lists.{some_at}
+use Rattle.std.proofs.lemmas.Bool.{le-ltb, lt-ltb}
 
 -- ---- what an entry needs of the phase of its id
 
@@ -101,12 +102,6 @@ ends_to id at (Unregistered d i to ∷ es) = by (ends_to id (at + 1) es) (i == i
     by rest false = rest
 ends_to id at (Idle i ∷ es) = ends_to id (at + 1) es
 
-pub is_lt : (a b : ℕ) → a < b → nat_lt a b ≡ true
-is_lt a b h = grind (arith, nat_tests)
-
-pub not_lt : (a b : ℕ) → b ≤ a → nat_lt a b ≡ false
-not_lt a b h = grind (arith, nat_tests)
-
 -- an end is behind the entries before it
 end_later : (id at low : ℕ) (es : List PoolEntry) → low ≤ at → is_within low (next_end id at es) ≡ true
 unfolding next_end
@@ -115,7 +110,7 @@ end_later id at low (Registered d i from ∷ es) le = end_later id (at + 1) low 
 end_later id at low (Unregistered d i to ∷ es) le = by (end_later id (at + 1) low es (omega arith)) (i == id)
   where
     by : is_within low (next_end id (at + 1) es) ≡ true → (b : Bool) → is_within low (cond b (Some (record { to = to; behind = at + 1 })) (next_end id (at + 1) es)) ≡ true
-    by rest true = is_lt low (at + 1) (omega (arith, le))
+    by rest true = lt-ltb low (at + 1) (omega (arith, le))
     by rest false = rest
 end_later id at low (Idle i ∷ es) le = end_later id (at + 1) low es (omega arith)
 
@@ -124,7 +119,7 @@ live_later : (id at low : ℕ) (es : List PoolEntry) → low ≤ at → live_in 
 unfolding live_in
 live_later id at low [] le = refl
 live_later id at low (Registered d i from ∷ es) le =
-    ap (λ (b : Bool). cond ((i == id) && (b && is_within low (next_end id (at + 1) es))) (Some (record { decl = d; from = from; to = to_of (next_end id (at + 1) es) })) (live_in id (at + 1) es low)) (not_lt at low le)
+    ap (λ (b : Bool). cond ((i == id) && (b && is_within low (next_end id (at + 1) es))) (Some (record { decl = d; from = from; to = to_of (next_end id (at + 1) es) })) (live_in id (at + 1) es low)) (le-ltb at low le)
     ∙ ap (λ (b : Bool). cond b (Some (record { decl = d; from = from; to = to_of (next_end id (at + 1) es) })) (live_in id (at + 1) es low)) (and_false (i == id))
     ∙ live_later id (at + 1) low es (omega arith)
 live_later id at low (Unregistered d i to ∷ es) le = live_later id (at + 1) low es (omega arith)
@@ -210,7 +205,7 @@ live_own : (id at entry d i begin : ℕ) (es : List PoolEntry) → (i == id) ≡
 unfolding live_in
 live_own id at entry d i begin es same lt =
     ap (λ (b : Bool). cond (b && (nat_lt at entry && is_within entry (next_end id (at + 1) es))) (Some (record { decl = d; from = begin; to = to_of (next_end id (at + 1) es) })) (live_in id (at + 1) es entry)) same
-    ∙ ap (λ (b : Bool). cond (b && is_within entry (next_end id (at + 1) es)) (Some (record { decl = d; from = begin; to = to_of (next_end id (at + 1) es) })) (live_in id (at + 1) es entry)) (is_lt at entry lt)
+    ∙ ap (λ (b : Bool). cond (b && is_within entry (next_end id (at + 1) es)) (Some (record { decl = d; from = begin; to = to_of (next_end id (at + 1) es) })) (live_in id (at + 1) es entry)) (lt-ltb at entry lt)
 
 live_end : (id at entry d i to : ℕ) (es : List PoolEntry) → live_in id at (Unregistered d i to ∷ es) entry ≡ live_in id (at + 1) es entry
 unfolding live_in
@@ -246,7 +241,7 @@ held_own id phase decl from at entry (Registered d i begin) es same lt kind =
 held_own id phase decl from at entry (Unregistered d i to) es same lt kind =
     let one = one_own id (Unregistered d i to) same in
     let dying : (one_of id (Unregistered d i to) + phase) % 3 ≢ 1 = λ h. absurd (omega (arith, h, one, kind)) in
-    let past : is_within entry (next_end id at (Unregistered d i to ∷ es)) ≡ false = ap (is_within entry) (next_own id at d i to es same) ∙ not_lt entry (at + 1) (omega (arith, lt)) in
+    let past : is_within entry (next_end id at (Unregistered d i to ∷ es)) ≡ false = ap (is_within entry) (next_own id at d i to es same) ∙ le-ltb entry (at + 1) (omega (arith, lt)) in
     none_held (one_of id (Unregistered d i to) + phase) (is_within entry (next_end id (at + 1) es)) decl from (end_of id es) (live_in id (at + 1) es entry) dying
     ∙ sym (live_end id at entry d i to es)
     ∙ sym (some_held phase (is_within entry (next_end id at (Unregistered d i to ∷ es))) decl from (end_of id (Unregistered d i to ∷ es)) (live_in id at (Unregistered d i to ∷ es) entry) kind

@@ -4,15 +4,12 @@ use Rattle.std.specs.declared.cmp.Ordering.TheVariants.{Less, Equal, Greater}
 use Rattle.shr_model.specs.Pool.{decl_at, end_of, is_before, registrations}
 use Rattle.shr_registrations.proofs.Merging.{last_push, last_none}
 use Rattle.shr_model.proofs.Booleans.{itself, above_of, below_of, le_of, lt_of, more_of}
-use Rattle.shr_registrations.proofs.Living.{is_lt, not_lt}
+use Rattle.std.proofs.lemmas.Bool.{le-ltb, lt-ltb, lt-leb}
 
 -- ---- keys
 
 pub apart_of : (a b : ℕ) → (a == b) ≡ false → a ≢ b
 apart_of a b e = grind (arith, nat_tests)
-
-pub not_le : (a b : ℕ) → b < a → nat_le a b ≡ false
-not_le a b h = grind (arith, nat_tests)
 
 -- keys of one id stand as their numbers
 key_le : (i a b : ℕ) → nat_le (lookup_key i a) (lookup_key i b) ≡ nat_le a b
@@ -20,18 +17,18 @@ key_le i a b = by (nat_le a b) refl
   where
     by : (x : Bool) → nat_le a b ≡ x → nat_le (lookup_key i a) (lookup_key i b) ≡ x
     by true e = le_of (lookup_key i a) (lookup_key i b) (let h = below_of a b e in omega (arith, h))
-    by false e = not_le (lookup_key i a) (lookup_key i b) (let h = above_of a b e in omega (arith, h))
+    by false e = lt-leb (lookup_key i a) (lookup_key i b) (let h = above_of a b e in omega (arith, h))
 
 key_lt : (i a b : ℕ) → nat_lt (lookup_key i a) (lookup_key i b) ≡ nat_lt a b
 key_lt i a b = by (nat_lt a b) refl
   where
     by : (x : Bool) → nat_lt a b ≡ x → nat_lt (lookup_key i a) (lookup_key i b) ≡ x
-    by true e = is_lt (lookup_key i a) (lookup_key i b) (let h = lt_of a b e in omega (arith, h))
-    by false e = not_lt (lookup_key i a) (lookup_key i b) (let h = more_of a b e in omega (arith, h))
+    by true e = lt-ltb (lookup_key i a) (lookup_key i b) (let h = lt_of a b e in omega (arith, h))
+    by false e = le-ltb (lookup_key i a) (lookup_key i b) (let h = more_of a b e in omega (arith, h))
 
 -- below the end of a registration of the id, as its number is before its end
 stop_same : (id number : ℕ) (to : Option ℕ) → number < 4294967296 → nat_lt (lookup_key id number) (stop_key id to) ≡ is_before number to
-stop_same id number None few = is_lt (lookup_key id number) (stop_key id None) (omega (arith, few))
+stop_same id number None few = lt-ltb (lookup_key id number) (stop_key id None) (omega (arith, few))
 stop_same id number (Some to) few = key_lt id number to
 
 -- the keys of a registration are none of another id's

@@ -2,17 +2,17 @@
 use Rattle.shr_registrations.proofs.Common.{◌≡◌, ◌≢◌, ℕ, ◌+◌, ◌-◌, ◌*◌, ◌<◌, ◌≤◌, ◌^◌, Bool, true, false, cond, List, [], ◌∷◌, ◌++◌, length, get_or, drop, Option, Some, None, refl, sym, ap, subst, ◌∙◌, arith, ◌&&◌, ◌==◌, nat_le, nat_lt, nat_cmp, lookup, BTreeMap, IsEmpty, get, is_at, nat_tests, drop_more, PoolEntry, Registered, Unregistered, Idle, Registration, Span, lookup_key, has_key, last_in, End, AreLivesNoted, entry_key, is_within, to_of, same_byte}
 use Rattle.shr_registrations.proofs.Merging.{last_none, last_push}
 use Rattle.shr_registrations.specs.Live.{capped_key, end_key, live_in, next_end}
-use Rattle.shr_registrations.proofs.Noting.{apart_of, none_left, not_le}
-use Rattle.shr_registrations.proofs.Living.{is_lt, not_lt}
+use Rattle.shr_registrations.proofs.Noting.{apart_of, none_left}
 use Rattle.shr_model.proofs.Booleans.{below_of, le_of, lt_of, more_of}
+use Rattle.std.proofs.lemmas.Bool.{le-ltb, lt-ltb, lt-leb}
 
 -- ---- keys
 
 cut_low : (a : ℕ) → a < 4294967296 → capped_key a ≡ a
-cut_low a h = ap (λ (b : Bool). cond b a 4294967296) (is_lt a 4294967296 h)
+cut_low a h = ap (λ (b : Bool). cond b a 4294967296) (lt-ltb a 4294967296 h)
 
 cut_high : (a : ℕ) → 4294967296 ≤ a → capped_key a ≡ 4294967296
-cut_high a h = ap (λ (b : Bool). cond b a 4294967296) (not_lt a 4294967296 h)
+cut_high a h = ap (λ (b : Bool). cond b a 4294967296) (le-ltb a 4294967296 h)
 
 cut_most : (a : ℕ) → capped_key a ≤ 4294967296
 cut_most a = by (nat_lt a 4294967296) refl
@@ -27,11 +27,11 @@ cut_below entry a few = by (nat_lt a 4294967296) refl
   where
     by : (b : Bool) → nat_lt a 4294967296 ≡ b → nat_lt entry (capped_key a) ≡ nat_lt entry a
     by true e = ap (nat_lt entry) (cut_low a (lt_of a 4294967296 e))
-    by false e = let h = more_of a 4294967296 e in ap (nat_lt entry) (cut_high a h) ∙ is_lt entry 4294967296 few ∙ sym (is_lt entry a (omega (arith, h, few)))
+    by false e = let h = more_of a 4294967296 e in ap (nat_lt entry) (cut_high a h) ∙ lt-ltb entry 4294967296 few ∙ sym (lt-ltb entry a (omega (arith, h, few)))
 
 cut_behind : (at entry : ℕ) (c : Bool) → nat_lt (at + 1) 4294967296 ≡ c → entry < 4294967296 → entry ≤ at → nat_le (capped_key (at + 1)) entry ≡ false
-cut_behind at entry true f few le = ap (λ (n : ℕ). nat_le n entry) (cut_low (at + 1) (lt_of (at + 1) 4294967296 f)) ∙ not_le (at + 1) entry (omega (arith, le))
-cut_behind at entry false f few le = ap (λ (n : ℕ). nat_le n entry) (cut_high (at + 1) (more_of (at + 1) 4294967296 f)) ∙ not_le 4294967296 entry few
+cut_behind at entry true f few le = ap (λ (n : ℕ). nat_le n entry) (cut_low (at + 1) (lt_of (at + 1) 4294967296 f)) ∙ lt-leb (at + 1) entry (omega (arith, le))
+cut_behind at entry false f few le = ap (λ (n : ℕ). nat_le n entry) (cut_high (at + 1) (more_of (at + 1) 4294967296 f)) ∙ lt-leb 4294967296 entry few
 
 cut_above : (at entry : ℕ) → entry < 4294967296 → nat_le (capped_key (at + 1)) entry ≡ nat_lt at entry
 cut_above at entry few = by (nat_lt at entry) refl
@@ -45,17 +45,17 @@ sum_le base a b = by (nat_le a b) refl
   where
     by : (x : Bool) → nat_le a b ≡ x → nat_le (base + a) (base + b) ≡ x
     by true e = le_of (base + a) (base + b) (let h = below_of a b e in omega (arith, h))
-    by false e = not_le (base + a) (base + b) (let h : b < a = grind (arith, nat_tests) in omega (arith, h))
+    by false e = lt-leb (base + a) (base + b) (let h : b < a = grind (arith, nat_tests) in omega (arith, h))
 
 sum_lt : (base a b : ℕ) → nat_lt (base + a) (base + b) ≡ nat_lt a b
 sum_lt base a b = by (nat_lt a b) refl
   where
     by : (x : Bool) → nat_lt a b ≡ x → nat_lt (base + a) (base + b) ≡ x
-    by true e = is_lt (base + a) (base + b) (let h = lt_of a b e in omega (arith, h))
-    by false e = not_lt (base + a) (base + b) (let h = more_of a b e in omega (arith, h))
+    by true e = lt-ltb (base + a) (base + b) (let h = lt_of a b e in omega (arith, h))
+    by false e = le-ltb (base + a) (base + b) (let h = more_of a b e in omega (arith, h))
 
 end_same : (id entry : ℕ) (end : Option End) → entry < 4294967296 → nat_lt (lookup_key id entry) (end_key id end) ≡ is_within entry end
-end_same id entry None few = is_lt (lookup_key id entry) (4294967296 * (id + 1)) (omega (arith, few))
+end_same id entry None few = lt-ltb (lookup_key id entry) (4294967296 * (id + 1)) (omega (arith, few))
 end_same id entry (Some x) few = sum_lt (4294967296 * id) entry (capped_key x.behind) ∙ cut_below entry x.behind few
 
 end_over : (id : ℕ) (end : Option End) → end_key id end ≤ 4294967296 * (id + 1)

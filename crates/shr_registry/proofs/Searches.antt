@@ -47,15 +47,6 @@ loads_word v id word = record { holding = refl; traces = refl; marks = refl; owe
 pub more_loaded : (v a u : View) (id : ℕ) (word : LookupWord) → Loads v a → u ≡ with_word a id word → Loads v u
 more_loaded v a u id word before is = loads_then v a u before (subst (Loads a) (sym is) (loads_word a id word))
 
--- and one word more
-pub loads_more : (u v w : View) (id : ℕ) (word : LookupWord) → Loads u v → w ≡ with_word v id word → Loads u w
-loads_more u v w id word a is = loads_then u v w a (subst (Loads v) (sym is) (loads_word v id word))
-
--- no id below 0 is live
-pub none_below : (decl : ℕ) (pool : List PoolEntry) → is_live_below decl 0 pool ≡ false
-unfolding is_live_below
-none_below decl pool = refl
-
 -- and none below the next
 pub none_next : (decl id : ℕ) (pool : List PoolEntry) → (is_live id pool && (decl_of id pool == decl)) ≡ false → is_live_below decl id pool ≡ false → is_live_below decl (id + 1) pool ≡ false
 unfolding is_live_below

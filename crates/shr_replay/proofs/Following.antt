@@ -8,17 +8,6 @@ use Rattle.shr_replay.specs.declared.journal.Course.{Course}
 use Rattle.shr_replay.specs.Values.{value_met, values_noted}
 use Rattle.shr_replay.specs.Journals.{lens_from, freed_tags, values_from, IsNew, Advances, Finishes}
 
--- an entry that closes is a Closed
-pub closing_is : (e : Entry) → is_closing e ≡ true → e ≡ Closed
-closing_is (Add by birth added key value) h = cc
-closing_is (Look by birth key hit) h = cc
-closing_is (Drop by birth key kind) h = cc
-closing_is (Pin by birth key pinned hit) h = cc
-closing_is (Scan worker walk asked policy visits freed stopped) h = cc
-closing_is (MovedIn child objects) h = cc
-closing_is Closed h = refl
-closing_is (Drained by objects) h = cc
-
 module _ (took : ℕ → List Object) (items : List Object) where
   -- one entry at the head of a journal
   pub lens_next : (e : Entry) (es : List Entry) → lens_from (lists_moved took (e ∷ es)) items (e ∷ es) ≡ length items ∷ lens_from (lists_moved (took_after took e) es) (step (moved_by took e) items e) es

@@ -5,14 +5,15 @@ use Rattle.shr_base.specs.declared.replies.Reply.TheVariants as reply
 use Rattle.shr_model.specs.Families.{lists_moved}
 use Rattle.shr_model.specs.Items.{items_from}
 use Rattle.shr_report.specs.BitsTold.{was_cleared_since, set_again_in, HasReason, AreBitsTold}
-use Rattle.shr_report.proofs.SecondCases.{each_walk, held_same}
+use Rattle.shr_report.proofs.SecondCases.{each_walk}
 use Rattle.shr_report.proofs.SecondReport.{kept, unheld, script, report, part, place, walk, cleared}
+use Rattle.shr_model.proofs.Lists.{some_injective}
 
 -- the second report
 
 -- only the put filled a place, and the first walk cleared its bit later
 filled : (worker k : ℕ) (p : Place) → FillsPlace script report (serial_of worker k) p → was_cleared_since report p worker k ≡ true
-filled zero zero p f = let same : at place 0 ≡ at p f.entry = held_same (at place 0) (at p f.entry) (ap (option_and_then cited_by) f.added) in
+filled zero zero p f = let same : at place 0 ≡ at p f.entry = some_injective (at place 0) (at p f.entry) (ap (option_and_then cited_by) f.added) in
     subst (λ q. was_cleared_since report q 0 0 ≡ true) (ap (λ c. c.place) same) refl
 filled zero (suc zero) p f = absurd (let e = f.added in cc)
 filled zero (suc (suc zero)) p f = absurd (let e = f.added in cc)

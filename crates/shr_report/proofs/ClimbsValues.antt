@@ -5,15 +5,15 @@ use Rattle.shr_base.specs.declared.replies.Reply.TheVariants as reply
 use Rattle.shr_model.specs.Groups.{path_within}
 use Rattle.shr_report.specs.Climbs.{ActsOn, AreClimbing}
 use Rattle.shr_report.proofs.OfflineReport as offline
-use Rattle.shr_report.proofs.SecondCases.{held_same}
 use Rattle.shr_report.proofs.SecondReport.{kept, script, report, place, part, held}
+use Rattle.shr_model.proofs.Lists.{some_injective}
 
 -- the second report
 
 -- its commands act on the one list
 own_place : (worker k birth : ℕ) (p : Place) → ActsOn script report worker k birth p → p ≡ place
-own_place zero zero birth p h = sym (ap (λ (a : At). a.place) (held_same (at place 0) (at p h.entry) h.cited))
-own_place zero (suc zero) birth p h = sym (ap (λ (a : At). a.place) (held_same (at place 1) (at p h.entry) h.cited))
+own_place zero zero birth p h = sym (ap (λ (a : At). a.place) (some_injective (at place 0) (at p h.entry) h.cited))
+own_place zero (suc zero) birth p h = sym (ap (λ (a : At). a.place) (some_injective (at place 1) (at p h.entry) h.cited))
 own_place zero (suc (suc zero)) birth p h = absurd (let e = h.cited in cc)
 own_place zero (suc (suc (suc zero))) birth p h = absurd (let e = h.cited in cc)
 own_place zero (suc (suc (suc (suc k)))) birth p h = absurd (let e = h.cited in cc)

@@ -10,7 +10,7 @@ use Rattle.shr_report.proofs.ClimbsValues.{are_climbing}
 use Rattle.shr_report.proofs.CutsValues.{are_told}
 use Rattle.shr_report.proofs.OneOrderValues.{nothing_made, in_order}
 use Rattle.shr_report.proofs.TakesValues as takes_values
-use Rattle.shr_report.proofs.SecondCases.{AllAt, each_at, each_answer, each_walk}
+use Rattle.shr_report.proofs.SecondCases.{each_answer, each_walk}
 use Rattle.shr_report.proofs.SecondReport as second
 use Rattle.shr_report.proofs.SecondReport.{kept, script, report, uses}
 use Rattle.shr_report.proofs.NotLawful.{with_answers}
@@ -18,6 +18,7 @@ use Rattle.shr_report.proofs.OverReport as over
 use Rattle.shr_report.proofs.TriesValues.{are_tries}
 use Rattle.shr_report.proofs.ThirdReport as third
 use Rattle.shr_model.proofs.Booleans.{not_zero}
+use Rattle.shr_model.proofs.Lists.{each_at, AllAt}
 
 -- the second report
 

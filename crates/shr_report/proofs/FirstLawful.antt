@@ -10,10 +10,11 @@ use Rattle.shr_base.specs.declared.replies.Reply.TheVariants as reply
 use Rattle.shr_report.proofs.QuietIsolations.{quiet_isolations}
 use Rattle.shr_report.proofs.SecondReport.{by, place, put, use_step}
 use Rattle.shr_report.proofs.FirstReport.{script, report, answer, entries, end}
-use Rattle.shr_report.proofs.SecondCases.{each_at, only_journal, AllAt}
+use Rattle.shr_report.proofs.SecondCases.{only_journal}
 use Rattle.shr_report.proofs.QuietPools.{quiet_pools}
 use Rattle.shr_report.proofs.QuietSweep.{quiet_counts, quiet_last, quiet_sweep}
 use Rattle.shr_model.proofs.Booleans.{not_zero}
+use Rattle.shr_model.proofs.Lists.{each_at, AllAt}
 
 each_by : (P : Serial → Command → Answered → Type 0) → P (by 0) put answer → (worker k : ℕ) (c : Command) (a : Answered)
     → slice_get (Rattle.shr_report.specs.Parts.commands_of script worker) k ≡ Some c → slice_get (answers_of report worker) k ≡ Some a → P (record { worker = worker; command = k }) c a

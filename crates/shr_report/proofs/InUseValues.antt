@@ -5,14 +5,15 @@ use Rattle.shr_base.specs.declared.replies.Reply.TheVariants as reply
 use Rattle.shr_base.specs.declared.walks.Outcome.TheVariants as outcome
 use Rattle.shr_model.specs.Items.{HasJournal, items_from}
 use Rattle.shr_model.specs.Pool.{phase_of, registrations, end_of, decl_at, is_dying}
-use Rattle.shr_report.proofs.SecondCases.{each_entry, held_same}
+use Rattle.shr_report.proofs.SecondCases.{each_entry}
 use Rattle.shr_report.proofs.SecondReport.{kept, report, part, place, by, held, unheld, walk}
+use Rattle.shr_model.proofs.Lists.{some_injective}
 
 -- ---- the second report
 -- nothing ends the use of an id in it
 ends_none : (id : ℕ) (x : Told) → EndsUse report id x → ⊥
 ends_none id (entry p n) h = each_entry (λ q m e. IsDrainedEntry e → ⊥) ((λ d. d), ((λ d. d), tt)) p n h.1.0 h.1.1 h.1.2
-ends_none id (turn zero) h = let is : Registered 0 0 0 ≡ Idle id = held_same (Registered 0 0 0) h.0 h.1 ∙ h.2 in cc
+ends_none id (turn zero) h = let is : Registered 0 0 0 ≡ Idle id = some_injective (Registered 0 0 0) h.0 h.1 ∙ h.2 in cc
 ends_none id (turn (suc n)) h = absurd (let e : None ≡ Some h.0 = h.1 in cc)
 ends_none id (lookup i n) h = h
 ends_none id (count w n) h = h
@@ -21,8 +22,8 @@ pub used : (rank : Told → ℕ) → rank (lookup 0 0) < rank (entry place 0) �
     → (p : Place) (n : ℕ) (b : Serial) → HasAt (journals_of report p) n IsOfUse → IsBy report b (entry p n) → IsEntryInUse report rank b p n
 unfolding registrations decl_at end_of
 used rank first second p n b told own = each_entry (λ q m e. (v : Serial) → entry_by report e ≡ Some v → IsEntryInUse report rank v q m) (
-  (λ v is. subst (λ (z : Serial). IsEntryInUse report rank z place 0) (held_same (by 0) v is) (record { number = 0; looked = (0, omega arith, refl); registered = λ none. cc; behind = first; before = λ x ends less. absurd (ends_none 0 x ends) })),
-  ((λ v is. subst (λ (z : Serial). IsEntryInUse report rank z place 1) (held_same (by 1) v is) (record { number = 1; looked = (0, omega arith, refl); registered = λ none. cc; behind = second; before = λ x ends less. absurd (ends_none 0 x ends) })), tt),
+  (λ v is. subst (λ (z : Serial). IsEntryInUse report rank z place 0) (some_injective (by 0) v is) (record { number = 0; looked = (0, omega arith, refl); registered = λ none. cc; behind = first; before = λ x ends less. absurd (ends_none 0 x ends) })),
+  ((λ v is. subst (λ (z : Serial). IsEntryInUse report rank z place 1) (some_injective (by 1) v is) (record { number = 1; looked = (0, omega arith, refl); registered = λ none. cc; behind = second; before = λ x ends less. absurd (ends_none 0 x ends) })), tt),
 )
     p n own.0 own.1 b own.2
 

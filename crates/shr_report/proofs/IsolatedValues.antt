@@ -5,8 +5,9 @@ use Rattle.shr_base.specs.declared.replies.Reply.TheVariants as reply
 use Rattle.shr_base.specs.declared.replies.Spent.TheVariants as spent
 use Rattle.shr_model.specs.Isolations.{ScanSeen, Met, met_one, met_none, IsLawfulIsolation}
 use Rattle.shr_report.proofs.SecondReport.{kept, by, place, put, held}
-use Rattle.shr_report.proofs.SecondCases.{AllAt, each_at, AllTwo, each_two, only_journal}
+use Rattle.shr_report.proofs.SecondCases.{AllTwo, each_two, only_journal}
 use Rattle.shr_report.proofs.FirstReport as first
+use Rattle.shr_model.proofs.Lists.{each_at, AllAt}
 
 -- ---- one isolation by itself
 

@@ -10,13 +10,14 @@ use Rattle.shr_model.specs.Commands.{rounds_from}
 use Rattle.shr_base.specs.declared.replies.Reply.TheVariants as reply
 use Rattle.shr_base.specs.declared.walks.Ending.TheVariants as ending
 use Rattle.shr_base.specs.declared.scripts.Command.TheVariants as command
-use Rattle.shr_report.proofs.SecondCases.{each_at, only_journal, held_same, all_replicate}
+use Rattle.shr_report.proofs.SecondCases.{only_journal, all_replicate}
 use Rattle.shr_report.proofs.ScansReport as scans
 use Rattle.shr_report.proofs.OfflineReport as moves
 use Rattle.shr_report.proofs.OverReport as over
 use Rattle.shr_report.proofs.UnregisterReport as leaves
 use Rattle.shr_report.proofs.GoneReport as gone
 use Rattle.shr_report.proofs.FirstLawful.{none_refused}
+use Rattle.shr_model.proofs.Lists.{each_at, some_injective}
 
 -- the walk that skips
 skips : IsLawfulWalk scans.script scans.report 0 0 scans.walk_0
@@ -127,13 +128,13 @@ scanning = record {
   memory = (
     (λ z. absurd (cc)),
     (λ k a p e f. each_at (λ k (a : Attempt). (p : PassRecord) → pass_of a.outcome ≡ Some p → p.ending ≡ ending.NoRoom → IsLastOfCut scans.walk_1 k) scans.walk_1.attempts.items
-        ((λ p f z. absurd (let same = held_same ran p f in let end : ran.ending ≡ p.ending = ap (λ (q : PassRecord). q.ending) same in cc)), tt) k a e p f),
+        ((λ p f z. absurd (let same = some_injective ran p f in let end : ran.ending ≡ p.ending = ap (λ (q : PassRecord). q.ending) same in cc)), tt) k a e p f),
   );
   counts = each_at _ scans.walk_1.attempts.items ((record { there = omega arith; len = refl }, tt), tt);
   kinds = each_at _ scans.walk_1.attempts.items ((λ z. (omega arith, record { made = refl; scanned = refl; next = refl; closed = omega arith })), tt);
   placed = each_at _ scans.walk_1.attempts.items (tt, tt);
-  scans = each_at _ scans.walk_1.attempts.items ((λ d p e f. subst (λ p. AreScansOf 0 d p (scans_by 0 1 scans.list_0.entries.items)) (held_same ran p f) (subst (λ d. AreScansOf 0 d ran (scans_by 0 1 scans.list_0.entries.items)) (held_same scans.cache_0 d e) scanned)), tt);
-  stops = each_at _ scans.walk_1.attempts.items ((λ d p e f. subst (λ p. IsStopped scans.walk_1 d p) (held_same ran p f) (subst (λ d. IsStopped scans.walk_1 d ran) (held_same scans.cache_0 d e) not_stopped)), tt);
+  scans = each_at _ scans.walk_1.attempts.items ((λ d p e f. subst (λ p. AreScansOf 0 d p (scans_by 0 1 scans.list_0.entries.items)) (some_injective ran p f) (subst (λ d. AreScansOf 0 d ran (scans_by 0 1 scans.list_0.entries.items)) (some_injective scans.cache_0 d e) scanned)), tt);
+  stops = each_at _ scans.walk_1.attempts.items ((λ d p e f. subst (λ p. IsStopped scans.walk_1 d p) (some_injective ran p f) (subst (λ d. IsStopped scans.walk_1 d ran) (some_injective scans.cache_0 d e) not_stopped)), tt);
   freed = refl;
 }
 

@@ -3,8 +3,9 @@ use Rattle.shr_report.proofs.Common.{◌≡◌, ◌≢◌, ℕ, zero, suc, ◌+�
 use Rattle.shr_base.specs.declared.replies.Reply.TheVariants as reply
 use Rattle.shr_base.specs.declared.walks.Outcome.TheVariants as outcome
 use Rattle.shr_report.proofs.InUseValues.{used, drained, emptied}
-use Rattle.shr_report.proofs.SecondCases.{each_at, each_entry, held_same}
+use Rattle.shr_report.proofs.SecondCases.{each_entry}
 use Rattle.shr_report.proofs.SecondReport.{kept, report, part, place, by, held, unheld, walk}
+use Rattle.shr_model.proofs.Lists.{each_at, some_injective}
 
 -- ---- the second report
 -- ten ranks for each command: its lookup, then its entry or its counts
@@ -43,7 +44,7 @@ own_count (suc worker) n c at = absurd (cc)
 
 -- its registration is the one of the start
 own_turn : (n : ℕ) (e : PoolEntry) → slice_get report.pool.items n ≡ Some e → (n ≡ 0) × (e ≡ Registered 0 0 0)
-own_turn zero e at = (refl, sym (held_same (Registered 0 0 0) e at))
+own_turn zero e at = (refl, sym (some_injective (Registered 0 0 0) e at))
 own_turn (suc n) e at = absurd (cc)
 
 starts_at : (i low high : ℕ) (e : PoolEntry) → e ≡ Registered 0 0 0 → TurnTells i low high e → (low ≡ 0) × (high ≡ 0)
@@ -52,7 +53,7 @@ starts_at i low high e is tells = let t = subst (TurnTells i low high) is tells 
 -- an entry of a command has the command's number
 own_entry : (p : Place) (n worker k : ℕ) (e : Entry) → slice_get (journals_of report p) n ≡ Some e → entry_by report e ≡ Some (serial_of worker k) → n ≡ k
 own_entry p n worker k e stands is = each_entry (λ q m e. (v j : ℕ) → entry_by report e ≡ Some (serial_of v j) → m ≡ j)
-    ((λ v j e. ap (λ (z : Serial). z.command) (held_same (by 0) (serial_of v j) e)), ((λ v j e. ap (λ (z : Serial). z.command) (held_same (by 1) (serial_of v j) e)), tt)) p n e stands worker k is
+    ((λ v j e. ap (λ (z : Serial). z.command) (some_injective (by 0) (serial_of v j) e)), ((λ v j e. ap (λ (z : Serial). z.command) (some_injective (by 1) (serial_of v j) e)), tt)) p n e stands worker k is
 
 few_entries : (p : Place) (n : ℕ) (e : Entry) → slice_get (journals_of report p) n ≡ Some e → n < 2
 few_entries = each_entry (λ q m e. m < 2) (omega arith, (omega arith, tt))

@@ -4,9 +4,10 @@ use Rattle.shr_base.specs.declared.replies.Reply.TheVariants as reply
 use Rattle.shr_base.specs.declared.walks.Ending.TheVariants as ending
 use Rattle.shr_model.specs.Pass.{due, ask_size}
 use Rattle.shr_report.proofs.SecondReport.{by}
-use Rattle.shr_report.proofs.SecondCases.{AllAt, each_at, AllTwo, each_two}
+use Rattle.shr_report.proofs.SecondCases.{AllTwo, each_two}
 use Rattle.shr_report.proofs.PoolsReport.{buf, few, commands, script, place, pass, tries, walk, entries, end, report}
 use Rattle.shr_report.proofs.PoolsCauses.{each_answer, each_by}
+use Rattle.shr_model.proofs.Lists.{each_at, AllAt}
 
 each_plain : (P : ℕ → ℕ → PlainWalk → Type 0) → P 0 0 walk → EachPlain report P
 each_plain P h zero n w e = each_at (P 0) (walk ∷ []) (h, tt) n w e

@@ -9,11 +9,12 @@ use Rattle.shr_model.specs.Commands.{rounds_from}
 use Rattle.shr_base.specs.declared.replies.Reply.TheVariants as reply
 use Rattle.shr_report.proofs.QuietIsolations.{quiet_isolations}
 use Rattle.shr_report.proofs.SecondReport.{use_step, script, report, by, place, cleared, first_walk, second_walk}
-use Rattle.shr_report.proofs.SecondCases.{each_at, each_answer, each_walk, each_entry, each_journal}
+use Rattle.shr_report.proofs.SecondCases.{each_answer, each_walk, each_entry, each_journal}
 use Rattle.shr_report.proofs.QuietPools.{quiet_pools}
 use Rattle.shr_report.proofs.QuietSweep.{quiet_counts, quiet_last, quiet_sweep}
 use Rattle.shr_report.proofs.FirstLawful.{none_below, none_refused, zero_not}
 use Rattle.shr_model.proofs.Booleans.{not_zero}
+use Rattle.shr_model.proofs.Lists.{each_at}
 
 -- a command that cites an entry cites the one of its own number
 cites : (worker k : ℕ) (p : Place) (n : ℕ) → cited_at report (serial_of worker k) ≡ Some (at p n) → (n ≡ k) × (k < 2) × (p ≡ place)

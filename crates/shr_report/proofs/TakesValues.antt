@@ -3,9 +3,9 @@ use Rattle.shr_report.proofs.Common.{◌≡◌, ◌⊎◌, ℕ, zero, suc, ◌<�
 use Rattle.shr_base.specs.declared.replies.Reply.TheVariants as reply
 use Rattle.shr_base.specs.declared.walks.Outcome.TheVariants as outcome
 use Rattle.shr_report.specs.Takes.{WordStep, took, gave, Taking, steps_by_worker, DeferredAmounts, TakesWhole, AreWholeTakes, after_step, after_all, none_deferred, steps_by, IsHanded, AreTakesInOrder}
-use Rattle.shr_report.proofs.SecondCases.{each_at}
 use Rattle.shr_report.proofs.SecondReport as second
 use Rattle.shr_report.proofs.SecondReport.{kept, place, shrink, unheld}
+use Rattle.shr_model.proofs.Lists.{each_at}
 
 -- ---- the second report tells of no take and no give
 pub in_order : AreTakesInOrder second.script second.report

@@ -6,7 +6,7 @@ use Rattle.shr_report.proofs.Printed.{one_line}
 use Rattle.shr_report.proofs.LinesBack.{printed_reply}
 use Rattle.shr_report.proofs.Sections.{kind, kind_reply, all_any}
 use Rattle.shr_report.proofs.WalksBack.{HasBitWords}
-use Rattle.shr_report.proofs.PartsBack.{Sorted, all_second, Remain, IsAny, IsAnyPlain, IsAnyIsolation, LogsRemain, IsOutside, IsPast, IsAnsweredWell}
+use Rattle.shr_report.proofs.PartsBack.{Sorted, all_second, Remain, IsAny, IsAnyPlain, IsAnyIsolation, LogsRemain, IsOutside, IsPast, IsAnsweredWell, reply_outside}
 use Rattle.shr_report.proofs.AnswersBack.{answers_once, answer_first}
 
 -- the parts are well formed, each for the worker of its number
@@ -156,9 +156,6 @@ begins m (p ∷ ps) rest h last late = inr (front m (p ∷ ps) rest p ps refl h 
 late_outside : (k : ℕ) → 14 < k → IsOutside k
 late_outside k h le = h
 
-six_outside : (k : ℕ) → k ≡ 6 → IsOutside k
-six_outside k e le = absurd (omega arith)
-
 six_late : (k : ℕ) → k ≡ 6 → 14 < k → ⊥
 six_late k e h = absurd (omega arith)
 
@@ -167,7 +164,7 @@ replies_kind m bytes r = ap kind r.is ∙ kind_reply r.worker r.command r.reply 
 
 outside_of : (m : ℕ) (bytes : List ℕ) → (14 < kind bytes) ⊎ Replies m bytes → IsOutside (kind bytes)
 outside_of m bytes (inl h) = late_outside (kind bytes) h
-outside_of m bytes (inr r) = six_outside (kind bytes) (replies_kind m bytes r)
+outside_of m bytes (inr r) = reply_outside (kind bytes) (replies_kind m bytes r)
 
 past_of : (w : ℕ) (bytes : List ℕ) → (14 < kind bytes) ⊎ Replies (w + 1) bytes → IsPast w bytes
 past_of w bytes (inl h) k r more l e = six_late (kind bytes) (ap kind e ∙ kind_reply w k r more) h

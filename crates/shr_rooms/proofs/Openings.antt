@@ -1,13 +1,8 @@
 -- A new table of rooms meets the rule.
-use Rattle.shr_rooms.proofs.Common.{◌≡◌, ℕ, zero, suc, ◌+◌, ◌*◌, ◌<◌, ◌≤◌, true, List, [], ◌∷◌, map, length, get_or, sym, refl, ap, subst, ◌∙◌, arith, Option, some, get_elem?, State, at_map, Each, Standing, AreSeats, not_gone, Each-one, RoomView, no_room, part_at, Law, IsRoomSound, AreRoomsSound, IsRoomSeen, lock_index, count_index, replicate, length-replicate, get_or-replicate, opening, at_first, AreSeats-first}
+use Rattle.shr_rooms.proofs.Common.{◌≡◌, ℕ, ◌+◌, ◌*◌, ◌<◌, ◌≤◌, true, List, [], ◌∷◌, map, length, get_or, sym, ap, subst, ◌∙◌, arith, Option, some, get_elem?, State, at_map, Each, Standing, AreSeats, not_gone, Each-one, RoomView, no_room, part_at, Law, IsRoomSound, AreRoomsSound, IsRoomSeen, lock_index, count_index, replicate, length-replicate, get_or-replicate, opening, at_first, AreSeats-first}
 use Rattle.shr_rooms.proofs.Room.{seen_none}
 use Rattle.shr_model.proofs.Numbers.{none_below}
-
--- an element below the length is there
-some_at : {A : Type 0} (xs : List A) (i : ℕ) → i < length xs → (x : A) × (get_elem? xs i ≡ some x)
-some_at [] i low = absurd (omega (arith, low))
-some_at (x ∷ xs) zero low = (x, refl)
-some_at (x ∷ xs) (suc i) low = some_at xs i (omega (arith, low))
+use Rattle.shr_model.proofs.Lists.{there}
 
 module _ {E S V : Type 0} (law : Law E) (entries : S → List E) (parts : V → List (RoomView E)) (standing : V → Standing) (spent : V) (rooms : ℕ) (words : List ℕ) (slots : List S) (first : V)
     (zeros : words ≡ replicate {A = ℕ} (8 * rooms) 0) (many : length slots ≡ rooms) (bare : Each (λ (s : S). entries s ≡ []) slots) (none : law.len [] ≡ 0) (blank : parts first ≡ []) (stands : standing first ≡ at_first) where
@@ -32,7 +27,7 @@ module _ {E S V : Type 0} (law : Law E) (entries : S → List E) (parts : V → 
   opened = record {
     journal = λ _. [];
     wide = ap length zeros ∙ length-replicate (8 * rooms) 0;
-    each = λ i low. let room = some_at slots i (omega (arith, low, many)) in
+    each = λ i low. let room = there slots i (omega (arith, low, many)) in
         subst (λ (t : RoomView E). IsRoomSound law entries [] (get_or words (lock_index i) 0) (get_or words (count_index i) 0) (get_elem? (map some slots) i) (t ∷ [])) (sym (ap (λ (l : List (RoomView E)). part_at l i) blank)) (room_opened i low room.0 room.1);
     seats = subst (λ (z : Standing). AreSeats (z ∷ [])) (sym stands) AreSeats-first;
     emptied = Each-one (λ (v : V). (standing v).gone ≡ true → v ≡ spent) first (λ g. absurd (not_gone (standing first) (ap (λ (z : Standing). z.gone) stands) g));

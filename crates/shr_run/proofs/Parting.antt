@@ -1,5 +1,6 @@
 -- One worker's seats more joined into the first ones.
-use Rattle.shr_run.proofs.Common.{◌≡◌, ℕ, suc, ◌+◌, List, [], ◌∷◌, ◌++◌, length, map, sym, ap, subst, ◌∙◌, arith, append_assoc, All, IsTrue, All-cons, Standing, View, Pools, Shared, WorkerResult, CrewSeats, AreParted, IsPlainParted, WorkerLog, Firsts, with_workers, IsAtEnd, AreJoinedAll, firsts_of, last_of, log_of, AreJoined, IsPlainJoined, with_worker}
+use Rattle.shr_run.proofs.Common.{◌≡◌, ℕ, ◌+◌, List, [], ◌∷◌, ◌++◌, length, map, sym, ap, subst, ◌∙◌, arith, append_assoc, All, IsTrue, All-cons, Standing, View, Pools, Shared, WorkerResult, CrewSeats, AreParted, IsPlainParted, WorkerLog, Firsts, with_workers, IsAtEnd, AreJoinedAll, firsts_of, last_of, log_of, AreJoined, IsPlainJoined, with_worker}
+use Rattle.std.proofs.lemmas.List.Elements.{All-tail}
 
 module _ (old new : CrewSeats) (w : WorkerResult) (j : AreJoined old.seats w.seats new.seats) (l : IsPlainJoined old.plain w.plain new.plain) where
   pub firsts_joined : firsts_of new ≡ with_worker (firsts_of old) (last_of w)
@@ -59,10 +60,6 @@ joined_all old new results rest none joined parted plain_parted = record {
 pub own_at_end : (x : Shared) (p : Pools) (w : WorkerResult) (left rest : List WorkerResult) → left ≡ w ∷ rest → All (IsAtEnd x p) left → IsAtEnd x p w
 own_at_end x p w left rest next all = subst (All (IsAtEnd x p)) next all 0 w (omega arith)
 
--- the workers after the first one
-all_after : {A : Type 0} (P : A → Type 0) (x : A) (xs : List A) → All P (x ∷ xs) → All P xs
-all_after P x xs all k d lt = all (suc k) d (omega (arith, lt))
-
 module _ (old first new : CrewSeats) (w : WorkerResult) (left rest results : List WorkerResult) (next : left ≡ w ∷ rest) (j : AreJoined first.seats w.seats new.seats) (l : IsPlainJoined first.plain w.plain new.plain) where
   -- what is to be joined is joined one more, and one fewer is left
   pub still_joined : with_workers (firsts_of first) (map last_of left) ≡ with_workers (firsts_of old) (map last_of results) → with_workers (firsts_of new) (map last_of rest) ≡ with_workers (firsts_of old) (map last_of results)
@@ -78,7 +75,7 @@ module _ (old first new : CrewSeats) (w : WorkerResult) (left rest results : Lis
   still_whole one before all = before (subst (All (λ (v : WorkerResult). IsTrue v.whole)) (sym next) (All-cons (λ (v : WorkerResult). IsTrue v.whole) w rest one all))
 
   pub still_at_end : (x : Shared) (p : Pools) → All (IsAtEnd x p) left → All (IsAtEnd x p) rest
-  still_at_end x p all = all_after (IsAtEnd x p) w rest (subst (All (IsAtEnd x p)) next all)
+  still_at_end x p all = All-tail (IsAtEnd x p) w rest (subst (All (IsAtEnd x p)) next all)
 
   pub still_logged : (logs more : List WorkerLog) (log : WorkerLog) → more ≡ logs ++ log ∷ [] → log ≡ log_of w → logs ++ map log_of left ≡ map log_of results → more ++ map log_of rest ≡ map log_of results
   still_logged logs more log is same before = ap (λ (l : List WorkerLog). l ++ map log_of rest) is ∙ (append_assoc logs (log ∷ []) (map log_of rest)

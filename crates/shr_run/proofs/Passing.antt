@@ -5,10 +5,6 @@ use Rattle.shr_pool.specs.Passes as passes
 use Rattle.shr_pool.specs.Rule.{joined_pass_view, split_pass_view, new_pass_view}
 use Rattle.shr_pool.specs.Worked.{AreEachOnce}
 
--- the workers after the first one
-pub all_later : {A : Type 0} (P : A → Type 0) (x : A) (xs : List A) → All P (x ∷ xs) → All P xs
-all_later P x xs all k d lt = all (suc k) d (omega (arith, lt))
-
 pub all_first : {A : Type 0} (P : A → Type 0) (x : A) (xs : List A) → All P (x ∷ xs) → P x
 all_first P x xs all = all 0 x (omega arith)
 

@@ -6,6 +6,7 @@ use Rattle.shr_core.specs.Rule.{opener}
 use Rattle.shr_core.specs.Steps.{with_one_split, split_off}
 use Rattle.shr_plain.specs.Seat.{PlainState}
 use Rattle.shr_walk.specs.declared.seats.Seats.{Seats}
+use Rattle.shr_worker.proofs.Worked.{get_front, get_last}
 
 -- a script has at most 64 workers
 pub workers_few : (x : Shared) → IsShared x → length x.script.workers.items ≤ 64
@@ -98,15 +99,6 @@ module _ (x : Shared) (opened : View) (n : ℕ) (old new seats : Seats) (before 
     new = let core = same_core in let uses = fresh.uses in let tree = fresh.tree in let moves = fresh.moves in let noted = fresh.noted in let walks = fresh.walks in let carries = fresh.carries in let state = has.state in
         λ i. record { seats = record { core = core i; uses = uses i; tree = tree i; moves = moves i; noted = noted i; walks = walks i; carries = carries i }; plain = state i; isolations = [] };
   }
-
-get_front : {A : Type 0} (xs : List A) (y : A) (k : ℕ) → k < length xs → slice_get (xs ++ y ∷ []) k ≡ slice_get xs k
-get_front [] y k lt = absurd (omega (arith, lt))
-get_front (x ∷ xs) y zero lt = refl
-get_front (x ∷ xs) y (suc k) lt = get_front xs y k (omega (arith, lt))
-
-get_last : {A : Type 0} (xs : List A) (y : A) → slice_get (xs ++ y ∷ []) (length xs) ≡ Some y
-get_last [] y = refl
-get_last (x ∷ xs) y = get_last xs y
 
 -- one task more
 pub tasks_more : (x : Shared) (p : Pools) (opened : View) (tasks : List Task) (t : Task) → AreTasks x p opened tasks → IsTaskOf x p opened (length tasks) t → AreTasks x p opened (tasks ++ t ∷ [])

@@ -253,10 +253,10 @@ const TEN: &[u8; 10] = b"abcdefghij";
 
 // How many objects of ten keys of a letter a list takes. A list of ten has an index.
 fn add_ten(alloc: Global, list: &mut List) -> Result<u32, Fail> {
-    let mut added = 0;
+    let mut added: u32 = 0;
     for letter in TEN {
         if told(list.add(object(alloc, &[*letter])?)).0 == "added" {
-            added += 1;
+            added = added.saturating_add(1);
         }
     }
     Ok(added)
@@ -264,10 +264,10 @@ fn add_ten(alloc: Global, list: &mut List) -> Result<u32, Fail> {
 
 // How often an object of this key is dropped, in three tries.
 fn drops(list: &mut List, key: &Text) -> u32 {
-    let mut dropped = 0;
+    let mut dropped: u32 = 0;
     for _ in 0..3 {
         if let DropAnswer::Dropped { .. } = list.drop_key(BY, 1, key) {
-            dropped += 1;
+            dropped = dropped.saturating_add(1);
         }
     }
     dropped

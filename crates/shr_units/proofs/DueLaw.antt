@@ -1,13 +1,14 @@
 -- Each command has the walks of the pools that are due, and there is no other, of a run.
-use Rattle.shr_units.proofs.Common.{◌≡◌, ℕ, zero, suc, ◌+◌, ◌<◌, ◌≤◌, ◌≢◌, ◌⊎◌, Bool, true, false, ◌&&◌, cond, List, [], ◌∷◌, ◌++◌, length, map, flat_map, sym, refl, ap, subst, ◌∙◌, arith, eq-eqb, slice_get, Option, Some, option_map, IsSomeAnd, ◌==◌, and_parts, eqb-true, append-nil, same_Some, none-some, ℕ_discrete, Serial, Answered, Reply, Command, Script, PlainWalk, no_state, Report, serial_of, command_at, reply_at, EachAnswer, PlainJob, plain_due, EachPlain, UnitsStep, units_steps_of, AreUnits, filter, plain_by, plain_job_of}
+use Rattle.shr_units.proofs.Common.{◌≡◌, ℕ, zero, suc, ◌+◌, ◌<◌, ◌≤◌, ◌≢◌, ◌⊎◌, Bool, true, false, cond, List, [], ◌∷◌, ◌++◌, length, map, flat_map, sym, refl, ap, subst, ◌∙◌, arith, slice_get, Option, Some, option_map, IsSomeAnd, ◌==◌, and_parts, eqb-true, append-nil, same_Some, none-some, ℕ_discrete, Serial, Answered, Reply, Command, Script, PlainWalk, no_state, Report, serial_of, command_at, reply_at, EachAnswer, PlainJob, plain_due, EachPlain, UnitsStep, units_steps_of, AreUnits, filter, plain_by, plain_job_of}
 use Rattle.shr_model.specs.Commands.{is_serial}
 use Rattle.shr_units.proofs.StepKinds.{Kind, released, grabbed, walked, idle}
-use Rattle.shr_units.proofs.Lists.{no_test}
 use Rattle.shr_units.proofs.Along.{gained, gained_is, all_gained}
 use Rattle.shr_units.proofs.Rooms.{release_still, grab_still}
 use Rattle.shr_units.proofs.Walking.{walks_are}
 use Rattle.shr_units.proofs.Making.{walks_at, kind_at, longer_walks, Stepped, stepped}
 use Rattle.shr_units.proofs.WalkRecords.{WalkOf, walk_of, none_gained}
+use Rattle.shr_model.proofs.Booleans.{no_test}
+pub use Rattle.shr_model.proofs.Weights.{serial_itself}
 
 pub filter_both : {A : Type 0} (p : A → Bool) (xs ys : List A) → filter p (xs ++ ys) ≡ filter p xs ++ filter p ys
 filter_both p [] ys = refl
@@ -29,9 +30,6 @@ flat_only : {A B : Type 0} (f : A → List B) (xs : List A) (i : ℕ) (x : A) �
 flat_only f [] i x e h = absurd (none-some x e)
 flat_only f (y ∷ xs) zero x e h = ap (λ l. f y ++ l) (flat_zero f xs (λ j z d. h (suc j) z d (λ s. omega (arith, s)))) ∙ (append-nil (f y) ∙ ap f (same_Some y x e))
 flat_only f (y ∷ xs) (suc i) x e h = ap (λ l. l ++ flat_map f xs) (h 0 y refl (λ s. omega (arith, s))) ∙ flat_only f xs i x e (λ j z d ne. h (suc j) z d (λ s. ne (omega (arith, s))))
-
-pub serial_itself : (b : Serial) → is_serial b b ≡ true
-serial_itself b = ap (λ (c : Bool). c && (b.command == b.command)) (eq-eqb b.worker b.worker refl) ∙ eq-eqb b.command b.command refl
 
 serial_same : (a b : Serial) → is_serial a b ≡ true → a.command ≡ b.command
 serial_same a b h = eqb-true a.command b.command (and_parts (a.worker == b.worker) (a.command == b.command) h).1

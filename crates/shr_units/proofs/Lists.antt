@@ -1,14 +1,9 @@
 -- Small laws of lists: what stands in them, and sums.
-use Rattle.shr_units.proofs.Common.{◌≡◌, ℕ, zero, suc, ◌+◌, ◌<◌, ◌≤◌, ◌≢◌, ◌⊎◌, inl, inr, ⊎_elim, Bool, true, false, cond, List, [], ◌∷◌, ◌++◌, length, sym, refl, ap, subst, ◌∙◌, arith, slice_get, Some, flat_map, sum_by, AllByRecursion, same_Some, none-some, sum_by-cons, total, Begins, total-append, count_by}
+use Rattle.shr_units.proofs.Common.{◌≡◌, ℕ, zero, suc, ◌+◌, ◌<◌, ◌≤◌, ◌≢◌, ◌⊎◌, inl, inr, ⊎_elim, Bool, cond, List, [], ◌∷◌, ◌++◌, length, sym, refl, ap, subst, ◌∙◌, arith, slice_get, Some, flat_map, sum_by, AllByRecursion, same_Some, none-some, sum_by-cons, total, Begins, total-append, count_by}
 use mathlib.Core.Option.{some, some-injective, some-ne-none}
 use lib.ListN.{get_elem?}
 use Rattle.shr_seats.specs.Views.{Each}
-
--- the two ways to name an element are one
-pub some_at : {A : Type 0} (xs : List A) (n : ℕ) (x : A) → slice_get xs n ≡ Some x → get_elem? xs n ≡ some x
-some_at [] n x e = absurd (none-some x e)
-some_at (y ∷ xs) zero x e = ap some (same_Some y x e)
-some_at (y ∷ xs) (suc n) x e = some_at xs n x e
+pub use Rattle.shr_model.proofs.Lists.{some_at}
 
 pub at_some : {A : Type 0} (xs : List A) (n : ℕ) (x : A) → get_elem? xs n ≡ some x → slice_get xs n ≡ Some x
 at_some [] n x e = absurd (some-ne-none x (sym e))
@@ -109,8 +104,3 @@ only_at g (y ∷ xs) (suc i) x e h = omega (arith, h 0 y refl (λ s. omega (arit
 pub length_total : {A : Type 0} (xs : List A) → length xs ≡ total (λ (x : A). 1) xs
 length_total [] = refl
 length_total (x ∷ xs) = omega (arith, length_total xs)
-
--- a test that would lead to what isn't so fails
-pub no_test : (b : Bool) → (b ≡ true → ⊥) → b ≡ false
-no_test true h = absurd (h refl)
-no_test false h = refl

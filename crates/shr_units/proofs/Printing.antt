@@ -1,8 +1,9 @@
 -- The journals of pools that are printed, by their rooms.
 use Rattle.shr_units.proofs.Common.{◌≡◌, ℕ, zero, suc, ◌+◌, ◌<◌, ◌≤◌, ◌≢◌, ◌⊎◌, ⊎_elim, Bool, true, false, cond, List, [], ◌∷◌, ◌++◌, length, map, sym, refl, ap, subst, ◌∙◌, arith, slice_get, Option, Some, None, AllByRecursion, append-nil, map-append, same_Some, none-some, dite, ℕ_discrete, UnitsEnd, PlainEntry, Place, is_place, free_of, is_place_same, is_place_itself, Sizes, IsPlaceOf, row_of, row_count, place_of_row, row_low, UnitsEndValue, units_end_value, Report, units_journal, units_place, find, row_back, units_entries}
 use Rattle.shr_plain.specs.Ending.{units_ends, units_ends_below}
-use Rattle.shr_units.proofs.Lists.{IsIn, in_none, in_cases, no_test}
+use Rattle.shr_units.proofs.Lists.{IsIn, in_none, in_cases}
 use Rattle.shr_units.proofs.Pooling.{place_back, row_there}
+use Rattle.shr_model.proofs.Booleans.{no_test}
 
 abbrev pub value_place : UnitsEndValue → Place
 value_place v = record { id = v.pool; node = v.node; group = 0 }

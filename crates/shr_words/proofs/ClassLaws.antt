@@ -10,6 +10,7 @@ use Rattle.shr_words.specs.Classes.{passes, test_code, Choice, Policies, Kinds, 
 use Rattle.shr_base.specs.declared.objects.Policy.{Policy}
 use Rattle.shr_base.specs.declared.objects.Policy.TheVariants as policies
 use Rattle.shr_model.proofs.Booleans.{and_right, below_of, le_of, lt_of}
+use Rattle.std.proofs.lemmas.Bool.{lt-ltb}
 
 -- ---- tools
 
@@ -51,9 +52,6 @@ and4 true true false d e = absurd cc
 and4 true false c d e = absurd cc
 and4 false b c d e = absurd cc
 
-lt_is : (a b : ℕ) → a < b → nat_lt a b ≡ true
-lt_is a b e = grind (arith, nat_tests)
-
 numeral_is : (w : Word) → is_numeral w ≡ true → digits_value 10 w < 1000001 → w ≡ decimal (digits_value 10 w)
 unfolding is_numeral
 numeral_is w e small =
@@ -94,7 +92,7 @@ is_numeral-decimal n lt =
 pub number_again : (low high n : ℕ) → low ≤ n → n < high → n < 1000001 → number_spelled low high (decimal n) ≡ Ok n
 unfolding number_spelled
 number_again low high n le lt small =
-    rw (is_numeral-decimal n small, digits_value-decimal own n (omega (arith, small)), le_of low n le, lt_is n high lt, lt_is n 1000001 small) refl
+    rw (is_numeral-decimal n small, digits_value-decimal own n (omega (arith, small)), le_of low n le, lt-ltb n high lt, lt-ltb n 1000001 small) refl
 
 -- ---- places in lists
 

@@ -1,10 +1,11 @@
 -- A path of one part is found behind its slash, and items that are paths.
-use Rattle.shr_words.proofs.Common.{◌≡◌, ℕ, suc, ◌+◌, ◌-◌, ◌≤◌, Bool, true, false, ◌||◌, List, [], ◌∷◌, length, take, drop, get_or, Result, Ok, refl, sym, ap, ◌∙◌, subst, arith, bytes_eq, prefix_len, list_all, nat_tests, take_rest, Code, is_name_byte, is_between, differs, is_part_of, and_true, cut_part, ◌>>=◌, Word, Item, W, Plain, PathTest, Listed, found_or, place_of, cut_at, UnknownGroup, path_taken, IsPathTaken}
+use Rattle.shr_words.proofs.Common.{◌≡◌, ℕ, suc, ◌+◌, ◌-◌, ◌≤◌, Bool, true, false, List, [], ◌∷◌, length, take, drop, get_or, Result, Ok, refl, sym, ap, ◌∙◌, subst, arith, bytes_eq, prefix_len, list_all, nat_tests, take_rest, Code, is_name_byte, is_between, differs, is_part_of, and_true, cut_part, ◌>>=◌, Word, Item, W, Plain, PathTest, Listed, found_or, place_of, cut_at, UnknownGroup, path_taken, IsPathTaken}
 use Rattle.shr_model.specs.Paths.{is_path}
 use Rattle.shr_model.specs.Pieces.{cut, pieces}
 use Rattle.shr_words.specs.Classes.{taken, item_at, passes, text_of, listed_of}
 use Rattle.shr_words.proofs.ItemLaws.{numbered, joined_on}
 use Rattle.shr_words.proofs.TakenLaws.{Found, longer, longer_at, first_of, cut_first}
+use Rattle.std.proofs.Math.Bool.{or-true}
 
 no_slash : (b : ℕ) → is_name_byte b ≡ true → differs 47 b ≡ true
 no_slash b e = grind (arith, nat_tests)
@@ -13,17 +14,13 @@ one_piece : (w : Word) → list_all is_name_byte w ≡ true → is_part_of 47 w 
 one_piece [] h = refl
 one_piece (b ∷ w) h = let a = and_true (is_name_byte b) (list_all is_name_byte w) h in rw (no_slash b a.0, one_piece w a.1) refl
 
-or_true : (a : Bool) → (a || true) ≡ true
-or_true true = refl
-or_true false = refl
-
 one_less : (n : ℕ) → is_between 2 33 (suc n) ≡ true → is_between 1 32 n ≡ true
 one_less n e = grind (arith, nat_tests)
 
 -- a slash and 1 to 32 bytes of names are a path
 one_is_path : (f : Word) → list_all is_name_byte f ≡ true → is_between 2 33 (length (47 ∷ f)) ≡ true → is_path (47 ∷ f) ≡ true
 unfolding is_path pieces
-one_is_path f h long = rw (cut_part 47 f (one_piece f h), one_less (length f) long, h) (or_true (bytes_eq f []))
+one_is_path f h long = rw (cut_part 47 f (one_piece f h), one_less (length f) long, h) (or-true (bytes_eq f []))
 
 first_taken : (bs : List ℕ) → taken (pieces 32 (47 ∷ bs)) ≡ Ok (47 ∷ (cut 32 bs).first, (cut 32 bs).others)
 unfolding taken pieces cut

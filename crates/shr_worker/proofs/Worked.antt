@@ -1,18 +1,8 @@
 -- One command more of a worker's run.
-use Rattle.shr_worker.proofs.Common.{◌≡◌, ℕ, zero, suc, ◌<◌, ◌≤◌, inr, List, [], ◌∷◌, ◌++◌, length, length-append, refl, sym, ap, subst, ◌∙◌, arith, Some, slice_get, Answered, Command, Shared, CrewState, DeedGives, worker_commands, command_serial, IsWorkOf, inl}
+use Rattle.shr_worker.proofs.Common.{◌≡◌, ℕ, suc, ◌≤◌, inr, List, [], ◌∷◌, ◌++◌, length, length-append, refl, sym, ap, subst, ◌∙◌, arith, Some, slice_get, Answered, Command, Shared, CrewState, DeedGives, worker_commands, command_serial, IsWorkOf, inl}
 use Rattle.std.proofs.lemmas.Option.{slice_get_within}
 use Rattle.std.proofs.Math.Nat.{eq-or-lt_of_le}
-
--- what stands before the last is as it was
-get_front : {A : Type 0} (xs : List A) (y : A) (k : ℕ) → k < length xs → slice_get (xs ++ y ∷ []) k ≡ slice_get xs k
-get_front [] y k lt = absurd (omega (arith, lt))
-get_front (x ∷ xs) y zero lt = refl
-get_front (x ∷ xs) y (suc k) lt = get_front xs y k (omega (arith, lt))
-
--- what was put at the end stands there
-get_last : {A : Type 0} (xs : List A) (y : A) → slice_get (xs ++ y ∷ []) (length xs) ≡ Some y
-get_last [] y = refl
-get_last (x ∷ xs) y = get_last xs y
+pub use Rattle.shr_model.proofs.Lists.{get_last, get_front}
 
 -- before any command
 pub work_none : (x : Shared) (number : ℕ) (s : CrewState) → IsWorkOf x number [] s s

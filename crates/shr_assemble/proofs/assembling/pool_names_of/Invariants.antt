@@ -1,4 +1,4 @@
-use Rattle.std.proofs.Common.{◌≡◌, map, take}
+use Rattle.shr_assemble.proofs.Common.{◌≡◌, map, take}
 use Rattle.shr_assemble.proofs.assembling.pool_names_of.Given as goal
 
 abbrev pub invariant-loop-pool : goal.invariant-loop-pool

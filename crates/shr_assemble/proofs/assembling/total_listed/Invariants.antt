@@ -1,5 +1,4 @@
-use Rattle.std.proofs.Common.{◌≡◌, take}
-use Rattle.shr_assemble.specs.Makes.{listed_count}
+use Rattle.shr_assemble.proofs.Common.{◌≡◌, take, listed_count}
 use Rattle.shr_assemble.proofs.assembling.total_listed.Given as goal
 
 abbrev pub invariant-loop-end : goal.invariant-loop-end

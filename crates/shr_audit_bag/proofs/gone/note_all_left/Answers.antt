@@ -1,7 +1,7 @@
 use Rattle.shr_audit_bag.proofs.Common.{◌≡◌, ◌++◌, List, ap, ◌∙◌, flat_map, PlaceEnd, Place, Serial, serials_of, items_of, journals_of, flat_all}
-use Rattle.shr_audit_bag.proofs.Adding.{flat_more}
 use Rattle.shr_audit_bag.proofs.Law.{by_places}
 use Rattle.shr_audit_bag.proofs.gone.note_all_left.Goals as goal
+use Rattle.shr_model.proofs.Lists.{flat_more}
 
 pub loop-end-preserved : goal.loop-end-preserved
 loop-end-preserved c = flat_more (λ (end : PlaceEnd). serials_of (items_of c.args.case.now.parents.items (journals_of c.args.report.now) end.place)) c.as_slice-end-items.result.now c.loop-end.end-index c.end-item.result c.args.serials.now.items c.loop-end.serials.items c.note_left_at.new.serials.items c.loop-end-test.true c.end-item.is

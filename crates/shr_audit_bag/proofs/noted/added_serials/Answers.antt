@@ -1,7 +1,7 @@
 use Rattle.shr_audit_bag.proofs.Common.{◌≡◌, ◌++◌, [], List, ap, ◌∙◌, flat_map, PlaceEnd, Entry, Place, added_by_all, journals_of, flat_all}
-use Rattle.shr_audit_bag.proofs.Adding.{flat_more}
 use Rattle.shr_audit_bag.proofs.Law.{by_places}
 use Rattle.shr_audit_bag.proofs.noted.added_serials.Goals as goal
+use Rattle.shr_model.proofs.Lists.{flat_more}
 
 pub loop-end-init : goal.loop-end-init
 loop-end-init c = c.new-serials.ensures.items

@@ -1,6 +1,6 @@
 use Rattle.shr_audit_bag.proofs.Common.{added_by, flat_all}
-use Rattle.shr_audit_bag.proofs.Adding.{flat_more}
 use Rattle.shr_audit_bag.proofs.noted.note_journal.Goals as goal
+use Rattle.shr_model.proofs.Lists.{flat_more}
 
 pub loop-entry-preserved : goal.loop-entry-preserved
 loop-entry-preserved c = flat_more added_by c.args.entries.now c.loop-entry.entry-index c.entry-item.result c.args.serials.now.items c.loop-entry.serials.items c.note_entry.new.serials.items c.loop-entry-test.true c.entry-item.is c.loop-entry.invariant

@@ -1,6 +1,6 @@
 use Rattle.shr_audit_charges.proofs.Common.{up_keys, flat_all}
-use Rattle.shr_audit_charges.proofs.Rows.{flat_copied}
 use Rattle.shr_audit_charges.proofs.uses.note_ups.Goals as goal
+use Rattle.shr_model.proofs.Lists.{flat_copied}
 
 pub loop-step-preserved : goal.loop-step-preserved
 loop-step-preserved c = flat_copied (up_keys c.args.own) c.args.uses.now c.loop-step.step-index _ c.args.keys.now.items c.loop-step.keys.items c.note_up.new.keys.items c.loop-step-test.true c.loop-step.invariant c.in_ok-note_up.ensures

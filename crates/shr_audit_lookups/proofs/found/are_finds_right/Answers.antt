@@ -1,6 +1,6 @@
 use Rattle.shr_audit_lookups.proofs.Common.{more_at, all_at, IsFindAt}
-use Rattle.shr_audit_lookups.proofs.Deciding.{one_fails}
 use Rattle.shr_audit_lookups.proofs.found.are_finds_right.Goals as goal
+use Rattle.shr_formed.proofs.Eachs.{one_fails}
 
 pub returns-then-not-is_find_at : goal.returns-then-not-is_find_at
 returns-then-not-is_find_at c =

@@ -1,6 +1,6 @@
 use Rattle.shr_audit_lookups.proofs.Common.{Decides, ◌≡◌, ℕ, List, Some, slice_get, subst, sym, WorkerPart, Answered, Script, more_at, all_at, Report, IsFindAt}
-use Rattle.shr_audit_lookups.proofs.Deciding.{one_fails}
 use Rattle.shr_audit_lookups.proofs.found.are_parts_right.Goals as goal
+use Rattle.shr_formed.proofs.Eachs.{one_fails}
 
 abbrev answers : Script → Report → ℕ → List Answered → Type 0
 answers s r worker xs = (n : ℕ) (a : Answered) → slice_get xs n ≡ Some a → IsFindAt s r worker n a

@@ -1,8 +1,8 @@
 use Rattle.shr_base.specs.declared.scripts.Command.{Command}
 use Rattle.shr_report.specs.Parts.{command_at, serial_of}
 use Rattle.shr_audit_lookups.specs.Found.{IsFindRight}
-use Rattle.shr_audit_lookups.proofs.Deciding.{at_some}
 use Rattle.shr_audit_lookups.proofs.found.is_find_at.Goals as goal
+use Rattle.shr_formed.proofs.Eachs.{at_some}
 
 pub returns-in-Some : goal.returns-in-Some
 returns-in-Some c =

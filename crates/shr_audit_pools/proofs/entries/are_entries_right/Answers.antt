@@ -1,4 +1,4 @@
-use Rattle.shr_audit_pools.proofs.Common.{units_place, IsEntryRight, items_whole, value_fails, value_more}
+use Rattle.shr_audit_pools.proofs.Common.{units_place, IsEntryRight, items_whole, value_fails, at_copied}
 use Rattle.shr_audit_pools.proofs.entries.are_entries_right.Goals as goal
 
 pub returns-then-not-is_entry_right : goal.returns-then-not-is_entry_right
@@ -8,7 +8,7 @@ returns-then-not-is_entry_right c =
 
 pub loop-number-preserved : goal.loop-number-preserved
 loop-number-preserved c =
-    value_more (IsEntryRight c.args.script.now c.args.report.now (units_place c.args.units.now)) c.as_slice-entries.result.now c.loop-number.number _ c.loop-number-test.true c.loop-number.invariant
+    at_copied (IsEntryRight c.args.script.now c.args.report.now (units_place c.args.units.now)) c.as_slice-entries.result.now c.loop-number.number _ c.loop-number-test.true c.loop-number.invariant
     (c.is_entry_right.ensures.0 c.if-not-is_entry_right.false)
 
 pub returns : goal.returns

@@ -1,6 +1,7 @@
 use Rattle.shr_audit_rows.proofs.Common.{arith, IsAskedRight, each_all}
-use Rattle.shr_audit_rows.proofs.KnownLaws.{at_entry, from_start, low_next, so_fails, so_next}
+use Rattle.shr_audit_rows.proofs.KnownLaws.{at_entry, from_start, low_next, so_fails}
 use Rattle.shr_audit_rows.proofs.known.are_so.Goals as goal
+use Rattle.shr_formed.proofs.Eachs.{each_copied}
 
 pub loop-n-init : goal.loop-n-init
 loop-n-init c = record {
@@ -15,7 +16,7 @@ loop-n-preserved c =
     record {
       stands = at_entry c.args.report.now.pool.items c.is_so.new.pooled.next _ c.is_so.new.pooled.phases.items c.is_so.new.pooled.decls.items (c.is_so.ensures.next yes_so) (c.is_so.ensures.stands yes_so);
       low = low_next c.args.asked.now c.loop-n.n c.is_so.new.pooled.next _ c.requires (c.is_so.ensures.next yes_so);
-      before = so_next (IsAskedRight c.args.script.now c.args.report.now) c.args.asked.now c.loop-n.n _ c.loop-n-test.true c.loop-n.invariant.before (c.is_so.ensures.so.0 yes_so);
+      before = each_copied (IsAskedRight c.args.script.now c.args.report.now) c.args.asked.now c.loop-n.n _ c.loop-n-test.true c.loop-n.invariant.before (c.is_so.ensures.so.0 yes_so);
     }
 
 pub returns-then-not-is_so : goal.returns-then-not-is_so

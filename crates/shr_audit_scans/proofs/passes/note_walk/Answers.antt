@@ -1,10 +1,10 @@
 use Rattle.shr_audit_scans.proofs.Common.{List, ◌++◌, ap, ◌∙◌, flat_map, Attempt, keys_at, flat_all}
-use Rattle.shr_audit_scans.proofs.Added.{flat_step}
 use Rattle.shr_audit_scans.proofs.passes.note_walk.Goals as goal
+use Rattle.shr_model.proofs.Lists.{flat_copied}
 
 pub loop-attempt-preserved : goal.loop-attempt-preserved
 loop-attempt-preserved c =
-    flat_step (keys_at c.args.worker c.args.n c.args.walk.now) c.attempts-attempt-items.result.now c.loop-attempt.attempt-index _ c.args.keys.now.items c.loop-attempt.keys.items c.note_attempt.new.keys.items
+    flat_copied (keys_at c.args.worker c.args.n c.args.walk.now) c.attempts-attempt-items.result.now c.loop-attempt.attempt-index _ c.args.keys.now.items c.loop-attempt.keys.items c.note_attempt.new.keys.items
     c.loop-attempt-test.true c.loop-attempt.invariant c.in_ok-note_attempt.ensures
 
 pub returns : goal.returns

@@ -1,6 +1,6 @@
 use Rattle.shr_audit_scans.proofs.Common.{Decides, all_at, IsLawfulWalk, more_at}
-use Rattle.shr_audit_scans.proofs.LawfulLaw.{one_fails}
 use Rattle.shr_audit_scans.proofs.walks.are_lawful.Goals as goal
+use Rattle.shr_formed.proofs.Eachs.{one_fails}
 
 pub returns-then-not-branch : goal.returns-then-not-branch
 returns-then-not-branch c =

@@ -1,6 +1,6 @@
 use Rattle.shr_audit_tables.proofs.Common.{attempt_draws, flat_all}
-use Rattle.shr_audit_tables.proofs.Rows.{flat_copied}
 use Rattle.shr_audit_tables.proofs.draws.note_attempts.Goals as goal
+use Rattle.shr_model.proofs.Lists.{flat_copied}
 
 pub loop-attempt-preserved : goal.loop-attempt-preserved
 loop-attempt-preserved c = flat_copied attempt_draws c.args.attempts.now c.loop-attempt.attempt-index _ c.args.keys.now.items c.loop-attempt.keys.items c.note_attempt.new.keys.items c.loop-attempt-test.true c.loop-attempt.invariant c.in_ok-note_attempt.ensures

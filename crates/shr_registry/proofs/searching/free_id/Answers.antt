@@ -1,9 +1,9 @@
 use Rattle.shr_registry.proofs.Common.{sym, ap, ◌∙◌, arith, Shape, view_of, shape_of, pool_of}
-use Rattle.shr_registry.proofs.Searches.{loads_more, shown_phase, free_here, free_next, free_none}
+use Rattle.shr_registry.proofs.Searches.{shown_phase, free_here, free_next, free_none, more_loaded}
 use Rattle.shr_registry.proofs.searching.free_id.Goals as goal
 
 pub returns-then-can_register-clause-loads : goal.returns-then-can_register-clause-loads
-returns-then-can_register-clause-loads c = loads_more (view_of c.args.seat.now) (view_of c.loop-id.seat) (view_of c.word_of-word.new.seat) c.loop-id.id c.word_of-word.result c.loop-id.invariant.loads c.word_of-word.ensures.loaded
+returns-then-can_register-clause-loads c = more_loaded (view_of c.args.seat.now) (view_of c.loop-id.seat) (view_of c.word_of-word.new.seat) c.loop-id.id c.word_of-word.result c.loop-id.invariant.loads c.word_of-word.ensures.loaded
 
 pub returns-then-can_register-clause-lowest : goal.returns-then-can_register-clause-lowest
 returns-then-can_register-clause-lowest c = let shape = shape_of c.args.core.now in let v = view_of c.args.seat.now in let u = view_of c.loop-id.seat in let w = c.word_of-word in let a = c.loop-id.invariant.loads in
@@ -16,6 +16,6 @@ returns-clause-lowest c = let shape = shape_of c.args.core.now in let v = view_o
 pub loop-id-preserved : goal.loop-id-preserved
 loop-id-preserved c = let shape = shape_of c.args.core.now in let v = view_of c.args.seat.now in let u = view_of c.loop-id.seat in let w = c.word_of-word in let a = c.loop-id.invariant.loads in record {
   seat = w.ensures.seat;
-  loads = loads_more v u (view_of w.new.seat) c.loop-id.id w.result a w.ensures.loaded;
+  loads = more_loaded v u (view_of w.new.seat) c.loop-id.id w.result a w.ensures.loaded;
   rest = c.loop-id.invariant.rest ∙ free_next shape.ids c.loop-id.id (pool_of shape v) w.result (omega (arith, c.loop-id-test.true, ap (λ (s : Shape). s.ids) c.shape.ensures)) (shown_phase c.args.core.now.setting v u c.loop-id.id w.result a c.requires.pool w.ensures.of_pool) (sym c.can_register.ensures ∙ c.if-can_register.false);
 }

@@ -1,9 +1,9 @@
 use Rattle.shr_registry.proofs.Common.{◌∙◌, view_of, shape_of, pool_of}
-use Rattle.shr_registry.proofs.Searches.{loads_none, loads_more, live_is, shown_phase, shown_decl}
+use Rattle.shr_registry.proofs.Searches.{loads_none, live_is, shown_phase, shown_decl, more_loaded}
 use Rattle.shr_registry.proofs.searching.is_live_as.Goals as goal
 
 pub returns-clause-loads : goal.returns-clause-loads
-returns-clause-loads c = let v = view_of c.args.seat.now in loads_more v v (view_of c.word_of-word.new.seat) c.args.id c.word_of-word.result (loads_none v) c.word_of-word.ensures.loaded
+returns-clause-loads c = let v = view_of c.args.seat.now in more_loaded v v (view_of c.word_of-word.new.seat) c.args.id c.word_of-word.result (loads_none v) c.word_of-word.ensures.loaded
 
 pub returns-clause-live : goal.returns-clause-live
 returns-clause-live c =

@@ -1,11 +1,12 @@
 use Rattle.shr_registry.proofs.Common.{◌≡◌, ℕ, List, false, sym, ap, subst, ◌∙◌, arith, ◌&&◌, ◌==◌, PoolEntry, is_live, decl_of, Shape, view_of, shape_of, pool_of}
-use Rattle.shr_registry.proofs.Searches.{loads_none, loads_then, none_below, none_next}
+use Rattle.shr_registry.proofs.Searches.{loads_none, loads_then, none_next}
 use Rattle.shr_registry.proofs.Meetings.{journal_still}
 use Rattle.shr_registry.proofs.searching.other_live_id.Goals.{else-id-known-via-then-id-known+else-is_live_as, else-id-known-via-else-id-known}
 use Rattle.shr_registry.proofs.searching.other_live_id.Goals as goal
+use Rattle.shr_model.proofs.PoolLaws.{live_none}
 
 pub loop-id-init : goal.loop-id-init
-loop-id-init c = record { seat = c.requires.seat; loads = loads_none (view_of c.args.seat.now); none = none_below c.args.decl (pool_of (shape_of c.args.core.now) (view_of c.args.seat.now)) }
+loop-id-init c = record { seat = c.requires.seat; loads = loads_none (view_of c.args.seat.now); none = live_none c.args.decl (pool_of (shape_of c.args.core.now) (view_of c.args.seat.now)) }
 
 pub loop-id-preserved : goal.loop-id-preserved
 loop-id-preserved c =

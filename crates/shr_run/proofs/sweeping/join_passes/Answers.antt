@@ -1,7 +1,8 @@
 use Rattle.shr_run.proofs.Common.{◌∙◌, map, subst, All, IsPassBack, worker_of}
 use Rattle.shr_pool.specs.Passes as passes
-use Rattle.shr_run.proofs.Passing.{joining_more, carried_one, all_later}
+use Rattle.shr_run.proofs.Passing.{joining_more, carried_one}
 use Rattle.shr_run.proofs.sweeping.join_passes.Goals as goal
+use Rattle.std.proofs.lemmas.List.Elements.{All-tail}
 
 pub loop-helper-preserved : goal.loop-helper-preserved
 loop-helper-preserved c = let i = c.loop-helper.invariant in let next = c.in-Some.ensures.steps.0 in let left = c.loop-helper.helper-iterator.rest.items in let rest = c.next.new.self.rest.items in
@@ -11,6 +12,6 @@ loop-helper-preserved c = let i = c.loop-helper.invariant in let next = c.in-Som
       queue = c.join.ensures.queue ∙ i.queue;
       first = c.join.ensures.first.0;
       joining = joining_more c.args.jobs.queue start v w h left rest all next c.join.ensures.first.1 c.join.ensures.once i.joining;
-      back = all_later (IsPassBack c.args.jobs.queue) h rest (subst (All (IsPassBack c.args.jobs.queue)) next i.back);
+      back = All-tail (IsPassBack c.args.jobs.queue) h rest (subst (All (IsPassBack c.args.jobs.queue)) next i.back);
       workers = carried_one worker_of c.loop-helper.workers.items h c.push.new.self.items left rest (map worker_of all) c.in_ok-push.ensures.items next i.workers;
     }

@@ -1,6 +1,7 @@
 use Rattle.shr_audit_rows.proofs.Common.{◌≡◌, ◌∙◌, ℕ, ◌<◌, false, arith, subst, sym, is_live_below}
-use Rattle.shr_audit_rows.proofs.PooledLaws.{live_found, live_next, live_none}
+use Rattle.shr_audit_rows.proofs.PooledLaws.{live_found, live_next}
 use Rattle.shr_audit_rows.proofs.pooled.Pooled.is_live.Goals as goal
+use Rattle.shr_model.proofs.PoolLaws.{live_none}
 
 pub loop-id-init : goal.loop-id-init
 loop-id-init c = λ es st. live_none c.args.decl es
