@@ -83,8 +83,8 @@ fn are_lists_set(report: &Report, case: &Case, words: &HashMap<u64, u64>, phases
     requires numbers { HasNumbers report.now }
     requires words { AreWords report.now.maps.items words.now }
     requires phases { ArePhases report.now.pool.items phases.now }
-    ensures { Decides result ((k : ℕ) (end : PlaceEnd) → slice_get report.now.places.items k ≡ Some end
-        → IsSetIfLive case.now.parents.items report.now end.place) }
+    ensures { Decides result ((k : ℕ) (end : PlaceEnd) → slice_get report.now.places.items k
+        ≡ Some end → IsSetIfLive case.now.parents.items report.now end.place) }
 {
     for end in report.places.as_slice() {
         if !is_place_set(report, case, words, phases, end.place) {

@@ -25,6 +25,7 @@ abbrev pub IsOutcomeCaused : Script → Report → ℕ → ℕ → Outcome → T
 IsOutcomeCaused s r worker id (outcome.Worn seen) = IsSpent s r worker (spent.Lookups id seen)
 IsOutcomeCaused s r worker id x = ⊤
 
+-- what an attempt told of a worn counter has its cause
 abbrev pub IsAttemptCaused : Script → Report → ℕ → Attempt → Type 0
 IsAttemptCaused s r worker a = IsOutcomeCaused s r worker a.id a.outcome
 

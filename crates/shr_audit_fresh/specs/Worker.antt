@@ -27,6 +27,7 @@ IsOwnBelow r worker = (k later : ℕ) → k < later → AreBelow (of_answer r (s
 abbrev pub IsOnSeenAt : Script → Report → ℕ → ℕ → Type 0
 IsOnSeenAt s r worker k = (c : Command) (a : Answered) → command_at s (serial_of worker k) ≡ Some c → answer_at r (serial_of worker k) ≡ Some a → AllByRecursion (λ n. length (decls_on s) ≤ n) (pool_seen a)
 
+-- the same of all answers of the worker
 abbrev pub IsOnSeen : Script → Report → ℕ → Type 0
 IsOnSeen s r worker = (k : ℕ) → IsOnSeenAt s r worker k
 
@@ -69,6 +70,7 @@ abbrev pub makes : Command → Option ℕ
 makes (MkGroup group) = Some group
 makes c = None
 
+-- the group that a reply says is not made, if it says so
 abbrev pub unmade : Reply → Option ℕ
 unmade (reply.NotMade group) = Some group
 unmade x = None

@@ -113,7 +113,8 @@ fn note_walks(
     worker: usize,
 ) -> Result<(), Memory>
     ensures { OnOk result (AreLeastOfGroups (ShownByWalks report.now worker []) firsts.old
-        → AreLeastOfGroups (ShownByWalks report.now worker (walks_of report.now worker)) firsts.new) }
+        → AreLeastOfGroups (ShownByWalks report.now worker (walks_of report.now worker))
+        firsts.new) }
 {
     for walk in walks_of(report, worker) {
         note_walk(firsts, report, worker, walk)?;

@@ -82,7 +82,8 @@ fn is_walk_started(report: &Report, begun: &[Cited], worker: usize, walk: &WalkR
 
 // Whether it is so of what each of these walks cites.
 fn are_walks_started(report: &Report, begun: &[Cited], worker: usize, walks: &[WalkRecord]) -> bool
-    ensures { Decides result (EachItem (λ w. IsWalkStarted report.now begun.now worker w) walks.now) }
+    ensures { Decides result (EachItem (λ w. IsWalkStarted report.now begun.now worker w)
+        walks.now) }
 {
     for walk in walks {
         if !is_walk_started(report, begun, worker, walk) {

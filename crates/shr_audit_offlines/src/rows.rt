@@ -160,7 +160,8 @@ fn is_worker_caused(
     worker: usize,
 ) -> Result<bool, Memory>
     requires { AreOfflineNotes script.now report.now notes.now }
-    ensures { IfOk result (λ b. Decides b ((k : ℕ) → IsOfflineCausedAt script.now report.now worker k)) }
+    ensures { IfOk result (λ b. Decides b ((k : ℕ)
+        → IsOfflineCausedAt script.now report.now worker k)) }
 {
     let carried = carried_of(alloc, report, worker)?;
     for number in 0..count_answers(report, worker) {

@@ -29,6 +29,7 @@ moved_in_try f s place w pool x = cond (is_place place (pool_place s pool w.node
 abbrev pub pass_next : PassRecord → ℕ
 pass_next p = p.next
 
+-- what a pass took over of the deferred word
 abbrev pub nr_of : PassRecord → ℕ
 nr_of p = p.nr
 

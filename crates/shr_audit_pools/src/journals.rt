@@ -46,7 +46,8 @@ pub(crate) fn free_after(free: u32, entry: &PlainEntry) -> Option<u32>
 
 // How many units a journal leaves free, if each entry has the outcome that those before it leave it.
 fn free_of(entries: &[PlainEntry]) -> Option<u32>
-    ensures some { IfSome result (λ free. IsPlainJournal entries.now × (free ≡ free_of entries.now)) }
+    ensures some { IfSome result (λ free. IsPlainJournal entries.now
+        × (free ≡ free_of entries.now)) }
     ensures none { IfNone result (IsPlainJournal entries.now → ⊥) }
 {
     let mut free = 0;

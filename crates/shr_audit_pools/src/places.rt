@@ -48,7 +48,8 @@ fn index_from(ends: &[UnitsEnd], key: usize) -> usize
 pub(crate) fn index_of(ends: &[UnitsEnd], place: PoolPlace) -> Option<usize>
     requires { AreShelved ends.now }
     ensures within { IfSome result (λ k. k < length ends.now) }
-    ensures some { IfSome result (λ k. slice_get ends.now k ≡ journal_printed_at ends.now (named_place place)) }
+    ensures some { IfSome result (λ k. slice_get ends.now k
+        ≡ journal_printed_at ends.now (named_place place)) }
     ensures none { IfNone result (journal_printed_at ends.now (named_place place) ≡ None) }
 {
     let key = key_of(place);

@@ -32,8 +32,8 @@ pub struct AnswerAt {
 // Whether the entry that is cited is the Release of so many units by this command.
 fn is_release(report: &Report, cite: Cite, at: AnswerAt, units: u32) -> bool
     requires { AreKept report.now }
-    ensures { Decides result (slice_get (units_journal report.now (named_place cite.place)) cite.entry
-        ≡ Some (plain.Release (serial_of at.worker at.number) units)) }
+    ensures { Decides result (slice_get (units_journal report.now (named_place cite.place))
+        cite.entry ≡ Some (plain.Release (serial_of at.worker at.number) units)) }
 {
     match entry_at(report, cite) {
         Some(
@@ -53,8 +53,8 @@ fn is_release(report: &Report, cite: Cite, at: AnswerAt, units: u32) -> bool
 // Whether it is the Grab of this command, and got a unit or not.
 fn is_grab(report: &Report, cite: Cite, at: AnswerAt, got: bool) -> bool
     requires { AreKept report.now }
-    ensures { Decides result (slice_get (units_journal report.now (named_place cite.place)) cite.entry
-        ≡ Some (plain.Grab (serial_of at.worker at.number) got)) }
+    ensures { Decides result (slice_get (units_journal report.now (named_place cite.place))
+        cite.entry ≡ Some (plain.Grab (serial_of at.worker at.number) got)) }
 {
     match entry_at(report, cite) {
         Some(PlainEntry::Grab { by, got: grabbed }) => {

@@ -154,7 +154,8 @@ pub(crate) fn is_free_after(
 ) -> bool
     requires kept { AreKept report.now }
     requires stocks { AreStocksOf report.now.units.items stocks.now }
-    ensures { Decides result (IsFreeAfter (units_journal report.now (named_place place)) entries free) }
+    ensures { Decides result (IsFreeAfter (units_journal report.now (named_place place)) entries
+        free) }
 {
     match index_of(report.units.as_slice(), place) {
         Some(k) => is_free_in(&stocks[k], entries, free),

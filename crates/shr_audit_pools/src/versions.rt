@@ -84,7 +84,8 @@ fn note_replies(
 // at its place, and none is below one before it there.
 fn is_part_versed(alloc: Global, script: &Script, part: &WorkerPart) -> Result<bool, Memory>
     requires stand { PoolWalksByCommand part.now.plain.items }
-    requires own { EachItem (λ w. w.by.command < length part.now.answers.items) part.now.plain.items }
+    requires own { EachItem (λ w. w.by.command < length part.now.answers.items)
+        part.now.plain.items }
     requires few { EachItem (λ w. length w.tries.items ≤ 256) part.now.plain.items }
     ensures { IfOk result (λ b. Decides b (IsPartVersed script.now part.now)) }
 {

@@ -91,7 +91,8 @@ fn is_pass_right(
     requires kept { AreKept report.now }
     requires stocks { AreStocksOf report.now.units.items stocks.now }
     requires small { at.worker < 65536 }
-    ensures { Decides result (IsPlainPass report.now (named_place at.place) decl.now priority pass.now
+    ensures { Decides result (IsPlainPass report.now (named_place at.place) decl.now
+        priority pass.now
         (reclaims_by at.worker at.walk (units_journal report.now (named_place at.place)))) }
 {
     let entries = entries_at(report, at.place).len();

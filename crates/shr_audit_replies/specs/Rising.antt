@@ -38,5 +38,6 @@ abbrev pub GoesOnBy : Option Serial → ℕ → List Last → List Last → Bool
 GoesOnBy None journal old new went = (went ≡ true) × (new ≡ old)
 GoesOnBy (Some by) journal old new went = NotesCommand journal by old new went
 
+-- the same for an entry: one that no command made goes on, and changes nothing
 abbrev pub EntryGoesOn : ℕ → Entry → List Last → List Last → Bool → Type 0
 EntryGoesOn journal e old new went = GoesOnBy (by_of e) journal old new went

@@ -101,7 +101,8 @@ pub fn behind_round<'a>(
 /// Whether the walks are those over these groups, or the first of them where not the `whole` of them
 /// need be there. Our own.
 pub fn is_row_made(walks: &[WalkRecord], groups: &[u16], control: Control, whole: bool) -> bool
-    ensures { Decides result (IsMadeAsDue whole (jobs_over control groups.now) (jobs_made walks.now)) }
+    ensures { Decides result (IsMadeAsDue whole (jobs_over control groups.now)
+        (jobs_made walks.now)) }
 {
     match behind_row(walks, groups, control, whole) {
         Some(rest) => rest.is_empty(),

@@ -14,6 +14,7 @@ group_made_in (Begin g) = None
 group_made_in (Done g) = None
 group_made_in (Made g) = Some g
 
+-- the group that an entry says is done, if it says so
 abbrev pub done_in : TreeEntry → Option ℕ
 done_in (Begin g) = None
 done_in (Done g) = Some g

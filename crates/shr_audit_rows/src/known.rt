@@ -62,7 +62,8 @@ fn is_so(pooled: &mut Pooled, script: &Script, report: &Report, asked: Asked) ->
 // Whether all of these are so, in the order of their entries.
 fn are_so(alloc: Global, script: &Script, report: &Report, asked: &[Asked]) -> Result<bool, Memory>
     requires { IsNonDecreasingBy (λ (a : Asked). a.entry) asked.now }
-    ensures { IfOk result (λ b. Decides b (EachItem (IsAskedRight script.now report.now) asked.now)) }
+    ensures { IfOk result (λ b. Decides b (EachItem (IsAskedRight script.now report.now)
+        asked.now)) }
 {
     let mut pooled = Pooled::start(alloc)?;
     for n in 0..asked.len() {

@@ -77,7 +77,8 @@ fn is_way_so(
     entry: u32,
 ) -> bool
     requires { AreRowNotes script.now report.now notes.now }
-    ensures { Decides result (IsSomeAnd group (λ g. IsInTheWay script.now report.now g child entry)) }
+    ensures { Decides result (IsSomeAnd group (λ g. IsInTheWay script.now report.now g child
+        entry)) }
 {
     match group {
         Some(group) => notes

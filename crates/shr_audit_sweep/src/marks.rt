@@ -77,7 +77,8 @@ fn mark_all(script: &Script, report: &Report, marks: &mut Vec<bool>) -> bool
     requires within { (worker : ℕ) → worker < length script.now.workers.items
         → EachItem (IsSweptWithin (length (parents_of script.now)) script.now.nodes)
         (sweep_walks script.now report.now worker) }
-    requires blank { AreMarked (length (parents_of script.now)) script.now.nodes [] marks.old.items }
+    requires blank { AreMarked (length (parents_of script.now)) script.now.nodes []
+        marks.old.items }
     ensures once { Decides result (AreWalkedOnce (all_sweep_walks script.now report.now)) }
     ensures marked { IsTrue result → AreMarked (length (parents_of script.now)) script.now.nodes
         (all_sweep_walks script.now report.now) marks.new.items }

@@ -66,7 +66,8 @@ fn is_placed(script: &Script, report: &Report, place: Place, entry: &Entry) -> b
 
 // Whether each of these entries is.
 fn are_placed(script: &Script, report: &Report, place: Place, entries: &[Entry]) -> bool
-    ensures { Decides result (EachItem (λ e. IsDrainPlaced script.now report.now place e) entries.now) }
+    ensures { Decides result (EachItem (λ e. IsDrainPlaced script.now report.now place e)
+        entries.now) }
 {
     for entry in entries {
         if !is_placed(script, report, place, entry) {

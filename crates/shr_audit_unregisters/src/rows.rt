@@ -140,7 +140,8 @@ pub fn are_caused(script: &Script, report: &Report, counted: &Counted, notes: &N
     requires order { AreInOrder report.now.places.items }
     requires counted { IsCountOf script.now report.now counted.now }
     requires notes { AreNotes report.now notes.now }
-    ensures { Decides result ((worker k : ℕ) → IsUnregisterCausedAt script.now report.now worker k) }
+    ensures { Decides result ((worker k : ℕ) → IsUnregisterCausedAt script.now report.now worker
+        k) }
 {
     for worker in 0..report.workers.len() {
         if !is_worker_caused(script, report, counted, notes, worker) {

@@ -43,8 +43,8 @@ pub fn set_pin<R: Wait>(
     pinned: bool,
 ) -> Answered
     requires target { IsTargetOf (shape_of worker.old.shared.core) target }
-    ensures pinned { SetPinGives worker.old.shared worker.old.by target.group target.node target.decl
-        key.now pinned result worker.old.state worker.new.state }
+    ensures pinned { SetPinGives worker.old.shared worker.old.by target.group target.node
+        target.decl key.now pinned result worker.old.state worker.new.state }
     ensures same { IsSame worker.old worker.new }
 {
     let Target { group, node, decl } = target;

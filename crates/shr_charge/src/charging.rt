@@ -233,7 +233,8 @@ impl Charge {
         requires calls { (uses_of seat.old).uncharges < 2 ^ 25 }
         requires spare { depth_of self.now.shape.parents.items group ≤ uses.old.spare }
         ensures seat { IsChargeSeat self.now seat.new }
-        ensures uncharges { UnchargesOne self.now.shape by group seat.old seat.new uses.old uses.new }
+        ensures uncharges { UnchargesOne self.now.shape by group seat.old seat.new uses.old
+            uses.new }
     {
         self.lower(seat, uses, by, group, 0, true);
     }

@@ -207,7 +207,8 @@ impl Charge {
         ensures tells { MakeTells (hierarchy_of self.now.shape) group result (tree_of seat.old)
             (tree_of seat.new).known }
         ensures view { MakeLeaves group result (tree_of seat.old) (tree_of seat.new) }
-        ensures knows { KnowsTree (hierarchy_of self.now.shape) (tree_of seat.old) (tree_of seat.new) }
+        ensures knows { KnowsTree (hierarchy_of self.now.shape) (tree_of seat.old)
+            (tree_of seat.new) }
         ensures uses { uses_of seat.new ≡ uses_of seat.old }
         ensures standing { standing_of seat.new ≡ standing_of seat.old }
     {
@@ -228,9 +229,11 @@ impl Charge {
         requires begun { IsSome (begin_of (tree_of seat.old).known group) }
         requires seat { IsChargeSeat self.now seat.old }
         ensures seat { IsChargeSeat self.now seat.new }
-        ensures tells { DoneTells (hierarchy_of self.now.shape) group result (tree_of seat.old) (tree_of seat.new).known }
+        ensures tells { DoneTells (hierarchy_of self.now.shape) group result (tree_of seat.old)
+            (tree_of seat.new).known }
         ensures view { DoneLeaves group result (tree_of seat.old) (tree_of seat.new) }
-        ensures knows { KnowsTree (hierarchy_of self.now.shape) (tree_of seat.old) (tree_of seat.new) }
+        ensures knows { KnowsTree (hierarchy_of self.now.shape) (tree_of seat.old)
+            (tree_of seat.new) }
         ensures uses { uses_of seat.new ≡ uses_of seat.old }
         ensures standing { standing_of seat.new ≡ standing_of seat.old }
     {

@@ -46,6 +46,7 @@ abbrev pub among : {A : Type 0} → (Event → List A) → List Event → List A
 among f [] = []
 among f (e ∷ es) = f e ++ among f es
 
+-- the count that an event is, if it is one
 abbrev pub seen_in : Event → List Counted
 seen_in (counted x) = x ∷ []
 seen_in (made x) = []
@@ -57,6 +58,7 @@ seen_in (raised x) = []
 seen_in (cleared x) = []
 seen_in (mapped x) = []
 
+-- the entry that an event made, if it made one
 abbrev pub made_in : Event → List Made
 made_in (counted x) = []
 made_in (made x) = x ∷ []
@@ -68,6 +70,7 @@ made_in (raised x) = []
 made_in (cleared x) = []
 made_in (mapped x) = []
 
+-- the lookup that an event is, if it is one
 abbrev pub attempts_in : Event → List Tried
 attempts_in (counted x) = []
 attempts_in (made x) = []
@@ -79,6 +82,7 @@ attempts_in (raised x) = []
 attempts_in (cleared x) = []
 attempts_in (mapped x) = []
 
+-- the lookup word that an event loaded, if it loaded one
 abbrev pub loaded_in : Event → List Loaded
 loaded_in (counted x) = []
 loaded_in (made x) = []
@@ -90,6 +94,7 @@ loaded_in (raised x) = []
 loaded_in (cleared x) = []
 loaded_in (mapped x) = []
 
+-- the entry of the pool that an event made, if it made one
 abbrev pub turns_in : Event → List Turn
 turns_in (counted x) = []
 turns_in (made x) = []
@@ -101,6 +106,7 @@ turns_in (raised x) = []
 turns_in (cleared x) = []
 turns_in (mapped x) = []
 
+-- the place whose bit an event set, if it set one
 abbrev pub sets_in : Event → List ℕ
 sets_in (counted x) = []
 sets_in (made x) = []
@@ -112,6 +118,7 @@ sets_in (raised x) = x ∷ []
 sets_in (cleared x) = []
 sets_in (mapped x) = []
 
+-- the place whose bit an event cleared, if it cleared one
 abbrev pub cleared_in : Event → List ℕ
 cleared_in (counted x) = []
 cleared_in (made x) = []
@@ -123,6 +130,7 @@ cleared_in (raised x) = []
 cleared_in (cleared x) = x ∷ []
 cleared_in (mapped x) = []
 
+-- the bit word that an event loaded, if it loaded one
 abbrev pub maps_in : Event → List Mapped
 maps_in (counted x) = []
 maps_in (made x) = []

@@ -75,6 +75,7 @@ IsSo ids t (raised k) = Unit {0}
 IsSo ids t (cleared k) = Unit {0}
 IsSo ids t (mapped x) = (k : ℕ) → k < places_in ids → map_of k ≡ x.map → bit_at x.bits (place_bit k) ≡ t.bits k
 
+-- the moment after a deed
 abbrev pub moment_next : Moment → Deed Event → Moment
 moment_next t d = moment_after t d.act
 
@@ -114,6 +115,7 @@ holders_after h seat (raised k) = h
 holders_after h seat (cleared k) = h
 holders_after h seat (mapped x) = h
 
+-- who holds each id after a deed
 abbrev pub holders_next : Holders → Deed Event → Holders
 holders_next h d = holders_after h d.seat d.act
 
@@ -155,6 +157,7 @@ users_after u seat (raised k) = u
 users_after u seat (cleared k) = u
 users_after u seat (mapped x) = u
 
+-- who uses each id after a deed
 abbrev pub users_next : Holders → Deed Event → Holders
 users_next u d = users_after u d.seat d.act
 
@@ -179,6 +182,7 @@ IsOutOfUse u (Registered decl id from) = Unit {0}
 IsOutOfUse u (Unregistered decl id to) = Unit {0}
 IsOutOfUse u (Idle id) = u id ≡ []
 
+-- an event is one that the users of its id allow
 abbrev pub IsInUse : Holders → ℕ → Event → Type 0
 IsInUse u seat (counted x) = Unit {0}
 IsInUse u seat (made x) = IsMadeInUse u seat (place_id x.place) x.entry

@@ -58,6 +58,7 @@ abbrev pub after_move : Amounts → Move → Amounts
 after_move w (took x) p = cond (is_place p x.place) 0 (w p)
 after_move w (gave x) p = cond (is_place p x.place) ((w p + x.amount) % 2 ^ 64) (w p)
 
+-- the amounts after a deed
 abbrev pub amounts_next : Amounts → Deed Move → Amounts
 amounts_next w d = after_move w d.act
 

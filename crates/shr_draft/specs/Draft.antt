@@ -50,33 +50,43 @@ last_changed change xs = kept (with_last change xs.items)
 
 -- ---- what is kept of a worker and of a list
 
+-- a walk as its draft has it
 abbrev pub drafted_walk : WalkDraft → WalkRecord
 drafted_walk w = record { by = w.by; group = w.head.group; node = w.head.node; priority = w.head.priority; nofs = w.head.nofs; maps = kept w.maps.items; attempts = kept w.attempts.items; answer = w.head.answer }
 
+-- the same of each walk
 abbrev pub drafted_walks : List WalkDraft → List WalkRecord
 drafted_walks walks = map drafted_walk walks
 
+-- a walk of the pools as its draft has it
 abbrev pub drafted_plain : PlainDraft → PlainWalk
 drafted_plain w = record { by = w.by; node = w.head.node; priority = w.head.priority; tries = kept w.tries.items; answer = w.head.answer }
 
+-- the same of each walk of the pools
 abbrev pub plains_of : List PlainDraft → List PlainWalk
 plains_of walks = map drafted_plain walks
 
+-- a worker's part as its draft has it
 abbrev pub drafted_part : PartDraft → WorkerPart
 drafted_part p = record { answers = kept p.answers.items; walks = kept (drafted_walks p.walks.items); carries = kept p.carries.items; plain = kept (plains_of p.plain.items); isolations = kept p.isolations.items }
 
+-- a list as its draft has it
 abbrev pub list_of : ListDraft → PlaceEnd
 list_of l = record { place = l.place; entries = kept l.entries.items; items = kept l.items.items }
 
+-- a pool's journal on a node as its draft has it
 abbrev pub drafted_pool : UnitsDraft → UnitsEnd
 drafted_pool u = record { pool = u.head.pool; node = u.head.node; entries = kept u.entries.items; free = u.head.free }
 
+-- the same of each worker's part
 abbrev pub drafted_parts : List PartDraft → List WorkerPart
 drafted_parts parts = map drafted_part parts
 
+-- the same of each list
 abbrev pub lists_of : List ListDraft → List PlaceEnd
 lists_of lists = map list_of lists
 
+-- the same of each journal of a pool
 abbrev pub pools_of : List UnitsDraft → List UnitsEnd
 pools_of units = map drafted_pool units
 
@@ -186,6 +196,7 @@ with_unit entry ends = with_last (λ end. record end { entries = with_more entry
 
 -- ---- what a line adds to a report
 
+-- the report with what a line says of the whole
 abbrev pub with_said : Said → Report → Report
 with_said (said.Version version) r = record r { version = version }
 with_said (said.Sizes nodes ids) r = record r { nodes = nodes; ids = ids }

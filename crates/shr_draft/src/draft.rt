@@ -74,7 +74,8 @@ impl Draft {
 
     /// Another line. Want of memory alone is an error, after which the draft says nothing. Our own.
     pub fn take(&mut self, said: Said) -> Result<(), Memory>
-        ensures { IfOk result (λ _. drafted_report self.new ≡ with_said said (drafted_report self.old)) }
+        ensures { IfOk result (λ _. drafted_report self.new
+            ≡ with_said said (drafted_report self.old)) }
     {
         match said {
             Said::Version { version } => self.version = version,

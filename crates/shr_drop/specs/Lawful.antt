@@ -28,6 +28,7 @@ pub record Placed : Type 0 where
   pub place : ℕ
   pub entry : Entry
 
+-- an entry that was made, with its place alone
 abbrev pub placed : Made → Placed
 placed m = record { place = m.place; entry = m.entry }
 

@@ -27,11 +27,12 @@ pub struct Visited {
 /// back after it.
 pub(crate) fn visit_all<R: Wait>(lister: &Lister<R>, seats: &mut Seats, budget: u32) -> Visited
     requires shared { IsShared (listing_of lister.now).shared }
-    requires place { let a = listing_of lister.now in IsPlaceOfShape (shape_of a.shared.core) a.place }
+    requires place { let a = listing_of lister.now in IsPlaceOfShape (shape_of a.shared.core)
+        a.place }
     requires ready { let a = listing_of lister.now in IsReady a.shared a.place seats.old.cache }
     requires budget { budget ≤ 20000 }
-    ensures kept { let a = listing_of lister.now in Keeps a.shared (place_number a.place) a.walk a.by
-        a.policy seats.old.cache seats.new.cache }
+    ensures kept { let a = listing_of lister.now in Keeps a.shared (place_number a.place) a.walk
+        a.by a.policy seats.old.cache seats.new.cache }
     ensures same { IsSameElse seats.old seats.new }
     ensures isolated { let a = listing_of lister.now in AreIsolated a.shared (visitor_in a) budget
         result.visits result.freed result.ending (state_of seats.old) (state_of seats.new) }

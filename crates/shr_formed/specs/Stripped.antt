@@ -7,6 +7,7 @@ use Rattle.shr_base.specs.declared.ends.MapEnd.{MapEnd}
 abbrev pub Where : Type 0
 Where = ℕ × ℕ × ℕ
 
+-- the word of a unit, of a group on a node
 abbrev pub at_unit : ℕ → ℕ → ℕ → Where
 at_unit node group unit = (node, group, unit)
 

@@ -23,6 +23,7 @@ pub record UnitsEndValue : Type 0 where
   pub entries : List PlainEntry
   pub free : ℕ
 
+-- what a record of the end says
 abbrev pub units_end_value : UnitsEnd → UnitsEndValue
 units_end_value end = record { pool = end.pool; node = end.node; entries = end.entries.items; free = end.free }
 

@@ -21,6 +21,7 @@ begins_short : {A : Type 0} (xs ys : List A) → Begins xs ys → length xs ≤ 
 begins_short xs ys b = let long = ap length b.1 in let sum = length-append xs b.0 in omega (arith, long, sum)
 
 module _ (worker walk : ℕ) where
+  -- a view that stays
   pub walks_refl : (t : RoomView PlainEntry) → WalksUnits worker walk t t
   walks_refl t = record {
     more = [];
@@ -44,6 +45,7 @@ module _ (worker walk : ℕ) where
     seen = λ j c at. r.seen j c (at_begins t.seen u.seen j c (w.counts, w.seen) at);
   }
 
+  -- one walk of units goes on where another ended
   pub walks_trans : (t u v : RoomView PlainEntry) → WalksUnits worker walk t u → WalksUnits worker walk u v → WalksUnits worker walk t v
   walks_trans t u v a b = record {
     more = a.more ++ b.more;
@@ -59,9 +61,11 @@ module _ (worker walk : ℕ) where
   }
 
 module _ (i worker walk : ℕ) where
+  -- a seat that stays
   pub keeps_refl : (s : UnitSeat) → KeepsUnits i worker walk s s
   keeps_refl s = record { table = refl; bare = λ h. h; standing = refl; here = walks_refl worker walk (part_of s.me.0 i); others = λ k no. refl }
 
+  -- the same of seats, one call after another
   pub keeps_trans : (s t u : UnitSeat) → KeepsUnits i worker walk s t → KeepsUnits i worker walk t u → KeepsUnits i worker walk s u
   keeps_trans s t u a b = record {
     table = b.table ∙ a.table;

@@ -18,6 +18,7 @@ sizes_for pools nodes = record { ids = cond (pools == 0) 1 pools; nodes = nodes;
 abbrev pub settings_of : Script → List Setting
 settings_of s = map setting_by s.pools.items
 
+-- the sizes of a script's pools
 abbrev pub pool_sizes : Script → Sizes
 pool_sizes s = sizes_for (length s.pools.items) s.nodes
 

@@ -36,6 +36,7 @@ part_of v i = part_at v.rooms i
 abbrev pub with_parts : View → List (RoomView PlainEntry) → View
 with_parts v parts = record v { rooms = parts }
 
+-- the view with one room changed
 abbrev pub with_part : View → ℕ → RoomView PlainEntry → View
 with_part v i t = with_parts v (with_part_at v.rooms i t)
 

@@ -28,8 +28,8 @@ pub struct PoolsEnd {
 // One pool and node more, if it has a journal.
 fn add_end(ends: &mut Log<UnitsEnd>, place: Place, slot: Slot) -> Result<(), Memory>
     requires { place.id < 256 }
-    ensures { OnOk result (map units_end_value ends.new.items ≡ map units_end_value ends.old.items ++ units_ends
-        place slot.journal.items) }
+    ensures { OnOk result (map units_end_value ends.new.items ≡ map units_end_value ends.old.items
+        ++ units_ends place slot.journal.items) }
 {
     let Slot { journal, free } = slot;
     if journal.len() == 0 {
@@ -47,8 +47,8 @@ fn add_end(ends: &mut Log<UnitsEnd>, place: Place, slot: Slot) -> Result<(), Mem
 fn add_where(ends: &mut Log<UnitsEnd>, place: Place, slot: Slot, whole: bool) -> bool
     requires { place.id < 256 }
     ensures whole { result ≡ true → whole ≡ true }
-    ensures added { result ≡ true → map units_end_value ends.new.items ≡ map units_end_value ends.old.items
-        ++ units_ends place slot.journal.items }
+    ensures added { result ≡ true → map units_end_value ends.new.items
+        ≡ map units_end_value ends.old.items ++ units_ends place slot.journal.items }
 {
     whole && add_end(ends, place, slot).is_ok()
 }
@@ -67,8 +67,8 @@ fn take_ends(
     ensures len { slots_len closed.new.slots ≡ slots_len closed.old.slots }
     ensures taken { (k : ℕ) → k < row_count sizes
         → slice_index_or (slots_filled closed.new.slots) k false ≡ false }
-    ensures ends { IfOk result (λ ends. map units_end_value ends.items ≡ units_ends_below sizes (row_count
-        sizes) (entries_at (slots_items closed.old.slots))) }
+    ensures ends { IfOk result (λ ends. map units_end_value ends.items
+        ≡ units_ends_below sizes (row_count sizes) (entries_at (slots_items closed.old.slots))) }
 {
     let mut ends = Log::new(alloc);
     let mut whole = true;

@@ -28,7 +28,8 @@ fn zeros(alloc: Global, count: usize) -> Result<Vec<u64>, Memory>
 
 // So many rooms without an entry.
 fn bare_rooms(alloc: Global, count: usize) -> Result<Vec<Slot>, Memory>
-    ensures { IfOk result (λ v. (length v.items ≡ count) × Each (λ s. room_journal s ≡ []) v.items) }
+    ensures { IfOk result (λ v. (length v.items ≡ count)
+        × Each (λ s. room_journal s ≡ []) v.items) }
 {
     let mut rooms = Vec::new(alloc);
     for _room in 0..count {

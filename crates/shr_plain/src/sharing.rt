@@ -43,7 +43,8 @@ impl Pools {
         requires first { IsFirstSeat (plain_standing seat.old) }
         requires other { IsPlainSeat self.now other }
         ensures seat { IsPlainSeat self.now seat.new }
-        ensures state { plain_state_of seat.new ≡ joined_state (plain_state_of seat.old) (plain_state_of other) }
+        ensures state { plain_state_of seat.new
+            ≡ joined_state (plain_state_of seat.old) (plain_state_of other) }
         ensures standing { plain_standing seat.new ≡ (
           with_join (plain_standing seat.old).0,
           with_join

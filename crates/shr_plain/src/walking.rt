@@ -122,7 +122,8 @@ impl Pools {
         ensures standing { plain_standing seat.new ≡ plain_standing seat.old }
         ensures walks { seat.new.walks ≡ seat.old.walks }
         ensures tried { AreTried self.now.settings.items self.now.sizes walk.by walk.number
-            walk.node walk.priority 0 tries.new.items (plain_state_of seat.old) (plain_state_of seat.new) }
+            walk.node walk.priority 0 tries.new.items (plain_state_of seat.old)
+            (plain_state_of seat.new) }
         ensures answers { Answers (length self.now.settings.items) tries.new.items result }
     {
         if tries.reserve(self.settings.len()).is_err() {
@@ -167,8 +168,8 @@ impl Pools {
         ensures seat { IsPlainSeat self.now seat.new }
         ensures standing { plain_standing seat.new ≡ plain_standing seat.old }
         ensures spare { seat.new.walks.spare + 1 ≡ seat.old.walks.spare }
-        ensures walked { PlainWalkGives self.now.settings.items self.now.sizes by node priority result
-            (plain_state_of seat.old) (plain_state_of seat.new) }
+        ensures walked { PlainWalkGives self.now.settings.items self.now.sizes by node priority
+            result (plain_state_of seat.old) (plain_state_of seat.new) }
     {
         let walk = Walk {
             by,

@@ -128,7 +128,8 @@ impl Jobs {
         requires pass { IsJobPass self.old.queue pass × IsHelper (pass_view pass) }
         ensures queue { self.new.queue ≡ self.old.queue }
         ensures first { IsJobPass self.new.queue self.new.first
-            × (pass_view self.new.first ≡ joined_pass_view (pass_view self.old.first) (pass_view pass)) }
+            × (pass_view self.new.first ≡ joined_pass_view (pass_view self.old.first)
+            (pass_view pass)) }
         ensures popped { IsWhole (pass_view self.new.first).standing
             → ArePopped (pass_view self.new.first) }
         ensures worked { (nodes groups : ℕ) → IsWhole (pass_view self.new.first).standing

@@ -77,9 +77,11 @@ head_of w = record { group = w.group; node = w.node; priority = w.priority; nofs
 abbrev pub plain_head_of : read.PlainHead → PlainHead
 plain_head_of w = record { node = w.node; priority = w.priority; answer = w.answer }
 
+-- what was read of an isolation, in the words of the draft
 abbrev pub isolation_head_of : read.IsolationHead → IsolationHead
 isolation_head_of i = record { place = i.place; budget = i.budget; visits = i.visits; freed = i.freed; ending = i.ending }
 
+-- the same of a pool's journal
 abbrev pub units_head_of : read.UnitsHead → UnitsHead
 units_head_of u = record { pool = u.pool; node = u.node; free = u.free }
 

@@ -50,7 +50,8 @@ fn charge_in_rounds<R: Wait>(worker: &mut Worker<'_, R>, group: u16) -> Result<C
     requires group { group < groups_in (shape_of worker.old.shared.core) }
     requires calls { spent_by worker.old.state.uses ≡ None }
     ensures admitted { let admission = admission_of result in
-        AdmissionGives worker.old.shared worker.old.by group admission worker.old.state worker.new.state }
+        AdmissionGives worker.old.shared worker.old.by group admission worker.old.state
+        worker.new.state }
     ensures room { LeavesRoom group (admission_of result) worker.new }
     ensures same { IsSame worker.old worker.new }
 {

@@ -23,9 +23,11 @@ fn walk_node<R: Wait>(
     requires groups { All (λ g. g < groups_in (shape_of worker.old.shared.core)) groups.now }
     requires priority { priority ≤ 12 }
     ensures all { let jobs = jobs_on node priority groups.now in
-        OnOk result (AllMade worker.old.shared worker.old.by jobs worker.old.state worker.new.state) }
+        OnOk result (AllMade worker.old.shared worker.old.by jobs worker.old.state
+        worker.new.state) }
     ensures first { let jobs = jobs_on node priority groups.now in
-        OnErr result (FirstMade worker.old.shared worker.old.by jobs worker.old.state worker.new.state) }
+        OnErr result (FirstMade worker.old.shared worker.old.by jobs worker.old.state
+        worker.new.state) }
     ensures same { IsSame worker.old worker.new }
 {
     for group in groups {
@@ -49,9 +51,11 @@ pub(crate) fn walk_round<R: Wait>(
     requires group { group < groups_in (shape_of worker.old.shared.core) }
     requires priority { priority ≤ 12 }
     ensures all { let due = due_in worker.old.shared priority group in
-        OnOk result (AllMade worker.old.shared worker.old.by due worker.old.state worker.new.state) }
+        OnOk result (AllMade worker.old.shared worker.old.by due worker.old.state
+        worker.new.state) }
     ensures first { let due = due_in worker.old.shared priority group in
-        OnErr result (FirstMade worker.old.shared worker.old.by due worker.old.state worker.new.state) }
+        OnErr result (FirstMade worker.old.shared worker.old.by due worker.old.state
+        worker.new.state) }
     ensures same { IsSame worker.old worker.new }
 {
     let order = worker.preorder(group)?;

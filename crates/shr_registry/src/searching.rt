@@ -47,7 +47,8 @@ fn other_live_id(core: &Core, seat: &mut Seat, known: u16, decl: u8) -> Option<u
     requires seat { IsOf core.now seat.old }
     requires pool { HasPool (shape_of core.now) (view_of seat.old) }
     requires known { let pool = pool_of (shape_of core.now) (view_of seat.old) in
-        known < (shape_of core.now).ids → (is_live known pool && (decl_of known pool == decl)) ≡ false }
+        known < (shape_of core.now).ids → (is_live known pool && (decl_of known pool == decl))
+        ≡ false }
     ensures seat { IsOf core.now seat.new }
     ensures loads { Loads (view_of seat.old) (view_of seat.new) }
     ensures found { IfSome result (λ id. IsLiveAs (shape_of core.now) (pool_of (shape_of core.now)

@@ -110,6 +110,7 @@ IsOfUse (Add by birth added key value) = Unit {0}
 IsOfUse (Scan worker walk asked policy visits freed stopped) = Unit {0}
 IsOfUse e = ⊥
 
+-- the entry is a Drained
 abbrev pub IsDrainedEntry : Entry → Type 0
 IsDrainedEntry (Drained by objects) = Unit {0}
 IsDrainedEntry e = ⊥

@@ -86,6 +86,7 @@ steps_by_worker worker (t ∷ ts) = cond (t.worker == worker) (t.step ∷ steps_
 abbrev pub DeferredAmounts : Type 0
 DeferredAmounts = Place → ℕ
 
+-- nothing is deferred at any place
 abbrev pub none_deferred : DeferredAmounts
 none_deferred place = 0
 

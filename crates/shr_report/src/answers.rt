@@ -63,8 +63,8 @@ fn put_placed<K: Sink>(
     requires word { length answer.now ≤ 8 }
     requires room { (141 ≤ rest) × (rest ≤ 512) }
     ensures printed { Prints K.written K.faults out.old out.new
-        (line (codes "reply") (numeral whose.worker ∷ numeral whose.command ∷ answer.now ∷ at_words at.now)
-        ++ drop rest piece.old) }
+        (line (codes "reply") (numeral whose.worker ∷ numeral whose.command ∷ answer.now
+        ∷ at_words at.now) ++ drop rest piece.old) }
     ensures numbers { IsAtNumbered at.now }
 {
     let start = piece.byte(rest, b'\n');

@@ -198,7 +198,8 @@ impl Piece {
     #[inline(always)]
     pub fn either(&mut self, end: usize, test: bool, yes: &[u8], no: &[u8]) -> usize
         requires { (length yes.now + 1 ≤ end) × (length no.now + 1 ≤ end) × (end ≤ 512) }
-        ensures text { drop result self.new ≡ 32 ∷ (choice test yes.now no.now ++ drop end self.old) }
+        ensures text { drop result self.new ≡ 32
+            ∷ (choice test yes.now no.now ++ drop end self.old) }
         ensures start { (end ≤ result + length yes.now + length no.now + 1) × (result ≤ end) }
     {
         if test {

@@ -93,7 +93,8 @@ pub fn pool_ends<K: Sink>(out: &mut Paper<K>, ends: &[UnitsEnd])
 // The line of a pool's deferred word.
 fn pool_word<K: Sink>(out: &mut Paper<K>, place: Place, amount: u64)
     ensures { Prints K.written K.faults out.old out.new
-        (line (codes "pooldeferred") (numeral place.id ∷ numeral place.node ∷ numeral amount ∷ [])) }
+        (line (codes "pooldeferred") (numeral place.id ∷ numeral place.node ∷ numeral amount
+        ∷ [])) }
 {
     put_line(
         out,

@@ -67,6 +67,7 @@ pub record IsRoomSound {E S : Type 0} (law : Law E) (entries : S → List E) (jo
 abbrev pub lock_index : ℕ → ℕ
 lock_index i = 8 * i
 
+-- where the count word of a room lies
 abbrev pub count_index : ℕ → ℕ
 count_index i = 8 * i + 1
 

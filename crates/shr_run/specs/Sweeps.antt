@@ -29,6 +29,7 @@ pub record IsWorkerDone (x : Shared) (w : WorkerResult) : Type 0 where
 abbrev pub worker_of : Helper → WorkerResult
 worker_of h = h.worker
 
+-- the items that a helper took from the queue
 abbrev pub popped_of : Helper → List SweepItem
 popped_of h = (passes.pass_view h.pass).popped
 

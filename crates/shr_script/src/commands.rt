@@ -20,7 +20,8 @@ use std::alloc::Global;
 #[tactic(auto, unfolding(crate::specs::Drafted::command_said))]
 #[inline(always)]
 pub fn put_command(alloc: Global, said: &Said, rest: Option<&[u8]>) -> Result<Command, Stopped>
-    ensures { AnswersAsRead result (command_said (said_state said.now) Put (words_left rest.entry)) }
+    ensures { AnswersAsRead result (command_said (said_state said.now) Put
+        (words_left rest.entry)) }
 {
     let (group, node, decl, key, value) = put_words(said, rest)?;
     let key = Text::of(alloc, key)?;
@@ -43,7 +44,8 @@ fn key_command(
     rest: Option<&[u8]>,
 ) -> Result<Command, Stopped>
     requires { names_key verb ≡ true }
-    ensures { AnswersAsRead result (command_said (said_state said.now) verb (words_left rest.entry)) }
+    ensures { AnswersAsRead result (command_said (said_state said.now) verb
+        (words_left rest.entry)) }
 {
     let (group, node, decl, key) = key_words(said, rest)?;
     let key = Text::of(alloc, key)?;
@@ -74,7 +76,8 @@ fn key_command(
 #[tactic(auto, unfolding(crate::specs::Drafted::command_said), using(shr_words::proofs::ClassLaws::flag_again))]
 fn walk_command(said: &Said, verb: Verb, rest: Option<&[u8]>) -> Result<Command, Stopped>
     requires { is_of_walk verb ≡ true }
-    ensures { AnswersAsRead result (command_said (said_state said.now) verb (words_left rest.entry)) }
+    ensures { AnswersAsRead result (command_said (said_state said.now) verb
+        (words_left rest.entry)) }
 {
     if let Verb::Shrink = verb {
         let (group, node, priority, nofs) = shrink_words(said, rest)?;
@@ -98,7 +101,8 @@ fn walk_command(said: &Said, verb: Verb, rest: Option<&[u8]>) -> Result<Command,
 #[tactic(auto, unfolding(crate::specs::Drafted::command_said))]
 fn pool_command(said: &Said, verb: Verb, rest: Option<&[u8]>) -> Result<Command, Stopped>
     requires { is_of_pool verb ≡ true }
-    ensures { AnswersAsRead result (command_said (said_state said.now) verb (words_left rest.entry)) }
+    ensures { AnswersAsRead result (command_said (said_state said.now) verb
+        (words_left rest.entry)) }
 {
     if let Verb::Release = verb {
         let (node, pool, units) = release_words(said, rest)?;
@@ -112,7 +116,8 @@ fn pool_command(said: &Said, verb: Verb, rest: Option<&[u8]>) -> Result<Command,
 // Of `isolate`.
 #[tactic(auto, unfolding(crate::specs::Drafted::command_said))]
 fn isolate_command(said: &Said, rest: Option<&[u8]>) -> Result<Command, Stopped>
-    ensures { AnswersAsRead result (command_said (said_state said.now) Isolate (words_left rest.entry)) }
+    ensures { AnswersAsRead result (command_said (said_state said.now) Isolate
+        (words_left rest.entry)) }
 {
     let (group, node, decl, budget) = isolate_words(said, rest)?;
     Ok(Command::Isolate {
@@ -131,7 +136,8 @@ pub fn command_in(
     verb: Verb,
     rest: Option<&[u8]>,
 ) -> Result<Command, Stopped>
-    ensures { AnswersAsRead result (command_said (said_state said.now) verb (words_left rest.entry)) }
+    ensures { AnswersAsRead result (command_said (said_state said.now) verb
+        (words_left rest.entry)) }
 {
     match verb {
         Verb::Put => put_command(alloc, said, rest),

@@ -26,8 +26,8 @@ use std::alloc::Global;
 
 #[tactic(auto, unfolding(crate::specs::Drafted::kind_step))]
 fn header_line(said: &mut Said, draft: &mut Draft, rest: Option<&[u8]>) -> Result<(), Stopped>
-    ensures { DoesAsRead (said_state said.new, drafted draft.new) result (kind_step (said_state said.old)
-        (drafted draft.old) Header (words_left rest.entry)) }
+    ensures { DoesAsRead (said_state said.new, drafted draft.new) result
+        (kind_step (said_state said.old) (drafted draft.old) Header (words_left rest.entry)) }
 {
     said.version = version_word(said, rest)?;
     said.phase = Phase::Sizes;
@@ -36,8 +36,8 @@ fn header_line(said: &mut Said, draft: &mut Draft, rest: Option<&[u8]>) -> Resul
 
 #[tactic(auto, unfolding(crate::specs::Drafted::kind_step))]
 fn size_line(said: &mut Said, draft: &mut Draft, rest: Option<&[u8]>) -> Result<(), Stopped>
-    ensures { DoesAsRead (said_state said.new, drafted draft.new) result (kind_step (said_state said.old)
-        (drafted draft.old) Size (words_left rest.entry)) }
+    ensures { DoesAsRead (said_state said.new, drafted draft.new) result
+        (kind_step (said_state said.old) (drafted draft.old) Size (words_left rest.entry)) }
 {
     let (nodes, ids) = size_words(said, rest)?;
     said.phase = Phase::Groups;
@@ -54,8 +54,9 @@ fn group_line<'a>(
     later: bool,
     rest: Option<&'a [u8]>,
 ) -> Result<(), Stopped>
-    ensures { DoesAsRead (said_state said.new, drafted draft.new) result (kind_step (said_state said.old)
-        (drafted draft.old) (Group later) (words_left rest.entry)) }
+    ensures { DoesAsRead (said_state said.new, drafted draft.new) result
+        (kind_step (said_state said.old) (drafted draft.old) (Group later)
+        (words_left rest.entry)) }
 {
     let (path, limit) = group_words(said, later, rest)?;
     group_rule(said, later, path)?;
@@ -78,8 +79,8 @@ fn cache_line<'a>(
     draft: &mut Draft,
     rest: Option<&'a [u8]>,
 ) -> Result<(), Stopped>
-    ensures { DoesAsRead (said_state said.new, drafted draft.new) result (kind_step (said_state said.old)
-        (drafted draft.old) Cache (words_left rest.entry)) }
+    ensures { DoesAsRead (said_state said.new, drafted draft.new) result
+        (kind_step (said_state said.old) (drafted draft.old) Cache (words_left rest.entry)) }
 {
     let (name, policy, seeks, batch, floor, fs, on) = cache_words(said, rest)?;
     cache_rule(said, name, on)?;
@@ -105,8 +106,8 @@ fn pool_line<'a>(
     draft: &mut Draft,
     rest: Option<&'a [u8]>,
 ) -> Result<(), Stopped>
-    ensures { DoesAsRead (said_state said.new, drafted draft.new) result (kind_step (said_state said.old)
-        (drafted draft.old) Pool (words_left rest.entry)) }
+    ensures { DoesAsRead (said_state said.new, drafted draft.new) result
+        (kind_step (said_state said.old) (drafted draft.old) Pool (words_left rest.entry)) }
 {
     let (name, seeks, batch, floor, flat) = pool_words(said, rest)?;
     pool_rule(said, name)?;
@@ -152,8 +153,8 @@ fn worker_line(
     draft: &mut Draft,
     rest: Option<&[u8]>,
 ) -> Result<(), Stopped>
-    ensures { DoesAsRead (said_state said.new, drafted draft.new) result (kind_step (said_state said.old)
-        (drafted draft.old) Worker (words_left rest.entry)) }
+    ensures { DoesAsRead (said_state said.new, drafted draft.new) result
+        (kind_step (said_state said.old) (drafted draft.old) Worker (words_left rest.entry)) }
 {
     end(rest)?;
     if said.workers >= 64 {
@@ -171,8 +172,8 @@ fn worker_line(
 // A command more of the last worker, where there is room for it.
 #[inline(always)]
 fn keep(said: &mut Said, draft: &mut Draft, command: Command) -> Result<(), Stopped>
-    ensures { DoesAsRead (said_state said.new, drafted draft.new) result (command_kept (said_state said.old)
-        (drafted draft.old) command) }
+    ensures { DoesAsRead (said_state said.new, drafted draft.new) result
+        (command_kept (said_state said.old) (drafted draft.old) command) }
 {
     command_rule(said)?;
     draft.commands.add(command)?;
@@ -189,8 +190,8 @@ fn put_line(
     draft: &mut Draft,
     rest: Option<&[u8]>,
 ) -> Result<(), Stopped>
-    ensures { DoesAsRead (said_state said.new, drafted draft.new) result (kind_step (said_state said.old)
-        (drafted draft.old) (Work Put) (words_left rest.entry)) }
+    ensures { DoesAsRead (said_state said.new, drafted draft.new) result
+        (kind_step (said_state said.old) (drafted draft.old) (Work Put) (words_left rest.entry)) }
 {
     let command = put_command(alloc, said, rest)?;
     keep(said, draft, command)
@@ -205,8 +206,8 @@ fn command_line(
     verb: Verb,
     rest: Option<&[u8]>,
 ) -> Result<(), Stopped>
-    ensures { DoesAsRead (said_state said.new, drafted draft.new) result (kind_step (said_state said.old)
-        (drafted draft.old) (Work verb) (words_left rest.entry)) }
+    ensures { DoesAsRead (said_state said.new, drafted draft.new) result
+        (kind_step (said_state said.old) (drafted draft.old) (Work verb) (words_left rest.entry)) }
 {
     let command = command_in(alloc, said, verb, rest)?;
     keep(said, draft, command)
@@ -219,8 +220,8 @@ fn sweep_line(
     draft: &mut Draft,
     rest: Option<&[u8]>,
 ) -> Result<(), Stopped>
-    ensures { DoesAsRead (said_state said.new, drafted draft.new) result (kind_step (said_state said.old)
-        (drafted draft.old) Sweeping (words_left rest.entry)) }
+    ensures { DoesAsRead (said_state said.new, drafted draft.new) result
+        (kind_step (said_state said.old) (drafted draft.old) Sweeping (words_left rest.entry)) }
 {
     let (priority, nofs) = sweep_words(said, rest)?;
     complete(alloc, said.phase, draft)?;
@@ -236,8 +237,8 @@ fn end_line(
     draft: &mut Draft,
     rest: Option<&[u8]>,
 ) -> Result<(), Stopped>
-    ensures { DoesAsRead (said_state said.new, drafted draft.new) result (kind_step (said_state said.old)
-        (drafted draft.old) End (words_left rest.entry)) }
+    ensures { DoesAsRead (said_state said.new, drafted draft.new) result
+        (kind_step (said_state said.old) (drafted draft.old) End (words_left rest.entry)) }
 {
     end(rest)?;
     complete(alloc, said.phase, draft)?;
@@ -263,8 +264,8 @@ fn plain_line<'a>(
     draft: &mut Draft,
     rest: Option<&'a [u8]>,
 ) -> Result<(), Stopped>
-    ensures { DoesAsRead (said_state said.new, drafted draft.new) result (plain_step (said_state said.old)
-        (drafted draft.old) (words_left rest.entry)) }
+    ensures { DoesAsRead (said_state said.new, drafted draft.new) result
+        (plain_step (said_state said.old) (drafted draft.old) (words_left rest.entry)) }
 {
     // Most lines are puts of a worker.
     if let Phase::Workers = said.phase {
@@ -295,8 +296,8 @@ fn line<'a>(
     draft: &mut Draft,
     bytes: &'a [u8],
 ) -> Result<(), Stopped>
-    ensures { DoesAsRead (said_state said.new, drafted draft.new) result (line_step (said_state said.old)
-        (drafted draft.old) (pieces 32 bytes.now)) }
+    ensures { DoesAsRead (said_state said.new, drafted draft.new) result
+        (line_step (said_state said.old) (drafted draft.old) (pieces 32 bytes.now)) }
 {
     let phase = said.phase;
     match plain_line(alloc, said, draft, Some(bytes)) {

@@ -35,8 +35,8 @@ fn most_ids(version: u8) -> u32
 
 /// Of `size`.
 pub fn size_words(said: &Said, rest: Option<&[u8]>) -> Result<(u8, u16), Code>
-    ensures { Gives (λ x. N x.0 ∷ N x.1 ∷ []) result (items_said (classes (said_state said.now) Size)
-        (words_left rest.entry)) }
+    ensures { Gives (λ x. N x.0 ∷ N x.1 ∷ []) result
+        (items_said (classes (said_state said.now) Size) (words_left rest.entry)) }
 {
     let (nodes, rest) = number(rest, 1, 5)?;
     let (ids, rest) = number(rest, 1, most_ids(said.version) + 1)?;

@@ -54,8 +54,8 @@ pub fn finish(alloc: Global, tables: Tables, first: CrewSeats) -> Result<Ends, M
         (strands_of first.seats.deferred) e.deferred.items) }
     ensures charge { IfOk result (λ e. IsEndOf (hierarchy_of tables.shared.charge.shape)
         (uses_of first.seats.cache.charge) (tree_of first.seats.cache.charge) e.charge) }
-    ensures pools { IfOk result (λ e. IsPoolsEnd tables.pools.sizes (plain.plain_state_of first.plain)
-        e.pools) }
+    ensures pools { IfOk result (λ e. IsPoolsEnd tables.pools.sizes
+        (plain.plain_state_of first.plain) e.pools) }
 {
     let Tables { shared, pools } = tables;
     let CrewSeats { seats, plain } = first;

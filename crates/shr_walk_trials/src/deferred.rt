@@ -59,7 +59,8 @@ fn two_threads_lose_nothing_at_one_place(rt: HostRuntime) -> Result<(), Fail> {
         move ||
             requires { IsDeferredSeat deferred.now first × IsPlaceOf deferred.now.sizes
                 (record { id = 0; node = 0; group = 0 }) }
-            ensures { IsDeferredSeat deferred.entry.now result × (deferred_standing result ≡ deferred_standing first) }
+            ensures { IsDeferredSeat deferred.entry.now result
+                × (deferred_standing result ≡ deferred_standing first) }
         { carrying(deferred, first) },
         move ||
             requires { IsDeferredSeat deferred.now second × IsPlaceOf deferred.now.sizes

@@ -26,6 +26,7 @@ has_pools s = not (length s.pools.items == 0)
 abbrev pub worker_units_place : Script → ℕ → ℕ → Place
 worker_units_place s pool node = home_place (settings_of s) pool node
 
+-- the room of a pool's units for a node
 abbrev pub units_room : Script → ℕ → ℕ → ℕ
 units_room s pool node = room_of (settings_of s) (pool_sizes s) pool node
 

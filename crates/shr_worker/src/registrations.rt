@@ -29,7 +29,8 @@ use std::sync::Wait;
 /// Linux: `shrinker_register` in mm/shrinker.c.
 pub fn register<R: Wait>(worker: &mut Worker<'_, R>, decl: u8) -> Answered
     requires cache { IsCache (content_of worker.old.shared.script) decl }
-    ensures registers { RegistersCache worker.old.shared decl result worker.old.state worker.new.state }
+    ensures registers { RegistersCache worker.old.shared decl result worker.old.state
+        worker.new.state }
     ensures same { IsSame worker.old worker.new }
 {
     let core = &worker.shared.core;
