@@ -2,7 +2,7 @@
 
 ghost use Rattle.shr_audit.specs.Verdict.{IsOneVerdict};
 
-/// No two verdicts hold of the same bytes.
+/// No two verdicts hold of the same bytes. Our own.
 pub fn one_verdict()
     ensures { IsOneVerdict }
 {}

@@ -96,7 +96,7 @@ fn note_all_left(serials: &mut Vec<Serial>, report: &Report, case: &Case) -> Res
     Ok(())
 }
 
-// The serials of all objects that were freed, and of those that are left.
+/// The serials of all objects that were freed, and of those that are left. Our own.
 pub(crate) fn gone_serials(alloc: Global, report: &Report, case: &Case) -> Result<Gone, Memory>
     requires { IsReplayOf report.now case.now }
     ensures { IfOk result (λ g. IsGone case.now.parents.items report.now g) }

@@ -37,7 +37,7 @@ fn note_journal(serials: &mut Vec<Serial>, entries: &[Entry]) -> Result<(), Memo
     Ok(())
 }
 
-// The serials that the journals of a report added.
+/// The serials that the journals of a report added. Our own.
 pub(crate) fn added_serials(alloc: Global, report: &Report) -> Result<Vec<Serial>, Memory>
     requires { AreInOrder report.now.places.items }
     ensures { IfOk result (λ v. v.items ≡ added_in (places_of report.now)

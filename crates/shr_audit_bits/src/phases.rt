@@ -51,7 +51,7 @@ fn note_entry(phases: &mut Vec<u8>, entry: &PoolEntry)
     phases[id as usize] = phase;
 }
 
-// The phase of each id behind the journal of registrations, modulo 3.
+/// The phase of each id behind the journal of registrations, modulo 3. Our own.
 pub(crate) fn phases_of(alloc: Global, pool: &[PoolEntry]) -> Result<Vec<u8>, Memory>
     ensures { IfOk result (λ phases. ArePhases pool.now phases.items) }
 {

@@ -31,7 +31,7 @@ fn note_word(words: &mut HashMap<u64, u64>, map: &MapEnd) -> Result<(), Memory>
     Ok(())
 }
 
-// The words by their numbers, of two with one number the first.
+/// The words by their numbers, of two with one number the first. Our own.
 pub(crate) fn words_of(alloc: Global, maps: &[MapEnd]) -> Result<HashMap<u64, u64>, Memory>
     ensures { IfOk result (λ w. AreWords maps.now w) }
 {

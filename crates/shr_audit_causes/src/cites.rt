@@ -85,6 +85,7 @@ fn unregistered(reply: &Reply) -> Option<usize>
     }
 }
 
+/// The id that an entry of the pool is of. Our own.
 pub(crate) fn id_of(entry: PoolEntry) -> u16
     ensures { result ≡ id_of entry }
 {

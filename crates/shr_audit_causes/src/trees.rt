@@ -22,7 +22,7 @@ fn is_once(cited: Cited) -> bool
     }
 }
 
-// Whether an answer says so.
+/// Whether an answer says so. Our own.
 pub(crate) fn is_cited(cited: Cited) -> bool
     ensures { result ≡ is_cited cited }
 {

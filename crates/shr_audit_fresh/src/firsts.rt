@@ -8,7 +8,7 @@ use shr_base::memory::Memory;
 use std::alloc::Global;
 use std::collections::HashMap;
 
-// A table of no groups.
+/// A table of no groups. Our own.
 pub(crate) fn no_firsts(alloc: Global) -> HashMap<u16, usize>
     ensures { HasNoFirsts result }
 {
@@ -25,14 +25,14 @@ fn first_with(first: Option<usize>, command: usize) -> usize
     }
 }
 
-// The least command that showed something of a group.
+/// The least command that showed something of a group. Our own.
 pub(crate) fn first_of(firsts: &HashMap<u16, usize>, group: u16) -> Option<usize>
     ensures { result ≡ get nat_eq firsts.now group }
 {
     firsts.get(&group).copied()
 }
 
-// Notes a command, if it shows something of a group.
+/// Notes a command, if it shows something of a group. Our own.
 pub(crate) fn note(
     firsts: &mut HashMap<u16, usize>,
     group: Option<u16>,

@@ -12,7 +12,7 @@ use shr_base::walks::WalkRecord;
 use shr_report::report::Report;
 use std::alloc::Global;
 
-// Whether a number is at least the floor, if there is one.
+/// Whether a number is at least the floor, if there is one. Our own.
 pub(crate) fn reaches(floor: u64, seen: Option<u32>) -> bool
     ensures { Decides result (Reaches floor (option_to_list seen)) }
 {
@@ -22,7 +22,7 @@ pub(crate) fn reaches(floor: u64, seen: Option<u32>) -> bool
     }
 }
 
-// The floor with one number more, if there is one.
+/// The floor with one number more, if there is one. Our own.
 pub(crate) fn floor_with(floor: u64, told: Option<u32>) -> u64
     ensures { FloorWith floor (option_to_list told) result }
 {
@@ -38,7 +38,7 @@ pub(crate) fn floor_with(floor: u64, told: Option<u32>) -> u64
     }
 }
 
-// The higher of two.
+/// The higher of two. Our own.
 pub(crate) fn higher(a: u64, b: u64) -> u64
     ensures { IsHigher a b result }
 {
@@ -74,7 +74,7 @@ fn note_walk(floors: &mut Vec<u64>, worker: usize, walk: &WalkRecord)
     }
 }
 
-// The floors of so many commands of a worker by what their walks cite.
+/// The floors of so many commands of a worker by what their walks cite. Our own.
 pub(crate) fn walk_floors(
     alloc: Global,
     report: &Report,

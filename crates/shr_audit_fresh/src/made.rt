@@ -131,7 +131,8 @@ fn may_say(firsts: &HashMap<u16, usize>, unmade: Option<u16>) -> bool
     }
 }
 
-// Whether no later answer of a worker says that a group isn't made which an earlier one showed to be.
+/// Whether no later answer of a worker says that a group isn't made which an earlier one showed to be.
+/// Our own.
 pub(crate) fn stays_made(
     alloc: Global,
     script: &Script,

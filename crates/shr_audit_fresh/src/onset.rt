@@ -25,7 +25,7 @@ fn is_on_seen_at(script: &Script, report: &Report, worker: usize, number: usize,
     }
 }
 
-// Whether it is so of each answer of a worker to a command of the script.
+/// Whether it is so of each answer of a worker to a command of the script. Our own.
 pub(crate) fn is_on_seen(script: &Script, report: &Report, worker: usize, on: usize) -> bool
     requires { on ≡ length (decls_on script.now) }
     ensures { Decides result (IsOnSeen script.now report.now worker) }

@@ -16,7 +16,7 @@ use shr_base::replies::Answered;
 use shr_report::report::Report;
 use std::alloc::Global;
 
-// Whether what an answer says of the journal of registrations is at least the floor.
+/// Whether what an answer says of the journal of registrations is at least the floor. Our own.
 pub(crate) fn pool_reaches(floor: u64, answer: &Answered) -> bool
     ensures { Decides result (Reaches floor (pool_seen answer.now)) }
 {
@@ -38,7 +38,8 @@ fn pool_reaches_at(report: &Report, worker: usize, number: usize, floor: u64) ->
     }
 }
 
-// Whether what a worker's answers say of the journal of registrations is above what it made before.
+/// Whether what a worker's answers say of the journal of registrations is above what it made before.
+/// Our own.
 pub(crate) fn is_own_below(report: &Report, worker: usize) -> bool
     ensures { Decides result (IsOwnBelow report.now worker) }
 {
@@ -52,7 +53,8 @@ pub(crate) fn is_own_below(report: &Report, worker: usize) -> bool
     true
 }
 
-// Whether what they say of the journal of the tree is above what an answer or a walk cited before.
+/// Whether what they say of the journal of the tree is above what an answer or a walk cited before.
+/// Our own.
 pub(crate) fn is_shown_below(alloc: Global, report: &Report, worker: usize) -> Result<bool, Memory>
     ensures { IfOk result (λ b. Decides b (IsShownBelow report.now worker)) }
 {

@@ -156,7 +156,7 @@ fn is_refused_at(
     may_be_offline_at(report, worker, number)
 }
 
-// Whether each command of a worker does.
+/// Whether each command of a worker does. Our own.
 pub(crate) fn is_refused(
     alloc: Global,
     script: &Script,

@@ -40,7 +40,7 @@ fn after_tree(low: u32, answer: &Answered) -> Option<u32>
     after(low, tree_told(&answer.reply))
 }
 
-// Whether what these answers say of the journal of registrations never falls.
+/// Whether what these answers say of the journal of registrations never falls. Our own.
 pub(crate) fn is_pool_rising(answers: &[Answered]) -> bool
     ensures { Decides result (AreNotFalling (flat_map pool_seen answers.now)) }
 {
@@ -54,7 +54,7 @@ pub(crate) fn is_pool_rising(answers: &[Answered]) -> bool
     true
 }
 
-// Whether what they say of the journal of the tree never falls.
+/// Whether what they say of the journal of the tree never falls. Our own.
 pub(crate) fn is_tree_rising(answers: &[Answered]) -> bool
     ensures { Decides result (AreNotFalling (flat_map tree_seen answers.now)) }
 {

@@ -93,7 +93,7 @@ fn are_walks_started(report: &Report, begun: &[Cited], worker: usize, walks: &[W
     true
 }
 
-// Whether no Begin is shown to a worker before somebody may have begun.
+/// Whether no Begin is shown to a worker before somebody may have begun. Our own.
 pub(crate) fn is_begin_started(
     script: &Script,
     report: &Report,

@@ -11,7 +11,7 @@ use shr_base::replies::{Answered, Reply};
 use shr_base::walks::{WalkAnswer, WalkRecord};
 use shr_report::report::Report;
 
-// How many entries of the journal of registrations its found cache tells of.
+/// How many entries of the journal of registrations its found cache tells of. Our own.
 pub(crate) fn pool_found(answer: &Answered) -> Option<u32>
     ensures { result ≡ option_map (λ (f : Found). f.entry) answer.now.found }
 {
@@ -21,7 +21,7 @@ pub(crate) fn pool_found(answer: &Answered) -> Option<u32>
     }
 }
 
-// How many a reply tells of.
+/// How many a reply tells of. Our own.
 pub(crate) fn pool_told(reply: &Reply) -> Option<u32>
     ensures { option_to_list result ≡ pool_told reply.now }
 {
@@ -45,7 +45,7 @@ fn pool_made(reply: &Reply) -> Option<u32>
     }
 }
 
-// How many entries of the journal of the tree a reply tells of.
+/// How many entries of the journal of the tree a reply tells of. Our own.
 pub(crate) fn tree_told(reply: &Reply) -> Option<u32>
     ensures { option_to_list result ≡ tree_told reply.now }
 {
@@ -69,7 +69,7 @@ fn tree_cited(reply: &Reply) -> Option<u32>
     }
 }
 
-// The entry of that journal that a walk cites.
+/// The entry of that journal that a walk cites. Our own.
 pub(crate) fn walk_cited(answer: &WalkAnswer) -> Option<u32>
     ensures { option_to_list result ≡ walk_cited answer.now }
 {
@@ -79,7 +79,7 @@ pub(crate) fn walk_cited(answer: &WalkAnswer) -> Option<u32>
     }
 }
 
-// The entry of the journal of registrations that the answer with this number made.
+/// The entry of the journal of registrations that the answer with this number made. Our own.
 pub(crate) fn made_by(report: &Report, worker: usize, number: usize) -> Option<u32>
     ensures { option_to_list result ≡ of_answer report.now (serial_of worker number)
         (λ (a : Answered). pool_made a.reply) }
@@ -90,7 +90,7 @@ pub(crate) fn made_by(report: &Report, worker: usize, number: usize) -> Option<u
     }
 }
 
-// The entry of the journal of the tree that it cites.
+/// The entry of the journal of the tree that it cites. Our own.
 pub(crate) fn cited_by(report: &Report, worker: usize, number: usize) -> Option<u32>
     ensures { option_to_list result ≡ of_answer report.now (serial_of worker number)
         (λ (a : Answered). tree_cited a.reply) }
@@ -101,7 +101,7 @@ pub(crate) fn cited_by(report: &Report, worker: usize, number: usize) -> Option<
     }
 }
 
-// How many entries of the journal of the tree it tells of.
+/// How many entries of the journal of the tree it tells of. Our own.
 pub(crate) fn tree_seen(report: &Report, worker: usize, number: usize) -> Option<u32>
     ensures { option_to_list result ≡ of_answer report.now (serial_of worker number) tree_seen }
 {
@@ -111,7 +111,7 @@ pub(crate) fn tree_seen(report: &Report, worker: usize, number: usize) -> Option
     }
 }
 
-// The walks of a worker, none past the last part.
+/// The walks of a worker, none past the last part. Our own.
 pub(crate) fn walks_of(report: &Report, worker: usize) -> &[WalkRecord]
     ensures { result.now ≡ walks_of report.now worker }
 {

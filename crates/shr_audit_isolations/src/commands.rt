@@ -158,7 +158,7 @@ fn is_part_told(script: &Script, worker: usize, part: &WorkerPart) -> bool
     true
 }
 
-// The same of all workers.
+/// The same of all workers. Our own.
 pub(crate) fn are_told(script: &Script, report: &Report) -> bool
     requires { IsWellFormed report.now }
     ensures { Decides result (EachAnswer script.now report.now (λ by c a.

@@ -127,7 +127,7 @@ fn is_row_right(
     true
 }
 
-// The same of all workers.
+/// The same of all workers. Our own.
 pub(crate) fn are_rows_right(
     script: &Script,
     report: &Report,

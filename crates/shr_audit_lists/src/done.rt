@@ -14,13 +14,14 @@ use shr_base::scripts::Script;
 use shr_case::places::journal_at;
 use shr_report::report::Report;
 
+/// Whether an entry closes its list. Our own.
 pub(crate) fn is_closing(entry: &Entry) -> bool
     ensures { result ≡ is_closing entry.now }
 {
     matches!(entry, Entry::Closed)
 }
 
-// Whether a Closed stands in a journal.
+/// Whether a Closed stands in a journal. Our own.
 pub(crate) fn is_closed(entries: &[Entry]) -> bool
     ensures { result ≡ is_closed entries.now }
 {

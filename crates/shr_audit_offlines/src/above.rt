@@ -54,7 +54,7 @@ fn either(a: Whose, b: Whose) -> Whose
     }
 }
 
-// Whether it is so of no other worker.
+/// Whether it is so of no other worker. Our own.
 pub(crate) fn is_only(whose: Whose, worker: usize) -> bool
     ensures { result ≡ is_only whose worker }
 {

@@ -21,9 +21,9 @@ use shr_base::scripts::Script;
 use shr_report::report::Report;
 use std::alloc::Global;
 
-// What is noted once of a script and a report: by groups, how many objects were moved from each,
-// whether an `offline` may have spliced its lists and told of none, and which workers may have begun
-// the offlining of a group above it.
+/// What is noted once of a script and a report: by groups, how many objects were moved from each,
+/// whether an `offline` may have spliced its lists and told of none, and which workers may have begun
+/// the offlining of a group above it. Our own.
 #[derive(Drop)]
 pub(crate) struct Notes {
     moved: Vec<u128>,
@@ -31,7 +31,7 @@ pub(crate) struct Notes {
     above: Vec<Whose>,
 }
 
-// Notes it.
+/// Notes it. Our own.
 pub(crate) fn noted(alloc: Global, script: &Script, report: &Report) -> Result<Notes, Memory>
     requires tree { IsTree (parents_of script.now) }
     requires order { AreInOrder report.now.places.items }
@@ -172,7 +172,7 @@ fn is_worker_caused(
     Ok(true)
 }
 
-// Whether each answer has.
+/// Whether each answer has. Our own.
 pub(crate) fn are_caused(
     alloc: Global,
     script: &Script,

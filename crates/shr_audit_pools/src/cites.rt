@@ -22,7 +22,7 @@ pub struct Cite {
 }
 
 impl Cite {
-    // What the two numbers of a pool on a node and that of an entry name.
+    /// What the two numbers of a pool on a node and that of an entry name. Our own.
     pub(crate) fn new(pool: u8, node: u8, entry: u32) -> Cite
         ensures pool { result.place.pool ≡ pool }
         ensures node { result.place.node ≡ node }
@@ -36,7 +36,7 @@ impl Cite {
     }
 }
 
-// The entry that a reply cites.
+/// The entry that a reply cites. Our own.
 pub(crate) fn cited_by(reply: &Reply) -> Option<Cite>
     ensures cited { option_map cite_at result ≡ units_cited reply.now }
     ensures small { IfSome result (λ c. c.place.node < 256) }
@@ -49,7 +49,7 @@ pub(crate) fn cited_by(reply: &Reply) -> Option<Cite>
     }
 }
 
-// The entry of a pool on a node with this number.
+/// The entry of a pool on a node with this number. Our own.
 pub(crate) fn entry_at(report: &Report, cite: Cite) -> Option<&PlainEntry>
     requires { AreKept report.now }
     ensures { option_copied result
@@ -58,7 +58,7 @@ pub(crate) fn entry_at(report: &Report, cite: Cite) -> Option<&PlainEntry>
     entries_at(report, cite.place).get(cite.entry as usize)
 }
 
-// Whether the reply to a command cites the entry of a pool on a node with this number.
+/// Whether the reply to a command cites the entry of a pool on a node with this number. Our own.
 pub(crate) fn is_cited(report: &Report, by: Serial, place: PoolPlace, number: usize) -> bool
     ensures { Decides result (units_cited_at report.now by ≡ Some (at (named_place place) number)) }
 {

@@ -83,7 +83,8 @@ fn note_parts(script: &Script, moves: &mut Vec<Move>, parts: &[WorkerPart]) -> R
     Ok(())
 }
 
-// Whether each deferred word of a pool is what the passes there deferred less what they took over.
+/// Whether each deferred word of a pool is what the passes there deferred less what they took over.
+/// Our own.
 pub(crate) fn are_words_right(
     alloc: Global,
     script: &Script,

@@ -88,8 +88,8 @@ fn are_entries_right(script: &Script, report: &Report, units: &UnitsEnd) -> bool
     true
 }
 
-// Whether each entry of each journal of a pool is cited by the reply to its command, or is of a pass
-// of the walk that it names.
+/// Whether each entry of each journal of a pool is cited by the reply to its command, or is of a pass
+/// of the walk that it names. Our own.
 pub(crate) fn are_all_entries_right(script: &Script, report: &Report) -> bool
     requires { AreKept report.now }
     ensures { Decides result (EachUnits report.now (IsEntryRight script.now report.now)) }

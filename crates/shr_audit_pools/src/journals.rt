@@ -14,7 +14,8 @@ use shr_base::journals::PlainEntry;
 use shr_base::scripts::Script;
 use shr_report::report::Report;
 
-// How many units are free after an entry, if it has the outcome that so many before it leave it.
+/// How many units are free after an entry, if it has the outcome that so many before it leave it.
+/// Our own.
 pub(crate) fn free_after(free: u32, entry: &PlainEntry) -> Option<u32>
     requires { free ≤ 20000 }
     ensures few { IfSome result (λ next. next ≤ 20000) }

@@ -9,14 +9,14 @@ use shr_base::memory::Memory;
 use std::alloc::Global;
 use std::collections::HashMap;
 
-// A table that keeps none.
+/// A table that keeps none. Our own.
 pub(crate) fn no_lows(alloc: Global) -> HashMap<u64, u64>
     ensures { HasNoLows result }
 {
     HashMap::new(alloc)
 }
 
-// The least number at a place.
+/// The least number at a place. Our own.
 pub(crate) fn low_at(lows: &HashMap<u64, u64>, place: PoolPlace) -> u64
     ensures { result ≡ low_at lows.now (pool_key place.pool place.node) }
 {
@@ -27,7 +27,7 @@ pub(crate) fn low_at(lows: &HashMap<u64, u64>, place: PoolPlace) -> u64
     }
 }
 
-// Raises it, if it is below `to`.
+/// Raises it, if it is below `to`. Our own.
 pub(crate) fn raise(lows: &mut HashMap<u64, u64>, place: PoolPlace, to: u64) -> Result<(), Memory>
     ensures { OnOk result (RaisesLow (pool_key place.pool place.node) to lows.old lows.new) }
 {

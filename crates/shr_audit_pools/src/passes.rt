@@ -79,8 +79,8 @@ fn is_plain_ending(entries: usize, ending: Ending) -> bool
     }
 }
 
-// Whether a pass of a pool, at a place with so many entries, follows the arithmetic and has these
-// Reclaims.
+/// Whether a pass of a pool, at a place with so many entries, follows the arithmetic and has these
+/// Reclaims. Our own.
 pub(crate) fn is_plain_pass(
     entries: usize,
     decl: &PoolDecl,

@@ -18,7 +18,7 @@ pub struct PoolPlace {
     pub node: u8,
 }
 
-// A pool on a node by one number.
+/// A pool on a node by one number. Our own.
 pub(crate) fn key_of(place: PoolPlace) -> usize
     ensures key { result ≡ pool_key place.pool place.node }
     ensures node { place.node < 256 }
@@ -44,7 +44,7 @@ fn index_from(ends: &[UnitsEnd], key: usize) -> usize
     ends.partition_point(|units| units_key(units) < key)
 }
 
-// The index of the journal of a pool on a node.
+/// The index of the journal of a pool on a node. Our own.
 pub(crate) fn index_of(ends: &[UnitsEnd], place: PoolPlace) -> Option<usize>
     requires { AreShelved ends.now }
     ensures within { IfSome result (λ k. k < length ends.now) }
@@ -64,7 +64,7 @@ pub(crate) fn index_of(ends: &[UnitsEnd], place: PoolPlace) -> Option<usize>
     Some(k)
 }
 
-// The journal of a pool on a node; one that isn't printed is empty.
+/// The journal of a pool on a node; one that isn't printed is empty. Our own.
 pub(crate) fn entries_at(report: &Report, place: PoolPlace) -> &[PlainEntry]
     requires { AreKept report.now }
     ensures { result.now ≡ units_journal report.now (named_place place) }
@@ -87,7 +87,7 @@ fn home_in(script: &Script, pool: usize, node: u8) -> u8
     }
 }
 
-// Where a pool keeps the units of a node.
+/// Where a pool keeps the units of a node. Our own.
 pub(crate) fn home_of(script: &Script, pool: u8, node: u8) -> PoolPlace
     ensures home { named_place result ≡ pool_place script.now pool node }
     ensures small { result.node < 256 }

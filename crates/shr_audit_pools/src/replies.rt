@@ -189,7 +189,7 @@ fn is_part_right(
     true
 }
 
-// Whether each reply about a pool cites its entry, or has its cause.
+/// Whether each reply about a pool cites its entry, or has its cause. Our own.
 pub(crate) fn are_replies_right(script: &Script, report: &Report, stocks: &[Stock]) -> bool
     requires kept { AreKept report.now }
     requires stocks { AreStocksOf report.now.units.items stocks.now }

@@ -122,7 +122,7 @@ fn stock_of(alloc: Global, entries: &[PlainEntry]) -> Result<Stock, Memory>
     Ok(Stock { free, reclaims })
 }
 
-// That of each journal.
+/// That of each journal. Our own.
 pub(crate) fn stocks_of(alloc: Global, report: &Report) -> Result<Vec<Stock>, Memory>
     requires { AreKept report.now }
     ensures { IfOk result (λ stocks. AreStocksOf report.now.units.items stocks.items) }
@@ -144,7 +144,7 @@ fn is_free_in(stock: &Stock, entries: u32, free: u32) -> bool
     entries < stock.free.len() && stock.free[entries] == free
 }
 
-// The same of a pool on a node.
+/// The same of a pool on a node. Our own.
 pub(crate) fn is_free_after(
     report: &Report,
     stocks: &[Stock],
@@ -215,7 +215,7 @@ fn of_walk(stock: &Stock, worker: usize, walk: usize) -> &[Reclaimed]
     with_key(stock.reclaims.as_slice(), key)
 }
 
-// The same at a pool on a node.
+/// The same at a pool on a node. Our own.
 pub(crate) fn reclaims_at<'a>(
     report: &Report,
     stocks: &'a [Stock],

@@ -21,7 +21,7 @@ use shr_report::report::Report;
 use std::alloc::Global;
 use std::collections::HashMap;
 
-// The version that a try counted at.
+/// The version that a try counted at. Our own.
 pub(crate) fn version_in(tried: &PlainTry) -> u32
     ensures { result ≡ version_in tried.now }
 {
@@ -106,7 +106,7 @@ fn is_part_versed(alloc: Global, script: &Script, part: &WorkerPart) -> Result<b
     Ok(true)
 }
 
-// The same of all workers.
+/// The same of all workers. Our own.
 pub(crate) fn are_all_versed(
     alloc: Global,
     script: &Script,

@@ -278,7 +278,7 @@ fn are_plain_lawful(
     true
 }
 
-// Whether each walk of the pools is lawful.
+/// Whether each walk of the pools is lawful. Our own.
 pub(crate) fn are_walks_lawful(script: &Script, report: &Report, stocks: &[Stock]) -> bool
     requires kept { AreKept report.now }
     requires stocks { AreStocksOf report.now.units.items stocks.now }

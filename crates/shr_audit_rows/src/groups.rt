@@ -42,7 +42,7 @@ pub fn is_made_there(report: &Report, group: Option<u16>, entry: u32) -> bool
     }
 }
 
-// Whether a group isn't there at the start.
+/// Whether a group isn't there at the start. Our own.
 pub(crate) fn is_later(script: &Script, group: usize) -> bool
     ensures { result ≡ is_later (later_of script.now) group }
 {

@@ -55,7 +55,7 @@ fn is_answered(script: &Script, report: &Report, sweep: Sweep, worker: usize) ->
     }
 }
 
-// Whether each worker of the script has, and it is.
+/// Whether each worker of the script has, and it is. Our own.
 pub(crate) fn are_answered(script: &Script, report: &Report, sweep: Sweep) -> bool
     requires { IsWellFormed report.now }
     ensures { Decides result (HaveSweepAnswers script.now report.now sweep) }
@@ -79,7 +79,7 @@ fn is_swept_out(script: &Script, report: &Report, worker: usize) -> bool
     }
 }
 
-// Whether each worker says so.
+/// Whether each worker says so. Our own.
 pub(crate) fn are_swept_out(script: &Script, report: &Report) -> bool
     ensures { Decides result (AreSweptOut script.now report.now) }
 {

@@ -8,7 +8,7 @@ use shr_base::places::Place;
 use std::alloc::Global;
 use std::collections::HashMap;
 
-// A table of no versions.
+/// A table of no versions. Our own.
 pub(crate) fn no_versions(alloc: Global) -> HashMap<u64, u32>
     ensures { IsBlank result }
 {
@@ -35,7 +35,8 @@ fn last_at(versions: &HashMap<u64, u32>, place: Place) -> u32
     }
 }
 
-// Notes that a version was read at a place, and answers whether it isn't below the last one there.
+/// Notes that a version was read at a place, and answers whether it isn't below the last one there.
+/// Our own.
 pub(crate) fn note(
     versions: &mut HashMap<u64, u32>,
     place: Place,
@@ -52,7 +53,7 @@ pub(crate) fn note(
     Ok(true)
 }
 
-// The same of two versions, one after the other.
+/// The same of two versions, one after the other. Our own.
 pub(crate) fn note_two(
     versions: &mut HashMap<u64, u32>,
     place: Place,

@@ -10,7 +10,7 @@ ghost use Rattle.shr_opening.specs.Opening.{Uncharges};
 use shr_walk::worker::Worker;
 use std::sync::Wait;
 
-// Uncharges an object of a group, in the room that was made to note it.
+/// Uncharges an object of a group, in the room that was made to note it. Our own.
 pub(crate) fn uncharge<R: Wait>(worker: &mut Worker<'_, R>, group: u16)
     requires group { group < groups_in (shape_of worker.old.shared.core) }
     requires room { CanTakeBack group worker.old }

@@ -14,7 +14,7 @@ use shr_seats::telling::{Tells, Told};
 
 /// Each group has eight words: the second is its usage, the third its state, and the first of the
 /// root is the lock word of the tree room. The others stay 0: where the table begins in the first
-/// half of a line of a processor's cache, no two groups share a line.
+/// half of a line of a processor's cache, no two groups share a line. Our own.
 pub(crate) const WORDS_A_GROUP: usize = 8;
 
 impl Charge {

@@ -3,10 +3,10 @@
 ghost use Rattle.std.specs.Prelude.{◌≡◌};
 ghost use Rattle.shr_gen.specs.Generated.{next_draw, chosen_by};
 
-/// The multiplier of Knuth's MMIX generator (The Art of Computer Programming, volume 2).
+/// The multiplier of Knuth's MMIX generator (The Art of Computer Programming, volume 2). Our own.
 pub const MULTIPLIER: u64 = 6_364_136_223_846_793_005;
 
-/// The increment of the same generator.
+/// The increment of the same generator. Our own.
 pub const INCREMENT: u64 = 1_442_695_040_888_963_407;
 
 /// A number that is drawn again before each command. Our own.

@@ -13,7 +13,7 @@ use shr_seats::telling::{Tells, Told};
 
 /// Each room has eight words: the first is its lock word, the second its count word. The others stay
 /// 0: where the table begins in the first half of a line of a processor's cache, no two rooms share
-/// a line.
+/// a line. Our own.
 pub(crate) const WORDS_A_ROOM: usize = 8;
 
 impl Pools {

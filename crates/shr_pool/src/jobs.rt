@@ -21,6 +21,7 @@ use std::sync::Wait;
 /// How many helpers there may be. Our own.
 pub const MOST_HELPERS: usize = 64;
 
+/// The queue of jobs, whose rule says which jobs were pushed and who popped each. Our own.
 pub(crate) type Queue = RuledArrayQueue<SweepItem, PassView, Law>;
 
 /// What one helper pops with. It may be sent to a thread. Our own.
@@ -73,7 +74,8 @@ impl Jobs {
     /// [`MOST_HELPERS`] marks.
     ///
     /// `nodes` is from 1 to 4, and `groups`, the root counted, from 1 to 256. Memory comes where there
-    /// is no room for all of them at once; then nothing stands. No push finds the queue full.
+    /// is no room for all of them at once; then nothing stands. No push finds the queue full. Our
+    /// own.
     pub fn fill<R: Wait>(rt: &R, alloc: Global, nodes: u8, groups: u16) -> Result<Jobs, Memory>
         requires nodes { (0 < nodes) × (nodes ≤ 4) }
         requires groups { (0 < groups) × (groups ≤ 256) }
@@ -104,7 +106,7 @@ impl Jobs {
     }
 
     /// A pass for a helper, which has popped nothing and knows what was pushed. Once one was handed
-    /// out nothing more is pushed.
+    /// out nothing more is pushed. Our own.
     pub fn pass(&mut self) -> JobPass
         requires first { IsJobPass self.old.queue self.old.first
             × ((pass_view self.old.first).standing.first ≡ true) }
@@ -121,7 +123,8 @@ impl Jobs {
     }
 
     /// Joins a helper's pass into the first one, which then has what that one popped. Once all are
-    /// joined, no job was popped twice, and where a mark was popped each job was popped once.
+    /// joined, no job was popped twice, and where a mark was popped each job was popped once. Our
+    /// own.
     pub fn join(&mut self, pass: JobPass)
         requires first { IsJobPass self.old.queue self.old.first
             × ((pass_view self.old.first).standing.first ≡ true) }
@@ -151,7 +154,7 @@ impl JobQueue {
     /// The next job, or None where the pass met its mark: then no job is left, now or ever. A pass
     /// that met its mark pops no more. Of no item it has popped more than was pushed.
     ///
-    /// It waits only while another pass is in the middle of a pop.
+    /// It waits only while another pass is in the middle of a pop. Our own.
     pub fn pop<R: Wait>(&self, rt: &R, pass: &mut JobPass) -> Option<SweepJob>
         requires pass { IsJobPass self.now pass.old × IsHelper (pass_view pass.old) }
         requires open { ends (pass_view pass.old).popped ≡ 0 }

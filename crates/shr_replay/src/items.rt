@@ -21,7 +21,7 @@ fn is_object(a: &Object, b: &Object) -> bool
         && values
 }
 
-// Whether the objects that are printed are those of a list, from the head.
+/// Whether the objects that are printed are those of a list, from the head. Our own.
 pub(crate) fn are_items(printed: &Items, queue: &Queue) -> bool
     ensures { Decides result (printed.now.items ≡ queue.now.items) }
 {

@@ -34,7 +34,7 @@ fn tag_of(object: &Object) -> Tag
     }
 }
 
-// Notes the objects that an entry freed.
+/// Notes the objects that an entry freed. Our own.
 pub(crate) fn note_freed(
     tags: &mut Vec<FreedTag>,
     entry: usize,
@@ -51,7 +51,7 @@ pub(crate) fn note_freed(
     Ok(())
 }
 
-// The objects of a queue from the head.
+/// The objects of a queue from the head. Our own.
 pub(crate) fn tags_in(alloc: Global, queue: &Queue) -> Result<Vec<Tag>, Memory>
     ensures { IfOk result (λ tags. tags.items ≡ map tag_of queue.now.items) }
 {

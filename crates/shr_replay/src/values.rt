@@ -14,7 +14,7 @@ pub struct FoundValue {
     pub value: Text,
 }
 
-// Notes the value that an entry met, if it met one.
+/// Notes the value that an entry met, if it met one. Our own.
 pub(crate) fn note_value(
     values: &mut Vec<FoundValue>,
     entry: usize,

@@ -172,7 +172,8 @@ fn found(piece: &mut Piece, found: &Option<Found>) -> usize
     }
 }
 
-/// The lines of an answer: the reply, and the id that the cache was held with, where it was.
+/// The lines of an answer: the reply, and the id that the cache was held with, where it was. Our
+/// own.
 pub fn put_answered<K: Sink>(
     out: &mut Paper<K>,
     piece: &mut Piece,

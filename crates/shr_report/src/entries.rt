@@ -366,7 +366,7 @@ fn items<K: Sink>(out: &mut Paper<K>, items: &Items)
     }
 }
 
-/// A list: its place, its journal, and its items from the head.
+/// A list: its place, its journal, and its items from the head. Our own.
 pub fn place<K: Sink>(out: &mut Paper<K>, end: &PlaceEnd)
     ensures printed { Prints K.written K.faults out.old out.new (place_lines end.now) }
     ensures numbers { IsListNumbered end.now }

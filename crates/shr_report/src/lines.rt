@@ -13,7 +13,7 @@ use shr_base::places::Place;
 use shr_outside::outside::Sink;
 use shr_outside::paper::Paper;
 
-/// A word of a line.
+/// A word of a line. Our own.
 #[derive(Clone, Copy)]
 pub enum Word<'a> {
     /// Bytes as they are.
@@ -24,7 +24,7 @@ pub enum Word<'a> {
     Number(u64),
 }
 
-/// A space and a text.
+/// A space and a text. Our own.
 #[inline(always)]
 pub fn add_text<K: Sink>(out: &mut Paper<K>, text: &[u8])
     ensures { Prints K.written K.faults out.old out.new (32 ∷ text.now) }
@@ -33,7 +33,7 @@ pub fn add_text<K: Sink>(out: &mut Paper<K>, text: &[u8])
     out.put(text);
 }
 
-/// A space and a value, behind its `=`.
+/// A space and a value, behind its `=`. Our own.
 #[inline]
 pub fn add_value<K: Sink>(out: &mut Paper<K>, value: &[u8])
     ensures { Prints K.written K.faults out.old out.new (32 ∷ 61 ∷ value.now) }
@@ -62,7 +62,7 @@ fn put_word<K: Sink>(out: &mut Paper<K>, word: &Word)
     }
 }
 
-/// A last word behind its space, and the line feed.
+/// A last word behind its space, and the line feed. Our own.
 #[inline]
 pub fn end_with<K: Sink>(out: &mut Paper<K>, text: &[u8])
     ensures { Prints K.written K.faults out.old out.new (32 ∷ (text.now ++ 10 ∷ [])) }
@@ -89,7 +89,7 @@ fn put_rest<K: Sink>(out: &mut Paper<K>, words: &[Word])
     out.put(b"\n");
 }
 
-/// A line of these words.
+/// A line of these words. Our own.
 pub fn put_line<K: Sink>(out: &mut Paper<K>, first: &[u8], words: &[Word])
     ensures { Prints K.written K.faults out.old out.new (line first.now (word_texts words.now)) }
 {
@@ -97,7 +97,7 @@ pub fn put_line<K: Sink>(out: &mut Paper<K>, first: &[u8], words: &[Word])
     put_rest(out, words)
 }
 
-/// A line of a place and an amount.
+/// A line of a place and an amount. Our own.
 pub fn put_amount<K: Sink>(out: &mut Paper<K>, first: &[u8], place: Place, amount: u64)
     ensures printed { Prints K.written K.faults out.old out.new
         (line first.now (numeral place.id ∷ numeral place.node ∷ numeral place.group

@@ -19,7 +19,7 @@ use shr_base::walks::{Carry, Isolation, PlainWalk, WalkRecord};
 use shr_outside::outside::Sink;
 use shr_outside::paper::Paper;
 
-/// How many isolations, walks, carries and walks of the pools of a worker are printed.
+/// How many isolations, walks, carries and walks of the pools of a worker are printed. Our own.
 #[derive(Clone, Copy)]
 pub struct Printed {
     pub isolations: usize,
@@ -118,7 +118,7 @@ fn isolations<K: Sink>(out: &mut Paper<K>, piece: &mut Piece, isolations: &[Isol
     }
 }
 
-/// The lines of a command behind its answer, and how much is printed then.
+/// The lines of a command behind its answer, and how much is printed then. Our own.
 pub fn logs<K: Sink>(
     out: &mut Paper<K>,
     piece: &mut Piece,

@@ -97,7 +97,7 @@ fn put_plain<K: Sink>(out: &mut Paper<K>, piece: &mut Piece, number: usize, walk
     piece.put(start, out)
 }
 
-/// A walk of the pools, by its number within its worker.
+/// A walk of the pools, by its number within its worker. Our own.
 pub fn plain_walk<K: Sink>(out: &mut Paper<K>, piece: &mut Piece, number: usize, walk: &PlainWalk)
     ensures printed { Prints K.written K.faults out.old out.new (plain_lines number walk.now) }
     ensures numbers { IsPlainNumbered walk.now }
@@ -109,7 +109,7 @@ pub fn plain_walk<K: Sink>(out: &mut Paper<K>, piece: &mut Piece, number: usize,
     tries(out, piece, walk.tries.as_slice())
 }
 
-/// An isolation.
+/// An isolation. Our own.
 pub fn isolation<K: Sink>(out: &mut Paper<K>, piece: &mut Piece, done: &Isolation)
     ensures printed { Prints K.written K.faults out.old out.new (isolation_line done.now) }
     ensures numbers { IsIsolationNumbered done.now }

@@ -2,7 +2,7 @@
 
 ghost use Rattle.shr_report.specs.Same.{HasOneText};
 
-/// No two well formed reports have one text: what was written determines the report.
+/// No two well formed reports have one text: what was written determines the report. Our own.
 pub fn one_text()
     ensures { HasOneText }
 {}

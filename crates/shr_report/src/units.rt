@@ -80,7 +80,7 @@ fn pool_end<K: Sink>(out: &mut Paper<K>, end: &UnitsEnd)
     entries(out, end.entries.as_slice())
 }
 
-/// The pools' journals.
+/// The pools' journals. Our own.
 pub fn pool_ends<K: Sink>(out: &mut Paper<K>, ends: &[UnitsEnd])
     ensures printed { Prints K.written K.faults out.old out.new (flat_map units_lines ends.now) }
     ensures numbers { AllByRecursion AreUnitsNumbered ends.now }
@@ -107,7 +107,7 @@ fn pool_word<K: Sink>(out: &mut Paper<K>, place: Place, amount: u64)
     )
 }
 
-/// The pools' deferred words.
+/// The pools' deferred words. Our own.
 pub fn pool_words<K: Sink>(out: &mut Paper<K>, words: &[PlaceAmount])
     ensures { Prints K.written K.faults out.old out.new (flat_map pool_deferred_line words.now) }
 {

@@ -196,7 +196,7 @@ fn add_half(piece: &mut Piece, end: usize, reply: &Reply) -> usize
     }
 }
 
-/// How an isolation ended.
+/// How an isolation ended. Our own.
 pub fn add_isolate_end(piece: &mut Piece, end: usize, ending: &IsolateEnd) -> usize
     requires { (115 ≤ end) × (end ≤ 512) }
     ensures text { drop result piece.new
@@ -289,7 +289,7 @@ fn add_of_pool(piece: &mut Piece, end: usize, reply: &Reply) -> usize
     }
 }
 
-/// A reply that isn't of a place's entry.
+/// A reply that isn't of a place's entry. Our own.
 pub fn add_answer(piece: &mut Piece, end: usize, reply: &Reply) -> usize
     requires reply { IsUnplaced reply.now }
     requires room { (225 ≤ end) × (end ≤ 512) }

@@ -34,7 +34,7 @@ fn answers<K: Sink>(out: &mut Paper<K>, worker: usize, part: &WorkerPart)
     }
 }
 
-/// The parts of the workers, numbered from 0.
+/// The parts of the workers, numbered from 0. Our own.
 pub fn workers<K: Sink>(out: &mut Paper<K>, parts: &[WorkerPart])
     ensures printed { Prints K.written K.faults out.old out.new
         (numbered worker_lines 0 parts.now) }

@@ -17,6 +17,7 @@ use shr_base::scripts::Command;
 use shr_base::text::Text;
 use std::alloc::Global;
 
+/// Of `put`. Our own.
 #[tactic(auto, unfolding(crate::specs::Drafted::command_said))]
 #[inline(always)]
 pub fn put_command(alloc: Global, said: &Said, rest: Option<&[u8]>) -> Result<Command, Stopped>
@@ -128,7 +129,7 @@ fn isolate_command(said: &Said, rest: Option<&[u8]>) -> Result<Command, Stopped>
     })
 }
 
-/// The command that the words behind its verb say.
+/// The command that the words behind its verb say. Our own.
 #[tactic(auto, unfolding(crate::specs::Drafted::command_said))]
 pub fn command_in(
     alloc: Global,

@@ -6,7 +6,7 @@ ghost use Rattle.shr_script.specs.Lines.{kind_of, verb_of, before_workers, among
 
 use shr_base::scripts::Code;
 
-/// What a worker is told to do, by the first word of a command's line.
+/// What a worker is told to do, by the first word of a command's line. Our own.
 #[derive(Clone, Copy)]
 pub enum Verb {
     Put,
@@ -25,7 +25,7 @@ pub enum Verb {
     Grab,
 }
 
-/// What a line is, by its first word. `Work` is a command's.
+/// What a line is, by its first word. `Work` is a command's. Our own.
 #[derive(Clone, Copy)]
 pub enum Kind {
     Header,
@@ -40,7 +40,7 @@ pub enum Kind {
     End,
 }
 
-/// How far a script has come: which lines may follow.
+/// How far a script has come: which lines may follow. Our own.
 #[derive(Clone, Copy)]
 pub enum Phase {
     Start,
@@ -185,7 +185,8 @@ fn is_served(version: u8, kind: Kind) -> bool
     }
 }
 
-/// The kind that a first word names, where such a line may stand in a script of this version.
+/// The kind that a first word names, where such a line may stand in a script of this version. Our
+/// own.
 #[tactic(auto, unfolding(crate::specs::Lines::kind_at))]
 pub fn kind_at(version: u8, phase: Phase, word: &[u8]) -> Result<Kind, Code>
     ensures { Gives (λ k. k) result (kind_at version phase word.now) }

@@ -7,31 +7,31 @@ ghost use Rattle.shr_script.specs.Script.{Fault, IsFault};
 ghost use Rattle.shr_script.specs.Read.{Refuted};
 ghost use Rattle.shr_script.specs.Bounds.{ValidIsWithin};
 
-/// No two valid scripts are spelled alike.
+/// No two valid scripts are spelled alike. Our own.
 pub fn one_spelling()
     ensures { (s t : Content) → IsValid s → IsValid t → spell s ≡ spell t → s ≡ t }
 {}
 
-/// Bytes have one fault at most.
+/// Bytes have one fault at most. Our own.
 pub fn one_fault()
     ensures { (bytes : List ℕ) (line other : ℕ) (code another : Code) → IsFault bytes line code
         → IsFault bytes other another → (line ≡ other) × (code ≡ another) }
 {}
 
-/// The spelling of a valid script has no fault.
+/// The spelling of a valid script has no fault. Our own.
 pub fn no_fault()
     ensures { (bytes : List ℕ) (t : Content) (line : ℕ) (code : Code) → IsSpelling bytes t
         → IsFault bytes line code → Refuted }
 {}
 
-/// Bytes are the spelling of a valid script, or they have a fault.
+/// Bytes are the spelling of a valid script, or they have a fault. Our own.
 pub fn spelling_or_fault()
     ensures { (bytes : List ℕ) → ((t : Content) × IsSpelling bytes t)
         ⊎ ((f : Fault) × IsFault bytes f.0 f.1) }
 {}
 
 /// A valid script is within its bounds: its sizes, its numbers and words, the tree of its groups,
-/// and what each command names.
+/// and what each command names. Our own.
 pub fn bounds()
     ensures { ValidIsWithin }
 {}

@@ -317,7 +317,7 @@ fn is_done(phase: Phase) -> bool
 }
 
 /// A part between line feeds, and whether the script is complete with it. The last part has no line
-/// feed.
+/// feed. Our own.
 #[tactic(auto, unfolding(crate::specs::Drafted::part_step))]
 pub fn part<'a>(
     alloc: Global,

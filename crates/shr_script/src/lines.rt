@@ -18,7 +18,7 @@ fn line_len(bytes: &[u8]) -> usize
     }
 }
 
-/// The next line, and what is left behind it: nothing, where no line feed ends the line.
+/// The next line, and what is left behind it: nothing, where no line feed ends the line. Our own.
 #[tactic(auto, unfolding(shr_model::specs::Pieces::left), using(shr_model::proofs::PiecesLaws::next_more, shr_model::proofs::PiecesLaws::next_last))]
 pub fn next_line(rest: Option<&[u8]>) -> Option<(&[u8], Option<&[u8]>)>
     ensures { option_map (λ x. (x.0.now, left 10 (option_map (λ r. r.now) x.1))) result

@@ -19,7 +19,7 @@ use shr_base::scripts::{Code, Script};
 use std::alloc::Global;
 use thiserror::Error;
 
-/// Why a script could not be read.
+/// Why a script could not be read. Our own.
 #[derive(Clone, Copy, Debug, PartialEq, Eq, Error)]
 pub enum ReadError {
     /// The first bad line, counted from 1, and what is wrong with it.

@@ -6,7 +6,7 @@ ghost use Rattle.shr_script.specs.declared.stopped.Stopped.TheVariants.{Bad, Mem
 use shr_base::memory::Memory;
 use shr_base::scripts::Code;
 
-/// Why reading stopped at a line: the line is bad by this code, or there was no memory.
+/// Why reading stopped at a line: the line is bad by this code, or there was no memory. Our own.
 #[derive(Clone, Copy)]
 pub enum Stopped {
     Bad(Code),

@@ -15,7 +15,7 @@ use shr_words::word::{
     pool_kind, text, walk_kind,
 };
 
-/// Of `shrinkers`.
+/// Of `shrinkers`. Our own.
 pub fn version_word(said: &Said, rest: Option<&[u8]>) -> Result<u8, Code>
     ensures { Gives (λ x. N x ∷ []) result (items_said (classes (said_state said.now) Header)
         (words_left rest.entry)) }
@@ -33,7 +33,7 @@ fn most_ids(version: u8) -> u32
     if version == 2 { 256 } else { 64 }
 }
 
-/// Of `size`.
+/// Of `size`. Our own.
 pub fn size_words(said: &Said, rest: Option<&[u8]>) -> Result<(u8, u16), Code>
     ensures { Gives (λ x. N x.0 ∷ N x.1 ∷ []) result
         (items_said (classes (said_state said.now) Size) (words_left rest.entry)) }
@@ -44,7 +44,7 @@ pub fn size_words(said: &Said, rest: Option<&[u8]>) -> Result<(u8, u16), Code>
     Ok((nodes as u8, ids as u16))
 }
 
-/// Of `group` and `later`.
+/// Of `group` and `later`. Our own.
 pub fn group_words<'a>(
     said: &Said,
     later: bool,
@@ -59,7 +59,7 @@ pub fn group_words<'a>(
     Ok((path, limit))
 }
 
-/// Of `cache`.
+/// Of `cache`. Our own.
 pub fn cache_words<'a>(
     said: &Said,
     rest: Option<&'a [u8]>,
@@ -79,7 +79,7 @@ pub fn cache_words<'a>(
     Ok((name, policy, seeks, batch, floor, fs, on))
 }
 
-/// Of `pool`.
+/// Of `pool`. Our own.
 pub fn pool_words<'a>(
     said: &Said,
     rest: Option<&'a [u8]>,
@@ -96,7 +96,7 @@ pub fn pool_words<'a>(
     Ok((name, seeks, batch, floor, flat))
 }
 
-/// Of `sweep`.
+/// Of `sweep`. Our own.
 pub fn sweep_words(said: &Said, rest: Option<&[u8]>) -> Result<(u8, bool), Code>
     ensures { Gives (λ x. N x.0 ∷ N (flag_place x.1) ∷ []) result
         (items_said (classes (said_state said.now) Sweep) (words_left rest.entry)) }
@@ -107,7 +107,7 @@ pub fn sweep_words(said: &Said, rest: Option<&[u8]>) -> Result<(u8, bool), Code>
     Ok((priority as u8, nofs))
 }
 
-/// Of `put`.
+/// Of `put`. Our own.
 #[inline(always)]
 pub fn put_words<'a>(
     said: &Said,
@@ -125,7 +125,7 @@ pub fn put_words<'a>(
     Ok((group, node as u8, cache as u8, key, value))
 }
 
-/// Of `get`, `del`, `pin` and `unpin`.
+/// Of `get`, `del`, `pin` and `unpin`. Our own.
 pub fn key_words<'a>(said: &Said, rest: Option<&'a [u8]>) -> Result<(u16, u8, u8, &'a [u8]), Code>
     ensures { Gives (λ x. N x.0 ∷ N x.1 ∷ N x.2 ∷ W x.3.now ∷ []) result
         (items_said (key_classes (said_state said.now)) (words_left rest.entry)) }
@@ -138,7 +138,7 @@ pub fn key_words<'a>(said: &Said, rest: Option<&'a [u8]>) -> Result<(u16, u8, u8
     Ok((group, node as u8, cache as u8, key))
 }
 
-/// Of `shrink`.
+/// Of `shrink`. Our own.
 pub fn shrink_words(said: &Said, rest: Option<&[u8]>) -> Result<(u16, u8, u8, bool), Code>
     ensures { Gives (λ x. N x.0 ∷ N x.1 ∷ N x.2 ∷ N (flag_place x.3) ∷ []) result
         (items_said (verb_classes (said_state said.now) Shrink) (words_left rest.entry)) }
@@ -151,7 +151,7 @@ pub fn shrink_words(said: &Said, rest: Option<&[u8]>) -> Result<(u16, u8, u8, bo
     Ok((group, node as u8, priority as u8, nofs))
 }
 
-/// Of `balance`.
+/// Of `balance`. Our own.
 pub fn balance_words(said: &Said, rest: Option<&[u8]>) -> Result<(u8, u8, bool), Code>
     ensures { Gives (λ x. N x.0 ∷ N x.1 ∷ N (flag_place x.2) ∷ []) result
         (items_said (verb_classes (said_state said.now) Balance) (words_left rest.entry)) }
@@ -163,7 +163,7 @@ pub fn balance_words(said: &Said, rest: Option<&[u8]>) -> Result<(u8, u8, bool),
     Ok((node as u8, priority as u8, nofs))
 }
 
-/// Of `offline`.
+/// Of `offline`. Our own.
 pub fn group_word(said: &Said, rest: Option<&[u8]>) -> Result<u16, Code>
     ensures { Gives (λ x. N x ∷ []) result (items_said (verb_classes (said_state said.now) Offline)
         (words_left rest.entry)) }
@@ -173,7 +173,7 @@ pub fn group_word(said: &Said, rest: Option<&[u8]>) -> Result<u16, Code>
     Ok(group)
 }
 
-/// Of `mkgroup`.
+/// Of `mkgroup`. Our own.
 pub fn later_group_word(said: &Said, rest: Option<&[u8]>) -> Result<u16, Code>
     ensures { Gives (λ x. N x ∷ []) result (items_said (verb_classes (said_state said.now) MkGroup)
         (words_left rest.entry)) }
@@ -183,7 +183,7 @@ pub fn later_group_word(said: &Said, rest: Option<&[u8]>) -> Result<u16, Code>
     Ok(group)
 }
 
-/// Of `isolate`.
+/// Of `isolate`. Our own.
 pub fn isolate_words(said: &Said, rest: Option<&[u8]>) -> Result<(u16, u8, u8, u32), Code>
     ensures { Gives (λ x. N x.0 ∷ N x.1 ∷ N x.2 ∷ N x.3 ∷ []) result
         (items_said (verb_classes (said_state said.now) Isolate) (words_left rest.entry)) }
@@ -196,7 +196,7 @@ pub fn isolate_words(said: &Said, rest: Option<&[u8]>) -> Result<(u16, u8, u8, u
     Ok((group, node as u8, cache as u8, budget))
 }
 
-/// Of `release`.
+/// Of `release`. Our own.
 pub fn release_words(said: &Said, rest: Option<&[u8]>) -> Result<(u8, u8, u32), Code>
     ensures { Gives (λ x. N x.0 ∷ N x.1 ∷ N x.2 ∷ []) result
         (items_said (verb_classes (said_state said.now) Release) (words_left rest.entry)) }
@@ -208,7 +208,7 @@ pub fn release_words(said: &Said, rest: Option<&[u8]>) -> Result<(u8, u8, u32), 
     Ok((node as u8, pool as u8, units))
 }
 
-/// Of `grab`.
+/// Of `grab`. Our own.
 pub fn grab_words(said: &Said, rest: Option<&[u8]>) -> Result<(u8, u8), Code>
     ensures { Gives (λ x. N x.0 ∷ N x.1 ∷ []) result (items_said (verb_classes (said_state said.now)
         Grab) (words_left rest.entry)) }
@@ -219,7 +219,7 @@ pub fn grab_words(said: &Said, rest: Option<&[u8]>) -> Result<(u8, u8), Code>
     Ok((node as u8, pool as u8))
 }
 
-/// Of `register` and `unregister`.
+/// Of `register` and `unregister`. Our own.
 pub fn cache_word(said: &Said, rest: Option<&[u8]>) -> Result<u8, Code>
     ensures { Gives (λ x. N x ∷ []) result (items_said (verb_classes (said_state said.now) Register)
         (words_left rest.entry)) }

@@ -3,7 +3,7 @@
 use shr_tool::status::Status;
 use std::{fs, io};
 
-/// What is given, and what must come.
+/// What is given, and what must come. Our own.
 #[derive(Drop)]
 pub(crate) struct Case {
     pub(crate) words: Vec<String>,
@@ -11,6 +11,7 @@ pub(crate) struct Case {
     pub(crate) wanted: Wanted,
 }
 
+/// What the program must answer. Our own.
 #[derive(Drop)]
 pub(crate) enum Wanted {
     /// This text with this status.
@@ -71,7 +72,7 @@ fn wanted_of(rt: &HostRuntime, name: &str) -> io::Result<Wanted> {
     Ok(Wanted::Rules { rules })
 }
 
-/// The case of a name.
+/// The case of a name. Our own.
 pub(crate) fn read(rt: &HostRuntime, name: &str) -> io::Result<Case> {
     Ok(Case {
         words: words_of(rt, name)?,

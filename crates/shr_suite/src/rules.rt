@@ -15,7 +15,7 @@ fn rule_of<'a>(rules: &'a str, word: &str) -> Option<&'a str> {
     None
 }
 
-/// How often a script is run.
+/// How often a script is run. Our own.
 pub(crate) fn runs(rules: &str) -> u32 {
     let said = rule_of(rules, "runs").and_then(|rest| rest.parse::<u32>().ok());
     said.unwrap_or(1)
@@ -140,7 +140,7 @@ fn holds(rule: &str, report: &str) -> bool {
     }
 }
 
-/// What a report breaks: one of the rules, or what holds of each.
+/// What a report breaks: one of the rules, or what holds of each. Our own.
 pub(crate) fn broken(alloc: Global, rules: &str, report: &str) -> io::Result<Option<String>> {
     for rule in rules.lines() {
         if !holds(rule, report) {

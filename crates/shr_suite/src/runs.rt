@@ -80,7 +80,7 @@ fn unlawful(alloc: Global, script: &[u8], text: &str) -> io::Result<Option<Strin
     Ok(Some(fault))
 }
 
-/// What is wrong with a case's runs; `None` where nothing is.
+/// What is wrong with a case's runs; `None` where nothing is. Our own.
 pub(crate) fn fault_of<R: Threads + Wait + Sync>(
     threads: &R,
     alloc: Global,

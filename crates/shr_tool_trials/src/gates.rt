@@ -3,13 +3,14 @@
 use shr_outside::outside::Gate;
 use std::sync::atomic::{AtomicU64, Ordering};
 
+/// A gate that lets each command through. Our own.
 pub(crate) struct Open;
 
 impl Gate for Open {
     fn before(&self, _worker: u16, _command: u32) {}
 }
 
-// A gate that counts its calls and adds up their numbers.
+/// A gate that counts its calls and adds up their numbers. Our own.
 #[derive(Drop)]
 pub(crate) struct Counting {
     calls: AtomicU64,
@@ -17,6 +18,7 @@ pub(crate) struct Counting {
 }
 
 impl Counting {
+    /// No call yet. Our own.
     pub(crate) fn new() -> Counting {
         Counting {
             calls: AtomicU64::new(0),
@@ -24,7 +26,7 @@ impl Counting {
         }
     }
 
-    // How often it was called, and the sum of the numbers.
+    /// How often it was called, and the sum of the numbers. Our own.
     pub(crate) fn seen(&self) -> (u64, u64) {
         (
             self.calls.load(Ordering::SeqCst),
@@ -44,7 +46,7 @@ impl Gate for Counting {
 // How often a worker looks for the other's flag before it gives up.
 const TURNS: u32 = 100_000_000;
 
-// A gate at which each of two workers waits for the other, before its second command.
+/// A gate at which each of two workers waits for the other, before its second command. Our own.
 #[derive(Drop)]
 pub(crate) struct Meeting {
     first: AtomicU64,
@@ -53,6 +55,7 @@ pub(crate) struct Meeting {
 }
 
 impl Meeting {
+    /// Neither worker has come. Our own.
     pub(crate) fn new() -> Meeting {
         Meeting {
             first: AtomicU64::new(0),
@@ -61,7 +64,7 @@ impl Meeting {
         }
     }
 
-    // How many workers gave up.
+    /// How many workers gave up. Our own.
     pub(crate) fn alone(&self) -> u64 {
         self.alone.load(Ordering::SeqCst)
     }

@@ -165,7 +165,8 @@ impl Tree {
         self.groups.as_slice()[g as usize].later
     }
 
-    /// The same of each group in the order of their numbers. `Memory` comes for want of memory.
+    /// The same of each group in the order of their numbers. `Memory` comes for want of memory. Our
+    /// own.
     pub fn laters(&self) -> Result<Log<bool>, Memory>
         ensures { IfOk result (λ l. l.items ≡ self.now.later) }
     {

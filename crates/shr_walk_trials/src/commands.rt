@@ -7,6 +7,7 @@ use shr_opening::target::Target;
 use shr_walk::worker::Worker;
 use std::sync::Wait;
 
+/// What a tenant is asked to do. Our own.
 #[derive(Clone, Copy)]
 pub(crate) enum Command {
     Put,
@@ -16,11 +17,11 @@ pub(crate) enum Command {
     Unpin,
 }
 
-// What is answered where no object is found or made: a word, and the entry of a journal or the
-// charges of the worker.
+/// What is answered where no object is found or made: a word, and the entry of a journal or the
+/// charges of the worker. Our own.
 pub(crate) type Heard = (&'static str, u32);
 
-// What an answer says.
+/// What an answer says. Our own.
 pub(crate) fn heard(answer: Option<Answered>) -> Heard {
     let Some(answered) = answer else {
         return ("nothing", 0);
@@ -35,7 +36,7 @@ pub(crate) fn heard(answer: Option<Answered>) -> Heard {
     }
 }
 
-// One call. The value of an object that is put is "v".
+/// One call. The value of an object that is put is "v". Our own.
 pub(crate) fn ask<R: Wait>(
     worker: &mut Worker<'_, R>,
     asked: Command,

@@ -21,7 +21,8 @@ use shr_pass::shrinker::Shrinker;
 use shr_walk::seats::{CacheSeat, Shared};
 use std::sync::Wait;
 
-// The list of a place. Where `late` is true, an object is added to it behind the next count.
+/// The list of a place. Where `late` is true, an object is added to it behind the next count. Our
+/// own.
 #[derive(Drop)]
 pub(crate) struct Fake<'a, R: Wait> {
     pub(crate) rt: &'a R,

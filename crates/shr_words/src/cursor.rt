@@ -12,7 +12,7 @@ fn part_len(bytes: &[u8], separator: u8) -> usize
 }
 
 #[tactic(auto, unfolding(shr_model::specs::Pieces::left), using(shr_model::proofs::PiecesLaws::next_more, shr_model::proofs::PiecesLaws::next_last))]
-/// The next part, and what is left behind it: nothing, where no separator ends the part.
+/// The next part, and what is left behind it: nothing, where no separator ends the part. Our own.
 #[inline]
 pub fn next(rest: Option<&[u8]>, separator: u8) -> Option<(&[u8], Option<&[u8]>)>
     ensures { option_map (λ x. (x.0.now, left separator (option_map (λ r. r.now) x.1))) result

@@ -24,7 +24,7 @@ fn all_parts(bytes: &[u8]) -> bool
 }
 
 /// Whether a word is `/`, or one or more parts, each `/` and 1 to 32 bytes of `a` to `z`, `0` to
-/// `9` and `_`.
+/// `9` and `_`. Our own.
 #[tactic(auto, unfolding(shr_model::specs::Paths::is_path))]
 pub fn is_path(word: &[u8]) -> bool
     ensures { result ≡ is_path word.now }
@@ -43,7 +43,7 @@ fn last_part_len(path: &[u8]) -> usize
     path.iter().rev().take_while(|b| **b != b'/').count()
 }
 
-/// The path without its last part, or `/` where that is nothing.
+/// The path without its last part, or `/` where that is nothing. Our own.
 #[tactic(auto, unfolding(shr_model::specs::Paths::parent_path))]
 pub fn parent_path(path: &[u8]) -> &[u8]
     ensures { result.now ≡ parent_path path.now }

@@ -58,7 +58,7 @@ fn few_name_bytes(bytes: &[u8]) -> usize
     bytes.iter().take_while(|b| is_name_byte(**b)).count()
 }
 
-/// How many bytes from 33 to 126 there are before the first other.
+/// How many bytes from 33 to 126 there are before the first other. Our own.
 #[inline(always)]
 pub(crate) fn visible_len(bytes: &[u8]) -> usize
     ensures front { result ≡ prefix_len is_visible bytes.now }
@@ -80,7 +80,7 @@ pub(crate) fn visible_len(bytes: &[u8]) -> usize
     last + visible_run(bytes, last)
 }
 
-/// How many bytes of names there are before the first other.
+/// How many bytes of names there are before the first other. Our own.
 #[inline(always)]
 pub(crate) fn name_len(bytes: &[u8]) -> usize
     ensures front { result ≡ prefix_len is_name_byte bytes.now }

@@ -17,7 +17,7 @@ use crate::runs::{name_len, visible_len};
 use shr_base::objects::Policy;
 use shr_base::scripts::Code;
 
-/// The next word, and what is left of the line behind it.
+/// The next word, and what is left of the line behind it. Our own.
 #[tactic(auto, unfolding(crate::specs::Classes::taken))]
 pub fn word(rest: Option<&[u8]>) -> Result<(&[u8], Option<&[u8]>), Code>
     ensures { Gives (λ x. (x.0.now, words_left x.1)) result (taken (words_left rest.entry)) }
@@ -102,7 +102,7 @@ fn path_word(rest: Option<&[u8]>) -> Result<(&[u8], Option<&[u8]>), Code>
     }
 }
 
-/// A line ends behind its last word.
+/// A line ends behind its last word. Our own.
 #[tactic(auto, unfolding(crate::specs::Classes::ended))]
 pub fn end(rest: Option<&[u8]>) -> Result<(), Code>
     ensures { Gives (λ x. x) result (ended (words_left rest.entry)) }
@@ -164,7 +164,7 @@ fn digit(bytes: &[u8]) -> Option<(u32, &[u8])>
     Some(((bytes[0] - b'0') as u32, &bytes[2..]))
 }
 
-/// A number from low to below high.
+/// A number from low to below high. Our own.
 #[tactic(auto, unfolding(crate::specs::Classes::item_at))]
 #[inline(always)]
 pub fn number(rest: Option<&[u8]>, low: u32, high: u32) -> Result<(u32, Option<&[u8]>), Code>
@@ -184,7 +184,7 @@ pub fn number(rest: Option<&[u8]>, low: u32, high: u32) -> Result<(u32, Option<&
     Ok((n, rest))
 }
 
-/// `max`, or a number to a million.
+/// `max`, or a number to a million. Our own.
 #[tactic(auto, unfolding(crate::specs::Classes::item_at, crate::specs::Classes::limit_spelled))]
 pub fn limit(rest: Option<&[u8]>) -> Result<(Option<u32>, Option<&[u8]>), Code>
     ensures { Gives (λ x. (L x.0, words_left x.1)) result (item_at Limit (words_left rest.entry)) }
@@ -197,7 +197,7 @@ pub fn limit(rest: Option<&[u8]>) -> Result<(Option<u32>, Option<&[u8]>), Code>
     Ok((Some(n), rest))
 }
 
-/// A path.
+/// A path. Our own.
 #[tactic(auto, using(crate::proofs::PathLaws::path_item))]
 pub fn path(rest: Option<&[u8]>) -> Result<(&[u8], Option<&[u8]>), Code>
     ensures { Gives (λ x. (W x.0.now, words_left x.1)) result (item_at (Plain PathTest)
@@ -206,7 +206,7 @@ pub fn path(rest: Option<&[u8]>) -> Result<(&[u8], Option<&[u8]>), Code>
     path_word(rest)
 }
 
-/// A name.
+/// A name. Our own.
 #[tactic(auto, using(crate::proofs::ItemLaws::name_item))]
 pub fn name(rest: Option<&[u8]>) -> Result<(&[u8], Option<&[u8]>), Code>
     ensures { Gives (λ x. (W x.0.now, words_left x.1)) result (item_at (Plain NameTest)
@@ -220,7 +220,7 @@ pub fn name(rest: Option<&[u8]>) -> Result<(&[u8], Option<&[u8]>), Code>
     }
 }
 
-/// A key.
+/// A key. Our own.
 #[tactic(auto, using(crate::proofs::ItemLaws::key_item))]
 pub fn key(rest: Option<&[u8]>) -> Result<(&[u8], Option<&[u8]>), Code>
     ensures { Gives (λ x. (W x.0.now, words_left x.1)) result (item_at (Plain KeyTest)
@@ -234,7 +234,7 @@ pub fn key(rest: Option<&[u8]>) -> Result<(&[u8], Option<&[u8]>), Code>
     }
 }
 
-/// A value, without its `=`.
+/// A value, without its `=`. Our own.
 #[tactic(auto, using(crate::proofs::ItemLaws::text_item, crate::proofs::ItemLaws::text_value))]
 #[inline(always)]
 pub fn text(rest: Option<&[u8]>) -> Result<(&[u8], Option<&[u8]>), Code>
@@ -254,7 +254,7 @@ pub fn text(rest: Option<&[u8]>) -> Result<(&[u8], Option<&[u8]>), Code>
     }
 }
 
-/// The number of a group that was declared.
+/// The number of a group that was declared. Our own.
 #[tactic(auto, using(crate::proofs::PathLaws::group_item))]
 #[inline(always)]
 pub fn group<'a>(rest: Option<&'a [u8]>, groups: &Names) -> Result<(u16, Option<&'a [u8]>), Code>
@@ -269,7 +269,7 @@ pub fn group<'a>(rest: Option<&'a [u8]>, groups: &Names) -> Result<(u16, Option<
     }
 }
 
-/// The number of a cache that was declared.
+/// The number of a cache that was declared. Our own.
 #[tactic(auto, using(crate::proofs::ItemLaws::cache_item))]
 #[inline(always)]
 pub fn cache<'a>(rest: Option<&'a [u8]>, caches: &Names) -> Result<(u16, Option<&'a [u8]>), Code>
@@ -287,7 +287,7 @@ pub fn cache<'a>(rest: Option<&'a [u8]>, caches: &Names) -> Result<(u16, Option<
     }
 }
 
-/// Whether a place is marked; one behind the last mark isn't.
+/// Whether a place is marked; one behind the last mark isn't. Our own.
 pub fn is_marked(marks: &[bool], place: u16) -> bool
     ensures { result ≡ slice_index_or marks.now place false }
 {
@@ -297,7 +297,7 @@ pub fn is_marked(marks: &[bool], place: u16) -> bool
     }
 }
 
-/// The number of a group that was declared and is marked.
+/// The number of a group that was declared and is marked. Our own.
 #[tactic(auto, using(crate::proofs::ItemLaws::marked_is))]
 pub fn marked_group<'a>(
     rest: Option<&'a [u8]>,
@@ -316,7 +316,7 @@ pub fn marked_group<'a>(
     }
 }
 
-/// `any`, or `fs`.
+/// `any`, or `fs`. Our own.
 #[tactic(auto, unfolding(crate::specs::Classes::item_at, crate::specs::Classes::chosen_of, crate::specs::Classes::place_of))]
 pub fn cache_kind(rest: Option<&[u8]>) -> Result<(bool, Option<&[u8]>), Code>
     ensures { Gives (λ x. (N (flag_place x.0), words_left x.1)) result (item_at (Chosen Kinds)
@@ -332,7 +332,7 @@ pub fn cache_kind(rest: Option<&[u8]>) -> Result<(bool, Option<&[u8]>), Code>
     }
 }
 
-/// `off`, or `on`.
+/// `off`, or `on`. Our own.
 #[tactic(auto, unfolding(crate::specs::Classes::item_at, crate::specs::Classes::chosen_of, crate::specs::Classes::place_of))]
 pub fn at_start(rest: Option<&[u8]>) -> Result<(bool, Option<&[u8]>), Code>
     ensures { Gives (λ x. (N (flag_place x.0), words_left x.1)) result (item_at (Chosen Starts)
@@ -348,7 +348,7 @@ pub fn at_start(rest: Option<&[u8]>) -> Result<(bool, Option<&[u8]>), Code>
     }
 }
 
-/// `plain`, `clock` or `halt`.
+/// `plain`, `clock` or `halt`. Our own.
 #[tactic(auto, unfolding(crate::specs::Classes::item_at, crate::specs::Classes::chosen_of, crate::specs::Classes::place_of))]
 pub fn policy(rest: Option<&[u8]>) -> Result<(Policy, Option<&[u8]>), Code>
     ensures { Gives (λ x. (N (policy_place x.0), words_left x.1)) result (item_at (Chosen Policies)
@@ -366,7 +366,7 @@ pub fn policy(rest: Option<&[u8]>) -> Result<(Policy, Option<&[u8]>), Code>
     }
 }
 
-/// `fs`, or `nofs`.
+/// `fs`, or `nofs`. Our own.
 #[tactic(auto, unfolding(crate::specs::Classes::item_at, crate::specs::Classes::chosen_of, crate::specs::Classes::place_of))]
 pub fn walk_kind(rest: Option<&[u8]>) -> Result<(bool, Option<&[u8]>), Code>
     ensures { Gives (λ x. (N (flag_place x.0), words_left x.1)) result (item_at (Chosen Walks)
@@ -382,7 +382,7 @@ pub fn walk_kind(rest: Option<&[u8]>) -> Result<(bool, Option<&[u8]>), Code>
     }
 }
 
-/// `nodes`, or `flat`.
+/// `nodes`, or `flat`. Our own.
 #[tactic(auto, unfolding(crate::specs::Classes::item_at, crate::specs::Classes::chosen_of, crate::specs::Classes::place_of))]
 pub fn pool_kind(rest: Option<&[u8]>) -> Result<(bool, Option<&[u8]>), Code>
     ensures { Gives (λ x. (N (flag_place x.0), words_left x.1)) result (item_at (Chosen PoolKinds)

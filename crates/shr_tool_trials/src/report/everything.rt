@@ -81,6 +81,7 @@ fn add_tables(report: &mut Report) -> Result<(), Fail> {
     Ok(())
 }
 
+/// A report with a line of each kind. Our own.
 pub fn everything(alloc: Global) -> Result<Report, Fail> {
     let mut report = empty(alloc)?;
     add_head(alloc, &mut report)?;
@@ -90,7 +91,7 @@ pub fn everything(alloc: Global) -> Result<Report, Fail> {
     Ok(report)
 }
 
-/// Its lines before those of the workers.
+/// Its lines before those of the workers. Our own.
 pub const BEFORE_WORKERS: &str = "\
 report 1\n\
 size 2 64\n\
@@ -107,7 +108,7 @@ tree 1 begin 2\n\
 tree 2 done 2\n\
 ";
 
-/// Its lines behind those of the lists.
+/// Its lines behind those of the lists. Our own.
 pub const AFTER_LISTS: &str = "\
 bit 0 1 0000000000000001\n\
 bit 0 2 abcdef0000000000\n\

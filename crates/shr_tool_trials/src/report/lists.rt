@@ -110,7 +110,7 @@ fn list(alloc: Global, place: Place) -> PlaceEnd {
     }
 }
 
-/// A list with every entry, and with items of each mark and pin.
+/// A list with every entry, and with items of each mark and pin. Our own.
 pub fn every_entry(alloc: Global) -> Result<PlaceEnd, Fail> {
     let mut end = list(alloc, PLACE);
     end.entries.add(added(alloc)?)?;
@@ -121,7 +121,7 @@ pub fn every_entry(alloc: Global) -> Result<PlaceEnd, Fail> {
     Ok(end)
 }
 
-/// A list that was closed.
+/// A list that was closed. Our own.
 pub fn closed(alloc: Global) -> Result<PlaceEnd, Fail> {
     let mut end = list(
         alloc,
@@ -135,7 +135,7 @@ pub fn closed(alloc: Global) -> Result<PlaceEnd, Fail> {
     Ok(end)
 }
 
-/// The lines of the two.
+/// The lines of the two. Our own.
 pub const EVERY_LIST: &str = "\
 list 0 0 1\n\
 add 0 0 1 k1 =v1 added\n\

@@ -11,13 +11,14 @@ use shr_report::report::Report;
 use std::alloc::Global;
 use std::test::Fail;
 
-/// Of the lists of one group on one node, that of id 0.
+/// Of the lists of one group on one node, that of id 0. Our own.
 pub const PLACE: Place = Place {
     id: 0,
     node: 0,
     group: 1,
 };
 
+/// An entry of the journal of `PLACE`. Our own.
 pub fn at(entry: u32) -> At {
     At {
         place: PLACE,
@@ -25,11 +26,12 @@ pub fn at(entry: u32) -> At {
     }
 }
 
+/// A command of a worker. Our own.
 pub fn by(worker: u16, command: u32) -> Serial {
     Serial { worker, command }
 }
 
-/// An answer to a command whose cache was held by the lookup of this number.
+/// An answer to a command whose cache was held by the lookup of this number. Our own.
 pub fn held(reply: Reply, number: u32) -> Answered {
     Answered {
         reply,
@@ -41,18 +43,22 @@ pub fn held(reply: Reply, number: u32) -> Answered {
     }
 }
 
+/// An answer to a command that held no cache. Our own.
 pub fn unheld(reply: Reply) -> Answered {
     Answered { reply, found: None }
 }
 
+/// The key of each entry and object here. Our own.
 pub fn key(alloc: Global) -> Result<Text, Fail> {
     Ok(Text::of(alloc, b"k1")?)
 }
 
+/// The value of each object here. Our own.
 pub fn value(alloc: Global) -> Result<Text, Fail> {
     Ok(Text::of(alloc, b"v1")?)
 }
 
+/// The entry of a put that added its object. Our own.
 pub fn added(alloc: Global) -> Result<Entry, Fail> {
     Ok(Entry::Add {
         by: by(0, 0),
@@ -63,6 +69,7 @@ pub fn added(alloc: Global) -> Result<Entry, Fail> {
     })
 }
 
+/// An object with this key, neither marked nor pinned. Our own.
 pub fn object(alloc: Global, key: &[u8]) -> Result<Object, Fail> {
     Ok(Object {
         serial: by(0, 0),
@@ -74,6 +81,7 @@ pub fn object(alloc: Global, key: &[u8]) -> Result<Object, Fail> {
     })
 }
 
+/// An operation on the usage of a group. Our own.
 pub fn step(group: u16, operation: u64, up: bool, found: i64, by: Serial) -> UseStep {
     UseStep {
         group,
@@ -84,6 +92,7 @@ pub fn step(group: u16, operation: u64, up: bool, found: i64, by: Serial) -> Use
     }
 }
 
+/// The bit word of a group on node 0. Our own.
 pub fn bit(group: u16, bits: u64) -> MapEnd {
     MapEnd {
         node: 0,
@@ -118,7 +127,7 @@ fn nothing(alloc: Global) -> Report {
     }
 }
 
-/// A report of one cache and of groups / and /a, with no section but the first four.
+/// A report of one cache and of groups / and /a, with no section but the first four. Our own.
 pub fn empty(alloc: Global) -> Result<Report, Fail> {
     let mut report = nothing(alloc);
     report.groups.add(Text::of(alloc, b"/")?)?;

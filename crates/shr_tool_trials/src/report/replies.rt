@@ -153,6 +153,7 @@ fn of_pools(answers: &mut Log<Answered>) -> Result<(), Fail> {
     Ok(())
 }
 
+/// An answer of each kind. Our own.
 pub fn every_reply(alloc: Global) -> Result<Log<Answered>, Fail> {
     let mut answers = Log::new(alloc);
     of_tenants(alloc, &mut answers)?;
@@ -164,7 +165,7 @@ pub fn every_reply(alloc: Global) -> Result<Log<Answered>, Fail> {
     Ok(answers)
 }
 
-/// Their lines.
+/// Their lines. Our own.
 pub const EVERY_REPLY: &str = "\
 reply 0 0 added 0 0 1 0\n\
 find 0 0 1\n\

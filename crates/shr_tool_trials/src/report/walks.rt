@@ -159,7 +159,7 @@ fn add_walks(alloc: Global, part: &mut WorkerPart) -> Result<(), Fail> {
     Ok(())
 }
 
-/// Three walks; a carry of the second command and two of the third.
+/// Three walks; a carry of the second command and two of the third. Our own.
 pub fn every_walk(alloc: Global) -> Result<WorkerPart, Fail> {
     let mut part = WorkerPart {
         answers: Log::new(alloc),
@@ -182,7 +182,7 @@ pub fn every_walk(alloc: Global) -> Result<WorkerPart, Fail> {
     Ok(part)
 }
 
-/// Their lines.
+/// Their lines. Our own.
 pub const EVERY_WALK: &str = "\
 reply 1 0 walked 55\n\
 walk 0 1 1 12 nofs ran 55\n\

@@ -21,7 +21,7 @@ fn charge_once<R: Wait>(worker: &mut Worker<'_, R>) -> bool {
     true
 }
 
-/// Charges group 1 until the worker's charges are used up.
+/// Charges group 1 until the worker's charges are used up. Our own.
 pub fn wear<R: Wait>(worker: &mut Worker<'_, R>) {
     for _turn in 0..1_048_577 {
         if !charge_once(worker) {

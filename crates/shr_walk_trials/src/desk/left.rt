@@ -4,7 +4,7 @@ use shr_base::places::Place;
 use shr_base::walks::Outcome;
 use shr_walk::seats::Seats;
 
-/// The place of id 0 of a group on node 0.
+/// The place of id 0 of a group on node 0. Our own.
 pub const fn place_of(group: u16) -> Place {
     Place {
         id: 0,
@@ -13,7 +13,7 @@ pub const fn place_of(group: u16) -> Place {
     }
 }
 
-/// What a walk of a worker came to, by the number of the walk and that of its attempt.
+/// What a walk of a worker came to, by the number of the walk and that of its attempt. Our own.
 pub fn outcome(seats: &Seats, walk: usize, attempt: usize) -> Option<Outcome> {
     let attempts = seats.walks.get(walk)?.attempts();
     Some(attempts.get(attempt)?.outcome)

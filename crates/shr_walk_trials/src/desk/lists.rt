@@ -9,13 +9,13 @@ use shr_node::tenants::{self, TenantCall};
 use shr_walk::worker::Worker;
 use std::sync::Wait;
 
-/// The command that makes each call.
+/// The command that makes each call. Our own.
 pub const BY: Serial = Serial {
     worker: 0,
     command: 0,
 };
 
-/// Adds an object of this key, whose birth group is that of the place.
+/// Adds an object of this key, whose birth group is that of the place. Our own.
 pub fn add<R: Wait>(worker: &mut Worker<'_, R>, place: Place, key: &[u8]) -> Option<NodeAdd> {
     let shared = worker.shared;
     let object = Object {
@@ -34,6 +34,7 @@ pub fn add<R: Wait>(worker: &mut Worker<'_, R>, place: Place, key: &[u8]) -> Opt
 }
 
 /// Adds so many objects whose keys are the two bytes of their numbers, and tells how many were added.
+/// Our own.
 pub fn fill<R: Wait>(worker: &mut Worker<'_, R>, place: Place, objects: u16) -> u32 {
     let mut added: u32 = 0;
     for number in 0..objects {
@@ -44,12 +45,12 @@ pub fn fill<R: Wait>(worker: &mut Worker<'_, R>, place: Place, objects: u16) -> 
     added
 }
 
-/// Whether an object was added.
+/// Whether an object was added. Our own.
 pub fn is_added(answer: &Option<NodeAdd>) -> bool {
     matches!(answer, Some(NodeAdd::Added { at: _ }))
 }
 
-/// Takes an object out.
+/// Takes an object out. Our own.
 pub fn drop_key<R: Wait>(worker: &mut Worker<'_, R>, place: Place, key: &[u8]) -> Option<NodeDrop> {
     let shared = worker.shared;
     let key = Text::of(shared.core.alloc, key).ok()?;

@@ -20,6 +20,7 @@ use std::sync::Wait;
 use std::test::Fail;
 
 /// What a script's workers share, the first seats, which only end it, and the seats of a worker.
+/// Our own.
 #[derive(Drop)]
 pub struct Desk {
     pub shared: Shared,
@@ -67,7 +68,7 @@ fn shorten(
     Ok((shared, first))
 }
 
-/// The seats of one worker more, where the first seats were split `splits` times.
+/// The seats of one worker more, where the first seats were split `splits` times. Our own.
 pub fn another(shared: &Shared, first: &mut Seats, splits: u8) -> Result<Seats, Memory>
     requires shared { IsShared shared.now }
     requires first { AreFirstSeats shared.now first.old splits }
@@ -91,7 +92,7 @@ pub fn another(shared: &Shared, first: &mut Seats, splits: u8) -> Result<Seats, 
     })
 }
 
-/// The worker of these seats.
+/// The worker of these seats. Our own.
 pub fn worker_of<'a, R: Wait>(rt: &'a R, shared: &'a Shared, seats: Seats) -> Worker<'a, R>
     requires { IsFit shared.now seats }
     ensures { result.shared ≡ shared.entry.now }
@@ -104,7 +105,7 @@ pub fn worker_of<'a, R: Wait>(rt: &'a R, shared: &'a Shared, seats: Seats) -> Wo
     }
 }
 
-/// The seats of a worker that is done.
+/// The seats of a worker that is done. Our own.
 pub fn seats_of<R: Wait>(worker: Worker<'_, R>) -> Seats
     ensures { IsFit worker.entry.shared result }
 {
@@ -162,7 +163,8 @@ fn desk_of<R: Wait>(rt: &R, shared: Shared, mut first: Seats) -> Result<Desk, Fa
     })
 }
 
-/// A desk for a script, whose caches that are on are registered. It has one worker's seats.
+/// A desk for a script, whose caches that are on are registered. It has one worker's seats. Our
+/// own.
 pub fn open<R: Wait>(rt: &R, alloc: Global, text: &[u8]) -> Result<Desk, Fail>
     ensures first { IfOk result (λ d. AreFirstSeats d.shared d.first 1) }
     ensures seats { IfOk result (λ d. IsFit d.shared d.seats) }
@@ -171,7 +173,7 @@ pub fn open<R: Wait>(rt: &R, alloc: Global, text: &[u8]) -> Result<Desk, Fail>
     desk_of(rt, shared, first)
 }
 
-/// The same, but that a list's journal takes at most so many entries beside its Closed.
+/// The same, but that a list's journal takes at most so many entries beside its Closed. Our own.
 pub fn open_short<R: Wait>(
     rt: &R,
     alloc: Global,
@@ -187,5 +189,5 @@ pub fn open_short<R: Wait>(
     desk_of(rt, shared, first)
 }
 
-/// Lets go of a desk. That is proved here, once for all that have one.
+/// Lets go of a desk. That is proved here, once for all that have one. Our own.
 pub fn close(_desk: Desk) {}

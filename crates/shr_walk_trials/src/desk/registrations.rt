@@ -8,7 +8,7 @@ use shr_registry::{registering, unregistering};
 use shr_walk::worker::Worker;
 use std::sync::Wait;
 
-/// Registers a declaration, if there is such a one.
+/// Registers a declaration, if there is such a one. Our own.
 pub fn register<R: Wait>(worker: &mut Worker<'_, R>, decl: u8) -> Option<RegisterAnswer>
     ensures { worker.new.shared ≡ worker.old.shared }
 {
@@ -19,7 +19,7 @@ pub fn register<R: Wait>(worker: &mut Worker<'_, R>, decl: u8) -> Option<Registe
     Some(registering::register(worker.rt, core, &mut worker.seats.cache.core, decl))
 }
 
-/// Unregisters a declaration, if there is such a one. Its objects are not uncharged.
+/// Unregisters a declaration, if there is such a one. Its objects are not uncharged. Our own.
 pub fn unregister<R: Wait>(worker: &mut Worker<'_, R>, decl: u8) -> Option<UnregisterAnswer> {
     let core = &worker.shared.core;
     if decl >= core.shape().decls {

@@ -6,7 +6,7 @@ use shr_core::counts::Seen;
 use shr_walk::worker::Worker;
 use std::sync::Wait;
 
-/// The count of a place.
+/// The count of a place. Our own.
 pub fn count<R: Wait>(worker: &mut Worker<'_, R>, place: Place) -> Option<Seen> {
     if !is_place(worker.shared, place) {
         return None;
@@ -15,7 +15,7 @@ pub fn count<R: Wait>(worker: &mut Worker<'_, R>, place: Place) -> Option<Seen> 
     Some(core.count(&mut worker.seats.cache.core, place))
 }
 
-/// Whether the bit of a place below the root is set, for an id below 64.
+/// Whether the bit of a place below the root is set, for an id below 64. Our own.
 pub fn is_set<R: Wait>(worker: &mut Worker<'_, R>, place: Place) -> Option<bool> {
     if !is_place(worker.shared, place) || place.group == 0 || place.id >= 64 {
         return None;
@@ -26,6 +26,7 @@ pub fn is_set<R: Wait>(worker: &mut Worker<'_, R>, place: Place) -> Option<bool>
 }
 
 /// The phase of an id: modulo 3 it is 0 where the id is idle, 1 where it is live, and 2 where it is dying.
+/// Our own.
 pub fn phase<R: Wait>(worker: &mut Worker<'_, R>, id: u16) -> Option<u16> {
     let core = &worker.shared.core;
     if id >= core.shape().ids {
@@ -34,7 +35,7 @@ pub fn phase<R: Wait>(worker: &mut Worker<'_, R>, id: u16) -> Option<u16> {
     Some(core.word_of(&mut worker.seats.cache.core, id).phase)
 }
 
-/// Defers so many objects more at a place, and tells whether there is such a place.
+/// Defers so many objects more at a place, and tells whether there is such a place. Our own.
 pub fn defer<R: Wait>(worker: &mut Worker<'_, R>, place: Place, more: u64) -> bool {
     if !is_place(worker.shared, place) {
         return false;
@@ -44,7 +45,7 @@ pub fn defer<R: Wait>(worker: &mut Worker<'_, R>, place: Place, more: u64) -> bo
     true
 }
 
-/// What is deferred at a place. It is deferred there no more.
+/// What is deferred at a place. It is deferred there no more. Our own.
 pub fn take_deferred<R: Wait>(worker: &mut Worker<'_, R>, place: Place) -> Option<u64> {
     if !is_place(worker.shared, place) {
         return None;
