@@ -1,13 +1,12 @@
 -- The names that the proofs of this crate cite most, passed on from one place. Declares nothing.
-pub use Rattle.std.proofs.Common.{Bool, Contains, List, None, Option, Some, [], add-one, ap, append_assoc, arith, cond, drop, drop-cons, false, get_or, inl, inr, is_some, length, length-append, length-drop, map, min, refl, rules, subst, suc, sym, take, true, zero, ℕ, ◌&&◌, ◌++◌, ◌+◌, ◌-◌, ◌<◌, ◌==◌, ◌∙◌, ◌∷◌, ◌≡◌, ◌≢◌, ◌≤◌, ◌⊎◌}
+pub use Rattle.std.proofs.Common.{Bool, Contains, List, None, Option, Some, [], add-one, ap, append_assoc, arith, cond, drop, drop-cons, false, get_or, inl, inr, is_some, length, length-append, length-drop, map, min, ne_eqb, refl, rules, subst, suc, sym, take, true, zero, ℕ, ◌&&◌, ◌++◌, ◌+◌, ◌-◌, ◌<◌, ◌==◌, ◌∙◌, ◌∷◌, ◌≡◌, ◌≢◌, ◌≤◌, ◌⊎◌}
 pub use Rattle.std.proofs.lemmas.Bool.{cases_Bool, cases_eq, eq-eqb, eqb-true, or_parts}
 pub use Rattle.std.proofs.lemmas.List.{append-nil, drop_all, length-map, map-append, nil_from_length, take-append-le, take_all}
-pub use Rattle.std.proofs.lemmas.Map.Lookups.{exact_bytes, exact_unsigned}
-pub use Rattle.std.specs.BTreeMap.{UpdatesBy}
+pub use Rattle.std.proofs.lemmas.Map.Lookups.{exact_bytes}
+pub use Rattle.std.specs.HashMap.{UpdatesBy}
 pub use Rattle.std.specs.Cmp.Lexicographic.{bytes_decides, slice_cmp}
 pub use Rattle.std.specs.List.{AllByRecursion, find, list_any, position, zip}
-pub use Rattle.std.specs.Ordering.{is_eq, nat_cmp}
-pub use Rattle.std.specs.Prelude.{Err, IfOk, IsSome, Ok, OnErr, Result, Vec, bytes_eq, if◌then◌else◌, option_map, slice_get}
+pub use Rattle.std.specs.Prelude.{Err, IfOk, IsSome, Ok, OnErr, Result, Vec, bytes_eq, if◌then◌else◌, nat_eq, option_map, slice_get}
 pub use Rattle.shr_base.specs.declared.items.Node.{Node}
 pub use Rattle.shr_base.specs.declared.objects.LruStatus.TheVariants.{Removed, Rotate, Skip, Stop}
 pub use Rattle.shr_base.specs.declared.objects.Object.{Object}

@@ -1,6 +1,5 @@
 -- What an index finds, over changes of its prints and of its clashes.
-use Rattle.shr_list.proofs.Common.{◌≡◌, ◌≢◌, ◌⊎◌, Added, New, Known, Crowded, ℕ, true, ◌==◌, [], Option, Some, None, refl, sym, ap, subst, ◌∙◌, inl, inr, eqb-true, cases_Bool, cases_eq, IsSome, bytes_eq, option_map, if◌then◌else◌, Result, Ok, Err, OnErr, bytes_decides, nat_cmp, UpdatesBy, exact_unsigned, Names, found_clash, AddsClash, IsSameClashes, Name, is_same, print_of, entry_at, PutsNode, KeepsFound, GainsName, TurnsName, and_true, eq-eqb, PutsClash, owned, Owns, NodesByName, FitsFound}
-use Rattle.shr_list.proofs.Indexes.{not_equal}
+use Rattle.shr_list.proofs.Common.{◌≡◌, ◌≢◌, ◌⊎◌, Added, New, Known, Crowded, ℕ, true, ◌==◌, [], Option, Some, None, refl, sym, ap, subst, ◌∙◌, inl, inr, eqb-true, cases_Bool, cases_eq, IsSome, bytes_eq, option_map, if◌then◌else◌, Result, Ok, Err, OnErr, bytes_decides, nat_eq, UpdatesBy, ne_eqb, Names, found_clash, AddsClash, IsSameClashes, Name, is_same, print_of, entry_at, PutsNode, KeepsFound, GainsName, TurnsName, and_true, eq-eqb, PutsClash, owned, Owns, NodesByName, FitsFound}
 
 pub same_is : (one other : Name) → is_same one other ≡ true → one ≡ other
 same_is one other same =
@@ -181,10 +180,10 @@ fits_entry old new name place found after fits alone only entry entries clashes 
 
 -- the entry of a print is this now, or none, and the others are as before
 abbrev pub SetsEntry : Names → Names → ℕ → Option ℕ → Type 0
-SetsEntry old new print place = UpdatesBy nat_cmp (nat_cmp print) old.prints new.prints place
+SetsEntry old new print place = UpdatesBy nat_eq (nat_eq print) old.prints new.prints place
 
 entries_apart : (old new : Names) (print : ℕ) (place : Option ℕ) → SetsEntry old new print place → (p : ℕ) → p ≢ print → entry_at new p ≡ entry_at old p
-entries_apart old new print place sets p ne = sets.2 p (not_equal (nat_cmp print p) (λ e. ne (sym (exact_unsigned print p e))))
+entries_apart old new print place sets p ne = sets.2 p (ne_eqb print p (λ e. ne (sym e)))
 
 -- where there is an error
 pub on_err : {T E : Type 0} (r : Result T E) (P : Type 0) → P → OnErr r P

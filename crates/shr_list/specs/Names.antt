@@ -1,9 +1,8 @@
 -- The index of a list. No public clause cites this module.
-use Rattle.std.specs.Prelude.{◌≡◌, ◌+◌, ◌%◌, ◌^◌, ℕ, Bool, true, false, List, ◌++◌, map, Option, Some, None, IsSome, if◌then◌else◌}
+use Rattle.std.specs.Prelude.{◌≡◌, ◌+◌, ◌%◌, ◌^◌, ℕ, Bool, true, false, List, ◌++◌, map, Option, Some, None, IsSome, if◌then◌else◌, nat_eq}
 use Rattle.std.specs.List.{AllByRecursion}
-use Rattle.std.specs.Ordering.{nat_cmp}
 use Rattle.std.specs.Hash.FoldHasher.{initial, write, finish}
-use Rattle.std.specs.BTreeMap.{get}
+use Rattle.std.specs.HashMap.{get}
 use Rattle.shr_base.specs.declared.objects.Object.{Object}
 use Rattle.shr_list.specs.declared.queue.clashes.Added.{Added}
 use Rattle.shr_list.specs.declared.queue.clashes.Added.TheVariants.{New, Known, Crowded}
@@ -26,7 +25,7 @@ print_of birth key = (finish (write initial key) + birth) % 2 ^ 64
 
 -- the node under a print
 abbrev pub entry_at : Names → ℕ → Option ℕ
-entry_at names print = get nat_cmp names.prints print
+entry_at names print = get nat_eq names.prints print
 
 -- a name's node, where the entry of its print is this owner's: that entry if it is the owner, else
 -- what the clashes have

@@ -4,10 +4,16 @@ ghost use Rattle.std.specs.Prelude.{◌≡◌, ◌≤◌, length, option_map};
 ghost use Rattle.std.specs.List.{prefix_len};
 ghost use Rattle.shr_model.specs.Pieces.{differs, left, next_part};
 
+use crate::runs::word_len;
+
+#[inline(always)]
 fn part_len(bytes: &[u8], separator: u8) -> usize
     ensures front { result ≡ prefix_len (differs separator) bytes.now }
     ensures within { result ≤ length bytes.now }
 {
+    if separator == b' ' {
+        return word_len(bytes);
+    }
     bytes.iter().take_while(|b| **b != separator).count()
 }
 

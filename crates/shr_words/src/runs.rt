@@ -3,6 +3,7 @@
 
 ghost use Rattle.std.specs.Prelude.{◌≡◌, ◌+◌, ◌≤◌, length};
 ghost use Rattle.std.specs.List.{prefix_len};
+ghost use Rattle.shr_model.specs.Pieces.{differs};
 ghost use Rattle.shr_model.specs.Words.{is_visible, is_name_byte};
 ghost use Rattle.shr_words.specs.Runs.{IsRunIn, first_set};
 
@@ -42,6 +43,22 @@ fn name_run(bytes: &[u8], at: usize) -> usize
     let no_digit = (v - u8x8::splat(b'0')).simd_ge(u8x8::splat(10));
     let stops = no_letter & no_digit & v.simd_ne(u8x8::splat(b'_'));
     first_set(stops.to_bitmask())
+}
+
+#[inline(always)]
+fn word_run(bytes: &[u8], at: usize) -> usize
+    requires { at + LANES ≤ length bytes.now }
+    ensures { IsRunIn (differs 32) bytes.now at LANES result }
+{
+    let stops = u8x8::from_slice(&bytes[at..]).simd_eq(u8x8::splat(b' '));
+    first_set(stops.to_bitmask())
+}
+
+fn few_of_word(bytes: &[u8]) -> usize
+    ensures front { result ≡ prefix_len (differs 32) bytes.now }
+    ensures within { result ≤ length bytes.now }
+{
+    bytes.iter().take_while(|b| **b != b' ').count()
 }
 
 fn few_visible(bytes: &[u8]) -> usize
@@ -100,4 +117,26 @@ pub(crate) fn name_len(bytes: &[u8]) -> usize
     // The last eight may overlap those before.
     let last = bytes.len() - LANES;
     last + name_run(bytes, last)
+}
+
+/// How many bytes there are before the first space. Our own.
+#[inline(always)]
+pub(crate) fn word_len(bytes: &[u8]) -> usize
+    ensures front { result ≡ prefix_len (differs 32) bytes.now }
+    ensures within { result ≤ length bytes.now }
+{
+    if bytes.len() < LANES {
+        return few_of_word(bytes);
+    }
+    let mut n = 0;
+    while LANES <= bytes.len() - n {
+        let run = word_run(bytes, n);
+        n += run;
+        if run < LANES {
+            return n;
+        }
+    }
+    // The last eight may overlap those before.
+    let last = bytes.len() - LANES;
+    last + word_run(bytes, last)
 }

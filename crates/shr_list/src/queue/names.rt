@@ -9,13 +9,14 @@ use crate::queue::links::Links;
 use shr_base::memory::Memory;
 use shr_base::text::Text;
 use std::alloc::Global;
-use std::collections::BTreeMap;
-use std::collections::btree_map::Entry;
+use std::collections::HashMap;
+use std::collections::hash_map::Entry;
 use std::hash::{FoldHasher, Hasher};
 
-/// A tree of prints, and the names whose print another has by a second one, since strangers choose
-/// the keys: a look-up takes some hundred comparisons at most. A print has a node alone: whose it
-/// is stands at the object.
+/// A table of prints, and the names whose print another has, by a second one. A print has a node
+/// alone: whose it is stands at the object. Strangers choose the keys, and can choose them so that
+/// their prints share a place of the table; a look-up then goes over these, and over no more than
+/// the list has objects.
 ///
 /// A name both of whose prints other names have gets no place here, and its list gives the index
 /// up. Both have to be hit at once, the first of 64 bits and the second of 128: keys of one first
@@ -23,7 +24,7 @@ use std::hash::{FoldHasher, Hasher};
 /// one second print too. Our own.
 #[derive(Drop)]
 pub struct Names {
-    prints: BTreeMap<u64, u32>,
+    prints: HashMap<u64, u32>,
     clashes: Clashes,
 }
 
@@ -43,7 +44,7 @@ impl Names {
         ensures { IsIndexed result [] }
     {
         Names {
-            prints: BTreeMap::new(alloc),
+            prints: HashMap::new(alloc),
             clashes: Clashes::new(alloc),
         }
     }

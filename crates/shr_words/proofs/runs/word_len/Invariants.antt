@@ -1,0 +1,9 @@
+use Rattle.shr_words.proofs.Common.{◌-◌, ◌≤◌, length, AllPassBetween}
+use Rattle.shr_model.specs.Pieces.{differs}
+use Rattle.shr_words.proofs.runs.word_len.Given as goal
+
+abbrev pub invariant-loop-n : goal.invariant-loop-n
+invariant-loop-n l = (l.n ≤ length l.bytes) × AllPassBetween (differs 32) l.bytes 0 l.n
+
+abbrev pub decreases-loop-n : goal.decreases-loop-n
+decreases-loop-n l = length l.bytes - l.n
