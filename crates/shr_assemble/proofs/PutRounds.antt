@@ -4,7 +4,7 @@ use Rattle.shr_model.specs.Commands.{rounds_from}
 use Rattle.shr_charge.specs.declared.answers.ChargeAnswer.TheVariants.{Charged, Over}
 use Rattle.shr_assemble.proofs.Spending.{refused_there}
 use Rattle.shr_assemble.proofs.Listed.{slice_contains}
-use Rattle.shr_assemble.proofs.WalkingWell.{up_to_below, ups_are, IsTableOf}
+use Rattle.shr_assemble.proofs.WalkingWell.{range_below, IsTableOf}
 use Rattle.shr_assemble.proofs.WalkingCharges.{rec_of, tree_is, GoesDown}
 use Rattle.shr_assemble.proofs.WalkingChain.{IsThereJob, gave_all, visited_one, all_had, GaveAll, any_cut, uncut_then}
 use Rattle.shr_assemble.proofs.WalkingSteps.{Walked, walked_still, walked_then}
@@ -18,9 +18,6 @@ all_flat P Q f (y ∷ l) h g = both (f y) (flat_map f l) (g y h.0) (all_flat P Q
   both : (xs ys : List _) → AllByRecursion Q xs → AllByRecursion Q ys → AllByRecursion Q (xs ++ ys)
   both [] ys p q = q
   both (z ∷ xs) ys p q = (p.0, both xs ys p.1 q)
-
-range_below : (n : ℕ) → AllByRecursion (λ i. i < n) (range_with_len 0 n)
-range_below n = subst (AllByRecursion (λ i. i < n)) (ups_are n) (up_to_below n)
 
 abbrev pub groups_in : List Round → List ℕ
 groups_in rounds = map (λ (k : Round). k.over.group) rounds
