@@ -85,8 +85,12 @@ module _ (x : Shared) (walk : Walk) where
 
     -- an attempt that lacked memory was the last of more
     pub tried_cut : (id : ℕ) (all rest : List ℕ) → a.id ≡ id → all ≡ (ids ++ id ∷ []) ++ rest → is_outcome_cut a.outcome ≡ true → AreTried x walk false all before (now ++ a ∷ []) s u
-    tried_cut id all rest at e cut = (h.0 ++ a ∷ [], items_more, subst (λ (l : List ℕ). IsWalkOver x walk false [] l [] (h.0 ++ a ∷ []) s u) (sym (e ∙ ap (λ (n : ℕ). (ids ++ n ∷ []) ++ rest) (sym at)))
-        (over_more [] [] (ids ++ a.id ∷ []) rest [] (h.0 ++ a ∷ []) s u (over_then false [] [] ids (a.id ∷ []) [] [] h.0 (a ∷ []) s t u h.2 (over_cut a t u tried cut))))
+    tried_cut id all rest at e cut = (
+      h.0 ++ a ∷ [],
+      items_more,
+      subst (λ (l : List ℕ). IsWalkOver x walk false [] l [] (h.0 ++ a ∷ []) s u) (sym (e ∙ ap (λ (n : ℕ). (ids ++ n ∷ []) ++ rest) (sym at)))
+          (over_more [] [] (ids ++ a.id ∷ []) rest [] (h.0 ++ a ∷ []) s u (over_then false [] [] ids (a.id ∷ []) [] [] h.0 (a ∷ []) s t u h.2 (over_cut a t u tried cut))),
+    )
 
   pub tried_none : (before : List Attempt) (s : WorkerState) → AreTried x walk true [] before before s s
   tried_none before s = ([], sym (append-nil before), over_none s)
