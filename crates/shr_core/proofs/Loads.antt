@@ -1,10 +1,13 @@
 -- Loads of count words and bit words keep the rule.
-use Rattle.shr_core.proofs.Common.{◌≡◌, ℕ, ◌+◌, ◌*◌, ◌/◌, ◌<◌, ◌≤◌, Bool, true, false, cond, List, length, map, set, get_or, sym, refl, ap, subst, ◌∙◌, arith, eq-eqb, ne_eqb, length-append, bit_at, dite, ℕ_discrete, keeps, Allows, Entry, without, Begins, times-without_other, View, Setting, Marks, row_in, counts_in, bits_in, looks_in, is_row, places_in, length_of, version_of, sizes_of, Sound, IsInside, items_now, AreMarks, phases, marks_of, traces_of, Sat, with_count, with_map}
-use Rattle.shr_core.specs.Tells.{count_loaded, mapped}
+use Rattle.shr_core.proofs.Common.{◌≡◌, ℕ, ◌+◌, ◌*◌, ◌/◌, ◌<◌, ◌≤◌, Bool, true, false, cond, eqb, List, [], length, map, set, get_or, sym, refl, ap, subst, ◌∙◌, arith, eq-eqb, ne_eqb, length-append, bit_at, dite, ℕ_discrete, keeps, Allows, Entry, without, Begins, times-without_other, View, Setting, Marks, Claims, row_in, counts_in, bits_in, looks_in, is_row, places_in, length_of, version_of, sizes_of, Sound, IsInside, items_now, AreMarks, phases, marks_of, traces_of, claims_of, Sat, with_count, with_drained, with_map}
+use Rattle.std.proofs.lemmas.List.{nil_from_length}
+use Rattle.shr_core.specs.Tells.{count_loaded, empty_loaded, mapped}
 use Rattle.shr_core.proofs.Ordering as ordering
-use Rattle.shr_core.proofs.Frames.{here, on_load, lists_stay, rooms_stay, traces_stay, marks_stay, lookups_stay, owned_stay, turns_stay, dated_stay, seats_stay}
+use Rattle.shr_core.proofs.Frames.{here, on_load, unmoved, state, lists_stay, rooms_stay, traces_stay, marks_stay, lookups_stay, owned_stay, turns_stay, dated_stay, seats_stay}
 use Rattle.shr_core.proofs.Laying.{inside_is, count_read, bits_read}
 use Rattle.shr_core.proofs.Marking as marking
+use Rattle.shr_core.proofs.Claiming as claiming
+use Rattle.shr_core.proofs.Owning as owning
 use Rattle.shr_core.proofs.Tracing.{count_fields, count_seen, sees, made_below}
 
 -- the beginning of a list is no longer than it
@@ -47,6 +50,36 @@ counts key n id m k inside present s o deep me _ =
           entries = omega (arith, f.0, r.counted.entries k);
         },
       ),
+    )
+
+-- a load of a count word that moves a quiet owner's mark over an empty list is a step that the rule
+-- allows
+pub empties : (key : Setting) (n id : ℕ) (m : Sat) (k : ℕ) → IsInside key.shape k → m.0.standing.gone ≡ false → Allows (Sound key) n id m (8 * row_in (sizes_of key.shape) k) (λ y. y) (empty_loaded m k)
+empties key n id m k inside present s o deep me _ =
+    let word : ℕ = 8 * row_in (sizes_of key.shape) k in let len : ℕ = length_of (get_or s.words word 0) in let v : View = m.0 in let w : View = with_drained v k in let r = o.rules in
+    let c : Claims = v.claims in let cs : List Claims = map claims_of s.views in let at = here s.views id v me claims_of in
+    let read = count_read (sizes_of key.shape) s.words k (inside_is key.shape k inside) in
+    let items : len ≡ length (items_now o.now o.after k) = subst (λ (x : ℕ). length_of x ≡ length (items_now o.now o.after k)) read (count_fields key.shape (counts_in (sizes_of key.shape) s.words) o.now o.after k r.counted o.sized.shape.most_items inside.place).1 in
+    let F : Bool → Type 0 = λ b. Sound key (state (set s.words word (get_or s.words word 0)) s.homes (set s.views id (cond b w v))) in (
+      cond (eqb len 0) w v,
+      keeps,
+      tt,
+      dite (ℕ_discrete len 0)
+          (λ e. subst F (sym (eq-eqb len 0 e)) (on_load key s o id w present (o.ended id v me) word (ordering.stays key.shape.ids key.first_lookup o.now o.pool (bits_in (sizes_of key.shape) s.words) (looks_in s.words) s.views id v me present o.ordered w refl refl refl) record {
+            counted = r.counted;
+            roomed = rooms_stay key s o id v me;
+            listed = lists_stay key s o id v me;
+            traced = traces_stay key s o id v me;
+            marked = marks_stay key s o id v me;
+            looked = claiming.still key.shape.ids key.first_lookup (looks_in s.words) o.pool cs id c.owner c.quiet w.claims.drained c.loaded c at (r.looked.loaded id c at) r.looked;
+            owned = owning.keeps_owner key.shape o.now o.after o.pool cs id c w.claims at refl (λ j d. omega arith)
+                (λ j owner. owning.marks_fall key.shape o.now o.after cs c k j [] (sym (nil_from_length (items_now o.now o.after k) (sym items ∙ e))) owner (owning.own key.shape o.now o.after o.pool cs c j (r.owned.owner id c at j owner))) r.owned;
+            turned = turns_stay key s o id v me;
+            dated = dated_stay key s o id v me;
+            seated = seats_stay key s o id v me;
+          }))
+          (λ ne. subst F (sym (ne_eqb len 0 ne)) (unmoved key s word id v me o)),
+      refl,
     )
 
 -- a load of a bit word is a step that the rule allows

@@ -134,7 +134,7 @@ is_empty (x ∷ xs) = false
 abbrev pub is_drained : Claims → ℕ → List Object → Bool
 is_drained c k items = c.quiet && is_some_of (place_id k) c.owner && (mark_of c (node_of k) == group_of k + 1) && is_empty items
 
--- the marks after a place's room is given back with these items
+-- the marks after a place was seen to have these items, as its room is given back or by a load
 abbrev pub drained_after : Claims → ℕ → List Object → List ℕ
 drained_after c k items = cond (is_drained c k items) (slice_set c.drained (node_of k) (group_of k)) c.drained
 
@@ -145,6 +145,10 @@ with_given v k = record v {
   traces = record v.traces { known = v.traces.known ++ record { place = k; entries = (in_hand v k).entries } ∷ [] };
   claims = record v.claims { drained = drained_after v.claims k (in_hand v k).items };
 }
+
+-- a load showed no item at a place: a quiet owner's mark moves over it, and nothing is noted
+abbrev pub with_drained : View → ℕ → View
+with_drained v k = record v { claims = record v.claims { drained = drained_after v.claims k [] } }
 
 -- an id, if there is one, that is held by this number over a journal of so many entries
 abbrev pub dating_of : Option ℕ → ℕ → ℕ → List Dated

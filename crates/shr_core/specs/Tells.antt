@@ -1,5 +1,5 @@
 -- What each step tells the call that makes it, of the number found and of the seat after it.
-use Rattle.std.specs.Prelude.{◌≡◌, ◌≢◌, ℕ, ◌+◌, ◌-◌, ◌*◌, ◌%◌, ◌^◌, ◌<◌, ◌≤◌, ◌∷◌, List, [], true, length, Some}
+use Rattle.std.specs.Prelude.{◌≡◌, ◌≢◌, ℕ, ◌+◌, ◌-◌, ◌*◌, ◌%◌, ◌^◌, ◌<◌, ◌≤◌, ◌==◌, cond, ◌∷◌, List, [], true, length, Some}
 use Rattle.shr_base.specs.declared.ends.LookupWord.{LookupWord}
 use Rattle.shr_base.specs.declared.journals.PoolEntry.{PoolEntry}
 use Rattle.shr_model.specs.Pool.{phase_of, decl_of, from_of, dying_in, registrations, decl_at}
@@ -14,11 +14,16 @@ use Rattle.shr_core.specs.Parts.{RoomContent}
 use Rattle.shr_core.specs.Layout.{places_in, length_of, version_of}
 use Rattle.shr_core.specs.Lookup.{word_in}
 use Rattle.shr_core.specs.Rule.{HasLastEnd, has_room, only_some, list_content, pool_content, met_now}
-use Rattle.shr_core.specs.Steps.{Sat, with_count, IsCounted, with_map, IsOfIds, with_taken, IsTaken, IsTakenPool, with_word, with_lookup, with_phase, in_hand}
+use Rattle.shr_core.specs.Steps.{Sat, with_count, IsCounted, with_drained, with_map, IsOfIds, with_taken, IsTaken, IsTakenPool, with_word, with_lookup, with_phase, in_hand}
 
 -- a load of the count word of the place k
 abbrev pub count_loaded : Shape → Sat → ℕ → ℕ → Sat → Type 0
 count_loaded shape m k r n = (n ≡ (with_count m.0 k (length_of r) (version_of r), m.1)) × IsCounted shape m.0 k (length_of r) (version_of r)
+
+-- a load of the count word of the place k that notes nothing but that the list is drained, if it is
+-- empty
+abbrev pub empty_loaded : Sat → ℕ → ℕ → Sat → Type 0
+empty_loaded m k r n = n ≡ (cond (length_of r == 0) (with_drained m.0 k) m.0, m.1)
 
 -- a load of the bit word b of a unit
 abbrev pub mapped : Shape → Sat → ℕ → ℕ → ℕ → Sat → Type 0

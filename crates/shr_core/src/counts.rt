@@ -1,10 +1,10 @@
 //! Count words and bit words.
-ghost use Rattle.std.specs.Prelude.{◌≡◌, ◌/◌, ◌*◌, ◌^◌, ◌<◌};
+ghost use Rattle.std.specs.Prelude.{◌≡◌, ◌/◌, ◌*◌, ◌^◌, ◌<◌, MatchBool, true, Some};
 ghost use Rattle.shr_model.specs.Places.{place_number};
 ghost use Rattle.shr_seats.specs.Rows.{row_count};
 ghost use Rattle.shr_core.specs.Layout.{map_number, row_in};
 ghost use Rattle.shr_seats.specs.Shapes.{sizes_of, groups_in};
-ghost use Rattle.shr_core.specs.Steps.{with_count, IsCounted, with_map, IsOfIds, with_set, with_clear};
+ghost use Rattle.shr_core.specs.Steps.{with_count, IsCounted, with_drained, with_map, IsOfIds, with_set, with_clear};
 ghost use Rattle.shr_core.specs.Seats.{IsOf, IsPlaceOfShape, view_of, shape_of};
 
 use crate::seat::Seat;
@@ -72,6 +72,27 @@ impl Core {
             len: (word % ONE_VERSION) as u32,
             version: (word / ONE_VERSION) as u32,
         }
+    }
+
+    /// Whether one load of the count word shows an empty list of the id that the seat owns, while
+    /// no seat holds it. Once the lists of all higher groups are empty nobody fills this one any
+    /// more, and the node's drain mark moves over it. Nothing else is noted.
+    ///
+    /// Linux: `list_lru_count_one` in mm/list_lru.c, which reads `nr_items` without the lock. The
+    /// mark is our own.
+    pub fn finds_empty(&self, seat: &mut Seat, place: Place) -> bool
+        requires seat { IsOf self.now seat.old }
+        requires place { IsPlaceOfShape (shape_of self.now) place }
+        requires owns { (view_of seat.old).claims.owner ≡ Some place.id }
+        requires quiet { (view_of seat.old).claims.quiet ≡ true }
+        ensures seat { IsOf self.now seat.new }
+        ensures emptied { MatchBool result (view_of seat.new ≡ with_drained (view_of seat.old)
+            (place_number place)) (view_of seat.new ≡ view_of seat.old) }
+    {
+        let number = number_of(place);
+        let word = count_word(self.row(place));
+        let word = self.load_as::<Brand>(&mut seat.token, word, number);
+        word % ONE_VERSION == 0
     }
 
     /// One load of the bit word of a node and group below the root, for 64 ids: bit `i` stands for

@@ -3,7 +3,7 @@ pub use Rattle.std.proofs.Common.{Bool, List, [], ap, append_assoc, arith, cond,
 pub use Rattle.std.proofs.lemmas.List.{append-nil, length-replicate, length-set}
 pub use Rattle.std.proofs.lemmas.List.Elements.{Contains-append_left, Contains-push}
 pub use Rattle.std.proofs.lemmas.List.Quantifiers.{all_pairs_push}
-pub use Rattle.std.specs.Prelude.{Contains, None, Option, Some, nat_lt, option_map, slice_get, slice_index, slice_index_or, slice_set, ◌&&◌, ◌==◌, ◌||◌, ◌↔◌}
+pub use Rattle.std.specs.Prelude.{Contains, MatchBool, None, Option, Some, nat_lt, option_map, slice_get, slice_index, slice_index_or, slice_set, ◌&&◌, ◌==◌, ◌||◌, ◌↔◌}
 pub use Rattle.shr_base.specs.declared.journals.Entry.{Entry}
 pub use Rattle.shr_base.specs.declared.journals.Entry.TheVariants.{Add, Closed, Drained, Drop, Look, MovedIn, Pin, Scan}
 pub use Rattle.shr_base.specs.declared.objects.Object.{Object}
@@ -18,7 +18,7 @@ pub use Rattle.shr_core.specs.Layout.{beside, group_of, place_id, node_of}
 pub use Rattle.shr_core.specs.Parts.{Claims, RoomContent, Counted, Hand, Holding, Known, Made, no_rooms}
 pub use Rattle.shr_core.specs.Rule.{AreBorn, has_room, is_room, is_some_of, list_content, mark_of}
 pub use Rattle.shr_core.specs.Seats.{IsOf, IsPlaceOfShape, MayTake, shape_of, view_of}
-pub use Rattle.shr_core.specs.Steps.{IsBacked, IsCounted, IsTaken, IsUnspliced, MayStore, content_in, drained_after, half_after, in_hand, is_empty, last_entry, moved_in_hand, owed_after, with_content, with_given, with_set, with_stored, with_taken, without_room}
+pub use Rattle.shr_core.specs.Steps.{IsBacked, IsCounted, IsTaken, IsUnspliced, MayStore, content_in, drained_after, half_after, in_hand, is_empty, last_entry, moved_in_hand, owed_after, with_content, with_drained, with_given, with_set, with_stored, with_taken, without_room}
 pub use Rattle.shr_core.specs.Tells.{IsInHand}
 pub use Rattle.shr_core.specs.declared.rooms.Room.{Room}
 pub use Rattle.shr_core.specs.declared.table.Core.{Core}

@@ -1,5 +1,5 @@
 -- What a seat gains while it takes a room, stores an entry there and gives the room back.
-use Rattle.shr_node.proofs.Common.{◌≡◌, ℕ, ◌+◌, ◌<◌, ◌≤◌, Bool, true, false, cond, List, [], ◌∷◌, ◌++◌, length, sym, refl, ap, subst, ◌∙◌, arith, eq-eqb, append_assoc, not_some, Contains, ◌==◌, ◌&&◌, slice_set, Option, None, append-nil, Contains-push, Contains-append_left, dite, ℕ_discrete, Object, Entry, Each, times, without, Begins, begins_push, times-without_same, times-without_other, View, Shape, place_id, node_of, group_of, mark_of, content_in, with_content, with_taken, with_stored, with_set, with_given, half_after, owed_after, drained_after, IsCounted, Gains, Knows, bits_for, with_kept, is_some_no, begins_all, times-push_other, at_begins, without_room, is_empty, is_raised, with_raised, taken_in_hand}
+use Rattle.shr_node.proofs.Common.{◌≡◌, ℕ, ◌+◌, ◌<◌, ◌≤◌, Bool, true, false, cond, List, [], ◌∷◌, ◌++◌, length, sym, refl, ap, subst, ◌∙◌, arith, eq-eqb, append_assoc, not_some, Contains, ◌==◌, ◌&&◌, slice_set, Option, None, append-nil, Contains-push, Contains-append_left, dite, ℕ_discrete, Object, Entry, Each, times, without, Begins, begins_push, times-without_same, times-without_other, View, Shape, place_id, node_of, group_of, mark_of, content_in, with_content, with_drained, with_taken, with_stored, with_set, with_given, half_after, owed_after, drained_after, IsCounted, Gains, Knows, bits_for, with_kept, is_some_no, begins_all, times-push_other, at_begins, without_room, is_empty, is_raised, with_raised, taken_in_hand}
 use Rattle.shr_seats.specs.Lines.{by_seat, state_after}
 use Rattle.shr_core.specs.Gained.{nothing, AreKinds}
 use Rattle.shr_core.specs.Order.{Holders, users_next}
@@ -125,6 +125,29 @@ gains_given u k c = subst (λ (w : View). Gains u w [] []) (sym (given (with_tak
   seat = refl;
   uses = λ u. refl;
 }))
+
+-- a load that notes nothing moves at most the marks
+pub gains_drained : (u : View) (k : ℕ) → Gains u (with_drained u k) [] []
+gains_drained u k = gains_of _ _ _ _ (record {
+  made = sym (append-nil u.traces.made);
+  known = begins_all u.traces.known;
+  seen = refl;
+  tries = refl;
+  sets = sym (append-nil u.marks.sets);
+  cleared = refl;
+  maps = refl;
+  owed = λ j h. h;
+  holding = refl;
+  claims = refl;
+  marks = λ free. ap (λ (d : List ℕ). record u.claims { drained = d }) (marks_stay u.claims k [] free);
+  turns = refl;
+  standing = refl;
+  did = [];
+  noted = sym (append-nil u.did);
+  kinds = record { seen = refl; made = refl; attempts = refl; loaded = refl; turns = refl; sets = refl; cleared = refl; maps = refl };
+  seat = refl;
+  uses = λ u. refl;
+})
 
 -- and its journal is known then
 pub known_given : (u : View) (k : ℕ) (c : RoomContent) → Knows (with_given (with_taken u k c) k) k c.entries

@@ -1,7 +1,7 @@
 -- Acting on the list of one place, and giving its room back.
-use Rattle.shr_node.proofs.Common.{◌≡◌, ℕ, ◌<◌, ◌≤◌, Bool, false, List, [], ◌∷◌, ◌++◌, length, inl, inr, sym, refl, ap, subst, ◌∙◌, arith, true, ◌==◌, Some, Object, Policy, Place, Serial, Entry, place_number, IsTree, is_closed, Listed, Takes, RefusesWorn, LacksMemory, TellsScan, scan_entry, drain_entry, View, Shape, Room, Claims, no_rooms, AreBorn, list_content, groups_in, Core, IsPlaceOfShape, shape_of, with_taken, with_given, IsTaken, IsCounted, drained_after, last_entry, Gains, Knows, with_kept, IsOpened, IsRoomReady, IsUntouched, WasMet, entry_made, Acts, LackedRoom, HadRoom, ScansPlace, eqb-true, RefusesClosed, EmptiesOne, LeavesOne, IsScanClosed, ScanIsWorn, ScanLacks}
+use Rattle.shr_node.proofs.Common.{◌≡◌, ℕ, ◌<◌, ◌≤◌, Bool, false, List, [], ◌∷◌, ◌++◌, length, inl, inr, sym, refl, ap, subst, ◌∙◌, arith, true, MatchBool, ◌==◌, Some, Object, Policy, Place, Serial, Entry, place_number, IsTree, is_closed, Listed, Takes, RefusesWorn, LacksMemory, TellsScan, scan_entry, drain_entry, View, Shape, Room, Claims, no_rooms, AreBorn, list_content, groups_in, Core, IsPlaceOfShape, shape_of, with_drained, with_taken, with_given, IsTaken, IsCounted, drained_after, last_entry, Gains, Knows, with_kept, IsOpened, IsRoomReady, IsUntouched, WasMet, entry_made, Acts, LackedRoom, HadRoom, ScansPlace, eqb-true, RefusesClosed, EmptiesOne, LeavesOne, IsScanClosed, ScanIsWorn, ScanLacks}
 use Rattle.shr_core.proofs.Births.{freed_born}
-use Rattle.shr_node.proofs.Gaining.{gains_given, known_given, drained_kept, drained_given}
+use Rattle.shr_node.proofs.Gaining.{gains_drained, gains_given, known_given, drained_kept, drained_given}
 use Rattle.shr_node.proofs.Marking.{unmoved}
 use Rattle.shr_node.proofs.Acting.{own_opened, ready_plain, held_here, scan_plain, untouched, owned_here, drain_plain, drain_bits, gains_one, acts, scans, was_open, left_gains, left_known, left_full, left_free, was_kept, was_left}
 
@@ -24,6 +24,12 @@ pub record IsOwnTaken (shape : Shape) (v w : View) (place : Place) (room : Room)
 pub own_taken : (core : Core) (v w : View) (place : Place) (room : Room) → v.holding ≡ no_rooms → IsPlaceOfShape (shape_of core) place → room.place ≡ place → w ≡ with_taken v (place_number place) (list_content room.list)
     → IsTaken (shape_of core) v (place_number place) (list_content room.list) → IsOwnTaken (shape_of core) v w place room
 own_taken core v w place room none there same taken told = record { tree = core.tree; nodes = core.limits.2; groups = core.limits.4; none = none; there = there; same = same; taken = taken; told = told }
+
+-- and so it is after a load that found the list not empty, and moved no mark
+pub still_taken : (core : Core) (v u w : View) (place : Place) (room : Room) (found : Bool) → MatchBool found (u ≡ with_drained v (place_number place)) (u ≡ v) → found ≡ false → v.holding ≡ no_rooms → IsPlaceOfShape (shape_of core) place → room.place ≡ place
+    → w ≡ with_taken u (place_number place) (list_content room.list) → IsTaken (shape_of core) u (place_number place) (list_content room.list) → IsOwnTaken (shape_of core) v w place room
+still_taken core v u w place room found told missed none there same taken is = let k : ℕ = place_number place in let stays : u ≡ v = subst (λ (b : Bool). MatchBool b (u ≡ with_drained v k) (u ≡ v)) missed told in
+    own_taken core v w place room none there same (taken ∙ ap (λ (x : View). with_taken x k (list_content room.list)) stays) (subst (λ (x : View). IsTaken (shape_of core) x k (list_content room.list)) stays is)
 
 module _ (shape : Shape) (v w : View) (place : Place) (room : Room) (t : IsOwnTaken shape v w place room) where
   -- an open list is the first open one from its own group up
@@ -140,6 +146,13 @@ module _ (shape : Shape) (v w : View) (place : Place) (room : Room) (t : IsOwnTa
 pub none_in : (items : List Object) → (length items == 0) ≡ true → items ≡ []
 none_in [] none = refl
 none_in (x ∷ xs) none = absurd (omega (arith, eqb-true (length (x ∷ xs)) 0 none))
+
+-- a load showed an empty list, whose room stayed where it was
+pub empty_passed : (shape : Shape) (v w : View) (place : Place) {by : Serial} (found : Bool) → MatchBool found (w ≡ with_drained v (place_number place)) (w ≡ v) → found ≡ true → (objects : List Object) → EmptiesOne shape v w place by objects objects
+empty_passed shape v w place found told shown objects = let k : ℕ = place_number place in let is : w ≡ with_drained v k = subst (λ (b : Bool). MatchBool b (w ≡ with_drained v k) (w ≡ v)) shown told in record {
+  drawn = inl (record { gains = subst (λ (x : View). Gains v x [] []) (sym is) (gains_drained v k); objects = refl });
+  marks = ap (λ (x : View). x.claims.drained) is;
+}
 
 -- an empty list was given back as it was
 pub empty_leaves : (shape : Shape) (v w : View) (place : Place) {by : Serial} (room : Room) → IsOwnTaken shape v w place room → (length room.list.items == 0) ≡ true → (w' : View) → w' ≡ with_given w (place_number room.place) → (objects : List Object) → EmptiesOne shape v w' place by objects objects

@@ -41,7 +41,8 @@ fn make_room(into: &mut Log<Object>, list: &List, most_entries: u32) -> bool
     into.reserve(list.len() as usize).is_ok()
 }
 
-// Empties one list, if it holds an object.
+// Empties one list, if it holds an object. Its room is taken only if its count word shows one; by then
+// a splice may have moved the objects on.
 fn drain_one<R: Wait>(
     rt: &R,
     core: &Core,
@@ -59,6 +60,9 @@ fn drain_one<R: Wait>(
     ensures answer { DrawGives (shape_of core.now) (view_of seat.old) place by into.old.items
         result into.new.items (view_of seat.new) }
 {
+    if core.finds_empty(seat, place) {
+        return NodeDrain::Drained;
+    }
     let mut room = core.take_room(rt, seat, place);
     if is_empty(&room.list) {
         leave(core, seat, room);
@@ -102,7 +106,8 @@ pub struct NodeLists {
 /// shown that no seat holds it, and the seat has no room in hand.
 ///
 /// The objects are appended to `into`, also before `Worn` and `Memory`; the room for a list's
-/// objects is made there before that list is emptied. A list without objects gets no entry.
+/// objects is made there before that list is emptied. A list without objects gets no entry, and its
+/// room isn't taken if its count word shows none.
 ///
 /// Our own: Linux leaves the objects of a freed shrinker to the cache's owner.
 pub fn drain<R: Wait>(

@@ -16,7 +16,8 @@ use shr_core::table::Core;
 use std::sync::Wait;
 
 /// Unregisters a cache by its declaration: makes its id dying, waits until a load shows that no
-/// seat holds the id, empties the id's lists node after node, and makes the id idle. The seat holds
+/// seat holds the id, empties the id's lists node after node, and makes the id idle. A list without
+/// objects gets no entry, and its room isn't taken if its count word shows none. The seat holds
 /// nothing, owns nothing and has no room in hand, before and afterwards.
 ///
 /// `NoCache` is decided first. Then the room for the two entries of the pool's journal is made,
