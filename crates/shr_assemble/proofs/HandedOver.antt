@@ -1,5 +1,5 @@
 -- What an offline did whose call handed all over, whatever the end of it answered.
-use Rattle.shr_assemble.proofs.Common.{◌≡◌, ℕ, ◌<◌, ◌≤◌, List, [], ◌∷◌, ◌++◌, length, map, refl, sym, ap, subst, ◌∙◌, arith, true, inr, ◌*◌, ◌/◌, None, slice_get, Contains, All, sum, sum_by, ◌%◌, ◌^◌, Some, AllByRecursion, range_with_len, All-append, All-from_recursion, Contains-append_left, none-some, PlaceAmount, TreeEntry, Begin, Done, Place, Serial, Reply, Carry, Family, IsTree, given_at, Begins, Shape, View, nothing, groups_in, hierarchy_of, shape_of, gave, TreeView, Moves, both, carry_moves, carries_noted, AreSpliced, IsWithin, content_of, within_of_valid, is_made, is_made_grows, Shared, WorkerState, Work, no_work, then_work, Does, does_none, does_then, parents_of, cited_by, IsThere, MayHaveBegun, HasCarried, pool_told, pool_made, is_past_group, IsReply, Step, IsCausedBy, DidCarry, MayMakeEntry, IsEntryOf, places_offlined, TreeMade, amount_taken, place_by_number, count_of_places, all_places, length-append, take, eq-eqb, All-nil, Hierarchy, IsAtOrAbove, MayBegin, IsTreeJournal, IsAtOrAbove-refl, Answered}
+use Rattle.shr_assemble.proofs.Common.{◌≡◌, ℕ, ◌<◌, ◌≤◌, List, [], ◌∷◌, ◌++◌, length, map, refl, sym, ap, subst, ◌∙◌, arith, true, inr, ◌*◌, ◌/◌, None, slice_get, Contains, All, sum, sum_by, ◌%◌, ◌^◌, Some, AllByRecursion, range_with_len, All-append, All-from_recursion, Contains-append_left, none-some, PlaceAmount, TreeEntry, Begin, Done, Place, Serial, Reply, Carry, Family, IsTree, given_at, Begins, Shape, View, nothing, groups_in, hierarchy_of, shape_of, gave, TreeView, Moves, both, carry_moves, carries_noted, AreSpliced, IsWithin, content_of, within_of_valid, is_made, is_made_grows, Shared, WorkerState, Work, no_work, then_work, Does, does_none, does_then, parents_of, cited_by, IsThere, MayHaveBegun, HasCarried, pool_told, pool_made, is_past_group, IsReply, Step, IsCausedBy, DidCarry, MayMakeEntry, IsEntryOf, places_offlined, TreeMade, amount_taken, place_by_number, count_of_places, all_places, length-append, take, eq-eqb, All-nil, Hierarchy, KnowsClosed, MayBegin, IsTreeJournal, place_number, group_place, Answered}
 use Rattle.shr_assemble.proofs.ScriptGroups.{sized_of}
 use Rattle.shr_base.specs.declared.scripts.Command.TheVariants as command
 use Rattle.shr_core.specs.Parts as core
@@ -211,9 +211,6 @@ module _ (x : Shared) (tables : AreTables x) where
           }
 
 module _ (x : Shared) (tables : AreTables x) (by : Serial) (group : ℕ) (s t : WorkerState) where
-  abbrev parents : List ℕ
-  parents = (shape_of x.core).parents.items
-
   abbrev hierarchy : Hierarchy
   hierarchy = hierarchy_of (shape_of x.core)
 
@@ -236,7 +233,6 @@ module _ (x : Shared) (tables : AreTables x) (by : Serial) (group : ℕ) (s t : 
       let seen = begins_length over.carried.tree.known tells.before tells.seen.known in
       let was : over.carried.tree.known ≡ u.tree.known = ap (λ (v : WorkerState). v.tree.known) over.carries.rest ∙ ap (λ (v : WorkerState). v.tree.known) over.splices.rest in
       let begun = begins_length s.tree.known u.tree.known b.does.known in
-      let same = same_groups x tables in
       handed_did x tables by group s u t b moved deferred (mark ∷ []) h there r tt tt (λ family. tt) refl refl refl
       (All-from_recursion (λ (m : TreeMade). (length s.tree.known ≤ m.number) × IsEntryOf x.script (handed_step x tables by group s u t b moved deferred (mark ∷ []) h r) m.number m.entry) (mark ∷ []) (
         (
@@ -245,8 +241,7 @@ module _ (x : Shared) (tables : AreTables x) (by : Serial) (group : ℕ) (s t : 
             command = refl;
             answer = eq-eqb entry entry refl;
             closed = λ place at here. let id = at.id in let node = at.node in let ids = tables.shared.ids in let nodes = tables.shared.nodes in
-                h.closed place.id place.node place.group (omega (arith, id, ids)) (omega (arith, node, nodes)) (omega (arith, here, there, same))
-                (subst (IsAtOrAbove parents group) (sym here) (IsAtOrAbove-refl parents (is_tree x tables) group (omega (arith, there, same))));
+                subst (λ (g : ℕ). KnowsClosed t.core (place_number (group_place place.id place.node g))) (sym here) (h.closed.own place.id place.node (omega (arith, id, ids)) (omega (arith, node, nodes)));
           },
         ),
         tt,

@@ -41,7 +41,8 @@ pub use Rattle.shr_seats.specs.Weights.{Begins, times, total, without}
 pub use Rattle.shr_seats.specs.declared.shape.Shape.{Shape}
 pub use Rattle.shr_node.specs.Answers.{Acts, AddGives, DropGives, HadRoom, LackedRoom, IsScanClosed, LookGives, PinGives, ScanGives, ScanIsWorn, ScanLacks, ScansPlace, TenantIsWorn, TenantLacks}
 pub use Rattle.shr_node.specs.Draining.{AreDraws, DrainWorn, Draw, DrawsNone, EmptiesOne, IsDraw, IsListDrawn, IsFilled, LeavesOne, StopsAt, drawn, made_by_draws}
-pub use Rattle.shr_node.specs.Gains.{Gains, Knows, KnowsClosed, bits_for, is_raised, with_kept, with_raised}
+pub use Rattle.shr_node.specs.Gains.{Gains, IsKnownClosed, Knows, KnowsClosed, bits_for, is_raised, with_kept, with_raised}
+pub use Rattle.shr_node.specs.Looking.{AreLooked, IsLookedAt, IsMarked}
 pub use Rattle.shr_node.specs.Opening.{IsFirstOpen, IsOpened, IsRoomReady, IsUntouched, WasMet, WasOpen, entry_made}
 pub use Rattle.shr_node.specs.Pairs.{AreBothTaken, with_both_left}
 pub use Rattle.shr_node.specs.Splicing.{Closing, IsPair, SpliceWorn, bits_by, made_by_closing, moved_from_group, group_place}

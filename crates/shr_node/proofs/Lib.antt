@@ -2,7 +2,8 @@ mod Common
 mod NodeValues
 pub mod Gaining
 pub mod Climbing
-pub mod Subtrees
+pub mod Looks
+pub mod BelowClosed
 pub mod Acting
 pub mod Places
 pub mod Keeping

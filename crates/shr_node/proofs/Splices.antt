@@ -1,23 +1,27 @@
 -- Closing one list after another, groups in falling order.
-use Rattle.shr_node.proofs.Common.{◌≡◌, ℕ, suc, ◌+◌, ◌<◌, ◌≤◌, true, cond, List, [], ◌∷◌, ◌++◌, length, sym, refl, ap, subst, ◌∙◌, arith, append_assoc, eq-eqb, ne_eqb, ◌==◌, append-nil, all_pairs_push, dite, ℕ_discrete, Spent, place_number, Listed, IsTree, is_child, parent_of, IsAtOrAbove, child_takes, child_higher, on_child, IsAtOrAbove-trans, IsAtOrAbove-refl, Contains_from_Has, path_of, Each, Each-none, Each-push, Each-weaker, View, Shape, Made, groups_in, Gains, KnowsClosed, WasMet, Closing, group_place, made_by_closing, bits_by, moved_from_group, IsPair, SpliceWorn, IsChild}
+use Rattle.shr_node.proofs.Common.{◌≡◌, ℕ, suc, ◌+◌, ◌<◌, ◌≤◌, Bool, true, false, cond, List, [], ◌∷◌, ◌++◌, length, sym, refl, ap, subst, ◌∙◌, inr, arith, append_assoc, eq-eqb, ne_eqb, ◌==◌, append-nil, all_pairs_push, slice_index_or, dite, ℕ_discrete, Spent, place_number, Listed, IsTree, is_child, parent_of, IsAtOrAbove, child_takes, child_higher, IsAtOrAbove-refl, IsAtOrAbove-le, Each, Each-none, Each-push, Each-weaker, View, Shape, Made, groups_in, Gains, IsKnownClosed, KnowsClosed, AreLooked, IsMarked, WasMet, Closing, group_place, made_by_closing, bits_by, moved_from_group, IsPair, SpliceWorn, IsChild}
 use Rattle.shr_base.specs.declared.replies.Spent.TheVariants as spent
 use Rattle.shr_node.specs.Splicing.{made_by_closings, bits_of_closings, IsClosing, AreClosings, SpliceStopsAt, ParentHadRoom, own_number, above_place}
-use Rattle.shr_node.proofs.Gaining.{gains_none, gains_then, knows_still, counted_before}
+use Rattle.shr_node.proofs.Gaining.{gains_then, counted_before}
 use Rattle.shr_node.proofs.Draws.{at_each, met_before}
+use Rattle.shr_node.proofs.Looks.{known_still, both_ways, looked_still, unmarked_closed}
 
--- each list at or below the group with a number from `at` on is closed
-pub record IsSplicing (shape : Shape) (v w : View) (id node group at moved : ℕ) : Type 0 where
+-- each list that was found open, of a group with a number from `at` on, is closed now
+pub record IsSplicing (shape : Shape) (v w : View) (id node group : ℕ) (marks : List Bool) (at moved : ℕ) : Type 0 where
   pub cs : List Closing
   pub closings : AreClosings shape v w id node group cs
   pub low : Each (λ c. at ≤ c.child) cs
-  pub closed : (child : ℕ) → at ≤ child → child < groups_in shape → IsAtOrAbove shape.parents.items group child → KnowsClosed w (place_number (group_place id node child))
+  pub closed : (child : ℕ) → at ≤ child → child < groups_in shape → IsMarked marks child → KnowsClosed w (place_number (group_place id node child))
   pub moved_is : at ≤ group → moved ≡ moved_from_group group cs
 
--- nothing is closed yet
-pub splicing_none : (shape : Shape) (v : View) (id node group : ℕ) → group < groups_in shape → IsSplicing shape v v id node group (groups_in shape) 0
-splicing_none shape v id node group there = record {
+-- nothing was closed yet
+pub closings_none : (shape : Shape) (v u : View) (id node group : ℕ) → Gains v u [] [] → AreClosings shape v u id node group []
+closings_none shape v u id node group g = record { each = Each-none (IsClosing shape v id node group); falling = λ i j d i-lt j-lt. absurd (omega (arith, i-lt, j-lt)); gains = g }
+
+pub splicing_none : (shape : Shape) (v u : View) (id node group : ℕ) (marks : List Bool) → group < groups_in shape → Gains v u [] [] → IsSplicing shape v u id node group marks (groups_in shape) 0
+splicing_none shape v u id node group marks there g = record {
   cs = [];
-  closings = record { each = Each-none (IsClosing shape v id node group); falling = λ i j d i-lt j-lt. absurd (omega (arith, i-lt, j-lt)); gains = gains_none v };
+  closings = closings_none shape v u id node group g;
   low = Each-none (λ (c : Closing). groups_in shape ≤ c.child);
   closed = λ child high low. absurd (omega (arith, high, low));
   moved_is = λ le. absurd (omega (arith, le, there));
@@ -40,22 +44,42 @@ moved_none : (group : ℕ) (cs : List Closing) → Each (λ x. group < x.child) 
 moved_none group [] high = refl
 moved_none group (x ∷ cs) high = ap (λ b. cond b (length x.items) (moved_from_group group cs)) (ne_eqb x.child group (λ e. let h = high 0 x refl in absurd (omega (arith, h, e)))) ∙ moved_none group cs (λ j y at. high (suc j) y at)
 
-module _ (shape : Shape) (tree : IsTree shape.parents.items) (v u w : View) (id node group top moved : ℕ) (o : IsSplicing shape v u id node group top moved) where
-  -- the children of a group in the subtree are closed
-  pub children_closed : (at : ℕ) → top ≡ at + 1 → at < groups_in shape → IsAtOrAbove shape.parents.items group at → (child : ℕ) → is_child shape.parents.items at child ≡ true → KnowsClosed u (place_number (group_place id node child))
-  children_closed at next there below child is = let c : IsChild shape.parents.items at child = child_takes shape.parents.items at child is in let higher = child_higher shape.parents.items at child tree c in
-      o.closed child (omega (arith, higher, next)) c.there (IsAtOrAbove-trans shape.parents.items tree group at child c.there below (Contains_from_Has (path_of shape.parents.items child) at (on_child shape.parents.items tree at child c)))
+module _ (shape : Shape) (tree : IsTree shape.parents.items) (v u w : View) (id node group : ℕ) (marks : List Bool) (top moved : ℕ) (o : IsSplicing shape v u id node group marks top moved) (looked : AreLooked shape u id node group marks (groups_in shape)) where
+  -- the children of a list that was found open are closed
+  pub children_closed : (at : ℕ) → top ≡ at + 1 → IsMarked marks at → (child : ℕ) → is_child shape.parents.items at child ≡ true → KnowsClosed u (place_number (group_place id node child))
+  children_closed at next mark child is = by_mark (slice_index_or marks child false) refl
+    where
+      c : IsChild shape.parents.items at child
+      c = child_takes shape.parents.items at child is
+
+      higher : at < child
+      higher = child_higher shape.parents.items at child tree c
+
+      le : group ≤ at
+      le = let there = c.there in IsAtOrAbove-le shape.parents.items tree group at (omega (arith, there, higher)) (looked.below at (omega (arith, there, higher)) mark)
+
+      by_mark : (b : Bool) → slice_index_or marks child false ≡ b → KnowsClosed u (place_number (group_place id node child))
+      by_mark true marked = o.closed child (omega (arith, higher, next)) c.there marked
+      by_mark false unmarked = looked.closed child c.there (inr (omega (arith, le, higher), ap (λ (x : ℕ). slice_index_or marks x false) c.parent ∙ mark)) unmarked
 
   -- more is known later
-  closed_still : (m : List Made) (s : List ℕ) → Gains u w m s → (child : ℕ) → top ≤ child → child < groups_in shape → IsAtOrAbove shape.parents.items group child → KnowsClosed w (place_number (group_place id node child))
-  closed_still m s g child high there below = let k = o.closed child high there below in (k.0, knows_still u w m s (place_number (group_place id node child)) k.0 g k.1, k.2)
+  closed_still : (m : List Made) (s : List ℕ) → Gains u w m s → (child : ℕ) → top ≤ child → child < groups_in shape → IsMarked marks child → KnowsClosed w (place_number (group_place id node child))
+  closed_still m s g child high there marked = known_still u w m s (place_number (group_place id node child)) g (o.closed child high there marked)
 
   -- from one group down to the next
-  from_next : (at : ℕ) → top ≡ at + 1 → (m : List Made) (s : List ℕ) → Gains u w m s → (IsAtOrAbove shape.parents.items group at → KnowsClosed w (place_number (group_place id node at)))
-      → (child : ℕ) → at ≤ child → child < groups_in shape → IsAtOrAbove shape.parents.items group child → KnowsClosed w (place_number (group_place id node child))
-  from_next at next m s g own child high there below = dite (ℕ_discrete child at)
-      (λ e. subst (λ (x : ℕ). KnowsClosed w (place_number (group_place id node x))) (sym e) (own (subst (λ (x : ℕ). IsAtOrAbove shape.parents.items group x) e below)))
-      (λ n. closed_still m s g child (omega (arith, high, n, next)) there below)
+  from_next : (at : ℕ) → top ≡ at + 1 → (m : List Made) (s : List ℕ) → Gains u w m s → (IsMarked marks at → KnowsClosed w (place_number (group_place id node at)))
+      → (child : ℕ) → at ≤ child → child < groups_in shape → IsMarked marks child → KnowsClosed w (place_number (group_place id node child))
+  from_next at next m s g own child high there marked = dite (ℕ_discrete child at)
+      (λ e. subst (λ (x : ℕ). KnowsClosed w (place_number (group_place id node x))) (sym e) (own (subst (IsMarked marks) e marked)))
+      (λ n. closed_still m s g child (omega (arith, high, n, next)) there marked)
+
+  -- each list of a group above the next in number is closed, or one above it is
+  all_higher : (m : List Made) (s : List ℕ) → Gains u w m s → (child : ℕ) → top ≤ child → child < groups_in shape → IsAtOrAbove shape.parents.items group child → IsKnownClosed shape.parents.items w (group_place id node child)
+  all_higher m s g child high there below = by_mark (slice_index_or marks child false) refl
+    where
+      by_mark : (b : Bool) → slice_index_or marks child false ≡ b → IsKnownClosed shape.parents.items w (group_place id node child)
+      by_mark true marked = (child, IsAtOrAbove-refl shape.parents.items tree child there, closed_still m s g child high there marked)
+      by_mark false unmarked = unmarked_closed shape tree id node group w marks (looked_still shape tree id node group u w m s marks (groups_in shape) g looked) (child + 1) child (omega arith) there below unmarked
 
   -- the closings so far, seen from a later view that gained nothing
   still : Gains u w [] [] → AreClosings shape v w id node group o.cs
@@ -75,7 +99,7 @@ module _ (shape : Shape) (tree : IsTree shape.parents.items) (v u w : View) (id 
     below = below;
     there = there;
     above = Each-weaker (λ (c : Closing). top ≤ c.child) (λ (c : Closing). at < c.child) (λ c h. omega (arith, h, next)) o.cs o.low;
-    closed = λ higher high low on. closed_still [] [] g higher (omega (arith, high, next)) low on;
+    closed = λ higher high low on. all_higher [] [] g higher (omega (arith, high, next)) low on;
   }
 
   -- what was met, as the first view sees it
@@ -95,33 +119,33 @@ module _ (shape : Shape) (tree : IsTree shape.parents.items) (v u w : View) (id 
   pub free_before : (child : ℕ) → ParentHadRoom shape u w id node child → ParentHadRoom shape v w id node child
   free_before child h = record { given = h.given; old = h.old; pair = was_pair child h.given h.old h.pair; room = h.room }
 
-  -- a group that is not at or below is passed over
-  pub splicing_skips : (at : ℕ) → top ≡ at + 1 → group ≤ at → at < groups_in shape → (IsAtOrAbove shape.parents.items group at → ⊥) → IsSplicing shape v u id node group at moved
-  splicing_skips at next le there apart = record {
+  -- a list that isn't marked is passed over
+  pub splicing_skips : (at : ℕ) → top ≡ at + 1 → group ≤ at → IsMarked marks group → slice_index_or marks at false ≡ false → IsSplicing shape v u id node group marks at moved
+  splicing_skips at next le own unmarked = record {
     cs = o.cs;
     closings = o.closings;
     low = Each-weaker (λ (c : Closing). top ≤ c.child) (λ (c : Closing). at ≤ c.child) (λ c h. omega (arith, h, next)) o.cs o.low;
-    closed = λ child high low below. dite (ℕ_discrete child at)
-        (λ e. absurd (apart (subst (λ (x : ℕ). IsAtOrAbove shape.parents.items group x) e below)))
-        (λ n. o.closed child (omega (arith, high, n, next)) low below);
-    moved_is = λ low. absurd (apart (subst (λ (x : ℕ). IsAtOrAbove shape.parents.items x at) (same low) (IsAtOrAbove-refl shape.parents.items tree at there)));
+    closed = λ child high low marked. dite (ℕ_discrete child at)
+        (λ e. both_ways _ (subst (IsMarked marks) e marked) unmarked)
+        (λ n. o.closed child (omega (arith, high, n, next)) low marked);
+    moved_is = λ low. both_ways _ (subst (IsMarked marks) (same low) own) unmarked;
   } where
-    same : at ≤ group → at ≡ group
+    same : at ≤ group → group ≡ at
     same low = omega (arith, low, le)
 
   -- a list was closed before
-  pub splicing_was : (at : ℕ) → top ≡ at + 1 → group ≤ at → Gains u w [] [] → (IsAtOrAbove shape.parents.items group at → KnowsClosed w (place_number (group_place id node at))) → IsSplicing shape v w id node group at 0
+  pub splicing_was : (at : ℕ) → top ≡ at + 1 → group ≤ at → Gains u w [] [] → KnowsClosed w (place_number (group_place id node at)) → IsSplicing shape v w id node group marks at 0
   splicing_was at next le g own = record {
     cs = o.cs;
     closings = still g;
     low = Each-weaker (λ (c : Closing). top ≤ c.child) (λ (c : Closing). at ≤ c.child) (λ c h. omega (arith, h, next)) o.cs o.low;
-    closed = from_next at next [] [] g own;
+    closed = from_next at next [] [] g (λ h. own);
     moved_is = λ low. sym (moved_none group o.cs (Each-weaker (λ (c : Closing). top ≤ c.child) (λ (c : Closing). group < c.child) (λ c h. omega (arith, h, next, le)) o.cs o.low));
   }
 
   -- a list is closed now
   pub splicing_one : (at : ℕ) (c : Closing) (objects : ℕ) → top ≡ at + 1 → group ≤ at → IsAtOrAbove shape.parents.items group at → c.child ≡ at → objects ≡ length c.items → IsClosing shape u id node at c
-      → Gains u w (made_by_closing shape.parents.items id node c) (bits_by shape.parents.items id node c) → KnowsClosed w (place_number (group_place id node at)) → IsSplicing shape v w id node group at objects
+      → Gains u w (made_by_closing shape.parents.items id node c) (bits_by shape.parents.items id node c) → KnowsClosed w (place_number (group_place id node at)) → IsSplicing shape v w id node group marks at objects
   splicing_one at c objects next le below is count one g own = record {
     cs = o.cs ++ c ∷ [];
     closings = record {

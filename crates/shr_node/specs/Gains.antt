@@ -2,7 +2,10 @@
 use Rattle.std.specs.Prelude.{◌≡◌, ℕ, List, [], ◌∷◌, length, cond, ◌==◌, ◌&&◌, nat_lt, Bool, true, Contains, None}
 use Rattle.shr_base.specs.declared.objects.Object.{Object}
 use Rattle.shr_base.specs.declared.journals.Entry.{Entry}
+use Rattle.shr_base.specs.declared.places.Place.{Place}
+use Rattle.shr_model.specs.Groups.{IsAtOrAbove}
 use Rattle.shr_model.specs.Items.{is_closed}
+use Rattle.shr_model.specs.Places.{place_number, at_group}
 use Rattle.shr_core.specs.declared.view.View.{View}
 use Rattle.shr_core.specs.Parts.{Made}
 use Rattle.shr_core.specs.Gained.{nothing, Adds, OwesNoMore}
@@ -26,6 +29,12 @@ Knows v k entries = Contains v.traces.known (record { place = k; entries = entri
 -- the seat knows that the list of a place is closed
 abbrev pub KnowsClosed : View → ℕ → Type 0
 KnowsClosed v k = (entries : List Entry) × Knows v k entries × (is_closed entries ≡ true)
+
+-- The seat knows that the list of a place is closed, or that of a group above its own on the same id
+-- and node. That is as much: each list below a closed one is closed (`closed_below` of
+-- proofs/BelowClosed.antt).
+abbrev pub IsKnownClosed : List ℕ → View → Place → Type 0
+IsKnownClosed parents v place = (above : ℕ) × IsAtOrAbove parents above place.group × KnowsClosed v (place_number (at_group place above))
 
 -- a list below the root had no item and has one now
 abbrev pub is_raised : ℕ → List Object → List Object → Bool

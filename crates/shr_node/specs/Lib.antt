@@ -5,3 +5,4 @@ pub mod Splicing
 pub mod Draining
 pub mod Closes
 pub mod Pairs
+pub mod Looking

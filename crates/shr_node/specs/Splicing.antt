@@ -18,7 +18,7 @@ use Rattle.shr_seats.specs.Shapes.{groups_in}
 use Rattle.shr_core.specs.Steps.{IsCounted}
 use Rattle.shr_node.specs.declared.answers.SpliceAnswer.{SpliceAnswer}
 use Rattle.shr_node.specs.declared.answers.SpliceAnswer.TheVariants as splice
-use Rattle.shr_node.specs.Gains.{Gains, KnowsClosed}
+use Rattle.shr_node.specs.Gains.{Gains, KnowsClosed, IsKnownClosed}
 use Rattle.shr_node.specs.Opening.{WasMet}
 
 -- One list was closed into its parent's: the child's group, the numbers of its Closed and of the
@@ -84,12 +84,13 @@ abbrev pub moved_from_group : ℕ → List Closing → ℕ
 moved_from_group group [] = 0
 moved_from_group group (c ∷ cs) = cond (c.child == group) (length c.items) (moved_from_group group cs)
 
--- each list at or below the group is known to be closed
+-- the group's own list is known to be closed, and with it each at or below the group
 pub record IsSpliced (shape : Shape) (v w : View) (id node group moved : ℕ) : Type 0 where
   pub cs : List Closing
   pub closings : AreClosings shape v w id node group cs
   pub moved_is : moved ≡ moved_from_group group cs
-  pub closed : (child : ℕ) → child < groups_in shape → IsAtOrAbove shape.parents.items group child → KnowsClosed w (place_number (group_place id node child))
+  pub own : KnowsClosed w (place_number (group_place id node group))
+  pub closed : (child : ℕ) → child < groups_in shape → IsAtOrAbove shape.parents.items group child → IsKnownClosed shape.parents.items w (group_place id node child)
 
 -- a splice stopped at the list of a child: those of higher groups at or below the spliced one are
 -- known to be closed, and from it down none was touched
@@ -99,7 +100,7 @@ pub record SpliceStopsAt (shape : Shape) (v w : View) (id node group child : ℕ
   pub below : IsAtOrAbove shape.parents.items group child
   pub there : child < groups_in shape
   pub above : Each (λ c. child < c.child) cs
-  pub closed : (higher : ℕ) → child < higher → higher < groups_in shape → IsAtOrAbove shape.parents.items group higher → KnowsClosed w (place_number (group_place id node higher))
+  pub closed : (higher : ℕ) → child < higher → higher < groups_in shape → IsAtOrAbove shape.parents.items group higher → IsKnownClosed shape.parents.items w (group_place id node higher)
 
 -- the open lists of a child and of its parent, met at one moment: the child's had not been moved
 -- in; the seat knows both journals

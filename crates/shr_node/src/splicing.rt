@@ -1,18 +1,19 @@
 //! Closing the lists of a group and of those below it, each into its parent's.
 
-ghost use Rattle.std.specs.Prelude.{◌≡◌, ◌==◌, ◌<◌, ◌↔◌, ◌&&◌, ℕ, nat_lt, true, false, slice_index_or};
-ghost use Rattle.shr_model.specs.Groups.{IsAtOrAbove, is_child};
+ghost use Rattle.std.specs.Prelude.{◌≡◌, ◌==◌, ◌<◌, ◌&&◌, ℕ, [], nat_lt, true, false};
+ghost use Rattle.shr_model.specs.Groups.{is_child};
 ghost use Rattle.shr_model.specs.Items.{is_closed};
 ghost use Rattle.shr_model.specs.Places.{place_number};
 ghost use Rattle.shr_list.specs.Listed.{IsSound};
 ghost use Rattle.shr_core.specs.declared.view.View.{View};
 ghost use Rattle.shr_core.specs.Parts.{no_rooms};
 ghost use Rattle.shr_seats.specs.Shapes.{groups_in};
-ghost use Rattle.shr_core.specs.Seats.{IsOf, view_of, shape_of};
-ghost use Rattle.shr_node.specs.Gains.{KnowsClosed};
+ghost use Rattle.shr_core.specs.Seats.{IsOf, IsPlaceOfShape, view_of, shape_of};
+ghost use Rattle.shr_node.specs.Gains.{Gains, KnowsClosed};
 ghost use Rattle.shr_node.specs.Splicing.{group_place, SpliceGives};
 ghost use Rattle.shr_node.specs.Closes.{CloseOneGives};
 ghost use Rattle.shr_node.specs.Pairs.{AreBothTaken, with_both_left};
+ghost use Rattle.shr_node.specs.Looking.{AreLooked};
 
 use crate::answers::{OneClose, SpliceAnswer};
 use crate::rooms::{leave, list_spent, parent, raise};
@@ -27,20 +28,56 @@ use std::sync::Wait;
 // How many groups a table has at most.
 const MOST_GROUPS: usize = 256;
 
-// Which groups are at or below a group, each at its number.
-fn subtree(core: &Core, group: u16) -> [bool; MOST_GROUPS]
-    requires { group < groups_in (shape_of core.now) }
-    ensures { (at : ℕ) → at < groups_in (shape_of core.now) → (slice_index_or result at false ≡ true)
-        ↔ IsAtOrAbove (shape_of core.now).parents.items group at }
+// Whether the list of a place is open. Its room is taken and given back.
+fn is_open<R: Wait>(rt: &R, core: &Core, seat: &mut Seat, place: Place) -> bool
+    requires seat { IsOf core.now seat.old }
+    requires rooms { (view_of seat.old).holding ≡ no_rooms }
+    requires place { IsPlaceOfShape (shape_of core.now) place }
+    ensures seat { IsOf core.now seat.new }
+    ensures gains { Gains (view_of seat.old) (view_of seat.new) [] [] }
+    ensures closed { result ≡ false → KnowsClosed (view_of seat.new) (place_number place) }
+{
+    let room = core.take_room(rt, seat, place);
+    let opens = !room.list.closed();
+    leave(core, seat, room);
+    opens
+}
+
+// Which lists at or below a group are open, each at its group's number. What is below a closed list
+// is closed and isn't looked at.
+fn open_lists<R: Wait>(
+    rt: &R,
+    core: &Core,
+    seat: &mut Seat,
+    id: u16,
+    node: u8,
+    group: u16,
+) -> [bool; MOST_GROUPS]
+    requires seat { IsOf core.now seat.old }
+    requires rooms { (view_of seat.old).holding ≡ no_rooms }
+    requires place { (id < (shape_of core.now).ids) × (node < (shape_of core.now).nodes) }
+    requires group { group < groups_in (shape_of core.now) }
+    ensures seat { IsOf core.now seat.new }
+    ensures gains { Gains (view_of seat.old) (view_of seat.new) [] [] }
+    ensures looked { AreLooked (shape_of core.now) (view_of seat.new) id node group result
+        (groups_in (shape_of core.now)) }
 {
     let parents = core.shape().parents.as_slice();
-    let mut within = [false; MOST_GROUPS];
-    within[group as usize] = true;
-    // A parent has a lower number than its children, so it is marked before them.
+    let mut opens = [false; MOST_GROUPS];
+    opens[group as usize] = is_open(rt, core, seat, Place { id, node, group });
+    // A parent has a lower number than its children, so its list is looked at before theirs.
     for at in group as usize + 1..parents.len() {
-        within[at] = within[parents[at] as usize];
+        if !opens[parents[at] as usize] {
+            continue;
+        }
+        let place = Place {
+            id,
+            node,
+            group: at as u16,
+        };
+        opens[at] = is_open(rt, core, seat, place);
     }
-    within
+    opens
 }
 
 // Whether a list is closed. One that is open has room for the entry that closes it.
@@ -134,14 +171,15 @@ pub fn close_one<R: Wait>(
     }
 }
 
-/// Closes the lists of a group and of those below it, the highest number first, each into its
+/// Closes each open list of a group and of those below it, the highest number first, each into its
 /// parent's: the child's objects stand before the head of the parent's list in their order, and
 /// later calls for the group act on the first list above that is not closed. The group is not the
 /// root, and the seat has no room in hand.
 ///
-/// The bit of a parent below the root that is given an object is set. `moved` counts the objects
-/// that the group's own list gave, 0 if it was closed before. After `Worn` and `Memory` the lists
-/// closed so far stay closed, and all others are as before.
+/// Where a list is closed those below it are, so their rooms are not taken. The bit of a parent below
+/// the root that is given an object is set. `moved` counts the objects that the group's own list
+/// gave, 0 if it was closed before. After `Worn` and `Memory` the lists closed so far stay closed,
+/// and all others are as before.
 ///
 /// Linux: `memcg_reparent_list_lru_node` in mm/list_lru.c for one group. Its children went offline
 /// before it, so there no order of groups is needed.
@@ -161,12 +199,15 @@ pub fn splice<R: Wait>(
     ensures answer { SpliceGives (shape_of core.now) (view_of seat.old) id node group result
         (view_of seat.new) }
 {
-    let within = subtree(core, group);
+    let opens = open_lists(rt, core, seat, id, node, group);
+    if !opens[group as usize] {
+        return SpliceAnswer::Spliced { moved: 0 };
+    }
     let mut moved = 0;
     let mut at = core.shape().parents.len() as u16;
     'splicing: while at > group {
         at -= 1;
-        if !within[at as usize] {
+        if !opens[at as usize] {
             continue;
         }
         // The group itself comes last, so that `moved` is left with what its own list gave.

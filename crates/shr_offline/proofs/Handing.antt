@@ -3,11 +3,9 @@ use Rattle.shr_offline.proofs.Common.{◌≡◌, ℕ, suc, ◌+◌, ◌*◌, ◌
 use Rattle.std.proofs.Math.Nat.{div-lt_iff_lt-mul, div-add-mod}
 use Rattle.std.proofs.lemmas.Nat.{div-mul-add}
 use Rattle.std.proofs.lemmas.List.Elements.{Contains-append_left}
-use Rattle.shr_model.specs.Groups.{IsAtOrAbove}
 use Rattle.shr_model.specs.Places.{place_number}
 use Rattle.shr_seats.specs.Weights.{Begins}
 use Rattle.shr_seats.proofs.Weighing.{begins_all, begins_more}
-use Rattle.shr_seats.specs.Shapes.{groups_in}
 use Rattle.shr_node.specs.Gains.{KnowsClosed}
 use Rattle.shr_node.specs.declared.answers.SpliceAnswer.TheVariants as splice
 
@@ -46,19 +44,18 @@ module _ (shape : Shape) where
   closed_still : (v w : View) (k : ℕ) → Stays v w → KnowsClosed v k → KnowsClosed w k
   closed_still v w k s h = (h.0, subst (λ (l : List Known). Contains l (record { place = k; entries = h.0 })) (sym s.known.1) (Contains-append_left v.traces.known s.known.0 (record { place = k; entries = h.0 }) h.1), h.2)
 
-  closed_in : (ps : List Place) (moved : ℕ) (v w : View) → AreSpliced shape ps moved v w → (i : ℕ) (d : Place) → i < length ps → (child : ℕ) → child < groups_in shape → IsAtOrAbove shape.parents.items (get_or ps i d).group child
-      → KnowsClosed w (place_number (group_place (get_or ps i d).id (get_or ps i d).node child))
-  closed_in [] moved v w h i d low child there above = absurd (omega (arith, low))
-  closed_in (p ∷ ps) moved v w (u, first, rest, sums, one, others) zero d low child there above = closed_still u w (place_number (group_place p.id p.node child)) (all_stays ps rest u w others) (one.closed child there above)
-  closed_in (p ∷ ps) moved v w (u, first, rest, sums, one, others) (suc i) d low child there above = closed_in ps rest u w others i d (omega (arith, low)) child there above
+  own_closed : (ps : List Place) (moved : ℕ) (v w : View) → AreSpliced shape ps moved v w → (i : ℕ) (d : Place) → i < length ps → KnowsClosed w (place_number (get_or ps i d))
+  own_closed [] moved v w h i d low = absurd (omega (arith, low))
+  own_closed (p ∷ ps) moved v w (u, first, rest, sums, one, others) zero d low = closed_still u w (place_number p) (all_stays ps rest u w others) one.own
+  own_closed (p ∷ ps) moved v w (u, first, rest, sums, one, others) (suc i) d low = own_closed ps rest u w others i d (omega (arith, low))
 
   number_of : (id node : ℕ) → node < shape.nodes → ((id * shape.nodes + node) / shape.nodes ≡ id) × ((id * shape.nodes + node) % shape.nodes ≡ node)
   number_of id node low = let d = div-mul-add id shape.nodes node low in let a = div-add-mod (id * shape.nodes + node) shape.nodes in
       let b : (id * shape.nodes + node) / shape.nodes * shape.nodes ≡ id * shape.nodes = ap (λ (q : ℕ). q * shape.nodes) d in (d, omega (arith, a, b))
 
-  -- all lists of the group and below it are known to be closed
-  pub all_closed : (group moved : ℕ) (v w : View) → AreSpliced shape (all_places shape group) moved v w → AreClosed shape group w
-  all_closed group moved v w h id node child low lower there above =
+  -- the group's own lists are known to be closed
+  all_own : (group moved : ℕ) (v w : View) → AreSpliced shape (all_places shape group) moved v w → (id node : ℕ) → id < shape.ids → node < shape.nodes → KnowsClosed w (place_number (group_place id node group))
+  all_own group moved v w h id node low lower =
       let n : ℕ = id * shape.nodes + node in let is = number_of id node lower in
       let some-nodes : 0 < shape.nodes = omega (arith, lower) in
       let inside : n < count_of_places shape = (div-lt_iff_lt-mul {k = shape.nodes} {x = n} {y = shape.ids} some-nodes).0 (subst (λ (q : ℕ). q < shape.ids) (sym is.0) low) in
@@ -66,8 +63,11 @@ module _ (shape : Shape) where
       let long = length-map-range_with_len (place_by_number shape group) 0 (count_of_places shape) in
       let at : get_or (all_places shape group) n d ≡ place_by_number shape group n = get_or-map-range_with_len (place_by_number shape group) 0 (count_of_places shape) n n d inside (omega arith) in
       let same : place_by_number shape group n ≡ group_place id node group = λ i. group_place (is.0 i) (is.1 i) group in
-      subst (λ (p : Place). KnowsClosed w (place_number (group_place p.id p.node child))) (at ∙ same)
-      (closed_in (all_places shape group) moved v w h n d (omega (arith, long, inside)) child there (subst (λ (p : Place). IsAtOrAbove shape.parents.items p.group child) (sym (at ∙ same)) above))
+      subst (λ (p : Place). KnowsClosed w (place_number p)) (at ∙ same) (own_closed (all_places shape group) moved v w h n d (omega (arith, long, inside)))
+
+  -- and so all lists at or below the group are
+  pub all_closed : (group moved : ℕ) (v w : View) → AreSpliced shape (all_places shape group) moved v w → AreClosed shape group w
+  all_closed group moved v w h = record { own = all_own group moved v w h; closed = λ id node child low lower there on. (group, on, all_own group moved v w h id node low lower) }
 
 -- nothing is in hand, held or owned after splices
 pub idle_still : (v w : View) → Stays v w → IsIdle v → IsIdle w

@@ -14,7 +14,7 @@ use Rattle.shr_charge.specs.declared.answers.DoneAnswer.TheVariants as ended
 use Rattle.shr_charge.specs.Answers.{BeginTells, BeginLeaves, IfGiven, DoneTells, DoneLeaves, KnowsTree}
 use Rattle.shr_node.specs.declared.answers.SpliceAnswer.{SpliceAnswer}
 use Rattle.shr_node.specs.declared.answers.SpliceAnswer.TheVariants as splice
-use Rattle.shr_node.specs.Gains.{KnowsClosed}
+use Rattle.shr_node.specs.Gains.{KnowsClosed, IsKnownClosed}
 use Rattle.shr_node.specs.Splicing.{group_place}
 use Rattle.shr_walk.specs.declared.seats.Shared.{Shared}
 use Rattle.shr_walk.specs.State.{WorkerState}
@@ -53,10 +53,11 @@ pub record EndsOffline (x : Shared) (group : ℕ) (answer : DoneAnswer) (s t : W
   pub knows : KnowsTree (hierarchy_of (shape_of x.core)) s.tree t.tree
   pub rest : t ≡ record s { tree = t.tree }
 
--- the list of each id on each node, of the group and of those below it, is closed in a journal that
--- the seat knows
-abbrev pub AreClosed : Shape → ℕ → View → Type 0
-AreClosed shape group v = (id node child : ℕ) → id < shape.ids → node < shape.nodes → child < groups_in shape → IsAtOrAbove shape.parents.items group child → KnowsClosed v (place_number (group_place id node child))
+-- the group's own list of each id on each node is closed in a journal that the seat knows, and with
+-- it each list at or below the group is known to be closed
+pub record AreClosed (shape : Shape) (group : ℕ) (v : View) : Type 0 where
+  pub own : (id node : ℕ) → id < shape.ids → node < shape.nodes → KnowsClosed v (place_number (group_place id node group))
+  pub closed : (id node child : ℕ) → id < shape.ids → node < shape.nodes → child < groups_in shape → IsAtOrAbove shape.parents.items group child → IsKnownClosed shape.parents.items v (group_place id node child)
 
 -- All was handed over, in order: the lists, then the deferred work, and then the end came, which is
 -- this answer.

@@ -1,61 +1,77 @@
-use Rattle.shr_node.proofs.Common.{◌≡◌, ℕ, ◌-◌, true, false, length, sym, ap, subst, ◌∙◌, arith, IsAtOrAbove-le, View, Shape, groups_in, view_of, shape_of}
-use Rattle.shr_node.proofs.Splices.{IsSplicing, splicing_none, children_closed, splicing_stops, worn_before, free_before, splicing_skips, splicing_was, splicing_one}
+use Rattle.shr_node.proofs.Common.{◌≡◌, ℕ, ◌-◌, [], length, sym, inl, ap, subst, ◌∙◌, arith, View, Shape, groups_in, view_of, shape_of, made_by_closing, bits_by, refl}
+use Rattle.shr_node.proofs.Looks.{looked_still}
+use Rattle.shr_node.proofs.Splices.{IsSplicing, closings_none, splicing_none, children_closed, splicing_stops, worn_before, free_before, splicing_skips, splicing_was, splicing_one}
 use Rattle.shr_node.proofs.splicing.splice.Goals as goal
 
-pub splicing-init : goal.splicing-init
-splicing-init g c = let shape : Shape = shape_of c.args.core.now in let v : View = view_of c.args.seat.now in let e : c.len-at.result ≡ groups_in shape = c.len-at.ensures ∙ ap (λ (s : Shape). length s.parents.items) c.shape.ensures in let there = c.requires.group.1 in record {
-  seat = c.requires.seat;
-  there = omega (arith, e);
-  above = omega (arith, e, there);
-  splices = subst (λ (n : ℕ). IsSplicing shape v v c.args.id c.args.node c.args.group n 0) (sym e) (splicing_none shape v c.args.id c.args.node c.args.group c.requires.group.1);
+pub returns-then-not-opens-group-clause-answer : goal.returns-then-not-opens-group-clause-answer
+returns-then-not-opens-group-clause-answer g c = let shape : Shape = shape_of c.args.core.now in let v : View = view_of c.args.seat.now in let u : View = view_of c.open_lists-opens.new.seat in let e = c.open_lists-opens.ensures in let own = e.looked.closed c.args.group c.requires.group.1 (inl refl) c.if-not-opens-group.true in record {
+  cs = [];
+  closings = closings_none shape v u c.args.id c.args.node c.args.group e.gains;
+  moved_is = refl;
+  own = own;
+  closed = λ child there below. (c.args.group, below, own);
 }
 
-pub splicing-preserved-then-not-within-at : goal.splicing-preserved-then-not-within-at
-splicing-preserved-then-not-within-at g c = let core = c.args.core.now in let shape : Shape = shape_of core in let v : View = view_of c.args.seat.now in let u : View = view_of c.splicing.seat in let at : ℕ = c.splicing.at - 1 in let inv = c.splicing.invariant in let o = inv.splices in let there = inv.there in let high = inv.above in let test = c.splicing-test.true in record {
+pub splicing-init : goal.splicing-init
+splicing-init g c = let shape : Shape = shape_of c.args.core.now in let v : View = view_of c.args.seat.now in let u : View = view_of c.open_lists-opens.new.seat in let e : c.len-at.result ≡ groups_in shape = c.len-at.ensures ∙ ap (λ (s : Shape). length s.parents.items) c.shape.ensures in let there = c.requires.group.1 in record {
+  seat = c.open_lists-opens.ensures.seat;
+  there = omega (arith, e);
+  above = omega (arith, e, there);
+  looked = c.open_lists-opens.ensures.looked;
+  splices = subst (λ (n : ℕ). IsSplicing shape v u c.args.id c.args.node c.args.group c.open_lists-opens.result n 0) (sym e) (splicing_none shape v u c.args.id c.args.node c.args.group c.open_lists-opens.result c.requires.group.1 c.open_lists-opens.ensures.gains);
+}
+
+pub splicing-preserved-then-not-opens-at : goal.splicing-preserved-then-not-opens-at
+splicing-preserved-then-not-opens-at g c = let core = c.args.core.now in let shape : Shape = shape_of core in let v : View = view_of c.args.seat.now in let u : View = view_of c.splicing.seat in let at : ℕ = c.splicing.at - 1 in let inv = c.splicing.invariant in let there = inv.there in let high = inv.above in let test = c.splicing-test.true in record {
   seat = inv.seat;
   there = omega (arith, there);
   above = omega (arith, high, test);
-  splices = splicing_skips shape core.tree v u u c.args.id c.args.node c.args.group c.splicing.at c.splicing.moved o at (omega (arith, test)) (omega (arith, high, test)) (omega (arith, there, test))
-      (λ h. let marked = (c.subtree-within.ensures (c.splicing.at - 1) (omega (arith, there, test))).1 h in let clash : true ≡ false = sym marked ∙ c.if-not-within-at.true in absurd (cc));
+  looked = inv.looked;
+  splices = splicing_skips shape core.tree v u u c.args.id c.args.node c.args.group c.open_lists-opens.result c.splicing.at c.splicing.moved inv.splices inv.looked at (omega (arith, test)) (omega (arith, high, test)) c.if-not-opens-group.false c.if-not-opens-at.true;
 }
 
 pub close_one-requires-clause-children : goal.close_one-requires-clause-children
-close_one-requires-clause-children g c = let core = c.args.core.now in let shape : Shape = shape_of core in let v : View = view_of c.args.seat.now in let u : View = view_of c.splicing.seat in let at : ℕ = c.splicing.at - 1 in let inv = c.splicing.invariant in let o = inv.splices in let there = inv.there in let high = inv.above in let test = c.splicing-test.true in children_closed shape core.tree v u u c.args.id c.args.node c.args.group c.splicing.at c.splicing.moved o at (omega (arith, test)) (omega (arith, there, test)) ((c.subtree-within.ensures (c.splicing.at - 1) (omega (arith, there, test))).0 c.if-not-within-at.false)
+close_one-requires-clause-children g c = let core = c.args.core.now in let shape : Shape = shape_of core in let v : View = view_of c.args.seat.now in let u : View = view_of c.splicing.seat in let at : ℕ = c.splicing.at - 1 in let inv = c.splicing.invariant in let test = c.splicing-test.true in
+    children_closed shape core.tree v u u c.args.id c.args.node c.args.group c.open_lists-opens.result c.splicing.at c.splicing.moved inv.splices inv.looked at (omega (arith, test)) c.if-not-opens-at.false
 
 pub splicing-preserved-in-Closed : goal.splicing-preserved-in-Closed
-splicing-preserved-in-Closed g c = let core = c.args.core.now in let shape : Shape = shape_of core in let v : View = view_of c.args.seat.now in let u : View = view_of c.splicing.seat in let at : ℕ = c.splicing.at - 1 in let inv = c.splicing.invariant in let o = inv.splices in let there = inv.there in let high = inv.above in let test = c.splicing-test.true in let w : View = view_of c.close_one.new.seat in let a = c.in-Closed.ensures.answer in record {
-  seat = c.close_one.ensures.seat;
-  there = omega (arith, there);
-  above = omega (arith, high, test);
-  splices = splicing_one shape core.tree v u w c.args.id c.args.node c.args.group c.splicing.at c.splicing.moved o at a.closing c.in-Closed.objects (omega (arith, test)) (omega (arith, high, test)) ((c.subtree-within.ensures (c.splicing.at - 1) (omega (arith, there, test))).0 c.if-not-within-at.false) a.here a.count a.is a.gains a.known;
-}
+splicing-preserved-in-Closed g c = let core = c.args.core.now in let shape : Shape = shape_of core in let v : View = view_of c.args.seat.now in let u : View = view_of c.splicing.seat in let at : ℕ = c.splicing.at - 1 in let inv = c.splicing.invariant in let there = inv.there in let high = inv.above in let test = c.splicing-test.true in let w : View = view_of c.close_one.new.seat in let a = c.in-Closed.ensures.answer in
+    let below = inv.looked.below at (omega (arith, there, test)) c.if-not-opens-at.false in record {
+      seat = c.close_one.ensures.seat;
+      there = omega (arith, there);
+      above = omega (arith, high, test);
+      looked = looked_still shape core.tree c.args.id c.args.node c.args.group u w (made_by_closing shape.parents.items c.args.id c.args.node a.closing) (bits_by shape.parents.items c.args.id c.args.node a.closing) c.open_lists-opens.result (groups_in shape) a.gains inv.looked;
+      splices = splicing_one shape core.tree v u w c.args.id c.args.node c.args.group c.open_lists-opens.result c.splicing.at c.splicing.moved inv.splices inv.looked at a.closing c.in-Closed.objects (omega (arith, test)) (omega (arith, high, test)) below a.here a.count a.is a.gains a.known;
+    }
 
 pub splicing-preserved : goal.splicing-preserved
-splicing-preserved g c = let core = c.args.core.now in let shape : Shape = shape_of core in let v : View = view_of c.args.seat.now in let u : View = view_of c.splicing.seat in let at : ℕ = c.splicing.at - 1 in let inv = c.splicing.invariant in let o = inv.splices in let there = inv.there in let high = inv.above in let test = c.splicing-test.true in let w : View = view_of c.close_one.new.seat in let a = c.in-WasClosed.ensures.answer in record {
+splicing-preserved g c = let core = c.args.core.now in let shape : Shape = shape_of core in let v : View = view_of c.args.seat.now in let u : View = view_of c.splicing.seat in let at : ℕ = c.splicing.at - 1 in let inv = c.splicing.invariant in let there = inv.there in let high = inv.above in let test = c.splicing-test.true in let w : View = view_of c.close_one.new.seat in let a = c.in-WasClosed.ensures.answer in record {
   seat = c.close_one.ensures.seat;
   there = omega (arith, there);
   above = omega (arith, high, test);
-  splices = splicing_was shape core.tree v u w c.args.id c.args.node c.args.group c.splicing.at c.splicing.moved o at (omega (arith, test)) (omega (arith, high, test)) a.gains (λ h. a.known);
+  looked = looked_still shape core.tree c.args.id c.args.node c.args.group u w [] [] c.open_lists-opens.result (groups_in shape) a.gains inv.looked;
+  splices = splicing_was shape core.tree v u w c.args.id c.args.node c.args.group c.open_lists-opens.result c.splicing.at c.splicing.moved inv.splices inv.looked at (omega (arith, test)) (omega (arith, high, test)) a.gains a.known;
 }
 
 pub returns-in-Worn-clause-answer : goal.returns-in-Worn-clause-answer
-returns-in-Worn-clause-answer g c = let core = c.args.core.now in let shape : Shape = shape_of core in let v : View = view_of c.args.seat.now in let u : View = view_of c.splicing.seat in let w : View = view_of c.close_one.new.seat in let at : ℕ = c.splicing.at - 1 in let inv = c.splicing.invariant in let o = inv.splices in let there = inv.there in let test = c.splicing-test.true in let a = c.in-Worn.ensures.answer in record {
+returns-in-Worn-clause-answer g c = let core = c.args.core.now in let shape : Shape = shape_of core in let v : View = view_of c.args.seat.now in let u : View = view_of c.splicing.seat in let w : View = view_of c.close_one.new.seat in let at : ℕ = c.splicing.at - 1 in let inv = c.splicing.invariant in let there = inv.there in let test = c.splicing-test.true in let a = c.in-Worn.ensures.answer in record {
   child = at;
-  stops = splicing_stops shape core.tree v u w c.args.id c.args.node c.args.group c.splicing.at c.splicing.moved o at (omega (arith, test)) (omega (arith, there, test)) ((c.subtree-within.ensures (c.splicing.at - 1) (omega (arith, there, test))).0 c.if-not-within-at.false) a.gains;
-  worn = worn_before shape core.tree v u w c.args.id c.args.node c.args.group c.splicing.at c.splicing.moved o c.in-Worn.spent at a.worn;
+  stops = splicing_stops shape core.tree v u w c.args.id c.args.node c.args.group c.open_lists-opens.result c.splicing.at c.splicing.moved inv.splices inv.looked at (omega (arith, test)) (omega (arith, there, test)) (inv.looked.below at (omega (arith, there, test)) c.if-not-opens-at.false) a.gains;
+  worn = worn_before shape core.tree v u w c.args.id c.args.node c.args.group c.open_lists-opens.result c.splicing.at c.splicing.moved inv.splices inv.looked c.in-Worn.spent at a.worn;
 }
 
 pub returns-in-Memory-clause-answer : goal.returns-in-Memory-clause-answer
-returns-in-Memory-clause-answer g c = let core = c.args.core.now in let shape : Shape = shape_of core in let v : View = view_of c.args.seat.now in let u : View = view_of c.splicing.seat in let w : View = view_of c.close_one.new.seat in let at : ℕ = c.splicing.at - 1 in let inv = c.splicing.invariant in let o = inv.splices in let there = inv.there in let test = c.splicing-test.true in let a = c.in-Memory.ensures.answer in record {
+returns-in-Memory-clause-answer g c = let core = c.args.core.now in let shape : Shape = shape_of core in let v : View = view_of c.args.seat.now in let u : View = view_of c.splicing.seat in let w : View = view_of c.close_one.new.seat in let at : ℕ = c.splicing.at - 1 in let inv = c.splicing.invariant in let there = inv.there in let test = c.splicing-test.true in let a = c.in-Memory.ensures.answer in record {
   child = at;
-  stops = splicing_stops shape core.tree v u w c.args.id c.args.node c.args.group c.splicing.at c.splicing.moved o at (omega (arith, test)) (omega (arith, there, test)) ((c.subtree-within.ensures (c.splicing.at - 1) (omega (arith, there, test))).0 c.if-not-within-at.false) a.gains;
-  free = free_before shape core.tree v u w c.args.id c.args.node c.args.group c.splicing.at c.splicing.moved o at a.free;
+  stops = splicing_stops shape core.tree v u w c.args.id c.args.node c.args.group c.open_lists-opens.result c.splicing.at c.splicing.moved inv.splices inv.looked at (omega (arith, test)) (omega (arith, there, test)) (inv.looked.below at (omega (arith, there, test)) c.if-not-opens-at.false) a.gains;
+  free = free_before shape core.tree v u w c.args.id c.args.node c.args.group c.open_lists-opens.result c.splicing.at c.splicing.moved inv.splices inv.looked at a.free;
 }
 
 pub returns-clause-answer : goal.returns-clause-answer
-returns-clause-answer g c = let core = c.args.core.now in let shape : Shape = shape_of core in let o = c.splicing.invariant.splices in let test = c.splicing-test.false in record {
+returns-clause-answer g c = let o = c.splicing.invariant.splices in let test = c.splicing-test.false in let own = o.closed c.args.group (omega (arith, test)) c.requires.group.1 c.if-not-opens-group.false in record {
   cs = o.cs;
   closings = o.closings;
   moved_is = o.moved_is (omega (arith, test));
-  closed = λ child there below. let le = IsAtOrAbove-le shape.parents.items core.tree c.args.group child there below in o.closed child (omega (arith, test, le)) there below;
+  own = own;
+  closed = λ child there below. (c.args.group, below, own);
 }

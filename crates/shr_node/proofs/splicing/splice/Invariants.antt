@@ -1,9 +1,15 @@
-use Rattle.shr_node.proofs.Common.{◌≤◌, groups_in, IsOf, view_of, shape_of}
+use Rattle.shr_node.proofs.Common.{◌≤◌, groups_in, IsOf, view_of, shape_of, AreLooked}
 use Rattle.shr_node.proofs.Splices.{IsSplicing}
 use Rattle.shr_node.proofs.splicing.splice.Given as goal
 
 abbrev pub invariant-splicing : goal.invariant-splicing
-invariant-splicing g l = record { seat : IsOf l.core l.seat; there : l.at ≤ groups_in (shape_of l.core); above : l.group ≤ l.at; splices : IsSplicing (shape_of l.core) (view_of l.fn.seat) (view_of l.seat) l.id l.node l.group l.at l.moved }
+invariant-splicing g l = record {
+  seat : IsOf l.core l.seat;
+  there : l.at ≤ groups_in (shape_of l.core);
+  above : l.group ≤ l.at;
+  looked : AreLooked (shape_of l.core) (view_of l.seat) l.id l.node l.group l.opens (groups_in (shape_of l.core));
+  splices : IsSplicing (shape_of l.core) (view_of l.fn.seat) (view_of l.seat) l.id l.node l.group l.opens l.at l.moved;
+}
 
 abbrev pub decreases-splicing : goal.decreases-splicing
 decreases-splicing g l = l.at

@@ -1,0 +1,12 @@
+use Rattle.shr_node.proofs.Common.{◌≡◌, [], length, IsOf, view_of, shape_of, Gains, AreLooked}
+use Rattle.shr_node.proofs.Looks.{AreLeft}
+use Rattle.shr_node.proofs.splicing.open_lists.Given as goal
+
+abbrev pub invariant-loop-at : goal.invariant-loop-at
+invariant-loop-at g l = record {
+  seat : IsOf l.core l.seat;
+  gains : Gains (view_of l.fn.seat) (view_of l.seat) [] [];
+  long : length l.opens ≡ 256;
+  looked : AreLooked (shape_of l.core) (view_of l.seat) l.id l.node l.group l.opens l.at;
+  left : AreLeft l.opens l.at;
+}
