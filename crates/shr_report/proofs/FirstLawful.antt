@@ -1,49 +1,30 @@
 -- The first whole report is lawful for its script.
-use Rattle.shr_report.proofs.Common.{◌≡◌, ℕ, zero, suc, ◌+◌, ◌<◌, ◌≤◌, Bool, true, false, cond, ◌&&◌, nat_lt, fold, count_by, flat_map, List, [], ◌∷◌, ◌++◌, length, take, Some, None, slice_get, refl, Contains, arith, sym, ap, subst, ◌∙◌, and_parts, Place, Entry, at_group, parent_of, is_child, is_closed, moved_in, items_given, MayStand, IsBornAt, cons_option, map, ◌%◌, UseStep, ops_by, is_refused, versions_at, ◌==◌, if◌then◌else◌, Registered, Found, Carry, decl_named, is_live, last_number, IsNextPool, IsPoolJournal, lookups_at, carries_of, found_numbers, tried_numbers, IsFoundRight, AreLookupsLawful, IsDeferredLawful, AreBitsLawful, pos, ◌-ℤ◌, IfSome, IsSomeAnd, ups, usage_after, IsNextUse, IsChargeHistory, AreTakenBack, is_put, command_at, reply_at, IsDownBetween, charged, freed_below, listed_below, AreChargesLawful, ◌||◌, list_any, PoolEntry, Answered, WalkRecord, answers_of, isolations_of, pool_seen, pool_made, tree_seen, of_answer, shown_by, is_begin_at, is_done_at, AreBelow, AreCausesLawful, IsLawful, IsOfIsolation, isolations_told, AreIsolationsLawful, AreNotFalling, IsOfPass, uses_at, limit_of, walks_of, parents_of, serial_of, cited_at, journals_of, items_left, at, EachEntry, AreRepliesLawful, AreJournalsLawful, AreWalksLawful, IsBagLawful, Serial, Command, At, PlainWalk, IsThere, EachAnswer, is_set_at, ArePoolsLawful, plain_of, plain_at, units_cited_at, walk_at}
+use Rattle.shr_report.proofs.Common.{◌≡◌, ℕ, zero, suc, ◌+◌, ◌<◌, ◌≤◌, Bool, true, false, cond, ◌&&◌, nat_lt, count_by, flat_map, List, [], ◌∷◌, ◌++◌, length, take, Some, None, slice_get, refl, Contains, arith, sym, ap, subst, Place, at_group, parent_of, is_closed, moved_in, items_given, MayStand, cons_option, map, ◌%◌, UseStep, ops_by, versions_at, ◌==◌, if◌then◌else◌, Registered, Found, decl_named, lookups_at, IsFoundRight, AreLookupsLawful, IsDeferredLawful, AreBitsLawful, pos, ◌-ℤ◌, IfSome, IsSomeAnd, ups, usage_after, IsNextUse, IsChargeHistory, AreTakenBack, is_put, command_at, reply_at, IsDownBetween, charged, freed_below, listed_below, AreChargesLawful, ◌||◌, list_any, PoolEntry, Answered, WalkRecord, answers_of, pool_seen, pool_made, tree_seen, of_answer, shown_by, is_begin_at, is_done_at, AreBelow, AreCausesLawful, IsLawful, IsOfIsolation, isolations_told, AreIsolationsLawful, AreNotFalling, IsOfPass, uses_at, walks_of, parents_of, serial_of, cited_at, journals_of, items_left, at, AreRepliesLawful, AreJournalsLawful, AreWalksLawful, IsBagLawful, Serial, At, PlainWalk, IsThere, is_set_at, ArePoolsLawful, plain_at, units_cited_at, walk_at}
 use Rattle.shr_model.specs.Groups.{path_within, preorder_within}
 use Rattle.shr_model.specs.Items.{items_from, freed_from, AreOutcomes}
 use Rattle.shr_model.specs.Families.{lists_moved, items_within}
 use Rattle.shr_model.specs.Bag.{AreDistinct}
-use Rattle.shr_model.specs.Pool.{decl_at, registrations, end_of, phase_of, decl_from, from_from, number_from, is_live_below, lowest_free}
+use Rattle.shr_model.specs.Pool.{decl_at, registrations, end_of, phase_of, decl_from, from_from}
 use Rattle.shr_model.specs.Commands.{rounds_from}
 use Rattle.shr_base.specs.declared.replies.Reply.TheVariants as reply
 use Rattle.shr_report.proofs.QuietIsolations.{quiet_isolations}
-use Rattle.shr_report.proofs.SecondReport.{by, place, put, use_step}
-use Rattle.shr_report.proofs.FirstReport.{script, report, answer, entries, end}
-use Rattle.shr_report.proofs.SecondCases.{only_journal}
+use Rattle.shr_report.proofs.SecondReport.{by, place, use_step}
+use Rattle.shr_report.proofs.FirstReport.{script, report, end}
+use Rattle.shr_report.proofs.SmallReports.{below_two, born, drawn, each_answer, each_entry, each_journal, each_serial, each_worker, last_low, never_refused, no_limit, none_carried, none_fall, pool_journal}
 use Rattle.shr_report.proofs.QuietPools.{quiet_pools}
 use Rattle.shr_report.proofs.QuietSweep.{quiet_counts, quiet_last, quiet_sweep}
 use Rattle.shr_model.proofs.Booleans.{not_zero}
-use Rattle.shr_model.proofs.Lists.{each_at, AllAt}
-
-each_by : (P : Serial → Command → Answered → Type 0) → P (by 0) put answer → (worker k : ℕ) (c : Command) (a : Answered)
-    → slice_get (Rattle.shr_report.specs.Parts.commands_of script worker) k ≡ Some c → slice_get (answers_of report worker) k ≡ Some a → P (record { worker = worker; command = k }) c a
-each_by P h zero zero c a e f = let one : put ≡ c = cc in let other : answer ≡ a = cc in subst (λ z. P (by 0) z a) one (subst (λ z. P (by 0) put z) other h)
-each_by P h zero (suc k) c a e f = absurd (cc)
-each_by P h (suc worker) k c a e f = absurd (cc)
-
-each_answer : (P : Serial → Command → Answered → Type 0) → P (by 0) put answer → EachAnswer script report P
-each_answer P h x c a e f = each_by P h x.worker x.command c a e f
+use Rattle.shr_model.proofs.Lists.{each_at}
 
 no_walk : (worker n : ℕ) (w : WalkRecord) → walk_at report worker n ≡ Some w → ⊥
 no_walk zero n w e = absurd (cc)
 no_walk (suc worker) n w e = absurd (cc)
-
-each_journal : (P : Place → List Entry → Type 0) → ((p : Place) → P p []) → P place entries → (p : Place) → P p (journals_of report p)
-each_journal P none here p = only_journal end P none here p
-
-each_entry : (P : Place → ℕ → Entry → Type 0) → AllAt (P place) entries → EachEntry report P
-each_entry P h p n e at = each_journal (λ q es. slice_get es n ≡ Some e → P q n e) (λ q f. absurd (cc)) (λ f. each_at (P place) entries h n e f) p at
 
 -- the one command that cites an entry cites the first
 cites : (worker k : ℕ) (p : Place) (n : ℕ) → cited_at report (serial_of worker k) ≡ Some (at p n) → (n ≡ k) × (k < 1) × (p ≡ place)
 cites zero zero p n e = let same : at place 0 ≡ at p n = cc in (ap (λ c. c.entry) (sym same), omega arith, ap (λ c. c.place) (sym same))
 cites zero (suc k) p n e = absurd (cc)
 cites (suc worker) k p n e = absurd (cc)
-
-counts_are : (worker : ℕ) → length (answers_of report worker) ≡ length (Rattle.shr_report.specs.Parts.commands_of script worker)
-counts_are zero = refl
-counts_are (suc worker) = refl
 
 replies : AreRepliesLawful script report
 replies = record {
@@ -53,46 +34,30 @@ replies = record {
   paths = refl;
   names = refl;
   pools = refl;
-  counts = quiet_counts script report refl counts_are;
-  last = quiet_last script report counts_are;
-  answered = each_answer _ (record { id_is = refl; node_is = refl; stands = refl });
-  cited = each_entry (λ p n e. (x : Serial) → Rattle.shr_model.specs.Tenants.by_of e ≡ Some x → cited_at report x ≡ Some (at p n))
+  counts = quiet_counts script report refl (each_worker _ refl (λ worker. refl));
+  last = quiet_last script report (each_worker _ refl (λ worker. refl));
+  answered = each_answer script report (λ worker. refl) _ (record { id_is = refl; node_is = refl; stands = refl }, tt);
+  cited = each_entry report end refl (λ p n e. (x : Serial) → Rattle.shr_model.specs.Tenants.by_of e ≡ Some x → cited_at report x ≡ Some (at p n))
       ((λ x e. let same : by 0 ≡ x = cc in subst (λ y. cited_at report y ≡ Some (at place 0)) same refl), tt);
   rise = λ worker k later p n m before e f. omega (arith, before, (cites worker k p n e).1, (cites worker later p m f).1);
 }
 
--- group 1 has no child
-no_child : (c : ℕ) → is_child (0 ∷ 0 ∷ []) 1 c ≡ true → ⊥
-no_child zero e = absurd (cc)
-no_child (suc zero) e = absurd (cc)
-no_child (suc (suc c)) e = absurd (let last = (and_parts (nat_lt 0 (suc (suc c)) && nat_lt (suc (suc c)) 2) false e).1 in cc)
-
-none_moved : (p : Place) → moved_in (journals_of report p) ≡ []
-none_moved = each_journal (λ p es. moved_in es ≡ []) (λ p. refl) refl
-
-none_closed : (p : Place) → is_closed (journals_of report p) ≡ false
-none_closed = each_journal (λ p es. is_closed es ≡ false) (λ p. refl) refl
-
 not_moved : (p : Place) (g : ℕ) → Contains (moved_in (journals_of report p)) g → ⊥
-not_moved p g c = let h : c.0 < length (moved_in (journals_of report p)) = c.1 in let n : length (moved_in (journals_of report p)) ≡ 0 = ap (λ (xs : List ℕ). length xs) (none_moved p) in omega (arith, h, n)
-
-born : (es : List Entry) → IsBornAt (parents_of script) 1 es 1
-unfolding path_within
-born es = record { there = omega arith; at_or_above = (0, omega arith, refl); moved = λ c child on. absurd (no_child c child) }
+not_moved p g c = let h : c.0 < length (moved_in (journals_of report p)) = c.1 in let n : length (moved_in (journals_of report p)) ≡ 0 = ap (λ (xs : List ℕ). length xs) (each_journal report end refl (λ p es. moved_in es ≡ []) (λ p. refl) refl p) in omega (arith, h, n)
 
 journals : AreJournalsLawful script report
 unfolding AreOutcomes items_from lists_moved
 journals = record {
   there = λ n end e. each_at (λ n (end : Rattle.shr_base.specs.declared.ends.PlaceEnd.PlaceEnd). IsThere script end.place) report.places.items (record { id = omega arith; node = omega arith; group = omega arith }, tt) n end e;
   legal = λ p. record {
-    there = each_journal (λ p es. 0 < length es → p.group < 2) (λ p z. absurd (omega (arith, z))) (λ z. omega arith) p;
-    stands = λ n e s. each_entry (λ p n e. MayStand (parents_of script) p.group (take n (journals_of report p)) e) (record { «open» = refl; allowed = born [] }, tt) p n e s;
-    outcomes = each_journal (λ p es. AreOutcomes (lists_moved (items_given (parents_of script) (journals_of report) p) es) [] es) (λ p. tt) (refl, tt) p;
+    there = each_journal report end refl (λ p es. 0 < length es → p.group < 2) (λ p z. absurd (omega (arith, z))) (λ z. omega arith) p;
+    stands = λ n e s. each_entry report end refl (λ p n e. MayStand (parents_of script) p.group (take n (journals_of report p)) e) (record { «open» = refl; allowed = born [] }, tt) p n e s;
+    outcomes = each_journal report end refl (λ p es. AreOutcomes (lists_moved (items_given (parents_of script) (journals_of report) p) es) [] es) (λ p. tt) (refl, tt) p;
   };
-  paired = λ p low high. ((λ closed. absurd (let no = none_closed p in cc)), (λ moved. absurd (not_moved (at_group p (parent_of (parents_of script) p.group)) p.group moved)));
+  paired = λ p low high. ((λ closed. absurd (let no = each_journal report end refl (λ p es. is_closed es ≡ false) (λ p. refl) refl p in cc)), (λ moved. absurd (not_moved (at_group p (parent_of (parents_of script) p.group)) p.group moved)));
   once = λ n m x y e f same. omega (arith, each_at (λ n (z : Rattle.shr_base.specs.declared.ends.PlaceEnd.PlaceEnd). n ≡ 0) report.places.items (refl, tt) n x e, each_at (λ n (z : Rattle.shr_base.specs.declared.ends.PlaceEnd.PlaceEnd). n ≡ 0) report.places.items (refl, tt) m y f);
   items = λ n end e. each_at (λ n (z : Rattle.shr_base.specs.declared.ends.PlaceEnd.PlaceEnd). z.items.items ≡ items_left script report z.place) report.places.items (refl, tt) n end e;
-  begun = λ p closed. absurd (let no = none_closed p in cc);
+  begun = λ p closed. absurd (let no = each_journal report end refl (λ p es. is_closed es ≡ false) (λ p. refl) refl p in cc);
   done = λ p there done. absurd (let h : done.0 < 0 = done.1 in omega (arith, h));
 }
 
@@ -100,33 +65,14 @@ bag : IsBagLawful script report
 unfolding items_from freed_from lists_moved items_within AreDistinct
 bag = record { bag = record { distinct = (tt, tt); parts = record { moves = []; below = tt; is = refl } }; added = refl; freed = refl; listed = refl }
 
-pub no_limit : (group : ℕ) → limit_of script group ≡ None
-no_limit zero = refl
-no_limit (suc zero) = refl
-no_limit (suc (suc group)) = refl
-
-pub none_refused : (a : ℕ) (ops : List UseStep) → fold (λ a (o : UseStep). a + cond (is_refused None o) 1 0) a ops ≡ a
-none_refused a [] = refl
-none_refused a (o ∷ ops) = let later : fold (λ a (o : UseStep). a + cond (is_refused None o) 1 0) (a + 0) ops ≡ a + 0 = none_refused (a + 0) ops in omega (arith, later)
-
-never_refused : (group : ℕ) (ops : List UseStep) → count_by (is_refused (limit_of script group)) ops ≡ 0
-never_refused group ops = subst (λ limit. count_by (is_refused limit) ops ≡ 0) (sym (no_limit group)) (none_refused 0 ops)
-
-none_fall : AreNotFalling []
-none_fall k d h = absurd (omega (arith, h))
-
-no_versions : (worker : ℕ) (p : Place) → AreNotFalling (flat_map (versions_at p) (walks_of report worker))
-no_versions zero p = none_fall
-no_versions (suc worker) p = none_fall
-
 walks : AreWalksLawful script report
 unfolding rounds_from preorder_within
 walks = record {
   each = λ worker n w e. absurd (no_walk worker n w e);
-  no_others = each_entry (λ p n e. IsOfPass report p e) (tt, tt);
-  walks = each_answer _ (record { rounds = []; refused = record { few = omega arith; above = tt; refusals = λ h. sym (never_refused h (ops_by (by 0) (uses_at report h))); all = λ g o u e. absurd (cc) }; made = refl });
-  told = each_answer _ tt;
-  versions = no_versions;
+  no_others = each_entry report end refl (λ p n e. IsOfPass report p e) (tt, tt);
+  walks = each_answer script report (λ worker. refl) _ (record { rounds = []; refused = record { few = omega arith; above = tt; refusals = λ h. sym (never_refused script (refl, (refl, tt)) h (ops_by (by 0) (uses_at report h))); all = λ g o u e. absurd (cc) }; made = refl }, tt);
+  told = each_answer script report (λ worker. refl) _ (tt, tt);
+  versions = each_worker (λ worker. (p : Place) → AreNotFalling (flat_map (versions_at p) (walks_of report worker))) (λ p. none_fall) (λ worker p. none_fall);
   later = λ worker n w e. absurd (no_walk worker n w e);
   bits = λ worker n w e. absurd (no_walk worker n w e);
 }
@@ -134,30 +80,9 @@ walks = record {
 pub zero_not : (n : ℕ) → (suc n == 0) ≡ false
 zero_not n = grind (arith)
 
-pub none_below : (n : ℕ) → nat_lt n 0 ≡ false
-none_below n = grind (arith)
-
 number_of_first : (number : ℕ) → count_by (λ n. n == number) (0 ∷ []) ≡ (if nat_lt number 1 then 1 else 0)
 number_of_first zero = refl
 number_of_first (suc n) = grind (arith)
-
-none_drawn : (b : Bool) (number : ℕ) → b ≡ false → count_by (λ n. n == number) ((cons_option (if b then Some 0 else None) [] ++ []) ++ []) ≡ 0
-none_drawn true number e = absurd (cc)
-none_drawn false number e = refl
-
-drawn : (id number : ℕ) → count_by (λ n. n == number) (found_numbers report id ++ tried_numbers report id) ≡ (if nat_lt number (lookups_at report id) then 1 else 0)
-drawn zero number = number_of_first number
-drawn (suc id) number = none_drawn (0 == suc id) number (not_zero id) ∙ sym (ap (λ b. cond {A = ℕ} b 1 0) (none_below number))
-
-pool_journal : IsPoolJournal 1 1 (Registered 0 0 0 ∷ [])
-unfolding is_live_below phase_of decl_from lowest_free number_from
-pool_journal zero e at = let same : Registered 0 0 0 ≡ e = cc in subst (λ x. IsNextPool 1 1 [] x) same (omega arith, refl, refl, omega arith)
-pool_journal (suc n) e at = absurd (cc)
-
-last_of : (id : ℕ) → is_live id report.pool.items ≡ true → last_number id report.pool.items ≤ lookups_at report id
-unfolding number_from
-last_of zero live = omega arith
-last_of (suc id) live = let none : (if 0 == suc id then 0 else 0) ≡ 0 = ap (λ b. cond {A = ℕ} b 0 0) (not_zero id) in omega (arith, none)
 
 found_right : IsFoundRight report 0 (record { id = 0; number = 0; entry = 1 })
 unfolding phase_of decl_from from_from end_of
@@ -169,26 +94,22 @@ lookups = record {
   pool = pool_journal;
   opened = λ n decl e. each_at (λ n decl. slice_get report.pool.items n ≡ Some (Registered decl n 0)) (0 ∷ []) (refl, tt) n decl e;
   printed = refl;
-  last = last_of;
-  numbers = drawn;
+  last = λ id live. last_low id (lookups_at report id);
+  numbers = drawn report number_of_first (λ id. ap (λ b. (cons_option (if b then Some 0 else None) [] ++ []) ++ []) (not_zero id)) (λ id. refl);
   met = λ worker n w e. absurd (no_walk worker n w e);
-  found = each_answer (λ x c a. (decl : ℕ) (f : Found) → decl_named c ≡ Some decl → a.found ≡ Some f → IsFoundRight report decl f)
-      (λ decl f e g. let d : 0 ≡ decl = cc in let same : record { id = 0; number = 0; entry = 1 } ≡ f = cc in subst (λ y. IsFoundRight report decl y) same (subst (λ x. IsFoundRight report x (record { id = 0; number = 0; entry = 1 })) d found_right));
-  idle = each_journal (λ p es. phase_of p.id report.pool.items % 3 ≡ 0 → items_from (lists_moved (items_given (parents_of script) (journals_of report) p) es) [] es ≡ []) (λ p e. refl) (λ e. absurd (omega (arith, e)));
+  found = each_answer script report (λ worker. refl) (λ x c a. (decl : ℕ) (f : Found) → decl_named c ≡ Some decl → a.found ≡ Some f → IsFoundRight report decl f)
+      (λ decl f e g. let d : 0 ≡ decl = cc in let same : record { id = 0; number = 0; entry = 1 } ≡ f = cc in subst (λ y. IsFoundRight report decl y) same (subst (λ x. IsFoundRight report x (record { id = 0; number = 0; entry = 1 })) d found_right), tt);
+  idle = each_journal report end refl (λ p es. phase_of p.id report.pool.items % 3 ≡ 0 → items_from (lists_moved (items_given (parents_of script) (journals_of report) p) es) [] es ≡ []) (λ p e. refl) (λ e. absurd (omega (arith, e)));
 }
 
 bits : AreBitsLawful script report
 unfolding items_from lists_moved
 bits = record {
-  set = λ p below some live. each_journal (λ p es. (items_from (lists_moved (items_given (parents_of script) (journals_of report) p) es) [] es ≡ [] → ⊥) → is_set_at report p ≡ true) (λ p no. absurd (no refl)) (λ no. refl) p some;
+  set = λ p below some live. each_journal report end refl (λ p es. (items_from (lists_moved (items_given (parents_of script) (journals_of report) p) es) [] es ≡ [] → ⊥) → is_set_at report p ≡ true) (λ p no. absurd (no refl)) (λ no. refl) p some;
 }
 
-once_carried : (worker n m : ℕ) (c d : Carry) → slice_get (carries_of report worker) n ≡ Some c → slice_get (carries_of report worker) m ≡ Some d → c.by ≡ d.by → c.place ≡ d.place → n ≡ m
-once_carried zero n m c d e f same there = absurd (cc)
-once_carried (suc worker) n m c d e f same there = absurd (cc)
-
 deferred : IsDeferredLawful script report
-deferred = record { words = λ p. refl; shown = tt; carries = tt; once = once_carried }
+deferred = record { words = λ p. refl; shown = tt; carries = tt; once = none_carried report (each_worker _ refl (λ worker. refl)) }
 
 none_there : (P : ℕ → List UseStep → Type 0) → ((group : ℕ) → P group []) → (group : ℕ) (b c : Bool) → b ≡ false → c ≡ false
     → P group (cond b (use_step 0 0 true 0 0 ∷ cond c (use_step 1 0 true 0 0 ∷ []) []) (cond c (use_step 1 0 true 0 0 ∷ []) []))
@@ -215,23 +136,8 @@ idle_net true d e o = absurd (cc)
 idle_net false true e o = refl
 idle_net false false e o = refl
 
-net : (worker k group : ℕ) → group < 2 → usage_after (ops_by (serial_of worker k) (uses_at report group)) ≡ pos (charged (parents_of script) group (command_at script (serial_of worker k)) (reply_at report (serial_of worker k))) -ℤ pos (freed_below script report (serial_of worker k) group)
-unfolding items_from lists_moved items_within path_within
-net zero zero zero low = refl
-net zero zero (suc zero) low = refl
-net zero (suc k) zero low = idle_net (0 == suc k) (suc k == 0) (not_zero k) (use_step 0 0 true 0 0)
-net zero (suc k) (suc zero) low = idle_net (0 == suc k) (suc k == 0) (not_zero k) (use_step 1 0 true 0 0)
-net (suc worker) k zero low = idle_net ((0 == suc worker) && (0 == k)) ((suc worker == 0) && (k == 0)) (ap (λ b. b && (0 == k)) (not_zero worker)) (use_step 0 0 true 0 0)
-net (suc worker) k (suc zero) low = idle_net ((0 == suc worker) && (0 == k)) ((suc worker == 0) && (k == 0)) (ap (λ b. b && (0 == k)) (not_zero worker)) (use_step 1 0 true 0 0)
-net worker k (suc (suc group)) low = absurd (omega (arith, low))
-
-finals : (group : ℕ) → group < 2 → usage_after (uses_at report group) ≡ pos (listed_below script report group)
-unfolding items_from lists_moved items_within path_within
-finals zero low = refl
-finals (suc zero) low = refl
-finals (suc (suc group)) low = absurd (omega (arith, low))
-
 charges : AreChargesLawful script report
+unfolding items_from lists_moved items_within path_within
 charges = record {
   tree = λ n e at. absurd (cc);
   there = (omega arith, (omega arith, tt));
@@ -239,52 +145,33 @@ charges = record {
       (each_at (λ n o. IsNextUse 0 (take n (use_step 0 0 true 0 0 ∷ [])) o) (use_step 0 0 true 0 0 ∷ []) (record { group = refl; number = refl; found = refl }, tt))
       (each_at (λ n o. IsNextUse 1 (take n (use_step 1 0 true 0 0 ∷ [])) o) (use_step 1 0 true 0 0 ∷ []) (record { group = refl; number = refl; found = refl }, tt))
       (λ g n o at. absurd (cc));
-  taken_back = λ group. subst (λ limit. AreTakenBack limit (uses_at report group)) (sym (no_limit group)) (λ n o at up no. absurd (no tt));
+  taken_back = λ group. subst (λ limit. AreTakenBack limit (uses_at report group)) (sym (no_limit script (refl, (refl, tt)) group)) (λ n o at up no. absurd (no tt));
   puts = λ n o at up. each_at (λ n o. o.up ≡ true → IsSomeAnd (command_at script o.by) (λ c. is_put c ≡ true)) report.uses.items ((λ u. refl), ((λ u. refl), tt)) n o at up;
   fourteen = λ x group. each_group (λ g ops. ups (ops_by x ops) ≤ 14) (few_ups _ (use_step 0 0 true 0 0) refl) (few_ups _ (use_step 1 0 true 0 0) refl) (λ g. omega arith) group;
   between = λ x group. each_group (λ g ops. IsDownBetween (map (λ (o : UseStep). o.up) (ops_by x ops))) (one_way _ (use_step 0 0 true 0 0)) (one_way _ (use_step 1 0 true 0 0)) (λ g n m before a b. absurd (cc)) group;
-  nets = λ x group low. net x.worker x.command group low;
-  final = finals;
-  limits = λ group. subst (λ limit. IfSome limit (λ l. listed_below script report group ≤ l)) (sym (no_limit group)) tt;
+  nets = λ x. each_serial 1 (λ worker k. (group : ℕ) → group < 2 → usage_after (ops_by (serial_of worker k) (uses_at report group)) ≡ pos (charged (parents_of script) group (command_at script (serial_of worker k)) (reply_at report (serial_of worker k))) -ℤ pos (freed_below script report (serial_of worker k) group))
+      (below_two _ refl refl, tt)
+      (λ k. below_two _ (idle_net (0 == suc k) (suc k == 0) (not_zero k) (use_step 0 0 true 0 0)) (idle_net (0 == suc k) (suc k == 0) (not_zero k) (use_step 1 0 true 0 0)))
+      (λ worker k. below_two _ (idle_net ((0 == suc worker) && (0 == k)) ((suc worker == 0) && (k == 0)) (ap (λ b. b && (0 == k)) (not_zero worker)) (use_step 0 0 true 0 0)) (idle_net ((0 == suc worker) && (0 == k)) ((suc worker == 0) && (k == 0)) (ap (λ b. b && (0 == k)) (not_zero worker)) (use_step 1 0 true 0 0)))
+      x.worker x.command;
+  final = below_two (λ group. usage_after (uses_at report group) ≡ pos (listed_below script report group)) refl refl;
+  limits = λ group. subst (λ limit. IfSome limit (λ l. listed_below script report group ≤ l)) (sym (no_limit script (refl, (refl, tt)) group)) tt;
 }
-
-none_shown : (worker k : ℕ) → shown_by report (serial_of worker k) ≡ []
-none_shown zero zero = refl
-none_shown zero (suc k) = refl
-none_shown (suc worker) k = refl
-
-none_made : (worker k : ℕ) → of_answer report (serial_of worker k) (λ (a : Answered). pool_made a.reply) ≡ []
-none_made zero zero = refl
-none_made zero (suc k) = refl
-none_made (suc worker) k = refl
 
 one_stays : AreNotFalling (1 ∷ [])
 one_stays k d h = absurd (omega (arith, h))
 
-pool_rises : (worker : ℕ) → AreNotFalling (flat_map pool_seen (answers_of report worker))
-pool_rises zero = one_stays
-pool_rises (suc worker) = none_fall
-
-tree_rises : (worker : ℕ) → AreNotFalling (flat_map tree_seen (answers_of report worker))
-tree_rises zero = none_fall
-tree_rises (suc worker) = none_fall
-
 later_pool : (n : ℕ) (e : PoolEntry) → 1 ≤ n → slice_get report.pool.items n ≡ Some e → ⊥
 later_pool zero e low at = omega (arith, low)
 later_pool (suc n) e low at = absurd (cc)
-
-none_unmade : (worker k group : ℕ) → reply_at report (serial_of worker k) ≡ Some (reply.NotMade group) → ⊥
-none_unmade zero zero group e = absurd (cc)
-none_unmade zero (suc k) group e = absurd (cc)
-none_unmade (suc worker) k group e = absurd (cc)
 
 no_plain : (worker n : ℕ) (w : PlainWalk) → plain_at report worker n ≡ Some w → ⊥
 no_plain zero n w e = absurd (cc)
 no_plain (suc worker) n w e = absurd (cc)
 
 causes : AreCausesLawful script report
-causes = record {
-  rows = each_answer _ tt;
+causes = let none_shown : (worker k : ℕ) → shown_by report (serial_of worker k) ≡ [] = each_serial 1 (λ worker k. shown_by report (serial_of worker k) ≡ []) (refl, tt) (λ k. refl) (λ worker k. refl) in record {
+  rows = each_answer script report (λ worker. refl) _ (tt, tt);
   walks = λ worker n w e. absurd (no_walk worker n w e);
   attempts = λ worker n w e. absurd (no_walk worker n w e);
   passes = λ worker n w e. absurd (no_walk worker n w e);
@@ -293,37 +180,24 @@ causes = record {
   dones = λ n group at. absurd (cc);
   mades = λ n group at. absurd (cc);
   pool = λ n e low at. absurd (later_pool n e low at);
-  drained = each_entry _ ((λ x n e. absurd (cc)), tt);
+  drained = each_entry report end refl _ ((λ x n e. absurd (cc)), tt);
   fresh = record {
-    pool = pool_rises;
-    pool_own = λ worker k later before. subst (λ (ns : List ℕ). AreBelow ns (of_answer report (serial_of worker later) pool_seen)) (sym (none_made worker k)) tt;
-    pool_on = each_answer _ (omega arith, tt);
-    tree = tree_rises;
+    pool = each_worker (λ worker. AreNotFalling (flat_map pool_seen (answers_of report worker))) one_stays (λ worker. none_fall);
+    pool_own = λ worker k later before. subst (λ (ns : List ℕ). AreBelow ns (of_answer report (serial_of worker later) pool_seen)) (sym (each_serial 1 (λ worker k. of_answer report (serial_of worker k) (λ (a : Answered). pool_made a.reply) ≡ []) (refl, tt) (λ k. refl) (λ worker k. refl) worker k)) tt;
+    pool_on = each_answer script report (λ worker. refl) _ ((omega arith, tt), tt);
+    tree = each_worker (λ worker. AreNotFalling (flat_map tree_seen (answers_of report worker))) none_fall (λ worker. none_fall);
     tree_shown = λ worker k later before. subst (λ (ns : List ℕ). AreBelow ns (of_answer report (serial_of worker later) tree_seen)) (sym (none_shown worker k)) tt;
     refused = λ worker k later group before shows at. absurd (let none = ap (λ (ns : List ℕ). list_any (is_begin_at report group) ns || list_any (is_done_at report group) ns) (none_shown worker k) in cc);
     first = λ worker k group all. ap (λ (ns : List ℕ). list_any (is_begin_at report group) ns) (none_shown worker k);
-    made = λ worker k later group before shows unmade. none_unmade worker later group unmade;
+    made = λ worker k later group before shows unmade. each_serial 1 (λ worker k. reply_at report (serial_of worker k) ≡ Some (reply.NotMade group) → ⊥) ((λ e. absurd (cc)), tt) (λ k e. absurd (cc)) (λ worker k e. absurd (cc)) worker later unmade;
   };
 }
 
-uncited : (worker k : ℕ) (c : At) → units_cited_at report (serial_of worker k) ≡ Some c → ⊥
-uncited zero zero c e = absurd (cc)
-uncited zero (suc k) c e = absurd (cc)
-uncited (suc worker) k c e = absurd (cc)
-
-no_plains : (worker : ℕ) → plain_of report worker ≡ []
-no_plains zero = refl
-no_plains (suc worker) = refl
-
 pools : ArePoolsLawful script report
-pools = quiet_pools script report refl refl refl no_plains refl (each_answer _ tt) uncited
-
-no_isolations : (worker : ℕ) → isolations_of report worker ≡ []
-no_isolations zero = refl
-no_isolations (suc worker) = refl
+pools = quiet_pools script report refl refl refl (each_worker _ refl (λ worker. refl)) refl (each_answer script report (λ worker. refl) _ (tt, tt)) (each_serial 1 (λ worker k. (c : At) → units_cited_at report (serial_of worker k) ≡ Some c → ⊥) ((λ c e. absurd (cc)), tt) (λ k c e. absurd (cc)) (λ worker k c e. absurd (cc)))
 
 isolations : AreIsolationsLawful script report
-isolations = quiet_isolations script report no_isolations (each_entry (λ p n e. IsOfIsolation report p e) (tt, tt)) (each_answer (λ by c a. isolations_told by c a ≡ []) refl)
+isolations = quiet_isolations script report (each_worker _ refl (λ worker. refl)) (each_entry report end refl (λ p n e. IsOfIsolation report p e) (tt, tt)) (each_answer script report (λ worker. refl) (λ by c a. isolations_told by c a ≡ []) (refl, tt))
 
 -- The report is lawful.
 pub lawful : IsLawful script report

@@ -1,6 +1,6 @@
 -- The second whole report is done in the use of its id, and reports of which no order is: a scan behind the drain, and an
 -- object that stays on the list of an id that came to be idle.
-use Rattle.shr_report.proofs.Common.{◌≡◌, ◌≢◌, ℕ, zero, suc, ◌+◌, ◌<◌, ◌≤◌, List, [], ◌∷◌, take, length, slice_get, Some, None, Contains, refl, codes, true, false, ◌⊎◌, arith, sym, ap, subst, ◌∙◌, ⊎_elim, inl, inr, dite, ℕ_discrete, Entry, Add, Drop, Scan, Drained, PoolEntry, Registered, Unregistered, Idle, Plain, Place, Serial, Has_from_Contains, Report, serial_of, journals_of, entry_by, Told, entry, lookup, turn, count, entries, lookups, turns, looked_by, IsBy, IsInOneOrder, HasAt, IsOfUse, IsDrainedEntry, EndsUse, ComesBehind, IsEntryInUse, IsWhileDying, IsWhileEmpty}
+use Rattle.shr_report.proofs.Common.{◌≡◌, ℕ, zero, suc, ◌<◌, List, [], ◌∷◌, take, length, Some, None, Contains, refl, codes, true, false, arith, sym, ap, subst, ◌∙◌, ⊎_elim, dite, ℕ_discrete, Entry, Add, Scan, Drained, PoolEntry, Registered, Unregistered, Idle, Plain, Place, Serial, Has_from_Contains, Report, journals_of, entry_by, Told, entry, lookup, turn, count, entries, lookups, turns, looked_by, IsBy, IsInOneOrder, HasAt, IsOfUse, IsDrainedEntry, EndsUse, IsEntryInUse, IsWhileDying, IsWhileEmpty}
 use Rattle.shr_base.specs.declared.replies.Reply.TheVariants as reply
 use Rattle.shr_base.specs.declared.walks.Outcome.TheVariants as outcome
 use Rattle.shr_model.specs.Items.{HasJournal, items_from}

@@ -1,13 +1,13 @@
 -- The law on isolations, by a report that meets it and changes that break a sentence.
-use Rattle.shr_report.proofs.Common.{◌≡◌, ℕ, zero, suc, Bool, true, false, List, [], ◌∷◌, codes, Some, None, slice_get, refl, arith, ap, PlaceEnd, Entry, Add, Scan, Plain, Clock, Place, Serial, Answered, IsolateEnd, Command, Put, Script, Isolation, Report, commands_of, answers_of, entry_by, EachEntry, IsReply, IsOfPass, IsOfIsolation, isolations_told, AreIsolationsLawful, Isolate, EachIsolation, isolations_by}
+use Rattle.shr_report.proofs.Common.{◌≡◌, ℕ, zero, suc, Bool, true, false, List, [], ◌∷◌, codes, Some, None, refl, arith, ap, PlaceEnd, Entry, Add, Scan, Plain, Clock, Place, Answered, IsolateEnd, Command, Put, Script, Isolation, Report, entry_by, IsReply, IsOfPass, IsOfIsolation, isolations_told, AreIsolationsLawful, Isolate, EachIsolation, isolations_by}
 use Rattle.shr_base.specs.declared.replies.IsolateEnd.TheVariants as isolate
 use Rattle.shr_base.specs.declared.replies.Reply.TheVariants as reply
 use Rattle.shr_base.specs.declared.replies.Spent.TheVariants as spent
 use Rattle.shr_model.specs.Isolations.{ScanSeen, Met, met_one, met_none, IsLawfulIsolation}
 use Rattle.shr_report.proofs.SecondReport.{kept, by, place, put, held}
-use Rattle.shr_report.proofs.SecondCases.{AllTwo, each_two, only_journal}
+use Rattle.shr_report.proofs.SmallReports.{each_answer, each_entry}
 use Rattle.shr_report.proofs.FirstReport as first
-use Rattle.shr_model.proofs.Lists.{each_at, AllAt}
+use Rattle.shr_model.proofs.Lists.{each_at}
 
 -- ---- one isolation by itself
 
@@ -114,17 +114,9 @@ with answers isolations entries = record first.report {
 abbrev report : Report
 report = with answers (isolated ∷ []) entries
 
-each_by : (P : Serial → Command → Answered → Type 0) → AllTwo (λ k. P (by k)) commands answers → (worker k : ℕ) (c : Command) (a : Answered)
-    → slice_get (commands_of script worker) k ≡ Some c → slice_get (answers_of report worker) k ≡ Some a → P (record { worker = worker; command = k }) c a
-each_by P h zero k c a e f = each_two (λ k. P (by k)) commands answers h k c a e f
-each_by P h (suc worker) k c a e f = absurd (cc)
-
 each_isolation : (P : ℕ → ℕ → Isolation → Type 0) → P 0 0 isolated → EachIsolation report P
 each_isolation P h zero n i e = each_at (P 0) (isolated ∷ []) (h, tt) n i e
 each_isolation P h (suc worker) n i e = absurd (cc)
-
-each_entry : (P : Place → ℕ → Entry → Type 0) → AllAt (P place) entries → EachEntry report P
-each_entry P h p n e at = only_journal end (λ q es. slice_get es n ≡ Some e → P q n e) (λ q f. absurd (cc)) (λ f. each_at (P place) entries h n e f) p at
 
 abbrev own_scans : List ScanSeen
 own_scans = record { asked = 1; policy = Plain; visits = 1; freed = 1; stopped = false } ∷ record { asked = 1; policy = Plain; visits = 1; freed = 1; stopped = false } ∷ record { asked = 1; policy = Plain; visits = 0; freed = 0; stopped = false } ∷ []
@@ -137,8 +129,8 @@ lawful = record {
   each = each_isolation _ two_freed;
   closed = each_isolation _ (λ e. absurd (cc));
   worn = each_isolation _ tt;
-  scans = each_entry (λ p n e. IsOfIsolation report p e) (tt, (tt, ((λ low. refl), ((λ low. refl), ((λ low. refl), tt)))));
-  commands = λ x c a e f. each_by (λ x c a. isolations_by report x ≡ isolations_told x c a) (refl, (refl, (refl, tt))) x.worker x.command c a e f;
+  scans = each_entry report end refl (λ p n e. IsOfIsolation report p e) (tt, (tt, ((λ low. refl), ((λ low. refl), ((λ low. refl), tt)))));
+  commands = each_answer script report (λ worker. refl) (λ x c a. isolations_by report x ≡ isolations_told x c a) (refl, (refl, (refl, tt)));
 }
 
 -- an isolation was made by a put

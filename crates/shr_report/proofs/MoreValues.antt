@@ -10,13 +10,13 @@ use Rattle.shr_model.specs.Commands.{rounds_from}
 use Rattle.shr_base.specs.declared.replies.Reply.TheVariants as reply
 use Rattle.shr_base.specs.declared.walks.Ending.TheVariants as ending
 use Rattle.shr_base.specs.declared.scripts.Command.TheVariants as command
-use Rattle.shr_report.proofs.SecondCases.{only_journal, all_replicate}
+use Rattle.shr_report.proofs.SecondCases.{all_replicate}
 use Rattle.shr_report.proofs.ScansReport as scans
 use Rattle.shr_report.proofs.OfflineReport as moves
 use Rattle.shr_report.proofs.OverReport as over
 use Rattle.shr_report.proofs.UnregisterReport as leaves
 use Rattle.shr_report.proofs.GoneReport as gone
-use Rattle.shr_report.proofs.FirstLawful.{none_refused}
+use Rattle.shr_report.proofs.SmallReports.{none_refused, only_journal}
 use Rattle.shr_model.proofs.Lists.{each_at, some_injective}
 
 -- the walk that skips

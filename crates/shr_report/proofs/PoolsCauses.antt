@@ -1,36 +1,14 @@
 -- The answers of commands on pools, and what a pool's worn journal asks: the report of two pools has what the
 -- law on replies asks, and changes of it break a sentence of that law or of the law on causes.
-use Rattle.shr_report.proofs.Common.{◌≡◌, ℕ, zero, suc, ◌^◌, false, replicate, List, [], ◌∷◌, length, codes, Some, slice_get, refl, arith, ap, PlainEntry, Place, Serial, Answered, Command, Balance, Release, PlainTry, Empty, Ran, Report, parents_of, journals_of, commands_of, answers_of, serial_of, cited_at, at, EachAnswer, AreCausesLawful, AreRepliesLawful, IsReply, id_found, IsPoolSpent, free_at}
+use Rattle.shr_report.proofs.Common.{◌≡◌, ℕ, zero, suc, ◌^◌, false, replicate, List, [], ◌∷◌, length, codes, Some, refl, arith, ap, PlainEntry, Place, Answered, Balance, Release, PlainTry, Empty, Ran, Report, parents_of, journals_of, serial_of, cited_at, at, AreCausesLawful, AreRepliesLawful, IsReply, id_found, IsPoolSpent, free_at}
 use Rattle.shr_base.specs.declared.journals.PlainEntry.TheVariants as units
 use Rattle.shr_base.specs.declared.replies.Reply.TheVariants as reply
 use Rattle.shr_base.specs.declared.replies.Spent.TheVariants as spent
 use Rattle.shr_base.specs.declared.walks.Ending.TheVariants as ending
 use Rattle.shr_report.proofs.SecondReport.{kept, by, held, unheld}
-use Rattle.shr_report.proofs.SecondCases.{AllTwo, each_two}
-use Rattle.shr_report.proofs.PoolsReport.{buf, commands, script, place, answers, pass, walk, end, part, report}
+use Rattle.shr_report.proofs.SmallReports.{each_answer, each_serial, each_worker}
+use Rattle.shr_report.proofs.PoolsReport.{buf, script, place, answers, pass, walk, end, part, report}
 use Rattle.shr_report.proofs.QuietSweep.{quiet_counts, quiet_last}
-
-pub each_by : (P : Serial → Command → Answered → Type 0) → AllTwo (λ k. P (by k)) commands answers → (worker k : ℕ) (c : Command) (a : Answered)
-    → slice_get (commands_of script worker) k ≡ Some c → slice_get (answers_of report worker) k ≡ Some a → P (record { worker = worker; command = k }) c a
-each_by P h zero k c a e f = each_two (λ k. P (by k)) commands answers h k c a e f
-each_by P h (suc worker) k c a e f = absurd (cc)
-
-pub each_answer : (P : Serial → Command → Answered → Type 0) → AllTwo (λ k. P (by k)) commands answers → EachAnswer script report P
-each_answer P h x c a e f = each_by P h x.worker x.command c a e f
-
-counted : (worker : ℕ) → length (answers_of report worker) ≡ length (commands_of script worker)
-counted zero = refl
-counted (suc worker) = refl
-
--- no reply cites an entry of a list
-cites_none : (worker k : ℕ) (p : Place) (n : ℕ) → cited_at report (serial_of worker k) ≡ Some (at p n) → ⊥
-cites_none zero zero p n e = cc
-cites_none zero (suc zero) p n e = cc
-cites_none zero (suc (suc zero)) p n e = cc
-cites_none zero (suc (suc (suc zero))) p n e = cc
-cites_none zero (suc (suc (suc (suc zero)))) p n e = cc
-cites_none zero (suc (suc (suc (suc (suc k))))) p n e = cc
-cites_none (suc worker) k p n e = cc
 
 replies : AreRepliesLawful script report
 replies = record {
@@ -40,11 +18,12 @@ replies = record {
   paths = refl;
   names = refl;
   pools = refl;
-  counts = quiet_counts script report refl counted;
-  last = quiet_last script report counted;
-  answered = each_answer (λ x c a. IsReply (parents_of script) (journals_of report) x c (id_found a) a.reply) (tt, (tt, (tt, (tt, (tt, tt)))));
+  counts = quiet_counts script report refl (each_worker _ refl (λ worker. refl));
+  last = quiet_last script report (each_worker _ refl (λ worker. refl));
+  answered = each_answer script report (λ worker. refl) (λ x c a. IsReply (parents_of script) (journals_of report) x c (id_found a) a.reply) (tt, (tt, (tt, (tt, (tt, tt)))));
   cited = λ p n e at. absurd (cc);
-  rise = λ worker k later p n m before e f. absurd (cites_none worker k p n e);
+  -- (no reply cites an entry of a list)
+  rise = λ worker k later p n m before e f. absurd (each_serial 5 (λ worker k. cited_at report (serial_of worker k) ≡ Some (at p n) → ⊥) ((λ e. cc), ((λ e. cc), ((λ e. cc), ((λ e. cc), ((λ e. cc), tt))))) (λ k e. cc) (λ worker k e. cc) worker k e);
 }
 
 abbrev with_answers : List Answered → Report

@@ -4,9 +4,8 @@ use Rattle.shr_base.specs.declared.replies.Reply.TheVariants as reply
 use Rattle.shr_base.specs.declared.walks.Ending.TheVariants as ending
 use Rattle.shr_model.specs.Pass.{due, ask_size}
 use Rattle.shr_report.proofs.SecondReport.{by}
-use Rattle.shr_report.proofs.SecondCases.{AllTwo, each_two}
-use Rattle.shr_report.proofs.PoolsReport.{buf, few, commands, script, place, pass, tries, walk, entries, end, report}
-use Rattle.shr_report.proofs.PoolsCauses.{each_answer, each_by}
+use Rattle.shr_report.proofs.SmallReports.{AllTwo, each_answer, each_two}
+use Rattle.shr_report.proofs.PoolsReport.{buf, few, script, place, pass, tries, walk, entries, end, report}
 use Rattle.shr_model.proofs.Lists.{each_at, AllAt}
 
 each_plain : (P : ℕ → ℕ → PlainWalk → Type 0) → P 0 0 walk → EachPlain report P
@@ -136,7 +135,7 @@ lawful : ArePoolsLawful script report
 lawful = record {
   units = (record { pool = omega arith; node = omega arith; home = refl; entries = (omega arith, (refl, (refl, (refl, tt)))); free = refl }, tt);
   once = λ i j u v e f same. omega (arith, each_at (λ n (z : UnitsEnd). n ≡ 0) (end ∷ []) (refl, tt) i u e, each_at (λ n (z : UnitsEnd). n ≡ 0) (end ∷ []) (refl, tt) j v f);
-  replies = each_answer _ (record { place = refl; stands = refl }, (record { place = refl; stands = refl }, (record { place = refl; there = omega arith; counted = refl; full = omega arith }, (tt, (record { place = refl; stands = refl }, tt)))));
+  replies = each_answer script report (λ worker. refl) _ (record { place = refl; stands = refl }, (record { place = refl; stands = refl }, (record { place = refl; there = omega arith; counted = refl; full = omega arith }, (tt, (record { place = refl; stands = refl }, tt)))));
   cited = each_units _ (
     (λ x e. let same : by 0 ≡ x = cc in subst (λ y. units_cited_at report y ≡ Some (at place 0)) same refl),
     (
@@ -150,7 +149,7 @@ lawful = record {
   rise = λ worker k later p n m before e f. rising k later n m before (cites worker k p n e).1 (cites worker later p m f).1;
   full = λ worker k later p n entries free before e f. before_full k later n entries before (cites worker k p n e).1 (knows worker later p.id p.node entries free f);
   walks = each_plain _ lawful_walk;
-  due = each_answer _ (refl, (refl, (refl, (refl, (refl, tt)))));
+  due = each_answer script report (λ worker. refl) _ (refl, (refl, (refl, (refl, (refl, tt)))));
   commands = each_plain _ (omega arith);
   versions = not_falling;
   later = each_plain _ (λ k n p low e. let c = cites 0 k p n e in counted p c.0 n k low c.1);

@@ -6,7 +6,7 @@ use Rattle.shr_model.specs.Groups.{path_within}
 use Rattle.shr_report.proofs.SecondReport.{kept, place, put}
 use Rattle.shr_report.proofs.FirstReport.{script, report, answer}
 use Rattle.shr_report.proofs.OverReport as over
-use Rattle.shr_report.proofs.FirstLawful.{no_limit}
+use Rattle.shr_report.proofs.SmallReports.{no_limit}
 
 -- ---- the first report's put: nothing is in its way
 
@@ -30,7 +30,7 @@ stays = record { on = (0, omega arith, refl); kept = ended } where
   ended (suc n) id to e = absurd (cc)
 
 free : IsFreePut script report 0 0 1 0 (codes "k1")
-free = record { unlimited = λ g above. no_limit g; there = refl; online = inl refl; cached = stays; only = only }
+free = record { unlimited = λ g above. no_limit script (refl, (refl, tt)) g; there = refl; online = inl refl; cached = stays; only = only }
 
 -- it was added, and so each such put was
 added : AreFreePutsAdded script report
@@ -45,7 +45,7 @@ abbrev exists : Report
 exists = record report { workers = kept (record { answers = kept (record answer { reply = reply.Exists (record { place = place; entry = 0 }) } ∷ []); walks = kept []; carries = kept []; plain = kept []; isolations = kept [] } ∷ []) }
 
 not_added : AreFreePutsAdded script exists → ⊥
-not_added all = all 0 0 1 0 0 (codes "k1") (codes "v1") (record answer { reply = reply.Exists (record { place = place; entry = 0 }) }) refl refl (record { unlimited = λ g above. no_limit g; there = refl; online = inl refl; cached = record { on = stays.on; kept = stays.kept }; only = only })
+not_added all = all 0 0 1 0 0 (codes "k1") (codes "v1") (record answer { reply = reply.Exists (record { place = place; entry = 0 }) }) refl refl (record { unlimited = λ g above. no_limit script (refl, (refl, tt)) g; there = refl; online = inl refl; cached = record { on = stays.on; kept = stays.kept }; only = only })
 
 -- the answers that are asked of such a put, and one that isn't
 memory_may_lack : IsAddedOrSpent reply.Memory

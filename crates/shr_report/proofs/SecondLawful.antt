@@ -1,10 +1,10 @@
 -- The second whole report is lawful for its script.
-use Rattle.shr_report.proofs.Common.{◌≡◌, ◌⊎◌, ℕ, zero, suc, ◌+◌, ◌<◌, ◌≤◌, Bool, true, false, cond, ◌&&◌, nat_lt, count_by, flat_map, List, [], ◌∷◌, ◌++◌, length, take, Some, None, slice_get, refl, Contains, arith, sym, ap, subst, ◌∙◌, inl, inr, cases_Bool, and_parts, Place, Entry, Attempt, PassRecord, at_group, is_place, parent_of, is_child, is_closed, moved_in, items_given, MayStand, IsBornAt, pass_of, AllByRecursion, cons_option, map, option_and_then, is_place_same, UseStep, ops_by, is_refused, versions_at, ◌==◌, if◌then◌else◌, filter_map, sum_by, Registered, Found, Carry, decl_named, deferred_word, is_live, last_number, IsNextPool, IsPoolJournal, lookups_at, carries_of, found_numbers, tried_numbers, IsFoundRight, AreLookupsLawful, IsDeferredLawful, AreBitsLawful, pos, ◌-ℤ◌, IfSome, IsSomeAnd, ups, usage_after, IsNextUse, IsChargeHistory, AreTakenBack, is_put, command_at, reply_at, IsDownBetween, charged, freed_below, listed_below, AreChargesLawful, ◌||◌, list_any, PoolEntry, Answered, WalkRecord, At, PlainWalk, answers_of, isolations_of, pool_seen, pool_made, tree_seen, of_answer, shown_by, is_begin_at, is_done_at, AreBelow, AreCausesLawful, IsLawful, IsOfIsolation, isolations_told, AreIsolationsLawful, AreNotFalling, IsOfPass, FillsPlace, was_cleared, uses_at, limit_of, walks_of, cited_by, parents_of, serial_of, cited_at, journals_of, items_left, at, AreRepliesLawful, AreJournalsLawful, IsLawfulWalk, AreWalksLawful, IsBagLawful, ArePoolsLawful, plain_of, plain_at, units_cited_at, Count, counts_of, is_some, number_of, is_held, attempt_at, passes_at, EachAttempt, walk_cited}
+use Rattle.shr_report.proofs.Common.{◌≡◌, ◌⊎◌, ℕ, zero, suc, ◌+◌, ◌<◌, ◌≤◌, Bool, true, false, cond, ◌&&◌, nat_lt, count_by, flat_map, List, [], ◌∷◌, ◌++◌, length, take, Some, None, slice_get, refl, Contains, arith, sym, ap, subst, inl, inr, cases_Bool, Place, Attempt, PassRecord, at_group, is_place, parent_of, is_closed, moved_in, items_given, MayStand, pass_of, AllByRecursion, cons_option, map, option_and_then, is_place_same, UseStep, ops_by, versions_at, ◌==◌, if◌then◌else◌, filter_map, sum_by, Registered, Found, decl_named, deferred_word, lookups_at, IsFoundRight, AreLookupsLawful, IsDeferredLawful, AreBitsLawful, pos, ◌-ℤ◌, IfSome, IsSomeAnd, ups, usage_after, IsNextUse, IsChargeHistory, AreTakenBack, is_put, command_at, reply_at, IsDownBetween, charged, freed_below, listed_below, AreChargesLawful, ◌||◌, list_any, PoolEntry, Answered, WalkRecord, At, PlainWalk, answers_of, pool_seen, pool_made, tree_seen, of_answer, shown_by, is_begin_at, is_done_at, AreBelow, AreCausesLawful, IsLawful, IsOfIsolation, isolations_told, AreIsolationsLawful, AreNotFalling, IsOfPass, FillsPlace, was_cleared, uses_at, walks_of, cited_by, parents_of, serial_of, cited_at, journals_of, items_left, at, AreRepliesLawful, AreJournalsLawful, IsLawfulWalk, AreWalksLawful, IsBagLawful, ArePoolsLawful, plain_at, units_cited_at, Count, counts_of, is_some, number_of, is_held, attempt_at, passes_at, EachAttempt, walk_cited}
 use Rattle.shr_model.specs.Groups.{path_within, preorder_within}
 use Rattle.shr_model.specs.Items.{items_from, freed_from, AreOutcomes}
 use Rattle.shr_model.specs.Families.{lists_moved, items_within}
 use Rattle.shr_model.specs.Bag.{AreDistinct}
-use Rattle.shr_model.specs.Pool.{decl_at, registrations, end_of, phase_of, decl_from, from_from, number_from, is_live_below, lowest_free}
+use Rattle.shr_model.specs.Pool.{decl_at, registrations, end_of, phase_of, decl_from, from_from}
 use Rattle.shr_model.specs.Commands.{rounds_from}
 use Rattle.shr_base.specs.declared.replies.Reply.TheVariants as reply
 use Rattle.shr_report.proofs.QuietIsolations.{quiet_isolations}
@@ -12,7 +12,8 @@ use Rattle.shr_report.proofs.SecondReport.{use_step, script, report, by, place, 
 use Rattle.shr_report.proofs.SecondCases.{each_answer, each_walk, each_entry, each_journal}
 use Rattle.shr_report.proofs.QuietPools.{quiet_pools}
 use Rattle.shr_report.proofs.QuietSweep.{quiet_counts, quiet_last, quiet_sweep}
-use Rattle.shr_report.proofs.FirstLawful.{none_below, none_refused, zero_not}
+use Rattle.shr_report.proofs.SmallReports.{below_two, born, drawn, each_serial, each_worker, last_low, never_refused, no_limit, none_carried, none_fall, pool_journal}
+use Rattle.shr_report.proofs.FirstLawful.{zero_not}
 use Rattle.shr_model.proofs.Booleans.{not_zero}
 use Rattle.shr_model.proofs.Lists.{each_at}
 
@@ -25,10 +26,6 @@ cites zero (suc (suc (suc zero))) p n e = absurd (cc)
 cites zero (suc (suc (suc (suc k)))) p n e = absurd (cc)
 cites (suc worker) k p n e = absurd (cc)
 
-counts_are : (worker : ℕ) → length (Rattle.shr_report.specs.Parts.answers_of report worker) ≡ length (Rattle.shr_report.specs.Parts.commands_of script worker)
-counts_are zero = refl
-counts_are (suc worker) = refl
-
 pub replies : AreRepliesLawful script report
 replies = record {
   version = refl;
@@ -37,8 +34,8 @@ replies = record {
   paths = refl;
   names = refl;
   pools = refl;
-  counts = quiet_counts script report refl counts_are;
-  last = quiet_last script report counts_are;
+  counts = quiet_counts script report refl (each_worker _ refl (λ worker. refl));
+  last = quiet_last script report (each_worker _ refl (λ worker. refl));
   answered = each_answer _ (record { id_is = refl; node_is = refl; stands = refl }, (record { id_is = refl; node_is = refl; stands = refl }, (tt, (tt, tt))));
   cited = each_entry (λ p n e. (x : Rattle.shr_base.specs.declared.places.Serial.Serial) → Rattle.shr_model.specs.Tenants.by_of e ≡ Some x → cited_at report x ≡ Some (at p n))
       ((λ x e. let same : by 0 ≡ x = cc in subst (λ y. cited_at report y ≡ Some (at place 0)) same refl), ((λ x e. let same : by 1 ≡ x = cc in subst (λ y. cited_at report y ≡ Some (at place 1)) same refl), tt));
@@ -49,24 +46,8 @@ nothing_left : (p : Place) → items_left script report p ≡ []
 unfolding items_from lists_moved
 nothing_left = each_journal (λ p es. items_from (lists_moved (items_given (parents_of script) (journals_of report) p) es) [] es ≡ []) (λ p. refl) refl
 
--- group 1 has no child
-no_child : (c : ℕ) → is_child (0 ∷ 0 ∷ []) 1 c ≡ true → ⊥
-no_child zero e = absurd (cc)
-no_child (suc zero) e = absurd (cc)
-no_child (suc (suc c)) e = absurd (let last = (and_parts (nat_lt 0 (suc (suc c)) && nat_lt (suc (suc c)) 2) false e).1 in cc)
-
-none_moved : (p : Place) → moved_in (journals_of report p) ≡ []
-none_moved = each_journal (λ p es. moved_in es ≡ []) (λ p. refl) refl
-
-none_closed : (p : Place) → is_closed (journals_of report p) ≡ false
-none_closed = each_journal (λ p es. is_closed es ≡ false) (λ p. refl) refl
-
 not_moved : (p : Place) (g : ℕ) → Contains (moved_in (journals_of report p)) g → ⊥
-not_moved p g c = let h : c.0 < length (moved_in (journals_of report p)) = c.1 in let n : length (moved_in (journals_of report p)) ≡ 0 = ap (λ (xs : List ℕ). length xs) (none_moved p) in omega (arith, h, n)
-
-born : (es : List Entry) → IsBornAt (parents_of script) 1 es 1
-unfolding path_within
-born es = record { there = omega arith; at_or_above = (0, omega arith, refl); moved = λ c child on. absurd (no_child c child) }
+not_moved p g c = let h : c.0 < length (moved_in (journals_of report p)) = c.1 in let n : length (moved_in (journals_of report p)) ≡ 0 = ap (λ (xs : List ℕ). length xs) (each_journal (λ p es. moved_in es ≡ []) (λ p. refl) refl p) in omega (arith, h, n)
 
 pub journals : AreJournalsLawful script report
 unfolding AreOutcomes items_from lists_moved
@@ -77,7 +58,7 @@ journals = record {
     stands = λ n e s. each_entry (λ p n e. MayStand (parents_of script) p.group (take n (journals_of report p)) e) (record { «open» = refl; allowed = born [] }, (record { «open» = refl; allowed = born _ }, tt)) p n e s;
     outcomes = each_journal (λ p es. AreOutcomes (lists_moved (items_given (parents_of script) (journals_of report) p) es) [] es) (λ p. tt) (refl, (refl, tt)) p;
   };
-  paired = λ p low high. ((λ closed. absurd (let no = none_closed p in cc)), (λ moved. absurd (not_moved (at_group p (parent_of (parents_of script) p.group)) p.group moved)));
+  paired = λ p low high. ((λ closed. absurd (let no = each_journal (λ p es. is_closed es ≡ false) (λ p. refl) refl p in cc)), (λ moved. absurd (not_moved (at_group p (parent_of (parents_of script) p.group)) p.group moved)));
   once = λ n m x y e f same. omega (arith, each_at (λ n (z : Rattle.shr_base.specs.declared.ends.PlaceEnd.PlaceEnd). n ≡ 0) report.places.items (refl, tt) n x e, each_at (λ n (z : Rattle.shr_base.specs.declared.ends.PlaceEnd.PlaceEnd). n ≡ 0) report.places.items (refl, tt) m y f);
   items = λ n end e. each_at (λ n (z : Rattle.shr_base.specs.declared.ends.PlaceEnd.PlaceEnd). z.items.items ≡ items_left script report z.place) report.places.items (sym (nothing_left place), tt) n end e;
   begun = λ p closed. absurd (each_journal (λ p es. is_closed es ≡ true → ⊥) (λ p z. absurd (cc)) (λ z. absurd (cc)) p closed);
@@ -87,15 +68,6 @@ journals = record {
 pub bag : IsBagLawful script report
 unfolding items_from freed_from lists_moved items_within AreDistinct
 bag = record { bag = record { distinct = (tt, tt); parts = record { moves = []; below = tt; is = refl } }; added = refl; freed = refl; listed = refl }
-
--- no group has a limit, so no charge is refused
-no_limit : (group : ℕ) → limit_of script group ≡ None
-no_limit zero = refl
-no_limit (suc zero) = refl
-no_limit (suc (suc group)) = refl
-
-never_refused : (group : ℕ) (ops : List UseStep) → count_by (is_refused (limit_of script group)) ops ≡ 0
-never_refused group ops = subst (λ limit. count_by (is_refused limit) ops ≡ 0) (sym (no_limit group)) (none_refused 0 ops)
 
 first_lawful : IsLawfulWalk script report 0 0 first_walk
 unfolding items_from lists_moved items_within decl_at registrations end_of
@@ -133,19 +105,15 @@ versions_are p = elim (cases_Bool (is_place p place)) [
   | inr other ↦ inr (ap (λ b. flat_map (λ (a : Attempt). map (λ (c : Count). c.version) (counts_of a.outcome)) (cond b (cleared ∷ []) [])) other)
 ]
 
-none_fall : AreNotFalling []
-none_fall k d h = absurd (omega (arith, h))
-
 two_stay : AreNotFalling (2 ∷ 2 ∷ [])
 two_stay zero d h = omega arith
 two_stay (suc k) d h = absurd (omega (arith, h))
 
-not_falling : (worker : ℕ) (p : Place) → AreNotFalling (flat_map (versions_at p) (walks_of report worker))
-not_falling zero p = elim (versions_are p) [
+not_falling : (p : Place) → AreNotFalling (versions_at p first_walk ++ [])
+not_falling p = elim (versions_are p) [
   | inl own ↦ subst (λ (vs : List ℕ). AreNotFalling (vs ++ [])) (sym own.1) two_stay
   | inr other ↦ subst (λ (vs : List ℕ). AreNotFalling (vs ++ [])) (sym other) none_fall
 ]
-not_falling (suc worker) p = none_fall
 
 later_than : (k n : ℕ) (p : Place) → k < 2 → cited_at report (serial_of 0 k) ≡ Some (at p n) → AllByRecursion (λ version. n < version) (versions_at p first_walk)
 later_than k n p early e = let here = cites 0 k p n e in let low : n < 2 = omega (arith, here.0, here.1) in elim (versions_are p) [
@@ -163,11 +131,11 @@ walks = record {
   each = each_walk (IsLawfulWalk script report) first_lawful second_lawful;
   no_others = each_entry (λ p n e. IsOfPass report p e) (tt, (tt, tt));
   walks = each_answer _ (
-    record { rounds = []; refused = record { few = omega arith; above = tt; refusals = λ h. sym (never_refused h (ops_by (by 0) (uses_at report h))); all = λ g o u e. absurd (cc) }; made = refl },
+    record { rounds = []; refused = record { few = omega arith; above = tt; refusals = λ h. sym (never_refused script (refl, (refl, tt)) h (ops_by (by 0) (uses_at report h))); all = λ g o u e. absurd (cc) }; made = refl },
     (record { rounds = []; refused = refl; made = refl }, (record { rounds = []; refused = refl; made = refl }, (record { rounds = []; refused = refl; made = refl }, tt))),
   );
   told = each_answer _ (tt, (tt, (refl, (refl, tt))));
-  versions = not_falling;
+  versions = each_worker (λ worker. (p : Place) → AreNotFalling (flat_map (versions_at p) (walks_of report worker))) not_falling (λ worker p. none_fall);
   later = each_walk (λ worker n w. (k entry : ℕ) (p : Place) → k < w.by.command → cited_at report (serial_of worker k) ≡ Some (at p entry) → AllByRecursion (λ version. entry < version) (versions_at p w))
       (λ k entry p early e. later_than k entry p early e) (λ k entry p early e. tt);
   bits = λ worker n w e i k m p f covers early fills kept. absurd (let was = filled worker k p fills in cc);
@@ -180,28 +148,9 @@ numbers_of_first (suc zero) = refl
 numbers_of_first (suc (suc zero)) = refl
 numbers_of_first (suc (suc (suc n))) = grind (arith)
 
-none_drawn : (b : Bool) (number : ℕ) → b ≡ false → count_by (λ n. n == number) (cons_option (if b then Some 0 else None) (cons_option (if b then Some 1 else None) []) ++ [] ++ (filter_map (λ (a : Attempt). number_of a.outcome) (cond b (cleared ∷ []) []) ++ [])) ≡ 0
-none_drawn true number e = absurd (cc)
-none_drawn false number e = refl
-
-drawn : (id number : ℕ) → count_by (λ n. n == number) (found_numbers report id ++ tried_numbers report id) ≡ (if nat_lt number (lookups_at report id) then 1 else 0)
-drawn zero number = numbers_of_first number
-drawn (suc id) number = none_drawn (0 == suc id) number (not_zero id) ∙ sym (ap (λ b. cond {A = ℕ} b 1 0) (none_below number))
-
-pool_journal : IsPoolJournal 1 1 (Registered 0 0 0 ∷ [])
-unfolding is_live_below phase_of decl_from lowest_free number_from
-pool_journal zero e at = let same : Registered 0 0 0 ≡ e = cc in subst (λ x. IsNextPool 1 1 [] x) same (omega arith, refl, refl, omega arith)
-pool_journal (suc n) e at = absurd (cc)
-
 found_of : (number : ℕ) → number < 3 → IsFoundRight report 0 (record { id = 0; number = number; entry = 1 })
 unfolding phase_of decl_from from_from end_of
 found_of number low = record { there = omega arith; live = refl; decl_is = refl; from = omega arith; to = refl }
-
--- the last number of each id is 0
-last_of : (id : ℕ) → is_live id report.pool.items ≡ true → last_number id report.pool.items ≤ lookups_at report id
-unfolding number_from
-last_of zero live = omega arith
-last_of (suc id) live = let none : (if 0 == suc id then 0 else 0) ≡ 0 = ap (λ b. cond {A = ℕ} b 0 0) (not_zero id) in omega (arith, none)
 
 pub lookups : AreLookupsLawful script report
 unfolding decl_at registrations end_of
@@ -209,8 +158,8 @@ lookups = record {
   pool = pool_journal;
   opened = λ n decl e. each_at (λ n decl. slice_get report.pool.items n ≡ Some (Registered decl n 0)) (0 ∷ []) (refl, tt) n decl e;
   printed = refl;
-  last = last_of;
-  numbers = drawn;
+  last = λ id live. last_low id (lookups_at report id);
+  numbers = drawn report numbers_of_first (λ id. ap (λ b. cons_option (if b then Some 0 else None) (cons_option (if b then Some 1 else None) []) ++ [] ++ (filter_map (λ (a : Attempt). number_of a.outcome) (cond b (cleared ∷ []) []) ++ [])) (not_zero id)) (λ id. refl);
   met = each_walk (λ worker n w. EachAttempt w (λ a. (number : ℕ) → number_of a.outcome ≡ Some number → is_held a.outcome ≡ is_some (attempt_at a.id number (lookups_at report a.id) report.pool.items)))
       (each_at _ (cleared ∷ []) ((λ number e. let same : 2 ≡ number = cc in subst (λ m. true ≡ is_some (attempt_at 0 m 3 report.pool.items)) same refl), tt)) (λ k a e. absurd (cc));
   found = each_answer (λ x c a. (decl : ℕ) (f : Found) → decl_named c ≡ Some decl → a.found ≡ Some f → IsFoundRight report decl f) (
@@ -233,16 +182,12 @@ no_passes p = elim (cases_Bool (is_place p place)) [
   | inr other ↦ ap (λ b. filter_map (λ (a : Attempt). pass_of a.outcome) (cond b (cleared ∷ []) [])) other
 ]
 
-once_carried : (worker n m : ℕ) (c d : Carry) → slice_get (carries_of report worker) n ≡ Some c → slice_get (carries_of report worker) m ≡ Some d → c.by ≡ d.by → c.place ≡ d.place → n ≡ m
-once_carried zero n m c d e f same there = absurd (cc)
-once_carried (suc worker) n m c d e f same there = absurd (cc)
-
 pub deferred : IsDeferredLawful script report
 deferred = record {
   words = λ p. subst (λ (ps : List PassRecord). 0 ≡ deferred_word (sum_by (λ (x : PassRecord). x.next) (ps ++ []) + 0) (sum_by (λ (x : PassRecord). x.nr) (ps ++ []) + 0)) (sym (no_passes p)) refl;
   shown = tt;
   carries = tt;
-  once = once_carried;
+  once = none_carried report (each_worker _ refl (λ worker. refl));
 }
 
 none_there : (P : ℕ → List UseStep → Type 0) → ((group : ℕ) → P group []) → (group : ℕ) (b c : Bool) → b ≡ false → c ≡ false
@@ -295,30 +240,8 @@ other_net : (w k : ℕ) (o p : UseStep) → usage_after (cond ((0 == suc w) && (
     ≡ pos 0 -ℤ pos (0 + (0 + cond ((suc w == 0) && (k == 0)) 0 0 + cond ((suc w == 0) && (k == 1)) 1 0))
 other_net w k o p = idle_net _ _ _ _ (ap (λ b. b && (0 == k)) (not_zero w)) (ap (λ b. b && (1 == k)) (not_zero w)) (ap (λ b. b && (k == 0)) (zero_not w)) (ap (λ b. b && (k == 1)) (zero_not w)) o p
 
--- what a command used of a group, from how its tests come out
-net : (worker k group : ℕ) → group < 2 → usage_after (ops_by (serial_of worker k) (uses_at report group)) ≡ pos (charged (parents_of script) group (command_at script (serial_of worker k)) (reply_at report (serial_of worker k))) -ℤ pos (freed_below script report (serial_of worker k) group)
-unfolding items_from lists_moved items_within path_within
-net zero zero zero low = refl
-net zero zero (suc zero) low = refl
-net zero (suc zero) zero low = refl
-net zero (suc zero) (suc zero) low = refl
-net zero (suc (suc zero)) zero low = refl
-net zero (suc (suc zero)) (suc zero) low = refl
-net zero (suc (suc (suc zero))) zero low = refl
-net zero (suc (suc (suc zero))) (suc zero) low = refl
-net zero (suc (suc (suc (suc k)))) zero low = later_net k (use_step 0 0 true 0 0) (use_step 0 1 false 1 1)
-net zero (suc (suc (suc (suc k)))) (suc zero) low = later_net k (use_step 1 0 true 0 0) (use_step 1 1 false 1 1)
-net (suc worker) k zero low = other_net worker k (use_step 0 0 true 0 0) (use_step 0 1 false 1 1)
-net (suc worker) k (suc zero) low = other_net worker k (use_step 1 0 true 0 0) (use_step 1 1 false 1 1)
-net worker k (suc (suc group)) low = absurd (omega (arith, low))
-
-finals : (group : ℕ) → group < 2 → usage_after (uses_at report group) ≡ pos (listed_below script report group)
-unfolding items_from lists_moved items_within path_within
-finals zero low = refl
-finals (suc zero) low = refl
-finals (suc (suc group)) low = absurd (omega (arith, low))
-
 pub charges : AreChargesLawful script report
+unfolding items_from lists_moved items_within path_within
 charges = record {
   tree = λ n e at. absurd (cc);
   there = (omega arith, (omega arith, (omega arith, (omega arith, tt))));
@@ -326,13 +249,17 @@ charges = record {
       (each_at (λ n o. IsNextUse 0 (take n (use_step 0 0 true 0 0 ∷ use_step 0 1 false 1 1 ∷ [])) o) (use_step 0 0 true 0 0 ∷ use_step 0 1 false 1 1 ∷ []) (record { group = refl; number = refl; found = refl }, (record { group = refl; number = refl; found = refl }, tt)))
       (each_at (λ n o. IsNextUse 1 (take n (use_step 1 0 true 0 0 ∷ use_step 1 1 false 1 1 ∷ [])) o) (use_step 1 0 true 0 0 ∷ use_step 1 1 false 1 1 ∷ []) (record { group = refl; number = refl; found = refl }, (record { group = refl; number = refl; found = refl }, tt)))
       (λ g n o at. absurd (cc));
-  taken_back = λ group. subst (λ limit. AreTakenBack limit (uses_at report group)) (sym (no_limit group)) (λ n o at up no. absurd (no tt));
+  taken_back = λ group. subst (λ limit. AreTakenBack limit (uses_at report group)) (sym (no_limit script (refl, (refl, tt)) group)) (λ n o at up no. absurd (no tt));
   puts = λ n o at up. each_at (λ n o. o.up ≡ true → IsSomeAnd (command_at script o.by) (λ c. is_put c ≡ true)) report.uses.items ((λ u. refl), ((λ u. absurd (cc)), ((λ u. refl), ((λ u. absurd (cc)), tt)))) n o at up;
   fourteen = λ x group. each_group (λ g ops. ups (ops_by x ops) ≤ 14) (few_ups _ _ (use_step 0 0 true 0 0) (use_step 0 1 false 1 1) refl refl) (few_ups _ _ (use_step 1 0 true 0 0) (use_step 1 1 false 1 1) refl refl) (λ g. omega arith) group;
   between = λ x group. each_group (λ g ops. IsDownBetween (map (λ (o : UseStep). o.up) (ops_by x ops))) (ways _ _ (use_step 0 0 true 0 0) (use_step 0 1 false 1 1) refl refl) (ways _ _ (use_step 1 0 true 0 0) (use_step 1 1 false 1 1) refl refl) (λ g n m before a b. absurd (cc)) group;
-  nets = λ x group low. net x.worker x.command group low;
-  final = finals;
-  limits = λ group. subst (λ limit. IfSome limit (λ l. listed_below script report group ≤ l)) (sym (no_limit group)) tt;
+  nets = λ x. each_serial 4 (λ worker k. (group : ℕ) → group < 2 → usage_after (ops_by (serial_of worker k) (uses_at report group)) ≡ pos (charged (parents_of script) group (command_at script (serial_of worker k)) (reply_at report (serial_of worker k))) -ℤ pos (freed_below script report (serial_of worker k) group))
+      (below_two _ refl refl, (below_two _ refl refl, (below_two _ refl refl, (below_two _ refl refl, tt))))
+      (λ k. below_two _ (later_net k (use_step 0 0 true 0 0) (use_step 0 1 false 1 1)) (later_net k (use_step 1 0 true 0 0) (use_step 1 1 false 1 1)))
+      (λ worker k. below_two _ (other_net worker k (use_step 0 0 true 0 0) (use_step 0 1 false 1 1)) (other_net worker k (use_step 1 0 true 0 0) (use_step 1 1 false 1 1)))
+      x.worker x.command;
+  final = below_two (λ group. usage_after (uses_at report group) ≡ pos (listed_below script report group)) refl refl;
+  limits = λ group. subst (λ limit. IfSome limit (λ l. listed_below script report group ≤ l)) (sym (no_limit script (refl, (refl, tt)) group)) tt;
 }
 
 either_walk : (b c : Bool) → flat_map (λ (w : WalkRecord). walk_cited w.answer) (cond b (first_walk ∷ cond c (second_walk ∷ []) []) (cond c (second_walk ∷ []) [])) ≡ []
@@ -341,54 +268,20 @@ either_walk true false = refl
 either_walk false true = refl
 either_walk false false = refl
 
--- no answer and no walk shows an entry of the journal of the tree
-none_shown : (worker k : ℕ) → shown_by report (serial_of worker k) ≡ []
-none_shown zero zero = refl
-none_shown zero (suc zero) = refl
-none_shown zero (suc (suc zero)) = refl
-none_shown zero (suc (suc (suc zero))) = refl
-none_shown zero (suc (suc (suc (suc k)))) = either_walk (suc (suc (suc (suc k))) == 2) (suc (suc (suc (suc k))) == 3)
-none_shown (suc worker) k = refl
-
--- and none made an entry of the journal of registrations
-none_made : (worker k : ℕ) → of_answer report (serial_of worker k) (λ (a : Answered). pool_made a.reply) ≡ []
-none_made zero zero = refl
-none_made zero (suc zero) = refl
-none_made zero (suc (suc zero)) = refl
-none_made zero (suc (suc (suc zero))) = refl
-none_made zero (suc (suc (suc (suc k)))) = refl
-none_made (suc worker) k = refl
-
 two_ones : AreNotFalling (1 ∷ 1 ∷ [])
 two_ones zero d h = omega arith
 two_ones (suc k) d h = absurd (omega (arith, h))
 
-pool_rises : (worker : ℕ) → AreNotFalling (flat_map pool_seen (answers_of report worker))
-pool_rises zero = two_ones
-pool_rises (suc worker) = none_fall
-
-tree_rises : (worker : ℕ) → AreNotFalling (flat_map tree_seen (answers_of report worker))
-tree_rises zero = none_fall
-tree_rises (suc worker) = none_fall
-
 later_pool : (n : ℕ) (e : PoolEntry) → 1 ≤ n → slice_get report.pool.items n ≡ Some e → ⊥
 later_pool zero e low at = omega (arith, low)
 later_pool (suc n) e low at = absurd (cc)
-
-none_unmade : (worker k group : ℕ) → reply_at report (serial_of worker k) ≡ Some (reply.NotMade group) → ⊥
-none_unmade zero zero group e = absurd (cc)
-none_unmade zero (suc zero) group e = absurd (cc)
-none_unmade zero (suc (suc zero)) group e = absurd (cc)
-none_unmade zero (suc (suc (suc zero))) group e = absurd (cc)
-none_unmade zero (suc (suc (suc (suc k)))) group e = absurd (cc)
-none_unmade (suc worker) k group e = absurd (cc)
 
 no_plain : (worker n : ℕ) (w : PlainWalk) → plain_at report worker n ≡ Some w → ⊥
 no_plain zero n w e = absurd (cc)
 no_plain (suc worker) n w e = absurd (cc)
 
 pub causes : AreCausesLawful script report
-causes = record {
+causes = let none_shown : (worker k : ℕ) → shown_by report (serial_of worker k) ≡ [] = each_serial 4 (λ worker k. shown_by report (serial_of worker k) ≡ []) (refl, (refl, (refl, (refl, tt)))) (λ k. either_walk (suc (suc (suc (suc k))) == 2) (suc (suc (suc (suc k))) == 3)) (λ worker k. refl) in record {
   rows = each_answer _ (tt, (tt, (tt, (tt, tt))));
   walks = each_walk _ (λ entry e. absurd (cc)) (λ entry e. absurd (cc));
   attempts = each_walk _ (each_at _ (cleared ∷ []) ((λ seen e. absurd (cc)), tt)) (λ k a e. absurd (cc));
@@ -400,39 +293,22 @@ causes = record {
   pool = λ n e low at. absurd (later_pool n e low at);
   drained = each_entry _ ((λ x n e. absurd (cc)), ((λ x n e. absurd (cc)), tt));
   fresh = record {
-    pool = pool_rises;
-    pool_own = λ worker k later before. subst (λ (ns : List ℕ). AreBelow ns (of_answer report (serial_of worker later) pool_seen)) (sym (none_made worker k)) tt;
+    pool = each_worker (λ worker. AreNotFalling (flat_map pool_seen (answers_of report worker))) two_ones (λ worker. none_fall);
+    pool_own = λ worker k later before. subst (λ (ns : List ℕ). AreBelow ns (of_answer report (serial_of worker later) pool_seen)) (sym (each_serial 4 (λ worker k. of_answer report (serial_of worker k) (λ (a : Answered). pool_made a.reply) ≡ []) (refl, (refl, (refl, (refl, tt)))) (λ k. refl) (λ worker k. refl) worker k)) tt;
     pool_on = each_answer _ ((omega arith, tt), ((omega arith, tt), (tt, (tt, tt))));
-    tree = tree_rises;
+    tree = each_worker (λ worker. AreNotFalling (flat_map tree_seen (answers_of report worker))) none_fall (λ worker. none_fall);
     tree_shown = λ worker k later before. subst (λ (ns : List ℕ). AreBelow ns (of_answer report (serial_of worker later) tree_seen)) (sym (none_shown worker k)) tt;
     refused = λ worker k later group before shows at. absurd (let none = ap (λ (ns : List ℕ). list_any (is_begin_at report group) ns || list_any (is_done_at report group) ns) (none_shown worker k) in cc);
     first = λ worker k group all. ap (λ (ns : List ℕ). list_any (is_begin_at report group) ns) (none_shown worker k);
-    made = λ worker k later group before shows unmade. none_unmade worker later group unmade;
+    made = λ worker k later group before shows unmade. each_serial 4 (λ worker k. reply_at report (serial_of worker k) ≡ Some (reply.NotMade group) → ⊥) ((λ e. absurd (cc)), ((λ e. absurd (cc)), ((λ e. absurd (cc)), ((λ e. absurd (cc)), tt)))) (λ k e. absurd (cc)) (λ worker k e. absurd (cc)) worker later unmade;
   };
 }
 
-uncited : (worker k : ℕ) (c : At) → units_cited_at report (serial_of worker k) ≡ Some c → ⊥
-uncited zero zero c e = absurd (cc)
-uncited zero (suc zero) c e = absurd (cc)
-uncited zero (suc (suc zero)) c e = absurd (cc)
-uncited zero (suc (suc (suc zero))) c e = absurd (cc)
-uncited zero (suc (suc (suc (suc zero)))) c e = absurd (cc)
-uncited zero (suc (suc (suc (suc (suc k))))) c e = absurd (cc)
-uncited (suc worker) k c e = absurd (cc)
-
-no_plains : (worker : ℕ) → plain_of report worker ≡ []
-no_plains zero = refl
-no_plains (suc worker) = refl
-
 pools : ArePoolsLawful script report
-pools = quiet_pools script report refl refl refl no_plains refl (each_answer _ (tt, (tt, (tt, (tt, tt))))) uncited
-
-no_isolations : (worker : ℕ) → isolations_of report worker ≡ []
-no_isolations zero = refl
-no_isolations (suc worker) = refl
+pools = quiet_pools script report refl refl refl (each_worker _ refl (λ worker. refl)) refl (each_answer _ (tt, (tt, (tt, (tt, tt))))) (each_serial 4 (λ worker k. (c : At) → units_cited_at report (serial_of worker k) ≡ Some c → ⊥) ((λ c e. absurd (cc)), ((λ c e. absurd (cc)), ((λ c e. absurd (cc)), ((λ c e. absurd (cc)), tt)))) (λ k c e. absurd (cc)) (λ worker k c e. absurd (cc)))
 
 isolations : AreIsolationsLawful script report
-isolations = quiet_isolations script report no_isolations (each_entry (λ p n e. IsOfIsolation report p e) (tt, (tt, tt))) (each_answer (λ by c a. isolations_told by c a ≡ []) (refl, (refl, (refl, (refl, tt)))))
+isolations = quiet_isolations script report (each_worker _ refl (λ worker. refl)) (each_entry (λ p n e. IsOfIsolation report p e) (tt, (tt, tt))) (each_answer (λ by c a. isolations_told by c a ≡ []) (refl, (refl, (refl, (refl, tt)))))
 
 -- The report is lawful: no sentence asks what a run of this script doesn't give.
 pub lawful : IsLawful script report

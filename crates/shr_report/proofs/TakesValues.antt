@@ -1,8 +1,8 @@
 -- Reports whose deferred work is in one order, and two in which it is in none.
-use Rattle.shr_report.proofs.Common.{◌≡◌, ◌⊎◌, ℕ, zero, suc, ◌<◌, cond, List, [], ◌∷◌, ◌++◌, length, map, flat_map, slice_get, Some, refl, range_with_len, arith, sym, ap, subst, ◌∙◌, inl, inr, ⊎_elim, dite, ℕ_discrete, PlaceAmount, Place, Serial, Answered, Command, Offline, Script, Carry, Through, WalkRecord, Report, printed_at, serial_of, answers_of, IsThere, eq-eqb, ne_eqb, amount_of}
+use Rattle.shr_report.proofs.Common.{◌≡◌, ◌⊎◌, ℕ, zero, suc, cond, List, [], ◌∷◌, ◌++◌, length, map, flat_map, slice_get, Some, refl, range_with_len, arith, sym, ap, subst, ◌∙◌, inl, inr, ⊎_elim, dite, ℕ_discrete, PlaceAmount, Place, Answered, Command, Offline, Script, Carry, Through, WalkRecord, Report, printed_at, serial_of, answers_of, IsThere, eq-eqb, ne_eqb, amount_of}
 use Rattle.shr_base.specs.declared.replies.Reply.TheVariants as reply
 use Rattle.shr_base.specs.declared.walks.Outcome.TheVariants as outcome
-use Rattle.shr_report.specs.Takes.{WordStep, took, gave, Taking, steps_by_worker, DeferredAmounts, TakesWhole, AreWholeTakes, after_step, after_all, none_deferred, steps_by, IsHanded, AreTakesInOrder}
+use Rattle.shr_report.specs.Takes.{WordStep, took, gave, Taking, steps_by_worker, DeferredAmounts, TakesWhole, AreWholeTakes, after_all, none_deferred, steps_by, IsHanded, AreTakesInOrder}
 use Rattle.shr_report.proofs.SecondReport as second
 use Rattle.shr_report.proofs.SecondReport.{kept, place, shrink, unheld}
 use Rattle.shr_model.proofs.Lists.{each_at}

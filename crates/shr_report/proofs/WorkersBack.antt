@@ -87,7 +87,7 @@ logs_remain w p h = record {
 abbrev pub LastAnswers : List WorkerPart → Type 0
 LastAnswers ps = (before : List WorkerPart) (part : WorkerPart) → ps ≡ before ++ part ∷ [] → 0 < length part.answers.items
 
-last_later : (p : WorkerPart) (ps : List WorkerPart) → LastAnswers (p ∷ ps) → LastAnswers ps
+pub last_later : (p : WorkerPart) (ps : List WorkerPart) → LastAnswers (p ∷ ps) → LastAnswers ps
 last_later p ps h before part e = h (p ∷ before) part (ap (λ (x : List WorkerPart). p ∷ x) e)
 
 -- a text that begins with an answer of a worker from this one on
