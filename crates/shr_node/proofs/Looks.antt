@@ -23,24 +23,24 @@ module _ (shape : Shape) (tree : IsTree shape.parents.items) (id node group : �
   abbrev KnowsAt : View → ℕ → Type 0
   KnowsAt w at = KnowsClosed w (place_number (group_place id node at))
 
-  -- the group's own list is the first
-  module _ (n : ℕ) (own : Bool) (low : group < n) where
-    first_is : get_or (set (replicate n false) group own) group false ≡ own
-    first_is = get_or-set_same (replicate n false) group own false (let e = length-replicate n false in omega (arith, low, e))
+  -- the group's own list counts as open
+  module _ (n : ℕ) (low : group < n) where
+    pub first_is : get_or (set (replicate n false) group true) group false ≡ true
+    first_is = get_or-set_same (replicate n false) group true false (let e = length-replicate n false in omega (arith, low, e))
 
-    pub left_first : AreLeft (set (replicate n false) group own) (group + 1)
-    left_first at high lt = get_or-set_other (replicate n false) group at own false (omega (arith, high)) ∙ others at lt
+    pub left_first : AreLeft (set (replicate n false) group true) (group + 1)
+    left_first at high lt = get_or-set_other (replicate n false) group at true false (omega (arith, high)) ∙ others at lt
       where
-        others : (at : ℕ) → at < length (set (replicate n false) group own) → get_or (replicate n false) at false ≡ false
-        others at lt = get_or-replicate n at false false (let a = length-set (replicate n false) group own in let b = length-replicate n false in omega (arith, lt, a, b))
+        others : (at : ℕ) → at < length (set (replicate n false) group true) → get_or (replicate n false) at false ≡ false
+        others at lt = get_or-replicate n at false false (let a = length-set (replicate n false) group true in let b = length-replicate n false in omega (arith, lt, a, b))
 
-    pub looked_first : (w : View) → group < groups_in shape → (own ≡ false → KnowsAt w group) → AreLooked shape w id node group (set (replicate n false) group own) (group + 1)
-    looked_first w there closed = record {
+    pub looked_first : (w : View) → group < groups_in shape → AreLooked shape w id node group (set (replicate n false) group true) (group + 1)
+    looked_first w there = record {
       below = λ at lt marked. dite (ℕ_discrete at group)
           (λ same. subst (λ (x : ℕ). IsAtOrAbove parents group x) (sym same) (IsAtOrAbove-refl parents tree group there))
-          (λ other. both_ways _ marked (get_or-set_other (replicate n false) group at own false other ∙ get_or-replicate n at false false (omega (arith, lt, low))));
+          (λ other. both_ways _ marked (get_or-set_other (replicate n false) group at true false other ∙ get_or-replicate n at false false (omega (arith, lt, low))));
       closed = λ at lt looked unmarked. ⊎_elim
-          (λ same. subst (KnowsAt w) (sym same) (closed (sym first_is ∙ subst (λ (x : ℕ). get_or (set (replicate n false) group own) x false ≡ false) same unmarked)))
+          (λ same. both_ways _ first_is (subst (λ (x : ℕ). get_or (set (replicate n false) group true) x false ≡ false) same unmarked))
           (λ under. let high = under.0 in absurd (omega (arith, lt, high)))
           looked;
     }
@@ -69,6 +69,9 @@ module _ (shape : Shape) (tree : IsTree shape.parents.items) (id node group : �
         before : (at : ℕ) → at < top + 1 → (at ≡ top → ⊥) → IsLookedAt parents group (set marks top own) at → IsLookedAt parents group marks at
         before at lt other (inl same) = inl same
         before at lt other (inr (under, marked)) = inr (under, sym (was (parent_of parents at) (λ e. let up = tree.lower at (omega (arith, under)) (omega (arith, lt, there)) in absurd (omega (arith, up, e, lt)))) ∙ marked)
+
+    pub own_next : (own : Bool) → IsMarked marks group → IsMarked (set marks top own) group
+    own_next own is = get_or-set_other marks top group own false (omega (arith, high)) ∙ is
 
     pub left_next : (own : Bool) → AreLeft (set marks top own) (top + 1)
     left_next own at above lt = get_or-set_other marks top at own false (omega (arith, above)) ∙ left at (omega (arith, above)) (let same = length-set marks top own in omega (arith, lt, same))

@@ -1,4 +1,5 @@
--- Which lists of a subtree were looked at, and found open. No public clause cites this.
+-- Which lists of a subtree were looked at, and found open; that of its highest group counts as open. No
+-- public clause cites this.
 use Rattle.std.specs.Prelude.{◌≡◌, ◌⊎◌, ℕ, ◌<◌, Bool, true, false, List, slice_index_or}
 use Rattle.shr_model.specs.Places.{place_number}
 use Rattle.shr_model.specs.Groups.{parent_of, IsAtOrAbove}

@@ -1,6 +1,6 @@
 //! Closing the lists of a group and of those below it, each into its parent's.
 
-ghost use Rattle.std.specs.Prelude.{◌≡◌, ◌==◌, ◌<◌, ◌&&◌, ℕ, [], nat_lt, true, false};
+ghost use Rattle.std.specs.Prelude.{◌≡◌, ◌==◌, ◌<◌, ◌&&◌, ℕ, [], nat_lt, slice_index_or, true, false};
 ghost use Rattle.shr_model.specs.Groups.{is_child};
 ghost use Rattle.shr_model.specs.Items.{is_closed};
 ghost use Rattle.shr_model.specs.Places.{place_number};
@@ -43,8 +43,8 @@ fn is_open<R: Wait>(rt: &R, core: &Core, seat: &mut Seat, place: Place) -> bool
     opens
 }
 
-// Which lists at or below a group are open, each at its group's number. What is below a closed list
-// is closed and isn't looked at.
+// Which lists below a group are open, each at its group's number; that of the group itself counts as
+// open. What is below a closed list is closed and isn't looked at.
 fn open_lists<R: Wait>(
     rt: &R,
     core: &Core,
@@ -61,10 +61,11 @@ fn open_lists<R: Wait>(
     ensures gains { Gains (view_of seat.old) (view_of seat.new) [] [] }
     ensures looked { AreLooked (shape_of core.now) (view_of seat.new) id node group result
         (groups_in (shape_of core.now)) }
+    ensures own { slice_index_or result group false ≡ true }
 {
     let parents = core.shape().parents.as_slice();
     let mut opens = [false; MOST_GROUPS];
-    opens[group as usize] = is_open(rt, core, seat, Place { id, node, group });
+    opens[group as usize] = true;
     // A parent has a lower number than its children, so its list is looked at before theirs.
     for at in group as usize + 1..parents.len() {
         if !opens[parents[at] as usize] {
@@ -200,9 +201,6 @@ pub fn splice<R: Wait>(
         (view_of seat.new) }
 {
     let opens = open_lists(rt, core, seat, id, node, group);
-    if !opens[group as usize] {
-        return SpliceAnswer::Spliced { moved: 0 };
-    }
     let mut moved = 0;
     let mut at = core.shape().parents.len() as u16;
     'splicing: while at > group {

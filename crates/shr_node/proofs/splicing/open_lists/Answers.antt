@@ -1,15 +1,16 @@
 use Rattle.shr_node.proofs.Common.{◌≡◌, ℕ, false, true, List, [], length, get_or, replicate, ap, subst, ◌∙◌, arith, length-replicate, length-set, parent_of, Shape, groups_in, view_of, shape_of}
-use Rattle.shr_node.proofs.Gaining.{gains_then}
-use Rattle.shr_node.proofs.Looks.{left_first, looked_first, looked_next, left_next, looked_past, left_past}
+use Rattle.shr_node.proofs.Gaining.{gains_none, gains_then}
+use Rattle.shr_node.proofs.Looks.{first_is, left_first, looked_first, own_next, looked_next, left_next, looked_past, left_past}
 use Rattle.shr_node.proofs.splicing.open_lists.Goals as goal
 
 pub loop-at-init : goal.loop-at-init
-loop-at-init g c = let shape : Shape = shape_of c.args.core.now in let few = c.args.core.now.limits.4 in let there = c.requires.group in let e = c.is_open.ensures in record {
-  seat = e.seat;
-  gains = e.gains;
-  long = length-set (replicate 256 false) c.args.group _ ∙ length-replicate 256 false;
-  looked = looked_first shape c.args.core.now.tree c.args.id c.args.node c.args.group 256 c.is_open.result (omega (arith, few, there)) (view_of c.is_open.new.seat) there e.closed;
-  left = left_first shape c.args.core.now.tree c.args.id c.args.node c.args.group 256 c.is_open.result (omega (arith, few, there));
+loop-at-init g c = let shape : Shape = shape_of c.args.core.now in let few = c.args.core.now.limits.4 in let there = c.requires.group in record {
+  seat = c.requires.seat;
+  gains = gains_none (view_of c.args.seat.now);
+  long = length-set (replicate 256 false) c.args.group true ∙ length-replicate 256 false;
+  own = first_is shape c.args.core.now.tree c.args.id c.args.node c.args.group 256 (omega (arith, few, there));
+  looked = looked_first shape c.args.core.now.tree c.args.id c.args.node c.args.group 256 (omega (arith, few, there)) (view_of c.args.seat.now) there;
+  left = left_first shape c.args.core.now.tree c.args.id c.args.node c.args.group 256 (omega (arith, few, there));
 }
 
 pub loop-at-preserved-then-not-opens-parents : goal.loop-at-preserved-then-not-opens-parents
@@ -21,6 +22,7 @@ loop-at-preserved-then-not-opens-parents g c = let core = c.args.core.now in let
       seat = inv.seat;
       gains = inv.gains;
       long = inv.long;
+      own = inv.own;
       looked = looked_past shape core.tree c.args.id c.args.node c.args.group (view_of c.loop-at.seat) (view_of c.loop-at.seat) c.loop-at.opens at inv.looked (omega (arith, low)) (omega (arith, test, far)) (omega (arith, test, far, few, own)) inv.left up;
       left = left_past shape core.tree c.args.id c.args.node c.args.group (view_of c.loop-at.seat) (view_of c.loop-at.seat) c.loop-at.opens at inv.looked (omega (arith, low)) (omega (arith, test, far)) (omega (arith, test, far, few, own)) inv.left;
     }
@@ -29,11 +31,12 @@ pub loop-at-preserved : goal.loop-at-preserved
 loop-at-preserved g c = let core = c.args.core.now in let shape : Shape = shape_of core in let inv = c.loop-at.invariant in let at : ℕ = c.loop-at.at in
     let is : c.as_slice-parents.result.now ≡ shape.parents.items = c.as_slice-parents.ensures ∙ ap (λ (s : Shape). s.parents.items) c.shape.ensures in
     let far : length c.as_slice-parents.result.now ≡ groups_in shape = ap (λ (ps : List ℕ). length ps) is in
-    let few = core.limits.4 in let test = c.loop-at-test.true in let low = c.loop-at.auto.at in let own = inv.long in let did = c.is_open-in-loop-at.ensures in
+    let few = core.limits.4 in let test = c.loop-at-test.true in let low = c.loop-at.auto.at in let own = inv.long in let did = c.is_open.ensures in
     let up : get_or c.loop-at.opens (parent_of shape.parents.items at) false ≡ true = subst (λ (ps : List ℕ). get_or c.loop-at.opens (parent_of ps at) false ≡ true) is c.if-not-opens-parents.false in record {
       seat = did.seat;
-      gains = gains_then (view_of c.args.seat.now) (view_of c.loop-at.seat) (view_of c.is_open-in-loop-at.new.seat) [] [] [] [] inv.gains did.gains;
+      gains = gains_then (view_of c.args.seat.now) (view_of c.loop-at.seat) (view_of c.is_open.new.seat) [] [] [] [] inv.gains did.gains;
       long = length-set c.loop-at.opens at _ ∙ inv.long;
-      looked = looked_next shape core.tree c.args.id c.args.node c.args.group (view_of c.loop-at.seat) (view_of c.is_open-in-loop-at.new.seat) c.loop-at.opens at inv.looked (omega (arith, low)) (omega (arith, test, far)) (omega (arith, test, far, few, own)) inv.left c.is_open-in-loop-at.result did.gains up did.closed;
-      left = left_next shape core.tree c.args.id c.args.node c.args.group (view_of c.loop-at.seat) (view_of c.is_open-in-loop-at.new.seat) c.loop-at.opens at inv.looked (omega (arith, low)) (omega (arith, test, far)) (omega (arith, test, far, few, own)) inv.left c.is_open-in-loop-at.result;
+      own = own_next shape core.tree c.args.id c.args.node c.args.group (view_of c.loop-at.seat) (view_of c.is_open.new.seat) c.loop-at.opens at inv.looked (omega (arith, low)) (omega (arith, test, far)) (omega (arith, test, far, few, own)) inv.left c.is_open.result inv.own;
+      looked = looked_next shape core.tree c.args.id c.args.node c.args.group (view_of c.loop-at.seat) (view_of c.is_open.new.seat) c.loop-at.opens at inv.looked (omega (arith, low)) (omega (arith, test, far)) (omega (arith, test, far, few, own)) inv.left c.is_open.result did.gains up did.closed;
+      left = left_next shape core.tree c.args.id c.args.node c.args.group (view_of c.loop-at.seat) (view_of c.is_open.new.seat) c.loop-at.opens at inv.looked (omega (arith, low)) (omega (arith, test, far)) (omega (arith, test, far, few, own)) inv.left c.is_open.result;
     }

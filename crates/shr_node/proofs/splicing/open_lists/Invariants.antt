@@ -1,4 +1,4 @@
-use Rattle.shr_node.proofs.Common.{◌≡◌, [], length, IsOf, view_of, shape_of, Gains, AreLooked}
+use Rattle.shr_node.proofs.Common.{◌≡◌, [], length, IsOf, view_of, shape_of, Gains, AreLooked, IsMarked}
 use Rattle.shr_node.proofs.Looks.{AreLeft}
 use Rattle.shr_node.proofs.splicing.open_lists.Given as goal
 
@@ -7,6 +7,7 @@ invariant-loop-at g l = record {
   seat : IsOf l.core l.seat;
   gains : Gains (view_of l.fn.seat) (view_of l.seat) [] [];
   long : length l.opens ≡ 256;
+  own : IsMarked l.opens l.group;
   looked : AreLooked (shape_of l.core) (view_of l.seat) l.id l.node l.group l.opens l.at;
   left : AreLeft l.opens l.at;
 }

@@ -1,16 +1,7 @@
-use Rattle.shr_node.proofs.Common.{◌≡◌, ℕ, ◌-◌, [], length, sym, inl, ap, subst, ◌∙◌, arith, View, Shape, groups_in, view_of, shape_of, made_by_closing, bits_by, refl}
+use Rattle.shr_node.proofs.Common.{◌≡◌, ℕ, ◌-◌, [], length, sym, ap, subst, ◌∙◌, arith, View, Shape, groups_in, view_of, shape_of, made_by_closing, bits_by}
 use Rattle.shr_node.proofs.Looks.{looked_still}
-use Rattle.shr_node.proofs.Splices.{IsSplicing, closings_none, splicing_none, children_closed, splicing_stops, worn_before, free_before, splicing_skips, splicing_was, splicing_one}
+use Rattle.shr_node.proofs.Splices.{IsSplicing, splicing_none, children_closed, splicing_stops, worn_before, free_before, splicing_skips, splicing_was, splicing_one}
 use Rattle.shr_node.proofs.splicing.splice.Goals as goal
-
-pub returns-then-not-opens-group-clause-answer : goal.returns-then-not-opens-group-clause-answer
-returns-then-not-opens-group-clause-answer g c = let shape : Shape = shape_of c.args.core.now in let v : View = view_of c.args.seat.now in let u : View = view_of c.open_lists-opens.new.seat in let e = c.open_lists-opens.ensures in let own = e.looked.closed c.args.group c.requires.group.1 (inl refl) c.if-not-opens-group.true in record {
-  cs = [];
-  closings = closings_none shape v u c.args.id c.args.node c.args.group e.gains;
-  moved_is = refl;
-  own = own;
-  closed = λ child there below. (c.args.group, below, own);
-}
 
 pub splicing-init : goal.splicing-init
 splicing-init g c = let shape : Shape = shape_of c.args.core.now in let v : View = view_of c.args.seat.now in let u : View = view_of c.open_lists-opens.new.seat in let e : c.len-at.result ≡ groups_in shape = c.len-at.ensures ∙ ap (λ (s : Shape). length s.parents.items) c.shape.ensures in let there = c.requires.group.1 in record {
@@ -27,7 +18,7 @@ splicing-preserved-then-not-opens-at g c = let core = c.args.core.now in let sha
   there = omega (arith, there);
   above = omega (arith, high, test);
   looked = inv.looked;
-  splices = splicing_skips shape core.tree v u u c.args.id c.args.node c.args.group c.open_lists-opens.result c.splicing.at c.splicing.moved inv.splices inv.looked at (omega (arith, test)) (omega (arith, high, test)) c.if-not-opens-group.false c.if-not-opens-at.true;
+  splices = splicing_skips shape core.tree v u u c.args.id c.args.node c.args.group c.open_lists-opens.result c.splicing.at c.splicing.moved inv.splices inv.looked at (omega (arith, test)) (omega (arith, high, test)) c.open_lists-opens.ensures.own c.if-not-opens-at.true;
 }
 
 pub close_one-requires-clause-children : goal.close_one-requires-clause-children
@@ -68,7 +59,7 @@ returns-in-Memory-clause-answer g c = let core = c.args.core.now in let shape : 
 }
 
 pub returns-clause-answer : goal.returns-clause-answer
-returns-clause-answer g c = let o = c.splicing.invariant.splices in let test = c.splicing-test.false in let own = o.closed c.args.group (omega (arith, test)) c.requires.group.1 c.if-not-opens-group.false in record {
+returns-clause-answer g c = let o = c.splicing.invariant.splices in let test = c.splicing-test.false in let own = o.closed c.args.group (omega (arith, test)) c.requires.group.1 c.open_lists-opens.ensures.own in record {
   cs = o.cs;
   closings = o.closings;
   moved_is = o.moved_is (omega (arith, test));
