@@ -31,7 +31,7 @@ abbrev pub KnowsClosed : View → ℕ → Type 0
 KnowsClosed v k = (entries : List Entry) × Knows v k entries × (is_closed entries ≡ true)
 
 -- The seat knows that the list of a place is closed, or that of a group above its own on the same id
--- and node. That is as much: each list below a closed one is closed (`closed_below` of
+-- and node. Either way it is closed, since each list below a closed one is (`closed_below` of
 -- proofs/BelowClosed.antt).
 abbrev pub IsKnownClosed : List ℕ → View → Place → Type 0
 IsKnownClosed parents v place = (above : ℕ) × IsAtOrAbove parents above place.group × KnowsClosed v (place_number (at_group place above))
