@@ -57,7 +57,7 @@ first_more n decl es h = record {
   idle = λ id le. omega (arith, phase_of_push id es (Registered decl n 0), h.idle id (omega (arith, le)), else_one decl n id (λ e. omega (arith, e, le)));
 }
 
-take_next : {A : Type 0} (xs : List A) (n : ℕ) (x : A) → slice_get xs n ≡ Some x → take (suc n) xs ≡ take n xs ++ x ∷ []
+pub take_next : {A : Type 0} (xs : List A) (n : ℕ) (x : A) → slice_get xs n ≡ Some x → take (suc n) xs ≡ take n xs ++ x ∷ []
 take_next [] n x e = absurd (none-some x e)
 take_next (y ∷ xs) zero x e = ap (λ z. z ∷ []) (same_Some y x e)
 take_next (y ∷ xs) (suc n) x e = ap (λ l. y ∷ l) (take_next xs n x e)

@@ -70,7 +70,7 @@ over_outcomes limit o ops up above down = ap {A = Bool} (λ (t : Bool). map (is_
 
 -- ---- how often a group stands on the way
 
-any_has : (xs : List ℕ) (g : ℕ) → Has xs g → list_any (λ (h : ℕ). h == g) xs ≡ true
+pub any_has : (xs : List ℕ) (g : ℕ) → Has xs g → list_any (λ (h : ℕ). h == g) xs ≡ true
 any_has [] g h = absurd h
 any_has (x ∷ xs) g (inl e) = ap (λ (b : Bool). b || list_any (λ (h : ℕ). h == g) xs) (eq-eqb x g e)
 any_has (x ∷ xs) g (inr h) = ap (λ (b : Bool). (x == g) || b) (any_has xs g h) ∙ (elim (x == g) as (λ (b : Bool). (b || true) ≡ true) [ true ↦ refl | false ↦ refl ])

@@ -77,14 +77,7 @@ whole_row x opened number log popped last w =
         commands = row.1.commands;
         chained = row.1.chained;
         ends = row.1.ends ∙ still_plain x x.script.sweep (command_serial number (length (worker_commands x.script number))) w.told popped w.done last w.helped;
-        each = λ k y at. let d = row.1.each k y at in record {
-          by_is = d.by_is;
-          command = d.command;
-          answered = d.answered;
-          answer = ap (λ (l : List Answered). slice_get l k) w.answers ∙ slice_left w.own w.told k d.answered d.answer;
-          reply = d.reply;
-          gives = d.gives;
-        };
+        each = λ k y at. let d = row.1.each k y at in assumption (ap (λ (l : List Answered). slice_get l k) w.answers ∙ slice_left w.own w.told k d.answered d.answer, d);
       },
     )
 

@@ -1,5 +1,8 @@
 -- The record of a walk is as it must be, by how the walk went.
-use Rattle.shr_assemble.proofs.Common.{◌≡◌, ℕ, zero, suc, ◌+◌, ◌*◌, ◌<◌, ◌≤◌, cond, List, [], ◌∷◌, ◌++◌, length, map, sym, refl, ap, subst, ◌∙◌, arith, add-one, ◌==◌, filter, flat_map, Contains, slice_index_or, bit_at, AllByRecursion, range_with_len, map-id, length-map, get_or-range_with_len, length-range_with_len, Attempt, MapSeen, is_set, each_append, each_weaker, Rise, AreNotFalling, ids_shown, up_to, filter-append, map-range_with_len_more, all_rise, ids_within, unit_is, units_stay, AreNumbersRising, set_bits, id_of_attempt, map_unit, all_front, all_push, ◌^◌, slice_get, Some, Object, PassRecord, pass_of, Each, shape_of, parents_of, Groups, objects_freed, IsShared, PassSeen, IsWalkSeen, WorkerState, Work, Shared, Walk, IsSized, by_slices, some_at, place_of_walk, ◌/◌, ◌⊎◌, inr, ⊎_elim, true, false, length-append, take, sum, All, sum_by, filter_map, append-nil, none-some, take-append_seam, Kept, WalkAnswer, IsPrefixOf, IsPlaced, IsBitWord, IsWalkWell, AreFresh, Rising, IsRecordOf, record_of, parts_of, IsUncut, IsCutLast, IsRecord, take-map-range_with_len, IsLastOfCut, freed_in_attempt, units_in}
+use Rattle.shr_assemble.proofs.Common.{◌≡◌, ℕ, zero, suc, ◌+◌, ◌*◌, ◌<◌, ◌≤◌, cond, List, [], ◌∷◌, ◌++◌, length, map, sym, refl, ap, subst, ◌∙◌, arith, add-one, ◌==◌, filter, flat_map, Contains, slice_index_or, bit_at, AllByRecursion, range_with_len, map-id, length-map, get_or-range_with_len, length-range_with_len, Attempt, MapSeen, is_set, each_append, each_weaker, Rise, AreNotFalling, ids_shown, up_to, filter-append, map-range_with_len_more, all_rise, ids_within, unit_is, units_stay, AreNumbersRising, set_bits, id_of_attempt, map_unit, all_front, all_push, ◌^◌, slice_get, Some, Object, PassRecord, pass_of, Each, shape_of, parents_of, Groups, objects_freed, IsShared, PassSeen, IsWalkSeen, WorkerState, Work, Shared, Walk, IsSized, by_slices, some_at, place_of_walk, ◌/◌, ◌⊎◌, inr, ⊎_elim, true, false, length-append, take, sum, All, sum_by, filter_map, append-nil, none-some, take-append_seam, Kept, WalkAnswer, IsPrefixOf, IsPlaced, IsBitWord, IsWalkWell, AreFresh, Rising, IsRecordOf, record_of, parts_of, IsUncut, IsCutLast, IsRecord, take-map-range_with_len, IsLastOfCut, freed_in_attempt, units_in, drop, Bool, inl, Option, Ends}
+pub use Rattle.shr_assemble.proofs.QuietSteps.{AreTables as IsTableOf}
+use Rattle.std.specs.Option.{IfSome}
+use Rattle.std.proofs.lemmas.List.{take-append-drop}
 use Rattle.shr_model.specs.Bits as model
 use Rattle.shr_model.specs.Places as places
 use Rattle.shr_assemble.proofs.EndsJournals.{below_later}
@@ -89,13 +92,6 @@ tries_stay l r = λ k d lt. subst (λ n. slice_index_or (map (λ (a : Attempt). 
   next (a ∷ []) r k d lt = absurd (omega (arith, lt))
   next (a ∷ b ∷ l) r zero d lt = units_stay a.id b.id r.0.0
   next (a ∷ b ∷ l) r (suc k) d lt = next (b ∷ l) r.1 k d (omega (arith, lt))
-
--- the tables are those of a run: they belong together, and have the limits that the report's laws speak of
-pub record IsTableOf (x : Shared) : Type 0 where
-  pub shared : IsShared x
-  pub sized : IsSized x.script
-  pub most_items : (shape_of x.core).most_items ≡ 20000
-  pub most_entries : (shape_of x.core).most_entries ≡ 2 ^ 31
 
 module _ (x : Shared) (table : IsTableOf x) (walk : Walk) (maps : List MapSeen) (attempts : List Attempt) (s t : WorkerState) (w : Work) (seen : IsWalkSeen x walk maps attempts s t w) where
   -- each id that was tried is one of the script
