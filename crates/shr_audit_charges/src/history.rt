@@ -33,7 +33,7 @@ fn may_follow(usages: &[Usage], step: UseStep) -> bool
         return false;
     }
     let usage = usages[step.group as usize];
-    step.operation == usage.ups + usage.downs && found_so(step.found, usage)
+    step.operation as u64 == usage.ups + usage.downs && found_so(step.found, usage)
 }
 
 // What one operation more comes to.

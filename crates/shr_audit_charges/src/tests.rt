@@ -18,7 +18,7 @@ const ABOVE: TreeEntry = TreeEntry::Begin { group: 1 };
 const MADE: TreeEntry = TreeEntry::Made { group: 2 };
 
 // An operation of a command of worker 0 in group 1.
-fn step(operation: u64, found: i64, command: u32, up: bool) -> UseStep {
+fn step(operation: u32, found: i64, command: u32, up: bool) -> UseStep {
     UseStep {
         operation,
         found,

@@ -159,7 +159,7 @@ pub struct Refused {
 fn is_refused_one(tried: Tried, by: Serial, refused: Refused) -> bool
     ensures { Decides result (IsSaidOf by refused tried) }
 {
-    if tried.index != refused.operation || tried.last.operation != refused.operation {
+    if tried.index != refused.operation || tried.last.operation as u64 != refused.operation {
         return false;
     }
     let own = tried.last.by.worker == by.worker && tried.last.by.command == by.command;

@@ -112,15 +112,16 @@ pub enum PlainEntry {
     },
 }
 
-/// One charge or uncharge of one group. Its number is that of the group's operations before it.
+/// One charge or uncharge of one group. Its number is that of the group's operations before it: the
+/// seats of a table make fewer than 2^32 of them.
 ///
 /// Linux: an addition or subtraction on `usage` of `struct page_counter` in
 /// include/linux/page_counter.h. The number is our own.
 #[derive(Clone, Copy, Debug, PartialEq, Eq)]
 pub struct UseStep {
-    pub operation: u64,
     /// The usage that it found, in objects. It may be negative for a moment.
     pub found: i64,
+    pub operation: u32,
     pub by: Serial,
     pub group: u16,
     pub up: bool,

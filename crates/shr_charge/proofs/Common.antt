@@ -36,7 +36,7 @@ pub use Rattle.shr_charge.specs.Rule.{IsChargeSound, first_charge_view, group_in
 pub use Rattle.shr_charge.specs.Searching.{AreMarkedGroups, is_like, entry_number}
 pub use Rattle.shr_charge.specs.Seat.{IsChargeSeat, counted, spent_by, standing_of, tree_of, uses_of}
 pub use Rattle.shr_charge.specs.Steps.{joined_tree, with_begin, with_done, with_tree_given, with_tree_hand, with_load, with_made}
-pub use Rattle.shr_charge.specs.Told.{IsWord, ChargeSat, Shows, TakesTreeRoom, is_there, state_in, with_tree, with_uses}
+pub use Rattle.shr_charge.specs.Told.{IsWord, ChargeSat, Shows, TakesTreeRoom, TellsUse, is_there, state_in, with_tree, with_uses}
 pub use Rattle.shr_charge.specs.Uses.{AreUsed, UseHistories, IsPaced, StandsInHistory, downs_at, grown, op_of, times_at, ups_at, usage_word}
 pub use Rattle.shr_charge.specs.Views.{TreeView, Uses, both_uses, no_tree, no_uses, one_use, own_uses}
 pub use Rattle.shr_charge.specs.declared.answers.GroupState.{GroupState}

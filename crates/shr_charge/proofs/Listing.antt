@@ -1,7 +1,7 @@
 -- Elements by their number, in lists that grow at their end.
-use Rattle.shr_charge.proofs.Common.{◌≡◌, ℕ, zero, suc, ◌+◌, ◌<◌, ◌≤◌, ◌-◌, ◌⊎◌, inl, inr, Bool, true, false, cond, List, [], ◌∷◌, ◌++◌, length, take, get_or, sym, refl, ap, subst, ◌∙◌, ⊎_elim, arith, get_elem?, Option, Some, None, slice_get, position_from, option_or, IsSome, cases_Bool, add-one, take-append-le}
+use Rattle.shr_charge.proofs.Common.{◌≡◌, ℕ, zero, suc, ◌+◌, ◌<◌, ◌≤◌, ◌-◌, ◌⊎◌, inl, inr, Bool, true, false, cond, List, [], ◌∷◌, ◌++◌, length, take, get_or, sym, refl, ap, subst, ◌∙◌, ⊎_elim, arith, Option, Some, None, slice_get, position_from, option_or, IsSome, cases_Bool, add-one, take-append-le}
 use Rattle.std.proofs.Math.Seq.{take-append_seam}
-use Rattle.shr_model.proofs.Lists.{word_of, some_injective}
+use Rattle.shr_model.proofs.Lists.{some_injective}
 
 none_some : {A : Type 0} (x : A) → None ≡ Some x → ⊥
 none_some x e = cc

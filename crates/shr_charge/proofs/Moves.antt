@@ -1,5 +1,5 @@
 -- Each step on a word keeps the rule, and what it tells.
-use Rattle.shr_charge.proofs.Common.{◌≡◌, ◌≢◌, ℕ, ◌+◌, ◌*◌, ◌^◌, ◌%◌, ◌-◌, ◌<◌, ◌≤◌, ◌⊎◌, inl, inr, ⊎_elim, Bool, true, false, not, ◌||◌, eqb, cond, List, [], ◌∷◌, ◌++◌, map, set, get_or, length, sym, refl, ap, subst, ◌∙◌, arith, get_or-set_same, get_or-set_other, sum_by, Some, None, Option, All, sum_by_push, All-weaker, some, get_elem?, State, Allows, at_map, set_again, Kept, Serial, UseStep, TreeEntry, ups, downs, Hierarchy, is_later, begin_of, made_of, is_made, MayBegin, MayBeMade, MayBeDone, IsTreeJournal, is_some, cases_Bool, hierarchy_of, GroupState, Online, Offline, NotMade, View, Shape, Uses, TreeView, both_uses, one_use, usage_word, op_of, grown, IsPaced, StandsInHistory, IsLaterThan, begun_state, state_at, state_word, opens, WasState, IsNamed, IsTreeSeen, IsHome, IsOfflined, with_load, with_tree_hand, with_tree_given, with_begin, with_made, with_done, IsChargeSound, usage_index, group_index, usage_in, group_in, lock_in, uses_in, tree_in, ChargeSat, with_uses, with_tree, state_in, IsWord, Shows, TakesTreeRoom, set-get_or, All-contains, none, Act, Valid, keeps, gives, takes, stepped, carried_after, exchanged, set_here, is_there}
+use Rattle.shr_charge.proofs.Common.{◌≡◌, ◌≢◌, ℕ, ◌+◌, ◌*◌, ◌^◌, ◌%◌, ◌/◌, ◌-◌, ◌<◌, ◌≤◌, ◌⊎◌, inl, inr, ⊎_elim, Bool, true, false, not, ◌||◌, eqb, cond, List, [], ◌∷◌, ◌++◌, map, set, get_or, length, sym, refl, ap, subst, ◌∙◌, arith, get_or-set_same, get_or-set_other, sum_by, Some, None, Option, sum_by_push, All-weaker, some, get_elem?, State, Allows, at_map, set_again, Kept, Serial, UseStep, TreeEntry, ups, downs, Hierarchy, is_later, begin_of, made_of, is_made, MayBegin, MayBeMade, MayBeDone, IsTreeJournal, is_some, cases_Bool, hierarchy_of, GroupState, Online, Offline, NotMade, View, Shape, Uses, TreeView, both_uses, one_use, usage_word, op_of, grown, IsPaced, StandsInHistory, IsLaterThan, begun_state, state_at, state_word, opens, WasState, IsNamed, IsTreeSeen, IsHome, IsOfflined, with_load, with_tree_hand, with_tree_given, with_begin, with_made, with_done, IsChargeSound, usage_index, group_index, usage_in, group_in, lock_in, uses_in, tree_in, ChargeSat, with_tree, state_in, IsWord, Shows, TakesTreeRoom, TellsUse, set-get_or, All-contains, none, Act, Valid, keeps, gives, takes, stepped, carried_after, exchanged, set_here, is_there}
 use prog.Atomic.{either}
 use Rattle.shr_base.specs.declared.journals.TreeEntry.TheVariants.{Begin, Done, Made as MadeEntry}
 use Rattle.shr_charge.proofs.Frames.{on_use, on_tree}
@@ -36,9 +36,13 @@ module _ (k : Shape) (id : ℕ) (m : ChargeSat) (g : ℕ) (low : g < length k.pa
       (λ j near apart. get_or-set_other s.words i (usage_index j) new 0 (λ e. apart (omega (arith, e)))))
       (paced word) (let e : m.0.uses.seats + 0 ≡ m.0.uses.seats = omega arith in e)
 
+-- the number of an operation that finds the word of such a history has 32 bits
+narrow : (word : ℕ) (history : List UseStep) → word ≡ usage_word history → ups history ≤ 2 ^ 21 * 65 → downs history ≤ (2 ^ 21 + 2 ^ 25) * 65 → word / 2 ^ 32 + word % 2 ^ 32 < 2 ^ 32
+narrow word history is high deep = omega (arith, is, high, deep)
+
 module _ (k : Shape) (slots id : ℕ) (m : ChargeSat) (g : ℕ) (low : g < length k.parents.items) (here : m.0.standing.gone ≡ false) (by : Serial) (c d : ℕ) where
   -- the addition of an up is a step that the rule allows
-  pub charges : ((w : ℕ) → IsPaced (both_uses m.0.uses (one_use (op_of g by true w) c d))) → Allows (IsChargeSound k) slots id m (usage_index g) (λ y. (y + 2 ^ 32) % 2 ^ 64) (λ w r. (r ≡ with_uses m (both_uses m.0.uses (one_use (op_of g by true w) c d))) × All (IsLaterThan (op_of g by true w)) m.0.uses.ops)
+  pub charges : ((w : ℕ) → IsPaced (both_uses m.0.uses (one_use (op_of g by true w) c d))) → Allows (IsChargeSound k) slots id m (usage_index g) (λ y. (y + 2 ^ 32) % 2 ^ 64) (λ w r. TellsUse m (op_of g by true w) c d r)
   charges paced s o deep-homes me fits = let w : ℕ = get_or s.words (usage_index g) 0 in let h = o.history g in
       let a = high k id m g low here by c d true paced s o me in let b = deep k id m g low here by c d true paced s o me in
       let p = sum_by_push (λ (x : UseStep). cond x.up 1 0) h (op_of g by true w) in let q = sum_by_push (λ (x : UseStep). cond (not x.up) 1 0) h (op_of g by true w) in let is = o.used.words g low in (
@@ -46,11 +50,11 @@ module _ (k : Shape) (slots id : ℕ) (m : ChargeSat) (g : ℕ) (low : g < lengt
         keeps,
         tt,
         used k id m g low here by c d true paced s o me ((w + 2 ^ 32) % 2 ^ 64) (omega (arith, a, b, p, q, is)),
-        (refl, All-weaker (StandsInHistory o.history) (IsLaterThan (op_of g by true w)) (λ x there. later_than o.history (op_of g by true w) (op_next g by true w h is (omega (arith, b))) x there) m.0.uses.ops (o.used.there id m.0.uses (at_map uses_in s.views id m.0 me))),
+        (refl, All-weaker (StandsInHistory o.history) (IsLaterThan (op_of g by true w)) (λ x there. later_than o.history (op_of g by true w) (op_next g by true w h is (omega (arith, b))) x there) m.0.uses.ops (o.used.there id m.0.uses (at_map uses_in s.views id m.0 me)), narrow w h is a b),
       )
 
   -- the addition of a down is a step that the rule allows
-  pub uncharges : ((w : ℕ) → IsPaced (both_uses m.0.uses (one_use (op_of g by false w) c d))) → Allows (IsChargeSound k) slots id m (usage_index g) (λ y. (y + 1) % 2 ^ 64) (λ w r. (r ≡ with_uses m (both_uses m.0.uses (one_use (op_of g by false w) c d))) × All (IsLaterThan (op_of g by false w)) m.0.uses.ops)
+  pub uncharges : ((w : ℕ) → IsPaced (both_uses m.0.uses (one_use (op_of g by false w) c d))) → Allows (IsChargeSound k) slots id m (usage_index g) (λ y. (y + 1) % 2 ^ 64) (λ w r. TellsUse m (op_of g by false w) c d r)
   uncharges paced s o deep-homes me fits = let w : ℕ = get_or s.words (usage_index g) 0 in let h = o.history g in
       let a = high k id m g low here by c d false paced s o me in let b = deep k id m g low here by c d false paced s o me in
       let p = sum_by_push (λ (x : UseStep). cond x.up 1 0) h (op_of g by false w) in let q = sum_by_push (λ (x : UseStep). cond (not x.up) 1 0) h (op_of g by false w) in let is = o.used.words g low in (
@@ -58,7 +62,7 @@ module _ (k : Shape) (slots id : ℕ) (m : ChargeSat) (g : ℕ) (low : g < lengt
         keeps,
         tt,
         used k id m g low here by c d false paced s o me ((w + 1) % 2 ^ 64) (omega (arith, a, b, p, q, is)),
-        (refl, All-weaker (StandsInHistory o.history) (IsLaterThan (op_of g by false w)) (λ x there. later_than o.history (op_of g by false w) (op_next g by false w h is (omega (arith, b))) x there) m.0.uses.ops (o.used.there id m.0.uses (at_map uses_in s.views id m.0 me))),
+        (refl, All-weaker (StandsInHistory o.history) (IsLaterThan (op_of g by false w)) (λ x there. later_than o.history (op_of g by false w) (op_next g by false w h is (omega (arith, b))) x there) m.0.uses.ops (o.used.there id m.0.uses (at_map uses_in s.views id m.0 me)), narrow w h is a b),
       )
 
 -- the word of a state that names no entry from n on: it tells that state

@@ -1,5 +1,5 @@
 -- What the steps tell, in terms of a seat of the table.
-use Rattle.std.specs.Prelude.{◌≡◌, ◌⊎◌, ℕ, ◌-◌, ◌*◌, ◌^◌, ◌≤◌, Bool, true, false, ◌==◌, cond, [], ◌∷◌, length, Some, Contains}
+use Rattle.std.specs.Prelude.{◌≡◌, ◌⊎◌, ℕ, ◌-◌, ◌*◌, ◌^◌, ◌<◌, ◌≤◌, Bool, true, false, ◌==◌, cond, [], ◌∷◌, length, Some, All, Contains}
 use Rattle.atomic_table.specs.Table.{Me}
 use Rattle.shr_base.specs.Kept.{Kept}
 use Rattle.shr_base.specs.declared.journals.TreeEntry.{TreeEntry}
@@ -8,7 +8,9 @@ use Rattle.shr_charge.specs.declared.answers.GroupState.TheVariants.{Online, Off
 use Rattle.shr_model.specs.Groups.{Hierarchy, is_later}
 use Rattle.shr_model.specs.TreeJournal.{begin_of, is_made, IsTreeJournal}
 use Rattle.shr_charge.specs.declared.view.View.{View}
-use Rattle.shr_charge.specs.Views.{Uses, TreeView}
+use Rattle.shr_base.specs.declared.journals.UseStep.{UseStep}
+use Rattle.shr_charge.specs.Charging.{IsLaterThan}
+use Rattle.shr_charge.specs.Views.{Uses, TreeView, both_uses, one_use}
 use Rattle.shr_charge.specs.Offlining.{opens, IsTreeSeen}
 use Rattle.shr_charge.specs.Steps.{with_tree_hand}
 
@@ -19,6 +21,10 @@ ChargeSat = Me (Kept TreeEntry) View
 -- the seat with these operations and calls
 abbrev pub with_uses : ChargeSat → Uses → ChargeSat
 with_uses m u = (record m.0 { uses = u }, m.1)
+
+-- the seat gained this operation with so many calls, whose number is above those of its others in the group and has 32 bits
+abbrev pub TellsUse : ChargeSat → UseStep → ℕ → ℕ → ChargeSat → Type 0
+TellsUse m o charges uncharges r = (r ≡ with_uses m (both_uses m.0.uses (one_use o charges uncharges))) × All (IsLaterThan o) m.0.uses.ops × (o.operation < 2 ^ 32)
 
 -- the seat that did and saw this of the tree
 abbrev pub with_tree : ChargeSat → TreeView → ChargeSat

@@ -1,6 +1,6 @@
 //! Charging a group and its ancestors, and taking it back.
 
-ghost use Rattle.std.specs.Prelude.{◌≡◌, ℕ, ◌+◌, ◌*◌, ◌^◌, ◌<◌, ◌≤◌, ◌↔◌, true, false, length, All, IsTrue, pos, ◌<ℤ◌, ◌&&◌, ◌==◌};
+ghost use Rattle.std.specs.Prelude.{◌≡◌, ℕ, ◌+◌, ◌*◌, ◌/◌, ◌%◌, ◌^◌, ◌<◌, ◌≤◌, ◌↔◌, true, false, length, All, IsTrue, pos, ◌<ℤ◌, ◌&&◌, ◌==◌};
 ghost use Rattle.shr_model.specs.Charges.{IsBelow};
 ghost use Rattle.shr_model.specs.Groups.{parent_of, depth_of};
 ghost use Rattle.shr_charge.specs.Charging.{call_count, shape_limit, Charges, UnchargesOne, IsLaterThan};
@@ -23,6 +23,7 @@ const ONE_UP: u64 = 1 << 32;
 
 // The operation that found this usage word.
 fn step_of(group: u16, by: Serial, up: bool, word: u64) -> UseStep
+    requires small { word / 2 ^ 32 + word % 2 ^ 32 < 2 ^ 32 }
     ensures value { result ≡ op_of group by up word }
     ensures small { result.found <ℤ pos (2 ^ 32) }
 {
@@ -30,7 +31,7 @@ fn step_of(group: u16, by: Serial, up: bool, word: u64) -> UseStep
     let downs = word % ONE_UP;
     UseStep {
         group,
-        operation: ups + downs,
+        operation: (ups + downs) as u32,
         up,
         found: ups as i64 - downs as i64,
         by,
@@ -218,7 +219,7 @@ impl Charge {
         self.lower(seat, uses, by, group, over.group, false);
         ChargeAnswer::Over {
             group: over.group,
-            operation: over.operation,
+            operation: over.operation as u64,
             usage: over.found as u32,
         }
     }

@@ -67,8 +67,8 @@ pub fn use_step(rest: Option<&[u8]>) -> Option<UseStep>
     let (up, rest) = word(rest);
     let (found, rest) = word(rest);
     Some(UseStep {
-        operation: number(operation)?,
         found: signed(found)?,
+        operation: number_32(operation)?,
         by: serial(rest)?,
         group: number_16(group)?,
         up: up == b"+".as_slice(),

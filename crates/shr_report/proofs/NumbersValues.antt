@@ -101,7 +101,7 @@ amount_numbered : IsAmountNumbered (record { place = last_place; amount = 2 ^ 64
 amount_numbered = record { place = place_numbered; amount = omega arith }
 
 -- a usage may be negative for a moment
-use_numbered : IsUseNumbered (record { group = 65535; operation = 2 ^ 64 - 1; up = true; found = negsuc 9223372036854775807; by = last_by })
+use_numbered : IsUseNumbered (record { group = 65535; operation = 2 ^ 32 - 1; up = true; found = negsuc 9223372036854775807; by = last_by })
 use_numbered = record { group = omega arith; operation = omega arith; found = (omega (arith, ints), omega (arith, ints)); by = by_numbered }
 
 -- ---- one more than the greatest
@@ -189,6 +189,9 @@ far_pool h = absurd (let low = h.0 in omega (arith, low))
 
 far_jobs : IsReplyNumbered (reply.Swept 4294967296 0) → ⊥
 far_jobs h = absurd (let low = h.0 in omega (arith, low))
+
+far_use : IsUseNumbered (record { group = 0; operation = 2 ^ 32; up = true; found = pos 0; by = second.by 0 }) → ⊥
+far_use h = absurd (let low = h.operation in omega (arith, low))
 
 far_found : IsUseNumbered (record { group = 0; operation = 0; up = true; found = pos (2 ^ 63); by = second.by 0 }) → ⊥
 far_found h = absurd (let low = h.found.1 in omega (arith, ints, low))

@@ -269,7 +269,7 @@ pub record IsAmountNumbered (d : PlaceAmount) : Type 0 where
 -- the numbers of a charge; what it found has a sign
 pub record IsUseNumbered (u : UseStep) : Type 0 where
   pub group : IsShort u.group
-  pub operation : IsBitWord u.operation
+  pub operation : IsCountNumber u.operation
   pub found : (neg_ℤ (pos (2 ^ 63)) ≤ℤ u.found) × (u.found <ℤ pos (2 ^ 63))
   pub by : IsSerialNumbered u.by
 

@@ -190,7 +190,7 @@ fn use_step(piece: &mut Piece, rest: usize, step: &UseStep) -> usize
     let start = end_with_command(piece, rest, step.by);
     let start = piece.signed(start, step.found);
     let start = piece.sign(start, step.up);
-    let start = piece.number(start, step.operation);
+    let start = piece.number(start, step.operation as u64);
     let start = piece.number(start, step.group as u64);
     piece.exactly(start, b"use")
 }

@@ -69,7 +69,7 @@ fn add_tables(report: &mut Report) -> Result<(), Fail> {
     for one in [
         step(0, 0, true, -1, by(0, 0)),
         step(0, 1, false, 2, by(0, 1)),
-        step(1, 4294967296, true, -9223372036854775808, last),
+        step(1, 4294967295, true, -9223372036854775808, last),
     ] {
         report.uses.add(one)?;
     }
@@ -115,7 +115,7 @@ bit 0 2 abcdef0000000000\n\
 deferred 0 0 1 18446744073709551615\n\
 use 0 0 + -1 0 0\n\
 use 0 1 - 2 0 1\n\
-use 1 4294967296 + -9223372036854775808 65535 4294967295\n\
+use 1 4294967295 + -9223372036854775808 65535 4294967295\n\
 lookups 0 5\n\
 lookups 1 4294967295\n\
 total 80 81 82 44 3\n\

@@ -82,7 +82,7 @@ pub fn object(alloc: Global, key: &[u8]) -> Result<Object, Fail> {
 }
 
 /// An operation on the usage of a group. Our own.
-pub fn step(group: u16, operation: u64, up: bool, found: i64, by: Serial) -> UseStep {
+pub fn step(group: u16, operation: u32, up: bool, found: i64, by: Serial) -> UseStep {
     UseStep {
         group,
         operation,

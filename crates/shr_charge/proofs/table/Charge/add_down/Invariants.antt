@@ -1,5 +1,5 @@
-use Rattle.shr_charge.proofs.Common.{◌≡◌, false, All, call_count, IsLaterThan, with_uses, op_of, both_uses, one_use}
+use Rattle.shr_charge.proofs.Common.{false, call_count, TellsUse, op_of}
 use Rattle.shr_charge.proofs.table.Charge.add_down.Given as goal
 
 abbrev pub ghosts-add_as : goal.ghosts-add_as
-ghosts-add_as a = record { tells = λ w r. (r ≡ with_uses a.seat.now.me (both_uses a.seat.now.me.0.uses (one_use (op_of a._group a._by false w) 0 (call_count a._first)))) × All (IsLaterThan (op_of a._group a._by false w)) a.seat.now.me.0.uses.ops }
+ghosts-add_as a = record { tells = λ w r. TellsUse a.seat.now.me (op_of a._group a._by false w) 0 (call_count a._first) r }
