@@ -70,7 +70,3 @@ pub unmade_takes : (index : Index) (nodes kids : List Keyed) → IsUnmade index 
 unmade_takes Few nodes kids not strangers = unique_behind nodes kids strangers kids refl
 unmade_takes (Made names) nodes kids not strangers = absurd (not names refl)
 unmade_takes GivenUp nodes kids not strangers = tt
-
-pub none_is : (found : Option ℕ) → is_some found ≡ false → found ≡ None
-none_is None not = refl
-none_is (Some k) not = absurd (cc)

@@ -136,11 +136,6 @@ pub is_made : (now : Bool) → (now ≡ false → ⊥) → now ≡ true
 is_made true left = refl
 is_made false left = absurd (left refl)
 
--- and not where it can't be that it is
-pub not_made : (made : Bool) → (made ≡ true → ⊥) → made ≡ false
-not_made true left = absurd (left refl)
-not_made false left = refl
-
 pub ok_true : {E : Type 0} (now : Bool) → ◌≡◌ {A = Result Bool E} (Ok now) (Ok true) → now ≡ true
 ok_true true is = refl
 ok_true false is = absurd (cc)

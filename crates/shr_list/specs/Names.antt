@@ -21,7 +21,7 @@ name_in n = name_by n.1
 
 -- the print of a name
 unfoldable pub print_of : ℕ → List ℕ → ℕ
-print_of birth key = (finish (write initial key) + birth) % 2 ^ 64
+print_of birth key = (finish (write initial key) % 2 ^ 32 + birth) % 2 ^ 32
 
 -- the node under a print
 abbrev pub entry_at : Names → ℕ → Option ℕ

@@ -23,6 +23,9 @@ use std::alloc::Global;
 use std::marker::Model;
 use std::mem::swap;
 
+// A journal of fewer entries grows by one, since most lists take one or two.
+const FEW: usize = 4;
+
 // What is in the box.
 #[derive(Drop)]
 struct Inside {
@@ -105,6 +108,7 @@ impl Contents {
         self.make()?;
         match &mut self.inside {
             None => Err(Memory),
+            Some(inside) if inside.entries.len() < FEW => inside.entries.reserve_exact(1),
             Some(inside) => inside.entries.reserve(1),
         }
     }

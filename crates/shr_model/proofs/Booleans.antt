@@ -1,5 +1,7 @@
 -- Lemmas on truth values and what depends on one that several crates cite.
 use Rattle.shr_model.proofs.Common.{◌≡◌, Bool, true, false, refl, ap, ◌&&◌, ◌≢◌, ℕ, arith, sym, ◌≤◌, cond, not, ◌||◌, ◌==◌, nat_tests, T, suc, ◌<◌, nat_le, nat_lt}
+use Rattle.std.specs.Prelude.{Option, Some, None}
+use Rattle.std.specs.Option.{is_some}
 
 pub or_true : (a b : Bool) → b ≡ false → (a || not b) ≡ true
 or_true true b e = refl
@@ -67,3 +69,7 @@ not_true false e = refl
 pub no_test : (b : Bool) → (b ≡ true → ⊥) → b ≡ false
 no_test true h = absurd (h refl)
 no_test false h = refl
+
+pub none_unless : {A : Type 0} (o : Option A) → is_some o ≡ false → o ≡ None
+none_unless None e = refl
+none_unless (Some x) e = cc

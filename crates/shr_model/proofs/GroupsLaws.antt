@@ -143,7 +143,7 @@ IsTree-push parents p tree lt =
         let last = parent_of-pushed parents p in
         subst (λ (n : ℕ). parent_of (parents ++ p ∷ []) n < n) is (omega (arith, last, lt))
 
-range_more : (n : ℕ) → range_with_len 0 (n + 1) ≡ range_with_len 0 n ++ n ∷ []
+pub range_more : (n : ℕ) → range_with_len 0 (n + 1) ≡ range_with_len 0 n ++ n ∷ []
 range_more n = sym (map-id (range_with_len 0 (n + 1))) ∙ map-range_with_len_more (λ (i : ℕ). i) 0 n n (omega arith) ∙ ap (λ (xs : List ℕ). xs ++ n ∷ []) (map-id (range_with_len 0 n))
 
 -- two tests that agree on each number below a bound keep the same of these

@@ -19,13 +19,15 @@ use std::marker::Model;
 // A key has 32 bits: there are so many.
 const KEYS: usize = 1 << 32;
 
-// Makes room for this many more nodes, and for no others where there is none yet, since most lists
-// hold one object at most.
+// A list of fewer nodes grows by as many as it wants, since most lists hold one object or two.
+const FEW: usize = 4;
+
+// Makes room for this many more nodes, and for no others while they are few.
 fn make_room(nodes: &mut Slab<Node>, more: usize) -> Result<(), AllocError>
     ensures room { OnOk result (HasRoomFor nodes.new more) }
     ensures kept { nodes.new ≡ record nodes.old { capacity = nodes.new.capacity } }
 {
-    if nodes.capacity() == 0 {
+    if nodes.capacity() < FEW {
         nodes.reserve_exact(more)
     } else {
         nodes.reserve(more)

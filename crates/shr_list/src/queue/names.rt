@@ -19,23 +19,24 @@ use std::hash::{FoldHasher, Hasher};
 /// the list has objects.
 ///
 /// A name both of whose prints other names have gets no place here, and its list gives the index
-/// up. Both have to be hit at once, the first of 64 bits and the second of 128: keys of one first
+/// up. Both have to be hit at once, the first of 32 bits and the second of 128: keys of one first
 /// print are soon made, but as far as is known some 2^64 of them have to be tried before two have
 /// one second print too. Our own.
 #[derive(Drop)]
 pub struct Names {
-    prints: HashMap<u64, u32>,
+    prints: HashMap<u32, u32>,
     clashes: Clashes,
 }
 
 // A number that is the same for the same name.
 #[tactic(auto, unfolding(crate::specs::Names::print_of))]
-fn print_of(birth: u16, key: &Text) -> u64
+fn print_of(birth: u16, key: &Text) -> u32
     ensures { result ≡ print_of birth key.now }
 {
     let mut hasher = FoldHasher::default();
     hasher.write(key.bytes());
-    hasher.finish().wrapping_add(birth as u64)
+    let hash = hasher.finish() % (1 << 32);
+    (hash as u32).wrapping_add(birth as u32)
 }
 
 impl Names {

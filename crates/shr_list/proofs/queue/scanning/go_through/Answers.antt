@@ -3,9 +3,10 @@ use Rattle.shr_base.specs.declared.objects.LruStatus.{LruStatus}
 use Rattle.shr_list.specs.Scanning.{IsLeftAlone}
 use Rattle.shr_list.proofs.Slots.{kept_itself, kept_without, kept_rotated, keys_whole}
 use Rattle.shr_list.proofs.Fitting.{on_err}
-use Rattle.shr_list.proofs.Scans.{IsScanning, node_here, scan_past, scan_spent, scan_stopped, scan_skipped, scan_removed, scan_rotated, freed_here, is_made, not_made, ok_true, err_ok, was_not, room_made}
+use Rattle.shr_list.proofs.Scans.{IsScanning, node_here, scan_past, scan_spent, scan_stopped, scan_skipped, scan_removed, scan_rotated, freed_here, is_made, ok_true, err_ok, was_not, room_made}
 use Rattle.shr_list.proofs.queue.scanning.go_through.Goals as goal
 use Rattle.shr_list.proofs.queue.scanning.go_through.Goals.{in-Removed, in-Skip, in-Rotate}
+use Rattle.shr_model.proofs.Booleans.{no_test}
 
 pub loop-met-init : goal.loop-met-init
 loop-met-init c = record { whole = c.head-at.ensures.whole; scanning = search rules; began = c.head-at.ensures.whole; untouched = λ e. refl; room = λ e. absurd (cc); none = λ e. search rules; kept = kept_itself c.args.queue.now.nodes }
@@ -49,7 +50,7 @@ push-requires c =
 
 pub returns-in_err-roomy-clause-kept : goal.returns-in_err-roomy-clause-kept
 returns-in_err-roomy-clause-kept c =
-    on_err c.from_residual.result _ (c.loop-met.invariant.untouched (not_made c.loop-met.roomy (λ m. err_ok _ (sym c.in_err-roomy.was ∙ (c.make_room.ensures.same m).1))))
+    on_err c.from_residual.result _ (c.loop-met.invariant.untouched (no_test c.loop-met.roomy (λ m. err_ok _ (sym c.in_err-roomy.was ∙ (c.make_room.ensures.same m).1))))
 
 pub returns-in_err-roomy-clause-keys : goal.returns-in_err-roomy-clause-keys
 returns-in_err-roomy-clause-keys c = keys_whole c.args.queue.now c.loop-met.queue c.loop-met.invariant.began c.loop-met.invariant.whole c.loop-met.invariant.kept

@@ -1,5 +1,6 @@
 use Rattle.shr_list.proofs.Common.{◌≡◌, ◌<◌, ◌∙◌, sym, subst, arith, rules, false, is_some, None, Name, New, Index, AddsName, IsIndexed, KnowsNames, in_nodes}
-use Rattle.shr_list.proofs.Known.{made_gains, unmade_gains, none_is}
+use Rattle.shr_list.proofs.Known.{made_gains, unmade_gains}
+use Rattle.shr_model.proofs.Booleans.{none_unless}
 use Rattle.shr_list.proofs.queue.index.Index.admit.Goals as goal
 
 pub returns-in_default : goal.returns-in_default
@@ -7,7 +8,7 @@ returns-in_default c =
     let name : Name = (c.args.birth, c.args.key.now) in
     let nodes = c.args.links.now.nodes in
     let off : is_some c.find.result ≡ false = search rules in
-    let none : in_nodes nodes name ≡ None = sym c.find.ensures ∙ none_is c.find.result off in
+    let none : in_nodes nodes name ≡ None = sym c.find.ensures ∙ none_unless c.find.result off in
     let room : 0 < c.reserve.new.self.spare = omega (arith, c.in_ok-reserve.ensures.spare) in
     record {
       told = rw c.reserve.ensures.nodes (none, room, unmade_gains c.args.self.now nodes name c.reserve.new.self.vacant c.in_default.not-Made c.requires none);
