@@ -1,6 +1,7 @@
 //! The words of a line behind the first, for each kind of line.
 
-ghost use Rattle.std.specs.Prelude.{◌≡◌, ◌≤◌, [], ◌∷◌, Ok};
+ghost use Rattle.std.specs.Prelude.{◌≡◌, ◌≤◌, [], ◌∷◌, Ok, IfOk, true};
+ghost use Rattle.shr_model.specs.Paths.{is_path};
 ghost use Rattle.shr_words.specs.Classes.{Gives, words_left, items_said, N, L, W, policy_place, flag_place};
 ghost use Rattle.shr_script.specs.Lines.{classes, verb_classes, key_classes, most_ids};
 ghost use Rattle.shr_script.specs.Said.{said_state};
@@ -50,8 +51,9 @@ pub fn group_words<'a>(
     later: bool,
     rest: Option<&'a [u8]>,
 ) -> Result<(&'a [u8], Option<u32>), Code>
-    ensures { Gives (λ x. W x.0.now ∷ L x.1 ∷ []) result
+    ensures reads { Gives (λ x. W x.0.now ∷ L x.1 ∷ []) result
         (items_said (classes (said_state said.now) (Group later)) (words_left rest.entry)) }
+    ensures path { IfOk result (λ x. is_path x.0.now ≡ true) }
 {
     let (path, rest) = path(rest)?;
     let (limit, rest) = limit(rest)?;

@@ -98,3 +98,19 @@ fn each_limit_is_reached_and_not_passed(rt: HostRuntime) -> Result<(), AllocErro
     }
     Ok(())
 }
+
+#[test]
+fn a_word_that_names_no_group_is_told_by_what_it_is(rt: HostRuntime) -> Result<(), AllocError> {
+    let alloc = rt.alloc();
+    let rows: [(&[u8], Code); 4] = [
+        (b"put /b 0 dentry k1 =v1\n", Code::UnknownGroup),
+        (b"put /a/b 0 dentry k1 =v1\n", Code::UnknownGroup),
+        (b"put /a/ 0 dentry k1 =v1\n", Code::BadPath),
+        (b"put a 0 dentry k1 =v1\n", Code::BadPath),
+    ];
+    for (line, code) in rows {
+        let bytes = with_line(alloc, 6, line)?;
+        assert_eq!(rt; refusal(alloc, bytes.as_slice()), Some((6, code)));
+    }
+    Ok(())
+}

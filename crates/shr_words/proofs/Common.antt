@@ -13,5 +13,5 @@ pub use Rattle.shr_model.specs.Paths.{all_parts}
 pub use Rattle.shr_model.specs.Pieces.{differs, is_part_of, left, pieces}
 pub use Rattle.shr_model.specs.Words.{is_between, is_name_byte, is_part, is_value, is_visible}
 pub use Rattle.shr_words.specs.Classes.{Item, KeyTest, Listed, Marked, N, NameTest, Number, PathTest, Plain, Test, Valued, W, Word, found_or, is_digit, number_said, place_of, ◌>>=◌}
-pub use Rattle.shr_words.specs.Runs.{AllPassBetween, IsDigit, IsPathTaken, cut_at, path_taken, taken_of}
+pub use Rattle.shr_words.specs.Runs.{AllPassBetween, IsDigit, cut_at, taken_of}
 pub use lib.Lanes.{chunk}

@@ -1,6 +1,7 @@
 -- A set of words in order is their list.
 use Rattle.shr_words.proofs.Common.{◌≡◌, ℕ, suc, ◌+◌, Bool, true, false, cond, List, [], ◌∷◌, ◌++◌, length, map, Option, Some, None, refl, ap, arith, Bor, bytes_eq, option_map, nat_lt, nat_tests, Word, position, position_or_len, list_any, map_push}
 use Rattle.shr_words.specs.Classes.{place_of}
+use Rattle.shr_words.specs.declared.names.Whole.{Whole}
 
 one_on : (m n : ℕ) → nat_lt (1 + m) (suc n) ≡ nat_lt m n
 one_on m n = grind (arith, nat_tests)
@@ -51,10 +52,13 @@ module _ {K : Type 0} (word : K → Word) where
       → after ≡ cond (list_any (λ r. bytes_eq (word w) (word r)) ks) ks (ks ++ w ∷ []) → map word after ≡ map word ks ++ word w ∷ []
   inserted_last w ks after h e = rw (e, none_is (word w) ks h) (map_push word ks w)
 
-abbrev now_of : Bor (List ℕ) → List ℕ
-now_of r = r.now
+abbrev bytes_of : Whole → List ℕ
+bytes_of w = w.bytes.now
+
+abbrev whole : Bor (List ℕ) → Whole
+whole w = record { bytes = w }
 
 -- a word that isn't in a set is added behind the others
-pub goes_last : (w : Bor (List ℕ)) (ks after : List (Bor (List ℕ))) → place_of w.now (map now_of ks) ≡ None
-    → after ≡ cond (list_any (λ r. bytes_eq w.now r.now) ks) ks (ks ++ w ∷ []) → map now_of after ≡ map now_of ks ++ w.now ∷ []
-goes_last w ks after h e = inserted_last now_of w ks after h e
+pub goes_last : (w : Bor (List ℕ)) (ks after : List Whole) → place_of w.now (map bytes_of ks) ≡ None
+    → after ≡ cond (list_any (λ v. bytes_eq w.now v.bytes.now) ks) ks (ks ++ record { bytes = w } ∷ []) → map bytes_of after ≡ map bytes_of ks ++ w.now ∷ []
+goes_last w ks after h e = inserted_last bytes_of (whole w) ks after h e

@@ -3,8 +3,7 @@ use Rattle.std.specs.Prelude.{◌≡◌, ℕ, ◌+◌, ◌==◌, if◌then◌els
 use Rattle.std.specs.Int.{w64, trailing_zeros}
 use Rattle.std.specs.List.{list_all}
 use Rattle.shr_base.specs.declared.scripts.Code.{Code}
-use Rattle.shr_base.specs.declared.scripts.Code.TheVariants.{BadText, BadPath}
-use Rattle.shr_model.specs.Paths.{is_path}
+use Rattle.shr_base.specs.declared.scripts.Code.TheVariants.{BadText}
 use Rattle.shr_model.specs.Pieces.{pieces}
 use Rattle.shr_words.specs.Classes.{◌>>=◌, Word, taken}
 
@@ -34,11 +33,3 @@ cut_at n bytes =
 -- the next word is the digit of n, and these are behind it
 abbrev pub IsDigit : ℕ → List Word → List Word → Type 0
 IsDigit n behind ws = (n < 10) × (taken ws ≡ Ok ((48 + n) ∷ [], behind))
-
--- the next word, where it is a path, or BadPath
-abbrev pub path_taken : List Word → Result (Word × List Word) Code
-path_taken ws = taken ws >>= λ w. if is_path w.0 then Ok w else Err BadPath
-
--- the next word is this one, with these behind it, and it is a path
-abbrev pub IsPathTaken : Word × List Word → List Word → Type 0
-IsPathTaken w ws = (taken ws ≡ Ok w) × (is_path w.0 ≡ true)

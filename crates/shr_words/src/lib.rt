@@ -3,6 +3,7 @@
 
 pub mod bytes;
 pub mod cursor;
+pub mod groups;
 pub mod names;
 pub mod paths;
 mod runs;

@@ -1,16 +1,18 @@
 //! The next word of a line, of each class.
 
-ghost use Rattle.std.specs.Prelude.{◌≡◌, true, false, ◌+◌, ◌≤◌, ◌<◌, length, slice_index_or, min, IfOk, IfSome};
+ghost use Rattle.std.specs.Prelude.{◌≡◌, true, false, ◌+◌, ◌≤◌, ◌<◌, length, slice_index_or, min, IfOk, IfSome, if◌then◌else◌};
 ghost use Rattle.std.specs.List.{list_all};
 ghost use Rattle.std.specs.Str.Parse.{digits_value};
 ghost use Rattle.shr_words.specs.Classes.{Gives, taken, ended, words_left, item_at, N, L, W, Number, Limit, is_digit, is_numeral, number_spelled, Plain, PathTest, NameTest, KeyTest, Valued, Chosen, Policies, Kinds, Starts, Walks, PoolKinds, policy_place, flag_place, Listed, Marked};
-ghost use Rattle.shr_words.specs.Runs.{taken_of, path_taken, cut_at, IsDigit, IsPathTaken};
+ghost use Rattle.shr_words.specs.Runs.{taken_of, cut_at, IsDigit};
+ghost use Rattle.shr_model.specs.Paths.{is_path};
 ghost use Rattle.shr_model.specs.Pieces.{pieces};
 ghost use Rattle.shr_model.specs.Words.{is_visible, is_name_byte};
-ghost use Rattle.shr_base.specs.declared.scripts.Code.TheVariants.{UnknownGroup, UnknownCache};
+ghost use Rattle.shr_base.specs.declared.scripts.Code.TheVariants.{BadPath, UnknownGroup, UnknownCache};
 
 use crate::bytes::has_length;
 use crate::cursor::next;
+use crate::groups::Paths;
 use crate::names::Names;
 use crate::paths::is_path;
 use crate::runs::{name_len, visible_len};
@@ -65,40 +67,6 @@ fn name_word(rest: Option<&[u8]>) -> Result<(&[u8], Option<&[u8]>), Code>
     match rest {
         Some(bytes) => cut_at(bytes, name_len(bytes)),
         None => Err(Code::Missing),
-    }
-}
-
-// A path of one part, with what is behind it: most are such.
-#[tactic(auto, using(crate::proofs::PathLaws::one_part_is))]
-#[inline(always)]
-fn one_part(bytes: &[u8]) -> Option<(&[u8], Option<&[u8]>)>
-    ensures { IfSome result (λ x. IsPathTaken (x.0.now, words_left x.1) (pieces 32 bytes.now)) }
-{
-    if bytes.len() < 2 || bytes[0] != b'/' {
-        return None;
-    }
-    match cut_at(bytes, name_len(&bytes[1..]) + 1) {
-        Ok((word, behind)) if has_length(word, 2, 33) => Some((word, behind)),
-        _ => None,
-    }
-}
-
-// The next word, where it is a path.
-#[tactic(auto, unfolding(crate::specs::Classes::taken, shr_model::specs::Pieces::left))]
-#[inline(always)]
-fn path_word(rest: Option<&[u8]>) -> Result<(&[u8], Option<&[u8]>), Code>
-    ensures { Gives (λ x. (x.0.now, words_left x.1)) result (path_taken (words_left rest.entry)) }
-{
-    if let Some(bytes) = rest {
-        if let Some(found) = one_part(bytes) {
-            return Ok(found);
-        }
-    }
-    let (word, rest) = word(rest)?;
-    if is_path(word) {
-        Ok((word, rest))
-    } else {
-        Err(Code::BadPath)
     }
 }
 
@@ -198,12 +166,18 @@ pub fn limit(rest: Option<&[u8]>) -> Result<(Option<u32>, Option<&[u8]>), Code>
 }
 
 /// A path. Our own.
-#[tactic(auto, using(crate::proofs::PathLaws::path_item))]
+#[tactic(auto, unfolding(crate::specs::Classes::item_at, crate::specs::Classes::text_of, crate::specs::Classes::passes))]
 pub fn path(rest: Option<&[u8]>) -> Result<(&[u8], Option<&[u8]>), Code>
-    ensures { Gives (λ x. (W x.0.now, words_left x.1)) result (item_at (Plain PathTest)
+    ensures reads { Gives (λ x. (W x.0.now, words_left x.1)) result (item_at (Plain PathTest)
         (words_left rest.entry)) }
+    ensures path { IfOk result (λ x. is_path x.0.now ≡ true) }
 {
-    path_word(rest)
+    let (word, rest) = word(rest)?;
+    if is_path(word) {
+        Ok((word, rest))
+    } else {
+        Err(Code::BadPath)
+    }
 }
 
 /// A name. Our own.
@@ -254,18 +228,31 @@ pub fn text(rest: Option<&[u8]>) -> Result<(&[u8], Option<&[u8]>), Code>
     }
 }
 
+// What is wrong with a word that is no declared path.
+#[inline(never)]
+fn no_group(word: &[u8]) -> Code
+    ensures { result ≡ (if is_path word.now then UnknownGroup else BadPath) }
+{
+    if is_path(word) {
+        Code::UnknownGroup
+    } else {
+        Code::BadPath
+    }
+}
+
 /// The number of a group that was declared. Our own.
-#[tactic(auto, using(crate::proofs::PathLaws::group_item))]
+#[tactic(auto, unfolding(crate::specs::Classes::item_at, crate::specs::Classes::listed_of, crate::specs::Classes::passes))]
 #[inline(always)]
-pub fn group<'a>(rest: Option<&'a [u8]>, groups: &Names) -> Result<(u16, Option<&'a [u8]>), Code>
+pub fn group<'a>(rest: Option<&'a [u8]>, groups: &Paths) -> Result<(u16, Option<&'a [u8]>), Code>
     ensures reads { Gives (λ x. (N x.0, words_left x.1)) result
         (item_at (Listed PathTest UnknownGroup groups.now) (words_left rest.entry)) }
     ensures within { IfOk result (λ x. x.0 < 256) }
 {
-    let (word, rest) = path_word(rest)?;
+    let (word, rest) = word(rest)?;
+    // Only where none is found the parts of the word are looked at.
     match groups.place(word) {
         Some(group) => Ok((group, rest)),
-        None => Err(Code::UnknownGroup),
+        None => Err(no_group(word)),
     }
 }
 
@@ -301,7 +288,7 @@ pub fn is_marked(marks: &[bool], place: u16) -> bool
 #[tactic(auto, using(crate::proofs::ItemLaws::marked_is))]
 pub fn marked_group<'a>(
     rest: Option<&'a [u8]>,
-    groups: &Names,
+    groups: &Paths,
     marks: &[bool],
 ) -> Result<(u16, Option<&'a [u8]>), Code>
     ensures reads { Gives (λ x. (N x.0, words_left x.1)) result
