@@ -1,9 +1,11 @@
 -- How often walks and tries call to charge and to uncharge.
-use Rattle.shr_reclaim.proofs.Common.{◌≡◌, ℕ, zero, suc, ◌+◌, ◌^◌, ◌<◌, List, [], ◌∷◌, length, Bool, true, false, refl, ap, subst, ◌∙◌, ⊎_elim, arith, cond, Some, None, Serial, WalkAnswer, ChargeAnswer, Uses, Shared, Walk, OneGives, WorkerState, Work, Does, WalkGives, RootGives, WalkMade, RootMade, IsWalked, IsRootWalked, Visit, AreVisited, walk_for, IsChargeTried, charge_work, ◌||◌, nat_le, counted, spent_by}
+use Rattle.shr_reclaim.proofs.Common.{◌≡◌, ℕ, zero, suc, ◌+◌, ◌^◌, ◌<◌, List, [], ◌∷◌, length, Bool, true, false, refl, ap, subst, ◌∙◌, ⊎_elim, arith, cond, Some, None, Serial, WalkAnswer, ChargeAnswer, Uses, Shared, Walk, OneGives, WorkerState, Work, Does, WalkGives, RootGives, WalkMade, RootMade, IsMade, IsWalked, IsRootWalked, Visit, AreVisited, walk_for, IsChargeTried, charge_work, ◌||◌, nat_le, counted, spent_by}
 use Rattle.std.proofs.lemmas.Bool.Decides.{nat_tests}
 use Rattle.shr_base.specs.declared.replies.Spent.{Spent}
 use Rattle.shr_base.specs.declared.replies.Spent.TheVariants as spent
 use Rattle.shr_base.specs.declared.walks.WalkAnswer.TheVariants as answered
+use Rattle.shr_base.specs.declared.walks.Attempt.{Attempt}
+use Rattle.shr_base.specs.declared.walks.MapSeen.{MapSeen}
 
 -- so many calls to charge were made, and those to uncharge stay few
 pub record Calls (n : ℕ) (s t : WorkerState) : Type 0 where
@@ -20,26 +22,19 @@ calls_none : (s : WorkerState) → Calls 0 s s
 calls_none s = record { charges = omega arith; few = λ f. f }
 
 module _ (x : Shared) (walk : Walk) where
-  walked_calls : (whole : Bool) (maps : _) (attempts : _) (s t : WorkerState) → IsWalked x walk whole maps attempts s t → Calls 0 s t
-  walked_calls true maps attempts s t w = calls_of 0 s t w.w w.does w.is.charges
-  walked_calls false maps attempts s t w = calls_of 0 s t w.w w.does w.is.charges
+  noted_calls : (Over : List MapSeen → List Attempt → WorkerState → WorkerState → Type 0) → ((maps : List MapSeen) (attempts : List Attempt) (u v : WorkerState) → Over maps attempts u v → Calls 0 u v) → (a : WalkAnswer) (freed : ℕ) (s t : WorkerState) → IsMade x walk Over a freed s t → Calls 0 s t
+  noted_calls Over over a freed s t m = calls_then 0 0 s m.ended t (over m.maps.items m.attempts.items s m.ended m.walked) (calls_of 0 m.ended t _ m.recorded refl)
 
   made_calls : (whole : Bool) (a : WalkAnswer) (freed : ℕ) (s t : WorkerState) → WalkMade x walk whole a freed s t → Calls 0 s t
-  made_calls whole a freed s t m = calls_then 0 0 s m.begun t (calls_of 0 s m.begun _ m.loaded refl)
-      (calls_then 0 0 m.begun m.ended t (walked_calls whole m.maps.items m.attempts.items m.begun m.ended m.walked) (calls_of 0 m.ended t _ m.recorded refl))
+  made_calls whole a freed s t m = calls_then 0 0 s m.begun t (calls_of 0 s m.begun _ m.loaded refl) (noted_calls (IsWalked x walk whole) (λ maps attempts u v w. calls_of 0 u v w.w w.does w.is.charges) a freed m.begun t m.made)
 
   walk_calls : (a : WalkAnswer) (s t : WorkerState) → WalkGives x walk a s t → Calls 0 s t
   walk_calls (answered.Walked freed) s t m = made_calls true (answered.Walked freed) freed s t m
   walk_calls (answered.Offline entry) s t m = calls_of 0 s t _ m.does refl
   walk_calls (answered.Memory freed) s t m = ⊎_elim (λ none. calls_of 0 s t _ none.1 refl) (λ made. made_calls false (answered.Memory freed) freed s t made) m
 
-  root_walked_calls : (whole : Bool) (attempts : _) (s t : WorkerState) → IsRootWalked x walk whole attempts s t → Calls 0 s t
-  root_walked_calls true attempts s t w = calls_of 0 s t w.w w.does w.is.charges
-  root_walked_calls false attempts s t w = calls_of 0 s t w.w w.does w.is.charges
-
   root_made_calls : (whole : Bool) (a : WalkAnswer) (freed : ℕ) (s t : WorkerState) → RootMade x walk whole a freed s t → Calls 0 s t
-  root_made_calls whole a freed s t m = calls_then 0 0 s m.begun t (calls_of 0 s m.begun _ m.same refl)
-      (calls_then 0 0 m.begun m.ended t (root_walked_calls whole m.attempts.items m.begun m.ended m.walked) (calls_of 0 m.ended t _ m.recorded refl))
+  root_made_calls whole a freed s t m = noted_calls (IsRootWalked x walk whole) (λ maps attempts u v w. calls_of 0 u v w.w w.does w.is.charges) a freed s t m
 
   root_calls : (a : WalkAnswer) (s t : WorkerState) → RootGives x walk a s t → Calls 0 s t
   root_calls (answered.Walked freed) s t m = root_made_calls true (answered.Walked freed) freed s t m

@@ -26,7 +26,7 @@ pub use Rattle.shr_walk.specs.Acting.{Acting, IsSame}
 pub use Rattle.shr_walk.specs.Balances.{OneGives, lacked_memory}
 pub use Rattle.shr_walk.specs.Keeping.{objects_freed, shared_parents, paths_of}
 pub use Rattle.shr_walk.specs.State.{Does, Work, WorkerState, no_work, state_of, then_work}
-pub use Rattle.shr_walk.specs.Walked.{AreParts, IsRecordOf, IsRootWalked, IsWalked, WalkParts, RootGives, RootMade, WalkGives, WalkMade, parts_of}
+pub use Rattle.shr_walk.specs.Walked.{AreParts, IsMade, IsRecordOf, IsRootWalked, IsWalkOver, IsWalked, WalkParts, RootGives, RootMade, WalkGives, WalkMade, parts_of}
 pub use Rattle.shr_walk.specs.declared.seats.Shared.{Shared}
 pub use Rattle.shr_walk.specs.declared.walking.Walk.{Walk}
 pub use Rattle.shr_reclaim.specs.Looping.{AllMade, FirstMade, RefusedThere, admission_of, jobs_on}

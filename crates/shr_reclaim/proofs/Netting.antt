@@ -49,7 +49,7 @@ pub below_not : (limit : Option ℕ) (o : UseStep) → IsBelow limit o → is_re
 below_not None o h = refl
 below_not (Some l) o h = ap (λ (b : Bool). o.up && not b) (is_true (int_lt o.found (pos l)) h.lt) ∙ and_false o.up
 
-over_is : (limit : Option ℕ) (o : UseStep) → o.up ≡ true → (IsBelow limit o → ⊥) → is_refused limit o ≡ true
+pub over_is : (limit : Option ℕ) (o : UseStep) → o.up ≡ true → (IsBelow limit o → ⊥) → is_refused limit o ≡ true
 over_is None o up h = absurd (h tt)
 over_is (Some l) o up h = ap (λ (b : Bool). b && not (int_lt o.found (pos l))) up ∙ ap (λ (b : Bool). not b) (not_true (int_lt o.found (pos l)) (λ t. h record { lt = t }))
 

@@ -1,5 +1,5 @@
 -- What the whole of a charge with its reclaim adds to a worker's state.
-use Rattle.shr_reclaim.proofs.Common.{◌≡◌, ℕ, zero, suc, ◌<◌, List, [], ◌∷◌, ◌++◌, length, map, Bool, true, false, refl, sym, ap, subst, ◌∙◌, inl, inr, ⊎_elim, arith, All, Option, flat_map-append, map-append, All-nil, All-append, All-head, All-tail, UseStep, Serial, WalkAnswer, path_of, Job, AreDowns, IsDown, use_group, Shared, Walk, OneGives, lacked_memory, shared_parents, paths_of, objects_freed, WorkerState, Work, no_work, then_work, Does, WalkGives, RootGives, WalkMade, RootMade, IsWalked, IsRootWalked, does_none, does_then, Visit, IsVisited, AreVisited, VisitHadMemory, walk_for, ◌⊎◌, job_of, WalkParts, IsRecordOf, AreParts, parts_of}
+use Rattle.shr_reclaim.proofs.Common.{◌≡◌, ℕ, zero, suc, ◌<◌, List, [], ◌∷◌, ◌++◌, length, map, Bool, true, false, refl, sym, ap, subst, ◌∙◌, inl, inr, ⊎_elim, arith, All, Option, flat_map-append, map-append, All-nil, All-append, All-head, All-tail, UseStep, Serial, WalkAnswer, path_of, Job, AreDowns, IsDown, use_group, Shared, Walk, OneGives, lacked_memory, shared_parents, paths_of, objects_freed, WorkerState, Work, no_work, then_work, Does, WalkGives, RootGives, WalkMade, RootMade, IsMade, IsWalkOver, IsWalked, IsRootWalked, does_none, does_then, Visit, IsVisited, AreVisited, VisitHadMemory, walk_for, ◌⊎◌, job_of, WalkParts, IsRecordOf, AreParts, parts_of}
 use Rattle.shr_base.specs.declared.objects.Object.{Object}
 use Rattle.shr_base.specs.declared.walks.Attempt.{Attempt}
 use Rattle.shr_base.specs.declared.walks.Outcome.{Outcome}
@@ -38,12 +38,7 @@ module _ (x : Shared) (walk : Walk) where
   found_uncharged : (id : ℕ) (o : Outcome) (first : LookupWord) (more : List Loaded) (held : Option ℕ) (made : List Made) (ops : List UseStep) → Found x walk id o first more held made ops → AreUncharged x walk.by made ops
   found_uncharged id (outcome.Worn seen) first more held made ops h = none_uncharged x walk.by made ops h.3
   found_uncharged id (outcome.Gone n then) first more held made ops h = none_uncharged x walk.by made ops h.1
-  found_uncharged id (outcome.Skip n len version) first more held made ops h = h.by.downs
-  found_uncharged id (outcome.Ran n p) first more held made ops h = h.by.downs
-  found_uncharged id (outcome.Empty n version) first more held made ops h = h.by.downs
-  found_uncharged id (outcome.Cleared n one two) first more held made ops h = h.by.downs
-  found_uncharged id (outcome.RestoredSkip n one len version) first more held made ops h = h.by.downs
-  found_uncharged id (outcome.RestoredRan n one p) first more held made ops h = h.by.downs
+  found_uncharged id o first more held made ops h = h.by.downs
 
   parts_uncharged : (attempts : List Attempt) (p : WalkParts) → AreParts x walk attempts p → AreUncharged x walk.by p.made p.ops
   parts_uncharged [] p h = subst (λ (q : WalkParts). AreUncharged x walk.by q.made q.ops) (sym h) (uncharged_none x walk.by)
@@ -95,21 +90,20 @@ module _ (x : Shared) (walk : Walk) where
   attempts_walked : (maps : List MapSeen) (attempts : List Attempt) (s t : WorkerState) (w : Work) → Does s t w → IsRecordOf x walk maps attempts w → Walked x walk.by [] s t
   attempts_walked maps attempts s t w d is = record { w = w; does = d; charges = is.charges; records = ap (map told_of) is.walks; downs = parts_uncharged x walk attempts (parts_of w) is.parts }
 
-  maps_walked : (whole : Bool) (maps : List MapSeen) (attempts : List Attempt) (s t : WorkerState) → IsWalked x walk whole maps attempts s t → Walked x walk.by [] s t
-  maps_walked true maps attempts s t h = attempts_walked maps attempts s t h.w h.does h.is
-  maps_walked false maps attempts s t h = attempts_walked maps attempts s t h.w h.does h.is
+  over_walked : (whole : Bool) (units ids : List ℕ) (maps : List MapSeen) (attempts : List Attempt) (s t : WorkerState) → IsWalkOver x walk whole units ids maps attempts s t → Walked x walk.by [] s t
+  over_walked whole units ids maps attempts s t h = attempts_walked maps attempts s t h.w h.does h.is
+
+  -- a walk that went on was recorded
+  noted_walked : (Over : List MapSeen → List Attempt → WorkerState → WorkerState → Type 0) → ((maps : List MapSeen) (attempts : List Attempt) (u v : WorkerState) → Over maps attempts u v → Walked x walk.by [] u v)
+      → (a : WalkAnswer) (freed : ℕ) (s t : WorkerState) → IsMade x walk Over a freed s t → Walked x walk.by (told_walk a ∷ []) s t
+  noted_walked Over over a freed s t m = walked_then x walk.by [] (told_walk a ∷ []) s m.ended t (over m.maps.items m.attempts.items s m.ended m.walked) (quiet m.ended t _ (told_walk a ∷ []) m.recorded refl refl refl refl)
 
   made_walked : (whole : Bool) (a : WalkAnswer) (freed : ℕ) (s t : WorkerState) → WalkMade x walk whole a freed s t → Walked x walk.by (told_walk a ∷ []) s t
   made_walked whole a freed s t m = walked_then x walk.by [] (told_walk a ∷ []) s m.begun t (quiet s m.begun _ [] m.loaded refl refl refl refl)
-      (walked_then x walk.by [] (told_walk a ∷ []) m.begun m.ended t (maps_walked whole m.maps.items m.attempts.items m.begun m.ended m.walked) (quiet m.ended t _ (told_walk a ∷ []) m.recorded refl refl refl refl))
-
-  ids_walked : (whole : Bool) (attempts : List Attempt) (s t : WorkerState) → IsRootWalked x walk whole attempts s t → Walked x walk.by [] s t
-  ids_walked true attempts s t h = attempts_walked [] attempts s t h.w h.does h.is
-  ids_walked false attempts s t h = attempts_walked [] attempts s t h.w h.does h.is
+      (noted_walked (IsWalked x walk whole) (λ maps attempts u v h. over_walked whole _ _ maps attempts u v h) a freed m.begun t m.made)
 
   root_walked : (whole : Bool) (a : WalkAnswer) (freed : ℕ) (s t : WorkerState) → RootMade x walk whole a freed s t → Walked x walk.by (told_walk a ∷ []) s t
-  root_walked whole a freed s t m = walked_then x walk.by [] (told_walk a ∷ []) s m.begun t (quiet s m.begun _ [] m.same refl refl refl refl)
-      (walked_then x walk.by [] (told_walk a ∷ []) m.begun m.ended t (ids_walked whole m.attempts.items m.begun m.ended m.walked) (quiet m.ended t _ (told_walk a ∷ []) m.recorded refl refl refl refl))
+  root_walked whole a freed s t m = noted_walked (IsRootWalked x walk whole) (λ maps attempts u v h. over_walked whole _ _ maps attempts u v h) a freed s t m
 
   -- a walk was recorded, or it did nothing for want of memory
   pub record WalkedOnce (a : WalkAnswer) (s t : WorkerState) : Type 0 where

@@ -8,7 +8,8 @@ pub use Rattle.std.proofs.lemmas.List.{append-nil, append_cancel_left, length-ma
 pub use Rattle.std.proofs.lemmas.List.Elements.{All-append, All-cons, All-from_recursion, All-get_or, All-nil, Contains-append_left, Contains-get_or, filter_map-append}
 pub use Rattle.std.proofs.lemmas.Nat.{div-add-mod', mod-pow-add, ones_cat, ones_le_self, pow_pos, zero_from_ones}
 pub use Rattle.std.specs.Int.{bit_at, trailing_zeros, w64}
-pub use Rattle.std.specs.Prelude.{All, Contains, Err, Option, Some, count_ones, eqb, filter_map, flat_map, nat_le, slice_get, sum, unwrap_or, ◌||◌}
+pub use Rattle.std.specs.List.{range_with_len}
+pub use Rattle.std.specs.Prelude.{All, Contains, Err, Option, Some, count_ones, eqb, filter, filter_map, flat_map, nat_le, slice_get, sum, sum_by, unwrap_or, ◌||◌}
 pub use Rattle.shr_base.specs.Kept.{Kept}
 pub use Rattle.shr_base.specs.declared.ends.LookupWord.{LookupWord}
 pub use Rattle.shr_base.specs.declared.journals.Entry.{Entry}
@@ -47,10 +48,13 @@ pub use Rattle.shr_core.specs.declared.seat.Seat.{Seat}
 pub use Rattle.shr_core.specs.declared.view.View.{View}
 pub use Rattle.shr_deferred.specs.Moves.{Moves, both, no_moves}
 pub use Rattle.shr_list.specs.Answers.{scan_entry}
+pub use Rattle.shr_model.specs.Attempts.{is_clearing, is_held, number_of, pass_of}
+pub use Rattle.shr_model.specs.Bits.{is_set, units_of}
 pub use Rattle.shr_model.specs.Groups.{IsHierarchy, IsTree, depth_of, path_of, preorder_of}
 pub use Rattle.shr_model.specs.Pass.{FollowsArithmetic, MadeOf, batch_of, due, total_of}
 pub use Rattle.shr_model.specs.Paths.{parent_path, root_path}
 pub use Rattle.shr_model.specs.Places.{place_number}
+pub use Rattle.shr_model.specs.Prefixes.{IsPrefixOf}
 pub use Rattle.shr_node.specs.Gains.{Gains, Knows, KnowsClosed}
 pub use Rattle.shr_pass.specs.Answers.{CountFits, FreesAtMost, scans_with}
 pub use Rattle.shr_pass.specs.Passes.{EndedBy, IfEmptyPass}
@@ -74,12 +78,12 @@ pub use Rattle.shr_walk.specs.Fresh.{AreFresh, IsFreshAt, Rising}
 pub use Rattle.shr_walk.specs.Keeping.{AllUncharged, IsCountAt, IsScanAt, IsScanOf, Keeps, Uncharged, Walks, born_none, born_then, objects_freed, fresh_earlier, keeps_refl, shared_parents, paths_of, uncharged_none, uncharged_then, uses_same}
 pub use Rattle.shr_walk.specs.ListScans.{FindsUsedUp, HaveRoom, ListScanGives, ListerAnswers, without_visits}
 pub use Rattle.shr_walk.specs.Listing.{AreChargesTold, IsReady, Tells, WornTold, count_at, count_kind, counts_at, ready_stays, scan_at, list_scan_by, scans_at}
-pub use Rattle.shr_walk.specs.Records.{AreLater, AreScannedBy, AreStopped, IsKindByFloor, IsScanMade, cleared_gone, counts_of_outcome, gained_in, passes_in, place_of_walk, set_gone}
+pub use Rattle.shr_walk.specs.Records.{AreLater, AreScannedBy, AreStopped, IsKindByFloor, IsScanMade, cleared_by_outcome, counts_of_outcome, gained_in, is_setting, place_of_walk, set_by_outcome}
 pub use Rattle.shr_walk.specs.Sharing.{IsDeepest, IsShapeOf, IsShared, groups_of}
 pub use Rattle.shr_walk.specs.Shown.{HasShown, IsWalkSeen, PassSeen, WornSeen}
 pub use Rattle.shr_walk.specs.State.{Does, Work, WorkerState, no_work, state_of, then_work}
 pub use Rattle.shr_walk.specs.Visits.{IsCleared, IsSet, IsVisitor, PassMade, RestoreGives, VisitGives, owes_at, visit_moves}
-pub use Rattle.shr_walk.specs.Walked.{AreClear, AreParts, FreedFew, GoesOn, IsCutLast, IsMapCut, IsMapWalkedTo, IsNextBit, IsRecordOf, IsRootCut, IsRootWalked, IsRootWalkedTo, IsUncut, IsWalkCut, IsWalkNumber, IsWalked, IsWalkedTo, WalkParts, RootMade, WalkMade, WalkOffline, cleared_of, counts_of, freed_in_attempt, id_of_attempt, ids_below, ids_shown, is_outcome_cut, map_seen, moves_of, no_parts, number_in, parts_of, record_of, set_bits, set_of, then_parts, map_unit, up_to, walk_work, word_work}
+pub use Rattle.shr_walk.specs.Walked.{AreClear, AreParts, AreTried, AreTriedFirst, Ends, FreedFew, GoesOn, IsCutLast, IsMade, IsNextBit, IsRecordOf, IsRootWalked, IsUncut, IsWalkNumber, IsWalkOver, IsWalked, RootMade, WalkMade, WalkOffline, WalkParts, counts_seen, freed_in, ids_shown, is_outcome_cut, map_seen, moves_made, no_parts, number_in, parts_of, place_of, places_where, record_of, then_parts, walk_work, word_work}
 pub use Rattle.shr_walk.specs.declared.seats.CacheSeat.{CacheSeat}
 pub use Rattle.shr_walk.specs.declared.seats.Seats.{Seats}
 pub use Rattle.shr_walk.specs.declared.seats.Shared.{Shared}

@@ -1,7 +1,8 @@
 -- What a visit comes to whose bit was cleared, by its second pass.
-use Rattle.shr_walk.proofs.Common.{◌≡◌, ℕ, ◌<◌, sym, ap, subst, refl, ◌∙◌, Place, Outcome, place_number, ChargeSeat, View, view_of, with_clear, Count, ScanSeen, ScanAnswer, PassAnswer, List, CacheSeat, Shared, IsReady, IsCleared, IsSet, PassMade, VisitGives, IfEmptyPass, RestoreGives}
+use Rattle.shr_walk.proofs.Common.{◌≡◌, ℕ, ◌<◌, sym, ap, subst, refl, ◌∙◌, Place, Outcome, place_number, ChargeSeat, View, view_of, with_clear, Count, ScanSeen, ScanAnswer, PassAnswer, List, CacheSeat, Shared, IsReady, IsCleared, IsSet, PassMade, VisitGives, IfEmptyPass, RestoreGives, visit_moves}
 use Rattle.shr_charge.specs.Seat as charge
 use Rattle.shr_core.specs.Seats as core
+use Rattle.shr_pass.specs.Passes.{moves_by}
 use Rattle.shr_pass.specs.declared.answers.PassAnswer.TheVariants as pass
 use Rattle.shr_walk.proofs.Window.{Owes, recounted, restored}
 
@@ -34,6 +35,12 @@ module _ (place : Place) (number first : ℕ) where
   owed_restored old s t a cleared (pass.Empty version) o u w b none (e, same) k h = recounted (place_number place) old s t (view_of u.core) a cleared b none k (subst (λ (c : CacheSeat). Owes (view_of c.core) k) same h)
   owed_restored old s t a cleared (pass.Skip len version) o u w b none (e, set) k h = restored (place_number place) old s t (view_of u.core) a cleared b (view_of w.core) set.core k h
   owed_restored old s t a cleared (pass.Ran p) o u w b none (e, set) k h = restored (place_number place) old s t (view_of u.core) a cleared b (view_of w.core) set.core k h
+
+  -- it took and gave what its second pass did
+  pub moves_restored : (answer : PassAnswer) (o : Outcome) (u w : CacheSeat) → RestoreGives place number first answer o u w → moves_by place answer ≡ visit_moves place o
+  moves_restored (pass.Empty version) o u w (e, same) = ap (visit_moves place) (sym e)
+  moves_restored (pass.Skip len version) o u w (e, set) = ap (visit_moves place) (sym e)
+  moves_restored (pass.Ran p) o u w (e, set) = ap (visit_moves place) (sym e)
 
   module _ (kept : CacheSeat → CacheSeat → Type 0) (counts : CacheSeat → List Count) (scans : CacheSeat → List ScanSeen) (told : ScanAnswer → CacheSeat → Type 0) (priority seeks batch : ℕ) where
     abbrev Made : PassAnswer → CacheSeat → CacheSeat → Type 0

@@ -1,12 +1,13 @@
 -- What was shown after what was shown.
-use Rattle.shr_walk.proofs.Common.{◌≡◌, ℕ, ◌<◌, ◌^◌, List, [], ◌∷◌, ◌++◌, sym, ap, subst, arith, Contains, Entry, Place, Spent, Attempt, MapSeen, Outcome, PassRecord, place_number, Each, Begins, Each-append, Each-none, Each-one, Each-weaker, begins_all, begins_more, Uses, nothing, Known, Mapped, groups_in, shape_of, Shape, Knows, IsAttempted, tries_in, work_in, born_none, born_then, place_of_walk, passes_in, WornSeen, PassSeen, WorkerState, Work, no_work, then_work, Does, Shared, Walk, Contains-append_left, HasShown, IsWalkSeen}
+use Rattle.shr_walk.proofs.Common.{◌≡◌, ℕ, ◌<◌, ◌^◌, List, [], ◌∷◌, ◌++◌, sym, ap, subst, arith, Contains, Entry, Place, Spent, Attempt, MapSeen, Outcome, PassRecord, place_number, Each, Begins, Each-append, Each-none, Each-one, begins_all, begins_more, Uses, nothing, Known, Mapped, groups_in, shape_of, Shape, Knows, IsAttempted, tries_in, work_in, born_none, born_then, place_of_walk, Option, None, Some, pass_of, WornSeen, PassSeen, WorkerState, Work, no_work, then_work, Does, Shared, Walk, Contains-append_left, HasShown, IsWalkSeen}
+use Rattle.std.specs.Option.{IfSome}
 use Rattle.shr_base.specs.declared.replies.Spent.TheVariants as spent
 
 -- an attempt without a pass freed nothing
-pub shown_none : (x : Shared) (place : Place) (o : Outcome) (t : WorkerState) → place.id < (shape_of x.core).ids → passes_in o ≡ [] → HasShown x place o [] t
+pub shown_none : (x : Shared) (place : Place) (o : Outcome) (t : WorkerState) → place.id < (shape_of x.core).ids → pass_of o ≡ None → HasShown x place o [] t
 shown_none x place o t inside none = record {
   id = inside;
-  pass = subst (Each (PassSeen x place t)) (sym none) (Each-none (PassSeen x place t));
+  pass = subst (λ (p : Option PassRecord). IfSome p (PassSeen x place t)) (sym none) tt;
   born = born_none (groups_in (shape_of x.core));
 }
 
@@ -26,13 +27,17 @@ module _ (t u : WorkerState) (w : Work) (does : Does t u w) where
     worn = λ s e. worn_later (shape_of x.core) place s (h.worn s e);
   }
 
+  pub told_later : (x : Shared) (place : Place) (o : Option PassRecord) → IfSome o (PassSeen x place t) → IfSome o (PassSeen x place u)
+  told_later x place None h = tt
+  told_later x place (Some p) h = pass_later x place p h
+
 -- what was shown stays so as the worker goes on
 pub seen_later : (x : Shared) (walk : Walk) (maps : List MapSeen) (attempts : List Attempt) (s t u : WorkerState) (v w : Work) → Does t u v → IsWalkSeen x walk maps attempts s t w → IsWalkSeen x walk maps attempts s u w
 seen_later x walk maps attempts s t u v w does h = record {
   ids = h.ids;
   bits = h.bits;
   set = h.set;
-  passes = λ j a at. Each-weaker (PassSeen x (place_of_walk walk a.id) t) (PassSeen x (place_of_walk walk a.id) u) (pass_later t u v does x (place_of_walk walk a.id)) (passes_in a.outcome) (h.passes j a at);
+  passes = λ j a at. told_later t u v does x (place_of_walk walk a.id) (pass_of a.outcome) (h.passes j a at);
   born = h.born;
 }
 
@@ -52,7 +57,7 @@ seen_none x walk s = record {
   ids = Each-none (λ (a : Attempt). a.id < (shape_of x.core).ids);
   bits = Each-none (λ (m : MapSeen). m.bits < 2 ^ 64);
   set = Each-none (λ (m : Mapped). Begins s.core.marks.sets m.set);
-  passes = Each-none (λ (a : Attempt). Each (PassSeen x (place_of_walk walk a.id) s) (passes_in a.outcome));
+  passes = Each-none (λ (a : Attempt). IfSome (pass_of a.outcome) (PassSeen x (place_of_walk walk a.id) s));
   born = born_none (groups_in (shape_of x.core));
 }
 
@@ -63,7 +68,7 @@ seen_then x walk maps more xs ys s t u v w first second a b = let c = seen_later
   ids = Each-append (λ (y : Attempt). y.id < (shape_of x.core).ids) xs ys c.ids d.ids;
   bits = Each-append (λ (m : MapSeen). m.bits < 2 ^ 64) maps more c.bits d.bits;
   set = Each-append (λ (m : Mapped). Begins s.core.marks.sets m.set) v.core.maps w.core.maps c.set d.set;
-  passes = Each-append (λ (y : Attempt). Each (PassSeen x (place_of_walk walk y.id) u) (passes_in y.outcome)) xs ys c.passes d.passes;
+  passes = Each-append (λ (y : Attempt). IfSome (pass_of y.outcome) (PassSeen x (place_of_walk walk y.id) u)) xs ys c.passes d.passes;
   born = born_then (groups_in (shape_of x.core)) v.core.made w.core.made c.born d.born;
 }
 
@@ -74,7 +79,7 @@ seen_map x walk m map s t fits = record {
   ids = Each-none (λ (a : Attempt). a.id < (shape_of x.core).ids);
   bits = Each-one (λ (y : MapSeen). y.bits < 2 ^ 64) m fits;
   set = Each-one (λ (y : Mapped). Begins s.core.marks.sets y.set) (record { map = map; bits = m.bits; set = s.core.marks.sets }) (begins_all s.core.marks.sets);
-  passes = Each-none (λ (a : Attempt). Each (PassSeen x (place_of_walk walk a.id) t) (passes_in a.outcome));
+  passes = Each-none (λ (a : Attempt). IfSome (pass_of a.outcome) (PassSeen x (place_of_walk walk a.id) t));
   born = born_none (groups_in (shape_of x.core));
 }
 
@@ -85,6 +90,6 @@ seen_attempt x walk a s t h = record {
   ids = Each-one (λ (y : Attempt). y.id < (shape_of x.core).ids) a h.shown.id;
   bits = Each-none (λ (m : MapSeen). m.bits < 2 ^ 64);
   set = Each-none (λ (m : Mapped). Begins s.core.marks.sets m.set);
-  passes = Each-one (λ (y : Attempt). Each (PassSeen x (place_of_walk walk y.id) t) (passes_in y.outcome)) a h.shown.pass;
+  passes = Each-one (λ (y : Attempt). IfSome (pass_of y.outcome) (PassSeen x (place_of_walk walk y.id) t)) a h.shown.pass;
   born = h.shown.born;
 }

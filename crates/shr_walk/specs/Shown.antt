@@ -1,5 +1,6 @@
 -- What a walk showed beside what its record says: what its passes told is known when it has ended.
 use Rattle.std.specs.Prelude.{◌≡◌, ◌⊎◌, ℕ, ◌+◌, ◌<◌, ◌≤◌, ◌^◌, List, length}
+use Rattle.std.specs.Option.{IfSome}
 use Rattle.shr_base.specs.declared.journals.Entry.{Entry}
 use Rattle.shr_base.specs.declared.objects.Object.{Object}
 use Rattle.shr_base.specs.declared.places.Place.{Place}
@@ -10,6 +11,7 @@ use Rattle.shr_base.specs.declared.walks.Ending.TheVariants as ending
 use Rattle.shr_base.specs.declared.walks.MapSeen.{MapSeen}
 use Rattle.shr_base.specs.declared.walks.Outcome.{Outcome}
 use Rattle.shr_base.specs.declared.walks.PassRecord.{PassRecord}
+use Rattle.shr_model.specs.Attempts.{pass_of}
 use Rattle.shr_model.specs.Items.{HasJournal}
 use Rattle.shr_model.specs.Places.{place_number}
 use Rattle.shr_seats.specs.Views.{Each}
@@ -21,7 +23,7 @@ use Rattle.shr_core.specs.Seats.{shape_of}
 use Rattle.shr_seats.specs.declared.shape.Shape.{Shape}
 use Rattle.shr_node.specs.Gains.{Knows, KnowsClosed}
 use Rattle.shr_walk.specs.Keeping.{objects_freed}
-use Rattle.shr_walk.specs.Records.{place_of_walk, passes_in}
+use Rattle.shr_walk.specs.Records.{place_of_walk}
 use Rattle.shr_walk.specs.State.{WorkerState, Work}
 use Rattle.shr_walk.specs.declared.seats.Shared.{Shared}
 use Rattle.shr_walk.specs.declared.walking.Walk.{Walk}
@@ -60,7 +62,7 @@ pub record PassSeen (x : Shared) (place : Place) (t : WorkerState) (p : PassReco
 -- known, and each object that it freed was born in a group of the tree
 pub record HasShown (x : Shared) (place : Place) (o : Outcome) (made : List Made) (t : WorkerState) : Type 0 where
   pub id : place.id < (shape_of x.core).ids
-  pub pass : Each (PassSeen x place t) (passes_in o)
+  pub pass : IfSome (pass_of o) (PassSeen x place t)
   pub born : AreBorn (groups_in (shape_of x.core)) (objects_freed made)
 
 -- what these maps and attempts showed, by the states before and after them and the work between
@@ -71,6 +73,6 @@ pub record IsWalkSeen (x : Shared) (walk : Walk) (maps : List MapSeen) (attempts
   -- each map stands with all bits that the worker had set before
   pub set : Each (λ (m : Mapped). Begins s.core.marks.sets m.set) w.core.maps
   -- what a pass told is known after the walk
-  pub passes : Each (λ (a : Attempt). Each (PassSeen x (place_of_walk walk a.id) t) (passes_in a.outcome)) attempts
+  pub passes : Each (λ (a : Attempt). IfSome (pass_of a.outcome) (PassSeen x (place_of_walk walk a.id) t)) attempts
   -- each object that was freed was born in a group of the tree
   pub born : AreBorn (groups_in (shape_of x.core)) (objects_freed w.core.made)
