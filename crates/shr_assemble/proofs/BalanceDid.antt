@@ -1,5 +1,6 @@
 -- A `balance` did what the report asks.
-use Rattle.shr_assemble.proofs.Common.{◌≡◌, ℕ, zero, suc, ◌+◌, ◌<◌, ◌≤◌, ◌⊎◌, inl, inr, ⊎_elim, Bool, true, false, ◌&&◌, List, [], ◌∷◌, ◌++◌, length, length-append, map, take, drop, sym, refl, ap, subst, ◌∙◌, arith, append_assoc, eq-eqb, ne_eqb, slice_get, Some, not, ◌==◌, if◌then◌else◌, Option, AllByRecursion, length-map, take-append-drop, map-append, none-some, Serial, Answered, Command, Balance, WalkAnswer, WalkRecord, preorder_of, Job, job, job_of, parents_of, Groups, HadMemory, WorkerState, no_work, Does, Shared, Walk, next_walk, unfound, walk_reply, in_take, balance_reply, all_groups, IsBalanced, IsBalanceCut, BalanceGives, Balances}
+use Rattle.shr_assemble.proofs.Common.{◌≡◌, ℕ, zero, suc, ◌+◌, ◌<◌, ◌≤◌, ◌⊎◌, inl, inr, ⊎_elim, Bool, true, false, ◌&&◌, List, [], ◌∷◌, ◌++◌, length, length-append, map, take, drop, sym, refl, ap, subst, ◌∙◌, arith, append_assoc, eq-eqb, ne_eqb, slice_get, Some, not, ◌==◌, if◌then◌else◌, Option, AllByRecursion, length-map, take-append-drop, map-append, none-some, Serial, Answered, Command, Balance, WalkAnswer, WalkRecord, preorder_of, Job, job, job_of, parents_of, Groups, HadMemory, WorkerState, no_work, Does, Shared, Walk, next_walk, unfound, walk_reply, in_take, balance_reply, all_groups, IsBalanced, IsBalanceCut, BalanceGives, Balances, Step, DidJobs, MayBeOffline, KnowsOnline, Reply, None}
+use Rattle.shr_assemble.proofs.QuietSteps.{meets_none}
 use Rattle.shr_base.specs.declared.replies.Reply.TheVariants as reply
 use Rattle.shr_base.specs.declared.walks.WalkAnswer.TheVariants as answered
 use Rattle.shr_model.specs.Groups.{preorder_within}
@@ -11,7 +12,7 @@ use Rattle.shr_assemble.proofs.WalkingGives.{freed_none}
 use Rattle.shr_assemble.proofs.WalkingCharges.{rec_of, tree_is}
 use Rattle.shr_assemble.proofs.WalkingChain.{IsThereJob, gave_all, walked_one, all_had, all_cut, told_by, any_cut, front_had, front_pairs}
 use Rattle.shr_assemble.proofs.WalkingDid.{Stepping, walks_did}
-use Rattle.shr_assemble.proofs.WalkingSteps.{walked_still}
+use Rattle.shr_assemble.proofs.WalkingSteps.{walked_still, step_of}
 
 some_group : (n : ℕ) (parents : List ℕ) (g : ℕ) → 0 < n → 0 < length (preorder_within n parents g)
 unfolding preorder_within
@@ -52,6 +53,10 @@ module _ (x : Shared) (table : IsTableOf x) (by : Serial) (node priority : ℕ) 
   jobs_there [] there h = tt
   jobs_there (g ∷ gs) there h = (record { node = there; group = h 0 g refl }, jobs_there gs there (λ i k e. h (suc i) k e))
 
+  -- it asks for no group, and tells of none
+  unasked : (r : Reply) (g : ℕ) → None ≡ Some g → 0 < g → MayBeOffline r ⊎ KnowsOnline s.tree g
+  unasked r g e above = absurd (none-some g e)
+
   whole : (freed : ℕ) (g : IsBalanced x walk_of freed s t) → node < x.script.nodes → Stepping x by Command_of (unfound (reply.Walked freed)) s t
   whole freed g there =
       let one = walked_one x walk_of (all_groups x) g.answers s t g.walked in
@@ -61,18 +66,10 @@ module _ (x : Shared) (table : IsTableOf x) (by : Serial) (node priority : ℕ) 
       let long : length all.work.walks ≡ length (preorder_of (parents_of x.script) 0) = sym (length-map all.work.walks job_of) ∙ (ap (λ (l : List Job). length l) jobs ∙ length-map (preorder_of (parents_of x.script) 0) (λ (k : ℕ). job k node priority nofs)) in record {
         work = all.work;
         does = brings_of all.walked.does;
-        did = walks_did x table by Command_of (reply.Walked freed) s t all.work all.walked all.freed all.born all.charges all.uncharges record {
-          free = λ k. refl;
-          no_decl = refl;
-          reply = λ family. tt;
-          no_cite = refl;
-          no_told = refl;
-          no_made = refl;
-          asked = record { rounds = []; refused = refl; made = jobs; told = ap reply.Walked (g.sum_freed ∙ sym had.sum_told) ∙ reply_whole (length (preorder_of (parents_of x.script) 0)) all.work.walks long had.uncut; cut = front_pairs all.work.walks (front_had all.work.walks had.uncut); cut_told = λ e. absurd (let f : false ≡ true = sym had.uncut ∙ e in cc) };
-          online = λ k e lt. absurd (none-some k e);
-          meets = record { unmade = λ k e. absurd (cc); met = λ k e. absurd (none-some k e) };
-          cause = tt;
-        };
+        did = walks_did x table by Command_of (reply.Walked freed) s t all.work all.walked all.freed all.born all.charges all.uncharges (
+            let z : Step = step_of x.script by Command_of (unfound (reply.Walked freed)) s t all.work in
+            let asked : DidJobs x.script z (Balance node priority nofs) = record { rounds = []; refused = refl; made = jobs; told = ap reply.Walked (g.sum_freed ∙ sym had.sum_told) ∙ reply_whole (length (preorder_of (parents_of x.script) 0)) all.work.walks long had.uncut; cut = front_pairs all.work.walks (front_had all.work.walks had.uncut); cut_told = λ e. absurd (let f : false ≡ true = sym had.uncut ∙ e in cc) } in
+            assumption (asked, unasked (reply.Walked freed), meets_none x.script z (λ k e. absurd (cc)) (λ k e. none-some k e)));
       }
 
   cut : (freed : ℕ) (g : IsBalanceCut x walk_of freed s t) → node < x.script.nodes → Stepping x by Command_of (unfound (reply.WalkMemory freed)) s t
@@ -88,18 +85,10 @@ module _ (x : Shared) (table : IsTableOf x) (by : Serial) (node priority : ℕ) 
       let b = ap (λ (l : List ℕ). length l) (take-append-drop (g.n + 1) (all_groups x)) in let d = length-append (take (g.n + 1) (all_groups x)) (drop (g.n + 1) (all_groups x)) in let e = ap (λ (l : List ℕ). length l) same_groups in omega (arith, a, b, d, e) in record {
         work = all.work;
         does = brings_of all.walked.does;
-        did = walks_did x table by Command_of (reply.WalkMemory freed) s t all.work all.walked all.freed all.born all.charges all.uncharges record {
-          free = λ k. refl;
-          no_decl = refl;
-          reply = λ family. tt;
-          no_cite = refl;
-          no_told = refl;
-          no_made = refl;
-          asked = record { rounds = []; refused = refl; made = begins_prefix (map job_of all.work.walks) (c.begins.0 ++ jobs_for (drop (g.n + 1) (all_groups x))) (jobs_for (preorder_of (parents_of x.script) 0)) due; told = ap reply.WalkMemory (g.sum_freed ∙ sym c.sum_told) ∙ reply_cut (length (preorder_of (parents_of x.script) 0)) all.work.walks (⊎_elim (λ lt. inl (omega (arith, lt, few))) (λ d. inr d) c.short); cut = front_pairs all.work.walks c.front; cut_told = λ e. tt };
-          online = λ k e lt. absurd (none-some k e);
-          meets = record { unmade = λ k e. absurd (cc); met = λ k e. absurd (none-some k e) };
-          cause = tt;
-        };
+        did = walks_did x table by Command_of (reply.WalkMemory freed) s t all.work all.walked all.freed all.born all.charges all.uncharges (
+            let z : Step = step_of x.script by Command_of (unfound (reply.WalkMemory freed)) s t all.work in
+            let asked : DidJobs x.script z (Balance node priority nofs) = record { rounds = []; refused = refl; made = begins_prefix (map job_of all.work.walks) (c.begins.0 ++ jobs_for (drop (g.n + 1) (all_groups x))) (jobs_for (preorder_of (parents_of x.script) 0)) due; told = ap reply.WalkMemory (g.sum_freed ∙ sym c.sum_told) ∙ reply_cut (length (preorder_of (parents_of x.script) 0)) all.work.walks (⊎_elim (λ lt. inl (omega (arith, lt, few))) (λ d. inr d) c.short); cut = front_pairs all.work.walks c.front; cut_told = λ e. tt } in
+            assumption (asked, unasked (reply.WalkMemory freed), meets_none x.script z (λ k e. absurd (cc)) (λ k e. none-some k e)));
       }
 
   -- without room for the order of the groups nothing was done
@@ -107,18 +96,10 @@ module _ (x : Shared) (table : IsTableOf x) (by : Serial) (node priority : ℕ) 
   nothing_done d = record {
     work = no_work;
     does = brings_of d;
-    did = walks_did x table by Command_of (reply.WalkMemory 0) s t no_work (walked_still x.script by Command_of (unfound (reply.WalkMemory 0)) [] 0 0 [] s t d) (freed_none x by) tt refl refl record {
-      free = λ k. refl;
-      no_decl = refl;
-      reply = λ family. tt;
-      no_cite = refl;
-      no_told = refl;
-      no_made = refl;
-      asked = record { rounds = []; refused = refl; made = refl; told = reply_cut (length (preorder_of (parents_of x.script) 0)) [] (inl (some_group (length (parents_of x.script)) (parents_of x.script) 0 (omega arith))); cut = front_pairs [] (front_had [] refl); cut_told = λ e. tt };
-      online = λ k e lt. absurd (none-some k e);
-      meets = record { unmade = λ k e. absurd (cc); met = λ k e. absurd (none-some k e) };
-      cause = tt;
-    };
+    did = walks_did x table by Command_of (reply.WalkMemory 0) s t no_work (walked_still x.script by Command_of (unfound (reply.WalkMemory 0)) [] 0 0 [] s t d) (freed_none x by) tt refl refl (
+        let z : Step = step_of x.script by Command_of (unfound (reply.WalkMemory 0)) s t no_work in
+        let asked : DidJobs x.script z (Balance node priority nofs) = record { rounds = []; refused = refl; made = refl; told = reply_cut (length (preorder_of (parents_of x.script) 0)) [] (inl (some_group (length (parents_of x.script)) (parents_of x.script) 0 (omega arith))); cut = front_pairs [] (front_had [] refl); cut_told = λ e. tt } in
+        assumption (asked, unasked (reply.WalkMemory 0), meets_none x.script z (λ k e. absurd (cc)) (λ k e. none-some k e)));
   }
 
   did_answer : (answer : WalkAnswer) → BalanceGives x walk_of answer s t → node < x.script.nodes → Stepping x by Command_of (unfound (walk_reply answer)) s t

@@ -1,14 +1,12 @@
 -- The bit word of a place among those that a finished core prints.
 use Rattle.shr_assemble.proofs.Common.{◌≡◌, ℕ, zero, suc, ◌<◌, Bool, true, false, ◌&&◌, cond, List, [], ◌∷◌, ◌++◌, refl, ap, subst, ◌∙◌, arith, eqb, eq-eqb, ne_eqb, find, Option, Some, None, eqb-true, dite, ℕ_discrete, MapEnd, Place, unit_of, map_number, has_bit, find_back}
+use Rattle.std.proofs.lemmas.List.Folds.{find-append}
 use Rattle.shr_core.specs.Ending.{units_below, groups_below, nodes_below}
 use Rattle.shr_model.proofs.Booleans.{both_and}
 
 -- what is found in front stays found, and where nothing is, the rest is searched
 found_front : {A : Type 0} (p : A → Bool) (xs ys : List A) (x : A) → find p xs ≡ Some x → find p (xs ++ ys) ≡ Some x
-found_front {A} p [] ys x some = absurd (none_some some) where
-  none_some : None ≡ Some x → ⊥
-  none_some h = cc
-found_front {A} p (y ∷ xs) ys x some = (elim (p y) as (λ (b : Bool). (find p xs ≡ Some x → find p (xs ++ ys) ≡ Some x) → cond b (Some y) (find p xs) ≡ Some x → cond b (Some y) (find p (xs ++ ys)) ≡ Some x) [ true ↦ λ later h. h | false ↦ λ later h. later h ]) (found_front p xs ys x) some
+found_front p xs ys x some = rw (find-append p xs ys, some) refl
 
 both_none : {A : Type 0} (p : A → Bool) (xs ys : List A) → find p xs ≡ None → find p ys ≡ None → find p (xs ++ ys) ≡ None
 both_none p xs ys a b = find_back p xs ys a ∙ b

@@ -1,10 +1,11 @@
 -- A worker's map has each bit that an earlier command of it set where it filled a list, unless it was cleared since, of a run.
-use Rattle.shr_assemble.proofs.Common.{◌≡◌, ◌≢◌, ◌⊎◌, inl, inr, ⊎_elim, ℕ, zero, suc, ◌+◌, ◌<◌, Bool, true, false, cond, List, [], ◌∷◌, ◌++◌, sym, refl, ap, subst, ◌∙◌, arith, append_assoc, eq-eqb, ne_eqb, slice_get, Some, ◌==◌, append-nil, map-append, same_Some, none-some, dite, ℕ_discrete, Script, Has, map_has, Deed, by_seat, part, AreSo, among, Moment, moment_next, IsSo, Event, Mapped, counted, made, looked, loaded, turned, put_back, raised, cleared, mapped, WorkerState, Report, IsSetLast, IsRun, Step, IsAmong, steps_of, AreStepsChained, BringsWork, cleared_in, maps_in, at_start}
+use Rattle.shr_assemble.proofs.Common.{◌≡◌, ◌≢◌, ◌⊎◌, inl, inr, ⊎_elim, ℕ, zero, suc, ◌+◌, ◌<◌, Bool, true, false, cond, List, [], ◌∷◌, ◌++◌, sym, refl, ap, subst, ◌∙◌, arith, append_assoc, eq-eqb, ne_eqb, slice_get, Some, ◌==◌, append-nil, map-append, same_Some, none-some, dite, ℕ_discrete, Script, Has, map_has, Deed, by_seat, part, AreSo, among, Moment, moment_next, IsSo, Event, Mapped, raised, cleared, mapped, WorkerState, Report, IsSetLast, IsRun, Step, IsAmong, steps_of, AreStepsChained, BringsWork, cleared_in, maps_in, at_start}
+use Rattle.shr_assemble.proofs.LineParts.{part_has}
+use Rattle.shr_model.proofs.Members.{Has_left, Has_right}
 use Rattle.shr_seats.specs.Lines as lines
 use Rattle.shr_assemble.proofs.LineOrder.{of_kind}
 use Rattle.shr_assemble.proofs.Gathering.{work_of}
 use Rattle.shr_assemble.proofs.Listed.{among_has, has_among, either}
-use Rattle.shr_assemble.proofs.LineParts.{has_right}
 
 -- ---- lists
 -- what stands before an element and behind it
@@ -17,11 +18,6 @@ found_at : {A : Type 0} (xs : List A) (x : A) → Has xs x → IsAt xs x
 found_at [] x h = absurd h
 found_at {A} (y ∷ xs) x (inl e) = record { front = []; back = xs; is = ap (λ (z : A). z ∷ xs) e }
 found_at {A} (y ∷ xs) x (inr h) = let t = found_at xs x h in record { front = y ∷ t.front; back = t.back; is = ap (λ (l : List A). y ∷ l) t.is }
-
-Has_front : {A : Type 0} (xs ys : List A) (x : A) → Has xs x → Has (xs ++ ys) x
-Has_front [] ys x h = absurd h
-Has_front (y ∷ xs) ys x (inl e) = inl e
-Has_front (y ∷ xs) ys x (inr h) = inr (Has_front xs ys x h)
 
 -- ---- a line and the deeds of one seat
 -- a line is cut where the deeds of a seat are
@@ -61,11 +57,6 @@ cut_at j (y ∷ line) before after d e = by_cases (λ first. cut_at j line first
     before_is = behind false is r.front ∙ r.before_is;
     after_is = r.after_is;
   }
-
-part_has : (d : Deed Event) (j : ℕ) (line : List (Deed Event)) → d.seat ≡ j → Has line d → Has (part j line) d
-part_has d j [] own h = absurd h
-part_has d j (y ∷ line) own (inl e) = subst (λ (b : Bool). Has (cond b (y ∷ part j line) (part j line)) d) (sym (eq-eqb y.seat j (ap (λ (z : Deed Event). z.seat) e ∙ own))) (inl e)
-part_has d j (y ∷ line) own (inr h) = (elim (y.seat == j) as (λ (b : Bool). Has (part j line) d → Has (cond b (y ∷ part j line) (part j line)) d) [ true ↦ λ has. inr has | false ↦ λ has. has ]) (part_has d j line own h)
 
 -- ---- moments
 so_at : (ids : ℕ) (t : Moment) (front back : List (Deed Event)) (d : Deed Event) → AreSo moment_next (λ u y. IsSo ids u y.act) t (front ++ d ∷ back) → IsSo ids (lines.state_after moment_next t front) d.act
@@ -152,7 +143,7 @@ done_by t mine k y d c none at has brings =
 cleared_of : (acts : List Event) (k : ℕ) → Has acts (cleared k) → Has (among cleared_in acts) k
 cleared_of [] k h = absurd h
 cleared_of (e ∷ acts) k (inl is) = subst (λ (y : Event). Has (cleared_in y ++ among cleared_in acts) k) (sym is) (inl refl)
-cleared_of (e ∷ acts) k (inr h) = has_right (cleared_in e) (among cleared_in acts) k (cleared_of acts k h)
+cleared_of (e ∷ acts) k (inr h) = Has_right (cleared_in e) (among cleared_in acts) k (cleared_of acts k h)
 
 by_act : (j : ℕ) (acts : List Event) (d : Deed Event) → Has (by_seat j acts) d → Has acts d.act
 by_act j acts d h = let t = map_has (λ (e : Event). record { seat = j; act = e }) acts d h in subst (Has acts) (ap (λ (z : Deed Event). z.act) t.2) t.1
@@ -254,7 +245,7 @@ module _ (s : Script) (r : Report) (workers : List (List Step)) (run : IsRun s r
         (λ more. either between.more start_of_y d more
         (λ amid. let b = between.each d amid in record { by = worker; number = b.0.k; step = b.0.step; at = b.0.at; has = cleared_step mine d place is b.0; since = inr b.1 })
         (λ late.
-        let in_y : Has (by_seat y.before.core.seat brings.core.did) d = subst (λ (l : List (Deed Event)). Has l d) (sym (by_seat_at y.before.core.seat brings.core.did map_at.front map_at.back (mapped m) map_at.is)) (Has_front start_of_y (loading ∷ by_seat y.before.core.seat map_at.back) d late) in
+        let in_y : Has (by_seat y.before.core.seat brings.core.did) d = subst (λ (l : List (Deed Event)). Has l d) (sym (by_seat_at y.before.core.seat brings.core.did map_at.front map_at.back (mapped m) map_at.is)) (Has_left start_of_y (loading ∷ by_seat y.before.core.seat map_at.back) d late) in
         let b : IsDoneBy mine d = record { k = later; step = y; at = at_y; brings = brings; has = in_y } in
         record { by = worker; number = later; step = y; at = at_y; has = cleared_step mine d place is b; since = inr lt }))
 
@@ -273,4 +264,4 @@ module _ (s : Script) (r : Report) (workers : List (List Step)) (run : IsRun s r
         dite (ℕ_discrete d.0.seat j)
         (λ same. of_own d.0 (subst (λ (l : List (Deed Event)). Has l d.0) inner.before_is (part_has d.0 j inner.front same d.1)) d.2)
         (λ other. of_other d.0 (subst (λ (l : List (Deed Event)). Has l d.0) (sym (outer.is ∙ ap (λ (l : List (Deed Event)). outer.front ++ setting ∷ l) inner.is))
-        (has_right outer.front (setting ∷ (inner.front ++ loading ∷ inner.back)) d.0 (inr (Has_front inner.front (loading ∷ inner.back) d.0 d.1)))) d.2 other)
+        (Has_right outer.front (setting ∷ (inner.front ++ loading ∷ inner.back)) d.0 (inr (Has_left inner.front (loading ∷ inner.back) d.0 d.1)))) d.2 other)

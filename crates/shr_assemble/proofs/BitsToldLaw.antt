@@ -1,5 +1,6 @@
 -- The bits that are told are of ids that are there, have a reason, and aren't lost, of a run.
-use Rattle.shr_assemble.proofs.Common.{◌≡◌, ◌≢◌, ◌⊎◌, inl, inr, ⊎_elim, ℕ, zero, suc, ◌+◌, ◌*◌, ◌<◌, Bool, true, false, not, ◌||◌, List, [], ◌∷◌, ◌++◌, length, take, map, sym, refl, ap, subst, ◌∙◌, arith, eq-eqb, ne_eqb, slice_get, Option, Some, None, filter, flat_map, ◌==◌, nat_lt, bit_at, AllByRecursion, range_with_len, IsSomeAnd, cases_Bool, same_Some, none-some, dite, ℕ_discrete, MapEnd, Entry, Add, Look, Drop, Pin, Scan, MovedIn, Closed, Drained, Object, Place, Serial, Script, Attempt, MapSeen, Outcome, WalkRecord, is_held, counts_of, is_set, lists_moved_at, IsOutcome, first_moved, later_moved, step, place_number, is_place, unit_of, bit_of, place_in, clearings_of, each_weaker, Has, Has_map, map_has, Has_flat_map, flat_map_has, Has_filter, filter_has, each_has, Contains_from_Has, is_place_itself, times, only, some_term, only_no, place_at, map_number, map_of, Made, Report, IsLawfulWalk, IsCountRight, IsOutcomeOf, cache_of, parents_of, serial_of, journals_of, items_before, all_walks, walk_at, IsThere, FillsPlace, Covers, Fills, IsListFilled, IsMarked, all_sets, IsRun, Step, IsAmong, gathered, steps_of, is_setting, set_by_walk, at_some, some_at, ids_seen, set_bits_of, ids_in, is_since, was_cleared_since, is_set_again, set_again_in, WasFilled, HasReason, bit_place, AreBitsTold}
+use Rattle.shr_assemble.proofs.Common.{◌≡◌, ◌≢◌, ◌⊎◌, inl, inr, ⊎_elim, ℕ, suc, ◌+◌, ◌*◌, ◌<◌, Bool, true, false, not, ◌||◌, List, [], ◌∷◌, ◌++◌, length, take, map, sym, refl, ap, subst, ◌∙◌, arith, eq-eqb, ne_eqb, slice_get, Option, Some, None, filter, flat_map, ◌==◌, nat_lt, bit_at, AllByRecursion, range_with_len, IsSomeAnd, cases_Bool, dite, ℕ_discrete, MapEnd, Entry, Add, MovedIn, Object, Place, Serial, Script, Attempt, MapSeen, Outcome, WalkRecord, is_held, counts_of, is_set, lists_moved_at, IsOutcome, first_moved, step, place_number, is_place, unit_of, bit_of, place_in, clearings_of, each_weaker, Has, Has_map, map_has, Has_flat_map, flat_map_has, Has_filter, filter_has, each_has, Contains_from_Has, is_place_itself, times, only, some_term, only_no, place_at, map_number, map_of, Made, Report, IsLawfulWalk, IsCountRight, IsOutcomeOf, cache_of, parents_of, serial_of, journals_of, items_before, all_walks, walk_at, IsThere, FillsPlace, Covers, Fills, IsListFilled, IsMarked, all_sets, IsRun, Step, IsAmong, gathered, steps_of, is_setting, set_by_walk, at_some, some_at, ids_seen, set_bits_of, ids_in, is_since, was_cleared_since, is_set_again, set_again_in, WasFilled, HasReason, bit_place, AreBitsTold, items_from_push}
+use Rattle.shr_assemble.proofs.FirstIds.{take_next}
 use Rattle.std.proofs.Common.{lt-ltb}
 use Rattle.shr_base.specs.declared.walks.GoneThen.TheVariants as gone
 use Rattle.shr_base.specs.declared.walks.Outcome.TheVariants as outcome
@@ -23,10 +24,7 @@ each_id P unit bits h = all_has P (ids_in unit bits) (λ id has.
 -- ---- a list that an entry filled
 items_next : (moved : List (List Object)) (items : List Object) (es : List Entry) (n : ℕ) (e : Entry) → slice_get es n ≡ Some e
     → items_from moved items (take (suc n) es) ≡ step (first_moved (moved_from moved (take n es))) (items_from moved items (take n es)) e
-unfolding items_from moved_from
-items_next moved items [] n e at = absurd (none-some e at)
-items_next moved items (x ∷ es) zero e at = ap (step (first_moved moved) items) (same_Some x e at)
-items_next moved items (x ∷ es) (suc n) e at = items_next (later_moved x moved) (step (first_moved moved) items x) es n e at
+items_next moved items es n e at = ap (items_from moved items) (take_next es n e at) ∙ items_from_push moved items (take n es) e
 
 some_behind : (xs ys : List Object) → 0 < length xs → 0 < length (xs ++ ys)
 some_behind [] ys lt = absurd (omega (arith, lt))

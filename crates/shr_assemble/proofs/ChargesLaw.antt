@@ -1,5 +1,6 @@
 -- The law of charges, of a run.
-use Rattle.shr_assemble.proofs.Common.{◌≡◌, ℕ, zero, suc, ◌+◌, ◌<◌, ◌≤◌, ◌⊎◌, inl, inr, ⊎_elim, Bool, true, false, cond, List, [], ◌∷◌, length, drop, map, sym, refl, ap, subst, ◌∙◌, arith, eqb, eq-eqb, slice_get, Some, None, Option, find, filter, sum_by, pos, ◌-ℤ◌, MatchOption, AllByRecursion, enumerate_from, IsSomeAnd, and_parts, and_from, eqb-true, cases_Bool, same_Some, none-some, slice_get_past, UseStep, Entry, Add, Look, Drop, Pin, Scan, MovedIn, Closed, Drained, Object, Place, Serial, Command, Put, Get, Del, SetPin, Script, ups, usage_after, is_by, ops_by, IsDownNext, AreTakenBack, is_serial, is_put, items_at, is_at_or_above, born_below, freed_by, by_of, Has, filter_has, total, place_at, Made, Report, parents_of, limit_of, journals_of, places_of, serial_of, command_at, commands_of, reply_at, uses_at, entry_by, at, id_found, IsDownBetween, charged, Step, IsAmong, steps_of, IsPut, ops_at, IsTenantEntry, IsDrainedByCommand, MayMakeEntry, all_made, IsRun, all_zero, at_some, by_slices, count_total, some_at, sum_total, freeings_at, ways_of, is_of, freed_in_command, freed_below, no_test}
+use Rattle.shr_assemble.proofs.Common.{◌≡◌, ℕ, zero, suc, ◌+◌, ◌<◌, ◌≤◌, ◌⊎◌, inl, inr, ⊎_elim, Bool, true, false, cond, List, [], ◌∷◌, length, drop, map, sym, refl, ap, subst, ◌∙◌, arith, eqb, eq-eqb, slice_get, Some, None, Option, find, filter, sum_by, pos, ◌-ℤ◌, MatchOption, AllByRecursion, enumerate_from, IsSomeAnd, and_parts, and_from, eqb-true, cases_Bool, same_Some, none-some, slice_get_past, UseStep, Entry, Add, Drop, Scan, Drained, Object, Place, Serial, Command, Put, Get, Del, SetPin, Script, ups, usage_after, is_by, ops_by, IsDownNext, AreTakenBack, is_serial, is_put, items_at, is_at_or_above, born_below, freed_by, by_of, Has, filter_has, total, place_at, Made, Report, parents_of, limit_of, journals_of, places_of, serial_of, command_at, commands_of, reply_at, uses_at, entry_by, at, id_found, IsDownBetween, charged, Step, IsAmong, steps_of, IsPut, ops_at, IsTenantEntry, IsDrainedByCommand, MayMakeEntry, all_made, IsRun, all_zero, at_some, by_slices, count_total, some_at, sum_total, freeings_at, ways_of, is_of, freed_in_command, freed_below, no_test}
+use Rattle.shr_model.proofs.Weights.{serial_itself}
 use Rattle.shr_assemble.specs.Charges as did
 use Rattle.shr_assemble.proofs.Gathering.{each_among, has_step, total_same_on, made_stands, maker, reply_is}
 use Rattle.shr_assemble.proofs.Listed.{all_among, op_of, op_by, ops_are, ops_none, among_has}
@@ -155,9 +156,6 @@ module _ (s : Script) (r : Report) (workers : List (List Step)) (run : IsRun s r
   serial_other : (a b : Serial) → (a ≡ b → ⊥) → is_serial a b ≡ false
   serial_other a b ne = no_test (is_serial a b) (λ h. let t = and_parts (eqb a.worker b.worker) (eqb a.command b.command) h in let w = eqb-true a.worker b.worker t.0 in let c = eqb-true a.command b.command t.1 in ne (λ i. record { worker = w i; command = c i }))
 
-  serial_same : (a : Serial) → is_serial a a ≡ true
-  serial_same a = and_from (eqb a.worker a.worker) (eqb a.command a.command) (eq-eqb a.worker a.worker refl) (eq-eqb a.command a.command refl)
-
   born_none : (g : ℕ) (l : List Object) → l ≡ [] → born_below (parents_of s) g l ≡ 0
   born_none g l e = ap (born_below (parents_of s) g) e
 
@@ -175,7 +173,7 @@ module _ (s : Script) (r : Report) (workers : List (List Step)) (run : IsRun s r
   -- of the command itself all does
   own_weighs : (g worker k : ℕ) (x : Step) → slice_get (steps_of workers worker) k ≡ Some x → total (weight_by x.by g) x.work.core.made ≡ sum_by (did.made_freed_below (parents_of s) g) x.work.core.made
   own_weighs g worker k x at = same_totals (weight_by x.by g) (did.made_freed_below (parents_of s) g) x.work.core.made (λ j m e. ⊎_elim
-      (λ own. ap (λ o. cond (is_of x.by o) (born_below (parents_of s) g (freed_by m.items m.entry)) 0) own ∙ ap (λ b. cond b (born_below (parents_of s) g (freed_by m.items m.entry)) 0) (serial_same x.by))
+      (λ own. ap (λ o. cond (is_of x.by o) (born_below (parents_of s) g (freed_by m.items m.entry)) 0) own ∙ ap (λ b. cond b (born_below (parents_of s) g (freed_by m.items m.entry)) 0) (serial_itself x.by))
       (λ none. cond_zero (is_of x.by (entry_by r m.entry)) (born_below (parents_of s) g (freed_by m.items m.entry)) (born_none g (freed_by m.items m.entry) none) ∙ sym (born_none g (freed_by m.items m.entry) none))
       (entry_own worker k x m m.entry at (j, some_at x.work.core.made j m e) refl (may_make worker k x j m at e)))
       ∙ sym (sum_total (did.made_freed_below (parents_of s) g) x.work.core.made)

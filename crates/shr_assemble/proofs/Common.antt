@@ -221,11 +221,11 @@ pub use Rattle.shr_walk.specs.Balances.{AreWalked, BalanceGives, HadMemory, IsBa
 pub use Rattle.shr_walk.specs.Fresh.{AreFresh, IsFreshAt, Rising}
 pub use Rattle.shr_walk.specs.Keeping.{IsScanOf, objects_freed, paths_of, shared_parents}
 pub use Rattle.shr_walk.specs.Listing.{list_scan_by, scan_at}
-pub use Rattle.shr_walk.specs.Records.{AreLater, AreScannedBy, AreStopped, IsScanMade, IsScannedBy, cleared_by_outcome, counts_of_outcome, passes_in, place_of_walk, set_by_outcome}
+pub use Rattle.shr_walk.specs.Records.{AreLater, AreScannedBy, AreStopped, IsScanMade, IsScannedBy, counts_of_outcome, is_setting, place_of_walk}
 pub use Rattle.shr_walk.specs.Sharing.{IsShared}
 pub use Rattle.shr_walk.specs.Shown.{IsWalkSeen, PassSeen, WornSeen}
 pub use Rattle.shr_walk.specs.State.{Does, Work, WorkerState, no_work, then_work}
-pub use Rattle.shr_walk.specs.Walked.{AreParts, GoesOn, IsCutLast, IsPart, IsRecordOf, IsUncut, IsWalkNumber, RootGives, RootMade, WalkGives, WalkMade, WalkParts, cleared_of, freed_in_attempt, id_of_attempt, ids_shown, is_cut_by, is_outcome_cut, map_unit, moves_of, number_in, parts_of, place_of, record_of, set_bits, set_of, up_to, walk_work}
+pub use Rattle.shr_walk.specs.Walked.{AreParts, AreTriedFirst, GoesOn, IsCutLast, IsMade, IsPart, IsRecordOf, IsRootWalked, IsUncut, IsWalkNumber, IsWalkOver, IsWalked, RootGives, RootMade, WalkGives, WalkMade, WalkParts, counts_seen, ids_shown, is_cut_by, is_outcome_cut, moves_made, number_in, parts_of, place_of, record_of, walk_work}
 pub use Rattle.shr_walk.specs.declared.seats.Shared.{Shared}
 pub use Rattle.shr_walk.specs.declared.walking.Walk.{Walk}
 pub use Rattle.shr_walk.proofs.Scanned.{not_spent}
@@ -251,7 +251,7 @@ pub use Rattle.shr_assemble.specs.Putting.{AreEnds, IsPutTogether}
 pub use Rattle.shr_assemble.specs.Runs.{AreDeferred, AreIsolating, AreRunJournals, AreRunSteps, AreUsesAndTree, IsMapOf, IsMarked, IsNewWorker, IsPrinted, IsRun, IsShownIn, IsSized, IsStep, all_attempts, all_cleared, all_entries, all_gives, all_made, all_ops, all_sets, all_takes, all_turns}
 pub use Rattle.shr_assemble.specs.Steps.{AreStepsChained, BringsWork, Grows, IsAmong, IsPut, Step, gathered, worker_state_after, steps_in, steps_of}
 pub use Rattle.shr_assemble.specs.Sweeps.{ArePoppedOnce, AreSwept, IsOfPops, all_popped, job_walked}
-pub use Rattle.shr_assemble.specs.Walks.{AreWalksFor, DidJobs, DidRounds, DidRoundsOf, DidSweep, DidWalk, DidWalks, IsRecord, cleared_by_walk, counted_in, is_setting, mapped_in, set_by_walk, map_word}
+pub use Rattle.shr_assemble.specs.Walks.{AreWalksFor, DidJobs, DidRounds, DidRoundsOf, DidSweep, DidWalk, DidWalks, IsRecord, cleared_by_walk, counted_in, map_word, mapped_in, set_by_walk}
 pub use Rattle.shr_assemble.specs.Worn.{AreBoth, AreChargesWorn, IsListWorn, IsOneMore, IsWornBy, KnowsList}
 pub use Rattle.shr_assemble.specs.declared.logs.WorkerLog.{WorkerLog}
 pub use Rattle.shr_assemble.specs.declared.noting.Noted.{Noted}

@@ -1,5 +1,6 @@
 -- The counts that a report tells of a worker are those of its steps, in the order in which it made them.
-use Rattle.shr_assemble.proofs.Common.{◌≡◌, ℕ, zero, suc, ◌+◌, ◌<◌, ◌≤◌, List, [], ◌∷◌, ◌++◌, length, length-append, map, take, sym, refl, ap, subst, ◌∙◌, arith, append_assoc, slice_get, Some, flat_map, flat_map-append, map-append, same_Some, none-some, some, some-ne-none, get_elem?, Serial, Script, Attempt, WalkRecord, Count, counts_of, place_number, place_in, Deed, by_seat, acts_of, part, Begins, among, seen_in, Event, Counted, counted, made, looked, loaded, turned, put_back, raised, cleared, mapped, WorkerState, Report, serial_of, Counting, countings_of, IsRun, Step, steps_of, AreStepsChained, BringsWork, counted_in, some_at, countings_in, among-append}
+use Rattle.shr_assemble.proofs.Common.{◌≡◌, ℕ, zero, suc, ◌+◌, ◌<◌, ◌≤◌, List, [], ◌∷◌, ◌++◌, length, length-append, map, take, sym, refl, ap, subst, ◌∙◌, arith, append_assoc, slice_get, Some, flat_map, flat_map-append, map-append, same_Some, none-some, some, some-ne-none, get_elem?, Serial, Script, Attempt, WalkRecord, Count, counts_of, place_number, place_in, Deed, by_seat, acts_of, part, Begins, among, seen_in, Event, Counted, counted, WorkerState, Report, serial_of, Counting, countings_of, IsRun, Step, steps_of, AreStepsChained, BringsWork, counted_in, some_at, countings_in, among-append}
+use Rattle.shr_core.proofs.Unregistering.{there as at_less}
 use Rattle.shr_assemble.proofs.Listed.{slice_map}
 use Rattle.shr_assemble.proofs.Gathering.{FlatAt, flat_at, work_of}
 use Rattle.shr_assemble.proofs.LineOrder.{counted_of}
@@ -16,11 +17,6 @@ pub at_before : {A : Type 0} (xs ys : List A) (i : ℕ) (y : A) → get_elem? xs
 at_before [] ys i y e = absurd (some-ne-none y (sym e))
 at_before (x ∷ xs) ys zero y e = e
 at_before (x ∷ xs) ys (suc i) y e = at_before xs ys i y e
-
-pub at_less : {A : Type 0} (xs : List A) (i : ℕ) (y : A) → get_elem? xs i ≡ some y → i < length xs
-at_less [] i y e = absurd (some-ne-none y (sym e))
-at_less (x ∷ xs) zero y e = omega arith
-at_less (x ∷ xs) (suc i) y e = let less = at_less xs i y e in omega (arith, less)
 
 -- ---- events by kind
 pub one_seen : (e : Event) → length (seen_in e) ≤ 1

@@ -1,13 +1,8 @@
 -- The steps of all workers from what is known of them at the end, and what they have in all.
 use Rattle.shr_assemble.proofs.Common.{◌≡◌, ℕ, zero, suc, ◌<◌, List, [], ◌∷◌, ◌++◌, length, sym, refl, ap, subst, ◌∙◌, arith, slice_get, Some, flat_map, same_Some, none-some, slice_get_within, AllByRecursion, Sweep, View, SweepItem, sweeps_of, Shared, IsShared, WorkerState, CrewState, WorkerLog, Step, gathered, BringsWork, new_worker, HasWorked, worker_commands, command_serial}
+pub use Rattle.shr_model.proofs.Lists.{there_at}
 use Rattle.shr_assemble.proofs.Rows.{DidEach, IsThereItem, along}
 use Rattle.shr_assemble.proofs.SweptRows.{IsWorkerRow, worker_row}
-
--- an element of a list by its number
-pub there_at : {A : Type 0} (xs : List A) (i : ℕ) → i < length xs → (x : A) × (slice_get xs i ≡ Some x)
-there_at [] i lt = absurd (omega arith)
-there_at (x ∷ xs) zero lt = (x, refl)
-there_at (x ∷ xs) (suc i) lt = there_at xs i (omega arith)
 
 -- a list of what there is for each two elements with one number
 pub choose : {A B C : Type 0} (P : ℕ → A → B → C → Type 0) (xs : List A) (ys : List B) → length ys ≡ length xs

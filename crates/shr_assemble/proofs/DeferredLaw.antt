@@ -4,68 +4,37 @@ use Rattle.shr_assemble.proofs.Gathering.{each_step, has_step, flat_at, reply_is
 use Rattle.shr_assemble.proofs.Listed.{all_among, all_slice, all_walks_are, all_carries_are}
 
 -- ---- sums over all steps
-module _ (parents : List ℕ) (p : Place) where
-  given_both : (ws vs : List WalkRecord) (cs ds : List Carry) → given_at parents (ws ++ vs) (cs ++ ds) p ≡ given_at parents ws cs p + given_at parents vs ds p
-  given_both ws vs cs ds = omega (
-    arith,
-    ap (sum_by (λ (q : PassRecord). q.next)) (flat_map-append (passes_at p) ws vs),
-    sum_by-append (λ (q : PassRecord). q.next) (flat_map (passes_at p) ws) (flat_map (passes_at p) vs),
-    sum_by-append (λ (c : Carry). cond (is_below parents p c.place) c.amount 0) cs ds,
-  )
+amounts_both : (p : Place) (of_pass : PassRecord → ℕ) (test : Place → Bool) (ws vs : List WalkRecord) (cs ds : List Carry)
+    → sum_by of_pass (flat_map (passes_at p) (ws ++ vs)) + sum_by (λ (c : Carry). cond (test c.place) c.amount 0) (cs ++ ds)
+    ≡ (sum_by of_pass (flat_map (passes_at p) ws) + sum_by (λ (c : Carry). cond (test c.place) c.amount 0) cs) + (sum_by of_pass (flat_map (passes_at p) vs) + sum_by (λ (c : Carry). cond (test c.place) c.amount 0) ds)
+amounts_both p of_pass test ws vs cs ds = omega (arith, ap (sum_by of_pass) (flat_map-append (passes_at p) ws vs), sum_by-append of_pass (flat_map (passes_at p) ws) (flat_map (passes_at p) vs), sum_by-append (λ (c : Carry). cond (test c.place) c.amount 0) cs ds)
 
-  taken_both : (ws vs : List WalkRecord) (cs ds : List Carry) → taken_at (ws ++ vs) (cs ++ ds) p ≡ taken_at ws cs p + taken_at vs ds p
-  taken_both ws vs cs ds = omega (
-    arith,
-    ap (sum_by (λ (q : PassRecord). q.nr)) (flat_map-append (passes_at p) ws vs),
-    sum_by-append (λ (q : PassRecord). q.nr) (flat_map (passes_at p) ws) (flat_map (passes_at p) vs),
-    sum_by-append (λ (c : Carry). cond (is_place p c.place) c.amount 0) cs ds,
-  )
+sum_both : (p : Place) (xs ys : List PlaceAmount) → sum_at p (xs ++ ys) ≡ sum_at p xs + sum_at p ys
+sum_both p xs ys = sum_by-append (amount_at p) xs ys
 
-  sum_both : (xs ys : List PlaceAmount) → sum_at p (xs ++ ys) ≡ sum_at p xs + sum_at p ys
-  sum_both xs ys = sum_by-append (amount_at p) xs ys
-
-  given_mine : (mine : List Step) → AllByRecursion (λ (x : Step). sum_at p (gives_of x.work.moves) ≡ given_at parents x.work.walks x.work.carries p) mine
-      → given_at parents (flat_map (λ (x : Step). x.work.walks) mine) (flat_map (λ (x : Step). x.work.carries) mine) p ≡ sum_at p (flat_map (λ (x : Step). gives_of x.work.moves) mine)
-  given_mine [] h = refl
-  given_mine (x ∷ mine) h = omega (
+-- where each step has the amount that its walks and its carries tell of, so have all together
+module _ (p : Place) (f : Step → List PlaceAmount) (amount : List WalkRecord → List Carry → ℕ) (none : amount [] [] ≡ 0)
+    (both : (ws vs : List WalkRecord) (cs ds : List Carry) → amount (ws ++ vs) (cs ++ ds) ≡ amount ws cs + amount vs ds) where
+  sum_mine : (mine : List Step) → AllByRecursion (λ (x : Step). sum_at p (f x) ≡ amount x.work.walks x.work.carries) mine
+      → amount (flat_map (λ (x : Step). x.work.walks) mine) (flat_map (λ (x : Step). x.work.carries) mine) ≡ sum_at p (flat_map f mine)
+  sum_mine [] h = none
+  sum_mine (x ∷ mine) h = omega (
     arith,
     h.0,
-    given_mine mine h.1,
-    given_both x.work.walks (flat_map (λ (y : Step). y.work.walks) mine) x.work.carries (flat_map (λ (y : Step). y.work.carries) mine),
-    sum_both (gives_of x.work.moves) (flat_map (λ (y : Step). gives_of y.work.moves) mine),
+    sum_mine mine h.1,
+    both x.work.walks (flat_map (λ (y : Step). y.work.walks) mine) x.work.carries (flat_map (λ (y : Step). y.work.carries) mine),
+    sum_both p (f x) (flat_map f mine),
   )
 
-  taken_mine : (mine : List Step) → AllByRecursion (λ (x : Step). sum_at p (takes_of x.work.moves) ≡ taken_at x.work.walks x.work.carries p) mine
-      → taken_at (flat_map (λ (x : Step). x.work.walks) mine) (flat_map (λ (x : Step). x.work.carries) mine) p ≡ sum_at p (flat_map (λ (x : Step). takes_of x.work.moves) mine)
-  taken_mine [] h = refl
-  taken_mine (x ∷ mine) h = omega (
+  sum_all : (workers : List (List Step)) → AllByRecursion (λ (mine : List Step). AllByRecursion (λ (x : Step). sum_at p (f x) ≡ amount x.work.walks x.work.carries) mine) workers
+      → amount (gathered (λ x. x.work.walks) workers) (gathered (λ x. x.work.carries) workers) ≡ sum_at p (gathered f workers)
+  sum_all [] h = none
+  sum_all (mine ∷ ws) h = omega (
     arith,
-    h.0,
-    taken_mine mine h.1,
-    taken_both x.work.walks (flat_map (λ (y : Step). y.work.walks) mine) x.work.carries (flat_map (λ (y : Step). y.work.carries) mine),
-    sum_both (takes_of x.work.moves) (flat_map (λ (y : Step). takes_of y.work.moves) mine),
-  )
-
-  given_all : (workers : List (List Step)) → AllByRecursion (λ (mine : List Step). AllByRecursion (λ (x : Step). sum_at p (gives_of x.work.moves) ≡ given_at parents x.work.walks x.work.carries p) mine) workers
-      → given_at parents (gathered (λ x. x.work.walks) workers) (gathered (λ x. x.work.carries) workers) p ≡ sum_at p (all_gives workers)
-  given_all [] h = refl
-  given_all (mine ∷ ws) h = omega (
-    arith,
-    given_mine mine h.0,
-    given_all ws h.1,
-    given_both (flat_map (λ (y : Step). y.work.walks) mine) (gathered (λ y. y.work.walks) ws) (flat_map (λ (y : Step). y.work.carries) mine) (gathered (λ y. y.work.carries) ws),
-    sum_both (flat_map (λ (y : Step). gives_of y.work.moves) mine) (all_gives ws),
-  )
-
-  taken_all : (workers : List (List Step)) → AllByRecursion (λ (mine : List Step). AllByRecursion (λ (x : Step). sum_at p (takes_of x.work.moves) ≡ taken_at x.work.walks x.work.carries p) mine) workers
-      → taken_at (gathered (λ x. x.work.walks) workers) (gathered (λ x. x.work.carries) workers) p ≡ sum_at p (all_takes workers)
-  taken_all [] h = refl
-  taken_all (mine ∷ ws) h = omega (
-    arith,
-    taken_mine mine h.0,
-    taken_all ws h.1,
-    taken_both (flat_map (λ (y : Step). y.work.walks) mine) (gathered (λ y. y.work.walks) ws) (flat_map (λ (y : Step). y.work.carries) mine) (gathered (λ y. y.work.carries) ws),
-    sum_both (flat_map (λ (y : Step). takes_of y.work.moves) mine) (all_takes ws),
+    sum_mine mine h.0,
+    sum_all ws h.1,
+    both (flat_map (λ (y : Step). y.work.walks) mine) (gathered (λ y. y.work.walks) ws) (flat_map (λ (y : Step). y.work.carries) mine) (gathered (λ y. y.work.carries) ws),
+    sum_both p (flat_map f mine) (gathered f ws),
   )
 
 pub filter_none : {A : Type 0} (p : A → Bool) (xs : List A) → ((k : ℕ) (x : A) → slice_get xs k ≡ Some x → p x ≡ false) → filter p xs ≡ []
@@ -87,12 +56,12 @@ module _ (s : Script) (tree : IsTree (parents_of s)) (p : Place) (out : IsThere 
       ap (filter_map (λ (a : Attempt). pass_of a.outcome)) (filter_none (λ (a : Attempt). is_place p (place_in w a.id)) w.attempts.items
       (λ k a e. no_test (is_place p (place_in w a.id)) (λ same. out (subst (IsThere s) (sym (is_place_same p (place_in w a.id) same)) (record { id = (d.attempts k a e).id; node = d.node; group = d.group })))))
 
-  taken_none : taken_at x.work.walks x.work.carries p ≡ 0
-  taken_none = omega (
+  amounts_none : (of_pass : PassRecord → ℕ) (test : Place → Bool) → ((q : Place) → IsThere s q → test q ≡ true → IsThere s p) → sum_by of_pass (flat_map (passes_at p) x.work.walks) + sum_by (λ (c : Carry). cond (test c.place) c.amount 0) x.work.carries ≡ 0
+  amounts_none of_pass test there = omega (
     arith,
-    ap (sum_by (λ (q : PassRecord). q.nr)) (flat_zero (passes_at p) x.work.walks passes_none),
-    sum_none (λ (c : Carry). cond (is_place p c.place) c.amount 0) x.work.carries
-        (λ k c e. ap (λ b. cond {A = ℕ} b c.amount 0) (no_test (is_place p c.place) (λ same. out (subst (IsThere s) (sym (is_place_same p c.place same)) (all_slice (DidCarry s x) x.work.carries k c did.moves.carries e).there)))),
+    ap (sum_by of_pass) (flat_zero (passes_at p) x.work.walks passes_none),
+    sum_none (λ (c : Carry). cond (test c.place) c.amount 0) x.work.carries
+        (λ k c e. ap (λ b. cond {A = ℕ} b c.amount 0) (no_test (test c.place) (λ same. out (there c.place (all_slice (DidCarry s x) x.work.carries k c did.moves.carries e).there same)))),
   )
 
   below_there : (q : Place) → IsThere s q → is_below (parents_of s) p q ≡ true → IsThere s p
@@ -108,30 +77,24 @@ module _ (s : Script) (tree : IsTree (parents_of s)) (p : Place) (out : IsThere 
       let n = there.node in
       record { id = omega (arith, id, i); node = omega (arith, node, n); group = omega (arith, near, higher) }
 
+  taken_none : taken_at x.work.walks x.work.carries p ≡ 0
+  taken_none = amounts_none (λ (q : PassRecord). q.nr) (is_place p) (λ q there same. subst (IsThere s) (sym (is_place_same p q same)) there)
+
   given_none : given_at (parents_of s) x.work.walks x.work.carries p ≡ 0
-  given_none = omega (
-    arith,
-    ap (sum_by (λ (q : PassRecord). q.next)) (flat_zero (passes_at p) x.work.walks passes_none),
-    sum_none (λ (c : Carry). cond (is_below (parents_of s) p c.place) c.amount 0) x.work.carries
-        (λ k c e. ap (λ b. cond {A = ℕ} b c.amount 0) (no_test (is_below (parents_of s) p c.place) (λ h. out (below_there c.place (all_slice (DidCarry s x) x.work.carries k c did.moves.carries e).there h)))),
-  )
+  given_none = amounts_none (λ (q : PassRecord). q.next) (is_below (parents_of s) p) below_there
 
 -- sums of nothing are nothing
 sums_none : (p : Place) (f : Step → List PlaceAmount) (workers : List (List Step)) → AllByRecursion (λ (mine : List Step). AllByRecursion (λ (x : Step). sum_at p (f x) ≡ 0) mine) workers → sum_at p (gathered f workers) ≡ 0
-sums_none p f [] h = refl
-sums_none p f (mine ∷ ws) h = omega (arith, sum_both [] p (flat_map f mine) (gathered f ws), sums_none p f ws h.1, mine_none mine h.0) where
-  mine_none : (xs : List Step) → AllByRecursion (λ (x : Step). sum_at p (f x) ≡ 0) xs → sum_at p (flat_map f xs) ≡ 0
-  mine_none [] h = refl
-  mine_none (x ∷ xs) h = omega (arith, h.0, mine_none xs h.1, sum_both [] p (f x) (flat_map f xs))
+sums_none p f workers h = sym (sum_all p f (λ ws cs. 0) refl (λ ws vs cs ds. refl) workers h)
 
 module _ (s : Script) (r : Report) (workers : List (List Step)) (run : IsRun s r workers) where
   given_is : (p : Place) → given_at (parents_of s) (all_walks r) (all_carries r) p ≡ sum_at p (all_gives workers)
   given_is p = ap (λ l. given_at (parents_of s) l (all_carries r) p) (all_walks_are s r workers run) ∙ (ap (λ l. given_at (parents_of s) (gathered (λ x. x.work.walks) workers) l p) (all_carries_are s r workers run)
-      ∙ given_all (parents_of s) p workers (each_step (λ (x : Step). sum_at p (gives_of x.work.moves) ≡ given_at (parents_of s) x.work.walks x.work.carries p) workers (λ worker k x at. (run.steps.each worker k x at).did.moves.given p)))
+      ∙ sum_all p (λ x. gives_of x.work.moves) (λ ws cs. given_at (parents_of s) ws cs p) refl (amounts_both p (λ (q : PassRecord). q.next) (is_below (parents_of s) p)) workers (each_step (λ (x : Step). sum_at p (gives_of x.work.moves) ≡ given_at (parents_of s) x.work.walks x.work.carries p) workers (λ worker k x at. (run.steps.each worker k x at).did.moves.given p)))
 
   taken_is : (p : Place) → taken_at (all_walks r) (all_carries r) p ≡ sum_at p (all_takes workers)
   taken_is p = ap (λ l. taken_at l (all_carries r) p) (all_walks_are s r workers run) ∙ (ap (λ l. taken_at (gathered (λ x. x.work.walks) workers) l p) (all_carries_are s r workers run)
-      ∙ taken_all (parents_of s) p workers (each_step (λ (x : Step). sum_at p (takes_of x.work.moves) ≡ taken_at x.work.walks x.work.carries p) workers (λ worker k x at. (run.steps.each worker k x at).did.moves.taken p)))
+      ∙ sum_all p (λ x. takes_of x.work.moves) (λ ws cs. taken_at ws cs p) refl (amounts_both p (λ (q : PassRecord). q.nr) (is_place p)) workers (each_step (λ (x : Step). sum_at p (takes_of x.work.moves) ≡ taken_at x.work.walks x.work.carries p) workers (λ worker k x at. (run.steps.each worker k x at).did.moves.taken p)))
 
   words : (p : Place) → printed_at r p ≡ deferred_word (given_at (parents_of s) (all_walks r) (all_carries r) p) (taken_at (all_walks r) (all_carries r) p)
   words p = ⊎_elim

@@ -7,8 +7,8 @@ use Rattle.shr_base.specs.declared.replies.Spent.TheVariants as spent
 use Rattle.shr_node.specs.declared.answers.NodeDrop.{NodeDrop}
 use Rattle.shr_node.specs.declared.answers.NodeDrop.TheVariants as drop
 use Rattle.shr_cache.specs.Dels.{Drops, DropsAndUncharges, DroppedFrom, DroppedNone, DroppedAs, DelGives}
-use Rattle.shr_assemble.proofs.QuietTenant.{brings_of, IsTenant, group_in, refused_did, acted_did, stood_did, stood_step, cites_is, cited_is, place_same, entry, bits, list_worn, without, one_entry, is_told, found_lookups, own_online, own_met}
-use Rattle.shr_assemble.proofs.QuietSteps.{step_of, HasDid, calm_walks, still_moves, still_pool, still_tree, some_met, meets_none, quiet_did, AreTables, tree_is, on_list, on_list_does, on_list_online, found_entry, found_by}
+use Rattle.shr_assemble.proofs.QuietTenant.{brings_of, IsTenant, group_in, refused_did, acted_did, stood_did, cites_is, cited_is, place_same, entry, bits, without, one_entry, is_told, found_lookups, own_online, own_met, full_did}
+use Rattle.shr_assemble.proofs.QuietSteps.{step_of, HasDid, still_pool, still_tree, some_met, meets_none, quiet_did, AreTables, tree_is, on_list, on_list_does, on_list_online, found_entry, found_by}
 use Rattle.shr_assemble.proofs.QuietCharges.{nothing_did, charges_worn, uncharging, does_uncharge, uncharged_charges}
 
 -- the object that a drop names, where it takes it out
@@ -38,21 +38,7 @@ module _ (x : Shared) (tables : AreTables x) (by : Serial) (group node decl : �
   command = Del group node decl key
 
   tenant : IsTenant x.script by command group decl
-  tenant = record {
-    calm = tt;
-    asks = λ g e. same_Some group g e;
-    met = refl;
-    group_is = refl;
-    decl_is = refl;
-    charged = λ parents g r. refl;
-    offline = λ family entry. tt;
-    no_cache = λ family entry. tt;
-    worn = λ family id seen. tt;
-    not_made = λ family g. tt;
-    was_made = λ family id g h. h;
-    shows = λ r g e. some_met (is_past_group r) group g e;
-    unshown = λ g n e. none-some n e;
-  }
+  tenant = assumption (same_Some group, (λ (r : Reply). some_met (is_past_group r) group), none-some {A = ℕ})
 
   abbrev drops : Found → NodeDrop → View → View → Type 0
   drops f answer v w = DropGives (shape_of x.core) v f.id node by group key answer w
@@ -88,14 +74,8 @@ module _ (x : Shared) (tables : AreTables x) (by : Serial) (group node decl : �
     worn : (w : Spent) → Drops x by group node decl key f (drop.Worn w) s t → HasDid x.script by command (record { reply = reply.Worn w; found = Some f }) s t
     worn (spent.Lookups id seen) h = absurd h.asked.calls.made
     worn (spent.Charges charges uncharges) h = absurd h.asked.calls.made
-    worn (spent.List place entries items) h =
-        let o = h.asked in
-        let a = o.calls.made in
-        let call : View → View → Type 0 = drops f (drop.Worn (spent.List place entries items)) in
-        let r : Reply = reply.Worn (spent.List place entries items) in
-        stood_did x tables by command group node decl tenant f call r s t o a.full.gains (λ family. tt) refl refl refl
-        (list_worn x tables by command group node decl tenant f call r s t o group entries items place dropping a within.on_node there (stood_step x tables by command group node decl tenant f call r s t o) refl
-        (inl (let n = a.full.worn.items_then in let same = length_after_drop group key a.old.items in omega (arith, n, same))))
+    worn (spent.List place entries items) h = let o = h.asked in let a = o.calls.made in
+        full_did x tables by command group node decl tenant f (drops f (drop.Worn (spent.List place entries items))) entries items place s t o dropping a within.on_node there (λ family. tt) (let n = a.full.worn.items_then in let same = length_after_drop group key a.old.items in omega (arith, n, same))
 
     lacking : Drops x by group node decl key f drop.Memory s t → HasDid x.script by command (record { reply = reply.Memory; found = Some f }) s t
     lacking h = let o = h.asked in stood_did x tables by command group node decl tenant f (drops f drop.Memory) reply.Memory s t o o.calls.made.free.gains (λ family. tt) refl refl refl tt

@@ -1,5 +1,5 @@
 -- What a worker's part of the sweep did, and what each command did, put together.
-use Rattle.shr_assemble.proofs.Common.{◌≡◌, ℕ, ◌<◌, Bool, List, [], ◌∷◌, ◌++◌, length, map, sym, refl, ap, subst, ◌∙◌, sum, Some, None, AllByRecursion, append-nil, map-append, length-map, none-some, Serial, Answered, Reply, Sweep, WalkAnswer, WalkRecord, Job, job_of, SweepItem, End, SweepJob, Visit, job_in, VisitHadMemory, AreVisited, parents_of, IsSwept, HadMemory, WorkerState, Shared, CrewState, unfound, Did, HasHelped, job_walked, IsSweepWalk, sweep_reply, slice_get, Command, Put, Get, Del, SetPin, Shrink, Balance, Offline, MkGroup, Register, Unregister, Isolate, Release, Grab, Script, Isolation, IsCommandWithin, IsIsolationWithin, content_of, isolations_told, DeedGives, isolate_there}
+use Rattle.shr_assemble.proofs.Common.{◌≡◌, ℕ, ◌<◌, Bool, List, [], ◌∷◌, ◌++◌, length, map, sym, refl, ap, subst, ◌∙◌, sum, Some, None, AllByRecursion, append-nil, map-append, length-map, none-some, Serial, Answered, Reply, Sweep, WalkAnswer, WalkRecord, Job, job_of, SweepItem, End, SweepJob, Visit, job_in, VisitHadMemory, AreVisited, parents_of, IsSwept, HadMemory, WorkerState, Shared, CrewState, unfound, Did, HasHelped, job_walked, IsSweepWalk, sweep_reply, slice_get, Command, Put, Get, Del, SetPin, Shrink, Balance, Offline, MkGroup, Register, Unregister, Isolate, Release, Grab, Script, Isolation, IsCommandWithin, IsIsolationWithin, content_of, isolations_told, DeedGives, isolate_there, Step, DidSweep, MayBeOffline, ◌⊎◌, KnowsOnline}
 use Rattle.shr_base.specs.declared.replies.Reply.TheVariants as reply
 use Rattle.shr_pool.specs.declared.items.SweepItem.TheVariants.{Walk}
 use Rattle.shr_pool.specs.declared.view.PassView.{PassView}
@@ -23,7 +23,7 @@ use Rattle.shr_assemble.proofs.HandedOver.{offline_did}
 use Rattle.shr_assemble.proofs.PinDid.{pin_did}
 use Rattle.shr_assemble.proofs.PutDid.{put_did}
 use Rattle.shr_assemble.proofs.PoolDid.{release_did, grab_did}
-use Rattle.shr_assemble.proofs.QuietSteps.{HasDid, AreTables}
+use Rattle.shr_assemble.proofs.QuietSteps.{HasDid, meets_none}
 use Rattle.shr_assemble.proofs.RegisterDid.{register_did}
 use Rattle.shr_assemble.proofs.ShrinkDid.{shrink_did}
 use Rattle.shr_assemble.proofs.UnregisterDid.{unregister_did}
@@ -94,36 +94,24 @@ module _ (x : Shared) (table : IsTableOf x) (z : Sweep) (asked : x.script.sweep 
       let one = visited_one x by walks s t visited in
       gave_all x table by None (unfound r) (map job_in walks) (map answer_in walks) s t one there
 
+  -- a sweep asks for no group
+  unasked : (r : Reply) (g : ℕ) → None ≡ Some g → 0 < g → MayBeOffline r ⊎ KnowsOnline s.tree g
+  unasked r g e above = absurd (none-some g e)
+
   -- a step that made the walks of a sweep and nothing else
   did_swept : (count freed : ℕ) (jobs : List Job) (answers : List WalkAnswer) (all : GaveAll x by None (unfound (reply.Swept count freed)) jobs answers s t) → IsSwept x.script z all.work.walks (unfound (reply.Swept count freed))
       → Did x.script (step_of x.script by None (unfound (reply.Swept count freed)) s t all.work)
-  did_swept count freed jobs answers all swept = walks_did x table by None (reply.Swept count freed) s t all.work all.walked all.freed all.born all.charges all.uncharges record {
-    free = λ g. refl;
-    no_decl = refl;
-    reply = λ family. (refl, tt);
-    no_cite = refl;
-    no_told = refl;
-    no_made = refl;
-    asked = record { sweep = z; asked = asked; swept = swept };
-    online = λ g e above. absurd (none-some g e);
-    meets = record { unmade = λ g e. absurd (cc); met = λ g e. absurd (none-some g e) };
-    cause = tt;
-  }
+  did_swept count freed jobs answers all swept = walks_did x table by None (reply.Swept count freed) s t all.work all.walked all.freed all.born all.charges all.uncharges (
+      let y : Step = step_of x.script by None (unfound (reply.Swept count freed)) s t all.work in
+      let due : DidSweep x.script y = record { sweep = z; asked = asked; swept = swept } in
+      assumption (due, unasked (reply.Swept count freed), meets_none x.script y (λ g e. absurd (cc)) (λ g e. none-some g e)))
 
   did_stopped : (freed : ℕ) (jobs : List Job) (answers : List WalkAnswer) (all : GaveAll x by None (unfound (reply.WalkMemory freed)) jobs answers s t) → IsSwept x.script z all.work.walks (unfound (reply.WalkMemory freed))
       → Did x.script (step_of x.script by None (unfound (reply.WalkMemory freed)) s t all.work)
-  did_stopped freed jobs answers all swept = walks_did x table by None (reply.WalkMemory freed) s t all.work all.walked all.freed all.born all.charges all.uncharges record {
-    free = λ g. refl;
-    no_decl = refl;
-    reply = λ family. (refl, tt);
-    no_cite = refl;
-    no_told = refl;
-    no_made = refl;
-    asked = record { sweep = z; asked = asked; swept = swept };
-    online = λ g e above. absurd (none-some g e);
-    meets = record { unmade = λ g e. absurd (cc); met = λ g e. absurd (none-some g e) };
-    cause = tt;
-  }
+  did_stopped freed jobs answers all swept = walks_did x table by None (reply.WalkMemory freed) s t all.work all.walked all.freed all.born all.charges all.uncharges (
+      let y : Step = step_of x.script by None (unfound (reply.WalkMemory freed)) s t all.work in
+      let due : DidSweep x.script y = record { sweep = z; asked = asked; swept = swept } in
+      assumption (due, unasked (reply.WalkMemory freed), meets_none x.script y (λ g e. absurd (cc)) (λ g e. none-some g e)))
 
   -- no job was left
   swept_part : (count freed : ℕ) (v w : PassView) (popped : List SweepItem) → v.popped ≡ [] → w.popped ≡ popped → HasSwept x by z.priority z.nofs count freed v w s t → AllByRecursion (IsThereItem x.script) popped
@@ -196,30 +184,27 @@ worked s by c a t u none same free h = record {
 walked : (x : Shared) (by : Serial) (c : Command) (a : Answered) (t u : CrewState) → isolations_told by c a ≡ [] → u.isolations ≡ t.isolations → u.seats.core.claims.held ≡ None → Stepping x by (Some c) a t.seats u.seats → Worked x.script by c a t u
 walked x by c a t u none same free h = worked x.script by c a t u none same free (record { work = h.work; does = h.does; did = h.did })
 
-isolated : (x : Shared) (tables : AreTables x) (by : Serial) (group node decl budget : ℕ) (a : Answered) (t u : CrewState) → IsIsolationWithin (content_of x.script) group node decl budget → DeedGives x by (Isolate group node decl budget) a t u
+isolated : (x : Shared) (table : IsTableOf x) (by : Serial) (group node decl budget : ℕ) (a : Answered) (t u : CrewState) → IsIsolationWithin (content_of x.script) group node decl budget → DeedGives x by (Isolate group node decl budget) a t u
     → Worked x.script by (Isolate group node decl budget) a t u
-isolated x tables by group node decl budget a t u within g =
-    let h = isolate_done x tables by group node decl budget within a t.seats u.seats t.isolations u.isolations g.recorded in
+isolated x table by group node decl budget a t u within g =
+    let h = isolate_done x table by group node decl budget within a t.seats u.seats t.isolations u.isolations g.recorded in
     record { work = h.did.work; brings = h.did.does; did = h.did.did; recorded = h.recorded; by_law = h.by_law; free = g.free }
-
-tables_of : (x : Shared) → IsTableOf x → AreTables x
-tables_of x table = record { shared = table.shared; most_items = table.most_items; most_entries = table.most_entries }
 
 each_command : (x : Shared) → IsTableOf x → (by : Serial) (c : Command) (a : Answered) (t u : CrewState) → IsCommandWithin (content_of x.script) c → IsFit t.seats → DeedGives x by c a t u
     → Worked x.script by c a t u
 each_command x table by (Put group node decl key value) a t u within fit g = worked x.script by (Put group node decl key value) a t u refl g.recorded g.free (put_did x table by group node decl key value within.0 a t.seats u.seats fit.rising g.seats)
-each_command x table by (Get group node decl key) a t u within fit g = worked x.script by (Get group node decl key) a t u refl g.recorded g.free (get_did x (tables_of x table) by group node decl key within a t.seats u.seats g.seats)
-each_command x table by (Del group node decl key) a t u within fit g = worked x.script by (Del group node decl key) a t u refl g.recorded g.free (del_did x (tables_of x table) by group node decl key within a t.seats u.seats g.seats)
-each_command x table by (SetPin group node decl key pinned) a t u within fit g = worked x.script by (SetPin group node decl key pinned) a t u refl g.recorded g.free (pin_did x (tables_of x table) by group node decl key pinned within a t.seats u.seats g.seats)
+each_command x table by (Get group node decl key) a t u within fit g = worked x.script by (Get group node decl key) a t u refl g.recorded g.free (get_did x table by group node decl key within a t.seats u.seats g.seats)
+each_command x table by (Del group node decl key) a t u within fit g = worked x.script by (Del group node decl key) a t u refl g.recorded g.free (del_did x table by group node decl key within a t.seats u.seats g.seats)
+each_command x table by (SetPin group node decl key pinned) a t u within fit g = worked x.script by (SetPin group node decl key pinned) a t u refl g.recorded g.free (pin_did x table by group node decl key pinned within a t.seats u.seats g.seats)
 each_command x table by (Shrink group node priority nofs) a t u within fit g = walked x by (Shrink group node priority nofs) a t u refl g.recorded g.free (shrink_did x table by group node priority nofs t.seats u.seats a within.1.on_node (group_in x group within.0) g.seats)
 each_command x table by (Balance node priority nofs) a t u within fit g = walked x by (Balance node priority nofs) a t u refl g.recorded g.free (balance_did x table by node priority nofs t.seats u.seats a within.on_node g.seats)
-each_command x table by (Offline group) a t u within fit g = worked x.script by (Offline group) a t u refl g.recorded g.free (offline_did x (tables_of x table) by group t.seats u.seats fit.home a g.seats)
-each_command x table by (Register decl) a t u within fit g = worked x.script by (Register decl) a t u refl g.recorded g.free (register_did x (tables_of x table) by decl a t.seats u.seats g.seats)
-each_command x table by (Unregister decl) a t u within fit g = worked x.script by (Unregister decl) a t u refl g.recorded g.free (unregister_did x (tables_of x table) by decl a t.seats u.seats g.seats)
-each_command x table by (MkGroup group) a t u within fit g = worked x.script by (MkGroup group) a t u refl g.recorded g.free (mkgroup_did x (tables_of x table) by group t.seats u.seats fit.home a g.seats)
+each_command x table by (Offline group) a t u within fit g = worked x.script by (Offline group) a t u refl g.recorded g.free (offline_did x table by group t.seats u.seats fit.home a g.seats)
+each_command x table by (Register decl) a t u within fit g = worked x.script by (Register decl) a t u refl g.recorded g.free (register_did x table by decl a t.seats u.seats g.seats)
+each_command x table by (Unregister decl) a t u within fit g = worked x.script by (Unregister decl) a t u refl g.recorded g.free (unregister_did x table by decl a t.seats u.seats g.seats)
+each_command x table by (MkGroup group) a t u within fit g = worked x.script by (MkGroup group) a t u refl g.recorded g.free (mkgroup_did x table by group t.seats u.seats fit.home a g.seats)
 each_command x table by (Release node pool n) a t u within fit g = worked x.script by (Release node pool n) a t u refl g.recorded g.free (release_did x by node pool n a t u g)
 each_command x table by (Grab node pool) a t u within fit g = worked x.script by (Grab node pool) a t u refl g.recorded g.free (grab_did x by node pool a t u g)
-each_command x table by (Isolate group node decl budget) a t u within fit g = isolated x (tables_of x table) by group node decl budget a t u (isolate_there (content_of x.script) group node decl budget within) g
+each_command x table by (Isolate group node decl budget) a t u within fit g = isolated x table by group node decl budget a t u (isolate_there (content_of x.script) group node decl budget within) g
 
 pub did_each : (x : Shared) → IsTableOf x → DidEach x
 did_each x table = record { command = each_command x table; sweep = sweep_did x table }

@@ -1,10 +1,10 @@
 -- In a run a list is drained while its id is dying, and an id comes to be idle with empty lists.
-use Rattle.shr_assemble.proofs.Common.{◌≡◌, ◌≢◌, ◌⊎◌, ℕ, zero, suc, ◌+◌, ◌%◌, ◌<◌, ◌≤◌, ⊎_elim, Bool, cond, take, List, [], ◌∷◌, ◌++◌, length, length-append, get_or, sym, refl, ap, subst, ◌∙◌, arith, eqb, eq-eqb, ne_eqb, slice_get, Option, Some, None, same_Some, none-some, slice_get-get_or, dite, ℕ_discrete, dec_lt, some, some-injective, get_elem?, Entry, Add, Look, Drop, Pin, Scan, MovedIn, Closed, Drained, PoolEntry, Registered, Idle, Place, Serial, Script, HasJournal, place_number, HasJournal_none, Deed, Begins, begins_all, begins_more, place_id, Event, Made, Turn, counted, made, looked, loaded, turned, put_back, raised, cleared, mapped, Moment, moment_next, last_moment, IsTimely, IsSo, so_before, Report, journals_of, decls_on, IsThere, Told, entry, lookup, turn, count, HasAt, looked_by, IsInOneOrder, IsRun, Step, begins_push, before, before_next, moment_before, grown, state_after, at_start, moment_after, LeavesNothing, IsDrainedEntry, ComesBehind, IsWhileDying, IsWhileEmpty}
+use Rattle.shr_assemble.proofs.Common.{◌≡◌, ℕ, zero, suc, ◌+◌, ◌%◌, ◌<◌, ◌≤◌, ⊎_elim, Bool, cond, take, List, [], ◌∷◌, ◌++◌, length, length-append, get_or, sym, refl, ap, subst, ◌∙◌, arith, eqb, eq-eqb, ne_eqb, slice_get, Some, same_Some, slice_get-get_or, dite, ℕ_discrete, dec_lt, some, some-injective, get_elem?, Entry, Drained, PoolEntry, Registered, Idle, Place, Script, HasJournal, place_number, HasJournal_none, Deed, Begins, begins_all, begins_more, place_id, Event, Made, Turn, made, turned, Moment, moment_next, IsTimely, IsSo, so_before, Report, journals_of, decls_on, IsThere, Told, entry, turn, HasAt, looked_by, IsInOneOrder, IsRun, Step, begins_push, before, before_next, moment_before, grown, state_after, at_start, moment_after, LeavesNothing, IsDrainedEntry, ComesBehind, IsWhileDying, IsWhileEmpty, take-append_seam}
 use Rattle.shr_model.specs.Pool.{phase_of}
 use Rattle.shr_model.specs.Pool as pool
 use Rattle.shr_core.specs.Ranks.{entries, turns}
-use Rattle.shr_assemble.proofs.InUseLaw.{id_there, there_at, not_idle, take_all, used}
-use Rattle.shr_assemble.proofs.OneOrderLaw.{InLine, opened, rank, stands, start_rank, by_numbers, by_worker, looked_rise, counted_rise}
+use Rattle.shr_assemble.proofs.InUseLaw.{id_there, there_at, not_idle, used}
+use Rattle.shr_assemble.proofs.OneOrderLaw.{opened, rank, stands, start_rank, by_numbers, by_worker, looked_rise, counted_rise}
 
 -- ---- what the line says
 dying_at : (t : Moment) (id : ℕ) (e : Entry) → IsDrainedEntry e → IsTimely t id e → phase_of id t.pool % 3 ≡ 2
@@ -69,7 +69,7 @@ module _ (s : Script) (r : Report) (workers : List (List Step)) (run : IsRun s r
   pool_front c = subst (λ (es : List PoolEntry). Begins (moment c).pool es) run.order.registered (begins_last (λ (t : Moment). t.pool) more_pool (at_start 0) line c)
 
   pool_taken : (c : ℕ) → take (length (moment c).pool) r.pool.items ≡ (moment c).pool
-  pool_taken c = let b = pool_front c in ap (take (length (moment c).pool)) b.1 ∙ take_all (moment c).pool b.0
+  pool_taken c = let b = pool_front c in ap (take (length (moment c).pool)) b.1 ∙ take-append_seam (moment c).pool b.0
 
   -- where an entry of it stands that no start made
   record TurnAt (i : ℕ) : Type 0 where
@@ -171,7 +171,7 @@ module _ (s : Script) (r : Report) (workers : List (List Step)) (run : IsRun s r
     list_front c = subst (λ (es : List Entry). Begins ((moment c).now k) es) (run.order.listed place there) (begins_last (λ (t : Moment). t.now k) (more_now k) (at_start 0) line c)
 
     list_taken : (c : ℕ) → take (length ((moment c).now k)) (journals_of r place) ≡ (moment c).now k
-    list_taken c = let b = list_front c in ap (take (length ((moment c).now k))) b.1 ∙ take_all ((moment c).now k) b.0
+    list_taken c = let b = list_front c in ap (take (length ((moment c).now k))) b.1 ∙ take-append_seam ((moment c).now k) b.0
 
     -- where an entry of it stands
     record EntryAt (i : ℕ) : Type 0 where

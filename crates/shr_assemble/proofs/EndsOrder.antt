@@ -1,11 +1,13 @@
 -- The one order of all that the workers did, of a run whose workers are done.
 use Rattle.shr_assemble.proofs.Common.{◌≡◌, ◌≢◌, ℕ, zero, suc, ◌+◌, ◌<◌, ◌⊎◌, inl, inr, ⊎_elim, Bool, true, false, cond, List, [], ◌∷◌, ◌++◌, length, sym, refl, ap, subst, ◌∙◌, arith, eq-eqb, ne_eqb, slice_get, Option, Some, flat_map, ◌==◌, append-nil, same_Some, none-some, slice_get_within, CacheDecl, Has, map_has, flat_map_has, Deed, by_seat, part, times, Begins, begins_all, begins_more, View, last_users, last_moment, among, Event, cleared, opener, Shared, WorkerState, CrewState, Ends, EntersIf, AreEntered, is_on, place_number, Report, journals_of, WorkerLog, AreEndsOf, firsts_at_start, new_worker, with_workers, IsMadeOf, Step, IsAmong, steps_of, AreStepsChained, worker_state_after, at_some, AreEvents, ids_of, part-append, cleared_in}
+use Rattle.shr_assemble.proofs.LineParts.{part_has}
+use Rattle.shr_assemble.proofs.Filling.{none_left}
+use Rattle.shr_model.proofs.Lists.{there_at}
 use Rattle.shr_assemble.proofs.ScriptGroups.{sized_of}
 use Rattle.shr_assemble.specs.Order.{IsInLine, IsOfWorker}
-use Rattle.shr_assemble.proofs.Crews.{there_at}
 use Rattle.shr_assemble.proofs.EndsJournals.{proper}
 use Rattle.shr_assemble.proofs.EndsSteps.{workers, is_crew, fit, is_of}
-use Rattle.shr_assemble.proofs.Gathering.{mine_at, mine_is}
+use Rattle.shr_assemble.proofs.Gathering.{mine_at, mine_is, after_along}
 use Rattle.shr_assemble.proofs.Joined.{joined_list}
 use Rattle.shr_assemble.proofs.Listed.{among_has, has_among, either}
 use Rattle.shr_assemble.proofs.Rows.{DidEach}
@@ -73,14 +75,8 @@ by_chain j t (x ∷ mine) c seat h =
     by_chain j x.after mine c.2 (c.1.core.seat ∙ at) (subst (IsBy j) (sym c.1.core.noted) (by_more j x.before.core.seat x.before.core.did c.1.core.did (subst (λ (u : WorkerState). IsBy j u.core.did) (sym c.0) h) at))
 
 -- what a worker did up to the end of a step it did in the end
-did_along : (t : WorkerState) (mine : List Step) → AreStepsChained t mine → Begins t.core.did (worker_state_after t mine).core.did
-did_along t [] c = begins_all _
-did_along t (x ∷ mine) c = begins_more _ _ _ (subst (λ (u : WorkerState). Begins u.core.did x.after.core.did) c.0 (by_seat x.before.core.seat c.1.core.did, c.1.core.noted)) (did_along x.after mine c.2)
-
 after_did : (t : WorkerState) (mine : List Step) (k : ℕ) (y : Step) → AreStepsChained t mine → slice_get mine k ≡ Some y → Begins y.after.core.did (worker_state_after t mine).core.did
-after_did t [] k y c e = absurd (none-some y e)
-after_did t (x ∷ mine) zero y c e = subst (λ (z : Step). Begins z.after.core.did (worker_state_after x.after mine).core.did) (same_Some x y e) (did_along x.after mine c.2)
-after_did t (x ∷ mine) (suc k) y c e = after_did x.after mine k y c.2 e
+after_did = after_along (λ s t. Begins s.core.did t.core.did) (λ s. begins_all s.core.did) (λ s t u. begins_more s.core.did t.core.did u.core.did) (λ x b. (by_seat x.before.core.seat b.core.did, b.core.noted))
 
 -- the seat of a worker's steps is the worker's
 first_seat : (t : WorkerState) (mine : List Step) (k : ℕ) (y : Step) → AreStepsChained t mine → slice_get mine k ≡ Some y → y.before.core.seat ≡ t.core.seat
@@ -92,10 +88,6 @@ first_seat t (x ∷ mine) (suc k) y c e = first_seat x.after mine k y c.2 e ∙ 
 abbrev ClearNone : List (Deed Event) → Type 0
 ClearNone deeds = (d : Deed Event) → Has deeds d → cleared_in d.act ≡ []
 
-pub none_left : {A : Type 0} (xs ys : List A) → xs ++ ys ≡ [] → (xs ≡ []) × (ys ≡ [])
-none_left [] ys e = (refl, e)
-none_left (x ∷ xs) ys e = absurd (cc)
-
 clear_none : (j : ℕ) (acts : List Event) → among cleared_in acts ≡ [] → ClearNone (by_seat j acts)
 clear_none j [] none d h = absurd h
 clear_none j (a ∷ acts) none d (inl e) = ap (λ (y : Deed Event). cleared_in y.act) (sym e) ∙ (none_left (cleared_in a) (among cleared_in acts) none).0
@@ -105,11 +97,6 @@ clear_none j (a ∷ acts) none d (inr h) = clear_none j acts (none_left (cleared
 done_by : (t : WorkerState) (mine : List Step) (d : Deed Event) → Has (worker_state_after t mine).core.did d → Has t.core.did d ⊎ ((k : ℕ) × (y : Step) × (slice_get mine k ≡ Some y) × Has y.after.core.did d)
 done_by t [] d h = inl h
 done_by t (x ∷ mine) d h = ⊎_elim (λ early. inr (0, x, refl, early)) (λ late. inr (suc late.0, late.1, late.2, late.3)) (done_by x.after mine d h)
-
-part_has : (d : Deed Event) (line : List (Deed Event)) → Has line d → Has (part d.seat line) d
-part_has d (y ∷ line) (inl e) = subst (λ (b : Bool). Has (cond b (y ∷ part d.seat line) (part d.seat line)) d) (sym (eq-eqb y.seat d.seat (ap (λ (z : Deed Event). z.seat) e))) (inl e)
-part_has d (y ∷ line) (inr h) = (elim (y.seat == d.seat) as (λ (b : Bool). Has (part d.seat line) d → Has (cond b (y ∷ part d.seat line) (part d.seat line)) d) [ true ↦ λ has. inr has | false ↦ λ has. has ]) (part_has d line h)
-part_has d [] h = absurd h
 
 has_part : (d : Deed Event) (j : ℕ) (line : List (Deed Event)) → Has (part j line) d → Has line d
 has_part d j [] h = absurd h
@@ -172,7 +159,7 @@ module _ (x : Shared) (did : DidEach x) (logs : List WorkerLog) (e : Ends) (ends
   clearings : (d : Deed Event) (place : ℕ) → IsAmong d ends.core.line → d.act ≡ cleared place → IsOfWorker (workers x did logs e ends r made) d
   clearings d place among is =
       let opened = entered x.script.caches.items (length x.script.caches.items) ends.opened ends.entered in
-      let in_part : Has (part d.seat (with_workers (firsts_at_start ends.opened ends.standing) ends.lasts).core.did) d = subst (λ l. Has l d) (sym (ends.core.parts d.seat)) (part_has d ends.core.line (among_has ends.core.line d among)) in
+      let in_part : Has (part d.seat (with_workers (firsts_at_start ends.opened ends.standing) ends.lasts).core.did) d = subst (λ l. Has l d) (sym (ends.core.parts d.seat)) (part_has d d.seat ends.core.line refl (among_has ends.core.line d among)) in
       let in_view : Has (ends.opened.did ++ flat_map deeds_of ends.lasts) d = subst (λ l. Has l d) (joined_list {A = Deed Event} (λ g. g.core.did) deeds_of (λ g w. refl) (firsts_at_start ends.opened ends.standing) ends.lasts) (has_part d d.seat _ in_part) in
       either ends.opened.did (flat_map deeds_of ends.lasts) d in_view
       (λ first. absurd (let none : place ∷ [] ≡ [] = ap cleared_in (sym is) ∙ opened.clears d first in cc))

@@ -2,7 +2,7 @@
 use Rattle.shr_assemble.proofs.Common.{◌≡◌, ℕ, zero, suc, ◌<◌, ◌≤◌, ◌≢◌, ◌⊎◌, inl, inr, ⊎_elim, Bool, true, false, cond, List, [], ◌∷◌, ◌++◌, map, length, sym, refl, ap, subst, ◌∙◌, arith, Option, Some, None, find, dite, ℕ_discrete, some-injective, some-ne-none, Object, Place, PlaceEnd, Entry, place_number, is_place, is_place_same, is_place_itself, place_at, EndValue, end_value, place_ends, back, journal_of, IsAmong, find_back, find_front, ◌+◌, slice_get, AllByRecursion, same_Some, none-some, UseStep, total, only, some_term, only_yes, only_no, at_some}
 use Rattle.shr_core.specs.Ending.{ends_below}
 use Rattle.shr_assemble.proofs.Gathering.{among_cases}
-use Rattle.shr_assemble.proofs.Listed.{PairsRec}
+use Rattle.shr_assemble.proofs.Listed.{PairsRec, same_by_slices}
 
 -- a value of this place, and its journal
 abbrev is_valued : Place → EndValue → Bool
@@ -162,13 +162,7 @@ row_of low high (o ∷ os) sorted are =
       at zero p h is others = let e = ap (λ (u : UseStep). u.operation) (same_Some o p h) in omega (arith, e, is)
       at (suc j) p h is others = let e = others j p h in omega (arith, e)
 
-same_by : {A : Type 0} (xs ys : List A) → length xs ≡ length ys → ((i : ℕ) (x : A) → slice_get xs i ≡ Some x → slice_get ys i ≡ Some x) → xs ≡ ys
-same_by [] [] e h = refl
-same_by (x ∷ xs) [] e h = absurd (omega (arith, e))
-same_by [] (y ∷ ys) e h = absurd (omega (arith, e))
-same_by {A} (x ∷ xs) (y ∷ ys) e h = let first : y ≡ x = same_Some y x (h 0 x refl) in let later : xs ≡ ys = same_by xs ys (omega (arith, e)) (λ i z at. h (suc i) z at) in λ i. sym first i ∷ later i
-
 -- sorted operations that each stand at their number in a history, each number once, are the history
 pub sorted_history : (history os : List UseStep) → IsSorted os → AreNumbered 0 (length history) os → ((i : ℕ) (o : UseStep) → slice_get os i ≡ Some o → slice_get history o.operation ≡ Some o) → os ≡ history
 sorted_history history os sorted are stands = let row = row_of 0 (length history) os sorted are in let many = row.many in
-    same_by os history (omega (arith, many)) (λ i o h. let e : o.operation ≡ i = (let z = row.each i o h in omega (arith, z)) in ap (slice_get history) (sym e) ∙ stands i o h)
+    sym (same_by_slices history os (omega (arith, many)) (λ i o h. let e : o.operation ≡ i = (let z = row.each i o h in omega (arith, z)) in ap (slice_get history) (sym e) ∙ stands i o h))

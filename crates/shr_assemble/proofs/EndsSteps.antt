@@ -1,9 +1,10 @@
 -- The steps of a run whose workers are done: each worker's are its commands with the report's answers, from the first state on.
-use Rattle.shr_assemble.proofs.Common.{◌≡◌, ℕ, ◌+◌, ◌<◌, ◌≤◌, ⊎_elim, List, [], length, sym, refl, ap, subst, ◌∙◌, arith, slice_get, Option, Some, None, IfSome, flat_map, AllByRecursion, length-map, none-some, slice_get_past, Command, Sweep, WorkerScript, content_of, within_of_valid, Shared, WorkerState, CrewState, Ends, Report, commands_of, sweeps_in, sweeps_of, answers_of, walks_of, WorkerLog, AreEndsOf, new_worker, IsMadeOf, log_answers, log_walks, log_carries, log_isolations, isolated_in, isolated_before, DidIsolations, Step, AreStepsChained, steps_in, steps_of, IsStep, IsShownIn, AreRunSteps, IsOfPops, ArePoppedOnce, all_popped, IsSweepWithin, IsNewWorker, AreIsolating, AreSwept, carries_of, isolations_of, zero, suc, ◌∷◌, ◌++◌, length-append, get_or, get_or_append_left, dite, ℕ_discrete, lookups_of, get_or-append_seam, ◌≢◌, ◌⊎◌, inl, inr, Bool, true, false, not, cond, map, eqb, ne_eqb, find, filter, PlaceAmount, Place, amount_of, is_place, Has, is_place_same, is_place_itself, is_some_amount, amount_in}
+use Rattle.shr_assemble.proofs.Common.{◌≡◌, ℕ, ◌+◌, ◌<◌, ◌≤◌, ⊎_elim, List, [], length, sym, refl, ap, subst, ◌∙◌, arith, slice_get, Option, Some, None, IfSome, flat_map, AllByRecursion, length-map, none-some, slice_get_past, Command, Sweep, WorkerScript, content_of, within_of_valid, Shared, WorkerState, CrewState, Ends, Report, commands_of, sweeps_in, sweeps_of, answers_of, walks_of, WorkerLog, AreEndsOf, new_worker, IsMadeOf, log_answers, log_walks, log_carries, log_isolations, isolated_in, isolated_before, DidIsolations, Step, AreStepsChained, steps_in, steps_of, IsStep, IsShownIn, AreRunSteps, IsOfPops, ArePoppedOnce, all_popped, IsSweepWithin, IsNewWorker, AreIsolating, AreSwept, carries_of, isolations_of, zero, suc, ◌∷◌, ◌++◌, length-append, get_or, get_or_append_left, dite, ℕ_discrete, lookups_of, get_or-append_seam, ◌≢◌, ◌⊎◌, inl, inr, Bool, true, false, not, cond, map, eqb, ne_eqb, find, filter, PlaceAmount, Place, amount_of, is_place, Has, is_place_same, is_place_itself, is_some_amount, amount_in, decls_on, Answered}
+use Rattle.shr_model.proofs.Lists.{there_at}
 use Rattle.shr_worker.specs.Chain as chain
 use Rattle.shr_report.specs.Parts as report
 use Rattle.shr_assemble.proofs.Rows.{IsFit, DidEach, IsThereItem, along}
-use Rattle.shr_assemble.proofs.Crews.{IsCrew, crew, there_at}
+use Rattle.shr_assemble.proofs.Crews.{IsCrew, crew}
 use Rattle.shr_assemble.proofs.EndsPlaces.{below_or}
 use Rattle.shr_assemble.proofs.Opening.{known_opened, on_are}
 use Rattle.shr_assemble.proofs.SweptRows.{items_there}
@@ -77,12 +78,7 @@ module _ (x : Shared) (did : DidEach x) (logs : List WorkerLog) (e : Ends) (ends
         chained = row.chained;
         walks = made.walks worker ∙ (ap log_walks at_log ∙ (worked.walks ∙ (ap (λ (t : WorkerState). t.walks) (sym row.ends) ∙ along (λ (t : WorkerState). t.walks) (λ (y : Step). y.work.walks) (λ y d. d.walks) (new_worker ends.opened worker).seats mine row.chained)));
         carries = made.carries worker ∙ (ap log_carries at_log ∙ (worked.carries ∙ (ap (λ (t : WorkerState). t.carries) (sym row.ends) ∙ along (λ (t : WorkerState). t.carries) (λ (y : Step). y.work.carries) (λ y d. d.carries) (new_worker ends.opened worker).seats mine row.chained)));
-        each = λ k y h. let s = row.each k y h in record {
-          by = s.0;
-          command = ap (λ l. slice_get l k) (sym commands) ∙ s.1;
-          answered = ap (λ l. slice_get l k) answers ∙ s.2;
-          did = s.3;
-        };
+        each = λ k y h. let s = row.each k y h in assumption (ap (λ (l : List Command). slice_get l k) (sym commands) ∙ s.1, ap (λ (l : List Answered). slice_get l k) answers ∙ s.2, s);
         isolations = made.isolations worker ∙ (ap log_isolations at_log ∙ (worked.isolations ∙ row.recorded));
         by_law = λ k y h. subst (λ (n : ℕ). DidIsolations x.script y n) (let z : 0 + isolated_before mine k ≡ isolated_before mine k = omega arith in z) (row.by_law k y h);
         pops = row.pops;
@@ -99,19 +95,9 @@ module _ (x : Shared) (did : DidEach x) (logs : List WorkerLog) (e : Ends) (ends
 
   -- what each worker knows and has done at the start
   is_new : (worker : ℕ) → IsNewWorker x.script (new_worker ends.opened worker).seats
-  is_new worker = record {
-    did = refl;
-    made = refl;
-    seen = refl;
-    sets = refl;
-    pool = let known = known_opened x.script.caches.items (length x.script.caches.items) ends.opened ends.entered in let are = on_are x.script.caches.items 0 in omega (arith, known, are);
-    ops = refl;
-    charges = refl;
-    uncharges = refl;
-    tree = refl;
-    walks = refl;
-    carries = refl;
-  }
+  is_new worker =
+      let known = known_opened x.script.caches.items (length x.script.caches.items) ends.opened ends.entered in let are = on_are x.script.caches.items 0 in
+      let pool : length (decls_on x.script) ≤ length (new_worker ends.opened worker).seats.core.turns.known = omega (arith, known, are) in assumption pool
 
   pub steps : ((worker k : ℕ) (y : Step) → slice_get (steps_of workers worker) k ≡ Some y → IsShownIn x.script r workers y.after) → AreRunSteps x.script r workers
   steps shown = record {

@@ -1,6 +1,6 @@
 -- The moves of each worker in the line of all moves of the deferred words, of a run whose workers are done.
-use Rattle.shr_assemble.proofs.Common.{◌≡◌, ℕ, zero, suc, ◌+◌, ◌<◌, ◌≤◌, List, [], ◌∷◌, ◌++◌, length, sym, refl, ap, subst, ◌∙◌, arith, flat_map, slice_get, Option, Some, None, same_Some, none-some, slice_get_within, dite, dec_lt, Deed, by_seat, part, Move, Moves, Shared, WorkerState, CrewState, Ends, Report, WorkerLog, Firsts, with_workers, firsts_at_start, AreEndsOf, new_worker, IsMadeOf, Step, steps_in, steps_of, no_moves, strand_at}
-use Rattle.shr_assemble.proofs.Crews.{there_at}
+use Rattle.shr_assemble.proofs.Common.{◌≡◌, ℕ, zero, suc, ◌+◌, ◌≤◌, List, [], ◌∷◌, length, sym, refl, ap, subst, ◌∙◌, arith, flat_map, slice_get, Some, same_Some, none-some, slice_get_within, dite, dec_lt, by_seat, part, Moves, Shared, WorkerState, CrewState, Ends, Report, WorkerLog, Firsts, with_workers, firsts_at_start, AreEndsOf, new_worker, IsMadeOf, Step, steps_in, steps_of, no_moves, strand_at, slice_get_past}
+use Rattle.shr_model.proofs.Lists.{there_at}
 use Rattle.shr_assemble.proofs.EndsSteps.{workers, is_crew}
 use Rattle.shr_assemble.proofs.Joined.{joined_list}
 use Rattle.shr_assemble.proofs.Rows.{DidEach, along}
@@ -17,11 +17,6 @@ past_own : (ws : List CrewState) (i : ℕ) → length ws ≤ i → strand_at (fl
 past_own [] i le = refl
 past_own (x ∷ ws) zero le = absurd (omega (arith, le))
 past_own (x ∷ ws) (suc i) le = past_own ws i (omega (arith, le))
-
-past_end : {A : Type 0} (xs : List A) (i : ℕ) → length xs ≤ i → slice_get xs i ≡ None
-past_end [] i le = refl
-past_end (x ∷ xs) zero le = absurd (omega (arith, le))
-past_end (x ∷ xs) (suc i) le = past_end xs i (omega (arith, le))
 
 module _ (x : Shared) (did : DidEach x) (logs : List WorkerLog) (e : Ends) (ends : AreEndsOf x logs e) (r : Report) (made : IsMadeOf x.script logs e r) where
   abbrev start : Firsts
@@ -52,7 +47,7 @@ module _ (x : Shared) (did : DidEach x) (logs : List WorkerLog) (e : Ends) (ends
       dite (dec_lt i (length ends.lasts))
       (λ low. let last = there_at ends.lasts i low in let steps = there_at mine i (omega (arith, low, lasts, many)) in
       at_own ends.lasts i last.0 last.1 ∙ (moved i last.0 steps.0 last.1 steps.1 ∙ ap (λ o. moves_of (steps_in o)) (sym steps.1)))
-      (λ no. past_own ends.lasts i (omega (arith, no)) ∙ ap (λ o. moves_of (steps_in o)) (sym (past_end mine i (omega (arith, no, lasts, many)))))
+      (λ no. past_own ends.lasts i (omega (arith, no)) ∙ ap (λ o. moves_of (steps_in o)) (sym (slice_get_past mine i (omega (arith, no, lasts, many)))))
 
   pub parts : (worker : ℕ) → part (1 + worker) ends.history.line ≡ by_seat (1 + worker) (flat_map (λ (y : Step). y.work.moves) (steps_of (workers x did logs e ends r made) worker))
   parts worker = subst (λ (k : ℕ). part k ends.history.line ≡ by_seat k (moves_of (steps_of mine worker))) (let next : suc worker ≡ 1 + worker = omega arith in next)

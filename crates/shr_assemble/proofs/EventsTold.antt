@@ -1,7 +1,6 @@
 -- What an event tells of the measures that only grow, and which event it is that tells a number.
-use Rattle.shr_assemble.proofs.Common.{◌≡◌, ℕ, ◌+◌, ◌<◌, ◌≤◌, Bool, true, false, ◌&&◌, [], ◌∷◌, length, sym, ap, ◌∙◌, arith, eqb, nat_lt, and_parts, eqb-true, PoolEntry, Registered, Unregistered, Idle, place_number, attempts_in, Event, counted, made, looked, loaded, turned, put_back, raised, cleared, mapped, EventTells, ToldMeasure, entries, lookups, turns, TurnTells}
+use Rattle.shr_assemble.proofs.Common.{◌≡◌, ℕ, ◌+◌, ◌≤◌, Bool, true, false, ◌&&◌, length, sym, ap, ◌∙◌, arith, eqb, nat_lt, and_parts, eqb-true, PoolEntry, Registered, Unregistered, Idle, place_number, attempts_in, Event, counted, made, looked, loaded, turned, EventTells, ToldMeasure, entries, lookups, turns, TurnTells}
 use Rattle.shr_core.specs.Ranks as core
-use Rattle.shr_assemble.proofs.Crews.{there_at}
 
 -- ---- the event of what is told, by its numbers
 abbrev pub is_entry : ℕ → ℕ → Event → Bool

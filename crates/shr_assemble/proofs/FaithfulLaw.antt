@@ -1,11 +1,11 @@
 -- The report of a run is faithful: what its workers told stands in the order of their commands.
-use Rattle.shr_assemble.proofs.Common.{◌≡◌, ℕ, ⊎_elim, List, [], ◌∷◌, sym, ◌∙◌, slice_get, Some, Registered, Unregistered, Answered, Reply, Script, Turn, Report, pool_made, pool_made_by, Step, IsAmong, steps_of, IsRun, zero, suc, ◌+◌, ◌<◌, ◌≤◌, inr, ◌++◌, length, map, ap, subst, arith, option_and_then, AllByRecursion, IsSomeAnd, none-some, same_Some, Done, UseStep, Serial, Command, Offline, Carry, group_named, IsAtOrAbove, each_append, each_weaker, Has, slice_get_within, Begins, begins_all, begins_more, AreRising, IsLaterThan, WorkerState, parents_of, decls_on, serial_of, all_carries, pool_seen, of_answer, IsFaithful, DidCarry, IsEntryOf, AreStepsChained, done_at, by_slices, some_at, EachAnswer, pool_reached, tree_reached, tree_made, AreNotAbove, IsOverOnPath}
+use Rattle.shr_assemble.proofs.Common.{◌≡◌, ℕ, ⊎_elim, List, [], ◌∷◌, sym, ◌∙◌, slice_get, Some, Registered, Unregistered, Answered, Reply, Script, Turn, Report, pool_made, pool_made_by, Step, IsAmong, steps_of, IsRun, ◌+◌, ◌<◌, ◌≤◌, inr, ◌++◌, length, map, ap, subst, arith, option_and_then, AllByRecursion, IsSomeAnd, same_Some, Done, UseStep, Serial, Command, Offline, Carry, group_named, IsAtOrAbove, each_append, each_weaker, Has, slice_get_within, Begins, begins_all, begins_more, AreRising, IsLaterThan, WorkerState, parents_of, decls_on, serial_of, all_carries, pool_seen, of_answer, IsFaithful, DidCarry, IsEntryOf, AreStepsChained, done_at, by_slices, some_at, EachAnswer, pool_reached, tree_reached, tree_made, AreNotAbove, IsOverOnPath, Grows}
 use Rattle.shr_base.specs.declared.replies.Reply.TheVariants as reply
 use Rattle.shr_assemble.specs.Causes as by
 use Rattle.shr_assemble.proofs.FreshLaw.{of_is, step_cases, none_given, begins_length}
 use Rattle.shr_charge.specs.Views as charge
 use Rattle.shr_assemble.proofs.BitsToldLaw.{bits_told}
-use Rattle.shr_assemble.proofs.Gathering.{first_grows, work_of, grows, stepped, has_step, each_among}
+use Rattle.shr_assemble.proofs.Gathering.{first_grows, work_of, grows, stepped, has_step, each_among, later_along}
 use Rattle.shr_assemble.proofs.Listed.{all_carries_are, all_among, PairsRec, pairs_rec, op_of, op_by, rise_along, among_has, across, Has_begins}
 use Rattle.shr_assemble.proofs.JournalsLaw.{one_turn_maker}
 use Rattle.shr_assemble.proofs.ClimbsLaw.{climbs}
@@ -37,16 +37,8 @@ around : (b : ℕ) (ns ms : List ℕ) → AllByRecursion (λ n. n ≤ b) ns → 
 around b ns ms lo hi = each_weaker (λ n. n ≤ b) (λ n. AllByRecursion (λ m. n ≤ m) ms) (λ n le. each_weaker (λ m. b ≤ m) (λ m. n ≤ m) (λ m ge. omega (arith, le, ge)) ms hi) ns lo
 
 -- ---- what a worker noted of charges along its steps
-first_ops : (t : WorkerState) (mine : List Step) (k : ℕ) (x : Step) → AreStepsChained t mine → slice_get mine k ≡ Some x → Begins t.uses.ops x.before.uses.ops
-first_ops t [] k x c e = absurd (none-some x e)
-first_ops t (y ∷ mine) zero x c e = subst (λ (u : WorkerState). Begins u.uses.ops x.before.uses.ops) (ap (λ (z : Step). z.before) (sym (same_Some y x e)) ∙ c.0) (begins_all _)
-first_ops t (y ∷ mine) (suc k) x c e = begins_more _ _ _ (subst (λ (u : WorkerState). Begins u.uses.ops y.after.uses.ops) c.0 (y.work.ops, ap (λ u. u.ops) c.1.uses)) (first_ops y.after mine k x c.2 e)
-
 later_ops : (t : WorkerState) (mine : List Step) (k later : ℕ) (x y : Step) → AreStepsChained t mine → k < later → slice_get mine k ≡ Some x → slice_get mine later ≡ Some y → Begins x.after.uses.ops y.before.uses.ops
-later_ops t [] k later x y c lt e d = absurd (none-some x e)
-later_ops t (z ∷ mine) k zero x y c lt e d = absurd (omega arith)
-later_ops t (z ∷ mine) zero (suc later) x y c lt e d = subst (λ (v : Step). Begins v.after.uses.ops y.before.uses.ops) (same_Some z x e) (first_ops z.after mine later y c.2 d)
-later_ops t (z ∷ mine) (suc k) (suc later) x y c lt e d = later_ops z.after mine k later x y c.2 (omega arith) e d
+later_ops = later_along (λ s t. Begins s.uses.ops t.uses.ops) (λ s. begins_all s.uses.ops) (λ s t u. begins_more s.uses.ops t.uses.ops u.uses.ops) (λ x b. (x.work.ops, ap (λ u. u.ops) b.uses))
 
 module _ (s : Script) (r : Report) (workers : List (List Step)) (run : IsRun s r workers) where
   -- ---- the journal of registrations
@@ -80,17 +72,24 @@ module _ (s : Script) (r : Report) (workers : List (List Step)) (run : IsRun s r
       (each_weaker (λ n. (length x.before.core.turns.known ≤ n) × (n ≤ length x.after.core.turns.known)) (λ n. n ≤ length x.after.core.turns.known) (λ n p. p.1) (pool_seen x.answered) did.seen)
       (successors (length x.after.core.turns.known) (pool_made x.answered.reply) did.made)
 
-  pool_later : (worker k later : ℕ) → k < later → AreNotAbove (of_answer r (serial_of worker k) pool_reached) (pool_made_by r worker later)
-  pool_later worker k later lt = ⊎_elim
+  -- none of these numbers, which a worker knows at the end of a step, is above those, which it made behind what it knew before a later one
+  later_not_above : (reached made : Answered → List ℕ) (known : WorkerState → ℕ) → ((t u : WorkerState) → Grows t u → known t ≤ known u)
+      → ((worker k : ℕ) (x : Step) → slice_get (steps_of workers worker) k ≡ Some x → AllByRecursion (λ n. n ≤ known x.after) (reached x.answered))
+      → ((worker k : ℕ) (x : Step) → slice_get (steps_of workers worker) k ≡ Some x → AllByRecursion (λ n. known x.before ≤ n) (made x.answered))
+      → (worker k later : ℕ) → k < later → AreNotAbove (of_answer r (serial_of worker k) reached) (of_answer r (serial_of worker later) made)
+  later_not_above reached made known grown ended begun worker k later lt = ⊎_elim
       (λ x. ⊎_elim
-      (λ y. let g = begins_length x.0.after.core.turns.known y.0.before.core.turns.known (grows s r workers run worker k later x.0 y.0 lt x.1 y.1).pool in
-      subst (λ l. AreNotAbove l (pool_made_by r worker later)) (sym (of_is s r workers run worker k x.0 pool_reached x.1))
-      (subst (AreNotAbove (pool_reached x.0.answered)) (sym (of_is s r workers run worker later y.0 (λ (a : Answered). pool_made a.reply) y.1))
-      (around (length x.0.after.core.turns.known) (pool_reached x.0.answered) (pool_made y.0.answered.reply) (reached_of x.0 worker k x.1)
-      (each_weaker (λ m. length y.0.before.core.turns.known ≤ m) (λ m. length x.0.after.core.turns.known ≤ m) (λ m le. omega (arith, le, g)) (pool_made y.0.answered.reply)
-      (made_from worker later y.0 y.0.answered.reply y.1 (run.steps.each worker later y.0 y.1).did.cause)))))
-      (λ none. subst (AreNotAbove (of_answer r (serial_of worker k) pool_reached)) (sym (none_given s r workers run worker later (λ (a : Answered). pool_made a.reply) none)) (above_none _)) (step_cases s r workers run worker later))
-      (λ none. subst (λ l. AreNotAbove l (pool_made_by r worker later)) (sym (none_given s r workers run worker k pool_reached none)) tt) (step_cases s r workers run worker k)
+      (λ y. let g = grown x.0.after y.0.before (grows s r workers run worker k later x.0 y.0 lt x.1 y.1) in
+      subst (λ l. AreNotAbove l (of_answer r (serial_of worker later) made)) (sym (of_is s r workers run worker k x.0 reached x.1))
+      (subst (AreNotAbove (reached x.0.answered)) (sym (of_is s r workers run worker later y.0 made y.1))
+      (around (known x.0.after) (reached x.0.answered) (made y.0.answered) (ended worker k x.0 x.1)
+      (each_weaker (λ m. known y.0.before ≤ m) (λ m. known x.0.after ≤ m) (λ m le. omega (arith, le, g)) (made y.0.answered) (begun worker later y.0 y.1)))))
+      (λ none. subst (AreNotAbove (of_answer r (serial_of worker k) reached)) (sym (none_given s r workers run worker later made none)) (above_none _)) (step_cases s r workers run worker later))
+      (λ none. subst (λ l. AreNotAbove l (of_answer r (serial_of worker later) made)) (sym (none_given s r workers run worker k reached none)) tt) (step_cases s r workers run worker k)
+
+  pool_later : (worker k later : ℕ) → k < later → AreNotAbove (of_answer r (serial_of worker k) pool_reached) (pool_made_by r worker later)
+  pool_later = later_not_above pool_reached (λ (a : Answered). pool_made a.reply) (λ t. length t.core.turns.known) (λ t u g. begins_length t.core.turns.known u.core.turns.known g.pool)
+      (λ worker k x at. reached_of x worker k at) (λ worker k x at. made_from worker k x x.answered.reply at (run.steps.each worker k x at).did.cause)
 
   -- ---- the journal of the tree
   tree_known : (x : Step) (z : Reply) → by.IsCausedBy s x z → AllByRecursion (λ n. n ≤ length x.after.tree.known) (tree_reached z)
@@ -105,16 +104,8 @@ module _ (s : Script) (r : Report) (workers : List (List Step)) (run : IsRun s r
   tree_from worker k x y at h = tt
 
   tree_later : (worker k later : ℕ) → k < later → AreNotAbove (of_answer r (serial_of worker k) (λ (a : Answered). tree_reached a.reply)) (of_answer r (serial_of worker later) (λ (a : Answered). tree_made a.reply))
-  tree_later worker k later lt = ⊎_elim
-      (λ x. ⊎_elim
-      (λ y. let g = begins_length x.0.after.tree.known y.0.before.tree.known (grows s r workers run worker k later x.0 y.0 lt x.1 y.1).tree in
-      subst (λ l. AreNotAbove l (of_answer r (serial_of worker later) (λ (a : Answered). tree_made a.reply))) (sym (of_is s r workers run worker k x.0 (λ (a : Answered). tree_reached a.reply) x.1))
-      (subst (AreNotAbove (tree_reached x.0.answered.reply)) (sym (of_is s r workers run worker later y.0 (λ (a : Answered). tree_made a.reply) y.1))
-      (around (length x.0.after.tree.known) (tree_reached x.0.answered.reply) (tree_made y.0.answered.reply) (tree_known x.0 x.0.answered.reply (run.steps.each worker k x.0 x.1).did.cause)
-      (each_weaker (λ m. length y.0.before.tree.known ≤ m) (λ m. length x.0.after.tree.known ≤ m) (λ m le. omega (arith, le, g)) (tree_made y.0.answered.reply)
-      (tree_from worker later y.0 y.0.answered.reply y.1 (run.steps.each worker later y.0 y.1).did.cause)))))
-      (λ none. subst (AreNotAbove (of_answer r (serial_of worker k) (λ (a : Answered). tree_reached a.reply))) (sym (none_given s r workers run worker later (λ (a : Answered). tree_made a.reply) none)) (above_none _)) (step_cases s r workers run worker later))
-      (λ none. subst (λ l. AreNotAbove l (of_answer r (serial_of worker later) (λ (a : Answered). tree_made a.reply))) (sym (none_given s r workers run worker k (λ (a : Answered). tree_reached a.reply) none)) tt) (step_cases s r workers run worker k)
+  tree_later = later_not_above (λ (a : Answered). tree_reached a.reply) (λ (a : Answered). tree_made a.reply) (λ t. length t.tree.known) (λ t u g. begins_length t.tree.known u.tree.known g.tree)
+      (λ worker k x at. tree_known x x.answered.reply (run.steps.each worker k x at).did.cause) (λ worker k x at. tree_from worker k x x.answered.reply at (run.steps.each worker k x at).did.cause)
 
   -- ---- operations
   uses_rise : (m n : ℕ) (o p : UseStep) → slice_get r.uses.items m ≡ Some o → slice_get r.uses.items n ≡ Some p → o.group ≡ p.group → o.by.worker ≡ p.by.worker → o.by.command < p.by.command → o.operation < p.operation

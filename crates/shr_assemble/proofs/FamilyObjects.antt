@@ -1,5 +1,6 @@
 -- What holds of each object that is added holds of each that is listed or freed, and what journals free, entry by entry.
 use Rattle.shr_assemble.proofs.Common.{◌≡◌, ℕ, zero, suc, Bool, true, false, not, cond, List, [], ◌∷◌, ◌++◌, length, length-append, take, sym, refl, ap, ◌∙◌, arith, eqb, append_assoc, Some, None, Option, find, AllByRecursion, enumerate_from, take_at, Object, Policy, Place, Entry, Add, Look, Drop, Pin, Scan, MovedIn, Closed, Drained, is_child, is_named, holds, named_in, fresh, marked_object, unmarked_object, pinned_object, step, dropped_of, freed_by, first_moved, later_moved, is_closing, at_group, Family, without_child, items_given, lists_moved_at, items_at, before_closed, each_append, total, total-append, take_while, prefix_len, change_first, without_first, items_from_push}
+use Rattle.shr_model.proofs.ItemsLaws.{moved_from_push}
 use Rattle.shr_base.specs.declared.objects.LruStatus.{LruStatus}
 use Rattle.shr_base.specs.declared.objects.LruStatus.TheVariants.{Removed, Rotate, Skip, Stop}
 use Rattle.shr_model.specs.Scan.{case_of, Scanned, scan_ends, after_visit, after_freeing, scan_from}
@@ -133,11 +134,6 @@ module _ (P : Object → Type 0) (marks : (o : Object) → P o → P (marked_obj
         (within_kept (length parents) (at_group place c) (before_closed (family (at_group place c))) (while_kept (λ e. not (is_closing e)) (family (at_group place c)) (own (at_group place c)))) tt)) tt (take_kept n (family place) (own place))
 
 -- ---- what a journal frees, entry by entry
-moved_push : (moved : List (List Object)) (es : List Entry) (e : Entry) → moved_from moved (es ++ e ∷ []) ≡ later_moved e (moved_from moved es)
-unfolding moved_from
-moved_push moved [] e = refl
-moved_push moved (x ∷ es) e = moved_push (later_moved x moved) es e
-
 module _ (h : Object → ℕ) (moved : List (List Object)) (all : List Entry) where
   freed_sum_from : (before es : List Entry) → all ≡ before ++ es → total h (freed_from (moved_from moved before) (items_from moved [] before) es)
       ≡ total (λ (e : ℕ × Entry). total h (freed_by (items_from moved [] (take e.0 all)) e.1)) (enumerate_from (length before) es)
@@ -147,7 +143,7 @@ module _ (h : Object → ℕ) (moved : List (List Object)) (all : List Entry) wh
     arith,
     total-append h (freed_by (items_from moved [] before) x) (freed_from (later_moved x (moved_from moved before)) (step (first_moved (moved_from moved before)) (items_from moved [] before) x) es),
     ap (λ (l : List Entry). total h (freed_by (items_from moved [] l) x)) (sym (ap (take (length before)) e ∙ take_at before (x ∷ es) (length before) refl)),
-    ap (λ (m : List (List Object)). total h (freed_from m (step (first_moved (moved_from moved before)) (items_from moved [] before) x) es)) (sym (moved_push moved before x)),
+    ap (λ (m : List (List Object)). total h (freed_from m (step (first_moved (moved_from moved before)) (items_from moved [] before) x) es)) (sym (moved_from_push moved before x)),
     ap (λ (i : List Object). total h (freed_from (moved_from moved (before ++ x ∷ [])) i es)) (sym (items_from_push moved [] before x)),
     freed_sum_from (before ++ x ∷ []) es (e ∙ sym (append_assoc before (x ∷ []) es)),
     ap (λ (n : ℕ). total (λ (p : ℕ × Entry). total h (freed_by (items_from moved [] (take p.0 all)) p.1)) (enumerate_from n es)) (length-append before (x ∷ [])),

@@ -1,5 +1,5 @@
 -- Which bits a command set: those of the lists that it filled, and those that its walks set again.
-use Rattle.shr_assemble.proofs.Common.{◌≡◌, ◌⊎◌, inl, inr, ℕ, zero, suc, ◌<◌, Bool, true, false, cond, List, [], ◌∷◌, ◌++◌, length, sym, refl, ap, subst, ◌∙◌, arith, append_assoc, ◌&&◌, ◌==◌, nat_lt, flat_map, map-append, dite, ℕ_discrete, and_parts, ltb-true, some-injective, some-ne-none, Entry, Add, Look, Drop, Pin, Scan, MovedIn, Closed, Drained, Object, WalkRecord, Has, step, Deed, by_seat, Each, times, only, Each-none, Each-weaker, some_term, only_no, View, Gained, Adds, among, group_of, Made, Event, counted, made, looked, loaded, turned, put_back, raised, cleared, mapped, is_raised, bits_for, Fills, IsListFilled, IsAmong, set_by_walk, sets_in, cleared_in}
+use Rattle.shr_assemble.proofs.Common.{◌≡◌, ◌⊎◌, inl, inr, ℕ, zero, suc, ◌<◌, Bool, true, false, cond, List, [], ◌∷◌, ◌++◌, length, sym, refl, ap, subst, ◌∙◌, arith, append_assoc, ◌&&◌, ◌==◌, nat_lt, flat_map, map-append, dite, ℕ_discrete, and_parts, ltb-true, some-injective, some-ne-none, Entry, Add, Scan, Object, WalkRecord, Has, step, Deed, by_seat, Each, times, only, Each-none, Each-weaker, some_term, only_no, View, Gained, Adds, among, group_of, Made, Event, raised, is_raised, bits_for, Fills, IsListFilled, IsAmong, set_by_walk, sets_in, cleared_in}
 use Rattle.shr_model.specs.Scan.{scan_from}
 use Rattle.shr_assemble.proofs.Listed.{among_has, either}
 use Rattle.shr_node.proofs.Places.{none_in}
@@ -50,8 +50,8 @@ pub set_none : (ms : List Made) (walks : List WalkRecord) (places : List ℕ) �
 set_none ms walks places none = subst (Each (IsSet ms walks)) (sym none) (Each-none (IsSet ms walks))
 
 -- ---- the order of what a command did
-none_left : {A : Type 0} (xs ys : List A) → xs ++ ys ≡ [] → ys ≡ []
-none_left [] ys e = e
+pub none_left : {A : Type 0} (xs ys : List A) → xs ++ ys ≡ [] → (xs ≡ []) × (ys ≡ [])
+none_left [] ys e = (refl, e)
 none_left (x ∷ xs) ys e = absurd (cc)
 
 raised_of : (e : Event) (k : ℕ) → Has (sets_in e) k → e ≡ raised k
@@ -66,7 +66,7 @@ raised_at (e ∷ es) k h = either (sets_in e) (among sets_in es) k h (λ here. (
 
 clears_back : (front back : List Event) (k : ℕ) → among cleared_in (front ++ raised k ∷ back) ≡ [] → among cleared_in back ≡ []
 clears_back [] back k e = e
-clears_back (x ∷ front) back k e = clears_back front back k (none_left (cleared_in x) (among cleared_in (front ++ raised k ∷ back)) e)
+clears_back (x ∷ front) back k e = clears_back front back k (none_left (cleared_in x) (among cleared_in (front ++ raised k ∷ back)) e).1
 
 -- a seat that set a bit in the second of two works, in which it cleared none, cleared none behind that
 pub set_last : (u v w : View) (g h : Gained) → Adds u v g → Adds v w h → (k : ℕ) → 0 < times k h.sets → h.cleared ≡ []

@@ -1,5 +1,5 @@
 -- Registrations that begin the journal take the ids in order.
-use Rattle.shr_assemble.proofs.Common.{◌≡◌, ℕ, zero, suc, ◌%◌, ◌<◌, ◌≤◌, ◌≢◌, ⊎_elim, Bool, true, false, cond, List, [], ◌∷◌, ◌++◌, take, sym, refl, ap, subst, ◌∙◌, arith, eq-eqb, ne_eqb, Some, slice_get, nat_lt, ◌&&◌, ◌==◌, cases_lt, same_Some, none-some, dite, ℕ_discrete, get_elem?, PoolEntry, Registered, is_free, lowest_idle, IsPoolJournal, phase_of_push, some_at, one_of}
+use Rattle.shr_assemble.proofs.Common.{◌≡◌, ℕ, zero, suc, ◌%◌, ◌<◌, ◌≤◌, ◌≢◌, ⊎_elim, Bool, true, false, cond, List, [], ◌∷◌, ◌++◌, take, sym, refl, ap, subst, ◌∙◌, arith, eq-eqb, ne_eqb, Some, slice_get, nat_lt, ◌&&◌, ◌==◌, cases_lt, same_Some, none-some, dite, ℕ_discrete, PoolEntry, Registered, is_free, lowest_idle, IsPoolJournal, phase_of_push, some_at, one_of}
 use Rattle.shr_model.specs.Pool.{phase_of, lowest_free}
 
 -- the lowest free id is free, and no lower one is
@@ -57,7 +57,7 @@ first_more n decl es h = record {
   idle = λ id le. omega (arith, phase_of_push id es (Registered decl n 0), h.idle id (omega (arith, le)), else_one decl n id (λ e. omega (arith, e, le)));
 }
 
-take_next : {A : Type 0} (xs : List A) (n : ℕ) (x : A) → slice_get xs n ≡ Some x → take (suc n) xs ≡ take n xs ++ x ∷ []
+pub take_next : {A : Type 0} (xs : List A) (n : ℕ) (x : A) → slice_get xs n ≡ Some x → take (suc n) xs ≡ take n xs ++ x ∷ []
 take_next [] n x e = absurd (none-some x e)
 take_next (y ∷ xs) zero x e = ap (λ z. z ∷ []) (same_Some y x e)
 take_next (y ∷ xs) (suc n) x e = ap (λ l. y ∷ l) (take_next xs n x e)

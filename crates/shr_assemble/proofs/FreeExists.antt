@@ -1,15 +1,15 @@
 -- A put whose group and key no other put names isn't answered that its object exists: each object so named is its own.
-use Rattle.shr_assemble.proofs.Common.{◌≡◌, ℕ, zero, suc, ◌<◌, ◌≤◌, inl, inr, Bool, true, false, not, ◌||◌, ◌==◌, cond, List, [], ◌∷◌, ◌++◌, length, take, sym, refl, ap, subst, ◌∙◌, arith, slice_get, Some, bytes_eq, AllByRecursion, list_any, cases_Bool, and_parts, eqb-true, Contains-permutation, IsPermutation-sym, same_Some, none-some, slice_get_within, Object, At, Place, Serial, Entry, Add, Look, Drop, Pin, Scan, MovedIn, Closed, Drained, Command, Put, Get, Del, SetPin, Script, added_by, added_by_all, added_in, listed_in, is_serial, items_at, lists_moved_at, step, IsOutcome, first_moved, later_moved, by_of, is_named, holds, marked_object, unmarked_object, pinned_object, Has, Has_from_Contains, Contains_from_Has, each_has, flat_map_has, weight, mass, weight_append, place_at, Made, Report, parents_of, commands_of, serial_of, journals_of, places_of, cited_at, id_found, at, IsOnlyPut, MayMakeEntry, IsRun, Step, by_slices, serial_itself, freed_in}
+use Rattle.shr_assemble.proofs.Common.{◌≡◌, ℕ, zero, suc, ◌<◌, ◌≤◌, inl, inr, Bool, true, false, not, ◌==◌, cond, List, [], ◌∷◌, ◌++◌, length, take, sym, refl, ap, subst, ◌∙◌, arith, slice_get, Some, bytes_eq, AllByRecursion, and_parts, eqb-true, Contains-permutation, IsPermutation-sym, same_Some, none-some, slice_get_within, Object, At, Place, Serial, Entry, Add, Command, Put, Get, Del, SetPin, Script, added_by, added_by_all, added_in, listed_in, is_serial, items_at, lists_moved_at, step, IsOutcome, first_moved, later_moved, by_of, is_named, holds, marked_object, unmarked_object, pinned_object, Has, Has_from_Contains, Contains_from_Has, each_has, flat_map_has, weight, mass, weight_append, place_at, Made, Report, parents_of, commands_of, serial_of, journals_of, places_of, cited_at, id_found, at, IsOnlyPut, MayMakeEntry, IsRun, Step, by_slices, serial_itself, freed_in}
+use Rattle.shr_model.proofs.Weights.{is_serial_same}
 use Rattle.std.specs.Cmp.Lexicographic.{bytes_decides}
 use Rattle.shr_model.specs.Items.{items_from, moved_from, AreOutcomes}
 use Rattle.shr_assemble.proofs.BagLaw.{whole, bag}
 use Rattle.shr_assemble.proofs.FamilyObjects.{AddIs, items_at_kept}
 use Rattle.shr_assemble.proofs.Gathering.{each_among, maker, made_stands}
-use Rattle.shr_assemble.proofs.Listed.{contains_slice}
+use Rattle.shr_assemble.proofs.Listed.{contains_slice, any_has}
 use Rattle.shr_assemble.proofs.RepliesLaw.{told_of, cited}
 use Rattle.shr_assemble.proofs.ReplyEntries.{IsEntryFor, entry_asked}
 use Rattle.shr_assemble.proofs.WornWeights.{one_list, freed_total}
-use Rattle.shr_assemble.proofs.LimitsLaw.{serial_same}
 
 -- ---- lists
 
@@ -19,13 +19,6 @@ unfolding AreOutcomes moved_from items_from
 outcome_at moved items [] n e h at = absurd (none-some e at)
 outcome_at moved items (x ∷ es) zero e h at = subst (IsOutcome (first_moved moved) items) (same_Some x e at) h.0
 outcome_at moved items (x ∷ es) (suc n) e h at = outcome_at (later_moved x moved) (step (first_moved moved) items x) es n e h.1 at
-
-any_has : {A : Type 0} (test : A → Bool) (xs : List A) → list_any test xs ≡ true → (x : A) × Has xs x × (test x ≡ true)
-any_has test [] h = absurd (let f : false ≡ true = h in cc)
-any_has test (x ∷ xs) h = elim (cases_Bool (test x)) [
-  | inl here ↦ (x, inl refl, here)
-  | inr not_it ↦ let t = any_has test xs (sym (ap (λ b. b || list_any test xs) not_it) ∙ h) in (t.0, inr t.1, t.2)
-]
 
 not_true : (b : Bool) → false ≡ not b → b ≡ true
 not_true true e = refl
@@ -105,7 +98,7 @@ module _ (s : Script) (r : Report) (workers : List (List Step)) (run : IsRun s r
       let parts = freed_total w (parents_of s) run.journals.parents (journals_of r) run.journals.legal run.journals.paired (places_of r) (whole s r workers run) (places_of r) in
       let both = weight_append w (freed_in (places_of r) (parents_of s) (journals_of r)) (listed_in (places_of r) (parents_of s) (journals_of r)) in
       let one = weight_has w (freed_in (places_of r) (parents_of s) (journals_of r) ++ listed_in (places_of r) (parents_of s) (journals_of r)) (omega (arith, heavy, in_list, in_all, parts, both)) in
-      let same : by ≡ one.0 = serial_same by one.0 (weighs (is_serial by one.0) one.2) in
+      let same : by ≡ one.0 = is_serial_same by one.0 (weighs (is_serial by one.0) one.2) in
       let added = Has_from_Contains (added_in (places_of r) (journals_of r)) one.0 (Contains-permutation (freed_in (places_of r) (parents_of s) (journals_of r) ++ listed_in (places_of r) (parents_of s) (journals_of r)) (added_in (places_of r) (journals_of r)) one.0
       (IsPermutation-sym (added_in (places_of r) (journals_of r)) (freed_in (places_of r) (parents_of s) (journals_of r) ++ listed_in (places_of r) (parents_of s) (journals_of r)) (bag s r workers run).parts)
       (Contains_from_Has (freed_in (places_of r) (parents_of s) (journals_of r) ++ listed_in (places_of r) (parents_of s) (journals_of r)) one.0 one.1)) in

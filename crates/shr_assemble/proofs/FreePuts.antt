@@ -1,5 +1,6 @@
 -- A put that nothing is in the way of is answered Added, or that there was no memory, or that a counter is used up.
 use Rattle.shr_assemble.proofs.Common.{◌≡◌, ◌≢◌, ℕ, zero, suc, ◌+◌, ◌%◌, ◌<◌, inl, inr, true, cond, List, [], ◌∷◌, ◌++◌, take, sym, refl, ap, subst, ◌∙◌, arith, eq-eqb, ne_eqb, slice_get, Option, Some, None, nat_lt, ◌==◌, cases_Bool, and_parts, eqb-true, same_Some, none-some, dite, ℕ_discrete, PoolEntry, Registered, Unregistered, Idle, phase_of, decl_of, is_live_decl, is_free, lowest_idle, IsNextPool, IsPoolJournal, phase_of_push, some_at, decl_from_push, id_of, decl_after, ◌≤◌, ⊎_elim, false, ◌||◌, length, option_map, option_and_then, option_to_list, flat_map, AllByRecursion, list_any, IsSomeAnd, slice_get_within, At, Serial, Answered, Found, Reply, Begin, Command, Put, Script, WalkRecord, group_named, Family, IsAtOrAbove, is_later, begin_of, is_begin, Report, StandsInTree, IsUnmade, IsUncached, IsOffline, MayHaveBegun, pool_seen, pool_told, tree_cited, is_begin_at, shows_begin, walk_cited, of_answer, parents_of, limit_of, decls_on, commands_of, answers_of, serial_of, journals_of, cited_at, cited_by, walks_by, id_found, IsOnlyPut, AreFreePutsAdded, IsReply, HasCause, IsOverBy, IsCausedBy, IsRun, Step, begin_found, later_of, IsUnlimited, StaysOn, StaysOnline, IsFreePut, IsAddedOrSpent, all_right}
+use Rattle.shr_assemble.proofs.FirstIds.{take_next}
 use Rattle.shr_model.specs.Pool.{lowest_free}
 use Rattle.shr_registry.proofs.Searches.{live_below}
 use Rattle.shr_base.specs.declared.replies.Reply.TheVariants as reply
@@ -20,11 +21,6 @@ lowest_is (suc n) from i es h = elim (cases_Bool (is_free from es)) [
 
 pub idle_is : (ids i : ℕ) (es : List PoolEntry) → lowest_idle ids es ≡ Some i → (phase_of i es % 3 ≡ 0) × (i < ids)
 idle_is ids i es h = let t = lowest_is ids 0 i es h in let lt = t.1 in (eqb-true (phase_of i es % 3) 0 (and_parts (phase_of i es % 3 == 0) (nat_lt (phase_of i es) 65533) t.0).0, omega (arith, lt))
-
-pub take_one : (es : List PoolEntry) (k : ℕ) (e : PoolEntry) → slice_get es k ≡ Some e → take (suc k) es ≡ take k es ++ e ∷ []
-take_one [] k e at = absurd (none-some e at)
-take_one (x ∷ es) zero e at = ap (λ y. y ∷ []) (same_Some x e at)
-take_one (x ∷ es) (suc k) e at = ap (λ l. x ∷ l) (take_one es k e at)
 
 pub take_past : (es : List PoolEntry) (k : ℕ) → slice_get es k ≡ None → take (suc k) es ≡ take k es
 take_past [] zero at = refl
@@ -75,11 +71,11 @@ module _ (ids decls : ℕ) (pool : List PoolEntry) (journal : IsPoolJournal ids 
   on_after : (m : ℕ) → n < m → IsOn decl id (take m pool)
   on_after zero lt = absurd (omega (arith, lt))
   on_after (suc m) lt = dite (ℕ_discrete n m)
-      (λ same. subst (λ j. IsOn decl id (take (suc j) pool)) same (subst (IsOn decl id) (sym (take_one pool n (Registered decl id from) opened)) (on_first ids decls decl id from (take n pool) opens)))
+      (λ same. subst (λ j. IsOn decl id (take (suc j) pool)) same (subst (IsOn decl id) (sym (take_next pool n (Registered decl id from) opened)) (on_first ids decls decl id from (take n pool) opens)))
       (λ other. further (slice_get pool m) refl (on_after m (omega (arith, lt, other)))) where
         further : (o : Option PoolEntry) → slice_get pool m ≡ o → IsOn decl id (take m pool) → IsOn decl id (take (suc m) pool)
         further None at on = subst (IsOn decl id) (sym (take_past pool m at)) on
-        further (Some e) at on = subst (IsOn decl id) (sym (take_one pool m e at))
+        further (Some e) at on = subst (IsOn decl id) (sym (take_next pool m e at))
             (on_next ids decls decl id (take m pool) e (journal m e (some_at pool m e at)) (λ i to same. kept m i to (at ∙ ap Some same)) on)
 
   -- it is live after each beginning that has its Registered

@@ -1,5 +1,7 @@
 -- What an answer knew isn't older than what its worker had known before.
 use Rattle.shr_assemble.proofs.Common.{◌≡◌, ℕ, zero, suc, ◌+◌, ◌<◌, ◌≤◌, ◌⊎◌, inl, inr, ⊎_elim, Bool, true, false, ◌||◌, List, [], ◌∷◌, ◌++◌, length, length-append, take, map, get_or, sym, refl, ap, subst, ◌∙◌, arith, slice_get, Option, Some, None, flat_map, option_map, option_and_then, option_to_list, AllByRecursion, list_any, IsSomeAnd, same_Some, none-some, slice_get_within, cases_Bool, append-nil, Serial, Answered, Reply, TreeEntry, Begin, Done, Command, Script, WalkAnswer, WalkRecord, asks_online, is_begin, is_made, is_serial, MayBegin, each_append, each_weaker, Has, Contains_from_Has, each_has, flat_map_has, filter_has, Begins, WorkerState, IsNamed, Report, decls_on, serial_of, command_at, answers_of, walks_of, answer_at, reply_at, walks_by, MayHaveBegun, IsOffline, pool_seen, pool_made, tree_cited, walk_cited, made_shown, of_answer, is_begin_at, shows_begin, shows_offline, MayBeOffline, AreNotFalling, Step, IsAmong, steps_of, AreStepsChained, Grows, KnowsOnline, IsBeginOf, IsEntryOf, IsRun, is_made_grows, is_there, begin_at, done_at, made_at, begin_found, begun_before, is_done, tree_told, tree_seen, shows_made, shown_by, is_done_at, AreBelow, IsFresh, is_begin_of, is_done_of, LoadedState, script_hierarchy, no_test, adjacent}
+use Rattle.shr_model.proofs.Members.{Has_cases}
+use Rattle.shr_model.proofs.Weights.{is_serial_same}
 use Rattle.shr_base.specs.declared.replies.Reply.TheVariants as reply
 use Rattle.shr_base.specs.declared.journals.TreeEntry.TheVariants.{Made}
 use Rattle.shr_base.specs.declared.walks.WalkAnswer.TheVariants as walk
@@ -7,10 +9,9 @@ use Rattle.shr_charge.specs.Views as charge
 use Rattle.shr_charge.specs.declared.answers.GroupState.TheVariants as state
 use Rattle.shr_assemble.specs.Causes as by
 use Rattle.shr_assemble.proofs.Gathering.{among_right, among_begins, work_of, grows, answers, answer_is, reply_is, Stepped, stepped, command_step, first_grows, grows_then, step_grows}
-use Rattle.shr_assemble.proofs.Listed.{all_among, begins_slice, slice_begins, contains_slice, answers_are, walk_of}
+use Rattle.shr_assemble.proofs.Listed.{all_among, begins_slice, slice_begins, contains_slice, answers_are, walk_of, any_has, all_has}
 use Rattle.shr_assemble.proofs.JournalsLaw.{entry_maker, entry_stands, tree_stands}
 use Rattle.shr_assemble.proofs.VersionsLaw.{NotFalling}
-use Rattle.shr_assemble.proofs.LimitsLaw.{serial_same}
 
 -- ---- numbers along a chain
 falls_not : (ns : List ℕ) → AreNotFalling ns → NotFalling ns
@@ -41,11 +42,6 @@ along f low t (x ∷ mine) c h =
       each_append (λ n. low t ≤ n) (f x) (flat_map f mine) (each_weaker (λ n. (low x.before ≤ n) × (n ≤ low x.after)) (λ n. low t ≤ n) (λ n p. let l = p.0 in omega (arith, l, same)) (f x) here.1)
           (each_weaker (λ n. low x.after ≤ n) (λ n. low t ≤ n) (λ n le. let l = here.2 in omega (arith, l, le, same)) (flat_map f mine) rest.1),
     )
-
-Has_cases : {A : Type 0} (xs ys : List A) (x : A) → Has (xs ++ ys) x → Has xs x ⊎ Has ys x
-Has_cases [] ys x h = inr h
-Has_cases (y ∷ xs) ys x (inl e) = inl (inl e)
-Has_cases (y ∷ xs) ys x (inr h) = ⊎_elim (λ a. inl (inr a)) (λ b. inr b) (Has_cases xs ys x h)
 
 pub begins_length : {A : Type 0} (xs ys : List A) → Begins xs ys → length xs ≤ length ys
 begins_length {A} xs ys b = omega (arith, ap (λ (l : List A). length l) b.1, length-append xs b.0)
@@ -155,7 +151,7 @@ module _ (s : Script) (r : Report) (workers : List (List Step)) (run : IsRun s r
         let f = filter_has (λ (v : WalkRecord). is_serial (serial_of worker k) v.by) (walks_of r worker) w.0 w.1 in
         let j = contains_slice (walks_of r worker) w.0 (Contains_from_Has (walks_of r worker) w.0 f.0) in
         let of = walk_of s r workers run worker j.0 w.0 j.1 in
-        let same : of.k ≡ k = ap (λ (b : Serial). b.command) (sym (serial_same (serial_of worker k) w.0.by f.1 ∙ (of.did.by ∙ of.is.by))) in
+        let same : of.k ≡ k = ap (λ (b : Serial). b.command) (sym (is_serial_same (serial_of worker k) w.0.by f.1 ∙ (of.did.by ∙ of.is.by))) in
         let at : slice_get (steps_of workers worker) k ≡ Some of.step = subst (λ i. slice_get (steps_of workers worker) i ≡ Some of.step) same of.at in
         (of.step, at, word_shown worker k of.step w.0.group n at (of.did.word n (cited_by_walk w.0.answer w.2)))
 
@@ -174,32 +170,21 @@ module _ (s : Script) (r : Report) (workers : List (List Step)) (run : IsRun s r
       (λ n has. let x = shown_has worker k n has in
       below_told y.0 y.0.answered.reply (run.steps.each worker later y.0 y.1).did.cause n
       (shown_grows x.0.after y.0.after n (grows_then x.0.after y.0.before y.0.after (grows s r workers run worker k later x.0 y.0 lt x.1 y.1) (step_grows y.0 (work_of s r workers run worker later y.0 y.1))) x.2))))
-      (λ none. subst (AreBelow (shown_by r (serial_of worker k))) (sym (none_given worker later tree_seen none)) (below_none (shown_by r (serial_of worker k)))) (step_cases worker later) where
-        all_has : (P : ℕ → Type 0) (ns : List ℕ) → ((n : ℕ) → Has ns n → P n) → AllByRecursion P ns
-        all_has P [] h = tt
-        all_has P (n ∷ ns) h = (h n (inl refl), all_has P ns (λ m has. h m (inr has)))
+      (λ none. subst (AreBelow (shown_by r (serial_of worker k))) (sym (none_given worker later tree_seen none)) (below_none (shown_by r (serial_of worker k)))) (step_cases worker later)
 
   -- ---- a group that is known to be offline
-  any_has : {A : Type 0} (test : A → Bool) (xs : List A) → list_any test xs ≡ true → (x : A) × Has xs x × (test x ≡ true)
-  any_has test [] h = absurd (let f : false ≡ true = h in cc)
-  any_has test (x ∷ xs) h = elim (cases_Bool (test x)) [
-    | inl here ↦ (x, inl refl, here)
-    | inr not_it ↦ let t = any_has test xs (sym (ap (λ b. b || list_any test xs) not_it) ∙ h) in (t.0, inr t.1, t.2)
-  ]
+  entry_there : (test : TreeEntry → Bool) (e : TreeEntry) (n : ℕ) → ((d : TreeEntry) → test d ≡ true → d ≡ e) → list_any test (option_to_list (slice_get r.tree.items n)) ≡ true → slice_get r.tree.items n ≡ Some e
+  entry_there test e n is h = by_cases (slice_get r.tree.items n) refl where
+    by_cases : (o : Option TreeEntry) → slice_get r.tree.items n ≡ o → slice_get r.tree.items n ≡ Some e
+    by_cases None none = absurd (let f : false ≡ true = sym (ap (λ o. list_any test (option_to_list o)) none) ∙ h in cc)
+    by_cases (Some x) some = let t = any_has test (x ∷ []) (sym (ap (λ o. list_any test (option_to_list o)) some) ∙ h) in
+        some ∙ ap Some (⊎_elim (λ same. same ∙ is t.0 t.2) (λ none. absurd none) t.1)
 
   begin_there : (group n : ℕ) → is_begin_at r group n ≡ true → slice_get r.tree.items n ≡ Some (Begin group)
-  begin_there group n h = by_cases (slice_get r.tree.items n) refl where
-    by_cases : (o : Option TreeEntry) → slice_get r.tree.items n ≡ o → slice_get r.tree.items n ≡ Some (Begin group)
-    by_cases None e = absurd (let f : false ≡ true = sym (ap (λ o. list_any (is_begin group) (option_to_list o)) e) ∙ h in cc)
-    by_cases (Some x) e = let t = any_has (is_begin group) (x ∷ []) (sym (ap (λ o. list_any (is_begin group) (option_to_list o)) e) ∙ h) in
-        e ∙ ap Some (⊎_elim (λ same. same ∙ is_begin_of group t.0 t.2) (λ none. absurd none) t.1)
+  begin_there group n h = entry_there (is_begin group) (Begin group) n (is_begin_of group) h
 
   done_there : (group n : ℕ) → is_done_at r group n ≡ true → slice_get r.tree.items n ≡ Some (Done group)
-  done_there group n h = by_cases (slice_get r.tree.items n) refl where
-    by_cases : (o : Option TreeEntry) → slice_get r.tree.items n ≡ o → slice_get r.tree.items n ≡ Some (Done group)
-    by_cases None e = absurd (let f : false ≡ true = sym (ap (λ o. list_any (is_done group) (option_to_list o)) e) ∙ h in cc)
-    by_cases (Some x) e = let t = any_has (is_done group) (x ∷ []) (sym (ap (λ o. list_any (is_done group) (option_to_list o)) e) ∙ h) in
-        e ∙ ap Some (⊎_elim (λ same. same ∙ is_done_of group t.0 t.2) (λ none. absurd none) t.1)
+  done_there group n h = entry_there (is_done group) (Done group) n (is_done_of group) h
 
   -- an entry that a word tells of is the Begin of its group
   told_stands : (worker k : ℕ) (x : Step) (group n : ℕ) → slice_get (steps_of workers worker) k ≡ Some x → IsAmong (record { group = group; state = state.Offline n }) x.after.tree.loaded → slice_get r.tree.items n ≡ Some (Begin group)

@@ -1,5 +1,5 @@
 -- What the steps of all workers have: which step has it, that only one has, and who made an entry.
-use Rattle.shr_assemble.proofs.Common.{◌≡◌, ℕ, zero, suc, ◌+◌, ◌<◌, ◌≤◌, ◌≢◌, ◌⊎◌, inl, inr, ⊎_elim, List, [], ◌∷◌, ◌++◌, length, length-append, take, sym, refl, ap, subst, ◌∙◌, arith, flat_map, slice_get, Some, AllByRecursion, same_Some, none-some, dite, ℕ_discrete, some, some-injective, some-ne-none, get_elem?, Each, total, Begins, total-append, term_le, Step, IsAmong, gathered, steps_in, steps_of, at_some, slice_left, some_at, slice_cases, terms_le, total_flat, begins_all, begins_more, WorkerState, AreStepsChained, Grows, BringsWork, Bool, true, false, cond, get_or, eqb, eq-eqb, ne_eqb, Option, None, nat_lt, option_map, option_and_then, lt-ltb, slice_get_within, slice_get-get_or, Place, Entry, Script, place_number, some_term, place_at, Made, hit, place_back, Report, parents_of, journals_of, IsThere, serial_of, commands_of, command_at, answers_of, answer_at, reply_at, cited_at, cited_by, Serial, Command, Answered, Reply, Did, StandsIn, all_made, IsRun}
+use Rattle.shr_assemble.proofs.Common.{◌≡◌, ℕ, zero, suc, ◌+◌, ◌<◌, ◌≤◌, ◌≢◌, ◌⊎◌, inl, inr, ⊎_elim, List, [], ◌∷◌, ◌++◌, length, length-append, take, sym, refl, ap, subst, ◌∙◌, arith, flat_map, slice_get, Some, AllByRecursion, same_Some, none-some, dite, ℕ_discrete, some, some-injective, some-ne-none, get_elem?, Each, total, Begins, term_le, Step, IsAmong, gathered, steps_in, steps_of, at_some, slice_left, some_at, slice_cases, terms_le, total_flat, begins_all, begins_more, WorkerState, AreStepsChained, Grows, BringsWork, Bool, true, false, cond, get_or, eqb, eq-eqb, ne_eqb, Option, None, nat_lt, option_map, option_and_then, lt-ltb, slice_get_within, slice_get-get_or, Place, Entry, Script, place_number, some_term, place_at, Made, hit, place_back, Report, parents_of, journals_of, IsThere, serial_of, commands_of, command_at, answers_of, answer_at, reply_at, cited_at, cited_by, Serial, Command, Answered, Reply, Did, StandsIn, all_made, IsRun, worker_state_after}
 
 -- elements of two lists together
 pub among_left : {A : Type 0} (xs ys : List A) (x : A) → IsAmong x xs → IsAmong x (xs ++ ys)
@@ -177,18 +177,39 @@ does_at s [] k x c e = absurd (none-some x e)
 does_at s (y ∷ mine) zero x c e = subst (λ (z : Step). BringsWork z.before z.after z.work) (same_Some y x e) c.1
 does_at s (y ∷ mine) (suc k) x c e = does_at y.after mine k x c.2 e
 
+-- What holds of each state and itself, over a third where it holds twice, and of the states before and behind each step, holds along steps.
+module _ (R : WorkerState → WorkerState → Type 0) (self : (s : WorkerState) → R s s) (more : (s t u : WorkerState) → R s t → R t u → R s u)
+    (one : (x : Step) → BringsWork x.before x.after x.work → R x.before x.after) where
+  -- of the first state and each later one
+  pub first_along : (s : WorkerState) (mine : List Step) (k : ℕ) (x : Step) → AreStepsChained s mine → slice_get mine k ≡ Some x → R s x.before
+  first_along s [] k x c e = absurd (none-some x e)
+  first_along s (y ∷ mine) zero x c e = subst (λ (u : WorkerState). R u x.before) (ap (λ (z : Step). z.before) (sym (same_Some y x e)) ∙ c.0) (self x.before)
+  first_along s (y ∷ mine) (suc k) x c e = more s y.after x.before (subst (λ (u : WorkerState). R u y.after) c.0 (one y c.1)) (first_along y.after mine k x c.2 e)
+
+  -- of the state behind a step and that before each later one
+  pub later_along : (s : WorkerState) (mine : List Step) (k later : ℕ) (x y : Step) → AreStepsChained s mine → k < later → slice_get mine k ≡ Some x → slice_get mine later ≡ Some y → R x.after y.before
+  later_along s [] k later x y c lt e d = absurd (none-some x e)
+  later_along s (z ∷ mine) k zero x y c lt e d = absurd (omega arith)
+  later_along s (z ∷ mine) zero (suc later) x y c lt e d = subst (λ (v : Step). R v.after y.before) (same_Some z x e) (first_along z.after mine later y c.2 d)
+  later_along s (z ∷ mine) (suc k) (suc later) x y c lt e d = later_along z.after mine k later x y c.2 (omega arith) e d
+
+  last_along : (s : WorkerState) (mine : List Step) → AreStepsChained s mine → R s (worker_state_after s mine)
+  last_along s [] c = self s
+  last_along s (x ∷ mine) c = more s x.after (worker_state_after x.after mine) (subst (λ (u : WorkerState). R u x.after) c.0 (one x c.1)) (last_along x.after mine c.2)
+
+  -- of the state behind a step and the last one
+  pub after_along : (s : WorkerState) (mine : List Step) (k : ℕ) (x : Step) → AreStepsChained s mine → slice_get mine k ≡ Some x → R x.after (worker_state_after s mine)
+  after_along s [] k x c e = absurd (none-some x e)
+  after_along s (y ∷ mine) zero x c e = subst (λ (z : Step). R z.after (worker_state_after y.after mine)) (same_Some y x e) (last_along y.after mine c.2)
+  after_along s (y ∷ mine) (suc k) x c e = after_along y.after mine k x c.2 e
+
 -- the first state is the beginning of each later one
 pub first_grows : (s : WorkerState) (mine : List Step) (k : ℕ) (x : Step) → AreStepsChained s mine → slice_get mine k ≡ Some x → Grows s x.before
-first_grows s [] k x c e = absurd (none-some x e)
-first_grows s (y ∷ mine) zero x c e = subst (λ (u : WorkerState). Grows u x.before) (ap (λ (z : Step). z.before) (sym (same_Some y x e)) ∙ c.0) (grows_none x.before)
-first_grows s (y ∷ mine) (suc k) x c e = grows_then s y.after x.before (subst (λ (u : WorkerState). Grows u y.after) c.0 (step_grows y c.1)) (first_grows y.after mine k x c.2 e)
+first_grows = first_along Grows grows_none grows_then (λ x b. step_grows x b)
 
 -- what a worker had after a step it has before each later one
 pub later_grows : (s : WorkerState) (mine : List Step) (k later : ℕ) (x y : Step) → AreStepsChained s mine → k < later → slice_get mine k ≡ Some x → slice_get mine later ≡ Some y → Grows x.after y.before
-later_grows s [] k later x y c lt e d = absurd (none-some x e)
-later_grows s (z ∷ mine) k zero x y c lt e d = absurd (omega arith)
-later_grows s (z ∷ mine) zero (suc later) x y c lt e d = subst (λ (v : Step). Grows v.after y.before) (same_Some z x e) (first_grows z.after mine later y c.2 d)
-later_grows s (z ∷ mine) (suc k) (suc later) x y c lt e d = later_grows z.after mine k later x y c.2 (omega arith) e d
+later_grows = later_along Grows grows_none grows_then (λ x b. step_grows x b)
 
 -- the test of a hit
 pub hit_parts : (k n : ℕ) (m : Made) → 0 < hit k n m → (m.place ≡ k) × (m.number ≡ n)

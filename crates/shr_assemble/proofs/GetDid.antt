@@ -1,12 +1,12 @@
 -- What a get did.
-use Rattle.shr_assemble.proofs.Common.{◌≡◌, ℕ, ◌<◌, inl, true, false, List, length, refl, sym, ap, ◌∙◌, arith, Option, Some, None, is_some, option_map, same_Some, none-some, Object, Serial, At, Entry, Look, Answered, Found, Reply, Spent, Command, Get, is_named, holds, named_in, marked_object, length_change_first, View, shape_of, Listed, IsObjectWithin, content_of, Shared, WorkerState, parents_of, is_past_group, is_some_find, look_entry, LookGives}
+use Rattle.shr_assemble.proofs.Common.{◌≡◌, ℕ, ◌<◌, true, false, List, length, refl, sym, ap, ◌∙◌, arith, Option, Some, None, is_some, option_map, same_Some, none-some, Object, Serial, At, Entry, Look, Answered, Found, Reply, Spent, Command, Get, is_named, holds, named_in, marked_object, length_change_first, View, shape_of, Listed, IsObjectWithin, content_of, Shared, WorkerState, parents_of, is_past_group, is_some_find, look_entry, LookGives}
 use Rattle.shr_base.specs.declared.replies.Reply.TheVariants as reply
 use Rattle.shr_base.specs.declared.replies.Spent.TheVariants as spent
 use Rattle.shr_node.specs.declared.answers.NodeLook.{NodeLook}
 use Rattle.shr_node.specs.declared.answers.NodeLook.TheVariants as look
 use Rattle.shr_cache.specs.Gets.{LooksUp, GotFrom, GotAs, GetGives}
 use Rattle.shr_assemble.proofs.QuietSteps.{HasDid, some_met, AreTables}
-use Rattle.shr_assemble.proofs.QuietTenant.{IsTenant, group_in, refused_did, acted_did, stood_did, stood_step, cites_is, items_is, list_worn}
+use Rattle.shr_assemble.proofs.QuietTenant.{IsTenant, group_in, refused_did, acted_did, stood_did, cites_is, items_is, full_did}
 
 -- what was found holds its key
 found_holds : (birth : ℕ) (key value : List ℕ) (items : List Object) → option_map (λ (o : Object). o.value) (named_in birth key items) ≡ Some value → holds birth key items ≡ true
@@ -20,21 +20,7 @@ module _ (x : Shared) (tables : AreTables x) (by : Serial) (group node decl : �
   command = Get group node decl key
 
   tenant : IsTenant x.script by command group decl
-  tenant = record {
-    calm = tt;
-    asks = λ g e. same_Some group g e;
-    met = refl;
-    group_is = refl;
-    decl_is = refl;
-    charged = λ parents g r. refl;
-    offline = λ family entry. tt;
-    no_cache = λ family entry. tt;
-    worn = λ family id seen. tt;
-    not_made = λ family g. tt;
-    was_made = λ family id g h. h;
-    shows = λ r g e. some_met (is_past_group r) group g e;
-    unshown = λ g n e. none-some n e;
-  }
+  tenant = assumption (same_Some group, (λ (r : Reply). some_met (is_past_group r) group), none-some {A = ℕ})
 
   -- what a look asks of its list, and the entry that it makes there
   abbrev looks : Found → NodeLook → View → View → Type 0
@@ -72,13 +58,8 @@ module _ (x : Shared) (tables : AreTables x) (by : Serial) (group node decl : �
     worn : (w : Spent) → LooksUp x by group node decl key f (look.Worn w) s t → HasDid x.script by command (record { reply = reply.Worn w; found = Some f }) s t
     worn (spent.Lookups id seen) o = absurd o.calls.made
     worn (spent.Charges charges uncharges) o = absurd o.calls.made
-    worn (spent.List place entries items) o =
-        let a = o.calls.made in
-        let call : View → View → Type 0 = looks f (look.Worn (spent.List place entries items)) in
-        let r : Reply = reply.Worn (spent.List place entries items) in
-        stood_did x tables by command group node decl tenant f call r s t o a.full.gains (λ family. tt) refl refl refl
-        (list_worn x tables by command group node decl tenant f call r s t o group entries items place looked a within.on_node there (stood_step x tables by command group node decl tenant f call r s t o) refl
-        (inl (let n = a.full.worn.items_then in let same = length_change_first (is_named group key) marked_object a.old.items in omega (arith, n, same))))
+    worn (spent.List place entries items) o = let a = o.calls.made in
+        full_did x tables by command group node decl tenant f (looks f (look.Worn (spent.List place entries items))) entries items place s t o looked a within.on_node there (λ family. tt) (let n = a.full.worn.items_then in let same = length_change_first (is_named group key) marked_object a.old.items in omega (arith, n, same))
 
     lacking : LooksUp x by group node decl key f look.Memory s t → HasDid x.script by command (record { reply = reply.Memory; found = Some f }) s t
     lacking o = stood_did x tables by command group node decl tenant f (looks f look.Memory) reply.Memory s t o o.calls.made.free.gains (λ family. tt) refl refl refl tt

@@ -1,11 +1,11 @@
 -- In a run what is done on an id's lists stands in its use, a list is drained while its id is dying, and an id comes to be idle
 -- with empty lists: what the line says of it, by the ranks of what is told.
-use Rattle.shr_assemble.proofs.Common.{◌≡◌, ◌≢◌, ◌⊎◌, ℕ, zero, suc, ◌+◌, ◌%◌, ◌<◌, ◌≤◌, inl, inr, ⊎_elim, take, List, [], ◌∷◌, ◌++◌, length, map, get_or, sym, refl, ap, subst, ◌∙◌, arith, eqb, eq-eqb, slice_get, Option, Some, None, Contains, same_Some, none-some, slice_get_within, slice_get-get_or, dite, ℕ_discrete, dec_lt, some, some-injective, get_elem?, Entry, Add, Look, Drop, Pin, Scan, MovedIn, Closed, Drained, PoolEntry, Registered, Idle, Place, Serial, Script, HasJournal, place_number, phase_of, decl_at, registrations, HasJournal_none, Has, Has_map, Contains_from_Has, Deed, by_seat, part, times, Begins, among, attempts_in, place_id, Event, Made, Tried, Turn, made, looked, turned, Moment, last_users, IsTimely, IsSo, so_before, Report, serial_of, journals_of, decls_on, IsThere, Told, entry, lookup, turn, count, looked_by, HasAt, IsBy, number_made, IsRun, Step, IsAmong, steps_of, Holders, no_holders, users_next, IsMadeInUse, IsOutOfUse, IsOfUse, IsDrainedEntry, EndsUse, IsEntryInUse}
+use Rattle.shr_assemble.proofs.Common.{◌≡◌, ℕ, ◌+◌, ◌<◌, ◌≤◌, ⊎_elim, take, List, [], ◌∷◌, ◌++◌, length, map, get_or, sym, refl, ap, subst, ◌∙◌, arith, slice_get, Some, same_Some, none-some, slice_get_within, slice_get-get_or, dite, ℕ_discrete, dec_lt, some, get_elem?, Entry, Add, Scan, Drained, PoolEntry, Registered, Idle, Place, Serial, Script, place_number, decl_at, registrations, Has, Has_map, Contains_from_Has, Deed, by_seat, part, times, among, place_id, Event, Tried, Turn, made, looked, turned, last_users, so_before, Report, journals_of, decls_on, IsThere, Told, entry, lookup, turn, count, looked_by, HasAt, IsBy, number_made, IsRun, Step, IsAmong, steps_of, Holders, no_holders, users_next, IsMadeInUse, IsOutOfUse, IsOfUse, IsDrainedEntry, EndsUse, IsEntryInUse, take-append_seam}
 use Rattle.shr_core.specs.Order as order
 use Rattle.shr_core.proofs.InUse.{users_before, IsUsing, since_lookup, by_part}
 use Rattle.shr_assemble.proofs.Gathering.{each_among, among_right, work_of}
 use Rattle.shr_assemble.proofs.LineParts.{front_of, back_of, at_below, by_seat_at, attempts_has, part_seat, own_spot, part_before}
-use Rattle.shr_assemble.proofs.OneOrderLaw.{InLine, IsOfStart, opened, rank, looked_are, lookup_ranked, by_step, stands}
+use Rattle.shr_assemble.proofs.OneOrderLaw.{opened, rank, looked_are, lookup_ranked, by_step, stands}
 use Rattle.shr_assemble.proofs.Listed.{has_among, among_has}
 use Rattle.shr_assemble.proofs.Spots.{spot_of, spot_there, spots_rise}
 
@@ -22,10 +22,6 @@ unused_at u seat id e h m = absurd h
 -- a registration isn't an end
 pub not_idle : (decl id from i : ℕ) → ◌≡◌ {A = PoolEntry} (Registered decl id from) (Idle i) → ⊥
 not_idle decl id from i e = cc
-
-pub take_all : {A : Type 0} (xs ys : List A) → take (length xs) (xs ++ ys) ≡ xs
-take_all [] ys = refl
-take_all (x ∷ xs) ys = ap (λ l. x ∷ l) (take_all xs ys)
 
 module _ (s : Script) (r : Report) (workers : List (List Step)) (run : IsRun s r workers) where
   -- the line, and the rank of what is told
@@ -60,7 +56,7 @@ module _ (s : Script) (r : Report) (workers : List (List Step)) (run : IsRun s r
       let work = (work_of s r workers run worker k x at).core in
       let all : part j line ≡ before ++ (by_seat x.before.core.seat work.did ++ parts.0) = parts.1 ∙ (ap (λ (l : List (Deed Event)). l ++ parts.0) work.noted ∙ append_three before (by_seat x.before.core.seat work.did) parts.0) in
       by_part j i (take c line)
-      ∙ (ap (λ (l : List (Deed Event)). times j (last_users l i)) (part_before j line (length before) d there ∙ (ap (take (length before)) all ∙ take_all before (by_seat x.before.core.seat work.did ++ parts.0)))
+      ∙ (ap (λ (l : List (Deed Event)). times j (last_users l i)) (part_before j line (length before) d there ∙ (ap (take (length before)) all ∙ take-append_seam before (by_seat x.before.core.seat work.did ++ parts.0)))
       ∙ run.order.free worker k x at i) where
         append_three : (xs ys zs : List (Deed Event)) → (xs ++ ys) ++ zs ≡ xs ++ (ys ++ zs)
         append_three [] ys zs = refl

@@ -1,5 +1,5 @@
 -- What an isolation did.
-use Rattle.shr_assemble.proofs.Common.{◌≡◌, ◌⊎◌, inr, ℕ, ◌+◌, ◌<◌, false, List, [], ◌∷◌, ◌++◌, length, map, sym, refl, ap, subst, ◌∙◌, arith, slice_get, Option, Some, None, AllPairs, sum_by, option_and_then, AllByRecursion, append-nil, append_cancel_left, All-from_recursion, AllPairs-cons, sum_by-cons, same_Some, none-some, Entry, Add, Look, Drop, Pin, Scan, MovedIn, Closed, Drained, Object, Place, Serial, Answered, Found, IsolateEnd, Reply, Command, Isolate, Isolation, decl_named, place_number, first_isolation, Each, Each-none, Begins, View, nothing, Adds, place_at, Made, Turns, shape_of, with_put, AreDowns, AreRising, calls_with, both_uses, KnowsClosed, IsScanOf, objects_freed, paths_of, WornSeen, WorkerState, Work, no_work, then_work, Shared, does_none, adds_put, OnCache, visitor_of, placed, placed_scan, Visitor, IsIsolationWithin, content_of, within_of_valid, parents_of, IsThere, is_past_group, isolations_told, Step, BringsWork, added_below, Did, MayMakeEntry, DidIsolation, DidIsolations, by_slices, some_at, Isolates, IsolateGives, IsolatedAs, IsolatedFrom, RefusedBy, found_place}
+use Rattle.shr_assemble.proofs.Common.{◌≡◌, inr, ℕ, ◌+◌, ◌<◌, false, List, [], ◌∷◌, ◌++◌, length, map, sym, refl, ap, subst, ◌∙◌, arith, slice_get, Option, Some, None, AllPairs, sum_by, option_and_then, AllByRecursion, append-nil, append_cancel_left, All-from_recursion, AllPairs-cons, sum_by-cons, same_Some, none-some, Entry, Add, Scan, Object, Place, Serial, Answered, Found, IsolateEnd, Reply, Command, Isolate, Isolation, decl_named, place_number, first_isolation, Each-none, Begins, View, Adds, place_at, Made, Turns, shape_of, with_put, AreDowns, AreRising, calls_with, both_uses, KnowsClosed, IsScanOf, objects_freed, paths_of, WornSeen, WorkerState, Work, no_work, then_work, Shared, does_none, adds_put, OnCache, visitor_of, placed, placed_scan, Visitor, IsIsolationWithin, content_of, within_of_valid, parents_of, IsThere, is_past_group, isolations_told, Step, BringsWork, added_below, Did, MayMakeEntry, DidIsolation, DidIsolations, by_slices, some_at, Isolates, IsolateGives, IsolatedAs, IsolatedFrom, RefusedBy, found_place, cond}
 use Rattle.shr_base.specs.declared.replies.Reply.TheVariants as reply
 use Rattle.shr_charge.specs.declared.answers.GroupState.TheVariants.{Online}
 use Rattle.shr_drop.proofs.ByLaw.{found_lawful}
@@ -30,21 +30,10 @@ module _ (x : Shared) (tables : AreTables x) (by : Serial) (group node decl budg
   command = Isolate group node decl budget
 
   tenant : IsTenant x.script by command group decl
-  tenant = record {
-    calm = tt;
-    asks = λ g e. absurd (none-some g e);
-    met = refl;
-    group_is = refl;
-    decl_is = refl;
-    charged = λ parents g r. refl;
-    offline = λ family entry. tt;
-    no_cache = λ family entry. tt;
-    worn = λ family id seen. tt;
-    not_made = λ family g. tt;
-    was_made = λ family id g h. h;
-    shows = λ r g e. absurd (never_met (is_past_group r) g e);
-    unshown = λ g n e. none-some n e;
-  }
+  tenant =
+      let asks : (g : ℕ) → None ≡ Some g → group ≡ g = λ g e. absurd (none-some g e) in
+      let shows : (r : Reply) (g : ℕ) → cond (is_past_group r) None None ≡ Some g → group ≡ g = λ r g e. absurd (never_met (is_past_group r) g e) in
+      assumption (asks, shows, none-some {A = ℕ})
 
   there : group < length (parents_of x.script)
   there = group_in x group within.in_group

@@ -1,13 +1,12 @@
 -- The law of isolations, of a run.
-use Rattle.shr_assemble.proofs.Common.{◌≡◌, ℕ, zero, suc, ◌+◌, ◌-◌, ◌<◌, ◌≤◌, ◌≢◌, ◌⊎◌, ⊎_elim, Bool, true, false, ◌&&◌, cond, List, [], ◌∷◌, length, drop, map, sym, refl, ap, subst, ◌∙◌, arith, eqb, eq-eqb, slice_get, Option, Some, None, filter, filter_map, option_and_then, ◌==◌, AllByRecursion, cons_option, IsSomeAnd, and_parts, and_from, eqb-true, same_Some, none-some, Entry, Add, Look, Drop, Pin, Scan, MovedIn, Closed, Drained, Place, Serial, Answered, IsolateEnd, Spent, CacheDecl, Command, Script, Isolation, is_serial, decl_named, is_closed, place_number, Has, each_has, isolation_walk, ScanSeen, place_at, Made, Report, command_at, serial_of, journals_of, isolation_at, isolations_told, visitor_of, Placed, placed, placed_scan, Visitor, Step, IsAmong, steps_of, isolations_asked, IsScanned, IsIsolationVisit, MayMakeEntry, isolated_in, isolated_before, IsRun, IsWornBy, by_slices, some_at, serial_itself, IsLawfulIsolation, scan_seen, scans_seen, isolations_by, cache_named, IsEndCaused, IsOfIsolation, AreIsolationsLawful, no_test}
+use Rattle.shr_assemble.proofs.Common.{◌≡◌, ℕ, zero, suc, ◌+◌, ◌-◌, ◌<◌, ◌≤◌, ◌⊎◌, ⊎_elim, Bool, true, false, ◌&&◌, cond, List, [], ◌∷◌, length, drop, map, sym, refl, ap, subst, ◌∙◌, arith, eq-eqb, slice_get, Option, Some, None, filter, filter_map, option_and_then, ◌==◌, AllByRecursion, cons_option, IsSomeAnd, and_parts, and_from, eqb-true, same_Some, none-some, Entry, Scan, Place, Serial, Answered, IsolateEnd, Spent, CacheDecl, Command, Script, Isolation, is_serial, decl_named, is_closed, place_number, Has, each_has, isolation_walk, ScanSeen, place_at, Made, Report, command_at, serial_of, journals_of, isolation_at, isolations_told, visitor_of, Placed, placed, placed_scan, Visitor, Step, IsAmong, steps_of, isolations_asked, IsScanned, IsIsolationVisit, MayMakeEntry, isolated_in, isolated_before, IsRun, IsWornBy, by_slices, some_at, IsLawfulIsolation, scan_seen, scans_seen, isolations_by, cache_named, IsEndCaused, IsOfIsolation, AreIsolationsLawful}
+use Rattle.shr_assemble.proofs.WalksLaw.{filter_serial}
 use Rattle.shr_base.specs.declared.replies.IsolateEnd.TheVariants as isolate
 use Rattle.shr_assemble.proofs.Gathering.{each_among, maker, made_stands, back_there, Stepped, stepped}
 use Rattle.shr_assemble.proofs.IsolationSteps.{first_told, told_once, told_by, scan_of, isolation_of, IsolationOf, isolation_there, visit_number, visit_there}
 use Rattle.shr_assemble.proofs.Listed.{closed_begins, contains_among, PairsRec, pairs_rec, among_has, one_by}
 use Rattle.shr_assemble.proofs.WalkCauses.{spent_law}
-use Rattle.shr_assemble.proofs.WalksLaw.{filter_part}
 use Rattle.shr_assemble.proofs.WornLists.{known_begins}
-use Rattle.shr_assemble.proofs.LimitsLaw.{serial_same}
 
 -- ---- the entries of a journal that a function keeps, where these are made in order
 module _ {B : Type 0} (f : Entry → Option B) where
@@ -191,16 +190,8 @@ module _ (s : Script) (r : Report) (workers : List (List Step)) (run : IsRun s r
   -- ---- the isolations of a command
   isolations_are : (worker k : ℕ) (x : Step) → slice_get (steps_of workers worker) k ≡ Some x → isolations_by r (serial_of worker k) ≡ isolated_in x
   isolations_are worker k x at = ap (filter (λ (i : Isolation). is_serial (serial_of worker k) i.by)) (run.isolations.told worker)
-      ∙ filter_part (λ (i : Isolation). is_serial (serial_of worker k) i.by) isolated_in (steps_of workers worker) k x at own others where
-        by_of : (j n : ℕ) (y : Step) (i : Isolation) → slice_get (steps_of workers worker) j ≡ Some y → slice_get (isolated_in y) n ≡ Some i → i.by ≡ serial_of worker j
-        by_of j n y i at_y at_i = let t = told_once y.by y.command y.answered n i at_i in
-            told_by y.by y.command y.answered i (first_told y i t.0) ∙ (run.steps.each worker j y at_y).by
-
-        own : (n : ℕ) (i : Isolation) → slice_get (isolated_in x) n ≡ Some i → is_serial (serial_of worker k) i.by ≡ true
-        own n i e = ap (is_serial (serial_of worker k)) (by_of k n x i at e) ∙ serial_itself (serial_of worker k)
-
-        others : (j n : ℕ) (y : Step) (i : Isolation) → slice_get (steps_of workers worker) j ≡ Some y → j ≢ k → slice_get (isolated_in y) n ≡ Some i → is_serial (serial_of worker k) i.by ≡ false
-        others j n y i at_y ne e = no_test (is_serial (serial_of worker k) i.by) (λ same. ne (ap (λ (z : Serial). z.command) (sym (serial_same (serial_of worker k) i.by same ∙ by_of j n y i at_y e))))
+      ∙ filter_serial (λ (i : Isolation). i.by) isolated_in worker (steps_of workers worker) k x at
+      (λ j n y i at_y at_i. let t = told_once y.by y.command y.answered n i at_i in told_by y.by y.command y.answered i (first_told y i t.0) ∙ (run.steps.each worker j y at_y).by)
 
   commands : (by : Serial) (c : Command) (a : Answered) → Stepped s r workers run by c a → isolations_by r by ≡ isolations_told by c a
   commands by c a t = isolations_are by.worker by.command t.step t.at ∙ (λ j. isolations_asked (t.own j) (t.command j) (t.answered j))

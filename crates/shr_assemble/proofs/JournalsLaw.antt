@@ -1,22 +1,52 @@
 -- Who made an entry of a journal, what a step was shown of it, and that the journals are lawful.
-use Rattle.shr_assemble.proofs.Common.{◌≡◌, ℕ, ◌<◌, ◌≤◌, Bool, true, false, ◌&&◌, cond, List, length, sym, refl, ap, subst, ◌∙◌, arith, eqb, eq-eqb, ne_eqb, slice_get, Some, nat_lt, nat_le, same_Some, slice_get_within, le-leb, dite, ℕ_discrete, PoolEntry, TreeEntry, Script, total, some_term, only_yes, only_no, Turn, hit_turn, IsTreeEntryMade, Report, decls_on, Step, IsAmong, steps_of, all_turns, all_entries, IsRun, at_some, count_total, Contains, Place, Closed, Begin, Done, IsAtOrAbove, is_closed, place_number, AreApart_of_ends, place_at, Made, parents_of, journals_of, IsThere, MayMakeEntry, IsClosedByOffline, IsEntryOf, IsEnded, closed_at, ends_once, zero, suc, ◌+◌, [], ◌∷◌, ◌++◌, length-append, take, flat_map, count_by, not, take-append-le, sum_by-IsPermutation, none-some, UseStep, Serial, ups, downs, total-append, term_le, Loaded, IsNamed, WorkerState, uses_at, lookups_at, StandsInTree, AreStepsChained, all_ops, begin_at, some_at, sum_total, is_of_worker, ups_of, downs_of, script_hierarchy, total_flat}
+use Rattle.shr_assemble.proofs.Common.{◌≡◌, ℕ, ◌<◌, ◌≤◌, Bool, true, false, ◌&&◌, cond, List, length, sym, refl, ap, subst, ◌∙◌, arith, eqb, eq-eqb, slice_get, Some, nat_lt, nat_le, same_Some, slice_get_within, le-leb, dite, ℕ_discrete, PoolEntry, TreeEntry, Script, total, some_term, only_yes, only_no, Turn, IsTreeEntryMade, Report, decls_on, Step, IsAmong, steps_of, all_entries, IsRun, at_some, count_total, Contains, Place, Closed, Begin, Done, IsAtOrAbove, is_closed, place_number, AreApart_of_ends, place_at, Made, parents_of, journals_of, IsThere, MayMakeEntry, IsClosedByOffline, IsEntryOf, IsEnded, closed_at, ends_once, zero, suc, ◌+◌, [], ◌∷◌, ◌++◌, length-append, take, flat_map, count_by, not, take-append-le, sum_by-IsPermutation, none-some, UseStep, Serial, ups, downs, total-append, term_le, Loaded, IsNamed, WorkerState, uses_at, lookups_at, StandsInTree, AreStepsChained, all_ops, begin_at, some_at, sum_total, is_of_worker, ups_of, downs_of, script_hierarchy, total_flat, only, gathered}
 use Rattle.shr_charge.specs.Views as charge
 use Rattle.shr_assemble.proofs.Gathering.{has_step, among_right, one_step, weighs, each_among, work_of, below_one, below_most, maker, back_there, mine_at, total_same_on}
-use Rattle.shr_assemble.proofs.Listed.{all_among, contains_slice, slice_contains, contains_among, begins_slice, closed_begins}
+use Rattle.shr_assemble.proofs.Listed.{all_among, contains_slice, slice_contains, contains_among, begins_slice, closed_begins, most_one}
 use Rattle.shr_report.specs.Journals.{AreJournalsLawful}
 use Rattle.shr_charge.specs.declared.answers.GroupState.TheVariants as state
 
-module _ (s : Script) (r : Report) (workers : List (List Step)) (run : IsRun s r workers) where
-  -- the step that made an entry of the journal of the tree
-  pub record EntryMaker (n : ℕ) (e : TreeEntry) : Type 0 where
+-- ---- what bears numbers of its own, by the steps that made it
+module _ {A E : Type 0} (number_of : A → ℕ) (entry_of : A → E) (f : Step → List A) (workers : List (List Step)) where
+  -- the step that made the entry with a number
+  pub record MakerOf (n : ℕ) (e : E) : Type 0 where
     pub worker : ℕ
     pub k : ℕ
     pub step : Step
     pub at : slice_get (steps_of workers worker) k ≡ Some step
-    pub made : charge.TreeMade
-    pub among : IsAmong made step.work.tree
-    pub number : made.number ≡ n
-    pub entry : made.entry ≡ e
+    pub made : A
+    pub among : IsAmong made (f step)
+    pub number : number_of made ≡ n
+    pub entry : entry_of made ≡ e
+
+  maker_of : (journal : List E) → ((worker k : ℕ) (x : Step) (m : A) → slice_get (steps_of workers worker) k ≡ Some x → IsAmong m (f x) → slice_get journal (number_of m) ≡ Some (entry_of m))
+      → (n : ℕ) (e : E) → total (λ (m : A). only n (number_of m)) (gathered f workers) ≡ 1 → slice_get journal n ≡ Some e → MakerOf n e
+  maker_of journal shown n e one stands =
+      let t = some_term (λ (m : A). only n (number_of m)) (gathered f workers) (omega (arith, one)) in
+      let number : number_of t.1 ≡ n = dite (ℕ_discrete (number_of t.1) n) (λ q. q) (λ ne. absurd (omega (arith, t.3, only_no n (number_of t.1) ne))) in
+      let of = has_step f workers t.1 (t.0, t.2) in
+      record {
+        worker = of.worker;
+        k = of.k;
+        step = of.step;
+        at = of.at;
+        made = t.1;
+        among = of.has;
+        number = number;
+        entry = same_Some (entry_of t.1) e (sym (shown of.worker of.k of.step t.1 of.at of.has) ∙ (ap (λ i. slice_get journal i) number ∙ stands));
+      }
+
+  one_maker : (v i w j : ℕ) (x y : Step) (m n : A) → total (λ (z : A). only (number_of m) (number_of z)) (gathered f workers) ≤ 1 → slice_get (steps_of workers v) i ≡ Some x → slice_get (steps_of workers w) j ≡ Some y
+      → IsAmong m (f x) → IsAmong n (f y) → number_of m ≡ number_of n → (v ≡ w) × (i ≡ j)
+  one_maker v i w j x y m n most at_x at_y of_x of_y same =
+      one_step (λ (z : A). only (number_of m) (number_of z)) f workers most v i w j x y at_x at_y
+      (omega (arith, only_yes (number_of m) (number_of m) refl, weighs (λ (z : A). only (number_of m) (number_of z)) (f x) m of_x))
+      (omega (arith, only_yes (number_of m) (number_of n) (sym same), weighs (λ (z : A). only (number_of m) (number_of z)) (f y) n of_y))
+
+module _ (s : Script) (r : Report) (workers : List (List Step)) (run : IsRun s r workers) where
+  -- the step that made an entry of the journal of the tree
+  abbrev pub EntryMaker : ℕ → TreeEntry → Type 0
+  EntryMaker n e = MakerOf (λ (m : charge.TreeMade). m.number) (λ (m : charge.TreeMade). m.entry) (λ (x : Step). x.work.tree) workers n e
 
   entries_once : (n : ℕ) → total (λ (m : charge.TreeMade). cond (eqb m.number n) 1 0) (all_entries workers) ≡ cond (nat_lt n (length r.tree.items)) 1 0
   entries_once n = sym (count_total (λ (m : charge.TreeMade). eqb m.number n) (all_entries workers)) ∙ run.uses.entered n
@@ -26,39 +56,15 @@ module _ (s : Script) (r : Report) (workers : List (List Step)) (run : IsRun s r
       (subst (λ l. IsAmong m l) (sym (work_of s r workers run worker k x at).tree) (among_right x.before.tree.made x.work.tree m among))
 
   pub entry_maker : (n : ℕ) (e : TreeEntry) → slice_get r.tree.items n ≡ Some e → EntryMaker n e
-  entry_maker n e stands =
-      let one : total (λ (m : charge.TreeMade). cond (eqb m.number n) 1 0) (all_entries workers) ≡ 1 = entries_once n ∙ below_one n (length r.tree.items) (slice_get_within r.tree.items n e stands) in
-      let t = some_term (λ (m : charge.TreeMade). cond (eqb m.number n) 1 0) (all_entries workers) (omega (arith, one)) in
-      let number : t.1.number ≡ n = dite (ℕ_discrete t.1.number n) (λ q. q) (λ ne. absurd (omega (arith, t.3, ap (λ b. cond {A = ℕ} b 1 0) (ne_eqb t.1.number n ne)))) in
-      let of = has_step (λ (x : Step). x.work.tree) workers t.1 (t.0, t.2) in
-      record {
-        worker = of.worker;
-        k = of.k;
-        step = of.step;
-        at = of.at;
-        made = t.1;
-        among = of.has;
-        number = number;
-        entry = same_Some t.1.entry e (sym (entry_stands of.worker of.k of.step t.1 of.at of.has) ∙ (ap (λ i. slice_get r.tree.items i) number ∙ stands));
-      }
+  entry_maker n e stands = maker_of (λ (m : charge.TreeMade). m.number) (λ (m : charge.TreeMade). m.entry) (λ (x : Step). x.work.tree) workers r.tree.items entry_stands n e (entries_once n ∙ below_one n (length r.tree.items) (slice_get_within r.tree.items n e stands)) stands
 
   pub one_entry_maker : (v i w j : ℕ) (x y : Step) (m n : charge.TreeMade) → slice_get (steps_of workers v) i ≡ Some x → slice_get (steps_of workers w) j ≡ Some y → IsAmong m x.work.tree → IsAmong n y.work.tree
       → m.number ≡ n.number → (v ≡ w) × (i ≡ j)
-  one_entry_maker v i w j x y m n at_x at_y of_x of_y same =
-      one_step (λ (z : charge.TreeMade). cond (eqb z.number m.number) 1 0) (λ (z : Step). z.work.tree) workers (omega (arith, entries_once m.number, below_most m.number (length r.tree.items))) v i w j x y at_x at_y
-      (omega (arith, ap (λ b. cond {A = ℕ} b 1 0) (eq-eqb m.number m.number refl), weighs (λ (z : charge.TreeMade). cond (eqb z.number m.number) 1 0) x.work.tree m of_x))
-      (omega (arith, ap (λ b. cond {A = ℕ} b 1 0) (eq-eqb n.number m.number (sym same)), weighs (λ (z : charge.TreeMade). cond (eqb z.number m.number) 1 0) y.work.tree n of_y))
+  one_entry_maker v i w j x y m n at_x at_y of_x of_y same = one_maker (λ (m : charge.TreeMade). m.number) (λ (m : charge.TreeMade). m.entry) (λ (x : Step). x.work.tree) workers v i w j x y m n (omega (arith, entries_once m.number, below_most m.number (length r.tree.items))) at_x at_y of_x of_y same
 
   -- the step that made a later entry of the journal of registrations
-  pub record TurnMaker (n : ℕ) (e : PoolEntry) : Type 0 where
-    pub worker : ℕ
-    pub k : ℕ
-    pub step : Step
-    pub at : slice_get (steps_of workers worker) k ≡ Some step
-    pub made : Turn
-    pub among : IsAmong made step.work.core.turns
-    pub number : made.number ≡ n
-    pub entry : made.entry ≡ e
+  abbrev pub TurnMaker : ℕ → PoolEntry → Type 0
+  TurnMaker n e = MakerOf (λ (m : Turn). m.number) (λ (m : Turn). m.entry) (λ (x : Step). x.work.core.turns) workers n e
 
   both_one : (n l : ℕ) → l ≤ n → n < length r.pool.items → ◌≡◌ {A = ℕ} (cond (nat_le l n && nat_lt n (length r.pool.items)) 1 0) 1
   both_one n l le lt = ap (λ b. cond {A = ℕ} (b && nat_lt n (length r.pool.items)) 1 0) (le-leb l n le) ∙ below_one n (length r.pool.items) lt
@@ -68,32 +74,11 @@ module _ (s : Script) (r : Report) (workers : List (List Step)) (run : IsRun s r
       at_some r.pool.items t.number t.entry ((run.steps.shown worker k x at).turns h.0 t (subst (λ l. IsAmong t l) (sym (work_of s r workers run worker k x at).core.turned) h).1)
 
   pub turn_maker : (n : ℕ) (e : PoolEntry) → length (decls_on s) ≤ n → slice_get r.pool.items n ≡ Some e → TurnMaker n e
-  turn_maker n e past stands =
-      let one : total (hit_turn n) (all_turns workers) ≡ 1 = run.pool.once n ∙ both_one n (length (decls_on s)) past (slice_get_within r.pool.items n e stands) in
-      let t = some_term (hit_turn n) (all_turns workers) (omega (arith, one)) in
-      let number : t.1.number ≡ n = dite (ℕ_discrete t.1.number n) (λ q. q) (λ ne. absurd (omega (arith, t.3, only_no n t.1.number ne))) in
-      let of = has_step (λ (x : Step). x.work.core.turns) workers t.1 (t.0, t.2) in
-      record {
-        worker = of.worker;
-        k = of.k;
-        step = of.step;
-        at = of.at;
-        made = t.1;
-        among = of.has;
-        number = number;
-        entry = same_Some t.1.entry e (sym (turn_stands of.worker of.k of.step t.1 of.at of.has) ∙ (ap (λ i. slice_get r.pool.items i) number ∙ stands));
-      }
-
-  most_one : (b : Bool) → cond {A = ℕ} b 1 0 ≤ 1
-  most_one true = omega arith
-  most_one false = omega arith
+  turn_maker n e past stands = maker_of (λ (m : Turn). m.number) (λ (m : Turn). m.entry) (λ (x : Step). x.work.core.turns) workers r.pool.items turn_stands n e (run.pool.once n ∙ both_one n (length (decls_on s)) past (slice_get_within r.pool.items n e stands)) stands
 
   pub one_turn_maker : (v i w j : ℕ) (x y : Step) (m n : Turn) → slice_get (steps_of workers v) i ≡ Some x → slice_get (steps_of workers w) j ≡ Some y → IsAmong m x.work.core.turns → IsAmong n y.work.core.turns
       → m.number ≡ n.number → (v ≡ w) × (i ≡ j)
-  one_turn_maker v i w j x y m n at_x at_y of_x of_y same =
-      one_step (hit_turn m.number) (λ (z : Step). z.work.core.turns) workers (omega (arith, run.pool.once m.number, most_one (nat_le (length (decls_on s)) m.number && nat_lt m.number (length r.pool.items)))) v i w j x y at_x at_y
-      (omega (arith, only_yes m.number m.number refl, weighs (hit_turn m.number) x.work.core.turns m of_x))
-      (omega (arith, only_yes m.number n.number (sym same), weighs (hit_turn m.number) y.work.core.turns n of_y))
+  one_turn_maker v i w j x y m n at_x at_y of_x of_y same = one_maker (λ (m : Turn). m.number) (λ (m : Turn). m.entry) (λ (x : Step). x.work.core.turns) workers v i w j x y m n (omega (arith, run.pool.once m.number, most_one (nat_le (length (decls_on s)) m.number && nat_lt m.number (length r.pool.items)))) at_x at_y of_x of_y same
 
 module _ (s : Script) (r : Report) (workers : List (List Step)) (run : IsRun s r workers) where
   -- a list is closed only where a group at or above its own began to go offline

@@ -1,6 +1,6 @@
 -- What holds of all that the first seats have in the end holds of what each worker had after each step.
 use Rattle.shr_assemble.proofs.Common.{◌≡◌, ℕ, zero, suc, List, [], ◌∷◌, ◌++◌, get_or, sym, subst, slice_get, Some, All, flat_map, same_Some, none-some, slice_get-get_or, Each, Begins, WorkerState, Step, IsAmong, AreStepsChained, worker_state_after, Grows, BringsWork, some_at}
-use Rattle.shr_assemble.proofs.Gathering.{grows_none, grows_then, step_grows, among_right, among_flat, among_begins, each_among}
+use Rattle.shr_assemble.proofs.Gathering.{grows_none, grows_then, step_grows, among_right, among_flat, among_begins, each_among, after_along}
 use Rattle.shr_assemble.proofs.Rows.{along}
 
 -- a list that each step makes longer is after each step a beginning of the last one
@@ -10,14 +10,8 @@ after_begins g h one t [] k y c e = absurd (none-some y e)
 after_begins g h one t (x ∷ xs) zero y c e = subst (λ (z : Step). Begins (g z.after) (g (worker_state_after x.after xs))) (same_Some x y e) (flat_map h xs, along g h one x.after xs c.2)
 after_begins g h one t (x ∷ xs) (suc k) y c e = after_begins g h one x.after xs k y c.2 e
 
-grows_along : (t : WorkerState) (mine : List Step) → AreStepsChained t mine → Grows t (worker_state_after t mine)
-grows_along t [] c = grows_none t
-grows_along t (x ∷ xs) c = grows_then t x.after (worker_state_after x.after xs) (subst (λ (u : WorkerState). Grows u x.after) c.0 (step_grows x c.1)) (grows_along x.after xs c.2)
-
 pub after_grows : (t : WorkerState) (mine : List Step) (k : ℕ) (y : Step) → AreStepsChained t mine → slice_get mine k ≡ Some y → Grows y.after (worker_state_after t mine)
-after_grows t [] k y c e = absurd (none-some y e)
-after_grows t (x ∷ xs) zero y c e = subst (λ (z : Step). Grows z.after (worker_state_after x.after xs)) (same_Some x y e) (grows_along x.after xs c.2)
-after_grows t (x ∷ xs) (suc k) y c e = after_grows x.after xs k y c.2 e
+after_grows = after_along Grows grows_none grows_then (λ x b. step_grows x b)
 
 -- of each element that one of the last states has, and so of each that began it
 pub each_last : {A S : Type 0} (P : A → Type 0) (g : S → List A) (lasts : List S) (all first : List A) → all ≡ first ++ flat_map g lasts → Each P all

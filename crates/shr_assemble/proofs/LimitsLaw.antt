@@ -1,12 +1,11 @@
 -- A charge history in which each refused up is taken back ends within the limit.
-use Rattle.shr_assemble.proofs.Common.{◌≡◌, ℕ, ◌+◌, ◌≤◌, ◌≢◌, ◌⊎◌, inl, inr, ⊎_elim, Bool, true, false, not, cond, List, [], ◌∷◌, ◌++◌, length, length-append, take, drop, sym, refl, ap, subst, ◌∙◌, arith, eqb, append_assoc, slice_get, Some, find, filter, pos, ◌-ℤ◌, MatchOption, AllByRecursion, and_parts, and_from, eqb-true, cases_lt, cases_Bool, sum_by-append, sum_by-cons, append-nil, take_at, ints, UseStep, Serial, ups, downs, usage_after, is_by, IsDownNext, AreTakenBack, IsChargeHistory, is_serial, AreApart, each_weaker, Has, filter_has, each_has, serial_itself, drop_at, AreApart_filter}
+use Rattle.shr_assemble.proofs.Common.{◌≡◌, ℕ, ◌+◌, ◌≤◌, ◌≢◌, ◌⊎◌, inl, inr, ⊎_elim, Bool, true, false, not, cond, List, [], ◌∷◌, ◌++◌, length, length-append, take, drop, sym, refl, ap, subst, ◌∙◌, arith, eqb, append_assoc, slice_get, Some, find, filter, pos, ◌-ℤ◌, MatchOption, AllByRecursion, and_parts, and_from, cases_lt, cases_Bool, sum_by-append, sum_by-cons, append-nil, take_at, ints, UseStep, Serial, ups, downs, usage_after, is_by, IsDownNext, AreTakenBack, IsChargeHistory, is_serial, AreApart, each_weaker, Has, filter_has, each_has, serial_itself, drop_at, AreApart_filter}
+pub use Rattle.shr_model.proofs.Weights.{is_serial_same as serial_same}
+use Rattle.shr_model.proofs.ChargeLaws.{ups_push}
 
 -- the serials that wait for their down, and those without one
 abbrev waits_not : Serial → Serial → Bool
 waits_not b c = not (is_serial b c)
-
-pub serial_same : (x y : Serial) → is_serial x y ≡ true → x ≡ y
-serial_same x y h = let t = and_parts (eqb x.worker y.worker) (eqb x.command y.command) h in let w = eqb-true x.worker y.worker t.0 in let c = eqb-true x.command y.command t.1 in λ i. record { worker = w i; command = c i }
 
 -- one that waits is one of them, or none is it
 waiting : (b : Serial) (p : List Serial) → Has p b ⊎ AllByRecursion (λ c. is_serial b c ≡ false) p
@@ -47,9 +46,6 @@ still_waits c o rest other h = subst (λ b. MatchOption (cond b (Some o) (find (
 
 waits_no_more : (o : UseStep) (rest : List UseStep) → IsDownNext o.by (o ∷ rest) → o.up ≡ false
 waits_no_more o rest h = subst (λ b. MatchOption (cond b (Some o) (find (is_by o.by) rest)) ⊥ (λ q. q.up ≡ false)) (serial_itself o.by) h
-
-ups_push : (xs : List UseStep) (o : UseStep) → ups (xs ++ o ∷ []) ≡ ups xs + cond o.up 1 0
-ups_push xs o = omega (arith, sum_by-append (λ (q : UseStep). cond q.up 1 0) xs (o ∷ []), sum_by-cons (λ (q : UseStep). cond q.up 1 0) o [])
 
 downs_push : (xs : List UseStep) (o : UseStep) → downs (xs ++ o ∷ []) ≡ downs xs + cond (not o.up) 1 0
 downs_push xs o = omega (arith, sum_by-append (λ (q : UseStep). cond (not q.up) 1 0) xs (o ∷ []), sum_by-cons (λ (q : UseStep). cond (not q.up) 1 0) o [])

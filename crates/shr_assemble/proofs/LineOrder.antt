@@ -1,5 +1,6 @@
 -- The events that a worker noted, by their kinds, and along its steps.
-use Rattle.shr_assemble.proofs.Common.{◌≡◌, ℕ, zero, suc, ◌<◌, inl, inr, List, [], ◌∷◌, sym, ap, subst, ◌∙◌, arith, slice_get, Some, same_Some, none-some, Has, by_seat, Begins, begins_all, begins_more, among, seen_in, attempts_in, Event, Made, Counted, Tried, Turn, counted, made, looked, loaded, turned, put_back, raised, cleared, mapped, WorkerState, Step, AreStepsChained, made_in, turns_in}
+use Rattle.shr_assemble.proofs.Common.{◌≡◌, ℕ, ◌<◌, inl, inr, List, [], ◌∷◌, ap, subst, slice_get, Some, Has, by_seat, Begins, begins_all, begins_more, among, seen_in, attempts_in, Event, Made, Counted, Tried, Turn, counted, made, looked, turned, WorkerState, Step, AreStepsChained, made_in, turns_in}
+use Rattle.shr_assemble.proofs.Gathering.{later_along}
 use Rattle.shr_assemble.proofs.Listed.{either}
 
 -- the event that has what a kind of event gives
@@ -38,13 +39,5 @@ pub has_turned : (es : List Event) (t : Turn) → Has (among turns_in es) t → 
 has_turned es t h = let f = of_kind turns_in es t h in subst (Has es) (turned_in f.0 t f.2) f.1
 
 -- ---- what a worker did along its steps
-first_did : (t : WorkerState) (mine : List Step) (k : ℕ) (x : Step) → AreStepsChained t mine → slice_get mine k ≡ Some x → Begins t.core.did x.before.core.did
-first_did t [] k x c e = absurd (none-some x e)
-first_did t (y ∷ mine) zero x c e = subst (λ (u : WorkerState). Begins u.core.did x.before.core.did) (ap (λ (z : Step). z.before) (sym (same_Some y x e)) ∙ c.0) (begins_all _)
-first_did t (y ∷ mine) (suc k) x c e = begins_more _ _ _ (subst (λ (u : WorkerState). Begins u.core.did y.after.core.did) c.0 (by_seat y.before.core.seat c.1.core.did, c.1.core.noted)) (first_did y.after mine k x c.2 e)
-
 pub later_did : (t : WorkerState) (mine : List Step) (k later : ℕ) (x y : Step) → AreStepsChained t mine → k < later → slice_get mine k ≡ Some x → slice_get mine later ≡ Some y → Begins x.after.core.did y.before.core.did
-later_did t [] k later x y c lt e d = absurd (none-some x e)
-later_did t (z ∷ mine) k zero x y c lt e d = absurd (omega arith)
-later_did t (z ∷ mine) zero (suc later) x y c lt e d = subst (λ (v : Step). Begins v.after.core.did y.before.core.did) (same_Some z x e) (first_did z.after mine later y c.2 d)
-later_did t (z ∷ mine) (suc k) (suc later) x y c lt e d = later_did z.after mine k later x y c.2 (omega arith) e d
+later_did = later_along (λ s t. Begins s.core.did t.core.did) (λ s. begins_all s.core.did) (λ s t u. begins_more s.core.did t.core.did u.core.did) (λ x b. (by_seat x.before.core.seat b.core.did, b.core.noted))

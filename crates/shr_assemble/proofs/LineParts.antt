@@ -1,5 +1,6 @@
 -- Where the deeds of one seat stand in a line, read both ways.
-use Rattle.shr_assemble.proofs.Common.{◌≡◌, ℕ, zero, suc, ◌+◌, ◌<◌, ◌≤◌, inl, inr, Bool, true, false, cond, take, List, [], ◌∷◌, ◌++◌, length, sym, refl, ap, subst, ◌∙◌, arith, eq-eqb, ◌==◌, eqb-true, some, some-injective, some-ne-none, get_elem?, Has, Deed, by_seat, part, among, attempts_in, Event, Tried, looked}
+use Rattle.shr_assemble.proofs.Common.{◌≡◌, ℕ, zero, suc, ◌<◌, ◌≤◌, inl, inr, Bool, true, false, cond, take, List, [], ◌∷◌, ◌++◌, length, sym, refl, ap, subst, ◌∙◌, arith, eq-eqb, ◌==◌, eqb-true, some, some-injective, some-ne-none, get_elem?, Has, Deed, by_seat, part, among, attempts_in, Event, Tried, looked}
+use Rattle.shr_model.proofs.Members.{Has_right}
 use Rattle.shr_assemble.proofs.Spots.{spot_of}
 
 -- ---- lists
@@ -25,15 +26,17 @@ by_seat_at j [] i d e = absurd (some-ne-none d (sym e))
 by_seat_at j (x ∷ es) zero d e = (x, refl, ap (λ (y : Deed Event). y.act) (some-injective (record { seat = j; act = x }) d e))
 by_seat_at j (x ∷ es) (suc i) d e = by_seat_at j es i d e
 
-pub has_right : {A : Type 0} (xs ys : List A) (y : A) → Has ys y → Has (xs ++ ys) y
-has_right [] ys y h = h
-has_right (x ∷ xs) ys y h = inr (has_right xs ys y h)
+-- a deed of a seat is in the part of that seat
+pub part_has : (d : Deed Event) (j : ℕ) (line : List (Deed Event)) → d.seat ≡ j → Has line d → Has (part j line) d
+part_has d j [] own h = absurd h
+part_has d j (y ∷ line) own (inl e) = subst (λ (b : Bool). Has (cond b (y ∷ part j line) (part j line)) d) (sym (eq-eqb y.seat j (ap (λ (z : Deed Event). z.seat) e ∙ own))) (inl e)
+part_has d j (y ∷ line) own (inr h) = (elim (y.seat == j) as (λ (b : Bool). Has (part j line) d → Has (cond b (y ∷ part j line) (part j line)) d) [ true ↦ λ has. inr has | false ↦ λ has. has ]) (part_has d j line own h)
 
 -- a lookup is among the attempts
 pub attempts_has : (es : List Event) (i : ℕ) (t : Tried) → get_elem? es i ≡ some (looked t) → Has (among attempts_in es) t
 attempts_has [] i t e = absurd (some-ne-none (looked t) (sym e))
 attempts_has (x ∷ es) zero t e = subst (λ (y : Event). Has (attempts_in y ++ among attempts_in es) t) (sym (some-injective x (looked t) e)) (inl refl)
-attempts_has (x ∷ es) (suc i) t e = has_right (attempts_in x) (among attempts_in es) t (attempts_has es i t e)
+attempts_has (x ∷ es) (suc i) t e = Has_right (attempts_in x) (among attempts_in es) t (attempts_has es i t e)
 
 -- ---- the deeds of a seat
 pub part_seat : (j : ℕ) (line : List (Deed Event)) (p : ℕ) (d : Deed Event) → get_elem? (part j line) p ≡ some d → d.seat ≡ j

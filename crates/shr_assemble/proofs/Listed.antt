@@ -1,7 +1,9 @@
 -- Elements of lists, and what the report and the steps of its workers have in common: operations, answers, walks, pairs.
-use Rattle.shr_assemble.proofs.Common.{◌≡◌, ℕ, zero, suc, ◌<◌, inl, inr, Bool, true, false, ◌||◌, List, [], ◌∷◌, ◌++◌, length, sym, refl, ap, subst, ◌∙◌, arith, slice_get, Some, All, Contains, AllByRecursion, cases_Bool, same_Some, none-some, slice_get_within, get_or_from_slice_get, slice_get-get_or, Entry, Closed, is_closing, is_closed, Begins, IsAmong, at_some, by_slices, count_total, some_at, sum_total, closed_at, ⊎_elim, cond, eqb, eq-eqb, filter, AllPairs, and_parts, and_from, eqb-true, length-take-le, Contains-permutation, IsPermutation-sym, UseStep, Serial, Script, is_by, ops_by, IsChargeHistory, Has, Has_from_Contains, Contains_from_Has, each_has, Has_filter, filter_has, AreRising, IsLaterThan, WorkerState, Report, uses_at, serial_of, Step, steps_of, AreStepsChained, ops_at, all_ops, IsRun, ◌+◌, length-append, take, Option, None, flat_map, map, WorkerPart, WalkRecord, all_walks, all_carries, answers_of, walk_at, gathered, steps_in, DidWalk, IsStep, answers_in, walks_in, carries_in}
+use Rattle.shr_assemble.proofs.Common.{◌≡◌, ℕ, zero, suc, ◌<◌, inl, inr, Bool, true, false, ◌||◌, List, [], ◌∷◌, ◌++◌, length, sym, refl, ap, subst, ◌∙◌, arith, slice_get, Some, All, Contains, AllByRecursion, cases_Bool, same_Some, none-some, slice_get_within, get_or_from_slice_get, slice_get-get_or, Entry, Closed, is_closing, is_closed, Begins, IsAmong, at_some, by_slices, some_at, closed_at, ⊎_elim, cond, eqb, eq-eqb, filter, AllPairs, and_from, eqb-true, length-take-le, Contains-permutation, IsPermutation-sym, UseStep, Serial, Script, is_by, ops_by, IsChargeHistory, Has, Has_from_Contains, Contains_from_Has, each_has, Has_filter, filter_has, AreRising, IsLaterThan, WorkerState, Report, uses_at, serial_of, Step, steps_of, AreStepsChained, ops_at, all_ops, IsRun, ◌+◌, length-append, take, Option, None, flat_map, map, WorkerPart, WalkRecord, all_walks, all_carries, answers_of, walk_at, gathered, steps_in, DidWalk, IsStep, walks_in, carries_in, list_any, ◌≤◌, length-map}
+pub use Rattle.shr_units.proofs.Lists.{slice_begins as begins_slice}
+use Rattle.shr_model.proofs.ChargeLaws.{is_by_same}
 use Rattle.shr_assemble.proofs.Gathering.{HasStep, has_step, gathered_has, same_step, work_of, flat_at, flat_there}
-use Rattle.shr_assemble.proofs.LineParts.{has_right}
+pub use Rattle.shr_worker.proofs.Within.{one_of as all_slice_by}
 
 -- what holds of all elements holds of one
 pub all_among : {A : Type 0} (P : A → Type 0) (xs : List A) (x : A) → All P xs → IsAmong x xs → P x
@@ -9,11 +11,6 @@ all_among P xs x all (j, e) = let at = at_some xs j x e in subst P (get_or_from_
 
 pub all_slice : {A : Type 0} (P : A → Type 0) (xs : List A) (j : ℕ) (x : A) → All P xs → slice_get xs j ≡ Some x → P x
 all_slice P xs j x all at = subst P (get_or_from_slice_get xs j x x at) (all j x (slice_get_within xs j x at))
-
-pub all_slice_by : {A : Type 0} (P : A → Type 0) (xs : List A) (j : ℕ) (x : A) → AllByRecursion P xs → slice_get xs j ≡ Some x → P x
-all_slice_by P [] j x all at = absurd (none-some x at)
-all_slice_by P (y ∷ xs) zero x all at = subst P (same_Some y x at) all.0
-all_slice_by P (y ∷ xs) (suc j) x all at = all_slice_by P xs j x all.1 at
 
 -- the ways to say that an element is there
 pub contains_slice : {A : Type 0} (xs : List A) (x : A) → Contains xs x → (n : ℕ) × (slice_get xs n ≡ Some x)
@@ -25,15 +22,7 @@ slice_contains xs n x at = (n, slice_get_within xs n x at, get_or_from_slice_get
 pub contains_among : {A : Type 0} (xs : List A) (x : A) → Contains xs x → IsAmong x xs
 contains_among xs x h = let t = contains_slice xs x h in (t.0, some_at xs t.0 x t.1)
 
--- what a beginning has stands in the whole
-pub begins_slice : {A : Type 0} (xs ys : List A) (n : ℕ) (x : A) → Begins xs ys → slice_get xs n ≡ Some x → slice_get ys n ≡ Some x
-begins_slice {A} xs ys n x b at = subst (λ (l : List A). slice_get l n ≡ Some x) (sym b.1) (there xs b.0 n x at) where
-  there : (l m : List A) (n : ℕ) (x : A) → slice_get l n ≡ Some x → slice_get (l ++ m) n ≡ Some x
-  there [] m n x e = absurd (none-some x e)
-  there (y ∷ l) m zero x e = e
-  there (y ∷ l) m (suc n) x e = there l m n x e
-
--- and what stands in the whole with a number of the beginning is the beginning's
+-- what stands in the whole with a number of a beginning is the beginning's
 pub slice_begins : {A : Type 0} (xs ys : List A) (n : ℕ) (x : A) → Begins xs ys → n < length xs → slice_get ys n ≡ Some x → slice_get xs n ≡ Some x
 slice_begins {A} xs ys n x b lt at = there xs b.0 n x lt (subst (λ (l : List A). slice_get l n ≡ Some x) b.1 at) where
   there : (l m : List A) (n : ℕ) (x : A) → n < length l → slice_get (l ++ m) n ≡ Some x → slice_get l n ≡ Some x
@@ -109,9 +98,6 @@ same_rising (x ∷ xs) (y ∷ ys) a b to from = let rest : xs ≡ ys = same_risi
   past u v us vs e o all has (inr later) = later
 
 -- ---- the operations of a step
-is_by_same : (by : Serial) (o : UseStep) → is_by by o ≡ true → o.by ≡ by
-is_by_same by o h = let t = and_parts (eqb o.by.worker by.worker) (eqb o.by.command by.command) h in let w = eqb-true o.by.worker by.worker t.0 in let c = eqb-true o.by.command by.command t.1 in λ i. record { worker = w i; command = c i }
-
 pub is_by_own : (by : Serial) (o : UseStep) → o.by ≡ by → is_by by o ≡ true
 is_by_own by o e = and_from (eqb o.by.worker by.worker) (eqb o.by.command by.command) (eq-eqb o.by.worker by.worker (ap (λ (z : Serial). z.worker) e)) (eq-eqb o.by.command by.command (ap (λ (z : Serial). z.command) e))
 
@@ -220,8 +206,20 @@ same_flat f g (x ∷ xs) [] f' g' nf ng sf sg h = ap (λ l. l ++ flat_map f xs) 
 same_flat f g [] (y ∷ ys) f' g' nf ng sf sg h = same_flat f g [] ys f' g' nf ng sf sg (λ i. h (suc i)) ∙ ap (λ l. l ++ flat_map g ys) (sym (sym (sg y) ∙ (sym (h 0) ∙ nf)))
 same_flat f g (x ∷ xs) (y ∷ ys) f' g' nf ng sf sg h = ap (λ l. l ++ flat_map f xs) (sym (sf x) ∙ (h 0 ∙ sg y)) ∙ ap (λ l. g y ++ l) (same_flat f g xs ys f' g' nf ng sf sg (λ i. h (suc i)))
 
+-- an element that passes, where one does
+pub any_has : {A : Type 0} (test : A → Bool) (xs : List A) → list_any test xs ≡ true → (x : A) × Has xs x × (test x ≡ true)
+any_has test [] h = absurd (let f : false ≡ true = h in cc)
+any_has test (x ∷ xs) h = elim (cases_Bool (test x)) [
+  | inl here ↦ (x, inl refl, here)
+  | inr not_it ↦ let t = any_has test xs (sym (ap (λ b. b || list_any test xs) not_it) ∙ h) in (t.0, inr t.1, t.2)
+]
+
+pub most_one : (b : Bool) → cond {A = ℕ} b 1 0 ≤ 1
+most_one true = omega arith
+most_one false = omega arith
+
 -- a list by its elements
-same_by_slices : {A : Type 0} (xs ys : List A) → length xs ≡ length ys → ((i : ℕ) (y : A) → slice_get ys i ≡ Some y → slice_get xs i ≡ Some y) → xs ≡ ys
+pub same_by_slices : {A : Type 0} (xs ys : List A) → length xs ≡ length ys → ((i : ℕ) (y : A) → slice_get ys i ≡ Some y → slice_get xs i ≡ Some y) → xs ≡ ys
 same_by_slices [] [] e h = refl
 same_by_slices (x ∷ xs) [] e h = absurd (omega (arith, e))
 same_by_slices [] (y ∷ ys) e h = absurd (omega (arith, e))
@@ -231,10 +229,6 @@ pub slice_map : {A B : Type 0} (f : A → B) (xs : List A) (i : ℕ) (y : B) →
 slice_map f [] i y e = absurd (none-some y e)
 slice_map f (x ∷ xs) zero y e = (x, refl, same_Some (f x) y e)
 slice_map f (x ∷ xs) (suc i) y e = slice_map f xs i y e
-
-length_map : {A B : Type 0} (f : A → B) (xs : List A) → length (map f xs) ≡ length xs
-length_map f [] = refl
-length_map f (x ∷ xs) = omega (arith, length_map f xs)
 
 module _ (s : Script) (r : Report) (workers : List (List Step)) (run : IsRun s r workers) where
   pub all_walks_are : all_walks r ≡ gathered (λ x. x.work.walks) workers
@@ -246,7 +240,7 @@ module _ (s : Script) (r : Report) (workers : List (List Step)) (run : IsRun s r
       refl refl (λ part. refl) (λ mine. refl) run.steps.carries
 
   pub answers_are : (worker : ℕ) → answers_of r worker ≡ map (λ (x : Step). x.answered) (steps_of workers worker)
-  answers_are worker = same_by_slices (answers_of r worker) (map (λ (x : Step). x.answered) (steps_of workers worker)) (run.steps.answers worker ∙ sym (length_map (λ (x : Step). x.answered) (steps_of workers worker)))
+  answers_are worker = same_by_slices (answers_of r worker) (map (λ (x : Step). x.answered) (steps_of workers worker)) (run.steps.answers worker ∙ sym (length-map (steps_of workers worker) (λ (x : Step). x.answered)))
       (λ i a at. let t = slice_map (λ (x : Step). x.answered) (steps_of workers worker) i a at in (run.steps.each worker i t.0 t.1).answered ∙ ap Some t.2)
 
   -- how many walks a worker had before a step

@@ -8,7 +8,7 @@ use Rattle.shr_charge.specs.declared.answers.MakeAnswer.{MakeAnswer}
 use Rattle.shr_charge.specs.declared.answers.MakeAnswer.TheVariants as make
 use Rattle.shr_worker.specs.Commands as worker
 use Rattle.shr_assemble.proofs.QuietTenant.{brings_of, without, no_entries, unfound_lookups}
-use Rattle.shr_assemble.proofs.QuietSteps.{step_of, HasDid, calm_walks, still_moves, still_charges, still_pool, IsToldOnce, meets_none, quiet_did, AreTables, tree_is, hierarchy_is, known_meets}
+use Rattle.shr_assemble.proofs.QuietSteps.{step_of, HasDid, still_charges, still_pool, IsToldOnce, meets_none, quiet_did, AreTables, tree_is, hierarchy_is, known_meets}
 use Rattle.shr_assemble.proofs.OfflineDid.{IsHandless, giving, does_give, unmade_before, unmade_late}
 
 -- a group that has a Made is made

@@ -18,7 +18,7 @@ use Rattle.shr_offline.specs.declared.answers.OfflineAnswer.{OfflineAnswer}
 use Rattle.shr_offline.specs.declared.answers.OfflineAnswer.TheVariants as answered
 use Rattle.shr_offline.specs.Offlined as offlined
 use Rattle.shr_worker.specs.Commands as worker
-use Rattle.shr_assemble.proofs.QuietSteps.{step_of, HasDid, calm_walks, still_moves, still_charges, still_pool, still_tree, IsToldOnce, some_met, meets_none, quiet_did, AreTables, tree_is, hierarchy_is, gaining, does_gain, known_meets}
+use Rattle.shr_assemble.proofs.QuietSteps.{step_of, HasDid, still_charges, still_pool, still_tree, IsToldOnce, some_met, meets_none, quiet_did, AreTables, tree_is, hierarchy_is, gaining, does_gain, known_meets}
 use Rattle.shr_assemble.proofs.ScriptGroups.{core_hierarchy, sized_of}
 use Rattle.shr_assemble.proofs.QuietCharges.{nothing_did}
 

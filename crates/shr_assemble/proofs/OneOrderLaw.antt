@@ -1,9 +1,11 @@
 -- What the report of a run tells is in one order: that of the events in the line of all that the workers did.
-use Rattle.shr_assemble.proofs.Common.{◌≡◌, ◌≢◌, ◌⊎◌, ℕ, zero, suc, ◌+◌, ◌<◌, ◌≤◌, inl, inr, ⊎_elim, Bool, true, cond, List, [], ◌∷◌, ◌++◌, length, map, get_or, sym, refl, ap, subst, ◌∙◌, arith, eqb, eq-eqb, slice_get, Option, Some, None, nat_lt, flat_map, option_map, option_to_list, Contains, IsSomeAnd, and_from, lt-ltb, append-nil, same_Some, none-some, slice_get-get_or, dite, ℕ_discrete, dec_lt, some, some-injective, some-ne-none, get_elem?, Entry, Add, Look, Drop, Pin, Scan, MovedIn, Closed, Drained, PoolEntry, Registered, Place, Serial, Answered, Reply, Script, WalkRecord, place_number, Has, Has_from_Contains, map_has, Deed, by_seat, acts_of, at_begins, among, seen_in, attempts_in, Event, Made, Tried, Turn, counted, made, looked, turned, EventTells, back, Report, IsMadeBy, serial_of, decls_on, answer_at, reply_at, walks_by, journals_of, entry_by, Told, entry, lookup, turn, count, Counting, ToldMeasure, entries, lookups, turns, looked_by, countings_of, HasAt, IsBy, TurnTells, IsInOneOrder, MayMakeEntry, number_made, IsRun, Step, IsAmong, steps_of, some_at, ReportTells, TellsOf}
+use Rattle.shr_assemble.proofs.Common.{◌≡◌, ◌≢◌, ◌⊎◌, ℕ, zero, suc, ◌+◌, ◌<◌, ◌≤◌, inl, inr, ⊎_elim, Bool, true, cond, List, [], ◌∷◌, ◌++◌, length, map, get_or, sym, refl, ap, subst, ◌∙◌, arith, eqb, eq-eqb, slice_get, Option, Some, None, nat_lt, flat_map, option_map, option_to_list, Contains, IsSomeAnd, and_from, lt-ltb, append-nil, same_Some, none-some, slice_get-get_or, dite, ℕ_discrete, dec_lt, some, some-injective, some-ne-none, get_elem?, Entry, Scan, MovedIn, Closed, PoolEntry, Registered, Place, Serial, Answered, Reply, Script, WalkRecord, place_number, Has, Has_from_Contains, map_has, Deed, by_seat, acts_of, at_begins, among, seen_in, attempts_in, Event, Made, Tried, Turn, counted, made, looked, turned, EventTells, back, Report, IsMadeBy, serial_of, decls_on, answer_at, reply_at, walks_by, journals_of, entry_by, Told, entry, lookup, turn, count, Counting, ToldMeasure, entries, lookups, turns, looked_by, countings_of, HasAt, IsBy, TurnTells, MayMakeEntry, number_made, IsRun, Step, IsAmong, steps_of, some_at, ReportTells, TellsOf}
+use Rattle.shr_core.proofs.Unregistering.{there as at_less}
+use Rattle.shr_model.proofs.Lists.{there_at}
 use Rattle.shr_core.specs.Ranks as core
 use Rattle.shr_core.proofs.Ranking as ranking
 use Rattle.shr_report.specs.OneOrder.{numbers_tried, number_found}
-use Rattle.shr_assemble.proofs.CountsTold.{at_behind, at_less, mine, count_spot, CountAt, count_at, one_seen}
+use Rattle.shr_assemble.proofs.CountsTold.{at_behind, mine, count_spot, CountAt, count_at, one_seen}
 use Rattle.shr_assemble.proofs.EventsTold.{is_entry, is_lookup, is_turn, entry_tells, lookup_tells, turn_tells, alone, core_of, one_try, not_below, registered, registered_flat}
 use Rattle.shr_assemble.proofs.FreshLaw.{step_cases, begins_length}
 use Rattle.shr_assemble.proofs.Gathering.{first_grows, work_of, answer_is, reply_is, maker, each_among}
@@ -14,7 +16,6 @@ use Rattle.shr_assemble.proofs.JournalsLaw.{turn_stands, turn_maker}
 use Rattle.shr_assemble.proofs.PoolPast.{turn_by}
 use Rattle.shr_assemble.proofs.Spots.{spot_of, spot_there, spots_rise, first_of, Passes, first_there, kind_spot, kind_there, kinds_rise}
 use Rattle.shr_assemble.proofs.WalksLaw.{walks_are}
-use Rattle.shr_assemble.proofs.Crews.{there_at}
 
 module _ (s : Script) (r : Report) (workers : List (List Step)) (run : IsRun s r workers) where
   -- an event is that of what is told

@@ -1,6 +1,7 @@
 -- Whether the ups of operations in a group were refused, in order, and what the tries of a charge come to there.
-use Rattle.shr_assemble.proofs.Common.{◌≡◌, ◌≢◌, ℕ, ◌+◌, ◌<◌, ◌&&◌, ◌||◌, inl, inr, ⊎_elim, Bool, true, false, not, cond, ◌==◌, List, [], ◌∷◌, ◌++◌, length, map, refl, sym, ap, subst, ◌∙◌, arith, append_assoc, eq-eqb, ne_eqb, Option, Some, None, filter, replicate, pos, AllByRecursion, list_any, cases_Bool, eqb-true, append-nil, dite, ℕ_discrete, UseStep, is_refused, IsBelow, is_at_or_above, IsTree, parent_of, path_of, path_of-root, path_of-below, IsOn, by_parents, on_self, on_le, Has, path_to, way_here, way_root, way_up, times_of, count_first, way_once, int_lt, below_not, not_true}
+use Rattle.shr_assemble.proofs.Common.{◌≡◌, ◌≢◌, ℕ, ◌+◌, ◌<◌, ◌&&◌, ◌||◌, inl, inr, ⊎_elim, Bool, true, false, cond, ◌==◌, List, [], ◌∷◌, ◌++◌, length, map, refl, sym, ap, subst, ◌∙◌, arith, append_assoc, eq-eqb, ne_eqb, Option, filter, replicate, AllByRecursion, list_any, cases_Bool, eqb-true, append-nil, dite, ℕ_discrete, UseStep, is_refused, IsBelow, is_at_or_above, IsTree, parent_of, path_of, path_of-root, path_of-below, IsOn, by_parents, on_self, on_le, Has, path_to, way_here, way_root, way_up, times_of, count_first, way_once, below_not}
 use Rattle.shr_assemble.proofs.WalkingCharges.{GoesDown}
+use Rattle.shr_reclaim.proofs.Netting.{over_is}
 
 -- whether each up was refused
 abbrev pub outcomes : Option ℕ → List UseStep → List Bool
@@ -54,10 +55,6 @@ down_outcomes limit (o ∷ ops) h = ap {A = Bool} (λ (t : Bool). map (is_refuse
 abbrev pub FoundRoom : Option ℕ → UseStep → Type 0
 FoundRoom limit o = (o.up ≡ true) × IsBelow limit o
 
-over_is : (limit : Option ℕ) (o : UseStep) → o.up ≡ true → (IsBelow limit o → ⊥) → is_refused limit o ≡ true
-over_is None o up h = absurd (h tt)
-over_is (Some l) o up h = ap (λ (b : Bool). b && not (int_lt o.found (pos l))) up ∙ ap (λ (b : Bool). not b) (not_true (int_lt o.found (pos l)) (λ t. h record { lt = t }))
-
 pub up_outcomes : (limit : Option ℕ) (ops : List UseStep) → AllByRecursion (FoundRoom limit) ops → outcomes limit ops ≡ replicate (length ops) false
 up_outcomes limit [] h = refl
 up_outcomes limit (o ∷ ops) h = ap {A = Bool} (λ (t : Bool). map (is_refused limit) (cond t (o ∷ filter (λ (y : UseStep). y.up) ops) (filter (λ (y : UseStep). y.up) ops))) h.0.0
@@ -70,7 +67,7 @@ over_outcomes limit o ops up above down = ap {A = Bool} (λ (t : Bool). map (is_
 
 -- ---- how often a group stands on the way
 
-any_has : (xs : List ℕ) (g : ℕ) → Has xs g → list_any (λ (h : ℕ). h == g) xs ≡ true
+pub any_has : (xs : List ℕ) (g : ℕ) → Has xs g → list_any (λ (h : ℕ). h == g) xs ≡ true
 any_has [] g h = absurd h
 any_has (x ∷ xs) g (inl e) = ap (λ (b : Bool). b || list_any (λ (h : ℕ). h == g) xs) (eq-eqb x g e)
 any_has (x ∷ xs) g (inr h) = ap (λ (b : Bool). (x == g) || b) (any_has xs g h) ∙ (elim (x == g) as (λ (b : Bool). (b || true) ≡ true) [ true ↦ refl | false ↦ refl ])

@@ -1,5 +1,5 @@
 -- What a set_pin did.
-use Rattle.shr_assemble.proofs.Common.{◌≡◌, ℕ, ◌<◌, inl, Bool, true, false, List, length, refl, ap, arith, Option, Some, None, Object, Serial, At, Entry, Pin, Answered, Found, Reply, Spent, Command, SetPin, is_named, holds, pinned_object, length_change_first, View, shape_of, Listed, IsObjectWithin, content_of, Shared, WorkerState, parents_of, is_past_group, same_Some, none-some, pin_entry}
+use Rattle.shr_assemble.proofs.Common.{◌≡◌, ℕ, ◌<◌, Bool, true, false, List, length, refl, ap, arith, Option, Some, None, Object, Serial, At, Entry, Pin, Answered, Found, Reply, Spent, Command, SetPin, is_named, holds, pinned_object, length_change_first, View, shape_of, Listed, IsObjectWithin, content_of, Shared, WorkerState, parents_of, is_past_group, same_Some, none-some, pin_entry}
 use Rattle.shr_base.specs.declared.replies.Reply.TheVariants as reply
 use Rattle.shr_base.specs.declared.replies.Spent.TheVariants as spent
 use Rattle.shr_node.specs.declared.answers.NodePin.{NodePin}
@@ -7,28 +7,14 @@ use Rattle.shr_node.specs.declared.answers.NodePin.TheVariants as pin
 use Rattle.shr_node.specs.Answers as lists
 use Rattle.shr_cache.specs.Pins.{Pins, PinnedFrom, PinnedAs, SetPinGives}
 use Rattle.shr_assemble.proofs.QuietSteps.{HasDid, some_met, AreTables}
-use Rattle.shr_assemble.proofs.QuietTenant.{IsTenant, group_in, refused_did, acted_did, stood_did, stood_step, cites_is, list_worn}
+use Rattle.shr_assemble.proofs.QuietTenant.{IsTenant, group_in, refused_did, acted_did, stood_did, cites_is, full_did}
 
 module _ (x : Shared) (tables : AreTables x) (by : Serial) (group node decl : ℕ) (key : List ℕ) (pinned : Bool) (within : IsObjectWithin (content_of x.script) group node decl key) where
   abbrev command : Command
   command = SetPin group node decl key pinned
 
   tenant : IsTenant x.script by command group decl
-  tenant = record {
-    calm = tt;
-    asks = λ g e. same_Some group g e;
-    met = refl;
-    group_is = refl;
-    decl_is = refl;
-    charged = λ parents g r. refl;
-    offline = λ family entry. tt;
-    no_cache = λ family entry. tt;
-    worn = λ family id seen. tt;
-    not_made = λ family g. tt;
-    was_made = λ family id g h. h;
-    shows = λ r g e. some_met (is_past_group r) group g e;
-    unshown = λ g n e. none-some n e;
-  }
+  tenant = assumption (same_Some group, (λ (r : Reply). some_met (is_past_group r) group), none-some {A = ℕ})
 
   -- what a set_pin asks of its list, and the entry that it makes there
   abbrev pinning : Found → NodePin → View → View → Type 0
@@ -62,13 +48,8 @@ module _ (x : Shared) (tables : AreTables x) (by : Serial) (group node decl : �
     worn : (w : Spent) → Pins x by group node decl key pinned f (pin.Worn w) s t → HasDid x.script by command (record { reply = reply.Worn w; found = Some f }) s t
     worn (spent.Lookups id seen) o = absurd o.calls.made
     worn (spent.Charges charges uncharges) o = absurd o.calls.made
-    worn (spent.List place entries items) o =
-        let a = o.calls.made in
-        let call : View → View → Type 0 = pinning f (pin.Worn (spent.List place entries items)) in
-        let r : Reply = reply.Worn (spent.List place entries items) in
-        stood_did x tables by command group node decl tenant f call r s t o a.full.gains (λ family. tt) refl refl refl
-        (list_worn x tables by command group node decl tenant f call r s t o group entries items place pins_so a within.on_node there (stood_step x tables by command group node decl tenant f call r s t o) refl
-        (inl (let n = a.full.worn.items_then in let same = length_change_first (is_named group key) (pinned_object pinned) a.old.items in omega (arith, n, same))))
+    worn (spent.List place entries items) o = let a = o.calls.made in
+        full_did x tables by command group node decl tenant f (pinning f (pin.Worn (spent.List place entries items))) entries items place s t o pins_so a within.on_node there (λ family. tt) (let n = a.full.worn.items_then in let same = length_change_first (is_named group key) (pinned_object pinned) a.old.items in omega (arith, n, same))
 
     lacking : Pins x by group node decl key pinned f pin.Memory s t → HasDid x.script by command (record { reply = reply.Memory; found = Some f }) s t
     lacking o = stood_did x tables by command group node decl tenant f (pinning f pin.Memory) reply.Memory s t o o.calls.made.free.gains (λ family. tt) refl refl refl tt

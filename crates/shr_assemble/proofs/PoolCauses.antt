@@ -1,19 +1,14 @@
 -- The causes of answers of `unregister` that ended a registration.
-use Rattle.shr_assemble.proofs.Common.{◌≡◌, ℕ, zero, suc, ◌+◌, ◌%◌, ◌<◌, ◌≤◌, ⊎_elim, inl, inr, Bool, true, false, ◌||◌, cond, eqb, List, [], ◌∷◌, ◌++◌, length, take, drop, refl, sym, ap, subst, ◌∙◌, arith, eq-eqb, slice_get, Some, sum_by, nat_lt, list_any, cases_Bool, cases_lt, eqb-true, and_parts, same_Some, none-some, slice_get_within, dite, ℕ_discrete, Entry, Add, Look, Drop, Pin, Scan, MovedIn, Closed, Drained, PoolEntry, Registered, Unregistered, Idle, Place, Serial, HalfWhy, Reply, Script, is_serial, phase_of, from_of, phase_of_push, Made, Turn, Report, decls_on, serial_of, drained_by, IsFreed, Step, steps_of, IsCausedBy, IsDrainedByCommand, MayMakeEntry, Drains, IsTurnOf, IsRun, all_zero, some_at, drained_of, is_idle_entry, became_idle, IsUnregistered, IsUnregisteredBy, IsFreedBy, IsHalfBy, id_of, no_test}
+use Rattle.shr_assemble.proofs.Common.{◌≡◌, ℕ, zero, suc, ◌+◌, ◌%◌, ◌<◌, ◌≤◌, ⊎_elim, inl, inr, Bool, true, false, ◌||◌, cond, eqb, List, [], ◌∷◌, length, take, drop, refl, sym, ap, subst, ◌∙◌, arith, eq-eqb, slice_get, Some, sum_by, nat_lt, list_any, cases_Bool, cases_lt, eqb-true, and_parts, same_Some, none-some, slice_get_within, dite, ℕ_discrete, Entry, Drained, PoolEntry, Registered, Unregistered, Idle, Place, Serial, HalfWhy, Reply, Script, is_serial, phase_of, from_of, phase_of_push, Made, Turn, Report, decls_on, serial_of, drained_by, IsFreed, Step, steps_of, IsCausedBy, IsDrainedByCommand, MayMakeEntry, Drains, IsTurnOf, IsRun, all_zero, some_at, drained_of, is_idle_entry, became_idle, IsUnregistered, IsUnregisteredBy, IsFreedBy, IsHalfBy, id_of, no_test}
+use Rattle.shr_charge.proofs.Listing.{take_next}
+use Rattle.shr_model.proofs.Weights.{is_serial_same}
+use Rattle.shr_model.proofs.Lists.{there_at}
 use Rattle.shr_base.specs.declared.replies.Reply.TheVariants as reply
 use Rattle.shr_core.specs.Layout as layout
 use Rattle.shr_core.proofs.LookupSteps.{lowest_free_is}
 use Rattle.shr_assemble.proofs.Gathering.{each_among, same_step, maker}
 use Rattle.shr_assemble.proofs.JournalsLaw.{turn_maker, turn_stands, one_turn_maker, pool_known}
 use Rattle.shr_assemble.proofs.EntrySums.{entries_of_step}
-use Rattle.shr_assemble.proofs.LimitsLaw.{serial_same}
-use Rattle.shr_assemble.proofs.Crews.{there_at}
-
--- ---- one entry more
-take_next : {A : Type 0} (xs : List A) (n : ℕ) (x : A) → slice_get xs n ≡ Some x → take (n + 1) xs ≡ take n xs ++ x ∷ []
-take_next [] n x e = absurd (none-some x e)
-take_next (y ∷ xs) zero x e = ap (λ z. z ∷ []) (same_Some y x e)
-take_next (y ∷ xs) (suc n) x e = (let z : suc n + 1 ≡ suc (n + 1) = omega arith in ap (λ i. take i (y ∷ xs)) z) ∙ ap (λ l. y ∷ l) (take_next xs n x e)
 
 -- how far a number is above another
 apart_by : (n m : ℕ) → n < m → (g : ℕ) × (m ≡ n + 1 + g)
@@ -74,7 +69,7 @@ module _ (s : Script) (r : Report) (workers : List (List Step)) (run : IsRun s r
   module _ (worker k : ℕ) (x : Step) (at : slice_get (steps_of workers worker) k ≡ Some x) where
     drained_other : (by : Serial) (m : Made) (e : Entry) (y : Step) → MayMakeEntry s y m e → (y.by ≡ by → ⊥) → drained_by by e ≡ 0
     drained_other by m (Drained b objects) y may ne = let t : IsDrainedByCommand y m b = may in
-        ap (λ c. cond c objects 0) (no_test (is_serial by b) (λ same. ne (sym (serial_same by b same ∙ t.own))))
+        ap (λ c. cond c objects 0) (no_test (is_serial by b) (λ same. ne (sym (is_serial_same by b same ∙ t.own))))
     drained_other by m e y may ne = refl
 
     drained_is : sum_by (λ (m : Made). drained_by x.by m.entry) x.work.core.made ≡ drained_of r x.by

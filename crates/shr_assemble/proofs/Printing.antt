@@ -1,10 +1,6 @@
 -- Which part is the last that has an answer.
 use Rattle.shr_assemble.proofs.Common.{◌≡◌, ℕ, zero, suc, ◌+◌, ◌<◌, ◌≤◌, ⊎_elim, List, [], ◌∷◌, length, take, refl, sym, ap, subst, ◌∙◌, arith, slice_get, Some, cases_order, length-take-le, slice_get_within, WorkerPart, IsLastAnswered, take_below, some_injective}
 
-pub is_empty : {A : Type 0} (xs : List A) → length xs ≡ 0 → xs ≡ []
-is_empty [] e = refl
-is_empty (x ∷ xs) e = absurd (omega (arith, e))
-
 -- what stands in a beginning stands in the whole
 pub get_taken : {A : Type 0} (xs : List A) (n i : ℕ) → i < n → slice_get (take n xs) i ≡ slice_get xs i
 get_taken [] zero i lt = refl

@@ -1,5 +1,5 @@
 -- What a put's charge with its reclaim did, by its answer: its rounds, and its operations group by group.
-use Rattle.shr_assemble.proofs.Common.{◌≡◌, ℕ, suc, ◌-◌, ◌<◌, ◌≤◌, ◌⊎◌, inl, inr, ⊎_elim, List, [], ◌∷◌, ◌++◌, length, length-append, map, take, drop, sym, refl, ap, subst, ◌∙◌, arith, append_assoc, slice_get, Some, AllByRecursion, append-nil, length-map, take-append-drop, map-append, Serial, Answered, Command, round_of, IsAtOrAbove, Job, job_of, Begins, parents_of, WorkerState, Work, no_work, then_work, Does, Shared, Admission, Charged, Over, Memory, AreRoundsCut, AdmissionGives, Visit, Round, job_in, VisitHadMemory, due_in, refused, in_take, by_slices, all_push, ◌+◌, true, false, WalkRecord, path_of, Each-none, Refusal, Bool, not, cond, ◌==◌, count_by, sum_by, pos, ◌-ℤ◌, ints, sum_by-append, UseStep, ups, downs, is_refused, AreDowns, IsDown, charged, limit_of, times_of, count_first, nets_downs, DidCharges, ops_at, added_below, made_freed_below, Made, Step, IsPut, each_append, each_weaker}
+use Rattle.shr_assemble.proofs.Common.{◌≡◌, ℕ, suc, ◌-◌, ◌<◌, ◌≤◌, inl, inr, ⊎_elim, List, [], ◌∷◌, ◌++◌, length, length-append, map, take, drop, sym, refl, ap, subst, ◌∙◌, arith, append_assoc, slice_get, Some, AllByRecursion, append-nil, length-map, take-append-drop, map-append, Serial, Answered, Command, round_of, IsAtOrAbove, Job, job_of, Begins, parents_of, WorkerState, Work, no_work, then_work, Shared, Admission, Charged, Over, Memory, AreRoundsCut, AdmissionGives, Visit, Round, job_in, VisitHadMemory, due_in, refused, in_take, by_slices, all_push, ◌+◌, true, false, WalkRecord, path_of, Each-none, Refusal, Bool, not, cond, count_by, sum_by, pos, ◌-ℤ◌, ints, sum_by-append, UseStep, ups, downs, is_refused, AreDowns, IsDown, charged, limit_of, times_of, nets_downs, DidCharges, ops_at, added_below, made_freed_below, Made, Step, IsPut, each_append, each_weaker}
 use Rattle.shr_model.specs.Commands.{rounds_from}
 use Rattle.shr_charge.specs.declared.answers.ChargeAnswer.TheVariants as charge
 use Rattle.shr_assemble.proofs.Listed.{all_slice_by}
@@ -12,7 +12,7 @@ use Rattle.shr_assemble.proofs.PutRounds.{round_there, due_is, had_answers, Ends
 use Rattle.shr_assemble.proofs.PutTries.{AreOps, ops_then, ops_walks, charge_parents, count_then, of_groups, refusals_are, path_once, on_path}
 use Rattle.shr_walk.specs.Keeping as keeping
 use Rattle.shr_assemble.proofs.Outcomes.{outcomes, outcomes_then, down_outcomes}
-use Rattle.shr_assemble.proofs.PutWays.{Closed, Ends, closed_ends, ends_taken, ends_between, at_then, at_all, at_long, ups_is, downs_is, ups_all}
+use Rattle.shr_assemble.proofs.PutWays.{Closed, Ends, closed_ends, ends_taken, ends_between, at_then, at_all, at_long, ups_is, downs_is, count_all}
 use Rattle.shr_assemble.proofs.QuietCharges.{uncharging}
 
 -- one round more
@@ -193,13 +193,6 @@ ops_same x by group tries over kept v w h same charges uncharges freed = record 
   tried = λ g. ap (λ (l : List UseStep). outcomes (limit_of x.script g) (ops_at g l)) same ∙ h.tried g;
 }
 
-downs_all : (g : ℕ) (ops : List UseStep) → downs (ops_at g ops) ≤ downs ops
-downs_all g [] = omega arith
-downs_all g (o ∷ ops) = let e = count_first (λ (y : UseStep). not y.up) o ops in let k = kept (o.group == g) (downs_all g ops) in omega (arith, e, k) where
-  kept : (t : Bool) → downs (ops_at g ops) ≤ downs ops → downs (cond t (o ∷ ops_at g ops) (ops_at g ops)) ≤ cond {A = ℕ} (not o.up) 1 0 + downs ops
-  kept true le = let e = count_first (λ (y : UseStep). not y.up) o (ops_at g ops) in omega (arith, e, le)
-  kept false le = omega (arith, le)
-
 module _ (x : Shared) (table : IsTableOf x) (by : Serial) (group : ℕ) (inside : group < length (parents_of x.script)) where
   -- the charge that stands is taken back
   pub ops_back : (tries : ℕ) (over : List ℕ) (v : Work) (back : List UseStep) → AreOps x by group tries over (path_of x.charge.shape.parents.items group) v → AreDowns by (path_of (keeping.shared_parents x) group) back
@@ -212,7 +205,7 @@ module _ (x : Shared) (table : IsTableOf x) (by : Serial) (group : ℕ) (inside 
       let closed : (g : ℕ) → Closed (ops_at g (v.ops ++ back)) = λ g. subst Closed (sym (at_then g v.ops back)) (h.settled g (ops_at g back) (at_long g back ∙ ap (times_of g) made.at) (all_down g back down)) in
       record {
         charges = let e = h.charges in omega (arith, e);
-        uncharges = let e = h.uncharges in let d = sum_by-append (λ (o : UseStep). cond {A = ℕ} (not o.up) 1 0) v.ops back in let low = downs_all group back in let is = downs_is group back in
+        uncharges = let e = h.uncharges in let d = sum_by-append (λ (o : UseStep). cond {A = ℕ} (not o.up) 1 0) v.ops back in let low = count_all (λ (y : UseStep). not y.up) group back in let is = downs_is group back in
             let n = (nets_downs x.charge.shape group by _ back made).down in let one = path_once x table by group inside in omega (arith, e, d, low, is, n, one);
         own = each_append (λ (o : UseStep). o.by ≡ by) v.ops back h.own (each_weaker (IsDown by) (λ (o : UseStep). o.by ≡ by) (λ o d. d.made) back each);
         there = each_append (λ (o : UseStep). o.group < length (parents_of x.script)) v.ops back h.there (of_groups (λ n. n < length (parents_of x.script)) back (subst (AllByRecursion (λ n. n < length (parents_of x.script))) (sym made.at) (on_path x table by group inside)));
@@ -245,7 +238,7 @@ module _ (x : Shared) (table : IsTableOf x) (by : Serial) (group : ℕ) (inside 
     nets = λ g lt. same_net (ups (ops_at g z.work.ops)) (downs (ops_at g z.work.ops)) (sum_by (made_freed_below (parents_of x.script) g) z.work.core.made) (charged (parents_of x.script) g z.command (Some z.answered.reply))
         (h.net g lt ∙ ap (λ (n : ℕ). downs (ops_at g z.work.ops) + n) (stands g lt));
     added = added;
-    charges = let c = h.charges in let e = h.each in let low = ups_all group z.work.ops in omega (arith, c, e, low);
+    charges = let c = h.charges in let e = h.each in let low = count_all (λ (y : UseStep). y.up) group z.work.ops in omega (arith, c, e, low);
     uncharges = h.uncharges;
   } where
     own : AllByRecursion (λ (o : UseStep). o.by ≡ z.by) z.work.ops

@@ -1,5 +1,5 @@
 -- A put that asked for its charge, or didn't: what is left to say of its answer.
-use Rattle.shr_assemble.proofs.Common.{◌≡◌, ◌⊎◌, ⊎_elim, inl, inr, ℕ, ◌<◌, ◌≤◌, List, [], ◌∷◌, ◌++◌, length, map, refl, sym, ap, subst, ◌∙◌, arith, true, false, cond, Bool, ◌-◌, Some, None, sum_by, replicate, is_some, AllByRecursion, append-nil, sum_by-append, same_Some, none-some, UseStep, At, Serial, Answered, Found, Reply, Command, Put, Family, IsAtOrAbove, Job, job_of, Each, Begins, Each-none, LoadsWord, Asks, AreRising, Made, Mapped, hierarchy_of, GroupState, shape_of, Admission, times_of, times_both, charged, MayBeOffline, pool_seen, pool_made, pool_told, is_past_group, parents_of, cited_by, id_found, IsReply, over_at, WorkerState, Work, no_work, then_work, Does, Shared, does_none, does_then, fresh_none, IsCausedBy, added_below, made_freed_below, StandsIn, MayMakeEntry, IsListFilled, IsMadeAsCited, IsFoundBy, number_made, number_found, KnowsOnline, MeetsGroups, Step, BringsWork, IsAmong, IsWant, refusals_of, was_charged, is_at_or_above, DidRounds, LoadedState, append_assoc, cons_option, Object, fresh, ScanMade, Moves, takes_of, gives_of, Uncharges, nothing, Adds, Loaded, scans_made}
+use Rattle.shr_assemble.proofs.Common.{◌≡◌, ◌⊎◌, ⊎_elim, inl, inr, ℕ, ◌<◌, ◌≤◌, List, [], ◌∷◌, ◌++◌, length, map, refl, sym, ap, subst, ◌∙◌, arith, true, false, cond, Bool, ◌-◌, Some, None, sum_by, replicate, is_some, AllByRecursion, append-nil, sum_by-append, same_Some, none-some, UseStep, At, Serial, Answered, Found, Reply, Command, Put, Family, IsAtOrAbove, Job, job_of, Each, Each-none, LoadsWord, Asks, AreRising, Made, hierarchy_of, GroupState, shape_of, Admission, times_of, times_both, charged, MayBeOffline, pool_seen, pool_made, pool_told, is_past_group, parents_of, cited_by, id_found, IsReply, over_at, WorkerState, Work, no_work, then_work, Does, Shared, does_none, does_then, IsCausedBy, added_below, made_freed_below, StandsIn, MayMakeEntry, IsListFilled, IsMadeAsCited, IsFoundBy, number_made, number_found, KnowsOnline, MeetsGroups, Step, BringsWork, IsAmong, IsWant, refusals_of, was_charged, is_at_or_above, DidRounds, LoadedState, append_assoc, cons_option, ScanMade, Moves, takes_of, gives_of, Uncharges, Loaded, scans_made}
 use Rattle.shr_base.specs.declared.replies.Reply.TheVariants as reply
 use Rattle.shr_model.specs.Commands.{rounds_from}
 use Rattle.shr_charge.specs.declared.answers.GroupState.TheVariants as state
@@ -8,11 +8,11 @@ use Rattle.shr_report.specs.WalksLawful as walks
 use Rattle.shr_assemble.proofs.QuietTenant.{brings_of, brings_then, without}
 use Rattle.shr_assemble.proofs.PutAdmits.{Admits, admits, stands_in, named_by, admitted_front, admitted_told, stood_by, ops_same, put_charges, ops_back}
 use Rattle.shr_assemble.proofs.PutOver.{over_caused}
-use Rattle.shr_assemble.proofs.PutParts.{IsTail, whole, whole_did, offering}
+use Rattle.shr_assemble.proofs.PutParts.{IsTail, whole, whole_did, both_none}
 use Rattle.shr_assemble.proofs.PutRounds.{EndsOver}
 use Rattle.shr_assemble.proofs.PutTries.{AreOps}
 use Rattle.shr_assemble.proofs.PutWays.{Closed}
-use Rattle.shr_assemble.proofs.QuietSteps.{HasDid, none_made, IsToldOnce, some_met, loading, does_load, knows_online, online_apart, AreTables}
+use Rattle.shr_assemble.proofs.QuietSteps.{HasDid, none_made, IsToldOnce, some_met, loading, does_load, knows_online, online_apart, offering}
 use Rattle.shr_assemble.proofs.WalkingCharges.{none_added}
 use Rattle.shr_assemble.proofs.WalkingSteps.{Walked, walked_still, walked_then}
 use Rattle.shr_assemble.proofs.WalkingWell.{IsTableOf, begins_prefix}
@@ -244,36 +244,19 @@ module _ (x : Shared) (table : IsTableOf x) (by : Serial) (group node decl : ℕ
 
 -- an uncharge
 back_brings : (x : Shared) (by : Serial) (group : ℕ) (s t : WorkerState) (h : Uncharges x by group s t) → BringsWork s t (uncharging h.ops)
-back_brings x by group s t h = let n = does_none s in record {
-  core = subst (λ (u : WorkerState). Adds s.core u.core nothing) (sym h.rest) n.core;
-  uses = ap (λ (u : WorkerState). u.uses) h.rest;
-  noted = ap (λ (u : WorkerState). u.noted) h.rest;
-  words = ap (λ (u : WorkerState). u.tree.loaded) h.rest ∙ n.words;
-  tree = ap (λ (u : WorkerState). u.tree.made) h.rest ∙ n.tree;
-  gives = ap (λ (u : WorkerState). u.tree.gives) h.rest ∙ n.gives;
-  known = subst (λ (u : WorkerState). Begins s.tree.known u.tree.known) (sym h.rest) n.known;
-  heard = ap (λ (u : WorkerState). u.tree.heard) h.rest;
-  hand = (ap (λ (u : WorkerState). u.tree.in_hand) h.rest, ap (λ (u : WorkerState). u.tree.hand) h.rest);
-  rise = h.rise;
-  moves = ap (λ (u : WorkerState). u.moves) h.rest ∙ n.moves;
-  walks = ap (λ (u : WorkerState). u.walks) h.rest ∙ n.walks;
-  carries = ap (λ (u : WorkerState). u.carries) h.rest ∙ n.carries;
-}
-
-behind : {A : Type 0} (xs : List A) → xs ≡ [] → xs ++ [] ≡ []
-behind xs e = append-nil xs ∙ e
+back_brings x by group s t h = subst (λ (u : WorkerState). BringsWork s u (uncharging h.ops)) (sym h.rest) (assumption (subst (λ (u : WorkerState). AreRising s.uses.ops → AreRising u.uses.ops) h.rest h.rise, brings_of (does_none s)))
 
 pub tail_back : (q : Work) (ops : List UseStep) → IsTail q → IsTail (then_work q (uncharging ops))
 tail_back q ops h = record {
-  walks = behind q.walks h.walks;
-  seen = behind q.core.seen h.seen;
-  maps = behind q.core.maps h.maps;
-  cleared = behind q.core.cleared h.cleared;
-  turns = behind q.core.turns h.turns;
-  tree = behind q.tree h.tree;
+  walks = both_none q.walks [] h.walks refl;
+  seen = both_none q.core.seen [] h.seen refl;
+  maps = both_none q.core.maps [] h.maps refl;
+  cleared = both_none q.core.cleared [] h.cleared refl;
+  turns = both_none q.core.turns [] h.turns refl;
+  tree = both_none q.tree [] h.tree refl;
   takes = ap (λ (m : Moves). takes_of m) (append-nil q.moves) ∙ h.takes;
   gives = ap (λ (m : Moves). gives_of m) (append-nil q.moves) ∙ h.gives;
-  carries = behind q.carries h.carries;
+  carries = both_none q.carries [] h.carries refl;
   scans = λ place worker n. ap (scans_made place worker n) (append-nil q.core.made) ∙ h.scans place worker n;
 }
 
@@ -285,7 +268,7 @@ not_scanned false = refl
 pub offering_tail : (decl : ℕ) (f : Found) (words : List Loaded) (made : List Made) (set : List ℕ) → ((place worker n : ℕ) → scans_made place worker n made ≡ []) → IsTail (offering decl f words made set)
 offering_tail decl f words made set h = record { walks = refl; seen = refl; maps = refl; cleared = refl; turns = refl; tree = refl; takes = refl; gives = refl; carries = refl; scans = h }
 
-module _ (x : Shared) (table : IsTableOf x) (tables : AreTables x) (by : Serial) (group node decl : ℕ) (key value : List ℕ) (on : node < x.script.nodes) (inside : group < length (parents_of x.script)) where
+module _ (x : Shared) (table : IsTableOf x) (by : Serial) (group node decl : ℕ) (key value : List ℕ) (on : node < x.script.nodes) (inside : group < length (parents_of x.script)) where
   -- the charge is taken back after steps that make no operation
   module _ (a : Answered) (s charged_at refused t : WorkerState) (asks : Asks x by group admission.Charged s charged_at)
       (q : Work) (does : Does charged_at refused q) (ops : q.ops ≡ []) (charges : q.charges ≡ 0) (uncharges : q.uncharges ≡ 0) (freed : (g : ℕ) → sum_by (made_freed_below (parents_of x.script) g) q.core.made ≡ 0)

@@ -1,5 +1,5 @@
 -- What a put did.
-use Rattle.shr_assemble.proofs.Common.{◌≡◌, ℕ, ◌+◌, ◌<◌, inl, inr, Bool, true, false, ◌&&◌, not, cond, ◌==◌, List, [], ◌∷◌, ◌++◌, length, refl, sym, ap, subst, ◌∙◌, arith, Option, Some, None, nat_lt, if◌then◌else◌, Entry, Add, Object, At, Place, Serial, Answered, Found, Reply, Command, Put, is_at_or_above, path_of, is_later, Hierarchy, step, fresh, holds, place_number, times, only, total, total-append, only_yes, Asks, AreRising, spent_by, View, group_of, Made, shape_of, add_entry, Listed, AddGives, is_raised, bits_for, Admission, times_of, parents_of, IsObjectWithin, content_of, WorkerState, Work, no_work, Does, Shared, does_none, unfound, same_Some, none-some, hierarchy_of, added_below, KnowsUnmade, IsAmong, Step, Puts, PutFrom, PutNone, PutAs, CommandGives}
+use Rattle.shr_assemble.proofs.Common.{◌≡◌, ℕ, ◌+◌, ◌<◌, inl, inr, Bool, true, false, ◌&&◌, not, cond, ◌==◌, List, [], ◌∷◌, ◌++◌, length, refl, sym, ap, subst, ◌∙◌, arith, Option, Some, None, nat_lt, if◌then◌else◌, Entry, Add, Object, At, Place, Serial, Answered, Found, Reply, Command, Put, is_at_or_above, path_of, is_later, Hierarchy, step, fresh, holds, place_number, times, only, total, total-append, only_yes, AreRising, spent_by, View, group_of, Made, shape_of, add_entry, Listed, AddGives, is_raised, bits_for, times_of, parents_of, IsObjectWithin, content_of, WorkerState, Work, no_work, Does, Shared, does_none, unfound, same_Some, none-some, hierarchy_of, added_below, KnowsUnmade, IsAmong, Step, Puts, PutFrom, PutNone, PutAs, CommandGives}
 use Rattle.std.proofs.Common.{lt-ltb}
 use Rattle.shr_base.specs.declared.replies.Reply.TheVariants as reply
 use Rattle.shr_base.specs.declared.replies.Spent.TheVariants as spent
@@ -7,15 +7,15 @@ use Rattle.shr_node.specs.declared.answers.NodeAdd.TheVariants as add
 use Rattle.shr_reclaim.specs.declared.answers.Admission.TheVariants as admission
 use Rattle.shr_report.specs.Parts as report
 use Rattle.shr_charge.specs.Views as charge
-use Rattle.shr_assemble.proofs.QuietTenant.{brings_of, without, group_in}
+use Rattle.shr_assemble.proofs.QuietTenant.{brings_of, without, group_in, made_entry, made_bits, made_same}
 use Rattle.shr_charge.specs.declared.answers.GroupState.TheVariants as state
-use Rattle.shr_assemble.proofs.PutParts.{whole, offering, offering_does, entry, bits, place_same}
+use Rattle.shr_assemble.proofs.PutParts.{whole}
 use Rattle.shr_assemble.proofs.Filling.{filled_by, set_last}
 use Rattle.shr_assemble.proofs.PutAsked.{adm, first, walked_first, first_ops, load_walked, unasked_did, over_did, memory_did, ops_quiet, not_scanned, offering_tail}
 use Rattle.shr_assemble.proofs.PutFound.{noted_did}
 use Rattle.shr_assemble.proofs.PutTries.{charge_parents}
 use Rattle.shr_assemble.proofs.PutVain.{vain_found, vain_unfound}
-use Rattle.shr_assemble.proofs.QuietSteps.{HasDid, meets_none, AreTables, hierarchy_is, knows_online, knows_unmade}
+use Rattle.shr_assemble.proofs.QuietSteps.{HasDid, meets_none, hierarchy_is, knows_online, knows_unmade, offering, offering_does}
 use Rattle.shr_assemble.proofs.QuietCharges.{charges_worn}
 use Rattle.shr_assemble.proofs.WalkingCharges.{tree_is, path_once}
 use Rattle.shr_assemble.proofs.WalkingSteps.{walked_still}
@@ -31,9 +31,6 @@ filled_bit k items new none some low = subst (λ (l : List Object). 0 < times k 
   one = omega (arith, only_yes k k refl)
 
 module _ (x : Shared) (table : IsTableOf x) (by : Serial) (group node decl : ℕ) (key value : List ℕ) (within : IsObjectWithin (content_of x.script) group node decl key) where
-  tables : AreTables x
-  tables = record { shared = table.shared; most_items = table.most_items; most_entries = table.most_entries }
-
   pub inside : group < length (parents_of x.script)
   inside = group_in x group within.in_group
 
@@ -54,15 +51,15 @@ module _ (x : Shared) (table : IsTableOf x) (by : Serial) (group node decl : ℕ
       let call : View → View → Type 0 = λ v w. AddGives (shape_of x.core) v f.id node object (add.Added c) w in
       let so : List Object → Type 0 = λ items. holds group key items ≡ false in
       let acts = o.calls.made in
-      let m : Made = entry x decl f call h.charged o.held t o.holds o.calls tables node within.on_node group inside c so e acts in
-      let set : List ℕ = bits x decl f call h.charged o.held t o.holds o.calls tables node within.on_node group inside c so e acts in
+      let m : Made = made_entry x decl f call h.charged o.held t o.holds o.calls table node within.on_node group inside c so e acts in
+      let set : List ℕ = made_bits x decl f call h.charged o.held t o.holds o.calls table node within.on_node group inside c so e acts in
       let q : Work = offering decl f o.holds.answers.gains.words (m ∷ []) set in
       let is : e acts.old ≡ Add by group true key value = ap (λ b. Add by group (not b) key value) acts.before in
       let d = adm x table by group node decl key value inside a admission.Charged s h.charged t h.asks in
       let v : Work = first x table by group node decl key value inside a admission.Charged s h.charged t h.asks in
-      let same = place_same x decl f call h.charged o.held t o.holds o.calls tables node within.on_node group inside c so e acts in
+      let same = made_same x decl f call h.charged o.held t o.holds o.calls table node within.on_node group inside c so e acts in
       let grew : step [] acts.old.items (e acts.old) ≡ acts.old.items ++ object ∷ [] = ap (λ b. if b then acts.old.items else acts.old.items ++ object ∷ []) acts.before in
-      noted_did x table tables by group node decl key value within.on_node inside f r s h.charged t t h.asks call o.held o.holds o.calls q (path_of x.charge.shape.parents.items group) c so e acts (record {
+      noted_did x table by group node decl key value within.on_node inside f r s h.charged t t h.asks call o.held o.holds o.calls q (path_of x.charge.shape.parents.items group) c so e acts (record {
         does = brings_of (offering_does x decl f call h.charged o.held t o.holds o.calls (m ∷ []) set acts.gains);
         tail = offering_tail decl f o.holds.answers.gains.words (m ∷ []) set (λ place worker n. not_scanned (m.place == place));
         ops = ops_quiet x by group d.tries (d.rounds ++ []) (path_of x.charge.shape.parents.items group) v q (first_ops x table by group node decl key value inside a admission.Charged s h.charged t h.asks) refl refl refl (λ n. refl);
@@ -94,7 +91,7 @@ module _ (x : Shared) (table : IsTableOf x) (by : Serial) (group node decl : ℕ
 
   from : (f : Found) (r : Reply) (s t : WorkerState) → (h : PutFrom x by group node decl object f r s t) → HasDid x.script by Command_of (record { reply = r; found = Some f }) s t
   from f (reply.Added c) s t h = added f c s t h
-  from f r s t h = vain_found x table tables by group node decl key value within.on_node inside f s t r tt h
+  from f r s t h = vain_found x table by group node decl key value within.on_node inside f s t r tt h
 
   abbrev vain_step : Reply → List charge.LoadedState → WorkerState → WorkerState → Step
   vain_step r words s t = whole x.script by Command_of (without r) s t t (record no_work { words = words }) no_work
@@ -119,7 +116,7 @@ module _ (x : Shared) (table : IsTableOf x) (by : Serial) (group node decl : ℕ
       (record { met = ap Some (sym h.same); late = subst (λ (q : Hierarchy). is_later q.later g ≡ true) (hierarchy_is x table.shared) (subst (λ n. is_later (hierarchy_of (shape_of x.core)).later n ≡ true) (sym h.same) (h.not_made.shows.late refl)) })
   none (reply.Over over operation usage) s t rise h = over_did x table by group node decl key value inside over operation usage s t h rise
   none reply.Memory s t rise h = memory_did x table by group node decl key value inside s t h
-  none r s t rise h = vain_unfound x table tables by group node decl key value within.on_node inside r s t h
+  none r s t rise h = vain_unfound x table by group node decl key value within.on_node inside r s t h
 
   as_found : (found : Option Found) (r : Reply) (s t : WorkerState) → AreRising s.uses.ops → (h : PutAs x by group node decl object found r s t) → HasDid x.script by Command_of (record { reply = r; found = found }) s t
   as_found None r s t rise h = none r s t rise h

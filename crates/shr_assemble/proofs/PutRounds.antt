@@ -1,12 +1,12 @@
 -- The tries of a put's charge and the walks between them: their jobs and their operations.
-use Rattle.shr_assemble.proofs.Common.{false, ◌≡◌, ℕ, ◌-◌, ◌<◌, List, [], ◌∷◌, ◌++◌, length, map, sym, refl, ap, subst, ◌∙◌, flat_map, Some, AllByRecursion, range_with_len, map-append, none-some, Serial, Answered, Command, Script, UseStep, round_of, IsTree, IsAtOrAbove, preorder_of, job, job_of, Has_from_Contains, Begins, Each-none, Mapped, ChargeAnswer, ChargeOps, shape_of, parents_of, Groups, HadMemory, WorkerState, Work, no_work, then_work, Shared, fresh_none, Visit, Round, job_in, VisitHadMemory, due_in, AreRounds, TriesInRounds, IsChargeTried, charge_work, by_slices, preorder_of-on, refused_above, ◌+◌, arith, append_assoc, pos, IsDown, Refusal, over_of, kept_of, each_weaker, IsOverLimit}
+use Rattle.shr_assemble.proofs.Common.{false, ◌≡◌, ℕ, ◌-◌, ◌<◌, List, [], ◌∷◌, ◌++◌, length, map, sym, refl, ap, subst, ◌∙◌, flat_map, Some, AllByRecursion, range_with_len, map-append, Serial, Answered, Command, UseStep, round_of, IsTree, IsAtOrAbove, preorder_of, job, job_of, Has_from_Contains, ChargeAnswer, ChargeOps, shape_of, parents_of, Groups, HadMemory, WorkerState, Work, then_work, Shared, Visit, Round, job_in, VisitHadMemory, due_in, AreRounds, TriesInRounds, IsChargeTried, charge_work, by_slices, preorder_of-on, refused_above, ◌+◌, arith, append_assoc, pos, IsDown, Refusal, over_of, kept_of, each_weaker, IsOverLimit}
 use Rattle.shr_model.specs.Commands.{rounds_from}
 use Rattle.shr_charge.specs.declared.answers.ChargeAnswer.TheVariants.{Charged, Over}
 use Rattle.shr_assemble.proofs.Spending.{refused_there}
 use Rattle.shr_assemble.proofs.Listed.{slice_contains}
-use Rattle.shr_assemble.proofs.WalkingWell.{up_to_below, ups_are, IsTableOf}
+use Rattle.shr_assemble.proofs.WalkingWell.{range_below, IsTableOf}
 use Rattle.shr_assemble.proofs.WalkingCharges.{rec_of, tree_is, GoesDown}
-use Rattle.shr_assemble.proofs.WalkingChain.{IsThereJob, gave_all, visited_one, all_had, GaveAll, any_cut, uncut_then}
+use Rattle.shr_assemble.proofs.WalkingChain.{IsThereJob, gave_all, visited_one, all_had, GaveAll, any_cut, cut_both}
 use Rattle.shr_assemble.proofs.WalkingSteps.{Walked, walked_still, walked_then}
 use Rattle.shr_charge.specs.declared.answers.ChargeAnswer.TheVariants as charge
 use Rattle.shr_assemble.proofs.PutTries.{charge_parents, AreOps, ops_then, ops_try, ops_walks}
@@ -18,9 +18,6 @@ all_flat P Q f (y ∷ l) h g = both (f y) (flat_map f l) (g y h.0) (all_flat P Q
   both : (xs ys : List _) → AllByRecursion Q xs → AllByRecursion Q ys → AllByRecursion Q (xs ++ ys)
   both [] ys p q = q
   both (z ∷ xs) ys p q = (p.0, both xs ys p.1 q)
-
-range_below : (n : ℕ) → AllByRecursion (λ i. i < n) (range_with_len 0 n)
-range_below n = subst (AllByRecursion (λ i. i < n)) (ups_are n) (up_to_below n)
 
 abbrev pub groups_in : List Round → List ℕ
 groups_in rounds = map (λ (k : Round). k.over.group) rounds
@@ -146,7 +143,7 @@ module _ (x : Shared) (table : IsTableOf x) (by : Serial) (c : Command) (a : Ans
             ∙ (ap (λ n. round_of (parents_of x.script) x.script.nodes n k.over.group ++ map job_of later.work.walks) one.priority_is ∙ ap (λ l. round_of (parents_of x.script) x.script.nodes priority k.over.group ++ l) later.jobs));
         above = (at.0, later.above);
         at_last = later.at_last;
-        uncut = uncut_then all.work.walks later.work.walks had.uncut later.uncut;
+        uncut = cut_both all.work.walks later.work.walks had.uncut later.uncut;
         ops = let count : 1 + (0 + (1 + length ks)) ≡ 1 + length (k ∷ ks) = omega arith in subst (λ (n : ℕ). AreOps x by group n (k.over.group ∷ (groups_in ks ++ over_of last)) (kept_of x group last) (then_work (charge_work try.ops) (then_work all.work later.work))) count
             (ops_then x by group 1 (0 + (1 + length ks)) (k.over.group ∷ []) (groups_in ks ++ over_of last) (kept_of x group last) (charge_work try.ops) (then_work all.work later.work) refl mine
             (ops_then x by group 0 (1 + length ks) [] (groups_in ks ++ over_of last) (kept_of x group last) all.work later.work refl between later.ops));

@@ -1,5 +1,5 @@
 -- A put that was not added after its charge, which was taken back.
-use Rattle.shr_assemble.proofs.Common.{◌≡◌, ℕ, ◌+◌, ◌<◌, ◌≤◌, inl, inr, Bool, true, false, not, ◌==◌, List, [], ◌∷◌, ◌++◌, length, length-append, map, refl, sym, ap, subst, ◌∙◌, arith, Some, None, sum_by, if◌then◌else◌, append-nil, append_cancel_left, none-some, Entry, Add, Object, At, Serial, Answered, Found, Reply, Spent, Command, fresh, holds, rounds_from, is_live_decl, job_of, Each, Each-none, View, Gained, nothing, Adds, Made, Loaded, shape_of, add_entry, Listed, AddGives, parents_of, WorkerState, Work, then_work, Does, Shared, added_below, made_freed_below, MayMakeEntry, IsListFilled, Step, PutsInVain, HoldsCache, Calls, Gains, Uncharges, Asks, Family, over_at, refusals_of, was_charged, charged, pool_told, pool_made, pool_seen, cited_by, IsReply, IsCausedBy, cond, scans_made, take_all}
+use Rattle.shr_assemble.proofs.Common.{◌≡◌, ℕ, ◌+◌, ◌<◌, ◌≤◌, inl, inr, Bool, true, false, not, ◌==◌, List, [], ◌∷◌, ◌++◌, length, length-append, map, refl, sym, ap, subst, ◌∙◌, arith, Some, None, sum_by, if◌then◌else◌, append-nil, append_cancel_left, none-some, Entry, Add, Object, At, Serial, Answered, Found, Reply, Spent, Command, fresh, holds, rounds_from, is_live_decl, job_of, Each, Each-none, View, nothing, Adds, Made, Loaded, shape_of, add_entry, Listed, AddGives, parents_of, WorkerState, Work, then_work, Does, Shared, added_below, made_freed_below, MayMakeEntry, IsListFilled, Step, PutsInVain, HoldsCache, Calls, Gains, Uncharges, Asks, Family, over_at, refusals_of, was_charged, charged, pool_told, pool_made, pool_seen, cited_by, IsReply, IsCausedBy, cond, scans_made, take_all}
 use Rattle.shr_base.specs.declared.replies.Reply.TheVariants as reply
 use Rattle.shr_base.specs.declared.replies.Spent.TheVariants as spent
 use Rattle.shr_node.specs.declared.answers.NodeAdd.{NodeAdd}
@@ -11,10 +11,10 @@ use Rattle.shr_assemble.proofs.Listed.{contains_among}
 use Rattle.shr_assemble.proofs.Filling.{filled_by}
 use Rattle.shr_assemble.proofs.PutAsked.{command, adm, first, asked_did, none_added_alone, tail_back, not_scanned, offering_tail, vain_does, vain_ops}
 use Rattle.shr_assemble.proofs.PutFound.{IsOffered, silent_did, noted_did}
-use Rattle.shr_assemble.proofs.PutParts.{offering, offering_does, list_worn, entry, bits, whole}
-use Rattle.shr_assemble.proofs.QuietSteps.{HasDid, IsToldOnce, AreTables, gaining, does_gain}
+use Rattle.shr_assemble.proofs.PutParts.{whole}
+use Rattle.shr_assemble.proofs.QuietSteps.{HasDid, IsToldOnce, gaining, does_gain, offering, offering_does}
 use Rattle.shr_assemble.proofs.QuietCharges.{uncharging}
-use Rattle.shr_assemble.proofs.QuietTenant.{without}
+use Rattle.shr_assemble.proofs.QuietTenant.{without, list_full, made_entry, made_bits}
 use Rattle.shr_assemble.proofs.WalkingWell.{IsTableOf, begins_prefix}
 
 -- the replies of a put that was not added
@@ -22,7 +22,7 @@ abbrev pub IsVain : Reply → Type 0
 IsVain (reply.Added c) = ⊥
 IsVain r = Unit {0}
 
-module _ (x : Shared) (table : IsTableOf x) (tables : AreTables x) (by : Serial) (group node decl : ℕ) (key value : List ℕ) (on : node < x.script.nodes) (inside : group < length (parents_of x.script)) where
+module _ (x : Shared) (table : IsTableOf x) (by : Serial) (group node decl : ℕ) (key value : List ℕ) (on : node < x.script.nodes) (inside : group < length (parents_of x.script)) where
   abbrev Command_of : Command
   Command_of = command x table by group node decl key value inside
 
@@ -51,9 +51,9 @@ module _ (x : Shared) (table : IsTableOf x) (tables : AreTables x) (by : Serial)
         → walks.MayMake r (rounds_from (parents_of x.script) x.script.nodes 12 (adm x table by group node decl key value inside (without r) admission.Charged s charged_at t asks).rounds) (map job_of (adm x table by group node decl key value inside (without r) admission.Charged s charged_at t asks).work.walks)
         → IsToldOnce missed (pool_seen (without r)) → IsCausedBy x.script missed r → HasDid x.script by Command_of (without r) s t
     missed_did vain row uncited unnoted due known cause = asked_did x table by group node decl key value inside (without r) admission.Charged s charged_at t asks (then_work looked_up (uncharging back.ops)) [] record {
-      does = vain_does x table tables by group node decl key value on inside (without r) s charged_at refused t asks looked_up does refl refl refl (λ n. refl) back;
+      does = vain_does x table by group node decl key value on inside (without r) s charged_at refused t asks looked_up does refl refl refl (λ n. refl) back;
       tail = tail_back looked_up back.ops (record { walks = refl; seen = refl; maps = refl; cleared = refl; turns = refl; tree = refl; takes = refl; gives = refl; carries = refl; scans = λ place worker n. refl });
-      ops = vain_ops x table tables by group node decl key value on inside (without r) s charged_at refused t asks looked_up does refl refl refl (λ n. refl) back;
+      ops = vain_ops x table by group node decl key value on inside (without r) s charged_at refused t asks looked_up does refl refl refl (λ n. refl) back;
       may = Each-none (λ (y : Made). MayMakeEntry x.script missed y y.entry);
       row = λ family stands. row family;
       sets = Each-none (IsListFilled []);
@@ -87,7 +87,7 @@ module _ (x : Shared) (table : IsTableOf x) (tables : AreTables x) (by : Serial)
           decl = decl;
           named = refl;
           known = omega (arith, long);
-          none = ap (is_live_decl x.script.ids decl) (take_all entry t.core.turns.known (omega (arith, long)) ∙ same) ∙ (ap (λ (n : ℕ). is_live_decl n decl h.refused.core.turns.known) (sym tables.shared.ids) ∙ m.answers.missing);
+          none = ap (is_live_decl x.script.ids decl) (take_all entry t.core.turns.known (omega (arith, long)) ∙ same) ∙ (ap (λ (n : ℕ). is_live_decl n decl h.refused.core.turns.known) (sym table.shared.ids) ∙ m.answers.missing);
         })
 
     no_number : (id number : ℕ) → PutsInVain x by group node decl object None (reply.Worn (spent.Lookups id number)) s t → HasDid x.script by Command_of (without (reply.Worn (spent.Lookups id number))) s t
@@ -135,26 +135,18 @@ module _ (x : Shared) (table : IsTableOf x) (tables : AreTables x) (by : Serial)
     is_offered : ((place worker n : ℕ) → scans_made place worker n made ≡ []) → ((n : ℕ) → sum_by (made_freed_below (parents_of x.script) n) made ≡ 0) → Each (IsListFilled made) set → IsVainReply true r → pool_told r ≡ []
         → walks.MayMake r (rounds_from (parents_of x.script) x.script.nodes 12 (adm x table by group node decl key value inside answer admission.Charged s charged_at t asks).rounds) (map job_of (adm x table by group node decl key value inside answer admission.Charged s charged_at t asks).work.walks)
         → ((n : ℕ) → sum_by (λ (m : Made). added_below (parents_of x.script) n m.entry) made ≡ 0) → IsCausedBy x.script refusing r
-        → IsOffered x table tables by group node decl key value on inside f r s charged_at refused t asks call held holds calls (then_work offered (uncharging back.ops)) [] made
-    is_offered unscanned freed filled vain untold due unadded cause = record {
-      does = vain_does x table tables by group node decl key value on inside answer s charged_at refused t asks offered does refl refl refl freed back;
-      tail = tail_back offered back.ops (offering_tail decl f holds.answers.gains.words made set unscanned);
-      ops = vain_ops x table tables by group node decl key value on inside answer s charged_at refused t asks offered does refl refl refl freed back;
-      attempts = refl;
-      made_are = append-nil made;
-      filled = subst (Each (IsListFilled made)) (sym (append-nil set)) filled;
-      core = ap (λ (u : WorkerState). u.core) back.rest;
-      over = vain.over;
-      other = vain.other;
-      plain = vain.plain;
-      charged_at_last = vain.charged_at_last;
-      due = due;
-      stands = λ n lt. sym (vain.uncharged n);
-      added = λ n. unadded n ∙ sym (vain.uncharged n);
-      untold = untold;
-      unmade = vain.unmade;
-      cause = cause;
-    } where
+        → IsOffered x table by group node decl key value on inside f r s charged_at refused t asks call held holds calls (then_work offered (uncharging back.ops)) [] made
+    is_offered unscanned freed filled vain untold due unadded cause = assumption (
+      vain_does x table by group node decl key value on inside answer s charged_at refused t asks offered does refl refl refl freed back,
+      tail_back offered back.ops (offering_tail decl f holds.answers.gains.words made set unscanned),
+      vain_ops x table by group node decl key value on inside answer s charged_at refused t asks offered does refl refl refl freed back,
+      append-nil made,
+      subst (Each (IsListFilled made)) (sym (append-nil set)) filled,
+      ap (λ (u : WorkerState). u.core) back.rest,
+      (λ (n : ℕ) (lt : n < length (parents_of x.script)). sym (vain.uncharged n)),
+      (λ (n : ℕ). unadded n ∙ sym (vain.uncharged n)),
+      vain,
+    ) where
       does : Does charged_at refused offered
       does = offering_does x decl f call charged_at held refused holds calls made set g
 
@@ -164,10 +156,10 @@ module _ (x : Shared) (table : IsTableOf x) (tables : AreTables x) (by : Serial)
         let r : Reply = reply.Exists c in let o = h.puts.offered in let acts = o.calls.made in
         let call : View → View → Type 0 = adds f (add.Exists c) in
         let so : List Object → Type 0 = λ items. holds group key items ≡ true in
-        let m : Made = entry x decl f call h.puts.charged o.held h.refused o.holds o.calls tables node on group inside c so adding acts in
-        let set : List ℕ = bits x decl f call h.puts.charged o.held h.refused o.holds o.calls tables node on group inside c so adding acts in
+        let m : Made = made_entry x decl f call h.puts.charged o.held h.refused o.holds o.calls table node on group inside c so adding acts in
+        let set : List ℕ = made_bits x decl f call h.puts.charged o.held h.refused o.holds o.calls table node on group inside c so adding acts in
         let is : adding acts.old ≡ Add by group false key value = ap (λ b. Add by group (not b) key value) acts.before in
-        noted_did x table tables by group node decl key value on inside f r s h.puts.charged h.refused t h.puts.asks call o.held o.holds o.calls (then_work (offering decl f o.holds.answers.gains.words (m ∷ []) set) (uncharging h.back.ops)) [] c so adding acts
+        noted_did x table by group node decl key value on inside f r s h.puts.charged h.refused t h.puts.asks call o.held o.holds o.calls (then_work (offering decl f o.holds.answers.gains.words (m ∷ []) set) (uncharging h.back.ops)) [] c so adding acts
         (is_offered f r s h.puts.charged h.refused t h.puts.asks h.back call o.held o.holds o.calls (m ∷ []) set acts.gains (λ place worker n. not_scanned (m.place == place)) (λ n. refl) (filled_by m)
         (record { over = λ g. refl; other = λ g operation usage e. cc; plain = λ rounds. refl; charged_at_last = refl; uncharged = λ g. refl; unmade = refl }) refl
         (adm x table by group node decl key value inside (record { reply = r; found = Some f }) admission.Charged s h.puts.charged t h.puts.asks).made (λ n. ap (λ (e : Entry). 0 + added_below (parents_of x.script) n e) is) tt)
@@ -181,11 +173,11 @@ module _ (x : Shared) (table : IsTableOf x) (tables : AreTables x) (by : Serial)
         let r : Reply = reply.Worn (spent.List place entries items) in let o = h.puts.offered in let full = o.calls.made in
         let call : View → View → Type 0 = adds f (add.Worn (spent.List place entries items)) in
         let more = grown (holds group key full.old.items) full.old.items (object ∷ []) in let long = full.full.worn.items_then in
-        silent_did x table tables by group node decl key value on inside f r s h.puts.charged h.refused t h.puts.asks call o.held o.holds o.calls (then_work (offering decl f o.holds.answers.gains.words [] []) (uncharging h.back.ops)) [] [] [] full.full.gains
+        silent_did x table by group node decl key value on inside f r s h.puts.charged h.refused t h.puts.asks call o.held o.holds o.calls (then_work (offering decl f o.holds.answers.gains.words [] []) (uncharging h.back.ops)) [] [] [] full.full.gains
         (is_offered f r s h.puts.charged h.refused t h.puts.asks h.back call o.held o.holds o.calls [] [] full.full.gains (λ place' worker n. refl) (λ n. refl) (Each-none (IsListFilled []))
         (record { over = λ g. refl; other = λ g operation usage e. cc; plain = λ rounds. refl; charged_at_last = refl; uncharged = λ g. refl; unmade = refl }) refl
         (adm x table by group node decl key value inside (record { reply = r; found = Some f }) admission.Charged s h.puts.charged t h.puts.asks).made (λ n. refl)
-        (list_worn x decl f call h.puts.charged o.held h.refused o.holds o.calls tables node on group inside entries items place adding full (refusing f r s h.puts.charged h.refused t h.puts.asks h.back call o.held o.holds o.calls [] [] full.full.gains) (ap (λ (u : WorkerState). u.core.traces.known) h.back.rest)
+        (list_full x decl f call h.puts.charged o.held h.refused o.holds o.calls table node on group inside entries items place adding full (refusing f r s h.puts.charged h.refused t h.puts.asks h.back call o.held o.holds o.calls [] [] full.full.gains) (ap (λ (u : WorkerState). u.core.traces.known) h.back.rest)
         (inr (inl (record { most = omega (arith, more, long); put = refl; refused = λ c e. cc })))))
         refl (λ family. tt) refl
 
@@ -194,7 +186,7 @@ module _ (x : Shared) (table : IsTableOf x) (tables : AreTables x) (by : Serial)
         let o = h.puts.offered in let gains = o.calls.made.free.gains in
         let call : View → View → Type 0 = adds f add.Memory in
         let d = adm x table by group node decl key value inside (record { reply = reply.Memory; found = Some f }) admission.Charged s h.puts.charged t h.puts.asks in
-        silent_did x table tables by group node decl key value on inside f reply.Memory s h.puts.charged h.refused t h.puts.asks call o.held o.holds o.calls (then_work (offering decl f o.holds.answers.gains.words [] []) (uncharging h.back.ops)) [] [] [] gains
+        silent_did x table by group node decl key value on inside f reply.Memory s h.puts.charged h.refused t h.puts.asks call o.held o.holds o.calls (then_work (offering decl f o.holds.answers.gains.words [] []) (uncharging h.back.ops)) [] [] [] gains
         (is_offered f reply.Memory s h.puts.charged h.refused t h.puts.asks h.back call o.held o.holds o.calls [] [] gains (λ place worker n. refl) (λ n. refl) (Each-none (IsListFilled []))
         (record { over = λ g. refl; other = λ g operation usage e. cc; plain = λ rounds. refl; charged_at_last = refl; uncharged = λ g. refl; unmade = refl }) refl
         (begins_prefix (map job_of d.work.walks) [] (rounds_from (parents_of x.script) x.script.nodes 12 d.rounds) (sym (append-nil (map job_of d.work.walks) ∙ d.made))) (λ n. refl) tt)

@@ -1,5 +1,6 @@
 -- The operations of a command in one group: each up is followed by a down, or is the last one and found room.
 use Rattle.shr_assemble.proofs.Common.{◌≡◌, ℕ, zero, suc, ◌+◌, ◌<◌, ◌≤◌, ◌&&◌, Bool, true, false, not, cond, ◌==◌, List, [], ◌∷◌, ◌++◌, length, drop, map, refl, sym, ap, subst, ◌∙◌, arith, eqb-true, slice_get, Option, Some, count_by, MatchOption, find, AllByRecursion, same_Some, none-some, slice_get_within, slice_get-get_or, dite, ℕ_discrete, UseStep, Serial, ups, downs, is_by, is_refused, IsBelow, IsDownNext, AreTakenBack, times_of, count_first, IsDownBetween, ops_at, use_group, ups_at, downs_at, Closes}
+use Rattle.shr_model.proofs.PoolLaws.{and_false}
 use Rattle.shr_assemble.proofs.WalkingCharges.{GoesDown}
 use Rattle.shr_assemble.proofs.Listed.{is_by_own}
 
@@ -141,21 +142,17 @@ refused_is limit g (o ∷ ops) = kept (o.group == g) refl (refused_is limit g op
   with_true true = refl
   with_true false = refl
 
-  with_false : (b : Bool) → (b && false) ≡ false
-  with_false true = refl
-  with_false false = refl
-
   kept : (t : Bool) → (o.group == g) ≡ t → count_by (is_refused (limit g)) (ops_at g ops) ≡ count_by (λ (y : UseStep). is_refused (limit y.group) y && (y.group == g)) ops
       → count_by (is_refused (limit g)) (cond t (o ∷ ops_at g ops) (ops_at g ops)) ≡ cond {A = ℕ} (is_refused (limit o.group) o && t) 1 0 + count_by (λ (y : UseStep). is_refused (limit y.group) y && (y.group == g)) ops
   kept true e more = count_first (is_refused (limit g)) o (ops_at g ops)
       ∙ (ap (λ (n : ℕ). cond {A = ℕ} (is_refused (limit g) o) 1 0 + n) more
       ∙ ap (λ (b : Bool). cond {A = ℕ} b 1 0 + count_by (λ (y : UseStep). is_refused (limit y.group) y && (y.group == g)) ops) (ap (λ (n : ℕ). is_refused (limit n) o) (sym (eqb-true o.group g e)) ∙ with_true (is_refused (limit o.group) o)))
-  kept false e more = let none = ap (λ (b : Bool). cond {A = ℕ} b 1 0) (with_false (is_refused (limit o.group) o)) in omega (arith, more, none)
+  kept false e more = let none = ap (λ (b : Bool). cond {A = ℕ} b 1 0) (and_false (is_refused (limit o.group) o)) in omega (arith, more, none)
 
 -- those of one group are no more than all
-pub ups_all : (g : ℕ) (ops : List UseStep) → ups (ops_at g ops) ≤ ups ops
-ups_all g [] = omega arith
-ups_all g (o ∷ ops) = let e = count_first (λ (y : UseStep). y.up) o ops in let k = kept (o.group == g) (ups_all g ops) in omega (arith, e, k) where
-  kept : (t : Bool) → ups (ops_at g ops) ≤ ups ops → ups (cond t (o ∷ ops_at g ops) (ops_at g ops)) ≤ cond {A = ℕ} o.up 1 0 + ups ops
-  kept true le = let e = count_first (λ (y : UseStep). y.up) o (ops_at g ops) in omega (arith, e, le)
+pub count_all : (p : UseStep → Bool) (g : ℕ) (ops : List UseStep) → count_by p (ops_at g ops) ≤ count_by p ops
+count_all p g [] = omega arith
+count_all p g (o ∷ ops) = let e = count_first p o ops in let k = kept (o.group == g) (count_all p g ops) in omega (arith, e, k) where
+  kept : (t : Bool) → count_by p (ops_at g ops) ≤ count_by p ops → count_by p (cond t (o ∷ ops_at g ops) (ops_at g ops)) ≤ cond {A = ℕ} (p o) 1 0 + count_by p ops
+  kept true le = let e = count_first p o (ops_at g ops) in omega (arith, e, le)
   kept false le = omega (arith, le)

@@ -1,5 +1,5 @@
 -- The parts of what a command did that are empty, and what each step of a tenant's command adds to its worker's state.
-use Rattle.shr_assemble.proofs.Common.{◌≡◌, ℕ, ◌<◌, ◌≤◌, pos, ◌-ℤ◌, Bool, true, false, cond, List, [], ◌∷◌, ◌++◌, inl, length, refl, sym, ap, subst, ◌∙◌, arith, ◌⊎◌, slice_get, Option, Some, None, option_and_then, map, flat_map, sum_by, All, AllPairs, AllByRecursion, list_any, IsSomeAnd, All-nil, none-some, same_Some, UseStep, Serial, Answered, Reply, Command, Put, Shrink, Balance, Script, Carry, WalkRecord, asks_online, jobs_of, sum_at, ups, usage_after, given_at, taken_at, Job, job_of, is_cut, Moves, takes_of, gives_of, Each, Begins, Each-none, Made, Mapped, Turn, WorkerState, Work, AreFresh, parents_of, charged, MayBeOffline, made_shown, pool_seen, pool_made, group_met, steps_walked, IsToldBy, IsBefore, AreNotFalling, Step, BringsWork, IsPut, DidRoundsOf, AreWalksFor, counted_in, mapped_in, cleared_by_walk, map_word, DidCharges, ops_at, added_below, made_freed_below, DidMoves, DidCarry, told_step, DidPool, IsTurnOf, IsEntryOf, KnowsOnline, MeetsGroups, Did, IsFreshAt, DidWalks, DidTree, IsUnmadeBy, MayMake, DidEntries, DidLookups, IsCausedBy, zero, suc, ◌^◌, take, slice_index_or, Contains, append-nil, PoolEntry, Found, is_live, decl_of, from_of, View, Gained, nothing, Adds, Hierarchy, hierarchy_of, shape_of, with_put, is_made, is_there, GroupState, TreeView, Gains, Shared, IsShared, no_work, then_work, Does, does_none, does_then, adds_put, Groups, LoadsWord, OnCache, IsAmong, IsFoundBy, KnowsUnmade, All-contains_itself, Shows, LoadedState, no_test, take_all}
+use Rattle.shr_assemble.proofs.Common.{◌≡◌, ℕ, ◌<◌, ◌≤◌, pos, ◌-ℤ◌, Bool, true, false, cond, List, [], ◌∷◌, ◌++◌, inl, length, refl, sym, ap, subst, ◌∙◌, arith, ◌⊎◌, slice_get, Option, Some, None, option_and_then, map, flat_map, sum_by, All, AllPairs, AllByRecursion, list_any, IsSomeAnd, All-nil, none-some, same_Some, UseStep, Serial, Answered, Reply, Command, Put, Shrink, Balance, Script, Carry, WalkRecord, asks_online, jobs_of, sum_at, ups, usage_after, given_at, taken_at, Job, job_of, is_cut, Moves, takes_of, gives_of, Each, Begins, Each-none, Made, Mapped, Turn, WorkerState, Work, AreFresh, parents_of, charged, MayBeOffline, made_shown, pool_seen, pool_made, group_met, steps_walked, IsToldBy, IsBefore, AreNotFalling, Step, BringsWork, IsPut, DidRoundsOf, AreWalksFor, counted_in, mapped_in, cleared_by_walk, map_word, DidCharges, ops_at, added_below, made_freed_below, DidMoves, DidCarry, told_step, DidPool, IsTurnOf, IsEntryOf, KnowsOnline, MeetsGroups, Did, IsFreshAt, DidWalks, DidTree, IsUnmadeBy, MayMake, DidEntries, DidLookups, IsCausedBy, ◌^◌, take, slice_index_or, Contains, append-nil, PoolEntry, Found, is_live, decl_of, from_of, View, Gained, nothing, Adds, Hierarchy, hierarchy_of, shape_of, with_put, is_made, is_there, GroupState, TreeView, Gains, Shared, IsShared, no_work, then_work, Does, does_none, does_then, adds_put, Groups, LoadsWord, OnCache, IsAmong, IsFoundBy, KnowsUnmade, All-contains_itself, Shows, LoadedState, no_test, take_all, Calls, HoldsCache, IsSized}
 use Rattle.shr_base.specs.declared.replies.Reply.TheVariants as reply
 use Rattle.shr_deferred.specs.Moves as moves
 use Rattle.shr_charge.specs.Views as charge
@@ -211,24 +211,13 @@ pub record QuietWork (w : Work) : Type 0 where
 pub quiet_did : {s : Script} {by : Serial} {c : Command} {a : Answered} {before after : WorkerState} (work : Work) → IsCalm c → QuietWork work → BringsWork before after work
     → DidEntries s (step_of by c a before after work) → DidLookups s (step_of by c a before after work) → DidCharges s (step_of by c a before after work) → DidPool s (step_of by c a before after work)
     → DidTree s (step_of by c a before after work) → IsCausedBy s (step_of by c a before after work) a.reply → HasDid s by c a before after
-quiet_did {s} {by} {c} {a} {before} {after} work calm none does entries lookups charges pool tree cause = let z : Step = step_of by c a before after work in record {
-  work = work;
-  does = does;
-  did = record {
-    entries = entries;
-    lookups = lookups;
-    walks = calm_walks s z calm (record { walks = none.walks; seen = none.seen; maps = none.maps; cleared = none.cleared });
-    charges = charges;
-    moves = still_moves s z (record { walks = none.walks; takes = none.takes; gives = none.gives; carries = none.carries });
-    pool = pool;
-    tree = tree;
-    cause = cause;
-  };
-}
+quiet_did {s} {by} {c} {a} {before} {after} work calm none does entries lookups charges pool tree cause = let z : Step = step_of by c a before after work in
+    record { work = work; does = does; did = assumption (calm_walks s z calm (assumption none), still_moves s z (assumption none)) }
 
--- the tables of a script, with its limits
+-- the tables are those of a run: they belong together, and have the limits that the report's laws speak of
 pub record AreTables (x : Shared) : Type 0 where
   pub shared : IsShared x
+  pub sized : IsSized x.script
   pub most_items : (shape_of x.core).most_items ≡ 20000
   pub most_entries : (shape_of x.core).most_entries ≡ 2 ^ 31
 
@@ -251,40 +240,10 @@ abbrev pub gaining : Gained → Work
 gaining g = record no_work { core = g }
 
 pub does_gain : (s t : WorkerState) (g : Gained) → Adds s.core t.core g → t ≡ record s { core = t.core } → Does s t (gaining g)
-does_gain s t g a rest = let n = does_none s in subst (λ (u : WorkerState). Does s u (gaining g)) (sym rest) record {
-  core = a;
-  uses = n.uses;
-  noted = n.noted;
-  words = n.words;
-  tree = n.tree;
-  gives = n.gives;
-  known = n.known;
-  heard = n.heard;
-  hand = n.hand;
-  rise = n.rise;
-  few = n.few;
-  moves = n.moves;
-  walks = n.walks;
-  carries = n.carries;
-}
+does_gain s t g a rest = subst (λ (u : WorkerState). Does s u (gaining g)) (sym rest) (assumption (a, does_none s))
 
 pub does_load : (x : Shared) (group : ℕ) (found : GroupState) (s t : WorkerState) → LoadsWord x group found s t → Does s t (loading group found)
-does_load x group found s t h = let n = does_none s in subst (λ (u : WorkerState). Does s u (loading group found)) (sym h.rest) record {
-  core = n.core;
-  uses = n.uses;
-  noted = n.noted;
-  words = refl;
-  tree = n.tree;
-  gives = n.gives;
-  known = n.known;
-  heard = n.heard;
-  hand = n.hand;
-  rise = n.rise;
-  few = n.few;
-  moves = n.moves;
-  walks = n.walks;
-  carries = n.carries;
-}
+does_load x group found s t h = subst (λ (u : WorkerState). Does s u (loading group found)) (sym h.rest) (assumption (does_none s))
 
 -- ---- a group that is online
 
@@ -335,53 +294,71 @@ finding decl f words = record nothing { attempts = tried_by decl f ∷ []; loade
 abbrev pub calling : List core.Made → List ℕ → Gained
 calling made bits = record nothing { made = made; sets = bits }
 
+-- the cache was found, and its list called
+abbrev pub offering : ℕ → Found → List core.Loaded → List core.Made → List ℕ → Work
+offering decl f words made bits = then_work (gaining (finding decl f words)) (gaining (calling made bits))
+
+module _ (x : Shared) (decl : ℕ) (f : Found) (call : View → View → Type 0) (s held t : WorkerState) (holds : HoldsCache x decl f s held) (calls : Calls call held t) where
+  module _ (made : List core.Made) (bits : List ℕ) (g : Gains held.core calls.called made bits) where
+    pub offering_does : Does s t (offering decl f holds.answers.gains.words made bits)
+    offering_does = does_then s held t (gaining (finding decl f holds.answers.gains.words)) (gaining (calling made bits)) (does_gain s held (finding decl f holds.answers.gains.words) holds.answers.gains.adds holds.rest)
+        (does_gain held t (calling made bits) (subst (λ (v : View). Adds held.core v (calling made bits)) (sym core_is) (adds_put held.core calls.called (calling made bits) g.adds)) (calls.rest ∙ ap (λ (v : View). record held { core = v }) (sym core_is))) where
+          core_is : t.core ≡ with_put calls.called
+          core_is = ap (λ (u : WorkerState). u.core) calls.rest
+
+    turns_is : t.core.turns ≡ held.core.turns
+    turns_is = ap (λ (u : WorkerState). u.core.turns) calls.rest ∙ g.turns
+
+    -- the journal of registrations that the worker knows at the end is that by which the cache was found
+    pool_is : t.core.turns.known ≡ held.core.turns.known
+    pool_is = ap (λ (y : core.Turns). y.known) turns_is
+
+    pub offered_known : t.core.traces.known ≡ calls.called.traces.known
+    offered_known = ap (λ (u : WorkerState). u.core.traces.known) calls.rest
+
+    pub offered_entry : f.entry ≡ length t.core.turns.known
+    offered_entry = holds.answers.after ∙ ap (λ (l : List PoolEntry). length l) (sym pool_is)
+
+    pub offered_by : (z : Step) → z.after.core.turns ≡ t.core.turns → IsAmong (tried_by decl f) z.work.core.attempts → IsFoundBy z decl f
+    offered_by z stay among = let e = offered_entry in let end : z.after.core.turns.known ≡ t.core.turns.known = ap (λ (y : core.Turns). y.known) stay in
+        let journal : take f.entry z.after.core.turns.known ≡ held.core.turns.known = ap (take f.entry) end ∙ (take_all f.entry t.core.turns.known (omega (arith, e)) ∙ pool_is) in record {
+          tried = among;
+          known = omega (arith, e, ap (λ (l : List PoolEntry). length l) end);
+          live = ap (is_live f.id) journal ∙ holds.answers.live.live;
+          decl_is = ap (decl_of f.id) journal ∙ holds.answers.live.named;
+          from = subst (λ (l : List PoolEntry). from_of f.id l ≤ f.number) (sym journal) holds.answers.began;
+          dated = subst (IsAmong (dated_by f)) (sym (ap (λ (y : core.Turns). y.dated) (stay ∙ turns_is))) (contains_among held.core.turns.dated (dated_by f) holds.dated);
+        }
+
+  -- the entries that were made before the call are those of before the find
+  pub offered_made : held.core.traces.made ≡ s.core.traces.made
+  offered_made = holds.answers.gains.adds.made ∙ append-nil s.core.traces.made
+
 -- the work of a command that called a list
 abbrev pub on_list : ℕ → ℕ → Found → List core.Loaded → List core.Made → List ℕ → Work
-on_list group decl f words made bits = then_work (loading group state.Online) (then_work (gaining (finding decl f words)) (gaining (calling made bits)))
+on_list group decl f words made bits = then_work (loading group state.Online) (offering decl f words made bits)
 
 module _ (x : Shared) (group decl : ℕ) (f : Found) (call : View → View → Type 0) (s t : WorkerState) (o : OnCache x group decl f call s t) (made : List core.Made) (bits : List ℕ) (g : Gains o.held.core o.calls.called made bits) where
-  abbrev pub pool : List PoolEntry
-  pool = o.held.core.turns.known
-
   pub on_list_does : Does s t (on_list group decl f o.holds.answers.gains.words made bits)
-  on_list_does = does_then s o.loaded t (loading group state.Online) (then_work (gaining (finding decl f o.holds.answers.gains.words)) (gaining (calling made bits))) (does_load x group state.Online s o.loaded o.online)
-      (does_then o.loaded o.held t (gaining (finding decl f o.holds.answers.gains.words)) (gaining (calling made bits)) (does_gain o.loaded o.held (finding decl f o.holds.answers.gains.words) o.holds.answers.gains.adds o.holds.rest)
-      (does_gain o.held t (calling made bits) (subst (λ (v : View). Adds o.held.core v (calling made bits)) (sym core_is) (adds_put o.held.core o.calls.called (calling made bits) g.adds)) (o.calls.rest ∙ ap (λ (v : View). record o.held { core = v }) (sym core_is)))) where
-        core_is : t.core ≡ with_put o.calls.called
-        core_is = ap (λ (u : WorkerState). u.core) o.calls.rest
+  on_list_does = does_then s o.loaded t (loading group state.Online) (offering decl f o.holds.answers.gains.words made bits) (does_load x group state.Online s o.loaded o.online) (offering_does x decl f call o.loaded o.held t o.holds o.calls made bits g)
 
   pub on_list_online : KnowsOnline s.tree group
   on_list_online = knows_online (hierarchy_of (shape_of x.core)) s.tree group state.Online online_apart o.online.shows
 
-  turns_is : t.core.turns ≡ o.held.core.turns
-  turns_is = ap (λ (u : WorkerState). u.core.turns) o.calls.rest ∙ g.turns
-
-  -- the journal of registrations that the worker knows at the end is that by which the cache was found
-  pub pool_is : t.core.turns.known ≡ pool
-  pool_is = ap (λ (y : core.Turns). y.known) turns_is
-
   -- what the call knows of lists is known at the end
   pub known_is : t.core.traces.known ≡ o.calls.called.traces.known
-  known_is = ap (λ (u : WorkerState). u.core.traces.known) o.calls.rest
+  known_is = offered_known x decl f call o.loaded o.held t o.holds o.calls made bits g
 
   -- the entries that were made before the call are those of before the command
   pub made_is : o.held.core.traces.made ≡ s.core.traces.made
-  made_is = o.holds.answers.gains.adds.made ∙ (append-nil o.loaded.core.traces.made ∙ ap (λ (u : WorkerState). u.core.traces.made) o.online.rest)
+  made_is = offered_made x decl f call o.loaded o.held t o.holds o.calls ∙ ap (λ (u : WorkerState). u.core.traces.made) o.online.rest
 
   -- what was known of lists before the command was known at the call
   pub known_before : Begins s.core.traces.known o.held.core.traces.known
   known_before = subst (λ (l : List core.Known). Begins l o.held.core.traces.known) (ap (λ (u : WorkerState). u.core.traces.known) o.online.rest) o.holds.answers.gains.adds.known
 
   pub found_entry : f.entry ≡ length t.core.turns.known
-  found_entry = o.holds.answers.after ∙ ap (λ (l : List PoolEntry). length l) (sym pool_is)
+  found_entry = offered_entry x decl f call o.loaded o.held t o.holds o.calls made bits g
 
   pub found_by : (z : Step) → z.after.core.turns ≡ t.core.turns → IsAmong (tried_by decl f) z.work.core.attempts → IsFoundBy z decl f
-  found_by z stay among = let e = found_entry in let end : z.after.core.turns.known ≡ t.core.turns.known = ap (λ (y : core.Turns). y.known) stay in
-      let journal : take f.entry z.after.core.turns.known ≡ pool = ap (take f.entry) end ∙ (take_all f.entry t.core.turns.known (omega (arith, e)) ∙ pool_is) in record {
-        tried = among;
-        known = omega (arith, e, ap (λ (l : List PoolEntry). length l) end);
-        live = ap (is_live f.id) journal ∙ o.holds.answers.live.live;
-        decl_is = ap (decl_of f.id) journal ∙ o.holds.answers.live.named;
-        from = subst (λ (l : List PoolEntry). from_of f.id l ≤ f.number) (sym journal) o.holds.answers.began;
-        dated = subst (IsAmong (dated_by f)) (sym (ap (λ (y : core.Turns). y.dated) (stay ∙ turns_is))) (contains_among o.held.core.turns.dated (dated_by f) o.holds.dated);
-      }
+  found_by = offered_by x decl f call o.loaded o.held t o.holds o.calls made bits g

@@ -1,5 +1,5 @@
 -- What the commands on objects share: those that were refused before their list call, and those that called a list.
-use Rattle.shr_assemble.proofs.Common.{◌≡◌, ℕ, ◌+◌, List, ◌++◌, ap, ◌∙◌, arith, append_assoc, UseStep, begins_more, Uses, both_uses, adds_then, both, WorkerState, Work, then_work, Does, BringsWork, moves_assoc, ◌<◌, ◌≤◌, ◌⊎◌, inl, inr, ⊎_elim, [], ◌∷◌, length, refl, sym, subst, true, Some, None, option_and_then, slice_get, map, flat_map, same_Some, none-some, get_elem?, length-map, append_cancel_left, sum_by-cons, At, Place, Serial, Entry, Answered, Found, Reply, Spent, Command, Release, Grab, Script, group_named, decl_named, asks_online, Family, items_at, Object, IsAtOrAbove, is_later, Hierarchy, step, place_number, is_live_decl, IsAtOrAbove-le, Each, times, Begins, Each-none, View, Gained, nothing, Adds, place_at, Made, Known, Loaded, hierarchy_of, shape_of, place_back, Listed, Acts, TenantIsWorn, Gains, bits_for, IsFirstOpen, entry_made, IsWithin, content_of, within_of_valid, GroupState, is_there, Shared, does_then, LoadsWord, OnCache, parents_of, cited_by, id_found, at, IsThere, charged, pool_told, pool_made, made_shown, IsReply, Cites, group_met, Step, IsAmong, IsReplyTo, StandsIn, IsTenantEntry, MayMakeEntry, IsSetLast, IsListFilled, IsMadeAsCited, DidEntries, IsFoundBy, number_made, numbers_tried, number_found, IsCausedBy, IsUsedUpBy, made_freed_below, added_below, KnowsOnline, MeetsGroups, KnowsUnmade, IsWornBy, IsListWorn, IsOneMore, AreBoth, each_before, each_one, IsGroup, MissesCache, RefusedAs, DidLookups, take_all}
+use Rattle.shr_assemble.proofs.Common.{◌≡◌, ℕ, List, ◌++◌, ap, ◌∙◌, arith, append_assoc, UseStep, begins_more, Uses, both_uses, adds_then, both, WorkerState, Work, then_work, Does, BringsWork, moves_assoc, ◌<◌, ◌≤◌, ◌⊎◌, inl, inr, ⊎_elim, [], ◌∷◌, length, refl, sym, subst, true, Some, None, option_and_then, slice_get, map, flat_map, same_Some, none-some, get_elem?, length-map, append_cancel_left, sum_by-cons, At, Place, Serial, Entry, Answered, Found, Reply, Spent, Command, Release, Grab, Script, group_named, decl_named, asks_online, Family, items_at, Object, IsAtOrAbove, is_later, Hierarchy, step, place_number, is_live_decl, IsAtOrAbove-le, Each, times, Begins, Each-none, View, Gained, nothing, Adds, place_at, Made, Known, Loaded, hierarchy_of, shape_of, place_back, Listed, Acts, TenantIsWorn, Gains, bits_for, IsFirstOpen, entry_made, IsWithin, content_of, within_of_valid, GroupState, is_there, Shared, does_then, LoadsWord, OnCache, parents_of, cited_by, id_found, at, IsThere, charged, pool_told, pool_made, made_shown, IsReply, Cites, group_met, Step, IsAmong, IsReplyTo, StandsIn, IsTenantEntry, MayMakeEntry, IsSetLast, IsListFilled, IsMadeAsCited, DidEntries, IsFoundBy, number_made, numbers_tried, number_found, IsCausedBy, IsUsedUpBy, made_freed_below, added_below, KnowsOnline, MeetsGroups, KnowsUnmade, IsWornBy, IsListWorn, IsOneMore, AreBoth, each_before, each_one, IsGroup, MissesCache, RefusedAs, DidLookups, take_all, HoldsCache, Calls}
 use Rattle.shr_assemble.proofs.ScriptGroups.{sized_of}
 use Rattle.shr_base.specs.declared.replies.Reply.TheVariants as reply
 use Rattle.shr_base.specs.declared.replies.Spent.TheVariants as spent
@@ -9,35 +9,15 @@ use Rattle.shr_charge.specs.Views as charge
 use Rattle.shr_assemble.proofs.Filling.{IsSet, filled_by, set_filled, set_none}
 use Rattle.shr_assemble.proofs.FirstLists.{first_for}
 use Rattle.shr_assemble.proofs.Listed.{contains_among}
-use Rattle.shr_assemble.proofs.QuietSteps.{step_of, HasDid, IsCalm, calm_walks, still_moves, still_charges, still_pool, still_tree, IsToldOnce, quiet_did, AreTables, tree_is, loading, gaining, does_load, does_gain, knows_online, online_apart, on_list, on_list_does, on_list_online, found_entry, found_by, known_is, made_is, known_before, hierarchy_is, knows_unmade}
+use Rattle.shr_assemble.proofs.QuietSteps.{step_of, HasDid, IsCalm, still_charges, still_pool, still_tree, IsToldOnce, quiet_did, AreTables, tree_is, loading, gaining, does_load, does_gain, knows_online, online_apart, on_list, on_list_does, on_list_online, found_entry, found_by, known_is, made_is, known_before, hierarchy_is, knows_unmade, offered_made}
+pub use Rattle.shr_walk.proofs.Doing.{called_then}
 
 -- what a call does it brings
 pub brings_of : {s t : WorkerState} {w : Work} → Does s t w → BringsWork s t w
-brings_of d = record {
-  core = d.core;
-  uses = d.uses;
-  noted = d.noted;
-  words = d.words;
-  tree = d.tree;
-  gives = d.gives;
-  known = d.known;
-  heard = d.heard;
-  hand = d.hand;
-  rise = d.rise;
-  moves = d.moves;
-  walks = d.walks;
-  carries = d.carries;
-}
+brings_of d = assumption
 
 abbrev pub called : List UseStep → ℕ → ℕ → Uses
 called ops charges uncharges = record { ops = ops; charges = charges; uncharges = uncharges; seats = 0 }
-
-pub called_then : (x : Uses) (a b : List UseStep) (c d m n : ℕ) → both_uses (both_uses x (called a c m)) (called b d n) ≡ both_uses x (called (a ++ b) (c + d) (m + n))
-called_then x a b c d m n = let ops : (x.ops ++ a) ++ b ≡ x.ops ++ (a ++ b) = append_assoc x.ops a b in
-    let charges : x.charges + c + d ≡ x.charges + (c + d) = omega arith in
-    let uncharges : x.uncharges + m + n ≡ x.uncharges + (m + n) = omega arith in
-    let seats : x.seats + 0 + 0 ≡ x.seats + 0 = omega arith in
-    λ i. record { ops = ops i; charges = charges i; uncharges = uncharges i; seats = seats i }
 
 -- what one call brings and then another is the work of both
 pub brings_then : (s t u : WorkerState) (w x : Work) → BringsWork s t w → BringsWork t u x → BringsWork s u (then_work w x)
@@ -233,6 +213,59 @@ module _ (x : Shared) (tables : AreTables x) (by : Serial) (c : Command) (group 
   refused_did (reply.NotMade g) s t h = not_made_did g s t h.0 h.1
   refused_did r s t h = absurd h
 
+-- ---- a list that was called after a find
+
+module _ (x : Shared) (decl : ℕ) (f : Found) (call : View → View → Type 0) (s held t : WorkerState) (holds : HoldsCache x decl f s held) (calls : Calls call held t) where
+  module _ (tables : AreTables x) (node : ℕ) (on : node < x.script.nodes) (birth : ℕ) (there : birth < length (parents_of x.script)) where
+    near : f.id < x.script.ids
+    near = subst (λ (n : ℕ). f.id < n) tables.shared.ids holds.answers.live.near
+
+    -- it acted on the first open list, with one entry
+    module _ (c : At) (so : List Object → Type 0) (e : Listed → Entry) (a : Acts (shape_of x.core) held.core calls.called f.id node birth c so e) where
+      abbrev pub made_entry : Made
+      made_entry = entry_made (place_number c.place) a.old (e a.old)
+
+      abbrev pub made_bits : List ℕ
+      made_bits = bits_for (place_number c.place) a.old.items (step [] a.old.items (e a.old))
+
+      pub made_there : IsThere x.script c.place
+      made_there = there_is x tables calls.called f.id node birth c.place near on there a.first
+
+      pub made_same : place_at (place_number c.place) ≡ c.place
+      made_same = back_is x tables c.place made_there
+
+      -- it comes after all that was made at its place before
+      pub made_later : Each (λ (m : Made). m.place ≡ place_number c.place → m.number < length a.old.entries) s.core.traces.made
+      made_later = subst (λ (l : List Made). Each (λ (m : Made). m.place ≡ place_number c.place → m.number < length a.old.entries) l) (offered_made x decl f call s held t holds calls) a.was.later.made
+
+      -- and after all that was known there
+      pub made_known : Each (λ (k : Known). k.place ≡ place_number c.place → length k.entries ≤ length a.old.entries) s.core.traces.known
+      made_known = each_before (λ (k : Known). k.place ≡ place_number c.place → length k.entries ≤ length a.old.entries) s.core.traces.known held.core.traces.known holds.answers.gains.adds.known a.was.later.known
+
+      pub made_cites : (family : Family) (en : Entry) → StandsIn (parents_of x.script) family (entry_made (place_number c.place) a.old (e a.old)) → e a.old ≡ en → Cites family c f.id node en
+      made_cites family en stands same = record {
+        id_is = a.first.same_id;
+        node_is = a.first.same_node;
+        stands = ap (λ (p : Place). slice_get (family p) c.entry) (sym made_same) ∙ (ap (slice_get (family (place_at (place_number c.place)))) a.number ∙ (stands.entry ∙ ap Some same));
+      }
+
+    -- the first open list had no room
+    pub list_full : (entries items : ℕ) (place : Place) (e : Listed → Entry) (a : TenantIsWorn (shape_of x.core) held.core calls.called f.id node birth place e entries items) (z : Step) → z.after.core.traces.known ≡ t.core.traces.known
+        → (items ≤ length a.old.items) ⊎ (IsOneMore z a.old.items items ⊎ AreBoth x.script z place a.old.entries a.old.items items) → IsListWorn x.script z place entries items
+    list_full entries items place e a z end most = record {
+      there = there_is x tables calls.called f.id node birth place near on there a.first;
+      over = ⊎_elim (λ (h : a.old.most_entries < entries). let m = a.full.was.most_entries ∙ tables.most_entries in inl (omega (arith, h, m))) (λ (h : a.old.most_items < items). let m = a.full.was.most_items ∙ tables.most_items in inr (omega (arith, h, m))) a.full.worn.over;
+      known = a.old.entries;
+      held = a.old.items;
+      list = record {
+        knows = subst (λ (l : List Known). IsAmong (record { place = place_number place; entries = a.old.entries }) l) (sym (end ∙ ap (λ (u : WorkerState). u.core.traces.known) calls.rest))
+            (contains_among calls.called.traces.known (record { place = place_number place; entries = a.old.entries }) a.full.known);
+        journal = a.full.was.journal;
+      };
+      one_more = a.full.worn.entries_then;
+      most = most;
+    }
+
 -- ---- the commands that called a list
 
 -- the parts of what a command did that called a list, whatever entry it made
@@ -250,11 +283,8 @@ module _ (x : Shared) (tables : AreTables x) (by : Serial) (c : Command) (group 
     abbrev pub bits : List ℕ
     bits = bits_for (place_number c_at.place) a.old.items (step [] a.old.items (e a.old))
 
-    pub place_there : IsThere x.script c_at.place
-    place_there = there_is x tables o.calls.called f.id node birth c_at.place (subst (λ (n : ℕ). f.id < n) tables.shared.ids o.holds.answers.live.near) on there a.first
-
     pub place_same : place_at (place_number c_at.place) ≡ c_at.place
-    place_same = back_is x tables c_at.place place_there
+    place_same = made_same x decl f call o.loaded o.held t o.holds o.calls tables node on birth there c_at so e a
 
     pub cited_is : (z : Step) → z.before ≡ s → z.after.core.traces.known ≡ t.core.traces.known → option_and_then group_named z.command ≡ Some birth → IsAmong entry z.work.core.made
         → (z.answered.reply ≡ reply.Added c_at → 0 < c_at.place.group → a.old.items ≡ [] → (0 < times (place_number c_at.place) z.work.core.sets) × IsSetLast z (place_number c_at.place)) → IsMadeAsCited x.script z c_at
@@ -272,11 +302,7 @@ module _ (x : Shared) (tables : AreTables x) (by : Serial) (c : Command) (group 
 
     -- the answer cites the entry, and the items before it are those of the list
     pub cites_is : (family : Family) (en : Entry) → StandsIn (parents_of x.script) family entry → e a.old ≡ en → Cites family c_at f.id node en
-    cites_is family en stands same = record {
-      id_is = a.first.same_id;
-      node_is = a.first.same_node;
-      stands = ap (λ (p : Place). slice_get (family p) c_at.entry) (sym place_same) ∙ (ap (slice_get (family (place_at (place_number c_at.place)))) a.number ∙ (stands.entry ∙ ap Some same));
-    }
+    cites_is = made_cites x decl f call o.loaded o.held t o.holds o.calls tables node on birth there c_at so e a
 
     pub items_is : (family : Family) → StandsIn (parents_of x.script) family entry → items_at (parents_of x.script) family c_at.place c_at.entry ≡ a.old.items
     items_is family stands = ap (λ (p : Place). items_at (parents_of x.script) family p c_at.entry) (sym place_same) ∙ (ap (items_at (parents_of x.script) family (place_at (place_number c_at.place))) a.number ∙ sym stands.items)
@@ -311,19 +337,7 @@ module _ (x : Shared) (tables : AreTables x) (by : Serial) (c : Command) (group 
   module _ (birth entries items : ℕ) (place : Place) (e : Listed → Entry) (a : TenantIsWorn (shape_of x.core) o.held.core o.calls.called f.id node birth place e entries items)
       (on : node < x.script.nodes) (there : birth < length (parents_of x.script)) where
     pub list_worn : (z : Step) → z.after ≡ t → (items ≤ length a.old.items) ⊎ (IsOneMore z a.old.items items ⊎ AreBoth x.script z place a.old.entries a.old.items items) → IsListWorn x.script z place entries items
-    list_worn z end most = record {
-      there = there_is x tables o.calls.called f.id node birth place (subst (λ (n : ℕ). f.id < n) tables.shared.ids o.holds.answers.live.near) on there a.first;
-      over = ⊎_elim (λ (h : a.old.most_entries < entries). let m = a.full.was.most_entries ∙ tables.most_entries in inl (omega (arith, h, m))) (λ (h : a.old.most_items < items). let m = a.full.was.most_items ∙ tables.most_items in inr (omega (arith, h, m))) a.full.worn.over;
-      known = a.old.entries;
-      held = a.old.items;
-      list = record {
-        knows = subst (λ (l : List Known). IsAmong (record { place = place_number place; entries = a.old.entries }) l) (sym (ap (λ (u : WorkerState). u.core.traces.known) end ∙ known_is x group decl f call s t o [] [] a.full.gains))
-            (contains_among o.calls.called.traces.known (record { place = place_number place; entries = a.old.entries }) a.full.known);
-        journal = a.full.was.journal;
-      };
-      one_more = a.full.worn.entries_then;
-      most = most;
-    }
+    list_worn z end most = list_full x decl f call o.loaded o.held t o.holds o.calls tables node on birth there entries items place e a z (ap (λ (u : WorkerState). u.core.traces.known) end) most
 
   -- a command that made no entry
   abbrev pub stood_step : Step
@@ -340,3 +354,13 @@ module _ (x : Shared) (tables : AreTables x) (by : Serial) (c : Command) (group 
       (still_pool x.script z does.core.pool (record { turns = refl; made = unmade }) (subst (λ (ns : List ℕ). IsToldOnce z (f.entry ∷ ns)) (sym untold) (found_entry x group decl f call s t o [] [] gains)))
       (still_tree x.script z refl (λ g asked above. inr (own_online x tables by c group decl is s.tree (on_list_online x group decl f call s t o [] [] gains) g asked)) (own_met x tables by c group decl is z state.Online refl refl (0, refl) (λ g e. is.was_made (λ p. []) f.id g (subst (λ y. IsReply (parents_of x.script) (λ p. []) by c (Some f.id) y) e (row (λ p. []))))))
       cause
+
+-- a command whose first open list had no room
+pub full_did : (x : Shared) (tables : AreTables x) (by : Serial) (c : Command) (group node decl : ℕ) (is : IsTenant x.script by c group decl) (f : Found) (call : View → View → Type 0) (entries items : ℕ) (place : Place) (s t : WorkerState) (o : OnCache x group decl f call s t)
+    (e : Listed → Entry) (a : TenantIsWorn (shape_of x.core) o.held.core o.calls.called f.id node group place e entries items) → node < x.script.nodes → group < length (parents_of x.script)
+    → ((family : Family) → IsReply (parents_of x.script) family by c (Some f.id) (reply.Worn (spent.List place entries items))) → items ≤ length a.old.items
+    → HasDid x.script by c (record { reply = reply.Worn (spent.List place entries items); found = Some f }) s t
+full_did x tables by c group node decl is f call entries items place s t o e a on there row few = let r : Reply = reply.Worn (spent.List place entries items) in
+    let z : Step = stood_step x tables by c group node decl is f call r s t o in
+    stood_did x tables by c group node decl is f call r s t o a.full.gains row refl refl refl
+    (used_up x.script z c (spent.List place entries items) decl is.decl_is (list_worn x tables by c group node decl is f call r s t o group entries items place e a on there z refl (inl few)))

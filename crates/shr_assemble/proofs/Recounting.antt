@@ -116,10 +116,6 @@ one_place k c q (p ∷ ps) apart (inr later) number only = omega (
   differs (d ∷ ds) all (inr h) same = differs ds all.1 h same
   differs [] all h same = h
 
-total_swap_zero : {A : Type 0} (xs : List A) → total (λ (x : A). 0) xs ≡ 0
-total_swap_zero [] = refl
-total_swap_zero (x ∷ xs) = omega (arith, total_swap_zero xs)
-
 module _ (s : Script) (r : Report) (workers : List (List Step)) (run : IsRun s r workers) (g : Made → ℕ) where
   printed_has : (p : Place) → Has (places_of r) p → IsThere s p
   printed_has p has = let t = map_has (λ (end : PlaceEnd). end.place) r.places.items p has in let n = contains_slice r.places.items t.0 (Contains_from_Has r.places.items t.0 t.1) in
@@ -131,7 +127,7 @@ module _ (s : Script) (r : Report) (workers : List (List Step)) (run : IsRun s r
       ⊎_elim (λ none. absurd (none-some m.entry (sym (ap (λ o. slice_get (journal_of o) m.number) none) ∙ stands))) (λ has. Has_from_Contains (places_of r) (place_at m.place) has) (find_end r.places.items (place_at m.place))
 
   by_places : (l : List Made) → ((m : Made) → IsAmong m l → Has (places_of r) (place_at m.place)) → total (λ (p : Place). total (at_place (place_number p) g) l) (places_of r) ≡ total g l
-  by_places [] h = total_swap_zero (places_of r)
+  by_places [] h = total_zero (λ (p : Place). 0) (places_of r) (λ j p e. refl)
   by_places (m ∷ l) h = omega (
     arith,
     total_both (λ (p : Place). at_place (place_number p) g m) (λ (p : Place). total (at_place (place_number p) g) l) (places_of r),

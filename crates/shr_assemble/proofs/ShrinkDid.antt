@@ -1,5 +1,6 @@
 -- A `shrink` did what the report asks.
-use Rattle.shr_assemble.proofs.Common.{◌≡◌, ℕ, ◌<◌, inl, inr, ⊎_elim, Bool, List, [], ◌∷◌, length, map, take, sym, refl, ap, subst, ◌∙◌, arith, true, false, slice_get, Option, Some, ◌||◌, same_Some, none-some, Serial, Answered, Command, Shrink, WalkAnswer, WalkRecord, IsPrefixOf, Job, job, job_of, is_cut, parents_of, WorkerState, Work, Shared, Walk, next_walk, unfound, walk_reply, KnowsOnline, IsAmong, shrink_reply, reply_of, Shrinks}
+use Rattle.shr_assemble.proofs.Common.{◌≡◌, ℕ, ◌<◌, inl, inr, ⊎_elim, Bool, List, [], ◌∷◌, length, map, take, sym, refl, ap, subst, ◌∙◌, arith, true, false, slice_get, Option, Some, ◌||◌, same_Some, none-some, Serial, Answered, Command, Shrink, WalkAnswer, WalkRecord, IsPrefixOf, Job, job, job_of, is_cut, parents_of, WorkerState, Work, Shared, next_walk, unfound, walk_reply, KnowsOnline, IsAmong, shrink_reply, reply_of, Shrinks, Step, DidJobs, MayBeOffline, ◌⊎◌, IsCausedBy}
+use Rattle.shr_assemble.proofs.QuietSteps.{meets_none}
 use Rattle.shr_base.specs.declared.replies.Reply.TheVariants as reply
 use Rattle.shr_base.specs.declared.walks.WalkAnswer.TheVariants as answered
 use Rattle.shr_charge.specs.Views as charge
@@ -7,7 +8,7 @@ use Rattle.shr_charge.specs.declared.answers.GroupState.TheVariants as state
 use Rattle.shr_assemble.proofs.QuietTenant.{brings_of}
 use Rattle.shr_assemble.proofs.WalkingWell.{IsTableOf}
 use Rattle.shr_assemble.proofs.WalkingGives.{one_online, IsNoted, Gave, gave}
-use Rattle.shr_assemble.proofs.WalkingSteps.{Walked}
+use Rattle.shr_assemble.proofs.WalkingSteps.{Walked, step_of}
 use Rattle.shr_assemble.proofs.WalkingDid.{Stepping, walks_did}
 use Rattle.shr_assemble.proofs.WalkingChain.{FrontHad, front_had, front_pairs, one_front, any_cut}
 
@@ -33,50 +34,30 @@ module _ (x : Shared) (table : IsTableOf x) (by : Serial) (group node priority :
   did_answer (answered.Walked freed) g knew = record {
     work = g.work;
     does = brings_of g.walked.does;
-    did = walks_did x table by Command_of (reply.Walked freed) s t g.work g.walked g.freed g.born g.charges g.uncharges (⊎_elim (λ none. absurd (let e = none.1 in cc)) (λ n. record {
-      free = λ k. refl;
-      no_decl = refl;
-      reply = λ family. tt;
-      no_cite = refl;
-      no_told = refl;
-      no_made = refl;
-      asked = record { rounds = []; refused = refl; made = same_jobs (answered.Walked freed) g.work.walks n; told = told_one (answered.Walked freed) g.work.walks n; cut = front_pairs g.work.walks (one_front g.work.walks n.noted n.walks_are); cut_told = λ e. absurd (let f : false ≡ true = sym (ap any_cut n.walks_are ∙ ap (λ (z : WalkAnswer). is_cut z || false) n.answer_is) ∙ e in cc) };
-      online = λ k e lt. let same = same_Some group k e in inr (subst (KnowsOnline s.tree) same (knew freed refl (omega (arith, lt, same))));
-      meets = record { unmade = λ k e. absurd (cc); met = λ k e. absurd (none-some k e) };
-      cause = tt;
-    }) g.told);
+    did = walks_did x table by Command_of (reply.Walked freed) s t g.work g.walked g.freed g.born g.charges g.uncharges (⊎_elim (λ none. absurd (let e = none.1 in cc)) (λ n.
+        let z : Step = step_of x.script by Command_of (unfound (reply.Walked freed)) s t g.work in
+        let asked : DidJobs x.script z (Shrink group node priority nofs) = record { rounds = []; refused = refl; made = same_jobs (answered.Walked freed) g.work.walks n; told = told_one (answered.Walked freed) g.work.walks n; cut = front_pairs g.work.walks (one_front g.work.walks n.noted n.walks_are); cut_told = λ e. absurd (let f : false ≡ true = sym (ap any_cut n.walks_are ∙ ap (λ (z : WalkAnswer). is_cut z || false) n.answer_is) ∙ e in cc) } in
+        let online : (k : ℕ) → Some group ≡ Some k → 0 < k → MayBeOffline (reply.Walked freed) ⊎ KnowsOnline s.tree k = λ k e lt. let same = same_Some group k e in inr (subst (KnowsOnline s.tree) same (knew freed refl (omega (arith, lt, same)))) in
+        assumption (asked, online, meets_none x.script z (λ k e. absurd (cc)) (λ k e. none-some k e))) g.told);
   }
   did_answer (answered.Offline entry) g knew = record {
     work = g.work;
     does = brings_of g.walked.does;
-    did = walks_did x table by Command_of (reply.Offline entry) s t g.work g.walked g.freed g.born g.charges g.uncharges (⊎_elim (λ none. absurd (let e = none.1 in cc)) (λ n. record {
-      free = λ k. refl;
-      no_decl = refl;
-      reply = λ family. tt;
-      no_cite = refl;
-      no_told = refl;
-      no_made = refl;
-      asked = record { rounds = []; refused = refl; made = same_jobs (answered.Offline entry) g.work.walks n; told = told_one (answered.Offline entry) g.work.walks n; cut = front_pairs g.work.walks (one_front g.work.walks n.noted n.walks_are); cut_told = λ e. absurd (let f : false ≡ true = sym (ap any_cut n.walks_are ∙ ap (λ (z : WalkAnswer). is_cut z || false) n.answer_is) ∙ e in cc) };
-      online = λ k e lt. inl tt;
-      meets = record { unmade = λ k e. absurd (cc); met = λ k e. absurd (none-some k e) };
-      cause = record { group = group; met = refl; told = inl (offline_word entry g.work g.walked n) };
-    }) g.told);
+    did = walks_did x table by Command_of (reply.Offline entry) s t g.work g.walked g.freed g.born g.charges g.uncharges (⊎_elim (λ none. absurd (let e = none.1 in cc)) (λ n.
+        let z : Step = step_of x.script by Command_of (unfound (reply.Offline entry)) s t g.work in
+        let asked : DidJobs x.script z (Shrink group node priority nofs) = record { rounds = []; refused = refl; made = same_jobs (answered.Offline entry) g.work.walks n; told = told_one (answered.Offline entry) g.work.walks n; cut = front_pairs g.work.walks (one_front g.work.walks n.noted n.walks_are); cut_told = λ e. absurd (let f : false ≡ true = sym (ap any_cut n.walks_are ∙ ap (λ (z : WalkAnswer). is_cut z || false) n.answer_is) ∙ e in cc) } in
+        let online : (k : ℕ) → Some group ≡ Some k → 0 < k → MayBeOffline (reply.Offline entry) ⊎ KnowsOnline s.tree k = λ k e lt. inl tt in
+        let cause : IsCausedBy x.script z (reply.Offline entry) = record { group = group; met = refl; told = inl (offline_word entry g.work g.walked n) } in
+        assumption (asked, online, meets_none x.script z (λ k e. absurd (cc)) (λ k e. none-some k e), cause)) g.told);
   }
   did_answer (answered.Memory freed) g knew = record {
     work = g.work;
     does = brings_of g.walked.does;
-    did = walks_did x table by Command_of (reply.WalkMemory freed) s t g.work g.walked g.freed g.born g.charges g.uncharges record {
-      free = λ k. refl;
-      no_decl = refl;
-      reply = λ family. tt;
-      no_cite = refl;
-      no_told = refl;
-      no_made = refl;
-      asked = record { rounds = []; refused = refl; made = ⊎_elim (λ none. subst (λ (l : List WalkRecord). IsPrefixOf (map job_of l) (job group node priority nofs ∷ [])) (sym none.0) refl) (λ n. own_prefix g.work.walks (job group node priority nofs) (same_jobs (answered.Memory freed) g.work.walks n)) g.told; told = ⊎_elim (λ none. let is : freed ≡ 0 = let e = none.1 in cc in ap reply.WalkMemory is ∙ ap shrink_reply (sym none.0)) (λ n. told_one (answered.Memory freed) g.work.walks n) g.told; cut = front_pairs g.work.walks (⊎_elim (λ none. subst FrontHad (sym none.0) (front_had [] refl)) (λ n. one_front g.work.walks n.noted n.walks_are) g.told); cut_told = λ e. tt };
-      online = λ k e lt. inl tt;
-      meets = record { unmade = λ k e. absurd (cc); met = λ k e. absurd (none-some k e) };
-      cause = tt;
-    };
+    did = walks_did x table by Command_of (reply.WalkMemory freed) s t g.work g.walked g.freed g.born g.charges g.uncharges (
+        let z : Step = step_of x.script by Command_of (unfound (reply.WalkMemory freed)) s t g.work in
+        let asked : DidJobs x.script z (Shrink group node priority nofs) = record { rounds = []; refused = refl; made = ⊎_elim (λ none. subst (λ (l : List WalkRecord). IsPrefixOf (map job_of l) (job group node priority nofs ∷ [])) (sym none.0) refl) (λ n. own_prefix g.work.walks (job group node priority nofs) (same_jobs (answered.Memory freed) g.work.walks n)) g.told; told = ⊎_elim (λ none. let is : freed ≡ 0 = let e = none.1 in cc in ap reply.WalkMemory is ∙ ap shrink_reply (sym none.0)) (λ n. told_one (answered.Memory freed) g.work.walks n) g.told; cut = front_pairs g.work.walks (⊎_elim (λ none. subst FrontHad (sym none.0) (front_had [] refl)) (λ n. one_front g.work.walks n.noted n.walks_are) g.told); cut_told = λ e. tt } in
+        let online : (k : ℕ) → Some group ≡ Some k → 0 < k → MayBeOffline (reply.WalkMemory freed) ⊎ KnowsOnline s.tree k = λ k e lt. inl tt in
+        assumption (asked, online, meets_none x.script z (λ k e. absurd (cc)) (λ k e. none-some k e)));
   }
 
   pub shrink_did : (a : Answered) → node < x.script.nodes → group < length (parents_of x.script) → Shrinks x by group node priority nofs a s t → Stepping x by Command_of a s t

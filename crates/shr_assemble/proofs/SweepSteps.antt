@@ -1,6 +1,6 @@
 -- The steps of the workers' parts of a sweep.
 use Rattle.shr_assemble.proofs.Common.{◌≡◌, ℕ, ◌<◌, List, length, sym, subst, ◌∙◌, arith, slice_get, Some, None, same_Some, slice_get_within, slice_get_past, Answered, Script, Report, commands_of, answers_of, answer_at, sweep_serial, AreRunSteps, IsStep, Step, steps_of, AreWalksFor, IsSweepReply, DidSweep}
-use Rattle.shr_assemble.proofs.Crews.{there_at}
+use Rattle.shr_model.proofs.Lists.{there_at}
 
 -- the step of a worker's part of the sweep
 pub record SweepStep (s : Script) (r : Report) (workers : List (List Step)) (worker : ℕ) : Type 0 where

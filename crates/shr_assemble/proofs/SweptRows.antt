@@ -1,5 +1,6 @@
 -- The steps of a worker: those of its commands, and behind them that of the sweep of a script that has one.
-use Rattle.shr_assemble.proofs.Common.{◌≡◌, ℕ, zero, suc, ◌+◌, ◌<◌, ◌≤◌, ◌⊎◌, inl, inr, ⊎_elim, List, [], ◌∷◌, ◌++◌, length, length-append, take, sym, refl, ap, subst, ◌∙◌, arith, slice_get, Option, Some, None, flat_map, AllByRecursion, append-nil, same_Some, none-some, slice_get_within, slice_get_past, Serial, Answered, Command, Script, Sweep, WorkerScript, Isolation, SweepItem, sweeps_in, sweeps_of, IsShared, WorkerState, Shared, CrewState, View, WorkerLog, Did, HelpsWith, HasWorked, new_worker, isolated_in, isolated_before, DidIsolations, Step, AreStepsChained, worker_state_after, BringsWork, IsOfPops, slice_cases, slice_left, worker_commands, command_serial, get_or, range_with_len, get_or-range_with_len, length-range_with_len, slice_get-get_or, total, total-append, End, SweepJob, of_job, only_job, ArePoppedOnce, all_popped}
+use Rattle.shr_assemble.proofs.Common.{◌≡◌, ℕ, zero, suc, ◌+◌, ◌<◌, ◌≤◌, ◌⊎◌, inl, inr, ⊎_elim, List, [], ◌∷◌, ◌++◌, length, length-append, sym, refl, ap, subst, ◌∙◌, arith, slice_get, Option, Some, None, flat_map, AllByRecursion, append-nil, same_Some, none-some, slice_get_within, slice_get_past, Serial, Answered, Command, Script, Sweep, WorkerScript, Isolation, SweepItem, sweeps_in, sweeps_of, IsShared, WorkerState, Shared, CrewState, View, WorkerLog, Did, HelpsWith, HasWorked, new_worker, isolated_in, isolated_before, DidIsolations, Step, AreStepsChained, worker_state_after, BringsWork, IsOfPops, slice_cases, slice_left, worker_commands, command_serial, range_with_len, get_or-range_with_len, length-range_with_len, slice_get-get_or, total, total-append, End, SweepJob, of_job, only_job, ArePoppedOnce, all_popped, take-append-le}
+use Rattle.shr_charge.proofs.Listing.{get_last}
 use Rattle.shr_assemble.proofs.Rows.{IsFit, fit_new, IsRow, DidEach, SweptPart, IsThereItem, swept_step, row_of}
 use Rattle.shr_pool.specs.declared.items.SweepItem.TheVariants.{Walk}
 use Rattle.shr_pool.proofs.Once.{agrees}
@@ -28,17 +29,7 @@ module _ (s : Script) (by : ℕ → Serial) (cs : List Command) (popped : List S
 
   -- without a sweep there are no other steps
   alone : IsWorkerRow s by cs 0 popped own first done mine
-  alone = record {
-    commands = let many = row.commands in omega (arith, many);
-    answers = row.answers;
-    chained = row.chained;
-    ends = row.ends;
-    each = row.each;
-    pops = own_pops;
-    recorded = row.recorded;
-    by_law = row.by_law;
-    fit = row.fit;
-  }
+  alone = let own = row.commands in let many : length mine ≡ length cs + 0 = omega (arith, own) in assumption (many, own_pops, row)
 
 chain_more : (t : WorkerState) (mine : List Step) (x : Step) → AreStepsChained t mine → x.before ≡ worker_state_after t mine → BringsWork x.before x.after x.work → AreStepsChained t (mine ++ x ∷ [])
 chain_more t [] x c e b = (e, b, tt)
@@ -48,20 +39,9 @@ state_more : (t : WorkerState) (mine : List Step) (x : Step) → worker_state_af
 state_more t [] x = refl
 state_more t (y ∷ mine) x = state_more y.after mine x
 
-slice_end : {A : Type 0} (xs : List A) (x : A) (k : ℕ) → k ≡ length xs → slice_get (xs ++ x ∷ []) k ≡ Some x
-slice_end [] x zero e = refl
-slice_end [] x (suc k) e = absurd (omega (arith, e))
-slice_end (y ∷ xs) x zero e = absurd (omega (arith, e))
-slice_end (y ∷ xs) x (suc k) e = slice_end xs x k (omega (arith, e))
-
 slice_one : {A : Type 0} (x y : A) (k : ℕ) → slice_get (x ∷ []) k ≡ Some y → (k ≡ 0) × (x ≡ y)
 slice_one x y zero e = (refl, same_Some x y e)
 slice_one x y (suc k) e = absurd (none-some y e)
-
-take_front : {A : Type 0} (xs ys : List A) (k : ℕ) (x : A) → slice_get xs k ≡ Some x → take k (xs ++ ys) ≡ take k xs
-take_front [] ys k x e = absurd (none-some x e)
-take_front (y ∷ xs) ys zero x e = refl
-take_front (y ∷ xs) ys (suc k) x e = ap (λ l. y ∷ l) (take_front xs ys k x e)
 
 -- a step that made no isolation adds none
 no_more : (mine : List Step) (x : Step) → isolated_in x ≡ [] → flat_map isolated_in (mine ++ x ∷ []) ≡ flat_map isolated_in mine
@@ -88,7 +68,7 @@ module _ (s : Script) (by : ℕ → Serial) (cs : List Command) (popped : List S
     each = λ k x at. ⊎_elim
         (λ here. let e = row.each k x here in (e.0, e.1, slice_left own (a ∷ []) k x.answered e.2, e.3))
         (λ end. subst (λ (y : Step). (y.by ≡ by k) × (slice_get cs k ≡ y.command) × (slice_get (own ++ a ∷ []) k ≡ Some y.answered) × Did s y) end.1
-        (ap by (sym end.0), slice_get_past cs k (let number = end.0 in omega (arith, number)), slice_end own a k (let same = row.answers in let many = row.commands in let number = end.0 in omega (arith, same, many, number)), part.did))
+        (ap by (sym end.0), slice_get_past cs k (let number = end.0 in omega (arith, number)), get_last own a k (let same = row.answers in let many = row.commands in let number = end.0 in omega (arith, same, many, number)), part.did))
         (at_end k x at);
     pops = λ k x at none. ⊎_elim
         (λ here. own_pops s by cs popped own first done mine row k x here none)
@@ -96,7 +76,7 @@ module _ (s : Script) (by : ℕ → Serial) (cs : List Command) (popped : List S
         (at_end k x at);
     recorded = same ∙ (row.recorded ∙ ap (λ (l : List Isolation). first.isolations ++ l) (sym (no_more mine step refl)));
     by_law = λ k x at. ⊎_elim
-        (λ here. subst (λ (l : List Step). DidIsolations s x (length first.isolations + length (flat_map isolated_in l))) (sym (take_front mine (step ∷ []) k x here)) (row.by_law k x here))
+        (λ here. subst (λ (l : List Step). DidIsolations s x (length first.isolations + length (flat_map isolated_in l))) (sym (take-append-le k mine (step ∷ []) (let lt = slice_get_within mine k x here in omega (arith, lt)))) (row.by_law k x here))
         (λ end. subst (λ (y : Step). DidIsolations s y (length first.isolations + isolated_before (mine ++ step ∷ []) k)) end.1
         (λ i told. absurd (none-some i (ap (λ (l : List Isolation). slice_get l 0) told))))
         (at_end k x at);

@@ -1,5 +1,5 @@
 -- What an unregister did.
-use Rattle.shr_assemble.proofs.Common.{◌≡◌, ◌⊎◌, inl, inr, ⊎_elim, ℕ, zero, suc, ◌+◌, ◌<◌, ◌≤◌, List, [], ◌∷◌, ◌++◌, length, length-append, append_assoc, take, refl, sym, ap, subst, ◌∙◌, arith, Some, None, sum_by, AllByRecursion, none-some, some, some-injective, get_elem?, Entry, PoolEntry, Unregistered, Idle, UseStep, Object, is_past_group, added_below, made_freed_below, Place, Serial, Answered, HalfWhy, Reply, Spent, Command, Family, born_below, place_number, is_live_decl, phase_of, from_of, Each, Begins, nothing, Adds, place_id, Made, Loaded, Turn, groups_in, Shape, shape_of, AreDowns, spent_by, Draw, group_place, made_from, drawn_from, within_of_valid, content_of, IsWithin, Each-none, Each-weaker, Shared, paths_of, WorkerState, Work, no_work, does_none, unfound, parents_of, cited_by, Step, IsAmong, IsReplyTo, MayMakeEntry, Drains, DidEntries, IsCausedBy, IsWhyBy, DidPool, IsTurnOf, IsListWorn, each_one, AreNodeDraws, ended_turn, Frees, Halves, StoppedBy, UnregisterGives, unregister_reply, objects_drained, IsWorkerSpent, take_all, take-append_seam}
+use Rattle.shr_assemble.proofs.Common.{◌≡◌, ◌⊎◌, inl, inr, ⊎_elim, ℕ, zero, suc, ◌+◌, ◌<◌, ◌≤◌, List, [], ◌∷◌, ◌++◌, length, length-append, append_assoc, take, refl, sym, ap, subst, ◌∙◌, arith, Some, None, sum_by, AllByRecursion, none-some, some, some-injective, get_elem?, Entry, PoolEntry, Unregistered, Idle, UseStep, Object, is_past_group, added_below, made_freed_below, Place, Serial, Answered, HalfWhy, Reply, Spent, Command, Family, born_below, place_number, is_live_decl, phase_of, from_of, Each, nothing, Adds, place_id, Made, Loaded, Turn, groups_in, Shape, shape_of, AreDowns, spent_by, Draw, group_place, made_from, drawn_from, within_of_valid, content_of, IsWithin, Each-none, Each-weaker, Shared, paths_of, WorkerState, Work, no_work, does_none, unfound, parents_of, cited_by, Step, IsAmong, IsReplyTo, MayMakeEntry, Drains, DidEntries, IsCausedBy, IsWhyBy, DidPool, IsTurnOf, IsListWorn, each_one, AreNodeDraws, ended_turn, Frees, Halves, StoppedBy, UnregisterGives, unregister_reply, objects_drained, IsWorkerSpent, take_all, take-append_seam, BringsWork}
 use Rattle.shr_assemble.proofs.ScriptGroups.{sized_of}
 use Rattle.shr_base.specs.declared.replies.HalfWhy.TheVariants as why
 use Rattle.shr_base.specs.declared.replies.Reply.TheVariants as reply
@@ -14,9 +14,9 @@ use Rattle.shr_worker.specs.Commands as worker
 use Rattle.shr_worker.specs.Uncharging.{UnchargesEach}
 use Rattle.shr_worker.proofs.Drained.{drained_from}
 use Rattle.shr_assemble.proofs.Listed.{contains_among}
-use Rattle.shr_assemble.proofs.QuietSteps.{step_of, HasDid, calm_walks, still_moves, still_pool, still_tree, meets_none, never_met, unmade_apart, quiet_did, AreTables, tree_is}
+use Rattle.shr_assemble.proofs.QuietSteps.{step_of, HasDid, still_pool, still_tree, meets_none, never_met, unmade_apart, quiet_did, AreTables, tree_is}
 use Rattle.shr_assemble.proofs.Filling.{IsSet}
-use Rattle.shr_assemble.proofs.QuietTenant.{without, no_entries, unfound_lookups}
+use Rattle.shr_assemble.proofs.QuietTenant.{without, no_entries, unfound_lookups, brings_of}
 use Rattle.shr_assemble.proofs.QuietCharges.{uncharged_charges, nothing_did, charges_worn}
 use Rattle.shr_assemble.proofs.QuietSplices.{IsDrainOf, each_rec, rec_each, in_all, drains_freed, drains_added, drains_counted}
 use Rattle.shr_assemble.proofs.FreshLaw.{begins_length}
@@ -47,32 +47,10 @@ module _ (x : Shared) (tables : AreTables x) (by : Serial) (decl : ℕ) (s t : W
         → AllByRecursion (λ (o : Object). o.birth < length ps) objects → ((g : ℕ) → sum_by (made_freed_below ps g) made ≡ born_below ps g objects) → ((g : ℕ) → sum_by (λ (m : Made). added_below ps g m.entry) made ≡ 0)
         → DidPool x.script ends → IsCausedBy x.script ends r → HasDid x.script by asked (without r) s t
     ended adds entries born freed added pool cause =
-        let n = does_none s in
         quiet_did ends.work tt (record { walks = refl; seen = refl; maps = refl; cleared = refl; takes = refl; gives = refl; carries = refl })
-        (record {
-          core = adds;
-          uses = u.uses;
-          noted = u.noted;
-          words = ap (λ (y : WorkerState). y.tree.loaded) u.rest ∙ n.words;
-          tree = ap (λ (y : WorkerState). y.tree.made) u.rest ∙ n.tree;
-          gives = ap (λ (y : WorkerState). y.tree.gives) u.rest ∙ n.gives;
-          known = subst (λ (y : WorkerState). Begins s.tree.known y.tree.known) (sym u.rest) n.known;
-          heard = ap (λ (y : WorkerState). y.tree.heard) u.rest;
-          hand = (ap (λ (y : WorkerState). y.tree.in_hand) u.rest, ap (λ (y : WorkerState). y.tree.hand) u.rest);
-          rise = u.rise;
-          moves = ap (λ (y : WorkerState). y.moves) u.rest ∙ n.moves;
-          walks = ap (λ (y : WorkerState). y.walks) u.rest ∙ n.walks;
-          carries = ap (λ (y : WorkerState). y.carries) u.rest ∙ n.carries;
-        }) entries (unfound_lookups x.script ends refl refl)
-        (uncharged_charges x.script ends objects (within_of_valid (content_of x.script) tables.shared.script).tree (record {
-          born = born;
-          downs = subst (λ (l : List ℕ). AreDowns by (paths_of l objects) u.ops) (tree_is x tables.shared) u.downs;
-          charges = refl;
-          uncharges = refl;
-          freed = freed;
-          added = added;
-          charged = λ g. refl;
-        })) pool
+        (subst (λ (y : WorkerState). BringsWork s y ends.work) (sym u.rest) (assumption (adds, u, brings_of (does_none s))))
+        entries (unfound_lookups x.script ends refl refl)
+        (uncharged_charges x.script ends objects (within_of_valid (content_of x.script) tables.shared.script).tree (assumption (born, subst (λ (l : List ℕ). AreDowns by (paths_of l objects) u.ops) (tree_is x tables.shared) u.downs, freed, added))) pool
         (still_tree x.script ends refl (λ g asks above. absurd (none-some g asks)) (meets_none x.script ends (λ g e. unmade_apart x.script ends g refl (subst (IsCausedBy x.script ends) e cause)) (λ g e. never_met (is_past_group r) g e)))
         cause
 

@@ -1,11 +1,13 @@
 -- Walks over jobs, one after another, each from where the one before it ended.
-use Rattle.shr_assemble.proofs.Common.{◌≡◌, ℕ, suc, ◌+◌, ◌<◌, ◌⊎◌, inl, inr, ⊎_elim, Bool, true, false, ◌||◌, List, [], ◌∷◌, ◌++◌, length, length-append, map, sym, refl, ap, subst, ◌∙◌, arith, sum, zero, get_or, append_assoc, ◌≤◌, sum_by, Option, AllPairs, AllByRecursion, list_any, append-nil, get_or_append_left, sum_by-cons, sum-map, flat_map-append, Object, Serial, Answered, Command, WalkAnswer, WalkRecord, freed_by, Job, job, job_of, is_cut, Begins, Made, parents_of, OneGives, HadMemory, objects_freed, WorkerState, Work, no_work, then_work, does_none, Shared, Walk, Visit, job_in, AreVisited, each_append, freed_told, AreWalked, lacked_memory, walk_for}
+use Rattle.shr_assemble.proofs.Common.{◌≡◌, ℕ, suc, ◌+◌, ◌<◌, ◌⊎◌, inl, inr, ⊎_elim, Bool, true, false, ◌||◌, List, [], ◌∷◌, ◌++◌, length, length-append, map, sym, refl, ap, subst, ◌∙◌, arith, sum, zero, get_or, append_assoc, ◌≤◌, sum_by, Option, AllPairs, AllByRecursion, list_any, append-nil, get_or_append_left, sum_by-cons, sum-map, Object, Serial, Answered, Command, WalkAnswer, WalkRecord, Job, job, job_of, is_cut, Begins, Made, parents_of, OneGives, HadMemory, objects_freed, WorkerState, Work, no_work, then_work, does_none, Shared, Walk, Visit, job_in, AreVisited, each_append, freed_told, AreWalked, lacked_memory, walk_for}
 use Rattle.shr_base.specs.declared.walks.WalkAnswer.TheVariants as answered
 use Rattle.shr_walk.specs.Balances as balances
 use Rattle.shr_assemble.proofs.WalkingWell.{IsTableOf}
 use Rattle.shr_assemble.proofs.WalkingGives.{gave, Freed, freed_none, freed_then}
 use Rattle.shr_assemble.proofs.WalkingSteps.{Walked, walked_still, walked_then}
 use Rattle.shr_node.proofs.Marking.{second_false}
+use Rattle.std.proofs.lemmas.Bool.{or_right}
+use Rattle.shr_walk.proofs.Recording.{freed_then as freed_both}
 
 -- the jobs were walked with these answers
 abbrev pub AreOne : Shared → Serial → List Job → List WalkAnswer → WorkerState → WorkerState → Type 0
@@ -30,9 +32,6 @@ pub record GaveAll (x : Shared) (by : Serial) (c : Option Command) (a : Answered
   pub born : AllByRecursion (λ (o : Object). o.birth < length (parents_of x.script)) (objects_freed work.core.made)
   pub charges : work.charges ≡ 0
   pub uncharges : work.uncharges ≡ length (objects_freed work.core.made)
-
-freed_both : (m n : List Made) → objects_freed (m ++ n) ≡ objects_freed m ++ objects_freed n
-freed_both m n = flat_map-append (λ (y : Made). freed_by y.items y.entry) m n
 
 pub born_then : (x : Shared) (m n : List Made) → AllByRecursion (λ (o : Object). o.birth < length (parents_of x.script)) (objects_freed m) → AllByRecursion (λ (o : Object). o.birth < length (parents_of x.script)) (objects_freed n) → AllByRecursion (λ (o : Object). o.birth < length (parents_of x.script)) (objects_freed (m ++ n))
 born_then x m n a b = subst (AllByRecursion (λ (o : Object). o.birth < length (parents_of x.script))) (sym (freed_both m n)) (each_append (λ (o : Object). o.birth < length (parents_of x.script)) (objects_freed m) (objects_freed n) a b)
@@ -112,9 +111,6 @@ cut_both (x ∷ xs) ys a b = one (is_cut x.answer) (any_cut xs) a (λ rest. cut_
 pub front_had : (ws : List WalkRecord) → any_cut ws ≡ false → FrontHad ws
 front_had ws e = record { front = ws; rest = []; whole = sym (append-nil ws); uncut = e; few = omega arith }
 
-pub uncut_then : (xs ys : List WalkRecord) → any_cut xs ≡ false → any_cut ys ≡ false → any_cut (xs ++ ys) ≡ false
-uncut_then xs ys a b = cut_both xs ys a b
-
 pub front_then : (xs ys : List WalkRecord) → any_cut xs ≡ false → FrontHad ys → FrontHad (xs ++ ys)
 front_then xs ys e h = record {
   front = xs ++ h.front;
@@ -170,16 +166,12 @@ pub record AllCut (jobs : List Job) (answers : List WalkAnswer) (ws : List WalkR
   pub sum_told : told_by ws ≡ sum (map balances.walk_freed answers)
   pub short : (length ws < length jobs) ⊎ (any_cut ws ≡ true)
 
-or_true : (a b : Bool) → b ≡ true → (a || b) ≡ true
-or_true true b h = refl
-or_true false b h = h
-
 cut_more : (j : Job) (js : List Job) (a : WalkAnswer) (rest : List WalkAnswer) (r : WalkRecord) (later : List WalkRecord) → job_of r ≡ j → r.answer ≡ a → lacked_memory a ≡ false → AllCut js rest later → AllCut (j ∷ js) (a ∷ rest) (r ∷ later)
 cut_more j js a rest r later is answer had h = record {
   front = front_then (r ∷ []) later (ap (λ b. b || false) (ap is_cut answer ∙ (same_cut a ∙ had))) h.front;
   begins = (h.begins.0, ap (λ l. j ∷ l) h.begins.1 ∙ ap (λ k. k ∷ (map job_of later ++ h.begins.0)) (sym is));
   sum_told = let e = sum_by-cons (λ (w : WalkRecord). freed_told w.answer) r later in let d = ap freed_told answer ∙ same_told a in let f = h.sum_told in omega (arith, e, d, f, sum_cons a rest);
-  short = ⊎_elim (λ lt. inl (omega (arith, lt))) (λ cut. inr (or_true (is_cut r.answer) (any_cut later) cut)) h.short;
+  short = ⊎_elim (λ lt. inl (omega (arith, lt))) (λ cut. inr (or_right (is_cut r.answer) (any_cut later) cut)) h.short;
 }
 
 -- the last job, with its answer

@@ -1,5 +1,5 @@
 -- The operations of walks: one down for each object freed, on each level of its birth.
-use Rattle.shr_assemble.proofs.Common.{◌≡◌, ℕ, zero, suc, ◌+◌, ◌<◌, ◌≤◌, Bool, true, false, ◌||◌, cond, List, [], ◌∷◌, ◌++◌, length, length-append, map, sym, refl, ap, subst, ◌∙◌, arith, eq-eqb, ne_eqb, slice_get, Option, Some, pos, ◌-ℤ◌, not, ◌==◌, sum_by, count_by, All, AllByRecursion, list_any, length-map, sum_by-cons, sum_by-append, same_Some, none-some, dite, ℕ_discrete, Entry, Add, Look, Drop, Pin, Scan, MovedIn, Closed, Drained, UseStep, Object, Serial, Answered, Command, WalkRecord, ups, downs, is_at_or_above, born_below, IsTree, path_of, parent_of, freed_by, path_of-root, path_of-below, Each, Made, charged, parents_of, objects_freed, paths_of, Groups, WorkerState, Work, Shared, ops_at, added_below, made_freed_below, DidCharges, each_append, each_weaker, by_slices, use_group}
+use Rattle.shr_assemble.proofs.Common.{◌≡◌, ℕ, zero, suc, ◌+◌, ◌<◌, ◌≤◌, Bool, true, false, ◌||◌, cond, List, [], ◌∷◌, length, length-append, map, sym, refl, ap, subst, ◌∙◌, arith, eq-eqb, ne_eqb, slice_get, Option, Some, pos, ◌-ℤ◌, not, ◌==◌, sum_by, count_by, All, AllByRecursion, list_any, length-map, sum_by-cons, sum_by-append, same_Some, none-some, dite, ℕ_discrete, Entry, Add, UseStep, Object, Serial, Answered, Command, WalkRecord, ups, downs, is_at_or_above, born_below, IsTree, path_of, parent_of, freed_by, path_of-root, path_of-below, Each, Made, charged, parents_of, objects_freed, paths_of, Groups, WorkerState, Work, Shared, ops_at, added_below, made_freed_below, DidCharges, each_append, each_weaker, by_slices, use_group}
 use Rattle.shr_walk.specs.Keeping as keeping
 use Rattle.shr_assemble.proofs.Listed.{all_slice, all_slice_by}
 use Rattle.shr_assemble.proofs.WalkingWell.{IsTableOf}
@@ -57,17 +57,17 @@ module _ (parents : List ℕ) (tree : IsTree parents) where
   pub path_once : (b g : ℕ) → b < length parents → times_in g (path_of parents b) ≡ cond (is_at_or_above parents g b) 1 0
   path_once b g lt = once_in g (path_of parents b) (path_is b b (omega arith) lt).falls
 
-  paths_count : (g : ℕ) (os : List Object) → AllByRecursion (λ (o : Object). o.birth < length parents) os → times_in g (paths_of parents os) ≡ born_below parents g os
+  pub paths_count : (g : ℕ) (os : List Object) → AllByRecursion (λ (o : Object). o.birth < length parents) os → times_in g (paths_of parents os) ≡ born_below parents g os
   paths_count g [] h = refl
   paths_count g (o ∷ os) h = let e = sum_by-append (λ (y : ℕ). cond (y == g) 1 0) (path_of parents o.birth) (paths_of parents os) in
       let d = sum_by-cons (λ (z : Object). cond (is_at_or_above parents g z.birth) 1 0) o os in omega (arith, e, d, path_once o.birth g h.0, paths_count g os h.1)
 
-  paths_within : (os : List Object) → AllByRecursion (λ (o : Object). o.birth < length parents) os → AllByRecursion (λ y. y < length parents) (paths_of parents os)
+  pub paths_within : (os : List Object) → AllByRecursion (λ (o : Object). o.birth < length parents) os → AllByRecursion (λ y. y < length parents) (paths_of parents os)
   paths_within [] h = tt
   paths_within (o ∷ os) h = let lt = h.0 in each_append (λ y. y < length parents) (path_of parents o.birth) (paths_of parents os)
       (each_weaker (λ y. y ≤ o.birth) (λ y. y < length parents) (λ y le. omega (arith, le, lt)) (path_of parents o.birth) (path_is o.birth o.birth (omega arith) lt).within) (paths_within os h.1)
 
-  paths_many : (os : List Object) → AllByRecursion (λ (o : Object). o.birth < length parents) os → length os ≤ length (paths_of parents os)
+  pub paths_many : (os : List Object) → AllByRecursion (λ (o : Object). o.birth < length parents) os → length os ≤ length (paths_of parents os)
   paths_many [] h = omega arith
   paths_many (o ∷ os) h = let e = length-append (path_of parents o.birth) (paths_of parents os) in let p = (path_is o.birth o.birth (omega arith) h.0).some in omega (arith, e, p, paths_many os h.1)
 
@@ -106,14 +106,14 @@ module _ (g : ℕ) where
   all_down [] h = tt
   all_down (o ∷ ops) h = keep_down o (ops_at g ops) (o.group == g) h.0 (all_down ops h.1)
 
-every_down : (ops : List UseStep) → AllByRecursion GoesDown ops → downs ops ≡ length ops
+pub every_down : (ops : List UseStep) → AllByRecursion GoesDown ops → downs ops ≡ length ops
 every_down [] h = refl
 every_down (o ∷ ops) h = let e = sum_by-cons (λ (y : UseStep). cond (not y.up) 1 0) o ops in let c = ap (λ t. cond {A = ℕ} (not t) 1 0) h.0 in omega (arith, e, c, every_down ops h.1)
 
 not_up : (b : Bool) → b ≡ false → b ≡ true → ⊥
 not_up b f t = let e : false ≡ true = sym f ∙ t in cc
 
-down_at : (ops : List UseStep) → AllByRecursion GoesDown ops → (n : ℕ) → slice_get (map (λ (o : UseStep). o.up) ops) n ≡ Some true → ⊥
+pub down_at : (ops : List UseStep) → AllByRecursion GoesDown ops → (n : ℕ) → slice_get (map (λ (o : UseStep). o.up) ops) n ≡ Some true → ⊥
 down_at [] h n e = none-some true e
 down_at (o ∷ ops) h zero e = not_up o.up h.0 (same_Some o.up true e)
 down_at (o ∷ ops) h (suc n) e = down_at ops h.1 n e

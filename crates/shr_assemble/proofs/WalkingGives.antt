@@ -1,5 +1,5 @@
 -- A walk of a group or of the root, by its answer, gave what the report asks of it.
-use Rattle.shr_assemble.proofs.Common.{◌≡◌, ℕ, ◌+◌, ◌<◌, ◌⊎◌, inl, inr, ⊎_elim, Bool, true, false, List, [], ◌∷◌, ◌++◌, length, map, sym, refl, ap, subst, ◌∙◌, arith, AllByRecursion, append-nil, map-append, All-nil, All-append, flat_map-append, none-some, dite, ℕ_discrete, Kept, UseStep, Object, Serial, Answered, Command, Script, Attempt, MapSeen, WalkAnswer, WalkRecord, path_of, freed_by, job, job_of, Rise, Each-none, Gained, nothing, Made, Mapped, shape_of, Begins, AreDowns, IsDown, parents_of, OneGives, AreFresh, objects_freed, paths_of, WorkerState, Work, no_work, then_work, Does, IsRecordOf, WalkParts, AreParts, record_of, parts_of, Shared, Walk, does_then, fresh_none, fresh_then, IsWalkSeen, hierarchy_of, GroupState, KnowsOnline, IsAmong, Option, then_gained, IsWalkNumber, IsRecord, use_group, GoesOn, WalkMade, WalkGives, RootMade, RootGives, walk_work, id_of_attempt, units_in}
+use Rattle.shr_assemble.proofs.Common.{◌≡◌, ℕ, ◌+◌, ◌<◌, ◌⊎◌, inl, inr, ⊎_elim, Bool, true, false, List, [], ◌∷◌, ◌++◌, length, map, sym, refl, ap, subst, ◌∙◌, arith, AllByRecursion, append-nil, map-append, All-nil, All-append, flat_map-append, dite, ℕ_discrete, Kept, UseStep, Object, Serial, Answered, Command, Attempt, MapSeen, WalkAnswer, WalkRecord, path_of, freed_by, job, job_of, Rise, Gained, nothing, Made, shape_of, AreDowns, IsDown, parents_of, OneGives, objects_freed, paths_of, WorkerState, Work, no_work, then_work, Does, IsRecordOf, WalkParts, AreParts, record_of, parts_of, Shared, Walk, does_then, fresh_none, fresh_then, IsWalkSeen, hierarchy_of, GroupState, KnowsOnline, IsAmong, Option, then_gained, IsWalkNumber, IsRecord, use_group, GoesOn, WalkMade, WalkGives, RootMade, RootGives, walk_work, units_in, does_none, IsWalkOver}
 use Rattle.shr_base.specs.declared.walks.WalkAnswer.TheVariants as answered
 use Rattle.shr_charge.specs.Views as charge
 use Rattle.shr_walk.specs.Keeping as keeping
@@ -7,7 +7,7 @@ use Rattle.shr_walk.proofs.Recording.{record_none}
 use Rattle.shr_walk.proofs.ShownLaws.{seen_none, seen_earlier, seen_later}
 use Rattle.shr_charge.specs.declared.answers.GroupState.TheVariants as state
 use Rattle.shr_assemble.proofs.QuietSteps.{knows_online}
-use Rattle.shr_assemble.proofs.WalkingWell.{maps_rise, rise_front, up_to_rise, IsTableOf, seen_born, record_below_whole, record_below_cut, record_root_whole, record_root_cut, record_offline}
+use Rattle.shr_assemble.proofs.WalkingWell.{maps_rise, range_rise, tries_rise, IsTableOf, seen_born, told_as, went_on, record_below, record_root, record_offline}
 use Rattle.shr_assemble.proofs.WalkingParts.{found_cases}
 use Rattle.shr_assemble.proofs.WalkingOne.{whole, OneWalk, one_walk}
 use Rattle.shr_assemble.proofs.WalkingSteps.{Walked, walked_still}
@@ -101,36 +101,34 @@ module _ (x : Shared) (table : IsTableOf x) (walk : Walk) (c : Option Command) (
     uncharges = refl;
   }
 
-  -- a walk that went on: it loaded a word or none, did its work, and left its record
-  gave_on : (maps : Kept MapSeen) (tries : Kept Attempt) (answer : WalkAnswer) (words : List charge.LoadedState) (begun ended : WorkerState) (w : Work) → IsWalkNumber walk.number
-      → Does s begun (record no_work { words = words }) → Does begun ended w → Does ended t (walk_work (record_of walk maps tries answer)) → AreFresh begun.core w.core.seen → IsRecordOf x walk maps.items tries.items w → IsWalkSeen x walk maps.items tries.items begun ended w
-      → Rise (map id_of_attempt tries.items) → (AreFresh s.core w.core.seen → IsWalkSeen x walk maps.items tries.items s t w → IsRecord x.script (record_of walk maps tries answer))
-      → ((entry : ℕ) → answer ≡ answered.Offline entry → ⊥) → (0 < walk.group → KnowsOnline s.tree walk.group) → Gave x walk c a answer s t
-  gave_on maps tries answer words begun ended w low first middle last fresh is shown rise record_is on online =
-      let r = record_of walk maps tries answer in
-      let now : AreFresh s.core w.core.seen = fresh_then s.core begun.core nothing w.core.seen first.core (fresh_none s.core) fresh in
-      let seen : IsWalkSeen x walk maps.items tries.items s t w = seen_earlier x walk maps.items tries.items s begun t _ w first (seen_later x walk maps.items tries.items begun ended t _ w last shown) in
-      gave_one maps tries answer words w record {
+  -- a walk that went on: it loaded a word or none, made its maps and its attempts, and left its record
+  gave_on : (whole : Bool) (units ids : List ℕ) (freed : ℕ) (words : List charge.LoadedState) (begun ended : WorkerState) (maps : Kept MapSeen) (tries : Kept Attempt) → IsWalkNumber walk.number → Does s begun (record no_work { words = words })
+      → IsWalkOver x walk whole units ids maps.items tries.items begun ended → Does ended t (walk_work (record_of walk maps tries (told_as whole freed))) → Rise (map (λ (y : Attempt). y.id) tries.items) → IsRecord x.script (record_of walk maps tries (told_as whole freed))
+      → (0 < walk.group → KnowsOnline s.tree walk.group) → Gave x walk c a (told_as whole freed) s t
+  gave_on whole units ids freed words begun ended maps tries low first over last rise record_is online =
+      let r = record_of walk maps tries (told_as whole freed) in gave_one maps tries (told_as whole freed) words over.w record {
         number = number;
         low = low;
         node = node;
         group = group;
-        does = subst (Does s t) (same_whole words w r is.words is.walks) (does_then s ended t (then_work (record no_work { words = words }) w) (walk_work r) (does_then s begun ended (record no_work { words = words }) w first middle) last);
-        is = is;
-        fresh = now;
-        record_is = record_is now seen;
+        does = subst (Does s t) (same_whole words over.w r over.is.words over.is.walks) (does_then s ended t (then_work (record no_work { words = words }) over.w) (walk_work r) (does_then s begun ended (record no_work { words = words }) over.w first over.does) last);
+        is = over.is;
+        fresh = fresh_then s.core begun.core nothing over.w.core.seen first.core (fresh_none s.core) over.fresh;
+        record_is = record_is;
         rise = rise;
-        seen = seen;
-        word = λ entry e. absurd (on entry e);
+        seen = seen_earlier x walk maps.items tries.items s begun t _ over.w first (seen_later x walk maps.items tries.items begun ended t _ over.w last over.seen);
+        word = λ entry e. absurd (went_on whole freed entry e);
         online = λ below apart. online below;
       }
 
+  gave_made : (whole : Bool) (freed : ℕ) → 0 < walk.group → WalkMade x walk whole (told_as whole freed) freed s t → Gave x walk c a (told_as whole freed) s t
+  gave_made whole freed below g =
+      let m = g.made in let rise = maps_rise m.maps.items (units_in (shape_of x.core).ids) m.walked.loaded in
+      gave_on whole _ _ freed (record { group = walk.group; state = g.state } ∷ []) g.begun m.ended m.maps m.attempts m.numbered g.loaded m.walked m.recorded (tries_rise x table walk whole _ _ m.maps m.attempts g.begun m.ended m.walked rise)
+      (record_below x table walk whole _ _ m.maps m.attempts g.begun m.ended m.walked rise freed m.sum_freed m.first below refl refl) (λ lt. knows_online (hierarchy_of (shape_of x.core)) s.tree walk.group g.state (walks_on g.state g.goes_on) g.shows)
+
   gave_walk : (answer : WalkAnswer) → WalkGives x walk answer s t → 0 < walk.group → Gave x walk c a answer s t
-  gave_walk (answered.Walked freed) g below =
-      let v = g.walked in let rise = subst Rise (sym v.ids) (maps_rise g.maps.items (units_in (shape_of x.core).ids) v.units) in
-      gave_on g.maps g.attempts (answered.Walked freed) (record { group = walk.group; state = g.state } ∷ []) g.begun g.ended v.w g.numbered g.loaded v.does g.recorded v.fresh v.is v.seen rise
-      (λ fresh seen. record_below_whole x table walk g.maps g.attempts v.w s t v.is fresh seen rise freed below g.sum_freed v.units v.ids v.uncut)
-      (λ entry e. absurd (cc)) (λ lt. knows_online (hierarchy_of (shape_of x.core)) s.tree walk.group g.state (walks_on g.state g.goes_on) g.shows)
+  gave_walk (answered.Walked freed) g below = gave_made true freed below g
   gave_walk (answered.Offline entry) g below = gave_one g.maps g.attempts (answered.Offline entry) (record { group = walk.group; state = state.Offline entry } ∷ []) no_work record {
     number = number;
     low = g.numbered;
@@ -140,37 +138,24 @@ module _ (x : Shared) (table : IsTableOf x) (walk : Walk) (c : Option Command) (
     is = subst (λ (m : List MapSeen). IsRecordOf x walk m g.attempts.items no_work) (sym g.no_map) (subst (λ (l : List Attempt). IsRecordOf x walk [] l no_work) (sym g.no_attempt) (record_none x walk));
     fresh = fresh_none s.core;
     record_is = record_offline x walk g.maps g.attempts entry below g.no_map g.no_attempt;
-    rise = subst (λ (l : List Attempt). Rise (map id_of_attempt l)) (sym g.no_attempt) tt;
+    rise = subst (λ (l : List Attempt). Rise (map (λ (y : Attempt). y.id) l)) (sym g.no_attempt) tt;
     seen = subst (λ (m : List MapSeen). IsWalkSeen x walk m g.attempts.items s t no_work) (sym g.no_map) (subst (λ (l : List Attempt). IsWalkSeen x walk [] l s t no_work) (sym g.no_attempt) (seen_later x walk [] [] s s t _ no_work g.does (seen_none x walk s)));
     word = λ e is. subst (λ n. IsAmong {A = charge.LoadedState} (record { group = walk.group; state = state.Offline n }) (record { group = walk.group; state = state.Offline entry } ∷ [])) (let z : entry ≡ e = cc in z) (0, refl);
     online = λ lt on. absurd (on entry refl);
   }
   gave_walk (answered.Memory freed) (inl none) below = subst (λ n. Gave x walk c a (answered.Memory n) s t) (sym none.0) (gave_none none.1)
-  gave_walk (answered.Memory freed) (inr g) below =
-      let v = g.walked in let rise = rise_front (map id_of_attempt g.attempts.items) v.rest (subst Rise v.ids (maps_rise g.maps.items v.n v.units)) in
-      gave_on g.maps g.attempts (answered.Memory freed) (record { group = walk.group; state = g.state } ∷ []) g.begun g.ended v.w g.numbered g.loaded v.does g.recorded v.fresh v.is v.seen rise
-      (λ fresh seen. record_below_cut x table walk g.maps g.attempts v.w s t v.is fresh seen rise freed below g.sum_freed v.n v.within v.units v.rest v.ids v.tried v.cut)
-      (λ entry e. absurd (cc)) (λ lt. knows_online (hierarchy_of (shape_of x.core)) s.tree walk.group g.state (walks_on g.state g.goes_on) g.shows)
+  gave_walk (answered.Memory freed) (inr g) below = gave_made false freed below g
 
-  -- the root's walk loads no map
-  at_root : (P : List MapSeen → Type 0) (maps : List MapSeen) → maps ≡ [] → P [] → P maps
-  at_root P maps none h = subst P (sym none) h
+  gave_rooted : (whole : Bool) (freed : ℕ) → walk.group ≡ 0 → RootMade x walk whole (told_as whole freed) freed s t → Gave x walk c a (told_as whole freed) s t
+  gave_rooted whole freed root m =
+      let rise = range_rise (shape_of x.core).ids in gave_on whole _ _ freed [] s m.ended m.maps m.attempts m.numbered (does_none s) m.walked m.recorded (tries_rise x table walk whole _ _ m.maps m.attempts s m.ended m.walked rise)
+      (record_root x table walk whole _ _ m.maps m.attempts s m.ended m.walked rise freed m.sum_freed m.first root refl refl) (λ lt. absurd (omega (arith, root, lt)))
 
   gave_root : (answer : WalkAnswer) → RootGives x walk answer s t → walk.group ≡ 0 → Gave x walk c a answer s t
-  gave_root (answered.Walked freed) g root =
-      let v = g.walked in let rise = subst Rise (sym v.ids) (up_to_rise (shape_of x.core).ids) in
-      let is = at_root (λ m. IsRecordOf x walk m g.attempts.items v.w) g.maps.items g.no_map v.is in
-      gave_on g.maps g.attempts (answered.Walked freed) [] g.begun g.ended v.w g.numbered g.same v.does g.recorded v.fresh is (at_root (λ m. IsWalkSeen x walk m g.attempts.items g.begun g.ended v.w) g.maps.items g.no_map v.seen) rise
-      (λ fresh seen. record_root_whole x table walk g.maps g.attempts v.w s t is fresh seen rise freed root g.no_map g.sum_freed v.ids v.uncut)
-      (λ entry e. absurd (cc)) (λ lt. absurd (omega (arith, root, lt)))
+  gave_root (answered.Walked freed) g root = gave_rooted true freed root g
   gave_root (answered.Offline entry) g root = absurd g
   gave_root (answered.Memory freed) (inl none) root = subst (λ n. Gave x walk c a (answered.Memory n) s t) (sym none.0) (gave_none none.1)
-  gave_root (answered.Memory freed) (inr g) root =
-      let v = g.walked in let rise = subst Rise (sym v.ids) (up_to_rise v.n) in
-      let is = at_root (λ m. IsRecordOf x walk m g.attempts.items v.w) g.maps.items g.no_map v.is in
-      gave_on g.maps g.attempts (answered.Memory freed) [] g.begun g.ended v.w g.numbered g.same v.does g.recorded v.fresh is (at_root (λ m. IsWalkSeen x walk m g.attempts.items g.begun g.ended v.w) g.maps.items g.no_map v.seen) rise
-      (λ fresh seen. record_root_cut x table walk g.maps g.attempts v.w s t is fresh seen rise freed root g.no_map g.sum_freed v.n v.within v.ids v.cut)
-      (λ entry e. absurd (cc)) (λ lt. absurd (omega (arith, root, lt)))
+  gave_root (answered.Memory freed) (inr g) root = gave_rooted false freed root g
 
   pub gave : (answer : WalkAnswer) → OneGives x walk answer s t → Gave x walk c a answer s t
   gave answer g = dite (ℕ_discrete walk.group 0) (λ root. gave_root answer (g.root root) root) (λ ne. let lt : 0 < walk.group = omega (arith, ne) in gave_walk answer (g.below lt) lt)

@@ -1,44 +1,32 @@
 -- The lists of a walk's work are those that its record tells of.
-use Rattle.shr_assemble.proofs.Common.{◌≡◌, ℕ, zero, suc, ◌+◌, ◌<◌, ◌≤◌, ⊎_elim, Bool, true, false, ◌&&◌, cond, List, [], ◌∷◌, ◌++◌, length, map, sym, refl, ap, subst, ◌∙◌, arith, eq-eqb, slice_get, Option, Some, None, flat_map, filter, filter_map, sum_by, ◌==◌, cons_option, sum_by-cons, sum_by-append, same_Some, none-some, Scan, Policy, Place, Attempt, Outcome, PassRecord, pass_of, is_clearing, amount_of, amount_at, sum_at, place_number, is_place, is_place_itself, takes_of, gives_of, takes_both, gives_both, Each, Each-append, Each-none, Made, IsScanOf, scan_at, IsScanMade, AreScannedBy, WalkParts, AreParts, Shared, Walk, map-append, WordStep, told_step, is_setting, steps_passed, list_scan_by, place_of_walk, place_of, cleared_of, set_of, moves_of}
-use Rattle.shr_base.specs.declared.walks.Outcome.TheVariants as outcome
+use Rattle.shr_assemble.proofs.Common.{◌≡◌, ℕ, zero, suc, ◌+◌, ◌<◌, ◌≤◌, ⊎_elim, Bool, true, false, cond, List, [], ◌∷◌, ◌++◌, length, map, sym, refl, ap, subst, ◌∙◌, arith, eq-eqb, slice_get, Option, Some, None, flat_map, filter, filter_map, sum_by, cons_option, sum_by-cons, sum_by-append, same_Some, none-some, Policy, Place, Attempt, PassRecord, pass_of, amount_of, amount_at, sum_at, place_number, is_place, is_place_itself, takes_of, gives_of, takes_both, gives_both, Each, Each-append, Each-none, Made, IsScanOf, scan_at, IsScanMade, AreScannedBy, WalkParts, AreParts, Shared, Walk, map-append, WordStep, told_step, steps_passed, list_scan_by, place_of_walk, place_of, moves_made, Moves}
+use Rattle.std.specs.Option.{option_map_or, option_to_list}
+use Rattle.shr_deferred.specs.Moves.{no_moves}
+use Rattle.shr_pass.specs.Passes.{moves_by}
+use Rattle.shr_pass.specs.declared.answers.PassAnswer.TheVariants as answer
 use Rattle.shr_pass.specs.declared.answers.ScanSeen.{ScanSeen}
 use Rattle.shr_walk.specs.Attempts.{WasHeld}
-use Rattle.shr_walk.specs.Visits.{visit_moves}
 use Rattle.shr_assemble.proofs.WalkingParts.{found_cases}
-use Rattle.shr_assemble.proofs.WalkingRecord.{listed, same_cleared, same_set, same_passes}
 use Rattle.shr_walk.proofs.Passing.{scan_is}
 
 pub flat_same : {A B : Type 0} (f g : A → List B) (l : List A) → ((a : A) → f a ≡ g a) → flat_map f l ≡ flat_map g l
 flat_same f g [] h = refl
 flat_same f g (a ∷ l) h = ap (λ v. v ++ flat_map f l) (h a) ∙ ap (λ v. g a ++ v) (flat_same f g l h)
 
--- ---- the places whose bits were cleared
-module _ (walk : Walk) where
-  clear_more : (t : Bool) (a : Attempt) (l : List Attempt) → map place_number (map (place_of walk) (cond t (a ∷ l) l)) ≡ cond t (place_number (place_of walk a) ∷ []) [] ++ map place_number (map (place_of walk) l)
-  clear_more true a l = refl
-  clear_more false a l = refl
-
-  pub all_cleared : (l : List Attempt) → map place_number (map (place_of walk) (filter (λ (a : Attempt). is_clearing a.outcome) l)) ≡ flat_map (cleared_of walk) l
-  all_cleared [] = refl
-  all_cleared (a ∷ l) = clear_more (is_clearing a.outcome) a (filter (λ (b : Attempt). is_clearing b.outcome) l)
-      ∙ (ap (λ v. v ++ map place_number (map (place_of walk) (filter (λ (b : Attempt). is_clearing b.outcome) l))) (sym (same_cleared (place_number (place_of walk a)) a.outcome)) ∙ ap (λ v. cleared_of walk a ++ v) (all_cleared l))
-
-  pub all_set : (l : List Attempt) → map place_number (map (place_of walk) (filter (λ (a : Attempt). is_setting a.outcome) l)) ≡ flat_map (set_of walk) l
-  all_set [] = refl
-  all_set (a ∷ l) = clear_more (is_setting a.outcome) a (filter (λ (b : Attempt). is_setting b.outcome) l)
-      ∙ (ap (λ v. v ++ map place_number (map (place_of walk) (filter (λ (b : Attempt). is_setting b.outcome) l))) (sym (same_set (place_number (place_of walk a)) a.outcome)) ∙ ap (λ v. set_of walk a ++ v) (all_set l))
-
 -- ---- what passes took and gave
-visit_takes : (place : Place) (o : Outcome) → takes_of (visit_moves place o) ≡ map (λ (q : PassRecord). amount_of place q.nr) (listed (pass_of o))
-visit_takes place (outcome.Worn seen) = refl
-visit_takes place o = refl
+abbrev moves_in : Place → Option PassRecord → Moves
+moves_in place pass = option_map_or (λ p. moves_by place (answer.Ran p)) pass no_moves
 
-visit_gives : (place : Place) (o : Outcome) → gives_of (visit_moves place o) ≡ map (λ (q : PassRecord). amount_of place q.next) (listed (pass_of o))
-visit_gives place (outcome.Worn seen) = refl
-visit_gives place o = refl
+visit_takes : (place : Place) (pass : Option PassRecord) → takes_of (moves_in place pass) ≡ map (λ (q : PassRecord). amount_of place q.nr) (option_to_list pass)
+visit_takes place None = refl
+visit_takes place (Some p) = refl
+
+visit_gives : (place : Place) (pass : Option PassRecord) → gives_of (moves_in place pass) ≡ map (λ (q : PassRecord). amount_of place q.next) (option_to_list pass)
+visit_gives place None = refl
+visit_gives place (Some p) = refl
 
 module _ (p : Place) (f : PassRecord → ℕ) where
-  one_pass : (t : Bool) (place : Place) → is_place p place ≡ t → (o : Option PassRecord) (rest : List PassRecord) → sum_at p (map (λ (q : PassRecord). amount_of place (f q)) (listed o)) + sum_by f rest ≡ sum_by f (cond t (cons_option o rest) rest)
+  one_pass : (t : Bool) (place : Place) → is_place p place ≡ t → (o : Option PassRecord) (rest : List PassRecord) → sum_at p (map (λ (q : PassRecord). amount_of place (f q)) (option_to_list o)) + sum_by f rest ≡ sum_by f (cond t (cons_option o rest) rest)
   one_pass true place e None rest = omega arith
   one_pass false place e None rest = omega arith
   one_pass true place e (Some q) rest = let a = sum_by-cons (amount_at p) (amount_of place (f q)) [] in let b = sum_by-cons f q rest in let c = ap (λ (t : Bool). cond t (f q) 0) e in omega (arith, a, b, c)
@@ -51,29 +39,29 @@ module _ (p : Place) (f : PassRecord → ℕ) where
   abbrev pub passes_near : Walk → List Attempt → List PassRecord
   passes_near walk l = filter_map (λ (b : Attempt). pass_of b.outcome) (filter (λ (b : Attempt). is_place p (place_of walk b)) l)
 
-  near_more : (walk : Walk) (a : Attempt) (l : List Attempt) → sum_at p (map (λ (q : PassRecord). amount_of (place_of walk a) (f q)) (listed (pass_of a.outcome))) + sum_by f (passes_near walk l) ≡ sum_by f (passes_near walk (a ∷ l))
+  near_more : (walk : Walk) (a : Attempt) (l : List Attempt) → sum_at p (map (λ (q : PassRecord). amount_of (place_of walk a) (f q)) (option_to_list (pass_of a.outcome))) + sum_by f (passes_near walk l) ≡ sum_by f (passes_near walk (a ∷ l))
   near_more walk a l = one_pass (is_place p (place_of walk a)) (place_of walk a) refl (pass_of a.outcome) (passes_near walk l)
       ∙ ap (sum_by f) (sym (pass_first (is_place p (place_of walk a)) a (filter (λ (b : Attempt). is_place p (place_of walk b)) l)))
 
-pub all_taken : (p : Place) (walk : Walk) (l : List Attempt) → sum_at p (takes_of (moves_of walk l)) ≡ sum_by (λ (q : PassRecord). q.nr) (passes_near p (λ (q : PassRecord). q.nr) walk l)
+pub all_taken : (p : Place) (walk : Walk) (l : List Attempt) → sum_at p (takes_of (flat_map (moves_made walk) l)) ≡ sum_by (λ (q : PassRecord). q.nr) (passes_near p (λ (q : PassRecord). q.nr) walk l)
 all_taken p walk [] = refl
-all_taken p walk (a ∷ l) = let e = ap (sum_at p) (takes_both (visit_moves (place_of walk a) a.outcome) (moves_of walk l)) ∙ sum_by-append (amount_at p) (takes_of (visit_moves (place_of walk a) a.outcome)) (takes_of (moves_of walk l)) in
-    let d = ap (sum_at p) (visit_takes (place_of walk a) a.outcome) in let n = near_more p (λ (q : PassRecord). q.nr) walk a l in omega (arith, e, d, n, all_taken p walk l)
+all_taken p walk (a ∷ l) = let e = ap (sum_at p) (takes_both (moves_made walk a) (flat_map (moves_made walk) l)) ∙ sum_by-append (amount_at p) (takes_of (moves_made walk a)) (takes_of (flat_map (moves_made walk) l)) in
+    let d = ap (sum_at p) (visit_takes (place_of walk a) (pass_of a.outcome)) in let n = near_more p (λ (q : PassRecord). q.nr) walk a l in omega (arith, e, d, n, all_taken p walk l)
 
-pub all_given : (p : Place) (walk : Walk) (l : List Attempt) → sum_at p (gives_of (moves_of walk l)) ≡ sum_by (λ (q : PassRecord). q.next) (passes_near p (λ (q : PassRecord). q.next) walk l)
+pub all_given : (p : Place) (walk : Walk) (l : List Attempt) → sum_at p (gives_of (flat_map (moves_made walk) l)) ≡ sum_by (λ (q : PassRecord). q.next) (passes_near p (λ (q : PassRecord). q.next) walk l)
 all_given p walk [] = refl
-all_given p walk (a ∷ l) = let e = ap (sum_at p) (gives_both (visit_moves (place_of walk a) a.outcome) (moves_of walk l)) ∙ sum_by-append (amount_at p) (gives_of (visit_moves (place_of walk a) a.outcome)) (gives_of (moves_of walk l)) in
-    let d = ap (sum_at p) (visit_gives (place_of walk a) a.outcome) in let n = near_more p (λ (q : PassRecord). q.next) walk a l in omega (arith, e, d, n, all_given p walk l)
+all_given p walk (a ∷ l) = let e = ap (sum_at p) (gives_both (moves_made walk a) (flat_map (moves_made walk) l)) ∙ sum_by-append (amount_at p) (gives_of (moves_made walk a)) (gives_of (flat_map (moves_made walk) l)) in
+    let d = ap (sum_at p) (visit_gives (place_of walk a) (pass_of a.outcome)) in let n = near_more p (λ (q : PassRecord). q.next) walk a l in omega (arith, e, d, n, all_given p walk l)
 
 -- the moves of a walk, in their order
-visit_steps : (place : Place) (o : Outcome) → map told_step (visit_moves place o) ≡ steps_passed place (pass_of o)
-visit_steps place (outcome.Worn seen) = refl
-visit_steps place o = refl
+visit_steps : (place : Place) (pass : Option PassRecord) → map told_step (moves_in place pass) ≡ steps_passed place pass
+visit_steps place None = refl
+visit_steps place (Some p) = refl
 
-pub all_steps : (walk : Walk) (l : List Attempt) → map told_step (moves_of walk l) ≡ flat_map (λ (a : Attempt). steps_passed (place_of walk a) (pass_of a.outcome)) l
+pub all_steps : (walk : Walk) (l : List Attempt) → map told_step (flat_map (moves_made walk) l) ≡ flat_map (λ (a : Attempt). steps_passed (place_of walk a) (pass_of a.outcome)) l
 all_steps walk [] = refl
-all_steps walk (a ∷ l) = map-append told_step (visit_moves (place_of walk a) a.outcome) (moves_of walk l)
-    ∙ (ap (λ (v : List WordStep). v ++ map told_step (moves_of walk l)) (visit_steps (place_of walk a) a.outcome) ∙ ap (λ (v : List WordStep). steps_passed (place_of walk a) (pass_of a.outcome) ++ v) (all_steps walk l))
+all_steps walk (a ∷ l) = map-append told_step (moves_made walk a) (flat_map (moves_made walk) l)
+    ∙ (ap (λ (v : List WordStep). v ++ map told_step (flat_map (moves_made walk) l)) (visit_steps (place_of walk a) (pass_of a.outcome)) ∙ ap (λ (v : List WordStep). steps_passed (place_of walk a) (pass_of a.outcome) ++ v) (all_steps walk l))
 
 -- ---- an entry that was made is of an attempt with a pass
 
@@ -107,7 +95,7 @@ module _ (x : Shared) (walk : Walk) where
         by_pass : (o : Option PassRecord) → pass_of a.outcome ≡ o → WasHeld x walk (place_of_walk walk a.id) a.outcome i.more i.held q.made q.ops → Each (IsOfAttempt walk (a ∷ l)) q.made
         by_pass (Some p') e' h = λ j m at. let here = h.by.scans j m at in record { k = 0; attempt = a; at = refl; pass = p'; passed = e'; place = here.0; policy = h.d.policy; scan = here.1 }
         by_pass None e' h = let none : q.made ≡ [] = none_there (place_number (place_of_walk walk a.id)) walk.by.worker walk.number h.d.policy q.made h.by.scans
-            (subst (λ ps. AreScannedBy walk.priority h.d.seeks h.d.batch ps (filter_map (scan_at (place_number (place_of_walk walk a.id)) walk.by.worker walk.number) q.made)) (same_passes a.outcome ∙ ap listed e') h.by.scanned) in
+            (subst (λ ps. AreScannedBy walk.priority h.d.seeks h.d.batch ps (filter_map (scan_at (place_number (place_of_walk walk a.id)) walk.by.worker walk.number) q.made)) e' h.by.scanned) in
             subst (Each (IsOfAttempt walk (a ∷ l))) (sym none) (Each-none (IsOfAttempt walk (a ∷ l)))
 
 -- the pass of an attempt at a place is among those there

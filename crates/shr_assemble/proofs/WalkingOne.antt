@@ -1,17 +1,16 @@
 -- One walk: from its record and its work to what the report asks of it.
-use Rattle.shr_assemble.proofs.Common.{◌≡◌, ℕ, zero, suc, ◌+◌, ◌<◌, ◌≤◌, ◌⊎◌, ⊎_elim, true, false, List, [], ◌∷◌, length, map, sym, refl, ap, subst, ◌∙◌, arith, slice_get, Option, Some, filter_map, sum_by, ◌&&◌, append-nil, same_Some, none-some, Kept, Entry, Add, Look, Drop, Pin, Scan, MovedIn, Closed, Drained, Policy, Answered, Spent, CacheDecl, Command, Attempt, MapSeen, PassRecord, WalkAnswer, WalkRecord, number_of, is_held, pass_of, sum_at, place_number, passes_at, Moves, takes_of, gives_of, Each, place_at, Made, shape_of, place_back, parents_of, IsThere, AreScansOf, AreFresh, IsScanOf, scan_at, AreScannedBy, WornSeen, PassSeen, IsWalkSeen, IsRecordOf, record_of, parts_of, number_in, WorkerState, Work, Does, Shared, Walk, IsAmong, DidPass, DidAttempt, HasMetCache, lookup_numbered, KnowsOnline, IsRecord, DidWalk, IsWornBy, told_step, Rise, place_of_walk, AreLater, AreStopped, IsWalkNumber, id_of_attempt}
+use Rattle.shr_assemble.proofs.Common.{◌≡◌, ℕ, zero, suc, ◌+◌, ◌<◌, ◌≤◌, ◌⊎◌, ⊎_elim, true, false, List, [], ◌∷◌, length, map, sym, refl, ap, subst, ◌∙◌, arith, slice_get, Option, Some, filter_map, sum_by, ◌&&◌, append-nil, same_Some, none-some, Kept, Entry, Scan, Policy, Answered, Spent, CacheDecl, Command, Attempt, MapSeen, PassRecord, WalkAnswer, WalkRecord, number_of, is_held, pass_of, sum_at, place_number, passes_at, Moves, takes_of, gives_of, Each, place_at, Made, shape_of, place_back, parents_of, IsThere, AreScansOf, AreFresh, IsScanOf, scan_at, AreScannedBy, WornSeen, PassSeen, IsWalkSeen, IsRecordOf, record_of, parts_of, number_in, WorkerState, Work, Does, Shared, Walk, IsAmong, DidPass, DidAttempt, HasMetCache, lookup_numbered, KnowsOnline, IsRecord, DidWalk, IsWornBy, told_step, Rise, place_of_walk, AreLater, AreStopped, IsWalkNumber}
 use Rattle.std.specs.Option.{is_some}
 use Rattle.shr_base.specs.declared.walks.WalkAnswer.TheVariants as answered
 use Rattle.shr_charge.specs.Views as charge
 use Rattle.shr_charge.specs.declared.answers.GroupState.TheVariants as state
 use Rattle.shr_walk.specs.Attempts.{Found}
 use Rattle.shr_walk.specs.Attempts as attempts
-use Rattle.shr_walk.specs.Walked.{counts_of}
 use Rattle.shr_assemble.proofs.WornSeen.{seen_worn}
 use Rattle.shr_assemble.proofs.WalkingWell.{IsTableOf, seen_id, seen_pass}
-use Rattle.shr_assemble.proofs.WalkingParts.{PartAt, part_at, part_scans, tries_one, pass_is, found_cases, found_held}
-use Rattle.shr_assemble.proofs.WalkingRecord.{same_counts, same_numbers, outcome_kind, stopped}
-use Rattle.shr_assemble.proofs.WalkingLists.{passes_near, flat_same, all_cleared, all_set, all_taken, all_given, all_steps, IsOfAttempt, of_attempts, pass_there}
+use Rattle.shr_assemble.proofs.WalkingParts.{PartAt, part_at, part_scans, tries_one, found_cases, found_held}
+use Rattle.shr_assemble.proofs.WalkingRecord.{same_numbers, outcome_kind, stopped}
+use Rattle.shr_assemble.proofs.WalkingLists.{passes_near, flat_same, all_taken, all_given, all_steps, IsOfAttempt, of_attempts, pass_there}
 use Rattle.shr_assemble.proofs.WalkingSteps.{OnlyScan, IsScanOne, step_of, Walked}
 
 -- the work of a walk with the words that it loaded and its record
@@ -28,7 +27,7 @@ pub record OneWalk (x : Shared) (walk : Walk) (maps : Kept MapSeen) (tries : Kep
   pub is : IsRecordOf x walk maps.items tries.items w
   pub fresh : AreFresh s.core w.core.seen
   pub record_is : IsRecord x.script (record_of walk maps tries answer)
-  pub rise : Rise (map id_of_attempt tries.items)
+  pub rise : Rise (map (λ (y : Attempt). y.id) tries.items)
   pub seen : IsWalkSeen x walk maps.items tries.items s t w
   pub word : (entry : ℕ) → answer ≡ answered.Offline entry → IsAmong (record { group = walk.group; state = state.Offline entry }) words
   pub online : 0 < walk.group → ((entry : ℕ) → answer ≡ answered.Offline entry → ⊥) → KnowsOnline s.tree walk.group
@@ -66,10 +65,9 @@ module _ (x : Shared) (table : IsTableOf x) (walk : Walk) (c : Option Command) (
 
     did_pass : (d : CacheDecl) (p : PassRecord) → pass_of y.outcome ≡ Some p → attempts.IsVisitMade x walk (place_of_walk walk y.id) d y.outcome part.part.made part.part.ops → DidPass x.script (step_of x.script walk.by c a s t (whole w words r_of)) walk.number r_of (place_of_walk walk y.id) d p
     did_pass d p e by =
-        let is = pass_is y.outcome p e in
-        let scanned : AreScannedBy walk.priority d.seeks d.batch (p ∷ []) (filter_map (scan_at (place_number (place_of_walk walk y.id)) walk.by.worker walk.number) part.part.made) = subst (λ ps. AreScannedBy walk.priority d.seeks d.batch ps (filter_map (scan_at (place_number (place_of_walk walk y.id)) walk.by.worker walk.number) part.part.made)) is by.scanned in
-        let later : Each (λ (m : Made). p.version ≤ m.number) part.part.made = subst (λ ps. AreLater ps part.part.made) is by.later in
-        let stops = subst (λ ps. AreStopped (d.fs && walk.nofs) walk.priority d.seeks d.batch ps) is by.stopped in
+        let scanned : AreScannedBy walk.priority d.seeks d.batch (Some p) (filter_map (scan_at (place_number (place_of_walk walk y.id)) walk.by.worker walk.number) part.part.made) = subst (λ ps. AreScannedBy walk.priority d.seeks d.batch ps (filter_map (scan_at (place_number (place_of_walk walk y.id)) walk.by.worker walk.number) part.part.made)) e by.scanned in
+        let later : Each (λ (m : Made). p.version ≤ m.number) part.part.made = subst (λ ps. AreLater ps part.part.made) e by.later in
+        let stops = subst (λ ps. AreStopped (d.fs && walk.nofs) walk.priority d.seeks d.batch ps) e by.stopped in
         let told : PassSeen x (place_of_walk walk y.id) t p = seen_pass x table walk maps.items tries.items s t w one.seen k y p at e in record {
           scans = subst (AreScansOf walk.priority d p) (sym (part.scans walk.by.worker walk.number)) (part_scans (place_number (place_of_walk walk y.id)) walk.by.worker walk.number walk.priority d p part.part.made by.scans scanned.0 later);
           stops = stopped r_of d p scanned.1 stops;
@@ -109,11 +107,11 @@ module _ (x : Shared) (table : IsTableOf x) (walk : Walk) (c : Option Command) (
   one_walk = record {
     does = one.does;
     each = only;
-    seen = append-nil _ ∙ (flat_same _ (counts_of walk) tries.items (λ y. same_counts (place_number (place_of_walk walk y.id)) y.outcome) ∙ one.is.counts);
+    seen = append-nil _ ∙ one.is.counts;
     maps = append-nil _ ∙ one.is.maps_are;
-    cleared = append-nil _ ∙ (all_cleared walk tries.items ∙ one.is.cleared);
-    sets = append-nil _ ∙ (all_set walk tries.items ∙ one.is.sets);
-    numbers = sym (append-nil _ ∙ (flat_same (λ (y : Attempt). lookup_numbered y.id (number_of y.outcome)) (λ (y : Attempt). number_in y.id y.outcome) tries.items (λ y. same_numbers y.id y.outcome) ∙ one.is.numbers));
+    cleared = append-nil _ ∙ one.is.cleared;
+    sets = append-nil _ ∙ one.is.sets;
+    numbers = sym (append-nil _ ∙ (flat_same (λ (y : Attempt). lookup_numbered y.id (number_of y.outcome)) (λ (y : Attempt). number_in y.id y.outcome) tries.items (λ y. same_numbers y.id (number_of y.outcome)) ∙ one.is.numbers));
     fresh = one.fresh;
     set = one.seen.set;
     scans = λ j m e. is_scan m (of_attempts x walk tries.items (parts_of w) one.is.parts j m e);

@@ -1,5 +1,6 @@
 -- The part that each attempt of a walk has in the walk's work.
-use Rattle.shr_assemble.proofs.Common.{◌≡◌, ℕ, zero, suc, ◌-◌, ◌<◌, ◌≤◌, ◌≢◌, ◌⊎◌, inl, inr, ⊎_elim, Bool, true, false, ◌&&◌, cond, List, [], ◌∷◌, ◌++◌, length, map, take, sym, refl, ap, subst, ◌∙◌, arith, ne_eqb, sum, slice_get, Option, Some, None, filter_map, ◌==◌, AllByRecursion, cons_option, append-nil, filter_map-append, sum-map, same_Some, none-some, LookupWord, Entry, Add, Look, Drop, Pin, Scan, MovedIn, Closed, Drained, UseStep, Policy, CacheDecl, Attempt, Outcome, PassRecord, number_of, is_held, pass_of, place_number, ScanMade, scan_by, Each, Each-append, Each-none, Made, Loaded, Tried, AreScansOf, IsScanOf, passes_in, IsScanMade, WalkParts, AreParts, Shared, Walk, IsAmong, scan_made, scans_made, Rise, cache_asks_due, place_of_walk, IsScannedBy, IsPart, id_of_attempt}
+use Rattle.shr_assemble.proofs.Common.{◌≡◌, ℕ, zero, suc, ◌-◌, ◌<◌, ◌≤◌, ◌≢◌, ◌⊎◌, inl, inr, ⊎_elim, Bool, true, false, ◌&&◌, cond, List, [], ◌∷◌, ◌++◌, length, map, take, sym, refl, ap, subst, ◌∙◌, arith, ne_eqb, sum, slice_get, Option, Some, None, filter_map, ◌==◌, AllByRecursion, cons_option, append-nil, filter_map-append, sum-map, same_Some, none-some, LookupWord, Entry, Scan, UseStep, Policy, CacheDecl, Attempt, Outcome, PassRecord, number_of, is_held, place_number, ScanMade, scan_by, Each, Each-append, Each-none, Made, Loaded, Tried, AreScansOf, IsScanOf, IsScanMade, WalkParts, AreParts, Shared, Walk, IsAmong, scan_made, scans_made, Rise, cache_asks_due, place_of_walk, IsScannedBy, IsPart}
+use Rattle.std.specs.Option.{option_to_list}
 use Rattle.shr_base.specs.declared.walks.Outcome.TheVariants as outcome
 use Rattle.shr_pass.specs.declared.answers.ScanSeen.{ScanSeen}
 use Rattle.shr_pass.specs.Passes.{asked_of, scan_freed}
@@ -20,14 +21,7 @@ found_held x walk id o first more held made ops f h = ⊎_elim (λ none. absurd 
 
 -- the lookup of an attempt that has a number
 pub tries_one : (id : ℕ) (o : Outcome) (held : Option ℕ) (number : ℕ) → number_of o ≡ Some number → tries_in id o held ≡ record { id = id; number = number; held = held } ∷ []
-tries_one id (outcome.Worn seen) held number e = absurd (none-some number e)
-tries_one id o held number e = ap (λ k. record { id = id; number = k; held = held } ∷ []) (same_Some _ number e)
-
--- the pass of an outcome is its one pass
-pub pass_is : (o : Outcome) (p : PassRecord) → pass_of o ≡ Some p → passes_in o ≡ p ∷ []
-pass_is (outcome.Ran n q) p e = ap (λ z. z ∷ []) (same_Some q p e)
-pass_is (outcome.RestoredRan n one q) p e = ap (λ z. z ∷ []) (same_Some q p e)
-pass_is o p e = absurd (none-some p e)
+tries_one id o held number e = ap (λ (n : Option ℕ). map (λ m. record { id = id; number = m; held = held }) (option_to_list n)) e
 
 -- ---- the Scan entries of a part, as the report counts them
 
@@ -128,12 +122,12 @@ module _ (x : Shared) (walk : Walk) where
       (found_cases x walk a.id a.outcome i.first i.more i.held q.made q.ops i.found)
 
   -- those of later attempts are at places of later ids
-  later_places : (id : ℕ) (l : List Attempt) (p : WalkParts) → AreParts x walk l p → AllByRecursion (λ y. id < y) (map id_of_attempt l) → Each (λ (m : Made). m.place ≢ number_at id) p.made
+  later_places : (id : ℕ) (l : List Attempt) (p : WalkParts) → AreParts x walk l p → AllByRecursion (λ y. id < y) (map (λ (y : Attempt). y.id) l) → Each (λ (m : Made). m.place ≢ number_at id) p.made
   later_places id [] p h r = subst (λ (y : WalkParts). Each (λ (m : Made). m.place ≢ number_at id) y.made) (sym h) (Each-none (λ (m : Made). m.place ≢ number_at id))
   later_places id (a ∷ l) p (q, s, e, i, rest) r = subst (λ (y : WalkParts). Each (λ (m : Made). m.place ≢ number_at id) y.made) (sym e)
       (Each-append (λ (m : Made). m.place ≢ number_at id) q.made s.made (λ j m at same. let here = part_places a q i j m at in let lt = r.0 in omega (arith, here, lt, same)) (later_places id l s rest r.1))
 
-  pub part_at : (l : List Attempt) (p : WalkParts) → AreParts x walk l p → Rise (map id_of_attempt l) → (k : ℕ) (a : Attempt) → slice_get l k ≡ Some a → PartAt a p
+  pub part_at : (l : List Attempt) (p : WalkParts) → AreParts x walk l p → Rise (map (λ (y : Attempt). y.id) l) → (k : ℕ) (a : Attempt) → slice_get l k ≡ Some a → PartAt a p
   part_at [] p h r k a at = absurd (none-some a at)
   part_at (b ∷ l) p (q, s, e, i, rest) r zero a at = let same : b ≡ a = same_Some b a at in subst (λ (z : Attempt). PartAt z p) same record {
     part = q;
@@ -151,7 +145,7 @@ module _ (x : Shared) (walk : Walk) where
     scans = λ worker n. ap (λ (v : WalkParts). scans_made (number_at a.id) worker n v.made) e ∙ (filter_map-append (scan_made (number_at a.id) worker n) q.made s.made
         ∙ (ap (λ v. v ++ scans_made (number_at a.id) worker n s.made) (other_scans (number_at a.id) worker n q.made (λ j m there same. let here = part_places b q i j m there in let lt = later_id l k a r.0 at in omega (arith, here, lt, same))) ∙ z.scans worker n));
   } where
-    later_id : (l : List Attempt) (k : ℕ) (a : Attempt) → AllByRecursion (λ y. b.id < y) (map id_of_attempt l) → slice_get l k ≡ Some a → b.id < a.id
+    later_id : (l : List Attempt) (k : ℕ) (a : Attempt) → AllByRecursion (λ y. b.id < y) (map (λ (y : Attempt). y.id) l) → slice_get l k ≡ Some a → b.id < a.id
     later_id [] k a h at = absurd (none-some a at)
     later_id (c ∷ l) zero a h at = subst (λ (y : Attempt). b.id < y.id) (same_Some c a at) h.0
     later_id (c ∷ l) (suc k) a h at = later_id l k a h.1 at

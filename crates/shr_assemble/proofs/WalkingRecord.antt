@@ -1,14 +1,12 @@
 -- What the record of a walk says by itself, outcome by outcome.
-use Rattle.shr_assemble.proofs.Common.{◌≡◌, ℕ, zero, suc, ◌+◌, ◌<◌, ◌≤◌, ◌≢◌, ⊎_elim, Bool, true, false, ◌&&◌, cond, List, [], ◌∷◌, ◌++◌, length, length-append, map, sym, refl, ap, subst, ◌∙◌, arith, sum, slice_get, Option, Some, None, flat_map, filter_map, sum_by, All, cons_option, and_parts, and_from, sum_by-cons, sum-map, same_Some, none-some, LookupWord, UseStep, Place, CacheDecl, Attempt, Ending, Outcome, PassRecord, WalkRecord, Count, number_of, pass_of, is_clearing, due, ask_size, batch_of, total_of, place_number, Each, Each-none, Made, Loaded, Counted, IsPlaced, IsOutcomeOf, IsStopped, Rising, passes_in, number_in, IsUncut, IsCutLast, Shared, Walk, lookup_numbered, is_setting, slice_cases, length-replicate, FollowsArithmetic, MadeOf, due_asks, place_of_walk, counts_of_outcome, cleared_by_outcome, set_by_outcome, is_outcome_cut, is_cut_by}
+use Rattle.shr_assemble.proofs.Common.{◌≡◌, ℕ, zero, suc, ◌+◌, ◌<◌, ◌≤◌, ◌≢◌, ⊎_elim, Bool, true, false, ◌&&◌, List, [], ◌∷◌, ◌++◌, length, length-append, map, sym, refl, ap, subst, ◌∙◌, arith, slice_get, Option, Some, None, flat_map, All, and_parts, and_from, same_Some, none-some, LookupWord, UseStep, Place, CacheDecl, Attempt, Ending, Outcome, PassRecord, WalkRecord, pass_of, due, ask_size, batch_of, total_of, place_number, Each, Each-none, Made, Loaded, Counted, IsPlaced, IsOutcomeOf, IsStopped, Rising, IsUncut, IsCutLast, Shared, Walk, lookup_numbered, slice_cases, length-replicate, FollowsArithmetic, MadeOf, due_asks, place_of_walk, counts_of_outcome, counts_seen, is_outcome_cut, is_cut_by}
+use Rattle.std.specs.Option.{option_map_or, option_to_list}
 use Rattle.shr_base.specs.declared.walks.Ending.TheVariants as ending
 use Rattle.shr_base.specs.declared.walks.GoneThen.{GoneThen}
 use Rattle.shr_base.specs.declared.walks.GoneThen.TheVariants as gone
 use Rattle.shr_base.specs.declared.walks.Outcome.TheVariants as outcome
-use Rattle.shr_model.specs.Attempts as model
 use Rattle.shr_walk.specs.Attempts.{Found, IsVisitMade, IsLoadShown}
 use Rattle.shr_walk.specs.Records as records
-use Rattle.shr_walk.specs.Walked.{counts_of}
-use Rattle.shr_walk.specs.Walked as walked
 use Rattle.shr_assemble.proofs.Gathering.{among_left}
 use Rattle.shr_assemble.proofs.Listed.{all_slice}
 
@@ -25,47 +23,14 @@ rising_right : (l m : List Counted) → Rising (l ++ m) → Rising m
 rising_right [] m r = r
 rising_right (x ∷ l) m r = rising_right l m r.1
 
-pub rising_at : (walk : Walk) (l : List Attempt) → Rising (flat_map (counts_of walk) l) → (k : ℕ) (a : Attempt) → slice_get l k ≡ Some a → Rising (counts_of walk a)
+pub rising_at : (walk : Walk) (l : List Attempt) → Rising (flat_map (counts_seen walk) l) → (k : ℕ) (a : Attempt) → slice_get l k ≡ Some a → Rising (counts_seen walk a)
 rising_at walk [] r k a at = absurd (none-some a at)
-rising_at walk (b ∷ l) r zero a at = subst (λ (y : Attempt). Rising (counts_of walk y)) (same_Some b a at) (rising_left (counts_of walk b) (flat_map (counts_of walk) l) r)
-rising_at walk (b ∷ l) r (suc k) a at = rising_at walk l (rising_right (counts_of walk b) (flat_map (counts_of walk) l) r) k a at
+rising_at walk (b ∷ l) r zero a at = subst (λ (y : Attempt). Rising (counts_seen walk y)) (same_Some b a at) (rising_left (counts_seen walk b) (flat_map (counts_seen walk) l) r)
+rising_at walk (b ∷ l) r (suc k) a at = rising_at walk l (rising_right (counts_seen walk b) (flat_map (counts_seen walk) l) r) k a at
 
-pub same_counts : (k : ℕ) (o : Outcome) → map (λ (c : Count). record { place = k; len = c.len; version = c.version }) (model.counts_of o) ≡ counts_of_outcome k o
-same_counts k (outcome.Worn seen) = refl
-same_counts k o = refl
-
-pub same_numbers : (id : ℕ) (o : Outcome) → lookup_numbered id (number_of o) ≡ number_in id o
-same_numbers id (outcome.Worn seen) = refl
-same_numbers id o = refl
-
--- one place, where the attempt cleared its bit
-pub same_cleared : (k : ℕ) (o : Outcome) → cleared_by_outcome k o ≡ cond (is_clearing o) (k ∷ []) []
-same_cleared k (outcome.Gone n gone.Set) = refl
-same_cleared k o = refl
-
--- one place, where the attempt set its bit again
-pub same_set : (k : ℕ) (o : Outcome) → set_by_outcome k o ≡ cond (is_setting o) (k ∷ []) []
-same_set k (outcome.Gone n gone.Set) = refl
-same_set k o = refl
-
--- the pass of an outcome, as a list
-abbrev pub listed : Option PassRecord → List PassRecord
-listed None = []
-listed (Some p) = p ∷ []
-
-pub same_passes : (o : Outcome) → passes_in o ≡ listed (pass_of o)
-same_passes (outcome.Worn seen) = refl
-same_passes o = refl
-
--- what the passes freed
-freed_more : (o : Option PassRecord) (ps : List PassRecord) → sum_by (λ (p : PassRecord). p.freed) (cons_option o ps) ≡ sum (map (λ (p : PassRecord). p.freed) (listed o)) + sum_by (λ (p : PassRecord). p.freed) ps
-freed_more None ps = omega arith
-freed_more (Some p) ps = let e = sum_by-cons (λ (q : PassRecord). q.freed) p ps in omega (arith, e)
-
-pub same_freed : (l : List Attempt) → sum (map walked.freed_in_attempt l) ≡ sum_by (λ (p : PassRecord). p.freed) (filter_map (λ (a : Attempt). pass_of a.outcome) l)
-same_freed [] = refl
-same_freed (a ∷ l) = let f = sum-map walked.freed_in_attempt (a ∷ l) in let g = sum-map walked.freed_in_attempt l in let h = sum_by-cons walked.freed_in_attempt a l in let e = freed_more (pass_of a.outcome) (filter_map (λ (b : Attempt). pass_of b.outcome) l) in
-    let d = ap (λ ps. sum (map (λ (p : PassRecord). p.freed) ps)) (same_passes a.outcome) in omega (arith, e, d, f, g, h, same_freed l)
+pub same_numbers : (id : ℕ) (number : Option ℕ) → lookup_numbered id number ≡ map (λ n. (id, n)) (option_to_list number)
+same_numbers id None = refl
+same_numbers id (Some n) = refl
 
 -- ---- outcomes
 not_zero : (n : ℕ) → 0 < n → n ≢ 0
@@ -112,9 +77,7 @@ stopped r d p follows h = record {
 
 -- a pass that ended by want of room cuts its attempt
 pub cut_by : (o : Outcome) (p : PassRecord) → pass_of o ≡ Some p → p.ending ≡ ending.NoRoom → is_outcome_cut o ≡ true
-cut_by (outcome.Ran k q) p e n = ap is_cut_by (ap (λ (z : PassRecord). z.ending) (same_Some q p e) ∙ n)
-cut_by (outcome.RestoredRan k first q) p e n = ap is_cut_by (ap (λ (z : PassRecord). z.ending) (same_Some q p e) ∙ n)
-cut_by o p e n = absurd (none-some p e)
+cut_by o p e n = ap (λ (q : Option PassRecord). option_map_or (λ (z : PassRecord). is_cut_by z.ending) q false) e ∙ ap is_cut_by n
 
 not_both : (b : Bool) → b ≡ true → b ≡ false → ⊥
 not_both b t f = let e : true ≡ false = sym t ∙ f in cc

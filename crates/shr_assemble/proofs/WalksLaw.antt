@@ -1,12 +1,12 @@
 -- The law of walks, of a run.
-use Rattle.shr_assemble.proofs.Common.{◌≡◌, ℕ, zero, suc, ◌<◌, ◌≤◌, ◌≢◌, inl, inr, ⊎_elim, Bool, true, false, ◌||◌, cond, List, [], ◌∷◌, ◌++◌, length, map, sym, refl, ap, subst, ◌∙◌, arith, slice_get, Option, Some, flat_map, filter, count_by, option_and_then, AllByRecursion, list_any, IsSomeAnd, append-nil, dite, ℕ_discrete, same_Some, none-some, Place, Serial, Entry, Add, Look, Drop, Pin, Scan, MovedIn, Closed, Drained, Answered, Reply, Command, Put, Script, Attempt, MapSeen, WalkRecord, Count, counts_of, is_clearing, is_set, ops_by, is_refused, is_serial, jobs_of, place_number, is_place, unit_of, bit_of, job_of, place_in, passes_at, versions_at, clearings_of, is_place_same, is_place_itself, times, only, Begins, total-append, some_term, only_no, place_at, map_number, Made, Mapped, back, Report, parents_of, limit_of, journals_of, serial_of, walks_by, walk_at, all_walks, cited_at, cited_by, uses_at, items_before, at, IsThere, IsToldBy, FillsPlace, Covers, Step, IsAmong, gathered, steps_of, IsSetLast, IsMadeAsCited, mapped_in, cleared_by_walk, map_word, DidRoundsOf, DidJobs, AreWalksFor, ops_at, all_cleared, IsMapOf, IsRun, Has, filter_has, map_has, Has_flat_map, at_some, by_slices, some_at, serial_itself, filter_both, IsOfPass, AreRoundsOf, AreWalksOf, MayMake, was_cleared, AreWalksLawful, no_test}
+use Rattle.shr_assemble.proofs.Common.{◌≡◌, ℕ, zero, suc, ◌<◌, ◌≤◌, ◌≢◌, inl, inr, ⊎_elim, Bool, true, false, ◌||◌, cond, List, [], ◌∷◌, ◌++◌, length, map, sym, refl, ap, subst, ◌∙◌, arith, slice_get, Option, Some, flat_map, filter, count_by, option_and_then, AllByRecursion, list_any, IsSomeAnd, append-nil, dite, ℕ_discrete, same_Some, none-some, Place, Serial, Entry, Scan, Answered, Reply, Command, Put, Script, Attempt, MapSeen, WalkRecord, Count, counts_of, is_clearing, is_set, ops_by, is_refused, is_serial, jobs_of, place_number, is_place, unit_of, bit_of, job_of, place_in, passes_at, versions_at, clearings_of, is_place_same, is_place_itself, times, only, Begins, total-append, some_term, only_no, place_at, map_number, Made, Mapped, back, Report, parents_of, limit_of, journals_of, serial_of, walks_by, walk_at, all_walks, cited_at, cited_by, uses_at, items_before, at, IsThere, IsToldBy, FillsPlace, Covers, Step, IsAmong, gathered, steps_of, IsSetLast, IsMadeAsCited, mapped_in, cleared_by_walk, map_word, DidRoundsOf, DidJobs, AreWalksFor, ops_at, all_cleared, IsMapOf, IsRun, Has, filter_has, map_has, Has_flat_map, at_some, by_slices, some_at, serial_itself, filter_both, IsOfPass, AreRoundsOf, AreWalksOf, MayMake, was_cleared, AreWalksLawful, no_test}
+use Rattle.shr_model.proofs.Weights.{is_serial_same}
 use Rattle.shr_base.specs.declared.replies.Reply.TheVariants as reply
 use Rattle.shr_assemble.specs.Entries as entries
 use Rattle.shr_assemble.proofs.Gathering.{each_among, gathered_has, among_right, among_begins, among_flat, flat_among, has_step, work_of, grows, made_stands, maker, Stepped, stepped, replies, back_there}
 use Rattle.shr_assemble.proofs.Listed.{ops_are, has_among, among_has, all_walks_are, WalkOf, walk_of, walk_there}
 use Rattle.shr_assemble.proofs.VersionsLaw.{lawful_walk, count_made, among_map, versions_fall_not}
 use Rattle.shr_assemble.proofs.DeferredLaw.{filter_none}
-use Rattle.shr_assemble.proofs.LimitsLaw.{serial_same}
 
 -- ---- the walks of a command
 
@@ -27,18 +27,18 @@ filter_part {A} {B} p f (z ∷ xs) zero x at own others = let same : z ≡ x = s
 filter_part p f (z ∷ xs) (suc i) x at own others = filter_both p (f z) (flat_map f xs)
     ∙ (ap (λ l. l ++ filter p (flat_map f xs)) (filter_none p (f z) (λ j y d. others 0 j z y refl (λ s. omega (arith, s)) d)) ∙ filter_part p f xs i x at own (λ k j v y e ne d. others (suc k) j v y e (λ s. ne (omega (arith, s))) d))
 
+-- the part of one of a worker's steps, where what each step has bears the step's serial
+pub filter_serial : {A B : Type 0} (serial : B → Serial) (f : A → List B) (worker : ℕ) (xs : List A) (k : ℕ) (x : A) → slice_get xs k ≡ Some x
+    → ((j i : ℕ) (y : A) (b : B) → slice_get xs j ≡ Some y → slice_get (f y) i ≡ Some b → serial b ≡ serial_of worker j) → filter (λ (b : B). is_serial (serial_of worker k) (serial b)) (flat_map f xs) ≡ f x
+filter_serial {A} {B} serial f worker xs k x at by_of = filter_part (λ (b : B). is_serial (serial_of worker k) (serial b)) f xs k x at
+    (λ j b e. ap (is_serial (serial_of worker k)) (by_of k j x b at e) ∙ serial_itself (serial_of worker k))
+    (λ i j y b at_y ne e. no_test (is_serial (serial_of worker k) (serial b)) (λ same. ne (ap (λ (z : Serial). z.command) (sym (is_serial_same (serial_of worker k) (serial b) same ∙ by_of i j y b at_y e)))))
+
 module _ (s : Script) (r : Report) (workers : List (List Step)) (run : IsRun s r workers) where
   pub walks_are : (worker k : ℕ) (x : Step) → slice_get (steps_of workers worker) k ≡ Some x → walks_by r (serial_of worker k) ≡ x.work.walks
   walks_are worker k x at = ap (filter (λ (w : WalkRecord). is_serial (serial_of worker k) w.by)) (run.steps.walks worker)
-      ∙ filter_part (λ (w : WalkRecord). is_serial (serial_of worker k) w.by) (λ (y : Step). y.work.walks) (steps_of workers worker) k x at own others where
-        by_of : (j i : ℕ) (y : Step) (w : WalkRecord) → slice_get (steps_of workers worker) j ≡ Some y → slice_get y.work.walks i ≡ Some w → w.by ≡ serial_of worker j
-        by_of j i y w at_y at_w = let is = run.steps.each worker j y at_y in (is.did.walks.each i w at_w).by ∙ is.by
-
-        own : (j : ℕ) (w : WalkRecord) → slice_get x.work.walks j ≡ Some w → is_serial (serial_of worker k) w.by ≡ true
-        own j w e = ap (is_serial (serial_of worker k)) (by_of k j x w at e) ∙ serial_itself (serial_of worker k)
-
-        others : (i j : ℕ) (y : Step) (w : WalkRecord) → slice_get (steps_of workers worker) i ≡ Some y → i ≢ k → slice_get y.work.walks j ≡ Some w → is_serial (serial_of worker k) w.by ≡ false
-        others i j y w at_y ne e = no_test (is_serial (serial_of worker k) w.by) (λ same. ne (ap (λ (z : Serial). z.command) (sym (serial_same (serial_of worker k) w.by same ∙ by_of i j y w at_y e))))
+      ∙ filter_serial (λ (w : WalkRecord). w.by) (λ (y : Step). y.work.walks) worker (steps_of workers worker) k x at
+      (λ j i y w at_y at_w. let is = run.steps.each worker j y at_y in (is.did.walks.each i w at_w).by ∙ is.by)
 
   -- ---- the Scan entries are those of passes
   scan_of_pass : (place : Place) (e : Entry) (x : Step) (m : Made) (worker k : ℕ) → slice_get (steps_of workers worker) k ≡ Some x → place_at m.place ≡ place → entries.MayMakeEntry s x m e → IsOfPass r place e
@@ -65,7 +65,7 @@ module _ (s : Script) (r : Report) (workers : List (List Step)) (run : IsRun s r
   }
   rounds_are by c x rounds ops d = d
 
-  jobs_did : (by : Serial) (c : Command) (a : Answered) (t : Stepped s r workers run by c a) → DidJobs s t.step c
+  pub jobs_did : (by : Serial) (c : Command) (a : Answered) (t : Stepped s r workers run by c a) → DidJobs s t.step c
   jobs_did by c a t = subst (AreWalksFor s t.step) t.command t.did.walks.asked
 
   walks_of_command : (by : Serial) (c : Command) (a : Answered) → Stepped s r workers run by c a → AreWalksOf s r by c a.reply

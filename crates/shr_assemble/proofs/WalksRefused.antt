@@ -1,7 +1,7 @@
 -- A walk of a group that its worker was shown to be offline finds it offline, of a run.
 use Rattle.shr_assemble.proofs.Common.{◌≡◌, ℕ, ◌<◌, List, ap, ◌∙◌, arith, Some, true, slice_get_within, Serial, Script, WalkAnswer, WalkRecord, Report, shows_offline, serial_of, walk_at, Step, steps_of, IsRun, IsWalkRefused}
+use Rattle.shr_model.proofs.Lists.{there_at}
 use Rattle.shr_base.specs.declared.walks.WalkAnswer.TheVariants as walk
-use Rattle.shr_assemble.proofs.Crews.{there_at}
 use Rattle.shr_assemble.proofs.Listed.{walk_of}
 use Rattle.shr_assemble.proofs.FreshLaw.{knows_offline, below_root}
 use Rattle.shr_assemble.proofs.Gathering.{grows}

@@ -1,7 +1,8 @@
 -- The numbers in the journals of registrations and of the tree have the ranges of their types.
 use Rattle.shr_assemble.proofs.Common.{◌≡◌, ℕ, zero, suc, ◌+◌, ◌-◌, ◌<◌, ◌≤◌, ◌^◌, Bool, cond, List, length, take, sym, refl, ap, subst, ◌∙◌, arith, eq-eqb, ne_eqb, slice_get, Option, Some, None, ◌==◌, AllByRecursion, take_all, slice_get_within, dite, ℕ_discrete, dec_lt, PoolEntry, Registered, Unregistered, Idle, TreeEntry, Begin, Done, phase_of, number_after, last_number, IsNextPool, IsPoolJournal, Hierarchy, begin_of, IsTreeJournal, past_none, begin_at, take_below, at_some, by_slices, some_at, take-take, number_from_push, declared_in, IsPoolNumbered, IsTreeNumbered, the_some}
+use Rattle.shr_assemble.proofs.FirstIds.{take_next}
 use Rattle.shr_base.specs.declared.journals.TreeEntry.TheVariants.{Made}
-use Rattle.shr_assemble.proofs.FreePuts.{idle_is, take_one, take_past}
+use Rattle.shr_assemble.proofs.FreePuts.{idle_is, take_past}
 use Rattle.shr_assemble.proofs.Printing.{get_taken}
 
 -- the number after an entry of the id is the entry's
@@ -32,7 +33,7 @@ module _ (ids decls : ℕ) (es : List PoolEntry) (journal : IsPoolJournal ids de
   rises i k (suc more) = subst (λ m. last_number i (take k es) ≤ last_number i (take m es)) (let e : suc (k + more) ≡ k + suc more = omega arith in e) (further (slice_get es (k + more)) refl (rises i k more)) where
     further : (o : Option PoolEntry) → slice_get es (k + more) ≡ o → last_number i (take k es) ≤ last_number i (take (k + more) es) → last_number i (take k es) ≤ last_number i (take (suc (k + more)) es)
     further None at below = subst (λ (l : List PoolEntry). last_number i (take k es) ≤ last_number i l) (sym (take_past es (k + more) at)) below
-    further (Some e) at below = subst (λ (l : List PoolEntry). last_number i (take k es) ≤ last_number i l) (sym (take_one es (k + more) e at))
+    further (Some e) at below = subst (λ (l : List PoolEntry). last_number i (take k es) ≤ last_number i l) (sym (take_next es (k + more) e at))
         (let step = after_next i (take (k + more) es) e (next_of (k + more) e at) in let push = number_from_push i 0 (take (k + more) es) e in omega (arith, below, step, push))
 
   -- so each entry's number is at most the last of its id
@@ -41,7 +42,7 @@ module _ (ids decls : ℕ) (es : List PoolEntry) (journal : IsPoolJournal ids de
       let within = slice_get_within es k e at in
       let all : take (suc k + (length es - suc k)) es ≡ es = take_all (suc k + (length es - suc k)) es (omega (arith, within)) in
       let up : last_number i (take (suc k) es) ≤ last_number i es = subst (λ (l : List PoolEntry). last_number i (take (suc k) es) ≤ last_number i l) all (rises i (suc k) (length es - suc k)) in
-      let here = ap (last_number i) (take_one es k e at) in let push = number_from_push i 0 (take k es) e in omega (arith, up, here, push, is)
+      let here = ap (last_number i) (take_next es k e at) in let push = number_from_push i 0 (take k es) e in omega (arith, up, here, push, is)
 
   module _ (few : ids ≤ 256) (few_decls : decls ≤ 250) (low : (id : ℕ) → id < ids → last_number id es < 2 ^ 32) where
     known_id : (k i : ℕ) → (phase_of i (take k es) ≡ 0 → ⊥) → i < ids

@@ -1,5 +1,6 @@
 -- The words of the entries, the objects and the replies of a run are those of its script's commands.
-use Rattle.shr_assemble.proofs.Common.{◌≡◌, ℕ, Bool, true, false, cond, List, [], ◌∷◌, length, take, map, sym, refl, ap, subst, ◌∙◌, slice_get, Option, Some, None, find, option_map, AllByRecursion, same_Some, none-some, Entry, Add, Look, Drop, Pin, Scan, MovedIn, Closed, Drained, Object, At, Place, Serial, Reply, Command, Put, Get, Del, SetPin, Script, WorkerScript, named_in, is_named, marked_object, unmarked_object, pinned_object, by_of, items_at, lists_moved_at, items_from, place_at, Made, IsWithin, IsCommandWithin, content_of, Report, parents_of, commands_in, commands_of, journals_of, id_found, items_left, at, IsReply, HasWords, LendsWord, IsSpelled, Step, steps_of, MayMakeEntry, IsReplyTo, IsRun, by_slices, is_value}
+use Rattle.shr_assemble.proofs.Common.{◌≡◌, ℕ, Bool, true, false, cond, List, [], ◌∷◌, length, map, sym, refl, ap, subst, ◌∙◌, slice_get, Option, Some, None, find, option_map, AllByRecursion, same_Some, none-some, Entry, Add, Look, Drop, Pin, Object, At, Place, Serial, Reply, Command, Put, Get, Del, SetPin, Script, WorkerScript, named_in, is_named, marked_object, unmarked_object, pinned_object, by_of, items_at, lists_moved_at, items_from, place_at, Made, IsWithin, IsCommandWithin, content_of, Report, parents_of, commands_in, commands_of, journals_of, id_found, items_left, at, IsReply, HasWords, LendsWord, IsSpelled, Step, steps_of, MayMakeEntry, IsReplyTo, IsRun, by_slices, is_value}
+use Rattle.std.proofs.Math.Seq.{take-length}
 use Rattle.shr_base.specs.declared.replies.Reply.TheVariants as reply
 use Rattle.shr_assemble.proofs.FamilyObjects.{AddIs, items_at_kept}
 use Rattle.shr_assemble.proofs.Gathering.{each_among, maker, made_stands}
@@ -55,10 +56,6 @@ lent birth key value items h e = by (named_in birth key items) refl e where
   by None there e = absurd (none-some value e)
   by (Some o) there e = subst (λ v. is_value v ≡ true) (same_Some o.value value e) (found_in IsSpelled birth key items o h there).value
 
-take_length : {A : Type 0} (xs : List A) → take (length xs) xs ≡ xs
-take_length [] = refl
-take_length (x ∷ xs) = ap (λ ys. x ∷ ys) (take_length xs)
-
 module _ (s : Script) (r : Report) (workers : List (List Step)) (run : IsRun s r workers) (within : IsWithin (content_of s)) where
   pub command_within : (worker k : ℕ) (c : Command) → slice_get (commands_of s worker) k ≡ Some c → IsCommandWithin (content_of s) c
   command_within worker k c e = command_fact (IsCommandWithin (content_of s)) s.workers.items worker k c within.each e
@@ -90,7 +87,7 @@ module _ (s : Script) (r : Report) (workers : List (List Step)) (run : IsRun s r
   objects_spelled place n = items_at_kept IsSpelled marks unmarks pins (parents_of s) (journals_of r) adds_spelled place n
 
   pub left_spelled : (place : Place) → AllByRecursion IsSpelled (items_left s r place)
-  left_spelled place = subst (λ es. AllByRecursion IsSpelled (items_from (lists_moved_at (parents_of s) (journals_of r) place) [] es)) (take_length (journals_of r place)) (objects_spelled place (length (journals_of r place)))
+  left_spelled place = subst (λ es. AllByRecursion IsSpelled (items_from (lists_moved_at (parents_of s) (journals_of r) place) [] es)) (take-length (journals_of r place)) (objects_spelled place (length (journals_of r place)))
 
   hit_lends : (by : Serial) (c : Command) (found : Option ℕ) (at : At) (value : List ℕ) → IsReply (parents_of s) (journals_of r) by c found (reply.Hit at value) → is_value value ≡ true
   hit_lends by (Get group node decl key) (Some id) at value h = lent group key value (items_at (parents_of s) (journals_of r) at.place at.entry) (objects_spelled at.place at.entry) h.1

@@ -1,15 +1,15 @@
 -- The objects that were added are each of another put that was answered so, and where each put was, there are as many.
-use Rattle.shr_assemble.proofs.Common.{◌≡◌, ℕ, zero, suc, ◌+◌, ◌≤◌, ◌⊎◌, inl, inr, ⊎_elim, Bool, true, false, ◌||◌, ◌==◌, cond, List, [], ◌∷◌, length, length-append, take, sym, refl, ap, subst, ◌∙◌, arith, eqb, eq-eqb, slice_get, Option, Some, None, filter, flat_map, sum_by, enumerate_from, list_any, same_Some, none-some, sum_by-cons, Entry, Add, Look, Drop, Pin, Scan, MovedIn, Closed, Drained, At, Place, Reply, Command, Put, Script, WorkerScript, added_by, added_by_all, added_in, is_put, is_at_or_above, path_of, Has, Has_from_Contains, Each, total, place_at, Made, Report, charged, parents_of, puts_of, commands_in, commands_of, answers_of, serial_of, id_found, journals_of, places_of, DoPutsAddUp, IsReply, added_below, Step, steps_in, steps_of, IsPut, IsRun, all_made, sum_total, MayStand, IsAtOrAbove-root, IsEachAdded}
+use Rattle.shr_assemble.proofs.Common.{◌≡◌, ℕ, zero, suc, ◌+◌, ◌≤◌, ◌⊎◌, inl, inr, ⊎_elim, Bool, true, false, cond, List, [], ◌∷◌, length, length-append, take, sym, refl, ap, subst, ◌∙◌, arith, slice_get, Option, Some, None, filter, sum_by, enumerate_from, same_Some, none-some, sum_by-cons, Entry, Add, At, Place, Reply, Command, Put, Script, WorkerScript, added_by, added_by_all, added_in, is_put, is_at_or_above, path_of, Has_from_Contains, Each, total, place_at, Made, Report, charged, parents_of, puts_of, commands_in, commands_of, answers_of, serial_of, id_found, journals_of, places_of, DoPutsAddUp, IsReply, added_below, Step, steps_in, steps_of, IsPut, IsRun, all_made, sum_total, MayStand, IsAtOrAbove-root, IsEachAdded, count_total}
+use Rattle.std.proofs.lemmas.List.Concat.{length-flat_map}
+use Rattle.std.proofs.lemmas.List.Sums.{length-filter}
+use Rattle.shr_assemble.proofs.Outcomes.{any_has}
+use Rattle.shr_assemble.proofs.Listed.{most_one}
 use Rattle.shr_base.specs.declared.replies.Reply.TheVariants as reply
 use Rattle.shr_assemble.proofs.Gathering.{total_gathered, total_same_on, mine_at}
 use Rattle.shr_assemble.proofs.RepliesLaw.{replies_lawful}
 use Rattle.shr_assemble.proofs.Recounting.{all_stand, journals_are}
 
 -- ---- what a command charged to the root
-most_one : (b : Bool) → cond {A = ℕ} b 1 0 ≤ 1
-most_one true = omega arith
-most_one false = omega arith
-
 -- it charged nothing, or it is a put answered Added and charged one
 abbrev IsChargeOf : List ℕ → Option Command → Reply → Type 0
 IsChargeOf ps c x = (charged ps 0 c (Some x) ≡ 0) ⊎ (IsPut c × ((a : At) × (x ≡ reply.Added a)) × (charged ps 0 c (Some x) ≤ 1))
@@ -32,14 +32,6 @@ slices_less : {A : Type 0} (f g : A → ℕ) (xs : List A) → ((k : ℕ) (x : A
 slices_less f g [] h k x at less = absurd (none-some x at)
 slices_less f g (y ∷ ys) h zero x at less = let same = same_Some y x at in let fs = ap f same in let gs = ap g same in omega (arith, fs, gs, less, slices_most f g ys (λ j z e. h (suc j) z e))
 slices_less f g (y ∷ ys) h (suc k) x at less = omega (arith, h 0 y refl, slices_less f g ys (λ j z e. h (suc j) z e) k x at less)
-
-filter_total : {A : Type 0} (p : A → Bool) (xs : List A) → length (filter p xs) ≡ total (λ x. cond {A = ℕ} (p x) 1 0) xs
-filter_total p [] = refl
-filter_total p (x ∷ xs) = (elim (p x) as (λ (b : Bool). length (filter p xs) ≡ total (λ y. cond {A = ℕ} (p y) 1 0) xs → length (cond b (x ∷ filter p xs) (filter p xs)) ≡ cond {A = ℕ} b 1 0 + total (λ y. cond {A = ℕ} (p y) 1 0) xs) [ true ↦ λ h. omega (arith, h) | false ↦ λ h. omega (arith, h) ]) (filter_total p xs)
-
-flat_long : {A B : Type 0} (f : A → List B) (xs : List A) → length (flat_map f xs) ≡ total (λ x. length (f x)) xs
-flat_long f [] = refl
-flat_long f (x ∷ xs) = omega (arith, length-append (f x) (flat_map f xs), flat_long f xs)
 
 -- ---- puts
 abbrev puts_in : List Command → ℕ
@@ -72,12 +64,7 @@ rows_puts (mine ∷ teams) (w ∷ ws) each = let first = each 0 in let rest = ro
 
 puts_are : (ws : List WorkerScript) → sum_by (λ (w : WorkerScript). length (filter is_put w.commands.items)) ws ≡ total (λ (w : WorkerScript). puts_in w.commands.items) ws
 puts_are [] = refl
-puts_are (w ∷ ws) = omega (arith, sum_by-cons (λ (v : WorkerScript). length (filter is_put v.commands.items)) w ws, filter_total is_put w.commands.items, puts_are ws)
-
-any_has : (xs : List ℕ) (g : ℕ) → Has xs g → list_any (λ h. h == g) xs ≡ true
-any_has [] g has = absurd has
-any_has (x ∷ xs) g (inl e) = ap (λ b. b || list_any (λ h. h == g) xs) (eq-eqb x g e)
-any_has (x ∷ xs) g (inr has) = (elim (eqb x g) as (λ (b : Bool). list_any (λ h. h == g) xs ≡ true → (b || list_any (λ h. h == g) xs) ≡ true) [ true ↦ λ h. refl | false ↦ λ h. h ]) (any_has xs g has)
+puts_are (w ∷ ws) = omega (arith, sum_by-cons (λ (v : WorkerScript). length (filter is_put v.commands.items)) w ws, length-filter is_put w.commands.items ∙ count_total is_put w.commands.items, puts_are ws)
 
 module _ (s : Script) (r : Report) (workers : List (List Step)) (run : IsRun s r workers) where
   -- the objects that an entry added
@@ -106,7 +93,7 @@ module _ (s : Script) (r : Report) (workers : List (List Step)) (run : IsRun s r
 
   -- all that was added, by the steps
   added_made : length (added_in (places_of r) (journals_of r)) ≡ total one_added (all_made workers)
-  added_made = flat_long (λ (p : Place). added_by_all (journals_of r p)) (places_of r)
+  added_made = length-flat_map (λ (p : Place). added_by_all (journals_of r p)) (places_of r) ∙ sum_total (λ (p : Place). length (added_by_all (journals_of r p))) (places_of r)
       ∙ (total_same_on (λ (p : Place). length (added_by_all (journals_of r p))) (λ (p : Place). total (λ (e : ℕ × Entry). length (added_by e.1)) (enumerate_from 0 (journals_of r p))) (places_of r) (λ p. sym (journal_long 0 (journals_of r p)))
       ∙ journals_are s r workers run one_added (λ p n e. length (added_by e)) (λ m p place stands items. refl))
 

@@ -1,9 +1,10 @@
 -- What a list held after some of its entries was freed later, or is listed at the end, in it or above it.
-use Rattle.shr_assemble.proofs.Common.{◌≡◌, ℕ, zero, suc, ◌+◌, ◌<◌, ◌≤◌, inl, inr, ⊎_elim, Bool, true, false, ◌&&◌, ◌==◌, cond, List, [], ◌∷◌, ◌++◌, length, take, drop, sym, refl, ap, subst, ◌∙◌, arith, eq-eqb, ne_eqb, Contains, nat_lt, and_parts, and_from, eqb-true, ltb-true, lt-ltb, length_permutation, dite, ℕ_discrete, Object, Place, Serial, Entry, Add, Look, Drop, Pin, Scan, MovedIn, Closed, Drained, serials_of, added_in, freed_at, listed_in, Family, moved_in, before_closed, without_child, items_given, lists_moved_at, items_at, items_of, IsLegal, IsTree, parent_of, is_child, step, first_moved, later_moved, freed_by, is_closed, at_group, is_place, child_takes, child_higher, IsWhole, bag_of_legal, Has, Has_from_Contains, is_place_same, is_place_itself, weight, mass, weight_append, mass_append, given_by, mass_of_journal, total, total_both, gives_before, open_legal, closed_below_root, parent_place, given_to_parent, freed_in}
+use Rattle.shr_assemble.proofs.Common.{◌≡◌, ℕ, zero, suc, ◌+◌, ◌<◌, ◌≤◌, inl, inr, ⊎_elim, Bool, true, false, ◌&&◌, ◌==◌, cond, List, [], ◌∷◌, ◌++◌, length, take, drop, sym, refl, ap, subst, ◌∙◌, arith, eq-eqb, ne_eqb, Contains, nat_lt, and_parts, and_from, eqb-true, ltb-true, lt-ltb, length_permutation, dite, ℕ_discrete, Object, Place, Serial, Entry, MovedIn, serials_of, added_in, freed_at, listed_in, Family, moved_in, before_closed, without_child, items_given, lists_moved_at, items_at, items_of, IsLegal, IsTree, parent_of, is_child, step, first_moved, later_moved, freed_by, is_closed, at_group, is_place, child_takes, child_higher, IsWhole, bag_of_legal, Has, Has_from_Contains, is_place_same, is_place_itself, weight, mass, weight_append, mass_append, given_by, mass_of_journal, total, total_both, gives_before, open_legal, closed_below_root, parent_place, given_to_parent, freed_in, no_test}
+use Rattle.shr_assemble.proofs.Gathering.{weighs}
+use Rattle.shr_assemble.proofs.Listed.{contains_among}
 use Rattle.shr_model.specs.Families.{lists_moved, IsPaired}
 use Rattle.shr_model.specs.Items.{items_from, freed_from, moved_from, AreOutcomes}
 use Rattle.shr_model.proofs.Weights.{taken_from, given_from}
-use Rattle.shr_list.proofs.Scans.{not_made}
 
 -- what a list held after the first entries, and what it took in later, is freed, given away or left
 pub mid_weighs : (w : Serial → ℕ) (moved : List (List Object)) (items : List Object) (es : List Entry) (n : ℕ) → AreOutcomes moved items es
@@ -37,11 +38,6 @@ taken_later w took (e ∷ es) (suc n) child has not = taken_later w took es n ch
 terms_most : {A : Type 0} (f g : A → ℕ) → ((x : A) → f x ≤ g x) → (xs : List A) → total f xs ≤ total g xs
 terms_most f g h [] = omega arith
 terms_most f g h (x ∷ xs) = omega (arith, h x, terms_most f g h xs)
-
-term_most : {A : Type 0} (f : A → ℕ) (xs : List A) (x : A) → Has xs x → f x ≤ total f xs
-term_most f [] x has = absurd has
-term_most f (y ∷ ys) x (inl e) = let same = ap f e in omega (arith, same)
-term_most f (y ∷ ys) x (inr has) = omega (arith, term_most f ys x has)
 
 three : (a c d : Bool) (v : ℕ) → (a ≡ true → (c ≡ false) × (d ≡ true)) → (c ≡ true → d ≡ true) → cond a v 0 + cond c v 0 ≤ cond d v 0
 three true true d v one other = absurd (let e : true ≡ false = (one refl).0 in cc)
@@ -86,7 +82,7 @@ module _ (w : Serial → ℕ) (parents : List ℕ) (tree : IsTree parents) (fami
   own_share : (q : Place) → kept q ≤ total (λ (z : Place). cond (is_place z q) (kept z) 0) places
   own_share q = ⊎_elim (λ none. let zero_is = kept_none q none in omega (arith, zero_is))
       (λ has. let same : cond (is_place q q) (kept q) 0 ≡ kept q = ap (λ (b : Bool). cond b (kept q) 0) (is_place_itself q) in
-      omega (arith, same, term_most (λ (z : Place). cond (is_place z q) (kept z) 0) places q (Has_from_Contains places q has)))
+      omega (arith, same, weighs (λ (z : Place). cond (is_place z q) (kept z) 0) places q (contains_among places q has)))
       (whole.others q)
 
   with_own : (p : Place) (g b : ℕ) → b ≤ g → kept (at_group p g) + below p b ≤ below p (suc g)
@@ -97,7 +93,7 @@ module _ (w : Serial → ℕ) (parents : List ℕ) (tree : IsTree parents) (fami
     terms_most (λ (z : Place). cond (is_place z (at_group p g)) (kept z) 0 + cond (near p b z) (kept z) 0) (λ (z : Place). cond (near p (suc g) z) (kept z) 0)
         (λ z. three (is_place z (at_group p g)) (near p b z) (near p (suc g) z) (kept z)
         (λ e. let same = is_place_same z (at_group p g) e in let group : z.group ≡ g = ap (λ (y : Place). y.group) same in
-        (not_made (near p b z) (λ h. let t = (near_parts p b z h).2 in omega (arith, t, group, le)), near_from p (suc g) z (ap (λ (y : Place). y.id) same) (ap (λ (y : Place). y.node) same) (omega (arith, group))))
+        (no_test (near p b z) (λ h. let t = (near_parts p b z h).2 in omega (arith, t, group, le)), near_from p (suc g) z (ap (λ (y : Place). y.id) same) (ap (λ (y : Place). y.node) same) (omega (arith, group))))
         (λ h. let t = near_parts p b z h in let lt = t.2 in near_from p (suc g) z t.0 t.1 (omega (arith, lt, le)))) places,
   )
 

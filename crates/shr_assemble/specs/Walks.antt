@@ -1,5 +1,5 @@
 -- The walks of a command.
-use Rattle.std.specs.Prelude.{◌≡◌, ◌≢◌, ℕ, ◌+◌, ◌<◌, ◌≤◌, Bool, true, false, ◌==◌, List, [], length, map, filter, flat_map, count_by, slice_get, Option, Some, None, is_some, AllPairs}
+use Rattle.std.specs.Prelude.{◌≡◌, ◌≢◌, ℕ, ◌+◌, ◌<◌, ◌≤◌, true, false, ◌==◌, List, [], length, map, filter, flat_map, count_by, slice_get, Option, Some, None, is_some, AllPairs}
 use Rattle.std.specs.List.{AllByRecursion, range_with_len, list_any}
 use Rattle.shr_base.specs.declared.journals.UseStep.{UseStep}
 use Rattle.shr_base.specs.declared.replies.Reply.TheVariants as reply
@@ -9,10 +9,7 @@ use Rattle.shr_base.specs.declared.scripts.Script.{Script}
 use Rattle.shr_base.specs.declared.scripts.Sweep.{Sweep}
 use Rattle.shr_base.specs.declared.walks.Attempt.{Attempt}
 use Rattle.shr_base.specs.declared.walks.Ending.TheVariants as ending
-use Rattle.shr_base.specs.declared.walks.GoneThen.TheVariants as gone
 use Rattle.shr_base.specs.declared.walks.MapSeen.{MapSeen}
-use Rattle.shr_base.specs.declared.walks.Outcome.{Outcome}
-use Rattle.shr_base.specs.declared.walks.Outcome.TheVariants as outcome
 use Rattle.shr_base.specs.declared.walks.PassRecord.{PassRecord}
 use Rattle.shr_base.specs.declared.walks.WalkAnswer.TheVariants.{Walked, Offline}
 use Rattle.shr_base.specs.Walks.{WalkRecord}
@@ -30,6 +27,7 @@ use Rattle.shr_charge.specs.declared.answers.GroupState.TheVariants as state
 use Rattle.shr_core.specs.Layout.{map_number}
 use Rattle.shr_core.specs.Parts.{Counted, Mapped}
 use Rattle.shr_walk.specs.Fresh.{AreFresh}
+use Rattle.shr_walk.specs.Records.{is_setting}
 use Rattle.shr_report.specs.Parts.{parents_of, limit_of, EachAttempt}
 use Rattle.shr_report.specs.LawfulWalk.{IsBegun, IsLastOfCut, IsPlaced}
 use Rattle.shr_report.specs.Swept.{IsSwept}
@@ -77,13 +75,6 @@ mapped_in w = map (λ (m : MapSeen). (map_number w.node w.group m.unit, m.bits))
 -- the places whose bits it tells to be cleared
 abbrev pub cleared_by_walk : WalkRecord → List ℕ
 cleared_by_walk w = map place_number (clearings_of w)
-
--- the attempt set the bit of its place again, as it had cleared it and its id was there, or its list had an object
-abbrev pub is_setting : Outcome → Bool
-is_setting (outcome.Gone number gone.Set) = true
-is_setting (outcome.RestoredSkip number first len version) = true
-is_setting (outcome.RestoredRan number first pass) = true
-is_setting o = false
 
 -- the places whose bits it tells to be set again
 abbrev pub set_by_walk : WalkRecord → List ℕ

@@ -5,7 +5,7 @@ use Rattle.std.specs.List.{AllByRecursion}
 use Rattle.shr_model.specs.Bits.{is_set}
 use Rattle.shr_model.specs.Places.{bit_of, unit_of}
 use Rattle.shr_report.specs.Numbers.{HasNumbers, IsMapNumbered}
-use Rattle.shr_model.proofs.Booleans.{same_test}
+use Rattle.shr_model.proofs.Booleans.{same_test, none_unless}
 
 clash : (b : Bool) → b ≡ true → b ≡ false → ⊥
 clash b e f = cc
@@ -84,10 +84,6 @@ module _ (key : ℕ) where
 
 -- ---- a table of words, one more
 
-none_of : (o : Option ℕ) → is_some o ≡ false → o ≡ None
-none_of None e = refl
-none_of (Some n) e = cc
-
 module _ (maps : List MapEnd) (m : MapEnd) (w : Words) (k : ℕ) (are : AreWords maps w) (is : k ≡ map_key m) where
   pub words_kept : is_some (get nat_eq w k) ≡ true → AreWords (maps ++ m ∷ []) w
   words_kept some key = dite (ℕ_discrete (map_key m) key)
@@ -99,7 +95,7 @@ module _ (maps : List MapEnd) (m : MapEnd) (w : Words) (k : ℕ) (are : AreWords
     where
       own : map_key m ≡ key → get nat_eq v key ≡ word_at key (maps ++ m ∷ [])
       own same = puts key ∙ (ap (λ b. cond b (Some m.bits) (get nat_eq w key)) (eq-eqb k key (is ∙ same))
-          ∙ sym (word_own key maps m same (sym (are key) ∙ (ap (get nat_eq w) (sym (is ∙ same)) ∙ none_of (get nat_eq w k) none))))
+          ∙ sym (word_own key maps m same (sym (are key) ∙ (ap (get nat_eq w) (sym (is ∙ same)) ∙ none_unless (get nat_eq w k) none))))
 
       other : (map_key m ≡ key → ⊥) → get nat_eq v key ≡ word_at key (maps ++ m ∷ [])
       other ne = puts key ∙ (ap (λ b. cond b (Some m.bits) (get nat_eq w key)) (ne_eqb k key (λ same. ne (sym is ∙ same))) ∙ (are key ∙ sym (word_other key maps m ne)))

@@ -9,6 +9,7 @@ use Rattle.shr_audit_charges.proofs.Pushed.{push_each, here_each, split_at, set_
 use Rattle.shr_model.proofs.Booleans.{both_and}
 use Rattle.std.proofs.Math.Bool.{or-true, or-false}
 use Rattle.shr_model.proofs.Lists.{position_push}
+use Rattle.shr_model.proofs.Booleans.{none_unless}
 
 -- ---- the first entry of a kind
 
@@ -19,10 +20,6 @@ found_at p i (x ∷ xs) t = by_bool (p x) refl t (found_at p (i + 1) xs)
     by_bool : (b : Bool) → p x ≡ b → is_some (cond b (Some i) (position_from p (i + 1) xs)) ≡ true → (is_some (position_from p (i + 1) xs) ≡ true → (n : ℕ) × ((e : TreeEntry) × ((slice_get xs n ≡ Some e) × (p e ≡ true)))) → (n : ℕ) × ((e : TreeEntry) × ((slice_get (x ∷ xs) n ≡ Some e) × (p e ≡ true)))
     by_bool true here t later = (0, (x, (refl, here)))
     by_bool false not t later = let r = later t in (suc r.0, (r.1.0, r.1.1))
-
-none_of : {A : Type 0} (o : Option A) → is_some o ≡ false → o ≡ None
-none_of None f = refl
-none_of (Some x) f = absurd (let no : true ≡ false = f in cc)
 
 of_none : {A : Type 0} (o : Option A) → o ≡ None → is_some o ≡ false
 of_none o e = ap is_some e
@@ -191,7 +188,7 @@ module _ (parents : List ℕ) (later : List Bool) (es : List TreeEntry) (xs : Li
         below = above;
         there = there_at g x at;
         made = sym (ap (λ (v : GroupState). v.made) is) ∙ made;
-        once = none_of (begin_of es g) (sym (ap (λ (v : GroupState). v.begun) is) ∙ begun);
+        once = none_unless (begin_of es g) (sym (ap (λ (v : GroupState). v.begun) is) ∙ begun);
         children = none_undone g none;
       }
 
@@ -204,7 +201,7 @@ module _ (parents : List ℕ) (later : List Bool) (es : List TreeEntry) (xs : Li
   to_done g (x, (at, (begun, done))) =
       let is = are.each g x at in record {
         begun = sym (ap (λ (v : GroupState). v.begun) is) ∙ begun;
-        once = none_of (done_of es g) (sym (ap (λ (v : GroupState). v.done) is) ∙ done);
+        once = none_unless (done_of es g) (sym (ap (λ (v : GroupState). v.done) is) ∙ done);
       }
 
   begun_there : IsTreeJournal h es → (g : ℕ) → is_some (begin_of es g) ≡ true → g < length parents
@@ -226,9 +223,9 @@ module _ (parents : List ℕ) (later : List Bool) (es : List TreeEntry) (xs : Li
       let up = are.each (parent_of parents g) y above in record {
         there = there_at g x at;
         late = late;
-        once = none_of (made_of es g) (sym (ap (λ (b : Bool). not b || is_some (made_of es g)) late) ∙ (sym (ap (λ (v : GroupState). v.made) is) ∙ made));
+        once = none_unless (made_of es g) (sym (ap (λ (b : Bool). not b || is_some (made_of es g)) late) ∙ (sym (ap (λ (v : GroupState). v.made) is) ∙ made));
         parent = sym (ap (λ (v : GroupState). v.made) up) ∙ parent;
-        online = none_of (begin_of es (parent_of parents g)) (sym (ap (λ (v : GroupState). v.begun) up) ∙ begun);
+        online = none_unless (begin_of es (parent_of parents g)) (sym (ap (λ (v : GroupState). v.begun) up) ∙ begun);
       }
 
   parent_there : IsTree parents → (g : ℕ) → g < length parents → parent_of parents g < length parents

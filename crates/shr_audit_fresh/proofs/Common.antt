@@ -20,7 +20,7 @@ pub use Rattle.shr_base.specs.declared.replies.Answered.{Answered}
 pub use Rattle.shr_base.specs.declared.replies.Reply.{Reply}
 pub use Rattle.shr_base.specs.declared.scripts.Script.{Script}
 pub use Rattle.shr_base.specs.Walks.{WalkRecord}
-pub use Rattle.shr_case.proofs.Order.{or_left, or_right}
+pub use Rattle.std.proofs.lemmas.Bool.{or_left, or_right}
 pub use Rattle.shr_formed.proofs.Eachs.{fails}
 pub use Rattle.shr_formed.specs.Each.{EachItem}
 pub use Rattle.shr_model.proofs.Lists.{all_both, some_injective, some_same, zero_more}

@@ -3,7 +3,7 @@ use Rattle.shr_audit_rows.proofs.Common.{◌≡◌, ℕ, zero, suc, ◌+◌, ◌
 use Rattle.shr_base.specs.declared.journals.PoolEntry.TheVariants.{Registered, Unregistered, Idle}
 use Rattle.shr_model.specs.Pool.{decl_from, decl_of, is_free, is_live, is_live_below, lowest_free, phase_of}
 use Rattle.shr_model.proofs.PoolLaws.{decl_from_push, one_of, phase_of_push, phase_few}
-use Rattle.shr_case.proofs.Order.{or_right}
+use Rattle.std.proofs.lemmas.Bool.{or_right}
 
 -- ---- at the start
 

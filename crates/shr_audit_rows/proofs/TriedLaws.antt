@@ -181,7 +181,3 @@ tries_all uses all n tried counts is over t = subst (λ (us : List UseStep). Are
 -- a group has no more operations than there are
 pub uses_few : (uses : List UseStep) (group : ℕ) → length (tried_uses uses group) ≤ length uses
 uses_few uses group = (let e = length-filter (λ (o : UseStep). o.group == group) uses in let le = count_by-le-length (λ (o : UseStep). o.group == group) uses in omega (arith, e, le))
-
-pub up_of : (b : Bool) → not b ≡ false → b ≡ true
-up_of true e = refl
-up_of false e = absurd cc

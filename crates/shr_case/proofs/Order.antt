@@ -3,14 +3,7 @@ use Rattle.shr_case.proofs.Common.{◌≡◌, ◌≢◌, ℕ, zero, suc, ◌+◌
 use Rattle.std.specs.List.Sorted.{IsPartitionedBy}
 use Rattle.shr_case.proofs.Firsts.{none_found}
 use Rattle.shr_report.proofs.Reading.{either}
-
-pub or_left : (a b : Bool) → a ≡ true → (a || b) ≡ true
-or_left true b e = refl
-or_left false b e = absurd (cc)
-
-pub or_right : (a b : Bool) → b ≡ true → (a || b) ≡ true
-or_right true b e = refl
-or_right false b e = e
+use Rattle.std.proofs.lemmas.Bool.{or_left, or_right}
 
 -- the test says what it is named after
 pub before_from_test : (p q : Place) → comes_before p q ≡ true → IsPlaceBefore p q

@@ -7,7 +7,7 @@ use Rattle.shr_report.specs.Lines.{numbered}
 use Rattle.shr_report.specs.AnswerText.{reply_line, found_lines}
 use Rattle.shr_report.specs.Text.{is_walk_of, is_carry_of, is_plain_of, is_isolation_of, Logs, log_lines, after_command, logs_of, answer_lines}
 use Rattle.shr_report.proofs.PartsBack.{Remain, now_of, none_left}
-use Rattle.shr_report.proofs.WorkersBack.{AreParts, LastAnswers, of_commands, silent, zero_on}
+use Rattle.shr_report.proofs.WorkersBack.{AreParts, LastAnswers, last_later, of_commands, silent, zero_on}
 use Rattle.shr_reader.specs.declared.said.Said.TheVariants as said
 use Rattle.shr_reader.specs.declared.kinds.Kind.TheVariants as kind
 use Rattle.shr_reader.specs.declared.kinds.PlainKind.TheVariants as plain
@@ -276,9 +276,6 @@ few_of w n h = omega arith
 
 few_later : (w n : ℕ) → w + suc n ≤ 2 ^ 16 → (w + 1) + n ≤ 2 ^ 16
 few_later w n h = omega arith
-
-last_later : (p : WorkerPart) (ps : List WorkerPart) → LastAnswers (p ∷ ps) → LastAnswers ps
-last_later p ps h before q e = h (p ∷ before) q (ap (λ (x : List WorkerPart). p ∷ x) e)
 
 -- the lines of parts lead to them, where those before that are left out had no answer
 parts_lead : (h : Head) (w m : ℕ) (front done : List WorkerPart) (p : WorkerPart) (ps : List WorkerPart) (us : List Answered) → p.answers.items ≡ us → done ≡ front ++ replicate m no_part → length done ≡ w → w + length (p ∷ ps) ≤ 2 ^ 16

@@ -7,7 +7,7 @@ use Rattle.shr_script.proofs.BoundsLaws.{within_of_valid}
 use Rattle.shr_walk.specs.Sharing.{IsShared}
 
 -- one of many
-one_of : {A : Type 0} (P : A → Type 0) (xs : List A) (n : ℕ) (y : A) → AllByRecursion P xs → slice_get xs n ≡ Some y → P y
+pub one_of : {A : Type 0} (P : A → Type 0) (xs : List A) (n : ℕ) (y : A) → AllByRecursion P xs → slice_get xs n ≡ Some y → P y
 one_of P [] n y all at = absurd (cc)
 one_of P (x ∷ xs) zero y all at = let same : x ≡ y = cc in subst P same all.0
 one_of P (x ∷ xs) (suc n) y all at = one_of P xs n y all.1 at
