@@ -50,7 +50,7 @@ pub use Rattle.shr_base.specs.declared.scripts.PoolDecl.{PoolDecl}
 pub use Rattle.shr_base.specs.declared.scripts.Script.{Script}
 pub use Rattle.shr_base.specs.declared.scripts.Sweep.{Sweep}
 pub use Rattle.shr_base.specs.declared.scripts.WorkerScript.{WorkerScript}
-pub use Rattle.shr_base.specs.declared.walks.Attempt.{Attempt}
+pub use Rattle.shr_base.specs.Walks.{Attempt, WalkRecord}
 pub use Rattle.shr_base.specs.declared.walks.Carry.{Carry}
 pub use Rattle.shr_base.specs.declared.walks.Ending.{Ending}
 pub use Rattle.shr_base.specs.declared.walks.Isolation.{Isolation}
@@ -58,7 +58,6 @@ pub use Rattle.shr_base.specs.declared.walks.MapSeen.{MapSeen}
 pub use Rattle.shr_base.specs.declared.walks.Outcome.{Outcome}
 pub use Rattle.shr_base.specs.declared.walks.PassRecord.{PassRecord}
 pub use Rattle.shr_base.specs.declared.walks.WalkAnswer.{WalkAnswer}
-pub use Rattle.shr_base.specs.Walks.{WalkRecord}
 pub use Rattle.shr_cache.specs.Puts.{Asks, PutAs, PutFrom, PutNone, Puts, PutsInVain}
 pub use Rattle.shr_charge.proofs.Beginnings.{each_one}
 pub use Rattle.shr_charge.proofs.Entries.{begin_grows, begun_made, is_made_grows, made_new}

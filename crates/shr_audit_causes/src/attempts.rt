@@ -10,9 +10,10 @@ ghost use Rattle.shr_report.specs.Causes.{IsSpent};
 ghost use Rattle.shr_report.specs.Parts.{EachAttempt, EachWalk, lookups_at};
 ghost use Rattle.shr_audit_causes.specs.Walks.{IsAttemptCaused, IsWornRightly};
 
+use shr_base::attempts::Attempt;
 use shr_base::ends::WorkerPart;
 use shr_base::scripts::Script;
-use shr_base::walks::{Attempt, Outcome, WalkRecord};
+use shr_base::walks::{Outcome, WalkRecord};
 use shr_report::report::Report;
 
 // The printed lookups of an id.
@@ -42,7 +43,7 @@ pub fn are_lookups_spent(
 fn is_worn_rightly(script: &Script, report: &Report, worker: usize, attempt: &Attempt) -> bool
     ensures { Decides result (IsAttemptCaused script.now report.now worker attempt.now) }
 {
-    match attempt.outcome {
+    match attempt.outcome() {
         Outcome::Worn { seen } => are_lookups_spent(script, report, worker, attempt.id, seen),
         _ => true,
     }

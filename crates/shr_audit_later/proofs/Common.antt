@@ -14,9 +14,8 @@ pub use Rattle.shr_base.specs.declared.ends.WorkerPart.{WorkerPart}
 pub use Rattle.shr_base.specs.declared.places.At.{At}
 pub use Rattle.shr_base.specs.declared.places.Place.{Place}
 pub use Rattle.shr_base.specs.declared.replies.Answered.{Answered}
-pub use Rattle.shr_base.specs.declared.walks.Attempt.{Attempt}
+pub use Rattle.shr_base.specs.Walks.{Attempt, WalkRecord}
 pub use Rattle.shr_base.specs.declared.walks.MapSeen.{MapSeen}
-pub use Rattle.shr_base.specs.Walks.{WalkRecord}
 pub use Rattle.shr_case.proofs.Eachs.{decides_iff, each_walk_of}
 pub use Rattle.shr_case.specs.Each.{InParts}
 pub use Rattle.shr_formed.proofs.Eachs.{all_at, all_of, clash, each_all, each_in, each_more, each_weaker}

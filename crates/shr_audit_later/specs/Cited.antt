@@ -7,9 +7,8 @@ use Rattle.shr_base.specs.declared.places.At.{At}
 use Rattle.shr_base.specs.declared.places.Place.{Place}
 use Rattle.shr_base.specs.declared.replies.Answered.{Answered}
 use Rattle.shr_base.specs.declared.replies.Reply.{Reply}
-use Rattle.shr_base.specs.declared.walks.Attempt.{Attempt}
+use Rattle.shr_base.specs.Walks.{Attempt, WalkRecord}
 use Rattle.shr_base.specs.declared.walks.Outcome.{Outcome}
-use Rattle.shr_base.specs.Walks.{WalkRecord}
 use Rattle.shr_formed.specs.Each.{EachItem}
 use Rattle.shr_model.specs.Attempts.{counts_of}
 use Rattle.shr_model.specs.Walks.{place_in, versions_at}

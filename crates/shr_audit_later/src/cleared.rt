@@ -8,9 +8,10 @@ ghost use Rattle.shr_audit_later.specs.Cleared.{Clears, HasCleared, cleared_by};
 
 use shr_audit_versions::table::place_key;
 use shr_audit_versions::walks::place_in;
+use shr_base::attempts::Attempt;
 use shr_base::memory::Memory;
 use shr_base::places::Place;
-use shr_base::walks::{Attempt, GoneThen, Outcome, WalkRecord};
+use shr_base::walks::{GoneThen, Outcome, WalkRecord};
 use shr_report::report::Report;
 use std::alloc::Global;
 use std::collections::HashSet;
@@ -40,7 +41,7 @@ fn note_attempt(
 ) -> Result<(), Memory>
     ensures { OnOk result (Clears cleared.old cleared.new (cleared_by walk.now attempt.now)) }
 {
-    if !is_clearing(&attempt.outcome) {
+    if !is_clearing(&attempt.outcome()) {
         return Ok(());
     }
     let place = place_in(walk, attempt.id);

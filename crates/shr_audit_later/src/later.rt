@@ -55,7 +55,7 @@ fn is_walk_above(cited: &HashMap<u64, u32>, walk: &WalkRecord) -> bool
 {
     for attempt in walk.attempts() {
         let place = place_in(walk, attempt.id);
-        if !is_outcome_above(cited, place, &attempt.outcome) {
+        if !is_outcome_above(cited, place, &attempt.outcome()) {
             return false;
         }
     }

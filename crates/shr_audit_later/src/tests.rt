@@ -3,13 +3,14 @@
 use crate::cleared::note_walk;
 use crate::filled::{is_map_full, none_filled, set_bit};
 use crate::later::are_versions_later;
+use shr_base::attempts::Attempt;
 use shr_base::ends::WorkerPart;
 use shr_base::found::Found;
 use shr_base::log::Log;
 use shr_base::memory::Memory;
 use shr_base::places::{At, Place, Serial};
 use shr_base::replies::{Answered, Reply};
-use shr_base::walks::{Attempt, GoneThen, MapSeen, Outcome, WalkAnswer, WalkAsked, WalkRecord};
+use shr_base::walks::{GoneThen, MapSeen, Outcome, WalkAnswer, WalkAsked, WalkRecord};
 use shr_formed::formed::is_well_formed;
 use shr_report::report::Report;
 use std::alloc::Global;
@@ -25,10 +26,7 @@ const PLACE: Place = Place {
 // A walk of the command with this number, over the group of the place, with one attempt at its id.
 fn walk(alloc: Global, command: u32, outcome: Outcome) -> Result<WalkRecord, Memory> {
     let mut attempts = Vec::new(alloc);
-    attempts.push(Attempt {
-        id: PLACE.id,
-        outcome,
-    })?;
+    attempts.push(Attempt::new(PLACE.id, outcome))?;
     let asked = WalkAsked {
         by: Serial { worker: 0, command },
         group: PLACE.group,

@@ -1,6 +1,6 @@
 -- What attempts met, in the form in which it is tested.
 use Rattle.std.specs.Prelude.{◌≡◌, ℕ, Some, is_some}
-use Rattle.shr_base.specs.declared.walks.Attempt.{Attempt}
+use Rattle.shr_base.specs.Walks.{Attempt}
 use Rattle.shr_model.specs.Attempts.{number_of, is_held}
 use Rattle.shr_model.specs.Pool.{attempt_at}
 use Rattle.shr_report.specs.declared.report.Report.{Report}

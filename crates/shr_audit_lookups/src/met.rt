@@ -10,9 +10,10 @@ ghost use Rattle.shr_model.specs.Pool.{attempt_at, decl_at, registrations};
 ghost use Rattle.shr_registrations.specs.Met.{IsMetIn};
 ghost use Rattle.shr_audit_lookups.specs.Met.{AreMetRight, IsMetRight};
 
+use shr_base::attempts::Attempt;
 use shr_base::ends::WorkerPart;
 use shr_base::memory::Memory;
-use shr_base::walks::{Attempt, Outcome, WalkRecord};
+use shr_base::walks::{Outcome, WalkRecord};
 use shr_registrations::met::Met;
 use shr_report::report::Report;
 use std::alloc::Global;
@@ -81,10 +82,10 @@ fn is_met_right(report: &Report, met: &Met, attempt: &Attempt) -> bool
     requires { IsMetIn report.now.pool.items met.now }
     ensures { Decides result (IsMetRight report.now attempt.now) }
 {
-    match number_of(&attempt.outcome) {
+    match number_of(&attempt.outcome()) {
         Some(number) => {
             let there = is_met(report, met, attempt.id, number);
-            let held = is_held(&attempt.outcome);
+            let held = is_held(&attempt.outcome());
             held == there
         }
         None => true,

@@ -1,13 +1,14 @@
 //! Attempts that met what the journal of registrations says, and some that didn't.
 
 use crate::met::are_met_right;
+use shr_base::attempts::Attempt;
 use shr_base::ends::WorkerPart;
 use shr_base::found::Found;
 use shr_base::journals::PoolEntry;
 use shr_base::log::Log;
 use shr_base::memory::Memory;
 use shr_base::places::Serial;
-use shr_base::walks::{Attempt, GoneThen, Outcome, WalkAnswer, WalkAsked, WalkRecord};
+use shr_base::walks::{GoneThen, Outcome, WalkAnswer, WalkAsked, WalkRecord};
 use shr_report::report::Report;
 use std::alloc::Global;
 use std::test::Fail;
@@ -30,7 +31,7 @@ const fn gone(number: u32) -> Outcome {
 // A walk of one attempt at id 0.
 fn walk(alloc: Global, outcome: Outcome) -> Result<WalkRecord, Memory> {
     let mut attempts = Log::new(alloc);
-    attempts.add(Attempt { id: 0, outcome })?;
+    attempts.add(Attempt::new(0, outcome))?;
     let asked = WalkAsked {
         by: Serial {
             worker: 0,

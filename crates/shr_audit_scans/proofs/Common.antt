@@ -19,8 +19,7 @@ pub use Rattle.shr_base.specs.declared.journals.Entry.{Entry}
 pub use Rattle.shr_base.specs.declared.journals.Entry.TheVariants.{Add, Closed, Drained, Drop, Look, MovedIn, Pin, Scan}
 pub use Rattle.shr_base.specs.declared.objects.Policy.TheVariants.{Plain}
 pub use Rattle.shr_base.specs.declared.places.Place.{Place}
-pub use Rattle.shr_base.specs.declared.walks.Attempt.{Attempt}
-pub use Rattle.shr_base.specs.Walks.{WalkRecord}
+pub use Rattle.shr_base.specs.Walks.{Attempt, WalkRecord}
 pub use Rattle.shr_case.specs.Places.{IsFirst, end_printed}
 pub use Rattle.shr_formed.proofs.Eachs.{all_at, clash, each_in, fails, more_at, same_or_below}
 pub use Rattle.shr_model.proofs.Lists.{flat_all}

@@ -9,9 +9,10 @@ ghost use Rattle.shr_audit_scans.specs.Passes.{ArePassesOf, keys_at, keys_in, ke
 
 use crate::keys::key_of;
 use shr_audit_walks::alone::pass_of;
+use shr_base::attempts::Attempt;
 use shr_base::memory::Memory;
 use shr_base::places::Place;
-use shr_base::walks::{Attempt, WalkRecord};
+use shr_base::walks::WalkRecord;
 use shr_report::report::Report;
 use std::alloc::Global;
 
@@ -32,7 +33,7 @@ fn note_attempt(
     ensures { OnOk result (keys.new.items ≡ keys.old.items
         ++ keys_at worker n walk.now attempt.now) }
 {
-    if let Some(_pass) = pass_of(&attempt.outcome) {
+    if let Some(_pass) = pass_of(&attempt.outcome()) {
         let place = Place {
             id: attempt.id,
             node: walk.node,

@@ -17,10 +17,11 @@ use shr_audit_walks::kinds::{are_kinds, are_stops};
 use shr_audit_walks::met::cache_of;
 use shr_audit_walks::scans::{ScanSeen, are_scans_of};
 use shr_audit_walks::shape::is_shaped;
+use shr_base::attempts::Attempt;
 use shr_base::memory::Memory;
 use shr_base::places::Place;
 use shr_base::scripts::{CacheDecl, Script};
-use shr_base::walks::{Attempt, PassRecord, WalkRecord};
+use shr_base::walks::{PassRecord, WalkRecord};
 use shr_case::case::Case;
 use shr_registrations::met::Met;
 use shr_report::report::Report;
@@ -64,7 +65,7 @@ fn is_scanned_at(known: &Known, worker: u16, n: usize, walk: &WalkRecord, attemp
     ensures { Decides result (IsScannedAt known.now.script.now known.now.report.now
         worker n walk.now attempt.now) }
 {
-    let Some(pass) = pass_of(&attempt.outcome) else {
+    let Some(pass) = pass_of(&attempt.outcome()) else {
         return true;
     };
     let Some(decl) = cache_of(known.script, known.report, known.met, attempt) else {
@@ -81,9 +82,8 @@ fn are_scanned(known: &Known, worker: u16, n: usize, walk: &WalkRecord) -> bool
     ensures { Decides result (EachItem (IsScannedAt known.now.script.now known.now.report.now
         worker n walk.now) walk.now.attempts.items) }
 {
-    let attempts = walk.attempts();
-    for k in 0..attempts.len() {
-        if !is_scanned_at(known, worker, n, walk, &attempts[k]) {
+    for attempt in walk.attempts() {
+        if !is_scanned_at(known, worker, n, walk, attempt) {
             return false;
         }
     }

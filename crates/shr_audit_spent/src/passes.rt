@@ -14,10 +14,11 @@ ghost use Rattle.shr_audit_spent.specs.Passes.{ArePassesCaused, IsRunCaused};
 
 use crate::counted::Counted;
 use crate::spent::{is_closed_at, is_ending_right};
+use shr_base::attempts::Attempt;
 use shr_base::ends::WorkerPart;
 use shr_base::places::Place;
 use shr_base::scripts::Script;
-use shr_base::walks::{Attempt, Outcome, PassRecord, WalkRecord};
+use shr_base::walks::{Outcome, PassRecord, WalkRecord};
 use shr_report::report::Report;
 
 // The pass that an attempt ran to its end, if it did.
@@ -70,7 +71,7 @@ fn is_run_caused(
         node: walk.node,
         group: walk.group,
     };
-    match pass_of(&attempt.outcome) {
+    match pass_of(&attempt.outcome()) {
         Some(pass) => is_pass_caused(script, report, counted, worker, place, &pass),
         None => true,
     }

@@ -17,9 +17,8 @@ pub use Rattle.shr_base.specs.declared.journals.PoolEntry.TheVariants.{Idle, Reg
 pub use Rattle.shr_base.specs.declared.places.Place.{Place}
 pub use Rattle.shr_base.specs.declared.replies.Answered.{Answered}
 pub use Rattle.shr_base.specs.declared.scripts.Script.{Script}
-pub use Rattle.shr_base.specs.declared.walks.Attempt.{Attempt}
+pub use Rattle.shr_base.specs.Walks.{Attempt, WalkRecord}
 pub use Rattle.shr_base.specs.declared.walks.Carry.{Carry}
-pub use Rattle.shr_base.specs.Walks.{WalkRecord}
 pub use Rattle.shr_formed.proofs.Eachs.{all_of, below_of, each_all, each_in, each_more, more_at, unmapped}
 pub use Rattle.shr_formed.specs.Each.{EachItem}
 pub use Rattle.shr_model.proofs.Lists.{added_to, all_front, all_right, flat_all, flat_one, map_end, some_at}

@@ -9,10 +9,11 @@ ghost use Rattle.shr_report.specs.WellFormed.{IsWellFormed};
 ghost use Rattle.shr_formed.specs.Each.{EachItem};
 ghost use Rattle.shr_audit_tables.specs.Draws.{AreDrawnOnce, IsDrawn, answer_draws, attempt_draws, draw_key, drawn_move, part_draws, walk_draws, wanted_move, wanted_from};
 
+use shr_base::attempts::Attempt;
 use shr_base::ends::WorkerPart;
 use shr_base::memory::Memory;
 use shr_base::replies::Answered;
-use shr_base::walks::{Attempt, Outcome, WalkRecord};
+use shr_base::walks::{Outcome, WalkRecord};
 use shr_report::report::Report;
 use shr_sums::moves::{Move, is_settled};
 use std::alloc::Global;
@@ -54,7 +55,7 @@ fn note_answer(keys: &mut Vec<u64>, answer: &Answered) -> Result<(), Memory>
 fn note_attempt(keys: &mut Vec<u64>, attempt: &Attempt) -> Result<(), Memory>
     ensures { OnOk result (keys.new.items ≡ keys.old.items ++ attempt_draws attempt.now) }
 {
-    if let Some(number) = number_of(&attempt.outcome) {
+    if let Some(number) = number_of(&attempt.outcome()) {
         keys.push(draw_key(attempt.id, number))?;
     }
     Ok(())

@@ -54,7 +54,7 @@ fn note_walk(versions: &mut HashMap<u64, u32>, walk: &WalkRecord) -> Result<bool
 {
     for attempt in walk.attempts() {
         let place = place_in(walk, attempt.id);
-        if !note_outcome(versions, place, &attempt.outcome)? {
+        if !note_outcome(versions, place, &attempt.outcome())? {
             return Ok(false);
         }
     }

@@ -12,10 +12,9 @@ pub use Rattle.std.specs.Prelude.{filter_map, min, nat_le, nat_lt, option_copied
 pub use Rattle.shr_base.specs.declared.ends.WorkerPart.{WorkerPart}
 pub use Rattle.shr_base.specs.declared.replies.Answered.{Answered}
 pub use Rattle.shr_base.specs.declared.scripts.Script.{Script}
-pub use Rattle.shr_base.specs.declared.walks.Attempt.{Attempt}
+pub use Rattle.shr_base.specs.Walks.{Attempt, WalkRecord}
 pub use Rattle.shr_base.specs.declared.walks.MapSeen.{MapSeen}
 pub use Rattle.shr_base.specs.declared.walks.PassRecord.{PassRecord}
-pub use Rattle.shr_base.specs.Walks.{WalkRecord}
 pub use Rattle.shr_formed.proofs.Eachs.{all_at, below_of, clash, each_all, each_more, each_weaker, fails, more_at}
 pub use Rattle.shr_formed.specs.Each.{EachItem, IsWorkerCommand}
 pub use Rattle.shr_model.specs.Attempts.{Count, as_count, counts_of, is_held, pass_of}

@@ -3,8 +3,7 @@ use Rattle.std.specs.Prelude.{◌≡◌, ℕ, ◌≤◌, List, length}
 use Rattle.std.specs.List.{AllByRecursion}
 use Rattle.shr_base.specs.declared.places.Place.{Place}
 use Rattle.shr_base.specs.declared.scripts.Script.{Script}
-use Rattle.shr_base.specs.declared.walks.Attempt.{Attempt}
-use Rattle.shr_base.specs.Walks.{WalkRecord}
+use Rattle.shr_base.specs.Walks.{Attempt, WalkRecord}
 use Rattle.shr_model.specs.Attempts.{Count, counts_of}
 use Rattle.shr_model.specs.Families.{items_at}
 use Rattle.shr_model.specs.Walks.{place_in}

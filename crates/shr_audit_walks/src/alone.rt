@@ -3,7 +3,7 @@
 ghost use Rattle.std.specs.Prelude.{◌≡◌, length, map, sum_by, IfOk};
 ghost use Rattle.std.specs.Bool.{Decides};
 ghost use Rattle.std.specs.List.{range_with_len};
-ghost use Rattle.shr_base.specs.declared.walks.Attempt.{Attempt};
+ghost use Rattle.shr_base.specs.Walks.{Attempt};
 ghost use Rattle.shr_base.specs.declared.walks.MapSeen.{MapSeen};
 ghost use Rattle.shr_model.specs.Attempts.{pass_of};
 ghost use Rattle.shr_model.specs.Bits.{units_of};
@@ -13,11 +13,10 @@ ghost use Rattle.shr_report.specs.LawfulWalk.{IsBegun, IsPlaced};
 ghost use Rattle.shr_audit_walks.specs.Fields.{AreFirstTries, AreTried, IsBareOffline, IsCutBegun, IsWalkMapped, IsOfRoot, IsRoomAt, IsRoomLast, IsWalkWhole, attempt_freed};
 
 use crate::seen::{ids_seen, tries_begin, tries_rise, units_rise};
+use shr_base::attempts::Attempt;
 use shr_base::memory::Memory;
 use shr_base::scripts::Script;
-use shr_base::walks::{
-    Attempt, Ending, GoneThen, MapSeen, Outcome, PassRecord, WalkAnswer, WalkRecord,
-};
+use shr_base::walks::{Ending, GoneThen, MapSeen, Outcome, PassRecord, WalkAnswer, WalkRecord};
 use std::alloc::Global;
 
 /// The pass of an attempt, if one ran. Our own.
@@ -193,7 +192,7 @@ pub fn is_cut_begun(alloc: Global, script: &Script, walk: &WalkRecord) -> Result
 fn is_room_at(walk: &WalkRecord, k: usize, attempt: &Attempt) -> bool
     ensures { Decides result (IsRoomAt walk.now k attempt.now) }
 {
-    let Some(pass) = pass_of(&attempt.outcome) else {
+    let Some(pass) = pass_of(&attempt.outcome()) else {
         return true;
     };
     if pass.ending != Ending::NoRoom {
@@ -237,7 +236,7 @@ pub fn are_placed(group: u16, attempts: &[Attempt]) -> bool
     ensures { Decides result (EachItem (λ a. IsPlaced group a.outcome) attempts.now) }
 {
     for attempt in attempts {
-        if !is_placed(group, &attempt.outcome) {
+        if !is_placed(group, &attempt.outcome()) {
             return false;
         }
     }
@@ -248,7 +247,7 @@ pub fn are_placed(group: u16, attempts: &[Attempt]) -> bool
 fn freed_in(attempt: &Attempt) -> u64
     ensures { result ≡ attempt_freed attempt.now }
 {
-    match pass_of(&attempt.outcome) {
+    match pass_of(&attempt.outcome()) {
         Some(pass) => pass.freed,
         None => 0,
     }

@@ -73,10 +73,9 @@ fn are_all_right(case: &Case, report: &Report, walk: &WalkRecord) -> bool
     ensures { Decides result (EachItem (AreCountsIn case.now.parents.items report.now walk.now)
         walk.now.attempts.items) }
 {
-    let attempts = walk.attempts();
-    for k in 0..attempts.len() {
-        let place = place_in(walk, attempts[k].id);
-        if !are_right(case, report, place, &attempts[k].outcome) {
+    for attempt in walk.attempts() {
+        let place = place_in(walk, attempt.id);
+        if !are_right(case, report, place, &attempt.outcome()) {
             return false;
         }
     }

@@ -9,8 +9,9 @@ ghost use Rattle.shr_registrations.specs.Met.{IsMetIn};
 use crate::alone::pass_of;
 use crate::met::{cache_of, is_held};
 use crate::passes::{is_outcome_of, is_stopped};
+use shr_base::attempts::Attempt;
 use shr_base::scripts::Script;
-use shr_base::walks::{Attempt, WalkRecord};
+use shr_base::walks::WalkRecord;
 use shr_registrations::met::Met;
 use shr_report::report::Report;
 
@@ -19,11 +20,11 @@ fn is_kind_at(script: &Script, report: &Report, met: &Met, priority: u8, attempt
     requires { IsMetIn report.now.pool.items met.now }
     ensures { Decides result (IsKindAt script.now report.now priority attempt.now) }
 {
-    if !is_held(&attempt.outcome) {
+    if !is_held(&attempt.outcome()) {
         return true;
     }
     match cache_of(script, report, met, attempt) {
-        Some(decl) => is_outcome_of(priority, decl, &attempt.outcome),
+        Some(decl) => is_outcome_of(priority, decl, &attempt.outcome()),
         None => false,
     }
 }
@@ -39,7 +40,7 @@ fn is_stop_at(
     requires { IsMetIn report.now.pool.items met.now }
     ensures { Decides result (IsStopAt script.now report.now walk.now attempt.now) }
 {
-    let Some(pass) = pass_of(&attempt.outcome) else {
+    let Some(pass) = pass_of(&attempt.outcome()) else {
         return true;
     };
     match cache_of(script, report, met, attempt) {
@@ -59,8 +60,8 @@ fn are_kinds_at(
     requires { IsMetIn report.now.pool.items met.now }
     ensures { Decides result (EachItem (IsKindAt script.now report.now priority) attempts.now) }
 {
-    for k in 0..attempts.len() {
-        if !is_kind_at(script, report, met, priority, &attempts[k]) {
+    for attempt in attempts {
+        if !is_kind_at(script, report, met, priority, attempt) {
             return false;
         }
     }
@@ -85,9 +86,8 @@ pub fn are_stops(script: &Script, report: &Report, met: &Met, walk: &WalkRecord)
     ensures { Decides result (EachItem (IsStopAt script.now report.now walk.now)
         walk.now.attempts.items) }
 {
-    let attempts = walk.attempts();
-    for k in 0..attempts.len() {
-        if !is_stop_at(script, report, met, walk, &attempts[k]) {
+    for attempt in walk.attempts() {
+        if !is_stop_at(script, report, met, walk, attempt) {
             return false;
         }
     }

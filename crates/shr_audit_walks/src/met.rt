@@ -7,8 +7,9 @@ ghost use Rattle.shr_report.specs.LawfulWalk.{cache_of};
 ghost use Rattle.shr_report.specs.Parts.{lookups_at};
 ghost use Rattle.shr_registrations.specs.Met.{IsMetIn};
 
+use shr_base::attempts::Attempt;
 use shr_base::scripts::{CacheDecl, Script};
-use shr_base::walks::{Attempt, Outcome};
+use shr_base::walks::Outcome;
 use shr_registrations::met::Met;
 use shr_report::report::Report;
 
@@ -65,7 +66,7 @@ pub fn cache_of<'a>(
     requires { IsMetIn report.now.pool.items met.now }
     ensures { option_copied result ≡ cache_of script.now report.now attempt.now }
 {
-    let Some(number) = number_of(&attempt.outcome) else {
+    let Some(number) = number_of(&attempt.outcome()) else {
         return None;
     };
     if number >= lookups_at(report, attempt.id) {

@@ -3,13 +3,14 @@
 ghost use Rattle.std.specs.Prelude.{◌≡◌, ◌+◌, ◌<◌, ◌/◌, ◌++◌, ◌∷◌, [], filter, flat_map, map, OnOk, IfOk};
 ghost use Rattle.std.specs.Bool.{Decides};
 ghost use Rattle.std.specs.List.{range_with_len};
-ghost use Rattle.shr_base.specs.declared.walks.Attempt.{Attempt};
+ghost use Rattle.shr_base.specs.Walks.{Attempt};
 ghost use Rattle.shr_base.specs.declared.walks.MapSeen.{MapSeen};
 ghost use Rattle.shr_model.specs.Bits.{ids_in, is_set, units_of};
 ghost use Rattle.shr_model.specs.Prefixes.{IsPrefixOf};
 
+use shr_base::attempts::Attempt;
 use shr_base::memory::Memory;
-use shr_base::walks::{Attempt, MapSeen};
+use shr_base::walks::MapSeen;
 use std::alloc::Global;
 
 // Whether a bit of a word is 1.
@@ -52,7 +53,8 @@ pub fn tries_begin(attempts: &[Attempt], ids: &[u16]) -> bool
         return false;
     }
     for i in 0..attempts.len() {
-        if attempts[i].id != ids[i] {
+        let attempt = &attempts[i];
+        if attempt.id != ids[i] {
             return false;
         }
     }
@@ -68,7 +70,8 @@ pub fn tries_rise(attempts: &[Attempt], ids: u16) -> bool
         return false;
     }
     for i in 0..attempts.len() {
-        if attempts[i].id as usize != i {
+        let attempt = &attempts[i];
+        if attempt.id as usize != i {
             return false;
         }
     }

@@ -1,13 +1,14 @@
 //! Walks that show what a lawful one does, and walks that each break one field.
 
 use crate::shape::is_shaped;
+use shr_base::attempts::Attempt;
 use shr_base::found::Found;
 use shr_base::log::Log;
 use shr_base::memory::Memory;
 use shr_base::places::Serial;
 use shr_base::scripts::Script;
 use shr_base::walks::{
-    Attempt, Ending, GoneThen, MapSeen, Outcome, PassRecord, WalkAnswer, WalkAsked, WalkRecord,
+    Ending, GoneThen, MapSeen, Outcome, PassRecord, WalkAnswer, WalkAsked, WalkRecord,
 };
 use std::alloc::Global;
 use std::test::Fail;
@@ -85,10 +86,7 @@ fn walk(alloc: Global, case: &Case) -> Result<WalkRecord, Memory> {
     let mut attempts = Vec::new(alloc);
     for id in 0..3u16 {
         if (case.tried >> id) % 2 == 1 {
-            attempts.push(Attempt {
-                id,
-                outcome: case.outcome,
-            })?;
+            attempts.push(Attempt::new(id, case.outcome))?;
         }
     }
     let asked = WalkAsked {

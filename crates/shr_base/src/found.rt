@@ -2,9 +2,10 @@
 
 ghost use Rattle.std.specs.Prelude.{◌≡◌, ◌+◌, ◌<◌, ◌≤◌, ◌++◌, ◌∷◌, [], IfOk, OnOk};
 
+use crate::attempts::Attempt;
 use crate::log::Log;
 use crate::memory::Memory;
-use crate::walks::{Attempt, MapSeen};
+use crate::walks::MapSeen;
 use std::alloc::Global;
 use std::marker::Model;
 

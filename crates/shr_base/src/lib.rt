@@ -4,6 +4,7 @@
 //! node, an id a shrinker's id, and a place one `struct list_lru_one`.
 #![tactic(auto)]
 
+pub mod attempts;
 pub mod ends;
 pub mod found;
 pub mod items;
@@ -11,6 +12,7 @@ pub mod journals;
 pub mod log;
 pub mod memory;
 pub mod objects;
+mod packed;
 pub mod places;
 pub mod replies;
 pub mod scripts;

@@ -3,6 +3,7 @@
 ghost use Rattle.std.specs.Prelude.{◌≡◌};
 ghost use Rattle.shr_base.specs.Walks.{walk_record};
 
+use crate::attempts::Attempt;
 use crate::found::Found;
 use crate::log::Log;
 use crate::places::{Place, Serial};
@@ -93,15 +94,6 @@ pub enum Outcome {
         first: u32,
         pass: PassRecord,
     },
-}
-
-/// An attempt of a walk at one id.
-///
-/// Linux: a turn of the loop in `shrink_slab_memcg` of mm/shrinker.c.
-#[derive(Clone, Copy, Debug, PartialEq, Eq)]
-pub struct Attempt {
-    pub id: u16,
-    pub outcome: Outcome,
 }
 
 /// A bit word as a walk loaded it. Bit i stands for the id 64 * unit + i.

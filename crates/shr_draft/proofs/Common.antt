@@ -14,13 +14,12 @@ pub use Rattle.shr_base.specs.declared.journals.PlainEntry.{PlainEntry}
 pub use Rattle.shr_base.specs.declared.objects.Object.{Object}
 pub use Rattle.shr_base.specs.declared.places.Serial.{Serial}
 pub use Rattle.shr_base.specs.declared.replies.Answered.{Answered}
-pub use Rattle.shr_base.specs.declared.walks.Attempt.{Attempt}
+pub use Rattle.shr_base.specs.Walks.{Attempt, WalkRecord}
 pub use Rattle.shr_base.specs.declared.walks.Carry.{Carry}
 pub use Rattle.shr_base.specs.declared.walks.Isolation.{Isolation}
 pub use Rattle.shr_base.specs.declared.walks.MapSeen.{MapSeen}
 pub use Rattle.shr_base.specs.declared.walks.PlainTry.{PlainTry}
 pub use Rattle.shr_base.specs.declared.walks.PlainWalk.{PlainWalk}
-pub use Rattle.shr_base.specs.Walks.{WalkRecord}
 pub use Rattle.shr_model.specs.Pieces.{cut, pieces}
 pub use Rattle.shr_reader.specs.Said.{IsReadOf, IsSaidNumbered, isolation_head_of, line_kind, plain_head_of, read_line, said_of}
 pub use Rattle.shr_reader.specs.declared.said.Said.{Said}

@@ -3,11 +3,12 @@
 ghost use Rattle.std.specs.Prelude.{◌≡◌, ◌-◌, ◌%◌, ◌^◌, [], length, IfOk};
 ghost use Rattle.shr_draft.specs.Draft.{drafted_parts, drafted_walks, padded, with_last, found_answer, seen_walk, tried_walk, with_reply, with_found, with_walk, with_seen, with_attempt, with_carry, plains_of, passed_walk, with_isolation, with_plain, with_pass};
 
+use shr_base::attempts::Attempt;
 use shr_base::ends::PlaceAmount;
 use shr_base::memory::Memory;
 use shr_base::places::Serial;
 use shr_base::replies::{Answered, Found, Reply};
-use shr_base::walks::{Attempt, Carry, Isolation, MapSeen, PlainTry};
+use shr_base::walks::{Carry, Isolation, MapSeen, PlainTry};
 use shr_reader::pools::{IsolationHead, PlainHead};
 use shr_reader::walks::Head;
 use std::alloc::Global;

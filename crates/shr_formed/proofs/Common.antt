@@ -9,12 +9,11 @@ pub use Rattle.shr_base.specs.declared.ends.PlaceEnd.{PlaceEnd}
 pub use Rattle.shr_base.specs.declared.ends.UnitsEnd.{UnitsEnd}
 pub use Rattle.shr_base.specs.declared.ends.WorkerPart.{WorkerPart}
 pub use Rattle.shr_base.specs.declared.replies.Answered.{Answered}
-pub use Rattle.shr_base.specs.declared.walks.Attempt.{Attempt}
+pub use Rattle.shr_base.specs.Walks.{Attempt, WalkRecord}
 pub use Rattle.shr_base.specs.declared.walks.Carry.{Carry}
 pub use Rattle.shr_base.specs.declared.walks.Isolation.{Isolation}
 pub use Rattle.shr_base.specs.declared.walks.MapSeen.{MapSeen}
 pub use Rattle.shr_base.specs.declared.walks.PlainWalk.{PlainWalk}
-pub use Rattle.shr_base.specs.Walks.{WalkRecord}
 pub use Rattle.shr_model.specs.Paths.{is_path}
 pub use Rattle.shr_model.specs.Places.{unit_of}
 pub use Rattle.shr_model.specs.Words.{is_name}

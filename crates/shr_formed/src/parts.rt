@@ -7,9 +7,10 @@ ghost use Rattle.shr_report.specs.WellFormed.{IsBitWord, IsCarryBefore, LendsWor
 ghost use Rattle.shr_formed.specs.Each.{Adjacent, AreAttemptsFormed, AreMapsFormed, EachItem, IsUnitLoaded, IsWorkerCommand, IsWalkFormed};
 
 use crate::words::is_value;
+use shr_base::attempts::Attempt;
 use shr_base::places::Serial;
 use shr_base::replies::{Answered, Reply};
-use shr_base::walks::{Attempt, Carry, Isolation, MapSeen, PlainWalk, WalkRecord};
+use shr_base::walks::{Carry, Isolation, MapSeen, PlainWalk, WalkRecord};
 
 // Whether the value that a reply lends is a word.
 fn lends_word(reply: &Reply) -> bool

@@ -2,10 +2,9 @@
 use Rattle.std.specs.Prelude.{ℕ, Bool, true, false, List, map, filter, filter_map, flat_map, sum_by}
 use Rattle.shr_base.specs.declared.places.Place.{Place}
 use Rattle.shr_base.specs.declared.walks.PassRecord.{PassRecord}
-use Rattle.shr_base.specs.declared.walks.Attempt.{Attempt}
+use Rattle.shr_base.specs.Walks.{Attempt, WalkRecord}
 use Rattle.shr_base.specs.declared.walks.WalkAnswer.{WalkAnswer}
 use Rattle.shr_base.specs.declared.walks.WalkAnswer.TheVariants.{Walked, Offline, Memory}
-use Rattle.shr_base.specs.Walks.{WalkRecord}
 use Rattle.shr_model.specs.Places.{is_place}
 use Rattle.shr_model.specs.Bits.{ids_in}
 use Rattle.shr_model.specs.Attempts.{pass_of, counts_of, is_clearing}

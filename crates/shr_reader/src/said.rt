@@ -17,6 +17,7 @@ use crate::spent::place;
 use crate::tables::{amount, bit, found, lookups, use_step};
 use crate::walks::{Head, attempt, seen, walk_head};
 use crate::words::{is_over, number, number_8, number_16, word};
+use shr_base::attempts::Attempt;
 use shr_base::ends::{MapEnd, PlaceAmount};
 use shr_base::journals::{Entry, PlainEntry, PoolEntry, TreeEntry, UseStep};
 use shr_base::memory::Memory;
@@ -24,7 +25,7 @@ use shr_base::objects::Object;
 use shr_base::places::Place;
 use shr_base::replies::{Found, Reply};
 use shr_base::text::Text;
-use shr_base::walks::{Attempt, MapSeen, PlainTry};
+use shr_base::walks::{MapSeen, PlainTry};
 use std::alloc::Global;
 
 /// What one line says. A number that says only where the line stands is for the printed text to tell.

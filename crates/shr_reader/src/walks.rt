@@ -11,7 +11,8 @@ ghost use Rattle.shr_words.specs.Classes.{words_left};
 
 use crate::spent::pass;
 use crate::words::{hexadecimal, is_over, number, number_8, number_16, number_32, word};
-use shr_base::walks::{Attempt, GoneThen, MapSeen, Outcome, WalkAnswer};
+use shr_base::attempts::Attempt;
+use shr_base::walks::{GoneThen, MapSeen, Outcome, WalkAnswer};
 
 // What became of the bit of an id that was gone.
 fn gone(word: &[u8]) -> GoneThen
@@ -117,10 +118,8 @@ pub fn attempt(rest: Option<&[u8]>) -> Option<Attempt>
     ensures none { IfNone result (IsAttemptNumbered (read_attempt [] (words_left rest.entry)) → ⊥) }
 {
     let (id, rest) = word(rest);
-    Some(Attempt {
-        id: number_16(id)?,
-        outcome: outcome(rest)?,
-    })
+    let id = number_16(id)?;
+    Some(Attempt::new(id, outcome(rest)?))
 }
 
 /// A word of bits that a walk loaded, from the words behind the first of its line. None as for an

@@ -1,12 +1,11 @@
 -- What the whole of a charge with its reclaim adds to a worker's state.
 use Rattle.shr_reclaim.proofs.Common.{◌≡◌, ℕ, zero, suc, ◌<◌, List, [], ◌∷◌, ◌++◌, length, map, Bool, true, false, refl, sym, ap, subst, ◌∙◌, inl, inr, ⊎_elim, arith, All, Option, flat_map-append, map-append, All-nil, All-append, All-head, All-tail, UseStep, Serial, WalkAnswer, path_of, Job, AreDowns, IsDown, use_group, Shared, Walk, OneGives, lacked_memory, shared_parents, paths_of, objects_freed, WorkerState, Work, no_work, then_work, Does, WalkGives, RootGives, WalkMade, RootMade, IsMade, IsWalkOver, IsWalked, IsRootWalked, does_none, does_then, Visit, IsVisited, AreVisited, VisitHadMemory, walk_for, ◌⊎◌, job_of, WalkParts, IsRecordOf, AreParts, parts_of}
 use Rattle.shr_base.specs.declared.objects.Object.{Object}
-use Rattle.shr_base.specs.declared.walks.Attempt.{Attempt}
+use Rattle.shr_base.specs.Walks.{Attempt, WalkRecord}
 use Rattle.shr_base.specs.declared.walks.Outcome.{Outcome}
 use Rattle.shr_base.specs.declared.walks.Outcome.TheVariants as outcome
 use Rattle.shr_base.specs.declared.walks.WalkAnswer.TheVariants as answered
 use Rattle.shr_base.specs.declared.walks.MapSeen.{MapSeen}
-use Rattle.shr_base.specs.Walks.{WalkRecord}
 use Rattle.shr_base.specs.declared.ends.LookupWord.{LookupWord}
 use Rattle.shr_core.specs.Parts.{Made, Loaded}
 use Rattle.shr_walk.specs.Attempts.{Found, MadeNone}

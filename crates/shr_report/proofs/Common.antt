@@ -36,7 +36,7 @@ pub use Rattle.shr_base.specs.declared.scripts.Command.TheVariants.{Balance, Del
 pub use Rattle.shr_base.specs.declared.scripts.PoolDecl.{PoolDecl}
 pub use Rattle.shr_base.specs.declared.scripts.Script.{Script}
 pub use Rattle.shr_base.specs.declared.scripts.Sweep.{Sweep}
-pub use Rattle.shr_base.specs.declared.walks.Attempt.{Attempt}
+pub use Rattle.shr_base.specs.Walks.{Attempt, WalkRecord}
 pub use Rattle.shr_base.specs.declared.walks.Carry.{Carry}
 pub use Rattle.shr_base.specs.declared.walks.Ending.{Ending}
 pub use Rattle.shr_base.specs.declared.walks.Ending.TheVariants.{Through}
@@ -49,7 +49,6 @@ pub use Rattle.shr_base.specs.declared.walks.PlainTry.TheVariants.{Empty, Ran, S
 pub use Rattle.shr_base.specs.declared.walks.PlainWalk.{PlainWalk}
 pub use Rattle.shr_base.specs.declared.walks.WalkAnswer.{WalkAnswer}
 pub use Rattle.shr_base.specs.declared.walks.WalkAnswer.TheVariants.{Walked}
-pub use Rattle.shr_base.specs.Walks.{WalkRecord}
 pub use Rattle.shr_model.proofs.BagLaws.{each_append, each_weaker}
 pub use Rattle.shr_model.proofs.Members.{Has, Has_from_Contains}
 pub use Rattle.shr_model.proofs.PiecesLaws.{and_true, cut_first, joined_cut, one-add, pieces_joined, same_byte}

@@ -4,12 +4,11 @@ use Rattle.std.specs.List.{AllByRecursion, list_any}
 use Rattle.shr_base.specs.declared.places.Place.{Place}
 use Rattle.shr_base.specs.declared.ends.MapEnd.{MapEnd}
 use Rattle.shr_base.specs.declared.scripts.Script.{Script}
-use Rattle.shr_base.specs.declared.walks.Attempt.{Attempt}
+use Rattle.shr_base.specs.Walks.{Attempt, WalkRecord}
 use Rattle.shr_base.specs.declared.walks.GoneThen.TheVariants.{Set}
 use Rattle.shr_base.specs.declared.walks.MapSeen.{MapSeen}
 use Rattle.shr_base.specs.declared.walks.Outcome.{Outcome}
 use Rattle.shr_base.specs.declared.walks.Outcome.TheVariants.{Gone}
-use Rattle.shr_base.specs.Walks.{WalkRecord}
 use Rattle.shr_model.specs.Bits.{is_set, ids_in}
 use Rattle.shr_model.specs.Places.{is_place, bit_of}
 use Rattle.shr_model.specs.Walks.{place_in, ids_seen, clearings_of}

@@ -9,8 +9,7 @@ use Rattle.shr_base.specs.declared.places.Place.{Place}
 use Rattle.shr_base.specs.declared.places.Serial.{Serial}
 use Rattle.shr_base.specs.declared.replies.Answered.{Answered}
 use Rattle.shr_base.specs.declared.replies.Found.{Found}
-use Rattle.shr_base.specs.declared.walks.Attempt.{Attempt}
-use Rattle.shr_base.specs.Walks.{WalkRecord}
+use Rattle.shr_base.specs.Walks.{Attempt, WalkRecord}
 use Rattle.shr_model.specs.Attempts.{Count, number_of, counts_of}
 use Rattle.shr_model.specs.Items.{HasJournal}
 use Rattle.shr_model.specs.Pool.{decl_at, registrations, is_dying}

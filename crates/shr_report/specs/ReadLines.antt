@@ -24,7 +24,7 @@ use Rattle.shr_base.specs.declared.replies.Reply.TheVariants as reply
 use Rattle.shr_base.specs.declared.walks.GoneThen.TheVariants as gone
 use Rattle.shr_base.specs.declared.walks.Outcome.{Outcome}
 use Rattle.shr_base.specs.declared.walks.Outcome.TheVariants as outcome
-use Rattle.shr_base.specs.declared.walks.Attempt.{Attempt}
+use Rattle.shr_base.specs.Walks.{Attempt}
 use Rattle.shr_base.specs.declared.walks.MapSeen.{MapSeen}
 use Rattle.shr_base.specs.declared.walks.WalkAnswer.{WalkAnswer}
 use Rattle.shr_base.specs.declared.walks.WalkAnswer.TheVariants as answer

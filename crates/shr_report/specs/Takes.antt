@@ -10,10 +10,9 @@ use Rattle.shr_base.specs.declared.replies.Reply.TheVariants as reply
 use Rattle.shr_base.specs.declared.scripts.Command.{Command}
 use Rattle.shr_base.specs.declared.scripts.Command.TheVariants.{Offline}
 use Rattle.shr_base.specs.declared.scripts.Script.{Script}
-use Rattle.shr_base.specs.declared.walks.Attempt.{Attempt}
+use Rattle.shr_base.specs.Walks.{Attempt, WalkRecord}
 use Rattle.shr_base.specs.declared.walks.Carry.{Carry}
 use Rattle.shr_base.specs.declared.walks.PassRecord.{PassRecord}
-use Rattle.shr_base.specs.Walks.{WalkRecord}
 use Rattle.shr_model.specs.Attempts.{pass_of}
 use Rattle.shr_model.specs.Deferred.{amount_of}
 use Rattle.shr_model.specs.Groups.{parent_of}

@@ -11,9 +11,8 @@ ghost use Rattle.shr_report.specs.WalkText.{ending_words, pass_words, gone_word,
 
 use crate::counters::add_spent;
 use crate::piece::Piece;
-use shr_base::walks::{
-    Attempt, Ending, GoneThen, MapSeen, Outcome, PassRecord, WalkAnswer, WalkRecord,
-};
+use shr_base::attempts::Attempt;
+use shr_base::walks::{Ending, GoneThen, MapSeen, Outcome, PassRecord, WalkAnswer, WalkRecord};
 use shr_outside::outside::Sink;
 use shr_outside::paper::Paper;
 
@@ -184,7 +183,7 @@ fn attempt<K: Sink>(out: &mut Paper<K>, piece: &mut Piece, attempt: &Attempt)
     ensures numbers { IsAttemptNumbered attempt.now }
 {
     let start = piece.line_end();
-    let start = add_outcome(piece, start, &attempt.outcome);
+    let start = add_outcome(piece, start, &attempt.outcome());
     let start = piece.number(start, attempt.id as u64);
     let start = piece.exactly(start, b"try");
     piece.put(start, out)

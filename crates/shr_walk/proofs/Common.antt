@@ -21,7 +21,7 @@ pub use Rattle.shr_base.specs.declared.places.Serial.{Serial}
 pub use Rattle.shr_base.specs.declared.replies.Spent.{Spent}
 pub use Rattle.shr_base.specs.declared.scripts.CacheDecl.{CacheDecl}
 pub use Rattle.shr_base.specs.declared.scripts.GroupDecl.{GroupDecl}
-pub use Rattle.shr_base.specs.declared.walks.Attempt.{Attempt}
+pub use Rattle.shr_base.specs.Walks.{Attempt, WalkRecord}
 pub use Rattle.shr_base.specs.declared.walks.Ending.{Ending}
 pub use Rattle.shr_base.specs.declared.walks.GoneThen.{GoneThen}
 pub use Rattle.shr_base.specs.declared.walks.MapSeen.{MapSeen}
@@ -29,7 +29,6 @@ pub use Rattle.shr_base.specs.declared.walks.Outcome.{Outcome}
 pub use Rattle.shr_base.specs.declared.walks.PassRecord.{PassRecord}
 pub use Rattle.shr_base.specs.declared.walks.WalkAnswer.{WalkAnswer}
 pub use Rattle.shr_base.specs.declared.walks.WalkAnswer.TheVariants.{Memory, Walked}
-pub use Rattle.shr_base.specs.Walks.{WalkRecord}
 pub use Rattle.shr_charge.specs.Charging.{AreDowns, AreRising, IsDown, calls_with, use_group}
 pub use Rattle.shr_charge.specs.Seat.{IsChargeSeat, counted, spent_by, standing_of, tree_of, uses_of}
 pub use Rattle.shr_charge.specs.Views.{TreeView, Uses, both_uses}

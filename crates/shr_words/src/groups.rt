@@ -1,6 +1,6 @@
 //! Paths that were declared, each with its number.
 
-ghost use Rattle.std.specs.Prelude.{◌≡◌, ◌<◌, ◌++◌, ◌∷◌, [], None, OnOk, IfSome, length, true};
+ghost use Rattle.std.specs.Prelude.{◌≡◌, ◌<◌, ◌++◌, ◌∷◌, [], None, OnOk, OnErr, IfSome, length, true};
 ghost use Rattle.shr_words.specs.Classes.{place_of};
 ghost use Rattle.shr_model.specs.Paths.{is_path};
 
@@ -61,7 +61,8 @@ impl<'a> Paths<'a> {
         requires path { is_path path.now ≡ true }
         requires absent { place_of path.now self.old ≡ None }
         requires few { length self.old < 256 }
-        ensures { OnOk result (self.new ≡ self.old ++ path.now ∷ []) }
+        ensures added { OnOk result (self.new ≡ self.old ++ path.now ∷ []) }
+        ensures kept { OnErr result (self.new ≡ self.old) }
     {
         self.paths.declare(path)
     }

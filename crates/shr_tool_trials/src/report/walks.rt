@@ -1,14 +1,14 @@
 //! Walks and carries, with every outcome of an attempt.
 
 use crate::report::parts::{PLACE, by, unheld};
+use shr_base::attempts::Attempt;
 use shr_base::ends::WorkerPart;
 use shr_base::found::Found;
 use shr_base::log::Log;
 use shr_base::places::Place;
 use shr_base::replies::{Reply, Spent};
 use shr_base::walks::{
-    Attempt, Carry, Ending, GoneThen, MapSeen, Outcome, PassRecord, WalkAnswer, WalkAsked,
-    WalkRecord,
+    Carry, Ending, GoneThen, MapSeen, Outcome, PassRecord, WalkAnswer, WalkAsked, WalkRecord,
 };
 use std::alloc::Global;
 use std::test::Fail;
@@ -28,7 +28,7 @@ fn pass(ending: Ending) -> PassRecord {
 }
 
 fn attempt(id: u16, outcome: Outcome) -> Attempt {
-    Attempt { id, outcome }
+    Attempt::new(id, outcome)
 }
 
 fn gone(number: u32, then: GoneThen) -> Outcome {

@@ -1,5 +1,5 @@
 use Rattle.shr_audit_causes.proofs.Common.{◌≡◌, ◌<◌, ℕ, Some, slice_get, IsAttemptCaused}
-use Rattle.shr_base.specs.declared.walks.Attempt.{Attempt}
+use Rattle.shr_base.specs.Walks.{Attempt}
 use Rattle.shr_audit_causes.proofs.attempts.attempts_are_worn.Given as goal
 
 abbrev pub invariant-loop-attempt : goal.invariant-loop-attempt

@@ -1,5 +1,5 @@
 use Rattle.shr_audit_lookups.proofs.Common.{◌≡◌, ◌<◌, ℕ, Some, slice_get, IsMetRight}
-use Rattle.shr_base.specs.declared.walks.Attempt.{Attempt}
+use Rattle.shr_base.specs.Walks.{Attempt}
 use Rattle.shr_audit_lookups.proofs.met.are_attempts_right.Given as goal
 
 abbrev pub invariant-loop-attempt : goal.invariant-loop-attempt

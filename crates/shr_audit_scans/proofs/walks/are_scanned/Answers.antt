@@ -1,16 +1,18 @@
+use Rattle.shr_audit_scans.proofs.Common.{subst, Decides, Attempt}
 use Rattle.shr_audit_scans.specs.Walks.{IsScannedAt}
 use Rattle.shr_audit_scans.proofs.walks.are_scanned.Goals as goal
-use Rattle.shr_formed.proofs.Eachs.{each_copied, each_fail, each_whole}
+use Rattle.shr_formed.proofs.Eachs.{each_fail, each_more, each_whole}
 
 pub returns-then-not-is_scanned_at : goal.returns-then-not-is_scanned_at
 returns-then-not-is_scanned_at c =
-    each_fail (IsScannedAt c.args.known.now.script.now c.args.known.now.report.now c.args.worker c.args.n c.args.walk.now) c.attempts-attempts.result.now c.args.walk.now.attempts.items c.loop-k.k _ c.is_scanned_at.result c.attempts-attempts.ensures c.loop-k-test.true c.is_scanned_at.ensures
-    c.if-not-is_scanned_at.true
+    each_fail (IsScannedAt c.args.known.now.script.now c.args.known.now.report.now c.args.worker c.args.n c.args.walk.now) c.attempts-attempt-items.result.now c.args.walk.now.attempts.items c.loop-attempt.attempt-index c.attempt-item.result c.is_scanned_at.result c.attempts-attempt-items.ensures c.loop-attempt-test.true
+    (subst (λ (a : Attempt). Decides c.is_scanned_at.result (IsScannedAt c.args.known.now.script.now c.args.known.now.report.now c.args.worker c.args.n c.args.walk.now a)) c.attempt-item.is c.is_scanned_at.ensures) c.if-not-is_scanned_at.true
 
-pub loop-k-preserved : goal.loop-k-preserved
-loop-k-preserved c =
-    each_copied (IsScannedAt c.args.known.now.script.now c.args.known.now.report.now c.args.worker c.args.n c.args.walk.now) c.attempts-attempts.result.now c.loop-k.k _ c.loop-k-test.true c.loop-k.invariant (c.is_scanned_at.ensures.0 c.if-not-is_scanned_at.false)
+pub loop-attempt-preserved : goal.loop-attempt-preserved
+loop-attempt-preserved c =
+    each_more (IsScannedAt c.args.known.now.script.now c.args.known.now.report.now c.args.worker c.args.n c.args.walk.now) c.attempts-attempt-items.result.now c.loop-attempt.attempt-index c.attempt-item.result c.loop-attempt-test.true c.attempt-item.is c.loop-attempt.invariant
+    (c.is_scanned_at.ensures.0 c.if-not-is_scanned_at.false)
 
 pub returns : goal.returns
 returns c =
-    each_whole (IsScannedAt c.args.known.now.script.now c.args.known.now.report.now c.args.worker c.args.n c.args.walk.now) c.attempts-attempts.result.now c.args.walk.now.attempts.items c.loop-k.k c.attempts-attempts.ensures c.loop-k-test.false c.loop-k.invariant
+    each_whole (IsScannedAt c.args.known.now.script.now c.args.known.now.report.now c.args.worker c.args.n c.args.walk.now) c.attempts-attempt-items.result.now c.args.walk.now.attempts.items c.loop-attempt.attempt-index c.attempts-attempt-items.ensures c.loop-attempt-test.false c.loop-attempt.invariant

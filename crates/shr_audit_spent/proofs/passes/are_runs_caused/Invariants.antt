@@ -1,5 +1,5 @@
 use Rattle.shr_audit_spent.proofs.Common.{◌≡◌, ◌<◌, ℕ, Some, slice_get, IsRunCaused}
-use Rattle.shr_base.specs.declared.walks.Attempt.{Attempt}
+use Rattle.shr_base.specs.Walks.{Attempt}
 use Rattle.shr_audit_spent.proofs.passes.are_runs_caused.Given as goal
 
 abbrev pub invariant-loop-attempt : goal.invariant-loop-attempt

@@ -1,4 +1,4 @@
-use Rattle.shr_base.specs.declared.walks.Attempt.{Attempt}
+use Rattle.shr_base.specs.Walks.{Attempt}
 use Rattle.shr_audit_walks.proofs.Rising.{other_length, whole_prefix}
 use Rattle.shr_audit_walks.proofs.alone.are_all_tried.Goals as goal
 
