@@ -6,7 +6,7 @@ use Rattle.shr_base.specs.declared.walks.WalkAnswer.TheVariants as answered
 use Rattle.shr_model.specs.Groups.{preorder_within}
 use Rattle.shr_walk.proofs.Balancing.{all_within}
 use Rattle.shr_assemble.proofs.QuietTenant.{brings_of}
-use Rattle.shr_assemble.proofs.Listed.{slice_contains}
+use Rattle.shr_lawful.proofs.Listed.{slice_contains}
 use Rattle.shr_assemble.proofs.WalkingWell.{IsTableOf, begins_prefix}
 use Rattle.shr_assemble.proofs.WalkingGives.{freed_none}
 use Rattle.shr_assemble.proofs.WalkingCharges.{rec_of, tree_is}

@@ -8,10 +8,10 @@ use Rattle.shr_assemble.proofs.EndsGathered.{last, cleared_are, sets_are}
 use Rattle.shr_assemble.proofs.EndsHistories.{history_is}
 use Rattle.shr_assemble.proofs.EndsSteps.{lookups_at_below, workers, is_crew, steps}
 use Rattle.shr_assemble.proofs.EndsShown as shown
-use Rattle.shr_assemble.proofs.Gathering.{mine_at, among_right, among_flat, each_among}
+use Rattle.shr_lawful.proofs.Gathering.{mine_at, among_right, among_flat, each_among}
 use Rattle.shr_assemble.proofs.Joined as joined
 use Rattle.shr_assemble.proofs.Lasts.{after_begins, after_grows, each_last, all_from_each}
-use Rattle.shr_assemble.proofs.Listed.{all_slice, all_among}
+use Rattle.shr_lawful.proofs.Listed.{all_slice, all_among}
 use Rattle.shr_assemble.proofs.QuietSteps.{hierarchy_is}
 use Rattle.shr_assemble.proofs.Rows.{DidEach}
 use Rattle.shr_model.specs.Pool.{phase_of, number_from}

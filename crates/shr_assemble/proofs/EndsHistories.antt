@@ -6,8 +6,8 @@ use Rattle.shr_report.specs.Parts as report
 use Rattle.shr_assemble.proofs.EndsGathered.{last, ops_are, entries_are, same}
 use Rattle.shr_assemble.proofs.EndsSteps.{workers}
 use Rattle.shr_assemble.proofs.EndsPlaces.{AreNumbered, numbers, sorted_history}
-use Rattle.shr_assemble.proofs.Listed.{all_among, contains_among, PairsRec, pairs_by_slices, pairs_filter, pairs_weaker, among_has}
-use Rattle.shr_assemble.proofs.Gathering.{below_one}
+use Rattle.shr_lawful.proofs.Listed.{all_among, contains_among, PairsRec, pairs_by_slices, pairs_filter, pairs_weaker, among_has}
+use Rattle.shr_lawful.proofs.Gathering.{below_one}
 use Rattle.shr_assemble.proofs.ScriptGroups.{is_hierarchy}
 use Rattle.shr_assemble.proofs.Rows.{DidEach}
 

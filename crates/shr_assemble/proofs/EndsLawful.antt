@@ -6,13 +6,13 @@ use Rattle.shr_assemble.proofs.EndsReport.{laid_out}
 use Rattle.shr_assemble.proofs.EndsRun.{run_of_ends}
 use Rattle.shr_assemble.proofs.EndsSteps.{workers}
 use Rattle.shr_assemble.proofs.EndsTotals as totals
-use Rattle.shr_assemble.proofs.FaithfulLaw.{faithful_of_run}
-use Rattle.shr_assemble.proofs.FreePuts.{free_puts_added}
-use Rattle.shr_assemble.proofs.LawfulOfRun.{lawful_of_run}
+use Rattle.shr_lawful.proofs.FaithfulLaw.{faithful_of_run}
+use Rattle.shr_lawful.proofs.FreePuts.{free_puts_added}
+use Rattle.shr_lawful.proofs.LawfulOfRun.{lawful_of_run}
 use Rattle.shr_assemble.proofs.Rows.{DidEach}
 use Rattle.shr_assemble.proofs.WalkingWell.{IsTableOf}
 use Rattle.shr_assemble.proofs.WellFormed.{well_formed}
-use Rattle.shr_assemble.proofs.WornPuts.{puts_add_up}
+use Rattle.shr_lawful.proofs.WornPuts.{puts_add_up}
 
 module _ (logs : List WorkerLog) (e : Ends) (are : AreEnds logs e) (r : Report) (made : IsMadeOf e.script logs e r) where
   abbrev x : Shared

@@ -4,7 +4,7 @@ use Rattle.shr_assemble.proofs.ScriptGroups.{sized_of, version_of, few_of_first}
 use Rattle.shr_core.specs.Ending.{lookups_below}
 use Rattle.shr_seats.specs.Rows as rows
 use Rattle.shr_deferred.specs.Left.{amounts, left_over}
-use Rattle.shr_assemble.proofs.Listed.{pairs_by_slices}
+use Rattle.shr_lawful.proofs.Listed.{pairs_by_slices}
 use Rattle.shr_assemble.proofs.WellAmounts.{amounts_rise, amounts_numbered}
 use Rattle.shr_assemble.proofs.WellFormed.{IsLaidOut}
 

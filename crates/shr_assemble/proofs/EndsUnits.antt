@@ -9,8 +9,8 @@ use Rattle.shr_rooms.proofs.Parts.{part_joined}
 use Rattle.shr_plain.specs.Ending.{units_end_value}
 use Rattle.shr_plain.specs.Rule.{units}
 use Rattle.shr_worker.specs.Chain as chain
-use Rattle.shr_assemble.specs.Steps as seats
-use Rattle.shr_assemble.proofs.Gathering.{does_at, among_right}
+use Rattle.shr_lawful.specs.Steps as seats
+use Rattle.shr_lawful.proofs.Gathering.{does_at, among_right}
 use Rattle.shr_assemble.proofs.Crews.{flat_pairs}
 use Rattle.shr_assemble.proofs.EndsAfter.{are_steps}
 use Rattle.shr_assemble.proofs.EndsSteps.{found_zero, found_word, shown_some, same_in}
@@ -19,10 +19,11 @@ use Rattle.shr_assemble.proofs.EndsSteps as ends_steps
 use Rattle.shr_assemble.proofs.Joined.{joined_list}
 use Rattle.shr_assemble.proofs.Lasts.{each_last}
 use Rattle.shr_assemble.proofs.Rows.{DidEach, within_at}
-use Rattle.shr_assemble.proofs.SweepSteps.{last_answer}
+use Rattle.shr_lawful.proofs.SweepSteps.{last_answer}
 use Rattle.shr_assemble.proofs.UnitsDid.{IsElsewhere, other_reply, did_units}
 use Rattle.shr_assemble.proofs.UnitsRows.{IsDeed, IsUnitsCrew, units_crew}
-use Rattle.shr_assemble.proofs.WordPlaces.{inside_word, has_range, range_has}
+use Rattle.shr_lawful.proofs.Listed.{has_range, range_has}
+use Rattle.shr_assemble.proofs.WordPlaces.{inside_word}
 use Rattle.shr_units.proofs.Pooling.{place_back}
 
 -- ---- what the first seats have in the end

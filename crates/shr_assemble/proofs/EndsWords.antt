@@ -5,7 +5,8 @@ use Rattle.shr_assemble.proofs.EndsSteps.{found_zero, found_word, shown_some, wo
 use Rattle.shr_assemble.proofs.EndsGathered.{last, takes_are, gives_are}
 use Rattle.shr_assemble.proofs.EndsTakes.{parts, others}
 use Rattle.shr_assemble.proofs.Rows.{DidEach}
-use Rattle.shr_assemble.proofs.WordPlaces.{inside_word, has_range, range_has}
+use Rattle.shr_lawful.proofs.Listed.{has_range, range_has}
+use Rattle.shr_assemble.proofs.WordPlaces.{inside_word}
 use Rattle.shr_units.proofs.Pooling.{place_back}
 
 module _ (x : Shared) (did : DidEach x) (logs : List WorkerLog) (e : Ends) (ends : AreEndsOf x logs e) (r : Report) (made : IsMadeOf x.script logs e r) where

@@ -1,6 +1,7 @@
 -- Registrations that begin the journal take the ids in order.
 use Rattle.shr_assemble.proofs.Common.{◌≡◌, ℕ, zero, suc, ◌%◌, ◌<◌, ◌≤◌, ◌≢◌, ⊎_elim, Bool, true, false, cond, List, [], ◌∷◌, ◌++◌, take, sym, refl, ap, subst, ◌∙◌, arith, eq-eqb, ne_eqb, Some, slice_get, nat_lt, ◌&&◌, ◌==◌, cases_lt, same_Some, none-some, dite, ℕ_discrete, PoolEntry, Registered, is_free, lowest_idle, IsPoolJournal, phase_of_push, some_at, one_of}
 use Rattle.shr_model.specs.Pool.{phase_of, lowest_free}
+use Rattle.shr_lawful.proofs.Listed.{take_next}
 
 -- the lowest free id is free, and no lower one is
 record IsLowest (from id : ℕ) (es : List PoolEntry) : Type 0 where
@@ -56,11 +57,6 @@ first_more n decl es h = record {
       (λ ne. omega (arith, phase_of_push id es (Registered decl n 0), h.live id (omega (arith, lt, ne)), else_one decl n id ne));
   idle = λ id le. omega (arith, phase_of_push id es (Registered decl n 0), h.idle id (omega (arith, le)), else_one decl n id (λ e. omega (arith, e, le)));
 }
-
-pub take_next : {A : Type 0} (xs : List A) (n : ℕ) (x : A) → slice_get xs n ≡ Some x → take (suc n) xs ≡ take n xs ++ x ∷ []
-take_next [] n x e = absurd (none-some x e)
-take_next (y ∷ xs) zero x e = ap (λ z. z ∷ []) (same_Some y x e)
-take_next (y ∷ xs) (suc n) x e = ap (λ l. y ∷ l) (take_next xs n x e)
 
 module _ (ids decls : ℕ) (pool : List PoolEntry) (journal : IsPoolJournal ids decls pool) (most : ℕ) (first : (n : ℕ) → n < most → (decl : ℕ) × (id : ℕ) × (slice_get pool n ≡ Some (Registered decl id 0))) where
   lowest_at : (n decl id : ℕ) → slice_get pool n ≡ Some (Registered decl id 0) → lowest_idle ids (take n pool) ≡ Some id

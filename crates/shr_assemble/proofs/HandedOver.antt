@@ -17,9 +17,9 @@ use Rattle.shr_assemble.proofs.HandedCarries.{IsCarryAt, AreInRow, in_row, each_
 use Rattle.shr_base.specs.declared.replies.Reply.TheVariants as reply
 use Rattle.shr_charge.specs.declared.answers.DoneAnswer.TheVariants as ended
 use Rattle.shr_offline.specs.Offlined as offlined
-use Rattle.shr_assemble.proofs.Gathering.{among_right}
-use Rattle.shr_assemble.proofs.Listed.{contains_slice}
-use Rattle.shr_assemble.proofs.FreshLaw.{begins_length}
+use Rattle.shr_lawful.proofs.Gathering.{among_right}
+use Rattle.shr_lawful.proofs.Listed.{contains_slice}
+use Rattle.shr_lawful.proofs.FreshLaw.{begins_length}
 use Rattle.shr_worker.specs.Commands as worker
 use Rattle.shr_assemble.proofs.OfflineDid as by_end
 

@@ -5,7 +5,7 @@ use Rattle.shr_charge.specs.declared.answers.GroupState.TheVariants.{Online}
 use Rattle.shr_drop.proofs.ByLaw.{found_lawful}
 use Rattle.shr_assemble.proofs.QuietTenant.{brings_of, brings_then, IsTenant, group_in, refused_did, without, found_lookups, back_is}
 use Rattle.shr_assemble.proofs.Filling.{IsSet}
-use Rattle.shr_assemble.proofs.Listed.{PairsRec}
+use Rattle.shr_lawful.proofs.Listed.{PairsRec}
 use Rattle.shr_assemble.proofs.QuietSteps.{step_of, HasDid, calm_walks, still_moves, still_pool, still_tree, meets_none, never_met, AreTables, tree_is, loading, gaining, does_load, does_gain, finding, calling, found_entry, found_by}
 use Rattle.shr_assemble.proofs.QuietCharges.{uncharged_charges, nothing_did}
 use Rattle.shr_assemble.proofs.VisitsDid.{Visits, IsVisit, isolated_visits}

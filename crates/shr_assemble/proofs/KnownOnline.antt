@@ -1,7 +1,7 @@
 -- What a worker doesn't know of a group it didn't know before.
 use Rattle.shr_assemble.proofs.Common.{◌≡◌, ℕ, List, sym, subst, Some, slice_index_or, slice_get-get_or, TreeEntry, begin_of, Begins, TreeView, begin_grows, KnowsOnline, LoadedState}
 use Rattle.shr_charge.specs.declared.answers.GroupState.TheVariants as state
-use Rattle.shr_assemble.proofs.Listed.{all_slice, begins_slice}
+use Rattle.shr_lawful.proofs.Listed.{all_slice, begins_slice}
 
 -- a group that isn't known to be offline wasn't known to be so before
 pub online_before : (s t : TreeView) (group : ℕ) → Begins s.loaded t.loaded → Begins s.known t.known → KnowsOnline t group → KnowsOnline s group

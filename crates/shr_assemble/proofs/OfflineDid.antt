@@ -9,7 +9,7 @@ use Rattle.shr_core.specs.Parts as core
 use Rattle.shr_charge.specs.declared.answers.BeginAnswer.{BeginAnswer}
 use Rattle.shr_charge.specs.declared.answers.BeginAnswer.TheVariants as began
 use Rattle.shr_assemble.proofs.QuietTenant.{brings_of, without, no_entries, unfound_lookups}
-use Rattle.shr_assemble.proofs.Listed.{begins_slice, slice_contains, contains_among, contains_slice}
+use Rattle.shr_lawful.proofs.Listed.{begins_slice, slice_contains, contains_among, contains_slice}
 use Rattle.shr_assemble.proofs.QuietSplices.{each_rec, IsMovedIn, IsShut, IsSpliceEntry, IsSplicedTo, spliced_one, spliced_all, spliced_then}
 use Rattle.shr_assemble.proofs.Filling.{set_filled}
 use Rattle.shr_charge.specs.declared.answers.GroupState.TheVariants as state

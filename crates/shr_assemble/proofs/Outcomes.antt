@@ -1,6 +1,7 @@
 -- Whether the ups of operations in a group were refused, in order, and what the tries of a charge come to there.
-use Rattle.shr_assemble.proofs.Common.{◌≡◌, ◌≢◌, ℕ, ◌+◌, ◌<◌, ◌&&◌, ◌||◌, inl, inr, ⊎_elim, Bool, true, false, cond, ◌==◌, List, [], ◌∷◌, ◌++◌, length, map, refl, sym, ap, subst, ◌∙◌, arith, append_assoc, eq-eqb, ne_eqb, Option, filter, replicate, AllByRecursion, list_any, cases_Bool, eqb-true, append-nil, dite, ℕ_discrete, UseStep, is_refused, IsBelow, is_at_or_above, IsTree, parent_of, path_of, path_of-root, path_of-below, IsOn, by_parents, on_self, on_le, Has, path_to, way_here, way_root, way_up, times_of, count_first, way_once, below_not}
+use Rattle.shr_assemble.proofs.Common.{◌≡◌, ◌≢◌, ℕ, ◌+◌, ◌<◌, ◌&&◌, ◌||◌, inl, inr, ⊎_elim, Bool, true, false, cond, ◌==◌, List, [], ◌∷◌, ◌++◌, length, map, refl, sym, ap, subst, ◌∙◌, arith, append_assoc, ne_eqb, Option, filter, replicate, AllByRecursion, list_any, cases_Bool, eqb-true, append-nil, dite, ℕ_discrete, UseStep, is_refused, IsBelow, is_at_or_above, IsTree, parent_of, path_of, path_of-root, path_of-below, IsOn, by_parents, on_self, on_le, Has, path_to, way_here, way_root, way_up, times_of, count_first, way_once, below_not}
 use Rattle.shr_assemble.proofs.WalkingCharges.{GoesDown}
+use Rattle.shr_lawful.proofs.Listed.{has_number}
 use Rattle.shr_reclaim.proofs.Netting.{over_is}
 
 -- whether each up was refused
@@ -67,17 +68,12 @@ over_outcomes limit o ops up above down = ap {A = Bool} (λ (t : Bool). map (is_
 
 -- ---- how often a group stands on the way
 
-pub any_has : (xs : List ℕ) (g : ℕ) → Has xs g → list_any (λ (h : ℕ). h == g) xs ≡ true
-any_has [] g h = absurd h
-any_has (x ∷ xs) g (inl e) = ap (λ (b : Bool). b || list_any (λ (h : ℕ). h == g) xs) (eq-eqb x g e)
-any_has (x ∷ xs) g (inr h) = ap (λ (b : Bool). (x == g) || b) (any_has xs g h) ∙ (elim (x == g) as (λ (b : Bool). (b || true) ≡ true) [ true ↦ refl | false ↦ refl ])
-
 has_any : (xs : List ℕ) (g : ℕ) → list_any (λ (h : ℕ). h == g) xs ≡ true → Has xs g
 has_any [] g e = absurd (let f : false ≡ true = e in cc)
 has_any (x ∷ xs) g e = ⊎_elim (λ (t : (x == g) ≡ true). inl (eqb-true x g t)) (λ (f : (x == g) ≡ false). inr (has_any xs g (sym (ap (λ (b : Bool). b || list_any (λ (h : ℕ). h == g) xs) f) ∙ e))) (cases_Bool (x == g))
 
 pub above_is : (parents : List ℕ) (g b : ℕ) → IsOn parents g b → is_at_or_above parents g b ≡ true
-above_is parents g b on = any_has (path_of parents b) g on
+above_is parents g b on = has_number (path_of parents b) g on
 
 module _ (parents : List ℕ) (tree : IsTree parents) (level g : ℕ) (apart : g ≢ level) where
   abbrev On : ℕ → ℕ

@@ -4,7 +4,7 @@ use Rattle.shr_base.specs.declared.replies.Reply.TheVariants as reply
 use Rattle.shr_reclaim.specs.declared.answers.Admission.TheVariants as admission
 use Rattle.shr_report.specs.WalksLawful as walks
 use Rattle.shr_assemble.proofs.FirstLists.{first_for}
-use Rattle.shr_assemble.proofs.Gathering.{among_right}
+use Rattle.shr_lawful.proofs.Gathering.{among_right}
 use Rattle.shr_assemble.proofs.PutAsked.{command, adm, first, walked_first, asked_did, none_added_first}
 use Rattle.shr_assemble.proofs.PutParts.{IsTail, whole}
 use Rattle.shr_assemble.proofs.PutTries.{AreOps}

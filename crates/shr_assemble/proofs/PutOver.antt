@@ -1,7 +1,7 @@
 -- A put that was refused at last: the last up of its operations, which its answer names.
 use Rattle.shr_assemble.proofs.Common.{◌≡◌, ◌⊎◌, inl, inr, ℕ, ◌-◌, ◌<◌, ◌≤◌, Bool, true, false, cond, List, [], ◌∷◌, ◌++◌, pos, refl, sym, ap, subst, ◌∙◌, arith, Option, Some, None, option_and_then, filter, nat_lt, AllByRecursion, IsSomeAnd, nat_tests, ints, dite, ℕ_discrete, UseStep, Serial, ups, IsBelow, group_named, IsAtOrAbove, AreRising, IsLaterThan, Uses, parents_of, limit_of, WorkerState, Work, Does, Shared, Refusal, count_first, IsOverBy, ops_at, Step, IsAmong, each_append, each_weaker, ◌<ℤ◌}
-use Rattle.shr_assemble.proofs.Gathering.{among_right}
-use Rattle.shr_assemble.proofs.Listed.{PairsRec, pairs_rec, pairs_right}
+use Rattle.shr_lawful.proofs.Gathering.{among_right}
+use Rattle.shr_lawful.proofs.Listed.{PairsRec, pairs_rec, pairs_right}
 use Rattle.shr_assemble.proofs.PutRounds.{EndsOver}
 use Rattle.shr_assemble.proofs.PutTries.{AreOps, same_limit}
 use Rattle.shr_assemble.proofs.PutWays.{at_all}

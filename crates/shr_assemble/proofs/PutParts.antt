@@ -4,7 +4,7 @@ use Rattle.shr_charge.specs.Views as charge
 use Rattle.shr_report.specs.WalksLawful as walks
 use Rattle.shr_assemble.proofs.QuietTenant.{brings_of, brings_then}
 use Rattle.shr_assemble.proofs.Filling.{IsSet, set_walked, set_filled, filled_among}
-use Rattle.shr_assemble.proofs.Gathering.{among_left, among_right}
+use Rattle.shr_lawful.proofs.Gathering.{among_left, among_right}
 use Rattle.shr_assemble.proofs.QuietSteps.{HasDid, still_pool, still_tree, IsToldOnce, none_moved}
 use Rattle.shr_assemble.proofs.WalkingSteps.{OnlyScan, step_of, Has, walk_later, Walked}
 use Rattle.shr_assemble.proofs.WalkingChain.{FrontHad, any_cut, front_pairs}

@@ -3,7 +3,7 @@ use Rattle.shr_assemble.proofs.Common.{false, ◌≡◌, ℕ, ◌-◌, ◌<◌, 
 use Rattle.shr_model.specs.Commands.{rounds_from}
 use Rattle.shr_charge.specs.declared.answers.ChargeAnswer.TheVariants.{Charged, Over}
 use Rattle.shr_assemble.proofs.Spending.{refused_there}
-use Rattle.shr_assemble.proofs.Listed.{slice_contains}
+use Rattle.shr_lawful.proofs.Listed.{slice_contains}
 use Rattle.shr_assemble.proofs.WalkingWell.{range_below, IsTableOf}
 use Rattle.shr_assemble.proofs.WalkingCharges.{rec_of, tree_is, GoesDown}
 use Rattle.shr_assemble.proofs.WalkingChain.{IsThereJob, gave_all, visited_one, all_had, GaveAll, any_cut, cut_both}

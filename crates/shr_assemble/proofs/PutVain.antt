@@ -6,8 +6,8 @@ use Rattle.shr_node.specs.declared.answers.NodeAdd.{NodeAdd}
 use Rattle.shr_node.specs.declared.answers.NodeAdd.TheVariants as add
 use Rattle.shr_reclaim.specs.declared.answers.Admission.TheVariants as admission
 use Rattle.shr_report.specs.WalksLawful as walks
-use Rattle.shr_assemble.proofs.Gathering.{among_left, among_right}
-use Rattle.shr_assemble.proofs.Listed.{contains_among}
+use Rattle.shr_lawful.proofs.Gathering.{among_left, among_right}
+use Rattle.shr_lawful.proofs.Listed.{contains_among}
 use Rattle.shr_assemble.proofs.Filling.{filled_by}
 use Rattle.shr_assemble.proofs.PutAsked.{command, adm, first, asked_did, none_added_alone, tail_back, not_scanned, offering_tail, vain_does, vain_ops}
 use Rattle.shr_assemble.proofs.PutFound.{IsOffered, silent_did, noted_did}

@@ -2,7 +2,7 @@
 use Rattle.shr_assemble.proofs.Common.{◌≡◌, ℕ, zero, suc, ◌+◌, ◌<◌, ◌≤◌, ◌&&◌, Bool, true, false, not, cond, ◌==◌, List, [], ◌∷◌, ◌++◌, length, drop, map, refl, sym, ap, subst, ◌∙◌, arith, eqb-true, slice_get, Option, Some, count_by, MatchOption, find, AllByRecursion, same_Some, none-some, slice_get_within, slice_get-get_or, dite, ℕ_discrete, UseStep, Serial, ups, downs, is_by, is_refused, IsBelow, IsDownNext, AreTakenBack, times_of, count_first, IsDownBetween, ops_at, use_group, ups_at, downs_at, Closes}
 use Rattle.shr_model.proofs.PoolLaws.{and_false}
 use Rattle.shr_assemble.proofs.WalkingCharges.{GoesDown}
-use Rattle.shr_assemble.proofs.Listed.{is_by_own}
+use Rattle.shr_lawful.proofs.Listed.{is_by_own}
 
 abbrev pub ways : List UseStep → List Bool
 ways ops = map (λ (o : UseStep). o.up) ops

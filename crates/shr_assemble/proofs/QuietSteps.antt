@@ -3,11 +3,11 @@ use Rattle.shr_assemble.proofs.Common.{◌≡◌, ℕ, ◌<◌, ◌≤◌, pos, 
 use Rattle.shr_base.specs.declared.replies.Reply.TheVariants as reply
 use Rattle.shr_deferred.specs.Moves as moves
 use Rattle.shr_charge.specs.Views as charge
-use Rattle.shr_assemble.proofs.FreshLaw.{begins_length}
+use Rattle.shr_lawful.proofs.FreshLaw.{begins_length}
 use Rattle.shr_core.specs.Parts as core
 use Rattle.shr_charge.specs.declared.answers.GroupState.TheVariants as state
 use Rattle.shr_report.specs.Parts as report
-use Rattle.shr_assemble.proofs.Listed.{contains_among}
+use Rattle.shr_lawful.proofs.Listed.{contains_among}
 
 -- a step by its parts
 abbrev pub step_of : Serial → Command → Answered → WorkerState → WorkerState → Work → Step

@@ -8,7 +8,7 @@ use Rattle.shr_report.specs.Parts as report
 use Rattle.shr_charge.specs.Views as charge
 use Rattle.shr_assemble.proofs.Filling.{IsSet, filled_by, set_filled, set_none}
 use Rattle.shr_assemble.proofs.FirstLists.{first_for}
-use Rattle.shr_assemble.proofs.Listed.{contains_among}
+use Rattle.shr_lawful.proofs.Listed.{contains_among}
 use Rattle.shr_assemble.proofs.QuietSteps.{step_of, HasDid, IsCalm, still_charges, still_pool, still_tree, IsToldOnce, quiet_did, AreTables, tree_is, loading, gaining, does_load, does_gain, knows_online, online_apart, on_list, on_list_does, on_list_online, found_entry, found_by, known_is, made_is, known_before, hierarchy_is, knows_unmade, offered_made}
 pub use Rattle.shr_walk.proofs.Doing.{called_then}
 

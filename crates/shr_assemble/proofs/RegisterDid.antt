@@ -8,7 +8,7 @@ use Rattle.shr_registry.specs.Answers.{RegisterGives}
 use Rattle.shr_worker.specs.Commands as worker
 use Rattle.shr_assemble.proofs.QuietTenant.{brings_of, without, no_entries, unfound_lookups}
 use Rattle.shr_assemble.proofs.QuietSteps.{step_of, HasDid, still_charges, still_pool, still_tree, meets_none, never_met, quiet_did, AreTables, gaining, does_gain}
-use Rattle.shr_assemble.proofs.FreshLaw.{begins_length}
+use Rattle.shr_lawful.proofs.FreshLaw.{begins_length}
 
 module _ (x : Shared) (tables : AreTables x) (by : Serial) (decl : ℕ) (s t : WorkerState) (rest : t ≡ record s { core = t.core }) where
   abbrev asked : Command

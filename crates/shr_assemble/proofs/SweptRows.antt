@@ -1,6 +1,7 @@
 -- The steps of a worker: those of its commands, and behind them that of the sweep of a script that has one.
-use Rattle.shr_assemble.proofs.Common.{◌≡◌, ℕ, zero, suc, ◌+◌, ◌<◌, ◌≤◌, ◌⊎◌, inl, inr, ⊎_elim, List, [], ◌∷◌, ◌++◌, length, length-append, sym, refl, ap, subst, ◌∙◌, arith, slice_get, Option, Some, None, flat_map, AllByRecursion, append-nil, same_Some, none-some, slice_get_within, slice_get_past, Serial, Answered, Command, Script, Sweep, WorkerScript, Isolation, SweepItem, sweeps_in, sweeps_of, IsShared, WorkerState, Shared, CrewState, View, WorkerLog, Did, HelpsWith, HasWorked, new_worker, isolated_in, isolated_before, DidIsolations, Step, AreStepsChained, worker_state_after, BringsWork, IsOfPops, slice_cases, slice_left, worker_commands, command_serial, range_with_len, get_or-range_with_len, length-range_with_len, slice_get-get_or, total, total-append, End, SweepJob, of_job, only_job, ArePoppedOnce, all_popped, take-append-le}
+use Rattle.shr_assemble.proofs.Common.{◌≡◌, ℕ, zero, suc, ◌+◌, ◌<◌, ◌≤◌, ◌⊎◌, inl, inr, ⊎_elim, List, [], ◌∷◌, ◌++◌, length, length-append, sym, refl, ap, subst, ◌∙◌, arith, slice_get, Option, Some, None, flat_map, AllByRecursion, append-nil, same_Some, none-some, slice_get_within, slice_get_past, Serial, Answered, Command, Script, Sweep, WorkerScript, Isolation, SweepItem, sweeps_in, sweeps_of, IsShared, WorkerState, Shared, CrewState, View, WorkerLog, Did, HelpsWith, HasWorked, new_worker, isolated_in, isolated_before, DidIsolations, Step, AreStepsChained, worker_state_after, BringsWork, IsOfPops, slice_cases, slice_left, worker_commands, command_serial, range_with_len, total, End, SweepJob, of_job, only_job, ArePoppedOnce, all_popped, take-append-le}
 use Rattle.shr_charge.proofs.Listing.{get_last}
+use Rattle.shr_lawful.proofs.Listed.{weight_in, number_in}
 use Rattle.shr_assemble.proofs.Rows.{IsFit, fit_new, IsRow, DidEach, SweptPart, IsThereItem, swept_step, row_of}
 use Rattle.shr_pool.specs.declared.items.SweepItem.TheVariants.{Walk}
 use Rattle.shr_pool.proofs.Once.{agrees}
@@ -120,16 +121,6 @@ worker_row x shared did opened number log popped last within there w = by_sweep 
         row.0 ++ swept_step (command_serial number (length (worker_commands x.script number))) part.0 w.done.seats last.seats part.2.work ∷ [],
         with_sweep x.script (command_serial number) (worker_commands x.script number) popped w.own part.0 (new_worker opened number) w.done last row.0 row.1 part.2 h.isolations,
       ))
-
--- what one of these numbers has weighs no more than what all have
-pub weight_in : {A : Type 0} (h : A → ℕ) (g : ℕ → List A) (ns : List ℕ) (m i : ℕ) → slice_get ns m ≡ Some i → total h (g i) ≤ total h (flat_map g ns)
-weight_in h g [] m i e = absurd (none-some i e)
-weight_in h g (n ∷ ns) zero i e = let same : n ≡ i = cc in let is = ap (λ k. total h (g k)) same in omega (arith, is, total-append h (g n) (flat_map g ns))
-weight_in h g (n ∷ ns) (suc m) i e = omega (arith, weight_in h g ns m i e, total-append h (g n) (flat_map g ns))
-
--- a number stands among those below another
-pub number_in : (n i : ℕ) → i < n → slice_get (range_with_len 0 n) i ≡ Some i
-number_in n i lt = slice_get-get_or (range_with_len 0 n) i 0 (let long = length-range_with_len 0 n in omega (arith, long, lt)) ∙ ap Some (get_or-range_with_len 0 n i 0 lt ∙ (let is : 0 + i ≡ i = omega arith in is))
 
 -- what was popped once, job by job, is there
 module _ (s : Script) (all : List SweepItem) (once : ArePoppedOnce s all) where

@@ -13,13 +13,13 @@ use Rattle.shr_walk.specs.Keeping as keeping
 use Rattle.shr_worker.specs.Commands as worker
 use Rattle.shr_worker.specs.Uncharging.{UnchargesEach}
 use Rattle.shr_worker.proofs.Drained.{drained_from}
-use Rattle.shr_assemble.proofs.Listed.{contains_among}
+use Rattle.shr_lawful.proofs.Listed.{contains_among}
 use Rattle.shr_assemble.proofs.QuietSteps.{step_of, HasDid, still_pool, still_tree, meets_none, never_met, unmade_apart, quiet_did, AreTables, tree_is}
 use Rattle.shr_assemble.proofs.Filling.{IsSet}
 use Rattle.shr_assemble.proofs.QuietTenant.{without, no_entries, unfound_lookups, brings_of}
 use Rattle.shr_assemble.proofs.QuietCharges.{uncharged_charges, nothing_did, charges_worn}
 use Rattle.shr_assemble.proofs.QuietSplices.{IsDrainOf, each_rec, rec_each, in_all, drains_freed, drains_added, drains_counted}
-use Rattle.shr_assemble.proofs.FreshLaw.{begins_length}
+use Rattle.shr_lawful.proofs.FreshLaw.{begins_length}
 
 take_start : {A : Type 0} (n : ℕ) (xs ys : List A) → n ≡ length xs → take n (xs ++ ys) ≡ xs
 take_start n xs ys e = ap (λ (m : ℕ). take m (xs ++ ys)) e ∙ take-append_seam xs ys

@@ -3,8 +3,8 @@ use Rattle.shr_assemble.proofs.Common.{◌≡◌, inl, inr, ⊎_elim, ℕ, ◌+�
 use Rattle.shr_base.specs.declared.replies.IsolateEnd.TheVariants as ending
 use Rattle.shr_base.specs.declared.replies.Spent.TheVariants as spent
 use Rattle.shr_assemble.proofs.QuietTenant.{called_then}
-use Rattle.shr_assemble.proofs.Gathering.{among_left, among_right}
-use Rattle.shr_assemble.proofs.Listed.{PairsRec, has_among}
+use Rattle.shr_lawful.proofs.Gathering.{among_left, among_right}
+use Rattle.shr_lawful.proofs.Listed.{PairsRec, has_among}
 use Rattle.shr_assemble.proofs.WalkingGives.{Freed, freed_then}
 
 -- an entry is a scan of these visits, at their list

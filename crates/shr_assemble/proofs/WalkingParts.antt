@@ -6,7 +6,7 @@ use Rattle.shr_pass.specs.declared.answers.ScanSeen.{ScanSeen}
 use Rattle.shr_pass.specs.Passes.{asked_of, scan_freed}
 use Rattle.shr_walk.specs.Attempts.{MadeNone, WasHeld, Found, tries_in}
 use Rattle.shr_walk.specs.Listing as listing
-use Rattle.shr_assemble.proofs.Gathering.{among_left, among_right}
+use Rattle.shr_lawful.proofs.Gathering.{among_left, among_right}
 
 -- an attempt found a held cache, or made nothing
 pub found_cases : (x : Shared) (walk : Walk) (id : ℕ) (o : Outcome) (first : LookupWord) (more : List Loaded) (held : Option ℕ) (made : List Made) (ops : List UseStep)

@@ -7,8 +7,8 @@ use Rattle.shr_base.specs.declared.walks.GoneThen.TheVariants as gone
 use Rattle.shr_base.specs.declared.walks.Outcome.TheVariants as outcome
 use Rattle.shr_walk.specs.Attempts.{Found, IsVisitMade, IsLoadShown}
 use Rattle.shr_walk.specs.Records as records
-use Rattle.shr_assemble.proofs.Gathering.{among_left}
-use Rattle.shr_assemble.proofs.Listed.{all_slice}
+use Rattle.shr_lawful.proofs.Gathering.{among_left}
+use Rattle.shr_lawful.proofs.Listed.{all_slice}
 
 -- ---- counts
 pub each_left : {A : Type 0} (P : A → Type 0) (l m : List A) → Each P (l ++ m) → Each P l

@@ -1,6 +1,6 @@
 -- Orders of lists, by pairs and by neighbours.
-use Rattle.shr_assemble.proofs.Common.{◌≡◌, zero, suc, ◌+◌, List, [], ◌∷◌, ◌++◌, length, map, get_or, ap, subst, arith, flat_map, AllByRecursion, AllAdjacentBelow, slice_get-get_or, each_append}
-use Rattle.shr_assemble.proofs.Listed.{all_slice_by, PairsRec}
+use Rattle.shr_assemble.proofs.Common.{◌≡◌, zero, suc, ◌+◌, List, [], ◌∷◌, ◌++◌, length, map, get_or, ap, subst, arith, flat_map, AllByRecursion, AllAdjacentBelow, slice_get-get_or, each_append, all_slice_by}
+use Rattle.shr_lawful.proofs.Listed.{PairsRec}
 
 -- R of each pair of elements of two lists
 abbrev pub AllCross : {A : Type 0} → (A → A → Type 0) → List A → List A → Type 0

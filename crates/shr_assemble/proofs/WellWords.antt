@@ -1,12 +1,11 @@
 -- The words of the entries, the objects and the replies of a run are those of its script's commands.
-use Rattle.shr_assemble.proofs.Common.{◌≡◌, ℕ, Bool, true, false, cond, List, [], ◌∷◌, length, map, sym, refl, ap, subst, ◌∙◌, slice_get, Option, Some, None, find, option_map, AllByRecursion, same_Some, none-some, Entry, Add, Look, Drop, Pin, Object, At, Place, Serial, Reply, Command, Put, Get, Del, SetPin, Script, WorkerScript, named_in, is_named, marked_object, unmarked_object, pinned_object, by_of, items_at, lists_moved_at, items_from, place_at, Made, IsWithin, IsCommandWithin, content_of, Report, parents_of, commands_in, commands_of, journals_of, id_found, items_left, at, IsReply, HasWords, LendsWord, IsSpelled, Step, steps_of, MayMakeEntry, IsReplyTo, IsRun, by_slices, is_value}
+use Rattle.shr_assemble.proofs.Common.{◌≡◌, ℕ, Bool, true, false, cond, List, [], ◌∷◌, length, map, sym, refl, ap, subst, ◌∙◌, slice_get, Option, Some, None, find, option_map, AllByRecursion, same_Some, none-some, Entry, Add, Look, Drop, Pin, Object, At, Place, Serial, Reply, Command, Put, Get, Del, SetPin, Script, WorkerScript, named_in, is_named, marked_object, unmarked_object, pinned_object, by_of, items_at, lists_moved_at, items_from, place_at, Made, IsWithin, IsCommandWithin, content_of, Report, parents_of, commands_in, commands_of, journals_of, id_found, items_left, at, IsReply, HasWords, LendsWord, IsSpelled, Step, steps_of, MayMakeEntry, IsReplyTo, IsRun, by_slices, is_value, all_slice_by}
 use Rattle.std.proofs.Math.Seq.{take-length}
 use Rattle.shr_base.specs.declared.replies.Reply.TheVariants as reply
-use Rattle.shr_assemble.proofs.FamilyObjects.{AddIs, items_at_kept}
-use Rattle.shr_assemble.proofs.Gathering.{each_among, maker, made_stands}
-use Rattle.shr_assemble.proofs.Listed.{all_slice_by}
-use Rattle.shr_assemble.proofs.ReplyEntries.{IsEntryFor, entry_asked}
-use Rattle.shr_assemble.proofs.RepliesLaw.{told_of}
+use Rattle.shr_lawful.proofs.FamilyObjects.{AddIs, items_at_kept}
+use Rattle.shr_lawful.proofs.Gathering.{each_among, maker, made_stands}
+use Rattle.shr_lawful.proofs.ReplyEntries.{IsEntryFor, entry_asked}
+use Rattle.shr_lawful.proofs.RepliesLaw.{told_of}
 
 -- a fact of each command of each worker, at one
 command_fact : (P : Command → Type 0) (ws : List WorkerScript) (worker k : ℕ) (c : Command) → AllByRecursion (AllByRecursion P) (map (λ (w : WorkerScript). w.commands.items) ws) → slice_get (commands_in (slice_get ws worker)) k ≡ Some c → P c

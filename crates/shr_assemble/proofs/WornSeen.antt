@@ -1,7 +1,7 @@
 -- What a list or the charges of a worker were told to be is so of the step in which it was told.
 use Rattle.shr_assemble.proofs.Common.{◌≡◌, ◌^◌, inl, inr, ⊎_elim, sym, subst, arith, Place, Spent, place_number, Shape, WornSeen, Script, IsThere, Step, IsAmong, IsWornBy}
 use Rattle.shr_base.specs.declared.replies.Spent.TheVariants as spent
-use Rattle.shr_assemble.proofs.Listed.{contains_among}
+use Rattle.shr_lawful.proofs.Listed.{contains_among}
 
 pub seen_worn : (s : Script) (shape : Shape) → shape.most_items ≡ 20000 → shape.most_entries ≡ 2 ^ 31 → (z : Step) (place : Place) → IsThere s place → (why : Spent) → WornSeen shape place why z.after → IsWornBy s z why
 seen_worn s shape m n z place there (spent.List at entries items) h = record {

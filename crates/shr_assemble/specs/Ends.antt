@@ -35,7 +35,7 @@ use Rattle.shr_sweep.specs.Helping.{HelpGives}
 use Rattle.shr_tables.specs.declared.ending.Ends.{Ends}
 use Rattle.shr_tables.specs.Opened.{AreEntered}
 use Rattle.shr_assemble.specs.declared.logs.WorkerLog.{WorkerLog}
-use Rattle.shr_assemble.specs.Sweeps.{ArePoppedOnce, all_popped}
+use Rattle.shr_lawful.specs.Sweeps.{ArePoppedOnce, all_popped}
 
 -- what the first seats of the tables have done and seen
 pub record Firsts : Type 0 where

@@ -5,10 +5,10 @@ pub use Rattle.std.proofs.lemmas.List.Elements.{All-append, All-cons, All-nil}
 pub use Rattle.std.proofs.lemmas.Option.{get_or_from_slice_get, none-some, same_Some, slice_get-map, slice_get_within}
 pub use Rattle.std.specs.Prelude.{All, Err, IfOk, IfSome, IsTrue, None, Ok, OnOk, Option, Result, Some, Vec, flat_map, option_map, slice_get, vec_len}
 pub use Rattle.shr_assemble.proofs.Crews.{there_at}
-pub use Rattle.shr_assemble.proofs.Listed.{all_slice}
+pub use Rattle.shr_lawful.proofs.Listed.{all_slice}
 pub use Rattle.shr_assemble.specs.Ends.{Firsts, HasHelped, HasWorked, HelpsWith, firsts_at_start, new_worker, sweep_reply, with_worker, with_workers}
 pub use Rattle.shr_assemble.specs.Putting.{AreEnds}
-pub use Rattle.shr_assemble.specs.Sweeps.{ArePoppedOnce, all_popped}
+pub use Rattle.shr_lawful.specs.Sweeps.{ArePoppedOnce, all_popped}
 pub use Rattle.shr_assemble.specs.declared.logs.WorkerLog.{WorkerLog}
 pub use Rattle.shr_base.specs.declared.scripts.Sweep.{Sweep}
 pub use Rattle.shr_base.specs.declared.scripts.WorkerScript.{WorkerScript}

@@ -16,7 +16,7 @@ use Rattle.shr_worker.specs.declared.tasks.WorkerResult.{WorkerResult}
 use Rattle.shr_worker.specs.Chain.{command_serial}
 use Rattle.shr_worker.specs.Replies.{unfound}
 use Rattle.shr_assemble.specs.Ends.{HasHelped, sweep_reply}
-use Rattle.shr_assemble.specs.Sweeps.{ArePoppedOnce, all_popped}
+use Rattle.shr_lawful.specs.Sweeps.{ArePoppedOnce, all_popped}
 use Rattle.shr_run.specs.declared.sweeping.Helper.{Helper}
 use Rattle.shr_run.specs.Joins.{last_of}
 

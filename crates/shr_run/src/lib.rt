@@ -3,7 +3,8 @@
 //! What belongs here: the workers of a script as the items of one call of `map_vec`, each with
 //! seats of its own, from the opening of the tables to the report, and behind their commands as
 //! the helpers of its sweep. What a worker does stands in `shr_worker`, how tables are opened,
-//! split, joined and ended in `shr_tables`, and why the report is lawful in `shr_assemble`.
+//! split, joined and ended in `shr_tables`, and why the report is lawful in `shr_assemble` and
+//! `shr_lawful`.
 #![tactic(auto)]
 
 mod joining;

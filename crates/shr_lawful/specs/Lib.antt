@@ -1,0 +1,16 @@
+pub mod Steps
+pub mod Entries
+pub mod Lookups
+pub mod Worn
+pub mod Attempts
+pub mod Walks
+pub mod Charges
+pub mod Deferred
+pub mod Pool
+pub mod Offlining
+pub mod Causes
+pub mod Did
+pub mod Order
+pub mod Isolating
+pub mod Sweeps
+pub mod Runs
