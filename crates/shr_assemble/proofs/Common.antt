@@ -36,6 +36,7 @@ pub use Rattle.shr_base.specs.declared.objects.Policy.{Policy}
 pub use Rattle.shr_base.specs.declared.places.At.{At}
 pub use Rattle.shr_base.specs.declared.places.Place.{Place}
 pub use Rattle.shr_base.specs.declared.places.Serial.{Serial}
+pub use Rattle.shr_base.specs.declared.places.Target.{Target}
 pub use Rattle.shr_base.specs.declared.replies.Answered.{Answered}
 pub use Rattle.shr_base.specs.declared.replies.Found.{Found}
 pub use Rattle.shr_base.specs.declared.replies.HalfWhy.{HalfWhy}
@@ -43,8 +44,9 @@ pub use Rattle.shr_base.specs.declared.replies.IsolateEnd.{IsolateEnd}
 pub use Rattle.shr_base.specs.declared.replies.Reply.{Reply}
 pub use Rattle.shr_base.specs.declared.replies.Spent.{Spent}
 pub use Rattle.shr_base.specs.declared.scripts.CacheDecl.{CacheDecl}
+pub use Rattle.shr_base.specs.declared.scripts.Act.TheVariants.{Del, Get, SetPin}
 pub use Rattle.shr_base.specs.declared.scripts.Command.{Command}
-pub use Rattle.shr_base.specs.declared.scripts.Command.TheVariants.{Balance, Del, Get, Grab, Isolate, MkGroup, Offline, Put, Register, Release, SetPin, Shrink, Unregister}
+pub use Rattle.shr_base.specs.declared.scripts.Command.TheVariants.{Balance, Grab, Isolate, MkGroup, Offline, On, Put, Register, Release, Shrink, Unregister}
 pub use Rattle.shr_base.specs.declared.scripts.GroupDecl.{GroupDecl}
 pub use Rattle.shr_base.specs.declared.scripts.PoolDecl.{PoolDecl}
 pub use Rattle.shr_base.specs.declared.scripts.Script.{Script}

@@ -1,5 +1,5 @@
 -- What a worker's part of the sweep did, and what each command did, put together.
-use Rattle.shr_assemble.proofs.Common.{◌≡◌, ℕ, ◌<◌, Bool, List, [], ◌∷◌, ◌++◌, length, map, sym, refl, ap, subst, ◌∙◌, sum, Some, None, AllByRecursion, append-nil, map-append, length-map, none-some, Serial, Answered, Reply, Sweep, WalkAnswer, WalkRecord, Job, job_of, SweepItem, End, SweepJob, Visit, job_in, VisitHadMemory, AreVisited, parents_of, IsSwept, HadMemory, WorkerState, Shared, CrewState, unfound, Did, HasHelped, job_walked, IsSweepWalk, sweep_reply, slice_get, Command, Put, Get, Del, SetPin, Shrink, Balance, Offline, MkGroup, Register, Unregister, Isolate, Release, Grab, Script, Isolation, IsCommandWithin, IsIsolationWithin, content_of, isolations_told, DeedGives, isolate_there, Step, DidSweep, MayBeOffline, ◌⊎◌, KnowsOnline}
+use Rattle.shr_assemble.proofs.Common.{◌≡◌, ℕ, ◌<◌, Bool, List, [], ◌∷◌, ◌++◌, length, map, sym, refl, ap, subst, ◌∙◌, sum, Some, None, AllByRecursion, append-nil, map-append, length-map, none-some, Serial, Target, Answered, Reply, Sweep, WalkAnswer, WalkRecord, Job, job_of, SweepItem, End, SweepJob, Visit, job_in, VisitHadMemory, AreVisited, parents_of, IsSwept, HadMemory, WorkerState, Shared, CrewState, unfound, Did, HasHelped, job_walked, IsSweepWalk, sweep_reply, slice_get, Command, Put, On, Get, Del, SetPin, Shrink, Balance, Offline, MkGroup, Register, Unregister, Isolate, Release, Grab, Script, Isolation, IsCommandWithin, IsIsolationWithin, content_of, isolations_told, DeedGives, isolate_there, Step, DidSweep, MayBeOffline, ◌⊎◌, KnowsOnline}
 use Rattle.shr_base.specs.declared.replies.Reply.TheVariants as reply
 use Rattle.shr_pool.specs.declared.items.SweepItem.TheVariants.{Walk}
 use Rattle.shr_pool.specs.declared.view.PassView.{PassView}
@@ -184,18 +184,18 @@ worked s by c a t u none same free h = record {
 walked : (x : Shared) (by : Serial) (c : Command) (a : Answered) (t u : CrewState) → isolations_told by c a ≡ [] → u.isolations ≡ t.isolations → u.seats.core.claims.held ≡ None → Stepping x by (Some c) a t.seats u.seats → Worked x.script by c a t u
 walked x by c a t u none same free h = worked x.script by c a t u none same free (record { work = h.work; does = h.does; did = h.did })
 
-isolated : (x : Shared) (table : IsTableOf x) (by : Serial) (group node decl budget : ℕ) (a : Answered) (t u : CrewState) → IsIsolationWithin (content_of x.script) group node decl budget → DeedGives x by (Isolate group node decl budget) a t u
-    → Worked x.script by (Isolate group node decl budget) a t u
-isolated x table by group node decl budget a t u within g =
-    let h = isolate_done x table by group node decl budget within a t.seats u.seats t.isolations u.isolations g.recorded in
+isolated : (x : Shared) (table : IsTableOf x) (by : Serial) (to : Target) (budget : ℕ) (a : Answered) (t u : CrewState) → IsIsolationWithin (content_of x.script) to budget → DeedGives x by (Isolate to budget) a t u
+    → Worked x.script by (Isolate to budget) a t u
+isolated x table by to budget a t u within g =
+    let h = isolate_done x table by to budget within a t.seats u.seats t.isolations u.isolations g.recorded in
     record { work = h.did.work; brings = h.did.does; did = h.did.did; recorded = h.recorded; by_law = h.by_law; free = g.free }
 
 each_command : (x : Shared) → IsTableOf x → (by : Serial) (c : Command) (a : Answered) (t u : CrewState) → IsCommandWithin (content_of x.script) c → IsFit t.seats → DeedGives x by c a t u
     → Worked x.script by c a t u
-each_command x table by (Put group node decl key value) a t u within fit g = worked x.script by (Put group node decl key value) a t u refl g.recorded g.free (put_did x table by group node decl key value within.0 a t.seats u.seats fit.rising g.seats)
-each_command x table by (Get group node decl key) a t u within fit g = worked x.script by (Get group node decl key) a t u refl g.recorded g.free (get_did x table by group node decl key within a t.seats u.seats g.seats)
-each_command x table by (Del group node decl key) a t u within fit g = worked x.script by (Del group node decl key) a t u refl g.recorded g.free (del_did x table by group node decl key within a t.seats u.seats g.seats)
-each_command x table by (SetPin group node decl key pinned) a t u within fit g = worked x.script by (SetPin group node decl key pinned) a t u refl g.recorded g.free (pin_did x table by group node decl key pinned within a t.seats u.seats g.seats)
+each_command x table by (Put to key value) a t u within fit g = worked x.script by (Put to key value) a t u refl g.recorded g.free (put_did x table by to key value within.0 a t.seats u.seats fit.rising g.seats)
+each_command x table by (On to key Get) a t u within fit g = worked x.script by (On to key Get) a t u refl g.recorded g.free (get_did x table by to key within a t.seats u.seats g.seats)
+each_command x table by (On to key Del) a t u within fit g = worked x.script by (On to key Del) a t u refl g.recorded g.free (del_did x table by to key within a t.seats u.seats g.seats)
+each_command x table by (On to key (SetPin pinned)) a t u within fit g = worked x.script by (On to key (SetPin pinned)) a t u refl g.recorded g.free (pin_did x table by to key pinned within a t.seats u.seats g.seats)
 each_command x table by (Shrink group node priority nofs) a t u within fit g = walked x by (Shrink group node priority nofs) a t u refl g.recorded g.free (shrink_did x table by group node priority nofs t.seats u.seats a within.1.on_node (group_in x group within.0) g.seats)
 each_command x table by (Balance node priority nofs) a t u within fit g = walked x by (Balance node priority nofs) a t u refl g.recorded g.free (balance_did x table by node priority nofs t.seats u.seats a within.on_node g.seats)
 each_command x table by (Offline group) a t u within fit g = worked x.script by (Offline group) a t u refl g.recorded g.free (offline_did x table by group t.seats u.seats fit.home a g.seats)
@@ -204,7 +204,7 @@ each_command x table by (Unregister decl) a t u within fit g = worked x.script b
 each_command x table by (MkGroup group) a t u within fit g = worked x.script by (MkGroup group) a t u refl g.recorded g.free (mkgroup_did x table by group t.seats u.seats fit.home a g.seats)
 each_command x table by (Release node pool n) a t u within fit g = worked x.script by (Release node pool n) a t u refl g.recorded g.free (release_did x by node pool n a t u g)
 each_command x table by (Grab node pool) a t u within fit g = worked x.script by (Grab node pool) a t u refl g.recorded g.free (grab_did x by node pool a t u g)
-each_command x table by (Isolate group node decl budget) a t u within fit g = isolated x table by group node decl budget a t u (isolate_there (content_of x.script) group node decl budget within) g
+each_command x table by (Isolate to budget) a t u within fit g = isolated x table by to budget a t u (isolate_there (content_of x.script) to budget within) g
 
 pub did_each : (x : Shared) → IsTableOf x → DidEach x
 did_each x table = record { command = each_command x table; sweep = sweep_did x table }

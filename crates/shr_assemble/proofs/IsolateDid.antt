@@ -1,5 +1,5 @@
 -- What an isolation did.
-use Rattle.shr_assemble.proofs.Common.{◌≡◌, inr, ℕ, ◌+◌, ◌<◌, false, List, [], ◌∷◌, ◌++◌, length, map, sym, refl, ap, subst, ◌∙◌, arith, slice_get, Option, Some, None, AllPairs, sum_by, option_and_then, AllByRecursion, append-nil, append_cancel_left, All-from_recursion, AllPairs-cons, sum_by-cons, same_Some, none-some, Entry, Add, Scan, Object, Place, Serial, Answered, Found, IsolateEnd, Reply, Command, Isolate, Isolation, decl_named, place_number, first_isolation, Each-none, Begins, View, Adds, place_at, Made, Turns, shape_of, with_put, AreDowns, AreRising, calls_with, both_uses, KnowsClosed, IsScanOf, objects_freed, paths_of, WornSeen, WorkerState, Work, no_work, then_work, Shared, does_none, adds_put, OnCache, visitor_of, placed, placed_scan, Visitor, IsIsolationWithin, content_of, within_of_valid, parents_of, IsThere, is_past_group, isolations_told, Step, BringsWork, added_below, Did, MayMakeEntry, DidIsolation, DidIsolations, by_slices, some_at, Isolates, IsolateGives, IsolatedAs, IsolatedFrom, RefusedBy, found_place, cond}
+use Rattle.shr_assemble.proofs.Common.{◌≡◌, inr, ℕ, ◌+◌, ◌<◌, false, List, [], ◌∷◌, ◌++◌, length, map, sym, refl, ap, subst, ◌∙◌, arith, slice_get, Option, Some, None, AllPairs, sum_by, option_and_then, AllByRecursion, append-nil, append_cancel_left, All-from_recursion, AllPairs-cons, sum_by-cons, same_Some, none-some, Entry, Add, Scan, Object, Place, Serial, Target, Answered, Found, IsolateEnd, Reply, Command, Isolate, Isolation, decl_named, place_number, first_isolation, Each-none, Begins, View, Adds, place_at, Made, Turns, shape_of, with_put, AreDowns, AreRising, calls_with, both_uses, KnowsClosed, IsScanOf, objects_freed, paths_of, WornSeen, WorkerState, Work, no_work, then_work, Shared, does_none, adds_put, OnCache, visitor_of, placed, placed_scan, Visitor, IsIsolationWithin, content_of, within_of_valid, parents_of, IsThere, is_past_group, isolations_told, Step, BringsWork, added_below, Did, MayMakeEntry, DidIsolation, DidIsolations, by_slices, some_at, Isolates, IsolateGives, IsolatedAs, IsolatedFrom, RefusedBy, found_place, cond}
 use Rattle.shr_base.specs.declared.replies.Reply.TheVariants as reply
 use Rattle.shr_charge.specs.declared.answers.GroupState.TheVariants.{Online}
 use Rattle.shr_drop.proofs.ByLaw.{found_lawful}
@@ -25,22 +25,22 @@ none_added parents g v (m ∷ made) h = omega (arith, sum_by-cons (λ (n : Made)
   one (Scan worker n asked policy visits freed stopped) k = refl
   one e k = absurd k
 
-module _ (x : Shared) (tables : AreTables x) (by : Serial) (group node decl budget : ℕ) (within : IsIsolationWithin (content_of x.script) group node decl budget) where
+module _ (x : Shared) (tables : AreTables x) (by : Serial) (to : Target) (budget : ℕ) (within : IsIsolationWithin (content_of x.script) to budget) where
   abbrev command : Command
-  command = Isolate group node decl budget
+  command = Isolate to budget
 
-  tenant : IsTenant x.script by command group decl
+  tenant : IsTenant x.script by command to.group to.decl
   tenant =
-      let asks : (g : ℕ) → None ≡ Some g → group ≡ g = λ g e. absurd (none-some g e) in
-      let shows : (r : Reply) (g : ℕ) → cond (is_past_group r) None None ≡ Some g → group ≡ g = λ r g e. absurd (never_met (is_past_group r) g e) in
+      let asks : (g : ℕ) → None ≡ Some g → to.group ≡ g = λ g e. absurd (none-some g e) in
+      let shows : (r : Reply) (g : ℕ) → cond (is_past_group r) None None ≡ Some g → to.group ≡ g = λ r g e. absurd (never_met (is_past_group r) g e) in
       assumption (asks, shows, none-some {A = ℕ})
 
-  there : group < length (parents_of x.script)
-  there = group_in x group within.in_group
+  there : to.group < length (parents_of x.script)
+  there = group_in x to.group within.in_group
 
-  module _ (f : Found) (visits freed : ℕ) (e : IsolateEnd) (s t : WorkerState) (before after : List Isolation) (h : Isolates x by group node decl budget f visits freed e s t before after) where
+  module _ (f : Found) (visits freed : ℕ) (e : IsolateEnd) (s t : WorkerState) (before after : List Isolation) (h : Isolates x by to.group to.node to.decl budget f visits freed e s t before after) where
     abbrev place : Place
-    place = found_place f node group
+    place = found_place f to.node to.group
 
     abbrev visitor : Visitor
     visitor = visitor_of by (length before) place h.d
@@ -61,7 +61,7 @@ module _ (x : Shared) (tables : AreTables x) (by : Serial) (group node decl budg
     abbrev call : View → View → Type 0
     call v w = Unit {0}
 
-    abbrev on_cache : OnCache x group decl f call s called
+    abbrev on_cache : OnCache x to.group to.decl f call s called
     on_cache = record { loaded = h.loaded; held = h.held; online = h.online; holds = h.holds; calls = record { called = h.visited.core; made = tt; rest = refl } }
 
     -- the visits, with the uncharges
@@ -69,7 +69,7 @@ module _ (x : Shared) (tables : AreTables x) (by : Serial) (group node decl budg
     visiting = record no_work { core = calling visited.made []; ops = visited.ops; uncharges = length (objects_freed visited.made) }
 
     abbrev work : Work
-    work = then_work (loading group Online) (then_work (gaining (finding decl f h.holds.answers.gains.words)) visiting)
+    work = then_work (loading to.group Online) (then_work (gaining (finding to.decl f h.holds.answers.gains.words)) visiting)
 
     abbrev step : Step
     step = step_of by command answered s t work
@@ -95,8 +95,8 @@ module _ (x : Shared) (tables : AreTables x) (by : Serial) (group node decl budg
     }
 
     does : BringsWork s t work
-    does = brings_then s h.loaded t (loading group Online) (then_work (gaining (finding decl f h.holds.answers.gains.words)) visiting) (brings_of (does_load x group Online s h.loaded h.online))
-        (brings_then h.loaded h.held t (gaining (finding decl f h.holds.answers.gains.words)) visiting (brings_of (does_gain h.loaded h.held (finding decl f h.holds.answers.gains.words) h.holds.answers.gains.adds h.holds.rest)) third)
+    does = brings_then s h.loaded t (loading to.group Online) (then_work (gaining (finding to.decl f h.holds.answers.gains.words)) visiting) (brings_of (does_load x to.group Online s h.loaded h.online))
+        (brings_then h.loaded h.held t (gaining (finding to.decl f h.holds.answers.gains.words)) visiting (brings_of (does_gain h.loaded h.held (finding to.decl f h.holds.answers.gains.words) h.holds.answers.gains.adds h.holds.rest)) third)
 
     turns_is : t.core.turns ≡ called.core.turns
     turns_is = ap (λ (u : WorkerState). u.core.turns) end_is
@@ -131,7 +131,7 @@ module _ (x : Shared) (tables : AreTables x) (by : Serial) (group node decl budg
         sets = Each-none (IsSet visited.made []);
         cited = λ c no. absurd (none-some c no);
       };
-      lookups = found_lookups x.script step decl f refl refl refl (found_by x group decl f call s called on_cache visited.made [] visited.gains step turns_is (0, refl));
+      lookups = found_lookups x.script step to.decl f refl refl refl (found_by x to.group to.decl f call s called on_cache visited.made [] visited.gains step turns_is (0, refl));
       walks = calm_walks x.script step tt (record { walks = refl; seen = refl; maps = refl; cleared = refl });
       charges = uncharged_charges x.script step (objects_freed visited.made) (within_of_valid (content_of x.script) tables.shared.script).tree (record {
         born = born;
@@ -143,7 +143,7 @@ module _ (x : Shared) (tables : AreTables x) (by : Serial) (group node decl budg
         charged = λ g. refl;
       });
       moves = still_moves x.script step (record { walks = refl; takes = refl; gives = refl; carries = refl });
-      pool = still_pool x.script step does.core.pool (record { turns = refl; made = refl }) (found_entry x group decl f call s called on_cache visited.made [] visited.gains ∙ ap (λ (y : Turns). length y.known) (sym turns_is));
+      pool = still_pool x.script step does.core.pool (record { turns = refl; made = refl }) (found_entry x to.group to.decl f call s called on_cache visited.made [] visited.gains ∙ ap (λ (y : Turns). length y.known) (sym turns_is));
       tree = still_tree x.script step refl (λ g asks above. absurd (none-some g asks)) (meets_none x.script step (λ g no. absurd (cc)) (λ g no. never_met (is_past_group (reply.Isolated visits freed e)) g no));
       cause = tt;
     }
@@ -151,7 +151,7 @@ module _ (x : Shared) (tables : AreTables x) (by : Serial) (group node decl budg
     -- and what it did by the law
     by_law : (z : Step) → z.by ≡ by → z.command ≡ Some command → z.after ≡ t → z.work.core.made ≡ visited.made → DidIsolation x.script z (length before) isolation
     by_law z own is end made =
-        let l = found_lawful x by group node decl budget f visits freed e s t before after h in
+        let l = found_lawful x by to.group to.node to.decl budget f visits freed e s t before after h in
         let gained : t.core.traces.made ≡ s.core.traces.made ++ visited.made = does.core.made in
         let same : l.isolates.scanned.made ≡ visited.made = append_cancel_left s.core.traces.made l.isolates.scanned.made visited.made (sym l.isolates.scanned.gained ∙ gained) in record {
           there = place_there;
@@ -171,7 +171,7 @@ module _ (x : Shared) (tables : AreTables x) (by : Serial) (group node decl budg
     pub recorded : after ≡ before ++ isolations_told by command a
     pub by_law : DidIsolations x.script (step_of by command a s t did.work) (length before)
 
-  found_done : (f : Found) (r : Reply) (s t : WorkerState) (before after : List Isolation) → IsolatedFrom x by group node decl budget f r s t before after → IsolateDone (record { reply = r; found = Some f }) s t before after
+  found_done : (f : Found) (r : Reply) (s t : WorkerState) (before after : List Isolation) → IsolatedFrom x by to.group to.node to.decl budget f r s t before after → IsolateDone (record { reply = r; found = Some f }) s t before after
   found_done f (reply.Isolated visits freed e) s t before after h = record {
     did = record { work = work f visits freed e s t before after h; does = does f visits freed e s t before after h; did = all_did f visits freed e s t before after h };
     recorded = h.recorded;
@@ -188,16 +188,16 @@ module _ (x : Shared) (tables : AreTables x) (by : Serial) (group node decl budg
     by_law = λ i told. absurd (none-some i (ap (λ (l : List Isolation). slice_get l 0) told));
   }
 
-  refused_done : (r : Reply) (s t : WorkerState) (before after : List Isolation) → RefusedBy x group decl r s t before after → IsolateDone (without r) s t before after
+  refused_done : (r : Reply) (s t : WorkerState) (before after : List Isolation) → RefusedBy x to.group to.decl r s t before after → IsolateDone (without r) s t before after
   refused_done reply.Memory s t before after h = unfound_done reply.Memory s t before after
       (nothing_did x.script by command reply.Memory s t h.rest tt (λ family. tt) refl (λ g. refl) refl refl (λ g asks above. absurd (none-some g asks))
       (meets_none x.script (step_of by command (without reply.Memory) s t no_work) (λ g no. absurd (cc)) (λ g no. never_met false g no)) tt)
       h.records
-  refused_done r s t before after h = unfound_done r s t before after (refused_did x tables by command group decl tenant r s t h.refused) h.records
+  refused_done r s t before after h = unfound_done r s t before after (refused_did x tables by command to.group to.decl tenant r s t h.refused) h.records
 
-  by_found : (found : Option Found) (r : Reply) (s t : WorkerState) (before after : List Isolation) → IsolatedAs x by group node decl budget found r s t before after → IsolateDone (record { reply = r; found = found }) s t before after
+  by_found : (found : Option Found) (r : Reply) (s t : WorkerState) (before after : List Isolation) → IsolatedAs x by to.group to.node to.decl budget found r s t before after → IsolateDone (record { reply = r; found = found }) s t before after
   by_found None r s t before after h = refused_done r s t before after h
   by_found (Some f) r s t before after h = found_done f r s t before after h
 
-  pub isolate_done : (a : Answered) (s t : WorkerState) (before after : List Isolation) → IsolateGives x by group node decl budget a s t before after → IsolateDone a s t before after
+  pub isolate_done : (a : Answered) (s t : WorkerState) (before after : List Isolation) → IsolateGives x by to.group to.node to.decl budget a s t before after → IsolateDone a s t before after
   isolate_done a s t before after h = by_found a.found a.reply s t before after h

@@ -1,5 +1,5 @@
 -- What a set_pin did.
-use Rattle.shr_assemble.proofs.Common.{◌≡◌, ℕ, ◌<◌, Bool, true, false, List, length, refl, ap, arith, Option, Some, None, Object, Serial, At, Entry, Pin, Answered, Found, Reply, Spent, Command, SetPin, is_named, holds, pinned_object, length_change_first, View, shape_of, Listed, IsObjectWithin, content_of, Shared, WorkerState, parents_of, is_past_group, same_Some, none-some, pin_entry}
+use Rattle.shr_assemble.proofs.Common.{◌≡◌, ℕ, ◌<◌, Bool, true, false, List, length, refl, ap, arith, Option, Some, None, Object, Serial, Target, At, Entry, Pin, Answered, Found, Reply, Spent, Command, On, SetPin, is_named, holds, pinned_object, length_change_first, View, shape_of, Listed, IsObjectWithin, content_of, Shared, WorkerState, parents_of, is_past_group, same_Some, none-some, pin_entry}
 use Rattle.shr_base.specs.declared.replies.Reply.TheVariants as reply
 use Rattle.shr_base.specs.declared.replies.Spent.TheVariants as spent
 use Rattle.shr_node.specs.declared.answers.NodePin.{NodePin}
@@ -9,61 +9,61 @@ use Rattle.shr_cache.specs.Pins.{Pins, PinnedFrom, PinnedAs, SetPinGives}
 use Rattle.shr_assemble.proofs.QuietSteps.{HasDid, some_met, AreTables}
 use Rattle.shr_assemble.proofs.QuietTenant.{IsTenant, group_in, refused_did, acted_did, stood_did, cites_is, full_did}
 
-module _ (x : Shared) (tables : AreTables x) (by : Serial) (group node decl : ℕ) (key : List ℕ) (pinned : Bool) (within : IsObjectWithin (content_of x.script) group node decl key) where
+module _ (x : Shared) (tables : AreTables x) (by : Serial) (to : Target) (key : List ℕ) (pinned : Bool) (within : IsObjectWithin (content_of x.script) to key) where
   abbrev command : Command
-  command = SetPin group node decl key pinned
+  command = On to key (SetPin pinned)
 
-  tenant : IsTenant x.script by command group decl
-  tenant = assumption (same_Some group, (λ (r : Reply). some_met (is_past_group r) group), none-some {A = ℕ})
+  tenant : IsTenant x.script by command to.group to.decl
+  tenant = assumption (same_Some to.group, (λ (r : Reply). some_met (is_past_group r) to.group), none-some {A = ℕ})
 
   -- what a set_pin asks of its list, and the entry that it makes there
   abbrev pinning : Found → NodePin → View → View → Type 0
-  pinning f answer v w = lists.PinGives (shape_of x.core) v f.id node by group key pinned answer w
+  pinning f answer v w = lists.PinGives (shape_of x.core) v f.id to.node by to.group key pinned answer w
 
   abbrev pins_so : Listed → Entry
-  pins_so old = pin_entry old by group key pinned
+  pins_so old = pin_entry old by to.group key pinned
 
-  there : group < length (parents_of x.script)
-  there = group_in x group within.in_group
+  there : to.group < length (parents_of x.script)
+  there = group_in x to.group within.in_group
 
   module _ (f : Found) (s t : WorkerState) where
-    done : (c : At) → Pins x by group node decl key pinned f (pin.Done c) s t → HasDid x.script by command (record { reply = reply.Done c; found = Some f }) s t
+    done : (c : At) → Pins x by to.group to.node to.decl key pinned f (pin.Done c) s t → HasDid x.script by command (record { reply = reply.Done c; found = Some f }) s t
     done c o =
         let a = o.calls.made in
         let call : View → View → Type 0 = pinning f (pin.Done c) in
-        let so : List Object → Type 0 = λ items. holds group key items ≡ true in
-        acted_did x tables by command group node decl tenant f call (reply.Done c) s t o group c so pins_so a within.on_node there refl (λ told. told)
-        (λ family stands. cites_is x tables by command group node decl tenant f call (reply.Done c) s t o group c so pins_so a within.on_node there family (Pin by group key pinned true) stands (ap (Pin by group key pinned) a.before))
+        let so : List Object → Type 0 = λ items. holds to.group key items ≡ true in
+        acted_did x tables by command to.group to.node to.decl tenant f call (reply.Done c) s t o to.group c so pins_so a within.on_node there refl (λ told. told)
+        (λ family stands. cites_is x tables by command to.group to.node to.decl tenant f call (reply.Done c) s t o to.group c so pins_so a within.on_node there family (Pin by to.group key pinned true) stands (ap (Pin by to.group key pinned) a.before))
         refl (λ e. cc) (λ g. refl) (λ g. refl) refl refl tt
 
-    miss : (c : At) → Pins x by group node decl key pinned f (pin.Miss c) s t → HasDid x.script by command (record { reply = reply.Miss c; found = Some f }) s t
+    miss : (c : At) → Pins x by to.group to.node to.decl key pinned f (pin.Miss c) s t → HasDid x.script by command (record { reply = reply.Miss c; found = Some f }) s t
     miss c o =
         let a = o.calls.made in
         let call : View → View → Type 0 = pinning f (pin.Miss c) in
-        let so : List Object → Type 0 = λ items. holds group key items ≡ false in
-        acted_did x tables by command group node decl tenant f call (reply.Miss c) s t o group c so pins_so a within.on_node there refl (λ told. told)
-        (λ family stands. cites_is x tables by command group node decl tenant f call (reply.Miss c) s t o group c so pins_so a within.on_node there family (Pin by group key pinned false) stands (ap (Pin by group key pinned) a.before))
+        let so : List Object → Type 0 = λ items. holds to.group key items ≡ false in
+        acted_did x tables by command to.group to.node to.decl tenant f call (reply.Miss c) s t o to.group c so pins_so a within.on_node there refl (λ told. told)
+        (λ family stands. cites_is x tables by command to.group to.node to.decl tenant f call (reply.Miss c) s t o to.group c so pins_so a within.on_node there family (Pin by to.group key pinned false) stands (ap (Pin by to.group key pinned) a.before))
         refl (λ e. cc) (λ g. refl) (λ g. refl) refl refl tt
 
-    worn : (w : Spent) → Pins x by group node decl key pinned f (pin.Worn w) s t → HasDid x.script by command (record { reply = reply.Worn w; found = Some f }) s t
+    worn : (w : Spent) → Pins x by to.group to.node to.decl key pinned f (pin.Worn w) s t → HasDid x.script by command (record { reply = reply.Worn w; found = Some f }) s t
     worn (spent.Lookups id seen) o = absurd o.calls.made
     worn (spent.Charges charges uncharges) o = absurd o.calls.made
     worn (spent.List place entries items) o = let a = o.calls.made in
-        full_did x tables by command group node decl tenant f (pinning f (pin.Worn (spent.List place entries items))) entries items place s t o pins_so a within.on_node there (λ family. tt) (let n = a.full.worn.items_then in let same = length_change_first (is_named group key) (pinned_object pinned) a.old.items in omega (arith, n, same))
+        full_did x tables by command to.group to.node to.decl tenant f (pinning f (pin.Worn (spent.List place entries items))) entries items place s t o pins_so a within.on_node there (λ family. tt) (let n = a.full.worn.items_then in let same = length_change_first (is_named to.group key) (pinned_object pinned) a.old.items in omega (arith, n, same))
 
-    lacking : Pins x by group node decl key pinned f pin.Memory s t → HasDid x.script by command (record { reply = reply.Memory; found = Some f }) s t
-    lacking o = stood_did x tables by command group node decl tenant f (pinning f pin.Memory) reply.Memory s t o o.calls.made.free.gains (λ family. tt) refl refl refl tt
+    lacking : Pins x by to.group to.node to.decl key pinned f pin.Memory s t → HasDid x.script by command (record { reply = reply.Memory; found = Some f }) s t
+    lacking o = stood_did x tables by command to.group to.node to.decl tenant f (pinning f pin.Memory) reply.Memory s t o o.calls.made.free.gains (λ family. tt) refl refl refl tt
 
-    from : (r : Reply) → PinnedFrom x by group node decl key pinned f r s t → HasDid x.script by command (record { reply = r; found = Some f }) s t
+    from : (r : Reply) → PinnedFrom x by to.group to.node to.decl key pinned f r s t → HasDid x.script by command (record { reply = r; found = Some f }) s t
     from (reply.Done c) h = done c h
     from (reply.Miss c) h = miss c h
     from (reply.Worn w) h = worn w h
     from reply.Memory h = lacking h
     from r h = absurd h
 
-  got : (found : Option Found) (r : Reply) (s t : WorkerState) → PinnedAs x by group node decl key pinned found r s t → HasDid x.script by command (record { reply = r; found = found }) s t
-  got None r s t h = refused_did x tables by command group decl tenant r s t h
+  got : (found : Option Found) (r : Reply) (s t : WorkerState) → PinnedAs x by to.group to.node to.decl key pinned found r s t → HasDid x.script by command (record { reply = r; found = found }) s t
+  got None r s t h = refused_did x tables by command to.group to.decl tenant r s t h
   got (Some f) r s t h = from f s t r h
 
-  pub pin_did : (a : Answered) (s t : WorkerState) → SetPinGives x by group node decl key pinned a s t → HasDid x.script by command a s t
+  pub pin_did : (a : Answered) (s t : WorkerState) → SetPinGives x by to.group to.node to.decl key pinned a s t → HasDid x.script by command a s t
   pin_did a s t h = got a.found a.reply s t h

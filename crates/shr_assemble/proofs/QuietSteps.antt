@@ -23,7 +23,7 @@ pub record HasDid (s : Script) (by : Serial) (c : Command) (a : Answered) (befor
 
 -- the commands that never walk
 abbrev pub IsCalm : Command → Type 0
-IsCalm (Put group node decl key value) = ⊥
+IsCalm (Put to key value) = ⊥
 IsCalm (Shrink group node priority nofs) = ⊥
 IsCalm (Balance node priority nofs) = ⊥
 IsCalm c = Unit {0}
@@ -35,19 +35,19 @@ pub record WalksNot (w : Work) : Type 0 where
   pub cleared : w.core.cleared ≡ []
 
 calm_rounds : (s : Script) (x : Step) (c : Command) → IsCalm c → DidRoundsOf s x [] c
-calm_rounds s x (Put group node decl key value) h = absurd h
+calm_rounds s x (Put to key value) h = absurd h
 calm_rounds s x (Shrink group node priority nofs) h = absurd h
 calm_rounds s x (Balance node priority nofs) h = absurd h
 calm_rounds s x c h = refl
 
 calm_jobs : (parents : List ℕ) (nodes : ℕ) (c : Command) → IsCalm c → jobs_of parents nodes [] c ≡ []
-calm_jobs parents nodes (Put group node decl key value) h = absurd h
+calm_jobs parents nodes (Put to key value) h = absurd h
 calm_jobs parents nodes (Shrink group node priority nofs) h = absurd h
 calm_jobs parents nodes (Balance node priority nofs) h = absurd h
 calm_jobs parents nodes c h = refl
 
 calm_told : (s : Script) (ws : List WalkRecord) (c : Command) (r : Reply) → IsCalm c → IsToldBy s ws c r
-calm_told s ws (Put group node decl key value) r h = absurd h
+calm_told s ws (Put to key value) r h = absurd h
 calm_told s ws (Shrink group node priority nofs) r h = absurd h
 calm_told s ws (Balance node priority nofs) r h = absurd h
 calm_told s ws c r h = tt

@@ -1,5 +1,5 @@
 -- What a command did at the pools of units, in the words of the law on pools.
-use Rattle.shr_assemble.proofs.Common.{◌≡◌, ℕ, ◌<◌, ◌≤◌, Bool, true, false, not, ◌&&◌, cond, List, [], ◌∷◌, length, sym, refl, ap, subst, ◌∙◌, arith, ne_eqb, Option, Some, None, ◌==◌, Place, Serial, Answered, Reply, Command, Put, Get, Del, SetPin, Shrink, Balance, Offline, MkGroup, Register, Unregister, Isolate, Release, Grab, PoolDecl, Script, Family, IsCommandWithin, content_of, GrabAnswer, ReleaseAnswer, PlainState, worker_units_place, PlainGives, IsReply, IsOther, DidUnitsOf, ⊤, IsPoolCommandWithin, has_pools, is_walked, is_due, WalksIf, served, PlainJob, one_plain, plain_jobs, plain_due, units_release_reply, units_grab_reply, DidPoolWalks}
+use Rattle.shr_assemble.proofs.Common.{◌≡◌, ℕ, ◌<◌, ◌≤◌, Bool, true, false, not, ◌&&◌, cond, List, [], ◌∷◌, length, sym, refl, ap, subst, ◌∙◌, arith, ne_eqb, Option, Some, None, ◌==◌, Place, Serial, Answered, Reply, Command, Put, On, Shrink, Balance, Offline, MkGroup, Register, Unregister, Isolate, Release, Grab, PoolDecl, Script, Family, IsCommandWithin, content_of, GrabAnswer, ReleaseAnswer, PlainState, worker_units_place, PlainGives, IsReply, IsOther, DidUnitsOf, ⊤, IsPoolCommandWithin, has_pools, is_walked, is_due, WalksIf, served, PlainJob, one_plain, plain_jobs, plain_due, units_release_reply, units_grab_reply, DidPoolWalks}
 use Rattle.shr_base.specs.declared.replies.Reply.TheVariants as reply
 use Rattle.shr_script.specs.Lines.{serves_pools}
 use Rattle.shr_plain.specs.declared.answers.GrabAnswer.TheVariants as grab
@@ -79,17 +79,15 @@ module _ (s : Script) (by : Serial) (t u : PlainState) where
 
   -- a command's clause at the pools, in the words of the law
   pub did_units : (c : Command) (a : Answered) → IsCommandWithin (content_of s) c → (IsElsewhere c → IsOther a.reply) → PlainGives s by c a t u → DidUnitsOf s by c a.reply t u
-  did_units (Put group node decl key value) a within other g = (other tt, still (Put group node decl key value) a.reply refl g)
-  did_units (Get group node decl key) a within other g = (other tt, still (Get group node decl key) a.reply refl g)
-  did_units (Del group node decl key) a within other g = (other tt, still (Del group node decl key) a.reply refl g)
-  did_units (SetPin group node decl key pinned) a within other g = (other tt, still (SetPin group node decl key pinned) a.reply refl g)
+  did_units (Put to key value) a within other g = (other tt, still (Put to key value) a.reply refl g)
+  did_units (On to key act) a within other g = (other tt, still (On to key act) a.reply refl g)
   did_units (Shrink group node priority nofs) a within other g = (other tt, subst (λ l. DidPoolWalks s by l t u) (sym (shrink_due s group node priority nofs a.reply)) (walks_if ((group == 0) && is_due s a.reply) node priority within.1.on_node g))
   did_units (Balance node priority nofs) a within other g = (other tt, subst (λ l. DidPoolWalks s by l t u) (sym (balance_due s node priority nofs a.reply)) (walks_if (is_due s a.reply) node priority within.on_node g))
   did_units (Offline group) a within other g = (other tt, still (Offline group) a.reply refl g)
   did_units (MkGroup group) a within other g = (other tt, still (MkGroup group) a.reply refl g)
   did_units (Register decl) a within other g = (other tt, still (Register decl) a.reply refl g)
   did_units (Unregister decl) a within other g = (other tt, still (Unregister decl) a.reply refl g)
-  did_units (Isolate group node decl budget) a within other g = (other tt, still (Isolate group node decl budget) a.reply refl g)
+  did_units (Isolate to budget) a within other g = (other tt, still (Isolate to budget) a.reply refl g)
   did_units (Release node pool n) a within other g = let w = served serves_pools (IsPoolCommandWithin (content_of s) node pool × (1 ≤ n) × (n ≤ 20000)) within in record {
     there = record { pool = (let low = w.0.in_pool in let same = settings_length s in omega (arith, low, same)); node = w.0.on_node };
     answer = g.answer;

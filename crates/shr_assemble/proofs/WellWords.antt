@@ -1,5 +1,5 @@
 -- The words of the entries, the objects and the replies of a run are those of its script's commands.
-use Rattle.shr_assemble.proofs.Common.{◌≡◌, ℕ, Bool, true, false, cond, List, [], ◌∷◌, length, map, sym, refl, ap, subst, ◌∙◌, slice_get, Option, Some, None, find, option_map, AllByRecursion, same_Some, none-some, Entry, Add, Look, Drop, Pin, Object, At, Place, Serial, Reply, Command, Put, Get, Del, SetPin, Script, WorkerScript, named_in, is_named, marked_object, unmarked_object, pinned_object, by_of, items_at, lists_moved_at, items_from, place_at, Made, IsWithin, IsCommandWithin, content_of, Report, parents_of, commands_in, commands_of, journals_of, id_found, items_left, at, IsReply, HasWords, LendsWord, IsSpelled, Step, steps_of, MayMakeEntry, IsReplyTo, IsRun, by_slices, is_value, all_slice_by}
+use Rattle.shr_assemble.proofs.Common.{◌≡◌, ℕ, Bool, true, false, cond, List, [], ◌∷◌, length, map, sym, refl, ap, subst, ◌∙◌, slice_get, Option, Some, None, find, option_map, AllByRecursion, same_Some, none-some, Entry, Add, Look, Drop, Pin, Object, At, Place, Serial, Reply, Command, Put, On, Get, Del, SetPin, Script, WorkerScript, named_in, is_named, marked_object, unmarked_object, pinned_object, by_of, items_at, lists_moved_at, items_from, place_at, Made, IsWithin, IsCommandWithin, content_of, Report, parents_of, commands_in, commands_of, journals_of, id_found, items_left, at, IsReply, HasWords, LendsWord, IsSpelled, Step, steps_of, MayMakeEntry, IsReplyTo, IsRun, by_slices, is_value, all_slice_by}
 use Rattle.std.proofs.Math.Seq.{take-length}
 use Rattle.shr_base.specs.declared.replies.Reply.TheVariants as reply
 use Rattle.shr_lawful.proofs.FamilyObjects.{AddIs, items_at_kept}
@@ -37,10 +37,10 @@ record AreWords (e : Entry) : Type 0 where
   adds : SpellsAdd e
 
 words_for : (s : Script) (by : Serial) (c : Command) (e : Entry) → IsCommandWithin (content_of s) c → IsEntryFor by c e → AreWords e
-words_for s by (Put group node decl key value) e within (added, is) = subst AreWords (sym is) (record { words = (within.0.is_word, within.1); adds = record { key = within.0.is_word; value = within.1 } })
-words_for s by (Get group node decl key) e within (hit, is) = subst AreWords (sym is) (record { words = within.is_word; adds = tt })
-words_for s by (Del group node decl key) e within (kind, is) = subst AreWords (sym is) (record { words = within.is_word; adds = tt })
-words_for s by (SetPin group node decl key pinned) e within (hit, is) = subst AreWords (sym is) (record { words = within.is_word; adds = tt })
+words_for s by (Put to key value) e within (added, is) = subst AreWords (sym is) (record { words = (within.0.is_word, within.1); adds = record { key = within.0.is_word; value = within.1 } })
+words_for s by (On to key Get) e within (hit, is) = subst AreWords (sym is) (record { words = within.is_word; adds = tt })
+words_for s by (On to key Del) e within (kind, is) = subst AreWords (sym is) (record { words = within.is_word; adds = tt })
+words_for s by (On to key (SetPin pinned)) e within (hit, is) = subst AreWords (sym is) (record { words = within.is_word; adds = tt })
 words_for s by c e within is = absurd is
 
 -- the object that is found is one of these
@@ -89,8 +89,8 @@ module _ (s : Script) (r : Report) (workers : List (List Step)) (run : IsRun s r
   left_spelled place = subst (λ es. AllByRecursion IsSpelled (items_from (lists_moved_at (parents_of s) (journals_of r) place) [] es)) (take-length (journals_of r place)) (objects_spelled place (length (journals_of r place)))
 
   hit_lends : (by : Serial) (c : Command) (found : Option ℕ) (at : At) (value : List ℕ) → IsReply (parents_of s) (journals_of r) by c found (reply.Hit at value) → is_value value ≡ true
-  hit_lends by (Get group node decl key) (Some id) at value h = lent group key value (items_at (parents_of s) (journals_of r) at.place at.entry) (objects_spelled at.place at.entry) h.1
-  hit_lends by (Get group node decl key) None at value h = absurd h
+  hit_lends by (On to key Get) (Some id) at value h = lent to.group key value (items_at (parents_of s) (journals_of r) at.place at.entry) (objects_spelled at.place at.entry) h.1
+  hit_lends by (On to key Get) None at value h = absurd h
   hit_lends by c None at value h = absurd h
   hit_lends by c (Some id) at value h = absurd h
 

@@ -54,7 +54,7 @@ place_keys parents r place = flat_map (freed_keys parents r (journals_of r place
 
 -- a command in each group that it charged
 abbrev pub charge_keys : List ℕ → Serial → Command → Reply → List ℕ
-charge_keys parents by (Put group node decl key value) (Added at) = path_keys parents by group
+charge_keys parents by (Put at key value) (Added c) = path_keys parents by at.group
 charge_keys parents by c x = []
 
 -- the same if it was answered

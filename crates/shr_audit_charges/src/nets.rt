@@ -164,8 +164,8 @@ fn note_charge(
         ≡ keys.old.items ++ charge_keys parents.now by command.now reply.now) }
 {
     match command {
-        Command::Put { group, .. } => match reply {
-            Reply::Added { .. } => note_path(keys, parents, *group, by),
+        Command::Put { at, .. } => match reply {
+            Reply::Added { .. } => note_path(keys, parents, at.group, by),
             _ => Ok(()),
         },
         _ => Ok(()),

@@ -23,10 +23,8 @@ fn asks_made(command: &Command) -> Option<u16>
     ensures { result ≡ asks_made command.now }
 {
     match command {
-        Command::Put { group, .. } => Some(*group),
-        Command::Get { group, .. } => Some(*group),
-        Command::Del { group, .. } => Some(*group),
-        Command::SetPin { group, .. } => Some(*group),
+        Command::Put { at, .. } => Some(at.group),
+        Command::On { at, .. } => Some(at.group),
         Command::Offline { group } => Some(*group),
         _ => None,
     }

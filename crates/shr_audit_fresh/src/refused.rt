@@ -27,10 +27,8 @@ fn asks_online(command: Option<&Command>) -> Option<u16>
     ensures { result ≡ option_and_then asks_online (option_copied command.entry) }
 {
     match command {
-        Some(Command::Put { group, .. }) => Some(*group),
-        Some(Command::Get { group, .. }) => Some(*group),
-        Some(Command::Del { group, .. }) => Some(*group),
-        Some(Command::SetPin { group, .. }) => Some(*group),
+        Some(Command::Put { at, .. }) => Some(at.group),
+        Some(Command::On { at, .. }) => Some(at.group),
         Some(Command::Shrink { group, .. }) => Some(*group),
         _ => None,
     }

@@ -6,9 +6,9 @@ use shr_base::found::Found;
 use shr_base::journals::TreeEntry;
 use shr_base::log::Log;
 use shr_base::objects::Policy;
-use shr_base::places::Serial;
+use shr_base::places::{Serial, Target};
 use shr_base::replies::{Answered, Reply};
-use shr_base::scripts::{CacheDecl, Command, GroupDecl, PoolDecl, Script, WorkerScript};
+use shr_base::scripts::{Act, CacheDecl, Command, GroupDecl, PoolDecl, Script, WorkerScript};
 use shr_base::text::Text;
 use shr_base::walks::{WalkAnswer, WalkAsked, WalkRecord};
 use shr_report::report::Report;
@@ -61,11 +61,14 @@ fn group(alloc: Global, path: &[u8], later: bool) -> Result<GroupDecl, Fail> {
 }
 
 fn get(alloc: Global, group: u16) -> Result<Command, Fail> {
-    Ok(Command::Get {
-        group,
-        node: 0,
-        decl: 0,
+    Ok(Command::On {
+        at: Target {
+            group,
+            node: 0,
+            decl: 0,
+        },
         key: Text::of(alloc, b"k1")?,
+        act: Act::Get,
     })
 }
 

@@ -73,12 +73,7 @@ fn tells_of(command: &Command, answer: &Answered, isolation: &Isolation) -> bool
 {
     match (command, answer.found, &answer.reply) {
         (
-            Command::Isolate {
-                group,
-                node,
-                budget,
-                ..
-            },
+            Command::Isolate { at, budget },
             Some(found),
             Reply::Isolated {
                 visits,
@@ -87,8 +82,8 @@ fn tells_of(command: &Command, answer: &Answered, isolation: &Isolation) -> bool
             },
         ) => {
             isolation.place.id == found.id
-                && isolation.place.node == *node
-                && isolation.place.group == *group
+                && isolation.place.node == at.node
+                && isolation.place.group == at.group
                 && isolation.budget == *budget
                 && isolation.visits == *visits
                 && isolation.freed == *freed

@@ -8,7 +8,7 @@ use shr_base::journals::Entry;
 use shr_base::log::Log;
 use shr_base::memory::Memory;
 use shr_base::objects::Policy;
-use shr_base::places::{Place, Serial};
+use shr_base::places::{Place, Serial, Target};
 use shr_base::replies::{Answered, Found, IsolateEnd, Reply};
 use shr_base::scripts::{CacheDecl, Command, Script, WorkerScript};
 use shr_base::text::Text;
@@ -90,9 +90,11 @@ fn script(alloc: Global, case: &Case) -> Result<Script, Memory> {
     })?;
     let mut commands = Vec::new(alloc);
     commands.push(Command::Isolate {
-        group: 1,
-        node: 0,
-        decl: 0,
+        at: Target {
+            group: 1,
+            node: 0,
+            decl: 0,
+        },
         budget: case.budget,
     })?;
     let mut workers = Vec::new(alloc);

@@ -25,13 +25,11 @@ fn decl_named(command: &Command) -> Option<u8>
     ensures { result ≡ decl_named command.now }
 {
     match command {
-        Command::Put { decl, .. } => Some(*decl),
-        Command::Get { decl, .. } => Some(*decl),
-        Command::Del { decl, .. } => Some(*decl),
-        Command::SetPin { decl, .. } => Some(*decl),
+        Command::Put { at, .. } => Some(at.decl),
+        Command::On { at, .. } => Some(at.decl),
         Command::Register { decl } => Some(*decl),
         Command::Unregister { decl } => Some(*decl),
-        Command::Isolate { decl, .. } => Some(*decl),
+        Command::Isolate { at, .. } => Some(at.decl),
         _ => None,
     }
 }

@@ -13,8 +13,9 @@ pub use Rattle.shr_base.specs.declared.places.Serial.{Serial}
 pub use Rattle.shr_base.specs.declared.replies.Answered.{Answered}
 pub use Rattle.shr_base.specs.declared.replies.Reply.{Reply}
 pub use Rattle.shr_base.specs.declared.scripts.CacheDecl.{CacheDecl}
+pub use Rattle.shr_base.specs.declared.scripts.Act.TheVariants.{Del, Get, SetPin}
 pub use Rattle.shr_base.specs.declared.scripts.Command.{Command}
-pub use Rattle.shr_base.specs.declared.scripts.Command.TheVariants.{Del, Get, Put, SetPin}
+pub use Rattle.shr_base.specs.declared.scripts.Command.TheVariants.{On, Put}
 pub use Rattle.shr_base.specs.declared.scripts.GroupDecl.{GroupDecl}
 pub use Rattle.shr_base.specs.declared.scripts.PoolDecl.{PoolDecl}
 pub use Rattle.shr_base.specs.declared.scripts.Script.{Script}

@@ -1,7 +1,7 @@
 -- What is tested of the law on replies, at known values.
-use Rattle.shr_audit_replies.proofs.Common.{◌≡◌, ℕ, ◌<◌, ◌≤◌, true, List, [], ◌∷◌, length, Option, Some, refl, ap, subst, arith, none-some, slice_get_within, At, Serial, Entry, Add, Look, Get, Family, at, cited_at, Last, HasAnswers, HasNames, HasPaths, HasSizes, IsLastSwept, MayReply, AreCommandsRising, IsCited, IsAfter, last_of_worker, noted_by, codes, HasPoolNames}
+use Rattle.shr_audit_replies.proofs.Common.{◌≡◌, ℕ, ◌<◌, ◌≤◌, true, List, [], ◌∷◌, length, Option, Some, refl, ap, subst, arith, none-some, slice_get_within, At, Serial, Entry, Add, Look, Get, On, Command, Family, at, cited_at, Last, HasAnswers, HasNames, HasPaths, HasSizes, IsLastSwept, MayReply, AreCommandsRising, IsCited, IsAfter, last_of_worker, noted_by, codes, HasPoolNames}
 use Rattle.shr_base.specs.declared.replies.Reply.TheVariants as reply
-use Rattle.shr_report.proofs.SecondReport.{kept, by, place}
+use Rattle.shr_report.proofs.SecondReport.{kept, by, place, target}
 use Rattle.shr_report.proofs.FirstReport.{script, report, answer}
 
 -- ---- heads
@@ -47,10 +47,13 @@ put_as_swept h = h answer refl
 abbrev looks : Family
 looks p = Look (by 0) 1 (codes "k1") true ∷ []
 
-hit_any : MayReply (0 ∷ 0 ∷ []) looks (by 0) (Get 1 0 0 (codes "k1")) (Some 0) (reply.Hit (at place 0) (codes "=other"))
+abbrev get : Command
+get = On (target 1 0 0) (codes "k1") Get
+
+hit_any : MayReply (0 ∷ 0 ∷ []) looks (by 0) get (Some 0) (reply.Hit (at place 0) (codes "=other"))
 hit_any = record { id_is = refl; node_is = refl; stands = refl }
 
-hit_elsewhere : MayReply (0 ∷ 0 ∷ []) looks (by 0) (Get 1 0 0 (codes "k1")) (Some 1) (reply.Hit (at place 0) (codes "=v1")) → ⊥
+hit_elsewhere : MayReply (0 ∷ 0 ∷ []) looks (by 0) get (Some 1) (reply.Hit (at place 0) (codes "=v1")) → ⊥
 hit_elsewhere h = let e : ◌≡◌ {A = ℕ} 0 1 = h.id_is in absurd (omega arith)
 
 -- ---- entries

@@ -1,12 +1,14 @@
 -- What a command may be answered, but for the value that a hit lends.
 use Rattle.std.specs.Prelude.{◌≡◌, ℕ, true, List, Option, Some}
 use Rattle.shr_base.specs.declared.places.Serial.{Serial}
+use Rattle.shr_base.specs.declared.places.Target.{Target}
 use Rattle.shr_base.specs.declared.journals.Entry.TheVariants.{Look}
 use Rattle.shr_base.specs.declared.replies.Answered.{Answered}
 use Rattle.shr_base.specs.declared.replies.Reply.{Reply}
 use Rattle.shr_base.specs.declared.replies.Reply.TheVariants as reply
+use Rattle.shr_base.specs.declared.scripts.Act.TheVariants.{Get}
 use Rattle.shr_base.specs.declared.scripts.Command.{Command}
-use Rattle.shr_base.specs.declared.scripts.Command.TheVariants.{Get}
+use Rattle.shr_base.specs.declared.scripts.Command.TheVariants.{On}
 use Rattle.shr_base.specs.declared.scripts.Script.{Script}
 use Rattle.shr_model.specs.Families.{Family}
 use Rattle.shr_report.specs.declared.report.Report.{Report}
@@ -14,13 +16,13 @@ use Rattle.shr_report.specs.Parts.{parents_of, journals_of, reply_at, id_found, 
 use Rattle.shr_report.specs.ReplyTable.{Cites, IsReply, LendsValue}
 
 -- a `get` may be answered so with a cache that was found, whatever value it lends
-abbrev pub MayGet : List ℕ → Family → Serial → ℕ → ℕ → ℕ → List ℕ → ℕ → Reply → Type 0
-MayGet parents family by group node decl key id (reply.Hit c value) = Cites family c id node (Look by group key true)
-MayGet parents family by group node decl key id x = IsReply parents family by (Get group node decl key) (Some id) x
+abbrev pub MayGet : List ℕ → Family → Serial → Target → List ℕ → ℕ → Reply → Type 0
+MayGet parents family by target key id (reply.Hit c value) = Cites family c id target.node (Look by target.group key true)
+MayGet parents family by target key id x = IsReply parents family by (On target key Get) (Some id) x
 
 -- a command may be answered so, whatever value a hit lends
 abbrev pub MayReply : List ℕ → Family → Serial → Command → Option ℕ → Reply → Type 0
-MayReply parents family by (Get group node decl key) (Some id) x = MayGet parents family by group node decl key id x
+MayReply parents family by (On target key Get) (Some id) x = MayGet parents family by target key id x
 MayReply parents family by c found x = IsReply parents family by c found x
 
 -- a command may have this answer, whatever value a hit lends

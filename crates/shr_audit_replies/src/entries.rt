@@ -6,35 +6,32 @@ ghost use Rattle.shr_base.specs.declared.journals.Entry.TheVariants.{Add, Drop, 
 ghost use Rattle.shr_report.specs.Parts.{serial_of};
 
 use shr_base::journals::{DropKind, Entry};
-use shr_base::places::Serial;
+use shr_base::places::{Serial, Target};
 use shr_base::text::Text;
 
-/// A tenant's command by its numbers: its worker and its own, the group and node that it names, and
-/// the id of the cache that was found. Our own.
+/// A tenant's command by its numbers: its worker and its own, where it finds its object, and the id
+/// of the cache that was found. Our own.
 #[derive(Clone, Copy, Debug, PartialEq, Eq)]
 pub struct Tenant {
     pub worker: usize,
     pub command: usize,
-    pub group: u16,
-    pub node: u8,
+    pub target: Target,
     pub id: u16,
 }
 
-/// The tenant's command with this number, about this group and node. Our own.
-pub fn tenant_of(worker: usize, command: usize, group: u16, node: u8, id: u16) -> Tenant
+/// The tenant's command with this number, at this target. Our own.
+pub fn tenant_of(worker: usize, command: usize, target: Target, id: u16) -> Tenant
     ensures { result ≡ record {
       worker = worker;
       command = command;
-      group = group;
-      node = node;
+      target = target;
       id = id;
     } }
 {
     Tenant {
         worker,
         command,
-        group,
-        node,
+        target,
         id,
     }
 }
@@ -49,7 +46,7 @@ fn is_own(by: Serial, tenant: Tenant) -> bool
 /// Whether an entry is the Add of this command, with this outcome. Our own.
 pub fn is_add(entry: &Entry, tenant: Tenant, key: &Text, value: &Text, added: bool) -> bool
     ensures { Decides result (entry.now ≡ Add
-        (serial_of tenant.worker tenant.command) tenant.group added key.now value.now) }
+        (serial_of tenant.worker tenant.command) tenant.target.group added key.now value.now) }
 {
     match entry {
         Entry::Add {
@@ -60,7 +57,7 @@ pub fn is_add(entry: &Entry, tenant: Tenant, key: &Text, value: &Text, added: bo
             value: content,
         } => {
             is_own(*by, tenant)
-                && *birth == tenant.group
+                && *birth == tenant.target.group
                 && *outcome == added
                 && name.same(key)
                 && content.same(value)
@@ -72,7 +69,7 @@ pub fn is_add(entry: &Entry, tenant: Tenant, key: &Text, value: &Text, added: bo
 /// Whether an entry is the Look of this command, with this outcome. Our own.
 pub fn is_look(entry: &Entry, tenant: Tenant, key: &Text, hit: bool) -> bool
     ensures { Decides result (entry.now ≡ Look
-        (serial_of tenant.worker tenant.command) tenant.group key.now hit) }
+        (serial_of tenant.worker tenant.command) tenant.target.group key.now hit) }
 {
     match entry {
         Entry::Look {
@@ -80,7 +77,10 @@ pub fn is_look(entry: &Entry, tenant: Tenant, key: &Text, hit: bool) -> bool
             birth,
             key: name,
             hit: outcome,
-        } => is_own(*by, tenant) && *birth == tenant.group && name.same(key) && *outcome == hit,
+        } => is_own(*by, tenant)
+            && *birth == tenant.target.group
+            && name.same(key)
+            && *outcome == hit,
         _ => false,
     }
 }
@@ -88,7 +88,7 @@ pub fn is_look(entry: &Entry, tenant: Tenant, key: &Text, hit: bool) -> bool
 /// Whether an entry is the Drop of this command, with this outcome. Our own.
 pub fn is_drop(entry: &Entry, tenant: Tenant, key: &Text, kind: DropKind) -> bool
     ensures { Decides result (entry.now ≡ Drop
-        (serial_of tenant.worker tenant.command) tenant.group key.now kind) }
+        (serial_of tenant.worker tenant.command) tenant.target.group key.now kind) }
 {
     match entry {
         Entry::Drop {
@@ -96,7 +96,10 @@ pub fn is_drop(entry: &Entry, tenant: Tenant, key: &Text, kind: DropKind) -> boo
             birth,
             key: name,
             kind: outcome,
-        } => is_own(*by, tenant) && *birth == tenant.group && name.same(key) && *outcome == kind,
+        } => is_own(*by, tenant)
+            && *birth == tenant.target.group
+            && name.same(key)
+            && *outcome == kind,
         _ => false,
     }
 }
@@ -104,7 +107,7 @@ pub fn is_drop(entry: &Entry, tenant: Tenant, key: &Text, kind: DropKind) -> boo
 /// Whether an entry is the Pin of this command, with this outcome. Our own.
 pub fn is_pin(entry: &Entry, tenant: Tenant, key: &Text, pinned: bool, hit: bool) -> bool
     ensures { Decides result (entry.now ≡ Pin
-        (serial_of tenant.worker tenant.command) tenant.group key.now pinned hit) }
+        (serial_of tenant.worker tenant.command) tenant.target.group key.now pinned hit) }
 {
     match entry {
         Entry::Pin {
@@ -115,7 +118,7 @@ pub fn is_pin(entry: &Entry, tenant: Tenant, key: &Text, pinned: bool, hit: bool
             hit: outcome,
         } => {
             is_own(*by, tenant)
-                && *birth == tenant.group
+                && *birth == tenant.target.group
                 && name.same(key)
                 && *pin == pinned
                 && *outcome == hit

@@ -3,19 +3,20 @@
 ghost use Rattle.std.specs.Prelude.{ℕ, List, Bool, None};
 ghost use Rattle.std.specs.Bool.{Decides};
 ghost use Rattle.shr_base.specs.declared.places.Serial.{Serial};
-ghost use Rattle.shr_base.specs.declared.scripts.Command.TheVariants.{Balance, Del, Get, Grab, Isolate, MkGroup, Offline, Put, Register, Release, SetPin, Shrink, Unregister};
+ghost use Rattle.shr_base.specs.declared.places.Target.{Target};
+ghost use Rattle.shr_base.specs.declared.scripts.Act.TheVariants.{Del, Get, SetPin};
+ghost use Rattle.shr_base.specs.declared.scripts.Command.TheVariants.{Balance, Grab, Isolate, MkGroup, Offline, On, Put, Register, Release, Shrink, Unregister};
 ghost use Rattle.shr_model.specs.Families.{Family};
 ghost use Rattle.shr_report.specs.ReplyTable.{IsReply};
 ghost use Rattle.shr_audit_replies.specs.Answers.{MayReply};
 
 use shr_base::replies::{Reply, Spent};
-use shr_base::scripts::Command;
+use shr_base::scripts::{Act, Command};
 
 fn put_unheld(reply: &Reply) -> bool
-    ensures { (parents : List ℕ) (family : Family) (by : Serial) (group node decl : ℕ)
+    ensures { (parents : List ℕ) (family : Family) (by : Serial) (at : Target)
         (key value : List ℕ)
-        → Decides result (IsReply parents family by
-        (Put group node decl key value) None reply.now) }
+        → Decides result (IsReply parents family by (Put at key value) None reply.now) }
 {
     match reply {
         Reply::Over { .. } => true,
@@ -34,9 +35,9 @@ fn put_unheld(reply: &Reply) -> bool
 }
 
 fn get_unheld(reply: &Reply) -> bool
-    ensures { (parents : List ℕ) (family : Family) (by : Serial) (group node decl : ℕ)
+    ensures { (parents : List ℕ) (family : Family) (by : Serial) (at : Target)
         (key : List ℕ)
-        → Decides result (IsReply parents family by (Get group node decl key) None reply.now) }
+        → Decides result (IsReply parents family by (On at key Get) None reply.now) }
 {
     match reply {
         Reply::Offline { .. } => true,
@@ -51,9 +52,9 @@ fn get_unheld(reply: &Reply) -> bool
 }
 
 fn del_unheld(reply: &Reply) -> bool
-    ensures { (parents : List ℕ) (family : Family) (by : Serial) (group node decl : ℕ)
+    ensures { (parents : List ℕ) (family : Family) (by : Serial) (at : Target)
         (key : List ℕ)
-        → Decides result (IsReply parents family by (Del group node decl key) None reply.now) }
+        → Decides result (IsReply parents family by (On at key Del) None reply.now) }
 {
     match reply {
         Reply::Offline { .. } => true,
@@ -71,10 +72,9 @@ fn del_unheld(reply: &Reply) -> bool
 }
 
 fn pin_unheld(reply: &Reply) -> bool
-    ensures { (parents : List ℕ) (family : Family) (by : Serial) (group node decl : ℕ)
+    ensures { (parents : List ℕ) (family : Family) (by : Serial) (at : Target)
         (key : List ℕ) (pinned : Bool)
-        → Decides result (IsReply parents family by
-        (SetPin group node decl key pinned) None reply.now) }
+        → Decides result (IsReply parents family by (On at key (SetPin pinned)) None reply.now) }
 {
     match reply {
         Reply::Offline { .. } => true,
@@ -85,6 +85,18 @@ fn pin_unheld(reply: &Reply) -> bool
         } => true,
         Reply::Memory => true,
         _ => false,
+    }
+}
+
+fn on_unheld(act: Act, reply: &Reply) -> bool
+    ensures { (parents : List ℕ) (family : Family) (by : Serial) (at : Target)
+        (key : List ℕ)
+        → Decides result (MayReply parents family by (On at key act) None reply.now) }
+{
+    match act {
+        Act::Get => get_unheld(reply),
+        Act::Del => del_unheld(reply),
+        Act::SetPin { .. } => pin_unheld(reply),
     }
 }
 
@@ -205,9 +217,9 @@ fn grab_unheld(reply: &Reply) -> bool
 }
 
 fn isolate_unheld(reply: &Reply) -> bool
-    ensures { (parents : List ℕ) (family : Family) (by : Serial) (group node decl budget : ℕ)
-        → Decides result (IsReply parents family by
-        (Isolate group node decl budget) None reply.now) }
+    ensures { (parents : List ℕ) (family : Family) (by : Serial) (at : Target)
+        (budget : ℕ)
+        → Decides result (IsReply parents family by (Isolate at budget) None reply.now) }
 {
     match reply {
         Reply::Offline { .. } => true,
@@ -228,9 +240,7 @@ pub fn may_unheld(command: &Command, reply: &Reply) -> bool
 {
     match command {
         Command::Put { .. } => put_unheld(reply),
-        Command::Get { .. } => get_unheld(reply),
-        Command::Del { .. } => del_unheld(reply),
-        Command::SetPin { .. } => pin_unheld(reply),
+        Command::On { act, .. } => on_unheld(*act, reply),
         Command::Shrink { .. } => shrink_unheld(reply),
         Command::Balance { .. } => balance_unheld(reply),
         Command::Offline { .. } => offline_unheld(reply),

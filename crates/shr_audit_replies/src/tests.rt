@@ -9,9 +9,11 @@ use shr_base::items::Items;
 use shr_base::journals::Entry;
 use shr_base::log::Log;
 use shr_base::objects::Policy;
-use shr_base::places::{At, Place, Serial};
+use shr_base::places::{At, Place, Serial, Target};
 use shr_base::replies::{Answered, Found, Reply, Spent};
-use shr_base::scripts::{CacheDecl, Command, GroupDecl, PoolDecl, Script, Sweep, WorkerScript};
+use shr_base::scripts::{
+    Act, CacheDecl, Command, GroupDecl, PoolDecl, Script, Sweep, WorkerScript,
+};
 use shr_base::text::Text;
 use shr_formed::lists::lists_stand;
 use shr_report::report::Report;
@@ -49,26 +51,29 @@ const PLACE: Place = Place {
     group: 1,
 };
 
+const TARGET: Target = Target {
+    group: 1,
+    node: 0,
+    decl: 0,
+};
+
 fn by(command: u32) -> Serial {
     Serial { worker: 0, command }
 }
 
 fn put(alloc: Global) -> Result<Command, Fail> {
     Ok(Command::Put {
-        group: 1,
-        node: 0,
-        decl: 0,
+        at: TARGET,
         key: Text::of(alloc, b"k1")?,
         value: Text::of(alloc, b"=v1")?,
     })
 }
 
 fn get(alloc: Global) -> Result<Command, Fail> {
-    Ok(Command::Get {
-        group: 1,
-        node: 0,
-        decl: 0,
+    Ok(Command::On {
+        at: TARGET,
         key: Text::of(alloc, b"k1")?,
+        act: Act::Get,
     })
 }
 

@@ -80,17 +80,17 @@ module _ (s : Script) (r : Report) (by : Serial) (refused : List ℕ) (counts : 
 
   -- a command that made the walks that were due made those of the law
   pub made_walks : (c : Command) (x : Reply) → IsCommandMade (parents_of s) s.nodes refused c x walks → AreWalksOf s r by c x
-  made_walks (Put group node decl key value) x h = record {
+  made_walks (Put at key value) x h = record {
     rounds = h.rounds;
-    refused = due_rounds group x h.rounds h.due h.above;
+    refused = due_rounds at.group x h.rounds h.due h.above;
     made = may_made x (rounds_from (parents_of s) s.nodes 12 h.rounds) walks h.made;
   }
   made_walks c x h = record { rounds = []; refused = refl; made = may_made x (jobs_of (parents_of s) s.nodes [] c) walks h }
 
   pub walks_made : (c : Command) (x : Reply) → AreWalksOf s r by c x → IsCommandMade (parents_of s) s.nodes refused c x walks
-  walks_made (Put group node decl key value) x h = record {
+  walks_made (Put at key value) x h = record {
     rounds = h.rounds;
-    due = rounds_due group x h.rounds h.refused;
+    due = rounds_due at.group x h.rounds h.refused;
     above = h.refused.above;
     made = made_may x (rounds_from (parents_of s) s.nodes 12 h.rounds) walks h.made;
   }

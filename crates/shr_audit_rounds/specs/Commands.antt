@@ -35,7 +35,7 @@ is_whole x = true
 
 -- a command that was answered so, and whose charges these groups refused, made the walks that were due
 abbrev pub IsCommandMade : List ℕ → ℕ → List ℕ → Command → Reply → List Job → Type 0
-IsCommandMade parents nodes refused (Put group node decl key value) x walks = IsPutMade parents nodes group (over_of x) (is_whole x) refused walks
+IsCommandMade parents nodes refused (Put at key value) x walks = IsPutMade parents nodes at.group (over_of x) (is_whole x) refused walks
 IsCommandMade parents nodes refused c x walks = IsMadeAsDue (is_whole x) (jobs_of parents nodes [] c) walks
 
 -- groups that are a tree, some nodes, and refused charges by their commands, each of a group that is there

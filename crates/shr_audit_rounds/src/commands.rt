@@ -73,7 +73,7 @@ pub fn is_command_made(
 {
     let whole = is_whole(reply);
     match command {
-        Command::Put { group, .. } => is_put_made(alloc, dues, *group, reply, refusals, walks),
+        Command::Put { at, .. } => is_put_made(alloc, dues, at.group, reply, refusals, walks),
         Command::Shrink {
             group,
             node,

@@ -13,14 +13,12 @@ pub fn group_named(command: &Command) -> Option<u16>
     ensures { result ≡ group_named command.now }
 {
     match command {
-        Command::Put { group, .. } => Some(*group),
-        Command::Get { group, .. } => Some(*group),
-        Command::Del { group, .. } => Some(*group),
-        Command::SetPin { group, .. } => Some(*group),
+        Command::Put { at, .. } => Some(at.group),
+        Command::On { at, .. } => Some(at.group),
         Command::Shrink { group, .. } => Some(*group),
         Command::Offline { group } => Some(*group),
         Command::MkGroup { group } => Some(*group),
-        Command::Isolate { group, .. } => Some(*group),
+        Command::Isolate { at, .. } => Some(at.group),
         _ => None,
     }
 }
@@ -30,13 +28,11 @@ pub fn decl_named(command: &Command) -> Option<u8>
     ensures { result ≡ decl_named command.now }
 {
     match command {
-        Command::Put { decl, .. } => Some(*decl),
-        Command::Get { decl, .. } => Some(*decl),
-        Command::Del { decl, .. } => Some(*decl),
-        Command::SetPin { decl, .. } => Some(*decl),
+        Command::Put { at, .. } => Some(at.decl),
+        Command::On { at, .. } => Some(at.decl),
         Command::Register { decl } => Some(*decl),
         Command::Unregister { decl } => Some(*decl),
-        Command::Isolate { decl, .. } => Some(*decl),
+        Command::Isolate { at, .. } => Some(at.decl),
         _ => None,
     }
 }

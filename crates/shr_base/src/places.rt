@@ -1,4 +1,4 @@
-//! Where a list stands, and which command did something.
+//! Where a list stands, where a command finds its object, and which command did something.
 
 /// One list: that of a shrinker's id, a node and a group.
 ///
@@ -8,6 +8,14 @@ pub struct Place {
     pub id: u16,
     pub node: u8,
     pub group: u16,
+}
+
+/// Where a command finds its object: a group, a node, and a cache by its declaration. Our own.
+#[derive(Clone, Copy, Debug, PartialEq, Eq)]
+pub struct Target {
+    pub group: u16,
+    pub node: u8,
+    pub decl: u8,
 }
 
 /// A command: the number of its worker, and its own number in that worker's list. Our own.

@@ -2,6 +2,7 @@
 
 use crate::log::Log;
 use crate::objects::Policy;
+use crate::places::Target;
 use crate::text::Text;
 
 /// A group below the root. Its number is its place in the script, from 1.
@@ -61,34 +62,26 @@ pub struct Sweep {
     pub nofs: bool,
 }
 
+/// What a command does with the object of a key, if there is one. Our own.
+#[derive(Clone, Copy, Debug, PartialEq, Eq)]
+pub enum Act {
+    Get,
+    Del,
+    SetPin { pinned: bool },
+}
+
 /// A command of a worker. Our own.
 #[derive(Drop)]
 pub enum Command {
     Put {
-        group: u16,
-        node: u8,
-        decl: u8,
+        at: Target,
         key: Text,
         value: Text,
     },
-    Get {
-        group: u16,
-        node: u8,
-        decl: u8,
+    On {
+        at: Target,
         key: Text,
-    },
-    Del {
-        group: u16,
-        node: u8,
-        decl: u8,
-        key: Text,
-    },
-    SetPin {
-        group: u16,
-        node: u8,
-        decl: u8,
-        key: Text,
-        pinned: bool,
+        act: Act,
     },
     Shrink {
         group: u16,
@@ -114,9 +107,7 @@ pub enum Command {
         decl: u8,
     },
     Isolate {
-        group: u16,
-        node: u8,
-        decl: u8,
+        at: Target,
         budget: u32,
     },
     Release {

@@ -1,13 +1,13 @@
 -- What a put did, by the reply that tells of it.
 use Rattle.shr_cache.proofs.Common.{◌≡◌, ℕ, List, true, false, Object, Serial, Found, Reply, NodeAdd, fresh, same_for, same_then, Acting, IsSame, Shared, WorkerState, Uncharges, OfferedFrom, IsStill, LoadsWord, MayCharge, Offers, OfferedAs, Puts, PutAs}
 use Rattle.std.specs.Prelude.{Option, Some, None}
+use Rattle.shr_base.specs.declared.places.Target.{Target}
 use Rattle.shr_base.specs.declared.replies.Reply.TheVariants as reply
 use Rattle.shr_base.specs.declared.replies.Spent.TheVariants as spent
 use Rattle.shr_node.specs.declared.answers.NodeAdd.TheVariants as add
 use Rattle.shr_charge.specs.declared.answers.GroupState.TheVariants.{Online}
 use Rattle.shr_reclaim.specs.Admitting.{AdmissionGives}
 use Rattle.shr_reclaim.specs.declared.answers.Admission.TheVariants.{Charged}
-use Rattle.shr_opening.specs.declared.target.Target.{Target}
 use Rattle.shr_cache.specs.Replies.{add_reply, has_added}
 
 module _ (x : Shared) (node decl : ℕ) (o : Object) where

@@ -9,13 +9,13 @@ ghost use Rattle.shr_cache.specs.Dels.{AskedAs, DelGives};
 ghost use Rattle.shr_cache.specs.Replies.{drop_reply, has_dropped};
 
 use crate::charges::uncharge;
+use shr_base::places::Target;
 use shr_base::replies::{Answered, Found, Reply};
 use shr_base::text::Text;
 use shr_node::answers::NodeDrop;
 use shr_node::tenants::{TenantCall, drop_key};
 use shr_opening::opening::{Opened, open};
 use shr_opening::replies::unfound;
-use shr_opening::target::Target;
 use shr_walk::worker::Worker;
 use std::sync::Wait;
 

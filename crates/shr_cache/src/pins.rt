@@ -7,13 +7,13 @@ ghost use Rattle.shr_opening.specs.Opening.{IsTargetOf};
 ghost use Rattle.shr_cache.specs.Pins.{SetPinGives};
 ghost use Rattle.shr_cache.specs.Replies.{pin_reply};
 
+use shr_base::places::Target;
 use shr_base::replies::{Answered, Reply};
 use shr_base::text::Text;
 use shr_node::answers::NodePin;
 use shr_node::tenants::{TenantCall, set_pin as pin_in_list};
 use shr_opening::opening::{Opened, open};
 use shr_opening::replies::unfound;
-use shr_opening::target::Target;
 use shr_walk::worker::Worker;
 use std::sync::Wait;
 

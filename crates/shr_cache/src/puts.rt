@@ -11,7 +11,7 @@ ghost use Rattle.shr_cache.specs.Replies.{add_reply, has_added};
 
 use crate::charges::uncharge;
 use shr_base::objects::Object;
-use shr_base::places::Serial;
+use shr_base::places::{Serial, Target};
 use shr_base::replies::{Answered, Reply};
 use shr_base::text::Text;
 use shr_charge::answers::GroupState;
@@ -19,7 +19,6 @@ use shr_node::answers::NodeAdd;
 use shr_node::tenants::add;
 use shr_opening::opening::{Opened, find_cache};
 use shr_opening::replies::unfound;
-use shr_opening::target::Target;
 use shr_reclaim::answers::Admission;
 use shr_reclaim::charging::try_charge;
 use shr_walk::worker::Worker;

@@ -9,12 +9,11 @@ ghost use Rattle.shr_drop.specs.Lawful.{IsolatesLawfully};
 
 use crate::visits::visit_all;
 use shr_base::log::Log;
-use shr_base::places::Place;
+use shr_base::places::{Place, Target};
 use shr_base::replies::{Answered, Reply};
 use shr_base::walks::Isolation;
 use shr_opening::opening::{Opened, open};
 use shr_opening::replies::unfound;
-use shr_opening::target::Target;
 use shr_walk::lister::Lister;
 use shr_walk::worker::Worker;
 use std::sync::Wait;

@@ -5,4 +5,4 @@ pub use Rattle.std.proofs.lemmas.List.FromFn.{get_or-map-range_with_len, length-
 pub use Rattle.std.specs.List.{list_all, range_with_len}
 pub use Rattle.std.specs.Prelude.{None, Ok, Some, bytes_eq, codes, flat_map, nat_le, nat_lt, ◌==◌}
 pub use Rattle.shr_model.specs.Paths.{root_path}
-pub use Rattle.shr_gen.specs.Generated.{MayBeGenerated, cache_by, chosen_by, generated_command, commands_from, drawn_after, generated, group_at, worker_group, is_offline, key_text, next_draw, node_by, worker_path, priority_by, three_caches, value_text}
+pub use Rattle.shr_gen.specs.Generated.{MayBeGenerated, cache_by, chosen_by, generated_command, commands_from, drawn_after, generated, group_at, worker_group, is_offline, key_text, next_draw, node_by, worker_path, priority_by, target_by, three_caches, value_text}

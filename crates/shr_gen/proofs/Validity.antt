@@ -1,11 +1,12 @@
 -- A generated script is valid: each of its lines may stand where it stands.
-use Rattle.shr_gen.proofs.Common.{◌≡◌, ℕ, zero, suc, ◌+◌, ◌*◌, ◌<◌, ◌≤◌, ◌%◌, Bool, true, false, List, [], ◌∷◌, ◌++◌, length, map, refl, sym, ap, ◌∙◌, arith, codes, Some, None, range_with_len, nat_tests, map-range_with_len_more, root_path, worker_path, key_text, value_text, group_at, generated_command, commands_from, drawn_after, chosen_by, ◌-◌, cond, get_or, subst, nat_le, nat_lt, Ok, flat_map, ◌==◌, length-map-range_with_len, get_or-map-range_with_len, MayBeGenerated, generated, worker_group, node_by, cache_by, priority_by, is_offline, three_caches}
+use Rattle.shr_gen.proofs.Common.{◌≡◌, ℕ, zero, suc, ◌+◌, ◌*◌, ◌<◌, ◌≤◌, ◌%◌, Bool, true, false, List, [], ◌∷◌, ◌++◌, length, map, refl, sym, ap, ◌∙◌, arith, codes, Some, None, range_with_len, nat_tests, map-range_with_len_more, root_path, worker_path, key_text, value_text, group_at, generated_command, commands_from, drawn_after, chosen_by, ◌-◌, cond, get_or, subst, nat_le, nat_lt, Ok, flat_map, ◌==◌, length-map-range_with_len, get_or-map-range_with_len, MayBeGenerated, generated, worker_group, node_by, cache_by, priority_by, target_by, is_offline, three_caches}
 use Rattle.std.proofs.lemmas.List.{map_push}
+use Rattle.shr_base.specs.declared.scripts.Act.TheVariants.{Get}
 use Rattle.shr_base.specs.declared.scripts.Code.TheVariants as codes_of
 use Rattle.shr_base.specs.declared.scripts.Command.{Command}
 use Rattle.shr_base.specs.declared.scripts.GroupDecl.{GroupDecl}
 use Rattle.shr_base.specs.declared.scripts.CacheDecl.{CacheDecl}
-use Rattle.shr_base.specs.declared.scripts.Command.TheVariants.{Put, Get, Del, SetPin, Shrink, Balance, Offline, MkGroup, Register, Unregister, Isolate, Release, Grab}
+use Rattle.shr_base.specs.declared.scripts.Command.TheVariants.{Put, On, Shrink, Balance, Offline, MkGroup, Register, Unregister, Isolate, Release, Grab}
 use Rattle.shr_words.specs.Classes.{Word, N, IsOfClass, Listed, Number, Chosen, PathTest, NameTest, Walks, place_of, passes}
 use Rattle.shr_script.specs.declared.kind.Kind.TheVariants as kind
 use Rattle.shr_script.specs.declared.kind.Phase.{Phase}
@@ -140,14 +141,14 @@ unfolding place_of
 fs_walk = refl
 
 module _ (n w j r : ℕ) (low : w < n) (few : n ≤ 63) (small : j < 20000) where
-  put_good : Good (paths n) (Put (worker_group w) (node_by r) (cache_by r) (key_text j) (value_text j))
+  put_good : Good (paths n) (Put (target_by w r) (key_text j) (value_text j))
   put_good workers commands room = record {
     stands = refl;
     words = (group_is w n low few, (number_is 2 (node_by r) (omega arith) (omega arith), (cache_is (cache_by r) (omega arith), (is_key_of j (omega (arith, small)), (is_value_of j (omega (arith, small)), tt)))));
     rule = room_for commands room;
   }
 
-  get_good : Good (paths n) (Get (worker_group w) (node_by r) (cache_by r) (key_text (j - 1)))
+  get_good : Good (paths n) (On (target_by w r) (key_text (j - 1)) Get)
   get_good workers commands room = record {
     stands = refl;
     words = (group_is w n low few, (number_is 2 (node_by r) (omega arith) (omega arith), (cache_is (cache_by r) (omega arith), (is_key_of (j - 1) (omega (arith, small)), tt))));
@@ -188,18 +189,15 @@ module _ (n w j r : ℕ) (low : w < n) (few : n ≤ 63) (small : j < 20000) wher
 -- after a command there is one more
 after_command : (gs : List Word) (workers done end : ℕ) (c : Command) (ls : List Line) → Goes (worked Workers gs workers (done + 1)) (worked Workers gs workers end) ls
     → Goes (after (worked Workers gs workers done) (command_line c).0 (command_line c).1) (worked Workers gs workers end) ls
-after_command gs workers done end (Put g n d k v) ls h = h
-after_command gs workers done end (Get g n d k) ls h = h
-after_command gs workers done end (Del g n d k) ls h = h
-after_command gs workers done end (SetPin g n d k true) ls h = h
-after_command gs workers done end (SetPin g n d k false) ls h = h
+after_command gs workers done end (Put at k v) ls h = h
+after_command gs workers done end (On at k act) ls h = h
 after_command gs workers done end (Shrink g n p o) ls h = h
 after_command gs workers done end (Balance n p o) ls h = h
 after_command gs workers done end (Offline g) ls h = h
 after_command gs workers done end (MkGroup g) ls h = h
 after_command gs workers done end (Register d) ls h = h
 after_command gs workers done end (Unregister d) ls h = h
-after_command gs workers done end (Isolate g n d b) ls h = h
+after_command gs workers done end (Isolate at b) ls h = h
 after_command gs workers done end (Release n p u) ls h = h
 after_command gs workers done end (Grab n p) ls h = h
 

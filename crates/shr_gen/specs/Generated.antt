@@ -2,10 +2,12 @@
 use Rattle.std.specs.Prelude.{ℕ, zero, suc, ◌+◌, ◌-◌, ◌*◌, ◌/◌, ◌%◌, ◌^◌, ◌≤◌, Bool, true, false, ◌&&◌, ◌==◌, nat_lt, if◌then◌else◌, List, [], ◌∷◌, ◌++◌, map, codes, decimal, None}
 use Rattle.std.specs.List.{range_with_len}
 use Rattle.shr_base.specs.declared.objects.Policy.TheVariants.{Plain, Clock}
+use Rattle.shr_base.specs.declared.places.Target.{Target}
+use Rattle.shr_base.specs.declared.scripts.Act.TheVariants.{Get}
 use Rattle.shr_base.specs.declared.scripts.GroupDecl.{GroupDecl}
 use Rattle.shr_base.specs.declared.scripts.CacheDecl.{CacheDecl}
 use Rattle.shr_base.specs.declared.scripts.Command.{Command}
-use Rattle.shr_base.specs.declared.scripts.Command.TheVariants.{Put, Get, Shrink, Balance, Offline}
+use Rattle.shr_base.specs.declared.scripts.Command.TheVariants.{Put, On, Shrink, Balance, Offline}
 use Rattle.shr_script.specs.Content.{Content}
 
 -- the number that is drawn after this one
@@ -49,12 +51,16 @@ worker_group w = w + 1
 abbrev pub worker_path : ℕ → List ℕ
 worker_path w = codes "/g" ++ decimal w
 
+-- where worker w's command finds its object
+abbrev pub target_by : ℕ → ℕ → Target
+target_by w r = record { group = worker_group w; node = node_by r; decl = cache_by r }
+
 -- Of each eight commands five put, one gets what the one before put, one shrinks the worker's
 -- group, and one balances.
 abbrev pub usual_command : ℕ → ℕ → ℕ → Command
 usual_command w j r =
-    if nat_lt (j % 8) 5 then Put (worker_group w) (node_by r) (cache_by r) (key_text j) (value_text j) else
-    (if j % 8 == 5 then Get (worker_group w) (node_by r) (cache_by r) (key_text (j - 1)) else
+    if nat_lt (j % 8) 5 then Put (target_by w r) (key_text j) (value_text j) else
+    (if j % 8 == 5 then On (target_by w r) (key_text (j - 1)) Get else
     (if j % 8 == 6 then Shrink (worker_group w) (node_by r) (priority_by r) false else
     Balance (node_by r) (priority_by r) false))
 

@@ -9,7 +9,8 @@ use crate::drawing::Draws;
 use shr_base::log::Log;
 use shr_base::memory::Memory;
 use shr_base::objects::Policy;
-use shr_base::scripts::{CacheDecl, Command, GroupDecl, Script, WorkerScript};
+use shr_base::places::Target;
+use shr_base::scripts::{Act, CacheDecl, Command, GroupDecl, Script, WorkerScript};
 use shr_base::text::Text;
 use std::alloc::Global;
 
@@ -86,32 +87,31 @@ fn usual_command(alloc: Global, worker: u16, number: u32, drawn: u64) -> Result<
     requires { worker < 63 }
     ensures { IfOk result (λ c. c ≡ usual_command worker number drawn) }
 {
-    let group = worker + 1;
-    let node = (drawn % 2) as u8;
-    let decl = (drawn / 2 % 3) as u8;
+    let at = Target {
+        group: worker + 1,
+        node: (drawn % 2) as u8,
+        decl: (drawn / 2 % 3) as u8,
+    };
     let priority = (drawn / 8 % 13) as u8;
     Ok(match number % 8 {
         0..=4 => Command::Put {
-            group,
-            node,
-            decl,
+            at,
             key: numbered(alloc, "k", number)?,
             value: numbered(alloc, "v", number)?,
         },
-        5 => Command::Get {
-            group,
-            node,
-            decl,
+        5 => Command::On {
+            at,
             key: numbered(alloc, "k", number - 1)?,
+            act: Act::Get,
         },
         6 => Command::Shrink {
-            group,
-            node,
+            group: at.group,
+            node: at.node,
             priority,
             nofs: false,
         },
         _ => Command::Balance {
-            node,
+            node: at.node,
             priority,
             nofs: false,
         },

@@ -1,5 +1,5 @@
 -- The law of charges, of a run.
-use Rattle.shr_lawful.proofs.Common.{◌≡◌, ℕ, zero, suc, ◌+◌, ◌<◌, ◌≤◌, ◌⊎◌, inl, inr, ⊎_elim, Bool, true, false, cond, List, [], ◌∷◌, length, drop, map, sym, refl, ap, subst, ◌∙◌, arith, eqb, eq-eqb, slice_get, Some, None, Option, find, filter, sum_by, pos, ◌-ℤ◌, MatchOption, AllByRecursion, enumerate_from, IsSomeAnd, and_parts, and_from, eqb-true, cases_Bool, same_Some, none-some, slice_get_past, UseStep, Entry, Add, Drop, Scan, Drained, Object, Place, Serial, Command, Put, Get, Del, SetPin, Script, ups, usage_after, is_by, ops_by, IsDownNext, AreTakenBack, is_serial, is_put, items_at, is_at_or_above, born_below, freed_by, by_of, Has, filter_has, total, place_at, Made, Report, parents_of, limit_of, journals_of, places_of, serial_of, command_at, commands_of, reply_at, uses_at, entry_by, at, id_found, IsDownBetween, charged, Step, IsAmong, steps_of, IsPut, ops_at, IsTenantEntry, IsDrainedByCommand, MayMakeEntry, all_made, IsRun, all_zero, at_some, by_slices, count_total, some_at, sum_total, freeings_at, ways_of, is_of, freed_in_command, freed_below, no_test}
+use Rattle.shr_lawful.proofs.Common.{◌≡◌, ℕ, zero, suc, ◌+◌, ◌<◌, ◌≤◌, ◌⊎◌, inl, inr, ⊎_elim, Bool, true, false, cond, List, [], ◌∷◌, length, drop, map, sym, refl, ap, subst, ◌∙◌, arith, eqb, eq-eqb, slice_get, Some, None, Option, find, filter, sum_by, pos, ◌-ℤ◌, MatchOption, AllByRecursion, enumerate_from, IsSomeAnd, and_parts, and_from, eqb-true, cases_Bool, same_Some, none-some, slice_get_past, UseStep, Entry, Add, Drop, Scan, Drained, Object, Place, Serial, Command, Put, On, Get, Del, SetPin, Script, ups, usage_after, is_by, ops_by, IsDownNext, AreTakenBack, is_serial, is_put, items_at, is_at_or_above, born_below, freed_by, by_of, Has, filter_has, total, place_at, Made, Report, parents_of, limit_of, journals_of, places_of, serial_of, command_at, commands_of, reply_at, uses_at, entry_by, at, id_found, IsDownBetween, charged, Step, IsAmong, steps_of, IsPut, ops_at, IsTenantEntry, IsDrainedByCommand, MayMakeEntry, all_made, IsRun, all_zero, at_some, by_slices, count_total, some_at, sum_total, freeings_at, ways_of, is_of, freed_in_command, freed_below, no_test}
 use Rattle.shr_model.proofs.Weights.{serial_itself}
 use Rattle.shr_lawful.specs.Charges as did
 use Rattle.shr_lawful.proofs.Gathering.{each_among, has_step, total_same_on, made_stands, maker, reply_is}
@@ -203,7 +203,7 @@ module _ (s : Script) (r : Report) (workers : List (List Step)) (run : IsRun s r
   -- the weight of a serial: that of the group of its `put`
   abbrev pub weight_command : ℕ → Option Command → ℕ
   weight_command g None = 0
-  weight_command g (Some (Put group node decl key value)) = cond (is_at_or_above (parents_of s) g group) 1 0
+  weight_command g (Some (Put to key value)) = cond (is_at_or_above (parents_of s) g to.group) 1 0
   weight_command g (Some c) = 0
 
   abbrev pub weight_serial : ℕ → Serial → ℕ
@@ -213,10 +213,10 @@ module _ (s : Script) (r : Report) (workers : List (List Step)) (run : IsRun s r
   weight_object g o = cond (is_at_or_above (parents_of s) g o.birth) 1 0
 
   put_weighs : (g : ℕ) (by b : Serial) (c : Command) (birth : ℕ) (key value : List ℕ) (added : Bool) → IsEntryFor by c (Add b birth added key value) → weight_command g (Some c) ≡ cond (is_at_or_above (parents_of s) g birth) 1 0
-  put_weighs g by b (Put group node decl k v) birth key value added h = let e : Add b birth added key value ≡ Add by group h.0 k v = h.1 in let same : birth ≡ group = cc in ap (λ z. cond (is_at_or_above (parents_of s) g z) 1 0) (sym same)
-  put_weighs g by b (Get group node decl k) birth key value added h = absurd (let e = h.1 in cc)
-  put_weighs g by b (Del group node decl k) birth key value added h = absurd (let e = h.1 in cc)
-  put_weighs g by b (SetPin group node decl k pinned) birth key value added h = absurd (let e = h.1 in cc)
+  put_weighs g by b (Put to k v) birth key value added h = let e : Add b birth added key value ≡ Add by to.group h.0 k v = h.1 in let same : birth ≡ to.group = cc in ap (λ z. cond (is_at_or_above (parents_of s) g z) 1 0) (sym same)
+  put_weighs g by b (On to k Get) birth key value added h = absurd (let e = h.1 in cc)
+  put_weighs g by b (On to k Del) birth key value added h = absurd (let e = h.1 in cc)
+  put_weighs g by b (On to k (SetPin pinned)) birth key value added h = absurd (let e = h.1 in cc)
   put_weighs g by b c birth key value added h = absurd h
 
   -- the birth of an Add's object is the group of its `put`

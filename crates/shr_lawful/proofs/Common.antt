@@ -30,15 +30,17 @@ pub use Rattle.shr_base.specs.declared.objects.Policy.{Policy}
 pub use Rattle.shr_base.specs.declared.places.At.{At}
 pub use Rattle.shr_base.specs.declared.places.Place.{Place}
 pub use Rattle.shr_base.specs.declared.places.Serial.{Serial}
+pub use Rattle.shr_base.specs.declared.places.Target.{Target}
 pub use Rattle.shr_base.specs.declared.replies.Answered.{Answered}
 pub use Rattle.shr_base.specs.declared.replies.Found.{Found}
 pub use Rattle.shr_base.specs.declared.replies.HalfWhy.{HalfWhy}
 pub use Rattle.shr_base.specs.declared.replies.IsolateEnd.{IsolateEnd}
 pub use Rattle.shr_base.specs.declared.replies.Reply.{Reply}
 pub use Rattle.shr_base.specs.declared.replies.Spent.{Spent}
+pub use Rattle.shr_base.specs.declared.scripts.Act.TheVariants.{Del, Get, SetPin}
 pub use Rattle.shr_base.specs.declared.scripts.CacheDecl.{CacheDecl}
 pub use Rattle.shr_base.specs.declared.scripts.Command.{Command}
-pub use Rattle.shr_base.specs.declared.scripts.Command.TheVariants.{Del, Get, Grab, Isolate, Offline, Put, Release, SetPin}
+pub use Rattle.shr_base.specs.declared.scripts.Command.TheVariants.{Grab, Isolate, Offline, On, Put, Release}
 pub use Rattle.shr_base.specs.declared.scripts.GroupDecl.{GroupDecl}
 pub use Rattle.shr_base.specs.declared.scripts.Script.{Script}
 pub use Rattle.shr_base.specs.declared.scripts.Sweep.{Sweep}

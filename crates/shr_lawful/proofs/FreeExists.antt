@@ -1,5 +1,5 @@
 -- A put whose group and key no other put names isn't answered that its object exists: each object so named is its own.
-use Rattle.shr_lawful.proofs.Common.{◌≡◌, ℕ, zero, suc, ◌<◌, ◌≤◌, inl, inr, Bool, true, false, not, ◌==◌, cond, List, [], ◌∷◌, ◌++◌, length, take, sym, refl, ap, subst, ◌∙◌, arith, slice_get, Some, bytes_eq, AllByRecursion, and_parts, eqb-true, Contains-permutation, IsPermutation-sym, same_Some, none-some, slice_get_within, Object, At, Place, Serial, Entry, Add, Command, Put, Get, Del, SetPin, Script, added_by, added_by_all, added_in, listed_in, is_serial, items_at, lists_moved_at, step, IsOutcome, first_moved, later_moved, by_of, is_named, holds, marked_object, unmarked_object, pinned_object, Has, Has_from_Contains, Contains_from_Has, each_has, flat_map_has, weight, mass, weight_append, place_at, Made, Report, parents_of, commands_of, serial_of, journals_of, places_of, cited_at, id_found, at, IsOnlyPut, MayMakeEntry, IsRun, Step, by_slices, serial_itself, freed_in}
+use Rattle.shr_lawful.proofs.Common.{◌≡◌, ℕ, zero, suc, ◌<◌, ◌≤◌, inl, inr, Bool, true, false, not, ◌==◌, cond, List, [], ◌∷◌, ◌++◌, length, take, sym, refl, ap, subst, ◌∙◌, arith, slice_get, Some, bytes_eq, AllByRecursion, and_parts, eqb-true, Contains-permutation, IsPermutation-sym, same_Some, none-some, slice_get_within, Object, At, Place, Serial, Entry, Add, Command, Put, On, Get, Del, SetPin, Script, added_by, added_by_all, added_in, listed_in, is_serial, items_at, lists_moved_at, step, IsOutcome, first_moved, later_moved, by_of, is_named, holds, marked_object, unmarked_object, pinned_object, Has, Has_from_Contains, Contains_from_Has, each_has, flat_map_has, weight, mass, weight_append, place_at, Made, Report, parents_of, commands_of, serial_of, journals_of, places_of, cited_at, id_found, at, IsOnlyPut, MayMakeEntry, IsRun, Step, by_slices, serial_itself, freed_in}
 use Rattle.shr_model.proofs.Weights.{is_serial_same}
 use Rattle.std.specs.Cmp.Lexicographic.{bytes_decides}
 use Rattle.shr_model.specs.Items.{items_from, moved_from, AreOutcomes}
@@ -53,27 +53,27 @@ record IsPutOf (own by : Serial) (c : Command) (birth : ℕ) (key : List ℕ) : 
   node : ℕ
   decl : ℕ
   value : List ℕ
-  command : c ≡ Put birth node decl key value
+  command : c ≡ Put (record { group = birth; node = node; decl = decl }) key value
   serial : by ≡ own
 
 put_of : (own : Serial) (c : Command) (by : Serial) (birth : ℕ) (key value : List ℕ) (added : Bool) → IsEntryFor own c (Add by birth added key value) → IsPutOf own by c birth key
-put_of own (Put g node decl k v) by birth key value added (a, is) =
-    let group : birth ≡ g = cc in let word : key ≡ k = cc in record {
-      node = node;
-      decl = decl;
+put_of own (Put to k v) by birth key value added (a, is) =
+    let group : birth ≡ to.group = cc in let word : key ≡ k = cc in record {
+      node = to.node;
+      decl = to.decl;
       value = v;
-      command = λ i. Put (sym group i) node decl (sym word i) v;
+      command = λ i. Put (record { group = sym group i; node = to.node; decl = to.decl }) (sym word i) v;
       serial = cc;
     }
-put_of own (Get g node decl k) by birth key value added (hit, is) = absurd (cc)
-put_of own (Del g node decl k) by birth key value added (kind, is) = absurd (cc)
-put_of own (SetPin g node decl k pinned) by birth key value added (hit, is) = absurd (cc)
+put_of own (On to k Get) by birth key value added (hit, is) = absurd (cc)
+put_of own (On to k Del) by birth key value added (kind, is) = absurd (cc)
+put_of own (On to k (SetPin pinned)) by birth key value added (hit, is) = absurd (cc)
 put_of own c by birth key value added is = absurd is
 
 module _ (s : Script) (r : Report) (workers : List (List Step)) (run : IsRun s r workers) where
   -- each Add is of the put that its serial names
   pub add_put : (place : Place) (n : ℕ) (by : Serial) (birth : ℕ) (key value : List ℕ) (added : Bool) → slice_get (journals_of r place) n ≡ Some (Add by birth added key value)
-      → (node : ℕ) × (decl : ℕ) × (put : List ℕ) × (slice_get (commands_of s by.worker) by.command ≡ Some (Put birth node decl key put))
+      → (node : ℕ) × (decl : ℕ) × (put : List ℕ) × (slice_get (commands_of s by.worker) by.command ≡ Some (Put (record { group = birth; node = node; decl = decl }) key put))
   add_put place n by birth key value added stands =
       let e : Entry = Add by birth added key value in
       let m = maker s r workers run place n e stands in
@@ -130,7 +130,7 @@ module _ (s : Script) (r : Report) (workers : List (List Step)) (run : IsRun s r
         let parts = and_parts (birth == group) (bytes_eq name key) named in
         let born = eqb-true birth group parts.0 in let word = (bytes_decides name key).0 parts.1 in
         let t = add_put place n by birth name value added stands in
-        let put : slice_get (commands_of s by.worker) by.command ≡ Some (Put group t.0 t.1 key t.2) = t.3 ∙ (λ i. Some (Put (born i) t.0 t.1 (word i) t.2)) in
+        let put : slice_get (commands_of s by.worker) by.command ≡ Some (Put (record { group = group; node = t.0; decl = t.1 }) key t.2) = t.3 ∙ (λ i. Some (Put (record { group = born i; node = t.0; decl = t.1 }) (word i) t.2)) in
         let first = only.worker_is by.worker by.command t.0 t.1 t.2 put in let second = only.command_is by.worker by.command t.0 t.1 t.2 put in
         λ i. record { worker = first i; command = second i }
     own_add place n e stands = tt

@@ -1,27 +1,27 @@
 -- The isolations of a report are those of the steps, and their scans are what their steps made.
-use Rattle.shr_lawful.proofs.Common.{◌≡◌, ℕ, zero, suc, ◌-◌, ◌<◌, ◌≤◌, Bool, true, false, cond, List, [], ◌∷◌, map, sym, refl, ap, subst, ◌∙◌, arith, slice_get, Option, Some, option_map, nat_lt, ltb-true, same_Some, none-some, Entry, Scan, Policy, Serial, Answered, Found, Reply, Command, Isolate, Script, Isolation, WalkRecord, place_number, first_isolation, isolation_walk, ScanSeen, Made, Report, walk_at, isolation_at, Placed, placed, placed_scan, visitor_of, Step, IsAmong, steps_of, isolations_asked, IsScanned, IsIsolationVisit, isolated_in, isolated_before, DidIsolation, IsRun, IsStep, at_some, ltb-false, isolation_told, scanning_command}
+use Rattle.shr_lawful.proofs.Common.{◌≡◌, ℕ, zero, suc, ◌-◌, ◌<◌, ◌≤◌, Bool, true, false, cond, List, [], ◌∷◌, map, sym, refl, ap, subst, ◌∙◌, arith, slice_get, Option, Some, option_map, nat_lt, ltb-true, same_Some, none-some, Entry, Scan, Policy, Serial, Target, Answered, Found, Reply, Command, Isolate, Script, Isolation, WalkRecord, place_number, first_isolation, isolation_walk, ScanSeen, Made, Report, walk_at, isolation_at, Placed, placed, placed_scan, visitor_of, Step, IsAmong, steps_of, isolations_asked, IsScanned, IsIsolationVisit, isolated_in, isolated_before, DidIsolation, IsRun, IsStep, at_some, ltb-false, isolation_told, scanning_command}
 use Rattle.shr_base.specs.declared.replies.Reply.TheVariants as reply
 use Rattle.shr_lawful.proofs.Listed.{slice_map, walk_there}
 use Rattle.shr_lawful.proofs.Gathering.{flat_at, flat_there}
 use Rattle.shr_lawful.proofs.VersionsLaw.{among_map}
 
 -- ---- an answer tells of one isolation at most
-told_found : (by : Serial) (group node budget : ℕ) (found : Option Found) (x : Reply) (j : ℕ) (i : Isolation) → slice_get (isolation_told by group node budget found x) j ≡ Some i → (isolation_told by group node budget found x ≡ i ∷ []) × (j ≡ 0)
-told_found by group node budget (Some f) (reply.Isolated visits freed ending) zero i at = (ap (λ (z : Isolation). z ∷ []) (same_Some _ i at), refl)
-told_found by group node budget (Some f) (reply.Isolated visits freed ending) (suc j) i at = absurd (none-some i at)
-told_found by group node budget found x j i at = absurd (none-some i at)
+told_found : (by : Serial) (to : Target) (budget : ℕ) (found : Option Found) (x : Reply) (j : ℕ) (i : Isolation) → slice_get (isolation_told by to budget found x) j ≡ Some i → (isolation_told by to budget found x ≡ i ∷ []) × (j ≡ 0)
+told_found by to budget (Some f) (reply.Isolated visits freed ending) zero i at = (ap (λ (z : Isolation). z ∷ []) (same_Some _ i at), refl)
+told_found by to budget (Some f) (reply.Isolated visits freed ending) (suc j) i at = absurd (none-some i at)
+told_found by to budget found x j i at = absurd (none-some i at)
 
 pub told_once : (by : Serial) (c : Option Command) (a : Answered) (j : ℕ) (i : Isolation) → slice_get (isolations_asked by c a) j ≡ Some i → (isolations_asked by c a ≡ i ∷ []) × (j ≡ 0)
-told_once by (Some (Isolate group node decl budget)) a j i at = told_found by group node budget a.found a.reply j i at
+told_once by (Some (Isolate to budget)) a j i at = told_found by to budget a.found a.reply j i at
 told_once by c a j i at = absurd (none-some i at)
 
-by_found : (by : Serial) (group node budget : ℕ) (found : Option Found) (x : Reply) (i : Isolation) → slice_get (isolation_told by group node budget found x) 0 ≡ Some i → i.by ≡ by
-by_found by group node budget (Some f) (reply.Isolated visits freed ending) i at = ap (λ (z : Isolation). z.by) (sym (same_Some _ i at))
-by_found by group node budget found x i at = absurd (none-some i at)
+by_found : (by : Serial) (to : Target) (budget : ℕ) (found : Option Found) (x : Reply) (i : Isolation) → slice_get (isolation_told by to budget found x) 0 ≡ Some i → i.by ≡ by
+by_found by to budget (Some f) (reply.Isolated visits freed ending) i at = ap (λ (z : Isolation). z.by) (sym (same_Some _ i at))
+by_found by to budget found x i at = absurd (none-some i at)
 
 -- and it is of the command
 pub told_by : (by : Serial) (c : Option Command) (a : Answered) (i : Isolation) → slice_get (isolations_asked by c a) 0 ≡ Some i → i.by ≡ by
-told_by by (Some (Isolate group node decl budget)) a i at = by_found by group node budget a.found a.reply i at
+told_by by (Some (Isolate to budget)) a i at = by_found by to budget a.found a.reply i at
 told_by by c a i at = absurd (none-some i at)
 
 pub first_told : (x : Step) (i : Isolation) → isolated_in x ≡ i ∷ [] → slice_get (isolated_in x) 0 ≡ Some i

@@ -9,10 +9,10 @@ module _ (s : Script) (r : Report) (workers : List (List Step)) (run : IsRun s r
   ops by c a t g = ap (λ (b : Serial). ops_by b (uses_at r g)) (sym t.own) ∙ ops_are s r workers run by.worker by.command t.step g t.at
 
   of_command : (by : Serial) (c : Command) (a : Answered) (t : Stepped s r workers run by c a) → DidJobs s t.step c → AreTriesOf s r by c t.step.answered
-  of_command by (Put group node decl key value) a t d = record {
+  of_command by (Put to key value) a t d = record {
     rounds = d.rounds;
-    made = subst (λ (l : List WalkRecord). MayMake t.step.answered.reply (jobs_of (parents_of s) s.nodes d.rounds (Put group node decl key value)) (map job_of l)) (sym (walks_are s r workers run by.worker by.command t.step t.at)) d.made;
-    each = λ g. ap (λ (os : List UseStep). map (is_refused (limit_of s g)) (filter (λ (o : UseStep). o.up) os)) (ops by (Put group node decl key value) a t g) ∙ d.refused.tried g;
+    made = subst (λ (l : List WalkRecord). MayMake t.step.answered.reply (jobs_of (parents_of s) s.nodes d.rounds (Put to key value)) (map job_of l)) (sym (walks_are s r workers run by.worker by.command t.step t.at)) d.made;
+    each = λ g. ap (λ (os : List UseStep). map (is_refused (limit_of s g)) (filter (λ (o : UseStep). o.up) os)) (ops by (Put to key value) a t g) ∙ d.refused.tried g;
   }
   of_command by c a t d = tt
 

@@ -57,7 +57,7 @@ module _ (s : Script) (r : Report) (workers : List (List Step)) (run : IsRun s r
 
   -- ---- the walks are those of the commands
   rounds_are : (by : Serial) (c : Command) (x : Step) (rounds : List ℕ) → ((g : ℕ) → ops_by by (uses_at r g) ≡ ops_at g x.work.ops) → DidRoundsOf s x rounds c → AreRoundsOf s r by c x.answered.reply rounds
-  rounds_are by (Put group node decl key value) x rounds ops d = record {
+  rounds_are by (Put to key value) x rounds ops d = record {
     few = d.few;
     above = d.above;
     refusals = λ h. d.refusals h ∙ sym (ap (count_by (is_refused (limit_of s h))) (ops h));

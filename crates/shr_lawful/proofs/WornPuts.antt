@@ -1,5 +1,5 @@
 -- The objects that were added are each of another put that was answered so, and where each put was, there are as many.
-use Rattle.shr_lawful.proofs.Common.{◌≡◌, ℕ, zero, suc, ◌+◌, ◌≤◌, ◌⊎◌, inl, inr, ⊎_elim, Bool, true, false, cond, List, [], ◌∷◌, length, length-append, take, sym, refl, ap, subst, ◌∙◌, arith, slice_get, Option, Some, None, filter, sum_by, enumerate_from, same_Some, none-some, sum_by-cons, Entry, Add, At, Place, Reply, Command, Put, Script, WorkerScript, added_by, added_by_all, added_in, is_put, is_at_or_above, path_of, Has_from_Contains, Each, total, place_at, Made, Report, charged, parents_of, puts_of, commands_in, commands_of, answers_of, serial_of, id_found, journals_of, places_of, DoPutsAddUp, IsReply, added_below, Step, steps_in, steps_of, IsPut, IsRun, all_made, sum_total, MayStand, IsAtOrAbove-root, IsEachAdded, count_total}
+use Rattle.shr_lawful.proofs.Common.{◌≡◌, ℕ, zero, suc, ◌+◌, ◌≤◌, ◌⊎◌, inl, inr, ⊎_elim, Bool, true, false, cond, List, [], ◌∷◌, length, length-append, take, sym, refl, ap, subst, ◌∙◌, arith, slice_get, Option, Some, None, filter, sum_by, enumerate_from, same_Some, none-some, sum_by-cons, Entry, Add, At, Target, Place, Reply, Command, Put, Script, WorkerScript, added_by, added_by_all, added_in, is_put, is_at_or_above, path_of, Has_from_Contains, Each, total, place_at, Made, Report, charged, parents_of, puts_of, commands_in, commands_of, answers_of, serial_of, id_found, journals_of, places_of, DoPutsAddUp, IsReply, added_below, Step, steps_in, steps_of, IsPut, IsRun, all_made, sum_total, MayStand, IsAtOrAbove-root, IsEachAdded, count_total}
 use Rattle.std.proofs.lemmas.List.Concat.{length-flat_map}
 use Rattle.std.proofs.lemmas.List.Sums.{length-filter}
 use Rattle.shr_lawful.proofs.Listed.{has_number, most_one}
@@ -14,7 +14,7 @@ abbrev IsChargeOf : List ℕ → Option Command → Reply → Type 0
 IsChargeOf ps c x = (charged ps 0 c (Some x) ≡ 0) ⊎ (IsPut c × ((a : At) × (x ≡ reply.Added a)) × (charged ps 0 c (Some x) ≤ 1))
 
 charge_of : (ps : List ℕ) (c : Option Command) (x : Reply) → IsChargeOf ps c x
-charge_of ps (Some (Put group node decl key value)) (reply.Added a) = inr (refl, (a, refl), most_one (is_at_or_above ps 0 group))
+charge_of ps (Some (Put to key value)) (reply.Added a) = inr (refl, (a, refl), most_one (is_at_or_above ps 0 to.group))
 charge_of ps c x = inl refl
 
 -- ---- sums
@@ -156,20 +156,20 @@ module _ (s : Script) (r : Report) (workers : List (List Step)) (run : IsRun s r
       answer_is = (run.steps.each worker k y at).answered
 
       -- the put's object stands in the list of a group of the tree
-      put_charged : (group node decl : ℕ) (key value : List ℕ) (c : At) → slice_get (commands_of s worker) k ≡ Some (Put group node decl key value)
-          → (found : Option ℕ) → IsReply (parents_of s) (journals_of r) (serial_of worker k) (Put group node decl key value) found (reply.Added c)
-          → 1 ≤ charged (parents_of s) 0 (Some (Put group node decl key value)) (Some (reply.Added c))
-      put_charged group node decl key value c command None h = absurd h
-      put_charged group node decl key value c command (Some id) h = below_root (Add (serial_of worker k) group true key value) c.place c.entry h.stands
+      put_charged : (to : Target) (key value : List ℕ) (c : At) → slice_get (commands_of s worker) k ≡ Some (Put to key value)
+          → (found : Option ℕ) → IsReply (parents_of s) (journals_of r) (serial_of worker k) (Put to key value) found (reply.Added c)
+          → 1 ≤ charged (parents_of s) 0 (Some (Put to key value)) (Some (reply.Added c))
+      put_charged to key value c command None h = absurd h
+      put_charged to key value c command (Some id) h = below_root (Add (serial_of worker k) to.group true key value) c.place c.entry h.stands
 
       by_command : (o : Option Command) → y.command ≡ o → asks o ≤ charged (parents_of s) 0 o (Some y.answered.reply)
       by_command None is = omega arith
-      by_command (Some (Put group node decl key value)) is =
+      by_command (Some (Put to key value)) is =
           let command = command_is ∙ is in
-          let t = all worker k group node decl key value y.answered command answer_is in
-          let told = (replies_lawful s r workers run).answered (serial_of worker k) (Put group node decl key value) y.answered command answer_is in
-          subst (λ x. 1 ≤ charged (parents_of s) 0 (Some (Put group node decl key value)) (Some x)) (sym t.1)
-          (put_charged group node decl key value t.0 command (id_found y.answered) (subst (IsReply (parents_of s) (journals_of r) (serial_of worker k) (Put group node decl key value) (id_found y.answered)) t.1 told))
+          let t = all worker k to key value y.answered command answer_is in
+          let told = (replies_lawful s r workers run).answered (serial_of worker k) (Put to key value) y.answered command answer_is in
+          subst (λ x. 1 ≤ charged (parents_of s) 0 (Some (Put to key value)) (Some x)) (sym t.1)
+          (put_charged to key value t.0 command (id_found y.answered) (subst (IsReply (parents_of s) (journals_of r) (serial_of worker k) (Put to key value) (id_found y.answered)) t.1 told))
       by_command (Some c) is = omega arith
 
     row_least : (worker : ℕ) (mine : List Step) → slice_get workers worker ≡ Some mine → total asked mine ≤ total charged_by mine

@@ -94,7 +94,7 @@ pub record DidRounds (s : Script) (x : Step) (group : ℕ) (rounds : List ℕ) :
 
 -- only a `put` makes rounds
 abbrev pub DidRoundsOf : Script → Step → List ℕ → Command → Type 0
-DidRoundsOf s x rounds (Put group node decl key value) = DidRounds s x group rounds
+DidRoundsOf s x rounds (Put at key value) = DidRounds s x at.group rounds
 DidRoundsOf s x rounds c = rounds ≡ []
 
 -- the walks are those of a command, and its answer is theirs

@@ -3,7 +3,7 @@ use Rattle.std.specs.Prelude.{ℕ, ◌-◌, Bool, true, false, ◌&&◌, ◌==�
 use Rattle.std.specs.List.{range_with_len}
 use Rattle.shr_base.specs.declared.places.Serial.{Serial}
 use Rattle.shr_base.specs.declared.scripts.Command.{Command}
-use Rattle.shr_base.specs.declared.scripts.Command.TheVariants.{Put, Get, Del, SetPin, Shrink, Balance, Offline, MkGroup, Register, Unregister, Isolate, Release, Grab}
+use Rattle.shr_base.specs.declared.scripts.Command.TheVariants.{Put, On, Shrink, Balance, Offline, MkGroup, Register, Unregister, Isolate, Release, Grab}
 use Rattle.shr_model.specs.Groups.{preorder_of}
 use Rattle.shr_model.specs.Walks.{Job, job}
 
@@ -13,46 +13,42 @@ is_serial x y = (x.worker == y.worker) && (x.command == y.command)
 
 -- the group that a command names
 abbrev pub group_named : Command → Option ℕ
-group_named (Put group node decl key value) = Some group
-group_named (Get group node decl key) = Some group
-group_named (Del group node decl key) = Some group
-group_named (SetPin group node decl key pinned) = Some group
+group_named (Put at key value) = Some at.group
+group_named (On at key act) = Some at.group
 group_named (Shrink group node priority nofs) = Some group
 group_named (Balance node priority nofs) = None
 group_named (Offline group) = Some group
 group_named (MkGroup group) = Some group
 group_named (Register decl) = None
 group_named (Unregister decl) = None
-group_named (Isolate group node decl budget) = Some group
+group_named (Isolate at budget) = Some at.group
 group_named (Release node pool units) = None
 group_named (Grab node pool) = None
 
 -- the declaration that a command names
 abbrev pub decl_named : Command → Option ℕ
-decl_named (Put group node decl key value) = Some decl
-decl_named (Get group node decl key) = Some decl
-decl_named (Del group node decl key) = Some decl
-decl_named (SetPin group node decl key pinned) = Some decl
+decl_named (Put at key value) = Some at.decl
+decl_named (On at key act) = Some at.decl
 decl_named (Shrink group node priority nofs) = None
 decl_named (Balance node priority nofs) = None
 decl_named (Offline group) = None
 decl_named (MkGroup group) = None
 decl_named (Register decl) = Some decl
 decl_named (Unregister decl) = Some decl
-decl_named (Isolate group node decl budget) = Some decl
+decl_named (Isolate at budget) = Some at.decl
 decl_named (Release node pool units) = None
 decl_named (Grab node pool) = None
 
 -- the command is a put
 abbrev pub is_put : Command → Bool
-is_put (Put group node decl key value) = true
+is_put (Put at key value) = true
 is_put c = false
 
 -- the group at which a command asks first whether it is online
 abbrev pub asks_online : Command → Option ℕ
 asks_online (Offline group) = None
 asks_online (MkGroup group) = None
-asks_online (Isolate group node decl budget) = None
+asks_online (Isolate at budget) = None
 asks_online c = group_named c
 
 -- the walks of a round over a group: on each node in rising order, its subtree in preorder
@@ -67,7 +63,7 @@ rounds_from parents nodes priority (g ∷ gs) = round_of parents nodes priority 
 
 -- the walks of a command, in order, where a put has rounds over these groups
 abbrev pub jobs_of : List ℕ → ℕ → List ℕ → Command → List Job
-jobs_of parents nodes rounds (Put group node decl key value) = rounds_from parents nodes 12 rounds
+jobs_of parents nodes rounds (Put at key value) = rounds_from parents nodes 12 rounds
 jobs_of parents nodes rounds (Shrink group node priority nofs) = job group node priority nofs ∷ []
 jobs_of parents nodes rounds (Balance node priority nofs) = map (λ g. job g node priority nofs) (preorder_of parents 0)
 jobs_of parents nodes rounds c = []

@@ -2,6 +2,7 @@
 -- after it.
 use Rattle.std.specs.Prelude.{◌≡◌, ℕ, ◌<◌, [], ◌++◌, List, None, Some}
 use Rattle.shr_base.specs.declared.places.Serial.{Serial}
+use Rattle.shr_base.specs.declared.places.Target.{Target}
 use Rattle.shr_base.specs.declared.journals.UseStep.{UseStep}
 use Rattle.shr_base.specs.declared.replies.Found.{Found}
 use Rattle.shr_base.specs.declared.replies.Reply.{Reply}
@@ -33,7 +34,6 @@ use Rattle.shr_walk.specs.Keeping.{shared_parents}
 use Rattle.shr_walk.specs.State.{WorkerState, IsRested}
 use Rattle.shr_opening.specs.declared.opening.Opened.{Opened}
 use Rattle.shr_opening.specs.declared.opening.Opened.TheVariants.{Held, Refused}
-use Rattle.shr_opening.specs.declared.target.Target.{Target}
 
 -- there are such a group, such a node and such a declaration
 pub record IsTargetOf (shape : Shape) (t : Target) : Type 0 where

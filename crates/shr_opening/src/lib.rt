@@ -3,4 +3,3 @@
 
 pub mod opening;
 pub mod replies;
-pub mod target;

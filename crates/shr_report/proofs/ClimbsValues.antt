@@ -1,11 +1,11 @@
 -- The lists on which the second whole report's worker acts go up only, and those of a report of a run, changed in one place,
 -- don't.
-use Rattle.shr_report.proofs.Common.{◌≡◌, ℕ, zero, suc, [], ◌∷◌, codes, refl, arith, ap, sym, subst, ⊎_elim, At, Place, IsAtOrAbove, Has_from_Contains, parents_of, at, Get}
+use Rattle.shr_report.proofs.Common.{◌≡◌, ℕ, zero, suc, [], ◌∷◌, codes, refl, arith, ap, sym, subst, ⊎_elim, At, Place, IsAtOrAbove, Has_from_Contains, parents_of, at, Get, On}
 use Rattle.shr_base.specs.declared.replies.Reply.TheVariants as reply
 use Rattle.shr_model.specs.Groups.{path_within}
 use Rattle.shr_report.specs.Climbs.{ActsOn, AreClimbing}
 use Rattle.shr_report.proofs.OfflineReport as offline
-use Rattle.shr_report.proofs.SecondReport.{kept, script, report, place, part, held}
+use Rattle.shr_report.proofs.SecondReport.{kept, script, report, place, part, held, target}
 use Rattle.shr_model.proofs.Lists.{some_injective}
 
 -- the second report
@@ -30,7 +30,7 @@ are_climbing worker k later birth p q lt first second ids nodes = subst (λ (a :
 -- a report that doesn't
 
 -- a worker's first get found the child's list closed and acted on the parent's, and its second acted on the child's
-goes_down : AreClimbing (record offline.script { workers = kept (record { commands = kept (Get 2 0 0 (codes "x") ∷ Get 2 0 0 (codes "x") ∷ []) } ∷ []) })
+goes_down : AreClimbing (record offline.script { workers = kept (record { commands = kept (On (target 2 0 0) (codes "x") Get ∷ On (target 2 0 0) (codes "x") Get ∷ []) } ∷ []) })
     (record offline.report { workers = kept (record part { answers = kept (held (reply.Miss (at (offline.place 0 0 1) 1)) 0 ∷ held (reply.Miss (at (offline.place 0 0 2) 0)) 1 ∷ []) } ∷ []) }) → ⊥
 unfolding path_within
 goes_down h = ⊎_elim (λ e. absurd (omega (arith, e))) (λ more. ⊎_elim (λ e. absurd (omega (arith, e))) (λ none. none) more)

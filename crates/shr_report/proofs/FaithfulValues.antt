@@ -12,7 +12,7 @@ use Rattle.shr_report.proofs.OneOrderValues.{nothing_made, in_order}
 use Rattle.shr_report.proofs.TakesValues as takes_values
 use Rattle.shr_report.proofs.SecondCases.{each_answer, each_walk}
 use Rattle.shr_report.proofs.SecondReport as second
-use Rattle.shr_report.proofs.SecondReport.{kept, script, report, uses}
+use Rattle.shr_report.proofs.SecondReport.{kept, script, report, uses, target}
 use Rattle.shr_report.proofs.NotLawful.{with_answers}
 use Rattle.shr_report.proofs.OverReport as over
 use Rattle.shr_report.proofs.TriesValues.{are_tries}
@@ -126,12 +126,12 @@ uses_fall : IsFaithful script (record report { uses = kept (second.use_step 1 0 
 uses_fall h = let e : 1 < 0 = h.uses_rise 1 0 (second.use_step 1 1 true 0 0) (second.use_step 1 0 false 1 1) refl refl refl refl (omega arith) in absurd (omega (arith, e))
 
 -- an Over names a group that isn't on the put's path
-over_elsewhere : IsOverOnPath over.script (command.Put 1 0 0 [] []) (reply.Over 2 28 2) → ⊥
+over_elsewhere : IsOverOnPath over.script (command.Put (target 1 0 0) [] []) (reply.Over 2 28 2) → ⊥
 unfolding path_within
 over_elsewhere h = ⊎_elim (λ e. absurd (omega (arith, e))) (λ more. ⊎_elim (λ e. absurd (omega (arith, e))) (λ none. none) more) (Has_from_Contains (1 ∷ 0 ∷ []) 2 h)
 
 -- and one that is
-over_on_path : IsOverOnPath over.script (command.Put 1 0 0 [] []) (reply.Over 1 28 2)
+over_on_path : IsOverOnPath over.script (command.Put (target 1 0 0) [] []) (reply.Over 1 28 2)
 unfolding path_within
 over_on_path = (0, omega arith, refl)
 

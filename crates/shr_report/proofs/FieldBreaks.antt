@@ -1,6 +1,6 @@
 -- Changes that break the sentences that no other change here breaks: sizes and names, totals,
 -- rounds, walks that were cut, rows of the table of replies, and a list that two caches share.
-use Rattle.shr_report.proofs.Common.{◌≡◌, ◌≤◌, ℕ, true, List, [], ◌∷◌, codes, length, replicate, Some, None, refl, arith, ap, inl, inr, Entry, Add, Drop, Drained, Registered, Unregistered, Idle, WalkRecord, Has, Has_from_Contains, Report, serial_of, journals_of, IsReply, HasCause, AreRepliesLawful, AreJournalsLawful, IsBagLawful, AreWalksLawful, IsFoundRight, AreLookupsLawful, AreChargesLawful, IsDeferredLawful, MovedIn, IsBegun, AreRoundsOfPut}
+use Rattle.shr_report.proofs.Common.{◌≡◌, ◌≤◌, ℕ, true, List, [], ◌∷◌, codes, length, replicate, Some, None, refl, arith, ap, inl, inr, Entry, Add, Drop, Drained, Registered, Unregistered, Idle, WalkRecord, Has, Has_from_Contains, Report, serial_of, journals_of, IsReply, HasCause, AreRepliesLawful, AreJournalsLawful, IsBagLawful, AreWalksLawful, IsFoundRight, AreLookupsLawful, AreChargesLawful, IsDeferredLawful, MovedIn, IsBegun, AreRoundsOfPut, Del, Get}
 use Rattle.shr_base.specs.declared.journals.DropKind.TheVariants as kind
 use Rattle.std.proofs.lemmas.List.Sorted.{length_permutation}
 use Rattle.shr_base.specs.declared.walks.Outcome.TheVariants as outcome
@@ -120,15 +120,15 @@ done_by_begin : HasCause moves.script moves.report (serial_of 0 3) (command.Offl
 done_by_begin h = absurd (cc)
 
 -- the walk of another command's kind
-walked_by_get : IsReply (0 ∷ 0 ∷ []) (journals_of second.report) (second.by 0) (command.Get 1 0 0 []) None (reply.Walked 0) → ⊥
+walked_by_get : IsReply (0 ∷ 0 ∷ []) (journals_of second.report) (second.by 0) (command.On (second.target 1 0 0) [] Get) None (reply.Walked 0) → ⊥
 walked_by_get h = h
 
 -- a del of the second cache drops the first one's object
-list_shared : IsReply (0 ∷ 0 ∷ []) (journals_of second.report) (second.by 1) (command.Del 1 0 1 (codes "k1")) (Some 1) (reply.Dropped (record { place = second.place; entry = 1 })) → ⊥
+list_shared : IsReply (0 ∷ 0 ∷ []) (journals_of second.report) (second.by 1) (command.On (second.target 1 0 1) (codes "k1") Del) (Some 1) (reply.Dropped (record { place = second.place; entry = 1 })) → ⊥
 list_shared h = let e : 0 ≡ 1 = h.id_is in absurd (omega (arith, e))
 
 -- an object is dropped, and no cache was found
-found_by_none : IsReply (0 ∷ 0 ∷ []) (journals_of second.report) (second.by 1) (command.Del 1 0 0 (codes "k1")) None (reply.Dropped (record { place = second.place; entry = 1 })) → ⊥
+found_by_none : IsReply (0 ∷ 0 ∷ []) (journals_of second.report) (second.by 1) (command.On (second.target 1 0 0) (codes "k1") Del) None (reply.Dropped (record { place = second.place; entry = 1 })) → ⊥
 found_by_none h = h
 
 -- a list that was moved in and not closed, so that its object is listed twice, or freed and listed

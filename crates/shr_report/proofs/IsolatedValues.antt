@@ -4,7 +4,7 @@ use Rattle.shr_base.specs.declared.replies.IsolateEnd.TheVariants as isolate
 use Rattle.shr_base.specs.declared.replies.Reply.TheVariants as reply
 use Rattle.shr_base.specs.declared.replies.Spent.TheVariants as spent
 use Rattle.shr_model.specs.Isolations.{ScanSeen, Met, met_one, met_none, IsLawfulIsolation}
-use Rattle.shr_report.proofs.SecondReport.{kept, by, place, put, held}
+use Rattle.shr_report.proofs.SecondReport.{kept, by, place, put, held, target}
 use Rattle.shr_report.proofs.SmallReports.{each_answer, each_entry}
 use Rattle.shr_report.proofs.FirstReport as first
 use Rattle.shr_model.proofs.Lists.{each_at}
@@ -82,10 +82,10 @@ freed_other h = let e : 0 ≡ 1 = h.freed in absurd (omega (arith, e))
 -- ---- a report: put k1, put k2, isolate /a 0 dentry 5
 
 abbrev put_two : Command
-put_two = Put 1 0 0 (codes "k2") (codes "v2")
+put_two = Put (target 1 0 0) (codes "k2") (codes "v2")
 
 abbrev commands : List Command
-commands = put ∷ put_two ∷ Isolate 1 0 0 5 ∷ []
+commands = put ∷ put_two ∷ Isolate (target 1 0 0) 5 ∷ []
 
 abbrev script : Script
 script = record first.script { version = 2; workers = kept (record { commands = kept commands } ∷ []) }
@@ -139,7 +139,7 @@ isolated_by_put h = absurd (let e = h.commands (by 0) put _ refl refl in cc)
 
 -- the isolation isn't recorded; it is of another list; it has another budget
 unrecorded : AreIsolationsLawful script (with answers [] entries) → ⊥
-unrecorded h = absurd (let e = h.commands (by 2) (Isolate 1 0 0 5) _ refl refl in cc)
+unrecorded h = absurd (let e = h.commands (by 2) (Isolate (target 1 0 0) 5) _ refl refl in cc)
 
 first_place : List Isolation → Place
 first_place [] = place
@@ -147,7 +147,7 @@ first_place (i ∷ is) = i.place
 
 other_list : AreIsolationsLawful script (with answers (record isolated { place = record place { group = 0 } } ∷ []) entries) → ⊥
 unfolding first_place
-other_list h = let e : 0 ≡ 1 = ap (λ is. (first_place is).group) (h.commands (by 2) (Isolate 1 0 0 5) _ refl refl) in absurd (omega (arith, e))
+other_list h = let e : 0 ≡ 1 = ap (λ is. (first_place is).group) (h.commands (by 2) (Isolate (target 1 0 0) 5) _ refl refl) in absurd (omega (arith, e))
 
 first_budget : List Isolation → ℕ
 first_budget [] = 0
@@ -155,7 +155,7 @@ first_budget (i ∷ is) = i.budget
 
 other_budget : AreIsolationsLawful script (with answers (record isolated { budget = 6 } ∷ []) entries) → ⊥
 unfolding first_budget
-other_budget h = let e : 6 ≡ 5 = ap first_budget (h.commands (by 2) (Isolate 1 0 0 5) _ refl refl) in absurd (omega (arith, e))
+other_budget h = let e : 6 ≡ 5 = ap first_budget (h.commands (by 2) (Isolate (target 1 0 0) 5) _ refl refl) in absurd (omega (arith, e))
 
 -- a scan is missing; one is of no isolation
 scan_missing : AreIsolationsLawful script (with answers (isolated ∷ []) (scan 1 1 ∷ scan 1 1 ∷ [])) → ⊥
@@ -175,20 +175,20 @@ worn_early h = let low = (h.worn 0 0 _ refl).0 in absurd (omega (arith, low))
 -- ---- which answers an isolation may have, and whose a scan is
 
 -- one that found its cache is told; it is told without one where it was refused
-told_found : IsReply (0 ∷ 0 ∷ []) (λ p. []) (by 2) (Isolate 1 0 0 5) (Some 0) (reply.Isolated 2 2 isolate.Bare)
+told_found : IsReply (0 ∷ 0 ∷ []) (λ p. []) (by 2) (Isolate (target 1 0 0) 5) (Some 0) (reply.Isolated 2 2 isolate.Bare)
 told_found = tt
 
-refused_worn : IsReply (0 ∷ 0 ∷ []) (λ p. []) (by 2) (Isolate 1 0 0 5) None (reply.Worn (spent.Lookups 0 4294967040))
+refused_worn : IsReply (0 ∷ 0 ∷ []) (λ p. []) (by 2) (Isolate (target 1 0 0) 5) None (reply.Worn (spent.Lookups 0 4294967040))
 refused_worn = tt
 
 -- it is told without a cache, or as a walk; it is worn by charges without a visit; a put is told so
-isolated_unfound : IsReply (0 ∷ 0 ∷ []) (λ p. []) (by 2) (Isolate 1 0 0 5) None (reply.Isolated 2 2 isolate.Bare) → ⊥
+isolated_unfound : IsReply (0 ∷ 0 ∷ []) (λ p. []) (by 2) (Isolate (target 1 0 0) 5) None (reply.Isolated 2 2 isolate.Bare) → ⊥
 isolated_unfound h = h
 
-isolated_as_walked : IsReply (0 ∷ 0 ∷ []) (λ p. []) (by 2) (Isolate 1 0 0 5) (Some 0) (reply.Walked 2) → ⊥
+isolated_as_walked : IsReply (0 ∷ 0 ∷ []) (λ p. []) (by 2) (Isolate (target 1 0 0) 5) (Some 0) (reply.Walked 2) → ⊥
 isolated_as_walked h = h
 
-isolated_by_charges : IsReply (0 ∷ 0 ∷ []) (λ p. []) (by 2) (Isolate 1 0 0 5) None (reply.Worn (spent.Charges 1048576 0)) → ⊥
+isolated_by_charges : IsReply (0 ∷ 0 ∷ []) (λ p. []) (by 2) (Isolate (target 1 0 0) 5) None (reply.Worn (spent.Charges 1048576 0)) → ⊥
 isolated_by_charges h = h
 
 put_isolated : IsReply (0 ∷ 0 ∷ []) (λ p. []) (by 0) put (Some 0) (reply.Isolated 2 2 isolate.Bare) → ⊥

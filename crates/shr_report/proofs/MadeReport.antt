@@ -2,7 +2,7 @@
 -- object, and then in the way of its parent's offlining.
 use Rattle.shr_report.proofs.Common.{false, true, List, [], ◌∷◌, codes, None, Place, Entry, Add, Registered, Made, Answered, Command, Put, Offline, MkGroup, Script, fresh, Report, at}
 use Rattle.shr_base.specs.declared.replies.Reply.TheVariants as reply
-use Rattle.shr_report.proofs.SecondReport.{kept, by, dentry, held, unheld, use_step}
+use Rattle.shr_report.proofs.SecondReport.{kept, by, dentry, held, unheld, use_step, target}
 
 -- the place of a group's objects
 abbrev pub place : Place
@@ -10,7 +10,7 @@ place = record { id = 0; node = 0; group = 2 }
 
 -- put /p/c 0 dentry x =
 abbrev pub put : Command
-put = Put 2 0 0 (codes "x") []
+put = Put (target 2 0 0) (codes "x") []
 
 abbrev pub commands : List Command
 commands = put ∷ MkGroup 2 ∷ MkGroup 2 ∷ put ∷ Offline 1 ∷ []

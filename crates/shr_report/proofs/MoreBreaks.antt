@@ -1,5 +1,5 @@
 -- Changes of further reports, each of which breaks a sentence.
-use Rattle.shr_report.proofs.Common.{◌≡◌, ◌<◌, ◌≤◌, ℕ, [], ◌∷◌, Option, Some, None, refl, arith, ap, UseStep, Clock, PassRecord, FollowsArithmetic, scans_by, serial_of, journals_of, zero, suc, IsSomeAnd, Closed, Drained, Registered, Unregistered, Begin, Done, Report, reply_at, IsMadeBy, AreJournalsLawful, AreRepliesLawful, AreScansOf, IsStopped, IsLawfulWalk, AreWalksLawful, IsDeferredLawful, IsReply, HasCause, AreCausesLawful, nat_abs, option_map_or, IsOver, IsSpent}
+use Rattle.shr_report.proofs.Common.{◌≡◌, ◌<◌, ◌≤◌, ℕ, [], ◌∷◌, Option, Some, None, refl, arith, ap, UseStep, Clock, PassRecord, FollowsArithmetic, scans_by, serial_of, journals_of, zero, suc, IsSomeAnd, Closed, Drained, Registered, Unregistered, Begin, Done, Report, reply_at, IsMadeBy, AreJournalsLawful, AreRepliesLawful, AreScansOf, IsStopped, IsLawfulWalk, AreWalksLawful, IsDeferredLawful, IsReply, HasCause, AreCausesLawful, nat_abs, option_map_or, IsOver, IsSpent, Get}
 use Rattle.shr_base.specs.declared.replies.HalfWhy.TheVariants as why
 use Rattle.shr_base.specs.declared.replies.Reply.TheVariants as reply
 use Rattle.shr_base.specs.declared.replies.Spent.TheVariants as spent
@@ -74,7 +74,7 @@ other_usage : IsOver over.script over.report (serial_of 0 4) 1 1 28 3 → ⊥
 other_usage h = let e : 2 ≡ 3 = ap (λ (o : Option UseStep). option_map_or (λ (u : UseStep). nat_abs u.found) o 0) h.up in absurd (omega (arith, e))
 
 -- the put names the cache, which was live
-live_then : HasCause leaves.script leaves.report (serial_of 0 4) (command.Put 1 0 0 [] []) (reply.NoCache 4) → ⊥
+live_then : HasCause leaves.script leaves.report (serial_of 0 4) (command.Put (second.target 1 0 0) [] []) (reply.NoCache 4) → ⊥
 unfolding is_live_below phase_of decl_from
 live_then h = absurd (let e = h.none in cc)
 
@@ -115,7 +115,7 @@ carried_by_del : IsDeferredLawful second.script (record second.report { workers 
 carried_by_del h = absurd (let e = h.carries.0.command in cc)
 
 -- a `get` is answered Worn by charges, which it doesn't make; and a walk is no answer to it
-get_spent : IsReply (0 ∷ 0 ∷ []) (journals_of second.report) (second.by 0) (command.Get 1 0 0 []) None (reply.Worn (spent.Charges 1048576 0)) → ⊥
+get_spent : IsReply (0 ∷ 0 ∷ []) (journals_of second.report) (second.by 0) (command.On (second.target 1 0 0) [] Get) None (reply.Worn (spent.Charges 1048576 0)) → ⊥
 get_spent h = h
 
 -- two replies of one worker cite entries that fall

@@ -1,5 +1,5 @@
 -- Sentences on walks, rounds, offlining and unregistering at the values of further reports.
-use Rattle.shr_report.proofs.Common.{◌≡◌, ℕ, zero, suc, ◌+◌, false, cond, [], ◌∷◌, map, replicate, Some, slice_get, refl, arith, ap, subst, IsAtOrAbove, Idle, Entry, Drained, Attempt, PassRecord, pass_of, scans_by, ◌==◌, fold, count_by, ops_by, is_refused, limit_of, uses_at, job_of, serial_of, parents_of, items_left, walks_by, IsLawfulWalk, AreScansOf, IsStopped, freed_below, listed_below, IsMadeBy, objects_moved_from, drained_of, HasCause, IsFoundRight, over_at, IsLastOfCut, AreWalksOf, balance_reply}
+use Rattle.shr_report.proofs.Common.{◌≡◌, ℕ, zero, suc, ◌+◌, false, cond, [], ◌∷◌, map, replicate, Some, slice_get, refl, arith, ap, subst, IsAtOrAbove, Idle, Entry, Drained, Attempt, PassRecord, pass_of, scans_by, ◌==◌, fold, count_by, ops_by, is_refused, limit_of, uses_at, job_of, serial_of, parents_of, items_left, walks_by, IsLawfulWalk, AreScansOf, IsStopped, freed_below, listed_below, IsMadeBy, objects_moved_from, drained_of, HasCause, IsFoundRight, over_at, IsLastOfCut, AreWalksOf, balance_reply, Get}
 use Rattle.shr_model.specs.Scan.{scan_from}
 use Rattle.shr_model.specs.Items.{items_from, freed_from}
 use Rattle.shr_model.specs.Families.{lists_moved, items_within}
@@ -11,6 +11,7 @@ use Rattle.shr_base.specs.declared.replies.Reply.TheVariants as reply
 use Rattle.shr_base.specs.declared.walks.Ending.TheVariants as ending
 use Rattle.shr_base.specs.declared.scripts.Command.TheVariants as command
 use Rattle.shr_report.proofs.SecondCases.{all_replicate}
+use Rattle.shr_report.proofs.SecondReport.{target}
 use Rattle.shr_report.proofs.ScansReport as scans
 use Rattle.shr_report.proofs.OfflineReport as moves
 use Rattle.shr_report.proofs.OverReport as over
@@ -50,7 +51,7 @@ moved_left = refl
 offlined : HasCause moves.script moves.report (serial_of 0 3) (command.Offline 2) (reply.OfflineDone 1 2 0)
 offlined = record { made = refl; carried = refl; most = omega arith; whole = λ alone. refl }
 
-found_offline : HasCause moves.script moves.report (serial_of 0 4) (command.Get 2 0 0 []) (reply.Offline 0)
+found_offline : HasCause moves.script moves.report (serial_of 0 4) (command.On (target 2 0 0) [] Get) (reply.Offline 0)
 found_offline = refl
 
 listed_of_child : listed_below moves.script moves.report 2 ≡ 2
@@ -58,7 +59,7 @@ unfolding items_from lists_moved items_within path_within
 listed_of_child = refl
 
 -- the put that was refused 14 times, the last time at operation 28
-refused_last : HasCause over.script over.report (serial_of 0 4) (command.Put 1 0 0 [] []) (reply.Over 1 28 2)
+refused_last : HasCause over.script over.report (serial_of 0 4) (command.Put (target 1 0 0) [] []) (reply.Over 1 28 2)
 refused_last = record { up = refl; full = omega arith; last = refl; tried = refl }
 
 -- its walks are those of thirteen rounds over its own group
@@ -73,7 +74,7 @@ freed_three : HasCause leaves.script leaves.report (serial_of 0 3) (command.Unre
 unfolding from_from
 freed_three = record { unregistered = record { made = refl; from_is = refl; drained = refl; places = only_journal leaves.list_0 (λ p es. (n : ℕ) (e : Entry) → slice_get es n ≡ Some e → (m : ℕ) → e ≡ Drained (serial_of 0 3) m → p.id ≡ 0) (λ p n e at m d. absurd (cc)) (λ n e at m d. refl) }; idle = refl }
 
-no_cache : HasCause leaves.script leaves.report (serial_of 0 4) (command.Put 1 0 0 [] []) (reply.NoCache 3)
+no_cache : HasCause leaves.script leaves.report (serial_of 0 4) (command.Put (target 1 0 0) [] []) (reply.NoCache 3)
 unfolding is_live_below phase_of decl_from
 no_cache = record { known = omega arith; none = refl }
 
@@ -153,7 +154,7 @@ refusals (suc (suc h)) =
     let three : count_by (is_refused (limit_of over.script (suc (suc h)))) (ops_by (serial_of 0 4) (uses_at over.report (suc (suc h)))) ≡ 0 = none_refused 0 (ops_by (serial_of 0 4) (uses_at over.report (suc (suc h)))) in
     omega (arith, one, two, three)
 
-rounds : AreWalksOf over.script over.report (serial_of 0 4) (command.Put 1 0 0 [] []) (reply.Over 1 28 2)
+rounds : AreWalksOf over.script over.report (serial_of 0 4) (command.Put (target 1 0 0) [] []) (reply.Over 1 28 2)
 unfolding rounds_from preorder_within path_within
 rounds = record {
   rounds = replicate 13 1;

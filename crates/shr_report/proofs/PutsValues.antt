@@ -3,7 +3,7 @@ use Rattle.shr_report.proofs.Common.{◌≡◌, ℕ, zero, suc, ◌<◌, [], ◌
 use Rattle.shr_base.specs.declared.replies.Reply.TheVariants as reply
 use Rattle.shr_base.specs.declared.replies.Spent.TheVariants as spent
 use Rattle.shr_model.specs.Groups.{path_within}
-use Rattle.shr_report.proofs.SecondReport.{kept, place, put}
+use Rattle.shr_report.proofs.SecondReport.{kept, place, put, target}
 use Rattle.shr_report.proofs.FirstReport.{script, report, answer}
 use Rattle.shr_report.proofs.OverReport as over
 use Rattle.shr_report.proofs.SmallReports.{no_limit}
@@ -13,11 +13,11 @@ use Rattle.shr_report.proofs.SmallReports.{no_limit}
 -- it is the only one of the script
 only : IsOnlyPut script 0 0 1 (codes "k1")
 only = record { worker_is = worker; command_is = command } where
-  worker : (w j node decl : ℕ) (value : List ℕ) → slice_get (commands_of script w) j ≡ Some (Put 1 node decl (codes "k1") value) → w ≡ 0
+  worker : (w j node decl : ℕ) (value : List ℕ) → slice_get (commands_of script w) j ≡ Some (Put (target 1 node decl) (codes "k1") value) → w ≡ 0
   worker zero j node decl value e = refl
   worker (suc w) j node decl value e = absurd (cc)
 
-  command : (w j node decl : ℕ) (value : List ℕ) → slice_get (commands_of script w) j ≡ Some (Put 1 node decl (codes "k1") value) → j ≡ 0
+  command : (w j node decl : ℕ) (value : List ℕ) → slice_get (commands_of script w) j ≡ Some (Put (target 1 node decl) (codes "k1") value) → j ≡ 0
   command w zero node decl value e = refl
   command zero (suc j) node decl value e = absurd (cc)
   command (suc w) (suc j) node decl value e = absurd (cc)
@@ -34,9 +34,9 @@ free = record { unlimited = λ g above. no_limit script (refl, (refl, tt)) g; th
 
 -- it was added, and so each such put was
 added : AreFreePutsAdded script report
-added zero zero group node decl key value a c e f = let same : answer ≡ a = cc in subst (λ (x : Answered). IsAddedOrSpent x.reply) same tt
-added zero (suc k) group node decl key value a c e f = absurd (cc)
-added (suc worker) k group node decl key value a c e f = absurd (cc)
+added zero zero to key value a c e f = let same : answer ≡ a = cc in subst (λ (x : Answered). IsAddedOrSpent x.reply) same tt
+added zero (suc k) to key value a c e f = absurd (cc)
+added (suc worker) k to key value a c e f = absurd (cc)
 
 -- ---- what breaks it
 
@@ -45,7 +45,7 @@ abbrev exists : Report
 exists = record report { workers = kept (record { answers = kept (record answer { reply = reply.Exists (record { place = place; entry = 0 }) } ∷ []); walks = kept []; carries = kept []; plain = kept []; isolations = kept [] } ∷ []) }
 
 not_added : AreFreePutsAdded script exists → ⊥
-not_added all = all 0 0 1 0 0 (codes "k1") (codes "v1") (record answer { reply = reply.Exists (record { place = place; entry = 0 }) }) refl refl (record { unlimited = λ g above. no_limit script (refl, (refl, tt)) g; there = refl; online = inl refl; cached = record { on = stays.on; kept = stays.kept }; only = only })
+not_added all = all 0 0 (target 1 0 0) (codes "k1") (codes "v1") (record answer { reply = reply.Exists (record { place = place; entry = 0 }) }) refl refl (record { unlimited = λ g above. no_limit script (refl, (refl, tt)) g; there = refl; online = inl refl; cached = record { on = stays.on; kept = stays.kept }; only = only })
 
 -- the answers that are asked of such a put, and one that isn't
 memory_may_lack : IsAddedOrSpent reply.Memory
@@ -125,9 +125,9 @@ not_alone (inr h) = let t = h (serial_of 1 0) (record { command_is = refl; answe
 -- ---- as many objects as puts
 
 each_added : IsEachAdded script report
-each_added zero zero group node decl key value a c e = let same : answer ≡ a = cc in (record { place = place; entry = 0 }, ap (λ (x : Answered). x.reply) (sym same))
-each_added zero (suc k) group node decl key value a c e = absurd (cc)
-each_added (suc worker) k group node decl key value a c e = absurd (cc)
+each_added zero zero to key value a c e = let same : answer ≡ a = cc in (record { place = place; entry = 0 }, ap (λ (x : Answered). x.reply) (sym same))
+each_added zero (suc k) to key value a c e = absurd (cc)
+each_added (suc worker) k to key value a c e = absurd (cc)
 
 add_up : DoPutsAddUp script report
 add_up each = refl

@@ -5,7 +5,7 @@ use Rattle.shr_base.specs.declared.journals.Entry.TheVariants as entry
 use Rattle.shr_base.specs.declared.replies.Reply.TheVariants as reply
 use Rattle.shr_base.specs.declared.scripts.Command.TheVariants as command
 use Rattle.shr_base.specs.declared.walks.Outcome.TheVariants as outcome
-use Rattle.shr_report.proofs.SecondReport.{kept, dentry, unheld}
+use Rattle.shr_report.proofs.SecondReport.{kept, dentry, unheld, target}
 
 abbrev pub place_of : ℕ → Place
 place_of group = record { id = 0; node = 0; group = group }
@@ -22,10 +22,10 @@ script = record {
   workers = kept (
       record {
         commands = kept (
-            command.Put 2 0 0 (codes "x") [] ∷ command.Put 2 0 0 (codes "y") [] ∷ command.Put 2 0 0 (codes "z") [] ∷ command.Shrink 2 0 1 false ∷ command.Offline 2 ∷ command.Unregister 0 ∷ []
+            command.Put (target 2 0 0) (codes "x") [] ∷ command.Put (target 2 0 0) (codes "y") [] ∷ command.Put (target 2 0 0) (codes "z") [] ∷ command.Shrink 2 0 1 false ∷ command.Offline 2 ∷ command.Unregister 0 ∷ []
             );
       }
-      ∷ record { commands = kept (command.Put 1 0 0 (codes "w") [] ∷ []) }
+      ∷ record { commands = kept (command.Put (target 1 0 0) (codes "w") [] ∷ []) }
       ∷ []
       );
   sweep = None;

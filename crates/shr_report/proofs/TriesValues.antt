@@ -6,7 +6,7 @@ use Rattle.shr_model.specs.Freeings.{is_at_or_above}
 use Rattle.shr_model.specs.Groups.{path_within}
 use Rattle.shr_report.specs.Tries.{outcomes_in, refused_in, AreTriesOfPut, AreTriesOf, AreAllTries}
 use Rattle.shr_report.proofs.SecondCases.{each_answer}
-use Rattle.shr_report.proofs.SecondReport.{kept, by, put, place, held, unheld, uses, script, report}
+use Rattle.shr_report.proofs.SecondReport.{kept, by, put, place, held, unheld, uses, script, report, target}
 
 -- the second report
 
@@ -47,7 +47,7 @@ uncharged h = let front : List Bool = map (λ (j : ℕ). j == 1) (filter (λ (j 
     let e : [] ≡ front ++ false ∷ [] = h.each 1 in absurd (omega (arith, ap (λ (l : List Bool). length l) e, length-append front (false ∷ [])))
 
 -- a put of the root's charged the group below it
-beside_the_path : AreTriesOfPut script report (by 0) 0 (Put 0 0 0 [] []) (held (reply.Added (at place 0)) 0) → ⊥
+beside_the_path : AreTriesOfPut script report (by 0) 0 (Put (target 0 0 0) [] []) (held (reply.Added (at place 0)) 0) → ⊥
 unfolding path_within
 beside_the_path h = let e : false ∷ [] ≡ [] = h.each 1 in cc
 

@@ -3,6 +3,7 @@ use Rattle.std.specs.Prelude.{◌≡◌, ℕ, ◌-◌, ◌≤◌, true, ◌&&◌
 use Rattle.std.specs.Option.{IsSomeAnd}
 use Rattle.shr_base.specs.declared.places.Serial.{Serial}
 use Rattle.shr_base.specs.declared.places.Place.{Place}
+use Rattle.shr_base.specs.declared.places.Target.{Target}
 use Rattle.shr_base.specs.declared.journals.Entry.{Entry}
 use Rattle.shr_base.specs.declared.journals.Entry.TheVariants.{Scan}
 use Rattle.shr_base.specs.declared.replies.Found.{Found}
@@ -56,14 +57,14 @@ IsOfIsolation r place (Scan worker n asked policy visits freed stopped) = first_
 IsOfIsolation r place e = ⊤
 
 -- the isolation of a command that found its cache and was answered so
-abbrev pub isolation_told : Serial → ℕ → ℕ → ℕ → Option Found → Reply → List Isolation
-isolation_told by group node budget (Some f) (reply.Isolated visits freed ending) =
-    record { by = by; place = record { id = f.id; node = node; group = group }; budget = budget; visits = visits; freed = freed; ending = ending } ∷ []
-isolation_told by group node budget found x = []
+abbrev pub isolation_told : Serial → Target → ℕ → Option Found → Reply → List Isolation
+isolation_told by at budget (Some f) (reply.Isolated visits freed ending) =
+    record { by = by; place = record { id = f.id; node = at.node; group = at.group }; budget = budget; visits = visits; freed = freed; ending = ending } ∷ []
+isolation_told by at budget found x = []
 
 -- the isolations of a command by its answer
 abbrev pub isolations_told : Serial → Command → Answered → List Isolation
-isolations_told by (Isolate group node decl budget) a = isolation_told by group node budget a.found a.reply
+isolations_told by (Isolate at budget) a = isolation_told by at budget a.found a.reply
 isolations_told by c a = []
 
 -- each isolation is lawful, each command has those that its answer tells, and no other scan was made

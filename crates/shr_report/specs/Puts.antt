@@ -3,6 +3,7 @@ use Rattle.std.specs.Prelude.{◌≡◌, ◌⊎◌, ℕ, ◌<◌, false, List, s
 use Rattle.shr_base.specs.declared.journals.PoolEntry.TheVariants.{Unregistered}
 use Rattle.shr_base.specs.declared.places.At.{At}
 use Rattle.shr_base.specs.declared.places.Serial.{Serial}
+use Rattle.shr_base.specs.declared.places.Target.{Target}
 use Rattle.shr_base.specs.declared.replies.Answered.{Answered}
 use Rattle.shr_base.specs.declared.replies.Reply.{Reply}
 use Rattle.shr_base.specs.declared.replies.Reply.TheVariants.{Added, Memory, Worn}
@@ -16,8 +17,8 @@ use Rattle.shr_report.specs.Parts.{parents_of, later_of, limit_of, decls_on, put
 
 -- no other put of the script names this group and key
 pub record IsOnlyPut (s : Script) (worker k group : ℕ) (key : List ℕ) : Type 0 where
-  pub worker_is : (w j node decl : ℕ) (value : List ℕ) → slice_get (commands_of s w) j ≡ Some (Put group node decl key value) → w ≡ worker
-  pub command_is : (w j node decl : ℕ) (value : List ℕ) → slice_get (commands_of s w) j ≡ Some (Put group node decl key value) → j ≡ k
+  pub worker_is : (w j node decl : ℕ) (value : List ℕ) → slice_get (commands_of s w) j ≡ Some (Put (record { group = group; node = node; decl = decl }) key value) → w ≡ worker
+  pub command_is : (w j node decl : ℕ) (value : List ℕ) → slice_get (commands_of s w) j ≡ Some (Put (record { group = group; node = node; decl = decl }) key value) → j ≡ k
 
 -- no group at or above this one has a limit
 abbrev pub IsUnlimited : Script → ℕ → Type 0
@@ -52,12 +53,12 @@ IsAddedOrSpent r = ⊥
 
 -- each put that nothing is in the way of was answered so
 abbrev pub AreFreePutsAdded : Script → Report → Type 0
-AreFreePutsAdded s r = (worker k group node decl : ℕ) (key value : List ℕ) (a : Answered) → slice_get (commands_of s worker) k ≡ Some (Put group node decl key value) → slice_get (answers_of r worker) k ≡ Some a
-    → IsFreePut s r worker k group decl key → IsAddedOrSpent a.reply
+AreFreePutsAdded s r = (worker k : ℕ) (at : Target) (key value : List ℕ) (a : Answered) → slice_get (commands_of s worker) k ≡ Some (Put at key value) → slice_get (answers_of r worker) k ≡ Some a
+    → IsFreePut s r worker k at.group at.decl key → IsAddedOrSpent a.reply
 
 -- each put was answered that its object was added
 abbrev pub IsEachAdded : Script → Report → Type 0
-IsEachAdded s r = (worker k group node decl : ℕ) (key value : List ℕ) (a : Answered) → slice_get (commands_of s worker) k ≡ Some (Put group node decl key value) → slice_get (answers_of r worker) k ≡ Some a
+IsEachAdded s r = (worker k : ℕ) (at : Target) (key value : List ℕ) (a : Answered) → slice_get (commands_of s worker) k ≡ Some (Put at key value) → slice_get (answers_of r worker) k ≡ Some a
     → (c : At) × (a.reply ≡ Added c)
 
 -- where each put was, as many objects were added as the script has puts

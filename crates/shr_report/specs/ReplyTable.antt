@@ -1,8 +1,9 @@
 -- The table of replies: which replies a command may have, which entry each cites, whether it stands
 -- with a cache that was found; and the cause of each reply in the report.
-use Rattle.std.specs.Prelude.{◌≡◌, ℕ, Bool, true, false, List, slice_get, Option, Some, None, option_map, ⊤, IsSomeAnd}
+use Rattle.std.specs.Prelude.{◌≡◌, ℕ, true, false, List, slice_get, Option, Some, None, option_map, ⊤, IsSomeAnd}
 use Rattle.shr_base.specs.declared.places.Serial.{Serial}
 use Rattle.shr_base.specs.declared.places.At.{At}
+use Rattle.shr_base.specs.declared.places.Target.{Target}
 use Rattle.shr_base.specs.declared.objects.Object.{Object}
 use Rattle.shr_base.specs.declared.journals.DropKind.TheVariants as kind
 use Rattle.shr_base.specs.declared.journals.Entry.{Entry}
@@ -13,8 +14,10 @@ use Rattle.shr_base.specs.declared.replies.Spent.{Spent}
 use Rattle.shr_base.specs.declared.replies.Spent.TheVariants as spent
 use Rattle.shr_base.specs.declared.replies.Reply.{Reply}
 use Rattle.shr_base.specs.declared.replies.Reply.TheVariants as reply
+use Rattle.shr_base.specs.declared.scripts.Act.{Act}
+use Rattle.shr_base.specs.declared.scripts.Act.TheVariants.{Get, Del, SetPin}
 use Rattle.shr_base.specs.declared.scripts.Command.{Command}
-use Rattle.shr_base.specs.declared.scripts.Command.TheVariants.{Put, Get, Del, SetPin, Shrink, Balance, Offline, MkGroup, Register, Unregister, Isolate, Release, Grab}
+use Rattle.shr_base.specs.declared.scripts.Command.TheVariants.{Put, On, Shrink, Balance, Offline, MkGroup, Register, Unregister, Isolate, Release, Grab}
 use Rattle.shr_base.specs.declared.scripts.Script.{Script}
 use Rattle.shr_model.specs.Commands.{group_named, decl_named}
 use Rattle.shr_model.specs.Groups.{parent_of}
@@ -74,29 +77,24 @@ tenant_row (reply.Worn (spent.List place entries items)) = after
 tenant_row reply.Memory = free
 tenant_row x = never
 
-abbrev put_row : Serial → ℕ → ℕ → List ℕ → List ℕ → Reply → Row
-put_row by group node key value (reply.Added c) = citing (λ parents family id. Cites family c id node (Add by group true key value))
-put_row by group node key value (reply.Exists c) = citing (λ parents family id. Cites family c id node (Add by group false key value))
-put_row by group node key value (reply.Over g operation usage) = before
-put_row by group node key value (reply.Worn (spent.Charges ups downs)) = before
-put_row by group node key value x = tenant_row x
+abbrev put_row : Serial → Target → List ℕ → List ℕ → Reply → Row
+put_row by at key value (reply.Added c) = citing (λ parents family id. Cites family c id at.node (Add by at.group true key value))
+put_row by at key value (reply.Exists c) = citing (λ parents family id. Cites family c id at.node (Add by at.group false key value))
+put_row by at key value (reply.Over g operation usage) = before
+put_row by at key value (reply.Worn (spent.Charges ups downs)) = before
+put_row by at key value x = tenant_row x
 
-abbrev get_row : Serial → ℕ → ℕ → List ℕ → Reply → Row
-get_row by group node key (reply.Hit c value) = citing (λ parents family id. Cites family c id node (Look by group key true) × LendsValue parents family c group key value)
-get_row by group node key (reply.Miss c) = citing (λ parents family id. Cites family c id node (Look by group key false))
-get_row by group node key x = tenant_row x
-
-abbrev del_row : Serial → ℕ → ℕ → List ℕ → Reply → Row
-del_row by group node key (reply.Dropped c) = citing (λ parents family id. Cites family c id node (Drop by group key kind.Dropped))
-del_row by group node key (reply.Pinned c) = citing (λ parents family id. Cites family c id node (Drop by group key kind.Pinned))
-del_row by group node key (reply.Miss c) = citing (λ parents family id. Cites family c id node (Drop by group key kind.Miss))
-del_row by group node key (reply.Worn (spent.Charges ups downs)) = before
-del_row by group node key x = tenant_row x
-
-abbrev pin_row : Serial → ℕ → ℕ → List ℕ → Bool → Reply → Row
-pin_row by group node key pinned (reply.Done c) = citing (λ parents family id. Cites family c id node (Pin by group key pinned true))
-pin_row by group node key pinned (reply.Miss c) = citing (λ parents family id. Cites family c id node (Pin by group key pinned false))
-pin_row by group node key pinned x = tenant_row x
+-- what a command on an object may be answered, by what it does there
+abbrev act_row : Serial → Target → List ℕ → Reply → Act → Row
+act_row by at key (reply.Hit c value) Get = citing (λ parents family id. Cites family c id at.node (Look by at.group key true) × LendsValue parents family c at.group key value)
+act_row by at key (reply.Miss c) Get = citing (λ parents family id. Cites family c id at.node (Look by at.group key false))
+act_row by at key (reply.Dropped c) Del = citing (λ parents family id. Cites family c id at.node (Drop by at.group key kind.Dropped))
+act_row by at key (reply.Pinned c) Del = citing (λ parents family id. Cites family c id at.node (Drop by at.group key kind.Pinned))
+act_row by at key (reply.Miss c) Del = citing (λ parents family id. Cites family c id at.node (Drop by at.group key kind.Miss))
+act_row by at key (reply.Worn (spent.Charges ups downs)) Del = before
+act_row by at key (reply.Done c) (SetPin pinned) = citing (λ parents family id. Cites family c id at.node (Pin by at.group key pinned true))
+act_row by at key (reply.Miss c) (SetPin pinned) = citing (λ parents family id. Cites family c id at.node (Pin by at.group key pinned false))
+act_row by at key x act = tenant_row x
 
 -- An isolation that found its cache is told, however it ended; the record's memory comes before the lookup. Why it
 -- ended is for the law on isolations to say.
@@ -171,17 +169,15 @@ grab_row x = never
 
 -- the row of a command and a reply
 abbrev pub reply_row : Serial → Command → Reply → Row
-reply_row by (Put group node decl key value) x = put_row by group node key value x
-reply_row by (Get group node decl key) x = get_row by group node key x
-reply_row by (Del group node decl key) x = del_row by group node key x
-reply_row by (SetPin group node decl key pinned) x = pin_row by group node key pinned x
+reply_row by (Put at key value) x = put_row by at key value x
+reply_row by (On at key act) x = act_row by at key x act
 reply_row by (Shrink group node priority nofs) x = shrink_row x
 reply_row by (Balance node priority nofs) x = balance_row x
 reply_row by (Offline group) x = offline_row x
 reply_row by (Register decl) x = register_row x
 reply_row by (Unregister decl) x = unregister_row x
 reply_row by (MkGroup group) x = mkgroup_row x
-reply_row by (Isolate group node decl budget) x = isolate_row x
+reply_row by (Isolate at budget) x = isolate_row x
 reply_row by (Release node pool units) x = release_row x
 reply_row by (Grab node pool) x = grab_row x
 

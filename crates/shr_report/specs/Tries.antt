@@ -54,7 +54,7 @@ pub record AreTriesOfPut (s : Script) (r : Report) (by : Serial) (own : ℕ) (c 
 
 -- only a put tries
 abbrev pub AreTriesOf : Script → Report → Serial → Command → Answered → Type 0
-AreTriesOf s r by (Put group node decl key value) a = AreTriesOfPut s r by group (Put group node decl key value) a
+AreTriesOf s r by (Put at key value) a = AreTriesOfPut s r by at.group (Put at key value) a
 AreTriesOf s r by c a = ⊤
 
 -- each put's charges are those of its tries

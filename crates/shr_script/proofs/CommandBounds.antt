@@ -1,5 +1,5 @@
 -- What the commands of a valid script name is there.
-use Rattle.shr_script.proofs.Common.{◌≡◌, ℕ, ◌+◌, ◌≤◌, ◌<◌, Bool, true, false, List, [], ◌∷◌, length, map, get_or, sym, subst, ◌∙◌, arith, flat_map, ◌&&◌, ◌==◌, AllByRecursion, is_later, Code, Command, Word, NameTest, Plain, Number, N, W, IsOfClass, place_takes, Worker, Isolate, Release, Grab, State, after, group_class, later_class, node_class, pool_class, state_after_lines, IsLine, Content, command_line, worker_command_lines, IsIsolationWithin, IsPoolCommandWithin, IsCommandWithin, content_later, and_true, cache_class, serves_pools, serves_isolation, IsGroup, IsCache, IsPool, IsObjectWithin, IsWalkWithin, IfServed}
+use Rattle.shr_script.proofs.Common.{◌≡◌, ℕ, ◌+◌, ◌≤◌, ◌<◌, Bool, true, false, List, [], ◌∷◌, length, map, get_or, sym, subst, ◌∙◌, arith, flat_map, ◌&&◌, ◌==◌, AllByRecursion, is_later, Code, Command, Target, Word, NameTest, Plain, Number, N, W, IsOfClass, place_takes, Worker, Isolate, Release, Grab, State, after, group_class, later_class, node_class, pool_class, state_after_lines, IsLine, Content, command_line, worker_command_lines, IsIsolationWithin, IsPoolCommandWithin, IsCommandWithin, content_later, and_true, cache_class, serves_pools, serves_isolation, IsGroup, IsCache, IsPool, IsObjectWithin, IsWalkWithin, IfServed}
 use Rattle.std.proofs.lemmas.Bool.{eqb-true}
 use Rattle.shr_base.specs.declared.scripts.Code.TheVariants as codes_of
 use Rattle.shr_base.specs.declared.scripts.Command.TheVariants as commands
@@ -43,10 +43,10 @@ node_within t st node d h =
     let same = d.nodes in
     omega (arith, below, same)
 
-object_within : (t : Content) (st : State) (group node decl : ℕ) (key : Word) → Declared t st → IsOfClass (group_class st) (N group) → IsOfClass (node_class st) (N node) → IsOfClass (cache_class st) (N decl) → IsOfClass (Plain KeyTest) (W key) → IsObjectWithin t group node decl key
+object_within : (t : Content) (st : State) (at : Target) (key : Word) → Declared t st → IsOfClass (group_class st) (N at.group) → IsOfClass (node_class st) (N at.node) → IsOfClass (cache_class st) (N at.decl) → IsOfClass (Plain KeyTest) (W key) → IsObjectWithin t at key
 unfolding passes
-object_within t st group node decl key d g n c k =
-    record { in_group = group_within t st group d g; on_node = node_within t st node d n; in_cache = cache_there t st decl d c; is_word = k }
+object_within t st at key d g n c k =
+    record { in_group = group_within t st at.group d g; on_node = node_within t st at.node d n; in_cache = cache_there t st at.decl d c; is_word = k }
 
 walk_within : (t : Content) (st : State) (node priority : ℕ) → Declared t st → IsOfClass (node_class st) (N node) → IsOfClass (Number 0 13) (N priority) → IsWalkWithin t node priority
 walk_within t st node priority d n p = let below = p.1 in record { on_node = node_within t st node d n; urgent = omega (arith, below) }
@@ -62,17 +62,17 @@ taken_part t st served d e =
     let two : st.version ≡ 2 = eqb-true st.version 2 both.1 in
     (both.0, sym d.version ∙ two)
 
-isolation_within : (t : Content) (st : State) (group node decl budget : ℕ) → Declared t st → IsLine st (command_line (commands.Isolate group node decl budget))
-    → IfServed serves_isolation (IsIsolationWithin t group node decl budget)
-isolation_within t st group node decl budget d h =
+isolation_within : (t : Content) (st : State) (at : Target) (budget : ℕ) → Declared t st → IsLine st (command_line (commands.Isolate at budget))
+    → IfServed serves_isolation (IsIsolationWithin t at budget)
+isolation_within t st at budget d h =
     let part = taken_part t st serves_isolation d (is_taken st.version st.phase (kinds.Work Isolate) (kinds.Work Isolate) h.stands) in
     let few = h.words.1.1.1.0.1 in
-    if_served serves_isolation (IsIsolationWithin t group node decl budget) part.0
+    if_served serves_isolation (IsIsolationWithin t at budget) part.0
     (record {
       version = part.1;
-      in_group = group_within t st group d h.words.0;
-      on_node = node_within t st node d h.words.1.0;
-      in_cache = cache_there t st decl d h.words.1.1.0;
+      in_group = group_within t st at.group d h.words.0;
+      on_node = node_within t st at.node d h.words.1.0;
+      in_cache = cache_there t st at.decl d h.words.1.1.0;
       few = omega (arith, few);
     })
 
@@ -92,18 +92,15 @@ grab_within t st node pool d h =
     (record { version = part.1; on_node = node_within t st node d h.words.0; in_pool = pool_there t st pool d h.words.1.0 })
 
 command_within : (t : Content) (st : State) (c : Command) → Declared t st → IsLine st (command_line c) → IsCommandWithin t c
-command_within t st (commands.Put group node decl key value) d h = (object_within t st group node decl key d h.words.0 h.words.1.0 h.words.1.1.0 h.words.1.1.1.0, h.words.1.1.1.1.0)
-command_within t st (commands.Get group node decl key) d h = object_within t st group node decl key d h.words.0 h.words.1.0 h.words.1.1.0 h.words.1.1.1.0
-command_within t st (commands.Del group node decl key) d h = object_within t st group node decl key d h.words.0 h.words.1.0 h.words.1.1.0 h.words.1.1.1.0
-command_within t st (commands.SetPin group node decl key true) d h = object_within t st group node decl key d h.words.0 h.words.1.0 h.words.1.1.0 h.words.1.1.1.0
-command_within t st (commands.SetPin group node decl key false) d h = object_within t st group node decl key d h.words.0 h.words.1.0 h.words.1.1.0 h.words.1.1.1.0
+command_within t st (commands.Put at key value) d h = (object_within t st at key d h.words.0 h.words.1.0 h.words.1.1.0 h.words.1.1.1.0, h.words.1.1.1.1.0)
+command_within t st (commands.On at key act) d h = object_within t st at key d h.words.0 h.words.1.0 h.words.1.1.0 h.words.1.1.1.0
 command_within t st (commands.Shrink group node priority nofs) d h = (group_within t st group d h.words.0, walk_within t st node priority d h.words.1.0 h.words.1.1.0)
 command_within t st (commands.Balance node priority nofs) d h = walk_within t st node priority d h.words.0 h.words.1.0
 command_within t st (commands.Offline group) d h = group_within t st group d h.words.0
 command_within t st (commands.MkGroup group) d h = later_within t st group d h.words.0
 command_within t st (commands.Register decl) d h = cache_there t st decl d h.words.0
 command_within t st (commands.Unregister decl) d h = cache_there t st decl d h.words.0
-command_within t st (commands.Isolate group node decl budget) d h = isolation_within t st group node decl budget d h
+command_within t st (commands.Isolate at budget) d h = isolation_within t st at budget d h
 command_within t st (commands.Release node pool units) d h = release_within t st node pool units d h
 command_within t st (commands.Grab node pool) d h = grab_within t st node pool d h
 

@@ -6,6 +6,8 @@ pub use Rattle.std.proofs.lemmas.List.Sums.{sum_by-cons}
 pub use Rattle.std.proofs.lemmas.Slice.Eq.{bytes_eq-Decides}
 pub use Rattle.std.specs.List.{AllByRecursion, count_by, list_all}
 pub use Rattle.std.specs.Prelude.{IfSome, bytes_eq, codes, flat_map, nat_le, nat_lt, not, sum_by, ◌==◌, ◌||◌}
+pub use Rattle.shr_base.specs.declared.places.Target.{Target}
+pub use Rattle.shr_base.specs.declared.scripts.Act.TheVariants.{Del, Get, SetPin}
 pub use Rattle.shr_base.specs.declared.scripts.CacheDecl.{CacheDecl}
 pub use Rattle.shr_base.specs.declared.scripts.Code.{Code}
 pub use Rattle.shr_base.specs.declared.scripts.Command.{Command}
@@ -29,4 +31,4 @@ pub use Rattle.shr_script.specs.declared.kind.Kind.TheVariants.{Cache, End, Grou
 pub use Rattle.shr_script.specs.declared.kind.Phase.{Phase}
 pub use Rattle.shr_script.specs.declared.kind.Phase.TheVariants.{Caches, Done, Groups, Pools, Sizes, Start, Swept, Workers}
 pub use Rattle.shr_script.specs.declared.kind.Verb.{Verb}
-pub use Rattle.shr_script.specs.declared.kind.Verb.TheVariants.{Balance, Del, Get, Grab, Isolate, MkGroup, Offline, Pin, Put, Register, Release, Shrink, Unpin, Unregister}
+pub use Rattle.shr_script.specs.declared.kind.Verb.TheVariants.{Balance, Grab, Isolate, MkGroup, Offline, On, Put, Register, Release, Shrink, Unregister}

@@ -92,34 +92,28 @@ pools_phase (p ∷ ps) st h = pools_phase ps (after st Pool (pool_items p)) refl
 -- ---- workers
 
 command_added : (c : Command) (st : State) (d : Drafted) → added st d (command_line c).0 (command_line c).1 ≡ with_command d c
-command_added (commands.Put group node decl key value) st d = refl
-command_added (commands.Get group node decl key) st d = refl
-command_added (commands.Del group node decl key) st d = refl
-command_added (commands.SetPin group node decl key true) st d = refl
-command_added (commands.SetPin group node decl key false) st d = refl
+command_added (commands.Put at key value) st d = refl
+command_added (commands.On at key act) st d = refl
 command_added (commands.Shrink group node priority nofs) st d = ap (λ (b : Bool). with_command d (commands.Shrink group node priority b)) (flag_again nofs)
 command_added (commands.Balance node priority nofs) st d = ap (λ (b : Bool). with_command d (commands.Balance node priority b)) (flag_again nofs)
 command_added (commands.Offline group) st d = refl
 command_added (commands.MkGroup group) st d = refl
 command_added (commands.Register decl) st d = refl
 command_added (commands.Unregister decl) st d = refl
-command_added (commands.Isolate group node decl budget) st d = refl
+command_added (commands.Isolate at budget) st d = refl
 command_added (commands.Release node pool units) st d = refl
 command_added (commands.Grab node pool) st d = refl
 
 command_after : (c : Command) (st : State) → after st (command_line c).0 (command_line c).1 ≡ record st { commands = (after st (command_line c).0 (command_line c).1).commands }
-command_after (commands.Put group node decl key value) st = refl
-command_after (commands.Get group node decl key) st = refl
-command_after (commands.Del group node decl key) st = refl
-command_after (commands.SetPin group node decl key true) st = refl
-command_after (commands.SetPin group node decl key false) st = refl
+command_after (commands.Put at key value) st = refl
+command_after (commands.On at key act) st = refl
 command_after (commands.Shrink group node priority nofs) st = refl
 command_after (commands.Balance node priority nofs) st = refl
 command_after (commands.Offline group) st = refl
 command_after (commands.MkGroup group) st = refl
 command_after (commands.Register decl) st = refl
 command_after (commands.Unregister decl) st = refl
-command_after (commands.Isolate group node decl budget) st = refl
+command_after (commands.Isolate at budget) st = refl
 command_after (commands.Release node pool units) st = refl
 command_after (commands.Grab node pool) st = refl
 

@@ -1,5 +1,5 @@
 -- What the commands of a small script may name.
-use Rattle.shr_script.proofs.Common.{◌≡◌, List, [], ◌∷◌, None, refl, arith, true, false, codes, Command, Content, IsCommandWithin, IsIsolationWithin, IsPoolCommandWithin, IsPoolWithin, IsSweepWithin}
+use Rattle.shr_script.proofs.Common.{◌≡◌, List, [], ◌∷◌, None, refl, arith, true, false, codes, Command, Target, Get, SetPin, Content, IsCommandWithin, IsIsolationWithin, IsPoolCommandWithin, IsPoolWithin, IsSweepWithin}
 use Rattle.shr_base.specs.declared.objects.Policy.TheVariants.{Plain as PlainPolicy}
 use Rattle.shr_base.specs.declared.scripts.Command.TheVariants as commands
 
@@ -19,14 +19,24 @@ with cs = record {
 abbrev with_later : List Command → Content
 with_later cs = record (with cs) { groups = record { path = codes "/a"; parent = 0; limit = None; later = false } ∷ record { path = codes "/a/b"; parent = 1; limit = None; later = true } ∷ [] }
 
+-- the group, the node and the cache that are there
+abbrev on_dentry : Target
+on_dentry = record { group = 1; node = 0; decl = 0 }
+
 makes_a_later_group : IsCommandWithin (with_later []) (commands.MkGroup 2)
 makes_a_later_group = (omega arith, refl)
 
 makes_no_other : IsCommandWithin (with_later []) (commands.MkGroup 1) → ⊥
 makes_no_other h = let e : false ≡ true = h.1 in cc
 
-put_within : IsCommandWithin (with []) (commands.Put 1 0 0 (codes "k1") (codes ""))
+put_within : IsCommandWithin (with []) (commands.Put on_dentry (codes "k1") (codes ""))
 put_within = (record { in_group = omega arith; on_node = omega arith; in_cache = omega arith; is_word = refl }, refl)
+
+pinned_within : IsCommandWithin (with []) (commands.On on_dentry (codes "k1") (SetPin true))
+pinned_within = record { in_group = omega arith; on_node = omega arith; in_cache = omega arith; is_word = refl }
+
+no_object_on_a_second_node : IsCommandWithin (with []) (commands.On (record { group = 1; node = 1; decl = 0 }) (codes "k1") Get) → ⊥
+no_object_on_a_second_node h = let lt = h.on_node in omega (arith, lt)
 
 no_second_group : IsCommandWithin (with []) (commands.Offline 2) → ⊥
 no_second_group h = omega (arith, h)
@@ -56,13 +66,13 @@ on_a_pool = record { version = refl; on_node = omega arith; in_pool = omega arit
 no_second_pool : IsPoolCommandWithin (with_pool []) 0 1 → ⊥
 no_second_pool h = let lt = h.in_pool in omega (arith, lt)
 
-isolated_within : IsIsolationWithin (with_pool []) 1 0 0 20000
+isolated_within : IsIsolationWithin (with_pool []) on_dentry 20000
 isolated_within = record { version = refl; in_group = omega arith; on_node = omega arith; in_cache = omega arith; few = omega arith }
 
-no_isolation_in_version_1 : IsIsolationWithin (with []) 1 0 0 0 → ⊥
+no_isolation_in_version_1 : IsIsolationWithin (with []) on_dentry 0 → ⊥
 no_isolation_in_version_1 h = let e = h.version in omega (arith, e)
 
-no_budget_20001 : IsIsolationWithin (with_pool []) 1 0 0 20001 → ⊥
+no_budget_20001 : IsIsolationWithin (with_pool []) on_dentry 20001 → ⊥
 no_budget_20001 h = let le = h.few in omega (arith, le)
 
 swept_within : IsSweepWithin (with_pool []) (record { priority = 12; nofs = false })

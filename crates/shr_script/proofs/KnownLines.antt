@@ -19,7 +19,7 @@ whole = record {
   groups = record { path = codes "/a"; parent = 0; limit = None; later = false } ∷ [];
   caches = record { name = codes "dentry"; policy = PlainPolicy; seeks = 2; batch = 0; floor = 0; fs = false; on = true } ∷ [];
   pools = record { name = codes "buf"; seeks = 2; batch = 0; floor = 1; flat = true } ∷ record { name = codes "dentry"; seeks = 0; batch = 16; floor = 0; flat = false } ∷ [];
-  workers = (commands.Release 0 0 10 ∷ commands.Grab 1 1 ∷ commands.Isolate 1 0 0 3 ∷ []) ∷ [] ∷ [];
+  workers = (commands.Release 0 0 10 ∷ commands.Grab 1 1 ∷ commands.Isolate (record { group = 1; node = 0; decl = 0 }) 3 ∷ []) ∷ [] ∷ [];
   sweep = Some (record { priority = 12; nofs = true });
 }
 

@@ -1,14 +1,21 @@
 -- The spelling of a small script.
-use Rattle.shr_script.proofs.Common.{◌≡◌, true, false, [], ◌∷◌, codes, None, Some, Ok, Err, refl, root_path, N, item_of, Groups, State, start, later_class, most_ids, most_groups, Content, spell}
+use Rattle.shr_script.proofs.Common.{◌≡◌, true, false, [], ◌∷◌, codes, None, Some, Ok, Err, refl, root_path, Command, Target, Get, Del, SetPin, N, item_of, Groups, State, start, later_class, most_ids, most_groups, Content, spell}
 use Rattle.std.specs.Fmt.{digits}
 use Rattle.shr_model.specs.Pieces.{cut, pieces, joined}
 use Rattle.shr_model.specs.Paths.{is_path, parent_path}
+use Rattle.shr_base.specs.declared.scripts.Act.{Act}
 use Rattle.shr_base.specs.declared.scripts.Code.TheVariants.{NoParent, UnknownGroup}
 use Rattle.shr_words.specs.Classes.{listed_of, passes, place_of}
 use Rattle.shr_script.specs.Lines.{group_rule}
 use Rattle.shr_base.specs.declared.objects.Policy.TheVariants.{Plain as PlainPolicy}
 use Rattle.shr_base.specs.declared.scripts.Command.TheVariants as commands
 use Rattle.shr_script.specs.Script.{spell_lines}
+
+abbrev on_dentry : Target
+on_dentry = record { group = 1; node = 0; decl = 0 }
+
+abbrev done_with : Act → Command
+done_with act = commands.On on_dentry (codes "k1") act
 
 abbrev small : Content
 small = record {
@@ -18,13 +25,14 @@ small = record {
   groups = record { path = codes "/a"; parent = 0; limit = None; later = false } ∷ [];
   caches = record { name = codes "dentry"; policy = PlainPolicy; seeks = 2; batch = 0; floor = 0; fs = false; on = true } ∷ [];
   pools = [];
-  workers = (commands.Put 1 0 0 (codes "k1") (codes "v1") ∷ commands.Shrink 1 0 12 true ∷ []) ∷ [];
+  workers = (commands.Put on_dentry (codes "k1") (codes "v1") ∷ done_with Get ∷ done_with (SetPin true) ∷ done_with (SetPin false) ∷ done_with Del ∷ commands.Shrink 1 0 12 true ∷ []) ∷ [];
   sweep = None;
 }
 
 -- the lines of the small script, each with its line feed
 small_spelled : spell small
-    ≡ joined 10 (codes "shrinkers 1") (codes "size 1 1" ∷ codes "group /a max" ∷ codes "cache dentry plain 2 0 0 any on" ∷ codes "worker" ∷ codes "put /a 0 dentry k1 =v1" ∷ codes "shrink /a 0 12 nofs" ∷ codes "end" ∷ [] ∷ [])
+    ≡ joined 10 (codes "shrinkers 1")
+    (codes "size 1 1" ∷ codes "group /a max" ∷ codes "cache dentry plain 2 0 0 any on" ∷ codes "worker" ∷ codes "put /a 0 dentry k1 =v1" ∷ codes "get /a 0 dentry k1" ∷ codes "pin /a 0 dentry k1" ∷ codes "unpin /a 0 dentry k1" ∷ codes "del /a 0 dentry k1" ∷ codes "shrink /a 0 12 nofs" ∷ codes "end" ∷ [] ∷ [])
 unfolding spell_lines joined digits
 small_spelled = refl
 

@@ -1,5 +1,5 @@
 -- A line that was read is spelled so, and a line that is spelled is read as itself.
-use Rattle.shr_script.proofs.Common.{◌≡◌, ℕ, Bool, true, false, cond, List, [], ◌∷◌, Option, Some, None, Ok, Err, refl, ap, subst, ◌∙◌, bytes_eq, option_map, bytes_eq-Decides, Code, ◌>>=◌, Word, items_said, words_of, bind_ok, ok_is, Kind, Header, Size, Group, Cache, Pool, Worker, Work, Sweep, End, Verb, Put, Get, Del, Pin, Unpin, Shrink, Balance, Offline, MkGroup, Register, Unregister, Isolate, Release, Grab, Phase, State, Line, first_word, misplaced, unless, is_served, allowed, classes, own, IsLine, items_take, items_again, IsClean}
+use Rattle.shr_script.proofs.Common.{◌≡◌, ℕ, Bool, true, false, cond, List, [], ◌∷◌, Option, Some, None, Ok, Err, refl, ap, subst, ◌∙◌, bytes_eq, option_map, bytes_eq-Decides, Code, ◌>>=◌, Word, items_said, words_of, bind_ok, ok_is, Kind, Header, Size, Group, Cache, Pool, Worker, Work, Sweep, End, Verb, Put, On, Get, Del, SetPin, Shrink, Balance, Offline, MkGroup, Register, Unregister, Isolate, Release, Grab, Phase, State, Line, first_word, misplaced, unless, is_served, allowed, classes, own, IsLine, items_take, items_again, IsClean}
 use Rattle.shr_words.specs.Classes.{taken}
 use Rattle.shr_script.specs.Lines.{verb_word, kind_of, verb_of, unknown, kind_at, plain_line}
 
@@ -9,10 +9,10 @@ use Rattle.shr_script.specs.Lines.{verb_word, kind_of, verb_of, unknown, kind_at
 pub verb_again : (v : Verb) → verb_of (verb_word v) ≡ Some v
 unfolding verb_of
 verb_again Put = refl
-verb_again Get = refl
-verb_again Del = refl
-verb_again Pin = refl
-verb_again Unpin = refl
+verb_again (On Get) = refl
+verb_again (On Del) = refl
+verb_again (On (SetPin true)) = refl
+verb_again (On (SetPin false)) = refl
 verb_again Shrink = refl
 verb_again Balance = refl
 verb_again Offline = refl
@@ -26,10 +26,10 @@ verb_again Grab = refl
 pub work_again : (v : Verb) → kind_of (verb_word v) ≡ Some (Work v)
 unfolding kind_of verb_of
 work_again Put = refl
-work_again Get = refl
-work_again Del = refl
-work_again Pin = refl
-work_again Unpin = refl
+work_again (On Get) = refl
+work_again (On Del) = refl
+work_again (On (SetPin true)) = refl
+work_again (On (SetPin false)) = refl
 work_again Shrink = refl
 work_again Balance = refl
 work_again Offline = refl
@@ -57,10 +57,10 @@ kind_again End = refl
 -- the word of a command has no space and no line feed
 verb_clean : (v : Verb) → IsClean (verb_word v)
 verb_clean Put = refl
-verb_clean Get = refl
-verb_clean Del = refl
-verb_clean Pin = refl
-verb_clean Unpin = refl
+verb_clean (On Get) = refl
+verb_clean (On Del) = refl
+verb_clean (On (SetPin true)) = refl
+verb_clean (On (SetPin false)) = refl
 verb_clean Shrink = refl
 verb_clean Balance = refl
 verb_clean Offline = refl
@@ -97,10 +97,10 @@ verb_takes : (w : Word) (v : Verb) → verb_of w ≡ Some v → w ≡ verb_word 
 unfolding verb_of
 verb_takes w v e =
     names verb_word w Put (bytes_eq w (verb_word Put)) _ v refl e (λ e.
-    names verb_word w Get (bytes_eq w (verb_word Get)) _ v refl e (λ e.
-    names verb_word w Del (bytes_eq w (verb_word Del)) _ v refl e (λ e.
-    names verb_word w Pin (bytes_eq w (verb_word Pin)) _ v refl e (λ e.
-    names verb_word w Unpin (bytes_eq w (verb_word Unpin)) _ v refl e (λ e.
+    names verb_word w (On Get) (bytes_eq w (verb_word (On Get))) _ v refl e (λ e.
+    names verb_word w (On Del) (bytes_eq w (verb_word (On Del))) _ v refl e (λ e.
+    names verb_word w (On (SetPin true)) (bytes_eq w (verb_word (On (SetPin true)))) _ v refl e (λ e.
+    names verb_word w (On (SetPin false)) (bytes_eq w (verb_word (On (SetPin false)))) _ v refl e (λ e.
     names verb_word w Shrink (bytes_eq w (verb_word Shrink)) _ v refl e (λ e.
     names verb_word w Balance (bytes_eq w (verb_word Balance)) _ v refl e (λ e.
     names verb_word w Offline (bytes_eq w (verb_word Offline)) _ v refl e (λ e.

@@ -62,18 +62,15 @@ pools_said (p ∷ ps) st =
     ∙ ap (λ (ws : List Word). record st { phase = end.phase; pools = ws }) (append_assoc st.pools (p.name ∷ []) (map pool_name_in ps))
 
 pub command_said : (c : Command) (st : State) → after st (command_line c).0 (command_line c).1 ≡ record st { commands = st.commands + 1 }
-command_said (commands.Put group node decl key value) st = refl
-command_said (commands.Get group node decl key) st = refl
-command_said (commands.Del group node decl key) st = refl
-command_said (commands.SetPin group node decl key true) st = refl
-command_said (commands.SetPin group node decl key false) st = refl
+command_said (commands.Put at key value) st = refl
+command_said (commands.On at key act) st = refl
 command_said (commands.Shrink group node priority nofs) st = refl
 command_said (commands.Balance node priority nofs) st = refl
 command_said (commands.Offline group) st = refl
 command_said (commands.MkGroup group) st = refl
 command_said (commands.Register decl) st = refl
 command_said (commands.Unregister decl) st = refl
-command_said (commands.Isolate group node decl budget) st = refl
+command_said (commands.Isolate at budget) st = refl
 command_said (commands.Release node pool units) st = refl
 command_said (commands.Grab node pool) st = refl
 

@@ -4,6 +4,7 @@ use Rattle.std.specs.List.{AllByRecursion, count_by}
 use Rattle.shr_model.specs.Groups.{Hierarchy, IsTree, IsHierarchy, is_later}
 use Rattle.shr_model.specs.Paths.{is_path}
 use Rattle.shr_model.specs.Words.{is_key, is_value, is_name}
+use Rattle.shr_base.specs.declared.places.Target.{Target}
 use Rattle.shr_base.specs.declared.scripts.GroupDecl.{GroupDecl}
 use Rattle.shr_base.specs.declared.scripts.CacheDecl.{CacheDecl}
 use Rattle.shr_base.specs.declared.scripts.PoolDecl.{PoolDecl}
@@ -43,10 +44,10 @@ abbrev pub IsPool : Content → ℕ → Type 0
 IsPool t pool = pool < length t.pools
 
 -- what a command on an object names: a group, a node and a cache that are there, and a key
-pub record IsObjectWithin (t : Content) (group node decl : ℕ) (key : List ℕ) : Type 0 where
-  pub in_group : IsGroup t group
-  pub on_node : node < t.nodes
-  pub in_cache : IsCache t decl
+pub record IsObjectWithin (t : Content) (at : Target) (key : List ℕ) : Type 0 where
+  pub in_group : IsGroup t at.group
+  pub on_node : at.node < t.nodes
+  pub in_cache : IsCache t at.decl
   pub is_word : is_key key ≡ true
 
 -- what a walk names: a node that is there, and a priority
@@ -56,11 +57,11 @@ pub record IsWalkWithin (t : Content) (node priority : ℕ) : Type 0 where
 
 -- what an isolation names: a group, a node and a cache that are there, and a budget; only version 2
 -- has it
-pub record IsIsolationWithin (t : Content) (group node decl budget : ℕ) : Type 0 where
+pub record IsIsolationWithin (t : Content) (at : Target) (budget : ℕ) : Type 0 where
   pub version : t.version ≡ 2
-  pub in_group : IsGroup t group
-  pub on_node : node < t.nodes
-  pub in_cache : IsCache t decl
+  pub in_group : IsGroup t at.group
+  pub on_node : at.node < t.nodes
+  pub in_cache : IsCache t at.decl
   pub few : budget ≤ 20000
 
 -- what a command on a pool names: a node and a pool that are there; only version 2 has it
@@ -77,17 +78,15 @@ IfServed false is = ⊥
 -- A command names groups, nodes, caches and pools that are there, and its words and its numbers are
 -- such; one that makes a group names one that is later.
 abbrev pub IsCommandWithin : Content → Command → Type 0
-IsCommandWithin t (commands.Put group node decl key value) = IsObjectWithin t group node decl key × (is_value value ≡ true)
-IsCommandWithin t (commands.Get group node decl key) = IsObjectWithin t group node decl key
-IsCommandWithin t (commands.Del group node decl key) = IsObjectWithin t group node decl key
-IsCommandWithin t (commands.SetPin group node decl key pinned) = IsObjectWithin t group node decl key
+IsCommandWithin t (commands.Put at key value) = IsObjectWithin t at key × (is_value value ≡ true)
+IsCommandWithin t (commands.On at key act) = IsObjectWithin t at key
 IsCommandWithin t (commands.Shrink group node priority nofs) = IsGroup t group × IsWalkWithin t node priority
 IsCommandWithin t (commands.Balance node priority nofs) = IsWalkWithin t node priority
 IsCommandWithin t (commands.Offline group) = IsGroup t group
 IsCommandWithin t (commands.MkGroup group) = IsGroup t group × (is_later (content_later t) group ≡ true)
 IsCommandWithin t (commands.Register decl) = IsCache t decl
 IsCommandWithin t (commands.Unregister decl) = IsCache t decl
-IsCommandWithin t (commands.Isolate group node decl budget) = IfServed serves_isolation (IsIsolationWithin t group node decl budget)
+IsCommandWithin t (commands.Isolate at budget) = IfServed serves_isolation (IsIsolationWithin t at budget)
 IsCommandWithin t (commands.Release node pool units) = IfServed serves_pools (IsPoolCommandWithin t node pool × (1 ≤ units) × (units ≤ 20000))
 IsCommandWithin t (commands.Grab node pool) = IfServed serves_pools (IsPoolCommandWithin t node pool)
 

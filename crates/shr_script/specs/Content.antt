@@ -10,7 +10,7 @@ use Rattle.shr_base.specs.declared.scripts.PoolDecl.{PoolDecl}
 use Rattle.shr_base.specs.declared.scripts.Sweep.{Sweep}
 use Rattle.shr_words.specs.Classes.{Word, N, L, W, place_of, policy_place, flag_place}
 use Rattle.shr_script.specs.declared.kind.Kind.TheVariants as kinds
-use Rattle.shr_script.specs.declared.kind.Verb.TheVariants.{Put, Get, Del, Pin, Unpin, Shrink, Balance, Offline, MkGroup, Register, Unregister, Isolate, Release, Grab}
+use Rattle.shr_script.specs.declared.kind.Verb.TheVariants.{Put, On, Shrink, Balance, Offline, MkGroup, Register, Unregister, Isolate, Release, Grab}
 use Rattle.shr_script.specs.Lines.{Line, start}
 use Rattle.shr_script.specs.Script.{IsScript, spell_lines}
 
@@ -68,18 +68,15 @@ worker_line = (kinds.Worker, [])
 
 -- the line of a command
 abbrev pub command_line : Command → Line
-command_line (commands.Put group node decl key value) = (kinds.Work Put, N group ∷ N node ∷ N decl ∷ W key ∷ W value ∷ [])
-command_line (commands.Get group node decl key) = (kinds.Work Get, N group ∷ N node ∷ N decl ∷ W key ∷ [])
-command_line (commands.Del group node decl key) = (kinds.Work Del, N group ∷ N node ∷ N decl ∷ W key ∷ [])
-command_line (commands.SetPin group node decl key true) = (kinds.Work Pin, N group ∷ N node ∷ N decl ∷ W key ∷ [])
-command_line (commands.SetPin group node decl key false) = (kinds.Work Unpin, N group ∷ N node ∷ N decl ∷ W key ∷ [])
+command_line (commands.Put at key value) = (kinds.Work Put, N at.group ∷ N at.node ∷ N at.decl ∷ W key ∷ W value ∷ [])
+command_line (commands.On at key act) = (kinds.Work (On act), N at.group ∷ N at.node ∷ N at.decl ∷ W key ∷ [])
 command_line (commands.Shrink group node priority nofs) = (kinds.Work Shrink, N group ∷ N node ∷ N priority ∷ N (flag_place nofs) ∷ [])
 command_line (commands.Balance node priority nofs) = (kinds.Work Balance, N node ∷ N priority ∷ N (flag_place nofs) ∷ [])
 command_line (commands.Offline group) = (kinds.Work Offline, N group ∷ [])
 command_line (commands.MkGroup group) = (kinds.Work MkGroup, N group ∷ [])
 command_line (commands.Register decl) = (kinds.Work Register, N decl ∷ [])
 command_line (commands.Unregister decl) = (kinds.Work Unregister, N decl ∷ [])
-command_line (commands.Isolate group node decl budget) = (kinds.Work Isolate, N group ∷ N node ∷ N decl ∷ N budget ∷ [])
+command_line (commands.Isolate at budget) = (kinds.Work Isolate, N at.group ∷ N at.node ∷ N at.decl ∷ N budget ∷ [])
 command_line (commands.Release node pool units) = (kinds.Work Release, N node ∷ N pool ∷ N units ∷ [])
 command_line (commands.Grab node pool) = (kinds.Work Grab, N node ∷ N pool ∷ [])
 

@@ -2,6 +2,7 @@
 use Rattle.std.specs.Prelude.{◌≡◌, ℕ, nat_le, ◌==◌, ◌+◌, if◌then◌else◌, Bool, true, false, ◌&&◌, bytes_eq, List, [], ◌∷◌, ◌++◌, map, Option, Some, None, Result, Ok, Err}
 use Rattle.shr_model.specs.Paths.{parent_path}
 use Rattle.shr_model.specs.Pieces.{pieces}
+use Rattle.shr_base.specs.declared.places.Target.{Target}
 use Rattle.shr_base.specs.declared.scripts.Code.{Code}
 use Rattle.shr_base.specs.declared.scripts.Code.TheVariants as codes_of
 use Rattle.shr_base.specs.declared.scripts.GroupDecl.{GroupDecl}
@@ -15,7 +16,7 @@ use Rattle.shr_script.specs.declared.kind.Kind.{Kind}
 use Rattle.shr_script.specs.declared.kind.Kind.TheVariants.{Header, Size, Group, Cache, Pool, Worker, Work, End}
 use Rattle.shr_script.specs.declared.kind.Kind.TheVariants as kinds
 use Rattle.shr_script.specs.declared.kind.Verb.{Verb}
-use Rattle.shr_script.specs.declared.kind.Verb.TheVariants.{Put, Get, Del, Pin, Unpin, Shrink, Balance, Offline, MkGroup, Register, Unregister, Isolate, Release, Grab}
+use Rattle.shr_script.specs.declared.kind.Verb.TheVariants.{Put, On, Shrink, Balance, Offline, MkGroup, Register, Unregister, Isolate, Release, Grab}
 use Rattle.shr_script.specs.declared.kind.Phase.{Phase}
 use Rattle.shr_script.specs.declared.kind.Phase.TheVariants.{Start, Workers}
 use Rattle.shr_script.specs.declared.draft.Draft.{Draft}
@@ -88,20 +89,21 @@ completed p d = record d { commands = [] }
 abbrev pub with_command : Drafted → Command → Drafted
 with_command d c = record d { commands = d.commands ++ c ∷ [] }
 
+-- where a line's items say that a command finds its object
+abbrev pub target_said : List Item → Target
+target_said xs = record { group = number_said (first xs); node = number_said (second xs); decl = number_said (third xs) }
+
 -- the command that a line's items say
 abbrev pub command_by : Verb → List Item → Command
-command_by Put xs = commands.Put (number_said (first xs)) (number_said (second xs)) (number_said (third xs)) (word_said (fourth xs)) (word_said (fifth xs))
-command_by Get xs = commands.Get (number_said (first xs)) (number_said (second xs)) (number_said (third xs)) (word_said (fourth xs))
-command_by Del xs = commands.Del (number_said (first xs)) (number_said (second xs)) (number_said (third xs)) (word_said (fourth xs))
-command_by Pin xs = commands.SetPin (number_said (first xs)) (number_said (second xs)) (number_said (third xs)) (word_said (fourth xs)) true
-command_by Unpin xs = commands.SetPin (number_said (first xs)) (number_said (second xs)) (number_said (third xs)) (word_said (fourth xs)) false
+command_by Put xs = commands.Put (target_said xs) (word_said (fourth xs)) (word_said (fifth xs))
+command_by (On act) xs = commands.On (target_said xs) (word_said (fourth xs)) act
 command_by Shrink xs = commands.Shrink (number_said (first xs)) (number_said (second xs)) (number_said (third xs)) (number_said (fourth xs) == 1)
 command_by Balance xs = commands.Balance (number_said (first xs)) (number_said (second xs)) (number_said (third xs) == 1)
 command_by Offline xs = commands.Offline (number_said (first xs))
 command_by MkGroup xs = commands.MkGroup (number_said (first xs))
 command_by Register xs = commands.Register (number_said (first xs))
 command_by Unregister xs = commands.Unregister (number_said (first xs))
-command_by Isolate xs = commands.Isolate (number_said (first xs)) (number_said (second xs)) (number_said (third xs)) (number_said (fourth xs))
+command_by Isolate xs = commands.Isolate (target_said xs) (number_said (fourth xs))
 command_by Release xs = commands.Release (number_said (first xs)) (number_said (second xs)) (number_said (third xs))
 command_by Grab xs = commands.Grab (number_said (first xs)) (number_said (second xs))
 
@@ -116,26 +118,6 @@ added st d Worker xs = completed st.phase d
 added st d kinds.Sweep xs = record (completed st.phase d) { sweep = Some (sweep_by xs) }
 added st d End xs = completed st.phase d
 added st d (Work verb) xs = with_command d (command_by verb xs)
-
--- the verbs whose words are those of a key
-abbrev pub names_key : Verb → Bool
-names_key Get = true
-names_key Del = true
-names_key Pin = true
-names_key Unpin = true
-names_key verb = false
-
--- the verbs of walks
-abbrev pub is_of_walk : Verb → Bool
-is_of_walk Shrink = true
-is_of_walk Balance = true
-is_of_walk verb = false
-
--- the verbs of pools
-abbrev pub is_of_pool : Verb → Bool
-is_of_pool Release = true
-is_of_pool Grab = true
-is_of_pool verb = false
 
 -- the command that a line's words say
 unfoldable pub command_said : State → Verb → List Word → Result Command Code

@@ -1,6 +1,7 @@
 -- The lines of a script: which may stand where, the classes of their words, and their own rules.
 use Rattle.std.specs.Prelude.{ℕ, ◌+◌, Bool, true, false, ◌&&◌, ◌||◌, ◌==◌, not, nat_le, nat_lt, if◌then◌else◌, List, [], ◌∷◌, ◌++◌, length, bytes_eq, codes, Option, Some, None, option_map, Result, Ok, Err}
 use Rattle.std.specs.Option.{is_some}
+use Rattle.shr_base.specs.declared.scripts.Act.TheVariants.{Get, Del, SetPin}
 use Rattle.shr_base.specs.declared.scripts.Code.{Code}
 use Rattle.shr_base.specs.declared.scripts.Code.TheVariants as codes_of
 use Rattle.shr_model.specs.Paths.{root_path, parent_path}
@@ -9,7 +10,7 @@ use Rattle.shr_words.specs.Classes.{◌>>=◌, Word, Class, Number, Limit, Plain
 use Rattle.shr_script.specs.declared.kind.Kind.{Kind}
 use Rattle.shr_script.specs.declared.kind.Kind.TheVariants.{Header, Size, Group, Cache, Pool, Worker, Work, Sweep, End}
 use Rattle.shr_script.specs.declared.kind.Verb.{Verb}
-use Rattle.shr_script.specs.declared.kind.Verb.TheVariants.{Put, Get, Del, Pin, Unpin, Shrink, Balance, Offline, MkGroup, Register, Unregister, Isolate, Release, Grab}
+use Rattle.shr_script.specs.declared.kind.Verb.TheVariants.{Put, On, Shrink, Balance, Offline, MkGroup, Register, Unregister, Isolate, Release, Grab}
 use Rattle.shr_script.specs.declared.kind.Phase.{Phase}
 use Rattle.shr_script.specs.declared.kind.Phase.TheVariants.{Start, Sizes, Groups, Caches, Pools, Workers, Swept, Done}
 
@@ -18,10 +19,10 @@ use Rattle.shr_script.specs.declared.kind.Phase.TheVariants.{Start, Sizes, Group
 -- the word with which a command begins
 abbrev pub verb_word : Verb → Word
 verb_word Put = codes "put"
-verb_word Get = codes "get"
-verb_word Del = codes "del"
-verb_word Pin = codes "pin"
-verb_word Unpin = codes "unpin"
+verb_word (On Get) = codes "get"
+verb_word (On Del) = codes "del"
+verb_word (On (SetPin true)) = codes "pin"
+verb_word (On (SetPin false)) = codes "unpin"
 verb_word Shrink = codes "shrink"
 verb_word Balance = codes "balance"
 verb_word Offline = codes "offline"
@@ -53,10 +54,10 @@ first_word End = codes "end"
 unfoldable pub verb_of : Word → Option Verb
 verb_of w =
     if bytes_eq w (codes "put") then Some Put else
-    (if bytes_eq w (codes "get") then Some Get else
-    (if bytes_eq w (codes "del") then Some Del else
-    (if bytes_eq w (codes "pin") then Some Pin else
-    (if bytes_eq w (codes "unpin") then Some Unpin else
+    (if bytes_eq w (codes "get") then Some (On Get) else
+    (if bytes_eq w (codes "del") then Some (On Del) else
+    (if bytes_eq w (codes "pin") then Some (On (SetPin true)) else
+    (if bytes_eq w (codes "unpin") then Some (On (SetPin false)) else
     (if bytes_eq w (codes "shrink") then Some Shrink else
     (if bytes_eq w (codes "balance") then Some Balance else
     (if bytes_eq w (codes "offline") then Some Offline else
@@ -216,10 +217,7 @@ key_classes st = group_class st ∷ node_class st ∷ cache_class st ∷ Plain K
 -- the classes of a command's words
 abbrev pub verb_classes : State → Verb → List Class
 verb_classes st Put = group_class st ∷ node_class st ∷ cache_class st ∷ Plain KeyTest ∷ Valued ∷ []
-verb_classes st Get = key_classes st
-verb_classes st Del = key_classes st
-verb_classes st Pin = key_classes st
-verb_classes st Unpin = key_classes st
+verb_classes st (On act) = key_classes st
 verb_classes st Shrink = group_class st ∷ node_class st ∷ Number 0 13 ∷ Chosen Walks ∷ []
 verb_classes st Balance = node_class st ∷ Number 0 13 ∷ Chosen Walks ∷ []
 verb_classes st Offline = group_class st ∷ []

@@ -1,10 +1,9 @@
 //! The command that a line says behind its first word.
 
-ghost use Rattle.std.specs.Prelude.{◌≡◌, true};
 ghost use Rattle.shr_words.specs.Classes.{words_left};
 ghost use Rattle.shr_script.specs.Said.{said_state};
-ghost use Rattle.shr_script.specs.Drafted.{AnswersAsRead, names_key, is_of_walk, is_of_pool, command_said};
-ghost use Rattle.shr_script.specs.declared.kind.Verb.TheVariants.{Put, Isolate};
+ghost use Rattle.shr_script.specs.Drafted.{AnswersAsRead, command_said};
+ghost use Rattle.shr_script.specs.declared.kind.Verb.TheVariants.{Put, On, Shrink, Balance, Isolate, Release, Grab};
 
 use crate::kind::Verb;
 use crate::said::Said;
@@ -13,7 +12,7 @@ use crate::words::{
     balance_words, cache_word, grab_words, group_word, isolate_words, key_words, later_group_word,
     put_words, release_words, shrink_words,
 };
-use shr_base::scripts::Command;
+use shr_base::scripts::{Act, Command};
 use shr_base::text::Text;
 use std::alloc::Global;
 
@@ -24,16 +23,10 @@ pub fn put_command(alloc: Global, said: &Said, rest: Option<&[u8]>) -> Result<Co
     ensures { AnswersAsRead result (command_said (said_state said.now) Put
         (words_left rest.entry)) }
 {
-    let (group, node, decl, key, value) = put_words(said, rest)?;
+    let (at, key, value) = put_words(said, rest)?;
     let key = Text::of(alloc, key)?;
     let value = Text::of(alloc, value)?;
-    Ok(Command::Put {
-        group,
-        node,
-        decl,
-        key,
-        value,
-    })
+    Ok(Command::Put { at, key, value })
 }
 
 // Of `get`, `del`, `pin` or `unpin`.
@@ -41,77 +34,44 @@ pub fn put_command(alloc: Global, said: &Said, rest: Option<&[u8]>) -> Result<Co
 fn key_command(
     alloc: Global,
     said: &Said,
-    verb: Verb,
+    act: Act,
     rest: Option<&[u8]>,
 ) -> Result<Command, Stopped>
-    requires { names_key verb ≡ true }
-    ensures { AnswersAsRead result (command_said (said_state said.now) verb
+    ensures { AnswersAsRead result (command_said (said_state said.now) (On act)
         (words_left rest.entry)) }
 {
-    let (group, node, decl, key) = key_words(said, rest)?;
+    let (at, key) = key_words(said, rest)?;
     let key = Text::of(alloc, key)?;
-    Ok(match verb {
-        Verb::Get => Command::Get {
-            group,
-            node,
-            decl,
-            key,
-        },
-        Verb::Del => Command::Del {
-            group,
-            node,
-            decl,
-            key,
-        },
-        verb => Command::SetPin {
-            group,
-            node,
-            decl,
-            key,
-            pinned: matches!(verb, Verb::Pin),
-        },
+    Ok(Command::On { at, key, act })
+}
+
+// Of `shrink`.
+#[tactic(auto, unfolding(crate::specs::Drafted::command_said), using(shr_words::proofs::ClassLaws::flag_again))]
+fn shrink_command(said: &Said, rest: Option<&[u8]>) -> Result<Command, Stopped>
+    ensures { AnswersAsRead result (command_said (said_state said.now) Shrink
+        (words_left rest.entry)) }
+{
+    let (group, node, priority, nofs) = shrink_words(said, rest)?;
+    Ok(Command::Shrink {
+        group,
+        node,
+        priority,
+        nofs,
     })
 }
 
-// Of `shrink` or `balance`.
+// Of `balance`.
 #[tactic(auto, unfolding(crate::specs::Drafted::command_said), using(shr_words::proofs::ClassLaws::flag_again))]
-fn walk_command(said: &Said, verb: Verb, rest: Option<&[u8]>) -> Result<Command, Stopped>
-    requires { is_of_walk verb ≡ true }
-    ensures { AnswersAsRead result (command_said (said_state said.now) verb
+fn balance_command(said: &Said, rest: Option<&[u8]>) -> Result<Command, Stopped>
+    ensures { AnswersAsRead result (command_said (said_state said.now) Balance
         (words_left rest.entry)) }
 {
-    if let Verb::Shrink = verb {
-        let (group, node, priority, nofs) = shrink_words(said, rest)?;
-        Ok(Command::Shrink {
-            group,
-            node,
-            priority,
-            nofs,
-        })
-    } else {
-        let (node, priority, nofs) = balance_words(said, rest)?;
-        Ok(Command::Balance {
-            node,
-            priority,
-            nofs,
-        })
-    }
-}
-
-// Of `release` or `grab`.
-#[tactic(auto, unfolding(crate::specs::Drafted::command_said))]
-fn pool_command(said: &Said, verb: Verb, rest: Option<&[u8]>) -> Result<Command, Stopped>
-    requires { is_of_pool verb ≡ true }
-    ensures { AnswersAsRead result (command_said (said_state said.now) verb
-        (words_left rest.entry)) }
-{
-    if let Verb::Release = verb {
-        let (node, pool, units) = release_words(said, rest)?;
-        Ok(Command::Release { node, pool, units })
-    } else {
-        let (node, pool) = grab_words(said, rest)?;
-        Ok(Command::Grab { node, pool })
-    }
+    let (node, priority, nofs) = balance_words(said, rest)?;
+    Ok(Command::Balance {
+        node,
+        priority,
+        nofs,
+    })
 }
 
 // Of `isolate`.
@@ -120,13 +80,28 @@ fn isolate_command(said: &Said, rest: Option<&[u8]>) -> Result<Command, Stopped>
     ensures { AnswersAsRead result (command_said (said_state said.now) Isolate
         (words_left rest.entry)) }
 {
-    let (group, node, decl, budget) = isolate_words(said, rest)?;
-    Ok(Command::Isolate {
-        group,
-        node,
-        decl,
-        budget,
-    })
+    let (at, budget) = isolate_words(said, rest)?;
+    Ok(Command::Isolate { at, budget })
+}
+
+// Of `release`.
+#[tactic(auto, unfolding(crate::specs::Drafted::command_said))]
+fn release_command(said: &Said, rest: Option<&[u8]>) -> Result<Command, Stopped>
+    ensures { AnswersAsRead result (command_said (said_state said.now) Release
+        (words_left rest.entry)) }
+{
+    let (node, pool, units) = release_words(said, rest)?;
+    Ok(Command::Release { node, pool, units })
+}
+
+// Of `grab`.
+#[tactic(auto, unfolding(crate::specs::Drafted::command_said))]
+fn grab_command(said: &Said, rest: Option<&[u8]>) -> Result<Command, Stopped>
+    ensures { AnswersAsRead result (command_said (said_state said.now) Grab
+        (words_left rest.entry)) }
+{
+    let (node, pool) = grab_words(said, rest)?;
+    Ok(Command::Grab { node, pool })
 }
 
 /// The command that the words behind its verb say. Our own.
@@ -142,8 +117,9 @@ pub fn command_in(
 {
     match verb {
         Verb::Put => put_command(alloc, said, rest),
-        Verb::Get | Verb::Del | Verb::Pin | Verb::Unpin => key_command(alloc, said, verb, rest),
-        Verb::Shrink | Verb::Balance => walk_command(said, verb, rest),
+        Verb::On(act) => key_command(alloc, said, act, rest),
+        Verb::Shrink => shrink_command(said, rest),
+        Verb::Balance => balance_command(said, rest),
         Verb::Offline => {
             let group = group_word(said, rest)?;
             Ok(Command::Offline { group })
@@ -161,6 +137,7 @@ pub fn command_in(
             Ok(Command::Unregister { decl })
         }
         Verb::Isolate => isolate_command(said, rest),
-        Verb::Release | Verb::Grab => pool_command(said, verb, rest),
+        Verb::Release => release_command(said, rest),
+        Verb::Grab => grab_command(said, rest),
     }
 }

@@ -4,16 +4,14 @@ ghost use Rattle.std.specs.Prelude.{◌≡◌};
 ghost use Rattle.shr_words.specs.Classes.{Gives};
 ghost use Rattle.shr_script.specs.Lines.{kind_of, verb_of, before_workers, among_workers, misplaced, unknown, is_served, kind_at};
 
-use shr_base::scripts::Code;
+use shr_base::scripts::{Act, Code};
 
 /// What a worker is told to do, by the first word of a command's line. Our own.
 #[derive(Clone, Copy)]
 pub enum Verb {
     Put,
-    Get,
-    Del,
-    Pin,
-    Unpin,
+    /// `get`, `del`, `pin` or `unpin`.
+    On(Act),
     Shrink,
     Balance,
     Offline,
@@ -67,13 +65,13 @@ fn verb_of(word: &[u8]) -> Option<Verb>
     if word == b"put".as_slice() {
         Some(Verb::Put)
     } else if word == b"get".as_slice() {
-        Some(Verb::Get)
+        Some(Verb::On(Act::Get))
     } else if word == b"del".as_slice() {
-        Some(Verb::Del)
+        Some(Verb::On(Act::Del))
     } else if word == b"pin".as_slice() {
-        Some(Verb::Pin)
+        Some(Verb::On(Act::SetPin { pinned: true }))
     } else if word == b"unpin".as_slice() {
-        Some(Verb::Unpin)
+        Some(Verb::On(Act::SetPin { pinned: false }))
     } else if word == b"shrink".as_slice() {
         Some(Verb::Shrink)
     } else if word == b"balance".as_slice() {

@@ -281,7 +281,6 @@ fn plain_line<'a>(
         Kind::Cache => cache_line(alloc, said, draft, rest),
         Kind::Pool => pool_line(alloc, said, draft, rest),
         Kind::Worker => worker_line(alloc, said, draft, rest),
-        Kind::Work(Verb::Put) => put_line(alloc, said, draft, rest),
         Kind::Work(verb) => command_line(alloc, said, draft, verb, rest),
         Kind::Sweep => sweep_line(alloc, said, draft, rest),
         Kind::End => end_line(alloc, said, draft, rest),

@@ -1,6 +1,6 @@
 //! The words of a line behind the first, for each kind of line.
 
-ghost use Rattle.std.specs.Prelude.{◌≡◌, ◌≤◌, [], ◌∷◌, Ok, IfOk, true};
+ghost use Rattle.std.specs.Prelude.{◌≡◌, ◌<◌, ◌≤◌, [], ◌∷◌, Ok, IfOk, true};
 ghost use Rattle.shr_model.specs.Paths.{is_path};
 ghost use Rattle.shr_words.specs.Classes.{Gives, words_left, items_said, N, L, W, policy_place, flag_place};
 ghost use Rattle.shr_script.specs.Lines.{classes, verb_classes, key_classes, most_ids};
@@ -10,6 +10,7 @@ ghost use Rattle.shr_script.specs.declared.kind.Verb.TheVariants.{Put, Shrink, B
 
 use crate::said::Said;
 use shr_base::objects::Policy;
+use shr_base::places::Target;
 use shr_base::scripts::Code;
 use shr_words::word::{
     at_start, cache, cache_kind, end, group, key, limit, marked_group, name, number, path, policy,
@@ -109,13 +110,27 @@ pub fn sweep_words(said: &Said, rest: Option<&[u8]>) -> Result<(u8, bool), Code>
     Ok((priority as u8, nofs))
 }
 
+// Where a command finds its object, by the numbers that its words said.
+#[inline(always)]
+fn target_of(group: u16, node: u32, cache: u16) -> Target
+    requires node { node < 256 }
+    requires cache { cache < 256 }
+    ensures { result ≡ record { group = group; node = node; decl = cache } }
+{
+    Target {
+        group,
+        node: node as u8,
+        decl: cache as u8,
+    }
+}
+
 /// Of `put`. Our own.
 #[inline(always)]
 pub fn put_words<'a>(
     said: &Said,
     rest: Option<&'a [u8]>,
-) -> Result<(u16, u8, u8, &'a [u8], &'a [u8]), Code>
-    ensures { Gives (λ x. N x.0 ∷ N x.1 ∷ N x.2 ∷ W x.3.now ∷ W x.4.now ∷ []) result
+) -> Result<(Target, &'a [u8], &'a [u8]), Code>
+    ensures { Gives (λ x. N x.0.group ∷ N x.0.node ∷ N x.0.decl ∷ W x.1.now ∷ W x.2.now ∷ []) result
         (items_said (verb_classes (said_state said.now) Put) (words_left rest.entry)) }
 {
     let (group, rest) = group(rest, &said.groups)?;
@@ -124,12 +139,12 @@ pub fn put_words<'a>(
     let (key, rest) = key(rest)?;
     let (value, rest) = text(rest)?;
     end(rest)?;
-    Ok((group, node as u8, cache as u8, key, value))
+    Ok((target_of(group, node, cache), key, value))
 }
 
 /// Of `get`, `del`, `pin` and `unpin`. Our own.
-pub fn key_words<'a>(said: &Said, rest: Option<&'a [u8]>) -> Result<(u16, u8, u8, &'a [u8]), Code>
-    ensures { Gives (λ x. N x.0 ∷ N x.1 ∷ N x.2 ∷ W x.3.now ∷ []) result
+pub fn key_words<'a>(said: &Said, rest: Option<&'a [u8]>) -> Result<(Target, &'a [u8]), Code>
+    ensures { Gives (λ x. N x.0.group ∷ N x.0.node ∷ N x.0.decl ∷ W x.1.now ∷ []) result
         (items_said (key_classes (said_state said.now)) (words_left rest.entry)) }
 {
     let (group, rest) = group(rest, &said.groups)?;
@@ -137,7 +152,7 @@ pub fn key_words<'a>(said: &Said, rest: Option<&'a [u8]>) -> Result<(u16, u8, u8
     let (cache, rest) = cache(rest, &said.caches)?;
     let (key, rest) = key(rest)?;
     end(rest)?;
-    Ok((group, node as u8, cache as u8, key))
+    Ok((target_of(group, node, cache), key))
 }
 
 /// Of `shrink`. Our own.
@@ -186,8 +201,8 @@ pub fn later_group_word(said: &Said, rest: Option<&[u8]>) -> Result<u16, Code>
 }
 
 /// Of `isolate`. Our own.
-pub fn isolate_words(said: &Said, rest: Option<&[u8]>) -> Result<(u16, u8, u8, u32), Code>
-    ensures { Gives (λ x. N x.0 ∷ N x.1 ∷ N x.2 ∷ N x.3 ∷ []) result
+pub fn isolate_words(said: &Said, rest: Option<&[u8]>) -> Result<(Target, u32), Code>
+    ensures { Gives (λ x. N x.0.group ∷ N x.0.node ∷ N x.0.decl ∷ N x.1 ∷ []) result
         (items_said (verb_classes (said_state said.now) Isolate) (words_left rest.entry)) }
 {
     let (group, rest) = group(rest, &said.groups)?;
@@ -195,7 +210,7 @@ pub fn isolate_words(said: &Said, rest: Option<&[u8]>) -> Result<(u16, u8, u8, u
     let (cache, rest) = cache(rest, &said.caches)?;
     let (budget, rest) = number(rest, 0, 20_001)?;
     end(rest)?;
-    Ok((group, node as u8, cache as u8, budget))
+    Ok((target_of(group, node, cache), budget))
 }
 
 /// Of `release`. Our own.

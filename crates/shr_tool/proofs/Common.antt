@@ -6,11 +6,13 @@ pub use Rattle.std.proofs.lemmas.Option.{none-some, same_Some, slice_get_within}
 pub use Rattle.std.specs.Io.KnownBytes.{Consumes, IsAtEnd}
 pub use Rattle.std.specs.List.{AllByRecursion, enumerate_from, range_with_len}
 pub use Rattle.std.specs.Prelude.{Contains, decimal, filter_map, if◌then◌else◌, nat_lt, option_and_then, option_map, slice_get, slice_index_or, sum_by}
+pub use Rattle.shr_base.specs.declared.places.Target.{Target}
+pub use Rattle.shr_base.specs.declared.scripts.Act.TheVariants.{Get}
 pub use Rattle.shr_base.specs.declared.scripts.Code.{Code}
 pub use Rattle.shr_base.specs.declared.scripts.Command.{Command}
-pub use Rattle.shr_base.specs.declared.scripts.Command.TheVariants.{Balance, Get, Offline, Put, Shrink, Unregister}
+pub use Rattle.shr_base.specs.declared.scripts.Command.TheVariants.{Balance, Offline, On, Put, Shrink, Unregister}
 pub use Rattle.shr_base.specs.declared.scripts.Script.{Script}
-pub use Rattle.shr_gen.specs.Generated.{MayBeGenerated, cache_by, chosen_by, generated_command, commands_from, drawn_after, generated, group_at, worker_group, is_offline, key_text, node_by, priority_by, value_text}
+pub use Rattle.shr_gen.specs.Generated.{MayBeGenerated, chosen_by, generated_command, commands_from, drawn_after, generated, group_at, worker_group, is_offline, key_text, node_by, priority_by, target_by, value_text}
 pub use Rattle.shr_model.specs.Pieces.{Parts, cut, differs, is_part_of}
 pub use Rattle.shr_report.specs.Parts.{answer_at, answers_in, answers_of, commands_in, commands_of, decls_on, id_found, journals_of, later_of, limit_of, parents_of}
 pub use Rattle.shr_script.specs.Content.{Content, IsValid, content_of, spell}

@@ -1,5 +1,5 @@
 -- The commands of a generated script, and how many they are.
-use Rattle.shr_tool.proofs.Common.{◌≡◌, ℕ, zero, suc, ◌+◌, ◌*◌, ◌<◌, ◌^◌, ◌-◌, Bool, true, false, List, [], ◌∷◌, ◌++◌, length, map, refl, sym, ap, ◌∙◌, arith, slice_get, sum_by, Option, Some, None, codes, same_Some, Command, Put, Unregister, Script, content_of, generated, is_offline, commands_of, ◌%◌, ◌==◌, eqb, eq-eqb, nat_lt, if◌then◌else◌, slice_index_or, decimal, option_and_then, range_with_len, none-some, Get, Shrink, Balance, Offline, commands_from, generated_command, node_by, cache_by, priority_by, key_text, value_text, worker_group, group_at, drawn_after, chosen_by, answers_in, commands_in, later_of, limit_of}
+use Rattle.shr_tool.proofs.Common.{◌≡◌, ℕ, zero, suc, ◌+◌, ◌*◌, ◌<◌, ◌^◌, ◌-◌, Bool, true, false, List, [], ◌∷◌, ◌++◌, length, map, refl, sym, ap, ◌∙◌, arith, slice_get, sum_by, Option, Some, None, codes, same_Some, Command, Put, Unregister, Script, content_of, generated, is_offline, commands_of, ◌%◌, ◌==◌, eqb, eq-eqb, nat_lt, if◌then◌else◌, slice_index_or, decimal, option_and_then, range_with_len, none-some, Target, On, Get, Shrink, Balance, Offline, commands_from, generated_command, node_by, target_by, priority_by, key_text, value_text, worker_group, group_at, drawn_after, chosen_by, answers_in, commands_in, later_of, limit_of}
 use Rattle.std.proofs.lemmas.Bool.{and_parts, and_from, eqb-true}
 use Rattle.std.proofs.lemmas.Fmt.{decimal_injective}
 use Rattle.std.proofs.lemmas.List.FromFn.{length-map-range_with_len}
@@ -75,15 +75,15 @@ pub record IsLast (w commands k group : ℕ) : Type 0 where
 module _ (w commands k r : ℕ) where
   -- what is chosen by four tests
   abbrev chosen : Bool → Bool → Bool → Bool → Command
-  chosen off put get shrink = if off then Offline (worker_group w) else (if put then Put (worker_group w) (node_by r) (cache_by r) (key_text k) (value_text k) else (if get then Get (worker_group w) (node_by r) (cache_by r) (key_text (k - 1)) else
+  chosen off put get shrink = if off then Offline (worker_group w) else (if put then Put (target_by w r) (key_text k) (value_text k) else (if get then On (target_by w r) (key_text (k - 1)) Get else
       (if shrink then Shrink (worker_group w) (node_by r) (priority_by r) false else Balance (node_by r) (priority_by r) false)))
 
-  put_of : (off put get shrink : Bool) → is_offline w commands k ≡ off → (group node decl : ℕ) (key value : List ℕ) → Put group node decl key value ≡ chosen off put get shrink → IsPut w commands k group decl key
-  put_of true put get shrink off group node decl key value e = absurd cc
-  put_of false true get shrink off group node decl key value e = let same : decl ≡ cache_by r = cc in record { group_is = cc; decl_fits = omega (arith, same); key_is = cc; not_last = off }
-  put_of false false true shrink off group node decl key value e = absurd cc
-  put_of false false false true off group node decl key value e = absurd cc
-  put_of false false false false off group node decl key value e = absurd cc
+  put_of : (off put get shrink : Bool) → is_offline w commands k ≡ off → (at : Target) (key value : List ℕ) → Put at key value ≡ chosen off put get shrink → IsPut w commands k at.group at.decl key
+  put_of true put get shrink off at key value e = absurd cc
+  put_of false true get shrink off at key value e = let here : at ≡ target_by w r = cc in let same = ap (λ (t : Target). t.decl) here in record { group_is = ap (λ (t : Target). t.group) here; decl_fits = omega (arith, same); key_is = cc; not_last = off }
+  put_of false false true shrink off at key value e = absurd cc
+  put_of false false false true off at key value e = absurd cc
+  put_of false false false false off at key value e = absurd cc
 
   offline_of : (off put get shrink : Bool) → is_offline w commands k ≡ off → (group : ℕ) → Offline group ≡ chosen off put get shrink → IsLast w commands k group
   offline_of true put get shrink off group e = record { group_is = cc; last = off }
@@ -114,8 +114,8 @@ module _ (s : Script) (seed workers commands : ℕ) (content : content_of s ≡ 
       let two = at_number (λ j. generated_command w commands j (chosen_by (drawn_after (drawn_after seed (w * commands)) (j + 1)))) commands k c (ap (λ l. slice_get l k) (sym one.1) ∙ t.2) in
       record { worker = one.0; number = two.0; is = two.1 }
 
-  pub put_made : (w k group node decl : ℕ) (key value : List ℕ) → slice_get (commands_of s w) k ≡ Some (Put group node decl key value) → IsPut w commands k group decl key
-  put_made w k group node decl key value at = put_of w commands k (drawn_for seed commands w k) (is_offline w commands k) (nat_lt (k % 8) 5) (k % 8 == 5) (k % 8 == 6) refl group node decl key value (made w k (Put group node decl key value) at).is
+  pub put_made : (w k : ℕ) (at : Target) (key value : List ℕ) → slice_get (commands_of s w) k ≡ Some (Put at key value) → IsPut w commands k at.group at.decl key
+  put_made w k at key value there = put_of w commands k (drawn_for seed commands w k) (is_offline w commands k) (nat_lt (k % 8) 5) (k % 8 == 5) (k % 8 == 6) refl at key value (made w k (Put at key value) there).is
 
   pub offline_made : (w k group : ℕ) → slice_get (commands_of s w) k ≡ Some (Offline group) → IsLast w commands k group
   offline_made w k group at = offline_of w commands k (drawn_for seed commands w k) (is_offline w commands k) (nat_lt (k % 8) 5) (k % 8 == 5) (k % 8 == 6) refl group (made w k (Offline group) at).is

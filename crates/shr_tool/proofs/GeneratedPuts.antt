@@ -1,5 +1,5 @@
 -- Each put of a generated script is added, where there is memory and no counter is used up.
-use Rattle.shr_tool.proofs.Common.{◌≡◌, ℕ, zero, suc, ◌+◌, ◌*◌, ◌<◌, ◌≤◌, ◌^◌, inl, inr, cond, List, [], ◌∷◌, length, refl, sym, ap, ◌∙◌, subst, arith, slice_get, Option, Some, None, same_Some, Command, Put, Unregister, Script, content_of, generated, is_offline, commands_of, ⊎_elim, option_map, filter_map, Contains, enumerate_from, slice_get_within, MayBeGenerated, parents_of, decls_on, answers_of, answer_at, journals_of, id_found}
+use Rattle.shr_tool.proofs.Common.{◌≡◌, ℕ, zero, suc, ◌+◌, ◌*◌, ◌<◌, ◌≤◌, ◌^◌, inl, inr, cond, List, [], ◌∷◌, length, refl, sym, ap, ◌∙◌, subst, arith, slice_get, Option, Some, None, same_Some, Target, Command, Put, Unregister, Script, content_of, generated, is_offline, commands_of, ⊎_elim, option_map, filter_map, Contains, enumerate_from, slice_get_within, MayBeGenerated, parents_of, decls_on, answers_of, answer_at, journals_of, id_found}
 use Rattle.std.specs.Option.{IsSomeAnd}
 use Rattle.std.proofs.lemmas.Bool.{cases_lt}
 use Rattle.shr_base.specs.declared.journals.PoolEntry.TheVariants.{Registered, Unregistered}
@@ -21,7 +21,7 @@ use Rattle.shr_report.proofs.QuietSweep.{own_counts}
 use Rattle.shr_forms.proofs.Reading.{few_commands}
 use Rattle.shr_run.specs.Made.{IsReportOfRun}
 use Rattle.shr_tool.specs.Summary.{replies_of, five_lines, IsUnhindered, HadEnough, IsSummary}
-use Rattle.shr_tool.proofs.GeneratedCommands.{sums_agree, commands_in_all, made, put_made, offline_made, no_unregister, no_limit, no_later, goes_later, same_key}
+use Rattle.shr_tool.proofs.GeneratedCommands.{IsMade, IsPut, sums_agree, commands_in_all, made, put_made, offline_made, no_unregister, no_limit, no_later, goes_later, same_key}
 use Rattle.shr_model.proofs.Lists.{there_at}
 
 -- an answer that was neither hindered nor refused
@@ -89,40 +89,47 @@ module _ (s : Script) (r : Report) (seed workers commands : ℕ) (may : MayBeGen
           let c = there_at (commands_of s t.0.worker) t.0.command (omega (arith, within, count)) in
           ends_none s r t.0 n decl id to a.0.reply c.0 (id_found a.0) (λ d same. no_unregister s seed workers commands content t.0.worker t.0.command d (c.1 ∙ ap Some same)) (lawful.replies.answered t.0 c.0 a.0 c.1 a.1) a.2
 
-  module _ (worker k group node decl : ℕ) (key value : List ℕ) (at : slice_get (commands_of s worker) k ≡ Some (Put group node decl key value)) where
-    stays_on : StaysOn s r decl
+  module _ (worker k : ℕ) (at : Target) (key value : List ℕ) (there : slice_get (commands_of s worker) k ≡ Some (Put at key value)) where
+    mine : IsPut worker commands k at.group at.decl key
+    mine = put_made s seed workers commands content worker k at key value there
+
+    this : IsMade seed workers commands worker k (Put at key value)
+    this = made s seed workers commands content worker k (Put at key value) there
+
+    stays_on : StaysOn s r at.decl
     stays_on = record {
-      on = subst (λ l. Contains l decl) (sym on) (Contains_from_Has (0 ∷ 1 ∷ 2 ∷ []) decl (three_on decl (put_made s seed workers commands content worker k group node decl key value at).decl_fits));
-      kept = never_ends decl;
+      on = subst (λ l. Contains l at.decl) (sym on) (Contains_from_Has (0 ∷ 1 ∷ 2 ∷ []) at.decl (three_on at.decl mine.decl_fits));
+      kept = never_ends at.decl;
     }
 
-    stays_online : StaysOnline s r worker k group
+    stays_online : StaysOnline s r worker k at.group
     stays_online = inr (λ by off.
-        let mine = put_made s seed workers commands content worker k group node decl key value at in
-        let this = made s seed workers commands content worker k (Put group node decl key value) at in
-        let last = offline_made s seed workers commands content by.worker by.command group off.command_is in
+        let last = offline_made s seed workers commands content by.worker by.command at.group off.command_is in
         let same : by.worker ≡ worker = (let one = mine.group_is in let two = last.group_is in omega (arith, one, two)) in
         (same, goes_later s seed workers commands content worker k by.command this.worker this.number mine.not_last (ap (λ w. is_offline w commands by.command) (sym same) ∙ last.last)))
 
-    only : IsOnlyPut s worker k group key
+    -- where another put of the same group and key finds its object
+    abbrev other : ℕ → ℕ → Target
+    other node decl = record { group = at.group; node = node; decl = decl }
+
+    only : IsOnlyPut s worker k at.group key
     only = record {
-      worker_is = λ w j other_node other_decl other_value e.
-          let one = (put_made s seed workers commands content worker k group node decl key value at).group_is in
-          let two = (put_made s seed workers commands content w j group other_node other_decl key other_value e).group_is in omega (arith, one, two);
-      command_is = λ w j other_node other_decl other_value e.
-          let one = put_made s seed workers commands content worker k group node decl key value at in
-          let two = put_made s seed workers commands content w j group other_node other_decl key other_value e in
-          same_key j k (few j (made s seed workers commands content w j (Put group other_node other_decl key other_value) e).number) (few k (made s seed workers commands content worker k (Put group node decl key value) at).number)
-          (sym two.key_is ∙ one.key_is);
+      worker_is = λ w j node decl other_value e.
+          let one = mine.group_is in
+          let two = (put_made s seed workers commands content w j (other node decl) key other_value e).group_is in omega (arith, one, two);
+      command_is = λ w j node decl other_value e.
+          let two = put_made s seed workers commands content w j (other node decl) key other_value e in
+          same_key j k (few j (made s seed workers commands content w j (Put (other node decl) key other_value) e).number) (few k this.number)
+          (sym two.key_is ∙ mine.key_is);
     }
 
-    free : IsFreePut s r worker k group decl key
-    free = record { there = no_later s seed workers commands content group; unlimited = λ g above. no_limit s seed workers commands content g; online = stays_online; cached = stays_on; only = only }
+    free : IsFreePut s r worker k at.group at.decl key
+    free = record { there = no_later s seed workers commands content at.group; unlimited = λ g above. no_limit s seed workers commands content g; online = stays_online; cached = stays_on; only = only }
 
   -- each put is added, where no answer is that memory was short or a counter used up
   pub each_added : AreFreePutsAdded s r → HadEnough r → IsEachAdded s r
-  each_added puts enough worker k group node decl key value a at answer =
-      added_of a.reply (puts worker k group node decl key value a at answer (free worker k group node decl key value at)) (enough worker k a answer)
+  each_added puts enough worker k at key value a there answer =
+      added_of a.reply (puts worker k at key value a there answer (free worker k at key value there)) (enough worker k a answer)
 
 -- the five lines of a generated script's report
 pub is_summary : (s : Script) (r : Report) (seed workers commands : ℕ) (answer : List ℕ) → MayBeGenerated workers commands → content_of s ≡ generated seed workers commands → IsLawful s r → IsFaithful s r → IsWellFormed r → IsReportOfRun s r → r.freed + r.listed ≡ r.added

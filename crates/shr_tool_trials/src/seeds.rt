@@ -1,6 +1,7 @@
 //! Scripts of known seeds, against numbers that another program made.
 
-use shr_base::scripts::{Command, Script};
+use shr_base::places::Target;
+use shr_base::scripts::{Act, Command, Script};
 use shr_gen::generating::generate;
 use std::test::Fail;
 
@@ -10,25 +11,24 @@ type Row = (&'static str, u16, u8, u8, &'static [u8]);
 // Whether the command is that of the row. No one of a generated script is nofs.
 fn is_row(command: &Command, row: &Row) -> bool {
     let (word, groups, nodes, number, name) = *row;
+    let target = Target {
+        group: groups,
+        node: nodes,
+        decl: number,
+    };
     match command {
-        Command::Put {
-            group,
-            node,
-            decl,
-            key,
-            value,
-        } => {
-            (word, groups, nodes, number) == ("put", *group, *node, *decl)
+        Command::Put { at, key, value } => {
+            word == "put"
+                && *at == target
                 && key.bytes() == name
                 && value.bytes().starts_with(b"v")
                 && value.bytes().get(1..) == name.get(1..)
         }
-        Command::Get {
-            group,
-            node,
-            decl,
+        Command::On {
+            at,
             key,
-        } => (word, groups, nodes, number) == ("get", *group, *node, *decl) && key.bytes() == name,
+            act: Act::Get,
+        } => word == "get" && *at == target && key.bytes() == name,
         Command::Shrink {
             group,
             node,

@@ -1,9 +1,9 @@
 //! A tenant's calls on cache 0 and node 0, made where there is such a group.
 
+use shr_base::places::Target;
 use shr_base::replies::{Answered, Reply, Spent};
 use shr_base::text::Text;
 use shr_cache::{dels, gets, pins, puts};
-use shr_opening::target::Target;
 use shr_walk::worker::Worker;
 use std::sync::Wait;
 

@@ -92,5 +92,5 @@ recorded_by_balance : (x : Shared) (by : Serial) (a : Answered) (s : WorkerState
 recorded_by_balance x by a s i e = absurd (omega (arith, ap (λ (l : List Isolation). length l) e))
 
 -- an isolation that was refused records none
-refused_recorded : (x : Shared) (by : Serial) (s t : WorkerState) (i : Isolation) → RecordGives x by (Isolate 1 0 0 5) (unfound reply.Memory) s t [] (i ∷ []) → ⊥
+refused_recorded : (x : Shared) (by : Serial) (s t : WorkerState) (i : Isolation) → RecordGives x by (Isolate (record { group = 1; node = 0; decl = 0 }) 5) (unfound reply.Memory) s t [] (i ∷ []) → ⊥
 refused_recorded x by s t i h = absurd (omega (arith, ap (λ (l : List Isolation). length l) h.records))

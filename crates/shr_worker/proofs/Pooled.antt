@@ -1,6 +1,7 @@
 -- The tables of pools that were made for a script.
 use Rattle.shr_worker.proofs.Common.{ℕ, ◌<◌, ◌≤◌, Bool, true, false, List, length, ap, subst, ◌∙◌, arith, Isolate, Release, Script, Setting, settings_of, pool_sizes, IsCommandWithin, Sizes, Grab, ArePoolsOf, setting_by, IsPoolOf, IfServed, IsIsolationWithin, IsPoolCommandWithin, Content}
 use Rattle.std.proofs.lemmas.List.{length-map}
+use Rattle.shr_base.specs.declared.places.Target.{Target}
 use Rattle.shr_plain.specs.declared.table.Pools.{Pools}
 use Rattle.shr_script.specs.Lines.{serves_pools, serves_isolation}
 
@@ -33,5 +34,5 @@ pub grab_there : (t : Content) (node pool : ℕ) → IsCommandWithin t (Grab nod
 grab_there t node pool within = served serves_pools (IsPoolCommandWithin t node pool) within
 
 -- what an isolation of one names
-pub isolate_there : (t : Content) (group node decl budget : ℕ) → IsCommandWithin t (Isolate group node decl budget) → IsIsolationWithin t group node decl budget
-isolate_there t group node decl budget within = served serves_isolation (IsIsolationWithin t group node decl budget) within
+pub isolate_there : (t : Content) (at : Target) (budget : ℕ) → IsCommandWithin t (Isolate at budget) → IsIsolationWithin t at budget
+isolate_there t at budget within = served serves_isolation (IsIsolationWithin t at budget) within

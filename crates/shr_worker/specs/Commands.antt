@@ -4,8 +4,9 @@ use Rattle.shr_base.specs.declared.places.Serial.{Serial}
 use Rattle.shr_base.specs.declared.replies.Answered.{Answered}
 use Rattle.shr_base.specs.declared.replies.Reply.TheVariants as reply
 use Rattle.shr_base.specs.declared.replies.Spent.{Spent}
+use Rattle.shr_base.specs.declared.scripts.Act.TheVariants.{Get, Del, SetPin}
 use Rattle.shr_base.specs.declared.scripts.Command.{Command}
-use Rattle.shr_base.specs.declared.scripts.Command.TheVariants.{Put, Get, Del, SetPin, Shrink, Balance, Offline, MkGroup, Register, Unregister, Isolate, Release, Grab}
+use Rattle.shr_base.specs.declared.scripts.Command.TheVariants.{Put, On, Shrink, Balance, Offline, MkGroup, Register, Unregister, Isolate, Release, Grab}
 use Rattle.shr_base.specs.declared.walks.WalkAnswer.{WalkAnswer}
 use Rattle.shr_charge.specs.declared.answers.MakeAnswer.{MakeAnswer}
 use Rattle.shr_charge.specs.Answers.{MakeTells, MakeLeaves, KnowsTree}
@@ -101,12 +102,12 @@ pub record PutsNone (a : Answered) (s t : WorkerState) : Type 0 where
 -- what a command did at the tables of the caches between two states of its worker, by its answer
 abbrev pub CommandGives : Shared → Serial → Command → Answered → WorkerState → WorkerState
     → Type 0
-CommandGives x by (Put group node decl key value) a s t =
-    PutsNone a s t ⊎ PutGives x by group node decl key value a s t
-CommandGives x by (Get group node decl key) a s t = GetGives x by group node decl key a s t
-CommandGives x by (Del group node decl key) a s t = DelGives x by group node decl key a s t
-CommandGives x by (SetPin group node decl key pinned) a s t =
-    SetPinGives x by group node decl key pinned a s t
+CommandGives x by (Put at key value) a s t =
+    PutsNone a s t ⊎ PutGives x by at.group at.node at.decl key value a s t
+CommandGives x by (On at key Get) a s t = GetGives x by at.group at.node at.decl key a s t
+CommandGives x by (On at key Del) a s t = DelGives x by at.group at.node at.decl key a s t
+CommandGives x by (On at key (SetPin pinned)) a s t =
+    SetPinGives x by at.group at.node at.decl key pinned a s t
 CommandGives x by (Shrink group node priority nofs) a s t =
     Shrinks x by group node priority nofs a s t
 CommandGives x by (Balance node priority nofs) a s t = Balances x by node priority nofs a s t
@@ -115,21 +116,7 @@ CommandGives x by (MkGroup group) a s t = MakesGroup x group a s t
 CommandGives x by (Register decl) a s t = RegistersCache x decl a s t
 CommandGives x by (Unregister decl) a s t = UnregistersNone a s t ⊎ Unregisters x by decl a s t
 -- what an isolation did is told with the isolations that its worker recorded
-CommandGives x by (Isolate group node decl budget) a s t = Unit {0}
+CommandGives x by (Isolate at budget) a s t = Unit {0}
 -- nothing was done at the tables of the caches
 CommandGives x by (Release node pool units) a s t = t ≡ s
 CommandGives x by (Grab node pool) a s t = t ≡ s
-
--- a command on an object: put, get, del, pin or unpin
-abbrev pub IsTenantCommand : Command → Type 0
-IsTenantCommand (Put group node decl key value) = Unit {0}
-IsTenantCommand (Get group node decl key) = Unit {0}
-IsTenantCommand (Del group node decl key) = Unit {0}
-IsTenantCommand (SetPin group node decl key pinned) = Unit {0}
-IsTenantCommand c = ⊥
-
--- a walk or a balance
-abbrev pub IsWalk : Command → Type 0
-IsWalk (Shrink group node priority nofs) = Unit {0}
-IsWalk (Balance node priority nofs) = Unit {0}
-IsWalk c = ⊥

@@ -13,6 +13,6 @@ use Rattle.shr_drop.specs.Isolating.{IsolateGives}
 -- and what it put behind the isolations that were recorded before. No other command records one.
 abbrev pub RecordGives : Shared → Serial → Command → Answered → WorkerState → WorkerState
     → List Isolation → List Isolation → Type 0
-RecordGives x by (Isolate group node decl budget) a s t before after =
-    IsolateGives x by group node decl budget a s t before after
+RecordGives x by (Isolate at budget) a s t before after =
+    IsolateGives x by at.group at.node at.decl budget a s t before after
 RecordGives x by c a s t before after = after ≡ before

@@ -7,11 +7,11 @@ ghost use Rattle.shr_opening.specs.Opening.{IsTargetOf};
 ghost use Rattle.shr_walk.specs.Acting.{IsSame};
 ghost use Rattle.shr_worker.specs.Commands.{PutsNone};
 
+use shr_base::places::Target;
 use shr_base::replies::{Answered, Reply};
 use shr_base::text::Text;
 use shr_cache::puts;
 use shr_opening::replies::unfound;
-use shr_opening::target::Target;
 use shr_walk::worker::Worker;
 use std::sync::Wait;
 

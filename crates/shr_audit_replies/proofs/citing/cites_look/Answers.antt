@@ -3,7 +3,7 @@ use Rattle.shr_audit_replies.proofs.Deciding.{cites_same, cites_none}
 use Rattle.shr_audit_replies.proofs.citing.cites_look.Goals as goal
 
 pub returns-in-Some : goal.returns-in-Some
-returns-in-Some c = cites_same (journals_of c.args.report.now) c.args.at c.args.tenant.id c.args.tenant.node c.in-Some.entry.now (Look (serial_of c.args.tenant.worker c.args.tenant.command) c.args.tenant.group c.args.key.now c.args.hit) c.is_look.result c.in-Some.ensures c.is_look.ensures
+returns-in-Some c = cites_same (journals_of c.args.report.now) c.args.at c.args.tenant.id c.args.tenant.target.node c.in-Some.entry.now (Look (serial_of c.args.tenant.worker c.args.tenant.command) c.args.tenant.target.group c.args.key.now c.args.hit) c.is_look.result c.in-Some.ensures c.is_look.ensures
 
 pub returns-in-None : goal.returns-in-None
-returns-in-None c = cites_none (journals_of c.args.report.now) c.args.at c.args.tenant.id c.args.tenant.node (Look (serial_of c.args.tenant.worker c.args.tenant.command) c.args.tenant.group c.args.key.now c.args.hit) c.in-None.ensures
+returns-in-None c = cites_none (journals_of c.args.report.now) c.args.at c.args.tenant.id c.args.tenant.target.node (Look (serial_of c.args.tenant.worker c.args.tenant.command) c.args.tenant.target.group c.args.key.now c.args.hit) c.in-None.ensures

@@ -1,4 +1,4 @@
-use Rattle.shr_audit_replies.proofs.Common.{◌≡◌, ◌<◌, ◌≤◌, ℕ, List, length, true, Option, Some, None, refl, sym, ap, subst, ◌∙◌, inl, inr, arith, slice_get, slice_get_cases, none-some, WorkerPart, Answered, Script, Report, answer_at, commands_of, IsLastSwept, below_more, slice_get_past, answers_in}
+use Rattle.shr_audit_replies.proofs.Common.{◌≤◌, ℕ, length, Option, refl, sym, ap, ◌∙◌, inl, inr, arith, slice_get, slice_get_cases, none-some, WorkerPart, Script, Report, commands_of, IsLastSwept, below_more, slice_get_past, answers_in}
 use Rattle.shr_audit_replies.proofs.heads.are_last_swept.Goals as goal
 
 -- past the last part there is no answer

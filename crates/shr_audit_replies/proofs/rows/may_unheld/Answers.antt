@@ -1,16 +1,10 @@
 use Rattle.shr_audit_replies.proofs.rows.may_unheld.Goals as goal
 
 pub returns-in-Put : goal.returns-in-Put
-returns-in-Put c = λ parents family by. rw c.in-Put.is (c.put_unheld.ensures parents family by c.in-Put.group c.in-Put.node c.in-Put.decl c.in-Put.key c.in-Put.value)
+returns-in-Put c = λ parents family by. rw c.in-Put.is (c.put_unheld.ensures parents family by c.in-Put.at c.in-Put.key c.in-Put.value)
 
-pub returns-in-Get : goal.returns-in-Get
-returns-in-Get c = λ parents family by. rw c.in-Get.is (c.get_unheld.ensures parents family by c.in-Get.group c.in-Get.node c.in-Get.decl c.in-Get.key)
-
-pub returns-in-Del : goal.returns-in-Del
-returns-in-Del c = λ parents family by. rw c.in-Del.is (c.del_unheld.ensures parents family by c.in-Del.group c.in-Del.node c.in-Del.decl c.in-Del.key)
-
-pub returns-in-SetPin : goal.returns-in-SetPin
-returns-in-SetPin c = λ parents family by. rw c.in-SetPin.is (c.pin_unheld.ensures parents family by c.in-SetPin.group c.in-SetPin.node c.in-SetPin.decl c.in-SetPin.key c.in-SetPin.pinned)
+pub returns-in-On : goal.returns-in-On
+returns-in-On c = λ parents family by. rw c.in-On.is (c.on_unheld.ensures parents family by c.in-On.at c.in-On.key)
 
 pub returns-in-Shrink : goal.returns-in-Shrink
 returns-in-Shrink c = λ parents family by. rw c.in-Shrink.is (c.shrink_unheld.ensures parents family by c.in-Shrink.group c.in-Shrink.node c.in-Shrink.priority c.in-Shrink.nofs)
@@ -37,4 +31,4 @@ pub returns-in-Grab : goal.returns-in-Grab
 returns-in-Grab c = λ parents family by. rw c.in-Grab.is (c.grab_unheld.ensures parents family by c.in-Grab.node c.in-Grab.pool)
 
 pub returns-in-Isolate : goal.returns-in-Isolate
-returns-in-Isolate c = λ parents family by. rw c.in-Isolate.is (c.isolate_unheld.ensures parents family by c.in-Isolate.group c.in-Isolate.node c.in-Isolate.decl c.in-Isolate.budget)
+returns-in-Isolate c = λ parents family by. rw c.in-Isolate.is (c.isolate_unheld.ensures parents family by c.in-Isolate.at c.in-Isolate.budget)
