@@ -1,26 +1,24 @@
 //! The text of a report.
 
-ghost use Rattle.std.specs.Prelude.{◌≡◌, ◌≤◌, ◌+◌, ◌++◌, ◌^◌, ◌⊎◌, IfOk, OnOk, OnErr, ◌∷◌, [], drop, flat_map, sum_by, length};
+ghost use Rattle.std.specs.Prelude.{◌≡◌, ◌≤◌, ◌++◌, ◌^◌, ◌⊎◌, IfOk, OnOk, OnErr, ◌∷◌, [], drop, flat_map, sum_by, length};
 ghost use Rattle.shr_outside.specs.Paper.{Prints, IsLeft};
 ghost use Rattle.shr_outside.specs.Writing.{Writes};
 ghost use Rattle.shr_report.specs.Lines.{line, spaced, numbered, numeral};
 ghost use Rattle.std.specs.List.{AllByRecursion};
-ghost use Rattle.shr_report.specs.Numbers.{IsSerialNumbered, IsListNumbered, IsMapNumbered, IsUseNumbered, HasNumbers};
+ghost use Rattle.shr_report.specs.Numbers.{IsMapNumbered, IsUseNumbered, HasNumbers};
 ghost use Rattle.shr_report.specs.Same.{Determines};
 ghost use Rattle.shr_report.specs.WellFormed.{IsWellFormed};
-ghost use Rattle.shr_report.specs.Text.{pool_entry_line, tree_line, place_lines, bits_words, bit_line, deferred_line, use_line, lookups_line, head_lines, journal_lines, table_lines, end_lines, reply_count, walk_count, text};
+ghost use Rattle.shr_report.specs.Text.{pool_entry_line, tree_line, bits_words, bit_line, deferred_line, use_line, lookups_line, head_lines, journal_lines, table_lines, end_lines, reply_count, walk_count, text};
 
-use crate::entries::place;
 use crate::lines::Word::{Number, Text as Bytes};
 use crate::lines::{put_amount, put_line};
 use crate::piece::Piece;
+use crate::printers::{Alone, Printer};
 use crate::report::Report;
 use crate::units::{pool_ends, pool_words};
-use crate::workers::workers;
-use shr_base::ends::{MapEnd, PlaceAmount, PlaceEnd, WorkerPart};
-use shr_base::journals::{PoolEntry, TreeEntry, UseStep};
+use shr_base::ends::{MapEnd, PlaceAmount, WorkerPart};
+use shr_base::journals::{PoolEntry, TreeEntry};
 use shr_base::memory::Memory;
-use shr_base::places::Serial;
 use shr_base::text::Text;
 use shr_outside::outside::Sink;
 use shr_outside::paper::Paper;
@@ -107,15 +105,6 @@ fn tree<K: Sink>(out: &mut Paper<K>, entries: &[TreeEntry])
     }
 }
 
-fn places<K: Sink>(out: &mut Paper<K>, ends: &[PlaceEnd])
-    ensures printed { Prints K.written K.faults out.old out.new (flat_map place_lines ends.now) }
-    ensures numbers { AllByRecursion IsListNumbered ends.now }
-{
-    for end in ends {
-        place(out, end);
-    }
-}
-
 // The last words of a bit word's line: version 1 has no unit.
 #[inline(always)]
 fn end_with_bits(piece: &mut Piece, version: u8, map: &MapEnd) -> usize
@@ -165,69 +154,6 @@ fn deferred<K: Sink>(out: &mut Paper<K>, words: &[PlaceAmount])
     }
 }
 
-// The end of an operation's line: the command that made it.
-#[inline(always)]
-fn end_with_command(piece: &mut Piece, rest: usize, by: Serial) -> usize
-    requires { (43 ≤ rest) × (rest ≤ 512) }
-    ensures text { drop result piece.new ≡ spaced (numeral by.worker ∷ numeral by.command ∷ [])
-        ++ 10 ∷ drop rest piece.old }
-    ensures start { (rest ≤ result + 43) × (result ≤ rest) }
-    ensures numbers { IsSerialNumbered by }
-{
-    let start = piece.byte(rest, b'\n');
-    let start = piece.number(start, by.command as u64);
-    piece.number(start, by.worker as u64)
-}
-
-// The line of an operation on a group's usage.
-#[inline(always)]
-fn use_step(piece: &mut Piece, rest: usize, step: &UseStep) -> usize
-    requires { (128 ≤ rest) × (rest ≤ 512) }
-    ensures text { drop result piece.new ≡ use_line step.now ++ drop rest piece.old }
-    ensures start { (rest ≤ result + 128) × (result ≤ rest) }
-    ensures numbers { IsUseNumbered step.now }
-{
-    let start = end_with_command(piece, rest, step.by);
-    let start = piece.signed(start, step.found);
-    let start = piece.sign(start, step.up);
-    let start = piece.number(start, step.operation as u64);
-    let start = piece.number(start, step.group as u64);
-    piece.exactly(start, b"use")
-}
-
-// The most operations whose lines are one piece.
-const FEW: usize = 4;
-
-// The lines of a few operations, from the last to the first.
-fn few_uses(piece: &mut Piece, steps: &[UseStep]) -> usize
-    requires { length steps.now ≤ 4 }
-    ensures text { drop result piece.new ≡ flat_map use_line steps.now }
-    ensures start { result ≤ 512 }
-    ensures numbers { AllByRecursion IsUseNumbered steps.now }
-{
-    let mut start = piece.nothing();
-    let mut left = steps.len();
-    while left > 0 {
-        left -= 1;
-        start = use_step(piece, start, &steps[left]);
-    }
-    start
-}
-
-fn uses<K: Sink>(out: &mut Paper<K>, steps: &[UseStep])
-    ensures printed { Prints K.written K.faults out.old out.new (flat_map use_line steps.now) }
-    ensures numbers { AllByRecursion IsUseNumbered steps.now }
-{
-    let mut piece = Piece::new();
-    let mut done = 0;
-    while done < steps.len() {
-        let few = FEW.min(steps.len() - done);
-        let start = few_uses(&mut piece, &steps[done..done + few]);
-        piece.put(start, out);
-        done += few;
-    }
-}
-
 fn lookups<K: Sink>(out: &mut Paper<K>, numbers: &[u32])
     ensures { Prints K.written K.faults out.old out.new (numbered lookups_line 0 numbers.now) }
 {
@@ -257,7 +183,7 @@ fn journals<K: Sink>(out: &mut Paper<K>, report: &Report)
     tree(out, report.tree.as_slice())
 }
 
-fn tables<K: Sink>(out: &mut Paper<K>, report: &Report)
+fn tables<K: Sink, P: Printer>(out: &mut Paper<K>, report: &Report, printer: &P)
     ensures printed { Prints K.written K.faults out.old out.new (table_lines report.now) }
     ensures maps { AllByRecursion IsMapNumbered report.now.maps.items }
     ensures uses { AllByRecursion IsUseNumbered report.now.uses.items }
@@ -265,7 +191,7 @@ fn tables<K: Sink>(out: &mut Paper<K>, report: &Report)
     bits(out, report.version, report.maps.as_slice());
     deferred(out, report.deferred.as_slice());
     pool_words(out, report.pool_deferred.as_slice());
-    uses(out, report.uses.as_slice());
+    printer.uses(out, report.uses.as_slice());
     lookups(out, report.lookups.as_slice())
 }
 
@@ -314,7 +240,13 @@ fn end<K: Sink>(out: &mut Paper<K>, report: &Report, replies: u64, walks: u64)
 }
 
 // All lines of a report.
-fn lines<K: Sink>(out: &mut Paper<K>, report: &Report, replies: u64, walks: u64)
+fn lines<K: Sink, P: Printer>(
+    out: &mut Paper<K>,
+    report: &Report,
+    printer: &P,
+    replies: u64,
+    walks: u64,
+)
     requires replies { replies ≡ reply_count report.now }
     requires walks { walks ≡ walk_count report.now }
     ensures printed { Prints K.written K.faults out.old out.new (text report.now) }
@@ -322,15 +254,21 @@ fn lines<K: Sink>(out: &mut Paper<K>, report: &Report, replies: u64, walks: u64)
 {
     head(out, report);
     journals(out, report);
-    workers(out, report.workers.as_slice());
-    places(out, report.places.as_slice());
+    printer.workers(out, report.workers.as_slice());
+    printer.places(out, report.places.as_slice());
     pool_ends(out, report.units.as_slice());
-    tables(out, report);
+    tables(out, report, printer);
     end(out, report, replies, walks)
 }
 
 // Prints a report on a paper, and hands the sink the last of it.
-fn print_on<K: Sink>(out: &mut Paper<K>, report: &Report, replies: u64, walks: u64) -> bool
+fn print_on<K: Sink, P: Printer>(
+    out: &mut Paper<K>,
+    report: &Report,
+    printer: &P,
+    replies: u64,
+    walks: u64,
+) -> bool
     requires replies { replies ≡ reply_count report.now }
     requires walks { walks ≡ walk_count report.now }
     requires left { IsLeft K.written K.faults (record {
@@ -344,17 +282,21 @@ fn print_on<K: Sink>(out: &mut Paper<K>, report: &Report, replies: u64, walks: u
     ensures later { K.faults out.old.sink.now ≤ K.faults out.new.sink.now }
     ensures numbers { IsWellFormed report.now → HasNumbers report.now }
 {
-    lines(out, report, replies, walks);
+    lines(out, report, printer, replies, walks);
     out.finish()
 }
 
-/// Prints a report to a sink, and tells whether the sink has got all of it, or failed and has a
-/// front of it. The text is never whole in memory: the sink gets it a page at a time. Our own.
+/// Prints a report to a sink, its long sections by this printer, and tells whether the sink has got all of
+/// it, or failed and has a front of it. The sink gets the text a page at a time. Our own.
 ///
 /// `Memory` comes where a report has more answers or walks than 64 bits count, and then nothing was
 /// printed. The bytes of a well formed report determine it, and its numbers have the ranges of their
 /// types.
-pub fn print<K: Sink>(report: &Report, sink: &mut K) -> Result<bool, Memory>
+pub fn print_by<K: Sink, P: Printer>(
+    report: &Report,
+    sink: &mut K,
+    printer: &P,
+) -> Result<bool, Memory>
     ensures written { IfOk result (λ done. Writes (K.written sink.old) (K.written sink.new)
         (K.faults sink.old) (K.faults sink.new) (text report.now) done) }
     ensures later { K.faults sink.old ≤ K.faults sink.new }
@@ -367,5 +309,20 @@ pub fn print<K: Sink>(report: &Report, sink: &mut K) -> Result<bool, Memory>
     let replies = count_replies(report.workers.as_slice())?;
     let walks = count_walks(report.workers.as_slice())?;
     let mut out = Paper::new(sink);
-    Ok(print_on(&mut out, report, replies, walks))
+    Ok(print_on(&mut out, report, printer, replies, walks))
+}
+
+/// Prints a report to a sink as `print_by` does, without threads. The text is never whole in memory.
+/// Our own.
+pub fn print<K: Sink>(report: &Report, sink: &mut K) -> Result<bool, Memory>
+    ensures written { IfOk result (λ done. Writes (K.written sink.old) (K.written sink.new)
+        (K.faults sink.old) (K.faults sink.new) (text report.now) done) }
+    ensures later { K.faults sink.old ≤ K.faults sink.new }
+    ensures kept { OnErr result (sink.new ≡ sink.old) }
+    ensures memory { OnErr result (2 ^ 64 ≤ reply_count report.now
+        ⊎ 2 ^ 64 ≤ walk_count report.now) }
+    ensures determined { Determines (text report.now) report.now }
+    ensures numbers { OnOk result (IsWellFormed report.now → HasNumbers report.now) }
+{
+    print_by(report, sink, &Alone)
 }

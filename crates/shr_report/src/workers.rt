@@ -14,8 +14,8 @@ use shr_base::ends::WorkerPart;
 use shr_outside::outside::Sink;
 use shr_outside::paper::Paper;
 
-// The answers of a worker, each with what else stands of its command.
-fn answers<K: Sink>(out: &mut Paper<K>, worker: usize, part: &WorkerPart)
+/// The answers of a worker, each with what else stands of its command. Our own.
+pub fn put_answers<K: Sink>(out: &mut Paper<K>, worker: usize, part: &WorkerPart)
     ensures printed { Prints K.written K.faults out.old out.new (worker_lines worker part.now) }
     // What is of a command that has no answer isn't printed.
     ensures numbers { IsPartWell worker part.now → IsPartNumbered part.now }
@@ -34,14 +34,14 @@ fn answers<K: Sink>(out: &mut Paper<K>, worker: usize, part: &WorkerPart)
     }
 }
 
-/// The parts of the workers, numbered from 0. Our own.
-pub fn workers<K: Sink>(out: &mut Paper<K>, parts: &[WorkerPart])
+/// The parts of the workers, numbered from 0, one after the other. Our own.
+pub fn put_workers<K: Sink>(out: &mut Paper<K>, parts: &[WorkerPart])
     ensures printed { Prints K.written K.faults out.old out.new
         (numbered worker_lines 0 parts.now) }
     ensures numbers { ArePartsWell parts.now
         → AllByRecursion IsPartNumbered parts.now }
 {
     for (worker, part) in parts.iter().enumerate() {
-        answers(out, worker, part);
+        put_answers(out, worker, part);
     }
 }

@@ -19,9 +19,10 @@ use shr_base::scripts::{Code, Script};
 use shr_forms::form::{Form, form_of};
 use shr_outside::outside::{Gate, Sink, Source};
 use shr_outside::writing::write_all;
-use shr_report::text::print;
+use shr_print::printing::print_on_threads;
+use shr_reading::reading::read_on_threads;
 use shr_run::run_and_report;
-use shr_script::read::{ReadError, read_script};
+use shr_script::read::ReadError;
 use std::alloc::Global;
 use std::sync::Wait;
 use std::thread::Threads;
@@ -43,7 +44,7 @@ fn refuse<K: Sink>(alloc: Global, line: u32, code: Code, sink: &mut K) -> Status
     }
 }
 
-// Runs a valid script, and writes its report.
+// Runs a valid script, and writes its report, both on threads.
 fn serve<R: Threads + Wait + Sync, K: Sink, G: Gate + Sync>(
     rt: &R,
     alloc: Global,
@@ -61,7 +62,7 @@ fn serve<R: Threads + Wait + Sync, K: Sink, G: Gate + Sync>(
     let Ok(report) = run_and_report(rt, alloc, script, gate) else {
         return Status::Memory;
     };
-    match print(&report, sink) {
+    match print_on_threads(rt, alloc, &report, sink) {
         Ok(true) => {
             let_go(report, afterwards);
             Status::Done
@@ -85,7 +86,7 @@ fn answer<R: Threads + Wait + Sync, K: Sink, G: Gate + Sync>(
         (K.faults sink.old) (K.faults sink.new)) result }
     ensures later { K.faults sink.old ≤ K.faults sink.new }
 {
-    match read_script(alloc, bytes) {
+    match read_on_threads(rt, alloc, bytes) {
         Ok(script) => serve(rt, alloc, script, sink, gate, afterwards),
         Err(ReadError::Fault { line, code }) => refuse(alloc, line, code, sink),
         Err(ReadError::Memory) => Status::Memory,

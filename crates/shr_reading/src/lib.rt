@@ -1,0 +1,9 @@
+//! Reading a script by several threads. Our own.
+#![tactic(auto)]
+
+mod cutting;
+mod joining;
+mod parts;
+pub mod reading;
+#[cfg(test)]
+mod tests;
