@@ -2,5 +2,6 @@ mod Common
 pub mod Splitting
 pub mod Parting
 pub mod Passing
+pub mod Here
 pub mod Swept
 pub mod Ending

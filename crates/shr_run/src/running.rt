@@ -41,7 +41,7 @@ pub(crate) fn run<R: Threads + Wait + Sync, G: Gate + Sync>(
 {
     let (tables, mut first) = open(rt, alloc, script)?;
     let tasks = split_all(alloc, &tables, &mut first)?;
-    let results = run_all(rt, &tables, tasks, gate)?;
+    let results = run_all(rt, alloc, &tables, tasks, gate)?;
     let swept = sweep_if(rt, alloc, &tables, results, gate)?;
     let logs = join_all(alloc, &tables, &mut first, swept)?;
     let ends = finish(alloc, tables, first)?;
