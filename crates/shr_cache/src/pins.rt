@@ -52,6 +52,7 @@ pub fn set_pin<R: Wait>(
         Opened::Held { found } => found,
         Opened::Refused { reply } => return unfound(reply),
     };
+    let core = &worker.shared.core;
     let seat = &mut worker.seats.cache.core;
     let call = TenantCall {
         id: found.id,
@@ -59,8 +60,8 @@ pub fn set_pin<R: Wait>(
         by: worker.by,
         birth: group,
     };
-    let answer = pin_in_list(worker.rt, seat, call, key, pinned);
-    seat.put();
+    let answer = pin_in_list(worker.rt, core, seat, call, key, pinned);
+    core.put(seat);
     Answered {
         reply: reply_of(answer),
         found: Some(found),

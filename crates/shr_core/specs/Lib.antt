@@ -8,7 +8,6 @@ pub mod Rule
 pub mod Steps
 pub mod Tells
 pub mod Seats
-pub mod Seating
 pub mod Answers
 pub mod Again
 pub mod Opening

@@ -1,7 +1,7 @@
 //! Each kind of atomic operation once. The call that makes it says what it tells.
 ghost use Rattle.std.specs.Prelude.{ℕ, ◌+◌, ◌-◌, ◌%◌, ◌^◌, ◌<◌, bit_or, bit_and, ◌==◌};
 ghost use prog.Atomic.{either};
-ghost use Rattle.shr_core.specs.Moves.{MayStep, IsTold};
+ghost use Rattle.shr_core.specs.Moves.{MayStep, IsSameSeat};
 
 use crate::slot::Slot;
 use crate::table::Core;
@@ -20,7 +20,8 @@ impl Core {
         _at: usize,
     ) -> u64
         requires { MayStep self.now token.old word (λ n. n) T.tells }
-        ensures { IsTold token.old token.new (T.tells result) }
+        ensures id { IsSameSeat token.old token.new }
+        ensures told { T.tells result token.new.me }
     {
         self.table.shared.load::<Told<T>>(token, word)
     }
@@ -34,7 +35,8 @@ impl Core {
         _at: usize,
     )
         requires { MayStep self.now token.old word (λ n. bit_or n mask) T.tells }
-        ensures { (n : ℕ) × IsTold token.old token.new (T.tells n) }
+        ensures id { IsSameSeat token.old token.new }
+        ensures told { (n : ℕ) × T.tells n token.new.me }
     {
         self.table.shared.fetch_or::<Told<T>>(token, word, mask);
     }
@@ -48,7 +50,8 @@ impl Core {
         _at: usize,
     )
         requires { MayStep self.now token.old word (λ n. bit_and n mask) T.tells }
-        ensures { (n : ℕ) × IsTold token.old token.new (T.tells n) }
+        ensures id { IsSameSeat token.old token.new }
+        ensures told { (n : ℕ) × T.tells n token.new.me }
     {
         self.table.shared.fetch_and::<Told<T>>(token, word, mask);
     }
@@ -63,7 +66,8 @@ impl Core {
         _list: &List,
     )
         requires { MayStep self.now token.old word (λ _. new) (λ _. T.tells new) }
-        ensures { IsTold token.old token.new (T.tells new) }
+        ensures id { IsSameSeat token.old token.new }
+        ensures told { T.tells new token.new.me }
     {
         self.table.shared.store::<Told<T>>(token, word, new);
     }
@@ -76,7 +80,8 @@ impl Core {
         _at: usize,
     )
         requires { MayStep self.now token.old word (λ _. 0) (λ _. T.tells 0) }
-        ensures { IsTold token.old token.new (T.tells 0) }
+        ensures id { IsSameSeat token.old token.new }
+        ensures told { T.tells 0 token.new.me }
     {
         self.table.shared.store::<Told<T>>(token, word, 0);
     }
@@ -91,7 +96,8 @@ impl Core {
         _decl: u8,
     ) -> u64
         requires { MayStep self.now token.old word (λ n. (n + more) % 2 ^ 64) T.tells }
-        ensures { IsTold token.old token.new (T.tells result) }
+        ensures id { IsSameSeat token.old token.new }
+        ensures told { T.tells result token.new.me }
     {
         self.table.shared.fetch_add::<Told<T>>(token, word, more)
     }
@@ -104,7 +110,8 @@ impl Core {
         less: u64,
     ) -> u64
         requires { MayStep self.now token.old word (λ n. (n + (2 ^ 64 - less)) % 2 ^ 64) T.tells }
-        ensures { IsTold token.old token.new (T.tells result) }
+        ensures id { IsSameSeat token.old token.new }
+        ensures told { T.tells result token.new.me }
     {
         self.table.shared.fetch_sub::<Told<T>>(token, word, less)
     }
@@ -119,7 +126,8 @@ impl Core {
         _row: usize,
     ) -> u64
         requires { MayStep self.now token.old word (λ n. either (n == 0) 1 n) T.tells }
-        ensures { IsTold token.old token.new (T.tells result) }
+        ensures id { IsSameSeat token.old token.new }
+        ensures told { T.tells result token.new.me }
     {
         self.table
             .shared
@@ -137,7 +145,8 @@ impl Core {
         _id: u16,
     ) -> u64
         requires { MayStep self.now token.old word (λ n. either (n == old) new n) T.tells }
-        ensures { IsTold token.old token.new (T.tells result) }
+        ensures id { IsSameSeat token.old token.new }
+        ensures told { T.tells result token.new.me }
     {
         self.table
             .shared

@@ -1,58 +1,39 @@
 //! The workers on threads.
 
 ghost use Rattle.std.specs.Prelude.{◌≡◌, All, IfOk, vec_len};
+ghost use Rattle.shr_plain.specs.Opening.{ArePoolsOf};
+ghost use Rattle.shr_walk.specs.Sharing.{IsShared};
 ghost use Rattle.shr_worker.specs.Tasks.{IsTask};
-ghost use Rattle.shr_run.specs.Tasks.{Starting, HasRun, HaveRun};
+ghost use Rattle.shr_run.specs.Tasks.{HasRun, HaveRun};
 
 use shr_base::memory::Memory;
 use shr_outside::outside::Gate;
-use shr_walk::seats::Shared;
+use shr_tables::tables::Tables;
 use shr_worker::running::run_worker;
 use shr_worker::tasks::{Task, WorkerResult};
 use std::alloc::Global;
-use std::marker::Model;
 use std::sync::Wait;
 use std::thread;
 use std::thread::Threads;
 
-/// A worker that can start: its task, with the runtime and the tables that it runs with. Our own.
-#[derive(Drop)]
-pub(crate) struct Start<'a, R: Wait> {
-    pub rt: &'a R,
-    pub shared: &'a Shared,
-    pub task: Task<'a>,
-}
-
-impl<'a, R: Wait> Model for Start<'a, R> {
-    ghost use Rattle.shr_run.specs.Tasks.{Starting};
-
-    ghost Value = { Starting };
-
-    ghost view = { λ s. record { shared = s.shared.now; task = s.task } };
-}
-
-// Runs a worker's task here.
-fn run_one<'a, R: Wait, G: Gate>(start: Start<'a, R>, gate: &G) -> WorkerResult<'a>
-    requires { IsTask start.shared start.task }
-    ensures { HasRun start.entry result }
-{
-    let Start { rt, shared, task } = start;
-    run_worker(rt, shared, task, gate)
-}
-
 // Runs these tasks here, one after another.
-fn run_here<'a, R: Wait, G: Gate>(
+fn run_here<R: Wait, G: Gate>(
+    rt: &R,
     alloc: Global,
-    starts: Vec<Start<'a, R>>,
+    tables: &Tables,
+    tasks: Vec<Task>,
     gate: &G,
-) -> Result<Vec<WorkerResult<'a>>, Memory>
-    requires tasks { All (λ (s : Starting). IsTask s.shared s.task) starts.items }
-    ensures len { IfOk result (λ results. vec_len results ≡ vec_len starts.entry) }
-    ensures run { IfOk result (λ results. HaveRun starts.entry.items results.items) }
+) -> Result<Vec<WorkerResult>, Memory>
+    requires shared { IsShared tables.now.shared }
+    requires pools { ArePoolsOf tables.now.shared.script tables.now.pools }
+    requires tasks { All (λ (t : Task). IsTask tables.now.shared tables.now.pools t) tasks.items }
+    ensures len { IfOk result (λ results. vec_len results ≡ vec_len tasks) }
+    ensures run { IfOk result (λ results. HaveRun tables.now.shared tables.now.pools tasks.items
+        results.items) }
 {
     let mut results = Vec::new(alloc);
-    for start in starts {
-        let result = run_one(start, gate);
+    for task in tasks {
+        let result = run_worker(rt, &tables.shared, &tables.pools, task, gate);
         results.push(result)?;
     }
     Ok(results)
@@ -63,25 +44,31 @@ fn run_here<'a, R: Wait, G: Gate>(
 /// comes for want of memory.
 ///
 /// Linux: tasks and `kswapd` run side by side; here each worker is both.
-pub(crate) fn run_all<'a, R: Threads + Wait + Sync, G: Gate + Sync>(
+pub(crate) fn run_all<R: Threads + Wait + Sync, G: Gate + Sync>(
     rt: &R,
     alloc: Global,
-    starts: Vec<Start<'a, R>>,
+    tables: &Tables,
+    tasks: Vec<Task>,
     gate: &G,
-) -> Result<Vec<WorkerResult<'a>>, Memory>
-    requires tasks { All (λ (s : Starting). IsTask s.shared s.task) starts.items }
-    ensures len { IfOk result (λ results. vec_len results ≡ vec_len starts.entry) }
-    ensures run { IfOk result (λ results. HaveRun starts.entry.items results.items) }
+) -> Result<Vec<WorkerResult>, Memory>
+    requires shared { IsShared tables.now.shared }
+    requires pools { ArePoolsOf tables.now.shared.script tables.now.pools }
+    requires tasks { All (λ (t : Task). IsTask tables.now.shared tables.now.pools t) tasks.items }
+    ensures len { IfOk result (λ results. vec_len results ≡ vec_len tasks) }
+    ensures run { IfOk result (λ results. HaveRun tables.now.shared tables.now.pools tasks.items
+        results.items) }
 {
-    if starts.len() == 1 {
-        return run_here(alloc, starts, gate);
+    if tasks.len() == 1 {
+        return run_here(rt, alloc, tables, tasks, gate);
     }
     Ok(thread::map_vec(
         rt,
-        starts,
-        &|start: Start<R>| -> WorkerResult
-            requires { IsTask start.shared start.task }
-            ensures { HasRun start.entry result }
-        { run_one(start, gate) },
+        tasks,
+        &|task: Task| -> WorkerResult
+            requires { IsShared tables.now.shared
+                × ArePoolsOf tables.now.shared.script tables.now.pools
+                × IsTask tables.now.shared tables.now.pools task }
+            ensures { HasRun tables.entry.now.shared tables.entry.now.pools task result }
+        { run_worker(rt, &tables.shared, &tables.pools, task, gate) },
     )?)
 }

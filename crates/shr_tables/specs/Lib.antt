@@ -1,4 +1,3 @@
 pub mod First
-pub mod Firsts
 pub mod Opened
 pub mod Parted

@@ -2,7 +2,7 @@
 
 ghost use Rattle.std.specs.Prelude.{◌≡◌};
 ghost use Rattle.shr_seats.specs.Rows.{IsPlaceOf};
-ghost use Rattle.shr_deferred.specs.Seat.{deferred_standing};
+ghost use Rattle.shr_deferred.specs.Seat.{IsDeferredSeat, deferred_standing};
 
 use shr_base::places::Place;
 use shr_deferred::table::{Deferred, DeferredSeat};
@@ -24,39 +24,51 @@ const HERE: Place = Place {
 };
 
 // Gives three, a thousand times.
-fn giving(seat: &mut DeferredSeat<'_>)
-    requires place { IsPlaceOf seat.old.deferred.sizes (record { id = 0; node = 0; group = 0 }) }
-    ensures table { seat.new.deferred ≡ seat.old.deferred }
+fn giving(deferred: &Deferred, mut seat: DeferredSeat) -> DeferredSeat
+    requires place { IsPlaceOf deferred.now.sizes (record { id = 0; node = 0; group = 0 }) }
+    requires seat { IsDeferredSeat deferred.now seat }
+    ensures seat { IsDeferredSeat deferred.now result }
 {
     for _turn in 0..1000 {
-        seat.give(HERE, 3);
+        deferred.give(&mut seat, HERE, 3);
     }
+    seat
 }
 
 // Takes all and gives one more back, a thousand times.
-fn carrying(seat: &mut DeferredSeat<'_>)
-    requires place { IsPlaceOf seat.old.deferred.sizes (record { id = 0; node = 0; group = 0 }) }
-    ensures stays { (seat.new.deferred ≡ seat.old.deferred) × (deferred_standing seat.new
-        ≡ deferred_standing seat.old) }
+fn carrying(deferred: &Deferred, mut seat: DeferredSeat) -> DeferredSeat
+    requires place { IsPlaceOf deferred.now.sizes (record { id = 0; node = 0; group = 0 }) }
+    requires seat { IsDeferredSeat deferred.now seat }
+    ensures seat { IsDeferredSeat deferred.now result }
+    ensures standing { deferred_standing result ≡ deferred_standing seat }
 {
     for _turn in 0..1000 {
-        let found = seat.take(HERE);
-        seat.give(HERE, found.wrapping_add(1));
+        let found = deferred.take(&mut seat, HERE);
+        deferred.give(&mut seat, HERE, found.wrapping_add(1));
     }
+    seat
 }
 
 #[test]
 fn two_threads_lose_nothing_at_one_place(rt: HostRuntime) -> Result<(), Fail> {
-    let (table, first) = Deferred::new(rt.alloc(), ONE)?;
-    let mut first = first.at(&table);
-    let mut second = first.split()?;
-    thread::join_mut(
+    let (table, mut first) = Deferred::new(rt.alloc(), ONE)?;
+    let deferred = &table;
+    let second = deferred.split(&mut first)?;
+    let (mut first, second) = thread::join(
         &rt,
-        &mut || carrying(&mut first),
-        &mut || giving(&mut second),
+        move ||
+            requires { IsDeferredSeat deferred.now first × IsPlaceOf deferred.now.sizes
+                (record { id = 0; node = 0; group = 0 }) }
+            ensures { IsDeferredSeat deferred.entry.now result
+                × (deferred_standing result ≡ deferred_standing first) }
+        { carrying(deferred, first) },
+        move ||
+            requires { IsDeferredSeat deferred.now second × IsPlaceOf deferred.now.sizes
+                (record { id = 0; node = 0; group = 0 }) }
+            ensures { IsDeferredSeat deferred.entry.now result }
+        { giving(deferred, second) },
     );
-    first.join(second);
-    let first = first.leave();
+    table.join(&mut first, second);
     let left = table.finish(rt.alloc(), first)?;
     assert_eq!(rt; left.len(), 1);
     assert_eq!(rt; left.get(0).ok_or("no amount")?.amount, 4000);

@@ -8,19 +8,19 @@ use shr_walk::seats::Seats;
 
 /// What a worker runs with: its number in the script, and its seats. Our own.
 #[derive(Drop)]
-pub struct Task<'a> {
+pub struct Task {
     pub number: u16,
-    pub seats: Seats<'a>,
+    pub seats: Seats,
     /// Its seat at the pools of units.
-    pub plain: PlainSeat<'a>,
+    pub plain: PlainSeat,
 }
 
 /// What a worker leaves: its seats, with what they noted, and its answers. Our own.
 #[derive(Drop)]
-pub struct WorkerResult<'a> {
+pub struct WorkerResult {
     pub number: u16,
-    pub seats: Seats<'a>,
-    pub plain: PlainSeat<'a>,
+    pub seats: Seats,
+    pub plain: PlainSeat,
     pub answers: Log<Answered>,
     pub isolations: Log<Isolation>,
     /// Each command was answered and each operation noted. It is false for want of memory alone.

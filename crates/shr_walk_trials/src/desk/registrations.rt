@@ -12,16 +12,18 @@ use std::sync::Wait;
 pub fn register<R: Wait>(worker: &mut Worker<'_, R>, decl: u8) -> Option<RegisterAnswer>
     ensures { worker.new.shared ≡ worker.old.shared }
 {
-    if decl >= worker.shared.core.shape().decls {
+    let core = &worker.shared.core;
+    if decl >= core.shape().decls {
         return None;
     }
-    Some(registering::register(worker.rt, &mut worker.seats.cache.core, decl))
+    Some(registering::register(worker.rt, core, &mut worker.seats.cache.core, decl))
 }
 
 /// Unregisters a declaration, if there is such a one. Its objects are not uncharged. Our own.
 pub fn unregister<R: Wait>(worker: &mut Worker<'_, R>, decl: u8) -> Option<UnregisterAnswer> {
-    if decl >= worker.shared.core.shape().decls {
+    let core = &worker.shared.core;
+    if decl >= core.shape().decls {
         return None;
     }
-    Some(unregistering::unregister(worker.rt, &mut worker.seats.cache.core, decl, BY))
+    Some(unregistering::unregister(worker.rt, core, &mut worker.seats.cache.core, decl, BY))
 }

@@ -1,0 +1,27 @@
+use Rattle.shr_deferred.proofs.Common.{ℕ, ◌≡◌, subst, sym, ap, ◌∙◌, arith, Me, Allows, View, Sizes, acts_of, IsAlone, left_at, take_of, IsDeferredSound}
+use Rattle.shr_deferred.proofs.SeatLaws.{moves_more}
+use Rattle.shr_deferred.proofs.Steps.{with_moves, takes}
+use Rattle.shr_deferred.proofs.table.Deferred.take.Goals as goal
+
+pub swap_as-requires-clause-step : goal.swap_as-requires-clause-step
+swap_as-requires-clause-step c = let d = c.args.self.now in let t = d.table.shared in let at = c.row-word.ensures in let m = c.args.seat.now.me in let id = c.args.seat.now.id in
+    subst (λ (z : Sizes). Allows (IsDeferredSound z) t.table_id.slots id m c.row-word.result (λ _. 0) (λ n r. (r ≡ with_moves id m (take_of c.args.place n)) × (IsAlone m.0.standing → n ≡ left_at c.args.place (acts_of m.0.did)))) (sym d.keyed)
+    (subst (λ (k : ℕ). Allows (IsDeferredSound d.sizes) t.table_id.slots id m k (λ _. 0) (λ n r. (r ≡ with_moves id m (take_of c.args.place n)) × (IsAlone m.0.standing → n ≡ left_at c.args.place (acts_of m.0.did)))) (sym at.row)
+    (takes d.sizes t.table_id.slots id m c.args.place c.requires.place (omega arith) c.requires.seat.seat.here))
+
+pub returns-clause-seat : goal.returns-clause-seat
+returns-clause-seat c = let told = c.swap_as.ensures.told.0 in record {
+  seat = record { same = c.swap_as.ensures.table.0 ∙ c.requires.seat.seat.same; here = ap (λ (m : Me (Unit {0}) View). m.0.standing.gone) told ∙ c.requires.seat.seat.here };
+  bare = ap (λ (m : Me (Unit {0}) View). m.1) told ∙ c.requires.seat.bare;
+}
+
+pub returns-clause-step : goal.returns-clause-step
+returns-clause-step c = let told = c.swap_as.ensures.told.0 in record {
+  table = c.swap_as.ensures.table.0;
+  id = c.swap_as.ensures.table.1;
+  did = ap (λ (m : Me (Unit {0}) View). m.0.did) told;
+  moves = moves_more c.args.seat.now.id _ _ (take_of c.args.place c.swap_as.result) (ap (λ (m : Me (Unit {0}) View). m.0.did) told);
+  own = ap (λ (m : Me (Unit {0}) View). m.0.own) told;
+  joined = ap (λ (m : Me (Unit {0}) View). m.0.joined) told;
+  standing = ap (λ (m : Me (Unit {0}) View). m.0.standing) told;
+}
