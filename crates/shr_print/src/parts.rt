@@ -1,6 +1,6 @@
 //! The parts of a section, printed by threads into memory, and put on a paper in order.
 
-ghost use Rattle.std.specs.Prelude.{◌≡◌, ◌≤◌, ◌<◌, ◌+◌, IfOk, IfSome, length, vec_len};
+ghost use Rattle.std.specs.Prelude.{◌≡◌, ◌≤◌, ◌<◌, ◌+◌, IfOk, IfSome, [], length, vec_len};
 ghost use Rattle.shr_outside.specs.Paper.{Prints, IsLeft};
 ghost use Rattle.shr_outside.specs.Writing.{Writes};
 ghost use Rattle.shr_print.specs.Cuts.{AreCuts, AreParts, IsPart, cut_at};
@@ -43,12 +43,29 @@ fn write_run<S: Section, K: Sink>(section: &S, sink: &mut K, from: usize, to: us
     write_on(section, &mut out, from, to)
 }
 
-// The text of a run of items in memory, or `None` for want of memory.
-fn in_memory<S: Section>(alloc: Global, section: &S, from: usize, to: usize) -> Option<MemorySink>
+// No bytes, with room for so many if there is memory for it.
+fn with_room(alloc: Global, room: usize) -> Vec<u8>
+    ensures { result.items ≡ [] }
+{
+    match Vec::with_capacity(alloc, room) {
+        Ok(bytes) => bytes,
+        Err(_) => Vec::new(alloc),
+    }
+}
+
+// The text of a run of items in memory, which begins with room for so many bytes, or `None` for want
+// of memory.
+fn in_memory<S: Section>(
+    alloc: Global,
+    section: &S,
+    from: usize,
+    to: usize,
+    room: usize,
+) -> Option<MemorySink>
     requires { (from ≤ to) × (to ≤ S.size section.now) }
     ensures { IsPart (S.text section.now) (S.known section.now) from to result }
 {
-    let mut sink = MemorySink::new(Vec::new(alloc), usize::MAX, Vec::new(alloc));
+    let mut sink = MemorySink::new(with_room(alloc, room), usize::MAX, Vec::new(alloc));
     if write_run(section, &mut sink, from, to) {
         Some(sink)
     } else {
@@ -62,6 +79,7 @@ fn printed_parts<R: Threads + Sync, S: Section + Sync>(
     alloc: Global,
     section: &S,
     cuts: &[usize],
+    room: usize,
 ) -> Result<Vec<Option<MemorySink>>, Memory>
     requires { AreCuts cuts.now (S.size section.now) }
     ensures len { IfOk result (λ parts. vec_len parts + 1 ≡ length cuts.now) }
@@ -76,7 +94,7 @@ fn printed_parts<R: Threads + Sync, S: Section + Sync>(
             requires { AreCuts cuts.now (S.size section.now) × (i + 1 < length cuts.now) }
             ensures { IsPart (S.text section.entry.now) (S.known section.entry.now)
                 (cut_at cuts.entry.now i) (cut_at cuts.entry.now (i + 1)) result }
-        { in_memory(alloc, section, cuts[i], cuts[i + 1]) },
+        { in_memory(alloc, section, cuts[i], cuts[i + 1], room) },
     )?)
 }
 
@@ -117,6 +135,10 @@ fn put_parts<S: Section, K: Sink>(
     }
 }
 
+// The bytes of a line, which few are longer than: a part whose room is enough isn't moved as it grows,
+// and room that isn't written on takes no memory.
+const A_LINE: usize = 64;
+
 // Prints a section by so many threads. Want of memory leaves it to this one.
 fn print_apart<R: Threads + Sync, S: Section + Sync, K: Sink>(
     rt: &R,
@@ -133,7 +155,8 @@ fn print_apart<R: Threads + Sync, S: Section + Sync, K: Sink>(
         return section.print(out, 0, section.len());
     };
     let cuts = cuts.as_slice();
-    match printed_parts(rt, alloc, section, cuts) {
+    let room = (section.lines() / threads.max(1)).saturating_mul(A_LINE);
+    match printed_parts(rt, alloc, section, cuts, room) {
         Ok(parts) => put_parts(section, out, cuts, parts.as_slice()),
         Err(Memory) => section.print(out, 0, section.len()),
     }
