@@ -72,22 +72,32 @@ fn serve<R: Threads + Wait + Sync, K: Sink, G: Gate + Sync>(
     }
 }
 
+// Gives the memory of a text back but for a byte. A block that is freed tells the C library that such
+// sizes come and go, and it moves lists that grow in its heap from then on; one that gets smaller doesn't.
+fn cut_short(bytes: &mut Vec<u8>) {
+    bytes.truncate(1);
+    bytes.shrink_to(1);
+}
+
 // Answers an input that was read to its end.
 fn answer<R: Threads + Wait + Sync, K: Sink, G: Gate + Sync>(
     rt: &R,
     alloc: Global,
-    bytes: &[u8],
+    mut bytes: Vec<u8>,
     sink: &mut K,
     gate: &G,
     afterwards: Afterwards,
 ) -> Status
-    ensures answer { AnswerGives bytes.now
+    ensures answer { AnswerGives bytes.items
         (sink_seen (K.written sink.old) (K.written sink.new)
         (K.faults sink.old) (K.faults sink.new)) result }
     ensures later { K.faults sink.old ≤ K.faults sink.new }
 {
-    match read_on_threads(rt, alloc, bytes) {
-        Ok(script) => serve(rt, alloc, script, sink, gate, afterwards),
+    match read_on_threads(rt, alloc, bytes.as_slice()) {
+        Ok(script) => {
+            cut_short(&mut bytes);
+            serve(rt, alloc, script, sink, gate, afterwards)
+        }
         Err(ReadError::Fault { line, code }) => refuse(alloc, line, code, sink),
         Err(ReadError::Memory) => Status::Memory,
     }
@@ -112,7 +122,7 @@ fn read_and_answer<R: Threads + Wait + Sync, S: Source, K: Sink, G: Gate + Sync>
     ensures sink_later { K.faults sink.old ≤ K.faults sink.new }
 {
     match read_all(alloc, source, SCRIPT_LIMIT) {
-        Input::All { bytes } => answer(rt, alloc, bytes.as_slice(), sink, gate, afterwards),
+        Input::All { bytes } => answer(rt, alloc, bytes, sink, gate, afterwards),
         Input::Failed => Status::ReadFault,
         Input::TooLong => Status::TooLong,
         Input::Memory => Status::Memory,

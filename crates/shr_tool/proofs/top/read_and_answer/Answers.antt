@@ -4,5 +4,4 @@ use Rattle.shr_tool.proofs.top.read_and_answer.Goals as goal
 pub returns-in-All-clause-run : goal.returns-in-All-clause-run
 returns-in-All-clause-run g c =
     let read = c.in-All.ensures.input in
-    let answered = rw c.as_slice.ensures.value at c.answer.ensures.answer in
-    run_gives _ _ _ _ c.in-All.bytes.items _ c.answer.result read answered
+    run_gives _ _ _ _ c.in-All.bytes.items _ c.answer.result read c.answer.ensures.answer
